@@ -1,0 +1,21 @@
+-- The definitions, in reading order: by content from values to the response, then by number.
+pub mod Value
+pub mod Order
+pub mod Canonical
+pub mod Types
+pub mod Residual
+pub mod Typing
+pub mod TypingTest
+pub mod Entities
+pub mod Evaluate
+pub mod TypeRules
+pub mod Interpret
+pub mod Response
+pub mod Rows
+pub mod Table
+pub mod Making
+pub mod Numbered
+pub mod Runs
+pub mod ContentRun
+pub mod Reads
+pub mod Known
