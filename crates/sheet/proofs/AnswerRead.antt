@@ -1,0 +1,316 @@
+-- THE ANSWERS OF ACCEPTED SHEETS READ BACK: decision, counts, made values, residual nodes and policy lines are those of the run, and under
+-- each policy's root stands its residual.
+use mathlib.Core.Path.{_≡_, refl, sym, _∙_, ap, ap₂, subst}
+use mathlib.Core.Bool.{false}
+use mathlib.Core.Option.{some}
+use mathlib.Core.List.{List, [], _∷_, _++_, append-assoc, append-nil}
+use Prim.Native.Nat.{ℕ, suc, _≤_, _<_, _+_}
+use native.Mathlib.Omega.{arith}
+use lib.ListN.{length, getD, drop, getElem?, length-append}
+use lib.Seq.{drop-at}
+use Rattle.cedar.specs.Value.{Value, vbool, vset, vrec, Values, Fields, fcons, vcons}
+use Rattle.cedar.specs.Canonical.{ascending, makeSet}
+use Rattle.cedar.specs.Types.{Ty}
+use Rattle.cedar.specs.Residual.{Node, Nodes, NodeArgs, Expr, Exprs, Args, lit, and, or, ite, un, bin, rel, get, has, haspath, set, rec, econs, gcons}
+use Rattle.cedar.specs.Response.{decision}
+use Rattle.cedar.specs.Rows.{Entries, Row}
+use Rattle.cedar.specs.Table.{At, now, later, Elems, elem0, elem1, Named, name0, name1, Denotes, dbool, dlong, dtext, dent, dset, drec, Table, start, grow}
+use Rattle.cedar.specs.Reads.{Reads, xlit, xerr, xvar, xand, xor, xite, xun, xbin, xrel, xget, xhas, xpath, xset, xrec, ReadsAll, xnil, xcons, ReadsArgs, xstop, xarg}
+use Rattle.cedar.specs.Runs.{Policy, NPolicy, NVerdict, verdicts}
+use Rattle.cedar.proofs.MakingLaws.{content-of}
+use Rattle.cedar.proofs.TableLaws.{at-last, at-append, same-length}
+use Rattle.cedar.proofs.SettledByNumber.{Residuals, RunReads, run-reads}
+use Rattle.sheet.specs.Forms.{partial, complete, VALUE, POLICY}
+use Rattle.sheet.specs.State.{State, count, linesOf, sum}
+use Rattle.sheet.specs.Sheet.{firsts, read}
+use Rattle.sheet.specs.Content.{types, rowsIn, valueRows, contents, membersOver, fieldsOver, valueOver, valuesFrom, schema, pEnv, nEnv, exprs, nPolicies, policies, treesFrom}
+use Rattle.sheet.specs.Answer.{size, root, treeRows, residualRows, countsOf, ids, run, results, answer}
+use Rattle.sheet.specs.Call.{Accepted}
+use Rattle.sheet.specs.ReadAnswer.{PolicyLine, Said, readAnswer}
+use Rattle.sheet.proofs.Lines.{History}
+use Rattle.sheet.proofs.Fitting.{at-is}
+use Rattle.sheet.proofs.ValueRows.{rows-length, values-table}
+use Rattle.sheet.proofs.Environment.{Facts, env-read}
+use Rattle.sheet.proofs.TwoSheets.{values-append}
+use Rattle.sheet.proofs.OwnPolicies.{read-own}
+use Rattle.sheet.proofs.Counts.{content-length, partial-counts, complete-counts}
+use Rattle.sheet.proofs.Demand3Bytes.{facts, accepted-read}
+use Rattle.sheet.proofs.TypeNumbers.{types-length, LinesIn, residual-types}
+use Rattle.sheet.proofs.Limits.{most-lines}
+use Rattle.sheet.proofs.MadeCount.{residualSizes}
+use Rattle.sheet.proofs.NeverNine.{policy-sizes, residual-sizes, rows-at-most}
+use Rattle.sheet.proofs.RowsBack.{AllSmall, SmallEntries, GoodValue}
+use Rattle.sheet.proofs.TreesBack.{Small, SmallAll, SmallArgs, valued, valuedAll, valuedArgs, valued-same, post, post-size, root-there, then-rows, tree-back}
+use Rattle.sheet.proofs.RowsGood.{ResidualsSmall, residuals-good}
+use Rattle.sheet.proofs.LeftOver.{Any, left-small, LeftLines, no-lines, one-line, PoliciesSmall, SmallNames, MadeOk, AllMade, RunLeaves, run-leaves}
+use Rattle.sheet.proofs.SheetSmall.{policies-small, ids-small, asked-made}
+use Rattle.sheet.proofs.AnswerBack.{GoodValues, partialPolicies, completePolicies, partial-reads, complete-reads}
+use Rattle.cedar.proofs.SettledByNumber as R
+
+-- ---- numbers of values
+
+at-below : {A : Type 0} {l : List A} {n : ℕ} {a : A} → At l n a → n < length l
+at-below now = omega arith
+at-below (later h) = let z = at-below h in omega arith
+
+module _ {C : List Value} (few : length C ≤ 10000) where
+  elems-small : {l : List ℕ} {vs : Values} → Elems C l vs → AllSmall l
+  elems-small elem0 = tt
+  elems-small (elem1 a e) = let z = at-below a in (omega arith, elems-small e)
+
+  named-small : {e : Entries} {fs : Fields} → Named C e fs → SmallNames e → SmallEntries e
+  named-small name0 h = tt
+  named-small (name1 a e) h = let z = at-below a in (h .0, omega arith, named-small e (h .1))
+
+  -- a made row over a table is one whose line reads back
+  made-good : {r : Row} {v : Value} → Denotes C r v → MadeOk r → GoodValue r
+  made-good dbool h = tt
+  made-good dlong h = h
+  made-good dtext h = h
+  made-good dent h = h
+  made-good (dset a e q) h = elems-small e
+  made-good (drec e) h = named-small e h
+
+  mutual
+    reads-small : {a : Node ℕ} {d : Expr} → Reads C a d → Small Any a → Small (λ v. v ≤ 9999) a
+    reads-small (xlit n) h = let z = at-below n in omega arith
+    reads-small xerr h = tt
+    reads-small xvar h = tt
+    reads-small (xand a b) h = (reads-small a (h .0), reads-small b (h .1))
+    reads-small (xor a b) h = (reads-small a (h .0), reads-small b (h .1))
+    reads-small (xite c a b) h = (reads-small c (h .0), reads-small a (h .1), reads-small b (h .2))
+    reads-small (xun a) h = (h .0, reads-small a (h .1))
+    reads-small (xbin a b) h = (reads-small a (h .0), reads-small b (h .1))
+    reads-small (xrel a b) h = (reads-small a (h .0), reads-small b (h .1))
+    reads-small (xget a) h = (h .0, reads-small a (h .1))
+    reads-small (xhas a) h = (h .0, reads-small a (h .1))
+    reads-small (xpath a) h = (h .0, reads-small a (h .1))
+    reads-small (xset k) h = all-small k h
+    reads-small (xrec k) h = args-small k h
+
+    all-small : {es : Nodes ℕ} {fs : Exprs} → ReadsAll C es fs → SmallAll Any es → SmallAll (λ v. v ≤ 9999) es
+    all-small xnil h = tt
+    all-small (xcons a k) h = (reads-small a (h .0), all-small k (h .1))
+
+    args-small : {gs : NodeArgs ℕ} {hs : Args} → ReadsArgs C gs hs → SmallArgs Any gs → SmallArgs (λ v. v ≤ 9999) gs
+    args-small xstop h = tt
+    args-small (xarg a k) h = (h .0, reads-small a (h .1), args-small k (h .2))
+
+  made-goods : (pre more : List Row) → ((n : ℕ) (r : Row) → At (pre ++ more) n r → (v : Value) × At C n v × Denotes C r v) → AllMade more → GoodValues more
+  made-goods pre [] f h = tt
+  made-goods pre (r ∷ more) f h =
+      let q : pre ++ (r ∷ more) ≡ (pre ++ (r ∷ [])) ++ more = sym (append-assoc pre (r ∷ []) more) in
+      let (v, a, d) = f (length pre) r (subst (λ z. At z (length pre) r) (sym q) (at-append more (at-last pre r))) in
+      (made-good d (h .0), made-goods (pre ++ (r ∷ [])) more (λ n x a. f n x (subst (λ z. At z n x) (sym q) a)) (h .1))
+
+-- ---- the contents of a table are those that its rows say
+
+module _ {C : List Value} where
+  elems-over : {l : List ℕ} {vs : Values} → Elems C l vs → membersOver C l ≡ vs
+  elems-over elem0 = refl
+  elems-over (elem1 a e) = ap₂ vcons (at-is (vbool false) a) (elems-over e)
+
+  named-over : {e : Entries} {fs : Fields} → Named C e fs → fieldsOver C e ≡ fs
+  named-over name0 = refl
+  named-over (name1 {t = t} a e) = ap₂ (fcons t) (at-is (vbool false) a) (named-over e)
+
+  value-over : {r : Row} {v : Value} → Denotes C r v → valueOver C r ≡ v
+  unfolding makeSet
+  value-over dbool = refl
+  value-over dlong = refl
+  value-over dtext = refl
+  value-over dent = refl
+  value-over (dset a e q) = ap (λ z. vset (ascending z)) (elems-over e) ∙ ap vset q
+  value-over (drec e) = ap vrec (named-over e)
+
+table-values : {T : List Row} {C : List Value} → Table T C → valuesFrom [] T ≡ C
+table-values start = refl
+table-values (grow {T = T} {C = C} {r = r} t d h) = values-append [] T (r ∷ []) ∙ ap (λ z. z ++ (valueOver z r ∷ [])) (table-values t) ∙ ap (λ z. C ++ (z ∷ [])) (value-over d)
+
+-- a tree that is read has its literals' contents
+module _ (C : List Value) where
+  abbrev content : ℕ → Value
+  content n = getD C n (vbool false)
+
+  mutual
+    pub reads-valued : {a : Node ℕ} {d : Expr} → Reads C a d → valued content a ≡ d
+    reads-valued (xlit {T = T} n) = ap (lit T) (at-is (vbool false) n)
+    reads-valued xerr = refl
+    reads-valued xvar = refl
+    reads-valued (xand {T = T} a b) = ap₂ (and T) (reads-valued a) (reads-valued b)
+    reads-valued (xor {T = T} a b) = ap₂ (or T) (reads-valued a) (reads-valued b)
+    reads-valued (xite {T = T} c a b) = λ i. ite T (reads-valued c i) (reads-valued a i) (reads-valued b i)
+    reads-valued (xun {T = T} {u = u} a) = ap (un T u) (reads-valued a)
+    reads-valued (xbin {T = T} {o = o} a b) = ap₂ (bin T o) (reads-valued a) (reads-valued b)
+    reads-valued (xrel {T = T} {o = o} a b) = ap₂ (rel T o) (reads-valued a) (reads-valued b)
+    reads-valued (xget {T = T} {t = t} a) = ap (λ x. get T x t) (reads-valued a)
+    reads-valued (xhas {T = T} {t = t} a) = ap (λ x. has T x t) (reads-valued a)
+    reads-valued (xpath {T = T} {t = t} {ts = ts} a) = ap (λ x. haspath T x t ts) (reads-valued a)
+    reads-valued (xset {T = T} k) = ap (set T) (all-valued k)
+    reads-valued (xrec {T = T} k) = ap (rec T) (args-valued k)
+
+    all-valued : {es : Nodes ℕ} {fs : Exprs} → ReadsAll C es fs → valuedAll content es ≡ fs
+    all-valued xnil = refl
+    all-valued (xcons a k) = ap₂ econs (reads-valued a) (all-valued k)
+
+    args-valued : {gs : NodeArgs ℕ} {hs : Args} → ReadsArgs C gs hs → valuedArgs content gs ≡ hs
+    args-valued xstop = refl
+    args-valued (xarg {t = t} a k) = ap₂ (gcons t) (reads-valued a) (args-valued k)
+
+-- each residual can be read: every literal has a content
+abbrev pub AllRead : List Value → List NVerdict → Type 0
+AllRead C [] = Unit {0}
+AllRead C (l ∷ ls) = Reads C (l .root) (valued (λ n. getD C n (vbool false)) (l .root)) × AllRead C ls
+
+-- ---- counts
+
+parts-small : (l : List ℕ) → sum l ≤ 9999 → AllSmall l
+parts-small [] h = tt
+parts-small (n ∷ l) h = (omega arith, parts-small l (omega arith))
+
+-- ---- under each root stands its residual
+
+-- the trees under the roots of policy lines, and what each line of the run has there
+pub data Standing {L : Type 0} (trees : List (Node L)) (tree : NVerdict → Node L) : List PolicyLine → List NVerdict → Type 0 where
+  none : Standing trees tree [] []
+  more : {x : PolicyLine} {xs : List PolicyLine} {l : NVerdict} {ls : List NVerdict} → getElem? trees (x .root) ≡ some (tree l) → Standing trees tree xs ls → Standing trees tree (x ∷ xs) (l ∷ ls)
+
+stand-as : {L : Type 0} {trees : List (Node L)} {f g : NVerdict → Node L} → ((l : NVerdict) → f l ≡ g l) → {xs : List PolicyLine} {ls : List NVerdict} → Standing trees f xs ls → Standing trees g xs ls
+stand-as e none = none
+stand-as e (more {l = l} h hs) = more (h ∙ ap some (e l)) (stand-as e hs)
+
+module _ {L : Type 0} (ts : List Ty) (value : ℕ → L) where
+  abbrev read-in : NVerdict → Node L
+  read-in l = valued value (l .root)
+
+  abbrev posts : List NVerdict → List (Node L)
+  posts [] = []
+  posts (l ∷ ls) = post (valued value (l .root)) ++ posts ls
+
+  residuals-built : (ls : List NVerdict) (ns : List (Node L)) (n : ℕ) → length ns ≡ n → ResidualsSmall ls → LinesIn ts ls → treesFrom ts value ns (residualRows ts n ls) ≡ ns ++ posts ls
+  residuals-built [] ns n len h q = sym (append-nil ns)
+  residuals-built (l ∷ ls) ns n len h q = then-rows ts value ns (post (valued value (l .root))) (posts ls) (treeRows ts n (l .root)) (residualRows ts (n + size (l .root)) ls)
+      (tree-back ts value (λ v. v ≤ 9999) (l .root) ns n len (h .0) (q .0))
+      (residuals-built ls (ns ++ post (valued value (l .root))) (n + size (l .root)) (length-append ns (post (valued value (l .root))) ∙ ap₂ (λ x y. x + y) len (post-size value (l .root))) (h .1) (q .1))
+
+  standing : (ls : List NVerdict) (is : List ℕ) (ns : List (Node L)) (n : ℕ) → length ns ≡ n → length is ≡ length ls → Standing (ns ++ posts ls) read-in (partialPolicies n is ls) ls
+  standing [] [] ns n len e = none
+  standing [] (i ∷ is) ns n len e = absurd (omega (arith, e))
+  standing (l ∷ ls) [] ns n len e = absurd (omega (arith, e))
+  standing (l ∷ ls) (i ∷ is) ns n len e = more (root-there value ns n (l .root) (posts ls) len)
+      (subst (λ z. Standing z read-in (partialPolicies (n + size (l .root)) is ls) ls) (append-assoc ns (post (valued value (l .root))) (posts ls))
+      (standing ls is (ns ++ post (valued value (l .root))) (n + size (l .root)) (length-append ns (post (valued value (l .root))) ∙ ap₂ (λ x y. x + y) len (post-size value (l .root))) (omega (arith, e))))
+
+-- ---- a partial sheet
+
+-- what the run says
+abbrev pub partialSaid : State → Said
+partialSaid s = record { decision = decision (verdicts (run partial s .lines)); counts = countsOf (verdicts (run partial s .lines)); made = drop (count s VALUE) (run partial s .rows); nodes = residualRows (types s) 0 (run partial s .lines); policies = partialPolicies 0 (ids s) (run partial s .lines) }
+
+abbrev pub completeSaid : State → Said
+completeSaid s = record { decision = decision (results s); counts = countsOf (results s); made = []; nodes = []; policies = completePolicies (ids s) (results s) }
+
+firsts-length : (rs : List (List ℕ)) → length (firsts rs) ≡ length rs
+firsts-length [] = refl
+firsts-length (r ∷ rs) = ap suc (firsts-length rs)
+
+module _ (sheet : List ℕ) (acc : Accepted partial sheet) where
+  abbrev s : State
+  s = read partial sheet .state
+
+  f : Facts partial s
+  f = facts partial sheet acc
+
+  h : History partial s
+  h = f .history
+
+  e : read partial sheet .number ≡ 0
+  e = accepted-read partial sheet acc
+
+  reads : RunReads (schema s) (nEnv partial s) (pEnv s) (contents s) (run partial s) (policies s)
+  unfolding run
+  reads = run-reads (schema s) (nEnv partial s) (pEnv s) (nPolicies s) (values-table partial s h) (env-read s f) (read-own partial s h)
+
+  leaves : RunLeaves (nPolicies s) (valueRows s) (run partial s)
+  unfolding run
+  leaves = run-leaves (schema s) (nEnv partial s) (asked-made s f) (nPolicies s) (policies-small partial s h) (valueRows s)
+
+  few-values : length (reads .contents) ≤ 10000
+  few-values = let a = rows-at-most partial sheet e in let b = same-length (reads .table) in omega (arith, a, b)
+
+  made-is : drop (count s VALUE) (run partial s .rows) ≡ leaves .rows .more
+  unfolding valueRows
+  made-is = ap (drop (count s VALUE)) (leaves .rows .grew) ∙ drop-at (rowsIn (linesOf s VALUE)) (leaves .rows .more) (count s VALUE) (rows-length (linesOf s VALUE))
+
+  -- the rows of a run are the sheet's and the made ones
+  pub rows-are : run partial s .rows ≡ valueRows s ++ drop (count s VALUE) (run partial s .rows)
+  rows-are = leaves .rows .grew ∙ ap (λ z. valueRows s ++ z) (sym made-is)
+
+  made-values : GoodValues (drop (count s VALUE) (run partial s .rows))
+  made-values = subst GoodValues (sym made-is) (made-goods few-values (valueRows s) (leaves .rows .more) (λ n r a. content-of (reads .table) (subst (λ z. At z n r) (sym (leaves .rows .grew)) a)) (leaves .rows .good))
+
+  lines-small : {ps : List NPolicy} {ls : List NVerdict} {qs : List Policy} → LeftLines ps ls → PoliciesSmall ps → Residuals (schema s) (nEnv partial s) (pEnv s) (reads .contents) ls qs → ResidualsSmall ls
+  lines-small no-lines k R.none = tt
+  lines-small (one-line l ls) k (R.more r rs) = (reads-small few-values r (left-small l (k .0)), lines-small ls (k .1) rs)
+
+  residuals-small : ResidualsSmall (run partial s .lines)
+  residuals-small = lines-small (leaves .lines) (policies-small partial s h) (reads .residuals)
+
+  sizes-small : residualSizes (run partial s .lines) ≤ 10000
+  sizes-small = let a = policy-sizes partial sheet e in let b = residual-sizes partial sheet e in omega (arith, a, b)
+
+  few-types : length (types s) ≤ 9999
+  few-types = let a = types-length partial s h in let b = most-lines partial s h .types in omega (arith, a, b)
+
+  counts-small : AllSmall (countsOf (verdicts (run partial s .lines)))
+  counts-small = let a = partial-counts partial s in let b = most-lines partial s h .policies in parts-small (countsOf (verdicts (run partial s .lines))) (omega (arith, a, b))
+
+  -- A PARTIAL ANSWER READS BACK
+  pub partial-answer-back : readAnswer partial (answer partial s) ≡ some (partialSaid s)
+  unfolding answer
+  partial-answer-back = partial-reads (drop (count s VALUE) (run partial s .rows)) (residualRows (types s) 0 (run partial s .lines)) (ids s) (run partial s .lines) made-values
+      (residuals-good (types s) few-types (run partial s .lines) 0 residuals-small (omega (arith, sizes-small))) (ids-small partial s h) counts-small sizes-small
+
+  lines-length : {D : List Value} {ls : List NVerdict} {qs : List Policy} → Residuals (schema s) (nEnv partial s) (pEnv s) D ls qs → length ls ≡ length qs
+  lines-length R.none = refl
+  lines-length (R.more r rs) = ap suc (lines-length rs)
+
+  pub as-many : length (ids s) ≡ length (run partial s .lines)
+  unfolding policies
+  as-many = firsts-length (linesOf s POLICY) ∙ sym (lines-length (reads .residuals) ∙ content-length (exprs s) (linesOf s POLICY))
+
+  -- under each root stands its residual, its literals read by whatever reads value numbers
+  pub roots-stand : {L : Type 0} (value : ℕ → L) → Standing (treesFrom (types s) value [] (residualRows (types s) 0 (run partial s .lines))) (λ l. valued value (l .root)) (partialPolicies 0 (ids s) (run partial s .lines)) (run partial s .lines)
+  roots-stand value = subst (λ z. Standing z (λ l. valued value (l .root)) (partialPolicies 0 (ids s) (run partial s .lines)) (run partial s .lines))
+      (sym (residuals-built (types s) value (run partial s .lines) [] 0 refl residuals-small (residual-types s f)))
+      (standing (types s) value (run partial s .lines) (ids s) [] 0 refl as-many)
+
+  -- UNDER EACH PRINTED ROOT STANDS THE RUN'S RESIDUAL
+  pub residuals-back : Standing (treesFrom (types s) (λ n. n) [] (partialSaid s .nodes)) (λ l. l .root) (partialSaid s .policies) (run partial s .lines)
+  residuals-back = stand-as (λ l. valued-same (l .root)) (roots-stand (λ n. n))
+
+  -- the contents of the sheet's values and of the made ones
+  pub values-of : {C : List Value} → Table (run partial s .rows) C → valuesFrom (contents s) (drop (count s VALUE) (run partial s .rows)) ≡ C
+  unfolding contents
+  values-of t = sym (values-append [] (valueRows s) (drop (count s VALUE) (run partial s .rows))) ∙ ap (valuesFrom []) (sym rows-are) ∙ table-values t
+
+  all-there : {C : List Value} {ls : List NVerdict} {qs : List Policy} → Residuals (schema s) (nEnv partial s) (pEnv s) C ls qs → AllRead C ls
+  all-there R.none = tt
+  all-there {C} (R.more {l = l} r rs) = (subst (Reads C (l .root)) (sym (reads-valued C r)) r, all-there rs)
+
+  -- EACH LITERAL'S NUMBER IS AMONG THE SHEET'S VALUES AND THE MADE ONES
+  pub literals-there : AllRead (valuesFrom (contents s) (partialSaid s .made)) (run partial s .lines)
+  literals-there = subst (λ C. AllRead C (run partial s .lines)) (sym (values-of (reads .table))) (all-there (reads .residuals))
+
+module _ (sheet : List ℕ) (acc : Accepted complete sheet) where
+  abbrev c : State
+  c = read complete sheet .state
+
+  -- A COMPLETE ANSWER READS BACK
+  pub complete-answer-back : readAnswer complete (answer complete c) ≡ some (completeSaid c)
+  unfolding answer
+  complete-answer-back =
+      let k = facts complete sheet acc .history in
+      let a = complete-counts c in
+      let b = most-lines complete c k .policies in
+      complete-reads (ids c) (results c) (ids-small complete c k) (parts-small (countsOf (results c)) (omega (arith, a, b)))

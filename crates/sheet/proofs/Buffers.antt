@@ -1,0 +1,179 @@
+-- What a call leaves in the answer buffer and in the work slices.
+use mathlib.Core.Path.{_≡_, refl, sym, _∙_, ap, ap₂}
+use mathlib.Core.Bool.{Bool, true, false, cond, not, _||_}
+use mathlib.Core.List.{List, [], _∷_, _++_}
+use Prim.Native.Nat.{ℕ, zero, suc, _≤_}
+use native.Mathlib.Omega.{arith}
+use borrow.Author.Tests.{eq-eqb, ne-eqb, ltb-false}
+use lib.Dec.{leb, ltb}
+use lib.ListN.{length, getD, take, drop, replicate, length-append, length-drop, length-replicate}
+use lib.Seq.{take-append-seam, drop-append-seam}
+use Rattle.cedar.proofs.Tools.{neither}
+use Rattle.sheet.specs.Bytes.{same, split}
+use Rattle.sheet.specs.Forms.{Mode, rowOf, keyOf, refs, NODE}
+use Rattle.sheet.specs.State.{State, empty, count}
+use Rattle.sheet.specs.Typing.{typed}
+use Rattle.sheet.specs.Sheet.{greatest, inOrder, found, depth, usedTwice, fault, more, reads, enough, firstUnused, ending, goOn, reading, read}
+use Rattle.sheet.specs.Answer.{run, answer}
+use Rattle.sheet.specs.Call.{Returned, returns, room, mostValues, afterReading, readAs, returned, over, written, zeros, worked}
+use Rattle.sheet.specs.Demand3.{Answered, bytesOf}
+use Rattle.sheet.proofs.Lines.{zero-not-suc}
+
+-- ---- the answer buffer
+
+module _ (m : Mode) (work₁ work₂ : ℕ) (buffer sheet : List ℕ) where
+  abbrev back : Returned
+  back = returned m work₁ work₂ (length buffer) sheet
+
+  abbrev bytes : List ℕ
+  bytes = answer m (read m sheet .state)
+
+  -- EVERY REFUSAL LEAVES THE ANSWER BUFFER AS IT WAS
+  pub refusal-leaves : (back .number ≡ 0 → ⊥) → written m work₁ work₂ buffer sheet ≡ buffer
+  unfolding written
+  refusal-leaves f = ap (λ b. cond b (over bytes buffer) buffer) (ne-eqb (back .number) 0 f)
+
+  -- "0, 0, written | accepted"
+  abbrev Whole : Returned → Type 0
+  Whole r = (r .line ≡ 0) × (r .length ≡ length bytes) × (length bytes ≤ length buffer)
+
+  pub accepted-whole : back .number ≡ 0 → Whole back
+  unfolding returned
+  accepted-whole e = go (ltb work₁ room || ltb work₂ room) (ltb room (length sheet)) e
+    where
+      fits : (b c : Bool) → ltb (length buffer) (length bytes) ≡ c → cond b (returns 9 0 0) (cond c (returns 10 0 (length bytes)) (returns 0 0 (length bytes))) .number ≡ 0 → Whole (cond b (returns 9 0 0) (cond c (returns 10 0 (length bytes)) (returns 0 0 (length bytes))))
+      fits true c q e = zero-not-suc e
+      fits false true q e = zero-not-suc e
+      fits false false q e = (refl, refl, ltb-false (length buffer) (length bytes) q)
+
+      after : (n k : ℕ) → afterReading m (length buffer) (read m sheet .state) n k .number ≡ 0 → Whole (afterReading m (length buffer) (read m sheet .state) n k)
+      after zero k e = fits (ltb mostValues (length (run m (read m sheet .state) .rows))) (ltb (length buffer) (length bytes)) refl e
+      after (suc n) k e = zero-not-suc e
+
+      go : (x y : Bool) → cond x (returns 1 0 0) (cond y (returns 2 0 0) (readAs m (length buffer) (read m sheet))) .number ≡ 0 → Whole (cond x (returns 1 0 0) (cond y (returns 2 0 0) (readAs m (length buffer) (read m sheet))))
+      go true y e = zero-not-suc e
+      go false true e = zero-not-suc e
+      go false false e = after (read m sheet .number) (read m sheet .line) e
+
+  -- an accepted call writes the answer and nothing else
+  pub accepted-written : back .number ≡ 0 → written m work₁ work₂ buffer sheet ≡ bytes ++ drop (length bytes) buffer
+  unfolding written
+  accepted-written e = ap (λ b. cond b (over bytes buffer) buffer) (eq-eqb (back .number) 0 e)
+
+  pub answer-written : back .number ≡ 0 → take (back .length) (written m work₁ work₂ buffer sheet) ≡ bytes
+  answer-written e = ap₂ take (accepted-whole e .1) (accepted-written e) ∙ take-append-seam bytes (drop (length bytes) buffer)
+
+  -- THE ANSWER BUFFER CHANGES ONLY IN THE BYTES WRITTEN
+  pub rest-unchanged : back .number ≡ 0 → drop (back .length) (written m work₁ work₂ buffer sheet) ≡ drop (back .length) buffer
+  rest-unchanged e = ap₂ drop (accepted-whole e .1) (accepted-written e) ∙ drop-append-seam bytes (drop (length bytes) buffer) ∙ ap (λ n. drop n buffer) (sym (accepted-whole e .1))
+
+  pub length-unchanged : back .number ≡ 0 → length (written m work₁ work₂ buffer sheet) ≡ length buffer
+  length-unchanged e = let h = accepted-whole e .2 in let k = length-drop (length bytes) buffer in ap length (accepted-written e) ∙ length-append bytes (drop (length bytes) buffer) ∙ omega (arith, h, k)
+
+-- the bytes of an answer are the answer
+pub bytes-are : {m : Mode} {sheet : List ℕ} (x : Answered m sheet) → bytesOf x ≡ answer m (read m sheet .state)
+bytes-are {m} {sheet} x = answer-written m (x .work₁) (x .work₂) (x .buffer) sheet (x .zero-number)
+
+-- ---- the work slices: only a short one gives number 1
+
+abbrev Other : ℕ → Type 0
+Other n = n ≡ 1 → ⊥
+
+fault-other : (s : State) (r : List ℕ) → Other (fault s r)
+unfolding fault
+fault-other s [] = λ z. omega (arith, z)
+fault-other s (t ∷ l) = go (not (inOrder s (keyOf (t ∷ l)))) (leb (getD (greatest s) (keyOf (t ∷ l)) 0) (count s (keyOf (t ∷ l)))) (not (found s (keyOf (t ∷ l)) (t ∷ l)))
+    (ltb 64 (depth s (keyOf (t ∷ l)) (t ∷ l))) (not (typed s (t ∷ l) (keyOf (t ∷ l)))) (usedTwice (s .used) (refs NODE (t ∷ l)))
+  where
+    go : (a b c d e f : Bool) → Other (cond a 3 (cond b 4 (cond c 5 (cond d 6 (cond e 7 (cond f 8 0))))))
+    go true b c d e f = λ z. omega (arith, z)
+    go false true c d e f = λ z. omega (arith, z)
+    go false false true d e f = λ z. omega (arith, z)
+    go false false false true e f = λ z. omega (arith, z)
+    go false false false false true f = λ z. omega (arith, z)
+    go false false false false false true = λ z. omega (arith, z)
+    go false false false false false false = λ z. omega (arith, z)
+
+ending-other : (s : State) (k : ℕ) → Other (ending s k .number)
+ending-other s k = go (enough s 13) (ltb (firstUnused (s .used)) (count s NODE)) _
+  where
+    go : (a b : Bool) (n : ℕ) → Other (cond a (cond b (reads s 8 n) (reads s 0 0)) (reads s 3 k) .number)
+    go true true n = λ z. omega (arith, z)
+    go true false n = λ z. omega (arith, z)
+    go false b n = λ z. omega (arith, z)
+
+reading-other : (m : Mode) (ls : List (List ℕ)) (s : State) (k : ℕ) → Other (reading m ls s k .number)
+reading-other m [] s k = ending-other s k
+reading-other m (l ∷ []) s k = go (same l [])
+  where
+    go : (b : Bool) → Other (cond b (ending s k) (reads s 3 k) .number)
+    go true = ending-other s k
+    go false = λ z. omega (arith, z)
+reading-other m (l ∷ n ∷ ls) s k = go (fault s (rowOf m l)) (fault-other s (rowOf m l)) (reading-other m (n ∷ ls) (more s (rowOf m l)) (suc k))
+  where
+    go : (f : ℕ) → Other f → Other (reading m (n ∷ ls) (more s (rowOf m l)) (suc k) .number) → Other (goOn s k (rowOf m l) f (reading m (n ∷ ls)) .number)
+    go zero h ih = ih
+    go (suc f) h ih = h
+
+read-other : (m : Mode) (sheet : List ℕ) → Other (read m sheet .number)
+unfolding read
+read-other m sheet = reading-other m (split 10 sheet) empty 1
+
+module _ (m : Mode) (work₁ work₂ out : ℕ) (sheet : List ℕ) where
+  -- "1, 0, 0 | either lent work slice has under 16,384 u32 words"
+  pub short-one : (ltb work₁ room || ltb work₂ room) ≡ true → returned m work₁ work₂ out sheet ≡ returns 1 0 0
+  unfolding returned
+  short-one e = ap (λ b. cond b (returns 1 0 0) (cond (ltb room (length sheet)) (returns 2 0 0) (readAs m out (read m sheet)))) e
+
+  pub one-short : returned m work₁ work₂ out sheet .number ≡ 1 → (ltb work₁ room || ltb work₂ room) ≡ true
+  unfolding returned
+  one-short e = go (ltb work₁ room || ltb work₂ room) (ltb room (length sheet)) e
+    where
+      after : (n k : ℕ) → Other n → Other (afterReading m out (read m sheet .state) n k .number)
+      after zero k h = fits (ltb mostValues (length (run m (read m sheet .state) .rows))) (ltb out (length (answer m (read m sheet .state))))
+        where
+          fits : (b c : Bool) → Other (cond b (returns 9 0 0) (cond c (returns 10 0 (length (answer m (read m sheet .state)))) (returns 0 0 (length (answer m (read m sheet .state))))) .number)
+          fits true c = λ z. omega (arith, z)
+          fits false true = λ z. omega (arith, z)
+          fits false false = λ z. omega (arith, z)
+      after (suc n) k h = h
+
+      go : (x y : Bool) → cond x (returns 1 0 0) (cond y (returns 2 0 0) (readAs m out (read m sheet))) .number ≡ 1 → x ≡ true
+      go true y e = refl
+      go false true e = absurd (omega (arith, e))
+      go false false e = absurd (after (read m sheet .number) (read m sheet .line) (read-other m sheet) e)
+
+or-swap : (p q : Bool) → (p || q) ≡ (q || p)
+or-swap true true = refl
+or-swap true false = refl
+or-swap false true = refl
+or-swap false false = refl
+
+not-or : (b : Bool) → (b ≡ true → ⊥) → b ≡ false
+not-or true f = absurd (f refl)
+not-or false f = refl
+
+module _ (m : Mode) (w₁ w₂ : List ℕ) (out : ℕ) (sheet : List ℕ) where
+  abbrev number : ℕ
+  number = returned m (length w₁) (length w₂) out sheet .number
+
+  -- AFTER 1 THE WORK SLICES ARE UNTOUCHED
+  pub untouched : number ≡ 1 → (worked w₁ (length w₂) ≡ w₁) × (worked w₂ (length w₁) ≡ w₂)
+  unfolding worked
+  untouched e = let q = one-short m (length w₁) (length w₂) out sheet e in
+      (ap (λ b. cond b w₁ (zeros room w₁)) q, ap (λ b. cond b w₂ (zeros room w₂)) (or-swap (ltb (length w₂) room) (ltb (length w₁) room) ∙ q))
+
+  -- OTHERWISE THEIR FIRST 16,384 WORDS ARE 0 AND THE REST UNTOUCHED
+  pub zeroed : (number ≡ 1 → ⊥) → (worked w₁ (length w₂) ≡ replicate 16384 0 ++ drop 16384 w₁) × (worked w₂ (length w₁) ≡ replicate 16384 0 ++ drop 16384 w₂)
+  unfolding worked
+  zeroed f = let q : (ltb (length w₁) room || ltb (length w₂) room) ≡ false = not-or _ (λ t. f (ap (λ r. r .number) (short-one m (length w₁) (length w₂) out sheet t))) in
+      (ap (λ b. cond b w₁ (zeros room w₁)) q, ap (λ b. cond b w₂ (zeros room w₂)) (or-swap (ltb (length w₂) room) (ltb (length w₁) room) ∙ q))
+
+  pub lengths-kept : (number ≡ 1 → ⊥) → (length (worked w₁ (length w₂)) ≡ length w₁) × (length (worked w₂ (length w₁)) ≡ length w₂)
+  lengths-kept f = let (p, q) = zeroed f in
+      let t : (ltb (length w₁) room || ltb (length w₂) room) ≡ false = not-or _ (λ t. f (ap (λ r. r .number) (short-one m (length w₁) (length w₂) out sheet t))) in
+      let (a, b) = neither (ltb (length w₁) room) (ltb (length w₂) room) t in
+      (whole w₁ (ltb-false (length w₁) room a) (worked w₁ (length w₂)) p, whole w₂ (ltb-false (length w₂) room b) (worked w₂ (length w₁)) q)
+    where
+      whole : (w : List ℕ) → 16384 ≤ length w → (v : List ℕ) → v ≡ replicate 16384 0 ++ drop 16384 w → length v ≡ length w
+      whole w h v e = let k = length-drop 16384 w in let z = length-replicate {A = ℕ} 16384 0 in ap length e ∙ length-append (replicate 16384 0) (drop 16384 w) ∙ omega (arith, h, k, z)

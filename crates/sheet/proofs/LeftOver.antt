@@ -1,0 +1,477 @@
+-- What interpretation leaves of a tree, and what it makes: a residual has no texts of its own, and the rows only grow, by bools, longs of 64 bits, the entities asked for, sets, and records with the tree's texts.
+use mathlib.Core.Path.{_≡_, refl, sym, _∙_, ap, subst}
+use mathlib.Core.Bool.{Bool, true, false, cond, not, _||_}
+use mathlib.Core.Option.{Option, none, some, Option·some-injective}
+use mathlib.Core.List.{List, [], _∷_, _++_, append-assoc, append-nil}
+use Prim.Native.Nat.{ℕ, _≤_}
+use native.Mathlib.Omega.{arith}
+use borrow.Author.Tests.{leb-true}
+use lib.Dec.{leb, eqb}
+use lib.IntN.{ℤ, pos, negsuc, negℤ, _+ℤ_, _-ℤ_, _*ℤ_}
+use lib.Signed.{ltZ, leZ}
+use Rattle.cedar.proofs.Tools.{no-some}
+use Rattle.cedar.specs.Value.{onSome}
+use Rattle.cedar.specs.Types.{Ty, tent, Schema, Var}
+use Rattle.cedar.specs.Residual.{Node, Nodes, NodeArgs, lit, err, var, and, or, ite, un, bin, rel, get, has, haspath, set, rec, enil, econs, gnil, gcons, Un, unot, uneg, uempty, uis, ulike, Bin, beq, blt, ble, badd, bsub, bmul, bcontains, ball, bany, Rel, rin, rgettag, rhastag, tyOf, canErr, Stage, value, error, open′, view, Class, ctrue, cfalse, cerror, copen, anyError, anyErrorArg}
+use Rattle.cedar.specs.Evaluate.{matches, isNil, inRange}
+use Rattle.cedar.specs.TypeRules.{unRule, binRule, relRule, hasRule}
+use Rattle.cedar.specs.Rows.{Entries, stop, entry, Row, rbool, rlong, rtext, rent, rset, rrec}
+use Rattle.cedar.specs.Making.{intern, orAdd, findRow, sortN}
+use Rattle.cedar.specs.Numbered.{Give, made, old, NEnv, nentity, rowAt, giveRow, rBool, rLong, rText, rEnt, rSet, rRec, NOut, give, fails, stays, truly, nlong, memN, allN, anyN, entryOf, isSome, orFail, nUn, nBin, nTargets, nIn, nRel, onEntries, nGet, nHas, Out, out, make, giveLit, nSettle, nStrict1, nStrict2, nByRule, nClass, nAndOpen, nAnd, nOrOpen, nOr, nIf, entryN, numbers, entries, Outs, OutArgs, nLeft, nWalk, nPath, nVar, nStepUn, nStepBin, nStepRel, nStepGet, nStepHas, nStepSet, nStepRec, nInterpret, nInterprets, nInterpretArgs}
+use Rattle.cedar.specs.Runs.{NPolicy, NVerdict, Run, nRun}
+use Rattle.sheet.proofs.Lines.{and-both}
+use Rattle.sheet.proofs.DigitsBack.{IsLong}
+use Rattle.sheet.proofs.TreesBack.{SmallTexts, Small, SmallAll, SmallArgs}
+
+-- ---- what may be left of a tree
+
+-- the rest of a path
+pub data Along : ℕ → List ℕ → ℕ → List ℕ → Type 0 where
+  here : {t : ℕ} {ts : List ℕ} → Along t ts t ts
+  on : {t u v : ℕ} {us vs : List ℕ} → Along u us v vs → Along t (u ∷ us) v vs
+
+mutual
+  pub data Left : Node ℕ → Node ℕ → Type 0 where
+    as-lit : {e : Node ℕ} {T : Ty} {n : ℕ} → Left e (lit T n)
+    as-err : {e : Node ℕ} {T : Ty} → Left e (err T)
+    as-var : {T : Ty} {x : Var} → Left (var T x) (var T x)
+    in-and : {T : Ty} {a b c d : Node ℕ} → Left a c → Left b d → Left (and T a b) (and T c d)
+    and-one : {T : Ty} {a b c : Node ℕ} → Left a c → Left (and T a b) c
+    and-two : {T : Ty} {a b c : Node ℕ} → Left b c → Left (and T a b) c
+    in-or : {T : Ty} {a b c d : Node ℕ} → Left a c → Left b d → Left (or T a b) (or T c d)
+    or-one : {T : Ty} {a b c : Node ℕ} → Left a c → Left (or T a b) c
+    or-two : {T : Ty} {a b c : Node ℕ} → Left b c → Left (or T a b) c
+    in-if : {T : Ty} {a b c d e f : Node ℕ} → Left a d → Left b e → Left c f → Left (ite T a b c) (ite T d e f)
+    if-one : {T : Ty} {a b c e : Node ℕ} → Left b e → Left (ite T a b c) e
+    if-two : {T : Ty} {a b c e : Node ℕ} → Left c e → Left (ite T a b c) e
+    in-un : {T : Ty} {u : Un} {a c : Node ℕ} → Left a c → Left (un T u a) (un T u c)
+    in-bin : {T : Ty} {o : Bin} {a b c d : Node ℕ} → Left a c → Left b d → Left (bin T o a b) (bin T o c d)
+    in-rel : {T : Ty} {o : Rel} {a b c d : Node ℕ} → Left a c → Left b d → Left (rel T o a b) (rel T o c d)
+    in-get : {T : Ty} {a c : Node ℕ} {t : ℕ} → Left a c → Left (get T a t) (get T c t)
+    in-has : {T : Ty} {a c : Node ℕ} {t : ℕ} → Left a c → Left (has T a t) (has T c t)
+    in-path : {T : Ty} {a c : Node ℕ} {t : ℕ} {ts : List ℕ} → Left a c → Left (haspath T a t ts) (haspath T c t ts)
+    on-path : {T A : Ty} {a : Node ℕ} {t u n : ℕ} {ts us : List ℕ} → Along t ts u us → Left (haspath T a t ts) (haspath T (lit A n) u us)
+    in-set : {T : Ty} {es fs : Nodes ℕ} → LeftAll es fs → Left (set T es) (set T fs)
+    in-rec : {T : Ty} {gs hs : NodeArgs ℕ} → LeftArgs gs hs → Left (rec T gs) (rec T hs)
+
+  pub data LeftAll : Nodes ℕ → Nodes ℕ → Type 0 where
+    left-nil : LeftAll enil enil
+    left-cons : {a c : Node ℕ} {es fs : Nodes ℕ} → Left a c → LeftAll es fs → LeftAll (econs a es) (econs c fs)
+
+  pub data LeftArgs : NodeArgs ℕ → NodeArgs ℕ → Type 0 where
+    left-stop : LeftArgs gnil gnil
+    left-arg : {t : ℕ} {a c : Node ℕ} {gs hs : NodeArgs ℕ} → Left a c → LeftArgs gs hs → LeftArgs (gcons t a gs) (gcons t c hs)
+
+-- of any literal
+abbrev pub Any : ℕ → Type 0
+Any n = Unit {0}
+
+along-small : {t u : ℕ} {ts us : List ℕ} → Along t ts u us → SmallTexts (t ∷ ts) → SmallTexts (u ∷ us)
+along-small here h = h
+along-small (on p) h = along-small p (h .1)
+
+-- it has the tree's texts and kinds
+mutual
+  pub left-small : {e r : Node ℕ} → Left e r → Small Any e → Small Any r
+  left-small as-lit h = tt
+  left-small as-err h = tt
+  left-small as-var h = tt
+  left-small (in-and a b) h = (left-small a (h .0), left-small b (h .1))
+  left-small (and-one a) h = left-small a (h .0)
+  left-small (and-two b) h = left-small b (h .1)
+  left-small (in-or a b) h = (left-small a (h .0), left-small b (h .1))
+  left-small (or-one a) h = left-small a (h .0)
+  left-small (or-two b) h = left-small b (h .1)
+  left-small (in-if a b c) h = (left-small a (h .0), left-small b (h .1), left-small c (h .2))
+  left-small (if-one b) h = left-small b (h .1)
+  left-small (if-two c) h = left-small c (h .2)
+  left-small (in-un a) h = (h .0, left-small a (h .1))
+  left-small (in-bin a b) h = (left-small a (h .0), left-small b (h .1))
+  left-small (in-rel a b) h = (left-small a (h .0), left-small b (h .1))
+  left-small (in-get a) h = (h .0, left-small a (h .1))
+  left-small (in-has a) h = (h .0, left-small a (h .1))
+  left-small (in-path a) h = (h .0, left-small a (h .1))
+  left-small (on-path p) h = (along-small p (h .0), tt)
+  left-small (in-set k) h = left-all-small k h
+  left-small (in-rec k) h = left-args-small k h
+
+  left-all-small : {es fs : Nodes ℕ} → LeftAll es fs → SmallAll Any es → SmallAll Any fs
+  left-all-small left-nil h = tt
+  left-all-small (left-cons a k) h = (left-small a (h .0), left-all-small k (h .1))
+
+  left-args-small : {gs hs : NodeArgs ℕ} → LeftArgs gs hs → SmallArgs Any gs → SmallArgs Any hs
+  left-args-small left-stop h = tt
+  left-args-small (left-arg a k) h = (h .0, left-small a (h .1), left-args-small k (h .2))
+
+-- ---- what may be made
+
+abbrev pub SmallNames : Entries → Type 0
+SmallNames stop = Unit {0}
+SmallNames (entry t n e) = (t ≤ 9999) × SmallNames e
+
+abbrev pub MadeOk : Row → Type 0
+MadeOk (rbool b) = Unit {0}
+MadeOk (rlong z) = IsLong z
+MadeOk (rtext t) = t ≤ 9999
+MadeOk (rent k t) = (k ≤ 9999) × (t ≤ 9999)
+MadeOk (rset l) = Unit {0}
+MadeOk (rrec e) = SmallNames e
+
+abbrev pub AllMade : List Row → Type 0
+AllMade [] = Unit {0}
+AllMade (r ∷ R) = MadeOk r × AllMade R
+
+-- rows that grew
+pub record Grown (R R′ : List Row) : Type 0 where
+  pub more : List Row
+  pub good : AllMade more
+  pub grew : R′ ≡ R ++ more
+
+pub same-rows : (R : List Row) → Grown R R
+same-rows R = record { more = []; good = tt; grew = sym (append-nil R) }
+
+made-append : (k l : List Row) → AllMade k → AllMade l → AllMade (k ++ l)
+made-append [] l g h = h
+made-append (r ∷ k) l g h = (g .0, made-append k l (g .1) h)
+
+pub grow-on : {R R′ R″ : List Row} → Grown R R′ → Grown R′ R″ → Grown R R″
+grow-on {R} g h = record { more = g .more ++ h .more; good = made-append (g .more) (h .more) (g .good) (h .good); grew = h .grew ∙ ap (λ z. z ++ h .more) (g .grew) ∙ append-assoc R (g .more) (h .more) }
+
+intern-grows : (R : List Row) (r : Row) → MadeOk r → Grown R (intern R r .rows)
+intern-grows R r k = go (findRow r R)
+  where
+    go : (o : Option ℕ) → Grown R (orAdd o R r .rows)
+    go none = record { more = r ∷ []; good = (k, tt); grew = refl }
+    go (some n) = same-rows R
+
+abbrev pub GiveMade : Give → Type 0
+GiveMade (made r) = MadeOk r
+GiveMade (old n) = Unit {0}
+
+abbrev OutMade : NOut → Type 0
+OutMade (give g) = GiveMade g
+OutMade fails = Unit {0}
+OutMade stays = Unit {0}
+
+-- a row taken apart
+module _ {A : Type 0} (X : A → Type 0) (d : A) (x : X d) where
+  e-bool : (r : Row) (f : Bool → A) → ((b : Bool) → X (f b)) → X (rBool d r f)
+  e-bool (rbool b) f h = h b
+  e-bool (rlong n) f h = x
+  e-bool (rtext t) f h = x
+  e-bool (rent k t) f h = x
+  e-bool (rset l) f h = x
+  e-bool (rrec e) f h = x
+
+  e-long : (r : Row) (f : ℤ → A) → ((n : ℤ) → X (f n)) → X (rLong d r f)
+  e-long (rbool b) f h = x
+  e-long (rlong n) f h = h n
+  e-long (rtext t) f h = x
+  e-long (rent k t) f h = x
+  e-long (rset l) f h = x
+  e-long (rrec e) f h = x
+
+  e-text : (r : Row) (f : ℕ → A) → ((t : ℕ) → X (f t)) → X (rText d r f)
+  e-text (rbool b) f h = x
+  e-text (rlong n) f h = x
+  e-text (rtext t) f h = h t
+  e-text (rent k t) f h = x
+  e-text (rset l) f h = x
+  e-text (rrec e) f h = x
+
+  e-ent : (r : Row) (f : ℕ → ℕ → A) → ((k t : ℕ) → X (f k t)) → X (rEnt d r f)
+  e-ent (rbool b) f h = x
+  e-ent (rlong n) f h = x
+  e-ent (rtext t) f h = x
+  e-ent (rent k t) f h = h k t
+  e-ent (rset l) f h = x
+  e-ent (rrec e) f h = x
+
+  e-set : (r : Row) (f : List ℕ → A) → ((l : List ℕ) → X (f l)) → X (rSet d r f)
+  e-set (rbool b) f h = x
+  e-set (rlong n) f h = x
+  e-set (rtext t) f h = x
+  e-set (rent k t) f h = x
+  e-set (rset l) f h = h l
+  e-set (rrec e) f h = x
+
+  e-rec : (r : Row) (f : Entries → A) → ((e : Entries) → X (f e)) → X (rRec d r f)
+  e-rec (rbool b) f h = x
+  e-rec (rlong n) f h = x
+  e-rec (rtext t) f h = x
+  e-rec (rent k t) f h = x
+  e-rec (rset l) f h = x
+  e-rec (rrec e) f h = h e
+
+  e-some : {B : Type 0} (o : Option B) (f : B → A) → ((b : B) → X (f b)) → X (onSome d o f)
+  e-some none f h = x
+  e-some (some b) f h = h b
+
+  e-entries : (M : NEnv) (R : List Row) (u : ℕ → ℕ → A) → ((k i : ℕ) → X (u k i)) → (f : Entries → A) → ((e : Entries) → X (f e)) → (r : Row) → X (onEntries M R d u r f)
+  e-entries M R u g f h (rbool b) = x
+  e-entries M R u g f h (rlong n) = x
+  e-entries M R u g f h (rtext t) = x
+  e-entries M R u g f h (rent k t) = go (nentity M k t .attrs)
+    where
+      go : (o : Option Give) → X (onSome (u k t) o (λ a. rRec d (giveRow R a) f))
+      go none = g k t
+      go (some a) = e-rec (giveRow R a) f h
+  e-entries M R u g f h (rset l) = x
+  e-entries M R u g f h (rrec e) = h e
+
+in-range : (z : ℤ) → inRange z ≡ true → IsLong z
+in-range (pos n) e = let h = leb-true n 9223372036854775807 e in omega (arith, h)
+in-range (negsuc n) e = and-both (leb n 9223372036854775807) true e (λ p q. let h = leb-true n 9223372036854775807 p in omega (arith, h))
+
+made-long : (z : ℤ) → OutMade (nlong z)
+made-long z = go (inRange z) refl
+  where
+    go : (b : Bool) → inRange z ≡ b → OutMade (cond b (give (made (rlong z))) fails)
+    go true e = in-range z e
+    go false e = tt
+
+made-old : (o : Option ℕ) → OutMade (orFail o)
+made-old none = tt
+made-old (some n) = tt
+
+made-un : (S : Schema) (u : Un) (r : Row) → OutMade (nUn S u r)
+made-un S unot r = e-bool OutMade fails tt r (λ b. truly (not b)) (λ b. tt)
+made-un S uneg r = e-long OutMade fails tt r (λ n. nlong (negℤ n)) (λ n. made-long (negℤ n))
+made-un S uempty r = e-set OutMade fails tt r (λ l. truly (isNil l)) (λ l. tt)
+made-un S (uis k) r = e-ent OutMade fails tt r (λ l t. truly (eqb k l)) (λ l t. tt)
+made-un S (ulike p) r = e-text OutMade fails tt r (λ t. truly (matches (S .bytes) p (S .bytes t))) (λ t. tt)
+
+made-bin : (o : Bin) (m n : ℕ) (r s : Row) → OutMade (nBin o m n r s)
+made-bin beq m n r s = tt
+made-bin blt m n r s = e-long OutMade fails tt r (λ x. rLong fails s (λ y. truly (ltZ x y))) (λ x. e-long OutMade fails tt s (λ y. truly (ltZ x y)) (λ y. tt))
+made-bin ble m n r s = e-long OutMade fails tt r (λ x. rLong fails s (λ y. truly (leZ x y))) (λ x. e-long OutMade fails tt s (λ y. truly (leZ x y)) (λ y. tt))
+made-bin badd m n r s = e-long OutMade fails tt r (λ x. rLong fails s (λ y. nlong (x +ℤ y))) (λ x. e-long OutMade fails tt s (λ y. nlong (x +ℤ y)) (λ y. made-long (x +ℤ y)))
+made-bin bsub m n r s = e-long OutMade fails tt r (λ x. rLong fails s (λ y. nlong (x -ℤ y))) (λ x. e-long OutMade fails tt s (λ y. nlong (x -ℤ y)) (λ y. made-long (x -ℤ y)))
+made-bin bmul m n r s = e-long OutMade fails tt r (λ x. rLong fails s (λ y. nlong (x *ℤ y))) (λ x. e-long OutMade fails tt s (λ y. nlong (x *ℤ y)) (λ y. made-long (x *ℤ y)))
+made-bin bcontains m n r s = e-set OutMade fails tt r (λ l. truly (memN n l)) (λ l. tt)
+made-bin ball m n r s = e-set OutMade fails tt r (λ l. rSet fails s (λ k. truly (allN k l))) (λ l. e-set OutMade fails tt s (λ k. truly (allN k l)) (λ k. tt))
+made-bin bany m n r s = e-set OutMade fails tt r (λ l. rSet fails s (λ k. truly (anyN k l))) (λ l. e-set OutMade fails tt s (λ k. truly (anyN k l)) (λ k. tt))
+
+made-in : (R : List Row) (m : ℕ) (o : Option Give) (l : List ℕ) → OutMade (nIn R m o l)
+made-in R m none l = go (memN m l) (isNil l)
+  where
+    go : (x y : Bool) → OutMade (cond x (truly true) (cond y (truly false) stays))
+    go true y = tt
+    go false true = tt
+    go false false = tt
+made-in R m (some a) l = e-set OutMade fails tt (giveRow R a) (λ k. truly (memN m l || anyN l k)) (λ k. tt)
+
+module _ (M : NEnv) (R : List Row) where
+  made-rel : (o : Rel) (m n : ℕ) (r s : Row) → OutMade (nRel M R o m n r s)
+  made-rel rin m n r s = e-ent OutMade fails tt r (λ k t. onSome fails (nTargets R n s) (nIn R m (nentity M k t .ancestors))) (λ k t. e-some OutMade fails tt (nTargets R n s) (nIn R m (nentity M k t .ancestors)) (λ l. made-in R m (nentity M k t .ancestors) l))
+  made-rel rgettag m n r s = e-ent OutMade fails tt r (λ k t. rText fails s (λ u. onSome stays (nentity M k t .tags) (λ a. rRec fails (giveRow R a) (λ e. orFail (entryOf u e))))) (λ k t. e-text OutMade fails tt s (λ u. onSome stays (nentity M k t .tags) (λ a. rRec fails (giveRow R a) (λ e. orFail (entryOf u e))))
+      (λ u. e-some OutMade stays tt (nentity M k t .tags) (λ a. rRec fails (giveRow R a) (λ e. orFail (entryOf u e))) (λ a. e-rec OutMade fails tt (giveRow R a) (λ e. orFail (entryOf u e)) (λ e. made-old (entryOf u e)))))
+  made-rel rhastag m n r s = e-ent OutMade fails tt r (λ k t. rText fails s (λ u. onSome stays (nentity M k t .tags) (λ a. rRec fails (giveRow R a) (λ e. truly (isSome (entryOf u e)))))) (λ k t. e-text OutMade fails tt s (λ u. onSome stays (nentity M k t .tags) (λ a. rRec fails (giveRow R a) (λ e. truly (isSome (entryOf u e)))))
+      (λ u. e-some OutMade stays tt (nentity M k t .tags) (λ a. rRec fails (giveRow R a) (λ e. truly (isSome (entryOf u e)))) (λ a. e-rec OutMade fails tt (giveRow R a) (λ e. truly (isSome (entryOf u e))) (λ e. tt))))
+
+-- ---- a step: what it leaves of e, and the rows grown from R
+
+pub record Leaves (e : Node ℕ) (R : List Row) (o : Out) : Type 0 where
+  pub left : Left e (o .tree)
+  pub grown : Grown R (o .rows)
+
+after : {e : Node ℕ} {R R′ : List Row} (o : Out) → Grown R R′ → Leaves e R′ o → Leaves e R o
+after o g l = record { left = l .left; grown = grow-on g (l .grown) }
+
+module _ {e : Node ℕ} (R : List Row) where
+  stay : (k : Node ℕ) → Left e k → Leaves e R (out R k)
+  stay k l = record { left = l; grown = same-rows R }
+
+  makes : (T : Ty) (r : Row) → MadeOk r → Leaves e R (make T r R)
+  makes T r k = record { left = as-lit; grown = intern-grows R r k }
+
+  gives : (T : Ty) (g : Give) → GiveMade g → Leaves e R (giveLit T g R)
+  gives T (made r) k = makes T r k
+  gives T (old n) k = stay (lit T n) as-lit
+
+  settles : (T : Ty) (keep : Node ℕ) → Left e keep → (o : NOut) → OutMade o → Leaves e R (nSettle T keep o R)
+  settles T keep l (give g) k = gives T g k
+  settles T keep l fails k = stay (err T) as-err
+  settles T keep l stays k = stay keep l
+
+  strict1 : (T : Ty) (keep : Node ℕ) → Left e keep → (f : ℕ → NOut) → ((n : ℕ) → OutMade (f n)) → (x : Stage ℕ) → Leaves e R (nStrict1 T keep f x R)
+  strict1 T keep l f k (value n) = settles T keep l (f n) (k n)
+  strict1 T keep l f k error = stay (err T) as-err
+  strict1 T keep l f k open′ = stay keep l
+
+  strict2 : (T : Ty) (keep : Node ℕ) → Left e keep → (f : ℕ → ℕ → NOut) → ((m n : ℕ) → OutMade (f m n)) → (x y : Stage ℕ) → Leaves e R (nStrict2 T keep f x y R)
+  strict2 T keep l f k (value m) (value n) = settles T keep l (f m n) (k m n)
+  strict2 T keep l f k (value m) error = stay (err T) as-err
+  strict2 T keep l f k (value m) open′ = stay keep l
+  strict2 T keep l f k error y = stay (err T) as-err
+  strict2 T keep l f k open′ (value n) = stay keep l
+  strict2 T keep l f k open′ error = stay (err T) as-err
+  strict2 T keep l f k open′ open′ = stay keep l
+
+  decides : (T : Ty) (c : Bool) (o : Option Bool) (r : Out) → Leaves e R r → Leaves e R (nByRule T c o r R)
+  decides T true o r h = h
+  decides T false none r h = h
+  decides T false (some b) r h = makes T (rbool b) tt
+
+-- and, or, if: o is the left side worked over R, k what goes on with its rows
+module _ (T : Ty) {a b : Node ℕ} {R : List Row} (o : Out) (h : Leaves a R o) (k : List Row → Out) (g : Leaves b (o .rows) (k (o .rows))) where
+  two-rows : Grown R (k (o .rows) .rows)
+  two-rows = grow-on (h .grown) (g .grown)
+
+  leaves-and-open : (c : Class) → Leaves (and T a b) R (nAndOpen T (o .tree) (k (o .rows)) c)
+  leaves-and-open ctrue = record { left = and-one (h .left); grown = two-rows }
+  leaves-and-open cfalse = go (canErr (o .tree))
+    where
+      go : (c : Bool) → Leaves (and T a b) R (cond c (out (intern (k (o .rows) .rows) (rbool false) .rows) (and T (o .tree) (lit T (intern (k (o .rows) .rows) (rbool false) .number)))) (make T (rbool false) (k (o .rows) .rows)))
+      go true = record { left = in-and (h .left) as-lit; grown = grow-on two-rows (intern-grows (k (o .rows) .rows) (rbool false) tt) }
+      go false = after (make T (rbool false) (k (o .rows) .rows)) two-rows (makes (k (o .rows) .rows) T (rbool false) tt)
+  leaves-and-open cerror = record { left = in-and (h .left) (g .left); grown = two-rows }
+  leaves-and-open copen = record { left = in-and (h .left) (g .left); grown = two-rows }
+
+  leaves-and : (c : Class) → Leaves (and T a b) R (nAnd T o k c)
+  leaves-and cfalse = after (make T (rbool false) (o .rows)) (h .grown) (makes (o .rows) T (rbool false) tt)
+  leaves-and ctrue = record { left = and-two (g .left); grown = two-rows }
+  leaves-and cerror = record { left = as-err; grown = h .grown }
+  leaves-and copen = leaves-and-open (nClass (k (o .rows)))
+
+  leaves-or-open : (c : Class) → Leaves (or T a b) R (nOrOpen T (o .tree) (k (o .rows)) c)
+  leaves-or-open cfalse = record { left = or-one (h .left); grown = two-rows }
+  leaves-or-open ctrue = go (canErr (o .tree))
+    where
+      go : (c : Bool) → Leaves (or T a b) R (cond c (out (intern (k (o .rows) .rows) (rbool true) .rows) (or T (o .tree) (lit T (intern (k (o .rows) .rows) (rbool true) .number)))) (make T (rbool true) (k (o .rows) .rows)))
+      go true = record { left = in-or (h .left) as-lit; grown = grow-on two-rows (intern-grows (k (o .rows) .rows) (rbool true) tt) }
+      go false = after (make T (rbool true) (k (o .rows) .rows)) two-rows (makes (k (o .rows) .rows) T (rbool true) tt)
+  leaves-or-open cerror = record { left = in-or (h .left) (g .left); grown = two-rows }
+  leaves-or-open copen = record { left = in-or (h .left) (g .left); grown = two-rows }
+
+  leaves-or : (c : Class) → Leaves (or T a b) R (nOr T o k c)
+  leaves-or ctrue = after (make T (rbool true) (o .rows)) (h .grown) (makes (o .rows) T (rbool true) tt)
+  leaves-or cfalse = record { left = or-two (g .left); grown = two-rows }
+  leaves-or cerror = record { left = as-err; grown = h .grown }
+  leaves-or copen = leaves-or-open (nClass (k (o .rows)))
+
+  leaves-if : {c : Node ℕ} (l : List Row → Out) → Leaves c (o .rows) (l (o .rows)) → Leaves c (k (o .rows) .rows) (l (k (o .rows) .rows)) → (d : Class) → Leaves (ite T a b c) R (nIf T o k l d)
+  leaves-if l i j ctrue = record { left = if-one (g .left); grown = two-rows }
+  leaves-if l i j cfalse = record { left = if-two (i .left); grown = grow-on (h .grown) (i .grown) }
+  leaves-if l i j cerror = record { left = as-err; grown = h .grown }
+  leaves-if l i j copen = record { left = in-if (h .left) (g .left) (j .left); grown = grow-on two-rows (j .grown) }
+
+-- ---- the whole interpretation
+
+record LeavesAll (es : Nodes ℕ) (R : List Row) (o : Outs) : Type 0 where
+  left : LeftAll es (o .trees)
+  grown : Grown R (o .rows)
+
+record LeavesArgs (gs : NodeArgs ℕ) (R : List Row) (o : OutArgs) : Type 0 where
+  left : LeftArgs gs (o .trees)
+  grown : Grown R (o .rows)
+
+names-small : (gs : NodeArgs ℕ) → SmallArgs Any gs → (e : Entries) → entries gs ≡ some e → SmallNames e
+names-small gnil h e q = subst SmallNames (Option·some-injective _ _ q) tt
+names-small (gcons t a gs) h e q = go (view a) (entries gs) refl (λ d p. names-small gs (h .2) d p) q
+  where
+    go : (x : Stage ℕ) (o : Option Entries) → entries gs ≡ o → ((d : Entries) → entries gs ≡ some d → SmallNames d) → entryN t x o ≡ some e → SmallNames e
+    go (value n) (some d) p f r = subst SmallNames (Option·some-injective _ _ r) (h .0, f d p)
+    go (value n) none p f r = no-some r
+    go error o p f r = no-some r
+    go open′ o p f r = no-some r
+
+-- of all policies
+abbrev pub PoliciesSmall : List NPolicy → Type 0
+PoliciesSmall [] = Unit {0}
+PoliciesSmall (p ∷ ps) = Small Any (p .tree) × PoliciesSmall ps
+
+pub data LeftLines : List NPolicy → List NVerdict → Type 0 where
+  no-lines : LeftLines [] []
+  one-line : {p : NPolicy} {ps : List NPolicy} {l : NVerdict} {ls : List NVerdict} → Left (p .tree) (l .root) → LeftLines ps ls → LeftLines (p ∷ ps) (l ∷ ls)
+
+pub record RunLeaves (ps : List NPolicy) (R : List Row) (r : Run) : Type 0 where
+  pub lines : LeftLines ps (r .lines)
+  pub rows : Grown R (r .rows)
+
+module _ (S : Schema) (M : NEnv) (asked : (x : Var) (g : Give) → M .request x ≡ some g → GiveMade g) where
+  leaves-var : (T : Ty) (x : Var) (o : Option Give) (R : List Row) → ((g : Give) → o ≡ some g → GiveMade g) → Leaves (var T x) R (nVar S M T (var T x) o R)
+  leaves-var T x none R k = stay R (var T x) as-var
+  leaves-var T x (some g) R k = gives R T g (k g refl)
+
+  module _ {e : Node ℕ} (T : Ty) (R : List Row) where
+    leaves-left : (a : Node ℕ) (t : ℕ) (ts : List ℕ) → Left e (haspath T a t ts) → Leaves e R (nLeft S M T a t ts R)
+    leaves-left a t ts l = decides R T (canErr a) (hasRule S t (tyOf a)) (out R (haspath T a t ts)) (stay R (haspath T a t ts) l)
+
+    leaves-walk : (us : List ℕ) (t : ℕ) → ((A : Ty) (m v : ℕ) (vs : List ℕ) → Along t us v vs → Left e (haspath T (lit A m) v vs)) → (n : ℕ) → Leaves e R (nWalk S M T R us t n)
+    leaves-walk [] t f n = e-entries (Leaves e R) (out R (err T)) (stay R (err T) as-err) M R (λ k i. nLeft S M T (lit (tent k) n) t [] R) (λ k i. leaves-left (lit (tent k) n) t [] (f (tent k) n t [] here))
+        (λ d. make T (rbool (isSome (entryOf t d))) R) (λ d. makes R T (rbool (isSome (entryOf t d))) tt) (rowAt R n)
+    leaves-walk (u ∷ us) t f n = e-entries (Leaves e R) (out R (err T)) (stay R (err T) as-err) M R (λ k i. nLeft S M T (lit (tent k) n) t (u ∷ us) R) (λ k i. leaves-left (lit (tent k) n) t (u ∷ us) (f (tent k) n t (u ∷ us) here))
+        (λ d. onSome (make T (rbool false) R) (entryOf t d) (nWalk S M T R us u)) (λ d. e-some (Leaves e R) (make T (rbool false) R) (makes R T (rbool false) tt) (entryOf t d) (nWalk S M T R us u) (λ x. leaves-walk us u (λ A m v vs p. f A m v vs (on p)) x)) (rowAt R n)
+
+  leaves-path : (T : Ty) (a : Node ℕ) (t : ℕ) (ts : List ℕ) {R : List Row} (o : Out) → Leaves a R o → (x : Stage ℕ) → Leaves (haspath T a t ts) R (nPath S M T (o .tree) t ts x (o .rows))
+  leaves-path T a t ts o h (value n) = after (nWalk S M T (o .rows) ts t n) (h .grown) (leaves-walk T (o .rows) ts t (λ A m v vs p. on-path p) n)
+  leaves-path T a t ts o h error = record { left = as-err; grown = h .grown }
+  leaves-path T a t ts o h open′ = after (nLeft S M T (o .tree) t ts (o .rows)) (h .grown) (leaves-left T (o .rows) (o .tree) t ts (in-path (h .left)))
+
+  leaves-un : (T : Ty) (u : Un) (a : Node ℕ) {R : List Row} (o : Out) → Leaves a R o → Leaves (un T u a) R (nStepUn S M T u o)
+  leaves-un T u a o h = after (nStepUn S M T u o) (h .grown) (decides (o .rows) T (canErr (o .tree)) (unRule S u (tyOf (o .tree))) _
+      (strict1 (o .rows) T (un T u (o .tree)) (in-un (h .left)) (λ n. nUn S u (rowAt (o .rows) n)) (λ n. made-un S u (rowAt (o .rows) n)) (view (o .tree))))
+
+  leaves-bin : (T : Ty) (p : Bin) (a b : Node ℕ) {R : List Row} (q o : Out) → Leaves a R q → Leaves b (q .rows) o → Leaves (bin T p a b) R (nStepBin S M T p (q .tree) o)
+  leaves-bin T p a b q o g h = after (nStepBin S M T p (q .tree) o) (grow-on (g .grown) (h .grown)) (decides (o .rows) T (canErr (q .tree) || canErr (o .tree)) (binRule S p (tyOf (q .tree)) (tyOf (o .tree))) _
+      (strict2 (o .rows) T (bin T p (q .tree) (o .tree)) (in-bin (g .left) (h .left)) (λ m n. nBin p m n (rowAt (o .rows) m) (rowAt (o .rows) n)) (λ m n. made-bin p m n (rowAt (o .rows) m) (rowAt (o .rows) n)) (view (q .tree)) (view (o .tree))))
+
+  leaves-rel : (T : Ty) (p : Rel) (a b : Node ℕ) {R : List Row} (q o : Out) → Leaves a R q → Leaves b (q .rows) o → Leaves (rel T p a b) R (nStepRel S M T p (q .tree) o)
+  leaves-rel T p a b q o g h = after (nStepRel S M T p (q .tree) o) (grow-on (g .grown) (h .grown)) (decides (o .rows) T (canErr (q .tree) || canErr (o .tree)) (relRule S p (tyOf (q .tree)) (tyOf (o .tree))) _
+      (strict2 (o .rows) T (rel T p (q .tree) (o .tree)) (in-rel (g .left) (h .left)) (λ m n. nRel M (o .rows) p m n (rowAt (o .rows) m) (rowAt (o .rows) n)) (λ m n. made-rel M (o .rows) p m n (rowAt (o .rows) m) (rowAt (o .rows) n)) (view (q .tree)) (view (o .tree))))
+
+  leaves-get : (T : Ty) (a : Node ℕ) (t : ℕ) {R : List Row} (o : Out) → Leaves a R o → Leaves (get T a t) R (nStepGet S M T o t)
+  leaves-get T a t o h = after (nStepGet S M T o t) (h .grown) (strict1 (o .rows) T (get T (o .tree) t) (in-get (h .left)) (λ n. nGet M (o .rows) t (rowAt (o .rows) n))
+      (λ n. e-entries OutMade fails tt M (o .rows) (λ k i. stays) (λ k i. tt) (λ e. orFail (entryOf t e)) (λ e. made-old (entryOf t e)) (rowAt (o .rows) n)) (view (o .tree)))
+
+  leaves-has : (T : Ty) (a : Node ℕ) (t : ℕ) {R : List Row} (o : Out) → Leaves a R o → Leaves (has T a t) R (nStepHas S M T o t)
+  leaves-has T a t o h = after (nStepHas S M T o t) (h .grown) (decides (o .rows) T (canErr (o .tree)) (hasRule S t (tyOf (o .tree))) _
+      (strict1 (o .rows) T (has T (o .tree) t) (in-has (h .left)) (λ n. nHas M (o .rows) t (rowAt (o .rows) n))
+      (λ n. e-entries OutMade fails tt M (o .rows) (λ k i. stays) (λ k i. tt) (λ e. truly (isSome (entryOf t e))) (λ e. tt) (rowAt (o .rows) n)) (view (o .tree))))
+
+  leaves-set : (T : Ty) (es : Nodes ℕ) {R : List Row} (o : Outs) → LeavesAll es R o → Leaves (set T es) R (nStepSet S M T o)
+  leaves-set T es {R} o h = go (numbers (o .trees)) (anyError (o .trees))
+    where
+      go : (x : Option (List ℕ)) (b : Bool) → Leaves (set T es) R (onSome (out (o .rows) (cond b (err T) (set T (o .trees)))) x (λ l. make T (rset (sortN l)) (o .rows)))
+      go none true = record { left = as-err; grown = h .grown }
+      go none false = record { left = in-set (h .left); grown = h .grown }
+      go (some l) b = after (make T (rset (sortN l)) (o .rows)) (h .grown) (makes (o .rows) T (rset (sortN l)) tt)
+
+  leaves-rec : (T : Ty) (gs : NodeArgs ℕ) {R : List Row} (o : OutArgs) → SmallArgs Any gs → LeavesArgs gs R o → Leaves (rec T gs) R (nStepRec S M T o)
+  leaves-rec T gs {R} o s h = go (entries (o .trees)) (anyErrorArg (o .trees)) refl
+    where
+      go : (x : Option Entries) (b : Bool) → entries (o .trees) ≡ x → Leaves (rec T gs) R (onSome (out (o .rows) (cond b (err T) (rec T (o .trees)))) x (λ e. make T (rrec e) (o .rows)))
+      go none true q = record { left = as-err; grown = h .grown }
+      go none false q = record { left = in-rec (h .left); grown = h .grown }
+      go (some e) b q = after (make T (rrec e) (o .rows)) (h .grown) (makes (o .rows) T (rrec e) (names-small (o .trees) (left-args-small (h .left) s) e q))
+
+  mutual
+    pub leaves : (e : Node ℕ) → Small Any e → (R : List Row) → Leaves e R (nInterpret S M e R)
+    leaves (lit T n) s R = stay R (lit T n) as-lit
+    leaves (err T) s R = stay R (err T) as-err
+    leaves (var T x) s R = leaves-var T x (M .request x) R (asked x)
+    leaves (and T a b) s R = leaves-and T (nInterpret S M a R) (leaves a (s .0) R) (nInterpret S M b) (leaves b (s .1) (nInterpret S M a R .rows)) (nClass (nInterpret S M a R))
+    leaves (or T a b) s R = leaves-or T (nInterpret S M a R) (leaves a (s .0) R) (nInterpret S M b) (leaves b (s .1) (nInterpret S M a R .rows)) (nClass (nInterpret S M a R))
+    leaves (ite T c a b) s R = leaves-if T (nInterpret S M c R) (leaves c (s .0) R) (nInterpret S M a) (leaves a (s .1) (nInterpret S M c R .rows)) (nInterpret S M b) (leaves b (s .2) (nInterpret S M c R .rows))
+        (leaves b (s .2) (nInterpret S M a (nInterpret S M c R .rows) .rows)) (nClass (nInterpret S M c R))
+    leaves (un T u a) s R = leaves-un T u a (nInterpret S M a R) (leaves a (s .1) R)
+    leaves (bin T o a b) s R = leaves-bin T o a b (nInterpret S M a R) (nInterpret S M b (nInterpret S M a R .rows)) (leaves a (s .0) R) (leaves b (s .1) (nInterpret S M a R .rows))
+    leaves (rel T o a b) s R = leaves-rel T o a b (nInterpret S M a R) (nInterpret S M b (nInterpret S M a R .rows)) (leaves a (s .0) R) (leaves b (s .1) (nInterpret S M a R .rows))
+    leaves (get T a t) s R = leaves-get T a t (nInterpret S M a R) (leaves a (s .1) R)
+    leaves (has T a t) s R = leaves-has T a t (nInterpret S M a R) (leaves a (s .1) R)
+    leaves (haspath T a t ts) s R = leaves-path T a t ts (nInterpret S M a R) (leaves a (s .1) R) (view (nInterpret S M a R .tree))
+    leaves (set T es) s R = leaves-set T es (nInterprets S M es R) (leaves-all es s R)
+    leaves (rec T gs) s R = leaves-rec T gs (nInterpretArgs S M gs R) s (leaves-args gs s R)
+
+    leaves-all : (es : Nodes ℕ) → SmallAll Any es → (R : List Row) → LeavesAll es R (nInterprets S M es R)
+    leaves-all enil s R = record { left = left-nil; grown = same-rows R }
+    leaves-all (econs e es) s R = let h = leaves e (s .0) R in let k = leaves-all es (s .1) (nInterpret S M e R .rows) in record { left = left-cons (h .left) (k .left); grown = grow-on (h .grown) (k .grown) }
+
+    leaves-args : (gs : NodeArgs ℕ) → SmallArgs Any gs → (R : List Row) → LeavesArgs gs R (nInterpretArgs S M gs R)
+    leaves-args gnil s R = record { left = left-stop; grown = same-rows R }
+    leaves-args (gcons t e gs) s R = let h = leaves e (s .1) R in let k = leaves-args gs (s .2) (nInterpret S M e R .rows) in record { left = left-arg (h .left) (k .left); grown = grow-on (h .grown) (k .grown) }
+
+  pub run-leaves : (ps : List NPolicy) → PoliciesSmall ps → (R : List Row) → RunLeaves ps R (nRun S M ps R)
+  run-leaves [] s R = record { lines = no-lines; rows = same-rows R }
+  run-leaves (p ∷ ps) s R = let h = leaves (p .tree) (s .0) R in let k = run-leaves ps (s .1) (nInterpret S M (p .tree) R .rows) in record { lines = one-line (h .left) (k .lines); rows = grow-on (h .grown) (k .rows) }

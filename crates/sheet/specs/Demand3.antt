@@ -1,0 +1,87 @@
+-- DEMAND 3, over the bytes of answers. Document 01: "Demand 3 compares the answers of three runs, each in whatever work slices and answer
+-- buffer it was lent."
+use mathlib.Core.Path.{_≡_}
+use mathlib.Core.Bool.{Bool, true, false}
+use mathlib.Core.Option.{some}
+use mathlib.Core.List.{List, [], _∷_}
+use Prim.Native.Nat.{ℕ}
+use lib.ListN.{length, getD, take}
+use Rattle.cedar.specs.Value.{Value, vbool}
+use Rattle.cedar.specs.Residual.{Expr}
+use Rattle.cedar.specs.Evaluate.{eval}
+use Rattle.cedar.specs.Response.{isOpen, Decision, allow, deny, undecided, cedar}
+use Rattle.cedar.specs.Runs.{Policy, resultClass}
+use Rattle.sheet.specs.Forms.{Mode, partial, complete}
+use Rattle.sheet.specs.State.{State}
+use Rattle.sheet.specs.Sheet.{read}
+use Rattle.sheet.specs.Content.{types, contents, valuesFrom, schema, env, policies}
+use Rattle.sheet.specs.Answer.{results}
+use Rattle.sheet.specs.Call.{returned, written}
+use Rattle.sheet.specs.ReadAnswer.{Said, PolicyLine, readAnswer, treeUnder}
+
+-- "Settled are a decision `allow` or `deny` and a policy called `true`, `false` or `error`, nothing else."
+abbrev pub isSettled : Decision → Bool
+isSettled allow = true
+isSettled deny = true
+isSettled undecided = false
+
+-- "`lit` numbers read among the partial sheet's values and the made ones": their contents
+abbrev pub valueIn : State → Said → ℕ → Value
+valueIn p a n = getD (valuesFrom (contents p) (a .made)) n (vbool false)
+
+-- a policy's line x in the partial answer a, its line y in the complete one, and the policy on the complete sheet
+pub record LineConfirmed (p c : State) (a : Said) (x y : PolicyLine) (q : Policy) : Type 0 where
+  pub same-id : y .id ≡ x .id
+  pub same-effect : y .effect ≡ x .effect
+  -- "The policy's result there is true, false or error as it yields"
+  pub specified : y .class ≡ resultClass (eval (schema c) (env c) (q .tree))
+  pub not-open : isOpen (y .class) ≡ false
+  pub settled : isOpen (x .class) ≡ false → y .class ≡ x .class
+  -- "What a residual yields there is the same for the tree under its root in the partial answer": the value or error that the policy yields
+  pub residual : Expr
+  pub under-root : treeUnder (types p) (valueIn p a) a x ≡ some residual
+  pub yields : eval (schema c) (env c) residual ≡ eval (schema c) (env c) (q .tree)
+
+-- policy by policy
+pub data LinesConfirmed (p c : State) (a : Said) : List PolicyLine → List PolicyLine → List Policy → Type 0 where
+  none : LinesConfirmed p c a [] [] []
+  more : {x y : PolicyLine} {q : Policy} {xs ys : List PolicyLine} {qs : List Policy} → LineConfirmed p c a x y q → LinesConfirmed p c a xs ys qs → LinesConfirmed p c a (x ∷ xs) (y ∷ ys) (q ∷ qs)
+
+-- what the complete answer b must say, given what the partial answer a says
+pub record Confirmed (p c : State) (a b : Said) : Type 0 where
+  -- "the decision that the specification gives is Cedar's rule over these results"
+  pub specified : b .decision ≡ cedar (results c)
+  pub settled : isSettled (a .decision) ≡ true → b .decision ≡ a .decision
+  pub lines : LinesConfirmed p c a (a .policies) (b .policies) (policies c)
+
+-- what two complete answers have in common: all that the partial answer a settles
+pub data LinesAlike : List PolicyLine → List PolicyLine → List PolicyLine → Type 0 where
+  none : LinesAlike [] [] []
+  more : {x y z : PolicyLine} {xs ys zs : List PolicyLine} → (isOpen (x .class) ≡ false → (y .class ≡ x .class) × (z .class ≡ x .class)) → LinesAlike xs ys zs → LinesAlike (x ∷ xs) (y ∷ ys) (z ∷ zs)
+
+pub record Alike (a b d : Said) : Type 0 where
+  pub decisions : isSettled (a .decision) ≡ true → (b .decision ≡ a .decision) × (d .decision ≡ a .decision)
+  pub lines : LinesAlike (a .policies) (b .policies) (d .policies)
+
+-- "A sheet is accepted when its run returns number 0", with the words of the work slices and the answer buffer that it was lent
+pub record Answered (m : Mode) (sheet : List ℕ) : Type 0 where
+  pub work₁ : ℕ
+  pub work₂ : ℕ
+  pub buffer : List ℕ
+  pub zero-number : returned m work₁ work₂ (length buffer) sheet .number ≡ 0
+
+-- the bytes of the answer: so many as the returned length says, of the buffer after the call
+abbrev pub bytesOf : {m : Mode} {sheet : List ℕ} → Answered m sheet → List ℕ
+bytesOf {m} {sheet} x = take (returned m (x .work₁) (x .work₂) (length (x .buffer)) sheet .length) (written m (x .work₁) (x .work₂) (x .buffer) sheet)
+
+-- of a partial sheet and two complete ones, and of the bytes of their three answers
+pub record Demand3 (p c d : List ℕ) (answer₁ answer₂ answer₃ : List ℕ) : Type 0 where
+  pub first : Said
+  pub second : Said
+  pub third : Said
+  pub first-reads : readAnswer partial answer₁ ≡ some first
+  pub second-reads : readAnswer complete answer₂ ≡ some second
+  pub third-reads : readAnswer complete answer₃ ≡ some third
+  pub second-confirms : Confirmed (read partial p .state) (read complete c .state) first second
+  pub third-confirms : Confirmed (read partial p .state) (read complete d .state) first third
+  pub alike : Alike first second third

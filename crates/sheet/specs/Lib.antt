@@ -1,0 +1,12 @@
+pub mod Agreement
+pub mod Answer
+pub mod Ascii
+pub mod Bytes
+pub mod Call
+pub mod Content
+pub mod Demand3
+pub mod Forms
+pub mod ReadAnswer
+pub mod Sheet
+pub mod State
+pub mod Typing

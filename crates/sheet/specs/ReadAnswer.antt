@@ -1,0 +1,106 @@
+-- Document 01, "The answer", read back: from the bytes of an answer to its decision, counts, made values, residual nodes and policy lines.
+-- Its `value=` and `node=` lines have the forms of a sheet's and are read by the sheet's table. A text of another form reads as none.
+use mathlib.Core.Bool.{cond}
+use mathlib.Core.Option.{Option, none, some}
+use mathlib.Core.List.{List, [], _∷_}
+use Prim.Native.Nat.{ℕ, suc}
+use Prim.Native.String.{String}
+use lib.Dec.{eqb}
+use lib.ListN.{length, getD, take, drop, replicate, getElem?}
+use Rattle.cedar.specs.Value.{onSome}
+use Rattle.cedar.specs.Types.{Ty}
+use Rattle.cedar.specs.Residual.{Node, Class, ctrue, cfalse, cerror, copen}
+use Rattle.cedar.specs.Response.{Effect, Decision, allow, deny, undecided}
+use Rattle.cedar.specs.Rows.{Row}
+use Rattle.sheet.specs.Ascii.{ascii}
+use Rattle.sheet.specs.Bytes.{upTo, split, same}
+use Rattle.sheet.specs.Forms.{Mode, partial, complete, Slot, line, word, item, joined, rowOf, keyOf, TEXT, VALUE, NODE, POLICY}
+use Rattle.sheet.specs.Content.{rowsIn, treesFrom, effectOf}
+
+-- `policy=id,effect,true|false|error|open,root`; in a complete answer, "policies without root", the root is 0
+pub record PolicyLine : Type 0 where
+  pub id : ℕ
+  pub effect : Effect
+  pub class : Class
+  pub root : ℕ
+
+-- what an answer says; a complete one has no made values and no nodes
+pub record Said : Type 0 where
+  pub decision : Decision
+  pub counts : List ℕ
+  pub made : List Row
+  pub nodes : List (List ℕ)
+  pub policies : List PolicyLine
+
+-- ---- lines
+
+-- items, each read as its slot says
+abbrev pub itemsBy : List Slot → List (List ℕ) → Option (List ℕ)
+itemsBy [] [] = some []
+itemsBy [] (f ∷ fs) = none
+itemsBy (s ∷ ss) [] = none
+itemsBy (s ∷ ss) (f ∷ fs) = joined (item partial s f) (itemsBy ss fs)
+
+-- the numbers of a line with this key and these items
+abbrev pub lineCut : String → List Slot → List ℕ → ℕ → Option (List ℕ)
+lineCut key ss l e = cond (same (take e l) (ascii key)) (itemsBy ss (split 44 (drop (suc e) l))) none
+
+abbrev pub lineBy : String → List Slot → List ℕ → Option (List ℕ)
+lineBy key ss l = lineCut key ss l (upTo 61 l)
+
+abbrev pub decisionLine : List ℕ → Option (List ℕ)
+decisionLine l = lineBy "decision" (word ("allow" ∷ "deny" ∷ "open" ∷ []) ∷ []) l
+
+abbrev pub decisionOf : List ℕ → Decision
+decisionOf r = getD (allow ∷ deny ∷ undecided ∷ []) (getD r 0 0) undecided
+
+-- eight numbers of policies
+abbrev pub countsLine : List ℕ → Option (List ℕ)
+countsLine l = lineBy "counts" (replicate 8 (line POLICY)) l
+
+abbrev pub rootSlots : Mode → List Slot
+rootSlots partial = line NODE ∷ []
+rootSlots complete = []
+
+abbrev pub policyLine : Mode → List ℕ → Option (List ℕ)
+policyLine m l = lineBy "policy" (line TEXT ∷ word ("permit" ∷ "forbid" ∷ []) ∷ word ("true" ∷ "false" ∷ "error" ∷ "open" ∷ []) ∷ rootSlots m) l
+
+abbrev pub policyOf : List ℕ → PolicyLine
+policyOf r = record { id = getD r 0 0; effect = effectOf (getD r 1 0); class = getD (ctrue ∷ cfalse ∷ cerror ∷ copen ∷ []) (getD r 2 0) copen; root = getD r 3 0 }
+
+-- policy lines up to the end of the text: nothing follows the last line end
+abbrev pub policyLines : Mode → List (List ℕ) → Option (List PolicyLine)
+policyLines m [] = none
+policyLines m (l ∷ []) = cond (same l []) (some []) none
+policyLines m (l ∷ n ∷ ls) = onSome none (policyLine m l) (λ r. onSome none (policyLines m (n ∷ ls)) (λ ps. some (policyOf r ∷ ps)))
+
+-- the rows of the lines of key k that stand first
+abbrev pub rowsFirst : ℕ → List (List ℕ) → List (List ℕ)
+rowsFirst k [] = []
+rowsFirst k (l ∷ ls) = cond (eqb (keyOf (rowOf partial l)) k) (rowOf partial l ∷ rowsFirst k ls) []
+
+-- ---- the answer
+
+abbrev pub saidWith : List ℕ → List ℕ → List (List ℕ) → List (List ℕ) → Option (List PolicyLine) → Option Said
+saidWith d c vs ns o = onSome none o (λ ps. some (record { decision = decisionOf d; counts = c; made = rowsIn vs; nodes = ns; policies = ps }))
+
+-- what follows decision and counts: made values, residual nodes, policies
+abbrev pub restOf : Mode → List ℕ → List ℕ → List (List ℕ) → Option Said
+restOf partial d c ls =
+    let vs = rowsFirst VALUE ls in
+    let after = drop (length vs) ls in
+    let ns = rowsFirst NODE after in
+    saidWith d c vs ns (policyLines partial (drop (length ns) after))
+restOf complete d c ls = saidWith d c [] [] (policyLines complete ls)
+
+abbrev pub linesSay : Mode → List (List ℕ) → Option Said
+linesSay m [] = none
+linesSay m (d ∷ []) = none
+linesSay m (d ∷ c ∷ ls) = onSome none (decisionLine d) (λ x. onSome none (countsLine c) (λ y. restOf m x y ls))
+
+unfoldable pub readAnswer : Mode → List ℕ → Option Said
+readAnswer m bytes = linesSay m (split 10 bytes)
+
+-- the tree under a policy's root, if there is one: ts are the sheet's types, and a `lit` holds what its number stands for
+unfoldable pub treeUnder : {L : Type 0} → List Ty → (ℕ → L) → Said → PolicyLine → Option (Node L)
+treeUnder ts value a l = getElem? (treesFrom ts value [] (a .nodes)) (l .root)

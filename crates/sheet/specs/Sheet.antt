@@ -1,0 +1,171 @@
+-- Document 01, the table of numbers: the refusal of a line (3 to 8, in number order), and the reading of a sheet.
+use mathlib.Core.Bool.{Bool, true, false, cond, _&&_, _||_, not}
+use mathlib.Core.List.{List, [], _∷_, _++_}
+use Prim.Native.Nat.{ℕ, zero, suc, _+_, _-_, max}
+use lib.Dec.{leb, ltb, eqb}
+use lib.ListN.{getD, take, drop, set}
+use Rattle.sheet.specs.Bytes.{same, split}
+use Rattle.sheet.specs.Forms.{Mode, Slot, entry, line, lineOr, lineUnknown, word, number, nothing, slotAt, mark, rowOf, tag, items, at, keyOf, refs, ascendings, TEXT, KIND, TYPE, VALUE, ENTITY, NODE, POLICY}
+use Rattle.cedar.specs.Numbered.{memN}
+use Rattle.sheet.specs.State.{State, empty, linesOf, count, lineAt, depthsOf, counts, before}
+use Rattle.sheet.specs.Typing.{typed}
+
+-- ---- 3: key order, line missing
+
+-- the least and the greatest number of lines of each key; "shape .. one per kind"
+abbrev pub least : State → List ℕ
+least s = 1 ∷ 0 ∷ 0 ∷ 0 ∷ count s KIND ∷ 0 ∷ 0 ∷ 1 ∷ 1 ∷ 1 ∷ 1 ∷ 0 ∷ 0 ∷ []
+
+abbrev pub greatest : State → List ℕ
+greatest s = 1 ∷ 512 ∷ 32 ∷ 128 ∷ count s KIND ∷ 1024 ∷ 128 ∷ 1 ∷ 1 ∷ 1 ∷ 1 ∷ 1024 ∷ 64 ∷ []
+
+-- each of the first at least that of the second
+abbrev pub reach : List ℕ → List ℕ → Bool
+reach [] l = true
+reach (x ∷ k) [] = true
+reach (x ∷ k) (y ∷ l) = leb y x && reach k l
+
+-- no line missing of the keys before k
+abbrev pub enough : State → ℕ → Bool
+enough s k = reach (take k (counts s)) (least s)
+
+abbrev pub allZero : List ℕ → Bool
+allZero [] = true
+allZero (x ∷ l) = eqb x 0 && allZero l
+
+-- "Keys in this order"
+abbrev pub inOrder : State → ℕ → Bool
+inOrder s k = allZero (drop (suc k) (counts s)) && enough s k
+
+-- ---- 5: references, repeats, order
+
+abbrev pub thereIs : State → Slot → ℕ → Bool
+thereIs s entry x = true
+thereIs s (line k) x = ltb x (count s k)
+thereIs s (lineOr w k) x = eqb x mark || ltb x (count s k)
+thereIs s (lineUnknown k) x = eqb x mark || ltb x (count s k)
+thereIs s (word ws) x = true
+thereIs s number x = true
+thereIs s nothing x = true
+
+-- the items from place j on of a row of tag t
+abbrev pub allThere : State → ℕ → ℕ → List ℕ → Bool
+allThere s t j [] = true
+allThere s t j (x ∷ l) = thereIs s (slotAt t j) x && allThere s t (suc j) l
+
+-- strictly, and none under m
+abbrev pub ascend : ℕ → List ℕ → Bool
+ascend m [] = true
+ascend m (x ∷ l) = leb m x && ascend (suc x) l
+
+abbrev pub among : List ℕ → List (List ℕ) → Bool
+among r [] = false
+among r (x ∷ l) = same r x || among r l
+
+abbrev pub firsts : List (List ℕ) → List ℕ
+firsts [] = []
+firsts (r ∷ l) = at r 0 ∷ firsts l
+
+-- texts, types, values: distinct
+abbrev pub newRow : State → ℕ → List ℕ → Bool
+newRow s k r = not (among r (linesOf s k))
+
+-- kinds: "names distinct"; policies: "ids distinct"
+abbrev pub newName : State → ℕ → List ℕ → Bool
+newName s k r = not (memN (at r 0) (firsts (linesOf s k)))
+
+-- entities: "ascending"
+abbrev pub above : State → ℕ → List ℕ → Bool
+above s k r = eqb (count s k) 0 || ltb (at (lineAt s k (count s k - 1)) 0) (at r 0)
+
+abbrev pub fresh : State → ℕ → List ℕ → Bool
+fresh s k r = cond (eqb k TEXT || eqb k TYPE || eqb k VALUE) (newRow s k r) (cond (eqb k KIND || eqb k POLICY) (newName s k r) (cond (eqb k ENTITY) (above s k r) true))
+
+unfoldable pub found : State → ℕ → List ℕ → Bool
+found s k r = allThere s (tag r) 0 (items r) && ascend 0 (ascendings r) && fresh s k r
+
+-- ---- 6: depth
+
+abbrev pub deepest : State → ℕ → List ℕ → ℕ
+deepest s k [] = 0
+deepest s k (n ∷ l) = max (getD (depthsOf s k) n 0) (deepest s k l)
+
+-- "A leaf has depth 1": one more than the deepest line of the same key that the row refers to
+unfoldable pub depth : State → ℕ → List ℕ → ℕ
+depth s k r = suc (deepest s k (refs k r))
+
+-- ---- 8: uses
+
+-- nodes used in turn
+abbrev pub marked : List ℕ → List ℕ → List ℕ
+marked u [] = u
+marked u (n ∷ l) = marked (set u n 1) l
+
+abbrev pub usedTwice : List ℕ → List ℕ → Bool
+usedTwice u [] = false
+usedTwice u (n ∷ l) = eqb (getD u n 0) 1 || usedTwice (set u n 1) l
+
+-- ---- the refusal of a line with row r, 0 for none: 3 to 8 in number order
+
+abbrev pub faultOf : State → ℕ → List ℕ → ℕ
+faultOf s k r =
+    cond (not (inOrder s k)) 3
+    (cond (leb (getD (greatest s) k 0) (count s k)) 4
+    (cond (not (found s k r)) 5
+    (cond (ltb 64 (depth s k r)) 6
+    (cond (not (typed s r k)) 7
+    (cond (usedTwice (s .used) (refs NODE r)) 8 0)))))
+
+unfoldable pub fault : State → List ℕ → ℕ
+fault s [] = 3
+fault s (t ∷ l) = faultOf s (keyOf (t ∷ l)) (t ∷ l)
+
+-- the state with the line
+abbrev pub added : State → ℕ → List ℕ → State
+added s k r = record {
+  lines = set (s .lines) k (linesOf s k ++ (r ∷ []));
+  depths = set (s .depths) k (depthsOf s k ++ (depth s k r ∷ []));
+  used = cond (eqb k NODE) (marked (s .used) (refs NODE r) ++ (0 ∷ [])) (marked (s .used) (refs NODE r));
+}
+
+unfoldable pub more : State → List ℕ → State
+more s r = added s (keyOf r) r
+
+-- ---- the reading of a sheet
+
+pub record Reading : Type 0 where
+  pub number : ℕ
+  pub line : ℕ
+  pub state : State
+
+abbrev pub reads : State → ℕ → ℕ → Reading
+reads s n k = record { number = n; line = k; state = s }
+
+-- the place of the first 0
+abbrev pub firstUnused : List ℕ → ℕ
+firstUnused [] = 0
+firstUnused (x ∷ l) = cond (eqb x 0) 0 (suc (firstUnused l))
+
+-- "or never (the line of the lowest such node, after all lines)"
+abbrev pub allUsed : State → ℕ → Reading
+allUsed s n = cond (ltb n (count s NODE)) (reads s 8 (suc (before s NODE + n))) (reads s 0 0)
+
+-- after the last line: "a line missing at the end has the number after the last"
+abbrev pub ending : State → ℕ → Reading
+ending s k = cond (enough s 13) (allUsed s (firstUnused (s .used))) (reads s 3 k)
+
+-- "lines in turn, the first faulty line ending the reading", from number k; what follows the last line end must be empty
+abbrev pub goOn : State → ℕ → List ℕ → ℕ → (State → ℕ → Reading) → Reading
+goOn s k r zero rest = rest (more s r) (suc k)
+goOn s k r (suc n) rest = reads s (suc n) k
+
+abbrev pub lineRead : State → ℕ → List ℕ → (State → ℕ → Reading) → Reading
+lineRead s k r rest = goOn s k r (fault s r) rest
+
+abbrev pub reading : Mode → List (List ℕ) → State → ℕ → Reading
+reading m [] s k = ending s k
+reading m (l ∷ []) s k = cond (same l []) (ending s k) (reads s 3 k)
+reading m (l ∷ n ∷ ls) s k = lineRead s k (rowOf m l) (reading m (n ∷ ls))
+
+unfoldable pub read : Mode → List ℕ → Reading
+read m sheet = reading m (split 10 sheet) empty 1

@@ -1,0 +1,144 @@
+#!/usr/bin/env python3
+"""Computes the definitions of crates `cedar` and `sheet` on known sheets.
+
+    python3 scripts/cases.py REFERENCE [PATTERN] [--each] [--wrong]
+
+REFERENCE is a folder with `cases.py` and `refsheet.py`: sheets with the text that the program must print for
+them. For each case one theorem by computation is written to target/cases/: what the definitions make of the
+sheet's bytes is the expected text. One check computes all short sheets, and one each long sheet; with --each,
+one check each sheet. A sheet over the prover's own limit of steps has no verdict, and is said so. With --wrong
+every expected text is replaced by a wrong one: each check must then fail. Nothing outside target/ is written.
+"""
+import os
+import re
+import shutil
+import subprocess
+import sys
+import time
+
+HERE = os.path.dirname(os.path.dirname(os.path.abspath(__file__)))
+TREE = os.path.join(HERE, "target", "cases")
+UNFOLD = (
+    "printedOf keys forms formOf slotAt counted tagOf rowOf keyOf refs ascendings fitsIn typed found depth fault "
+    "more read types valueRows contents schema trees exprs nPolicies policies nEnv env run results answer returned "
+    "order sameV place insert ascending makeSet"
+)
+HEAD = """use mathlib.Core.Path.{_≡_, refl}
+use mathlib.Core.List.{List, [], _∷_, _++_}
+use Prim.Native.Nat.{ℕ, zero, suc}
+use Prim.Native.String.{String}
+use Rattle.cedar.specs.Canonical.{order, same as sameV, place, insert, ascending, makeSet}
+use Rattle.sheet.specs.Ascii.{ascii}
+use Rattle.sheet.specs.Forms.{Mode, partial, complete, keys, forms, formOf, slotAt, counted, tagOf, rowOf, keyOf, refs, ascendings}
+use Rattle.sheet.specs.Typing.{fitsIn, typed}
+use Rattle.sheet.specs.Sheet.{found, depth, fault, more, read}
+use Rattle.sheet.specs.Content.{types, valueRows, contents, schema, trees, exprs, nPolicies, policies, nEnv, env}
+use Rattle.sheet.specs.Answer.{run, results, answer, printed, numbers}
+use Rattle.sheet.specs.Call.{Returned, returned}
+
+-- what the program prints
+abbrev shown : List ℕ → ℕ → Returned → List ℕ
+shown a zero r = a
+shown a (suc n) r = printed "refused" (numbers (r .number ∷ r .line ∷ r .length ∷ []))
+
+abbrev shownOf : List ℕ → Returned → List ℕ
+shownOf a r = shown a (r .number) r
+
+unfoldable printedOf : Mode → ℕ → ℕ → List ℕ → List ℕ
+printedOf m work out sheet = shownOf (answer m (read m sheet .state)) (returned m work work out sheet)
+"""
+
+
+def quoted(text):
+    out = []
+    for c in text:
+        if c == "\n":
+            out.append("\\n")
+        elif c in '"\\':
+            out.append("\\" + c)
+        elif " " <= c <= "~":
+            out.append(c)
+        else:
+            out.append("\\u{%x}" % ord(c))
+    return '"' + "".join(out) + '"'
+
+
+def all_cases(cases):
+    for name, mode, text, expected in cases.CASES:
+        yield name + "." + mode, mode, 16384, 100000, text, cases.expected_text(expected)
+    answer = cases.expected_text(cases.CASES[0][3])
+    need = len(answer)
+    for size, want in [(16384, answer), (16385, "refused=2,0,0\n")]:
+        yield "size-%d" % size, "partial", 16384, 100000, cases.padded(size), want
+    yield "buffer-exact", "partial", 16384, need, cases.EXAMPLE, answer
+    yield "buffer-short", "partial", 16384, need - 1, cases.EXAMPLE, "refused=10,0,%d\n" % need
+    yield "buffer-none", "partial", 16384, 0, cases.EXAMPLE, "refused=10,0,%d\n" % need
+    yield "work-short", "partial", 16383, 0, "", "refused=1,0,0\n"
+    yield "refused-before-buffer", "partial", 16384, 0, "", "refused=3,1,0\n"
+
+
+def theorem(i, case):
+    name, mode, work, out, text, want = case
+    return "-- %s\ncase%d : printedOf %s %d %d (ascii %s) ≡ ascii %s\nunfolding %s\ncase%d = refl\n" % (
+        name, i, mode, work, out, quoted(text.replace("/", "\n")), quoted(want), UNFOLD, i)
+
+
+def check(chosen, limit):
+    shutil.rmtree(os.path.join(TREE, "crates", "known_cases"), ignore_errors=True)
+    for crate in ("cedar", "sheet"):
+        for part in ("specs", "src"):
+            to = os.path.join(TREE, "crates", crate, part)
+            shutil.rmtree(to, ignore_errors=True)
+            shutil.copytree(os.path.join(HERE, "crates", crate, part), to)
+    crate = os.path.join(TREE, "crates", "known_cases")
+    os.makedirs(os.path.join(crate, "specs"))
+    os.makedirs(os.path.join(crate, "src"))
+    with open(os.path.join(TREE, "crates.txt"), "w") as f:
+        f.write("cedar:\nsheet: cedar\nknown_cases: cedar sheet\n")
+    with open(os.path.join(crate, "src", "lib.rt"), "w") as f:
+        f.write("// No code.\n")
+    with open(os.path.join(crate, "specs", "Lib.antt"), "w") as f:
+        f.write("pub mod Cases\n")
+    with open(os.path.join(crate, "specs", "Cases.antt"), "w") as f:
+        f.write(HEAD + "\n" + "\n".join(theorem(i, c) for i, c in chosen))
+    try:
+        r = subprocess.run(["rt", "check", "known_cases"], capture_output=True, text=True, timeout=limit, cwd=TREE)
+        return r.returncode == 0, r.stdout + r.stderr
+    except subprocess.TimeoutExpired:
+        return False, "TIMEOUT"
+
+
+def main(args):
+    words = [a for a in args if not a.startswith("--")]
+    if not words or not os.path.exists(os.path.join(words[0], "cases.py")):
+        print("usage: cases.py REFERENCE [PATTERN] [--each] [--wrong], with cases.py in the folder REFERENCE")
+        return 2
+    sys.path.insert(0, words[0])
+    sys.dont_write_bytecode = True
+    import cases
+    if "--wrong" in args:
+        cases.CASES[:] = [(n, m, t, "3,77,0") for n, m, t, e in cases.CASES]
+    chosen = [(i, c) for i, c in enumerate(all_cases(cases)) if len(words) < 2 or re.search(words[1], c[0])]
+    each = "--each" in args
+    long = [[x] for x in chosen if each or len(x[1][4]) > 4000]
+    short = [x for x in chosen if [x] not in long]
+    begin = time.time()
+    failed = unknown = 0
+    for group in ([short] if short else []) + long:
+        t = time.time()
+        ok, out = check(group, 1500)
+        what = "ok" if ok else "NOT"
+        if not ok and len(group) == 1 and "steps" in out:
+            what = "no verdict: over the prover's limit of steps"
+            unknown += 1
+        elif not ok:
+            failed += 1
+            for line in out.splitlines():
+                if "error" in line or "TIMEOUT" in line or "NOT PROVED" in line:
+                    print("   ", line[:300])
+        print("%-30s %s, %.1f s" % (group[0][1][0] if len(group) == 1 else "%d short sheets" % len(group), what, time.time() - t), flush=True)
+    print("%d cases, %d checks failed, %d without verdict, %.1f s" % (len(chosen), failed, unknown, time.time() - begin))
+    return 1 if failed else 0
+
+
+sys.exit(main(sys.argv[1:]))
