@@ -1,0 +1,116 @@
+-- What stands at a place of a sheet: the line, the next item, the next number.
+use mathlib.Core.Bool.{cond, _&&_}
+use mathlib.Core.Option.{Option, none, some}
+use mathlib.Core.List.{List, [], _∷_}
+use mathlib.Core.Path.{_≡_}
+use Prim.Native.Nat.{ℕ, suc, _+_, min}
+use lib.Dec.{ltb}
+use lib.ListN.{length, take, drop}
+use Rattle.words.specs.Log.{part}
+use Rattle.sheet.specs.Bytes.{upTo, split, printable, index}
+use Rattle.sheet.specs.Forms.{Mode, keys, wordNumber, rowOfValue}
+use Rattle.sheet.specs.State.{State}
+use Rattle.sheet.specs.Sheet.{Reading, reads, ending, lineRead, reading}
+use Rattle.scan.specs.declared.Cursor.{Cursor}
+use Rattle.scan.specs.declared.Heading as H
+use Rattle.scan.specs.declared.Line as L
+use Rattle.scan.specs.declared.Item as I
+use Rattle.scan.specs.declared.Counted as C
+
+abbrev pub place : ℕ → ℕ → Cursor
+place k a = record { line = k; at = a }
+
+-- ---- lines
+
+abbrev pub keyed : ℕ → Option ℕ → H.Heading
+keyed n none = H.the-variants.Malformed
+keyed n (some k) = H.the-variants.Keyed k n
+
+-- "The value is the part of the caller's sheet after the first `=`": a line of known bytes with a key before its first `=`
+unfoldable pub headingOf : List ℕ → H.Heading
+headingOf l =
+    cond (printable l && ltb (upTo 61 l) (length l)) (keyed (upTo 61 l) (wordNumber (take (upTo 61 l) l) keys)) H.the-variants.Malformed
+
+-- the next line's number, counted up to 2^64 - 1
+abbrev pub lineAfter : ℕ → ℕ
+lineAfter k = min (k + 1) 18446744073709551615
+
+-- a line that begins at the cursor and ends at byte e
+abbrev pub entered : Cursor → ℕ → H.Heading → L.Line
+entered c e (H.the-variants.Keyed k n) = L.the-variants.Entry k (place (c .line) (c .at + n)) e (place (lineAfter (c .line)) (e + 1))
+entered c e H.the-variants.Malformed = L.the-variants.Faulty
+
+-- "Lines end in byte 10": what follows the last line end is no line, and must be empty. A faulty line is refused with 3, "form .. wrong"
+unfoldable pub lineTo : List ℕ → Cursor → ℕ → L.Line
+lineTo s c e =
+    cond (ltb e (length s)) (entered c e (headingOf (part s (c .at) e)))
+    (cond (ltb (c .at) (length s)) L.the-variants.Faulty L.the-variants.End)
+
+abbrev pub lineAt : List ℕ → Cursor → L.Line
+lineAt s c = lineTo s c (c .at + upTo 10 (drop (c .at) s))
+
+-- ---- items, in the part of the sheet that ends with the line
+
+-- the parts after the separator at a place; none where no byte stands there
+unfoldable pub partsAfter : ℕ → List ℕ → ℕ → List (List ℕ)
+partsAfter b s e = cond (ltb e (length s)) (split b (drop (suc e) s)) []
+
+-- the items after the `=` or the comma at a cursor
+abbrev pub itemsAt : List ℕ → Cursor → List (List ℕ)
+itemsAt s c = partsAfter 44 s (c .at)
+
+-- the first of them
+unfoldable pub itemAt : List ℕ → Cursor → I.Item
+itemAt s c =
+    cond (ltb (c .at) (length s)) (I.the-variants.Part (c .at + 1) (place (c .line) (c .at + 1 + upTo 44 (drop (c .at + 1) s)))) I.the-variants.End
+
+-- it as an index
+abbrev pub handed : Cursor → Option ℕ → C.Counted
+handed next none = C.the-variants.Refused
+handed next (some n) = C.the-variants.Value n next
+
+abbrev pub asIndex : List ℕ → I.Item → C.Counted
+asIndex s (I.the-variants.Part start next) = handed next (index (part s start (next .at)))
+asIndex s I.the-variants.End = C.the-variants.End
+
+abbrev pub numberAt : List ℕ → Cursor → C.Counted
+numberAt s c = asIndex s (itemAt s c)
+
+-- ---- what each case of an answer is to the definition of the sheet
+
+-- the row of a line, empty where its form is wrong
+abbrev pub rowBy : Mode → List ℕ → H.Heading → List ℕ
+rowBy m l (H.the-variants.Keyed k n) = rowOfValue m k (drop (n + 1) l)
+rowBy m l H.the-variants.Malformed = []
+
+-- the reading from line i on: the line's row and the lines after it; refusal 3, "form .. wrong"; the end of the sheet
+abbrev pub readingBy : Mode → State → ℕ → List ℕ → L.Line → Reading
+readingBy m st i s (L.the-variants.Entry k equals e next) =
+    lineRead st i (rowOfValue m k (part s (equals .at + 1) e)) (reading m (split 10 (drop (next .at) s)))
+readingBy m st i s L.the-variants.Faulty = reads st 3 i
+readingBy m st i s L.the-variants.End = ending st i
+
+-- the items left: the one that was read and those after it
+abbrev pub itemsBy : List ℕ → I.Item → List (List ℕ)
+itemsBy s (I.the-variants.Part start next) = part s start (next .at) ∷ itemsAt s next
+itemsBy s I.the-variants.End = []
+
+-- the first of them as an index, if there is one: none where it is malformed
+abbrev pub indexBy : C.Counted → List (Option ℕ)
+indexBy (C.the-variants.Value n next) = some n ∷ []
+indexBy C.the-variants.Refused = none ∷ []
+indexBy C.the-variants.End = []
+
+abbrev pub firstIndex : List (List ℕ) → List (Option ℕ)
+firstIndex [] = []
+firstIndex (x ∷ l) = index x ∷ []
+
+-- ---- the promises of those that read a line or a number
+
+pub record LineRead (s : List ℕ) (c : Cursor) (r : L.Line) : Type 0 where
+  pub is : r ≡ lineAt s c
+  pub reads-on : (m : Mode) (st : State) (i : ℕ) → reading m (split 10 (drop (c .at) s)) st i ≡ readingBy m st i s r
+
+pub record NumberRead (s : List ℕ) (c : Cursor) (r : C.Counted) : Type 0 where
+  pub is : r ≡ numberAt s c
+  pub index-is : firstIndex (itemsAt s c) ≡ indexBy r
