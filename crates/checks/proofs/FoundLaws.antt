@@ -1,0 +1,379 @@
+-- References, order and repeats, as the code looks for them. Assumes nothing.
+use mathlib.Core.Path.{_≡_, refl, sym, ap, ap₂, subst, _∙_}
+use mathlib.Core.Bool.{Bool, true, false, cond, not, _&&_, _||_, and-eq-true-iff}
+use mathlib.Core.List.{List, [], _∷_}
+use Prim.Native.Nat.{ℕ, zero, suc, _+_, _-_, _*_, _/_, _%_, _≤_, _<_}
+use native.Mathlib.Numerals.{add-one}
+use native.Mathlib.Omega.{arith}
+use borrow.Author.Tests.{eq-eqb, ne-eqb, lt-ltb, le-ltb, lt-leb, le-leb, leb-true, not-true, not-false}
+use lib.Dec.{leb, ltb, eqb}
+use lib.ListN.{length, getD, drop, drop-of-length-le, length-drop}
+use lib.Seq.{drop-cons, getD-drop}
+use Rattle.cedar.specs.Numbered.{memN}
+use Rattle.sheet.specs.Bytes.{same}
+use Rattle.sheet.specs.Forms.{Slot, entry, line, lineOr, lineUnknown, word, number, nothing, Form, forms, formOf, noForm, slotAt, tag, items, at, mark, everyFrom, ascendings}
+use Rattle.sheet.specs.State.{linesOf, lineAt, count}
+use Rattle.sheet.specs.Sheet.{thereIs, allThere, ascend, among, firsts, above, fresh, found}
+use Rattle.table.specs.Layout.{part, rowsOf, textRow, textRows}
+use Rattle.table.proofs.Rows.{count-held, count-rows, lines-held}
+use Rattle.checks.specs.Codes.{codeOf}
+use Rattle.checks.proofs.FormTable.{stepIn}
+use Rattle.checks.proofs.OrderLaws.{rowsHeld}
+
+-- ---- what an item refers to
+
+half-odd : (k : ℕ) → (2 * k + 1 - 1) / 2 ≡ k
+half-odd k = omega arith
+
+half-even : (k : ℕ) → (2 * k + 2 - 1) / 2 ≡ k
+half-even k = omega arith
+
+rem-odd : (k : ℕ) → (2 * k + 1) % 2 ≡ 1
+rem-odd k = omega arith
+
+rem-even : (k : ℕ) → (2 * k + 2) % 2 ≡ 0
+rem-even k = omega arith
+
+or-true : (x : Bool) → (x || true) ≡ true
+or-true true = refl
+or-true false = refl
+
+or-false : (x : Bool) → (x || false) ≡ x
+or-false true = refl
+or-false false = refl
+
+module _ (a : List ℕ) (x : ℕ) where
+  there-none : (s : Slot) → codeOf s ≡ 0 → true ≡ thereIs (rowsHeld a) s x
+  unfolding codeOf
+  there-none entry e = refl
+  there-none (line k) e = absurd (omega arith)
+  there-none (lineOr b k) e = absurd (omega arith)
+  there-none (lineUnknown k) e = absurd (omega arith)
+  there-none (word ws) e = refl
+  there-none number e = refl
+  there-none nothing e = refl
+
+  there-in : (s : Slot) (n : ℕ) → (codeOf s ≡ 0 → ⊥) → codeOf s ≤ 26 → n ≡ getD a ((codeOf s - 1) / 2) 0 → x < n → true ≡ thereIs (rowsHeld a) s x
+  unfolding codeOf
+  there-in entry n z l e h = absurd (z refl)
+  there-in (line k) n z l e h =
+      let c : n ≡ count (rowsHeld a) k = e ∙ ap (λ (i : ℕ). getD a i 0) (half-odd k) ∙ sym (count-held [] a [] k (omega arith)) in
+      sym (rw (← c) (lt-ltb x n h))
+  there-in (lineOr b k) n z l e h =
+      let c : n ≡ count (rowsHeld a) k = e ∙ ap (λ (i : ℕ). getD a i 0) (half-even k) ∙ sym (count-held [] a [] k (omega arith)) in
+      sym (rw (← c, lt-ltb x n h) (or-true (eqb x mark)))
+  there-in (lineUnknown k) n z l e h =
+      let c : n ≡ count (rowsHeld a) k = e ∙ ap (λ (i : ℕ). getD a i 0) (half-even k) ∙ sym (count-held [] a [] k (omega arith)) in
+      sym (rw (← c, lt-ltb x n h) (or-true (eqb x mark)))
+  there-in (word ws) n z l e h = absurd (z refl)
+  there-in number n z l e h = absurd (z refl)
+  there-in nothing n z l e h = absurd (z refl)
+
+  there-out : (s : Slot) (n : ℕ) → (codeOf s ≡ 0 → ⊥) → codeOf s ≤ 26 → n ≡ getD a ((codeOf s - 1) / 2) 0 → n ≤ x → codeOf s % 2 ≡ 1 → false ≡ thereIs (rowsHeld a) s x
+  unfolding codeOf
+  there-out entry n z l e h o = absurd (z refl)
+  there-out (line k) n z l e h o =
+      let c : n ≡ count (rowsHeld a) k = e ∙ ap (λ (i : ℕ). getD a i 0) (half-odd k) ∙ sym (count-held [] a [] k (omega arith)) in
+      sym (rw (← c) (le-ltb x n h))
+  there-out (lineOr b k) n z l e h o = absurd (omega (arith, rem-even k, o))
+  there-out (lineUnknown k) n z l e h o = absurd (omega (arith, rem-even k, o))
+  there-out (word ws) n z l e h o = absurd (z refl)
+  there-out number n z l e h o = absurd (z refl)
+  there-out nothing n z l e h o = absurd (z refl)
+
+  there-mark : (s : Slot) (n : ℕ) → (codeOf s ≡ 0 → ⊥) → codeOf s ≤ 26 → n ≡ getD a ((codeOf s - 1) / 2) 0 → n ≤ x → (codeOf s % 2 ≡ 1 → ⊥) → eqb x 10000 ≡ thereIs (rowsHeld a) s x
+  unfolding codeOf
+  there-mark entry n z l e h o = absurd (z refl)
+  there-mark (line k) n z l e h o = absurd (o (rem-odd k))
+  there-mark (lineOr b k) n z l e h o =
+      let c : n ≡ count (rowsHeld a) k = e ∙ ap (λ (i : ℕ). getD a i 0) (half-even k) ∙ sym (count-held [] a [] k (omega arith)) in
+      sym (rw (← c, le-ltb x n h) (or-false (eqb x mark)))
+  there-mark (lineUnknown k) n z l e h o =
+      let c : n ≡ count (rowsHeld a) k = e ∙ ap (λ (i : ℕ). getD a i 0) (half-even k) ∙ sym (count-held [] a [] k (omega arith)) in
+      sym (rw (← c, le-ltb x n h) (or-false (eqb x mark)))
+  there-mark (word ws) n z l e h o = absurd (z refl)
+  there-mark number n z l e h o = absurd (z refl)
+  there-mark nothing n z l e h o = absurd (z refl)
+
+module _ (a : List ℕ) (t j x c : ℕ) (hc : (c ≡ codeOf (slotAt t j)) × (c ≤ 26)) where
+  pub ref-none : c ≡ 0 → true ≡ thereIs (rowsHeld a) (slotAt t j) x
+  ref-none z = there-none a x (slotAt t j) (sym (hc .0) ∙ z)
+
+  module _ (n : ℕ) (z : c ≡ 0 → ⊥) (e : n ≡ getD a ((c - 1) / 2) 0) where
+    some-code : codeOf (slotAt t j) ≡ 0 → ⊥
+    some-code q = z (hc .0 ∙ q)
+
+    low-code : codeOf (slotAt t j) ≤ 26
+    low-code = omega (arith, hc .0, hc .1)
+
+    count-code : n ≡ getD a ((codeOf (slotAt t j) - 1) / 2) 0
+    count-code = e ∙ ap (λ (y : ℕ). getD a ((y - 1) / 2) 0) (hc .0)
+
+    pub ref-in : x < n → true ≡ thereIs (rowsHeld a) (slotAt t j) x
+    ref-in h = there-in a x (slotAt t j) n some-code low-code count-code h
+
+    pub ref-out : n ≤ x → c % 2 ≡ 1 → false ≡ thereIs (rowsHeld a) (slotAt t j) x
+    ref-out h o = there-out a x (slotAt t j) n some-code low-code count-code h (ap (λ (y : ℕ). y % 2) (sym (hc .0)) ∙ o)
+
+    pub ref-mark : n ≤ x → (c % 2 ≡ 1 → ⊥) → eqb x 10000 ≡ thereIs (rowsHeld a) (slotAt t j) x
+    ref-mark h o = there-mark a x (slotAt t j) n some-code low-code count-code h (λ q. o (ap (λ (y : ℕ). y % 2) (hc .0) ∙ q))
+
+-- ---- a row's items in turn
+
+-- item j of a row
+pub item-at : (r : List ℕ) (j x : ℕ) → j + 1 < length r → x ≡ getD r (j + 1) 0 → drop (suc j) r ≡ x ∷ drop (suc (suc j)) r
+item-at r j x h e =
+    let p : j + 1 ≡ suc j = omega arith in
+    drop-cons r (suc j) 0 (omega arith) ∙ ap (λ (y : ℕ). y ∷ drop (suc (suc j)) r) (sym (e ∙ ap (λ (i : ℕ). getD r i 0) p))
+
+pub items-end : (r : List ℕ) (j : ℕ) → length r ≤ j + 1 → drop (suc j) r ≡ []
+items-end r j h = drop-of-length-le r {i = suc j} (omega arith)
+
+pub record There (a r : List ℕ) (j : ℕ) : Type 0 where
+  pub left : allThere (rowsHeld a) (tag r) 0 (items r) ≡ allThere (rowsHeld a) (tag r) j (drop (suc j) r)
+  pub near : j ≤ length r
+
+pub there-start : (a r : List ℕ) → There a r 0
+there-start a r = record { left = refl; near = omega arith }
+
+module _ (a r : List ℕ) (j : ℕ) (i : There a r j) where
+  module _ (t x : ℕ) (b : Bool) (ht : t ≡ tag r) (h : j + 1 < length r) (hx : x ≡ getD r (j + 1) 0) (hb : b ≡ thereIs (rowsHeld a) (slotAt t j) x) where
+    there-at : allThere (rowsHeld a) (tag r) 0 (items r) ≡ (b && allThere (rowsHeld a) (tag r) (suc j) (drop (suc (suc j)) r))
+    there-at = i .left ∙ ap (allThere (rowsHeld a) (tag r) j) (item-at r j x h hx)
+        ∙ ap (λ (y : Bool). y && allThere (rowsHeld a) (tag r) (suc j) (drop (suc (suc j)) r)) (ap (λ (y : ℕ). thereIs (rowsHeld a) (slotAt y j) x) (sym ht) ∙ sym hb)
+
+    pub there-off : not b ≡ true → false ≡ allThere (rowsHeld a) (tag r) 0 (items r)
+    there-off n = sym (there-at ∙ rw (not-true b n) refl)
+
+    pub there-on : not b ≡ false → There a r (j + 1)
+    there-on n = subst (There a r) (sym (add-one j)) (record { left = there-at ∙ rw (not-false b n) refl; near = omega arith })
+
+  pub there-end : length r ≤ j + 1 → true ≡ allThere (rowsHeld a) (tag r) 0 (items r)
+  there-end h = sym (i .left ∙ ap (allThere (rowsHeld a) (tag r) j) (items-end r j h))
+
+-- ---- items that ascend
+
+every-on : (m : ℕ) (l : List ℕ) (j : ℕ) → 1 ≤ m → j < length l → everyFrom m j l ≡ getD l j 0 ∷ everyFrom m (j + m) l
+every-on m [] j p h = absurd (omega arith)
+every-on zero (x ∷ l) j p h = absurd (omega arith)
+every-on (suc m) (x ∷ l) zero p h =
+    let e : suc m - 1 ≡ m = omega arith in
+    let f : 0 + suc m ≡ suc m = omega arith in
+    rw (e, f) refl
+every-on (suc m) (x ∷ l) (suc j) p h =
+    let f : suc j + suc m ≡ suc (j + suc m) = omega arith in
+    rw (f) (every-on (suc m) l j p (omega arith))
+
+every-end : (m : ℕ) (l : List ℕ) (j : ℕ) → length l ≤ j → everyFrom m j l ≡ []
+every-end m [] j h = refl
+every-end m (x ∷ l) zero h = absurd (omega arith)
+every-end m (x ∷ l) (suc j) h = every-end m l j (omega arith)
+
+allForms : (Form → Bool) → List Form → Bool
+allForms p [] = true
+allForms p (f ∷ fs) = p f && allForms p fs
+
+form-has : (p : Form → Bool) (fs : List Form) (t : ℕ) → p noForm ≡ true → allForms p fs ≡ true → p (getD fs t noForm) ≡ true
+unfolding allForms
+form-has p [] t d e = d
+form-has p (f ∷ fs) zero d e = and-eq-true-iff (p f) (allForms p fs) .0 e .0
+form-has p (f ∷ fs) (suc t) d e = form-has p fs t d (and-eq-true-iff (p f) (allForms p fs) .0 e .1)
+
+grouped : Form → Bool
+grouped f = cond (f .ascends) (leb 1 (length (f .group))) true
+
+all-grouped : (t : ℕ) → grouped (formOf t) ≡ true
+unfolding formOf forms grouped allForms
+all-grouped t = form-has grouped forms t refl refl
+
+none-rise : (f : Form) → grouped f ≡ true → stepIn f ≡ 0 → f .ascends ≡ false
+unfolding grouped
+none-rise f g e = go (f .ascends) g e
+  where
+    go : (b : Bool) → cond b (leb 1 (length (f .group))) true ≡ true → cond b (length (f .group)) 0 ≡ 0 → b ≡ false
+    go true g e = absurd (omega (arith, leb-true 1 (length (f .group)) g, e))
+    go false g e = refl
+
+some-rise : (f : Form) → (stepIn f ≡ 0 → ⊥) → (f .ascends ≡ true) × (stepIn f ≡ length (f .group))
+some-rise f n = go (f .ascends) n
+  where
+    go : (b : Bool) → (cond b (length (f .group)) 0 ≡ 0 → ⊥) → (b ≡ true) × (cond b (length (f .group)) 0 ≡ length (f .group))
+    go true n = (refl, refl)
+    go false n = absurd (n refl)
+
+pub rises-none : (r : List ℕ) (t m : ℕ) → t ≡ tag r → (m ≡ stepIn (formOf t)) × (m ≤ 3) → m ≡ 0 → true ≡ ascend 0 (ascendings r)
+unfolding ascendings
+rises-none r t m ht hm z =
+    let e : formOf (tag r) .ascends ≡ false = ap (λ (x : ℕ). formOf x .ascends) (sym ht) ∙ none-rise (formOf t) (all-grouped t) (sym (hm .0) ∙ z) in
+    sym (rw e refl)
+
+pub record Rising (r : List ℕ) (m lo j : ℕ) : Type 0 where
+  pub left : ascend 0 (ascendings r) ≡ ascend lo (everyFrom m j (items r))
+  pub step : 1 ≤ m
+  pub short : m ≤ 3
+  pub low : lo ≤ 4294967296
+  pub near : j ≤ length r + 4
+
+pub rising-start : (r : List ℕ) (t m n : ℕ) → t ≡ tag r → (m ≡ stepIn (formOf t)) × (m ≤ 3) → (m ≡ 0 → ⊥) → (n ≡ length (formOf t .items)) × (n ≤ 4) → Rising r m 0 n
+unfolding ascendings
+rising-start r t m n ht hm z hn =
+    let s = some-rise (formOf t) (λ q. z (hm .0 ∙ q)) in
+    record {
+      left = rw (← ht, s .0, ← (s .1), ← (hm .0), ← (hn .0)) refl;
+      step = omega arith;
+      short = hm .1;
+      low = omega arith;
+      near = omega (arith, hn .1);
+    }
+
+items-at : (r : List ℕ) (j : ℕ) → getD (items r) j 0 ≡ getD r (j + 1) 0
+items-at r j = let e : 1 + j ≡ j + 1 = omega arith in getD-drop 1 r j 0 ∙ ap (λ (i : ℕ). getD r i 0) e
+
+module _ (r : List ℕ) (m lo j : ℕ) (i : Rising r m lo j) where
+  module _ (x : ℕ) (h : j + 1 < length r) (hx : x ≡ getD r (j + 1) 0) where
+    rising-at : ascend 0 (ascendings r) ≡ (leb lo x && ascend (x + 1) (everyFrom m (j + m) (items r)))
+    rising-at = i .left ∙ rw (every-on m (items r) j (i .step) (rw (length-drop 1 r) (omega arith)), items-at r j, ← hx, add-one x) refl
+
+    pub rising-off : x < lo → false ≡ ascend 0 (ascendings r)
+    rising-off l = sym (rising-at ∙ rw (lt-leb lo x l) refl)
+
+    pub rising-on : lo ≤ x → x < 4294967296 → Rising r m (x + 1) (j + m)
+    rising-on l small = record { left = rising-at ∙ rw (le-leb lo x l) refl; step = i .step; short = i .short; low = omega arith; near = omega (arith, i .short) }
+
+  pub rising-end : length r ≤ j + 1 → true ≡ ascend 0 (ascendings r)
+  rising-end h = sym (i .left ∙ ap (ascend lo) (every-end m (items r) j (rw (length-drop 1 r) (omega arith))))
+
+-- ---- a row among others
+
+pub row-of : (a : List ℕ) (k n i : ℕ) → n ≡ getD a k 0 → i < n → i < length (rowsOf a k)
+row-of a k n i e h = omega (arith, count-rows a k)
+
+rows-end : (a : List ℕ) (k n i : ℕ) → n ≡ getD a k 0 → n ≤ i → drop i (rowsOf a k) ≡ []
+rows-end a k n i e h = drop-of-length-le (rowsOf a k) {i = i} (omega (arith, count-rows a k))
+
+module _ (a : List ℕ) (k n i : ℕ) (hn : n ≡ getD a k 0) where
+  rows-on : (x : List ℕ) → i < n → x ≡ getD (rowsOf a k) i [] → drop i (rowsOf a k) ≡ x ∷ drop (i + 1) (rowsOf a k)
+  rows-on x h e = rw (drop-cons (rowsOf a k) i [] (row-of a k n i hn h), ← e, add-one i) refl
+
+pub record Sought (r a : List ℕ) (k i : ℕ) : Type 0 where
+  pub left : among r (rowsOf a k) ≡ among r (drop i (rowsOf a k))
+
+pub sought-start : (r a : List ℕ) (k : ℕ) → Sought r a k 0
+sought-start r a k = record { left = refl }
+
+module _ (r a : List ℕ) (k n i : ℕ) (s : Sought r a k i) (hn : n ≡ getD a k 0) where
+  module _ (x : List ℕ) (b : Bool) (h : i < n) (hx : x ≡ getD (rowsOf a k) i []) (hb : b ≡ same r x) where
+    sought-at : among r (rowsOf a k) ≡ (b || among r (drop (i + 1) (rowsOf a k)))
+    sought-at = s .left ∙ rw (rows-on a k n i hn x h hx, ← hb) refl
+
+    pub sought-found : b ≡ true → true ≡ among r (rowsOf a k)
+    sought-found e = sym (sought-at ∙ rw e refl)
+
+    pub sought-on : b ≡ false → Sought r a k (i + 1)
+    sought-on e = record { left = sought-at ∙ rw e refl }
+
+  pub sought-end : n ≤ i → false ≡ among r (rowsOf a k)
+  sought-end h = sym (s .left ∙ ap (among r) (rows-end a k n i hn h))
+
+-- ---- a text among others
+
+pub text-not : (sheet q text : List ℕ) (t : ℕ) → t ≡ tag q → (t ≡ 1 → ⊥) → false ≡ same (1 ∷ text) (textRow sheet q)
+text-not sheet q text t e n = sym (rw (← e, ne-eqb 1 t (λ z. n (sym z))) refl)
+
+pub text-same : (sheet q text : List ℕ) (t s n : ℕ) (b : Bool) (x : List ℕ) → t ≡ tag q → t ≡ 1 → s ≡ getD q 1 0 → n ≡ getD q 2 0 → x ≡ part sheet s (s + n) → b ≡ same text x
+    → b ≡ same (1 ∷ text) (textRow sheet q)
+text-same sheet q text t s n b x e o hs hn hx hb = hb ∙ sym (rw (← e, eq-eqb 1 t (sym o), ← hs, ← hn, ← hx) refl)
+
+pub record Read (text sheet a : List ℕ) (i : ℕ) : Type 0 where
+  pub left : among text (textRows sheet (rowsOf a 1)) ≡ among text (textRows sheet (drop i (rowsOf a 1)))
+
+pub read-start : (text sheet a : List ℕ) → Read text sheet a 0
+read-start text sheet a = record { left = refl }
+
+module _ (text sheet a : List ℕ) (n i : ℕ) (s : Read (1 ∷ text) sheet a i) (hn : n ≡ getD a 1 0) where
+  module _ (x : List ℕ) (b : Bool) (h : i < n) (hx : x ≡ getD (rowsOf a 1) i []) (hb : b ≡ same (1 ∷ text) (textRow sheet x)) where
+    read-at : among (1 ∷ text) (textRows sheet (rowsOf a 1)) ≡ (b || among (1 ∷ text) (textRows sheet (drop (i + 1) (rowsOf a 1))))
+    read-at = s .left ∙ ap (λ (l : List (List ℕ)). among (1 ∷ text) (textRows sheet l)) (rows-on a 1 n i hn x h hx)
+        ∙ ap (λ (y : Bool). y || among (1 ∷ text) (textRows sheet (drop (i + 1) (rowsOf a 1)))) (sym hb)
+
+    pub read-found : b ≡ true → true ≡ among (1 ∷ text) (textRows sheet (rowsOf a 1))
+    read-found e = sym (read-at ∙ rw e refl)
+
+    pub read-on : b ≡ false → Read (1 ∷ text) sheet a (i + 1)
+    read-on e = record { left = read-at ∙ rw e refl }
+
+  pub read-end : n ≤ i → false ≡ among (1 ∷ text) (textRows sheet (rowsOf a 1))
+  read-end h = sym (s .left ∙ ap (λ (l : List (List ℕ)). among (1 ∷ text) (textRows sheet l)) (rows-end a 1 n i hn h))
+
+-- ---- a name among others
+
+pub record Named (x : ℕ) (a : List ℕ) (k i : ℕ) : Type 0 where
+  pub left : memN x (firsts (rowsOf a k)) ≡ memN x (firsts (drop i (rowsOf a k)))
+
+pub named-start : (x : ℕ) (a : List ℕ) (k : ℕ) → Named x a k 0
+named-start x a k = record { left = refl }
+
+module _ (x : ℕ) (a : List ℕ) (k n i : ℕ) (s : Named x a k i) (hn : n ≡ getD a k 0) where
+  module _ (q : List ℕ) (y : ℕ) (h : i < n) (hq : q ≡ getD (rowsOf a k) i []) (hy : y ≡ getD q 1 0) where
+    named-at : memN x (firsts (rowsOf a k)) ≡ (eqb x y || memN x (firsts (drop (i + 1) (rowsOf a k))))
+    named-at = s .left ∙ rw (rows-on a k n i hn q h hq, ← hy) refl
+
+    pub named-found : x ≡ y → true ≡ memN x (firsts (rowsOf a k))
+    named-found e = sym (named-at ∙ rw (eq-eqb x y e) refl)
+
+    pub named-on : (x ≡ y → ⊥) → Named x a k (i + 1)
+    named-on e = record { left = named-at ∙ rw (ne-eqb x y e) refl }
+
+  pub named-end : n ≤ i → false ≡ memN x (firsts (rowsOf a k))
+  named-end h = sym (s .left ∙ ap (λ (l : List (List ℕ)). memN x (firsts l)) (rows-end a k n i hn h))
+
+-- ---- order of entities
+
+pub above-first : (a r : List ℕ) (n : ℕ) → n ≡ getD a 6 0 → n ≡ 0 → true ≡ above (rowsHeld a) 6 r
+above-first a r n e z = sym (rw (count-held [] a [] 6 (omega arith), ← e, z) refl)
+
+pub above-last : (a r q : List ℕ) (n x y : ℕ) → n ≡ getD a 6 0 → (n ≡ 0 → ⊥) → q ≡ getD (rowsOf a 6) (n - 1) [] → x ≡ getD q 1 0 → y ≡ getD r 1 0 → ltb x y ≡ above (rowsHeld a) 6 r
+above-last a r q n x y e z hq hx hy =
+    let c : count (rowsHeld a) 6 ≡ n = count-held [] a [] 6 (omega arith) ∙ sym e in
+    let l : linesOf (rowsHeld a) 6 ≡ rowsOf a 6 = lines-held [] a [] 6 (omega arith) (λ q. absurd (omega arith)) in
+    let f : x ≡ at (lineAt (rowsHeld a) 6 (count (rowsHeld a) 6 - 1)) 0 = hx ∙ ap (λ (w : List ℕ). getD w 1 0) (hq ∙ ap₂ (λ (rs : List (List ℕ)) (i : ℕ). getD rs (i - 1) []) (sym l) (sym c)) in
+    sym (rw (← f, c, ne-eqb n 0 z, ← hy) refl)
+
+-- ---- new lines
+
+module _ (a : List ℕ) (k : ℕ) (r : List ℕ) where
+  module _ (b : Bool) (hb : b ≡ among r (rowsOf a k)) where
+    pub fresh-type : k ≡ 3 → not b ≡ fresh (rowsHeld a) k r
+    fresh-type e = sym (rw e (ap (λ (l : List (List ℕ)). not (among r l)) (lines-held [] a [] 3 (omega arith) (λ q. absurd (omega arith)) ∙ ap (rowsOf a) (sym e)) ∙ ap not (sym hb)))
+
+    pub fresh-value : k ≡ 5 → not b ≡ fresh (rowsHeld a) k r
+    fresh-value e = sym (rw e (ap (λ (l : List (List ℕ)). not (among r l)) (lines-held [] a [] 5 (omega arith) (λ q. absurd (omega arith)) ∙ ap (rowsOf a) (sym e)) ∙ ap not (sym hb)))
+
+  module _ (b : Bool) (x : ℕ) (hx : x ≡ getD r 1 0) (hb : b ≡ memN x (firsts (rowsOf a k))) where
+    pub fresh-kind : k ≡ 2 → not b ≡ fresh (rowsHeld a) k r
+    fresh-kind e = sym (rw e (ap₂ (λ (y : ℕ) (l : List (List ℕ)). not (memN y (firsts l))) (sym hx) (lines-held [] a [] 2 (omega arith) (λ q. absurd (omega arith)) ∙ ap (rowsOf a) (sym e)) ∙ ap not (sym hb)))
+
+    pub fresh-policy : k ≡ 12 → not b ≡ fresh (rowsHeld a) k r
+    fresh-policy e = sym (rw e (ap₂ (λ (y : ℕ) (l : List (List ℕ)). not (memN y (firsts l))) (sym hx) (lines-held [] a [] 12 (omega arith) (λ q. absurd (omega arith)) ∙ ap (rowsOf a) (sym e)) ∙ ap not (sym hb)))
+
+  pub fresh-entity : (b : Bool) → b ≡ above (rowsHeld a) 6 r → k ≡ 6 → b ≡ fresh (rowsHeld a) k r
+  fresh-entity b hb e = hb ∙ sym (rw e refl)
+
+  pub fresh-other : (k ≡ 1 → ⊥) → (k ≡ 3 → ⊥) → (k ≡ 5 → ⊥) → (k ≡ 2 → ⊥) → (k ≡ 12 → ⊥) → (k ≡ 6 → ⊥) → true ≡ fresh (rowsHeld a) k r
+  fresh-other n₁ n₃ n₅ n₂ n₁₂ n₆ = sym (rw (ne-eqb k 1 n₁, ne-eqb k 3 n₃, ne-eqb k 5 n₅, ne-eqb k 2 n₂, ne-eqb k 12 n₁₂, ne-eqb k 6 n₆) refl)
+
+  -- ---- all of 5
+
+  module _ (t : Bool) (ht : t ≡ allThere (rowsHeld a) (tag r) 0 (items r)) where
+    pub found-absent : not t ≡ true → false ≡ found (rowsHeld a) k r
+    unfolding found
+    found-absent n = sym (rw (← ht, not-true t n) refl)
+
+    module _ (pt : not t ≡ false) (u : Bool) (hu : u ≡ ascend 0 (ascendings r)) where
+      pub found-falls : not u ≡ true → false ≡ found (rowsHeld a) k r
+      unfolding found
+      found-falls n = sym (rw (← ht, not-false t pt, ← hu, not-true u n) refl)
+
+      pub found-fresh : not u ≡ false → (b : Bool) → b ≡ fresh (rowsHeld a) k r → b ≡ found (rowsHeld a) k r
+      unfolding found
+      found-fresh n b hb = hb ∙ sym (rw (← ht, not-false t pt, ← hu, not-false u n) refl)

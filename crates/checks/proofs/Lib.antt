@@ -1,0 +1,5 @@
+mod FormTable
+pub mod OrderLaws
+pub mod FoundLaws
+pub mod DepthLaws
+pub mod UseLaws

@@ -1,0 +1,134 @@
+-- Uses of nodes, as the code marks them. Assumes nothing.
+use mathlib.Core.Path.{_≡_, refl, sym, ap, ap₂, subst, _∙_}
+use mathlib.Core.Bool.{Bool, true, false, _||_}
+use mathlib.Core.List.{List, []}
+use Prim.Native.Nat.{ℕ, suc, _+_, _≤_, _<_}
+use native.Mathlib.Numerals.{add-one}
+use native.Mathlib.Omega.{arith}
+use borrow.Author.Tests.{eq-eqb, ne-eqb}
+use lib.Dec.{eqb}
+use lib.ListN.{length, getD, take, drop, set, length-take, List·getD-eq-default}
+use lib.Seq.{getD-take, getD-drop, set-out, take-set-lt, take-set-le, drop-set-lt, drop-set-add}
+use Rattle.sheet.specs.Forms.{slotAt, tag, keep, refsFrom, refs, NODE}
+use Rattle.sheet.specs.Sheet.{marked, usedTwice}
+use Rattle.table.specs.Layout.{USES}
+use Rattle.checks.specs.Codes.{codeOf}
+use Rattle.checks.specs.Uses.{usesIn, Marked}
+use Rattle.checks.proofs.FoundLaws.{items-end}
+use Rattle.checks.proofs.DepthLaws.{refs-at}
+
+or-false : (x : Bool) → (x || false) ≡ x
+or-false true = refl
+or-false false = refl
+
+-- ---- one node
+
+module _ (a b : List ℕ) (c x : ℕ) where
+  pub use-other : (c ≡ 23 → ⊥) → Marked a b (keep (eqb c 23) x []) b false
+  use-other n = rw (ne-eqb c 23 n) (record { twice-is = refl; uses = λ z. refl; below = refl; above = λ z. refl })
+
+  module _ (e : c ≡ 23) (n : ℕ) (hn : n ≡ getD a NODE 0) where
+    pub use-none : n ≤ x → Marked a b (keep (eqb c 23) x []) b false
+    use-none h =
+        let l : length (usesIn a b) ≤ x = omega (arith, length-take (getD a NODE 0) (drop USES b)) in
+        let z : getD (usesIn a b) x 0 ≡ 0 = List·getD-eq-default (usesIn a b) 0 l in
+        rw (eq-eqb c 23 e)
+        (record {
+          twice-is = sym (rw z refl);
+          uses = λ q. sym (set-out (usesIn a b) x 1 l);
+          below = refl;
+          above = λ q. refl;
+        })
+
+    module _ (h : x < n) (u : ℕ) (hu : u ≡ getD b (6272 + x) 0) where
+      use-is : getD (usesIn a b) x 0 ≡ u
+      use-is = getD-take (getD a NODE 0) (drop USES b) x 0 (omega arith) ∙ getD-drop USES b x 0 ∙ sym hu
+
+      pub use-twice : u ≡ 1 → Marked a b (keep (eqb c 23) x []) b true
+      use-twice o =
+          rw (eq-eqb c 23 e)
+          (record {
+            twice-is = sym (rw (use-is, eq-eqb u 1 o) refl);
+            uses = λ q. absurd (never q);
+            below = refl;
+            above = λ q. refl;
+          })
+        where
+          never : true ≡ false → ⊥
+          never q = let z : _≡_ {A = ℕ} 0 1 = cc in omega arith
+
+      pub use-once : (u ≡ 1 → ⊥) → (b′ : List ℕ) → b′ ≡ set b (6272 + x) 1 → Marked a b (keep (eqb c 23) x []) b′ false
+      use-once o b′ hb =
+          rw (eq-eqb c 23 e)
+          (record {
+            twice-is = sym (rw (use-is, ne-eqb u 1 o) refl);
+            uses = λ q. rw (hb, drop-set-add USES b x 1) (take-set-lt (getD a NODE 0) (drop USES b) x 1 (omega arith));
+            below = rw hb (take-set-le USES b (6272 + x) 1 (omega arith));
+            above = λ q. rw hb (drop-set-lt 7296 b (6272 + x) 1 (omega arith));
+          })
+
+-- ---- the nodes of a row
+
+pub record Using (a b₀ : List ℕ) (r b : List ℕ) (j : ℕ) : Type 0 where
+  pub twice : usedTwice (usesIn a b₀) (refs 11 r) ≡ usedTwice (usesIn a b) (refsFrom 11 (tag r) j (drop (suc j) r))
+  pub marks : marked (usesIn a b₀) (refs 11 r) ≡ marked (usesIn a b) (refsFrom 11 (tag r) j (drop (suc j) r))
+  pub below : take USES b ≡ take USES b₀
+  pub above : getD a NODE 0 ≤ 1024 → drop 7296 b ≡ drop 7296 b₀
+  pub long : length b ≡ length b₀
+  pub near : j ≤ length r
+
+pub using-start : (a b r : List ℕ) → Using a b r b 0
+unfolding refs
+using-start a b r = record { twice = refl; marks = refl; below = refl; above = λ z. refl; long = refl; near = omega arith }
+
+twice-keep : (u : List ℕ) (v : Bool) (x : ℕ) (l : List ℕ) → usedTwice u (keep v x l) ≡ (usedTwice u (keep v x []) || usedTwice (marked u (keep v x [])) l)
+twice-keep u true x l = sym (ap (λ (y : Bool). y || usedTwice (set u x 1) l) (or-false (eqb (getD u x 0) 1)))
+twice-keep u false x l = refl
+
+marked-keep : (u : List ℕ) (v : Bool) (x : ℕ) (l : List ℕ) → marked u (keep v x l) ≡ marked (marked u (keep v x [])) l
+marked-keep u true x l = refl
+marked-keep u false x l = refl
+
+module _ (a b₀ r b : List ℕ) (j : ℕ) (i : Using a b₀ r b j) where
+  module _ (t x c : ℕ) (ht : t ≡ tag r) (h : j + 1 < length r) (hx : x ≡ getD r (j + 1) 0) (hc : (c ≡ codeOf (slotAt t j)) × (c ≤ 26))
+      (b′ : List ℕ) (w : Bool) (m : Marked a b (keep (eqb c 23) x []) b′ w) where
+    abbrev rest : List ℕ
+    rest = refsFrom 11 (tag r) (suc j) (drop (suc (suc j)) r)
+
+    left-is : refsFrom 11 (tag r) j (drop (suc j) r) ≡ keep (eqb c 23) x rest
+    left-is = refs-at 11 r j t x c ht h hx hc
+
+    pub using-twice : w ≡ true → Marked a b₀ (refs 11 r) b′ true
+    using-twice e =
+        record {
+          twice-is = sym (i .twice ∙ ap (usedTwice (usesIn a b)) left-is ∙ twice-keep (usesIn a b) (eqb c 23) x rest ∙ rw (← (m .twice-is), e) refl);
+          uses = λ q. absurd (never q);
+          below = m .below ∙ i .below;
+          above = λ q. m .above q ∙ i .above q;
+        }
+      where
+        never : true ≡ false → ⊥
+        never q = let z : _≡_ {A = ℕ} 0 1 = cc in omega arith
+
+    pub using-on : w ≡ false → length b′ ≡ length b → Using a b₀ r b′ (j + 1)
+    using-on e l =
+        subst (Using a b₀ r b′) (sym (add-one j))
+        (record {
+          twice = i .twice ∙ ap (usedTwice (usesIn a b)) left-is ∙ twice-keep (usesIn a b) (eqb c 23) x rest
+              ∙ ap₂ (λ (y : Bool) (u : List ℕ). y || usedTwice u rest) (sym (m .twice-is) ∙ e) (sym (m .uses e));
+          marks = i .marks ∙ ap (marked (usesIn a b)) left-is ∙ marked-keep (usesIn a b) (eqb c 23) x rest ∙ ap (λ (u : List ℕ). marked u rest) (sym (m .uses e));
+          below = m .below ∙ i .below;
+          above = λ q. m .above q ∙ i .above q;
+          long = l ∙ i .long;
+          near = omega arith;
+        })
+
+  pub using-end : length r ≤ j + 1 → Marked a b₀ (refs 11 r) b false
+  using-end h =
+      let e : refsFrom 11 (tag r) j (drop (suc j) r) ≡ [] = ap (refsFrom 11 (tag r) j) (items-end r j h) in
+      record {
+        twice-is = sym (i .twice ∙ ap (usedTwice (usesIn a b)) e);
+        uses = λ q. sym (i .marks ∙ ap (marked (usesIn a b)) e);
+        below = i .below;
+        above = i .above;
+      }

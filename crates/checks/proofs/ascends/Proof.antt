@@ -1,0 +1,50 @@
+-- `checks::ascends` meets its contract. Assumes nothing.
+use Rattle.checks.proofs.FoundLaws.{rises-none, Rising, rising-start, rising-off, rising-on, rising-end}
+use Prim.Native.Nat.{_-_}
+use lib.ListN.{length}
+use borrow.Author.Needs.{needs}
+use Rattle.checks.proofs.ascends.Statement.{statement}
+use Rattle.checks.proofs.ascends.Tie as tie
+
+abbrev Inv-loop : tie.InvT-loop
+Inv-loop r t m lo₀ j₀ lo j = Rising r m lo j
+
+abbrev μ-loop : tie.MeasureT-loop
+μ-loop r t m lo₀ j₀ lo j = length r - j
+
+returns : tie.Need-returns Inv-loop μ-loop
+returns c = search (rises-none, needs)
+
+loop-holds : tie.Need-loop-holds Inv-loop μ-loop
+loop-holds c = search (rising-start, needs)
+
+returns-2 : tie.Need-returns-2 Inv-loop μ-loop
+returns-2 c = search (rising-off, needs)
+
+loop-again : tie.Need-loop-again Inv-loop μ-loop
+loop-again c = search (rising-on, needs)
+
+returns-3 : tie.Need-returns-3 Inv-loop μ-loop
+returns-3 c = search (rising-end, needs)
+
+pub ascends-spec : {M : Type 1} → statement M
+ascends-spec =
+    tie.close
+    (tie.spec
+    Inv-loop
+    μ-loop
+    (λ c κs. search needs)
+    (λ c κs. search needs)
+    returns
+    (λ c κs. search needs)
+    loop-holds
+    (λ c. search needs)
+    (λ c. search needs)
+    (λ c κs. search needs)
+    (λ c. search needs)
+    returns-2
+    (λ c. search needs)
+    (λ c. search needs)
+    (λ c. search needs)
+    loop-again
+    returns-3)

@@ -1,0 +1,40 @@
+-- `checks::in_order` meets its contract. Assumes nothing.
+use Rattle.checks.proofs.OrderLaws.{Zeros, zeros-start, zeros-off, zeros-on, zeros-end}
+use Prim.Native.Nat.{_-_}
+use borrow.Author.Needs.{needs}
+use Rattle.checks.proofs.in_order.Statement.{statement}
+use Rattle.checks.proofs.in_order.Tie as tie
+
+abbrev Inv-loop : tie.InvT-loop
+Inv-loop a k i₀ i = Zeros a k i
+
+abbrev μ-loop : tie.MeasureT-loop
+μ-loop a k i₀ i = 13 - i
+
+loop-holds : tie.Need-loop-holds Inv-loop μ-loop
+loop-holds c = search (zeros-start, needs)
+
+returns : tie.Need-returns Inv-loop μ-loop
+returns c = search (zeros-off, needs)
+
+loop-again : tie.Need-loop-again Inv-loop μ-loop
+loop-again c = search (zeros-on, needs)
+
+returns-2 : tie.Need-returns-2 Inv-loop μ-loop
+returns-2 c = search (zeros-end, needs)
+
+pub in-order-spec : {M : Type 1} → statement M
+in-order-spec =
+    tie.close
+    (tie.spec
+    Inv-loop
+    μ-loop
+    (λ c. search needs)
+    loop-holds
+    (λ c κs. search needs)
+    returns
+    (λ c. search needs)
+    (λ c. search needs)
+    loop-again
+    (λ c κs. search needs)
+    returns-2)

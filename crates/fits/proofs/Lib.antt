@@ -1,0 +1,4 @@
+pub mod Walks
+pub mod Sorts
+pub mod Search
+pub mod Remembered

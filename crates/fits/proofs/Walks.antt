@@ -1,0 +1,148 @@
+-- Walks over a row by two and by three: what is left decides the whole.
+use mathlib.Core.Path.{_≡_, refl, sym, ap, _∙_}
+use mathlib.Core.Bool.{Bool, true, false, not}
+use mathlib.Core.List.{List, [], _∷_}
+use mathlib.Core.Option.{some}
+use Prim.Native.Nat.{ℕ, _+_, _-_, _≤_, _<_}
+use native.Mathlib.Numerals.{add-one}
+use native.Mathlib.Omega.{arith}
+use borrow.Author.Tests.{eq-eqb, ne-eqb, not-true, not-false}
+use lib.Dec.{eqb}
+use lib.ListN.{length, getD, drop, drop-of-length-le, length-drop}
+use lib.Seq.{drop-cons}
+use Rattle.cedar.specs.Rows.{stop, entry}
+use Rattle.cedar.specs.Numbered.{entryOf, isSome}
+use Rattle.sheet.specs.Forms.{items}
+use Rattle.sheet.specs.State.{declareds, entriesOf}
+use Rattle.sheet.specs.Typing.{declaredIn, requiredThere}
+use Rattle.fits.specs.Fit.{hasIn, completeIn, metAt, declaredBy, found}
+use Rattle.fits.specs.declared.Found as F
+
+-- ---- the items from i on
+
+module _ (r : List ℕ) (i : ℕ) where
+  pub next : i < length r → drop i r ≡ getD r i 0 ∷ drop (i + 1) r
+  next h = rw (add-one i) (drop-cons r i 0 h)
+
+  pub entries-end : length r ≤ i → entriesOf (drop i r) ≡ stop
+  entries-end h = rw (drop-of-length-le r h)
+
+few : (l : List ℕ) → length l < 3 → declareds l ≡ []
+few [] h = refl
+few (x ∷ []) h = refl
+few (x ∷ y ∷ []) h = refl
+few (x ∷ y ∷ z ∷ l) h = absurd (omega arith)
+
+module _ (r : List ℕ) (i : ℕ) where
+  pub entries-one : i < length r → i + 1 ≡ length r → entriesOf (drop i r) ≡ stop
+  entries-one h e =
+      let l : length r ≤ i + 1 = omega arith in
+      rw (next r i h, drop-of-length-le r l)
+
+  pub entries-on : i + 1 < length r → entriesOf (drop i r) ≡ entry (getD r i 0) (getD r (i + 1) 0) (entriesOf (drop (i + 2) r))
+  entries-on h =
+      let l : i < length r = omega arith in
+      let e : i + 1 + 1 ≡ i + 2 = omega arith in
+      rw (next r i l, next r (i + 1) h, e)
+
+  pub declareds-end : length r ≤ i → declareds (drop i r) ≡ []
+  declareds-end h = rw (drop-of-length-le r h)
+
+  pub declareds-few : length r - i < 3 → declareds (drop i r) ≡ []
+  declareds-few e = few (drop i r) (rw (length-drop i r) e)
+
+  pub declareds-on : i + 2 < length r
+      → declareds (drop i r) ≡ record { text = getD r i 0; required = eqb (getD r (i + 1) 0) 1; type = getD r (i + 2) 0 } ∷ declareds (drop (i + 3) r)
+  declareds-on h =
+      let k : i < length r = omega arith in
+      let l : i + 1 < length r = omega arith in
+      let e : i + 1 + 1 ≡ i + 2 = omega arith in
+      let f : i + 2 + 1 ≡ i + 3 = omega arith in
+      rw (next r i k, next r (i + 1) l, e, next r (i + 2) h, f)
+
+-- ---- `there`
+
+-- what is left of record r, from word i on, decides whether it has attribute t
+pub record There (r : List ℕ) (t i : ℕ) : Type 0 where
+  pub left : hasIn r t ≡ isSome (entryOf t (entriesOf (drop i r)))
+
+pub there-start : (r : List ℕ) (t : ℕ) → There r t 1
+unfolding hasIn
+there-start r t = record { left = refl }
+
+module _ (r : List ℕ) (t i : ℕ) (inv : There r t i) where
+  pub there-one : i < length r → i + 1 ≡ length r → false ≡ hasIn r t
+  there-one h e = sym (inv .left ∙ ap (λ es. isSome (entryOf t es)) (entries-one r i h e))
+
+  pub there-end : length r ≤ i → false ≡ hasIn r t
+  there-end h = sym (inv .left ∙ ap (λ es. isSome (entryOf t es)) (entries-end r i h))
+
+  module _ (x : ℕ) (h : i < length r) (n : i + 1 ≡ length r → ⊥) (ex : x ≡ getD r i 0) where
+    pub there-hit : t ≡ x → true ≡ hasIn r t
+    there-hit e = sym (inv .left ∙ rw (entries-on r i (omega arith), ← ex, eq-eqb t x e))
+
+    pub there-on : (t ≡ x → ⊥) → There r t (i + 2)
+    there-on e = record { left = inv .left ∙ rw (entries-on r i (omega arith), ← ex, ne-eqb t x e) }
+
+-- ---- `declared`
+
+-- what is left of record type y, from word i on, decides what it declares for attribute t
+pub record Declares (y : List ℕ) (t i : ℕ) : Type 0 where
+  pub left : declaredBy y t ≡ declaredIn t (declareds (drop i y))
+
+pub declared-start : (y : List ℕ) (t : ℕ) → Declares y t 1
+unfolding declaredBy
+declared-start y t = record { left = refl }
+
+module _ (y : List ℕ) (t i : ℕ) (inv : Declares y t i) where
+  pub declared-few : length y - i < 3 → F.the-variants.Undeclared ≡ found (declaredBy y t)
+  unfolding found
+  declared-few h = sym (ap found (inv .left ∙ ap (declaredIn t) (declareds-few y i h)))
+
+  pub declared-end : length y ≤ i → F.the-variants.Undeclared ≡ found (declaredBy y t)
+  unfolding found
+  declared-end h = sym (ap found (inv .left ∙ ap (declaredIn t) (declareds-end y i h)))
+
+  module _ (x : ℕ) (h : i < length y) (n : 3 ≤ length y - i) (ex : x ≡ getD y i 0) where
+    pub declared-hit : (z : ℕ) → t ≡ x → z ≡ getD y (i + 2) 0 → F.the-variants.As z ≡ found (declaredBy y t)
+    unfolding found
+    declared-hit z e ez =
+        let q : declaredIn t (declareds (drop i y)) ≡ some z = rw (declareds-on y i (omega arith), ← ex, eq-eqb t x e, ← ez) in
+        sym (ap found (inv .left ∙ q))
+
+    pub declared-on : (t ≡ x → ⊥) → Declares y t (i + 3)
+    declared-on e = record { left = inv .left ∙ rw (declareds-on y i (omega arith), ← ex, ne-eqb t x e) }
+
+-- ---- `complete`
+
+pub met : (r y : List ℕ) (i x u : ℕ) (b : Bool) → x ≡ getD y (i + 1) 0 → x ≡ 1 → u ≡ getD y i 0 → b ≡ hasIn r u → b ≡ metAt r y i
+unfolding metAt
+met r y i x u b ex e eu eb = rw (← ex, e, ← eu) eb
+
+pub met-free : (r y : List ℕ) (i x : ℕ) → x ≡ getD y (i + 1) 0 → (x ≡ 1 → ⊥) → true ≡ metAt r y i
+unfolding metAt
+met-free r y i x ex e = rw (← ex, ne-eqb x 1 e)
+
+-- what is left of record type y, from word i on, decides whether record r has all that it requires
+pub record Completes (r y : List ℕ) (i : ℕ) : Type 0 where
+  pub left : completeIn r y ≡ requiredThere (declareds (drop i y)) (hasIn r)
+
+pub complete-start : (r y : List ℕ) → Completes r y 1
+unfolding completeIn
+complete-start r y = record { left = refl }
+
+module _ (r y : List ℕ) (i : ℕ) (inv : Completes r y i) where
+  pub complete-few : length y - i < 3 → true ≡ completeIn r y
+  complete-few h = sym (inv .left ∙ rw (declareds-few y i h))
+
+  pub complete-end : length y ≤ i → true ≡ completeIn r y
+  complete-end h = sym (inv .left ∙ rw (declareds-end y i h))
+
+  module _ (b : Bool) (n : 3 ≤ length y - i) (eb : b ≡ metAt r y i) where
+    pub complete-off : not b ≡ true → false ≡ completeIn r y
+    unfolding metAt
+    complete-off e = sym (inv .left ∙ rw (declareds-on y i (omega arith), ← eb, not-true b e))
+
+    pub complete-on : not b ≡ false → Completes r y (i + 3)
+    unfolding metAt
+    complete-on e = record { left = inv .left ∙ rw (declareds-on y i (omega arith), ← eb, not-false b e) }

@@ -1,0 +1,106 @@
+-- A value fits a type, over the rows in the lent words: what the search promises, and what it remembers.
+use mathlib.Core.Path.{_≡_}
+use mathlib.Core.Bool.{Bool, true, false, cond, _&&_, _||_, not}
+use mathlib.Core.List.{List, []}
+use mathlib.Core.Option.{Option, none, some}
+use Prim.Native.Nat.{ℕ, _+_, _*_}
+use lib.Dec.{ltb, eqb}
+use lib.ListN.{getD, drop}
+use Rattle.cedar.specs.Value.{onSome}
+use Rattle.cedar.specs.Numbered.{rBool, entryOf, isSome}
+use Rattle.sheet.specs.Forms.{tag, items, VALUE, TYPE}
+use Rattle.sheet.specs.State.{declareds, entriesOf, typeRow, valueRow}
+use Rattle.sheet.specs.Typing.{declaredIn, requiredThere, allIn, allEntries, rowFits, fitsBy, fitsIn}
+use Rattle.words.specs.Bits.{member, added}
+use Rattle.table.specs.Layout.{rowsOf}
+use Rattle.fits.specs.declared.Found as F
+
+-- ---- parts of `rowFits` over rows of numbers
+
+-- record r has attribute t
+unfoldable pub hasIn : List ℕ → ℕ → Bool
+hasIn r t = isSome (entryOf t (entriesOf (items r)))
+
+-- record r has all attributes that record type y requires
+unfoldable pub completeIn : List ℕ → List ℕ → Bool
+completeIn r y = requiredThere (declareds (items y)) (hasIn r)
+
+-- the attribute that row y declares at word i is optional or there
+unfoldable pub metAt : List ℕ → List ℕ → ℕ → Bool
+metAt r y i = not (eqb (getD y (i + 1) 0) 1) || hasIn r (getD y i 0)
+
+-- the type that record type y declares for attribute t, and the answer of a search for it
+unfoldable pub declaredBy : List ℕ → ℕ → Option ℕ
+declaredBy y t = declaredIn t (declareds (items y))
+
+unfoldable pub found : Option ℕ → F.Found
+found none = F.the-variants.Undeclared
+found (some y) = F.the-variants.As y
+
+unfoldable pub setFits : (ℕ → ℕ → Bool) → List ℕ → ℕ → Bool
+setFits f r y = allIn (λ x. f x y) (items r)
+
+unfoldable pub recordFits : (ℕ → ℕ → Bool) → List ℕ → List ℕ → Bool
+recordFits f r y = allEntries (λ t x. onSome false (declaredIn t (declareds (items y))) (f x)) (entriesOf (items r))
+
+-- "tags of the tag type"
+unfoldable pub tagsFitBy : (ℕ → ℕ → Bool) → List ℕ → ℕ → Bool
+tagsFitBy f r y = allEntries (λ t x. f x y) (entriesOf (items r))
+
+unfoldable pub rowsFit : (ℕ → ℕ → Bool) → List ℕ → List ℕ → Bool
+rowsFit f r y = rowFits f (valueRow r) (typeRow y)
+
+-- a value's row that fits `bool`
+unfoldable pub isBoolRow : List ℕ → Bool
+isBoolRow r = rBool false (valueRow r) (λ b. true)
+
+-- where the type is no set and no record, the parts are not asked for
+pub record Leaf (r y : List ℕ) (b : Bool) : Type 0 where
+  pub is : (f : ℕ → ℕ → Bool) → (tag y ≡ 7 → ⊥) → (tag y ≡ 8 → ⊥) → b ≡ rowsFit f r y
+
+-- ---- pairs found to fit: one bit for each of 1,024 values and 128 types
+
+unfoldable pub isPair : ℕ → ℕ → Bool
+isPair v t = ltb v 1024 && ltb t 128
+
+unfoldable pub marked : List ℕ → ℕ → ℕ → Bool
+marked m v t = isPair v t && member m (v * 128 + t)
+
+unfoldable pub withPair : List ℕ → ℕ → ℕ → List ℕ
+withPair m v t = cond (isPair v t) (added m (v * 128 + t)) m
+
+-- ---- the promise
+
+-- the whole depth is enough: what fits by its parts fits
+pub record Settled (values types : List (List ℕ)) : Type 0 where
+  pub closes : (v t : ℕ) → rowFits (fitsIn values types) (valueRow (getD values v [])) (typeRow (getD types t [])) ≡ true → fitsIn values types v t ≡ true
+
+module _ (a : List ℕ) where
+  -- by remaining depth, and at the whole depth
+  unfoldable pub deep : ℕ → ℕ → ℕ → Bool
+  deep d v t = fitsBy (rowsOf a VALUE) (rowsOf a TYPE) d v t
+
+  unfoldable pub full : ℕ → ℕ → Bool
+  full v t = fitsIn (rowsOf a VALUE) (rowsOf a TYPE) v t
+
+  -- so it is of the rows in words a
+  unfoldable pub SettledIn : Type 0
+  SettledIn = Settled (rowsOf a VALUE) (rowsOf a TYPE)
+
+-- what is remembered is true
+pub record Known (a m : List ℕ) : Type 0 where
+  pub holds : (v t : ℕ) → marked m v t ≡ true → SettledIn a → full a v t ≡ true
+
+-- from words m to n: an answer b between what holds by remaining depth and what holds at the whole depth, what is remembered is still true,
+-- and the words that follow the pairs are untouched
+pub record Ran (a m n : List ℕ) (low high b : Bool) : Type 0 where
+  pub yes-is : b ≡ true → SettledIn a → high ≡ true
+  pub no-is : b ≡ false → low ≡ false
+  pub known : Known a n
+  pub rest : drop 4096 n ≡ drop 4096 m
+
+-- the answer is the definition's wherever the whole depth is enough
+pub record Answered (a m n : List ℕ) (answer b : Bool) : Type 0 where
+  pub is : SettledIn a → b ≡ answer
+  pub known : Known a n
+  pub rest : drop 4096 n ≡ drop 4096 m

@@ -1,0 +1,129 @@
+-- What the checks ask of the state is the same whatever the sheet's bytes and the other words are; and a text's words stand for its row. Assumes nothing.
+use mathlib.Core.Path.{_≡_, refl, sym, ap, ap₂, _∙_}
+use mathlib.Core.Bool.{Bool, true, cond, not, _&&_, _||_}
+use mathlib.Core.List.{List, [], _∷_}
+use Prim.Native.Nat.{ℕ, suc, _+_, _-_, _≤_, _<_, max}
+use native.Mathlib.Omega.{arith}
+use native.Mathlib.Decide.{ℕ-discrete, decLt}
+use borrow.Author.Tests.{eq-eqb, ne-eqb, le-ltb}
+use lib.Dec.{leb, ltb, eqb}
+use lib.ListN.{length, getD, take, drop, List·getD-eq-default}
+use Rattle.cedar.specs.Numbered.{memN}
+use Rattle.sheet.specs.Forms.{Slot, entry, line, lineOr, lineUnknown, word, number, nothing, forms, formOf, slotAt, tag, items, at, keyOf, refsFrom, refs, ascendings, mark, KIND}
+use Rattle.sheet.specs.State.{State, linesOf, count, depthsOf}
+use Rattle.sheet.specs.Sheet.{greatest, reach, allZero, inOrder, thereIs, allThere, ascend, among, firsts, fresh, found, deepest, depth}
+use Rattle.sheet.proofs.Parsed.{tags-between}
+use Rattle.table.specs.Layout.{part, rowsOf, textRows, linesHeld, held}
+use Rattle.table.proofs.Rows.{count-held, lines-held, texts-held}
+use Rattle.table.proofs.Held.{rowIn, counts-held}
+use Rattle.judge.specs.Verdicts.{New}
+
+module _ (a sheet b : List ℕ) where
+  count-past : (k : ℕ) → 13 ≤ k → count (held sheet a b) k ≡ 0
+  unfolding held linesHeld
+  count-past k h = ap length (List·getD-eq-default (linesHeld sheet a) [] {n = k} h)
+
+module _ (a sheet b : List ℕ) where
+  pub count-alike : (k : ℕ) → count (held [] a []) k ≡ count (held sheet a b) k
+  count-alike k = go (decLt k 13)
+    where
+      go : Dec (k < 13) → count (held [] a []) k ≡ count (held sheet a b) k
+      go (yes h) = count-held [] a [] k h ∙ sym (count-held sheet a b k h)
+      go (no h) = count-past a [] [] k (omega arith) ∙ sym (count-past a sheet b k (omega arith))
+
+  lines-alike : (k : ℕ) → (k ≡ 1 → ⊥) → linesOf (held [] a []) k ≡ linesOf (held sheet a b) k
+  unfolding held linesHeld
+  lines-alike k n = go (decLt k 13)
+    where
+      go : Dec (k < 13) → linesOf (held [] a []) k ≡ linesOf (held sheet a b) k
+      go (yes h) = lines-held [] a [] k h n ∙ sym (lines-held sheet a b k h n)
+      go (no h) = List·getD-eq-default (linesHeld [] a) [] {n = k} (omega arith) ∙ sym (List·getD-eq-default (linesHeld sheet a) [] {n = k} (omega arith))
+
+  pub order-alike : (k : ℕ) → inOrder (held [] a []) k ≡ inOrder (held sheet a b) k
+  order-alike k =
+      ap₂ (λ (c : List ℕ) (n : ℕ). allZero (drop (suc k) c) && reach (take k c) (1 ∷ 0 ∷ 0 ∷ 0 ∷ n ∷ 0 ∷ 0 ∷ 1 ∷ 1 ∷ 1 ∷ 1 ∷ 0 ∷ 0 ∷ []))
+      (counts-held [] a [] ∙ sym (counts-held sheet a b)) (count-alike KIND)
+
+  pub full-alike : (k : ℕ) → leb (getD (greatest (held [] a [])) k 0) (count (held [] a []) k) ≡ leb (getD (greatest (held sheet a b)) k 0) (count (held sheet a b) k)
+  full-alike k =
+      ap₂ (λ (n m : ℕ). leb (getD (1 ∷ 512 ∷ 32 ∷ 128 ∷ n ∷ 1024 ∷ 128 ∷ 1 ∷ 1 ∷ 1 ∷ 1 ∷ 1024 ∷ 64 ∷ []) k 0) m) (count-alike KIND) (count-alike k)
+
+  slot-alike : (s : Slot) (x : ℕ) → thereIs (held [] a []) s x ≡ thereIs (held sheet a b) s x
+  slot-alike entry x = refl
+  slot-alike (line k) x = ap (ltb x) (count-alike k)
+  slot-alike (lineOr w k) x = ap (λ (n : ℕ). eqb x mark || ltb x n) (count-alike k)
+  slot-alike (lineUnknown k) x = ap (λ (n : ℕ). eqb x mark || ltb x n) (count-alike k)
+  slot-alike (word ws) x = refl
+  slot-alike number x = refl
+  slot-alike nothing x = refl
+
+  there-alike : (t j : ℕ) (l : List ℕ) → allThere (held [] a []) t j l ≡ allThere (held sheet a b) t j l
+  there-alike t j [] = refl
+  there-alike t j (x ∷ l) = ap₂ _&&_ (slot-alike (slotAt t j) x) (there-alike t (suc j) l)
+
+  fresh-alike : (k : ℕ) (r : List ℕ) → (k ≡ 1 → ⊥) → fresh (held [] a []) k r ≡ fresh (held sheet a b) k r
+  fresh-alike k r n =
+      ap (λ (l : List (List ℕ)). cond (eqb k 1 || eqb k 3 || eqb k 5) (not (among r l)) (cond (eqb k 2 || eqb k 12) (not (memN (at r 0) (firsts l)))
+      (cond (eqb k 6) (eqb (length l) 0 || ltb (at (getD l (length l - 1) []) 0) (at r 0)) true)))
+      (lines-alike k n)
+
+  pub found-alike : (k : ℕ) (r : List ℕ) → (k ≡ 1 → ⊥) → found (held [] a []) k r ≡ found (held sheet a b) k r
+  unfolding found
+  found-alike k r n = ap₂ (λ (x y : Bool). x && ascend 0 (ascendings r) && y) (there-alike (tag r) 0 (items r)) (fresh-alike k r n)
+
+-- depths do not ask for the sheet's bytes
+pub deep-alike : (sheet a b : List ℕ) (k : ℕ) (l : List ℕ) → deepest (held [] a b) k l ≡ deepest (held sheet a b) k l
+unfolding held
+deep-alike sheet a b k [] = refl
+deep-alike sheet a b k (x ∷ l) = ap (max (getD (depthsOf (held sheet a b) k) x 0)) (deep-alike sheet a b k l)
+
+-- ---- texts
+
+pub text-tag : (r : List ℕ) → keyOf r ≡ 1 → tag r ≡ 1
+unfolding keyOf formOf forms
+text-tag r e = let b = tags-between 1 1 1 (tag r) (omega arith) refl e in omega (arith, b .0, b .1)
+
+text-slot : (j : ℕ) → slotAt 1 j ≡ nothing
+unfolding slotAt formOf forms
+text-slot j = rw (le-ltb j 0 (omega arith)) refl
+
+text-refs : (k j : ℕ) (l : List ℕ) → refsFrom k 1 j l ≡ []
+text-refs k j [] = refl
+text-refs k j (x ∷ l) = rw (text-slot j) (text-refs k (suc j) l)
+
+text-there : (s : State) (j : ℕ) (l : List ℕ) → allThere s 1 j l ≡ true
+text-there s j [] = refl
+text-there s j (x ∷ l) = rw (text-slot j) (text-there s (suc j) l)
+
+-- what a row refers to is what its words refer to
+pub refs-alike : (sheet : List ℕ) (k j : ℕ) (r : List ℕ) → k ≡ keyOf r → refs j (rowIn sheet k r) ≡ refs j r
+unfolding refs
+refs-alike sheet k j r e = go (ℕ-discrete k 1)
+  where
+    go : Dec (k ≡ 1) → refs j (rowIn sheet k r) ≡ refs j r
+    go (yes d) =
+        let t = text-tag r (sym e ∙ d) in
+        rw (eq-eqb k 1 d, t) (text-refs j 0 (part sheet (at r 0) (at r 0 + at r 1)) ∙ sym (text-refs j 0 (items r)))
+    go (no d) = rw (ne-eqb k 1 d) refl
+
+pub depth-alike : (sheet a b : List ℕ) (k : ℕ) (r : List ℕ) → k ≡ keyOf r → depth (held [] a b) k r ≡ depth (held sheet a b) k (rowIn sheet k r)
+unfolding depth
+depth-alike sheet a b k r e =
+    ap suc (deep-alike sheet a b k (refs k r) ∙ ap (deepest (held sheet a b) k) (sym (refs-alike sheet k k r e)))
+
+-- ---- `is_new`
+
+pub new-other : (sheet a : List ℕ) (k : ℕ) (r : List ℕ) (b : Bool) → (k ≡ 1 → ⊥) → b ≡ found (held [] a []) k r → New sheet a r k b
+new-other sheet a k r b n e = record { is = λ c. e ∙ found-alike a sheet c k r n ∙ sym (rw (ne-eqb k 1 n) refl) }
+
+pub new-text : (sheet a : List ℕ) (k : ℕ) (r : List ℕ) (s n : ℕ) (x : List ℕ) (b : Bool) → k ≡ keyOf r → k ≡ 1 → s ≡ getD r 1 0 → n ≡ getD r 2 0 → x ≡ part sheet s (s + n)
+    → b ≡ among (1 ∷ x) (textRows sheet (rowsOf a 1)) → New sheet a r k (not b)
+unfolding found ascendings formOf forms
+new-text sheet a k r s n x b e d hs hn hx hb =
+    let t : tag r ≡ 1 = text-tag r (sym e ∙ d) in
+    let row : rowIn sheet k r ≡ 1 ∷ x = rw (eq-eqb k 1 d, t, hx, hs, hn) refl in
+    record {
+      is = λ c.
+          let f : found (held sheet a c) k (1 ∷ x) ≡ not b = rw (d, text-there (held sheet a c) 0 x) (ap not (ap (among (1 ∷ x)) (texts-held sheet a c) ∙ sym hb)) in
+          sym (ap (found (held sheet a c) k) row ∙ f);
+    }

@@ -1,0 +1,254 @@
+-- The refusals of a row in number order, and what is left of the words. Assumes nothing.
+use mathlib.Core.Path.{_≡_, refl, sym, ap, ap₂, subst, _∙_}
+use mathlib.Core.Bool.{Bool, true, false, not, _&&_}
+use mathlib.Core.List.{List, [], _∷_, _++_}
+use Prim.Native.Nat.{ℕ, _+_, _-_, _*_, _/_, _%_, _≤_, _<_}
+use native.Mathlib.Omega.{arith}
+use native.Mathlib.Decide.{ℕ-discrete, decLt}
+use borrow.Author.Tests.{ne-eqb, lt-ltb, le-ltb, le-leb, not-true, not-false}
+use lib.Dec.{leb, ltb}
+use lib.ListN.{length, getD, take, drop, List·getD-eq-default}
+use lib.Seq.{drop-drop}
+use Rattle.words.specs.Bits.{member, bit}
+use Rattle.words.proofs.Stores.{getD-below, part-below}
+use Rattle.cedar.proofs.Tools.{no-true}
+use Rattle.sheet.specs.Forms.{formOf, tag, keyOf, refs, NODE}
+use Rattle.sheet.specs.State.{State, count}
+use Rattle.sheet.specs.Typing.{typed}
+use Rattle.sheet.specs.Sheet.{greatest, inOrder, found, depth, usedTwice, marked, faultOf}
+use Rattle.sheet.proofs.Lines.{and-both}
+use Rattle.table.specs.Layout.{USES, depthsAt, held}
+use Rattle.table.proofs.Rows.{key-low}
+use Rattle.table.proofs.Held.{rowIn, used-of, depths-kept}
+use Rattle.fits.specs.Fit.{isPair, SettledIn, Known}
+use Rattle.fits.specs.Fit as F
+use Rattle.fits.proofs.Remembered.{small-pair, cleared}
+use Rattle.checks.specs.Uses.{usesIn, Marked}
+use Rattle.typing.specs.Rules.{Typed}
+use Rattle.judge.specs.Verdicts.{New, TypedLine, Judged}
+use Rattle.judge.proofs.Alike.{order-alike, full-alike, refs-alike, depth-alike}
+
+-- ---- the chain of refusals
+
+module _ (s : State) (k : ℕ) (r : List ℕ) where
+  fault-order : inOrder s k ≡ false → faultOf s k r ≡ 3
+  fault-order e = rw e refl
+
+  module _ (o : inOrder s k ≡ true) where
+    fault-full : leb (getD (greatest s) k 0) (count s k) ≡ true → faultOf s k r ≡ 4
+    fault-full e = rw (o, e) refl
+
+    module _ (u : leb (getD (greatest s) k 0) (count s k) ≡ false) where
+      fault-found : found s k r ≡ false → faultOf s k r ≡ 5
+      fault-found e = rw (o, u, e) refl
+
+      module _ (n : found s k r ≡ true) where
+        fault-deep : ltb 64 (depth s k r) ≡ true → faultOf s k r ≡ 6
+        fault-deep e = rw (o, u, n, e) refl
+
+        module _ (d : ltb 64 (depth s k r) ≡ false) where
+          fault-typed : typed s r k ≡ false → faultOf s k r ≡ 7
+          fault-typed e = rw (o, u, n, d, e) refl
+
+          module _ (y : typed s r k ≡ true) where
+            fault-used : usedTwice (s .used) (refs NODE r) ≡ true → faultOf s k r ≡ 8
+            fault-used e = rw (o, u, n, d, y, e) refl
+
+            fault-none : usedTwice (s .used) (refs NODE r) ≡ false → faultOf s k r ≡ 0
+            fault-none e = rw (o, u, n, d, y, e) refl
+
+-- ---- what is remembered of pairs stands in the first words
+
+known-below : (a m m′ : List ℕ) → take USES m′ ≡ take USES m → Known a m → Known a m′
+unfolding F.marked member
+known-below a m m′ e k =
+    record {
+      holds = λ v t h s. and-both (isPair v t) (member m′ (v * 128 + t)) h (λ q i.
+          let x = small-pair v t q in
+          let w : getD m′ ((v * 128 + t) / 32) 0 ≡ getD m ((v * 128 + t) / 32) 0 = getD-below USES m m′ e ((v * 128 + t) / 32) (omega (arith, x .0, x .1)) in
+          k .holds v t (both (isPair v t) (member m (v * 128 + t)) q (ap (bit ((v * 128 + t) % 32)) (sym w) ∙ i)) s);
+    }
+  where
+    both : (x y : Bool) → x ≡ true → y ≡ true → (x && y) ≡ true
+    both x y p q = rw (p, q) refl
+
+-- ---- `typed_line`
+
+-- nothing is remembered in no words
+pub known-none : (a b : List ℕ) → Known a (take (0 - 0) (drop 0 b))
+known-none a b = cleared a (take (0 - 0) (drop 0 b)) (λ i h. refl)
+
+none-lent : (m b : List ℕ) → length m ≡ 0 → m ++ b ≡ b
+none-lent [] b e = refl
+none-lent (x ∷ m) b e = absurd (omega arith)
+
+-- no words were lent, so the words are as they were
+pub typed-early : (a b m r : List ℕ) (k : ℕ) (v : Bool) → Known a b → Typed a (take (0 - 0) (drop 0 b)) m r k v → length m ≡ 0 → TypedLine a b (m ++ b) r k v
+typed-early a b m r k v known t e =
+    rw (none-lent m b e) (record { is = t .is; known = known; early = λ h. refl; rest = refl })
+
+pub typed-late : (a b b′ r : List ℕ) (k : ℕ) (v : Bool) → Typed a b b′ r k v → 6 ≤ k → TypedLine a b b′ r k v
+typed-late a b b′ r k v t h =
+    record {
+      is = t .is;
+      known = t .known;
+      early = λ l. absurd (omega arith);
+      rest = t .rest;
+    }
+
+-- ---- a row's key
+
+pub key-of-row : (r : List ℕ) (t k : ℕ) → t ≡ tag r → k ≡ formOf t .key → k ≡ keyOf r
+unfolding keyOf
+key-of-row r t k ht hk = hk ∙ ap (λ (x : ℕ). formOf x .key) ht
+
+pub key-in-table : (t k : ℕ) → k ≡ formOf t .key → k ≤ 13
+key-in-table t k e = rw e (key-low t)
+
+-- a key that has room is a line's
+pub key-of-line : (a : List ℕ) (k : ℕ) (u : Bool) → u ≡ leb (getD (greatest (held [] a [])) k 0) (count (held [] a []) k) → u ≡ false → k < 13
+key-of-line a k u e f = go (decLt k 13)
+  where
+    go : Dec (k < 13) → k < 13
+    go (yes h) = h
+    go (no h) =
+        let z : getD (greatest (held [] a [])) k 0 ≡ 0 = List·getD-eq-default (greatest (held [] a [])) 0 {n = k} (omega arith) in
+        no-true (sym f ∙ e ∙ le-leb (getD (greatest (held [] a [])) k 0) (count (held [] a []) k) (omega (arith, z)))
+
+-- ---- `judge`
+
+module _ (sheet a b r : List ℕ) (known : Known a b) (t k : ℕ) (ht : t ≡ tag r) (hk : k ≡ formOf t .key) where
+  key-is : k ≡ keyOf r
+  key-is = key-of-row r t k ht hk
+
+  -- a refusal before the words change
+  stop : (f n d : ℕ) → (f ≡ 0 → ⊥) → faultOf (held sheet a b) (keyOf r) (rowIn sheet (keyOf r) r) ≡ f → Judged sheet a b r b f n d
+  stop f n d z e =
+      record {
+        number = λ s. sym e;
+        key = λ q. absurd (z q);
+        deep = λ q. absurd (z q);
+        uses = λ q. absurd (z q);
+        known = known;
+        early = λ h i l. refl;
+        depths = λ i m h l. refl;
+        rest = λ h. refl;
+      }
+
+  module _ (o : Bool) (ho : o ≡ inOrder (held [] a []) k) where
+    order-is : o ≡ inOrder (held sheet a b) (keyOf r)
+    order-is = ho ∙ order-alike a sheet b k ∙ ap (inOrder (held sheet a b)) key-is
+
+    pub judged-3 : not o ≡ true → (f n d : ℕ) → f ≡ 3 → Judged sheet a b r b f n d
+    judged-3 h f n d e = stop f n d (λ q. absurd (omega arith)) (fault-order (held sheet a b) (keyOf r) (rowIn sheet (keyOf r) r) (sym order-is ∙ not-true o h) ∙ sym e)
+
+    module _ (po : not o ≡ false) (u : Bool) (hu : u ≡ leb (getD (greatest (held [] a [])) k 0) (count (held [] a []) k)) where
+      full-is : u ≡ leb (getD (greatest (held sheet a b)) (keyOf r) 0) (count (held sheet a b) (keyOf r))
+      full-is = hu ∙ full-alike a sheet b k ∙ ap (λ (x : ℕ). leb (getD (greatest (held sheet a b)) x 0) (count (held sheet a b) x)) key-is
+
+      ordered : inOrder (held sheet a b) (keyOf r) ≡ true
+      ordered = sym order-is ∙ not-false o po
+
+      pub judged-4 : u ≡ true → (f n d : ℕ) → f ≡ 4 → Judged sheet a b r b f n d
+      judged-4 h f n d e = stop f n d (λ q. absurd (omega arith)) (fault-full (held sheet a b) (keyOf r) (rowIn sheet (keyOf r) r) ordered (sym full-is ∙ h) ∙ sym e)
+
+      module _ (pu : u ≡ false) (w : Bool) (hw : New sheet a r k w) where
+        new-is : w ≡ found (held sheet a b) (keyOf r) (rowIn sheet (keyOf r) r)
+        new-is = hw .is b ∙ ap (λ (x : ℕ). found (held sheet a b) x (rowIn sheet x r)) key-is
+
+        pub judged-5 : not w ≡ true → (f n d : ℕ) → f ≡ 5 → Judged sheet a b r b f n d
+        judged-5 h f n d e =
+            stop f n d (λ q. absurd (omega arith)) (fault-found (held sheet a b) (keyOf r) (rowIn sheet (keyOf r) r) ordered (sym full-is ∙ pu) (sym new-is ∙ not-true w h) ∙ sym e)
+
+        module _ (pw : not w ≡ false) (g : ℕ) (hg : g ≡ depth (held [] a b) k r) where
+          deep-is : g ≡ depth (held sheet a b) (keyOf r) (rowIn sheet (keyOf r) r)
+          deep-is = hg ∙ depth-alike sheet a b k r key-is ∙ ap (λ (x : ℕ). depth (held sheet a b) x (rowIn sheet x r)) key-is
+
+          found-is : found (held sheet a b) (keyOf r) (rowIn sheet (keyOf r) r) ≡ true
+          found-is = sym new-is ∙ not-false w pw
+
+          pub judged-6 : 64 < g → (f n d : ℕ) → f ≡ 6 → Judged sheet a b r b f n d
+          judged-6 h f n d e =
+              stop f n d (λ q. absurd (omega arith))
+              (fault-deep (held sheet a b) (keyOf r) (rowIn sheet (keyOf r) r) ordered (sym full-is ∙ pu) found-is (lt-ltb 64 (depth (held sheet a b) (keyOf r) (rowIn sheet (keyOf r) r)) (omega (arith, deep-is))) ∙ sym e)
+
+          module _ (pg : g ≤ 64) (b₁ : List ℕ) (y : Bool) (hy : TypedLine a b b₁ r k y) where
+            shallow : ltb 64 (depth (held sheet a b) (keyOf r) (rowIn sheet (keyOf r) r)) ≡ false
+            shallow = le-ltb 64 (depth (held sheet a b) (keyOf r) (rowIn sheet (keyOf r) r)) (omega (arith, deep-is))
+
+            typed-row : (j : ℕ) → typed (held sheet a b) r j ≡ typed (held sheet a b) (rowIn sheet j r) j
+            unfolding typed
+            typed-row j = go (ℕ-discrete j 1)
+              where
+                go : Dec (j ≡ 1) → typed (held sheet a b) r j ≡ typed (held sheet a b) (rowIn sheet j r) j
+                go (yes d) = rw d refl
+                go (no d) = rw (ne-eqb j 1 d) refl
+
+            typed-is : SettledIn a → y ≡ typed (held sheet a b) (rowIn sheet (keyOf r) r) (keyOf r)
+            typed-is s = hy .is sheet b s ∙ typed-row k ∙ ap (λ (x : ℕ). typed (held sheet a b) (rowIn sheet x r) x) key-is
+
+            early₁ : keyOf r < 6 → b₁ ≡ b
+            early₁ h = hy .early (rw key-is h)
+
+            pub judged-7 : not y ≡ true → (f n d : ℕ) → f ≡ 7 → Judged sheet a b r b₁ f n d
+            judged-7 h f n d e =
+                record {
+                  number = λ s. e ∙ sym (fault-typed (held sheet a b) (keyOf r) (rowIn sheet (keyOf r) r) ordered (sym full-is ∙ pu) found-is shallow (sym (typed-is s) ∙ not-true y h));
+                  key = λ q. absurd (omega arith);
+                  deep = λ q. absurd (omega arith);
+                  uses = λ q. absurd (omega arith);
+                  known = hy .known;
+                  early = λ h i l. ap (λ (x : List ℕ). getD x i 0) (early₁ h);
+                  depths = λ i m h l. depths-kept b b₁ i m h (hy .rest);
+                  rest = λ h. later (hy .rest);
+                }
+              where
+                later : drop 4096 b₁ ≡ drop 4096 b → drop 7296 b₁ ≡ drop 7296 b
+                later q = sym (drop-drop 3200 4096 b₁) ∙ ap (drop 3200) q ∙ drop-drop 3200 4096 b
+
+            module _ (py : not y ≡ false) (b₂ : List ℕ) (x : Bool) (hx : Marked a b₁ (refs 11 r) b₂ x) where
+              uses-same : usesIn a b₁ ≡ usesIn a b
+              uses-same = depths-kept b b₁ USES (getD a NODE 0) (omega arith) (hy .rest)
+
+              refs-same : refs 11 r ≡ refs NODE (rowIn sheet (keyOf r) r)
+              refs-same = sym (refs-alike sheet (keyOf r) 11 r refl)
+
+              twice-is : x ≡ usedTwice (held sheet a b .used) (refs NODE (rowIn sheet (keyOf r) r))
+              twice-is = hx .twice-is ∙ ap₂ usedTwice uses-same refs-same ∙ ap (λ (l : List ℕ). usedTwice l (refs NODE (rowIn sheet (keyOf r) r))) (sym (used-of sheet a b))
+
+              kept-part : (i m : ℕ) → 4096 ≤ i → i + m ≤ USES → depthsAt b₂ i m ≡ depthsAt b i m
+              kept-part i m h l =
+                  let z : i + m - i ≡ m = omega arith in
+                  subst (λ (c : ℕ). take c (drop i b₂) ≡ take c (drop i b₁)) z (part-below USES b₁ b₂ (hx .below) i (i + m) (omega arith) l) ∙ depths-kept b b₁ i m h (hy .rest)
+
+              early₂ : keyOf r < 6 → (i : ℕ) → i < 4096 → getD b₂ i 0 ≡ getD b i 0
+              early₂ h i l = getD-below USES b₁ b₂ (hx .below) i (omega arith) ∙ ap (λ (c : List ℕ). getD c i 0) (early₁ h)
+
+              rest₂ : getD a NODE 0 ≤ 1024 → drop 7296 b₂ ≡ drop 7296 b
+              rest₂ h = hx .above h ∙ sym (drop-drop 3200 4096 b₁) ∙ ap (drop 3200) (hy .rest) ∙ drop-drop 3200 4096 b
+
+              pub judged-8 : x ≡ true → (f n d : ℕ) → f ≡ 8 → Judged sheet a b r b₂ f n d
+              judged-8 h f n d e =
+                  record {
+                    number = λ s. e ∙ sym (fault-used (held sheet a b) (keyOf r) (rowIn sheet (keyOf r) r) ordered (sym full-is ∙ pu) found-is shallow (sym (typed-is s) ∙ not-false y py) (sym twice-is ∙ h));
+                    key = λ q. absurd (omega arith);
+                    deep = λ q. absurd (omega arith);
+                    uses = λ q. absurd (omega arith);
+                    known = known-below a b₁ b₂ (hx .below) (hy .known);
+                    early = early₂;
+                    depths = kept-part;
+                    rest = rest₂;
+                  }
+
+              pub judged-0 : x ≡ false → Judged sheet a b r b₂ 0 k g
+              judged-0 h =
+                  record {
+                    number = λ s. sym (fault-none (held sheet a b) (keyOf r) (rowIn sheet (keyOf r) r) ordered (sym full-is ∙ pu) found-is shallow (sym (typed-is s) ∙ not-false y py) (sym twice-is ∙ h));
+                    key = λ q. key-is;
+                    deep = λ q. deep-is;
+                    uses = λ q. hx .uses h ∙ ap₂ marked uses-same refs-same;
+                    known = known-below a b₁ b₂ (hx .below) (hy .known);
+                    early = early₂;
+                    depths = kept-part;
+                    rest = rest₂;
+                  }

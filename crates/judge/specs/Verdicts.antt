@@ -1,0 +1,35 @@
+-- What the judging of a row leaves.
+use mathlib.Core.Path.{_≡_}
+use mathlib.Core.Bool.{Bool}
+use mathlib.Core.List.{List}
+use Prim.Native.Nat.{ℕ, _+_, _≤_, _<_}
+use lib.ListN.{getD, drop}
+use Rattle.sheet.specs.Forms.{keyOf, refs, NODE}
+use Rattle.sheet.specs.Typing.{typed}
+use Rattle.sheet.specs.Sheet.{found, depth, faultOf, marked}
+use Rattle.table.specs.Layout.{USES, depthsAt, held}
+use Rattle.table.proofs.Held.{rowIn}
+use Rattle.fits.specs.Fit.{SettledIn, Known}
+use Rattle.checks.specs.Uses.{usesIn}
+
+-- what a row of key k refers to is there, and the row is new
+pub record New (sheet a r : List ℕ) (k : ℕ) (v : Bool) : Type 0 where
+  pub is : (c : List ℕ) → v ≡ found (held sheet a c) k (rowIn sheet k r)
+
+-- whether a row of key k is typed; what is remembered of pairs is used from key entity on
+pub record TypedLine (a b b′ r : List ℕ) (k : ℕ) (v : Bool) : Type 0 where
+  pub is : (sheet c : List ℕ) → SettledIn a → v ≡ typed (held sheet a c) r k
+  pub known : Known a b′
+  pub early : k < 6 → b′ ≡ b
+  pub rest : drop 4096 b′ ≡ drop 4096 b
+
+-- number f of the row that words r hold, of key k; where it is 0 the row's depth d, and the nodes that it uses are marked
+pub record Judged (sheet a b r b′ : List ℕ) (f k d : ℕ) : Type 0 where
+  pub number : SettledIn a → f ≡ faultOf (held sheet a b) (keyOf r) (rowIn sheet (keyOf r) r)
+  pub key : f ≡ 0 → k ≡ keyOf r
+  pub deep : f ≡ 0 → d ≡ depth (held sheet a b) (keyOf r) (rowIn sheet (keyOf r) r)
+  pub uses : f ≡ 0 → usesIn a b′ ≡ marked (usesIn a b) (refs NODE (rowIn sheet (keyOf r) r))
+  pub known : Known a b′
+  pub early : keyOf r < 6 → (i : ℕ) → i < 4096 → getD b′ i 0 ≡ getD b i 0
+  pub depths : (i n : ℕ) → 4096 ≤ i → i + n ≤ USES → depthsAt b′ i n ≡ depthsAt b i n
+  pub rest : getD a NODE 0 ≤ 1024 → drop 7296 b′ ≡ drop 7296 b

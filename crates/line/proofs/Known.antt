@@ -1,0 +1,22 @@
+-- Known lines and their rows, computed.
+use mathlib.Core.Path.{_≡_, refl}
+use mathlib.Core.List.{List, [], _∷_}
+use Prim.Native.Nat.{ℕ}
+use Prim.Native.String.{String}
+use Rattle.sheet.specs.Ascii.{ascii}
+use Rattle.sheet.specs.Forms.{Mode, partial, complete, keys, forms, formOf, slotAt, counted, tagOf, rowOf}
+
+unfoldable pub rows : Mode → List String → List (List ℕ)
+rows m [] = []
+rows m (l ∷ ls) = rowOf m (ascii l) ∷ rows m ls
+
+pub good : rows partial ("sheet=partial" ∷ "text=a,b" ∷ "kind=0,a" ∷ "type=record,0,r,1,2,o,3" ∷ "shape=1,-,0" ∷ "value=long,-1" ∷ "principal=0,?" ∷ "node=0,eq,0,1" ∷ "node=7,like,3,*,4" ∷ "policy=5,forbid,2" ∷ [])
+    ≡ (0 ∷ 0 ∷ []) ∷ (1 ∷ 97 ∷ 44 ∷ 98 ∷ []) ∷ (2 ∷ 0 ∷ 1 ∷ []) ∷ (8 ∷ 0 ∷ 1 ∷ 1 ∷ 2 ∷ 0 ∷ 3 ∷ []) ∷ (9 ∷ 1 ∷ 10000 ∷ 0 ∷ []) ∷ (11 ∷ 2147483647 ∷ 4294967295 ∷ []) ∷ (17 ∷ 0 ∷ 10000 ∷ [])
+    ∷ (26 ∷ 0 ∷ 0 ∷ 1 ∷ []) ∷ (40 ∷ 7 ∷ 3 ∷ 10000 ∷ 4 ∷ []) ∷ (49 ∷ 5 ∷ 1 ∷ 2 ∷ []) ∷ []
+unfolding rows keys forms formOf slotAt counted tagOf rowOf
+good = refl
+
+pub wrong : rows complete ("sheet=partial" ∷ "principal=0,?" ∷ "node=0" ∷ "node=0,eq,0" ∷ "value=long,-0" ∷ "type=record," ∷ "kind=01,e" ∷ "nodes=0,err" ∷ "text" ∷ "value=set,10000" ∷ [])
+    ≡ [] ∷ [] ∷ [] ∷ [] ∷ [] ∷ [] ∷ [] ∷ [] ∷ [] ∷ [] ∷ []
+unfolding rows keys forms formOf slotAt counted tagOf rowOf
+wrong = refl

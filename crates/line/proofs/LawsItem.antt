@@ -1,0 +1,257 @@
+-- The items of a line, by the tests that lead to each. Assumes nothing.
+use mathlib.Core.Path.{_≡_, refl, sym, ap, _∙_}
+use mathlib.Core.Bool.{Bool, true, false, cond, _&&_}
+use mathlib.Core.Option.{Option, none, some}
+use mathlib.Core.List.{List, [], _∷_, map}
+use Prim.Native.Nat.{ℕ, zero, suc, _+_, _-_, _/_, _%_, _≤_, _<_}
+use Prim.Native.String.{String}
+use native.Mathlib.Omega.{arith}
+use native.Mathlib.Numerals.{add-one}
+use borrow.Author.Tests.{ltb-true, lt-ltb, le-ltb}
+use lib.Dec.{ltb}
+use lib.ListN.{length, getD, take, drop, set}
+use lib.Seq.{lt-length-set, take-set-le, drop-set-lt, drop-cons, getD-set-same, getD-set-other}
+use Rattle.sheet.specs.Ascii.{ascii}
+use Rattle.sheet.specs.Bytes.{same, split, index, long}
+use Rattle.sheet.specs.Forms.{partial, complete, entry, line, lineUnknown, number, nothing, placeIn, wordNumber, one, markOr, isPartial, item}
+use Rattle.scan.specs.declared.Number as N
+use Rattle.scan.specs.Numbers.{numberOf, placed}
+use Rattle.scan.proofs.Decimals.{index-small}
+use Rattle.scan.proofs.Wordlists.{words-are}
+use Rattle.line.specs.Codes.{modeOf, slotOf, specials}
+use Rattle.line.specs.Written.{Item}
+
+-- ---- words
+
+word-is : (f : List ℕ) (ws : List String) (l : List ℕ) (r : N.Number) → map ascii ws ≡ split 44 l → numberOf r ≡ placed f (split 44 l) → one (numberOf r) ≡ one (wordNumber f ws)
+word-is f ws l r e h = ap one (words-are f ws l r e h)
+
+abbrev partialBytes : List ℕ
+partialBytes = 112 ∷ 97 ∷ 114 ∷ 116 ∷ 105 ∷ 97 ∷ 108 ∷ []
+
+abbrev completeBytes : List ℕ
+completeBytes = 99 ∷ 111 ∷ 109 ∷ 112 ∷ 108 ∷ 101 ∷ 116 ∷ 101 ∷ []
+
+module _ (f : List ℕ) (r : N.Number) where
+  pub entry-partial : (p : Bool) → p ≡ true → numberOf r ≡ placed f (split 44 partialBytes) → one (numberOf r) ≡ item (modeOf p) entry f
+  entry-partial p e h = rw e (word-is f ("partial" ∷ []) partialBytes r refl h)
+
+  pub entry-complete : (p : Bool) → p ≡ false → numberOf r ≡ placed f (split 44 completeBytes) → one (numberOf r) ≡ item (modeOf p) entry f
+  entry-complete p e h = rw e (word-is f ("complete" ∷ []) completeBytes r refl h)
+
+-- ---- marks and indices
+
+pub mark-is : (f k : List ℕ) (b : Bool) → b ≡ same f k → b ≡ true → numberOf (N.the-variants.Value 10000) ≡ markOr (same f k) (index f)
+mark-is f k b e t = rw (← e, t) refl
+
+pub unmarked-is : (f k : List ℕ) (b : Bool) (r : N.Number) → b ≡ same f k → b ≡ false → numberOf r ≡ index f → numberOf r ≡ markOr (same f k) (index f)
+unmarked-is f k b r e t h = rw (← e, t) h
+
+-- ---- slots by their numbers
+
+module _ (p : Bool) (s : ℕ) (f : List ℕ) (r : N.Number) where
+  pub unknown-partial : 32 ≤ s → p ≡ true → numberOf r ≡ markOr (same f (63 ∷ [])) (index f) → one (numberOf r) ≡ item (modeOf p) (slotOf s) f
+  unfolding slotOf
+  unknown-partial h e q = rw (le-ltb s 16 (omega arith), le-ltb s 32 h, e) (ap one q)
+
+  pub unknown-complete : 32 ≤ s → p ≡ false → numberOf r ≡ index f → one (numberOf r) ≡ item (modeOf p) (slotOf s) f
+  unfolding slotOf
+  unknown-complete h e q = rw (le-ltb s 16 (omega arith), le-ltb s 32 h, e) (ap one q)
+
+  pub line-index : s < 32 → 16 ≤ s → numberOf r ≡ index f → one (numberOf r) ≡ item (modeOf p) (slotOf s) f
+  unfolding slotOf
+  line-index h g q = rw (le-ltb s 16 g, lt-ltb s 32 h) (ap one q)
+
+  pub slot-2 : s ≡ 2 → one (numberOf r) ≡ item (modeOf p) entry f → one (numberOf r) ≡ item (modeOf p) (slotOf s) f
+  unfolding slotOf
+  slot-2 e q = rw e q
+
+  pub slot-3 : s ≡ 3 → numberOf r ≡ placed f (split 44 (101 ∷ 44 ∷ 97 ∷ [])) → one (numberOf r) ≡ item (modeOf p) (slotOf s) f
+  unfolding slotOf
+  slot-3 e q = rw e (word-is f ("e" ∷ "a" ∷ []) (101 ∷ 44 ∷ 97 ∷ []) r refl q)
+
+  pub slot-4 : s ≡ 4 → numberOf r ≡ placed f (split 44 (111 ∷ 44 ∷ 114 ∷ [])) → one (numberOf r) ≡ item (modeOf p) (slotOf s) f
+  unfolding slotOf
+  slot-4 e q = rw e (word-is f ("o" ∷ "r" ∷ []) (111 ∷ 44 ∷ 114 ∷ []) r refl q)
+
+  pub slot-5 : s ≡ 5 → numberOf r ≡ placed f (split 44 (48 ∷ 44 ∷ 49 ∷ [])) → one (numberOf r) ≡ item (modeOf p) (slotOf s) f
+  unfolding slotOf
+  slot-5 e q = rw e (word-is f ("0" ∷ "1" ∷ []) (48 ∷ 44 ∷ 49 ∷ []) r refl q)
+
+  pub slot-6 : s ≡ 6 → numberOf r ≡ placed f (split 44 (112 ∷ 44 ∷ 97 ∷ 44 ∷ 114 ∷ 44 ∷ 99 ∷ [])) → one (numberOf r) ≡ item (modeOf p) (slotOf s) f
+  unfolding slotOf
+  slot-6 e q = rw e (word-is f ("p" ∷ "a" ∷ "r" ∷ "c" ∷ []) (112 ∷ 44 ∷ 97 ∷ 44 ∷ 114 ∷ 44 ∷ 99 ∷ []) r refl q)
+
+  pub slot-7 : s ≡ 7 → numberOf r ≡ placed f (split 44 (112 ∷ 101 ∷ 114 ∷ 109 ∷ 105 ∷ 116 ∷ 44 ∷ 102 ∷ 111 ∷ 114 ∷ 98 ∷ 105 ∷ 100 ∷ [])) → one (numberOf r) ≡ item (modeOf p) (slotOf s) f
+  unfolding slotOf
+  slot-7 e q = rw e (word-is f ("permit" ∷ "forbid" ∷ []) (112 ∷ 101 ∷ 114 ∷ 109 ∷ 105 ∷ 116 ∷ 44 ∷ 102 ∷ 111 ∷ 114 ∷ 98 ∷ 105 ∷ 100 ∷ []) r refl q)
+
+  pub slot-8 : s ≡ 8 → numberOf r ≡ markOr (same f (45 ∷ [])) (index f) → one (numberOf r) ≡ item (modeOf p) (slotOf s) f
+  unfolding slotOf
+  slot-8 e q = rw e (ap one q)
+
+  pub slot-9 : s ≡ 9 → numberOf r ≡ markOr (same f (42 ∷ [])) (index f) → one (numberOf r) ≡ item (modeOf p) (slotOf s) f
+  unfolding slotOf
+  slot-9 e q = rw e (ap one q)
+
+pub slot-none : (p : Bool) (s : ℕ) (f : List ℕ) → (s ≡ 0 → ⊥) → s < 16 → (s ≡ 2 → ⊥) → (s ≡ 3 → ⊥) → (s ≡ 4 → ⊥) → (s ≡ 5 → ⊥) → (s ≡ 6 → ⊥) → (s ≡ 7 → ⊥) → (s ≡ 8 → ⊥) → (s ≡ 9 → ⊥) → one (numberOf N.the-variants.Refused) ≡ item (modeOf p) (slotOf s) f
+unfolding slotOf
+slot-none p zero f z h a b c d e g i j = absurd (z refl)
+slot-none p (suc zero) f z h a b c d e g i j = refl
+slot-none p (suc (suc zero)) f z h a b c d e g i j = absurd (a refl)
+slot-none p (suc (suc (suc zero))) f z h a b c d e g i j = absurd (b refl)
+slot-none p (suc (suc (suc (suc zero)))) f z h a b c d e g i j = absurd (c refl)
+slot-none p (suc (suc (suc (suc (suc zero))))) f z h a b c d e g i j = absurd (d refl)
+slot-none p (suc (suc (suc (suc (suc (suc zero)))))) f z h a b c d e g i j = absurd (e refl)
+slot-none p (suc (suc (suc (suc (suc (suc (suc zero))))))) f z h a b c d e g i j = absurd (g refl)
+slot-none p (suc (suc (suc (suc (suc (suc (suc (suc zero)))))))) f z h a b c d e g i j = absurd (i refl)
+slot-none p (suc (suc (suc (suc (suc (suc (suc (suc (suc zero))))))))) f z h a b c d e g i j = absurd (j refl)
+slot-none p (suc (suc (suc (suc (suc (suc (suc (suc (suc (suc n)))))))))) f z h a b c d e g i j = rw (lt-ltb (suc (suc (suc (suc (suc (suc (suc (suc (suc (suc n)))))))))) 16 h) refl
+
+no-some : {A X : Type 0} {a : A} → none ≡ some a → X
+no-some e = let z : _≡_ {A = ℕ} 0 1 = cc in absurd (omega arith)
+
+-- ---- an item of one number is at most a mark
+
+abbrev Low : Option ℕ → Type 0
+Low o = (n : ℕ) → o ≡ some n → n ≤ 10000
+
+some-is : {m n : ℕ} → some m ≡ some n → m ≡ n
+some-is e = cc
+
+low-index : (f : List ℕ) → Low (index f)
+low-index f n e = omega (arith, index-small f n (sym e))
+
+low-mark : (b : Bool) (f : List ℕ) → Low (markOr b (index f))
+low-mark true f n e = omega (arith, some-is e)
+low-mark false f n e = low-index f n e
+
+low-word : (f : List ℕ) (ws : List String) → length ws ≤ 10000 → Low (wordNumber f ws)
+low-word f ws h n e = go (ltb (placeIn f ws) (length ws)) refl e
+  where
+    go : (t : Bool) → ltb (placeIn f ws) (length ws) ≡ t → cond t (some (placeIn f ws)) none ≡ some n → n ≤ 10000
+    go true p q = omega (arith, some-is q, ltb-true (placeIn f ws) (length ws) p)
+    go false p q = no-some q
+
+low-one : (o : Option ℕ) → Low o → (x : ℕ) → one o ≡ some (x ∷ []) → x ≤ 10000
+low-one none h x e = no-some e
+low-one (some n) h x e = let z : n ≡ x = cc in omega (arith, h n refl)
+
+special-low : (p : Bool) (s : ℕ) (f : List ℕ) (x : ℕ) → (s ≡ 0 → ⊥) → item (modeOf p) (getD specials s nothing) f ≡ some (x ∷ []) → x ≤ 10000
+special-low p zero f x z e = absurd (z refl)
+special-low p (suc zero) f x z e = no-some e
+special-low true (suc (suc zero)) f x z e = low-one (wordNumber f ("partial" ∷ [])) (low-word f ("partial" ∷ []) (omega arith)) x e
+special-low false (suc (suc zero)) f x z e = low-one (wordNumber f ("complete" ∷ [])) (low-word f ("complete" ∷ []) (omega arith)) x e
+special-low p (suc (suc (suc zero))) f x z e = low-one (wordNumber f ("e" ∷ "a" ∷ [])) (low-word f ("e" ∷ "a" ∷ []) (omega arith)) x e
+special-low p (suc (suc (suc (suc zero)))) f x z e = low-one (wordNumber f ("o" ∷ "r" ∷ [])) (low-word f ("o" ∷ "r" ∷ []) (omega arith)) x e
+special-low p (suc (suc (suc (suc (suc zero))))) f x z e = low-one (wordNumber f ("0" ∷ "1" ∷ [])) (low-word f ("0" ∷ "1" ∷ []) (omega arith)) x e
+special-low p (suc (suc (suc (suc (suc (suc zero)))))) f x z e = low-one (wordNumber f ("p" ∷ "a" ∷ "r" ∷ "c" ∷ [])) (low-word f ("p" ∷ "a" ∷ "r" ∷ "c" ∷ []) (omega arith)) x e
+special-low p (suc (suc (suc (suc (suc (suc (suc zero))))))) f x z e = low-one (wordNumber f ("permit" ∷ "forbid" ∷ [])) (low-word f ("permit" ∷ "forbid" ∷ []) (omega arith)) x e
+special-low p (suc (suc (suc (suc (suc (suc (suc (suc zero)))))))) f x z e = low-one (markOr (same f (45 ∷ [])) (index f)) (low-mark (same f (45 ∷ [])) f) x e
+special-low p (suc (suc (suc (suc (suc (suc (suc (suc (suc zero))))))))) f x z e = low-one (markOr (same f (42 ∷ [])) (index f)) (low-mark (same f (42 ∷ [])) f) x e
+special-low p (suc (suc (suc (suc (suc (suc (suc (suc (suc (suc n)))))))))) f x z e = no-some e
+
+slot-low : (p : Bool) (s : ℕ) (f : List ℕ) (x : ℕ) → (s ≡ 0 → ⊥) → item (modeOf p) (slotOf s) f ≡ some (x ∷ []) → x ≤ 10000
+unfolding slotOf
+slot-low p s f x z e = go p (ltb s 16) (ltb s 32) e
+  where
+    go : (p t u : Bool) → item (modeOf p) (cond t (getD specials s nothing) (cond u (line (s - 16)) (lineUnknown (s - 32)))) f ≡ some (x ∷ []) → x ≤ 10000
+    go p true u q = special-low p s f x z q
+    go p false true q = low-one (index f) (low-index f) x q
+    go p false false q = low-one (markOr (isPartial (modeOf p) && same f (63 ∷ [])) (index f)) (low-mark (isPartial (modeOf p) && same f (63 ∷ [])) f) x q
+
+-- ---- an item in words
+
+pub one-word : (w : List ℕ) (k x : ℕ) → k < length w → take 1 (drop k (set w k x)) ≡ x ∷ []
+one-word w k x h = rw (drop-cons (set w k x) k 0 (lt-length-set w k x h), getD-set-same w k x 0 h) refl
+
+pub two-words : (w : List ℕ) (k x y : ℕ) → k + 1 < length w → take 2 (drop k (set (set w k x) (k + 1) y)) ≡ x ∷ y ∷ []
+two-words w k x y h =
+    let u = set (set w k x) (k + 1) y in
+    let h₁ : k < length w = omega arith in
+    let a : k < length u = lt-length-set (set w k x) (k + 1) y (lt-length-set w k x h₁) in
+    let b : k + 1 < length (set w k x) = lt-length-set w k x h in
+    let d : suc k < length u = rw (← add-one k) (lt-length-set (set w k x) (k + 1) y b) in
+    let g : getD u k 0 ≡ x = getD-set-other (set w k x) (k + 1) k y 0 (λ z. absurd (omega arith)) ∙ getD-set-same w k x 0 h₁ in
+    let e : getD u (suc k) 0 ≡ y = rw (← add-one k) (getD-set-same (set w k x) (k + 1) y 0 b) in
+    rw (drop-cons u k 0 a, drop-cons u (suc k) 0 d, g, e) refl
+
+-- a well-formed item has a byte
+long-wide : (f : List ℕ) (v : ℕ) → long f ≡ some v → 1 ≤ length f
+long-wide [] v e = no-some e
+long-wide (x ∷ f) v e = omega arith
+
+special-empty : (p : Bool) (s : ℕ) → item (modeOf p) (getD specials s nothing) [] ≡ none
+special-empty p zero = refl
+special-empty p (suc zero) = refl
+special-empty true (suc (suc zero)) = refl
+special-empty false (suc (suc zero)) = refl
+special-empty p (suc (suc (suc zero))) = refl
+special-empty p (suc (suc (suc (suc zero)))) = refl
+special-empty p (suc (suc (suc (suc (suc zero))))) = refl
+special-empty p (suc (suc (suc (suc (suc (suc zero)))))) = refl
+special-empty p (suc (suc (suc (suc (suc (suc (suc zero))))))) = refl
+special-empty p (suc (suc (suc (suc (suc (suc (suc (suc zero)))))))) = refl
+special-empty p (suc (suc (suc (suc (suc (suc (suc (suc (suc zero))))))))) = refl
+special-empty p (suc (suc (suc (suc (suc (suc (suc (suc (suc (suc n)))))))))) = refl
+
+slot-empty : (p : Bool) (s : ℕ) → item (modeOf p) (slotOf s) [] ≡ none
+unfolding slotOf
+slot-empty p s = go p (ltb s 16) (ltb s 32)
+  where
+    go : (p t u : Bool) → item (modeOf p) (cond t (getD specials s nothing) (cond u (line (s - 16)) (lineUnknown (s - 32)))) [] ≡ none
+    go p true u = special-empty p s
+    go p false true = refl
+    go true false false = refl
+    go false false false = refl
+
+item-wide : (p : Bool) (s : ℕ) (f l : List ℕ) → item (modeOf p) (slotOf s) f ≡ some l → 1 ≤ length f
+item-wide p s [] l e = no-some (sym (slot-empty p s) ∙ e)
+item-wide p s (x ∷ f) l e = omega arith
+
+module _ (p : Bool) (s k : ℕ) (f w : List ℕ) (m : N.Number) where
+  -- a long
+  pub put-long : (v : ℕ) → s ≡ 0 → numberOf m ≡ long f → m ≡ N.the-variants.Value v → (k + 2 ≤ 16384) × (16384 ≤ length w)
+      → Item (item (modeOf p) (slotOf s) f) f w (set (set w k (v / 4294967296)) (k + 1) (v % 4294967296)) s k 2
+  unfolding slotOf
+  put-long v e h g l =
+      let q : long f ≡ some v = sym h ∙ ap numberOf g in
+      record {
+        item = rw (e, q) (ap some (sym (two-words w k (v / 4294967296) (v % 4294967296) (omega (arith, l .0, l .1)))));
+        kept = record {
+          below = take-set-le k (set w k (v / 4294967296)) (k + 1) (v % 4294967296) (omega arith) ∙ take-set-le k w k (v / 4294967296) (omega arith);
+          rest = drop-set-lt 16384 (set w k (v / 4294967296)) (k + 1) (v % 4294967296) (omega (arith, l .0)) ∙ drop-set-lt 16384 w k (v / 4294967296) (omega (arith, l .0));
+        };
+        few = omega arith;
+        two = λ z. e;
+        wide = λ z. long-wide f v q;
+      }
+
+  nothing-put : item (modeOf p) (slotOf s) f ≡ none → Item (item (modeOf p) (slotOf s) f) f w w s k 0
+  nothing-put e =
+      record { item = e; kept = record { below = refl; rest = refl }; few = omega arith; two = λ z. absurd (omega arith); wide = λ z. absurd (omega arith) }
+
+  pub put-no-long : s ≡ 0 → numberOf m ≡ long f → m ≡ N.the-variants.Refused → Item (item (modeOf p) (slotOf s) f) f w w s k 0
+  unfolding slotOf
+  put-no-long e h g = let q : long f ≡ none = sym h ∙ ap numberOf g in nothing-put (rw (e, q) refl)
+
+  module _ (h : one (numberOf m) ≡ item (modeOf p) (slotOf s) f) where
+    pub put-bad : m ≡ N.the-variants.Refused → Item (item (modeOf p) (slotOf s) f) f w w s k 0
+    put-bad g = nothing-put (sym h ∙ ap (λ (n : N.Number). one (numberOf n)) g)
+
+    module _ (x : ℕ) (g : m ≡ N.the-variants.Value x) where
+      one-is : item (modeOf p) (slotOf s) f ≡ some (x ∷ [])
+      one-is = sym h ∙ ap (λ (n : N.Number). one (numberOf n)) g
+
+      pub one-low : (s ≡ 0 → ⊥) → x ≤ 10000
+      one-low z = slot-low p s f x z one-is
+
+      pub put-one : (k + 2 ≤ 16384) × (16384 ≤ length w) → Item (item (modeOf p) (slotOf s) f) f w (set w k x) s k 1
+      put-one l =
+          record {
+            item = one-is ∙ ap some (sym (one-word w k x (omega (arith, l .0, l .1))));
+            kept = record { below = take-set-le k w k x (omega arith); rest = drop-set-lt 16384 w k x (omega (arith, l .0)) };
+            few = omega arith;
+            two = λ z. absurd (omega arith);
+            wide = λ z. item-wide p s f (x ∷ []) one-is;
+          }

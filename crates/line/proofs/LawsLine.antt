@@ -1,0 +1,306 @@
+-- The row of a whole line. Assumes nothing.
+use mathlib.Core.Path.{_≡_, refl, sym, ap, _∙_}
+use mathlib.Core.Bool.{Bool, true, false, cond, _&&_}
+use mathlib.Core.Option.{Option, none, some}
+use mathlib.Core.List.{List, [], _∷_, map}
+use Prim.Native.Nat.{ℕ, zero, suc, _+_, _-_, _*_, _≤_, _<_}
+use native.Mathlib.Omega.{arith}
+use borrow.Author.Tests.{ne-eqb, le-leb, lt-leb, ltb-true, eq-eqb}
+use lib.Dec.{leb, ltb, eqb}
+use lib.ListN.{length, take, drop, set, length-drop}
+use lib.Seq.{take-set-le, drop-set-lt, lt-length-set, length-take-le, drop-drop}
+use Rattle.words.specs.Log.{part}
+use Rattle.sheet.specs.Ascii.{ascii}
+use Rattle.sheet.specs.Bytes.{upTo, split, same, printable}
+use Rattle.sheet.specs.Forms.{Form, entry, plain, keys, wordNumber, forms, formOf, formIn, tagOf, keyOf, counted, orEmpty, itemsFrom, rowHeaded, heading, rowOfText, rowOfValue, rowOf, tag, TEXT}
+use Rattle.sheet.proofs.Parsed.{allBelow, between, tags-between}
+use Rattle.scan.specs.declared.Cursor.{Cursor}
+use Rattle.scan.specs.declared.Heading as H
+use Rattle.scan.specs.declared.Line as L
+use Rattle.scan.specs.Places.{place, keyed, headingOf, entered, lineTo, lineAt}
+use Rattle.scan.proofs.Scans.{drop-take}
+use Rattle.scan.proofs.Wordlists.{word-number}
+use Rattle.scan.proofs.Readings.{row-keyed, row-malformed}
+use Rattle.table.specs.Layout.{textRow}
+use Rattle.line.specs.Codes.{modeOf}
+use Rattle.line.specs.Written.{Row, Text, Line, rowFrom, room}
+use Rattle.line.proofs.LawsItem.{one-word, two-words}
+use Rattle.line.proofs.LawsItems.{more-words}
+use Rattle.line.proofs.LawsTag.{wide, placed-wide, tag-key}
+
+-- ---- a text in words
+
+module _ (start len top : ℕ) (w : List ℕ) where
+  pub text-long : 128 < len → Text start len w w top 0
+  text-long h = record { words = rw (lt-leb len 128 h) refl; count = rw (lt-leb len 128 h) refl; kept = record { below = refl; rest = refl } }
+
+  pub text-row : len ≤ 128 → 16384 ≤ length w → top + 3 ≤ 16384 → Text start len w (set (set (set w top 1) (top + 1) start) (top + 1 + 1) len) top 3
+  text-row h l r =
+      let u = set w top 1 in
+      let w₂ = set (set u (top + 1) start) (top + 1 + 1) len in
+      let k : top + 1 - top ≡ 1 = omega arith in
+      let q : top + 1 + 2 - top ≡ 3 = omega arith in
+      let first : take (top + 1 - top) (drop top u) ≡ 1 ∷ [] = rw k (one-word w top 1 (omega arith)) in
+      let rest : take 2 (drop (top + 1) w₂) ≡ start ∷ len ∷ [] = two-words u (top + 1) start len (lt-length-set w top 1 (omega arith)) in
+      let same : take (top + 1) w₂ ≡ take (top + 1) u = take-set-le (top + 1) (set u (top + 1) start) (top + 1 + 1) len (omega arith) ∙ take-set-le (top + 1) u (top + 1) start (omega arith) in
+      let all : take 3 (drop top w₂) ≡ 1 ∷ start ∷ len ∷ [] =
+      sym (more-words u w₂ top (top + 1) 2 (omega arith) same ∙ ap (λ (i : ℕ). take i (drop top w₂)) q) ∙ rw (first, rest) refl in
+      record {
+        words = all ∙ sym (rw (le-leb len 128 h) refl);
+        count = rw (le-leb len 128 h) refl;
+        kept = record {
+          below = take-set-le top (set u (top + 1) start) (top + 1 + 1) len (omega arith) ∙ take-set-le top u (top + 1) start (omega arith) ∙ take-set-le top w top 1 (omega arith);
+          rest = drop-set-lt 16384 (set u (top + 1) start) (top + 1 + 1) len (omega arith) ∙ drop-set-lt 16384 u (top + 1) start (omega arith) ∙ drop-set-lt 16384 w top 1 (omega arith);
+        };
+      }
+
+-- ---- the key of a row is that of its line
+
+key-of-none : keyOf [] ≡ 13
+unfolding keyOf formOf forms
+key-of-none = refl
+
+row-key : (k j t : ℕ) (w : List ℕ) (b : Bool) (o : Option (List ℕ)) → j < 13 → t ≡ tagOf k w → keyOf (cond b (orEmpty t o) []) ≡ j → k ≡ j
+unfolding keyOf
+row-key k j t w true none h q e = absurd (omega (arith, key-of-none, e))
+row-key k j t w true (some l) h q e = tag-key k j w h (ap (λ (i : ℕ). formOf i .key) (sym q) ∙ e)
+row-key k j t w false o h q e = absurd (omega (arith, key-of-none, e))
+
+text-key : (v : List ℕ) (t : Bool) → keyOf (cond t (1 ∷ v) []) ≡ 11 → ⊥
+unfolding keyOf formOf forms
+text-key v true e = omega arith
+text-key v false e = omega arith
+
+-- no row but a text's begins with 1
+second-form : (k : ℕ) (w : List ℕ) (f g : Form) (fs : List Form) → eqb k (g .key) ≡ false → formIn k w (f ∷ g ∷ fs) ≡ 1 → ⊥
+second-form k w f g fs h e = go (eqb k (f .key) && same w (ascii (f .name))) (rw h at e)
+  where
+    go : (t : Bool) → cond t 0 (suc (suc (formIn k w fs))) ≡ 1 → ⊥
+    go true e = omega arith
+    go false e = omega arith
+
+tag-not-text : (k : ℕ) (w : List ℕ) → (k ≡ 1 → ⊥) → tagOf k w ≡ 1 → ⊥
+unfolding tagOf forms
+tag-not-text k w h e = second-form k w (plain 0 "" (entry ∷ [])) (plain 1 "" []) (drop 2 forms) (ne-eqb k 1 h) e
+
+from-row : (sheet : List ℕ) (t : ℕ) (b : Bool) (o : Option (List ℕ)) → (t ≡ 1 → ⊥) → rowFrom sheet (cond b (orEmpty t o) []) ≡ cond b (orEmpty t o) []
+from-row sheet t true none h = refl
+from-row sheet t true (some l) h = rw (ne-eqb t 1 h) refl
+from-row sheet t false o h = refl
+
+no-length : (l : List ℕ) → 0 ≡ length l → l ≡ []
+no-length [] e = refl
+no-length (x ∷ l) e = absurd (omega arith)
+
+pub no-row : (sheet row w : List ℕ) (top n : ℕ) → row ≡ [] → Line sheet row w w top 0 n
+no-row sheet row w top n e =
+    record {
+      words = sym e;
+      empty = λ z. e;
+      full = λ z. refl;
+      kept = record { below = refl; rest = refl };
+      tight = omega arith;
+      node = λ z. absurd (no-node (sym (ap keyOf e) ∙ z));
+    }
+  where
+    no-node : keyOf [] ≡ 11 → ⊥
+    no-node z = omega (arith, key-of-none, z)
+
+-- ---- the row of a line whose key and `=` are known
+
+tight-row : (k r v : ℕ) → 2 * r ≤ room k v → 2 * r ≤ v + 5
+tight-row k r v a = go (eqb k 11) a
+  where
+    go : (t : Bool) → 2 * r ≤ cond t v (v + 5) → 2 * r ≤ v + 5
+    go true h = omega arith
+    go false h = omega arith
+
+tight-node : (k r v : ℕ) → k ≡ 11 → 2 * r ≤ room k v → 2 * r ≤ v
+tight-node k r v q a = rw q at a
+
+tight-text : (t : Bool) (r : ℕ) → r ≡ cond t 3 0 → 2 * r ≤ 6
+tight-text true r a = omega arith
+tight-text false r a = omega arith
+
+text-from : (sheet v : List ℕ) (start : ℕ) (t : Bool) → v ≡ part sheet start (start + length v) → rowFrom sheet (cond t (1 ∷ start ∷ length v ∷ []) []) ≡ cond t (1 ∷ v) []
+text-from sheet v start true x = ap (λ (y : List ℕ). 1 ∷ y) (sym x)
+text-from sheet v start false x = refl
+
+text-none : (v : List ℕ) (t : Bool) → _≡_ {A = ℕ} 0 (cond t 3 0) → cond t (1 ∷ v) [] ≡ []
+text-none v true x = absurd (omega arith)
+text-none v false x = refl
+
+text-full : (v : List ℕ) (t : Bool) → cond t (1 ∷ v) [] ≡ [] → _≡_ {A = ℕ} (cond t 3 0) 0
+text-full v true x = absurd (omega (arith, ap length x))
+text-full v false x = refl
+
+pub front-long : (sheet s : List ℕ) (end : ℕ) → s ≡ take end sheet → end ≤ length sheet → length s ≡ end
+front-long sheet s end hs high = ap length hs ∙ length-take-le end sheet high
+
+module _ (sheet w w₂ s : List ℕ) (p : Bool) (k top r end : ℕ) (c : Cursor) (hs : s ≡ take end sheet) (low : c .at < end) (high : end ≤ length sheet) where
+  long : length s ≡ end
+  long = front-long sheet s end hs high
+
+  value-is : drop (c .at + 1) s ≡ part sheet (c .at + 1) end
+  value-is = ap (drop (c .at + 1)) hs ∙ drop-take end (c .at + 1) sheet
+
+  pub entry-row : (k ≡ 1 → ⊥) → Row (rowHeaded (modeOf p) k (heading k (split 44 (drop (c .at + 1) s)))) w w₂ top r (room k (length s - (c .at + 1)))
+      → Line sheet (rowOfValue (modeOf p) k (part sheet (c .at + 1) end)) w w₂ top r (end + 4 - c .at)
+  entry-row n g = rw (← value-is) (by-value (drop (c .at + 1) s) g)
+    where
+      by-value : (v : List ℕ) → Row (rowHeaded (modeOf p) k (heading k (split 44 v))) w w₂ top r (room k (length s - (c .at + 1))) → Line sheet (rowOfValue (modeOf p) k v) w w₂ top r (end + 4 - c .at)
+      by-value v g =
+          let hd = heading k (split 44 v) in
+          let t = tagOf k (hd .name) in
+          let b = counted t (length (hd .items)) in
+          let o = itemsFrom (modeOf p) t 0 (hd .items) in
+          let row : rowOfValue (modeOf p) k v ≡ rowHeaded (modeOf p) k hd = rw (ne-eqb k 1 n) refl in
+          let fits : 2 * r ≤ length s - (c .at + 1) + 5 = tight-row k r (length s - (c .at + 1)) (g .tight) in
+          record {
+            words = ap (rowFrom sheet) (g .words) ∙ from-row sheet t b o (tag-not-text k (hd .name) n) ∙ sym row;
+            empty = λ y. row ∙ no-length (rowHeaded (modeOf p) k hd) (sym y ∙ g .count);
+            full = λ y. g .count ∙ ap length (sym row ∙ y);
+            kept = g .kept;
+            tight = omega (arith, fits, long);
+            node = λ y. omega (arith, tight-node k r (length s - (c .at + 1)) (row-key k 11 t (hd .name) b o (omega arith) refl (ap keyOf (sym row) ∙ y)) (g .tight), long);
+          }
+
+  pub entry-text : (v : List ℕ) → v ≡ drop (c .at + 1) s → k ≡ 1 → Text (c .at + 1) (length v) w w₂ top r → Line sheet (rowOfValue (modeOf p) k (part sheet (c .at + 1) end)) w w₂ top r (end + 4 - c .at)
+  entry-text v hv n g =
+      let size : length v ≡ end - (c .at + 1) = ap length hv ∙ length-drop (c .at + 1) s ∙ ap (λ (i : ℕ). i - (c .at + 1)) long in
+      let q : c .at + 1 + length v ≡ end = omega arith in
+      let is : v ≡ part sheet (c .at + 1) end = hv ∙ value-is in
+      let row : rowOfValue (modeOf p) k (part sheet (c .at + 1) end) ≡ rowOfText v = rw (n, is) refl in
+      record {
+        words = ap (rowFrom sheet) (g .words) ∙ text-from sheet v (c .at + 1) (leb (length v) 128) (is ∙ ap (part sheet (c .at + 1)) (sym q)) ∙ sym row;
+        empty = λ y. row ∙ text-none v (leb (length v) 128) (sym y ∙ g .count);
+        full = λ y. g .count ∙ text-full v (leb (length v) 128) (sym row ∙ y);
+        kept = g .kept;
+        tight = omega (arith, tight-text (leb (length v) 128) r (g .count));
+        node = λ y. absurd (text-key v (leb (length v) 128) (ap keyOf (sym row) ∙ y));
+      }
+
+-- ---- the row of a line by its heading
+
+take-again : (n : ℕ) (l : List ℕ) → take (length (take n l)) l ≡ take n l
+take-again zero l = refl
+take-again (suc n) [] = refl
+take-again (suc n) (x ∷ l) = ap (λ (k : List ℕ). x ∷ k) (take-again n l)
+
+take-short : (n : ℕ) (l : List ℕ) → length (take n l) ≤ length l
+take-short zero l = omega arith
+take-short (suc n) [] = omega arith
+take-short (suc n) (x ∷ l) = omega (arith, take-short n l)
+
+-- a part that has a byte ends in the whole
+pub part-in : (sheet : List ℕ) (from to e : ℕ) → e < length (part sheet from to) → from + length (part sheet from to) ≤ length sheet
+part-in sheet from to e h = omega (arith, take-short (to - from) (drop from sheet), length-drop from sheet)
+
+keys-wide : wide 4 (map ascii keys) ≡ true
+unfolding wide keys
+keys-wide = refl
+
+-- a key has at least four letters
+key-wide : (f : List ℕ) (k : ℕ) → wordNumber f keys ≡ some k → 4 ≤ length f
+key-wide f k e = placed-wide 4 f (map ascii keys) k keys-wide (sym (word-number f keys) ∙ e)
+
+heading-wide : (l : List ℕ) (k n : ℕ) → H.the-variants.Keyed k n ≡ headingOf l → 4 ≤ n
+unfolding headingOf
+heading-wide l k n e = go (printable l) (ltb (upTo 61 l) (length l)) refl (wordNumber (take (upTo 61 l) l) keys) refl e
+  where
+    none-of : H.the-variants.Keyed k n ≡ H.the-variants.Malformed → 4 ≤ n
+    none-of q = let z : _≡_ {A = ℕ} 0 1 = cc in absurd (omega arith)
+
+    go : (t u : Bool) → ltb (upTo 61 l) (length l) ≡ u → (o : Option ℕ) → wordNumber (take (upTo 61 l) l) keys ≡ o
+        → H.the-variants.Keyed k n ≡ cond (t && u) (keyed (upTo 61 l) o) H.the-variants.Malformed → 4 ≤ n
+    go false u d o p q = none-of q
+    go true false d o p q = none-of q
+    go true true d none p q = none-of q
+    go true true d (some j) p q =
+        let z : n ≡ upTo 61 l = cc in
+        let i = ltb-true (upTo 61 l) (length l) d in
+        omega (arith, key-wide (take (upTo 61 l) l) j p, length-take-le (upTo 61 l) l (omega (arith, i)), z)
+
+line-wider : {sheet row w w₂ : List ℕ} {top r : ℕ} (b b₂ : ℕ) → b ≤ b₂ → Line sheet row w w₂ top r b → Line sheet row w w₂ top r b₂
+line-wider b b₂ h g =
+    record { words = g .words; empty = g .empty; full = g .full; kept = g .kept; tight = omega (arith, g .tight); node = λ y. omega (arith, g .node y) }
+
+module _ (sheet l w : List ℕ) (p : Bool) (top from to : ℕ) (hl : l ≡ part sheet from to) (h : H.Heading) (hh : h ≡ headingOf l) where
+  pub line-malformed : h ≡ H.the-variants.Malformed → Line sheet (rowOf (modeOf p) (part sheet from to)) w w top 0 (length (part sheet from to))
+  line-malformed v = rw (← hl) (no-row sheet (rowOf (modeOf p) l) w top (length l) (row-malformed (modeOf p) l (sym v ∙ hh)))
+
+  module _ (k n : ℕ) (v : h ≡ H.the-variants.Keyed k n) where
+    headed : (n < length l) × (rowOf (modeOf p) l ≡ rowOfValue (modeOf p) k (drop (n + 1) l))
+    headed = row-keyed (modeOf p) l k n (sym v ∙ hh)
+
+    pub keyed-in : (n < length l) × (from + length l ≤ length sheet)
+    keyed-in = (headed .0, rw hl (part-in sheet from to n (rw (← hl) (headed .0))))
+
+    value-part : drop (n + 1) l ≡ part sheet (from + n + 1) (from + length l)
+    value-part =
+        let d = drop from sheet in
+        let whole : l ≡ take (length l) d = hl ∙ sym (take-again (to - from) d) ∙ ap (λ (x : List ℕ). take (length x) d) (sym hl) in
+        let i : from + (n + 1) ≡ from + n + 1 = omega arith in
+        let j : length l - (n + 1) ≡ from + length l - (from + n + 1) = omega arith in
+        ap (drop (n + 1)) whole ∙ drop-take (length l) (n + 1) d ∙ rw (drop-drop (n + 1) from sheet, i, j) refl
+
+    pub line-keyed : (w₂ : List ℕ) (r : ℕ) → Line sheet (rowOfValue (modeOf p) k (part sheet (from + n + 1) (from + length l))) w w₂ top r (from + length l + 4 - (from + n))
+        → Line sheet (rowOf (modeOf p) (part sheet from to)) w w₂ top r (length (part sheet from to))
+    line-keyed w₂ r g = rw (← hl) (rw (headed .1, value-part) (line-wider (from + length l + 4 - (from + n)) (length l) (omega (arith, headed .0, heading-wide l k n (sym v ∙ hh))) g))
+
+-- the `=` of a line that was read stands behind at least four letters
+pub entry-wide : (s : List ℕ) (c : Cursor) (k : ℕ) (equals : Cursor) (e : ℕ) (next : Cursor) → L.the-variants.Entry k equals e next ≡ lineAt s c → c .at + 4 ≤ equals .at
+unfolding lineTo
+entry-wide s c k equals e next q = go (ltb stop (length s)) (ltb (c .at) (length s)) (headingOf (part s (c .at) stop)) refl q
+  where
+    stop : ℕ
+    stop = c .at + upTo 10 (drop (c .at) s)
+
+    go : (t u : Bool) (h : H.Heading) → headingOf (part s (c .at) stop) ≡ h
+        → L.the-variants.Entry k equals e next ≡ cond t (entered c stop h) (cond u L.the-variants.Faulty L.the-variants.End) → c .at + 4 ≤ equals .at
+    go false true h f y = let z : _≡_ {A = ℕ} 0 1 = cc in absurd (omega arith)
+    go false false h f y = let z : _≡_ {A = ℕ} 0 1 = cc in absurd (omega arith)
+    go true u H.the-variants.Malformed f y = let z : _≡_ {A = ℕ} 0 1 = cc in absurd (omega arith)
+    go true u (H.the-variants.Keyed j n) f y =
+        let x : equals ≡ place (c .line) (c .at + n) = cc in
+        omega (arith, heading-wide (part s (c .at) stop) j n (sym f), ap (λ (d : Cursor). d .at) x)
+
+-- ---- what the words of a row say, to those that read them
+
+-- the words begin with the row's tag
+pub words-tag : (sheet l : List ℕ) → tag (rowFrom sheet l) ≡ tag l
+words-tag sheet [] = refl
+words-tag sheet (t ∷ l) = go (eqb t 1)
+  where
+    go : (b : Bool) → tag (cond b (textRow sheet (t ∷ l)) (t ∷ l)) ≡ t
+    go true = refl
+    go false = refl
+
+only-text : allBelow (between 1 1 1) 50 ≡ true
+unfolding formOf forms
+only-text = refl
+
+text-form : formOf 1 .key ≡ 1
+unfolding formOf forms
+text-form = refl
+
+module _ (sheet l : List ℕ) where
+  key-of : keyOf (rowFrom sheet l) ≡ formOf (tag l) .key
+  unfolding keyOf
+  key-of = ap (λ (t : ℕ). formOf t .key) (words-tag sheet l)
+
+  -- a text's words give its bytes
+  pub words-text : keyOf (rowFrom sheet l) ≡ TEXT → textRow sheet l ≡ rowFrom sheet l
+  words-text e = by-tag l (tags-between 1 1 1 (tag l) (omega arith) only-text (sym key-of ∙ e))
+    where
+      by-tag : (l : List ℕ) → (1 ≤ tag l) × (tag l ≤ 1) → textRow sheet l ≡ rowFrom sheet l
+      by-tag [] h = absurd (omega (arith, h .1))
+      by-tag (t ∷ l) h = let e : t ≡ 1 = omega (arith, h .0, h .1) in rw (eq-eqb t 1 e) refl
+
+  -- the words of any other row are the row
+  pub words-row : (keyOf (rowFrom sheet l) ≡ TEXT → ⊥) → l ≡ rowFrom sheet l
+  words-row n = by-tag l (λ e. n (key-of ∙ ap (λ (t : ℕ). formOf t .key) e ∙ text-form))
+    where
+      by-tag : (l : List ℕ) → (tag l ≡ 1 → ⊥) → l ≡ rowFrom sheet l
+      by-tag [] h = refl
+      by-tag (t ∷ l) h = rw (ne-eqb t 1 h) refl

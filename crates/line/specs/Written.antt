@@ -1,0 +1,67 @@
+-- What has been written into lent words.
+use mathlib.Core.Path.{_≡_}
+use mathlib.Core.Bool.{cond}
+use mathlib.Core.Option.{Option, none, some}
+use mathlib.Core.List.{List, [], _∷_}
+use Prim.Native.Nat.{ℕ, zero, suc, _+_, _-_, _*_, _≤_}
+use lib.Dec.{leb, eqb}
+use lib.ListN.{length, take, drop}
+use Rattle.sheet.specs.Forms.{keyOf, TEXT, NODE}
+use Rattle.table.specs.Layout.{textRow}
+
+-- none where nothing was written
+abbrev pub given : ℕ → List ℕ → Option (List ℕ)
+given zero l = none
+given (suc n) l = some l
+
+-- words below k, and those that no row may take, are as they were
+pub record Kept (was is : List ℕ) (k : ℕ) : Type 0 where
+  pub below : take k is ≡ take k was
+  pub rest : drop 16384 is ≡ drop 16384 was
+
+-- an item, of r words from k on
+pub record Item (o : Option (List ℕ)) (bytes was is : List ℕ) (slot k r : ℕ) : Type 0 where
+  pub item : o ≡ given r (take r (drop k is))
+  pub kept : Kept was is k
+  pub few : r ≤ 2
+  pub two : r ≡ 2 → slot ≡ 0
+  pub wide : 1 ≤ r → 1 ≤ length bytes
+
+-- items of form t after byte e of so many bytes, up to word r, which is 0 where one is malformed; only form 11 has a long, of two words
+pub record Items (o : Option (List ℕ)) (was is : List ℕ) (t k r e bytes : ℕ) : Type 0 where
+  pub items : o ≡ given r (take (r - k) (drop k is))
+  pub kept : Kept was is k
+  pub tight : 2 * r + e ≤ 2 * k + bytes + 2
+  pub close : (t ≡ 11 → ⊥) → 2 * r + e ≤ 2 * k + bytes
+  pub grows : 1 ≤ r → k ≤ r
+
+-- a row of r words from top on
+pub record Row (row was is : List ℕ) (top r bytes : ℕ) : Type 0 where
+  pub count : r ≡ length row
+  pub words : take r (drop top is) ≡ row
+  pub kept : Kept was is top
+  pub tight : 2 * r ≤ bytes
+
+-- room for the words of a row of key k whose value has so many bytes: a node has a type of at least one byte and a name of at least two
+abbrev pub room : ℕ → ℕ → ℕ
+room k bytes = cond (eqb k NODE) bytes (bytes + 5)
+
+-- the row that words hold: a text's words say where its bytes stand in the sheet
+abbrev pub rowFrom : List ℕ → List ℕ → List ℕ
+rowFrom sheet [] = []
+rowFrom sheet (t ∷ l) = cond (eqb t TEXT) (textRow sheet (t ∷ l)) (t ∷ l)
+
+-- a text of len bytes from start on
+pub record Text (start len : ℕ) (was is : List ℕ) (top r : ℕ) : Type 0 where
+  pub words : take r (drop top is) ≡ cond (leb len 128) (1 ∷ start ∷ len ∷ []) []
+  pub count : r ≡ cond (leb len 128) 3 0
+  pub kept : Kept was is top
+
+-- the row of a line of so many bytes, in r words from top on
+pub record Line (sheet row was is : List ℕ) (top r bytes : ℕ) : Type 0 where
+  pub words : rowFrom sheet (take r (drop top is)) ≡ row
+  pub empty : r ≡ 0 → row ≡ []
+  pub full : row ≡ [] → r ≡ 0
+  pub kept : Kept was is top
+  pub tight : 2 * r ≤ bytes + 1
+  pub node : keyOf row ≡ NODE → 2 * r + 6 ≤ bytes + 1

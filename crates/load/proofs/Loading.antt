@@ -1,0 +1,311 @@
+-- The lines in turn. Assumes nothing.
+use mathlib.Core.Path.{_≡_, refl, sym, ap, ap₂, subst, _∙_}
+use mathlib.Core.Bool.{Bool, true, false, cond}
+use mathlib.Core.List.{List, [], _∷_}
+use Prim.Native.Nat.{ℕ, zero, suc, _+_, _-_, _*_, _≤_, _<_}
+use native.Mathlib.Omega.{arith}
+use lib.Dec.{ltb, eqb}
+use lib.ListN.{length, getD, take, drop, set, replicate, length-set}
+use lib.Seq.{getD-set-same, getD-set-other, drop-set-lt}
+use Rattle.words.specs.Log.{zeros, cleared}
+use Rattle.words.proofs.Stores.{length-part, cleared-long, getD-zeros, drop-zeros, length-zeros}
+use Rattle.scan.specs.declared.Cursor.{Cursor}
+use Rattle.scan.specs.declared.Line as L
+use Rattle.scan.specs.Places.{readingBy, LineRead}
+use Rattle.scan.proofs.Splits.{split-parts}
+use Rattle.scan.proofs.Readings.{Entered, line-entered}
+use Rattle.sheet.specs.Bytes.{split}
+use Rattle.sheet.specs.Forms.{Mode, rowOf, NODE}
+use Rattle.sheet.specs.State.{State, bool, empty, count, before, sum}
+use Rattle.sheet.specs.Sheet.{Reading, enough, reach, firstUnused, reads, ending, fault, more, goOn, reading, read}
+use Rattle.table.specs.Layout.{part, USES, heap, rowsAt, rowsOf, linesHeld, depthsHeld, depthsAt, held}
+use Rattle.table.proofs.Rows.{limit-small}
+use Rattle.table.proofs.Held.{tab-same, linesIn, lines-tab, depthBase, depthsIn, depths-tab, counts-held}
+use Rattle.fits.proofs.Remembered as R
+use Rattle.judge.proofs.Settling.{Part, Falling}
+use Rattle.judge.proofs.Alike.{count-alike}
+use Rattle.take.specs.Steps.{Ready, taken, Taken}
+use Rattle.load.specs.Result.{Read}
+
+-- ---- the definition at a first line before the parts of a text
+
+reading-line : (m : Mode) (s : State) (k : ℕ) (l x : List ℕ) → reading m (l ∷ split 10 x) s k ≡ goOn s k (rowOf m l) (fault s (rowOf m l)) (reading m (split 10 x))
+reading-line m s k l x = rw (split-parts 10 x) refl
+
+go-stops : (s : State) (k : ℕ) (r : List ℕ) (f : ℕ) (rest : State → ℕ → Reading) → (f ≡ 0 → ⊥) → goOn s k r f rest ≡ reads s f k
+go-stops s k r zero rest n = absurd (n refl)
+go-stops s k r (suc f) rest n = refl
+
+go-on : (s : State) (k : ℕ) (r : List ℕ) (f : ℕ) (rest : State → ℕ → Reading) → f ≡ 0 → goOn s k r f rest ≡ rest (more s r) (suc k)
+go-on s k r f rest e = rw e refl
+
+-- ---- the end
+
+end-number : (s : State) (k : ℕ) → ending s k .number ≡ cond (enough s 13) (cond (ltb (firstUnused (s .used)) (count s NODE)) 8 0) 3
+end-number s k = go (enough s 13) (ltb (firstUnused (s .used)) (count s NODE))
+  where
+    go : (x y : Bool) → cond x (cond y (reads s 8 (suc (before s NODE + firstUnused (s .used)))) (reads s 0 0)) (reads s 3 k) .number ≡ cond x (cond y 8 0) 3
+    go true true = refl
+    go true false = refl
+    go false y = refl
+
+end-line : (s : State) (k : ℕ) → ending s k .line ≡ cond (enough s 13) (cond (ltb (firstUnused (s .used)) (count s NODE)) (suc (before s NODE + firstUnused (s .used))) 0) k
+end-line s k = go (enough s 13) (ltb (firstUnused (s .used)) (count s NODE))
+  where
+    go : (x y : Bool) → cond x (cond y (reads s 8 (suc (before s NODE + firstUnused (s .used)))) (reads s 0 0)) (reads s 3 k) .line ≡ cond x (cond y (suc (before s NODE + firstUnused (s .used))) 0) k
+    go true true = refl
+    go true false = refl
+    go false y = refl
+
+end-state : (s : State) (k : ℕ) → ending s k .state ≡ s
+end-state s k = go (enough s 13) (ltb (firstUnused (s .used)) (count s NODE))
+  where
+    go : (x y : Bool) → cond x (cond y (reads s 8 (suc (before s NODE + firstUnused (s .used)))) (reads s 0 0)) (reads s 3 k) .state ≡ s
+    go true true = refl
+    go true false = refl
+    go false y = refl
+
+module _ (sheet a b : List ℕ) where
+  pub counts-same : (k : ℕ) → count (held [] a b) k ≡ count (held sheet a b) k
+  counts-same k = sym (count-alike a [] b k) ∙ count-alike a sheet b k
+
+  enough-same : enough (held [] a b) 13 ≡ enough (held sheet a b) 13
+  enough-same =
+      ap₂ (λ (c : List ℕ) (n : ℕ). reach (take 13 c) (1 ∷ 0 ∷ 0 ∷ 0 ∷ n ∷ 0 ∷ 0 ∷ 1 ∷ 1 ∷ 1 ∷ 1 ∷ 0 ∷ 0 ∷ []))
+      (counts-held [] a b ∙ sym (counts-held sheet a b)) (counts-same 2)
+
+  before-same : before (held [] a b) NODE ≡ before (held sheet a b) NODE
+  before-same = ap (λ (c : List ℕ). sum (take 11 c)) (counts-held [] a b ∙ sym (counts-held sheet a b))
+
+  used-same : held [] a b .used ≡ held sheet a b .used
+  unfolding held
+  used-same = refl
+
+  end-same : (k : ℕ) → (ending (held [] a b) k .number ≡ ending (held sheet a b) k .number) × (ending (held [] a b) k .line ≡ ending (held sheet a b) k .line)
+  end-same k =
+      let t : ltb (firstUnused (held [] a b .used)) (count (held [] a b) NODE) ≡ ltb (firstUnused (held sheet a b .used)) (count (held sheet a b) NODE) =
+      ap₂ (λ (u : List ℕ) (n : ℕ). ltb (firstUnused u) n) used-same (counts-same NODE) in (
+        end-number (held [] a b) k ∙ ap₂ (λ (x y : Bool). cond x (cond y 8 0) 3) enough-same t ∙ sym (end-number (held sheet a b) k),
+        end-line (held [] a b) k ∙ ap₂ (λ (x y : Bool). cond x (cond y (suc (before (held [] a b) NODE + firstUnused (held [] a b .used))) 0) k) enough-same t
+            ∙ ap₂ (λ (p : ℕ) (u : List ℕ). cond (enough (held sheet a b) 13) (cond (ltb (firstUnused (held sheet a b .used)) (count (held sheet a b) NODE)) (suc (p + firstUnused u)) 0) k) before-same used-same
+            ∙ sym (end-line (held sheet a b) k),
+      )
+
+-- ---- before the first line
+
+falling-empty : Falling empty
+falling-empty =
+    record {
+      size = refl;
+      low = λ t. omega arith;
+      one = λ t h. absurd (omega arith);
+      falls = λ t y p. none-in p;
+    }
+  where
+    none-in : {X : Type 0} {y : ℕ} → Part bool y → X
+    none-in p = elim p [ ]
+
+module _ (sheet a b a₁ b₁ a₂ : List ℕ) (la : 16384 ≤ length a) (lb : 16384 ≤ length b) (ha : a₁ ≡ cleared a) (hb : b₁ ≡ cleared b) (h₂ : a₂ ≡ set a₁ 14 4003) where
+  a₁-is : a₁ ≡ zeros 16384 a
+  a₁-is = ha ∙ sym (cleared-long a la)
+
+  b₁-is : b₁ ≡ zeros 16384 b
+  b₁-is = hb ∙ sym (cleared-long b lb)
+
+  long-a₁ : length a₁ ≡ length a
+  long-a₁ = ap length a₁-is ∙ length-zeros 16384 a la
+
+  long-b₁ : length b₁ ≡ length b
+  long-b₁ = ap length b₁-is ∙ length-zeros 16384 b lb
+
+  none-yet : (k : ℕ) → k < 14 → getD a₂ k 0 ≡ 0
+  none-yet k h = ap (λ (x : List ℕ). getD x k 0) h₂ ∙ getD-set-other a₁ 14 k 4003 0 (omega arith) ∙ ap (λ (x : List ℕ). getD x k 0) a₁-is ∙ getD-zeros 16384 a k (omega arith)
+
+  top-first : getD a₂ 14 0 ≡ 4003
+  top-first = ap (λ (x : List ℕ). getD x 14 0) h₂ ∙ getD-set-same a₁ 14 4003 0 (omega (arith, long-a₁))
+
+  long-a₂ : length a₂ ≡ length a
+  long-a₂ = ap length h₂ ∙ length-set a₁ 14 4003 ∙ long-a₁
+
+  no-rows : (k : ℕ) → k < 14 → rowsOf a₂ k ≡ []
+  unfolding rowsOf rowsAt
+  no-rows k h = rw (none-yet k h) refl
+
+  state-empty : held sheet a₂ b₁ ≡ empty
+  unfolding held
+  state-empty =
+      let l : linesHeld sheet a₂ ≡ replicate 13 [] = lines-tab sheet a₂ ∙ tab-same (linesIn sheet a₂) (λ (k : ℕ). []) 0 13 (λ k x h. no-lines k h) in
+      let d : depthsHeld a₂ b₁ ≡ replicate 13 [] = depths-tab a₂ b₁ ∙ tab-same (depthsIn a₂ b₁) (λ (k : ℕ). []) 0 13 (λ k x h. no-depths k h) in
+      let u : depthsAt b₁ USES (getD a₂ NODE 0) ≡ [] = rw (none-yet NODE (omega arith)) refl in
+      λ i. record { lines = l i; depths = d i; used = u i }
+    where
+      no-lines : (k : ℕ) → k < 13 → linesIn sheet a₂ k ≡ []
+      no-lines k h = rw (no-rows k (omega arith)) (go (eqb k 1))
+        where
+          go : (t : Bool) → _≡_ {A = List (List ℕ)} (cond t [] []) []
+          go true = refl
+          go false = refl
+
+      no-depths : (k : ℕ) → k < 13 → depthsIn a₂ b₁ k ≡ []
+      no-depths k h = rw (none-yet k (omega arith)) (go (eqb (depthBase k) 0))
+        where
+          go : (t : Bool) → _≡_ {A = List ℕ} (cond t [] []) []
+          go true = refl
+          go false = refl
+
+  blank : (i : ℕ) → i < 4096 → getD b₁ i 0 ≡ 0
+  blank i h = ap (λ (x : List ℕ). getD x i 0) b₁-is ∙ getD-zeros 16384 b i (omega arith)
+
+  ready-first : Ready sheet a₂ b₁
+  ready-first =
+      record {
+        sound = record {
+          few = λ k h. omega (arith, none-yet k h);
+          low = λ k i h l. absurd (omega (arith, none-yet k h));
+          high = λ k i h l. absurd (omega (arith, none-yet k h));
+          ends = λ k h l z. absurd (omega (arith, none-yet k h));
+          over = omega (arith, top-first);
+          long = omega (arith, long-a₂);
+        };
+        made = none-yet 13 (omega arith);
+        known = R.cleared a₂ b₁ blank;
+        blank = λ l. blank;
+        falling = subst Falling (sym state-empty) falling-empty;
+        long = omega (arith, long-b₁);
+      }
+
+  rest-first : (drop 16384 a₂ ≡ drop 16384 a) × (drop 16384 b₁ ≡ drop 16384 b)
+  rest-first = (
+    ap (drop 16384) h₂ ∙ drop-set-lt 16384 a₁ 14 4003 (omega arith) ∙ ap (drop 16384) a₁-is ∙ drop-zeros 16384 a,
+    ap (drop 16384) b₁-is ∙ drop-zeros 16384 b,
+  )
+
+-- ---- the lines
+
+-- what is left to read from byte `at` and line k gives what the whole does
+pub record Progress (m : Mode) (sheet a₀ b₀ a b : List ℕ) (at k : ℕ) : Type 0 where
+  pub left : read m sheet ≡ reading m (split 10 (drop at sheet)) (held sheet a b) k
+  pub in-sheet : at ≤ length sheet
+  pub ready : Ready sheet a b
+  pub room : taken a ≤ 2 * heap + at
+  pub near : k ≤ at + 1
+  pub long-a : length a ≡ length a₀
+  pub long-b : length b ≡ length b₀
+  pub rest-a : drop 16384 a ≡ drop 16384 a₀
+  pub rest-b : drop 16384 b ≡ drop 16384 b₀
+
+progress-start : (m : Mode) (sheet a b a₁ b₁ a₂ : List ℕ) → 16384 ≤ length a → 16384 ≤ length b → a₁ ≡ cleared a → b₁ ≡ cleared b → a₂ ≡ set a₁ 14 4003 → Progress m sheet a₂ b₁ a₂ b₁ 0 1
+unfolding read
+progress-start m sheet a b a₁ b₁ a₂ la lb ha hb h₂ =
+    record {
+      left = ap (λ (s : State). reading m (split 10 sheet) s 1) (sym (state-empty sheet a b a₁ b₁ a₂ la lb ha hb h₂));
+      in-sheet = omega arith;
+      ready = ready-first sheet a b a₁ b₁ a₂ la lb ha hb h₂;
+      room = omega (arith, top-first sheet a b a₁ b₁ a₂ la lb ha hb h₂, none-yet sheet a b a₁ b₁ a₂ la lb ha hb h₂ 11 (omega arith));
+      near = omega arith;
+      long-a = refl;
+      long-b = refl;
+      rest-a = refl;
+      rest-b = refl;
+    }
+
+-- the same at the sheet's first cursor
+pub progress-first : (m : Mode) (sheet a b a₁ b₁ a₂ : List ℕ) (c : Cursor) → c .line ≡ 1 → c .at ≡ 0 → 16384 ≤ length a → 16384 ≤ length b → a₁ ≡ cleared a → b₁ ≡ cleared b → a₂ ≡ set a₁ 14 4003
+    → Progress m sheet a₂ b₁ a₂ b₁ (c .at) (c .line)
+progress-first m sheet a b a₁ b₁ a₂ c hl hc la lb ha hb h₂ =
+    subst (λ (x : ℕ). Progress m sheet a₂ b₁ a₂ b₁ x (c .line)) (sym hc)
+    (subst (Progress m sheet a₂ b₁ a₂ b₁ 0) (sym hl) (progress-start m sheet a b a₁ b₁ a₂ la lb ha hb h₂))
+
+-- what the words at entry, the loop's first words and its last ones leave
+pub from-entry : (x : Reading) (sheet a b a₁ b₁ a₂ a₃ b₃ : List ℕ) (n l : ℕ) → 16384 ≤ length a → 16384 ≤ length b → a₁ ≡ cleared a → b₁ ≡ cleared b → a₂ ≡ set a₁ 14 4003
+    → Read x sheet a₂ b₁ a₃ b₃ n l → Read x sheet a b a₃ b₃ n l
+from-entry x sheet a b a₁ b₁ a₂ a₃ b₃ n l la lb ha hb h₂ r =
+    let q = rest-first sheet a b a₁ b₁ a₂ la lb ha hb h₂ in
+    record { number-is = r .number-is; line-is = r .line-is; state-is = r .state-is; ready = r .ready; room = r .room; rest-a = r .rest-a ∙ q .0; rest-b = r .rest-b ∙ q .1 }
+
+module _ (m : Mode) (sheet a₀ b₀ a b : List ℕ) (c : Cursor) (i : Progress m sheet a₀ b₀ a b (c .at) (c .line)) where
+  pub finish-room : 6272 + getD a 11 0 ≤ length b
+  finish-room = omega (arith, i .ready .long, i .ready .sound .few 11 (omega arith), limit-small 11)
+
+  module _ (r : L.Line) (q : LineRead sheet c r) where
+    by-line : (o : L.Line) → r ≡ o → read m sheet ≡ readingBy m (held sheet a b) (c .line) sheet o
+    by-line o e = i .left ∙ q .reads-on m (held sheet a b) (c .line) ∙ ap (readingBy m (held sheet a b) (c .line) sheet) e
+
+    pub all-read : r ≡ L.the-variants.End → (n l : ℕ) → n ≡ ending (held [] a b) (c .line) .number → l ≡ ending (held [] a b) (c .line) .line → Read (read m sheet) sheet a₀ b₀ a b n l
+    all-read e n l hn hl =
+        let x : read m sheet ≡ ending (held sheet a b) (c .line) = by-line L.the-variants.End e in
+        let y = end-same sheet a b (c .line) in
+        record {
+          number-is = hn ∙ y .0 ∙ sym (ap (λ (z : Reading). z .number) x);
+          line-is = hl ∙ y .1 ∙ sym (ap (λ (z : Reading). z .line) x);
+          state-is = λ z. sym (ap (λ (z : Reading). z .state) x ∙ end-state (held sheet a b) (c .line));
+          ready = λ z. i .ready;
+          room = λ z. omega (arith, i .room, i .in-sheet);
+          rest-a = i .rest-a;
+          rest-b = i .rest-b;
+        }
+
+    pub line-faulty : r ≡ L.the-variants.Faulty → (n l : ℕ) → n ≡ 3 → l ≡ c .line → Read (read m sheet) sheet a₀ b₀ a b n l
+    line-faulty e n l hn hl =
+        let x : read m sheet ≡ reads (held sheet a b) 3 (c .line) = by-line L.the-variants.Faulty e in
+        record {
+          number-is = hn ∙ sym (ap (λ (z : Reading). z .number) x);
+          line-is = hl ∙ sym (ap (λ (z : Reading). z .line) x);
+          state-is = λ z. absurd (omega arith);
+          ready = λ z. i .ready;
+          room = λ z. absurd (omega arith);
+          rest-a = i .rest-a;
+          rest-b = i .rest-b;
+        }
+
+    module _ (j : ℕ) (equals : Cursor) (e : ℕ) (next : Cursor) (o : r ≡ L.the-variants.Entry j equals e next) where
+      entry : Entered sheet c j equals e next
+      entry = line-entered sheet c j equals e next (sym o ∙ q .is)
+
+      line-long : (c .at + length (part sheet (c .at) e) ≡ e) × (e < length sheet) × (next .at ≡ e + 1)
+      line-long = let w = entry in (omega (arith, length-part sheet (c .at) e (omega (arith, w .ends)), w .begins, w .equals-in), w .ends, w .next-at)
+
+      pub line-falls : length sheet - next .at < length sheet - c .at
+      line-falls = omega (arith, line-long .0, line-long .1, line-long .2)
+
+      line-next : read m sheet ≡ goOn (held sheet a b) (c .line) (rowOf m (part sheet (c .at) e)) (fault (held sheet a b) (rowOf m (part sheet (c .at) e))) (reading m (split 10 (drop (next .at) sheet)))
+      line-next =
+          i .left ∙ ap (λ (x : List (List ℕ)). reading m x (held sheet a b) (c .line)) (entry .lines)
+          ∙ reading-line m (held sheet a b) (c .line) (part sheet (c .at) e) (drop (next .at) sheet)
+
+      pub line-fits : length sheet ≤ 16384 → Ready sheet a b × (length sheet ≤ 16384) × (2 * getD a 14 0 + length (part sheet (c .at) e) ≤ 24400)
+      line-fits s = (i .ready, s, omega (arith, i .room, line-long .0, line-long .1))
+
+      module _ (a′ b′ : List ℕ) (n : ℕ) (t : Taken m sheet (part sheet (c .at) e) a b a′ b′ n) where
+        line-does : read m sheet ≡ goOn (held sheet a b) (c .line) (rowOf m (part sheet (c .at) e)) n (reading m (split 10 (drop (next .at) sheet)))
+        line-does = line-next ∙ ap (λ (y : ℕ). goOn (held sheet a b) (c .line) (rowOf m (part sheet (c .at) e)) y (reading m (split 10 (drop (next .at) sheet)))) (sym (t .number))
+
+        pub line-stops : (n ≡ 0 → ⊥) → (x l : ℕ) → x ≡ n → l ≡ c .line → Read (read m sheet) sheet a₀ b₀ a′ b′ x l
+        line-stops z x l hx hl =
+            let s : read m sheet ≡ reads (held sheet a b) n (c .line) = line-does ∙ go-stops (held sheet a b) (c .line) (rowOf m (part sheet (c .at) e)) n (reading m (split 10 (drop (next .at) sheet))) z in
+            record {
+              number-is = hx ∙ sym (ap (λ (x : Reading). x .number) s);
+              line-is = hl ∙ sym (ap (λ (x : Reading). x .line) s);
+              state-is = λ y. absurd (z (sym hx ∙ y));
+              ready = λ y. absurd (z (sym hx ∙ y));
+              room = λ y. absurd (z (sym hx ∙ y));
+              rest-a = t .rest-a ∙ i .rest-a;
+              rest-b = t .rest-b ∙ i .rest-b;
+            }
+
+        pub line-goes : n ≡ 0 → length sheet ≤ 16384 → length a′ ≡ length a → length b′ ≡ length b → Progress m sheet a₀ b₀ a′ b′ (next .at) (next .line)
+        line-goes z s la lb =
+            let v : suc (c .line) ≡ next .line = omega (arith, entry .next-line, i .near, line-long .0, line-long .1) in
+            record {
+              left = line-does
+                  ∙ go-on (held sheet a b) (c .line) (rowOf m (part sheet (c .at) e)) n (reading m (split 10 (drop (next .at) sheet))) z
+                  ∙ ap₂ (reading m (split 10 (drop (next .at) sheet))) (sym (t .state z)) v;
+              in-sheet = omega (arith, line-long .1, line-long .2);
+              ready = t .ready z;
+              room = omega (arith, t .room z, i .room, line-long .0, line-long .2);
+              near = omega (arith, i .near, line-long .0, line-long .2);
+              long-a = la ∙ i .long-a;
+              long-b = lb ∙ i .long-b;
+              rest-a = t .rest-a ∙ i .rest-a;
+              rest-b = t .rest-b ∙ i .rest-b;
+            }

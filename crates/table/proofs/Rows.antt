@@ -1,0 +1,205 @@
+-- Rows in words: by number, where they are left as they were, and one more. Assumes nothing.
+use mathlib.Core.Path.{_≡_, refl, sym, ap, ap₂, _∙_}
+use mathlib.Core.Bool.{Bool, true, _&&_, and-eq-true-iff}
+use mathlib.Core.Logic.{⊎-elim}
+use mathlib.Core.List.{List, [], _∷_}
+use Prim.Native.Nat.{ℕ, zero, suc, _+_, _≤_, _<_}
+use native.Mathlib.Nat.{eq-or-lt-of-le}
+use native.Mathlib.Numerals.{add-one}
+use native.Mathlib.Omega.{arith}
+use borrow.Author.Tests.{leb-true, ltb-true}
+use lib.Dec.{leb, ltb}
+use lib.ListN.{length, getD, set, List·getD-map, List·getD-eq-default}
+use Rattle.sheet.specs.Forms.{forms, formOf, noForm, items, tag, at, TEXT}
+use Rattle.sheet.specs.State.{linesOf, lineAt, count}
+use Rattle.table.specs.Layout.{part, TOP, heap, bases, base, rowAt, rowsAt, rowsOf, textRows, linesHeld, held, textAt, withRow, limits, limit}
+
+-- ---- the tables of keys and of places
+
+unfoldable pub keysOfForms : List ℕ
+keysOfForms = 0 ∷ 1 ∷ 2 ∷ 3 ∷ 3 ∷ 3 ∷ 3 ∷ 3 ∷ 3 ∷ 4 ∷ 5 ∷ 5 ∷ 5 ∷ 5 ∷ 5 ∷ 5 ∷ 6 ∷ 7 ∷ 8 ∷ 9 ∷ 10 ∷ 11 ∷ 11 ∷ 11 ∷ 11
+    ∷ 11 ∷ 11 ∷ 11 ∷ 11 ∷ 11 ∷ 11 ∷ 11 ∷ 11 ∷ 11 ∷ 11 ∷ 11 ∷ 11 ∷ 11 ∷ 11 ∷ 11 ∷ 11 ∷ 11 ∷ 11 ∷ 11 ∷ 11 ∷ 11 ∷ 11 ∷ 11 ∷ 11 ∷ 12 ∷ []
+
+key-is : (t : ℕ) → getD keysOfForms t 13 ≡ formOf t .key
+unfolding keysOfForms forms formOf
+key-is t = List·getD-map (λ f. f .key) forms t noForm
+
+-- within a list its default does not matter
+within-list : (l : List ℕ) (i d e : ℕ) → i < length l → getD l i d ≡ getD l i e
+within-list [] i d e h = absurd (omega arith)
+within-list (x ∷ l) zero d e h = refl
+within-list (x ∷ l) (suc i) d e h = within-list l i d e (omega arith)
+
+pub key-in : (t : ℕ) → t < 50 → getD keysOfForms t 0 ≡ formOf t .key
+unfolding keysOfForms
+key-in t h = within-list keysOfForms t 0 13 h ∙ key-is t
+
+pub key-out : (t : ℕ) → 50 ≤ t → 13 ≡ formOf t .key
+unfolding keysOfForms
+key-out t h = sym (List·getD-eq-default keysOfForms 13 h) ∙ key-is t
+
+-- what a computed test says of every number below n
+allBelow : (ℕ → Bool) → ℕ → Bool
+allBelow f zero = true
+allBelow f (suc n) = f n && allBelow f n
+
+le-of-suc : (i n : ℕ) → i < suc n → i ≤ n
+le-of-suc i n h = omega arith
+
+below-all : (f : ℕ → Bool) (n : ℕ) → allBelow f n ≡ true → (i : ℕ) → i < n → f i ≡ true
+unfolding allBelow
+below-all f zero e i h = absurd (omega arith)
+below-all f (suc n) e i h =
+    let p = and-eq-true-iff (f n) (allBelow f n) .0 e in
+    ⊎-elim (λ q. rw q (p .0)) (λ l. below-all f n (p .1) i l) (eq-or-lt-of-le (le-of-suc i n h))
+
+-- the regions of the index lie one after another
+pub regions-rise : (k j : ℕ) → k < 14 → j < k → base j + limit j < base k
+unfolding base bases limit limits allBelow
+regions-rise k j h l =
+    ltb-true (base j + limit j) (base k)
+    (below-all (λ (i : ℕ). ltb (base i + limit i) (base k)) k (below-all (λ (m : ℕ). allBelow (λ (i : ℕ). ltb (base i + limit i) (base m)) m) 14 refl k h) j l)
+
+pub regions-low : (k : ℕ) → k < 14 → 16 ≤ base k
+unfolding base bases allBelow
+regions-low k h = leb-true 16 (base k) (below-all (λ (m : ℕ). leb 16 (base m)) 14 refl k h)
+
+pub regions-high : (k : ℕ) → k < 14 → base k + limit k < heap
+unfolding base bases limit limits allBelow
+regions-high k h = ltb-true (base k + limit k) heap (below-all (λ (m : ℕ). ltb (base m + limit m) heap) 14 refl k h)
+
+small : ℕ → List ℕ → Bool
+small n [] = true
+small n (x ∷ l) = leb x n && small n l
+
+entry-small : (n : ℕ) (l : List ℕ) (i : ℕ) → small n l ≡ true → getD l i 0 ≤ n
+unfolding small
+entry-small n [] i e = omega arith
+entry-small n (x ∷ l) zero e = leb-true x n (and-eq-true-iff (leb x n) (small n l) .0 e .0)
+entry-small n (x ∷ l) (suc i) e = entry-small n l i (and-eq-true-iff (leb x n) (small n l) .0 e .1)
+
+pub base-small : (k : ℕ) → base k ≤ 2978
+unfolding base bases small
+base-small k = entry-small 2978 bases k refl
+
+pub base-out : (k : ℕ) → 14 ≤ k → 0 ≡ base k
+unfolding base bases
+base-out k h = sym (List·getD-eq-default bases 0 h)
+
+pub keys-small : (t : ℕ) → getD keysOfForms t 0 ≤ 12
+unfolding keysOfForms small
+keys-small t = entry-small 12 keysOfForms t refl
+
+pub limit-small : (k : ℕ) → limit k ≤ 1024
+unfolding limit limits small
+limit-small k = entry-small 1024 limits k refl
+
+-- ---- rows by number
+
+pub length-rows : (w : List ℕ) (i n : ℕ) → length (rowsAt w i n) ≡ n
+unfolding rowsAt
+length-rows w i zero = refl
+length-rows w i (suc n) = ap suc (length-rows w (suc i) n)
+
+rows-in : (w : List ℕ) (i m n : ℕ) → n < m → getD (rowsAt w i m) n [] ≡ rowAt w (i + n)
+unfolding rowsAt
+rows-in w i zero n h = absurd (omega arith)
+rows-in w i (suc m) zero h = ap (rowAt w) (omega arith)
+rows-in w i (suc m) (suc n) h =
+    let e : suc i + n ≡ i + suc n = omega arith in
+    rows-in w (suc i) m n (omega arith) ∙ ap (rowAt w) e
+
+rows-out : (w : List ℕ) (i m n : ℕ) → m ≤ n → getD (rowsAt w i m) n [] ≡ []
+rows-out w i m n h = List·getD-eq-default (rowsAt w i m) [] (rw (length-rows w i m) h)
+
+pub row-at-is : (a : List ℕ) (i s e : ℕ) (q : List ℕ) → s ≡ getD a i 0 → e ≡ getD a (i + 1) 0 → q ≡ part a s e → q ≡ rowAt a i
+unfolding rowAt
+row-at-is a i s e q hs he hq = hq ∙ ap₂ (part a) hs (he ∙ ap (λ (j : ℕ). getD a j 0) (add-one i))
+
+pub row-none : (a : List ℕ) (k n m : ℕ) → m ≡ getD a k 0 → m ≤ n → [] ≡ getD (rowsOf a k) n []
+unfolding rowsOf
+row-none a k n m e h = sym (rows-out a (base k) (getD a k 0) n (omega arith))
+
+pub row-some : (a : List ℕ) (k n m b : ℕ) (q : List ℕ) → m ≡ getD a k 0 → n < m → b ≡ base k → q ≡ rowAt a (b + n) → q ≡ getD (rowsOf a k) n []
+unfolding rowsOf
+row-some a k n m b q e h hb hq = hq ∙ ap (λ (x : ℕ). rowAt a (x + n)) hb ∙ sym (rows-in a (base k) (getD a k 0) n (omega arith))
+
+pub tag-none : (r : List ℕ) → length r < 1 → 50 ≡ tag r
+tag-none [] h = refl
+tag-none (x ∷ r) h = absurd (omega arith)
+
+pub tag-some : (r : List ℕ) → 1 ≤ length r → getD r 0 0 ≡ tag r
+tag-some [] h = absurd (omega arith)
+tag-some (x ∷ r) h = refl
+
+-- ---- texts
+
+text-at : (sheet : List ℕ) (rs : List (List ℕ)) (t : ℕ) → items (getD (textRows sheet rs) t []) ≡ part sheet (at (getD rs t []) 0) (at (getD rs t []) 0 + at (getD rs t []) 1)
+text-at sheet [] t = refl
+text-at sheet (r ∷ rs) zero = refl
+text-at sheet (r ∷ rs) (suc t) = text-at sheet rs t
+
+pub text-is : (sheet a : List ℕ) (t s n : ℕ) (r q : List ℕ) → r ≡ getD (rowsOf a 1) t [] → s ≡ getD r 1 0 → n ≡ getD r 2 0 → q ≡ part sheet s (s + n) → q ≡ textAt sheet a t
+unfolding textAt
+text-is sheet a t s n r q hr hs hn hq =
+    let x : s ≡ at (getD (rowsOf a 1) t []) 0 = hs ∙ ap (λ (l : List ℕ). getD l 1 0) hr in
+    let y : n ≡ at (getD (rowsOf a 1) t []) 1 = hn ∙ ap (λ (l : List ℕ). getD l 2 0) hr in
+    hq ∙ ap₂ (λ (u v : ℕ). part sheet u (u + v)) x y ∙ sym (text-at sheet (rowsOf a 1) t)
+
+-- ---- the state that words hold
+
+pub lines-held : (sheet a b : List ℕ) (k : ℕ) → k < 13 → (k ≡ 1 → ⊥) → linesOf (held sheet a b) k ≡ rowsOf a k
+unfolding held linesHeld
+lines-held sheet a b zero h n = refl
+lines-held sheet a b (suc zero) h n = absurd (n refl)
+lines-held sheet a b (suc (suc zero)) h n = refl
+lines-held sheet a b (suc (suc (suc zero))) h n = refl
+lines-held sheet a b (suc (suc (suc (suc zero)))) h n = refl
+lines-held sheet a b (suc (suc (suc (suc (suc zero))))) h n = refl
+lines-held sheet a b (suc (suc (suc (suc (suc (suc zero)))))) h n = refl
+lines-held sheet a b (suc (suc (suc (suc (suc (suc (suc zero))))))) h n = refl
+lines-held sheet a b (suc (suc (suc (suc (suc (suc (suc (suc zero)))))))) h n = refl
+lines-held sheet a b (suc (suc (suc (suc (suc (suc (suc (suc (suc zero))))))))) h n = refl
+lines-held sheet a b (suc (suc (suc (suc (suc (suc (suc (suc (suc (suc zero)))))))))) h n = refl
+lines-held sheet a b (suc (suc (suc (suc (suc (suc (suc (suc (suc (suc (suc zero))))))))))) h n = refl
+lines-held sheet a b (suc (suc (suc (suc (suc (suc (suc (suc (suc (suc (suc (suc zero)))))))))))) h n = refl
+lines-held sheet a b (suc (suc (suc (suc (suc (suc (suc (suc (suc (suc (suc (suc (suc k))))))))))))) h n = absurd (omega arith)
+
+pub texts-held : (sheet a b : List ℕ) → linesOf (held sheet a b) TEXT ≡ textRows sheet (rowsOf a 1)
+unfolding held linesHeld
+texts-held sheet a b = refl
+
+pub text-held : (sheet a b : List ℕ) (t : ℕ) → textAt sheet a t ≡ items (lineAt (held sheet a b) TEXT t)
+unfolding textAt held linesHeld
+text-held sheet a b t = refl
+
+pub length-texts : (sheet : List ℕ) (rs : List (List ℕ)) → length (textRows sheet rs) ≡ length rs
+length-texts sheet [] = refl
+length-texts sheet (r ∷ rs) = ap suc (length-texts sheet rs)
+
+pub count-rows : (a : List ℕ) (k : ℕ) → length (rowsOf a k) ≡ getD a k 0
+unfolding rowsOf
+count-rows a k = length-rows a (base k) (getD a k 0)
+
+pub count-held : (sheet a b : List ℕ) (k : ℕ) → k < 13 → count (held sheet a b) k ≡ getD a k 0
+count-held sheet a b zero h = ap length (lines-held sheet a b 0 h (λ e. absurd (omega arith))) ∙ count-rows a 0
+count-held sheet a b (suc zero) h = ap length (texts-held sheet a b) ∙ length-texts sheet (rowsOf a 1) ∙ count-rows a 1
+count-held sheet a b (suc (suc k)) h =
+    ap length (lines-held sheet a b (suc (suc k)) h (λ e. absurd (omega arith))) ∙ count-rows a (suc (suc k))
+
+-- ---- a row more
+
+pub with-row-is : (a : List ℕ) (k e top n b : ℕ) (w₁ w₂ w₃ w₄ : List ℕ) → top ≡ getD a TOP 0 → n ≡ getD a k 0 → b ≡ base k
+    → w₁ ≡ set a (b + n) top → w₂ ≡ set w₁ (b + n + 1) e → w₃ ≡ set w₂ k (n + 1) → w₄ ≡ set w₃ TOP e → w₄ ≡ withRow a k e
+unfolding withRow
+with-row-is a k e top n b w₁ w₂ w₃ w₄ ht hn hb h₁ h₂ h₃ h₄ = rw (h₄, h₃, h₂, h₁, add-one (b + n), add-one n, hb, hn, ht)
+
+-- no key is past 13, which is no line's
+pub key-low : (t : ℕ) → formOf t .key ≤ 13
+unfolding keysOfForms small
+key-low t = rw (← (key-is t)) (entry-low keysOfForms t refl)
+  where
+    entry-low : (l : List ℕ) (i : ℕ) → small 13 l ≡ true → getD l i 13 ≤ 13
+    entry-low [] i e = omega arith
+    entry-low (x ∷ l) zero e = leb-true x 13 (and-eq-true-iff (leb x 13) (small 13 l) .0 e .0)
+    entry-low (x ∷ l) (suc i) e = entry-low l i (and-eq-true-iff (leb x 13) (small 13 l) .0 e .1)

@@ -1,0 +1,334 @@
+-- One line: its row is written past the heap's end, judged there, and added. Assumes nothing.
+use mathlib.Core.Path.{_≡_, refl, sym, ap, ap₂, subst, _∙_}
+use mathlib.Core.Bool.{Bool, true, false, cond, _&&_}
+use mathlib.Core.List.{List, [], _∷_, _++_}
+use Prim.Native.Nat.{ℕ, zero, suc, _+_, _-_, _*_, _/_, _%_, _≤_, _<_}
+use native.Mathlib.Omega.{arith}
+use native.Mathlib.Decide.{ℕ-discrete, decLt}
+use borrow.Author.Tests.{eq-eqb, ne-eqb, le-leb}
+use lib.Dec.{leb, eqb}
+use lib.ListN.{length, getD, take, drop, List·getD-eq-default}
+use lib.Seq.{drop-drop}
+use Rattle.words.specs.Bits.{member, bit}
+use Rattle.cedar.proofs.Tools.{no-true}
+use Rattle.sheet.specs.Forms.{Mode, rowOf, forms, formOf, tag, keyOf, refs, NODE, TYPE, VALUE, KIND, TEXT}
+use Rattle.sheet.specs.State.{State, count}
+use Rattle.sheet.specs.Sheet.{greatest, fault, faultOf, more, depth, marked}
+use Rattle.sheet.proofs.Lines.{and-both, Passed, passed, later-empty}
+use Rattle.table.specs.Layout.{part, TOP, rowsOf, textRow, linesHeld, depthsHeld, held, withRow, limits, limit, Last, Sound}
+use Rattle.table.proofs.Rows.{count-held, lines-held, limit-small}
+use Rattle.table.proofs.Frame.{rows-kept, word-kept, sound-kept, top-new, count-new, count-other, rest-new, rows-own, rows-other, sound-new}
+use Rattle.table.proofs.Held.{rowIn, held-same}
+use Rattle.fits.specs.Fit.{isPair, SettledIn, Known}
+use Rattle.fits.specs.Fit as F
+use Rattle.fits.proofs.Remembered.{small-pair, cleared, known-kept}
+use Rattle.checks.specs.Uses.{usesIn}
+use Rattle.judge.specs.Verdicts.{Judged}
+use Rattle.judge.proofs.Alike.{text-tag}
+use Rattle.judge.proofs.Settling.{Falling, settled-in, falling-line}
+use Rattle.line.specs.Written.{rowFrom, Line}
+use Rattle.take.specs.Steps.{withDepth, Ready, taken, Taken}
+use Rattle.take.proofs.Committing.{line-words, state-more}
+
+-- ---- rows of words and rows of the definition
+
+row-alike : (sheet q : List ℕ) → (q ≡ [] → ⊥) → rowIn sheet (keyOf q) q ≡ rowFrom sheet q
+unfolding keyOf formOf forms
+row-alike sheet [] n = absurd (n refl)
+row-alike sheet (t ∷ l) n = go (ℕ-discrete t 1) (ℕ-discrete (keyOf (t ∷ l)) 1)
+  where
+    go : Dec (t ≡ 1) → Dec (keyOf (t ∷ l) ≡ 1) → cond (eqb (keyOf (t ∷ l)) 1) (textRow sheet (t ∷ l)) (t ∷ l) ≡ cond (eqb t TEXT) (textRow sheet (t ∷ l)) (t ∷ l)
+    go (yes e) (yes k) = rw (eq-eqb t 1 e, eq-eqb (keyOf (t ∷ l)) 1 k) refl
+    go (yes e) (no k) = absurd (k (ap (λ (x : ℕ). formOf x .key) e))
+    go (no e) (yes k) = absurd (e (text-tag (t ∷ l) k))
+    go (no e) (no k) = rw (ne-eqb t 1 e, ne-eqb (keyOf (t ∷ l)) 1 k) refl
+
+key-alike : (sheet q : List ℕ) → keyOf (rowIn sheet (keyOf q) q) ≡ keyOf q
+unfolding keyOf
+key-alike sheet q = go (eqb (keyOf q) TEXT)
+  where
+    go : (b : Bool) → formOf (tag (cond b (textRow sheet q) q)) .key ≡ formOf (tag q) .key
+    go true = refl
+    go false = refl
+
+fault-some : (s : State) (r : List ℕ) → (r ≡ [] → ⊥) → fault s r ≡ faultOf s (keyOf r) r
+unfolding fault
+fault-some s [] n = absurd (n refl)
+fault-some s (t ∷ l) n = refl
+
+fault-none : (s : State) (r : List ℕ) → r ≡ [] → 3 ≡ fault s r
+unfolding fault
+fault-none s r e = rw e refl
+
+-- ---- what is remembered stands in the first words
+
+known-words : (a m m′ : List ℕ) → ((i : ℕ) → i < 4096 → getD m′ i 0 ≡ getD m i 0) → Known a m → Known a m′
+unfolding F.marked member
+known-words a m m′ e k =
+    record {
+      holds = λ v t h s. and-both (isPair v t) (member m′ (v * 128 + t)) h (λ q i.
+          let x = small-pair v t q in
+          let w : getD m′ ((v * 128 + t) / 32) 0 ≡ getD m ((v * 128 + t) / 32) 0 = e ((v * 128 + t) / 32) (omega (arith, x .0, x .1)) in
+          k .holds v t (both (isPair v t) (member m (v * 128 + t)) q (ap (bit ((v * 128 + t) % 32)) (sym w) ∙ i)) s);
+    }
+  where
+    both : (x y : Bool) → x ≡ true → y ≡ true → (x && y) ≡ true
+    both x y p q = rw (p, q) refl
+
+-- ---- limits
+
+most-low : (s : State) (k : ℕ) → k < 13 → count s KIND ≤ 32 → getD (greatest s) k 0 ≤ limit k
+unfolding limit limits
+most-low s zero h c = omega arith
+most-low s (suc zero) h c = omega arith
+most-low s (suc (suc zero)) h c = omega arith
+most-low s (suc (suc (suc zero))) h c = omega arith
+most-low s (suc (suc (suc (suc zero)))) h c = c
+most-low s (suc (suc (suc (suc (suc zero))))) h c = omega arith
+most-low s (suc (suc (suc (suc (suc (suc zero)))))) h c = omega arith
+most-low s (suc (suc (suc (suc (suc (suc (suc zero))))))) h c = omega arith
+most-low s (suc (suc (suc (suc (suc (suc (suc (suc zero)))))))) h c = omega arith
+most-low s (suc (suc (suc (suc (suc (suc (suc (suc (suc zero))))))))) h c = omega arith
+most-low s (suc (suc (suc (suc (suc (suc (suc (suc (suc (suc zero)))))))))) h c = omega arith
+most-low s (suc (suc (suc (suc (suc (suc (suc (suc (suc (suc (suc zero))))))))))) h c = omega arith
+most-low s (suc (suc (suc (suc (suc (suc (suc (suc (suc (suc (suc (suc zero)))))))))))) h c = omega arith
+most-low s (suc (suc (suc (suc (suc (suc (suc (suc (suc (suc (suc (suc (suc k))))))))))))) h c = absurd (omega arith)
+
+not-full : (m c : ℕ) → leb m c ≡ false → c < m
+not-full m c e = go (decLt c m)
+  where
+    go : Dec (c < m) → c < m
+    go (yes h) = h
+    go (no h) = no-true (sym e ∙ le-leb m c (omega arith))
+
+key-low : (s : State) (k : ℕ) → leb (getD (greatest s) k 0) (count s k) ≡ false → k < 13
+key-low s k e = go (decLt k 13)
+  where
+    go : Dec (k < 13) → k < 13
+    go (yes h) = h
+    go (no h) = absurd (omega (arith, not-full (getD (greatest s) k 0) (count s k) e, List·getD-eq-default (greatest s) 0 {n = k} (omega arith)))
+
+kinds : limit 2 ≡ 32
+unfolding limit limits
+kinds = refl
+
+nodes : limit 11 ≡ 1024
+unfolding limit limits
+nodes = refl
+
+-- ---- `take_line`
+
+module _ (m : Mode) (sheet line a b : List ℕ) (ready : Ready sheet a b) (fits : 2 * getD a 14 0 + length line ≤ 24400)
+    (top : ℕ) (ht : top ≡ getD a 14 0) (a₁ : List ℕ) (n : ℕ) (l : Line sheet (rowOf m line) a a₁ top n (length line)) (long₁ : length a₁ ≡ length a) where
+  below : take (getD a TOP 0) a₁ ≡ take (getD a TOP 0) a
+  below = subst (λ (x : ℕ). take x a₁ ≡ take x a) ht (l .kept .below)
+
+  rows-as : (k : ℕ) → k < 14 → rowsOf a₁ k ≡ rowsOf a k
+  rows-as = rows-kept a (ready .sound) a₁ below
+
+  state-as : held sheet a₁ b ≡ held sheet a b
+  state-as = held-same sheet a a₁ b b (λ k h. rows-as k (omega arith)) refl
+
+  sound₁ : Sound a₁
+  sound₁ = sound-kept a (ready .sound) a₁ below (omega (arith, ready .sound .long))
+
+  pub known₁ : Known a₁ b
+  known₁ = known-kept a a₁ b (rows-as VALUE (omega arith)) (rows-as TYPE (omega arith)) (ready .known)
+
+  word-as : (i : ℕ) → i < 15 → getD a₁ i 0 ≡ getD a i 0
+  word-as i h = word-kept a (ready .sound) a₁ below i (omega arith)
+
+  few-nodes : getD a₁ NODE 0 ≤ 1024
+  few-nodes = omega (arith, sound₁ .few 11 (omega arith), nodes)
+
+  pub line-malformed : n ≡ 0 → Taken m sheet line a b a₁ b 3
+  line-malformed z =
+      record {
+        number = fault-none (held sheet a b) (rowOf m line) (l .empty z);
+        state = λ q. absurd (omega arith);
+        ready = λ q. absurd (omega arith);
+        room = λ q. absurd (omega arith);
+        rest-a = l .kept .rest;
+        rest-b = refl;
+      }
+
+  module _ (nz : n ≡ 0 → ⊥) (end : ℕ) (he : end ≡ top + n) where
+    r₁ : List ℕ
+    r₁ = part a₁ top end
+
+    words-are : rowFrom sheet r₁ ≡ rowOf m line
+    unfolding r₁
+    words-are = let z : end - top ≡ n = omega arith in ap (λ (x : ℕ). rowFrom sheet (take x (drop top a₁))) z ∙ l .words
+
+    some-words : r₁ ≡ [] → ⊥
+    some-words e = nz (l .full (sym words-are ∙ ap (rowFrom sheet) e))
+
+    some-row : rowOf m line ≡ [] → ⊥
+    some-row e = nz (l .full e)
+
+    row-is : rowIn sheet (keyOf r₁) r₁ ≡ rowOf m line
+    row-is = row-alike sheet r₁ some-words ∙ words-are
+
+    key-is : keyOf (rowOf m line) ≡ keyOf r₁
+    key-is = ap keyOf (sym row-is) ∙ key-alike sheet r₁
+
+    falling₁ : Falling (held sheet a₁ b)
+    falling₁ = subst Falling (sym state-as) (ready .falling)
+
+    settled₁ : SettledIn a₁
+    unfolding SettledIn
+    settled₁ = subst (F.Settled (rowsOf a₁ VALUE)) (lines-held sheet a₁ b 3 (omega arith) (λ q. absurd (omega arith))) (settled-in (held sheet a₁ b) (rowsOf a₁ VALUE) falling₁)
+
+    module _ (b₁ : List ℕ) (f k d : ℕ) (j : Judged sheet a₁ b (part a₁ top end) b₁ f k d) (long-b₁ : length b₁ ≡ length b) where
+      number-is : f ≡ fault (held sheet a b) (rowOf m line)
+      unfolding r₁
+      number-is = j .number settled₁ ∙ ap₂ (λ (s : State) (x : List ℕ). faultOf s (keyOf r₁) x) state-as row-is
+          ∙ ap (λ (x : ℕ). faultOf (held sheet a b) x (rowOf m line)) (sym key-is) ∙ sym (fault-some (held sheet a b) (rowOf m line) some-row)
+
+      rest-b₁ : drop 16384 b₁ ≡ drop 16384 b
+      rest-b₁ = sym (drop-drop 9088 7296 b₁) ∙ ap (drop 9088) (j .rest few-nodes) ∙ drop-drop 9088 7296 b
+
+      pub line-refused : (f ≡ 0 → ⊥) → Taken m sheet line a b a₁ b₁ f
+      line-refused z =
+          record {
+            number = number-is;
+            state = λ q. absurd (z q);
+            ready = λ q. absurd (z q);
+            room = λ q. absurd (z q);
+            rest-a = l .kept .rest;
+            rest-b = rest-b₁;
+          }
+
+      module _ (z : f ≡ 0) where
+        clean : fault (held sheet a b) (rowOf m line) ≡ 0
+        clean = sym number-is ∙ z
+
+        key-row : k ≡ keyOf r₁
+        unfolding r₁
+        key-row = j .key z
+
+        pass : Passed (held sheet a₁ b) k (rowIn sheet k r₁)
+        pass = subst (λ (s : State). Passed s k (rowIn sheet k r₁)) (sym state-as)
+            (subst (λ (x : ℕ). Passed (held sheet a b) x (rowIn sheet x r₁)) (sym key-row)
+            (subst (Passed (held sheet a b) (keyOf r₁)) (sym row-is) (subst (λ (x : ℕ). Passed (held sheet a b) x (rowOf m line)) key-is (passed (held sheet a b) (rowOf m line) clean))))
+
+        low : k < 13
+        low = key-low (held sheet a₁ b) k (pass .room)
+
+        room₁ : getD a₁ k 0 < limit k
+        room₁ =
+            let c = count-held sheet a₁ b k low in
+            let s : count (held sheet a₁ b) KIND ≤ 32 = omega (arith, count-held sheet a₁ b 2 (omega arith), sound₁ .few 2 (omega arith), kinds) in
+            omega (arith, not-full (getD (greatest (held sheet a₁ b)) k 0) (count (held sheet a₁ b) k) (pass .room), most-low (held sheet a₁ b) k low s)
+
+        made₁ : getD a₁ 13 0 ≡ 0
+        made₁ = word-as 13 (omega arith) ∙ ready .made
+
+        last₁ : Last a₁ k
+        last₁ = record { last = λ i h t. go i h (decLt i 13) t }
+          where
+            go : (i : ℕ) → k < i → Dec (i < 13) → i < 14 → getD a₁ i 0 ≡ 0
+            go i h (yes t) u = sym (count-held sheet a₁ b i t) ∙ ap length (later-empty (held sheet a₁ b) k i (pass .order) h)
+            go i h (no t) u = let e : i ≡ 13 = omega arith in rw e made₁
+
+        pub commit-room : getD a₁ k 0 < 4294967295
+        commit-room = omega (arith, room₁, limit-small k)
+
+        pub end-low : end < 4294967296
+        end-low = omega (arith, l .tight)
+
+        module _ (a₂ b₂ : List ℕ) (pa : a₂ ≡ withRow a₁ k end) (pb : b₂ ≡ withDepth b₁ k (getD a₁ k 0) d) (long-b₂ : length b₂ ≡ length b₁) where
+          top₁ : getD a₁ TOP 0 ≡ top
+          top₁ = word-as 14 (omega arith) ∙ sym ht
+
+          lo : getD a₁ TOP 0 ≤ end
+          lo = omega (arith, top₁)
+
+          in-range : k < 14
+          in-range = omega (arith, low)
+
+          own₂ : getD a₂ k 0 ≡ suc (getD a₁ k 0)
+          own₂ = rw pa (count-new a₁ sound₁ k end in-range room₁ last₁ lo)
+
+          other₂ : (i : ℕ) → i < 14 → (i ≡ k → ⊥) → getD a₂ i 0 ≡ getD a₁ i 0
+          other₂ i h ne = rw pa (count-other a₁ sound₁ k end in-range room₁ last₁ lo i h ne)
+
+          rows₂ : rowsOf a₂ k ≡ rowsOf a₁ k ++ (r₁ ∷ [])
+          unfolding r₁
+          rows₂ = rw pa (rows-own a₁ sound₁ k end in-range room₁ last₁ lo ∙ ap (λ (x : ℕ). rowsOf a₁ k ++ (part a₁ x end ∷ [])) top₁)
+
+          rows-same₂ : (i : ℕ) → i < 14 → (i ≡ k → ⊥) → rowsOf a₂ i ≡ rowsOf a₁ i
+          rows-same₂ i h ne = rw pa (rows-other a₁ sound₁ k end in-range room₁ last₁ lo i h ne)
+
+          row-k : rowIn sheet k r₁ ≡ rowOf m line
+          row-k = ap (λ (x : ℕ). rowIn sheet x r₁) key-row ∙ row-is
+
+          long-b : 16384 ≤ length b₁
+          long-b = omega (arith, ready .long)
+
+          state₂ : held sheet a₂ b₂ ≡ more (held sheet a b) (rowOf m line)
+          unfolding r₁
+          state₂ =
+              state-more a₁ a₂ b b₁ b₂ k d low room₁ (λ i h. sound₁ .few i (omega arith)) own₂ (λ i h ne. other₂ i (omega arith) ne) long-b (j .depths) pb
+              sheet r₁ rows₂ (λ i h ne. rows-same₂ i (omega arith) ne)
+              (ap keyOf row-k ∙ key-is ∙ sym key-row)
+              (j .deep z ∙ ap (λ (x : ℕ). depthOf x) (sym key-row))
+              (j .uses z ∙ ap (λ (x : ℕ). markedOf x) (sym key-row))
+              ∙ ap₂ more state-as row-k
+            where
+              depthOf : ℕ → ℕ
+              depthOf x = depth (held sheet a₁ b) x (rowIn sheet x (part a₁ top end))
+
+              markedOf : ℕ → List ℕ
+              markedOf x = marked (usesIn a₁ b) (refs NODE (rowIn sheet x (part a₁ top end)))
+
+          words₂ : ((i : ℕ) → i < 4096 → getD b₂ i 0 ≡ getD b₁ i 0) × (drop 7296 b₂ ≡ drop 7296 b₁)
+          words₂ = line-words a₁ a₂ b b₁ b₂ k d low room₁ (λ i h. sound₁ .few i (omega arith)) own₂ (λ i h ne. other₂ i (omega arith) ne) long-b (j .depths) pb
+
+          -- before the entities nothing is remembered
+          blank₁ : k < 6 → (i : ℕ) → i < 4096 → getD b₂ i 0 ≡ 0
+          unfolding r₁
+          blank₁ h i t =
+              let q : Last a 5 = record { last = λ x y w. sym (word-as x (omega arith)) ∙ last₁ .last x (omega arith) w } in
+              words₂ .0 i t ∙ j .early (subst (λ (x : ℕ). x < 6) key-row h) i t ∙ ready .blank q i t
+
+          known₂ : Dec (k < 6) → Known a₂ b₂
+          known₂ (yes h) = cleared a₂ b₂ (blank₁ h)
+          known₂ (no h) = known-words a₂ b₁ b₂ (words₂ .0) (known-kept a₁ a₂ b₁ (rows-same₂ VALUE (omega arith) (λ q. h (omega arith))) (rows-same₂ TYPE (omega arith) (λ q. h (omega arith))) (j .known))
+
+          blank₂ : Dec (k < 6) → Last a₂ 5 → (i : ℕ) → i < 4096 → getD b₂ i 0 ≡ 0
+          blank₂ (yes h) q i t = blank₁ h i t
+          blank₂ (no h) q i t = absurd (omega (arith, own₂, q .last k (omega arith) in-range))
+
+          thirteen : (length (held sheet a b .lines) ≡ 13) × (length (held sheet a b .depths) ≡ 13)
+          unfolding held linesHeld depthsHeld
+          thirteen = (refl, refl)
+
+          room₂ : Dec (k ≡ 11) → taken a₂ ≤ taken a + length line + 1
+          room₂ (yes e) =
+              let t : getD a₂ TOP 0 ≡ end = rw pa (top-new a₁ sound₁ k end in-range room₁ last₁ lo) in
+              let c : getD a₂ 11 0 ≡ suc (getD a₁ 11 0) = subst (λ (x : ℕ). getD a₂ x 0 ≡ suc (getD a₁ x 0)) e own₂ in
+              let w : 2 * n + 6 ≤ length line + 1 = l .node (key-is ∙ sym key-row ∙ e) in
+              omega (arith, t, c, w, word-as 11 (omega arith))
+          room₂ (no e) =
+              let t : getD a₂ TOP 0 ≡ end = rw pa (top-new a₁ sound₁ k end in-range room₁ last₁ lo) in
+              let c : getD a₂ 11 0 ≡ getD a₁ 11 0 = other₂ 11 (omega arith) (λ q. e (sym q)) in
+              omega (arith, t, c, l .tight, word-as 11 (omega arith))
+
+          pub line-added : Taken m sheet line a b a₂ b₂ 0
+          line-added =
+              record {
+                number = sym clean;
+                state = λ q. state₂;
+                ready = λ q. record {
+                  sound = rw pa (sound-new a₁ sound₁ k end in-range room₁ last₁ lo);
+                  made = other₂ 13 (omega arith) (λ x. absurd (omega (arith, low, x))) ∙ made₁;
+                  known = known₂ (decLt k 6);
+                  blank = blank₂ (decLt k 6);
+                  falling = subst Falling (sym state₂) (falling-line m (held sheet a b) line (thirteen .0) (thirteen .1) clean (ready .falling));
+                  long = omega (arith, ready .long);
+                };
+                room = λ q. room₂ (ℕ-discrete k 11);
+                rest-a = rw pa (rest-new a₁ sound₁ k end in-range room₁ last₁ lo) ∙ l .kept .rest;
+                rest-b = sym (drop-drop 9088 7296 b₂) ∙ ap (drop 9088) (words₂ .1) ∙ drop-drop 9088 7296 b₁ ∙ rest-b₁;
+              }

@@ -1,0 +1,5 @@
+pub mod Typings
+pub mod Rulings
+pub mod Operations
+pub mod KeyRules
+pub mod Joined

@@ -1,0 +1,198 @@
+-- Types, shapes, kinds and the request by their numbers: one law for each answer.
+use mathlib.Core.Path.{_≡_, refl, sym, ap, _∙_}
+use mathlib.Core.Bool.{true, false}
+use mathlib.Core.List.{List, [], _∷_}
+use mathlib.Core.Option.{none, some}
+use Prim.Native.Nat.{ℕ, zero, suc, _+_, _-_, _≤_, _<_}
+use native.Mathlib.Omega.{arith}
+use borrow.Author.Tests.{eq-eqb, ne-eqb, le-ltb}
+use lib.Dec.{eqb, ltb}
+use lib.ListN.{length, getD, drop, drop-of-length-le}
+use Rattle.cedar.specs.Numbered.{memN}
+use Rattle.sheet.specs.Forms.{tag, TYPE, SHAPE, KIND}
+use Rattle.sheet.specs.State.{Declared, TypeRow, bool, long, string, entity, set′, record′, declareds, typeRow}
+use Rattle.sheet.specs.Typing.{onEntity, onSetOf, onRecord, noneDeclared}
+use Rattle.table.specs.Layout.{rowsOf}
+use Rattle.fits.specs.Fit.{declaredBy, found}
+use Rattle.fits.specs.declared.Found as F
+use Rattle.fits.proofs.Walks.{next}
+use Rattle.fits.proofs.Sorts.{typeTable}
+use Rattle.fits.proofs.Search.{found-some, found-none}
+use Rattle.typing.specs.Rules.{sortNumber, sortAt, kindAt, elementAt, recordAt, attributeAt, bareAt, attributeTypeAt, tagTypeAt, isAboveAt, actionAt, attributesAt, targetAt, requestAt, nodeTypeAt, childAt}
+
+-- ---- the sort of a type's row
+
+sort-table : (r : List ℕ) (j : ℕ) → j < 6 → sortNumber (getD (typeTable r) j bool) ≡ j
+sort-table r zero h = refl
+sort-table r (suc zero) h = refl
+sort-table r (suc (suc zero)) h = refl
+sort-table r (suc (suc (suc zero))) h = refl
+sort-table r (suc (suc (suc (suc zero)))) h = refl
+sort-table r (suc (suc (suc (suc (suc zero))))) h = refl
+sort-table r (suc (suc (suc (suc (suc (suc j)))))) h = absurd (omega arith)
+
+sort-past : (r : List ℕ) (j : ℕ) → 6 ≤ j → sortNumber (getD (typeTable r) j bool) ≡ 0
+sort-past r zero h = refl
+sort-past r (suc zero) h = absurd (omega arith)
+sort-past r (suc (suc zero)) h = absurd (omega arith)
+sort-past r (suc (suc (suc zero))) h = absurd (omega arith)
+sort-past r (suc (suc (suc (suc zero)))) h = absurd (omega arith)
+sort-past r (suc (suc (suc (suc (suc zero))))) h = absurd (omega arith)
+sort-past r (suc (suc (suc (suc (suc (suc j)))))) h = refl
+
+module _ (a q : List ℕ) (y k : ℕ) (eq : q ≡ getD (rowsOf a TYPE) y []) (ek : k ≡ tag q) where
+  pub sort-low : k < 4 → 0 ≡ sortAt a y
+  unfolding sortAt
+  sort-low h = let e : tag q - 3 ≡ 0 = omega arith in rw (← eq, e)
+
+  pub sort-high : 8 < k → 0 ≡ sortAt a y
+  unfolding sortAt
+  sort-high h = rw (← eq) (sym (sort-past q (tag q - 3) (omega arith)))
+
+  pub sort-mid : 4 ≤ k → k ≤ 8 → k - 3 ≡ sortAt a y
+  unfolding sortAt
+  sort-mid l h = rw (← eq) (ap (λ t. t - 3) ek ∙ sym (sort-table q (tag q - 3) (omega arith)))
+
+-- a type's row of another sort
+tag-sort : (q : List ℕ) (n : ℕ) → sortNumber (typeRow q) ≡ suc n → tag q ≡ 4 + n
+tag-sort q n h = go (tag q - 3) refl h
+  where
+    go : (j : ℕ) → j ≡ tag q - 3 → sortNumber (getD (typeTable q) j bool) ≡ suc n → tag q ≡ 4 + n
+    go zero e h = absurd (omega arith)
+    go (suc zero) e h = omega arith
+    go (suc (suc zero)) e h = omega arith
+    go (suc (suc (suc zero))) e h = omega arith
+    go (suc (suc (suc (suc zero)))) e h = omega arith
+    go (suc (suc (suc (suc (suc zero))))) e h = omega arith
+    go (suc (suc (suc (suc (suc (suc j)))))) e h = absurd (omega arith)
+
+module _ {A : Type 0} (d : A) where
+  not-entity : (T : TypeRow) (f : ℕ → A) → (sortNumber T ≡ 3 → ⊥) → onEntity d T f ≡ d
+  not-entity bool f h = refl
+  not-entity long f h = refl
+  not-entity string f h = refl
+  not-entity (entity k) f h = absurd (h refl)
+  not-entity (set′ t) f h = refl
+  not-entity (record′ ds) f h = refl
+
+  not-set : (T : TypeRow) (f : ℕ → A) → (sortNumber T ≡ 4 → ⊥) → onSetOf d T f ≡ d
+  not-set bool f h = refl
+  not-set long f h = refl
+  not-set string f h = refl
+  not-set (entity k) f h = refl
+  not-set (set′ t) f h = absurd (h refl)
+  not-set (record′ ds) f h = refl
+
+  not-record : (T : TypeRow) (f : List Declared → A) → (sortNumber T ≡ 5 → ⊥) → onRecord d T f ≡ d
+  not-record bool f h = refl
+  not-record long f h = refl
+  not-record string f h = refl
+  not-record (entity k) f h = refl
+  not-record (set′ t) f h = refl
+  not-record (record′ ds) f h = absurd (h refl)
+
+module _ (a q : List ℕ) (y k : ℕ) (eq : q ≡ getD (rowsOf a TYPE) y []) (ek : k ≡ tag q) where
+  pub kind-is : (x : ℕ) → k ≡ 6 → x ≡ getD q 1 0 → F.the-variants.As x ≡ found (kindAt a y)
+  unfolding found kindAt
+  kind-is x h ex = let e : tag q ≡ 6 = sym ek ∙ h in rw (← eq, e, ex)
+
+  pub kind-not : (k ≡ 6 → ⊥) → F.the-variants.Undeclared ≡ found (kindAt a y)
+  unfolding found kindAt
+  kind-not h = let e : onEntity none (typeRow q) some ≡ none = not-entity none (typeRow q) some (λ s. h (ek ∙ tag-sort q 2 s)) in rw (← eq, e)
+
+  pub element-is : (x : ℕ) → k ≡ 7 → x ≡ getD q 1 0 → F.the-variants.As x ≡ found (elementAt a y)
+  unfolding found elementAt
+  element-is x h ex = let e : tag q ≡ 7 = sym ek ∙ h in rw (← eq, e, ex)
+
+  pub element-not : (k ≡ 7 → ⊥) → F.the-variants.Undeclared ≡ found (elementAt a y)
+  unfolding found elementAt
+  element-not h = let e : onSetOf none (typeRow q) some ≡ none = not-set none (typeRow q) some (λ s. h (ek ∙ tag-sort q 3 s)) in rw (← eq, e)
+
+  pub record-is : k ≡ 8 → F.the-variants.As y ≡ found (recordAt a y)
+  unfolding found recordAt
+  record-is h = let e : tag q ≡ 8 = sym ek ∙ h in rw (← eq, e)
+
+  pub record-not : (k ≡ 8 → ⊥) → F.the-variants.Undeclared ≡ found (recordAt a y)
+  unfolding found recordAt
+  record-not h = let e : onRecord none (typeRow q) (λ ds. some y) ≡ none = not-record none (typeRow q) (λ ds. some y) (λ s. h (ek ∙ tag-sort q 4 s)) in rw (← eq, e)
+
+-- ---- parts of a row
+
+pub attribute-is : (a q : List ℕ) (y t : ℕ) (f : F.Found) → q ≡ getD (rowsOf a TYPE) y [] → f ≡ found (declaredBy q t) → f ≡ found (attributeAt a y t)
+unfolding attributeAt
+attribute-is a q y t f eq ef = rw (← eq) ef
+
+bare : (l : List ℕ) → ltb (length l) 4 ≡ noneDeclared (declareds (drop 1 l))
+bare [] = refl
+bare (x ∷ []) = refl
+bare (x ∷ t ∷ []) = refl
+bare (x ∷ t ∷ u ∷ []) = refl
+bare (x ∷ t ∷ u ∷ v ∷ l) = le-ltb (length (x ∷ t ∷ u ∷ v ∷ l)) 4 (omega arith)
+
+pub bare-is : (a q : List ℕ) (y : ℕ) → q ≡ getD (rowsOf a TYPE) y [] → ltb (length q) 4 ≡ bareAt a y
+unfolding bareAt
+bare-is a q y eq = rw (← eq) (bare q)
+
+pub attribute-type-is : (a q : List ℕ) (k x : ℕ) → q ≡ getD (rowsOf a SHAPE) k [] → x ≡ getD q 1 0 → x ≡ attributeTypeAt a k
+unfolding attributeTypeAt
+attribute-type-is a q k x eq ex = rw (← eq) ex
+
+pub tag-type-is : (a q : List ℕ) (k x : ℕ) → q ≡ getD (rowsOf a SHAPE) k [] → x ≡ getD q 2 0 → x ≡ tagTypeAt a k
+unfolding tagTypeAt
+tag-type-is a q k x eq ex = rw (← eq) ex
+
+pub action-is : (a q : List ℕ) (k x : ℕ) → q ≡ getD (rowsOf a KIND) k [] → x ≡ getD q 2 0 → eqb x 1 ≡ actionAt a k
+unfolding actionAt
+action-is a q k x eq ex = rw (← eq, ← ex)
+
+pub request-at-is : (a q : List ℕ) (k x : ℕ) → q ≡ getD (rowsOf a k) 0 [] → x ≡ getD q 1 0 → x ≡ requestAt a k
+unfolding requestAt
+request-at-is a q k x eq ex = rw (← eq) ex
+
+pub node-type-is : (a q : List ℕ) (n x : ℕ) → q ≡ getD (rowsOf a 11) n [] → x ≡ getD q 1 0 → x ≡ nodeTypeAt a n
+unfolding nodeTypeAt
+node-type-is a q n x eq ex = rw (← eq) ex
+
+pub child-is : (a r : List ℕ) (i n x : ℕ) → n ≡ getD r i 0 → x ≡ nodeTypeAt a n → x ≡ childAt a r i
+unfolding childAt
+child-is a r i n x en ex = rw (← en) ex
+
+-- ---- kinds above
+
+-- what is left of the shape's row q, from word i on, decides whether kind l is above kind k
+pub record Above (a q : List ℕ) (k l i : ℕ) : Type 0 where
+  pub left : isAboveAt a k l ≡ memN l (drop i q)
+
+pub above-start : (a q : List ℕ) (k l : ℕ) → q ≡ getD (rowsOf a SHAPE) k [] → Above a q k l 3
+unfolding isAboveAt
+above-start a q k l eq = record { left = rw (← eq) }
+
+module _ (a q : List ℕ) (k l i : ℕ) (w : Above a q k l i) where
+  pub above-end : length q ≤ i → false ≡ isAboveAt a k l
+  above-end h = sym (w .left ∙ rw (drop-of-length-le q h))
+
+  module _ (x : ℕ) (h : i < length q) (ex : x ≡ getD q i 0) where
+    pub above-hit : x ≡ l → true ≡ isAboveAt a k l
+    above-hit e = sym (w .left ∙ rw (next q i h, ← ex, eq-eqb l x (sym e)))
+
+    pub above-on : (x ≡ l → ⊥) → Above a q k l (i + 1)
+    above-on e = record { left = w .left ∙ rw (next q i h, ← ex, ne-eqb l x (λ z. e (sym z))) }
+
+-- ---- attributes, targets
+
+module _ (a : List ℕ) (y : ℕ) (f : F.Found) where
+  pub attributes-none : (g : F.Found) → f ≡ found (kindAt a y) → f ≡ F.the-variants.Undeclared → g ≡ found (recordAt a y) → g ≡ found (attributesAt a y)
+  unfolding attributesAt
+  attributes-none g ef h eg = let e : kindAt a y ≡ none = found-none (kindAt a y) (sym ef ∙ h) in rw e eg
+
+  pub attributes-some : (g : F.Found) (k z : ℕ) → f ≡ found (kindAt a y) → f ≡ F.the-variants.As k → z ≡ attributeTypeAt a k → g ≡ found (recordAt a z) → g ≡ found (attributesAt a y)
+  unfolding attributesAt
+  attributes-some g k z ef h ez eg = let e : kindAt a y ≡ some k = found-some (kindAt a y) k (sym ef ∙ h) in rw (e, ← ez) eg
+
+  pub target-none : (g : F.Found) → f ≡ found (elementAt a y) → f ≡ F.the-variants.Undeclared → g ≡ found (kindAt a y) → g ≡ found (targetAt a y)
+  unfolding targetAt
+  target-none g ef h eg = let e : elementAt a y ≡ none = found-none (elementAt a y) (sym ef ∙ h) in rw e eg
+
+  pub target-some : (g : F.Found) (z : ℕ) → f ≡ found (elementAt a y) → f ≡ F.the-variants.As z → g ≡ found (kindAt a z) → g ≡ found (targetAt a y)
+  unfolding targetAt
+  target-some g z ef h eg = let e : elementAt a y ≡ some z = found-some (elementAt a y) z (sym ef ∙ h) in rw e eg

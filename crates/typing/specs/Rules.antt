@@ -1,0 +1,241 @@
+-- Document 01, "Typing", over the rows in the lent words: types, shapes and nodes by their numbers, one rule for each operation
+-- and key. That these are the rules of the state that the words hold is a theorem.
+use mathlib.Core.Path.{_≡_}
+use mathlib.Core.Bool.{Bool, true, false, cond, _&&_, _||_, not}
+use mathlib.Core.Option.{Option, none, some}
+use mathlib.Core.List.{List, [], _∷_}
+use Prim.Native.Nat.{ℕ, _-_}
+use lib.Dec.{eqb}
+use lib.ListN.{getD, drop}
+use Rattle.cedar.specs.Value.{onSome}
+use Rattle.cedar.specs.Numbered.{rEnt, rSet, rRec, memN, isSome}
+use Rattle.sheet.specs.Forms.{tag, items, mark, KIND, TYPE, SHAPE, VALUE, PRINCIPAL, ACTION, RESOURCE, CONTEXT, NODE}
+use Rattle.sheet.specs.State.{TypeRow, bool, long, string, entity, set′, record′, declareds, typeRow, entriesOf, valueRow}
+use Rattle.sheet.specs.Typing.{onEntity, onSetOf, onRecord, allIn, allEntries, noneDeclared, isStop, typed}
+use Rattle.table.specs.Layout.{rowsOf, held}
+use Rattle.fits.specs.Fit.{SettledIn, Known, full, completeIn, declaredBy}
+
+-- ---- types, by their numbers
+
+-- bool, long, string, entity, set, record
+abbrev pub sortNumber : TypeRow → ℕ
+sortNumber bool = 0
+sortNumber long = 1
+sortNumber string = 2
+sortNumber (entity k) = 3
+sortNumber (set′ t) = 4
+sortNumber (record′ ds) = 5
+
+module _ (a : List ℕ) where
+  unfoldable pub sortAt : ℕ → ℕ
+  sortAt y = sortNumber (typeRow (getD (rowsOf a TYPE) y []))
+
+  -- the kind of an entity type, the type of a set's elements, and a record type itself
+  unfoldable pub kindAt : ℕ → Option ℕ
+  kindAt y = onEntity none (typeRow (getD (rowsOf a TYPE) y [])) some
+
+  unfoldable pub elementAt : ℕ → Option ℕ
+  elementAt y = onSetOf none (typeRow (getD (rowsOf a TYPE) y [])) some
+
+  unfoldable pub recordAt : ℕ → Option ℕ
+  recordAt y = onRecord none (typeRow (getD (rowsOf a TYPE) y [])) (λ ds. some y)
+
+  -- the type that record type y declares for attribute t
+  unfoldable pub attributeAt : ℕ → ℕ → Option ℕ
+  attributeAt y t = declaredBy (getD (rowsOf a TYPE) y []) t
+
+  -- record type y declares nothing
+  unfoldable pub bareAt : ℕ → Bool
+  bareAt y = noneDeclared (declareds (items (getD (rowsOf a TYPE) y [])))
+
+  -- the types that a kind's shape names: of its attributes, and of its tags
+  unfoldable pub attributeTypeAt : ℕ → ℕ
+  attributeTypeAt k = getD (getD (rowsOf a SHAPE) k []) 1 0
+
+  unfoldable pub tagTypeAt : ℕ → ℕ
+  tagTypeAt k = getD (getD (rowsOf a SHAPE) k []) 2 0
+
+  unfoldable pub isAboveAt : ℕ → ℕ → Bool
+  isAboveAt k l = memN l (drop 3 (getD (rowsOf a SHAPE) k []))
+
+  unfoldable pub actionAt : ℕ → Bool
+  actionAt k = eqb (getD (getD (rowsOf a KIND) k []) 2 0) 1
+
+  -- the record type of the attributes of an entity or record type
+  unfoldable pub attributesAt : ℕ → Option ℕ
+  attributesAt y = onSome (recordAt y) (kindAt y) (λ k. recordAt (attributeTypeAt k))
+
+  -- the kind of an entity or set of entities
+  unfoldable pub targetAt : ℕ → Option ℕ
+  targetAt y = onSome (kindAt y) (elementAt y) kindAt
+
+  -- the kind or type that a line of the request names
+  unfoldable pub requestAt : ℕ → ℕ
+  requestAt k = getD (getD (rowsOf a k) 0 []) 1 0
+
+  unfoldable pub nodeTypeAt : ℕ → ℕ
+  nodeTypeAt n = getD (getD (rowsOf a NODE) n []) 1 0
+
+  -- ---- walks
+
+  -- "each step but the last being one while declared, and free after an undeclared step", from record type y
+  unfoldable pub pathFrom : List ℕ → ℕ → Bool
+  pathFrom [] y = true
+  pathFrom (t ∷ []) y = true
+  pathFrom (t ∷ u ∷ us) y = onSome true (attributeAt y t) (λ z. onSome false (attributesAt z) (pathFrom (u ∷ us)))
+
+  -- the nodes l have type e
+  unfoldable pub allOf : List ℕ → ℕ → Bool
+  allOf l e = allIn (λ n. eqb (nodeTypeAt n) e) l
+
+  -- each text and node of l: record type y declares the node's type for the text
+  unfoldable pub argsFit : List ℕ → ℕ → Bool
+  argsFit l y = allEntries (λ t n. onSome false (attributeAt y t) (eqb (nodeTypeAt n))) (entriesOf l)
+
+-- ---- nodes
+
+module _ (a r : List ℕ) where
+  -- the type of the node that word i of the row names
+  unfoldable pub childAt : ℕ → ℕ
+  childAt i = nodeTypeAt a (getD r i 0)
+
+  -- the sorts of the node's type and of its children's
+  unfoldable pub twoSorts : ℕ → ℕ → Bool
+  twoSorts i j = eqb (sortAt a (getD r 1 0)) i && eqb (sortAt a (childAt 2)) j
+
+  unfoldable pub threeSorts : ℕ → ℕ → ℕ → Bool
+  threeSorts i j k = twoSorts i j && eqb (sortAt a (childAt 3)) k
+
+  unfoldable pub requestIs : ℕ → Bool
+  requestIs k = onSome false (kindAt a (getD r 1 0)) (λ e. eqb e (requestAt a k))
+
+  unfoldable pub contextIsAt : Bool
+  contextIsAt = eqb (getD r 1 0) (requestAt a CONTEXT)
+
+  unfoldable pub varRule : Bool
+  varRule = getD (requestIs PRINCIPAL ∷ requestIs ACTION ∷ requestIs RESOURCE ∷ contextIsAt ∷ []) (getD r 2 0) contextIsAt
+
+  unfoldable pub eqRule : Bool
+  eqRule = eqb (sortAt a (getD r 1 0)) 0 && (eqb (childAt 2) (childAt 3) || (eqb (sortAt a (childAt 2)) 3 && eqb (sortAt a (childAt 3)) 3))
+
+  unfoldable pub inRule : Bool
+  inRule = twoSorts 0 3 && isSome (targetAt a (childAt 3))
+
+  unfoldable pub gettagRule : Bool
+  gettagRule = eqb (sortAt a (childAt 3)) 2 && onSome false (kindAt a (childAt 2)) (λ k. eqb (tagTypeAt a k) (getD r 1 0))
+
+  unfoldable pub containsRule : Bool
+  containsRule = eqb (sortAt a (getD r 1 0)) 0 && onSome false (elementAt a (childAt 2)) (λ e. eqb e (childAt 3))
+
+  unfoldable pub twoSetsRule : Bool
+  twoSetsRule = twoSorts 0 4 && eqb (childAt 2) (childAt 3)
+
+  unfoldable pub ifRule : Bool
+  ifRule = eqb (sortAt a (childAt 2)) 0 && eqb (childAt 3) (getD r 1 0) && eqb (childAt 4) (getD r 1 0)
+
+  unfoldable pub getRule : Bool
+  getRule = onSome false (attributesAt a (childAt 2)) (λ y. onSome false (attributeAt a y (getD r 3 0)) (eqb (getD r 1 0)))
+
+  unfoldable pub hasRule : Bool
+  hasRule = eqb (sortAt a (getD r 1 0)) 0 && isSome (attributesAt a (childAt 2))
+
+  unfoldable pub haspathRule : Bool
+  haspathRule = eqb (sortAt a (getD r 1 0)) 0 && onSome false (attributesAt a (childAt 2)) (pathFrom a (drop 3 r))
+
+  unfoldable pub setRule : Bool
+  setRule = onSome false (elementAt a (getD r 1 0)) (allOf a (drop 2 r))
+
+  unfoldable pub recordRule : Bool
+  recordRule = onSome false (recordAt a (getD r 1 0)) (λ y. completeIn (drop 1 r) (getD (rowsOf a TYPE) y []) && argsFit a (drop 2 r) y)
+
+  -- one rule for each operation, in the table's order
+  unfoldable pub nodeRules : List Bool
+  nodeRules =
+      full a (getD r 2 0) (getD r 1 0)  -- lit
+      ∷ true  -- err
+      ∷ varRule  -- var
+      ∷ threeSorts 0 0 0  -- and
+      ∷ threeSorts 0 0 0  -- or
+      ∷ eqRule  -- eq
+      ∷ threeSorts 0 1 1  -- lt
+      ∷ threeSorts 0 1 1  -- le
+      ∷ threeSorts 1 1 1  -- add
+      ∷ threeSorts 1 1 1  -- sub
+      ∷ threeSorts 1 1 1  -- mul
+      ∷ inRule  -- in
+      ∷ gettagRule  -- gettag
+      ∷ threeSorts 0 3 2  -- hastag
+      ∷ containsRule  -- contains
+      ∷ twoSetsRule  -- all
+      ∷ twoSetsRule  -- any
+      ∷ ifRule  -- if
+      ∷ twoSorts 0 3  -- is
+      ∷ twoSorts 0 2  -- like
+      ∷ getRule  -- get
+      ∷ hasRule  -- has
+      ∷ haspathRule  -- haspath
+      ∷ twoSorts 0 0  -- not
+      ∷ twoSorts 1 1  -- neg
+      ∷ twoSorts 0 4  -- empty
+      ∷ setRule  -- set
+      ∷ recordRule  -- record
+      ∷ []
+
+  unfoldable pub nodeRule : ℕ → Bool
+  nodeRule j = getD nodeRules j false
+
+  -- ---- the other keys
+
+  unfoldable pub shapeRule : Bool
+  shapeRule = onSome false (recordAt a (getD r 1 0)) (λ y. not (actionAt a (getD a SHAPE 0)) || (bareAt a y && eqb (getD r 2 0) mark))
+
+  unfoldable pub contextRule : Bool
+  contextRule = isSome (recordAt a (getD r 1 0)) && (eqb (getD r 2 0) mark || full a (getD r 2 0) (getD r 1 0))
+
+  unfoldable pub policyRule : Bool
+  policyRule = eqb (sortAt a (childAt 3)) 0
+
+module _ (a : List ℕ) (x k : ℕ) where
+  -- attributes, tags and ancestors x of an entity of kind k
+  unfoldable pub attributesRule : Bool
+  attributesRule = eqb x mark || rRec false (valueRow (getD (rowsOf a VALUE) x [])) (λ e. full a x (attributeTypeAt a k))
+
+  unfoldable pub tagsRule : Bool
+  tagsRule = eqb x mark || rRec false (valueRow (getD (rowsOf a VALUE) x [])) (λ e. cond (eqb (tagTypeAt a k) mark) (isStop e) (allEntries (λ t v. full a v (tagTypeAt a k)) e))
+
+  -- value x is an entity whose kind is among those above kind k
+  unfoldable pub ancestorRule : Bool
+  ancestorRule = rEnt false (valueRow (getD (rowsOf a VALUE) x [])) (λ l t. isAboveAt a k l)
+
+module _ (a : List ℕ) where
+  unfoldable pub ancestorsRule : ℕ → ℕ → Bool
+  ancestorsRule x k = eqb x mark || rSet false (valueRow (getD (rowsOf a VALUE) x [])) (allIn (λ v. ancestorRule a v k))
+
+  unfoldable pub entityRule : List ℕ → Bool
+  entityRule r = rEnt false (valueRow (getD (rowsOf a VALUE) (getD r 1 0) [])) (λ k t. attributesRule a (getD r 2 0) k && tagsRule a (getD r 3 0) k && ancestorsRule (getD r 4 0) k)
+
+  -- one rule for each key
+  unfoldable pub typedRule : List ℕ → ℕ → Bool
+  typedRule r k = getD (
+      true  -- sheet
+      ∷ true  -- text
+      ∷ true  -- kind
+      ∷ true  -- type
+      ∷ shapeRule a r  -- shape
+      ∷ true  -- value
+      ∷ entityRule r  -- entity
+      ∷ not (actionAt a (getD r 1 0))  -- principal
+      ∷ actionAt a (getD r 1 0)  -- action
+      ∷ not (actionAt a (getD r 1 0))  -- resource
+      ∷ contextRule a r  -- context
+      ∷ nodeRule a r (tag r - 21)  -- node
+      ∷ policyRule a r  -- policy
+      ∷ []) k false
+
+-- ---- the promise
+
+-- the answer is that of the state that the words hold, whatever the sheet's bytes, depths and uses are, wherever the whole depth is enough
+pub record Typed (a m n r : List ℕ) (k : ℕ) (b : Bool) : Type 0 where
+  pub is : (sheet c : List ℕ) → SettledIn a → b ≡ typed (held sheet a c) r k
+  pub known : Known a n
+  pub rest : drop 4096 n ≡ drop 4096 m

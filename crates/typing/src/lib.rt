@@ -1,0 +1,4 @@
+// Refusal 7: whether a line's row is typed, over the rows in the lent words.
+pub mod lines;
+pub mod nodes;
+pub mod types;
