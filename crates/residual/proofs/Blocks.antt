@@ -1,0 +1,311 @@
+-- Where the words of a residual lie, and that a row's words say what its tree is. Assumes nothing.
+use mathlib.Core.Path.{_≡_, refl, sym, ap, _∙_, subst}
+use mathlib.Core.Bool.{Bool, true, false, _||_, and-eq-true-iff}
+use mathlib.Core.List.{List, [], _∷_, _++_, append-assoc}
+use Prim.Native.Nat.{ℕ, zero, suc, _+_, _-_, _<_}
+use native.Mathlib.Omega.{arith}
+use borrow.Author.Tests.{eqb-true, le-ltb, leb-true}
+use lib.Dec.{eqb, leb}
+use lib.ListN.{length, getD, drop, length-append, List·getD-append}
+use lib.Seq.{getD-append-add}
+use Rattle.cedar.proofs.Tools.{no-true}
+use Rattle.cedar.specs.Types.{Ty, tbool}
+use Rattle.cedar.specs.Residual.{Node, err, and, or, ite, un, bin, rel, get, has, haspath, unot, uneg, uempty, uis, ulike, beq, blt, ble, badd, bsub, bmul, bcontains, ball, bany, rin, rgettag, rhastag, tyOf, canErr, canErrs, canErrArgs, open′, view}
+use Rattle.sheet.specs.Forms.{tag, items, at, firstNode}
+use Rattle.sheet.specs.Content.{patternOf}
+use Rattle.sheet.specs.Answer.{size, sizes, sizeArgs}
+use Rattle.residual.specs.Rows.{litRow, errRow, leftRow, wordAt, startAt}
+use Rattle.residual.specs.Errs.{opErrs}
+use Rattle.residual.specs.Trees.{Res, rlit, rerr, rleft, flat, flats, nodesOf, argsOf, leftFor, leftTree, suitsFor, suits}
+
+-- ---- a residual's last row, and what stands before it
+
+unfoldable pub bodyOf : Res → List ℕ
+bodyOf (rlit v y) = []
+bodyOf (rerr y) = []
+bodyOf (rleft n k y rs) = flats rs
+
+unfoldable pub rowOf : Res → List ℕ
+rowOf (rlit v y) = litRow v y
+rowOf (rerr y) = errRow y
+rowOf (rleft n k y rs) = leftRow n k (length (flats rs)) y
+
+flat-is : (r : Res) → flat r ≡ bodyOf r ++ rowOf r
+unfolding flat bodyOf rowOf
+flat-is (rlit v y) = refl
+flat-is (rerr y) = refl
+flat-is (rleft n k y rs) = refl
+
+row-four : (r : Res) → length (rowOf r) ≡ 4
+unfolding rowOf
+row-four (rlit v y) = refl
+row-four (rerr y) = refl
+row-four (rleft n k y rs) = refl
+
+pub flat-length : (r : Res) → length (flat r) ≡ length (bodyOf r) + 4
+flat-length r = ap length (flat-is r) ∙ length-append (bodyOf r) (rowOf r) ∙ ap (λ (n : ℕ). length (bodyOf r) + n) (row-four r)
+
+row-length : (r : Res) → getD (rowOf r) 2 0 ≡ length (flat r)
+unfolding rowOf flat bodyOf
+row-length (rlit v y) = refl
+row-length (rerr y) = refl
+row-length (rleft n k y rs) = sym (length-append (flats rs) (leftRow n k (length (flats rs)) y))
+
+-- the words of the last row, wherever the residual lies
+module _ (pre : List ℕ) (r : Res) (post : List ℕ) where
+  abbrev log : List ℕ
+  log = pre ++ (flat r ++ post)
+
+  abbrev end : ℕ
+  end = length pre + length (flat r)
+
+  pub res-word : (j : ℕ) → j < 4 → wordAt log end j ≡ getD (rowOf r) j 0
+  unfolding wordAt
+  res-word j h =
+      let n = flat-length r in
+      let p : end - 4 + j ≡ length pre + (length (bodyOf r) + j) = omega arith in
+      let q : flat r ++ post ≡ bodyOf r ++ (rowOf r ++ post) = ap (λ (l : List ℕ). l ++ post) (flat-is r) ∙ append-assoc (bodyOf r) (rowOf r) post in
+      rw (le-ltb end 4 (omega arith), p, getD-append-add pre (flat r ++ post) (length (bodyOf r) + j) 0, q, getD-append-add (bodyOf r) (rowOf r ++ post) j 0)
+      (List·getD-append (rowOf r) post 0 j (omega (arith, row-four r)))
+
+  pub res-start : startAt log end ≡ length pre
+  unfolding startAt
+  res-start =
+      let n = flat-length r in
+      rw (res-word 2 (omega arith), row-length r, le-ltb (length (flat r)) 4 (omega arith)) (omega arith)
+
+-- ---- properties of a node over its children, operation by operation
+
+-- Q holds at each place, from place i on, where the test does
+data Each (Q : ℕ → Node ℕ → Type 0) : ℕ → List Bool → List (Node ℕ) → Type 0 where
+  each0 : {i : ℕ} → Each Q i [] []
+  each1 : {i : ℕ} {s : Bool} {ss : List Bool} {n : Node ℕ} {ns : List (Node ℕ)} → (s ≡ true → Q i n) → Each Q (suc i) ss ns → Each Q i (s ∷ ss) (n ∷ ns)
+
+each-at : {Q : ℕ → Node ℕ → Type 0} {i : ℕ} {ss : List Bool} {ns : List (Node ℕ)} (d : Node ℕ) → Each Q i ss ns → (j : ℕ) → getD ss j false ≡ true → Q (j + i) (getD ns j d)
+each-at d each0 j e = no-true e
+each-at {Q} {i} d (each1 {n = n} {ns = ns} f r) zero e =
+    let z : i ≡ 0 + i = omega arith in
+    subst (λ (m : ℕ). Q m n) z (f e)
+each-at {Q} {i} d (each1 {n = n} {ns = ns} f r) (suc j) e =
+    let z : j + suc i ≡ suc j + i = omega arith in
+    subst (λ (m : ℕ). Q m (getD ns j d)) z (each-at d r j e)
+
+unfoldable pub anyErrs : List (Node ℕ) → Bool
+anyErrs [] = false
+anyErrs (c ∷ cs) = canErr c || anyErrs cs
+
+unfoldable pub sizeAll : List (Node ℕ) → ℕ
+sizeAll [] = 0
+sizeAll (x ∷ l) = size x + sizeAll l
+
+module _ (r : List ℕ) (k : ℕ) (T : Ty) (cs : List (Node ℕ)) where
+  abbrev c : ℕ → Node ℕ
+  c j = getD cs j (err tbool)
+
+  at-operation : {Q : ℕ → Node ℕ → Type 0} → Each Q 21 (suitsFor r (length cs)) (leftFor r k T cs c) → suits r (length cs) ≡ true → Q (tag r) (leftTree r k T cs)
+  unfolding suits leftTree
+  at-operation {Q} e s =
+      let p = and-eq-true-iff (leb firstNode (tag r)) (getD (suitsFor r (length cs)) (tag r - firstNode) false) .0 s in
+      let t : tag r - 21 + 21 ≡ tag r = omega (arith, leb-true firstNode (tag r) (p .0)) in
+      let q : Q (tag r - 21 + 21) (getD (leftFor r k T cs c) (tag r - 21) (err tbool)) = each-at (err tbool) e (tag r - 21) (p .1) in
+      rw t at q
+
+  -- children by their number
+  with0 : (P : List (Node ℕ) → Type 0) → P [] → eqb (length cs) 0 ≡ true → P cs
+  with0 P f e = go cs (eqb-true (length cs) 0 e)
+    where
+      go : (l : List (Node ℕ)) → length l ≡ 0 → P l
+      go [] z = f
+      go (x ∷ l) z = absurd (omega arith)
+
+  with1 : (P : List (Node ℕ) → Type 0) → ((x : Node ℕ) → P (x ∷ [])) → eqb (length cs) 1 ≡ true → P cs
+  with1 P f e = go cs (eqb-true (length cs) 1 e)
+    where
+      go : (l : List (Node ℕ)) → length l ≡ 1 → P l
+      go [] z = absurd (omega arith)
+      go (x ∷ []) z = f x
+      go (x ∷ y ∷ l) z = absurd (omega arith)
+
+  with2 : (P : List (Node ℕ) → Type 0) → ((x y : Node ℕ) → P (x ∷ y ∷ [])) → eqb (length cs) 2 ≡ true → P cs
+  with2 P f e = go cs (eqb-true (length cs) 2 e)
+    where
+      go : (l : List (Node ℕ)) → length l ≡ 2 → P l
+      go [] z = absurd (omega arith)
+      go (x ∷ []) z = absurd (omega arith)
+      go (x ∷ y ∷ []) z = f x y
+      go (x ∷ y ∷ w ∷ l) z = absurd (omega arith)
+
+  with3 : (P : List (Node ℕ) → Type 0) → ((x y w : Node ℕ) → P (x ∷ y ∷ w ∷ [])) → eqb (length cs) 3 ≡ true → P cs
+  with3 P f e = go cs (eqb-true (length cs) 3 e)
+    where
+      go : (l : List (Node ℕ)) → length l ≡ 3 → P l
+      go [] z = absurd (omega arith)
+      go (x ∷ []) z = absurd (omega arith)
+      go (x ∷ y ∷ []) z = absurd (omega arith)
+      go (x ∷ y ∷ w ∷ []) z = f x y w
+      go (x ∷ y ∷ w ∷ v ∷ l) z = absurd (omega arith)
+
+  -- ---- errors
+
+  or-nil : (a : Bool) → a ≡ (a || false)
+  or-nil true = refl
+  or-nil false = refl
+
+  or-two : (a b : Bool) → (a || b) ≡ (a || (b || false))
+  or-two true b = refl
+  or-two false b = or-nil b
+
+  or-three : (a b d : Bool) → (a || b || d) ≡ (a || (b || (d || false)))
+  or-three true b d = refl
+  or-three false b d = or-two b d
+
+  Errs : ℕ → Node ℕ → Type 0
+  Errs i n = canErr n ≡ (opErrs i || anyErrs cs)
+
+  one-errs : (i : ℕ) (f : Node ℕ → Node ℕ) → ((x : Node ℕ) → canErr (f x) ≡ (opErrs i || (canErr x || false))) → eqb (length cs) 1 ≡ true → Errs i (f (c 0))
+  unfolding Errs anyErrs
+  one-errs i f h e = with1 (λ l. canErr (f (getD l 0 (err tbool))) ≡ (opErrs i || anyErrs l)) h e
+
+  two-errs : (i : ℕ) (f : Node ℕ → Node ℕ → Node ℕ) → ((x y : Node ℕ) → canErr (f x y) ≡ (opErrs i || (canErr x || (canErr y || false)))) → eqb (length cs) 2 ≡ true → Errs i (f (c 0) (c 1))
+  unfolding Errs anyErrs
+  two-errs i f h e = with2 (λ l. canErr (f (getD l 0 (err tbool)) (getD l 1 (err tbool))) ≡ (opErrs i || anyErrs l)) h e
+
+  nodes-errs : (l : List (Node ℕ)) → canErrs (nodesOf l) ≡ anyErrs l
+  unfolding anyErrs
+  nodes-errs [] = refl
+  nodes-errs (x ∷ l) = ap (λ (b : Bool). canErr x || b) (nodes-errs l)
+
+  args-errs : (ts : List ℕ) (l : List (Node ℕ)) → length ts ≡ length l + length l → canErrArgs (argsOf ts l) ≡ anyErrs l
+  unfolding anyErrs
+  args-errs [] [] e = refl
+  args-errs [] (x ∷ l) e = absurd (omega arith)
+  args-errs (t ∷ []) l e = absurd (omega arith)
+  args-errs (t ∷ n ∷ ts) [] e = absurd (omega arith)
+  args-errs (t ∷ n ∷ ts) (x ∷ l) e = ap (λ (b : Bool). canErr x || b) (args-errs ts l (omega arith))
+
+  all-errs : Each Errs 21 (suitsFor r (length cs)) (leftFor r k T cs c)
+  unfolding Errs opErrs anyErrs
+  all-errs =
+      each1 (λ e. no-true e) (each1 (λ e. no-true e) (each1 (λ e. with0 (λ l. false ≡ anyErrs l) refl e)
+      (each1 (two-errs 24 (and T) (λ x y. or-two (canErr x) (canErr y)))
+      (each1 (two-errs 25 (or T) (λ x y. or-two (canErr x) (canErr y)))
+      (each1 (two-errs 26 (bin T beq) (λ x y. or-two (canErr x) (canErr y)))
+      (each1 (two-errs 27 (bin T blt) (λ x y. or-two (canErr x) (canErr y)))
+      (each1 (two-errs 28 (bin T ble) (λ x y. or-two (canErr x) (canErr y)))
+      (each1 (two-errs 29 (bin T badd) (λ x y. refl))
+      (each1 (two-errs 30 (bin T bsub) (λ x y. refl))
+      (each1 (two-errs 31 (bin T bmul) (λ x y. refl))
+      (each1 (two-errs 32 (rel T rin) (λ x y. or-two (canErr x) (canErr y)))
+      (each1 (two-errs 33 (rel T rgettag) (λ x y. refl))
+      (each1 (two-errs 34 (rel T rhastag) (λ x y. or-two (canErr x) (canErr y)))
+      (each1 (two-errs 35 (bin T bcontains) (λ x y. or-two (canErr x) (canErr y)))
+      (each1 (two-errs 36 (bin T ball) (λ x y. or-two (canErr x) (canErr y)))
+      (each1 (two-errs 37 (bin T bany) (λ x y. or-two (canErr x) (canErr y)))
+      (each1 (λ e. with3 (λ l. canErr (ite T (getD l 0 (err tbool)) (getD l 1 (err tbool)) (getD l 2 (err tbool))) ≡ anyErrs l) (λ x y w. or-three (canErr x) (canErr y) (canErr w)) e)
+      (each1 (one-errs 39 (un T (uis (at r 2))) (λ x. or-nil (canErr x)))
+      (each1 (one-errs 40 (un T (ulike (patternOf (drop 2 (items r))))) (λ x. or-nil (canErr x)))
+      (each1 (one-errs 41 (λ x. get T x (at r 2)) (λ x. refl))
+      (each1 (one-errs 42 (λ x. has T x (at r 2)) (λ x. or-nil (canErr x)))
+      (each1 (one-errs 43 (λ x. haspath T x (at r (2 + k)) (drop (3 + k) (items r))) (λ x. or-nil (canErr x)))
+      (each1 (one-errs 44 (un T unot) (λ x. or-nil (canErr x)))
+      (each1 (one-errs 45 (un T uneg) (λ x. refl))
+      (each1 (one-errs 46 (un T uempty) (λ x. or-nil (canErr x)))
+      (each1 (λ e. nodes-errs cs)
+      (each1 (λ e. args-errs (drop 1 (items r)) cs (eqb-true (length (drop 1 (items r))) (length cs + length cs) e)) each0)))))))))))))))))))))))))))
+
+  pub left-errs : suits r (length cs) ≡ true → canErr (leftTree r k T cs) ≡ (opErrs (tag r) || anyErrs cs)
+  unfolding Errs
+  left-errs s = at-operation {Q = Errs} all-errs s
+
+  -- ---- what is left is open, and has its own type
+
+  Opens : ℕ → Node ℕ → Type 0
+  Opens i n = view n ≡ open′
+
+  all-open : Each Opens 21 (suitsFor r (length cs)) (leftFor r k T cs c)
+  unfolding Opens
+  all-open = each1 (λ e. no-true e) (each1 (λ e. no-true e) (each1 (λ e. refl) (each1 (λ e. refl) (each1 (λ e. refl) (each1 (λ e. refl) (each1 (λ e. refl) (each1 (λ e. refl) (each1 (λ e. refl) (each1 (λ e. refl) (each1 (λ e. refl) (each1 (λ e. refl) (each1 (λ e. refl) (each1 (λ e. refl) (each1 (λ e. refl) (each1 (λ e. refl) (each1 (λ e. refl) (each1 (λ e. refl) (each1 (λ e. refl) (each1 (λ e. refl) (each1 (λ e. refl) (each1 (λ e. refl) (each1 (λ e. refl) (each1 (λ e. refl) (each1 (λ e. refl) (each1 (λ e. refl) (each1 (λ e. refl) (each1 (λ e. refl) each0)))))))))))))))))))))))))))
+
+  pub left-open : suits r (length cs) ≡ true → view (leftTree r k T cs) ≡ open′
+  unfolding Opens
+  left-open s = at-operation {Q = Opens} all-open s
+
+  Types : ℕ → Node ℕ → Type 0
+  Types i n = tyOf n ≡ T
+
+  all-typed : Each Types 21 (suitsFor r (length cs)) (leftFor r k T cs c)
+  unfolding Types
+  all-typed = each1 (λ e. no-true e) (each1 (λ e. no-true e) (each1 (λ e. refl) (each1 (λ e. refl) (each1 (λ e. refl) (each1 (λ e. refl) (each1 (λ e. refl) (each1 (λ e. refl) (each1 (λ e. refl) (each1 (λ e. refl) (each1 (λ e. refl) (each1 (λ e. refl) (each1 (λ e. refl) (each1 (λ e. refl) (each1 (λ e. refl) (each1 (λ e. refl) (each1 (λ e. refl) (each1 (λ e. refl) (each1 (λ e. refl) (each1 (λ e. refl) (each1 (λ e. refl) (each1 (λ e. refl) (each1 (λ e. refl) (each1 (λ e. refl) (each1 (λ e. refl) (each1 (λ e. refl) (each1 (λ e. refl) (each1 (λ e. refl) each0)))))))))))))))))))))))))))
+
+  pub left-typed : suits r (length cs) ≡ true → tyOf (leftTree r k T cs) ≡ T
+  unfolding Types
+  left-typed s = at-operation {Q = Types} all-typed s
+
+  -- ---- how many nodes there are
+
+  sum-one : (m : ℕ) → suc m ≡ suc (m + 0)
+  sum-one m = omega arith
+
+  sum-two : (m n : ℕ) → suc (m + n) ≡ suc (m + (n + 0))
+  sum-two m n = omega arith
+
+  sum-three : (m n o : ℕ) → suc (m + n + o) ≡ suc (m + (n + (o + 0)))
+  sum-three m n o = omega arith
+
+  Sizes : ℕ → Node ℕ → Type 0
+  Sizes i n = size n ≡ suc (sizeAll cs)
+
+  one-size : (i : ℕ) (f : Node ℕ → Node ℕ) → ((x : Node ℕ) → size (f x) ≡ suc (size x)) → eqb (length cs) 1 ≡ true → Sizes i (f (c 0))
+  unfolding Sizes sizeAll
+  one-size i f h e = with1 (λ l. size (f (getD l 0 (err tbool))) ≡ suc (sizeAll l)) (λ x. h x ∙ sum-one (size x)) e
+
+  two-size : (i : ℕ) (f : Node ℕ → Node ℕ → Node ℕ) → ((x y : Node ℕ) → size (f x y) ≡ suc (size x + size y)) → eqb (length cs) 2 ≡ true → Sizes i (f (c 0) (c 1))
+  unfolding Sizes sizeAll
+  two-size i f h e = with2 (λ l. size (f (getD l 0 (err tbool)) (getD l 1 (err tbool))) ≡ suc (sizeAll l)) (λ x y. h x y ∙ sum-two (size x) (size y)) e
+
+  nodes-size : (l : List (Node ℕ)) → sizes (nodesOf l) ≡ sizeAll l
+  unfolding sizeAll
+  nodes-size [] = refl
+  nodes-size (x ∷ l) = ap (λ (m : ℕ). size x + m) (nodes-size l)
+
+  args-size : (ts : List ℕ) (l : List (Node ℕ)) → length ts ≡ length l + length l → sizeArgs (argsOf ts l) ≡ sizeAll l
+  unfolding sizeAll
+  args-size [] [] e = refl
+  args-size [] (x ∷ l) e = absurd (omega arith)
+  args-size (t ∷ []) l e = absurd (omega arith)
+  args-size (t ∷ n ∷ ts) [] e = absurd (omega arith)
+  args-size (t ∷ n ∷ ts) (x ∷ l) e = ap (λ (m : ℕ). size x + m) (args-size ts l (omega arith))
+
+  all-sizes : Each Sizes 21 (suitsFor r (length cs)) (leftFor r k T cs c)
+  unfolding Sizes sizeAll
+  all-sizes =
+      each1 (λ e. no-true e) (each1 (λ e. no-true e) (each1 (λ e. with0 (λ l. 1 ≡ suc (sizeAll l)) refl e)
+      (each1 (two-size 24 (and T) (λ x y. refl))
+      (each1 (two-size 25 (or T) (λ x y. refl))
+      (each1 (two-size 26 (bin T beq) (λ x y. refl))
+      (each1 (two-size 27 (bin T blt) (λ x y. refl))
+      (each1 (two-size 28 (bin T ble) (λ x y. refl))
+      (each1 (two-size 29 (bin T badd) (λ x y. refl))
+      (each1 (two-size 30 (bin T bsub) (λ x y. refl))
+      (each1 (two-size 31 (bin T bmul) (λ x y. refl))
+      (each1 (two-size 32 (rel T rin) (λ x y. refl))
+      (each1 (two-size 33 (rel T rgettag) (λ x y. refl))
+      (each1 (two-size 34 (rel T rhastag) (λ x y. refl))
+      (each1 (two-size 35 (bin T bcontains) (λ x y. refl))
+      (each1 (two-size 36 (bin T ball) (λ x y. refl))
+      (each1 (two-size 37 (bin T bany) (λ x y. refl))
+      (each1 (λ e. with3 (λ l. size (ite T (getD l 0 (err tbool)) (getD l 1 (err tbool)) (getD l 2 (err tbool))) ≡ suc (sizeAll l)) (λ x y w. sum-three (size x) (size y) (size w)) e)
+      (each1 (one-size 39 (un T (uis (at r 2))) (λ x. refl))
+      (each1 (one-size 40 (un T (ulike (patternOf (drop 2 (items r))))) (λ x. refl))
+      (each1 (one-size 41 (λ x. get T x (at r 2)) (λ x. refl))
+      (each1 (one-size 42 (λ x. has T x (at r 2)) (λ x. refl))
+      (each1 (one-size 43 (λ x. haspath T x (at r (2 + k)) (drop (3 + k) (items r))) (λ x. refl))
+      (each1 (one-size 44 (un T unot) (λ x. refl))
+      (each1 (one-size 45 (un T uneg) (λ x. refl))
+      (each1 (one-size 46 (un T uempty) (λ x. refl))
+      (each1 (λ e. ap suc (nodes-size cs))
+      (each1 (λ e. ap suc (args-size (drop 1 (items r)) cs (eqb-true (length (drop 1 (items r))) (length cs + length cs) e))) each0)))))))))))))))))))))))))))
+
+  pub left-size : suits r (length cs) ≡ true → size (leftTree r k T cs) ≡ suc (sizeAll cs)
+  unfolding Sizes
+  left-size s = at-operation {Q = Sizes} all-sizes s

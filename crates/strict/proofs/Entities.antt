@@ -1,0 +1,390 @@
+-- Operations on entities: what the look-ups give is what the numbered definitions give. Assumes nothing.
+use mathlib.Core.Path.{_≡_, refl, sym, ap, _∙_}
+use mathlib.Core.Bool.{Bool, true, false, not, cond, _&&_, _||_}
+use mathlib.Core.Option.{Option, none, some}
+use mathlib.Core.List.{List, [], _∷_}
+use Prim.Native.Nat.{ℕ, suc, _+_, _≤_, _<_}
+use native.Mathlib.Numerals.{add-one}
+use native.Mathlib.Omega.{arith}
+use borrow.Author.Tests.{not-true, not-false}
+use lib.Dec.{eqb}
+use lib.ListN.{getD, length, drop, length-drop}
+use types.Run.{OneOf, miss}
+use denote.Enum.Declared.{tagOf}
+use Rattle.value.proofs.Shape.{the-type}
+use Rattle.cedar.specs.Evaluate.{isNil}
+use Rattle.cedar.specs.Rows.{stop, Row, rbool, rlong, rtext, rent, rset, rrec}
+use Rattle.cedar.specs.Numbered.{Give, made, old, NOut, give, fails, stays, truly, rEnt, rText, rRec, giveRow, memN, anyN, entryOf, isSome, orFail, allRent, nentity, nIn, nTargets, onEntries}
+use Rattle.cedar.specs.Value.{onSome}
+use Rattle.cedar.specs.Types.{Ty, tent, Schema}
+use Rattle.cedar.specs.Numbered.{Out, out, make, nlineOr, nLeft, nWalk}
+use Rattle.cedar.specs.Residual.{lit, err}
+use Rattle.sheet.specs.Forms.{items, at, mark}
+use Rattle.sheet.specs.Content.{lookUp, nEnv, lineGiven, known}
+use Rattle.table.specs.Layout.{held}
+use Rattle.value.specs.Lines.{valueLines}
+use Rattle.value.specs.Shapes.{shapeOf, shapeRow}
+use Rattle.value.specs.declared.Shape.{Shape}
+use Rattle.value.specs.declared.Shape.the-variants.{Bool as Boolˢ, Long, Text, Entity, Set, Record}
+use Rattle.value.proofs.Lists.{Going, uncons, spent}
+use Rattle.strict.specs.Gives.{outOf, values, valueIn, modeOf, envIn}
+use Rattle.strict.specs.Lookups.{stateIn, lineIn, partOfLine, partIn, lookFound, lookRow, lookIn, lookValue, lookAttr, takenOf, presentOf, getOut, hasOut, tagLook, gettagOut, hastagOut, isRentAt, inKnownOut, inUnknownOut, inListOut, inOut, walkStep, walkFrom}
+use Rattle.strict.specs.declared.Given.{Given}
+use Rattle.strict.specs.declared.Given.the-variants.{Bool as Boolᵍ, Fails, Stays}
+use Rattle.strict.specs.declared.entity.Part.{Part}
+use Rattle.strict.specs.declared.entity.Part.the-variants.{Known, Empty, Unknown}
+use Rattle.strict.specs.declared.entity.Look.{Look}
+use Rattle.strict.specs.declared.entity.Look.the-variants.{At as Atˡ, Missing, Unknown as Unknownˡ, Bad}
+use Rattle.strict.specs.declared.entity.Walked.{Walked}
+use Rattle.strict.specs.declared.entity.Walked.the-variants.{Holds, Fails as Failsʷ, Left}
+use Rattle.strict.proofs.Shapes.{value-shape, other-text, other-entity, other-set}
+
+-- ---- known parts
+
+abbrev partGive : Give → Part → Option Give
+partGive e (Known n) = some (old n)
+partGive e Empty = some e
+partGive e Unknown = none
+
+given-or : (e : Give) (x : ℕ) (b : Bool) → cond b none (some (old x)) ≡ partGive e (cond b Unknown (Known x))
+given-or e x true = refl
+given-or e x false = refl
+
+module _ (c : Bool) (a : List ℕ) (k t : ℕ) where
+  attrs-is : nentity (envIn c a) k t .attrs ≡ partGive (made (rrec stop)) (partIn c a k t 1)
+  unfolding envIn nEnv partIn lineIn stateIn
+  attrs-is = go c (lookUp (held [] a []) k t)
+    where
+      go : (b : Bool) (o : Option (List ℕ)) → nlineOr (lineGiven (modeOf b) o) .attrs ≡ partGive (made (rrec stop)) (partOfLine b o 1)
+      go true none = refl
+      go false none = refl
+      go b (some r) = given-or (made (rrec stop)) (at r 1) (eqb (at r 1) mark)
+
+  tags-is : nentity (envIn c a) k t .tags ≡ partGive (made (rrec stop)) (partIn c a k t 2)
+  unfolding envIn nEnv partIn lineIn stateIn
+  tags-is = go c (lookUp (held [] a []) k t)
+    where
+      go : (b : Bool) (o : Option (List ℕ)) → nlineOr (lineGiven (modeOf b) o) .tags ≡ partGive (made (rrec stop)) (partOfLine b o 2)
+      go true none = refl
+      go false none = refl
+      go b (some r) = given-or (made (rrec stop)) (at r 2) (eqb (at r 2) mark)
+
+  ancestors-is : nentity (envIn c a) k t .ancestors ≡ partGive (made (rset [])) (partIn c a k t 3)
+  unfolding envIn nEnv partIn lineIn stateIn
+  ancestors-is = go c (lookUp (held [] a []) k t)
+    where
+      go : (b : Bool) (o : Option (List ℕ)) → nlineOr (lineGiven (modeOf b) o) .ancestors ≡ partGive (made (rset [])) (partOfLine b o 3)
+      go true none = refl
+      go false none = refl
+      go b (some r) = given-or (made (rset [])) (at r 3) (eqb (at r 3) mark)
+
+-- ---- fields
+
+-- what is made of a look-up
+abbrev lookAs : {A : Type 0} → A → (ℕ → A) → (Option ℕ → A) → Look → A
+lookAs d w g (Atˡ x) = g (some x)
+lookAs d w g Missing = g none
+lookAs d w g (Unknownˡ k) = w k
+lookAs d w g Bad = d
+
+module _ (c : Bool) (a : List ℕ) {A : Type 0} (d : A) (w : ℕ → A) (g : Option ℕ → A) (u : ℕ) where
+  found-as : (o : Option ℕ) → g o ≡ lookAs d w g (lookFound o)
+  found-as none = refl
+  found-as (some x) = refl
+
+  in-record : (r : Row) → rRec d r (λ e. g (entryOf u e)) ≡ lookAs d w g (lookRow r u)
+  unfolding lookRow
+  in-record (rbool b) = refl
+  in-record (rlong n) = refl
+  in-record (rtext t) = refl
+  in-record (rent k t) = refl
+  in-record (rset l) = refl
+  in-record (rrec e) = found-as (entryOf u e)
+
+  in-part : (k : ℕ) (p : Part) → onSome (w k) (partGive (made (rrec stop)) p) (λ x. rRec d (giveRow (values a) x) (λ e. g (entryOf u e))) ≡ lookAs d w g (lookIn a k p u)
+  unfolding valueIn
+  in-part k (Known n) = in-record (valueIn a n)
+  in-part k Empty = refl
+  in-part k Unknown = refl
+
+  in-value : (r : Row) → onEntries (envIn c a) (values a) d (λ k i. w k) r (λ e. g (entryOf u e)) ≡ lookAs d w g (lookValue c a r u)
+  in-value (rbool b) = refl
+  in-value (rlong n) = refl
+  in-value (rtext t) = refl
+  in-value (rent k t) = ap (λ (o : Option Give). onSome (w k) o (λ x. rRec d (giveRow (values a) x) (λ e. g (entryOf u e)))) (attrs-is c a k t) ∙ in-part k (partIn c a k t 1)
+  in-value (rset l) = refl
+  in-value (rrec e) = found-as (entryOf u e)
+
+taken-as : (l : Look) → outOf (takenOf l) ≡ lookAs fails (λ k. stays) orFail l
+taken-as (Atˡ x) = refl
+taken-as Missing = refl
+taken-as (Unknownˡ k) = refl
+taken-as Bad = refl
+
+present-as : (l : Look) → outOf (presentOf l) ≡ lookAs fails (λ k. stays) (λ o. truly (isSome o)) l
+present-as (Atˡ x) = refl
+present-as Missing = refl
+present-as (Unknownˡ k) = refl
+present-as Bad = refl
+
+module _ (c : Bool) (a : List ℕ) (v t : ℕ) (l : Look) (el : l ≡ lookAttr c a v t) (r : Given) where
+  pub get-is : r ≡ takenOf l → outOf r ≡ getOut c a v t
+  unfolding getOut lookAttr
+  get-is e = ap outOf e ∙ taken-as l ∙ ap (lookAs fails (λ k. stays) orFail) el ∙ sym (in-value c a fails (λ k. stays) orFail t (valueIn a v))
+
+  pub has-is : r ≡ presentOf l → outOf r ≡ hasOut c a v t
+  unfolding hasOut lookAttr
+  has-is e = ap outOf e ∙ present-as l ∙ ap (lookAs fails (λ k. stays) (λ o. truly (isSome o))) el ∙ sym (in-value c a fails (λ k. stays) (λ o. truly (isSome o)) t (valueIn a v))
+
+-- ---- tags
+
+module _ (c : Bool) (a : List ℕ) (m : ℕ) (q : List ℕ) (s : Shape) (eq : q ≡ getD (valueLines a) m []) (es : s ≡ shapeOf q) (n : ℕ) where
+  pub tag-first : OneOf (0 ∷ 1 ∷ 2 ∷ 4 ∷ 5 ∷ []) (tagOf the-type s) → Bad ≡ tagLook c a m n
+  unfolding tagLook
+  tag-first h = rw (value-shape a m q s eq es) (sym (other-entity Bad (items q) s (λ k t. rText Bad (valueIn a n) (λ u. lookIn a k (partIn c a k t 2) u)) h))
+
+  module _ (k t : ℕ) (z : s ≡ Entity k t) (p : List ℕ) (d : Shape) (ep : p ≡ getD (valueLines a) n []) (ed : d ≡ shapeOf p) where
+    pub tag-second : OneOf (0 ∷ 1 ∷ 3 ∷ 4 ∷ 5 ∷ []) (tagOf the-type d) → Bad ≡ tagLook c a m n
+    unfolding tagLook
+    tag-second h = rw (value-shape a m q s eq es, z, value-shape a n p d ep ed) (sym (other-text Bad (items p) d (λ u. lookIn a k (partIn c a k t 2) u) h))
+
+    pub tag-both : (u : ℕ) (f : Part) (r : Look) → d ≡ Text u → f ≡ partIn c a k t 2 → r ≡ lookIn a k f u → r ≡ tagLook c a m n
+    unfolding tagLook
+    tag-both u f r y ef e = e ∙ rw (value-shape a m q s eq es, z, value-shape a n p d ep ed, y, ef)
+
+module _ (c : Bool) (a : List ℕ) (g : Option ℕ → NOut) where
+  in-tag : (r s : Row) → rEnt fails r (λ k t. rText fails s (λ u. onSome stays (nentity (envIn c a) k t .tags) (λ x. rRec fails (giveRow (values a) x) (λ e. g (entryOf u e)))))
+      ≡ lookAs fails (λ k. stays) g (rEnt Bad r (λ k t. rText Bad s (λ u. lookIn a k (partIn c a k t 2) u)))
+  in-tag (rbool b) s = refl
+  in-tag (rlong n) s = refl
+  in-tag (rtext t) s = refl
+  in-tag (rent k t) (rbool b) = refl
+  in-tag (rent k t) (rlong n) = refl
+  in-tag (rent k t) (rtext u) = ap (λ (o : Option Give). onSome stays o (λ x. rRec fails (giveRow (values a) x) (λ e. g (entryOf u e)))) (tags-is c a k t) ∙ in-part c a fails (λ i. stays) g u k (partIn c a k t 2)
+  in-tag (rent k t) (rent l u) = refl
+  in-tag (rent k t) (rset l) = refl
+  in-tag (rent k t) (rrec e) = refl
+  in-tag (rset l) s = refl
+  in-tag (rrec e) s = refl
+
+module _ (c : Bool) (a : List ℕ) (m n : ℕ) (l : Look) (el : l ≡ tagLook c a m n) (r : Given) where
+  pub gettag-is : r ≡ takenOf l → outOf r ≡ gettagOut c a m n
+  unfolding gettagOut tagLook
+  gettag-is e = ap outOf e ∙ taken-as l ∙ ap (lookAs fails (λ k. stays) orFail) el ∙ sym (in-tag c a orFail (valueIn a m) (valueIn a n))
+
+  pub hastag-is : r ≡ presentOf l → outOf r ≡ hastagOut c a m n
+  unfolding hastagOut tagLook
+  hastag-is e = ap outOf e ∙ present-as l ∙ ap (lookAs fails (λ k. stays) (λ o. truly (isSome o))) el ∙ sym (in-tag c a (λ o. truly (isSome o)) (valueIn a m) (valueIn a n))
+
+-- ---- in
+
+module _ (a : List ℕ) (v : ℕ) (q : List ℕ) (s : Shape) (eq : q ≡ getD (valueLines a) v []) (es : s ≡ shapeOf q) where
+  pub one-is : (k t : ℕ) → s ≡ Entity k t → true ≡ isRentAt a v
+  unfolding isRentAt
+  one-is k t z = rw (value-shape a v q s eq es, z)
+
+  pub one-other : OneOf (0 ∷ 1 ∷ 2 ∷ 4 ∷ 5 ∷ []) (tagOf the-type s) → false ≡ isRentAt a v
+  unfolding isRentAt
+  one-other h = rw (value-shape a v q s eq es) (sym (other-entity false (items q) s (λ k t. true) h))
+
+  module _ (m : ℕ) (l : List ℕ) where
+    pub known-bad : OneOf (0 ∷ 1 ∷ 2 ∷ 3 ∷ 5 ∷ []) (tagOf the-type s) → outOf Fails ≡ inKnownOut a m v l
+    unfolding inKnownOut
+    known-bad h = rw (value-shape a v q s eq es) (sym (other-set fails (items q) s (λ k. truly (memN m l || anyN l k)) h))
+
+    module _ (z : s ≡ Set) (b : Bool) (eb : b ≡ memN m l) where
+      pub known-here : b ≡ true → outOf (Boolᵍ true) ≡ inKnownOut a m v l
+      unfolding inKnownOut
+      known-here h = rw (value-shape a v q s eq es, z, ← eb, h)
+
+      pub known-there : (k : List ℕ) (d : Bool) → b ≡ false → k ≡ items q → d ≡ anyN l k → outOf (Boolᵍ d) ≡ inKnownOut a m v l
+      unfolding inKnownOut
+      known-there k d h ek e = rw (value-shape a v q s eq es, z, ← eb, h, e, ek)
+
+module _ (m : ℕ) (l : List ℕ) (b : Bool) (eb : b ≡ memN m l) where
+  pub unknown-here : b ≡ true → outOf (Boolᵍ true) ≡ inUnknownOut m l
+  unfolding inUnknownOut
+  unknown-here h = rw (← eb, h)
+
+  pub unknown-none : b ≡ false → length l ≡ 0 → outOf (Boolᵍ false) ≡ inUnknownOut m l
+  unfolding inUnknownOut
+  unknown-none h e = rw (← eb, h) (go l e)
+    where
+      go : (k : List ℕ) → length k ≡ 0 → truly false ≡ cond (isNil k) (truly false) stays
+      go [] y = refl
+      go (x ∷ k) y = absurd (omega arith)
+
+  pub unknown-stays : b ≡ false → (length l ≡ 0 → ⊥) → outOf Stays ≡ inUnknownOut m l
+  unfolding inUnknownOut
+  unknown-stays h e = rw (← eb, h) (go l e)
+    where
+      go : (k : List ℕ) → (length k ≡ 0 → ⊥) → stays ≡ cond (isNil k) (truly false) stays
+      go [] y = absurd (y refl)
+      go (x ∷ k) y = refl
+
+any-nil : (l : List ℕ) → anyN l [] ≡ false
+any-nil [] = refl
+any-nil (x ∷ l) = any-nil l
+
+or-end : (b : Bool) → (b || false) ≡ b
+or-end true = refl
+or-end false = refl
+
+module _ (c : Bool) (a : List ℕ) (m k t : ℕ) (l : List ℕ) (p : Part) (ep : p ≡ partIn c a k t 3) where
+  the-ancestors : nentity (envIn c a) k t .ancestors ≡ partGive (made (rset [])) p
+  the-ancestors = ancestors-is c a k t ∙ ap (partGive (made (rset []))) (sym ep)
+
+  pub list-known : (v : ℕ) (g : Given) → p ≡ Known v → outOf g ≡ inKnownOut a m v l → outOf g ≡ inListOut c a m k t l
+  unfolding inListOut inKnownOut valueIn
+  list-known v g z e = e ∙ sym (ap (λ (o : Option Give). nIn (values a) m o l) (the-ancestors ∙ ap (partGive (made (rset []))) z))
+
+  pub list-empty : (b : Bool) → p ≡ Empty → b ≡ memN m l → outOf (Boolᵍ b) ≡ inListOut c a m k t l
+  unfolding inListOut
+  list-empty b z e =
+      sym (ap (λ (o : Option Give). nIn (values a) m o l) (the-ancestors ∙ ap (partGive (made (rset []))) z) ∙ ap truly (ap (λ (x : Bool). memN m l || x) (any-nil l) ∙ or-end (memN m l) ∙ sym e))
+
+  pub list-unknown : (g : Given) → p ≡ Unknown → outOf g ≡ inUnknownOut m l → outOf g ≡ inListOut c a m k t l
+  unfolding inListOut inUnknownOut
+  list-unknown g z e = e ∙ sym (ap (λ (o : Option Give). nIn (values a) m o l) (the-ancestors ∙ ap (partGive (made (rset []))) z))
+
+module _ (a l : List ℕ) (i : ℕ) (g : Going (allRent (values a) l) (allRent (values a) (drop i l)) i (length l)) where
+  pub ents-end : length l ≤ i → true ≡ allRent (values a) l
+  ents-end h = sym (g .left ∙ ap (allRent (values a)) (spent l i h))
+
+  module _ (b : Bool) (h : i < length l) (e : b ≡ isRentAt a (getD l i 0)) where
+    step : allRent (values a) (drop i l) ≡ (b && allRent (values a) (drop (i + 1) l))
+    unfolding isRentAt valueIn
+    step = ap (allRent (values a)) (uncons l 0 i h) ∙ ap (λ (x : Bool). x && allRent (values a) (drop (i + 1) l)) (sym e)
+
+    pub ents-off : not b ≡ true → false ≡ allRent (values a) l
+    ents-off f = sym (g .left ∙ step ∙ ap (λ (x : Bool). x && allRent (values a) (drop (i + 1) l)) (not-true b f))
+
+    pub ents-on : not b ≡ false → Going (allRent (values a) l) (allRent (values a) (drop (i + 1) l)) (i + 1) (length l)
+    ents-on f = record { near = omega arith; left = g .left ∙ step ∙ ap (λ (x : Bool). x && allRent (values a) (drop (i + 1) l)) (not-false b f) }
+
+module _ (c : Bool) (a : List ℕ) (m n : ℕ) (q : List ℕ) (s : Shape) (eq : q ≡ getD (valueLines a) m []) (es : s ≡ shapeOf q) where
+  abbrev inFor : Row → ℕ → ℕ → NOut
+  inFor r k t = onSome fails (nTargets (values a) n r) (nIn (values a) m (nentity (envIn c a) k t .ancestors))
+
+  pub in-first : OneOf (0 ∷ 1 ∷ 2 ∷ 4 ∷ 5 ∷ []) (tagOf the-type s) → outOf Fails ≡ inOut c a m n
+  unfolding inOut
+  in-first h = rw (value-shape a m q s eq es) (sym (other-entity fails (items q) s (inFor (valueIn a n)) h))
+
+  module _ (k t : ℕ) (z : s ≡ Entity k t) (p : List ℕ) (d : Shape) (ep : p ≡ getD (valueLines a) n []) (ed : d ≡ shapeOf p) where
+    in-both : inOut c a m n ≡ inFor (shapeRow d (items p)) k t
+    unfolding inOut
+    in-both = rw (value-shape a m q s eq es, z, value-shape a n p d ep ed)
+
+    pub in-entity : (j i : ℕ) (g : Given) → d ≡ Entity j i → outOf g ≡ inListOut c a m k t (n ∷ []) → outOf g ≡ inOut c a m n
+    unfolding inListOut
+    in-entity j i g y e = e ∙ sym (in-both ∙ ap (λ (x : Shape). inFor (shapeRow x (items p)) k t) y)
+
+    module _ (y : d ≡ Set) (l : List ℕ) (el : l ≡ items p) (b : Bool) (eb : b ≡ allRent (values a) l) where
+      in-members : inOut c a m n ≡ onSome fails (cond b (some l) none) (nIn (values a) m (nentity (envIn c a) k t .ancestors))
+      in-members = in-both ∙ rw (y, ← el, ← eb)
+
+      pub in-mixed : not b ≡ true → outOf Fails ≡ inOut c a m n
+      in-mixed h = sym (in-members ∙ rw (not-true b h))
+
+      pub in-set : (g : Given) → not b ≡ false → outOf g ≡ inListOut c a m k t l → outOf g ≡ inOut c a m n
+      unfolding inListOut
+      in-set g h e = e ∙ sym (in-members ∙ rw (not-false b h))
+
+    pub in-other : OneOf (0 ∷ 1 ∷ 2 ∷ 5 ∷ []) (tagOf the-type d) → outOf Fails ≡ inOut c a m n
+    in-other h = sym (in-both ∙ go d h)
+      where
+        go : (x : Shape) → OneOf (0 ∷ 1 ∷ 2 ∷ 5 ∷ []) (tagOf the-type x) → inFor (shapeRow x (items p)) k t ≡ fails
+        go (Boolˢ b) y = refl
+        go (Long w) y = refl
+        go (Text u) y = refl
+        go (Entity i u) y = absurd (miss (0 ∷ 1 ∷ 2 ∷ 5 ∷ []) 3 tt y)
+        go Set y = absurd (miss (0 ∷ 1 ∷ 2 ∷ 5 ∷ []) 4 tt y)
+        go Record y = refl
+
+-- ---- a path
+
+pub record Walking (c : Bool) (a : List ℕ) (v : ℕ) (path : List ℕ) (n i : ℕ) : Type 0 where
+  pub near : i ≤ length path
+  pub left : walkFrom c a v 0 path ≡ walkFrom c a n i (drop i path)
+
+pub walk-start : (c : Bool) (a : List ℕ) (v : ℕ) (path : List ℕ) → Walking c a v path v 0
+walk-start c a v path = record { near = omega arith; left = refl }
+
+nil-drop : (l : List ℕ) (i : ℕ) → length l ≤ i → isNil (drop i l) ≡ true
+nil-drop l i h = ap isNil (spent l i h)
+
+cons-drop : (l : List ℕ) (i : ℕ) → i < length l → isNil (drop i l) ≡ false
+cons-drop l i h = ap isNil (uncons l 0 i h)
+
+module _ (c : Bool) (a : List ℕ) (v : ℕ) (path : List ℕ) (n i : ℕ) (g : Walking c a v path n i) where
+  pub walk-end : length path ≤ i → Failsʷ ≡ walkFrom c a v 0 path
+  unfolding walkFrom
+  walk-end h = sym (g .left ∙ ap (walkFrom c a n i) (spent path i h))
+
+  module _ (h : i < length path) (l : Look) (el : l ≡ lookAttr c a n (getD path i 0)) where
+    walk-one : walkFrom c a n i (drop i path) ≡ walkStep n i l (isNil (drop (i + 1) path)) (λ x. walkFrom c a x (suc i) (drop (i + 1) path))
+    unfolding walkFrom
+    walk-one = ap (walkFrom c a n i) (uncons path 0 i h) ∙ ap (λ (x : Look). walkStep n i x (isNil (drop (i + 1) path)) (λ y. walkFrom c a y (suc i) (drop (i + 1) path))) (sym el)
+
+    pub walk-bad : l ≡ Bad → Failsʷ ≡ walkFrom c a v 0 path
+    walk-bad e = sym (g .left ∙ walk-one ∙ rw e)
+
+    pub walk-missing : l ≡ Missing → Holds false ≡ walkFrom c a v 0 path
+    walk-missing e = sym (g .left ∙ walk-one ∙ rw e)
+
+    pub walk-unknown : (k : ℕ) → l ≡ Unknownˡ k → Left n k i ≡ walkFrom c a v 0 path
+    walk-unknown k e = sym (g .left ∙ walk-one ∙ rw e)
+
+    module _ (x : ℕ) (e : l ≡ Atˡ x) where
+      pub walk-last : length path ≤ i + 1 → Holds true ≡ walkFrom c a v 0 path
+      walk-last m = sym (g .left ∙ walk-one ∙ rw (e, nil-drop path (i + 1) m))
+
+      pub walk-on : i + 1 < length path → Walking c a v path x (i + 1)
+      walk-on m = record { near = omega arith; left = g .left ∙ walk-one ∙ rw (e, cons-drop path (i + 1) m, ← (add-one i)) }
+
+-- what the numbered walk gives
+module _ (S : Schema) (c : Bool) (a : List ℕ) (T : Ty) (path : List ℕ) where
+  abbrev pub settleWalk : Walked → Out
+  settleWalk (Holds b) = make T (rbool b) (values a)
+  settleWalk Failsʷ = out (values a) (err T)
+  settleWalk (Left n k j) = nLeft S (envIn c a) T (lit (tent k) n) (getD path j 0) (drop (suc j) path) (values a)
+
+  -- the last step, and one before it
+  last-step : ℕ → Option ℕ → Out
+  last-step n o = make T (rbool (isSome o)) (values a)
+
+  rest-at : (t : ℕ) (ts : List ℕ) (i : ℕ) → t ∷ ts ≡ drop i path → (getD path i 0 ≡ t) × (drop (suc i) path ≡ ts)
+  rest-at t ts i e =
+      let l : i < length path = inside e in
+      let u : drop i path ≡ getD path i 0 ∷ drop (i + 1) path = uncons path 0 i l in
+      let p : t ≡ getD path i 0 = cc in
+      let q : ts ≡ drop (i + 1) path = cc in
+      (sym p, sym (q ∙ ap (λ (j : ℕ). drop j path) (add-one i)))
+    where
+      inside : t ∷ ts ≡ drop i path → i < length path
+      inside z = omega (arith, ap length z, length-drop i path)
+
+  pub walk-is : (ts : List ℕ) (t n i : ℕ) → t ∷ ts ≡ drop i path → nWalk S (envIn c a) T (values a) ts t n ≡ settleWalk (walkFrom c a n i (t ∷ ts))
+  unfolding walkFrom lookAttr valueIn last-step
+  walk-is [] t n i e =
+      let r = rest-at t [] i e in
+      in-value c a (out (values a) (err T)) (λ k. nLeft S (envIn c a) T (lit (tent k) n) t [] (values a)) (last-step n) t (valueIn a n) ∙ go (lookAttr c a n t) (r .0) (r .1)
+    where
+      go : (l : Look) → getD path i 0 ≡ t → drop (suc i) path ≡ []
+          → lookAs (out (values a) (err T)) (λ k. nLeft S (envIn c a) T (lit (tent k) n) t [] (values a)) (last-step n) l ≡ settleWalk (walkStep n i l true (λ x. walkFrom c a x (suc i) []))
+      go (Atˡ x) p q = refl
+      go Missing p q = refl
+      go (Unknownˡ k) p q = rw (p, q)
+      go Bad p q = refl
+  walk-is (u ∷ us) t n i e =
+      let r = rest-at t (u ∷ us) i e in
+      in-value c a (out (values a) (err T)) (λ k. nLeft S (envIn c a) T (lit (tent k) n) t (u ∷ us) (values a)) (λ o. onSome (make T (rbool false) (values a)) o (nWalk S (envIn c a) T (values a) us u)) t (valueIn a n)
+      ∙ go (lookAttr c a n t) (r .0) (r .1) (λ x. walk-is us u x (suc i) (sym (r .1)))
+    where
+      go : (l : Look) → getD path i 0 ≡ t → drop (suc i) path ≡ u ∷ us → ((x : ℕ) → nWalk S (envIn c a) T (values a) us u x ≡ settleWalk (walkFrom c a x (suc i) (u ∷ us)))
+          → lookAs (out (values a) (err T)) (λ k. nLeft S (envIn c a) T (lit (tent k) n) t (u ∷ us) (values a)) (λ o. onSome (make T (rbool false) (values a)) o (nWalk S (envIn c a) T (values a) us u)) l
+          ≡ settleWalk (walkStep n i l false (λ x. walkFrom c a x (suc i) (u ∷ us)))
+      go (Atˡ x) p q ih = ih x
+      go Missing p q ih = refl
+      go (Unknownˡ k) p q ih = rw (p, q)
+      go Bad p q ih = refl

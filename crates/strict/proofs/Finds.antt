@@ -1,0 +1,224 @@
+-- Look-ups of entities and of fields, as the code does them. Assumes nothing.
+use mathlib.Core.Path.{_≡_, refl, sym, ap, _∙_}
+use mathlib.Core.Bool.{Bool, true, false, cond}
+use mathlib.Core.Option.{Option, none, some}
+use mathlib.Core.List.{List, [], _∷_}
+use Prim.Native.Nat.{ℕ, _+_, _≤_, _<_}
+use native.Mathlib.Numerals.{add-one}
+use native.Mathlib.Omega.{arith}
+use borrow.Author.Tests.{eq-eqb, ne-eqb, eqb-true}
+use lib.Dec.{eqb}
+use lib.ListN.{getD, drop}
+use types.Run.{OneOf, miss}
+use denote.Enum.Declared.{tagOf}
+use Rattle.value.proofs.Shape.{the-type}
+use Rattle.cedar.proofs.TableLaws.{sameRow-true, sameRow-refl}
+use Rattle.cedar.specs.Rows.{Row, rent, sameRow}
+use Rattle.cedar.specs.Numbered.{rRec, entryOf}
+use Rattle.sheet.specs.Forms.{items, at, mark}
+use Rattle.sheet.specs.State.{valueRow, entriesOf}
+use Rattle.sheet.specs.Content.{entityLine}
+use Rattle.table.specs.Layout.{rowsOf, held, linesHeld}
+use Rattle.table.proofs.Rows.{count-rows}
+use Rattle.value.specs.Lines.{valueLines}
+use Rattle.value.specs.Shapes.{shapeOf, shapeRow, entryFound}
+use Rattle.value.specs.declared.Shape.{Shape}
+use Rattle.value.specs.declared.Shape.the-variants.{Bool as Boolˢ, Long, Text, Entity, Set, Record}
+use Rattle.value.specs.declared.Entry.{Entry}
+use Rattle.value.specs.declared.Entry.the-variants.{At, Nothing}
+use Rattle.value.proofs.Shaped.{shape-row}
+use Rattle.value.proofs.Lists.{uncons, spent}
+use Rattle.strict.specs.Gives.{valueIn}
+use Rattle.strict.specs.Lookups.{stateIn, isEntityAt, lineAt, lineIn, partOfLine, partIn, lookFound, lookRow, lookIn, lookValue, lookAttr, takenOf, presentOf}
+use Rattle.strict.specs.declared.Given.the-variants.{Bool as Boolᵍ, Old, Fails, Stays}
+use Rattle.strict.specs.declared.entity.Part.{Part}
+use Rattle.strict.specs.declared.entity.Part.the-variants.{Known, Empty, Unknown}
+use Rattle.strict.specs.declared.entity.Look.{Look}
+use Rattle.strict.specs.declared.entity.Look.the-variants.{At as Atˡ, Missing, Unknown as Unknownˡ, Bad}
+use Rattle.strict.proofs.Shapes.{value-shape, other-record}
+
+-- ---- an entity's line
+
+not-same : (p q : Row) → (p ≡ q → ⊥) → false ≡ sameRow p q
+not-same p q n = go (sameRow p q) refl
+  where
+    go : (b : Bool) → sameRow p q ≡ b → false ≡ b
+    go true e = absurd (n (sameRow-true p q e))
+    go false e = refl
+
+no-entity : (s : Shape) (l : List ℕ) (k t : ℕ) → OneOf (0 ∷ 1 ∷ 2 ∷ 4 ∷ 5 ∷ []) (tagOf the-type s) → shapeRow s l ≡ rent k t → ⊥
+no-entity (Boolˢ b) l k t h e = let z : _≡_ {A = ℕ} 0 1 = cc in omega arith
+no-entity (Long w) l k t h e = let z : _≡_ {A = ℕ} 0 1 = cc in omega arith
+no-entity (Text u) l k t h e = let z : _≡_ {A = ℕ} 0 1 = cc in omega arith
+no-entity (Entity j u) l k t h e = miss (0 ∷ 1 ∷ 2 ∷ 4 ∷ 5 ∷ []) 3 tt h
+no-entity Set l k t h e = let z : _≡_ {A = ℕ} 0 1 = cc in omega arith
+no-entity Record l k t h e = let z : _≡_ {A = ℕ} 0 1 = cc in omega arith
+
+module _ (a : List ℕ) (v : ℕ) (q : List ℕ) (s : Shape) (eq : q ≡ getD (rowsOf a 5) v []) (es : s ≡ shapeOf q) where
+  row-is : valueRow (getD (rowsOf a 5) v []) ≡ shapeRow s (items q)
+  row-is = ap valueRow (sym eq) ∙ shape-row q ∙ ap (λ (x : Shape). shapeRow x (items q)) (sym es)
+
+  pub entity-other : (k t : ℕ) → OneOf (0 ∷ 1 ∷ 2 ∷ 4 ∷ 5 ∷ []) (tagOf the-type s) → false ≡ isEntityAt a v k t
+  unfolding isEntityAt
+  entity-other k t h = not-same (shapeRow s (items q)) (rent k t) (no-entity s (items q) k t h) ∙ ap (λ (x : Row). sameRow x (rent k t)) (sym row-is)
+
+  module _ (k t l u : ℕ) (e : s ≡ Entity l u) where
+    entity-row : valueRow (getD (rowsOf a 5) v []) ≡ rent l u
+    entity-row = row-is ∙ ap (λ (x : Shape). shapeRow x (items q)) e
+
+    pub entity-kind : (l ≡ k → ⊥) → false ≡ isEntityAt a v k t
+    unfolding isEntityAt
+    entity-kind n = not-same (rent l u) (rent k t) (λ z. n cc) ∙ ap (λ (x : Row). sameRow x (rent k t)) (sym entity-row)
+
+    pub entity-text : l ≡ k → eqb u t ≡ isEntityAt a v k t
+    unfolding isEntityAt
+    entity-text p = go (eqb u t) refl ∙ ap (λ (x : Row). sameRow x (rent k t)) (sym entity-row)
+      where
+        go : (b : Bool) → eqb u t ≡ b → b ≡ sameRow (rent l u) (rent k t)
+        go true z =
+            let w : u ≡ t = eqb-true u t z in
+            let y : rent l u ≡ rent k t = cc in
+            sym (ap (λ (x : Row). sameRow x (rent k t)) y ∙ sameRow-refl (rent k t))
+        go false z = not-same (rent l u) (rent k t) (λ w. let y : u ≡ t = cc in no-false z (eq-eqb u t y))
+          where
+            no-false : {b : Bool} → b ≡ false → b ≡ true → ⊥
+            no-false f g = let m : _≡_ {A = ℕ} 0 1 = cc in omega arith
+
+-- from a line on
+unfoldable pub entityFrom : List ℕ → ℕ → ℕ → List (List ℕ) → Option (List ℕ)
+entityFrom a k t [] = none
+entityFrom a k t (r ∷ rs) = cond (isEntityAt a (at r 0) k t) (some r) (entityFrom a k t rs)
+
+entity-lines : (a : List ℕ) (k t : ℕ) (rs : List (List ℕ)) → entityLine (stateIn a) (rent k t) rs ≡ entityFrom a k t rs
+unfolding entityFrom isEntityAt stateIn held linesHeld
+entity-lines a k t [] = refl
+entity-lines a k t (r ∷ rs) = ap (λ (o : Option (List ℕ)). cond (sameRow (valueRow (getD (rowsOf a 5) (at r 0) [])) (rent k t)) (some r) o) (entity-lines a k t rs)
+
+line-from : (a : List ℕ) (k t : ℕ) → lineIn a k t ≡ entityFrom a k t (rowsOf a 6)
+unfolding lineIn stateIn held linesHeld
+line-from a k t = entity-lines a k t (rowsOf a 6)
+
+pub record Seeking (a : List ℕ) (k t n i : ℕ) : Type 0 where
+  pub all : n ≡ getD a 6 0
+  pub near : i ≤ n
+  pub left : lineIn a k t ≡ entityFrom a k t (drop i (rowsOf a 6))
+
+pub seek-start : (a : List ℕ) (k t n : ℕ) → n ≡ getD a 6 0 → Seeking a k t n 0
+seek-start a k t n e = record { all = e; near = omega arith; left = line-from a k t }
+
+module _ (a : List ℕ) (k t n i : ℕ) (g : Seeking a k t n i) where
+  pub seek-end : n ≤ i → lineAt (rowsOf a 6) Nothing ≡ lineIn a k t
+  unfolding entityFrom
+  seek-end h = sym (g .left ∙ ap (entityFrom a k t) (spent (rowsOf a 6) i (omega (arith, g .all, count-rows a 6))))
+
+  module _ (h : i < n) (r : List ℕ) (er : r ≡ getD (rowsOf a 6) i []) (x : ℕ) (ex : x ≡ getD r 1 0) (b : Bool) (eb : b ≡ isEntityAt a x k t) where
+    at-line : entityFrom a k t (drop i (rowsOf a 6)) ≡ cond b (some r) (entityFrom a k t (drop (i + 1) (rowsOf a 6)))
+    unfolding entityFrom
+    at-line = rw (uncons (rowsOf a 6) [] i (omega (arith, g .all, count-rows a 6)), ← er, ← ex, ← eb)
+
+    pub seek-hit : b ≡ true → lineAt (rowsOf a 6) (At i) ≡ lineIn a k t
+    seek-hit z = sym (g .left ∙ at-line ∙ rw (z, er))
+
+    pub seek-on : b ≡ false → Seeking a k t n (i + 1)
+    seek-on z = record { all = g .all; near = omega arith; left = g .left ∙ at-line ∙ rw z }
+
+-- ---- a part of a line
+
+module _ (c : Bool) (a : List ℕ) (k t j : ℕ) (e : Entry) (ee : lineAt (rowsOf a 6) e ≡ lineIn a k t) where
+  pub part-empty : e ≡ Nothing → c ≡ true → Empty ≡ partIn c a k t j
+  unfolding partIn
+  part-empty z y = sym (ap (λ (o : Option (List ℕ)). partOfLine c o j) (sym ee ∙ ap (lineAt (rowsOf a 6)) z) ∙ rw y)
+
+  pub part-unlisted : e ≡ Nothing → c ≡ false → Unknown ≡ partIn c a k t j
+  unfolding partIn
+  part-unlisted z y = sym (ap (λ (o : Option (List ℕ)). partOfLine c o j) (sym ee ∙ ap (lineAt (rowsOf a 6)) z) ∙ rw y)
+
+  module _ (i : ℕ) (z : e ≡ At i) (r : List ℕ) (er : r ≡ getD (rowsOf a 6) i []) (x : ℕ) (ex : x ≡ getD r (j + 1) 0) where
+    part-item : partIn c a k t j ≡ cond (eqb x mark) Unknown (Known x)
+    unfolding partIn
+    part-item =
+        let w : x ≡ at (getD (rowsOf a 6) i []) j = ex ∙ ap (λ (m : ℕ). getD r m 0) (add-one j) ∙ ap (λ (l : List ℕ). at l j) er in
+        ap (λ (o : Option (List ℕ)). partOfLine c o j) (sym ee ∙ ap (lineAt (rowsOf a 6)) z) ∙ rw (← w)
+
+    pub part-unknown : x ≡ 10000 → Unknown ≡ partIn c a k t j
+    part-unknown y = sym (part-item ∙ rw (eq-eqb x 10000 y))
+
+    pub part-known : (x ≡ 10000 → ⊥) → Known x ≡ partIn c a k t j
+    part-known y = sym (part-item ∙ rw (ne-eqb x 10000 y))
+
+-- ---- a text in a record
+
+found-none : (o : Option ℕ) → entryFound o ≡ Nothing → o ≡ none
+found-none none e = refl
+found-none (some x) e = let z : _≡_ {A = ℕ} 0 1 = cc in absurd (omega arith)
+
+found-some : (o : Option ℕ) (x : ℕ) → entryFound o ≡ At x → o ≡ some x
+found-some none x e = let z : _≡_ {A = ℕ} 0 1 = cc in absurd (omega arith)
+found-some (some y) x e = let z : y ≡ x = cc in ap some z
+
+module _ (a : List ℕ) (v : ℕ) (q : List ℕ) (s : Shape) (eq : q ≡ getD (valueLines a) v []) (es : s ≡ shapeOf q) (u : ℕ) where
+  pub look-bad : OneOf (0 ∷ 1 ∷ 2 ∷ 3 ∷ 4 ∷ []) (tagOf the-type s) → Bad ≡ lookRow (valueIn a v) u
+  unfolding lookRow
+  look-bad h = rw (value-shape a v q s eq es) (sym (other-record Bad (items q) s (λ e. lookFound (entryOf u e)) h))
+
+  module _ (z : s ≡ Record) (l : List ℕ) (el : l ≡ items q) (e : Entry) (ee : e ≡ entryFound (entryOf u (entriesOf l))) where
+    look-row : lookRow (valueIn a v) u ≡ lookFound (entryOf u (entriesOf l))
+    unfolding lookRow
+    look-row = rw (value-shape a v q s eq es, z, el)
+
+    pub look-missing : e ≡ Nothing → Missing ≡ lookRow (valueIn a v) u
+    look-missing y = sym (look-row ∙ ap lookFound (found-none (entryOf u (entriesOf l)) (sym ee ∙ y)))
+
+    pub look-found : (x : ℕ) → e ≡ At x → Atˡ x ≡ lookRow (valueIn a v) u
+    look-found x y = sym (look-row ∙ ap lookFound (found-some (entryOf u (entriesOf l)) x (sym ee ∙ y)))
+
+  pub attr-other : (c : Bool) (r : Look) → OneOf (0 ∷ 1 ∷ 2 ∷ 4 ∷ 5 ∷ []) (tagOf the-type s) → r ≡ lookRow (valueIn a v) u → r ≡ lookAttr c a v u
+  unfolding lookAttr lookRow
+  attr-other c r h e = e ∙ rw (value-shape a v q s eq es) (go s h)
+    where
+      go : (x : Shape) → OneOf (0 ∷ 1 ∷ 2 ∷ 4 ∷ 5 ∷ []) (tagOf the-type x) → rRec Bad (shapeRow x (items q)) (λ m. lookFound (entryOf u m)) ≡ lookValue c a (shapeRow x (items q)) u
+      go (Boolˢ b) y = refl
+      go (Long w) y = refl
+      go (Text t) y = refl
+      go (Entity k t) y = absurd (miss (0 ∷ 1 ∷ 2 ∷ 4 ∷ 5 ∷ []) 3 tt y)
+      go Set y = refl
+      go Record y = refl
+
+  pub attr-entity : (c : Bool) (k t : ℕ) (p : Part) (r : Look) → s ≡ Entity k t → p ≡ partIn c a k t 1 → r ≡ lookIn a k p u → r ≡ lookAttr c a v u
+  unfolding lookAttr
+  attr-entity c k t p r z ep e = e ∙ rw (value-shape a v q s eq es, z, ep)
+
+module _ (a : List ℕ) (k u : ℕ) (p : Part) where
+  pub look-unknown : p ≡ Unknown → Unknownˡ k ≡ lookIn a k p u
+  look-unknown e = rw e
+
+  pub look-empty : p ≡ Empty → Missing ≡ lookIn a k p u
+  look-empty e = rw e
+
+  pub look-known : (n : ℕ) (r : Look) → p ≡ Known n → r ≡ lookRow (valueIn a n) u → r ≡ lookIn a k p u
+  look-known n r e h = rw e h
+
+module _ (l : Look) where
+  pub taken-at : (x : ℕ) → l ≡ Atˡ x → Old x ≡ takenOf l
+  taken-at x e = rw e
+
+  pub taken-missing : l ≡ Missing → Fails ≡ takenOf l
+  taken-missing e = rw e
+
+  pub taken-unknown : (k : ℕ) → l ≡ Unknownˡ k → Stays ≡ takenOf l
+  taken-unknown k e = rw e
+
+  pub taken-bad : l ≡ Bad → Fails ≡ takenOf l
+  taken-bad e = rw e
+
+  pub present-at : (x : ℕ) → l ≡ Atˡ x → Boolᵍ true ≡ presentOf l
+  present-at x e = rw e
+
+  pub present-missing : l ≡ Missing → Boolᵍ false ≡ presentOf l
+  present-missing e = rw e
+
+  pub present-unknown : (k : ℕ) → l ≡ Unknownˡ k → Stays ≡ presentOf l
+  present-unknown k e = rw e
+
+  pub present-bad : l ≡ Bad → Fails ≡ presentOf l
+  present-bad e = rw e

@@ -1,0 +1,5 @@
+pub mod Shapes
+pub mod Plain
+pub mod Finds
+pub mod Entities
+pub mod Links

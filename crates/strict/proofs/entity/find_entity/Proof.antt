@@ -1,0 +1,41 @@
+-- `strict::entity::find_entity` meets its contract. Assumes nothing.
+use Prim.Native.Nat.{_-_}
+use Rattle.strict.proofs.Finds.{Seeking, seek-start, seek-end, seek-hit, seek-on}
+use borrow.Author.Needs.{needs}
+use Rattle.strict.proofs.entity.find_entity.Statement.{statement}
+use Rattle.strict.proofs.entity.find_entity.Tie as tie
+
+abbrev Inv-loop : tie.InvT-loop
+Inv-loop a k t n i₀ i = Seeking a k t n i
+
+abbrev μ-loop : tie.MeasureT-loop
+μ-loop a k t n i₀ i = n - i
+
+loop-holds : tie.Need-loop-holds Inv-loop μ-loop
+loop-holds c = search (seek-start, needs)
+
+loop-again : tie.Need-loop-again Inv-loop μ-loop
+loop-again c = search (seek-on, needs)
+
+returns : tie.Need-returns Inv-loop μ-loop
+returns c = search (seek-end, needs)
+
+returns-2 : tie.Need-returns-2 Inv-loop μ-loop
+returns-2 c = search (seek-hit, needs)
+
+pub find-entity-spec : {M : Type 1} → statement M
+find-entity-spec =
+    tie.close
+    (tie.spec
+    Inv-loop
+    μ-loop
+    (λ c κs. search needs)
+    loop-holds
+    (λ c κs. search needs)
+    (λ c κs. search needs)
+    (λ c κs. search needs)
+    (λ c. search needs)
+    (λ c. search needs)
+    loop-again
+    returns
+    returns-2)

@@ -1,0 +1,24 @@
+-- `strict::entity::look_attr` meets its contract. Assumes nothing.
+use Rattle.strict.proofs.Finds.{attr-other, attr-entity}
+use borrow.Author.Needs.{needs}
+use Rattle.strict.proofs.entity.look_attr.Statement.{statement}
+use Rattle.strict.proofs.entity.look_attr.Tie as tie
+
+returns : tie.Need-returns
+returns c = search (attr-other, needs)
+
+returns-2 : tie.Need-returns-2
+returns-2 c = search (attr-entity, needs)
+
+pub look-attr-spec : {M : Type 1} → statement M
+look-attr-spec =
+    tie.close
+    (tie.spec
+    (λ c κs. search needs)
+    (λ c κs. search needs)
+    (λ c. search needs)
+    (λ c κs. search needs)
+    returns
+    (λ c κs. search needs)
+    (λ c κs. search needs)
+    returns-2)

@@ -1,0 +1,132 @@
+-- Look-ups of entities and of the fields of records, by number.
+use mathlib.Core.Bool.{Bool, true, false, cond, _||_}
+use mathlib.Core.Option.{Option, none, some}
+use mathlib.Core.List.{List, [], _∷_}
+use Prim.Native.Nat.{ℕ, suc}
+use lib.Dec.{eqb}
+use lib.ListN.{getD}
+use Rattle.cedar.specs.Residual.{rin, rgettag, rhastag}
+use Rattle.cedar.specs.Evaluate.{isNil}
+use Rattle.cedar.specs.Rows.{Row, rbool, rlong, rtext, rent, rset, rrec, sameRow}
+use Rattle.cedar.specs.Numbered.{NOut, fails, stays, truly, rEnt, rText, rSet, rRec, memN, anyN, entryOf, isRent, nentity, nIn, nRel, nGet, nHas}
+use Rattle.sheet.specs.Forms.{at, mark}
+use Rattle.sheet.specs.State.{State, valueRow}
+use Rattle.sheet.specs.Content.{lookUp}
+use Rattle.table.specs.Layout.{held, rowsOf}
+use Rattle.value.specs.declared.Entry.{Entry}
+use Rattle.value.specs.declared.Entry.the-variants.{At, Nothing}
+use Rattle.strict.specs.Gives.{values, valueIn, envIn}
+use Rattle.strict.specs.declared.Given.{Given}
+use Rattle.strict.specs.declared.Given.the-variants.{Bool as Boolᵍ, Old, Fails, Stays}
+use Rattle.strict.specs.declared.entity.Part.{Part}
+use Rattle.strict.specs.declared.entity.Part.the-variants.{Known, Empty, Unknown}
+use Rattle.strict.specs.declared.entity.Look.{Look}
+use Rattle.strict.specs.declared.entity.Look.the-variants.{At as Atˡ, Missing, Unknown as Unknownˡ, Bad}
+use Rattle.strict.specs.declared.entity.Walked.{Walked}
+use Rattle.strict.specs.declared.entity.Walked.the-variants.{Holds, Fails as Failsʷ, Left}
+
+-- the lines that the words hold, without the bytes of texts
+unfoldable pub stateIn : List ℕ → State
+stateIn a = held [] a []
+
+-- whether value v of the sheet is this entity
+unfoldable pub isEntityAt : List ℕ → ℕ → ℕ → ℕ → Bool
+isEntityAt a v k t = sameRow (valueRow (getD (rowsOf a 5) v [])) (rent k t)
+
+-- the line of an entity
+unfoldable pub lineIn : List ℕ → ℕ → ℕ → Option (List ℕ)
+lineIn a k t = lookUp (stateIn a) k t
+
+abbrev pub lineAt : List (List ℕ) → Entry → Option (List ℕ)
+lineAt rows (At i) = some (getD rows i [])
+lineAt rows Nothing = none
+
+-- item j of a line, if it is known; of an unlisted entity, nothing on a complete sheet
+abbrev pub partOfLine : Bool → Option (List ℕ) → ℕ → Part
+partOfLine c none j = cond c Empty Unknown
+partOfLine c (some r) j = cond (eqb (at r j) mark) Unknown (Known (at r j))
+
+unfoldable pub partIn : Bool → List ℕ → ℕ → ℕ → ℕ → Part
+partIn c a k t j = partOfLine c (lineIn a k t) j
+
+abbrev pub lookFound : Option ℕ → Look
+lookFound none = Missing
+lookFound (some x) = Atˡ x
+
+-- text u in a record
+unfoldable pub lookRow : Row → ℕ → Look
+lookRow r u = rRec Bad r (λ e. lookFound (entryOf u e))
+
+-- and in a part of the line of an entity of kind k
+abbrev pub lookIn : List ℕ → ℕ → Part → ℕ → Look
+lookIn a k (Known n) u = lookRow (valueIn a n) u
+lookIn a k Empty u = Missing
+lookIn a k Unknown u = Unknownˡ k
+
+-- and among the attributes of a record or an entity
+abbrev pub lookValue : Bool → List ℕ → Row → ℕ → Look
+lookValue c a (rbool b) u = Bad
+lookValue c a (rlong n) u = Bad
+lookValue c a (rtext t) u = Bad
+lookValue c a (rent k t) u = lookIn a k (partIn c a k t 1) u
+lookValue c a (rset l) u = Bad
+lookValue c a (rrec e) u = lookFound (entryOf u e)
+
+unfoldable pub lookAttr : Bool → List ℕ → ℕ → ℕ → Look
+lookAttr c a v u = lookValue c a (valueIn a v) u
+
+abbrev pub takenOf : Look → Given
+takenOf (Atˡ x) = Old x
+takenOf Missing = Fails
+takenOf (Unknownˡ k) = Stays
+takenOf Bad = Fails
+
+abbrev pub presentOf : Look → Given
+presentOf (Atˡ x) = Boolᵍ true
+presentOf Missing = Boolᵍ false
+presentOf (Unknownˡ k) = Stays
+presentOf Bad = Fails
+
+-- ---- operations, as `nGet`, `nHas` and `nRel` have them
+
+unfoldable pub getOut : Bool → List ℕ → ℕ → ℕ → NOut
+getOut c a v t = nGet (envIn c a) (values a) t (valueIn a v)
+
+unfoldable pub hasOut : Bool → List ℕ → ℕ → ℕ → NOut
+hasOut c a v t = nHas (envIn c a) (values a) t (valueIn a v)
+
+unfoldable pub tagLook : Bool → List ℕ → ℕ → ℕ → Look
+tagLook c a m n = rEnt Bad (valueIn a m) (λ k t. rText Bad (valueIn a n) (λ u. lookIn a k (partIn c a k t 2) u))
+
+unfoldable pub gettagOut : Bool → List ℕ → ℕ → ℕ → NOut
+gettagOut c a m n = nRel (envIn c a) (values a) rgettag m n (valueIn a m) (valueIn a n)
+
+unfoldable pub hastagOut : Bool → List ℕ → ℕ → ℕ → NOut
+hastagOut c a m n = nRel (envIn c a) (values a) rhastag m n (valueIn a m) (valueIn a n)
+
+unfoldable pub isRentAt : List ℕ → ℕ → Bool
+isRentAt a v = isRent (valueIn a v)
+
+unfoldable pub inKnownOut : List ℕ → ℕ → ℕ → List ℕ → NOut
+inKnownOut a m v l = rSet fails (valueIn a v) (λ k. truly (memN m l || anyN l k))
+
+unfoldable pub inUnknownOut : ℕ → List ℕ → NOut
+inUnknownOut m l = cond (memN m l) (truly true) (cond (isNil l) (truly false) stays)
+
+unfoldable pub inListOut : Bool → List ℕ → ℕ → ℕ → ℕ → List ℕ → NOut
+inListOut c a m k t l = nIn (values a) m (nentity (envIn c a) k t .ancestors) l
+
+unfoldable pub inOut : Bool → List ℕ → ℕ → ℕ → NOut
+inOut c a m n = nRel (envIn c a) (values a) rin m n (valueIn a m) (valueIn a n)
+
+-- ---- a path from value n on, of which i steps were taken
+
+abbrev pub walkStep : ℕ → ℕ → Look → Bool → (ℕ → Walked) → Walked
+walkStep n i (Atˡ x) end next = cond end (Holds true) (next x)
+walkStep n i Missing end next = Holds false
+walkStep n i (Unknownˡ k) end next = Left n k i
+walkStep n i Bad end next = Failsʷ
+
+unfoldable pub walkFrom : Bool → List ℕ → ℕ → ℕ → List ℕ → Walked
+walkFrom c a n i [] = Failsʷ
+walkFrom c a n i (t ∷ ts) = walkStep n i (lookAttr c a n t) (isNil ts) (λ x. walkFrom c a x (suc i) ts)

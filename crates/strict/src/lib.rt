@@ -1,0 +1,176 @@
+// The strict operations on values by number: what each gives, without making it. Those that look at entities stand in `entity`.
+pub mod entity;
+
+use long::Checked;
+use table::text;
+use value::Shape;
+use value::contains;
+use value::covers;
+use value::like::like;
+use value::meets;
+use value::members;
+use value::row_of;
+use value::shape_of;
+ghost use mathlib.Core.Path.{_≡_};
+ghost use lib.Dec.{eqb};
+ghost use Rattle.cedar.specs.Numbered.{truly};
+ghost use Rattle.sheet.specs.Bytes.{longAt};
+ghost use Rattle.table.specs.Layout.{textAt};
+ghost use Rattle.long.specs.Ranged.{numberOf};
+ghost use Rattle.strict.specs.Gives.{outOf, valueIn, longOut, longsOut, notOut, negOut, emptyOut, isOut, likeOut, arithOut, containsOut, allOut, anyOut};
+
+// What an operation gives: a bool, a long as its number plus 2^63, a value that has a number, an error, or nothing yet.
+pub enum Given {
+    Bool(bool),
+    Long(u64),
+    Old(u32),
+    Fails,
+    Stays,
+}
+
+// The other bool.
+pub fn not_of(a: &[u32], v: u32) -> Given
+    ensures { λ r. ⌜ outOf r ≡ notOut (valueIn (now (a .entry)) v) ⌝ }
+{
+    let s = shape_of(row_of(a, v as usize));
+    let Shape::Bool(b) = s else {
+        return Given::Fails;
+    };
+    Given::Bool(!b)
+}
+
+// A long, if it is in range.
+fn checked(c: Checked) -> Given
+    ensures { λ r. ⌜ outOf r ≡ longOut (numberOf c) ⌝ }
+{
+    let Checked::Value(w) = c else {
+        return Given::Fails;
+    };
+    Given::Long(w)
+}
+
+// The negative.
+pub fn neg_of(a: &[u32], v: u32) -> Given
+    ensures { λ r. ⌜ outOf r ≡ negOut (valueIn (now (a .entry)) v) ⌝ }
+{
+    let s = shape_of(row_of(a, v as usize));
+    let Shape::Long(x) = s else {
+        return Given::Fails;
+    };
+    checked(long::neg(x))
+}
+
+// Whether a set has no members.
+pub fn empty_of(a: &[u32], v: u32) -> Given
+    ensures { λ r. ⌜ outOf r ≡ emptyOut (valueIn (now (a .entry)) v) ⌝ }
+{
+    let r = row_of(a, v as usize);
+    let s = shape_of(r);
+    let Shape::Set = s else {
+        return Given::Fails;
+    };
+    Given::Bool(members(r).len() == 0)
+}
+
+// Whether an entity is of kind `k`.
+pub fn is_of(a: &[u32], v: u32, k: u32) -> Given
+    ensures { λ r. ⌜ outOf r ≡ isOut k (valueIn (now (a .entry)) v) ⌝ }
+{
+    let s = shape_of(row_of(a, v as usize));
+    let Shape::Entity(l, _) = s else {
+        return Given::Fails;
+    };
+    Given::Bool(k == l)
+}
+
+// Whether a text matches a pattern.
+pub fn like_of(sheet: &[u8], a: &[u32], v: u32, pattern: &[u32]) -> Given
+    ensures { λ r. ⌜ outOf r ≡ likeOut (textAt (now (sheet .entry)) (now (a .entry))) (now (pattern .entry)) (valueIn (now (a .entry)) v) ⌝ }
+{
+    let s = shape_of(row_of(a, v as usize));
+    let Shape::Text(t) = s else {
+        return Given::Fails;
+    };
+    Given::Bool(like(sheet, a, pattern, text(sheet, a, t)))
+}
+
+// Whether two values are the same.
+pub fn eq_of(m: u32, n: u32) -> Given
+    ensures { λ r. ⌜ outOf r ≡ truly (eqb m n) ⌝ }
+{
+    Given::Bool(m == n)
+}
+
+// Two longs, by the operation's tag: lt, le, add, sub, mul.
+fn arith(op: u32, x: u64, y: u64) -> Given
+    ensures { λ r. ⌜ outOf r ≡ longsOut op (longAt x) (longAt y) ⌝ }
+{
+    match op {
+        27 => Given::Bool(long::less(x, y)),
+        28 => Given::Bool(long::at_most(x, y)),
+        29 => checked(long::add(x, y)),
+        30 => checked(long::sub(x, y)),
+        _ => checked(long::mul(x, y)),
+    }
+}
+
+// Two longs by number, and the operation's tag.
+pub fn arith_of(a: &[u32], op: u32, m: u32, n: u32) -> Given
+    ensures { λ r. ⌜ outOf r ≡ arithOut op (valueIn (now (a .entry)) m) (valueIn (now (a .entry)) n) ⌝ }
+{
+    let s = shape_of(row_of(a, m as usize));
+    let Shape::Long(x) = s else {
+        return Given::Fails;
+    };
+    let t = shape_of(row_of(a, n as usize));
+    let Shape::Long(y) = t else {
+        return Given::Fails;
+    };
+    arith(op, x, y)
+}
+
+// Whether a set has a member.
+pub fn contains_of(a: &[u32], m: u32, n: u32) -> Given
+    ensures { λ r. ⌜ outOf r ≡ containsOut n (valueIn (now (a .entry)) m) ⌝ }
+{
+    let r = row_of(a, m as usize);
+    let s = shape_of(r);
+    let Shape::Set = s else {
+        return Given::Fails;
+    };
+    Given::Bool(contains(members(r), n))
+}
+
+// Whether a set has all members of another.
+pub fn all_of(a: &[u32], m: u32, n: u32) -> Given
+    ensures { λ r. ⌜ outOf r ≡ allOut (valueIn (now (a .entry)) m) (valueIn (now (a .entry)) n) ⌝ }
+{
+    let r = row_of(a, m as usize);
+    let s = shape_of(r);
+    let Shape::Set = s else {
+        return Given::Fails;
+    };
+    let q = row_of(a, n as usize);
+    let t = shape_of(q);
+    let Shape::Set = t else {
+        return Given::Fails;
+    };
+    Given::Bool(covers(members(q), members(r)))
+}
+
+// Whether a set has some member of another.
+pub fn any_of(a: &[u32], m: u32, n: u32) -> Given
+    ensures { λ r. ⌜ outOf r ≡ anyOut (valueIn (now (a .entry)) m) (valueIn (now (a .entry)) n) ⌝ }
+{
+    let r = row_of(a, m as usize);
+    let s = shape_of(r);
+    let Shape::Set = s else {
+        return Given::Fails;
+    };
+    let q = row_of(a, n as usize);
+    let t = shape_of(q);
+    let Shape::Set = t else {
+        return Given::Fails;
+    };
+    Given::Bool(meets(members(q), members(r)))
+}

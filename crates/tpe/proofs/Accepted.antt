@@ -1,0 +1,251 @@
+-- THE RUN OVER WORDS IS THE NUMBERED RUN, for every accepted partial sheet that the words hold, if they have room for what is made.
+use mathlib.Core.Path.{_≡_, refl, sym, _∙_, ap, ap₂, subst}
+use mathlib.Core.Bool.{true, false, cond}
+use mathlib.Core.Option.{Option, some}
+use mathlib.Core.List.{List, [], _∷_, _++_, append-assoc, append-nil}
+use Prim.Native.Nat.{ℕ, zero, suc, _+_, _-_, _*_, _≤_, _<_}
+use native.Mathlib.Omega.{arith}
+use borrow.Author.Tests.{ltb-true}
+use lib.ListN.{length, getD, drop}
+use Rattle.cedar.specs.Types.{Ty, tbool, tent, Var, principal, action, resource, context}
+use Rattle.cedar.specs.Residual.{Node, err}
+use Rattle.cedar.specs.Rows.{Row, rent, sameRow}
+use Rattle.cedar.specs.Numbered.{NEnv, nInterpret}
+use Rattle.cedar.specs.Runs.{Run, nRun}
+use Rattle.cedar.proofs.TableLaws.{InN}
+use Rattle.sheet.specs.Forms.{Mode, partial, forms, formOf, slotAt, tag, items, at, keyOf, TYPE, VALUE, NODE, POLICY}
+use Rattle.sheet.specs.State.{State, linesOf, count, depthsOf, valueRow}
+use Rattle.sheet.specs.Sheet.{read, enough}
+use Rattle.sheet.specs.Content.{types, rowsIn, valueRows, contents, schema, nEnv, given, requestTy, entityLine, lineGiven, trees, numberedPolicies, nPolicies}
+use Rattle.sheet.specs.Answer.{size, run}
+use Rattle.sheet.proofs.Lines.{Was, History, accepted-history}
+use Rattle.sheet.proofs.Parsed.{tags-between}
+use Rattle.sheet.proofs.NodeRows.{row-read}
+use Rattle.sheet.proofs.MadeCount.{policySizes}
+use Rattle.sheet.proofs.PoliciesRead.{item-there, policy-tags}
+use Rattle.sheet.proofs.Environment.{Facts, thirteen}
+use Rattle.sheet.proofs.TypeNumbers.{Listed, TypesIn}
+use Rattle.sheet.proofs.Depths.{Reached, read-reached, reached-depths, Depths}
+use Rattle.sheet.proofs.Depths as D
+use Rattle.sheet.proofs.Uses.{policies-small}
+use Rattle.table.specs.Layout.{base, rowsAt, rowsOf, linesHeld, held, MADE, TOP, heap, limits, limit, Sound}
+use Rattle.table.proofs.Rows.{count-held}
+use Rattle.value.specs.Lines.{valueLines, placeOf}
+use Rattle.value.proofs.Interned.{Formeds}
+use Rattle.tpe.specs.Run.{others, interpOf, ranFrom, runOf}
+use Rattle.tpe.proofs.Stands.{Hold, values, Room, tys, nodes, ty}
+use Rattle.tpe.proofs.Operations.{sch, env}
+use Rattle.tpe.proofs.Depth.{childrenOf, Proper, Deep, interp-is}
+use Rattle.tpe.proofs.Nodes.{Fact, node-fact}
+use Rattle.tpe.proofs.Policies.{RunIs, AllWork, ran-is}
+use Rattle.tpe.proofs.Listing.{bool-listed}
+use Rattle.tpe.proofs.Readings.{Tabled, own-tabled, keeps-tabled, lists-types}
+use Rattle.tpe.proofs.KindLines.{kind-found, rows-formed}
+
+-- texts do not matter for the known parts
+given-same : (sheet a : List ℕ) (x : Var) → given (held [] a []) x ≡ given (held sheet a []) x
+unfolding held linesHeld
+given-same sheet a principal = refl
+given-same sheet a action = refl
+given-same sheet a resource = refl
+given-same sheet a context = refl
+
+entity-same : (sheet a : List ℕ) (e : Row) (rows : List (List ℕ)) → entityLine (held [] a []) e rows ≡ entityLine (held sheet a []) e rows
+unfolding held linesHeld
+entity-same sheet a e [] = refl
+entity-same sheet a e (r ∷ rows) = ap (λ (o : Option (List ℕ)). cond (sameRow (valueRow (getD (rowsOf a 5) (at r 0) [])) e) (some r) o) (entity-same sheet a e rows)
+
+env-same : (m : Mode) (sheet a : List ℕ) → nEnv m (held [] a []) ≡ nEnv m (held sheet a [])
+unfolding nEnv held linesHeld
+env-same m sheet a = λ i. record { request = λ x. given-same sheet a x i; line = λ k t. lineGiven m (entity-same sheet a (rent k t) (rowsOf a 6) i) }
+
+-- nor depths for what was read
+facts-lines : (l : List (List (List ℕ))) (d e : List (List ℕ)) (u v : List ℕ) → Facts partial (record { lines = l; depths = d; used = u }) → Facts partial (record { lines = l; depths = e; used = v })
+facts-lines l d e u v f = record {
+  history = λ k pre r rest q. let w = f .history k pre r rest q in record { was = w .was; line = w .line; row = w .row; key = w .key; pass = w .pass; mine = w .mine; earlier = w .earlier };
+  full = f .full;
+  keys = f .keys;
+}
+
+facts-same : (sheet a b : List ℕ) → Facts partial (held sheet a b) → Facts partial (held sheet a [])
+unfolding held
+facts-same sheet a b f = facts-lines (linesHeld sheet a) _ _ _ _ f
+
+module _ (sheet a₀ : List ℕ) (f : Facts partial (held sheet a₀ [])) where
+  abbrev s : State
+  s = held sheet a₀ []
+
+  kinds : (k : ℕ) → Listed (tys sheet a₀) (tent k) → ty sheet a₀ (placeOf (6 ∷ k ∷ []) (rowsOf a₀ TYPE)) ≡ tent k
+  unfolding held linesHeld
+  kinds k e = kind-found partial s (f .history) k e
+
+  keeps : (c : ℕ) → c < length (nodes sheet a₀) → (R : List Row) → Tabled s R → Tabled s (nInterpret (sch partial sheet a₀) (env partial sheet a₀) (getD (trees s) c (err tbool)) R .rows)
+  keeps c lt R t = subst (λ (N : NEnv). Tabled s (nInterpret (schema s) N (getD (trees s) c (err tbool)) R .rows)) (sym (env-same partial sheet a₀)) (keeps-tabled s f c R t)
+
+  node-count : count s NODE ≡ length (nodes sheet a₀)
+  unfolding held linesHeld
+  node-count = refl
+
+  lists : Listed (types s) tbool → (c : ℕ) → c < length (nodes sheet a₀) → (R : List Row) → Tabled s R → TypesIn (tys sheet a₀) (nInterpret (sch partial sheet a₀) (env partial sheet a₀) (getD (trees s) c (err tbool)) R .tree)
+  lists b c lt R t = subst (λ (N : NEnv). TypesIn (tys sheet a₀) (nInterpret (schema s) N (getD (trees s) c (err tbool)) R .tree)) (sym (env-same partial sheet a₀)) (lists-types s f b c (subst (λ (n : ℕ). c < n) (sym node-count) lt) R t)
+
+  -- ---- depths
+
+  proper : (c : ℕ) → c < length (nodes sheet a₀) → Proper sheet a₀ (trees s) c
+  unfolding held linesHeld
+  proper c lt = let k = node-fact partial s (f .history) c lt in record { there = lt; low = k .low; high = k .high; even = k .even; tree = k .tree }
+
+  module _ (ds : List ℕ) (levels : D.Deep NODE (rowsOf a₀ NODE) ds) where
+    kid-falls : (c : ℕ) → c < length (nodes sheet a₀) → (j : ℕ) → InN j (childrenOf (getD (nodes sheet a₀) c [])) → (j < length (nodes sheet a₀)) × (getD ds j 0 < getD ds c 0)
+    unfolding held linesHeld
+    kid-falls c lt j i = levels .falls c j (node-fact partial s (f .history) c lt .kids j i)
+
+    deep-of : (d c : ℕ) → c < length (nodes sheet a₀) → getD ds c 0 ≤ d → Deep sheet a₀ (trees s) d c
+    deep-of zero c lt e = let z = levels .least c lt in absurd (omega (arith, z, e))
+    deep-of (suc d) c lt e = (proper c lt, λ j i. let (a, b) = kid-falls c lt j i in deep-of d j a (omega (arith, b, e)))
+
+    -- ---- policies
+
+    policy-node : (pre : List (List ℕ)) (r : List ℕ) → Was partial s POLICY pre r → at r 2 < length (nodes sheet a₀)
+    unfolding held linesHeld keyOf slotAt formOf forms
+    policy-node pre r w =
+        let (lo, hi) = tags-between 12 49 49 (tag r) (omega arith) policy-tags (w .key) in
+        let q : tag r ≡ 49 = omega (arith, lo, hi) in
+        let rd = row-read partial r (w .line) 49 (w .row) q (omega arith) (omega arith) (λ z. absurd (omega (arith, z))) in
+        let same : linesOf (w .was) 11 ≡ linesOf s 11 = w .earlier 11 (omega arith) in
+        let lt = ltb-true (at r 2) (count (w .was) 11) (item-there partial s (w .was) POLICY r 49 rd (w .pass .refers) 2 (ltb-true 2 3 refl)) in
+        subst (λ z. at r 2 < length z) same lt
+
+    all-work : (pre rest : List (List ℕ)) → linesOf s POLICY ≡ pre ++ rest → AllWork partial sheet a₀ (trees s) (Tabled s) 64 (omega arith) (interpOf partial sheet 64) rest
+    all-work pre [] e = tt
+    all-work pre (r ∷ rest) e =
+        let w = f .history POLICY pre r rest e in
+        let b = bool-listed partial s (f .history) pre r rest e in
+        let lt = policy-node pre r w in (
+          (interp-is partial sheet a₀ kinds (trees s) (Tabled s) keeps (lists b) 64 (at r 2) (omega arith) (deep-of 64 (at r 2) lt (levels .low (at r 2))), keeps (at r 2) lt),
+          all-work (pre ++ (r ∷ [])) rest (e ∙ sym (append-assoc pre (r ∷ []) rest)),
+        )
+
+-- ---- at the start
+
+none-made : (a : List ℕ) → getD a MADE 0 ≡ 0 → valueLines a ≡ rowsOf a VALUE
+unfolding valueLines rowsOf rowsAt
+none-made a e = ap (λ (n : ℕ). rowsAt a (base VALUE) (getD a VALUE 0) ++ rowsAt a (base MADE) n) e ∙ append-nil (rowsAt a (base VALUE) (getD a VALUE 0))
+
+-- depths do not matter for a run
+module _ (l : List (List (List ℕ))) (d e : List (List ℕ)) (u v : List ℕ) where
+  abbrev one : State
+  one = record { lines = l; depths = d; used = u }
+
+  abbrev two : State
+  two = record { lines = l; depths = e; used = v }
+
+  types-lines : types one ≡ types two
+  unfolding types
+  types-lines = refl
+
+  request-lines : (ts : List Ty) (x : Var) → requestTy one ts x ≡ requestTy two ts x
+  request-lines ts principal = refl
+  request-lines ts action = refl
+  request-lines ts resource = refl
+  request-lines ts context = refl
+
+  schema-lines : schema one ≡ schema two
+  unfolding schema types
+  schema-lines = λ i. record { shape = λ k. schema one .shape k; bytes = λ t. schema one .bytes t; request = λ x. request-lines (types one) x i }
+
+  given-lines : (x : Var) → given one x ≡ given two x
+  given-lines principal = refl
+  given-lines action = refl
+  given-lines resource = refl
+  given-lines context = refl
+
+  entity-lines : (q : Row) (rows : List (List ℕ)) → entityLine one q rows ≡ entityLine two q rows
+  entity-lines q [] = refl
+  entity-lines q (r ∷ rows) = ap (λ (o : Option (List ℕ)). cond (sameRow (valueRow (getD (getD l 5 []) (at r 0) [])) q) (some r) o) (entity-lines q rows)
+
+  env-lines : nEnv partial one ≡ nEnv partial two
+  unfolding nEnv
+  env-lines = λ i. record { request = λ x. given-lines x i; line = λ k t. lineGiven partial (entity-lines (rent k t) (getD l 6 []) i) }
+
+  policies-lines : nPolicies one ≡ nPolicies two
+  unfolding nPolicies trees types
+  policies-lines = refl
+
+  rows-lines : valueRows one ≡ valueRows two
+  unfolding valueRows
+  rows-lines = refl
+
+  run-lines : run partial one ≡ run partial two
+  unfolding run
+  run-lines = λ i. nRun (schema-lines i) (env-lines i) (policies-lines i) (rows-lines i)
+
+run-same : (sheet a b : List ℕ) → run partial (held sheet a []) ≡ run partial (held sheet a b)
+unfolding held
+run-same sheet a b = run-lines (linesHeld sheet a) _ _ _ _
+
+policies-same : (sheet a b : List ℕ) → nPolicies (held sheet a []) ≡ nPolicies (held sheet a b)
+unfolding held
+policies-same sheet a b = policies-lines (linesHeld sheet a) _ _ _ _
+
+own-policies : (sheet a : List ℕ) → nPolicies (held sheet a []) ≡ numberedPolicies (trees (held sheet a [])) (rowsOf a POLICY)
+unfolding nPolicies held linesHeld
+own-policies sheet a = refl
+
+as-run : (sheet a : List ℕ)
+    → nRun (schema (held sheet a [])) (nEnv partial (held sheet a [])) (numberedPolicies (trees (held sheet a [])) (rowsOf a POLICY)) (valueRows (held sheet a [])) ≡ run partial (held sheet a [])
+unfolding run
+as-run sheet a = ap (λ ps. nRun (schema (held sheet a [])) (nEnv partial (held sheet a [])) ps (valueRows (held sheet a []))) (sym (own-policies sheet a))
+
+module _ (sheet a b : List ℕ) (f : Facts partial (held sheet a b)) (d : Depths (held sheet a b)) (sound : Sound a) (none : getD a MADE 0 ≡ 0) where
+  abbrev f₀ : Facts partial (held sheet a [])
+  f₀ = facts-same sheet a b f
+
+  start-hold : Hold a a
+  unfolding held linesHeld
+  start-hold = record { sound = sound; formed = subst Formeds (sym (none-made a none)) (rows-formed partial (held sheet a []) (f₀ .history)); same = λ k lt. refl }
+
+  start-rows : values a ≡ valueRows (held sheet a [])
+  unfolding valueRows held linesHeld
+  start-rows = ap rowsIn (none-made a none)
+
+  levels : D.Deep NODE (rowsOf a NODE) (depthsOf (held sheet a b) NODE)
+  unfolding held linesHeld
+  levels = d .deep NODE
+
+  run-from : Room (policySizes (numberedPolicies (trees (held sheet a [])) (rowsOf a POLICY))) a []
+      → RunIs partial sheet a 64 [] (nRun (sch partial sheet a) (env partial sheet a) (numberedPolicies (trees (held sheet a [])) (rowsOf a POLICY)) (values a)) (ranFrom (interpOf partial sheet 64) (rowsOf a POLICY) a [])
+  unfolding held linesHeld
+  run-from room =
+      ran-is partial sheet a (trees (held sheet a [])) (Tabled (held sheet a [])) 64 (omega arith) (interpOf partial sheet 64) (rowsOf a POLICY)
+      (all-work sheet a f₀ (depthsOf (held sheet a b) NODE) levels [] (rowsOf a POLICY) refl) a [] start-hold
+      (subst (Tabled (held sheet a [])) (sym start-rows) (own-tabled (held sheet a []) (f₀ .history))) room
+
+  -- what is run is the sheet's run
+  same-run : nRun (sch partial sheet a) (env partial sheet a) (numberedPolicies (trees (held sheet a [])) (rowsOf a POLICY)) (values a) ≡ run partial (held sheet a b)
+  same-run = ap₂ (λ (N : NEnv) (R : List Row). nRun (sch partial sheet a) N (numberedPolicies (trees (held sheet a [])) (rowsOf a POLICY)) R) (env-same partial sheet a) start-rows ∙ as-run sheet a ∙ run-same sheet a b
+
+  run-held : policySizes (nPolicies (held sheet a b)) ≤ getD a NODE 0 → getD a TOP 0 + 5 * getD a NODE 0 ≤ 16384 → RunIs partial sheet a 64 [] (run partial (held sheet a b)) (runOf partial sheet a [])
+  unfolding runOf limit limits
+  run-held few top =
+      let z : policySizes (nPolicies (held sheet a b)) ≡ policySizes (numberedPolicies (trees (held sheet a [])) (rowsOf a POLICY)) = ap policySizes (sym (policies-same sheet a b) ∙ own-policies sheet a) in
+      let n = sound .few NODE (omega arith) in
+      subst (λ (x : Run). RunIs partial sheet a 64 [] x (ranFrom (interpOf partial sheet 64) (rowsOf a POLICY) a [])) same-run
+      (run-from (record { top = omega (arith, z, few, top); few = omega (arith, z, few, none, n); log = omega (arith, z, few, n) }))
+
+-- THE THEOREM
+pub run-is : (sheet a b : List ℕ) → read partial sheet .number ≡ 0 → read partial sheet .state ≡ held sheet a b → Sound a → getD a MADE 0 ≡ 0 → getD a TOP 0 + 5 * getD a NODE 0 ≤ 16384
+    → RunIs partial sheet a 64 [] (run partial (read partial sheet .state)) (runOf partial sheet a [])
+run-is sheet a b e h sound none top =
+    let (hi, fu) = accepted-history partial sheet e in
+    let f : Facts partial (held sheet a b) = subst (Facts partial) h (record { history = hi; full = fu; keys = thirteen partial sheet e }) in
+    let d : Depths (held sheet a b) = reached-depths (subst (Reached partial) h (read-reached partial sheet)) in
+    let c : policySizes (nPolicies (held sheet a b)) ≤ count (held sheet a b) NODE = subst (λ (s : State). policySizes (nPolicies s) ≤ count s NODE) h (policies-small partial sheet e) in
+    let n : count (held sheet a b) NODE ≡ getD a NODE 0 = count-held sheet a b NODE (omega arith) in
+    subst (λ (s : State). RunIs partial sheet a 64 [] (run partial s) (runOf partial sheet a [])) (sym h) (run-held sheet a b f d sound none (omega (arith, c, n)) top)
+
+-- there is room where a sheet's rows take so many words: an item has two bytes at least, and a node's line six more
+pub run-fits : (sheet a b : List ℕ) → read partial sheet .number ≡ 0 → read partial sheet .state ≡ held sheet a b → Sound a → getD a MADE 0 ≡ 0 → 2 * (getD a TOP 0 - heap) + 6 * getD a NODE 0 ≤ 16384
+    → RunIs partial sheet a 64 [] (run partial (read partial sheet .state)) (runOf partial sheet a [])
+unfolding limit limits
+run-fits sheet a b e h sound none fits = let n = sound .few NODE (omega arith) in run-is sheet a b e h sound none (omega (arith, fits, n))

@@ -1,0 +1,63 @@
+-- Interpretation over words, at the depth of a node, is the numbered interpretation of its tree. Assumes nothing.
+use mathlib.Core.Path.{_≡_, refl, sym, _∙_, ap, ap₂, subst}
+use mathlib.Core.List.{List, [], _∷_}
+use Prim.Native.Nat.{ℕ, zero, suc, _+_, _-_, _*_, _≤_, _<_}
+use native.Mathlib.Omega.{arith}
+use lib.ListN.{length, getD, drop}
+use Rattle.cedar.specs.Types.{Ty, tbool, tent}
+use Rattle.cedar.specs.Residual.{Node, err}
+use Rattle.cedar.specs.Rows.{Row}
+use Rattle.cedar.specs.Numbered.{Out, nInterpret}
+use Rattle.cedar.proofs.TableLaws.{InN}
+use Rattle.sheet.specs.Forms.{Mode, tag, items, TYPE, NODE}
+use Rattle.sheet.specs.Content.{treeOver}
+use Rattle.sheet.specs.Answer.{size}
+use Rattle.sheet.proofs.TypeNumbers.{Listed, TypesIn}
+use Rattle.table.specs.Layout.{rowsOf}
+use Rattle.value.specs.Lines.{placeOf}
+use Rattle.tpe.specs.Run.{O, others, errStep, steps, stepWith, stepOf, interpOf}
+use Rattle.tpe.proofs.Stands.{Hold, values, Room, tys, nodes, ty, Is}
+use Rattle.tpe.proofs.Operations.{sch, env}
+use Rattle.tpe.proofs.Logic.{Works}
+use Rattle.tpe.proofs.Steps.{kidsFor, Below, treeAt, step-is}
+
+-- the children of a node's row
+abbrev pub childrenOf : List ℕ → List ℕ
+childrenOf r = getD (kidsFor r) (tag r - 21) []
+
+module _ (sheet a₀ : List ℕ) (trs : List (Node ℕ)) where
+  -- node c is there, its row is of an operation, and tree c is the one that the row says
+  pub record Proper (c : ℕ) : Type 0 where
+    pub there : c < length (nodes sheet a₀)
+    pub low : 21 ≤ tag (getD (nodes sheet a₀) c [])
+    pub high : tag (getD (nodes sheet a₀) c []) ≤ 48
+    pub even : tag (getD (nodes sheet a₀) c []) ≡ 48 → length (drop 1 (items (getD (nodes sheet a₀) c []))) ≡ 2 * length (others (drop 1 (items (getD (nodes sheet a₀) c []))))
+    pub tree : getD trs c (err tbool) ≡ treeOver (tys sheet a₀) (λ n. n) trs (getD (nodes sheet a₀) c [])
+
+  -- node c is proper, and so are those below it, which are d levels with it at most
+  abbrev pub Deep : ℕ → ℕ → Type 0
+  Deep zero c = ⊥
+  Deep (suc d) c = Proper c × ((j : ℕ) → InN j (childrenOf (getD (nodes sheet a₀) c [])) → Deep d j)
+
+  deep-there : (d c : ℕ) → Deep d c → c < length (nodes sheet a₀)
+  deep-there zero c e = absurd e
+  deep-there (suc d) c e = e .0 .there
+
+module _ (m : Mode) (sheet a₀ : List ℕ) (kinds : (k : ℕ) → Listed (tys sheet a₀) (tent k) → ty sheet a₀ (placeOf (6 ∷ k ∷ []) (rowsOf a₀ TYPE)) ≡ tent k)
+    (trs : List (Node ℕ)) (P : List Row → Type 0)
+    (keeps : (c : ℕ) → c < length (nodes sheet a₀) → (R : List Row) → P R → P (nInterpret (sch m sheet a₀) (env m sheet a₀) (getD trs c (err tbool)) R .rows))
+    (lists : (c : ℕ) → c < length (nodes sheet a₀) → (R : List Row) → P R → TypesIn (tys sheet a₀) (nInterpret (sch m sheet a₀) (env m sheet a₀) (getD trs c (err tbool)) R .tree)) where
+  -- THE INTERPRETER OVER WORDS IS THE NUMBERED INTERPRETATION
+  pub interp-is : (d c : ℕ) → d ≤ 64 → Deep sheet a₀ trs d c → Works m sheet a₀ P d (size (getD trs c (err tbool))) (interpOf m sheet d) c (nInterpret (sch m sheet a₀) (env m sheet a₀) (getD trs c (err tbool)))
+  unfolding interpOf stepOf stepWith
+  interp-is zero c deep e a l h good room = absurd e
+  interp-is (suc d) c deep e a l h good room =
+      let k = e .0 in
+      rw (h .same NODE (omega arith))
+      (subst
+      (λ (t : Node ℕ). Room (size t) a l → TypesIn (tys sheet a₀) (nInterpret (sch m sheet a₀) (env m sheet a₀) t (values a) .tree)
+      → Is sheet a₀ (suc d) (size t) a l (nInterpret (sch m sheet a₀) (env m sheet a₀) t (values a)) (getD (steps m sheet) (tag (getD (nodes sheet a₀) c []) - 21) (errStep m sheet) (interpOf m sheet d) a l c (getD (nodes sheet a₀) c [])))
+      (sym (k .tree))
+      (step-is m sheet a₀ kinds trs P d (omega (arith, deep)) (interpOf m sheet d) c (k .low) a l h good (k .even) (tag (getD (nodes sheet a₀) c []) - 21) refl (omega (arith, k .high))
+      (λ j i. record { working = interp-is d j (omega (arith, deep)) (e .1 j i); keeps = keeps j (deep-there sheet a₀ trs d j (e .1 j i)) }))
+      room (lists c (k .there) (values a) good))

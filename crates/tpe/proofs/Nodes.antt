@@ -1,0 +1,291 @@
+-- The nodes of a sheet that was read: each is the tree that its row says over the trees of its children, which are nodes of less depth.
+use mathlib.Core.Path.{_≡_, refl, sym, _∙_, ap, ap₂, subst}
+use mathlib.Core.Bool.{Bool, true, false, cond, _&&_, _||_}
+use mathlib.Core.Option.{some}
+use mathlib.Core.List.{List, [], _∷_, _++_, append-assoc, append-nil}
+use Prim.Native.Nat.{ℕ, zero, suc, _<_, _≤_, _+_, _-_, _*_, _%_}
+use native.Mathlib.Nat.{le-of-suc-le-suc}
+use native.Mathlib.Omega.{arith}
+use lib.Dec.{eqb, ltb}
+use lib.ListN.{length, getD, drop, length-append, List·getD-append}
+use Rattle.cedar.proofs.Tools.{no-true, eqb-true}
+use Rattle.cedar.proofs.TableLaws.{InN, now′, later′}
+use Rattle.cedar.specs.Types.{Ty, tbool}
+use Rattle.cedar.specs.Residual.{Node, Nodes, NodeArgs, lit, err, var, and, or, ite, un, bin, rel, get, has, haspath, set, rec, enil, econs, gnil, gcons, Un, unot, uneg, uempty, uis, ulike, Bin, beq, blt, ble, badd, bsub, bmul, bcontains, ball, bany, Rel, rin, rgettag, rhastag}
+use Rattle.sheet.specs.Forms.{Mode, Slot, line, forms, formOf, slotAt, isLine, keep, refsFrom, refs, counted, itemsFrom, tag, items, at, keyOf, rowOf, NODE}
+use Rattle.sheet.specs.State.{State, linesOf, count, depthsOf}
+use Rattle.sheet.specs.Content.{types, childrenOver, argsOver, treeFor, treeOver, treesFrom, trees, patternOf}
+use Rattle.sheet.proofs.Lines.{Was, History}
+use Rattle.sheet.proofs.Parsed.{parsed, tags-between}
+use Rattle.sheet.proofs.NodeRows.{row-read, plain-slots}
+use Rattle.sheet.proofs.ValueRows.{items-length}
+use Rattle.sheet.proofs.PoliciesRead.{all-there, node-tags}
+use Rattle.sheet.proofs.TypeNumbers.{split-at}
+use Rattle.sheet.proofs.TreesBack.{from-append}
+use Rattle.sheet.proofs.Slots.{set-slot, field-slot}
+use Rattle.sheet.proofs.Uses.{AllBelow, refs-below}
+use Rattle.tpe.specs.Run.{others}
+use Rattle.tpe.proofs.Steps.{kidsFor}
+use Rattle.tpe.proofs.Depth.{childrenOf}
+
+in-cons : {X : Type 0} {j x : ℕ} {l : List ℕ} → InN j (x ∷ l) → (j ≡ x → X) → (InN j l → X) → X
+in-cons now′ f g = f refl
+in-cons (later′ i) f g = g i
+
+in-none : {X : Type 0} {j : ℕ} → InN j [] → X
+in-none i = elim i [ ]
+
+-- ---- a tree depends on the trees of its row's children alone
+
+module _ (ts : List Ty) (ns ms : List (Node ℕ)) where
+  abbrev Alike : List ℕ → Type 0
+  Alike l = (j : ℕ) → InN j l → getD ns j (err tbool) ≡ getD ms j (err tbool)
+
+  children-same : (l : List ℕ) → Alike l → childrenOver ts (λ n. n) ns l ≡ childrenOver ts (λ n. n) ms l
+  children-same [] h = refl
+  children-same (n ∷ l) h = ap₂ econs (h n now′) (children-same l (λ j i. h j (later′ i)))
+
+  args-same : (l : List ℕ) → Alike (others l) → argsOver ts (λ n. n) ns l ≡ argsOver ts (λ n. n) ms l
+  args-same [] h = refl
+  args-same (t ∷ []) h = refl
+  args-same (t ∷ n ∷ l) h = ap₂ (gcons t) (h n now′) (args-same l (λ j i. h j (later′ i)))
+
+  module _ (r : List ℕ) where
+    abbrev T : Ty
+    T = getD ts (at r 0) tbool
+
+    tree-same : (x : ℕ) → Alike (getD (kidsFor r) x [])
+        → getD (treeFor ts (λ n. n) ns r T (λ j. getD ns (at r j) (err tbool))) x (err tbool) ≡ getD (treeFor ts (λ n. n) ms r T (λ j. getD ms (at r j) (err tbool))) x (err tbool)
+    tree-same zero h = refl
+    tree-same (suc zero) h = refl
+    tree-same (suc (suc zero)) h = refl
+    tree-same (suc (suc (suc zero))) h = ap₂ (and T) (h (at r 1) now′) (h (at r 2) (later′ now′))
+    tree-same (suc (suc (suc (suc zero)))) h = ap₂ (or T) (h (at r 1) now′) (h (at r 2) (later′ now′))
+    tree-same (suc (suc (suc (suc (suc zero))))) h = ap₂ (bin T beq) (h (at r 1) now′) (h (at r 2) (later′ now′))
+    tree-same (suc (suc (suc (suc (suc (suc zero)))))) h = ap₂ (bin T blt) (h (at r 1) now′) (h (at r 2) (later′ now′))
+    tree-same (suc (suc (suc (suc (suc (suc (suc zero))))))) h = ap₂ (bin T ble) (h (at r 1) now′) (h (at r 2) (later′ now′))
+    tree-same (suc (suc (suc (suc (suc (suc (suc (suc zero)))))))) h = ap₂ (bin T badd) (h (at r 1) now′) (h (at r 2) (later′ now′))
+    tree-same (suc (suc (suc (suc (suc (suc (suc (suc (suc zero))))))))) h = ap₂ (bin T bsub) (h (at r 1) now′) (h (at r 2) (later′ now′))
+    tree-same (suc (suc (suc (suc (suc (suc (suc (suc (suc (suc zero)))))))))) h = ap₂ (bin T bmul) (h (at r 1) now′) (h (at r 2) (later′ now′))
+    tree-same (suc (suc (suc (suc (suc (suc (suc (suc (suc (suc (suc zero))))))))))) h = ap₂ (rel T rin) (h (at r 1) now′) (h (at r 2) (later′ now′))
+    tree-same (suc (suc (suc (suc (suc (suc (suc (suc (suc (suc (suc (suc zero)))))))))))) h = ap₂ (rel T rgettag) (h (at r 1) now′) (h (at r 2) (later′ now′))
+    tree-same (suc (suc (suc (suc (suc (suc (suc (suc (suc (suc (suc (suc (suc zero))))))))))))) h = ap₂ (rel T rhastag) (h (at r 1) now′) (h (at r 2) (later′ now′))
+    tree-same (suc (suc (suc (suc (suc (suc (suc (suc (suc (suc (suc (suc (suc (suc zero)))))))))))))) h = ap₂ (bin T bcontains) (h (at r 1) now′) (h (at r 2) (later′ now′))
+    tree-same (suc (suc (suc (suc (suc (suc (suc (suc (suc (suc (suc (suc (suc (suc (suc zero))))))))))))))) h = ap₂ (bin T ball) (h (at r 1) now′) (h (at r 2) (later′ now′))
+    tree-same (suc (suc (suc (suc (suc (suc (suc (suc (suc (suc (suc (suc (suc (suc (suc (suc zero)))))))))))))))) h = ap₂ (bin T bany) (h (at r 1) now′) (h (at r 2) (later′ now′))
+    tree-same (suc (suc (suc (suc (suc (suc (suc (suc (suc (suc (suc (suc (suc (suc (suc (suc (suc zero))))))))))))))))) h = λ v. ite T (h (at r 1) now′ v) (h (at r 2) (later′ now′) v) (h (at r 3) (later′ (later′ now′)) v)
+    tree-same (suc (suc (suc (suc (suc (suc (suc (suc (suc (suc (suc (suc (suc (suc (suc (suc (suc (suc zero)))))))))))))))))) h = ap (un T (uis (at r 2))) (h (at r 1) now′)
+    tree-same (suc (suc (suc (suc (suc (suc (suc (suc (suc (suc (suc (suc (suc (suc (suc (suc (suc (suc (suc zero))))))))))))))))))) h = ap (un T (ulike (patternOf (drop 2 (items r))))) (h (at r 1) now′)
+    tree-same (suc (suc (suc (suc (suc (suc (suc (suc (suc (suc (suc (suc (suc (suc (suc (suc (suc (suc (suc (suc zero)))))))))))))))))))) h = ap (λ (t : Node ℕ). get T t (at r 2)) (h (at r 1) now′)
+    tree-same (suc (suc (suc (suc (suc (suc (suc (suc (suc (suc (suc (suc (suc (suc (suc (suc (suc (suc (suc (suc (suc zero))))))))))))))))))))) h = ap (λ (t : Node ℕ). has T t (at r 2)) (h (at r 1) now′)
+    tree-same (suc (suc (suc (suc (suc (suc (suc (suc (suc (suc (suc (suc (suc (suc (suc (suc (suc (suc (suc (suc (suc (suc zero)))))))))))))))))))))) h = ap (λ (t : Node ℕ). haspath T t (at r 2) (drop 3 (items r))) (h (at r 1) now′)
+    tree-same (suc (suc (suc (suc (suc (suc (suc (suc (suc (suc (suc (suc (suc (suc (suc (suc (suc (suc (suc (suc (suc (suc (suc zero))))))))))))))))))))))) h = ap (un T unot) (h (at r 1) now′)
+    tree-same (suc (suc (suc (suc (suc (suc (suc (suc (suc (suc (suc (suc (suc (suc (suc (suc (suc (suc (suc (suc (suc (suc (suc (suc zero)))))))))))))))))))))))) h = ap (un T uneg) (h (at r 1) now′)
+    tree-same (suc (suc (suc (suc (suc (suc (suc (suc (suc (suc (suc (suc (suc (suc (suc (suc (suc (suc (suc (suc (suc (suc (suc (suc (suc zero))))))))))))))))))))))))) h = ap (un T uempty) (h (at r 1) now′)
+    tree-same (suc (suc (suc (suc (suc (suc (suc (suc (suc (suc (suc (suc (suc (suc (suc (suc (suc (suc (suc (suc (suc (suc (suc (suc (suc (suc zero)))))))))))))))))))))))))) h = ap (set T) (children-same (drop 1 (items r)) h)
+    tree-same (suc (suc (suc (suc (suc (suc (suc (suc (suc (suc (suc (suc (suc (suc (suc (suc (suc (suc (suc (suc (suc (suc (suc (suc (suc (suc (suc zero))))))))))))))))))))))))))) h = ap (rec T) (args-same (drop 1 (items r)) h)
+    tree-same (suc (suc (suc (suc (suc (suc (suc (suc (suc (suc (suc (suc (suc (suc (suc (suc (suc (suc (suc (suc (suc (suc (suc (suc (suc (suc (suc (suc y)))))))))))))))))))))))))))) h = refl
+
+-- ---- the children of a row are its references
+
+in-keep : (b : Bool) (x y : ℕ) (l : List ℕ) → InN y l → InN y (keep b x l)
+in-keep true x y l i = later′ i
+in-keep false x y l i = i
+
+this-kept : (sl : Slot) (x : ℕ) (l : List ℕ) → sl ≡ line 11 → InN x (keep (isLine 11 sl) x l)
+this-kept sl x l e = subst (λ z. InN x (keep (isLine 11 z) x l)) (sym e) now′
+
+item-ref : (t j i : ℕ) (l : List ℕ) → i < length l → slotAt t (j + i) ≡ line 11 → InN (getD l i 0) (refsFrom 11 t j l)
+item-ref t j i [] lt e = absurd (omega arith)
+item-ref t j zero (x ∷ l) lt e = this-kept (slotAt t j) x (refsFrom 11 t (suc j) l) (ap (slotAt t) (omega arith) ∙ e)
+item-ref t j (suc i) (x ∷ l) lt e = in-keep (isLine 11 (slotAt t j)) x (getD l i 0) (refsFrom 11 t (suc j) l) (item-ref t (suc j) i l (le-of-suc-le-suc lt) (ap (slotAt t) (omega arith) ∙ e))
+
+module _ (t : ℕ) (l : List ℕ) where
+  ref-at : (i : ℕ) → i < length l → slotAt t i ≡ line 11 → (j : ℕ) → j ≡ getD l i 0 → InN j (refs 11 (t ∷ l))
+  unfolding refs
+  ref-at i lt e j q = subst (λ z. InN z (refsFrom 11 t 0 l)) (sym q) (item-ref t 0 i l lt (ap (slotAt t) (omega arith) ∙ e))
+
+  one-refs : 2 ≤ length l → slotAt t 1 ≡ line 11 → (j : ℕ) → InN j (getD l 1 0 ∷ []) → InN j (refs 11 (t ∷ l))
+  one-refs h p j i = in-cons i (ref-at 1 (omega arith) p j) in-none
+
+  two-refs : 3 ≤ length l → slotAt t 1 ≡ line 11 → slotAt t 2 ≡ line 11 → (j : ℕ) → InN j (getD l 1 0 ∷ getD l 2 0 ∷ []) → InN j (refs 11 (t ∷ l))
+  two-refs h p q j i = in-cons i (ref-at 1 (omega arith) p j) (λ k. in-cons k (ref-at 2 (omega arith) q j) in-none)
+
+  three-refs : 4 ≤ length l → slotAt t 1 ≡ line 11 → slotAt t 2 ≡ line 11 → slotAt t 3 ≡ line 11 → (j : ℕ) → InN j (getD l 1 0 ∷ getD l 2 0 ∷ getD l 3 0 ∷ []) → InN j (refs 11 (t ∷ l))
+  three-refs h p q r j i = in-cons i (ref-at 1 (omega arith) p j) (λ k. in-cons k (ref-at 2 (omega arith) q j) (λ k. in-cons k (ref-at 3 (omega arith) r j) in-none))
+
+set-from : (i : ℕ) (l : List ℕ) (j : ℕ) → InN j l → InN j (refsFrom 11 47 (suc i) l)
+set-from i [] j k = k
+set-from i (x ∷ l) j k = in-cons k (λ e. subst (λ z. InN z (refsFrom 11 47 (suc i) (x ∷ l))) (sym e) (this-kept (slotAt 47 (suc i)) x (refsFrom 11 47 (suc (suc i)) l) (set-slot i)))
+    (λ n. in-keep (isLine 11 (slotAt 47 (suc i))) x j (refsFrom 11 47 (suc (suc i)) l) (set-from (suc i) l j n))
+
+record-from : (i : ℕ) (l : List ℕ) (j : ℕ) → InN j (others l) → InN j (refsFrom 11 48 (suc (i + i)) l)
+record-from i [] j k = k
+record-from i (t ∷ []) j k = in-none k
+record-from i (t ∷ x ∷ l) j k = in-keep (isLine 11 (slotAt 48 (suc (i + i)))) t j _
+    (in-cons k (λ e. subst (λ z. InN z (refsFrom 11 48 (suc (suc (i + i))) (x ∷ l))) (sym e) (this-kept (slotAt 48 (suc (suc (i + i)))) x (refsFrom 11 48 (suc (suc (suc (i + i)))) l) (field-slot i)))
+    (λ n. in-keep (isLine 11 (slotAt 48 (suc (suc (i + i))))) x j (refsFrom 11 48 (suc (suc (suc (i + i)))) l) (subst (λ z. InN j (refsFrom 11 48 z l)) (omega arith) (record-from (suc i) l j n))))
+
+set-refs : (l : List ℕ) (j : ℕ) → InN j (drop 1 l) → InN j (refs 11 (47 ∷ l))
+unfolding refs
+set-refs [] j i = in-none i
+set-refs (x ∷ l) j i = in-keep (isLine 11 (slotAt 47 0)) x j (refsFrom 11 47 1 l) (set-from 0 l j i)
+
+record-refs : (l : List ℕ) (j : ℕ) → InN j (others (drop 1 l)) → InN j (refs 11 (48 ∷ l))
+unfolding refs
+record-refs [] j i = in-none i
+record-refs (x ∷ l) j i = in-keep (isLine 11 (slotAt 48 0)) x j (refsFrom 11 48 1 l) (record-from 0 l j i)
+
+kid-refs : (x : ℕ) → x ≤ 27 → (l : List ℕ) → length (formOf (21 + x) .items) ≤ length l → (j : ℕ) → InN j (getD (kidsFor ((21 + x) ∷ l)) x []) → InN j (refs 11 ((21 + x) ∷ l))
+unfolding slotAt formOf forms
+kid-refs zero small l h j i = in-none i
+kid-refs (suc zero) small l h j i = in-none i
+kid-refs (suc (suc zero)) small l h j i = in-none i
+kid-refs (suc (suc (suc zero))) small l h j i = two-refs 24 l h refl refl j i
+kid-refs (suc (suc (suc (suc zero)))) small l h j i = two-refs 25 l h refl refl j i
+kid-refs (suc (suc (suc (suc (suc zero))))) small l h j i = two-refs 26 l h refl refl j i
+kid-refs (suc (suc (suc (suc (suc (suc zero)))))) small l h j i = two-refs 27 l h refl refl j i
+kid-refs (suc (suc (suc (suc (suc (suc (suc zero))))))) small l h j i = two-refs 28 l h refl refl j i
+kid-refs (suc (suc (suc (suc (suc (suc (suc (suc zero)))))))) small l h j i = two-refs 29 l h refl refl j i
+kid-refs (suc (suc (suc (suc (suc (suc (suc (suc (suc zero))))))))) small l h j i = two-refs 30 l h refl refl j i
+kid-refs (suc (suc (suc (suc (suc (suc (suc (suc (suc (suc zero)))))))))) small l h j i = two-refs 31 l h refl refl j i
+kid-refs (suc (suc (suc (suc (suc (suc (suc (suc (suc (suc (suc zero))))))))))) small l h j i = two-refs 32 l h refl refl j i
+kid-refs (suc (suc (suc (suc (suc (suc (suc (suc (suc (suc (suc (suc zero)))))))))))) small l h j i = two-refs 33 l h refl refl j i
+kid-refs (suc (suc (suc (suc (suc (suc (suc (suc (suc (suc (suc (suc (suc zero))))))))))))) small l h j i = two-refs 34 l h refl refl j i
+kid-refs (suc (suc (suc (suc (suc (suc (suc (suc (suc (suc (suc (suc (suc (suc zero)))))))))))))) small l h j i = two-refs 35 l h refl refl j i
+kid-refs (suc (suc (suc (suc (suc (suc (suc (suc (suc (suc (suc (suc (suc (suc (suc zero))))))))))))))) small l h j i = two-refs 36 l h refl refl j i
+kid-refs (suc (suc (suc (suc (suc (suc (suc (suc (suc (suc (suc (suc (suc (suc (suc (suc zero)))))))))))))))) small l h j i = two-refs 37 l h refl refl j i
+kid-refs (suc (suc (suc (suc (suc (suc (suc (suc (suc (suc (suc (suc (suc (suc (suc (suc (suc zero))))))))))))))))) small l h j i = three-refs 38 l h refl refl refl j i
+kid-refs (suc (suc (suc (suc (suc (suc (suc (suc (suc (suc (suc (suc (suc (suc (suc (suc (suc (suc zero)))))))))))))))))) small l h j i = one-refs 39 l (omega arith) refl j i
+kid-refs (suc (suc (suc (suc (suc (suc (suc (suc (suc (suc (suc (suc (suc (suc (suc (suc (suc (suc (suc zero))))))))))))))))))) small l h j i = one-refs 40 l h refl j i
+kid-refs (suc (suc (suc (suc (suc (suc (suc (suc (suc (suc (suc (suc (suc (suc (suc (suc (suc (suc (suc (suc zero)))))))))))))))))))) small l h j i = one-refs 41 l (omega arith) refl j i
+kid-refs (suc (suc (suc (suc (suc (suc (suc (suc (suc (suc (suc (suc (suc (suc (suc (suc (suc (suc (suc (suc (suc zero))))))))))))))))))))) small l h j i = one-refs 42 l (omega arith) refl j i
+kid-refs (suc (suc (suc (suc (suc (suc (suc (suc (suc (suc (suc (suc (suc (suc (suc (suc (suc (suc (suc (suc (suc (suc zero)))))))))))))))))))))) small l h j i = one-refs 43 l (omega arith) refl j i
+kid-refs (suc (suc (suc (suc (suc (suc (suc (suc (suc (suc (suc (suc (suc (suc (suc (suc (suc (suc (suc (suc (suc (suc (suc zero))))))))))))))))))))))) small l h j i = one-refs 44 l h refl j i
+kid-refs (suc (suc (suc (suc (suc (suc (suc (suc (suc (suc (suc (suc (suc (suc (suc (suc (suc (suc (suc (suc (suc (suc (suc (suc zero)))))))))))))))))))))))) small l h j i = one-refs 45 l h refl j i
+kid-refs (suc (suc (suc (suc (suc (suc (suc (suc (suc (suc (suc (suc (suc (suc (suc (suc (suc (suc (suc (suc (suc (suc (suc (suc (suc zero))))))))))))))))))))))))) small l h j i = one-refs 46 l h refl j i
+kid-refs (suc (suc (suc (suc (suc (suc (suc (suc (suc (suc (suc (suc (suc (suc (suc (suc (suc (suc (suc (suc (suc (suc (suc (suc (suc (suc zero)))))))))))))))))))))))))) small l h j i = set-refs l j i
+kid-refs (suc (suc (suc (suc (suc (suc (suc (suc (suc (suc (suc (suc (suc (suc (suc (suc (suc (suc (suc (suc (suc (suc (suc (suc (suc (suc (suc zero))))))))))))))))))))))))))) small l h j i = record-refs l j i
+kid-refs (suc (suc (suc (suc (suc (suc (suc (suc (suc (suc (suc (suc (suc (suc (suc (suc (suc (suc (suc (suc (suc (suc (suc (suc (suc (suc (suc (suc y)))))))))))))))))))))))))))) small l h j i = absurd (omega (arith, small))
+
+-- ---- a record's row has a node for each text
+
+record-odd : (n : ℕ) → counted 48 n ≡ true → (n - 1) % 2 ≡ 0
+unfolding counted formOf forms
+record-odd n e = go (eqb n 1) refl e
+  where
+    rest : (p : Bool) → (p && true && eqb ((n - 1) % 2) 0) ≡ true → (n - 1) % 2 ≡ 0
+    rest true h = eqb-true ((n - 1) % 2) 0 h
+    rest false h = no-true h
+
+    go : (x : Bool) → eqb n 1 ≡ x → (x || (ltb 1 n && true && eqb ((n - 1) % 2) 0)) ≡ true → (n - 1) % 2 ≡ 0
+    go true p h = let z = eqb-true n 1 p in omega (arith, z)
+    go false p h = rest (ltb 1 n) h
+
+others-half : (l : List ℕ) → length l % 2 ≡ 0 → length l ≡ 2 * length (others l)
+others-half [] e = refl
+others-half (t ∷ []) e = absurd (omega (arith, e))
+others-half (t ∷ n ∷ l) e = let h = others-half l (omega (arith, e)) in omega (arith, h)
+
+length-rest : (l : List ℕ) → length (drop 1 l) ≡ length l - 1
+length-rest [] = refl
+length-rest (x ∷ l) = omega arith
+
+pub even-row : (m : Mode) (r l : List ℕ) → r ≡ rowOf m l → tag r ≡ 48 → length (drop 1 (items r)) ≡ 2 * length (others (drop 1 (items r)))
+even-row m r l e k = parsed m r (λ q. let z : 50 ≡ 48 = sym (ap tag q) ∙ k in absurd (omega (arith, z))) (λ v q. let z : 1 ≡ 48 = sym (ap tag q) ∙ k in absurd (omega (arith, z)))
+    (λ t fs xs c i q. let z : t ≡ 48 = sym (ap tag q) ∙ k in
+    let c′ : counted 48 (length fs) ≡ true = subst (λ x. counted x (length fs) ≡ true) z c in
+    let i′ : itemsFrom m 48 0 fs ≡ some xs = subst (λ x. itemsFrom m x 0 fs ≡ some xs) z i in
+    let b : length xs ≡ length fs = items-length m 48 (plain-slots 48 (omega arith) (λ w. absurd (omega (arith, w)))) 0 fs i′ in
+    let o = record-odd (length fs) c′ in
+    let d = length-rest xs in
+    let f : length (drop 1 (items r)) ≡ length (drop 1 xs) = ap (λ x. length (drop 1 (items x))) q in
+    others-half (drop 1 (items r)) (omega (arith, b, o, d, f)))
+    l e
+
+-- ---- the trees of a list of rows
+
+module _ (ts : List Ty) where
+  abbrev from : List (Node ℕ) → List (List ℕ) → List (Node ℕ)
+  from ns rows = treesFrom ts (λ n. n) ns rows
+
+  from-length : (ns : List (Node ℕ)) (rows : List (List ℕ)) → length (from ns rows) ≡ length ns + length rows
+  from-length ns [] = omega arith
+  from-length ns (r ∷ rows) = let a = from-length (ns ++ (treeOver ts (λ n. n) ns r ∷ [])) rows in let b = length-append ns (treeOver ts (λ n. n) ns r ∷ []) in omega (arith, a, b)
+
+  -- those before stay
+  from-before : (ns : List (Node ℕ)) (rows : List (List ℕ)) (j : ℕ) → j < length ns → getD (from ns rows) j (err tbool) ≡ getD ns j (err tbool)
+  from-before ns [] j lt = refl
+  from-before ns (r ∷ rows) j lt = let z = length-append ns (treeOver ts (λ n. n) ns r ∷ []) in
+      from-before (ns ++ (treeOver ts (λ n. n) ns r ∷ [])) rows j (omega (arith, z, lt)) ∙ List·getD-append ns (treeOver ts (λ n. n) ns r ∷ []) (err tbool) j lt
+
+  last-at : (ns : List (Node ℕ)) (a : Node ℕ) (n : ℕ) → n ≡ length ns → getD (ns ++ (a ∷ [])) n (err tbool) ≡ a
+  last-at [] a n e = ap (λ (i : ℕ). getD (a ∷ []) i (err tbool)) e
+  last-at (x ∷ ns) a n e = ap (λ (i : ℕ). getD (x ∷ (ns ++ (a ∷ []))) i (err tbool)) e ∙ last-at ns a (length ns) refl
+
+  -- the tree of the row after pre, if its children come before it
+  pub tree-of : (pre : List (List ℕ)) (r : List ℕ) (rest : List (List ℕ)) → ((j : ℕ) → InN j (childrenOf r) → j < length pre)
+      → getD (from [] (pre ++ (r ∷ rest))) (length pre) (err tbool) ≡ treeOver ts (λ n. n) (from [] (pre ++ (r ∷ rest))) r
+  tree-of pre r rest below =
+      let ns = from [] pre in
+      let a = treeOver ts (λ n. n) ns r in
+      let e : from [] (pre ++ (r ∷ rest)) ≡ from (ns ++ (a ∷ [])) rest = from-append ts (λ n. n) [] pre (r ∷ rest) in
+      let n = from-length [] pre in
+      let z = length-append ns (a ∷ []) in
+      ap (λ (x : List (Node ℕ)). getD x (length pre) (err tbool)) e ∙ from-before (ns ++ (a ∷ [])) rest (length pre) (omega (arith, n, z)) ∙ last-at ns a (length pre) (omega (arith, n))
+      ∙ tree-same ts ns (from [] (pre ++ (r ∷ rest))) r (tag r - 21)
+      (λ j i. let lt = below j i in sym (ap (λ (x : List (Node ℕ)). getD x j (err tbool)) e ∙ from-before (ns ++ (a ∷ [])) rest j (omega (arith, n, z, lt)) ∙ List·getD-append ns (a ∷ []) (err tbool) j (omega (arith, n, lt))))
+
+below-in : (k : ℕ) (l : List ℕ) (j : ℕ) → AllBelow k l → InN j l → j < k
+below-in k [] j h i = in-none i
+below-in k (x ∷ l) j h i = in-cons i (λ e. subst (λ z. z < k) (sym e) (h .0)) (λ n. below-in k l j (h .1) n)
+
+-- ---- a node's row as it was read
+
+pub record Fact (s : State) (c : ℕ) : Type 0 where
+  pub low : 21 ≤ tag (getD (linesOf s NODE) c [])
+  pub high : tag (getD (linesOf s NODE) c []) ≤ 48
+  pub even : tag (getD (linesOf s NODE) c []) ≡ 48 → length (drop 1 (items (getD (linesOf s NODE) c []))) ≡ 2 * length (others (drop 1 (items (getD (linesOf s NODE) c []))))
+  pub kids : (j : ℕ) → InN j (childrenOf (getD (linesOf s NODE) c [])) → InN j (refs NODE (getD (linesOf s NODE) c []))
+  pub tree : getD (trees s) c (err tbool) ≡ treeOver (types s) (λ n. n) (trees s) (getD (linesOf s NODE) c [])
+
+split-here : {X : Type 0} (l : List (List ℕ)) (c : ℕ) → c < length l → ((pre rest : List (List ℕ)) → length pre ≡ c → l ≡ pre ++ (getD l c [] ∷ rest) → X) → X
+split-here [] c lt f = absurd (omega arith)
+split-here (x ∷ l) zero lt f = f [] l refl refl
+split-here (x ∷ l) (suc c) lt f = split-here l c (le-of-suc-le-suc lt) (λ pre rest n e. f (x ∷ pre) rest (ap suc n) (ap (λ z. x ∷ z) e))
+
+kids-of : (t : ℕ) (l : List ℕ) → 21 ≤ t → t ≤ 48 → length (formOf t .items) ≤ length l → (j : ℕ) → InN j (getD (kidsFor (t ∷ l)) (t - 21) []) → InN j (refs 11 (t ∷ l))
+kids-of t l lo hi =
+    let e : 21 + (t - 21) ≡ t = omega (arith, lo) in
+    subst (λ z. length (formOf z .items) ≤ length l → (j : ℕ) → InN j (getD (kidsFor (z ∷ l)) (t - 21) []) → InN j (refs 11 (z ∷ l))) e (kid-refs (t - 21) (omega (arith, hi)) l)
+
+module _ (m : Mode) (s : State) where
+  row-kids : (pre : List (List ℕ)) (r : List ℕ) → Was m s NODE pre r → 21 ≤ tag r → tag r ≤ 48 → (j : ℕ) → InN j (childrenOf r) → InN j (refs NODE r)
+  row-kids pre [] w lo hi = absurd (omega (arith, hi))
+  row-kids pre (t ∷ l) w lo hi = kids-of t l lo hi (row-read m (t ∷ l) (w .line) t (w .row) refl (omega (arith, lo)) (omega (arith, hi)) (λ z. absurd (omega (arith, z, lo))) .least)
+
+  row-below : (pre : List (List ℕ)) (r : List ℕ) → Was m s NODE pre r → (j : ℕ) → InN j (refs NODE r) → j < length pre
+  unfolding refs
+  row-below pre r w j i = subst (λ z. j < length z) (w .mine) (below-in (count (w .was) 11) (refsFrom 11 (tag r) 0 (items r)) j (refs-below (w .was) 11 (tag r) 0 (items r) (all-there (w .was) NODE r (w .pass .refers))) i)
+
+  pub node-fact : History m s → (c : ℕ) → c < count s NODE → Fact s c
+  unfolding keyOf trees
+  node-fact h c lt = split-here (linesOf s NODE) c lt (λ pre rest n e. go pre (getD (linesOf s NODE) c []) rest n e (h NODE pre (getD (linesOf s NODE) c []) rest e) refl)
+    where
+      tree-here : (pre : List (List ℕ)) (r : List ℕ) (rest : List (List ℕ)) → length pre ≡ c → linesOf s NODE ≡ pre ++ (r ∷ rest) → ((j : ℕ) → InN j (childrenOf r) → j < length pre)
+          → getD (treesFrom (types s) (λ n. n) [] (linesOf s NODE)) c (err tbool) ≡ treeOver (types s) (λ n. n) (treesFrom (types s) (λ n. n) [] (linesOf s NODE)) r
+      tree-here pre r rest n e below =
+          subst (λ (l : List (List ℕ)). getD (treesFrom (types s) (λ n. n) [] l) c (err tbool) ≡ treeOver (types s) (λ n. n) (treesFrom (types s) (λ n. n) [] l) r) (sym e)
+          (subst (λ (k : ℕ). getD (treesFrom (types s) (λ n. n) [] (pre ++ (r ∷ rest))) k (err tbool) ≡ treeOver (types s) (λ n. n) (treesFrom (types s) (λ n. n) [] (pre ++ (r ∷ rest))) r) n (tree-of (types s) pre r rest below))
+
+      go : (pre : List (List ℕ)) (r : List ℕ) (rest : List (List ℕ)) → length pre ≡ c → linesOf s NODE ≡ pre ++ (r ∷ rest) → Was m s NODE pre r → getD (linesOf s NODE) c [] ≡ r → Fact s c
+      go pre r rest n e w q =
+          let (lo, hi) = tags-between 11 21 48 (tag r) (omega arith) node-tags (w .key) in
+          record {
+            low = subst (λ z. 21 ≤ tag z) (sym q) lo;
+            high = subst (λ z. tag z ≤ 48) (sym q) hi;
+            even = subst (λ z. tag z ≡ 48 → length (drop 1 (items z)) ≡ 2 * length (others (drop 1 (items z)))) (sym q) (even-row m r (w .line) (w .row));
+            kids = subst (λ z. (j : ℕ) → InN j (childrenOf z) → InN j (refs NODE z)) (sym q) (row-kids pre r w lo hi);
+            tree = subst (λ z. getD (treesFrom (types s) (λ n. n) [] (linesOf s NODE)) c (err tbool) ≡ treeOver (types s) (λ n. n) (treesFrom (types s) (λ n. n) [] (linesOf s NODE)) z) (sym q)
+                (tree-here pre r rest n e (λ j i. row-below pre r w j (row-kids pre r w lo hi j i)));
+          }

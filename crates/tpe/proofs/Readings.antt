@@ -1,0 +1,82 @@
+-- Over values that read as the sheet's contents with those made, every node's interpretation keeps them so, and all its types have lines.
+use mathlib.Core.Path.{_≡_, refl, sym, _∙_, ap, ap₂, subst}
+use mathlib.Core.Bool.{false}
+use mathlib.Core.List.{List, [], _∷_, _++_}
+use Prim.Native.Nat.{ℕ, zero, suc, _<_, _≤_, _-_}
+use native.Mathlib.Omega.{arith}
+use borrow.Author.Tests.{ltb-true}
+use lib.ListN.{length, getD}
+use Rattle.cedar.specs.Value.{Value, vbool}
+use Rattle.cedar.specs.Types.{Ty, tbool}
+use Rattle.cedar.specs.Residual.{Node, err, Expr}
+use Rattle.cedar.specs.Rows.{Row}
+use Rattle.cedar.specs.Table.{At, Table}
+use Rattle.cedar.specs.Reads.{Reads}
+use Rattle.cedar.specs.Runs.{NPolicy, Policy}
+use Rattle.cedar.specs.Interpret.{interpret}
+use Rattle.cedar.specs.Numbered.{nInterpret}
+use Rattle.cedar.specs.Typing.{Typed}
+use Rattle.cedar.proofs.ReadsLaws.{Refines, Keeps, keep-reads}
+use Rattle.cedar.proofs.ReadsOps.{keep-env}
+use Rattle.cedar.proofs.Refine.{refine}
+use Rattle.cedar.proofs.SettledByNumber.{ReadPolicies, done, also}
+use Rattle.cedar.proofs.TypesKept.{reads-hold, types-kept}
+use Rattle.sheet.specs.Forms.{Mode, partial, forms, formOf, slotAt, tag, at, keyOf, NODE}
+use Rattle.sheet.specs.State.{State, linesOf, count}
+use Rattle.sheet.specs.Content.{types, contents, trees, exprs, schema, nEnv, pEnv, valueRows}
+use Rattle.sheet.proofs.Lines.{History}
+use Rattle.sheet.proofs.Parsed.{tags-between}
+use Rattle.sheet.proofs.NodeRows.{row-read}
+use Rattle.sheet.proofs.ValueRows.{values-table}
+use Rattle.sheet.proofs.PoliciesRead.{item-there, node-tags, read-policies}
+use Rattle.sheet.proofs.Environment.{Facts, env-read, there-value}
+use Rattle.sheet.proofs.EnvFit.{known-fits}
+use Rattle.sheet.proofs.TypeNumbers.{Listed, TypesIn}
+use Rattle.tpe.proofs.Listing.{below-listed, hold-from, any-listed}
+use Rattle.tpe.proofs.Typings.{every-node}
+
+-- the rows read as contents that begin with the sheet's
+pub record Tabled (s : State) (R : List Row) : Type 0 where
+  pub all : List Value
+  pub table : Table R all
+  pub keeps : Keeps (contents s) all
+
+pub own-tabled : (s : State) → History partial s → Tabled s (valueRows s)
+own-tabled s h = record { all = contents s; table = values-table partial s h; keeps = λ n v a. a }
+
+head-reads : {C : List Value} {p : NPolicy} {q : Policy} {ps : List NPolicy} {qs : List Policy} → ReadPolicies C (p ∷ ps) (q ∷ qs) → Reads C (p .tree) (q .tree)
+head-reads (also r rs) = r
+
+module _ (s : State) (f : Facts partial s) where
+  abbrev h : History partial s
+  h = f .history
+
+  lit-there : (pre : List (List ℕ)) (r : List ℕ) (rest : List (List ℕ)) → linesOf s NODE ≡ pre ++ (r ∷ rest) → tag r - 21 ≡ 0 → At (contents s) (at r 1) (getD (contents s) (at r 1) (vbool false))
+  unfolding keyOf slotAt formOf forms
+  lit-there pre r rest e z =
+      let w = f .history NODE pre r rest e in
+      let (lo, hi) = tags-between 11 21 48 (tag r) (omega arith) node-tags (w .key) in
+      let rd = row-read partial r (w .line) 21 (w .row) (omega (arith, lo, z)) (omega arith) (omega arith) (λ z. absurd (omega (arith, z))) in
+      let lt = ltb-true (at r 1) (count (w .was) 5) (item-there partial s (w .was) NODE r 21 rd (w .pass .refers) 1 (ltb-true 1 2 refl)) in
+      there-value partial s (f .history) (at r 1) (subst (λ l. at r 1 < length l) (w .earlier 5 (omega arith)) lt)
+
+  -- every node reads
+  node-reads : (c : ℕ) → Reads (contents s) (getD (trees s) c (err tbool)) (getD (exprs s) c (err tbool))
+  unfolding trees exprs
+  node-reads c = head-reads (read-policies (contents s) (types s) (λ n. getD (contents s) n (vbool false)) (linesOf s NODE) ((49 ∷ 0 ∷ 0 ∷ c ∷ []) ∷ []) lit-there)
+
+  refined : (c : ℕ) (R : List Row) (t : Tabled s R) → Refines (t .all) (nInterpret (schema s) (nEnv partial s) (getD (trees s) c (err tbool)) R) (interpret (schema s) (pEnv s) (getD (exprs s) c (err tbool)))
+  refined c R t = refine (schema s) (nEnv partial s) (pEnv s) (getD (trees s) c (err tbool)) (t .table) (keep-env (t .keeps) (env-read s f)) (keep-reads (t .keeps) (node-reads c))
+
+  pub keeps-tabled : (c : ℕ) (R : List Row) → Tabled s R → Tabled s (nInterpret (schema s) (nEnv partial s) (getD (trees s) c (err tbool)) R .rows)
+  keeps-tabled c R t = let k = refined c R t in record { all = k .contents; table = k .table; keeps = λ n v a. k .keeps n v (t .keeps n v a) }
+
+  node-typed : (c : ℕ) → c < count s NODE → Typed (schema s) (getD (exprs s) c (err tbool)) (getD (types s) (at (getD (linesOf s NODE) c []) 0) tbool)
+  node-typed c lt = every-node partial s (f .history) c lt
+
+  pub lists-types : Listed (types s) tbool → (c : ℕ) → c < count s NODE → (R : List Row) → Tabled s R → TypesIn (types s) (nInterpret (schema s) (nEnv partial s) (getD (trees s) c (err tbool)) R .tree)
+  unfolding exprs
+  lists-types b c lt R t =
+      reads-hold (Listed (types s)) (refined c R t .reads)
+      (types-kept (schema s) (pEnv s) (known-fits partial s f) (Listed (types s)) (below-listed partial s (f .history)) (node-typed c lt)
+      (hold-from (Listed (types s)) b (types s) (λ n. getD (contents s) n (vbool false)) (any-listed partial s (f .history) b) (linesOf s NODE) [] (λ n. b) c))

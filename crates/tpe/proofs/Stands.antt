@@ -1,0 +1,240 @@
+-- What interpretation over words leaves stands for what the numbered interpretation leaves: one block more on the log, whose tree it is,
+-- and the values with those made. The words a₀ hold the sheet at the start; a and l are the words and the log before a node. Assumes nothing.
+use mathlib.Core.Path.{_≡_, refl, sym, _∙_, ap, ap₂, subst}
+use mathlib.Core.Bool.{Bool, true, false}
+use mathlib.Core.List.{List, [], _∷_, _++_, append-assoc, append-nil}
+use Prim.Native.Nat.{ℕ, zero, suc, _+_, _-_, _*_, _≤_, _<_}
+use native.Mathlib.Omega.{arith}
+use borrow.Author.Tests.{lt-ltb, le-leb}
+use lib.Dec.{ltb, leb}
+use lib.ListN.{length, getD, take, length-append}
+use lib.Seq.{take-append-seam}
+use Rattle.words.specs.Log.{appended}
+use Rattle.words.proofs.Logs.{appended-is}
+use Rattle.cedar.specs.Types.{Ty, Schema}
+use Rattle.cedar.specs.Residual.{Node, lit, err, tyOf, canErr, view}
+use Rattle.cedar.specs.Rows.{Row}
+use Rattle.cedar.specs.Making.{intern}
+use Rattle.cedar.specs.Numbered.{NEnv, Out, out, make}
+use Rattle.sheet.specs.Forms.{Mode, NODE}
+use Rattle.sheet.specs.State.{State, valueRow}
+use Rattle.sheet.specs.Content.{types, rowsIn, schema, nEnv}
+use Rattle.table.specs.Layout.{rowsOf, held, MADE, TOP, heap, Sound}
+use Rattle.table.proofs.Held.{held-same}
+use Rattle.value.specs.Lines.{valueLines}
+use Rattle.value.specs.Made.{boolRow, numberOf, withValue, roomFor}
+use Rattle.value.proofs.Interned.{Formed, Formeds, made-is, Interning}
+use Rattle.residual.specs.Rows.{litRow, errRow, leftRow, wordAt, stageAt}
+use Rattle.residual.specs.Errs.{errs}
+use Rattle.residual.specs.Trees.{Res, rlit, rerr, rleft, Ress, rnil, rcons, flat, flats, countRes, leftTree, suits, tyAt, treeOf, treesOf, Whole, whole-lit, whole-err, whole-left, Wholes, whole-none, whole-more}
+use Rattle.residual.proofs.Meaning.{stageFor, stage-is, type-is, can-error-is}
+use Rattle.tpe.specs.Run.{O, left, litOf, errOf, leftOf, madeOf, schemaIn, tyIn, envIn}
+
+-- ---- the words
+
+-- the sheet's rows are those of a₀, and the values are as they should be
+pub record Hold (a₀ a : List ℕ) : Type 0 where
+  pub sound : Sound a
+  pub formed : Formeds (valueLines a)
+  pub same : (k : ℕ) → k < 13 → rowsOf a k ≡ rowsOf a₀ k
+
+abbrev pub values : List ℕ → List Row
+values a = rowsIn (valueLines a)
+
+module _ (m : Mode) (sheet a₀ a : List ℕ) (h : Hold a₀ a) where
+  pub schema-is : schemaIn m sheet a ≡ schema (held sheet a₀ [])
+  unfolding schemaIn
+  schema-is = ap schema (held-same sheet a₀ a [] [] (h .same) refl)
+
+  pub types-are : (y : ℕ) → tyIn m sheet a y ≡ tyAt (types (held sheet a₀ [])) (rowsOf a₀ NODE) y
+  unfolding tyIn
+  types-are y = ap (λ (s : State). tyAt (types s) (rowsOf a₀ NODE) y) (held-same sheet a₀ a [] [] (h .same) refl)
+
+  pub env-is : envIn m sheet a ≡ nEnv m (held [] a₀ [])
+  unfolding envIn
+  env-is = ap (nEnv m) (held-same [] a₀ a [] [] (h .same) refl)
+
+-- ---- room
+
+-- for n nodes: each makes at most one value, and a row has three words or two for each child and one
+pub record Room (n : ℕ) (a l : List ℕ) : Type 0 where
+  pub top : getD a TOP 0 + 5 * n ≤ 16384
+  pub few : getD a MADE 0 + n ≤ 1024
+  pub log : length l + 6 * n ≤ 16384
+
+-- from a to a₁ so little was used that a row of w words more is within n nodes
+pub record Space (w n : ℕ) (a a₁ : List ℕ) : Type 0 where
+  pub top : getD a₁ TOP 0 + w + 2 ≤ getD a TOP 0 + 5 * n
+  pub few : getD a₁ MADE 0 + 1 ≤ getD a MADE 0 + n
+
+-- from a to a₁ no more was used than n nodes may
+pub record Spent (n : ℕ) (a a₁ : List ℕ) : Type 0 where
+  pub top : getD a₁ TOP 0 + 2 ≤ getD a TOP 0 + 5 * n
+  pub few : getD a₁ MADE 0 ≤ getD a MADE 0 + n
+
+pub space-spent : (w n : ℕ) (a a₁ : List ℕ) → Space w n a a₁ → Spent n a a₁
+space-spent w n a a₁ s = record { top = omega (arith, s .top); few = omega (arith, s .few) }
+
+-- ---- what stands on the log
+
+module _ (sheet a₀ : List ℕ) where
+  abbrev pub tys : List Ty
+  tys = types (held sheet a₀ [])
+
+  abbrev pub nodes : List (List ℕ)
+  nodes = rowsOf a₀ NODE
+
+  -- the type of number y
+  abbrev pub ty : ℕ → Ty
+  ty y = tyAt tys nodes y
+
+  -- o is X: a block of at most d levels, of at most n nodes and their room
+  pub record Is (d n : ℕ) (a l : List ℕ) (X : Out) (o : O) : Type 0 where
+    pub res : Res
+    pub log : o .log ≡ l ++ flat res
+    pub short : length (flat res) ≤ 4 * n
+    pub tree : treeOf tys nodes res ≡ X .tree
+    pub whole : Whole tys nodes d res
+    pub rows : values (o .words) ≡ X .rows
+    pub hold : Hold a₀ (o .words)
+    pub top : getD (o .words) TOP 0 + 2 ≤ getD a TOP 0 + 5 * n
+    pub few : getD (o .words) MADE 0 ≤ getD a MADE 0 + n
+
+  pub is-as : {d n : ℕ} {a l : List ℕ} {X Y : Out} {o : O} → Is d n a l X o → X ≡ Y → Is d n a l Y o
+  is-as {d} {n} {a} {l} {o = o} i e = subst (λ (Z : Out). Is d n a l Z o) e i
+
+  -- ---- a whole residual of d levels has more levels too
+
+  mutual
+    pub whole-up : {d : ℕ} {r : Res} → Whole tys nodes d r → (e : ℕ) → d ≤ e → Whole tys nodes e r
+    whole-up (whole-lit {d = d}) zero h = absurd (omega arith)
+    whole-up (whole-lit {d = d}) (suc e) h = whole-lit
+    whole-up (whole-err {d = d}) zero h = absurd (omega arith)
+    whole-up (whole-err {d = d}) (suc e) h = whole-err
+    whole-up (whole-left {d = d} s ws) zero h = absurd (omega arith)
+    whole-up (whole-left {d = d} s ws) (suc e) h = whole-left s (wholes-up ws e (omega arith))
+
+    pub wholes-up : {d : ℕ} {rs : Ress} → Wholes tys nodes d rs → (e : ℕ) → d ≤ e → Wholes tys nodes e rs
+    wholes-up whole-none e h = whole-none
+    wholes-up (whole-more w ws) e h = whole-more (whole-up w e h) (wholes-up ws e h)
+
+  -- of a part: fewer levels, fewer nodes, and words reached on the way
+  pub is-up : {d e n p : ℕ} {a a₁ l : List ℕ} {X : Out} {o : O} → Is d p a₁ l X o → d ≤ e → p ≤ n → getD a₁ TOP 0 + 5 * p ≤ getD a TOP 0 + 5 * n → getD a₁ MADE 0 + p ≤ getD a MADE 0 + n → Is e n a l X o
+  is-up {e = e} i h k t f = record {
+    res = i .res;
+    log = i .log;
+    short = omega (arith, i .short, k);
+    tree = i .tree;
+    whole = whole-up (i .whole) e h;
+    rows = i .rows;
+    hold = i .hold;
+    top = omega (arith, i .top, t);
+    few = omega (arith, i .few, f);
+  }
+
+  -- ---- a block within a log
+
+  module _ {d : ℕ} (r : Res) (w : Whole tys nodes d r) (deep : d ≤ 64) (pre post log : List ℕ) (e : ℕ) (el : log ≡ pre ++ (flat r ++ post)) (ee : e ≡ length pre + length (flat r)) where
+    pub stage-there : stageAt log e ≡ stageFor (view (treeOf tys nodes r))
+    stage-there = rw (el, ee) (stage-is tys nodes r w pre post)
+
+    pub type-there : ty (wordAt log e 3) ≡ tyOf (treeOf tys nodes r)
+    type-there = rw (el, ee) (type-is tys nodes r w pre post)
+
+    pub errs-there : (a : List ℕ) → Hold a₀ a → errs (rowsOf a NODE) log e ≡ canErr (treeOf tys nodes r)
+    errs-there a h = rw (el, ee, h .same NODE (omega arith)) (can-error-is tys nodes r (whole-up w 64 deep) pre post)
+
+  -- ---- pushes
+
+  module _ (d n : ℕ) (one : 1 ≤ n) (a l a₁ : List ℕ) (room : Room n a l) (h : Hold a₀ a₁) where
+    four : (xs : List ℕ) → length xs ≡ 4 → appended l xs ≡ l ++ xs
+    four xs e = appended-is l xs (omega (arith, e, room .log))
+
+    pub lit-is : Spent n a a₁ → (y v : ℕ) → Is (suc d) n a l (out (values a₁) (lit (ty y) v)) (litOf a₁ l y v)
+    unfolding litOf flat treeOf
+    lit-is s y v = record {
+      res = rlit v y;
+      log = four (litRow v y) refl;
+      short = omega arith;
+      tree = refl;
+      whole = whole-lit;
+      rows = refl;
+      hold = h;
+      top = s .top;
+      few = s .few;
+    }
+
+    pub err-is : Spent n a a₁ → (y : ℕ) → Is (suc d) n a l (out (values a₁) (err (ty y))) (errOf a₁ l y)
+    unfolding errOf flat treeOf
+    err-is s y = record {
+      res = rerr y;
+      log = four (errRow y) refl;
+      short = omega arith;
+      tree = refl;
+      whole = whole-err;
+      rows = refl;
+      hold = h;
+      top = s .top;
+      few = s .few;
+    }
+
+    -- node c over the blocks rs
+    pub left-is : Spent n a a₁ → (l₁ : List ℕ) (rs : Ress) → l₁ ≡ l ++ flats rs → length (flats rs) + 4 ≤ 4 * n → Wholes tys nodes d rs
+        → (c k y : ℕ) → suits (getD nodes c []) (countRes rs) ≡ true → (e : Node ℕ) → leftTree (getD nodes c []) k (ty y) (treesOf tys nodes rs) ≡ e
+        → Is (suc d) n a l (out (values a₁) e) (leftOf a₁ l₁ (length l) c k y)
+    unfolding leftOf flat treeOf
+    left-is s l₁ rs el sh ws c k y su e et = record {
+      res = rleft c k y rs;
+      log =
+          let z : length l₁ ≡ length l + length (flats rs) = ap length el ∙ length-append l (flats rs) in
+          let w : length l₁ - length l ≡ length (flats rs) = omega (arith, z) in
+          appended-is l₁ (leftRow c k (length l₁ - length l) y) (omega (arith, z, sh, room .log))
+          ∙ ap₂ (λ (x : List ℕ) (j : ℕ). x ++ leftRow c k j y) el w ∙ append-assoc l (flats rs) (leftRow c k (length (flats rs)) y);
+      short = omega (arith, length-append (flats rs) (leftRow c k (length (flats rs)) y), sh);
+      tree = et;
+      whole = whole-left su ws;
+      rows = refl;
+      hold = h;
+      top = s .top;
+      few = s .few;
+    }
+
+    -- what making a row of at most w words leaves
+    module _ (w : ℕ) (s : Space w n a a₁) (q : List ℕ) (f : Formed q) (short : length q ≤ w) where
+      pub room-for : roomFor a₁ (length q) ≡ true
+      unfolding roomFor
+      room-for = rw (lt-ltb (getD a₁ MADE 0) 1024 (omega (arith, s .few, room .few)), le-leb heap (getD a₁ TOP 0) (h .sound .over), le-leb (getD a₁ TOP 0 + length q) 16384 (omega (arith, s .top, room .top, short)))
+
+      pub made : Interning a₁ q
+      made = made-is a₁ q (h .sound) (h .formed) f room-for
+
+      pub made-hold : Hold a₀ (withValue a₁ q)
+      made-hold = record { sound = made .kept .sound; formed = made .formed; same = λ k lt. made .kept .others k lt ∙ h .same k lt }
+
+      pub made-top : getD (withValue a₁ q) TOP 0 + 2 ≤ getD a TOP 0 + 5 * n
+      made-top = omega (arith, made .kept .top, s .top, short)
+
+      pub made-few : getD (withValue a₁ q) MADE 0 ≤ getD a MADE 0 + n
+      made-few = omega (arith, made .kept .few, s .few)
+
+      pub make-is : (y : ℕ) → Is (suc d) n a l (make (ty y) (valueRow q) (values a₁)) (madeOf a₁ l y q)
+      unfolding madeOf litOf flat treeOf
+      make-is y = record {
+        res = rlit (numberOf a₁ q) y;
+        log = four (litRow (numberOf a₁ q) y) refl;
+        short = omega arith;
+        tree = ap (lit (ty y)) (made .number);
+        whole = whole-lit;
+        rows = made .rows;
+        hold = made-hold;
+        top = made-top;
+        few = made-few;
+      }
+
+    pub make-bool : Space 3 n a a₁ → (b : Bool) (y : ℕ) → Is (suc d) n a l (make (ty y) (valueRow (boolRow b)) (values a₁)) (madeOf a₁ l y (boolRow b))
+    make-bool s true y = make-is 3 s (boolRow true) refl (omega arith) y
+    make-bool s false y = make-is 3 s (boolRow false) refl (omega arith) y
+
+-- the log before is what is left where the last blocks are cut off
+pub cut-back : (l xs log : List ℕ) → log ≡ l ++ xs → take (length l) log ≡ l
+cut-back l xs log e = ap (take (length l)) e ∙ take-append-seam l xs

@@ -1,0 +1,3 @@
+pub mod Run
+pub mod Classes
+pub mod Leaves

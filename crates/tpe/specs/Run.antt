@@ -1,0 +1,385 @@
+-- Interpretation over the lent words a, which hold the sheet and the values, and a log l, the stack of residuals. Each definition is
+-- total: a row for which there is no room is not pushed. That this is the numbered interpretation is shown in proofs/.
+use mathlib.Core.Bool.{Bool, true, false, cond, _||_}
+use mathlib.Core.Option.{Option, none, some}
+use mathlib.Core.List.{List, [], _∷_}
+use Prim.Native.Nat.{ℕ, zero, suc, _+_, _-_, _/_, _%_}
+use lib.Dec.{eqb}
+use lib.ListN.{length, getD, take, drop}
+use lib.IntN.{ℤ, pos, negsuc}
+use Rattle.words.specs.Log.{appended}
+use Rattle.cedar.specs.Value.{onSome}
+use Rattle.cedar.specs.Types.{Ty, tbool, tent, Schema}
+use Rattle.cedar.specs.Residual.{Un, unot, uneg, uempty, uis, ulike, Bin, beq, blt, ble, badd, bsub, bmul, bcontains, ball, bany, Rel, rin, rgettag, rhastag, Class, ctrue, cfalse, cerror, copen, truth}
+use Rattle.cedar.specs.TypeRules.{unRule, binRule, relRule, hasRule}
+use Rattle.cedar.specs.Rows.{Entries, stop, entry, Row, rbool, rlong, rtext, rent, rset, rrec}
+use Rattle.cedar.specs.Numbered.{Give, made, old, NEnv, rowAt, rBool, NOut, give, fails, stays, isSome, entryOf, nUn, nBin, nRel, onEntries, nGet, nHas}
+use Rattle.sheet.specs.Bytes.{half}
+use Rattle.sheet.specs.Forms.{Mode, complete, tag, items, at, firstNode, TYPE, NODE, POLICY}
+use Rattle.sheet.specs.Content.{types, rowsIn, schema, nEnv, varOf, patternOf}
+use Rattle.table.specs.Layout.{rowsOf, held}
+use Rattle.value.specs.Lines.{valueLines, placeOf}
+use Rattle.value.specs.Made.{boolRow, entityRow, numberOf, withValue, setRow, recordRow, written}
+use Rattle.residual.specs.Rows.{litRow, errRow, leftRow, wordAt, stageAt}
+use Rattle.residual.specs.Errs.{errs}
+use Rattle.residual.specs.declared.Stage.{Stage}
+use Rattle.residual.specs.declared.Stage.the-variants.{Value, Error, Open}
+
+-- what is left: the words with what was made, and the log, which has one block more
+pub record O : Type 0 where
+  pub words : List ℕ
+  pub log : List ℕ
+
+abbrev pub left : List ℕ → List ℕ → O
+left a l = record { words = a; log = l }
+
+-- the interpreter at the depth below: words, log, node
+abbrev pub Rec : Type 0
+Rec = List ℕ → List ℕ → ℕ → O
+
+-- ---- a row more
+
+unfoldable pub litOf : List ℕ → List ℕ → ℕ → ℕ → O
+litOf a l y v = left a (appended l (litRow v y))
+
+unfoldable pub errOf : List ℕ → List ℕ → ℕ → O
+errOf a l y = left a (appended l (errRow y))
+
+-- node n over the blocks from start on, with k steps taken
+unfoldable pub leftOf : List ℕ → List ℕ → ℕ → ℕ → ℕ → ℕ → O
+leftOf a l start n k y = left a (appended l (leftRow n k (length l - start) y))
+
+-- a value found or made by its words
+unfoldable pub madeOf : List ℕ → List ℕ → ℕ → List ℕ → O
+madeOf a l y r = litOf (withValue a r) l y (numberOf a r)
+
+-- the words of a value's row
+abbrev pub longWord : ℤ → ℕ
+longWord (pos n) = half + n
+longWord (negsuc n) = half - n - 1
+
+abbrev pub entryWords : Entries → List ℕ
+entryWords stop = []
+entryWords (entry t v e) = t ∷ v ∷ entryWords e
+
+abbrev pub wordsOf : Row → List ℕ
+wordsOf (rbool b) = boolRow b
+wordsOf (rlong z) = 11 ∷ longWord z / 4294967296 ∷ longWord z % 4294967296 ∷ []
+wordsOf (rtext t) = 12 ∷ t ∷ []
+wordsOf (rent k t) = entityRow k t
+wordsOf (rset l) = 14 ∷ l
+wordsOf (rrec e) = 15 ∷ entryWords e
+
+unfoldable pub giveOf : List ℕ → List ℕ → ℕ → Give → O
+giveOf a l y (made r) = madeOf a l y (wordsOf r)
+giveOf a l y (old v) = litOf a l y v
+
+-- what an operation gives stands for its operands, which begin at start
+unfoldable pub settleOf : List ℕ → List ℕ → ℕ → ℕ → ℕ → NOut → O
+settleOf a l start n y (give g) = giveOf a (take start l) y g
+settleOf a l start n y fails = errOf a (take start l) y
+settleOf a l start n y stays = leftOf a l start n 0 y
+
+-- ---- strict operations over their operands, where q is what the type rule says and g what the operation gives
+
+-- the rule, where no operand can err; else x
+unfoldable pub ruledOf : List ℕ → List ℕ → ℕ → ℕ → Bool → Option Bool → O → O
+ruledOf a l start y true q x = x
+ruledOf a l start y false none x = x
+ruledOf a l start y false (some b) x = madeOf a (take start l) y (boolRow b)
+
+unfoldable pub worked1 : (ℕ → NOut) → List ℕ → List ℕ → ℕ → ℕ → ℕ → Stage → O
+worked1 g a l start n y (Value v) = settleOf a l start n y (g v)
+worked1 g a l start n y Error = errOf a (take start l) y
+worked1 g a l start n y Open = leftOf a l start n 0 y
+
+unfoldable pub worked2 : (ℕ → ℕ → NOut) → List ℕ → List ℕ → ℕ → ℕ → ℕ → Stage → Stage → O
+worked2 g a l start n y (Value v) (Value w) = settleOf a l start n y (g v w)
+worked2 g a l start n y (Value v) Error = errOf a (take start l) y
+worked2 g a l start n y (Value v) Open = leftOf a l start n 0 y
+worked2 g a l start n y Error s = errOf a (take start l) y
+worked2 g a l start n y Open (Value w) = leftOf a l start n 0 y
+worked2 g a l start n y Open Error = errOf a (take start l) y
+worked2 g a l start n y Open Open = leftOf a l start n 0 y
+
+unfoldable pub oneOf : Option Bool → (ℕ → NOut) → List ℕ → List ℕ → ℕ → ℕ → ℕ → O
+oneOf q g a l start n y = ruledOf a l start y (errs (rowsOf a NODE) l (length l)) q (worked1 g a l start n y (stageAt l (length l)))
+
+-- the left operand ends at mid
+unfoldable pub twoOf : Option Bool → (ℕ → ℕ → NOut) → List ℕ → List ℕ → ℕ → ℕ → ℕ → ℕ → O
+twoOf q g a l start mid n y =
+    ruledOf a l start y (errs (rowsOf a NODE) l mid || errs (rowsOf a NODE) l (length l)) q (worked2 g a l start n y (stageAt l mid) (stageAt l (length l)))
+
+-- ---- a path
+
+-- the walk from a value: it is lost, it says whether the path is there, or it is stuck at an unknown entity: steps taken, value, kind
+pub data Walk : Type 0 where
+  lost : Walk
+  says : Bool → Walk
+  stuck : ℕ → ℕ → ℕ → Walk
+
+unfoldable pub walkFrom : NEnv → List Row → List ℕ → ℕ → ℕ → ℕ → Walk
+walkFrom N R [] t v j = onEntries N R lost (λ k i. stuck j v k) (rowAt R v) (λ e. says (isSome (entryOf t e)))
+walkFrom N R (u ∷ us) t v j = onEntries N R lost (λ k i. stuck j v k) (rowAt R v) (λ e. onSome (says false) (entryOf t e) (λ w. walkFrom N R us u w (suc j)))
+
+-- the number of the type line `entity,k`
+unfoldable pub entityType : List ℕ → ℕ → ℕ
+entityType a k = placeOf (6 ∷ k ∷ []) (rowsOf a TYPE)
+
+-- ---- children of sets and records
+
+-- whether all so far are values (0), one is an error (1), or else one is open (2)
+unfoldable pub joinOf : ℕ → Stage → ℕ
+joinOf c (Value v) = c
+joinOf c Error = 1
+joinOf c Open = cond (eqb c 1) 1 2
+
+pub record Kids : Type 0 where
+  pub words : List ℕ
+  pub log : List ℕ
+  pub join : ℕ
+
+unfoldable pub kidsOf : Rec → List ℕ → List ℕ → ℕ → List ℕ → Kids
+kidsOf f a l c [] = record { words = a; log = l; join = c }
+kidsOf f a l c (n ∷ ns) = let o = f a l n in kidsOf f (o .words) (o .log) (joinOf c (stageAt (o .log) (length (o .log)))) ns
+
+-- a set or record, whose row is q if all are values
+unfoldable pub manyOf : List ℕ → List ℕ → List ℕ → ℕ → ℕ → ℕ → ℕ → O
+manyOf q a l start n y zero = madeOf a (take start l) y (written l q)
+manyOf q a l start n y (suc zero) = errOf a (take start l) y
+manyOf q a l start n y (suc (suc c)) = leftOf a l start n 0 y
+
+-- the children of a record's row, of which every other item is a text
+abbrev pub others : List ℕ → List ℕ
+others [] = []
+others (t ∷ []) = []
+others (t ∷ n ∷ l) = n ∷ others l
+
+-- ---- and, or: z is the bool that decides
+
+pub data Side : Type 0 where
+  stops goes wrong unsure : Side
+
+abbrev pub sideOf : Bool → Class → Side
+sideOf true ctrue = stops
+sideOf true cfalse = goes
+sideOf true cerror = wrong
+sideOf true copen = unsure
+sideOf false ctrue = goes
+sideOf false cfalse = stops
+sideOf false cerror = wrong
+sideOf false copen = unsure
+
+unfoldable pub classBy : List ℕ → Stage → Class
+classBy a (Value v) = rBool copen (rowAt (rowsIn (valueLines a)) v) truth
+classBy a Error = cerror
+classBy a Open = copen
+
+-- of the last block
+unfoldable pub classOf : List ℕ → List ℕ → Class
+classOf a l = classBy a (stageAt l (length l))
+
+-- beside an open left side, which ends at mid, the right one decides: the node stays where the left side can err
+unfoldable pub decidedBy : Bool → ℕ → ℕ → ℕ → ℕ → List ℕ → List ℕ → Bool → O
+decidedBy z start n y mid a l true = leftOf (withValue a (boolRow z)) (appended (take mid l) (litRow (numberOf a (boolRow z)) y)) start n 0 y
+decidedBy z start n y mid a l false = madeOf a (take start l) y (boolRow z)
+
+unfoldable pub secondBy : Bool → ℕ → ℕ → ℕ → ℕ → O → Side → O
+secondBy z start n y mid p goes = left (p .words) (take mid (p .log))
+secondBy z start n y mid p stops = decidedBy z start n y mid (p .words) (p .log) (errs (rowsOf (p .words) NODE) (p .log) mid)
+secondBy z start n y mid p wrong = leftOf (p .words) (p .log) start n 0 y
+secondBy z start n y mid p unsure = leftOf (p .words) (p .log) start n 0 y
+
+unfoldable pub secondOf : Bool → ℕ → ℕ → ℕ → ℕ → O → O
+secondOf z start n y mid p = secondBy z start n y mid p (sideOf z (classOf (p .words) (p .log)))
+
+unfoldable pub firstBy : Bool → Rec → ℕ → ℕ → ℕ → ℕ → O → Side → O
+firstBy z f start n y x o stops = madeOf (o .words) (take start (o .log)) y (boolRow z)
+firstBy z f start n y x o goes = f (o .words) (take start (o .log)) x
+firstBy z f start n y x o wrong = errOf (o .words) (take start (o .log)) y
+firstBy z f start n y x o unsure = secondOf z start n y (length (o .log)) (f (o .words) (o .log) x)
+
+unfoldable pub firstOf : Bool → Rec → ℕ → ℕ → ℕ → ℕ → O → O
+firstOf z f start n y x o = firstBy z f start n y x o (sideOf z (classOf (o .words) (o .log)))
+
+-- ---- if: x and w are the branches
+
+unfoldable pub splitOf : Rec → ℕ → ℕ → ℕ → ℕ → O → O
+splitOf f start n y w p = let q = f (p .words) (p .log) w in leftOf (q .words) (q .log) start n 0 y
+
+unfoldable pub branchBy : Rec → ℕ → ℕ → ℕ → ℕ → ℕ → O → Class → O
+branchBy f start n y x w o ctrue = f (o .words) (take start (o .log)) x
+branchBy f start n y x w o cfalse = f (o .words) (take start (o .log)) w
+branchBy f start n y x w o cerror = errOf (o .words) (take start (o .log)) y
+branchBy f start n y x w o copen = splitOf f start n y w (f (o .words) (o .log) x)
+
+unfoldable pub branchOf : Rec → ℕ → ℕ → ℕ → ℕ → ℕ → O → O
+branchOf f start n y x w o = branchBy f start n y x w o (classOf (o .words) (o .log))
+
+-- ---- the sheet's part
+
+module _ (m : Mode) (sheet : List ℕ) where
+  -- the schema, the types and the known parts that the words hold
+  unfoldable pub schemaIn : List ℕ → Schema
+  schemaIn a = schema (held sheet a [])
+
+  unfoldable pub tyIn : List ℕ → ℕ → Ty
+  tyIn a y = getD (types (held sheet a [])) y tbool
+
+  unfoldable pub envIn : List ℕ → NEnv
+  envIn a = nEnv m (held [] a [])
+
+  -- the type of the block that ends at e
+  abbrev pub typeAt : List ℕ → List ℕ → ℕ → Ty
+  typeAt a l e = tyIn a (wordAt l e 3)
+
+  abbrev pub valueIn : List ℕ → ℕ → Row
+  valueIn a v = rowAt (rowsIn (valueLines a)) v
+
+  unfoldable pub varFor : List ℕ → List ℕ → ℕ → ℕ → Option Give → O
+  varFor a l n y none = leftOf a l (length l) n 0 y
+  varFor a l n y (some g) = giveOf a l y g
+
+  -- the operands are worked: the row of node n is r, and its operands begin at start
+  unfoldable pub unOf : Un → ℕ → ℕ → List ℕ → O → O
+  unOf u start n r o =
+      oneOf (unRule (schemaIn (o .words)) u (typeAt (o .words) (o .log) (length (o .log)))) (λ v. nUn (schemaIn (o .words)) u (valueIn (o .words) v))
+      (o .words) (o .log) start n (at r 0)
+
+  unfoldable pub binOf : Bin → ℕ → ℕ → ℕ → List ℕ → O → O
+  binOf p start mid n r o =
+      twoOf (binRule (schemaIn (o .words)) p (typeAt (o .words) (o .log) mid) (typeAt (o .words) (o .log) (length (o .log))))
+      (λ v w. nBin p v w (valueIn (o .words) v) (valueIn (o .words) w))
+      (o .words) (o .log) start mid n (at r 0)
+
+  unfoldable pub relOf : Rel → ℕ → ℕ → ℕ → List ℕ → O → O
+  relOf p start mid n r o =
+      twoOf (relRule (schemaIn (o .words)) p (typeAt (o .words) (o .log) mid) (typeAt (o .words) (o .log) (length (o .log))))
+      (λ v w. nRel (envIn (o .words)) (rowsIn (valueLines (o .words))) p v w (valueIn (o .words) v) (valueIn (o .words) w))
+      (o .words) (o .log) start mid n (at r 0)
+
+  unfoldable pub getOf : ℕ → ℕ → List ℕ → O → O
+  getOf start n r o = oneOf none (λ v. nGet (envIn (o .words)) (rowsIn (valueLines (o .words))) (at r 2) (valueIn (o .words) v)) (o .words) (o .log) start n (at r 0)
+
+  unfoldable pub hasOf : ℕ → ℕ → List ℕ → O → O
+  hasOf start n r o =
+      oneOf (hasRule (schemaIn (o .words)) (at r 2) (typeAt (o .words) (o .log) (length (o .log)))) (λ v. nHas (envIn (o .words)) (rowsIn (valueLines (o .words))) (at r 2) (valueIn (o .words) v))
+      (o .words) (o .log) start n (at r 0)
+
+  -- a path stuck at value v, an entity of kind k, after j steps
+  unfoldable pub stuckOf : List ℕ → List ℕ → ℕ → List ℕ → ℕ → ℕ → ℕ → Option Bool → O
+  stuckOf a l n r j v k (some b) = madeOf a l (at r 0) (boolRow b)
+  stuckOf a l n r j v k none = leftOf a (appended l (litRow v (entityType a k))) (length l) n j (at r 0)
+
+  unfoldable pub walkedOf : List ℕ → List ℕ → ℕ → List ℕ → Walk → O
+  walkedOf a l n r lost = errOf a l (at r 0)
+  walkedOf a l n r (says b) = madeOf a l (at r 0) (boolRow b)
+  walkedOf a l n r (stuck j v k) = stuckOf a l n r j v k (hasRule (schemaIn a) (at r (2 + j)) (tent k))
+
+  unfoldable pub pathBy : List ℕ → List ℕ → ℕ → ℕ → List ℕ → Stage → O
+  pathBy a l start n r (Value v) = walkedOf a (take start l) n r (walkFrom (envIn a) (rowsIn (valueLines a)) (drop 3 (items r)) (at r 2) v 0)
+  pathBy a l start n r Error = errOf a (take start l) (at r 0)
+  pathBy a l start n r Open = ruledOf a l start (at r 0) (errs (rowsOf a NODE) l (length l)) (hasRule (schemaIn a) (at r 2) (typeAt a l (length l))) (leftOf a l start n 0 (at r 0))
+
+  unfoldable pub pathOf : ℕ → ℕ → List ℕ → O → O
+  pathOf start n r o = pathBy (o .words) (o .log) start n r (stageAt (o .log) (length (o .log)))
+
+  unfoldable pub setOf : ℕ → ℕ → List ℕ → Kids → O
+  setOf start n r k = manyOf (setRow (drop start (k .log))) (k .words) (k .log) start n (at r 0) (k .join)
+
+  unfoldable pub recOf : ℕ → ℕ → List ℕ → Kids → O
+  recOf start n r k = manyOf (recordRow r (drop start (k .log))) (k .words) (k .log) start n (at r 0) (k .join)
+
+  -- ---- one step for each operation: words, log, the node and its row
+
+  abbrev pub Step : Type 0
+  Step = Rec → List ℕ → List ℕ → ℕ → List ℕ → O
+
+  unfoldable pub litStep : Step
+  litStep f a l n r = litOf a l (at r 0) (at r 1)
+
+  unfoldable pub errStep : Step
+  errStep f a l n r = errOf a l (at r 0)
+
+  unfoldable pub varStep : Step
+  varStep f a l n r = varFor a l n (at r 0) (envIn a .request (varOf (at r 1)))
+
+  unfoldable pub lazyStep : Bool → Step
+  lazyStep z f a l n r = firstOf z f (length l) n (at r 0) (at r 2) (f a l (at r 1))
+
+  unfoldable pub ifStep : Step
+  ifStep f a l n r = branchOf f (length l) n (at r 0) (at r 2) (at r 3) (f a l (at r 1))
+
+  -- the left operand is worked
+  abbrev pub then : Rec → List ℕ → O → (ℕ → O → O) → O
+  then f r o k = k (length (o .log)) (f (o .words) (o .log) (at r 2))
+
+  unfoldable pub binStep : Bin → Step
+  binStep p f a l n r = then f r (f a l (at r 1)) (λ mid o. binOf p (length l) mid n r o)
+
+  unfoldable pub relStep : Rel → Step
+  relStep p f a l n r = then f r (f a l (at r 1)) (λ mid o. relOf p (length l) mid n r o)
+
+  unfoldable pub unStep : (List ℕ → Un) → Step
+  unStep u f a l n r = unOf (u r) (length l) n r (f a l (at r 1))
+
+  unfoldable pub getStep : Step
+  getStep f a l n r = getOf (length l) n r (f a l (at r 1))
+
+  unfoldable pub hasStep : Step
+  hasStep f a l n r = hasOf (length l) n r (f a l (at r 1))
+
+  unfoldable pub pathStep : Step
+  pathStep f a l n r = pathOf (length l) n r (f a l (at r 1))
+
+  unfoldable pub setStep : Step
+  setStep f a l n r = setOf (length l) n r (kidsOf f a l 0 (drop 1 (items r)))
+
+  unfoldable pub recStep : Step
+  recStep f a l n r = recOf (length l) n r (kidsOf f a l 0 (others (drop 1 (items r))))
+
+  -- in the table's order
+  abbrev pub steps : List Step
+  steps =
+      litStep ∷ errStep ∷ varStep ∷ lazyStep false ∷ lazyStep true
+      ∷ binStep beq ∷ binStep blt ∷ binStep ble ∷ binStep badd ∷ binStep bsub ∷ binStep bmul
+      ∷ relStep rin ∷ relStep rgettag ∷ relStep rhastag
+      ∷ binStep bcontains ∷ binStep ball ∷ binStep bany
+      ∷ ifStep
+      ∷ unStep (λ r. uis (at r 2)) ∷ unStep (λ r. ulike (patternOf (drop 2 (items r))))
+      ∷ getStep ∷ hasStep ∷ pathStep
+      ∷ unStep (λ r. unot) ∷ unStep (λ r. uneg) ∷ unStep (λ r. uempty)
+      ∷ setStep ∷ recStep ∷ []
+
+  unfoldable pub stepWith : Rec → List ℕ → List ℕ → ℕ → List ℕ → O
+  stepWith f a l n r = getD steps (tag r - firstNode) errStep f a l n r
+
+  unfoldable pub stepOf : Rec → Rec
+  stepOf f a l n = stepWith f a l n (getD (rowsOf a NODE) n [])
+
+  -- d levels of nodes
+  unfoldable pub interpOf : ℕ → Rec
+  interpOf zero = λ a l n. errOf a l 0
+  interpOf (suc d) = stepOf (interpOf d)
+
+-- ---- the policies in order, each over what the ones before it left
+
+-- the class of a policy, and where its block ends
+pub record Line : Type 0 where
+  pub class : Class
+  pub end : ℕ
+
+pub record Ran : Type 0 where
+  pub words : List ℕ
+  pub log : List ℕ
+  pub lines : List Line
+
+abbrev pub thenRan : O → (List ℕ → List ℕ → Ran) → Ran
+thenRan o k = let t = k (o .words) (o .log) in record { words = t .words; log = t .log; lines = record { class = classOf (o .words) (o .log); end = length (o .log) } ∷ t .lines }
+
+unfoldable pub ranFrom : Rec → List (List ℕ) → List ℕ → List ℕ → Ran
+ranFrom f [] a l = record { words = a; log = l; lines = [] }
+ranFrom f (r ∷ rs) a l = thenRan (f a l (at r 2)) (ranFrom f rs)
+
+unfoldable pub runOf : Mode → List ℕ → List ℕ → List ℕ → Ran
+runOf m sheet a l = ranFrom (interpOf m sheet 64) (rowsOf a POLICY) a l

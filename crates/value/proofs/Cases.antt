@@ -1,0 +1,59 @@
+-- The definitions on small cases. Assumes nothing.
+use mathlib.Core.Path.{_≡_, refl}
+use mathlib.Core.Bool.{Bool, true, false}
+use mathlib.Core.List.{List, [], _∷_}
+use Prim.Native.Nat.{ℕ}
+use lib.ListN.{getD}
+use Rattle.cedar.specs.Evaluate.{matches}
+use Rattle.sheet.specs.Content.{patternOf}
+use Rattle.value.specs.Lines.{placeOf}
+use Rattle.value.specs.Shapes.{shapeOf}
+use Rattle.value.specs.Made.{valuesIn, setRow, pairsOf, recordRow, lowerOf, leastOf}
+use Rattle.value.specs.Globs.{begins, blockOf, laterOf, stepOf}
+use Rattle.value.specs.declared.Shape.the-variants.{Bool as Boolˢ, Long, Entity, Set}
+use Rattle.value.specs.declared.Entry.the-variants.{At, Nothing}
+use Rattle.value.specs.declared.like.Block.the-variants.{Misses, Ends, Star}
+use Rattle.value.specs.declared.like.Step.the-variants.{Holds, Fails, On}
+
+-- texts 0 `a`, 1 `ab`, 2 empty; 10000 is `*`
+texts : ℕ → List ℕ
+texts t = getD ((97 ∷ []) ∷ (97 ∷ 98 ∷ []) ∷ [] ∷ []) t []
+
+block-cases : List Bool
+unfolding texts
+block-cases = matches texts (patternOf []) [] ∷ matches texts (patternOf []) (97 ∷ []) ∷ matches texts (patternOf (10000 ∷ 1 ∷ [])) (97 ∷ 97 ∷ 98 ∷ [])
+    ∷ matches texts (patternOf (0 ∷ 10000 ∷ [])) (98 ∷ []) ∷ []
+
+like-is : block-cases ≡ true ∷ false ∷ true ∷ false ∷ []
+unfolding texts block-cases
+like-is = refl
+
+blocks : (blockOf texts 0 0 (0 ∷ 10000 ∷ 1 ∷ []) (97 ∷ 97 ∷ 98 ∷ []) ≡ Star 2 1) × (blockOf texts 2 1 (1 ∷ []) (97 ∷ 98 ∷ []) ≡ Ends 3) × (blockOf texts 2 2 (1 ∷ []) (98 ∷ []) ≡ Misses)
+unfolding texts begins blockOf
+blocks = (refl, refl, refl)
+
+steps : (stepOf 3 2 1 (Ends 3) ≡ Holds) × (stepOf 3 2 1 (Ends 2) ≡ On 2 2) × (stepOf 3 2 3 Misses ≡ Fails)
+unfolding laterOf stepOf
+steps = (refl, refl, refl)
+
+places : (placeOf (10 ∷ 1 ∷ []) ((10 ∷ 0 ∷ []) ∷ (10 ∷ 1 ∷ []) ∷ []) ≡ 1) × (placeOf (10 ∷ []) ((10 ∷ 0 ∷ []) ∷ []) ≡ 1)
+unfolding placeOf
+places = (refl, refl)
+
+shapes : (shapeOf (10 ∷ 1 ∷ []) ≡ Boolˢ true) × (shapeOf (11 ∷ 2147483648 ∷ 5 ∷ []) ≡ Long 9223372036854775813) × (shapeOf (13 ∷ 2 ∷ 7 ∷ []) ≡ Entity 2 7) × (shapeOf (14 ∷ []) ≡ Set)
+unfolding shapeOf
+shapes = (refl, refl, refl, refl)
+
+-- values 7, 3, 7 and 5 of residual rows
+sets : setRow (0 ∷ 7 ∷ 4 ∷ 0 ∷ 0 ∷ 3 ∷ 4 ∷ 0 ∷ 0 ∷ 7 ∷ 4 ∷ 0 ∷ 0 ∷ 5 ∷ 4 ∷ 0 ∷ []) ≡ 14 ∷ 3 ∷ 5 ∷ 7 ∷ []
+unfolding setRow valuesIn
+sets = refl
+
+least : (leastOf 4 Nothing (7 ∷ 3 ∷ 7 ∷ 5 ∷ []) ≡ At 5) × (leastOf 8 Nothing (7 ∷ 3 ∷ []) ≡ Nothing)
+unfolding leastOf lowerOf
+least = (refl, refl)
+
+-- texts 1 and 4 of a record node of type 6
+records : recordRow (48 ∷ 6 ∷ 1 ∷ 20 ∷ 4 ∷ 21 ∷ []) (0 ∷ 9 ∷ 4 ∷ 0 ∷ 0 ∷ 8 ∷ 4 ∷ 0 ∷ []) ≡ 15 ∷ 1 ∷ 9 ∷ 4 ∷ 8 ∷ []
+unfolding recordRow pairsOf
+records = refl

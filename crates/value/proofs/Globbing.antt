@@ -1,0 +1,439 @@
+-- Wildcard match: the items between two stars may be matched at the first place where they stand. Assumes nothing.
+use mathlib.Core.Path.{_≡_, refl, sym, ap, _∙_, subst}
+use mathlib.Core.Bool.{Bool, true, false, not, cond, _&&_, _||_, and-eq-true-iff}
+use mathlib.Core.List.{List, [], _∷_}
+use Prim.Native.Nat.{ℕ, suc, _+_, _-_, _≤_, _<_}
+use native.Mathlib.Numerals.{add-one}
+use native.Mathlib.Omega.{arith}
+use borrow.Author.Tests.{eq-eqb, ne-eqb, ltb-true, ltb-false, lt-ltb, le-ltb, le-leb, lt-leb, not-true, not-false}
+use lib.Dec.{eqb, leb, ltb}
+use lib.ListN.{length, getD, drop, length-drop}
+use lib.Seq.{drop-drop}
+use Rattle.cedar.specs.Evaluate.{matchPiece, anySuffix, isNil, matches}
+use Rattle.cedar.specs.Residual.{star, piece}
+use Rattle.sheet.specs.Forms.{mark}
+use Rattle.sheet.specs.Content.{patternOf}
+use Rattle.value.specs.Globs.{begins, blockOf, laterOf, stepOf, after}
+use Rattle.value.specs.declared.like.Block.{Block}
+use Rattle.value.specs.declared.like.Block.the-variants.{Misses, Ends, Star}
+use Rattle.value.specs.declared.like.Step.{Step}
+use Rattle.value.specs.declared.like.Step.the-variants.{Holds, Fails, On}
+use Rattle.value.proofs.Lists.{Going, uncons, spent}
+
+-- ---- a piece at a place
+
+pub begins-short : (p : List ℕ) → eqb (length p) 0 ≡ begins p []
+unfolding begins
+begins-short [] = refl
+begins-short (x ∷ p) = ne-eqb (suc (length p)) 0 (λ e. omega arith)
+
+pub begins-past : (p s : List ℕ) (at : ℕ) → length s < at → eqb (length p) 0 ≡ begins p (drop at s)
+begins-past p s at h = begins-short p ∙ ap (begins p) (sym (spent s at (omega arith)))
+
+too-long : (p s : List ℕ) → length s < length p → false ≡ begins p s
+unfolding begins
+too-long [] s h = absurd (omega arith)
+too-long (x ∷ p) [] h = refl
+too-long (x ∷ p) (y ∷ s) h = go (eqb x y) (too-long p s (omega arith))
+  where
+    go : (t : Bool) → false ≡ begins p s → false ≡ (t && begins p s)
+    go true e = e
+    go false e = refl
+
+pub begins-long : (p s : List ℕ) (at : ℕ) → length s - at < length p → false ≡ begins p (drop at s)
+begins-long p s at h = too-long p (drop at s) (rw (length-drop at s) h)
+
+-- a piece that stands there fits
+pub begins-fits : (p s : List ℕ) → begins p s ≡ true → length p ≤ length s
+unfolding begins
+begins-fits [] s e = omega arith
+begins-fits (x ∷ p) [] e = let z : _≡_ {A = ℕ} 0 1 = cc in absurd (omega arith)
+begins-fits (x ∷ p) (y ∷ s) e =
+    let h = begins-fits p s (and-eq-true-iff (eqb x y) (begins p s) .0 e .1) in
+    omega (arith, h)
+
+module _ (p s : List ℕ) (at i : ℕ) (h : at ≤ length s) (k : length p ≤ length s - at)
+    (g : Going (begins p (drop at s)) (begins (drop i p) (drop (at + i) s)) i (length p)) where
+  step : i < length p → begins (drop i p) (drop (at + i) s) ≡ (eqb (getD p i 0) (getD s (at + i) 0) && begins (drop (i + 1) p) (drop (at + (i + 1)) s))
+  unfolding begins
+  step l =
+      let e : at + i + 1 ≡ at + (i + 1) = omega arith in
+      rw (uncons p 0 i l, uncons s 0 (at + i) (omega arith), e)
+
+  pub begins-off : i < length p → (getD p i 0 ≡ getD s (at + i) 0 → ⊥) → false ≡ begins p (drop at s)
+  begins-off l n = sym (g .left ∙ step l ∙ rw (ne-eqb (getD p i 0) (getD s (at + i) 0) n))
+
+  pub begins-on : i < length p → getD p i 0 ≡ getD s (at + i) 0
+      → Going (begins p (drop at s)) (begins (drop (i + 1) p) (drop (at + (i + 1)) s)) (i + 1) (length p)
+  begins-on l n = record { near = omega arith; left = g .left ∙ step l ∙ rw (eq-eqb (getD p i 0) (getD s (at + i) 0) n) }
+
+  pub begins-all : length p ≤ i → true ≡ begins p (drop at s)
+  unfolding begins
+  begins-all l = sym (g .left ∙ rw (spent p i l))
+
+pub begins-start : (p s : List ℕ) (at : ℕ) → Going (begins p (drop at s)) (begins (drop 0 p) (drop (at + 0) s)) 0 (length p)
+begins-start p s at =
+    let e : at ≡ at + 0 = omega arith in
+    record { near = omega arith; left = ap (λ (j : ℕ). begins p (drop j s)) e }
+
+-- ---- a block: where the loop stands
+
+pub record Blocking (B : ℕ → List ℕ) (P S : List ℕ) (q t p e : ℕ) : Type 0 where
+  pub nearP : p ≤ length P
+  pub nearS : e ≤ length S
+  pub left : blockOf B q t (drop q P) (drop t S) ≡ blockOf B p e (drop p P) (drop e S)
+
+pub block-start : (B : ℕ → List ℕ) (P S : List ℕ) (q t : ℕ) → q ≤ length P → t ≤ length S → Blocking B P S q t q t
+block-start B P S q t h k = record { nearP = h; nearS = k; left = refl }
+
+module _ (B : ℕ → List ℕ) (P S : List ℕ) (q t p e : ℕ) (g : Blocking B P S q t p e) where
+  pub block-end : length P ≤ p → Ends e ≡ blockOf B q t (drop q P) (drop t S)
+  unfolding blockOf
+  block-end h = sym (g .left ∙ rw (spent P p h))
+
+  module _ (h : p < length P) (x : ℕ) (ex : x ≡ getD P p 0) where
+    at-item : blockOf B p e (drop p P) (drop e S) ≡ cond (eqb x mark) (Star (suc p) e)
+        (cond (begins (B x) (drop e S)) (blockOf B (suc p) (e + length (B x)) (drop (p + 1) P) (drop (length (B x)) (drop e S))) Misses)
+    unfolding blockOf
+    at-item = rw (uncons P 0 p h, ← ex)
+
+    pub block-star : x ≡ 10000 → Star (p + 1) e ≡ blockOf B q t (drop q P) (drop t S)
+    block-star m = sym (g .left ∙ at-item ∙ rw (eq-eqb x 10000 m, add-one p))
+
+    module _ (n : x ≡ 10000 → ⊥) (w : List ℕ) (ew : w ≡ B x) (b : Bool) (eb : b ≡ begins w (drop e S)) where
+      here : begins (B x) (drop e S) ≡ b
+      here = rw (← ew) (sym eb)
+
+      pub block-miss : not b ≡ true → Misses ≡ blockOf B q t (drop q P) (drop t S)
+      block-miss f =
+          let z : begins (B x) (drop e S) ≡ false = here ∙ not-true b f in
+          sym (g .left ∙ at-item ∙ rw (ne-eqb x 10000 n, z))
+
+      pub block-fits : not b ≡ false → e + length w ≤ length S
+      block-fits f =
+          let z : length w ≤ length (drop e S) = begins-fits w (drop e S) (sym eb ∙ not-false b f) in
+          omega (arith, z, length-drop e S, g .nearS)
+
+      pub block-on : not b ≡ false → Blocking B P S q t (p + 1) (e + length w)
+      block-on f =
+          let z : begins (B x) (drop e S) ≡ true = here ∙ not-false b f in
+          record {
+            nearP = omega arith;
+            nearS = block-fits f;
+            left = g .left ∙ at-item ∙ rw (ne-eqb x 10000 n, z, drop-drop (length (B x)) e S, ← ew, ← (add-one p));
+          }
+
+-- ---- what a block means
+
+module _ (B : ℕ → List ℕ) where
+  abbrev M : List ℕ → List ℕ → Bool
+  M p s = matches B (patternOf p) s
+
+  and-assoc : (a b c : Bool) → (a && (b && c)) ≡ ((a && b) && c)
+  and-assoc true b c = refl
+  and-assoc false b c = refl
+
+  piece-is : (p s : List ℕ) (f : List ℕ → Bool) → matchPiece p s f ≡ (begins p s && f (drop (length p) s))
+  unfolding begins
+  piece-is [] s f = refl
+  piece-is (x ∷ p) [] f = refl
+  piece-is (x ∷ p) (y ∷ s) f = ap (λ (b : Bool). eqb x y && b) (piece-is p s f) ∙ and-assoc (eqb x y) (begins p s) (f (drop (length p) s))
+
+  at-piece : (x : ℕ) (p s : List ℕ) → eqb x mark ≡ false → M (x ∷ p) s ≡ (begins (B x) s && M p (drop (length (B x)) s))
+  at-piece x p s e = ap (λ (b : Bool). matches B (cond b star (piece x) ∷ patternOf p) s) e ∙ piece-is (B x) s (M p)
+
+  at-star : (x : ℕ) (p s : List ℕ) → eqb x mark ≡ true → M (x ∷ p) s ≡ anySuffix (M p) s
+  at-star x p s e = ap (λ (b : Bool). matches B (cond b star (piece x) ∷ patternOf p) s) e
+
+  module _ (P S : List ℕ) where
+    -- the block of items p at place t stands there, up to the star before item k and to place e; elsewhere it may stand too, and is as long
+    record Jumps (p : List ℕ) (q t k e : ℕ) : Type 0 where
+      wide : ℕ
+      stands : List ℕ → Bool
+      means : (s : List ℕ) → M p s ≡ (stands s && anySuffix (M (drop k P)) (drop wide s))
+      here : stands (drop t S) ≡ true
+      far : e ≡ t + wide
+      next : q < k
+      most : k ≤ length P
+      within : e ≤ length S
+
+    Means : List ℕ → ℕ → ℕ → Block → Type 0
+    Means p q t Misses = M p (drop t S) ≡ false
+    Means p q t (Ends e) = M p (drop t S) ≡ isNil (drop e S)
+    Means p q t (Star k e) = Jumps p q t k e
+
+    -- one piece more before a block
+    further : (x : ℕ) (p : List ℕ) (q t : ℕ) → eqb x mark ≡ false → begins (B x) (drop t S) ≡ true
+        → (r : Block) → Means p (suc q) (t + length (B x)) r → Means (x ∷ p) q t r
+    unfolding Means
+    further x p q t e h Misses m = at-piece x p (drop t S) e ∙ rw (h, drop-drop (length (B x)) t S) m
+    further x p q t e h (Ends f) m = at-piece x p (drop t S) e ∙ rw (h, drop-drop (length (B x)) t S) m
+    further x p q t e h (Star k f) m =
+        record {
+          wide = length (B x) + m .wide;
+          stands = λ s. begins (B x) s && m .stands (drop (length (B x)) s);
+          means = λ s. at-piece x p s e ∙ ap (λ (b : Bool). begins (B x) s && b) (m .means (drop (length (B x)) s))
+              ∙ and-assoc (begins (B x) s) (m .stands (drop (length (B x)) s)) (anySuffix (M (drop k P)) (drop (m .wide) (drop (length (B x)) s)))
+              ∙ ap (λ (l : List ℕ). (begins (B x) s && m .stands (drop (length (B x)) s)) && anySuffix (M (drop k P)) l) (drop-drop (m .wide) (length (B x)) s);
+          here = rw (h, drop-drop (length (B x)) t S) (m .here);
+          far = omega (arith, m .far);
+          next = omega (arith, m .next);
+          most = m .most;
+          within = m .within;
+        }
+
+    tail-of : (x : ℕ) (p : List ℕ) (q : ℕ) → x ∷ p ≡ drop q P → p ≡ drop (suc q) P
+    tail-of x p q e =
+        let d : drop 1 (drop q P) ≡ drop (q + 1) P = drop-drop 1 q P in
+        ap (λ (l : List ℕ). drop 1 l) e ∙ d ∙ ap (λ (j : ℕ). drop j P) (add-one q)
+
+    inside : (x : ℕ) (p : List ℕ) (q : ℕ) → x ∷ p ≡ drop q P → q < length P
+    inside x p q e = omega (arith, ap length e, length-drop q P)
+
+    block-means : (p : List ℕ) (q t : ℕ) → p ≡ drop q P → t ≤ length S → Means p q t (blockOf B q t p (drop t S))
+    unfolding Means blockOf
+    block-means [] q t e h = refl
+    block-means (x ∷ p) q t e h = go (eqb x mark) (begins (B x) (drop t S)) refl refl (block-means p (suc q) (t + length (B x)) (tail-of x p q e))
+      where
+        go : (m b : Bool) → eqb x mark ≡ m → begins (B x) (drop t S) ≡ b
+            → (t + length (B x) ≤ length S → Means p (suc q) (t + length (B x)) (blockOf B (suc q) (t + length (B x)) p (drop (t + length (B x)) S)))
+            → Means (x ∷ p) q t (cond m (Star (suc q) t) (cond b (blockOf B (suc q) (t + length (B x)) p (drop (length (B x)) (drop t S))) Misses))
+        go true b em eb ih =
+            record {
+              wide = 0;
+              stands = λ s. true;
+              means = λ s. at-star x p s em ∙ ap (λ (l : List ℕ). anySuffix (M l) s) (tail-of x p q e);
+              here = refl;
+              far = omega arith;
+              next = omega arith;
+              most = inside x p q e;
+              within = h;
+            }
+        go false true em eb ih =
+            let f : t + length (B x) ≤ length S = omega (arith, begins-fits (B x) (drop t S) eb, length-drop t S) in
+            rw (drop-drop (length (B x)) t S) (further x p q t em eb (blockOf B (suc q) (t + length (B x)) p (drop (t + length (B x)) S)) (ih f))
+        go false false em eb ih = at-piece x p (drop t S) em ∙ rw eb
+
+  -- ---- the first place is enough
+
+  or-true : (a b : Bool) {X : Type 0} → (a || b) ≡ true → (a ≡ true → X) → (b ≡ true → X) → X
+  or-true true b e f g = f refl
+  or-true false b e f g = g e
+
+  or-right : (a b : Bool) → b ≡ true → (a || b) ≡ true
+  or-right true b e = refl
+  or-right false b e = e
+
+  same-truth : (a b : Bool) → (a ≡ true → b ≡ true) → (b ≡ true → a ≡ true) → a ≡ b
+  same-truth true b f g = sym (f refl)
+  same-truth false true f g = g refl
+  same-truth false false f g = refl
+
+  module _ (K : List ℕ → Bool) where
+    from-later : (l : List ℕ) → anySuffix K (drop 1 l) ≡ true → anySuffix K l ≡ true
+    from-later [] e = e
+    from-later (x ∷ l) e = or-right (K (x ∷ l)) (anySuffix K l) e
+
+    later-wide : (n x : ℕ) (s : List ℕ) → anySuffix K (drop n s) ≡ true → anySuffix K (drop n (x ∷ s)) ≡ true
+    later-wide n x s e =
+        let d : drop 1 (drop n (x ∷ s)) ≡ drop n s = drop-drop 1 n (x ∷ s) ∙ ap (λ (j : ℕ). drop j (x ∷ s)) (add-one n) in
+        from-later (drop n (x ∷ s)) (ap (anySuffix K) d ∙ e)
+
+    module _ (n : ℕ) (b f : List ℕ → Bool) (m : (s : List ℕ) → f s ≡ (b s && anySuffix K (drop n s))) where
+      second : (s : List ℕ) → f s ≡ true → anySuffix K (drop n s) ≡ true
+      second s e = and-eq-true-iff (b s) (anySuffix K (drop n s)) .0 (sym (m s) ∙ e) .1
+
+      any-wide : (s : List ℕ) → anySuffix f s ≡ true → anySuffix K (drop n s) ≡ true
+      any-wide [] e = second [] e
+      any-wide (x ∷ s) e = or-true (f (x ∷ s)) (anySuffix f s) e (second (x ∷ s)) (λ q. later-wide n x s (any-wide s q))
+
+      first : (s : List ℕ) → f s ≡ true → anySuffix f s ≡ true
+      first [] e = e
+      first (x ∷ s) e = rw e
+
+      greedy : (s : List ℕ) → b s ≡ true → anySuffix f s ≡ anySuffix K (drop n s)
+      greedy s h = same-truth (anySuffix f s) (anySuffix K (drop n s)) (any-wide s) (λ e. first s (m s ∙ rw (h, e)))
+
+  -- ---- a step
+
+  module _ (P S : List ℕ) where
+    -- what is left to find after a star: the items from q on at place t or later
+    abbrev pub After : ℕ → ℕ → Bool
+    After q t = anySuffix (M (drop q P)) (drop t S)
+
+    jumped : (q t k e : ℕ) → Jumps P S (drop q P) q t k e → After q t ≡ After k e
+    jumped q t k e j =
+        greedy (M (drop k P)) (j .wide) (j .stands) (M (drop q P)) (j .means) (drop t S) (j .here)
+        ∙ ap (anySuffix (M (drop k P))) (drop-drop (j .wide) t S ∙ ap (λ (i : ℕ). drop i S) (sym (j .far)))
+
+    nil-past : (e : ℕ) → isNil (drop e S) ≡ leb (length S) e
+    nil-past e = go (drop e S) refl (length-drop e S)
+      where
+        go : (l : List ℕ) → drop e S ≡ l → length l ≡ length S - e → isNil l ≡ leb (length S) e
+        go [] d n = sym (le-leb (length S) e (omega arith))
+        go (x ∷ l) d n = sym (lt-leb (length S) e (omega arith))
+
+    -- a place where the items do not match, up to the end: the next one
+    passed : (q t : ℕ) → t ≤ length S → M (drop q P) (drop t S) ≡ false → t < length S → After q t ≡ After q (t + 1)
+    passed q t h m l =
+        ap (anySuffix (M (drop q P))) (uncons S 0 t l) ∙ ap (λ (b : Bool). b || After q (t + 1)) (ap (M (drop q P)) (sym (uncons S 0 t l)) ∙ m)
+
+    over : (q t : ℕ) → M (drop q P) (drop t S) ≡ false → length S ≤ t → After q t ≡ false
+    over q t m l =
+        let d : drop t S ≡ [] = spent S t l in
+        ap (anySuffix (M (drop q P))) d ∙ ap (M (drop q P)) (sym d) ∙ m
+
+    -- what is found by a step, or is left after it
+    abbrev pub reached : Step → Bool
+    reached Holds = true
+    reached Fails = false
+    reached (On q t) = After q t
+
+    later-is : (q t : ℕ) → t ≤ length S → M (drop q P) (drop t S) ≡ false → After q t ≡ reached (laterOf (length S) q t)
+    unfolding laterOf
+    later-is q t h m = go (ltb t (length S)) refl
+      where
+        go : (b : Bool) → ltb t (length S) ≡ b → After q t ≡ reached (cond b (On q (t + 1)) Fails)
+        go true e = passed q t h m (ltb-true t (length S) e)
+        go false e = over q t m (ltb-false t (length S) e)
+
+    any-first : (f : List ℕ → Bool) (s : List ℕ) → f s ≡ true → anySuffix f s ≡ true
+    any-first f [] e = e
+    any-first f (x ∷ s) e = rw e
+
+    step-is : (q t : ℕ) → t ≤ length S → After q t ≡ reached (stepOf (length S) q t (blockOf B q t (drop q P) (drop t S)))
+    unfolding Means stepOf
+    step-is q t h = go (blockOf B q t (drop q P) (drop t S)) (block-means P S (drop q P) q t refl h)
+      where
+        ends : (e : ℕ) (b : Bool) → M (drop q P) (drop t S) ≡ b → leb (length S) e ≡ b → After q t ≡ reached (cond b Holds (laterOf (length S) q t))
+        ends e true m l = any-first (M (drop q P)) (drop t S) m
+        ends e false m l = later-is q t h m
+
+        go : (r : Block) → Means P S (drop q P) q t r → After q t ≡ reached (stepOf (length S) q t r)
+        go Misses m = later-is q t h m
+        go (Ends e) m = ends e (leb (length S) e) (m ∙ nil-past e) refl
+        go (Star k e) m = jumped q t k e m
+
+    -- where a step goes on, it has come nearer to the end
+    record Nearer (q t k e : ℕ) : Type 0 where
+      most : k ≤ length P
+      within : e ≤ length S
+      less : length P - k + (length S - e) < length P - q + (length S - t)
+
+    step-nearer : (q t k e : ℕ) → q ≤ length P → t ≤ length S → stepOf (length S) q t (blockOf B q t (drop q P) (drop t S)) ≡ On k e → Nearer q t k e
+    unfolding Means stepOf laterOf
+    step-nearer q t k e l h eq = go (blockOf B q t (drop q P) (drop t S)) (block-means P S (drop q P) q t refl h) eq
+      where
+        later : (b : Bool) → ltb t (length S) ≡ b → cond b (On q (t + 1)) Fails ≡ On k e → Nearer q t k e
+        later true y z =
+            let j : t < length S = ltb-true t (length S) y in
+            let p : q ≡ k = cc in
+            let u : t + 1 ≡ e = cc in
+            record { most = omega arith; within = omega arith; less = omega arith }
+        later false y z = let w : _≡_ {A = ℕ} 0 1 = cc in absurd (omega arith)
+
+        ends : (b : Bool) → cond b Holds (laterOf (length S) q t) ≡ On k e → Nearer q t k e
+        ends true z = let w : _≡_ {A = ℕ} 0 1 = cc in absurd (omega arith)
+        ends false z = later (ltb t (length S)) refl z
+
+        star : (i j : ℕ) → Jumps P S (drop q P) q t i j → On i j ≡ On k e → Nearer q t k e
+        star i j m z =
+            let p : i ≡ k = cc in
+            let u : j ≡ e = cc in
+            record { most = omega (arith, m .most); within = omega (arith, m .within); less = omega (arith, m .most, m .within, m .next, m .far) }
+
+        go : (r : Block) → Means P S (drop q P) q t r → stepOf (length S) q t r ≡ On k e → Nearer q t k e
+        go Misses m z = later (ltb t (length S)) refl z
+        go (Ends f) m z = ends (leb (length S) f) z
+        go (Star i j) m z = star i j m z
+
+    -- the items before the first star
+    pub first-misses : (r : Block) → r ≡ blockOf B 0 0 P S → r ≡ Misses → false ≡ matches B (patternOf P) S
+    unfolding Means
+    first-misses r er e = sym (the-block (sym er ∙ e))
+      where
+        the-block : blockOf B 0 0 P S ≡ Misses → M P S ≡ false
+        the-block z = subst (λ (x : Block). Means P S P 0 0 x) z (block-means P S P 0 0 refl (omega arith))
+
+    pub first-ends : (r : Block) (e : ℕ) → r ≡ blockOf B 0 0 P S → r ≡ Ends e → leb (length S) e ≡ matches B (patternOf P) S
+    unfolding Means
+    first-ends r e er z = sym (the-block (sym er ∙ z) ∙ nil-past e)
+      where
+        the-block : blockOf B 0 0 P S ≡ Ends e → M P S ≡ isNil (drop e S)
+        the-block y = subst (λ (x : Block). Means P S P 0 0 x) y (block-means P S P 0 0 refl (omega arith))
+
+-- the first block ends at a star
+module _ (B : ℕ → List ℕ) (P S : List ℕ) (r : Block) (k e : ℕ) (er : r ≡ blockOf B 0 0 P S) (z : r ≡ Star k e) where
+  the-jump : Jumps B P S P 0 0 k e
+  unfolding Means
+  the-jump = subst (λ (x : Block). Means B P S P 0 0 x) (sym er ∙ z) (block-means B P S P 0 0 refl (omega arith))
+
+  pub first-most : k ≤ length P
+  first-most = the-jump .most
+
+  pub first-within : e ≤ length S
+  first-within = the-jump .within
+
+  pub first-star : (b : Bool) → b ≡ after B P S k e → b ≡ matches B (patternOf P) S
+  unfolding after
+  first-star b h =
+      let f : the-jump .wide ≡ e = omega (arith, the-jump .far) in
+      h ∙ sym (the-jump .means S ∙ rw (the-jump .here) (ap (λ (i : ℕ). anySuffix (M B (drop k P)) (drop i S)) f))
+
+-- where the search stands: item q, after a star, and place t
+pub record Globbing (B : ℕ → List ℕ) (P S : List ℕ) (q₀ t₀ q t : ℕ) : Type 0 where
+  pub nearP : q ≤ length P
+  pub nearS : t ≤ length S
+  pub left : after B P S q₀ t₀ ≡ after B P S q t
+
+pub glob-start : (B : ℕ → List ℕ) (P S : List ℕ) (q t : ℕ) → q ≤ length P → t ≤ length S → Globbing B P S q t q t
+glob-start B P S q t h k = record { nearP = h; nearS = k; left = refl }
+
+module _ (B : ℕ → List ℕ) (P S : List ℕ) (q₀ t₀ q t : ℕ) (g : Globbing B P S q₀ t₀ q t) (r : Step)
+    (er : r ≡ stepOf (length S) q t (blockOf B q t (drop q P) (drop t S))) where
+  by-step : (o : Step) → r ≡ o → after B P S q₀ t₀ ≡ reached B P S o
+  unfolding after
+  by-step o e = g .left ∙ step-is B P S q t (g .nearS) ∙ ap (reached B P S) (sym er ∙ e)
+
+  pub glob-holds : r ≡ Holds → true ≡ after B P S q₀ t₀
+  glob-holds e = sym (by-step Holds e)
+
+  pub glob-fails : r ≡ Fails → false ≡ after B P S q₀ t₀
+  glob-fails e = sym (by-step Fails e)
+
+  module _ (k e : ℕ) (z : r ≡ On k e) where
+    nearer : Nearer B P S q t k e
+    nearer = step-nearer B P S q t k e (g .nearP) (g .nearS) (sym er ∙ z)
+
+    pub glob-on : Globbing B P S q₀ t₀ k e
+    unfolding after
+    glob-on = record { nearP = nearer .most; nearS = nearer .within; left = by-step (On k e) z }
+
+    pub glob-less : length P - k + (length S - e) < length P - q + (length S - t)
+    glob-less = nearer .less
+
+-- a step by its block
+module _ (n q t : ℕ) (B : ℕ → List ℕ) (p s : List ℕ) (r : Block) (er : r ≡ blockOf B q t p s) where
+  pub step-star : (k e : ℕ) → r ≡ Star k e → On k e ≡ stepOf n q t (blockOf B q t p s)
+  unfolding stepOf
+  step-star k e z = sym (ap (stepOf n q t) (sym er ∙ z))
+
+  pub step-misses : (o : Step) → o ≡ laterOf n q t → r ≡ Misses → o ≡ stepOf n q t (blockOf B q t p s)
+  unfolding stepOf
+  step-misses o eo z = eo ∙ sym (ap (stepOf n q t) (sym er ∙ z))
+
+  pub step-holds : (e : ℕ) → r ≡ Ends e → n ≤ e → Holds ≡ stepOf n q t (blockOf B q t p s)
+  unfolding stepOf
+  step-holds e z h = sym (ap (stepOf n q t) (sym er ∙ z) ∙ rw (le-leb n e h))
+
+  pub step-later : (e : ℕ) (o : Step) → o ≡ laterOf n q t → r ≡ Ends e → e < n → o ≡ stepOf n q t (blockOf B q t p s)
+  unfolding stepOf
+  step-later e o eo z h = eo ∙ sym (ap (stepOf n q t) (sym er ∙ z) ∙ rw (lt-leb n e h))
+
+pub later-on : (n q t : ℕ) → t < n → On q (t + 1) ≡ laterOf n q t
+unfolding laterOf
+later-on n q t h = rw (lt-ltb t n h)
+
+pub later-fails : (n q t : ℕ) → n ≤ t → Fails ≡ laterOf n q t
+unfolding laterOf
+later-fails n q t h = rw (le-ltb t n h)

@@ -1,0 +1,42 @@
+-- `value::contains` meets its contract. Assumes nothing.
+use Prim.Native.Nat.{_-_}
+use lib.ListN.{length, drop}
+use Rattle.cedar.specs.Numbered.{memN}
+use Rattle.value.proofs.Lists.{Going, mem-end, mem-hit, mem-on}
+use mathlib.Core.Path.{refl}
+use borrow.Author.Needs.{needs}
+use Rattle.value.proofs.contains.Statement.{statement}
+use Rattle.value.proofs.contains.Tie as tie
+
+abbrev Inv-loop : tie.InvT-loop
+Inv-loop l v i₀ i = Going (memN v l) (memN v (drop i l)) i (length l)
+
+abbrev μ-loop : tie.MeasureT-loop
+μ-loop l v i₀ i = length l - i
+
+loop-holds : tie.Need-loop-holds Inv-loop μ-loop
+loop-holds c = record { near = search needs; left = refl }
+
+loop-again : tie.Need-loop-again Inv-loop μ-loop
+loop-again c = search (mem-on, needs)
+
+returns : tie.Need-returns Inv-loop μ-loop
+returns c = search (mem-end, needs)
+
+returns-2 : tie.Need-returns-2 Inv-loop μ-loop
+returns-2 c = search (mem-hit, needs)
+
+pub contains-spec : {M : Type 1} → statement M
+contains-spec =
+    tie.close
+    (tie.spec
+    Inv-loop
+    μ-loop
+    loop-holds
+    (λ c. search needs)
+    (λ c. search needs)
+    (λ c. search needs)
+    (λ c. search needs)
+    loop-again
+    returns
+    returns-2)

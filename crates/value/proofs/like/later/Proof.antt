@@ -1,0 +1,14 @@
+-- `value::like::later` meets its contract. Assumes nothing.
+use Rattle.value.proofs.Globbing.{later-on, later-fails}
+use borrow.Author.Needs.{needs}
+use Rattle.value.proofs.like.later.Statement.{statement}
+use Rattle.value.proofs.like.later.Tie as tie
+
+returns : tie.Need-returns
+returns c = search (later-on, needs)
+
+returns-2 : tie.Need-returns-2
+returns-2 c = search (later-fails, needs)
+
+pub later-spec : {M : Type 1} → statement M
+later-spec = tie.close (tie.spec (λ c. search needs) returns returns-2)

@@ -1,0 +1,39 @@
+-- `value::making::make` meets its contract. Assumes nothing.
+use lib.ListN.{length}
+use Rattle.value.proofs.Makes.{make-found, make-full, make-added, room-tested}
+use borrow.Author.Needs.{needs}
+use Rattle.value.proofs.making.make.Statement.{statement}
+use Rattle.value.proofs.making.make.Tie as tie
+
+returns : tie.Need-returns
+returns c = search (make-found, needs)
+
+returns-2 : tie.Need-returns-2
+returns-2 c = search (make-full, needs)
+
+add-requires : tie.Need-add-requires
+add-requires c κs =
+    let h = c .before .before in
+    let s = h .before .before .before .before .before .before .before .before .before in
+    room-tested (s .args .a .now) (length (s .args .r .now)) (h .has-room .result) (h .has-room .ensures) (c .before .if2 .left)
+
+returns-3 : tie.Need-returns-3
+returns-3 c = search (make-added, needs)
+
+pub make-spec : {M : Type 1} → statement M
+make-spec =
+    tie.close
+    (tie.spec
+    (λ c κs. search needs)
+    (λ c κs. search needs)
+    (λ c κs. search needs)
+    (λ c. search needs)
+    returns
+    (λ c κs. search needs)
+    (λ c κs. search needs)
+    (λ c. search needs)
+    returns-2
+    add-requires
+    (λ c κs. search needs)
+    (λ c. search needs)
+    returns-3)

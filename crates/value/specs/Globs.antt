@@ -1,0 +1,40 @@
+-- A pattern matched piece by piece: the items up to the next `*` are one block, which stands at one place of the text.
+use mathlib.Core.Bool.{Bool, true, false, cond, _&&_}
+use mathlib.Core.List.{List, [], _∷_}
+use Prim.Native.Nat.{ℕ, suc, _+_}
+use lib.Dec.{eqb, leb, ltb}
+use lib.ListN.{length, drop}
+use Rattle.cedar.specs.Evaluate.{anySuffix, matches}
+use Rattle.sheet.specs.Forms.{mark}
+use Rattle.sheet.specs.Content.{patternOf}
+use Rattle.value.specs.declared.like.Block.{Block}
+use Rattle.value.specs.declared.like.Block.the-variants.{Misses, Ends, Star}
+use Rattle.value.specs.declared.like.Step.{Step}
+use Rattle.value.specs.declared.like.Step.the-variants.{Holds, Fails, On}
+
+-- whether the text begins with the piece
+unfoldable pub begins : List ℕ → List ℕ → Bool
+begins [] s = true
+begins (x ∷ p) [] = false
+begins (x ∷ p) (y ∷ s) = eqb x y && begins p s
+
+-- the items p, of which the first is item q, against s, which begins at place t: they miss, they end there, or a star follows
+unfoldable pub blockOf : (ℕ → List ℕ) → ℕ → ℕ → List ℕ → List ℕ → Block
+blockOf bytes q t [] s = Ends t
+blockOf bytes q t (x ∷ p) s =
+    cond (eqb x mark) (Star (suc q) t)
+    (cond (begins (bytes x) s) (blockOf bytes (suc q) (t + length (bytes x)) p (drop (length (bytes x)) s)) Misses)
+
+-- the same items one place further on in a text of n bytes
+unfoldable pub laterOf : ℕ → ℕ → ℕ → Step
+laterOf n q t = cond (ltb t n) (On q (t + 1)) Fails
+
+-- what the items from q on, after a star, leave to do at place t
+unfoldable pub stepOf : ℕ → ℕ → ℕ → Block → Step
+stepOf n q t Misses = laterOf n q t
+stepOf n q t (Ends e) = cond (leb n e) Holds (laterOf n q t)
+stepOf n q t (Star p e) = On p e
+
+-- whether the items from q on, after a star, match at place t of the text or a later one
+unfoldable pub after : (ℕ → List ℕ) → List ℕ → List ℕ → ℕ → ℕ → Bool
+after bytes pattern s q t = anySuffix (matches bytes (patternOf (drop q pattern))) (drop t s)

@@ -1,0 +1,103 @@
+-- A value found among those that there are, or made.
+use mathlib.Core.Path.{_≡_}
+use mathlib.Core.Bool.{Bool, cond, not, _&&_, _||_}
+use mathlib.Core.List.{List, [], _∷_}
+use Prim.Native.Nat.{ℕ, _+_, _/_, _%_}
+use lib.Dec.{ltb, leb}
+use lib.ListN.{length, getD, take, drop}
+use lib.Seq.{sets}
+use Rattle.words.specs.Log.{pushed}
+use Rattle.cedar.specs.Canonical.{bit}
+use Rattle.cedar.specs.Making.{sortN}
+use Rattle.table.specs.Layout.{MADE, TOP, heap, withRow}
+use Rattle.value.specs.Lines.{valueLines, placeOf}
+use Rattle.value.specs.declared.Entry.{Entry}
+use Rattle.value.specs.declared.Entry.the-variants.{At, Nothing}
+
+-- ---- rows made
+
+abbrev pub boolRow : Bool → List ℕ
+boolRow b = 10 ∷ bit b ∷ []
+
+-- of a long that is held as its number plus 2^63
+abbrev pub longRow : ℕ → List ℕ
+longRow w = 11 ∷ w / 4294967296 ∷ w % 4294967296 ∷ []
+
+abbrev pub entityRow : ℕ → ℕ → List ℕ
+entityRow k t = 13 ∷ k ∷ t ∷ []
+
+-- ---- found or made
+
+-- whether a row of n words more may be made: fewer than 1,024 were made, and the words have room
+unfoldable pub roomFor : List ℕ → ℕ → Bool
+roomFor a n = ltb (getD a MADE 0) 1024 && (leb heap (getD a TOP 0) && leb (getD a TOP 0 + n) 16384)
+
+-- a number that a word holds
+unfoldable pub narrow : ℕ → ℕ
+narrow v = cond (ltb v 4294967296) v 0
+
+-- the number of row r, which is the next one where r is absent
+unfoldable pub numberOf : List ℕ → List ℕ → ℕ
+numberOf a r = narrow (placeOf r (valueLines a))
+
+-- row r among the made ones, at the heap's end
+unfoldable pub withMade : List ℕ → List ℕ → List ℕ
+withMade a r = withRow (sets a (getD a TOP 0) r) MADE (getD a TOP 0 + length r)
+
+-- row r is made where it is absent and there is room
+unfoldable pub withValue : List ℕ → List ℕ → List ℕ
+withValue a r = cond (ltb (placeOf r (valueLines a)) (length (valueLines a)) || not (roomFor a (length r))) a (withMade a r)
+
+-- what making row r leaves of the words a, and the number that it gives
+pub record Made (a r is : List ℕ) (n : ℕ) : Type 0 where
+  pub words : is ≡ withValue a r
+  pub number : n ≡ numberOf a r
+
+-- ---- sets and records from rows of four words, of which word 1 is a value's number
+
+unfoldable pub valuesIn : List ℕ → List ℕ
+valuesIn [] = []
+valuesIn (t ∷ []) = []
+valuesIn (t ∷ v ∷ []) = []
+valuesIn (t ∷ v ∷ n ∷ []) = []
+valuesIn (t ∷ v ∷ n ∷ y ∷ l) = v ∷ valuesIn l
+
+-- the lower of the best so far and x, if x is not below lo
+unfoldable pub lowerOf : ℕ → Entry → ℕ → Entry
+lowerOf lo Nothing x = cond (ltb x lo) Nothing (At x)
+lowerOf lo (At y) x = cond (ltb x lo) (At y) (cond (ltb x y) (At x) (At y))
+
+-- the least number that is not below lo, of the best so far and of the list
+unfoldable pub leastOf : ℕ → Entry → List ℕ → Entry
+leastOf lo e [] = e
+leastOf lo e (x ∷ l) = leastOf lo (lowerOf lo e x) l
+
+unfoldable pub setRow : List ℕ → List ℕ
+setRow rows = 14 ∷ sortN (valuesIn rows)
+
+-- the texts of a node's row, from its third word on, with the values
+unfoldable pub pairsOf : List ℕ → List ℕ → List ℕ
+pairsOf [] rows = []
+pairsOf (t ∷ []) rows = []
+pairsOf (t ∷ n ∷ l) [] = []
+pairsOf (t ∷ n ∷ l) (g ∷ []) = []
+pairsOf (t ∷ n ∷ l) (g ∷ v ∷ []) = []
+pairsOf (t ∷ n ∷ l) (g ∷ v ∷ m ∷ []) = []
+pairsOf (t ∷ n ∷ l) (g ∷ v ∷ m ∷ y ∷ rows) = t ∷ v ∷ pairsOf l rows
+
+unfoldable pub recordRow : List ℕ → List ℕ → List ℕ
+recordRow r rows = 15 ∷ pairsOf (drop 2 r) rows
+
+-- a row is written past the end of a log, in the words after it: word by word, while there is room
+unfoldable pub pushAll : List ℕ → List ℕ → List ℕ
+pushAll l [] = l
+pushAll l (x ∷ xs) = pushAll (pushed l x) xs
+
+-- what was written of it
+unfoldable pub written : List ℕ → List ℕ → List ℕ
+written l xs = drop (length l) (pushAll l xs)
+
+-- a row was written past the end bt of the log of b, and then made: the log is as it was
+pub record MadeBeside (a is : List ℕ) (n bt : ℕ) (b b′ r : List ℕ) : Type 0 where
+  pub made : Made a (written (take bt b) r) is n
+  pub log : take bt b′ ≡ take bt b

@@ -1,0 +1,231 @@
+// A value found among those that there are, or made: its row then stands at the heap's end. Where there is no room, or 1,024 values
+// were made, nothing is stored.
+use crate::Entry;
+use table::MADE;
+use table::NODE;
+use table::TOP;
+use table::add_row;
+use table::count;
+use table::row;
+use words::cut;
+use words::push;
+use words::read;
+use words::store;
+ghost use mathlib.Core.Path.{_≡_};
+ghost use mathlib.Core.Bool.{true};
+ghost use mathlib.Core.List.{[]};
+ghost use Prim.Native.Nat.{_≤_};
+ghost use lib.ListN.{getD, length, take, drop};
+ghost use Rattle.words.specs.Log.{part, Room, Holds};
+ghost use Rattle.cedar.specs.Making.{sortN};
+ghost use Rattle.sheet.specs.Bytes.{same};
+ghost use Rattle.table.specs.Layout.{rowsOf};
+ghost use Rattle.value.specs.Lines.{valueLines, placeOf};
+ghost use Rattle.value.specs.Made.{boolRow, longRow, entityRow, roomFor, narrow, withMade, Made, MadeBeside, valuesIn, lowerOf, leastOf, setRow, pairsOf, recordRow, pushAll};
+
+// Whether two rows have the same words.
+pub fn same(x: &[u32], y: &[u32]) -> bool
+    ensures { λ r. ⌜ r ≡ same (now (x .entry)) (now (y .entry)) ⌝ }
+{
+    if x.len() != y.len() {
+        return false;
+    }
+    let mut i = 0;
+    loop {
+        if i >= x.len() {
+            break true;
+        }
+        if x[i] != y[i] {
+            break false;
+        }
+        i += 1;
+    }
+}
+
+// The number of the first value with these words, or of all values where none has them.
+pub fn find(a: &[u32], r: &[u32]) -> usize
+    ensures { λ v. ⌜ v ≡ placeOf (now (r .entry)) (valueLines (now (a .entry))) ⌝ }
+{
+    let n = crate::total(a);
+    let mut i = 0;
+    loop {
+        if i >= n {
+            break n;
+        }
+        if same(crate::row_of(a, i), r) {
+            break i;
+        }
+        i += 1;
+    }
+}
+
+// Whether a row of `n` words more may be made.
+fn has_room(a: &[u32], n: usize) -> bool
+    ensures { λ r. ⌜ r ≡ roomFor (now (a .entry)) n ⌝ }
+{
+    if read(a, MADE) >= 1024 {
+        return false;
+    }
+    let top = read(a, TOP) as usize;
+    if top < table::HEAP {
+        return false;
+    }
+    if n > 16384 {
+        return false;
+    }
+    top + n <= 16384
+}
+
+// A number as a word.
+fn narrowed(v: usize) -> u32
+    ensures { λ r. ⌜ r ≡ narrow v ⌝ }
+{
+    if v < 4294967296 {
+        return v as u32;
+    }
+    0
+}
+
+// The words become a row of the made ones.
+fn add(a: &mut [u32], r: &[u32])
+    requires { ⌜ roomFor (now a) (length (now r)) ≡ true ⌝ }
+    ensures { λ _. ⌜ now (a .exit) ≡ withMade (now (a .entry)) (now (r .entry)) ⌝ }
+{
+    let top = read(a, TOP);
+    store(a, top as usize, r);
+    add_row(a, MADE, top + r.len() as u32);
+}
+
+// The number of the value with these words, made where it is absent.
+pub fn make(a: &mut [u32], r: &[u32]) -> u32
+    ensures { λ v. ⌜ Made (now (a .entry)) (now (r .entry)) (now (a .exit)) v ⌝ }
+{
+    let v = find(a, r);
+    if v < crate::total(a) {
+        return narrowed(v);
+    }
+    if !has_room(a, r.len()) {
+        return narrowed(v);
+    }
+    add(a, r);
+    narrowed(v)
+}
+
+// The bool.
+pub fn make_bool(a: &mut [u32], b: bool) -> u32
+    ensures { λ v. ⌜ Made (now (a .entry)) (boolRow b) (now (a .exit)) v ⌝ }
+{
+    if b {
+        return make(a, &[10, 1]);
+    }
+    make(a, &[10, 0])
+}
+
+// The long that is held as its number plus 2^63.
+pub fn make_long(a: &mut [u32], w: u64) -> u32
+    ensures { λ v. ⌜ Made (now (a .entry)) (longRow w) (now (a .exit)) v ⌝ }
+{
+    let r = [11, (w / 4294967296) as u32, (w % 4294967296) as u32];
+    make(a, &r)
+}
+
+// The entity of a kind and a text.
+pub fn make_entity(a: &mut [u32], k: u32, t: u32) -> u32
+    ensures { λ v. ⌜ Made (now (a .entry)) (entityRow k t) (now (a .exit)) v ⌝ }
+{
+    let r = [13, k, t];
+    make(a, &r)
+}
+
+// The lower of the best so far and `x`, if `x` is not below `lo`.
+fn lower(lo: usize, best: Entry, x: u32) -> Entry
+    ensures { λ r. ⌜ r ≡ lowerOf lo best x ⌝ }
+{
+    if (x as usize) < lo {
+        return best;
+    }
+    match best {
+        Entry::Nothing => Entry::At(x),
+        Entry::At(y) => {
+            if x < y {
+                return Entry::At(x);
+            }
+            Entry::At(y)
+        }
+    }
+}
+
+// The least value of these rows that is not below `lo`.
+fn least(rows: &[u32], lo: usize) -> Entry
+    ensures { λ r. ⌜ r ≡ leastOf lo Entry.Nothing (valuesIn (now (rows .entry))) ⌝ }
+{
+    let mut best = Entry::Nothing;
+    let mut i = 0;
+    while rows.len() - i >= 4 {
+        best = lower(lo, best, rows[i + 1]);
+        i += 4;
+    }
+    best
+}
+
+// The values of the rows from `start` to `bt`, ascending and without repeats, at the end `at` of the log; the end after them.
+fn ascending(b: &mut [u32], at: usize, start: usize, bt: usize) -> usize
+    requires { ⌜ Room (now b) at ⌝ }
+    requires { ⌜ bt ≤ at ⌝ }
+    ensures { λ e. ⌜ Holds at (now (b .exit)) e (pushAll (take at (now (b .entry))) (sortN (valuesIn (part (now (b .entry)) start bt)))) ⌝ }
+{
+    let mut p = at;
+    let mut lo: usize = 0;
+    loop {
+        let Entry::At(x) = least(cut(b, start, bt), lo) else {
+            break p;
+        };
+        p = push(b, p, x);
+        lo = x as usize + 1;
+    }
+}
+
+// The set of the values of the rows from `start` to the log's end.
+pub fn make_set(a: &mut [u32], b: &mut [u32], start: usize, bt: usize) -> u32
+    requires { ⌜ Room (now b) bt ⌝ }
+    ensures { λ v. ⌜ MadeBeside (now (a .entry)) (now (a .exit)) v bt (now (b .entry)) (now (b .exit)) (setRow (part (now (b .entry)) start bt)) ⌝ }
+{
+    let q = push(b, bt, 14);
+    let e = ascending(b, q, start, bt);
+    make(a, cut(b, bt, e))
+}
+
+// The texts of a node's row with the values of the rows from `start` to `bt`, at the end `at` of the log; the end after them.
+fn paired(b: &mut [u32], at: usize, start: usize, bt: usize, r: &[u32]) -> usize
+    requires { ⌜ Room (now b) at ⌝ }
+    requires { ⌜ (start ≤ bt) × (bt ≤ at) ⌝ }
+    ensures { λ e. ⌜ Holds at (now (b .exit)) e (pushAll (take at (now (b .entry))) (pairsOf (drop 2 (now (r .entry))) (part (now (b .entry)) start bt))) ⌝ }
+{
+    let mut p = at;
+    let mut i = 2;
+    let mut q = start;
+    loop {
+        if r.len() < i + 2 {
+            break p;
+        }
+        if bt < q + 4 {
+            break p;
+        }
+        let v = read(b, q + 1);
+        p = push(b, p, r[i]);
+        p = push(b, p, v);
+        i += 2;
+        q += 4;
+    }
+}
+
+// The record of the texts of node `n` and the values of the rows from `start` to the log's end.
+pub fn make_record(a: &mut [u32], b: &mut [u32], start: usize, bt: usize, n: u32) -> u32
+    requires { ⌜ Room (now b) bt ⌝ }
+    requires { ⌜ start ≤ bt ⌝ }
+    ensures { λ v. ⌜ MadeBeside (now (a .entry)) (now (a .exit)) v bt (now (b .entry)) (now (b .exit)) (recordRow (getD (rowsOf (now (a .entry)) 11) n []) (part (now (b .entry)) start bt)) ⌝ }
+{
+    let q = push(b, bt, 15);
+    let e = paired(b, q, start, bt, row(a, NODE, n));
+    make(a, cut(b, bt, e))
+}
