@@ -1,0 +1,146 @@
+-- For every accepted complete sheet, the run over the words that hold it gives each policy the class that the Cedar specification gives it.
+use mathlib.Core.Path.{_≡_, refl, sym, _∙_, ap, ap₂, subst}
+use mathlib.Core.Bool.{cond}
+use mathlib.Core.Option.{Option, some}
+use mathlib.Core.List.{List, [], _∷_, _++_, append-assoc, append-nil}
+use Prim.Native.Nat.{ℕ, _+_, _*_, _≤_, _<_}
+use native.Mathlib.Omega.{arith}
+use lib.ListN.{length, getD}
+use Rattle.cedar.specs.Types.{Ty, Schema, Var, principal, action, resource, context}
+use Rattle.cedar.specs.Entities.{whole}
+use Rattle.cedar.specs.Rows.{Row, rent, sameRow}
+use Rattle.cedar.specs.Reads.{ReadPolicies, EnvRead}
+use Rattle.cedar.specs.Runs.{NPolicy, completeAnswer}
+use Rattle.cedar.specs.Table.{Table}
+use Rattle.cedar.specs.Numbered.{NEnv}
+use Rattle.sheet.specs.Forms.{complete, at, VALUE, ENTITY, NODE, POLICY}
+use Rattle.sheet.specs.State.{State, linesOf, count, depthsOf, valueRow}
+use Rattle.sheet.specs.Content.{types, rowsIn, valueRows, contents, schema, requestTy, given, entityLine, lineGiven, nEnv, env, nPolicies, policies}
+use Rattle.sheet.specs.Sheet.{read}
+use Rattle.sheet.specs.Answer.{results}
+use Rattle.sheet.proofs.Lines.{History, accepted-history}
+use Rattle.sheet.proofs.ValueRows.{values-table, value-back}
+use Rattle.sheet.proofs.OwnPolicies.{read-own}
+use Rattle.sheet.proofs.Environment.{Facts, thirteen}
+use Rattle.sheet.proofs.CompleteRun.{whole-read}
+use Rattle.sheet.proofs.MadeCount.{policySizes}
+use Rattle.sheet.proofs.Uses.{policies-small}
+use Rattle.sheet.proofs.Depths.{Deep, Depths, Reached, read-reached, reached-depths}
+use Rattle.table.specs.Layout.{rowsOf, rowsAt, base, held, linesHeld, MADE, TOP, limit, limits, Sound}
+use Rattle.table.proofs.Rows.{count-rows}
+use Rattle.value.specs.Lines.{valueLines}
+use Rattle.value.proofs.Interned.{Formeds, none-formed, one-formed}
+use Rattle.tpe.proofs.Stands.{Hold, Room}
+use Rattle.evaluator.specs.Run.{values, runOf, ranFrom, evalOf}
+use Rattle.evaluator.proofs.Gives.{Stand}
+use Rattle.evaluator.proofs.Steps.{sch}
+use Rattle.evaluator.proofs.Evaluates.{classesOf, policiesAt, run-classes}
+use Rattle.evaluator.proofs.Depth.{policies-whole}
+
+-- ---- texts and depths do not matter to the request and the entities, nor depths to the schema
+
+module _ (sheet a b : List ℕ) where
+  given-same : (x : Var) → given (held sheet a b) x ≡ given (held [] a []) x
+  unfolding held linesHeld
+  given-same principal = refl
+  given-same action = refl
+  given-same resource = refl
+  given-same context = refl
+
+  entity-same : (q : Row) (rows : List (List ℕ)) → entityLine (held sheet a b) q rows ≡ entityLine (held [] a []) q rows
+  unfolding held linesHeld
+  entity-same q [] = refl
+  entity-same q (r ∷ rows) = ap (λ (o : Option (List ℕ)). cond (sameRow (valueRow (getD (rowsOf a VALUE) (at r 0) [])) q) (some r) o) (entity-same q rows)
+
+  entities-same : linesOf (held sheet a b) ENTITY ≡ linesOf (held [] a []) ENTITY
+  unfolding held linesHeld
+  entities-same = refl
+
+  env-same : nEnv complete (held sheet a b) ≡ nEnv complete (held [] a [])
+  unfolding nEnv
+  env-same = λ i. record {
+    request = λ x. given-same x i;
+    line = λ k t. lineGiven complete ((entity-same (rent k t) (linesOf (held sheet a b) ENTITY) ∙ ap (entityLine (held [] a []) (rent k t)) entities-same) i);
+  }
+
+  types-same : types (held sheet a b) ≡ types (held sheet a [])
+  unfolding types held
+  types-same = refl
+
+  request-same : (ts : List Ty) (x : Var) → requestTy (held sheet a []) ts x ≡ requestTy (held sheet a b) ts x
+  unfolding held
+  request-same ts principal = refl
+  request-same ts action = refl
+  request-same ts resource = refl
+  request-same ts context = refl
+
+  schema-same : schema (held sheet a []) ≡ schema (held sheet a b)
+  unfolding schema types held
+  schema-same = λ i. record { shape = λ k. schema (held sheet a []) .shape k; bytes = λ t. schema (held sheet a []) .bytes t; request = λ x. request-same (types (held sheet a [])) x i }
+
+  nodes-held : linesOf (held sheet a b) NODE ≡ rowsOf a NODE
+  unfolding held linesHeld
+  nodes-held = refl
+
+  policies-held : linesOf (held sheet a b) POLICY ≡ rowsOf a POLICY
+  unfolding held linesHeld
+  policies-held = refl
+
+  values-held : linesOf (held sheet a b) VALUE ≡ rowsOf a VALUE
+  unfolding held linesHeld
+  values-held = refl
+
+  -- ---- the words hold an accepted complete sheet, and no value is made
+
+  module _ (f : Facts complete (held sheet a b)) (d : Depths (held sheet a b)) (sound : Sound a) (none : getD a MADE 0 ≡ 0) where
+    formeds-from : (pre rest : List (List ℕ)) → linesOf (held sheet a b) VALUE ≡ pre ++ rest → Formeds rest
+    formeds-from pre [] e = none-formed
+    formeds-from pre (r ∷ rest) e = let w = f .history VALUE pre r rest e in one-formed (value-back complete (w .line) r (w .row) (w .key)) (formeds-from (pre ++ (r ∷ [])) rest (e ∙ sym (append-assoc pre (r ∷ []) rest)))
+
+    lines-only : valueLines a ≡ linesOf (held sheet a b) VALUE
+    unfolding valueLines rowsOf rowsAt
+    lines-only = ap (λ (n : ℕ). rowsOf a VALUE ++ rowsAt a (base MADE) n) none ∙ append-nil (rowsOf a VALUE) ∙ sym values-held
+
+    start-rows : values a ≡ valueRows (held sheet a b)
+    unfolding valueRows
+    start-rows = ap rowsIn lines-only
+
+    start : Stand sheet a (env (held sheet a b)) (contents (held sheet a b)) a
+    start = record {
+      hold = record { sound = sound; formed = subst Formeds (sym lines-only) (formeds-from [] (linesOf (held sheet a b) VALUE) refl); same = λ k lt. refl };
+      table = subst (λ (R : List Row). Table R (contents (held sheet a b))) (sym start-rows) (values-table complete (held sheet a b) (f .history));
+      env = subst (λ (M : NEnv). EnvRead (contents (held sheet a b)) M (whole (env (held sheet a b)))) env-same (whole-read (held sheet a b) f);
+    }
+
+    -- the policies' trees, whole
+    all-policies : policiesAt (types (held sheet a [])) (rowsOf a NODE) (rowsOf a POLICY) ≡ nPolicies (held sheet a b)
+    all-policies =
+        ap₂ (λ (ts : List Ty) (rs : List (List ℕ)). policiesAt ts (rowsOf a NODE) rs) (sym types-same) (sym policies-held)
+        ∙ ap (λ (ns : List (List ℕ)). policiesAt (types (held sheet a b)) ns (linesOf (held sheet a b) POLICY)) (sym nodes-held)
+        ∙ policies-whole complete (held sheet a b) (f .history) (d .deep NODE)
+
+    classes-held : Room (policySizes (nPolicies (held sheet a b))) a [] → runOf sheet a [] .classes ≡ classesOf (results (held sheet a b))
+    unfolding runOf results
+    classes-held room =
+        run-classes sheet a (env (held sheet a b)) (rowsOf a POLICY) a [] (contents (held sheet a b)) start
+        (subst (λ (ps : List NPolicy). Room (policySizes ps) a []) (sym all-policies) room)
+        (subst (λ (ps : List NPolicy). ReadPolicies (contents (held sheet a b)) ps (policies (held sheet a b))) (sym all-policies) (read-own complete (held sheet a b) (f .history)))
+        ∙ ap (λ (S : Schema). classesOf (completeAnswer S (env (held sheet a b)) (policies (held sheet a b)))) schema-same
+
+    pub classes-few : policySizes (nPolicies (held sheet a b)) ≤ getD a NODE 0 → getD a TOP 0 + 5 * getD a NODE 0 ≤ 16384 → runOf sheet a [] .classes ≡ classesOf (results (held sheet a b))
+    unfolding limit limits
+    classes-few few top = let n = sound .few NODE (omega arith) in classes-held (record { top = omega (arith, few, top); few = omega (arith, few, none, n); log = omega (arith, few, n) })
+
+  nodes-count : count (held sheet a b) NODE ≡ getD a NODE 0
+  nodes-count = ap length nodes-held ∙ count-rows a NODE
+
+-- THE THEOREM: the classes of the run over words are those of the results that the Cedar specification gives
+pub complete-run : (sheet a b : List ℕ) → read complete sheet .number ≡ 0 → read complete sheet .state ≡ held sheet a b → Sound a → getD a MADE 0 ≡ 0 → getD a TOP 0 + 5 * getD a NODE 0 ≤ 16384
+    → runOf sheet a [] .classes ≡ classesOf (results (read complete sheet .state))
+complete-run sheet a b e h sound none top =
+    let (hi, fu) = accepted-history complete sheet e in
+    let f : Facts complete (held sheet a b) = subst (Facts complete) h (record { history = hi; full = fu; keys = thirteen complete sheet e }) in
+    let d : Depths (held sheet a b) = reached-depths (subst (Reached complete) h (read-reached complete sheet)) in
+    let c : policySizes (nPolicies (held sheet a b)) ≤ count (held sheet a b) NODE = subst (λ (s : State). policySizes (nPolicies s) ≤ count s NODE) h (policies-small complete sheet e) in
+    let n = nodes-count sheet a b in
+    subst (λ (s : State). runOf sheet a [] .classes ≡ classesOf (results s)) (sym h) (classes-few sheet a b f d sound none (omega (arith, c, n)) top)

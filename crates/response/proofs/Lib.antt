@@ -1,0 +1,5 @@
+pub mod Counting
+pub mod Printing
+pub mod Made
+pub mod Rooted
+pub mod Partial

@@ -1,0 +1,43 @@
+-- `response::values::made_values` meets its contract. Assumes nothing.
+use Rattle.print.proofs.Writing.{written-length}
+use Prim.Native.Nat.{_-_}
+use Rattle.response.proofs.Made.{madeFrom, made-start, made-on, made-end}
+use Rattle.response.proofs.Printing.{Printing}
+use Rattle.response.specs.Values.{madeLines}
+use borrow.Author.Needs.{needs}
+use Rattle.response.proofs.values.made_values.Statement.{statement}
+use Rattle.response.proofs.values.made_values.Tie as tie
+
+abbrev Inv-loop : tie.InvT-loop
+Inv-loop out₀ at a n i₀ k₀ out i k = Printing (madeLines a) (madeFrom a i) out₀ at out k
+
+abbrev μ-loop : tie.MeasureT-loop
+μ-loop out₀ at a n i₀ k₀ out i k = n - i
+
+loop-holds : tie.Need-loop-holds Inv-loop μ-loop
+loop-holds c = let x = c .before .before .before .args in made-start (x .a .now) (c .count .result) (c .count .ensures) (x .out .now) (x .at) (search needs) (search needs)
+
+loop-again : tie.Need-loop-again Inv-loop μ-loop
+loop-again c = search (made-on, needs)
+
+same-length : tie.Need-same-length Inv-loop μ-loop
+same-length c = written-length (c .before .loop .inv .written)
+
+returns : tie.Need-returns Inv-loop μ-loop
+returns c = search (made-end, needs)
+
+pub made-values-spec : {M : Type 1} → statement M
+made-values-spec =
+    tie.close
+    (tie.spec
+    Inv-loop
+    μ-loop
+    (λ c κs. search needs)
+    loop-holds
+    (λ c κs. search needs)
+    (λ c κs. search needs)
+    (λ c. search needs)
+    (λ c. search needs)
+    loop-again
+    same-length
+    returns)

@@ -1,0 +1,44 @@
+-- `response::values::numbers` meets its contract. Assumes nothing.
+use Rattle.print.proofs.Writing.{written-length}
+use Prim.Native.Nat.{_-_}
+use lib.ListN.{length, drop}
+use Rattle.response.specs.Values.{after}
+use Rattle.response.proofs.Made.{Along, numbers-start, numbers-on, numbers-end}
+use Rattle.sheet.specs.Answer.{numbers}
+use borrow.Author.Needs.{needs}
+use Rattle.response.proofs.values.numbers.Statement.{statement}
+use Rattle.response.proofs.values.numbers.Tie as tie
+
+abbrev Inv-loop : tie.InvT-loop
+Inv-loop out₀ at l i₀ k₀ out i k = Along (after (numbers l)) (after (numbers (drop i l))) out₀ at out k i (length l)
+
+abbrev μ-loop : tie.MeasureT-loop
+μ-loop out₀ at l i₀ k₀ out i k = length l - i
+
+loop-holds : tie.Need-loop-holds Inv-loop μ-loop
+loop-holds c = let x = c .before .before .args in numbers-start (x .l .now) (x .out .now) (x .at) (search needs) (search needs)
+
+loop-again : tie.Need-loop-again Inv-loop μ-loop
+loop-again c = search (numbers-on, needs)
+
+same-length : tie.Need-same-length Inv-loop μ-loop
+same-length c = written-length (c .before .loop .inv .print .written)
+
+returns : tie.Need-returns Inv-loop μ-loop
+returns c = search (numbers-end, needs)
+
+pub numbers-spec : {M : Type 1} → statement M
+numbers-spec =
+    tie.close
+    (tie.spec
+    Inv-loop
+    μ-loop
+    loop-holds
+    (λ c κs. search needs)
+    (λ c. search needs)
+    (λ c κs. search needs)
+    (λ c. search needs)
+    (λ c. search needs)
+    loop-again
+    same-length
+    returns)

@@ -1,0 +1,67 @@
+-- What is printed of the policies that the words hold.
+use mathlib.Core.List.{List, [], _∷_, _++_}
+use Prim.Native.Nat.{ℕ, _+_}
+use lib.ListN.{getD, drop}
+use Rattle.cedar.specs.Response.{Verdict}
+use Rattle.cedar.specs.Runs.{NVerdict}
+use Rattle.sheet.specs.Ascii.{ascii}
+use Rattle.sheet.specs.Bytes.{digits, commas}
+use Rattle.sheet.specs.Forms.{at, POLICY}
+use Rattle.sheet.specs.Sheet.{firsts}
+use Rattle.sheet.specs.Answer.{howMany, printed, concat, headLines, policyItems, completeLines, root, size}
+use Rattle.table.specs.Layout.{rowsOf}
+use Rattle.response.specs.Verdicts.{classIn, effectIn, effectIs, classIs, verdictsIn}
+use Rattle.response.specs.declared.Decision as D
+
+-- the line of the decision
+abbrev pub decisionBytes : D.Decision → List ℕ
+decisionBytes D.the-variants.Allow = printed "decision" (ascii "allow" ∷ [])
+decisionBytes D.the-variants.Deny = printed "decision" (ascii "deny" ∷ [])
+decisionBytes D.the-variants.Open = printed "decision" (ascii "open" ∷ [])
+
+-- an effect and a class by their numbers, after a comma
+abbrev pub effectBytes : ℕ → List ℕ
+effectBytes n = 44 ∷ ascii (getD ("permit" ∷ []) n "forbid")
+
+abbrev pub classBytes : ℕ → List ℕ
+classBytes n = 44 ∷ ascii (getD ("true" ∷ "false" ∷ "error" ∷ []) n "open")
+
+-- numbers with commas between them, after the byte b
+abbrev pub listed : ℕ → List ℕ → List ℕ
+listed b [] = []
+listed b (n ∷ l) = (b ∷ digits n) ++ listed 44 l
+
+-- the counts of one effect, in the answer's order
+abbrev pub fourOf : ℕ → List Verdict → List ℕ
+fourOf e ls = howMany (effectIs e) (classIs 0) ls ∷ howMany (effectIs e) (classIs 1) ls ∷ howMany (effectIs e) (classIs 2) ls ∷ howMany (effectIs e) (classIs 3) ls ∷ []
+
+-- the line of the policy of row r up to its id; with class c, up to the class
+abbrev pub idBytes : List ℕ → List ℕ
+idBytes r = ascii "policy" ++ (61 ∷ digits (at r 0))
+
+abbrev pub policyOf : List ℕ → ℕ → List ℕ
+policyOf r c = ascii "policy" ++ (61 ∷ commas (policyItems (at r 0) (effectIn r) (classIn c) []))
+
+unfoldable pub policyAt : List ℕ → List ℕ → ℕ → List ℕ
+policyAt a cs i = policyOf (getD (rowsOf a POLICY) i []) (getD cs i 0)
+
+-- the policies of a complete answer, with the ids of their rows
+unfoldable pub policyLines : List ℕ → List ℕ → List (List ℕ)
+policyLines a cs = completeLines (firsts (rowsOf a POLICY)) (verdictsIn a cs)
+
+-- a complete answer
+unfoldable pub completeBytes : List ℕ → List ℕ → List ℕ
+completeBytes a cs = concat (headLines (verdictsIn a cs) ++ policyLines a cs)
+
+-- the policies of a partial answer: rows, and a word of class and the number of the root for each
+abbrev pub rootedOf : List (List ℕ) → List ℕ → List ℕ → List (List ℕ)
+rootedOf [] cs es = []
+rootedOf (r ∷ rs) cs es = printed "policy" (policyItems (at r 0) (effectIn r) (classIn (getD cs 0 0)) (digits (getD es 0 0) ∷ [])) ∷ rootedOf rs (drop 1 cs) (drop 1 es)
+
+unfoldable pub rootedLines : List ℕ → List ℕ → List ℕ → List (List ℕ)
+rootedLines a cs es = rootedOf (rowsOf a POLICY) cs es
+
+-- the roots of the lines of a run, whose nodes are numbered from n
+abbrev pub rootsOf : ℕ → List NVerdict → List ℕ
+rootsOf n [] = []
+rootsOf n (l ∷ ls) = root n (l .root) ∷ rootsOf (n + size (l .root)) ls

@@ -1,0 +1,51 @@
+-- What each policy is called, from its row and the word of its class.
+use mathlib.Core.Bool.{Bool}
+use mathlib.Core.List.{List, [], _∷_}
+use Prim.Native.Nat.{ℕ}
+use lib.Dec.{eqb}
+use lib.ListN.{getD, drop}
+use Rattle.cedar.specs.Residual.{Class, ctrue, cfalse, cerror, copen}
+use Rattle.cedar.specs.Response.{Effect, permit, forbid, Verdict, Decision, allow, deny, undecided}
+use Rattle.sheet.specs.Forms.{at, POLICY}
+use Rattle.sheet.specs.Content.{effectOf}
+use Rattle.table.specs.Layout.{rowsOf}
+use Rattle.response.specs.declared.Decision as D
+
+-- a class by its number: 0 true, 1 false, 2 error, 3 open
+abbrev pub classIn : ℕ → Class
+classIn n = getD (ctrue ∷ cfalse ∷ cerror ∷ copen ∷ []) n copen
+
+abbrev pub classNumber : Class → ℕ
+classNumber ctrue = 0
+classNumber cfalse = 1
+classNumber cerror = 2
+classNumber copen = 3
+
+-- the effect that a policy's row says: 0 permit, 1 forbid
+abbrev pub effectIn : List ℕ → Effect
+effectIn r = effectOf (at r 1)
+
+abbrev pub effectNumber : Effect → ℕ
+effectNumber permit = 0
+effectNumber forbid = 1
+
+abbrev pub effectIs : ℕ → Effect → Bool
+effectIs n e = eqb (effectNumber e) n
+
+abbrev pub classIs : ℕ → Class → Bool
+classIs n c = eqb (classNumber c) n
+
+-- the policies of these rows, with a word of class for each
+abbrev pub verdictsOf : List (List ℕ) → List ℕ → List Verdict
+verdictsOf [] cs = []
+verdictsOf (r ∷ rs) cs = record { effect = effectIn r; class = classIn (getD cs 0 0) } ∷ verdictsOf rs (drop 1 cs)
+
+-- the policies of a sheet that the words a hold
+unfoldable pub verdictsIn : List ℕ → List ℕ → List Verdict
+verdictsIn a cs = verdictsOf (rowsOf a POLICY) cs
+
+-- the decision as the code says it
+abbrev pub said : Decision → D.Decision
+said allow = D.the-variants.Allow
+said deny = D.the-variants.Deny
+said undecided = D.the-variants.Open

@@ -1,0 +1,112 @@
+// The values that a run made, printed as the sheet's values are.
+use crate::answer::number_after;
+use print::byte;
+use print::bytes;
+use print::long;
+use table::count;
+use table::item;
+use table::row;
+use table::MADE;
+use value::members;
+use value::shape_of;
+use value::Shape;
+ghost use mathlib.Core.List.{_∷_, _++_};
+ghost use Rattle.print.specs.Written.{Written};
+ghost use Rattle.sheet.specs.Ascii.{ascii};
+ghost use Rattle.sheet.specs.Bytes.{commas};
+ghost use Rattle.sheet.specs.Forms.{items};
+ghost use Rattle.sheet.specs.State.{entriesOf};
+ghost use Rattle.sheet.specs.Answer.{numbers, entryItems, valueItems};
+ghost use Rattle.value.specs.Shapes.{shapeRow};
+ghost use Rattle.response.specs.Values.{after, valueLine, madeLines};
+
+// Numbers, each after a comma.
+pub fn numbers(out: &mut [u8], at: usize, l: &[u32]) -> usize
+    ensures { λ r. ⌜ Written (now (out .entry)) at (after (numbers (now (l .entry)))) (now (out .exit)) r ⌝ }
+{
+    let mut i = 0;
+    let mut k = at;
+    while i < l.len() {
+        let x = item(l, i) as u64;
+        k = number_after(out, k, 44, x);
+        i += 1;
+    }
+    k
+}
+
+// A record's texts and values in turn, each after a comma.
+fn entries(out: &mut [u8], at: usize, l: &[u32]) -> usize
+    ensures { λ r. ⌜ Written (now (out .entry)) at (after (entryItems (entriesOf (now (l .entry))))) (now (out .exit)) r ⌝ }
+{
+    let mut i = 0;
+    let mut k = at;
+    while l.len() - i >= 2 {
+        let x = item(l, i) as u64;
+        let y = item(l, i + 1) as u64;
+        let m = number_after(out, k, 44, x);
+        k = number_after(out, m, 44, y);
+        i += 2;
+    }
+    k
+}
+
+// What a value of this shape and these items says.
+fn said(out: &mut [u8], at: usize, s: Shape, l: &[u32]) -> usize
+    ensures { λ r. ⌜ Written (now (out .entry)) at (commas (valueItems (shapeRow s (now (l .entry))))) (now (out .exit)) r ⌝ }
+{
+    match s {
+        Shape::Bool(b) => {
+            if b {
+                return bytes(out, at, b"bool,1");
+            }
+            bytes(out, at, b"bool,0")
+        }
+        Shape::Long(w) => {
+            let k = bytes(out, at, b"long,");
+            long(out, k, w)
+        }
+        Shape::Text(t) => {
+            let k = bytes(out, at, b"text");
+            number_after(out, k, 44, t as u64)
+        }
+        Shape::Entity(e, t) => {
+            let k = bytes(out, at, b"entity");
+            let m = number_after(out, k, 44, e as u64);
+            number_after(out, m, 44, t as u64)
+        }
+        Shape::Set => {
+            let k = bytes(out, at, b"set");
+            numbers(out, k, l)
+        }
+        Shape::Record => {
+            let k = bytes(out, at, b"record");
+            entries(out, k, l)
+        }
+    }
+}
+
+// The line of a value's row.
+pub fn value_line(out: &mut [u8], at: usize, r: &[u32]) -> usize
+    ensures { λ e. ⌜ Written (now (out .entry)) at (valueLine (now (r .entry))) (now (out .exit)) e ⌝ }
+{
+    let s = shape_of(r);
+    let l = members(r);
+    let k = bytes(out, at, b"value=");
+    let m = said(out, k, s, l);
+    byte(out, m, 10)
+}
+
+// The lines of all values made.
+pub fn made_values(out: &mut [u8], at: usize, a: &[u32]) -> usize
+    ensures { λ r. ⌜ Written (now (out .entry)) at (madeLines (now (a .entry))) (now (out .exit)) r ⌝ }
+{
+    let n = count(a, MADE);
+    let mut i = 0;
+    let mut k = at;
+    while i < n {
+        let r = row(a, MADE, i);
+        k = value_line(out, k, r);
+        i += 1;
+    }
+    k
+}
