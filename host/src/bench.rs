@@ -1,0 +1,130 @@
+//! The benchmark: the library beside the original, on the same sheets, in one process.
+//!
+//! A time is the least of several rounds, each of as many calls as take some hundredths of a second, by the processor's
+//! clock of this process, so that other processes disturb it little. What is timed of the original is all that a call does: reading the sheet (the host's reader, since the original has none), the
+//! original's own text, and printing. The column "reading" says how much of it is the host's reader.
+
+use std::hint::black_box;
+
+use crate::compare::Call;
+use crate::heavy;
+use crate::run;
+use crate::sheet::{self, Mode, WORK_WORDS};
+
+extern "C" {
+    /// C's `clock`: the processor time of the process, on Unix in millionths of a second.
+    fn clock() -> std::ffi::c_long;
+}
+
+/// The processor time until now, in seconds.
+fn now() -> f64 {
+    // The function has no arguments and touches nothing of ours.
+    unsafe { clock() as f64 / 1e6 }
+}
+
+/// The least time of one go of `work`, in nanoseconds.
+fn time(rounds: usize, mut work: impl FnMut()) -> f64 {
+    let start = now();
+    work();
+    work();
+    let once = ((now() - start) / 2.0).max(1e-6);
+    let goes = (0.02 / once).ceil().max(1.0) as usize;
+    let mut best = f64::MAX;
+    for _ in 0..rounds {
+        let start = now();
+        for _ in 0..goes {
+            work();
+        }
+        best = best.min((now() - start) / goes as f64);
+    }
+    best * 1e9
+}
+
+struct Times {
+    original: f64,
+    reading: f64,
+    library: Option<f64>,
+    bytes: usize,
+    sheets: usize,
+}
+
+fn measure(sheets: &[(Mode, Vec<u8>)], library: Option<Call>, rounds: usize) -> Times {
+    let mut out = vec![0u8; 65536];
+    let (mut a, mut b) = (vec![0u32; WORK_WORDS], vec![0u32; WORK_WORDS]);
+    let mut times = Times { original: 0.0, reading: 0.0, library: None, bytes: 0, sheets: sheets.len() };
+    for (mode, sheet) in sheets {
+        assert_eq!(run::call(*mode, sheet, &mut a, &mut b, &mut out)[0], 0, "a sheet of the benchmark is accepted");
+        times.bytes += sheet.len();
+        times.original += time(rounds, || {
+            black_box(run::call(*mode, black_box(sheet), &mut a, &mut b, &mut out));
+        });
+        times.reading += time(rounds, || {
+            let _ = black_box(sheet::read(*mode, black_box(sheet)));
+        });
+        if let Some(call) = library {
+            assert_eq!(call(*mode, sheet, &mut a, &mut b, &mut out)[0], 0, "a sheet of the benchmark is accepted");
+            let one = time(rounds, || {
+                black_box(call(*mode, black_box(sheet), &mut a, &mut b, &mut out));
+            });
+            times.library = Some(times.library.unwrap_or(0.0) + one);
+        }
+    }
+    times
+}
+
+fn row(name: &str, times: &Times) {
+    let sheets = times.sheets as f64;
+    let (library, per_byte, ratio) = match times.library {
+        Some(library) => (
+            format!("{:.0}", library / sheets),
+            format!("{:.2}", library / times.bytes as f64),
+            format!("{:.1}", times.original / library),
+        ),
+        None => ("-".into(), "-".into(), "-".into()),
+    };
+    println!(
+        "| {name} | {:.0} | {:.0} | {:.1} | {:.0} | {library} | {per_byte} | {ratio} |",
+        times.bytes as f64 / sheets,
+        times.original / sheets,
+        times.original / times.bytes as f64,
+        times.reading / sheets,
+    );
+}
+
+pub fn bench(library: Option<Call>, rounds: usize) {
+    let head = "| sheets | bytes a sheet | original, ns a sheet | original, ns a byte | of it reading, ns a sheet | library, ns a sheet | library, ns a byte | ratio |";
+    println!("{head}\n|---|---|---|---|---|---|---|---|");
+    let mixed: Vec<(Mode, Vec<u8>)> = (0..60).map(|n| (Mode::Partial, heavy::mixed(4, n))).collect();
+    row("60 random valid ones", &measure(&mixed, library, rounds));
+    let mut whole = None;
+    for size in [1024, 2048, 4096, 8192, 16384] {
+        let times = measure(&[(Mode::Partial, heavy::ordinary(size))], library, rounds);
+        row(&format!("ordinary, {size} bytes"), &times);
+        whole = Some(times);
+    }
+    let whole = whole.expect("the largest ordinary sheet");
+    println!();
+    println!("| heavy accepted sheet | bytes | original, ns | times the ordinary one of 16,384 bytes | library, ns | times the ordinary one | ratio |");
+    println!("|---|---|---|---|---|---|---|");
+    let mut greatest = 0.0f64;
+    for (name, mode, sheet) in heavy::all() {
+        let times = measure(&[(mode, sheet)], library, rounds);
+        let (time, share, ratio) = match (times.library, whole.library) {
+            (Some(library), Some(ordinary)) => {
+                greatest = greatest.max(library / ordinary);
+                (format!("{library:.0}"), format!("{:.1}", library / ordinary), format!("{:.1}", times.original / library))
+            }
+            _ => ("-".into(), "-".into(), "-".into()),
+        };
+        println!(
+            "| {name} | {} | {:.0} | {:.1} | {time} | {share} | {ratio} |",
+            times.bytes,
+            times.original,
+            times.original / whole.original
+        );
+    }
+    match library {
+        Some(_) => println!("\nthe heaviest takes the library {greatest:.1} times an ordinary sheet of 16,384 bytes"),
+        None => println!("\nthe library is not linked: the original alone was measured"),
+    }
+}

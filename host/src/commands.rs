@@ -1,0 +1,265 @@
+//! The commands of the host.
+
+use std::fs;
+use std::io::{Read, Write};
+use std::path::Path;
+use std::process::ExitCode;
+
+use crate::compare::{self, Call};
+use crate::generate;
+use crate::run;
+use crate::sheet::Mode;
+use crate::{bench, heavy, replay};
+
+const HELP: &str = "host answer partial|complete < SHEET   the original's answer, or refused=number,line,length
+host cases DIR                         each NAME.MODE.sheet of DIR against NAME.MODE.expect or NAME.MODE.sheet.out
+host random N SEED [DIR]               N random sheets, counted; with DIR also written there, with their answers
+host show SEED N                       the N-th sheet of a seed, and its answer
+host show-triple SEED N                the N-th triple of a seed, and its answers
+host compare N SEED                    the library against the original on N sheets and N/4 triples
+host self N SEED                       the same with the original on both sides: a check of the comparison itself
+host replay FILE                       writes the fixed list of sheets and answers
+host replay-check FILE                 runs a written list, with the library where it is linked
+host bench [ROUNDS]                    times, in two tables
+host heavy DIR                         writes the sheets of the benchmark
+host about                             what the host was built with";
+
+#[cfg(feature = "library")]
+fn library() -> Option<Call> {
+    Some(crate::library::call)
+}
+
+#[cfg(not(feature = "library"))]
+fn library() -> Option<Call> {
+    None
+}
+
+pub fn run(args: &[&str]) -> ExitCode {
+    match args {
+        ["answer", mode @ ("partial" | "complete")] => answer(if *mode == "partial" { Mode::Partial } else { Mode::Complete }),
+        ["cases", folder] => cases(Path::new(folder)),
+        ["random", count, seed] => random(number(count), number(seed), None),
+        ["random", count, seed, folder] => random(number(count), number(seed), Some(Path::new(folder))),
+        ["show", seed, n] => {
+            let case = generate::sheet(number(seed), number(n));
+            println!("entry {}", case.mode.word());
+            show(case.mode, &case.bytes);
+            ExitCode::SUCCESS
+        }
+        ["show-triple", seed, n] => {
+            let sheets = generate::triple(number(seed), number(n));
+            for (n, sheet) in sheets.iter().enumerate() {
+                show(if n == 0 { Mode::Partial } else { Mode::Complete }, sheet);
+            }
+            ExitCode::SUCCESS
+        }
+        ["compare", count, seed] => match library() {
+            Some(call) => compared("the library", call, number(count), number(seed)),
+            None => {
+                println!("The library is not linked: build with --features library (README.md).");
+                ExitCode::from(3)
+            }
+        },
+        ["self", count, seed] => compared("the original", run::call, number(count), number(seed)),
+        ["replay", file] => {
+            let (bytes, line) = replay::list();
+            fs::write(file, bytes).expect("the list is written");
+            println!("{line}");
+            ExitCode::SUCCESS
+        }
+        ["replay-check", file] => {
+            let bytes = fs::read(file).expect("the list is read");
+            match replay::check(&bytes, library().unwrap_or(run::call)) {
+                Some((records, differences)) => {
+                    println!("{records} records, {differences} differences");
+                    if differences == 0 {
+                        ExitCode::SUCCESS
+                    } else {
+                        ExitCode::FAILURE
+                    }
+                }
+                None => {
+                    println!("the list does not read back");
+                    ExitCode::FAILURE
+                }
+            }
+        }
+        ["bench"] => {
+            bench::bench(library(), 5);
+            ExitCode::SUCCESS
+        }
+        ["bench", rounds] => {
+            bench::bench(library(), number(rounds) as usize);
+            ExitCode::SUCCESS
+        }
+        ["heavy", folder] => heavy_sheets(Path::new(folder)),
+        ["about"] => {
+            println!("the original text: {}", original::SOURCE);
+            println!("the library: {}", if library().is_some() { "linked" } else { "not linked" });
+            ExitCode::SUCCESS
+        }
+        _ => {
+            println!("{HELP}");
+            ExitCode::from(2)
+        }
+    }
+}
+
+fn number(text: &str) -> u64 {
+    text.parse().unwrap_or_else(|_| panic!("{text} is no number"))
+}
+
+/// What the program prints for a sheet.
+fn printed(mode: Mode, sheet: &[u8]) -> Vec<u8> {
+    match run::answer(mode, sheet) {
+        Ok(answer) => answer,
+        Err(refusal) => format!("refused={},{},{}\n", refusal.number, refusal.line, refusal.length).into_bytes(),
+    }
+}
+
+fn write(bytes: &[u8]) {
+    std::io::stdout().write_all(bytes).expect("standard output takes it");
+}
+
+fn answer(mode: Mode) -> ExitCode {
+    let mut sheet = Vec::new();
+    std::io::stdin().read_to_end(&mut sheet).expect("standard input gives it");
+    write(&printed(mode, &sheet));
+    ExitCode::SUCCESS
+}
+
+fn show(mode: Mode, sheet: &[u8]) {
+    write(sheet);
+    println!("---");
+    write(&printed(mode, sheet));
+    println!("---");
+}
+
+/// The sheets of the benchmark as files, with their answers.
+fn heavy_sheets(folder: &Path) -> ExitCode {
+    fs::create_dir_all(folder).expect("the folder is made");
+    let mut sheets: Vec<(String, Mode, Vec<u8>)> =
+        [1024, 2048, 4096, 8192, 16384].map(|size| (format!("ordinary-{size}"), Mode::Partial, heavy::ordinary(size))).to_vec();
+    for (n, (name, mode, sheet)) in heavy::all().into_iter().enumerate() {
+        println!("heavy-{n}: {name}");
+        sheets.push((format!("heavy-{n}"), mode, sheet));
+    }
+    for (name, mode, sheet) in sheets {
+        let base = folder.join(name).display().to_string();
+        fs::write(format!("{base}.{}.sheet", mode.word()), &sheet).expect("a sheet is written");
+        fs::write(format!("{base}.{}.host", mode.word()), printed(mode, &sheet)).expect("an answer is written");
+    }
+    ExitCode::SUCCESS
+}
+
+fn compared(name: &str, call: Call, count: u64, seed: u64) -> ExitCode {
+    let counts = compare::compare(call, count, seed);
+    println!("{name} against the original, seed {seed}: {}", counts.line());
+    if counts.differences == 0 {
+        ExitCode::SUCCESS
+    } else {
+        ExitCode::FAILURE
+    }
+}
+
+/// Known sheets, each with its expected text, and one of them in several buffers.
+fn cases(folder: &Path) -> ExitCode {
+    let mut names: Vec<String> = fs::read_dir(folder)
+        .expect("the folder is there")
+        .map(|entry| entry.expect("an entry").path().display().to_string())
+        .collect();
+    names.sort();
+    let (mut count, mut differences) = (0, 0);
+    for name in names {
+        let mode = match name {
+            ref name if name.ends_with(".partial.sheet") => Mode::Partial,
+            ref name if name.ends_with(".complete.sheet") => Mode::Complete,
+            _ => continue,
+        };
+        let stem = name.strip_suffix(".sheet").expect("it ends so");
+        let Ok(expected) = fs::read(format!("{stem}.expect")).or(fs::read(format!("{name}.out"))) else {
+            println!("{name}: no expected text");
+            differences += 1;
+            continue;
+        };
+        let sheet = fs::read(&name).expect("the sheet is read");
+        count += 1;
+        if printed(mode, &sheet) != expected {
+            differences += 1;
+            println!("{name} differs");
+        }
+        if stem.ends_with("/example.partial") {
+            let (more, wrong) = lent_cases(&sheet, &expected);
+            count += more;
+            differences += wrong;
+        }
+    }
+    println!("{count} cases, {differences} differences");
+    if differences == 0 {
+        ExitCode::SUCCESS
+    } else {
+        ExitCode::FAILURE
+    }
+}
+
+/// The known sheet with an exact, a short and no buffer, and with a short work slice.
+fn lent_cases(sheet: &[u8], expected: &[u8]) -> (usize, usize) {
+    let needed = expected.len() as u32;
+    let call = |sheet: &[u8], work: usize, out: usize| {
+        let (mut a, mut b, mut buffer) = (vec![1; work], vec![1; 16384], vec![1; out]);
+        run::call(Mode::Partial, sheet, &mut a, &mut b, &mut buffer)
+    };
+    let checks = [
+        (call(sheet, 16384, expected.len()), [0, 0, needed]),
+        (call(sheet, 16384, expected.len() - 1), [10, 0, needed]),
+        (call(sheet, 16384, 0), [10, 0, needed]),
+        (call(b"", 16383, 0), [1, 0, 0]),
+        (call(b"", 16384, 0), [3, 1, 0]),
+    ];
+    (checks.len(), checks.iter().filter(|(got, wanted)| got != wanted).count())
+}
+
+/// Random sheets: counts, demand 3 on triples, and perhaps files.
+fn random(count: u64, seed: u64, folder: Option<&Path>) -> ExitCode {
+    if let Some(folder) = folder {
+        fs::create_dir_all(folder).expect("the folder is made");
+    }
+    let mut numbers = [0; 11];
+    let put = |name: String, mode: Mode, sheet: &[u8]| {
+        if let Some(folder) = folder {
+            let base = folder.join(format!("{name}.{}", mode.word()));
+            fs::write(base.with_extension(format!("{}.sheet", mode.word())), sheet).expect("a sheet is written");
+            fs::write(base.with_extension(format!("{}.host", mode.word())), printed(mode, sheet)).expect("an answer is written");
+        }
+    };
+    for n in 0..count {
+        let case = generate::sheet(seed, n);
+        let number = run::answer(case.mode, &case.bytes).map_or_else(|refusal| refusal.number, |_| 0);
+        numbers[number as usize] += 1;
+        put(format!("s{seed}-{n}"), case.mode, &case.bytes);
+    }
+    let mut faults = 0;
+    for n in 0..count / 4 {
+        let sheets = generate::triple(seed, n);
+        let answers: Vec<Vec<u8>> = sheets
+            .iter()
+            .enumerate()
+            .map(|(which, sheet)| {
+                let mode = if which == 0 { Mode::Partial } else { Mode::Complete };
+                put(format!("t{seed}-{n}-{which}"), mode, sheet);
+                printed(mode, sheet)
+            })
+            .collect();
+        if let Err(text) = run::demand3([&sheets[0], &sheets[1], &sheets[2]], [&answers[0], &answers[1], &answers[2]]) {
+            faults += 1;
+            println!("triple {n}: {text}");
+        }
+    }
+    let words: Vec<String> = numbers.iter().enumerate().map(|(n, count)| format!("{n}:{count}")).collect();
+    println!("{count} sheets, numbers {}; {} triples, {faults} against demand 3", words.join(" "), count / 4);
+    if faults == 0 {
+        ExitCode::SUCCESS
+    } else {
+        ExitCode::FAILURE
+    }
+}

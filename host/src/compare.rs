@@ -1,0 +1,209 @@
+//! The comparison: the proved library beside the original, on random sheets, in whatever is lent.
+//!
+//! For each sheet both are lent buffers of the same lengths with the same contents, longer and shorter ones among them,
+//! inside larger buffers. After the calls all of it must be equal: number, line, length, bytes written and not written,
+//! words cleared and not touched, and what lies beside the lent parts. On triples of a partial sheet and two complete
+//! ones that agree with it, demand 3 is run from the bytes of the three answers.
+
+use crate::generate::{self, Case};
+use crate::random::Random;
+use crate::run;
+use crate::sheet::{Mode, WORK_WORDS};
+
+pub type Call = fn(Mode, &[u8], &mut [u32], &mut [u32], &mut [u8]) -> [u32; 3];
+
+/// What lies on each side of a lent part.
+const MARGIN: usize = 16;
+
+/// Buffers as they are lent to one call: each with a margin before and after it.
+#[derive(Clone, PartialEq)]
+struct Lent {
+    a: Vec<u32>,
+    b: Vec<u32>,
+    out: Vec<u8>,
+}
+
+impl Lent {
+    fn of(a: usize, b: usize, out: usize, random: &mut Random) -> Lent {
+        let (word, byte) = (random.next() as u32 | 1, random.next() as u8 | 128);
+        let words = |len: usize, word: u32| (0..len + 2 * MARGIN).map(|i| word.wrapping_add(i as u32) | 1).collect();
+        Lent { a: words(a, word), b: words(b, !word), out: vec![byte; out + 2 * MARGIN] }
+    }
+
+    fn call(&mut self, call: Call, case: &Case) -> [u32; 3] {
+        let (a, b, out) = (self.a.len() - MARGIN, self.b.len() - MARGIN, self.out.len() - MARGIN);
+        call(case.mode, &case.bytes, &mut self.a[MARGIN..a], &mut self.b[MARGIN..b], &mut self.out[MARGIN..out])
+    }
+}
+
+/// Counts of a comparison.
+#[derive(Default)]
+pub struct Counts {
+    pub sheets: usize,
+    pub triples: usize,
+    pub differences: usize,
+    pub numbers: [usize; 11],
+}
+
+impl Counts {
+    pub fn line(&self) -> String {
+        let numbers: Vec<String> = self.numbers.iter().enumerate().map(|(n, count)| format!("{n}:{count}")).collect();
+        format!(
+            "{} sheets, {} triples, {} differences; numbers {}",
+            self.sheets,
+            self.triples,
+            self.differences,
+            numbers.join(" ")
+        )
+    }
+}
+
+/// The length of a work slice: mostly as long as needed or longer, at times too short.
+fn work_length(random: &mut Random) -> usize {
+    match random.below(100) {
+        0..=69 => WORK_WORDS,
+        70..=97 => WORK_WORDS + random.from(1, 80),
+        98 => WORK_WORDS - 1,
+        _ => random.below(WORK_WORDS),
+    }
+}
+
+/// The length of an answer buffer, around the length of the answer.
+fn buffer_length(needed: usize, random: &mut Random) -> usize {
+    match random.below(100) {
+        0..=39 => needed,
+        40..=74 => needed + random.from(1, 100),
+        75..=79 => 65536,
+        80..=87 => needed.saturating_sub(1),
+        88..=91 => 0,
+        _ => random.below(needed + 1),
+    }
+}
+
+/// Runs both on one sheet and says what differs.
+fn one(call: Call, case: &Case, random: &mut Random, counts: &mut Counts) -> Option<String> {
+    let needed = run::answer(case.mode, &case.bytes).map_or(40, |answer| answer.len());
+    let mut expected = Lent::of(work_length(random), work_length(random), buffer_length(needed, random), random);
+    let mut found = expected.clone();
+    let wanted = expected.call(run::call, case);
+    let got = found.call(call, case);
+    counts.sheets += 1;
+    counts.numbers[wanted[0] as usize] += 1;
+    if got != wanted {
+        return Some(format!("returned {got:?}, expected {wanted:?}"));
+    }
+    if found.out != expected.out {
+        let at = found.out.iter().zip(&expected.out).position(|(x, y)| x != y).expect("a place");
+        return Some(format!("answer buffer differs at byte {} of {}", at as i64 - MARGIN as i64, found.out.len() - 2 * MARGIN));
+    }
+    for (name, x, y) in [("first", &found.a, &expected.a), ("second", &found.b, &expected.b)] {
+        if let Some(at) = x.iter().zip(y).position(|(x, y)| x != y) {
+            return Some(format!("{name} work slice differs at word {} of {}", at as i64 - MARGIN as i64, x.len() - 2 * MARGIN));
+        }
+    }
+    None
+}
+
+/// The three answers of a triple, and demand 3 over them.
+fn triple(call: Call, sheets: &[Vec<u8>; 3], random: &mut Random) -> Option<String> {
+    let mut answers: Vec<Vec<u8>> = Vec::new();
+    for (n, sheet) in sheets.iter().enumerate() {
+        let mode = if n == 0 { Mode::Partial } else { Mode::Complete };
+        let case = Case { mode, bytes: sheet.clone() };
+        let mut lent = Lent::of(WORK_WORDS, WORK_WORDS + random.below(3), 65536, random);
+        let [number, line, length] = lent.call(call, &case);
+        if number != 0 {
+            return Some(format!("sheet {n} of a triple is refused: {number},{line},{length}"));
+        }
+        answers.push(lent.out[MARGIN..MARGIN + length as usize].to_vec());
+    }
+    run::demand3([&sheets[0], &sheets[1], &sheets[2]], [&answers[0], &answers[1], &answers[2]]).err()
+}
+
+/// Compares on so many sheets of a seed, and on a triple for every fourth.
+pub fn compare(call: Call, count: u64, seed: u64) -> Counts {
+    let mut counts = Counts::default();
+    let report = |counts: &mut Counts, text: String| {
+        counts.differences += 1;
+        if counts.differences <= 20 {
+            println!("{text}");
+        }
+    };
+    for n in 0..count {
+        let case = generate::sheet(seed, n);
+        let random = &mut Random::of(!seed, n);
+        if let Some(text) = one(call, &case, random, &mut counts) {
+            report(&mut counts, format!("seed {seed}, sheet {n}: {text} (host show {seed} {n})"));
+        }
+        if n % 4 == 0 {
+            counts.triples += 1;
+            if let Some(text) = triple(call, &generate::triple(seed, n), random) {
+                report(&mut counts, format!("seed {seed}, triple {n}: {text} (host show-triple {seed} {n})"));
+            }
+        }
+    }
+    counts
+}
+
+#[cfg(test)]
+mod tests {
+    use super::*;
+
+    fn differences(call: Call) -> usize {
+        compare(call, 60, 5).differences
+    }
+
+    #[test]
+    fn the_original_agrees_with_itself() {
+        assert_eq!(differences(run::call), 0);
+    }
+
+    #[test]
+    fn a_word_left_uncleared_is_found() {
+        assert!(
+            differences(|mode, sheet, a, b, out| {
+                let result = run::call(mode, sheet, a, b, out);
+                if result[0] != 1 {
+                    b[WORK_WORDS - 1] = 9;
+                }
+                result
+            }) > 0
+        );
+    }
+
+    #[test]
+    fn a_word_cleared_too_many_is_found() {
+        assert!(
+            differences(|mode, sheet, a, b, out| {
+                let result = run::call(mode, sheet, a, b, out);
+                if result[0] != 1 && a.len() > WORK_WORDS {
+                    a[WORK_WORDS] = 0;
+                }
+                result
+            }) > 0
+        );
+    }
+
+    #[test]
+    fn a_byte_past_the_answer_is_found() {
+        assert!(
+            differences(|mode, sheet, a, b, out| {
+                let result = run::call(mode, sheet, a, b, out);
+                if let Some(byte) = out.get_mut(result[2] as usize) {
+                    *byte = b'x';
+                }
+                result
+            }) > 0
+        );
+    }
+
+    #[test]
+    fn another_line_is_found() {
+        assert!(
+            differences(|mode, sheet, a, b, out| {
+                let [number, line, length] = run::call(mode, sheet, a, b, out);
+                [number, if line > 20 { line - 1 } else { line }, length]
+            }) > 0
+        );
+    }
+}

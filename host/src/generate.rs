@@ -1,0 +1,1047 @@
+//! Random sheets: valid ones with every operation, complete ones that agree with a partial one, and damaged ones.
+
+use crate::draft::{bytes_of, Draft};
+use crate::random::Random;
+use crate::sheet::{EntityRow, Mode, One, Operation, ShapeRow, Two, TypeRow, ValueRow, Variable};
+
+/// A sheet and the entry that it is handed to.
+pub struct Case {
+    pub mode: Mode,
+    pub bytes: Vec<u8>,
+}
+
+/// The sheet of place `n` under a seed: valid or damaged.
+pub fn sheet(seed: u64, n: u64) -> Case {
+    let random = &mut Random::of(seed, n);
+    let draft = valid(random);
+    match random.below(100) {
+        0 => Case { mode: Mode::Partial, bytes: garbage(random) },
+        1..=39 => case(&draft),
+        40..=54 => case(&completion(&draft, random)),
+        55..=79 => {
+            let draft = if random.chance(70) { draft } else { completion(&draft, random) };
+            let mut lines = draft.lines();
+            damage(&mut lines, random);
+            if random.chance(15) {
+                damage(&mut lines, random);
+            }
+            let mode = if random.chance(2) { other(draft.mode) } else { draft.mode };
+            let mut bytes = bytes_of(&lines);
+            damage_bytes(&mut bytes, random);
+            Case { mode, bytes }
+        }
+        80..=89 => damaged_draft(draft, random),
+        _ => at_limit(random),
+    }
+}
+
+/// A partial sheet and two complete ones that agree with it.
+pub fn triple(seed: u64, n: u64) -> [Vec<u8>; 3] {
+    let random = &mut Random::of(seed, n);
+    let partial = valid(random);
+    let second = completion(&partial, random);
+    let third = completion(&partial, random);
+    [partial.bytes(), second.bytes(), third.bytes()]
+}
+
+fn case(draft: &Draft) -> Case {
+    Case { mode: draft.mode, bytes: draft.bytes() }
+}
+
+fn other(mode: Mode) -> Mode {
+    match mode {
+        Mode::Partial => Mode::Complete,
+        Mode::Complete => Mode::Partial,
+    }
+}
+
+// Valid sheets -----------------------------------------------------------------------------------------------------------
+
+const WORDS: [&[u8]; 24] = [
+    b"", b"a", b"b", b"ab", b"ba", b"aab", b"abab", b"*", b"a*b", b",", b"=", b"?", b"-", b"a,b", b"0", b"text=a", b"~", b" ",
+    b"Broker", b"Tariff", b"quote", b"T1", b"region", b"low",
+];
+
+const LONGS: [i64; 14] = [0, 1, -1, 2, 3, 7, -5, 10, 64, i64::MAX, i64::MIN, i64::MAX - 1, i64::MIN + 1, 3037000500];
+
+fn random_text(random: &mut Random) -> Vec<u8> {
+    if random.chance(60) {
+        return random.pick(&WORDS).to_vec();
+    }
+    let length = if random.chance(3) { random.from(100, 128) } else { random.from(1, 8) };
+    let letters: &[u8] = if random.chance(50) { b"ab*" } else { b"abcdefgh ,=?*-" };
+    (0..length).map(|_| random.pick(letters)).collect()
+}
+
+/// Some distinct numbers below `count`, ascending.
+fn some(random: &mut Random, count: usize, most: usize) -> Vec<u32> {
+    let mut numbers: Vec<u32> = (0..random.from(0, most.min(count))).map(|_| random.below(count) as u32).collect();
+    numbers.sort();
+    numbers.dedup();
+    numbers
+}
+
+/// A partial sheet without fault.
+pub fn valid(random: &mut Random) -> Draft {
+    let mut draft = Draft::new();
+    let texts = random.from(5, 14);
+    while draft.texts.len() < texts {
+        let text = random_text(random);
+        draft.text(&text);
+    }
+    random_schema(&mut draft, random);
+    for _ in 0..random.from(0, 6) {
+        let ty = random.below(draft.types.len()) as u32;
+        value_for(&mut draft, random, ty);
+    }
+    if random.chance(20) {
+        let items =
+            some(random, draft.values.len().max(1), 3).into_iter().filter(|v| (*v as usize) < draft.values.len()).collect();
+        draft.value(ValueRow::Set(items));
+    }
+    random_request(&mut draft, random);
+    let size = [20, 60, 150][random.below(3)];
+    random_policies(&mut draft, random, size);
+    random_entities(&mut draft, random, 60);
+    draft
+}
+
+fn random_schema(draft: &mut Draft, random: &mut Random) {
+    let mut letters = vec![false; random.from(1, 3)];
+    letters.extend(vec![true; random.from(1, 2)]);
+    random.shuffle(&mut letters);
+    let mut names: Vec<u32> = (0..draft.texts.len() as u32).collect();
+    random.shuffle(&mut names);
+    draft.kinds = names.into_iter().zip(letters).collect();
+    let mut types = vec![TypeRow::Bool, TypeRow::Long, TypeRow::String, TypeRow::Record(Vec::new())];
+    types.extend((0..draft.kinds.len() as u32).map(TypeRow::Entity));
+    random.shuffle(&mut types);
+    draft.types = types;
+    for _ in 0..random.from(2, 8) {
+        let any = |random: &mut Random, draft: &Draft| random.below(draft.types.len()) as u32;
+        let row = match random.below(5) {
+            0 => TypeRow::Set(any(random, draft)),
+            1 => {
+                let kind = random.below(draft.kinds.len()) as u32;
+                TypeRow::Set(draft.ty(TypeRow::Entity(kind)))
+            }
+            _ => {
+                let texts = some(random, draft.texts.len(), 5);
+                TypeRow::Record(texts.into_iter().map(|t| (t, random.chance(60), any(random, draft))).collect())
+            }
+        };
+        draft.ty(row);
+    }
+    if random.chance(70) {
+        // A record with an attribute of each simple type, as a context has.
+        let mut texts: Vec<u32> = (0..draft.texts.len() as u32).collect();
+        random.shuffle(&mut texts);
+        let mut simple = types_where(draft, |row| !matches!(row, TypeRow::Record(_)));
+        random.shuffle(&mut simple);
+        let mut fields: Vec<(u32, bool, u32)> =
+            texts.into_iter().zip(simple).take(6).map(|(t, ty)| (t, random.chance(60), ty)).collect();
+        fields.sort();
+        draft.ty(TypeRow::Record(fields));
+    }
+    let records = types_where(draft, |row| matches!(row, TypeRow::Record(_)));
+    let empty = draft.ty(TypeRow::Record(Vec::new()));
+    for kind in 0..draft.kinds.len() {
+        let above = some(random, draft.kinds.len(), 3);
+        let shape = if draft.kinds[kind].1 {
+            ShapeRow { attributes: empty, tags: None, above }
+        } else {
+            let tags = if random.chance(55) { Some(random.below(draft.types.len()) as u32) } else { None };
+            ShapeRow { attributes: random.pick(&records), tags, above }
+        };
+        draft.shapes.push(shape);
+    }
+}
+
+/// The number of a value that fits a type: one that is there, or a new one.
+fn value_for(draft: &mut Draft, random: &mut Random, ty: u32) -> u32 {
+    if random.chance(50) {
+        let fitting: Vec<u32> = (0..draft.values.len() as u32).filter(|v| draft.fits(*v, ty)).collect();
+        if !fitting.is_empty() {
+            return random.pick(&fitting);
+        }
+    }
+    let row = match draft.types[ty as usize].clone() {
+        TypeRow::Bool => ValueRow::Bool(random.chance(50)),
+        TypeRow::Long => ValueRow::Long(if random.chance(5) { random.next() as i64 } else { random.pick(&LONGS) }),
+        TypeRow::String => ValueRow::Text(random.below(draft.texts.len()) as u32),
+        TypeRow::Entity(kind) => ValueRow::Entity(kind, random.below(draft.texts.len()) as u32),
+        TypeRow::Set(element) => {
+            let mut items: Vec<u32> = (0..random.from(0, 3)).map(|_| value_for(draft, random, element)).collect();
+            items.sort();
+            items.dedup();
+            ValueRow::Set(items)
+        }
+        TypeRow::Record(fields) => {
+            let mut row = Vec::new();
+            for (t, required, ty) in fields {
+                if required || random.chance(60) {
+                    row.push((t, value_for(draft, random, ty)));
+                }
+            }
+            ValueRow::Record(row)
+        }
+    };
+    draft.value(row)
+}
+
+fn kinds_of(draft: &Draft, is_action: bool) -> Vec<u32> {
+    (0..draft.kinds.len() as u32).filter(|kind| draft.kinds[*kind as usize].1 == is_action).collect()
+}
+
+fn random_request(draft: &mut Draft, random: &mut Random) {
+    let ordinary = kinds_of(draft, false);
+    let actions = kinds_of(draft, true);
+    let text = |random: &mut Random, draft: &Draft| random.below(draft.texts.len()) as u32;
+    draft.principal = (random.pick(&ordinary), if random.chance(50) { None } else { Some(text(random, draft)) });
+    draft.action = (random.pick(&actions), text(random, draft));
+    draft.resource = (random.pick(&ordinary), if random.chance(40) { None } else { Some(text(random, draft)) });
+    let records = types_where(draft, |row| matches!(row, TypeRow::Record(_)));
+    let ty = if random.chance(50) { records[records.len() - 1] } else { random.pick(&records) };
+    draft.context = (ty, if random.chance(60) { None } else { Some(value_for(draft, random, ty)) });
+}
+
+/// Lists entities: some of the entity values that are there, with known and unknown parts.
+fn random_entities(draft: &mut Draft, random: &mut Random, listed: usize) {
+    for round in 0..2 {
+        for v in 0..draft.values.len() as u32 {
+            let ValueRow::Entity(kind, _) = draft.values[v as usize] else {
+                continue;
+            };
+            let there = draft.entities.iter().any(|row| row.entity == v);
+            if there || draft.entities.len() >= 40 || !random.chance(if round == 0 { listed } else { listed / 4 }) {
+                continue;
+            }
+            let mut row = EntityRow { entity: v, attributes: None, tags: None, ancestors: None };
+            fill_entity(draft, random, kind, &mut row, 65);
+            draft.entities.push(row);
+        }
+    }
+    draft.entities.sort_by_key(|row| row.entity);
+}
+
+/// Makes unknown parts of an entity line known, each in so many of a hundred cases.
+fn fill_entity(draft: &mut Draft, random: &mut Random, kind: u32, row: &mut EntityRow, known: usize) {
+    let shape = draft.shapes[kind as usize].clone();
+    if row.attributes.is_none() && random.chance(known) {
+        row.attributes = Some(value_for(draft, random, shape.attributes));
+    }
+    if row.tags.is_none() && random.chance(known) {
+        let mut fields = Vec::new();
+        if let Some(ty) = shape.tags {
+            for t in some(random, draft.texts.len(), 4) {
+                fields.push((t, value_for(draft, random, ty)));
+            }
+        }
+        row.tags = Some(draft.value(ValueRow::Record(fields)));
+    }
+    if row.ancestors.is_none() && random.chance(known) {
+        let mut items = Vec::new();
+        if !shape.above.is_empty() {
+            for _ in 0..random.from(0, 3) {
+                let kind = random.pick(&shape.above);
+                let ty = draft.types.iter().position(|ty| *ty == TypeRow::Entity(kind)).expect("every kind has its type") as u32;
+                items.push(value_for(draft, random, ty));
+            }
+        }
+        items.sort();
+        items.dedup();
+        row.ancestors = Some(draft.value(ValueRow::Set(items)));
+    }
+}
+
+fn random_policies(draft: &mut Draft, random: &mut Random, size: usize) {
+    let mut ids: Vec<u32> = (0..draft.texts.len() as u32).collect();
+    random.shuffle(&mut ids);
+    let count = random.from(0, 7.min(ids.len()));
+    let bool_type = draft.ty(TypeRow::Bool);
+    for id in ids.into_iter().take(count) {
+        let depth = random.from(1, 6);
+        let left = size.saturating_sub(draft.nodes.len());
+        let node = tree(draft, random, bool_type, if left == 0 { 0 } else { depth });
+        draft.policy(id, random.chance(60), node);
+    }
+}
+
+/// A tree of a type, at most so deep below its root; gives the number of its root.
+fn tree(draft: &mut Draft, random: &mut Random, ty: u32, depth: usize) -> u32 {
+    if depth == 0 || draft.nodes.len() > 250 || random.chance(8) {
+        return leaf(draft, random, ty);
+    }
+    let row = draft.types[ty as usize].clone();
+    match random.below(20) {
+        0 => return leaf(draft, random, ty),
+        1 | 2 => {
+            let test = draft.ty(TypeRow::Bool);
+            let [a, b, c] = trees(draft, random, [test, ty, ty], depth - 1);
+            return draft.node(ty, Operation::If(a, b, c));
+        }
+        3..=8 => {
+            if let Some(node) = part(draft, random, ty, depth) {
+                return node;
+            }
+        }
+        _ => (),
+    }
+    match row {
+        TypeRow::Bool => bool_tree(draft, random, ty, depth),
+        TypeRow::Long => {
+            if random.chance(25) {
+                let a = tree(draft, random, ty, depth - 1);
+                return draft.node(ty, Operation::One(One::Neg, a));
+            }
+            let two = random.pick(&[Two::Add, Two::Sub, Two::Mul]);
+            let [a, b] = trees(draft, random, [ty, ty], depth - 1);
+            draft.node(ty, Operation::Two(two, a, b))
+        }
+        TypeRow::Set(element) => {
+            let items = (0..random.from(0, 4)).map(|_| tree(draft, random, element, depth - 1)).collect();
+            draft.node(ty, Operation::Set(items))
+        }
+        TypeRow::Record(fields) => {
+            let mut there: Vec<(u32, u32)> = Vec::new();
+            for (t, required, ty) in fields {
+                if required || random.chance(60) {
+                    there.push((t, ty));
+                }
+            }
+            let mut order: Vec<usize> = (0..there.len()).collect();
+            if random.chance(50) {
+                random.shuffle(&mut order);
+            }
+            for place in order {
+                there[place].1 = tree(draft, random, there[place].1, depth - 1);
+            }
+            draft.node(ty, Operation::Record(there))
+        }
+        _ => leaf(draft, random, ty),
+    }
+}
+
+/// Trees of some types; which comes first in the sheet is left to chance.
+fn trees<const N: usize>(draft: &mut Draft, random: &mut Random, types: [u32; N], depth: usize) -> [u32; N] {
+    let mut order: Vec<usize> = (0..N).collect();
+    if random.chance(30) {
+        random.shuffle(&mut order);
+    }
+    let mut roots = [0; N];
+    for place in order {
+        let depth = if random.chance(30) { depth.saturating_sub(1) } else { depth };
+        roots[place] = tree(draft, random, types[place], depth);
+    }
+    roots
+}
+
+fn leaf(draft: &mut Draft, random: &mut Random, ty: u32) -> u32 {
+    if random.chance(3) {
+        return draft.node(ty, Operation::Err);
+    }
+    let context = draft.context.0;
+    if random.chance(45) {
+        let fields = draft.attributes(context).expect("a context is a record");
+        if let Some((t, _, _)) = fields.iter().find(|field| field.2 == ty).copied() {
+            let var = draft.node(context, Operation::Var(Variable::Context));
+            return draft.node(ty, Operation::Get(var, t));
+        }
+    }
+    let mut variables = Vec::new();
+    match draft.types[ty as usize] {
+        TypeRow::Entity(kind) => {
+            for (variable, other) in [
+                (Variable::Principal, draft.principal.0),
+                (Variable::Action, draft.action.0),
+                (Variable::Resource, draft.resource.0),
+            ] {
+                if kind == other {
+                    variables.push(variable);
+                }
+            }
+        }
+        _ if ty == draft.context.0 => variables.push(Variable::Context),
+        _ => (),
+    }
+    if !variables.is_empty() && random.chance(75) {
+        let variable = random.pick(&variables);
+        return draft.node(ty, Operation::Var(variable));
+    }
+    let value = value_for(draft, random, ty);
+    draft.node(ty, Operation::Lit(value))
+}
+
+/// A get or gettag that gives the type, if some type has such a part.
+fn part(draft: &mut Draft, random: &mut Random, ty: u32, depth: usize) -> Option<u32> {
+    let mut places: Vec<(u32, Option<u32>)> = Vec::new();
+    for holder in 0..draft.types.len() as u32 {
+        if let Some(fields) = draft.attributes(holder) {
+            places.extend(fields.iter().filter(|field| field.2 == ty).map(|field| (holder, Some(field.0))));
+        }
+        if let TypeRow::Entity(kind) = draft.types[holder as usize] {
+            if draft.shapes[kind as usize].tags == Some(ty) {
+                places.push((holder, None));
+            }
+        }
+    }
+    if places.is_empty() {
+        return None;
+    }
+    let context = draft.context.0;
+    let near: Vec<_> = places.iter().filter(|(holder, _)| *holder == context).cloned().collect();
+    let (holder, text) = if !near.is_empty() && random.chance(40) { random.pick(&near) } else { random.pick(&places) };
+    Some(match text {
+        Some(t) => {
+            let a = tree(draft, random, holder, depth - 1);
+            draft.node(ty, Operation::Get(a, t))
+        }
+        None => {
+            let string = draft.ty(TypeRow::String);
+            let [a, b] = trees(draft, random, [holder, string], depth - 1);
+            draft.node(ty, Operation::Two(Two::GetTag, a, b))
+        }
+    })
+}
+
+fn types_where(draft: &Draft, wanted: impl Fn(&TypeRow) -> bool) -> Vec<u32> {
+    (0..draft.types.len() as u32).filter(|ty| wanted(&draft.types[*ty as usize])).collect()
+}
+
+/// A type that stands in the request, or any of the given ones.
+fn near_type(draft: &Draft, random: &mut Random, types: &[u32]) -> u32 {
+    let request = [draft.principal.0, draft.action.0, draft.resource.0];
+    let near: Vec<u32> = types
+        .iter()
+        .copied()
+        .filter(|ty| {
+            *ty == draft.context.0 || matches!(draft.types[*ty as usize], TypeRow::Entity(kind) if request.contains(&kind))
+        })
+        .collect();
+    if !near.is_empty() && random.chance(70) {
+        random.pick(&near)
+    } else {
+        random.pick(types)
+    }
+}
+
+/// A text, more often one that the type declares.
+fn near_text(draft: &Draft, random: &mut Random, ty: Option<u32>) -> u32 {
+    if let Some(fields) = ty.and_then(|ty| draft.attributes(ty)) {
+        if !fields.is_empty() && random.chance(75) {
+            return random.pick(fields).0;
+        }
+    }
+    random.below(draft.texts.len()) as u32
+}
+
+fn bool_tree(draft: &mut Draft, random: &mut Random, ty: u32, depth: usize) -> u32 {
+    let entities = types_where(draft, |row| matches!(row, TypeRow::Entity(_)));
+    let long = draft.ty(TypeRow::Long);
+    let string = draft.ty(TypeRow::String);
+    let below = depth - 1;
+    let operation = match random.below(32) {
+        0..=4 => {
+            let [a, b] = trees(draft, random, [ty, ty], below);
+            Operation::Two(Two::And, a, b)
+        }
+        5..=9 => {
+            let [a, b] = trees(draft, random, [ty, ty], below);
+            Operation::Two(Two::Or, a, b)
+        }
+        10 => Operation::One(One::Not, tree(draft, random, ty, below)),
+        11..=13 => {
+            let (left, right) = if random.chance(60) {
+                (near_type(draft, random, &entities), near_type(draft, random, &entities))
+            } else {
+                let any = random.below(draft.types.len()) as u32;
+                (any, any)
+            };
+            let [a, b] = trees(draft, random, [left, right], below);
+            Operation::Two(Two::Eq, a, b)
+        }
+        14 | 15 => {
+            let [a, b] = trees(draft, random, [long, long], below);
+            Operation::Two(random.pick(&[Two::Lt, Two::Le]), a, b)
+        }
+        16..=18 => {
+            let left = near_type(draft, random, &entities);
+            let right = types_where(draft, |row| match row {
+                TypeRow::Entity(_) => true,
+                TypeRow::Set(element) => matches!(draft.types[*element as usize], TypeRow::Entity(_)),
+                _ => false,
+            });
+            let right = random.pick(&right);
+            let [a, b] = trees(draft, random, [left, right], below);
+            Operation::Two(Two::In, a, b)
+        }
+        19 => {
+            let left = near_type(draft, random, &entities);
+            let a = tree(draft, random, left, below);
+            Operation::Is(a, random.below(draft.kinds.len()) as u32)
+        }
+        20 | 21 => {
+            let a = tree(draft, random, string, below);
+            let item = |random: &mut Random, draft: &Draft| {
+                if random.chance(45) {
+                    None
+                } else {
+                    Some(random.below(draft.texts.len()) as u32)
+                }
+            };
+            Operation::Like(a, (0..random.from(0, 4)).map(|_| item(random, draft)).collect())
+        }
+        22..=25 => {
+            let holders = types_where(draft, |row| matches!(row, TypeRow::Entity(_) | TypeRow::Record(_)));
+            let holder = near_type(draft, random, &holders);
+            let a = tree(draft, random, holder, below);
+            if random.chance(40) {
+                Operation::Has(a, near_text(draft, random, Some(holder)))
+            } else {
+                Operation::HasPath(a, random_path(draft, random, holder))
+            }
+        }
+        26 | 27 => {
+            let left = near_type(draft, random, &entities);
+            let [a, b] = trees(draft, random, [left, string], below);
+            Operation::Two(Two::HasTag, a, b)
+        }
+        _ => {
+            let sets = types_where(draft, |row| matches!(row, TypeRow::Set(_)));
+            if sets.is_empty() {
+                return leaf(draft, random, ty);
+            }
+            let set = random.pick(&sets);
+            let TypeRow::Set(element) = draft.types[set as usize] else { unreachable!() };
+            match random.below(4) {
+                0 => Operation::One(One::Empty, tree(draft, random, set, below)),
+                1 => {
+                    let [a, b] = trees(draft, random, [set, element], below);
+                    Operation::Two(Two::Contains, a, b)
+                }
+                _ => {
+                    let [a, b] = trees(draft, random, [set, set], below);
+                    Operation::Two(random.pick(&[Two::All, Two::Any]), a, b)
+                }
+            }
+        }
+    };
+    draft.node(ty, operation)
+}
+
+/// A path whose steps but the last are typed.
+fn random_path(draft: &Draft, random: &mut Random, start: u32) -> Vec<u32> {
+    let mut path = Vec::new();
+    let mut ty = Some(start);
+    loop {
+        let text = near_text(draft, random, ty);
+        path.push(text);
+        if path.len() == 5 || random.chance(30) {
+            return path;
+        }
+        if let Some(holder) = ty {
+            let next =
+                draft.attributes(holder).and_then(|fields| fields.iter().find(|field| field.0 == text)).map(|field| field.2);
+            match next {
+                Some(next) if draft.attributes(next).is_none() => return path,
+                next => ty = next,
+            }
+        }
+    }
+}
+
+/// A complete sheet that agrees with a partial one.
+pub fn completion(partial: &Draft, random: &mut Random) -> Draft {
+    let mut draft = partial.clone();
+    draft.mode = Mode::Complete;
+    for _ in 0..random.below(3) {
+        let text = random_text(random);
+        draft.text(&text);
+    }
+    for _ in 0..random.below(3) {
+        let ty = random.below(draft.types.len()) as u32;
+        value_for(&mut draft, random, ty);
+    }
+    let entity_text = |draft: &Draft, random: &mut Random, kind: u32| {
+        let there: Vec<u32> = draft
+            .values
+            .iter()
+            .filter_map(|row| match row {
+                ValueRow::Entity(other, t) if *other == kind => Some(*t),
+                _ => None,
+            })
+            .collect();
+        if !there.is_empty() && random.chance(70) {
+            random.pick(&there)
+        } else {
+            random.below(draft.texts.len()) as u32
+        }
+    };
+    if draft.principal.1.is_none() {
+        draft.principal.1 = Some(entity_text(&draft, random, draft.principal.0));
+    }
+    if draft.resource.1.is_none() {
+        draft.resource.1 = Some(entity_text(&draft, random, draft.resource.0));
+    }
+    if draft.context.1.is_none() {
+        let ty = draft.context.0;
+        draft.context.1 = Some(value_for(&mut draft, random, ty));
+    }
+    if random.chance(60) {
+        for (kind, text) in [(draft.principal.0, draft.principal.1), (draft.resource.0, draft.resource.1)] {
+            draft.value(ValueRow::Entity(kind, text.expect("it is known now")));
+        }
+    }
+    let listed = [0, 30, 80][random.below(3)];
+    if listed > 0 {
+        random_entities(&mut draft, random, listed);
+    }
+    let mut rows = std::mem::take(&mut draft.entities);
+    for row in &mut rows {
+        let ValueRow::Entity(kind, _) = draft.values[row.entity as usize] else { unreachable!() };
+        fill_entity(&mut draft, random, kind, row, 100);
+    }
+    draft.entities = rows;
+    draft
+}
+
+/// Bytes of no form, or lines of a right form in no order.
+fn garbage(random: &mut Random) -> Vec<u8> {
+    if random.chance(30) {
+        let length = if random.chance(5) { random.from(16000, 70000) } else { random.below(300) };
+        return (0..length).map(|_| random.next() as u8).collect();
+    }
+    let lines: [&[u8]; 14] = [
+        b"sheet=partial",
+        b"text=a",
+        b"text=b",
+        b"kind=0,e",
+        b"kind=1,a",
+        b"type=bool",
+        b"type=record",
+        b"shape=1,-",
+        b"value=bool,0",
+        b"principal=0,?",
+        b"action=1,0",
+        b"resource=0,?",
+        b"context=1,?",
+        b"node=0,err",
+    ];
+    let mut picked: Vec<Vec<u8>> = lines.iter().filter(|_| random.chance(80)).map(|line| line.to_vec()).collect();
+    for _ in 0..random.below(3) {
+        if picked.len() > 1 {
+            let at = 1 + random.below(picked.len() - 1);
+            picked.swap(at, at - 1);
+        }
+    }
+    bytes_of(&picked)
+}
+
+// Damage -----------------------------------------------------------------------------------------------------------------
+
+const ITEMS: [&[u8]; 28] = [
+    b"",
+    b"?",
+    b"-",
+    b"*",
+    b"0",
+    b"1",
+    b"2",
+    b"3",
+    b"00",
+    b"01",
+    b"0000",
+    b"9999",
+    b"10000",
+    b"-1",
+    b"-0",
+    b"+1",
+    b"e",
+    b"a",
+    b"r",
+    b"o",
+    b"bool",
+    b"set",
+    b"record",
+    b"9223372036854775808",
+    b"-9223372036854775809",
+    b"err",
+    b"lit",
+    b"forbid",
+];
+
+/// Damages one line, or their order.
+fn damage(lines: &mut Vec<Vec<u8>>, random: &mut Random) {
+    if lines.is_empty() {
+        return;
+    }
+    let at = random.below(lines.len());
+    match random.below(20) {
+        0 => {
+            lines.remove(at);
+        }
+        1 | 2 => {
+            let line = lines[at].clone();
+            lines.insert(at, line);
+        }
+        3 => {
+            let to = random.below(lines.len());
+            lines.swap(at, to);
+        }
+        4 if at > 0 => lines.swap(at, at - 1),
+        5 => {
+            let line = random.pick(&[
+                &b""[..],
+                b"text",
+                b"text=",
+                b"Text=a",
+                b"=",
+                b"node=0,err",
+                b"value=bool,0",
+                b"type=long",
+                b"principal=0,0",
+            ]);
+            lines.insert(at, line.to_vec());
+        }
+        6 => {
+            // An index over all lines of its key that is as large as can be.
+            let new = if random.chance(50) { b"9999" } else { b"1234" };
+            replace_item(&mut lines[at], random, |_, _| new.to_vec());
+        }
+        7..=10 => replace_item(&mut lines[at], random, |random, _| random.pick(&ITEMS).to_vec()),
+        11..=15 => replace_item(&mut lines[at], random, |random, item| {
+            // A number near the old one.
+            match std::str::from_utf8(item).ok().and_then(|text| text.parse::<i64>().ok()) {
+                Some(n) => (n.wrapping_add(random.from(0, 6) as i64 - 3)).to_string().into_bytes(),
+                None => random.pick(&ITEMS).to_vec(),
+            }
+        }),
+        16 => {
+            // Two items change places.
+            let mut items: Vec<Vec<u8>> = lines[at].split(|b| *b == b',').map(<[u8]>::to_vec).collect();
+            let (a, b) = (random.below(items.len()), random.below(items.len()));
+            items.swap(a, b);
+            lines[at] = items.join(&b',');
+        }
+        17 => {
+            let mut items: Vec<Vec<u8>> = lines[at].split(|b| *b == b',').map(<[u8]>::to_vec).collect();
+            let place = random.below(items.len());
+            if random.chance(50) && items.len() > 1 {
+                items.remove(place);
+            } else {
+                let item = items[place].clone();
+                items.insert(place, item);
+            }
+            lines[at] = items.join(&b',');
+        }
+        18 => {
+            let line = &mut lines[at];
+            if !line.is_empty() {
+                let place = random.below(line.len());
+                line[place] = random.below(256) as u8;
+            }
+        }
+        _ => {
+            // The last lines are missing.
+            let keep = random.below(lines.len() + 1);
+            lines.truncate(keep);
+        }
+    }
+}
+
+/// Replaces a random item after the key.
+fn replace_item(line: &mut Vec<u8>, random: &mut Random, new: impl Fn(&mut Random, &[u8]) -> Vec<u8>) {
+    let Some(equals) = line.iter().position(|b| *b == b'=') else {
+        return;
+    };
+    let mut items: Vec<Vec<u8>> = line[equals + 1..].split(|b| *b == b',').map(<[u8]>::to_vec).collect();
+    let place = random.below(items.len());
+    items[place] = new(random, &items[place].clone());
+    *line = [&line[..equals + 1], &items.join(&b',')].concat();
+}
+
+fn damage_bytes(bytes: &mut Vec<u8>, random: &mut Random) {
+    match random.below(40) {
+        0 => {
+            bytes.pop();
+        }
+        1 => {
+            let keep = random.below(bytes.len() + 1);
+            bytes.truncate(keep);
+        }
+        2 => bytes.push(b'\n'),
+        4 => {
+            // Too long by some bytes.
+            let length = 16385 + random.below(40);
+            bytes.resize(length.max(bytes.len()), b'x');
+        }
+        3 if !bytes.is_empty() => {
+            let place = random.below(bytes.len());
+            bytes[place] = random.below(256) as u8;
+        }
+        _ => (),
+    }
+}
+
+/// Damage that is made in the rows: wrong types, uses, order.
+fn damaged_draft(mut draft: Draft, random: &mut Random) -> Case {
+    if random.chance(30) {
+        draft = completion(&draft, random);
+    }
+    match random.below(9) {
+        0 | 1 if !draft.nodes.is_empty() => {
+            let n = random.below(draft.nodes.len());
+            draft.nodes[n].ty = random.below(draft.types.len()) as u32;
+        }
+        2 if !draft.nodes.is_empty() => {
+            // A node that nothing uses.
+            let ty = random.below(draft.types.len()) as u32;
+            draft.node(ty, Operation::Err);
+        }
+        3 if draft.policies.len() > 1 => {
+            let n = draft.policies[0].node;
+            draft.policies.last_mut().expect("a policy").node = n;
+        }
+        4 if !draft.policies.is_empty() => {
+            draft.policies.pop();
+        }
+        5 if !draft.entities.is_empty() => {
+            let n = random.below(draft.entities.len());
+            let v = random.below(draft.values.len()) as u32;
+            let row = &mut draft.entities[n];
+            *match random.below(3) {
+                0 => &mut row.attributes,
+                1 => &mut row.tags,
+                _ => &mut row.ancestors,
+            } = Some(v);
+        }
+        6 => draft.context.0 = random.below(draft.types.len()) as u32,
+        7 => {
+            let kind = random.below(draft.kinds.len());
+            match random.below(4) {
+                0 => draft.shapes[kind].attributes = random.below(draft.types.len()) as u32,
+                1 => draft.shapes[kind].tags = Some(random.below(draft.types.len()) as u32),
+                2 => draft.kinds[kind].1 = !draft.kinds[kind].1,
+                _ => draft.principal.0 = kind as u32,
+            }
+        }
+        _ => {
+            // A node whose second child is another one.
+            for row in &mut draft.nodes {
+                if let Operation::Two(_, a, b) = &mut row.operation {
+                    *b = if random.chance(50) { *a } else { random.below(*b as usize + 1) as u32 };
+                    if random.chance(60) {
+                        break;
+                    }
+                }
+            }
+        }
+    }
+    case(&draft)
+}
+
+// Limits -----------------------------------------------------------------------------------------------------------------
+
+/// A small sheet without policies; types 0 to 3 are bool, the empty record, entity and long.
+pub fn small() -> Draft {
+    let mut draft = Draft::new();
+    for text in [&b"Broker"[..], b"Action", b"Tariff", b"quote"] {
+        draft.text(text);
+    }
+    draft.kinds = vec![(0, false), (1, true), (2, false)];
+    draft.types = vec![TypeRow::Bool, TypeRow::Record(Vec::new()), TypeRow::Entity(0), TypeRow::Long];
+    draft.shapes = vec![ShapeRow { attributes: 1, tags: None, above: vec![0] }; 3];
+    draft.principal = (0, None);
+    draft.action = (1, 3);
+    draft.resource = (2, None);
+    draft.context = (1, None);
+    draft
+}
+
+/// Sheets at the limits of the table and one step over them.
+pub fn at_limit(random: &mut Random) -> Case {
+    let over = random.below(2);
+    limit(random.below(LIMITS), over, random)
+}
+
+pub const LIMITS: usize = 17;
+
+/// The limit of a number, met (`over` 0) or exceeded by one.
+pub fn limit(which: usize, over: usize, random: &mut Random) -> Case {
+    let mut draft = small();
+    match which {
+        0 => {
+            while draft.texts.len() < 512 + over {
+                let n = draft.texts.len();
+                draft.text(format!("t{n}").as_bytes());
+            }
+        }
+        1 => {
+            while draft.kinds.len() < 32 + over {
+                let name = draft.text(format!("k{}", draft.kinds.len()).as_bytes());
+                draft.kinds.push((name, false));
+                draft.shapes.push(ShapeRow { attributes: 1, tags: None, above: Vec::new() });
+            }
+        }
+        2 => {
+            let mut n = 0;
+            while draft.types.len() < 128 + over {
+                draft.ty(TypeRow::Record(vec![(n % 4, n % 8 < 4, n / 8)]));
+                n += 1;
+            }
+        }
+        3 => {
+            // More shapes than kinds, or fewer.
+            let shape = draft.shapes[0].clone();
+            if over == 1 {
+                draft.shapes.push(shape);
+            } else {
+                draft.shapes.pop();
+            }
+        }
+        4 => {
+            for n in 0..(1024 + over) as i64 {
+                draft.value(ValueRow::Long(n));
+            }
+        }
+        5 => {
+            for n in 0..128 + over {
+                let t = draft.text(format!("t{n}").as_bytes());
+                let entity = draft.value(ValueRow::Entity(0, t));
+                draft.entities.push(EntityRow { entity, attributes: None, tags: None, ancestors: None });
+            }
+        }
+        6 => {
+            // A tree of 1,024 nodes, and perhaps one more.
+            let mut roots: Vec<u32> = (0..512).map(|_| draft.node(0, Operation::Err)).collect();
+            while roots.len() > 1 {
+                roots = roots
+                    .chunks(2)
+                    .map(|pair| match pair {
+                        [a, b] => draft.node(0, Operation::Two(Two::And, *a, *b)),
+                        _ => pair[0],
+                    })
+                    .collect();
+            }
+            for _ in 0..1 + over {
+                let one = draft.node(0, Operation::One(One::Not, roots[0]));
+                roots[0] = one;
+            }
+            draft.policy(3, true, roots[0]);
+        }
+        7 => {
+            for n in 0..64 + over {
+                let id = draft.text(format!("p{n}").as_bytes());
+                let node = draft.node(0, Operation::Err);
+                draft.policy(id, n % 2 == 0, node);
+            }
+        }
+        8 => {
+            // Types nested 64 or 65 deep, as sets or records.
+            let mut ty = 0;
+            let record = random.chance(50);
+            for _ in 0..63 + over {
+                ty = draft.ty(if record { TypeRow::Record(vec![(0, true, ty)]) } else { TypeRow::Set(ty) });
+            }
+        }
+        9 => {
+            let mut v = draft.value(ValueRow::Bool(true));
+            let record = random.chance(50);
+            for _ in 0..63 + over {
+                v = draft.value(if record { ValueRow::Record(vec![(0, v)]) } else { ValueRow::Set(vec![v]) });
+            }
+        }
+        10 => {
+            // A chain of nodes 64 or 65 deep over an open or a settled leaf.
+            let v = draft.value(ValueRow::Bool(random.chance(50)));
+            let mut node = if random.chance(50) {
+                let var = draft.node(2, Operation::Var(Variable::Principal));
+                let is = draft.node(2, Operation::Var(Variable::Principal));
+                draft.node(0, Operation::Two(Two::Eq, var, is))
+            } else {
+                let lit = draft.node(0, Operation::Lit(v));
+                draft.node(0, Operation::One(One::Not, lit))
+            };
+            for _ in 2..64 + over {
+                node = match random.below(3) {
+                    0 => draft.node(0, Operation::One(One::Not, node)),
+                    1 => {
+                        let lit = draft.node(0, Operation::Lit(v));
+                        draft.node(0, Operation::Two(Two::And, lit, node))
+                    }
+                    _ => {
+                        let lit = draft.node(0, Operation::Err);
+                        draft.node(0, Operation::Two(Two::Or, node, lit))
+                    }
+                };
+            }
+            draft.policy(3, random.chance(50), node);
+        }
+        11 => {
+            // A sheet of 16,384 bytes or one more.
+            let wanted = 16384 + over;
+            let mut n = 0;
+            while draft.bytes().len() + 134 < wanted {
+                draft.text(format!("{n:0>128}").as_bytes());
+                n += 1;
+            }
+            while draft.bytes().len() + 6 <= wanted {
+                let left = wanted - draft.bytes().len() - 6;
+                let text: Vec<u8> =
+                    if left > 128 || (left < 12 && left > 0) { vec![b'x'; left.min(60)] } else { vec![b'y'; left] };
+                draft.texts.push(text);
+            }
+        }
+        12 => {
+            let length = 128 + over;
+            draft.text(&vec![b'z'; length]);
+        }
+        13 => {
+            // The greatest and least longs, or one past them.
+            let mut lines = draft.lines();
+            let longs = [["9223372036854775807", "-9223372036854775808"], ["9223372036854775808", "-9223372036854775809"]];
+            let at = lines.iter().position(|line| line.starts_with(b"principal")).expect("a principal");
+            lines.insert(at, format!("value=long,{}", longs[over][random.below(2)]).into_bytes());
+            return Case { mode: Mode::Partial, bytes: bytes_of(&lines) };
+        }
+        14 => {
+            // A second line of a one-line key.
+            let mut lines = draft.lines();
+            if over == 1 {
+                let key = random.pick(&[&b"sheet="[..], b"principal=", b"action=", b"resource=", b"context="]);
+                let at = lines.iter().position(|line| line.starts_with(key)).expect("the line");
+                let line = lines[at].clone();
+                lines.insert(at, line);
+            }
+            return Case { mode: Mode::Partial, bytes: bytes_of(&lines) };
+        }
+        15 => {
+            // Rows shared at every level: 2^30 leaves for whoever walks paths.
+            let a = draft.text(b"a");
+            let b = draft.text(b"b");
+            let (mut ty, mut v) = (0, draft.value(ValueRow::Bool(true)));
+            for _ in 0..30 {
+                ty = draft.ty(TypeRow::Record(vec![(a, true, ty), (b, over == 0, ty)]));
+                v = draft.value(ValueRow::Record(vec![(a, v), (b, v)]));
+            }
+            draft.context = (ty, Some(v));
+            let [x, y] = [0, 1].map(|_| draft.node(ty, Operation::Var(Variable::Context)));
+            let node = draft.node(0, Operation::Two(Two::Eq, x, y));
+            draft.policy(3, true, node);
+        }
+        _ => {
+            // A pattern with many stars on a text that almost matches.
+            let t = draft.text(&[&vec![b'a'; 127 - over][..], b"b"].concat());
+            let a = draft.text(b"a");
+            let c = draft.text(if over == 0 { b"b" } else { b"c" });
+            let string = draft.ty(TypeRow::String);
+            let v = draft.value(ValueRow::Text(t));
+            let lit = draft.node(string, Operation::Lit(v));
+            let mut items: Vec<Option<u32>> = (0..60).map(|n| if n % 2 == 0 { None } else { Some(a) }).collect();
+            items.extend([None, Some(c)]);
+            let node = draft.node(0, Operation::Like(lit, items));
+            draft.policy(3, true, node);
+        }
+    }
+    case(&draft)
+}

@@ -1,0 +1,567 @@
+//! Sheets for the benchmark: ordinary ones of a wanted size, and accepted ones that are as costly as one can make them.
+
+use crate::draft::Draft;
+use crate::generate::{small, valid};
+use crate::random::Random;
+use crate::sheet::{EntityRow, Mode, One, Operation, ShapeRow, Two, TypeRow, ValueRow, Variable, SHEET_BYTES};
+
+/// Heavy sheets stay this much below the greatest size, so that a complete form of them fits too.
+const SPARE: usize = 150;
+
+/// An ordinary partial sheet of about so many bytes, never more: rules on context, principal and resource, as a carrier
+/// writes them, with lines in the same proportions at every size; texts fill what is left.
+pub fn ordinary(bytes: usize) -> Vec<u8> {
+    let count = (0..=64).take_while(|count| rules(*count).len() <= bytes).last().expect("a small sheet fits");
+    let sheet = rules(count);
+    let at = sheet.windows(6).position(|part| part == b"\nkind=").expect("kinds") + 1;
+    let mut texts: Vec<u8> = Vec::new();
+    let mut n = 0;
+    while sheet.len() + texts.len() + 33 <= bytes && n < 250 {
+        texts.extend_from_slice(format!("text=filler {n:0>20}\n").as_bytes());
+        n += 1;
+    }
+    [&sheet[..at], &texts, &sheet[at..]].concat()
+}
+
+fn rules(count: usize) -> Vec<u8> {
+    let mut draft = Draft::new();
+    let names = [
+        "Broker", "Action", "Tariff", "Region", "quote", "T1", "b7", "north", "score", "region", "tags", "name", "limit", "vip",
+        "mail",
+    ];
+    let t: Vec<u32> = names.iter().map(|name| draft.text(name.as_bytes())).collect();
+    draft.kinds = vec![(t[0], false), (t[1], true), (t[2], false), (t[3], false)];
+    let boolean = draft.ty(TypeRow::Bool);
+    let long = draft.ty(TypeRow::Long);
+    let string = draft.ty(TypeRow::String);
+    let empty = draft.ty(TypeRow::Record(Vec::new()));
+    let broker = draft.ty(TypeRow::Entity(0));
+    draft.ty(TypeRow::Entity(1));
+    let tariff = draft.ty(TypeRow::Entity(2));
+    let region = draft.ty(TypeRow::Entity(3));
+    let regions = draft.ty(TypeRow::Set(region));
+    let longs = draft.ty(TypeRow::Set(long));
+    let person = draft.ty(TypeRow::Record(vec![(t[8], true, long), (t[9], false, region), (t[11], true, string)]));
+    let context =
+        draft.ty(TypeRow::Record(vec![(t[8], true, long), (t[12], true, long), (t[13], false, boolean), (t[14], true, string)]));
+    draft.shapes = vec![
+        ShapeRow { attributes: person, tags: Some(string), above: vec![3] },
+        ShapeRow { attributes: empty, tags: None, above: Vec::new() },
+        ShapeRow { attributes: person, tags: None, above: vec![3] },
+        ShapeRow { attributes: empty, tags: None, above: vec![3] },
+    ];
+    draft.principal = (0, Some(t[6]));
+    draft.action = (1, t[4]);
+    draft.resource = (2, Some(t[5]));
+    draft.context = (context, None);
+    let places: Vec<u32> = (0..1 + count / 2)
+        .map(|n| {
+            let text = draft.text(format!("place{n}").as_bytes());
+            draft.value(ValueRow::Entity(3, text))
+        })
+        .collect();
+    let none = draft.value(ValueRow::Record(Vec::new()));
+    let lone = draft.value(ValueRow::Set(Vec::new()));
+    let name = draft.value(ValueRow::Text(t[6]));
+    for (kind, text) in [(0, t[6]), (2, t[5])] {
+        let entity = draft.value(ValueRow::Entity(kind, text));
+        let score = draft.value(ValueRow::Long(30 + i64::from(kind)));
+        let attributes = draft.value(ValueRow::Record(vec![(t[8], score), (t[9], places[0]), (t[11], name)]));
+        let above = draft.value(ValueRow::Set(places.iter().copied().step_by(2).collect()));
+        draft.entities.push(EntityRow { entity, attributes: Some(attributes), tags: Some(none), ancestors: Some(above) });
+    }
+    for place in &places {
+        draft.entities.push(EntityRow { entity: *place, attributes: Some(none), tags: None, ancestors: Some(lone) });
+    }
+    draft.entities.sort_by_key(|row| row.entity);
+    for n in 0..count {
+        let id = draft.text(format!("rule{n}").as_bytes());
+        let pattern = draft.text(format!("{}@", (b'a' + (n % 26) as u8) as char).as_bytes());
+        let bound = draft.value(ValueRow::Long(25 + n as i64 * 3));
+        let some = draft.value(ValueRow::Set(vec![places[n / 2]]));
+        let small = draft.value(ValueRow::Long(n as i64 % 7));
+        let of = |draft: &mut Draft, ty: u32, from: u32, variable: Variable, text: u32| {
+            let var = draft.node(from, Operation::Var(variable));
+            draft.node(ty, Operation::Get(var, text))
+        };
+        let lit = |draft: &mut Draft, ty: u32, v: u32| draft.node(ty, Operation::Lit(v));
+        // principal.score + n < bound && principal in {place}
+        let score = of(&mut draft, long, broker, Variable::Principal, t[8]);
+        let more = lit(&mut draft, long, small);
+        let sum = draft.node(long, Operation::Two(Two::Add, score, more));
+        let limit = lit(&mut draft, long, bound);
+        let less = draft.node(boolean, Operation::Two(Two::Le, sum, limit));
+        let who = draft.node(broker, Operation::Var(Variable::Principal));
+        let where_ = lit(&mut draft, regions, some);
+        let inside = draft.node(boolean, Operation::Two(Two::In, who, where_));
+        let first = draft.node(boolean, Operation::Two(Two::And, less, inside));
+        // context.mail like "x@*" || resource.region == place
+        let mail = of(&mut draft, string, context, Variable::Context, t[14]);
+        let like = draft.node(boolean, Operation::Like(mail, vec![Some(pattern), None]));
+        let whence = of(&mut draft, region, tariff, Variable::Resource, t[9]);
+        let place = lit(&mut draft, region, places[n / 2]);
+        let equal = draft.node(boolean, Operation::Two(Two::Eq, whence, place));
+        let second = draft.node(boolean, Operation::Two(Two::Or, like, equal));
+        let root = draft.node(boolean, Operation::Two(Two::And, first, second));
+        let root = if n % 3 == 0 {
+            let items = [bound, small].map(|v| lit(&mut draft, long, v));
+            let set = draft.node(longs, Operation::Set(items.to_vec()));
+            let one = lit(&mut draft, long, bound);
+            let has = draft.node(boolean, Operation::Two(Two::Contains, set, one));
+            draft.node(boolean, Operation::Two(Two::And, has, root))
+        } else {
+            root
+        };
+        draft.policy(id, n % 4 != 0, root);
+    }
+    draft.bytes()
+}
+
+/// Random valid sheets, as in the comparison.
+pub fn mixed(seed: u64, n: u64) -> Vec<u8> {
+    valid(&mut Random::of(seed, n)).bytes()
+}
+
+/// The heavy sheets, each with its name.
+pub fn all() -> Vec<(&'static str, Mode, Vec<u8>)> {
+    let mut list = Vec::new();
+    let mut add = |name, draft: Draft| list.push((name, draft.mode, draft.bytes()));
+    add("shared rows, 62 levels", shared(62));
+    add("1,024 values", many_values());
+    add("512 texts with a long common start", many_texts());
+    add("types and shapes, all limits", many_types());
+    add("patterns with many stars", stars());
+    add("one pattern, almost matching often", almost());
+    add("chains 64 deep that may err", chains());
+    add("chains of if, 64 deep", ifs());
+    add("many made values", made());
+    add("one made set of many members", long_set());
+    add("many made sets", made_sets());
+    add("any on long sets without a common member", long_sets(Two::Any));
+    add("all on long sets", long_sets(Two::All));
+    add("in long sets, long ancestors", ancestors());
+    add("128 entities, many look-ups", look_ups());
+    add("get in a long record", long_records());
+    add("haspath over many steps", paths());
+    add("literals of long sets", literals());
+    add("64 policies, all open", open());
+    add("many sets with a common start", common_starts());
+    add("literals of many types", many_fits());
+    add("complete: shared rows", completed(shared(62)));
+    add("complete: one pattern, almost matching often", completed(almost()));
+    add("complete: all on long sets", completed(long_sets(Two::All)));
+    add("complete: in long sets, long ancestors", completed(ancestors()));
+    add("complete: 128 entities, many look-ups", completed(look_ups()));
+    add("complete: many made sets", completed(made_sets()));
+    list
+}
+
+/// The complete sheet that knows the rest.
+fn completed(mut draft: Draft) -> Draft {
+    draft.mode = Mode::Complete;
+    let none = draft.value(ValueRow::Record(Vec::new()));
+    let lone = draft.value(ValueRow::Set(Vec::new()));
+    draft.principal.1 = Some(3);
+    draft.resource.1 = Some(3);
+    draft.context.1 = draft.context.1.or(Some(none));
+    for row in &mut draft.entities {
+        row.attributes = row.attributes.or(Some(none));
+        row.tags = row.tags.or(Some(none));
+        row.ancestors = row.ancestors.or(Some(lone));
+    }
+    draft
+}
+
+fn common_starts() -> Draft {
+    let mut draft = small();
+    for n in 0..200 {
+        draft.value(ValueRow::Long(n));
+    }
+    fill(draft, 1024, |draft, n| {
+        let mut items: Vec<u32> = (0..12).collect();
+        items.push(20 + n as u32 % 180);
+        if n >= 180 {
+            items[11] = 12 + (n as u32 / 180);
+        }
+        draft.value(ValueRow::Set(items));
+    })
+}
+
+fn many_fits() -> Draft {
+    let mut draft = small();
+    let members: Vec<u32> = (0..300)
+        .map(|n| {
+            let v = draft.value(ValueRow::Long(n));
+            draft.value(ValueRow::Record(vec![(0, v)]))
+        })
+        .collect();
+    let all = draft.value(ValueRow::Set(members));
+    let sets: Vec<u32> = (0..60)
+        .map(|n| {
+            let t = draft.text(format!("{n}").as_bytes());
+            let record = draft.ty(TypeRow::Record(vec![(0, true, 3), (t, false, 3)]));
+            draft.ty(TypeRow::Set(record))
+        })
+        .collect();
+    repeated(draft, Two::Or, |draft, n| {
+        let lit = draft.node(sets[n % sets.len()], Operation::Lit(all));
+        draft.node(0, Operation::One(One::Empty, lit))
+    })
+}
+
+/// Fills a sheet with what `more` adds, as long as it stays accepted by size.
+fn fill(mut draft: Draft, most: usize, mut more: impl FnMut(&mut Draft, usize)) -> Draft {
+    for n in 0..most {
+        let mut next = draft.clone();
+        more(&mut next, n);
+        if next.bytes().len() > SHEET_BYTES - SPARE
+            || next.nodes.len() > 1024
+            || next.values.len() > 1024
+            || next.policies.len() > 64
+        {
+            return draft;
+        }
+        draft = next;
+    }
+    draft
+}
+
+/// Joins nodes of type bool by `and` or `or` into one policy, in a tree as flat as can be.
+fn join(draft: &mut Draft, mut roots: Vec<u32>, two: Two) {
+    while roots.len() > 1 {
+        roots = roots
+            .chunks(2)
+            .map(|pair| match pair {
+                [a, b] => draft.node(0, Operation::Two(two, *a, *b)),
+                _ => pair[0],
+            })
+            .collect();
+    }
+    if let Some(root) = roots.first() {
+        draft.policy(3, true, *root);
+    }
+}
+
+/// As many nodes of type bool as fit, joined by `two`: `one` makes each.
+fn repeated(draft: Draft, two: Two, mut one: impl FnMut(&mut Draft, usize) -> u32) -> Draft {
+    let mut count = 1024;
+    loop {
+        let mut next = draft.clone();
+        let roots: Vec<u32> = (0..count).map(|n| one(&mut next, n)).collect();
+        join(&mut next, roots, two);
+        if next.nodes.len() <= 1024 && next.values.len() <= 1022 && next.bytes().len() <= SHEET_BYTES - SPARE {
+            return next;
+        }
+        count -= 1 + count / 50;
+    }
+}
+
+fn shared(levels: usize) -> Draft {
+    let mut draft = small();
+    let (a, b) = (draft.text(b"a"), draft.text(b"b"));
+    let (mut ty, mut v) = (0, draft.value(ValueRow::Bool(true)));
+    for _ in 0..levels {
+        ty = draft.ty(TypeRow::Record(vec![(a, true, ty), (b, true, ty)]));
+        v = draft.value(ValueRow::Record(vec![(a, v), (b, v)]));
+    }
+    draft.context = (ty, Some(v));
+    repeated(draft, Two::And, |draft, _| {
+        let x = draft.node(ty, Operation::Var(Variable::Context));
+        let y = draft.node(ty, Operation::Lit(v));
+        draft.node(0, Operation::Two(Two::Eq, x, y))
+    })
+}
+
+fn many_values() -> Draft {
+    fill(small(), 1024, |draft, n| {
+        draft.value(ValueRow::Long(n as i64));
+    })
+}
+
+fn many_texts() -> Draft {
+    fill(small(), 508, |draft, n| {
+        draft.text(format!("the same start {n:0>9}").as_bytes());
+    })
+}
+
+fn many_types() -> Draft {
+    let mut draft = small();
+    for n in 4..32 {
+        let name = draft.text(format!("k{n}").as_bytes());
+        draft.kinds.push((name, false));
+        draft.shapes.push(ShapeRow { attributes: 1, tags: None, above: (0..n as u32).collect() });
+    }
+    fill(draft, 124, |draft, n| {
+        let n = n as u32;
+        draft.ty(TypeRow::Record((0..8).map(|t| (t, t % 2 == 0, (n + t) % (n + 3))).collect()));
+    })
+}
+
+fn stars() -> Draft {
+    let mut draft = small();
+    let string = draft.ty(TypeRow::String);
+    let text = draft.text(&[b'a'; 128]);
+    let (a, b) = (draft.text(b"aa"), draft.text(b"ab"));
+    let v = draft.value(ValueRow::Text(text));
+    repeated(draft, Two::Or, |draft, _| {
+        let lit = draft.node(string, Operation::Lit(v));
+        let mut items: Vec<Option<u32>> = (0..56).map(|n| if n % 2 == 0 { None } else { Some(a) }).collect();
+        items.extend([None, Some(b)]);
+        draft.node(0, Operation::Like(lit, items))
+    })
+}
+
+fn almost() -> Draft {
+    let mut draft = small();
+    let string = draft.ty(TypeRow::String);
+    let text = draft.text(&[b'a'; 128]);
+    let end = draft.text(&[&[b'a'; 63][..], b"b"].concat());
+    let v = draft.value(ValueRow::Text(text));
+    repeated(draft, Two::Or, |draft, _| {
+        let lit = draft.node(string, Operation::Lit(v));
+        draft.node(0, Operation::Like(lit, vec![None, Some(end)]))
+    })
+}
+
+fn chains() -> Draft {
+    // and of what may err on the left, at every level, so that each level asks its whole left side.
+    let mut draft = small();
+    let a = draft.text(b"a");
+    let record = draft.ty(TypeRow::Record(vec![(a, true, 0)]));
+    draft.context = (record, None);
+    let no = draft.value(ValueRow::Bool(false));
+    for policy in 0..16 {
+        let mut next = draft.clone();
+        let id = next.text(format!("p{policy}").as_bytes());
+        let var = next.node(2, Operation::Var(Variable::Principal));
+        let other = next.node(2, Operation::Var(Variable::Principal));
+        let mut node = next.node(0, Operation::Two(Two::Eq, var, other));
+        for level in 0..60 {
+            if level % 2 == 0 {
+                node = next.node(0, Operation::One(One::Not, node));
+            } else {
+                let var = next.node(0, Operation::Lit(no));
+                node = next.node(0, Operation::Two(if level % 4 == 1 { Two::Or } else { Two::Eq }, node, var));
+            }
+        }
+        next.policy(id, true, node);
+        if next.bytes().len() > SHEET_BYTES || next.nodes.len() > 1024 {
+            break;
+        }
+        draft = next;
+    }
+    draft
+}
+
+fn ifs() -> Draft {
+    let mut draft = small();
+    let a = draft.text(b"a");
+    let record = draft.ty(TypeRow::Record(vec![(a, true, 0)]));
+    draft.context = (record, None);
+    let yes = draft.value(ValueRow::Bool(true));
+    for policy in 0..16 {
+        let mut next = draft.clone();
+        let id = next.text(format!("p{policy}").as_bytes());
+        let var = next.node(record, Operation::Var(Variable::Context));
+        let mut node = next.node(0, Operation::Get(var, a));
+        for level in 0..61 {
+            let [x, y] = [yes, yes].map(|v| next.node(0, Operation::Lit(v)));
+            node = match level % 3 {
+                0 => next.node(0, Operation::If(node, x, y)),
+                1 => next.node(0, Operation::If(x, node, y)),
+                _ => next.node(0, Operation::If(x, node, y)),
+            };
+        }
+        next.policy(id, true, node);
+        if next.bytes().len() > SHEET_BYTES || next.nodes.len() > 1024 {
+            break;
+        }
+        draft = next;
+    }
+    draft
+}
+
+fn made() -> Draft {
+    let mut draft = small();
+    for n in 0..200 {
+        draft.value(ValueRow::Long(n));
+    }
+    repeated(draft, Two::And, |draft, n| {
+        let x = draft.node(3, Operation::Lit(10 + n as u32 % 180));
+        let neg = draft.node(3, Operation::One(One::Neg, x));
+        let y = draft.node(3, Operation::Lit(199 - n as u32 % 180));
+        let sum = draft.node(3, Operation::Two(Two::Mul, neg, y));
+        let z = draft.node(3, Operation::Lit(0));
+        draft.node(0, Operation::Two(Two::Le, sum, z))
+    })
+}
+
+fn long_set() -> Draft {
+    let mut draft = small();
+    let longs = draft.ty(TypeRow::Set(3));
+    let build = |count: usize| {
+        let mut next = draft.clone();
+        for n in 0..count {
+            next.value(ValueRow::Long(n as i64));
+        }
+        let items: Vec<u32> = (0..count).map(|n| next.node(3, Operation::Lit((count - 1 - n) as u32))).collect();
+        let set = next.node(longs, Operation::Set(items));
+        let root = next.node(0, Operation::One(One::Empty, set));
+        next.policy(3, true, root);
+        next
+    };
+    let mut count = 700;
+    while build(count).bytes().len() > SHEET_BYTES {
+        count -= 1;
+    }
+    build(count)
+}
+
+fn made_sets() -> Draft {
+    let mut draft = small();
+    let longs = draft.ty(TypeRow::Set(3));
+    for n in 0..40 {
+        draft.value(ValueRow::Long(n));
+    }
+    repeated(draft, Two::Or, |draft, n| {
+        let items: Vec<u32> = (0..8).map(|i| draft.node(3, Operation::Lit(((n * 7 + i * (1 + n % 5)) % 40) as u32))).collect();
+        let set = draft.node(longs, Operation::Set(items));
+        draft.node(0, Operation::One(One::Empty, set))
+    })
+}
+
+fn long_sets(two: Two) -> Draft {
+    let mut draft = small();
+    let longs = draft.ty(TypeRow::Set(3));
+    let count = 400u32;
+    for n in 0..count {
+        draft.value(ValueRow::Long(n as i64));
+    }
+    let (left, right) = match two {
+        Two::Any => ((0..count).filter(|n| n % 2 == 0).collect(), (0..count).filter(|n| n % 2 == 1).collect()),
+        _ => ((0..count).collect(), (0..count - 1).collect()),
+    };
+    let (left, right) = (draft.value(ValueRow::Set(left)), draft.value(ValueRow::Set(right)));
+    repeated(draft, Two::And, |draft, _| {
+        let x = draft.node(longs, Operation::Lit(left));
+        let y = draft.node(longs, Operation::Lit(right));
+        let test = draft.node(0, Operation::Two(two, x, y));
+        if two == Two::Any {
+            return draft.node(0, Operation::One(One::Not, test));
+        }
+        test
+    })
+}
+
+fn ancestors() -> Draft {
+    let mut draft = small();
+    draft.ty(TypeRow::Entity(0));
+    let set = draft.ty(TypeRow::Set(2));
+    let count = 220u32;
+    let entities: Vec<u32> = (0..count)
+        .map(|n| {
+            let t = draft.text(format!("{n}").as_bytes());
+            draft.value(ValueRow::Entity(0, t))
+        })
+        .collect();
+    let even = draft.value(ValueRow::Set(entities.iter().copied().filter(|v| v % 2 == 0).collect()));
+    let odd = draft.value(ValueRow::Set(entities.iter().copied().filter(|v| v % 2 == 1).collect()));
+    let t = draft.text(b"low");
+    let low = draft.value(ValueRow::Entity(0, t));
+    draft.entities.push(EntityRow { entity: low, attributes: None, tags: None, ancestors: Some(even) });
+    repeated(draft, Two::Or, |draft, _| {
+        let x = draft.node(2, Operation::Lit(low));
+        let y = draft.node(set, Operation::Lit(odd));
+        draft.node(0, Operation::Two(Two::In, x, y))
+    })
+}
+
+fn look_ups() -> Draft {
+    let mut draft = small();
+    let a = draft.text(b"a");
+    let record = draft.ty(TypeRow::Record(vec![(a, true, 0)]));
+    draft.shapes[0].attributes = record;
+    let yes = draft.value(ValueRow::Bool(true));
+    let attributes = draft.value(ValueRow::Record(vec![(a, yes)]));
+    let tags = draft.value(ValueRow::Record(Vec::new()));
+    let ancestors = draft.value(ValueRow::Set(Vec::new()));
+    let mut last = 0;
+    for n in 0..128 {
+        let t = draft.text(format!("{n}").as_bytes());
+        last = draft.value(ValueRow::Entity(0, t));
+        draft.entities.push(EntityRow {
+            entity: last,
+            attributes: Some(attributes),
+            tags: Some(tags),
+            ancestors: Some(ancestors),
+        });
+    }
+    repeated(draft, Two::And, |draft, _| {
+        let lit = draft.node(2, Operation::Lit(last));
+        draft.node(0, Operation::Get(lit, a))
+    })
+}
+
+fn long_records() -> Draft {
+    let mut draft = small();
+    let count = 380;
+    let texts: Vec<u32> = (0..count).map(|n| draft.text(format!("{n}").as_bytes())).collect();
+    let record = draft.ty(TypeRow::Record(texts.iter().map(|t| (*t, true, 0)).collect()));
+    let yes = draft.value(ValueRow::Bool(true));
+    let v = draft.value(ValueRow::Record(texts.iter().map(|t| (*t, yes)).collect()));
+    draft.context = (record, Some(v));
+    let last = *texts.last().expect("texts");
+    repeated(draft, Two::And, |draft, _| {
+        let var = draft.node(record, Operation::Var(Variable::Context));
+        draft.node(0, Operation::Get(var, last))
+    })
+}
+
+fn paths() -> Draft {
+    let mut draft = small();
+    let a = draft.text(b"a");
+    let (mut ty, mut v) = (0, draft.value(ValueRow::Bool(true)));
+    for _ in 0..60 {
+        ty = draft.ty(TypeRow::Record(vec![(a, true, ty)]));
+        v = draft.value(ValueRow::Record(vec![(a, v)]));
+    }
+    draft.context = (ty, Some(v));
+    repeated(draft, Two::And, |draft, _| {
+        let var = draft.node(ty, Operation::Var(Variable::Context));
+        draft.node(0, Operation::HasPath(var, vec![a; 60]))
+    })
+}
+
+fn literals() -> Draft {
+    let mut draft = small();
+    let longs = draft.ty(TypeRow::Set(3));
+    let count = 500u32;
+    for n in 0..count {
+        draft.value(ValueRow::Long(n as i64));
+    }
+    let all = draft.value(ValueRow::Set((0..count).collect()));
+    repeated(draft, Two::Or, |draft, _| {
+        let lit = draft.node(longs, Operation::Lit(all));
+        draft.node(0, Operation::One(One::Empty, lit))
+    })
+}
+
+fn open() -> Draft {
+    let mut draft = small();
+    let a = draft.text(b"a");
+    let record = draft.ty(TypeRow::Record(vec![(a, true, 0)]));
+    draft.context = (record, None);
+    fill(draft, 64, |draft, n| {
+        let id = draft.text(format!("p{n}").as_bytes());
+        let mut roots: Vec<u32> = (0..4)
+            .map(|_| {
+                let var = draft.node(record, Operation::Var(Variable::Context));
+                draft.node(0, Operation::Get(var, a))
+            })
+            .collect();
+        while roots.len() > 1 {
+            roots = roots.chunks(2).map(|pair| draft.node(0, Operation::Two(Two::And, pair[0], pair[1]))).collect();
+        }
+        draft.policy(id, true, roots[0]);
+    })
+}

@@ -1,0 +1,595 @@
+//! Runs a sheet through the original text and prints the answer.
+
+use std::collections::{BTreeMap, HashMap, HashSet};
+use std::sync::Arc;
+
+use original::ast::{
+    BinaryOp, Context, Effect, Eid, Entity, EntityType, EntityUID, EntityUIDEntry, Expr, Pattern, Policy, PolicyID, Request,
+    SlotEnv, UnaryOp, Value, ValueKind, Var,
+};
+use original::authorizer::Decision;
+use original::entities::Entities;
+use original::evaluator::Evaluator;
+use original::extensions::Extensions;
+use original::rows;
+use original::tpe::entities::PartialEntities;
+use original::tpe::request::{PartialEntityUID, PartialRequest};
+use original::tpe::residual::{Residual, ResidualKind};
+use original::tpe::response::{second_decision, ResidualPolicy, Response};
+use original::validator::types::{Lub, Type};
+use original::validator::{Attributes, KindRow, ValidatorSchema};
+use original::{NonEmpty, SmolStr};
+
+use crate::sheet::{self, Mode, One, Operation, Refusal, Sheet, Two, TypeRow, ValueRow, Variable, WORK_WORDS};
+
+/// A value whose leaves are more than this, counted along every path, is not walked by the original's search for
+/// extension values: the walk would not end in any useful time.
+const GREATEST_WALK: u64 = 100_000;
+
+/// A sheet in the original's types. The values stand in `original::rows`.
+pub struct Ground {
+    texts: Vec<SmolStr>,
+    types: Vec<Type>,
+    type_numbers: Vec<(Type, u32)>,
+    schema: ValidatorSchema,
+    values: usize,
+    heavy: bool,
+}
+
+/// The answer of a call that is lent long enough slices and buffers, or its refusal.
+pub fn answer(mode: Mode, bytes: &[u8]) -> Result<Vec<u8>, Refusal> {
+    let sheet = sheet::read(mode, bytes)?;
+    let ground = Ground::of(&sheet);
+    let text = match mode {
+        Mode::Partial => partial_answer(&sheet, &ground),
+        Mode::Complete => complete_answer(&sheet, &ground),
+    };
+    if rows::full() {
+        return Err(Refusal { number: 9, line: 0, length: 0 });
+    }
+    Ok(text.into_bytes())
+}
+
+/// A whole call, as document 01 says of what is lent: returns number, line and length.
+pub fn call(mode: Mode, bytes: &[u8], work_a: &mut [u32], work_b: &mut [u32], out: &mut [u8]) -> [u32; 3] {
+    if work_a.len() < WORK_WORDS || work_b.len() < WORK_WORDS {
+        return [1, 0, 0];
+    }
+    work_a[..WORK_WORDS].fill(0);
+    work_b[..WORK_WORDS].fill(0);
+    match answer(mode, bytes) {
+        Err(refusal) => [refusal.number, refusal.line, refusal.length],
+        Ok(text) if text.len() > out.len() => [10, 0, text.len() as u32],
+        Ok(text) => {
+            out[..text.len()].copy_from_slice(&text);
+            [0, 0, text.len() as u32]
+        }
+    }
+}
+
+// Into the original's types ----------------------------------------------------------------------------------------------
+
+impl Ground {
+    /// Clears the rows of values and fills them with the sheet's.
+    pub fn of(sheet: &Sheet) -> Ground {
+        rows::clear();
+        let text = |bytes: &&[u8]| std::str::from_utf8(bytes).expect("texts are ASCII").to_string();
+        let texts: Vec<SmolStr> =
+            sheet.texts.iter().enumerate().map(|(n, bytes)| SmolStr::of_row(n as u32, &text(bytes))).collect();
+        let names =
+            |fields: &[(u32, bool, u32)]| Attributes::of(fields.iter().map(|(t, _, _)| texts[*t as usize].bytes().clone()));
+        let mut types: Vec<Type> = Vec::new();
+        for (row, ty) in sheet.types.iter().enumerate() {
+            let row = row as u32;
+            types.push(match ty {
+                TypeRow::Bool => Type::Bool,
+                TypeRow::Long => Type::Long,
+                TypeRow::String => Type::String,
+                TypeRow::Entity(kind) => Type::Entity(Lub(EntityType(*kind))),
+                TypeRow::Set(element) => Type::Set { row, element: Arc::new(types[*element as usize].clone()) },
+                TypeRow::Record(fields) => Type::Record { row, attributes: names(fields) },
+            });
+        }
+        let kinds = sheet.kinds.iter().zip(&sheet.shapes).map(|((_, is_action), shape)| KindRow {
+            is_action: *is_action,
+            attributes: match &types[shape.attributes as usize] {
+                Type::Record { attributes, .. } => attributes.clone(),
+                _ => unreachable!("a shape's attributes are a record"),
+            },
+            has_tags: shape.tags.is_some(),
+            above: shape.above.clone(),
+        });
+        let schema = ValidatorSchema { kinds: kinds.collect() };
+        let simple = |ty: &&(Type, u32)| !matches!(ty.0, Type::Set { .. } | Type::Record { .. });
+        let numbered: Vec<(Type, u32)> = types.iter().cloned().zip(0..).collect();
+        let type_numbers = numbered.iter().filter(simple).cloned().collect();
+        let mut ground = Ground { texts, types, type_numbers, schema, values: sheet.values.len(), heavy: false };
+        let mut sizes: Vec<u64> = Vec::new();
+        for row in &sheet.values {
+            let size = match row {
+                ValueRow::Set(items) => items.iter().fold(1u64, |sum, v| sum.saturating_add(sizes[*v as usize])),
+                ValueRow::Record(fields) => fields.iter().fold(1u64, |sum, (_, v)| sum.saturating_add(sizes[*v as usize])),
+                _ => 1,
+            };
+            ground.heavy |= size > GREATEST_WALK;
+            sizes.push(size);
+            ground.value(row, |n| n);
+        }
+        ground
+    }
+
+    /// A row as a value; `place` says where the rows that it names stand.
+    fn value(&self, row: &ValueRow, place: impl Fn(u32) -> u32) -> Value {
+        match row {
+            ValueRow::Bool(b) => (*b).into(),
+            ValueRow::Long(n) => (*n).into(),
+            ValueRow::Text(t) => Value::text(&self.texts[*t as usize]),
+            ValueRow::Entity(kind, t) => self.uid(*kind, *t).into(),
+            ValueRow::Set(items) => Value::set(items.iter().map(|v| rows::value(place(*v))), None),
+            ValueRow::Record(fields) => {
+                let field = |(t, v): &(u32, u32)| (self.texts[*t as usize].clone(), rows::value(place(*v)));
+                Value::record(fields.iter().map(field), None)
+            }
+        }
+    }
+
+    fn uid(&self, kind: u32, text: u32) -> EntityUID {
+        EntityUID::from_components(EntityType(kind), Eid(self.texts[text as usize].clone()), None)
+    }
+
+    fn uid_of(&self, value: u32) -> EntityUID {
+        rows::value(value).get_as_entity_row()
+    }
+
+    fn record_of(&self, value: u32) -> Arc<BTreeMap<SmolStr, Value>> {
+        match rows::value(value).value {
+            ValueKind::Record(fields) => fields,
+            _ => unreachable!("typing wants a record"),
+        }
+    }
+
+    fn uids_of(&self, value: u32) -> HashSet<EntityUID> {
+        match rows::value(value).value {
+            ValueKind::Set(set) => set.iter().map(EntityRowOf::get_as_entity_row).collect(),
+            _ => unreachable!("typing wants a set"),
+        }
+    }
+
+    pub fn type_number(&self, ty: &Type) -> u32 {
+        match ty {
+            Type::Set { row, .. } | Type::Record { row, .. } => *row,
+            _ => self.type_numbers.iter().find(|(other, _)| other == ty).expect("a type of the sheet").1,
+        }
+    }
+
+    /// The tree of a node, from rows whose `lit` numbers `place` reads.
+    fn tree(&self, nodes: &[sheet::NodeRow], root: u32, place: &dyn Fn(u32) -> u32) -> Residual {
+        let node = &nodes[root as usize];
+        let ty = self.types[node.ty as usize].clone();
+        let child = |n: &u32| Arc::new(self.tree(nodes, *n, place));
+        let text = |t: &u32| self.texts[*t as usize].clone();
+        let kind = match &node.operation {
+            Operation::Lit(v) => return Residual::Concrete { value: rows::value(place(*v)), ty },
+            Operation::Err => return Residual::Error(ty),
+            Operation::Var(variable) => ResidualKind::Var(match variable {
+                Variable::Principal => Var::Principal,
+                Variable::Action => Var::Action,
+                Variable::Resource => Var::Resource,
+                Variable::Context => Var::Context,
+            }),
+            Operation::Two(Two::And, a, b) => ResidualKind::And { left: child(a), right: child(b) },
+            Operation::Two(Two::Or, a, b) => ResidualKind::Or { left: child(a), right: child(b) },
+            Operation::Two(two, a, b) => ResidualKind::BinaryApp { op: binary_op(*two), arg1: child(a), arg2: child(b) },
+            Operation::One(one, a) => {
+                let op = match one {
+                    One::Not => UnaryOp::Not,
+                    One::Neg => UnaryOp::Neg,
+                    One::Empty => UnaryOp::IsEmpty,
+                };
+                ResidualKind::UnaryApp { op, arg: child(a) }
+            }
+            Operation::If(a, b, c) => ResidualKind::If { test_expr: child(a), then_expr: child(b), else_expr: child(c) },
+            Operation::Is(a, kind) => ResidualKind::Is { expr: child(a), entity_type: EntityType(*kind) },
+            Operation::Like(a, items) => {
+                let pattern = Pattern::of(items.iter().map(|item| item.as_ref().map(text)).collect());
+                ResidualKind::Like { expr: child(a), pattern }
+            }
+            Operation::Get(a, t) => ResidualKind::GetAttr { expr: child(a), attr: text(t) },
+            Operation::Has(a, t) => ResidualKind::HasAttr { expr: child(a), attr: text(t) },
+            Operation::HasPath(a, path) => {
+                let attrs = NonEmpty { head: text(&path[0]), tail: path[1..].iter().map(text).collect() };
+                ResidualKind::ExtHasAttr { expr: child(a), attrs }
+            }
+            Operation::Set(items) => ResidualKind::Set(Arc::new(items.iter().map(|n| self.tree(nodes, *n, place)).collect())),
+            Operation::Record(fields) => {
+                let field = |(t, n): &(u32, u32)| (text(t), self.tree(nodes, *n, place));
+                ResidualKind::Record(Arc::new(fields.iter().map(field).collect()))
+            }
+        };
+        Residual::Partial { kind, ty }
+    }
+}
+
+/// The entity of an entity value.
+trait EntityRowOf {
+    fn get_as_entity_row(&self) -> EntityUID;
+}
+
+impl EntityRowOf for Value {
+    fn get_as_entity_row(&self) -> EntityUID {
+        match &self.value {
+            ValueKind::Lit(original::ast::Literal::EntityUID(uid)) => uid.as_ref().clone(),
+            _ => unreachable!("typing wants an entity"),
+        }
+    }
+}
+
+fn binary_op(two: Two) -> BinaryOp {
+    match two {
+        Two::Eq => BinaryOp::Eq,
+        Two::Lt => BinaryOp::Less,
+        Two::Le => BinaryOp::LessEq,
+        Two::Add => BinaryOp::Add,
+        Two::Sub => BinaryOp::Sub,
+        Two::Mul => BinaryOp::Mul,
+        Two::In => BinaryOp::In,
+        Two::GetTag => BinaryOp::GetTag,
+        Two::HasTag => BinaryOp::HasTag,
+        Two::Contains => BinaryOp::Contains,
+        Two::All => BinaryOp::ContainsAll,
+        Two::Any => BinaryOp::ContainsAny,
+        Two::And | Two::Or => unreachable!("and, or are not binary operators"),
+    }
+}
+
+fn binary_word(op: BinaryOp) -> &'static str {
+    match op {
+        BinaryOp::Eq => "eq",
+        BinaryOp::Less => "lt",
+        BinaryOp::LessEq => "le",
+        BinaryOp::Add => "add",
+        BinaryOp::Sub => "sub",
+        BinaryOp::Mul => "mul",
+        BinaryOp::In => "in",
+        BinaryOp::GetTag => "gettag",
+        BinaryOp::HasTag => "hastag",
+        BinaryOp::Contains => "contains",
+        BinaryOp::ContainsAll => "all",
+        BinaryOp::ContainsAny => "any",
+    }
+}
+
+// The partial run --------------------------------------------------------------------------------------------------------
+
+fn policy_of(row: &sheet::PolicyRow, condition: Expr) -> Policy {
+    Policy::of(PolicyID(row.id), if row.permit { Effect::Permit } else { Effect::Forbid }, condition)
+}
+
+fn partial_request(sheet: &Sheet, ground: &Ground) -> PartialRequest {
+    let partial = |(kind, text): (u32, Option<u32>)| PartialEntityUID {
+        ty: EntityType(kind),
+        eid: text.map(|t| Eid(ground.texts[t as usize].clone())),
+    };
+    PartialRequest::given(
+        partial(sheet.principal),
+        ground.uid(sheet.action.0, sheet.action.1),
+        partial(sheet.resource),
+        sheet.context.1.map(|v| ground.record_of(v)),
+    )
+}
+
+fn partial_entities(sheet: &Sheet, ground: &Ground) -> PartialEntities {
+    let mut entities = PartialEntities::new();
+    for row in &sheet.entities {
+        entities.add(
+            ground.uid_of(row.entity),
+            row.attributes.map(|v| ground.record_of(v).as_ref().clone()),
+            row.ancestors.map(|v| ground.uids_of(v)),
+            row.tags.map(|v| ground.record_of(v).as_ref().clone()),
+        );
+    }
+    entities
+}
+
+/// The residuals of all policies, by the original's `interpret`.
+fn residuals(sheet: &Sheet, ground: &Ground, request: &PartialRequest, entities: &PartialEntities) -> Vec<ResidualPolicy> {
+    let one = |row: &sheet::PolicyRow| {
+        let tree = ground.tree(&sheet.nodes, row.node, &|n| n);
+        let residual = original::tpe::interpret(request, entities, &ground.schema, ground.heavy, &tree);
+        ResidualPolicy::new(Arc::new(residual), Arc::new(policy_of(row, Expr::val(true))))
+    };
+    sheet.policies.iter().map(one).collect()
+}
+
+fn partial_answer(sheet: &Sheet, ground: &Ground) -> String {
+    let request = partial_request(sheet, ground);
+    let entities = partial_entities(sheet, ground);
+    let residuals = residuals(sheet, ground, &request, &entities);
+    let response = Response::new(residuals.iter().cloned(), &request, &entities, &ground.schema);
+    assert_eq!(response.decision(), second_decision(&residuals), "both decisions of the original agree on typed sheets");
+    let mut text = format!("decision={}\n", decision_word(response.decision()));
+    let sets: [Vec<&ResidualPolicy>; 8] = [
+        response.true_permits().collect(),
+        response.false_permits().collect(),
+        response.error_permits().collect(),
+        response.residual_permits().collect(),
+        response.true_forbids().collect(),
+        response.false_forbids().collect(),
+        response.error_forbids().collect(),
+        response.residual_forbids().collect(),
+    ];
+    let mut classes: HashMap<u32, &str> = HashMap::new();
+    for (place, set) in sets.iter().enumerate() {
+        for policy in set {
+            classes.insert(policy.get_policy_id().0, ["true", "false", "error", "open"][place % 4]);
+        }
+    }
+    push_counts(&mut text, &sets.map(|set| set.len()));
+    for n in ground.values..rows::count() {
+        push_value(&mut text, &rows::row(n as u32));
+    }
+    let mut nodes = 0;
+    let mut policies = String::new();
+    for (row, residual) in sheet.policies.iter().zip(&residuals) {
+        let root = push_tree(&mut text, ground, residual.as_residual(), &mut nodes);
+        policies.push_str(&format!("policy={},{},{},{root}\n", row.id, effect_word(row.permit), classes[&row.id]));
+    }
+    text + &policies
+}
+
+fn decision_word(decision: Option<Decision>) -> &'static str {
+    match decision {
+        Some(Decision::Allow) => "allow",
+        Some(Decision::Deny) => "deny",
+        None => "open",
+    }
+}
+
+fn effect_word(permit: bool) -> &'static str {
+    if permit {
+        "permit"
+    } else {
+        "forbid"
+    }
+}
+
+// The complete run -------------------------------------------------------------------------------------------------------
+
+/// The request and entities of a complete sheet, for the original's `evaluator.rs`.
+pub struct Complete {
+    request: Request,
+    entities: Entities,
+}
+
+impl Complete {
+    pub fn of(sheet: &Sheet, ground: &Ground) -> Complete {
+        let known = |kind: u32, text: u32| EntityUIDEntry::Known { euid: Arc::new(ground.uid(kind, text)), loc: None };
+        let given = "a complete sheet has no unknown parts";
+        let request = Request {
+            principal: known(sheet.principal.0, sheet.principal.1.expect(given)),
+            action: known(sheet.action.0, sheet.action.1),
+            resource: known(sheet.resource.0, sheet.resource.1.expect(given)),
+            context: Some(Context(ground.record_of(sheet.context.1.expect(given)))),
+        };
+        let entities = Entities::of(sheet.entities.iter().map(|row| {
+            Entity::of(
+                ground.uid_of(row.entity),
+                &ground.record_of(row.attributes.expect(given)),
+                ground.uids_of(row.ancestors.expect(given)),
+                &ground.record_of(row.tags.expect(given)),
+            )
+        }));
+        Complete { request, entities }
+    }
+
+    /// What a tree yields: the number of its value, or None for an error. The tree becomes an expression by the
+    /// original's `From<Residual> for Expr` and is evaluated by its `Evaluator::interpret`.
+    pub fn yields(&self, tree: Residual) -> Option<u32> {
+        let extensions = Extensions::default();
+        let evaluator = Evaluator::new(self.request.clone(), &self.entities, &extensions);
+        evaluator.interpret(&Expr::from(tree), &SlotEnv::new()).ok().map(|value| rows::number(&value))
+    }
+}
+
+fn class_of(yielded: Option<u32>) -> &'static str {
+    match yielded.map(rows::row) {
+        None => "error",
+        Some(rows::Row::Bool(true)) => "true",
+        Some(_) => "false",
+    }
+}
+
+fn complete_answer(sheet: &Sheet, ground: &Ground) -> String {
+    let complete = Complete::of(sheet, ground);
+    let mut counts = [0; 8];
+    let mut policies = String::new();
+    for row in &sheet.policies {
+        let class = class_of(complete.yields(ground.tree(&sheet.nodes, row.node, &|n| n)));
+        let place = ["true", "false", "error"].iter().position(|word| *word == class).expect("a class");
+        counts[if row.permit { place } else { 4 + place }] += 1;
+        policies.push_str(&format!("policy={},{},{class}\n", row.id, effect_word(row.permit)));
+    }
+    // "deny if a forbid is true, else allow if a permit is true, else deny; errors are skipped"
+    let decision = if counts[4] == 0 && counts[0] > 0 { "allow" } else { "deny" };
+    let mut text = format!("decision={decision}\n");
+    push_counts(&mut text, &counts);
+    text + &policies
+}
+
+// Printing ---------------------------------------------------------------------------------------------------------------
+
+fn push_counts(text: &mut String, counts: &[usize; 8]) {
+    let words: Vec<String> = counts.iter().map(usize::to_string).collect();
+    text.push_str(&format!("counts={}\n", words.join(",")));
+}
+
+fn push_numbers(text: &mut String, numbers: impl Iterator<Item = u32>) {
+    for n in numbers {
+        text.push(',');
+        text.push_str(&n.to_string());
+    }
+    text.push('\n');
+}
+
+fn push_value(text: &mut String, row: &rows::Row) {
+    match row {
+        rows::Row::Bool(b) => text.push_str(&format!("value=bool,{}\n", u8::from(*b))),
+        rows::Row::Long(n) => text.push_str(&format!("value=long,{n}\n")),
+        rows::Row::Text(t) => text.push_str(&format!("value=text,{t}\n")),
+        rows::Row::Entity(kind, t) => text.push_str(&format!("value=entity,{kind},{t}\n")),
+        rows::Row::Set(items) => {
+            text.push_str("value=set");
+            push_numbers(text, items.iter().copied());
+        }
+        rows::Row::Record(fields) => {
+            text.push_str("value=record");
+            push_numbers(text, fields.iter().flat_map(|(t, v)| [*t, *v]));
+        }
+    }
+}
+
+/// Adds the lines of a tree, children before parents, and gives the number of its root.
+fn push_tree(text: &mut String, ground: &Ground, tree: &Residual, nodes: &mut u32) -> u32 {
+    let (word, numbers): (String, Vec<u32>) = match tree {
+        Residual::Concrete { value, .. } => ("lit".into(), vec![rows::number(value)]),
+        Residual::Error(_) => ("err".into(), Vec::new()),
+        Residual::Partial { kind, .. } => {
+            let mut child = |tree: &Residual| push_tree(text, ground, tree, nodes);
+            match kind {
+                ResidualKind::Var(Var::Principal) => ("var,p".into(), Vec::new()),
+                ResidualKind::Var(Var::Action) => ("var,a".into(), Vec::new()),
+                ResidualKind::Var(Var::Resource) => ("var,r".into(), Vec::new()),
+                ResidualKind::Var(Var::Context) => ("var,c".into(), Vec::new()),
+                ResidualKind::And { left, right } => ("and".into(), vec![child(left), child(right)]),
+                ResidualKind::Or { left, right } => ("or".into(), vec![child(left), child(right)]),
+                ResidualKind::If { test_expr, then_expr, else_expr } => {
+                    ("if".into(), vec![child(test_expr), child(then_expr), child(else_expr)])
+                }
+                ResidualKind::UnaryApp { op, arg } => {
+                    let word = match op {
+                        UnaryOp::Not => "not",
+                        UnaryOp::Neg => "neg",
+                        UnaryOp::IsEmpty => "empty",
+                    };
+                    (word.into(), vec![child(arg)])
+                }
+                ResidualKind::BinaryApp { op, arg1, arg2 } => (binary_word(*op).into(), vec![child(arg1), child(arg2)]),
+                ResidualKind::GetAttr { expr, attr } => ("get".into(), vec![child(expr), attr.number()]),
+                ResidualKind::HasAttr { expr, attr } => ("has".into(), vec![child(expr), attr.number()]),
+                ResidualKind::ExtHasAttr { expr, attrs } => {
+                    let first = child(expr);
+                    ("haspath".into(), std::iter::once(first).chain(attrs.iter().map(SmolStr::number)).collect())
+                }
+                ResidualKind::Is { expr, entity_type } => ("is".into(), vec![child(expr), entity_type.0]),
+                ResidualKind::Like { expr, pattern } => {
+                    let first = child(expr);
+                    let items = pattern.items().iter().map(|item| match item {
+                        Some(t) => t.number().to_string(),
+                        None => "*".to_string(),
+                    });
+                    let words: Vec<String> = ["like".to_string(), first.to_string()].into_iter().chain(items).collect();
+                    (words.join(","), Vec::new())
+                }
+                ResidualKind::Set(items) => ("set".into(), items.iter().map(child).collect()),
+                ResidualKind::Record(fields) => {
+                    ("record".into(), fields.iter().flat_map(|(t, tree)| [t.number(), child(tree)]).collect())
+                }
+                ResidualKind::ExtensionFunctionApp { .. } => unreachable!("extension functions are left out"),
+            }
+        }
+    };
+    text.push_str(&format!("node={},{word}", ground.type_number(tree.ty())));
+    push_numbers(text, numbers.into_iter());
+    *nodes += 1;
+    *nodes - 1
+}
+
+// Demand 3 ---------------------------------------------------------------------------------------------------------------
+
+/// What an answer says.
+struct Said {
+    decision: String,
+    counts: Vec<usize>,
+    made: Vec<ValueRow>,
+    nodes: Vec<sheet::NodeRow>,
+    /// Id, effect, class and, in a partial answer, the root.
+    policies: Vec<(u32, String, String, Option<u32>)>,
+}
+
+/// Reads an answer back.
+fn said(mode: Mode, answer: &[u8]) -> Option<Said> {
+    let text = std::str::from_utf8(answer).ok()?;
+    let mut lines = text.strip_suffix('\n')?.split('\n').peekable();
+    let decision = lines.next()?.strip_prefix("decision=")?.to_string();
+    let counts = lines.next()?.strip_prefix("counts=")?.split(',').map(|n| n.parse().ok()).collect::<Option<Vec<usize>>>()?;
+    let mut said = Said { decision, counts, made: Vec::new(), nodes: Vec::new(), policies: Vec::new() };
+    let items = |line: &'static str, text: &str| {
+        text.strip_prefix(line).map(|rest| rest.split(',').map(str::to_string).collect::<Vec<_>>())
+    };
+    for line in lines {
+        if let Some(items) = items("value=", line) {
+            let items: Vec<&[u8]> = items.iter().map(|item| item.as_bytes()).collect();
+            said.made.push(sheet::form_value_line(&items)?);
+        } else if let Some(items) = items("node=", line) {
+            let items: Vec<&[u8]> = items.iter().map(|item| item.as_bytes()).collect();
+            let ty = std::str::from_utf8(items[0]).ok()?.parse().ok()?;
+            said.nodes.push(sheet::NodeRow { ty, operation: sheet::form_operation(items[1], &items[2..])? });
+        } else {
+            let items = items("policy=", line)?;
+            let root = items.get(3).map(|root| root.parse().ok()).unwrap_or(None);
+            if items.len() != if mode == Mode::Partial { 4 } else { 3 } || (mode == Mode::Partial && root.is_none()) {
+                return None;
+            }
+            said.policies.push((items[0].parse().ok()?, items[1].clone(), items[2].clone(), root));
+        }
+    }
+    Some(said)
+}
+
+/// Demand 3 by running, from the bytes of three sheets and their three answers: all that is settled is the same, and
+/// every residual yields what its policy yields. Gives the first thing that is not so.
+pub fn demand3(sheets: [&[u8]; 3], answers: [&[u8]; 3]) -> Result<(), String> {
+    let partial = said(Mode::Partial, answers[0]).ok_or("the partial answer does not read back")?;
+    let sum: usize = partial.counts.iter().sum();
+    if partial.counts.len() != 8 || sum != partial.policies.len() {
+        return Err("the partial counts do not sum to the policies".into());
+    }
+    let first = sheet::read(Mode::Partial, sheets[0]).map_err(|_| "the partial sheet is refused")?;
+    let given = first.values.len();
+    for which in [1, 2] {
+        let complete = said(Mode::Complete, answers[which]).ok_or("a complete answer does not read back")?;
+        let sheet = sheet::read(Mode::Complete, sheets[which]).map_err(|_| "a complete sheet is refused")?;
+        if ["allow", "deny"].contains(&partial.decision.as_str()) && partial.decision != complete.decision {
+            return Err(format!("decision {} became {}", partial.decision, complete.decision));
+        }
+        if partial.policies.len() != complete.policies.len() || partial.policies.len() != sheet.policies.len() {
+            return Err("the policies are not as many".into());
+        }
+        let ground = Ground::of(&sheet);
+        let run = Complete::of(&sheet, &ground);
+        // Made values are carried over by content.
+        let mut places: Vec<u32> = (0..given as u32).collect();
+        for row in &partial.made {
+            let value = ground.value(row, |n| places[n as usize]);
+            places.push(rows::number(&value));
+        }
+        for (n, row) in sheet.policies.iter().enumerate() {
+            let (old, new) = (&partial.policies[n], &complete.policies[n]);
+            if (old.0, &old.1) != (new.0, &new.1) || old.0 != row.id {
+                return Err(format!("policy line {n} names another policy"));
+            }
+            if old.2 != "open" && old.2 != new.2 {
+                return Err(format!("policy {} was {} and became {}", old.0, old.2, new.2));
+            }
+            let yielded = run.yields(ground.tree(&sheet.nodes, row.node, &|n| n));
+            if class_of(yielded) != new.2 {
+                return Err(format!("policy {} is called {} and yields {}", old.0, new.2, class_of(yielded)));
+            }
+            let residual = ground.tree(&partial.nodes, old.3.expect("a root"), &|n| places[n as usize]);
+            if run.yields(residual) != yielded {
+                return Err(format!("the residual of policy {} does not yield what the policy yields", old.0));
+            }
+        }
+    }
+    Ok(())
+}

@@ -1,0 +1,869 @@
+//! The sheet, read from its bytes, with refusals 2 to 8. Written from document 01, apart from the proved code.
+//!
+//! Each line goes through the checks in the order of their numbers: form (3), too many (4), references (5), depth (6),
+//! typing (7), uses (8). The first faulty line ends the reading.
+
+use std::collections::{HashMap, HashSet};
+
+pub const SHEET_BYTES: usize = 16384;
+pub const WORK_WORDS: usize = 16384;
+const TEXT_BYTES: usize = 128;
+const GREATEST_DEPTH: u32 = 64;
+
+/// Which of the two entries a sheet is for.
+#[derive(Clone, Copy, Debug, PartialEq, Eq)]
+pub enum Mode {
+    Partial,
+    Complete,
+}
+
+impl Mode {
+    pub fn word(self) -> &'static str {
+        match self {
+            Mode::Partial => "partial",
+            Mode::Complete => "complete",
+        }
+    }
+}
+
+/// What a refused call returns: number, line, length.
+#[derive(Clone, Copy, Debug, PartialEq, Eq)]
+pub struct Refusal {
+    pub number: u32,
+    pub line: u32,
+    pub length: u32,
+}
+
+#[derive(Clone, Copy, Debug, PartialEq, Eq, PartialOrd, Ord, Hash)]
+pub enum Key {
+    Sheet,
+    Text,
+    Kind,
+    Type,
+    Shape,
+    Value,
+    Entity,
+    Principal,
+    Action,
+    Resource,
+    Context,
+    Node,
+    Policy,
+}
+
+const KEYS: [(&[u8], Key); 13] = [
+    (b"sheet", Key::Sheet),
+    (b"text", Key::Text),
+    (b"kind", Key::Kind),
+    (b"type", Key::Type),
+    (b"shape", Key::Shape),
+    (b"value", Key::Value),
+    (b"entity", Key::Entity),
+    (b"principal", Key::Principal),
+    (b"action", Key::Action),
+    (b"resource", Key::Resource),
+    (b"context", Key::Context),
+    (b"node", Key::Node),
+    (b"policy", Key::Policy),
+];
+
+#[derive(Clone, Debug, PartialEq, Eq, Hash)]
+pub enum TypeRow {
+    Bool,
+    Long,
+    String,
+    Entity(u32),
+    Set(u32),
+    /// Attributes: text, whether required, type.
+    Record(Vec<(u32, bool, u32)>),
+}
+
+#[derive(Clone, Debug)]
+pub struct ShapeRow {
+    pub attributes: u32,
+    pub tags: Option<u32>,
+    pub above: Vec<u32>,
+}
+
+#[derive(Clone, Debug, PartialEq, Eq, Hash)]
+pub enum ValueRow {
+    Bool(bool),
+    Long(i64),
+    Text(u32),
+    Entity(u32, u32),
+    Set(Vec<u32>),
+    Record(Vec<(u32, u32)>),
+}
+
+/// An entity line; None is `?`.
+#[derive(Clone, Debug, PartialEq, Eq)]
+pub struct EntityRow {
+    pub entity: u32,
+    pub attributes: Option<u32>,
+    pub tags: Option<u32>,
+    pub ancestors: Option<u32>,
+}
+
+#[derive(Clone, Copy, Debug, PartialEq, Eq)]
+pub enum Variable {
+    Principal,
+    Action,
+    Resource,
+    Context,
+}
+
+#[derive(Clone, Copy, Debug, PartialEq, Eq)]
+pub enum One {
+    Not,
+    Neg,
+    Empty,
+}
+
+#[derive(Clone, Copy, Debug, PartialEq, Eq)]
+pub enum Two {
+    And,
+    Or,
+    Eq,
+    Lt,
+    Le,
+    Add,
+    Sub,
+    Mul,
+    In,
+    GetTag,
+    HasTag,
+    Contains,
+    All,
+    Any,
+}
+
+pub const TWO: [(&str, Two); 14] = [
+    ("and", Two::And),
+    ("or", Two::Or),
+    ("eq", Two::Eq),
+    ("lt", Two::Lt),
+    ("le", Two::Le),
+    ("add", Two::Add),
+    ("sub", Two::Sub),
+    ("mul", Two::Mul),
+    ("in", Two::In),
+    ("gettag", Two::GetTag),
+    ("hastag", Two::HasTag),
+    ("contains", Two::Contains),
+    ("all", Two::All),
+    ("any", Two::Any),
+];
+
+/// What a node does. The children of a record stand beside their texts.
+#[derive(Clone, Debug, PartialEq, Eq)]
+pub enum Operation {
+    Lit(u32),
+    Err,
+    Var(Variable),
+    Two(Two, u32, u32),
+    One(One, u32),
+    If(u32, u32, u32),
+    Is(u32, u32),
+    /// Texts, and `*` as None.
+    Like(u32, Vec<Option<u32>>),
+    Get(u32, u32),
+    Has(u32, u32),
+    HasPath(u32, Vec<u32>),
+    Set(Vec<u32>),
+    Record(Vec<(u32, u32)>),
+}
+
+impl Operation {
+    pub fn children(&self) -> Vec<u32> {
+        match self {
+            Operation::Lit(_) | Operation::Err | Operation::Var(_) => Vec::new(),
+            Operation::Two(_, a, b) => vec![*a, *b],
+            Operation::If(a, b, c) => vec![*a, *b, *c],
+            Operation::One(_, a)
+            | Operation::Is(a, _)
+            | Operation::Like(a, _)
+            | Operation::Get(a, _)
+            | Operation::Has(a, _)
+            | Operation::HasPath(a, _) => vec![*a],
+            Operation::Set(items) => items.clone(),
+            Operation::Record(fields) => fields.iter().map(|(_, n)| *n).collect(),
+        }
+    }
+}
+
+#[derive(Clone, Debug, PartialEq, Eq)]
+pub struct NodeRow {
+    pub ty: u32,
+    pub operation: Operation,
+}
+
+#[derive(Clone, Debug, PartialEq, Eq)]
+pub struct PolicyRow {
+    pub id: u32,
+    pub permit: bool,
+    pub node: u32,
+}
+
+/// A line that has a right form.
+enum Row<'a> {
+    Sheet,
+    Text(&'a [u8]),
+    Kind(u32, bool),
+    Type(TypeRow),
+    Shape(ShapeRow),
+    Value(ValueRow),
+    Entity(EntityRow),
+    /// Principal, action and resource.
+    Request(u32, Option<u32>),
+    Context(u32, Option<u32>),
+    Node(NodeRow),
+    Policy(PolicyRow),
+}
+
+/// The rows of a sheet by key.
+#[derive(Default)]
+pub struct Sheet<'a> {
+    pub texts: Vec<&'a [u8]>,
+    /// Name and whether it is an action kind.
+    pub kinds: Vec<(u32, bool)>,
+    pub types: Vec<TypeRow>,
+    pub shapes: Vec<ShapeRow>,
+    pub values: Vec<ValueRow>,
+    pub entities: Vec<EntityRow>,
+    pub principal: (u32, Option<u32>),
+    pub action: (u32, u32),
+    pub resource: (u32, Option<u32>),
+    pub context: (u32, Option<u32>),
+    pub nodes: Vec<NodeRow>,
+    pub policies: Vec<PolicyRow>,
+}
+
+/// A sheet while it is read.
+struct Reader<'a> {
+    mode: Mode,
+    sheet: Sheet<'a>,
+    /// Which of the one-line keys were read, and the last key read.
+    seen: HashSet<Key>,
+    last: Key,
+    text_places: HashSet<&'a [u8]>,
+    type_places: HashSet<TypeRow>,
+    value_places: HashSet<ValueRow>,
+    type_depths: Vec<u32>,
+    value_depths: Vec<u32>,
+    node_depths: Vec<u32>,
+    node_lines: Vec<u32>,
+    used: Vec<bool>,
+    /// Pairs of value and type that were asked already, with the answer. Without it a sheet of shared rows would take 2^62 steps.
+    fits: HashMap<(u32, u32), bool>,
+}
+
+/// Reads a sheet, or says which refusal it gets.
+pub fn read(mode: Mode, bytes: &[u8]) -> Result<Sheet<'_>, Refusal> {
+    let refuse = |number, line| Err(Refusal { number, line, length: 0 });
+    if bytes.len() > SHEET_BYTES {
+        return refuse(2, 0);
+    }
+    let mut reader = Reader {
+        mode,
+        sheet: Sheet::default(),
+        seen: HashSet::new(),
+        last: Key::Sheet,
+        text_places: HashSet::new(),
+        type_places: HashSet::new(),
+        value_places: HashSet::new(),
+        type_depths: Vec::new(),
+        value_depths: Vec::new(),
+        node_depths: Vec::new(),
+        node_lines: Vec::new(),
+        used: Vec::new(),
+        fits: HashMap::new(),
+    };
+    let mut rest = bytes;
+    let mut line = 0;
+    while !rest.is_empty() {
+        line += 1;
+        let Some(end) = rest.iter().position(|b| *b == b'\n') else {
+            return refuse(3, line);
+        };
+        let number = reader.line(&rest[..end], line);
+        if number != 0 {
+            return refuse(number, line);
+        }
+        rest = &rest[end + 1..];
+    }
+    if !reader.seen.contains(&Key::Context) {
+        return refuse(3, line + 1);
+    }
+    if let Some(unused) = reader.used.iter().position(|used| !used) {
+        return refuse(8, reader.node_lines[unused]);
+    }
+    Ok(reader.sheet)
+}
+
+// Items of a line --------------------------------------------------------------------------------------------------------
+
+fn is_decimal(item: &[u8]) -> bool {
+    !item.is_empty() && item.iter().all(u8::is_ascii_digit) && (item == b"0" || item[0] != b'0')
+}
+
+/// "Indices have at most four digits."
+fn index(item: &[u8]) -> Option<u32> {
+    if !is_decimal(item) || item.len() > 4 {
+        return None;
+    }
+    Some(item.iter().fold(0, |n, digit| 10 * n + u32::from(digit - b'0')))
+}
+
+fn indices(items: &[&[u8]]) -> Option<Vec<u32>> {
+    items.iter().map(|item| index(item)).collect()
+}
+
+/// A 64-bit signed number, "without leading zeros or `-0`".
+fn long(item: &[u8]) -> Option<i64> {
+    let digits = item.strip_prefix(b"-").unwrap_or(item);
+    if !is_decimal(digits) || item == b"-0" || digits.len() > 19 {
+        return None;
+    }
+    let size = digits.iter().fold(0i128, |n, digit| 10 * n + i128::from(digit - b'0'));
+    i64::try_from(if item.len() > digits.len() { -size } else { size }).ok()
+}
+
+/// An index, or the mark as None.
+fn index_or(item: &[u8], mark: &[u8]) -> Option<Option<u32>> {
+    if item == mark {
+        return Some(None);
+    }
+    index(item).map(Some)
+}
+
+fn pairs(items: &[&[u8]]) -> Option<Vec<(u32, u32)>> {
+    if items.len() % 2 != 0 {
+        return None;
+    }
+    items.chunks(2).map(|pair| Some((index(pair[0])?, index(pair[1])?))).collect()
+}
+
+fn ascending(numbers: impl Iterator<Item = u32>) -> bool {
+    let numbers: Vec<u32> = numbers.collect();
+    numbers.windows(2).all(|pair| pair[0] < pair[1])
+}
+
+fn below(count: usize, n: u32) -> bool {
+    (n as usize) < count
+}
+
+fn form_type(items: &[&[u8]]) -> Option<TypeRow> {
+    let rest = &items[1..];
+    match (items[0], rest.len()) {
+        (b"bool", 0) => Some(TypeRow::Bool),
+        (b"long", 0) => Some(TypeRow::Long),
+        (b"string", 0) => Some(TypeRow::String),
+        (b"entity", 1) => index(rest[0]).map(TypeRow::Entity),
+        (b"set", 1) => index(rest[0]).map(TypeRow::Set),
+        (b"record", n) if n % 3 == 0 => {
+            let field = |group: &[&[u8]]| {
+                let required = match group[1] {
+                    b"r" => true,
+                    b"o" => false,
+                    _ => return None,
+                };
+                Some((index(group[0])?, required, index(group[2])?))
+            };
+            rest.chunks(3).map(field).collect::<Option<Vec<_>>>().map(TypeRow::Record)
+        }
+        _ => None,
+    }
+}
+
+pub fn form_value_line(items: &[&[u8]]) -> Option<ValueRow> {
+    let rest = &items[1..];
+    match (items[0], rest.len()) {
+        (b"bool", 1) => match rest[0] {
+            b"0" => Some(ValueRow::Bool(false)),
+            b"1" => Some(ValueRow::Bool(true)),
+            _ => None,
+        },
+        (b"long", 1) => long(rest[0]).map(ValueRow::Long),
+        (b"text", 1) => index(rest[0]).map(ValueRow::Text),
+        (b"entity", 2) => Some(ValueRow::Entity(index(rest[0])?, index(rest[1])?)),
+        (b"set", _) => indices(rest).map(ValueRow::Set),
+        (b"record", _) => pairs(rest).map(ValueRow::Record),
+        _ => None,
+    }
+}
+
+pub fn form_operation(word: &[u8], rest: &[&[u8]]) -> Option<Operation> {
+    if let Some((_, two)) = TWO.iter().find(|(name, _)| name.as_bytes() == word) {
+        return if rest.len() == 2 { Some(Operation::Two(*two, index(rest[0])?, index(rest[1])?)) } else { None };
+    }
+    match (word, rest.len()) {
+        (b"lit", 1) => index(rest[0]).map(Operation::Lit),
+        (b"err", 0) => Some(Operation::Err),
+        (b"var", 1) => match rest[0] {
+            b"p" => Some(Operation::Var(Variable::Principal)),
+            b"a" => Some(Operation::Var(Variable::Action)),
+            b"r" => Some(Operation::Var(Variable::Resource)),
+            b"c" => Some(Operation::Var(Variable::Context)),
+            _ => None,
+        },
+        (b"not", 1) => index(rest[0]).map(|n| Operation::One(One::Not, n)),
+        (b"neg", 1) => index(rest[0]).map(|n| Operation::One(One::Neg, n)),
+        (b"empty", 1) => index(rest[0]).map(|n| Operation::One(One::Empty, n)),
+        (b"if", 3) => Some(Operation::If(index(rest[0])?, index(rest[1])?, index(rest[2])?)),
+        (b"is", 2) => Some(Operation::Is(index(rest[0])?, index(rest[1])?)),
+        (b"get", 2) => Some(Operation::Get(index(rest[0])?, index(rest[1])?)),
+        (b"has", 2) => Some(Operation::Has(index(rest[0])?, index(rest[1])?)),
+        (b"like", n) if n >= 1 => {
+            let pattern = rest[1..].iter().map(|item| index_or(item, b"*")).collect::<Option<Vec<_>>>()?;
+            Some(Operation::Like(index(rest[0])?, pattern))
+        }
+        (b"haspath", n) if n >= 2 => Some(Operation::HasPath(index(rest[0])?, indices(&rest[1..])?)),
+        (b"set", _) => indices(rest).map(Operation::Set),
+        (b"record", _) => pairs(rest).map(Operation::Record),
+        _ => None,
+    }
+}
+
+impl<'a> Reader<'a> {
+    /// The number of the first fault of a line, or 0, and then its row is kept.
+    fn line(&mut self, line: &'a [u8], number: u32) -> u32 {
+        let Some((key, row)) = self.form(line) else {
+            return 3;
+        };
+        if !self.in_order(key) {
+            return 3;
+        }
+        if self.too_many(key) {
+            return 4;
+        }
+        if !self.refers(key, &row) {
+            return 5;
+        }
+        let depth = self.depth(&row);
+        if depth > GREATEST_DEPTH {
+            return 6;
+        }
+        if !self.typed(key, &row) {
+            return 7;
+        }
+        let uses = match &row {
+            Row::Node(node) => node.operation.children(),
+            Row::Policy(policy) => vec![policy.node],
+            _ => Vec::new(),
+        };
+        for n in uses {
+            if std::mem::replace(&mut self.used[n as usize], true) {
+                return 8;
+            }
+        }
+        self.keep(key, row, depth, number);
+        0
+    }
+
+    // Form (3) -----------------------------------------------------------------------------------------------------------
+
+    fn form(&self, line: &'a [u8]) -> Option<(Key, Row<'a>)> {
+        if !line.iter().all(|b| (32..=126).contains(b)) {
+            return None;
+        }
+        let equals = line.iter().position(|b| *b == b'=')?;
+        let (name, value) = (&line[..equals], &line[equals + 1..]);
+        let (_, key) = KEYS.iter().find(|(word, _)| *word == name)?;
+        if *key == Key::Text {
+            return (value.len() <= TEXT_BYTES).then_some((*key, Row::Text(value)));
+        }
+        let items: Vec<&[u8]> = value.split(|b| *b == b',').collect();
+        self.form_items(*key, &items).map(|row| (*key, row))
+    }
+
+    /// An index, or `?` on a partial sheet as None.
+    fn known_or_not(&self, item: &[u8]) -> Option<Option<u32>> {
+        match self.mode {
+            Mode::Partial => index_or(item, b"?"),
+            Mode::Complete => index(item).map(Some),
+        }
+    }
+
+    fn form_items(&self, key: Key, items: &[&[u8]]) -> Option<Row<'a>> {
+        match (key, items.len()) {
+            (Key::Sheet, 1) => (items[0] == self.mode.word().as_bytes()).then_some(Row::Sheet),
+            (Key::Kind, 2) => match items[1] {
+                b"e" => Some(Row::Kind(index(items[0])?, false)),
+                b"a" => Some(Row::Kind(index(items[0])?, true)),
+                _ => None,
+            },
+            (Key::Type, _) => form_type(items).map(Row::Type),
+            (Key::Shape, n) if n >= 2 => Some(Row::Shape(ShapeRow {
+                attributes: index(items[0])?,
+                tags: index_or(items[1], b"-")?,
+                above: indices(&items[2..])?,
+            })),
+            (Key::Value, _) => form_value_line(items).map(Row::Value),
+            (Key::Entity, 4) => Some(Row::Entity(EntityRow {
+                entity: index(items[0])?,
+                attributes: self.known_or_not(items[1])?,
+                tags: self.known_or_not(items[2])?,
+                ancestors: self.known_or_not(items[3])?,
+            })),
+            (Key::Principal | Key::Resource, 2) => Some(Row::Request(index(items[0])?, self.known_or_not(items[1])?)),
+            (Key::Action, 2) => Some(Row::Request(index(items[0])?, Some(index(items[1])?))),
+            (Key::Context, 2) => Some(Row::Context(index(items[0])?, self.known_or_not(items[1])?)),
+            (Key::Node, n) if n >= 2 => {
+                let operation = form_operation(items[1], &items[2..])?;
+                Some(Row::Node(NodeRow { ty: index(items[0])?, operation }))
+            }
+            (Key::Policy, 3) => {
+                let permit = match items[1] {
+                    b"permit" => true,
+                    b"forbid" => false,
+                    _ => return None,
+                };
+                Some(Row::Policy(PolicyRow { id: index(items[0])?, permit, node: index(items[2])? }))
+            }
+            _ => None,
+        }
+    }
+
+    /// No later key was read, and no line that must stand before is missing.
+    fn in_order(&self, key: Key) -> bool {
+        let needed = [Key::Sheet, Key::Principal, Key::Action, Key::Resource, Key::Context];
+        key >= self.last
+            && needed.iter().all(|one| *one >= key || self.seen.contains(one))
+            && (key <= Key::Shape || self.sheet.shapes.len() == self.sheet.kinds.len())
+    }
+
+    // Too many (4) -------------------------------------------------------------------------------------------------------
+
+    fn too_many(&self, key: Key) -> bool {
+        let sheet = &self.sheet;
+        let (count, greatest) = match key {
+            Key::Text => (sheet.texts.len(), 512),
+            Key::Kind => (sheet.kinds.len(), 32),
+            Key::Type => (sheet.types.len(), 128),
+            Key::Shape => (sheet.shapes.len(), sheet.kinds.len()),
+            Key::Value => (sheet.values.len(), 1024),
+            Key::Entity => (sheet.entities.len(), 128),
+            Key::Node => (sheet.nodes.len(), 1024),
+            Key::Policy => (sheet.policies.len(), 64),
+            one => (self.seen.contains(&one) as usize, 1),
+        };
+        count >= greatest
+    }
+
+    // References, repeats and order (5) ----------------------------------------------------------------------------------
+
+    fn refers(&self, key: Key, row: &Row<'a>) -> bool {
+        let sheet = &self.sheet;
+        let text = |n: u32| below(sheet.texts.len(), n);
+        let kind = |n: u32| below(sheet.kinds.len(), n);
+        let ty = |n: u32| below(sheet.types.len(), n);
+        let value = |n: u32| below(sheet.values.len(), n);
+        let node = |n: u32| below(sheet.nodes.len(), n);
+        match row {
+            Row::Sheet => true,
+            Row::Text(bytes) => !self.text_places.contains(bytes),
+            Row::Kind(name, _) => text(*name) && sheet.kinds.iter().all(|(other, _)| other != name),
+            Row::Type(row) => {
+                let there = match row {
+                    TypeRow::Entity(n) => kind(*n),
+                    TypeRow::Set(n) => ty(*n),
+                    TypeRow::Record(fields) => {
+                        fields.iter().all(|(t, _, n)| text(*t) && ty(*n)) && ascending(fields.iter().map(|field| field.0))
+                    }
+                    _ => true,
+                };
+                there && !self.type_places.contains(row)
+            }
+            Row::Shape(row) => {
+                ty(row.attributes)
+                    && row.tags.is_none_or(ty)
+                    && row.above.iter().all(|n| kind(*n))
+                    && ascending(row.above.iter().copied())
+            }
+            Row::Value(row) => {
+                let there = match row {
+                    ValueRow::Text(n) => text(*n),
+                    ValueRow::Entity(k, n) => kind(*k) && text(*n),
+                    ValueRow::Set(items) => items.iter().all(|n| value(*n)) && ascending(items.iter().copied()),
+                    ValueRow::Record(fields) => {
+                        fields.iter().all(|(t, n)| text(*t) && value(*n)) && ascending(fields.iter().map(|field| field.0))
+                    }
+                    _ => true,
+                };
+                there && !self.value_places.contains(row)
+            }
+            Row::Entity(row) => {
+                value(row.entity)
+                    && row.attributes.is_none_or(value)
+                    && row.tags.is_none_or(value)
+                    && row.ancestors.is_none_or(value)
+                    && sheet.entities.last().is_none_or(|before| before.entity < row.entity)
+            }
+            Row::Request(k, n) => {
+                debug_assert!(matches!(key, Key::Principal | Key::Action | Key::Resource));
+                kind(*k) && n.is_none_or(text)
+            }
+            Row::Context(n, v) => ty(*n) && v.is_none_or(value),
+            Row::Node(row) => {
+                ty(row.ty)
+                    && row.operation.children().into_iter().all(node)
+                    && match &row.operation {
+                        Operation::Lit(n) => value(*n),
+                        Operation::Is(_, n) => kind(*n),
+                        Operation::Get(_, n) | Operation::Has(_, n) => text(*n),
+                        Operation::Like(_, items) => items.iter().flatten().all(|n| text(*n)),
+                        Operation::HasPath(_, path) => path.iter().all(|n| text(*n)),
+                        Operation::Record(fields) => {
+                            fields.iter().all(|(t, _)| text(*t)) && ascending(fields.iter().map(|field| field.0))
+                        }
+                        _ => true,
+                    }
+            }
+            Row::Policy(row) => text(row.id) && node(row.node) && sheet.policies.iter().all(|other| other.id != row.id),
+        }
+    }
+
+    // Depth (6) ----------------------------------------------------------------------------------------------------------
+
+    /// The depth of a type, value or node; "a leaf has depth 1".
+    fn depth(&self, row: &Row) -> u32 {
+        let over = |depths: &Vec<u32>, below: Vec<u32>| 1 + below.iter().map(|n| depths[*n as usize]).max().unwrap_or(0);
+        match row {
+            Row::Type(TypeRow::Set(n)) => over(&self.type_depths, vec![*n]),
+            Row::Type(TypeRow::Record(fields)) => over(&self.type_depths, fields.iter().map(|field| field.2).collect()),
+            Row::Value(ValueRow::Set(items)) => over(&self.value_depths, items.clone()),
+            Row::Value(ValueRow::Record(fields)) => over(&self.value_depths, fields.iter().map(|field| field.1).collect()),
+            Row::Node(node) => over(&self.node_depths, node.operation.children()),
+            _ => 1,
+        }
+    }
+
+    // Typing (7) ---------------------------------------------------------------------------------------------------------
+
+    fn fits(&mut self, value: u32, ty: u32) -> bool {
+        if let Some(known) = self.fits.get(&(value, ty)) {
+            return *known;
+        }
+        let row = self.sheet.values[value as usize].clone();
+        let answer = match (row, self.sheet.types[ty as usize].clone()) {
+            (ValueRow::Bool(_), TypeRow::Bool) => true,
+            (ValueRow::Long(_), TypeRow::Long) => true,
+            (ValueRow::Text(_), TypeRow::String) => true,
+            (ValueRow::Entity(kind, _), TypeRow::Entity(wanted)) => kind == wanted,
+            (ValueRow::Set(items), TypeRow::Set(element)) => items.iter().all(|v| self.fits(*v, element)),
+            (ValueRow::Record(fields), TypeRow::Record(declared)) => {
+                required_there(&declared, &fields)
+                    && fields.iter().all(|(t, v)| declaration(&declared, *t).is_some_and(|n| self.fits(*v, n)))
+            }
+            _ => false,
+        };
+        self.fits.insert((value, ty), answer);
+        answer
+    }
+
+    fn typed(&mut self, key: Key, row: &Row) -> bool {
+        match row {
+            Row::Shape(shape) => {
+                let TypeRow::Record(fields) = &self.sheet.types[shape.attributes as usize] else {
+                    return false;
+                };
+                let (_, is_action) = self.sheet.kinds[self.sheet.shapes.len()];
+                !is_action || (fields.is_empty() && shape.tags.is_none())
+            }
+            Row::Entity(row) => self.typed_entity(row),
+            Row::Request(kind, _) => self.sheet.kinds[*kind as usize].1 == (key == Key::Action),
+            Row::Context(ty, value) => {
+                matches!(self.sheet.types[*ty as usize], TypeRow::Record(_)) && value.is_none_or(|v| self.fits(v, *ty))
+            }
+            Row::Node(node) => self.typed_node(node),
+            Row::Policy(policy) => {
+                let ty = self.sheet.nodes[policy.node as usize].ty;
+                self.sheet.types[ty as usize] == TypeRow::Bool
+            }
+            _ => true,
+        }
+    }
+
+    fn typed_entity(&mut self, row: &EntityRow) -> bool {
+        let ValueRow::Entity(kind, _) = self.sheet.values[row.entity as usize] else {
+            return false;
+        };
+        let shape = self.sheet.shapes[kind as usize].clone();
+        row.attributes.is_none_or(|v| self.fits(v, shape.attributes))
+            && row.tags.is_none_or(|v| self.tags_fit(v, shape.tags))
+            && row.ancestors.is_none_or(|v| self.ancestors_fit(v, &shape.above))
+    }
+
+    /// "no tags where it says `-`, else tags of the tag type"
+    fn tags_fit(&mut self, tags: u32, ty: Option<u32>) -> bool {
+        let ValueRow::Record(fields) = self.sheet.values[tags as usize].clone() else {
+            return false;
+        };
+        match ty {
+            None => fields.is_empty(),
+            Some(ty) => fields.iter().all(|(_, v)| self.fits(*v, ty)),
+        }
+    }
+
+    /// "each ancestor's kind among those above"
+    fn ancestors_fit(&self, ancestors: u32, above: &[u32]) -> bool {
+        let ValueRow::Set(items) = &self.sheet.values[ancestors as usize] else {
+            return false;
+        };
+        items.iter().all(|v| match self.sheet.values[*v as usize] {
+            ValueRow::Entity(kind, _) => above.contains(&kind),
+            _ => false,
+        })
+    }
+
+    fn typed_node(&mut self, node: &NodeRow) -> bool {
+        if let Operation::Lit(v) = node.operation {
+            return self.fits(v, node.ty);
+        }
+        let sheet = &self.sheet;
+        let own = &sheet.types[node.ty as usize];
+        let number = |n: u32| sheet.nodes[n as usize].ty;
+        let of = |n: u32| &sheet.types[number(n) as usize];
+        let is_bool = *own == TypeRow::Bool;
+        match &node.operation {
+            Operation::Lit(_) | Operation::Err => true,
+            Operation::Var(variable) => match variable {
+                Variable::Principal => *own == TypeRow::Entity(sheet.principal.0),
+                Variable::Action => *own == TypeRow::Entity(sheet.action.0),
+                Variable::Resource => *own == TypeRow::Entity(sheet.resource.0),
+                Variable::Context => node.ty == sheet.context.0,
+            },
+            Operation::Two(two, a, b) => {
+                let (left, right) = (of(*a), of(*b));
+                let longs = *left == TypeRow::Long && *right == TypeRow::Long;
+                let string = *right == TypeRow::String;
+                match two {
+                    Two::And | Two::Or => is_bool && *left == TypeRow::Bool && *right == TypeRow::Bool,
+                    Two::Eq => is_bool && (left == right || (kind_of(left).is_some() && kind_of(right).is_some())),
+                    Two::Lt | Two::Le => is_bool && longs,
+                    Two::Add | Two::Sub | Two::Mul => *own == TypeRow::Long && longs,
+                    Two::In => is_bool && kind_of(left).is_some() && sheet.entities_kind(right).is_some(),
+                    Two::GetTag => string && kind_of(left).is_some_and(|kind| sheet.shapes[kind as usize].tags == Some(node.ty)),
+                    Two::HasTag => is_bool && string && kind_of(left).is_some(),
+                    Two::Contains => is_bool && *left == TypeRow::Set(number(*b)),
+                    Two::All | Two::Any => is_bool && matches!(left, TypeRow::Set(_)) && left == right,
+                }
+            }
+            Operation::One(One::Not, a) => is_bool && *of(*a) == TypeRow::Bool,
+            Operation::One(One::Neg, a) => *own == TypeRow::Long && *of(*a) == TypeRow::Long,
+            Operation::One(One::Empty, a) => is_bool && matches!(of(*a), TypeRow::Set(_)),
+            Operation::If(test, then, other) => {
+                *of(*test) == TypeRow::Bool && number(*then) == node.ty && number(*other) == node.ty
+            }
+            Operation::Is(a, _) => is_bool && kind_of(of(*a)).is_some(),
+            Operation::Like(a, _) => is_bool && *of(*a) == TypeRow::String,
+            Operation::Get(a, t) => sheet.attributes(of(*a)).is_some_and(|fields| declaration(fields, *t) == Some(node.ty)),
+            Operation::Has(a, _) => is_bool && sheet.attributes(of(*a)).is_some(),
+            Operation::HasPath(a, path) => is_bool && sheet.path_typed(of(*a), path),
+            Operation::Set(items) => match own {
+                TypeRow::Set(element) => items.iter().all(|n| number(*n) == *element),
+                _ => false,
+            },
+            Operation::Record(fields) => match own {
+                TypeRow::Record(declared) => {
+                    required_there(declared, fields) && fields.iter().all(|(t, n)| declaration(declared, *t) == Some(number(*n)))
+                }
+                _ => false,
+            },
+        }
+    }
+
+    fn keep(&mut self, key: Key, row: Row<'a>, depth: u32, line: u32) {
+        self.last = key;
+        self.seen.insert(key);
+        let sheet = &mut self.sheet;
+        match row {
+            Row::Sheet => (),
+            Row::Text(bytes) => {
+                self.text_places.insert(bytes);
+                sheet.texts.push(bytes);
+            }
+            Row::Kind(name, is_action) => sheet.kinds.push((name, is_action)),
+            Row::Type(row) => {
+                self.type_places.insert(row.clone());
+                self.type_depths.push(depth);
+                sheet.types.push(row);
+            }
+            Row::Shape(row) => sheet.shapes.push(row),
+            Row::Value(row) => {
+                self.value_places.insert(row.clone());
+                self.value_depths.push(depth);
+                sheet.values.push(row);
+            }
+            Row::Entity(row) => sheet.entities.push(row),
+            Row::Request(kind, text) => match key {
+                Key::Principal => sheet.principal = (kind, text),
+                Key::Action => sheet.action = (kind, text.expect("an action is known")),
+                _ => sheet.resource = (kind, text),
+            },
+            Row::Context(ty, value) => sheet.context = (ty, value),
+            Row::Node(row) => {
+                self.node_depths.push(depth);
+                self.node_lines.push(line);
+                self.used.push(false);
+                sheet.nodes.push(row);
+            }
+            Row::Policy(row) => sheet.policies.push(row),
+        }
+    }
+}
+
+fn kind_of(row: &TypeRow) -> Option<u32> {
+    match row {
+        TypeRow::Entity(kind) => Some(*kind),
+        _ => None,
+    }
+}
+
+/// The declared type of an attribute.
+pub fn declaration(fields: &[(u32, bool, u32)], text: u32) -> Option<u32> {
+    fields.iter().find(|(t, _, _)| *t == text).map(|(_, _, ty)| *ty)
+}
+
+fn required_there(declared: &[(u32, bool, u32)], fields: &[(u32, u32)]) -> bool {
+    declared.iter().all(|(t, required, _)| !required || fields.iter().any(|(present, _)| present == t))
+}
+
+impl Sheet<'_> {
+    /// The declared attributes of a record or entity type.
+    pub fn attributes<'s>(&'s self, row: &'s TypeRow) -> Option<&'s [(u32, bool, u32)]> {
+        match row {
+            TypeRow::Record(fields) => Some(fields),
+            TypeRow::Entity(kind) => match &self.types[self.shapes[*kind as usize].attributes as usize] {
+                TypeRow::Record(fields) => Some(fields),
+                _ => None,
+            },
+            _ => None,
+        }
+    }
+
+    /// The kind of an entity type or of a set of entities.
+    fn entities_kind(&self, row: &TypeRow) -> Option<u32> {
+        match row {
+            TypeRow::Set(element) => kind_of(&self.types[*element as usize]),
+            _ => kind_of(row),
+        }
+    }
+
+    /// "each step but the last being one while declared, and free after an undeclared step"
+    fn path_typed(&self, start: &TypeRow, path: &[u32]) -> bool {
+        let Some(mut fields) = self.attributes(start) else {
+            return false;
+        };
+        for text in &path[..path.len() - 1] {
+            let Some(ty) = declaration(fields, *text) else {
+                return true;
+            };
+            match self.attributes(&self.types[ty as usize]) {
+                Some(next) => fields = next,
+                None => return false,
+            }
+        }
+        true
+    }
+}
