@@ -6,8 +6,8 @@
 REFERENCE is a folder with `cases.py` and `refsheet.py`: sheets with the text that the program must print for
 them. For each case one theorem by computation is written to target/cases/: what the definitions make of the
 sheet's bytes is the expected text. One check computes all short sheets, and one each long sheet; with --each,
-one check each sheet. A sheet over the prover's own limit of steps has no verdict, and is said so. With --wrong
-every expected text is replaced by a wrong one: each check must then fail. Nothing outside target/ is written.
+one check each sheet. Two sheets are over the prover's own limit of steps: they have no verdict, which says neither that they agree nor
+that they do not. With --wrong every expected text is replaced by a wrong one: each check must then fail. Nothing outside target/ is written.
 """
 import os
 import re
@@ -23,6 +23,8 @@ UNFOLD = (
     "more read types valueRows contents schema trees exprs nPolicies policies nEnv env run results answer returned "
     "order sameV place insert ascending makeSet"
 )
+# sheets of 1,024 and 1,025 values, which the prover does not compute within its limit; any other sheet without verdict is a failure
+UNDECIDED = ("value-1024.partial", "value-1025.partial")
 HEAD = """use mathlib.Core.Path.{_≡_, refl}
 use mathlib.Core.List.{List, [], _∷_, _++_}
 use Prim.Native.Nat.{ℕ, zero, suc}
@@ -84,6 +86,7 @@ def theorem(i, case):
 
 
 def check(chosen, limit):
+    """What the check of the cases ended with, 0 proved, 1 refused, 3 could not tell, and what it said."""
     shutil.rmtree(os.path.join(TREE, "crates", "known_cases"), ignore_errors=True)
     for crate in ("cedar", "sheet"):
         for part in ("specs", "src"):
@@ -103,9 +106,11 @@ def check(chosen, limit):
         f.write(HEAD + "\n" + "\n".join(theorem(i, c) for i, c in chosen))
     try:
         r = subprocess.run(["rt", "check", "known_cases"], capture_output=True, text=True, timeout=limit, cwd=TREE)
-        return r.returncode == 0, r.stdout + r.stderr
+        said = r.stdout + r.stderr
+        m = re.search(r"rt: known_cases NOT PROVED \(exit (\d+)", said)
+        return int(m.group(1)) if m else r.returncode, said
     except subprocess.TimeoutExpired:
-        return False, "TIMEOUT"
+        return 1, "TIMEOUT"
 
 
 def main(args):
@@ -126,9 +131,10 @@ def main(args):
     failed = unknown = 0
     for group in ([short] if short else []) + long:
         t = time.time()
-        ok, out = check(group, 1500)
+        status, out = check(group, 1500)
+        ok = status == 0
         what = "ok" if ok else "NOT"
-        if not ok and len(group) == 1 and "steps" in out:
+        if not ok and len(group) == 1 and group[0][1][0] in UNDECIDED and status == 3:
             what = "no verdict: over the prover's limit of steps"
             unknown += 1
         elif not ok:
