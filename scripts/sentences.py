@@ -1,0 +1,36 @@
+#!/usr/bin/env python3
+"""Writes docs/DEFINITIONS.md: each definition of `cedar` and `sheet` whose comment quotes document 01, with that comment."""
+import glob
+import os
+import re
+
+HERE = os.path.dirname(os.path.dirname(os.path.abspath(__file__)))
+HEAD = """# Definitions and the sentences they quote
+
+Written by `python3 scripts/sentences.py` from the comments of specs/. A definition that is not listed is a part of one that is, or of
+what its file states (docs/ARCHITECTURE.md, section 2).
+"""
+
+
+def main():
+    out = [HEAD]
+    for crate in ("cedar", "sheet"):
+        out.append("\n## `%s`\n\n| File | Definition | Its comment |\n|---|---|---|" % crate)
+        for path in sorted(glob.glob(os.path.join(HERE, "crates", crate, "specs", "*.antt"))):
+            comment = []
+            for line in open(path, encoding="utf-8"):
+                s = line.strip()
+                if s.startswith("--"):
+                    comment.append(s[2:].strip())
+                    continue
+                m = re.match(r"^(?:(?:abbrev|unfoldable|mutual) )*pub (?:(?:data|record) )?([^\s:({]+)", s)
+                if m and any('"' in c for c in comment):
+                    text = " ".join(c for c in comment if not c.startswith("----")).replace("|", "\\|")
+                    out.append("| %s | `%s` | %s |" % (os.path.basename(path)[:-5], m.group(1), text))
+                if s:
+                    comment = []
+    with open(os.path.join(HERE, "docs", "DEFINITIONS.md"), "w", encoding="utf-8") as f:
+        f.write("\n".join(out) + "\n")
+
+
+main()
