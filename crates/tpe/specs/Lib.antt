@@ -1,3 +1,4 @@
 pub mod Run
 pub mod Classes
 pub mod Leaves
+pub mod Steps
