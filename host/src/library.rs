@@ -1,4 +1,4 @@
-//! The proved library, called through its C functions. A Rattle slice is passed as a pointer and then a length.
+//! The proved library, called through its C functions (include/openrules.h). A Rattle slice is passed as a pointer and then a length.
 
 use crate::sheet::Mode;
 
@@ -6,25 +6,27 @@ extern "C" {
     fn openrules_partial(
         sheet: *const u8,
         sheet_len: usize,
-        work_a: *mut u32,
-        a_len: usize,
-        work_b: *mut u32,
-        b_len: usize,
+        first: *mut u32,
+        first_len: usize,
+        second: *mut u32,
+        second_len: usize,
         out: *mut u8,
         out_len: usize,
-        result: *mut u32,
-    );
+        line: *mut usize,
+        length: *mut usize,
+    ) -> u32;
     fn openrules_complete(
         sheet: *const u8,
         sheet_len: usize,
-        work_a: *mut u32,
-        a_len: usize,
-        work_b: *mut u32,
-        b_len: usize,
+        first: *mut u32,
+        first_len: usize,
+        second: *mut u32,
+        second_len: usize,
         out: *mut u8,
         out_len: usize,
-        result: *mut u32,
-    );
+        line: *mut usize,
+        length: *mut usize,
+    ) -> u32;
 }
 
 /// One call; returns number, line and length.
@@ -33,9 +35,9 @@ pub fn call(mode: Mode, sheet: &[u8], work_a: &mut [u32], work_b: &mut [u32], ou
         Mode::Partial => openrules_partial,
         Mode::Complete => openrules_complete,
     };
-    let mut result = [u32::MAX; 3];
-    // Every pointer is that of a slice of the length beside it, and no two of them overlap.
-    unsafe {
+    let (mut line, mut length) = (usize::MAX, usize::MAX);
+    // Every pointer is that of a slice of the length beside it or of a number, and no two of them overlap.
+    let number = unsafe {
         entry(
             sheet.as_ptr(),
             sheet.len(),
@@ -45,8 +47,10 @@ pub fn call(mode: Mode, sheet: &[u8], work_a: &mut [u32], work_b: &mut [u32], ou
             work_b.len(),
             out.as_mut_ptr(),
             out.len(),
-            result.as_mut_ptr(),
+            &mut line,
+            &mut length,
         )
     };
-    result
+    // A number too large for the comparison becomes one that no call returns.
+    [number, u32::try_from(line).unwrap_or(u32::MAX), u32::try_from(length).unwrap_or(u32::MAX)]
 }

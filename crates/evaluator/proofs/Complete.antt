@@ -1,9 +1,9 @@
--- For every accepted complete sheet, the run over the words that hold it gives each policy the class that the Cedar specification gives it.
+-- For every accepted complete sheet, the run over the words that hold it leaves the class that the Cedar specification gives each policy.
 use mathlib.Core.Path.{_≡_, refl, sym, _∙_, ap, ap₂, subst}
 use mathlib.Core.Bool.{cond}
 use mathlib.Core.Option.{Option, some}
 use mathlib.Core.List.{List, [], _∷_, _++_, append-assoc, append-nil}
-use Prim.Native.Nat.{ℕ, _+_, _*_, _≤_, _<_}
+use Prim.Native.Nat.{ℕ, _+_, _*_, _≤_}
 use native.Mathlib.Omega.{arith}
 use lib.ListN.{length, getD}
 use Rattle.cedar.specs.Types.{Ty, Schema, Var, principal, action, resource, context}
@@ -14,27 +14,26 @@ use Rattle.cedar.specs.Runs.{NPolicy, completeAnswer}
 use Rattle.cedar.specs.Table.{Table}
 use Rattle.cedar.specs.Numbered.{NEnv}
 use Rattle.sheet.specs.Forms.{complete, at, VALUE, ENTITY, NODE, POLICY}
-use Rattle.sheet.specs.State.{State, linesOf, count, depthsOf, valueRow}
+use Rattle.sheet.specs.State.{State, linesOf, count, valueRow}
 use Rattle.sheet.specs.Content.{types, rowsIn, valueRows, contents, schema, requestTy, given, entityLine, lineGiven, nEnv, env, nPolicies, policies}
 use Rattle.sheet.specs.Sheet.{read}
 use Rattle.sheet.specs.Answer.{results}
-use Rattle.sheet.proofs.Lines.{History, accepted-history}
+use Rattle.sheet.proofs.Lines.{accepted-history}
 use Rattle.sheet.proofs.ValueRows.{values-table, value-back}
 use Rattle.sheet.proofs.OwnPolicies.{read-own}
 use Rattle.sheet.proofs.Environment.{Facts, thirteen}
 use Rattle.sheet.proofs.CompleteRun.{whole-read}
 use Rattle.sheet.proofs.MadeCount.{policySizes}
 use Rattle.sheet.proofs.Uses.{policies-small}
-use Rattle.sheet.proofs.Depths.{Deep, Depths, Reached, read-reached, reached-depths}
-use Rattle.table.specs.Layout.{rowsOf, rowsAt, base, held, linesHeld, MADE, TOP, limit, limits, Sound}
+use Rattle.sheet.proofs.Depths.{Depths, Reached, read-reached, reached-depths}
+use Rattle.table.specs.Layout.{rowsOf, rowsAt, base, held, linesHeld, MADE, TOP, heap, limit, limits, Sound}
 use Rattle.table.proofs.Rows.{count-rows}
 use Rattle.value.specs.Lines.{valueLines}
 use Rattle.value.proofs.Interned.{Formeds, none-formed, one-formed}
 use Rattle.tpe.proofs.Stands.{Hold, Room}
-use Rattle.evaluator.specs.Run.{values, runOf, ranFrom, evalOf}
+use Rattle.evaluator.specs.Run.{values, classNumbers, runOf, ranFrom, evalOf}
 use Rattle.evaluator.proofs.Gives.{Stand}
-use Rattle.evaluator.proofs.Steps.{sch}
-use Rattle.evaluator.proofs.Evaluates.{classesOf, policiesAt, run-classes}
+use Rattle.evaluator.proofs.Evaluates.{policiesAt, Runs, run-is}
 use Rattle.evaluator.proofs.Depth.{policies-whole}
 
 -- ---- texts and depths do not matter to the request and the entities, nor depths to the schema
@@ -119,28 +118,43 @@ module _ (sheet a b : List ℕ) where
         ∙ ap (λ (ns : List (List ℕ)). policiesAt (types (held sheet a b)) ns (linesOf (held sheet a b) POLICY)) (sym nodes-held)
         ∙ policies-whole complete (held sheet a b) (f .history) (d .deep NODE)
 
-    classes-held : Room (policySizes (nPolicies (held sheet a b))) a [] → runOf sheet a [] .classes ≡ classesOf (results (held sheet a b))
+    run-held : Room (policySizes (nPolicies (held sheet a b))) a [] → length (rowsOf a POLICY) + 6 * policySizes (nPolicies (held sheet a b)) ≤ 16384
+        → Runs sheet a (env (held sheet a b)) [] (classNumbers (results (held sheet a b))) (runOf sheet a)
     unfolding runOf results
-    classes-held room =
-        run-classes sheet a (env (held sheet a b)) (rowsOf a POLICY) a [] (contents (held sheet a b)) start
+    run-held room fits =
+        let t = run-is sheet a (env (held sheet a b)) (rowsOf a POLICY) 0 a [] (contents (held sheet a b)) refl start
         (subst (λ (ps : List NPolicy). Room (policySizes ps) a []) (sym all-policies) room)
-        (subst (λ (ps : List NPolicy). ReadPolicies (contents (held sheet a b)) ps (policies (held sheet a b))) (sym all-policies) (read-own complete (held sheet a b) (f .history)))
-        ∙ ap (λ (S : Schema). classesOf (completeAnswer S (env (held sheet a b)) (policies (held sheet a b)))) schema-same
+        (omega (arith, fits, ap policySizes all-policies))
+        (subst (λ (ps : List NPolicy). ReadPolicies (contents (held sheet a b)) ps (policies (held sheet a b))) (sym all-policies) (read-own complete (held sheet a b) (f .history))) in
+        subst (λ (k : ℕ). Runs sheet a (env (held sheet a b)) [] (classNumbers (results (held sheet a b))) (ranFrom (evalOf sheet 64) k 0 a [])) (count-rows a POLICY)
+        (subst (λ (S : Schema). Runs sheet a (env (held sheet a b)) [] (classNumbers (completeAnswer S (env (held sheet a b)) (policies (held sheet a b)))) (ranFrom (evalOf sheet 64) (length (rowsOf a POLICY)) 0 a [])) schema-same t)
 
-    pub classes-few : policySizes (nPolicies (held sheet a b)) ≤ getD a NODE 0 → getD a TOP 0 + 5 * getD a NODE 0 ≤ 16384 → runOf sheet a [] .classes ≡ classesOf (results (held sheet a b))
+    pub run-few : policySizes (nPolicies (held sheet a b)) ≤ getD a NODE 0 → 2 * getD a TOP 0 + 6 * getD a NODE 0 ≤ 2 * heap + 16384 → Runs sheet a (env (held sheet a b)) [] (classNumbers (results (held sheet a b))) (runOf sheet a)
     unfolding limit limits
-    classes-few few top = let n = sound .few NODE (omega arith) in classes-held (record { top = omega (arith, few, top); few = omega (arith, few, none, n); log = omega (arith, few, n) })
+    run-few few top =
+        let n = sound .few NODE (omega arith) in
+        let p = sound .few POLICY (omega arith) in
+        let q = count-rows a POLICY in
+        run-held (record { top = omega (arith, few, top, n); few = omega (arith, few, none, n); log = omega (arith, few, n) }) (omega (arith, few, n, p, q))
 
   nodes-count : count (held sheet a b) NODE ≡ getD a NODE 0
   nodes-count = ap length nodes-held ∙ count-rows a NODE
 
--- THE THEOREM: the classes of the run over words are those of the results that the Cedar specification gives
-pub complete-run : (sheet a b : List ℕ) → read complete sheet .number ≡ 0 → read complete sheet .state ≡ held sheet a b → Sound a → getD a MADE 0 ≡ 0 → getD a TOP 0 + 5 * getD a NODE 0 ≤ 16384
-    → runOf sheet a [] .classes ≡ classesOf (results (read complete sheet .state))
-complete-run sheet a b e h sound none top =
-    let (hi, fu) = accepted-history complete sheet e in
-    let f : Facts complete (held sheet a b) = subst (Facts complete) h (record { history = hi; full = fu; keys = thirteen complete sheet e }) in
-    let d : Depths (held sheet a b) = reached-depths (subst (Reached complete) h (read-reached complete sheet)) in
-    let c : policySizes (nPolicies (held sheet a b)) ≤ count (held sheet a b) NODE = subst (λ (s : State). policySizes (nPolicies s) ≤ count s NODE) h (policies-small complete sheet e) in
-    let n = nodes-count sheet a b in
-    subst (λ (s : State). runOf sheet a [] .classes ≡ classesOf (results s)) (sym h) (classes-few sheet a b f d sound none (omega (arith, c, n)) top)
+-- of an accepted complete sheet that the words hold, as reading leaves it
+module _ (sheet a b : List ℕ) (e : read complete sheet .number ≡ 0) (h : read complete sheet .state ≡ held sheet a b) (sound : Sound a) (none : getD a MADE 0 ≡ 0) (top : 2 * getD a TOP 0 + 6 * getD a NODE 0 ≤ 2 * heap + 16384) where
+  the-run : Runs sheet a (env (held sheet a b)) [] (classNumbers (results (held sheet a b))) (runOf sheet a)
+  the-run =
+      let (hi, fu) = accepted-history complete sheet e in
+      let f : Facts complete (held sheet a b) = subst (Facts complete) h (record { history = hi; full = fu; keys = thirteen complete sheet e }) in
+      let d : Depths (held sheet a b) = reached-depths (subst (Reached complete) h (read-reached complete sheet)) in
+      let c : policySizes (nPolicies (held sheet a b)) ≤ count (held sheet a b) NODE = subst (λ (s : State). policySizes (nPolicies s) ≤ count s NODE) h (policies-small complete sheet e) in
+      let n = nodes-count sheet a b in
+      run-few sheet a b f d sound none (omega (arith, c, n)) top
+
+  -- THE THEOREM: the run's log is the list of the numbers of the classes that the Cedar specification gives the policies
+  pub complete-run : runOf sheet a .log ≡ classNumbers (results (read complete sheet .state))
+  complete-run = subst (λ (s : State). runOf sheet a .log ≡ classNumbers (results s)) (sym h) (the-run .log)
+
+  -- and its words hold the sheet's rows as before
+  pub complete-hold : Hold a (runOf sheet a .words)
+  complete-hold = the-run .hold

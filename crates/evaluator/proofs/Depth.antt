@@ -8,13 +8,13 @@ use native.Mathlib.Decide.{decLt}
 use borrow.Author.Tests.{le-ltb}
 use lib.ListN.{length, getD, drop, length-append, List·getD-append}
 use Rattle.cedar.specs.Types.{Ty, tbool}
-use Rattle.cedar.specs.Residual.{Node, Nodes, NodeArgs, enil, econs, gnil, gcons, err, and, or, ite, un, bin, rel, get, has, haspath, set, rec, unot, uneg, uempty, uis, ulike, beq, blt, ble, badd, bsub, bmul, bcontains, ball, bany, rin, rgettag, rhastag}
+use Rattle.cedar.specs.Residual.{Node, Nodes, NodeArgs, econs, gcons, err, and, or, ite, un, bin, rel, get, has, haspath, set, rec, unot, uneg, uempty, uis, ulike, beq, blt, ble, badd, bsub, bmul, bcontains, ball, bany, rin, rgettag, rhastag}
 use Rattle.cedar.specs.Runs.{NPolicy}
 use Rattle.cedar.proofs.TableLaws.{InN, now′, later′}
-use Rattle.sheet.specs.Forms.{Mode, Slot, line, nothing, forms, formOf, slotAt, isLine, keep, refsFrom, refs, tag, items, at, keyOf, NODE, POLICY}
+use Rattle.sheet.specs.Forms.{Mode, line, nothing, forms, formOf, slotAt, isLine, keep, refsFrom, refs, tag, items, at, keyOf, NODE, POLICY}
 use Rattle.sheet.specs.State.{State, linesOf, count, depthsOf}
 use Rattle.sheet.specs.Content.{types, patternOf, childrenOver, argsOver, treeOver, treesFrom, trees, effectOf, numberedPolicies, nPolicies}
-use Rattle.sheet.proofs.Lines.{Was, History}
+use Rattle.sheet.proofs.Lines.{History}
 use Rattle.sheet.proofs.Parsed.{tags-between}
 use Rattle.sheet.proofs.NodeRows.{row-read}
 use Rattle.sheet.proofs.PoliciesRead.{node-tags, policy-tags, all-there}

@@ -1,17 +1,16 @@
 -- The run over words yields what `eval` of the Cedar specification gives each tree, node by node and policy by policy. Assumes nothing.
-use mathlib.Core.Path.{_≡_, refl, sym, _∙_, ap, ap₂, subst}
-use mathlib.Core.Bool.{Bool, true, false, cond}
-use mathlib.Core.Option.{Option, none, some}
-use mathlib.Core.List.{List, [], _∷_}
+use mathlib.Core.Path.{_≡_, refl, sym, _∙_, ap, subst}
+use mathlib.Core.List.{List, [], _∷_, _++_, append-assoc, append-nil}
 use Prim.Native.Nat.{ℕ, zero, suc, _+_, _-_, _*_, _≤_}
 use native.Mathlib.Omega.{arith}
-use lib.ListN.{length, getD, drop}
-use Rattle.cedar.specs.Value.{Value as Content, Result, ok, fail}
-use Rattle.cedar.specs.Types.{Ty, tbool, Schema}
-use Rattle.cedar.specs.Residual.{Node, Nodes, NodeArgs, enil, econs, gnil, gcons, Expr, lit, err, var, and, or, ite, un, bin, rel, get, has, haspath, set, rec, unot, uneg, uempty, uis, ulike, beq, blt, ble, badd, bsub, bmul, bcontains, ball, bany, rin, rgettag, rhastag, Class, truth}
+use lib.ListN.{length, getD, drop, length-append}
+use Rattle.words.specs.Log.{pushed}
+use Rattle.words.proofs.Logs.{appended-is}
+use Rattle.cedar.specs.Value.{Value as Content, Result}
+use Rattle.cedar.specs.Types.{Ty, tbool}
+use Rattle.cedar.specs.Residual.{Node, Nodes, NodeArgs, Expr, lit, err, var, and, or, ite, un, bin, rel, get, has, haspath, set, rec, unot, uneg, uempty, uis, ulike, beq, blt, ble, badd, bsub, bmul, bcontains, ball, bany, rin, rgettag, rhastag, truth}
 use Rattle.cedar.specs.Entities.{Env}
 use Rattle.cedar.specs.Evaluate.{eval}
-use Rattle.cedar.specs.Response.{Verdict}
 use Rattle.cedar.specs.Runs.{Policy, NPolicy, resultClass, completeAnswer}
 use Rattle.cedar.specs.Reads.{Reads, xerr, ReadPolicies, done, also}
 use Rattle.cedar.proofs.ReadsLaws.{Keeps, keep-reads, row-denotes, on-bool}
@@ -19,19 +18,14 @@ use Rattle.sheet.specs.Forms.{tag, items, at, firstNode, NODE, POLICY}
 use Rattle.sheet.specs.Content.{varOf, patternOf, types, effectOf}
 use Rattle.sheet.specs.Answer.{size}
 use Rattle.sheet.proofs.MadeCount.{policySizes}
-use Rattle.table.specs.Layout.{rowsOf, held, MADE, TOP}
+use Rattle.table.specs.Layout.{rowsOf, held}
 use Rattle.tpe.proofs.Stands.{Hold, Room}
-use Rattle.evaluator.specs.Run.{E, Rec, Step, yields, values, steps, errStep, stepWith, stepOf, evalOf, classOf, Ran, ranFrom, runOf, litStep, varStep, lazyStep, ifStep, oneStep, twoStep, unOut, binOut, relOut, getOut, hasOut, walkOut, setStep, recStep}
+use Rattle.evaluator.specs.Run.{Rec, Step, yields, nodeIn, policyIn, steps, errStep, stepAt, stepOf, evalOf, classOf, classNumber, classNumbers, Ran, ranFrom}
 use Rattle.evaluator.specs.declared.Yield.{Yield}
-use Rattle.evaluator.specs.declared.Yield.the-variants.{Value, Error}
+use Rattle.evaluator.specs.declared.Yield.the-variants.{Error}
 use Rattle.evaluator.proofs.Gives.{Says, says-value, says-error, Stand, Gives, is-error, some-room, rest-room}
 use Rattle.evaluator.proofs.Steps.{sch, Meets, lit-meets, err-meets, var-meets, un-meets, get-meets, has-meets, path-meets, bin-meets, rel-meets, and-meets, or-meets, if-meets}
 use Rattle.evaluator.proofs.Many.{kidsWith, argsWith, set-meets, rec-meets}
-
--- the classes of the policy lines of an answer
-abbrev pub classesOf : List Verdict → List Class
-classesOf [] = []
-classesOf (v ∷ vs) = v .class ∷ classesOf vs
 
 -- ---- the tree under a node, to a depth
 
@@ -65,34 +59,46 @@ abbrev pub policiesAt : List Ty → List (List ℕ) → List (List ℕ) → List
 policiesAt ts rows [] = []
 policiesAt ts rows (r ∷ rs) = record { effect = effectOf (at r 1); tree = treeAt ts rows 64 (at r 2) } ∷ policiesAt ts rows rs
 
+here : {A : Type 0} (l : List A) (i : ℕ) (d : A) {x : A} {xs : List A} → drop i l ≡ x ∷ xs → getD l i d ≡ x
+here [] zero d e = let z : _≡_ {A = ℕ} 0 1 = cc in absurd (omega arith)
+here [] (suc i) d e = let z : _≡_ {A = ℕ} 0 1 = cc in absurd (omega arith)
+here (y ∷ l) zero d e = cc
+here (y ∷ l) (suc i) d e = here l i d e
+
+further : {A : Type 0} (l : List A) (i : ℕ) {x : A} {xs : List A} → drop i l ≡ x ∷ xs → drop (suc i) l ≡ xs
+further [] zero e = let z : _≡_ {A = ℕ} 0 1 = cc in absurd (omega arith)
+further [] (suc i) e = let z : _≡_ {A = ℕ} 0 1 = cc in absurd (omega arith)
+further (y ∷ l) zero e = cc
+further (y ∷ l) (suc i) e = further l i e
+
 module _ (sheet a₀ : List ℕ) (G : Env) where
   -- steps beside trees
-  data Pairs (f : Rec) (r : List ℕ) : List (Step sheet) → List (Node ℕ) → Type 0 where
-    pair-none : Pairs f r [] []
-    pair : {s : Step sheet} {e : Node ℕ} {ss : List (Step sheet)} {es : List (Node ℕ)} → Meets sheet a₀ G (λ a l. s f a l r) e → Pairs f r ss es → Pairs f r (s ∷ ss) (e ∷ es)
+  data Pairs (f : Rec) (m : ℕ) (r : List ℕ) : List Step → List (Node ℕ) → Type 0 where
+    pair-none : Pairs f m r [] []
+    pair : {s : Step} {e : Node ℕ} {ss : List Step} {es : List (Node ℕ)} → Meets sheet a₀ G (λ a l. s f a l m r) e → Pairs f m r ss es → Pairs f m r (s ∷ ss) (e ∷ es)
 
-  nth-pair : {f : Rec} {r : List ℕ} {ss : List (Step sheet)} {es : List (Node ℕ)} → Pairs f r ss es → (i : ℕ) → Meets sheet a₀ G (λ a l. getD ss i (errStep sheet) f a l r) (getD es i (err tbool))
-  nth-pair {f} {r} pair-none i = err-meets sheet a₀ G f r tbool
-  nth-pair (pair m p) zero = m
-  nth-pair (pair m p) (suc i) = nth-pair p i
+  nth-pair : {f : Rec} {m : ℕ} {r : List ℕ} {ss : List Step} {es : List (Node ℕ)} → Pairs f m r ss es → (i : ℕ) → Meets sheet a₀ G (λ a l. getD ss i (errStep) f a l m r) (getD es i (err tbool))
+  nth-pair {f} {m} {r} pair-none i = err-meets sheet a₀ G f m r tbool
+  nth-pair (pair k p) zero = k
+  nth-pair (pair k p) (suc i) = nth-pair p i
 
-  module _ (f : Rec) (t : ℕ → Node ℕ) (i : (x : ℕ) → Meets sheet a₀ G (λ a l. f a l x) (t x)) (r : List ℕ) (T : Ty) where
-    all-pairs : Pairs f r (steps sheet) (treesWith t r T)
+  module _ (f : Rec) (t : ℕ → Node ℕ) (i : (x : ℕ) → Meets sheet a₀ G (λ a l. f a l x) (t x)) (m : ℕ) (r : List ℕ) (er : nodeIn a₀ m ≡ r) (T : Ty) where
+    all-pairs : Pairs f m r (steps sheet) (treesWith t r T)
     all-pairs =
         let x = i (at r 1) in
         let y = i (at r 2) in
         let z = i (at r 3) in
-        pair (lit-meets sheet a₀ G f r T) (pair (err-meets sheet a₀ G f r T) (pair (var-meets sheet a₀ G f r T)
-        (pair (and-meets sheet a₀ G f r x y T) (pair (or-meets sheet a₀ G f r x y T)
-        (pair (bin-meets sheet a₀ G f r x y beq T) (pair (bin-meets sheet a₀ G f r x y blt T) (pair (bin-meets sheet a₀ G f r x y ble T)
-        (pair (bin-meets sheet a₀ G f r x y badd T) (pair (bin-meets sheet a₀ G f r x y bsub T) (pair (bin-meets sheet a₀ G f r x y bmul T)
-        (pair (rel-meets sheet a₀ G f r x y rin T) (pair (rel-meets sheet a₀ G f r x y rgettag T) (pair (rel-meets sheet a₀ G f r x y rhastag T)
-        (pair (bin-meets sheet a₀ G f r x y bcontains T) (pair (bin-meets sheet a₀ G f r x y ball T) (pair (bin-meets sheet a₀ G f r x y bany T)
-        (pair (if-meets sheet a₀ G f r x y z T)
-        (pair (un-meets sheet a₀ G f r x (λ q. uis (at q 2)) T) (pair (un-meets sheet a₀ G f r x (λ q. ulike (patternOf (drop 2 (items q)))) T)
-        (pair (get-meets sheet a₀ G f r x T) (pair (has-meets sheet a₀ G f r x T) (pair (path-meets sheet a₀ G f r x T)
-        (pair (un-meets sheet a₀ G f r x (λ q. unot) T) (pair (un-meets sheet a₀ G f r x (λ q. uneg) T) (pair (un-meets sheet a₀ G f r x (λ q. uempty) T)
-        (pair (set-meets sheet a₀ G f t i r T) (pair (rec-meets sheet a₀ G f t i r T) pair-none)))))))))))))))))))))))))))
+        pair (lit-meets sheet a₀ G f m r T) (pair (err-meets sheet a₀ G f m r T) (pair (var-meets sheet a₀ G f m r T)
+        (pair (and-meets sheet a₀ G f m r er x y T) (pair (or-meets sheet a₀ G f m r er x y T)
+        (pair (bin-meets sheet a₀ G f m r er x y beq T) (pair (bin-meets sheet a₀ G f m r er x y blt T) (pair (bin-meets sheet a₀ G f m r er x y ble T)
+        (pair (bin-meets sheet a₀ G f m r er x y badd T) (pair (bin-meets sheet a₀ G f m r er x y bsub T) (pair (bin-meets sheet a₀ G f m r er x y bmul T)
+        (pair (rel-meets sheet a₀ G f m r er x y rin T) (pair (rel-meets sheet a₀ G f m r er x y rgettag T) (pair (rel-meets sheet a₀ G f m r er x y rhastag T)
+        (pair (bin-meets sheet a₀ G f m r er x y bcontains T) (pair (bin-meets sheet a₀ G f m r er x y ball T) (pair (bin-meets sheet a₀ G f m r er x y bany T)
+        (pair (if-meets sheet a₀ G f m r er x y z T)
+        (pair (un-meets sheet a₀ G f m r er x (λ q. uis (at q 2)) T) (pair (un-meets sheet a₀ G f m r er x (λ q. ulike (patternOf (drop 2 (items q)))) T)
+        (pair (get-meets sheet a₀ G f m r er x T) (pair (has-meets sheet a₀ G f m r er x T) (pair (path-meets sheet a₀ G f m r er x T)
+        (pair (un-meets sheet a₀ G f m r er x (λ q. unot) T) (pair (un-meets sheet a₀ G f m r er x (λ q. uneg) T) (pair (un-meets sheet a₀ G f m r er x (λ q. uempty) T)
+        (pair (set-meets sheet a₀ G f t i m r er T) (pair (rec-meets sheet a₀ G f t i m r er T) pair-none)))))))))))))))))))))))))))
 
   abbrev tys : List Ty
   tys = types (held sheet a₀ [])
@@ -102,14 +108,14 @@ module _ (sheet a₀ : List ℕ) (G : Env) where
 
   -- every node, at every depth
   pub meets : (d n : ℕ) → Meets sheet a₀ G (λ a l. evalOf sheet d a l n) (treeAt tys nodes d n)
-  unfolding evalOf stepOf stepWith treeAt
+  unfolding evalOf stepOf stepAt treeAt
   meets zero n = record { run = λ a l C X s room q. zero-gives a l C X s room q }
     where
       zero-gives : (a l : List ℕ) (C : List Content) (X : Expr) → Stand sheet a₀ G C a → Room 1 a l → Reads C (err tbool) X → Gives sheet a₀ G C 1 a (yields a Error) (eval (sch sheet a₀ G) G X)
       zero-gives a l C X s room xerr = is-error sheet a₀ G C C 1 a l room (omega arith) a (λ n x e. e) s (record { top = omega arith; few = omega arith })
   meets (suc d) n = record {
     run = λ a l C X s room q. rw (s .hold .same NODE (omega arith))
-        (nth-pair (all-pairs (evalOf sheet d) (treeAt tys nodes d) (meets d) (getD nodes n []) (getD tys (at (getD nodes n []) 0) tbool)) (tag (getD nodes n []) - firstNode) .run a l C X s room q);
+        (nth-pair (all-pairs (evalOf sheet d) (treeAt tys nodes d) (meets d) n (getD nodes n []) refl (getD tys (at (getD nodes n []) 0) tbool)) (tag (getD nodes n []) - firstNode) .run a l C X s room q);
   }
 
   -- ---- the policies in order
@@ -123,13 +129,38 @@ module _ (sheet a₀ : List ℕ) (G : Env) where
   keep-policies k [] done = done
   keep-policies k (r ∷ rs) (also q h) = also (keep-reads k q) (keep-policies k rs h)
 
-  -- the classes are those of the complete answer
-  pub run-classes : (rs : List (List ℕ)) {ps : List Policy} (a l : List ℕ) (C : List Content) → Stand sheet a₀ G C a → Room (policySizes (policiesAt tys nodes rs)) a l → ReadPolicies C (policiesAt tys nodes rs) ps
-      → ranFrom (evalOf sheet 64) l rs a .classes ≡ classesOf (completeAnswer (sch sheet a₀ G) G ps)
+  -- row i of the policies, which are rs from there on
+  policy-here : (a : List ℕ) → Hold a₀ a → (i : ℕ) {r : List ℕ} {rs : List (List ℕ)} → drop i (rowsOf a₀ POLICY) ≡ r ∷ rs → policyIn a i ≡ r
+  policy-here a h i e = ap (λ (rows : List (List ℕ)). getD rows i []) (h .same POLICY (omega arith)) ∙ here (rowsOf a₀ POLICY) i [] e
+
+  ran-step : (f : Rec) (k i : ℕ) (a l r : List ℕ) (c : ℕ) → policyIn a i ≡ r → classNumber (classOf (f a l (at r 2) .words) (f a l (at r 2) .yield)) ≡ c
+      → ranFrom f (suc k) i a l ≡ ranFrom f k (suc i) (f a l (at r 2) .words) (pushed l c)
   unfolding ranFrom
-  run-classes [] a l C s room done = refl
-  run-classes (r ∷ rs) a l C s room (also {A = X} q h) =
+  ran-step f k i a l r c e g =
+      ap (λ (q : List ℕ). ranFrom f k (suc i) (f a l (at q 2) .words) (pushed l (classNumber (classOf (f a l (at q 2) .words) (f a l (at q 2) .yield))))) e
+      ∙ ap (λ (n : ℕ). ranFrom f k (suc i) (f a l (at r 2) .words) (pushed l n)) g
+
+  -- the sheet's rows stay, and the log has these words more
+  pub record Runs (l cs : List ℕ) (t : Ran) : Type 0 where
+    pub hold : Hold a₀ (t .words)
+    pub log : t .log ≡ l ++ cs
+
+  -- the numbers of the classes of the complete answer
+  pub run-is : (rs : List (List ℕ)) {ps : List Policy} (i : ℕ) (a l : List ℕ) (C : List Content) → drop i (rowsOf a₀ POLICY) ≡ rs → Stand sheet a₀ G C a
+      → Room (policySizes (policiesAt tys nodes rs)) a l → length l + length rs + 6 * policySizes (policiesAt tys nodes rs) ≤ 16384 → ReadPolicies C (policiesAt tys nodes rs) ps
+      → Runs l (classNumbers (completeAnswer (sch sheet a₀ G) G ps)) (ranFrom (evalOf sheet 64) (length rs) i a l)
+  unfolding ranFrom
+  run-is [] i a l C e s room fits done = record { hold = s .hold; log = sym (append-nil l) }
+  run-is (r ∷ rs) i a l C e s room fits (also {A = X} q h) =
       let n : ℕ = size (treeAt tys nodes 64 (at r 2)) in
-      let k = meets 64 (at r 2) .run a l C X s (some-room sheet a₀ G n (n + policySizes (policiesAt tys nodes rs)) a l room (omega arith)) q in
-      ap₂ (λ (c : Class) (cs : List Class). c ∷ cs) (class-is (k .stand) (k .says))
-      (run-classes rs (evalOf sheet 64 a l (at r 2) .words) l (k .contents) (k .stand) (rest-room sheet a₀ G k (policySizes (policiesAt tys nodes rs)) (n + policySizes (policiesAt tys nodes rs)) l room (omega arith)) (keep-policies (k .keeps) rs h))
+      let m : ℕ = policySizes (policiesAt tys nodes rs) in
+      let k = meets 64 (at r 2) .run a l C X s (some-room sheet a₀ G n (n + m) a l room (omega arith)) q in
+      let c : ℕ = classNumber (resultClass (eval (sch sheet a₀ G) G X)) in
+      let z = rest-room sheet a₀ G k m (n + m) l room (omega arith) in
+      let len = length-append l (c ∷ []) in
+      let rest = run-is rs (suc i) (evalOf sheet 64 a l (at r 2) .words) (l ++ (c ∷ [])) (k .contents) (further (rowsOf a₀ POLICY) i e) (k .stand)
+      (record { top = z .top; few = z .few; log = omega (arith, fits, len) }) (omega (arith, fits, len)) (keep-policies (k .keeps) rs h) in
+      subst (Runs l _)
+      (sym (ran-step (evalOf sheet 64) (length rs) i a l r c (policy-here a (s .hold) i e) (ap classNumber (class-is (k .stand) (k .says)))
+      ∙ ap (ranFrom (evalOf sheet 64) (length rs) (suc i) (evalOf sheet 64 a l (at r 2) .words)) (appended-is l (c ∷ []) (omega (arith, fits)))))
+      (record { hold = rest .hold; log = rest .log ∙ append-assoc l (c ∷ []) _ })

@@ -1,34 +1,32 @@
 -- What evaluation over words yields is what a result by content says: the values grow by those made, and the number yielded stands for
 -- the content. The words a₀ hold the sheet at the start. Assumes nothing.
-use mathlib.Core.Path.{_≡_, refl, sym, _∙_, ap, subst}
-use mathlib.Core.Bool.{Bool, true, false, cond}
+use mathlib.Core.Path.{_≡_, refl, sym, subst}
+use mathlib.Core.Bool.{Bool, true, false}
 use mathlib.Core.Option.{Option, none, some}
 use mathlib.Core.List.{List, [], _∷_}
 use Prim.Native.Nat.{ℕ, suc, _+_, _*_, _≤_}
 use native.Mathlib.Omega.{arith}
 use lib.ListN.{length, getD}
-use Rattle.cedar.specs.Value.{Value as Content, vbool, vlong, vtext, vent, vset, vrec, Fields, Result, ok, fail, bind, okBool, find, found, onSome}
-use Rattle.cedar.specs.Types.{Schema}
-use Rattle.cedar.specs.Residual.{Un, Bin, Rel, rin, rgettag, rhastag}
-use Rattle.cedar.specs.Entities.{Env, PEnv, whole, entity, pentity}
-use Rattle.cedar.specs.Evaluate.{boolOf, applyUn, applyBin, applyRel, applyGet, applyHas, applyPath, targets, within}
+use Rattle.cedar.specs.Value.{Value as Content, vbool, vlong, vtext, vent, vset, vrec, Result, ok, fail, bind, okBool, find, onSome}
+use Rattle.cedar.specs.Residual.{Rel, rin, rgettag, rhastag}
+use Rattle.cedar.specs.Entities.{Env, whole, entity, pentity}
+use Rattle.cedar.specs.Evaluate.{boolOf, applyRel, applyGet, applyHas, applyPath, targets, within}
 use Rattle.cedar.specs.Interpret.{gives, relKnown, getKnown, hasKnown, inKnown}
 use Rattle.cedar.specs.Rows.{Entries, Row, rbool, rlong, rtext, rent, rset, rrec}
 use Rattle.cedar.specs.Table.{At, Denotes, dbool, dlong, dtext, dent, dset, drec, Table}
-use Rattle.cedar.proofs.TableLaws.{number-inj}
 use Rattle.cedar.proofs.MakingLaws.{intern-makes}
-use Rattle.cedar.specs.Numbered.{Give, made, old, NEnv, nentity, rowAt, giveRow, rBool, rRec, NOut, give, fails, stays, truly, isSome, entryOf, nUn, nBin, nRel, nGet, nHas, onEntries}
+use Rattle.cedar.specs.Numbered.{Give, made, NEnv, nentity, rowAt, giveRow, rBool, rRec, NOut, fails, stays, truly, isSome, entryOf, nRel, nGet, nHas, onEntries}
 use Rattle.cedar.proofs.ReadsLaws.{OutReads, omade, oold, ofail, ostay, Keeps, row-denotes, on-bool}
-use Rattle.cedar.proofs.ReadsOps.{EnvRead, keep-env, un-reads, bin-reads, rel-reads, get-reads, has-reads, on-fields, OptAt, absent, there-at, entry-at}
+use Rattle.cedar.proofs.ReadsOps.{EnvRead, keep-env, rel-reads, get-reads, has-reads, on-fields, OptAt, absent, there-at, entry-at}
 use Rattle.sheet.specs.Forms.{complete}
 use Rattle.sheet.specs.State.{valueRow}
-use Rattle.sheet.specs.Content.{schema, nEnv}
+use Rattle.sheet.specs.Content.{nEnv}
 use Rattle.table.specs.Layout.{held, MADE, TOP}
-use Rattle.value.specs.Made.{boolRow, numberOf, withValue}
-use Rattle.value.proofs.Interned.{Formed, formed-bool}
-use Rattle.tpe.specs.Run.{wordsOf, schemaIn, envIn}
-use Rattle.tpe.proofs.Outcomes.{RowFine, words-row, words-formed, words-short, Fine, made-un, made-bin, made-rel, made-get, made-has}
-use Rattle.tpe.proofs.Stands.{Hold, Room, Space, Spent, space-spent, schema-is, env-is}
+use Rattle.value.specs.Made.{boolRow}
+use Rattle.value.proofs.Interned.{Formed}
+use Rattle.tpe.specs.Run.{wordsOf}
+use Rattle.tpe.proofs.Outcomes.{words-row, words-formed, words-short, Fine}
+use Rattle.tpe.proofs.Stands.{Hold, Room, Space, Spent, space-spent}
 use Rattle.tpe.proofs.Stands as S
 use Rattle.evaluator.specs.Run.{E, yields, values, madeOf, giveOf, settleOf, onYield, next, onBool, boolOnly, pathOut}
 use Rattle.evaluator.specs.declared.Yield.{Yield}

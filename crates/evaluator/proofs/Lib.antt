@@ -5,3 +5,5 @@ pub mod Evaluates
 pub mod Depth
 pub mod Complete
 pub mod Settles
+pub mod Given
+pub mod Ways

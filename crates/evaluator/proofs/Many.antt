@@ -2,13 +2,15 @@
 -- makes of the contents. Assumes nothing.
 use mathlib.Core.Path.{_≡_, refl, sym, _∙_, ap, ap₂, subst}
 use mathlib.Core.Bool.{Bool, true, false, cond}
-use mathlib.Core.Option.{Option, none, some}
+use mathlib.Core.Option.{none, some}
 use mathlib.Core.List.{List, [], _∷_, _++_, append-assoc, append-nil}
-use Prim.Native.Nat.{ℕ, suc, _+_, _*_, _≤_, compare, Ordering, Ordering·lt, Ordering·eq, Ordering·gt}
+use Prim.Native.Nat.{ℕ, zero, suc, _+_, _-_, _*_, _≤_, _<_, compare, Ordering, Ordering·lt, Ordering·eq, Ordering·gt}
 use native.Mathlib.Omega.{arith}
-use lib.ListN.{length, getD, drop, length-append}
+use native.Mathlib.Decide.{decLt}
+use borrow.Author.Tests.{lt-ltb, le-ltb}
+use lib.Dec.{ltb}
+use lib.ListN.{length, getD, drop, length-append, length-take, length-drop}
 use lib.Seq.{drop-append-seam}
-use Rattle.words.specs.Log.{appended}
 use Rattle.words.proofs.Logs.{appended-is}
 use Rattle.cedar.specs.Value.{Value as Content, Values, vnil, vcons, Fields, fnil, fcons, vrec, Result, ok, fail, onSome}
 use Rattle.cedar.specs.Canonical.{makeSet}
@@ -16,27 +18,27 @@ use Rattle.cedar.specs.Types.{Ty, Schema}
 use Rattle.cedar.specs.Residual.{Node, Nodes, NodeArgs, Expr, Exprs, Args, enil, econs, gnil, gcons, lit, err, var, and, or, ite, un, bin, rel, get, has, haspath, set, rec}
 use Rattle.cedar.specs.Entities.{Env}
 use Rattle.cedar.specs.Evaluate.{eval, evals, evalArgs, consR, fieldR}
-use Rattle.cedar.specs.Rows.{Entries, stop, entry, Row, rset, rrec}
 use Rattle.cedar.specs.Making.{insertN, placeN, sortN}
 use Rattle.cedar.specs.Table.{At, Elems, elem0, elem1, Named, name0, name1, Denotes, drec}
 use Rattle.cedar.proofs.MakingLaws.{set-denotes}
 use Rattle.cedar.specs.Reads.{Reads, xset, xrec, ReadsAll, xnil, xcons, ReadsArgs, xstop, xarg}
 use Rattle.cedar.proofs.ReadsLaws.{Keeps, keep-reads}
-use Rattle.sheet.specs.Forms.{items, at}
+use Rattle.sheet.specs.Forms.{items, NODE}
 use Rattle.sheet.specs.State.{valueRow, entriesOf}
 use Rattle.sheet.specs.Answer.{size, sizes, sizeArgs}
-use Rattle.table.specs.Layout.{MADE, TOP}
-use Rattle.value.specs.Made.{valuesIn, setRow, pairsOf, recordRow, written}
-use Rattle.value.proofs.Interned.{Formed, formed-set, formed-record}
+use Rattle.table.specs.Layout.{MADE, TOP, base, rowAt, Sound}
+use Rattle.table.proofs.Rows.{row-none, row-some}
+use Rattle.value.specs.Made.{valuesIn, setRow, pairsOf, recordRow}
+use Rattle.value.proofs.Interned.{Formed, formed-record}
 use Rattle.value.proofs.Fills.{written-is}
+use Rattle.value.proofs.Lists.{uncons, spent}
 use Rattle.residual.specs.Rows.{litRow}
 use Rattle.tpe.specs.Run.{others}
-use Rattle.tpe.proofs.Stands.{Room, Space, Spent}
-use Rattle.evaluator.specs.Run.{E, Rec, yields, madeOf, Kids, nextKid, kidsOf, manyOf, setStep, recStep}
+use Rattle.tpe.proofs.Stands.{Room}
+use Rattle.evaluator.specs.Run.{E, Rec, nodeIn, Kids, kids, nextKid, kidsOf, most, manyOf, setStep, recStep}
 use Rattle.evaluator.specs.declared.Yield.{Yield}
-use Rattle.evaluator.specs.declared.Yield.the-variants.{Value, Error}
-use Rattle.evaluator.proofs.Gives.{Says, says-value, says-error, Stand, Gives, is-error, is-made, rest-room, some-room}
-use Rattle.evaluator.proofs.Steps.{sch, Meets}
+use Rattle.evaluator.proofs.Gives.{Says, says-value, says-error, Stand, Gives, is-error, is-made, some-room}
+use Rattle.evaluator.proofs.Steps.{sch, Meets, same-node}
 
 -- ---- results in turn: all are values, of these numbers; or one fails
 
@@ -77,6 +79,54 @@ abbrev pub argsWith : (ℕ → Node ℕ) → List ℕ → NodeArgs ℕ
 argsWith t [] = gnil
 argsWith t (u ∷ []) = gnil
 argsWith t (u ∷ x ∷ xs) = gcons u (t x) (argsWith t xs)
+
+-- ---- the numbers of the children of a row, as they are read
+
+unfoldable pub kidsFrom : ℕ → List ℕ → ℕ → ℕ → List ℕ
+kidsFrom s r zero i = []
+kidsFrom s r (suc k) i = cond (ltb i (length r)) (getD r i 0 ∷ kidsFrom s r k (i + s)) []
+
+-- of a set
+each-word : (r : List ℕ) (k i : ℕ) → length r ≤ k + i → kidsFrom 1 r k i ≡ drop i r
+unfolding kidsFrom
+each-word r zero i h = sym (spent r i (omega (arith, h)))
+each-word r (suc k) i h = go (decLt i (length r)) (each-word r k (i + 1))
+  where
+    go : Dec (i < length r) → (length r ≤ k + (i + 1) → kidsFrom 1 r k (i + 1) ≡ drop (i + 1) r) → cond (ltb i (length r)) (getD r i 0 ∷ kidsFrom 1 r k (i + 1)) [] ≡ drop i r
+    go (yes d) ih = rw (lt-ltb i (length r) d, ih (omega (arith, h))) (sym (uncons r 0 i d))
+    go (no d) ih = rw (le-ltb i (length r) (omega (arith, d))) (sym (spent r i (omega (arith, d))))
+
+-- of a record
+no-other : (l : List ℕ) → length l ≤ 1 → [] ≡ others l
+no-other [] h = refl
+no-other (t ∷ []) h = refl
+no-other (t ∷ n ∷ l) h = absurd (omega (arith, h))
+
+each-other : (r : List ℕ) (k i : ℕ) → length r ≤ k + i → kidsFrom 2 r k (i + 1) ≡ others (drop i r)
+unfolding kidsFrom
+each-other r zero i h = rw (spent r i (omega (arith, h)))
+each-other r (suc k) i h = go (decLt (i + 1) (length r)) (each-other r k (i + 2))
+  where
+    go : Dec (i + 1 < length r) → (length r ≤ k + (i + 2) → kidsFrom 2 r k (i + 2 + 1) ≡ others (drop (i + 2) r))
+        → cond (ltb (i + 1) (length r)) (getD r (i + 1) 0 ∷ kidsFrom 2 r k (i + 1 + 2)) [] ≡ others (drop i r)
+    go (yes d) ih =
+        let e : i + 1 + 2 ≡ i + 2 + 1 = omega arith in
+        let t : i + 1 + 1 ≡ i + 2 = omega arith in
+        rw (lt-ltb (i + 1) (length r) d, e, ih (omega (arith, h)), uncons r 0 i (omega (arith, d)), uncons r 0 (i + 1) d, t)
+    go (no d) ih = rw (le-ltb (i + 1) (length r) (omega (arith, d))) (no-other (drop i r) (omega (arith, length-drop i r, d)))
+
+-- a row lies in the heap
+pub row-short : (a : List ℕ) → Sound a → (m : ℕ) → length (nodeIn a m) ≤ getD a TOP 0
+unfolding rowAt
+row-short a s m = go (decLt m (getD a NODE 0))
+  where
+    go : Dec (m < getD a NODE 0) → length (nodeIn a m) ≤ getD a TOP 0
+    go (yes d) =
+        let e : length (nodeIn a m) ≡ length (rowAt a (base NODE + m)) = ap length (sym (row-some a NODE m (getD a NODE 0) (base NODE) (rowAt a (base NODE + m)) refl d refl refl)) in
+        let h = s .high NODE m (omega arith) d in
+        let t = length-take (getD a (suc (base NODE + m)) 0 - getD a (base NODE + m) 0) (drop (getD a (base NODE + m) 0) a) in
+        omega (arith, e, h, t)
+    go (no d) = let e : length (nodeIn a m) ≡ 0 = ap length (sym (row-none a NODE m (getD a NODE 0) refl (omega (arith, d)))) in omega (arith, e)
 
 -- ---- sizes
 
@@ -206,9 +256,9 @@ module _ (sheet a₀ : List ℕ) (G : Env) where
     goes e (says-value {n = v} {v = x} h) K f = rw (appended-is l (litRow v 0) (omega (arith, room .log, one))) (first-goes e h (f v (log-room v)))
     goes e says-error K f = first-fails e
 
-  pub kids-worked : {C : List Content} {ys : List ℕ} {ss : List Result} {n : ℕ} (f : Rec) → Kin C f ys ss n → (a l : List ℕ) (D : List Content) → Keeps C D → Stand sheet a₀ G D a → Room n a l → Worked D n a l (kidsOf f a l ys) ss
-  unfolding kidsOf litRows
-  kids-worked f kin-none a l D kp s room = record {
+  none-left : {C D : List Content} {ss : List Result} {n : ℕ} {f : Rec} {a : List ℕ} (l : List ℕ) → Kin C f [] ss n → Stand sheet a₀ G D a → Worked D n a l (kids a l true) ss
+  unfolding litRows
+  none-left {D = D} l kin-none s = record {
     contents = D;
     keeps = λ m y z. z;
     stand = s;
@@ -216,10 +266,23 @@ module _ (sheet a₀ : List ℕ) (G : Env) where
     top = omega arith;
     few = omega arith;
   }
-  kids-worked {C} f (kin-more {x = x} {q = q} {n = n} {xs = xs} {rs = rs} one g kin) a l D kp s room =
-      let o = g a l D kp s (some-room sheet a₀ G q (q + n) a l room (omega arith)) in
-      goes o one n l room rs refl (o .says) (λ m. kidsOf f (f a l x .words) m xs)
-      (λ v rm. kids-worked f kin (f a l x .words) (l ++ litRow v 0) (o .contents) (λ m y z. o .keeps m y (kp m y z)) (o .stand) rm)
+
+  -- child x if there is one, then the others xs
+  kid-worked : (C : List Content) (f : Rec) (x : ℕ) (xs : List ℕ) (K : List ℕ → List ℕ → Kids) (t : Bool) {ss : List Result} {n : ℕ} (a l : List ℕ) (D : List Content) → Keeps C D → Stand sheet a₀ G D a → Room n a l
+      → ((rs : List Result) (j : ℕ) → Kin C f xs rs j → (b w : List ℕ) (B : List Content) → Keeps C B → Stand sheet a₀ G B b → Room j b w → Worked B j b w (K b w) rs)
+      → Kin C f (cond t (x ∷ xs) []) ss n → Worked D n a l (cond t (nextKid (f a l x .words) l (f a l x .yield) (K (f a l x .words))) (kids a l true)) ss
+  kid-worked C f x xs K true a l D kp s room more (kin-more {q = q} {n = j} {rs = rs} one g kin) =
+      let o = g a l D kp s (some-room sheet a₀ G q (q + j) a l room (omega arith)) in
+      goes o one j l room rs refl (o .says) (K (f a l x .words)) (λ v rm. more rs j kin (f a l x .words) (l ++ litRow v 0) (o .contents) (λ b y z. o .keeps b y (kp b y z)) (o .stand) rm)
+  kid-worked C f x xs K false a l D kp s room more kin = none-left l kin s
+
+  pub kids-worked : {C : List Content} {ss : List Result} {n : ℕ} (f : Rec) (m s k i : ℕ) → Kin C f (kidsFrom s (nodeIn a₀ m) k i) ss n → (a l : List ℕ) (D : List Content) → Keeps C D → Stand sheet a₀ G D a → Room n a l
+      → Worked D n a l (kidsOf f m s k i a l) ss
+  unfolding kidsOf kidsFrom
+  kids-worked f m s zero i kin a l D kp st room = none-left l kin st
+  kids-worked {C} f m s (suc k) i kin a l D kp st room = rw (same-node sheet a₀ G a (st .hold) m)
+      (kid-worked C f (getD (nodeIn a₀ m) i 0) (kidsFrom s (nodeIn a₀ m) k (i + s)) (kidsOf f m s k (i + s)) (ltb i (length (nodeIn a₀ m))) a l D kp st room
+      (λ rs j more. kids-worked f m s k (i + s) more) kin)
 
   -- ---- the children of a node: x is worked as the tree t x
 
@@ -274,24 +337,37 @@ module _ (sheet a₀ : List ℕ) (G : Env) where
         (made-gives r a l C s n room k (resultsArgs hs) w ns e z c t (recordRow r (litRows ns)) (formed-record r (litRows ns)) (record-short r ns) (record-denotes (w .contents) r ns m))
     rec-say r a l C s n room k hs w q (one-fails e b) = rw (rec-bad hs b) (error-gives r a l C s n room k (resultsArgs hs) w e _)
 
-    set-in : (r : List ℕ) (T : Ty) (a l : List ℕ) (C : List Content) (X : Expr) → Stand sheet a₀ G C a → Room (suc (sizes (kidsWith t (drop 1 (items r))))) a l → Reads C (set T (kidsWith t (drop 1 (items r)))) X
-        → Gives sheet a₀ G C (suc (sizes (kidsWith t (drop 1 (items r))))) a (setStep sheet f a l r) (eval sc G X)
-    unfolding setStep
-    set-in r T a l C X s room (xset {fs = fs} h) =
-        let n : ℕ = sizes (kidsWith t (drop 1 (items r))) in
-        let w = kids-worked f (kin-all (drop 1 (items r)) h) a l C (λ m y z. z) s (some-room sheet a₀ G n (suc n) a l room (omega arith)) in
-        set-say a l C s n room (kidsOf f a l (drop 1 (items r))) fs w (w .say)
+    module _ (m : ℕ) (r : List ℕ) (er : nodeIn a₀ m ≡ r) where
+      short : {C : List Content} {a : List ℕ} {n : ℕ} {l : List ℕ} → Stand sheet a₀ G C a → Room n a l → length r ≤ 16384
+      short {a = a} s room = let e : length (nodeIn a m) ≡ length r = ap length (same-node sheet a₀ G a (s .hold) m ∙ er) in omega (arith, e, row-short a (s .hold .sound) m, room .top)
 
-    rec-in : (r : List ℕ) (T : Ty) (a l : List ℕ) (C : List Content) (X : Expr) → Stand sheet a₀ G C a → Room (suc (sizeArgs (argsWith t (drop 1 (items r))))) a l → Reads C (rec T (argsWith t (drop 1 (items r)))) X
-        → Gives sheet a₀ G C (suc (sizeArgs (argsWith t (drop 1 (items r))))) a (recStep sheet f a l r) (eval sc G X)
-    unfolding recStep
-    rec-in r T a l C X s room (xrec {hs = hs} h) =
-        let n : ℕ = sizeArgs (argsWith t (drop 1 (items r))) in
-        let w = kids-worked f (kin-args (drop 1 (items r)) h) a l C (λ m y z. z) s (some-room sheet a₀ G n (suc n) a l room (omega arith)) in
-        rec-say r a l C s n room (kidsOf f a l (others (drop 1 (items r)))) hs w (subst (λ (x : List ℕ). ReadsArgs C (argsWith t x) hs) (sym (drop-two r)) h) (w .say)
+      in-set : {C : List Content} {a : List ℕ} {n : ℕ} {l : List ℕ} → Stand sheet a₀ G C a → Room n a l → kidsFrom 1 (nodeIn a₀ m) most 2 ≡ drop 1 (items r)
+      in-set s room = ap (λ (q : List ℕ). kidsFrom 1 q most 2) er ∙ each-word r most 2 (omega (arith, short s room)) ∙ drop-two r
 
-    pub set-meets : (r : List ℕ) (T : Ty) → Meets sheet a₀ G (λ a l. setStep sheet f a l r) (set T (kidsWith t (drop 1 (items r))))
-    set-meets r T = record { run = λ a l C X s room q. set-in r T a l C X s room q }
+      in-record : {C : List Content} {a : List ℕ} {n : ℕ} {l : List ℕ} → Stand sheet a₀ G C a → Room n a l → kidsFrom 2 (nodeIn a₀ m) most 3 ≡ others (drop 1 (items r))
+      in-record s room = ap (λ (q : List ℕ). kidsFrom 2 q most 3) er ∙ each-other r most 2 (omega (arith, short s room)) ∙ ap others (drop-two r)
 
-    pub rec-meets : (r : List ℕ) (T : Ty) → Meets sheet a₀ G (λ a l. recStep sheet f a l r) (rec T (argsWith t (drop 1 (items r))))
-    rec-meets r T = record { run = λ a l C X s room q. rec-in r T a l C X s room q }
+      set-in : (T : Ty) (a l : List ℕ) (C : List Content) (X : Expr) → Stand sheet a₀ G C a → Room (suc (sizes (kidsWith t (drop 1 (items r))))) a l → Reads C (set T (kidsWith t (drop 1 (items r)))) X
+          → Gives sheet a₀ G C (suc (sizes (kidsWith t (drop 1 (items r))))) a (setStep f a l m r) (eval sc G X)
+      unfolding setStep
+      set-in T a l C X s room (xset {fs = fs} h) =
+          let n : ℕ = sizes (kidsWith t (drop 1 (items r))) in
+          let kin : Kin C f (kidsFrom 1 (nodeIn a₀ m) most 2) (resultsOf fs) n = subst (λ (ys : List ℕ). Kin C f ys (resultsOf fs) n) (sym (in-set s room)) (kin-all (drop 1 (items r)) h) in
+          let w = kids-worked f m 1 most 2 kin a l C (λ b y z. z) s (some-room sheet a₀ G n (suc n) a l room (omega arith)) in
+          set-say a l C s n room (kidsOf f m 1 most 2 a l) fs w (w .say)
+
+      rec-in : (T : Ty) (a l : List ℕ) (C : List Content) (X : Expr) → Stand sheet a₀ G C a → Room (suc (sizeArgs (argsWith t (drop 1 (items r))))) a l → Reads C (rec T (argsWith t (drop 1 (items r)))) X
+          → Gives sheet a₀ G C (suc (sizeArgs (argsWith t (drop 1 (items r))))) a (recStep f a l m r) (eval sc G X)
+      unfolding recStep
+      rec-in T a l C X s room (xrec {hs = hs} h) =
+          let n : ℕ = sizeArgs (argsWith t (drop 1 (items r))) in
+          let kin : Kin C f (kidsFrom 2 (nodeIn a₀ m) most 3) (resultsArgs hs) n = subst (λ (ys : List ℕ). Kin C f ys (resultsArgs hs) n) (sym (in-record s room)) (kin-args (drop 1 (items r)) h) in
+          let w = kids-worked f m 2 most 3 kin a l C (λ b y z. z) s (some-room sheet a₀ G n (suc n) a l room (omega arith)) in
+          rw (same-node sheet a₀ G (kidsOf f m 2 most 3 a l .words) (w .stand .hold) m, er)
+          (rec-say r a l C s n room (kidsOf f m 2 most 3 a l) hs w (subst (λ (x : List ℕ). ReadsArgs C (argsWith t x) hs) (sym (drop-two r)) h) (w .say))
+
+      pub set-meets : (T : Ty) → Meets sheet a₀ G (λ a l. setStep f a l m r) (set T (kidsWith t (drop 1 (items r))))
+      set-meets T = record { run = λ a l C X s room q. set-in T a l C X s room q }
+
+      pub rec-meets : (T : Ty) → Meets sheet a₀ G (λ a l. recStep f a l m r) (rec T (argsWith t (drop 1 (items r))))
+      rec-meets T = record { run = λ a l C X s room q. rec-in T a l C X s room q }

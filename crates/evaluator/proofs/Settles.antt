@@ -1,31 +1,43 @@
--- The laws of `as_bool` and `settle`. Assumes nothing.
-use mathlib.Core.Path.{_≡_, refl, sym, ap, _∙_}
-use mathlib.Core.Bool.{Bool}
+-- The laws of the functions that look at one value or at the request. Assumes nothing.
+use mathlib.Core.Path.{_≡_, refl, sym, ap, subst, _∙_}
+use mathlib.Core.Bool.{Bool, true, false, cond}
+use mathlib.Core.Option.{none, some}
 use mathlib.Core.List.{List, [], _∷_}
-use Prim.Native.Nat.{ℕ}
+use Prim.Native.Nat.{ℕ, zero, suc}
+use native.Mathlib.Omega.{arith}
+use borrow.Author.Tests.{eq-eqb, ne-eqb}
+use lib.Dec.{eqb}
 use lib.ListN.{getD}
 use lib.IntN.{ℤ, pos, negsuc}
 use types.Run.{OneOf}
 use denote.Enum.Declared.{tagOf}
 use Rattle.value.proofs.Shape.{the-type}
-use Rattle.cedar.specs.Rows.{rlong}
+use Rattle.cedar.specs.Types.{Var, principal, action, resource, context}
+use Rattle.cedar.specs.Residual.{copen, truth}
+use Rattle.cedar.specs.Rows.{Row, rbool, rlong, rtext, rent, rset, rrec}
+use Rattle.cedar.specs.Numbered.{made, old, rowAt, rBool, NOut}
 use Rattle.sheet.specs.Bytes.{longAt}
-use Rattle.sheet.specs.Forms.{items}
+use Rattle.sheet.specs.Forms.{items, mark}
+use Rattle.sheet.specs.Content.{varOf, entityGiven, given, nEnv}
 use Rattle.sheet.proofs.ValueRows.{back}
+use Rattle.table.specs.Layout.{rowsOf, held, linesHeld}
 use Rattle.value.specs.Lines.{valueLines}
-use Rattle.value.specs.Made.{boolRow, longRow, Made}
+use Rattle.value.specs.Made.{boolRow, longRow, entityRow, Made}
 use Rattle.value.specs.Shapes.{shapeOf}
 use Rattle.value.specs.declared.Shape.{Shape}
 use Rattle.value.specs.declared.Shape.the-variants.{Bool as Boolˢ}
 use Rattle.value.proofs.Interned.{long-row, formed-long}
 use Rattle.strict.specs.Gives.{outOf, valueIn}
+use Rattle.strict.specs.Gives as S
 use Rattle.strict.specs.declared.Given.{Given}
 use Rattle.strict.specs.declared.Given.the-variants.{Bool as Boolᵍ, Long, Old, Fails, Stays}
 use Rattle.strict.proofs.Shapes.{value-shape, other-bool}
-use Rattle.tpe.specs.Run.{wordsOf}
-use Rattle.evaluator.specs.Run.{madeOf, giveOf, settleOf}
-use Rattle.evaluator.specs.Gave.{Gave, truthOf}
+use Rattle.tpe.specs.Run.{wordsOf, envIn}
+use Rattle.evaluator.specs.Run.{yields, values, madeOf, giveOf, settleOf, optOf, onYield, next, boolOnly, envOf, classOf, classNumber}
+use Rattle.evaluator.specs.Gave.{Gave, truthOf, truthIn}
+use Rattle.evaluator.specs.declared.Yield.{Yield}
 use Rattle.evaluator.specs.declared.Yield.the-variants.{Value, Error}
+use Rattle.evaluator.specs.declared.Truth.{Truth}
 use Rattle.evaluator.specs.declared.Truth.the-variants.{Is, Other}
 
 module _ (a : List ℕ) (v : ℕ) (q : List ℕ) (s : Shape) (eq : q ≡ getD (valueLines a) v []) (es : s ≡ shapeOf q) where
@@ -65,3 +77,126 @@ module _ (a : List ℕ) (g : Given) where
   pub settle-stays : g ≡ Stays → Gave (settleOf a (outOf g)) a Error
   unfolding settleOf
   settle-stays e = rw e (record { words = refl; yield = refl })
+
+-- ---- a bool or not
+
+module _ {A : Type 0} (d : A) (f : Bool → A) where
+  pub on-is : (r : Row) (x : Bool) → truthOf r ≡ Is x → rBool d r f ≡ f x
+  unfolding truthOf
+  on-is (rbool b) x e = let z : b ≡ x = cc in ap f z
+  on-is (rlong n) x e = let z : _≡_ {A = ℕ} 0 1 = cc in absurd (omega arith)
+  on-is (rtext t) x e = let z : _≡_ {A = ℕ} 0 1 = cc in absurd (omega arith)
+  on-is (rent k t) x e = let z : _≡_ {A = ℕ} 0 1 = cc in absurd (omega arith)
+  on-is (rset l) x e = let z : _≡_ {A = ℕ} 0 1 = cc in absurd (omega arith)
+  on-is (rrec g) x e = let z : _≡_ {A = ℕ} 0 1 = cc in absurd (omega arith)
+
+  pub on-other : (r : Row) → truthOf r ≡ Other → rBool d r f ≡ d
+  unfolding truthOf
+  on-other (rbool b) e = let z : _≡_ {A = ℕ} 0 1 = cc in absurd (omega arith)
+  on-other (rlong n) e = refl
+  on-other (rtext t) e = refl
+  on-other (rent k t) e = refl
+  on-other (rset l) e = refl
+  on-other (rrec g) e = refl
+
+module _ (a : List ℕ) (y : Yield) where
+  pub truth-error : y ≡ Error → Other ≡ truthIn a y
+  unfolding truthIn
+  truth-error e = rw e
+
+  pub truth-value : (v : ℕ) (t : Truth) → y ≡ Value v → t ≡ truthOf (valueIn a v) → t ≡ truthIn a y
+  unfolding truthIn valueIn S.values
+  truth-value v t e h = h ∙ ap (truthIn a) (sym e)
+
+  pub only-error : y ≡ Error → Gave (boolOnly (yields a y)) a Error
+  unfolding boolOnly next onYield
+  only-error e = rw e (record { words = refl; yield = refl })
+
+  pub class-error : y ≡ Error → 2 ≡ classNumber (classOf a y)
+  unfolding classOf
+  class-error e = rw e
+
+  module _ (v : ℕ) (e : y ≡ Value v) (t : Truth) (et : t ≡ truthOf (valueIn a v)) where
+    abbrev the : Row
+    the = rowAt (values a) v
+
+    says : truthOf the ≡ t
+    unfolding valueIn S.values
+    says = sym et
+
+    pub only-is : (x : Bool) → t ≡ Is x → Gave (boolOnly (yields a y)) a (Value v)
+    unfolding boolOnly next onYield
+    only-is x h = rw (e, on-is (yields a Error) (λ b. yields a (Value v)) the x (says ∙ h)) (record { words = refl; yield = refl })
+
+    pub only-other : t ≡ Other → Gave (boolOnly (yields a y)) a Error
+    unfolding boolOnly next onYield
+    only-other h = rw (e, on-other (yields a Error) (λ b. yields a (Value v)) the (says ∙ h)) (record { words = refl; yield = refl })
+
+    class-by : classOf a y ≡ rBool copen the truth
+    unfolding classOf
+    class-by = ap (classOf a) e
+
+    pub class-open : t ≡ Other → 3 ≡ classNumber (classOf a y)
+    class-open h = sym (ap classNumber (class-by ∙ on-other copen truth the (says ∙ h)))
+
+    pub class-true : (x : Bool) → t ≡ Is x → x ≡ true → 0 ≡ classNumber (classOf a y)
+    class-true x h z = sym (ap classNumber (class-by ∙ on-is copen truth the x (says ∙ h) ∙ ap truth z))
+
+    pub class-false : (x : Bool) → t ≡ Is x → x ≡ false → 1 ≡ classNumber (classOf a y)
+    class-false x h z = sym (ap classNumber (class-by ∙ on-is copen truth the x (says ∙ h) ∙ ap truth z))
+
+-- ---- the request
+
+module _ (a : List ℕ) (k : ℕ) (r : List ℕ) (er : r ≡ getD (rowsOf a k) 0 []) (t : ℕ) (et : t ≡ getD r 2 0) where
+  the-line : entityGiven (getD (rowsOf a k) 0 []) ≡ cond (eqb t mark) none (some (made (rent (getD r 1 0) t)))
+  the-line = ap entityGiven (sym er) ∙ rw (← et)
+
+  pub entity-unknown : t ≡ 10000 → Gave (optOf a (entityGiven (getD (rowsOf a k) 0 []))) a Error
+  unfolding optOf
+  entity-unknown e = rw (the-line, eq-eqb t mark e) (record { words = refl; yield = refl })
+
+  pub entity-made : (is : List ℕ) (kind v : ℕ) → (t ≡ 10000 → ⊥) → kind ≡ getD r 1 0 → Made a (entityRow kind t) is v → Gave (optOf a (entityGiven (getD (rowsOf a k) 0 []))) is (Value v)
+  unfolding optOf giveOf madeOf
+  entity-made is kind v n ek m = rw (the-line, ne-eqb t mark n, ← ek) (record { words = m .words; yield = ap Value (m .number) })
+
+var-context : (x : ℕ) → (x ≡ 0 → ⊥) → (x ≡ 1 → ⊥) → (x ≡ 2 → ⊥) → varOf x ≡ context
+var-context zero p q s = absurd (p refl)
+var-context (suc zero) p q s = absurd (q refl)
+var-context (suc (suc zero)) p q s = absurd (s refl)
+var-context (suc (suc (suc zero))) p q s = refl
+var-context (suc (suc (suc (suc x)))) p q s = refl
+
+module _ (a : List ℕ) (x : ℕ) where
+  asked : (u : Var) → varOf x ≡ u → envOf a .request (varOf x) ≡ given (held [] a []) u
+  unfolding envIn nEnv
+  asked u e = ap (given (held [] a [])) e
+
+  module _ (is : List ℕ) (y : Yield) where
+    pub ask-principal : x ≡ 0 → Gave (optOf a (entityGiven (getD (rowsOf a 7) 0 []))) is y → Gave (optOf a (envOf a .request (varOf x))) is y
+    unfolding held linesHeld
+    ask-principal e g = rw (asked principal (ap varOf e)) g
+
+    pub ask-action : x ≡ 1 → Gave (optOf a (entityGiven (getD (rowsOf a 8) 0 []))) is y → Gave (optOf a (envOf a .request (varOf x))) is y
+    unfolding held linesHeld
+    ask-action e g = rw (asked action (ap varOf e)) g
+
+    pub ask-resource : x ≡ 2 → Gave (optOf a (entityGiven (getD (rowsOf a 9) 0 []))) is y → Gave (optOf a (envOf a .request (varOf x))) is y
+    unfolding held linesHeld
+    ask-resource e g = rw (asked resource (ap varOf e)) g
+
+  module _ (p : x ≡ 0 → ⊥) (q : x ≡ 1 → ⊥) (s : x ≡ 2 → ⊥) (r : List ℕ) (er : r ≡ getD (rowsOf a 10) 0 []) (v : ℕ) (ev : v ≡ getD r 2 0) where
+    the-context : envOf a .request (varOf x) ≡ cond (eqb v mark) none (some (old v))
+    unfolding held linesHeld
+    the-context = asked context (var-context x p q s) ∙ ap (λ (n : ℕ). cond (eqb n mark) none (some (old n))) (sym (ev ∙ ap (λ (l : List ℕ). getD l 2 0) er))
+
+    pub ask-unknown : v ≡ 10000 → Gave (optOf a (envOf a .request (varOf x))) a Error
+    unfolding optOf
+    ask-unknown e = rw (the-context, eq-eqb v mark e) (record { words = refl; yield = refl })
+
+    pub ask-context : (v ≡ 10000 → ⊥) → Gave (optOf a (envOf a .request (varOf x))) a (Value v)
+    unfolding optOf giveOf
+    ask-context n = rw (the-context, ne-eqb v mark n) (record { words = refl; yield = refl })
+
+-- what an operation gives is the same by another name
+pub settle-as : (a is : List ℕ) (y : Yield) (g : Given) (o : NOut) → outOf g ≡ o → Gave (settleOf a (outOf g)) is y → Gave (settleOf a o) is y
+settle-as a is y g o e h = subst (λ (x : NOut). Gave (settleOf a x) is y) e h

@@ -1,36 +1,36 @@
 -- One step for each operation yields what `eval` gives the node, where its operands yield what `eval` gives them. Assumes nothing.
-use mathlib.Core.Path.{_≡_, refl, sym, _∙_, ap, subst}
+use mathlib.Core.Path.{_≡_, sym, _∙_, ap, subst}
 use mathlib.Core.Bool.{Bool, true, false, cond}
 use mathlib.Core.Option.{Option, none, some}
-use mathlib.Core.List.{List, [], _∷_}
-use Prim.Native.Nat.{ℕ, suc, _+_, _*_, _≤_}
+use mathlib.Core.List.{List, []}
+use Prim.Native.Nat.{ℕ, suc, _+_, _≤_}
 use native.Mathlib.Omega.{arith}
-use lib.ListN.{length, getD, drop}
-use Rattle.cedar.specs.Value.{Value as Content, Result, ok, fail, bind, okBool}
+use lib.ListN.{getD, drop}
+use Rattle.cedar.specs.Value.{Value as Content, Result, ok, bind, okBool}
 use Rattle.cedar.specs.Types.{Ty, Schema, Var, principal, action, resource, context}
 use Rattle.cedar.specs.Residual.{Node, Expr, lit, err, var, and, or, ite, un, bin, rel, get, has, haspath, Un, Bin, Rel}
-use Rattle.cedar.specs.Entities.{Env, whole}
+use Rattle.cedar.specs.Entities.{Env}
 use Rattle.cedar.specs.Evaluate.{eval, applyUn, applyBin, applyRel, applyGet, applyHas, applyPath, boolOf}
 use Rattle.cedar.specs.Interpret.{gives}
 use Rattle.cedar.specs.Rows.{Row, rent}
 use Rattle.cedar.specs.Table.{At, Denotes}
 use Rattle.cedar.proofs.TableLaws.{number-inj}
-use Rattle.cedar.specs.Numbered.{Give, made, old, NEnv, rowAt, NOut, nUn, nBin, nRel, nGet, nHas}
+use Rattle.cedar.specs.Numbered.{Give, made, old, rowAt, NOut, nUn, nBin, nRel, nGet, nHas}
 use Rattle.cedar.specs.Reads.{Reads, xlit, xerr, xvar, xand, xor, xite, xun, xbin, xrel, xget, xhas, xpath, GiveRead, give-made, give-old}
-use Rattle.cedar.proofs.ReadsLaws.{OutReads, Keeps, keep-reads, row-denotes}
-use Rattle.cedar.proofs.ReadsOps.{EnvRead, keep-env, un-reads, bin-reads}
-use Rattle.sheet.specs.Forms.{complete, items, at, PRINCIPAL, ACTION, RESOURCE, CONTEXT, mark}
+use Rattle.cedar.proofs.ReadsLaws.{OutReads, keep-reads, row-denotes}
+use Rattle.cedar.proofs.ReadsOps.{un-reads, bin-reads}
+use Rattle.sheet.specs.Forms.{complete, items, at, PRINCIPAL, ACTION, RESOURCE, CONTEXT, NODE, mark}
 use Rattle.sheet.specs.State.{State, lineAt}
 use Rattle.sheet.specs.Content.{schema, nEnv, given, varOf}
 use Rattle.sheet.specs.Answer.{size}
-use Rattle.table.specs.Layout.{held, MADE, TOP}
-use Rattle.tpe.specs.Run.{wordsOf, schemaIn, envIn}
-use Rattle.tpe.proofs.Outcomes.{RowFine, GiveFine, Fine, words-row, words-formed, words-short, made-un, made-bin, made-rel, made-get, made-has}
+use Rattle.table.specs.Layout.{held}
+use Rattle.tpe.specs.Run.{wordsOf}
+use Rattle.tpe.proofs.Outcomes.{GiveFine, Fine, words-row, words-formed, words-short, made-un, made-bin, made-rel, made-get, made-has}
 use Rattle.tpe.proofs.Stands.{Hold, Room, Space, Spent, schema-is, env-is}
 use lib.Dec.{eqb}
-use Rattle.evaluator.specs.Run.{E, Rec, yields, values, giveOf, settleOf, optOf, next, sideOf, branchOf, pathOut, litStep, errStep, varStep, lazyStep, ifStep, oneStep, twoStep, unOut, binOut, relOut, getOut, hasOut, walkOut, schemaOf, envOf}
+use Rattle.evaluator.specs.Run.{E, Rec, yields, values, giveOf, settleOf, optOf, next, nodeIn, sideOf, branchOf, pathOut, litStep, errStep, varStep, lazyStep, ifStep, oneStep, twoStep, unOut, binOut, relOut, getOut, hasOut, walkOut, schemaOf, envOf}
 use Rattle.evaluator.specs.declared.Yield.the-variants.{Value, Error}
-use Rattle.evaluator.proofs.Gives.{Says, Stand, Gives, is-value, is-error, is-made, after, rest-room, some-room, then-bool, then-settles, nexts, bools, bool-only, rel-gives, get-gives, has-gives, path-gives, fine-path}
+use Rattle.evaluator.proofs.Gives.{Stand, Gives, is-value, is-error, is-made, after, rest-room, some-room, then-bool, then-settles, nexts, bools, bool-only, rel-gives, get-gives, has-gives, path-gives, fine-path}
 
 -- what is asked is an entity or has a number
 abbrev OptFine : Option Give → Type 0
@@ -92,19 +92,19 @@ module _ (sheet a₀ : List ℕ) (G : Env) where
         is-made sheet a₀ G C C 1 a l room (omega arith) a (λ n x e. e) s 3 (all-space 1 a (omega arith)) (wordsOf r) (words-formed r f) (words-short r f) (subst (λ (q : Row). Denotes C q v) (sym (words-row r f)) d)
     opt-gives (give-old h) f = is-value sheet a₀ G C C 1 a l room (omega arith) a (λ n x e. e) s (nothing-spent 1 a (omega arith)) h
 
-    var-gives : (T : Ty) (x : Var) (X : Expr) → Reads C (var T x) X → Gives sheet a₀ G C 1 a (optOf a (envOf sheet a .request x)) (eval sch G X)
-    var-gives T x X xvar = rw (env-is complete sheet a₀ a (s .hold)) (opt-gives (s .env .request x) (request-fine (held [] a₀ []) x))
+    var-gives : (T : Ty) (x : Var) (X : Expr) → Reads C (var T x) X → Gives sheet a₀ G C 1 a (optOf a (envOf a .request x)) (eval sch G X)
+    var-gives T x X xvar = rw (env-is complete [] a₀ a (s .hold)) (opt-gives (s .env .request x) (request-fine (held [] a₀ []) x))
 
-  module _ (f : Rec) (r : List ℕ) where
-    pub lit-meets : (T : Ty) → Meets (λ a l. litStep sheet f a l r) (lit T (at r 1))
+  module _ (f : Rec) (m : ℕ) (r : List ℕ) where
+    pub lit-meets : (T : Ty) → Meets (λ a l. litStep f a l m r) (lit T (at r 1))
     unfolding litStep
     lit-meets T = record { run = λ a l C X s room h. lit-gives a l C s room T (at r 1) X h }
 
-    pub err-meets : (T : Ty) → Meets (λ a l. errStep sheet f a l r) (err T)
+    pub err-meets : (T : Ty) → Meets (λ a l. errStep f a l m r) (err T)
     unfolding errStep
     err-meets T = record { run = λ a l C X s room h. err-gives a l C s room T X h }
 
-    pub var-meets : (T : Ty) → Meets (λ a l. varStep sheet f a l r) (var T (varOf (at r 1)))
+    pub var-meets : (T : Ty) → Meets (λ a l. varStep f a l m r) (var T (varOf (at r 1)))
     unfolding varStep
     var-meets T = record { run = λ a l C X s room h. var-gives a l C s room T (varOf (at r 1)) X h }
 
@@ -131,45 +131,52 @@ module _ (sheet a₀ : List ℕ) (G : Env) where
         nexts sheet a₀ G k (suc (size d)) l room (omega arith) (omega arith) (λ b v. settleOf b (g b v)) h
         (λ v z e. then-settles sheet a₀ G k (suc (size d)) l room (omega arith) (omega arith) (reads (f a l x .words) (k .contents) (k .stand) v z e) (fine (f a l x .words) (k .stand .hold) v))
 
-  module _ (f : Rec) (r : List ℕ) {d : Node ℕ} (i : Meets (λ a l. f a l (at r 1)) d) where
-    un-gives : (u : List ℕ → Un) (T : Ty) (a l : List ℕ) (C : List Content) (X : Expr) → Stand sheet a₀ G C a → Room (suc (size d)) a l → Reads C (un T (u r) d) X
-        → Gives sheet a₀ G C (suc (size d)) a (oneStep sheet (unOut sheet u) f a l r) (eval sch G X)
-    unfolding oneStep unOut
-    un-gives u T a l C X s room (xun {d = D} q) = one-gives f i (λ b v. nUn (schemaOf sheet b) (u r) (rowAt (values b) v)) (applyUn sch (u r)) a l C D s room q
-        (λ b h v. made-un (schemaOf sheet b) (u r) (rowAt (values b) v))
-        (λ b B t v z e. rw (schema-is complete sheet a₀ b (t .hold)) (un-reads B sch (number-inj (t .table)) (u r) (row-denotes (t .table) e)))
+  -- the sheet's rows stay as they are
+  pub same-node : (b : List ℕ) → Hold a₀ b → (m : ℕ) → nodeIn b m ≡ nodeIn a₀ m
+  same-node b h m = ap (λ (rows : List (List ℕ)). getD rows m []) (h .same NODE (omega arith))
 
-    pub un-meets : (u : List ℕ → Un) (T : Ty) → Meets (λ a l. oneStep sheet (unOut sheet u) f a l r) (un T (u r) d)
+  module _ (f : Rec) (m : ℕ) (r : List ℕ) (er : nodeIn a₀ m ≡ r) {d : Node ℕ} (i : Meets (λ a l. f a l (at r 1)) d) where
+    again : (b : List ℕ) → Hold a₀ b → nodeIn b m ≡ r
+    again b h = same-node b h m ∙ er
+
+    un-gives : (u : List ℕ → Un) (T : Ty) (a l : List ℕ) (C : List Content) (X : Expr) → Stand sheet a₀ G C a → Room (suc (size d)) a l → Reads C (un T (u r) d) X
+        → Gives sheet a₀ G C (suc (size d)) a (oneStep (unOut sheet u) f a l m r) (eval sch G X)
+    unfolding oneStep unOut
+    un-gives u T a l C X s room (xun {d = D} q) = one-gives f i (λ b v. nUn (schemaOf sheet b) (u (nodeIn b m)) (rowAt (values b) v)) (applyUn sch (u r)) a l C D s room q
+        (λ b h v. made-un (schemaOf sheet b) (u (nodeIn b m)) (rowAt (values b) v))
+        (λ b B t v z e. rw (again b (t .hold), schema-is complete sheet a₀ b (t .hold)) (un-reads B sch (number-inj (t .table)) (u r) (row-denotes (t .table) e)))
+
+    pub un-meets : (u : List ℕ → Un) (T : Ty) → Meets (λ a l. oneStep (unOut sheet u) f a l m r) (un T (u r) d)
     un-meets u T = record { run = λ a l C X s room q. un-gives u T a l C X s room q }
 
     get-in : (T : Ty) (a l : List ℕ) (C : List Content) (X : Expr) → Stand sheet a₀ G C a → Room (suc (size d)) a l → Reads C (get T d (at r 2)) X
-        → Gives sheet a₀ G C (suc (size d)) a (oneStep sheet (getOut sheet) f a l r) (eval sch G X)
+        → Gives sheet a₀ G C (suc (size d)) a (oneStep (getOut) f a l m r) (eval sch G X)
     unfolding oneStep getOut
-    get-in T a l C X s room (xget {d = D} q) = one-gives f i (λ b v. nGet (envOf sheet b) (values b) (at r 2) (rowAt (values b) v)) (applyGet G (at r 2)) a l C D s room q
-        (λ b h v. made-get (envOf sheet b) (values b) (at r 2) (rowAt (values b) v))
-        (λ b B t v z e. rw (env-is complete sheet a₀ b (t .hold)) (get-gives G (t .table) (t .env) (at r 2) e))
+    get-in T a l C X s room (xget {d = D} q) = one-gives f i (λ b v. nGet (envOf b) (values b) (at (nodeIn b m) 2) (rowAt (values b) v)) (applyGet G (at r 2)) a l C D s room q
+        (λ b h v. made-get (envOf b) (values b) (at (nodeIn b m) 2) (rowAt (values b) v))
+        (λ b B t v z e. rw (again b (t .hold), env-is complete [] a₀ b (t .hold)) (get-gives G (t .table) (t .env) (at r 2) e))
 
-    pub get-meets : (T : Ty) → Meets (λ a l. oneStep sheet (getOut sheet) f a l r) (get T d (at r 2))
+    pub get-meets : (T : Ty) → Meets (λ a l. oneStep (getOut) f a l m r) (get T d (at r 2))
     get-meets T = record { run = λ a l C X s room q. get-in T a l C X s room q }
 
     has-in : (T : Ty) (a l : List ℕ) (C : List Content) (X : Expr) → Stand sheet a₀ G C a → Room (suc (size d)) a l → Reads C (has T d (at r 2)) X
-        → Gives sheet a₀ G C (suc (size d)) a (oneStep sheet (hasOut sheet) f a l r) (eval sch G X)
+        → Gives sheet a₀ G C (suc (size d)) a (oneStep (hasOut) f a l m r) (eval sch G X)
     unfolding oneStep hasOut
-    has-in T a l C X s room (xhas {d = D} q) = one-gives f i (λ b v. nHas (envOf sheet b) (values b) (at r 2) (rowAt (values b) v)) (applyHas G (at r 2)) a l C D s room q
-        (λ b h v. made-has (envOf sheet b) (values b) (at r 2) (rowAt (values b) v))
-        (λ b B t v z e. rw (env-is complete sheet a₀ b (t .hold)) (has-gives G (t .table) (t .env) (at r 2) e))
+    has-in T a l C X s room (xhas {d = D} q) = one-gives f i (λ b v. nHas (envOf b) (values b) (at (nodeIn b m) 2) (rowAt (values b) v)) (applyHas G (at r 2)) a l C D s room q
+        (λ b h v. made-has (envOf b) (values b) (at (nodeIn b m) 2) (rowAt (values b) v))
+        (λ b B t v z e. rw (again b (t .hold), env-is complete [] a₀ b (t .hold)) (has-gives G (t .table) (t .env) (at r 2) e))
 
-    pub has-meets : (T : Ty) → Meets (λ a l. oneStep sheet (hasOut sheet) f a l r) (has T d (at r 2))
+    pub has-meets : (T : Ty) → Meets (λ a l. oneStep (hasOut) f a l m r) (has T d (at r 2))
     has-meets T = record { run = λ a l C X s room q. has-in T a l C X s room q }
 
     path-in : (T : Ty) (a l : List ℕ) (C : List Content) (X : Expr) → Stand sheet a₀ G C a → Room (suc (size d)) a l → Reads C (haspath T d (at r 2) (drop 3 (items r))) X
-        → Gives sheet a₀ G C (suc (size d)) a (oneStep sheet (walkOut sheet) f a l r) (eval sch G X)
+        → Gives sheet a₀ G C (suc (size d)) a (oneStep (walkOut) f a l m r) (eval sch G X)
     unfolding oneStep walkOut
-    path-in T a l C X s room (xpath {d = D} q) = one-gives f i (λ b v. pathOut (envOf sheet b) (values b) (drop 3 (items r)) (at r 2) v) (applyPath G (drop 3 (items r)) (at r 2)) a l C D s room q
-        (λ b h v. fine-path (envOf sheet b) (values b) (drop 3 (items r)) (at r 2) v)
-        (λ b B t v z e. rw (env-is complete sheet a₀ b (t .hold)) (path-gives G (t .table) (t .env) (drop 3 (items r)) (at r 2) v z e))
+    path-in T a l C X s room (xpath {d = D} q) = one-gives f i (λ b v. pathOut (envOf b) (values b) (drop 3 (items (nodeIn b m))) (at (nodeIn b m) 2) v) (applyPath G (drop 3 (items r)) (at r 2)) a l C D s room q
+        (λ b h v. fine-path (envOf b) (values b) (drop 3 (items (nodeIn b m))) (at (nodeIn b m) 2) v)
+        (λ b B t v z e. rw (again b (t .hold), env-is complete [] a₀ b (t .hold)) (path-gives G (t .table) (t .env) (drop 3 (items r)) (at r 2) v z e))
 
-    pub path-meets : (T : Ty) → Meets (λ a l. oneStep sheet (walkOut sheet) f a l r) (haspath T d (at r 2) (drop 3 (items r)))
+    pub path-meets : (T : Ty) → Meets (λ a l. oneStep (walkOut) f a l m r) (haspath T d (at r 2) (drop 3 (items r)))
     path-meets T = record { run = λ a l C X s room q. path-in T a l C X s room q }
 
     -- ---- two operands
@@ -184,30 +191,30 @@ module _ (sheet a₀ : List ℕ) (G : Env) where
           → Gives sheet a₀ G C n a (next (f a l (at r 1)) (λ b v. next (f b l (at r 2)) (λ c w. settleOf c (g c v w)))) (bind (eval sch G D) (λ y. bind (eval sch G F) (λ z. h y z)))
       two-gives g h a l C D F s room p q fine reads =
           let k = first f i n (omega arith) a l C D s room p in
-          let m = later f j k n l room (omega arith) F q in
-          let o = after sheet a₀ G k (size e) (size d + size e) m (omega arith) in
+          let j2 = later f j k n l room (omega arith) F q in
+          let o = after sheet a₀ G k (size e) (size d + size e) j2 (omega arith) in
           nexts sheet a₀ G k n l room (omega arith) (omega arith) (λ b v. next (f b l (at r 2)) (λ c w. settleOf c (g c v w))) (λ y. bind (eval sch G F) (λ z. h y z))
           (λ v y u. nexts sheet a₀ G o n l room (omega arith) (omega arith) (λ c w. settleOf c (g c v w)) (λ z. h y z)
-          (λ w z t. then-settles sheet a₀ G o n l room (omega arith) (omega arith) (reads _ (m .contents) (m .stand) v w y z (m .keeps v y u) t) (fine _ v w)))
+          (λ w z t. then-settles sheet a₀ G o n l room (omega arith) (omega arith) (reads _ (j2 .contents) (j2 .stand) v w y z (j2 .keeps v y u) t) (fine _ v w)))
 
       bin-in : (p : Bin) (T : Ty) (a l : List ℕ) (C : List Content) (X : Expr) → Stand sheet a₀ G C a → Room n a l → Reads C (bin T p d e) X
-          → Gives sheet a₀ G C n a (twoStep sheet (binOut sheet p) f a l r) (eval sch G X)
+          → Gives sheet a₀ G C n a (twoStep (binOut p) f a l m r) (eval sch G X)
       unfolding twoStep binOut
       bin-in p T a l C X s room (xbin {d = D} {e = F} q t) = two-gives (λ b v w. nBin p v w (rowAt (values b) v) (rowAt (values b) w)) (applyBin p) a l C D F s room q t
           (λ b v w. made-bin p v w (rowAt (values b) v) (rowAt (values b) w))
           (λ b B u v w y z c o. bin-reads B (number-inj (u .table)) p c o (row-denotes (u .table) c) (row-denotes (u .table) o))
 
-      pub bin-meets : (p : Bin) (T : Ty) → Meets (λ a l. twoStep sheet (binOut sheet p) f a l r) (bin T p d e)
+      pub bin-meets : (p : Bin) (T : Ty) → Meets (λ a l. twoStep (binOut p) f a l m r) (bin T p d e)
       bin-meets p T = record { run = λ a l C X s room q. bin-in p T a l C X s room q }
 
       rel-in : (p : Rel) (T : Ty) (a l : List ℕ) (C : List Content) (X : Expr) → Stand sheet a₀ G C a → Room n a l → Reads C (rel T p d e) X
-          → Gives sheet a₀ G C n a (twoStep sheet (relOut sheet p) f a l r) (eval sch G X)
+          → Gives sheet a₀ G C n a (twoStep (relOut p) f a l m r) (eval sch G X)
       unfolding twoStep relOut
-      rel-in p T a l C X s room (xrel {d = D} {e = F} q t) = two-gives (λ b v w. nRel (envOf sheet b) (values b) p v w (rowAt (values b) v) (rowAt (values b) w)) (applyRel G p) a l C D F s room q t
-          (λ b v w. made-rel (envOf sheet b) (values b) p v w (rowAt (values b) v) (rowAt (values b) w))
-          (λ b B u v w y z c o. rw (env-is complete sheet a₀ b (u .hold)) (rel-gives G (u .table) (u .env) p c o))
+      rel-in p T a l C X s room (xrel {d = D} {e = F} q t) = two-gives (λ b v w. nRel (envOf b) (values b) p v w (rowAt (values b) v) (rowAt (values b) w)) (applyRel G p) a l C D F s room q t
+          (λ b v w. made-rel (envOf b) (values b) p v w (rowAt (values b) v) (rowAt (values b) w))
+          (λ b B u v w y z c o. rw (env-is complete [] a₀ b (u .hold)) (rel-gives G (u .table) (u .env) p c o))
 
-      pub rel-meets : (p : Rel) (T : Ty) → Meets (λ a l. twoStep sheet (relOut sheet p) f a l r) (rel T p d e)
+      pub rel-meets : (p : Rel) (T : Ty) → Meets (λ a l. twoStep (relOut p) f a l m r) (rel T p d e)
       rel-meets p T = record { run = λ a l C X s room q. rel-in p T a l C X s room q }
 
       -- ---- and, or
@@ -229,24 +236,24 @@ module _ (sheet a₀ : List ℕ) (G : Env) where
         or-side true = then-bool sheet a₀ G test n l room (omega arith) (omega arith) true
         or-side false = bool-only sheet a₀ G side n l room (omega arith) (omega arith)
 
-        and-gives : Gives sheet a₀ G C n a (lazyStep sheet false f a l r) (boolOf (eval sch G D) (λ b. cond b (boolOf (eval sch G F) okBool) (okBool false)))
+        and-gives : Gives sheet a₀ G C n a (lazyStep false f a l m r) (boolOf (eval sch G D) (λ b. cond b (boolOf (eval sch G F) okBool) (okBool false)))
         unfolding lazyStep
         and-gives = bools sheet a₀ G test n l room (omega arith) (omega arith) (sideOf false f l (at r 2)) (λ b. cond b (boolOf (eval sch G F) okBool) (okBool false)) and-side
 
-        or-gives : Gives sheet a₀ G C n a (lazyStep sheet true f a l r) (boolOf (eval sch G D) (λ b. cond b (okBool true) (boolOf (eval sch G F) okBool)))
+        or-gives : Gives sheet a₀ G C n a (lazyStep true f a l m r) (boolOf (eval sch G D) (λ b. cond b (okBool true) (boolOf (eval sch G F) okBool)))
         unfolding lazyStep
         or-gives = bools sheet a₀ G test n l room (omega arith) (omega arith) (sideOf true f l (at r 2)) (λ b. cond b (okBool true) (boolOf (eval sch G F) okBool)) or-side
 
-      and-in : (T : Ty) (a l : List ℕ) (C : List Content) (X : Expr) → Stand sheet a₀ G C a → Room n a l → Reads C (and T d e) X → Gives sheet a₀ G C n a (lazyStep sheet false f a l r) (eval sch G X)
+      and-in : (T : Ty) (a l : List ℕ) (C : List Content) (X : Expr) → Stand sheet a₀ G C a → Room n a l → Reads C (and T d e) X → Gives sheet a₀ G C n a (lazyStep false f a l m r) (eval sch G X)
       and-in T a l C X s room (xand {d = D} {e = F} p q) = and-gives a l C D F s room p q
 
-      or-in : (T : Ty) (a l : List ℕ) (C : List Content) (X : Expr) → Stand sheet a₀ G C a → Room n a l → Reads C (or T d e) X → Gives sheet a₀ G C n a (lazyStep sheet true f a l r) (eval sch G X)
+      or-in : (T : Ty) (a l : List ℕ) (C : List Content) (X : Expr) → Stand sheet a₀ G C a → Room n a l → Reads C (or T d e) X → Gives sheet a₀ G C n a (lazyStep true f a l m r) (eval sch G X)
       or-in T a l C X s room (xor {d = D} {e = F} p q) = or-gives a l C D F s room p q
 
-      pub and-meets : (T : Ty) → Meets (λ a l. lazyStep sheet false f a l r) (and T d e)
+      pub and-meets : (T : Ty) → Meets (λ a l. lazyStep false f a l m r) (and T d e)
       and-meets T = record { run = λ a l C X s room q. and-in T a l C X s room q }
 
-      pub or-meets : (T : Ty) → Meets (λ a l. lazyStep sheet true f a l r) (or T d e)
+      pub or-meets : (T : Ty) → Meets (λ a l. lazyStep true f a l m r) (or T d e)
       or-meets T = record { run = λ a l C X s room q. or-in T a l C X s room q }
 
       -- ---- if
@@ -264,12 +271,12 @@ module _ (sheet a₀ : List ℕ) (G : Env) where
           branch true = after sheet a₀ G asked (size e) three (later f j asked three l room (omega arith) F q) (omega arith)
           branch false = after sheet a₀ G asked (size c) three (later f h asked three l room (omega arith) H t) (omega arith)
 
-          if-gives : Gives sheet a₀ G C three a (ifStep sheet f a l r) (boolOf (eval sch G D) (λ b. cond b (eval sch G F) (eval sch G H)))
+          if-gives : Gives sheet a₀ G C three a (ifStep f a l m r) (boolOf (eval sch G D) (λ b. cond b (eval sch G F) (eval sch G H)))
           unfolding ifStep
           if-gives = bools sheet a₀ G asked three l room (omega arith) (omega arith) (branchOf f l (at r 2) (at r 3)) (λ b. cond b (eval sch G F) (eval sch G H)) branch
 
-        if-in : (T : Ty) (a l : List ℕ) (C : List Content) (X : Expr) → Stand sheet a₀ G C a → Room three a l → Reads C (ite T d e c) X → Gives sheet a₀ G C three a (ifStep sheet f a l r) (eval sch G X)
+        if-in : (T : Ty) (a l : List ℕ) (C : List Content) (X : Expr) → Stand sheet a₀ G C a → Room three a l → Reads C (ite T d e c) X → Gives sheet a₀ G C three a (ifStep f a l m r) (eval sch G X)
         if-in T a l C X s room (xite {f = D} {d = F} {e = H} p q t) = if-gives a l C D F H s room p q t
 
-        pub if-meets : (T : Ty) → Meets (λ a l. ifStep sheet f a l r) (ite T d e c)
+        pub if-meets : (T : Ty) → Meets (λ a l. ifStep f a l m r) (ite T d e c)
         if-meets T = record { run = λ a l C X s room q. if-in T a l C X s room q }

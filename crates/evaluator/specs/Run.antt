@@ -1,23 +1,26 @@
--- Evaluation over the lent words a, which hold a complete sheet and the values, and a log l, where the values of a set's or record's
--- children stand until it is made. Each definition is total. That this is `eval` of the Cedar specification is shown in proofs/.
+-- Evaluation over the lent words a, which hold a complete sheet and the values, and a log l: the classes of the policies so far, then
+-- the values of a set's or record's children until it is made. Each definition is total; rows are read where they are needed, from the
+-- words as they then are. That this is `eval` of the Cedar specification is shown in proofs/.
 use mathlib.Core.Bool.{Bool, true, false, cond}
 use mathlib.Core.Option.{Option, none, some}
 use mathlib.Core.List.{List, [], _∷_}
 use Prim.Native.Nat.{ℕ, zero, suc, _+_, _-_}
+use lib.Dec.{ltb}
 use lib.ListN.{length, getD, drop}
-use Rattle.words.specs.Log.{appended}
+use Rattle.words.specs.Log.{appended, pushed}
 use Rattle.cedar.specs.Value.{onSome}
 use Rattle.cedar.specs.Types.{Schema}
-use Rattle.cedar.specs.Residual.{Un, unot, uneg, uempty, uis, ulike, Bin, beq, blt, ble, badd, bsub, bmul, bcontains, ball, bany, Rel, rin, rgettag, rhastag, Class, cerror, copen, truth}
+use Rattle.cedar.specs.Residual.{Un, unot, uneg, uempty, uis, ulike, Bin, beq, blt, ble, badd, bsub, bmul, bcontains, ball, bany, Rel, rin, rgettag, rhastag, Class, ctrue, cfalse, cerror, copen, truth}
+use Rattle.cedar.specs.Response.{Verdict}
 use Rattle.cedar.specs.Rows.{Row}
 use Rattle.cedar.specs.Numbered.{Give, made, old, NEnv, rowAt, rBool, NOut, give, fails, stays, truly, isSome, entryOf, nUn, nBin, nRel, onEntries, nGet, nHas}
-use Rattle.sheet.specs.Forms.{Mode, complete, tag, items, at, firstNode, NODE, POLICY}
+use Rattle.sheet.specs.Forms.{complete, tag, items, at, firstNode, NODE, POLICY}
 use Rattle.sheet.specs.Content.{rowsIn, varOf, patternOf}
 use Rattle.table.specs.Layout.{rowsOf}
 use Rattle.value.specs.Lines.{valueLines}
 use Rattle.value.specs.Made.{boolRow, numberOf, withValue, setRow, recordRow, written}
 use Rattle.residual.specs.Rows.{litRow}
-use Rattle.tpe.specs.Run.{wordsOf, others, schemaIn, envIn}
+use Rattle.tpe.specs.Run.{wordsOf, schemaIn, envIn}
 use Rattle.evaluator.specs.declared.Yield.{Yield}
 use Rattle.evaluator.specs.declared.Yield.the-variants.{Value, Error}
 
@@ -36,6 +39,13 @@ Rec = List ℕ → List ℕ → ℕ → E
 -- the values by number
 abbrev pub values : List ℕ → List Row
 values a = rowsIn (valueLines a)
+
+-- the row of node n, and of policy i
+abbrev pub nodeIn : List ℕ → ℕ → List ℕ
+nodeIn a n = getD (rowsOf a NODE) n []
+
+abbrev pub policyIn : List ℕ → ℕ → List ℕ
+policyIn a i = getD (rowsOf a POLICY) i []
 
 -- ---- what an operation gives
 
@@ -99,94 +109,122 @@ pub record Kids : Type 0 where
   pub log : List ℕ
   pub all : Bool
 
+abbrev pub kids : List ℕ → List ℕ → Bool → Kids
+kids a l b = record { words = a; log = l; all = b }
+
 unfoldable pub nextKid : List ℕ → List ℕ → Yield → (List ℕ → Kids) → Kids
 nextKid a l (Value v) k = k (appended l (litRow v 0))
-nextKid a l Error k = record { words = a; log = l; all = false }
+nextKid a l Error k = kids a l false
 
-unfoldable pub kidsOf : Rec → List ℕ → List ℕ → List ℕ → Kids
-kidsOf f a l [] = record { words = a; log = l; all = true }
-kidsOf f a l (n ∷ ns) = let o = f a l n in nextKid (o .words) l (o .yield) (λ m. kidsOf f (o .words) m ns)
+-- the children of node n from word i of its row on, every s-th word of it, k of them at most
+unfoldable pub kidsOf : Rec → ℕ → ℕ → ℕ → ℕ → List ℕ → List ℕ → Kids
+kidsOf f n s zero i a l = kids a l true
+kidsOf f n s (suc k) i a l =
+    let o = f a l (getD (nodeIn a n) i 0) in
+    cond (ltb i (length (nodeIn a n))) (nextKid (o .words) l (o .yield) (λ m. kidsOf f n s k (i + s) (o .words) m)) (kids a l true)
+
+-- no row has more words
+abbrev pub most : ℕ
+most = 16384
 
 -- a set or record, whose row is q if all are values
 unfoldable pub manyOf : List ℕ → Kids → E
 manyOf q k = cond (k .all) (madeOf (k .words) (written (k .log) q)) (yields (k .words) Error)
 
--- ---- one step for each operation: words, log, the node's row
+-- ---- one step for each operation: words, log, the node and its row
+
+abbrev pub Step : Type 0
+Step = Rec → List ℕ → List ℕ → ℕ → List ℕ → E
+
+-- the request and the entities; the bytes of texts do not matter
+abbrev pub envOf : List ℕ → NEnv
+envOf a = envIn complete [] a
+
+unfoldable pub litStep : Step
+litStep f a l n r = yields a (Value (at r 1))
+
+unfoldable pub errStep : Step
+errStep f a l n r = yields a Error
+
+unfoldable pub varStep : Step
+varStep f a l n r = optOf a (envOf a .request (varOf (at r 1)))
+
+unfoldable pub lazyStep : Bool → Step
+lazyStep z f a l n r = onBool (f a l (at r 1)) (sideOf z f l (at r 2))
+
+unfoldable pub ifStep : Step
+ifStep f a l n r = onBool (f a l (at r 1)) (branchOf f l (at r 2) (at r 3))
+
+-- one operand, and two: the right one is worked where the left one is a value
+unfoldable pub oneStep : (List ℕ → List ℕ → ℕ → NOut) → Step
+oneStep g f a l n r = next (f a l (at r 1)) (λ b v. settleOf b (g b (nodeIn b n) v))
+
+unfoldable pub twoStep : (List ℕ → ℕ → ℕ → NOut) → Step
+twoStep g f a l n r = next (f a l (at r 1)) (λ b v. next (f b l (at r 2)) (λ c w. settleOf c (g c v w)))
+
+unfoldable pub setStep : Step
+setStep f a l n r = let k = kidsOf f n 1 most 2 a l in manyOf (setRow (drop (length l) (k .log))) k
+
+unfoldable pub recStep : Step
+recStep f a l n r = let k = kidsOf f n 2 most 3 a l in manyOf (recordRow (nodeIn (k .words) n) (drop (length l) (k .log))) k
+
+-- ---- what an operation gives over two operands, and over one beside the node's row
+
+unfoldable pub binOut : Bin → List ℕ → ℕ → ℕ → NOut
+binOut p a v w = nBin p v w (rowAt (values a) v) (rowAt (values a) w)
+
+unfoldable pub relOut : Rel → List ℕ → ℕ → ℕ → NOut
+relOut p a v w = nRel (envOf a) (values a) p v w (rowAt (values a) v) (rowAt (values a) w)
+
+unfoldable pub getOut : List ℕ → List ℕ → ℕ → NOut
+getOut a r v = nGet (envOf a) (values a) (at r 2) (rowAt (values a) v)
+
+unfoldable pub hasOut : List ℕ → List ℕ → ℕ → NOut
+hasOut a r v = nHas (envOf a) (values a) (at r 2) (rowAt (values a) v)
+
+unfoldable pub walkOut : List ℕ → List ℕ → ℕ → NOut
+walkOut a r v = pathOut (envOf a) (values a) (drop 3 (items r)) (at r 2) v
+
+-- by the tag, 26 to 37
+abbrev pub twos : List (List ℕ → ℕ → ℕ → NOut)
+twos =
+    binOut beq ∷ binOut blt ∷ binOut ble ∷ binOut badd ∷ binOut bsub ∷ binOut bmul
+    ∷ relOut rin ∷ relOut rgettag ∷ relOut rhastag ∷ binOut bcontains ∷ binOut ball ∷ binOut bany ∷ []
+
+unfoldable pub twoOut : ℕ → List ℕ → ℕ → ℕ → NOut
+twoOut t = getD twos (t - 26) (binOut bany)
+
+-- the steps g of these, then others
+abbrev pub each : {A : Type 0} → (A → Step) → List A → List Step → List Step
+each g [] ss = ss
+each g (x ∷ xs) ss = g x ∷ each g xs ss
 
 module _ (sheet : List ℕ) where
   abbrev pub schemaOf : List ℕ → Schema
   schemaOf a = schemaIn complete sheet a
 
-  abbrev pub envOf : List ℕ → NEnv
-  envOf a = envIn complete sheet a
-
-  abbrev pub Step : Type 0
-  Step = Rec → List ℕ → List ℕ → List ℕ → E
-
-  unfoldable pub litStep : Step
-  litStep f a l r = yields a (Value (at r 1))
-
-  unfoldable pub errStep : Step
-  errStep f a l r = yields a Error
-
-  unfoldable pub varStep : Step
-  varStep f a l r = optOf a (envOf a .request (varOf (at r 1)))
-
-  unfoldable pub lazyStep : Bool → Step
-  lazyStep z f a l r = onBool (f a l (at r 1)) (sideOf z f l (at r 2))
-
-  unfoldable pub ifStep : Step
-  ifStep f a l r = onBool (f a l (at r 1)) (branchOf f l (at r 2) (at r 3))
-
-  -- one operand, and two: the right one is worked where the left one is a value
-  unfoldable pub oneStep : (List ℕ → List ℕ → ℕ → NOut) → Step
-  oneStep g f a l r = next (f a l (at r 1)) (λ b v. settleOf b (g b r v))
-
-  unfoldable pub twoStep : (List ℕ → ℕ → ℕ → NOut) → Step
-  twoStep g f a l r = next (f a l (at r 1)) (λ b v. next (f b l (at r 2)) (λ c w. settleOf c (g c v w)))
-
   unfoldable pub unOut : (List ℕ → Un) → List ℕ → List ℕ → ℕ → NOut
   unOut u a r v = nUn (schemaOf a) (u r) (rowAt (values a) v)
 
-  unfoldable pub binOut : Bin → List ℕ → ℕ → ℕ → NOut
-  binOut p a v w = nBin p v w (rowAt (values a) v) (rowAt (values a) w)
+  -- by the tag, 39 to 46
+  abbrev pub ones : List (List ℕ → List ℕ → ℕ → NOut)
+  ones =
+      unOut (λ r. uis (at r 2)) ∷ unOut (λ r. ulike (patternOf (drop 2 (items r)))) ∷ getOut ∷ hasOut ∷ walkOut
+      ∷ unOut (λ r. unot) ∷ unOut (λ r. uneg) ∷ unOut (λ r. uempty) ∷ []
 
-  unfoldable pub relOut : Rel → List ℕ → ℕ → ℕ → NOut
-  relOut p a v w = nRel (envOf a) (values a) p v w (rowAt (values a) v) (rowAt (values a) w)
-
-  unfoldable pub getOut : List ℕ → List ℕ → ℕ → NOut
-  getOut a r v = nGet (envOf a) (values a) (at r 2) (rowAt (values a) v)
-
-  unfoldable pub hasOut : List ℕ → List ℕ → ℕ → NOut
-  hasOut a r v = nHas (envOf a) (values a) (at r 2) (rowAt (values a) v)
-
-  unfoldable pub walkOut : List ℕ → List ℕ → ℕ → NOut
-  walkOut a r v = pathOut (envOf a) (values a) (drop 3 (items r)) (at r 2) v
-
-  unfoldable pub setStep : Step
-  setStep f a l r = let k = kidsOf f a l (drop 1 (items r)) in manyOf (setRow (drop (length l) (k .log))) k
-
-  unfoldable pub recStep : Step
-  recStep f a l r = let k = kidsOf f a l (others (drop 1 (items r))) in manyOf (recordRow r (drop (length l) (k .log))) k
+  unfoldable pub oneOut : ℕ → List ℕ → List ℕ → ℕ → NOut
+  oneOut t = getD ones (t - 39) (unOut (λ r. uempty))
 
   -- in the table's order
   abbrev pub steps : List Step
-  steps =
-      litStep ∷ errStep ∷ varStep ∷ lazyStep false ∷ lazyStep true
-      ∷ twoStep (binOut beq) ∷ twoStep (binOut blt) ∷ twoStep (binOut ble) ∷ twoStep (binOut badd) ∷ twoStep (binOut bsub) ∷ twoStep (binOut bmul)
-      ∷ twoStep (relOut rin) ∷ twoStep (relOut rgettag) ∷ twoStep (relOut rhastag)
-      ∷ twoStep (binOut bcontains) ∷ twoStep (binOut ball) ∷ twoStep (binOut bany)
-      ∷ ifStep
-      ∷ oneStep (unOut (λ r. uis (at r 2))) ∷ oneStep (unOut (λ r. ulike (patternOf (drop 2 (items r)))))
-      ∷ oneStep getOut ∷ oneStep hasOut ∷ oneStep walkOut
-      ∷ oneStep (unOut (λ r. unot)) ∷ oneStep (unOut (λ r. uneg)) ∷ oneStep (unOut (λ r. uempty))
-      ∷ setStep ∷ recStep ∷ []
+  steps = litStep ∷ errStep ∷ varStep ∷ lazyStep false ∷ lazyStep true ∷ each twoStep twos (ifStep ∷ each oneStep ones (setStep ∷ recStep ∷ []))
 
-  unfoldable pub stepWith : Rec → List ℕ → List ℕ → List ℕ → E
-  stepWith f a l r = getD steps (tag r - firstNode) errStep f a l r
+  -- by the tag
+  unfoldable pub stepAt : ℕ → Step
+  stepAt t = getD steps (t - firstNode) errStep
 
   unfoldable pub stepOf : Rec → Rec
-  stepOf f a l n = stepWith f a l (getD (rowsOf a NODE) n [])
+  stepOf f a l n = stepAt (tag (nodeIn a n)) f a l n (nodeIn a n)
 
   -- d levels of nodes
   unfoldable pub evalOf : ℕ → Rec
@@ -200,17 +238,27 @@ unfoldable pub classOf : List ℕ → Yield → Class
 classOf a (Value v) = rBool copen (rowAt (values a) v) truth
 classOf a Error = cerror
 
+abbrev pub classNumber : Class → ℕ
+classNumber ctrue = 0
+classNumber cfalse = 1
+classNumber cerror = 2
+classNumber copen = 3
+
+-- of the policy lines of an answer
+abbrev pub classNumbers : List Verdict → List ℕ
+classNumbers [] = []
+classNumbers (v ∷ vs) = classNumber (v .class) ∷ classNumbers vs
+
+-- the words, and the log with the number of each policy's class
 pub record Ran : Type 0 where
   pub words : List ℕ
-  pub classes : List Class
+  pub log : List ℕ
 
-abbrev pub thenRan : E → (List ℕ → Ran) → Ran
-thenRan o k = let t = k (o .words) in record { words = t .words; classes = classOf (o .words) (o .yield) ∷ t .classes }
-
-unfoldable pub ranFrom : Rec → List ℕ → List (List ℕ) → List ℕ → Ran
-ranFrom f l [] a = record { words = a; classes = [] }
-ranFrom f l (r ∷ rs) a = thenRan (f a l (at r 2)) (ranFrom f l rs)
+-- k policies from number i on
+unfoldable pub ranFrom : Rec → ℕ → ℕ → List ℕ → List ℕ → Ran
+ranFrom f zero i a l = record { words = a; log = l }
+ranFrom f (suc k) i a l = let o = f a l (at (policyIn a i) 2) in ranFrom f k (suc i) (o .words) (pushed l (classNumber (classOf (o .words) (o .yield))))
 
 -- "a tree is never deeper than 64"
-unfoldable pub runOf : List ℕ → List ℕ → List ℕ → Ran
-runOf sheet a l = ranFrom (evalOf sheet 64) l (rowsOf a POLICY) a
+unfoldable pub runOf : List ℕ → List ℕ → Ran
+runOf sheet a = ranFrom (evalOf sheet 64) (getD a POLICY 0) 0 a []

@@ -3,3 +3,8 @@ pub mod Printing
 pub mod Made
 pub mod Rooted
 pub mod Partial
+pub mod NodeLines
+pub mod TreeRows
+pub mod LogTrees
+pub mod Lengths
+pub mod Cases

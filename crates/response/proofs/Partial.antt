@@ -1,25 +1,37 @@
 -- The lines of a partial answer are those of the definition, where the words hold what the run gives. Assumes nothing.
-use mathlib.Core.Path.{_≡_, refl, sym, ap, ap₂, _∙_}
-use mathlib.Core.List.{List, [], _∷_, _++_}
-use Prim.Native.Nat.{ℕ, suc, _+_}
+use mathlib.Core.Path.{_≡_, refl, sym, ap, ap₂, _∙_, subst}
+use mathlib.Core.Bool.{Bool, cond}
+use mathlib.Core.List.{List, [], _∷_, _++_, append-nil, append-assoc}
+use Prim.Native.Nat.{ℕ, zero, suc, _+_, _≤_, _<_}
 use native.Mathlib.Omega.{arith}
-use lib.ListN.{length, drop}
-use Rattle.cedar.specs.Residual.{Class, copen}
+use native.Mathlib.Decide.{decLt}
+use borrow.Author.Tests.{lt-ltb, le-ltb}
+use lib.ListN.{length, getD, drop, List·getD-eq-default}
+use Rattle.cedar.specs.Types.{Ty, tbool, Schema, tySame}
+use Rattle.cedar.specs.Residual.{Node, Class, copen}
 use Rattle.cedar.specs.Response.{Effect, permit, Verdict}
 use Rattle.cedar.specs.Rows.{Row}
-use Rattle.cedar.specs.Runs.{NVerdict, verdicts}
+use Rattle.cedar.specs.Numbered.{NEnv, nInterpret}
+use Rattle.cedar.specs.Runs.{NVerdict, Run, nRun, verdicts}
 use Rattle.sheet.specs.Bytes.{digits}
-use Rattle.sheet.specs.Forms.{at, VALUE}
-use Rattle.sheet.specs.State.{count}
-use Rattle.sheet.specs.Content.{rowsIn}
+use Rattle.sheet.specs.Forms.{Mode, partial, at, TYPE, VALUE, NODE, POLICY}
+use Rattle.sheet.specs.State.{State, linesOf, count, TypeRow, bool, long, string, entity, set′, record′, typeRow}
+use Rattle.sheet.specs.Content.{tyOver, tysFrom, types, rowsIn, numberedPolicies, nPolicies, schema, nEnv, trees, valueRows}
 use Rattle.sheet.specs.Sheet.{firsts}
-use Rattle.sheet.specs.Answer.{printed, concat, policyItems, partialLines, valueLines, root, size}
-use Rattle.table.specs.Layout.{rowsOf, held}
-use Rattle.table.proofs.Rows.{count-rows, count-held}
-use Rattle.response.specs.Verdicts.{verdictsOf}
-use Rattle.response.specs.Printed.{rootedOf, rootsOf}
+use Rattle.sheet.specs.Answer.{printed, concat, policyItems, headLines, partialLines, valueLines, root, size, typeNumber, residualRows, nodeLines, ids, run, partialOf, answer}
+use Rattle.sheet.proofs.Lines.{History}
+use Rattle.sheet.proofs.TypeNumbers.{types-length, number-again}
+use Rattle.table.specs.Layout.{rowsOf, linesHeld, held}
+use Rattle.table.proofs.Rows.{count-rows, count-held, lines-held}
+use Rattle.residual.specs.Trees.{Ress, flats, treesOf, Wholes}
 use Rattle.value.specs.Lines.{valueLines as allRows}
+use Rattle.response.specs.Verdicts.{classIn, effectIn, verdictsOf, verdictsIn}
+use Rattle.response.specs.Printed.{rootedOf, rootedLines, rootsOf}
 use Rattle.response.specs.Values.{madeLines}
+use Rattle.response.specs.Nodes.{saysBool, boolLine, typeIn, logLines, partialBytes}
+use Rattle.response.proofs.Printing.{concat-append}
+use Rattle.response.proofs.TreeRows.{rowsAll}
+use Rattle.response.proofs.LogTrees.{treesIn, residual-rows, log-lines}
 
 -- ---- values: the rows after the sheet's
 
@@ -43,11 +55,151 @@ abbrev classFirst : List Verdict → Class
 classFirst [] = copen
 classFirst (v ∷ vs) = v .class
 
+second-of : (l : List ℕ) (i : ℕ) → getD (drop 1 l) i 0 ≡ getD l (suc i) 0
+second-of [] zero = refl
+second-of [] (suc i) = refl
+second-of (x ∷ l) i = refl
+
+-- the words es begin with the roots of the run's lines
+pub rooted-words : (n : ℕ) (rs : List (List ℕ)) (cs es : List ℕ) (ls : List NVerdict) → verdictsOf rs cs ≡ verdicts ls → ((i : ℕ) → i < length ls → getD es i 0 ≡ getD (rootsOf n ls) i 0)
+    → rootedOf rs cs es ≡ partialLines n (firsts rs) ls
+rooted-words n [] cs es ls e f = refl
+rooted-words n (r ∷ rs) cs es [] e f = let z : suc (length (verdictsOf rs (drop 1 cs))) ≡ 0 = ap length e in absurd (omega arith)
+rooted-words n (r ∷ rs) cs es (l ∷ ls) e f =
+    ap₂ (λ (x : Effect) (y : Class). printed "policy" (policyItems (at r 0) x y (digits (getD es 0 0) ∷ [])) ∷ rootedOf rs (drop 1 cs) (drop 1 es)) (ap effectFirst e) (ap classFirst e)
+    ∙ ap₂ (λ (x : ℕ) (m : List (List ℕ)). printed "policy" (policyItems (at r 0) (l .effect) (l .class) (digits x ∷ [])) ∷ m) (f 0 (omega arith))
+    (rooted-words (n + size (l .root)) rs (drop 1 cs) (drop 1 es) ls (ap (drop 1) e) (λ i h. second-of es i ∙ f (suc i) (omega arith)))
+
 pub rooted-run : (n : ℕ) (rs : List (List ℕ)) (cs : List ℕ) (ls : List NVerdict) → verdictsOf rs cs ≡ verdicts ls → rootedOf rs cs (rootsOf n ls) ≡ partialLines n (firsts rs) ls
-rooted-run n [] cs ls e = refl
-rooted-run n (r ∷ rs) cs [] e = let z : suc (length (verdictsOf rs (drop 1 cs))) ≡ 0 = ap length e in absurd (omega arith)
-rooted-run n (r ∷ rs) cs (l ∷ ls) e =
-    ap₂ (λ (x : Effect) (y : Class). printed "policy" (policyItems (at r 0) x y (digits (root n (l .root)) ∷ [])) ∷ rootedOf rs (drop 1 cs) (rootsOf (n + size (l .root)) ls))
-    (ap effectFirst e) (ap classFirst e)
-    ∙ ap (λ (m : List (List ℕ)). printed "policy" (policyItems (at r 0) (l .effect) (l .class) (digits (root n (l .root)) ∷ [])) ∷ m)
-    (rooted-run (n + size (l .root)) rs (drop 1 cs) ls (ap (drop 1) e))
+rooted-run n rs cs ls e = rooted-words n rs cs (rootsOf n ls) ls e (λ i h. refl)
+
+-- the classes of a run's lines
+abbrev pub classesIn : List NVerdict → List Class
+classesIn [] = []
+classesIn (v ∷ vs) = v .class ∷ classesIn vs
+
+-- policies of these rows have the run's classes where the words cs begin with them: their effects are those of the rows
+module _ (S : Schema) (M : NEnv) (ns : List (Node ℕ)) where
+  abbrev linesOver : List (List ℕ) → List Row → List NVerdict
+  linesOver rs R = nRun S M (numberedPolicies ns rs) R .lines
+
+  verdicts-from : (rs : List (List ℕ)) (cs : List ℕ) (R : List Row) → ((i : ℕ) → i < length (linesOver rs R) → classIn (getD cs i 0) ≡ getD (classesIn (linesOver rs R)) i copen)
+      → verdictsOf rs cs ≡ verdicts (linesOver rs R)
+  verdicts-from [] cs R f = refl
+  verdicts-from (r ∷ rs) cs R f =
+      let R₁ : List Row = nInterpret S M (getD ns (at r 2) (Node.err tbool)) R .rows in
+      ap₂ (λ (c : Class) (l : List Verdict). record { effect = effectIn r; class = c } ∷ l) (f 0 (omega arith))
+      (verdicts-from rs (drop 1 cs) R₁ (λ i h. ap classIn (second-of cs i) ∙ f (suc i) (omega arith)))
+
+pub verdicts-run : (sheet a₀ b₀ a cs : List ℕ) → rowsOf a POLICY ≡ rowsOf a₀ POLICY
+    → ((i : ℕ) → i < length (run partial (held sheet a₀ b₀) .lines) → classIn (getD cs i 0) ≡ getD (classesIn (run partial (held sheet a₀ b₀) .lines)) i copen)
+    → verdictsIn a cs ≡ verdicts (run partial (held sheet a₀ b₀) .lines)
+unfolding run nPolicies verdictsIn held linesHeld
+verdicts-run sheet a₀ b₀ a cs e f =
+    ap (λ (rs : List (List ℕ)). verdictsOf rs cs) e
+    ∙ verdicts-from (schema (held sheet a₀ b₀)) (nEnv partial (held sheet a₀ b₀)) (trees (held sheet a₀ b₀)) (rowsOf a₀ POLICY) cs (valueRows (held sheet a₀ b₀)) f
+
+-- ---- types: a number of a line is the one that its content is found by; past the lines it is bool's
+
+bool-said : (ts : List Ty) (y : TypeRow) → tySame (tyOver ts y) tbool ≡ saysBool y
+bool-said ts bool = refl
+bool-said ts long = refl
+bool-said ts string = refl
+bool-said ts (entity k) = refl
+bool-said ts (set′ y) = refl
+bool-said ts (record′ ds) = refl
+
+abbrev tysAfter : List Ty → List (List ℕ) → List Ty
+tysAfter ts [] = []
+tysAfter ts (r ∷ rs) = tyOver ts (typeRow r) ∷ tysAfter (ts ++ (tyOver ts (typeRow r) ∷ [])) rs
+
+tys-more : (ts : List Ty) (rs : List (List ℕ)) → tysFrom ts rs ≡ ts ++ tysAfter ts rs
+tys-more ts [] = sym (append-nil ts)
+tys-more ts (r ∷ rs) = tys-more (ts ++ (tyOver ts (typeRow r) ∷ [])) rs ∙ append-assoc ts (tyOver ts (typeRow r) ∷ []) (tysAfter (ts ++ (tyOver ts (typeRow r) ∷ [])) rs)
+
+bool-after : (ts : List Ty) (rs : List (List ℕ)) → typeNumber (tysAfter ts rs) tbool ≡ boolLine rs
+unfolding boolLine
+bool-after ts [] = refl
+bool-after ts (r ∷ rs) = ap₂ (λ (b : Bool) (n : ℕ). cond b 0 (suc n)) (bool-said ts (typeRow r)) (bool-after (ts ++ (tyOver ts (typeRow r) ∷ [])) rs)
+
+bool-number : (s : State) → typeNumber (types s) tbool ≡ boolLine (linesOf s TYPE)
+unfolding types
+bool-number s = ap (λ (ts : List Ty). typeNumber ts tbool) (tys-more [] (linesOf s TYPE)) ∙ bool-after [] (linesOf s TYPE)
+
+type-same : (m : Mode) (s : State) → History m s → (y : ℕ) → typeNumber (types s) (getD (types s) y tbool) ≡ typeIn (linesOf s TYPE) y
+unfolding typeIn
+type-same m s h y = go (decLt y (count s TYPE))
+  where
+    go : Dec (y < count s TYPE) → typeNumber (types s) (getD (types s) y tbool) ≡ typeIn (linesOf s TYPE) y
+    go (yes d) = number-again m s h y d ∙ rw (lt-ltb y (count s TYPE) d)
+    go (no d) =
+        let n = types-length m s h in
+        let z : length (types s) ≤ y = omega (arith, n) in
+        let w : count s TYPE ≤ y = omega arith in
+        ap (typeNumber (types s)) (List·getD-eq-default (types s) tbool z) ∙ bool-number s ∙ rw (le-ltb y (count s TYPE) w)
+
+-- ---- the whole answer
+
+-- what a run x of the sheet that the words a₀ hold leaves in words: a the words, l the log, cs and es a class and a root for each policy
+pub record RunWords (sheet a₀ : List ℕ) (x : Run) (a l cs es : List ℕ) : Type 0 where
+  pub levels : ℕ
+  pub ress : Ress
+  pub log : l ≡ flats ress
+  pub trees : treesOf (types (held sheet a₀ [])) (rowsOf a₀ NODE) ress ≡ treesIn (x .lines)
+  pub wholes : Wholes (types (held sheet a₀ [])) (rowsOf a₀ NODE) levels ress
+  pub same : (k : ℕ) → k < 13 → rowsOf a k ≡ rowsOf a₀ k
+  pub rows : rowsIn (allRows a) ≡ x .rows
+  pub verdicts : verdictsIn a cs ≡ verdicts (x .lines)
+  pub roots : (i : ℕ) → i < length (x .lines) → getD es i 0 ≡ getD (rootsOf 0 (x .lines)) i 0
+
+module _ (sheet a₀ b₀ : List ℕ) (h : History partial (held sheet a₀ b₀)) (x : Run) (a l cs es : List ℕ) (w : RunWords sheet a₀ x a l cs es) where
+  abbrev s : State
+  s = held sheet a₀ b₀
+
+  types-are : types (held sheet a₀ []) ≡ types s
+  unfolding types held linesHeld
+  types-are = refl
+
+  kept : (k : ℕ) → k < 13 → (k ≡ 1 → ⊥) → rowsOf a k ≡ linesOf s k
+  kept k lt n = w .same k lt ∙ sym (lines-held sheet a₀ b₀ k lt n)
+
+  made-are : madeLines a ≡ concat (valueLines (drop (count s VALUE) (x .rows)))
+  made-are =
+      made-held sheet a []
+      ∙ ap₂ (λ (n : ℕ) (R : List Row). concat (valueLines (drop n R)))
+      (count-held sheet a [] VALUE (omega arith) ∙ sym (count-rows a VALUE) ∙ ap length (kept VALUE (omega arith) (λ e. absurd (omega arith)))) (w .rows)
+
+  type-is : (y : ℕ) → typeNumber (types s) (getD (types s) y tbool) ≡ typeIn (rowsOf a TYPE) y
+  type-is y = type-same partial s h y ∙ ap (λ (rs : List (List ℕ)). typeIn rs y) (sym (kept TYPE (omega arith) (λ e. absurd (omega arith))))
+
+  nodes-are : logLines (rowsOf a TYPE) (rowsOf a NODE) l ≡ nodeLines (residualRows (types s) 0 (x .lines))
+  nodes-are =
+      ap₂ (λ (ns : List (List ℕ)) (m : List ℕ). logLines (rowsOf a TYPE) ns m) (w .same NODE (omega arith)) (w .log)
+      ∙ log-lines (types s) (rowsOf a TYPE) (rowsOf a₀ NODE) type-is (w .ress) (subst (λ (ts : List Ty). Wholes ts (rowsOf a₀ NODE) (w .levels) (w .ress)) types-are (w .wholes))
+      ∙ ap (λ (ts : List (Node ℕ)). nodeLines (rowsAll (types s) 0 ts)) (subst (λ (ts : List Ty). treesOf ts (rowsOf a₀ NODE) (w .ress) ≡ treesIn (x .lines)) types-are (w .trees))
+      ∙ ap nodeLines (sym (residual-rows (types s) 0 (x .lines)))
+
+  policies-are : rootedLines a cs es ≡ partialLines 0 (ids s) (x .lines)
+  unfolding rootedLines verdictsIn
+  policies-are =
+      rooted-words 0 (rowsOf a POLICY) cs es (x .lines) (w .verdicts) (w .roots)
+      ∙ ap (λ (rs : List (List ℕ)). partialLines 0 (firsts rs) (x .lines)) (kept POLICY (omega arith) (λ e. absurd (omega arith)))
+
+  -- THE BYTES ARE THOSE OF THE DEFINITION
+  pub partial-held : partialBytes a l cs es ≡ partialOf s x
+  unfolding partialBytes
+  partial-held =
+      let H : List (List ℕ) = headLines (verdicts (x .lines)) in
+      let M : List (List ℕ) = valueLines (drop (count s VALUE) (x .rows)) in
+      let N : List (List ℕ) = nodeLines (residualRows (types s) 0 (x .lines)) in
+      let P : List (List ℕ) = partialLines 0 (ids s) (x .lines) in
+      ap₂ (λ (k m : List ℕ). k ++ (m ++ (concat (logLines (rowsOf a TYPE) (rowsOf a NODE) l) ++ concat (rootedLines a cs es)))) (ap (λ (v : List Verdict). concat (headLines v)) (w .verdicts)) made-are
+      ∙ ap₂ (λ (k m : List (List ℕ)). concat H ++ (concat M ++ (concat k ++ concat m))) nodes-are policies-are
+      ∙ sym (concat-append (H ++ M ++ N) P ∙ ap (λ (k : List ℕ). k ++ concat P) (concat-append (H ++ M) N ∙ ap (λ (k : List ℕ). k ++ concat N) (concat-append H M))
+      ∙ append-assoc (concat H ++ concat M) (concat N) (concat P) ∙ append-assoc (concat H) (concat M) (concat N ++ concat P))
+
+-- of the sheet's own run they are the answer
+pub partial-answer : (sheet a₀ b₀ : List ℕ) → History partial (held sheet a₀ b₀) → (a l cs es : List ℕ) → RunWords sheet a₀ (run partial (held sheet a₀ b₀)) a l cs es
+    → partialBytes a l cs es ≡ answer partial (held sheet a₀ b₀)
+unfolding answer
+partial-answer sheet a₀ b₀ h a l cs es w = partial-held sheet a₀ b₀ h (run partial (held sheet a₀ b₀)) a l cs es w

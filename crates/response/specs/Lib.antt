@@ -1,3 +1,4 @@
 pub mod Verdicts
 pub mod Printed
 pub mod Values
+pub mod Nodes

@@ -3,6 +3,8 @@ use crate::class_of;
 use crate::count_of;
 use crate::decision_of;
 use crate::effect_of;
+use crate::nodes::node_lines;
+use crate::values::made_values;
 use crate::Decision;
 use print::byte;
 use print::bytes;
@@ -20,6 +22,7 @@ ghost use Rattle.sheet.specs.Bytes.{digits};
 ghost use Rattle.sheet.specs.Answer.{printed, numbers, countsOf, headLines, concat};
 ghost use Rattle.response.specs.Verdicts.{verdictsIn};
 ghost use Rattle.response.specs.Printed.{idBytes, decisionBytes, effectBytes, classBytes, listed, fourOf, policyAt, policyLines, completeBytes, rootedLines};
+ghost use Rattle.response.specs.Nodes.{partialBytes};
 
 // A separator and a number.
 pub fn number_after(out: &mut [u8], at: usize, b: u8, n: u64) -> usize
@@ -156,4 +159,14 @@ pub fn rooted_policies(out: &mut [u8], at: usize, a: &[u32], classes: &[u32], ro
         i += 1;
     }
     k
+}
+
+// A partial answer: `log` holds the residuals, `classes` and `roots` a word for each policy.
+pub fn partial(out: &mut [u8], at: usize, a: &[u32], log: &[u32], classes: &[u32], roots: &[u32]) -> usize
+    ensures { λ r. ⌜ Written (now (out .entry)) at (partialBytes (now (a .entry)) (now (log .entry)) (now (classes .entry)) (now (roots .entry))) (now (out .exit)) r ⌝ }
+{
+    let k = head(out, at, a, classes);
+    let l = made_values(out, k, a);
+    let m = node_lines(out, l, a, log);
+    rooted_policies(out, m, a, classes, roots)
 }

@@ -29,7 +29,7 @@ use Rattle.sheet.proofs.Depths.{Reached, read-reached, reached-depths, Depths}
 use Rattle.sheet.proofs.Depths as D
 use Rattle.sheet.proofs.Uses.{policies-small}
 use Rattle.table.specs.Layout.{base, rowsAt, rowsOf, linesHeld, held, MADE, TOP, heap, limits, limit, Sound}
-use Rattle.table.proofs.Rows.{count-held}
+use Rattle.table.proofs.Rows.{count-held, count-rows}
 use Rattle.value.specs.Lines.{valueLines, placeOf}
 use Rattle.value.proofs.Interned.{Formeds}
 use Rattle.tpe.specs.Run.{others, interpOf, ranFrom, runOf}
@@ -214,12 +214,13 @@ module _ (sheet a b : List ℕ) (f : Facts partial (held sheet a b)) (d : Depths
   levels = d .deep NODE
 
   run-from : Room (policySizes (numberedPolicies (trees (held sheet a [])) (rowsOf a POLICY))) a []
-      → RunIs partial sheet a 64 [] (nRun (sch partial sheet a) (env partial sheet a) (numberedPolicies (trees (held sheet a [])) (rowsOf a POLICY)) (values a)) (ranFrom (interpOf partial sheet 64) (rowsOf a POLICY) a [])
+      → RunIs partial sheet a 64 [] (nRun (sch partial sheet a) (env partial sheet a) (numberedPolicies (trees (held sheet a [])) (rowsOf a POLICY)) (values a)) (ranFrom (interpOf partial sheet 64) 0 (getD a POLICY 0) a [])
   unfolding held linesHeld
   run-from room =
-      ran-is partial sheet a (trees (held sheet a [])) (Tabled (held sheet a [])) 64 (omega arith) (interpOf partial sheet 64) (rowsOf a POLICY)
-      (all-work sheet a f₀ (depthsOf (held sheet a b) NODE) levels [] (rowsOf a POLICY) refl) a [] start-hold
-      (subst (Tabled (held sheet a [])) (sym start-rows) (own-tabled (held sheet a []) (f₀ .history))) room
+      rw (← count-rows a POLICY)
+      (ran-is partial sheet a (trees (held sheet a [])) (Tabled (held sheet a [])) 64 (omega arith) (interpOf partial sheet 64) (rowsOf a POLICY)
+      (all-work sheet a f₀ (depthsOf (held sheet a b) NODE) levels [] (rowsOf a POLICY) refl) 0 refl a [] start-hold
+      (subst (Tabled (held sheet a [])) (sym start-rows) (own-tabled (held sheet a []) (f₀ .history))) room)
 
   -- what is run is the sheet's run
   same-run : nRun (sch partial sheet a) (env partial sheet a) (numberedPolicies (trees (held sheet a [])) (rowsOf a POLICY)) (values a) ≡ run partial (held sheet a b)
@@ -230,7 +231,7 @@ module _ (sheet a b : List ℕ) (f : Facts partial (held sheet a b)) (d : Depths
   run-held few top =
       let z : policySizes (nPolicies (held sheet a b)) ≡ policySizes (numberedPolicies (trees (held sheet a [])) (rowsOf a POLICY)) = ap policySizes (sym (policies-same sheet a b) ∙ own-policies sheet a) in
       let n = sound .few NODE (omega arith) in
-      subst (λ (x : Run). RunIs partial sheet a 64 [] x (ranFrom (interpOf partial sheet 64) (rowsOf a POLICY) a [])) same-run
+      subst (λ (x : Run). RunIs partial sheet a 64 [] x (ranFrom (interpOf partial sheet 64) 0 (getD a POLICY 0) a [])) same-run
       (run-from (record { top = omega (arith, z, few, top); few = omega (arith, z, few, none, n); log = omega (arith, z, few, n) }))
 
 -- THE THEOREM

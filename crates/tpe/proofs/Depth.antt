@@ -19,7 +19,7 @@ use Rattle.tpe.specs.Run.{O, others, errStep, steps, stepWith, stepOf, i
 use Rattle.tpe.proofs.Stands.{Hold, values, Room, tys, nodes, ty, Is}
 use Rattle.tpe.proofs.Operations.{sch, env}
 use Rattle.tpe.proofs.Logic.{Works}
-use Rattle.tpe.proofs.Steps.{kidsFor, Below, treeAt, step-is}
+use Rattle.tpe.proofs.EachStep.{kidsFor, Below, treeAt, step-is}
 
 -- the children of a node's row
 abbrev pub childrenOf : List ℕ → List ℕ

@@ -1,24 +1,23 @@
 -- The children of a set or record worked in turn. Assumes nothing.
 use mathlib.Core.Path.{_≡_, refl, sym, _∙_, ap, ap₂, subst}
-use mathlib.Core.Bool.{Bool, true, false, cond, _||_}
+use mathlib.Core.Bool.{Bool, false, cond, _||_}
 use mathlib.Core.Option.{Option, none, some}
 use mathlib.Core.List.{List, [], _∷_, _++_, append-assoc, append-nil}
-use Prim.Native.Nat.{ℕ, zero, suc, _+_, _-_, _*_, _≤_, _<_}
+use Prim.Native.Nat.{ℕ, suc, _+_, _-_, _*_, _≤_}
 use native.Mathlib.Omega.{arith}
-use lib.Dec.{eqb}
-use lib.ListN.{length, getD, take, length-append}
+use lib.ListN.{length, getD, length-append}
 use Rattle.cedar.specs.Value.{onSome}
 use Rattle.cedar.specs.Residual.{Node, Stage, value, error, open′, view, isError}
 use Rattle.cedar.specs.Rows.{Row}
 use Rattle.cedar.specs.Numbered.{Out, consN}
-use Rattle.sheet.specs.Forms.{Mode}
+use Rattle.sheet.specs.Forms.{Mode, NODE}
 use Rattle.table.specs.Layout.{MADE, TOP}
 use Rattle.residual.specs.Rows.{stageAt}
-use Rattle.residual.specs.Trees.{Ress, rnil, rcons, flat, flats, countRes, treeOf, treesOf, Wholes, whole-none, whole-more}
-use Rattle.residual.proofs.Blocks.{bodyOf, flat-length}
+use Rattle.residual.specs.Trees.{Ress, rnil, rcons, flat, flats, countRes, treesOf, Wholes, whole-none, whole-more}
+use Rattle.residual.proofs.Blocks.{flat-length}
 use Rattle.residual.proofs.Meaning.{stageFor}
 use Rattle.tpe.specs.Run.{O, Rec, Kids, joinOf, kidsOf}
-use Rattle.tpe.proofs.Stands.{Hold, values, Room, tys, nodes, ty, Is, is-as}
+use Rattle.tpe.proofs.Stands.{Hold, values, Room, tys, nodes, Is}
 use Rattle.tpe.proofs.Strict.{last-stage}
 use Rattle.tpe.proofs.Logic.{Works}
 
@@ -141,10 +140,15 @@ module _ (m : Mode) (sheet a₀ : List ℕ) (P : List Row → Type 0) where
       → Are d (q + n) a l (resultsOf (K ∷ Ks) (values a)) c (suc count) k
   with-first c K Ks deep i t = one-more c K Ks deep i (t i)
 
-  pub kids-are : {d n : ℕ} {xs : List ℕ} {Ks : List (List Row → Out)} (deep : d ≤ 64) (f : Rec) → Kid d f xs Ks n → (a l : List ℕ) (c : ℕ) → Hold a₀ a → P (values a) → Room n a l
-      → Are d n a l (resultsOf Ks (values a)) c (length xs) (kidsOf f a l c xs)
+  -- node c has the children xs: each is the last of s words of its row, from word i on
+  abbrev pub Takes : ℕ → ℕ → ℕ → List ℕ → Type 0
+  Takes c s i [] = Unit {0}
+  Takes c s i (x ∷ xs) = (getD (getD (nodes sheet a₀) c []) (i + s - 1) 0 ≡ x) × Takes c s (i + s) xs
+
+  pub kids-are : {d n : ℕ} {xs : List ℕ} {Ks : List (List Row → Out)} (deep : d ≤ 64) (f : Rec) (c s i : ℕ) → Kid d f xs Ks n → Takes c s i xs → (a l : List ℕ) (j : ℕ) → Hold a₀ a → P (values a) → Room n a l
+      → Are d n a l (resultsOf Ks (values a)) j (length xs) (kidsOf f c s i a l j (length xs))
   unfolding kidsOf flats treesOf joins
-  kids-are deep f kid-none a l c h good room = record {
+  kids-are deep f c s i kid-none t a l j h good room = record {
     ress = rnil;
     log = sym (append-nil l);
     short = omega arith;
@@ -158,6 +162,9 @@ module _ (m : Mode) (sheet a₀ : List ℕ) (P : List Row → Type 0) where
     few = omega arith;
     join = refl;
   }
-  kids-are deep f (kid-more {x = x} {q = q} {n = n} {K = K} {Ks = Ks} g keeps kid) a l c h good room =
-      with-first c K Ks deep (g a l h good (first-room q n room))
-      (λ i. kids-are deep f kid (f a l x .words) (f a l x .log) (joinOf c (stageAt (f a l x .log) (length (f a l x .log)))) (i .hold) (subst P (sym (i .rows)) (keeps (values a) good)) (rest-room i room))
+  kids-are {d} deep f c s i (kid-more {x = x} {q = q} {n = n} {K = K} {xs = xs} {Ks = Ks} g keeps kid) t a l j h good room =
+      subst
+      (λ (y : ℕ). Are d (q + n) a l (resultsOf (K ∷ Ks) (values a)) j (suc (length xs)) (kidsOf f c s (i + s) (f a l y .words) (f a l y .log) (joinOf j (stageAt (f a l y .log) (length (f a l y .log)))) (length xs)))
+      (sym (ap (λ (z : List (List ℕ)). getD (getD z c []) (i + s - 1) 0) (h .same NODE (omega arith)) ∙ t .0))
+      (with-first j K Ks deep (g a l h good (first-room q n room))
+      (λ o. kids-are deep f c s (i + s) kid (t .1) (f a l x .words) (f a l x .log) (joinOf j (stageAt (f a l x .log) (length (f a l x .log)))) (o .hold) (subst P (sym (o .rows)) (keeps (values a) good)) (rest-room o room)))

@@ -7,7 +7,7 @@ pub mod Branches
 pub mod Paths
 pub mod Kids
 pub mod Sets
-pub mod Steps
+pub mod EachStep
 pub mod Depth
 pub mod Policies
 pub mod Listing
@@ -19,3 +19,7 @@ pub mod Accepted
 pub mod Cases
 pub mod Slices
 pub mod Ways
+pub mod Settling
+pub mod Operated
+pub mod Worked
+pub mod Walks

@@ -25,7 +25,7 @@ use Rattle.sheet.proofs.TreesBack.{from-append}
 use Rattle.sheet.proofs.Slots.{set-slot, field-slot}
 use Rattle.sheet.proofs.Uses.{AllBelow, refs-below}
 use Rattle.tpe.specs.Run.{others}
-use Rattle.tpe.proofs.Steps.{kidsFor}
+use Rattle.tpe.proofs.EachStep.{kidsFor}
 use Rattle.tpe.proofs.Depth.{childrenOf}
 
 in-cons : {X : Type 0} {j x : ℕ} {l : List ℕ} → InN j (x ∷ l) → (j ≡ x → X) → (InN j l → X) → X

@@ -1,24 +1,24 @@
 -- The run over the policies: words, log, classes and where each policy's block ends. Assumes nothing.
 use mathlib.Core.Path.{_≡_, refl, sym, _∙_, ap, ap₂, subst}
 use mathlib.Core.List.{List, [], _∷_, _++_, append-assoc, append-nil}
-use Prim.Native.Nat.{ℕ, zero, suc, _+_, _-_, _*_, _≤_, _<_}
+use Prim.Native.Nat.{ℕ, suc, _+_, _*_, _≤_}
 use native.Mathlib.Omega.{arith}
-use lib.ListN.{length, getD, length-append}
+use lib.ListN.{length, getD, drop, length-append}
 use Rattle.cedar.specs.Types.{tbool}
 use Rattle.cedar.specs.Residual.{Node, err, Class}
 use Rattle.cedar.specs.Response.{Effect}
 use Rattle.cedar.specs.Rows.{Row}
-use Rattle.cedar.specs.Numbered.{Out, nClass, nInterpret}
+use Rattle.cedar.specs.Numbered.{Out, nInterpret}
 use Rattle.cedar.specs.Runs.{NVerdict, Run, nRun, thenRun}
-use Rattle.sheet.specs.Forms.{Mode, at}
+use Rattle.sheet.specs.Forms.{Mode, at, POLICY}
 use Rattle.sheet.specs.Content.{numberedPolicies, effectOf}
 use Rattle.sheet.specs.Answer.{size}
 use Rattle.sheet.proofs.MadeCount.{policySizes}
-use Rattle.table.specs.Layout.{MADE, TOP}
-use Rattle.residual.specs.Trees.{Ress, rnil, rcons, flat, flats, treeOf, treesOf, Wholes, whole-none, whole-more}
+use Rattle.table.specs.Layout.{rowsOf}
+use Rattle.residual.specs.Trees.{Ress, rnil, rcons, flat, flats, treesOf, Wholes, whole-none, whole-more}
 use Rattle.residual.proofs.Meaning.{rows-are}
-use Rattle.tpe.specs.Run.{O, Rec, Line, Ran, thenRan, ranFrom, classOf}
-use Rattle.tpe.proofs.Stands.{Hold, values, Room, tys, nodes, ty, Is}
+use Rattle.tpe.specs.Run.{O, Rec, Line, Ran, thenRan, ranFrom}
+use Rattle.tpe.proofs.Stands.{Hold, values, Room, tys, nodes, Is, drop-here}
 use Rattle.tpe.proofs.Operations.{sch, env}
 use Rattle.tpe.proofs.Logic.{Works, class-is}
 
@@ -77,22 +77,25 @@ module _ (m : Mode) (sheet a₀ : List ℕ) where
     abbrev outAt : List ℕ → List ℕ → Out
     outAt r a = nInterpret (sch m sheet a₀) (env m sheet a₀) (getD trs (at r 2) (err tbool)) (values a)
 
-    pub ran-is : (rs : List (List ℕ)) → AllWork rs → (a l : List ℕ) → Hold a₀ a → P (values a) → Room (policySizes (numberedPolicies trs rs)) a l
-        → RunIs d l (nRun (sch m sheet a₀) (env m sheet a₀) (numberedPolicies trs rs) (values a)) (ranFrom f rs a l)
+    -- the policies rs, of which the first is number i
+    pub ran-is : (rs : List (List ℕ)) → AllWork rs → (i : ℕ) → drop i (rowsOf a₀ POLICY) ≡ rs → (a l : List ℕ) → Hold a₀ a → P (values a) → Room (policySizes (numberedPolicies trs rs)) a l
+        → RunIs d l (nRun (sch m sheet a₀) (env m sheet a₀) (numberedPolicies trs rs) (values a)) (ranFrom f i (length rs) a l)
     unfolding ranFrom flats treesOf
-    ran-is [] w a l h good room = record { ress = rnil; log = sym (append-nil l); trees = refl; wholes = whole-none; rows = refl; hold = h; lines = refl }
-    ran-is (r ∷ rs) w a l h good room =
-        go (w .0 .0 a l h good (record { top = omega (arith, room .top); few = omega (arith, room .few); log = omega (arith, room .log) }))
-        (λ b j k p e. ran-is rs (w .1) b j k p e)
+    ran-is [] w i z a l h good room = record { ress = rnil; log = sym (append-nil l); trees = refl; wholes = whole-none; rows = refl; hold = h; lines = refl }
+    ran-is (r ∷ rs) w i z a l h good room =
+        let e : getD (rowsOf a POLICY) i [] ≡ r = ap (λ (q : List (List ℕ)). getD q i []) (h .same POLICY (omega arith)) ∙ drop-here [] (rowsOf a₀ POLICY) i r rs z .0 in
+        rw e
+        (go (w .0 .0 a l h good (record { top = omega (arith, room .top); few = omega (arith, room .few); log = omega (arith, room .log) }))
+        (λ b j k p e. ran-is rs (w .1) (suc i) (drop-here [] (rowsOf a₀ POLICY) i r rs z .1) b j k p e))
       where
         go : Is sheet a₀ d (size (getD trs (at r 2) (err tbool))) a l (outAt r a) (f a l (at r 2))
-            → ((b j : List ℕ) → Hold a₀ b → P (values b) → Room (policySizes (numberedPolicies trs rs)) b j → RunIs d j (nRun (sch m sheet a₀) (env m sheet a₀) (numberedPolicies trs rs) (values b)) (ranFrom f rs b j))
-            → RunIs d l (thenRun (sch m sheet a₀) (env m sheet a₀) (effectOf (at r 1)) (outAt r a) (nRun (sch m sheet a₀) (env m sheet a₀) (numberedPolicies trs rs))) (thenRan (f a l (at r 2)) (ranFrom f rs))
-        go i ih = then-run deep i (effectOf (at r 1)) (nRun (sch m sheet a₀) (env m sheet a₀) (numberedPolicies trs rs)) (ranFrom f rs)
-            (subst (λ (R : List Row). RunIs d (f a l (at r 2) .log) (nRun (sch m sheet a₀) (env m sheet a₀) (numberedPolicies trs rs) R) (ranFrom f rs (f a l (at r 2) .words) (f a l (at r 2) .log))) (i .rows)
-            (ih (f a l (at r 2) .words) (f a l (at r 2) .log) (i .hold) (subst P (sym (i .rows)) (w .0 .1 (values a) good))
+            → ((b j : List ℕ) → Hold a₀ b → P (values b) → Room (policySizes (numberedPolicies trs rs)) b j → RunIs d j (nRun (sch m sheet a₀) (env m sheet a₀) (numberedPolicies trs rs) (values b)) (ranFrom f (suc i) (length rs) b j))
+            → RunIs d l (thenRun (sch m sheet a₀) (env m sheet a₀) (effectOf (at r 1)) (outAt r a) (nRun (sch m sheet a₀) (env m sheet a₀) (numberedPolicies trs rs))) (thenRan (f a l (at r 2)) (ranFrom f (suc i) (length rs)))
+        go x ih = then-run deep x (effectOf (at r 1)) (nRun (sch m sheet a₀) (env m sheet a₀) (numberedPolicies trs rs)) (ranFrom f (suc i) (length rs))
+            (subst (λ (R : List Row). RunIs d (f a l (at r 2) .log) (nRun (sch m sheet a₀) (env m sheet a₀) (numberedPolicies trs rs) R) (ranFrom f (suc i) (length rs) (f a l (at r 2) .words) (f a l (at r 2) .log))) (x .rows)
+            (ih (f a l (at r 2) .words) (f a l (at r 2) .log) (x .hold) (subst P (sym (x .rows)) (w .0 .1 (values a) good))
             (record {
-              top = omega (arith, room .top, i .top);
-              few = omega (arith, room .few, i .few);
-              log = omega (arith, room .log, ap length (i .log), length-append l (flat (i .res)), i .short);
+              top = omega (arith, room .top, x .top);
+              few = omega (arith, room .few, x .few);
+              log = omega (arith, room .log, ap length (x .log), length-append l (flat (x .res)), x .short);
             })))

@@ -7,7 +7,7 @@ use Prim.Native.Nat.{ℕ, zero, suc, _+_, _-_, _*_, _≤_, _<_}
 use native.Mathlib.Omega.{arith}
 use borrow.Author.Tests.{lt-ltb, le-leb}
 use lib.Dec.{ltb, leb}
-use lib.ListN.{length, getD, take, length-append}
+use lib.ListN.{length, getD, take, drop, length-append}
 use lib.Seq.{take-append-seam}
 use Rattle.words.specs.Log.{appended}
 use Rattle.words.proofs.Logs.{appended-is}
@@ -29,6 +29,13 @@ use Rattle.residual.specs.Errs.{errs}
 use Rattle.residual.specs.Trees.{Res, rlit, rerr, rleft, Ress, rnil, rcons, flat, flats, countRes, leftTree, suits, tyAt, treeOf, treesOf, Whole, whole-lit, whole-err, whole-left, Wholes, whole-none, whole-more}
 use Rattle.residual.proofs.Meaning.{stageFor, stage-is, type-is, can-error-is}
 use Rattle.tpe.specs.Run.{O, left, litOf, errOf, leftOf, madeOf, schemaIn, tyIn, envIn}
+
+-- what stands at place i of a list, and what is after it
+pub drop-here : {A : Type 0} (d : A) (l : List A) (i : ℕ) (x : A) (q : List A) → drop i l ≡ x ∷ q → (getD l i d ≡ x) × (drop (suc i) l ≡ q)
+drop-here d [] zero x q e = let z : _≡_ {A = ℕ} 0 1 = cc in absurd (omega arith)
+drop-here d [] (suc i) x q e = let z : _≡_ {A = ℕ} 0 1 = cc in absurd (omega arith)
+drop-here d (y ∷ l) zero x q e = (cc, cc)
+drop-here d (y ∷ l) (suc i) x q e = drop-here d l i x q e
 
 -- ---- the words
 

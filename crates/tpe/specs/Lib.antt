@@ -2,3 +2,4 @@ pub mod Run
 pub mod Classes
 pub mod Leaves
 pub mod Steps
+pub mod Gives

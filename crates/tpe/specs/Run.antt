@@ -15,7 +15,7 @@ use Rattle.cedar.specs.TypeRules.{unRule, binRule, relRule, hasRule}
 use Rattle.cedar.specs.Rows.{Entries, stop, entry, Row, rbool, rlong, rtext, rent, rset, rrec}
 use Rattle.cedar.specs.Numbered.{Give, made, old, NEnv, rowAt, rBool, NOut, give, fails, stays, isSome, entryOf, nUn, nBin, nRel, onEntries, nGet, nHas}
 use Rattle.sheet.specs.Bytes.{half}
-use Rattle.sheet.specs.Forms.{Mode, complete, tag, items, at, firstNode, TYPE, NODE, POLICY}
+use Rattle.sheet.specs.Forms.{Mode, tag, items, at, firstNode, TYPE, NODE, POLICY}
 use Rattle.sheet.specs.Content.{types, rowsIn, schema, nEnv, varOf, patternOf}
 use Rattle.table.specs.Layout.{rowsOf, held}
 use Rattle.value.specs.Lines.{valueLines, placeOf}
@@ -139,9 +139,14 @@ pub record Kids : Type 0 where
   pub log : List ℕ
   pub join : ℕ
 
-unfoldable pub kidsOf : Rec → List ℕ → List ℕ → ℕ → List ℕ → Kids
-kidsOf f a l c [] = record { words = a; log = l; join = c }
-kidsOf f a l c (n ∷ ns) = let o = f a l n in kidsOf f (o .words) (o .log) (joinOf c (stageAt (o .log) (length (o .log)))) ns
+-- the row of a node, in the words as they are
+abbrev pub nodeIn : List ℕ → ℕ → List ℕ
+nodeIn a n = getD (rowsOf a NODE) n []
+
+-- k children of node n more: each is the last of s words of its row, from word i on
+unfoldable pub kidsOf : Rec → ℕ → ℕ → ℕ → List ℕ → List ℕ → ℕ → ℕ → Kids
+kidsOf f n s i a l c zero = record { words = a; log = l; join = c }
+kidsOf f n s i a l c (suc k) = let o = f a l (getD (nodeIn a n) (i + s - 1) 0) in kidsOf f n s (i + s) (o .words) (o .log) (joinOf c (stageAt (o .log) (length (o .log)))) k
 
 -- a set or record, whose row is q if all are values
 unfoldable pub manyOf : List ℕ → List ℕ → List ℕ → ℕ → ℕ → ℕ → ℕ → O
@@ -304,39 +309,44 @@ module _ (m : Mode) (sheet : List ℕ) where
   unfoldable pub varStep : Step
   varStep f a l n r = varFor a l n (at r 0) (envIn a .request (varOf (at r 1)))
 
+  -- operands are worked: the row is read again, in the words as they are now
+  abbrev pub again : ℕ → O → (List ℕ → O → O) → O
+  again n o k = k (nodeIn (o .words) n) o
+
   unfoldable pub lazyStep : Bool → Step
-  lazyStep z f a l n r = firstOf z f (length l) n (at r 0) (at r 2) (f a l (at r 1))
+  lazyStep z f a l n r = again n (f a l (at r 1)) (λ q. firstOf z f (length l) n (at q 0) (at q 2))
 
   unfoldable pub ifStep : Step
-  ifStep f a l n r = branchOf f (length l) n (at r 0) (at r 2) (at r 3) (f a l (at r 1))
+  ifStep f a l n r = again n (f a l (at r 1)) (λ q. branchOf f (length l) n (at q 0) (at q 2) (at q 3))
 
   -- the left operand is worked
-  abbrev pub then : Rec → List ℕ → O → (ℕ → O → O) → O
-  then f r o k = k (length (o .log)) (f (o .words) (o .log) (at r 2))
+  abbrev pub then : Rec → ℕ → O → (ℕ → O → O) → O
+  then f n o k = again n o (λ q o. k (length (o .log)) (f (o .words) (o .log) (at q 2)))
 
   unfoldable pub binStep : Bin → Step
-  binStep p f a l n r = then f r (f a l (at r 1)) (λ mid o. binOf p (length l) mid n r o)
+  binStep p f a l n r = then f n (f a l (at r 1)) (λ mid o. again n o (binOf p (length l) mid n))
 
   unfoldable pub relStep : Rel → Step
-  relStep p f a l n r = then f r (f a l (at r 1)) (λ mid o. relOf p (length l) mid n r o)
+  relStep p f a l n r = then f n (f a l (at r 1)) (λ mid o. again n o (relOf p (length l) mid n))
 
   unfoldable pub unStep : (List ℕ → Un) → Step
-  unStep u f a l n r = unOf (u r) (length l) n r (f a l (at r 1))
+  unStep u f a l n r = again n (f a l (at r 1)) (λ q. unOf (u q) (length l) n q)
 
   unfoldable pub getStep : Step
-  getStep f a l n r = getOf (length l) n r (f a l (at r 1))
+  getStep f a l n r = again n (f a l (at r 1)) (getOf (length l) n)
 
   unfoldable pub hasStep : Step
-  hasStep f a l n r = hasOf (length l) n r (f a l (at r 1))
+  hasStep f a l n r = again n (f a l (at r 1)) (hasOf (length l) n)
 
   unfoldable pub pathStep : Step
-  pathStep f a l n r = pathOf (length l) n r (f a l (at r 1))
+  pathStep f a l n r = again n (f a l (at r 1)) (pathOf (length l) n)
 
+  -- the children of a row: those of a set from word 2 on, those of a record each after its text
   unfoldable pub setStep : Step
-  setStep f a l n r = setOf (length l) n r (kidsOf f a l 0 (drop 1 (items r)))
+  setStep f a l n r = let k = kidsOf f n 1 2 a l 0 (length r - 2) in setOf (length l) n (nodeIn (k .words) n) k
 
   unfoldable pub recStep : Step
-  recStep f a l n r = recOf (length l) n r (kidsOf f a l 0 (others (drop 1 (items r))))
+  recStep f a l n r = let k = kidsOf f n 2 2 a l 0 ((length r - 2) / 2) in recOf (length l) n (nodeIn (k .words) n) k
 
   -- in the table's order
   abbrev pub steps : List Step
@@ -377,9 +387,10 @@ pub record Ran : Type 0 where
 abbrev pub thenRan : O → (List ℕ → List ℕ → Ran) → Ran
 thenRan o k = let t = k (o .words) (o .log) in record { words = t .words; log = t .log; lines = record { class = classOf (o .words) (o .log); end = length (o .log) } ∷ t .lines }
 
-unfoldable pub ranFrom : Rec → List (List ℕ) → List ℕ → List ℕ → Ran
-ranFrom f [] a l = record { words = a; log = l; lines = [] }
-ranFrom f (r ∷ rs) a l = thenRan (f a l (at r 2)) (ranFrom f rs)
+-- k policies, from number i on
+unfoldable pub ranFrom : Rec → ℕ → ℕ → List ℕ → List ℕ → Ran
+ranFrom f i zero a l = record { words = a; log = l; lines = [] }
+ranFrom f i (suc k) a l = thenRan (f a l (at (getD (rowsOf a POLICY) i []) 2)) (ranFrom f (suc i) k)
 
 unfoldable pub runOf : Mode → List ℕ → List ℕ → List ℕ → Ran
-runOf m sheet a l = ranFrom (interpOf m sheet 64) (rowsOf a POLICY) a l
+runOf m sheet a l = ranFrom (interpOf m sheet 64) 0 (getD a POLICY 0) a l

@@ -1,4 +1,7 @@
-// The interpreter of policies. Its definition over words is in specs/, what it means in proofs/.
+// The interpreter of policies. Its definition over words is in specs/, what it means in proofs/. What a node does with its worked
+// operands stands in `steps`.
+pub mod steps;
+
 use residual::can_error_assuming_well_formed;
 use residual::push_left;
 use residual::push_value;
@@ -54,7 +57,7 @@ pub fn class_at(a: &[u32], b: &[u32], e: usize) -> Class
 }
 
 // A bool found or made, as a value of type `y` more on the log.
-fn give_bool(a: &mut [u32], b: &mut [u32], bt: usize, x: bool, y: u32) -> usize
+pub fn give_bool(a: &mut [u32], b: &mut [u32], bt: usize, x: bool, y: u32) -> usize
     requires { ⌜ Room (now b) bt ⌝ }
     ensures { λ e. ⌜ Leaves bt (now (a .exit)) (now (b .exit)) e (madeOf (now (a .entry)) (take bt (now (b .entry))) y (boolRow x)) ⌝ }
 {
@@ -63,7 +66,7 @@ fn give_bool(a: &mut [u32], b: &mut [u32], bt: usize, x: bool, y: u32) -> usize
 }
 
 // Beside an open left side, which ends at `mid`, the right one is the bool `z` that decides: where the left side can err, node `n` stays.
-fn decided(a: &mut [u32], b: &mut [u32], start: usize, mid: usize, bt: usize, n: u32, z: bool, y: u32) -> usize
+pub fn decided(a: &mut [u32], b: &mut [u32], start: usize, mid: usize, bt: usize, n: u32, z: bool, y: u32) -> usize
     requires { ⌜ Room (now b) bt ⌝ }
     requires { ⌜ (start ≤ mid) × (mid ≤ bt) ⌝ }
     ensures { λ e. ⌜ Leaves start (now (a .exit)) (now (b .exit)) e (decidedBy z start n y mid (now (a .entry)) (take bt (now (b .entry))) (errs (rowsOf (now (a .entry)) 11) (take bt (now (b .entry))) mid)) ⌝ }

@@ -1,0 +1,44 @@
+-- DEMAND 3 FOR THE CALLS: three runs, each in whatever work slices and answer buffer it was lent. Assumes nothing.
+use mathlib.Core.Path.{_≡_, sym, _∙_, ap, ap₂, subst}
+use mathlib.Core.Bool.{true}
+use mathlib.Core.List.{List}
+use Prim.Native.Nat.{ℕ}
+use lib.ListN.{length, take}
+use Rattle.sheet.specs.Forms.{Mode, partial, complete}
+use Rattle.sheet.specs.Sheet.{read}
+use Rattle.sheet.specs.Agreement.{agrees}
+use Rattle.sheet.specs.Demand3.{Answered, bytesOf, Demand3}
+use Rattle.sheet.proofs.Demand3Answers.{demand-3-bytes}
+use Rattle.authorizer.specs.Called.{Called}
+
+-- a run of a call: what it was lent, what it returned and left, and what the call promises of these
+pub record Run (m : Mode) (sheet : List ℕ) : Type 0 where
+  pub work₁ : List ℕ
+  pub work₂ : List ℕ
+  pub buffer : List ℕ
+  pub number : ℕ
+  pub line : ℕ
+  pub len : ℕ
+  pub buffer′ : List ℕ
+  pub work₁′ : List ℕ
+  pub work₂′ : List ℕ
+  pub called : Called m sheet work₁ work₂ buffer number line len buffer′ work₁′ work₂′
+
+-- the bytes of the answer: so many as the returned length says, of the buffer after the call
+abbrev pub bytesIn : {m : Mode} {sheet : List ℕ} → Run m sheet → List ℕ
+bytesIn x = take (x .len) (x .buffer′)
+
+module _ {m : Mode} {sheet : List ℕ} (x : Run m sheet) (e : x .number ≡ 0) where
+  abbrev answered : Answered m sheet
+  answered = record { work₁ = length (x .work₁); work₂ = length (x .work₂); buffer = x .buffer; zero-number = sym (x .called .number-is) ∙ e }
+
+  same-bytes : bytesOf answered ≡ bytesIn x
+  same-bytes = ap₂ take (sym (x .called .length-is)) (sym (x .called .buffer))
+
+pub demand-3-calls : (p c d : List ℕ) (x : Run partial p) (y : Run complete c) (z : Run complete d) → x .number ≡ 0 → y .number ≡ 0 → z .number ≡ 0
+    → agrees (read partial p .state) (read complete c .state) ≡ true → agrees (read partial p .state) (read complete d .state) ≡ true → Demand3 p c d (bytesIn x) (bytesIn y) (bytesIn z)
+demand-3-calls p c d x y z e f g h k =
+    subst (λ (l : List ℕ). Demand3 p c d l (bytesIn y) (bytesIn z)) (same-bytes x e)
+    (subst (λ (l : List ℕ). Demand3 p c d (bytesOf (answered x e)) l (bytesIn z)) (same-bytes y f)
+    (subst (λ (l : List ℕ). Demand3 p c d (bytesOf (answered x e)) (bytesOf (answered y f)) l) (same-bytes z g)
+    (demand-3-bytes p c d (answered x e) (answered y f) (answered z g) h k)))

@@ -1,0 +1,78 @@
+-- `authorizer::call` meets its contract. Assumes nothing.
+use Rattle.line.specs.Codes.{modeOf}
+use Rattle.authorizer.proofs.Calling.{part-long, part-same, call-first, call-second, call-answered}
+use borrow.Author.Needs.{needs}
+use Rattle.authorizer.proofs.call.Statement.{statement}
+use Rattle.authorizer.proofs.call.Tie as tie
+
+returns : tie.Need-returns
+returns c = search (call-first, needs)
+
+returns-2 : tie.Need-returns-2
+returns-2 c = search (call-second, needs)
+
+slice-relend-prefix-answered : tie.Need-slice-relend-prefix-answered
+slice-relend-prefix-answered c = search needs
+
+slice-aggregate-answered : tie.Need-slice-aggregate-answered
+slice-aggregate-answered c = search (part-long, needs)
+
+slice-relend-prefix-answered-2 : tie.Need-slice-relend-prefix-answered-2
+slice-relend-prefix-answered-2 c = search needs
+
+slice-aggregate-answered-2 : tie.Need-slice-aggregate-answered-2
+slice-aggregate-answered-2 c = search (part-long, needs)
+
+answered-requires : tie.Need-answered-requires
+answered-requires c κs = let s = c .before .before .before .before .before .before .before .before .before in (part-long (s .args .work1 .now) (c .before .before .before .before .if1 .left), part-long (s .args .work2 .now) (c .before .before .before .if2 .left))
+
+clear-requires : tie.Need-clear-requires
+clear-requires c κs = search needs
+
+clear-requires-2 : tie.Need-clear-requires-2
+clear-requires-2 c κs = search needs
+
+same-length : tie.Need-same-length
+same-length c =
+    let s = c .before .before .before .before .before .before .before .before .before .before .before .before .before .before .before .before .before .before .before .before .before .before .before .before in
+    let a = c .before .before .before .before .before .before .before .before .before .before .before .before .before .before .answered in
+    let x = c .before .before .before .before .before .before .clear in
+    part-same (s .args .work1 .now) (c .before .before .before .before .before .before .before .before .before .before .before .before .before .before .before .before .before .before .before .if1 .left) (a .last .1 .1 .0) (x .last .0) (a .kept .1 .1 .0) (x .kept .0)
+
+same-length-2 : tie.Need-same-length-2
+same-length-2 c =
+    let s = c .before .before .before .before .before .before .before .before .before .before .before .before .before .before .before .before .before .before .before .before .before .before .before .before in
+    let a = c .before .before .before .before .before .before .before .before .before .before .before .before .before .before .answered in
+    let y = c .before .before .clear2 in
+    part-same (s .args .work2 .now) (c .before .before .before .before .before .before .before .before .before .before .before .before .before .before .before .before .before .before .if2 .left) (a .last .1 .1 .1 .0) (y .last .0) (a .kept .1 .1 .1 .0) (y .kept .0)
+
+same-length-3 : tie.Need-same-length-3
+same-length-3 c = search needs
+
+returns-3 : tie.Need-returns-3
+returns-3 c =
+    let s = c .before .before .before .before .before .before .before .before .before .before .before .before .before .before .before .before .before .before .before .before .before .before .before .before in
+    let a = c .before .before .before .before .before .before .before .before .before .before .before .before .before .before .answered in
+    let x = c .before .before .before .before .before .before .clear in
+    let y = c .before .before .clear2 in
+    call-answered (modeOf (s .args .partial)) (s .args .sheet .now) (s .args .work1 .now) (s .args .work2 .now) (s .args .out .now) (c .before .before .before .before .before .before .before .before .before .before .before .before .before .before .before .before .before .before .before .if1 .left) (c .before .before .before .before .before .before .before .before .before .before .before .before .before .before .before .before .before .before .if2 .left)
+    (a .result .number) (a .result .line) (a .result .length) (a .last .1 .1 .1 .1 .0) (a .last .1 .1 .0) (a .last .1 .1 .1 .0) (x .last .0) (y .last .0)
+    (a .ensures) (a .kept .1 .1 .0) (a .kept .1 .1 .1 .0) (x .ensures) (y .ensures)
+
+pub call-spec : {M : Type 1} → statement M
+call-spec =
+    tie.close
+    (tie.spec
+    returns
+    returns-2
+    slice-relend-prefix-answered
+    slice-aggregate-answered
+    slice-relend-prefix-answered-2
+    slice-aggregate-answered-2
+    answered-requires
+    clear-requires
+    clear-requires-2
+    same-length
+    same-length-2
+    same-length-3
+    returns-3)

@@ -1,0 +1,55 @@
+-- `authorizer::send_complete` meets its contract. Assumes nothing.
+use Rattle.authorizer.proofs.Sending.{send-short, send-whole}
+use Rattle.response.specs.Printed.{completeBytes}
+use Rattle.response.proofs.Lengths.{complete-counted}
+use borrow.Author.Needs.{needs}
+use Rattle.authorizer.proofs.send_complete.Statement.{statement}
+use Rattle.authorizer.proofs.send_complete.Tie as tie
+
+slice-relend-prefix-complete : tie.Need-slice-relend-prefix-complete
+slice-relend-prefix-complete c = search needs
+
+slice-aggregate-complete : tie.Need-slice-aggregate-complete
+slice-aggregate-complete c = search needs
+
+complete-requires : tie.Need-complete-requires
+complete-requires c κs = search needs
+
+same-length : tie.Need-same-length
+same-length c = search needs
+
+returns : tie.Need-returns
+returns c =
+    let s = c .before .before .before .before .before .before .before .before in
+    let a = s .args .a .now in
+    let cs = s .args .classes .now in
+    let w = c .before .before .before .complete in
+    send-short (completeBytes a cs) (s .args .out .now) (w .last .0) (w .result) (w .ensures) (complete-counted a cs (c .before .before .before .before .before .before .shared-slice-known .given 12 .fits)) (c .if1 .taken)
+
+complete-requires-2 : tie.Need-complete-requires-2
+complete-requires-2 c κs = search needs
+
+same-length-2 : tie.Need-same-length-2
+same-length-2 c = search needs
+
+returns-2 : tie.Need-returns-2
+returns-2 c =
+    let s = c .before .before .before .before .before .before .before .before .before .before .before .before in
+    let a = s .args .a .now in
+    let cs = s .args .classes .now in
+    let w = c .before .before .before .before .before .before .before .complete in
+    let v = c .before .before .complete2 in
+    send-whole (completeBytes a cs) (s .args .out .now) (w .last .0) (w .result) (w .ensures) (complete-counted a cs (c .before .before .before .before .before .before .before .before .before .before .shared-slice-known .given 12 .fits)) (v .last .0) (v .result) (c .before .before .before .before .if1 .left) (v .ensures)
+
+pub send-complete-spec : {M : Type 1} → statement M
+send-complete-spec =
+    tie.close
+    (tie.spec
+    slice-relend-prefix-complete
+    slice-aggregate-complete
+    complete-requires
+    same-length
+    returns
+    complete-requires-2
+    same-length-2
+    returns-2)

@@ -1,0 +1,61 @@
+-- `authorizer::send_partial` meets its contract. Assumes nothing.
+use Rattle.response.specs.Nodes.{partialBytes}
+use Rattle.response.proofs.Lengths.{partial-counted}
+use Rattle.authorizer.proofs.Sending.{send-short, send-whole}
+use borrow.Author.Needs.{needs}
+use Rattle.authorizer.proofs.send_partial.Statement.{statement}
+use Rattle.authorizer.proofs.send_partial.Tie as tie
+
+slice-relend-prefix-partial : tie.Need-slice-relend-prefix-partial
+slice-relend-prefix-partial c = search needs
+
+slice-aggregate-partial : tie.Need-slice-aggregate-partial
+slice-aggregate-partial c = search needs
+
+partial-requires : tie.Need-partial-requires
+partial-requires c κs = search needs
+
+same-length : tie.Need-same-length
+same-length c = search needs
+
+returns : tie.Need-returns
+returns c =
+    let s = c .before .before .before .before .before .before .before .before .before .before in
+    let a = s .args .a .now in
+    let l = s .args .log .now in
+    let cs = s .args .classes .now in
+    let es = s .args .roots .now in
+    let w = c .before .before .before .partial in
+    let g = c .before .before .before .before .before .before .before .before .shared-slice-known in
+    send-short (partialBytes a l cs es) (s .args .out .now) (w .last .0) (w .result) (w .ensures) (partial-counted a l cs es (s .pre .0) (s .pre .1) (g .given 12 .fits) (g .given 13 .fits)) (c .if1 .taken)
+
+partial-requires-2 : tie.Need-partial-requires-2
+partial-requires-2 c κs = search needs
+
+same-length-2 : tie.Need-same-length-2
+same-length-2 c = search needs
+
+returns-2 : tie.Need-returns-2
+returns-2 c =
+    let s = c .before .before .before .before .before .before .before .before .before .before .before .before .before .before in
+    let a = s .args .a .now in
+    let l = s .args .log .now in
+    let cs = s .args .classes .now in
+    let es = s .args .roots .now in
+    let w = c .before .before .before .before .before .before .before .partial in
+    let g = c .before .before .before .before .before .before .before .before .before .before .before .before .shared-slice-known in
+    let v = c .before .before .partial2 in
+    send-whole (partialBytes a l cs es) (s .args .out .now) (w .last .0) (w .result) (w .ensures) (partial-counted a l cs es (s .pre .0) (s .pre .1) (g .given 12 .fits) (g .given 13 .fits)) (v .last .0) (v .result) (c .before .before .before .before .if1 .left) (v .ensures)
+
+pub send-partial-spec : {M : Type 1} → statement M
+send-partial-spec =
+    tie.close
+    (tie.spec
+    slice-relend-prefix-partial
+    slice-aggregate-partial
+    partial-requires
+    same-length
+    returns
+    partial-requires-2
+    same-length-2
+    returns-2)

@@ -1,0 +1,255 @@
+-- The laws of the code's `operands`: what the strict operations give is what the definition says for the node's tag. Assumes nothing.
+use mathlib.Core.Path.{_≡_, refl, sym, ap, _∙_, fun-ext}
+use mathlib.Core.Bool.{Bool, true, false, cond}
+use mathlib.Core.Option.{Option, none, some}
+use mathlib.Core.List.{List, [], _∷_}
+use Prim.Native.Nat.{ℕ, zero, suc, _+_, _-_, _≤_, _<_}
+use native.Mathlib.Omega.{arith}
+use lib.Dec.{eqb}
+use lib.ListN.{length, getD, take, drop, length-drop, List·getD-eq-default, drop-of-length-le}
+use lib.Seq.{take-length, drop-drop, drop-cons}
+use Rattle.words.specs.Log.{part}
+use Rattle.cedar.specs.Value.{onSome}
+use Rattle.cedar.specs.Rows.{stop, Row, rbool, rlong, rtext, rent, rset, rrec}
+use Rattle.cedar.specs.Numbered.{Give, made, old, NOut, fails, stays, truly, rRec, giveRow, entryOf, isSome, nentity, nlineOr, onEntries}
+use Rattle.sheet.specs.Forms.{items, at, mark}
+use Rattle.sheet.specs.Content.{lookUp, nEnv, lineGiven, schema}
+use Rattle.table.specs.Layout.{rowsOf, textAt, held}
+use Rattle.strict.specs.Gives.{outOf, values, valueIn, modeOf, notOut, negOut, emptyOut, isOut, likeOut, arithOut, longsOut, containsOut, allOut, anyOut}
+use Rattle.strict.specs.Gives as S
+use Rattle.strict.specs.Lookups.{stateIn, lineIn, partOfLine, partIn, lookFound, lookRow, lookIn, lookValue, lookAttr, inOut, gettagOut, hastagOut, walkStep, walkFrom}
+use Rattle.strict.specs.Lookups as L
+use Rattle.strict.specs.declared.Given.{Given}
+use Rattle.strict.specs.declared.Given.the-variants.{Bool as Boolᵍ, Fails, Stays}
+use Rattle.strict.specs.declared.entity.Part.{Part}
+use Rattle.strict.specs.declared.entity.Part.the-variants.{Known, Empty, Unknown}
+use Rattle.strict.specs.declared.entity.Look.{Look}
+use Rattle.strict.specs.declared.entity.Look.the-variants.{At as Atˡ, Missing, Unknown as Unknownˡ, Bad}
+use Rattle.strict.specs.declared.entity.Walked.{Walked}
+use Rattle.strict.specs.declared.entity.Walked.the-variants.{Holds, Fails as Failsʷ, Left}
+use Rattle.strict.proofs.Links.{bytes-link}
+use Rattle.tpe.specs.Run.{envIn, schemaIn}
+use Rattle.evaluator.specs.Run.{nodeIn, pathOut, binOut, relOut, getOut, hasOut, walkOut, twoOut, unOut, oneOut}
+
+-- ---- words of a node
+
+module _ (a : List ℕ) (n : ℕ) (r : List ℕ) (er : r ≡ getD (rowsOf a 11) n []) where
+  pub word-is : (j x : ℕ) → x ≡ getD r j 0 → x ≡ getD (nodeIn a n) j 0
+  word-is j x e = e ∙ ap (λ (l : List ℕ). getD l j 0) er
+
+  pub rest-is : (q : List ℕ) → q ≡ part r 3 (length r) → q ≡ drop 3 (nodeIn a n)
+  rest-is q e =
+      let h : length r - 3 ≡ length (drop 3 r) = sym (length-drop 3 r) in
+      e ∙ ap (λ (m : ℕ). take m (drop 3 r)) h ∙ take-length (drop 3 r) ∙ ap (drop 3) er
+
+pub like-is : (sheet a r p : List ℕ) (v : ℕ) (g : Given) → p ≡ r → outOf g ≡ likeOut (textAt sheet a) p (valueIn a v) → outOf g ≡ likeOut (textAt sheet a) r (valueIn a v)
+like-is sheet a r p v g ep e = e ∙ ap (λ (q : List ℕ). likeOut (textAt sheet a) q (valueIn a v)) ep
+
+-- ---- a path: what a look-up finds
+
+-- an unlisted entity has no attributes
+abbrev partGive : Part → Option Give
+partGive (Known n) = some (old n)
+partGive Empty = some (made (rrec stop))
+partGive Unknown = none
+
+abbrev lookAs : (Option ℕ → NOut) → Look → NOut
+lookAs g (Atˡ x) = g (some x)
+lookAs g Missing = g none
+lookAs g (Unknownˡ k) = stays
+lookAs g Bad = fails
+
+given-or : (x : ℕ) (b : Bool) → cond b none (some (old x)) ≡ partGive (cond b Unknown (Known x))
+given-or x true = refl
+given-or x false = refl
+
+module _ (a : List ℕ) where
+  attrs-is : (k t : ℕ) → nentity (S.envIn true a) k t .attrs ≡ partGive (partIn true a k t 1)
+  unfolding S.envIn nEnv partIn lineIn stateIn
+  attrs-is k t = go (lookUp (held [] a []) k t)
+    where
+      go : (o : Option (List ℕ)) → nlineOr (lineGiven (modeOf true) o) .attrs ≡ partGive (partOfLine true o 1)
+      go none = refl
+      go (some r) = given-or (at r 1) (eqb (at r 1) mark)
+
+  module _ (g : Option ℕ → NOut) (u : ℕ) where
+    found-as : (o : Option ℕ) → g o ≡ lookAs g (lookFound o)
+    found-as none = refl
+    found-as (some x) = refl
+
+    in-record : (r : Row) → rRec fails r (λ e. g (entryOf u e)) ≡ lookAs g (lookRow r u)
+    unfolding lookRow
+    in-record (rbool b) = refl
+    in-record (rlong n) = refl
+    in-record (rtext t) = refl
+    in-record (rent k t) = refl
+    in-record (rset l) = refl
+    in-record (rrec e) = found-as (entryOf u e)
+
+    in-part : (k : ℕ) (p : Part) → onSome stays (partGive p) (λ x. rRec fails (giveRow (values a) x) (λ e. g (entryOf u e))) ≡ lookAs g (lookIn a k p u)
+    unfolding valueIn
+    in-part k (Known n) = in-record (valueIn a n)
+    in-part k Empty = refl
+    in-part k Unknown = refl
+
+    in-value : (r : Row) → onEntries (S.envIn true a) (values a) fails (λ k i. stays) r (λ e. g (entryOf u e)) ≡ lookAs g (lookValue true a r u)
+    in-value (rbool b) = refl
+    in-value (rlong n) = refl
+    in-value (rtext t) = refl
+    in-value (rent k t) = ap (λ (o : Option Give). onSome stays o (λ x. rRec fails (giveRow (values a) x) (λ e. g (entryOf u e)))) (attrs-is k t) ∙ in-part k (partIn true a k t 1)
+    in-value (rset l) = refl
+    in-value (rrec e) = found-as (entryOf u e)
+
+  -- the walk is the path
+  abbrev walkedOut : Walked → NOut
+  walkedOut (Holds b) = truly b
+  walkedOut Failsʷ = fails
+  walkedOut (Left n k i) = stays
+
+  walk-link : (ts : List ℕ) (t n i : ℕ) → pathOut (S.envIn true a) (values a) ts t n ≡ walkedOut (walkFrom true a n i (t ∷ ts))
+  unfolding pathOut walkFrom lookAttr valueIn
+  walk-link [] t n i = in-value (λ o. truly (isSome o)) t (valueIn a n) ∙ go (lookAttr true a n t)
+    where
+      go : (l : Look) → lookAs (λ o. truly (isSome o)) l ≡ walkedOut (walkStep n i l true (λ x. walkFrom true a x (suc i) []))
+      go (Atˡ x) = refl
+      go Missing = refl
+      go (Unknownˡ k) = refl
+      go Bad = refl
+  walk-link (u ∷ us) t n i = in-value (λ o. onSome (truly false) o (pathOut (S.envIn true a) (values a) us u)) t (valueIn a n) ∙ go (lookAttr true a n t) (λ x. walk-link us u x (suc i))
+    where
+      go : (l : Look) → ((x : ℕ) → pathOut (S.envIn true a) (values a) us u x ≡ walkedOut (walkFrom true a x (suc i) (u ∷ us)))
+          → lookAs (λ o. onSome (truly false) o (pathOut (S.envIn true a) (values a) us u)) l ≡ walkedOut (walkStep n i l false (λ x. walkFrom true a x (suc i) (u ∷ us)))
+      go (Atˡ x) ih = ih x
+      go Missing ih = refl
+      go (Unknownˡ k) ih = refl
+      go Bad ih = refl
+
+  module _ (r : List ℕ) (v : ℕ) (p : List ℕ) (ep : p ≡ drop 3 r) where
+    -- a row without texts
+    pub path-none : (g : Given) → length p < 1 → outOf g ≡ L.hasOut true a v 0 → outOf g ≡ walkOut a r v
+    unfolding walkOut pathOut L.hasOut envIn S.envIn values valueIn
+    path-none g h e =
+        let len : length r ≤ 3 = omega (arith, h, ap length ep, length-drop 3 r) in
+        let few : drop 3 (items r) ≡ [] = drop-drop 3 1 r ∙ drop-of-length-le r {i = 4} (omega (arith, len)) in
+        let text : at r 2 ≡ 0 = List·getD-eq-default r 0 {n = 3} (omega (arith, len)) in
+        e ∙ rw (few, text)
+
+    path-is : 1 ≤ length p → walkOut a r v ≡ walkedOut (walkFrom true a v 0 p)
+    unfolding walkOut envIn S.envIn values
+    path-is h =
+        let len : 3 < length r = omega (arith, h, ap length ep, length-drop 3 r) in
+        let c : drop 3 r ≡ at r 2 ∷ drop 4 r = drop-cons r 3 0 len in
+        ap (λ (us : List ℕ). pathOut (S.envIn true a) (values a) us (at r 2) v) (drop-drop 3 1 r) ∙ walk-link (drop 4 r) (at r 2) v 0 ∙ ap (λ (q : List ℕ). walkedOut (walkFrom true a v 0 q)) (sym (ep ∙ c))
+
+    module _ (h : 1 ≤ length p) (w : Walked) (ew : w ≡ walkFrom true a v 0 p) where
+      pub path-holds : (x : Bool) → w ≡ Holds x → outOf (Boolᵍ x) ≡ walkOut a r v
+      path-holds x e = sym (path-is h ∙ ap walkedOut (sym ew ∙ e))
+
+      pub path-fails : w ≡ Failsʷ → outOf Fails ≡ walkOut a r v
+      path-fails e = sym (path-is h ∙ ap walkedOut (sym ew ∙ e))
+
+      pub path-left : (n k i : ℕ) → w ≡ Left n k i → outOf Stays ≡ walkOut a r v
+      path-left n k i e = sym (path-is h ∙ ap walkedOut (sym ew ∙ e))
+
+-- ---- a tag that is none of those before
+
+below : (t k : ℕ) → t < suc k → (t ≡ k → ⊥) → t < k
+below t k h n = omega arith
+
+from-here : (t : ℕ) → 27 ≤ t → t ≡ 27 + (t - 27)
+from-here t h = omega arith
+
+so-many : (t : ℕ) → 27 ≤ t → t < 32 → t - 27 < 5
+so-many t h l = omega arith
+
+the-last : (t : ℕ) → 46 ≤ t → t < 47 → 46 ≡ t
+the-last t h l = omega arith
+
+pub above : (t k : ℕ) → k ≤ t → (t ≡ k → ⊥) → suc k ≤ t
+above t k h n = omega arith
+
+-- ---- one operand, by the tag
+
+module _ (sheet a r : List ℕ) (t v : ℕ) (g : Given) where
+  pub one-is : (x : ℕ) → t ≡ 39 → x ≡ getD r 3 0 → outOf g ≡ isOut x (valueIn a v) → outOf g ≡ oneOut sheet t a r v
+  unfolding oneOut unOut isOut values valueIn
+  one-is x e ex h = h ∙ ap (λ (k : ℕ). isOut k (valueIn a v)) ex ∙ ap (λ (s : ℕ). oneOut sheet s a r v) (sym e)
+
+  pub one-like : t ≡ 40 → outOf g ≡ likeOut (textAt sheet a) (drop 3 r) (valueIn a v) → outOf g ≡ oneOut sheet t a r v
+  unfolding oneOut unOut likeOut values valueIn schemaIn
+  one-like e h =
+      let bytes : textAt sheet a ≡ schema (held sheet a []) .bytes = fun-ext (λ (x : ℕ). sym (bytes-link true a sheet [] x)) in
+      h ∙ ap (λ (f : ℕ → List ℕ). likeOut f (drop 3 r) (valueIn a v)) bytes ∙ ap (λ (p : List ℕ). likeOut (schema (held sheet a []) .bytes) p (valueIn a v)) (sym (drop-drop 2 1 r)) ∙ ap (λ (s : ℕ). oneOut sheet s a r v) (sym e)
+
+  pub one-get : (x : ℕ) → t ≡ 41 → x ≡ getD r 3 0 → outOf g ≡ L.getOut true a v x → outOf g ≡ oneOut sheet t a r v
+  unfolding oneOut getOut L.getOut values valueIn envIn S.envIn
+  one-get x e ex h = h ∙ ap (λ (k : ℕ). L.getOut true a v k) ex ∙ ap (λ (s : ℕ). oneOut sheet s a r v) (sym e)
+
+  pub one-has : (x : ℕ) → t ≡ 42 → x ≡ getD r 3 0 → outOf g ≡ L.hasOut true a v x → outOf g ≡ oneOut sheet t a r v
+  unfolding oneOut hasOut L.hasOut values valueIn envIn S.envIn
+  one-has x e ex h = h ∙ ap (λ (k : ℕ). L.hasOut true a v k) ex ∙ ap (λ (s : ℕ). oneOut sheet s a r v) (sym e)
+
+  pub one-path : t ≡ 43 → outOf g ≡ walkOut a r v → outOf g ≡ oneOut sheet t a r v
+  unfolding oneOut
+  one-path e h = h ∙ ap (λ (s : ℕ). oneOut sheet s a r v) (sym e)
+
+  pub one-not : t ≡ 44 → outOf g ≡ notOut (valueIn a v) → outOf g ≡ oneOut sheet t a r v
+  unfolding oneOut unOut notOut values valueIn
+  one-not e h = h ∙ ap (λ (s : ℕ). oneOut sheet s a r v) (sym e)
+
+  pub one-neg : t ≡ 45 → outOf g ≡ negOut (valueIn a v) → outOf g ≡ oneOut sheet t a r v
+  unfolding oneOut unOut negOut values valueIn
+  one-neg e h = h ∙ ap (λ (s : ℕ). oneOut sheet s a r v) (sym e)
+
+  pub one-empty : (39 ≤ t) × (t < 47) → (t ≡ 39 → ⊥) → (t ≡ 40 → ⊥) → (t ≡ 41 → ⊥) → (t ≡ 42 → ⊥) → (t ≡ 43 → ⊥) → (t ≡ 44 → ⊥) → (t ≡ 45 → ⊥)
+      → outOf g ≡ emptyOut (valueIn a v) → outOf g ≡ oneOut sheet t a r v
+  unfolding oneOut unOut emptyOut values valueIn
+  one-empty b n₁ n₂ n₃ n₄ n₅ n₆ n₇ h = let e : 46 ≡ t = the-last t (above t 45 (above t 44 (above t 43 (above t 42 (above t 41 (above t 40 (above t 39 (b .0) n₁) n₂) n₃) n₄) n₅) n₆) n₇) (b .1) in h ∙ ap (λ (s : ℕ). oneOut sheet s a r v) e
+
+-- ---- two operands
+
+module _ (a : List ℕ) (t v w : ℕ) (g : Given) where
+  pub two-eq : t ≡ 26 → outOf g ≡ truly (eqb v w) → outOf g ≡ twoOut t a v w
+  unfolding twoOut binOut
+  two-eq e h = h ∙ ap (λ (s : ℕ). twoOut s a v w) (sym e)
+
+  pub two-in : t ≡ 32 → outOf g ≡ inOut true a v w → outOf g ≡ twoOut t a v w
+  unfolding twoOut relOut inOut values valueIn envIn S.envIn
+  two-in e h = h ∙ ap (λ (s : ℕ). twoOut s a v w) (sym e)
+
+  pub two-gettag : t ≡ 33 → outOf g ≡ gettagOut true a v w → outOf g ≡ twoOut t a v w
+  unfolding twoOut relOut gettagOut values valueIn envIn S.envIn
+  two-gettag e h = h ∙ ap (λ (s : ℕ). twoOut s a v w) (sym e)
+
+  pub two-hastag : t ≡ 34 → outOf g ≡ hastagOut true a v w → outOf g ≡ twoOut t a v w
+  unfolding twoOut relOut hastagOut values valueIn envIn S.envIn
+  two-hastag e h = h ∙ ap (λ (s : ℕ). twoOut s a v w) (sym e)
+
+  pub two-contains : t ≡ 35 → outOf g ≡ containsOut w (valueIn a v) → outOf g ≡ twoOut t a v w
+  unfolding twoOut binOut containsOut values valueIn
+  two-contains e h = h ∙ ap (λ (s : ℕ). twoOut s a v w) (sym e)
+
+  pub two-all : t ≡ 36 → outOf g ≡ allOut (valueIn a v) (valueIn a w) → outOf g ≡ twoOut t a v w
+  unfolding twoOut binOut allOut values valueIn
+  two-all e h = h ∙ ap (λ (s : ℕ). twoOut s a v w) (sym e)
+
+  pub two-any : t ≡ 37 → outOf g ≡ anyOut (valueIn a v) (valueIn a w) → outOf g ≡ twoOut t a v w
+  unfolding twoOut binOut anyOut values valueIn
+  two-any e h = h ∙ ap (λ (s : ℕ). twoOut s a v w) (sym e)
+
+  longs : (i : ℕ) → i < 5 → arithOut (27 + i) (valueIn a v) (valueIn a w) ≡ twoOut (27 + i) a v w
+  unfolding twoOut binOut arithOut longsOut values valueIn
+  longs zero h = refl
+  longs (suc zero) h = refl
+  longs (suc (suc zero)) h = refl
+  longs (suc (suc (suc zero))) h = refl
+  longs (suc (suc (suc (suc zero)))) h = refl
+  longs (suc (suc (suc (suc (suc i))))) h = absurd (omega (arith, h))
+
+  pub two-arith : (26 ≤ t) × (t < 38) → (t ≡ 26 → ⊥) → (t ≡ 32 → ⊥) → (t ≡ 33 → ⊥) → (t ≡ 34 → ⊥) → (t ≡ 35 → ⊥) → (t ≡ 36 → ⊥) → (t ≡ 37 → ⊥)
+      → outOf g ≡ arithOut t (valueIn a v) (valueIn a w) → outOf g ≡ twoOut t a v w
+  two-arith b n₁ n₂ n₃ n₄ n₅ n₆ n₇ h =
+      let lo = above t 26 (b .0) n₁ in
+      let hi = below t 32 (below t 33 (below t 34 (below t 35 (below t 36 (below t 37 (b .1) n₇) n₆) n₅) n₄) n₃) n₂ in
+      let e : t ≡ 27 + (t - 27) = from-here t lo in
+      h ∙ ap (λ (s : ℕ). arithOut s (valueIn a v) (valueIn a w)) e ∙ longs (t - 27) (so-many t lo hi) ∙ ap (λ (s : ℕ). twoOut s a v w) (sym e)

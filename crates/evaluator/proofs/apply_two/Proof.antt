@@ -1,0 +1,11 @@
+-- `evaluator::apply_two` meets its contract. Assumes nothing.
+use Rattle.evaluator.proofs.Settles.{settle-as}
+use borrow.Author.Needs.{needs}
+use Rattle.evaluator.proofs.apply_two.Statement.{statement}
+use Rattle.evaluator.proofs.apply_two.Tie as tie
+
+returns : tie.Need-returns
+returns c = search (settle-as, needs)
+
+pub apply-two-spec : {M : Type 1} → statement M
+apply-two-spec = tie.close (tie.spec (λ c κs. search needs) (λ c κs. search needs) (λ c. search needs) returns)

@@ -1,0 +1,107 @@
+-- The step of a node by its tag, as the code takes it apart. Assumes nothing.
+use mathlib.Core.Path.{_≡_, refl, sym, ap, _∙_, subst}
+use mathlib.Core.List.{List, [], _∷_}
+use Prim.Native.Nat.{ℕ, zero, suc, _+_, _-_, _≤_, _<_}
+use native.Mathlib.Omega.{arith}
+use native.Mathlib.Nat.{div-one}
+use lib.Dec.{eqb}
+use lib.ListN.{length, getD, List·getD-eq-default}
+use Rattle.sheet.specs.Forms.{partial, tag, at}
+use Rattle.tpe.specs.Run.{O, Rec, Step, steps, left, nodeIn, litStep, errStep, varStep, lazyStep, ifStep, binStep, relStep, unStep, getStep, hasStep, pathStep, setStep, recStep, envIn, varFor, stepWith, stepOf, interpOf}
+use Rattle.tpe.specs.Steps.{oneAt, twoAt, manyAt}
+use Rattle.interpret.specs.Nodes.{stepBy, leafOf, firstIn, branchIn, pairBy, pairIn, groupOf}
+
+module _ (sheet : List ℕ) (f : Rec) (a l : List ℕ) (n : ℕ) where
+  abbrev r : List ℕ
+  r = nodeIn a n
+
+  abbrev o : O
+  o = f a l (at r 1)
+
+  -- a fact of k more than a number is one of every number from there on
+  from : (P : ℕ → Type 0) (m t : ℕ) → m ≤ t → P (m + (t - m)) → P t
+  from P m t h p = let e : m + (t - m) ≡ t = omega arith in subst P e p
+
+  first-from : (k : ℕ) → k < 2 → stepBy partial sheet (24 + k) f a l n ≡ firstIn (eqb (24 + k) 25) f (length l) n o
+  unfolding stepBy lazyStep firstIn
+  first-from zero h = refl
+  first-from (suc zero) h = refl
+  first-from (suc (suc k)) h = absurd (omega (arith, h))
+
+  pub first-step : (t : ℕ) → 24 ≤ t → t < 26 → stepBy partial sheet t f a l n ≡ firstIn (eqb t 25) f (length l) n o
+  first-step t h k = from (λ x. stepBy partial sheet x f a l n ≡ firstIn (eqb x 25) f (length l) n o) 24 t h (first-from (t - 24) (omega arith))
+
+  pair-from : (k : ℕ) → k < 12 → stepBy partial sheet (26 + k) f a l n ≡ pairIn partial sheet (26 + k) f (length l) n o
+  unfolding stepBy pairIn pairBy twoAt binStep relStep
+  pair-from zero h = refl
+  pair-from (suc zero) h = refl
+  pair-from (suc (suc zero)) h = refl
+  pair-from (suc (suc (suc zero))) h = refl
+  pair-from (suc (suc (suc (suc zero)))) h = refl
+  pair-from (suc (suc (suc (suc (suc zero))))) h = refl
+  pair-from (suc (suc (suc (suc (suc (suc zero)))))) h = refl
+  pair-from (suc (suc (suc (suc (suc (suc (suc zero))))))) h = refl
+  pair-from (suc (suc (suc (suc (suc (suc (suc (suc zero)))))))) h = refl
+  pair-from (suc (suc (suc (suc (suc (suc (suc (suc (suc zero))))))))) h = refl
+  pair-from (suc (suc (suc (suc (suc (suc (suc (suc (suc (suc zero)))))))))) h = refl
+  pair-from (suc (suc (suc (suc (suc (suc (suc (suc (suc (suc (suc zero))))))))))) h = refl
+  pair-from (suc (suc (suc (suc (suc (suc (suc (suc (suc (suc (suc (suc k)))))))))))) h = absurd (omega (arith, h))
+
+  pub pair-step : (t : ℕ) → 26 ≤ t → t < 38 → stepBy partial sheet t f a l n ≡ pairIn partial sheet t f (length l) n o
+  pair-step t h k = from (λ x. stepBy partial sheet x f a l n ≡ pairIn partial sheet x f (length l) n o) 26 t h (pair-from (t - 26) (omega arith))
+
+  pub branch-step : (t : ℕ) → 38 ≤ t → t < 39 → stepBy partial sheet t f a l n ≡ branchIn f (length l) n o
+  unfolding stepBy ifStep branchIn
+  branch-step t h k = let e : t ≡ 38 = omega arith in rw e
+
+  one-from : (k : ℕ) → k < 8 → stepBy partial sheet (39 + k) f a l n ≡ oneAt partial sheet (39 + k) (length l) n (nodeIn (o .words) n) o
+  unfolding stepBy oneAt unStep getStep hasStep pathStep
+  one-from zero h = refl
+  one-from (suc zero) h = refl
+  one-from (suc (suc zero)) h = refl
+  one-from (suc (suc (suc zero))) h = refl
+  one-from (suc (suc (suc (suc zero)))) h = refl
+  one-from (suc (suc (suc (suc (suc zero))))) h = refl
+  one-from (suc (suc (suc (suc (suc (suc zero)))))) h = refl
+  one-from (suc (suc (suc (suc (suc (suc (suc zero))))))) h = refl
+  one-from (suc (suc (suc (suc (suc (suc (suc (suc k)))))))) h = absurd (omega (arith, h))
+
+  pub one-step : (t : ℕ) → 39 ≤ t → t < 47 → stepBy partial sheet t f a l n ≡ oneAt partial sheet t (length l) n (nodeIn (o .words) n) o
+  one-step t h k = from (λ x. stepBy partial sheet x f a l n ≡ oneAt partial sheet x (length l) n (nodeIn (o .words) n) o) 39 t h (one-from (t - 39) (omega arith))
+
+  pub set-step : (t : ℕ) → t ≡ 47 → stepBy partial sheet t f a l n ≡ groupOf partial sheet t 1 f a l n
+  unfolding stepBy groupOf manyAt setStep
+  set-step t e = rw (e, div-one (length r - 2))
+
+  pub record-step : (t : ℕ) → t ≡ 48 → stepBy partial sheet t f a l n ≡ groupOf partial sheet t 2 f a l n
+  unfolding stepBy groupOf manyAt recStep
+  record-step t e = rw e
+
+  leaf-from : (k : ℕ) → k < 3
+      → getD (litStep partial [] ∷ errStep partial [] ∷ varStep partial [] ∷ []) k (errStep partial []) (λ a l n. left a l) a l n r ≡ getD (steps partial sheet) k (errStep partial sheet) f a l n r
+  unfolding litStep errStep varStep varFor envIn
+  leaf-from zero h = refl
+  leaf-from (suc zero) h = refl
+  leaf-from (suc (suc zero)) h = refl
+  leaf-from (suc (suc (suc k))) h = absurd (omega (arith, h))
+
+  pub leaf-step : (t : ℕ) → t < 24 → leafOf partial [] t a l n ≡ stepBy partial sheet t f a l n
+  unfolding stepBy leafOf
+  leaf-step t h = leaf-from (t - 21) (omega arith)
+
+  pub other-step : (t : ℕ) → 47 ≤ t → (t ≡ 47 → ⊥) → (t ≡ 48 → ⊥) → leafOf partial [] t a l n ≡ stepBy partial sheet t f a l n
+  unfolding stepBy leafOf errStep
+  other-step t h i j =
+      let k : 28 ≤ t - 21 = beyond t h i j in
+      ap (λ (q : Step partial []). q (λ a l n. left a l) a l n r) (List·getD-eq-default (litStep partial [] ∷ errStep partial [] ∷ varStep partial [] ∷ []) (errStep partial []) {n = t - 21} (omega arith))
+      ∙ sym (ap (λ (q : Step partial sheet). q f a l n r) (List·getD-eq-default (steps partial sheet) (errStep partial sheet) {n = t - 21} k))
+    where
+      beyond : (t : ℕ) → 47 ≤ t → (t ≡ 47 → ⊥) → (t ≡ 48 → ⊥) → 28 ≤ t - 21
+      beyond t h i j = omega (arith, h, i, j)
+
+-- ---- levels
+
+pub by-level : (sheet a l : List ℕ) (d n t : ℕ) → (d ≡ 0 → ⊥) → t ≡ tag (nodeIn a n) → interpOf partial sheet d a l n ≡ stepBy partial sheet t (interpOf partial sheet (d - 1)) a l n
+unfolding interpOf stepOf stepWith stepBy
+by-level sheet a l zero n t h e = absurd (h refl)
+by-level sheet a l (suc d) n t h e = let z : suc d - 1 ≡ d = omega arith in rw (z, e)

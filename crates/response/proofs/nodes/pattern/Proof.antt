@@ -1,0 +1,44 @@
+-- `response::nodes::pattern` meets its contract. Assumes nothing.
+use Rattle.print.proofs.Writing.{written-length}
+use Prim.Native.Nat.{_-_}
+use lib.ListN.{length, drop}
+use Rattle.response.specs.Values.{after}
+use Rattle.response.specs.Nodes.{pieces}
+use Rattle.response.proofs.Made.{Along}
+use Rattle.response.proofs.NodeLines.{pattern-start, pattern-on, pattern-end}
+use borrow.Author.Needs.{needs}
+use Rattle.response.proofs.nodes.pattern.Statement.{statement}
+use Rattle.response.proofs.nodes.pattern.Tie as tie
+
+abbrev Inv-loop : tie.InvT-loop
+Inv-loop out₀ at l i₀ k₀ out i k = Along (after (pieces l)) (after (pieces (drop i l))) out₀ at out k i (length l)
+
+abbrev μ-loop : tie.MeasureT-loop
+μ-loop out₀ at l i₀ k₀ out i k = length l - i
+
+loop-holds : tie.Need-loop-holds Inv-loop μ-loop
+loop-holds c = let x = c .before .before .args in pattern-start (x .l .now) (x .out .now) (x .at) (search needs) (search needs)
+
+loop-again : tie.Need-loop-again Inv-loop μ-loop
+loop-again c = search (pattern-on, needs)
+
+same-length : tie.Need-same-length Inv-loop μ-loop
+same-length c = written-length (c .before .loop .inv .print .written)
+
+returns : tie.Need-returns Inv-loop μ-loop
+returns c = search (pattern-end, needs)
+
+pub pattern-spec : {M : Type 1} → statement M
+pattern-spec =
+    tie.close
+    (tie.spec
+    Inv-loop
+    μ-loop
+    loop-holds
+    (λ c κs. search needs)
+    (λ c κs. search needs)
+    (λ c. search needs)
+    (λ c. search needs)
+    loop-again
+    same-length
+    returns)

@@ -1,0 +1,38 @@
+-- `tpe::steps::worked_two` meets its contract. Assumes nothing.
+use Rattle.tpe.proofs.Worked.{two-values, two-error, two-open}
+use borrow.Author.Needs.{needs}
+use Rattle.tpe.proofs.steps.worked_two.Statement.{statement}
+use Rattle.tpe.proofs.steps.worked_two.Tie as tie
+
+returns : tie.Need-returns
+returns c = search two-values
+
+returns-2 : tie.Need-returns-2
+returns-2 c = search two-error
+
+returns-3 : tie.Need-returns-3
+returns-3 c = search two-open
+
+pub worked-two-spec : {M : Type 1} → statement M
+worked-two-spec =
+    tie.close
+    (tie.spec
+    (λ c κs. search needs)
+    (λ c κs. search needs)
+    (λ c κs. search needs)
+    (λ c. search needs)
+    (λ c κs. search needs)
+    (λ c κs. search needs)
+    (λ c. search needs)
+    (λ c κs. search needs)
+    (λ c. search needs)
+    (λ c κs. search needs)
+    (λ c. search needs)
+    (λ c. search needs)
+    returns
+    (λ c. search needs)
+    (λ c. search needs)
+    returns-2
+    (λ c. search needs)
+    (λ c. search needs)
+    returns-3)

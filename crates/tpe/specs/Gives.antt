@@ -1,0 +1,101 @@
+-- What the parts of a step give: the operation and the type rule of a node by its tag t, over the words a.
+use mathlib.Core.Path.{_≡_}
+use mathlib.Core.Bool.{Bool, true, false}
+use mathlib.Core.Option.{Option, none}
+use mathlib.Core.List.{List, [], _∷_}
+use Prim.Native.Nat.{ℕ, _-_, _≤_, _<_}
+use lib.ListN.{getD, drop}
+use Rattle.cedar.specs.Residual.{unot, uneg, uempty, uis, ulike, beq, blt, ble, badd, bsub, bmul, bcontains, ball, bany, rin, rgettag, rhastag}
+use Rattle.cedar.specs.TypeRules.{unRule, binRule, relRule, hasRule}
+use Rattle.cedar.specs.Numbered.{Give, old, NOut, nUn, nBin, nRel, nGet, nHas}
+use Rattle.sheet.specs.Forms.{partial, items, at}
+use Rattle.sheet.specs.Content.{known, rowsIn, patternOf}
+use Rattle.value.specs.Lines.{valueLines}
+use Rattle.value.specs.Made.{setRow, recordRow}
+use Rattle.residual.specs.declared.Stage.{Stage}
+use Rattle.residual.specs.declared.Stage.the-variants.{Value, Error, Open}
+use Rattle.rules.specs.Rules.{schemaAt, tyAt}
+use Rattle.strict.specs.declared.entity.Walked.{Walked}
+use Rattle.strict.specs.declared.entity.Walked.the-variants.{Holds, Fails, Left}
+use Rattle.tpe.specs.Run.{schemaIn, envIn, valueIn, Walk, lost, says, stuck}
+use Rattle.tpe.specs.declared.steps.Pair.{Pair}
+use Rattle.tpe.specs.declared.steps.Pair.the-variants.{Values, Error as Errorᵖ, Open as Openᵖ}
+
+-- a type rule decides only where no operand can err
+abbrev pub unlessErr : Bool → Option Bool → Option Bool
+unlessErr true q = none
+unlessErr false q = q
+
+-- the context, by its line
+abbrev pub contextGiven : List ℕ → Option Give
+contextGiven r = known (at r 1) (old (at r 1))
+
+-- the words of a set or record: r is the node's row, rows are those of its children
+unfoldable pub manyRow : ℕ → List ℕ → List ℕ → List ℕ
+manyRow t r rows = getD (setRow rows ∷ []) (t - 47) (recordRow r rows)
+
+-- ---- one operand: r is the node's row, v the operand's value, y its type; a path stands apart
+
+abbrev pub oneGives : List ℕ → List ℕ → List ℕ → ℕ → List NOut
+oneGives sheet a r v =
+    nUn (schemaIn partial sheet a) (uis (at r 2)) (valueIn partial sheet a v)
+    ∷ nUn (schemaIn partial sheet a) (ulike (patternOf (drop 2 (items r)))) (valueIn partial sheet a v)
+    ∷ nGet (envIn partial sheet a) (rowsIn (valueLines a)) (at r 2) (valueIn partial sheet a v)
+    ∷ nHas (envIn partial sheet a) (rowsIn (valueLines a)) (at r 2) (valueIn partial sheet a v)
+    ∷ nUn (schemaIn partial sheet a) uempty (valueIn partial sheet a v)
+    ∷ nUn (schemaIn partial sheet a) unot (valueIn partial sheet a v)
+    ∷ nUn (schemaIn partial sheet a) uneg (valueIn partial sheet a v)
+    ∷ []
+
+unfoldable pub oneGive : List ℕ → ℕ → List ℕ → List ℕ → ℕ → NOut
+oneGive sheet t a r v = getD (oneGives sheet a r v) (t - 39) (nUn (schemaIn partial sheet a) uempty (valueIn partial sheet a v))
+
+unfoldable pub oneRule : ℕ → List ℕ → List ℕ → ℕ → Option Bool
+oneRule t a r y = getD (unRule (schemaAt a) (uis (at r 2)) (tyAt a y) ∷ none ∷ none ∷ hasRule (schemaAt a) (at r 2) (tyAt a y) ∷ []) (t - 39) none
+
+-- ---- two operands, of values v and w and types y and z
+
+abbrev pub twoGives : List ℕ → ℕ → ℕ → List NOut
+twoGives a v w =
+    nBin beq v w (valueIn partial [] a v) (valueIn partial [] a w)
+    ∷ nBin blt v w (valueIn partial [] a v) (valueIn partial [] a w)
+    ∷ nBin ble v w (valueIn partial [] a v) (valueIn partial [] a w)
+    ∷ nBin badd v w (valueIn partial [] a v) (valueIn partial [] a w)
+    ∷ nBin bsub v w (valueIn partial [] a v) (valueIn partial [] a w)
+    ∷ nBin bmul v w (valueIn partial [] a v) (valueIn partial [] a w)
+    ∷ nRel (envIn partial [] a) (rowsIn (valueLines a)) rin v w (valueIn partial [] a v) (valueIn partial [] a w)
+    ∷ nRel (envIn partial [] a) (rowsIn (valueLines a)) rgettag v w (valueIn partial [] a v) (valueIn partial [] a w)
+    ∷ nRel (envIn partial [] a) (rowsIn (valueLines a)) rhastag v w (valueIn partial [] a v) (valueIn partial [] a w)
+    ∷ nBin bcontains v w (valueIn partial [] a v) (valueIn partial [] a w)
+    ∷ nBin ball v w (valueIn partial [] a v) (valueIn partial [] a w)
+    ∷ []
+
+unfoldable pub twoGive : ℕ → List ℕ → ℕ → ℕ → NOut
+twoGive t a v w = getD (twoGives a v w) (t - 26) (nBin bany v w (valueIn partial [] a v) (valueIn partial [] a w))
+
+unfoldable pub twoRule : ℕ → List ℕ → ℕ → ℕ → Option Bool
+twoRule t a y z =
+    getD (binRule (schemaAt a) beq (tyAt a y) (tyAt a z) ∷ none ∷ none ∷ none ∷ none ∷ none ∷ relRule (schemaAt a) rin (tyAt a y) (tyAt a z) ∷ none ∷ relRule (schemaAt a) rhastag (tyAt a y) (tyAt a z) ∷ [])
+    (t - 26) none
+
+-- how far both are worked
+abbrev pub pairOf : Stage → Stage → Pair
+pairOf (Value v) (Value w) = Values v w
+pairOf (Value v) Error = Errorᵖ
+pairOf (Value v) Open = Openᵖ
+pairOf Error s = Errorᵖ
+pairOf Open (Value w) = Openᵖ
+pairOf Open Error = Errorᵖ
+pairOf Open Open = Openᵖ
+
+-- ---- a path
+
+abbrev pub walkIn : Walked → Walk
+walkIn (Holds b) = says b
+walkIn Fails = lost
+walkIn (Left v k j) = stuck j v k
+
+-- k is the number j of steps, for a row of so many words, and room is left for a row's word
+pub record Taken (len j k : ℕ) : Type 0 where
+  pub is : j ≤ len - 4 → k ≡ j
+  pub low : k < 4294967294

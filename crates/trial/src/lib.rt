@@ -1,0 +1,150 @@
+// Calls tried by running: records from standard input, slices and buffers that hold a mark before a call and are looked at after it.
+use authorizer::Returned;
+use authorizer::complete;
+use authorizer::partial;
+use scan::rest;
+use words::cut;
+ghost use mathlib.Core.Path.{_≡_};
+ghost use mathlib.Core.Bool.{cond};
+ghost use Prim.Native.Nat.{_≤_};
+ghost use lib.ListN.{length, drop};
+ghost use Rattle.authorizer.specs.Called.{Called};
+ghost use Rattle.trial.specs.Lent.{marks, entryOf, every, wordsKept, Taken};
+
+// What stands in every lent word and byte before a call.
+const MARK: u8 = 165;
+
+// ---- reading: what stands on standard input is free
+
+// The next byte, 0 after the last.
+fn next() -> u8 {
+    let mut b = [0u8; 1];
+    io::read_full(0, &mut b);
+    b[0]
+}
+
+// The next number, of at most seven digits, with the byte after it.
+pub fn number() -> usize
+    ensures { λ r. ⌜ r ≤ 9999999 ⌝ }
+{
+    let mut n: usize = 0;
+    let mut i: u32 = 0;
+    while i < 8 {
+        let b = next();
+        if b < 48 {
+            return n;
+        }
+        if b > 57 {
+            return n;
+        }
+        if n > 999999 {
+            return n;
+        }
+        n = n * 10 + (b - 48) as usize;
+        i += 1;
+    }
+    n
+}
+
+// The next n bytes, at the start of the space.
+pub fn take(space: &mut [u8], n: usize)
+    ensures { λ _. ⌜ Taken (now (space .entry)) n (now (space .exit)) ⌝ }
+{
+    if n <= space.len() {
+        io::read_full(0, &mut space[0..n]);
+    }
+}
+
+// ---- the call
+
+// The mark in every word.
+fn mark_words(w: &mut [u32])
+    ensures { λ _. ⌜ now (w .exit) ≡ marks (length (now (w .entry))) ⌝ }
+{
+    let mut i = 0;
+    while i < w.len() {
+        w[i] = MARK as u32;
+        i += 1;
+    }
+}
+
+// The mark in every byte.
+fn mark_bytes(out: &mut [u8])
+    ensures { λ _. ⌜ now (out .exit) ≡ marks (length (now (out .entry))) ⌝ }
+{
+    let mut i = 0;
+    while i < out.len() {
+        out[i] = MARK;
+        i += 1;
+    }
+}
+
+// The call of an entry, 0 partial and 1 complete, in marked slices.
+pub fn call(entry: usize, sheet: &[u8], a: &mut [u32], b: &mut [u32], out: &mut [u8]) -> Returned
+    ensures { λ r. ⌜ Called (entryOf entry) (now (sheet .entry)) (marks (length (now (a .entry)))) (marks (length (now (b .entry)))) (marks (length (now (out .entry)))) (r .number) (r .line) (r .length) (now (out .exit)) (now (a .exit)) (now (b .exit)) ⌝ }
+{
+    mark_words(a);
+    mark_words(b);
+    mark_bytes(out);
+    if entry == 1 {
+        return complete(sheet, a, b, out);
+    }
+    partial(sheet, a, b, out)
+}
+
+// ---- what came back
+
+// Whether every word is x.
+fn every_word(w: &[u32], x: u32) -> bool
+    ensures { λ r. ⌜ r ≡ every x (now (w .entry)) ⌝ }
+{
+    let mut i = 0;
+    while i < w.len() {
+        if w[i] != x {
+            return false;
+        }
+        i += 1;
+    }
+    true
+}
+
+// Whether every byte is x.
+fn every_byte(s: &[u8], x: u8) -> bool
+    ensures { λ r. ⌜ r ≡ every x (now (s .entry)) ⌝ }
+{
+    let mut i = 0;
+    while i < s.len() {
+        if s[i] != x {
+            return false;
+        }
+        i += 1;
+    }
+    true
+}
+
+// Whether a marked work slice came back as promised, after a call that returned a number.
+pub fn words_kept(number: u32, w: &[u32]) -> bool
+    ensures { λ r. ⌜ r ≡ wordsKept number (now (w .entry)) ⌝ }
+{
+    if number == 1 {
+        return every_word(w, MARK as u32);
+    }
+    if !every_word(cut(w, 0, 16384), 0) {
+        return false;
+    }
+    every_word(cut(w, 16384, w.len()), MARK as u32)
+}
+
+// How many bytes of the buffer have changed.
+pub fn written(accepted: bool, length: usize) -> usize
+    ensures { λ r. ⌜ r ≡ cond accepted length 0 ⌝ }
+{
+    if accepted { length } else { 0 }
+}
+
+// Whether the bytes of a marked buffer from a place on are as they were.
+pub fn bytes_kept(out: &[u8], from: usize) -> bool
+    ensures { λ r. ⌜ r ≡ every 165 (drop from (now (out .entry))) ⌝ }
+{
+    every_byte(rest(out, from), MARK)
+}

@@ -1,0 +1,57 @@
+/*
+ * openrules: a partial evaluator for Cedar policies, proved.
+ *
+ * Each call takes a sheet, two work slices and an answer buffer, each as a pointer and a length, and returns a number; the line
+ * and the length go where the last two pointers say. README.md has the table of numbers:
+ *
+ *   0, 0, written     accepted: the first `*length` bytes of `out` are the answer
+ *   1, 0, 0           a work slice has under OPENRULES_WORDS words
+ *   2, 0, 0           the sheet has over OPENRULES_SHEET bytes
+ *   3 to 8, line, 0   the sheet is faulty, first at that line
+ *   9, 0, 0           too many values (this cannot arise)
+ *   10, 0, needed     the answer buffer is shorter than the answer
+ *
+ * After 1 the work slices are untouched, otherwise their first 16,384 words are 0 and the rest untouched. The answer
+ * buffer changes only in the bytes written. Nothing is kept between calls, so calls in slices of their own may run at the same time.
+ *
+ * What the caller owes: every pointer is valid for its length and aligned for its type, also where the length is 0 (then any
+ * pointer that is not null and aligned will do); no two of the slices, the buffer, `line` and `length` overlap, and nothing writes to
+ * them during the call. What they hold is free, no length is too short or too long: the calls ask nothing else.
+ *
+ * To link: `rt staticlib ffi` writes target/staticlib/libffi.a, for x86-64 Linux.
+ */
+#ifndef OPENRULES_H
+#define OPENRULES_H
+
+#include <stddef.h>
+#include <stdint.h>
+
+#ifdef __cplusplus
+extern "C" {
+#endif
+
+/* The words that each work slice must have. */
+#define OPENRULES_WORDS 16384
+
+/* The bytes that a sheet may have. */
+#define OPENRULES_SHEET 16384
+
+/* The answer to a sheet that begins with the line `sheet=partial`. */
+uint32_t openrules_partial(const uint8_t *sheet, size_t sheet_len,
+                           uint32_t *first, size_t first_len,
+                           uint32_t *second, size_t second_len,
+                           uint8_t *out, size_t out_len,
+                           size_t *line, size_t *length);
+
+/* The answer to a sheet that begins with the line `sheet=complete`. */
+uint32_t openrules_complete(const uint8_t *sheet, size_t sheet_len,
+                            uint32_t *first, size_t first_len,
+                            uint32_t *second, size_t second_len,
+                            uint8_t *out, size_t out_len,
+                            size_t *line, size_t *length);
+
+#ifdef __cplusplus
+}
+#endif
+
+#endif

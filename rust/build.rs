@@ -1,0 +1,19 @@
+//! Links libffi.a, from the folder or file that OPENRULES_LIB names, else from the place where `rt staticlib ffi` writes it.
+
+use std::env;
+use std::path::PathBuf;
+
+fn main() {
+    println!("cargo:rerun-if-changed=build.rs");
+    println!("cargo:rerun-if-env-changed=OPENRULES_LIB");
+    let here = PathBuf::from(env::var("CARGO_MANIFEST_DIR").unwrap());
+    let place = env::var("OPENRULES_LIB").map(PathBuf::from).unwrap_or(here.join("../target/staticlib"));
+    let folder = if place.is_file() { place.parent().unwrap().to_path_buf() } else { place };
+    let library = folder.join("libffi.a");
+    if !library.is_file() {
+        panic!("libffi.a is not in {}: run `rt staticlib ffi` in the repository, or set OPENRULES_LIB.", folder.display());
+    }
+    println!("cargo:rerun-if-changed={}", library.display());
+    println!("cargo:rustc-link-search=native={}", folder.display());
+    println!("cargo:rustc-link-lib=static=ffi");
+}

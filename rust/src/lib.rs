@@ -1,0 +1,236 @@
+//! A partial evaluator for Cedar policies, proved: a safe crate over its static library.
+//!
+//! A *sheet* is a text of `key=value` lines with a schema, known values and entities, a request and policies. The answer says
+//! for each policy whether it is true, false, in error or open, what is left of it, and the decision. The library is written
+//! in Rattle, and every function of it is proved to meet its contract; the repository's README.md says what is proved and what is assumed.
+//!
+//! [`Evaluator`] keeps the slices that a call works in and gives an [`Outcome`]:
+//!
+//! ```
+//! use openrules::{Evaluator, Outcome};
+//!
+//! // No policy, so nothing permits: deny.
+//! let sheet = "sheet=partial
+//! text=Broker
+//! text=Action
+//! text=quote
+//! kind=0,e
+//! kind=1,a
+//! type=record
+//! shape=0,-
+//! shape=0,-
+//! principal=0,?
+//! action=1,2
+//! resource=0,?
+//! context=0,?
+//! ";
+//! let mut evaluator = Evaluator::new();
+//! match evaluator.partial(sheet.as_bytes()) {
+//!     Outcome::Answer(text) => assert_eq!(text, "decision=deny\ncounts=0,0,0,0,0,0,0,0\n"),
+//!     Outcome::Refused(refusal) => panic!("{refusal}"),
+//! }
+//! ```
+//!
+//! A faulty sheet is refused with a number, the line of the first fault and a length:
+//!
+//! ```
+//! use openrules::{Evaluator, Outcome, Refusal};
+//!
+//! let mut evaluator = Evaluator::new();
+//! let outcome = evaluator.partial(b"sheet=partial\ntext=Broker\ntext=Broker\n");
+//! assert_eq!(outcome, Outcome::Refused(Refusal { number: 5, line: 3, length: 0 }));
+//! ```
+//!
+//! [`partial`] and [`complete`] are the calls themselves, in slices of the caller's own; they allocate nothing.
+
+use std::error::Error;
+use std::fmt;
+
+/// The words that each work slice must have.
+pub const WORDS: usize = 16384;
+
+/// The bytes that a sheet may have.
+pub const SHEET: usize = 16384;
+
+extern "C" {
+    fn openrules_partial(
+        sheet: *const u8,
+        sheet_len: usize,
+        first: *mut u32,
+        first_len: usize,
+        second: *mut u32,
+        second_len: usize,
+        out: *mut u8,
+        out_len: usize,
+        line: *mut usize,
+        length: *mut usize,
+    ) -> u32;
+    fn openrules_complete(
+        sheet: *const u8,
+        sheet_len: usize,
+        first: *mut u32,
+        first_len: usize,
+        second: *mut u32,
+        second_len: usize,
+        out: *mut u8,
+        out_len: usize,
+        line: *mut usize,
+        length: *mut usize,
+    ) -> u32;
+}
+
+/// Why there is no answer: number, line and length, by the table of refusals.
+///
+/// ```
+/// let refusal = openrules::Refusal { number: 3, line: 1, length: 0 };
+/// assert_eq!(refusal.to_string(), "refused=3,1,0");
+/// ```
+#[derive(Clone, Copy, Debug, PartialEq, Eq)]
+pub struct Refusal {
+    /// 1 to 10.
+    pub number: u32,
+    /// The line of the first fault, counted from 1, for the numbers 3 to 8; else 0.
+    pub line: usize,
+    /// The bytes that the answer needs, for the number 10; else 0.
+    pub length: usize,
+}
+
+impl Refusal {
+    /// What the number means.
+    ///
+    /// ```
+    /// assert_eq!(openrules::Refusal { number: 6, line: 70, length: 0 }.meaning(), "depth over 64");
+    /// ```
+    pub fn meaning(&self) -> &'static str {
+        match self.number {
+            1 => "a work slice has under 16,384 words",
+            2 => "the sheet has over 16,384 bytes",
+            3 => "form, length, range, key, key order or item count wrong, `?` misplaced, or a line missing",
+            4 => "one line too many of a key",
+            5 => "a reference is absent, or a repeat, or wrong order",
+            6 => "depth over 64",
+            7 => "typing, request kind or shape",
+            8 => "a node is used twice or never",
+            9 => "a 2,049th value would be made",
+            10 => "the answer buffer is shorter than the answer",
+            _ => "no refusal",
+        }
+    }
+}
+
+impl fmt::Display for Refusal {
+    fn fmt(&self, f: &mut fmt::Formatter<'_>) -> fmt::Result {
+        write!(f, "refused={},{},{}", self.number, self.line, self.length)
+    }
+}
+
+impl Error for Refusal {}
+
+/// What a call gives: the text of the answer, or a refusal.
+#[derive(Clone, Copy, Debug, PartialEq, Eq)]
+pub enum Outcome<'a> {
+    /// The sheet is accepted, and this is its answer.
+    Answer(&'a str),
+    /// The sheet is refused, or what was lent is too short.
+    Refused(Refusal),
+}
+
+impl<'a> Outcome<'a> {
+    /// The same as a result, for `?`.
+    ///
+    /// ```
+    /// fn decision(sheet: &str) -> Result<String, openrules::Refusal> {
+    ///     let mut evaluator = openrules::Evaluator::new();
+    ///     let answer = evaluator.partial(sheet.as_bytes()).result()?;
+    ///     Ok(answer.lines().next().unwrap_or("").to_string())
+    /// }
+    /// assert_eq!(decision("sheet=complete\n").unwrap_err().number, 3);
+    /// ```
+    pub fn result(self) -> Result<&'a str, Refusal> {
+        match self {
+            Outcome::Answer(text) => Ok(text),
+            Outcome::Refused(refusal) => Err(refusal),
+        }
+    }
+}
+
+/// A C function of the library.
+type Entry =
+    unsafe extern "C" fn(*const u8, usize, *mut u32, usize, *mut u32, usize, *mut u8, usize, *mut usize, *mut usize) -> u32;
+
+/// One call of an entry in lent slices.
+fn call<'a>(entry: Entry, sheet: &[u8], first: &mut [u32], second: &mut [u32], out: &'a mut [u8]) -> Outcome<'a> {
+    let (mut line, mut length) = (0, 0);
+    // SAFETY: every pointer is that of a Rust slice with the length beside it, or of a local number; the borrows keep them
+    // apart and valid during the call. The library asks nothing else of its caller.
+    let number = unsafe {
+        entry(
+            sheet.as_ptr(),
+            sheet.len(),
+            first.as_mut_ptr(),
+            first.len(),
+            second.as_mut_ptr(),
+            second.len(),
+            out.as_mut_ptr(),
+            out.len(),
+            &mut line,
+            &mut length,
+        )
+    };
+    if number != 0 {
+        return Outcome::Refused(Refusal { number, line, length });
+    }
+    Outcome::Answer(std::str::from_utf8(&out[..length]).expect("an answer has bytes 10 and 32 to 126 alone"))
+}
+
+/// The answer to a partial sheet, in slices of the caller's own.
+///
+/// Both work slices must have [`WORDS`] words; what they hold does not matter. After number 1 they are untouched, otherwise
+/// their first 16,384 words are 0 and the rest untouched. Of `out` only the bytes of the answer change.
+///
+/// ```
+/// use openrules::{partial, Outcome, Refusal, WORDS};
+///
+/// let (mut first, mut second, mut out) = ([7; WORDS], [7; WORDS - 1], [7; 100]);
+/// let outcome = partial(b"sheet=partial\n", &mut first, &mut second, &mut out);
+/// assert_eq!(outcome, Outcome::Refused(Refusal { number: 1, line: 0, length: 0 }));
+/// assert_eq!(first, [7; WORDS]);
+/// ```
+pub fn partial<'a>(sheet: &[u8], first: &mut [u32], second: &mut [u32], out: &'a mut [u8]) -> Outcome<'a> {
+    call(openrules_partial, sheet, first, second, out)
+}
+
+/// The answer to a complete sheet, in slices of the caller's own, as [`partial`] is for a partial one.
+pub fn complete<'a>(sheet: &[u8], first: &mut [u32], second: &mut [u32], out: &'a mut [u8]) -> Outcome<'a> {
+    call(openrules_complete, sheet, first, second, out)
+}
+
+/// The slices that calls work in, kept from call to call.
+pub struct Evaluator {
+    first: Vec<u32>,
+    second: Vec<u32>,
+    out: Vec<u8>,
+}
+
+impl Evaluator {
+    /// Two work slices of 16,384 words, so that number 1 is never met, and an answer buffer of 65,536 bytes.
+    pub fn new() -> Evaluator {
+        Evaluator { first: vec![0; WORDS], second: vec![0; WORDS], out: vec![0; 65536] }
+    }
+
+    /// The answer to a partial sheet.
+    pub fn partial(&mut self, sheet: &[u8]) -> Outcome<'_> {
+        partial(sheet, &mut self.first, &mut self.second, &mut self.out)
+    }
+
+    /// The answer to a complete sheet.
+    pub fn complete(&mut self, sheet: &[u8]) -> Outcome<'_> {
+        complete(sheet, &mut self.first, &mut self.second, &mut self.out)
+    }
+}
+
+impl Default for Evaluator {
+    fn default() -> Evaluator {
+        Evaluator::new()
+    }
+}

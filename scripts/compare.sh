@@ -1,0 +1,21 @@
+#!/usr/bin/env bash
+# Compares the proved library with the original on random sheets: scripts/compare.sh [SHEETS [SEED]]
+# It needs cargo and the original's source, in OPENRULES_CEDAR_SRC or ../shared/docs/src. Status 0: no difference; 1: one;
+# 3: something that it needs is not there, and nothing was compared.
+set -eu
+cd "$(dirname "$0")/.."
+source=${OPENRULES_CEDAR_SRC:-../shared/docs/src}
+if ! command -v cargo >/dev/null; then
+    echo "cargo is not there: the library was not compared with the original"
+    exit 3
+fi
+if [ ! -d "$source/cedar-policy-core" ]; then
+    echo "the original's source is not in $source: the library was not compared with it"
+    exit 3
+fi
+OPENRULES_CEDAR_SRC=$(cd "$source" && pwd)
+export OPENRULES_CEDAR_SRC
+rt staticlib ffi
+cd host
+cargo build --release --offline --quiet --features library
+exec target/release/host compare "${1:-4000}" "${2:-1}"
