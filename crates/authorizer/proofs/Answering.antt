@@ -9,11 +9,11 @@ use lib.ListN.{length}
 use Rattle.sheet.specs.Forms.{Mode, partial, complete}
 use Rattle.sheet.specs.Sheet.{read}
 use Rattle.sheet.specs.Answer.{run, answer}
-use Rattle.sheet.specs.Call.{Returned, returns, fitted, afterReading, readAs, over, mostValues}
+use Rattle.sheet.specs.Call.{returns, fitted, afterReading, readAs, over, mostValues}
 use Rattle.sheet.proofs.NeverNine.{rows-at-most}
 use Rattle.line.specs.Codes.{modeOf}
 use Rattle.load.specs.Result.{Read}
-use Rattle.authorizer.specs.Called.{afterLengths, Answers, Holding, Runs}
+use Rattle.authorizer.specs.Parts.{afterLengths, Answers, Holding, Runs}
 use Rattle.authorizer.proofs.Sending.{gives-as}
 
 -- 2

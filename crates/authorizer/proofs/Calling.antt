@@ -1,5 +1,5 @@
 -- The call by its tests: a work slice too short, or the answer and the clearing. Assumes nothing.
-use mathlib.Core.Path.{_≡_, refl, sym, _∙_, ap, ap₂, subst}
+use mathlib.Core.Path.{_≡_, refl, sym, _∙_, ap, ap₂}
 use mathlib.Core.Bool.{Bool, true, false, cond, _||_}
 use mathlib.Core.List.{List, _++_}
 use Prim.Native.Nat.{ℕ, _≤_, _<_}
@@ -14,7 +14,8 @@ use Rattle.sheet.specs.Forms.{Mode}
 use Rattle.sheet.specs.Sheet.{read}
 use Rattle.sheet.specs.Answer.{answer}
 use Rattle.sheet.specs.Call.{Returned, returns, room, returned, over, written, zeros, worked}
-use Rattle.authorizer.specs.Called.{Called, afterLengths, Answers}
+use Rattle.authorizer.specs.Called.{Called}
+use Rattle.authorizer.specs.Parts.{afterLengths, Answers}
 use Rattle.words.specs.Log as L
 
 -- ---- the tests of lengths

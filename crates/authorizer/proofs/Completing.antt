@@ -6,7 +6,7 @@ use native.Mathlib.Omega.{arith}
 use lib.ListN.{take}
 use Rattle.words.specs.Log.{part}
 use Rattle.cedar.specs.Residual.{Class, ctrue, cfalse, cerror, copen, Expr}
-use Rattle.cedar.specs.Response.{Effect, Verdict}
+use Rattle.cedar.specs.Response.{Verdict}
 use Rattle.cedar.specs.Types.{Schema}
 use Rattle.cedar.specs.Entities.{Env}
 use Rattle.cedar.specs.Runs.{completeAnswer}
@@ -23,7 +23,7 @@ use Rattle.response.proofs.Printing.{complete-held}
 use Rattle.evaluator.specs.Run.{classNumber, classNumbers, runOf}
 use Rattle.evaluator.specs.Gave.{Done}
 use Rattle.evaluator.proofs.Complete.{complete-run, complete-hold}
-use Rattle.authorizer.specs.Called.{Holding, Sends, Runs}
+use Rattle.authorizer.specs.Parts.{Holding, Sends, Runs}
 
 -- ---- classes by their numbers
 

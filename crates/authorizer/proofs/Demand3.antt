@@ -1,5 +1,5 @@
 -- DEMAND 3 FOR THE CALLS: three runs, each in whatever work slices and answer buffer it was lent. Assumes nothing.
-use mathlib.Core.Path.{_≡_, sym, _∙_, ap, ap₂, subst}
+use mathlib.Core.Path.{_≡_, sym, _∙_, ap₂, subst}
 use mathlib.Core.Bool.{true}
 use mathlib.Core.List.{List}
 use Prim.Native.Nat.{ℕ}

@@ -1,10 +1,10 @@
 -- The partial answer: what is printed of the run over words is what the definition says. Assumes nothing.
 use mathlib.Core.Path.{_≡_, refl, sym, _∙_, ap, ap₂, subst}
 use mathlib.Core.List.{List, [], _∷_}
-use Prim.Native.Nat.{ℕ, zero, suc, _+_, _-_, _≤_, _<_}
+use Prim.Native.Nat.{ℕ, zero, suc, _+_, _≤_, _<_}
 use native.Mathlib.Omega.{arith}
-use lib.ListN.{length, getD, take, drop, length-append, take-append-drop}
-use lib.Seq.{length-take-le, getD-take, take-take}
+use lib.ListN.{length, getD, take, drop, length-take}
+use lib.Seq.{getD-take}
 use Rattle.words.specs.Log.{part}
 use Rattle.cedar.specs.Residual.{Node, Class, ctrue, cfalse, cerror, copen}
 use Rattle.cedar.specs.Runs.{NVerdict, Run, verdicts}
@@ -13,7 +13,7 @@ use Rattle.sheet.specs.State.{State}
 use Rattle.sheet.specs.Sheet.{read}
 use Rattle.sheet.specs.Answer.{root, size, run, partialOf, answer}
 use Rattle.sheet.proofs.Lines.{History, accepted-history}
-use Rattle.table.specs.Layout.{held, limit, limits}
+use Rattle.table.specs.Layout.{limit, limits}
 use Rattle.response.specs.Verdicts.{classIn, verdictsIn}
 use Rattle.response.specs.Nodes.{partialBytes}
 use Rattle.response.proofs.LogTrees.{treesIn}
@@ -22,9 +22,9 @@ use Rattle.tpe.specs.Run.{Ran, runOf}
 use Rattle.tpe.specs.Leaves.{Leaves}
 use Rattle.tpe.proofs.Policies.{RunIs}
 use Rattle.interpret.specs.Nodes.{ended}
-use Rattle.interpret.proofs.Answered.{Lined, ran, policies, log-short, lined}
+use Rattle.interpret.proofs.Answered.{Lined, ran, policies, lined, log-stays}
 use Rattle.interpret.specs.Lines.{classNumber, classesOf, rootsOf, linesOf}
-use Rattle.authorizer.specs.Called.{Holding, Sends, Runs}
+use Rattle.authorizer.specs.Parts.{Holding, Sends, Runs}
 use Rattle.authorizer.proofs.Completing.{part-front}
 use Rattle.tpe.proofs.Policies as P
 use Rattle.response.specs.Printed as R
@@ -54,9 +54,6 @@ classes-back (v ∷ vs) (suc i) h = classes-back vs i (omega arith)
 longer : (n m : ℕ) (w : List ℕ) (i : ℕ) → i < n → n ≤ m → getD (take m w) i 0 ≡ getD (take n w) i 0
 longer n m w i h k = getD-take m w i 0 (omega arith) ∙ sym (getD-take n w i 0 h)
 
-cut-short : (n m : ℕ) (w v : List ℕ) → n ≤ m → take m w ≡ take m v → take n w ≡ take n v
-cut-short n m w v h e = sym (take-take n m w h) ∙ ap (take n) e ∙ take-take n m v h
-
 -- ---- what the run leaves
 
 module _ (sheet a b : List ℕ) (h : Holding partial sheet a b) where
@@ -84,7 +81,7 @@ module _ (sheet a b : List ℕ) (h : Holding partial sheet a b) where
     said : verdictsIn (r .words) (part w 8192 16384) ≡ verdicts (x .lines)
     said =
         subst (λ (s : State). ((i : ℕ) → i < length (run partial s .lines) → classIn (getD (part w 8192 16384) i 0) ≡ getD (classesIn (run partial s .lines)) i copen)
-            → verdictsIn (r .words) (part w 8192 16384) ≡ verdicts (run partial s .lines))
+        → verdictsIn (r .words) (part w 8192 16384) ≡ verdicts (run partial s .lines))
         (sym (h .state)) (verdicts-run sheet a b (r .words) (part w 8192 16384) (is-ran .hold .same POLICY (omega arith))) class-at
 
     words : RunWords sheet a x (r .words) (r .log) (part w 8192 16384) (part w 8256 16384)
@@ -109,24 +106,19 @@ module _ (sheet a b : List ℕ) (h : Holding partial sheet a b) where
 
 -- ---- the run, the lines, then the printing
 
+pub log-fits : (l b : List ℕ) (e : ℕ) → l ≡ part b 0 e → length b ≡ 16384 → length l ≤ 16384
+log-fits l b e el h = omega (arith, ap length (el ∙ part-front b e), length-take e b)
+
 pub partial-runs : (sheet a b a′ b′ b″ l cs es out : List ℕ) (e number line len : ℕ) (out′ : List ℕ) → Leaves 0 a′ b′ e (ended (runOf partial sheet a [])) → length b ≡ 16384 → length b′ ≡ length b
     → b″ ≡ linesOf a′ b′ e → l ≡ part b″ 0 e → cs ≡ part b″ 8192 16384 → es ≡ part b″ 8256 16384 → Sends (partialBytes a′ l cs es) out number line len out′
     → Runs partial sheet a b out number line len out′
 partial-runs sheet a b a′ b′ b″ l cs es out e number line len out′ q lb lb′ eb el ec ee s h =
     let t : Ran = runOf partial sheet a [] in
+    let k : 16384 ≤ length b′ = omega (arith, lb, lb′) in
     let w : b″ ≡ linesOf (t .words) b′ e = eb ∙ ap (λ (y : List ℕ). linesOf y b′ e) (q .words) in
     let n : Lined (run partial (read partial sheet .state) .lines) b′ b″ =
-        subst (Lined (run partial (read partial sheet .state) .lines) b′) (sym w) (lined sheet a b (h .accepted) (h .state) (h .sound) (h .none) (h .fits) b′ e (q .log) (omega (arith, lb, lb′))) in
-    let k : e ≤ 4096 = omega (arith, ap length (q .log .is), length-take-le e b′ (omega (arith, q .log .low, lb, lb′)), log-short sheet a b (h .accepted) (h .state) (h .sound) (h .none) (h .fits)) in
-    let g : l ≡ t .log = el ∙ part-front b″ e ∙ cut-short e 8192 b″ b′ (omega (arith, k)) (n .log) ∙ q .log .is in
+    subst (Lined (run partial (read partial sheet .state) .lines) b′) (sym w) (lined sheet a b (h .accepted) (h .state) (h .sound) (h .none) (h .fits) b′ e (q .log) k) in
+    let g : l ≡ t .log = el ∙ part-front b″ e ∙ ap (take e) w ∙ log-stays sheet a b (h .accepted) (h .state) (h .sound) (h .none) (h .fits) b′ e (q .log) k in
     let i : partialBytes a′ l cs es ≡ partialBytes (t .words) (t .log) (part b″ 8192 16384) (part b″ 8256 16384) =
-        ap₂ (λ (y z : List ℕ). partialBytes y z cs es) (q .words) g ∙ ap₂ (λ (y z : List ℕ). partialBytes (t .words) (t .log) y z) ec ee in
+    ap₂ (λ (y z : List ℕ). partialBytes y z cs es) (q .words) g ∙ ap₂ (λ (y z : List ℕ). partialBytes (t .words) (t .log) y z) ec ee in
     subst (λ (y : List ℕ). Sends y out number line len out′) (i ∙ run-bytes sheet a b h b′ b″ n) s
-
--- what is handed on is within what can be counted
-pub parts-short : (a₀ a b₀ b b″ l : List ℕ) (e : ℕ) → (length a₀ ≡ 16384) × (length b₀ ≡ 16384) → length a ≡ length a₀ → length b ≡ length b₀ → length b″ ≡ length b → l ≡ part b″ 0 e
-    → (length a ≤ 16384) × (length l ≤ 16384)
-parts-short a₀ a b₀ b b″ l e q ea eb eb″ el =
-    let z : length (take e b″) + length (drop e b″) ≡ length b″ = sym (length-append (take e b″) (drop e b″)) ∙ ap length (take-append-drop e b″) in
-    let w : length l ≡ length (take e b″) = ap length (el ∙ part-front b″ e) in
-    (omega (arith, ea, q .0), omega (arith, z, w, eb, eb″, q .1))

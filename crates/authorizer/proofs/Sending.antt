@@ -1,16 +1,14 @@
 -- An answer counted without room, then printed where the buffer has room for it. Assumes nothing.
-use mathlib.Core.Path.{_≡_, refl, sym, _∙_, ap, subst}
-use mathlib.Core.Bool.{cond}
+use mathlib.Core.Path.{_≡_, refl, ap, subst}
 use mathlib.Core.List.{List, [], _++_}
 use Prim.Native.Nat.{ℕ, _≤_, _<_}
 use native.Mathlib.Omega.{arith}
 use borrow.Author.Tests.{lt-ltb, le-ltb}
-use lib.Dec.{ltb}
 use lib.ListN.{length}
 use Rattle.sheet.specs.Call.{Returned, returns, fitted}
 use Rattle.print.specs.Written.{greatest, Written}
 use Rattle.print.proofs.Writing.{written-over, written-counted}
-use Rattle.authorizer.specs.Called.{Gives, Sends}
+use Rattle.authorizer.specs.Parts.{Gives, Sends}
 
 -- what is to be returned by another name
 pub gives-as : {r s : Returned} {bytes out out′ : List ℕ} {number line len : ℕ} → r ≡ s → Gives r bytes out number line len out′ → Gives s bytes out number line len out′

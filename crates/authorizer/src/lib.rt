@@ -4,9 +4,9 @@ use interpret::CLASSES;
 use interpret::ROOTS;
 use load::load;
 use response::answer;
+use words::ROOM;
 use words::clear;
 use words::cut;
-use words::ROOM;
 ghost use mathlib.Core.Path.{_≡_};
 ghost use Prim.Native.Nat.{_≤_};
 ghost use lib.ListN.{length};
@@ -14,7 +14,8 @@ ghost use Rattle.sheet.specs.Forms.{partial, complete};
 ghost use Rattle.line.specs.Codes.{modeOf};
 ghost use Rattle.response.specs.Printed.{completeBytes};
 ghost use Rattle.response.specs.Nodes.{partialBytes};
-ghost use Rattle.authorizer.specs.Called.{Called, Answers, Sends, Runs};
+ghost use Rattle.authorizer.specs.Called.{Called};
+ghost use Rattle.authorizer.specs.Parts.{Answers, Sends, Runs};
 
 // Number and line of a refusal, or 0 and 0; the bytes of the answer, also where the buffer is too short for them.
 pub struct Returned {
@@ -80,7 +81,13 @@ fn answer_partial(sheet: &[u8], a: &mut [u32], b: &mut [u32], out: &mut [u8]) ->
 {
     let e = interpret::run(sheet, a, b);
     interpret::lines(a, b, e);
-    send_partial(out, a, cut(b, 0, e), cut(b, CLASSES, ROOM), cut(b, ROOTS, ROOM))
+    send_partial(
+        out,
+        a,
+        cut(b, 0, e),
+        cut(b, CLASSES, ROOM),
+        cut(b, ROOTS, ROOM),
+    )
 }
 
 // A sheet read, run and answered, in work slices that are long enough.
@@ -111,7 +118,13 @@ fn answered(sheet: &[u8], partial: bool, a: &mut [u32], b: &mut [u32], out: &mut
 }
 
 // The call: what was used of the work slices is cleared.
-fn call(sheet: &[u8], partial: bool, work1: &mut [u32], work2: &mut [u32], out: &mut [u8]) -> Returned
+fn call(
+    sheet: &[u8],
+    partial: bool,
+    work1: &mut [u32],
+    work2: &mut [u32],
+    out: &mut [u8],
+) -> Returned
     ensures { λ r. ⌜ Called (modeOf partial) (now (sheet .entry)) (now (work1 .entry)) (now (work2 .entry)) (now (out .entry)) (r .number) (r .line) (r .length) (now (out .exit)) (now (work1 .exit)) (now (work2 .exit)) ⌝ }
 {
     if work1.len() < ROOM {

@@ -14,8 +14,8 @@ use Rattle.sheet.specs.Bytes.{same}
 use Rattle.sheet.specs.Forms.{Slot, entry, line, lineOr, lineUnknown, word, number, nothing, Form, forms, formOf, noForm, slotAt, tag, items, at, mark, everyFrom, ascendings}
 use Rattle.sheet.specs.State.{linesOf, lineAt, count}
 use Rattle.sheet.specs.Sheet.{thereIs, allThere, ascend, among, firsts, above, fresh, found}
-use Rattle.table.specs.Layout.{part, rowsOf, textRow, textRows}
-use Rattle.table.proofs.Rows.{count-held, count-rows, lines-held}
+use Rattle.table.specs.Layout.{part, base, rowsOf, textRow, textRows}
+use Rattle.table.proofs.Rows.{count-held, count-rows, lines-held, row-at-is, row-some}
 use Rattle.checks.specs.Codes.{codeOf}
 use Rattle.checks.proofs.FormTable.{stepIn}
 use Rattle.checks.proofs.OrderLaws.{rowsHeld}
@@ -274,6 +274,35 @@ module _ (r a : List ℕ) (k n i : ℕ) (s : Sought r a k i) (hn : n ≡ getD a 
 
   pub sought-end : n ≤ i → false ≡ among r (rowsOf a k)
   sought-end h = sym (s .left ∙ ap (among r) (rows-end a k n i hn h))
+
+-- the same, with where the next row begins
+pub record Walked (r a : List ℕ) (k i s : ℕ) : Type 0 where
+  pub seen : Sought r a k i
+  pub start : s ≡ getD a (base k + i) 0
+
+pub walked-start : (r a : List ℕ) (k b s : ℕ) → (b ≡ base k) × (b < 4003) → s ≡ getD a b 0 → Walked r a k 0 s
+walked-start r a k b s hb hs =
+    let z : b ≡ base k + 0 = omega (arith, hb .0) in
+    record { seen = sought-start r a k; start = hs ∙ ap (λ (j : ℕ). getD a j 0) z }
+
+module _ (r a : List ℕ) (k n i s : ℕ) (w : Walked r a k i s) (hn : n ≡ getD a k 0) where
+  module _ (b e : ℕ) (x : List ℕ) (c : Bool) (h : i < n) (hb : (b ≡ base k) × (b < 4003)) (he : e ≡ getD a (b + i + 1) 0) (hx : x ≡ part a s e) (hc : c ≡ same r x) where
+    next : e ≡ getD a (base k + i + 1) 0
+    next = he ∙ ap (λ (j : ℕ). getD a (j + i + 1) 0) (hb .0)
+
+    row-here : x ≡ getD (rowsOf a k) i []
+    row-here = row-some a k i n (base k) x hn h refl (row-at-is a (base k + i) s e x (w .start) next hx)
+
+    pub walked-found : c ≡ true → true ≡ among r (rowsOf a k)
+    walked-found = sought-found r a k n i (w .seen) hn x c h row-here hc
+
+    pub walked-on : c ≡ false → Walked r a k (i + 1) e
+    walked-on q =
+        let z : base k + i + 1 ≡ base k + (i + 1) = omega arith in
+        record { seen = sought-on r a k n i (w .seen) hn x c h row-here hc q; start = next ∙ ap (λ (j : ℕ). getD a j 0) z }
+
+  pub walked-end : n ≤ i → false ≡ among r (rowsOf a k)
+  walked-end = sought-end r a k n i (w .seen) hn
 
 -- ---- a text among others
 

@@ -5,15 +5,17 @@ use mathlib.Core.List.{List, [], _∷_}
 use Prim.Native.Nat.{ℕ, suc, _+_, _-_, _≤_, _<_}
 use native.Mathlib.Numerals.{add-one}
 use native.Mathlib.Omega.{arith}
-use native.Mathlib.Decide.{ℕ-discrete}
-use borrow.Author.Tests.{eq-eqb, ne-eqb, lt-leb, le-leb}
-use lib.Dec.{leb}
+use native.Mathlib.Decide.{ℕ-discrete, decLt}
+use borrow.Author.Tests.{eqb-true, eq-eqb, ne-eqb, lt-leb, le-leb}
+use lib.Dec.{leb, eqb}
 use lib.ListN.{length, getD, take, drop, set, drop-of-length-le, List·getD-eq-default}
 use lib.Seq.{drop-cons, getD-set-other}
 use Rattle.sheet.specs.Forms.{KIND}
 use Rattle.sheet.specs.State.{State, count}
 use Rattle.sheet.specs.Sheet.{least, greatest, reach, enough, allZero, inOrder}
+use Rattle.sheet.proofs.Parsed.{allBelow}
 use Rattle.table.specs.Layout.{held}
+use Rattle.table.proofs.Counts.{ranged}
 use Rattle.table.proofs.Rows.{count-held}
 use Rattle.table.proofs.Held.{length-tab, getD-tab, countsIn, counts-held}
 
@@ -29,7 +31,7 @@ counts-long a = length-tab (λ (k : ℕ). getD a k 0) 0 13
 
 -- ---- tables
 
-unfoldable pub leastTable : List ℕ
+unfoldable leastTable : List ℕ
 leastTable = 1 ∷ 0 ∷ 0 ∷ 0 ∷ 0 ∷ 0 ∷ 0 ∷ 1 ∷ 1 ∷ 1 ∷ 1 ∷ 0 ∷ 0 ∷ []
 
 unfoldable pub mostTable : List ℕ
@@ -47,11 +49,32 @@ module _ (s : State) where
 pub least-shape : (a : List ℕ) (k n : ℕ) → k ≡ 4 → n ≡ getD a 2 0 → n ≡ getD (least (rowsHeld a)) k 0
 least-shape a k n h e = rw h (e ∙ sym (count-held [] a [] 2 (omega arith)))
 
-pub least-in : (a : List ℕ) (k : ℕ) → (k ≡ 4 → ⊥) → getD leastTable k 0 ≡ getD (least (rowsHeld a)) k 0
+least-in : (a : List ℕ) (k : ℕ) → (k ≡ 4 → ⊥) → getD leastTable k 0 ≡ getD (least (rowsHeld a)) k 0
 least-in a k h = sym (ap (λ (l : List ℕ). getD l k 0) (least-set (rowsHeld a)) ∙ getD-set-other leastTable 4 k (count (rowsHeld a) KIND) 0 h)
 
-pub least-out : (a : List ℕ) (k : ℕ) → 13 ≤ k → 0 ≡ getD (least (rowsHeld a)) k 0
-least-out a k h = sym (List·getD-eq-default (least (rowsHeld a)) 0 h)
+module _ (a : List ℕ) (k : ℕ) where
+  least-by : (v lo n : ℕ) → allBelow (λ (i : ℕ). eqb v (getD leastTable (lo + i) 0)) n ≡ true → (k ≡ 4 → ⊥) → lo ≤ k → k < lo + n → v ≡ getD (least (rowsHeld a)) k 0
+  least-by v lo n e d l h = eqb-true v (getD leastTable k 0) (ranged (λ (i : ℕ). eqb v (getD leastTable i 0)) lo n e k l h) ∙ least-in a k d
+
+  pub least-sheet : (k ≡ 4 → ⊥) → k ≡ 0 → 1 ≡ getD (least (rowsHeld a)) k 0
+  unfolding leastTable
+  least-sheet d e = least-by 1 0 1 refl d (omega arith) (omega arith)
+
+  pub least-lists : (k ≡ 4 → ⊥) → (k ≡ 0 → ⊥) → k < 7 → 0 ≡ getD (least (rowsHeld a)) k 0
+  unfolding leastTable
+  least-lists d z h = least-by 0 1 6 refl d (omega arith) h
+
+  pub least-request : (k ≡ 4 → ⊥) → 7 ≤ k → k < 11 → 1 ≡ getD (least (rowsHeld a)) k 0
+  unfolding leastTable
+  least-request d l h = least-by 1 7 4 refl d l h
+
+  pub least-last : (k ≡ 4 → ⊥) → 11 ≤ k → 0 ≡ getD (least (rowsHeld a)) k 0
+  unfolding leastTable
+  least-last d l = go (decLt k 13)
+    where
+      go : Dec (k < 13) → 0 ≡ getD (least (rowsHeld a)) k 0
+      go (yes h) = least-by 0 11 2 refl d l h
+      go (no h) = let q : 13 ≤ k = omega arith in sym (List·getD-eq-default (least (rowsHeld a)) 0 q)
 
 pub most-shape : (a : List ℕ) (k n : ℕ) → k ≡ 4 → n ≡ getD a 2 0 → n ≡ getD (greatest (rowsHeld a)) k 0
 most-shape a k n h e = rw h (e ∙ sym (count-held [] a [] 2 (omega arith)))

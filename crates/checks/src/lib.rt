@@ -8,11 +8,17 @@ use table::POLICY;
 use table::TEXT;
 use table::TYPE;
 use table::VALUE;
+use table::base_of;
 use table::bytes;
 use table::count;
+use table::group_of;
 use table::item;
+use table::items_of;
 use table::row;
 use table::tag;
+use words::byte;
+use words::cut;
+use words::digit;
 use words::put;
 use words::read;
 ghost use mathlib.Core.Path.{_≡_};
@@ -28,7 +34,7 @@ ghost use Rattle.sheet.specs.State.{count};
 ghost use Rattle.sheet.specs.Sheet.{least, greatest, enough, inOrder, thereIs, allThere, ascend, among, firsts, above, fresh, found, depth, deepest};
 ghost use Rattle.table.specs.Layout.{rowsOf, textRow, textRows, held};
 ghost use Rattle.table.proofs.Held.{depthsIn};
-ghost use Rattle.checks.specs.Codes.{codeOf, refCodes};
+ghost use Rattle.checks.specs.Codes.{codeOf, refCodes, formCodes};
 ghost use Rattle.checks.specs.Uses.{Marked};
 
 // Where the depths of types, values and nodes stand, and the uses of nodes.
@@ -43,442 +49,160 @@ pub const USES: usize = 6272;
 // What a mark is in a row.
 const MARK: u32 = 10000;
 
-// The least and the greatest number of lines of each key; shapes are as many as kinds.
-const LEAST: [u32; 13] = [1, 0, 0, 0, 0, 0, 0, 1, 1, 1, 1, 0, 0];
-
+// The greatest number of lines of each key; shapes are as many as kinds.
 const MOST: [u32; 13] = [1, 512, 32, 128, 0, 1024, 128, 1, 1, 1, 1, 1024, 64];
-
-// For each form how many items it has, how many may follow in groups, how many lie between items that ascend (0: none do);
-// and four items of each form: what each refers to.
-const ITEMS: [u32; 50] = [
-    1,
-    0,
-    2,
-    0,
-    0,
-    0,
-    1,
-    1,
-    0,
-    2,
-    1,
-    1,
-    1,
-    2,
-    0,
-    0,
-    4,
-    2,
-    2,
-    2,
-    2,
-    2,
-    1,
-    2,
-    3,
-    3,
-    3,
-    3,
-    3,
-    3,
-    3,
-    3,
-    3,
-    3,
-    3,
-    3,
-    3,
-    3,
-    4,
-    3,
-    2,
-    3,
-    3,
-    3,
-    2,
-    2,
-    2,
-    1,
-    1,
-    3,
-];
-
-const GROUP: [u32; 50] = [
-    0,
-    0,
-    0,
-    0,
-    0,
-    0,
-    0,
-    0,
-    3,
-    1,
-    0,
-    0,
-    0,
-    0,
-    1,
-    2,
-    0,
-    0,
-    0,
-    0,
-    0,
-    0,
-    0,
-    0,
-    0,
-    0,
-    0,
-    0,
-    0,
-    0,
-    0,
-    0,
-    0,
-    0,
-    0,
-    0,
-    0,
-    0,
-    0,
-    0,
-    1,
-    0,
-    0,
-    1,
-    0,
-    0,
-    0,
-    1,
-    2,
-    0,
-];
-
-const STEPS: [u32; 50] = [
-    0,
-    0,
-    0,
-    0,
-    0,
-    0,
-    0,
-    0,
-    3,
-    1,
-    0,
-    0,
-    0,
-    0,
-    1,
-    2,
-    0,
-    0,
-    0,
-    0,
-    0,
-    0,
-    0,
-    0,
-    0,
-    0,
-    0,
-    0,
-    0,
-    0,
-    0,
-    0,
-    0,
-    0,
-    0,
-    0,
-    0,
-    0,
-    0,
-    0,
-    0,
-    0,
-    0,
-    0,
-    0,
-    0,
-    0,
-    0,
-    2,
-    0,
-];
-
-const REFS: [u32; 200] = [
-    0,
-    0,
-    0,
-    0,
-    0,
-    0,
-    0,
-    0,
-    3,
-    0,
-    0,
-    0,
-    0,
-    0,
-    0,
-    0,
-    0,
-    0,
-    0,
-    0,
-    0,
-    0,
-    0,
-    0,
-    5,
-    0,
-    0,
-    0,
-    7,
-    0,
-    0,
-    0,
-    3,
-    0,
-    7,
-    0,
-    7,
-    8,
-    5,
-    0,
-    0,
-    0,
-    0,
-    0,
-    0,
-    0,
-    0,
-    0,
-    3,
-    0,
-    0,
-    0,
-    5,
-    3,
-    0,
-    0,
-    11,
-    0,
-    0,
-    0,
-    3,
-    11,
-    0,
-    0,
-    11,
-    12,
-    12,
-    12,
-    5,
-    4,
-    0,
-    0,
-    5,
-    3,
-    0,
-    0,
-    5,
-    4,
-    0,
-    0,
-    7,
-    12,
-    0,
-    0,
-    7,
-    11,
-    0,
-    0,
-    7,
-    0,
-    0,
-    0,
-    7,
-    0,
-    0,
-    0,
-    7,
-    23,
-    23,
-    0,
-    7,
-    23,
-    23,
-    0,
-    7,
-    23,
-    23,
-    0,
-    7,
-    23,
-    23,
-    0,
-    7,
-    23,
-    23,
-    0,
-    7,
-    23,
-    23,
-    0,
-    7,
-    23,
-    23,
-    0,
-    7,
-    23,
-    23,
-    0,
-    7,
-    23,
-    23,
-    0,
-    7,
-    23,
-    23,
-    0,
-    7,
-    23,
-    23,
-    0,
-    7,
-    23,
-    23,
-    0,
-    7,
-    23,
-    23,
-    0,
-    7,
-    23,
-    23,
-    0,
-    7,
-    23,
-    23,
-    23,
-    7,
-    23,
-    5,
-    0,
-    7,
-    23,
-    4,
-    0,
-    7,
-    23,
-    3,
-    0,
-    7,
-    23,
-    3,
-    0,
-    7,
-    23,
-    3,
-    3,
-    7,
-    23,
-    0,
-    0,
-    7,
-    23,
-    0,
-    0,
-    7,
-    23,
-    0,
-    0,
-    7,
-    23,
-    0,
-    0,
-    7,
-    3,
-    23,
-    0,
-    3,
-    0,
-    23,
-    0,
-];
 
 // ---- the table of forms
 
-fn items_of(t: u32) -> usize
-    ensures { λ r. ⌜ (r ≡ length (formOf t .items)) × (r ≤ 4) ⌝ }
-{
-    let i = t as usize;
-    if i < 50 {
-        return ITEMS[i] as usize;
-    }
-    1
-}
-
-fn group_of(t: u32) -> usize
-    ensures { λ r. ⌜ (r ≡ length (formOf t .group)) × (r ≤ 3) ⌝ }
-{
-    let i = t as usize;
-    if i < 50 {
-        return GROUP[i] as usize;
-    }
-    0
-}
-
+// How many lie between items that ascend; 0 where none do.
 fn step_of(t: u32) -> usize
     ensures { λ r. ⌜ (r ≡ cond (formOf t .ascends) (length (formOf t .group)) 0) × (r ≤ 3) ⌝ }
 {
-    let i = t as usize;
-    if i < 50 {
-        return STEPS[i] as usize;
+    if t < 16 {
+        return digit(0x2100_0013_0000_0000, t as usize);
+    }
+    if t == 48 {
+        return 2;
     }
     0
 }
 
-fn code(i: usize) -> usize
-    ensures { λ r. ⌜ (r ≡ getD refCodes i 0) × (r ≤ 26) ⌝ }
+// What four items of a form refer to, a byte each, the first the lowest: the forms before those of most nodes.
+fn codes_low(t: u32) -> u32
+    requires { ⌜ t < 24 ⌝ }
+    ensures { λ r. ⌜ r ≡ getD formCodes t 0 ⌝ }
 {
-    if i < 200 {
-        return REFS[i] as usize;
+    match t {
+        2 => 0x0000_0003,
+        6 => 0x0000_0005,
+        7 => 0x0000_0007,
+        8 => 0x0007_0003,
+        9 => 0x0005_0807,
+        12 => 0x0000_0003,
+        13 => 0x0000_0305,
+        14 => 0x0000_000b,
+        15 => 0x0000_0b03,
+        16 => 0x0c0c_0c0b,
+        17 => 0x0000_0405,
+        18 => 0x0000_0305,
+        19 => 0x0000_0405,
+        20 => 0x0000_0c07,
+        21 => 0x0000_0b07,
+        22 => 0x0000_0007,
+        23 => 0x0000_0007,
+        _ => 0,
     }
-    0
 }
 
-// What place j of a line of form t refers to.
-fn ref_at(t: u32, j: usize) -> usize
+// The same of the forms after them.
+fn codes_high(t: u32) -> u32
+    requires { ⌜ 38 ≤ t ⌝ }
+    ensures { λ r. ⌜ r ≡ getD formCodes t 0 ⌝ }
+{
+    match t {
+        38 => 0x1717_1707,
+        39 => 0x0005_1707,
+        40 => 0x0004_1707,
+        41 => 0x0003_1707,
+        42 => 0x0003_1707,
+        43 => 0x0303_1707,
+        44 => 0x0000_1707,
+        45 => 0x0000_1707,
+        46 => 0x0000_1707,
+        47 => 0x0000_1707,
+        48 => 0x0017_0307,
+        49 => 0x0017_0003,
+        _ => 0,
+    }
+}
+
+// The same of every form.
+fn codes_of(t: u32) -> u32
+    ensures { λ r. ⌜ r ≡ getD formCodes t 0 ⌝ }
+{
+    if t < 24 {
+        return codes_low(t);
+    }
+    if t < 38 {
+        return 0x0017_1707;
+    }
+    codes_high(t)
+}
+
+// What item i of a form refers to, those of its group counted after the others.
+fn code(t: u32, i: usize) -> usize
+    requires { ⌜ i < 4 ⌝ }
+    ensures { λ r. ⌜ (r ≡ getD refCodes (t * 4 + i) 0) × (r ≤ 26) ⌝ }
+{
+    byte(codes_of(t), i)
+}
+
+// What place j of a line of form t refers to, by the tables.
+fn listed_ref(t: u32, j: usize) -> usize
     ensures { λ r. ⌜ (r ≡ codeOf (slotAt t j)) × (r ≤ 26) ⌝ }
 {
-    let n = items_of(t);
-    let f = t as usize * 4;
+    let n = items_of(t as usize);
     if j < n {
-        return code(f + j);
+        return code(t, j);
     }
-    let g = group_of(t);
+    let g = group_of(t as usize);
     if g == 0 {
         return 0;
     }
-    code(f + (n + (j - n) % g))
+    code(t, n + (j - n) % g)
+}
+
+// The same of a node: its type, then the nodes that it works on.
+fn node_ref(t: u32, j: usize) -> usize
+    requires { ⌜ (21 ≤ t) × (t < 48) ⌝ }
+    ensures { λ r. ⌜ (r ≡ codeOf (slotAt t j)) × (r ≤ 26) ⌝ }
+{
+    if j == 0 {
+        return 7;
+    }
+    if t < 24 {
+        return listed_ref(t, j);
+    }
+    if j == 1 {
+        return 23;
+    }
+    if t < 39 {
+        if j == 2 {
+            return 23;
+        }
+    }
+    listed_ref(t, j)
+}
+
+// The same of every line.
+fn ref_at(t: u32, j: usize) -> usize
+    ensures { λ r. ⌜ (r ≡ codeOf (slotAt t j)) × (r ≤ 26) ⌝ }
+{
+    if 21 <= t {
+        if t < 48 {
+            return node_ref(t, j);
+        }
+    }
+    listed_ref(t, j)
 }
 
 // ---- 3: key order, lines missing
 
+// The least number of lines of a key: one for the sheet and for each part of the request, and as many shapes as kinds.
 fn least_of(a: &[u32], k: usize) -> u32
     ensures { λ r. ⌜ r ≡ getD (least (held [] (now (a .entry)) [])) k 0 ⌝ }
 {
     if k == 4 {
         return count(a, KIND);
     }
-    if k < 13 {
-        return LEAST[k];
+    if k == 0 {
+        return 1;
+    }
+    if k < 7 {
+        return 0;
+    }
+    if k < 11 {
+        return 1;
     }
     0
 }
@@ -583,7 +307,7 @@ fn ascends(r: &[u32]) -> bool
         return true;
     }
     let mut lo: usize = 0;
-    let mut j = items_of(t);
+    let mut j = items_of(t as usize);
     while j + 1 < r.len() {
         let x = item(r, j + 1) as usize;
         if x < lo {
@@ -595,16 +319,20 @@ fn ascends(r: &[u32]) -> bool
     true
 }
 
-// Whether a row is among those of key k.
+// Whether a row is among those of key k: each begins where the one before ends.
 fn is_row(a: &[u32], k: usize, r: &[u32]) -> bool
     ensures { λ b. ⌜ b ≡ among (now (r .entry)) (rowsOf (now (a .entry)) k) ⌝ }
 {
     let n = count(a, k);
+    let b = base_of(k);
+    let mut s = read(a, b) as usize;
     let mut i = 0;
     while i < n {
-        if same_words(r, row(a, k, i)) {
+        let e = read(a, b + i as usize + 1) as usize;
+        if same_words(r, cut(a, s, e)) {
             return true;
         }
+        s = e;
         i += 1;
     }
     false

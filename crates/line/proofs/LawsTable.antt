@@ -1,84 +1,88 @@
 -- The code's table of forms is the definition's. Assumes nothing.
 use mathlib.Core.Path.{_≡_, refl, sym, ap, _∙_}
-use mathlib.Core.Bool.{Bool, true, false, _&&_, and-eq-true-iff}
+use mathlib.Core.Bool.{Bool, true, false, _&&_, _||_, and-eq-true-iff}
 use mathlib.Core.List.{List, [], _∷_, _++_, map}
 use Prim.Native.Nat.{ℕ, zero, suc, _+_, _-_, _*_, _%_, _≤_, _<_}
 use native.Mathlib.Nat.{mod-lt}
 use native.Mathlib.Omega.{arith}
-use native.Mathlib.Decide.{ℕ-discrete}
-use borrow.Author.Tests.{leb-true, eq-eqb, ne-eqb, lt-ltb, le-ltb}
+use native.Mathlib.Decide.{ℕ-discrete, decLt}
+use borrow.Author.Tests.{leb-true, eqb-true, eq-eqb, ne-eqb, lt-ltb, le-ltb}
 use lib.Dec.{leb, eqb}
 use lib.ListN.{length, getD, set, List·getD-map, List·getD-append, List·getD-eq-default}
 use lib.Seq.{getD-append-add, getD-set-other}
 use Rattle.sheet.specs.Ascii.{ascii}
 use Rattle.sheet.specs.Forms.{Slot, nothing, Form, forms, formOf, noForm, slotAt, counted}
-use Rattle.line.specs.Codes.{coded, slotOf, slots, SlotAt}
+use Rattle.cedar.specs.Numbered.{memN}
+use Rattle.words.specs.Bits.{byteOf}
+use Rattle.sheet.proofs.Parsed.{allBelow, all-below}
+use Rattle.table.proofs.Counts.{small, entry-small, both-small, ranged, NoneOf, none-of, other}
+use Rattle.line.specs.Codes.{slotOf, slots, formSlots, SlotAt}
 
-unfoldable pub itemCounts : List ℕ
-itemCounts = coded (ascii "10200011021112004222221233333333333333432333222113")
-
-unfoldable pub groupCounts : List ℕ
-groupCounts = coded (ascii "00000000310000120000000000000000000000001001000120")
-
-pub items-is : (t : ℕ) → getD itemCounts t 1 ≡ length (formOf t .items)
-unfolding itemCounts forms formOf
-items-is t = List·getD-map (λ f. length (f .items)) forms t noForm
-
-pub group-is : (t : ℕ) → getD groupCounts t 0 ≡ length (formOf t .group)
-unfolding groupCounts forms formOf
-group-is t = List·getD-map (λ f. length (f .group)) forms t noForm
-
--- ---- entries are small
-
-unfoldable pub small : ℕ → List ℕ → Bool
-small n [] = true
-small n (x ∷ l) = leb x n && small n l
-
-pub entry-small : (n : ℕ) (l : List ℕ) (i d : ℕ) → d ≤ n → small n l ≡ true → getD l i d ≤ n
-unfolding small
-entry-small n [] i d h e = h
-entry-small n (x ∷ l) zero d h e = leb-true x n (and-eq-true-iff (leb x n) (small n l) .0 e .0)
-entry-small n (x ∷ l) (suc i) d h e = entry-small n l i d h (and-eq-true-iff (leb x n) (small n l) .0 e .1)
-
-pub items-small : (t : ℕ) → getD itemCounts t 1 ≤ 4
-unfolding itemCounts small
-items-small t = entry-small 4 itemCounts t 1 (omega arith) refl
-
-pub group-small : (t : ℕ) → getD groupCounts t 0 ≤ 3
-unfolding groupCounts small
-group-small t = entry-small 3 groupCounts t 0 (omega arith) refl
-
-pub slots-small : (i : ℕ) → getD slots i 1 ≤ 255
+slots-small : (i : ℕ) → getD slots i 1 ≤ 255
 unfolding slots small
 slots-small i = entry-small 255 slots i 1 (omega arith) refl
 
-both-small : (t : ℕ) → length (formOf t .items) + length (formOf t .group) ≤ 4
-unfolding forms formOf small
-both-small t =
-    let g : Form → ℕ = λ f. length (f .items) + length (f .group) in
-    rw (← List·getD-map g forms t noForm) (entry-small 4 (map g forms) t 1 (omega arith) refl)
+-- ---- what may stand at a form's places, four to a word
 
--- ---- tables as bytes
+abbrev pub placesAt : ℕ → ℕ
+placesAt t = getD formSlots t 0x0101_0101
 
-module _ (l : List ℕ) (i d : ℕ) where
-  pub coded-past : length l ≤ i → d ≡ getD (coded l) i d
-  coded-past h = sym (List·getD-eq-default (coded l) d (omega (arith, length-coded l)))
+places-out : (t : ℕ) → 50 ≤ t → 0x0101_0101 ≡ placesAt t
+unfolding formSlots
+places-out t h = sym (List·getD-eq-default formSlots 0x0101_0101 h)
+
+pub places-node : (t : ℕ) → 24 ≤ t → t < 38 → 0x011b_1b13 ≡ placesAt t
+unfolding formSlots
+places-node t l h = eqb-true 0x011b_1b13 (placesAt t) (ranged (λ (i : ℕ). eqb 0x011b_1b13 (placesAt i)) 24 14 refl t l h)
+
+-- the other forms that the code names, the last first
+abbrev pub lowNamed : List ℕ
+lowNamed = 23 ∷ 22 ∷ 21 ∷ 20 ∷ 19 ∷ 18 ∷ 17 ∷ 16 ∷ 15 ∷ 14 ∷ 13 ∷ 12 ∷ 11 ∷ 10 ∷ 9 ∷ 8 ∷ 7 ∷ 6 ∷ 2 ∷ 0 ∷ []
+
+abbrev pub highNamed : List ℕ
+highNamed = 49 ∷ 48 ∷ 47 ∷ 46 ∷ 45 ∷ 44 ∷ 43 ∷ 42 ∷ 41 ∷ 40 ∷ 39 ∷ 38 ∷ []
+
+module _ (t : ℕ) where
+  none-where : (lo n : ℕ) (ks : List ℕ) → allBelow (λ (i : ℕ). memN (lo + i) ks || eqb 0x0101_0101 (placesAt (lo + i))) n ≡ true → NoneOf ks t → lo ≤ t → t < lo + n → 0x0101_0101 ≡ placesAt t
+  none-where lo n ks e d l h =
+      eqb-true 0x0101_0101 (placesAt t) (other (memN t ks) (eqb 0x0101_0101 (placesAt t)) (none-of ks t d) (ranged (λ (i : ℕ). memN i ks || eqb 0x0101_0101 (placesAt i)) lo n e t l h))
+
+  pub places-low : t < 24 → NoneOf lowNamed t → 0x0101_0101 ≡ placesAt t
+  unfolding formSlots
+  places-low h d = none-where 0 24 lowNamed refl d (omega arith) h
+
+  pub places-high : 38 ≤ t → NoneOf highNamed t → 0x0101_0101 ≡ placesAt t
+  unfolding formSlots
+  places-high h d = go (decLt t 50)
     where
-      length-coded : (l : List ℕ) → length (coded l) ≡ length l
-      length-coded [] = refl
-      length-coded (x ∷ l) = ap suc (length-coded l)
+      go : Dec (t < 50) → 0x0101_0101 ≡ placesAt t
+      go (yes l) = none-where 38 12 highNamed refl d h l
+      go (no l) = places-out t (omega arith)
 
-coded-at : (l : List ℕ) (i d : ℕ) → i < length l → getD l i 0 - 48 ≡ getD (coded l) i d
-coded-at [] i d h = absurd (omega arith)
-coded-at (x ∷ l) zero d h = refl
-coded-at (x ∷ l) (suc i) d h = coded-at l i d (omega arith)
+slots-out : (i : ℕ) → 200 ≤ i → 1 ≡ getD slots i 1
+unfolding slots
+slots-out i h = sym (List·getD-eq-default slots 1 h)
 
-module _ (l : List ℕ) (i d : ℕ) (h : i < length l) where
-  pub coded-low : getD l i 0 < 48 → 0 ≡ getD (coded l) i d
-  coded-low k = omega (arith, coded-at l i d h)
+-- the four bytes of a form's word
+byte-in : (i : ℕ) → allBelow (λ (t : ℕ). eqb (byteOf (placesAt t) i) (getD slots (t * 4 + i) 1)) 50 ≡ true → byteOf 0x0101_0101 i ≡ 1 → (t : ℕ) → byteOf (placesAt t) i ≡ getD slots (t * 4 + i) 1
+byte-in i e z t = go (decLt t 50)
+  where
+    go : Dec (t < 50) → byteOf (placesAt t) i ≡ getD slots (t * 4 + i) 1
+    go (yes l) = eqb-true (byteOf (placesAt t) i) (getD slots (t * 4 + i) 1) (all-below (λ (t : ℕ). eqb (byteOf (placesAt t) i) (getD slots (t * 4 + i) 1)) 50 t e l)
+    go (no l) = ap (λ (w : ℕ). byteOf w i) (sym (places-out t (omega arith))) ∙ z ∙ slots-out (t * 4 + i) (omega arith)
 
-  pub coded-high : 48 ≤ getD l i 0 → getD l i 0 - 48 ≡ getD (coded l) i d
-  coded-high k = coded-at l i d h
+byte-is : (i : ℕ) → i < 4 → (t : ℕ) → byteOf (placesAt t) i ≡ getD slots (t * 4 + i) 1
+unfolding slots formSlots byteOf
+byte-is zero h = byte-in 0 refl refl
+byte-is (suc zero) h = byte-in 1 refl refl
+byte-is (suc (suc zero)) h = byte-in 2 refl refl
+byte-is (suc (suc (suc zero))) h = byte-in 3 refl refl
+byte-is (suc (suc (suc (suc i)))) h = absurd (omega arith)
+
+pub slot-byte : (t i w r : ℕ) → i < 4 → w ≡ placesAt t → r ≡ byteOf w i → (r ≡ getD slots (t * 4 + i) 1) × (r < 256)
+slot-byte t i w r h e q =
+    let p : r ≡ getD slots (t * 4 + i) 1 = q ∙ ap (λ (x : ℕ). byteOf x i) e ∙ byte-is i h t in
+    (p, omega (arith, p, slots-small (t * 4 + i)))
 
 -- ---- four slots for each form
 
@@ -142,18 +146,6 @@ no-group (x ∷ l) e i = absurd (omega arith)
 -- form 11 has one item
 eleven : (t n : ℕ) → n ≡ length (formOf t .items) → t ≡ 11 → n ≡ 0 → ⊥
 eleven t n e q z = absurd (omega (arith, e, z, one-item, ap (λ (i : ℕ). length (formOf i .items)) q))
-
--- ---- the answers of the three tables
-
-module _ (t r : ℕ) where
-  pub items-code : r ≡ getD itemCounts t 1 → (r ≡ length (formOf t .items)) × (r ≤ 4)
-  items-code e = (e ∙ items-is t, omega (arith, items-small t))
-
-  pub group-code : r ≡ getD groupCounts t 0 → (r ≡ length (formOf t .group)) × (r ≤ 3)
-  group-code e = (e ∙ group-is t, omega (arith, group-small t))
-
-  pub slot-code : r ≡ getD slots t 1 → (r ≡ getD slots t 1) × (r < 256)
-  slot-code e = (e, omega (arith, slots-small t))
 
 -- ---- the answers of `slot_at`
 

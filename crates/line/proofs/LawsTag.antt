@@ -14,7 +14,7 @@ use Rattle.sheet.specs.Bytes.{same}
 use Rattle.sheet.specs.Forms.{Form, forms, formOf, noForm, formIn, tagOf}
 use Rattle.sheet.proofs.Parsed.{allBelow, all-below, between, tags-between}
 use Rattle.scan.specs.Numbers.{following, placed}
-use Rattle.line.proofs.LawsTable.{small, entry-small}
+use Rattle.table.proofs.Counts.{small, entry-small}
 
 -- ---- how many bytes a word of a list has
 

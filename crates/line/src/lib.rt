@@ -12,6 +12,9 @@ use scan::same_bytes;
 use scan::separators;
 use scan::type_form;
 use scan::value_form;
+use table::group_of;
+use table::items_of;
+use words::byte;
 ghost use mathlib.Core.Path.{_≡_};
 ghost use mathlib.Core.Bool.{cond};
 ghost use mathlib.Core.List.{[], _∷_};
@@ -22,7 +25,7 @@ ghost use Rattle.sheet.specs.Bytes.{same, split, index};
 ghost use Rattle.sheet.specs.Forms.{entry, formOf, counted, item, itemsFrom, markOr, one, tagOf, rowFor, rowHeaded, heading, nameFirst, nameSecond, rowOfValue, rowOf};
 ghost use Rattle.scan.specs.Numbers.{numberOf};
 ghost use Rattle.scan.specs.Places.{itemsAt};
-ghost use Rattle.line.specs.Codes.{modeOf, coded, slotOf, slots, SlotAt};
+ghost use Rattle.line.specs.Codes.{modeOf, slotOf, slots, formSlots, SlotAt};
 ghost use Rattle.line.specs.Written.{Item, Items, Row, Text, Line, room};
 
 // The keys that are read in a way of their own.
@@ -37,42 +40,77 @@ const NODE: u64 = 11;
 // What a mark is in a row.
 const MARK: u64 = 10000;
 
-// The number that byte i of a table stands for, counted from `0`; another past its end.
-fn code_at(table: &[u8], i: usize, other: usize) -> usize
-    ensures { λ r. ⌜ r ≡ getD (coded (now (table .entry))) i other ⌝ }
+// What may stand at four places of a form, its group after its items: a byte each, the first the lowest. The forms before those of most nodes.
+fn slots_low(t: usize) -> u32
+    requires { ⌜ t < 24 ⌝ }
+    ensures { λ r. ⌜ r ≡ getD formSlots t 0x0101_0101 ⌝ }
 {
-    if i >= table.len() {
-        return other;
+    match t {
+        0 => 0x0101_0102,
+        2 => 0x0101_0311,
+        6 => 0x0101_0112,
+        7 => 0x0101_0113,
+        8 => 0x0113_0411,
+        9 => 0x0112_0813,
+        10 => 0x0101_0105,
+        11 => 0x0101_0100,
+        12 => 0x0101_0111,
+        13 => 0x0101_1112,
+        14 => 0x0101_0115,
+        15 => 0x0101_1511,
+        16 => 0x2525_2515,
+        17 => 0x0101_2112,
+        18 => 0x0101_1112,
+        19 => 0x0101_2112,
+        20 => 0x0101_2513,
+        21 => 0x0101_1513,
+        22 => 0x0101_0113,
+        23 => 0x0101_0613,
+        _ => 0x0101_0101,
     }
-    if table[i] < 48 {
-        return 0;
+}
+
+// The same of the forms after them.
+fn slots_high(t: usize) -> u32
+    requires { ⌜ 38 ≤ t ⌝ }
+    ensures { λ r. ⌜ r ≡ getD formSlots t 0x0101_0101 ⌝ }
+{
+    match t {
+        38 => 0x1b1b_1b13,
+        39 => 0x0112_1b13,
+        40 => 0x0109_1b13,
+        41 => 0x0111_1b13,
+        42 => 0x0111_1b13,
+        43 => 0x1111_1b13,
+        44 => 0x0101_1b13,
+        45 => 0x0101_1b13,
+        46 => 0x0101_1b13,
+        47 => 0x0101_1b13,
+        48 => 0x011b_1113,
+        49 => 0x011b_0711,
+        _ => 0x0101_0101,
     }
-    (table[i] - 48) as usize
 }
 
-// How many items the form of tag t has.
-fn items_of(t: usize) -> usize
-    ensures { λ r. ⌜ (r ≡ length (formOf t .items)) × (r ≤ 4) ⌝ }
+// The same of every form.
+fn slots_of(t: usize) -> u32
+    ensures { λ r. ⌜ r ≡ getD formSlots t 0x0101_0101 ⌝ }
 {
-    code_at(b"10200011021112004222221233333333333333432333222113", t, 1)
+    if t < 24 {
+        return slots_low(t);
+    }
+    if t < 38 {
+        return 0x011b_1b13;
+    }
+    slots_high(t)
 }
 
-// How many may follow in a group, any number of times.
-fn group_of(t: usize) -> usize
-    ensures { λ r. ⌜ (r ≡ length (formOf t .group)) × (r ≤ 3) ⌝ }
+// What may stand at one of them.
+fn slot(t: usize, i: usize) -> usize
+    requires { ⌜ i < 4 ⌝ }
+    ensures { λ r. ⌜ (r ≡ getD slots (t * 4 + i) 1) × (r < 256) ⌝ }
 {
-    code_at(b"00000000310000120000000000000000000000001001000120", t, 0)
-}
-
-// What may stand at each place: four for each form.
-fn slot(i: usize) -> usize
-    ensures { λ r. ⌜ (r ≡ getD slots i 1) × (r < 256) ⌝ }
-{
-    code_at(
-        b"21111111A311111111111111B111C111A4C1C8B151110111A111BA11E111AE11EUUUBQ11BA11BQ11CU11CE11C111C611CKK1CKK1CKK1CKK1CKK1CKK1CKK1CKK1CKK1CKK1CKK1CKK1CKK1CKK1CKKKCKB1CK91CKA1CKA1CKAACK11CK11CK11CK11CAK1A7K1",
-        i,
-        1,
-    )
+    byte(slots_of(t), i)
 }
 
 // What may stand at place j of a line of tag t.
@@ -82,13 +120,13 @@ fn slot_at(t: usize, j: usize) -> usize
 {
     let n = items_of(t);
     if j < n {
-        return slot(t * 4 + j);
+        return slot(t, j);
     }
     let g = group_of(t);
     if g == 0 {
         return 1;
     }
-    slot(t * 4 + (n + (j - n) % g))
+    slot(t, n + (j - n) % g)
 }
 
 // Whether a line of tag t may have n items.

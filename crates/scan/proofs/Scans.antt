@@ -1,13 +1,15 @@
 -- A step of a loop over a text, for each definition that goes down a list: at index i the list is `drop i s`. Assumes nothing.
-use mathlib.Core.Path.{_≡_, refl, sym, ap, _∙_}
+use mathlib.Core.Path.{_≡_, refl, sym, ap, ap₂, _∙_}
 use mathlib.Core.List.{List, [], _∷_}
 use mathlib.Core.Bool.{Bool, true, false, _&&_}
 use Prim.Native.Nat.{ℕ, zero, suc, _+_, _-_, _≤_, _<_}
 use native.Mathlib.Omega.{arith}
 use native.Mathlib.Numerals.{add-one}
 use borrow.Author.Tests.{eq-eqb, ne-eqb, le-leb, lt-leb}
+use lib.Dec.{eqb}
 use lib.ListN.{length, getD, take, drop, length-drop, drop-of-length-le}
 use lib.Seq.{drop-cons, take-all, take-nil, drop-nil}
+use Rattle.cedar.proofs.Tools.{no-true, eqb-true}
 use Rattle.words.specs.Log.{part}
 use Rattle.sheet.specs.Bytes.{upTo, same, printable}
 
@@ -153,3 +155,28 @@ drop-take (suc e) (suc a) (x ∷ s) = drop-take e a s ∙ ap (λ (n : ℕ). take
   where
     z : e - a ≡ suc e - suc a
     z = omega arith
+
+-- ---- words that are the same
+
+first-same : (x y : ℕ) (k l : List ℕ) (t : Bool) → t ≡ eqb x y → (same k l ≡ true → k ≡ l) → (t && same k l) ≡ true → (x ∷ k) ≡ (y ∷ l)
+first-same x y k l true h f e = ap₂ _∷_ (eqb-true x y (sym h)) (f e)
+first-same x y k l false h f e = no-true e
+
+pub same-is : (k l : List ℕ) → same k l ≡ true → k ≡ l
+same-is [] [] e = refl
+same-is [] (y ∷ l) e = no-true e
+same-is (x ∷ k) [] e = no-true e
+same-is (x ∷ k) (y ∷ l) e = first-same x y k l (eqb x y) refl (same-is k l) e
+
+-- equal words have equal last bytes
+pub same-last : (a b : List ℕ) (i : ℕ) → (getD a i 0 ≡ getD b i 0 → ⊥) → false ≡ same a b
+same-last a b i e = go (same a b) refl
+  where
+    go : (t : Bool) → same a b ≡ t → false ≡ t
+    go true q = absurd (e (ap (λ (l : List ℕ). getD l i 0) (same-is a b q)))
+    go false q = refl
+
+pub same-none : (a b : List ℕ) → length a ≡ length b → length a ≡ 0 → true ≡ same a b
+same-none [] [] e z = refl
+same-none [] (y ∷ b) e z = absurd (omega arith)
+same-none (x ∷ a) b e z = absurd (omega arith)

@@ -16,6 +16,7 @@ use Rattle.sheet.specs.Forms.{keys, forms, placeIn, wordNumber, tagOf}
 use Rattle.scan.specs.declared.Number as N
 use Rattle.scan.specs.Numbers.{numberOf, following, placed, formAfter}
 use Rattle.scan.specs.Places.{partsAfter}
+use Rattle.scan.proofs.Scans.{same-is}
 use Rattle.scan.proofs.Splits.{split-at, after-on, after-end}
 
 -- a place counted from i
@@ -232,3 +233,120 @@ module _ (first : ℕ) (r : N.Number) where
 
   pub after-none : r ≡ N.the-variants.Refused → 50 ≡ formAfter first (numberOf r)
   after-none v = rw v
+
+-- ---- a word tried by itself
+
+module _ (name : List ℕ) (t : Bool) where
+  form-tried : (w : List ℕ) (n : ℕ) → n ≡ tagOf 11 w → t ≡ same name w → t ≡ true → n ≡ tagOf 11 name
+  form-tried w n e s h = e ∙ ap (tagOf 11) (sym (same-is name w (sym s ∙ h)))
+
+  key-tried : (w : List ℕ) (n : ℕ) → some n ≡ wordNumber w keys → t ≡ same name w → t ≡ true → numberOf (N.the-variants.Value n) ≡ wordNumber name keys
+  key-tried w n e s h = e ∙ ap (λ (x : List ℕ). wordNumber x keys) (sym (same-is name w (sym s ∙ h)))
+
+  pub eq-tried : t ≡ same name (ascii "eq") → t ≡ true → 26 ≡ tagOf 11 name
+  unfolding tagOf forms
+  eq-tried = form-tried (ascii "eq") 26 refl
+
+  pub or-tried : t ≡ same name (ascii "or") → t ≡ true → 25 ≡ tagOf 11 name
+  unfolding tagOf forms
+  or-tried = form-tried (ascii "or") 25 refl
+
+  pub in-tried : t ≡ same name (ascii "in") → t ≡ true → 32 ≡ tagOf 11 name
+  unfolding tagOf forms
+  in-tried = form-tried (ascii "in") 32 refl
+
+  pub if-tried : t ≡ same name (ascii "if") → t ≡ true → 38 ≡ tagOf 11 name
+  unfolding tagOf forms
+  if-tried = form-tried (ascii "if") 38 refl
+
+  pub lt-tried : t ≡ same name (ascii "lt") → t ≡ true → 27 ≡ tagOf 11 name
+  unfolding tagOf forms
+  lt-tried = form-tried (ascii "lt") 27 refl
+
+  pub le-tried : t ≡ same name (ascii "le") → t ≡ true → 28 ≡ tagOf 11 name
+  unfolding tagOf forms
+  le-tried = form-tried (ascii "le") 28 refl
+
+  pub is-tried : t ≡ same name (ascii "is") → t ≡ true → 39 ≡ tagOf 11 name
+  unfolding tagOf forms
+  is-tried = form-tried (ascii "is") 39 refl
+
+  pub lit-tried : t ≡ same name (ascii "lit") → t ≡ true → 21 ≡ tagOf 11 name
+  unfolding tagOf forms
+  lit-tried = form-tried (ascii "lit") 21 refl
+
+  pub var-tried : t ≡ same name (ascii "var") → t ≡ true → 23 ≡ tagOf 11 name
+  unfolding tagOf forms
+  var-tried = form-tried (ascii "var") 23 refl
+
+  pub get-tried : t ≡ same name (ascii "get") → t ≡ true → 41 ≡ tagOf 11 name
+  unfolding tagOf forms
+  get-tried = form-tried (ascii "get") 41 refl
+
+  pub and-tried : t ≡ same name (ascii "and") → t ≡ true → 24 ≡ tagOf 11 name
+  unfolding tagOf forms
+  and-tried = form-tried (ascii "and") 24 refl
+
+  pub has-tried : t ≡ same name (ascii "has") → t ≡ true → 42 ≡ tagOf 11 name
+  unfolding tagOf forms
+  has-tried = form-tried (ascii "has") 42 refl
+
+  pub not-tried : t ≡ same name (ascii "not") → t ≡ true → 44 ≡ tagOf 11 name
+  unfolding tagOf forms
+  not-tried = form-tried (ascii "not") 44 refl
+
+  pub add-tried : t ≡ same name (ascii "add") → t ≡ true → 29 ≡ tagOf 11 name
+  unfolding tagOf forms
+  add-tried = form-tried (ascii "add") 29 refl
+
+  pub sub-tried : t ≡ same name (ascii "sub") → t ≡ true → 30 ≡ tagOf 11 name
+  unfolding tagOf forms
+  sub-tried = form-tried (ascii "sub") 30 refl
+
+  pub mul-tried : t ≡ same name (ascii "mul") → t ≡ true → 31 ≡ tagOf 11 name
+  unfolding tagOf forms
+  mul-tried = form-tried (ascii "mul") 31 refl
+
+  pub like-tried : t ≡ same name (ascii "like") → t ≡ true → 40 ≡ tagOf 11 name
+  unfolding tagOf forms
+  like-tried = form-tried (ascii "like") 40 refl
+
+  pub haspath-tried : t ≡ same name (ascii "haspath") → t ≡ true → 43 ≡ tagOf 11 name
+  unfolding tagOf forms
+  haspath-tried = form-tried (ascii "haspath") 43 refl
+
+  pub contains-tried : t ≡ same name (ascii "contains") → t ≡ true → 35 ≡ tagOf 11 name
+  unfolding tagOf forms
+  contains-tried = form-tried (ascii "contains") 35 refl
+
+  pub record-tried : t ≡ same name (ascii "record") → t ≡ true → 48 ≡ tagOf 11 name
+  unfolding tagOf forms
+  record-tried = form-tried (ascii "record") 48 refl
+
+  pub hastag-tried : t ≡ same name (ascii "hastag") → t ≡ true → 34 ≡ tagOf 11 name
+  unfolding tagOf forms
+  hastag-tried = form-tried (ascii "hastag") 34 refl
+
+  pub gettag-tried : t ≡ same name (ascii "gettag") → t ≡ true → 33 ≡ tagOf 11 name
+  unfolding tagOf forms
+  gettag-tried = form-tried (ascii "gettag") 33 refl
+
+  pub empty-tried : t ≡ same name (ascii "empty") → t ≡ true → 46 ≡ tagOf 11 name
+  unfolding tagOf forms
+  empty-tried = form-tried (ascii "empty") 46 refl
+
+  pub node-tried : t ≡ same name (ascii "node") → t ≡ true → numberOf (N.the-variants.Value 11) ≡ wordNumber name keys
+  unfolding keys
+  node-tried = key-tried (ascii "node") 11 refl
+
+  pub value-tried : t ≡ same name (ascii "value") → t ≡ true → numberOf (N.the-variants.Value 5) ≡ wordNumber name keys
+  unfolding keys
+  value-tried = key-tried (ascii "value") 5 refl
+
+  pub text-tried : t ≡ same name (ascii "text") → t ≡ true → numberOf (N.the-variants.Value 1) ≡ wordNumber name keys
+  unfolding keys
+  text-tried = key-tried (ascii "text") 1 refl
+
+  pub policy-tried : t ≡ same name (ascii "policy") → t ≡ true → numberOf (N.the-variants.Value 12) ≡ wordNumber name keys
+  unfolding keys
+  policy-tried = key-tried (ascii "policy") 12 refl

@@ -126,10 +126,18 @@ pub fn separators(s: &[u8], b: u8) -> usize
     n
 }
 
+// Whether two words are the same. Those that begin alike often end otherwise, so the last bytes are compared first.
 pub fn same_bytes(a: &[u8], b: &[u8]) -> bool
     ensures { λ r. ⌜ r ≡ same (now (a .entry)) (now (b .entry)) ⌝ }
 {
     if a.len() != b.len() {
+        return false;
+    }
+    if a.len() == 0 {
+        return true;
+    }
+    let last = a.len() - 1;
+    if a[last] != b[last] {
         return false;
     }
     let mut i = 0;
@@ -147,6 +155,13 @@ pub fn same_words(a: &[u32], b: &[u32]) -> bool
     ensures { λ r. ⌜ r ≡ same (now (a .entry)) (now (b .entry)) ⌝ }
 {
     if a.len() != b.len() {
+        return false;
+    }
+    if a.len() == 0 {
+        return true;
+    }
+    let last = a.len() - 1;
+    if a[last] != b[last] {
         return false;
     }
     let mut i = 0;
@@ -197,10 +212,22 @@ pub fn place(word: &[u8], list: &[u8]) -> Number
     }
 }
 
-// The number of a key, in the order of the thirteen keys.
+// The number of a key, in the order of the thirteen keys. The keys of most lines are tried first.
 pub fn key_of(name: &[u8]) -> Number
     ensures { λ r. ⌜ numberOf r ≡ wordNumber (now (name .entry)) keys ⌝ }
 {
+    if same_bytes(name, b"node") {
+        return Number::Value(11);
+    }
+    if same_bytes(name, b"value") {
+        return Number::Value(5);
+    }
+    if same_bytes(name, b"text") {
+        return Number::Value(1);
+    }
+    if same_bytes(name, b"policy") {
+        return Number::Value(12);
+    }
     place(
         name,
         b"sheet,text,kind,type,shape,value,entity,principal,action,resource,context,node,policy",
@@ -239,8 +266,8 @@ pub fn value_form(name: &[u8]) -> u64
     form_after(10, place(name, b"bool,long,text,entity,set,record"))
 }
 
-// The form of a node by its operation.
-pub fn node_form(name: &[u8]) -> u64
+// The form of a node by its operation, found in the list of all.
+fn listed_form(name: &[u8]) -> u64
     ensures { λ r. ⌜ r ≡ tagOf 11 (now (name .entry)) ⌝ }
 {
     form_after(
@@ -250,6 +277,107 @@ pub fn node_form(name: &[u8]) -> u64
             b"lit,err,var,and,or,eq,lt,le,add,sub,mul,in,gettag,hastag,contains,all,any,if,is,like,get,has,haspath,not,neg,empty,set,record",
         ),
     )
+}
+
+// The same, where operations of two letters are tried first.
+fn short_form(name: &[u8]) -> u64
+    ensures { λ r. ⌜ r ≡ tagOf 11 (now (name .entry)) ⌝ }
+{
+    if same_bytes(name, b"eq") {
+        return 26;
+    }
+    if same_bytes(name, b"or") {
+        return 25;
+    }
+    if same_bytes(name, b"in") {
+        return 32;
+    }
+    if same_bytes(name, b"if") {
+        return 38;
+    }
+    if same_bytes(name, b"lt") {
+        return 27;
+    }
+    if same_bytes(name, b"le") {
+        return 28;
+    }
+    if same_bytes(name, b"is") {
+        return 39;
+    }
+    listed_form(name)
+}
+
+// The same, where operations of three letters are tried first.
+fn middle_form(name: &[u8]) -> u64
+    ensures { λ r. ⌜ r ≡ tagOf 11 (now (name .entry)) ⌝ }
+{
+    if same_bytes(name, b"lit") {
+        return 21;
+    }
+    if same_bytes(name, b"var") {
+        return 23;
+    }
+    if same_bytes(name, b"get") {
+        return 41;
+    }
+    if same_bytes(name, b"and") {
+        return 24;
+    }
+    if same_bytes(name, b"has") {
+        return 42;
+    }
+    if same_bytes(name, b"not") {
+        return 44;
+    }
+    if same_bytes(name, b"add") {
+        return 29;
+    }
+    if same_bytes(name, b"sub") {
+        return 30;
+    }
+    if same_bytes(name, b"mul") {
+        return 31;
+    }
+    listed_form(name)
+}
+
+// The same, where longer operations are tried first.
+fn long_form(name: &[u8]) -> u64
+    ensures { λ r. ⌜ r ≡ tagOf 11 (now (name .entry)) ⌝ }
+{
+    if same_bytes(name, b"like") {
+        return 40;
+    }
+    if same_bytes(name, b"haspath") {
+        return 43;
+    }
+    if same_bytes(name, b"contains") {
+        return 35;
+    }
+    if same_bytes(name, b"record") {
+        return 48;
+    }
+    if same_bytes(name, b"hastag") {
+        return 34;
+    }
+    if same_bytes(name, b"gettag") {
+        return 33;
+    }
+    if same_bytes(name, b"empty") {
+        return 46;
+    }
+    listed_form(name)
+}
+
+// The form of a node by its operation.
+pub fn node_form(name: &[u8]) -> u64
+    ensures { λ r. ⌜ r ≡ tagOf 11 (now (name .entry)) ⌝ }
+{
+    match name.len() {
+        2 => short_form(name),
+        3 => middle_form(name),
+        _ => long_form(name),
+    }
 }
 
 // ---- numbers

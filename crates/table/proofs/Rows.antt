@@ -3,12 +3,12 @@ use mathlib.Core.Path.{_≡_, refl, sym, ap, ap₂, _∙_}
 use mathlib.Core.Bool.{Bool, true, _&&_, and-eq-true-iff}
 use mathlib.Core.Logic.{⊎-elim}
 use mathlib.Core.List.{List, [], _∷_}
-use Prim.Native.Nat.{ℕ, zero, suc, _+_, _≤_, _<_}
+use Prim.Native.Nat.{ℕ, zero, suc, _+_, _-_, _≤_, _<_}
 use native.Mathlib.Nat.{eq-or-lt-of-le}
 use native.Mathlib.Numerals.{add-one}
 use native.Mathlib.Omega.{arith}
-use borrow.Author.Tests.{leb-true, ltb-true}
-use lib.Dec.{leb, ltb}
+use borrow.Author.Tests.{leb-true, ltb-true, eqb-true}
+use lib.Dec.{leb, ltb, eqb}
 use lib.ListN.{length, getD, set, List·getD-map, List·getD-eq-default}
 use Rattle.sheet.specs.Forms.{forms, formOf, noForm, items, tag, at, TEXT}
 use Rattle.sheet.specs.State.{linesOf, lineAt, count}
@@ -23,20 +23,6 @@ keysOfForms = 0 ∷ 1 ∷ 2 ∷ 3 ∷ 3 ∷ 3 ∷ 3 ∷ 3 ∷ 3 ∷ 4 ∷ 5 ∷ 
 key-is : (t : ℕ) → getD keysOfForms t 13 ≡ formOf t .key
 unfolding keysOfForms forms formOf
 key-is t = List·getD-map (λ f. f .key) forms t noForm
-
--- within a list its default does not matter
-within-list : (l : List ℕ) (i d e : ℕ) → i < length l → getD l i d ≡ getD l i e
-within-list [] i d e h = absurd (omega arith)
-within-list (x ∷ l) zero d e h = refl
-within-list (x ∷ l) (suc i) d e h = within-list l i d e (omega arith)
-
-pub key-in : (t : ℕ) → t < 50 → getD keysOfForms t 0 ≡ formOf t .key
-unfolding keysOfForms
-key-in t h = within-list keysOfForms t 0 13 h ∙ key-is t
-
-pub key-out : (t : ℕ) → 50 ≤ t → 13 ≡ formOf t .key
-unfolding keysOfForms
-key-out t h = sym (List·getD-eq-default keysOfForms 13 h) ∙ key-is t
 
 -- what a computed test says of every number below n
 allBelow : (ℕ → Bool) → ℕ → Bool
@@ -53,21 +39,6 @@ below-all f (suc n) e i h =
     let p = and-eq-true-iff (f n) (allBelow f n) .0 e in
     ⊎-elim (λ q. rw q (p .0)) (λ l. below-all f n (p .1) i l) (eq-or-lt-of-le (le-of-suc i n h))
 
--- the regions of the index lie one after another
-pub regions-rise : (k j : ℕ) → k < 14 → j < k → base j + limit j < base k
-unfolding base bases limit limits allBelow
-regions-rise k j h l =
-    ltb-true (base j + limit j) (base k)
-    (below-all (λ (i : ℕ). ltb (base i + limit i) (base k)) k (below-all (λ (m : ℕ). allBelow (λ (i : ℕ). ltb (base i + limit i) (base m)) m) 14 refl k h) j l)
-
-pub regions-low : (k : ℕ) → k < 14 → 16 ≤ base k
-unfolding base bases allBelow
-regions-low k h = leb-true 16 (base k) (below-all (λ (m : ℕ). leb 16 (base m)) 14 refl k h)
-
-pub regions-high : (k : ℕ) → k < 14 → base k + limit k < heap
-unfolding base bases limit limits allBelow
-regions-high k h = ltb-true (base k + limit k) heap (below-all (λ (m : ℕ). ltb (base m + limit m) heap) 14 refl k h)
-
 small : ℕ → List ℕ → Bool
 small n [] = true
 small n (x ∷ l) = leb x n && small n l
@@ -82,13 +53,74 @@ pub base-small : (k : ℕ) → base k ≤ 2978
 unfolding base bases small
 base-small k = entry-small 2978 bases k refl
 
-pub base-out : (k : ℕ) → 14 ≤ k → 0 ≡ base k
-unfolding base bases
-base-out k h = sym (List·getD-eq-default bases 0 h)
+-- ---- the tables as the code decides them
 
-pub keys-small : (t : ℕ) → getD keysOfForms t 0 ≤ 12
-unfolding keysOfForms small
-keys-small t = entry-small 12 keysOfForms t refl
+-- a number that is the key of every form from lo on, n of them
+key-among : (lo n : ℕ) (f : ℕ → ℕ) → allBelow (λ (i : ℕ). eqb (f (lo + i)) (getD keysOfForms (lo + i) 13)) n ≡ true → (t : ℕ) → lo ≤ t → t < lo + n → f t ≡ formOf t .key
+key-among lo n f e t l h =
+    let q : lo + (t - lo) ≡ t = omega arith in
+    let p : eqb (f (lo + (t - lo))) (getD keysOfForms (lo + (t - lo)) 13) ≡ true = below-all (λ (i : ℕ). eqb (f (lo + i)) (getD keysOfForms (lo + i) 13)) n e (t - lo) (omega arith) in
+    eqb-true (f t) (getD keysOfForms t 13) (rw (← q) p) ∙ key-is t
+
+module _ (t : ℕ) where
+  pub key-request : 16 ≤ t → t < 21 → t - 10 ≡ formOf t .key
+  unfolding keysOfForms allBelow
+  key-request = key-among 16 5 (λ (i : ℕ). i - 10) refl t
+
+  pub key-value : 10 ≤ t → t < 16 → 5 ≡ formOf t .key
+  unfolding keysOfForms allBelow
+  key-value = key-among 10 6 (λ (i : ℕ). 5) refl t
+
+  pub key-shape : t ≡ 9 → 4 ≡ formOf t .key
+  unfolding keysOfForms allBelow
+  key-shape e = key-among 9 1 (λ (i : ℕ). 4) refl t (omega arith) (omega arith)
+
+  pub key-type : 3 ≤ t → t < 10 → (t ≡ 9 → ⊥) → 3 ≡ formOf t .key
+  unfolding keysOfForms allBelow
+  key-type l h ne = key-among 3 6 (λ (i : ℕ). 3) refl t l (omega arith)
+
+  pub key-first : t < 3 → t ≡ formOf t .key
+  unfolding keysOfForms allBelow
+  key-first h = key-among 0 3 (λ (i : ℕ). i) refl t (omega arith) h
+
+  pub key-node : 21 ≤ t → t < 49 → 11 ≡ formOf t .key
+  unfolding keysOfForms allBelow
+  key-node = key-among 21 28 (λ (i : ℕ). 11) refl t
+
+  pub key-policy : t ≡ 49 → 12 ≡ formOf t .key
+  unfolding keysOfForms allBelow
+  key-policy e = key-among 49 1 (λ (i : ℕ). 12) refl t (omega arith) (omega arith)
+
+  pub key-none : 49 ≤ t → (t ≡ 49 → ⊥) → 13 ≡ formOf t .key
+  unfolding keysOfForms
+  key-none h ne = let l : 50 ≤ t = omega arith in sym (List·getD-eq-default keysOfForms 13 l) ∙ key-is t
+
+pub base-at : (k i v : ℕ) → k ≡ i → v ≡ base i → (v ≡ base k) × (v < heap)
+base-at k i v e q = (q ∙ ap base (sym e), omega (arith, q, base-small i))
+
+past : (k i : ℕ) → i ≤ k → (k ≡ i → ⊥) → suc i ≤ k
+past k i h ne = omega arith
+
+pub base-out : (k : ℕ) → (k ≡ 0 → ⊥) → (k ≡ 1 → ⊥) → (k ≡ 2 → ⊥) → (k ≡ 3 → ⊥) → (k ≡ 4 → ⊥) → (k ≡ 5 → ⊥) → (k ≡ 6 → ⊥) → (k ≡ 7 → ⊥) → (k ≡ 8 → ⊥) → (k ≡ 9 → ⊥) → (k ≡ 10 → ⊥) → (k ≡ 11 → ⊥) → (k ≡ 12 → ⊥) → (k ≡ 13 → ⊥) → (0 ≡ base k) × (0 < heap)
+unfolding base bases
+base-out k a b c d e f g i j l m n o p =
+    let h : 14 ≤ k = past k 13 (past k 12 (past k 11 (past k 10 (past k 9 (past k 8 (past k 7 (past k 6 (past k 5 (past k 4 (past k 3 (past k 2 (past k 1 (past k 0 (omega arith) a) b) c) d) e) f) g) i) j) l) m) n) o) p in
+    (sym (List·getD-eq-default bases 0 h), omega arith)
+
+-- the regions of the index lie one after another
+pub regions-rise : (k j : ℕ) → k < 14 → j < k → base j + limit j < base k
+unfolding base bases limit limits allBelow
+regions-rise k j h l =
+    ltb-true (base j + limit j) (base k)
+    (below-all (λ (i : ℕ). ltb (base i + limit i) (base k)) k (below-all (λ (m : ℕ). allBelow (λ (i : ℕ). ltb (base i + limit i) (base m)) m) 14 refl k h) j l)
+
+pub regions-low : (k : ℕ) → k < 14 → 16 ≤ base k
+unfolding base bases allBelow
+regions-low k h = leb-true 16 (base k) (below-all (λ (m : ℕ). leb 16 (base m)) 14 refl k h)
+
+pub regions-high : (k : ℕ) → k < 14 → base k + limit k < heap
+unfolding base bases limit limits allBelow
+regions-high k h = ltb-true (base k + limit k) heap (below-all (λ (m : ℕ). ltb (base m + limit m) heap) 14 refl k h)
 
 pub limit-small : (k : ℕ) → limit k ≤ 1024
 unfolding limit limits small

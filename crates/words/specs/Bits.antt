@@ -1,9 +1,9 @@
--- A set of numbers in words, 32 to a word.
+-- A set of numbers in words, 32 to a word; small numbers, several to a word.
 use mathlib.Core.Path.{_≡_}
 use mathlib.Core.Bool.{Bool, true, cond}
 use mathlib.Core.List.{List}
 use mathlib.Core.Logic.{_⊎_}
-use Prim.Native.Nat.{ℕ, _+_, _/_, _%_, _^_, _<_}
+use Prim.Native.Nat.{ℕ, _+_, _*_, _/_, _%_, _^_, _<_}
 use lib.ListN.{length, getD, set}
 use lib.Dec.{eqb}
 
@@ -22,3 +22,11 @@ pub record Added (p : ℕ) (w v : List ℕ) : Type 0 where
   pub joined : (q : ℕ) → member v q ≡ true → (member w q ≡ true) ⊎ (q ≡ p)
   pub kept : (q : ℕ) → member w q ≡ true → member v q ≡ true
   pub here : p / 32 < length w → member v p ≡ true
+
+-- digit i, modulo 16, of a word of sixteen hexadecimal digits, the lowest first
+unfoldable pub digitOf : ℕ → ℕ → ℕ
+digitOf w i = w / 2 ^ (i % 16 * 4) % 16
+
+-- byte i, modulo 4, of a word of four bytes, the lowest first
+unfoldable pub byteOf : ℕ → ℕ → ℕ
+byteOf w i = w / 2 ^ (i % 4 * 8) % 256

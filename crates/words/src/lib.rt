@@ -1,13 +1,14 @@
 // A lent slice of words. Every call is total: a word is 0 past the end, a part is cut there, and nothing is stored there.
 // A log is the list of the slice's first `top` words: it is read with 0 past its end, grows at its end while it has room, and is
-// cut by going back to a smaller `top`. A set of numbers takes one bit for each.
+// cut by going back to a smaller `top`. A set of numbers takes one bit for each. A table of small numbers has
+// several to a word.
 ghost use mathlib.Core.Path.{_≡_};
 ghost use mathlib.Core.List.{[], _∷_};
 ghost use Prim.Native.Nat.{_%_, _^_};
 ghost use lib.ListN.{getD, take, set};
 ghost use lib.Seq.{sets};
 ghost use Rattle.words.specs.Log.{part, hasRoom, Appended, cleared};
-ghost use Rattle.words.specs.Bits.{member, added};
+ghost use Rattle.words.specs.Bits.{member, added, digitOf, byteOf};
 
 // The words of a slice that a log may take.
 pub const ROOM: usize = 16384;
@@ -150,4 +151,18 @@ pub fn add(w: &mut [u32], p: usize)
         let q = power(p);
         w[i] = x + q;
     }
+}
+
+// Digit `i`, modulo 16, of a word of sixteen hexadecimal digits, the lowest first.
+pub fn digit(w: u64, i: usize) -> usize
+    ensures { λ r. ⌜ r ≡ digitOf w i ⌝ }
+{
+    (w as usize >> (i % 16 * 4)) % 16
+}
+
+// Byte `i`, modulo 4, of a word of four, the lowest first.
+pub fn byte(w: u32, i: usize) -> usize
+    ensures { λ r. ⌜ r ≡ byteOf w i ⌝ }
+{
+    (w as usize >> (i % 4 * 8)) % 256
 }

@@ -11,26 +11,14 @@ returns c = search (call-first, needs)
 returns-2 : tie.Need-returns-2
 returns-2 c = search (call-second, needs)
 
-slice-relend-prefix-answered : tie.Need-slice-relend-prefix-answered
-slice-relend-prefix-answered c = search needs
-
 slice-aggregate-answered : tie.Need-slice-aggregate-answered
 slice-aggregate-answered c = search (part-long, needs)
-
-slice-relend-prefix-answered-2 : tie.Need-slice-relend-prefix-answered-2
-slice-relend-prefix-answered-2 c = search needs
 
 slice-aggregate-answered-2 : tie.Need-slice-aggregate-answered-2
 slice-aggregate-answered-2 c = search (part-long, needs)
 
 answered-requires : tie.Need-answered-requires
 answered-requires c κs = let s = c .before .before .before .before .before .before .before .before .before in (part-long (s .args .work1 .now) (c .before .before .before .before .if1 .left), part-long (s .args .work2 .now) (c .before .before .before .if2 .left))
-
-clear-requires : tie.Need-clear-requires
-clear-requires c κs = search needs
-
-clear-requires-2 : tie.Need-clear-requires-2
-clear-requires-2 c κs = search needs
 
 same-length : tie.Need-same-length
 same-length c =
@@ -45,9 +33,6 @@ same-length-2 c =
     let a = c .before .before .before .before .before .before .before .before .before .before .before .before .before .before .answered in
     let y = c .before .before .clear2 in
     part-same (s .args .work2 .now) (c .before .before .before .before .before .before .before .before .before .before .before .before .before .before .before .before .before .before .if2 .left) (a .last .1 .1 .1 .0) (y .last .0) (a .kept .1 .1 .1 .0) (y .kept .0)
-
-same-length-3 : tie.Need-same-length-3
-same-length-3 c = search needs
 
 returns-3 : tie.Need-returns-3
 returns-3 c =
@@ -65,14 +50,14 @@ call-spec =
     (tie.spec
     returns
     returns-2
-    slice-relend-prefix-answered
+    (λ c. search needs)
     slice-aggregate-answered
-    slice-relend-prefix-answered-2
+    (λ c. search needs)
     slice-aggregate-answered-2
     answered-requires
-    clear-requires
-    clear-requires-2
+    (λ c κs. search needs)
+    (λ c κs. search needs)
     same-length
     same-length-2
-    same-length-3
+    (λ c. search needs)
     returns-3)

@@ -6,18 +6,6 @@ use borrow.Author.Needs.{needs}
 use Rattle.authorizer.proofs.send_complete.Statement.{statement}
 use Rattle.authorizer.proofs.send_complete.Tie as tie
 
-slice-relend-prefix-complete : tie.Need-slice-relend-prefix-complete
-slice-relend-prefix-complete c = search needs
-
-slice-aggregate-complete : tie.Need-slice-aggregate-complete
-slice-aggregate-complete c = search needs
-
-complete-requires : tie.Need-complete-requires
-complete-requires c κs = search needs
-
-same-length : tie.Need-same-length
-same-length c = search needs
-
 returns : tie.Need-returns
 returns c =
     let s = c .before .before .before .before .before .before .before .before in
@@ -25,12 +13,6 @@ returns c =
     let cs = s .args .classes .now in
     let w = c .before .before .before .complete in
     send-short (completeBytes a cs) (s .args .out .now) (w .last .0) (w .result) (w .ensures) (complete-counted a cs (c .before .before .before .before .before .before .shared-slice-known .given 12 .fits)) (c .if1 .taken)
-
-complete-requires-2 : tie.Need-complete-requires-2
-complete-requires-2 c κs = search needs
-
-same-length-2 : tie.Need-same-length-2
-same-length-2 c = search needs
 
 returns-2 : tie.Need-returns-2
 returns-2 c =
@@ -45,11 +27,11 @@ pub send-complete-spec : {M : Type 1} → statement M
 send-complete-spec =
     tie.close
     (tie.spec
-    slice-relend-prefix-complete
-    slice-aggregate-complete
-    complete-requires
-    same-length
+    (λ c. search needs)
+    (λ c. search needs)
+    (λ c κs. search needs)
+    (λ c. search needs)
     returns
-    complete-requires-2
-    same-length-2
+    (λ c κs. search needs)
+    (λ c. search needs)
     returns-2)

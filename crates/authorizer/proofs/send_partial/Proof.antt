@@ -6,18 +6,6 @@ use borrow.Author.Needs.{needs}
 use Rattle.authorizer.proofs.send_partial.Statement.{statement}
 use Rattle.authorizer.proofs.send_partial.Tie as tie
 
-slice-relend-prefix-partial : tie.Need-slice-relend-prefix-partial
-slice-relend-prefix-partial c = search needs
-
-slice-aggregate-partial : tie.Need-slice-aggregate-partial
-slice-aggregate-partial c = search needs
-
-partial-requires : tie.Need-partial-requires
-partial-requires c κs = search needs
-
-same-length : tie.Need-same-length
-same-length c = search needs
-
 returns : tie.Need-returns
 returns c =
     let s = c .before .before .before .before .before .before .before .before .before .before in
@@ -28,12 +16,6 @@ returns c =
     let w = c .before .before .before .partial in
     let g = c .before .before .before .before .before .before .before .before .shared-slice-known in
     send-short (partialBytes a l cs es) (s .args .out .now) (w .last .0) (w .result) (w .ensures) (partial-counted a l cs es (s .pre .0) (s .pre .1) (g .given 12 .fits) (g .given 13 .fits)) (c .if1 .taken)
-
-partial-requires-2 : tie.Need-partial-requires-2
-partial-requires-2 c κs = search needs
-
-same-length-2 : tie.Need-same-length-2
-same-length-2 c = search needs
 
 returns-2 : tie.Need-returns-2
 returns-2 c =
@@ -51,11 +33,11 @@ pub send-partial-spec : {M : Type 1} → statement M
 send-partial-spec =
     tie.close
     (tie.spec
-    slice-relend-prefix-partial
-    slice-aggregate-partial
-    partial-requires
-    same-length
+    (λ c. search needs)
+    (λ c. search needs)
+    (λ c κs. search needs)
+    (λ c. search needs)
     returns
-    partial-requires-2
-    same-length-2
+    (λ c κs. search needs)
+    (λ c. search needs)
     returns-2)

@@ -36,6 +36,7 @@ ascends-spec =
     (λ c κs. search needs)
     (λ c κs. search needs)
     returns
+    (λ c. search needs)
     (λ c κs. search needs)
     loop-holds
     (λ c. search needs)

@@ -1,20 +1,17 @@
 -- `checks::step_of` meets its contract. Assumes nothing.
-use Rattle.checks.proofs.FormTable.{steps, step-in, step-out}
-use native.Mathlib.Omega.{arith}
+use Rattle.checks.proofs.FormTable.{step-first, step-record, step-last}
 use borrow.Author.Needs.{needs}
 use Rattle.checks.proofs.step_of.Statement.{statement}
 use Rattle.checks.proofs.step_of.Tie as tie
 
-cast-result : tie.Need-cast-result
-unfolding steps
-cast-result c = omega (arith, step-in (c .before .args .t) .1)
-
 returns : tie.Need-returns
-unfolding steps
-returns c = step-in (c .before .args .t)
+returns c = step-first (c .before .before .args .t) (c .digit .result) (c .digit .ensures) (c .before .if1 .taken)
 
 returns-2 : tie.Need-returns-2
-returns-2 c = (step-out (c .before .args .t) (c .if1 .left), omega arith)
+returns-2 c = step-record (c .before .before .args .t) (c .if2 .taken)
+
+returns-3 : tie.Need-returns-3
+returns-3 c = step-last (c .before .before .args .t) (c .before .if1 .left) (c .if2 .left)
 
 pub step-of-spec : {M : Type 1} → statement M
-step-of-spec = tie.close (tie.spec (λ c. search needs) (λ c. search needs) cast-result returns returns-2)
+step-of-spec = tie.close (tie.spec (λ c κs. search needs) returns returns-2 returns-3)

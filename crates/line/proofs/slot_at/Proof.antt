@@ -1,7 +1,7 @@
 -- `line::slot_at` meets its contract. Assumes nothing.
-use Prim.Native.Nat.{_-_, _%_, _<_}
-use native.Mathlib.Nat.{mod-lt}
+use Prim.Native.Nat.{_+_, _-_, _%_, _<_}
 use native.Mathlib.Omega.{arith}
+use Rattle.table.proofs.Counts.{group-place}
 use Rattle.line.proofs.LawsTable.{slot-item, slot-past, slot-group}
 use borrow.Author.Needs.{needs}
 use Rattle.line.proofs.slot_at.Statement.{statement}
@@ -13,14 +13,16 @@ returns c = search (slot-item, needs)
 returns-2 : tie.Need-returns-2
 returns-2 c = search (slot-past, needs)
 
-below : (c : tie.Else2) → (c .before .before .before .before .args .j - c .before .before .before .items-of .result) % c .before .group-of .result < c .before .group-of .result
-below c = mod-lt (c .before .before .before .before .args .j - c .before .before .before .items-of .result) {m = c .before .group-of .result} (omega arith)
+placed : (c : tie.Else2) → c .before .before .before .items-of .result + (c .before .before .before .before .args .j - c .before .before .before .items-of .result) % c .before .group-of .result < 4
+placed c =
+    let i = c .before .before .before in
+    group-place (i .before .args .t) (i .before .args .j) (i .items-of .result) (c .before .group-of .result) (i .items-of .ensures .0) (c .before .group-of .ensures .0) (c .if2 .left)
 
-add-slot-2 : tie.Need-add-slot-2
-add-slot-2 c = omega (arith, below c)
+add-slot : tie.Need-add-slot
+add-slot c = omega (arith, placed c)
 
-add-slot-3 : tie.Need-add-slot-3
-add-slot-3 c = omega (arith, below c)
+slot-requires-2 : tie.Need-slot-requires-2
+slot-requires-2 c κs = placed c
 
 returns-3 : tie.Need-returns-3
 returns-3 c =
@@ -33,15 +35,11 @@ slot-at-spec =
     tie.close
     (tie.spec
     (λ c κs. search needs)
-    (λ c. search needs)
-    (λ c. search needs)
     (λ c κs. search needs)
     returns
     (λ c κs. search needs)
     returns-2
     (λ c. search needs)
-    (λ c. search needs)
-    add-slot-2
-    add-slot-3
-    (λ c κs. search needs)
+    add-slot
+    slot-requires-2
     returns-3)

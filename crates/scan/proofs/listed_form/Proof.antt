@@ -1,12 +1,12 @@
--- `scan::node_form` meets its contract. Assumes nothing.
+-- `scan::listed_form` meets its contract. Assumes nothing.
 use Rattle.scan.proofs.Wordlists.{node-form}
 use borrow.Author.Needs.{needs}
-use Rattle.scan.proofs.node_form.Statement.{statement}
-use Rattle.scan.proofs.node_form.Tie as tie
+use Rattle.scan.proofs.listed_form.Statement.{statement}
+use Rattle.scan.proofs.listed_form.Tie as tie
 
 returns : tie.Need-returns
 returns c = let a = c .before .before .before .before .args in node-form (a .name .now) (c .before .place .result) (c .form-after .result) (c .before .place .ensures) (c .form-after .ensures)
 
-pub node-form-spec : {M : Type 1} → statement M
-node-form-spec =
+pub listed-form-spec : {M : Type 1} → statement M
+listed-form-spec =
     tie.close (tie.spec (λ c. search needs) (λ c κs. search needs) (λ c κs. search needs) returns)
