@@ -146,6 +146,10 @@ pub number-more : (was mid is : List ℕ) (at m next n : ℕ) → n < 1844674407
     → Written was at (digits n) is next
 number-more was mid is at m next n l h v w = written-as (written-append v w) (digits-more n h l)
 
+pub number-two : (was mid is : List ℕ) (at m next n : ℕ) → 10 ≤ n → n < 100 → Written was at ((48 + n / 10) ∷ []) mid m → Written mid m ((48 + n % 10) ∷ []) is next
+    → Written was at (digits n) is next
+number-two was mid is at m next n l h v w = number-more was mid is at m next n (omega arith) l (number-one was mid at m (n / 10) (omega arith) v) w
+
 pub long-less : (was mid is : List ℕ) (at m next w : ℕ) → w < 9223372036854775808 → Written was at (45 ∷ []) mid m → Written mid m (digits (9223372036854775808 - w)) is next
     → Written was at (signed (longAt w)) is next
 long-less was mid is at m next w h u v = written-as (written-append u v) (signed-negative w h)

@@ -41,7 +41,12 @@ pub fn number(out: &mut [u8], at: usize, n: u64) -> usize
     if n < 10 {
         return byte(out, at, (48 + n) as u8);
     }
-    let mid = number(out, at, n / 10);
+    let q = n / 10;
+    if n < 100 {
+        let tens = byte(out, at, (48 + q) as u8);
+        return byte(out, tens, (48 + n % 10) as u8);
+    }
+    let mid = number(out, at, q);
     byte(out, mid, (48 + n % 10) as u8)
 }
 

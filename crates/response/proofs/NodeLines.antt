@@ -1,23 +1,23 @@
 -- The lines of residual rows, run by run. Assumes nothing.
 use mathlib.Core.Path.{_≡_, refl, sym, ap, ap₂, _∙_}
-use mathlib.Core.Bool.{Bool, true, false, cond, _&&_, _||_, and-eq-true-iff}
+use mathlib.Core.Bool.{Bool, true, false, cond, _||_}
 use mathlib.Core.List.{List, [], _∷_, _++_, append-nil, append-assoc}
-use Prim.Native.Nat.{ℕ, zero, suc, _+_, _-_, _*_, _/_, _≤_, _<_}
+use Prim.Native.Nat.{ℕ, zero, suc, _+_, _-_, _/_, _≤_, _<_}
 use native.Mathlib.Omega.{arith}
 use native.Mathlib.Decide.{decLe, decLt}
-use borrow.Author.Tests.{eq-eqb, ne-eqb, lt-ltb, le-ltb, le-leb, lt-leb, eqb-true, leb-true}
-use lib.Dec.{eqb, leb, ltb}
+use borrow.Author.Tests.{eq-eqb, ne-eqb, lt-ltb, le-ltb, le-leb, lt-leb}
+use lib.Dec.{leb, ltb}
 use lib.ListN.{length, getD, take, drop, length-drop, drop-of-length-le, List·getD-eq-default}
 use lib.Seq.{take-all, drop-drop}
+use Rattle.cedar.specs.Numbered.{memN}
 use Rattle.cedar.proofs.Tools.{no-true}
 use Rattle.sheet.specs.Ascii.{ascii}
-use Rattle.sheet.specs.Bytes.{digits, same}
+use Rattle.sheet.specs.Bytes.{digits}
 use Rattle.sheet.specs.Forms.{Form, forms, formOf, noForm, lineOr, tag, items, at}
 use Rattle.sheet.specs.State.{typeRow}
 use Rattle.sheet.specs.Answer.{concat, numbers, itemOut, headLines}
-use Rattle.sheet.proofs.Lines.{and-both}
-use Rattle.sheet.proofs.Parsed.{allBelow, all-below}
-use Rattle.table.specs.Layout.{rowsOf, part}
+use Rattle.table.specs.Layout.{rowsOf}
+use Rattle.table.proofs.Counts.{ranged, NoneOf, none-of}
 use Rattle.table.proofs.Rows.{count-rows}
 use Rattle.residual.specs.Rows.{wordAt, stageAt, startAt}
 use Rattle.residual.specs.declared.Stage.{Stage}
@@ -142,47 +142,6 @@ fields-more was w₁ w₂ is r l at k₁ k₂ next i start p q t x g h eq et ex 
 
 -- ---- names
 
-same-is : (k l : List ℕ) → same k l ≡ true → k ≡ l
-same-is [] [] e = refl
-same-is [] (y ∷ l) e = no-true e
-same-is (x ∷ k) [] e = no-true e
-same-is (x ∷ k) (y ∷ l) e = and-both (eqb x y) (same k l) e (λ p q. ap₂ (λ (a : ℕ) (m : List ℕ). a ∷ m) (eqb-true x y p) (same-is k l q))
-
-unfoldable pub names : List ℕ
-names = ascii "lit     err     var     and     or      eq      lt      le      add     sub     mul     in      gettag  hastag  containsall     any     if      is      like    get     has     haspath not     neg     empty   set     record  "
-
-unfoldable pub widths : List ℕ
-widths = 3 ∷ 3 ∷ 3 ∷ 3 ∷ 2 ∷ 2 ∷ 2 ∷ 2 ∷ 3 ∷ 3 ∷ 3 ∷ 2 ∷ 6 ∷ 6 ∷ 8 ∷ 3 ∷ 3 ∷ 2 ∷ 2 ∷ 4 ∷ 3 ∷ 3 ∷ 7 ∷ 3 ∷ 3 ∷ 5 ∷ 3 ∷ 6 ∷ []
-
-abbrev pub column : ℕ → List ℕ
-column i = part names (i * 8) (i * 8 + getD widths i 0)
-
-unfoldable named : ℕ → Bool
-named i = same (column i) (ascii (opName (21 + i)))
-
-all-named : allBelow named 28 ≡ true
-unfolding named names widths opName formOf forms
-all-named = refl
-
-pub name-column : (t : ℕ) → 21 ≤ t → t ≤ 48 → column (t - 21) ≡ ascii (opName t)
-unfolding named
-name-column t a b =
-    let z : 21 + (t - 21) ≡ t = omega arith in
-    same-is (column (t - 21)) (ascii (opName (21 + (t - 21)))) (all-below named 28 (t - 21) all-named (omega arith)) ∙ ap (λ (j : ℕ). ascii (opName j)) z
-
-abbrev few : List ℕ → Bool
-few [] = true
-few (x ∷ l) = leb x 8 && few l
-
-pub width-small : (i : ℕ) → getD widths i 0 ≤ 8
-unfolding widths
-width-small i = small i widths refl
-  where
-    small : (j : ℕ) (l : List ℕ) → few l ≡ true → getD l j 0 ≤ 8
-    small j [] e = omega arith
-    small zero (x ∷ l) e = leb-true x 8 (and-eq-true-iff (leb x 8) (few l) .0 e .0)
-    small (suc j) (x ∷ l) e = small j l (and-eq-true-iff (leb x 8) (few l) .0 e .1)
-
 name-less : (t : ℕ) → t < 21 → [] ≡ ascii (opName t)
 unfolding opName
 name-less t h = rw (lt-ltb t 21 h)
@@ -195,14 +154,24 @@ name-over t h = rw (le-ltb t 21 (omega arith)) (go (decLt 49 t))
     go (yes d) = ap (λ (f : Form). ascii (f .name)) (sym (List·getD-eq-default forms noForm d))
     go (no d) = let z : t ≡ 49 = omega arith in rw z
 
-pub name-low : (was : List ℕ) (at t : ℕ) → at ≤ 18446744073709551615 → length was ≤ 18446744073709551615 → t < 21 → Written was at (ascii (opName t)) was at
-name-low was at t a b h = written-as (written-none was at a b) (name-less t h)
+-- the forms of nodes, the last first
+abbrev pub opNumbers : List ℕ
+opNumbers = 48 ∷ 47 ∷ 46 ∷ 45 ∷ 44 ∷ 43 ∷ 42 ∷ 41 ∷ 40 ∷ 39 ∷ 38 ∷ 37 ∷ 36 ∷ 35 ∷ 34 ∷ 33 ∷ 32 ∷ 31 ∷ 30 ∷ 29 ∷ 28 ∷ 27 ∷ 26 ∷ 25 ∷ 24 ∷ 23 ∷ 22 ∷ 21 ∷ []
 
-pub name-high : (was : List ℕ) (at t : ℕ) → at ≤ 18446744073709551615 → length was ≤ 18446744073709551615 → 48 < t → Written was at (ascii (opName t)) was at
-name-high was at t a b h = written-as (written-none was at a b) (name-over t h)
+no-name : (t : ℕ) → NoneOf opNumbers t → [] ≡ ascii (opName t)
+no-name t d = go (decLt t 21) (decLt 48 t)
+  where
+    go : Dec (t < 21) → Dec (48 < t) → [] ≡ ascii (opName t)
+    go (yes h) e = name-less t h
+    go (no g) (yes h) = name-over t h
+    go (no g) (no h) = no-true (sym (none-of opNumbers t d) ∙ ranged (λ (i : ℕ). memN i opNumbers) 21 28 refl t (omega arith) (omega arith))
 
-pub name-written : (was is q : List ℕ) (at next t : ℕ) → 21 ≤ t → t ≤ 48 → q ≡ column (t - 21) → Written was at q is next → Written was at (ascii (opName t)) is next
-name-written was is q at next t a b e w = written-as w (e ∙ name-column t a b)
+pub name-none : (was : List ℕ) (at t : ℕ) → at ≤ 18446744073709551615 → length was ≤ 18446744073709551615 → NoneOf opNumbers t → Written was at (ascii (opName t)) was at
+name-none was at t a b d = written-as (written-none was at a b) (no-name t d)
+
+-- the bytes of a name that the code knows, by its number
+pub name-known : (was is q : List ℕ) (at next t n : ℕ) → t ≡ n → q ≡ ascii (opName n) → Written was at q is next → Written was at (ascii (opName t)) is next
+name-known was is q at next t n e p w = written-as w (p ∙ ap (λ (j : ℕ). ascii (opName j)) (sym e))
 
 -- ---- a variable, a pattern, a path
 

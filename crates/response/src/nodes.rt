@@ -31,11 +31,6 @@ ghost use Rattle.response.specs.Nodes.{numberOf, childrenTo, fieldsTo, o
 // What a `*` is in a pattern.
 const MARK: u32 = 10000;
 
-// How many bytes the name of each operation has, from `lit` on.
-const WIDTHS: [u32; 28] = [
-    3, 3, 3, 3, 2, 2, 2, 2, 3, 3, 3, 2, 6, 6, 8, 3, 3, 2, 2, 4, 3, 3, 7, 3, 3, 5, 3, 6,
-];
-
 // Where the row that ends at `e` begins.
 fn before(e: usize) -> usize
     ensures { λ r. ⌜ r ≡ e - 4 ⌝ }
@@ -91,28 +86,41 @@ fn fields(out: &mut [u8], at: usize, r: &[u32], i: usize, log: &[u32], start: us
     number_after(out, m, 44, number_of(p))
 }
 
-// The name of an operation: in the list each has eight bytes.
+// The name of an operation.
 fn name(out: &mut [u8], at: usize, t: u32) -> usize
     ensures { λ r. ⌜ Written (now (out .entry)) at (ascii (opName t)) (now (out .exit)) r ⌝ }
 {
-    if t < 21 {
-        return at;
+    match t {
+        21 => bytes(out, at, b"lit"),
+        22 => bytes(out, at, b"err"),
+        23 => bytes(out, at, b"var"),
+        24 => bytes(out, at, b"and"),
+        25 => bytes(out, at, b"or"),
+        26 => bytes(out, at, b"eq"),
+        27 => bytes(out, at, b"lt"),
+        28 => bytes(out, at, b"le"),
+        29 => bytes(out, at, b"add"),
+        30 => bytes(out, at, b"sub"),
+        31 => bytes(out, at, b"mul"),
+        32 => bytes(out, at, b"in"),
+        33 => bytes(out, at, b"gettag"),
+        34 => bytes(out, at, b"hastag"),
+        35 => bytes(out, at, b"contains"),
+        36 => bytes(out, at, b"all"),
+        37 => bytes(out, at, b"any"),
+        38 => bytes(out, at, b"if"),
+        39 => bytes(out, at, b"is"),
+        40 => bytes(out, at, b"like"),
+        41 => bytes(out, at, b"get"),
+        42 => bytes(out, at, b"has"),
+        43 => bytes(out, at, b"haspath"),
+        44 => bytes(out, at, b"not"),
+        45 => bytes(out, at, b"neg"),
+        46 => bytes(out, at, b"empty"),
+        47 => bytes(out, at, b"set"),
+        48 => bytes(out, at, b"record"),
+        _ => at,
     }
-    if t > 48 {
-        return at;
-    }
-    let i = (t - 21) as usize;
-    let s = i * 8;
-    let n = WIDTHS[i] as usize;
-    bytes(
-        out,
-        at,
-        table::bytes(
-            b"lit     err     var     and     or      eq      lt      le      add     sub     mul     in      gettag  hastag  containsall     any     if      is      like    get     has     haspath not     neg     empty   set     record  ",
-            s,
-            s + n,
-        ),
-    )
 }
 
 // A variable after a comma.

@@ -1,6 +1,6 @@
 -- `print::number` meets its contract. Assumes nothing.
 use native.Mathlib.Omega.{arith}
-use Rattle.print.proofs.Writing.{number-one, number-more}
+use Rattle.print.proofs.Writing.{number-one, number-two, number-more}
 use borrow.Author.Needs.{needs}
 use Prim.Native.Nat.{ℕ, _<_}
 use borrow.Fn.Kinds.{In}
@@ -29,6 +29,14 @@ number-returns : (t : ℕ) → number-lts.Need-returns (
 ) (number-at t) number.Post
 number-returns t c = search (number-one, needs)
 
+number-returns-2 : (t : ℕ) → number-lts.Need-returns-2 (
+  byte-reads.Asked,
+  byte-reads.Learnt,
+  number-below t,
+  number.Post,
+) (number-at t) number.Post
+number-returns-2 t c = search (number-two, needs)
+
 number-number-requires : (t : ℕ) → number-lts.Need-number-requires (
   byte-reads.Asked,
   byte-reads.Learnt,
@@ -37,13 +45,13 @@ number-number-requires : (t : ℕ) → number-lts.Need-number-requires (
 ) (number-at t) number.Post
 number-number-requires t c κs = (omega arith, search needs)
 
-number-returns-2 : (t : ℕ) → number-lts.Need-returns-2 (
+number-returns-3 : (t : ℕ) → number-lts.Need-returns-3 (
   byte-reads.Asked,
   byte-reads.Learnt,
   number-below t,
   number.Post,
 ) (number-at t) number.Post
-number-returns-2 t c = search (number-more, needs)
+number-returns-3 t c = search (number-more, needs)
 
 pub +number-spec : {M : Type 1} → statement M
 +number-spec = close μ-number λ t. number-lts.spec (
@@ -59,9 +67,17 @@ pub +number-spec : {M : Type 1} → statement M
     (λ c κs. search needs)
     (λ c. search needs)
     (number-returns t)
-    (number-number-requires t)
+    (λ c. search needs)
+    (λ c. search needs)
+    (λ c κs. search needs)
     (λ c. search needs)
     (λ c. search needs)
     (λ c κs. search needs)
     (λ c. search needs)
     (number-returns-2 t)
+    (number-number-requires t)
+    (λ c. search needs)
+    (λ c. search needs)
+    (λ c κs. search needs)
+    (λ c. search needs)
+    (number-returns-3 t)
