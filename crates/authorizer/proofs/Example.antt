@@ -1,21 +1,18 @@
 -- The hypotheses of demand 3 for the calls can be met: a partial sheet that leaves a policy open, and two complete sheets that agree with
 -- it and settle the policy in different ways, each in work slices and a buffer of its own. Assumes nothing.
 use mathlib.Core.Path.{_≡_, refl, _∙_, ap}
-use mathlib.Core.Bool.{true, cond}
-use mathlib.Core.List.{List, [], _∷_}
+use mathlib.Core.List.{List}
 use Prim.Native.Nat.{ℕ}
-use lib.Dec.{eqb}
 use lib.ListN.{length}
 use Rattle.cedar.specs.Canonical.{order, same, place, insert, ascending, makeSet}
-use Rattle.sheet.specs.Ascii.{ascii}
 use Rattle.sheet.specs.Forms.{Mode, keys, partial, complete, forms, formOf, slotAt, counted, tagOf, rowOf, keyOf, refs, ascendings}
 use Rattle.sheet.specs.Typing.{fitsIn, typed}
 use Rattle.sheet.specs.Sheet.{found, depth, fault, more, read}
 use Rattle.sheet.specs.Content.{types, valueRows, contents, schema, trees, exprs, nPolicies, policies, nEnv, env}
 use Rattle.sheet.specs.Answer.{run, results, answer}
 use Rattle.sheet.specs.Call.{returned, written, worked}
-use Rattle.sheet.specs.Agreement.{agrees}
 use Rattle.sheet.specs.Demand3.{Demand3}
+use Rattle.sheet.proofs.ExampleBytes.{open-sheet, low, high, low-agrees, high-agrees}
 use Rattle.authorizer.proofs.Demand3.{Run, bytesIn, demand-3-calls}
 
 -- what a call leaves of what it is lent
@@ -33,20 +30,7 @@ runOf m sheet work₁ work₂ buffer = record {
   called = record { number-is = refl; line-is = refl; length-is = refl; buffer = refl; first = refl; second = refl };
 }
 
-abbrev lineEnds : List ℕ → List ℕ
-lineEnds [] = []
-lineEnds (x ∷ l) = cond (eqb x 47) 10 x ∷ lineEnds l
-
--- context.n < 1 + 2 over an unknown context; then -7, and 9
-open-sheet : List ℕ
-open-sheet = lineEnds (ascii "sheet=partial/text=A/text=B/text=n/kind=0,e/kind=1,a/type=bool/type=record/type=long/type=record,2,r,2/shape=1,-/shape=1,-/value=long,1/value=long,2/principal=0,?/action=1,0/resource=0,?/context=3,?/node=3,var,c/node=2,get,0,2/node=2,lit,0/node=2,lit,1/node=2,add,2,3/node=0,lt,1,4/policy=0,permit,5/")
-
-low : List ℕ
-low = lineEnds (ascii "sheet=complete/text=A/text=B/text=n/kind=0,e/kind=1,a/type=bool/type=record/type=long/type=record,2,r,2/shape=1,-/shape=1,-/value=long,1/value=long,2/value=long,-7/value=record,2,2/principal=0,0/action=1,0/resource=0,1/context=3,3/node=3,var,c/node=2,get,0,2/node=2,lit,0/node=2,lit,1/node=2,add,2,3/node=0,lt,1,4/policy=0,permit,5/")
-
-high : List ℕ
-high = lineEnds (ascii "sheet=complete/text=A/text=B/text=n/kind=0,e/kind=1,a/type=bool/type=record/type=long/type=record,2,r,2/shape=1,-/shape=1,-/value=long,1/value=long,2/value=long,9/value=record,2,2/principal=0,0/action=1,0/resource=0,1/context=3,3/node=3,var,c/node=2,get,0,2/node=2,lit,0/node=2,lit,1/node=2,add,2,3/node=0,lt,1,4/policy=0,permit,5/")
-
+-- the sheets of the sheet's example, in lengths of their own
 open-accepted : returned partial 16384 20000 300 open-sheet .number ≡ 0
 unfolding open-sheet keys forms formOf slotAt counted tagOf rowOf keyOf refs ascendings fitsIn typed found depth fault more read types valueRows contents schema trees exprs nPolicies policies nEnv env run results answer returned order same place insert ascending makeSet
 open-accepted = refl
@@ -58,14 +42,6 @@ low-accepted = refl
 high-accepted : returned complete 16384 16384 300 high .number ≡ 0
 unfolding high keys forms formOf slotAt counted tagOf rowOf keyOf refs ascendings fitsIn typed found depth fault more read types valueRows contents schema trees exprs nPolicies policies nEnv env run results answer returned order same place insert ascending makeSet
 high-accepted = refl
-
-low-agrees : agrees (read partial open-sheet .state) (read complete low .state) ≡ true
-unfolding open-sheet low agrees keys forms formOf slotAt counted tagOf rowOf keyOf refs ascendings fitsIn typed found depth fault more read types valueRows contents schema trees exprs nPolicies policies nEnv env run results answer returned order same place insert ascending makeSet
-low-agrees = refl
-
-high-agrees : agrees (read partial open-sheet .state) (read complete high .state) ≡ true
-unfolding open-sheet high agrees keys forms formOf slotAt counted tagOf rowOf keyOf refs ascendings fitsIn typed found depth fault more read types valueRows contents schema trees exprs nPolicies policies nEnv env run results answer returned order same place insert ascending makeSet
-high-agrees = refl
 
 -- whatever the lent words and bytes are
 at-lengths : (m : Mode) (sheet : List ℕ) (i j k : ℕ) → returned m i j k sheet .number ≡ 0 → (w v o : List ℕ) → length w ≡ i → length v ≡ j → length o ≡ k → returned m (length w) (length v) (length o) sheet .number ≡ 0

@@ -13,7 +13,6 @@ use Rattle.sheet.specs.State.{State}
 use Rattle.sheet.specs.Sheet.{read}
 use Rattle.sheet.specs.Answer.{root, size, run, partialOf, answer}
 use Rattle.sheet.proofs.Lines.{History, accepted-history}
-use Rattle.table.specs.Layout.{limit, limits}
 use Rattle.response.specs.Verdicts.{classIn, verdictsIn}
 use Rattle.response.specs.Nodes.{partialBytes}
 use Rattle.response.proofs.LogTrees.{treesIn}
@@ -22,7 +21,7 @@ use Rattle.tpe.specs.Run.{Ran, runOf}
 use Rattle.tpe.specs.Leaves.{Leaves}
 use Rattle.tpe.proofs.Policies.{RunIs}
 use Rattle.interpret.specs.Nodes.{ended}
-use Rattle.interpret.proofs.Answered.{Lined, ran, policies, lined, log-stays}
+use Rattle.interpret.proofs.Answered.{Lined, ran, lined, log-stays, few}
 use Rattle.interpret.specs.Lines.{classNumber, classesOf, rootsOf, linesOf}
 use Rattle.authorizer.specs.Parts.{Holding, Sends, Runs}
 use Rattle.authorizer.proofs.Completing.{part-front}
@@ -66,17 +65,16 @@ module _ (sheet a b : List ℕ) (h : Holding partial sheet a b) where
   is-ran : RunIs partial sheet a 64 [] x r
   is-ran = ran sheet a b (h .accepted) (h .state) (h .sound) (h .none) (h .fits)
 
-  few : length (x .lines) ≤ 64
-  unfolding limit limits
-  few = let n = h .sound .few POLICY (omega arith) in let p = policies sheet a b (h .accepted) (h .state) (h .sound) (h .none) (h .fits) in omega (arith, n, p)
+  most : length (x .lines) ≤ 64
+  most = few sheet a b (h .accepted) (h .state) (h .sound) (h .none) (h .fits)
 
   -- the lines are noted in w
   module _ (v w : List ℕ) (n : Lined (x .lines) v w) where
     class-at : (i : ℕ) → i < length (x .lines) → classIn (getD (part w 8192 16384) i 0) ≡ getD (classesIn (x .lines)) i copen
-    class-at i lt = ap classIn (longer (length (x .lines)) 8192 (drop 8192 w) i lt (omega (arith, few)) ∙ ap (λ (l : List ℕ). getD l i 0) (n .classes)) ∙ classes-back (x .lines) i lt
+    class-at i lt = ap classIn (longer (length (x .lines)) 8192 (drop 8192 w) i lt (omega (arith, most)) ∙ ap (λ (l : List ℕ). getD l i 0) (n .classes)) ∙ classes-back (x .lines) i lt
 
     root-at : (i : ℕ) → i < length (x .lines) → getD (part w 8256 16384) i 0 ≡ getD (R.rootsOf 0 (x .lines)) i 0
-    root-at i lt = longer (length (x .lines)) 8128 (drop 8256 w) i lt (omega (arith, few)) ∙ ap (λ (l : List ℕ). getD l i 0) (n .roots ∙ roots-same 0 (x .lines))
+    root-at i lt = longer (length (x .lines)) 8128 (drop 8256 w) i lt (omega (arith, most)) ∙ ap (λ (l : List ℕ). getD l i 0) (n .roots ∙ roots-same 0 (x .lines))
 
     said : verdictsIn (r .words) (part w 8192 16384) ≡ verdicts (x .lines)
     said =

@@ -2,23 +2,15 @@
 use mathlib.Core.Path.{_≡_, refl}
 use mathlib.Core.Bool.{Bool, true, false, cond, _||_, _&&_}
 use mathlib.Core.List.{List, [], _∷_}
-use Rattle.cedar.proofs.Tools.{no-true, neither}
+use Rattle.cedar.proofs.Tools.{no-true, neither, or-left, or-right}
 use Rattle.cedar.specs.Residual.{Class, ctrue, cfalse, cerror, copen}
-use Rattle.cedar.specs.Response.{permit, Effect, forbid, Verdict, Decision, deny, undecided, allow, isPermit, isForbid, isTrue, isOpen, anyLine, decide, decision, cedar, take-true, take-error, keep-false, take-false, keep-error, keep-true, Choice, done, Choices, also}
+use Rattle.cedar.specs.Response.{permit, Effect, forbid, Verdict, deny, undecided, allow, isPermit, isForbid, isTrue, isOpen, anyLine, decide, decision, cedar, take-true, take-error, keep-false, take-false, keep-error, keep-true, Choice, done, Choices, also}
 
 -- what is true stays true; what turns true was true or open
 
-or-l : (p q : Bool) → p ≡ true → (p || q) ≡ true
-or-l true q e = refl
-or-l false q e = no-true e
-
-or-r : (p q : Bool) → q ≡ true → (p || q) ≡ true
-or-r true q e = refl
-or-r false q e = e
-
 or-step : (p q p′ q′ : Bool) → (p ≡ true → p′ ≡ true) → (q ≡ true → q′ ≡ true) → (p || q) ≡ true → (p′ || q′) ≡ true
-or-step true q p′ q′ f g e = or-l p′ q′ (f refl)
-or-step false q p′ q′ f g e = or-r p′ q′ (g e)
+or-step true q p′ q′ f g e = or-left p′ q′ (f refl)
+or-step false q p′ q′ f g e = or-right p′ q′ (g e)
 
 stays-true : (b : Bool) {c d : Class} → Choice c d → (b && isTrue c) ≡ true → (b && isTrue d) ≡ true
 stays-true b keep-true e = e
@@ -160,16 +152,3 @@ open-both ls e = (
       (anyLine isForbid isTrue (fillAll isForbid ls)) (anyLine isPermit isTrue (fillAll isForbid ls)) (untouched isPermit isForbid ls no-forbid)
       (turned isForbid ls) e,
 )
-
--- the choice rule, both ways
-
-pub open-choices : (ls : List Verdict) → decision ls ≡ undecided → ((ms : List Verdict) × Choices ls ms × (cedar ms ≡ allow)) × ((ns : List Verdict) × Choices ls ns × (cedar ns ≡ deny))
-open-choices ls e = let (a, d) = open-both ls e in ((fillAll isPermit ls, fill-choices isPermit ls, a), (fillAll isForbid ls, fill-choices isForbid ls, d))
-
-pub open-nowhere-else : {ls ms ns : List Verdict} → Choices ls ms → Choices ls ns → cedar ms ≡ allow → cedar ns ≡ deny → decision ls ≡ undecided
-open-nowhere-else {ls} {ms} {ns} h k p q = go (decision ls) refl
-  where
-    go : (d : Decision) → decision ls ≡ d → d ≡ undecided
-    go allow e = let a = allow-settled k e in cc
-    go deny e = let d = deny-settled h e in cc
-    go undecided e = refl

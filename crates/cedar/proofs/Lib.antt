@@ -29,7 +29,7 @@ pub mod ReadsLaws
 pub mod ReadsOps
 pub mod Refine
 pub mod SettledByNumber
+pub mod Outcomes
 pub mod TextsOnly
-pub mod Known
 pub mod KnownNumbered
 pub mod TypesKept

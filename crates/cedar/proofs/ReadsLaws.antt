@@ -194,12 +194,12 @@ andThen k l = record { contents = l .contents; table = l .table; keeps = λ n v 
 
 -- rows
 
-at-getD : {A : Type 0} {l : List A} {n : ℕ} {a : A} (d : A) → At l n a → getD l n d ≡ a
-at-getD d now = refl
-at-getD d (later h) = at-getD d h
+pub at-is : {A : Type 0} {l : List A} {n : ℕ} {a : A} (d : A) → At l n a → getD l n d ≡ a
+at-is d now = refl
+at-is d (later h) = at-is d h
 
 pub row-denotes : {C : List Value} {R : List Row} {n : ℕ} {v : Value} → Table R C → At C n v → Denotes C (rowAt R n) v
-row-denotes t a = let (r, b, d) = row-of t a in rw (at-getD (rbool false) b) d
+row-denotes t a = let (r, b, d) = row-of t a in rw (at-is (rbool false) b) d
 
 -- a row taken apart as its content is; Q relates what the two give
 module _ {C : List Value} {X Y : Type 0} (Q : X → Y → Type 0) {d : X} {d′ : Y} (q : Q d d′) where

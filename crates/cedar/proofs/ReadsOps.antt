@@ -1,13 +1,13 @@
 -- Each operation by number gives what it gives by content. Sets are compared by the numbers of their members.
 use mathlib.Core.Path.{_≡_, refl, sym, _∙_, subst}
-use mathlib.Core.Bool.{Bool, true, false, not, cond, _||_, _&&_}
+use mathlib.Core.Bool.{Bool, true, false, not, cond, _||_}
 use mathlib.Core.Option.{Option, none, some}
 use mathlib.Core.List.{List, [], _∷_}
 use Prim.Native.Nat.{ℕ}
 use lib.Dec.{eqb, T, eqb-refl}
 use lib.IntN.{ℤ, negℤ, _+ℤ_, _-ℤ_, _*ℤ_}
 use lib.Signed.{ltZ, leZ}
-use Rattle.cedar.proofs.Tools.{no-true, eqb-true}
+use Rattle.cedar.proofs.Tools.{no-true, eqb-true, or-right, either, both, and-left, and-right, iff}
 use Rattle.cedar.specs.Value.{Value, vbool, vlong, vent, vset, vrec, Values, vnil, vcons, Fields, fnil, Result, ok, fail, okBool, find, found, pick, onSome, onLong, onSet}
 use Rattle.cedar.specs.Canonical.{same, member}
 use Rattle.cedar.proofs.CanonicalLaws.{same-true, same-refl, Mem, here, there, member-mem, mem-member, ascending-in, ascending-out}
@@ -24,30 +24,6 @@ pub use Rattle.cedar.specs.Reads.{RecRead, rec-unknown, rec-known, rec-e
 use Rattle.cedar.proofs.ReadsLaws.{OutReads, omade, oold, ofail, ostay, Keeps, row-denotes, on-bool, on-long, on-text, on-ent, on-set}
 use Rattle.cedar.specs.Numbered as N
 
-iff : (p q : Bool) → (p ≡ true → q ≡ true) → (q ≡ true → p ≡ true) → p ≡ q
-iff true q f g = sym (f refl)
-iff false true f g = no-true (g refl)
-iff false false f g = refl
-
-or-r : (p : Bool) {q : Bool} → q ≡ true → (p || q) ≡ true
-or-r true e = refl
-or-r false e = e
-
-or-cases : {X : Type 0} (p q : Bool) → (p ≡ true → X) → (q ≡ true → X) → (p || q) ≡ true → X
-or-cases true q f g e = f refl
-or-cases false q f g e = g e
-
-both : {p q : Bool} → p ≡ true → q ≡ true → (p && q) ≡ true
-both e f = rw (e, f)
-
-both-l : (p q : Bool) → (p && q) ≡ true → p ≡ true
-both-l true q e = refl
-both-l false q e = e
-
-both-r : (p q : Bool) → (p && q) ≡ true → q ≡ true
-both-r true q e = e
-both-r false q e = no-true e
-
 -- numbers and contents with the same members
 record SetRel (C : List Value) (l : List ℕ) (vs : Values) : Type 0 where
   to : (n : ℕ) → InN n l → (v : Value) × At C n v × Mem v vs
@@ -62,7 +38,7 @@ eqb-self n = go (eqb n n) (eqb-refl n)
 
 in-mem : {n : ℕ} {l : List ℕ} → InN n l → memN n l ≡ true
 in-mem {n} now′ = rw (eqb-self n)
-in-mem {n} (later′ {m = m} i) = or-r (eqb n m) (in-mem i)
+in-mem {n} (later′ {m = m} i) = or-right (eqb n m) _ (in-mem i)
 
 mem-in : (n : ℕ) (l : List ℕ) → memN n l ≡ true → InN n l
 mem-in n [] e = no-true e
@@ -75,16 +51,16 @@ mem-in n (m ∷ l) e = go (eqb n m) refl (mem-in n l) e
 -- all and any, by members
 
 all-to : {n : ℕ} {k : List ℕ} (l : List ℕ) → allN k l ≡ true → InN n k → memN n l ≡ true
-all-to {n} l e (now′ {l = k}) = both-l (memN n l) (allN k l) e
-all-to {n} l e (later′ {m = m} {l = k} i) = all-to l (both-r (memN m l) (allN k l) e) i
+all-to {n} l e (now′ {l = k}) = and-left (memN n l) (allN k l) e
+all-to {n} l e (later′ {m = m} {l = k} i) = all-to l (and-right (memN m l) (allN k l) e) i
 
 all-from : (k l : List ℕ) → ((n : ℕ) → InN n k → memN n l ≡ true) → allN k l ≡ true
 all-from [] l f = refl
 all-from (n ∷ k) l f = both (f n now′) (all-from k l (λ m i. f m (later′ i)))
 
 allIn-to : {v : Value} {ws : Values} (vs : Values) → allIn ws vs ≡ true → Mem v ws → member v vs ≡ true
-allIn-to {v} vs e (here {vs = ws}) = both-l (member v vs) (allIn ws vs) e
-allIn-to {v} vs e (there {w = w} {vs = ws} i) = allIn-to vs (both-r (member w vs) (allIn ws vs) e) i
+allIn-to {v} vs e (here {vs = ws}) = and-left (member v vs) (allIn ws vs) e
+allIn-to {v} vs e (there {w = w} {vs = ws} i) = allIn-to vs (and-right (member w vs) (allIn ws vs) e) i
 
 allIn-from : (ws vs : Values) → ((v : Value) → Mem v ws → member v vs ≡ true) → allIn ws vs ≡ true
 allIn-from vnil vs f = refl
@@ -92,19 +68,19 @@ allIn-from (vcons w ws) vs f = both (f w here) (allIn-from ws vs (λ v i. f v (t
 
 any-to : (k l : List ℕ) → anyN k l ≡ true → (n : ℕ) × InN n k × (memN n l ≡ true)
 any-to [] l e = no-true e
-any-to (n ∷ k) l e = or-cases (memN n l) (anyN k l) (λ q. (n, now′, q)) (λ q. let (m, i, h) = any-to k l q in (m, later′ i, h)) e
+any-to (n ∷ k) l e = either (memN n l) (anyN k l) e (λ q. (n, now′, q)) (λ q. let (m, i, h) = any-to k l q in (m, later′ i, h))
 
 any-from : {n : ℕ} {k : List ℕ} (l : List ℕ) → InN n k → memN n l ≡ true → anyN k l ≡ true
 any-from l now′ e = rw e
-any-from l (later′ {m = m} i) e = or-r (memN m l) (any-from l i e)
+any-from l (later′ {m = m} i) e = or-right (memN m l) _ (any-from l i e)
 
 anyIn-to : (ws vs : Values) → anyIn ws vs ≡ true → (v : Value) × Mem v ws × (member v vs ≡ true)
 anyIn-to vnil vs e = no-true e
-anyIn-to (vcons w ws) vs e = or-cases (member w vs) (anyIn ws vs) (λ q. (w, here, q)) (λ q. let (v, i, h) = anyIn-to ws vs q in (v, there i, h)) e
+anyIn-to (vcons w ws) vs e = either (member w vs) (anyIn ws vs) e (λ q. (w, here, q)) (λ q. let (v, i, h) = anyIn-to ws vs q in (v, there i, h))
 
 anyIn-from : {v : Value} {ws : Values} (vs : Values) → Mem v ws → member v vs ≡ true → anyIn ws vs ≡ true
 anyIn-from vs here e = rw e
-anyIn-from vs (there {w = w} i) e = or-r (member w vs) (anyIn-from vs i e)
+anyIn-from vs (there {w = w} i) e = or-right (member w vs) _ (anyIn-from vs i e)
 
 module _ {C : List Value} (inj : Apart C) where
   set-rel : {l : List ℕ} {vs : Values} → Denotes C (rset l) (vset vs) → SetRel C l vs
@@ -308,8 +284,8 @@ module _ {C : List Value} {R : List Row} (t : Table R C) {M : NEnv} {P : PEnv} (
     where
       to : {n : ℕ} (k : List ℕ) → allRent R k ≡ true → InN n k → isRent (rowAt R n) ≡ true
       to [] e i = elim i [ ]
-      to (n ∷ k) e now′ = both-l (isRent (rowAt R n)) (allRent R k) e
-      to (n ∷ k) e (later′ i) = to k (both-r (isRent (rowAt R n)) (allRent R k) e) i
+      to (n ∷ k) e now′ = and-left (isRent (rowAt R n)) (allRent R k) e
+      to (n ∷ k) e (later′ i) = to k (and-right (isRent (rowAt R n)) (allRent R k) e) i
 
       form : (k : List ℕ) → ((n : ℕ) → InN n k → isRent (rowAt R n) ≡ true) → allRent R k ≡ true
       form [] f = refl
@@ -317,8 +293,8 @@ module _ {C : List Value} {R : List Row} (t : Table R C) {M : NEnv} {P : PEnv} (
 
       ot : {v : Value} (ws : Values) → allEnt ws ≡ true → Mem v ws → isEnt v ≡ true
       ot vnil e m = elim m [ ]
-      ot (vcons w ws) e here = both-l (isEnt w) (allEnt ws) e
-      ot (vcons w ws) e (there m) = ot ws (both-r (isEnt w) (allEnt ws) e) m
+      ot (vcons w ws) e here = and-left (isEnt w) (allEnt ws) e
+      ot (vcons w ws) e (there m) = ot ws (and-right (isEnt w) (allEnt ws) e) m
 
       from : (ws : Values) → ((v : Value) → Mem v ws → isEnt v ≡ true) → allEnt ws ≡ true
       from vnil f = refl

@@ -34,22 +34,14 @@ class-of k = same-class (k .table) (same-stage (k .reads))
 -- and, or, if
 
 module _ (T : Ty) {C : List Value} {o : Out} {A : Expr} (k : Refines C o A) (f : List Row → Out) {B : Expr} (l : Refines (k .contents) (f (o .rows)) B) where
-  with-lit : (b : Bool) → Refines C (out (intern (f (o .rows) .rows) (rbool b) .rows) (and T (o .tree) (lit T (intern (f (o .rows) .rows) (rbool b) .number)))) (and T A (lit T (vbool b)))
-  with-lit b = let m = intern-makes (l .table) (dbool {b = b}) in
+  with-lit : (b : Bool) (n : Node ℕ → Node ℕ → Node ℕ) (e : Expr → Expr → Expr) → ((D : List Value) (j : ℕ) → Reads D (o .tree) A → At D j (vbool b) → Reads D (n (o .tree) (lit T j)) (e A (lit T (vbool b))))
+      → Refines C (out (intern (f (o .rows) .rows) (rbool b) .rows) (n (o .tree) (lit T (intern (f (o .rows) .rows) (rbool b) .number)))) (e A (lit T (vbool b)))
+  with-lit b n e h = let m = intern-makes (l .table) (dbool {b = b}) in
       record {
         contents = m .contents;
         table = m .table;
         keeps = λ n v a. m .keeps n v (l .keeps n v (k .keeps n v a));
-        reads = xand (keep-reads (λ n v a. m .keeps n v (l .keeps n v a)) (k .reads)) (xlit (m .at));
-      }
-
-  with-lit′ : (b : Bool) → Refines C (out (intern (f (o .rows) .rows) (rbool b) .rows) (or T (o .tree) (lit T (intern (f (o .rows) .rows) (rbool b) .number)))) (or T A (lit T (vbool b)))
-  with-lit′ b = let m = intern-makes (l .table) (dbool {b = b}) in
-      record {
-        contents = m .contents;
-        table = m .table;
-        keeps = λ n v a. m .keeps n v (l .keeps n v (k .keeps n v a));
-        reads = xor (keep-reads (λ n v a. m .keeps n v (l .keeps n v a)) (k .reads)) (xlit (m .at));
+        reads = h (m .contents) _ (keep-reads (λ n v a. m .keeps n v (l .keeps n v a)) (k .reads)) (m .at);
       }
 
   both-kept : {D : Expr} {e : Node ℕ} → Reads (l .contents) e D → Refines C (out (f (o .rows) .rows) e) D
@@ -60,7 +52,7 @@ module _ (T : Ty) {C : List Value} {o : Out} {A : Expr} (k : Refines C o A) (f :
 
   and-cut : (c : Bool) → Refines C (cond c (out (intern (f (o .rows) .rows) (rbool false) .rows) (and T (o .tree) (lit T (intern (f (o .rows) .rows) (rbool false) .number)))) (make T (rbool false) (f (o .rows) .rows)))
       (cond c (and T A (lit T (vbool false))) (lit T (vbool false)))
-  and-cut true = with-lit false
+  and-cut true = with-lit false (and T) (and T) (λ D j p q. xand p (xlit q))
   and-cut false = andThen k (andThen l (makes (l .table) T dbool))
 
   and-open : (d : Class) → Refines C (nAndOpen T (o .tree) (f (o .rows)) d) (simpAnd T A B copen d)
@@ -77,7 +69,7 @@ module _ (T : Ty) {C : List Value} {o : Out} {A : Expr} (k : Refines C o A) (f :
 
   or-cut : (c : Bool) → Refines C (cond c (out (intern (f (o .rows) .rows) (rbool true) .rows) (or T (o .tree) (lit T (intern (f (o .rows) .rows) (rbool true) .number)))) (make T (rbool true) (f (o .rows) .rows)))
       (cond c (or T A (lit T (vbool true))) (lit T (vbool true)))
-  or-cut true = with-lit′ true
+  or-cut true = with-lit true (or T) (or T) (λ D j p q. xor p (xlit q))
   or-cut false = andThen k (andThen l (makes (l .table) T dbool))
 
   or-open : (d : Class) → Refines C (nOrOpen T (o .tree) (f (o .rows)) d) (simpOr T A B copen d)

@@ -23,16 +23,16 @@ pub use Rattle.cedar.specs.ContentRun.{Policies, noPolicy, onePolicy, pa
 use Rattle.cedar.specs.Runs.{Policy, resultClass, completeAnswer}
 
 -- a line that is not open stays as it is
-stays-class : {c d : Class} → Choice c d → isOpen c ≡ false → d ≡ c
-stays-class keep-true q = refl
-stays-class keep-false q = refl
-stays-class keep-error q = refl
-stays-class take-true q = no-true (sym q)
-stays-class take-false q = no-true (sym q)
-stays-class take-error q = no-true (sym q)
+pub choice-settled : {c d : Class} → Choice c d → isOpen c ≡ false → d ≡ c
+choice-settled keep-true q = refl
+choice-settled keep-false q = refl
+choice-settled keep-error q = refl
+choice-settled take-true q = no-true (sym q)
+choice-settled take-false q = no-true (sym q)
+choice-settled take-error q = no-true (sym q)
 
 pub line-settled : {ls ms : List Verdict} {n : ℕ} {l m : Verdict} → Choices ls ms → At ls n l → At ms n m → isOpen (l .class) ≡ false → m ≡ l
-line-settled (also {e = e} h hs) now now q = λ i. record { effect = e; class = stays-class h q i }
+line-settled (also {e = e} h hs) now now q = λ i. record { effect = e; class = choice-settled h q i }
 line-settled (also h hs) (later a) (later b) q = line-settled hs a b q
 
 -- each policy of a typed list is typed

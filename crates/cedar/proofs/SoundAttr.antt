@@ -4,7 +4,7 @@ use mathlib.Core.Bool.{Bool, true, false, _&&_}
 use mathlib.Core.Option.{Option, none, some, Option·some-injective}
 use mathlib.Core.List.{List, [], _∷_}
 use Prim.Native.Nat.{ℕ}
-use Rattle.cedar.proofs.Tools.{no-some, no-true}
+use Rattle.cedar.proofs.Tools.{no-some, no-true, and-right}
 use Rattle.cedar.specs.Value.{Value, vbool, vlong, vtext, vent, vset, vrec, Fields, Result, ok, fail, bind, okBool, find, found, onSome}
 use Rattle.cedar.specs.Types.{Ty, tbool, tlong, tstr, tent, tset, trec, Attrs, declared, Schema, Fits, fbool, flong, ftext, fent, fset, frec, FieldsFit}
 use Rattle.cedar.specs.Residual.{Expr, lit, get, has, haspath, tyOf, canErr, value, error, open′, view}
@@ -23,10 +23,6 @@ use Rattle.cedar.proofs.Yields as Y
 undeclared-none : {A : Type 0} (o : Option A) → undeclared o ≡ true → o ≡ none
 undeclared-none none e = refl
 undeclared-none (some a) e = no-true e
-
-and-right : (p q : Bool) → (p && q) ≡ true → q ≡ true
-and-right true q e = e
-and-right false q e = no-true e
 
 -- what is known: no typing is needed
 

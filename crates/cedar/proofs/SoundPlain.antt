@@ -3,6 +3,7 @@ use mathlib.Core.Path.{_≡_, refl, sym, _∙_, ap}
 use mathlib.Core.Bool.{Bool, true, false, not, _||_}
 use mathlib.Core.Option.{some, Option·some-injective}
 use Prim.Native.Nat.{ℕ}
+use borrow.Author.Tests.{not-true}
 use lib.Dec.{eqb, T}
 use Rattle.cedar.proofs.Tools.{no-some, no-true, neither}
 use Rattle.cedar.proofs.CanonicalLaws.{other-kind}
@@ -22,10 +23,6 @@ use Rattle.cedar.proofs.Kept.{Kept, ty-of, view-means, k-strict1, k-str
 pub ruled-out : (c : Bool) {b : Bool} → falseIf c ≡ some b → (c ≡ true) × (b ≡ false)
 ruled-out true e = (refl, sym (Option·some-injective _ _ e))
 ruled-out false e = no-some e
-
-pub not-true : (c : Bool) → not c ≡ true → c ≡ false
-not-true true e = no-true e
-not-true false e = refl
 
 module _ (S : Schema) where
   un-rule : {u : Un} {A T : Ty} {p : Bool} {r : Result} {b : Bool} → UnOk S u A T → Yields A p r → p ≡ false → unRule S u A ≡ some b → bind r (applyUn S u) ≡ okBool b

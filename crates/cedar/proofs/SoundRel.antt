@@ -4,6 +4,7 @@ use mathlib.Core.Bool.{Bool, true, false, not, _||_, _&&_, cond}
 use mathlib.Core.Option.{Option, none, some, Option·some-injective}
 use mathlib.Core.List.{List}
 use Prim.Native.Nat.{ℕ}
+use borrow.Author.Tests.{not-true}
 use lib.Dec.{eqb}
 use Rattle.cedar.proofs.Tools.{no-some, no-true, eqb-true, neither}
 use Rattle.cedar.proofs.CanonicalLaws.{other-kind}
@@ -20,7 +21,7 @@ use Rattle.cedar.specs.TypeRules.{ordinary, falseIf, undeclared, relRule
 use Rattle.cedar.proofs.Yields.{Yields, value, error, ent-all, entity-fits, no-tag}
 use Rattle.cedar.proofs.TypeSound.{yields}
 use Rattle.cedar.proofs.Kept.{Kept, Tells, ty-of, fitting, view-means, k-strict2, k-decide}
-use Rattle.cedar.proofs.SoundPlain.{ruled-out, not-true, bind2-left, bind2-right}
+use Rattle.cedar.proofs.SoundPlain.{ruled-out, bind2-left, bind2-right}
 
 -- what is known: no typing is needed
 

@@ -77,7 +77,7 @@ tailN {m} {n} {k} {l} e g f x i = go (f x (later′ i)) refl
     go now′ q = let p = least-in g i in absurd (omega (arith, q, e))
     go (later′ j) q = subst (λ z. InN z l) q j
 
-nowhere : {n : ℕ} {X : Type 0} → InN n [] → X
+pub nowhere : {n : ℕ} {X : Type 0} → InN n [] → X
 nowhere i = elim i [ ]
 
 asc-ext : {k l : List ℕ} → Asc k → Asc l → ((x : ℕ) → InN x k → InN x l) → ((x : ℕ) → InN x l → InN x k) → k ≡ l

@@ -1,22 +1,21 @@
 -- The partial run looks only at texts of its own sheet: another sheet's further texts change nothing.
 use mathlib.Core.Path.{_≡_, refl, _∙_, ap}
-use mathlib.Core.Bool.{Bool, true, false, cond, not, _||_}
+use mathlib.Core.Bool.{Bool, true, false, cond, _||_}
 use mathlib.Core.Option.{Option, none, some}
-use mathlib.Core.List.{List, [], _∷_, _++_}
-use Prim.Native.Nat.{ℕ, zero, suc, _<_}
-use lib.Dec.{eqb}
+use mathlib.Core.List.{List, [], _∷_}
+use Prim.Native.Nat.{ℕ, _<_}
 use lib.ListN.{getD}
-use lib.IntN.{ℤ, negℤ, _+ℤ_, _-ℤ_, _*ℤ_}
-use lib.Signed.{ltZ, leZ}
 use Rattle.cedar.specs.Value.{onSome}
 use Rattle.cedar.specs.Types.{Ty, tent, Schema, Var}
-use Rattle.cedar.specs.Residual.{Item, star, piece, Node, Nodes, NodeArgs, lit, err, var, and, or, ite, un, bin, rel, get, has, haspath, set, rec, enil, econs, gnil, gcons, Un, unot, uneg, uempty, uis, ulike, Bin, beq, blt, ble, badd, bsub, bmul, bcontains, ball, bany, Rel, rin, rgettag, rhastag, tyOf, canErr, Stage, value, error, open′, view, Class, ctrue, cfalse, cerror, copen, anyError, anyErrorArg}
-use Rattle.cedar.specs.Evaluate.{matches, matchPiece, anySuffix, isNil, inRange}
+use Rattle.cedar.specs.Residual.{Item, star, piece, Node, Nodes, NodeArgs, lit, err, var, and, or, ite, un, bin, rel, get, has, haspath, set, rec, enil, econs, gnil, gcons, Un, unot, uneg, uempty, uis, ulike, Bin, Rel, tyOf, canErr, Stage, value, error, open′, view, Class, ctrue, cfalse, cerror, copen, anyError, anyErrorArg}
+use Rattle.cedar.specs.Evaluate.{matches, matchPiece, anySuffix}
 use Rattle.cedar.specs.TypeRules.{unRule, binRule, relRule, hasRule}
 use Rattle.cedar.specs.Rows.{Entries, Row, rbool, rlong, rtext, rent, rset, rrec}
 use Rattle.cedar.specs.Making.{intern, orAdd, findRow, sortN}
-use Rattle.cedar.specs.Numbered.{Give, made, old, NEnv, nentity, rowAt, giveRow, rBool, rLong, rText, rEnt, rSet, rRec, NOut, give, fails, stays, truly, nlong, memN, allN, anyN, entryOf, isSome, orFail, nUn, nBin, nTargets, nIn, nRel, onEntries, nGet, nHas, Out, out, make, giveLit, nSettle, nStrict1, nStrict2, nByRule, nClass, nAndOpen, nAnd, nOrOpen, nOr, nIfOpen, nIf, numbers, entries, Outs, OutArgs, nLeft, nWalk, nPath, nVar, nStepUn, nStepBin, nStepRel, nStepGet, nStepHas, nStepSet, nStepRec, thenAnd, thenOr, thenIf, thenBin, thenRel, nStepPath, joinAll, thenAll, joinArgs, thenArgs, nInterpret, nInterprets, nInterpretArgs}
+use Rattle.cedar.specs.Numbered.{Give, made, old, NEnv, nentity, rowAt, giveRow, rRec, NOut, give, fails, stays, truly, entryOf, isSome, nUn, nBin, nRel, onEntries, nGet, nHas, Out, out, make, giveLit, nSettle, nStrict1, nStrict2, nByRule, nClass, nAndOpen, nAnd, nOrOpen, nOr, nIfOpen, nIf, numbers, entries, Outs, OutArgs, nLeft, nWalk, nPath, nVar, nStepUn, nStepBin, nStepRel, nStepGet, nStepHas, nStepSet, nStepRec, thenAnd, thenOr, thenIf, thenBin, thenRel, nStepPath, joinAll, thenAll, joinArgs, thenArgs, nInterpret, nInterprets, nInterpretArgs}
 use Rattle.cedar.specs.Runs.{NPolicy, joinRun, thenRun, nRun}
+use Rattle.cedar.proofs.Outcomes.{Basic, GiveIs, OutIs, made-un, made-bin, made-rel, made-get, made-has}
+use Rattle.cedar.proofs.Tools.{all-snoc}
 
 -- texts below N
 module _ (N : ℕ) where
@@ -70,132 +69,20 @@ module _ (N : ℕ) where
       xarg : {t : ℕ} {a : Node ℕ} {gs : NodeArgs ℕ} → Texts a → ArgTexts gs → ArgTexts (gcons t a gs)
 
   abbrev pub GiveOk : Give → Type 0
-  GiveOk (made r) = RowOk r
-  GiveOk (old n) = Unit {0}
+  GiveOk g = GiveIs RowOk g
 
   abbrev OutOk : NOut → Type 0
-  OutOk (give g) = GiveOk g
-  OutOk fails = Unit {0}
-  OutOk stays = Unit {0}
+  OutOk o = OutIs RowOk o
 
-  ok-rBool : (r : Row) (f : Bool → NOut) → ((b : Bool) → OutOk (f b)) → OutOk (rBool fails r f)
-  ok-rBool (rbool b) f h = h b
-  ok-rBool (rlong n) f h = tt
-  ok-rBool (rtext t) f h = tt
-  ok-rBool (rent k t) f h = tt
-  ok-rBool (rset l) f h = tt
-  ok-rBool (rrec e) f h = tt
-
-  ok-rLong : (r : Row) (f : ℤ → NOut) → ((n : ℤ) → OutOk (f n)) → OutOk (rLong fails r f)
-  ok-rLong (rbool b) f h = tt
-  ok-rLong (rlong n) f h = h n
-  ok-rLong (rtext t) f h = tt
-  ok-rLong (rent k t) f h = tt
-  ok-rLong (rset l) f h = tt
-  ok-rLong (rrec e) f h = tt
-
-  ok-rText : (r : Row) (f : ℕ → NOut) → ((t : ℕ) → OutOk (f t)) → OutOk (rText fails r f)
-  ok-rText (rbool b) f h = tt
-  ok-rText (rlong n) f h = tt
-  ok-rText (rtext t) f h = h t
-  ok-rText (rent k t) f h = tt
-  ok-rText (rset l) f h = tt
-  ok-rText (rrec e) f h = tt
-
-  ok-rEnt : (r : Row) (f : ℕ → ℕ → NOut) → ((k t : ℕ) → OutOk (f k t)) → OutOk (rEnt fails r f)
-  ok-rEnt (rbool b) f h = tt
-  ok-rEnt (rlong n) f h = tt
-  ok-rEnt (rtext t) f h = tt
-  ok-rEnt (rent k t) f h = h k t
-  ok-rEnt (rset l) f h = tt
-  ok-rEnt (rrec e) f h = tt
-
-  ok-rSet : (r : Row) (f : List ℕ → NOut) → ((l : List ℕ) → OutOk (f l)) → OutOk (rSet fails r f)
-  ok-rSet (rbool b) f h = tt
-  ok-rSet (rlong n) f h = tt
-  ok-rSet (rtext t) f h = tt
-  ok-rSet (rent k t) f h = tt
-  ok-rSet (rset l) f h = h l
-  ok-rSet (rrec e) f h = tt
-
-  ok-rRec : (r : Row) (f : Entries → NOut) → ((e : Entries) → OutOk (f e)) → OutOk (rRec fails r f)
-  ok-rRec (rbool b) f h = tt
-  ok-rRec (rlong n) f h = tt
-  ok-rRec (rtext t) f h = tt
-  ok-rRec (rent k t) f h = tt
-  ok-rRec (rset l) f h = tt
-  ok-rRec (rrec e) f h = h e
-
-  ok-long : (n : ℤ) → OutOk (nlong n)
-  ok-long n = go (inRange n)
-    where
-      go : (b : Bool) → OutOk (cond b (give (made (rlong n))) fails)
-      go true = tt
-      go false = tt
-
-  ok-or-fail : (o : Option ℕ) → OutOk (orFail o)
-  ok-or-fail none = tt
-  ok-or-fail (some n) = tt
-
-  ok-un : (S : Schema) (u : Un) (r : Row) → OutOk (nUn S u r)
-  ok-un S unot r = ok-rBool r (λ b. truly (not b)) (λ b. tt)
-  ok-un S uneg r = ok-rLong r (λ n. nlong (negℤ n)) (λ n. ok-long (negℤ n))
-  ok-un S uempty r = ok-rSet r (λ l. truly (isNil l)) (λ l. tt)
-  ok-un S (uis k) r = ok-rEnt r (λ l t. truly (eqb k l)) (λ l t. tt)
-  ok-un S (ulike p) r = ok-rText r (λ t. truly (matches (S .bytes) p (S .bytes t))) (λ t. tt)
-
-  ok-bin : (o : Bin) (m n : ℕ) (r s : Row) → OutOk (nBin o m n r s)
-  ok-bin beq m n r s = tt
-  ok-bin blt m n r s = ok-rLong r (λ x. rLong fails s (λ y. truly (ltZ x y))) (λ x. ok-rLong s (λ y. truly (ltZ x y)) (λ y. tt))
-  ok-bin ble m n r s = ok-rLong r (λ x. rLong fails s (λ y. truly (leZ x y))) (λ x. ok-rLong s (λ y. truly (leZ x y)) (λ y. tt))
-  ok-bin badd m n r s = ok-rLong r (λ x. rLong fails s (λ y. nlong (x +ℤ y))) (λ x. ok-rLong s (λ y. nlong (x +ℤ y)) (λ y. ok-long (x +ℤ y)))
-  ok-bin bsub m n r s = ok-rLong r (λ x. rLong fails s (λ y. nlong (x -ℤ y))) (λ x. ok-rLong s (λ y. nlong (x -ℤ y)) (λ y. ok-long (x -ℤ y)))
-  ok-bin bmul m n r s = ok-rLong r (λ x. rLong fails s (λ y. nlong (x *ℤ y))) (λ x. ok-rLong s (λ y. nlong (x *ℤ y)) (λ y. ok-long (x *ℤ y)))
-  ok-bin bcontains m n r s = ok-rSet r (λ l. truly (memN n l)) (λ l. tt)
-  ok-bin ball m n r s = ok-rSet r (λ l. rSet fails s (λ k. truly (allN k l))) (λ l. ok-rSet s (λ k. truly (allN k l)) (λ k. tt))
-  ok-bin bany m n r s = ok-rSet r (λ l. rSet fails s (λ k. truly (anyN k l))) (λ l. ok-rSet s (λ k. truly (anyN k l)) (λ k. tt))
-
-  ok-some : {A : Type 0} (d : NOut) → OutOk d → (o : Option A) (f : A → NOut) → ((a : A) → OutOk (f a)) → OutOk (onSome d o f)
-  ok-some d k none f h = k
-  ok-some d k (some a) f h = h a
-
-  ok-in : (R : List Row) (m : ℕ) (o : Option Give) (l : List ℕ) → OutOk (nIn R m o l)
-  ok-in R m none l = go (memN m l) (isNil l)
-    where
-      go : (x y : Bool) → OutOk (cond x (truly true) (cond y (truly false) stays))
-      go true y = tt
-      go false true = tt
-      go false false = tt
-  ok-in R m (some a) l = ok-rSet (giveRow R a) (λ k. truly (memN m l || anyN l k)) (λ k. tt)
-
-  module _ (M : NEnv) (R : List Row) where
-    ok-rel : (o : Rel) (m n : ℕ) (r s : Row) → OutOk (nRel M R o m n r s)
-    ok-rel rin m n r s = ok-rEnt r (λ k t. onSome fails (nTargets R n s) (nIn R m (nentity M k t .ancestors))) (λ k t. ok-some fails tt (nTargets R n s) (nIn R m (nentity M k t .ancestors)) (λ l. ok-in R m (nentity M k t .ancestors) l))
-    ok-rel rgettag m n r s = ok-rEnt r (λ k t. rText fails s (λ u. onSome stays (nentity M k t .tags) (λ a. rRec fails (giveRow R a) (λ e. orFail (entryOf u e))))) (λ k t. ok-rText s (λ u. onSome stays (nentity M k t .tags) (λ a. rRec fails (giveRow R a) (λ e. orFail (entryOf u e))))
-        (λ u. ok-some stays tt (nentity M k t .tags) (λ a. rRec fails (giveRow R a) (λ e. orFail (entryOf u e))) (λ a. ok-rRec (giveRow R a) (λ e. orFail (entryOf u e)) (λ e. ok-or-fail (entryOf u e)))))
-    ok-rel rhastag m n r s = ok-rEnt r (λ k t. rText fails s (λ u. onSome stays (nentity M k t .tags) (λ a. rRec fails (giveRow R a) (λ e. truly (isSome (entryOf u e)))))) (λ k t. ok-rText s (λ u. onSome stays (nentity M k t .tags) (λ a. rRec fails (giveRow R a) (λ e. truly (isSome (entryOf u e)))))
-        (λ u. ok-some stays tt (nentity M k t .tags) (λ a. rRec fails (giveRow R a) (λ e. truly (isSome (entryOf u e)))) (λ a. ok-rRec (giveRow R a) (λ e. truly (isSome (entryOf u e))) (λ e. tt))))
-
-    ok-fields : (f : Entries → NOut) → ((e : Entries) → OutOk (f e)) → (r : Row) → OutOk (onEntries M R fails (λ k i. stays) r f)
-    ok-fields f h (rbool b) = tt
-    ok-fields f h (rlong n) = tt
-    ok-fields f h (rtext t) = tt
-    ok-fields f h (rent k t) = ok-some stays tt (nentity M k t .attrs) (λ a. rRec fails (giveRow R a) f) (λ a. ok-rRec (giveRow R a) f h)
-    ok-fields f h (rset l) = tt
-    ok-fields f h (rrec e) = h e
+  row-ok : Basic RowOk
+  row-ok = record { bools = λ b. tt; longs = λ z e. tt }
 
   -- rows that grow
-  snoc-ok : (R : List Row) (r : Row) → RowsOk R → RowOk r → RowsOk (R ++ (r ∷ []))
-  snoc-ok [] r h k zero = k
-  snoc-ok [] r h k (suc n) = tt
-  snoc-ok (x ∷ R) r h k zero = h 0
-  snoc-ok (x ∷ R) r h k (suc n) = snoc-ok R r (λ m. h (suc m)) k n
-
   intern-ok : (R : List Row) (r : Row) → RowsOk R → RowOk r → RowsOk (intern R r .rows)
   intern-ok R r h k = go (findRow r R)
     where
       go : (o : Option ℕ) → RowsOk (orAdd o R r .rows)
-      go none = snoc-ok R r h k
+      go none = all-snoc RowOk (rbool false) tt R r h k
       go (some n) = h
 
   give-ok : (T : Ty) (g : Give) (R : List Row) → GiveOk g → RowsOk R → RowsOk (giveLit T g R .rows)
@@ -337,22 +224,22 @@ module _ (N : ℕ) where
 
     step-un-ok : (T : Ty) (u : Un) (o : Out) → RowsOk (o .rows) → RowsOk (nStepUn S M T u o .rows)
     step-un-ok T u o h = decide-ok T (canErr (o .tree)) (unRule S u (tyOf (o .tree))) (nStrict1 T (un T u (o .tree)) (λ n. nUn S u (rowAt (o .rows) n)) (view (o .tree)) (o .rows)) (o .rows)
-        (strict1-ok T (un T u (o .tree)) (λ n. nUn S u (rowAt (o .rows) n)) (view (o .tree)) (o .rows) (λ n. ok-un S u (rowAt (o .rows) n)) h) h
+        (strict1-ok T (un T u (o .tree)) (λ n. nUn S u (rowAt (o .rows) n)) (view (o .tree)) (o .rows) (λ n. made-un row-ok S u (rowAt (o .rows) n)) h) h
 
     step-bin-ok : (T : Ty) (p : Bin) (a : Node ℕ) (o : Out) → RowsOk (o .rows) → RowsOk (nStepBin S M T p a o .rows)
     step-bin-ok T p a o h = decide-ok T (canErr a || canErr (o .tree)) (binRule S p (tyOf a) (tyOf (o .tree))) (nStrict2 T (bin T p a (o .tree)) (λ m n. nBin p m n (rowAt (o .rows) m) (rowAt (o .rows) n)) (view a) (view (o .tree)) (o .rows)) (o .rows)
-        (strict2-ok T (bin T p a (o .tree)) (λ m n. nBin p m n (rowAt (o .rows) m) (rowAt (o .rows) n)) (view a) (view (o .tree)) (o .rows) (λ m n. ok-bin p m n (rowAt (o .rows) m) (rowAt (o .rows) n)) h) h
+        (strict2-ok T (bin T p a (o .tree)) (λ m n. nBin p m n (rowAt (o .rows) m) (rowAt (o .rows) n)) (view a) (view (o .tree)) (o .rows) (λ m n. made-bin row-ok p m n (rowAt (o .rows) m) (rowAt (o .rows) n)) h) h
 
     step-rel-ok : (T : Ty) (p : Rel) (a : Node ℕ) (o : Out) → RowsOk (o .rows) → RowsOk (nStepRel S M T p a o .rows)
     step-rel-ok T p a o h = decide-ok T (canErr a || canErr (o .tree)) (relRule S p (tyOf a) (tyOf (o .tree))) (nStrict2 T (rel T p a (o .tree)) (λ m n. nRel M (o .rows) p m n (rowAt (o .rows) m) (rowAt (o .rows) n)) (view a) (view (o .tree)) (o .rows)) (o .rows)
-        (strict2-ok T (rel T p a (o .tree)) (λ m n. nRel M (o .rows) p m n (rowAt (o .rows) m) (rowAt (o .rows) n)) (view a) (view (o .tree)) (o .rows) (λ m n. ok-rel M (o .rows) p m n (rowAt (o .rows) m) (rowAt (o .rows) n)) h) h
+        (strict2-ok T (rel T p a (o .tree)) (λ m n. nRel M (o .rows) p m n (rowAt (o .rows) m) (rowAt (o .rows) n)) (view a) (view (o .tree)) (o .rows) (λ m n. made-rel row-ok M (o .rows) p m n (rowAt (o .rows) m) (rowAt (o .rows) n)) h) h
 
     step-get-ok : (T : Ty) (o : Out) (t : ℕ) → RowsOk (o .rows) → RowsOk (nStepGet S M T o t .rows)
-    step-get-ok T o t h = strict1-ok T (get T (o .tree) t) (λ n. nGet M (o .rows) t (rowAt (o .rows) n)) (view (o .tree)) (o .rows) (λ n. ok-fields M (o .rows) (λ e. orFail (entryOf t e)) (λ e. ok-or-fail (entryOf t e)) (rowAt (o .rows) n)) h
+    step-get-ok T o t h = strict1-ok T (get T (o .tree) t) (λ n. nGet M (o .rows) t (rowAt (o .rows) n)) (view (o .tree)) (o .rows) (λ n. made-get row-ok M (o .rows) t (rowAt (o .rows) n)) h
 
     step-has-ok : (T : Ty) (o : Out) (t : ℕ) → RowsOk (o .rows) → RowsOk (nStepHas S M T o t .rows)
     step-has-ok T o t h = decide-ok T (canErr (o .tree)) (hasRule S t (tyOf (o .tree))) (nStrict1 T (has T (o .tree) t) (λ n. nHas M (o .rows) t (rowAt (o .rows) n)) (view (o .tree)) (o .rows)) (o .rows)
-        (strict1-ok T (has T (o .tree) t) (λ n. nHas M (o .rows) t (rowAt (o .rows) n)) (view (o .tree)) (o .rows) (λ n. ok-fields M (o .rows) (λ e. truly (isSome (entryOf t e))) (λ e. tt) (rowAt (o .rows) n)) h) h
+        (strict1-ok T (has T (o .tree) t) (λ n. nHas M (o .rows) t (rowAt (o .rows) n)) (view (o .tree)) (o .rows) (λ n. made-has row-ok M (o .rows) t (rowAt (o .rows) n)) h) h
 
     -- the lazy operations: equal and good where what they go on with is
     module _ (T : Ty) (o : Out) (k k′ : List Row → Out) (e : k′ (o .rows) ≡ k (o .rows)) (h : RowsOk (o .rows)) (g : RowsOk (k (o .rows) .rows)) where

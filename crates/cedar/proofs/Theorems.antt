@@ -1,11 +1,11 @@
 -- The theorems of this crate in document 01's order, each under a plain name with the sentence that it states.
 -- Every word of a statement is defined in specs/. `Example` meets the hypotheses of each once.
-use mathlib.Core.Path.{_≡_, subst, sym, _∙_, ap}
+use mathlib.Core.Path.{_≡_, refl, subst, sym, _∙_, ap}
 use mathlib.Core.Bool.{true, false}
 use mathlib.Core.List.{List}
 use Prim.Native.Nat.{ℕ}
 use Rattle.cedar.specs.Value.{Value, Values, ok, fail}
-use Rattle.cedar.specs.Canonical.{same, makeSet}
+use Rattle.cedar.specs.Canonical.{same, order, makeSet}
 use Rattle.cedar.specs.Types.{Ty, tbool, Schema, Fits}
 use Rattle.cedar.specs.Residual.{Node, Expr, tyOf, canErr}
 use Rattle.cedar.specs.Typing.{Typed}
@@ -13,7 +13,7 @@ use Rattle.cedar.specs.TypingTest.{fits, check}
 use Rattle.cedar.specs.Entities.{Env, PEnv, EnvFits, Agree, whole}
 use Rattle.cedar.specs.Evaluate.{eval}
 use Rattle.cedar.specs.Interpret.{class, gives, settle, interpret}
-use Rattle.cedar.specs.Response.{Verdict, allow, deny, undecided, isOpen, decision, cedar, Choices}
+use Rattle.cedar.specs.Response.{Verdict, Decision, allow, deny, undecided, isPermit, isForbid, isOpen, decision, cedar, Choices}
 use Rattle.cedar.specs.Runs.{Policy, resultClass, completeAnswer, NPolicy, NVerdict, nRun, verdicts}
 use Rattle.cedar.specs.ContentRun.{Policies, partialAnswer, handedBack}
 use Rattle.cedar.specs.Rows.{Row, rset}
@@ -29,7 +29,7 @@ use Rattle.cedar.proofs.Agrees.{agree-knows}
 use Rattle.cedar.proofs.Sound.{sound}
 use Rattle.cedar.proofs.TypingTest.{fits-sound, check-sound}
 use Rattle.cedar.proofs.TypingTestComplete.{fits-complete, check-complete}
-use Rattle.cedar.proofs.Decisions.{open-choices, open-nowhere-else}
+use Rattle.cedar.proofs.Decisions.{allow-settled, deny-settled, fillAll, fill-choices, open-both}
 use Rattle.cedar.proofs.Settled.{lines-settled, line-settled, policy-typed, allow-final, deny-final}
 use Rattle.cedar.proofs.Again.{again, again-lines}
 use Rattle.cedar.proofs.TableLaws.{number-inj, at-fun}
@@ -38,7 +38,6 @@ use Rattle.cedar.proofs.Refine.{refine}
 use Rattle.cedar.proofs.SettledByNumber.{n-lines, n-allow, n-deny, n-yields}
 use Rattle.cedar.proofs.Total.{complete-run, complete-left}
 use Rattle.cedar.proofs.BothRuns.{whole-total, whole-answer, complete-classes, both-lines, both-allow, both-deny}
-use Rattle.cedar.proofs.Known as K
 
 -- "Values are equal by content, whatever their numbers."
 pub content-equality : (v w : Value) → (same v w ≡ true → v ≡ w) × (v ≡ w → same v w ≡ true)
@@ -114,11 +113,16 @@ module _ (S : Schema) (C : Env) (ft : EnvFits S C) where
 
 -- "Open" is given where some choice of true, false or error for each open policy yields allow and another deny,
 pub open-has-both : (ls : List Verdict) → decision ls ≡ undecided → ((ms : List Verdict) × Choices ls ms × (cedar ms ≡ allow)) × ((ns : List Verdict) × Choices ls ns × (cedar ns ≡ deny))
-open-has-both ls e = open-choices ls e
+open-has-both ls e = let (a, d) = open-both ls e in ((fillAll isPermit ls, fill-choices isPermit ls, a), (fillAll isForbid ls, fill-choices isForbid ls, d))
 
 -- "and nowhere else."
 pub both-is-open : (ls ms ns : List Verdict) → Choices ls ms → Choices ls ns → cedar ms ≡ allow → cedar ns ≡ deny → decision ls ≡ undecided
-both-is-open ls ms ns h k p q = open-nowhere-else h k p q
+both-is-open ls ms ns h k p q = go (decision ls) refl
+  where
+    go : (d : Decision) → decision ls ≡ d → d ≡ undecided
+    go allow e = let a = allow-settled k e in cc
+    go deny e = let d = deny-settled h e in cc
+    go undecided e = refl
 
 -- Document 02, 2.13: "interpreting a residual again, with the same request, entities and schema, gives the same residual, class and decision".
 pub idempotence : (S : Schema) (P : PEnv) (e : Expr) → interpret S P (interpret S P e) ≡ interpret S P e
@@ -189,16 +193,20 @@ module _ (S : Schema) (C : Env) (ft : EnvFits S C) (ps : List Policy) (ty : Poli
 
 -- "Cases K1 to K10 form one list with one theorem, over the definitions themselves."
 pub K1-to-K10 : answers answer (cases values) ≡ toldIn (cases values)
-K1-to-K10 = K.K1-to-K10
+unfolding same order
+K1-to-K10 = refl
 
 -- The same list over value numbers.
 pub K1-to-K10-by-number : answers nAnswer (cases numbers) ≡ toldIn (cases numbers)
-K1-to-K10-by-number = K.K1-to-K10-by-number
+unfolding same order
+K1-to-K10-by-number = refl
 
 -- "What students would write": the right answer to each.
 pub students-cases : answers answer (students values) ≡ toldIn (students values)
-students-cases = K.students-cases
+unfolding same order
+students-cases = refl
 
 -- The same list over value numbers.
 pub students-cases-by-number : answers nAnswer (students numbers) ≡ toldIn (students numbers)
-students-cases-by-number = K.students-cases-by-number
+unfolding same order
+students-cases-by-number = refl

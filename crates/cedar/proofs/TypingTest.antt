@@ -5,7 +5,7 @@ use mathlib.Core.Option.{Option, none, some}
 use mathlib.Core.List.{List, [], _∷_}
 use Prim.Native.Nat.{ℕ}
 use lib.Dec.{eqb}
-use Rattle.cedar.proofs.Tools.{no-true}
+use Rattle.cedar.proofs.Tools.{no-true, and-both, either}
 use Rattle.cedar.specs.Order.{Tree, leaf, node, cmp}
 use Rattle.cedar.proofs.OrderLaws.{cmp-eq}
 use Rattle.cedar.proofs.CanonicalLaws.{isEq-eq}
@@ -52,10 +52,6 @@ pub tySame-true : (A B : Ty) → tySame A B ≡ true → A ≡ B
 tySame-true A B e = sym (ty-back A) ∙ ap tyOfCode (cmp-eq (tyCode A) (tyCode B) (isEq-eq (cmp (tyCode A) (tyCode B)) e)) ∙ ty-back B
 
 -- what a test says, handed on: a goal X A about the tested type A is proved at what the test found
-and-then : {X : Type 0} (p q : Bool) → (p && q) ≡ true → (p ≡ true → q ≡ true → X) → X
-and-then true q e h = h refl e
-and-then false q e h = no-true e
-
 is-ty : (X : Ty → Type 0) (A B : Ty) → tySame A B ≡ true → X B → X A
 is-ty X A B e h = subst X (sym (tySame-true A B e)) h
 
@@ -83,7 +79,7 @@ rec-ty X (tent k) f e h = no-true e
 rec-ty X (tset A) f e h = no-true e
 rec-ty X (trec R) f e h = h R e
 
-some-test : {X A : Type 0} (o : Option A) (f : A → Bool) → onSome false o f ≡ true → ((a : A) → o ≡ some a → f a ≡ true → X) → X
+pub some-test : {X A : Type 0} (o : Option A) (f : A → Bool) → onSome false o f ≡ true → ((a : A) → o ≡ some a → f a ≡ true → X) → X
 some-test none f e h = no-true e
 some-test (some a) f e h = h a refl e
 
@@ -95,7 +91,7 @@ need-sound false b e = tt
 
 complete-sound : (R : Attrs) (there : ℕ → Bool) → completed R there ≡ true → Complete R there
 complete-sound anil there e = tt
-complete-sound (acons t r A bs) there e = and-then (need r (there t)) (completed bs there) e (λ p q. (need-sound r (there t) p, complete-sound bs there q))
+complete-sound (acons t r A bs) there e = and-both (need r (there t)) (completed bs there) e (λ p q. (need-sound r (there t) p, complete-sound bs there q))
 
 mutual
   pub fits-sound : (v : Value) (A : Ty) → fits v A ≡ true → Fits v A
@@ -105,34 +101,30 @@ mutual
   fits-sound (vent k t) A e = is-ty (Fits (vent k t)) A (tent k) e fent
   fits-sound (vset vs) A e = set-ty (Fits (vset vs)) A (λ B. allFit vs B) e (λ B q. fset (allFit-sound vs B q))
   fits-sound (vrec fs) A e = rec-ty (Fits (vrec fs)) A (λ R. fieldsFit fs R && completed R (λ t. found (find t fs))) e
-      (λ R q. and-then (fieldsFit fs R) (completed R (λ t. found (find t fs))) q (λ f c. frec (fieldsFit-sound fs R f) (complete-sound R (λ t. found (find t fs)) c)))
+      (λ R q. and-both (fieldsFit fs R) (completed R (λ t. found (find t fs))) q (λ f c. frec (fieldsFit-sound fs R f) (complete-sound R (λ t. found (find t fs)) c)))
 
   allFit-sound : (vs : Values) (A : Ty) → allFit vs A ≡ true → AllFit vs A
   allFit-sound vnil A e = nilFit
-  allFit-sound (vcons v vs) A e = and-then (fits v A) (allFit vs A) e (λ p q. consFit (fits-sound v A p) (allFit-sound vs A q))
+  allFit-sound (vcons v vs) A e = and-both (fits v A) (allFit vs A) e (λ p q. consFit (fits-sound v A p) (allFit-sound vs A q))
 
   fieldsFit-sound : (fs : Fields) (R : Attrs) → fieldsFit fs R ≡ true → FieldsFit fs R
   fieldsFit-sound fnil R e = noField
-  fieldsFit-sound (fcons t v fs) R e = and-then (onSome false (declared t R) (λ A. fits v A)) (fieldsFit fs R) e
+  fieldsFit-sound (fcons t v fs) R e = and-both (onSome false (declared t R) (λ A. fits v A)) (fieldsFit fs R) e
       (λ p q. some-test (declared t R) (λ A. fits v A) p (λ A d f. oneField d (fits-sound v A f) (fieldsFit-sound fs R q)))
 
 -- what passes is typed
 
 module _ (S : Schema) where
   un-ok : (u : Un) (A U : Ty) → unOk S u A U ≡ true → UnOk S u A U
-  un-ok unot A U e = and-then (tySame A tbool) (tySame U tbool) e (λ p q. is-ty (λ Z. UnOk S unot A Z) U tbool q (is-ty (λ Z. UnOk S unot Z tbool) A tbool p notOk))
-  un-ok uneg A U e = and-then (tySame A tlong) (tySame U tlong) e (λ p q. is-ty (λ Z. UnOk S uneg A Z) U tlong q (is-ty (λ Z. UnOk S uneg Z tlong) A tlong p negOk))
-  un-ok uempty A U e = and-then (onSetTy false A (λ B. true)) (tySame U tbool) e (λ p q. is-ty (λ Z. UnOk S uempty A Z) U tbool q (set-ty (λ Z. UnOk S uempty Z tbool) A (λ B. true) p (λ B r. emptyOk)))
-  un-ok (uis k) A U e = and-then (onEntTy false A (λ l. true)) (tySame U tbool) e (λ p q. is-ty (λ Z. UnOk S (uis k) A Z) U tbool q (ent-ty (λ Z. UnOk S (uis k) Z tbool) A (λ l. true) p (λ l r. isOk)))
-  un-ok (ulike i) A U e = and-then (tySame A tstr) (tySame U tbool) e (λ p q. is-ty (λ Z. UnOk S (ulike i) A Z) U tbool q (is-ty (λ Z. UnOk S (ulike i) Z tbool) A tstr p likeOk))
+  un-ok unot A U e = and-both (tySame A tbool) (tySame U tbool) e (λ p q. is-ty (λ Z. UnOk S unot A Z) U tbool q (is-ty (λ Z. UnOk S unot Z tbool) A tbool p notOk))
+  un-ok uneg A U e = and-both (tySame A tlong) (tySame U tlong) e (λ p q. is-ty (λ Z. UnOk S uneg A Z) U tlong q (is-ty (λ Z. UnOk S uneg Z tlong) A tlong p negOk))
+  un-ok uempty A U e = and-both (onSetTy false A (λ B. true)) (tySame U tbool) e (λ p q. is-ty (λ Z. UnOk S uempty A Z) U tbool q (set-ty (λ Z. UnOk S uempty Z tbool) A (λ B. true) p (λ B r. emptyOk)))
+  un-ok (uis k) A U e = and-both (onEntTy false A (λ l. true)) (tySame U tbool) e (λ p q. is-ty (λ Z. UnOk S (uis k) A Z) U tbool q (ent-ty (λ Z. UnOk S (uis k) Z tbool) A (λ l. true) p (λ l r. isOk)))
+  un-ok (ulike i) A U e = and-both (tySame A tstr) (tySame U tbool) e (λ p q. is-ty (λ Z. UnOk S (ulike i) A Z) U tbool q (is-ty (λ Z. UnOk S (ulike i) Z tbool) A tstr p likeOk))
 
   three-ok : (A B U X Y Z : Ty) (Q : Ty → Ty → Ty → Type 0) → three S A B U X Y Z ≡ true → Q X Y Z → Q A B U
-  three-ok A B U X Y Z Q e h = and-then (tySame A X && tySame B Y) (tySame U Z) e (λ p r. and-then (tySame A X) (tySame B Y) p
+  three-ok A B U X Y Z Q e h = and-both (tySame A X && tySame B Y) (tySame U Z) e (λ p r. and-both (tySame A X) (tySame B Y) p
       (λ q s. is-ty (λ u. Q A B u) U Z r (is-ty (λ b. Q A b Z) B Y s (is-ty (λ a. Q a Y Z) A X q h))))
-
-  either : {X : Type 0} (p q : Bool) → (p || q) ≡ true → (p ≡ true → X) → (q ≡ true → X) → X
-  either true q e f g = f refl
-  either false q e f g = g e
 
   eq-ok : (A B : Ty) → (tySame A B || onEntTy false A (λ k. onEntTy false B (λ l. true))) ≡ true → BinOk S beq A B tbool
   eq-ok A B e = either (tySame A B) (onEntTy false A (λ k. onEntTy false B (λ l. true))) e
@@ -143,7 +135,7 @@ module _ (S : Schema) where
   sets-ok o A B h e = set-ty (λ a. BinOk S o a B tbool) A (λ E. tySame B (tset E)) e (λ E q. is-ty (λ b. BinOk S o (tset E) b tbool) B (tset E) q (h E))
 
   to-bool : (o : Bin) (A B U : Ty) (p : Bool) → (p && tySame U tbool) ≡ true → (p ≡ true → BinOk S o A B tbool) → BinOk S o A B U
-  to-bool o A B U p e h = and-then p (tySame U tbool) e (λ x q. is-ty (BinOk S o A B) U tbool q (h x))
+  to-bool o A B U p e h = and-both p (tySame U tbool) e (λ x q. is-ty (BinOk S o A B) U tbool q (h x))
 
   bin-ok : (o : Bin) (A B U : Ty) → binOk S o A B U ≡ true → BinOk S o A B U
   bin-ok beq A B U e = to-bool beq A B U _ e (eq-ok A B)
@@ -165,12 +157,12 @@ module _ (S : Schema) where
   target-ok k (trec R) e = no-true e
 
   rel-ok : (o : Rel) (A B U : Ty) → relOk S o A B U ≡ true → RelOk S o A B U
-  rel-ok rin A B U e = and-then (onEntTy false A (λ k. onEntTy (onSetTy false B (λ E. onEntTy false E (λ l. true))) B (λ l. true))) (tySame U tbool) e
+  rel-ok rin A B U e = and-both (onEntTy false A (λ k. onEntTy (onSetTy false B (λ E. onEntTy false E (λ l. true))) B (λ l. true))) (tySame U tbool) e
       (λ p q. is-ty (RelOk S rin A B) U tbool q (ent-ty (λ a. RelOk S rin a B tbool) A (λ k. onEntTy (onSetTy false B (λ E. onEntTy false E (λ l. true))) B (λ l. true)) p (λ k s. target-ok k B s)))
-  rel-ok rgettag A B U e = and-then (onEntTy false A (λ k. onSome false (S .shape k .tags) (λ E. tySame E U))) (tySame B tstr) e
+  rel-ok rgettag A B U e = and-both (onEntTy false A (λ k. onSome false (S .shape k .tags) (λ E. tySame E U))) (tySame B tstr) e
       (λ p q. is-ty (λ b. RelOk S rgettag A b U) B tstr q (ent-ty (λ a. RelOk S rgettag a tstr U) A (λ k. onSome false (S .shape k .tags) (λ E. tySame E U)) p
       (λ k s. some-test (S .shape k .tags) (λ E. tySame E U) s (λ E t u. getTagOk (t ∙ ap some (tySame-true E U u))))))
-  rel-ok rhastag A B U e = and-then (onEntTy false A (λ k. true) && tySame B tstr) (tySame U tbool) e (λ p q. and-then (onEntTy false A (λ k. true)) (tySame B tstr) p
+  rel-ok rhastag A B U e = and-both (onEntTy false A (λ k. true) && tySame B tstr) (tySame U tbool) e (λ p q. and-both (onEntTy false A (λ k. true)) (tySame B tstr) p
       (λ r s. is-ty (RelOk S rhastag A B) U tbool q (is-ty (λ b. RelOk S rhastag A b tbool) B tstr s (ent-ty (λ a. RelOk S rhastag a tstr tbool) A (λ k. true) r (λ k t. hasTagOk)))))
 
   path-ok : (ts : List ℕ) (t : ℕ) (R : Attrs) → pathOk S ts t R ≡ true → PathOk S R t ts
@@ -195,31 +187,31 @@ module _ (S : Schema) where
     check-sound (lit U v) e = tlit (fits-sound v U e)
     check-sound (err U) e = terr
     check-sound (var U x) e = tvar (tySame-true (S .request x) U e)
-    check-sound (and U a b) e = and-then (three S (tyOf a) (tyOf b) U tbool tbool tbool) (check S a && check S b) e (λ p q. and-then (check S a) (check S b) q
+    check-sound (and U a b) e = and-both (three S (tyOf a) (tyOf b) U tbool tbool tbool) (check S a && check S b) e (λ p q. and-both (check S a) (check S b) q
         (λ r s. logic U (λ z. Typed S (and z a b) z) p (check-sound a r) (check-sound b s) tand))
-    check-sound (or U a b) e = and-then (three S (tyOf a) (tyOf b) U tbool tbool tbool) (check S a && check S b) e (λ p q. and-then (check S a) (check S b) q
+    check-sound (or U a b) e = and-both (three S (tyOf a) (tyOf b) U tbool tbool tbool) (check S a && check S b) e (λ p q. and-both (check S a) (check S b) q
         (λ r s. logic U (λ z. Typed S (or z a b) z) p (check-sound a r) (check-sound b s) tor))
-    check-sound (ite U c a b) e = and-then (three S (tyOf a) (tyOf b) (tyOf c) U U tbool && (check S a && check S b)) (check S c) e (λ p q. and-then (three S (tyOf a) (tyOf b) (tyOf c) U U tbool) (check S a && check S b) p
-        (λ r s. and-then (check S a) (check S b) s (λ t u. choice U r (check-sound a t) (check-sound b u) (check-sound c q))))
-    check-sound (un U u a) e = and-then (unOk S u (tyOf a) U) (check S a) e (λ p q. tun (un-ok u (tyOf a) U p) (check-sound a q))
-    check-sound (bin U o a b) e = and-then (binOk S o (tyOf a) (tyOf b) U) (check S a && check S b) e (λ p q. and-then (check S a) (check S b) q (λ r s. tbin (bin-ok o (tyOf a) (tyOf b) U p) (check-sound a r) (check-sound b s)))
-    check-sound (rel U o a b) e = and-then (relOk S o (tyOf a) (tyOf b) U) (check S a && check S b) e (λ p q. and-then (check S a) (check S b) q (λ r s. trel (rel-ok o (tyOf a) (tyOf b) U p) (check-sound a r) (check-sound b s)))
-    check-sound (get U a t) e = and-then (onSome false (attrsOf S (tyOf a)) (λ R. onSome false (declared t R) (λ A. tySame A U))) (check S a) e
+    check-sound (ite U c a b) e = and-both (three S (tyOf a) (tyOf b) (tyOf c) U U tbool && (check S a && check S b)) (check S c) e (λ p q. and-both (three S (tyOf a) (tyOf b) (tyOf c) U U tbool) (check S a && check S b) p
+        (λ r s. and-both (check S a) (check S b) s (λ t u. choice U r (check-sound a t) (check-sound b u) (check-sound c q))))
+    check-sound (un U u a) e = and-both (unOk S u (tyOf a) U) (check S a) e (λ p q. tun (un-ok u (tyOf a) U p) (check-sound a q))
+    check-sound (bin U o a b) e = and-both (binOk S o (tyOf a) (tyOf b) U) (check S a && check S b) e (λ p q. and-both (check S a) (check S b) q (λ r s. tbin (bin-ok o (tyOf a) (tyOf b) U p) (check-sound a r) (check-sound b s)))
+    check-sound (rel U o a b) e = and-both (relOk S o (tyOf a) (tyOf b) U) (check S a && check S b) e (λ p q. and-both (check S a) (check S b) q (λ r s. trel (rel-ok o (tyOf a) (tyOf b) U p) (check-sound a r) (check-sound b s)))
+    check-sound (get U a t) e = and-both (onSome false (attrsOf S (tyOf a)) (λ R. onSome false (declared t R) (λ A. tySame A U))) (check S a) e
         (λ p q. some-test (attrsOf S (tyOf a)) (λ R. onSome false (declared t R) (λ A. tySame A U)) p (λ R r s. some-test (declared t R) (λ A. tySame A U) s (λ A d u. tget r (d ∙ ap some (tySame-true A U u)) (check-sound a q))))
-    check-sound (has U a t) e = and-then (onSome false (attrsOf S (tyOf a)) (λ R. tySame U tbool)) (check S a) e
+    check-sound (has U a t) e = and-both (onSome false (attrsOf S (tyOf a)) (λ R. tySame U tbool)) (check S a) e
         (λ p q. some-test (attrsOf S (tyOf a)) (λ R. tySame U tbool) p (λ R r s. is-ty (λ z. Typed S (has z a t) z) U tbool s (thas r (check-sound a q))))
-    check-sound (haspath U a t ts) e = and-then (onSome false (attrsOf S (tyOf a)) (pathOk S ts t) && tySame U tbool) (check S a) e (λ p q. and-then (onSome false (attrsOf S (tyOf a)) (pathOk S ts t)) (tySame U tbool) p
+    check-sound (haspath U a t ts) e = and-both (onSome false (attrsOf S (tyOf a)) (pathOk S ts t) && tySame U tbool) (check S a) e (λ p q. and-both (onSome false (attrsOf S (tyOf a)) (pathOk S ts t)) (tySame U tbool) p
         (λ r s. some-test (attrsOf S (tyOf a)) (pathOk S ts t) r (λ R u w. is-ty (λ z. Typed S (haspath z a t ts) z) U tbool s (tpath u (path-ok ts t R w) (check-sound a q)))))
     check-sound (set U es) e = set-ty (λ z. Typed S (set z es) z) U (λ A. checkAll S es A) e (λ A q. tset′ (all-sound es A q))
     check-sound (rec U gs) e = rec-ty (λ z. Typed S (rec z gs) z) U (λ R. checkArgs S gs R && completed R (λ t. named t gs)) e
-        (λ R q. and-then (checkArgs S gs R) (completed R (λ t. named t gs)) q (λ r s. trec′ (args-sound gs R r) (complete-sound R (λ t. named t gs) s)))
+        (λ R q. and-both (checkArgs S gs R) (completed R (λ t. named t gs)) q (λ r s. trec′ (args-sound gs R r) (complete-sound R (λ t. named t gs) s)))
 
     all-sound : (es : Exprs) (A : Ty) → checkAll S es A ≡ true → AllTyped S es A
     all-sound enil A e = nilTyped
-    all-sound (econs x es) A e = and-then (tySame (tyOf x) A && check S x) (checkAll S es A) e (λ p q. and-then (tySame (tyOf x) A) (check S x) p
+    all-sound (econs x es) A e = and-both (tySame (tyOf x) A && check S x) (checkAll S es A) e (λ p q. and-both (tySame (tyOf x) A) (check S x) p
         (λ r s. consTyped (subst (Typed S x) (tySame-true (tyOf x) A r) (check-sound x s)) (all-sound es A q)))
 
     args-sound : (gs : Args) (R : Attrs) → checkArgs S gs R ≡ true → ArgsTyped S gs R
     args-sound gnil R e = noArg
-    args-sound (gcons t x gs) R e = and-then (onSome false (declared t R) (tySame (tyOf x)) && check S x) (checkArgs S gs R) e (λ p q. and-then (onSome false (declared t R) (tySame (tyOf x))) (check S x) p
+    args-sound (gcons t x gs) R e = and-both (onSome false (declared t R) (tySame (tyOf x)) && check S x) (checkArgs S gs R) e (λ p q. and-both (onSome false (declared t R) (tySame (tyOf x))) (check S x) p
         (λ r s. some-test (declared t R) (tySame (tyOf x)) r (λ A d u. oneArg d (subst (Typed S x) (tySame-true (tyOf x) A u) (check-sound x s)) (args-sound gs R q))))

@@ -1,11 +1,11 @@
 -- The other way round: what is typed passes the typing test, and what fits passes the test of fitting.
 use mathlib.Core.Path.{_≡_, refl, _∙_, ap, subst}
-use mathlib.Core.Bool.{Bool, true, false, _||_, _&&_}
+use mathlib.Core.Bool.{Bool, true, false}
 use mathlib.Core.Option.{Option, some}
 use mathlib.Core.List.{List, [], _∷_}
 use Prim.Native.Nat.{ℕ}
 use lib.Dec.{isEq}
-use Rattle.cedar.proofs.Tools.{no-true}
+use Rattle.cedar.proofs.Tools.{both, or-left, or-right}
 use Rattle.cedar.proofs.OrderLaws.{cmp-refl}
 use Rattle.cedar.proofs.Kept.{ty-of}
 use Rattle.cedar.specs.Value.{Value, Values, Fields, find, found, onSome}
@@ -14,18 +14,7 @@ use Rattle.cedar.specs.Residual.{Expr, Exprs, Args, tyOf, Un, Bin, Rel}
 use Rattle.cedar.specs.Typing.{named, attrsOf, UnOk, notOk, negOk, emptyOk, isOk, likeOk, BinOk, eqOk, eqEntOk, ltOk, leOk, addOk, subOk, mulOk, containsOk, allOk, anyOk, RelOk, inOk, inSetOk, getTagOk, hasTagOk, PathOk, lastOk, freeOk, stepOk, Typed, tlit, terr, tvar, tand, tor, tite, tun, tbin, trel, tget, thas, tpath, tset′, trec′, AllTyped, nilTyped, consTyped, ArgsTyped, noArg, oneArg}
 use Rattle.cedar.specs.TypingTest.{need, completed, fits, allFit, fieldsFit, unOk, three, binOk, relOk, pathOk, check, checkAll, checkArgs}
 
-both : {p q : Bool} → p ≡ true → q ≡ true → (p && q) ≡ true
-both e f = rw (e, f)
-
-or-left : (p q : Bool) → p ≡ true → (p || q) ≡ true
-or-left true q e = refl
-or-left false q e = no-true e
-
-or-right : (p q : Bool) → q ≡ true → (p || q) ≡ true
-or-right true q e = refl
-or-right false q e = e
-
-tySame-refl : (A : Ty) → tySame A A ≡ true
+pub tySame-refl : (A : Ty) → tySame A A ≡ true
 tySame-refl A = ap isEq (cmp-refl (tyCode A))
 
 is-same : {A B : Ty} → A ≡ B → tySame A B ≡ true

@@ -1,48 +1,30 @@
 -- A run of 64 levels sees every tree of an accepted sheet whole: "a tree is never deeper than 64". Assumes nothing.
 use mathlib.Core.Path.{_≡_, refl, sym, _∙_, ap, ap₂, subst}
-use mathlib.Core.Bool.{Bool, true, false, cond}
+use mathlib.Core.Bool.{true}
 use mathlib.Core.List.{List, [], _∷_, _++_, append-assoc}
-use Prim.Native.Nat.{ℕ, zero, suc, _+_, _-_, _%_, _≤_, _<_}
+use Prim.Native.Nat.{ℕ, zero, suc, _+_, _-_, _≤_, _<_}
 use native.Mathlib.Omega.{arith}
 use native.Mathlib.Decide.{decLt}
-use borrow.Author.Tests.{le-ltb}
 use lib.ListN.{length, getD, drop, length-append, List·getD-append}
 use Rattle.cedar.specs.Types.{Ty, tbool}
 use Rattle.cedar.specs.Residual.{Node, Nodes, NodeArgs, econs, gcons, err, and, or, ite, un, bin, rel, get, has, haspath, set, rec, unot, uneg, uempty, uis, ulike, beq, blt, ble, badd, bsub, bmul, bcontains, ball, bany, rin, rgettag, rhastag}
 use Rattle.cedar.specs.Runs.{NPolicy}
-use Rattle.cedar.proofs.TableLaws.{InN, now′, later′}
-use Rattle.sheet.specs.Forms.{Mode, line, nothing, forms, formOf, slotAt, isLine, keep, refsFrom, refs, tag, items, at, keyOf, NODE, POLICY}
+use Rattle.cedar.proofs.TableLaws.{InN, now′}
+use Rattle.sheet.specs.Forms.{Mode, line, nothing, forms, formOf, slotAt, isLine, refsFrom, refs, tag, items, at, keyOf, NODE, POLICY}
 use Rattle.sheet.specs.State.{State, linesOf, count, depthsOf}
 use Rattle.sheet.specs.Content.{types, patternOf, childrenOver, argsOver, treeOver, treesFrom, trees, effectOf, numberedPolicies, nPolicies}
 use Rattle.sheet.proofs.Lines.{History}
 use Rattle.sheet.proofs.Parsed.{tags-between}
 use Rattle.sheet.proofs.NodeRows.{row-read}
 use Rattle.sheet.proofs.PoliciesRead.{node-tags, policy-tags, all-there}
-use Rattle.sheet.proofs.Uses.{AllBelow, refs-below}
-use Rattle.sheet.proofs.Depths.{Deep}
+use Rattle.sheet.proofs.Uses.{refs-below}
+use Rattle.sheet.proofs.Depths.{Deep, in-below}
+use Rattle.sheet.proofs.Shallow.{in-keep, this-kept}
+use Rattle.sheet.proofs.Slots.{set-slot, field-slot}
 use Rattle.evaluator.proofs.Many.{kidsWith, argsWith}
 use Rattle.evaluator.proofs.Evaluates.{treesOf, treesWith, treeWith, treeAt, policiesAt}
 
 -- ---- a row's children are among its references
-
-in-keep : (b : Bool) (x y : ℕ) (l : List ℕ) → InN y l → InN y (keep b x l)
-in-keep true x y l i = later′ i
-in-keep false x y l i = i
-
-kid-in : (b : Bool) (x : ℕ) (l : List ℕ) → b ≡ true → InN x (keep b x l)
-kid-in b x l e = subst (λ (z : Bool). InN x (keep z x l)) (sym e) now′
-
-in-below : (k : ℕ) (l : List ℕ) (y : ℕ) → AllBelow k l → InN y l → y < k
-in-below k (n ∷ l) y h now′ = h .0
-in-below k (n ∷ l) y h (later′ i) = in-below k l y (h .1) i
-
-set-slot : (j : ℕ) → slotAt 47 (suc j) ≡ line 11
-unfolding slotAt formOf forms
-set-slot j = let d : (suc j - 1) % 1 ≡ 0 = omega arith in ap₂ (λ b d. cond b (getD (line 3 ∷ []) (suc j) nothing) (getD (line 11 ∷ []) d nothing)) (le-ltb (suc j) 1 (omega arith)) d
-
-arg-slot : (i : ℕ) → slotAt 48 (suc (suc (i + i))) ≡ line 11
-unfolding slotAt formOf forms
-arg-slot i = let d : (suc (suc (i + i)) - 1) % 2 ≡ 1 = omega arith in ap₂ (λ b d. cond b (getD (line 3 ∷ []) (suc (suc (i + i))) nothing) (getD (line 1 ∷ line 11 ∷ []) d nothing)) (le-ltb (suc (suc (i + i))) 1 (omega arith)) d
 
 -- ---- trees of a row over t and over u, which agree at its references
 
@@ -53,7 +35,7 @@ module _ (t u : ℕ → Node ℕ) where
   one : (g : ℕ) (l : List ℕ) → 2 ≤ length l → isLine 11 (slotAt g 1) ≡ true → Agree (refsFrom 11 g 0 l) → t (getD l 1 0) ≡ u (getD l 1 0)
   one g [] c p h = absurd (omega arith)
   one g (x ∷ []) c p h = absurd (omega arith)
-  one g (x ∷ y ∷ l) c p h = h y (in-keep (isLine 11 (slotAt g 0)) x y (refsFrom 11 g 1 (y ∷ l)) (kid-in (isLine 11 (slotAt g 1)) y (refsFrom 11 g 2 l) p))
+  one g (x ∷ y ∷ l) c p h = h y (in-keep (isLine 11 (slotAt g 0)) x y (refsFrom 11 g 1 (y ∷ l)) (this-kept (isLine 11 (slotAt g 1)) y (refsFrom 11 g 2 l) p))
 
   two : (g : ℕ) (l : List ℕ) → 3 ≤ length l → isLine 11 (slotAt g 1) ≡ true → isLine 11 (slotAt g 2) ≡ true → Agree (refsFrom 11 g 0 l) → (t (getD l 1 0) ≡ u (getD l 1 0)) × (t (getD l 2 0) ≡ u (getD l 2 0))
   two g [] c p q h = absurd (omega arith)
@@ -61,7 +43,7 @@ module _ (t u : ℕ → Node ℕ) where
   two g (x ∷ y ∷ []) c p q h = absurd (omega arith)
   two g (x ∷ y ∷ z ∷ l) c p q h = (
     one g (x ∷ y ∷ z ∷ l) (omega arith) p h,
-    h z (in-keep (isLine 11 (slotAt g 0)) x z (refsFrom 11 g 1 (y ∷ z ∷ l)) (in-keep (isLine 11 (slotAt g 1)) y z (refsFrom 11 g 2 (z ∷ l)) (kid-in (isLine 11 (slotAt g 2)) z (refsFrom 11 g 3 l) q))),
+    h z (in-keep (isLine 11 (slotAt g 0)) x z (refsFrom 11 g 1 (y ∷ z ∷ l)) (in-keep (isLine 11 (slotAt g 1)) y z (refsFrom 11 g 2 (z ∷ l)) (this-kept (isLine 11 (slotAt g 2)) z (refsFrom 11 g 3 l) q))),
   )
 
   three : (g : ℕ) (l : List ℕ) → 4 ≤ length l → isLine 11 (slotAt g 1) ≡ true → isLine 11 (slotAt g 2) ≡ true → isLine 11 (slotAt g 3) ≡ true → Agree (refsFrom 11 g 0 l)
@@ -74,12 +56,12 @@ module _ (t u : ℕ → Node ℕ) where
     a,
     b,
     h w (in-keep (isLine 11 (slotAt g 0)) x w (refsFrom 11 g 1 (y ∷ z ∷ w ∷ l)) (in-keep (isLine 11 (slotAt g 1)) y w (refsFrom 11 g 2 (z ∷ w ∷ l))
-        (in-keep (isLine 11 (slotAt g 2)) z w (refsFrom 11 g 3 (w ∷ l)) (kid-in (isLine 11 (slotAt g 3)) w (refsFrom 11 g 4 l) r)))),
+        (in-keep (isLine 11 (slotAt g 2)) z w (refsFrom 11 g 3 (w ∷ l)) (this-kept (isLine 11 (slotAt g 3)) w (refsFrom 11 g 4 l) r)))),
   )
 
   kids-same : (j : ℕ) (l : List ℕ) → Agree (refsFrom 11 47 (suc j) l) → kidsWith t l ≡ kidsWith u l
   kids-same j [] h = refl
-  kids-same j (n ∷ l) h = ap₂ econs (h n (kid-in (isLine 11 (slotAt 47 (suc j))) n (refsFrom 11 47 (suc (suc j)) l) (ap (isLine 11) (set-slot j))))
+  kids-same j (n ∷ l) h = ap₂ econs (h n (this-kept (isLine 11 (slotAt 47 (suc j))) n (refsFrom 11 47 (suc (suc j)) l) (ap (isLine 11) (set-slot j))))
       (kids-same (suc j) l (λ y i. h y (in-keep (isLine 11 (slotAt 47 (suc j))) n y (refsFrom 11 47 (suc (suc j)) l) i)))
 
   args-same : (i : ℕ) (l : List ℕ) → Agree (refsFrom 11 48 (suc (i + i)) l) → argsWith t l ≡ argsWith u l
@@ -88,7 +70,7 @@ module _ (t u : ℕ → Node ℕ) where
   args-same i (x ∷ n ∷ l) h =
       let e : refsFrom 11 48 (suc (suc i + suc i)) l ≡ refsFrom 11 48 (suc (suc (suc (i + i)))) l = ap (λ j. refsFrom 11 48 j l) (omega arith) in
       ap₂ (gcons x)
-      (h n (in-keep (isLine 11 (slotAt 48 (suc (i + i)))) x n (refsFrom 11 48 (suc (suc (i + i))) (n ∷ l)) (kid-in (isLine 11 (slotAt 48 (suc (suc (i + i))))) n (refsFrom 11 48 (suc (suc (suc (i + i)))) l) (ap (isLine 11) (arg-slot i)))))
+      (h n (in-keep (isLine 11 (slotAt 48 (suc (i + i)))) x n (refsFrom 11 48 (suc (suc (i + i))) (n ∷ l)) (this-kept (isLine 11 (slotAt 48 (suc (suc (i + i))))) n (refsFrom 11 48 (suc (suc (suc (i + i)))) l) (ap (isLine 11) (field-slot i)))))
       (args-same (suc i) l (λ y k. h y (in-keep (isLine 11 (slotAt 48 (suc (i + i)))) x y (refsFrom 11 48 (suc (suc (i + i))) (n ∷ l))
       (in-keep (isLine 11 (slotAt 48 (suc (suc (i + i))))) n y (refsFrom 11 48 (suc (suc (suc (i + i)))) l) (subst (InN y) e k)))))
 

@@ -1,6 +1,6 @@
 -- The laws of the code's `operands`: what the strict operations give is what the definition says for the node's tag. Assumes nothing.
 use mathlib.Core.Path.{_≡_, refl, sym, ap, _∙_, fun-ext}
-use mathlib.Core.Bool.{Bool, true, false, cond}
+use mathlib.Core.Bool.{Bool, true, false}
 use mathlib.Core.Option.{Option, none, some}
 use mathlib.Core.List.{List, [], _∷_}
 use Prim.Native.Nat.{ℕ, zero, suc, _+_, _-_, _≤_, _<_}
@@ -10,11 +10,12 @@ use lib.ListN.{length, getD, take, drop, length-drop, List·getD-eq-default, dro
 use lib.Seq.{take-length, drop-drop, drop-cons}
 use Rattle.words.specs.Log.{part}
 use Rattle.cedar.specs.Value.{onSome}
-use Rattle.cedar.specs.Rows.{stop, Row, rbool, rlong, rtext, rent, rset, rrec}
-use Rattle.cedar.specs.Numbered.{Give, made, old, NOut, fails, stays, truly, rRec, giveRow, entryOf, isSome, nentity, nlineOr, onEntries}
+use Rattle.cedar.specs.Rows.{Row, rbool, rlong, rtext, rent, rset, rrec}
+use Rattle.cedar.specs.Numbered.{Give, NOut, fails, stays, truly, rRec, giveRow, entryOf, isSome, nentity, nlineOr, onEntries}
 use Rattle.sheet.specs.Forms.{items, at, mark}
 use Rattle.sheet.specs.Content.{lookUp, nEnv, lineGiven, schema}
 use Rattle.table.specs.Layout.{rowsOf, textAt, held}
+use Rattle.table.proofs.Rows.{above}
 use Rattle.strict.specs.Gives.{outOf, values, valueIn, modeOf, notOut, negOut, emptyOut, isOut, likeOut, arithOut, longsOut, containsOut, allOut, anyOut}
 use Rattle.strict.specs.Gives as S
 use Rattle.strict.specs.Lookups.{stateIn, lineIn, partOfLine, partIn, lookFound, lookRow, lookIn, lookValue, lookAttr, inOut, gettagOut, hastagOut, walkStep, walkFrom}
@@ -29,6 +30,7 @@ use Rattle.strict.specs.declared.entity.Walked.{Walked}
 use Rattle.strict.specs.declared.entity.Walked.the-variants.{Holds, Fails as Failsʷ, Left}
 use Rattle.strict.proofs.Links.{bytes-link}
 use Rattle.tpe.specs.Run.{envIn, schemaIn}
+use Rattle.tpe.proofs.Walks.{partGive, known-or}
 use Rattle.evaluator.specs.Run.{nodeIn, pathOut, binOut, relOut, getOut, hasOut, walkOut, twoOut, unOut, oneOut}
 
 -- ---- words of a node
@@ -47,21 +49,11 @@ like-is sheet a r p v g ep e = e ∙ ap (λ (q : List ℕ). likeOut (textAt shee
 
 -- ---- a path: what a look-up finds
 
--- an unlisted entity has no attributes
-abbrev partGive : Part → Option Give
-partGive (Known n) = some (old n)
-partGive Empty = some (made (rrec stop))
-partGive Unknown = none
-
 abbrev lookAs : (Option ℕ → NOut) → Look → NOut
 lookAs g (Atˡ x) = g (some x)
 lookAs g Missing = g none
 lookAs g (Unknownˡ k) = stays
 lookAs g Bad = fails
-
-given-or : (x : ℕ) (b : Bool) → cond b none (some (old x)) ≡ partGive (cond b Unknown (Known x))
-given-or x true = refl
-given-or x false = refl
 
 module _ (a : List ℕ) where
   attrs-is : (k t : ℕ) → nentity (S.envIn true a) k t .attrs ≡ partGive (partIn true a k t 1)
@@ -70,7 +62,7 @@ module _ (a : List ℕ) where
     where
       go : (o : Option (List ℕ)) → nlineOr (lineGiven (modeOf true) o) .attrs ≡ partGive (partOfLine true o 1)
       go none = refl
-      go (some r) = given-or (at r 1) (eqb (at r 1) mark)
+      go (some r) = known-or (at r 1) (eqb (at r 1) mark)
 
   module _ (g : Option ℕ → NOut) (u : ℕ) where
     found-as : (o : Option ℕ) → g o ≡ lookAs g (lookFound o)
@@ -164,9 +156,6 @@ so-many t h l = omega arith
 
 the-last : (t : ℕ) → 46 ≤ t → t < 47 → 46 ≡ t
 the-last t h l = omega arith
-
-pub above : (t k : ℕ) → k ≤ t → (t ≡ k → ⊥) → suc k ≤ t
-above t k h n = omega arith
 
 -- ---- one operand, by the tag
 

@@ -12,12 +12,13 @@ use Rattle.cedar.specs.Residual.{Rel, rin, rgettag, rhastag}
 use Rattle.cedar.specs.Entities.{Env, whole, entity, pentity}
 use Rattle.cedar.specs.Evaluate.{boolOf, applyRel, applyGet, applyHas, applyPath, targets, within}
 use Rattle.cedar.specs.Interpret.{gives, relKnown, getKnown, hasKnown, inKnown}
-use Rattle.cedar.specs.Rows.{Entries, Row, rbool, rlong, rtext, rent, rset, rrec}
+use Rattle.cedar.specs.Rows.{Row}
 use Rattle.cedar.specs.Table.{At, Denotes, dbool, dlong, dtext, dent, dset, drec, Table}
 use Rattle.cedar.proofs.MakingLaws.{intern-makes}
-use Rattle.cedar.specs.Numbered.{Give, made, NEnv, nentity, rowAt, giveRow, rBool, rRec, NOut, fails, stays, truly, isSome, entryOf, nRel, nGet, nHas, onEntries}
+use Rattle.cedar.specs.Numbered.{made, NEnv, rowAt, rBool, NOut, fails, stays, truly, isSome, entryOf, nRel, nGet, nHas}
 use Rattle.cedar.proofs.ReadsLaws.{OutReads, omade, oold, ofail, ostay, Keeps, row-denotes, on-bool}
 use Rattle.cedar.proofs.ReadsOps.{EnvRead, keep-env, rel-reads, get-reads, has-reads, on-fields, OptAt, absent, there-at, entry-at}
+use Rattle.cedar.proofs.Outcomes.{e-entries}
 use Rattle.sheet.specs.Forms.{complete}
 use Rattle.sheet.specs.State.{valueRow}
 use Rattle.sheet.specs.Content.{nEnv}
@@ -38,10 +39,6 @@ use Rattle.cedar.specs.Interpret as I
 pub data Says (C : List Content) : Yield → Result → Type 0 where
   says-value : {n : ℕ} {v : Content} → At C n v → Says C (Value n) (ok v)
   says-error : Says C Error fail
-
-bool-row : (b : Bool) → valueRow (boolRow b) ≡ rbool b
-bool-row true = refl
-bool-row false = refl
 
 module _ (sheet a₀ : List ℕ) (G : Env) where
   -- the words hold the sheet, its request and entities, and values of contents C
@@ -263,30 +260,10 @@ module _ (G : Env) where
 
 -- a path makes nothing but bools
 module _ (M : NEnv) (R : List Row) where
-  fine-entries : (f : Entries → NOut) → ((e : Entries) → Fine (f e)) → (r : Row) → Fine (onEntries M R fails (λ k i. stays) r f)
-  fine-entries f h (rbool b) = tt
-  fine-entries f h (rlong n) = tt
-  fine-entries f h (rtext t) = tt
-  fine-entries f h (rent k t) = go (nentity M k t .attrs)
-    where
-      in-row : (r : Row) → Fine (rRec fails r f)
-      in-row (rbool b) = tt
-      in-row (rlong n) = tt
-      in-row (rtext t) = tt
-      in-row (rent i t) = tt
-      in-row (rset l) = tt
-      in-row (rrec e) = h e
-
-      go : (o : Option Give) → Fine (onSome stays o (λ a. rRec fails (giveRow R a) f))
-      go none = tt
-      go (some a) = in-row (giveRow R a)
-  fine-entries f h (rset l) = tt
-  fine-entries f h (rrec e) = h e
-
   pub fine-path : (us : List ℕ) (i n : ℕ) → Fine (pathOut M R us i n)
   unfolding pathOut
-  fine-path [] i n = fine-entries (λ e. truly (isSome (entryOf i e))) (λ e. tt) (rowAt R n)
-  fine-path (u ∷ us) i n = fine-entries (λ e. onSome (truly false) (entryOf i e) (pathOut M R us u)) (λ e. go (entryOf i e) (fine-path us u)) (rowAt R n)
+  fine-path [] i n = e-entries Fine fails tt M R (λ k j. stays) (λ k j. tt) (λ e. truly (isSome (entryOf i e))) (λ e. tt) (rowAt R n)
+  fine-path (u ∷ us) i n = e-entries Fine fails tt M R (λ k j. stays) (λ k j. tt) (λ e. onSome (truly false) (entryOf i e) (pathOut M R us u)) (λ e. go (entryOf i e) (fine-path us u)) (rowAt R n)
     where
       go : (o : Option ℕ) → ((m : ℕ) → Fine (pathOut M R us u m)) → Fine (onSome (truly false) o (pathOut M R us u))
       go none f = tt

@@ -4,7 +4,7 @@ use mathlib.Core.Path.{_≡_, refl, sym, _∙_, ap, ap₂, subst}
 use mathlib.Core.Bool.{Bool, true, false, cond}
 use mathlib.Core.Option.{none, some}
 use mathlib.Core.List.{List, [], _∷_, _++_, append-assoc, append-nil}
-use Prim.Native.Nat.{ℕ, zero, suc, _+_, _-_, _*_, _≤_, _<_, compare, Ordering, Ordering·lt, Ordering·eq, Ordering·gt}
+use Prim.Native.Nat.{ℕ, zero, suc, _+_, _-_, _*_, _≤_, _<_}
 use native.Mathlib.Omega.{arith}
 use native.Mathlib.Decide.{decLt}
 use borrow.Author.Tests.{lt-ltb, le-ltb}
@@ -18,7 +18,7 @@ use Rattle.cedar.specs.Types.{Ty, Schema}
 use Rattle.cedar.specs.Residual.{Node, Nodes, NodeArgs, Expr, Exprs, Args, enil, econs, gnil, gcons, lit, err, var, and, or, ite, un, bin, rel, get, has, haspath, set, rec}
 use Rattle.cedar.specs.Entities.{Env}
 use Rattle.cedar.specs.Evaluate.{eval, evals, evalArgs, consR, fieldR}
-use Rattle.cedar.specs.Making.{insertN, placeN, sortN}
+use Rattle.cedar.specs.Making.{sortN}
 use Rattle.cedar.specs.Table.{At, Elems, elem0, elem1, Named, name0, name1, Denotes, drec}
 use Rattle.cedar.proofs.MakingLaws.{set-denotes}
 use Rattle.cedar.specs.Reads.{Reads, xset, xrec, ReadsAll, xnil, xcons, ReadsArgs, xstop, xarg}
@@ -35,6 +35,7 @@ use Rattle.value.proofs.Lists.{uncons, spent}
 use Rattle.residual.specs.Rows.{litRow}
 use Rattle.tpe.specs.Run.{others}
 use Rattle.tpe.proofs.Stands.{Room}
+use Rattle.tpe.proofs.Sets.{sort-short, drop-two}
 use Rattle.evaluator.specs.Run.{E, Rec, nodeIn, Kids, kids, nextKid, kidsOf, most, manyOf, setStep, recStep}
 use Rattle.evaluator.specs.declared.Yield.{Yield}
 use Rattle.evaluator.proofs.Gives.{Says, says-value, says-error, Stand, Gives, is-error, is-made, some-room}
@@ -130,19 +131,6 @@ row-short a s m = go (decLt m (getD a NODE 0))
 
 -- ---- sizes
 
-insert-short : (m : ℕ) (l : List ℕ) → length (insertN m l) ≤ suc (length l)
-insert-short m [] = omega arith
-insert-short m (n ∷ l) = go (compare m n) (insert-short m l)
-  where
-    go : (o : Ordering) → length (insertN m l) ≤ suc (length l) → length (placeN o m n l (insertN m l)) ≤ suc (suc (length l))
-    go Ordering·lt h = omega arith
-    go Ordering·eq h = omega arith
-    go Ordering·gt h = omega (arith, h)
-
-sort-short : (l : List ℕ) → length (sortN l) ≤ length l
-sort-short [] = omega arith
-sort-short (n ∷ l) = let a = insert-short n (sortN l) in let b = sort-short l in omega (arith, a, b)
-
 pairs-short : (l ns : List ℕ) → length (pairsOf l (litRows ns)) ≤ 2 * length ns
 unfolding pairsOf litRows
 pairs-short [] ns = omega arith
@@ -157,10 +145,6 @@ record-short r ns = let h = pairs-short (drop 2 r) ns in omega (arith, h)
 record-denotes : (D : List Content) (r ns : List ℕ) {fs : Fields} → Named D (entriesOf (pairsOf (drop 2 r) (litRows ns))) fs → Denotes D (valueRow (recordRow r (litRows ns))) (vrec fs)
 unfolding recordRow
 record-denotes D r ns m = drec m
-
-drop-two : (r : List ℕ) → drop 2 r ≡ drop 1 (items r)
-drop-two [] = refl
-drop-two (t ∷ l) = refl
 
 pub node-size : (e : Node ℕ) → 1 ≤ size e
 node-size (lit T v) = omega arith

@@ -3,12 +3,11 @@ use mathlib.Core.Path.{_≡_, refl, sym, ap, subst, _∙_}
 use mathlib.Core.Bool.{Bool, true, false, cond}
 use mathlib.Core.Option.{none, some}
 use mathlib.Core.List.{List, [], _∷_}
-use Prim.Native.Nat.{ℕ, zero, suc}
+use Prim.Native.Nat.{ℕ}
 use native.Mathlib.Omega.{arith}
 use borrow.Author.Tests.{eq-eqb, ne-eqb}
 use lib.Dec.{eqb}
 use lib.ListN.{getD}
-use lib.IntN.{ℤ, pos, negsuc}
 use types.Run.{OneOf}
 use denote.Enum.Declared.{tagOf}
 use Rattle.value.proofs.Shape.{the-type}
@@ -16,23 +15,21 @@ use Rattle.cedar.specs.Types.{Var, principal, action, resource, context}
 use Rattle.cedar.specs.Residual.{copen, truth}
 use Rattle.cedar.specs.Rows.{Row, rbool, rlong, rtext, rent, rset, rrec}
 use Rattle.cedar.specs.Numbered.{made, old, rowAt, rBool, NOut}
-use Rattle.sheet.specs.Bytes.{longAt}
 use Rattle.sheet.specs.Forms.{items, mark}
 use Rattle.sheet.specs.Content.{varOf, entityGiven, given, nEnv}
-use Rattle.sheet.proofs.ValueRows.{back}
 use Rattle.table.specs.Layout.{rowsOf, held, linesHeld}
 use Rattle.value.specs.Lines.{valueLines}
 use Rattle.value.specs.Made.{boolRow, longRow, entityRow, Made}
 use Rattle.value.specs.Shapes.{shapeOf}
 use Rattle.value.specs.declared.Shape.{Shape}
 use Rattle.value.specs.declared.Shape.the-variants.{Bool as Boolˢ}
-use Rattle.value.proofs.Interned.{long-row, formed-long}
 use Rattle.strict.specs.Gives.{outOf, valueIn}
 use Rattle.strict.specs.Gives as S
 use Rattle.strict.specs.declared.Given.{Given}
 use Rattle.strict.specs.declared.Given.the-variants.{Bool as Boolᵍ, Long, Old, Fails, Stays}
 use Rattle.strict.proofs.Shapes.{value-shape, other-bool}
-use Rattle.tpe.specs.Run.{wordsOf, envIn}
+use Rattle.tpe.specs.Run.{envIn}
+use Rattle.tpe.proofs.Settling.{long-words, var-last}
 use Rattle.evaluator.specs.Run.{yields, values, madeOf, giveOf, settleOf, optOf, onYield, next, boolOnly, envOf, classOf, classNumber}
 use Rattle.evaluator.specs.Gave.{Gave, truthOf, truthIn}
 use Rattle.evaluator.specs.declared.Yield.{Yield}
@@ -48,13 +45,6 @@ module _ (a : List ℕ) (v : ℕ) (q : List ℕ) (s : Shape) (eq : q ≡ getD (v
   pub truth-other : OneOf (1 ∷ 2 ∷ 3 ∷ 4 ∷ 5 ∷ []) (tagOf the-type s) → Other ≡ truthOf (valueIn a v)
   unfolding truthOf
   truth-other h = rw (value-shape a v q s eq es) (sym (other-bool Other (items q) s Is h))
-
-same-back : (z : ℤ) → wordsOf (rlong z) ≡ back (rlong z)
-same-back (pos n) = refl
-same-back (negsuc n) = refl
-
-long-words : (w : ℕ) → wordsOf (rlong (longAt w)) ≡ longRow w
-long-words w = same-back (longAt w) ∙ ap back (sym (long-row w)) ∙ formed-long w
 
 module _ (a is : List ℕ) (g : Given) where
   pub settle-bool : (b : Bool) (n : ℕ) → g ≡ Boolᵍ b → Made a (boolRow b) is n → Gave (settleOf a (outOf g)) is (Value n)
@@ -159,13 +149,6 @@ module _ (a : List ℕ) (k : ℕ) (r : List ℕ) (er : r ≡ getD (rowsOf a k) 0
   unfolding optOf giveOf madeOf
   entity-made is kind v n ek m = rw (the-line, ne-eqb t mark n, ← ek) (record { words = m .words; yield = ap Value (m .number) })
 
-var-context : (x : ℕ) → (x ≡ 0 → ⊥) → (x ≡ 1 → ⊥) → (x ≡ 2 → ⊥) → varOf x ≡ context
-var-context zero p q s = absurd (p refl)
-var-context (suc zero) p q s = absurd (q refl)
-var-context (suc (suc zero)) p q s = absurd (s refl)
-var-context (suc (suc (suc zero))) p q s = refl
-var-context (suc (suc (suc (suc x)))) p q s = refl
-
 module _ (a : List ℕ) (x : ℕ) where
   asked : (u : Var) → varOf x ≡ u → envOf a .request (varOf x) ≡ given (held [] a []) u
   unfolding envIn nEnv
@@ -187,7 +170,7 @@ module _ (a : List ℕ) (x : ℕ) where
   module _ (p : x ≡ 0 → ⊥) (q : x ≡ 1 → ⊥) (s : x ≡ 2 → ⊥) (r : List ℕ) (er : r ≡ getD (rowsOf a 10) 0 []) (v : ℕ) (ev : v ≡ getD r 2 0) where
     the-context : envOf a .request (varOf x) ≡ cond (eqb v mark) none (some (old v))
     unfolding held linesHeld
-    the-context = asked context (var-context x p q s) ∙ ap (λ (n : ℕ). cond (eqb n mark) none (some (old n))) (sym (ev ∙ ap (λ (l : List ℕ). getD l 2 0) er))
+    the-context = asked context (var-last x p q s) ∙ ap (λ (n : ℕ). cond (eqb n mark) none (some (old n))) (sym (ev ∙ ap (λ (l : List ℕ). getD l 2 0) er))
 
     pub ask-unknown : v ≡ 10000 → Gave (optOf a (envOf a .request (varOf x))) a Error
     unfolding optOf

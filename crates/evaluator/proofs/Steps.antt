@@ -19,13 +19,14 @@ use Rattle.cedar.specs.Numbered.{Give, made, old, rowAt, NOut, nUn, nBin, nRel,
 use Rattle.cedar.specs.Reads.{Reads, xlit, xerr, xvar, xand, xor, xite, xun, xbin, xrel, xget, xhas, xpath, GiveRead, give-made, give-old}
 use Rattle.cedar.proofs.ReadsLaws.{OutReads, keep-reads, row-denotes}
 use Rattle.cedar.proofs.ReadsOps.{un-reads, bin-reads}
+use Rattle.cedar.proofs.Outcomes.{made-un, made-bin, made-rel, made-get, made-has}
 use Rattle.sheet.specs.Forms.{complete, items, at, PRINCIPAL, ACTION, RESOURCE, CONTEXT, NODE, mark}
 use Rattle.sheet.specs.State.{State, lineAt}
 use Rattle.sheet.specs.Content.{schema, nEnv, given, varOf}
 use Rattle.sheet.specs.Answer.{size}
 use Rattle.table.specs.Layout.{held}
 use Rattle.tpe.specs.Run.{wordsOf}
-use Rattle.tpe.proofs.Outcomes.{GiveFine, Fine, words-row, words-formed, words-short, made-un, made-bin, made-rel, made-get, made-has}
+use Rattle.tpe.proofs.Outcomes.{GiveFine, Fine, words-row, words-formed, words-short, row-fine}
 use Rattle.tpe.proofs.Stands.{Hold, Room, Space, Spent, schema-is, env-is}
 use lib.Dec.{eqb}
 use Rattle.evaluator.specs.Run.{E, Rec, yields, values, giveOf, settleOf, optOf, next, nodeIn, sideOf, branchOf, pathOut, litStep, errStep, varStep, lazyStep, ifStep, oneStep, twoStep, unOut, binOut, relOut, getOut, hasOut, walkOut, schemaOf, envOf}
@@ -143,7 +144,7 @@ module _ (sheet a₀ : List ℕ) (G : Env) where
         → Gives sheet a₀ G C (suc (size d)) a (oneStep (unOut sheet u) f a l m r) (eval sch G X)
     unfolding oneStep unOut
     un-gives u T a l C X s room (xun {d = D} q) = one-gives f i (λ b v. nUn (schemaOf sheet b) (u (nodeIn b m)) (rowAt (values b) v)) (applyUn sch (u r)) a l C D s room q
-        (λ b h v. made-un (schemaOf sheet b) (u (nodeIn b m)) (rowAt (values b) v))
+        (λ b h v. made-un row-fine (schemaOf sheet b) (u (nodeIn b m)) (rowAt (values b) v))
         (λ b B t v z e. rw (again b (t .hold), schema-is complete sheet a₀ b (t .hold)) (un-reads B sch (number-inj (t .table)) (u r) (row-denotes (t .table) e)))
 
     pub un-meets : (u : List ℕ → Un) (T : Ty) → Meets (λ a l. oneStep (unOut sheet u) f a l m r) (un T (u r) d)
@@ -153,7 +154,7 @@ module _ (sheet a₀ : List ℕ) (G : Env) where
         → Gives sheet a₀ G C (suc (size d)) a (oneStep (getOut) f a l m r) (eval sch G X)
     unfolding oneStep getOut
     get-in T a l C X s room (xget {d = D} q) = one-gives f i (λ b v. nGet (envOf b) (values b) (at (nodeIn b m) 2) (rowAt (values b) v)) (applyGet G (at r 2)) a l C D s room q
-        (λ b h v. made-get (envOf b) (values b) (at (nodeIn b m) 2) (rowAt (values b) v))
+        (λ b h v. made-get row-fine (envOf b) (values b) (at (nodeIn b m) 2) (rowAt (values b) v))
         (λ b B t v z e. rw (again b (t .hold), env-is complete [] a₀ b (t .hold)) (get-gives G (t .table) (t .env) (at r 2) e))
 
     pub get-meets : (T : Ty) → Meets (λ a l. oneStep (getOut) f a l m r) (get T d (at r 2))
@@ -163,7 +164,7 @@ module _ (sheet a₀ : List ℕ) (G : Env) where
         → Gives sheet a₀ G C (suc (size d)) a (oneStep (hasOut) f a l m r) (eval sch G X)
     unfolding oneStep hasOut
     has-in T a l C X s room (xhas {d = D} q) = one-gives f i (λ b v. nHas (envOf b) (values b) (at (nodeIn b m) 2) (rowAt (values b) v)) (applyHas G (at r 2)) a l C D s room q
-        (λ b h v. made-has (envOf b) (values b) (at (nodeIn b m) 2) (rowAt (values b) v))
+        (λ b h v. made-has row-fine (envOf b) (values b) (at (nodeIn b m) 2) (rowAt (values b) v))
         (λ b B t v z e. rw (again b (t .hold), env-is complete [] a₀ b (t .hold)) (has-gives G (t .table) (t .env) (at r 2) e))
 
     pub has-meets : (T : Ty) → Meets (λ a l. oneStep (hasOut) f a l m r) (has T d (at r 2))
@@ -201,7 +202,7 @@ module _ (sheet a₀ : List ℕ) (G : Env) where
           → Gives sheet a₀ G C n a (twoStep (binOut p) f a l m r) (eval sch G X)
       unfolding twoStep binOut
       bin-in p T a l C X s room (xbin {d = D} {e = F} q t) = two-gives (λ b v w. nBin p v w (rowAt (values b) v) (rowAt (values b) w)) (applyBin p) a l C D F s room q t
-          (λ b v w. made-bin p v w (rowAt (values b) v) (rowAt (values b) w))
+          (λ b v w. made-bin row-fine p v w (rowAt (values b) v) (rowAt (values b) w))
           (λ b B u v w y z c o. bin-reads B (number-inj (u .table)) p c o (row-denotes (u .table) c) (row-denotes (u .table) o))
 
       pub bin-meets : (p : Bin) (T : Ty) → Meets (λ a l. twoStep (binOut p) f a l m r) (bin T p d e)
@@ -211,7 +212,7 @@ module _ (sheet a₀ : List ℕ) (G : Env) where
           → Gives sheet a₀ G C n a (twoStep (relOut p) f a l m r) (eval sch G X)
       unfolding twoStep relOut
       rel-in p T a l C X s room (xrel {d = D} {e = F} q t) = two-gives (λ b v w. nRel (envOf b) (values b) p v w (rowAt (values b) v) (rowAt (values b) w)) (applyRel G p) a l C D F s room q t
-          (λ b v w. made-rel (envOf b) (values b) p v w (rowAt (values b) v) (rowAt (values b) w))
+          (λ b v w. made-rel row-fine (envOf b) (values b) p v w (rowAt (values b) v) (rowAt (values b) w))
           (λ b B u v w y z c o. rw (env-is complete [] a₀ b (u .hold)) (rel-gives G (u .table) (u .env) p c o))
 
       pub rel-meets : (p : Rel) (T : Ty) → Meets (λ a l. twoStep (relOut p) f a l m r) (rel T p d e)

@@ -15,6 +15,7 @@ use Rattle.cedar.specs.Numbered.{rowAt}
 use Rattle.sheet.specs.Forms.{tag, at}
 use Rattle.sheet.specs.Content.{varOf}
 use Rattle.table.specs.Layout.{rowsOf}
+use Rattle.table.proofs.Rows.{above}
 use Rattle.value.specs.Made.{boolRow, Made, MadeBeside, setRow, recordRow, written}
 use Rattle.residual.specs.Rows.{litRow}
 use Rattle.evaluator.specs.Run.{E, Rec, Step, Kids, Ran, yields, values, nodeIn, policyIn, madeOf, settleOf, optOf, onYield, next, onBool, boolOnly, sideOf, branchOf, kids, nextKid, kidsOf, manyOf, envOf, litStep, errStep, varStep, lazyStep, ifStep, oneStep, twoStep, setStep, recStep, binOut, unOut, twos, twoOut, each, ones, oneOut, steps, stepAt, stepOf, evalOf, classOf, classNumber, ranFrom, runOf}
@@ -25,7 +26,6 @@ use Rattle.evaluator.specs.declared.Truth.{Truth}
 use Rattle.evaluator.specs.declared.Truth.the-variants.{Is, Other}
 use Rattle.evaluator.specs.declared.Children.{Children}
 use Rattle.evaluator.proofs.Settles.{on-is, on-other}
-use Rattle.evaluator.proofs.Given.{above}
 
 -- ---- what was yielded
 

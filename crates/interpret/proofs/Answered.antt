@@ -108,7 +108,7 @@ module _ (sheet a b : List ℕ) (accepted : read partial sheet .number ≡ 0) (s
   same-count : getD (r .words) POLICY 0 ≡ getD a POLICY 0
   same-count = sym (count-rows (r .words) POLICY) ∙ ap length (ran .hold .same POLICY (omega arith)) ∙ count-rows a POLICY
 
-  few : length (x .lines) ≤ 64
+  pub few : length (x .lines) ≤ 64
   unfolding limit limits
   few = let n = sound .few POLICY (omega arith) in omega (arith, n, policies)
 

@@ -6,6 +6,7 @@ use native.Mathlib.Omega.{arith}
 use borrow.Author.Tests.{le-leb, lt-leb}
 use lib.ListN.{getD, set}
 use Rattle.residual.specs.Rows.{stageAt, startAt}
+use Rattle.residual.proofs.Steps.{start-low}
 use Rattle.tpe.specs.Run.{classBy}
 use Rattle.tpe.specs.Classes.{classIn}
 use Rattle.tpe.specs.declared.Class.{Class as Classᶜ}
@@ -21,10 +22,6 @@ many-policies a b bt k e h = rw (← e, lt-leb k 64 h)
 pub long-log : (a b : List ℕ) (bt k : ℕ) → k ≡ getD a 12 0 → k ≤ 64 → 16384 < bt → b ≡ linesOf a b bt
 unfolding linesOf
 long-log a b bt k e h l = rw (← e, le-leb k 64 h, lt-leb bt 16384 l)
-
-start-low : (b : List ℕ) (e : ℕ) → startAt b e ≤ e
-unfolding startAt
-start-low b e = omega arith
 
 -- what is left of the policies gives all of them
 pub record Noting (a b₀ b : List ℕ) (bt k e : ℕ) : Type 0 where

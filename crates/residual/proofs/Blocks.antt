@@ -77,11 +77,11 @@ module _ (pre : List ℕ) (r : Res) (post : List ℕ) where
 -- ---- properties of a node over its children, operation by operation
 
 -- Q holds at each place, from place i on, where the test does
-data Each (Q : ℕ → Node ℕ → Type 0) : ℕ → List Bool → List (Node ℕ) → Type 0 where
+pub data Each (Q : ℕ → Node ℕ → Type 0) : ℕ → List Bool → List (Node ℕ) → Type 0 where
   each0 : {i : ℕ} → Each Q i [] []
   each1 : {i : ℕ} {s : Bool} {ss : List Bool} {n : Node ℕ} {ns : List (Node ℕ)} → (s ≡ true → Q i n) → Each Q (suc i) ss ns → Each Q i (s ∷ ss) (n ∷ ns)
 
-each-at : {Q : ℕ → Node ℕ → Type 0} {i : ℕ} {ss : List Bool} {ns : List (Node ℕ)} (d : Node ℕ) → Each Q i ss ns → (j : ℕ) → getD ss j false ≡ true → Q (j + i) (getD ns j d)
+pub each-at : {Q : ℕ → Node ℕ → Type 0} {i : ℕ} {ss : List Bool} {ns : List (Node ℕ)} (d : Node ℕ) → Each Q i ss ns → (j : ℕ) → getD ss j false ≡ true → Q (j + i) (getD ns j d)
 each-at d each0 j e = no-true e
 each-at {Q} {i} d (each1 {n = n} {ns = ns} f r) zero e =
     let z : i ≡ 0 + i = omega arith in
@@ -98,6 +98,29 @@ unfoldable pub sizeAll : List (Node ℕ) → ℕ
 sizeAll [] = 0
 sizeAll (x ∷ l) = size x + sizeAll l
 
+-- children by their number
+pub over0 : (P : List (Node ℕ) → Type 0) (cs : List (Node ℕ)) → P [] → eqb (length cs) 0 ≡ true → P cs
+over0 P [] f e = f
+over0 P (x ∷ l) f e = let z = eqb-true (suc (length l)) 0 e in absurd (omega arith)
+
+pub over1 : (P : List (Node ℕ) → Type 0) (cs : List (Node ℕ)) → ((x : Node ℕ) → P (x ∷ [])) → eqb (length cs) 1 ≡ true → P cs
+over1 P [] f e = let z = eqb-true 0 1 e in absurd (omega arith)
+over1 P (x ∷ []) f e = f x
+over1 P (x ∷ y ∷ l) f e = let z = eqb-true (suc (suc (length l))) 1 e in absurd (omega arith)
+
+pub over2 : (P : List (Node ℕ) → Type 0) (cs : List (Node ℕ)) → ((x y : Node ℕ) → P (x ∷ y ∷ [])) → eqb (length cs) 2 ≡ true → P cs
+over2 P [] f e = let z = eqb-true 0 2 e in absurd (omega arith)
+over2 P (x ∷ []) f e = let z = eqb-true 1 2 e in absurd (omega arith)
+over2 P (x ∷ y ∷ []) f e = f x y
+over2 P (x ∷ y ∷ w ∷ l) f e = let z = eqb-true (suc (suc (suc (length l)))) 2 e in absurd (omega arith)
+
+pub over3 : (P : List (Node ℕ) → Type 0) (cs : List (Node ℕ)) → ((x y w : Node ℕ) → P (x ∷ y ∷ w ∷ [])) → eqb (length cs) 3 ≡ true → P cs
+over3 P [] f e = let z = eqb-true 0 3 e in absurd (omega arith)
+over3 P (x ∷ []) f e = let z = eqb-true 1 3 e in absurd (omega arith)
+over3 P (x ∷ y ∷ []) f e = let z = eqb-true 2 3 e in absurd (omega arith)
+over3 P (x ∷ y ∷ w ∷ []) f e = f x y w
+over3 P (x ∷ y ∷ w ∷ v ∷ l) f e = let z = eqb-true (suc (suc (suc (suc (length l))))) 3 e in absurd (omega arith)
+
 module _ (r : List ℕ) (k : ℕ) (T : Ty) (cs : List (Node ℕ)) where
   abbrev c : ℕ → Node ℕ
   c j = getD cs j (err tbool)
@@ -109,41 +132,6 @@ module _ (r : List ℕ) (k : ℕ) (T : Ty) (cs : List (Node ℕ)) where
       let t : tag r - 21 + 21 ≡ tag r = omega (arith, leb-true firstNode (tag r) (p .0)) in
       let q : Q (tag r - 21 + 21) (getD (leftFor r k T cs c) (tag r - 21) (err tbool)) = each-at (err tbool) e (tag r - 21) (p .1) in
       rw t at q
-
-  -- children by their number
-  with0 : (P : List (Node ℕ) → Type 0) → P [] → eqb (length cs) 0 ≡ true → P cs
-  with0 P f e = go cs (eqb-true (length cs) 0 e)
-    where
-      go : (l : List (Node ℕ)) → length l ≡ 0 → P l
-      go [] z = f
-      go (x ∷ l) z = absurd (omega arith)
-
-  with1 : (P : List (Node ℕ) → Type 0) → ((x : Node ℕ) → P (x ∷ [])) → eqb (length cs) 1 ≡ true → P cs
-  with1 P f e = go cs (eqb-true (length cs) 1 e)
-    where
-      go : (l : List (Node ℕ)) → length l ≡ 1 → P l
-      go [] z = absurd (omega arith)
-      go (x ∷ []) z = f x
-      go (x ∷ y ∷ l) z = absurd (omega arith)
-
-  with2 : (P : List (Node ℕ) → Type 0) → ((x y : Node ℕ) → P (x ∷ y ∷ [])) → eqb (length cs) 2 ≡ true → P cs
-  with2 P f e = go cs (eqb-true (length cs) 2 e)
-    where
-      go : (l : List (Node ℕ)) → length l ≡ 2 → P l
-      go [] z = absurd (omega arith)
-      go (x ∷ []) z = absurd (omega arith)
-      go (x ∷ y ∷ []) z = f x y
-      go (x ∷ y ∷ w ∷ l) z = absurd (omega arith)
-
-  with3 : (P : List (Node ℕ) → Type 0) → ((x y w : Node ℕ) → P (x ∷ y ∷ w ∷ [])) → eqb (length cs) 3 ≡ true → P cs
-  with3 P f e = go cs (eqb-true (length cs) 3 e)
-    where
-      go : (l : List (Node ℕ)) → length l ≡ 3 → P l
-      go [] z = absurd (omega arith)
-      go (x ∷ []) z = absurd (omega arith)
-      go (x ∷ y ∷ []) z = absurd (omega arith)
-      go (x ∷ y ∷ w ∷ []) z = f x y w
-      go (x ∷ y ∷ w ∷ v ∷ l) z = absurd (omega arith)
 
   -- ---- errors
 
@@ -164,11 +152,11 @@ module _ (r : List ℕ) (k : ℕ) (T : Ty) (cs : List (Node ℕ)) where
 
   one-errs : (i : ℕ) (f : Node ℕ → Node ℕ) → ((x : Node ℕ) → canErr (f x) ≡ (opErrs i || (canErr x || false))) → eqb (length cs) 1 ≡ true → Errs i (f (c 0))
   unfolding Errs anyErrs
-  one-errs i f h e = with1 (λ l. canErr (f (getD l 0 (err tbool))) ≡ (opErrs i || anyErrs l)) h e
+  one-errs i f h e = over1 (λ l. canErr (f (getD l 0 (err tbool))) ≡ (opErrs i || anyErrs l)) cs h e
 
   two-errs : (i : ℕ) (f : Node ℕ → Node ℕ → Node ℕ) → ((x y : Node ℕ) → canErr (f x y) ≡ (opErrs i || (canErr x || (canErr y || false)))) → eqb (length cs) 2 ≡ true → Errs i (f (c 0) (c 1))
   unfolding Errs anyErrs
-  two-errs i f h e = with2 (λ l. canErr (f (getD l 0 (err tbool)) (getD l 1 (err tbool))) ≡ (opErrs i || anyErrs l)) h e
+  two-errs i f h e = over2 (λ l. canErr (f (getD l 0 (err tbool)) (getD l 1 (err tbool))) ≡ (opErrs i || anyErrs l)) cs h e
 
   nodes-errs : (l : List (Node ℕ)) → canErrs (nodesOf l) ≡ anyErrs l
   unfolding anyErrs
@@ -186,7 +174,7 @@ module _ (r : List ℕ) (k : ℕ) (T : Ty) (cs : List (Node ℕ)) where
   all-errs : Each Errs 21 (suitsFor r (length cs)) (leftFor r k T cs c)
   unfolding Errs opErrs anyErrs
   all-errs =
-      each1 (λ e. no-true e) (each1 (λ e. no-true e) (each1 (λ e. with0 (λ l. false ≡ anyErrs l) refl e)
+      each1 (λ e. no-true e) (each1 (λ e. no-true e) (each1 (λ e. over0 (λ l. false ≡ anyErrs l) cs refl e)
       (each1 (two-errs 24 (and T) (λ x y. or-two (canErr x) (canErr y)))
       (each1 (two-errs 25 (or T) (λ x y. or-two (canErr x) (canErr y)))
       (each1 (two-errs 26 (bin T beq) (λ x y. or-two (canErr x) (canErr y)))
@@ -201,7 +189,7 @@ module _ (r : List ℕ) (k : ℕ) (T : Ty) (cs : List (Node ℕ)) where
       (each1 (two-errs 35 (bin T bcontains) (λ x y. or-two (canErr x) (canErr y)))
       (each1 (two-errs 36 (bin T ball) (λ x y. or-two (canErr x) (canErr y)))
       (each1 (two-errs 37 (bin T bany) (λ x y. or-two (canErr x) (canErr y)))
-      (each1 (λ e. with3 (λ l. canErr (ite T (getD l 0 (err tbool)) (getD l 1 (err tbool)) (getD l 2 (err tbool))) ≡ anyErrs l) (λ x y w. or-three (canErr x) (canErr y) (canErr w)) e)
+      (each1 (λ e. over3 (λ l. canErr (ite T (getD l 0 (err tbool)) (getD l 1 (err tbool)) (getD l 2 (err tbool))) ≡ anyErrs l) cs (λ x y w. or-three (canErr x) (canErr y) (canErr w)) e)
       (each1 (one-errs 39 (un T (uis (at r 2))) (λ x. or-nil (canErr x)))
       (each1 (one-errs 40 (un T (ulike (patternOf (drop 2 (items r))))) (λ x. or-nil (canErr x)))
       (each1 (one-errs 41 (λ x. get T x (at r 2)) (λ x. refl))
@@ -257,11 +245,11 @@ module _ (r : List ℕ) (k : ℕ) (T : Ty) (cs : List (Node ℕ)) where
 
   one-size : (i : ℕ) (f : Node ℕ → Node ℕ) → ((x : Node ℕ) → size (f x) ≡ suc (size x)) → eqb (length cs) 1 ≡ true → Sizes i (f (c 0))
   unfolding Sizes sizeAll
-  one-size i f h e = with1 (λ l. size (f (getD l 0 (err tbool))) ≡ suc (sizeAll l)) (λ x. h x ∙ sum-one (size x)) e
+  one-size i f h e = over1 (λ l. size (f (getD l 0 (err tbool))) ≡ suc (sizeAll l)) cs (λ x. h x ∙ sum-one (size x)) e
 
   two-size : (i : ℕ) (f : Node ℕ → Node ℕ → Node ℕ) → ((x y : Node ℕ) → size (f x y) ≡ suc (size x + size y)) → eqb (length cs) 2 ≡ true → Sizes i (f (c 0) (c 1))
   unfolding Sizes sizeAll
-  two-size i f h e = with2 (λ l. size (f (getD l 0 (err tbool)) (getD l 1 (err tbool))) ≡ suc (sizeAll l)) (λ x y. h x y ∙ sum-two (size x) (size y)) e
+  two-size i f h e = over2 (λ l. size (f (getD l 0 (err tbool)) (getD l 1 (err tbool))) ≡ suc (sizeAll l)) cs (λ x y. h x y ∙ sum-two (size x) (size y)) e
 
   nodes-size : (l : List (Node ℕ)) → sizes (nodesOf l) ≡ sizeAll l
   unfolding sizeAll
@@ -279,7 +267,7 @@ module _ (r : List ℕ) (k : ℕ) (T : Ty) (cs : List (Node ℕ)) where
   all-sizes : Each Sizes 21 (suitsFor r (length cs)) (leftFor r k T cs c)
   unfolding Sizes sizeAll
   all-sizes =
-      each1 (λ e. no-true e) (each1 (λ e. no-true e) (each1 (λ e. with0 (λ l. 1 ≡ suc (sizeAll l)) refl e)
+      each1 (λ e. no-true e) (each1 (λ e. no-true e) (each1 (λ e. over0 (λ l. 1 ≡ suc (sizeAll l)) cs refl e)
       (each1 (two-size 24 (and T) (λ x y. refl))
       (each1 (two-size 25 (or T) (λ x y. refl))
       (each1 (two-size 26 (bin T beq) (λ x y. refl))
@@ -294,7 +282,7 @@ module _ (r : List ℕ) (k : ℕ) (T : Ty) (cs : List (Node ℕ)) where
       (each1 (two-size 35 (bin T bcontains) (λ x y. refl))
       (each1 (two-size 36 (bin T ball) (λ x y. refl))
       (each1 (two-size 37 (bin T bany) (λ x y. refl))
-      (each1 (λ e. with3 (λ l. size (ite T (getD l 0 (err tbool)) (getD l 1 (err tbool)) (getD l 2 (err tbool))) ≡ suc (sizeAll l)) (λ x y w. sum-three (size x) (size y) (size w)) e)
+      (each1 (λ e. over3 (λ l. size (ite T (getD l 0 (err tbool)) (getD l 1 (err tbool)) (getD l 2 (err tbool))) ≡ suc (sizeAll l)) cs (λ x y w. sum-three (size x) (size y) (size w)) e)
       (each1 (one-size 39 (un T (uis (at r 2))) (λ x. refl))
       (each1 (one-size 40 (un T (ulike (patternOf (drop 2 (items r))))) (λ x. refl))
       (each1 (one-size 41 (λ x. get T x (at r 2)) (λ x. refl))

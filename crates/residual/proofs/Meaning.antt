@@ -18,12 +18,20 @@ use Rattle.residual.specs.declared.Stage.{Stage as Stageʳ}
 use Rattle.residual.proofs.Steps.{blocks-none, blocks-step}
 use Rattle.residual.proofs.Blocks.{rowOf, bodyOf, sizeAll, left-size, flat-length, res-word, res-start, anyErrs, left-errs, left-open, left-typed}
 
-trees-count : (ts : List Ty) (nodes : List (List ℕ)) (rs : Ress) → length (treesOf ts nodes rs) ≡ countRes rs
+pub trees-count : (ts : List Ty) (nodes : List (List ℕ)) (rs : Ress) → length (treesOf ts nodes rs) ≡ countRes rs
 unfolding treesOf
 trees-count ts nodes rnil = refl
 trees-count ts nodes (rcons r rs) = ap suc (trees-count ts nodes rs)
 
-suited : (ts : List Ty) (nodes : List (List ℕ)) (n : ℕ) (rs : Ress) → suits (getD nodes n []) (countRes rs) ≡ true → suits (getD nodes n []) (length (treesOf ts nodes rs)) ≡ true
+pub apart : (pre : List ℕ) (r : Res) (rs : Ress) (post : List ℕ) → pre ++ (flats (rcons r rs) ++ post) ≡ pre ++ (flat r ++ (flats rs ++ post))
+unfolding flats
+apart pre r rs post = ap (λ (m : List ℕ). pre ++ m) (append-assoc (flat r) (flats rs) post)
+
+pub before-row : (n k y : ℕ) (rs : Ress) (pre post : List ℕ) → pre ++ (flat (rleft n k y rs) ++ post) ≡ pre ++ (flats rs ++ (leftRow n k (length (flats rs)) y ++ post))
+unfolding flat
+before-row n k y rs pre post = ap (λ (m : List ℕ). pre ++ m) (append-assoc (flats rs) (leftRow n k (length (flats rs)) y) post)
+
+pub suited : (ts : List Ty) (nodes : List (List ℕ)) (n : ℕ) (rs : Ress) → suits (getD nodes n []) (countRes rs) ≡ true → suits (getD nodes n []) (length (treesOf ts nodes rs)) ≡ true
 suited ts nodes n rs s = ap (suits (getD nodes n [])) (trees-count ts nodes rs) ∙ s
 
 -- ---- stage and type
@@ -118,14 +126,6 @@ module _ (ts : List Ty) (nodes : List (List ℕ)) where
       ap (blocksErr (errsBy nodes l d) l start) a ∙ blocks-step (errsBy nodes l d) l start (length pre + length (flat r)) (omega arith)
       ∙ rw (ex, s) in
       ap (blocksErr (errsBy nodes l d) l start) z ∙ ey ∙ ap (λ (b : Bool). y || b) step ∙ or-move x y (blocksErr (errsBy nodes l d) l start (length pre))
-
-  apart : (pre : List ℕ) (r : Res) (rs : Ress) (post : List ℕ) → pre ++ (flats (rcons r rs) ++ post) ≡ pre ++ (flat r ++ (flats rs ++ post))
-  unfolding flats
-  apart pre r rs post = ap (λ (m : List ℕ). pre ++ m) (append-assoc (flat r) (flats rs) post)
-
-  before-row : (n k y : ℕ) (rs : Ress) (pre post : List ℕ) → pre ++ (flat (rleft n k y rs) ++ post) ≡ pre ++ (flats rs ++ (leftRow n k (length (flats rs)) y ++ post))
-  unfolding flat
-  before-row n k y rs pre post = ap (λ (m : List ℕ). pre ++ m) (append-assoc (flats rs) (leftRow n k (length (flats rs)) y) post)
 
   tree-left : (n k y : ℕ) (rs : Ress) → suits (getD nodes n []) (countRes rs) ≡ true → canErr (treeOf ts nodes (rleft n k y rs)) ≡ (opErrs (tag (getD nodes n [])) || anyErrs (treesOf ts nodes rs))
   unfolding treeOf

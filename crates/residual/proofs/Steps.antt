@@ -36,6 +36,10 @@ module _ (l : List ℕ) (e t x : ℕ) (et : t ≡ wordAt l e 0) (ex : x ≡ word
   unfolding stageAt
   stage-open n m = rw (← et, ne-eqb t 0 n, ne-eqb t 1 m)
 
+pub start-low : (l : List ℕ) (e : ℕ) → startAt l e ≤ e
+unfolding startAt
+start-low l e = omega arith
+
 module _ (l : List ℕ) (e n : ℕ) (en : n ≡ wordAt l e 2) where
   pub start-none : n < 4 → e < 4 → 0 ≡ startAt l e
   unfolding startAt
@@ -71,38 +75,12 @@ look-less l start p q h e = start-less l p q (omega arith) e
 
 -- ---- operations
 
-module _ (t : ℕ) where
-  pub op-err : t ≡ 22 → true ≡ opErrs t
-  unfolding opErrs
-  op-err e = rw e
+pub op-errs : (n : ℕ) → opErrs n ≡ true → (t : ℕ) → t ≡ n → true ≡ opErrs t
+op-errs n p t e = sym (ap opErrs e ∙ p)
 
-  pub op-add : t ≡ 29 → true ≡ opErrs t
-  unfolding opErrs
-  op-add e = rw e
-
-  pub op-sub : t ≡ 30 → true ≡ opErrs t
-  unfolding opErrs
-  op-sub e = rw e
-
-  pub op-mul : t ≡ 31 → true ≡ opErrs t
-  unfolding opErrs
-  op-mul e = rw e
-
-  pub op-gettag : t ≡ 33 → true ≡ opErrs t
-  unfolding opErrs
-  op-gettag e = rw e
-
-  pub op-get : t ≡ 41 → true ≡ opErrs t
-  unfolding opErrs
-  op-get e = rw e
-
-  pub op-neg : t ≡ 45 → true ≡ opErrs t
-  unfolding opErrs
-  op-neg e = rw e
-
-  pub op-no : (t ≡ 22 → ⊥) → (t ≡ 29 → ⊥) → (t ≡ 30 → ⊥) → (t ≡ 31 → ⊥) → (t ≡ 33 → ⊥) → (t ≡ 41 → ⊥) → (t ≡ 45 → ⊥) → false ≡ opErrs t
-  unfolding opErrs
-  op-no a b c d e f g = rw (ne-eqb t 22 a, ne-eqb t 29 b, ne-eqb t 30 c, ne-eqb t 31 d, ne-eqb t 33 e, ne-eqb t 41 f, ne-eqb t 45 g)
+pub op-no : (t : ℕ) → (t ≡ 22 → ⊥) → (t ≡ 29 → ⊥) → (t ≡ 30 → ⊥) → (t ≡ 31 → ⊥) → (t ≡ 33 → ⊥) → (t ≡ 41 → ⊥) → (t ≡ 45 → ⊥) → false ≡ opErrs t
+unfolding opErrs
+op-no t a b c d e f g = rw (ne-eqb t 22 a, ne-eqb t 29 b, ne-eqb t 30 c, ne-eqb t 31 d, ne-eqb t 33 e, ne-eqb t 41 f, ne-eqb t 45 g)
 
 -- ---- blocks
 

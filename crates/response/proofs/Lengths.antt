@@ -21,6 +21,7 @@ use Rattle.sheet.specs.State.{entriesOf, valueRow}
 use Rattle.sheet.specs.Content.{rowsIn}
 use Rattle.sheet.specs.Answer.{printed, concat, numbers, decisionWord, effectWord, classWord, countsOf, headLines, entryItems, valueItems, valueLines, policyItems, completeLines}
 use Rattle.sheet.proofs.Lines.{and-both}
+use Rattle.sheet.proofs.AnswerRead.{firsts-length}
 use Rattle.table.specs.Layout.{part, rowAt, rowsAt, rowsOf, base}
 use Rattle.table.proofs.Rows.{count-rows}
 use Rattle.residual.specs.Rows.{wordAt, stageAt, startAt}
@@ -95,10 +96,6 @@ complete-most (i ∷ is) (l ∷ ls) =
     let a = policy-most i (l .effect) (l .class) [] in
     let h = complete-most is ls in
     omega (arith, a, h, length-append (printed "policy" (policyItems i (l .effect) (l .class) [])) (concat (completeLines is ls)))
-
-firsts-length : (rs : List (List ℕ)) → length (firsts rs) ≡ length rs
-firsts-length [] = refl
-firsts-length (r ∷ rs) = ap suc (firsts-length rs)
 
 -- A COMPLETE ANSWER CAN BE COUNTED: the word that says how many policies there are has 32 bits
 pub complete-counted : (a cs : List ℕ) → getD a 12 0 < 4294967296 → length (completeBytes a cs) ≤ greatest

@@ -20,7 +20,7 @@ use Rattle.residual.specs.Rows.{leftRow, wordAt, stageAt, startAt}
 use Rattle.residual.specs.Trees.{Res, rlit, rerr, rleft, Ress, rnil, rcons, flat, flats, countRes, suits, suitsFor, tyAt, leftTree, treeOf, treesOf, Whole, whole-lit, whole-err, whole-left, Wholes, whole-more}
 use Rattle.residual.specs.declared.Stage.the-variants.{Value, Error, Open}
 use Rattle.residual.proofs.Blocks.{rowOf, bodyOf, sizeAll, left-size, left-open, flat-length, res-word, res-start}
-use Rattle.residual.proofs.Meaning.{stageFor, stage-is, rows-are}
+use Rattle.residual.proofs.Meaning.{stageFor, stage-is, rows-are, suited, apart, before-row}
 use Rattle.value.proofs.Lists.{uncons2}
 use Rattle.response.specs.Nodes.{numberOf, childrenTo, fieldsTo, opName, leftItems, leftSaid, leftAt, saidAt, typeIn, nodeLine, linesBy, logLines}
 use Rattle.response.proofs.NodeLines.{children-end, children-step, fields-end, fields-step}
@@ -80,11 +80,6 @@ module _ (ts : List Ty) (nodes : List (List ℕ)) where
   unfolding treesOf
   trees-more r rs = refl
 
-  trees-count : (rs : Ress) → length (trees rs) ≡ countRes rs
-  unfolding treesOf
-  trees-count rnil = refl
-  trees-count (rcons r rs) = ap suc (trees-count rs)
-
   flats-none : length (flats rnil) ≡ 0
   unfolding flats
   flats-none = refl
@@ -92,10 +87,6 @@ module _ (ts : List Ty) (nodes : List (List ℕ)) where
   flats-more : (r : Res) (rs : Ress) → length (flats (rcons r rs)) ≡ length (flat r) + length (flats rs)
   unfolding flats
   flats-more r rs = length-append (flat r) (flats rs)
-
-  apart : (pre : List ℕ) (r : Res) (rs : Ress) (post : List ℕ) → pre ++ (flats (rcons r rs) ++ post) ≡ pre ++ (flat r ++ (flats rs ++ post))
-  unfolding flats
-  apart pre r rs post = ap (λ (m : List ℕ). pre ++ m) (append-assoc (flat r) (flats rs) post)
 
   -- the block of r, which stands in l after the m rows of pre
   module _ {d : ℕ} (r : Res) (w : Whole ts nodes d r) (l pre post : List ℕ) (m : ℕ) (el : l ≡ pre ++ (flat r ++ post)) (em : length pre ≡ 4 * m) where
@@ -185,10 +176,6 @@ record-texts r n s e =
     let q : getD (suitsFor r n) 27 false ≡ true = ap (λ (t : ℕ). getD (suitsFor r n) (t - firstNode) false) (sym e) ∙ p .1 in
     eqb-true (length (drop 1 (items r))) (n + n) q
 
-before-row : (n k y : ℕ) (rs : Ress) (pre post : List ℕ) → pre ++ (flat (rleft n k y rs) ++ post) ≡ pre ++ (flats rs ++ (leftRow n k (length (flats rs)) y ++ post))
-unfolding flat
-before-row n k y rs pre post = ap (λ (m : List ℕ). pre ++ m) (append-assoc (flats rs) (leftRow n k (length (flats rs)) y) post)
-
 body-length : (n k y : ℕ) (rs : Ress) → length (flat (rleft n k y rs)) ≡ length (flats rs) + 4
 unfolding bodyOf
 body-length n k y rs = flat-length (rleft n k y rs)
@@ -217,15 +204,12 @@ module _ (n k y : ℕ) (rs : Ress) (l pre post : List ℕ) (el : l ≡ pre ++ (f
   left-body = omega (arith, body-length n k y rs)
 
 module _ (ts : List Ty) (types nodes : List (List ℕ)) where
-  suited : (n : ℕ) (rs : Ress) → suits (getD nodes n []) (countRes rs) ≡ true → suits (getD nodes n []) (length (trees ts nodes rs)) ≡ true
-  suited n rs s = ap (suits (getD nodes n [])) (trees-count ts nodes rs) ∙ s
-
   left-stage : {d : ℕ} (n k y : ℕ) (rs : Ress) → suits (getD nodes n []) (countRes rs) ≡ true → Wholes ts nodes d rs → (l pre post : List ℕ) → l ≡ pre ++ (flat (rleft n k y rs) ++ post)
       → stageAt l (length pre + length (flat (rleft n k y rs))) ≡ Open
   unfolding treeOf
   left-stage n k y rs s ws l pre post el =
       ap (λ (x : List ℕ). stageAt x (length pre + length (flat (rleft n k y rs)))) el ∙ stage-is ts nodes (rleft n k y rs) (whole-left s ws) pre post
-      ∙ ap stageFor (left-open (getD nodes n []) k (tyAt ts nodes y) (trees ts nodes rs) (suited n rs s))
+      ∙ ap stageFor (left-open (getD nodes n []) k (tyAt ts nodes y) (trees ts nodes rs) (suited ts nodes n rs s))
 
   -- a record's fields, all of them
   record-fields : {d : ℕ} (rs : Ress) → Wholes ts nodes d rs → (row l pre post : List ℕ) (m : ℕ) → l ≡ pre ++ (flats rs ++ post) → length pre ≡ 4 * m → length (drop 1 (items row)) ≡ countRes rs + countRes rs
@@ -288,14 +272,14 @@ module _ (ts : List Ty) (types nodes : List (List ℕ)) where
     node-lines n k y rs s ws l pre post m el em ih =
         let row : List ℕ = getD nodes n [] in
         let cs : List (Node ℕ) = trees ts nodes rs in
-        let z : size (leftTree row k (tyAt ts nodes y) cs) ≡ suc (sizeAll cs) = left-size row k (tyAt ts nodes y) cs (suited n rs s) in
+        let z : size (leftTree row k (tyAt ts nodes y) cs) ≡ suc (sizeAll cs) = left-size row k (tyAt ts nodes y) cs (suited ts nodes n rs s) in
         let q : length (flat (rleft n k y rs)) ≡ 4 * size (leftTree row k (tyAt ts nodes y) cs) = rows-are ts nodes (rleft n k y rs) (whole-left s ws) in
         let one : size (leftTree row k (tyAt ts nodes y) cs) ≡ sizeAll cs + 1 = omega (arith, z) in
         let e : length pre + 4 * sizeAll cs + 4 ≡ length pre + length (flat (rleft n k y rs)) = omega (arith, z, q) in
         ap (λ (i : ℕ). linesBy types nodes l i (length pre)) one ∙ lines-join types nodes l (sizeAll cs) 1 (length pre)
         ∙ ap₂ (λ (x x′ : List (List ℕ)). x ++ x′) ih
         (line-once types nodes l (length pre + 4 * sizeAll cs) ∙ ap (λ (i : ℕ). nodeLine types nodes l i ∷ []) e ∙ ap (λ (x : List ℕ). x ∷ []) (left-line n k y rs s ws l pre post m el em))
-        ∙ sym (left-lines ts row k m (tyAt ts nodes y) cs (suited n rs s))
+        ∙ sym (left-lines ts row k m (tyAt ts nodes y) cs (suited ts nodes n rs s))
 
     no-lines : (l : List ℕ) (s m : ℕ) → linesBy types nodes l (sizeAll (trees ts nodes rnil)) s ≡ nodeLines (rowsAll ts m (trees ts nodes rnil))
     unfolding treesOf sizeAll linesBy
@@ -324,7 +308,7 @@ module _ (ts : List Ty) (types nodes : List (List ℕ)) where
           → linesBy types nodes l (sizeAll (trees ts nodes rs)) (length pre) ≡ nodeLines (rowsAll ts m (trees ts nodes rs))
       all-lines rnil ws l pre post m el em = no-lines l (length pre) m
       all-lines (rcons r rs) (whole-more w ws) l pre post m el em =
-          let at : l ≡ pre ++ (flat r ++ (flats rs ++ post)) = el ∙ apart ts nodes pre r rs post in
+          let at : l ≡ pre ++ (flat r ++ (flats rs ++ post)) = el ∙ apart pre r rs post in
           more-lines r rs w l pre post m at em (tree-lines r w l pre (flats rs ++ post) m at em)
           (all-lines rs ws l (pre ++ flat r) post (m + size (tree ts nodes r)) (at ∙ sym (append-assoc pre (flat r) (flats rs ++ post))) (next ts nodes r w l pre (flats rs ++ post) m at em))
 

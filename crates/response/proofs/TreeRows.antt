@@ -1,5 +1,5 @@
 -- The line of a node that is left, and those of its children, from its tree. Assumes nothing.
-use mathlib.Core.Path.{_≡_, refl, sym, ap, ap₂, _∙_, subst}
+use mathlib.Core.Path.{_≡_, refl, sym, ap, ap₂, _∙_}
 use mathlib.Core.Bool.{Bool, true, false, cond, and-eq-true-iff}
 use mathlib.Core.List.{List, [], _∷_, _++_, append-nil, append-assoc}
 use Prim.Native.Nat.{ℕ, zero, suc, _+_, _-_}
@@ -18,6 +18,7 @@ use Rattle.sheet.specs.Answer.{printed, numbers, size, root, roots, argRoots, p
 use Rattle.sheet.proofs.Slots.{like-slot, path-slot, set-slot, name-slot, field-slot}
 use Rattle.residual.specs.Trees.{nodesOf, argsOf, leftFor, leftTree, suitsFor, suits}
 use Rattle.response.specs.Nodes.{opName, letter, pieces, restItems, leftItems}
+use Rattle.residual.proofs.Blocks.{Each, each0, each1, each-at, over0, over1, over2, over3}
 
 -- ---- the rows and the roots of trees in a row, numbered from m on
 
@@ -104,43 +105,6 @@ one-line : (R A : List (List ℕ)) (row : List ℕ) (said : List (List ℕ)) →
 one-line R A row said e f = ap nodeLines e ∙ lines-append A (row ∷ []) ∙ ap (λ (x : List (List ℕ)). nodeLines A ++ (printed "node" x ∷ [])) f
 
 -- ---- operation by operation
-
--- Q holds at each place, from place i on, where the test does
-data Each (Q : ℕ → Node ℕ → Type 0) : ℕ → List Bool → List (Node ℕ) → Type 0 where
-  each0 : {i : ℕ} → Each Q i [] []
-  each1 : {i : ℕ} {s : Bool} {ss : List Bool} {n : Node ℕ} {ns : List (Node ℕ)} → (s ≡ true → Q i n) → Each Q (suc i) ss ns → Each Q i (s ∷ ss) (n ∷ ns)
-
-each-at : {Q : ℕ → Node ℕ → Type 0} {i : ℕ} {ss : List Bool} {ns : List (Node ℕ)} (d : Node ℕ) → Each Q i ss ns → (j : ℕ) → getD ss j false ≡ true → Q (j + i) (getD ns j d)
-each-at d each0 j e = no-true e
-each-at {Q} {i} d (each1 {n = n} {ns = ns} f r) zero e =
-    let z : i ≡ 0 + i = omega arith in
-    subst (λ (m : ℕ). Q m n) z (f e)
-each-at {Q} {i} d (each1 {n = n} {ns = ns} f r) (suc j) e =
-    let z : j + suc i ≡ suc j + i = omega arith in
-    subst (λ (m : ℕ). Q m (getD ns j d)) z (each-at d r j e)
-
--- children by their number
-over0 : (P : List (Node ℕ) → Type 0) (cs : List (Node ℕ)) → P [] → eqb (length cs) 0 ≡ true → P cs
-over0 P [] f e = f
-over0 P (x ∷ l) f e = let z = eqb-true (suc (length l)) 0 e in absurd (omega arith)
-
-over1 : (P : List (Node ℕ) → Type 0) (cs : List (Node ℕ)) → ((x : Node ℕ) → P (x ∷ [])) → eqb (length cs) 1 ≡ true → P cs
-over1 P [] f e = let z = eqb-true 0 1 e in absurd (omega arith)
-over1 P (x ∷ []) f e = f x
-over1 P (x ∷ y ∷ l) f e = let z = eqb-true (suc (suc (length l))) 1 e in absurd (omega arith)
-
-over2 : (P : List (Node ℕ) → Type 0) (cs : List (Node ℕ)) → ((x y : Node ℕ) → P (x ∷ y ∷ [])) → eqb (length cs) 2 ≡ true → P cs
-over2 P [] f e = let z = eqb-true 0 2 e in absurd (omega arith)
-over2 P (x ∷ []) f e = let z = eqb-true 1 2 e in absurd (omega arith)
-over2 P (x ∷ y ∷ []) f e = f x y
-over2 P (x ∷ y ∷ w ∷ l) f e = let z = eqb-true (suc (suc (suc (length l)))) 2 e in absurd (omega arith)
-
-over3 : (P : List (Node ℕ) → Type 0) (cs : List (Node ℕ)) → ((x y w : Node ℕ) → P (x ∷ y ∷ w ∷ [])) → eqb (length cs) 3 ≡ true → P cs
-over3 P [] f e = let z = eqb-true 0 3 e in absurd (omega arith)
-over3 P (x ∷ []) f e = let z = eqb-true 1 3 e in absurd (omega arith)
-over3 P (x ∷ y ∷ []) f e = let z = eqb-true 2 3 e in absurd (omega arith)
-over3 P (x ∷ y ∷ w ∷ []) f e = f x y w
-over3 P (x ∷ y ∷ w ∷ v ∷ l) f e = let z = eqb-true (suc (suc (suc (suc (length l))))) 3 e in absurd (omega arith)
 
 module _ (ts : List Ty) (r : List ℕ) (k m : ℕ) (T : Ty) where
   -- what the line of operation i says over the children l

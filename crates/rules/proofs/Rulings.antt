@@ -24,6 +24,7 @@ use Rattle.rules.specs.Rules.{ruleIn, schemaAt, tyAt, targetIn, recordRu
 use Rattle.rules.specs.declared.Rule.{Rule}
 use Rattle.rules.specs.declared.Rule.the-variants.{Says, Silent}
 use Rattle.rules.proofs.Decoded.{earlier, earlier-in, earlier-out, kind-read, target-read, attrs-read, has-read}
+use Rattle.typing.proofs.Joined.{drop-three}
 
 -- ---- what a search found
 
@@ -101,10 +102,6 @@ module _ (a : List ℕ) (y z : ℕ) (f : F.Found) where
     eq-differs l h q = sym (first ∙ kind-some a z g none (λ l. falseIf (not (eqb k l))) l eg h ∙ rw (ne-eqb k l q))
 
 -- ---- `in`, `hastag`
-
-drop-three : (r : List ℕ) → drop 2 (drop 1 r) ≡ drop 3 r
-drop-three [] = refl
-drop-three (x ∷ r) = refl
 
 among-mem : (l : ℕ) (ks : List ℕ) → among l ks ≡ memN l ks
 among-mem l [] = refl

@@ -4,17 +4,16 @@ use mathlib.Core.Path.{_≡_, refl, sym, _∙_, ap, ap₂, subst}
 use mathlib.Core.Bool.{false}
 use mathlib.Core.Option.{some}
 use mathlib.Core.List.{List, [], _∷_, _++_, append-assoc, append-nil}
-use Prim.Native.Nat.{ℕ, suc, _≤_, _<_, _+_}
+use Prim.Native.Nat.{ℕ, suc, _≤_, _+_}
 use native.Mathlib.Omega.{arith}
 use lib.ListN.{length, getD, drop, getElem?, length-append}
 use lib.Seq.{drop-at}
-use Rattle.cedar.specs.Value.{Value, vbool, vset, vrec, Values, Fields, fcons, vcons}
-use Rattle.cedar.specs.Canonical.{ascending, makeSet}
+use Rattle.cedar.specs.Value.{Value, vbool, Values, Fields}
 use Rattle.cedar.specs.Types.{Ty}
 use Rattle.cedar.specs.Residual.{Node, Nodes, NodeArgs, Expr, Exprs, Args, lit, and, or, ite, un, bin, rel, get, has, haspath, set, rec, econs, gcons}
 use Rattle.cedar.specs.Response.{decision}
 use Rattle.cedar.specs.Rows.{Entries, Row}
-use Rattle.cedar.specs.Table.{At, now, later, Elems, elem0, elem1, Named, name0, name1, Denotes, dbool, dlong, dtext, dent, dset, drec, Table, start, grow}
+use Rattle.cedar.specs.Table.{At, Elems, elem0, elem1, Named, name0, name1, Denotes, dbool, dlong, dtext, dent, dset, drec, Table, start, grow}
 use Rattle.cedar.specs.Reads.{Reads, xlit, xerr, xvar, xand, xor, xite, xun, xbin, xrel, xget, xhas, xpath, xset, xrec, ReadsAll, xnil, xcons, ReadsArgs, xstop, xarg}
 use Rattle.cedar.specs.Runs.{Policy, NPolicy, NVerdict, verdicts}
 use Rattle.cedar.proofs.MakingLaws.{content-of}
@@ -23,12 +22,11 @@ use Rattle.cedar.proofs.SettledByNumber.{Residuals, RunReads, run-reads}
 use Rattle.sheet.specs.Forms.{partial, complete, VALUE, POLICY}
 use Rattle.sheet.specs.State.{State, count, linesOf, sum}
 use Rattle.sheet.specs.Sheet.{firsts, read}
-use Rattle.sheet.specs.Content.{types, rowsIn, valueRows, contents, membersOver, fieldsOver, valueOver, valuesFrom, schema, pEnv, nEnv, exprs, nPolicies, policies, treesFrom}
+use Rattle.sheet.specs.Content.{types, rowsIn, valueRows, contents, valueOver, valuesFrom, schema, pEnv, nEnv, exprs, nPolicies, policies, treesFrom}
 use Rattle.sheet.specs.Answer.{size, root, treeRows, residualRows, countsOf, ids, run, results, answer}
 use Rattle.sheet.specs.Call.{Accepted}
 use Rattle.sheet.specs.ReadAnswer.{PolicyLine, Said, readAnswer}
 use Rattle.sheet.proofs.Lines.{History}
-use Rattle.sheet.proofs.Fitting.{at-is}
 use Rattle.sheet.proofs.ValueRows.{rows-length, values-table}
 use Rattle.sheet.proofs.Environment.{Facts, env-read}
 use Rattle.sheet.proofs.TwoSheets.{values-append}
@@ -45,22 +43,20 @@ use Rattle.sheet.proofs.RowsGood.{ResidualsSmall, residuals-good}
 use Rattle.sheet.proofs.LeftOver.{Any, left-small, LeftLines, no-lines, one-line, PoliciesSmall, SmallNames, MadeOk, AllMade, RunLeaves, run-leaves}
 use Rattle.sheet.proofs.SheetSmall.{policies-small, ids-small, asked-made}
 use Rattle.sheet.proofs.AnswerBack.{GoodValues, partialPolicies, completePolicies, partial-reads, complete-reads}
+use Rattle.sheet.proofs.Fitting.{at-less, denotes-over}
 use Rattle.cedar.proofs.SettledByNumber as R
+use Rattle.cedar.proofs.ReadsLaws.{at-is}
 
 -- ---- numbers of values
-
-at-below : {A : Type 0} {l : List A} {n : ℕ} {a : A} → At l n a → n < length l
-at-below now = omega arith
-at-below (later h) = let z = at-below h in omega arith
 
 module _ {C : List Value} (few : length C ≤ 10000) where
   elems-small : {l : List ℕ} {vs : Values} → Elems C l vs → AllSmall l
   elems-small elem0 = tt
-  elems-small (elem1 a e) = let z = at-below a in (omega arith, elems-small e)
+  elems-small (elem1 a e) = let z = at-less a in (omega arith, elems-small e)
 
   named-small : {e : Entries} {fs : Fields} → Named C e fs → SmallNames e → SmallEntries e
   named-small name0 h = tt
-  named-small (name1 a e) h = let z = at-below a in (h .0, omega arith, named-small e (h .1))
+  named-small (name1 a e) h = let z = at-less a in (h .0, omega arith, named-small e (h .1))
 
   -- a made row over a table is one whose line reads back
   made-good : {r : Row} {v : Value} → Denotes C r v → MadeOk r → GoodValue r
@@ -73,7 +69,7 @@ module _ {C : List Value} (few : length C ≤ 10000) where
 
   mutual
     reads-small : {a : Node ℕ} {d : Expr} → Reads C a d → Small Any a → Small (λ v. v ≤ 9999) a
-    reads-small (xlit n) h = let z = at-below n in omega arith
+    reads-small (xlit n) h = let z = at-less n in omega arith
     reads-small xerr h = tt
     reads-small xvar h = tt
     reads-small (xand a b) h = (reads-small a (h .0), reads-small b (h .1))
@@ -105,27 +101,9 @@ module _ {C : List Value} (few : length C ≤ 10000) where
 
 -- ---- the contents of a table are those that its rows say
 
-module _ {C : List Value} where
-  elems-over : {l : List ℕ} {vs : Values} → Elems C l vs → membersOver C l ≡ vs
-  elems-over elem0 = refl
-  elems-over (elem1 a e) = ap₂ vcons (at-is (vbool false) a) (elems-over e)
-
-  named-over : {e : Entries} {fs : Fields} → Named C e fs → fieldsOver C e ≡ fs
-  named-over name0 = refl
-  named-over (name1 {t = t} a e) = ap₂ (fcons t) (at-is (vbool false) a) (named-over e)
-
-  value-over : {r : Row} {v : Value} → Denotes C r v → valueOver C r ≡ v
-  unfolding makeSet
-  value-over dbool = refl
-  value-over dlong = refl
-  value-over dtext = refl
-  value-over dent = refl
-  value-over (dset a e q) = ap (λ z. vset (ascending z)) (elems-over e) ∙ ap vset q
-  value-over (drec e) = ap vrec (named-over e)
-
 table-values : {T : List Row} {C : List Value} → Table T C → valuesFrom [] T ≡ C
 table-values start = refl
-table-values (grow {T = T} {C = C} {r = r} t d h) = values-append [] T (r ∷ []) ∙ ap (λ z. z ++ (valueOver z r ∷ [])) (table-values t) ∙ ap (λ z. C ++ (z ∷ [])) (value-over d)
+table-values (grow {T = T} {C = C} {r = r} t d h) = values-append [] T (r ∷ []) ∙ ap (λ z. z ++ (valueOver z r ∷ [])) (table-values t) ∙ ap (λ z. C ++ (z ∷ [])) (sym (denotes-over d))
 
 -- a tree that is read has its literals' contents
 module _ (C : List Value) where
@@ -210,7 +188,7 @@ partialSaid s = record { decision = decision (verdicts (run partial s .lines)); 
 abbrev pub completeSaid : State → Said
 completeSaid s = record { decision = decision (results s); counts = countsOf (results s); made = []; nodes = []; policies = completePolicies (ids s) (results s) }
 
-firsts-length : (rs : List (List ℕ)) → length (firsts rs) ≡ length rs
+pub firsts-length : (rs : List (List ℕ)) → length (firsts rs) ≡ length rs
 firsts-length [] = refl
 firsts-length (r ∷ rs) = ap suc (firsts-length rs)
 

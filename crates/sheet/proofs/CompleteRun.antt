@@ -26,17 +26,13 @@ use Rattle.sheet.proofs.Lines.{Was}
 use Rattle.sheet.proofs.Parsed.{allBelow, between, tags-between}
 use Rattle.sheet.proofs.ValueRows.{values-table}
 use Rattle.sheet.proofs.NodeRows.{Read, row-read, line-small, known-small}
-use Rattle.sheet.proofs.PoliciesRead.{item-there, policies-typed}
+use Rattle.sheet.proofs.PoliciesRead.{item-there, policies-typed, request-tags}
 use Rattle.sheet.proofs.Environment.{Facts, the-line, there-value, entity-found, entity-read, context-read, parts-read}
 use Rattle.sheet.proofs.EnvFit.{env-fits, known-some}
 use Rattle.sheet.proofs.OwnPolicies.{read-own}
 use Rattle.sheet.proofs.Demand3Bytes.{facts}
 use Rattle.cedar.specs.Runs.{verdicts}
 use Rattle.cedar.specs.Numbered as N
-
-ask-tags : (allBelow (between 7 17 17) 50 ≡ true) × (allBelow (between 8 18 18) 50 ≡ true) × (allBelow (between 9 19 19) 50 ≡ true)
-unfolding formOf forms
-ask-tags = (refl, refl, refl)
 
 module _ (s : State) (f : Facts complete s) where
   row-of-key : (k t : ℕ) → k < 13 → 2 ≤ t → t < 50 → (t ≡ 11 → ⊥) → allBelow (between k t t) 50 ≡ true → Was complete s k [] (lineAt s k 0) → Read complete (lineAt s k 0) t
@@ -47,9 +43,9 @@ module _ (s : State) (f : Facts complete s) where
   asked-small : (at (lineAt s PRINCIPAL 0) 1 ≤ 9999) × (at (lineAt s ACTION 0) 1 ≤ 9999) × (at (lineAt s RESOURCE 0) 1 ≤ 9999) × (at (lineAt s CONTEXT 0) 1 ≤ 9999)
   unfolding slotAt formOf forms
   asked-small =
-      let p = row-of-key 7 17 (omega arith) (omega arith) (omega arith) (λ z. absurd (omega (arith, z))) (ask-tags .0) (the-line complete s f PRINCIPAL (omega arith) (omega arith)) in
-      let a = row-of-key 8 18 (omega arith) (omega arith) (omega arith) (λ z. absurd (omega (arith, z))) (ask-tags .1) (the-line complete s f ACTION (omega arith) (omega arith)) in
-      let r = row-of-key 9 19 (omega arith) (omega arith) (omega arith) (λ z. absurd (omega (arith, z))) (ask-tags .2) (the-line complete s f RESOURCE (omega arith) (omega arith)) in
+      let p = row-of-key 7 17 (omega arith) (omega arith) (omega arith) (λ z. absurd (omega (arith, z))) (request-tags .0) (the-line complete s f PRINCIPAL (omega arith) (omega arith)) in
+      let a = row-of-key 8 18 (omega arith) (omega arith) (omega arith) (λ z. absurd (omega (arith, z))) (request-tags .1) (the-line complete s f ACTION (omega arith) (omega arith)) in
+      let r = row-of-key 9 19 (omega arith) (omega arith) (omega arith) (λ z. absurd (omega (arith, z))) (request-tags .2) (the-line complete s f RESOURCE (omega arith) (omega arith)) in
       let c = context-read complete s [] (lineAt s CONTEXT 0) (the-line complete s f CONTEXT (omega arith) (omega arith)) in (
         known-small (slotAt 17 1) 1 (p .field 1) (at (lineAt s PRINCIPAL 0) 1) refl (p .reads 1 (ltb-true 1 2 refl)),
         line-small complete (slotAt 18 1) 1 (a .field 1) (at (lineAt s ACTION 0) 1) refl (a .reads 1 (ltb-true 1 2 refl)),

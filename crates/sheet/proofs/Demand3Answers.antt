@@ -1,5 +1,5 @@
 -- DEMAND 3 ON THE BYTES OF ANSWERS: for every partial sheet accepted and every two complete sheets accepted that agree with it.
-use mathlib.Core.Path.{_≡_, refl, sym, _∙_, ap, subst}
+use mathlib.Core.Path.{_≡_, refl, _∙_, ap, subst}
 use mathlib.Core.Bool.{true, false}
 use mathlib.Core.List.{List, [], _∷_}
 use Prim.Native.Nat.{ℕ, _+_}
@@ -7,9 +7,9 @@ use native.Mathlib.Omega.{arith}
 use lib.ListN.{length, getD}
 use Rattle.cedar.proofs.Tools.{no-true}
 use Rattle.cedar.specs.Value.{Value, vbool}
-use Rattle.cedar.specs.Residual.{Node, Expr, Class}
+use Rattle.cedar.specs.Residual.{Node, Expr}
 use Rattle.cedar.specs.Evaluate.{eval}
-use Rattle.cedar.specs.Response.{Verdict, Decision, allow, deny, undecided, decision, isOpen, Choice, keep-true, keep-false, keep-error, take-true, take-false, take-error, Choices, also}
+use Rattle.cedar.specs.Response.{Verdict, Decision, allow, deny, undecided, decision, Choice, Choices, also}
 use Rattle.cedar.specs.Reads.{Reads}
 use Rattle.cedar.specs.Runs.{Policy, NVerdict, completeAnswer, verdicts}
 use Rattle.cedar.proofs.SettledByNumber.{Residuals, Yielding}
@@ -29,19 +29,12 @@ use Rattle.sheet.proofs.AnswerBack.{partialPolicies, completePolicies}
 use Rattle.sheet.proofs.AnswerRead.{values-of, reads-valued, Standing, partialSaid, completeSaid, partial-answer-back, as-many, roots-stand, complete-answer-back}
 use Rattle.sheet.proofs.Buffers.{bytes-are}
 use Rattle.cedar.proofs.SettledByNumber as R
+use Rattle.cedar.proofs.Settled.{choice-settled}
 use Rattle.sheet.proofs.AnswerRead as A
 use Rattle.sheet.specs.Demand3 as D
 
 choices-parts : {u w : Verdict} {us ws : List Verdict} → Choices (u ∷ us) (w ∷ ws) → (w .effect ≡ u .effect) × Choice (u .class) (w .class) × Choices us ws
 choices-parts (also h hs) = (refl, h, hs)
-
-choice-settled : {c d : Class} → Choice c d → isOpen c ≡ false → d ≡ c
-choice-settled keep-true e = refl
-choice-settled keep-false e = refl
-choice-settled keep-error e = refl
-choice-settled take-true e = no-true (sym e)
-choice-settled take-false e = no-true (sym e)
-choice-settled take-error e = no-true (sym e)
 
 module _ (p c : List ℕ) (ap′ : Accepted partial p) (ac : Accepted complete c) (ag : agrees (read partial p .state) (read complete c .state) ≡ true) where
   abbrev P : State

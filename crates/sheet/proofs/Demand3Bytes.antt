@@ -8,7 +8,7 @@ use native.Mathlib.Omega.{arith}
 use borrow.Author.Tests.{ltb-true}
 use lib.Dec.{ltb, eqb}
 use lib.ListN.{length, getD, drop, List·getD-append}
-use Rattle.cedar.proofs.Tools.{no-some}
+use Rattle.cedar.proofs.Tools.{no-some, all-snoc}
 use Rattle.cedar.specs.Value.{Value}
 use Rattle.cedar.specs.Types.{Ty, tbool, Var, principal, action, resource, context}
 use Rattle.cedar.specs.Residual.{star, piece, Node, err, Class}
@@ -121,15 +121,9 @@ module _ (m : Mode) (s : State) (h : History m s) where
       tree-texts r f (suc (suc (suc (suc (suc (suc (suc (suc (suc (suc (suc (suc (suc (suc (suc (suc (suc (suc (suc (suc (suc (suc (suc (suc (suc (suc (suc zero))))))))))))))))))))))))))) q = xrec (arg-texts (drop 1 (items r)))
       tree-texts r f (suc (suc (suc (suc (suc (suc (suc (suc (suc (suc (suc (suc (suc (suc (suc (suc (suc (suc (suc (suc (suc (suc (suc (suc (suc (suc (suc (suc d)))))))))))))))))))))))))))) q = xerr
 
-    texts-snoc : (ns : List (Node ℕ)) (a : Node ℕ) → AllOk ns → Texts texts a → AllOk (ns ++ (a ∷ []))
-    texts-snoc [] a k t zero = t
-    texts-snoc [] a k t (suc n) = xerr
-    texts-snoc (x ∷ ns) a k t zero = k 0
-    texts-snoc (x ∷ ns) a k t (suc n) = texts-snoc ns a (λ i. k (suc i)) t n
-
     texts-from : (rows : List (List ℕ)) → ((pre : List (List ℕ)) (r : List ℕ) (rest : List (List ℕ)) → rows ≡ pre ++ (r ∷ rest) → tag r - 21 ≡ 19 → Pieces texts (patternOf (drop 2 (items r)))) → (ns : List (Node ℕ)) → AllOk ns → AllOk (treesFrom ts (λ n. n) ns rows)
     texts-from [] f ns k = k
-    texts-from (r ∷ rows) f ns k = texts-from rows (λ pre x rest e. f (r ∷ pre) x rest (ap (λ z. r ∷ z) e)) (ns ++ (treeOver ts (λ n. n) ns r ∷ [])) (texts-snoc ns (treeOver ts (λ n. n) ns r) k (tree-texts ns k r (f [] r rows refl) (tag r - 21) refl))
+    texts-from (r ∷ rows) f ns k = texts-from rows (λ pre x rest e. f (r ∷ pre) x rest (ap (λ z. r ∷ z) e)) (ns ++ (treeOver ts (λ n. n) ns r ∷ [])) (all-snoc (Texts texts) (err tbool) xerr ns (treeOver ts (λ n. n) ns r) k (tree-texts ns k r (f [] r rows refl) (tag r - 21) refl))
 
   pattern-ok : (pre : List (List ℕ)) (r : List ℕ) (rest : List (List ℕ)) → linesOf s NODE ≡ pre ++ (r ∷ rest) → tag r - 21 ≡ 19 → Pieces texts (patternOf (drop 2 (items r)))
   unfolding texts

@@ -110,7 +110,7 @@ pub record Depths (s : State) : Type 0 where
   pub columns : length (s .depths) ≡ 13
   pub deep : (k : ℕ) → Deep k (linesOf s k) (depthsOf s k)
 
-in-below : (k : ℕ) (l : List ℕ) (y : ℕ) → AllBelow k l → InN y l → y < k
+pub in-below : (k : ℕ) (l : List ℕ) (y : ℕ) → AllBelow k l → InN y l → y < k
 in-below k (n ∷ l) y h now′ = h .0
 in-below k (n ∷ l) y h (later′ i) = in-below k l y (h .1) i
 

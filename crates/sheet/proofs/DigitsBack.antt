@@ -6,10 +6,11 @@ use mathlib.Core.List.{List, [], _∷_, _++_}
 use Prim.Native.Nat.{ℕ, zero, suc, _≤_, _<_, _+_, _-_, _*_, _/_, _%_}
 use native.Mathlib.Omega.{arith}
 use native.Mathlib.Decide.{decLt}
-use borrow.Author.Tests.{le-leb, lt-ltb, le-ltb, ne-eqb}
+use borrow.Author.Tests.{leb-true, le-leb, lt-ltb, le-ltb, ne-eqb}
 use lib.Dec.{leb, eqb}
 use lib.IntN.{ℤ, pos, negsuc}
 use Rattle.cedar.proofs.Tools.{no-some}
+use Rattle.cedar.specs.Evaluate.{inRange}
 use Rattle.sheet.specs.Bytes.{same, isDigit, digitsFrom, decimal, atMost, index, half, upward, downward, long, digitsBy, digits, signed}
 use Rattle.sheet.proofs.Lines.{and-both}
 use Rattle.sheet.proofs.ValueRows.{wordOf, some-is}
@@ -129,6 +130,10 @@ not-mark (suc n) b h lt = digit-first b lt (front-of 19 (suc n) (omega arith) h)
 abbrev pub IsLong : ℤ → Type 0
 IsLong (pos n) = n < half
 IsLong (negsuc n) = n < half
+
+pub in-range : (z : ℤ) → inRange z ≡ true → IsLong z
+in-range (pos n) e = let h = leb-true n 9223372036854775807 e in omega (arith, h)
+in-range (negsuc n) e = and-both (leb n 9223372036854775807) true e (λ p q. let h = leb-true n 9223372036854775807 p in omega (arith, h))
 
 up-back : (l : List ℕ) → Front l → long l ≡ upward (decimal l)
 up-back l (front {x = x} f g) = rw (ne-eqb x 45 (λ z. omega (arith, z)))

@@ -1,11 +1,10 @@
 -- The hypotheses of demand 3 on bytes can be met: document 01's known sheet, and a complete sheet with a text and a value of its own; and a
 -- partial sheet that makes a value and leaves a policy open, which two complete sheets that agree with it settle in different ways.
 use mathlib.Core.Path.{_≡_, refl}
-use mathlib.Core.Bool.{true, cond}
+use mathlib.Core.Bool.{true}
 use mathlib.Core.Option.{some}
 use mathlib.Core.List.{List, [], _∷_}
 use Prim.Native.Nat.{ℕ}
-use lib.Dec.{eqb}
 use lib.IntN.{pos}
 use lib.ListN.{replicate}
 use Rattle.sheet.specs.Ascii.{ascii}
@@ -24,10 +23,7 @@ use Rattle.sheet.specs.ReadAnswer.{PolicyLine, readAnswer}
 use Rattle.sheet.specs.Demand3.{Answered, bytesOf, Demand3}
 use Rattle.sheet.proofs.Demand3Bytes.{demand-3}
 use Rattle.sheet.proofs.Demand3Answers.{demand-3-bytes}
-
-abbrev lineEnds : List ℕ → List ℕ
-lineEnds [] = []
-lineEnds (x ∷ l) = cond (eqb x 47) 10 x ∷ lineEnds l
+use Rattle.sheet.proofs.KnownSheets.{lineEnds}
 
 p : List ℕ
 p = lineEnds (ascii "sheet=partial/text=Broker/text=Action/text=Tariff/text=quote/text=T1/text=low/text=high/text=b7/kind=0,e/kind=1,a/kind=2,e/type=bool/type=record/type=entity,0/shape=1,-/shape=1,-/shape=1,-/value=entity,0,7/value=bool,1/principal=0,?/action=1,3/resource=2,4/context=1,?/node=2,var,p/node=2,lit,0/node=0,eq,0,1/node=0,lit,1/policy=5,permit,2/policy=6,permit,3/")
@@ -55,14 +51,14 @@ final = demand-3 p c p-accepted c-accepted they-agree .allowed refl
 -- ---- three answers: each call with work slices and a buffer of its own
 
 -- context.n < 1 + 2 over an unknown context: the sum is made, value 2, and the policy stays open
-open-sheet : List ℕ
+unfoldable pub open-sheet : List ℕ
 open-sheet = lineEnds (ascii "sheet=partial/text=Broker/text=Action/text=Tariff/text=quote/text=T1/text=p0/text=n/kind=0,e/kind=1,a/kind=2,e/type=bool/type=record/type=long/type=record,6,r,2/shape=1,-/shape=1,-/shape=1,-/value=long,1/value=long,2/principal=0,?/action=1,3/resource=2,4/context=3,?/node=3,var,c/node=2,get,0,6/node=2,lit,0/node=2,lit,1/node=2,add,2,3/node=0,lt,1,4/policy=5,permit,5/")
 
 -- value 2 of the complete sheets is their own: -7 on the one, 9 on the other
-low : List ℕ
+unfoldable pub low : List ℕ
 low = lineEnds (ascii "sheet=complete/text=Broker/text=Action/text=Tariff/text=quote/text=T1/text=p0/text=n/kind=0,e/kind=1,a/kind=2,e/type=bool/type=record/type=long/type=record,6,r,2/shape=1,-/shape=1,-/shape=1,-/value=long,1/value=long,2/value=long,-7/value=record,6,2/principal=0,4/action=1,3/resource=2,4/context=3,3/node=3,var,c/node=2,get,0,6/node=2,lit,0/node=2,lit,1/node=2,add,2,3/node=0,lt,1,4/policy=5,permit,5/")
 
-high : List ℕ
+unfoldable pub high : List ℕ
 high = lineEnds (ascii "sheet=complete/text=Broker/text=Action/text=Tariff/text=quote/text=T1/text=p0/text=n/kind=0,e/kind=1,a/kind=2,e/type=bool/type=record/type=long/type=record,6,r,2/shape=1,-/shape=1,-/shape=1,-/value=long,1/value=long,2/value=long,9/value=record,6,2/principal=0,4/action=1,3/resource=2,4/context=3,3/node=3,var,c/node=2,get,0,6/node=2,lit,0/node=2,lit,1/node=2,add,2,3/node=0,lt,1,4/policy=5,permit,5/")
 
 open-call : Answered partial open-sheet
@@ -77,11 +73,11 @@ high-call : Answered complete high
 unfolding high keys forms formOf slotAt counted tagOf rowOf keyOf refs ascendings fitsIn typed found depth fault more read types valueRows contents schema trees exprs nPolicies policies nEnv env run results answer returned order same place insert ascending makeSet
 high-call = record { work₁ = 16384; work₂ = 16384; buffer = replicate 300 0; zero-number = refl }
 
-low-agrees : agrees (read partial open-sheet .state) (read complete low .state) ≡ true
+pub low-agrees : agrees (read partial open-sheet .state) (read complete low .state) ≡ true
 unfolding open-sheet low agrees keys forms formOf slotAt counted tagOf rowOf keyOf refs ascendings fitsIn typed found depth fault more read types valueRows contents schema trees exprs nPolicies policies nEnv env run results answer returned order same place insert ascending makeSet
 low-agrees = refl
 
-high-agrees : agrees (read partial open-sheet .state) (read complete high .state) ≡ true
+pub high-agrees : agrees (read partial open-sheet .state) (read complete high .state) ≡ true
 unfolding open-sheet high agrees keys forms formOf slotAt counted tagOf rowOf keyOf refs ascendings fitsIn typed found depth fault more read types valueRows contents schema trees exprs nPolicies policies nEnv env run results answer returned order same place insert ascending makeSet
 high-agrees = refl
 

@@ -11,6 +11,7 @@ use Rattle.cedar.specs.Value.{Value, vbool, find, found, pick, onSome}
 use Rattle.cedar.specs.Canonical.{makeSet}
 use Rattle.cedar.specs.Types.{Ty, tbool, declared, pickTy, Needed, Complete, Fits, fbool, flong, ftext, fent, fset, frec, AllFit, nilFit, consFit, FieldsFit, noField, oneField}
 use Rattle.cedar.proofs.TypeSound.{fit-ascending}
+use Rattle.cedar.proofs.TypingTest.{some-test}
 use Rattle.cedar.specs.Rows.{Entries, stop, entry, Row}
 use Rattle.cedar.specs.Numbered.{pickN, entryOf, isSome}
 use Rattle.sheet.specs.Forms.{Mode}
@@ -18,7 +19,7 @@ use Rattle.sheet.specs.State.{linesOf, State, Declared, TypeRow, bool, l
 use Rattle.sheet.specs.Typing.{declaredIn, requiredThere, allIn, allEntries, entriesFit, rowFits, fitsBy, fits, fitsIn}
 use Rattle.sheet.specs.Content.{attrsOver, tyOver, types, membersOver, fieldsOver, valueOver, contents}
 use Rattle.sheet.proofs.Lines.{and-both, History}
-use Rattle.sheet.proofs.RowTests.{on-some, on-bool, on-long, on-text, on-ent, on-set, on-rec}
+use Rattle.sheet.proofs.RowTests.{on-bool, on-long, on-text, on-ent, on-set, on-rec}
 use Rattle.sheet.proofs.Fitting.{val, val-eq, ty, ty-eq}
 
 abbrev pub mapTy : (ℕ → Ty) → Option ℕ → Option Ty
@@ -62,7 +63,7 @@ module _ (m : Mode) (s : State) (h : History m s) (f : ℕ → ℕ → Bool) (ih
   fields-fit : (ds : List Declared) (e : Entries) → allEntries (λ t x. onSome false (declaredIn t ds) (f x)) e ≡ true → FieldsFit (fieldsOver (contents s) e) (attrsOver (types s) ds)
   fields-fit ds stop e = noField
   fields-fit ds (entry t x es) e = and-both (onSome false (declaredIn t ds) (f x)) (allEntries (λ t x. onSome false (declaredIn t ds) (f x)) es) e (λ p q.
-      on-some (declaredIn t ds) (f x) p (λ y d g. oneField (declared-over (types s) t ds ∙ ap (mapTy (λ y. getD (types s) y tbool)) d) (ih x y g) (fields-fit ds es q)))
+      some-test (declaredIn t ds) (f x) p (λ y d g. oneField (declared-over (types s) t ds ∙ ap (mapTy (λ y. getD (types s) y tbool)) d) (ih x y g) (fields-fit ds es q)))
 
   at-row : (r : Row) (y : TypeRow) → rowFits f r y ≡ true → Fits (valueOver (contents s) r) (tyOver (types s) y)
   unfolding makeSet

@@ -15,19 +15,16 @@ use Rattle.cedar.specs.Types.{Ty, tbool, tlong, tstr, tent, tset, trec, Attrs, 
 use Rattle.cedar.specs.Rows.{Entries, Row}
 use Rattle.cedar.specs.Table.{At, now, later, Elems, elem0, elem1, Named, name0, name1, Denotes, dbool, dlong, dtext, dent, dset, drec}
 use Rattle.cedar.proofs.TableLaws.{row-of, same-length, at-append, at-snoc}
+use Rattle.cedar.proofs.ReadsLaws.{at-is}
 use Rattle.sheet.specs.Forms.{Mode, Slot, line, word, nothing, forms, formOf, slotAt, counted, itemsFrom, tag, items, rowOf, ascendings, TYPE, VALUE}
 use Rattle.sheet.specs.State.{State, linesOf, count, Declared, TypeRow, bool, long, string, entity, set′, record′, declareds, typeRow, typeAt, valueRow, valueAt}
 use Rattle.sheet.specs.Sheet.{found as foundLine, allThere, thereIs, ascend, fresh}
 use Rattle.sheet.specs.Content.{attrsOver, tyOver, tysFrom, types, membersOver, fieldsOver, valueOver, rowsIn, valueRows, contents}
 use Rattle.sheet.proofs.Lines.{and-both, Was, History}
 use Rattle.sheet.proofs.Parsed.{parsed, counted-plain}
-use Rattle.sheet.proofs.ValueRows.{at-getD, values-table, items-length, isNumber}
+use Rattle.sheet.proofs.ValueRows.{at-getD, values-table, items-length, isNumber, rows-length}
 
 -- ---- a value's content is that of its row, over all contents
-
-pub at-is : {A : Type 0} {l : List A} {n : ℕ} {a : A} (d : A) → At l n a → getD l n d ≡ a
-at-is d now = refl
-at-is d (later h) = at-is d h
 
 pub at-less : {A : Type 0} {l : List A} {n : ℕ} {a : A} → At l n a → n < length l
 at-less now = omega arith
@@ -42,7 +39,7 @@ module _ {C : List Value} where
   named-over name0 = refl
   named-over (name1 {t = t} a e) = ap₂ (fcons t) (at-is (vbool false) a) (named-over e)
 
-  denotes-over : {r : Row} {v : Value} → Denotes C r v → v ≡ valueOver C r
+  pub denotes-over : {r : Row} {v : Value} → Denotes C r v → v ≡ valueOver C r
   unfolding makeSet
   denotes-over dbool = refl
   denotes-over dlong = refl
@@ -56,17 +53,13 @@ rows-at [] a = elim a [ ]
 rows-at (x ∷ l) now = refl
 rows-at (x ∷ l) (later a) = rows-at l a
 
-rows-size : (l : List (List ℕ)) → length (rowsIn l) ≡ length l
-rows-size [] = refl
-rows-size (x ∷ l) = ap suc (rows-size l)
-
 module _ (m : Mode) (s : State) (h : History m s) where
   abbrev pub val : ℕ → Value
   val n = getD (contents s) n (vbool false)
 
   pub contents-length : length (contents s) ≡ count s VALUE
   unfolding valueRows
-  contents-length = sym (same-length (values-table m s h)) ∙ rows-size (linesOf s VALUE)
+  contents-length = sym (same-length (values-table m s h)) ∙ rows-length (linesOf s VALUE)
 
   pub val-eq : (n : ℕ) → val n ≡ valueOver (contents s) (valueAt s n)
   unfolding valueRows

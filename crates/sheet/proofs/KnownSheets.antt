@@ -14,7 +14,7 @@ use Rattle.sheet.specs.Answer.{run, results, answer, printed, numbers}
 use Rattle.sheet.specs.Call.{Returned, returned}
 use Rattle.cedar.specs.Canonical.{order, same, place, insert, ascending, makeSet}
 
-abbrev lineEnds : List ℕ → List ℕ
+abbrev pub lineEnds : List ℕ → List ℕ
 lineEnds [] = []
 lineEnds (x ∷ l) = cond (eqb x 47) 10 x ∷ lineEnds l
 

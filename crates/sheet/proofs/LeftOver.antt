@@ -1,27 +1,21 @@
 -- What interpretation leaves of a tree, and what it makes: a residual has no texts of its own, and the rows only grow, by bools, longs of 64 bits, the entities asked for, sets, and records with the tree's texts.
 use mathlib.Core.Path.{_≡_, refl, sym, _∙_, ap, subst}
-use mathlib.Core.Bool.{Bool, true, false, cond, not, _||_}
+use mathlib.Core.Bool.{Bool, true, false, cond, _||_}
 use mathlib.Core.Option.{Option, none, some, Option·some-injective}
 use mathlib.Core.List.{List, [], _∷_, _++_, append-assoc, append-nil}
 use Prim.Native.Nat.{ℕ, _≤_}
-use native.Mathlib.Omega.{arith}
-use borrow.Author.Tests.{leb-true}
-use lib.Dec.{leb, eqb}
-use lib.IntN.{ℤ, pos, negsuc, negℤ, _+ℤ_, _-ℤ_, _*ℤ_}
-use lib.Signed.{ltZ, leZ}
 use Rattle.cedar.proofs.Tools.{no-some}
 use Rattle.cedar.specs.Value.{onSome}
 use Rattle.cedar.specs.Types.{Ty, tent, Schema, Var}
-use Rattle.cedar.specs.Residual.{Node, Nodes, NodeArgs, lit, err, var, and, or, ite, un, bin, rel, get, has, haspath, set, rec, enil, econs, gnil, gcons, Un, unot, uneg, uempty, uis, ulike, Bin, beq, blt, ble, badd, bsub, bmul, bcontains, ball, bany, Rel, rin, rgettag, rhastag, tyOf, canErr, Stage, value, error, open′, view, Class, ctrue, cfalse, cerror, copen, anyError, anyErrorArg}
-use Rattle.cedar.specs.Evaluate.{matches, isNil, inRange}
+use Rattle.cedar.specs.Residual.{Node, Nodes, NodeArgs, lit, err, var, and, or, ite, un, bin, rel, get, has, haspath, set, rec, enil, econs, gnil, gcons, Un, Bin, Rel, tyOf, canErr, Stage, value, error, open′, view, Class, ctrue, cfalse, cerror, copen, anyError, anyErrorArg}
 use Rattle.cedar.specs.TypeRules.{unRule, binRule, relRule, hasRule}
 use Rattle.cedar.specs.Rows.{Entries, stop, entry, Row, rbool, rlong, rtext, rent, rset, rrec}
 use Rattle.cedar.specs.Making.{intern, orAdd, findRow, sortN}
-use Rattle.cedar.specs.Numbered.{Give, made, old, NEnv, nentity, rowAt, giveRow, rBool, rLong, rText, rEnt, rSet, rRec, NOut, give, fails, stays, truly, nlong, memN, allN, anyN, entryOf, isSome, orFail, nUn, nBin, nTargets, nIn, nRel, onEntries, nGet, nHas, Out, out, make, giveLit, nSettle, nStrict1, nStrict2, nByRule, nClass, nAndOpen, nAnd, nOrOpen, nOr, nIf, entryN, numbers, entries, Outs, OutArgs, nLeft, nWalk, nPath, nVar, nStepUn, nStepBin, nStepRel, nStepGet, nStepHas, nStepSet, nStepRec, nInterpret, nInterprets, nInterpretArgs}
+use Rattle.cedar.specs.Numbered.{Give, made, old, NEnv, rowAt, NOut, give, fails, stays, entryOf, isSome, nUn, nBin, nRel, nGet, nHas, Out, out, make, giveLit, nSettle, nStrict1, nStrict2, nByRule, nClass, nAndOpen, nAnd, nOrOpen, nOr, nIf, entryN, numbers, entries, Outs, OutArgs, nLeft, nWalk, nPath, nVar, nStepUn, nStepBin, nStepRel, nStepGet, nStepHas, nStepSet, nStepRec, nInterpret, nInterprets, nInterpretArgs}
 use Rattle.cedar.specs.Runs.{NPolicy, NVerdict, Run, nRun}
-use Rattle.sheet.proofs.Lines.{and-both}
-use Rattle.sheet.proofs.DigitsBack.{IsLong}
+use Rattle.sheet.proofs.DigitsBack.{IsLong, in-range}
 use Rattle.sheet.proofs.TreesBack.{SmallTexts, Small, SmallAll, SmallArgs}
+use Rattle.cedar.proofs.Outcomes.{Basic, GiveIs, OutIs, e-some, e-entries, made-un, made-bin, made-rel, made-get, made-has}
 
 -- ---- what may be left of a tree
 
@@ -145,129 +139,13 @@ intern-grows R r k = go (findRow r R)
     go (some n) = same-rows R
 
 abbrev pub GiveMade : Give → Type 0
-GiveMade (made r) = MadeOk r
-GiveMade (old n) = Unit {0}
+GiveMade g = GiveIs MadeOk g
 
 abbrev OutMade : NOut → Type 0
-OutMade (give g) = GiveMade g
-OutMade fails = Unit {0}
-OutMade stays = Unit {0}
+OutMade o = OutIs MadeOk o
 
--- a row taken apart
-module _ {A : Type 0} (X : A → Type 0) (d : A) (x : X d) where
-  e-bool : (r : Row) (f : Bool → A) → ((b : Bool) → X (f b)) → X (rBool d r f)
-  e-bool (rbool b) f h = h b
-  e-bool (rlong n) f h = x
-  e-bool (rtext t) f h = x
-  e-bool (rent k t) f h = x
-  e-bool (rset l) f h = x
-  e-bool (rrec e) f h = x
-
-  e-long : (r : Row) (f : ℤ → A) → ((n : ℤ) → X (f n)) → X (rLong d r f)
-  e-long (rbool b) f h = x
-  e-long (rlong n) f h = h n
-  e-long (rtext t) f h = x
-  e-long (rent k t) f h = x
-  e-long (rset l) f h = x
-  e-long (rrec e) f h = x
-
-  e-text : (r : Row) (f : ℕ → A) → ((t : ℕ) → X (f t)) → X (rText d r f)
-  e-text (rbool b) f h = x
-  e-text (rlong n) f h = x
-  e-text (rtext t) f h = h t
-  e-text (rent k t) f h = x
-  e-text (rset l) f h = x
-  e-text (rrec e) f h = x
-
-  e-ent : (r : Row) (f : ℕ → ℕ → A) → ((k t : ℕ) → X (f k t)) → X (rEnt d r f)
-  e-ent (rbool b) f h = x
-  e-ent (rlong n) f h = x
-  e-ent (rtext t) f h = x
-  e-ent (rent k t) f h = h k t
-  e-ent (rset l) f h = x
-  e-ent (rrec e) f h = x
-
-  e-set : (r : Row) (f : List ℕ → A) → ((l : List ℕ) → X (f l)) → X (rSet d r f)
-  e-set (rbool b) f h = x
-  e-set (rlong n) f h = x
-  e-set (rtext t) f h = x
-  e-set (rent k t) f h = x
-  e-set (rset l) f h = h l
-  e-set (rrec e) f h = x
-
-  e-rec : (r : Row) (f : Entries → A) → ((e : Entries) → X (f e)) → X (rRec d r f)
-  e-rec (rbool b) f h = x
-  e-rec (rlong n) f h = x
-  e-rec (rtext t) f h = x
-  e-rec (rent k t) f h = x
-  e-rec (rset l) f h = x
-  e-rec (rrec e) f h = h e
-
-  e-some : {B : Type 0} (o : Option B) (f : B → A) → ((b : B) → X (f b)) → X (onSome d o f)
-  e-some none f h = x
-  e-some (some b) f h = h b
-
-  e-entries : (M : NEnv) (R : List Row) (u : ℕ → ℕ → A) → ((k i : ℕ) → X (u k i)) → (f : Entries → A) → ((e : Entries) → X (f e)) → (r : Row) → X (onEntries M R d u r f)
-  e-entries M R u g f h (rbool b) = x
-  e-entries M R u g f h (rlong n) = x
-  e-entries M R u g f h (rtext t) = x
-  e-entries M R u g f h (rent k t) = go (nentity M k t .attrs)
-    where
-      go : (o : Option Give) → X (onSome (u k t) o (λ a. rRec d (giveRow R a) f))
-      go none = g k t
-      go (some a) = e-rec (giveRow R a) f h
-  e-entries M R u g f h (rset l) = x
-  e-entries M R u g f h (rrec e) = h e
-
-in-range : (z : ℤ) → inRange z ≡ true → IsLong z
-in-range (pos n) e = let h = leb-true n 9223372036854775807 e in omega (arith, h)
-in-range (negsuc n) e = and-both (leb n 9223372036854775807) true e (λ p q. let h = leb-true n 9223372036854775807 p in omega (arith, h))
-
-made-long : (z : ℤ) → OutMade (nlong z)
-made-long z = go (inRange z) refl
-  where
-    go : (b : Bool) → inRange z ≡ b → OutMade (cond b (give (made (rlong z))) fails)
-    go true e = in-range z e
-    go false e = tt
-
-made-old : (o : Option ℕ) → OutMade (orFail o)
-made-old none = tt
-made-old (some n) = tt
-
-made-un : (S : Schema) (u : Un) (r : Row) → OutMade (nUn S u r)
-made-un S unot r = e-bool OutMade fails tt r (λ b. truly (not b)) (λ b. tt)
-made-un S uneg r = e-long OutMade fails tt r (λ n. nlong (negℤ n)) (λ n. made-long (negℤ n))
-made-un S uempty r = e-set OutMade fails tt r (λ l. truly (isNil l)) (λ l. tt)
-made-un S (uis k) r = e-ent OutMade fails tt r (λ l t. truly (eqb k l)) (λ l t. tt)
-made-un S (ulike p) r = e-text OutMade fails tt r (λ t. truly (matches (S .bytes) p (S .bytes t))) (λ t. tt)
-
-made-bin : (o : Bin) (m n : ℕ) (r s : Row) → OutMade (nBin o m n r s)
-made-bin beq m n r s = tt
-made-bin blt m n r s = e-long OutMade fails tt r (λ x. rLong fails s (λ y. truly (ltZ x y))) (λ x. e-long OutMade fails tt s (λ y. truly (ltZ x y)) (λ y. tt))
-made-bin ble m n r s = e-long OutMade fails tt r (λ x. rLong fails s (λ y. truly (leZ x y))) (λ x. e-long OutMade fails tt s (λ y. truly (leZ x y)) (λ y. tt))
-made-bin badd m n r s = e-long OutMade fails tt r (λ x. rLong fails s (λ y. nlong (x +ℤ y))) (λ x. e-long OutMade fails tt s (λ y. nlong (x +ℤ y)) (λ y. made-long (x +ℤ y)))
-made-bin bsub m n r s = e-long OutMade fails tt r (λ x. rLong fails s (λ y. nlong (x -ℤ y))) (λ x. e-long OutMade fails tt s (λ y. nlong (x -ℤ y)) (λ y. made-long (x -ℤ y)))
-made-bin bmul m n r s = e-long OutMade fails tt r (λ x. rLong fails s (λ y. nlong (x *ℤ y))) (λ x. e-long OutMade fails tt s (λ y. nlong (x *ℤ y)) (λ y. made-long (x *ℤ y)))
-made-bin bcontains m n r s = e-set OutMade fails tt r (λ l. truly (memN n l)) (λ l. tt)
-made-bin ball m n r s = e-set OutMade fails tt r (λ l. rSet fails s (λ k. truly (allN k l))) (λ l. e-set OutMade fails tt s (λ k. truly (allN k l)) (λ k. tt))
-made-bin bany m n r s = e-set OutMade fails tt r (λ l. rSet fails s (λ k. truly (anyN k l))) (λ l. e-set OutMade fails tt s (λ k. truly (anyN k l)) (λ k. tt))
-
-made-in : (R : List Row) (m : ℕ) (o : Option Give) (l : List ℕ) → OutMade (nIn R m o l)
-made-in R m none l = go (memN m l) (isNil l)
-  where
-    go : (x y : Bool) → OutMade (cond x (truly true) (cond y (truly false) stays))
-    go true y = tt
-    go false true = tt
-    go false false = tt
-made-in R m (some a) l = e-set OutMade fails tt (giveRow R a) (λ k. truly (memN m l || anyN l k)) (λ k. tt)
-
-module _ (M : NEnv) (R : List Row) where
-  made-rel : (o : Rel) (m n : ℕ) (r s : Row) → OutMade (nRel M R o m n r s)
-  made-rel rin m n r s = e-ent OutMade fails tt r (λ k t. onSome fails (nTargets R n s) (nIn R m (nentity M k t .ancestors))) (λ k t. e-some OutMade fails tt (nTargets R n s) (nIn R m (nentity M k t .ancestors)) (λ l. made-in R m (nentity M k t .ancestors) l))
-  made-rel rgettag m n r s = e-ent OutMade fails tt r (λ k t. rText fails s (λ u. onSome stays (nentity M k t .tags) (λ a. rRec fails (giveRow R a) (λ e. orFail (entryOf u e))))) (λ k t. e-text OutMade fails tt s (λ u. onSome stays (nentity M k t .tags) (λ a. rRec fails (giveRow R a) (λ e. orFail (entryOf u e))))
-      (λ u. e-some OutMade stays tt (nentity M k t .tags) (λ a. rRec fails (giveRow R a) (λ e. orFail (entryOf u e))) (λ a. e-rec OutMade fails tt (giveRow R a) (λ e. orFail (entryOf u e)) (λ e. made-old (entryOf u e)))))
-  made-rel rhastag m n r s = e-ent OutMade fails tt r (λ k t. rText fails s (λ u. onSome stays (nentity M k t .tags) (λ a. rRec fails (giveRow R a) (λ e. truly (isSome (entryOf u e)))))) (λ k t. e-text OutMade fails tt s (λ u. onSome stays (nentity M k t .tags) (λ a. rRec fails (giveRow R a) (λ e. truly (isSome (entryOf u e)))))
-      (λ u. e-some OutMade stays tt (nentity M k t .tags) (λ a. rRec fails (giveRow R a) (λ e. truly (isSome (entryOf u e)))) (λ a. e-rec OutMade fails tt (giveRow R a) (λ e. truly (isSome (entryOf u e))) (λ e. tt))))
+made-ok : Basic MadeOk
+made-ok = record { bools = λ b. tt; longs = in-range }
 
 -- ---- a step: what it leaves of e, and the rows grown from R
 
@@ -411,24 +289,24 @@ module _ (S : Schema) (M : NEnv) (asked : (x : Var) (g : Give) → M .request x 
 
   leaves-un : (T : Ty) (u : Un) (a : Node ℕ) {R : List Row} (o : Out) → Leaves a R o → Leaves (un T u a) R (nStepUn S M T u o)
   leaves-un T u a o h = after (nStepUn S M T u o) (h .grown) (decides (o .rows) T (canErr (o .tree)) (unRule S u (tyOf (o .tree))) _
-      (strict1 (o .rows) T (un T u (o .tree)) (in-un (h .left)) (λ n. nUn S u (rowAt (o .rows) n)) (λ n. made-un S u (rowAt (o .rows) n)) (view (o .tree))))
+      (strict1 (o .rows) T (un T u (o .tree)) (in-un (h .left)) (λ n. nUn S u (rowAt (o .rows) n)) (λ n. made-un made-ok S u (rowAt (o .rows) n)) (view (o .tree))))
 
   leaves-bin : (T : Ty) (p : Bin) (a b : Node ℕ) {R : List Row} (q o : Out) → Leaves a R q → Leaves b (q .rows) o → Leaves (bin T p a b) R (nStepBin S M T p (q .tree) o)
   leaves-bin T p a b q o g h = after (nStepBin S M T p (q .tree) o) (grow-on (g .grown) (h .grown)) (decides (o .rows) T (canErr (q .tree) || canErr (o .tree)) (binRule S p (tyOf (q .tree)) (tyOf (o .tree))) _
-      (strict2 (o .rows) T (bin T p (q .tree) (o .tree)) (in-bin (g .left) (h .left)) (λ m n. nBin p m n (rowAt (o .rows) m) (rowAt (o .rows) n)) (λ m n. made-bin p m n (rowAt (o .rows) m) (rowAt (o .rows) n)) (view (q .tree)) (view (o .tree))))
+      (strict2 (o .rows) T (bin T p (q .tree) (o .tree)) (in-bin (g .left) (h .left)) (λ m n. nBin p m n (rowAt (o .rows) m) (rowAt (o .rows) n)) (λ m n. made-bin made-ok p m n (rowAt (o .rows) m) (rowAt (o .rows) n)) (view (q .tree)) (view (o .tree))))
 
   leaves-rel : (T : Ty) (p : Rel) (a b : Node ℕ) {R : List Row} (q o : Out) → Leaves a R q → Leaves b (q .rows) o → Leaves (rel T p a b) R (nStepRel S M T p (q .tree) o)
   leaves-rel T p a b q o g h = after (nStepRel S M T p (q .tree) o) (grow-on (g .grown) (h .grown)) (decides (o .rows) T (canErr (q .tree) || canErr (o .tree)) (relRule S p (tyOf (q .tree)) (tyOf (o .tree))) _
-      (strict2 (o .rows) T (rel T p (q .tree) (o .tree)) (in-rel (g .left) (h .left)) (λ m n. nRel M (o .rows) p m n (rowAt (o .rows) m) (rowAt (o .rows) n)) (λ m n. made-rel M (o .rows) p m n (rowAt (o .rows) m) (rowAt (o .rows) n)) (view (q .tree)) (view (o .tree))))
+      (strict2 (o .rows) T (rel T p (q .tree) (o .tree)) (in-rel (g .left) (h .left)) (λ m n. nRel M (o .rows) p m n (rowAt (o .rows) m) (rowAt (o .rows) n)) (λ m n. made-rel made-ok M (o .rows) p m n (rowAt (o .rows) m) (rowAt (o .rows) n)) (view (q .tree)) (view (o .tree))))
 
   leaves-get : (T : Ty) (a : Node ℕ) (t : ℕ) {R : List Row} (o : Out) → Leaves a R o → Leaves (get T a t) R (nStepGet S M T o t)
   leaves-get T a t o h = after (nStepGet S M T o t) (h .grown) (strict1 (o .rows) T (get T (o .tree) t) (in-get (h .left)) (λ n. nGet M (o .rows) t (rowAt (o .rows) n))
-      (λ n. e-entries OutMade fails tt M (o .rows) (λ k i. stays) (λ k i. tt) (λ e. orFail (entryOf t e)) (λ e. made-old (entryOf t e)) (rowAt (o .rows) n)) (view (o .tree)))
+      (λ n. made-get made-ok M (o .rows) t (rowAt (o .rows) n)) (view (o .tree)))
 
   leaves-has : (T : Ty) (a : Node ℕ) (t : ℕ) {R : List Row} (o : Out) → Leaves a R o → Leaves (has T a t) R (nStepHas S M T o t)
   leaves-has T a t o h = after (nStepHas S M T o t) (h .grown) (decides (o .rows) T (canErr (o .tree)) (hasRule S t (tyOf (o .tree))) _
       (strict1 (o .rows) T (has T (o .tree) t) (in-has (h .left)) (λ n. nHas M (o .rows) t (rowAt (o .rows) n))
-      (λ n. e-entries OutMade fails tt M (o .rows) (λ k i. stays) (λ k i. tt) (λ e. truly (isSome (entryOf t e))) (λ e. tt) (rowAt (o .rows) n)) (view (o .tree))))
+      (λ n. made-has made-ok M (o .rows) t (rowAt (o .rows) n)) (view (o .tree))))
 
   leaves-set : (T : Ty) (es : Nodes ℕ) {R : List Row} (o : Outs) → LeavesAll es R o → Leaves (set T es) R (nStepSet S M T o)
   leaves-set T es {R} o h = go (numbers (o .trees)) (anyError (o .trees))

@@ -1,13 +1,14 @@
 -- What an accepted reading says of each line: the state it was read in, and that it had no fault there.
 use mathlib.Core.Path.{_≡_, refl, sym, _∙_, ap, ap₂, subst}
-use mathlib.Core.Bool.{Bool, true, false, cond, _&&_}
+use mathlib.Core.Bool.{Bool, true, false, cond}
 use mathlib.Core.List.{List, [], _∷_, _++_}
 use Prim.Native.Nat.{ℕ, zero, suc, _<_}
 use native.Mathlib.Nat.{le-of-suc-le-suc}
 use native.Mathlib.Omega.{arith}
 use lib.Dec.{leb, ltb, eqb}
 use lib.ListN.{length, getD, drop, set, replicate}
-use Rattle.cedar.proofs.Tools.{no-true, eqb-true}
+use Rattle.cedar.proofs.Tools.{eqb-true}
+pub use Rattle.cedar.proofs.Tools.{and-both}
 use Rattle.sheet.specs.Bytes.{same, split}
 use Rattle.sheet.specs.Forms.{Mode, rowOf, keyOf, refs, NODE}
 use Rattle.sheet.specs.State.{State, empty, linesOf, count, counts, lengths}
@@ -19,10 +20,6 @@ use Rattle.sheet.specs.Sheet.{fault, faultOf, found, inOrder, allZero, e
 
 pub zero-not-suc : {X : Type 0} {n : ℕ} → suc n ≡ 0 → X
 zero-not-suc {n = n} e = absurd (omega (arith, e))
-
-pub and-both : {X : Type 0} (p q : Bool) → (p && q) ≡ true → (p ≡ true → q ≡ true → X) → X
-and-both true q e h = h refl e
-and-both false q e h = no-true e
 
 -- a line without fault
 pub record Passed (s : State) (k : ℕ) (r : List ℕ) : Type 0 where

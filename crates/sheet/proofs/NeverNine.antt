@@ -1,8 +1,8 @@
 -- "9 | a 2,049th value would be made" never arises: each use of a node makes at most one value, each node is used once,
 -- and there are at most 1,024 values and 1,024 nodes.
-use mathlib.Core.Path.{_≡_, refl, ap}
+use mathlib.Core.Path.{_≡_, refl}
 use mathlib.Core.Bool.{Bool, true, false, cond, _||_}
-use mathlib.Core.List.{List, [], _∷_}
+use mathlib.Core.List.{List}
 use Prim.Native.Nat.{ℕ, zero, suc, _≤_, _+_}
 use native.Mathlib.Omega.{arith}
 use borrow.Author.Tests.{ltb-true}
@@ -19,12 +19,9 @@ use Rattle.sheet.proofs.MadeCount.{policySizes, residualSizes, run-rows
 use Rattle.sheet.proofs.Limits.{lines-at-most}
 use Rattle.sheet.proofs.Refusals.{read-small}
 use Rattle.sheet.proofs.Uses.{policies-small}
+use Rattle.sheet.proofs.ValueRows.{rows-length}
 
 -- ---- sizes
-
-rows-length : (rs : List (List ℕ)) → length (rowsIn rs) ≡ length rs
-rows-length [] = refl
-rows-length (r ∷ rs) = ap suc (rows-length rs)
 
 module _ (m : Mode) (sheet : List ℕ) (e : read m sheet .number ≡ 0) where
   -- the policies' trees together have at most 1,024 nodes, and so have the residuals

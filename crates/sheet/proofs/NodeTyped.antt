@@ -1,36 +1,32 @@
 -- The nodes of an accepted sheet are typed by content.
-use mathlib.Core.Path.{_≡_, refl, sym, _∙_, ap, ap₂, subst}
+use mathlib.Core.Path.{_≡_, refl, sym, _∙_, ap, subst}
 use mathlib.Core.Bool.{Bool, true, false, cond, _&&_, _||_}
-use mathlib.Core.Option.{Option, none, some, Option·some-injective}
+use mathlib.Core.Option.{Option, none, some}
 use mathlib.Core.List.{List, [], _∷_}
-use Prim.Native.Nat.{ℕ, zero, suc, _<_, _≤_, _+_, _-_, _%_}
+use Prim.Native.Nat.{ℕ, zero, suc, _<_, _≤_, _+_, _-_}
 use native.Mathlib.Omega.{arith}
-use borrow.Author.Tests.{ltb-true, le-ltb, ne-eqb}
+use borrow.Author.Tests.{ltb-true, ne-eqb}
 use lib.Dec.{eqb}
 use lib.ListN.{length, getD, drop}
-use Rattle.cedar.proofs.Tools.{no-true, no-some, eqb-true}
+use Rattle.cedar.proofs.Tools.{no-true, no-some, eqb-true, either}
+use Rattle.cedar.proofs.TypingTest.{some-test}
 use Rattle.cedar.specs.Value.{Value, vbool, onSome}
 use Rattle.cedar.specs.Types.{Ty, tbool, tlong, tstr, tent, tset, declared, Var, principal, action, resource, context}
 use Rattle.cedar.specs.Residual.{Expr, lit, err, var, and, or, has, haspath, set, rec, enil, Item, unot, uneg, uempty, uis, ulike, beq, blt, ble, badd, bsub, bmul, bcontains, ball, bany, rin, rgettag, rhastag}
 use Rattle.cedar.specs.Typing.{named, attrsOf, UnOk, notOk, negOk, emptyOk, isOk, likeOk, BinOk, eqOk, eqEntOk, ltOk, leOk, addOk, subOk, mulOk, containsOk, allOk, anyOk, RelOk, inOk, inSetOk, getTagOk, hasTagOk, PathOk, lastOk, freeOk, stepOk, Typed, tlit, terr, tvar, tand, tor, tite, tun, tbin, trel, tget, thas, tpath, tset′, trec′, AllTyped, nilTyped, consTyped, ArgsTyped, noArg, oneArg}
 use Rattle.cedar.specs.Numbered.{entryOf, isSome, pickN}
-use Rattle.sheet.specs.Forms.{Mode, Slot, line, nothing, forms, formOf, slotAt, items, at, mark}
+use Rattle.sheet.specs.Forms.{Mode, Slot, line, forms, formOf, slotAt, items, at, mark}
 use Rattle.sheet.specs.State.{State, linesOf, count, lineAt, Declared, TypeRow, bool, long, string, entity, set′, record′, typeRow, typeAt, valueRow}
 use Rattle.sheet.specs.Typing.{onEntity, onSetOf, onRecord, isBool, isLong, isString, declaredIn, requiredThere, allIn, allEntries, entriesFit, rowFits, fitsBy, fits, fitsIn, attributesOf, tagsOf, attributes, targetKind, pathTyped, typeOfNode, entityIs, contextIs, varTyped, argTypes, rules}
 use Rattle.sheet.specs.Sheet.{allThere, thereIs}
 use Rattle.sheet.specs.Content.{attrsOver, tyOver, types, contents, attrsIn, tagTy, schema, varOf, patternOf, childrenOver, argsOver, treeOver}
 use Rattle.sheet.proofs.Lines.{and-both, History}
 use Rattle.sheet.proofs.NodeRows.{Read, line-small, there-at}
-use Rattle.sheet.proofs.RowTests.{on-some, on-entity, on-set-of, on-record, is-bool, is-long, is-string}
+use Rattle.sheet.proofs.RowTests.{on-entity, on-set-of, on-record, is-bool, is-long, is-string}
 use Rattle.sheet.proofs.Fitting.{ty-eq}
 use Rattle.sheet.proofs.FitsSound.{fits-sound, declared-over, mapTy, complete-over}
-
-either : {X : Type 0} (p q : Bool) → (p || q) ≡ true → (p ≡ true → X) → (q ≡ true → X) → X
-either true q e f g = f refl
-either false q e f g = g e
-
-some-same : {A : Type 0} {a b : A} → some a ≡ some b → a ≡ b
-some-same {a = a} {b = b} e = Option·some-injective a b e
+use Rattle.sheet.proofs.Slots.{set-slot, field-slot}
+use Rattle.sheet.proofs.ValueRows.{some-is}
 
 -- u is the state in which a node's line was read
 module _ (m : Mode) (s : State) (h : History m s) (u : State) (same : (j : ℕ) → j < 11 → linesOf u j ≡ linesOf s j) where
@@ -162,7 +158,7 @@ module _ (m : Mode) (s : State) (h : History m s) (u : State) (same : (j : ℕ) 
       of-kind k string a e = no-some e
       of-kind k (entity l) a e = no-some e
       of-kind k (set′ t) a e = no-some e
-      of-kind k (record′ es) a e = ap (λ l. attrsIn (T (at (getD l k []) 0))) (sym (same 4 (omega arith))) ∙ ap attrsIn (row-ty (attributesOf u k) a) ∙ ap (attrsOver (types s)) (some-same e)
+      of-kind k (record′ es) a e = ap (λ l. attrsIn (T (at (getD l k []) 0))) (sym (same 4 (omega arith))) ∙ ap attrsIn (row-ty (attributesOf u k) a) ∙ ap (attrsOver (types s)) (some-is e)
 
       go : (row : TypeRow) → typeAt u y ≡ row → onEntity (onRecord none row some) row (λ k. onRecord none (typeAt u (attributesOf u k)) some) ≡ some ds → attrsOf (schema s) (T y) ≡ some (attrsOver (types s) ds)
       go bool a e = no-some e
@@ -170,7 +166,7 @@ module _ (m : Mode) (s : State) (h : History m s) (u : State) (same : (j : ℕ) 
       go string a e = no-some e
       go (entity k) a e = ap (attrsOf (schema s)) (row-ty y a) ∙ ap some (of-kind k (typeAt u (attributesOf u k)) refl e)
       go (set′ t) a e = no-some e
-      go (record′ es) a e = ap (attrsOf (schema s)) (row-ty y a) ∙ ap (λ z. some (attrsOver (types s) z)) (some-same e)
+      go (record′ es) a e = ap (attrsOf (schema s)) (row-ty y a) ∙ ap (λ z. some (attrsOver (types s) z)) (some-is e)
 
   declared-in : (t : ℕ) (ds : List Declared) (o : Option ℕ) → declaredIn t ds ≡ o → declared t (attrsOver (types s) ds) ≡ mapTy T o
   declared-in t ds o e = declared-over (types s) t ds ∙ ap (mapTy T) e
@@ -182,7 +178,7 @@ module _ (m : Mode) (s : State) (h : History m s) (u : State) (same : (j : ℕ) 
       go : (o : Option ℕ) → declaredIn t ds ≡ o → ((es : List Declared) → pathTyped u (v ∷ us) es ≡ true → PathOk (schema s) (attrsOver (types s) es) v us) → onSome true o (λ y. onSome false (attributes u y) (pathTyped u (v ∷ us))) ≡ true
           → PathOk (schema s) (attrsOver (types s) ds) t (v ∷ us)
       go none d ih q = freeOk (declared-in t ds none d)
-      go (some y) d ih q = on-some (attributes u y) (pathTyped u (v ∷ us)) q (λ es a g. stepOk (declared-in t ds (some y) d) (attributes-of y es a) (ih es g))
+      go (some y) d ih q = some-test (attributes u y) (pathTyped u (v ∷ us)) q (λ es a g. stepOk (declared-in t ds (some y) d) (attributes-of y es a) (ih es g))
 
   -- children
   abbrev pub V′ : ℕ → Value
@@ -191,14 +187,6 @@ module _ (m : Mode) (s : State) (h : History m s) (u : State) (same : (j : ℕ) 
   module _ (es : List Expr) (kids : (n : ℕ) → n < count u 11 → Typed (schema s) (getD es n (err tbool)) (T (typeOfNode u n))) where
     there-kid : (sl : Slot) (n : ℕ) → sl ≡ line 11 → thereIs u sl n ≡ true → Typed (schema s) (getD es n (err tbool)) (T (typeOfNode u n))
     there-kid sl n e p = kids n (ltb-true n (count u 11) (sym (ap (λ z. thereIs u z n) e) ∙ p))
-
-    set-slot : (j : ℕ) → slotAt 47 (suc j) ≡ line 11
-    unfolding slotAt formOf forms
-    set-slot j = let d : (suc j - 1) % 1 ≡ 0 = omega arith in ap₂ (λ b d. cond b (getD (line 3 ∷ []) (suc j) nothing) (getD (line 11 ∷ []) d nothing)) (le-ltb (suc j) 1 (omega arith)) d
-
-    arg-slot : (i : ℕ) → slotAt 48 (suc (suc (i + i))) ≡ line 11
-    unfolding slotAt formOf forms
-    arg-slot i = let d : (suc (suc (i + i)) - 1) % 2 ≡ 1 = omega arith in ap₂ (λ b d. cond b (getD (line 3 ∷ []) (suc (suc (i + i))) nothing) (getD (line 1 ∷ line 11 ∷ []) d nothing)) (le-ltb (suc (suc (i + i))) 1 (omega arith)) d
 
     all-typed : (e j : ℕ) (l : List ℕ) → allThere u 47 (suc j) l ≡ true → allIn (λ n. eqb (typeOfNode u n) e) l ≡ true → AllTyped (schema s) (childrenOver (types s) V′ es l) (T e)
     all-typed e j [] a b = nilTyped
@@ -213,8 +201,8 @@ module _ (m : Mode) (s : State) (h : History m s) (u : State) (same : (j : ℕ) 
         and-both (thereIs u (slotAt 48 (suc (i + i))) t) (thereIs u (slotAt 48 (suc (suc (i + i)))) n && allThere u 48 (suc (suc (suc (i + i)))) l) a (λ p q.
         and-both (thereIs u (slotAt 48 (suc (suc (i + i)))) n) (allThere u 48 (suc (suc (suc (i + i)))) l) q (λ v w.
         and-both (onSome false (declaredIn t ds) (eqb (typeOfNode u n))) (allEntries (λ t x. onSome false (declaredIn t ds) (eqb x)) (argTypes u r l)) b (λ x z.
-        on-some (declaredIn t ds) (eqb (typeOfNode u n)) x (λ y d g.
-        oneArg (declared-in t ds (some y) d) (subst (λ k. Typed (schema s) (getD es n (err tbool)) (T k)) (eqb-true (typeOfNode u n) y g) (there-kid (slotAt 48 (suc (suc (i + i)))) n (arg-slot i) v))
+        some-test (declaredIn t ds) (eqb (typeOfNode u n)) x (λ y d g.
+        oneArg (declared-in t ds (some y) d) (subst (λ k. Typed (schema s) (getD es n (err tbool)) (T k)) (eqb-true (typeOfNode u n) y g) (there-kid (slotAt 48 (suc (suc (i + i)))) n (field-slot i) v))
         (args-typed r ds (suc i) l (subst (λ k. allThere u 48 k l ≡ true) (omega arith) w) z)))))
 
     pick-named : (b : Bool) (c : Bool) (n : ℕ) (o : Option ℕ) → isSome o ≡ c → isSome (pickN b n o) ≡ (b || c)
@@ -320,15 +308,15 @@ module _ (m : Mode) (s : State) (h : History m s) (u : State) (same : (j : ℕ) 
 
     rule41 : Rule 41
     unfolding Rule slotAt formOf forms
-    rule41 l rd a e = on-some (attributes u (typeOfNode u (getD l 1 0))) (λ ds. onSome false (declaredIn (getD l 2 0) ds) (eqb (getD l 0 0))) e (λ ds x g. on-some (declaredIn (getD l 2 0) ds) (eqb (getD l 0 0)) g (λ y d f. tget (attributes-of (typeOfNode u (getD l 1 0)) ds x) (declared-in (getD l 2 0) ds (some y) d ∙ ap (λ k. some (T k)) (sym (eqb-true (getD l 0 0) y f))) (kid-at 41 l rd a 1 (ltb-true 1 (length (formOf 41 .items)) refl) refl)))
+    rule41 l rd a e = some-test (attributes u (typeOfNode u (getD l 1 0))) (λ ds. onSome false (declaredIn (getD l 2 0) ds) (eqb (getD l 0 0))) e (λ ds x g. some-test (declaredIn (getD l 2 0) ds) (eqb (getD l 0 0)) g (λ y d f. tget (attributes-of (typeOfNode u (getD l 1 0)) ds x) (declared-in (getD l 2 0) ds (some y) d ∙ ap (λ k. some (T k)) (sym (eqb-true (getD l 0 0) y f))) (kid-at 41 l rd a 1 (ltb-true 1 (length (formOf 41 .items)) refl) refl)))
 
     rule42 : Rule 42
     unfolding Rule slotAt formOf forms
-    rule42 l rd a e = and-both (isBool (typeAt u (getD l 0 0))) (onSome false (attributes u (typeOfNode u (getD l 1 0))) (λ ds. true)) e (λ x z. on-some (attributes u (typeOfNode u (getD l 1 0))) (λ ds. true) z (λ ds w g. is-ty (λ C. Typed (schema s) (has C (getD es (getD l 1 0) (err tbool)) (getD l 2 0)) C) (getD l 0 0) (is-bool _ x) (thas (attributes-of (typeOfNode u (getD l 1 0)) ds w) (kid-at 42 l rd a 1 (ltb-true 1 (length (formOf 42 .items)) refl) refl))))
+    rule42 l rd a e = and-both (isBool (typeAt u (getD l 0 0))) (onSome false (attributes u (typeOfNode u (getD l 1 0))) (λ ds. true)) e (λ x z. some-test (attributes u (typeOfNode u (getD l 1 0))) (λ ds. true) z (λ ds w g. is-ty (λ C. Typed (schema s) (has C (getD es (getD l 1 0) (err tbool)) (getD l 2 0)) C) (getD l 0 0) (is-bool _ x) (thas (attributes-of (typeOfNode u (getD l 1 0)) ds w) (kid-at 42 l rd a 1 (ltb-true 1 (length (formOf 42 .items)) refl) refl))))
 
     rule43 : Rule 43
     unfolding Rule slotAt formOf forms
-    rule43 l rd a e = and-both (isBool (typeAt u (getD l 0 0))) (onSome false (attributes u (typeOfNode u (getD l 1 0))) (pathTyped u (drop 2 l))) e (λ x z. on-some (attributes u (typeOfNode u (getD l 1 0))) (pathTyped u (drop 2 l)) z (λ ds w g. is-ty (λ C. Typed (schema s) (haspath C (getD es (getD l 1 0) (err tbool)) (getD l 2 0) (drop 3 l)) C) (getD l 0 0) (is-bool _ x) (tpath (attributes-of (typeOfNode u (getD l 1 0)) ds w) (path-ok (drop 3 l) (getD l 2 0) ds (subst (λ k. pathTyped u k ds ≡ true) (drop-three l (rd .least)) g)) (kid-at 43 l rd a 1 (ltb-true 1 (length (formOf 43 .items)) refl) refl))))
+    rule43 l rd a e = and-both (isBool (typeAt u (getD l 0 0))) (onSome false (attributes u (typeOfNode u (getD l 1 0))) (pathTyped u (drop 2 l))) e (λ x z. some-test (attributes u (typeOfNode u (getD l 1 0))) (pathTyped u (drop 2 l)) z (λ ds w g. is-ty (λ C. Typed (schema s) (haspath C (getD es (getD l 1 0) (err tbool)) (getD l 2 0) (drop 3 l)) C) (getD l 0 0) (is-bool _ x) (tpath (attributes-of (typeOfNode u (getD l 1 0)) ds w) (path-ok (drop 3 l) (getD l 2 0) ds (subst (λ k. pathTyped u k ds ≡ true) (drop-three l (rd .least)) g)) (kid-at 43 l rd a 1 (ltb-true 1 (length (formOf 43 .items)) refl) refl))))
 
     rule44 : Rule 44
     unfolding Rule slotAt formOf forms

@@ -19,7 +19,7 @@ use Rattle.sheet.proofs.PoliciesRead.{item-there, node-tags, read-polic
 use Rattle.sheet.proofs.Environment.{there-value}
 
 module _ (m : Mode) (s : State) (h : History m s) where
-  lit-there : (pre : List (List ℕ)) (r : List ℕ) (rest : List (List ℕ)) → linesOf s NODE ≡ pre ++ (r ∷ rest) → tag r - 21 ≡ 0 → At (contents s) (at r 1) (getD (contents s) (at r 1) (vbool false))
+  pub lit-there : (pre : List (List ℕ)) (r : List ℕ) (rest : List (List ℕ)) → linesOf s NODE ≡ pre ++ (r ∷ rest) → tag r - 21 ≡ 0 → At (contents s) (at r 1) (getD (contents s) (at r 1) (vbool false))
   unfolding keyOf slotAt formOf forms
   lit-there pre r rest e z =
       let w = h NODE pre r rest e in

@@ -54,7 +54,7 @@ all-below f (suc n) t e h = and-both (f n) (allBelow f n) e (λ p q. go (decLt t
     go (no d) p ih = subst (λ i. f i ≡ true) (omega arith) p
 
 -- a tag past the table is no form's
-past-table : (t : ℕ) → 50 ≤ t → formOf t ≡ noForm
+pub past-table : (t : ℕ) → 50 ≤ t → formOf t ≡ noForm
 unfolding formOf forms
 past-table t h = List·getD-eq-default forms noForm h
 

@@ -34,6 +34,10 @@ pub policy-tags : allBelow (between 12 49 49) 50 ≡ true
 unfolding formOf forms
 policy-tags = refl
 
+pub request-tags : (allBelow (between 7 17 17) 50 ≡ true) × (allBelow (between 8 18 18) 50 ≡ true) × (allBelow (between 9 19 19) 50 ≡ true)
+unfolding formOf forms
+request-tags = (refl, refl, refl)
+
 -- the references of a row that was found
 pub all-there : (s : State) (k : ℕ) (r : List ℕ) → found s k r ≡ true → allThere s (tag r) 0 (items r) ≡ true
 unfolding found
@@ -90,6 +94,10 @@ module _ (m : Mode) (s : State) (h : History m s) where
   nodes-typed : TypedAll (linesOf s NODE) (exprs s)
   unfolding exprs TypedAll
   nodes-typed = typed-from [] (linesOf s NODE) [] refl (refl, λ n lt. absurd (omega arith))
+
+  pub every-node : (c : ℕ) → c < length (linesOf s NODE) → Typed (schema s) (getD (exprs s) c (err tbool)) (T (at (getD (linesOf s NODE) c []) 0))
+  unfolding TypedAll
+  every-node c lt = nodes-typed .1 c lt
 
   -- a policy's node is a bool
   root-typed : (pre : List (List ℕ)) (r : List ℕ) → Was m s POLICY pre r → Typed (schema s) (getD (exprs s) (at r 2) (err tbool)) tbool

@@ -1,20 +1,14 @@
 -- Tests on rows, taken apart: what a passed test says.
 use mathlib.Core.Path.{_≡_, refl}
 use mathlib.Core.Bool.{Bool, true, false}
-use mathlib.Core.Option.{Option, none, some}
 use mathlib.Core.List.{List}
 use Prim.Native.Nat.{ℕ}
 use lib.IntN.{ℤ}
 use Rattle.cedar.proofs.Tools.{no-true}
-use Rattle.cedar.specs.Value.{onSome}
 use Rattle.cedar.specs.Rows.{Entries, Row, rbool, rlong, rtext, rent, rset, rrec}
 use Rattle.cedar.specs.Numbered.{rBool, rLong, rText, rEnt, rSet, rRec}
 use Rattle.sheet.specs.State.{Declared, TypeRow, bool, long, string, entity, set′, record′}
 use Rattle.sheet.specs.Typing.{onEntity, onSetOf, onRecord, isBool, isLong, isString}
-
-pub on-some : {X A : Type 0} (o : Option A) (f : A → Bool) → onSome false o f ≡ true → ((a : A) → o ≡ some a → f a ≡ true → X) → X
-on-some none f e h = no-true e
-on-some (some a) f e h = h a refl e
 
 pub on-bool : {X : Type 0} (r : Row) (f : Bool → Bool) → rBool false r f ≡ true → ((b : Bool) → r ≡ rbool b → f b ≡ true → X) → X
 on-bool (rbool b) f e h = h b refl e

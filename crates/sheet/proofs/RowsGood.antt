@@ -1,5 +1,5 @@
 -- The rows of a tree with small numbers are rows whose lines read back.
-use mathlib.Core.Path.{_≡_, refl, _∙_, ap, ap₂}
+use mathlib.Core.Path.{_≡_, refl, _∙_, ap}
 use mathlib.Core.Bool.{Bool, true, false, cond, _&&_, _||_}
 use mathlib.Core.List.{List, [], _∷_, _++_}
 use Prim.Native.Nat.{ℕ, suc, _≤_, _+_}
@@ -17,6 +17,7 @@ use Rattle.sheet.proofs.MadeCount.{residualSizes}
 use Rattle.sheet.proofs.RowsBack.{comes, allCome, goodRow, counted-groups}
 use Rattle.sheet.proofs.Slots.{like-slot, path-slot, set-slot, name-slot, field-slot}
 use Rattle.sheet.proofs.TreesBack.{SmallPattern, SmallUn, SmallTexts, Small, SmallAll, SmallArgs}
+use Rattle.cedar.proofs.Tools.{both}
 
 abbrev pub allGood : List (List ℕ) → Bool
 allGood [] = true
@@ -25,9 +26,6 @@ allGood (r ∷ rs) = goodRow r && allGood rs
 pub good-append : (a b : List (List ℕ)) → allGood a ≡ true → allGood b ≡ true → allGood (a ++ b) ≡ true
 good-append [] b g h = h
 good-append (r ∷ a) b g h = and-both (goodRow r) (allGood a) g (λ p q. rw p (good-append a b q h))
-
-both : {p q : Bool} → p ≡ true → q ≡ true → (p && q) ≡ true
-both e f = ap₂ _&&_ e f
 
 -- ---- how many items may follow
 

@@ -11,9 +11,9 @@ use lib.ListN.{length, getD, List·getD-eq-default}
 use Rattle.cedar.specs.Value.{onSome}
 use Rattle.cedar.specs.Rows.{Entries, stop, entry, Row, rbool, rlong, rtext, rent, rset, rrec}
 use Rattle.cedar.specs.Numbered.{entryOf, isSome, pickN}
-use Rattle.cedar.proofs.Tools.{no-true, no-some}
+use Rattle.cedar.proofs.Tools.{no-true, no-some, iff}
 use Rattle.cedar.proofs.TableLaws.{InN, now′, later′}
-use Rattle.sheet.specs.Forms.{Mode, Slot, line, forms, formOf, slotAt, isLine, keep, refsFrom, refs, tag, items, TYPE, VALUE}
+use Rattle.sheet.specs.Forms.{Mode, line, forms, formOf, slotAt, isLine, keep, refsFrom, refs, tag, items, TYPE, VALUE}
 use Rattle.sheet.specs.State.{State, linesOf, count, depthsOf, Declared, TypeRow, bool, long, string, entity, set′, record′, declareds, typeRow, valueRow}
 use Rattle.sheet.specs.Typing.{declaredIn, requiredThere, allIn, allEntries, rowFits, fitsBy, fitsIn}
 use Rattle.sheet.specs.Sheet.{read}
@@ -55,7 +55,7 @@ module _ (f g : ℕ → ℕ → Bool) where
   entries-more ds (entry t x e) h q = and-both (onSome false (declaredIn t ds) (f x)) (allEntries (λ t x. onSome false (declaredIn t ds) (f x)) e) q
       (λ p r. rw (some-more (declaredIn t ds) x (λ y i. h t x y i) p, entries-more ds e h r))
 
-  row-more : (r : Row) (T : TypeRow) → ((x y : ℕ) → Part T y → f x y ≡ true → g x y ≡ true) → rowFits f r T ≡ true → rowFits g r T ≡ true
+  pub row-more : (r : Row) (T : TypeRow) → ((x y : ℕ) → Part T y → f x y ≡ true → g x y ≡ true) → rowFits f r T ≡ true → rowFits g r T ≡ true
   row-more r bool h e = e
   row-more r long h e = e
   row-more r string h e = e
@@ -85,11 +85,6 @@ module _ (values types : List (List ℕ)) (depth : ℕ → ℕ) (s : Shallow typ
   -- a greater depth gives the same answer
   pub deeper : (n v t : ℕ) → 64 ≤ n → fitsBy values types n v t ≡ fitsBy values types 64 v t
   deeper n v t h = let d = s .low t in iff (fitsBy values types n v t) (fitsBy values types 64 v t) (enough n 64 v t d) (enough 64 n v t (omega (arith, d)))
-    where
-      iff : (a b : Bool) → (a ≡ true → b ≡ true) → (b ≡ true → a ≡ true) → a ≡ b
-      iff true b f g = sym (f refl)
-      iff false true f g = g refl
-      iff false false f g = refl
 
   pub settled : Settled values types
   unfolding fitsIn
@@ -97,12 +92,12 @@ module _ (values types : List (List ℕ)) (depth : ℕ → ℕ) (s : Shallow typ
 
 -- ---- the parts of a type are among its row's references
 
-in-keep : (b : Bool) (x y : ℕ) (l : List ℕ) → InN y l → InN y (keep b x l)
+pub in-keep : (b : Bool) (x y : ℕ) (l : List ℕ) → InN y l → InN y (keep b x l)
 in-keep true x y l i = later′ i
 in-keep false x y l i = i
 
-this-kept : (sl : Slot) (x : ℕ) (l : List ℕ) → sl ≡ line 3 → InN x (keep (isLine 3 sl) x l)
-this-kept sl x l e = subst (λ z. InN x (keep (isLine 3 z) x l)) (sym e) now′
+pub this-kept : (b : Bool) (x : ℕ) (l : List ℕ) → b ≡ true → InN x (keep b x l)
+this-kept b x l e = subst (λ z. InN x (keep z x l)) (sym e) now′
 
 set-ref : (l : List ℕ) → length l ≡ 1 → InN (getD l 0 0) (refsFrom 3 7 0 l)
 unfolding slotAt formOf forms
@@ -119,13 +114,13 @@ attr-refs i t y (a ∷ b ∷ c ∷ l) e = in-keep (isLine 3 (slotAt 8 (i + i + i
     go : (p : Bool) → (declaredIn t (declareds l) ≡ some y → InN y (refsFrom 3 8 (suc (suc (suc (i + i + i)))) l)) → pickN p c (declaredIn t (declareds l)) ≡ some y
         → InN y (keep (isLine 3 (slotAt 8 (suc (suc (i + i + i))))) c (refsFrom 3 8 (suc (suc (suc (i + i + i)))) l))
     go true ih q = subst (λ z. InN z (keep (isLine 3 (slotAt 8 (suc (suc (i + i + i))))) c (refsFrom 3 8 (suc (suc (suc (i + i + i)))) l))) (some-is q)
-        (this-kept (slotAt 8 (suc (suc (i + i + i)))) c (refsFrom 3 8 (suc (suc (suc (i + i + i)))) l) (attr-slots i))
+        (this-kept (isLine 3 (slotAt 8 (suc (suc (i + i + i))))) c (refsFrom 3 8 (suc (suc (suc (i + i + i)))) l) (ap (isLine 3) (attr-slots i)))
     go false ih q = in-keep (isLine 3 (slotAt 8 (suc (suc (i + i + i))))) c y _ (ih q)
 
-set-part : {x y : ℕ} → Part (set′ x) y → x ≡ y
+pub set-part : {x y : ℕ} → Part (set′ x) y → x ≡ y
 set-part elem = refl
 
-attr-part : {X : Type 0} {ds : List Declared} {y : ℕ} → Part (record′ ds) y → ((t : ℕ) → declaredIn t ds ≡ some y → X) → X
+pub attr-part : {X : Type 0} {ds : List Declared} {y : ℕ} → Part (record′ ds) y → ((t : ℕ) → declaredIn t ds ≡ some y → X) → X
 attr-part (attr t e) f = f t e
 
 part-in : (r : List ℕ) (y : ℕ) → (tag r ≡ 7 → length (items r) ≡ 1) → Part (typeRow r) y → InN y (refs 3 r)

@@ -9,7 +9,7 @@ use native.Mathlib.Nat.{add-zero}
 use borrow.Author.Tests.{leb-true, le-leb}
 use lib.Dec.{leb, eqb}
 use lib.ListN.{length, getD, drop}
-use Rattle.cedar.proofs.Tools.{no-some}
+use Rattle.cedar.proofs.Tools.{no-some, or-right, all-snoc}
 use Rattle.cedar.specs.Types.{Ty, tbool, Var, principal, action, resource, context}
 use Rattle.cedar.specs.Residual.{star, piece, Node, err}
 use Rattle.cedar.specs.Rows.{rent}
@@ -26,7 +26,7 @@ use Rattle.sheet.proofs.Parsed.{parsed, allBelow, between, tags-between
 use Rattle.sheet.proofs.ValueRows.{isNumber, item-length, some-is}
 use Rattle.sheet.proofs.NodeRows.{plain-slots, head-is, index-small}
 use Rattle.sheet.proofs.Slots.{like-slot, path-slot, name-slot}
-use Rattle.sheet.proofs.PoliciesRead.{node-tags}
+use Rattle.sheet.proofs.PoliciesRead.{node-tags, policy-tags, request-tags}
 use Rattle.sheet.proofs.Environment.{Facts, the-line}
 use Rattle.sheet.proofs.RowsBack.{AllSmall}
 use Rattle.sheet.proofs.TreesBack.{SmallPattern, SmallTexts, Small, SmallAll, SmallArgs}
@@ -47,13 +47,9 @@ fitsSlot nothing x = true
 index-fits : (o : Option ℕ) (x : ℕ) → one (atMost 9999 o) ≡ some (x ∷ []) → leb x 9999 ≡ true
 index-fits o x e = le-leb x 9999 (index-small o x e)
 
-or-left : (p q : Bool) → q ≡ true → (p || q) ≡ true
-or-left true q e = refl
-or-left false q e = e
-
 mark-fits : (b : Bool) (o : Option ℕ) (x : ℕ) → one (markOr b (atMost 9999 o)) ≡ some (x ∷ []) → (eqb x mark || leb x 9999) ≡ true
 mark-fits true o x e = subst (λ z. (eqb z mark || leb z 9999) ≡ true) (head-is e) refl
-mark-fits false o x e = or-left (eqb x mark) (leb x 9999) (index-fits o x e)
+mark-fits false o x e = or-right (eqb x mark) (leb x 9999) (index-fits o x e)
 
 item-fits : (m : Mode) (s : Slot) (f : List ℕ) (x : ℕ) → item m s f ≡ some (x ∷ []) → fitsSlot s x ≡ true
 item-fits m F.entry f x e = refl
@@ -196,12 +192,6 @@ module _ (ts : List Ty) (ns : List (Node ℕ)) (k : AllTrees ns) where
   pub node-small : (r : List ℕ) → allFit (tag r) 0 (items r) ≡ true → 21 ≤ tag r → Small Any (treeOver ts (λ n. n) ns r)
   node-small r f lo = tree-small r f lo (tag r - 21) refl
 
-snoc-small : (ns : List (Node ℕ)) (a : Node ℕ) → AllTrees ns → Small Any a → AllTrees (ns ++ (a ∷ []))
-snoc-small [] a k t zero = t
-snoc-small [] a k t (suc n) = tt
-snoc-small (x ∷ ns) a k t zero = k 0
-snoc-small (x ∷ ns) a k t (suc n) = snoc-small ns a (λ i. k (suc i)) t n
-
 module _ (m : Mode) (s : State) (h : History m s) where
   trees-from : (pre rest : List (List ℕ)) → linesOf s NODE ≡ pre ++ rest → (ns : List (Node ℕ)) → AllTrees ns → AllTrees (treesFrom (types s) (λ n. n) ns rest)
   unfolding keyOf
@@ -210,7 +200,7 @@ module _ (m : Mode) (s : State) (h : History m s) where
       let w = h NODE pre r rest e in
       let (lo, hi) = tags-between 11 21 48 (tag r) (omega arith) node-tags (w .key) in
       trees-from (pre ++ (r ∷ [])) rest (e ∙ sym (append-assoc pre (r ∷ []) rest)) (ns ++ (treeOver (types s) (λ n. n) ns r ∷ []))
-      (snoc-small ns (treeOver (types s) (λ n. n) ns r) k (node-small (types s) ns k r (row-fits m r (w .line) (w .row) (omega (arith, lo)) (omega (arith, hi)) (λ z. absurd (omega (arith, z, lo)))) lo))
+      (all-snoc (Small Any) (err tbool) tt ns (treeOver (types s) (λ n. n) ns r) k (node-small (types s) ns k r (row-fits m r (w .line) (w .row) (omega (arith, lo)) (omega (arith, hi)) (λ z. absurd (omega (arith, z, lo)))) lo))
 
   policies-from : (S : List (List ℕ)) → AllTrees (trees s) → PoliciesSmall (numberedPolicies (trees s) S)
   policies-from [] k = tt
@@ -222,10 +212,6 @@ module _ (m : Mode) (s : State) (h : History m s) where
   policies-small = policies-from (linesOf s POLICY) (trees-from [] (linesOf s NODE) refl [] (λ n. tt))
 
   -- ---- the policies' ids
-  policy-tags : allBelow (between 12 49 49) 50 ≡ true
-  unfolding formOf forms
-  policy-tags = refl
-
   ids-from : (pre rest : List (List ℕ)) → linesOf s POLICY ≡ pre ++ rest → AllSmall (firsts rest)
   unfolding keyOf slotAt formOf forms
   ids-from pre [] e = tt
@@ -238,10 +224,6 @@ module _ (m : Mode) (s : State) (h : History m s) where
   ids-small = ids-from [] (linesOf s POLICY) refl
 
 -- ---- the request
-
-request-tags : (allBelow (between 7 17 17) 50 ≡ true) × (allBelow (between 8 18 18) 50 ≡ true) × (allBelow (between 9 19 19) 50 ≡ true)
-unfolding formOf forms
-request-tags = (refl, refl, refl)
 
 module _ (s : State) (f : Facts partial s) where
   -- the one row of a key with one tag

@@ -262,9 +262,6 @@ module _ {L : Type 0} (ts : List Ty) (value : ℕ → L) where
         (then-rows ns (post (W c)) (post (W a) ++ post (W b)) (treeRows ts n c) (treeRows ts (n + size c) a ++ treeRows ts (n + size c + size a) b) f
         (then-rows (ns ++ post (W c)) (post (W a)) (post (W b)) (treeRows ts (n + size c) a) (treeRows ts (n + size c + size a) b) g h)) q
 
-    middle : (c a : Node ℕ) (more : List (Node L)) → getD (ns ++ (post (W c) ++ (post (W a) ++ more))) (root (n + size c) a) (err tbool) ≡ W a
-    middle c a more = right c a more
-
   third : (ns : List (Node L)) (n : ℕ) → length ns ≡ n → (c a b : Node ℕ) → getD (ns ++ (post (W c) ++ (post (W a) ++ post (W b)))) (root (n + size c + size a) b) (err tbool) ≡ W b
   third ns n len c a b = ap (λ z. getD z (root (n + size c + size a) b) (err tbool)) (sym (append-assoc ns (post (W c)) (post (W a) ++ post (W b)))) ∙ last (ns ++ post (W c)) (n + size c) (grown ns n len c) a b
 
@@ -326,7 +323,7 @@ module _ {L : Type 0} (ts : List Ty) (value : ℕ → L) where
       tree-back (ite T c a b) ns n len h q = three ns n len c a b (op "if" ∷ typeNumber ts T ∷ root n c ∷ root (n + size c) a ∷ root (n + size c + size a) b ∷ []) (ite T (W c) (W a) (W b))
           (tree-back c ns n len (h .0) (q .1)) (tree-back a (ns ++ post (W c)) (n + size c) (grown ns n len c) (h .1) (q .2))
           (tree-back b ((ns ++ post (W c)) ++ post (W a)) (n + size c + size a) (grown (ns ++ post (W c)) (n + size c) (grown ns n len c) a) (h .2) (q .3))
-          (λ i. ite (q .0 .found i) (left ns n len c (post (W a) ++ post (W b)) i) (middle ns n len c a (post (W b)) i) (third ns n len c a b i))
+          (λ i. ite (q .0 .found i) (left ns n len c (post (W a) ++ post (W b)) i) (right ns n len c a (post (W b)) i) (third ns n len c a b i))
       tree-back (un T u a) ns n len h q = then-row ns (post (W a)) (treeRows ts n a) (unTag u ∷ typeNumber ts T ∷ root n a ∷ unItems u) (un T u (W a)) (tree-back a ns n len (h .1) (q .1)) (un-back ns n len T (q .0 .found) a u (h .0))
       tree-back (bin T o a b) ns n len h q = two ns n len a b (binTag o ∷ typeNumber ts T ∷ root n a ∷ root (n + size a) b ∷ []) (bin T o (W a) (W b)) (tree-back a ns n len (h .0) (q .1)) (tree-back b (ns ++ post (W a)) (n + size a) (grown ns n len a) (h .1) (q .2))
           (bin-back ns n len T (q .0 .found) a b o)

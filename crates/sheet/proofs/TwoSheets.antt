@@ -8,7 +8,7 @@ use native.Mathlib.Omega.{arith}
 use borrow.Author.Tests.{ltb-true, eq-eqb}
 use lib.Dec.{ltb, eqb}
 use lib.ListN.{length, getD, drop, length-append, List·getD-append}
-use Rattle.cedar.proofs.Tools.{no-true, no-some, eqb-true}
+use Rattle.cedar.proofs.Tools.{no-true, no-some, eqb-true, iff}
 use Rattle.cedar.specs.Value.{Value, vbool, vent}
 use Rattle.cedar.specs.Types.{tbool, tent, Var, principal, action, resource, context}
 use Rattle.cedar.specs.Entities.{Line, PLine, Agree, LineAgrees}
@@ -16,6 +16,8 @@ use Rattle.cedar.specs.Rows.{Row, rent, sameRow}
 use Rattle.cedar.specs.Table.{At}
 use Rattle.cedar.proofs.TableLaws.{number-inj, at-append, sameRow-true, sameRow-refl}
 use Rattle.cedar.proofs.SettledByNumber.{ReadPolicies}
+use Rattle.cedar.proofs.TypingTest.{some-test}
+use Rattle.cedar.proofs.ReadsLaws.{at-is}
 use Rattle.sheet.specs.Bytes.{same}
 use Rattle.sheet.specs.Forms.{partial, complete, forms, formOf, slotAt, items, at, tag, mark, keyOf, TEXT, KIND, TYPE, SHAPE, VALUE, ENTITY, PRINCIPAL, ACTION, RESOURCE, CONTEXT, NODE, POLICY}
 use Rattle.sheet.specs.State.{State, linesOf, count, lineAt, valueRow, valueAt}
@@ -25,15 +27,14 @@ use Rattle.sheet.specs.Agreement.{begins, sameLines, partSame, requestSa
 use Rattle.sheet.proofs.Lines.{and-both, Was}
 use Rattle.sheet.proofs.Parsed.{tags-between}
 use Rattle.sheet.proofs.ValueRows.{values-table}
-use Rattle.sheet.proofs.RowTests.{on-some}
-use Rattle.sheet.proofs.Fitting.{at-is, val, val-eq}
+use Rattle.sheet.proofs.Fitting.{val, val-eq}
 use Rattle.sheet.proofs.NodeRows.{row-read}
 use Rattle.sheet.proofs.PoliciesRead.{item-there, node-tags, read-policies}
 use Rattle.sheet.proofs.Environment.{Facts, the-line, there-value, entity-found, entity-read, context-read}
 
 -- ---- equal lines
 
-same-is : (k l : List ℕ) → same k l ≡ true → k ≡ l
+pub same-is : (k l : List ℕ) → same k l ≡ true → k ≡ l
 same-is [] [] e = refl
 same-is [] (y ∷ l) e = no-true e
 same-is (x ∷ k) [] e = no-true e
@@ -179,11 +180,6 @@ module _ (p c : State) (fp : Facts partial p) (fc : Facts complete c) (k : Commo
 
   -- ---- entities
 
-  bool-eq : (a b : Bool) → (a ≡ true → b ≡ true) → (b ≡ true → a ≡ true) → a ≡ b
-  bool-eq true b f g = sym (f refl)
-  bool-eq false true f g = g refl
-  bool-eq false false f g = refl
-
   -- a complete entity line has the value's row exactly if it has its number
   row-number : (pre : List (List ℕ)) (x : List ℕ) → Was complete c ENTITY pre x → (n i t : ℕ) → n < count c VALUE → valueAt c n ≡ rent i t → sameRow (valueAt c (at x 0)) (rent i t) ≡ eqb (at x 0) n
   unfolding slotAt formOf forms
@@ -191,7 +187,7 @@ module _ (p c : State) (fp : Facts partial p) (fc : Facts complete c) (k : Commo
       let h = fc .history in
       let lx = ltb-true (at x 0) (count (w .was) 5) (item-there complete c (w .was) ENTITY x 16 (entity-read complete c pre x w) (w .pass .refers) 0 (ltb-true 0 4 refl)) in
       let lx′ : at x 0 < count c 5 = subst (λ l. at x 0 < length l) (w .earlier 5 (omega arith)) lx in
-      bool-eq (sameRow (valueAt c (at x 0)) (rent i t)) (eqb (at x 0) n)
+      iff (sameRow (valueAt c (at x 0)) (rent i t)) (eqb (at x 0) n)
       (λ q. let z : val complete c h (at x 0) ≡ val complete c h n = val-eq complete c h (at x 0) ∙ ap (valueOver (contents c)) (sameRow-true (valueAt c (at x 0)) (rent i t) q ∙ sym e) ∙ sym (val-eq complete c h n) in
       eq-eqb (at x 0) n (number-inj (values-table complete c h) (at x 0) n (val complete c h n) (subst (At (contents c) (at x 0)) z (there-value complete c h (at x 0) lx′)) (there-value complete c h n lt)))
       (λ q. subst (λ z. sameRow z (rent i t) ≡ true) (sym (ap (valueAt c) (eqb-true (at x 0) n q) ∙ e)) (sameRow-refl (rent i t)))
@@ -226,7 +222,7 @@ module _ (p c : State) (fp : Facts partial p) (fc : Facts complete c) (k : Commo
       let lr = ltb-true (at r 0) (count (w .was) 5) (item-there partial p (w .was) ENTITY r 16 (entity-read partial p pre r w) (w .pass .refers) 0 (ltb-true 0 4 refl)) in
       let lr′ : at r 0 < count p 5 = subst (λ l. at r 0 < length l) (w .earlier 5 (omega arith)) lr in
       let mv = more-values in
-      on-some (lineFor (at r 0) (linesOf c ENTITY)) (entitySame r) (one-listed pre r rest (linesOf c ENTITY) (subst (λ l. allListed l (linesOf c ENTITY) ≡ true) a (k .entities))) (λ y d g. (
+      some-test (lineFor (at r 0) (linesOf c ENTITY)) (entitySame r) (one-listed pre r rest (linesOf c ENTITY) (subst (λ l. allListed l (linesOf c ENTITY) ≡ true) a (k .entities))) (λ y d g. (
         lineIn (contents c) y,
         ap (lineFound (contents c)) (found-same (at r 0) i t (omega (arith, lr′, mv)) (value-row-same (at r 0) lr′ ∙ b) [] (linesOf c ENTITY) refl ∙ d),
         subst (λ z. LineAgrees z (lineIn (contents c) y)) (Option·some-injective _ _ e) (parts-agree pre r y w g),

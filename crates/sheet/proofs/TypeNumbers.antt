@@ -8,23 +8,24 @@ use native.Mathlib.Nat.{le-of-suc-le-suc}
 use native.Mathlib.Omega.{arith}
 use native.Mathlib.Decide.{decLt}
 use borrow.Author.Tests.{ltb-true, le-ltb, not-true}
-use lib.Dec.{ltb, eqb, isEq}
+use lib.Dec.{ltb, eqb}
 use lib.ListN.{length, getD, drop, List·getD-eq-default}
-use Rattle.cedar.proofs.Tools.{no-true, no-some, eqb-true, neither}
+use Rattle.cedar.proofs.Tools.{no-true, no-some, eqb-true, neither, all-snoc}
 use Rattle.cedar.specs.Value.{Value, vbool}
 use Rattle.cedar.specs.Canonical.{bit}
-use Rattle.cedar.specs.Types.{Ty, tbool, tlong, tstr, tent, tset, trec, Attrs, anil, acons, declared, pickTy, tySame, tyCode}
+use Rattle.cedar.specs.Types.{Ty, tbool, tlong, tstr, tent, tset, trec, Attrs, anil, acons, declared, pickTy, tySame}
 use Rattle.cedar.specs.Residual.{Node, err}
 use Rattle.cedar.specs.Typing.{attrsOf}
 use Rattle.cedar.specs.Table.{At, now, later}
 use Rattle.cedar.specs.Runs.{Policy, NPolicy, NVerdict}
-use Rattle.cedar.proofs.OrderLaws.{cmp-refl}
 use Rattle.cedar.proofs.TableLaws.{at-snoc}
 use Rattle.cedar.proofs.TypingTest.{tySame-true}
 use Rattle.cedar.proofs.TypesKept.{TypesHold, AllHold, ArgsHold, reads-hold, types-kept}
 use Rattle.cedar.proofs.Settled.{Policies, onePolicy}
 use Rattle.cedar.proofs.SettledByNumber.{Residuals, run-reads}
 use Rattle.cedar.proofs.SettledByNumber as R
+use Rattle.cedar.proofs.ReadsLaws.{at-is}
+use Rattle.cedar.proofs.TypingTestComplete.{tySame-refl}
 use Rattle.sheet.specs.Bytes.{same, index}
 use Rattle.sheet.specs.Forms.{Mode, partial, Slot, entry, line, lineOr, lineUnknown, word, number, nothing, isLine, forms, formOf, slotAt, counted, item, itemsFrom, one, joined, placeIn, tag, items, at, keyOf, rowOf, ascendings, TYPE, NODE, POLICY}
 use Rattle.sheet.specs.State.{State, linesOf, count, lineAt, Declared, TypeRow, bool, long, string, entity, set′, record′, declareds, typeRow, typeAt}
@@ -36,7 +37,7 @@ use Rattle.sheet.proofs.Lines.{and-both, Was, History}
 use Rattle.sheet.proofs.Parsed.{parsed, allBelow, all-below, between, tags-between, counted-plain}
 use Rattle.sheet.proofs.RowTests.{is-bool}
 use Rattle.sheet.proofs.ValueRows.{at-getD, some-is, same-refl, values-table}
-use Rattle.sheet.proofs.Fitting.{at-is, at-less, AttrsAt, noA, oneA, TyAt, abool, along, astr, aent, aset, arec, attr-slots, ty-row, set-size, Known, one-known, all-known, ty-eq}
+use Rattle.sheet.proofs.Fitting.{at-less, AttrsAt, noA, oneA, TyAt, abool, along, astr, aent, aset, arec, attr-slots, ty-row, set-size, Known, one-known, all-known, ty-eq}
 use Rattle.sheet.proofs.NodeRows.{row-read}
 use Rattle.sheet.proofs.PoliciesRead.{item-there, node-tags, policy-tags, policies-typed}
 use Rattle.sheet.proofs.Environment.{Facts, env-read}
@@ -245,11 +246,8 @@ module _ (m : Mode) (s : State) (h : History m s) where
 
 -- ---- the number of a type
 
-same-ty : (A : Ty) → tySame A A ≡ true
-same-ty A = ap isEq (cmp-refl (tyCode A))
-
 pub number-at : (ts : List Ty) (T : Ty) {n : ℕ} → At ts n T → At ts (typeNumber ts T) T
-number-at (A ∷ ts) T now = subst (λ b. At (A ∷ ts) (cond b 0 (suc (typeNumber ts A))) A) (sym (same-ty A)) now
+number-at (A ∷ ts) T now = subst (λ b. At (A ∷ ts) (cond b 0 (suc (typeNumber ts A))) A) (sym (tySame-refl A)) now
 number-at (A ∷ ts) T (later a) = go (tySame A T) refl (number-at ts T a)
   where
     go : (b : Bool) → tySame A T ≡ b → At ts (typeNumber ts T) T → At (A ∷ ts) (cond b 0 (suc (typeNumber ts T))) T
@@ -317,7 +315,7 @@ module _ (m : Mode) (s : State) (h : History m s) where
       go (no d) = no-some (ap (λ T. declared t (attrsIn T)) (sym (List·getD-eq-default (types s) tbool (omega arith))) ∙ e)
 
   -- "the attribute was declared with it"
-  below-listed : (A : Ty) (R : Attrs) → Listed (types s) A → attrsOf (schema s) A ≡ some R → (t : ℕ) (B : Ty) → declared t R ≡ some B → Listed (types s) B
+  pub below-listed : (A : Ty) (R : Attrs) → Listed (types s) A → attrsOf (schema s) A ≡ some R → (t : ℕ) (B : Ty) → declared t R ≡ some B → Listed (types s) B
   unfolding schema
   below-listed tbool R l e t B d = no-some e
   below-listed tlong R l e t B d = no-some e
@@ -370,15 +368,9 @@ module _ (Q : Ty → Type 0) (b : Q tbool) {L : Type 0} (ts : List Ty) (value : 
     tree-holds r q (suc (suc (suc (suc (suc (suc (suc (suc (suc (suc (suc (suc (suc (suc (suc (suc (suc (suc (suc (suc (suc (suc (suc (suc (suc (suc (suc zero))))))))))))))))))))))))))) = (q, args-hold (drop 1 (items r)))
     tree-holds r q (suc (suc (suc (suc (suc (suc (suc (suc (suc (suc (suc (suc (suc (suc (suc (suc (suc (suc (suc (suc (suc (suc (suc (suc (suc (suc (suc (suc d)))))))))))))))))))))))))))) = b
 
-  hold-snoc : (ns : List (Node L)) (a : Node L) → ((n : ℕ) → TypesHold Q (getD ns n (err tbool))) → TypesHold Q a → (n : ℕ) → TypesHold Q (getD (ns ++ (a ∷ [])) n (err tbool))
-  hold-snoc [] a k h zero = h
-  hold-snoc [] a k h (suc n) = b
-  hold-snoc (x ∷ ns) a k h zero = k 0
-  hold-snoc (x ∷ ns) a k h (suc n) = hold-snoc ns a (λ i. k (suc i)) h n
-
-  hold-from : ((y : ℕ) → Q (getD ts y tbool)) → (rows : List (List ℕ)) (ns : List (Node L)) → ((n : ℕ) → TypesHold Q (getD ns n (err tbool))) → (n : ℕ) → TypesHold Q (getD (treesFrom ts value ns rows) n (err tbool))
+  pub hold-from : ((y : ℕ) → Q (getD ts y tbool)) → (rows : List (List ℕ)) (ns : List (Node L)) → ((n : ℕ) → TypesHold Q (getD ns n (err tbool))) → (n : ℕ) → TypesHold Q (getD (treesFrom ts value ns rows) n (err tbool))
   hold-from q [] ns k = k
-  hold-from q (r ∷ rows) ns k = hold-from q rows (ns ++ (treeOver ts value ns r ∷ [])) (hold-snoc ns (treeOver ts value ns r) k (tree-holds ns k r (q (at r 0)) (tag r - 21)))
+  hold-from q (r ∷ rows) ns k = hold-from q rows (ns ++ (treeOver ts value ns r ∷ [])) (all-snoc (TypesHold Q) (err tbool) b ns (treeOver ts value ns r) k (tree-holds ns k r (q (at r 0)) (tag r - 21)))
 
 -- item n of a list, with what stands before it and after it
 pub split-at : {X : Type 0} (l : List (List ℕ)) (n : ℕ) → n < length l → ((pre rest : List (List ℕ)) → l ≡ pre ++ (getD l n [] ∷ rest) → X) → X
@@ -438,7 +430,7 @@ module _ (m : Mode) (s : State) (h : History m s) where
       subst (λ l. at r 0 < length l) (w .earlier 3 (omega arith)) (ltb-true (at r 0) (count (w .was) 3) (sym (ap (λ z. thereIs (w .was) z (at r 0)) sl) ∙ there)))
 
   -- where there is a policy there is the type of its node
-  bool-listed : (pre : List (List ℕ)) (r : List ℕ) (rest : List (List ℕ)) → linesOf s POLICY ≡ pre ++ (r ∷ rest) → Listed (types s) tbool
+  pub bool-listed : (pre : List (List ℕ)) (r : List ℕ) (rest : List (List ℕ)) → linesOf s POLICY ≡ pre ++ (r ∷ rest) → Listed (types s) tbool
   unfolding typed keyOf slotAt formOf forms
   bool-listed pre r rest e =
       let w = h POLICY pre r rest e in
@@ -453,7 +445,7 @@ module _ (m : Mode) (s : State) (h : History m s) where
       let z = types-length m s h in
       listed (subst (At (types s) y) (ty-eq m s h y ∙ ap (tyOver (types s)) row) (at-getD (types s) y tbool (omega (arith, z, there))))
 
-  any-listed : Listed (types s) tbool → (y : ℕ) → Listed (types s) (getD (types s) y tbool)
+  pub any-listed : Listed (types s) tbool → (y : ℕ) → Listed (types s) (getD (types s) y tbool)
   any-listed b y = go (decLt y (length (types s)))
     where
       go : Dec (y < length (types s)) → Listed (types s) (getD (types s) y tbool)

@@ -1,19 +1,19 @@
 -- "each node is used once, by a node or a policy": the trees of all policies together have no more nodes than there are node lines.
-use mathlib.Core.Path.{_≡_, refl, sym, _∙_, ap, ap₂, subst}
+use mathlib.Core.Path.{_≡_, refl, sym, _∙_, ap, subst}
 use mathlib.Core.Bool.{Bool, true, false, cond}
 use mathlib.Core.List.{List, [], _∷_, _++_, append-assoc}
-use Prim.Native.Nat.{ℕ, zero, suc, _<_, _≤_, _+_, _-_, _%_}
+use Prim.Native.Nat.{ℕ, zero, suc, _<_, _≤_, _+_, _-_}
 use native.Mathlib.Nat.{le-of-suc-le-suc}
 use native.Mathlib.Omega.{arith}
 use native.Mathlib.Decide.{decLt}
-use borrow.Author.Tests.{eq-eqb, ne-eqb, ltb-true, le-ltb, leb-false}
+use borrow.Author.Tests.{eq-eqb, ne-eqb, ltb-true, leb-false}
 use lib.Dec.{eqb}
 use lib.ListN.{length, getD, drop, set, length-set, length-append, List·getD-eq-default}
 use lib.Seq.{getD-set-same, getD-set-other}
 use Rattle.cedar.proofs.Tools.{neither}
 use Rattle.cedar.specs.Types.{Ty, tbool}
 use Rattle.cedar.specs.Residual.{Node, err}
-use Rattle.sheet.specs.Forms.{Mode, Slot, line, nothing, forms, formOf, slotAt, isLine, keep, refsFrom, refs, tag, items, at, keyOf, rowOf, NODE, POLICY}
+use Rattle.sheet.specs.Forms.{Mode, Slot, line, forms, formOf, slotAt, isLine, keep, refsFrom, refs, tag, items, at, keyOf, rowOf, NODE, POLICY}
 use Rattle.sheet.specs.State.{State, linesOf, count}
 use Rattle.sheet.specs.Sheet.{greatest, thereIs, allThere, marked, usedTwice, fault, more, read}
 use Rattle.sheet.specs.Content.{childrenOver, argsOver, treeOver, treesFrom, trees, nPolicies, numberedPolicies, types}
@@ -24,6 +24,7 @@ use Rattle.sheet.proofs.NodeRows.{row-read}
 use Rattle.sheet.proofs.MadeCount.{policySizes}
 use Rattle.sheet.proofs.PoliciesRead.{all-there, node-tags, policy-tags}
 use Rattle.sheet.proofs.TypeNumbers.{is-line}
+use Rattle.sheet.proofs.Slots.{set-slot, field-slot}
 
 -- ---- weights and flags, as lists of numbers
 
@@ -157,14 +158,6 @@ module _ {L : Type 0} (ts : List Ty) (value : ℕ → L) (ws : List ℕ) (ns : L
         let g = keep-this ws (slotAt t 3) o (refsFrom 11 t 4 l) r in
         omega (arith, a, b, c, u, v, w, g)
 
-  set-slot : (j : ℕ) → slotAt 47 (suc j) ≡ line 11
-  unfolding slotAt formOf forms
-  set-slot j = let d : (suc j - 1) % 1 ≡ 0 = omega arith in ap₂ (λ b d. cond b (getD (line 3 ∷ []) (suc j) nothing) (getD (line 11 ∷ []) d nothing)) (le-ltb (suc j) 1 (omega arith)) d
-
-  arg-slot : (i : ℕ) → slotAt 48 (suc (suc (i + i))) ≡ line 11
-  unfolding slotAt formOf forms
-  arg-slot i = let d : (suc (suc (i + i)) - 1) % 2 ≡ 1 = omega arith in ap₂ (λ b d. cond b (getD (line 3 ∷ []) (suc (suc (i + i))) nothing) (getD (line 1 ∷ line 11 ∷ []) d nothing)) (le-ltb (suc (suc (i + i))) 1 (omega arith)) d
-
   children : (j : ℕ) (l : List ℕ) → sizes (childrenOver ts value ns l) ≤ sumAt ws (refsFrom 11 47 (suc j) l)
   children j [] = omega arith
   children j (n ∷ l) = let a = k n in let b = children (suc j) l in let c = keep-this ws (slotAt 47 (suc j)) n (refsFrom 11 47 (suc (suc j)) l) (set-slot j) in omega (arith, a, b, c)
@@ -173,7 +166,7 @@ module _ {L : Type 0} (ts : List Ty) (value : ℕ → L) (ws : List ℕ) (ns : L
   arguments i [] = omega arith
   arguments i (t ∷ []) = omega arith
   arguments i (t ∷ n ∷ l) = let a = k n in let b = arguments (suc i) l in
-      let c = keep-this ws (slotAt 48 (suc (suc (i + i)))) n (refsFrom 11 48 (suc (suc (suc (i + i)))) l) (arg-slot i) in
+      let c = keep-this ws (slotAt 48 (suc (suc (i + i)))) n (refsFrom 11 48 (suc (suc (suc (i + i)))) l) (field-slot i) in
       let d = keep-more ws (isLine 11 (slotAt 48 (suc (i + i)))) t (keep (isLine 11 (slotAt 48 (suc (suc (i + i))))) n (refsFrom 11 48 (suc (suc (suc (i + i)))) l)) in
       let e : refsFrom 11 48 (suc (suc i + suc i)) l ≡ refsFrom 11 48 (suc (suc (suc (i + i)))) l = ap (λ j. refsFrom 11 48 j l) (omega arith) in
       let f = ap (sumAt ws) e in

@@ -31,7 +31,7 @@ abbrev pub wordOf : ℤ → ℕ
 wordOf (pos n) = half + n
 wordOf (negsuc n) = half - n - 1
 
-word-back : (w : ℕ) → wordOf (longAt w) ≡ w
+pub word-back : (w : ℕ) → wordOf (longAt w) ≡ w
 word-back w = go (leb half w) refl
   where
     go : (b : Bool) → leb half w ≡ b → wordOf (cond b (pos (w - half)) (negsuc (half - w - 1))) ≡ w
@@ -280,7 +280,7 @@ faithful-snoc : (pre : List (List ℕ)) (r : List ℕ) → Faithful pre → back
 faithful-snoc [] r f b = (b, tt)
 faithful-snoc (x ∷ pre) r f b = (f .0, faithful-snoc pre r (f .1) b)
 
-rows-snoc : (pre : List (List ℕ)) (r : List ℕ) → rowsIn (pre ++ (r ∷ [])) ≡ rowsIn pre ++ (valueRow r ∷ [])
+pub rows-snoc : (pre : List (List ℕ)) (r : List ℕ) → rowsIn (pre ++ (r ∷ [])) ≡ rowsIn pre ++ (valueRow r ∷ [])
 rows-snoc [] r = refl
 rows-snoc (x ∷ pre) r = ap (λ k. valueRow x ∷ k) (rows-snoc pre r)
 

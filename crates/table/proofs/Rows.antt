@@ -1,10 +1,8 @@
 -- Rows in words: by number, where they are left as they were, and one more. Assumes nothing.
 use mathlib.Core.Path.{_≡_, refl, sym, ap, ap₂, _∙_}
-use mathlib.Core.Bool.{Bool, true, _&&_, and-eq-true-iff}
-use mathlib.Core.Logic.{⊎-elim}
+use mathlib.Core.Bool.{true}
 use mathlib.Core.List.{List, [], _∷_}
 use Prim.Native.Nat.{ℕ, zero, suc, _+_, _-_, _≤_, _<_}
-use native.Mathlib.Nat.{eq-or-lt-of-le}
 use native.Mathlib.Numerals.{add-one}
 use native.Mathlib.Omega.{arith}
 use borrow.Author.Tests.{leb-true, ltb-true, eqb-true}
@@ -13,6 +11,8 @@ use lib.ListN.{length, getD, set, List·getD-map, List·getD-eq-default}
 use Rattle.sheet.specs.Forms.{forms, formOf, noForm, items, tag, at, TEXT}
 use Rattle.sheet.specs.State.{linesOf, lineAt, count}
 use Rattle.table.specs.Layout.{part, TOP, heap, bases, base, rowAt, rowsAt, rowsOf, textRows, linesHeld, held, textAt, withRow, limits, limit}
+use Rattle.sheet.proofs.Parsed.{allBelow, all-below}
+use Rattle.table.proofs.Counts.{small, entry-small, form-small, ranged}
 
 -- ---- the tables of keys and of places
 
@@ -24,71 +24,43 @@ key-is : (t : ℕ) → getD keysOfForms t 13 ≡ formOf t .key
 unfolding keysOfForms forms formOf
 key-is t = List·getD-map (λ f. f .key) forms t noForm
 
--- what a computed test says of every number below n
-allBelow : (ℕ → Bool) → ℕ → Bool
-allBelow f zero = true
-allBelow f (suc n) = f n && allBelow f n
-
-le-of-suc : (i n : ℕ) → i < suc n → i ≤ n
-le-of-suc i n h = omega arith
-
-below-all : (f : ℕ → Bool) (n : ℕ) → allBelow f n ≡ true → (i : ℕ) → i < n → f i ≡ true
-unfolding allBelow
-below-all f zero e i h = absurd (omega arith)
-below-all f (suc n) e i h =
-    let p = and-eq-true-iff (f n) (allBelow f n) .0 e in
-    ⊎-elim (λ q. rw q (p .0)) (λ l. below-all f n (p .1) i l) (eq-or-lt-of-le (le-of-suc i n h))
-
-small : ℕ → List ℕ → Bool
-small n [] = true
-small n (x ∷ l) = leb x n && small n l
-
-entry-small : (n : ℕ) (l : List ℕ) (i : ℕ) → small n l ≡ true → getD l i 0 ≤ n
-unfolding small
-entry-small n [] i e = omega arith
-entry-small n (x ∷ l) zero e = leb-true x n (and-eq-true-iff (leb x n) (small n l) .0 e .0)
-entry-small n (x ∷ l) (suc i) e = entry-small n l i (and-eq-true-iff (leb x n) (small n l) .0 e .1)
-
 pub base-small : (k : ℕ) → base k ≤ 2978
 unfolding base bases small
-base-small k = entry-small 2978 bases k refl
+base-small k = entry-small 2978 bases k 0 (omega arith) refl
 
 -- ---- the tables as the code decides them
 
 -- a number that is the key of every form from lo on, n of them
 key-among : (lo n : ℕ) (f : ℕ → ℕ) → allBelow (λ (i : ℕ). eqb (f (lo + i)) (getD keysOfForms (lo + i) 13)) n ≡ true → (t : ℕ) → lo ≤ t → t < lo + n → f t ≡ formOf t .key
-key-among lo n f e t l h =
-    let q : lo + (t - lo) ≡ t = omega arith in
-    let p : eqb (f (lo + (t - lo))) (getD keysOfForms (lo + (t - lo)) 13) ≡ true = below-all (λ (i : ℕ). eqb (f (lo + i)) (getD keysOfForms (lo + i) 13)) n e (t - lo) (omega arith) in
-    eqb-true (f t) (getD keysOfForms t 13) (rw (← q) p) ∙ key-is t
+key-among lo n f e t l h = eqb-true (f t) (getD keysOfForms t 13) (ranged (λ (i : ℕ). eqb (f i) (getD keysOfForms i 13)) lo n e t l h) ∙ key-is t
 
 module _ (t : ℕ) where
   pub key-request : 16 ≤ t → t < 21 → t - 10 ≡ formOf t .key
-  unfolding keysOfForms allBelow
+  unfolding keysOfForms
   key-request = key-among 16 5 (λ (i : ℕ). i - 10) refl t
 
   pub key-value : 10 ≤ t → t < 16 → 5 ≡ formOf t .key
-  unfolding keysOfForms allBelow
+  unfolding keysOfForms
   key-value = key-among 10 6 (λ (i : ℕ). 5) refl t
 
   pub key-shape : t ≡ 9 → 4 ≡ formOf t .key
-  unfolding keysOfForms allBelow
+  unfolding keysOfForms
   key-shape e = key-among 9 1 (λ (i : ℕ). 4) refl t (omega arith) (omega arith)
 
   pub key-type : 3 ≤ t → t < 10 → (t ≡ 9 → ⊥) → 3 ≡ formOf t .key
-  unfolding keysOfForms allBelow
+  unfolding keysOfForms
   key-type l h ne = key-among 3 6 (λ (i : ℕ). 3) refl t l (omega arith)
 
   pub key-first : t < 3 → t ≡ formOf t .key
-  unfolding keysOfForms allBelow
+  unfolding keysOfForms
   key-first h = key-among 0 3 (λ (i : ℕ). i) refl t (omega arith) h
 
   pub key-node : 21 ≤ t → t < 49 → 11 ≡ formOf t .key
-  unfolding keysOfForms allBelow
+  unfolding keysOfForms
   key-node = key-among 21 28 (λ (i : ℕ). 11) refl t
 
   pub key-policy : t ≡ 49 → 12 ≡ formOf t .key
-  unfolding keysOfForms allBelow
+  unfolding keysOfForms
   key-policy e = key-among 49 1 (λ (i : ℕ). 12) refl t (omega arith) (omega arith)
 
   pub key-none : 49 ≤ t → (t ≡ 49 → ⊥) → 13 ≡ formOf t .key
@@ -98,33 +70,33 @@ module _ (t : ℕ) where
 pub base-at : (k i v : ℕ) → k ≡ i → v ≡ base i → (v ≡ base k) × (v < heap)
 base-at k i v e q = (q ∙ ap base (sym e), omega (arith, q, base-small i))
 
-past : (k i : ℕ) → i ≤ k → (k ≡ i → ⊥) → suc i ≤ k
-past k i h ne = omega arith
+pub above : (k i : ℕ) → i ≤ k → (k ≡ i → ⊥) → suc i ≤ k
+above k i h ne = omega arith
 
 pub base-out : (k : ℕ) → (k ≡ 0 → ⊥) → (k ≡ 1 → ⊥) → (k ≡ 2 → ⊥) → (k ≡ 3 → ⊥) → (k ≡ 4 → ⊥) → (k ≡ 5 → ⊥) → (k ≡ 6 → ⊥) → (k ≡ 7 → ⊥) → (k ≡ 8 → ⊥) → (k ≡ 9 → ⊥) → (k ≡ 10 → ⊥) → (k ≡ 11 → ⊥) → (k ≡ 12 → ⊥) → (k ≡ 13 → ⊥) → (0 ≡ base k) × (0 < heap)
 unfolding base bases
 base-out k a b c d e f g i j l m n o p =
-    let h : 14 ≤ k = past k 13 (past k 12 (past k 11 (past k 10 (past k 9 (past k 8 (past k 7 (past k 6 (past k 5 (past k 4 (past k 3 (past k 2 (past k 1 (past k 0 (omega arith) a) b) c) d) e) f) g) i) j) l) m) n) o) p in
+    let h : 14 ≤ k = above k 13 (above k 12 (above k 11 (above k 10 (above k 9 (above k 8 (above k 7 (above k 6 (above k 5 (above k 4 (above k 3 (above k 2 (above k 1 (above k 0 (omega arith) a) b) c) d) e) f) g) i) j) l) m) n) o) p in
     (sym (List·getD-eq-default bases 0 h), omega arith)
 
 -- the regions of the index lie one after another
 pub regions-rise : (k j : ℕ) → k < 14 → j < k → base j + limit j < base k
-unfolding base bases limit limits allBelow
+unfolding base bases limit limits
 regions-rise k j h l =
     ltb-true (base j + limit j) (base k)
-    (below-all (λ (i : ℕ). ltb (base i + limit i) (base k)) k (below-all (λ (m : ℕ). allBelow (λ (i : ℕ). ltb (base i + limit i) (base m)) m) 14 refl k h) j l)
+    (all-below (λ (i : ℕ). ltb (base i + limit i) (base k)) k j (all-below (λ (m : ℕ). allBelow (λ (i : ℕ). ltb (base i + limit i) (base m)) m) 14 k refl h) l)
 
 pub regions-low : (k : ℕ) → k < 14 → 16 ≤ base k
-unfolding base bases allBelow
-regions-low k h = leb-true 16 (base k) (below-all (λ (m : ℕ). leb 16 (base m)) 14 refl k h)
+unfolding base bases
+regions-low k h = leb-true 16 (base k) (all-below (λ (m : ℕ). leb 16 (base m)) 14 k refl h)
 
 pub regions-high : (k : ℕ) → k < 14 → base k + limit k < heap
-unfolding base bases limit limits allBelow
-regions-high k h = ltb-true (base k + limit k) heap (below-all (λ (m : ℕ). ltb (base m + limit m) heap) 14 refl k h)
+unfolding base bases limit limits
+regions-high k h = ltb-true (base k + limit k) heap (all-below (λ (m : ℕ). ltb (base m + limit m) heap) 14 k refl h)
 
 pub limit-small : (k : ℕ) → limit k ≤ 1024
 unfolding limit limits small
-limit-small k = entry-small 1024 limits k refl
+limit-small k = entry-small 1024 limits k 0 (omega arith) refl
 
 -- ---- rows by number
 
@@ -228,10 +200,5 @@ with-row-is a k e top n b w₁ w₂ w₃ w₄ ht hn hb h₁ h₂ h₃ h₄ = rw 
 
 -- no key is past 13, which is no line's
 pub key-low : (t : ℕ) → formOf t .key ≤ 13
-unfolding keysOfForms small
-key-low t = rw (← (key-is t)) (entry-low keysOfForms t refl)
-  where
-    entry-low : (l : List ℕ) (i : ℕ) → small 13 l ≡ true → getD l i 13 ≤ 13
-    entry-low [] i e = omega arith
-    entry-low (x ∷ l) zero e = leb-true x 13 (and-eq-true-iff (leb x 13) (small 13 l) .0 e .0)
-    entry-low (x ∷ l) (suc i) e = entry-low l i (and-eq-true-iff (leb x 13) (small 13 l) .0 e .1)
+unfolding forms small
+key-low = form-small (λ f. f .key) 13 (omega arith) refl

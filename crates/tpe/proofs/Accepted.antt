@@ -1,30 +1,30 @@
 -- THE RUN OVER WORDS IS THE NUMBERED RUN, for every accepted partial sheet that the words hold, if they have room for what is made.
 use mathlib.Core.Path.{_≡_, refl, sym, _∙_, ap, ap₂, subst}
-use mathlib.Core.Bool.{true, false, cond}
+use mathlib.Core.Bool.{cond}
 use mathlib.Core.Option.{Option, some}
 use mathlib.Core.List.{List, [], _∷_, _++_, append-assoc, append-nil}
 use Prim.Native.Nat.{ℕ, zero, suc, _+_, _-_, _*_, _≤_, _<_}
 use native.Mathlib.Omega.{arith}
 use borrow.Author.Tests.{ltb-true}
-use lib.ListN.{length, getD, drop}
+use lib.ListN.{length, getD}
 use Rattle.cedar.specs.Types.{Ty, tbool, tent, Var, principal, action, resource, context}
-use Rattle.cedar.specs.Residual.{Node, err}
+use Rattle.cedar.specs.Residual.{err}
 use Rattle.cedar.specs.Rows.{Row, rent, sameRow}
 use Rattle.cedar.specs.Numbered.{NEnv, nInterpret}
 use Rattle.cedar.specs.Runs.{Run, nRun}
 use Rattle.cedar.proofs.TableLaws.{InN}
-use Rattle.sheet.specs.Forms.{Mode, partial, forms, formOf, slotAt, tag, items, at, keyOf, TYPE, VALUE, NODE, POLICY}
+use Rattle.sheet.specs.Forms.{Mode, partial, forms, formOf, slotAt, tag, at, keyOf, TYPE, VALUE, NODE, POLICY}
 use Rattle.sheet.specs.State.{State, linesOf, count, depthsOf, valueRow}
-use Rattle.sheet.specs.Sheet.{read, enough}
-use Rattle.sheet.specs.Content.{types, rowsIn, valueRows, contents, schema, nEnv, given, requestTy, entityLine, lineGiven, trees, numberedPolicies, nPolicies}
-use Rattle.sheet.specs.Answer.{size, run}
-use Rattle.sheet.proofs.Lines.{Was, History, accepted-history}
+use Rattle.sheet.specs.Sheet.{read}
+use Rattle.sheet.specs.Content.{types, rowsIn, valueRows, schema, nEnv, given, requestTy, entityLine, lineGiven, trees, numberedPolicies, nPolicies}
+use Rattle.sheet.specs.Answer.{run}
+use Rattle.sheet.proofs.Lines.{Was, accepted-history}
 use Rattle.sheet.proofs.Parsed.{tags-between}
 use Rattle.sheet.proofs.NodeRows.{row-read}
 use Rattle.sheet.proofs.MadeCount.{policySizes}
 use Rattle.sheet.proofs.PoliciesRead.{item-there, policy-tags}
 use Rattle.sheet.proofs.Environment.{Facts, thirteen}
-use Rattle.sheet.proofs.TypeNumbers.{Listed, TypesIn}
+use Rattle.sheet.proofs.TypeNumbers.{Listed, TypesIn, bool-listed}
 use Rattle.sheet.proofs.Depths.{Reached, read-reached, reached-depths, Depths}
 use Rattle.sheet.proofs.Depths as D
 use Rattle.sheet.proofs.Uses.{policies-small}
@@ -32,13 +32,12 @@ use Rattle.table.specs.Layout.{base, rowsAt, rowsOf, linesHeld, held, MADE, TOP
 use Rattle.table.proofs.Rows.{count-held, count-rows}
 use Rattle.value.specs.Lines.{valueLines, placeOf}
 use Rattle.value.proofs.Interned.{Formeds}
-use Rattle.tpe.specs.Run.{others, interpOf, ranFrom, runOf}
+use Rattle.tpe.specs.Run.{interpOf, ranFrom, runOf}
 use Rattle.tpe.proofs.Stands.{Hold, values, Room, tys, nodes, ty}
 use Rattle.tpe.proofs.Operations.{sch, env}
 use Rattle.tpe.proofs.Depth.{childrenOf, Proper, Deep, interp-is}
-use Rattle.tpe.proofs.Nodes.{Fact, node-fact}
+use Rattle.tpe.proofs.Nodes.{node-fact}
 use Rattle.tpe.proofs.Policies.{RunIs, AllWork, ran-is}
-use Rattle.tpe.proofs.Listing.{bool-listed}
 use Rattle.tpe.proofs.Readings.{Tabled, own-tabled, keeps-tabled, lists-types}
 use Rattle.tpe.proofs.KindLines.{kind-found, rows-formed}
 

@@ -32,7 +32,7 @@ use Rattle.tpe.proofs.Logic.{Works, then-more, and-is, or-is}
 use Rattle.tpe.proofs.Branches.{if-is}
 use Rattle.tpe.proofs.Paths.{path-is}
 use Rattle.tpe.proofs.Kids.{resultsOf, Kid, kid-none, kid-more, Takes, kids-are}
-use Rattle.tpe.proofs.Sets.{set-is, rec-is}
+use Rattle.tpe.proofs.Sets.{set-is, rec-is, drop-two}
 
 -- ---- what the request gives
 
@@ -72,10 +72,6 @@ module _ (S : Schema) (N : NEnv) (ts : List Ty) (trs : List (Node ℕ)) where
       ap (λ (o : OutArgs). record { rows = o .rows; trees = gcons t (nInterpret S N (getD trs x (err tbool)) R .tree) (o .trees) }) (args-are l (nInterpret S N (getD trs x (err tbool)) R .rows))
 
 -- ---- rows by tag
-
-two-down : (r : List ℕ) → drop 2 r ≡ drop 1 (items r)
-two-down [] = refl
-two-down (x ∷ r) = refl
 
 -- the children of a node's row, for each operation
 abbrev pub kidsFor : List ℕ → List (List ℕ)
@@ -263,7 +259,7 @@ module _ (m : Mode) (sheet a₀ : List ℕ) (kinds : (k : ℕ) → Listed (tys s
       (nStepSet (sch m sheet a₀) (env m sheet a₀) T (nInterprets (sch m sheet a₀) (env m sheet a₀) (childrenOver (tys sheet a₀) (λ n. n) trs (drop 1 (items r))) (values a))) (setStep m sheet f a l c r)
   unfolding setStep
   set-step below room e =
-      let k = kids-are m sheet a₀ P deep f c 1 2 (kid-all (drop 1 (items r)) below) (takes-all (drop 1 (items r)) 2 (two-down r)) a l 0 h good (less-room room) in
+      let k = kids-are m sheet a₀ P deep f c 1 2 (kid-all (drop 1 (items r)) below) (takes-all (drop 1 (items r)) 2 (drop-two r)) a l 0 h good (less-room room) in
       let n : length (drop 1 (items r)) ≡ length r - 2 = simp length-drop (omega arith) in
       rw (← n, same-row _ (k .hold))
       (is-as sheet a₀
@@ -276,7 +272,7 @@ module _ (m : Mode) (sheet a₀ : List ℕ) (kinds : (k : ℕ) → Listed (tys s
       (nStepRec (sch m sheet a₀) (env m sheet a₀) T (nInterpretArgs (sch m sheet a₀) (env m sheet a₀) (argsOver (tys sheet a₀) (λ n. n) trs (drop 1 (items r))) (values a))) (recStep m sheet f a l c r)
   unfolding recStep
   rec-step below room e even =
-      let k = kids-are m sheet a₀ P deep f c 2 2 (kid-args (drop 1 (items r)) below) (takes-args (drop 1 (items r)) 2 (two-down r)) a l 0 h good (less-room room) in
+      let k = kids-are m sheet a₀ P deep f c 2 2 (kid-args (drop 1 (items r)) below) (takes-args (drop 1 (items r)) 2 (drop-two r)) a l 0 h good (less-room room) in
       let w : length (drop 1 (items r)) ≡ length r - 2 = simp length-drop (omega arith) in
       let n : length (others (drop 1 (items r))) ≡ (length r - 2) / 2 = sym (div-eq-of-eq-mul-right (omega arith) (omega (arith, even, w))) in
       rw (← n, same-row _ (k .hold))

@@ -1,35 +1,24 @@
 -- The type line `entity,k` is found by its row, if there is one; and the value rows of a sheet that was read are formed.
-use mathlib.Core.Path.{_≡_, refl, sym, _∙_, ap, ap₂, subst}
-use mathlib.Core.Bool.{Bool, true, false, cond, and-eq-true-iff}
+use mathlib.Core.Path.{_≡_, refl, sym, _∙_, ap, subst}
+use mathlib.Core.Bool.{Bool, true, false, cond}
 use mathlib.Core.List.{List, [], _∷_, _++_, append-assoc}
-use Prim.Native.Nat.{ℕ, zero, suc, _<_, _≤_, _-_}
+use Prim.Native.Nat.{ℕ, zero, suc, _<_}
 use native.Mathlib.Nat.{le-of-suc-le-suc}
 use native.Mathlib.Omega.{arith}
-use borrow.Author.Tests.{eqb-true}
-use lib.Dec.{eqb}
 use lib.ListN.{length, getD}
-use Rattle.cedar.proofs.Tools.{no-true}
-use Rattle.cedar.specs.Canonical.{bit}
 use Rattle.cedar.specs.Types.{Ty, tbool, tlong, tstr, tent, tset, trec}
 use Rattle.sheet.specs.Bytes.{same}
 use Rattle.sheet.specs.Forms.{Mode, TYPE, VALUE}
-use Rattle.sheet.specs.State.{State, linesOf, count, Declared, TypeRow, bool, long, string, entity, set′, record′, typeRow}
+use Rattle.sheet.specs.State.{State, linesOf, count, TypeRow, bool, long, string, entity, set′, record′, typeRow}
 use Rattle.sheet.specs.Answer.{typeNumber}
 use Rattle.sheet.specs.Content.{types, tyOver}
 use Rattle.sheet.proofs.Lines.{History}
 use Rattle.sheet.proofs.ValueRows.{same-refl, value-back}
 use Rattle.sheet.proofs.Fitting.{ty-eq}
 use Rattle.sheet.proofs.TypeNumbers.{Listed, split-at, type-back, types-length}
+use Rattle.sheet.proofs.TwoSheets.{same-is}
 use Rattle.value.specs.Lines.{placeOf}
-use Rattle.value.proofs.Interned.{Formed, Formeds, none-formed, one-formed}
-
-same-words : (x y : List ℕ) → same x y ≡ true → x ≡ y
-same-words [] [] e = refl
-same-words [] (b ∷ y) e = no-true e
-same-words (a ∷ x) [] e = no-true e
-same-words (a ∷ x) (b ∷ y) e =
-    let p = and-eq-true-iff (eqb a b) (same x y) .0 e in
-    ap₂ (λ (h : ℕ) (l : List ℕ). h ∷ l) (eqb-true a b (p .0)) (same-words x y (p .1))
+use Rattle.value.proofs.Interned.{Formeds, none-formed, one-formed}
 
 -- a row that is there is found
 place-found : (q : List ℕ) (rows : List (List ℕ)) (y : ℕ) → y < length rows → getD rows y [] ≡ q → (placeOf q rows < length rows) × (getD rows (placeOf q rows) [] ≡ q)
@@ -40,7 +29,7 @@ place-found q (r ∷ rows) (suc y) lt e = go (same r q) refl (place-found q rows
   where
     go : (b : Bool) → same r q ≡ b → (placeOf q rows < length rows) × (getD rows (placeOf q rows) [] ≡ q)
         → (cond b 0 (suc (placeOf q rows)) < suc (length rows)) × (getD (r ∷ rows) (cond b 0 (suc (placeOf q rows))) [] ≡ q)
-    go true p ih = (omega arith, same-words r q p)
+    go true p ih = (omega arith, same-is r q p)
     go false p ih = (let z = ih .0 in omega (arith, z), ih .1)
 
 abbrev IsEnt : ℕ → Ty → Type 0

@@ -10,8 +10,6 @@ pub mod Sets
 pub mod EachStep
 pub mod Depth
 pub mod Policies
-pub mod Listing
-pub mod Typings
 pub mod Nodes
 pub mod Readings
 pub mod KindLines

@@ -1,34 +1,28 @@
 -- and, or, if over words are the numbered ones. Assumes nothing.
 use mathlib.Core.Path.{_≡_, refl, sym, _∙_, ap, ap₂, subst}
 use mathlib.Core.Bool.{Bool, true, false, cond}
-use mathlib.Core.List.{List, [], _∷_, _++_, append-assoc, append-nil}
-use Prim.Native.Nat.{ℕ, zero, suc, _+_, _-_, _*_, _≤_, _<_}
+use mathlib.Core.List.{List, [], _∷_, _++_, append-assoc}
+use Prim.Native.Nat.{ℕ, zero, suc, _+_, _≤_}
 use native.Mathlib.Omega.{arith}
 use lib.ListN.{length, getD, take, length-append}
 use Rattle.words.specs.Log.{appended}
 use Rattle.words.proofs.Logs.{appended-is}
 use Rattle.cedar.specs.Types.{Ty, Schema}
-use Rattle.cedar.specs.Residual.{Node, lit, err, and, or, ite, tyOf, canErr, Stage, value, error, open′, view, Class, ctrue, cfalse, cerror, copen}
+use Rattle.cedar.specs.Residual.{Node, lit, err, and, or, canErr, Stage, value, error, open′, view, Class, ctrue, cfalse, cerror, copen}
 use Rattle.cedar.specs.Rows.{Row, rbool}
 use Rattle.cedar.specs.Making.{intern}
-use Rattle.cedar.specs.Numbered.{NEnv, rowAt, Out, out, make, nClassOf, nClass, nAndOpen, nAnd, nOrOpen, nOr, nIfOpen, nIf, thenAnd, thenOr, thenIf}
-use Rattle.sheet.specs.Forms.{Mode, at, NODE}
-use Rattle.sheet.specs.State.{valueRow}
-use Rattle.table.specs.Layout.{rowsOf, MADE, TOP}
+use Rattle.cedar.specs.Numbered.{NEnv, Out, out, make, nClassOf, nClass, nAndOpen, nAnd, nOrOpen, nOr, thenAnd, thenOr}
+use Rattle.sheet.specs.Forms.{Mode, at}
 use Rattle.value.specs.Made.{boolRow, numberOf, withValue}
 use Rattle.value.proofs.Interned.{Interning, formed-bool}
-use Rattle.residual.specs.Rows.{litRow, wordAt, stageAt}
-use Rattle.residual.specs.Errs.{errs}
-use Rattle.residual.specs.Trees.{Res, rlit, Ress, rnil, rcons, flat, flats, countRes, leftTree, suits, treeOf, treesOf, Whole, whole-lit, whole-none, whole-more}
+use Rattle.residual.specs.Rows.{litRow}
+use Rattle.residual.specs.Trees.{Res, rlit, rnil, rcons, flat, flats, leftTree, suits, treeOf, treesOf, Whole, whole-lit, whole-none, whole-more}
 use Rattle.residual.proofs.Meaning.{stageFor}
-use Rattle.tpe.specs.Run.{O, left, Rec, errOf, leftOf, madeOf, Side, stops, goes, wrong, unsure, sideOf, classBy, classOf, decidedBy, secondBy, secondOf, firstBy, firstOf, splitOf, branchBy, branchOf}
-use Rattle.tpe.proofs.Stands.{Hold, values, Room, Space, Spent, space-spent, tys, nodes, ty, Is, is-as, is-up, whole-up, err-is, left-is, make-bool, make-is, made, made-hold, made-top, made-few, cut-back}
-use Rattle.tpe.proofs.Strict.{Over, over-left, last-stage, last-errs, first-errs}
+use Rattle.tpe.specs.Run.{O, left, Rec, errOf, leftOf, madeOf, stops, goes, wrong, unsure, sideOf, classBy, classOf, decidedBy, secondBy, secondOf, firstBy, firstOf}
+use Rattle.tpe.proofs.Stands.{Hold, values, Room, Space, tys, nodes, ty, Is, is-as, is-up, whole-up, err-is, left-is, make-bool, made, made-hold, cut-back}
+use Rattle.tpe.proofs.Strict.{over-left, last-stage, first-errs}
 use Rattle.tpe.proofs.Operations.{over2}
-
-bool-row : (b : Bool) → valueRow (boolRow b) ≡ rbool b
-bool-row true = refl
-bool-row false = refl
+use Rattle.tpe.proofs.Outcomes.{bool-row}
 
 class-by : (a : List ℕ) (s : Stage ℕ) → classBy a (stageFor s) ≡ nClassOf (values a) s
 unfolding classBy

@@ -1,29 +1,30 @@
 -- The nodes of a sheet that was read: each is the tree that its row says over the trees of its children, which are nodes of less depth.
 use mathlib.Core.Path.{_≡_, refl, sym, _∙_, ap, ap₂, subst}
-use mathlib.Core.Bool.{Bool, true, false, cond, _&&_, _||_}
+use mathlib.Core.Bool.{Bool, true, false, _&&_, _||_}
 use mathlib.Core.Option.{some}
-use mathlib.Core.List.{List, [], _∷_, _++_, append-assoc, append-nil}
+use mathlib.Core.List.{List, [], _∷_, _++_}
 use Prim.Native.Nat.{ℕ, zero, suc, _<_, _≤_, _+_, _-_, _*_, _%_}
 use native.Mathlib.Nat.{le-of-suc-le-suc}
 use native.Mathlib.Omega.{arith}
 use lib.Dec.{eqb, ltb}
 use lib.ListN.{length, getD, drop, length-append, List·getD-append}
 use Rattle.cedar.proofs.Tools.{no-true, eqb-true}
-use Rattle.cedar.proofs.TableLaws.{InN, now′, later′}
+use Rattle.cedar.proofs.TableLaws.{InN, now′, later′, nowhere}
 use Rattle.cedar.specs.Types.{Ty, tbool}
-use Rattle.cedar.specs.Residual.{Node, Nodes, NodeArgs, lit, err, var, and, or, ite, un, bin, rel, get, has, haspath, set, rec, enil, econs, gnil, gcons, Un, unot, uneg, uempty, uis, ulike, Bin, beq, blt, ble, badd, bsub, bmul, bcontains, ball, bany, Rel, rin, rgettag, rhastag}
-use Rattle.sheet.specs.Forms.{Mode, Slot, line, forms, formOf, slotAt, isLine, keep, refsFrom, refs, counted, itemsFrom, tag, items, at, keyOf, rowOf, NODE}
-use Rattle.sheet.specs.State.{State, linesOf, count, depthsOf}
+use Rattle.cedar.specs.Residual.{Node, err, and, or, ite, un, bin, rel, get, has, haspath, set, rec, econs, gcons, unot, uneg, uempty, uis, ulike, beq, blt, ble, badd, bsub, bmul, bcontains, ball, bany, rin, rgettag, rhastag}
+use Rattle.sheet.specs.Forms.{Mode, line, forms, formOf, slotAt, isLine, refsFrom, refs, counted, itemsFrom, tag, items, at, keyOf, rowOf, NODE}
+use Rattle.sheet.specs.State.{State, linesOf, count}
 use Rattle.sheet.specs.Content.{types, childrenOver, argsOver, treeFor, treeOver, treesFrom, trees, patternOf}
 use Rattle.sheet.proofs.Lines.{Was, History}
 use Rattle.sheet.proofs.Parsed.{parsed, tags-between}
 use Rattle.sheet.proofs.NodeRows.{row-read, plain-slots}
 use Rattle.sheet.proofs.ValueRows.{items-length}
 use Rattle.sheet.proofs.PoliciesRead.{all-there, node-tags}
-use Rattle.sheet.proofs.TypeNumbers.{split-at}
 use Rattle.sheet.proofs.TreesBack.{from-append}
 use Rattle.sheet.proofs.Slots.{set-slot, field-slot}
-use Rattle.sheet.proofs.Uses.{AllBelow, refs-below}
+use Rattle.sheet.proofs.Uses.{refs-below}
+use Rattle.sheet.proofs.Depths.{in-below}
+use Rattle.sheet.proofs.Shallow.{in-keep, this-kept}
 use Rattle.tpe.specs.Run.{others}
 use Rattle.tpe.proofs.EachStep.{kidsFor}
 use Rattle.tpe.proofs.Depth.{childrenOf}
@@ -31,9 +32,6 @@ use Rattle.tpe.proofs.Depth.{childrenOf}
 in-cons : {X : Type 0} {j x : ℕ} {l : List ℕ} → InN j (x ∷ l) → (j ≡ x → X) → (InN j l → X) → X
 in-cons now′ f g = f refl
 in-cons (later′ i) f g = g i
-
-in-none : {X : Type 0} {j : ℕ} → InN j [] → X
-in-none i = elim i [ ]
 
 -- ---- a tree depends on the trees of its row's children alone
 
@@ -88,16 +86,9 @@ module _ (ts : List Ty) (ns ms : List (Node ℕ)) where
 
 -- ---- the children of a row are its references
 
-in-keep : (b : Bool) (x y : ℕ) (l : List ℕ) → InN y l → InN y (keep b x l)
-in-keep true x y l i = later′ i
-in-keep false x y l i = i
-
-this-kept : (sl : Slot) (x : ℕ) (l : List ℕ) → sl ≡ line 11 → InN x (keep (isLine 11 sl) x l)
-this-kept sl x l e = subst (λ z. InN x (keep (isLine 11 z) x l)) (sym e) now′
-
 item-ref : (t j i : ℕ) (l : List ℕ) → i < length l → slotAt t (j + i) ≡ line 11 → InN (getD l i 0) (refsFrom 11 t j l)
 item-ref t j i [] lt e = absurd (omega arith)
-item-ref t j zero (x ∷ l) lt e = this-kept (slotAt t j) x (refsFrom 11 t (suc j) l) (ap (slotAt t) (omega arith) ∙ e)
+item-ref t j zero (x ∷ l) lt e = this-kept (isLine 11 (slotAt t j)) x (refsFrom 11 t (suc j) l) (ap (isLine 11) (ap (slotAt t) (omega arith) ∙ e))
 item-ref t j (suc i) (x ∷ l) lt e = in-keep (isLine 11 (slotAt t j)) x (getD l i 0) (refsFrom 11 t (suc j) l) (item-ref t (suc j) i l (le-of-suc-le-suc lt) (ap (slotAt t) (omega arith) ∙ e))
 
 module _ (t : ℕ) (l : List ℕ) where
@@ -106,41 +97,41 @@ module _ (t : ℕ) (l : List ℕ) where
   ref-at i lt e j q = subst (λ z. InN z (refsFrom 11 t 0 l)) (sym q) (item-ref t 0 i l lt (ap (slotAt t) (omega arith) ∙ e))
 
   one-refs : 2 ≤ length l → slotAt t 1 ≡ line 11 → (j : ℕ) → InN j (getD l 1 0 ∷ []) → InN j (refs 11 (t ∷ l))
-  one-refs h p j i = in-cons i (ref-at 1 (omega arith) p j) in-none
+  one-refs h p j i = in-cons i (ref-at 1 (omega arith) p j) nowhere
 
   two-refs : 3 ≤ length l → slotAt t 1 ≡ line 11 → slotAt t 2 ≡ line 11 → (j : ℕ) → InN j (getD l 1 0 ∷ getD l 2 0 ∷ []) → InN j (refs 11 (t ∷ l))
-  two-refs h p q j i = in-cons i (ref-at 1 (omega arith) p j) (λ k. in-cons k (ref-at 2 (omega arith) q j) in-none)
+  two-refs h p q j i = in-cons i (ref-at 1 (omega arith) p j) (λ k. in-cons k (ref-at 2 (omega arith) q j) nowhere)
 
   three-refs : 4 ≤ length l → slotAt t 1 ≡ line 11 → slotAt t 2 ≡ line 11 → slotAt t 3 ≡ line 11 → (j : ℕ) → InN j (getD l 1 0 ∷ getD l 2 0 ∷ getD l 3 0 ∷ []) → InN j (refs 11 (t ∷ l))
-  three-refs h p q r j i = in-cons i (ref-at 1 (omega arith) p j) (λ k. in-cons k (ref-at 2 (omega arith) q j) (λ k. in-cons k (ref-at 3 (omega arith) r j) in-none))
+  three-refs h p q r j i = in-cons i (ref-at 1 (omega arith) p j) (λ k. in-cons k (ref-at 2 (omega arith) q j) (λ k. in-cons k (ref-at 3 (omega arith) r j) nowhere))
 
 set-from : (i : ℕ) (l : List ℕ) (j : ℕ) → InN j l → InN j (refsFrom 11 47 (suc i) l)
 set-from i [] j k = k
-set-from i (x ∷ l) j k = in-cons k (λ e. subst (λ z. InN z (refsFrom 11 47 (suc i) (x ∷ l))) (sym e) (this-kept (slotAt 47 (suc i)) x (refsFrom 11 47 (suc (suc i)) l) (set-slot i)))
+set-from i (x ∷ l) j k = in-cons k (λ e. subst (λ z. InN z (refsFrom 11 47 (suc i) (x ∷ l))) (sym e) (this-kept (isLine 11 (slotAt 47 (suc i))) x (refsFrom 11 47 (suc (suc i)) l) (ap (isLine 11) (set-slot i))))
     (λ n. in-keep (isLine 11 (slotAt 47 (suc i))) x j (refsFrom 11 47 (suc (suc i)) l) (set-from (suc i) l j n))
 
 record-from : (i : ℕ) (l : List ℕ) (j : ℕ) → InN j (others l) → InN j (refsFrom 11 48 (suc (i + i)) l)
 record-from i [] j k = k
-record-from i (t ∷ []) j k = in-none k
+record-from i (t ∷ []) j k = nowhere k
 record-from i (t ∷ x ∷ l) j k = in-keep (isLine 11 (slotAt 48 (suc (i + i)))) t j _
-    (in-cons k (λ e. subst (λ z. InN z (refsFrom 11 48 (suc (suc (i + i))) (x ∷ l))) (sym e) (this-kept (slotAt 48 (suc (suc (i + i)))) x (refsFrom 11 48 (suc (suc (suc (i + i)))) l) (field-slot i)))
+    (in-cons k (λ e. subst (λ z. InN z (refsFrom 11 48 (suc (suc (i + i))) (x ∷ l))) (sym e) (this-kept (isLine 11 (slotAt 48 (suc (suc (i + i))))) x (refsFrom 11 48 (suc (suc (suc (i + i)))) l) (ap (isLine 11) (field-slot i))))
     (λ n. in-keep (isLine 11 (slotAt 48 (suc (suc (i + i))))) x j (refsFrom 11 48 (suc (suc (suc (i + i)))) l) (subst (λ z. InN j (refsFrom 11 48 z l)) (omega arith) (record-from (suc i) l j n))))
 
 set-refs : (l : List ℕ) (j : ℕ) → InN j (drop 1 l) → InN j (refs 11 (47 ∷ l))
 unfolding refs
-set-refs [] j i = in-none i
+set-refs [] j i = nowhere i
 set-refs (x ∷ l) j i = in-keep (isLine 11 (slotAt 47 0)) x j (refsFrom 11 47 1 l) (set-from 0 l j i)
 
 record-refs : (l : List ℕ) (j : ℕ) → InN j (others (drop 1 l)) → InN j (refs 11 (48 ∷ l))
 unfolding refs
-record-refs [] j i = in-none i
+record-refs [] j i = nowhere i
 record-refs (x ∷ l) j i = in-keep (isLine 11 (slotAt 48 0)) x j (refsFrom 11 48 1 l) (record-from 0 l j i)
 
 kid-refs : (x : ℕ) → x ≤ 27 → (l : List ℕ) → length (formOf (21 + x) .items) ≤ length l → (j : ℕ) → InN j (getD (kidsFor ((21 + x) ∷ l)) x []) → InN j (refs 11 ((21 + x) ∷ l))
 unfolding slotAt formOf forms
-kid-refs zero small l h j i = in-none i
-kid-refs (suc zero) small l h j i = in-none i
-kid-refs (suc (suc zero)) small l h j i = in-none i
+kid-refs zero small l h j i = nowhere i
+kid-refs (suc zero) small l h j i = nowhere i
+kid-refs (suc (suc zero)) small l h j i = nowhere i
 kid-refs (suc (suc (suc zero))) small l h j i = two-refs 24 l h refl refl j i
 kid-refs (suc (suc (suc (suc zero)))) small l h j i = two-refs 25 l h refl refl j i
 kid-refs (suc (suc (suc (suc (suc zero))))) small l h j i = two-refs 26 l h refl refl j i
@@ -236,10 +227,6 @@ module _ (ts : List Ty) where
       ∙ tree-same ts ns (from [] (pre ++ (r ∷ rest))) r (tag r - 21)
       (λ j i. let lt = below j i in sym (ap (λ (x : List (Node ℕ)). getD x j (err tbool)) e ∙ from-before (ns ++ (a ∷ [])) rest j (omega (arith, n, z, lt)) ∙ List·getD-append ns (a ∷ []) (err tbool) j (omega (arith, n, lt))))
 
-below-in : (k : ℕ) (l : List ℕ) (j : ℕ) → AllBelow k l → InN j l → j < k
-below-in k [] j h i = in-none i
-below-in k (x ∷ l) j h i = in-cons i (λ e. subst (λ z. z < k) (sym e) (h .0)) (λ n. below-in k l j (h .1) n)
-
 -- ---- a node's row as it was read
 
 pub record Fact (s : State) (c : ℕ) : Type 0 where
@@ -266,7 +253,7 @@ module _ (m : Mode) (s : State) where
 
   row-below : (pre : List (List ℕ)) (r : List ℕ) → Was m s NODE pre r → (j : ℕ) → InN j (refs NODE r) → j < length pre
   unfolding refs
-  row-below pre r w j i = subst (λ z. j < length z) (w .mine) (below-in (count (w .was) 11) (refsFrom 11 (tag r) 0 (items r)) j (refs-below (w .was) 11 (tag r) 0 (items r) (all-there (w .was) NODE r (w .pass .refers))) i)
+  row-below pre r w j i = subst (λ z. j < length z) (w .mine) (in-below (count (w .was) 11) (refsFrom 11 (tag r) 0 (items r)) j (refs-below (w .was) 11 (tag r) 0 (items r) (all-there (w .was) NODE r (w .pass .refers))) i)
 
   pub node-fact : History m s → (c : ℕ) → c < count s NODE → Fact s c
   unfolding keyOf trees

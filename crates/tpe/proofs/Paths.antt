@@ -1,38 +1,33 @@
 -- `haspath` over words is the numbered one: the walk, and what is left over of it with its types. Assumes nothing.
-use mathlib.Core.Path.{_≡_, refl, sym, _∙_, ap, ap₂, subst}
-use mathlib.Core.Bool.{Bool, true, false, cond}
+use mathlib.Core.Path.{_≡_, refl, _∙_, ap}
+use mathlib.Core.Bool.{Bool, true, false}
 use mathlib.Core.Option.{Option, none, some}
-use mathlib.Core.List.{List, [], _∷_, _++_, append-assoc, append-nil}
-use Prim.Native.Nat.{ℕ, zero, suc, _+_, _-_, _*_, _≤_, _<_}
+use mathlib.Core.List.{List, [], _∷_}
+use Prim.Native.Nat.{ℕ, zero, suc, _+_, _≤_}
 use native.Mathlib.Omega.{arith}
-use lib.ListN.{length, getD, take, drop, length-append}
+use lib.ListN.{length, getD, take, drop}
 use Rattle.words.specs.Log.{appended}
 use Rattle.words.proofs.Logs.{appended-is}
 use Rattle.cedar.specs.Value.{onSome}
-use Rattle.cedar.specs.Types.{Ty, tent, Schema}
+use Rattle.cedar.specs.Types.{Ty, tent}
 use Rattle.cedar.specs.Residual.{Node, lit, err, haspath, tyOf, canErr, Stage, value, error, open′, view}
 use Rattle.cedar.specs.TypeRules.{hasRule}
 use Rattle.cedar.specs.Rows.{Entries, Row, rbool, rlong, rtext, rent, rset, rrec}
 use Rattle.cedar.specs.Numbered.{Give, NEnv, giveRow, rRec, nentity, onEntries, rowAt, isSome, entryOf, Out, out, make, nByRule, nLeft, nWalk, nPath, nStepPath}
-use Rattle.sheet.specs.Forms.{Mode, items, at, TYPE, NODE}
-use Rattle.sheet.specs.State.{valueRow}
+use Rattle.sheet.specs.Forms.{Mode, items, at, TYPE}
 use Rattle.sheet.proofs.TypeNumbers.{Listed, TypesIn}
-use Rattle.table.specs.Layout.{rowsOf, MADE, TOP}
+use Rattle.table.specs.Layout.{rowsOf}
 use Rattle.value.specs.Lines.{placeOf}
 use Rattle.value.specs.Made.{boolRow}
-use Rattle.residual.specs.Rows.{litRow, wordAt, stageAt}
-use Rattle.residual.specs.Errs.{errs}
+use Rattle.residual.specs.Rows.{litRow, wordAt}
 use Rattle.residual.specs.Trees.{rlit, rnil, rcons, flat, flats, leftTree, suits, treeOf, treesOf, whole-lit, whole-none, whole-more}
-use Rattle.residual.proofs.Blocks.{bodyOf, flat-length}
+use Rattle.residual.proofs.Blocks.{flat-length}
 use Rattle.residual.proofs.Meaning.{stageFor}
-use Rattle.tpe.specs.Run.{O, errOf, leftOf, madeOf, Walk, lost, says, stuck, walkFrom, entityType, stuckOf, walkedOf, pathBy, pathOf, schemaIn, envIn, tyIn}
-use Rattle.tpe.proofs.Stands.{Hold, values, schema-is, types-are, env-is, Room, Space, Spent, space-spent, tys, nodes, ty, Is, is-as, is-up, err-is, left-is, make-bool, cut-back}
+use Rattle.tpe.specs.Run.{O, errOf, leftOf, madeOf, Walk, lost, says, stuck, walkFrom, entityType, stuckOf, walkedOf, pathBy, pathOf, tyIn}
+use Rattle.tpe.proofs.Stands.{Hold, values, schema-is, types-are, env-is, Room, Space, space-spent, tys, nodes, ty, Is, err-is, left-is, make-bool, cut-back}
 use Rattle.tpe.proofs.Strict.{Over, over1, over-left, over-ruled, last-stage, last-type, last-errs}
 use Rattle.tpe.proofs.Operations.{sch, env}
-
-bool-row : (b : Bool) → valueRow (boolRow b) ≡ rbool b
-bool-row true = refl
-bool-row false = refl
+use Rattle.tpe.proofs.Outcomes.{bool-row}
 
 -- two ways to take entries apart, alike
 entries-both : {A B : Type 0} (Q : A → B → Type 0) (N : NEnv) (R : List Row) (d : A) (e : B) (u : ℕ → ℕ → A) (v : ℕ → ℕ → B) (f : Entries → A) (g : Entries → B)

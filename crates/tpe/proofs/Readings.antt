@@ -1,16 +1,13 @@
 -- Over values that read as the sheet's contents with those made, every node's interpretation keeps them so, and all its types have lines.
-use mathlib.Core.Path.{_≡_, refl, sym, _∙_, ap, ap₂, subst}
 use mathlib.Core.Bool.{false}
-use mathlib.Core.List.{List, [], _∷_, _++_}
-use Prim.Native.Nat.{ℕ, zero, suc, _<_, _≤_, _-_}
-use native.Mathlib.Omega.{arith}
-use borrow.Author.Tests.{ltb-true}
-use lib.ListN.{length, getD}
+use mathlib.Core.List.{List, [], _∷_}
+use Prim.Native.Nat.{ℕ, _<_}
+use lib.ListN.{getD}
 use Rattle.cedar.specs.Value.{Value, vbool}
-use Rattle.cedar.specs.Types.{Ty, tbool}
-use Rattle.cedar.specs.Residual.{Node, err, Expr}
+use Rattle.cedar.specs.Types.{tbool}
+use Rattle.cedar.specs.Residual.{err}
 use Rattle.cedar.specs.Rows.{Row}
-use Rattle.cedar.specs.Table.{At, Table}
+use Rattle.cedar.specs.Table.{Table}
 use Rattle.cedar.specs.Reads.{Reads}
 use Rattle.cedar.specs.Runs.{NPolicy, Policy}
 use Rattle.cedar.specs.Interpret.{interpret}
@@ -19,21 +16,18 @@ use Rattle.cedar.specs.Typing.{Typed}
 use Rattle.cedar.proofs.ReadsLaws.{Refines, Keeps, keep-reads}
 use Rattle.cedar.proofs.ReadsOps.{keep-env}
 use Rattle.cedar.proofs.Refine.{refine}
-use Rattle.cedar.proofs.SettledByNumber.{ReadPolicies, done, also}
+use Rattle.cedar.proofs.SettledByNumber.{ReadPolicies, also}
 use Rattle.cedar.proofs.TypesKept.{reads-hold, types-kept}
-use Rattle.sheet.specs.Forms.{Mode, partial, forms, formOf, slotAt, tag, at, keyOf, NODE}
+use Rattle.sheet.specs.Forms.{partial, at, NODE}
 use Rattle.sheet.specs.State.{State, linesOf, count}
 use Rattle.sheet.specs.Content.{types, contents, trees, exprs, schema, nEnv, pEnv, valueRows}
 use Rattle.sheet.proofs.Lines.{History}
-use Rattle.sheet.proofs.Parsed.{tags-between}
-use Rattle.sheet.proofs.NodeRows.{row-read}
 use Rattle.sheet.proofs.ValueRows.{values-table}
-use Rattle.sheet.proofs.PoliciesRead.{item-there, node-tags, read-policies}
-use Rattle.sheet.proofs.Environment.{Facts, env-read, there-value}
+use Rattle.sheet.proofs.PoliciesRead.{read-policies, every-node}
+use Rattle.sheet.proofs.Environment.{Facts, env-read}
 use Rattle.sheet.proofs.EnvFit.{known-fits}
-use Rattle.sheet.proofs.TypeNumbers.{Listed, TypesIn}
-use Rattle.tpe.proofs.Listing.{below-listed, hold-from, any-listed}
-use Rattle.tpe.proofs.Typings.{every-node}
+use Rattle.sheet.proofs.TypeNumbers.{Listed, TypesIn, below-listed, hold-from, any-listed}
+use Rattle.sheet.proofs.OwnPolicies.{lit-there}
 
 -- the rows read as contents that begin with the sheet's
 pub record Tabled (s : State) (R : List Row) : Type 0 where
@@ -51,19 +45,10 @@ module _ (s : State) (f : Facts partial s) where
   abbrev h : History partial s
   h = f .history
 
-  lit-there : (pre : List (List ℕ)) (r : List ℕ) (rest : List (List ℕ)) → linesOf s NODE ≡ pre ++ (r ∷ rest) → tag r - 21 ≡ 0 → At (contents s) (at r 1) (getD (contents s) (at r 1) (vbool false))
-  unfolding keyOf slotAt formOf forms
-  lit-there pre r rest e z =
-      let w = f .history NODE pre r rest e in
-      let (lo, hi) = tags-between 11 21 48 (tag r) (omega arith) node-tags (w .key) in
-      let rd = row-read partial r (w .line) 21 (w .row) (omega (arith, lo, z)) (omega arith) (omega arith) (λ z. absurd (omega (arith, z))) in
-      let lt = ltb-true (at r 1) (count (w .was) 5) (item-there partial s (w .was) NODE r 21 rd (w .pass .refers) 1 (ltb-true 1 2 refl)) in
-      there-value partial s (f .history) (at r 1) (subst (λ l. at r 1 < length l) (w .earlier 5 (omega arith)) lt)
-
   -- every node reads
   node-reads : (c : ℕ) → Reads (contents s) (getD (trees s) c (err tbool)) (getD (exprs s) c (err tbool))
   unfolding trees exprs
-  node-reads c = head-reads (read-policies (contents s) (types s) (λ n. getD (contents s) n (vbool false)) (linesOf s NODE) ((49 ∷ 0 ∷ 0 ∷ c ∷ []) ∷ []) lit-there)
+  node-reads c = head-reads (read-policies (contents s) (types s) (λ n. getD (contents s) n (vbool false)) (linesOf s NODE) ((49 ∷ 0 ∷ 0 ∷ c ∷ []) ∷ []) (lit-there partial s (f .history)))
 
   refined : (c : ℕ) (R : List Row) (t : Tabled s R) → Refines (t .all) (nInterpret (schema s) (nEnv partial s) (getD (trees s) c (err tbool)) R) (interpret (schema s) (pEnv s) (getD (exprs s) c (err tbool)))
   refined c R t = refine (schema s) (nEnv partial s) (pEnv s) (getD (trees s) c (err tbool)) (t .table) (keep-env (t .keeps) (env-read s f)) (keep-reads (t .keeps) (node-reads c))

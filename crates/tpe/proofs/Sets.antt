@@ -1,30 +1,30 @@
 -- Sets and records over words are the numbered ones. Assumes nothing.
-use mathlib.Core.Path.{_≡_, refl, sym, _∙_, ap, ap₂, subst}
+use mathlib.Core.Path.{_≡_, refl, sym, _∙_, ap, subst}
 use mathlib.Core.Bool.{Bool, true, false, cond, _||_}
 use mathlib.Core.Option.{Option, none, some, Option·some-injective}
-use mathlib.Core.List.{List, [], _∷_, _++_, append-assoc, append-nil}
-use Prim.Native.Nat.{ℕ, zero, suc, _+_, _-_, _*_, _≤_, _<_, compare, Ordering, Ordering·lt, Ordering·eq, Ordering·gt}
+use mathlib.Core.List.{List, [], _∷_, _++_}
+use Prim.Native.Nat.{ℕ, suc, _+_, _*_, _≤_, compare, Ordering, Ordering·lt, Ordering·eq, Ordering·gt}
 use native.Mathlib.Omega.{arith}
 use lib.ListN.{length, getD, take, drop, length-append}
 use lib.Seq.{drop-append-seam}
 use Rattle.cedar.specs.Value.{onSome}
-use Rattle.cedar.specs.Types.{Ty, Schema}
-use Rattle.cedar.specs.Residual.{Node, Nodes, NodeArgs, enil, econs, gnil, gcons, err, set, rec, Stage, value, error, open′, view, isError, anyError, anyErrorArg}
+use Rattle.cedar.specs.Types.{Ty}
+use Rattle.cedar.specs.Residual.{Node, err, set, rec, Stage, value, error, open′, view, isError, anyError, anyErrorArg}
 use Rattle.cedar.specs.Rows.{Entries, stop, entry, Row, rset, rrec}
 use Rattle.cedar.specs.Making.{insertN, placeN, sortN}
-use Rattle.cedar.specs.Numbered.{Out, out, make, consN, numbers, entryN, entries}
+use Rattle.cedar.specs.Numbered.{out, make, consN, numbers, entryN, entries}
 use Rattle.cedar.proofs.Tools.{no-some}
 use Rattle.sheet.specs.Forms.{Mode, items, at}
 use Rattle.sheet.specs.State.{valueRow, entriesOf}
-use Rattle.table.specs.Layout.{MADE, TOP}
 use Rattle.value.specs.Made.{valuesIn, setRow, pairsOf, recordRow, written}
 use Rattle.value.proofs.Interned.{Formed, formed-set, formed-record}
 use Rattle.value.proofs.Fills.{written-is}
-use Rattle.residual.specs.Trees.{Res, rlit, rerr, rleft, Ress, rnil, rcons, flat, flats, countRes, nodesOf, argsOf, leftTree, suits, tyAt, treeOf, treesOf, Whole, whole-lit, whole-err, whole-left, Wholes, whole-none, whole-more}
+use Rattle.residual.specs.Trees.{Res, rlit, rerr, rleft, Ress, rnil, rcons, flat, flats, countRes, nodesOf, argsOf, leftTree, suits, tyAt, treeOf, treesOf, Whole, whole-left, Wholes, whole-more}
 use Rattle.residual.proofs.Blocks.{left-open}
-use Rattle.tpe.specs.Run.{O, Kids, madeOf, errOf, leftOf, manyOf, setOf, recOf}
-use Rattle.tpe.proofs.Stands.{Hold, values, Room, Space, Spent, space-spent, tys, nodes, ty, Is, is-as, err-is, left-is, make-is, cut-back}
-use Rattle.tpe.proofs.Kids.{Results, bad, vals, joins, join-none, Are}
+use Rattle.residual.proofs.Meaning.{trees-count, suited}
+use Rattle.tpe.specs.Run.{Kids, madeOf, errOf, leftOf, manyOf, setOf, recOf}
+use Rattle.tpe.proofs.Stands.{values, Room, Spent, tys, nodes, ty, Is, is-as, err-is, left-is, make-is, cut-back}
+use Rattle.tpe.proofs.Kids.{Results, bad, vals, join-none, Are}
 
 -- ---- lists of trees as children
 
@@ -106,17 +106,12 @@ value-in {v} e = ap (λ (s : Stage ℕ). got s) e
     got open′ = 0
 
 module _ (ts : List Ty) (ns : List (List ℕ)) where
-  trees-count : (rs : Ress) → length (treesOf ts ns rs) ≡ countRes rs
-  unfolding treesOf
-  trees-count rnil = refl
-  trees-count (rcons r rs) = ap suc (trees-count rs)
-
   -- a residual that is a value is its row
   lit-flat : {X : Type 0} {d : ℕ} (r : Res) → Whole ts ns d r → (v : ℕ) → view (treeOf ts ns r) ≡ value v → ((y : ℕ) → flat r ≡ 0 ∷ v ∷ 4 ∷ y ∷ [] → X) → X
   unfolding flat treeOf
   lit-flat (rlit w y) h v e f = f y (ap (λ (x : ℕ). 0 ∷ x ∷ 4 ∷ y ∷ []) (value-in e))
   lit-flat (rerr y) h v e f = value-not e
-  lit-flat (rleft n k y rs) (whole-left s ws) v e f = open-not (sym (left-open (getD ns n []) k (tyAt ts ns y) (treesOf ts ns rs) (ap (suits (getD ns n [])) (trees-count rs) ∙ s)) ∙ e)
+  lit-flat (rleft n k y rs) (whole-left s ws) v e f = open-not (sym (left-open (getD ns n []) k (tyAt ts ns y) (treesOf ts ns rs) (suited ts ns n rs s)) ∙ e)
 
   pub values-in : {d : ℕ} (rs : Ress) → Wholes ts ns d rs → (vs : List ℕ) → vals (treesOf ts ns rs) ≡ some vs → valuesIn (flats rs) ≡ vs
   unfolding valuesIn flats treesOf
@@ -153,11 +148,11 @@ insert-short m (n ∷ l) = go (compare m n) (insert-short m l)
     go Ordering·eq h = omega arith
     go Ordering·gt h = omega (arith, h)
 
-sort-short : (l : List ℕ) → length (sortN l) ≤ length l
+pub sort-short : (l : List ℕ) → length (sortN l) ≤ length l
 sort-short [] = omega arith
 sort-short (n ∷ l) = let a = insert-short n (sortN l) in let b = sort-short l in omega (arith, a, b)
 
-drop-two : (r : List ℕ) → drop 2 r ≡ drop 1 (items r)
+pub drop-two : (r : List ℕ) → drop 2 r ≡ drop 1 (items r)
 drop-two [] = refl
 drop-two (t ∷ l) = refl
 

@@ -53,7 +53,7 @@ same-back : (z : ℤ) → wordsOf (rlong z) ≡ back (rlong z)
 same-back (pos n) = refl
 same-back (negsuc n) = refl
 
-long-words : (w : ℕ) → wordsOf (rlong (longAt w)) ≡ longRow w
+pub long-words : (w : ℕ) → wordsOf (rlong (longAt w)) ≡ longRow w
 long-words w = same-back (longAt w) ∙ ap back (sym (long-row w)) ∙ formed-long w
 
 module _ (a b b′ : List ℕ) (start bt e n y : ℕ) (g : Given) (room : Room b bt) (le : start ≤ bt) where
@@ -116,7 +116,7 @@ module _ (a a′ b b′ : List ℕ) (bt e n y x : ℕ) where
   unfolding envIn nEnv held linesHeld
   var-resource q h = rw q h
 
-var-last : (x : ℕ) → (x ≡ 0 → ⊥) → (x ≡ 1 → ⊥) → (x ≡ 2 → ⊥) → varOf x ≡ context
+pub var-last : (x : ℕ) → (x ≡ 0 → ⊥) → (x ≡ 1 → ⊥) → (x ≡ 2 → ⊥) → varOf x ≡ context
 var-last zero i j k = absurd (i refl)
 var-last (suc zero) i j k = absurd (j refl)
 var-last (suc (suc zero)) i j k = absurd (k refl)

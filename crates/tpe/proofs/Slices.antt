@@ -1,17 +1,17 @@
 -- What the code reads in a slice, up to the end of a log, is what the log holds. Assumes nothing.
-use mathlib.Core.Path.{_≡_, refl, sym, _∙_, ap, ap₂}
-use mathlib.Core.Bool.{Bool, true, false, cond, _||_}
+use mathlib.Core.Path.{_≡_, refl, _∙_, ap, ap₂}
+use mathlib.Core.Bool.{Bool, false, cond, _||_}
 use mathlib.Core.List.{List}
 use Prim.Native.Nat.{ℕ, zero, suc, _+_, _-_, _≤_, _<_}
 use native.Mathlib.Omega.{arith}
 use native.Mathlib.Decide.{decLt}
-use borrow.Author.Tests.{lt-ltb, le-ltb, leb-false}
-use lib.Dec.{eqb, ltb, leb}
+use borrow.Author.Tests.{lt-ltb, le-ltb}
+use lib.Dec.{ltb, leb}
 use lib.ListN.{getD, take}
 use Rattle.words.proofs.Logs.{log-read}
-use Rattle.sheet.specs.Forms.{tag}
 use Rattle.residual.specs.Rows.{wordAt, stageOf, stageAt, blockWords, startAt}
-use Rattle.residual.specs.Errs.{opErrs, blocksBy, blocksErr, rowErrs, errsBy, errs}
+use Rattle.residual.specs.Errs.{blocksBy, blocksErr, rowErrs, errsBy, errs}
+use Rattle.residual.proofs.Steps.{start-low}
 
 module _ (b : List ℕ) (bt : ℕ) where
   pub word-log : (e j : ℕ) → e ≤ bt → j < 4 → wordAt b e j ≡ wordAt (take bt b) e j
@@ -29,10 +29,6 @@ module _ (b : List ℕ) (bt : ℕ) where
   pub start-log : (e : ℕ) → e ≤ bt → startAt b e ≡ startAt (take bt b) e
   unfolding startAt
   start-log e h = ap (λ (n : ℕ). e - blockWords n) (word-log e 2 h (omega arith))
-
-  start-low : (l : List ℕ) (p : ℕ) → startAt l p ≤ p
-  unfolding startAt
-  start-low l p = omega arith
 
   module _ (f g : ℕ → Bool) (same : (p : ℕ) → p ≤ bt → f p ≡ g p) where
     by-log : (start n p : ℕ) → p ≤ bt → blocksBy f b start n p ≡ blocksBy g (take bt b) start n p

@@ -1,34 +1,24 @@
 -- Strict operations over operands that are worked: what they leave stands for what the numbered steps leave. Assumes nothing.
-use mathlib.Core.Path.{_≡_, refl, sym, _∙_, ap, ap₂, subst}
-use mathlib.Core.Bool.{Bool, true, false, cond, _||_}
+use mathlib.Core.Path.{_≡_, sym, _∙_, ap}
+use mathlib.Core.Bool.{Bool, true, false, _||_}
 use mathlib.Core.Option.{Option, none, some}
 use mathlib.Core.List.{List, [], _∷_, _++_, append-assoc, append-nil}
-use Prim.Native.Nat.{ℕ, zero, suc, _+_, _-_, _*_, _≤_, _<_}
+use Prim.Native.Nat.{ℕ, suc, _+_, _*_, _≤_}
 use native.Mathlib.Omega.{arith}
 use lib.ListN.{length, getD, take, length-append}
-use Rattle.cedar.specs.Types.{Ty, Schema}
-use Rattle.cedar.specs.Residual.{Node, lit, err, un, bin, rel, get, has, Un, Bin, Rel, tyOf, canErr, Stage, value, error, open′, view}
-use Rattle.cedar.specs.TypeRules.{unRule, binRule, relRule, hasRule}
+use Rattle.cedar.specs.Residual.{Node, err, tyOf, canErr, Stage, value, error, open′, view}
 use Rattle.cedar.specs.Rows.{Row, rbool}
-use Rattle.cedar.specs.Numbered.{Give, made, old, NEnv, NOut, give, fails, stays, rowAt, Out, out, make, giveLit, nSettle, nStrict1, nStrict2, nByRule, nUn, nBin, nRel, nGet, nHas, nStepUn, nStepBin, nStepRel, nStepGet, nStepHas}
-use Rattle.sheet.specs.Forms.{Mode, at, NODE}
-use Rattle.sheet.specs.State.{valueRow}
-use Rattle.sheet.specs.Content.{schema, nEnv}
-use Rattle.table.specs.Layout.{rowsOf, held, MADE, TOP}
+use Rattle.cedar.specs.Numbered.{Give, made, old, NOut, give, fails, stays, Out, out, make, giveLit, nSettle, nStrict1, nStrict2, nByRule}
+use Rattle.sheet.specs.Forms.{NODE}
+use Rattle.table.specs.Layout.{rowsOf}
 use Rattle.value.specs.Made.{boolRow}
 use Rattle.residual.specs.Rows.{wordAt, stageAt}
 use Rattle.residual.specs.Errs.{errs}
-use Rattle.residual.specs.Trees.{Res, Ress, rnil, rcons, flat, flats, countRes, leftTree, suits, treeOf, treesOf, Whole, Wholes, whole-none, whole-more}
+use Rattle.residual.specs.Trees.{Ress, rnil, rcons, flat, flats, countRes, leftTree, suits, treesOf, Wholes, whole-none, whole-more}
 use Rattle.residual.proofs.Meaning.{stageFor}
-use Rattle.residual.specs.declared.Stage.the-variants.{Value, Error, Open}
-use Rattle.residual.specs.declared.Stage.{Stage as Stageʳ}
-use Rattle.tpe.specs.Run.{O, left, litOf, errOf, leftOf, madeOf, wordsOf, giveOf, settleOf, ruledOf, worked1, worked2, oneOf, twoOf, unOf, binOf, relOf, getOf, hasOf, schemaIn, envIn, tyIn}
-use Rattle.tpe.proofs.Outcomes.{RowFine, GiveFine, Fine, words-row, words-formed, words-short, made-un, made-bin, made-rel, made-get, made-has}
-use Rattle.tpe.proofs.Stands.{Hold, values, schema-is, types-are, env-is, Room, Space, Spent, space-spent, tys, nodes, ty, Is, is-as, stage-there, type-there, errs-there, lit-is, err-is, left-is, make-is, make-bool, cut-back}
-
-bool-row : (b : Bool) → valueRow (boolRow b) ≡ rbool b
-bool-row true = refl
-bool-row false = refl
+use Rattle.tpe.specs.Run.{O, left, errOf, leftOf, madeOf, wordsOf, giveOf, settleOf, ruledOf, worked1, worked2, oneOf, twoOf}
+use Rattle.tpe.proofs.Outcomes.{RowFine, GiveFine, Fine, words-row, words-formed, words-short, bool-row}
+use Rattle.tpe.proofs.Stands.{Hold, values, Room, Space, Spent, space-spent, tys, nodes, ty, Is, is-as, stage-there, type-there, errs-there, lit-is, err-is, left-is, make-is, make-bool, cut-back}
 
 -- the operands rs stand on the log l₁ from l on, and the words are a₁: node c, of type y, would be left over them as `keep`
 pub record Over (sheet a₀ : List ℕ) (d n : ℕ) (a l a₁ l₁ : List ℕ) (R : List Row) (c y : ℕ) (keep : Node ℕ) : Type 0 where

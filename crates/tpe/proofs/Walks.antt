@@ -79,12 +79,13 @@ module _ (a : List ℕ) (k n : ℕ) where
 
 -- ---- the walk
 
-abbrev partGive : Part → Option Give
+-- an unlisted entity has no attributes
+abbrev pub partGive : Part → Option Give
 partGive (Known n) = some (old n)
 partGive Empty = some (made (rrec stop))
 partGive Unknown = none
 
-known-or : (x : ℕ) (b : Bool) → cond b none (some (old x)) ≡ partGive (cond b Unknown (Known x))
+pub known-or : (x : ℕ) (b : Bool) → cond b none (some (old x)) ≡ partGive (cond b Unknown (Known x))
 known-or x true = refl
 known-or x false = refl
 

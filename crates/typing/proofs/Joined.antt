@@ -136,7 +136,7 @@ drop-two : (r : List ℕ) → drop 1 (drop 1 r) ≡ drop 2 r
 drop-two [] = refl
 drop-two (x ∷ r) = refl
 
-drop-three : (r : List ℕ) → drop 2 (drop 1 r) ≡ drop 3 r
+pub drop-three : (r : List ℕ) → drop 2 (drop 1 r) ≡ drop 3 r
 drop-three [] = refl
 drop-three (x ∷ r) = refl
 

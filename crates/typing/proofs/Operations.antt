@@ -1,129 +1,31 @@
--- The rule of an operation by its form's number: one law for each operation.
+-- The rule of an operation by its form's number.
 use mathlib.Core.Path.{_≡_, refl, sym}
-use mathlib.Core.Bool.{Bool, true, false}
+use mathlib.Core.Bool.{Bool, false}
 use mathlib.Core.List.{List}
-use Prim.Native.Nat.{ℕ, suc, _-_, _≤_, _<_}
+use Prim.Native.Nat.{ℕ, _-_, _≤_, _<_}
 use native.Mathlib.Omega.{arith}
 use lib.ListN.{getD, List·getD-eq-default}
 use Rattle.sheet.specs.Forms.{tag}
 use Rattle.fits.specs.Fit.{full, Known, Answered}
-use Rattle.typing.specs.Rules.{twoSorts, threeSorts, varRule, eqRule, inRule, gettagRule, containsRule, twoSetsRule, ifRule, getRule, hasRule, haspathRule, setRule, recordRule, nodeRule, nodeRules}
-
-up : (n x : ℕ) → n ≤ x → (x ≡ n → ⊥) → suc n ≤ x
-up n x l h = omega arith
+use Rattle.typing.specs.Rules.{containsRule, recordRule, nodeRule, nodeRules}
+use Rattle.table.proofs.Rows.{above}
 
 pinned : (n x : ℕ) → n ≤ x → x ≤ n → x ≡ n
 pinned n x l u = omega arith
 
+-- the rule of operation n
+pub op-at : (n : ℕ) (a r : List ℕ) (op : ℕ) (b : Bool) → op ≡ n → b ≡ nodeRule a r (n - 21) → b ≡ nodeRule a r (op - 21)
+op-at n a r op b h e = rw h e
+
 module _ (a r : List ℕ) (op : ℕ) where
-  pub op-err : op ≡ 22 → true ≡ nodeRule a r (op - 21)
-  unfolding nodeRule nodeRules
-  op-err h = rw h
-
-  pub op-var : (b : Bool) → op ≡ 23 → b ≡ varRule a r → b ≡ nodeRule a r (op - 21)
-  unfolding nodeRule nodeRules
-  op-var b h e = rw h e
-
-  pub op-and : (b : Bool) → op ≡ 24 → b ≡ threeSorts a r 0 0 0 → b ≡ nodeRule a r (op - 21)
-  unfolding nodeRule nodeRules
-  op-and b h e = rw h e
-
-  pub op-or : (b : Bool) → op ≡ 25 → b ≡ threeSorts a r 0 0 0 → b ≡ nodeRule a r (op - 21)
-  unfolding nodeRule nodeRules
-  op-or b h e = rw h e
-
-  pub op-eq : (b : Bool) → op ≡ 26 → b ≡ eqRule a r → b ≡ nodeRule a r (op - 21)
-  unfolding nodeRule nodeRules
-  op-eq b h e = rw h e
-
-  pub op-lt : (b : Bool) → op ≡ 27 → b ≡ threeSorts a r 0 1 1 → b ≡ nodeRule a r (op - 21)
-  unfolding nodeRule nodeRules
-  op-lt b h e = rw h e
-
-  pub op-le : (b : Bool) → op ≡ 28 → b ≡ threeSorts a r 0 1 1 → b ≡ nodeRule a r (op - 21)
-  unfolding nodeRule nodeRules
-  op-le b h e = rw h e
-
-  pub op-add : (b : Bool) → op ≡ 29 → b ≡ threeSorts a r 1 1 1 → b ≡ nodeRule a r (op - 21)
-  unfolding nodeRule nodeRules
-  op-add b h e = rw h e
-
-  pub op-sub : (b : Bool) → op ≡ 30 → b ≡ threeSorts a r 1 1 1 → b ≡ nodeRule a r (op - 21)
-  unfolding nodeRule nodeRules
-  op-sub b h e = rw h e
-
-  pub op-mul : (b : Bool) → op ≡ 31 → b ≡ threeSorts a r 1 1 1 → b ≡ nodeRule a r (op - 21)
-  unfolding nodeRule nodeRules
-  op-mul b h e = rw h e
-
-  pub op-in : (b : Bool) → op ≡ 32 → b ≡ inRule a r → b ≡ nodeRule a r (op - 21)
-  unfolding nodeRule nodeRules
-  op-in b h e = rw h e
-
-  pub op-gettag : (b : Bool) → op ≡ 33 → b ≡ gettagRule a r → b ≡ nodeRule a r (op - 21)
-  unfolding nodeRule nodeRules
-  op-gettag b h e = rw h e
-
-  pub op-hastag : (b : Bool) → op ≡ 34 → b ≡ threeSorts a r 0 3 2 → b ≡ nodeRule a r (op - 21)
-  unfolding nodeRule nodeRules
-  op-hastag b h e = rw h e
-
-  pub op-all : (b : Bool) → op ≡ 36 → b ≡ twoSetsRule a r → b ≡ nodeRule a r (op - 21)
-  unfolding nodeRule nodeRules
-  op-all b h e = rw h e
-
-  pub op-any : (b : Bool) → op ≡ 37 → b ≡ twoSetsRule a r → b ≡ nodeRule a r (op - 21)
-  unfolding nodeRule nodeRules
-  op-any b h e = rw h e
-
-  pub op-if : (b : Bool) → op ≡ 38 → b ≡ ifRule a r → b ≡ nodeRule a r (op - 21)
-  unfolding nodeRule nodeRules
-  op-if b h e = rw h e
-
-  pub op-is : (b : Bool) → op ≡ 39 → b ≡ twoSorts a r 0 3 → b ≡ nodeRule a r (op - 21)
-  unfolding nodeRule nodeRules
-  op-is b h e = rw h e
-
-  pub op-like : (b : Bool) → op ≡ 40 → b ≡ twoSorts a r 0 2 → b ≡ nodeRule a r (op - 21)
-  unfolding nodeRule nodeRules
-  op-like b h e = rw h e
-
-  pub op-get : (b : Bool) → op ≡ 41 → b ≡ getRule a r → b ≡ nodeRule a r (op - 21)
-  unfolding nodeRule nodeRules
-  op-get b h e = rw h e
-
-  pub op-has : (b : Bool) → op ≡ 42 → b ≡ hasRule a r → b ≡ nodeRule a r (op - 21)
-  unfolding nodeRule nodeRules
-  op-has b h e = rw h e
-
-  pub op-haspath : (b : Bool) → op ≡ 43 → b ≡ haspathRule a r → b ≡ nodeRule a r (op - 21)
-  unfolding nodeRule nodeRules
-  op-haspath b h e = rw h e
-
-  pub op-not : (b : Bool) → op ≡ 44 → b ≡ twoSorts a r 0 0 → b ≡ nodeRule a r (op - 21)
-  unfolding nodeRule nodeRules
-  op-not b h e = rw h e
-
-  pub op-neg : (b : Bool) → op ≡ 45 → b ≡ twoSorts a r 1 1 → b ≡ nodeRule a r (op - 21)
-  unfolding nodeRule nodeRules
-  op-neg b h e = rw h e
-
-  pub op-empty : (b : Bool) → op ≡ 46 → b ≡ twoSorts a r 0 4 → b ≡ nodeRule a r (op - 21)
-  unfolding nodeRule nodeRules
-  op-empty b h e = rw h e
-
-  pub op-set : (b : Bool) → op ≡ 47 → b ≡ setRule a r → b ≡ nodeRule a r (op - 21)
-  unfolding nodeRule nodeRules
-  op-set b h e = rw h e
-
   -- the last operation of a run: none of the others
   pub op-contains : (b : Bool) → 22 ≤ op → op ≤ 35 → (op ≡ 22 → ⊥) → (op ≡ 23 → ⊥) → (op ≡ 24 → ⊥) → (op ≡ 25 → ⊥) → (op ≡ 26 → ⊥) → (op ≡ 27 → ⊥) → (op ≡ 28 → ⊥) → (op ≡ 29 → ⊥) → (op ≡ 30 → ⊥) → (op ≡ 31 → ⊥) → (op ≡ 32 → ⊥) → (op ≡ 33 → ⊥) → (op ≡ 34 → ⊥) → b ≡ containsRule a r → b ≡ nodeRule a r (op - 21)
   unfolding nodeRule nodeRules
-  op-contains b l u n22 n23 n24 n25 n26 n27 n28 n29 n30 n31 n32 n33 n34 e = let h : op ≡ 35 = pinned 35 op (up 34 op (up 33 op (up 32 op (up 31 op (up 30 op (up 29 op (up 28 op (up 27 op (up 26 op (up 25 op (up 24 op (up 23 op (up 22 op l n22) n23) n24) n25) n26) n27) n28) n29) n30) n31) n32) n33) n34) u in rw h e
+  op-contains b l u n22 n23 n24 n25 n26 n27 n28 n29 n30 n31 n32 n33 n34 e = let h : op ≡ 35 = pinned 35 op (above op 34 (above op 33 (above op 32 (above op 31 (above op 30 (above op 29 (above op 28 (above op 27 (above op 26 (above op 25 (above op 24 (above op 23 (above op 22 l n22) n23) n24) n25) n26) n27) n28) n29) n30) n31) n32) n33) n34) u in rw h e
 
   pub op-record : (b : Bool) → 36 ≤ op → op ≤ 48 → (op ≡ 36 → ⊥) → (op ≡ 37 → ⊥) → (op ≡ 38 → ⊥) → (op ≡ 39 → ⊥) → (op ≡ 40 → ⊥) → (op ≡ 41 → ⊥) → (op ≡ 42 → ⊥) → (op ≡ 43 → ⊥) → (op ≡ 44 → ⊥) → (op ≡ 45 → ⊥) → (op ≡ 46 → ⊥) → (op ≡ 47 → ⊥) → b ≡ recordRule a r → b ≡ nodeRule a r (op - 21)
   unfolding nodeRule nodeRules
-  op-record b l u n36 n37 n38 n39 n40 n41 n42 n43 n44 n45 n46 n47 e = let h : op ≡ 48 = pinned 48 op (up 47 op (up 46 op (up 45 op (up 44 op (up 43 op (up 42 op (up 41 op (up 40 op (up 39 op (up 38 op (up 37 op (up 36 op l n36) n37) n38) n39) n40) n41) n42) n43) n44) n45) n46) n47) u in rw h e
+  op-record b l u n36 n37 n38 n39 n40 n41 n42 n43 n44 n45 n46 n47 e = let h : op ≡ 48 = pinned 48 op (above op 47 (above op 46 (above op 45 (above op 44 (above op 43 (above op 42 (above op 41 (above op 40 (above op 39 (above op 38 (above op 37 (above op 36 l n36) n37) n38) n39) n40) n41) n42) n43) n44) n45) n46) n47) u in rw h e
 
 -- ---- any form
 

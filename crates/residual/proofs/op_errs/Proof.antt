@@ -1,32 +1,41 @@
 -- `residual::op_errs` meets its contract. Assumes nothing.
-use Rattle.residual.proofs.Steps.{op-err, op-add, op-sub, op-mul, op-gettag, op-get, op-neg, op-no}
+use Rattle.residual.proofs.Steps.{op-errs, op-no}
+use mathlib.Core.Path.{refl}
+use Rattle.residual.specs.Errs.{opErrs}
 use borrow.Author.Needs.{needs}
 use Rattle.residual.proofs.op_errs.Statement.{statement}
 use Rattle.residual.proofs.op_errs.Tie as tie
 
 returns : tie.Need-returns
-returns c = search (op-err, op-add, op-sub, op-mul, op-gettag, op-get, op-neg, op-no, needs)
+unfolding opErrs
+returns c = search (op-errs 22 refl, needs)
 
 returns-2 : tie.Need-returns-2
-returns-2 c = search (op-err, op-add, op-sub, op-mul, op-gettag, op-get, op-neg, op-no, needs)
+unfolding opErrs
+returns-2 c = search (op-errs 29 refl, needs)
 
 returns-3 : tie.Need-returns-3
-returns-3 c = search (op-err, op-add, op-sub, op-mul, op-gettag, op-get, op-neg, op-no, needs)
+unfolding opErrs
+returns-3 c = search (op-errs 30 refl, needs)
 
 returns-4 : tie.Need-returns-4
-returns-4 c = search (op-err, op-add, op-sub, op-mul, op-gettag, op-get, op-neg, op-no, needs)
+unfolding opErrs
+returns-4 c = search (op-errs 31 refl, needs)
 
 returns-5 : tie.Need-returns-5
-returns-5 c = search (op-err, op-add, op-sub, op-mul, op-gettag, op-get, op-neg, op-no, needs)
+unfolding opErrs
+returns-5 c = search (op-errs 33 refl, needs)
 
 returns-6 : tie.Need-returns-6
-returns-6 c = search (op-err, op-add, op-sub, op-mul, op-gettag, op-get, op-neg, op-no, needs)
+unfolding opErrs
+returns-6 c = search (op-errs 41 refl, needs)
 
 returns-7 : tie.Need-returns-7
-returns-7 c = search (op-err, op-add, op-sub, op-mul, op-gettag, op-get, op-neg, op-no, needs)
+unfolding opErrs
+returns-7 c = search (op-errs 45 refl, needs)
 
 returns-8 : tie.Need-returns-8
-returns-8 c = search (op-err, op-add, op-sub, op-mul, op-gettag, op-get, op-neg, op-no, needs)
+returns-8 c = search (op-no, needs)
 
 pub op-errs-spec : {M : Type 1} → statement M
 op-errs-spec =

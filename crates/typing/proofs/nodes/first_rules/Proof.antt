@@ -1,47 +1,61 @@
--- `first_rules`: one law for each operation.
-use Rattle.typing.proofs.Operations.{op-add, op-and, op-contains, op-eq, op-err, op-gettag, op-hastag, op-in, op-le, op-lt, op-mul, op-or, op-sub, op-var}
+-- `first_rules`: the operation by its number.
+use Rattle.typing.proofs.Operations.{op-at, op-contains}
+use Rattle.typing.specs.Rules.{nodeRule, nodeRules}
 use borrow.Author.Needs.{needs}
 use Rattle.typing.proofs.nodes.first_rules.Statement.{statement}
 use Rattle.typing.proofs.nodes.first_rules.Tie as tie
 
 returns : tie.Need-returns
-returns c = search op-err
+unfolding nodeRule nodeRules
+returns c = search (op-at 22, needs)
 
 returns-2 : tie.Need-returns-2
-returns-2 c = search op-var
+unfolding nodeRule nodeRules
+returns-2 c = search (op-at 23, needs)
 
 returns-3 : tie.Need-returns-3
-returns-3 c = search op-and
+unfolding nodeRule nodeRules
+returns-3 c = search (op-at 24, needs)
 
 returns-4 : tie.Need-returns-4
-returns-4 c = search op-or
+unfolding nodeRule nodeRules
+returns-4 c = search (op-at 25, needs)
 
 returns-5 : tie.Need-returns-5
-returns-5 c = search op-eq
+unfolding nodeRule nodeRules
+returns-5 c = search (op-at 26, needs)
 
 returns-6 : tie.Need-returns-6
-returns-6 c = search op-lt
+unfolding nodeRule nodeRules
+returns-6 c = search (op-at 27, needs)
 
 returns-7 : tie.Need-returns-7
-returns-7 c = search op-le
+unfolding nodeRule nodeRules
+returns-7 c = search (op-at 28, needs)
 
 returns-8 : tie.Need-returns-8
-returns-8 c = search op-add
+unfolding nodeRule nodeRules
+returns-8 c = search (op-at 29, needs)
 
 returns-9 : tie.Need-returns-9
-returns-9 c = search op-sub
+unfolding nodeRule nodeRules
+returns-9 c = search (op-at 30, needs)
 
 returns-10 : tie.Need-returns-10
-returns-10 c = search op-mul
+unfolding nodeRule nodeRules
+returns-10 c = search (op-at 31, needs)
 
 returns-11 : tie.Need-returns-11
-returns-11 c = search op-in
+unfolding nodeRule nodeRules
+returns-11 c = search (op-at 32, needs)
 
 returns-12 : tie.Need-returns-12
-returns-12 c = search op-gettag
+unfolding nodeRule nodeRules
+returns-12 c = search (op-at 33, needs)
 
 returns-13 : tie.Need-returns-13
-returns-13 c = search op-hastag
+unfolding nodeRule nodeRules
+returns-13 c = search (op-at 34, needs)
 
 returns-14 : tie.Need-returns-14
 returns-14 c = search op-contains

@@ -1,44 +1,57 @@
--- `last_rules`: one law for each operation.
-use Rattle.typing.proofs.Operations.{op-all, op-any, op-empty, op-get, op-has, op-haspath, op-if, op-is, op-like, op-neg, op-not, op-record, op-set}
+-- `last_rules`: the operation by its number.
+use Rattle.typing.proofs.Operations.{op-at, op-record}
+use Rattle.typing.specs.Rules.{nodeRule, nodeRules}
 use borrow.Author.Needs.{needs}
 use Rattle.typing.proofs.nodes.last_rules.Statement.{statement}
 use Rattle.typing.proofs.nodes.last_rules.Tie as tie
 
 returns : tie.Need-returns
-returns c = search op-all
+unfolding nodeRule nodeRules
+returns c = search (op-at 36, needs)
 
 returns-2 : tie.Need-returns-2
-returns-2 c = search op-any
+unfolding nodeRule nodeRules
+returns-2 c = search (op-at 37, needs)
 
 returns-3 : tie.Need-returns-3
-returns-3 c = search op-if
+unfolding nodeRule nodeRules
+returns-3 c = search (op-at 38, needs)
 
 returns-4 : tie.Need-returns-4
-returns-4 c = search op-is
+unfolding nodeRule nodeRules
+returns-4 c = search (op-at 39, needs)
 
 returns-5 : tie.Need-returns-5
-returns-5 c = search op-like
+unfolding nodeRule nodeRules
+returns-5 c = search (op-at 40, needs)
 
 returns-6 : tie.Need-returns-6
-returns-6 c = search op-get
+unfolding nodeRule nodeRules
+returns-6 c = search (op-at 41, needs)
 
 returns-7 : tie.Need-returns-7
-returns-7 c = search op-has
+unfolding nodeRule nodeRules
+returns-7 c = search (op-at 42, needs)
 
 returns-8 : tie.Need-returns-8
-returns-8 c = search op-haspath
+unfolding nodeRule nodeRules
+returns-8 c = search (op-at 43, needs)
 
 returns-9 : tie.Need-returns-9
-returns-9 c = search op-not
+unfolding nodeRule nodeRules
+returns-9 c = search (op-at 44, needs)
 
 returns-10 : tie.Need-returns-10
-returns-10 c = search op-neg
+unfolding nodeRule nodeRules
+returns-10 c = search (op-at 45, needs)
 
 returns-11 : tie.Need-returns-11
-returns-11 c = search op-empty
+unfolding nodeRule nodeRules
+returns-11 c = search (op-at 46, needs)
 
 returns-12 : tie.Need-returns-12
-returns-12 c = search op-set
+unfolding nodeRule nodeRules
+returns-12 c = search (op-at 47, needs)
 
 returns-13 : tie.Need-returns-13
 returns-13 c = search op-record
