@@ -128,6 +128,18 @@ module _ (a cs : List ℕ) (effect class n : ℕ) (en : n ≡ getD a 12 0) where
         let s : countIn effect class (verdictsFrom a cs i) ≡ 0 = ap (countIn effect class) (verdicts-end a cs i (omega (arith, many))) in
         omega (arith, t .left)
 
+-- the four counts of an effect, each so
+pub record Tallies (a cs : List ℕ) (effect n i t f e o : ℕ) : Type 0 where
+  pub trues : Tally (countIn effect 0 (verdictsIn a cs)) t (countIn effect 0 (verdictsFrom a cs i)) i n
+  pub falses : Tally (countIn effect 1 (verdictsIn a cs)) f (countIn effect 1 (verdictsFrom a cs i)) i n
+  pub errors : Tally (countIn effect 2 (verdictsIn a cs)) e (countIn effect 2 (verdictsFrom a cs i)) i n
+  pub opens : Tally (countIn effect 3 (verdictsIn a cs)) o (countIn effect 3 (verdictsFrom a cs i)) i n
+
+pub tallies-end : (a cs : List ℕ) (effect n i t f e o : ℕ) → n ≡ getD a 12 0 → Tallies a cs effect n i t f e o → n ≤ i
+    → (t ≡ countIn effect 0 (verdictsIn a cs)) × ((f ≡ countIn effect 1 (verdictsIn a cs)) × ((e ≡ countIn effect 2 (verdictsIn a cs)) × (o ≡ countIn effect 3 (verdictsIn a cs))))
+tallies-end a cs effect n i t f e o en l h =
+    (tally-end a cs effect 0 n en i t (l .trues) h, (tally-end a cs effect 1 n en i f (l .falses) h, (tally-end a cs effect 2 n en i e (l .errors) h, tally-end a cs effect 3 n en i o (l .opens) h)))
+
 -- ---- whether there is one
 
 any-many : (f : Effect → Bool) (g : Class → Bool) (ls : List Verdict) → ltb 0 (howMany f g ls) ≡ anyLine f g ls

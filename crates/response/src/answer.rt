@@ -1,6 +1,6 @@
 // The decision, the counts and the policies printed from a place of the lent buffer on. Each call gives the place after its bytes.
 use crate::class_of;
-use crate::count_of;
+use crate::counts_in;
 use crate::decision_of;
 use crate::effect_of;
 use crate::nodes::node_lines;
@@ -47,10 +47,11 @@ pub fn decision_line(out: &mut [u8], at: usize, d: Decision) -> usize
 fn counts_of(out: &mut [u8], at: usize, b: u8, a: &[u32], classes: &[u32], effect: u32) -> usize
     ensures { λ r. ⌜ Written (now (out .entry)) at (listed b (fourOf effect (verdictsIn (now (a .entry)) (now (classes .entry))))) (now (out .exit)) r ⌝ }
 {
-    let k = number_after(out, at, b, count_of(a, classes, effect, 0) as u64);
-    let l = number_after(out, k, 44, count_of(a, classes, effect, 1) as u64);
-    let m = number_after(out, l, 44, count_of(a, classes, effect, 2) as u64);
-    number_after(out, m, 44, count_of(a, classes, effect, 3) as u64)
+    let c = counts_in(a, classes, effect);
+    let k = number_after(out, at, b, c.trues as u64);
+    let l = number_after(out, k, 44, c.falses as u64);
+    let m = number_after(out, l, 44, c.errors as u64);
+    number_after(out, m, 44, c.opens as u64)
 }
 
 // The line of the counts: permits, then forbids.

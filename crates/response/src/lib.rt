@@ -16,7 +16,7 @@ ghost use lib.Dec.{eqb};
 ghost use lib.ListN.{getD};
 ghost use Rattle.table.specs.Layout.{rowsOf};
 ghost use Rattle.cedar.specs.Canonical.{bit};
-ghost use Rattle.cedar.specs.Response.{anyLine, decision};
+ghost use Rattle.cedar.specs.Response.{decision};
 ghost use Rattle.cedar.specs.Response as Cedar;
 ghost use Rattle.sheet.specs.Answer.{howMany};
 ghost use Rattle.response.specs.Verdicts.{effectNumber, classNumber, effectIn, classIn, effectIs, classIs, verdictsIn, said};
@@ -62,27 +62,42 @@ fn hit(e: u32, c: u32, effect: u32, class: u32) -> u32
     1
 }
 
-// How many policies have this effect and class.
-pub fn count_of(a: &[u32], classes: &[u32], effect: u32, class: u32) -> u32
-    ensures { λ r. ⌜ r ≡ howMany (effectIs effect) (classIs class) (verdictsIn (now (a .entry)) (now (classes .entry))) ⌝ }
+// How many policies of one effect are true, false, in error and open.
+pub struct Counts {
+    pub trues: u32,
+    pub falses: u32,
+    pub errors: u32,
+    pub opens: u32,
+}
+
+// The counts of an effect.
+pub fn counts_in(a: &[u32], classes: &[u32], effect: u32) -> Counts
+    ensures trues { λ r. ⌜ r .trues ≡ howMany (effectIs effect) (classIs 0) (verdictsIn (now (a .entry)) (now (classes .entry))) ⌝ }
+    ensures falses { λ r. ⌜ r .falses ≡ howMany (effectIs effect) (classIs 1) (verdictsIn (now (a .entry)) (now (classes .entry))) ⌝ }
+    ensures errors { λ r. ⌜ r .errors ≡ howMany (effectIs effect) (classIs 2) (verdictsIn (now (a .entry)) (now (classes .entry))) ⌝ }
+    ensures opens { λ r. ⌜ r .opens ≡ howMany (effectIs effect) (classIs 3) (verdictsIn (now (a .entry)) (now (classes .entry))) ⌝ }
 {
     let n = count(a, POLICY);
     let mut i = 0;
-    let mut m = 0;
+    let mut trues = 0;
+    let mut falses = 0;
+    let mut errors = 0;
+    let mut opens = 0;
     while i < n {
         let e = effect_of(a, i);
         let c = class_of(classes, i);
-        m += hit(e, c, effect, class);
+        trues += hit(e, c, effect, 0);
+        falses += hit(e, c, effect, 1);
+        errors += hit(e, c, effect, 2);
+        opens += hit(e, c, effect, 3);
         i += 1;
     }
-    m
-}
-
-// Whether some policy has this effect and class.
-pub fn any_line(a: &[u32], classes: &[u32], effect: u32, class: u32) -> bool
-    ensures { λ r. ⌜ r ≡ anyLine (effectIs effect) (classIs class) (verdictsIn (now (a .entry)) (now (classes .entry))) ⌝ }
-{
-    count_of(a, classes, effect, class) > 0
+    Counts {
+        trues,
+        falses,
+        errors,
+        opens,
+    }
 }
 
 // The decision, told whether there are true forbids, true permits, open permits and open forbids.
@@ -108,9 +123,11 @@ pub fn decide(true_forbids: bool, true_permits: bool, residual_permits: bool, re
 pub fn decision_of(a: &[u32], classes: &[u32]) -> Decision
     ensures { λ r. ⌜ r ≡ said (decision (verdictsIn (now (a .entry)) (now (classes .entry)))) ⌝ }
 {
-    let true_forbids = any_line(a, classes, 1, 0);
-    let true_permits = any_line(a, classes, 0, 0);
-    let residual_permits = any_line(a, classes, 0, 3);
-    let residual_forbids = any_line(a, classes, 1, 3);
+    let permits = counts_in(a, classes, 0);
+    let forbids = counts_in(a, classes, 1);
+    let true_forbids = forbids.trues > 0;
+    let true_permits = permits.trues > 0;
+    let residual_permits = permits.opens > 0;
+    let residual_forbids = forbids.opens > 0;
     decide(true_forbids, true_permits, residual_permits, residual_forbids)
 }
