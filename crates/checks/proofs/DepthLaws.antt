@@ -1,22 +1,24 @@
 -- Depths of lines, as the code finds them. Assumes nothing.
-use mathlib.Core.Path.{_≡_, refl, sym, ap, subst, _∙_}
-use mathlib.Core.Bool.{Bool, true, false, cond}
+use mathlib.Core.Path.{_≡_, refl, sym, ap, ap₂, subst, _∙_}
+use mathlib.Core.Bool.{Bool, true, false, cond, not}
 use mathlib.Core.List.{List, []}
-use Prim.Native.Nat.{ℕ, zero, suc, _+_, _*_, _≤_, _<_, max}
+use Prim.Native.Nat.{ℕ, zero, suc, _+_, _*_, _%_, _≤_, _<_, max}
 use native.Mathlib.Numerals.{add-one}
 use native.Mathlib.Omega.{arith}
 use native.Mathlib.Decide.{ℕ-discrete}
-use borrow.Author.Tests.{eq-eqb, ne-eqb}
-use lib.Dec.{eqb}
+use borrow.Author.Tests.{eq-eqb, ne-eqb, ltb-true}
+use lib.Dec.{ltb, eqb}
 use lib.ListN.{length, getD, drop, length-take, length-replicate, getD-replicate, List·getD-eq-default}
 use lib.Seq.{getD-take, getD-drop}
-use Rattle.sheet.specs.Forms.{Slot, entry, line, lineOr, lineUnknown, word, number, nothing, slotAt, tag, isLine, keep, refsFrom, refs}
+use Rattle.sheet.specs.Forms.{Slot, entry, line, lineOr, lineUnknown, word, number, nothing, slotAt, tag, items, isLine, keep, refsFrom, refs}
 use Rattle.sheet.specs.State.{State, depthsOf}
-use Rattle.sheet.specs.Sheet.{deepest, depth}
+use Rattle.sheet.specs.Sheet.{allThere, deepest, depth}
 use Rattle.table.specs.Layout.{held, ones, depthsAt}
 use Rattle.table.proofs.Held.{depthBase, depthBases, depthsIn, depths-of}
-use Rattle.checks.specs.Codes.{codeOf}
-use Rattle.checks.proofs.FoundLaws.{item-at, items-end}
+use Rattle.checks.specs.Codes.{codeOf, formCodes, againCodes, codesAfter, codesAt}
+use Rattle.checks.specs.Depths.{ThereAs, thereDepth, OnTwo, OnNone}
+use Rattle.checks.proofs.FormTable.{code-at, node-type, node-first, node-second, leaf-value, leaf-other}
+use Rattle.checks.proofs.FoundLaws.{item-at, items-end, There, there-start, there-off, there-on, there-end, ref-none, ref-in, ref-out}
 
 -- ---- the depth of one line
 
@@ -124,3 +126,141 @@ from-other a b k c x n = sym (rw (ne-eqb c (2 * k + 1) n) refl)
 
 pub from-line : (a b : List ℕ) (k c x d : ℕ) → c ≡ 2 * k + 1 → d ≡ getD (depthsIn a b k) x 0 → d ≡ cond (eqb c (2 * k + 1)) (getD (depthsIn a b k) x 0) 0
 from-line a b k c x d e h = h ∙ sym (rw (eq-eqb c (2 * k + 1) e) refl)
+
+-- ---- all of a row's items
+
+pub record Walk (a b : List ℕ) (k : ℕ) (r : List ℕ) (w d j : ℕ) : Type 0 where
+  pub there : There a r j
+  pub deep : Deep a b k r j d
+  pub codes : w ≡ codesAt (tag r) j
+  pub small : w < 4294967296
+
+pub walk-start : (a b : List ℕ) (k : ℕ) (r : List ℕ) (t w : ℕ) → t ≡ tag r → w ≡ getD formCodes t 0 → w < 4294967296 → Walk a b k r w 0 0
+unfolding codesAt
+walk-start a b k r t w ht hw small = record { small = small; there = there-start a r; deep = deep-start a b k r; codes = hw ∙ ap (λ (x : ℕ). getD formCodes x 0) ht }
+
+there-depth : (a b : List ℕ) (k : ℕ) (r : List ℕ) (d : ℕ) → true ≡ allThere (held [] a []) (tag r) 0 (items r) → d ≡ depth (held [] a b) k r → d ≡ thereDepth a b k r
+unfolding thereDepth
+there-depth a b k r d e h = h ∙ rw (← e) refl
+
+absent-depth : (a b : List ℕ) (k : ℕ) (r : List ℕ) → false ≡ allThere (held [] a []) (tag r) 0 (items r) → 0 ≡ thereDepth a b k r
+unfolding thereDepth
+absent-depth a b k r e = rw (← e) refl
+
+module _ (a b : List ℕ) (k : ℕ) (r : List ℕ) (w d j : ℕ) (i : Walk a b k r w d j) (low : k < 13) where
+  module _ (t x c : ℕ) (v : Bool) (ht : t ≡ tag r) (h : j + 1 < length r) (hc : c ≡ w % 256) (hx : x ≡ getD r (j + 1) 0) (hv : ThereAs a c x v) where
+    code-here : (c ≡ codeOf (slotAt t j)) × (c ≤ 26)
+    code-here = code-at t j w c (i .codes ∙ ap (λ (y : ℕ). codesAt y j) (sym ht)) hc
+
+    pub walk-off : not v ≡ true → 0 ≡ thereDepth a b k r
+    walk-off n = absent-depth a b k r (there-off a r j (i .there) t x v ht h hx (hv .is (slotAt t j) code-here) n)
+
+    pub walk-on : not v ≡ false → (y d′ again w′ : ℕ) → y ≡ cond (eqb c (2 * k + 1)) (getD (depthsIn a b k) x 0) 0 → d′ ≡ max d y → y < 4294967296 → again ≡ getD againCodes t 0 → w′ ≡ codesAfter again w → w′ < 4294967296
+        → Walk a b k r w′ d′ (j + 1)
+    unfolding codesAt
+    walk-on n y d′ again w′ hy hd small ha hw low′ =
+        record {
+          small = low′;
+          there = there-on a r j (i .there) t x v ht h hx (hv .is (slotAt t j) code-here) n;
+          deep = deep-on a b k r j d (i .deep) low t x c y d′ ht h hx code-here hy hd small;
+          codes = hw ∙ ap₂ codesAfter (ha ∙ ap (λ (z : ℕ). getD againCodes z 0) ht) (i .codes) ∙ ap (codesAt (tag r)) (sym (add-one j));
+        }
+
+  pub walk-end : length r ≤ j + 1 → d + 1 ≡ thereDepth a b k r
+  walk-end h = there-depth a b k r (d + 1) (there-end a r j (i .there) h) (deep-end a b k r j d (i .deep) low h)
+
+-- ---- a node's type
+
+module _ (a b r : List ℕ) (long : 1 < length r) (code : (7 ≡ codeOf (slotAt (tag r) 0)) × (7 ≤ 26)) (x m : ℕ) (hx : x ≡ getD r 1 0) (hm : m ≡ getD a 3 0) where
+  type-absent : m ≤ x → 0 ≡ thereDepth a b 11 r
+  type-absent l = absent-depth a b 11 r (there-off a r 0 (there-start a r) (tag r) x false refl long hx (ref-out a 7 x m (λ q. absurd (omega arith)) hm l refl .is (slotAt (tag r) 0) code) refl)
+
+  type-there : x < m → There a r 1
+  type-there l = there-on a r 0 (there-start a r) (tag r) x true refl long hx (ref-in a 7 x m (λ q. absurd (omega arith)) hm l .is (slotAt (tag r) 0) code) refl
+
+  type-deep : Deep a b 11 r 1 0
+  type-deep = deep-on a b 11 r 0 0 (deep-start a b 11 r) (omega arith) (tag r) x 7 0 0 refl long hx code refl (omega arith) (omega arith)
+
+-- ---- a node that works on none
+
+module _ (a r : List ℕ) (leaf : OnNone r) (x m : ℕ) (hx : x ≡ getD r 1 0) (hm : m ≡ getD a 3 0) where
+  leaf-type : (7 ≡ codeOf (slotAt (tag r) 0)) × (7 ≤ 26)
+  leaf-type = node-type (tag r) 0 (leaf .low, omega (arith, leaf .high)) refl
+
+  pub leaf-untyped : m ≤ x → (b : List ℕ) → 0 ≡ thereDepth a b 11 r
+  leaf-untyped l b = type-absent a b r (omega (arith, leaf .long)) leaf-type x m hx hm l
+
+  module _ (lx : x < m) (t : ℕ) (ht : t ≡ tag r) where
+    there₁ : There a r 1
+    there₁ = type-there a [] r (omega (arith, leaf .long)) leaf-type x m hx hm lx
+
+    -- the second item is there, and no node
+    leaf-end : (c : ℕ) → (c ≡ codeOf (slotAt (tag r) 1)) × (c ≤ 26) → eqb c 23 ≡ false → ThereAs a c (getD r 2 0) true → (b : List ℕ) → 1 ≡ thereDepth a b 11 r
+    leaf-end c hc e v b =
+        let deep₂ : Deep a b 11 r 2 0 = deep-on a b 11 r 1 0 (type-deep a b r (omega (arith, leaf .long)) leaf-type x m hx hm) (omega arith) (tag r) (getD r 2 0) c 0 0 refl (omega (arith, leaf .long)) refl hc (sym (rw e refl)) (omega arith) (omega arith) in
+        let there₂ : There a r 2 = there-on a r 1 there₁ (tag r) (getD r 2 0) true refl (omega (arith, leaf .long)) refl (v .is (slotAt (tag r) 1) hc) refl in
+        there-depth a b 11 r 1 (there-end a r 2 there₂ (omega (arith, leaf .long))) (deep-end a b 11 r 2 0 deep₂ (omega arith) (omega (arith, leaf .long)))
+
+    pub leaf-whole : (t ≡ 21 → ⊥) → (b : List ℕ) → 1 ≡ thereDepth a b 11 r
+    leaf-whole n = leaf-end 0 (leaf-other (tag r) 1 (omega (arith, leaf .low, ht)) (leaf .high) refl) refl (ref-none a 0 (getD r 2 0) refl)
+
+    module _ (e : t ≡ 21) (y n : ℕ) (hy : y ≡ getD r 2 0) (hn : n ≡ getD a 5 0) where
+      value-code : (11 ≡ codeOf (slotAt (tag r) 1)) × (11 ≤ 26)
+      value-code = leaf-value (tag r) 1 (sym ht ∙ e) refl
+
+      pub value-absent : n ≤ y → (b : List ℕ) → 0 ≡ thereDepth a b 11 r
+      value-absent l b = absent-depth a b 11 r (there-off a r 1 there₁ (tag r) y false refl (omega (arith, leaf .long)) hy (ref-out a 11 y n (λ q. absurd (omega arith)) hn l refl .is (slotAt (tag r) 1) value-code) refl)
+
+      pub value-there : y < n → (b : List ℕ) → 1 ≡ thereDepth a b 11 r
+      value-there l = leaf-end 11 value-code refl (rw (← hy) (ref-in a 11 y n (λ q. absurd (omega arith)) hn l))
+
+pub leaf-row : (r : List ℕ) (t : ℕ) → length r ≡ 3 → t ≡ tag r → 21 ≤ t → ltb t 24 ≡ true → OnNone r
+leaf-row r t l h low high = record { long = l; low = omega arith; high = omega (arith, ltb-true t 24 high) }
+
+-- ---- a node that works on two
+
+module _ (a b r : List ℕ) (two : OnTwo r) where
+  pub on-type : (7 ≡ codeOf (slotAt (tag r) 0)) × (7 ≤ 26)
+  on-type = node-type (tag r) 0 (omega (arith, two .low), omega (arith, two .high)) refl
+
+  pub on-first : (23 ≡ codeOf (slotAt (tag r) 1)) × (23 ≤ 26)
+  on-first = node-first (tag r) 1 (omega (arith, two .low), omega (arith, two .high)) (two .low) refl
+
+  pub on-second : (23 ≡ codeOf (slotAt (tag r) 2)) × (23 ≤ 26)
+  on-second = node-second (tag r) 2 (two .low) (omega (arith, two .high)) refl
+
+  module _ (x m : ℕ) (hx : x ≡ getD r 1 0) (hm : m ≡ getD a 3 0) where
+    pub two-untyped : m ≤ x → 0 ≡ thereDepth a b 11 r
+    two-untyped = type-absent a b r (omega (arith, two .long)) on-type x m hx hm
+
+    module _ (lx : x < m) (y n : ℕ) (hy : y ≡ getD r 2 0) (hn : n ≡ getD a 11 0) where
+      two₁ : There a r 1
+      two₁ = type-there a b r (omega (arith, two .long)) on-type x m hx hm lx
+
+      deep₁ : Deep a b 11 r 1 0
+      deep₁ = type-deep a b r (omega (arith, two .long)) on-type x m hx hm
+
+      pub two-first : n ≤ y → 0 ≡ thereDepth a b 11 r
+      two-first l = absent-depth a b 11 r (there-off a r 1 two₁ (tag r) y false refl (omega (arith, two .long)) hy (ref-out a 23 y n (λ q. absurd (omega arith)) hn l refl .is (slotAt (tag r) 1) on-first) refl)
+
+      module _ (ly : y < n) (z : ℕ) (hz : z ≡ getD r 3 0) where
+        two₂ : There a r 2
+        two₂ = there-on a r 1 two₁ (tag r) y true refl (omega (arith, two .long)) hy (ref-in a 23 y n (λ q. absurd (omega arith)) hn ly .is (slotAt (tag r) 1) on-first) refl
+
+        pub two-second : n ≤ z → 0 ≡ thereDepth a b 11 r
+        two-second l = absent-depth a b 11 r (there-off a r 2 two₂ (tag r) z false refl (omega (arith, two .long)) hz (ref-out a 23 z n (λ q. absurd (omega arith)) hn l refl .is (slotAt (tag r) 2) on-second) refl)
+
+        pub two-deep : z < n → (d e m′ : ℕ) → d ≡ getD b (5248 + y) 0 → e ≡ getD b (5248 + z) 0 → m′ ≡ max d e → d < 4294967296 → e < 4294967296 → m′ + 1 ≡ thereDepth a b 11 r
+        two-deep lz d e m′ hd he hm′ sd se =
+            let u : d ≡ getD (depthsIn a b 11) y 0 = depth-node a b 11 y n d hn ly refl hd in
+            let v : e ≡ getD (depthsIn a b 11) z 0 = depth-node a b 11 z n e hn lz refl he in
+            let deep₂ : Deep a b 11 r 2 d = deep-on a b 11 r 1 0 deep₁ (omega arith) (tag r) y 23 d d refl (omega (arith, two .long)) hy on-first u (omega arith) sd in
+            let deep₃ : Deep a b 11 r 3 m′ = deep-on a b 11 r 2 d deep₂ (omega arith) (tag r) z 23 e m′ refl (omega (arith, two .long)) hz on-second v hm′ se in
+            let there₃ : There a r 3 = there-on a r 2 two₂ (tag r) z true refl (omega (arith, two .long)) hz (ref-in a 23 z n (λ q. absurd (omega arith)) hn lz .is (slotAt (tag r) 2) on-second) refl in
+            there-depth a b 11 r (m′ + 1) (there-end a r 3 there₃ (omega (arith, two .long))) (deep-end a b 11 r 3 m′ deep₃ (omega arith) (omega (arith, two .long)))
+
+pub two-row : (r : List ℕ) (t : ℕ) → length r ≡ 4 → t ≡ tag r → 24 ≤ t → ltb t 38 ≡ true → OnTwo r
+two-row r t l h low high = record { long = l; low = omega arith; high = omega (arith, ltb-true t 38 high) }
+
+pub as-node : (a b r : List ℕ) (k d : ℕ) → k ≡ 11 → d ≡ thereDepth a b 11 r → d ≡ thereDepth a b k r
+as-node a b r k d e h = h ∙ ap (λ (x : ℕ). thereDepth a b x r) (sym e)

@@ -1,21 +1,19 @@
 -- The code's table of forms is the definition's. Assumes nothing.
 use mathlib.Core.Path.{_≡_, refl, sym, ap, _∙_}
-use mathlib.Core.Bool.{Bool, true, false, cond, _&&_, _||_, and-eq-true-iff}
-use mathlib.Core.List.{List, [], _∷_, _++_, map}
-use Prim.Native.Nat.{ℕ, zero, suc, _+_, _-_, _*_, _%_, _≤_, _<_}
-use native.Mathlib.Nat.{mod-lt}
+use mathlib.Core.Bool.{Bool, true, false, cond, not, _&&_, _||_, and-eq-true-iff}
+use mathlib.Core.List.{List, [], _∷_}
+use Prim.Native.Nat.{ℕ, zero, suc, _+_, _-_, _/_, _%_, _≤_, _<_}
 use native.Mathlib.Omega.{arith}
-use native.Mathlib.Decide.{ℕ-discrete, decLt}
-use borrow.Author.Tests.{leb-true, eqb-true, ne-eqb, lt-ltb, le-ltb}
+use native.Mathlib.Decide.{decLt}
+use borrow.Author.Tests.{leb-true, eqb-true, eq-eqb, ne-eqb, le-ltb}
 use lib.Dec.{leb, eqb}
-use lib.ListN.{length, getD, List·getD-map, List·getD-append, List·getD-eq-default}
-use lib.Seq.{getD-append-add}
+use lib.ListN.{length, getD, List·getD-eq-default}
 use Rattle.cedar.specs.Numbered.{memN}
-use Rattle.words.specs.Bits.{digitOf, byteOf}
-use Rattle.sheet.specs.Forms.{Slot, nothing, Form, forms, formOf, noForm, slotAt}
+use Rattle.words.specs.Bits.{digitOf}
+use Rattle.sheet.specs.Forms.{Slot, nothing, Form, forms, formOf, noForm, slotIn, slotAt}
 use Rattle.sheet.proofs.Parsed.{allBelow, all-below}
-use Rattle.table.proofs.Counts.{small, entry-small, form-small, both-small, ranged, by-digit, all-same, past-end, NoneOf, none-of, other}
-use Rattle.checks.specs.Codes.{codeOf, refCodes, formCodes}
+use Rattle.table.proofs.Counts.{small, form-small, both-small, ranged, by-digit, all-same, past-end, NoneOf, none-of, other}
+use Rattle.checks.specs.Codes.{codeOf, formCodes, againCodes, codesAfter, codesAt}
 
 -- ---- how many lie between items that ascend
 
@@ -82,92 +80,155 @@ module _ (t : ℕ) where
       go (yes l) = zero-where 38 12 highNamed refl d h l
       go (no l) = codes-out t (omega arith)
 
-code-small : (i : ℕ) → getD refCodes i 0 ≤ 26
-unfolding refCodes small
-code-small i = entry-small 26 refCodes i 0 (omega arith) refl
+-- ---- the same of the group
 
-code-out : (i : ℕ) → 200 ≤ i → 0 ≡ getD refCodes i 0
-unfolding refCodes
-code-out i h = sym (List·getD-eq-default refCodes 0 h)
+abbrev pub againAt : ℕ → ℕ
+againAt t = getD againCodes t 0
 
--- the four bytes of a form's word
-byte-in : (i : ℕ) → allBelow (λ (t : ℕ). eqb (byteOf (codeAt t) i) (getD refCodes (t * 4 + i) 0)) 50 ≡ true → byteOf 0 i ≡ 0 → (t : ℕ) → byteOf (codeAt t) i ≡ getD refCodes (t * 4 + i) 0
-byte-in i e z t = go (decLt t 50)
+-- the forms with a group, the last first
+abbrev pub againNamed : List ℕ
+againNamed = 48 ∷ 47 ∷ 43 ∷ 40 ∷ 15 ∷ 14 ∷ 9 ∷ 8 ∷ []
+
+again-out : (t : ℕ) → 50 ≤ t → 0 ≡ againAt t
+unfolding againCodes
+again-out t h = sym (List·getD-eq-default againCodes 0 h)
+
+pub again-other : (t : ℕ) → NoneOf againNamed t → 0 ≡ againAt t
+unfolding againCodes
+again-other t d = go (decLt t 50)
   where
-    go : Dec (t < 50) → byteOf (codeAt t) i ≡ getD refCodes (t * 4 + i) 0
-    go (yes l) = eqb-true (byteOf (codeAt t) i) (getD refCodes (t * 4 + i) 0) (all-below (λ (t : ℕ). eqb (byteOf (codeAt t) i) (getD refCodes (t * 4 + i) 0)) 50 t e l)
-    go (no l) = ap (λ (w : ℕ). byteOf w i) (sym (codes-out t (omega arith))) ∙ z ∙ code-out (t * 4 + i) (omega arith)
+    go : Dec (t < 50) → 0 ≡ againAt t
+    go (yes l) = eqb-true 0 (againAt t) (other (memN t againNamed) (eqb 0 (againAt t)) (none-of againNamed t d) (all-below (λ (i : ℕ). memN i againNamed || eqb 0 (againAt i)) 50 t refl l))
+    go (no l) = again-out t (omega arith)
 
-byte-is : (i : ℕ) → i < 4 → (t : ℕ) → byteOf (codeAt t) i ≡ getD refCodes (t * 4 + i) 0
-unfolding refCodes formCodes byteOf
-byte-is zero h = byte-in 0 refl refl
-byte-is (suc zero) h = byte-in 1 refl refl
-byte-is (suc (suc zero)) h = byte-in 2 refl refl
-byte-is (suc (suc (suc zero))) h = byte-in 3 refl refl
-byte-is (suc (suc (suc (suc i)))) h = absurd (omega arith)
+pub after-rest : (w again v : ℕ) → v ≡ w / 256 → (v ≡ 0 → ⊥) → v ≡ codesAfter again w
+after-rest w again v e n = sym (rw (← e, ne-eqb v 0 n) refl)
 
-pub code-byte : (t i w r : ℕ) → i < 4 → w ≡ codeAt t → r ≡ byteOf w i → (r ≡ getD refCodes (t * 4 + i) 0) × (r ≤ 26)
-code-byte t i w r h e q =
-    let p : r ≡ getD refCodes (t * 4 + i) 0 = q ∙ ap (λ (x : ℕ). byteOf x i) e ∙ byte-is i h t in
-    (p, omega (arith, p, code-small (t * 4 + i)))
+pub after-group : (w again v : ℕ) → v ≡ w / 256 → v ≡ 0 → again ≡ codesAfter again w
+after-group w again v e z = sym (rw (← e, eq-eqb v 0 z) refl)
 
--- ---- four slots for each form
+-- ---- each place stands for one of the first ten: groups have one, two or three items
 
-abbrev all : Form → List Slot
-all f = f .items ++ f .group
-
-abbrev flat : List Form → List Slot
-flat [] = []
-flat (f ∷ fs) = getD (all f) 0 nothing ∷ getD (all f) 1 nothing ∷ getD (all f) 2 nothing ∷ getD (all f) 3 nothing ∷ flat fs
-
-flat-at : (fs : List Form) (t i : ℕ) → i < 4 → getD (flat fs) (t * 4 + i) nothing ≡ getD (all (getD fs t noForm)) i nothing
-flat-at [] t zero h = refl
-flat-at [] t (suc i) h = refl
-flat-at (f ∷ fs) zero zero h = refl
-flat-at (f ∷ fs) zero (suc zero) h = refl
-flat-at (f ∷ fs) zero (suc (suc zero)) h = refl
-flat-at (f ∷ fs) zero (suc (suc (suc zero))) h = refl
-flat-at (f ∷ fs) zero (suc (suc (suc (suc i)))) h = absurd (omega arith)
-flat-at (f ∷ fs) (suc t) i h =
-    let p : suc t * 4 + i ≡ suc (suc (suc (suc (t * 4 + i)))) = omega arith in
-    rw p (flat-at fs t i h)
-
-flat-is : refCodes ≡ map codeOf (flat forms)
-unfolding forms refCodes codeOf
-flat-is = refl
-
-code-is : (t i : ℕ) → i < 4 → getD refCodes (t * 4 + i) 0 ≡ codeOf (getD (all (formOf t)) i nothing)
-unfolding formOf codeOf
-code-is t i h = ap (λ (l : List ℕ). getD l (t * 4 + i) 0) flat-is ∙ List·getD-map codeOf (flat forms) (t * 4 + i) nothing ∙ ap codeOf (flat-at forms t i h)
+mod-six : (g x : ℕ) → 1 ≤ g → g ≤ 3 → (x + 6) % g ≡ x % g
+mod-six zero x h l = absurd (omega arith)
+mod-six (suc zero) x h l = omega arith
+mod-six (suc (suc zero)) x h l = omega arith
+mod-six (suc (suc (suc zero))) x h l = omega arith
+mod-six (suc (suc (suc (suc g)))) x h l = absurd (omega arith)
 
 no-group : (l : List Slot) → length l ≡ 0 → (i : ℕ) → getD l i nothing ≡ nothing
 no-group [] e i = refl
 no-group (x ∷ l) e i = absurd (omega arith)
 
--- ---- the answers of `ref_at`
+group-small : (t : ℕ) → length (formOf t .group) ≤ 3
+unfolding forms small
+group-small = form-small (λ (f : Form). length (f .group)) 3 (omega arith) refl
 
-module _ (t j n r : ℕ) (hn : (n ≡ length (formOf t .items)) × (n ≤ 4)) where
-  pub ref-item : j < n → (r ≡ getD refCodes (t * 4 + j) 0) × (r ≤ 26) → r ≡ codeOf (slotAt t j)
-  unfolding slotAt
-  ref-item h e =
-      let l : j < length (formOf t .items) = omega (arith, hn .0) in
-      e .0 ∙ code-is t j (omega arith) ∙ ap codeOf (List·getD-append (formOf t .items) (formOf t .group) nothing j l ∙ sym (rw (lt-ltb j (length (formOf t .items)) l) refl))
+slot-period : (t j : ℕ) → slotAt t (4 + j + 6) ≡ slotAt t (4 + j)
+unfolding slotAt
+slot-period t j =
+    let b = both-small t in
+    let n = length (formOf t .items) in
+    let p : 4 + j + 6 - n ≡ 4 + j - n + 6 = omega arith in
+    rw (le-ltb (4 + j + 6) n (omega arith), le-ltb (4 + j) n (omega arith), p) (go (formOf t .group) (group-small t))
+  where
+    go : (l : List Slot) → length l ≤ 3 → getD l ((4 + j - length (formOf t .items) + 6) % length l) nothing ≡ getD l ((4 + j - length (formOf t .items)) % length l) nothing
+    go [] h = refl
+    go (x ∷ l) h = ap (λ (i : ℕ). getD (x ∷ l) i nothing) (mod-six (length (x ∷ l)) (4 + j - length (formOf t .items)) (omega arith) h)
 
-  module _ (g : ℕ) (h : n ≤ j) (hg : (g ≡ length (formOf t .group)) × (g ≤ 3)) where
-    past : slotAt t j ≡ getD (formOf t .group) ((j - n) % g) nothing
-    unfolding slotAt
-    past = rw (← hn .0, ← hg .0, le-ltb j n h) refl
+codes-none : (t j : ℕ) → 50 ≤ t → codesAt t j ≡ 0
+unfolding codesAt
+codes-none t zero h = sym (codes-out t h)
+codes-none t (suc j) h = rw (codes-none t j h, ← (again-out t h)) refl
 
-    pub ref-past : g ≡ 0 → 0 ≡ codeOf (slotAt t j)
-    unfolding codeOf
-    ref-past e = sym (ap codeOf (past ∙ no-group (formOf t .group) (sym (hg .0) ∙ e) ((j - n) % g)))
+codes-ten : (t : ℕ) → codesAt t 10 ≡ codesAt t 4
+unfolding codesAt formCodes againCodes
+codes-ten t = go (decLt t 50)
+  where
+    go : Dec (t < 50) → codesAt t 10 ≡ codesAt t 4
+    go (yes l) = eqb-true (codesAt t 10) (codesAt t 4) (all-below (λ (i : ℕ). eqb (codesAt i 10) (codesAt i 4)) 50 t refl l)
+    go (no l) = codes-none t 10 (omega arith) ∙ sym (codes-none t 4 (omega arith))
 
-    pub ref-group : (g ≡ 0 → ⊥) → (r ≡ getD refCodes (t * 4 + (n + (j - n) % g)) 0) × (r ≤ 26) → r ≡ codeOf (slotAt t j)
-    ref-group ne e =
-        let l : (j - n) % g < g = mod-lt (j - n) {m = g} (omega arith) in
-        let x = (j - n) % g in
-        let b : n + g ≤ 4 = rw (hn .0, hg .0) (both-small t) in
-        e .0 ∙ code-is t (n + x) (omega arith) ∙ ap codeOf (ap (λ (i : ℕ). getD (all (formOf t)) (i + x) nothing) (hn .0) ∙ getD-append-add (formOf t .items) (formOf t .group) x nothing ∙ sym past)
+codes-period : (t j : ℕ) → codesAt t (4 + j + 6) ≡ codesAt t (4 + j)
+unfolding codesAt
+codes-period t zero = codes-ten t
+codes-period t (suc j) =
+    let p : 4 + suc j + 6 ≡ suc (4 + j + 6) = omega arith in
+    let q : 4 + suc j ≡ suc (4 + j) = omega arith in
+    rw (p, q) (ap (codesAfter (againAt t)) (codes-period t j))
+
+record Early (t j : ℕ) : Type 0 where
+  place : ℕ
+  low : place < 10
+  slot : slotAt t j ≡ slotAt t place
+  codes : codesAt t j ≡ codesAt t place
+
+early : (n t j : ℕ) → j < 10 + n → Early t j
+early zero t j h = record { place = j; low = omega arith; slot = refl; codes = refl }
+early (suc n) t j h = go (decLt j 10) (λ i l. early n t i l)
+  where
+    go : Dec (j < 10) → ((i : ℕ) → i < 10 + n → Early t i) → Early t j
+    go (yes l) f = record { place = j; low = l; slot = refl; codes = refl }
+    go (no l) f =
+        let e = f (j - 6) (omega arith) in
+        let p : j ≡ 4 + (j - 10) + 6 = omega arith in
+        let q : 4 + (j - 10) ≡ j - 6 = omega arith in
+        record {
+          place = e .place;
+          low = e .low;
+          slot = ap (slotAt t) p ∙ slot-period t (j - 10) ∙ ap (slotAt t) q ∙ e .slot;
+          codes = ap (codesAt t) p ∙ codes-period t (j - 10) ∙ ap (codesAt t) q ∙ e .codes;
+        }
+
+-- what holds of the code of each of the first ten places of some forms holds of every place of theirs
+module _ (p : ℕ → ℕ → Bool) (lo n : ℕ) (e : allBelow (λ (t : ℕ). allBelow (λ (j : ℕ). p (codesAt (lo + t) j) (codeOf (slotAt (lo + t) j))) 10) n ≡ true) where
+  every-place : (t j : ℕ) → lo ≤ t → t < lo + n → p (codesAt t j) (codeOf (slotAt t j)) ≡ true
+  every-place t j l h =
+      let y = early j t j (omega arith) in
+      rw (y .slot, y .codes) (all-below (λ (i : ℕ). p (codesAt t i) (codeOf (slotAt t i))) 10 (y .place) (ranged (λ (t : ℕ). allBelow (λ (j : ℕ). p (codesAt t j) (codeOf (slotAt t j))) 10) lo n e t l h) (y .low))
+
+isCode : ℕ → ℕ → Bool
+isCode w c = eqb (w % 256) c && leb c 26
+
+slot-none : (t j : ℕ) → 50 ≤ t → codeOf (slotAt t j) ≡ 0
+unfolding slotAt formOf forms codeOf
+slot-none t j h =
+    let f : formOf t ≡ noForm = List·getD-eq-default forms noForm h in
+    ap (λ (x : Form). codeOf (slotIn x j)) f ∙ go (decLt j 1)
+  where
+    go : Dec (j < 1) → codeOf (slotIn noForm j) ≡ 0
+    go (yes l) = let z : j ≡ 0 = omega arith in rw z refl
+    go (no l) = rw (le-ltb j 1 (omega arith)) refl
+
+code-some : (t j : ℕ) → t < 50 → isCode (codesAt t j) (codeOf (slotAt t j)) ≡ true
+unfolding isCode codesAt formCodes againCodes forms formOf slotAt codeOf
+code-some t j l = every-place isCode 0 50 refl t j (omega arith) l
+
+pub code-at : (t j w c : ℕ) → w ≡ codesAt t j → c ≡ w % 256 → (c ≡ codeOf (slotAt t j)) × (c ≤ 26)
+unfolding isCode
+code-at t j w c hw hc = go (decLt t 50)
+  where
+    go : Dec (t < 50) → (c ≡ codeOf (slotAt t j)) × (c ≤ 26)
+    go (yes l) =
+        let b = and-eq-true-iff (eqb (codesAt t j % 256) (codeOf (slotAt t j))) (leb (codeOf (slotAt t j)) 26) .0 (code-some t j l) in
+        let q : c ≡ codeOf (slotAt t j) = hc ∙ ap (λ (x : ℕ). x % 256) hw ∙ eqb-true (codesAt t j % 256) (codeOf (slotAt t j)) (b .0) in
+        (q, omega (arith, q, leb-true (codeOf (slotAt t j)) 26 (b .1)))
+    go (no l) =
+        let z : w ≡ 0 = hw ∙ codes-none t j (omega arith) in
+        let q : c ≡ codeOf (slotAt t j) = hc ∙ ap (λ (x : ℕ). x % 256) z ∙ sym (slot-none t j (omega arith)) in
+        (q, omega (arith, hc, z))
+
+-- the forms before 24 refer to no node
+isOther : ℕ → ℕ → Bool
+isOther w c = not (eqb c 23)
+
+pub no-node : (t j : ℕ) → t < 24 → eqb (codeOf (slotAt t j)) 23 ≡ false
+unfolding isOther codesAt formCodes againCodes forms formOf slotAt codeOf
+no-node t j h = go (eqb (codeOf (slotAt t j)) 23) (every-place isOther 0 24 refl t j (omega arith) h)
+  where
+    go : (b : Bool) → not b ≡ true → b ≡ false
+    go true e = sym e
+    go false e = refl
 
 -- ---- the first places of nodes
 
@@ -188,3 +249,11 @@ module _ (t j : ℕ) where
   pub node-second : 24 ≤ t → t < 39 → j ≡ 2 → (23 ≡ codeOf (slotAt t j)) × (23 ≤ 26)
   unfolding forms formOf slotAt codeOf
   node-second = placed-by 23 2 24 15 (omega arith) refl
+
+  pub leaf-value : t ≡ 21 → j ≡ 1 → (11 ≡ codeOf (slotAt t j)) × (11 ≤ 26)
+  unfolding forms formOf slotAt codeOf
+  leaf-value e = placed-by 11 1 21 1 (omega arith) refl (omega arith) (omega arith)
+
+  pub leaf-other : 22 ≤ t → t < 24 → j ≡ 1 → (0 ≡ codeOf (slotAt t j)) × (0 ≤ 26)
+  unfolding forms formOf slotAt codeOf
+  leaf-other = placed-by 0 1 22 2 (omega arith) refl

@@ -11,12 +11,13 @@ use lib.ListN.{length, getD, drop, drop-of-length-le, length-drop}
 use lib.Seq.{drop-cons, getD-drop}
 use Rattle.cedar.specs.Numbered.{memN}
 use Rattle.sheet.specs.Bytes.{same}
-use Rattle.sheet.specs.Forms.{Slot, entry, line, lineOr, lineUnknown, word, number, nothing, Form, forms, formOf, noForm, slotAt, tag, items, at, mark, everyFrom, ascendings}
+use Rattle.sheet.specs.Forms.{Slot, entry, line, lineOr, lineUnknown, word, number, nothing, Form, forms, formOf, noForm, slotAt, tag, items, at, mark, everyFrom, refs, ascendings}
 use Rattle.sheet.specs.State.{linesOf, lineAt, count}
-use Rattle.sheet.specs.Sheet.{thereIs, allThere, ascend, among, firsts, above, fresh, found}
-use Rattle.table.specs.Layout.{part, base, rowsOf, textRow, textRows}
-use Rattle.table.proofs.Rows.{count-held, count-rows, lines-held, row-at-is, row-some}
+use Rattle.sheet.specs.Sheet.{thereIs, allThere, ascend, among, firsts, above, fresh, found, deepest, depth}
+use Rattle.table.specs.Layout.{held, part, rowsOf, textRow}
+use Rattle.table.proofs.Rows.{count-held, count-rows, lines-held}
 use Rattle.checks.specs.Codes.{codeOf}
+use Rattle.checks.specs.Depths.{ThereAs, thereDepth}
 use Rattle.checks.proofs.FormTable.{stepIn}
 use Rattle.checks.proofs.OrderLaws.{rowsHeld}
 
@@ -95,28 +96,25 @@ module _ (a : List ℕ) (x : ℕ) where
   there-mark number n z l e h o = absurd (z refl)
   there-mark nothing n z l e h o = absurd (z refl)
 
-module _ (a : List ℕ) (t j x c : ℕ) (hc : (c ≡ codeOf (slotAt t j)) × (c ≤ 26)) where
-  pub ref-none : c ≡ 0 → true ≡ thereIs (rowsHeld a) (slotAt t j) x
-  ref-none z = there-none a x (slotAt t j) (sym (hc .0) ∙ z)
+module _ (a : List ℕ) (c x : ℕ) where
+  pub ref-none : c ≡ 0 → ThereAs a c x true
+  ref-none z = record { is = λ s hc. there-none a x s (sym (hc .0) ∙ z) }
 
   module _ (n : ℕ) (z : c ≡ 0 → ⊥) (e : n ≡ getD a ((c - 1) / 2) 0) where
-    some-code : codeOf (slotAt t j) ≡ 0 → ⊥
-    some-code q = z (hc .0 ∙ q)
+    some-code : (s : Slot) → c ≡ codeOf s → codeOf s ≡ 0 → ⊥
+    some-code s h q = z (h ∙ q)
 
-    low-code : codeOf (slotAt t j) ≤ 26
-    low-code = omega (arith, hc .0, hc .1)
+    count-code : (s : Slot) → c ≡ codeOf s → n ≡ getD a ((codeOf s - 1) / 2) 0
+    count-code s h = e ∙ ap (λ (y : ℕ). getD a ((y - 1) / 2) 0) h
 
-    count-code : n ≡ getD a ((codeOf (slotAt t j) - 1) / 2) 0
-    count-code = e ∙ ap (λ (y : ℕ). getD a ((y - 1) / 2) 0) (hc .0)
+    pub ref-in : x < n → ThereAs a c x true
+    ref-in h = record { is = λ s hc. there-in a x s n (some-code s (hc .0)) (omega (arith, hc .0, hc .1)) (count-code s (hc .0)) h }
 
-    pub ref-in : x < n → true ≡ thereIs (rowsHeld a) (slotAt t j) x
-    ref-in h = there-in a x (slotAt t j) n some-code low-code count-code h
+    pub ref-out : n ≤ x → c % 2 ≡ 1 → ThereAs a c x false
+    ref-out h o = record { is = λ s hc. there-out a x s n (some-code s (hc .0)) (omega (arith, hc .0, hc .1)) (count-code s (hc .0)) h (ap (λ (y : ℕ). y % 2) (sym (hc .0)) ∙ o) }
 
-    pub ref-out : n ≤ x → c % 2 ≡ 1 → false ≡ thereIs (rowsHeld a) (slotAt t j) x
-    ref-out h o = there-out a x (slotAt t j) n some-code low-code count-code h (ap (λ (y : ℕ). y % 2) (sym (hc .0)) ∙ o)
-
-    pub ref-mark : n ≤ x → (c % 2 ≡ 1 → ⊥) → eqb x 10000 ≡ thereIs (rowsHeld a) (slotAt t j) x
-    ref-mark h o = there-mark a x (slotAt t j) n some-code low-code count-code h (λ q. o (ap (λ (y : ℕ). y % 2) (hc .0) ∙ q))
+    pub ref-mark : n ≤ x → (c % 2 ≡ 1 → ⊥) → ThereAs a c x (eqb x 10000)
+    ref-mark h o = record { is = λ s hc. there-mark a x s n (some-code s (hc .0)) (omega (arith, hc .0, hc .1)) (count-code s (hc .0)) h (λ q. o (ap (λ (y : ℕ). y % 2) (hc .0) ∙ q)) }
 
 -- ---- a row's items in turn
 
@@ -255,56 +253,7 @@ module _ (a : List ℕ) (k n i : ℕ) (hn : n ≡ getD a k 0) where
   rows-on : (x : List ℕ) → i < n → x ≡ getD (rowsOf a k) i [] → drop i (rowsOf a k) ≡ x ∷ drop (i + 1) (rowsOf a k)
   rows-on x h e = rw (drop-cons (rowsOf a k) i [] (row-of a k n i hn h), ← e, add-one i) refl
 
-pub record Sought (r a : List ℕ) (k i : ℕ) : Type 0 where
-  pub left : among r (rowsOf a k) ≡ among r (drop i (rowsOf a k))
-
-pub sought-start : (r a : List ℕ) (k : ℕ) → Sought r a k 0
-sought-start r a k = record { left = refl }
-
-module _ (r a : List ℕ) (k n i : ℕ) (s : Sought r a k i) (hn : n ≡ getD a k 0) where
-  module _ (x : List ℕ) (b : Bool) (h : i < n) (hx : x ≡ getD (rowsOf a k) i []) (hb : b ≡ same r x) where
-    sought-at : among r (rowsOf a k) ≡ (b || among r (drop (i + 1) (rowsOf a k)))
-    sought-at = s .left ∙ rw (rows-on a k n i hn x h hx, ← hb) refl
-
-    pub sought-found : b ≡ true → true ≡ among r (rowsOf a k)
-    sought-found e = sym (sought-at ∙ rw e refl)
-
-    pub sought-on : b ≡ false → Sought r a k (i + 1)
-    sought-on e = record { left = sought-at ∙ rw e refl }
-
-  pub sought-end : n ≤ i → false ≡ among r (rowsOf a k)
-  sought-end h = sym (s .left ∙ ap (among r) (rows-end a k n i hn h))
-
--- the same, with where the next row begins
-pub record Walked (r a : List ℕ) (k i s : ℕ) : Type 0 where
-  pub seen : Sought r a k i
-  pub start : s ≡ getD a (base k + i) 0
-
-pub walked-start : (r a : List ℕ) (k b s : ℕ) → (b ≡ base k) × (b < 4003) → s ≡ getD a b 0 → Walked r a k 0 s
-walked-start r a k b s hb hs =
-    let z : b ≡ base k + 0 = omega (arith, hb .0) in
-    record { seen = sought-start r a k; start = hs ∙ ap (λ (j : ℕ). getD a j 0) z }
-
-module _ (r a : List ℕ) (k n i s : ℕ) (w : Walked r a k i s) (hn : n ≡ getD a k 0) where
-  module _ (b e : ℕ) (x : List ℕ) (c : Bool) (h : i < n) (hb : (b ≡ base k) × (b < 4003)) (he : e ≡ getD a (b + i + 1) 0) (hx : x ≡ part a s e) (hc : c ≡ same r x) where
-    next : e ≡ getD a (base k + i + 1) 0
-    next = he ∙ ap (λ (j : ℕ). getD a (j + i + 1) 0) (hb .0)
-
-    row-here : x ≡ getD (rowsOf a k) i []
-    row-here = row-some a k i n (base k) x hn h refl (row-at-is a (base k + i) s e x (w .start) next hx)
-
-    pub walked-found : c ≡ true → true ≡ among r (rowsOf a k)
-    walked-found = sought-found r a k n i (w .seen) hn x c h row-here hc
-
-    pub walked-on : c ≡ false → Walked r a k (i + 1) e
-    walked-on q =
-        let z : base k + i + 1 ≡ base k + (i + 1) = omega arith in
-        record { seen = sought-on r a k n i (w .seen) hn x c h row-here hc q; start = next ∙ ap (λ (j : ℕ). getD a j 0) z }
-
-  pub walked-end : n ≤ i → false ≡ among r (rowsOf a k)
-  walked-end = sought-end r a k n i (w .seen) hn
-
--- ---- a text among others
+-- ---- a text's row
 
 pub text-not : (sheet q text : List ℕ) (t : ℕ) → t ≡ tag q → (t ≡ 1 → ⊥) → false ≡ same (1 ∷ text) (textRow sheet q)
 text-not sheet q text t e n = sym (rw (← e, ne-eqb 1 t (λ z. n (sym z))) refl)
@@ -312,27 +261,6 @@ text-not sheet q text t e n = sym (rw (← e, ne-eqb 1 t (λ z. n (sym z))) refl
 pub text-same : (sheet q text : List ℕ) (t s n : ℕ) (b : Bool) (x : List ℕ) → t ≡ tag q → t ≡ 1 → s ≡ getD q 1 0 → n ≡ getD q 2 0 → x ≡ part sheet s (s + n) → b ≡ same text x
     → b ≡ same (1 ∷ text) (textRow sheet q)
 text-same sheet q text t s n b x e o hs hn hx hb = hb ∙ sym (rw (← e, eq-eqb 1 t (sym o), ← hs, ← hn, ← hx) refl)
-
-pub record Read (text sheet a : List ℕ) (i : ℕ) : Type 0 where
-  pub left : among text (textRows sheet (rowsOf a 1)) ≡ among text (textRows sheet (drop i (rowsOf a 1)))
-
-pub read-start : (text sheet a : List ℕ) → Read text sheet a 0
-read-start text sheet a = record { left = refl }
-
-module _ (text sheet a : List ℕ) (n i : ℕ) (s : Read (1 ∷ text) sheet a i) (hn : n ≡ getD a 1 0) where
-  module _ (x : List ℕ) (b : Bool) (h : i < n) (hx : x ≡ getD (rowsOf a 1) i []) (hb : b ≡ same (1 ∷ text) (textRow sheet x)) where
-    read-at : among (1 ∷ text) (textRows sheet (rowsOf a 1)) ≡ (b || among (1 ∷ text) (textRows sheet (drop (i + 1) (rowsOf a 1))))
-    read-at = s .left ∙ ap (λ (l : List (List ℕ)). among (1 ∷ text) (textRows sheet l)) (rows-on a 1 n i hn x h hx)
-        ∙ ap (λ (y : Bool). y || among (1 ∷ text) (textRows sheet (drop (i + 1) (rowsOf a 1)))) (sym hb)
-
-    pub read-found : b ≡ true → true ≡ among (1 ∷ text) (textRows sheet (rowsOf a 1))
-    read-found e = sym (read-at ∙ rw e refl)
-
-    pub read-on : b ≡ false → Read (1 ∷ text) sheet a (i + 1)
-    read-on e = record { left = read-at ∙ rw e refl }
-
-  pub read-end : n ≤ i → false ≡ among (1 ∷ text) (textRows sheet (rowsOf a 1))
-  read-end h = sym (s .left ∙ ap (λ (l : List (List ℕ)). among (1 ∷ text) (textRows sheet l)) (rows-end a 1 n i hn h))
 
 -- ---- a name among others
 
@@ -388,21 +316,41 @@ module _ (a : List ℕ) (k : ℕ) (r : List ℕ) where
   pub fresh-entity : (b : Bool) → b ≡ above (rowsHeld a) 6 r → k ≡ 6 → b ≡ fresh (rowsHeld a) k r
   fresh-entity b hb e = hb ∙ sym (rw e refl)
 
+  pub fresh-node : k ≡ 11 → true ≡ fresh (rowsHeld a) k r
+  fresh-node e = sym (rw e refl)
+
   pub fresh-other : (k ≡ 1 → ⊥) → (k ≡ 3 → ⊥) → (k ≡ 5 → ⊥) → (k ≡ 2 → ⊥) → (k ≡ 12 → ⊥) → (k ≡ 6 → ⊥) → true ≡ fresh (rowsHeld a) k r
   fresh-other n₁ n₃ n₅ n₂ n₁₂ n₆ = sym (rw (ne-eqb k 1 n₁, ne-eqb k 3 n₃, ne-eqb k 5 n₅, ne-eqb k 2 n₂, ne-eqb k 12 n₁₂, ne-eqb k 6 n₆) refl)
 
-  -- ---- all of 5
+  -- ---- all of 5, with the depth of 6
 
-  module _ (t : Bool) (ht : t ≡ allThere (rowsHeld a) (tag r) 0 (items r)) where
-    pub found-absent : not t ≡ true → false ≡ found (rowsHeld a) k r
-    unfolding found
-    found-absent n = sym (rw (← ht, not-true t n) refl)
+  module _ (b : List ℕ) (d : ℕ) (hd : d ≡ thereDepth a b k r) where
+    pub new-absent : d ≡ 0 → 0 ≡ cond (found (rowsHeld a) k r) (depth (held [] a b) k r) 0
+    unfolding thereDepth found depth
+    new-absent z = go (allThere (rowsHeld a) (tag r) 0 (items r)) (sym z ∙ hd)
+      where
+        go : (t : Bool) → 0 ≡ cond t (suc (deepest (held [] a b) k (refs k r))) 0 → 0 ≡ cond (t && ascend 0 (ascendings r) && fresh (rowsHeld a) k r) (suc (deepest (held [] a b) k (refs k r))) 0
+        go true e = absurd (omega arith)
+        go false e = refl
 
-    module _ (pt : not t ≡ false) (u : Bool) (hu : u ≡ ascend 0 (ascendings r)) where
-      pub found-falls : not u ≡ true → false ≡ found (rowsHeld a) k r
+    module _ (n : d ≡ 0 → ⊥) (u : Bool) (hu : u ≡ ascend 0 (ascendings r)) where
+      all-there : allThere (rowsHeld a) (tag r) 0 (items r) ≡ true
+      unfolding thereDepth
+      all-there = go (allThere (rowsHeld a) (tag r) 0 (items r)) hd
+        where
+          go : (t : Bool) → d ≡ cond t (depth (held [] a b) k r) 0 → t ≡ true
+          go true e = refl
+          go false e = absurd (n e)
+
+      pub new-falls : not u ≡ true → 0 ≡ cond (found (rowsHeld a) k r) (depth (held [] a b) k r) 0
       unfolding found
-      found-falls n = sym (rw (← ht, not-false t pt, ← hu, not-true u n) refl)
+      new-falls m = sym (rw (all-there, ← hu, not-true u m) refl)
 
-      pub found-fresh : not u ≡ false → (b : Bool) → b ≡ fresh (rowsHeld a) k r → b ≡ found (rowsHeld a) k r
-      unfolding found
-      found-fresh n b hb = hb ∙ sym (rw (← ht, not-false t pt, ← hu, not-false u n) refl)
+      module _ (m : not u ≡ false) (v : Bool) (hv : v ≡ fresh (rowsHeld a) k r) where
+        pub new-again : not v ≡ true → 0 ≡ cond (found (rowsHeld a) k r) (depth (held [] a b) k r) 0
+        unfolding found
+        new-again l = sym (rw (all-there, ← hu, not-false u m, ← hv, not-true v l) refl)
+
+        pub new-deep : not v ≡ false → d ≡ cond (found (rowsHeld a) k r) (depth (held [] a b) k r) 0
+        unfolding found thereDepth
+        new-deep l = hd ∙ rw (all-there, ← hu, not-false u m, ← hv, not-false v l) refl

@@ -1,5 +1,6 @@
 mod FormTable
 pub mod OrderLaws
 pub mod FoundLaws
+pub mod SearchLaws
 pub mod DepthLaws
 pub mod UseLaws

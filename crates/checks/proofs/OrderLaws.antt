@@ -1,8 +1,9 @@
 -- Order of keys and greatest numbers of lines, as the code asks for them. Assumes nothing.
-use mathlib.Core.Path.{_≡_, refl, sym, ap, _∙_}
-use mathlib.Core.Bool.{Bool, true, false, _&&_}
+use mathlib.Core.Path.{_≡_, refl, sym, ap, subst, _∙_}
+use mathlib.Core.Logic.{_⊎_, inl, inr}
+use mathlib.Core.Bool.{Bool, true, false, not, _&&_, _||_}
 use mathlib.Core.List.{List, [], _∷_}
-use Prim.Native.Nat.{ℕ, suc, _+_, _-_, _≤_, _<_}
+use Prim.Native.Nat.{ℕ, zero, suc, _+_, _-_, _*_, _%_, _^_, _≤_, _<_}
 use native.Mathlib.Numerals.{add-one}
 use native.Mathlib.Omega.{arith}
 use native.Mathlib.Decide.{ℕ-discrete, decLt}
@@ -13,9 +14,10 @@ use lib.Seq.{drop-cons, getD-set-other}
 use Rattle.sheet.specs.Forms.{KIND}
 use Rattle.sheet.specs.State.{State, count}
 use Rattle.sheet.specs.Sheet.{least, greatest, reach, enough, allZero, inOrder}
-use Rattle.sheet.proofs.Parsed.{allBelow}
+use Rattle.words.specs.Bits.{digitOf}
+use Rattle.sheet.proofs.Parsed.{allBelow, all-below}
 use Rattle.table.specs.Layout.{held}
-use Rattle.table.proofs.Counts.{ranged}
+use Rattle.table.proofs.Counts.{ranged, other}
 use Rattle.table.proofs.Rows.{count-held}
 use Rattle.table.proofs.Held.{length-tab, getD-tab, countsIn, counts-held}
 
@@ -46,35 +48,29 @@ module _ (s : State) where
   unfolding mostTable
   most-set = refl
 
-pub least-shape : (a : List ℕ) (k n : ℕ) → k ≡ 4 → n ≡ getD a 2 0 → n ≡ getD (least (rowsHeld a)) k 0
-least-shape a k n h e = rw h (e ∙ sym (count-held [] a [] 2 (omega arith)))
-
 least-in : (a : List ℕ) (k : ℕ) → (k ≡ 4 → ⊥) → getD leastTable k 0 ≡ getD (least (rowsHeld a)) k 0
 least-in a k h = sym (ap (λ (l : List ℕ). getD l k 0) (least-set (rowsHeld a)) ∙ getD-set-other leastTable 4 k (count (rowsHeld a) KIND) 0 h)
 
-module _ (a : List ℕ) (k : ℕ) where
-  least-by : (v lo n : ℕ) → allBelow (λ (i : ℕ). eqb v (getD leastTable (lo + i) 0)) n ≡ true → (k ≡ 4 → ⊥) → lo ≤ k → k < lo + n → v ≡ getD (least (rowsHeld a)) k 0
-  least-by v lo n e d l h = eqb-true v (getD leastTable k 0) (ranged (λ (i : ℕ). eqb v (getD leastTable i 0)) lo n e k l h) ∙ least-in a k d
+module _ (a : List ℕ) where
+  least-by : (v lo n : ℕ) → allBelow (λ (i : ℕ). eqb v (getD leastTable (lo + i) 0)) n ≡ true → (i : ℕ) → (i ≡ 4 → ⊥) → lo ≤ i → i < lo + n → v ≡ getD (least (rowsHeld a)) i 0
+  least-by v lo n e i d l h = eqb-true v (getD leastTable i 0) (ranged (λ (i : ℕ). eqb v (getD leastTable i 0)) lo n e i l h) ∙ least-in a i d
 
-  pub least-sheet : (k ≡ 4 → ⊥) → k ≡ 0 → 1 ≡ getD (least (rowsHeld a)) k 0
-  unfolding leastTable
-  least-sheet d e = least-by 1 0 1 refl d (omega arith) (omega arith)
+  least-shape : getD (least (rowsHeld a)) 4 0 ≡ getD a 2 0
+  least-shape = count-held [] a [] 2 (omega arith)
 
-  pub least-lists : (k ≡ 4 → ⊥) → (k ≡ 0 → ⊥) → k < 7 → 0 ≡ getD (least (rowsHeld a)) k 0
+  -- the keys of which a line can be missing: sheet, shape, and those of the request
+  least-one : (i : ℕ) → (i ≡ 0) ⊎ ((7 ≤ i) × (i < 11)) → 1 ≡ getD (least (rowsHeld a)) i 0
   unfolding leastTable
-  least-lists d z h = least-by 0 1 6 refl d (omega arith) h
+  least-one i (inl e) = least-by 1 0 1 refl i (λ q. absurd (omega arith)) (omega arith) (omega arith)
+  least-one i (inr e) = least-by 1 7 4 refl i (λ q. absurd (omega arith)) (e .0) (e .1)
 
-  pub least-request : (k ≡ 4 → ⊥) → 7 ≤ k → k < 11 → 1 ≡ getD (least (rowsHeld a)) k 0
+  least-none : (i : ℕ) → i < 13 → (i ≡ 0 → ⊥) → (i ≡ 4 → ⊥) → (i < 7) ⊎ (11 ≤ i) → 0 ≡ getD (least (rowsHeld a)) i 0
   unfolding leastTable
-  least-request d l h = least-by 1 7 4 refl d l h
+  least-none i h z d (inl l) = least-by 0 1 6 refl i d (omega arith) l
+  least-none i h z d (inr l) = least-by 0 11 2 refl i d l h
 
-  pub least-last : (k ≡ 4 → ⊥) → 11 ≤ k → 0 ≡ getD (least (rowsHeld a)) k 0
-  unfolding leastTable
-  least-last d l = go (decLt k 13)
-    where
-      go : Dec (k < 13) → 0 ≡ getD (least (rowsHeld a)) k 0
-      go (yes h) = least-by 0 11 2 refl d l h
-      go (no h) = let q : 13 ≤ k = omega arith in sym (List·getD-eq-default (least (rowsHeld a)) 0 q)
+pub most-nodes : (a : List ℕ) (k : ℕ) → k ≡ 11 → 1024 ≡ getD (greatest (rowsHeld a)) k 0
+most-nodes a k h = rw h refl
 
 pub most-shape : (a : List ℕ) (k n : ℕ) → k ≡ 4 → n ≡ getD a 2 0 → n ≡ getD (greatest (rowsHeld a)) k 0
 most-shape a k n h e = rw h (e ∙ sym (count-held [] a [] 2 (omega arith)))
@@ -84,6 +80,26 @@ most-in a k h = sym (ap (λ (l : List ℕ). getD l k 0) (most-set (rowsHeld a)) 
 
 pub most-out : (a : List ℕ) (k : ℕ) → 13 ≤ k → 0 ≡ getD (greatest (rowsHeld a)) k 0
 most-out a k h = sym (List·getD-eq-default (greatest (rowsHeld a)) 0 h)
+
+module _ (w i d : ℕ) (e : d ≡ digitOf w i) where
+  pub digit-low : d < 32
+  unfolding digitOf
+  digit-low = omega (arith, e)
+
+  pub digit-fits : d < 4294967296
+  unfolding digitOf
+  digit-fits = omega (arith, e)
+
+pub most-power : (a : List ℕ) (k d : ℕ) → (k ≡ 4 → ⊥) → k < 13 → d ≡ digitOf 0x0006_a000_07a0_7590 k → (1 * 2 ^ d) % 4294967296 ≡ getD (greatest (rowsHeld a)) k 0
+unfolding mostTable digitOf
+most-power a k d h l e =
+    ap (λ (x : ℕ). (1 * 2 ^ x) % 4294967296) e ∙ eqb-true (power k) (getD mostTable k 0) (other (eqb k 4) (eqb (power k) (getD mostTable k 0)) (ne-eqb k 4 h) (all-below test 13 k refl l)) ∙ most-in a k h
+  where
+    power : ℕ → ℕ
+    power k = (1 * 2 ^ digitOf 0x0006_a000_07a0_7590 k) % 4294967296
+
+    test : ℕ → Bool
+    test k = eqb k 4 || eqb (power k) (getD mostTable k 0)
 
 -- ---- 4
 
@@ -129,13 +145,20 @@ module _ (a : List ℕ) (k i : ℕ) (z : Zeros a k i) where
   pub zeros-end : (r : Bool) → 13 ≤ i → r ≡ enough (rowsHeld a) k → r ≡ inOrder (rowsHeld a) k
   zeros-end r h e = e ∙ sym (order-is ∙ ap (λ (l : List ℕ). allZero l && enough (rowsHeld a) k) (drop-of-length-le (countsIn a) {i = i} (rw (counts-long a) h)))
 
+-- of the nodes' key on there is one key more
+pub nodes-off : (a : List ℕ) (k n : ℕ) → k ≡ 11 → n ≡ getD a 12 0 → (n ≡ 0 → ⊥) → false ≡ inOrder (rowsHeld a) k
+nodes-off a k n d e z = rw d (zeros-off a 11 12 (zeros-start a 11) n (omega arith) e z)
+
+pub nodes-on : (a : List ℕ) (k n : ℕ) (r : Bool) → k ≡ 11 → n ≡ getD a 12 0 → n ≡ 0 → r ≡ enough (rowsHeld a) 11 → r ≡ inOrder (rowsHeld a) k
+nodes-on a k n r d e z h = rw d (zeros-end a 11 13 (zeros-on a 11 12 (zeros-start a 11) n (omega arith) e z) r (omega arith) h)
+
 -- ---- 3: keys before k
 
 pub record Reached (a : List ℕ) (k i : ℕ) : Type 0 where
   pub near : i ≤ k
   pub left : reach (take k (countsIn a)) (least (rowsHeld a)) ≡ reach (take (k - i) (drop i (countsIn a))) (drop i (least (rowsHeld a)))
 
-pub reached-start : (a : List ℕ) (k : ℕ) → Reached a k 0
+reached-start : (a : List ℕ) (k : ℕ) → Reached a k 0
 reached-start a k = let z : k - 0 ≡ k = omega arith in record { near = omega arith; left = rw z }
 
 least-long : (a : List ℕ) → length (least (rowsHeld a)) ≡ 13
@@ -153,11 +176,69 @@ module _ (a : List ℕ) (k i : ℕ) (z : Reached a k i) where
         let l : i < 13 = omega arith in
         rw (p, drop-cons (countsIn a) i 0 (rw (counts-long a) l), count-at a i l, ← e, drop-cons (least (rowsHeld a)) i 0 l, ← f, add-one i) refl
 
-    pub reached-off : n < m → false ≡ enough (rowsHeld a) k
+    reached-off : n < m → false ≡ enough (rowsHeld a) k
     reached-off d = sym (enough-is ∙ reach-at ∙ rw (lt-leb m n d) refl)
 
-    pub reached-on : m ≤ n → Reached a k (i + 1)
+    reached-on : m ≤ n → Reached a k (i + 1)
     reached-on d = record { near = omega arith; left = z .left ∙ reach-at ∙ rw (le-leb m n d) refl }
 
-  pub reached-end : k ≤ i → true ≡ enough (rowsHeld a) k
+  reached-end : k ≤ i → true ≡ enough (rowsHeld a) k
   reached-end h = let p : k - i ≡ 0 = omega arith in sym (enough-is ∙ rw p refl)
+
+module _ (a : List ℕ) (k : ℕ) (top : k ≤ 13) where
+  -- a key before k lacks a line
+  missing-from : (n i : ℕ) → Reached a k i → i + n < k → getD a (i + n) 0 < getD (least (rowsHeld a)) (i + n) 0 → false ≡ enough (rowsHeld a) k
+  missing-from zero i z h l =
+      let e : i + 0 ≡ i = omega arith in
+      reached-off a k i z (getD a i 0) (getD (least (rowsHeld a)) i 0) (omega arith) top refl refl (subst (λ (j : ℕ). getD a j 0 < getD (least (rowsHeld a)) j 0) e l)
+  missing-from (suc n) i z h l = go (decLt (getD a i 0) (getD (least (rowsHeld a)) i 0)) (λ y. missing-from n (i + 1) y (omega arith) (subst (λ (j : ℕ). getD a j 0 < getD (least (rowsHeld a)) j 0) e l))
+    where
+      e : i + suc n ≡ i + 1 + n
+      e = omega arith
+
+      go : Dec (getD a i 0 < getD (least (rowsHeld a)) i 0) → (Reached a k (i + 1) → false ≡ enough (rowsHeld a) k) → false ≡ enough (rowsHeld a) k
+      go (yes d) f = reached-off a k i z (getD a i 0) (getD (least (rowsHeld a)) i 0) (omega arith) top refl refl d
+      go (no d) f = f (reached-on a k i z (getD a i 0) (getD (least (rowsHeld a)) i 0) (omega arith) top refl refl (omega arith))
+
+  all-from : (n i : ℕ) → Reached a k i → i + n ≡ k → ((j : ℕ) → j < k → getD (least (rowsHeld a)) j 0 ≤ getD a j 0) → true ≡ enough (rowsHeld a) k
+  all-from zero i z e h = reached-end a k i z (omega arith)
+  all-from (suc n) i z e h = all-from n (i + 1) (reached-on a k i z (getD a i 0) (getD (least (rowsHeld a)) i 0) (omega arith) top refl refl (h i (omega arith))) (omega arith) h
+
+  pub one-missing : (i n : ℕ) → (i ≡ 0) ⊎ ((7 ≤ i) × (i < 11)) → i < k → n ≡ getD a i 0 → n ≡ 0 → false ≡ enough (rowsHeld a) k
+  one-missing i n o h e z = missing-from i 0 (reached-start a k) (omega arith) (subst (λ (j : ℕ). getD a j 0 < getD (least (rowsHeld a)) j 0) q (omega (arith, least-one a i o)))
+    where
+      q : i ≡ 0 + i
+      q = omega arith
+
+  pub shape-missing : (n m : ℕ) → 4 < k → n ≡ getD a 4 0 → m ≡ getD a 2 0 → n < m → false ≡ enough (rowsHeld a) k
+  shape-missing n m h e f l = missing-from 4 0 (reached-start a k) h (omega (arith, least-shape a))
+
+  pub none-missing : (0 < k → 1 ≤ getD a 0 0) → (4 < k → getD a 2 0 ≤ getD a 4 0) → (7 < k → 1 ≤ getD a 7 0) → (8 < k → 1 ≤ getD a 8 0) → (9 < k → 1 ≤ getD a 9 0) → (10 < k → 1 ≤ getD a 10 0)
+      → true ≡ enough (rowsHeld a) k
+  none-missing sheet shape principal action resource context = all-from k 0 (reached-start a k) (omega arith) each
+    where
+      one : (j i : ℕ) → j ≡ i → (i ≡ 0) ⊎ ((7 ≤ i) × (i < 11)) → 1 ≤ getD a i 0 → getD (least (rowsHeld a)) j 0 ≤ getD a j 0
+      one j i e o l = rw e (omega (arith, least-one a i o))
+
+      request : (j : ℕ) → j < k → 7 ≤ j → j < 11 → Dec (j ≡ 7) → Dec (j ≡ 8) → Dec (j ≡ 9) → getD (least (rowsHeld a)) j 0 ≤ getD a j 0
+      request j h l u (yes e) y z = one j 7 e (inr (omega arith, omega arith)) (principal (omega arith))
+      request j h l u (no x) (yes e) z = one j 8 e (inr (omega arith, omega arith)) (action (omega arith))
+      request j h l u (no x) (no y) (yes e) = one j 9 e (inr (omega arith, omega arith)) (resource (omega arith))
+      request j h l u (no x) (no y) (no z) = let e : j ≡ 10 = omega arith in one j 10 e (inr (omega arith, omega arith)) (context (omega arith))
+
+      go : (j : ℕ) → j < k → Dec (j ≡ 0) → Dec (j ≡ 4) → Dec (j < 7) → Dec (j < 11) → getD (least (rowsHeld a)) j 0 ≤ getD a j 0
+      go j h (yes e) d u v = one j 0 e (inl refl) (sheet (omega arith))
+      go j h (no z) (yes e) u v = rw e (omega (arith, least-shape a, shape (omega arith)))
+      go j h (no z) (no d) (yes u) v = omega (arith, least-none a j (omega arith) z d (inl u))
+      go j h (no z) (no d) (no u) (yes v) = request j h (omega arith) v (ℕ-discrete j 7) (ℕ-discrete j 8) (ℕ-discrete j 9)
+      go j h (no z) (no d) (no u) (no v) = omega (arith, least-none a j (omega arith) z d (inr (omega arith)))
+
+      each : (j : ℕ) → j < k → getD (least (rowsHeld a)) j 0 ≤ getD a j 0
+      each j h = go j h (ℕ-discrete j 0) (ℕ-discrete j 4) (decLt j 7) (decLt j 11)
+
+  pub context-decides : (n : ℕ) → 10 < k → n ≡ getD a 10 0 → 1 ≤ getD a 0 0 → getD a 2 0 ≤ getD a 4 0 → 1 ≤ getD a 7 0 → 1 ≤ getD a 8 0 → 1 ≤ getD a 9 0 → not (eqb n 0) ≡ enough (rowsHeld a) k
+  context-decides n h e sheet shape principal action resource = go (ℕ-discrete n 0)
+    where
+      go : Dec (n ≡ 0) → not (eqb n 0) ≡ enough (rowsHeld a) k
+      go (yes z) = ap not (eq-eqb n 0 z) ∙ one-missing 10 n (inr (omega arith, omega arith)) h e z
+      go (no z) = ap not (ne-eqb n 0 z) ∙ none-missing (λ q. sheet) (λ q. shape) (λ q. principal) (λ q. action) (λ q. resource) (λ q. omega arith)

@@ -1,21 +1,23 @@
 -- Uses of nodes, as the code marks them. Assumes nothing.
 use mathlib.Core.Path.{_≡_, refl, sym, ap, ap₂, subst, _∙_}
 use mathlib.Core.Bool.{Bool, true, false, _||_}
-use mathlib.Core.List.{List, []}
-use Prim.Native.Nat.{ℕ, suc, _+_, _≤_, _<_}
+use mathlib.Core.List.{List, [], _∷_}
+use Prim.Native.Nat.{ℕ, suc, _+_, _%_, _≤_, _<_}
 use native.Mathlib.Numerals.{add-one}
 use native.Mathlib.Omega.{arith}
 use borrow.Author.Tests.{eq-eqb, ne-eqb}
 use lib.Dec.{eqb}
 use lib.ListN.{length, getD, take, drop, set, length-take, List·getD-eq-default}
 use lib.Seq.{getD-take, getD-drop, set-out, take-set-lt, take-set-le, drop-set-lt, drop-set-add}
-use Rattle.sheet.specs.Forms.{slotAt, tag, keep, refsFrom, refs, NODE}
+use Rattle.sheet.specs.Forms.{slotAt, tag, items, keep, refsFrom, refs, NODE}
 use Rattle.sheet.specs.Sheet.{marked, usedTwice}
 use Rattle.table.specs.Layout.{USES}
-use Rattle.checks.specs.Codes.{codeOf}
+use Rattle.checks.specs.Codes.{codeOf, formCodes, againCodes, codesAfter, codesAt}
+use Rattle.checks.specs.Depths.{OnTwo}
+use Rattle.checks.proofs.FormTable.{code-at, no-node}
 use Rattle.checks.specs.Uses.{usesIn, Marked}
 use Rattle.checks.proofs.FoundLaws.{items-end}
-use Rattle.checks.proofs.DepthLaws.{refs-at}
+use Rattle.checks.proofs.DepthLaws.{line-code, refs-at, on-type, on-first, on-second}
 
 or-false : (x : Bool) → (x || false) ≡ x
 or-false true = refl
@@ -132,3 +134,66 @@ module _ (a b₀ r b : List ℕ) (j : ℕ) (i : Using a b₀ r b j) where
         below = i .below;
         above = i .above;
       }
+
+-- the same, with what the places left refer to
+pub record Marking (a b₀ r b : List ℕ) (w j : ℕ) : Type 0 where
+  pub marks : Using a b₀ r b j
+  pub codes : w ≡ codesAt (tag r) j
+  pub small : w < 4294967296
+
+pub marking-start : (a b r : List ℕ) (t w : ℕ) → t ≡ tag r → w ≡ getD formCodes t 0 → w < 4294967296 → Marking a b r b w 0
+unfolding codesAt
+marking-start a b r t w ht hw small = record { small = small; marks = using-start a b r; codes = hw ∙ ap (λ (x : ℕ). getD formCodes x 0) ht }
+
+module _ (a b₀ r b : List ℕ) (w j : ℕ) (i : Marking a b₀ r b w j) where
+  module _ (t x c : ℕ) (ht : t ≡ tag r) (h : j + 1 < length r) (hc : c ≡ w % 256) (hx : x ≡ getD r (j + 1) 0) (b′ : List ℕ) (v : Bool) (m : Marked a b (keep (eqb c 23) x []) b′ v) where
+    code-here : (c ≡ codeOf (slotAt t j)) × (c ≤ 26)
+    code-here = code-at t j w c (i .codes ∙ ap (λ (y : ℕ). codesAt y j) (sym ht)) hc
+
+    pub marking-twice : v ≡ true → Marked a b₀ (refs 11 r) b′ true
+    marking-twice = using-twice a b₀ r b j (i .marks) t x c ht h hx code-here b′ v m
+
+    pub marking-on : v ≡ false → length b′ ≡ length b → (again w′ : ℕ) → again ≡ getD againCodes t 0 → w′ ≡ codesAfter again w → w′ < 4294967296 → Marking a b₀ r b′ w′ (j + 1)
+    unfolding codesAt
+    marking-on e l again w′ ha hw low′ =
+        record {
+          small = low′;
+          marks = using-on a b₀ r b j (i .marks) t x c ht h hx code-here b′ v m e l;
+          codes = hw ∙ ap₂ codesAfter (ha ∙ ap (λ (z : ℕ). getD againCodes z 0) ht) (i .codes) ∙ ap (codesAt (tag r)) (sym (add-one j));
+        }
+
+  pub marking-end : length r ≤ j + 1 → Marked a b₀ (refs 11 r) b false
+  marking-end = using-end a b₀ r b j (i .marks)
+
+-- ---- rows without nodes
+
+no-refs : (t j : ℕ) (l : List ℕ) → t < 24 → refsFrom 11 t j l ≡ []
+no-refs t j [] h = refl
+no-refs t j (x ∷ l) h = rw (line-code 11 (slotAt t j), no-node t j h) (no-refs t (suc j) l h)
+
+pub use-nothing : (a b r : List ℕ) (t : ℕ) → t ≡ tag r → t < 24 → Marked a b (refs 11 r) b false
+unfolding refs
+use-nothing a b r t e h =
+    rw (no-refs (tag r) 0 (items r) (omega arith))
+    (record { twice-is = refl; uses = λ z. refl; below = refl; above = λ z. refl })
+
+-- ---- a node that works on two
+
+module _ (a b r : List ℕ) (two : OnTwo r) where
+  using₁ : Using a b r b 1
+  using₁ = using-on a b r b 0 (using-start a b r) (tag r) (getD r 1 0) 7 refl (omega (arith, two .long)) refl (on-type a b r two) b false (use-other a b 7 (getD r 1 0) (λ q. absurd (omega arith))) refl refl
+
+  module _ (y : ℕ) (hy : y ≡ getD r 2 0) (b₁ : List ℕ) (u : Bool) (m : Marked a b (keep (eqb 23 23) y []) b₁ u) where
+    pub first-twice : u ≡ true → Marked a b (refs 11 r) b₁ true
+    first-twice = using-twice a b r b 1 using₁ (tag r) y 23 refl (omega (arith, two .long)) hy (on-first a b r two) b₁ u m
+
+    module _ (e : u ≡ false) (l : length b₁ ≡ length b) (z : ℕ) (hz : z ≡ getD r 3 0) (b₂ : List ℕ) (v : Bool) (n : Marked a b₁ (keep (eqb 23 23) z []) b₂ v) (k : length b₂ ≡ length b₁) where
+      using₂ : Using a b r b₁ 2
+      using₂ = using-on a b r b 1 using₁ (tag r) y 23 refl (omega (arith, two .long)) hy (on-first a b r two) b₁ u m e l
+
+      pub second-marked : Marked a b (refs 11 r) b₂ v
+      second-marked = go v n
+        where
+          go : (v : Bool) → Marked a b₁ (keep (eqb 23 23) z []) b₂ v → Marked a b (refs 11 r) b₂ v
+          go true n = using-twice a b r b₁ 2 using₂ (tag r) z 23 refl (omega (arith, two .long)) hz (on-second a b r two) b₂ true n refl
+          go false n = using-end a b r b₂ 3 (using-on a b r b₁ 2 using₂ (tag r) z 23 refl (omega (arith, two .long)) hz (on-second a b r two) b₂ false n refl k) (omega (arith, two .long))

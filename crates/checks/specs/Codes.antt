@@ -1,6 +1,9 @@
 -- What an item refers to, as a number.
 use mathlib.Core.List.{List, [], _∷_}
-use Prim.Native.Nat.{ℕ, _+_, _*_}
+use mathlib.Core.Bool.{cond}
+use Prim.Native.Nat.{ℕ, zero, suc, _+_, _*_, _/_}
+use lib.Dec.{eqb}
+use lib.ListN.{getD}
 use Rattle.sheet.specs.Forms.{Slot, entry, line, lineOr, lineUnknown, word, number, nothing}
 
 -- an odd number for a line of a key, an even one where a mark may stand instead, 0 for an item that refers to no line
@@ -13,17 +16,7 @@ codeOf (word ws) = 0
 codeOf number = 0
 codeOf nothing = 0
 
--- four for each form: its items, then those of its group
-unfoldable pub refCodes : List ℕ
-refCodes =
-    0 ∷ 0 ∷ 0 ∷ 0 ∷ 0 ∷ 0 ∷ 0 ∷ 0 ∷ 3 ∷ 0 ∷ 0 ∷ 0 ∷ 0 ∷ 0 ∷ 0 ∷ 0 ∷ 0 ∷ 0 ∷ 0 ∷ 0 ∷ 0 ∷ 0 ∷ 0 ∷ 0 ∷ 5 ∷ 0 ∷ 0 ∷ 0 ∷ 7 ∷ 0 ∷ 0 ∷ 0 ∷ 3 ∷ 0 ∷ 7 ∷ 0 ∷ 7 ∷ 8 ∷ 5 ∷ 0
-    ∷ 0 ∷ 0 ∷ 0 ∷ 0 ∷ 0 ∷ 0 ∷ 0 ∷ 0 ∷ 3 ∷ 0 ∷ 0 ∷ 0 ∷ 5 ∷ 3 ∷ 0 ∷ 0 ∷ 11 ∷ 0 ∷ 0 ∷ 0 ∷ 3 ∷ 11 ∷ 0 ∷ 0 ∷ 11 ∷ 12 ∷ 12 ∷ 12 ∷ 5 ∷ 4 ∷ 0 ∷ 0 ∷ 5 ∷ 3 ∷ 0 ∷ 0 ∷ 5 ∷ 4 ∷ 0 ∷ 0
-    ∷ 7 ∷ 12 ∷ 0 ∷ 0 ∷ 7 ∷ 11 ∷ 0 ∷ 0 ∷ 7 ∷ 0 ∷ 0 ∷ 0 ∷ 7 ∷ 0 ∷ 0 ∷ 0 ∷ 7 ∷ 23 ∷ 23 ∷ 0 ∷ 7 ∷ 23 ∷ 23 ∷ 0 ∷ 7 ∷ 23 ∷ 23 ∷ 0 ∷ 7 ∷ 23 ∷ 23 ∷ 0 ∷ 7 ∷ 23 ∷ 23 ∷ 0 ∷ 7 ∷ 23 ∷ 23 ∷ 0
-    ∷ 7 ∷ 23 ∷ 23 ∷ 0 ∷ 7 ∷ 23 ∷ 23 ∷ 0 ∷ 7 ∷ 23 ∷ 23 ∷ 0 ∷ 7 ∷ 23 ∷ 23 ∷ 0 ∷ 7 ∷ 23 ∷ 23 ∷ 0 ∷ 7 ∷ 23 ∷ 23 ∷ 0 ∷ 7 ∷ 23 ∷ 23 ∷ 0 ∷ 7 ∷ 23 ∷ 23 ∷ 0 ∷ 7 ∷ 23 ∷ 23 ∷ 23 ∷ 7 ∷ 23 ∷ 5 ∷ 0
-    ∷ 7 ∷ 23 ∷ 4 ∷ 0 ∷ 7 ∷ 23 ∷ 3 ∷ 0 ∷ 7 ∷ 23 ∷ 3 ∷ 0 ∷ 7 ∷ 23 ∷ 3 ∷ 3 ∷ 7 ∷ 23 ∷ 0 ∷ 0 ∷ 7 ∷ 23 ∷ 0 ∷ 0 ∷ 7 ∷ 23 ∷ 0 ∷ 0 ∷ 7 ∷ 23 ∷ 0 ∷ 0 ∷ 7 ∷ 3 ∷ 23 ∷ 0 ∷ 3 ∷ 0 ∷ 23 ∷ 0
-    ∷ []
-
--- the same, the four of a form in one word: a byte each, the first the lowest
+-- what four items of each form refer to, those of its group after the others: a byte each, the first the lowest
 unfoldable pub formCodes : List ℕ
 formCodes =
     0x0000_0000 ∷ 0x0000_0000 ∷ 0x0000_0003 ∷ 0x0000_0000 ∷ 0x0000_0000 ∷ 0x0000_0000 ∷ 0x0000_0005 ∷ 0x0000_0007 ∷ 0x0007_0003 ∷ 0x0005_0807
@@ -32,3 +25,22 @@ formCodes =
     ∷ 0x0017_1707 ∷ 0x0017_1707 ∷ 0x0017_1707 ∷ 0x0017_1707 ∷ 0x0017_1707 ∷ 0x0017_1707 ∷ 0x0017_1707 ∷ 0x0017_1707 ∷ 0x1717_1707 ∷ 0x0005_1707
     ∷ 0x0004_1707 ∷ 0x0003_1707 ∷ 0x0003_1707 ∷ 0x0303_1707 ∷ 0x0000_1707 ∷ 0x0000_1707 ∷ 0x0000_1707 ∷ 0x0000_1707 ∷ 0x0017_0307 ∷ 0x0017_0003
     ∷ []
+
+-- the same of the group alone, which follows any number of times
+unfoldable pub againCodes : List ℕ
+againCodes =
+    0x0000_0000 ∷ 0x0000_0000 ∷ 0x0000_0000 ∷ 0x0000_0000 ∷ 0x0000_0000 ∷ 0x0000_0000 ∷ 0x0000_0000 ∷ 0x0000_0000 ∷ 0x0007_0003 ∷ 0x0000_0005
+    ∷ 0x0000_0000 ∷ 0x0000_0000 ∷ 0x0000_0000 ∷ 0x0000_0000 ∷ 0x0000_000b ∷ 0x0000_0b03 ∷ 0x0000_0000 ∷ 0x0000_0000 ∷ 0x0000_0000 ∷ 0x0000_0000
+    ∷ 0x0000_0000 ∷ 0x0000_0000 ∷ 0x0000_0000 ∷ 0x0000_0000 ∷ 0x0000_0000 ∷ 0x0000_0000 ∷ 0x0000_0000 ∷ 0x0000_0000 ∷ 0x0000_0000 ∷ 0x0000_0000
+    ∷ 0x0000_0000 ∷ 0x0000_0000 ∷ 0x0000_0000 ∷ 0x0000_0000 ∷ 0x0000_0000 ∷ 0x0000_0000 ∷ 0x0000_0000 ∷ 0x0000_0000 ∷ 0x0000_0000 ∷ 0x0000_0000
+    ∷ 0x0000_0004 ∷ 0x0000_0000 ∷ 0x0000_0000 ∷ 0x0000_0003 ∷ 0x0000_0000 ∷ 0x0000_0000 ∷ 0x0000_0000 ∷ 0x0000_0017 ∷ 0x0000_1703 ∷ 0x0000_0000
+    ∷ []
+
+-- what the places after the first refer to: the rest of the word, or the group once more
+abbrev pub codesAfter : ℕ → ℕ → ℕ
+codesAfter again w = cond (eqb (w / 256) 0) again (w / 256)
+
+-- what the places from j on refer to, in a line of form t
+unfoldable pub codesAt : ℕ → ℕ → ℕ
+codesAt t zero = getD formCodes t 0
+codesAt t (suc j) = codesAfter (getD againCodes t 0) (codesAt t j)

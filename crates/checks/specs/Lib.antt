@@ -1,2 +1,4 @@
 pub mod Codes
+pub mod Depths
+pub mod Ends
 pub mod Uses

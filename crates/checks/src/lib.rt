@@ -1,10 +1,16 @@
 // The checks of one row against the rows that the words hold: order of keys, limits, references, repeats, depth, uses of nodes.
 use scan::same_bytes;
 use scan::same_words;
+use table::ACTION;
+use table::CONTEXT;
 use table::ENTITY;
 use table::KIND;
 use table::NODE;
 use table::POLICY;
+use table::PRINCIPAL;
+use table::RESOURCE;
+use table::SHAPE;
+use table::SHEET;
 use table::TEXT;
 use table::TYPE;
 use table::VALUE;
@@ -16,25 +22,26 @@ use table::item;
 use table::items_of;
 use table::row;
 use table::tag;
-use words::byte;
 use words::cut;
 use words::digit;
 use words::put;
 use words::read;
 ghost use mathlib.Core.Path.{_≡_};
-ghost use mathlib.Core.List.{[], _∷_};
-ghost use mathlib.Core.Bool.{cond};
-ghost use Prim.Native.Nat.{_+_, _*_, _≤_, _<_, max};
+ghost use mathlib.Core.List.{List, [], _∷_};
+ghost use mathlib.Core.Bool.{true, cond};
+ghost use Prim.Native.Nat.{ℕ, _+_, _-_, _*_, _≤_, _<_, max};
 ghost use lib.Dec.{leb, eqb};
 ghost use lib.ListN.{length, getD, drop};
 ghost use Rattle.cedar.specs.Numbered.{memN};
 ghost use Rattle.sheet.specs.Bytes.{same};
-ghost use Rattle.sheet.specs.Forms.{tag, items, formOf, slotAt, keep, refs, ascendings};
+ghost use Rattle.sheet.specs.Forms.{tag, keyOf, formOf, keep, refs, ascendings};
 ghost use Rattle.sheet.specs.State.{count};
-ghost use Rattle.sheet.specs.Sheet.{least, greatest, enough, inOrder, thereIs, allThere, ascend, among, firsts, above, fresh, found, depth, deepest};
-ghost use Rattle.table.specs.Layout.{rowsOf, textRow, textRows, held};
+ghost use Rattle.sheet.specs.Sheet.{greatest, enough, inOrder, ascend, among, firsts, above, fresh, found, depth};
+ghost use Rattle.table.specs.Layout.{rowAt, rowsOf, textRow, textRows, held};
 ghost use Rattle.table.proofs.Held.{depthsIn};
-ghost use Rattle.checks.specs.Codes.{codeOf, refCodes, formCodes};
+ghost use Rattle.checks.specs.Codes.{formCodes, againCodes, codesAfter};
+ghost use Rattle.checks.specs.Depths.{ThereAs, thereDepth, OnTwo, OnNone};
+ghost use Rattle.checks.specs.Ends.{RowEnds, endsOf, TextEnds};
 ghost use Rattle.checks.specs.Uses.{Marked};
 
 // Where the depths of types, values and nodes stand, and the uses of nodes.
@@ -48,9 +55,6 @@ pub const USES: usize = 6272;
 
 // What a mark is in a row.
 const MARK: u32 = 10000;
-
-// The greatest number of lines of each key; shapes are as many as kinds.
-const MOST: [u32; 13] = [1, 512, 32, 128, 0, 1024, 128, 1, 1, 1, 1, 1024, 64];
 
 // ---- the table of forms
 
@@ -129,99 +133,75 @@ fn codes_of(t: u32) -> u32
     codes_high(t)
 }
 
-// What item i of a form refers to, those of its group counted after the others.
-fn code(t: u32, i: usize) -> usize
-    requires { ⌜ i < 4 ⌝ }
-    ensures { λ r. ⌜ (r ≡ getD refCodes (t * 4 + i) 0) × (r ≤ 26) ⌝ }
+// The same of the items that follow in a group, any number of times; 0 for a form without a group.
+fn again_of(t: u32) -> u32
+    ensures { λ r. ⌜ r ≡ getD againCodes t 0 ⌝ }
 {
-    byte(codes_of(t), i)
+    match t {
+        8 => 0x0007_0003,
+        9 => 0x0000_0005,
+        14 => 0x0000_000b,
+        15 => 0x0000_0b03,
+        40 => 0x0000_0004,
+        43 => 0x0000_0003,
+        47 => 0x0000_0017,
+        48 => 0x0000_1703,
+        _ => 0,
+    }
 }
 
-// What place j of a line of form t refers to, by the tables.
-fn listed_ref(t: u32, j: usize) -> usize
-    ensures { λ r. ⌜ (r ≡ codeOf (slotAt t j)) × (r ≤ 26) ⌝ }
+// What the places after the first of w refer to: the rest of w, or the group once more.
+fn codes_after(w: u32, again: u32) -> u32
+    ensures { λ r. ⌜ r ≡ codesAfter again w ⌝ }
 {
-    let n = items_of(t as usize);
-    if j < n {
-        return code(t, j);
+    let v = w / 256;
+    if v == 0 {
+        return again;
     }
-    let g = group_of(t as usize);
-    if g == 0 {
-        return 0;
-    }
-    code(t, n + (j - n) % g)
-}
-
-// The same of a node: its type, then the nodes that it works on.
-fn node_ref(t: u32, j: usize) -> usize
-    requires { ⌜ (21 ≤ t) × (t < 48) ⌝ }
-    ensures { λ r. ⌜ (r ≡ codeOf (slotAt t j)) × (r ≤ 26) ⌝ }
-{
-    if j == 0 {
-        return 7;
-    }
-    if t < 24 {
-        return listed_ref(t, j);
-    }
-    if j == 1 {
-        return 23;
-    }
-    if t < 39 {
-        if j == 2 {
-            return 23;
-        }
-    }
-    listed_ref(t, j)
-}
-
-// The same of every line.
-fn ref_at(t: u32, j: usize) -> usize
-    ensures { λ r. ⌜ (r ≡ codeOf (slotAt t j)) × (r ≤ 26) ⌝ }
-{
-    if 21 <= t {
-        if t < 48 {
-            return node_ref(t, j);
-        }
-    }
-    listed_ref(t, j)
+    v
 }
 
 // ---- 3: key order, lines missing
 
-// The least number of lines of a key: one for the sheet and for each part of the request, and as many shapes as kinds.
-fn least_of(a: &[u32], k: usize) -> u32
-    ensures { λ r. ⌜ r ≡ getD (least (held [] (now (a .entry)) [])) k 0 ⌝ }
-{
-    if k == 4 {
-        return count(a, KIND);
-    }
-    if k == 0 {
-        return 1;
-    }
-    if k < 7 {
-        return 0;
-    }
-    if k < 11 {
-        return 1;
-    }
-    0
-}
-
-// No line is missing of the keys before k.
+// No line is missing of the keys before k: one of the sheet, as many shapes as kinds, one of each part of the request.
 pub fn enough_before(a: &[u32], k: usize) -> bool
     requires { ⌜ k ≤ 13 ⌝ }
     ensures { λ r. ⌜ r ≡ enough (held [] (now (a .entry)) []) k ⌝ }
 {
-    let mut i = 0;
-    while i < k {
-        let n = count(a, i);
-        let m = least_of(a, i);
-        if n < m {
-            return false;
-        }
-        i += 1;
+    if k == 0 {
+        return true;
     }
-    true
+    if count(a, SHEET) == 0 {
+        return false;
+    }
+    if k < 5 {
+        return true;
+    }
+    if count(a, SHAPE) < count(a, KIND) {
+        return false;
+    }
+    if k < 8 {
+        return true;
+    }
+    if count(a, PRINCIPAL) == 0 {
+        return false;
+    }
+    if k < 9 {
+        return true;
+    }
+    if count(a, ACTION) == 0 {
+        return false;
+    }
+    if k < 10 {
+        return true;
+    }
+    if count(a, RESOURCE) == 0 {
+        return false;
+    }
+    if k < 11 {
+        return true;
+    }
+    count(a, CONTEXT) != 0
 }
 
 // No key after k has a line, and none is missing before it.
@@ -229,6 +209,12 @@ pub fn in_order(a: &[u32], k: usize) -> bool
     requires { ⌜ k ≤ 13 ⌝ }
     ensures { λ r. ⌜ r ≡ inOrder (held [] (now (a .entry)) []) k ⌝ }
 {
+    if k == NODE {
+        if count(a, POLICY) != 0 {
+            return false;
+        }
+        return enough_before(a, NODE);
+    }
     let mut i = k + 1;
     while i < 13 {
         let n = count(a, i);
@@ -242,14 +228,18 @@ pub fn in_order(a: &[u32], k: usize) -> bool
 
 // ---- 4: one line too many
 
+// The greatest number of lines of a key: a power of two, or as many shapes as there are kinds.
 fn most_of(a: &[u32], k: usize) -> u32
     ensures { λ r. ⌜ r ≡ getD (greatest (held [] (now (a .entry)) [])) k 0 ⌝ }
 {
-    if k == 4 {
+    if k == NODE {
+        return 1024;
+    }
+    if k == SHAPE {
         return count(a, KIND);
     }
     if k < 13 {
-        return MOST[k];
+        return 1 << digit(0x0006_a000_07a0_7590, k);
     }
     0
 }
@@ -267,10 +257,10 @@ pub fn is_full(a: &[u32], k: usize) -> bool
 
 // ---- 5: references, repeats, order
 
-fn there_at(a: &[u32], t: u32, j: usize, x: u32) -> bool
-    ensures { λ r. ⌜ r ≡ thereIs (held [] (now (a .entry)) []) (slotAt t j) x ⌝ }
+// Whether item x is there, as code c asks.
+fn is_there(a: &[u32], c: usize, x: u32) -> bool
+    ensures { λ r. ⌜ ThereAs (now (a .entry)) c x r ⌝ }
 {
-    let c = ref_at(t, j);
     if c == 0 {
         return true;
     }
@@ -282,20 +272,6 @@ fn there_at(a: &[u32], t: u32, j: usize, x: u32) -> bool
         return false;
     }
     x == MARK
-}
-
-fn all_there(a: &[u32], r: &[u32]) -> bool
-    ensures { λ b. ⌜ b ≡ allThere (held [] (now (a .entry)) []) (tag (now (r .entry))) 0 (items (now (r .entry))) ⌝ }
-{
-    let t = tag(r);
-    let mut j = 0;
-    while j + 1 < r.len() {
-        if !there_at(a, t, j, item(r, j + 1)) {
-            return false;
-        }
-        j += 1;
-    }
-    true
 }
 
 fn ascends(r: &[u32]) -> bool
@@ -319,20 +295,38 @@ fn ascends(r: &[u32]) -> bool
     true
 }
 
-// Whether a row is among those of key k: each begins where the one before ends.
+// Whether the row whose beginning word i says, at word s, is row r. Most rows end with another word than r: word s of `ends` is the
+// last word of a row that begins at word s and is as long as r.
+fn is_row_at(a: &[u32], ends: &[u32], x: u32, i: usize, s: usize, r: &[u32]) -> bool
+    requires { ⌜ RowEnds (now a) (now r) (now ends) x i s ⌝ }
+    ensures { λ b. ⌜ b ≡ same (now (r .entry)) (rowAt (now (a .entry)) i) ⌝ }
+{
+    if s < ends.len() {
+        if ends[s] != x {
+            return false;
+        }
+    }
+    let e = read(a, i + 1) as usize;
+    same_words(r, cut(a, s, e))
+}
+
+// Whether a row is among those of key k.
 fn is_row(a: &[u32], k: usize, r: &[u32]) -> bool
+    requires { ⌜ 1 ≤ length (now r) ⌝ }
     ensures { λ b. ⌜ b ≡ among (now (r .entry)) (rowsOf (now (a .entry)) k) ⌝ }
 {
-    let n = count(a, k);
+    let n = count(a, k) as usize;
     let b = base_of(k);
-    let mut s = read(a, b) as usize;
+    let starts = cut(a, b, b + n);
+    let last = r.len() - 1;
+    let x = r[last];
+    let ends = cut(a, last, a.len());
     let mut i = 0;
-    while i < n {
-        let e = read(a, b + i as usize + 1) as usize;
-        if same_words(r, cut(a, s, e)) {
+    while i < starts.len() {
+        let s = starts[i] as usize;
+        if is_row_at(a, ends, x, b + i, s, r) {
             return true;
         }
-        s = e;
         i += 1;
     }
     false
@@ -351,14 +345,54 @@ fn is_text_row(sheet: &[u8], q: &[u32], text: &[u8]) -> bool
     same_bytes(text, bytes(sheet, s, s + n))
 }
 
+// The last byte of a text; 0 where it has none.
+fn end_of(text: &[u8]) -> u8
+    ensures { λ x. ⌜ x ≡ getD (now (text .entry)) (length (now (text .entry)) - 1) 0 ⌝ }
+{
+    if text.len() == 0 {
+        return 0;
+    }
+    text[text.len() - 1]
+}
+
+// The bytes of the sheet that a text of n bytes may end with, the one for each beginning; none where n is 0.
+fn ends_of(sheet: &[u8], n: usize) -> &[u8]
+    ensures { λ r. ⌜ now r ≡ endsOf n (now (sheet .entry)) ⌝ }
+{
+    if n == 0 {
+        return &sheet[0..0];
+    }
+    bytes(sheet, n - 1, sheet.len())
+}
+
+// Whether the row whose beginning word i says, at word s, is that of a text. Most texts end with another byte.
+fn is_text_at(sheet: &[u8], a: &[u32], ends: &[u8], x: u8, i: usize, s: usize, text: &[u8]) -> bool
+    requires { ⌜ TextEnds (now sheet) (now a) (now text) (now ends) x i s ⌝ }
+    ensures { λ b. ⌜ b ≡ same (1 ∷ now (text .entry)) (textRow (now (sheet .entry)) (rowAt (now (a .entry)) i)) ⌝ }
+{
+    let p = read(a, s + 1) as usize;
+    if p < ends.len() {
+        if ends[p] != x {
+            return false;
+        }
+    }
+    let e = read(a, i + 1) as usize;
+    is_text_row(sheet, cut(a, s, e), text)
+}
+
 // Whether bytes are among the texts.
 pub fn is_text(sheet: &[u8], a: &[u32], text: &[u8]) -> bool
     ensures { λ b. ⌜ b ≡ among (1 ∷ now (text .entry)) (textRows (now (sheet .entry)) (rowsOf (now (a .entry)) 1)) ⌝ }
 {
-    let n = count(a, TEXT);
+    let n = count(a, TEXT) as usize;
+    let b = base_of(TEXT);
+    let starts = cut(a, b, b + n);
+    let ends = ends_of(sheet, text.len());
+    let x = end_of(text);
     let mut i = 0;
-    while i < n {
-        if is_text_row(sheet, row(a, TEXT, i), text) {
+    while i < starts.len() {
+        let s = starts[i] as usize;
+        if is_text_at(sheet, a, ends, x, b + i, s, text) {
             return true;
         }
         i += 1;
@@ -395,9 +429,12 @@ fn is_above(a: &[u32], r: &[u32]) -> bool
 
 // Whether a row of key k, which is not that of a text, repeats no other and keeps their order.
 fn is_fresh(a: &[u32], k: usize, r: &[u32]) -> bool
-    requires { ⌜ (k ≡ 1 → ⊥) ⌝ }
+    requires { ⌜ (k ≡ 1 → ⊥) × (k ≡ keyOf (now r)) ⌝ }
     ensures { λ b. ⌜ b ≡ fresh (held [] (now (a .entry)) []) k (now (r .entry)) ⌝ }
 {
+    if k == NODE {
+        return true;
+    }
     if k == TYPE {
         return !is_row(a, k, r);
     }
@@ -414,20 +451,6 @@ fn is_fresh(a: &[u32], k: usize, r: &[u32]) -> bool
         return is_above(a, r);
     }
     true
-}
-
-// What a row of key k, which is not that of a text, refers to is there, and the row is new.
-pub fn is_found(a: &[u32], k: usize, r: &[u32]) -> bool
-    requires { ⌜ (k ≡ 1 → ⊥) ⌝ }
-    ensures { λ b. ⌜ b ≡ found (held [] (now (a .entry)) []) k (now (r .entry)) ⌝ }
-{
-    if !all_there(a, r) {
-        return false;
-    }
-    if !ascends(r) {
-        return false;
-    }
-    is_fresh(a, k, r)
 }
 
 // ---- 6: depth
@@ -453,7 +476,7 @@ fn depth_at(a: &[u32], b: &[u32], k: usize, n: u32) -> u32
     1
 }
 
-// The depth that place j of a line of form t adds, of a line of key k.
+// The depth that item x adds to that of a line of key k, as code c asks.
 fn depth_from(a: &[u32], b: &[u32], k: usize, c: usize, x: u32) -> u32
     requires { ⌜ k < 13 ⌝ }
     ensures { λ d. ⌜ d ≡ cond (eqb c (2 * k + 1)) (getD (depthsIn (now (a .entry)) (now (b .entry)) k) x 0) 0 ⌝ }
@@ -473,21 +496,134 @@ fn larger(x: u32, y: u32) -> u32
     x
 }
 
-// One more than the deepest line of key k that the row refers to.
-pub fn depth_of(a: &[u32], b: &[u32], k: usize, r: &[u32]) -> usize
+// One more than the deepest line of key k that the row refers to; 0 where it refers to a line that is not there.
+fn depth_listed(a: &[u32], b: &[u32], k: usize, r: &[u32]) -> usize
     requires { ⌜ k < 13 ⌝ }
-    ensures { λ d. ⌜ d ≡ depth (held [] (now (a .entry)) (now (b .entry))) k (now (r .entry)) ⌝ }
+    ensures { λ d. ⌜ d ≡ thereDepth (now (a .entry)) (now (b .entry)) k (now (r .entry)) ⌝ }
 {
     let t = tag(r);
+    let again = again_of(t);
+    let mut w = codes_of(t);
     let mut d: u32 = 0;
     let mut j = 0;
     while j + 1 < r.len() {
+        let c = w as usize % 256;
         let x = item(r, j + 1);
-        let c = ref_at(t, j);
+        if !is_there(a, c, x) {
+            return 0;
+        }
         d = larger(d, depth_from(a, b, k, c, x));
+        w = codes_after(w, again);
         j += 1;
     }
     d as usize + 1
+}
+
+// The same of a node that works on two.
+fn depth_of_two(a: &[u32], b: &[u32], r: &[u32]) -> usize
+    requires { ⌜ OnTwo (now r) ⌝ }
+    ensures { λ d. ⌜ d ≡ thereDepth (now (a .entry)) (now (b .entry)) 11 (now (r .entry)) ⌝ }
+{
+    let x = item(r, 1);
+    let m = count(a, TYPE);
+    if m <= x {
+        return 0;
+    }
+    let n = count(a, NODE);
+    let y = item(r, 2);
+    if n <= y {
+        return 0;
+    }
+    let z = item(r, 3);
+    if n <= z {
+        return 0;
+    }
+    let d = read(b, NODEDEPTHS + y as usize);
+    let e = read(b, NODEDEPTHS + z as usize);
+    larger(d, e) as usize + 1
+}
+
+// Whether a row is that of a node that works on two.
+fn is_on_two(r: &[u32]) -> bool
+    ensures { λ v. ⌜ (v ≡ true → OnTwo (now (r .entry))) ⌝ }
+{
+    if r.len() != 4 {
+        return false;
+    }
+    let t = tag(r);
+    if t < 24 {
+        return false;
+    }
+    t < 38
+}
+
+// The depth of a node that works on none: a value, an error or a part of the request.
+fn depth_of_leaf(a: &[u32], r: &[u32]) -> usize
+    requires { ⌜ OnNone (now r) ⌝ }
+    ensures { λ d. ⌜ ((b : List ℕ) → d ≡ thereDepth (now (a .entry)) b 11 (now (r .entry))) ⌝ }
+{
+    let x = item(r, 1);
+    let m = count(a, TYPE);
+    if m <= x {
+        return 0;
+    }
+    let t = tag(r);
+    if t != 21 {
+        return 1;
+    }
+    let y = item(r, 2);
+    let n = count(a, VALUE);
+    if n <= y {
+        return 0;
+    }
+    1
+}
+
+// Whether a row is that of a node that works on none, with two items.
+fn is_on_none(r: &[u32]) -> bool
+    ensures { λ v. ⌜ (v ≡ true → OnNone (now (r .entry))) ⌝ }
+{
+    if r.len() != 3 {
+        return false;
+    }
+    let t = tag(r);
+    if t < 21 {
+        return false;
+    }
+    t < 24
+}
+
+fn depth_there(a: &[u32], b: &[u32], k: usize, r: &[u32]) -> usize
+    requires { ⌜ k < 13 ⌝ }
+    ensures { λ d. ⌜ d ≡ thereDepth (now (a .entry)) (now (b .entry)) k (now (r .entry)) ⌝ }
+{
+    if k == NODE {
+        if is_on_two(r) {
+            return depth_of_two(a, b, r);
+        }
+        if is_on_none(r) {
+            return depth_of_leaf(a, r);
+        }
+    }
+    depth_listed(a, b, k, r)
+}
+
+// The depth of a row of key k, which is not that of a text; 0 where it refers to a line that is not there or is not new.
+pub fn new_depth(a: &[u32], b: &[u32], k: usize, r: &[u32]) -> usize
+    requires { ⌜ (k ≡ 1 → ⊥) × (k ≡ keyOf (now r)) × (k < 13) ⌝ }
+    ensures { λ d. ⌜ d ≡ cond (found (held [] (now (a .entry)) []) k (now (r .entry))) (depth (held [] (now (a .entry)) (now (b .entry))) k (now (r .entry))) 0 ⌝ }
+{
+    let d = depth_there(a, b, k, r);
+    if d == 0 {
+        return 0;
+    }
+    if !ascends(r) {
+        return 0;
+    }
+    if !is_fresh(a, k, r) {
+        return 0;
+    }
+    d
 }
 
 // ---- 8: uses of nodes
@@ -513,18 +649,48 @@ fn use_node(a: &[u32], b: &mut [u32], c: usize, x: u32) -> bool
 }
 
 // Marks the nodes that a row uses, in turn. Returns whether one was used before.
+fn use_listed(a: &[u32], b: &mut [u32], r: &[u32]) -> bool
+    ensures { λ d. ⌜ Marked (now (a .entry)) (now (b .entry)) (refs 11 (now (r .entry))) (now (b .exit)) d ⌝ }
+{
+    let t = tag(r);
+    let again = again_of(t);
+    let mut w = codes_of(t);
+    let mut j = 0;
+    while j + 1 < r.len() {
+        let c = w as usize % 256;
+        let x = item(r, j + 1);
+        if use_node(a, b, c, x) {
+            return true;
+        }
+        w = codes_after(w, again);
+        j += 1;
+    }
+    false
+}
+
+// The same of a node that works on two.
+fn use_two(a: &[u32], b: &mut [u32], r: &[u32]) -> bool
+    requires { ⌜ OnTwo (now r) ⌝ }
+    ensures { λ d. ⌜ Marked (now (a .entry)) (now (b .entry)) (refs 11 (now (r .entry))) (now (b .exit)) d ⌝ }
+{
+    let y = item(r, 2);
+    if use_node(a, b, 23, y) {
+        return true;
+    }
+    let z = item(r, 3);
+    use_node(a, b, 23, z)
+}
+
+// The same of every row; those of the forms before 24 use no node.
 pub fn use_nodes(a: &[u32], b: &mut [u32], r: &[u32]) -> bool
     ensures { λ d. ⌜ Marked (now (a .entry)) (now (b .entry)) (refs 11 (now (r .entry))) (now (b .exit)) d ⌝ }
 {
     let t = tag(r);
-    let mut j = 0;
-    while j + 1 < r.len() {
-        let x = item(r, j + 1);
-        let c = ref_at(t, j);
-        if use_node(a, b, c, x) {
-            return true;
-        }
-        j += 1;
+    if t < 24 {
+        return false;
     }
-    false
+    if is_on_two(r) {
+        return use_two(a, b, r);
+    }
+    use_listed(a, b, r)
 }

@@ -1,6 +1,6 @@
 -- What the checks ask of the state is the same whatever the sheet's bytes and the other words are; and a text's words stand for its row. Assumes nothing.
 use mathlib.Core.Path.{_≡_, refl, sym, ap, ap₂, _∙_}
-use mathlib.Core.Bool.{Bool, true, cond, not, _&&_, _||_}
+use mathlib.Core.Bool.{Bool, true, false, cond, not, _&&_, _||_}
 use mathlib.Core.List.{List, [], _∷_}
 use Prim.Native.Nat.{ℕ, suc, _+_, _-_, _≤_, _<_, max}
 use native.Mathlib.Omega.{arith}
@@ -16,7 +16,7 @@ use Rattle.sheet.proofs.Parsed.{tags-between}
 use Rattle.table.specs.Layout.{part, rowsOf, textRows, linesHeld, held}
 use Rattle.table.proofs.Rows.{count-held, lines-held, texts-held}
 use Rattle.table.proofs.Held.{rowIn, counts-held}
-use Rattle.judge.specs.Verdicts.{New}
+use Rattle.judge.specs.Verdicts.{NewDepth}
 
 module _ (a sheet b : List ℕ) where
   count-past : (k : ℕ) → 13 ≤ k → count (held sheet a b) k ≡ 0
@@ -111,19 +111,30 @@ unfolding depth
 depth-alike sheet a b k r e =
     ap suc (deep-alike sheet a b k (refs k r) ∙ ap (deepest (held sheet a b) k) (sym (refs-alike sheet k k r e)))
 
--- ---- `is_new`
+-- ---- `depth_of`
 
-pub new-other : (sheet a : List ℕ) (k : ℕ) (r : List ℕ) (b : Bool) → (k ≡ 1 → ⊥) → b ≡ found (held [] a []) k r → New sheet a r k b
-new-other sheet a k r b n e = record { is = λ c. e ∙ found-alike a sheet c k r n ∙ sym (rw (ne-eqb k 1 n) refl) }
+pub new-other : (sheet a b : List ℕ) (k : ℕ) (r : List ℕ) (d : ℕ) → k ≡ keyOf r → (k ≡ 1 → ⊥) → d ≡ cond (found (held [] a []) k r) (depth (held [] a b) k r) 0 → NewDepth sheet a b r k d
+new-other sheet a b k r d e n h =
+    let row : rowIn sheet k r ≡ r = rw (ne-eqb k 1 n) refl in
+    record { is = h ∙ ap₂ (λ (x : Bool) (y : ℕ). cond x y 0) (found-alike a sheet b k r n ∙ ap (found (held sheet a b) k) (sym row)) (depth-alike sheet a b k r e) }
 
-pub new-text : (sheet a : List ℕ) (k : ℕ) (r : List ℕ) (s n : ℕ) (x : List ℕ) (b : Bool) → k ≡ keyOf r → k ≡ 1 → s ≡ getD r 1 0 → n ≡ getD r 2 0 → x ≡ part sheet s (s + n)
-    → b ≡ among (1 ∷ x) (textRows sheet (rowsOf a 1)) → New sheet a r k (not b)
-unfolding found ascendings formOf forms
-new-text sheet a k r s n x b e d hs hn hx hb =
-    let t : tag r ≡ 1 = text-tag r (sym e ∙ d) in
-    let row : rowIn sheet k r ≡ 1 ∷ x = rw (eq-eqb k 1 d, t, hx, hs, hn) refl in
-    record {
-      is = λ c.
-          let f : found (held sheet a c) k (1 ∷ x) ≡ not b = rw (d, text-there (held sheet a c) 0 x) (ap not (ap (among (1 ∷ x)) (texts-held sheet a c) ∙ sym hb)) in
-          sym (ap (found (held sheet a c) k) row ∙ f);
-    }
+module _ (sheet a b : List ℕ) (k : ℕ) (r : List ℕ) (e : k ≡ keyOf r) (d : k ≡ 1) where
+  text-depth : depth (held sheet a b) k (rowIn sheet k r) ≡ 1
+  unfolding depth refs
+  text-depth =
+      let t : tag r ≡ 1 = text-tag r (sym e ∙ d) in
+      sym (depth-alike sheet a b k r e) ∙ ap (λ (l : List ℕ). suc (deepest (held [] a b) k l)) (ap (λ (x : ℕ). refsFrom k x 0 (items r)) t ∙ text-refs k 0 (items r))
+
+  module _ (s n : ℕ) (x : List ℕ) (v : Bool) (hs : s ≡ getD r 1 0) (hn : n ≡ getD r 2 0) (hx : x ≡ part sheet s (s + n)) (hv : v ≡ among (1 ∷ x) (textRows sheet (rowsOf a 1))) where
+    text-found : found (held sheet a b) k (rowIn sheet k r) ≡ not v
+    unfolding found ascendings formOf forms
+    text-found =
+        let t : tag r ≡ 1 = text-tag r (sym e ∙ d) in
+        let row : rowIn sheet k r ≡ 1 ∷ x = rw (eq-eqb k 1 d, t, hx, hs, hn) refl in
+        ap (found (held sheet a b) k) row ∙ rw (d, text-there (held sheet a b) 0 x) (ap not (ap (among (1 ∷ x)) (texts-held sheet a b) ∙ sym hv))
+
+    pub text-again : v ≡ true → NewDepth sheet a b r k 0
+    text-again q = record { is = sym (rw (text-found, q) refl) }
+
+    pub text-new : v ≡ false → NewDepth sheet a b r k 1
+    text-new q = record { is = sym (rw (text-found, q) text-depth) }

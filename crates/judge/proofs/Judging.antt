@@ -1,8 +1,8 @@
 -- The refusals of a row in number order, and what is left of the words. Assumes nothing.
 use mathlib.Core.Path.{_≡_, refl, sym, ap, ap₂, subst, _∙_}
-use mathlib.Core.Bool.{Bool, true, false, not, _&&_}
+use mathlib.Core.Bool.{Bool, true, false, cond, not, _&&_}
 use mathlib.Core.List.{List, [], _∷_, _++_}
-use Prim.Native.Nat.{ℕ, _+_, _-_, _*_, _/_, _%_, _≤_, _<_}
+use Prim.Native.Nat.{ℕ, suc, _+_, _-_, _*_, _/_, _%_, _≤_, _<_}
 use native.Mathlib.Omega.{arith}
 use native.Mathlib.Decide.{ℕ-discrete, decLt}
 use borrow.Author.Tests.{ne-eqb, lt-ltb, le-ltb, le-leb, not-true, not-false}
@@ -15,7 +15,7 @@ use Rattle.cedar.proofs.Tools.{no-true}
 use Rattle.sheet.specs.Forms.{formOf, tag, keyOf, refs, NODE}
 use Rattle.sheet.specs.State.{State, count}
 use Rattle.sheet.specs.Typing.{typed}
-use Rattle.sheet.specs.Sheet.{greatest, inOrder, found, depth, usedTwice, marked, faultOf}
+use Rattle.sheet.specs.Sheet.{greatest, inOrder, found, deepest, depth, usedTwice, marked, faultOf}
 use Rattle.sheet.proofs.Lines.{and-both}
 use Rattle.table.specs.Layout.{USES, depthsAt, held}
 use Rattle.table.proofs.Rows.{key-low}
@@ -25,8 +25,8 @@ use Rattle.fits.specs.Fit as F
 use Rattle.fits.proofs.Remembered.{small-pair, cleared}
 use Rattle.checks.specs.Uses.{usesIn, Marked}
 use Rattle.typing.specs.Rules.{Typed}
-use Rattle.judge.specs.Verdicts.{New, TypedLine, Judged}
-use Rattle.judge.proofs.Alike.{order-alike, full-alike, refs-alike, depth-alike}
+use Rattle.judge.specs.Verdicts.{NewDepth, TypedLine, Judged}
+use Rattle.judge.proofs.Alike.{order-alike, full-alike, refs-alike}
 
 -- ---- the chain of refusals
 
@@ -56,6 +56,15 @@ module _ (s : State) (k : ℕ) (r : List ℕ) where
 
             fault-none : usedTwice (s .used) (refs NODE r) ≡ false → faultOf s k r ≡ 0
             fault-none e = rw (o, u, n, d, y, e) refl
+
+-- a depth is at least 1
+none-found : (s : State) (k : ℕ) (r : List ℕ) → 0 ≡ cond (found s k r) (depth s k r) 0 → found s k r ≡ false
+unfolding depth
+none-found s k r e = go (found s k r) e
+  where
+    go : (t : Bool) → 0 ≡ cond t (suc (deepest s k (refs k r))) 0 → t ≡ false
+    go true e = absurd (omega arith)
+    go false e = refl
 
 -- ---- what is remembered of pairs stands in the first words
 
@@ -152,20 +161,25 @@ module _ (sheet a b r : List ℕ) (known : Known a b) (t k : ℕ) (ht : t ≡ ta
       pub judged-4 : u ≡ true → (f n d : ℕ) → f ≡ 4 → Judged sheet a b r b f n d
       judged-4 h f n d e = stop f n d (λ q. absurd (omega arith)) (fault-full (held sheet a b) (keyOf r) (rowIn sheet (keyOf r) r) ordered (sym full-is ∙ h) ∙ sym e)
 
-      module _ (pu : u ≡ false) (w : Bool) (hw : New sheet a r k w) where
-        new-is : w ≡ found (held sheet a b) (keyOf r) (rowIn sheet (keyOf r) r)
-        new-is = hw .is b ∙ ap (λ (x : ℕ). found (held sheet a b) x (rowIn sheet x r)) key-is
+      module _ (pu : u ≡ false) (g : ℕ) (hg : NewDepth sheet a b r k g) where
+        depth-is : g ≡ cond (found (held sheet a b) (keyOf r) (rowIn sheet (keyOf r) r)) (depth (held sheet a b) (keyOf r) (rowIn sheet (keyOf r) r)) 0
+        depth-is = hg .is ∙ ap (λ (x : ℕ). cond (found (held sheet a b) x (rowIn sheet x r)) (depth (held sheet a b) x (rowIn sheet x r)) 0) key-is
 
-        pub judged-5 : not w ≡ true → (f n d : ℕ) → f ≡ 5 → Judged sheet a b r b f n d
+        pub judged-5 : g ≡ 0 → (f n d : ℕ) → f ≡ 5 → Judged sheet a b r b f n d
         judged-5 h f n d e =
-            stop f n d (λ q. absurd (omega arith)) (fault-found (held sheet a b) (keyOf r) (rowIn sheet (keyOf r) r) ordered (sym full-is ∙ pu) (sym new-is ∙ not-true w h) ∙ sym e)
+            stop f n d (λ q. absurd (omega arith))
+            (fault-found (held sheet a b) (keyOf r) (rowIn sheet (keyOf r) r) ordered (sym full-is ∙ pu) (none-found (held sheet a b) (keyOf r) (rowIn sheet (keyOf r) r) (sym h ∙ depth-is)) ∙ sym e)
 
-        module _ (pw : not w ≡ false) (g : ℕ) (hg : g ≡ depth (held [] a b) k r) where
-          deep-is : g ≡ depth (held sheet a b) (keyOf r) (rowIn sheet (keyOf r) r)
-          deep-is = hg ∙ depth-alike sheet a b k r key-is ∙ ap (λ (x : ℕ). depth (held sheet a b) x (rowIn sheet x r)) key-is
-
+        module _ (pw : g ≡ 0 → ⊥) where
           found-is : found (held sheet a b) (keyOf r) (rowIn sheet (keyOf r) r) ≡ true
-          found-is = sym new-is ∙ not-false w pw
+          found-is = go (found (held sheet a b) (keyOf r) (rowIn sheet (keyOf r) r)) depth-is
+            where
+              go : (t : Bool) → g ≡ cond t (depth (held sheet a b) (keyOf r) (rowIn sheet (keyOf r) r)) 0 → t ≡ true
+              go true e = refl
+              go false e = absurd (pw e)
+
+          deep-is : g ≡ depth (held sheet a b) (keyOf r) (rowIn sheet (keyOf r) r)
+          deep-is = depth-is ∙ ap (λ (t : Bool). cond t (depth (held sheet a b) (keyOf r) (rowIn sheet (keyOf r) r)) 0) found-is
 
           pub judged-6 : 64 < g → (f n d : ℕ) → f ≡ 6 → Judged sheet a b r b f n d
           judged-6 h f n d e =

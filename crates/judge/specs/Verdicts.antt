@@ -1,6 +1,6 @@
 -- What the judging of a row leaves.
 use mathlib.Core.Path.{_≡_}
-use mathlib.Core.Bool.{Bool}
+use mathlib.Core.Bool.{Bool, cond}
 use mathlib.Core.List.{List}
 use Prim.Native.Nat.{ℕ, _+_, _≤_, _<_}
 use lib.ListN.{getD, drop}
@@ -12,9 +12,9 @@ use Rattle.table.proofs.Held.{rowIn}
 use Rattle.fits.specs.Fit.{SettledIn, Known}
 use Rattle.checks.specs.Uses.{usesIn}
 
--- what a row of key k refers to is there, and the row is new
-pub record New (sheet a r : List ℕ) (k : ℕ) (v : Bool) : Type 0 where
-  pub is : (c : List ℕ) → v ≡ found (held sheet a c) k (rowIn sheet k r)
+-- the depth of a row of key k; 0 where what it refers to is not there, or the row is not new
+pub record NewDepth (sheet a b r : List ℕ) (k d : ℕ) : Type 0 where
+  pub is : d ≡ cond (found (held sheet a b) k (rowIn sheet k r)) (depth (held sheet a b) k (rowIn sheet k r)) 0
 
 -- whether a row of key k is typed; what is remembered of pairs is used from key entity on
 pub record TypedLine (a b b′ r : List ℕ) (k : ℕ) (v : Bool) : Type 0 where

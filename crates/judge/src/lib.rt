@@ -1,9 +1,8 @@
 // The refusal of a row, 3 to 8 in number order, against the rows that the words hold.
-use checks::depth_of;
 use checks::in_order;
-use checks::is_found;
 use checks::is_full;
 use checks::is_text;
+use checks::new_depth;
 use checks::use_nodes;
 use table::ENTITY;
 use table::TEXT;
@@ -14,10 +13,11 @@ use table::tag;
 use typing::lines::typed;
 use words::cut;
 ghost use mathlib.Core.Path.{_≡_};
+ghost use Prim.Native.Nat.{_<_};
 ghost use Rattle.words.specs.Log.{part};
 ghost use Rattle.sheet.specs.Forms.{keyOf};
 ghost use Rattle.fits.specs.Fit.{Known};
-ghost use Rattle.judge.specs.Verdicts.{New, TypedLine, Judged};
+ghost use Rattle.judge.specs.Verdicts.{NewDepth, TypedLine, Judged};
 
 // A refusal, 0 for none; the row's key and its depth.
 pub struct Verdict {
@@ -47,17 +47,20 @@ fn typed_line(a: &[u32], b: &mut [u32], r: &[u32], k: usize) -> bool
     typed(a, b, r, k)
 }
 
-// Whether the lines that a row of key k refers to are there, and the row is new.
-fn is_new(sheet: &[u8], a: &[u32], k: usize, r: &[u32]) -> bool
-    requires { ⌜ k ≡ keyOf (now r) ⌝ }
-    ensures { λ b. ⌜ New (now (sheet .entry)) (now (a .entry)) (now (r .entry)) k b ⌝ }
+// The depth of a row of key k; 0 where a line that it refers to is not there, or the row is not new.
+fn depth_of(sheet: &[u8], a: &[u32], b: &[u32], k: usize, r: &[u32]) -> usize
+    requires { ⌜ (k ≡ keyOf (now r)) × (k < 13) ⌝ }
+    ensures { λ d. ⌜ NewDepth (now (sheet .entry)) (now (a .entry)) (now (b .entry)) (now (r .entry)) k d ⌝ }
 {
     if k == TEXT {
         let s = item(r, 1) as usize;
         let n = item(r, 2) as usize;
-        return !is_text(sheet, a, bytes(sheet, s, s + n));
+        if is_text(sheet, a, bytes(sheet, s, s + n)) {
+            return 0;
+        }
+        return 1;
     }
-    is_found(a, k, r)
+    new_depth(a, b, k, r)
 }
 
 // The refusal of a row of words, and where there is none its key and depth; the nodes that it uses are then marked.
@@ -72,10 +75,10 @@ pub fn judge(sheet: &[u8], a: &[u32], b: &mut [u32], r: &[u32]) -> Verdict
     if is_full(a, k) {
         return refused(4);
     }
-    if !is_new(sheet, a, k, r) {
+    let d = depth_of(sheet, a, b, k, r);
+    if d == 0 {
         return refused(5);
     }
-    let d = depth_of(a, b, k, r);
     if 64 < d {
         return refused(6);
     }

@@ -7,24 +7,64 @@ use Prim.Native.Nat.{ℕ, zero, suc, _+_, _-_, _/_, _%_, _≤_, _<_}
 use Prim.Native.String.{String}
 use native.Mathlib.Omega.{arith}
 use native.Mathlib.Numerals.{add-one}
+use native.Mathlib.Decide.{decLt}
 use borrow.Author.Tests.{ltb-true, lt-ltb, le-ltb}
 use lib.Dec.{ltb}
 use lib.ListN.{length, getD, take, drop, set}
 use lib.Seq.{lt-length-set, take-set-le, drop-set-lt, drop-cons, getD-set-same, getD-set-other}
 use Rattle.sheet.specs.Ascii.{ascii}
-use Rattle.sheet.specs.Bytes.{same, split, index, long}
+use Rattle.words.specs.Log.{part}
+use Rattle.sheet.specs.Bytes.{upTo, same, split, index, long}
 use Rattle.sheet.specs.Forms.{partial, complete, entry, line, lineUnknown, number, nothing, placeIn, wordNumber, one, markOr, isPartial, item}
 use Rattle.scan.specs.declared.Number as N
 use Rattle.scan.specs.Numbers.{numberOf, placed}
+use Rattle.scan.proofs.Scans.{same-is, same-last, comparing-never}
 use Rattle.scan.proofs.Decimals.{index-small}
 use Rattle.scan.proofs.Wordlists.{words-are}
+use Rattle.table.proofs.Counts.{NoneOf}
 use Rattle.line.specs.Codes.{modeOf, slotOf, specials}
-use Rattle.line.specs.Written.{Item}
+use Rattle.line.specs.declared.Digits as D
+use Rattle.line.specs.Written.{told, indexAt, Item, After}
 
 -- ---- words
 
 word-is : (f : List ℕ) (ws : List String) (l : List ℕ) (r : N.Number) → map ascii ws ≡ split 44 l → numberOf r ≡ placed f (split 44 l) → one (numberOf r) ≡ one (wordNumber f ws)
 word-is f ws l r e h = ap one (words-are f ws l r e h)
+
+abbrev pub variables : List String
+variables = "p" ∷ "a" ∷ "r" ∷ "c" ∷ []
+
+abbrev pub effects : List String
+effects = "permit" ∷ "forbid" ∷ []
+
+one-byte : (f : List ℕ) → length f ≡ 1 → f ≡ getD f 0 0 ∷ []
+one-byte [] h = absurd (omega arith)
+one-byte (x ∷ []) h = refl
+one-byte (x ∷ y ∷ f) h = absurd (omega arith)
+
+module _ (f : List ℕ) where
+  pub variable-is : (x n : ℕ) → wordNumber (x ∷ []) variables ≡ some n → length f ≡ 1 → getD f 0 0 ≡ x → numberOf (N.the-variants.Value n) ≡ wordNumber f variables
+  variable-is x n e h q = sym (ap (λ (k : List ℕ). wordNumber k variables) (one-byte f h ∙ ap (λ (y : ℕ). y ∷ []) q) ∙ e)
+
+  none-same : false ≡ same f (112 ∷ []) → false ≡ same f (97 ∷ []) → false ≡ same f (114 ∷ []) → false ≡ same f (99 ∷ []) → numberOf N.the-variants.Refused ≡ wordNumber f variables
+  none-same a b c d = rw (← a, ← b, ← c, ← d) refl
+
+  pub variable-long : (length f ≡ 1 → ⊥) → numberOf N.the-variants.Refused ≡ wordNumber f variables
+  variable-long h = none-same (comparing-never f (112 ∷ []) h) (comparing-never f (97 ∷ []) h) (comparing-never f (114 ∷ []) h) (comparing-never f (99 ∷ []) h)
+
+  pub variable-none : NoneOf (99 ∷ 114 ∷ 97 ∷ 112 ∷ []) (getD f 0 0) → numberOf N.the-variants.Refused ≡ wordNumber f variables
+  variable-none d = none-same (same-last f (112 ∷ []) 0 (d .0 .0 .0 .1)) (same-last f (97 ∷ []) 0 (d .0 .0 .1)) (same-last f (114 ∷ []) 0 (d .0 .1)) (same-last f (99 ∷ []) 0 (d .1))
+
+  module _ (a : Bool) (ha : a ≡ same f (ascii "permit")) where
+    pub effect-permit : a ≡ true → numberOf (N.the-variants.Value 0) ≡ wordNumber f effects
+    effect-permit t = rw (← ha, t) refl
+
+    module _ (b : Bool) (hb : b ≡ same f (ascii "forbid")) (t : a ≡ false) where
+      pub effect-forbid : b ≡ true → numberOf (N.the-variants.Value 1) ≡ wordNumber f effects
+      effect-forbid u = rw (← ha, ← hb, t, u) refl
+
+      pub effect-none : b ≡ false → numberOf N.the-variants.Refused ≡ wordNumber f effects
+      effect-none u = rw (← ha, ← hb, t, u) refl
 
 abbrev partialBytes : List ℕ
 partialBytes = 112 ∷ 97 ∷ 114 ∷ 116 ∷ 105 ∷ 97 ∷ 108 ∷ []
@@ -78,13 +118,13 @@ module _ (p : Bool) (s : ℕ) (f : List ℕ) (r : N.Number) where
   unfolding slotOf
   slot-5 e q = rw e (word-is f ("0" ∷ "1" ∷ []) (48 ∷ 44 ∷ 49 ∷ []) r refl q)
 
-  pub slot-6 : s ≡ 6 → numberOf r ≡ placed f (split 44 (112 ∷ 44 ∷ 97 ∷ 44 ∷ 114 ∷ 44 ∷ 99 ∷ [])) → one (numberOf r) ≡ item (modeOf p) (slotOf s) f
+  pub slot-6 : s ≡ 6 → numberOf r ≡ wordNumber f variables → one (numberOf r) ≡ item (modeOf p) (slotOf s) f
   unfolding slotOf
-  slot-6 e q = rw e (word-is f ("p" ∷ "a" ∷ "r" ∷ "c" ∷ []) (112 ∷ 44 ∷ 97 ∷ 44 ∷ 114 ∷ 44 ∷ 99 ∷ []) r refl q)
+  slot-6 e q = rw e (ap one q)
 
-  pub slot-7 : s ≡ 7 → numberOf r ≡ placed f (split 44 (112 ∷ 101 ∷ 114 ∷ 109 ∷ 105 ∷ 116 ∷ 44 ∷ 102 ∷ 111 ∷ 114 ∷ 98 ∷ 105 ∷ 100 ∷ [])) → one (numberOf r) ≡ item (modeOf p) (slotOf s) f
+  pub slot-7 : s ≡ 7 → numberOf r ≡ wordNumber f effects → one (numberOf r) ≡ item (modeOf p) (slotOf s) f
   unfolding slotOf
-  slot-7 e q = rw e (word-is f ("permit" ∷ "forbid" ∷ []) (112 ∷ 101 ∷ 114 ∷ 109 ∷ 105 ∷ 116 ∷ 44 ∷ 102 ∷ 111 ∷ 114 ∷ 98 ∷ 105 ∷ 100 ∷ []) r refl q)
+  slot-7 e q = rw e (ap one q)
 
   pub slot-8 : s ≡ 8 → numberOf r ≡ markOr (same f (45 ∷ [])) (index f) → one (numberOf r) ≡ item (modeOf p) (slotOf s) f
   unfolding slotOf
@@ -160,6 +200,41 @@ slot-low p s f x z e = go p (ltb s 16) (ltb s 32) e
     go p false true q = low-one (index f) (low-index f) x q
     go p false false q = low-one (markOr (isPartial (modeOf p) && same f (63 ∷ [])) (index f)) (low-mark (isPartial (modeOf p) && same f (63 ∷ [])) f) x q
 
+-- ---- an index, where a line may stand
+
+told-some : (e₁ : ℕ) (o : Option ℕ) (n e : ℕ) → D.the-variants.Index n e ≡ told e₁ o → (o ≡ some n) × (e ≡ e₁)
+told-some e₁ none n e q = let z : _≡_ {A = ℕ} 0 1 = cc in absurd (omega arith)
+told-some e₁ (some m) n e q = let a : m ≡ n = cc in let b : e ≡ e₁ = cc in (ap some a, b)
+
+told-none : (e : ℕ) (o : Option ℕ) → D.the-variants.Other ≡ told e o → o ≡ none
+told-none e none q = refl
+told-none e (some m) q = let z : _≡_ {A = ℕ} 0 1 = cc in absurd (omega arith)
+
+-- what the answer of the reader of indices says
+module _ (s : List ℕ) (a : ℕ) (d : D.Digits) (h : d ≡ indexAt s a) where
+  pub untold : d ≡ D.the-variants.Other → index (part s a (a + upTo 44 (drop a s))) ≡ none
+  untold g = told-none (a + upTo 44 (drop a s)) (index (part s a (a + upTo 44 (drop a s)))) (sym g ∙ h)
+
+  pub index-told : (n e : ℕ) → d ≡ D.the-variants.Index n e → (index (part s a e) ≡ some n) × (e ≡ a + upTo 44 (drop a s))
+  index-told n e g =
+      let q = told-some (a + upTo 44 (drop a s)) (index (part s a (a + upTo 44 (drop a s)))) n e (sym g ∙ h) in
+      (ap (λ (i : ℕ). index (part s a i)) (q .1) ∙ q .0, q .1)
+
+unmarked : (f : List ℕ) (n : ℕ) → index f ≡ some n → same f (63 ∷ []) ≡ false
+unmarked f n e = go (same f (63 ∷ [])) refl
+  where
+    go : (t : Bool) → same f (63 ∷ []) ≡ t → t ≡ false
+    go true q = no-some (ap index (sym (same-is f (63 ∷ []) q)) ∙ e)
+    go false q = refl
+
+pub slot-index : (p : Bool) (s : ℕ) (f : List ℕ) (n : ℕ) → 16 ≤ s → index f ≡ some n → one (numberOf (N.the-variants.Value n)) ≡ item (modeOf p) (slotOf s) f
+slot-index p s f n h e = go p (decLt s 32)
+  where
+    go : (p : Bool) → Dec (s < 32) → one (numberOf (N.the-variants.Value n)) ≡ item (modeOf p) (slotOf s) f
+    go p (yes l) = line-index p s f (N.the-variants.Value n) l h (sym e)
+    go true (no l) = unknown-partial true s f (N.the-variants.Value n) (omega arith) refl (sym (ap (λ (t : Bool). markOr t (index f)) (unmarked f n e) ∙ e))
+    go false (no l) = unknown-complete false s f (N.the-variants.Value n) (omega arith) refl (sym e)
+
 -- ---- an item in words
 
 pub one-word : (w : List ℕ) (k x : ℕ) → k < length w → take 1 (drop k (set w k x)) ≡ x ∷ []
@@ -180,6 +255,10 @@ two-words w k x y h =
 long-wide : (f : List ℕ) (v : ℕ) → long f ≡ some v → 1 ≤ length f
 long-wide [] v e = no-some e
 long-wide (x ∷ f) v e = omega arith
+
+pub index-wide : (f : List ℕ) (n : ℕ) → index f ≡ some n → 1 ≤ length f
+index-wide [] n e = no-some e
+index-wide (x ∷ f) n e = omega arith
 
 special-empty : (p : Bool) (s : ℕ) → item (modeOf p) (getD specials s nothing) [] ≡ none
 special-empty p zero = refl
@@ -255,3 +334,17 @@ module _ (p : Bool) (s k : ℕ) (f w : List ℕ) (m : N.Number) where
             two = λ z. absurd (omega arith);
             wide = λ z. item-wide p s f (x ∷ []) one-is;
           }
+
+-- ---- the item after a separator
+
+module _ (p : Bool) (s w : List ℕ) (a slot k : ℕ) where
+  pub next-index : (d : D.Digits) (n e : ℕ) → 16 ≤ slot → d ≡ indexAt s (a + 1) → d ≡ D.the-variants.Index n e → k + 2 ≤ 16384 → 16384 ≤ length w
+      → After (modeOf p) s w (set w k n) a slot k e 1
+  next-index d n e h hd g l₁ l₂ =
+      let q = index-told s (a + 1) d hd n e g in
+      let f = part s (a + 1) e in
+      record { end = q .1; put = put-one p slot k f w (N.the-variants.Value n) (slot-index p slot f n h (q .0)) n refl (l₁, l₂) }
+
+  pub next-part : (f : List ℕ) (e r : ℕ) (w₂ : List ℕ) → e ≡ a + 1 + upTo 44 (drop (a + 1) s) → f ≡ part s (a + 1) e → Item (item (modeOf p) (slotOf slot) f) f w w₂ slot k r
+      → After (modeOf p) s w w₂ a slot k e r
+  next-part f e r w₂ he hf i = record { end = he; put = rw (← hf) i }

@@ -5,22 +5,20 @@ use mathlib.Core.Option.{Option, none, some}
 use mathlib.Core.List.{List, [], _∷_, map}
 use Prim.Native.Nat.{ℕ, zero, suc, _+_, _-_, _*_, _≤_, _<_}
 use native.Mathlib.Omega.{arith}
-use borrow.Author.Tests.{ne-eqb, le-leb, lt-leb, ltb-true, eq-eqb}
+use borrow.Author.Tests.{ne-eqb, le-leb, lt-leb, ltb-true}
 use lib.Dec.{leb, ltb, eqb}
 use lib.ListN.{length, take, drop, set, length-drop}
-use lib.Seq.{take-set-le, drop-set-lt, lt-length-set, length-take-le, drop-drop}
+use lib.Seq.{take-set-le, drop-set-lt, lt-length-set, length-take-le}
 use Rattle.words.specs.Log.{part}
 use Rattle.sheet.specs.Ascii.{ascii}
 use Rattle.sheet.specs.Bytes.{upTo, split, same, printable}
-use Rattle.sheet.specs.Forms.{Form, entry, plain, keys, wordNumber, forms, formOf, formIn, tagOf, keyOf, counted, orEmpty, itemsFrom, rowHeaded, heading, rowOfText, rowOfValue, rowOf, tag, TEXT}
-use Rattle.sheet.proofs.Parsed.{allBelow, between, tags-between}
+use Rattle.sheet.specs.Forms.{Form, entry, plain, keys, wordNumber, forms, formOf, formIn, tagOf, keyOf, counted, orEmpty, itemsFrom, rowHeaded, heading, rowOfText, rowOfValue, tag, TEXT}
 use Rattle.scan.specs.declared.Cursor.{Cursor}
 use Rattle.scan.specs.declared.Heading as H
 use Rattle.scan.specs.declared.Line as L
 use Rattle.scan.specs.Places.{place, keyed, headingOf, entered, lineTo, lineAt}
 use Rattle.scan.proofs.Scans.{drop-take}
 use Rattle.scan.proofs.Wordlists.{word-number}
-use Rattle.scan.proofs.Readings.{row-keyed, row-malformed}
 use Rattle.table.specs.Layout.{textRow}
 use Rattle.line.specs.Codes.{modeOf}
 use Rattle.line.specs.Written.{Row, Text, Line, rowFrom, room}
@@ -91,20 +89,6 @@ from-row sheet t false o h = refl
 no-length : (l : List ℕ) → 0 ≡ length l → l ≡ []
 no-length [] e = refl
 no-length (x ∷ l) e = absurd (omega arith)
-
-pub no-row : (sheet row w : List ℕ) (top n : ℕ) → row ≡ [] → Line sheet row w w top 0 n
-no-row sheet row w top n e =
-    record {
-      words = sym e;
-      empty = λ z. e;
-      full = λ z. refl;
-      kept = record { below = refl; rest = refl };
-      tight = omega arith;
-      node = λ z. absurd (no-node (sym (ap keyOf e) ∙ z));
-    }
-  where
-    no-node : keyOf [] ≡ 11 → ⊥
-    no-node z = omega (arith, key-of-none, z)
 
 -- ---- the row of a line whose key and `=` are known
 
@@ -192,10 +176,6 @@ take-short zero l = omega arith
 take-short (suc n) [] = omega arith
 take-short (suc n) (x ∷ l) = omega (arith, take-short n l)
 
--- a part that has a byte ends in the whole
-pub part-in : (sheet : List ℕ) (from to e : ℕ) → e < length (part sheet from to) → from + length (part sheet from to) ≤ length sheet
-part-in sheet from to e h = omega (arith, take-short (to - from) (drop from sheet), length-drop from sheet)
-
 keys-wide : wide 4 (map ascii keys) ≡ true
 unfolding wide keys
 keys-wide = refl
@@ -220,33 +200,6 @@ heading-wide l k n e = go (printable l) (ltb (upTo 61 l) (length l)) refl (wordN
         let z : n ≡ upTo 61 l = cc in
         let i = ltb-true (upTo 61 l) (length l) d in
         omega (arith, key-wide (take (upTo 61 l) l) j p, length-take-le (upTo 61 l) l (omega (arith, i)), z)
-
-line-wider : {sheet row w w₂ : List ℕ} {top r : ℕ} (b b₂ : ℕ) → b ≤ b₂ → Line sheet row w w₂ top r b → Line sheet row w w₂ top r b₂
-line-wider b b₂ h g =
-    record { words = g .words; empty = g .empty; full = g .full; kept = g .kept; tight = omega (arith, g .tight); node = λ y. omega (arith, g .node y) }
-
-module _ (sheet l w : List ℕ) (p : Bool) (top from to : ℕ) (hl : l ≡ part sheet from to) (h : H.Heading) (hh : h ≡ headingOf l) where
-  pub line-malformed : h ≡ H.the-variants.Malformed → Line sheet (rowOf (modeOf p) (part sheet from to)) w w top 0 (length (part sheet from to))
-  line-malformed v = rw (← hl) (no-row sheet (rowOf (modeOf p) l) w top (length l) (row-malformed (modeOf p) l (sym v ∙ hh)))
-
-  module _ (k n : ℕ) (v : h ≡ H.the-variants.Keyed k n) where
-    headed : (n < length l) × (rowOf (modeOf p) l ≡ rowOfValue (modeOf p) k (drop (n + 1) l))
-    headed = row-keyed (modeOf p) l k n (sym v ∙ hh)
-
-    pub keyed-in : (n < length l) × (from + length l ≤ length sheet)
-    keyed-in = (headed .0, rw hl (part-in sheet from to n (rw (← hl) (headed .0))))
-
-    value-part : drop (n + 1) l ≡ part sheet (from + n + 1) (from + length l)
-    value-part =
-        let d = drop from sheet in
-        let whole : l ≡ take (length l) d = hl ∙ sym (take-again (to - from) d) ∙ ap (λ (x : List ℕ). take (length x) d) (sym hl) in
-        let i : from + (n + 1) ≡ from + n + 1 = omega arith in
-        let j : length l - (n + 1) ≡ from + length l - (from + n + 1) = omega arith in
-        ap (drop (n + 1)) whole ∙ drop-take (length l) (n + 1) d ∙ rw (drop-drop (n + 1) from sheet, i, j) refl
-
-    pub line-keyed : (w₂ : List ℕ) (r : ℕ) → Line sheet (rowOfValue (modeOf p) k (part sheet (from + n + 1) (from + length l))) w w₂ top r (from + length l + 4 - (from + n))
-        → Line sheet (rowOf (modeOf p) (part sheet from to)) w w₂ top r (length (part sheet from to))
-    line-keyed w₂ r g = rw (← hl) (rw (headed .1, value-part) (line-wider (from + length l + 4 - (from + n)) (length l) (omega (arith, headed .0, heading-wide l k n (sym v ∙ hh))) g))
 
 -- the `=` of a line that was read stands behind at least four letters
 pub entry-wide : (s : List ℕ) (c : Cursor) (k : ℕ) (equals : Cursor) (e : ℕ) (next : Cursor) → L.the-variants.Entry k equals e next ≡ lineAt s c → c .at + 4 ≤ equals .at
@@ -276,10 +229,6 @@ words-tag sheet (t ∷ l) = go (eqb t 1)
     go true = refl
     go false = refl
 
-only-text : allBelow (between 1 1 1) 50 ≡ true
-unfolding formOf forms
-only-text = refl
-
 text-form : formOf 1 .key ≡ 1
 unfolding formOf forms
 text-form = refl
@@ -288,14 +237,6 @@ module _ (sheet l : List ℕ) where
   key-of : keyOf (rowFrom sheet l) ≡ formOf (tag l) .key
   unfolding keyOf
   key-of = ap (λ (t : ℕ). formOf t .key) (words-tag sheet l)
-
-  -- a text's words give its bytes
-  pub words-text : keyOf (rowFrom sheet l) ≡ TEXT → textRow sheet l ≡ rowFrom sheet l
-  words-text e = by-tag l (tags-between 1 1 1 (tag l) (omega arith) only-text (sym key-of ∙ e))
-    where
-      by-tag : (l : List ℕ) → (1 ≤ tag l) × (tag l ≤ 1) → textRow sheet l ≡ rowFrom sheet l
-      by-tag [] h = absurd (omega (arith, h .1))
-      by-tag (t ∷ l) h = let e : t ≡ 1 = omega (arith, h .0, h .1) in rw (eq-eqb t 1 e) refl
 
   -- the words of any other row are the row
   pub words-row : (keyOf (rowFrom sheet l) ≡ TEXT → ⊥) → l ≡ rowFrom sheet l

@@ -3,20 +3,20 @@ use mathlib.Core.Path.{_≡_, refl, sym, ap, _∙_}
 use mathlib.Core.Bool.{Bool, true, false, _&&_, _||_, and-eq-true-iff}
 use mathlib.Core.List.{List, [], _∷_, _++_, map}
 use Prim.Native.Nat.{ℕ, zero, suc, _+_, _-_, _*_, _%_, _≤_, _<_}
-use native.Mathlib.Nat.{mod-lt}
+use native.Mathlib.Nat.{zero-mod, mod-eq-of-lt, add-mod-right}
 use native.Mathlib.Omega.{arith}
 use native.Mathlib.Decide.{ℕ-discrete, decLt}
 use borrow.Author.Tests.{leb-true, eqb-true, eq-eqb, ne-eqb, lt-ltb, le-ltb}
 use lib.Dec.{leb, eqb}
 use lib.ListN.{length, getD, set, List·getD-map, List·getD-append, List·getD-eq-default}
 use lib.Seq.{getD-append-add, getD-set-other}
-use Rattle.sheet.specs.Ascii.{ascii}
-use Rattle.sheet.specs.Forms.{Slot, nothing, Form, forms, formOf, noForm, slotAt, counted}
+use Rattle.sheet.specs.Forms.{Mode, Slot, line, nothing, Form, forms, formOf, noForm, slotAt, counted, item, joined, itemsFrom}
 use Rattle.cedar.specs.Numbered.{memN}
 use Rattle.words.specs.Bits.{byteOf}
 use Rattle.sheet.proofs.Parsed.{allBelow, all-below}
 use Rattle.table.proofs.Counts.{small, entry-small, both-small, ranged, NoneOf, none-of, other}
 use Rattle.line.specs.Codes.{slotOf, slots, formSlots, SlotAt}
+use Rattle.line.specs.Written.{countedFrom}
 
 slots-small : (i : ℕ) → getD slots i 1 ≤ 255
 unfolding slots small
@@ -144,13 +144,13 @@ no-group [] e i = refl
 no-group (x ∷ l) e i = absurd (omega arith)
 
 -- form 11 has one item
-eleven : (t n : ℕ) → n ≡ length (formOf t .items) → t ≡ 11 → n ≡ 0 → ⊥
+pub eleven : (t n : ℕ) → n ≡ length (formOf t .items) → t ≡ 11 → n ≡ 0 → ⊥
 eleven t n e q z = absurd (omega (arith, e, z, one-item, ap (λ (i : ℕ). length (formOf i .items)) q))
 
--- ---- the answers of `slot_at`
+-- ---- what may stand at a place
 
 module _ (t j n r : ℕ) (hn : (n ≡ length (formOf t .items)) × (n ≤ 4)) where
-  pub slot-item : j < n → (r ≡ getD slots (t * 4 + j) 1) × (r < 256) → SlotAt t j r
+  slot-item : j < n → (r ≡ getD slots (t * 4 + j) 1) × (r < 256) → SlotAt t j r
   unfolding slotAt
   slot-item h e =
       let l : j < length (formOf t .items) = omega (arith, hn .0) in
@@ -160,45 +160,109 @@ module _ (t j n r : ℕ) (hn : (n ≡ length (formOf t .items)) × (n ≤ 4)) wh
         alone = λ z. let q = number-once (t * 4 + j) (sym (e .0) ∙ z) in omega (arith, q);
       }
 
-  module _ (g : ℕ) (h : n ≤ j) (hg : (g ≡ length (formOf t .group)) × (g ≤ 3)) where
-    past : slotAt t j ≡ getD (formOf t .group) ((j - n) % g) nothing
-    unfolding slotAt
-    past = rw (← hn .0, ← hg .0, le-ltb j n h) refl
+module _ (t n g : ℕ) (hn : (n ≡ length (formOf t .items)) × (n ≤ 4)) (hg : (g ≡ length (formOf t .group)) × (g ≤ 3)) where
+  pub few-places : n + g ≤ 4
+  few-places = rw (hn .0, hg .0) (both-small t)
 
-    pub slot-past : g ≡ 0 → SlotAt t j 1
-    unfolding slotOf
-    slot-past e = record { is = sym (past ∙ no-group (formOf t .group) (sym (hg .0) ∙ e) ((j - n) % g)); first = λ z. absurd (omega arith); alone = λ z. absurd (omega arith) }
+  past : (j : ℕ) → n ≤ j → slotAt t j ≡ getD (formOf t .group) ((j - n) % g) nothing
+  unfolding slotAt
+  past j h = rw (← hn .0, ← hg .0, le-ltb j n h) refl
 
-    pub slot-group : (g ≡ 0 → ⊥) → (r ≡ getD slots (t * 4 + (n + (j - n) % g)) 1) × (r < 256) → SlotAt t j r
-    slot-group ne e =
-        let l : (j - n) % g < g = mod-lt (j - n) {m = g} (omega arith) in
-        let x = (j - n) % g in
-        let b : n + g ≤ 4 = rw (hn .0, hg .0) (both-small t) in
-        record {
-          is = ap slotOf (e .0) ∙ slot-is t (n + x) (omega arith) ∙ ap (λ (i : ℕ). getD (all (formOf t)) (i + x) nothing) (hn .0) ∙ getD-append-add (formOf t .items) (formOf t .group) x nothing ∙ sym past;
-          first = λ z. absurd (never (number-once (t * 4 + (n + x)) (sym (e .0) ∙ z)) l b);
-          alone = λ z. absurd (never (number-once (t * 4 + (n + x)) (sym (e .0) ∙ z)) l b);
-        }
-      where
-        never : t * 4 + (n + (j - n) % g) ≡ 44 → (j - n) % g < g → n + g ≤ 4 → ⊥
-        never q l b = eleven t n (hn .0) (omega (arith, q, l, b)) (omega (arith, q, l, b))
+  -- past its items a form's group comes again
+  slot-again : (j : ℕ) → n ≤ j → slotAt t (j + g) ≡ slotAt t j
+  slot-again j h =
+      let e : j + g - n ≡ j - n + g = omega arith in
+      past (j + g) (omega arith) ∙ ap (λ (i : ℕ). getD (formOf t .group) i nothing) (ap (λ (i : ℕ). i % g) e ∙ add-mod-right (j - n) g) ∙ sym (past j h)
 
--- ---- how many items
+  slot-group : (j r : ℕ) → n ≤ j → j < n + g → (r ≡ getD slots (t * 4 + j) 1) × (r < 256) → SlotAt t j r
+  slot-group j r h l e =
+      let m : (j - n) % g ≡ j - n = mod-eq-of-lt {n = j - n} {m = g} (omega arith) in
+      let q : n + (j - n) ≡ j = omega arith in
+      let q₂ : length (formOf t .items) + (j - n) ≡ j = omega (arith, hn .0) in
+      record {
+        is = ap slotOf (e .0) ∙ slot-is t j (omega (arith, few-places)) ∙ ap (λ (i : ℕ). getD (all (formOf t)) i nothing) (sym q₂) ∙ getD-append-add (formOf t .items) (formOf t .group) (j - n) nothing
+            ∙ ap (λ (i : ℕ). getD (formOf t .group) i nothing) (sym m) ∙ sym (past j h);
+        first = λ z. absurd (never (number-once (t * 4 + j) (sym (e .0) ∙ z)));
+        alone = λ z. absurd (never (number-once (t * 4 + j) (sym (e .0) ∙ z)));
+      }
+    where
+      never : t * 4 + j ≡ 44 → ⊥
+      never q = eleven t n (hn .0) (omega (arith, q, few-places)) (omega (arith, q, few-places))
 
-module _ (t n f : ℕ) (hf : (f ≡ length (formOf t .items)) × (f ≤ 4)) where
-  pub counted-equal : n ≡ f → true ≡ counted t n
+  pub slot-here : (j w r : ℕ) → j < n + g → w ≡ placesAt t → r ≡ byteOf w j → SlotAt t j r
+  slot-here j w r h e q = go (decLt j n) (slot-byte t j w r (omega (arith, few-places)) e q)
+    where
+      go : Dec (j < n) → (r ≡ getD slots (t * 4 + j) 1) × (r < 256) → SlotAt t j r
+      go (yes l) b = slot-item t j n r hn l b
+      go (no l) b = slot-group j r (omega arith) h b
+
+  -- ---- how many items
+
+  pub counted-equal : counted t n ≡ true
   unfolding counted
-  counted-equal e = sym (rw (← hf .0, eq-eqb n f e) refl)
+  counted-equal = rw (← hn .0, eq-eqb n n refl) refl
 
-  pub counted-less : n < f → false ≡ counted t n
+  pub counted-less : (i : ℕ) → i < n → counted t i ≡ false
   unfolding counted
-  counted-less h = sym (rw (← hf .0, ne-eqb n f (λ z. absurd (omega arith)), le-ltb f n (omega arith)) refl)
+  counted-less i h = rw (← hn .0, ne-eqb i n (λ z. absurd (omega arith)), le-ltb n i (omega arith)) refl
 
-  module _ (g : ℕ) (hg : (g ≡ length (formOf t .group)) × (g ≤ 3)) (ne : n ≡ f → ⊥) (h : f ≤ n) where
-    pub counted-alone : g ≡ 0 → false ≡ counted t n
-    unfolding counted
-    counted-alone e = sym (rw (← hf .0, ← hg .0, ne-eqb n f ne, lt-ltb f n (omega arith), e) refl)
+  pub counted-alone : (i : ℕ) → n < i → g ≡ 0 → counted t i ≡ false
+  unfolding counted
+  counted-alone i h e = rw (← hn .0, ← hg .0, ne-eqb i n (λ z. absurd (omega arith)), lt-ltb n i h, e) refl
 
-    pub counted-group : (g ≡ 0 → ⊥) → eqb ((n - f) % g) 0 ≡ counted t n
-    unfolding counted
-    counted-group e = sym (rw (← hf .0, ← hg .0, ne-eqb n f ne, lt-ltb f n (omega arith), lt-ltb 0 g (omega arith)) refl)
+  counted-group : (i : ℕ) → n ≤ i → (g ≡ 0 → ⊥) → counted t i ≡ eqb ((i - n) % g) 0
+  unfolding counted
+  counted-group i h e = go (ℕ-discrete i n)
+    where
+      more : (i ≡ n → ⊥) → counted t i ≡ eqb ((i - n) % g) 0
+      more d = rw (← hn .0, ← hg .0, ne-eqb i n d, lt-ltb n i (omega arith), lt-ltb 0 g (omega arith)) refl
+
+      go : Dec (i ≡ n) → counted t i ≡ eqb ((i - n) % g) 0
+      go (yes d) = let z : i - n ≡ 0 = omega arith in ap (counted t) d ∙ counted-equal ∙ sym (ap (λ (x : ℕ). eqb (x % g) 0) z ∙ ap (λ (x : ℕ). eqb x 0) (zero-mod g))
+      go (no d) = more d
+
+  pub counted-within : (i : ℕ) → n < i → i < n + g → counted t i ≡ false
+  counted-within i h l =
+      let m : (i - n) % g ≡ i - n = mod-eq-of-lt {n = i - n} {m = g} (omega arith) in
+      counted-group i (omega arith) (λ z. absurd (omega arith)) ∙ ap (λ (x : ℕ). eqb x 0) m ∙ ne-eqb (i - n) 0 (λ z. absurd (omega arith))
+
+  counted-again : (i : ℕ) → n ≤ i → (g ≡ 0 → ⊥) → counted t (i + g) ≡ counted t i
+  counted-again i h e =
+      let q : i + g - n ≡ i - n + g = omega arith in
+      counted-group (i + g) (omega arith) e ∙ ap (λ (x : ℕ). eqb x 0) (ap (λ (x : ℕ). x % g) q ∙ add-mod-right (i - n) g) ∙ sym (counted-group i h e)
+
+  items-again : (m : Mode) (fs : List (List ℕ)) (j : ℕ) → n ≤ j → itemsFrom m t (j + g) fs ≡ itemsFrom m t j fs
+  items-again m [] j h = refl
+  items-again m (f ∷ fs) j h =
+      let z : suc (j + g) ≡ suc j + g = omega arith in
+      rw (slot-again j h, z) (ap (joined (item m (slotAt t j) f)) (items-again m fs (suc j) (omega arith)))
+
+  -- the place after a group's last is its first
+  pub place-again : (m : Mode) (fs : List (List ℕ)) (j : ℕ) → j ≡ n + g → countedFrom m t j fs ≡ countedFrom m t n fs
+  place-again m fs j e = go (ℕ-discrete g 0)
+    where
+      go : Dec (g ≡ 0) → countedFrom m t j fs ≡ countedFrom m t n fs
+      go (yes z) = let q : j ≡ n = omega arith in rw q refl
+      go (no z) =
+          let q : n + g + length fs ≡ n + length fs + g = omega arith in
+          rw (e, q, counted-again (n + length fs) (omega arith) z, items-again m fs n (omega arith)) refl
+
+-- ---- nodes: a type stands first
+
+node-table : allBelow (λ (i : ℕ). eqb (getD slots ((21 + i) * 4 + 0) 1) 19 && leb 1 (length (formOf (21 + i) .items))) 28 ≡ true
+unfolding slots forms formOf
+node-table = refl
+
+module _ (t : ℕ) (l : 21 ≤ t) (h : t ≤ 48) where
+  node-row : (eqb (getD slots (t * 4 + 0) 1) 19 && leb 1 (length (formOf t .items))) ≡ true
+  node-row = ranged (λ (i : ℕ). eqb (getD slots (i * 4 + 0) 1) 19 && leb 1 (length (formOf i .items))) 21 28 node-table t l (omega arith)
+
+  pub node-items : 1 ≤ length (formOf t .items)
+  node-items = leb-true 1 (length (formOf t .items)) (and-eq-true-iff (eqb (getD slots (t * 4 + 0) 1) 19) (leb 1 (length (formOf t .items))) .0 node-row .1)
+
+  pub node-slot : slotAt t 0 ≡ line 3
+  unfolding slotOf
+  node-slot =
+      let e : getD slots (t * 4 + 0) 1 ≡ 19 = eqb-true (getD slots (t * 4 + 0) 1) 19 (and-eq-true-iff (eqb (getD slots (t * 4 + 0) 1) 19) (leb 1 (length (formOf t .items))) .0 node-row .0) in
+      let few : length (formOf t .items) ≤ 4 = omega (arith, both-small t) in
+      sym (slot-item t 0 (length (formOf t .items)) 19 (refl, few) node-items (sym e, omega arith) .is)

@@ -3,7 +3,7 @@ use mathlib.Core.Path.{_≡_, refl, sym, ap, _∙_}
 use mathlib.Core.Bool.{Bool, true, false, cond, not, _&&_, _||_}
 use mathlib.Core.Option.{Option, none, some}
 use mathlib.Core.List.{List, [], _∷_}
-use Prim.Native.Nat.{ℕ, zero, suc, _≤_, _<_}
+use Prim.Native.Nat.{ℕ, suc, _≤_, _<_}
 use native.Mathlib.Omega.{arith}
 use native.Mathlib.Decide.{decLt}
 use borrow.Author.Tests.{leb-true, ltb-true, eqb-true, eq-eqb, ne-eqb}
@@ -14,7 +14,8 @@ use Rattle.sheet.specs.Bytes.{same}
 use Rattle.sheet.specs.Forms.{Form, forms, formOf, noForm, formIn, tagOf}
 use Rattle.sheet.proofs.Parsed.{allBelow, all-below, between, tags-between}
 use Rattle.scan.specs.Numbers.{following, placed}
-use Rattle.table.proofs.Counts.{small, entry-small}
+use Rattle.cedar.specs.Numbered.{memN}
+use Rattle.table.proofs.Counts.{NoneOf, none-of, other}
 
 -- ---- how many bytes a word of a list has
 
@@ -98,11 +99,12 @@ node-names = refl
 pub record NodeTag (name : List ℕ) (t : ℕ) : Type 0 where
   pub is : t ≡ tagOf 11 name
   pub low : 21 ≤ t
+  pub high : t < 50 → t ≤ 48
   pub wide : t < 50 → 2 ≤ length name
 
 pub node-tag : (name : List ℕ) (t : ℕ) → t ≡ tagOf 11 name → NodeTag name t
 unfolding named
-node-tag name t e = record { is = e; low = low (decLt t 50); wide = wide }
+node-tag name t e = record { is = e; low = low (decLt t 50); high = λ h. tags-between 11 21 48 t (omega arith) node-tags (key h) .1; wide = wide }
   where
     key : t < 50 → formOf t .key ≡ 11
     key h = rw e (found 11 name (omega (arith, e)) .0)
@@ -125,26 +127,6 @@ node-tag name t e = record { is = e; low = low (decLt t 50); wide = wide }
 
 -- ---- the tags of keys without constructors
 
-unfoldable pub tags : List ℕ
-tags = 0 ∷ 1 ∷ 2 ∷ 50 ∷ 9 ∷ 50 ∷ 16 ∷ 17 ∷ 18 ∷ 19 ∷ 20 ∷ 50 ∷ 49 ∷ []
-
-pub tag-plain : (k : ℕ) → k < 13 → getD tags k 0 ≡ tagOf k []
-unfolding tags tagOf forms
-tag-plain zero h = refl
-tag-plain (suc zero) h = refl
-tag-plain (suc (suc zero)) h = refl
-tag-plain (suc (suc (suc zero))) h = refl
-tag-plain (suc (suc (suc (suc zero)))) h = refl
-tag-plain (suc (suc (suc (suc (suc zero))))) h = refl
-tag-plain (suc (suc (suc (suc (suc (suc zero)))))) h = refl
-tag-plain (suc (suc (suc (suc (suc (suc (suc zero))))))) h = refl
-tag-plain (suc (suc (suc (suc (suc (suc (suc (suc zero)))))))) h = refl
-tag-plain (suc (suc (suc (suc (suc (suc (suc (suc (suc zero))))))))) h = refl
-tag-plain (suc (suc (suc (suc (suc (suc (suc (suc (suc (suc zero)))))))))) h = refl
-tag-plain (suc (suc (suc (suc (suc (suc (suc (suc (suc (suc (suc zero))))))))))) h = refl
-tag-plain (suc (suc (suc (suc (suc (suc (suc (suc (suc (suc (suc (suc zero)))))))))))) h = refl
-tag-plain (suc (suc (suc (suc (suc (suc (suc (suc (suc (suc (suc (suc (suc n))))))))))))) h = absurd (omega arith)
-
 -- no form has a key past the last
 lowKeys : List Form → Bool
 lowKeys [] = true
@@ -157,10 +139,24 @@ past-keys k w (f ∷ fs) h e =
     let b = both (ltb (f .key) 13) (lowKeys fs) e in
     rw (ne-eqb k (f .key) (λ z. absurd (omega (arith, ltb-true (f .key) 13 (b .0), z)))) (ap suc (past-keys k w fs h (b .1)))
 
-pub tag-none : (k : ℕ) → 13 ≤ k → 50 ≡ tagOf k []
+tag-none : (k : ℕ) → 13 ≤ k → 50 ≡ tagOf k []
 unfolding tagOf forms lowKeys
 tag-none k h = sym (past-keys k [] forms h refl)
 
-pub tags-small : (k : ℕ) → getD tags k 0 ≤ 255
-unfolding tags small
-tags-small k = entry-small 255 tags k 0 (omega arith) refl
+abbrev pub plainTag : ℕ → ℕ
+plainTag k = tagOf k []
+
+-- the keys that have a form without a constructor, the last first
+abbrev pub plainKeys : List ℕ
+plainKeys = 12 ∷ 10 ∷ 9 ∷ 8 ∷ 7 ∷ 6 ∷ 4 ∷ 2 ∷ 1 ∷ 0 ∷ []
+
+plain-table : allBelow (λ (i : ℕ). memN i plainKeys || eqb 50 (plainTag i)) 13 ≡ true
+unfolding tagOf forms
+plain-table = refl
+
+pub plain-none : (k : ℕ) → NoneOf plainKeys k → 50 ≡ plainTag k
+plain-none k d = go (decLt k 13)
+  where
+    go : Dec (k < 13) → 50 ≡ plainTag k
+    go (yes h) = eqb-true 50 (plainTag k) (other (memN k plainKeys) (eqb 50 (plainTag k)) (none-of plainKeys k d) (all-below (λ (i : ℕ). memN i plainKeys || eqb 50 (plainTag i)) 13 k plain-table h))
+    go (no h) = tag-none k (omega arith)

@@ -1,25 +1,29 @@
 -- A line's parts: constructor and items by its key. Assumes nothing.
 use mathlib.Core.Path.{_≡_, refl, sym, ap, _∙_}
 use mathlib.Core.Bool.{Bool, true, false, cond}
+use mathlib.Core.Option.{some}
 use mathlib.Core.List.{List, [], _∷_}
-use Prim.Native.Nat.{ℕ, suc, _+_, _-_, _≤_, _<_}
+use Prim.Native.Nat.{ℕ, _+_, _-_, _*_, _≤_, _<_}
 use native.Mathlib.Omega.{arith}
 use borrow.Author.Tests.{ne-eqb}
-use lib.Dec.{eqb}
-use lib.ListN.{length, drop, length-drop}
+use lib.ListN.{length, take, drop, set}
+use lib.Seq.{take-set-le, drop-set-lt}
 use Rattle.words.specs.Log.{part}
 use Rattle.words.proofs.Stores.{length-part}
-use Rattle.sheet.specs.Bytes.{split, ahead}
-use Rattle.sheet.specs.Forms.{forms, tagOf, rowFor, rowHeaded, heading, nameFirst, nameSecond}
+use Rattle.sheet.specs.Bytes.{upTo, split, index}
+use Rattle.sheet.specs.Forms.{forms, formOf, joined, orEmpty, tagOf, rowFor, rowHeaded, heading, nameFirst, nameSecond}
 use Rattle.scan.specs.declared.Cursor.{Cursor}
 use Rattle.scan.specs.declared.Item as I
-use Rattle.scan.specs.Places.{itemsAt, itemAt}
-use Rattle.scan.proofs.Splits.{split-parts, after-on}
+use Rattle.scan.specs.Places.{place, partsAfter, itemsAt, itemAt}
+use Rattle.scan.proofs.Splits.{split-parts, split-at, found-le, after-on}
 use Rattle.scan.proofs.Readings.{Walked, items-end, items-part}
+use Rattle.line.specs.declared.Digits as D
 use Rattle.line.specs.Codes.{modeOf}
-use Rattle.line.specs.Written.{Row, room}
-use Rattle.line.proofs.LawsRow.{row-unformed, empty-row}
-use Rattle.line.proofs.LawsTag.{node-tag}
+use Rattle.line.specs.Written.{indexAt, countedFrom, Row, room}
+use Rattle.line.proofs.LawsTable.{node-items}
+use Rattle.line.proofs.LawsItem.{one-word, untold, index-told, index-wide}
+use Rattle.line.proofs.LawsRow.{row-unformed, empty-row, untyped, typed}
+use Rattle.line.proofs.LawsTag.{NodeTag, node-tag}
 
 pub named-value : (v : Bool) (name : List ℕ) (r : ℕ) → v ≡ true → r ≡ tagOf 5 name → r ≡ tagOf (cond v 5 3) name
 named-value v name r e h = rw e h
@@ -33,42 +37,6 @@ nameless = refl
 
 wider : {row w w₂ : List ℕ} {top r : ℕ} (b b₂ : ℕ) → b ≤ b₂ → Row row w w₂ top r b → Row row w w₂ top r b₂
 wider b b₂ h g = record { count = g .count; words = g .words; kept = g .kept; tight = omega (arith, g .tight) }
-
--- there are no more separators than bytes
-split-few : (c : ℕ) (l : List ℕ) → length (split c l) ≤ length l + 1
-split-few c [] = omega arith
-split-few c (x ∷ l) = go (eqb x c) (split-few c l)
-  where
-    ahead-few : (ps : List (List ℕ)) → length ps ≤ length l + 1 → length (ahead x ps) ≤ suc (length l) + 1
-    ahead-few [] h = omega arith
-    ahead-few (p ∷ ps) h = omega arith
-
-    go : (b : Bool) → length (split c l) ≤ length l + 1 → length (cond b ([] ∷ split c l) (ahead x (split c l))) ≤ suc (length l) + 1
-    go true h = omega arith
-    go false h = ahead-few (split c l) h
-
--- a line's value v, which follows the cursor, has n separators
-module _ (s : List ℕ) (c : Cursor) (n : ℕ) (v : List ℕ) (hv : v ≡ drop (c .at + 1) s) (hn : n + 1 ≡ length (split 44 v)) where
-  pub few-parts : n ≤ length s
-  few-parts = omega (arith, split-few 44 v, ap length hv, length-drop (c .at + 1) s)
-
-  module _ (h : c .at < length s) where
-    after-value : itemsAt s c ≡ split 44 v
-    after-value = after-on 44 s (c .at) h ∙ ap (split 44) (sym hv)
-
-    pub all-parts : n + 1 ≡ length (itemsAt s c)
-    all-parts = hn ∙ ap length (sym after-value)
-
-    module _ (i : I.Item) (q : i ≡ itemAt s c) (start : ℕ) (next : Cursor) (g : i ≡ I.the-variants.Part start next) where
-      first-part : split 44 v ≡ part s start (next .at) ∷ itemsAt s next
-      first-part = sym after-value ∙ items-part s c start next (sym g ∙ q) .items
-
-      pub first-count : n ≡ length (itemsAt s next)
-      first-count = omega (arith, hn, ap length first-part)
-
-      module _ (i₂ : I.Item) (q₂ : i₂ ≡ itemAt s next) (name : ℕ) (last : Cursor) (g₂ : i₂ ≡ I.the-variants.Part name last) where
-        pub second-count : n ≡ 1 + length (itemsAt s last)
-        second-count = omega (arith, first-count, ap length (items-part s next name last (sym g₂ ∙ q₂) .items))
 
 module _ (s : List ℕ) (c : Cursor) (h : c .at < length s) where
   pub plain-row : (p : Bool) (k t top r b : ℕ) (w w₂ : List ℕ) → t ≡ tagOf k [] → Row (rowFor (modeOf p) t (itemsAt s c)) w w₂ top r b
@@ -95,36 +63,81 @@ module _ (s : List ℕ) (c : Cursor) (h : c .at < length s) where
           let x : t ≡ tagOf (cond u 5 3) (part s start (next .at)) = e ∙ ap (tagOf (cond u 5 3)) hf in
           rw (parts, ← x) (wider (length s + 4 - next .at) (length s + 4 - c .at) (omega (arith, walked .begins, walked .within)) j)
 
-      module _ (i₂ : I.Item) (q₂ : i₂ ≡ itemAt s next) where
-        pub node-alone : (p : Bool) (top b : ℕ) (w : List ℕ) → i₂ ≡ I.the-variants.End → Row (rowHeaded (modeOf p) 11 (nameSecond (split 44 (drop (c .at + 1) s)))) w w top 0 b
-        node-alone p top b w g₂ =
-            let x : split 44 (drop (c .at + 1) s) ≡ part s start (next .at) ∷ [] = parts ∙ ap (λ (l : List (List ℕ)). part s start (next .at) ∷ l) (items-end s next (sym g₂ ∙ q₂)) in
-            empty-row (rowHeaded (modeOf p) 11 (nameSecond (split 44 (drop (c .at + 1) s)))) w top b (rw x (row-unformed (modeOf p) (tagOf 11 []) (part s start (next .at) ∷ []) unnamed))
-          where
-            unnamed : 50 ≤ tagOf 11 []
-            unnamed = omega (arith, nameless)
+-- ---- a node: its type is the index d, its constructor follows
 
-        module _ (name : ℕ) (last : Cursor) (g₂ : i₂ ≡ I.the-variants.Part name last) (f : List ℕ) (hf : f ≡ part s name (last .at)) (t : ℕ) (e : t ≡ tagOf 11 f) where
-          second : Walked s next name last
-          second = items-part s next name last (sym g₂ ∙ q₂)
+module _ (s : List ℕ) (c : Cursor) (h : c .at < length s) (d : D.Digits) (hd : d ≡ indexAt s (c .at + 1)) where
+  begins : c .at + 1 ≤ length s
+  begins = omega arith
 
-          pub second-in : (next .at ≤ last .at) × (last .at ≤ length s)
-          second-in = (omega (arith, second .begins, second .within), second .ends)
+  no-node : (p : Bool) (top b : ℕ) (w : List ℕ) (f : List ℕ) (fs : List (List ℕ)) → split 44 (drop (c .at + 1) s) ≡ f ∷ fs → ((name : List ℕ) (gs : List (List ℕ)) → rowFor (modeOf p) (tagOf 11 name) (f ∷ gs) ≡ [])
+      → Row (rowHeaded (modeOf p) 11 (nameSecond (split 44 (drop (c .at + 1) s)))) w w top 0 b
+  no-node p top b w f fs e none-there = empty-row (rowHeaded (modeOf p) 11 (nameSecond (split 44 (drop (c .at + 1) s)))) w top b (ap (λ (l : List (List ℕ)). rowHeaded (modeOf p) 11 (nameSecond l)) e ∙ go fs)
+    where
+      go : (fs : List (List ℕ)) → rowHeaded (modeOf p) 11 (nameSecond (f ∷ fs)) ≡ []
+      go [] = none-there [] []
+      go (name ∷ gs) = none-there name gs
 
-          pub node-low : 21 ≤ t
-          node-low = node-tag f t e .low
+  pub node-untyped : (p : Bool) (top b : ℕ) (w : List ℕ) → d ≡ D.the-variants.Other → Row (rowHeaded (modeOf p) 11 (nameSecond (split 44 (drop (c .at + 1) s)))) w w top 0 b
+  node-untyped p top b w g =
+      let e = c .at + 1 + upTo 44 (drop (c .at + 1) s) in
+      no-node p top b w (part s (c .at + 1) e) (partsAfter 44 s e) (split-at 44 s (c .at + 1) e begins refl)
+      (λ name gs. untyped (modeOf p) name (part s (c .at + 1) e) gs (untold s (c .at + 1) d hd g))
 
-          pub second-wide : t < 50 → next .at + 3 ≤ last .at
-          second-wide l =
-              omega (arith, node-tag f t e .wide l, ap length hf, length-part s name (last .at) (second .ends), second .begins)
+  module _ (x a : ℕ) (g : d ≡ D.the-variants.Index x a) where
+    told : (index (part s (c .at + 1) a) ≡ some x) × (a ≡ c .at + 1 + upTo 44 (drop (c .at + 1) s))
+    told = index-told s (c .at + 1) d hd x a g
 
-          pub node-row : (p : Bool) (top r : ℕ) (w w₂ : List ℕ) → Row (rowFor (modeOf p) t (part s start (next .at) ∷ itemsAt s last)) w w₂ top r (length s - start)
+    pub type-in : (c .at + 2 ≤ a) × (a ≤ length s)
+    type-in = let l = found-le 44 s (c .at + 1) a begins (told .1) in (omega (arith, index-wide (part s (c .at + 1) a) x (told .0), length-part s (c .at + 1) a l, l), l)
+
+    parts₂ : split 44 (drop (c .at + 1) s) ≡ part s (c .at + 1) a ∷ partsAfter 44 s a
+    parts₂ = split-at 44 s (c .at + 1) a begins (told .1)
+
+    module _ (line : ℕ) (i : I.Item) (q : i ≡ itemAt s (place line a)) where
+      pub node-alone : (p : Bool) (top b : ℕ) (w : List ℕ) → i ≡ I.the-variants.End → Row (rowHeaded (modeOf p) 11 (nameSecond (split 44 (drop (c .at + 1) s)))) w w top 0 b
+      node-alone p top b w g₂ =
+          let y : split 44 (drop (c .at + 1) s) ≡ part s (c .at + 1) a ∷ [] = parts₂ ∙ ap (λ (l : List (List ℕ)). part s (c .at + 1) a ∷ l) (items-end s (place line a) (sym g₂ ∙ q)) in
+          empty-row (rowHeaded (modeOf p) 11 (nameSecond (split 44 (drop (c .at + 1) s)))) w top b (rw y (row-unformed (modeOf p) (tagOf 11 []) (part s (c .at + 1) a ∷ []) unnamed))
+        where
+          unnamed : 50 ≤ tagOf 11 []
+          unnamed = omega (arith, nameless)
+
+      module _ (name : ℕ) (last : Cursor) (g₂ : i ≡ I.the-variants.Part name last) (f : List ℕ) (hf : f ≡ part s name (last .at)) (t : ℕ) (e : t ≡ tagOf 11 f) where
+        second : Walked s (place line a) name last
+        second = items-part s (place line a) name last (sym g₂ ∙ q)
+
+        row-of-node : (p : Bool) → rowHeaded (modeOf p) 11 (nameSecond (split 44 (drop (c .at + 1) s))) ≡ rowFor (modeOf p) t (part s (c .at + 1) a ∷ itemsAt s last)
+        row-of-node p =
+            let y : split 44 (drop (c .at + 1) s) ≡ part s (c .at + 1) a ∷ part s name (last .at) ∷ itemsAt s last = parts₂ ∙ ap (λ (l : List (List ℕ)). part s (c .at + 1) a ∷ l) (second .items) in
+            let z : t ≡ tagOf 11 (part s name (last .at)) = e ∙ ap (tagOf 11) hf in
+            rw (y, ← z) refl
+
+        pub node-unformed : (p : Bool) (top b : ℕ) (w : List ℕ) → 50 ≤ t → Row (rowHeaded (modeOf p) 11 (nameSecond (split 44 (drop (c .at + 1) s)))) w w top 0 b
+        node-unformed p top b w l =
+            empty-row (rowHeaded (modeOf p) 11 (nameSecond (split 44 (drop (c .at + 1) s)))) w top b (row-of-node p ∙ row-unformed (modeOf p) t (part s (c .at + 1) a ∷ itemsAt s last) l)
+
+        module _ (l : t < 50) where
+          tag : NodeTag f t
+          tag = node-tag f t e
+
+          pub node-in : (21 ≤ t) × (1 ≤ length (formOf t .items)) × (a + 3 ≤ last .at) × (last .at ≤ length s)
+          node-in =
+              (tag .low, node-items t (tag .low) (tag .high l), omega (arith, tag .wide l, ap length hf, length-part s name (last .at) (second .ends), second .begins), second .ends)
+
+          pub node-row : (p : Bool) (top r : ℕ) (w w₂ : List ℕ) → 16384 ≤ length w → 2 * top + length s + 16 ≤ 32768 + c .at
+              → Row (orEmpty t (joined (some (take 1 (drop (top + 1) (set w (top + 1) x)))) (countedFrom (modeOf p) t 1 (itemsAt s last)))) (set w (top + 1) x) w₂ top r (length s + 4 - last .at)
               → Row (rowHeaded (modeOf p) 11 (nameSecond (split 44 (drop (c .at + 1) s)))) w w₂ top r (length s - (c .at + 1))
-          node-row p top r w w₂ j =
-              let x : split 44 (drop (c .at + 1) s) ≡ part s start (next .at) ∷ part s name (last .at) ∷ itemsAt s last =
-              parts ∙ ap (λ (l : List (List ℕ)). part s start (next .at) ∷ l) (second .items) in
-              let y : t ≡ tagOf 11 (part s name (last .at)) = e ∙ ap (tagOf 11) hf in
-              rw (x, ← y, ← walked .begins) j
+          node-row p top r w w₂ long room j =
+              let y : take 1 (drop (top + 1) (set w (top + 1) x)) ≡ x ∷ [] = one-word w (top + 1) x (omega arith) in
+              let row : rowHeaded (modeOf p) 11 (nameSecond (split 44 (drop (c .at + 1) s))) ≡ orEmpty t (joined (some (x ∷ [])) (countedFrom (modeOf p) t 1 (itemsAt s last))) =
+              row-of-node p ∙ typed (modeOf p) t (part s (c .at + 1) a) (itemsAt s last) (some x) (tag .low) (tag .high l) (told .0) in
+              let j₂ = rw y at j in
+              record {
+                count = j₂ .count ∙ ap length (sym row);
+                words = j₂ .words ∙ sym row;
+                kept = record { below = j₂ .kept .below ∙ take-set-le top w (top + 1) x (omega arith); rest = j₂ .kept .rest ∙ drop-set-lt 16384 w (top + 1) x (omega arith) };
+                tight = omega (arith, j₂ .tight, node-in .2, node-in .3, type-in .0);
+              }
 
 -- ---- by the key
 

@@ -1,4 +1,5 @@
 pub mod LawsTable
+pub mod LawsIndex
 pub mod LawsItem
 pub mod LawsItems
 pub mod LawsTag

@@ -6,8 +6,25 @@ use mathlib.Core.List.{List, [], _∷_}
 use Prim.Native.Nat.{ℕ, zero, suc, _+_, _-_, _*_, _≤_}
 use lib.Dec.{leb, eqb}
 use lib.ListN.{length, take, drop}
-use Rattle.sheet.specs.Forms.{keyOf, TEXT, NODE}
+use Rattle.words.specs.Log.{part}
+use Rattle.sheet.specs.Bytes.{upTo, index}
+use Rattle.sheet.specs.Forms.{Mode, item, itemsFrom, counted, keyOf, TEXT, NODE}
 use Rattle.table.specs.Layout.{textRow}
+use Rattle.line.specs.declared.Digits as D
+use Rattle.line.specs.Codes.{slotOf}
+
+-- an index and its end
+abbrev pub told : ℕ → Option ℕ → D.Digits
+told e none = D.the-variants.Other
+told e (some n) = D.the-variants.Index n e
+
+-- the item that begins at a byte and ends before the next comma, read as an index
+abbrev pub indexAt : List ℕ → ℕ → D.Digits
+indexAt s a = told (a + upTo 44 (drop a s)) (index (part s a (a + upTo 44 (drop a s))))
+
+-- the items from place j on of a line of tag t, none where there may not be so many
+abbrev pub countedFrom : Mode → ℕ → ℕ → List (List ℕ) → Option (List ℕ)
+countedFrom m t j fs = cond (counted t (j + length fs)) (itemsFrom m t j fs) none
 
 -- none where nothing was written
 abbrev pub given : ℕ → List ℕ → Option (List ℕ)
@@ -26,6 +43,11 @@ pub record Item (o : Option (List ℕ)) (bytes was is : List ℕ) (slot k r : �
   pub few : r ≤ 2
   pub two : r ≡ 2 → slot ≡ 0
   pub wide : 1 ≤ r → 1 ≤ length bytes
+
+-- the item after the separator at byte a, up to byte e, of r words from k on
+pub record After (m : Mode) (s was is : List ℕ) (a slot k e r : ℕ) : Type 0 where
+  pub end : e ≡ a + 1 + upTo 44 (drop (a + 1) s)
+  pub put : Item (item m (slotOf slot) (part s (a + 1) e)) (part s (a + 1) e) was is slot k r
 
 -- items of form t after byte e of so many bytes, up to word r, which is 0 where one is malformed; only form 11 has a long, of two words
 pub record Items (o : Option (List ℕ)) (was is : List ℕ) (t k r e bytes : ℕ) : Type 0 where

@@ -1,15 +1,14 @@
 // One line of a sheet: its row of numbers, written into lent words.
 use scan::Cursor;
 use scan::Number;
+use scan::find;
 use scan::front;
-use scan::heading_of;
 use scan::index_of;
 use scan::long_of;
 use scan::node_form;
 use scan::part_of;
 use scan::place;
 use scan::same_bytes;
-use scan::separators;
 use scan::type_form;
 use scan::value_form;
 use table::group_of;
@@ -17,16 +16,17 @@ use table::items_of;
 use words::byte;
 ghost use mathlib.Core.Path.{_≡_};
 ghost use mathlib.Core.Bool.{cond};
+ghost use mathlib.Core.Option.{some};
 ghost use mathlib.Core.List.{[], _∷_};
 ghost use Prim.Native.Nat.{_+_, _-_, _*_, _≤_, _<_};
-ghost use lib.ListN.{length, getD, drop};
+ghost use lib.ListN.{length, getD, take, drop};
 ghost use Rattle.words.specs.Log.{part};
 ghost use Rattle.sheet.specs.Bytes.{same, split, index};
-ghost use Rattle.sheet.specs.Forms.{entry, formOf, counted, item, itemsFrom, markOr, one, tagOf, rowFor, rowHeaded, heading, nameFirst, nameSecond, rowOfValue, rowOf};
+ghost use Rattle.sheet.specs.Forms.{entry, formOf, item, joined, markOr, one, orEmpty, tagOf, wordNumber, rowFor, rowHeaded, heading, nameFirst, nameSecond, rowOfValue, rowOf};
 ghost use Rattle.scan.specs.Numbers.{numberOf};
-ghost use Rattle.scan.specs.Places.{itemsAt};
-ghost use Rattle.line.specs.Codes.{modeOf, slotOf, slots, formSlots, SlotAt};
-ghost use Rattle.line.specs.Written.{Item, Items, Row, Text, Line, room};
+ghost use Rattle.scan.specs.Places.{partsAfter, itemsAt};
+ghost use Rattle.line.specs.Codes.{modeOf, slotOf, formSlots};
+ghost use Rattle.line.specs.Written.{indexAt, countedFrom, Item, After, Items, Row, Text, Line, room};
 
 // The keys that are read in a way of their own.
 const TEXT: u64 = 1;
@@ -36,6 +36,18 @@ const TYPE: u64 = 3;
 const VALUE: u64 = 5;
 
 const NODE: u64 = 11;
+
+// An item read as an index: its number and its end.
+enum Digits {
+    Index(u32, usize),
+    Other,
+}
+
+// An item that was written: its end, and how many words it has.
+struct Placed {
+    end: usize,
+    words: usize,
+}
 
 // What a mark is in a row.
 const MARK: u64 = 10000;
@@ -105,48 +117,6 @@ fn slots_of(t: usize) -> u32
     slots_high(t)
 }
 
-// What may stand at one of them.
-fn slot(t: usize, i: usize) -> usize
-    requires { ⌜ i < 4 ⌝ }
-    ensures { λ r. ⌜ (r ≡ getD slots (t * 4 + i) 1) × (r < 256) ⌝ }
-{
-    byte(slots_of(t), i)
-}
-
-// What may stand at place j of a line of tag t.
-fn slot_at(t: usize, j: usize) -> usize
-    requires { ⌜ t ≤ 50 ⌝ }
-    ensures { λ r. ⌜ SlotAt t j r ⌝ }
-{
-    let n = items_of(t);
-    if j < n {
-        return slot(t, j);
-    }
-    let g = group_of(t);
-    if g == 0 {
-        return 1;
-    }
-    slot(t, n + (j - n) % g)
-}
-
-// Whether a line of tag t may have n items.
-fn counted_ok(t: usize, n: usize) -> bool
-    ensures { λ r. ⌜ r ≡ counted t n ⌝ }
-{
-    let f = items_of(t);
-    if n == f {
-        return true;
-    }
-    if n < f {
-        return false;
-    }
-    let g = group_of(t);
-    if g == 0 {
-        return false;
-    }
-    (n - f) % g == 0
-}
-
 // A mark or an index.
 fn mark_or_index(f: &[u8], mark: &[u8]) -> Number
     ensures { λ r. ⌜ numberOf r ≡ markOr (same (now (f .entry)) (now (mark .entry))) (index (now (f .entry))) ⌝ }
@@ -165,6 +135,35 @@ fn entry_word(partial: bool, f: &[u8]) -> Number
         return place(f, b"partial");
     }
     place(f, b"complete")
+}
+
+// The letter of a variable: principal, action, resource or context.
+fn variable(f: &[u8]) -> Number
+    ensures { λ r. ⌜ numberOf r ≡ wordNumber (now (f .entry)) ("p" ∷ "a" ∷ "r" ∷ "c" ∷ []) ⌝ }
+{
+    if f.len() != 1 {
+        return Number::Refused;
+    }
+    match f[0] {
+        112 => Number::Value(0),
+        97 => Number::Value(1),
+        114 => Number::Value(2),
+        99 => Number::Value(3),
+        _ => Number::Refused,
+    }
+}
+
+// The effect of a policy.
+fn effect(f: &[u8]) -> Number
+    ensures { λ r. ⌜ numberOf r ≡ wordNumber (now (f .entry)) ("permit" ∷ "forbid" ∷ []) ⌝ }
+{
+    if same_bytes(f, b"permit") {
+        return Number::Value(0);
+    }
+    if same_bytes(f, b"forbid") {
+        return Number::Value(1);
+    }
+    Number::Refused
 }
 
 // An item of one number, by what may stand at its place.
@@ -186,8 +185,8 @@ fn one_number(partial: bool, s: usize, f: &[u8]) -> Number
         3 => place(f, b"e,a"),
         4 => place(f, b"o,r"),
         5 => place(f, b"0,1"),
-        6 => place(f, b"p,a,r,c"),
-        7 => place(f, b"permit,forbid"),
+        6 => variable(f),
+        7 => effect(f),
         8 => mark_or_index(f, b"-"),
         9 => mark_or_index(f, b"*"),
         _ => Number::Refused,
@@ -220,47 +219,134 @@ fn put_item(f: &[u8], partial: bool, s: usize, w: &mut [u32], k: usize) -> usize
     }
 }
 
-// Writes the items after the cursor, the first of them being item j of a line of tag t: where they end, 0 where one is malformed.
+// A zero at byte `at`, which stands alone.
+fn zero_at(s: &[u8], at: usize) -> Digits
+    requires { ⌜ (at < length (now s)) × (getD (now s) at 0 ≡ 48) ⌝ }
+    ensures { λ r. ⌜ r ≡ indexAt (now (s .entry)) at ⌝ }
+{
+    let end = at + 1;
+    if end >= s.len() {
+        return Digits::Index(0, end);
+    }
+    if s[end] == 44 {
+        return Digits::Index(0, end);
+    }
+    Digits::Other
+}
+
+// The item that begins at byte `at`, read as an index.
+fn index_at(s: &[u8], at: usize) -> Digits
+    ensures { λ r. ⌜ r ≡ indexAt (now (s .entry)) at ⌝ }
+{
+    if at >= s.len() {
+        return Digits::Other;
+    }
+    let x = s[at];
+    if x == 48 {
+        return zero_at(s, at);
+    }
+    if x < 48 {
+        return Digits::Other;
+    }
+    if x > 57 {
+        return Digits::Other;
+    }
+    let mut n = (x - 48) as u32;
+    let mut i = at + 1;
+    while i < s.len() {
+        let y = s[i];
+        if y == 44 {
+            return Digits::Index(n, i);
+        }
+        if y < 48 {
+            return Digits::Other;
+        }
+        if y > 57 {
+            return Digits::Other;
+        }
+        if n > 999 {
+            return Digits::Other;
+        }
+        n = n * 10 + (y - 48) as u32;
+        i += 1;
+    }
+    Digits::Index(n, i)
+}
+
+// Writes the item after the separator at byte `at`. Most items are indices.
+fn put_next(s: &[u8], at: usize, partial: bool, slot: usize, w: &mut [u32], k: usize) -> Placed
+    requires { ⌜ (at < length (now s)) × (k + 2 ≤ 16384) × (16384 ≤ length (now w)) ⌝ }
+    ensures { λ r. ⌜ After (modeOf partial) (now (s .entry)) (now (w .entry)) (now (w .exit)) at slot k (r .end) (r .words) ⌝ }
+{
+    let start = at + 1;
+    if 16 <= slot {
+        if let Digits::Index(n, end) = index_at(s, start) {
+            w[k] = n;
+            return Placed { end, words: 1 };
+        }
+    }
+    let end = find(s, start, 44);
+    let words = put_item(part_of(s, start, end), partial, slot, w, k);
+    Placed { end, words }
+}
+
+// Writes the items after the separator at byte `at`, the first of them at place j of tag t: where they end, 0 where one is malformed or they are too
+// few or too many. Past the form's items the places of its group come again and again.
 fn put_items(
     s: &[u8],
-    c: Cursor,
+    at: usize,
     partial: bool,
     t: usize,
     j: usize,
     w: &mut [u32],
     k: usize,
 ) -> usize
-    requires { ⌜ (t < 50) × (j ≤ 1) × (1 ≤ k) × (c .at ≤ length (now s)) × (length (now s) ≤ 16384) × (16384 ≤ length (now w)) × (2 * k + length (now s) + 8 ≤ 32768 + c .at) ⌝ }
-    ensures { λ r. ⌜ Items (itemsFrom (modeOf partial) t j (itemsAt (now (s .entry)) c)) (now (w .entry)) (now (w .exit)) t k r (c .at) (length (now (s .entry))) ⌝ }
+    requires { ⌜ (t < 50) × (j ≤ length (formOf t .items)) × (1 ≤ k) × (at ≤ length (now s)) × (length (now s) ≤ 16384) × (16384 ≤ length (now w)) × (2 * k + length (now s) + 8 ≤ 32768 + at) ⌝ }
+    ensures { λ r. ⌜ Items (countedFrom (modeOf partial) t j (partsAfter 44 (now (s .entry)) at)) (now (w .entry)) (now (w .exit)) t k r at (length (now (s .entry))) ⌝ }
 {
-    let mut c = c;
+    let slots = slots_of(t);
+    let n = items_of(t);
+    let last = n + group_of(t);
+    let mut at = at;
     let mut j = j;
     let mut k = k;
-    loop {
-        let scan::Item::Part(start, next) = c.item(s) else {
-            return k;
-        };
-        let end = next.at;
-        let n = put_item(part_of(s, start, end), partial, slot_at(t, j), w, k);
-        if n == 0 {
+    while at < s.len() {
+        if j == last {
             return 0;
         }
-        k += n;
+        let p = put_next(s, at, partial, byte(slots, j), w, k);
+        if p.words == 0 {
+            return 0;
+        }
+        k += p.words;
+        at = p.end;
         j += 1;
-        c = next;
+        if j == last {
+            j = n;
+        }
     }
+    if j == n {
+        return k;
+    }
+    0
 }
-
-const TAGS: [u8; 13] = [0, 1, 2, 50, 9, 50, 16, 17, 18, 19, 20, 50, 49];
 
 // The tag of a key without constructors, 50 for the others.
 fn plain_tag(k: u64) -> usize
     ensures { λ r. ⌜ r ≡ tagOf k [] ⌝ }
 {
-    if k < 13 {
-        TAGS[k as usize] as usize
-    } else {
-        50
+    match k {
+        0 => 0,
+        1 => 1,
+        2 => 2,
+        4 => 9,
+        6 => 16,
+        7 => 17,
+        8 => 18,
+        9 => 19,
+        10 => 20,
+        12 => 49,
+        _ => 50,
     }
 }
 
@@ -274,64 +360,36 @@ fn named_tag(value: bool, name: &[u8]) -> usize
     type_form(name) as usize
 }
 
-// Writes the row of tag t with the n items after the cursor.
-fn row_tagged(
+// Writes the row of tag t: the items after the cursor from place j on, where the words before them are written.
+fn row_from(
     s: &[u8],
     c: Cursor,
-    n: usize,
     partial: bool,
     t: usize,
+    j: usize,
     w: &mut [u32],
     top: usize,
 ) -> usize
-    requires { ⌜ (n ≡ length (itemsAt (now s) c)) × (c .at ≤ length (now s)) × (length (now s) ≤ 16384) × (16384 ≤ length (now w)) × (2 * top + length (now s) + 16 ≤ 32768 + c .at) ⌝ }
-    ensures { λ r. ⌜ Row (rowFor (modeOf partial) t (itemsAt (now (s .entry)) c)) (now (w .entry)) (now (w .exit)) top r (length (now (s .entry)) + 4 - c .at) ⌝ }
+    requires { ⌜ (t < 50) × (j ≤ 1) × (1 ≤ j → 21 ≤ t) × (j ≤ length (formOf t .items)) × (c .at ≤ length (now s)) × (length (now s) ≤ 16384) × (16384 ≤ length (now w)) × (2 * top + length (now s) + 16 ≤ 32768 + c .at) ⌝ }
+    ensures { λ r. ⌜ Row (orEmpty t (joined (some (take j (drop (top + 1) (now (w .entry))))) (countedFrom (modeOf partial) t j (itemsAt (now (s .entry)) c)))) (now (w .entry)) (now (w .exit)) top r (length (now (s .entry)) + 4 - c .at) ⌝ }
 {
-    if 50 <= t {
-        return 0;
-    }
-    if !counted_ok(t, n) {
-        return 0;
-    }
     w[top] = t as u32;
-    let z = put_items(s, c, partial, t, 0, w, top + 1);
+    let z = put_items(s, c.at, partial, t, j, w, top + 1 + j);
     if z == 0 {
         return 0;
     }
     z - top
 }
 
-// Writes the row of a node of tag t: its type, from byte `start` to byte `end`, and the n - 1 items after the cursor, which stands after its name.
-fn row_typed(
-    s: &[u8],
-    start: usize,
-    end: usize,
-    c: Cursor,
-    n: usize,
-    partial: bool,
-    t: usize,
-    w: &mut [u32],
-    top: usize,
-) -> usize
-    requires { ⌜ (21 ≤ t) × (t < 50 → end + 3 ≤ c .at) × (start ≤ end) × (end ≤ c .at) × (n ≡ 1 + length (itemsAt (now s) c)) × (c .at ≤ length (now s)) × (length (now s) ≤ 16384) × (16384 ≤ length (now w)) × (2 * top + length (now s) + 16 ≤ 32768 + start) ⌝ }
-    ensures { λ r. ⌜ Row (rowFor (modeOf partial) t (part (now (s .entry)) start end ∷ itemsAt (now (s .entry)) c)) (now (w .entry)) (now (w .exit)) top r (length (now (s .entry)) - start) ⌝ }
+// Writes the row of tag t with the items after the cursor.
+fn row_tagged(s: &[u8], c: Cursor, partial: bool, t: usize, w: &mut [u32], top: usize) -> usize
+    requires { ⌜ (c .at ≤ length (now s)) × (length (now s) ≤ 16384) × (16384 ≤ length (now w)) × (2 * top + length (now s) + 16 ≤ 32768 + c .at) ⌝ }
+    ensures { λ r. ⌜ Row (rowFor (modeOf partial) t (itemsAt (now (s .entry)) c)) (now (w .entry)) (now (w .exit)) top r (length (now (s .entry)) + 4 - c .at) ⌝ }
 {
     if 50 <= t {
         return 0;
     }
-    if !counted_ok(t, n) {
-        return 0;
-    }
-    w[top] = t as u32;
-    let x = put_item(part_of(s, start, end), partial, slot_at(t, 0), w, top + 1);
-    if x == 0 {
-        return 0;
-    }
-    let z = put_items(s, c, partial, t, 1, w, top + 1 + x);
-    if z == 0 {
-        return 0;
-    }
-    z - top
+    row_from(s, c, partial, t, 0, w, top)
 }
 
 // The row of a key without constructors.
@@ -340,8 +398,7 @@ fn row_plain(k: u64, s: &[u8], c: Cursor, partial: bool, w: &mut [u32], top: usi
     ensures { λ r. ⌜ Row (rowFor (modeOf partial) (tagOf k []) (split 44 (drop (c .at + 1) (now (s .entry))))) (now (w .entry)) (now (w .exit)) top r (length (now (s .entry)) + 4 - c .at) ⌝ }
 {
     let t = plain_tag(k);
-    let n = separators(c.value(s), 44);
-    row_tagged(s, c, n + 1, partial, t, w, top)
+    row_tagged(s, c, partial, t, w, top)
 }
 
 // The row of a type or value: its constructor stands first.
@@ -349,31 +406,35 @@ fn row_named(value: bool, s: &[u8], c: Cursor, partial: bool, w: &mut [u32], top
     requires { ⌜ (c .at < length (now s)) × (length (now s) ≤ 16384) × (16384 ≤ length (now w)) × (2 * top + length (now s) + 16 ≤ 32768 + c .at) ⌝ }
     ensures { λ r. ⌜ Row (rowHeaded (modeOf partial) (cond value 5 3) (nameFirst (split 44 (drop (c .at + 1) (now (s .entry)))))) (now (w .entry)) (now (w .exit)) top r (length (now (s .entry)) + 4 - c .at) ⌝ }
 {
-    let n = separators(c.value(s), 44);
     let scan::Item::Part(start, next) = c.item(s) else {
         return 0;
     };
     let end = next.at;
     let t = named_tag(value, part_of(s, start, end));
-    row_tagged(s, next, n, partial, t, w, top)
+    row_tagged(s, next, partial, t, w, top)
 }
 
-// The row of a node: its constructor stands second.
+// The row of a node: its type stands first, its constructor second.
 fn row_node(s: &[u8], c: Cursor, partial: bool, w: &mut [u32], top: usize) -> usize
     requires { ⌜ (c .at < length (now s)) × (length (now s) ≤ 16384) × (16384 ≤ length (now w)) × (2 * top + length (now s) + 16 ≤ 32768 + c .at) ⌝ }
     ensures { λ r. ⌜ Row (rowHeaded (modeOf partial) 11 (nameSecond (split 44 (drop (c .at + 1) (now (s .entry)))))) (now (w .entry)) (now (w .exit)) top r (length (now (s .entry)) - (c .at + 1)) ⌝ }
 {
-    let n = separators(c.value(s), 44);
-    let scan::Item::Part(start, typed) = c.item(s) else {
+    let line = c.line;
+    let start = c.at + 1;
+    let Digits::Index(x, at) = index_at(s, start) else {
         return 0;
     };
+    let typed = Cursor { line, at };
     let scan::Item::Part(name, next) = typed.item(s) else {
         return 0;
     };
-    let end = typed.at;
     let last = next.at;
     let t = node_form(part_of(s, name, last)) as usize;
-    row_typed(s, start, end, next, n, partial, t, w, top)
+    if 50 <= t {
+        return 0;
+    }
+    w[top + 1] = x;
+    row_from(s, next, partial, t, 1, w, top)
 }
 
 // The row of a line of key k, which is not a text.
@@ -427,28 +488,4 @@ pub fn row_entry(
         return row_text(at + 1, c.value(s).len(), w, top);
     }
     row_value(k, s, c, partial, w, top)
-}
-
-// The same of the line from byte `from` to byte `to`, whose key is not known.
-pub fn row_of(
-    sheet: &[u8],
-    from: usize,
-    to: usize,
-    partial: bool,
-    w: &mut [u32],
-    top: usize,
-) -> usize
-    requires { ⌜ (length (now sheet) ≤ 16384) × (16384 ≤ length (now w)) × (2 * top + length (part (now sheet) from to) + 16 ≤ 32768) ⌝ }
-    ensures { λ r. ⌜ Line (now (sheet .entry)) (rowOf (modeOf partial) (part (now (sheet .entry)) from to)) (now (w .entry)) (now (w .exit)) top r (length (part (now (sheet .entry)) from to)) ⌝ }
-{
-    let l = part_of(sheet, from, to);
-    let scan::Heading::Keyed(k, n) = heading_of(l) else {
-        return 0;
-    };
-    // Only the byte of this cursor counts.
-    let c = Cursor {
-        line: 1,
-        at: from + n,
-    };
-    row_entry(sheet, k, c, from + l.len(), partial, w, top)
 }

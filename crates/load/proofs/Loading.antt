@@ -6,31 +6,28 @@ use Prim.Native.Nat.{ℕ, zero, suc, _+_, _-_, _*_, _≤_, _<_}
 use native.Mathlib.Omega.{arith}
 use lib.Dec.{ltb, eqb}
 use lib.ListN.{length, getD, take, drop, set, replicate, length-set}
-use lib.Seq.{getD-set-same, getD-set-other, drop-set-lt}
-use Rattle.words.specs.Log.{zeros, cleared}
-use Rattle.words.proofs.Stores.{length-part, cleared-long, getD-zeros, drop-zeros, length-zeros}
+use lib.Seq.{getD-set-same, getD-set-other, drop-set-lt, drop-drop}
+use Rattle.words.specs.Log.{zeros}
+use Rattle.words.proofs.Stores.{length-part, zeros-more, zeros-none, getD-zeros, drop-zeros, length-zeros}
 use Rattle.scan.specs.declared.Cursor.{Cursor}
 use Rattle.scan.specs.declared.Line as L
 use Rattle.scan.specs.Places.{readingBy, LineRead}
-use Rattle.scan.proofs.Splits.{split-parts}
 use Rattle.scan.proofs.Readings.{Entered, line-entered}
 use Rattle.sheet.specs.Bytes.{split}
-use Rattle.sheet.specs.Forms.{Mode, rowOf, NODE}
+use Rattle.sheet.specs.Forms.{Mode, rowOfValue, NODE}
 use Rattle.sheet.specs.State.{State, bool, empty, count, before, sum}
-use Rattle.sheet.specs.Sheet.{Reading, enough, reach, firstUnused, reads, ending, fault, more, goOn, reading, read}
+use Rattle.sheet.specs.Sheet.{Reading, enough, reach, firstUnused, reads, ending, more, goOn, reading, read}
 use Rattle.table.specs.Layout.{part, USES, heap, rowsAt, rowsOf, linesHeld, depthsHeld, depthsAt, held}
 use Rattle.table.proofs.Rows.{limit-small}
 use Rattle.table.proofs.Held.{tab-same, linesIn, lines-tab, depthBase, depthsIn, depths-tab, counts-held}
 use Rattle.fits.proofs.Remembered as R
 use Rattle.judge.proofs.Settling.{Part, Falling}
 use Rattle.judge.proofs.Alike.{count-alike}
-use Rattle.take.specs.Steps.{Ready, taken, Taken}
+use Rattle.line.proofs.LawsLine.{entry-wide}
+use Rattle.take.specs.Steps.{Ready, taken, Lined, Taken}
 use Rattle.load.specs.Result.{Read}
 
--- ---- the definition at a first line before the parts of a text
-
-reading-line : (m : Mode) (s : State) (k : ℕ) (l x : List ℕ) → reading m (l ∷ split 10 x) s k ≡ goOn s k (rowOf m l) (fault s (rowOf m l)) (reading m (split 10 x))
-reading-line m s k l x = rw (split-parts 10 x) refl
+-- ---- the definition after a line
 
 go-stops : (s : State) (k : ℕ) (r : List ℕ) (f : ℕ) (rest : State → ℕ → Reading) → (f ≡ 0 → ⊥) → goOn s k r f rest ≡ reads s f k
 go-stops s k r zero rest n = absurd (n refl)
@@ -93,6 +90,23 @@ module _ (sheet a b : List ℕ) where
 
 -- ---- before the first line
 
+-- where clearing stands: the first i of n words are 0
+pub record Zeroing (w₀ : List ℕ) (n : ℕ) (w : List ℕ) (i : ℕ) : Type 0 where
+  pub near : i ≤ n
+  pub long : length w ≡ length w₀
+  pub front : w ≡ zeros i w₀
+
+pub zeroing-start : (w : List ℕ) (n : ℕ) → Zeroing w n w 0
+zeroing-start w n = record { near = omega arith; long = refl; front = zeros-none w }
+
+module _ (w₀ : List ℕ) (n : ℕ) (w : List ℕ) (i : ℕ) (c : Zeroing w₀ n w i) where
+  pub zeroing-on : n ≤ length w₀ → i < n → Zeroing w₀ n (set w i 0) (i + 1)
+  zeroing-on l h =
+      record { near = omega arith; long = length-set w i 0 ∙ c .long; front = ap (λ (x : List ℕ). set x i 0) (c .front) ∙ zeros-more i w₀ (omega arith) }
+
+  pub zeroing-end : n ≤ i → w ≡ zeros n w₀
+  zeroing-end h = let e : i ≡ n = omega (arith, c .near) in c .front ∙ ap (λ (k : ℕ). zeros k w₀) e
+
 falling-empty : Falling empty
 falling-empty =
     record {
@@ -105,21 +119,19 @@ falling-empty =
     none-in : {X : Type 0} {y : ℕ} → Part bool y → X
     none-in p = elim p [ ]
 
-module _ (sheet a b a₁ b₁ a₂ : List ℕ) (la : 16384 ≤ length a) (lb : 16384 ≤ length b) (ha : a₁ ≡ cleared a) (hb : b₁ ≡ cleared b) (h₂ : a₂ ≡ set a₁ 14 4003) where
-  a₁-is : a₁ ≡ zeros 16384 a
-  a₁-is = ha ∙ sym (cleared-long a la)
+-- what stands past the words that become 0
+drop-past : (n m : ℕ) (w : List ℕ) → drop (n + m) (zeros n w) ≡ drop (n + m) w
+drop-past n m w = sym (drop-drop m n (zeros n w)) ∙ ap (drop m) (drop-zeros n w) ∙ drop-drop m n w
 
-  b₁-is : b₁ ≡ zeros 16384 b
-  b₁-is = hb ∙ sym (cleared-long b lb)
-
+module _ (sheet a b a₁ b₁ a₂ : List ℕ) (la : 16384 ≤ length a) (lb : 16384 ≤ length b) (ha : a₁ ≡ zeros 14 a) (hb : b₁ ≡ zeros 4096 b) (h₂ : a₂ ≡ set a₁ 14 4003) where
   long-a₁ : length a₁ ≡ length a
-  long-a₁ = ap length a₁-is ∙ length-zeros 16384 a la
+  long-a₁ = ap length ha ∙ length-zeros 14 a (omega arith)
 
   long-b₁ : length b₁ ≡ length b
-  long-b₁ = ap length b₁-is ∙ length-zeros 16384 b lb
+  long-b₁ = ap length hb ∙ length-zeros 4096 b (omega arith)
 
   none-yet : (k : ℕ) → k < 14 → getD a₂ k 0 ≡ 0
-  none-yet k h = ap (λ (x : List ℕ). getD x k 0) h₂ ∙ getD-set-other a₁ 14 k 4003 0 (omega arith) ∙ ap (λ (x : List ℕ). getD x k 0) a₁-is ∙ getD-zeros 16384 a k (omega arith)
+  none-yet k h = ap (λ (x : List ℕ). getD x k 0) h₂ ∙ getD-set-other a₁ 14 k 4003 0 (omega arith) ∙ ap (λ (x : List ℕ). getD x k 0) ha ∙ getD-zeros 14 a k h
 
   top-first : getD a₂ 14 0 ≡ 4003
   top-first = ap (λ (x : List ℕ). getD x 14 0) h₂ ∙ getD-set-same a₁ 14 4003 0 (omega (arith, long-a₁))
@@ -154,7 +166,7 @@ module _ (sheet a b a₁ b₁ a₂ : List ℕ) (la : 16384 ≤ length a) (lb : 1
           go false = refl
 
   blank : (i : ℕ) → i < 4096 → getD b₁ i 0 ≡ 0
-  blank i h = ap (λ (x : List ℕ). getD x i 0) b₁-is ∙ getD-zeros 16384 b i (omega arith)
+  blank i h = ap (λ (x : List ℕ). getD x i 0) hb ∙ getD-zeros 4096 b i h
 
   ready-first : Ready sheet a₂ b₁
   ready-first =
@@ -176,8 +188,8 @@ module _ (sheet a b a₁ b₁ a₂ : List ℕ) (la : 16384 ≤ length a) (lb : 1
 
   rest-first : (drop 16384 a₂ ≡ drop 16384 a) × (drop 16384 b₁ ≡ drop 16384 b)
   rest-first = (
-    ap (drop 16384) h₂ ∙ drop-set-lt 16384 a₁ 14 4003 (omega arith) ∙ ap (drop 16384) a₁-is ∙ drop-zeros 16384 a,
-    ap (drop 16384) b₁-is ∙ drop-zeros 16384 b,
+    ap (drop 16384) h₂ ∙ drop-set-lt 16384 a₁ 14 4003 (omega arith) ∙ ap (drop 16384) ha ∙ drop-past 14 16370 a,
+    ap (drop 16384) hb ∙ drop-past 4096 12288 b,
   )
 
 -- ---- the lines
@@ -194,7 +206,7 @@ pub record Progress (m : Mode) (sheet a₀ b₀ a b : List ℕ) (at k : ℕ) : T
   pub rest-a : drop 16384 a ≡ drop 16384 a₀
   pub rest-b : drop 16384 b ≡ drop 16384 b₀
 
-progress-start : (m : Mode) (sheet a b a₁ b₁ a₂ : List ℕ) → 16384 ≤ length a → 16384 ≤ length b → a₁ ≡ cleared a → b₁ ≡ cleared b → a₂ ≡ set a₁ 14 4003 → Progress m sheet a₂ b₁ a₂ b₁ 0 1
+progress-start : (m : Mode) (sheet a b a₁ b₁ a₂ : List ℕ) → 16384 ≤ length a → 16384 ≤ length b → a₁ ≡ zeros 14 a → b₁ ≡ zeros 4096 b → a₂ ≡ set a₁ 14 4003 → Progress m sheet a₂ b₁ a₂ b₁ 0 1
 unfolding read
 progress-start m sheet a b a₁ b₁ a₂ la lb ha hb h₂ =
     record {
@@ -210,14 +222,14 @@ progress-start m sheet a b a₁ b₁ a₂ la lb ha hb h₂ =
     }
 
 -- the same at the sheet's first cursor
-pub progress-first : (m : Mode) (sheet a b a₁ b₁ a₂ : List ℕ) (c : Cursor) → c .line ≡ 1 → c .at ≡ 0 → 16384 ≤ length a → 16384 ≤ length b → a₁ ≡ cleared a → b₁ ≡ cleared b → a₂ ≡ set a₁ 14 4003
+pub progress-first : (m : Mode) (sheet a b a₁ b₁ a₂ : List ℕ) (c : Cursor) → c .line ≡ 1 → c .at ≡ 0 → 16384 ≤ length a → 16384 ≤ length b → a₁ ≡ zeros 14 a → b₁ ≡ zeros 4096 b → a₂ ≡ set a₁ 14 4003
     → Progress m sheet a₂ b₁ a₂ b₁ (c .at) (c .line)
 progress-first m sheet a b a₁ b₁ a₂ c hl hc la lb ha hb h₂ =
     subst (λ (x : ℕ). Progress m sheet a₂ b₁ a₂ b₁ x (c .line)) (sym hc)
     (subst (Progress m sheet a₂ b₁ a₂ b₁ 0) (sym hl) (progress-start m sheet a b a₁ b₁ a₂ la lb ha hb h₂))
 
 -- what the words at entry, the loop's first words and its last ones leave
-pub from-entry : (x : Reading) (sheet a b a₁ b₁ a₂ a₃ b₃ : List ℕ) (n l : ℕ) → 16384 ≤ length a → 16384 ≤ length b → a₁ ≡ cleared a → b₁ ≡ cleared b → a₂ ≡ set a₁ 14 4003
+pub from-entry : (x : Reading) (sheet a b a₁ b₁ a₂ a₃ b₃ : List ℕ) (n l : ℕ) → 16384 ≤ length a → 16384 ≤ length b → a₁ ≡ zeros 14 a → b₁ ≡ zeros 4096 b → a₂ ≡ set a₁ 14 4003
     → Read x sheet a₂ b₁ a₃ b₃ n l → Read x sheet a b a₃ b₃ n l
 from-entry x sheet a b a₁ b₁ a₂ a₃ b₃ n l la lb ha hb h₂ r =
     let q = rest-first sheet a b a₁ b₁ a₂ la lb ha hb h₂ in
@@ -262,27 +274,33 @@ module _ (m : Mode) (sheet a₀ b₀ a b : List ℕ) (c : Cursor) (i : Progress 
       entry : Entered sheet c j equals e next
       entry = line-entered sheet c j equals e next (sym o ∙ q .is)
 
+      -- a key has at least four letters
+      wide : c .at + 4 ≤ equals .at
+      wide = entry-wide sheet c j equals e next (sym o ∙ q .is)
+
       line-long : (c .at + length (part sheet (c .at) e) ≡ e) × (e < length sheet) × (next .at ≡ e + 1)
       line-long = let w = entry in (omega (arith, length-part sheet (c .at) e (omega (arith, w .ends)), w .begins, w .equals-in), w .ends, w .next-at)
 
       pub line-falls : length sheet - next .at < length sheet - c .at
       line-falls = omega (arith, line-long .0, line-long .1, line-long .2)
 
-      line-next : read m sheet ≡ goOn (held sheet a b) (c .line) (rowOf m (part sheet (c .at) e)) (fault (held sheet a b) (rowOf m (part sheet (c .at) e))) (reading m (split 10 (drop (next .at) sheet)))
-      line-next =
-          i .left ∙ ap (λ (x : List (List ℕ)). reading m x (held sheet a b) (c .line)) (entry .lines)
-          ∙ reading-line m (held sheet a b) (c .line) (part sheet (c .at) e) (drop (next .at) sheet)
+      row : List ℕ
+      row = rowOfValue m j (part sheet (equals .at + 1) e)
 
-      pub line-fits : length sheet ≤ 16384 → Ready sheet a b × (length sheet ≤ 16384) × (2 * getD a 14 0 + length (part sheet (c .at) e) ≤ 24400)
-      line-fits s = (i .ready, s, omega (arith, i .room, line-long .0, line-long .1))
+      pub line-fits : length sheet ≤ 16384
+          → Ready sheet a b × Lined m (rowOfValue m j (part sheet (equals .at + 1) e)) × (equals .at < e) × (e ≤ length sheet) × (length sheet ≤ 16384) × (2 * getD a 14 0 + (e + 4 - equals .at) ≤ 24400)
+      line-fits s =
+          let w = entry in
+          (i .ready, record { line = part sheet (c .at) e; row-is = w .row m }, w .equals-in, omega (arith, w .ends), s, omega (arith, i .room, wide, w .equals-in, w .ends))
 
-      module _ (a′ b′ : List ℕ) (n : ℕ) (t : Taken m sheet (part sheet (c .at) e) a b a′ b′ n) where
-        line-does : read m sheet ≡ goOn (held sheet a b) (c .line) (rowOf m (part sheet (c .at) e)) n (reading m (split 10 (drop (next .at) sheet)))
-        line-does = line-next ∙ ap (λ (y : ℕ). goOn (held sheet a b) (c .line) (rowOf m (part sheet (c .at) e)) y (reading m (split 10 (drop (next .at) sheet)))) (sym (t .number))
+      module _ (a′ b′ : List ℕ) (n : ℕ) (t : Taken sheet (rowOfValue m j (part sheet (equals .at + 1) e)) a b a′ b′ (e + 4 - equals .at) n) where
+        line-does : read m sheet ≡ goOn (held sheet a b) (c .line) row n (reading m (split 10 (drop (next .at) sheet)))
+        unfolding row
+        line-does = by-line (L.the-variants.Entry j equals e next) o ∙ ap (λ (y : ℕ). goOn (held sheet a b) (c .line) row y (reading m (split 10 (drop (next .at) sheet)))) (sym (t .number))
 
         pub line-stops : (n ≡ 0 → ⊥) → (x l : ℕ) → x ≡ n → l ≡ c .line → Read (read m sheet) sheet a₀ b₀ a′ b′ x l
         line-stops z x l hx hl =
-            let s : read m sheet ≡ reads (held sheet a b) n (c .line) = line-does ∙ go-stops (held sheet a b) (c .line) (rowOf m (part sheet (c .at) e)) n (reading m (split 10 (drop (next .at) sheet))) z in
+            let s : read m sheet ≡ reads (held sheet a b) n (c .line) = line-does ∙ go-stops (held sheet a b) (c .line) row n (reading m (split 10 (drop (next .at) sheet))) z in
             record {
               number-is = hx ∙ sym (ap (λ (x : Reading). x .number) s);
               line-is = hl ∙ sym (ap (λ (x : Reading). x .line) s);
@@ -294,15 +312,16 @@ module _ (m : Mode) (sheet a₀ b₀ a b : List ℕ) (c : Cursor) (i : Progress 
             }
 
         pub line-goes : n ≡ 0 → length sheet ≤ 16384 → length a′ ≡ length a → length b′ ≡ length b → Progress m sheet a₀ b₀ a′ b′ (next .at) (next .line)
+        unfolding row
         line-goes z s la lb =
             let v : suc (c .line) ≡ next .line = omega (arith, entry .next-line, i .near, line-long .0, line-long .1) in
             record {
               left = line-does
-                  ∙ go-on (held sheet a b) (c .line) (rowOf m (part sheet (c .at) e)) n (reading m (split 10 (drop (next .at) sheet))) z
+                  ∙ go-on (held sheet a b) (c .line) row n (reading m (split 10 (drop (next .at) sheet))) z
                   ∙ ap₂ (reading m (split 10 (drop (next .at) sheet))) (sym (t .state z)) v;
               in-sheet = omega (arith, line-long .1, line-long .2);
               ready = t .ready z;
-              room = omega (arith, t .room z, i .room, line-long .0, line-long .2);
+              room = omega (arith, t .room z, i .room, wide, entry .equals-in, line-long .2);
               near = omega (arith, i .near, line-long .0, line-long .2);
               long-a = la ∙ i .long-a;
               long-b = lb ∙ i .long-b;

@@ -1,4 +1,5 @@
 // The reading of a sheet into the lent words: lines in turn, the first faulty line ends it.
+use checks::TYPEDEPTHS;
 use checks::USES;
 use checks::enough_before;
 use scan::Cursor;
@@ -8,13 +9,13 @@ use table::NODE;
 use table::TOP;
 use table::count;
 use take::take_line;
-use words::clear;
 use words::put;
 use words::read;
 ghost use mathlib.Core.Path.{_≡_};
 ghost use mathlib.Core.List.{[]};
 ghost use Prim.Native.Nat.{_+_, _≤_};
 ghost use lib.ListN.{length, getD};
+ghost use Rattle.words.specs.Log.{zeros};
 ghost use Rattle.sheet.specs.State.{before};
 ghost use Rattle.sheet.specs.Sheet.{read, firstUnused, ending};
 ghost use Rattle.table.specs.Layout.{held};
@@ -83,27 +84,38 @@ fn finish(a: &[u32], b: &[u32], k: usize) -> Loaded
 
 // ---- the sheet
 
-// Reads the sheet: the refusal of the first faulty line, or of the end; where it is accepted the words hold its rows.
+// The first n words become 0.
+fn zero(w: &mut [u32], n: usize)
+    requires { ⌜ n ≤ length (now w) ⌝ }
+    ensures { λ _. ⌜ now (w .exit) ≡ zeros n (now (w .entry)) ⌝ }
+{
+    let mut i = 0;
+    while i < n {
+        w[i] = 0;
+        i += 1;
+    }
+}
+
+// Reads the sheet; before the first line there are no rows, and no pairs are remembered. The answer is the refusal of the first faulty line, or of the end; where it is accepted the words hold its rows.
 pub fn load(sheet: &[u8], partial: bool, a: &mut [u32], b: &mut [u32]) -> Loaded
     requires { ⌜ (length (now sheet) ≤ 16384) × (16384 ≤ length (now a)) × (16384 ≤ length (now b)) ⌝ }
     ensures { λ r. ⌜ Read (read (modeOf partial) (now (sheet .entry))) (now (sheet .entry)) (now (a .entry)) (now (b .entry)) (now (a .exit)) (now (b .exit)) (r .number) (r .line) ⌝ }
 {
-    clear(a);
-    clear(b);
+    zero(a, TOP);
+    zero(b, TYPEDEPTHS);
     put(a, TOP, HEAP as u32);
     let mut c = Cursor::new();
     loop {
-        let at = c.at;
         let k = c.line;
         let l = c.next_line(sheet);
         match l {
             Line::Entry {
-                key: _,
-                equals: _,
+                key,
+                equals,
                 end,
                 next,
             } => {
-                let f = take_line(sheet, at, end, partial, a, b);
+                let f = take_line(sheet, key, equals, end, partial, a, b);
                 if f != 0 {
                     return Loaded { number: f, line: k };
                 }

@@ -11,7 +11,7 @@ use native.Mathlib.Numerals.{add-one}
 use borrow.Author.Tests.{lt-ltb, le-ltb, ltb-true, ltb-false}
 use lib.Dec.{ltb}
 use lib.ListN.{length, take, drop, drop-of-length-le, List·getD-eq-default}
-use lib.Seq.{drop-drop, length-take-le}
+use lib.Seq.{drop-drop}
 use Rattle.words.specs.Log.{part}
 use Rattle.words.proofs.Stores.{length-part}
 use Rattle.sheet.specs.Ascii.{ascii}
@@ -24,7 +24,7 @@ use Rattle.scan.specs.declared.Heading as H
 use Rattle.scan.specs.declared.Line as L
 use Rattle.scan.specs.declared.Item as I
 use Rattle.scan.specs.declared.Counted as C
-use Rattle.scan.specs.Places.{place, keyed, headingOf, entered, lineAfter, lineTo, lineAt, itemsAt, itemAt, rowBy, LineRead, NumberRead, numberAt, handed, asIndex, itemsBy, indexBy, firstIndex}
+use Rattle.scan.specs.Places.{place, keyed, headingOf, entered, lineAfter, lineTo, lineAt, itemsAt, itemAt, LineRead, NumberRead, numberAt, handed, asIndex, itemsBy, indexBy, firstIndex}
 use Rattle.scan.proofs.Scans.{drop-take}
 use Rattle.scan.proofs.Splits.{found-le, split-parts, split-at, after-on, after-end}
 
@@ -71,12 +71,6 @@ items-part s c start next e = go (decLt (c .at) (length s))
           line-kept = ap (λ (x : Cursor). x .line) m;
           items = after-on 44 s (c .at) d ∙ rw (← b) (split-at 44 s start (next .at) w f);
         }
-
--- the items of a line's value, from the cursor at its `=`
-pub value-items : (s : List ℕ) (e : ℕ) (c : Cursor) → c .at < e → e ≤ length s → itemsAt (take e s) c ≡ split 44 (part s (c .at + 1) e)
-value-items s e c h l =
-    let n : length (take e s) ≡ e = length-take-le e s l in
-    after-on 44 (take e s) (c .at) (omega arith) ∙ ap (split 44) (drop-take e (c .at + 1) s)
 
 -- ---- a key that is none of the thirteen: its line has no row
 
@@ -314,10 +308,6 @@ module _ (s : List ℕ) (c : Cursor) (m : Mode) (st : State) (i : ℕ) where
       go false false d e h f y = let z : _≡_ {A = ℕ} 0 1 = cc in absurd (omega arith)
 
 -- ---- each case of an answer
-
-pub heading-row : (m : Mode) (l : List ℕ) (r : H.Heading) → r ≡ headingOf l → rowOf m l ≡ rowBy m l r
-heading-row m l (H.the-variants.Keyed k n) e = row-keyed m l k n e .1
-heading-row m l H.the-variants.Malformed e = row-malformed m l e
 
 pub line-read : (s : List ℕ) (c : Cursor) (r : L.Line) → r ≡ lineAt s c → LineRead s c r
 line-read s c (L.the-variants.Entry k equals e next) q = record { is = q; reads-on = λ m st i. reading-entry s c m st i k equals e next q }

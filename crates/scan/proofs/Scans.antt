@@ -1,17 +1,18 @@
 -- A step of a loop over a text, for each definition that goes down a list: at index i the list is `drop i s`. Assumes nothing.
 use mathlib.Core.Path.{_≡_, refl, sym, ap, ap₂, _∙_}
 use mathlib.Core.List.{List, [], _∷_}
-use mathlib.Core.Bool.{Bool, true, false, _&&_}
+use mathlib.Core.Bool.{Bool, true, false, cond, not, _&&_}
 use Prim.Native.Nat.{ℕ, zero, suc, _+_, _-_, _≤_, _<_}
 use native.Mathlib.Omega.{arith}
 use native.Mathlib.Numerals.{add-one}
-use borrow.Author.Tests.{eq-eqb, ne-eqb, le-leb, lt-leb}
-use lib.Dec.{eqb}
+use borrow.Author.Tests.{eq-eqb, ne-eqb, le-leb, lt-leb, not-false, not-true}
+use lib.Dec.{eqb, leb}
 use lib.ListN.{length, getD, take, drop, length-drop, drop-of-length-le}
 use lib.Seq.{drop-cons, take-all, take-nil, drop-nil}
 use Rattle.cedar.proofs.Tools.{no-true, eqb-true}
 use Rattle.words.specs.Log.{part}
 use Rattle.sheet.specs.Bytes.{upTo, same, printable}
+use Rattle.scan.specs.Places.{isPrintable, plainTo}
 
 module _ (c : ℕ) (s : List ℕ) (i : ℕ) where
   upTo-here : i < length s → getD s i 0 ≡ c → upTo c (drop i s) ≡ 0
@@ -48,12 +49,6 @@ same-length (x ∷ a) (y ∷ b) e =
 module _ (s : List ℕ) (i : ℕ) where
   printable-on : i < length s → 32 ≤ getD s i 0 → getD s i 0 ≤ 126 → printable (drop i s) ≡ printable (drop (i + 1) s)
   printable-on h l g = rw (add-one i, drop-cons s i 0 h, le-leb 32 (getD s i 0) l, le-leb (getD s i 0) 126 g)
-
-  printable-low : i < length s → getD s i 0 < 32 → printable (drop i s) ≡ false
-  printable-low h l = rw (drop-cons s i 0 h, lt-leb 32 (getD s i 0) l)
-
-  printable-high : i < length s → 32 ≤ getD s i 0 → 126 < getD s i 0 → printable (drop i s) ≡ false
-  printable-high h l g = rw (drop-cons s i 0 h, le-leb 32 (getD s i 0) l, lt-leb (getD s i 0) 126 g)
 
   printable-end : length s ≤ i → printable (drop i s) ≡ true
   printable-end h = rw (drop-of-length-le s h)
@@ -104,21 +99,90 @@ pub record Printing (s : List ℕ) (i : ℕ) : Type 0 where
   pub near : i ≤ length s
   pub left : printable s ≡ printable (drop i s)
 
+pub plain-low : (x : ℕ) → x < 32 → false ≡ isPrintable x
+plain-low x h = rw (lt-leb 32 x h) refl
+
+pub plain-high : (x : ℕ) (t : Bool) → 32 ≤ x → t ≡ leb x 126 → t ≡ isPrintable x
+plain-high x t h e = rw (le-leb 32 x h) e
+
 pub printing-start : (s : List ℕ) → Printing s 0
 printing-start s = record { near = omega arith; left = refl }
 
 module _ (s : List ℕ) (i : ℕ) (k : Printing s i) where
-  pub printing-low : i < length s → getD s i 0 < 32 → false ≡ printable s
-  printing-low h l = sym (k .left ∙ printable-low s i h l)
-
-  pub printing-high : i < length s → 32 ≤ getD s i 0 → 126 < getD s i 0 → false ≡ printable s
-  printing-high h l g = sym (k .left ∙ printable-high s i h l g)
-
   pub printing-on : i < length s → 32 ≤ getD s i 0 → getD s i 0 ≤ 126 → Printing s (i + 1)
   printing-on h l g = record { near = omega arith; left = k .left ∙ printable-on s i h l g }
 
   pub printing-end : length s ≤ i → true ≡ printable s
   printing-end h = sym (k .left ∙ printable-end s i h)
+
+-- where a search for a byte that is not printable stands: at i, where it will find it at p
+pub record Passing (s : List ℕ) (p i : ℕ) : Type 0 where
+  pub left : p ≡ i + plainTo (drop i s)
+
+pub passing-from : (s : List ℕ) (i : ℕ) → Passing s (i + plainTo (drop i s)) i
+passing-from s i = record { left = refl }
+
+pub passing-start : (s : List ℕ) → Passing s (plainTo s) 0
+passing-start s = record { left = omega arith }
+
+module _ (s : List ℕ) (p i : ℕ) (k : Passing s p i) where
+  pub passing-rest : (r : ℕ) → r ≡ i + plainTo (drop i s) → r ≡ p
+  passing-rest r e = e ∙ sym (k .left)
+
+  pub passing-end : length s ≤ i → i ≡ p
+  passing-end h = let e : plainTo (drop i s) ≡ 0 = rw (drop-of-length-le s h) refl in omega (arith, k .left)
+
+  module _ (t : Bool) (h : i < length s) (b : t ≡ isPrintable (getD s i 0)) where
+    plain-first : plainTo (drop i s) ≡ cond t (suc (plainTo (drop (i + 1) s))) 0
+    plain-first = rw (add-one i, drop-cons s i 0 h, b) refl
+
+    pub passing-stop : not t ≡ true → i ≡ p
+    passing-stop n = let e : plainTo (drop i s) ≡ 0 = plain-first ∙ rw (not-true t n) refl in omega (arith, k .left)
+
+    pub passing-on : not t ≡ false → (j : ℕ) → j ≡ i + 1 → Passing s p j
+    passing-on n j q =
+        let e : plainTo (drop i s) ≡ suc (plainTo (drop (i + 1) s)) = plain-first ∙ rw (not-false t n) refl in
+        record { left = rw q (omega (arith, k .left)) }
+
+-- the same, four bytes at a step
+pub record Stepping (s : List ℕ) (p i : ℕ) : Type 0 where
+  pub passing : Passing s p i
+  pub near : i ≤ length s
+
+pub stepping-start : (s : List ℕ) → Stepping s (plainTo s) 0
+stepping-start s = record { passing = passing-start s; near = omega arith }
+
+module _ (s : List ℕ) (p i : ℕ) (k : Stepping s p i) where
+  pub stepping-rest : (r : ℕ) → r ≡ i + plainTo (drop i s) → r ≡ p
+  stepping-rest = passing-rest s p i (k .passing)
+
+  module _ (four : 4 ≤ length s - i) (t : Bool) (b : t ≡ isPrintable (getD s i 0)) where
+    pub first-stop : not t ≡ true → i ≡ p
+    first-stop = passing-stop s p i (k .passing) t (omega arith) b
+
+    module _ (n : not t ≡ false) (t₁ : Bool) (b₁ : t₁ ≡ isPrintable (getD s (i + 1) 0)) where
+      first-on : Passing s p (i + 1)
+      first-on = passing-on s p i (k .passing) t (omega arith) b n (i + 1) refl
+
+      pub second-stop : not t₁ ≡ true → i + 1 ≡ p
+      second-stop = passing-stop s p (i + 1) first-on t₁ (omega arith) b₁
+
+      module _ (n₁ : not t₁ ≡ false) (t₂ : Bool) (b₂ : t₂ ≡ isPrintable (getD s (i + 2) 0)) where
+        second-on : Passing s p (i + 2)
+        second-on = passing-on s p (i + 1) first-on t₁ (omega arith) b₁ n₁ (i + 2) (omega arith)
+
+        pub third-stop : not t₂ ≡ true → i + 2 ≡ p
+        third-stop = passing-stop s p (i + 2) second-on t₂ (omega arith) b₂
+
+        module _ (n₂ : not t₂ ≡ false) (t₃ : Bool) (b₃ : t₃ ≡ isPrintable (getD s (i + 3) 0)) where
+          third-on : Passing s p (i + 3)
+          third-on = passing-on s p (i + 2) second-on t₂ (omega arith) b₂ n₂ (i + 3) (omega arith)
+
+          pub fourth-stop : not t₃ ≡ true → i + 3 ≡ p
+          fourth-stop = passing-stop s p (i + 3) third-on t₃ (omega arith) b₃
+
+          pub stepping-on : not t₃ ≡ false → Stepping s p (i + 4)
+          stepping-on n₃ = record { passing = passing-on s p (i + 3) third-on t₃ (omega arith) b₃ n₃ (i + 4) (omega arith); near = omega arith }
 
 -- ---- parts of a text
 
@@ -167,6 +231,10 @@ same-is [] [] e = refl
 same-is [] (y ∷ l) e = no-true e
 same-is (x ∷ k) [] e = no-true e
 same-is (x ∷ k) (y ∷ l) e = first-same x y k l (eqb x y) refl (same-is k l) e
+
+-- a word that was tried
+pub tried : (name w : List ℕ) (t : Bool) → t ≡ same name w → t ≡ true → w ≡ name
+tried name w t s h = sym (same-is name w (sym s ∙ h))
 
 -- equal words have equal last bytes
 pub same-last : (a b : List ℕ) (i : ℕ) → (getD a i 0 ≡ getD b i 0 → ⊥) → false ≡ same a b

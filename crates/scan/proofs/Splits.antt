@@ -7,10 +7,9 @@ use native.Mathlib.Omega.{arith}
 use native.Mathlib.Numerals.{add-one}
 use borrow.Author.Tests.{lt-ltb, le-ltb, ltb-true, ltb-false}
 use lib.Dec.{ltb, eqb, leb·suc-suc}
-use lib.ListN.{length, getD, take, drop, length-drop, drop-of-length-le}
-use lib.Seq.{drop-cons, drop-drop}
+use lib.ListN.{length, take, drop, length-drop}
+use lib.Seq.{drop-drop}
 use Rattle.words.specs.Log.{part}
-use Rattle.words.proofs.Stores.{length-part}
 use Rattle.sheet.specs.Bytes.{upTo, ahead, split}
 use Rattle.scan.specs.Places.{partsAfter}
 
@@ -59,9 +58,6 @@ module _ (c : ℕ) (l : List ℕ) (a e : ℕ) (h : a ≤ length l) (f : e ≡ a 
       split-parts c (drop a l) ∙ ap (λ (t : List (List ℕ)). take (upTo c (drop a l)) (drop a l) ∷ t) after-drop
       ∙ ap (λ (n : ℕ). take n (drop a l) ∷ partsAfter c l e) u
 
-  pub length-found : length (part l a e) ≡ e - a
-  length-found = length-part l a e found-le
-
 module _ (c : ℕ) (l : List ℕ) (e : ℕ) where
   pub after-on : e < length l → partsAfter c l e ≡ split c (drop (e + 1) l)
   unfolding partsAfter
@@ -70,48 +66,3 @@ module _ (c : ℕ) (l : List ℕ) (e : ℕ) where
   pub after-end : length l ≤ e → partsAfter c l e ≡ []
   unfolding partsAfter
   after-end h = rw (le-ltb e (length l) h)
-
--- ---- how many parts there are
-
--- there is always a part
-split-some : (c : ℕ) (l : List ℕ) → 1 ≤ length (split c l)
-split-some c l = omega (arith, ap length (split-parts c l))
-
-length-ahead : (x : ℕ) (ps : List (List ℕ)) → 1 ≤ length ps → length (ahead x ps) ≡ length ps
-length-ahead x [] h = absurd (omega arith)
-length-ahead x (p ∷ ps) h = refl
-
-length-split : (c x : ℕ) (l : List ℕ) → length (split c (x ∷ l)) ≡ cond (eqb x c) 1 0 + length (split c l)
-length-split c x l = go (eqb x c)
-  where
-    go : (b : Bool) → length (cond b ([] ∷ split c l) (ahead x (split c l))) ≡ cond b 1 0 + length (split c l)
-    go true = omega arith
-    go false = omega (arith, length-ahead x (split c l) (split-some c l))
-
--- where a count of separators stands: n among the first i bytes
-pub record Counting (c : ℕ) (l : List ℕ) (n i : ℕ) : Type 0 where
-  pub near : i ≤ length l
-  pub few : n ≤ i
-  pub left : length (split c l) ≡ n + length (split c (drop i l))
-
-pub counting-start : (c : ℕ) (l : List ℕ) → Counting c l 0 0
-counting-start c l = record { near = omega arith; few = omega arith; left = omega arith }
-
-cond-le : (b : Bool) → cond b 1 0 ≤ 1
-cond-le true = omega arith
-cond-le false = omega arith
-
-pub counting-one : (c x k : ℕ) → k ≡ cond (eqb x c) 1 0 → k ≤ 1
-counting-one c x k e = omega (arith, cond-le (eqb x c))
-
-pub counting-on : (c : ℕ) (l : List ℕ) (n i k : ℕ) → Counting c l n i → i < length l → k ≡ cond (eqb (getD l i 0) c) 1 0 → Counting c l (n + k) (i + 1)
-counting-on c l n i k s h e =
-    let d : drop i l ≡ getD l i 0 ∷ drop (i + 1) l = rw (add-one i) (drop-cons l i 0 h) in
-    record {
-      near = omega arith;
-      few = omega (arith, s .few, counting-one c (getD l i 0) k e);
-      left = omega (arith, s .left, ap (λ (x : List ℕ). length (split c x)) d, length-split c (getD l i 0) (drop (i + 1) l));
-    }
-
-pub counting-end : (c : ℕ) (l : List ℕ) (n i : ℕ) → Counting c l n i → length l ≤ i → n + 1 ≡ length (split c l)
-counting-end c l n i s h = omega (arith, s .left, ap (λ (x : List ℕ). length (split c x)) (drop-of-length-le l h))

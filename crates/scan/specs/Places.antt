@@ -1,10 +1,10 @@
 -- What stands at a place of a sheet: the line, the next item, the next number.
-use mathlib.Core.Bool.{cond, _&&_}
+use mathlib.Core.Bool.{Bool, cond, _&&_}
 use mathlib.Core.Option.{Option, none, some}
 use mathlib.Core.List.{List, [], _∷_}
 use mathlib.Core.Path.{_≡_}
 use Prim.Native.Nat.{ℕ, suc, _+_, min}
-use lib.Dec.{ltb}
+use lib.Dec.{ltb, leb}
 use lib.ListN.{length, take, drop}
 use Rattle.words.specs.Log.{part}
 use Rattle.sheet.specs.Bytes.{upTo, split, printable, index}
@@ -30,6 +30,18 @@ keyed n (some k) = H.the-variants.Keyed k n
 unfoldable pub headingOf : List ℕ → H.Heading
 headingOf l =
     cond (printable l && ltb (upTo 61 l) (length l)) (keyed (upTo 61 l) (wordNumber (take (upTo 61 l) l) keys)) H.the-variants.Malformed
+
+-- the key before the first `=`, whatever follows
+unfoldable pub startOf : List ℕ → H.Heading
+startOf s = cond (ltb (upTo 61 s) (length s)) (keyed (upTo 61 s) (wordNumber (take (upTo 61 s) s) keys)) H.the-variants.Malformed
+
+abbrev pub isPrintable : ℕ → Bool
+isPrintable x = leb 32 x && leb x 126
+
+-- how many bytes stand before the first that is not printable
+abbrev pub plainTo : List ℕ → ℕ
+plainTo [] = 0
+plainTo (x ∷ l) = cond (isPrintable x) (suc (plainTo l)) 0
 
 -- the next line's number, counted up to 2^64 - 1
 abbrev pub lineAfter : ℕ → ℕ

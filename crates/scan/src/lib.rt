@@ -1,13 +1,13 @@
 // Bytes of a sheet: parts, lines, items, words and numbers. A text is handed on as a part of the sheet, never copied.
 ghost use mathlib.Core.Path.{_≡_};
 ghost use mathlib.Core.Bool.{cond};
-ghost use Prim.Native.Nat.{_+_};
+ghost use Prim.Native.Nat.{_+_, _≤_, _<_};
 ghost use lib.ListN.{length, take, drop};
 ghost use Rattle.words.specs.Log.{part};
 ghost use Rattle.sheet.specs.Bytes.{upTo, split, same, printable, digitsFrom, decimal, atMost, index, half, upward, downward, long};
 ghost use Rattle.sheet.specs.Forms.{keys, wordNumber, tagOf};
-ghost use Rattle.scan.specs.Numbers.{numberOf, placed, formAfter};
-ghost use Rattle.scan.specs.Places.{headingOf, lineAfter, itemAt, LineRead, NumberRead};
+ghost use Rattle.scan.specs.Numbers.{numberOf, placed, formAfter, Packed, WordRead};
+ghost use Rattle.scan.specs.Places.{headingOf, startOf, isPrintable, plainTo, lineAfter, itemAt, LineRead, NumberRead};
 
 // 2^63, which a long is held above.
 const HALF: u64 = 9223372036854775808;
@@ -104,28 +104,6 @@ pub fn find(s: &[u8], from: usize, b: u8) -> usize
     i
 }
 
-fn one_if(hit: bool) -> usize
-    ensures { λ r. ⌜ r ≡ cond hit 1 0 ⌝ }
-{
-    if hit {
-        return 1;
-    }
-    0
-}
-
-// How many bytes `b` there are: one fewer than the parts between them.
-pub fn separators(s: &[u8], b: u8) -> usize
-    ensures { λ r. ⌜ r + 1 ≡ length (split b (now (s .entry))) ⌝ }
-{
-    let mut n = 0;
-    let mut i = 0;
-    while i < s.len() {
-        n += one_if(s[i] == b);
-        i += 1;
-    }
-    n
-}
-
 // Whether two words are the same. Those that begin alike often end otherwise, so the last bytes are compared first.
 pub fn same_bytes(a: &[u8], b: &[u8]) -> bool
     ensures { λ r. ⌜ r ≡ same (now (a .entry)) (now (b .entry)) ⌝ }
@@ -174,21 +152,14 @@ pub fn same_words(a: &[u32], b: &[u32]) -> bool
     true
 }
 
-pub fn printable_bytes(s: &[u8]) -> bool
-    ensures { λ r. ⌜ r ≡ printable (now (s .entry)) ⌝ }
+// Whether a byte is printable.
+fn plain(x: u8) -> bool
+    ensures { λ r. ⌜ r ≡ isPrintable x ⌝ }
 {
-    let mut i = 0;
-    while i < s.len() {
-        let x = s[i];
-        if x < 32 {
-            return false;
-        }
-        if x > 126 {
-            return false;
-        }
-        i += 1;
+    if x < 32 {
+        return false;
     }
-    true
+    x <= 126
 }
 
 // ---- words
@@ -212,26 +183,94 @@ pub fn place(word: &[u8], list: &[u8]) -> Number
     }
 }
 
-// The number of a key, in the order of the thirteen keys. The keys of most lines are tried first.
-pub fn key_of(name: &[u8]) -> Number
+// Byte `i` as a number.
+fn one(s: &[u8], i: usize) -> u64
+    requires { ⌜ i < length (now s) ⌝ }
+    ensures { λ r. ⌜ Packed (now (s .entry)) i 1 r ⌝ }
+{
+    s[i] as u64
+}
+
+// Two bytes from byte `i` on as one number, the first the lowest.
+fn two(s: &[u8], i: usize) -> u64
+    requires { ⌜ i + 2 ≤ length (now s) ⌝ }
+    ensures { λ r. ⌜ Packed (now (s .entry)) i 2 r ⌝ }
+{
+    one(s, i) + 256 * one(s, i + 1)
+}
+
+// The same of three.
+fn three(s: &[u8], i: usize) -> u64
+    requires { ⌜ i + 3 ≤ length (now s) ⌝ }
+    ensures { λ r. ⌜ Packed (now (s .entry)) i 3 r ⌝ }
+{
+    two(s, i) + 65536 * one(s, i + 2)
+}
+
+// The same of four.
+fn four(s: &[u8], i: usize) -> u64
+    requires { ⌜ i + 4 ≤ length (now s) ⌝ }
+    ensures { λ r. ⌜ Packed (now (s .entry)) i 4 r ⌝ }
+{
+    two(s, i) + 65536 * two(s, i + 2)
+}
+
+// A word of two to seven bytes as one number: its bytes, the first the lowest, and 1 after them; 0 for any other.
+fn word_of(s: &[u8]) -> u64
+    ensures { λ r. ⌜ WordRead (now (s .entry)) r ⌝ }
+{
+    match s.len() {
+        2 => 0x1_0000 + two(s, 0),
+        3 => 0x100_0000 + three(s, 0),
+        4 => 0x1_0000_0000 + four(s, 0),
+        5 => 0x100_0000_0000 + (four(s, 0) + 0x1_0000_0000 * one(s, 4)),
+        6 => 0x1_0000_0000_0000 + (four(s, 0) + 0x1_0000_0000 * two(s, 4)),
+        7 => 0x100_0000_0000_0000 + (four(s, 0) + 0x1_0000_0000 * three(s, 4)),
+        _ => 0,
+    }
+}
+
+// The number of a key, found in the list of all.
+fn listed_key(name: &[u8]) -> Number
     ensures { λ r. ⌜ numberOf r ≡ wordNumber (now (name .entry)) keys ⌝ }
 {
-    if same_bytes(name, b"node") {
-        return Number::Value(11);
-    }
-    if same_bytes(name, b"value") {
-        return Number::Value(5);
-    }
-    if same_bytes(name, b"text") {
-        return Number::Value(1);
-    }
-    if same_bytes(name, b"policy") {
-        return Number::Value(12);
-    }
     place(
         name,
         b"sheet,text,kind,type,shape,value,entity,principal,action,resource,context,node,policy",
     )
+}
+
+// The same, where keys of more than seven letters are tried first.
+fn long_key(name: &[u8]) -> Number
+    ensures { λ r. ⌜ numberOf r ≡ wordNumber (now (name .entry)) keys ⌝ }
+{
+    if same_bytes(name, b"principal") {
+        return Number::Value(7);
+    }
+    if same_bytes(name, b"resource") {
+        return Number::Value(9);
+    }
+    listed_key(name)
+}
+
+// The number of a key, in the order of the thirteen keys.
+pub fn key_of(name: &[u8]) -> Number
+    ensures { λ r. ⌜ numberOf r ≡ wordNumber (now (name .entry)) keys ⌝ }
+{
+    match word_of(name) {
+        0x0174_6565_6873 => Number::Value(0), // sheet
+        0x01_7478_6574 => Number::Value(1), // text
+        0x01_646e_696b => Number::Value(2), // kind
+        0x01_6570_7974 => Number::Value(3), // type
+        0x0165_7061_6873 => Number::Value(4), // shape
+        0x0165_756c_6176 => Number::Value(5), // value
+        0x01_7974_6974_6e65 => Number::Value(6), // entity
+        0x01_6e6f_6974_6361 => Number::Value(8), // action
+        0x0174_7865_746e_6f63 => Number::Value(10), // context
+        0x01_6564_6f6e => Number::Value(11), // node
+        0x01_7963_696c_6f70 => Number::Value(12), // policy
+        _ => long_key(name),
+    }
 }
 
 // The form that stands so many places after a key's first, or 50, past the table's end.
@@ -252,18 +291,48 @@ fn form_after(first: u64, r: Number) -> u64
     }
 }
 
-// The form of a type by its constructor, 50 for none.
-pub fn type_form(name: &[u8]) -> u64
+// The form of a type by its constructor, 50 for none, found in the list of all.
+fn listed_type(name: &[u8]) -> u64
     ensures { λ r. ⌜ r ≡ tagOf 3 (now (name .entry)) ⌝ }
 {
     form_after(3, place(name, b"bool,long,string,entity,set,record"))
+}
+
+// The form of a type by its constructor.
+pub fn type_form(name: &[u8]) -> u64
+    ensures { λ r. ⌜ r ≡ tagOf 3 (now (name .entry)) ⌝ }
+{
+    match word_of(name) {
+        0x01_6c6f_6f62 => 3, // bool
+        0x01_676e_6f6c => 4, // long
+        0x01_676e_6972_7473 => 5, // string
+        0x01_7974_6974_6e65 => 6, // entity
+        0x0174_6573 => 7, // set
+        0x01_6472_6f63_6572 => 8, // record
+        _ => listed_type(name),
+    }
+}
+
+// The form of a value by its constructor, found in the list of all.
+fn listed_value(name: &[u8]) -> u64
+    ensures { λ r. ⌜ r ≡ tagOf 5 (now (name .entry)) ⌝ }
+{
+    form_after(10, place(name, b"bool,long,text,entity,set,record"))
 }
 
 // The form of a value by its constructor.
 pub fn value_form(name: &[u8]) -> u64
     ensures { λ r. ⌜ r ≡ tagOf 5 (now (name .entry)) ⌝ }
 {
-    form_after(10, place(name, b"bool,long,text,entity,set,record"))
+    match word_of(name) {
+        0x01_6c6f_6f62 => 10, // bool
+        0x01_676e_6f6c => 11, // long
+        0x01_7478_6574 => 12, // text
+        0x01_7974_6974_6e65 => 13, // entity
+        0x0174_6573 => 14, // set
+        0x01_6472_6f63_6572 => 15, // record
+        _ => listed_value(name),
+    }
 }
 
 // The form of a node by its operation, found in the list of all.
@@ -283,90 +352,57 @@ fn listed_form(name: &[u8]) -> u64
 fn short_form(name: &[u8]) -> u64
     ensures { λ r. ⌜ r ≡ tagOf 11 (now (name .entry)) ⌝ }
 {
-    if same_bytes(name, b"eq") {
-        return 26;
+    match word_of(name) {
+        0x01_726f => 25, // or
+        0x01_7165 => 26, // eq
+        0x01_746c => 27, // lt
+        0x01_656c => 28, // le
+        0x01_6e69 => 32, // in
+        0x01_6669 => 38, // if
+        0x01_7369 => 39, // is
+        _ => listed_form(name),
     }
-    if same_bytes(name, b"or") {
-        return 25;
-    }
-    if same_bytes(name, b"in") {
-        return 32;
-    }
-    if same_bytes(name, b"if") {
-        return 38;
-    }
-    if same_bytes(name, b"lt") {
-        return 27;
-    }
-    if same_bytes(name, b"le") {
-        return 28;
-    }
-    if same_bytes(name, b"is") {
-        return 39;
-    }
-    listed_form(name)
 }
 
 // The same, where operations of three letters are tried first.
 fn middle_form(name: &[u8]) -> u64
     ensures { λ r. ⌜ r ≡ tagOf 11 (now (name .entry)) ⌝ }
 {
-    if same_bytes(name, b"lit") {
-        return 21;
+    match word_of(name) {
+        0x0174_696c => 21, // lit
+        0x0172_7265 => 22, // err
+        0x0172_6176 => 23, // var
+        0x0164_6e61 => 24, // and
+        0x0164_6461 => 29, // add
+        0x0162_7573 => 30, // sub
+        0x016c_756d => 31, // mul
+        0x016c_6c61 => 36, // all
+        0x0179_6e61 => 37, // any
+        0x0174_6567 => 41, // get
+        0x0173_6168 => 42, // has
+        0x0174_6f6e => 44, // not
+        0x0167_656e => 45, // neg
+        0x0174_6573 => 47, // set
+        _ => listed_form(name),
     }
-    if same_bytes(name, b"var") {
-        return 23;
-    }
-    if same_bytes(name, b"get") {
-        return 41;
-    }
-    if same_bytes(name, b"and") {
-        return 24;
-    }
-    if same_bytes(name, b"has") {
-        return 42;
-    }
-    if same_bytes(name, b"not") {
-        return 44;
-    }
-    if same_bytes(name, b"add") {
-        return 29;
-    }
-    if same_bytes(name, b"sub") {
-        return 30;
-    }
-    if same_bytes(name, b"mul") {
-        return 31;
-    }
-    listed_form(name)
 }
 
 // The same, where longer operations are tried first.
 fn long_form(name: &[u8]) -> u64
     ensures { λ r. ⌜ r ≡ tagOf 11 (now (name .entry)) ⌝ }
 {
-    if same_bytes(name, b"like") {
-        return 40;
-    }
-    if same_bytes(name, b"haspath") {
-        return 43;
-    }
     if same_bytes(name, b"contains") {
         return 35;
     }
-    if same_bytes(name, b"record") {
-        return 48;
+    match word_of(name) {
+        0x01_6761_7474_6567 => 33, // gettag
+        0x01_6761_7473_6168 => 34, // hastag
+        0x01_656b_696c => 40, // like
+        0x0168_7461_7073_6168 => 43, // haspath
+        0x0179_7470_6d65 => 46, // empty
+        0x01_6472_6f63_6572 => 48, // record
+        _ => listed_form(name),
     }
-    if same_bytes(name, b"hastag") {
-        return 34;
-    }
-    if same_bytes(name, b"gettag") {
-        return 33;
-    }
-    if same_bytes(name, b"empty") {
-        return 46;
-    }
-    listed_form(name)
 }
 
 // The form of a node by its operation.
@@ -489,21 +525,80 @@ pub fn long_of(s: &[u8]) -> Number
 
 // ---- lines and items
 
-// A line's key and the byte of its first `=`.
-pub fn heading_of(l: &[u8]) -> Heading
-    ensures { λ r. ⌜ r ≡ headingOf (now (l .entry)) ⌝ }
+// Where the first byte that is not printable stands, from byte `i` on, or the end.
+fn printable_to(s: &[u8], i: usize) -> usize
+    ensures { λ r. ⌜ r ≡ i + plainTo (drop i (now (s .entry))) ⌝ }
 {
-    if !printable_bytes(l) {
+    let mut i = i;
+    while i < s.len() {
+        if !plain(s[i]) {
+            return i;
+        }
+        i += 1;
+    }
+    i
+}
+
+// Where the first byte that is not printable stands, or the end: four bytes at a step, then one.
+fn printable_end(s: &[u8]) -> usize
+    ensures { λ r. ⌜ r ≡ plainTo (now (s .entry)) ⌝ }
+{
+    let mut i = 0;
+    while 4 <= s.len() - i {
+        if !plain(s[i]) {
+            return i;
+        }
+        if !plain(s[i + 1]) {
+            return i + 1;
+        }
+        if !plain(s[i + 2]) {
+            return i + 2;
+        }
+        if !plain(s[i + 3]) {
+            return i + 3;
+        }
+        i += 4;
+    }
+    printable_to(s, i)
+}
+
+// The key that stands before the first `=` of these bytes.
+fn key_found(s: &[u8]) -> Heading
+    ensures { λ r. ⌜ r ≡ startOf (now (s .entry)) ⌝ }
+{
+    let n = find(s, 0, 61);
+    if n >= s.len() {
         return Heading::Malformed;
     }
-    let n = find(l, 0, 61);
-    if n >= l.len() {
-        return Heading::Malformed;
-    }
-    let k = key_of(front(l, n));
+    let k = key_of(front(s, n));
     match k {
         Number::Value(key) => Heading::Keyed(key, n),
         Number::Refused => Heading::Malformed,
+    }
+}
+
+// The same, where `value` is tried first.
+fn value_at(s: &[u8]) -> Heading
+    requires { ⌜ 6 ≤ length (now s) ⌝ }
+    ensures { λ r. ⌜ r ≡ startOf (now (s .entry)) ⌝ }
+{
+    match word_of(&s[0..6]) {
+        0x01_3d65_756c_6176 => Heading::Keyed(5, 5), // value=
+        _ => key_found(s),
+    }
+}
+
+// The same, where the keys of most lines are tried first.
+fn key_at(s: &[u8]) -> Heading
+    ensures { λ r. ⌜ r ≡ startOf (now (s .entry)) ⌝ }
+{
+    if s.len() < 6 {
+        return key_found(s);
+    }
+    match word_of(&s[0..5]) {
+        0x013d_6564_6f6e => Heading::Keyed(11, 4), // node=
+        0x013d_7478_6574 => Heading::Keyed(1, 4), // text=
+        _ => value_at(s),
     }
 }
 
@@ -530,25 +625,30 @@ impl Cursor {
     {
         let at = self.at;
         let line = self.line;
-        let end = find(sheet, at, 10);
-        if end >= sheet.len() {
-            if at < sheet.len() {
-                return Line::Faulty;
-            }
+        if at >= sheet.len() {
             return Line::End;
         }
-        let h = heading_of(&sheet[at..end]);
-        match h {
-            Heading::Keyed(key, n) => Line::Entry {
-                key,
-                equals: Cursor { line, at: at + n },
-                end,
-                next: Cursor {
-                    line: line_after(line),
-                    at: end + 1,
-                },
+        let s = rest(sheet, at);
+        let Heading::Keyed(key, n) = key_at(s) else {
+            return Line::Faulty;
+        };
+        let v = &s[n + 1..];
+        let e = printable_end(v);
+        if e >= v.len() {
+            return Line::Faulty;
+        }
+        if v[e] != 10 {
+            return Line::Faulty;
+        }
+        let end = at + n + 1 + e;
+        Line::Entry {
+            key,
+            equals: Cursor { line, at: at + n },
+            end,
+            next: Cursor {
+                line: line_after(line),
+                at: end + 1,
             },
-            Heading::Malformed => Line::Faulty,
         }
     }
 

@@ -1,25 +1,29 @@
 -- Look-ups of entities and of fields, as the code does them. Assumes nothing.
 use mathlib.Core.Path.{_≡_, refl, sym, ap, _∙_}
-use mathlib.Core.Bool.{Bool, true, false, cond}
+use mathlib.Core.Bool.{Bool, true, false, not, cond, _||_}
 use mathlib.Core.Option.{Option, none, some}
 use mathlib.Core.List.{List, [], _∷_}
-use Prim.Native.Nat.{ℕ, _+_, _≤_, _<_}
+use Prim.Native.Nat.{ℕ, zero, suc, _+_, _-_, _*_, _≤_, _<_}
 use native.Mathlib.Numerals.{add-one}
 use native.Mathlib.Omega.{arith}
-use borrow.Author.Tests.{eq-eqb, ne-eqb, eqb-true}
+use native.Mathlib.Decide.{decLt}
+use borrow.Author.Tests.{eq-eqb, ne-eqb, eqb-true, eqb-false, not-true}
 use lib.Dec.{eqb}
-use lib.ListN.{getD, drop}
+use lib.ListN.{length, getD, take, drop, List·getD-eq-default}
 use types.Run.{OneOf, miss}
 use denote.Enum.Declared.{tagOf}
 use Rattle.value.proofs.Shape.{the-type}
 use Rattle.cedar.proofs.TableLaws.{sameRow-true, sameRow-refl}
-use Rattle.cedar.specs.Rows.{Row, rent, sameRow}
+use Rattle.cedar.specs.Rows.{Row, rbool, rlong, rtext, rent, rset, rrec, sameRow}
 use Rattle.cedar.specs.Numbered.{rRec, entryOf}
-use Rattle.sheet.specs.Forms.{items, at, mark}
+use Rattle.words.specs.Log.{part}
+use Rattle.words.proofs.Stores.{part-at}
+use Rattle.sheet.specs.Bytes.{longAt}
+use Rattle.sheet.specs.Forms.{tag, items, at, mark}
 use Rattle.sheet.specs.State.{valueRow, entriesOf}
 use Rattle.sheet.specs.Content.{entityLine}
-use Rattle.table.specs.Layout.{rowsOf, held, linesHeld}
-use Rattle.table.proofs.Rows.{count-rows}
+use Rattle.table.specs.Layout.{base, rowsOf, held, linesHeld}
+use Rattle.table.proofs.Rows.{count-rows, row-none, row-some, row-at-is}
 use Rattle.value.specs.Lines.{valueLines}
 use Rattle.value.specs.Shapes.{shapeOf, shapeRow, entryFound}
 use Rattle.value.specs.declared.Shape.{Shape}
@@ -29,7 +33,7 @@ use Rattle.value.specs.declared.Entry.the-variants.{At, Nothing}
 use Rattle.value.proofs.Shaped.{shape-row}
 use Rattle.value.proofs.Lists.{uncons, spent}
 use Rattle.strict.specs.Gives.{valueIn}
-use Rattle.strict.specs.Lookups.{stateIn, isEntityAt, lineAt, lineIn, partOfLine, partIn, lookFound, lookRow, lookIn, lookValue, lookAttr, takenOf, presentOf}
+use Rattle.strict.specs.Lookups.{stateIn, textThere, isEntityAt, lineAt, lineIn, partOfLine, partIn, lookFound, lookRow, lookIn, lookValue, lookAttr, takenOf, presentOf}
 use Rattle.strict.specs.declared.Given.the-variants.{Bool as Boolᵍ, Old, Fails, Stays}
 use Rattle.strict.specs.declared.entity.Part.{Part}
 use Rattle.strict.specs.declared.entity.Part.the-variants.{Known, Empty, Unknown}
@@ -53,6 +57,75 @@ no-entity (Text u) l k t h e = let z : _≡_ {A = ℕ} 0 1 = cc in omega arith
 no-entity (Entity j u) l k t h e = miss (0 ∷ 1 ∷ 2 ∷ 4 ∷ 5 ∷ []) 3 tt h
 no-entity Set l k t h e = let z : _≡_ {A = ℕ} 0 1 = cc in omega arith
 no-entity Record l k t h e = let z : _≡_ {A = ℕ} 0 1 = cc in omega arith
+
+-- ---- by the word of its text
+
+module _ (a : List ℕ) (v t : ℕ) where
+  pub text-free : t ≡ 0 → true ≡ textThere a v t
+  unfolding textThere
+  text-free h = sym (rw (eq-eqb t 0 h))
+
+  pub text-read : (b s x : ℕ) → (b ≡ base 5) × (b < 4003) → (t ≡ 0 → ⊥) → s ≡ getD a (b + v) 0 → x ≡ getD a (s + 2) 0 → eqb x t ≡ textThere a v t
+  unfolding textThere
+  text-read b s x hb n es ex = rw (ne-eqb t 0 n, ← (hb .0), ← es, ← ex)
+
+-- a word of the row from s to e
+module _ (a : List ℕ) (s e : ℕ) where
+  pub word-none : (j : ℕ) → e ≤ s + j → 0 ≡ getD (part a s e) j 0
+  word-none j h = sym (List·getD-eq-default (part a s e) 0 (omega (arith, length-take-le′ (e - s) (drop s a))))
+    where
+      length-take-le′ : (n : ℕ) (l : List ℕ) → length (take n l) ≤ n
+      length-take-le′ zero l = omega arith
+      length-take-le′ (suc n) [] = omega arith
+      length-take-le′ (suc n) (x ∷ l) = omega (arith, length-take-le′ n l)
+
+  pub word-some : (x : ℕ) → s + 1 < e → x ≡ getD a (s + 1) 0 → x ≡ getD (part a s e) 1 0
+  word-some x h ex = ex ∙ sym (part-at a s e 1 (omega arith))
+
+  word-other : (t : ℕ) → (t ≡ 0 → ⊥) → (getD a (s + 2) 0 ≡ t → ⊥) → getD (part a s e) 2 0 ≡ t → ⊥
+  word-other t n m z = go (decLt (s + 2) e)
+    where
+      go : Dec (s + 2 < e) → ⊥
+      go (yes h) = m (sym (part-at a s e 2 (omega arith)) ∙ z)
+      go (no h) = n (sym (word-none 2 (omega arith) ∙ z))
+
+not-entity : (q : List ℕ) (k t : ℕ) → (getD q 2 0 ≡ t → ⊥) → valueRow q ≡ rent k t → ⊥
+not-entity q k t n e = go (tag q - 10) e
+  where
+    go : (j : ℕ) → getD (rbool (eqb (at q 0) 1) ∷ rlong (longAt (at q 0 * 4294967296 + at q 1)) ∷ rtext (at q 0) ∷ rent (at q 0) (at q 1) ∷ rset (items q) ∷ rrec (entriesOf (items q)) ∷ []) j (rbool false)
+        ≡ rent k t → ⊥
+    go zero z = let y : _≡_ {A = ℕ} 0 1 = cc in omega arith
+    go (suc zero) z = let y : _≡_ {A = ℕ} 0 1 = cc in omega arith
+    go (suc (suc zero)) z = let y : _≡_ {A = ℕ} 0 1 = cc in omega arith
+    go (suc (suc (suc zero))) z = n cc
+    go (suc (suc (suc (suc zero)))) z = let y : _≡_ {A = ℕ} 0 1 = cc in omega arith
+    go (suc (suc (suc (suc (suc zero))))) z = let y : _≡_ {A = ℕ} 0 1 = cc in omega arith
+    go (suc (suc (suc (suc (suc (suc j)))))) z = let y : _≡_ {A = ℕ} 0 1 = cc in omega arith
+
+pub entity-far : (a : List ℕ) (v k t : ℕ) (b : Bool) → b ≡ textThere a v t → not b ≡ true → false ≡ isEntityAt a v k t
+unfolding textThere isEntityAt
+entity-far a v k t b eb f = not-same (valueRow (getD (rowsOf a 5) v [])) (rent k t) (not-entity (getD (rowsOf a 5) v []) k t (other (decLt v (getD a 5 0))))
+  where
+    far : (eqb t 0 || eqb (getD a (getD a (base 5 + v) 0 + 2) 0) t) ≡ false
+    far = sym eb ∙ not-true b f
+
+    free : t ≡ 0 → ⊥
+    free z = let y : _≡_ {A = Bool} true false = sym (rw (eq-eqb t 0 z)) ∙ far in let w : _≡_ {A = ℕ} 0 1 = cc in omega arith
+
+    apart : getD a (getD a (base 5 + v) 0 + 2) 0 ≡ t → ⊥
+    apart z = let y : eqb (getD a (getD a (base 5 + v) 0 + 2) 0) t ≡ false = or-right (eqb t 0) (eqb (getD a (getD a (base 5 + v) 0 + 2) 0) t) far in eqb-false (getD a (getD a (base 5 + v) 0 + 2) 0) t y z
+      where
+        or-right : (c d : Bool) → (c || d) ≡ false → d ≡ false
+        or-right true d e = let w : _≡_ {A = ℕ} 0 1 = cc in absurd (omega arith)
+        or-right false d e = e
+
+    other : Dec (v < getD a 5 0) → getD (getD (rowsOf a 5) v []) 2 0 ≡ t → ⊥
+    other (yes h) z =
+        word-other a (getD a (base 5 + v) 0) (getD a (base 5 + v + 1) 0) t free apart
+        (ap (λ (l : List ℕ). getD l 2 0) (row-some a 5 v (getD a 5 0) (base 5) (part a (getD a (base 5 + v) 0) (getD a (base 5 + v + 1) 0)) refl h refl (row-at-is a (base 5 + v) (getD a (base 5 + v) 0) (getD a (base 5 + v + 1) 0) (part a (getD a (base 5 + v) 0) (getD a (base 5 + v + 1) 0)) refl refl refl)) ∙ z)
+    other (no h) z = free (sym (ap (λ (l : List ℕ). getD l 2 0) (row-none a 5 v (getD a 5 0) refl (omega arith)) ∙ z))
+
+-- ---- by its row
 
 module _ (a : List ℕ) (v : ℕ) (q : List ℕ) (s : Shape) (eq : q ≡ getD (rowsOf a 5) v []) (es : s ≡ shapeOf q) where
   row-is : valueRow (getD (rowsOf a 5) v []) ≡ shapeRow s (items q)
@@ -121,6 +194,35 @@ module _ (a : List ℕ) (k t n i : ℕ) (g : Seeking a k t n i) where
 
     pub seek-on : b ≡ false → Seeking a k t n (i + 1)
     seek-on z = record { all = g .all; near = omega arith; left = g .left ∙ at-line ∙ rw z }
+
+-- the same, with where the next line begins
+pub record Walking (a : List ℕ) (k t n i s : ℕ) : Type 0 where
+  pub seeking : Seeking a k t n i
+  pub start : s ≡ getD a (base 6 + i) 0
+
+pub walk-start : (a : List ℕ) (k t n b s : ℕ) → n ≡ getD a 6 0 → (b ≡ base 6) × (b < 4003) → s ≡ getD a b 0 → Walking a k t n 0 s
+walk-start a k t n b s en hb es =
+    let z : b ≡ base 6 + 0 = omega (arith, hb .0) in
+    record { seeking = seek-start a k t n en; start = es ∙ ap (λ (j : ℕ). getD a j 0) z }
+
+module _ (a : List ℕ) (k t n i s : ℕ) (g : Walking a k t n i s) where
+  pub walk-end : n ≤ i → lineAt (rowsOf a 6) Nothing ≡ lineIn a k t
+  walk-end = seek-end a k t n i (g .seeking)
+
+  module _ (h : i < n) (b e x : ℕ) (c : Bool) (hb : (b ≡ base 6) × (b < 4003)) (ee : e ≡ getD a (b + i + 1) 0) (ex : x ≡ getD (part a s e) 1 0) (ec : c ≡ isEntityAt a x k t) where
+    next : e ≡ getD a (base 6 + i + 1) 0
+    next = ee ∙ ap (λ (j : ℕ). getD a (j + i + 1) 0) (hb .0)
+
+    line-here : part a s e ≡ getD (rowsOf a 6) i []
+    line-here = row-some a 6 i n (base 6) (part a s e) (g .seeking .all) h refl (row-at-is a (base 6 + i) s e (part a s e) (g .start) next refl)
+
+    pub walk-hit : c ≡ true → lineAt (rowsOf a 6) (At i) ≡ lineIn a k t
+    walk-hit = seek-hit a k t n i (g .seeking) h (part a s e) line-here x ex c ec
+
+    pub walk-on : c ≡ false → Walking a k t n (i + 1) e
+    walk-on z =
+        let y : base 6 + i + 1 ≡ base 6 + (i + 1) = omega arith in
+        record { seeking = seek-on a k t n i (g .seeking) h (part a s e) line-here x ex c ec z; start = next ∙ ap (λ (j : ℕ). getD a j 0) y }
 
 -- ---- a part of a line
 

@@ -2,7 +2,7 @@
 use mathlib.Core.Bool.{Bool, true, false, cond, _||_}
 use mathlib.Core.Option.{Option, none, some}
 use mathlib.Core.List.{List, [], _∷_}
-use Prim.Native.Nat.{ℕ, suc}
+use Prim.Native.Nat.{ℕ, suc, _+_}
 use lib.Dec.{eqb}
 use lib.ListN.{getD}
 use Rattle.cedar.specs.Residual.{rin, rgettag, rhastag}
@@ -12,7 +12,7 @@ use Rattle.cedar.specs.Numbered.{NOut, fails, stays, truly, rEnt, rText, rSet, 
 use Rattle.sheet.specs.Forms.{at, mark}
 use Rattle.sheet.specs.State.{State, valueRow}
 use Rattle.sheet.specs.Content.{lookUp}
-use Rattle.table.specs.Layout.{held, rowsOf}
+use Rattle.table.specs.Layout.{base, held, rowsOf}
 use Rattle.value.specs.declared.Entry.{Entry}
 use Rattle.value.specs.declared.Entry.the-variants.{At, Nothing}
 use Rattle.strict.specs.Gives.{values, valueIn, envIn}
@@ -28,6 +28,10 @@ use Rattle.strict.specs.declared.entity.Walked.the-variants.{Holds, Fail
 -- the lines that the words hold, without the bytes of texts
 unfoldable pub stateIn : List ℕ → State
 stateIn a = held [] a []
+
+-- whether the word that would be the text of entity v of the sheet is t; a missing word is 0
+unfoldable pub textThere : List ℕ → ℕ → ℕ → Bool
+textThere a v t = eqb t 0 || eqb (getD a (getD a (base 5 + v) 0 + 2) 0) t
 
 -- whether value v of the sheet is this entity
 unfoldable pub isEntityAt : List ℕ → ℕ → ℕ → ℕ → Bool

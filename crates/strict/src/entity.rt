@@ -2,6 +2,7 @@
 use crate::Given;
 use table::ENTITY;
 use table::VALUE;
+use table::base_of;
 use table::count;
 use table::item;
 use table::row;
@@ -13,12 +14,15 @@ use value::meets;
 use value::members;
 use value::row_of;
 use value::shape_of;
+use words::read;
 ghost use mathlib.Core.Path.{_≡_};
 ghost use Prim.Native.Nat.{_<_};
+ghost use lib.ListN.{getD};
+ghost use Rattle.words.specs.Log.{part};
 ghost use Rattle.table.specs.Layout.{rowsOf};
 ghost use Rattle.cedar.specs.Numbered.{allRent};
 ghost use Rattle.strict.specs.Gives.{outOf, values, valueIn};
-ghost use Rattle.strict.specs.Lookups.{isEntityAt, lineAt, lineIn, partIn, lookRow, lookIn, lookAttr, takenOf, presentOf, getOut, hasOut, tagLook, gettagOut, hastagOut, isRentAt, inKnownOut, inUnknownOut, inListOut, inOut, walkFrom};
+ghost use Rattle.strict.specs.Lookups.{textThere, isEntityAt, lineAt, lineIn, partIn, lookRow, lookIn, lookAttr, takenOf, presentOf, getOut, hasOut, tagLook, gettagOut, hastagOut, isRentAt, inKnownOut, inUnknownOut, inListOut, inOut, walkFrom};
 
 // A part of an entity's line: a value, nothing at all, or unknown.
 pub enum Part {
@@ -35,10 +39,24 @@ pub enum Look {
     Bad,
 }
 
-// Whether value `v` of the sheet is the entity of kind `k` and text `t`.
+// Whether the word that would be the text of entity `v` of the sheet is `t`; a missing word is 0.
+fn has_text(a: &[u32], v: u32, t: u32) -> bool
+    ensures { λ r. ⌜ r ≡ textThere (now (a .entry)) v t ⌝ }
+{
+    if t == 0 {
+        return true;
+    }
+    let s = read(a, base_of(VALUE) + v as usize);
+    read(a, s as usize + 2) == t
+}
+
+// Whether value `v` of the sheet is the entity of kind `k` and text `t`. Most others have another text.
 fn is_entity(a: &[u32], v: u32, k: u32, t: u32) -> bool
     ensures { λ r. ⌜ r ≡ isEntityAt (now (a .entry)) v k t ⌝ }
 {
+    if !has_text(a, v, t) {
+        return false;
+    }
     let s = shape_of(row(a, VALUE, v));
     let Shape::Entity(l, u) = s else {
         return false;
@@ -49,19 +67,36 @@ fn is_entity(a: &[u32], v: u32, k: u32, t: u32) -> bool
     u == t
 }
 
-// The line of an entity.
+// The first item of the row from `s` to `e`.
+fn first_of(a: &[u32], s: usize, e: usize) -> u32
+    ensures { λ r. ⌜ r ≡ getD (part (now (a .entry)) s e) 1 0 ⌝ }
+{
+    if s >= e {
+        return 0;
+    }
+    if s + 1 >= e {
+        return 0;
+    }
+    read(a, s + 1)
+}
+
+// The line of an entity: each line begins where the one before ends.
 pub fn find_entity(a: &[u32], k: u32, t: u32) -> Entry
     ensures { λ r. ⌜ lineAt (rowsOf (now (a .entry)) 6) r ≡ lineIn (now (a .entry)) k t ⌝ }
 {
     let n = count(a, ENTITY);
+    let b = base_of(ENTITY);
+    let mut s = read(a, b) as usize;
     let mut i = 0;
     loop {
         if i >= n {
             break Entry::Nothing;
         }
-        if is_entity(a, item(row(a, ENTITY, i), 1), k, t) {
+        let e = read(a, b + i as usize + 1) as usize;
+        if is_entity(a, first_of(a, s, e), k, t) {
             break Entry::At(i);
         }
+        s = e;
         i += 1;
     }
 }

@@ -11,7 +11,7 @@ use lib.ListN.{length, getD, take, drop, List·getD-eq-default}
 use lib.Seq.{drop-drop}
 use Rattle.words.specs.Bits.{member, bit}
 use Rattle.cedar.proofs.Tools.{no-true}
-use Rattle.sheet.specs.Forms.{Mode, rowOf, forms, formOf, tag, keyOf, refs, NODE, TYPE, VALUE, KIND, TEXT}
+use Rattle.sheet.specs.Forms.{Mode, forms, formOf, tag, keyOf, refs, NODE, TYPE, VALUE, KIND, TEXT}
 use Rattle.sheet.specs.State.{State, count}
 use Rattle.sheet.specs.Sheet.{greatest, fault, faultOf, more, depth, marked}
 use Rattle.sheet.proofs.Lines.{and-both, Passed, passed, later-empty}
@@ -27,7 +27,7 @@ use Rattle.judge.specs.Verdicts.{Judged}
 use Rattle.judge.proofs.Alike.{text-tag}
 use Rattle.judge.proofs.Settling.{Falling, settled-in, falling-line}
 use Rattle.line.specs.Written.{rowFrom, Line}
-use Rattle.take.specs.Steps.{withDepth, Ready, taken, Taken}
+use Rattle.take.specs.Steps.{withDepth, Ready, taken, Lined, Taken}
 use Rattle.take.proofs.Committing.{line-words, state-more}
 
 -- ---- rows of words and rows of the definition
@@ -118,8 +118,8 @@ nodes = refl
 
 -- ---- `take_line`
 
-module _ (m : Mode) (sheet line a b : List ℕ) (ready : Ready sheet a b) (fits : 2 * getD a 14 0 + length line ≤ 24400)
-    (top : ℕ) (ht : top ≡ getD a 14 0) (a₁ : List ℕ) (n : ℕ) (l : Line sheet (rowOf m line) a a₁ top n (length line)) (long₁ : length a₁ ≡ length a) where
+module _ (sheet row a b : List ℕ) (bytes : ℕ) (ready : Ready sheet a b) (fits : 2 * getD a 14 0 + bytes ≤ 24400)
+    (top : ℕ) (ht : top ≡ getD a 14 0) (a₁ : List ℕ) (n : ℕ) (l : Line sheet row a a₁ top n (bytes)) (long₁ : length a₁ ≡ length a) where
   below : take (getD a TOP 0) a₁ ≡ take (getD a TOP 0) a
   below = subst (λ (x : ℕ). take x a₁ ≡ take x a) ht (l .kept .below)
 
@@ -141,10 +141,10 @@ module _ (m : Mode) (sheet line a b : List ℕ) (ready : Ready sheet a b) (fits 
   few-nodes : getD a₁ NODE 0 ≤ 1024
   few-nodes = omega (arith, sound₁ .few 11 (omega arith), nodes)
 
-  pub line-malformed : n ≡ 0 → Taken m sheet line a b a₁ b 3
+  pub line-malformed : n ≡ 0 → Taken sheet row a b a₁ b bytes 3
   line-malformed z =
       record {
-        number = fault-none (held sheet a b) (rowOf m line) (l .empty z);
+        number = fault-none (held sheet a b) row (l .empty z);
         state = λ q. absurd (omega arith);
         ready = λ q. absurd (omega arith);
         room = λ q. absurd (omega arith);
@@ -156,20 +156,20 @@ module _ (m : Mode) (sheet line a b : List ℕ) (ready : Ready sheet a b) (fits 
     r₁ : List ℕ
     r₁ = part a₁ top end
 
-    words-are : rowFrom sheet r₁ ≡ rowOf m line
+    words-are : rowFrom sheet r₁ ≡ row
     unfolding r₁
     words-are = let z : end - top ≡ n = omega arith in ap (λ (x : ℕ). rowFrom sheet (take x (drop top a₁))) z ∙ l .words
 
     some-words : r₁ ≡ [] → ⊥
     some-words e = nz (l .full (sym words-are ∙ ap (rowFrom sheet) e))
 
-    some-row : rowOf m line ≡ [] → ⊥
+    some-row : row ≡ [] → ⊥
     some-row e = nz (l .full e)
 
-    row-is : rowIn sheet (keyOf r₁) r₁ ≡ rowOf m line
+    row-is : rowIn sheet (keyOf r₁) r₁ ≡ row
     row-is = row-alike sheet r₁ some-words ∙ words-are
 
-    key-is : keyOf (rowOf m line) ≡ keyOf r₁
+    key-is : keyOf row ≡ keyOf r₁
     key-is = ap keyOf (sym row-is) ∙ key-alike sheet r₁
 
     falling₁ : Falling (held sheet a₁ b)
@@ -180,15 +180,15 @@ module _ (m : Mode) (sheet line a b : List ℕ) (ready : Ready sheet a b) (fits 
     settled₁ = subst (F.Settled (rowsOf a₁ VALUE)) (lines-held sheet a₁ b 3 (omega arith) (λ q. absurd (omega arith))) (settled-in (held sheet a₁ b) (rowsOf a₁ VALUE) falling₁)
 
     module _ (b₁ : List ℕ) (f k d : ℕ) (j : Judged sheet a₁ b (part a₁ top end) b₁ f k d) (long-b₁ : length b₁ ≡ length b) where
-      number-is : f ≡ fault (held sheet a b) (rowOf m line)
+      number-is : f ≡ fault (held sheet a b) row
       unfolding r₁
       number-is = j .number settled₁ ∙ ap₂ (λ (s : State) (x : List ℕ). faultOf s (keyOf r₁) x) state-as row-is
-          ∙ ap (λ (x : ℕ). faultOf (held sheet a b) x (rowOf m line)) (sym key-is) ∙ sym (fault-some (held sheet a b) (rowOf m line) some-row)
+          ∙ ap (λ (x : ℕ). faultOf (held sheet a b) x row) (sym key-is) ∙ sym (fault-some (held sheet a b) row some-row)
 
       rest-b₁ : drop 16384 b₁ ≡ drop 16384 b
       rest-b₁ = sym (drop-drop 9088 7296 b₁) ∙ ap (drop 9088) (j .rest few-nodes) ∙ drop-drop 9088 7296 b
 
-      pub line-refused : (f ≡ 0 → ⊥) → Taken m sheet line a b a₁ b₁ f
+      pub line-refused : (f ≡ 0 → ⊥) → Taken sheet row a b a₁ b₁ bytes f
       line-refused z =
           record {
             number = number-is;
@@ -200,7 +200,7 @@ module _ (m : Mode) (sheet line a b : List ℕ) (ready : Ready sheet a b) (fits 
           }
 
       module _ (z : f ≡ 0) where
-        clean : fault (held sheet a b) (rowOf m line) ≡ 0
+        clean : fault (held sheet a b) row ≡ 0
         clean = sym number-is ∙ z
 
         key-row : k ≡ keyOf r₁
@@ -210,7 +210,7 @@ module _ (m : Mode) (sheet line a b : List ℕ) (ready : Ready sheet a b) (fits 
         pass : Passed (held sheet a₁ b) k (rowIn sheet k r₁)
         pass = subst (λ (s : State). Passed s k (rowIn sheet k r₁)) (sym state-as)
             (subst (λ (x : ℕ). Passed (held sheet a b) x (rowIn sheet x r₁)) (sym key-row)
-            (subst (Passed (held sheet a b) (keyOf r₁)) (sym row-is) (subst (λ (x : ℕ). Passed (held sheet a b) x (rowOf m line)) key-is (passed (held sheet a b) (rowOf m line) clean))))
+            (subst (Passed (held sheet a b) (keyOf r₁)) (sym row-is) (subst (λ (x : ℕ). Passed (held sheet a b) x row) key-is (passed (held sheet a b) row clean))))
 
         low : k < 13
         low = key-low (held sheet a₁ b) k (pass .room)
@@ -237,7 +237,7 @@ module _ (m : Mode) (sheet line a b : List ℕ) (ready : Ready sheet a b) (fits 
         pub end-low : end < 4294967296
         end-low = omega (arith, l .tight)
 
-        module _ (a₂ b₂ : List ℕ) (pa : a₂ ≡ withRow a₁ k end) (pb : b₂ ≡ withDepth b₁ k (getD a₁ k 0) d) (long-b₂ : length b₂ ≡ length b₁) where
+        module _ (m : Mode) (lined : Lined m row) (a₂ b₂ : List ℕ) (pa : a₂ ≡ withRow a₁ k end) (pb : b₂ ≡ withDepth b₁ k (getD a₁ k 0) d) (long-b₂ : length b₂ ≡ length b₁) where
           top₁ : getD a₁ TOP 0 ≡ top
           top₁ = word-as 14 (omega arith) ∙ sym ht
 
@@ -260,13 +260,13 @@ module _ (m : Mode) (sheet line a b : List ℕ) (ready : Ready sheet a b) (fits 
           rows-same₂ : (i : ℕ) → i < 14 → (i ≡ k → ⊥) → rowsOf a₂ i ≡ rowsOf a₁ i
           rows-same₂ i h ne = rw pa (rows-other a₁ sound₁ k end in-range room₁ last₁ lo i h ne)
 
-          row-k : rowIn sheet k r₁ ≡ rowOf m line
+          row-k : rowIn sheet k r₁ ≡ row
           row-k = ap (λ (x : ℕ). rowIn sheet x r₁) key-row ∙ row-is
 
           long-b : 16384 ≤ length b₁
           long-b = omega (arith, ready .long)
 
-          state₂ : held sheet a₂ b₂ ≡ more (held sheet a b) (rowOf m line)
+          state₂ : held sheet a₂ b₂ ≡ more (held sheet a b) row
           unfolding r₁
           state₂ =
               state-more a₁ a₂ b b₁ b₂ k d low room₁ (λ i h. sound₁ .few i (omega arith)) own₂ (λ i h ne. other₂ i (omega arith) ne) long-b (j .depths) pb
@@ -304,18 +304,23 @@ module _ (m : Mode) (sheet line a b : List ℕ) (ready : Ready sheet a b) (fits 
           unfolding held linesHeld depthsHeld
           thirteen = (refl, refl)
 
-          room₂ : Dec (k ≡ 11) → taken a₂ ≤ taken a + length line + 1
+          room₂ : Dec (k ≡ 11) → taken a₂ ≤ taken a + bytes + 1
           room₂ (yes e) =
               let t : getD a₂ TOP 0 ≡ end = rw pa (top-new a₁ sound₁ k end in-range room₁ last₁ lo) in
               let c : getD a₂ 11 0 ≡ suc (getD a₁ 11 0) = subst (λ (x : ℕ). getD a₂ x 0 ≡ suc (getD a₁ x 0)) e own₂ in
-              let w : 2 * n + 6 ≤ length line + 1 = l .node (key-is ∙ sym key-row ∙ e) in
+              let w : 2 * n + 6 ≤ bytes + 1 = l .node (key-is ∙ sym key-row ∙ e) in
               omega (arith, t, c, w, word-as 11 (omega arith))
           room₂ (no e) =
               let t : getD a₂ TOP 0 ≡ end = rw pa (top-new a₁ sound₁ k end in-range room₁ last₁ lo) in
               let c : getD a₂ 11 0 ≡ getD a₁ 11 0 = other₂ 11 (omega arith) (λ q. e (sym q)) in
               omega (arith, t, c, l .tight, word-as 11 (omega arith))
 
-          pub line-added : Taken m sheet line a b a₂ b₂ 0
+          falls : Falling (more (held sheet a b) row)
+          falls =
+              subst (λ (r : List ℕ). Falling (more (held sheet a b) r)) (lined .row-is)
+              (falling-line m (held sheet a b) (lined .line) (thirteen .0) (thirteen .1) (ap (fault (held sheet a b)) (lined .row-is) ∙ clean) (ready .falling))
+
+          pub line-added : Taken sheet row a b a₂ b₂ bytes 0
           line-added =
               record {
                 number = sym clean;
@@ -325,7 +330,7 @@ module _ (m : Mode) (sheet line a b : List ℕ) (ready : Ready sheet a b) (fits 
                   made = other₂ 13 (omega arith) (λ x. absurd (omega (arith, low, x))) ∙ made₁;
                   known = known₂ (decLt k 6);
                   blank = blank₂ (decLt k 6);
-                  falling = subst Falling (sym state₂) (falling-line m (held sheet a b) line (thirteen .0) (thirteen .1) clean (ready .falling));
+                  falling = subst Falling (sym state₂) falls;
                   long = omega (arith, ready .long);
                 };
                 room = λ q. room₂ (ℕ-discrete k 11);

@@ -32,11 +32,16 @@ pub record Ready (sheet a b : List ℕ) : Type 0 where
 abbrev pub taken : List ℕ → ℕ
 taken a = 2 * getD a TOP 0 + 6 * getD a NODE 0
 
--- a line read: number f, and where it is 0 the state with the line
-pub record Taken (m : Mode) (sheet line a b a′ b′ : List ℕ) (f : ℕ) : Type 0 where
-  pub number : f ≡ fault (held sheet a b) (rowOf m line)
-  pub state : f ≡ 0 → held sheet a′ b′ ≡ more (held sheet a b) (rowOf m line)
+-- the row of some line
+pub record Lined (m : Mode) (row : List ℕ) : Type 0 where
+  pub line : List ℕ
+  pub row-is : rowOf m line ≡ row
+
+-- a line of this row and so many bytes read: number f, and where it is 0 the state with the line
+pub record Taken (sheet row a b a′ b′ : List ℕ) (bytes f : ℕ) : Type 0 where
+  pub number : f ≡ fault (held sheet a b) row
+  pub state : f ≡ 0 → held sheet a′ b′ ≡ more (held sheet a b) row
   pub ready : f ≡ 0 → Ready sheet a′ b′
-  pub room : f ≡ 0 → taken a′ ≤ taken a + length line + 1
+  pub room : f ≡ 0 → taken a′ ≤ taken a + bytes + 1
   pub rest-a : drop 16384 a′ ≡ drop 16384 a
   pub rest-b : drop 16384 b′ ≡ drop 16384 b

@@ -4,7 +4,8 @@ use checks::TYPEDEPTHS;
 use checks::USES;
 use checks::VALUEDEPTHS;
 use judge::judge_at;
-use line::row_of;
+use line::row_entry;
+use scan::Cursor;
 use table::NODE;
 use table::TOP;
 use table::TYPE;
@@ -14,12 +15,13 @@ use table::count;
 use words::put;
 use words::read;
 ghost use mathlib.Core.Path.{_≡_};
-ghost use Prim.Native.Nat.{_+_, _*_, _≤_, _<_};
+ghost use Prim.Native.Nat.{_+_, _-_, _*_, _≤_, _<_};
 ghost use lib.ListN.{length, getD};
 ghost use Rattle.words.specs.Log.{part};
+ghost use Rattle.sheet.specs.Forms.{rowOfValue};
 ghost use Rattle.table.specs.Layout.{withRow};
 ghost use Rattle.line.specs.Codes.{modeOf};
-ghost use Rattle.take.specs.Steps.{withDepth, Ready, Taken};
+ghost use Rattle.take.specs.Steps.{withDepth, Ready, Lined, Taken};
 
 fn put_depth(b: &mut [u32], k: usize, n: u32, d: u32)
     ensures { λ _. ⌜ now (b .exit) ≡ withDepth (now (b .entry)) k n d ⌝ }
@@ -50,31 +52,32 @@ fn commit(a: &mut [u32], b: &mut [u32], k: usize, d: u32, end: u32)
     add_row(a, k, end);
 }
 
-// Reads the line from byte `from` to byte `to`: its refusal, 0 for none.
+// Reads a line of this key, with its `=` at the cursor, that ends at byte `end`: its refusal, 0 for none.
 pub fn take_line(
     sheet: &[u8],
-    from: usize,
-    to: usize,
+    key: u64,
+    equals: Cursor,
+    end: usize,
     partial: bool,
     a: &mut [u32],
     b: &mut [u32],
 ) -> u32
-    requires { ⌜ Ready (now sheet) (now a) (now b) × (length (now sheet) ≤ 16384) × (2 * getD (now a) 14 0 + length (part (now sheet) from to) ≤ 24400) ⌝ }
-    ensures { λ f. ⌜ Taken (modeOf partial) (now (sheet .entry)) (part (now (sheet .entry)) from to) (now (a .entry)) (now (b .entry)) (now (a .exit)) (now (b .exit)) f ⌝ }
+    requires { ⌜ Ready (now sheet) (now a) (now b) × Lined (modeOf partial) (rowOfValue (modeOf partial) key (part (now sheet) (equals .at + 1) end)) × (equals .at < end) × (end ≤ length (now sheet)) × (length (now sheet) ≤ 16384) × (2 * getD (now a) 14 0 + (end + 4 - equals .at) ≤ 24400) ⌝ }
+    ensures { λ f. ⌜ Taken (now (sheet .entry)) (rowOfValue (modeOf partial) key (part (now (sheet .entry)) (equals .at + 1) end)) (now (a .entry)) (now (b .entry)) (now (a .exit)) (now (b .exit)) (end + 4 - equals .at) f ⌝ }
 {
     let top = read(a, TOP) as usize;
-    let n = row_of(sheet, from, to, partial, a, top);
+    let n = row_entry(sheet, key, equals, end, partial, a, top);
     if n == 0 {
         return 3;
     }
-    let end = top + n;
-    let v = judge_at(sheet, a, b, top, end);
+    let next = top + n;
+    let v = judge_at(sheet, a, b, top, next);
     let f = v.number;
     if f != 0 {
         return f;
     }
     let k = v.key;
     let d = v.depth;
-    commit(a, b, k, d, end as u32);
+    commit(a, b, k, d, next as u32);
     0
 }

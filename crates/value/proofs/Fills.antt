@@ -19,7 +19,7 @@ use Rattle.value.proofs.Sorting.{fromN, from-none, least-none, least-so
 
 -- ---- a part of a log
 
-drop-take : (s e : ℕ) (w : List ℕ) → drop s (take e w) ≡ take (e - s) (drop s w)
+pub drop-take : (s e : ℕ) (w : List ℕ) → drop s (take e w) ≡ take (e - s) (drop s w)
 drop-take zero e w = let z : e ≡ e - 0 = omega arith in ap (λ (n : ℕ). take n w) z
 drop-take (suc s) zero w = let z : 0 - suc s ≡ 0 = omega arith in rw z
 drop-take (suc s) (suc e) [] = sym (take-nil (suc e - suc s))
@@ -61,7 +61,7 @@ push-below l (x ∷ xs) n h = go (decLe (length l + 1) 16384) (push-below (pushe
         ih k ∙ ap (take n) e
 
 -- with room for all of them
-push-all : (l xs : List ℕ) → length l + length xs ≤ 16384 → pushAll l xs ≡ l ++ xs
+pub push-all : (l xs : List ℕ) → length l + length xs ≤ 16384 → pushAll l xs ≡ l ++ xs
 unfolding pushAll
 push-all l [] h = sym (append-nil l)
 push-all l (x ∷ xs) h =

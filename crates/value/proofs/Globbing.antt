@@ -7,18 +7,19 @@ use native.Mathlib.Numerals.{add-one}
 use native.Mathlib.Omega.{arith}
 use borrow.Author.Tests.{eq-eqb, ne-eqb, ltb-true, ltb-false, lt-ltb, le-ltb, le-leb, lt-leb, not-true, not-false}
 use lib.Dec.{eqb, leb, ltb}
-use lib.ListN.{length, getD, drop, length-drop}
-use lib.Seq.{drop-drop}
+use lib.ListN.{length, getD, take, drop, length-drop}
+use lib.Seq.{drop-drop, getD-take, getD-drop}
 use Rattle.cedar.specs.Evaluate.{matchPiece, anySuffix, isNil, matches}
 use Rattle.cedar.specs.Residual.{star, piece}
+use Rattle.sheet.specs.Bytes.{same}
 use Rattle.sheet.specs.Forms.{mark}
 use Rattle.sheet.specs.Content.{patternOf}
-use Rattle.value.specs.Globs.{begins, blockOf, laterOf, stepOf, after}
+use Rattle.value.specs.Globs.{begins, blockOf, untilPiece, untilItem, laterOf, stepOf, after}
 use Rattle.value.specs.declared.like.Block.{Block}
 use Rattle.value.specs.declared.like.Block.the-variants.{Misses, Ends, Star}
 use Rattle.value.specs.declared.like.Step.{Step}
 use Rattle.value.specs.declared.like.Step.the-variants.{Holds, Fails, On}
-use Rattle.value.proofs.Lists.{Going, uncons, spent}
+use Rattle.value.proofs.Lists.{uncons, spent, same-differ}
 
 -- ---- a piece at a place
 
@@ -52,29 +53,153 @@ begins-fits (x ∷ p) (y ∷ s) e =
     let h = begins-fits p s (and-eq-true-iff (eqb x y) (begins p s) .0 e .1) in
     omega (arith, h)
 
-module _ (p s : List ℕ) (at i : ℕ) (h : at ≤ length s) (k : length p ≤ length s - at)
-    (g : Going (begins p (drop at s)) (begins (drop i p) (drop (at + i) s)) i (length p)) where
-  step : i < length p → begins (drop i p) (drop (at + i) s) ≡ (eqb (getD p i 0) (getD s (at + i) 0) && begins (drop (i + 1) p) (drop (at + (i + 1)) s))
-  unfolding begins
-  step l =
-      let e : at + i + 1 ≡ at + (i + 1) = omega arith in
-      rw (uncons p 0 i l, uncons s 0 (at + i) (omega arith), e)
+pub begins-none : (p s : List ℕ) → length p ≡ 0 → true ≡ begins p s
+unfolding begins
+begins-none [] s e = refl
+begins-none (x ∷ p) s e = absurd (omega arith)
 
-  pub begins-off : i < length p → (getD p i 0 ≡ getD s (at + i) 0 → ⊥) → false ≡ begins p (drop at s)
-  begins-off l n = sym (g .left ∙ step l ∙ rw (ne-eqb (getD p i 0) (getD s (at + i) 0) n))
+begins-same : (p s : List ℕ) → length p ≤ length s → begins p s ≡ same p (take (length p) s)
+unfolding begins
+begins-same [] s h = refl
+begins-same (x ∷ p) [] h = absurd (omega arith)
+begins-same (x ∷ p) (y ∷ s) h = ap (λ (b : Bool). eqb x y && b) (begins-same p s (omega arith))
 
-  pub begins-on : i < length p → getD p i 0 ≡ getD s (at + i) 0
-      → Going (begins p (drop at s)) (begins (drop (i + 1) p) (drop (at + (i + 1)) s)) (i + 1) (length p)
-  begins-on l n = record { near = omega arith; left = g .left ∙ step l ∙ rw (eq-eqb (getD p i 0) (getD s (at + i) 0) n) }
+module _ (p s : List ℕ) (at : ℕ) (h : at ≤ length s) (k : length p ≤ length s - at) where
+  as-same : begins p (drop at s) ≡ same p (take (length p) (drop at s))
+  as-same = begins-same p (drop at s) (rw (length-drop at s) k)
 
-  pub begins-all : length p ≤ i → true ≡ begins p (drop at s)
-  unfolding begins
-  begins-all l = sym (g .left ∙ rw (spent p i l))
+  apart : (j : ℕ) → j < length p → (getD p j 0 ≡ getD s (at + j) 0 → ⊥) → false ≡ begins p (drop at s)
+  apart j l n =
+      same-differ p (take (length p) (drop at s)) j (λ z. n (z ∙ rw (getD-take (length p) (drop at s) j 0 l, getD-drop at s j 0)))
+      ∙ sym as-same
 
-pub begins-start : (p s : List ℕ) (at : ℕ) → Going (begins p (drop at s)) (begins (drop 0 p) (drop (at + 0) s)) 0 (length p)
-begins-start p s at =
-    let e : at ≡ at + 0 = omega arith in
-    record { near = omega arith; left = ap (λ (j : ℕ). begins p (drop j s)) e }
+  module _ (o : length p ≡ 0 → ⊥) where
+    pub begins-first : (getD p 0 0 ≡ getD s at 0 → ⊥) → false ≡ begins p (drop at s)
+    begins-first n =
+        let z : at + 0 ≡ at = omega arith in
+        apart 0 (omega arith) (λ e. n (e ∙ ap (λ (j : ℕ). getD s j 0) z))
+
+    pub begins-last : (getD p (length p - 1) 0 ≡ getD s (at + length p - 1) 0 → ⊥) → false ≡ begins p (drop at s)
+    begins-last n =
+        let l : length p - 1 < length p = omega arith in
+        let z : at + (length p - 1) ≡ at + length p - 1 = omega arith in
+        apart (length p - 1) l (λ e. n (e ∙ ap (λ (j : ℕ). getD s j 0) z))
+
+  pub begins-told : (b : Bool) → b ≡ not (same p (take (at + length p - at) (drop at s))) → not b ≡ begins p (drop at s)
+  begins-told b e =
+      let z : at + length p - at ≡ length p = omega arith in
+      let f : not (same p (take (at + length p - at) (drop at s))) ≡ not (same p (take (length p) (drop at s))) = rw z in
+      ap not (e ∙ f) ∙ twice (same p (take (length p) (drop at s))) ∙ sym as-same
+    where
+      twice : (c : Bool) → not (not c) ≡ c
+      twice true = refl
+      twice false = refl
+
+-- ---- two texts of one length
+
+-- the first i bytes were looked at, and d is 0 while none differ
+pub record Telling (x y : List ℕ) (d i : ℕ) : Type 0 where
+  pub near : i ≤ length x
+  pub left : same x y ≡ (eqb d 0 && same (drop i x) (drop i y))
+
+pub tell-start : (x y : List ℕ) → Telling x y 0 0
+tell-start x y = record { near = omega arith; left = refl }
+
+and-true : (b : Bool) → (b && true) ≡ b
+and-true true = refl
+and-true false = refl
+
+tell : (d : ℕ) (b c : Bool) → (eqb d 0 && (b && c)) ≡ (eqb (cond b d 1) 0 && c)
+tell d true c = refl
+tell d false c = none (eqb d 0)
+  where
+    none : (b : Bool) → (b && false) ≡ false
+    none true = refl
+    none false = refl
+
+module _ (x y : List ℕ) (e : length x ≡ length y) (d i : ℕ) (g : Telling x y d i) where
+  pub tell-on : (f : ℕ) → i < length x → f ≡ cond (eqb (getD x i 0) (getD y i 0)) d 1 → Telling x y f (i + 1)
+  tell-on f h q =
+      let o : same (drop i x) (drop i y) ≡ (eqb (getD x i 0) (getD y i 0) && same (drop (i + 1) x) (drop (i + 1) y)) = rw (uncons x 0 i h, uncons y 0 i (omega arith)) in
+      record {
+        near = omega arith;
+        left = g .left ∙ ap (λ (b : Bool). eqb d 0 && b) o ∙ tell d (eqb (getD x i 0) (getD y i 0)) (same (drop (i + 1) x) (drop (i + 1) y))
+            ∙ ap (λ (n : ℕ). eqb n 0 && same (drop (i + 1) x) (drop (i + 1) y)) (sym q);
+      }
+
+  pub tell-end : length x ≤ i → not (eqb d 0) ≡ not (same x y)
+  tell-end h =
+      let f : (eqb d 0 && same (drop i x) (drop i y)) ≡ eqb d 0 = rw (spent x i h, spent y i (omega arith)) (and-true (eqb d 0)) in
+      ap not (sym (g .left ∙ f))
+
+-- ---- the first place of a piece
+
+until-most : (p s : List ℕ) → untilPiece p s ≤ length s
+unfolding untilPiece
+until-most p [] = omega arith
+until-most p (y ∷ s) = go (begins p (y ∷ s)) (until-most p s)
+  where
+    go : (b : Bool) → untilPiece p s ≤ length s → cond b 0 (suc (untilPiece p s)) ≤ suc (length s)
+    go true h = omega arith
+    go false h = omega arith
+
+until-short : (p s : List ℕ) → length s < length p → untilPiece p s ≡ length s
+unfolding untilPiece
+until-short p [] h = refl
+until-short p (y ∷ s) h = rw (← (too-long p (y ∷ s) h)) (ap suc (until-short p s (omega arith)))
+
+until-here : (p s : List ℕ) → begins p s ≡ true → untilPiece p s ≡ 0
+unfolding untilPiece
+until-here p [] e = refl
+until-here p (y ∷ s) e = rw e
+
+begins-some : (p s : List ℕ) → length p ≤ length s → begins p s ≡ false → 1 ≤ length s
+unfolding begins
+begins-some [] s h e = let z : _≡_ {A = ℕ} 0 1 = cc in absurd (omega arith)
+begins-some (x ∷ p) s h e = omega arith
+
+-- the search has come to place u
+pub record Hunting (p s : List ℕ) (from u : ℕ) : Type 0 where
+  pub near : u ≤ length s
+  pub left : from + untilPiece p (drop from s) ≡ u + untilPiece p (drop u s)
+
+pub hunt-start : (p s : List ℕ) (u : ℕ) → u ≤ length s → Hunting p s u u
+hunt-start p s u h = record { near = h; left = refl }
+
+module _ (p s : List ℕ) (from u : ℕ) (g : Hunting p s from u) where
+  pub hunt-short : length s - u < length p → length s ≡ from + untilPiece p (drop from s)
+  hunt-short h =
+      let l : length (drop u s) ≡ length s - u = length-drop u s in
+      let z : untilPiece p (drop u s) ≡ length (drop u s) = until-short p (drop u s) (omega arith) in
+      omega (arith, g .left, g .near)
+
+  module _ (b : Bool) (eb : b ≡ begins p (drop u s)) where
+    pub hunt-hit : b ≡ true → u ≡ from + untilPiece p (drop from s)
+    hunt-hit e = omega (arith, g .left, until-here p (drop u s) (sym eb ∙ e))
+
+    pub hunt-on : length p ≤ length s - u → b ≡ false → Hunting p s from (u + 1)
+    unfolding untilPiece
+    hunt-on h e =
+        let l : 1 ≤ length (drop u s) = begins-some p (drop u s) (rw (length-drop u s) h) (sym eb ∙ e) in
+        let k : u < length s = omega (arith, length-drop u s) in
+        let d = uncons s 0 u k in
+        let f : begins p (getD s u 0 ∷ drop (u + 1) s) ≡ false = ap (begins p) (sym d) ∙ sym eb ∙ e in
+        let z : untilPiece p (drop u s) ≡ suc (untilPiece p (drop (u + 1) s)) = ap (untilPiece p) d ∙ rw f in
+        record { near = omega arith; left = omega (arith, g .left) }
+
+module _ (B : ℕ → List ℕ) (P S : List ℕ) (q t : ℕ) where
+  pub skip-end : length P ≤ q → t ≡ t + untilItem B (drop q P) (drop t S)
+  unfolding untilItem
+  skip-end h = let z : t ≡ t + 0 = omega arith in rw (spent P q h) z
+
+  module _ (h : q < length P) (x : ℕ) (ex : x ≡ getD P q 0) where
+    pub skip-star : x ≡ 10000 → t ≡ t + untilItem B (drop q P) (drop t S)
+    unfolding untilItem
+    skip-star m = let z : t ≡ t + 0 = omega arith in rw (uncons P 0 q h, ← ex, eq-eqb x 10000 m) z
+
+    pub skip-piece : (x ≡ 10000 → ⊥) → (w : List ℕ) → w ≡ B x → (u : ℕ) → u ≡ t + untilPiece w (drop t S) → u ≡ t + untilItem B (drop q P) (drop t S)
+    unfolding untilItem
+    skip-piece n w ew u eu = rw (uncons P 0 q h, ← ex, ne-eqb x 10000 n, ← ew) eu
 
 -- ---- a block: where the loop stands
 
@@ -389,28 +514,67 @@ pub record Globbing (B : ℕ → List ℕ) (P S : List ℕ) (q₀ t₀ q t : ℕ
 pub glob-start : (B : ℕ → List ℕ) (P S : List ℕ) (q t : ℕ) → q ≤ length P → t ≤ length S → Globbing B P S q t q t
 glob-start B P S q t h k = record { nearP = h; nearS = k; left = refl }
 
-module _ (B : ℕ → List ℕ) (P S : List ℕ) (q₀ t₀ q t : ℕ) (g : Globbing B P S q₀ t₀ q t) (r : Step)
-    (er : r ≡ stepOf (length S) q t (blockOf B q t (drop q P) (drop t S))) where
-  by-step : (o : Step) → r ≡ o → after B P S q₀ t₀ ≡ reached B P S o
+-- places before the first item's are passed over
+any-skip : (f : List ℕ → Bool) (p : List ℕ) → ((l : List ℕ) → begins p l ≡ false → f l ≡ false) → (s : List ℕ) → anySuffix f s ≡ anySuffix f (drop (untilPiece p s) s)
+unfolding untilPiece
+any-skip f p h [] = refl
+any-skip f p h (y ∷ s) = go (begins p (y ∷ s)) refl (any-skip f p h s)
+  where
+    go : (b : Bool) → begins p (y ∷ s) ≡ b → anySuffix f s ≡ anySuffix f (drop (untilPiece p s) s)
+        → anySuffix f (y ∷ s) ≡ anySuffix f (drop (cond b 0 (suc (untilPiece p s))) (y ∷ s))
+    go true e ih = refl
+    go false e ih = rw (h (y ∷ s) e) ih
+
+module _ (B : ℕ → List ℕ) where
+  item-skip : (p s : List ℕ) → anySuffix (M B p) s ≡ anySuffix (M B p) (drop (untilItem B p s) s)
+  unfolding untilItem
+  item-skip [] s = refl
+  item-skip (x ∷ p) s = go (eqb x mark) refl
+    where
+      go : (b : Bool) → eqb x mark ≡ b → anySuffix (M B (x ∷ p)) s ≡ anySuffix (M B (x ∷ p)) (drop (cond b 0 (untilPiece (B x) s)) s)
+      go true e = refl
+      go false e = any-skip (M B (x ∷ p)) (B x) (λ l z. at-piece B x p l e ∙ rw z) s
+
+  item-most : (p s : List ℕ) → untilItem B p s ≤ length s
+  unfolding untilItem
+  item-most [] s = omega arith
+  item-most (x ∷ p) s = go (eqb x mark) (until-most (B x) s)
+    where
+      go : (b : Bool) → untilPiece (B x) s ≤ length s → cond b 0 (untilPiece (B x) s) ≤ length s
+      go true h = omega arith
+      go false h = h
+
+module _ (B : ℕ → List ℕ) (P S : List ℕ) (q₀ t₀ q t : ℕ) (g : Globbing B P S q₀ t₀ q t) (u : ℕ) (eu : u ≡ t + untilItem B (drop q P) (drop t S)) where
+  pub skip-within : u ≤ length S
+  skip-within = omega (arith, item-most B (drop q P) (drop t S), length-drop t S, g .nearS)
+
+  skipped : Globbing B P S q₀ t₀ q u
   unfolding after
-  by-step o e = g .left ∙ step-is B P S q t (g .nearS) ∙ ap (reached B P S) (sym er ∙ e)
+  skipped =
+      let z : drop (untilItem B (drop q P) (drop t S)) (drop t S) ≡ drop u S = drop-drop (untilItem B (drop q P) (drop t S)) t S ∙ ap (λ (n : ℕ). drop n S) (sym eu) in
+      record { nearP = g .nearP; nearS = skip-within; left = g .left ∙ item-skip B (drop q P) (drop t S) ∙ ap (anySuffix (M B (drop q P))) z }
 
-  pub glob-holds : r ≡ Holds → true ≡ after B P S q₀ t₀
-  glob-holds e = sym (by-step Holds e)
-
-  pub glob-fails : r ≡ Fails → false ≡ after B P S q₀ t₀
-  glob-fails e = sym (by-step Fails e)
-
-  module _ (k e : ℕ) (z : r ≡ On k e) where
-    nearer : Nearer B P S q t k e
-    nearer = step-nearer B P S q t k e (g .nearP) (g .nearS) (sym er ∙ z)
-
-    pub glob-on : Globbing B P S q₀ t₀ k e
+  module _ (r : Step) (er : r ≡ stepOf (length S) q u (blockOf B q u (drop q P) (drop u S))) where
+    by-step : (o : Step) → r ≡ o → after B P S q₀ t₀ ≡ reached B P S o
     unfolding after
-    glob-on = record { nearP = nearer .most; nearS = nearer .within; left = by-step (On k e) z }
+    by-step o e = skipped .left ∙ step-is B P S q u skip-within ∙ ap (reached B P S) (sym er ∙ e)
 
-    pub glob-less : length P - k + (length S - e) < length P - q + (length S - t)
-    glob-less = nearer .less
+    pub glob-holds : r ≡ Holds → true ≡ after B P S q₀ t₀
+    glob-holds e = sym (by-step Holds e)
+
+    pub glob-fails : r ≡ Fails → false ≡ after B P S q₀ t₀
+    glob-fails e = sym (by-step Fails e)
+
+    module _ (k e : ℕ) (z : r ≡ On k e) where
+      nearer : Nearer B P S q u k e
+      nearer = step-nearer B P S q u k e (g .nearP) skip-within (sym er ∙ z)
+
+      pub glob-on : Globbing B P S q₀ t₀ k e
+      unfolding after
+      glob-on = record { nearP = nearer .most; nearS = nearer .within; left = by-step (On k e) z }
+
+      pub glob-less : length P - k + (length S - e) < length P - q + (length S - t)
+      glob-less = omega (arith, nearer .less)
 
 -- a step by its block
 module _ (n q t : ℕ) (B : ℕ → List ℕ) (p s : List ℕ) (r : Block) (er : r ≡ blockOf B q t p s) where

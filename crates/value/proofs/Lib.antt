@@ -4,5 +4,6 @@ pub mod Globbing
 pub mod Makes
 pub mod Sorting
 pub mod Fills
+pub mod Inserts
 pub mod Interned
 pub mod Cases

@@ -1,19 +1,22 @@
 -- Finding and making a value, as the code does it. Assumes nothing.
-use mathlib.Core.Path.{_≡_, sym, ap, _∙_}
+use mathlib.Core.Path.{_≡_, refl, sym, ap, _∙_}
 use mathlib.Core.Bool.{Bool, true, false, not, cond, _&&_, and-eq-true-iff}
-use mathlib.Core.List.{List, [], _∷_}
-use Prim.Native.Nat.{ℕ, suc, _+_, _≤_, _<_}
+use mathlib.Core.List.{List, [], _∷_, _++_}
+use Prim.Native.Nat.{ℕ, suc, _+_, _-_, _≤_, _<_}
 use native.Mathlib.Omega.{arith}
 use borrow.Author.Tests.{lt-ltb, le-ltb, ltb-true, le-leb, lt-leb, leb-true, not-true, not-false}
 use lib.Dec.{ltb, leb}
 use lib.ListN.{length, getD, drop, take}
 use lib.Seq.{sets}
-use Rattle.words.proofs.Stores.{take-sets, getD-below}
+use Rattle.words.specs.Log.{part}
+use Rattle.words.proofs.Stores.{take-sets, getD-below, length-part, part-at}
 use Rattle.sheet.specs.Bytes.{same}
-use Rattle.table.specs.Layout.{MADE, TOP, heap, withRow}
+use Rattle.sheet.specs.Forms.{VALUE}
+use Rattle.table.specs.Layout.{MADE, TOP, heap, base, rowsOf, withRow}
+use Rattle.table.proofs.Rows.{count-rows, row-at-is, row-some}
 use Rattle.value.specs.Lines.{valueLines, placeOf}
 use Rattle.value.specs.Made.{boolRow, roomFor, narrow, numberOf, withMade, withValue, Made}
-use Rattle.value.proofs.Lists.{uncons, spent}
+use Rattle.value.proofs.Lists.{uncons, spent, same-apart, same-differ}
 
 -- ---- finding
 
@@ -54,6 +57,92 @@ module _ (r : List ℕ) (rows : List (List ℕ)) (n i : ℕ) (g : Finding r rows
     find-on e =
         let z : placeOf r (drop i rows) ≡ suc (placeOf r (drop (i + 1) rows)) = at-row ∙ rw e in
         record { all = g .all; near = omega arith; left = omega (arith, g .left) }
+
+-- ---- finding among the rows of a key
+
+pub rows-start : (r a : List ℕ) (k n : ℕ) → n ≡ getD a k 0 → Finding r (rowsOf a k) n 0
+rows-start r a k n e = find-start r (rowsOf a k) n (e ∙ sym (count-rows a k))
+
+-- the row from s to e, by its length and its last word
+module _ (a r : List ℕ) (s e : ℕ) (h : e ≤ length a) (p : 1 ≤ length r) where
+  pub row-apart : (s + length r ≡ e → ⊥) → false ≡ same (part a s e) r
+  row-apart n = same-apart (part a s e) r (λ q. n (omega (arith, length-part a s e h)))
+
+  pub row-last : s + length r ≡ e → (getD a (e - 1) 0 ≡ getD r (length r - 1) 0 → ⊥) → false ≡ same (part a s e) r
+  row-last q n =
+      let i : s + (length r - 1) ≡ e - 1 = omega arith in
+      same-differ (part a s e) r (length r - 1) (λ z. n (sym (part-at a s e (length r - 1) (omega arith) ∙ ap (λ (j : ℕ). getD a j 0) i) ∙ z))
+
+-- the walk has come to row i, which begins at s
+pub record Walking (r a : List ℕ) (k n i s : ℕ) : Type 0 where
+  pub finding : Finding r (rowsOf a k) n i
+  pub start : s ≡ getD a (base k + i) 0
+  pub small : s < 4294967296
+
+module _ (r a : List ℕ) (k b n : ℕ) (eb : b ≡ base k) (en : n ≡ getD a k 0) (h : b + n < length a) where
+  pub walk-start : getD a b 0 < 4294967296 → Walking r a k n 0 (getD a b 0)
+  walk-start u =
+      let z : b ≡ base k + 0 = omega arith in
+      record { finding = rows-start r a k n en; start = ap (λ (j : ℕ). getD a j 0) z; small = u }
+
+  module _ (i s : ℕ) (g : Walking r a k n i s) where
+    pub walk-end : length (part a (b + 1) (b + 1 + n)) ≤ i → n ≡ placeOf r (rowsOf a k)
+    walk-end l = find-end r (rowsOf a k) n i (g .finding) (omega (arith, length-part a (b + 1) (b + 1 + n) (omega arith)))
+
+    module _ (l : i < length (part a (b + 1) (b + 1 + n))) (e : ℕ) (ee : e ≡ getD (part a (b + 1) (b + 1 + n)) i 0) (c : Bool) (ec : c ≡ same (part a s e) r) where
+      inside : i < n
+      inside = omega (arith, length-part a (b + 1) (b + 1 + n) (omega arith))
+
+      next : e ≡ getD a (base k + i + 1) 0
+      next =
+          let z : b + 1 + i ≡ base k + i + 1 = omega arith in
+          ee ∙ part-at a (b + 1) (b + 1 + n) i (omega (arith, inside)) ∙ ap (λ (j : ℕ). getD a j 0) z
+
+      row-here : part a s e ≡ getD (rowsOf a k) i []
+      row-here = row-some a k i n (base k) (part a s e) en inside refl (row-at-is a (base k + i) s e (part a s e) (g .start) next refl)
+
+      pub walk-hit : c ≡ true → i ≡ placeOf r (rowsOf a k)
+      walk-hit q = find-hit r (rowsOf a k) n i (g .finding) inside (part a s e) row-here c ec q
+
+      pub walk-on : e < 4294967296 → c ≡ false → Walking r a k n (i + 1) e
+      walk-on u q =
+          let z : base k + i + 1 ≡ base k + (i + 1) = omega arith in
+          record { finding = find-on r (rowsOf a k) n i (g .finding) inside (part a s e) row-here c ec q; start = next ∙ ap (λ (j : ℕ). getD a j 0) z; small = u }
+
+-- ---- finding among two lists of rows
+
+place-first : (r : List ℕ) (x y : List (List ℕ)) → placeOf r x < length x → placeOf r x ≡ placeOf r (x ++ y)
+unfolding placeOf
+place-first r [] y h = absurd (omega arith)
+place-first r (q ∷ x) y h = go (same q r) h (place-first r x y)
+  where
+    go : (b : Bool) → cond b 0 (suc (placeOf r x)) < suc (length x) → (placeOf r x < length x → placeOf r x ≡ placeOf r (x ++ y)) → cond b 0 (suc (placeOf r x)) ≡ cond b 0 (suc (placeOf r (x ++ y)))
+    go true l ih = refl
+    go false l ih = ap suc (ih (omega arith))
+
+place-second : (r : List ℕ) (x y : List (List ℕ)) → length x ≤ placeOf r x → length x + placeOf r y ≡ placeOf r (x ++ y)
+unfolding placeOf
+place-second r [] y h = omega arith
+place-second r (q ∷ x) y h = go (same q r) h (place-second r x y)
+  where
+    go : (b : Bool) → suc (length x) ≤ cond b 0 (suc (placeOf r x)) → (length x ≤ placeOf r x → length x + placeOf r y ≡ placeOf r (x ++ y))
+        → suc (length x) + placeOf r y ≡ cond b 0 (suc (placeOf r (x ++ y)))
+    go true l ih = absurd (omega arith)
+    go false l ih = let z : length x + placeOf r y ≡ placeOf r (x ++ y) = ih (omega arith) in omega arith
+
+pub found-most : (r a : List ℕ) (k v : ℕ) → v ≡ placeOf r (rowsOf a k) → v ≤ getD a k 0
+found-most r a k v e = omega (arith, place-most r (rowsOf a k), count-rows a k)
+
+module _ (a r : List ℕ) (n v : ℕ) (en : n ≡ getD a VALUE 0) (ev : v ≡ placeOf r (rowsOf a VALUE)) where
+  pub find-given : v < n → v ≡ placeOf r (valueLines a)
+  unfolding valueLines
+  find-given h = ev ∙ place-first r (rowsOf a VALUE) (rowsOf a MADE) (omega (arith, count-rows a VALUE))
+
+  pub find-made : (w : ℕ) → n ≤ v → w ≡ placeOf r (rowsOf a MADE) → n + w ≡ placeOf r (valueLines a)
+  unfolding valueLines
+  find-made w h ew =
+      let z : n + w ≡ length (rowsOf a VALUE) + placeOf r (rowsOf a MADE) = omega (arith, count-rows a VALUE) in
+      z ∙ place-second r (rowsOf a VALUE) (rowsOf a MADE) (omega (arith, count-rows a VALUE))
 
 -- ---- room
 

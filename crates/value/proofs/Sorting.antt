@@ -195,7 +195,7 @@ uncons4 s i h =
     uncons2 s i (omega arith) ∙ ap (λ (x : List ℕ). getD s i 0 ∷ getD s (i + 1) 0 ∷ x)
     (uncons2 s (i + 2) (omega arith) ∙ ap (λ (j : ℕ). getD s (i + 2) 0 ∷ getD s (i + 2 + 1) 0 ∷ drop j s) e)
 
-short : (l : List ℕ) → length l < 4 → valuesIn l ≡ []
+pub short : (l : List ℕ) → length l < 4 → valuesIn l ≡ []
 unfolding valuesIn
 short [] h = refl
 short (a ∷ []) h = refl

@@ -25,6 +25,16 @@ blockOf bytes q t (x ∷ p) s =
     cond (eqb x mark) (Star (suc q) t)
     (cond (begins (bytes x) s) (blockOf bytes (suc q) (t + length (bytes x)) p (drop (length (bytes x)) s)) Misses)
 
+-- how many places of the text come before the first one where it has the piece; all of them where it never has
+unfoldable pub untilPiece : List ℕ → List ℕ → ℕ
+untilPiece p [] = 0
+untilPiece p (y ∷ s) = cond (begins p (y ∷ s)) 0 (suc (untilPiece p s))
+
+-- and before the first item of p, if that is a text
+unfoldable pub untilItem : (ℕ → List ℕ) → List ℕ → List ℕ → ℕ
+untilItem bytes [] s = 0
+untilItem bytes (x ∷ p) s = cond (eqb x mark) 0 (untilPiece (bytes x) s)
+
 -- the same items one place further on in a text of n bytes
 unfoldable pub laterOf : ℕ → ℕ → ℕ → Step
 laterOf n q t = cond (ltb t n) (On q (t + 1)) Fails

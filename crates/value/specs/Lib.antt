@@ -1,4 +1,5 @@
 pub mod Lines
+pub mod Places
 pub mod Shapes
 pub mod Made
 pub mod Globs

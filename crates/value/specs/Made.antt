@@ -1,14 +1,14 @@
 -- A value found among those that there are, or made.
 use mathlib.Core.Path.{_≡_}
 use mathlib.Core.Bool.{Bool, cond, not, _&&_, _||_}
-use mathlib.Core.List.{List, [], _∷_}
-use Prim.Native.Nat.{ℕ, _+_, _/_, _%_}
+use mathlib.Core.List.{List, [], _∷_, _++_}
+use Prim.Native.Nat.{ℕ, _+_, _/_, _%_, _≤_}
 use lib.Dec.{ltb, leb}
 use lib.ListN.{length, getD, take, drop}
 use lib.Seq.{sets}
-use Rattle.words.specs.Log.{pushed}
+use Rattle.words.specs.Log.{part, pushed}
 use Rattle.cedar.specs.Canonical.{bit}
-use Rattle.cedar.specs.Making.{sortN}
+use Rattle.cedar.specs.Making.{insertN, sortN}
 use Rattle.table.specs.Layout.{MADE, TOP, heap, withRow}
 use Rattle.value.specs.Lines.{valueLines, placeOf}
 use Rattle.value.specs.declared.Entry.{Entry}
@@ -74,6 +74,18 @@ leastOf lo e (x ∷ l) = leastOf lo (lowerOf lo e x) l
 
 unfoldable pub setRow : List ℕ → List ℕ
 setRow rows = 14 ∷ sortN (valuesIn rows)
+
+-- the words from j to p stand one place further on, and x before them
+pub record Shifted (b : List ℕ) (j p x : ℕ) (is : List ℕ) : Type 0 where
+  pub words : take (p + 1) is ≡ take j b ++ (x ∷ part b j p)
+  pub len : length is ≡ length b
+
+-- x stands in its place among the words from at to p, which end at e then
+pub record Inserted (b : List ℕ) (at p x : ℕ) (is : List ℕ) (e : ℕ) : Type 0 where
+  pub words : take e is ≡ take at b ++ insertN x (part b at p)
+  pub low : at ≤ e
+  pub high : e ≤ p + 1
+  pub len : length is ≡ length b
 
 -- the texts of a node's row, from its third word on, with the values
 unfoldable pub pairsOf : List ℕ → List ℕ → List ℕ

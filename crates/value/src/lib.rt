@@ -11,12 +11,16 @@ use table::row;
 use table::tag;
 ghost use mathlib.Core.Path.{_≡_};
 ghost use mathlib.Core.List.{[]};
+ghost use mathlib.Core.Bool.{true, cond};
 ghost use Prim.Native.Nat.{_+_, _*_};
-ghost use lib.ListN.{getD, length};
+ghost use lib.Dec.{ltb};
+ghost use lib.ListN.{getD, length, drop};
 ghost use Rattle.cedar.specs.Numbered.{memN, allN, anyN, entryOf};
 ghost use Rattle.sheet.specs.Forms.{items};
 ghost use Rattle.sheet.specs.State.{entriesOf};
+ghost use Rattle.sheet.specs.Sheet.{ascend};
 ghost use Rattle.value.specs.Lines.{valueLines};
+ghost use Rattle.value.specs.Places.{lowerThan};
 ghost use Rattle.value.specs.Shapes.{shapeOf, entryFound};
 
 // What a value's row says: a bool, a long as its number plus 2^63, a text, an entity's kind and text, a set, a record.
@@ -111,19 +115,88 @@ pub fn contains(l: &[u32], v: u32) -> bool
     }
 }
 
+// Whether the members ascend without repeats.
+fn ascends(l: &[u32]) -> bool
+    ensures { λ r. ⌜ r ≡ ascend 0 (now (l .entry)) ⌝ }
+{
+    let mut lo: usize = 0;
+    let mut i = 0;
+    loop {
+        if i >= l.len() {
+            break true;
+        }
+        let x = l[i] as usize;
+        if x < lo {
+            break false;
+        }
+        lo = x + 1;
+        i += 1;
+    }
+}
+
+// The first place from `from` on whose member is not below `v`.
+fn reach(l: &[u32], v: u32, from: usize) -> usize
+    ensures { λ r. ⌜ r ≡ from + lowerThan v (drop from (now (l .entry))) ⌝ }
+{
+    let mut j = from;
+    loop {
+        if j >= l.len() {
+            break j;
+        }
+        if l[j] >= v {
+            break j;
+        }
+        j += 1;
+    }
+}
+
+// Where to look for `v`, after `u` was looked for and reached place `j`.
+fn resume(u: u32, v: u32, j: usize) -> usize
+    ensures { λ r. ⌜ r ≡ cond (ltb v u) 0 j ⌝ }
+{
+    if v < u {
+        return 0;
+    }
+    j
+}
+
+// Whether `v` is a member from place `j` on; `up` may be true if the members ascend.
+fn stands(l: &[u32], up: bool, v: u32, j: usize) -> bool
+    requires { ⌜ (up ≡ true → ascend 0 (now l) ≡ true) ⌝ }
+    ensures { λ r. ⌜ r ≡ memN v (drop j (now (l .entry))) ⌝ }
+{
+    if j >= l.len() {
+        return false;
+    }
+    let x = l[j];
+    if v == x {
+        return true;
+    }
+    if up {
+        if v < x {
+            return false;
+        }
+    }
+    contains(&l[j..], v)
+}
+
 // Whether every member of `k` is one of `l`.
 pub fn covers(k: &[u32], l: &[u32]) -> bool
     ensures { λ r. ⌜ r ≡ allN (now (k .entry)) (now (l .entry)) ⌝ }
 {
+    let mut u: u32 = 0;
+    let mut j = 0;
     let mut i = 0;
     loop {
         if i >= k.len() {
             break true;
         }
         let v = k[i];
-        if !contains(l, v) {
+        j = reach(l, v, resume(u, v, j));
+        if !stands(l, false, v, j) {
             break false;
         }
+        u = v;
         i += 1;
     }
 }
@@ -132,15 +205,20 @@ pub fn covers(k: &[u32], l: &[u32]) -> bool
 pub fn meets(k: &[u32], l: &[u32]) -> bool
     ensures { λ r. ⌜ r ≡ anyN (now (k .entry)) (now (l .entry)) ⌝ }
 {
+    let up = ascends(l);
+    let mut u: u32 = 0;
+    let mut j = 0;
     let mut i = 0;
     loop {
         if i >= k.len() {
             break false;
         }
         let v = k[i];
-        if contains(l, v) {
+        j = reach(l, v, resume(u, v, j));
+        if stands(l, up, v, j) {
             break true;
         }
+        u = v;
         i += 1;
     }
 }

@@ -2,12 +2,15 @@
 // the other; once they fit, no later place is tried for them.
 use table::text;
 ghost use mathlib.Core.Path.{_≡_};
+ghost use mathlib.Core.Bool.{cond, not};
 ghost use Prim.Native.Nat.{_+_, _≤_};
+ghost use lib.Dec.{eqb};
 ghost use lib.ListN.{length, drop};
 ghost use Rattle.cedar.specs.Evaluate.{matches};
+ghost use Rattle.sheet.specs.Bytes.{same};
 ghost use Rattle.sheet.specs.Content.{patternOf};
 ghost use Rattle.table.specs.Layout.{textAt};
-ghost use Rattle.value.specs.Globs.{begins, blockOf, laterOf, stepOf, after};
+ghost use Rattle.value.specs.Globs.{begins, blockOf, untilPiece, untilItem, laterOf, stepOf, after};
 
 // The item `*`.
 const STAR: u32 = 10000;
@@ -20,26 +23,52 @@ pub enum Block {
     Star(usize, usize),
 }
 
-// Whether the text has the piece at a place.
+// What is known of two texts, one byte further on: 1 once two bytes differ.
+fn told(d: u8, x: u8, y: u8) -> u8
+    ensures { λ r. ⌜ r ≡ cond (eqb x y) d 1 ⌝ }
+{
+    if x == y {
+        return d;
+    }
+    1
+}
+
+// Whether two texts of one length differ. Every byte is looked at, so that many are compared at once.
+fn differ(x: &[u8], y: &[u8]) -> bool
+    requires { ⌜ length (now x) ≡ length (now y) ⌝ }
+    ensures { λ r. ⌜ r ≡ not (same (now (x .entry)) (now (y .entry))) ⌝ }
+{
+    let mut d: u8 = 0;
+    let mut i = 0;
+    while i < x.len() {
+        d = told(d, x[i], y[i]);
+        i += 1;
+    }
+    d != 0
+}
+
+// Whether the text has the piece at a place: the first and the last byte are compared first.
 fn begins(s: &[u8], at: usize, piece: &[u8]) -> bool
     ensures { λ r. ⌜ r ≡ begins (now (piece .entry)) (drop at (now (s .entry))) ⌝ }
 {
+    let n = piece.len();
     if at > s.len() {
-        return piece.len() == 0;
+        return n == 0;
     }
-    if piece.len() > s.len() - at {
+    if n > s.len() - at {
         return false;
     }
-    let mut i = 0;
-    loop {
-        if i >= piece.len() {
-            break true;
-        }
-        if piece[i] != s[at + i] {
-            break false;
-        }
-        i += 1;
+    if n == 0 {
+        return true;
     }
+    if piece[0] != s[at] {
+        return false;
+    }
+    let e = at + n;
+    if piece[n - 1] != s[e - 1] {
+        return false;
+    }
+    !differ(piece, &s[at..e])
 }
 
 // The items from `q` on at place `t`.
@@ -101,6 +130,39 @@ fn step_at(sheet: &[u8], a: &[u32], pattern: &[u32], s: &[u8], q: usize, t: usiz
     }
 }
 
+// The first place from `from` on where the text has the piece, or the text's end.
+fn seek(s: &[u8], piece: &[u8], from: usize) -> usize
+    requires { ⌜ from ≤ length (now s) ⌝ }
+    ensures { λ r. ⌜ r ≡ from + untilPiece (now (piece .entry)) (drop from (now (s .entry))) ⌝ }
+{
+    let n = piece.len();
+    let mut u = from;
+    loop {
+        if s.len() - u < n {
+            break s.len();
+        }
+        if begins(s, u, piece) {
+            break u;
+        }
+        u += 1;
+    }
+}
+
+// The first place from `t` on where item `q` stands, if it is a text.
+fn skip(sheet: &[u8], a: &[u32], pattern: &[u32], s: &[u8], q: usize, t: usize) -> usize
+    requires { ⌜ t ≤ length (now s) ⌝ }
+    ensures { λ r. ⌜ r ≡ t + untilItem (textAt (now (sheet .entry)) (now (a .entry))) (drop q (now (pattern .entry))) (drop t (now (s .entry))) ⌝ }
+{
+    if q >= pattern.len() {
+        return t;
+    }
+    let x = pattern[q];
+    if x == STAR {
+        return t;
+    }
+    seek(s, text(sheet, a, x), t)
+}
+
 // Whether the items from `q` on, after a `*`, match at place `t` or a later one.
 fn go_on(sheet: &[u8], a: &[u32], pattern: &[u32], s: &[u8], from: usize, place: usize) -> bool
     requires { ⌜ (from ≤ length (now pattern)) × (place ≤ length (now s)) ⌝ }
@@ -109,7 +171,8 @@ fn go_on(sheet: &[u8], a: &[u32], pattern: &[u32], s: &[u8], from: usize, place:
     let mut q = from;
     let mut t = place;
     loop {
-        let next = step_at(sheet, a, pattern, s, q, t);
+        let u = skip(sheet, a, pattern, s, q, t);
+        let next = step_at(sheet, a, pattern, s, q, u);
         match next {
             Step::Holds => break true,
             Step::Fails => break false,

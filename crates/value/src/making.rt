@@ -4,7 +4,9 @@ use crate::Entry;
 use table::MADE;
 use table::NODE;
 use table::TOP;
+use table::VALUE;
 use table::add_row;
+use table::base_of;
 use table::count;
 use table::row;
 use words::cut;
@@ -12,16 +14,17 @@ use words::push;
 use words::read;
 use words::store;
 ghost use mathlib.Core.Path.{_≡_};
-ghost use mathlib.Core.Bool.{true};
+ghost use mathlib.Core.Bool.{true, _&&_};
 ghost use mathlib.Core.List.{[]};
-ghost use Prim.Native.Nat.{_≤_};
+ghost use Prim.Native.Nat.{_+_, _-_, _≤_, _<_};
+ghost use lib.Dec.{eqb, ltb};
 ghost use lib.ListN.{getD, length, take, drop};
 ghost use Rattle.words.specs.Log.{part, Room, Holds};
 ghost use Rattle.cedar.specs.Making.{sortN};
 ghost use Rattle.sheet.specs.Bytes.{same};
-ghost use Rattle.table.specs.Layout.{rowsOf};
+ghost use Rattle.table.specs.Layout.{base, rowsOf};
 ghost use Rattle.value.specs.Lines.{valueLines, placeOf};
-ghost use Rattle.value.specs.Made.{boolRow, longRow, entityRow, roomFor, narrow, withMade, Made, MadeBeside, valuesIn, lowerOf, leastOf, setRow, pairsOf, recordRow, pushAll};
+ghost use Rattle.value.specs.Made.{boolRow, longRow, entityRow, roomFor, narrow, withMade, Made, MadeBeside, valuesIn, Shifted, Inserted, lowerOf, leastOf, setRow, pairsOf, recordRow, pushAll};
 
 // Whether two rows have the same words.
 pub fn same(x: &[u32], y: &[u32]) -> bool
@@ -42,21 +45,89 @@ pub fn same(x: &[u32], y: &[u32]) -> bool
     }
 }
 
+// The number of the first row of key `k` with these words, or of all its rows where none has them, row by row.
+fn find_row(a: &[u32], k: usize, r: &[u32]) -> usize
+    ensures { λ v. ⌜ v ≡ placeOf (now (r .entry)) (rowsOf (now (a .entry)) k) ⌝ }
+{
+    let n = count(a, k);
+    let mut i = 0;
+    loop {
+        if i >= n {
+            break n as usize;
+        }
+        if same(row(a, k, i), r) {
+            break i as usize;
+        }
+        i += 1;
+    }
+}
+
+// Whether the row from `s` to `e` has these words: its length is compared first, then its last word.
+fn is_row(a: &[u32], s: usize, e: usize, r: &[u32]) -> bool
+    requires { ⌜ (1 ≤ length (now r)) × (e ≤ length (now a)) × (s < 4294967296) ⌝ }
+    ensures { λ b. ⌜ b ≡ same (part (now (a .entry)) s e) (now (r .entry)) ⌝ }
+{
+    let n = r.len();
+    if s + n != e {
+        return false;
+    }
+    if a[e - 1] != r[n - 1] {
+        return false;
+    }
+    same(&a[s..e], r)
+}
+
+// The same in one walk: word `b` says where the first of the `n` rows begins, and each begins where the one before ends.
+fn find_walking(a: &[u32], k: usize, b: usize, n: usize, r: &[u32]) -> usize
+    requires { ⌜ (b ≡ base k) × (n ≡ getD (now a) k 0) × (b + n < length (now a)) × (1 ≤ length (now r)) ⌝ }
+    ensures { λ v. ⌜ v ≡ placeOf (now (r .entry)) (rowsOf (now (a .entry)) k) ⌝ }
+{
+    let p = b + 1;
+    let q = p + n;
+    let ends = &a[p..q];
+    let mut s = a[b] as usize;
+    let mut i = 0;
+    loop {
+        if i >= ends.len() {
+            break n;
+        }
+        let e = ends[i] as usize;
+        if e > a.len() {
+            break find_row(a, k, r);
+        }
+        if is_row(a, s, e, r) {
+            break i;
+        }
+        s = e;
+        i += 1;
+    }
+}
+
+// The number of the first row of key `k` with these words, or of all its rows where none has them.
+fn find_in(a: &[u32], k: usize, r: &[u32]) -> usize
+    ensures { λ v. ⌜ v ≡ placeOf (now (r .entry)) (rowsOf (now (a .entry)) k) ⌝ }
+{
+    let n = count(a, k) as usize;
+    let b = base_of(k);
+    if b + n >= a.len() {
+        return find_row(a, k, r);
+    }
+    if r.len() < 1 {
+        return find_row(a, k, r);
+    }
+    find_walking(a, k, b, n, r)
+}
+
 // The number of the first value with these words, or of all values where none has them.
 pub fn find(a: &[u32], r: &[u32]) -> usize
     ensures { λ v. ⌜ v ≡ placeOf (now (r .entry)) (valueLines (now (a .entry))) ⌝ }
 {
-    let n = crate::total(a);
-    let mut i = 0;
-    loop {
-        if i >= n {
-            break n;
-        }
-        if same(crate::row_of(a, i), r) {
-            break i;
-        }
-        i += 1;
+    let n = count(a, VALUE) as usize;
+    let v = find_in(a, VALUE, r);
+    if v < n {
+        return v;
     }
+    n + find_in(a, MADE, r)
 }
 
 // Whether a row of `n` words more may be made.
@@ -168,8 +239,9 @@ fn least(rows: &[u32], lo: usize) -> Entry
     best
 }
 
-// The values of the rows from `start` to `bt`, ascending and without repeats, at the end `at` of the log; the end after them.
-fn ascending(b: &mut [u32], at: usize, start: usize, bt: usize) -> usize
+// The values of the rows from `start` to `bt`, ascending and without repeats, at the end `at` of the log while there is room; the end
+// after them. The least of those left is looked for again and again.
+fn selected(b: &mut [u32], at: usize, start: usize, bt: usize) -> usize
     requires { ⌜ Room (now b) at ⌝ }
     requires { ⌜ bt ≤ at ⌝ }
     ensures { λ e. ⌜ Holds at (now (b .exit)) e (pushAll (take at (now (b .entry))) (sortN (valuesIn (part (now (b .entry)) start bt)))) ⌝ }
@@ -183,6 +255,78 @@ fn ascending(b: &mut [u32], at: usize, start: usize, bt: usize) -> usize
         p = push(b, p, x);
         lo = x as usize + 1;
     }
+}
+
+// The words from `j` to `p` move one place on, and `x` stands before them.
+fn shift(b: &mut [u32], j: usize, p: usize, x: u32)
+    requires { ⌜ (j ≤ p) × (p < length (now b)) ⌝ }
+    ensures { λ _. ⌜ Shifted (now (b .entry)) j p x (now (b .exit)) ⌝ }
+{
+    let mut y = x;
+    let mut i = j;
+    while i < p {
+        let z = b[i];
+        b[i] = y;
+        y = z;
+        i += 1;
+    }
+    b[p] = y;
+}
+
+// Whether `x` stands at `j`, before `p`.
+fn is_there(b: &[u32], j: usize, p: usize, x: u32) -> bool
+    ensures { λ r. ⌜ r ≡ (ltb j p && eqb (getD (now (b .entry)) j 0) x) ⌝ }
+{
+    if j >= p {
+        return false;
+    }
+    read(b, j) == x
+}
+
+// The number `x` in its place among the words from `at` to `p`, unless it is there; the end after them.
+fn insert(b: &mut [u32], at: usize, p: usize, x: u32) -> usize
+    requires { ⌜ (at ≤ p) × (p < length (now b)) ⌝ }
+    ensures { λ e. ⌜ Inserted (now (b .entry)) at p x (now (b .exit)) e ⌝ }
+{
+    let j = at + crate::reach(cut(b, at, p), x, 0);
+    if is_there(b, j, p, x) {
+        return p;
+    }
+    shift(b, j, p, x);
+    p + 1
+}
+
+// The values of the rows from `start` to `bt`, ascending and without repeats, at the end `at` of the log, which has room for them; the
+// end after them. Each is put in its place, the last row's first.
+fn inserted(b: &mut [u32], at: usize, start: usize, bt: usize) -> usize
+    requires { ⌜ Room (now b) at ⌝ }
+    requires { ⌜ (bt ≤ at) × (at + length (part (now b) start bt) ≤ 16384) ⌝ }
+    ensures { λ e. ⌜ Holds at (now (b .exit)) e (pushAll (take at (now (b .entry))) (sortN (valuesIn (part (now (b .entry)) start bt)))) ⌝ }
+{
+    let mut p = at;
+    let mut i = cut(b, start, bt).len() / 4;
+    while i > 0 {
+        i -= 1;
+        let x = read(b, start + 4 * i + 1);
+        p = insert(b, at, p, x);
+    }
+    p
+}
+
+// The values of the rows from `start` to `bt`, ascending and without repeats, at the end `at` of the log; the end after them.
+fn ascending(b: &mut [u32], at: usize, start: usize, bt: usize) -> usize
+    requires { ⌜ Room (now b) at ⌝ }
+    requires { ⌜ bt ≤ at ⌝ }
+    ensures { λ e. ⌜ Holds at (now (b .exit)) e (pushAll (take at (now (b .entry))) (sortN (valuesIn (part (now (b .entry)) start bt)))) ⌝ }
+{
+    let n = cut(b, start, bt).len();
+    if n > 16384 {
+        return selected(b, at, start, bt);
+    }
+    if at + n > 16384 {
+        return selected(b, at, start, bt);
+    }
+    inserted(b, at, start, bt)
 }
 
 // The set of the values of the rows from `start` to the log's end.

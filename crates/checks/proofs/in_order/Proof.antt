@@ -1,5 +1,5 @@
 -- `checks::in_order` meets its contract. Assumes nothing.
-use Rattle.checks.proofs.OrderLaws.{Zeros, zeros-start, zeros-off, zeros-on, zeros-end}
+use Rattle.checks.proofs.OrderLaws.{Zeros, zeros-start, zeros-off, zeros-on, zeros-end, nodes-off, nodes-on}
 use Prim.Native.Nat.{_-_}
 use borrow.Author.Needs.{needs}
 use Rattle.checks.proofs.in_order.Statement.{statement}
@@ -15,13 +15,19 @@ loop-holds : tie.Need-loop-holds Inv-loop μ-loop
 loop-holds c = search (zeros-start, needs)
 
 returns : tie.Need-returns Inv-loop μ-loop
-returns c = search (zeros-off, needs)
+returns c = search (nodes-off, needs)
+
+returns-2 : tie.Need-returns-2 Inv-loop μ-loop
+returns-2 c = search (nodes-on, needs)
+
+returns-3 : tie.Need-returns-3 Inv-loop μ-loop
+returns-3 c = search (zeros-off, needs)
 
 loop-again : tie.Need-loop-again Inv-loop μ-loop
 loop-again c = search (zeros-on, needs)
 
-returns-2 : tie.Need-returns-2 Inv-loop μ-loop
-returns-2 c = search (zeros-end, needs)
+returns-4 : tie.Need-returns-4 Inv-loop μ-loop
+returns-4 c = search (zeros-end, needs)
 
 pub in-order-spec : {M : Type 1} → statement M
 in-order-spec =
@@ -29,12 +35,16 @@ in-order-spec =
     (tie.spec
     Inv-loop
     μ-loop
+    (λ c κs. search needs)
+    returns
+    (λ c κs. search needs)
+    returns-2
     (λ c. search needs)
     loop-holds
     (λ c κs. search needs)
-    returns
+    returns-3
     (λ c. search needs)
     (λ c. search needs)
     loop-again
     (λ c κs. search needs)
-    returns-2)
+    returns-4)

@@ -1,41 +1,53 @@
 -- `checks::is_fresh` meets its contract. Assumes nothing.
-use Rattle.checks.proofs.FoundLaws.{fresh-type, fresh-value, fresh-kind, fresh-policy, fresh-entity, fresh-other}
+use native.Mathlib.Omega.{arith}
+use Rattle.checks.proofs.FoundLaws.{fresh-type, fresh-value, fresh-kind, fresh-policy, fresh-entity, fresh-other, fresh-node}
+use Rattle.checks.proofs.SearchLaws.{keyed-row}
 use borrow.Author.Needs.{needs}
 use Rattle.checks.proofs.is_fresh.Statement.{statement}
 use Rattle.checks.proofs.is_fresh.Tie as tie
 
 returns : tie.Need-returns
-returns c = search (fresh-type, needs)
+returns c = search (fresh-node, needs)
 
 returns-2 : tie.Need-returns-2
-returns-2 c = search (fresh-value, needs)
+returns-2 c = search (fresh-type, needs)
 
 returns-3 : tie.Need-returns-3
-returns-3 c = search (fresh-kind, needs)
+returns-3 c = search (fresh-value, needs)
 
 returns-4 : tie.Need-returns-4
-returns-4 c = search (fresh-policy, needs)
+returns-4 c = search (fresh-kind, needs)
 
 returns-5 : tie.Need-returns-5
-returns-5 c = search (fresh-entity, needs)
+returns-5 c = search (fresh-policy, needs)
 
 returns-6 : tie.Need-returns-6
-returns-6 c = search (fresh-other, needs)
+returns-6 c = search (fresh-entity, needs)
+
+returns-7 : tie.Need-returns-7
+returns-7 c = search (fresh-other, needs)
+
+is-row-requires : tie.Need-is-row-requires
+is-row-requires c κs = let s = c .before .before .before .before in keyed-row (s .args .r .now) (s .args .k) (s .pre .1) (omega arith)
+
+is-row-requires-2 : tie.Need-is-row-requires-2
+is-row-requires-2 c κs = let s = c .before .before .before .before .before in keyed-row (s .args .r .now) (s .args .k) (s .pre .1) (omega arith)
 
 pub is-fresh-spec : {M : Type 1} → statement M
 is-fresh-spec =
     tie.close
     (tie.spec
-    (λ c κs. search needs)
     returns
-    (λ c κs. search needs)
+    is-row-requires
     returns-2
-    (λ c κs. search needs)
-    (λ c κs. search needs)
+    is-row-requires-2
     returns-3
     (λ c κs. search needs)
     (λ c κs. search needs)
     returns-4
     (λ c κs. search needs)
+    (λ c κs. search needs)
     returns-5
-    returns-6)
+    (λ c κs. search needs)
+    returns-6
+    returns-7)

@@ -13,14 +13,15 @@ returns c = search (judged-3, needs)
 returns-2 : tie.Need-returns-2
 returns-2 c = search (judged-4, needs)
 
-is-new-requires : tie.Need-is-new-requires
-is-new-requires c κs = search (key-of-row, needs)
+depth-of-requires : tie.Need-depth-of-requires
+depth-of-requires c κs =
+    let z = c .before .before .before .before .before .before .before .before .before .before .before .args in
+    let k = c .before .before .before .before .before .key-of in
+    let u = c .before .before .is-full in
+    (key-of-row (z .r .now) (c .before .before .before .before .before .before .tag .result) (k .result) (c .before .before .before .before .before .before .tag .ensures) (k .ensures), key-of-line (z .a .now) (k .result) (u .result) (u .ensures) (c .before .if2 .left))
 
 returns-3 : tie.Need-returns-3
 returns-3 c = search (judged-5, needs)
-
-depth-of-requires : tie.Need-depth-of-requires
-depth-of-requires c κs = key-of-line (c .before .before .before .before .before .before .before .before .before .before .before .before .before .args .a .now) (c .before .before .before .before .before .before .before .key-of .result) (c .before .before .before .before .is-full .result) (c .before .before .before .before .is-full .ensures) (c .before .before .before .if2 .left)
 
 returns-4 : tie.Need-returns-4
 returns-4 c = search (judged-6, needs)
@@ -33,18 +34,17 @@ returns-6 c = search (judged-8, needs)
 
 returns-7 : tie.Need-returns-7
 returns-7 c =
-    let s = c .before .before .before .before .before .before .before .before .before .before .before .before .before .before .before .before .before .before .before .before .before .before .before .before .before in
-    let g = c .before .before .before .before .before .before .before .before .before .before .before .before .before .before .before .before .before .before .before .before .tag in
-    let k = c .before .before .before .before .before .before .before .before .before .before .before .before .before .before .before .before .before .before .before .key-of in
-    let o = c .before .before .before .before .before .before .before .before .before .before .before .before .before .before .before .before .before .before .in-order in
-    let u = c .before .before .before .before .before .before .before .before .before .before .before .before .before .before .before .before .is-full in
-    let w = c .before .before .before .before .before .before .before .before .before .before .before .before .before .before .is-new in
-    let d = c .before .before .before .before .before .before .before .before .before .before .before .depth-of in
+    let s = c .before .before .before .before .before .before .before .before .before .before .before .before .before .before .before .before .before .before .before .before .before .before .before .before in
+    let g = c .before .before .before .before .before .before .before .before .before .before .before .before .before .before .before .before .before .before .before .tag in
+    let k = c .before .before .before .before .before .before .before .before .before .before .before .before .before .before .before .before .before .before .key-of in
+    let o = c .before .before .before .before .before .before .before .before .before .before .before .before .before .before .before .before .before .in-order in
+    let u = c .before .before .before .before .before .before .before .before .before .before .before .before .before .before .before .is-full in
+    let d = c .before .before .before .before .before .before .before .before .before .before .before .before .depth-of in
     let y = c .before .before .before .before .before .before .before .before .typed-line in
     let x = c .before .before .before .use-nodes in
     judged-0 (s .args .sheet .now) (s .args .a .now) (s .args .b .now) (s .args .r .now) (s .pre) (g .result) (k .result) (g .ensures) (k .ensures)
-    (o .result) (o .ensures) (c .before .before .before .before .before .before .before .before .before .before .before .before .before .before .before .before .before .if1 .left) (u .result) (u .ensures) (c .before .before .before .before .before .before .before .before .before .before .before .before .before .before .before .if2 .left) (w .result) (w .ensures) (c .before .before .before .before .before .before .before .before .before .before .before .before .before .if3 .left)
-    (d .result) (d .ensures) (c .before .before .before .before .before .before .before .before .before .before .if4 .left) (y .last .1 .0) (y .result) (y .ensures) (c .before .before .before .before .before .if5 .left) (x .last .1 .0) (x .result) (x .ensures) (c .if6 .left)
+    (o .result) (o .ensures) (c .before .before .before .before .before .before .before .before .before .before .before .before .before .before .before .before .if1 .left) (u .result) (u .ensures) (c .before .before .before .before .before .before .before .before .before .before .before .before .before .before .if2 .left) (d .result) (d .ensures) (c .before .before .before .before .before .before .before .before .before .before .before .if3 .left)
+    (c .before .before .before .before .before .before .before .before .before .before .if4 .left) (y .last .1 .0) (y .result) (y .ensures) (c .before .before .before .before .before .if5 .left) (x .last .1 .0) (x .result) (x .ensures) (c .if6 .left)
 
 pub judge-spec : {M : Type 1} → statement M
 judge-spec =
@@ -58,10 +58,10 @@ judge-spec =
     (λ c κs. search needs)
     (λ c κs. search needs)
     returns-2
-    is-new-requires
-    (λ c κs. search needs)
-    returns-3
     depth-of-requires
+    (λ c κs. search needs)
+    (λ c. search needs)
+    returns-3
     (λ c κs. search needs)
     (λ c. search needs)
     returns-4

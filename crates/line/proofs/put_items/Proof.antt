@@ -1,19 +1,17 @@
 -- `line::put_items` meets its contract. Assumes nothing.
 use native.Mathlib.Omega.{arith}
 use Prim.Native.Nat.{_-_}
-use mathlib.Core.Path.{sym, _∙_}
 use lib.ListN.{length}
-use Rattle.scan.proofs.Readings.{items-part}
-use Rattle.line.proofs.LawsItems.{Walk, walk-start, walk-end, walk-bad, walk-on}
+use Rattle.line.proofs.LawsItems.{Walk, walk-start, walk-end, walk-short, walk-long, walk-bad, walk-on, walk-again}
 use borrow.Author.Needs.{needs}
 use Rattle.line.proofs.put_items.Statement.{statement}
 use Rattle.line.proofs.put_items.Tie as tie
 
 abbrev Inv-loop : tie.InvT-loop
-Inv-loop s partial t j w₀ k c₀ j₀ k₀ w c j' k' = Walk s partial t w₀ (c₀ .at) j k w (c .at) j' k'
+Inv-loop s at partial t j w₀ k slots n last at₀ j₀ k₀ w at' j' k' = Walk s partial t w₀ at j k w at' j' k'
 
 abbrev μ-loop : tie.MeasureT-loop
-μ-loop s partial t j w₀ k c₀ j₀ k₀ w c j' k' = length s - c .at
+μ-loop s at partial t j w₀ k slots n last at₀ j₀ k₀ w at' j' k' = length s - at'
 
 loop-holds : tie.Need-loop-holds Inv-loop μ-loop
 loop-holds c = search (walk-start, needs)
@@ -22,16 +20,23 @@ same-length : tie.Need-same-length Inv-loop μ-loop
 same-length c = omega arith
 
 returns : tie.Need-returns Inv-loop μ-loop
-returns c = search (walk-end, needs)
+returns c = search (walk-long, needs)
 
-put-item-requires : tie.Need-put-item-requires Inv-loop μ-loop
-put-item-requires c κs = omega arith
+put-next-requires : tie.Need-put-next-requires Inv-loop μ-loop
+put-next-requires c κs = omega arith
 
 same-length-2 : tie.Need-same-length-2 Inv-loop μ-loop
 same-length-2 c = omega arith
 
 returns-2 : tie.Need-returns-2 Inv-loop μ-loop
-returns-2 c = search (walk-bad, needs)
+returns-2 c =
+    let x = c .before .before .before .before in
+    let b = x .before .before in
+    let o = b .before .before .before in
+    let g = o .before in
+    let i = g .before in
+    walk-bad _ _ _ _ _ _ _ _ _ _ _ (o .loop .inv) (i .items-of .result) (g .group-of .result) (i .items-of .ensures) (g .group-of .ensures) (b .before .before .loop-test .taken)
+    (i .before .slots-of .result) (b .byte .result) _ _ _ (i .before .slots-of .ensures) (b .byte .ensures) (b .before .if1 .left) (x .put-next .ensures) (c .if2 .taken)
 
 add-k : tie.Need-add-k Inv-loop μ-loop
 add-k c = omega arith
@@ -39,15 +44,38 @@ add-k c = omega arith
 add-j : tie.Need-add-j Inv-loop μ-loop
 add-j c = omega arith
 
-loop-less : tie.Need-loop-less Inv-loop μ-loop
-loop-less c =
-    let p = c .before .before .before .before .before .before in
-    let i = p .before .before .before .before in
-    let w = items-part (i .before .before .before .before .args .s .now) (i .before .loop .c) (p .before .before .start .given .0 .0) (p .before .before .start .given .0 .1 .0) (sym (p .before .before .start .given .1) ∙ i .item .ensures) in
-    omega (arith, w .begins, w .within, w .ends)
-
 loop-again : tie.Need-loop-again Inv-loop μ-loop
-loop-again c = search (walk-on, needs)
+loop-again c = search (walk-again, needs)
+
+loop-again-2 : tie.Need-loop-again-2 Inv-loop μ-loop
+loop-again-2 c =
+    let x = c .before .before .before .before .before .before in
+    let b = x .before .before in
+    let o = b .before .before .before in
+    let g = o .before in
+    let i = g .before in
+    walk-on _ _ _ _ _ _ _ _ _ _ _ (o .loop .inv) (i .items-of .result) (g .group-of .result) (i .items-of .ensures) (g .group-of .ensures) (b .before .before .loop-test .taken)
+    (i .before .slots-of .result) (b .byte .result) _ _ _ (i .before .slots-of .ensures) (b .byte .ensures) (b .before .if1 .left) (x .put-next .ensures) (c .before .before .if2 .left) (x .put-next .kept .1 .1 .1 .1 .0) (c .if3 .left)
+
+same-length-3 : tie.Need-same-length-3 Inv-loop μ-loop
+same-length-3 c = omega arith
+
+returns-3 : tie.Need-returns-3 Inv-loop μ-loop
+returns-3 c =
+    let o = c .before .before in
+    let g = o .before in
+    let i = g .before in
+    walk-end _ _ _ _ _ _ _ _ _ _ _ (o .loop .inv) (i .items-of .result) (g .group-of .result) (i .items-of .ensures) (g .group-of .ensures) (c .before .loop-test .left) (c .if4 .taken) (i .before .before .before .before .pre .2)
+
+same-length-4 : tie.Need-same-length-4 Inv-loop μ-loop
+same-length-4 c = omega arith
+
+returns-4 : tie.Need-returns-4 Inv-loop μ-loop
+returns-4 c =
+    let o = c .before .before in
+    let g = o .before in
+    let i = g .before in
+    walk-short _ _ _ _ _ _ _ _ _ _ _ (o .loop .inv) (i .items-of .result) (g .group-of .result) (i .items-of .ensures) (g .group-of .ensures) (c .before .loop-test .left) (c .if4 .left)
 
 pub put-items-spec : {M : Type 1} → statement M
 put-items-spec =
@@ -55,18 +83,24 @@ put-items-spec =
     (tie.spec
     Inv-loop
     μ-loop
-    loop-holds
+    (λ c κs. search needs)
+    (λ c κs. search needs)
     (λ c κs. search needs)
     (λ c. search needs)
-    (λ c. search needs)
+    loop-holds
     same-length
     returns
     (λ c κs. search needs)
-    (λ c κs. search needs)
-    put-item-requires
+    put-next-requires
     same-length-2
     returns-2
     add-k
     add-j
-    loop-less
-    loop-again)
+    (λ c. search needs)
+    loop-again
+    (λ c. search needs)
+    loop-again-2
+    same-length-3
+    returns-3
+    same-length-4
+    returns-4)

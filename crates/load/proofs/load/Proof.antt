@@ -19,8 +19,8 @@ abbrev μ-loop : tie.MeasureT-loop
 loop-holds : tie.Need-loop-holds Inv-loop μ-loop
 loop-holds c =
     let s = c .before .before .before .before .before .before .before .before .before .before .before .before .before .before .before .before in
-    let x = c .before .before .before .before .before .before .before .before .before .before .before .clear in
-    let y = c .before .before .before .before .before .before .before .clear2 in
+    let x = c .before .before .before .before .before .before .before .before .before .before .before .zero in
+    let y = c .before .before .before .before .before .before .before .zero2 in
     let p = c .before .before .before .put in
     let n = c .new in
     progress-first (modeOf (s .args .partial)) (s .args .sheet .now) (s .args .a .now) (s .args .b .now) (x .last .0) (y .last .0) (p .last .0) (n .result) (n .ensures .0) (n .ensures .1) (s .pre .1) (s .pre .2) (x .ensures) (y .ensures) (p .ensures)
@@ -28,32 +28,37 @@ loop-holds c =
 take-line-requires : tie.Need-take-line-requires Inv-loop μ-loop
 take-line-requires c κs =
     let s = c .before .before .before .before .before .before .before .before .before .before .before .before .before .before .before .before .before .before .before .before .before .before .before in
-    let y = c .before .before .before .before .before .before .before .before .before .before .before .before .before .before .clear2 in
+    let y = c .before .before .before .before .before .before .before .before .before .before .before .before .before .before .zero2 in
     let p = c .before .before .before .before .before .before .before .before .before .before .put in
     let l = c .before .before .before .before .before .before .loop in
     let g = c .before .before .before .before .before .next-line in
     let v = c .before .before .before .l .given in
     line-fits (modeOf (s .args .partial)) (s .args .sheet .now) (p .last .0) (y .last .0) (l .a) (l .b) (l .c) (l .inv) (g .result) (g .ensures) (v .0 .0) (v .0 .1 .0) (v .0 .1 .1 .0) (v .0 .1 .1 .1 .0) (v .1) (s .pre .0)
 
+same-length : tie.Need-same-length Inv-loop μ-loop
+same-length c =
+    let l = c .before .before .before .before .before .before .before .before .before .before .before .before .loop in
+    omega (arith, c .before .before .before .before .before .take-line .kept .1 .1 .1 .1 .1 .0, l .inv .long-a, c .before .before .before .before .before .before .before .before .before .before .before .before .before .before .before .before .put .kept .0, c .before .before .before .before .before .before .before .before .before .before .before .before .before .before .before .before .before .before .before .before .before .before .before .before .zero .kept .0)
+
 returns : tie.Need-returns Inv-loop μ-loop
 returns c =
     let s = c .before .before .before .before .before .before .before .before .before .before .before .before .before .before .before .before .before .before .before .before .before .before .before .before .before .before .before .before .before in
-    let x = c .before .before .before .before .before .before .before .before .before .before .before .before .before .before .before .before .before .before .before .before .before .before .before .before .clear in
-    let y = c .before .before .before .before .before .before .before .before .before .before .before .before .before .before .before .before .before .before .before .before .clear2 in
+    let x = c .before .before .before .before .before .before .before .before .before .before .before .before .before .before .before .before .before .before .before .before .before .before .before .before .zero in
+    let y = c .before .before .before .before .before .before .before .before .before .before .before .before .before .before .before .before .before .before .before .before .zero2 in
     let p = c .before .before .before .before .before .before .before .before .before .before .before .before .before .before .before .before .put in
     let l = c .before .before .before .before .before .before .before .before .before .before .before .before .loop in
     let g = c .before .before .before .before .before .before .before .before .before .before .before .next-line in
     let v = c .before .before .before .before .before .before .before .before .before .l .given in
     let t = c .before .before .before .before .before .take-line in
     from-entry (read (modeOf (s .args .partial)) (s .args .sheet .now)) (s .args .sheet .now) (s .args .a .now) (s .args .b .now) (x .last .0) (y .last .0) (p .last .0)
-    (t .last .1 .1 .1 .1 .0) (t .last .1 .1 .1 .1 .1 .0) (t .result) (l .c .line) (s .pre .1) (s .pre .2) (x .ensures) (y .ensures) (p .ensures)
+    (t .last .1 .1 .1 .1 .1 .0) (t .last .1 .1 .1 .1 .1 .1 .0) (t .result) (l .c .line) (s .pre .1) (s .pre .2) (x .ensures) (y .ensures) (p .ensures)
     (line-stops (modeOf (s .args .partial)) (s .args .sheet .now) (p .last .0) (y .last .0) (l .a) (l .b) (l .c) (l .inv) (g .result) (g .ensures) (v .0 .0) (v .0 .1 .0) (v .0 .1 .1 .0) (v .0 .1 .1 .1 .0) (v .1)
-    (t .last .1 .1 .1 .1 .0) (t .last .1 .1 .1 .1 .1 .0) (t .result) (t .ensures) (c .if1 .taken) (t .result) (l .c .line) refl refl)
+    (t .last .1 .1 .1 .1 .1 .0) (t .last .1 .1 .1 .1 .1 .1 .0) (t .result) (t .ensures) (c .if1 .taken) (t .result) (l .c .line) refl refl)
 
 loop-less : tie.Need-loop-less Inv-loop μ-loop
 loop-less c =
     let s = c .before .before .before .before .before .before .before .before .before .before .before .before .before .before .before .before .before .before .before .before .before .before .before .before .before .before .before .before .before in
-    let y = c .before .before .before .before .before .before .before .before .before .before .before .before .before .before .before .before .before .before .before .before .clear2 in
+    let y = c .before .before .before .before .before .before .before .before .before .before .before .before .before .before .before .before .before .before .before .before .zero2 in
     let p = c .before .before .before .before .before .before .before .before .before .before .before .before .before .before .before .before .put in
     let l = c .before .before .before .before .before .before .before .before .before .before .before .before .loop in
     let g = c .before .before .before .before .before .before .before .before .before .before .before .next-line in
@@ -63,20 +68,20 @@ loop-less c =
 loop-again : tie.Need-loop-again Inv-loop μ-loop
 loop-again c =
     let s = c .before .before .before .before .before .before .before .before .before .before .before .before .before .before .before .before .before .before .before .before .before .before .before .before .before .before .before .before .before in
-    let y = c .before .before .before .before .before .before .before .before .before .before .before .before .before .before .before .before .before .before .before .before .clear2 in
+    let y = c .before .before .before .before .before .before .before .before .before .before .before .before .before .before .before .before .before .before .before .before .zero2 in
     let p = c .before .before .before .before .before .before .before .before .before .before .before .before .before .before .before .before .put in
     let l = c .before .before .before .before .before .before .before .before .before .before .before .before .loop in
     let g = c .before .before .before .before .before .before .before .before .before .before .before .next-line in
     let v = c .before .before .before .before .before .before .before .before .before .l .given in
     let t = c .before .before .before .before .before .take-line in
     line-goes (modeOf (s .args .partial)) (s .args .sheet .now) (p .last .0) (y .last .0) (l .a) (l .b) (l .c) (l .inv) (g .result) (g .ensures) (v .0 .0) (v .0 .1 .0) (v .0 .1 .1 .0) (v .0 .1 .1 .1 .0) (v .1)
-    (t .last .1 .1 .1 .1 .0) (t .last .1 .1 .1 .1 .1 .0) (t .result) (t .ensures) (c .if1 .left) (s .pre .0) (omega arith) (omega arith)
+    (t .last .1 .1 .1 .1 .1 .0) (t .last .1 .1 .1 .1 .1 .1 .0) (t .result) (t .ensures) (c .if1 .left) (s .pre .0) (omega arith) (omega arith)
 
 returns-2 : tie.Need-returns-2 Inv-loop μ-loop
 returns-2 c =
     let s = c .before .before .before .before .before .before .before .before .before .before .before .before .before .before .before .before .before .before .before .before in
-    let x = c .before .before .before .before .before .before .before .before .before .before .before .before .before .before .before .clear in
-    let y = c .before .before .before .before .before .before .before .before .before .before .before .clear2 in
+    let x = c .before .before .before .before .before .before .before .before .before .before .before .before .before .before .before .zero in
+    let y = c .before .before .before .before .before .before .before .before .before .before .before .zero2 in
     let p = c .before .before .before .before .before .before .before .put in
     let l = c .before .before .before .loop in
     let g = c .before .before .next-line in
@@ -87,7 +92,7 @@ returns-2 c =
 finish-requires : tie.Need-finish-requires Inv-loop μ-loop
 finish-requires c κs =
     let s = c .before .before .before .before .before .before .before .before .before .before .before .before .before .before .before .before .before .before .before .before .before .before in
-    let y = c .before .before .before .before .before .before .before .before .before .before .before .before .before .clear2 in
+    let y = c .before .before .before .before .before .before .before .before .before .before .before .before .before .zero2 in
     let p = c .before .before .before .before .before .before .before .before .before .put in
     let l = c .before .before .before .before .before .loop in
     finish-room (modeOf (s .args .partial)) (s .args .sheet .now) (p .last .0) (y .last .0) (l .a) (l .b) (l .c) (l .inv)
@@ -95,8 +100,8 @@ finish-requires c κs =
 returns-3 : tie.Need-returns-3 Inv-loop μ-loop
 returns-3 c =
     let s = c .before .before .before .before .before .before .before .before .before .before .before .before .before .before .before .before .before .before .before .before .before .before .before in
-    let x = c .before .before .before .before .before .before .before .before .before .before .before .before .before .before .before .before .before .before .clear in
-    let y = c .before .before .before .before .before .before .before .before .before .before .before .before .before .before .clear2 in
+    let x = c .before .before .before .before .before .before .before .before .before .before .before .before .before .before .before .before .before .before .zero in
+    let y = c .before .before .before .before .before .before .before .before .before .before .before .before .before .before .zero2 in
     let p = c .before .before .before .before .before .before .before .before .before .before .put in
     let l = c .before .before .before .before .before .before .loop in
     let g = c .before .before .before .before .before .next-line in
@@ -120,7 +125,7 @@ load-spec =
     (λ c κs. search needs)
     (λ c. search needs)
     take-line-requires
-    (λ c. search needs)
+    same-length
     (λ c. search needs)
     returns
     loop-less

@@ -1,70 +1,72 @@
 -- `scan::key_of` meets its contract. Assumes nothing.
-use Rattle.scan.proofs.Wordlists.{node-tried, value-tried, text-tried, policy-tried, key-number}
+use mathlib.Core.Path.{refl, ap}
+use mathlib.Core.List.{List}
+use Prim.Native.Nat.{ℕ}
+use Rattle.sheet.specs.Ascii.{ascii}
+use Rattle.sheet.specs.Forms.{keys, wordNumber}
 use borrow.Author.Needs.{needs}
 use Rattle.scan.proofs.key_of.Statement.{statement}
 use Rattle.scan.proofs.key_of.Tie as tie
 
-slice-aggregate-same-bytes : tie.Need-slice-aggregate-same-bytes
-slice-aggregate-same-bytes c = search needs
-
-same-bytes-requires : tie.Need-same-bytes-requires
-same-bytes-requires c κs = search needs
-
 returns : tie.Need-returns
-returns c = search node-tried
-
-slice-aggregate-same-bytes-2 : tie.Need-slice-aggregate-same-bytes-2
-slice-aggregate-same-bytes-2 c = search needs
-
-same-bytes-requires-2 : tie.Need-same-bytes-requires-2
-same-bytes-requires-2 c κs = search needs
+unfolding keys
+returns c = ap (λ (w : List ℕ). wordNumber w keys) (c .before .word-of .ensures .only (ascii "sheet") refl (c .match .keys1))
 
 returns-2 : tie.Need-returns-2
-returns-2 c = search value-tried
-
-slice-aggregate-same-bytes-3 : tie.Need-slice-aggregate-same-bytes-3
-slice-aggregate-same-bytes-3 c = search needs
-
-same-bytes-requires-3 : tie.Need-same-bytes-requires-3
-same-bytes-requires-3 c κs = search needs
+unfolding keys
+returns-2 c = ap (λ (w : List ℕ). wordNumber w keys) (c .before .word-of .ensures .only (ascii "text") refl (c .match .keys2))
 
 returns-3 : tie.Need-returns-3
-returns-3 c = search text-tried
-
-slice-aggregate-same-bytes-4 : tie.Need-slice-aggregate-same-bytes-4
-slice-aggregate-same-bytes-4 c = search needs
-
-same-bytes-requires-4 : tie.Need-same-bytes-requires-4
-same-bytes-requires-4 c κs = search needs
+unfolding keys
+returns-3 c = ap (λ (w : List ℕ). wordNumber w keys) (c .before .word-of .ensures .only (ascii "kind") refl (c .match .keys3))
 
 returns-4 : tie.Need-returns-4
-returns-4 c = search policy-tried
-
-slice-aggregate-place : tie.Need-slice-aggregate-place
-slice-aggregate-place c = search needs
-
-place-requires : tie.Need-place-requires
-place-requires c κs = search needs
+unfolding keys
+returns-4 c = ap (λ (w : List ℕ). wordNumber w keys) (c .before .word-of .ensures .only (ascii "type") refl (c .match .keys4))
 
 returns-5 : tie.Need-returns-5
-returns-5 c = search key-number
+unfolding keys
+returns-5 c = ap (λ (w : List ℕ). wordNumber w keys) (c .before .word-of .ensures .only (ascii "shape") refl (c .match .keys5))
+
+returns-6 : tie.Need-returns-6
+unfolding keys
+returns-6 c = ap (λ (w : List ℕ). wordNumber w keys) (c .before .word-of .ensures .only (ascii "value") refl (c .match .keys6))
+
+returns-7 : tie.Need-returns-7
+unfolding keys
+returns-7 c = ap (λ (w : List ℕ). wordNumber w keys) (c .before .word-of .ensures .only (ascii "entity") refl (c .match .keys7))
+
+returns-8 : tie.Need-returns-8
+unfolding keys
+returns-8 c = ap (λ (w : List ℕ). wordNumber w keys) (c .before .word-of .ensures .only (ascii "action") refl (c .match .keys8))
+
+returns-9 : tie.Need-returns-9
+unfolding keys
+returns-9 c = ap (λ (w : List ℕ). wordNumber w keys) (c .before .word-of .ensures .only (ascii "context") refl (c .match .keys9))
+
+returns-10 : tie.Need-returns-10
+unfolding keys
+returns-10 c = ap (λ (w : List ℕ). wordNumber w keys) (c .before .word-of .ensures .only (ascii "node") refl (c .match .keys10))
+
+returns-11 : tie.Need-returns-11
+unfolding keys
+returns-11 c = ap (λ (w : List ℕ). wordNumber w keys) (c .before .word-of .ensures .only (ascii "policy") refl (c .match .keys11))
 
 pub key-of-spec : {M : Type 1} → statement M
 key-of-spec =
     tie.close
     (tie.spec
-    slice-aggregate-same-bytes
-    same-bytes-requires
+    (λ c κs. search needs)
+    (λ c κs. search needs)
     returns
-    slice-aggregate-same-bytes-2
-    same-bytes-requires-2
     returns-2
-    slice-aggregate-same-bytes-3
-    same-bytes-requires-3
     returns-3
-    slice-aggregate-same-bytes-4
-    same-bytes-requires-4
     returns-4
-    slice-aggregate-place
-    place-requires
-    returns-5)
+    returns-5
+    returns-6
+    returns-7
+    returns-8
+    returns-9
+    returns-10
+    returns-11
+    (λ c. search needs))

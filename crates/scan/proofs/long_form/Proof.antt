@@ -1,102 +1,53 @@
 -- `scan::long_form` meets its contract. Assumes nothing.
-use Rattle.scan.proofs.Wordlists.{like-tried, haspath-tried, contains-tried, record-tried, hastag-tried, gettag-tried, empty-tried}
+use mathlib.Core.Path.{refl, ap}
+use Rattle.sheet.specs.Ascii.{ascii}
+use Rattle.sheet.specs.Forms.{forms, tagOf}
+use Rattle.scan.proofs.Scans.{tried}
 use borrow.Author.Needs.{needs}
 use Rattle.scan.proofs.long_form.Statement.{statement}
 use Rattle.scan.proofs.long_form.Tie as tie
 
-slice-aggregate-same-bytes : tie.Need-slice-aggregate-same-bytes
-slice-aggregate-same-bytes c = search needs
-
-same-bytes-requires : tie.Need-same-bytes-requires
-same-bytes-requires c κs = search needs
-
 returns : tie.Need-returns
-returns c = search like-tried
-
-slice-aggregate-same-bytes-2 : tie.Need-slice-aggregate-same-bytes-2
-slice-aggregate-same-bytes-2 c = search needs
-
-same-bytes-requires-2 : tie.Need-same-bytes-requires-2
-same-bytes-requires-2 c κs = search needs
+unfolding tagOf forms
+returns c = ap (tagOf 11) (tried (c .before .before .before .before .args .name .now) (ascii "contains") _ (c .before .same-bytes .ensures) (c .if1 .taken))
 
 returns-2 : tie.Need-returns-2
-returns-2 c = search haspath-tried
-
-slice-aggregate-same-bytes-3 : tie.Need-slice-aggregate-same-bytes-3
-slice-aggregate-same-bytes-3 c = search needs
-
-same-bytes-requires-3 : tie.Need-same-bytes-requires-3
-same-bytes-requires-3 c κs = search needs
+unfolding tagOf forms
+returns-2 c = ap (tagOf 11) (c .before .word-of .ensures .only (ascii "gettag") refl (c .match .keys1))
 
 returns-3 : tie.Need-returns-3
-returns-3 c = search contains-tried
-
-slice-aggregate-same-bytes-4 : tie.Need-slice-aggregate-same-bytes-4
-slice-aggregate-same-bytes-4 c = search needs
-
-same-bytes-requires-4 : tie.Need-same-bytes-requires-4
-same-bytes-requires-4 c κs = search needs
+unfolding tagOf forms
+returns-3 c = ap (tagOf 11) (c .before .word-of .ensures .only (ascii "hastag") refl (c .match .keys2))
 
 returns-4 : tie.Need-returns-4
-returns-4 c = search record-tried
-
-slice-aggregate-same-bytes-5 : tie.Need-slice-aggregate-same-bytes-5
-slice-aggregate-same-bytes-5 c = search needs
-
-same-bytes-requires-5 : tie.Need-same-bytes-requires-5
-same-bytes-requires-5 c κs = search needs
+unfolding tagOf forms
+returns-4 c = ap (tagOf 11) (c .before .word-of .ensures .only (ascii "like") refl (c .match .keys3))
 
 returns-5 : tie.Need-returns-5
-returns-5 c = search hastag-tried
-
-slice-aggregate-same-bytes-6 : tie.Need-slice-aggregate-same-bytes-6
-slice-aggregate-same-bytes-6 c = search needs
-
-same-bytes-requires-6 : tie.Need-same-bytes-requires-6
-same-bytes-requires-6 c κs = search needs
+unfolding tagOf forms
+returns-5 c = ap (tagOf 11) (c .before .word-of .ensures .only (ascii "haspath") refl (c .match .keys4))
 
 returns-6 : tie.Need-returns-6
-returns-6 c = search gettag-tried
-
-slice-aggregate-same-bytes-7 : tie.Need-slice-aggregate-same-bytes-7
-slice-aggregate-same-bytes-7 c = search needs
-
-same-bytes-requires-7 : tie.Need-same-bytes-requires-7
-same-bytes-requires-7 c κs = search needs
+unfolding tagOf forms
+returns-6 c = ap (tagOf 11) (c .before .word-of .ensures .only (ascii "empty") refl (c .match .keys5))
 
 returns-7 : tie.Need-returns-7
-returns-7 c = search empty-tried
-
-listed-form-requires : tie.Need-listed-form-requires
-listed-form-requires c κs = search needs
-
-returns-8 : tie.Need-returns-8
-returns-8 c = search needs
+unfolding tagOf forms
+returns-7 c = ap (tagOf 11) (c .before .word-of .ensures .only (ascii "record") refl (c .match .keys6))
 
 pub long-form-spec : {M : Type 1} → statement M
 long-form-spec =
     tie.close
     (tie.spec
-    slice-aggregate-same-bytes
-    same-bytes-requires
+    (λ c. search needs)
+    (λ c κs. search needs)
     returns
-    slice-aggregate-same-bytes-2
-    same-bytes-requires-2
+    (λ c κs. search needs)
+    (λ c κs. search needs)
     returns-2
-    slice-aggregate-same-bytes-3
-    same-bytes-requires-3
     returns-3
-    slice-aggregate-same-bytes-4
-    same-bytes-requires-4
     returns-4
-    slice-aggregate-same-bytes-5
-    same-bytes-requires-5
     returns-5
-    slice-aggregate-same-bytes-6
-    same-bytes-requires-6
     returns-6
-    slice-aggregate-same-bytes-7
-    same-bytes-requires-7
     returns-7
-    listed-form-requires
-    returns-8)
+    (λ c. search needs))

@@ -1,126 +1,85 @@
 -- `scan::middle_form` meets its contract. Assumes nothing.
-use Rattle.scan.proofs.Wordlists.{lit-tried, var-tried, get-tried, and-tried, has-tried, not-tried, add-tried, sub-tried, mul-tried}
+use mathlib.Core.Path.{refl, ap}
+use Rattle.sheet.specs.Ascii.{ascii}
+use Rattle.sheet.specs.Forms.{forms, tagOf}
 use borrow.Author.Needs.{needs}
 use Rattle.scan.proofs.middle_form.Statement.{statement}
 use Rattle.scan.proofs.middle_form.Tie as tie
 
-slice-aggregate-same-bytes : tie.Need-slice-aggregate-same-bytes
-slice-aggregate-same-bytes c = search needs
-
-same-bytes-requires : tie.Need-same-bytes-requires
-same-bytes-requires c κs = search needs
-
 returns : tie.Need-returns
-returns c = search lit-tried
-
-slice-aggregate-same-bytes-2 : tie.Need-slice-aggregate-same-bytes-2
-slice-aggregate-same-bytes-2 c = search needs
-
-same-bytes-requires-2 : tie.Need-same-bytes-requires-2
-same-bytes-requires-2 c κs = search needs
+unfolding tagOf forms
+returns c = ap (tagOf 11) (c .before .word-of .ensures .only (ascii "lit") refl (c .match .keys1))
 
 returns-2 : tie.Need-returns-2
-returns-2 c = search var-tried
-
-slice-aggregate-same-bytes-3 : tie.Need-slice-aggregate-same-bytes-3
-slice-aggregate-same-bytes-3 c = search needs
-
-same-bytes-requires-3 : tie.Need-same-bytes-requires-3
-same-bytes-requires-3 c κs = search needs
+unfolding tagOf forms
+returns-2 c = ap (tagOf 11) (c .before .word-of .ensures .only (ascii "err") refl (c .match .keys2))
 
 returns-3 : tie.Need-returns-3
-returns-3 c = search get-tried
-
-slice-aggregate-same-bytes-4 : tie.Need-slice-aggregate-same-bytes-4
-slice-aggregate-same-bytes-4 c = search needs
-
-same-bytes-requires-4 : tie.Need-same-bytes-requires-4
-same-bytes-requires-4 c κs = search needs
+unfolding tagOf forms
+returns-3 c = ap (tagOf 11) (c .before .word-of .ensures .only (ascii "var") refl (c .match .keys3))
 
 returns-4 : tie.Need-returns-4
-returns-4 c = search and-tried
-
-slice-aggregate-same-bytes-5 : tie.Need-slice-aggregate-same-bytes-5
-slice-aggregate-same-bytes-5 c = search needs
-
-same-bytes-requires-5 : tie.Need-same-bytes-requires-5
-same-bytes-requires-5 c κs = search needs
+unfolding tagOf forms
+returns-4 c = ap (tagOf 11) (c .before .word-of .ensures .only (ascii "and") refl (c .match .keys4))
 
 returns-5 : tie.Need-returns-5
-returns-5 c = search has-tried
-
-slice-aggregate-same-bytes-6 : tie.Need-slice-aggregate-same-bytes-6
-slice-aggregate-same-bytes-6 c = search needs
-
-same-bytes-requires-6 : tie.Need-same-bytes-requires-6
-same-bytes-requires-6 c κs = search needs
+unfolding tagOf forms
+returns-5 c = ap (tagOf 11) (c .before .word-of .ensures .only (ascii "add") refl (c .match .keys5))
 
 returns-6 : tie.Need-returns-6
-returns-6 c = search not-tried
-
-slice-aggregate-same-bytes-7 : tie.Need-slice-aggregate-same-bytes-7
-slice-aggregate-same-bytes-7 c = search needs
-
-same-bytes-requires-7 : tie.Need-same-bytes-requires-7
-same-bytes-requires-7 c κs = search needs
+unfolding tagOf forms
+returns-6 c = ap (tagOf 11) (c .before .word-of .ensures .only (ascii "sub") refl (c .match .keys6))
 
 returns-7 : tie.Need-returns-7
-returns-7 c = search add-tried
-
-slice-aggregate-same-bytes-8 : tie.Need-slice-aggregate-same-bytes-8
-slice-aggregate-same-bytes-8 c = search needs
-
-same-bytes-requires-8 : tie.Need-same-bytes-requires-8
-same-bytes-requires-8 c κs = search needs
+unfolding tagOf forms
+returns-7 c = ap (tagOf 11) (c .before .word-of .ensures .only (ascii "mul") refl (c .match .keys7))
 
 returns-8 : tie.Need-returns-8
-returns-8 c = search sub-tried
-
-slice-aggregate-same-bytes-9 : tie.Need-slice-aggregate-same-bytes-9
-slice-aggregate-same-bytes-9 c = search needs
-
-same-bytes-requires-9 : tie.Need-same-bytes-requires-9
-same-bytes-requires-9 c κs = search needs
+unfolding tagOf forms
+returns-8 c = ap (tagOf 11) (c .before .word-of .ensures .only (ascii "all") refl (c .match .keys8))
 
 returns-9 : tie.Need-returns-9
-returns-9 c = search mul-tried
-
-listed-form-requires : tie.Need-listed-form-requires
-listed-form-requires c κs = search needs
+unfolding tagOf forms
+returns-9 c = ap (tagOf 11) (c .before .word-of .ensures .only (ascii "any") refl (c .match .keys9))
 
 returns-10 : tie.Need-returns-10
-returns-10 c = search needs
+unfolding tagOf forms
+returns-10 c = ap (tagOf 11) (c .before .word-of .ensures .only (ascii "get") refl (c .match .keys10))
+
+returns-11 : tie.Need-returns-11
+unfolding tagOf forms
+returns-11 c = ap (tagOf 11) (c .before .word-of .ensures .only (ascii "has") refl (c .match .keys11))
+
+returns-12 : tie.Need-returns-12
+unfolding tagOf forms
+returns-12 c = ap (tagOf 11) (c .before .word-of .ensures .only (ascii "not") refl (c .match .keys12))
+
+returns-13 : tie.Need-returns-13
+unfolding tagOf forms
+returns-13 c = ap (tagOf 11) (c .before .word-of .ensures .only (ascii "neg") refl (c .match .keys13))
+
+returns-14 : tie.Need-returns-14
+unfolding tagOf forms
+returns-14 c = ap (tagOf 11) (c .before .word-of .ensures .only (ascii "set") refl (c .match .keys14))
 
 pub middle-form-spec : {M : Type 1} → statement M
 middle-form-spec =
     tie.close
     (tie.spec
-    slice-aggregate-same-bytes
-    same-bytes-requires
+    (λ c κs. search needs)
+    (λ c κs. search needs)
     returns
-    slice-aggregate-same-bytes-2
-    same-bytes-requires-2
     returns-2
-    slice-aggregate-same-bytes-3
-    same-bytes-requires-3
     returns-3
-    slice-aggregate-same-bytes-4
-    same-bytes-requires-4
     returns-4
-    slice-aggregate-same-bytes-5
-    same-bytes-requires-5
     returns-5
-    slice-aggregate-same-bytes-6
-    same-bytes-requires-6
     returns-6
-    slice-aggregate-same-bytes-7
-    same-bytes-requires-7
     returns-7
-    slice-aggregate-same-bytes-8
-    same-bytes-requires-8
     returns-8
-    slice-aggregate-same-bytes-9
-    same-bytes-requires-9
     returns-9
-    listed-form-requires
-    returns-10)
+    returns-10
+    returns-11
+    returns-12
+    returns-13
+    returns-14
+    (λ c. search needs))

@@ -1,46 +1,73 @@
 -- `scan::Cursor::next_line` meets its contract. Assumes nothing.
-use Rattle.scan.proofs.Readings.{line-read}
-use Rattle.words.proofs.Stores.{length-part}
-use Rattle.words.specs.Log.{part}
-use mathlib.Core.Path.{sym, _∙_}
+use mathlib.Core.Path.{refl}
 use native.Mathlib.Omega.{arith}
-use Rattle.scan.proofs.Lines.{line-unended, line-end, line-entry, line-malformed, heading-in}
+use Rattle.scan.proofs.Readings.{line-read}
+use Rattle.scan.proofs.Starts.{line-over, line-unkeyed, line-room, line-inside, line-unclosed, line-broken, line-found}
 use borrow.Author.Needs.{needs}
 use Rattle.scan.proofs.Cursor.next_line.Statement.{statement}
 use Rattle.scan.proofs.Cursor.next_line.Tie as tie
 
 returns : tie.Need-returns
-returns c = line-read _ _ _ (search (line-unended, needs))
+returns c = line-read _ _ _ (search (line-over, needs))
 
 returns-2 : tie.Need-returns-2
-returns-2 c = line-read _ _ _ (search (line-end, needs))
+returns-2 c = line-read _ _ _ (search (line-unkeyed, needs))
 
-add-t17 : tie.Need-add-t17
-add-t17 c = let h = c .before in let g = h .before .before in let f = g .before .before .before in let a = f .before .before .args in
-    let s = a .sheet .now in let e = f .find .result in
-    omega (arith, heading-in (part s (a .self .at) e) (h .h .given .0 .0) (h .h .given .0 .1 .0) (sym (h .h .given .1) ∙ g .heading-of .ensures) .1, length-part s (a .self .at) e (omega arith))
+add-v : tie.Need-add-v
+add-v c = let a = c .before .before .before .before .before .before .before .args in let r = c .before .before .before .before .rest .result .now in let g = c .before .before .before .key-at in let k = c .before .key .given in omega (arith, (line-room (a .sheet .now) (a .self) (c .before .before .before .before .before .if1 .left) r (c .before .before .before .before .rest .ensures) (g .result) (g .ensures) (k .0 .0) (k .0 .1 .0) (k .1)) .0)
+
+sub-v : tie.Need-sub-v
+sub-v c = let a = c .before .before .before .before .before .before .before .args in let r = c .before .before .before .before .rest .result .now in let g = c .before .before .before .key-at in let k = c .before .key .given in omega (arith, (line-room (a .sheet .now) (a .self) (c .before .before .before .before .before .if1 .left) r (c .before .before .before .before .rest .ensures) (g .result) (g .ensures) (k .0 .0) (k .0 .1 .0) (k .1)) .0)
+
+part-v-start : tie.Need-part-v-start
+part-v-start c = let a = c .before .before .before .before .before .before .before .args in let r = c .before .before .before .before .rest .result .now in let g = c .before .before .before .key-at in let k = c .before .key .given in omega (arith, (line-room (a .sheet .now) (a .self) (c .before .before .before .before .before .if1 .left) r (c .before .before .before .before .rest .ensures) (g .result) (g .ensures) (k .0 .0) (k .0 .1 .0) (k .1)) .0)
 
 returns-3 : tie.Need-returns-3
-returns-3 c = line-read _ _ _ (search (line-entry, needs))
+returns-3 c = let a = c .before .before .before .before .before .before .before .before .before .before .args in let r = c .before .before .before .before .before .before .before .rest .result .now in let g = c .before .before .before .before .before .before .key-at in let k = c .before .before .before .before .key .given in let p = c .before .printable-end in line-read _ _ _ (line-unclosed (a .sheet .now) (a .self) (c .before .before .before .before .before .before .before .before .if1 .left) r (c .before .before .before .before .before .before .before .rest .ensures) (g .result) (g .ensures) (k .0 .0) (k .0 .1 .0) (k .1) _ refl (p .result) (p .ensures) (c .if2 .taken))
 
 returns-4 : tie.Need-returns-4
-returns-4 c = line-read _ _ _ (search (line-malformed, needs))
+returns-4 c = let a = c .before .before .before .before .before .before .before .before .before .before .before .before .args in let r = c .before .before .before .before .before .before .before .before .before .rest .result .now in let g = c .before .before .before .before .before .before .before .before .key-at in let k = c .before .before .before .before .before .before .key .given in let p = c .before .before .before .printable-end in line-read _ _ _ (line-broken (a .sheet .now) (a .self) (c .before .before .before .before .before .before .before .before .before .before .if1 .left) r (c .before .before .before .before .before .before .before .before .before .rest .ensures) (g .result) (g .ensures) (k .0 .0) (k .0 .1 .0) (k .1) _ refl (p .result) (p .ensures) (c .if3 .taken))
+
+add-end : tie.Need-add-end
+add-end c = let a = c .before .before .before .before .before .before .before .before .before .before .before .before .args in let r = c .before .before .before .before .before .before .before .before .before .rest .result .now in let g = c .before .before .before .before .before .before .before .before .key-at in let k = c .before .before .before .before .before .before .key .given in let p = c .before .before .before .printable-end in omega (arith, line-inside (a .sheet .now) (a .self) (c .before .before .before .before .before .before .before .before .before .before .if1 .left) r (c .before .before .before .before .before .before .before .before .before .rest .ensures) (g .result) (g .ensures) (k .0 .0) (k .0 .1 .0) (k .1) _ refl (p .result) (p .ensures) (c .before .before .if2 .left))
+
+add-end-2 : tie.Need-add-end-2
+add-end-2 c = let a = c .before .before .before .before .before .before .before .before .before .before .before .before .args in let r = c .before .before .before .before .before .before .before .before .before .rest .result .now in let g = c .before .before .before .before .before .before .before .before .key-at in let k = c .before .before .before .before .before .before .key .given in let p = c .before .before .before .printable-end in omega (arith, line-inside (a .sheet .now) (a .self) (c .before .before .before .before .before .before .before .before .before .before .if1 .left) r (c .before .before .before .before .before .before .before .before .before .rest .ensures) (g .result) (g .ensures) (k .0 .0) (k .0 .1 .0) (k .1) _ refl (p .result) (p .ensures) (c .before .before .if2 .left))
+
+add-end-3 : tie.Need-add-end-3
+add-end-3 c = let a = c .before .before .before .before .before .before .before .before .before .before .before .before .args in let r = c .before .before .before .before .before .before .before .before .before .rest .result .now in let g = c .before .before .before .before .before .before .before .before .key-at in let k = c .before .before .before .before .before .before .key .given in let p = c .before .before .before .printable-end in omega (arith, line-inside (a .sheet .now) (a .self) (c .before .before .before .before .before .before .before .before .before .before .if1 .left) r (c .before .before .before .before .before .before .before .before .before .rest .ensures) (g .result) (g .ensures) (k .0 .0) (k .0 .1 .0) (k .1) _ refl (p .result) (p .ensures) (c .before .before .if2 .left))
+
+add-t15 : tie.Need-add-t15
+add-t15 c = let a = c .before .before .before .before .before .before .before .before .before .before .before .before .args in let r = c .before .before .before .before .before .before .before .before .before .rest .result .now in let g = c .before .before .before .before .before .before .before .before .key-at in let k = c .before .before .before .before .before .before .key .given in let p = c .before .before .before .printable-end in omega (arith, line-inside (a .sheet .now) (a .self) (c .before .before .before .before .before .before .before .before .before .before .if1 .left) r (c .before .before .before .before .before .before .before .before .before .rest .ensures) (g .result) (g .ensures) (k .0 .0) (k .0 .1 .0) (k .1) _ refl (p .result) (p .ensures) (c .before .before .if2 .left))
+
+add-t20 : tie.Need-add-t20
+add-t20 c = let a = c .before .before .before .before .before .before .before .before .before .before .before .before .before .args in let r = c .before .before .before .before .before .before .before .before .before .before .rest .result .now in let g = c .before .before .before .before .before .before .before .before .before .key-at in let k = c .before .before .before .before .before .before .before .key .given in let p = c .before .before .before .before .printable-end in omega (arith, line-inside (a .sheet .now) (a .self) (c .before .before .before .before .before .before .before .before .before .before .before .if1 .left) r (c .before .before .before .before .before .before .before .before .before .before .rest .ensures) (g .result) (g .ensures) (k .0 .0) (k .0 .1 .0) (k .1) _ refl (p .result) (p .ensures) (c .before .before .before .if2 .left))
+
+returns-5 : tie.Need-returns-5
+returns-5 c = let a = c .before .before .before .before .before .before .before .before .before .before .before .before .before .args in let r = c .before .before .before .before .before .before .before .before .before .before .rest .result .now in let g = c .before .before .before .before .before .before .before .before .before .key-at in let k = c .before .before .before .before .before .before .before .key .given in let p = c .before .before .before .before .printable-end in line-read _ _ _ (line-found (a .sheet .now) (a .self) (c .before .before .before .before .before .before .before .before .before .before .before .if1 .left) r (c .before .before .before .before .before .before .before .before .before .before .rest .ensures) (g .result) (g .ensures) (k .0 .0) (k .0 .1 .0) (k .1) _ refl (p .result) (p .ensures) (c .before .if3 .left) _ (c .line-after .ensures))
 
 pub next-line-spec : {M : Type 1} → statement M
 next-line-spec =
     tie.close
     (tie.spec
-    (λ c κs. search needs)
     returns
+    (λ c κs. search needs)
+    (λ c κs. search needs)
+    (λ c. search needs)
+    (λ c. search needs)
     returns-2
-    (λ c. search needs)
-    (λ c. search needs)
+    add-v
+    sub-v
+    part-v-start
     (λ c. search needs)
     (λ c κs. search needs)
-    (λ c. search needs)
-    add-t17
-    (λ c κs. search needs)
-    (λ c. search needs)
-    (λ c. search needs)
     returns-3
-    returns-4)
+    (λ c. search needs)
+    returns-4
+    add-end
+    add-end-2
+    add-end-3
+    add-t15
+    (λ c κs. search needs)
+    add-t20
+    returns-5)

@@ -1,27 +1,27 @@
 -- `strict::entity::find_entity` meets its contract. Assumes nothing.
 use Prim.Native.Nat.{_-_}
-use Rattle.strict.proofs.Finds.{Seeking, seek-start, seek-end, seek-hit, seek-on}
+use Rattle.strict.proofs.Finds.{Walking, walk-start, walk-end, walk-hit, walk-on}
 use borrow.Author.Needs.{needs}
 use Rattle.strict.proofs.entity.find_entity.Statement.{statement}
 use Rattle.strict.proofs.entity.find_entity.Tie as tie
 
 abbrev Inv-loop : tie.InvT-loop
-Inv-loop a k t n i₀ i = Seeking a k t n i
+Inv-loop a k t n b s₀ i₀ s i = Walking a k t n i s
 
 abbrev μ-loop : tie.MeasureT-loop
-μ-loop a k t n i₀ i = n - i
+μ-loop a k t n b s₀ i₀ s i = n - i
 
 loop-holds : tie.Need-loop-holds Inv-loop μ-loop
-loop-holds c = search (seek-start, needs)
+loop-holds c = search (walk-start, needs)
 
 loop-again : tie.Need-loop-again Inv-loop μ-loop
-loop-again c = search (seek-on, needs)
+loop-again c = search (walk-on, needs)
 
 returns : tie.Need-returns Inv-loop μ-loop
-returns c = search (seek-end, needs)
+returns c = search (walk-end, needs)
 
 returns-2 : tie.Need-returns-2 Inv-loop μ-loop
-returns-2 c = search (seek-hit, needs)
+returns-2 c = search (walk-hit, needs)
 
 pub find-entity-spec : {M : Type 1} → statement M
 find-entity-spec =
@@ -30,8 +30,15 @@ find-entity-spec =
     Inv-loop
     μ-loop
     (λ c κs. search needs)
-    loop-holds
     (λ c κs. search needs)
+    (λ c κs. search needs)
+    (λ c. search needs)
+    loop-holds
+    (λ c. search needs)
+    (λ c. search needs)
+    (λ c. search needs)
+    (λ c κs. search needs)
+    (λ c. search needs)
     (λ c κs. search needs)
     (λ c κs. search needs)
     (λ c. search needs)

@@ -1,47 +1,29 @@
 -- `value::making::ascending` meets its contract. Assumes nothing.
+use mathlib.Core.Path.{ap}
+use native.Mathlib.Omega.{arith}
 use lib.ListN.{length}
-use Rattle.cedar.specs.Making.{sortN}
-use Rattle.words.specs.Log.{part}
-use Rattle.value.specs.Made.{valuesIn}
-use Rattle.value.proofs.Sorting.{fromN}
-use Rattle.value.proofs.Fills.{Filling, fill-start, fill-end, fill-less, fill-on}
 use borrow.Author.Needs.{needs}
 use Rattle.value.proofs.making.ascending.Statement.{statement}
 use Rattle.value.proofs.making.ascending.Tie as tie
 
-abbrev Inv-loop : tie.InvT-loop
-Inv-loop b₀ at start bt p₀ lo₀ b p lo = Filling b₀ at start bt b p lo
-
-abbrev μ-loop : tie.MeasureT-loop
-μ-loop b₀ at start bt p₀ lo₀ b p lo = length (fromN lo (sortN (valuesIn (part b₀ start bt))))
-
-loop-holds : tie.Need-loop-holds Inv-loop μ-loop
-loop-holds c = search (fill-start, needs)
-
-loop-less : tie.Need-loop-less Inv-loop μ-loop
-loop-less c = search (fill-less, needs)
-
-loop-again : tie.Need-loop-again Inv-loop μ-loop
-loop-again c = search (fill-on, needs)
-
-returns : tie.Need-returns Inv-loop μ-loop
-returns c = search (fill-end, needs)
+inserted-requires : tie.Need-inserted-requires
+inserted-requires c κs =
+    let k = c .before .before .before in
+    let s = k .before .before .before in
+    (s .pre .0, (s .pre .1, omega (arith, ap length (k .cut .ensures))))
 
 pub ascending-spec : {M : Type 1} → statement M
 ascending-spec =
     tie.close
     (tie.spec
-    Inv-loop
-    μ-loop
-    loop-holds
     (λ c κs. search needs)
     (λ c κs. search needs)
+    (λ c. search needs)
     (λ c. search needs)
     (λ c. search needs)
     (λ c κs. search needs)
     (λ c. search needs)
     (λ c. search needs)
-    loop-less
-    loop-again
+    inserted-requires
     (λ c. search needs)
-    returns)
+    (λ c. search needs))

@@ -1,41 +1,30 @@
 -- `value::making::find` meets its contract. Assumes nothing.
-use Prim.Native.Nat.{_-_}
-use Rattle.value.specs.Lines.{valueLines}
-use Rattle.value.proofs.Makes.{Finding, find-start, find-end, find-hit, find-on}
+use Rattle.value.proofs.Makes.{found-most, find-given, find-made}
+use native.Mathlib.Omega.{arith}
 use borrow.Author.Needs.{needs}
 use Rattle.value.proofs.making.find.Statement.{statement}
 use Rattle.value.proofs.making.find.Tie as tie
 
-abbrev Inv-loop : tie.InvT-loop
-Inv-loop a r n i₀ i = Finding r (valueLines a) n i
+returns : tie.Need-returns
+returns c = search (find-given, needs)
 
-abbrev μ-loop : tie.MeasureT-loop
-μ-loop a r n i₀ i = n - i
+add-result : tie.Need-add-result
+add-result c =
+    let k = c .before .before .before .before in
+    let s = k .before .before in
+    omega (arith, found-most (s .args .r .now) (s .args .a .now) 13 (c .find-in2 .result) (c .find-in2 .ensures), k .before .shared-slice-known .given 13)
 
-loop-holds : tie.Need-loop-holds Inv-loop μ-loop
-loop-holds c = search (find-start, needs)
-
-loop-again : tie.Need-loop-again Inv-loop μ-loop
-loop-again c = search (find-on, needs)
-
-returns : tie.Need-returns Inv-loop μ-loop
-returns c = search (find-end, needs)
-
-returns-2 : tie.Need-returns-2 Inv-loop μ-loop
-returns-2 c = search (find-hit, needs)
+returns-2 : tie.Need-returns-2
+returns-2 c = search (find-made, needs)
 
 pub find-spec : {M : Type 1} → statement M
 find-spec =
     tie.close
     (tie.spec
-    Inv-loop
-    μ-loop
-    (λ c κs. search needs)
-    loop-holds
-    (λ c κs. search needs)
     (λ c κs. search needs)
     (λ c. search needs)
-    (λ c. search needs)
-    loop-again
+    (λ c κs. search needs)
     returns
+    (λ c κs. search needs)
+    add-result
     returns-2)

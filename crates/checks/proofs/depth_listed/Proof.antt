@@ -1,0 +1,51 @@
+-- `checks::depth_listed` meets its contract. Assumes nothing.
+use Rattle.checks.proofs.DepthLaws.{Walk, walk-start, walk-off, walk-on, walk-end}
+use Prim.Native.Nat.{_-_}
+use lib.ListN.{length}
+use borrow.Author.Needs.{needs}
+use Rattle.checks.proofs.depth_listed.Statement.{statement}
+use Rattle.checks.proofs.depth_listed.Tie as tie
+
+abbrev Inv-loop : tie.InvT-loop
+Inv-loop a b k r t again w₀ d₀ j₀ w d j = Walk a b k r w d j
+
+abbrev μ-loop : tie.MeasureT-loop
+μ-loop a b k r t again w₀ d₀ j₀ w d j = length r - j
+
+loop-holds : tie.Need-loop-holds Inv-loop μ-loop
+loop-holds c = search (walk-start, needs)
+
+returns : tie.Need-returns Inv-loop μ-loop
+returns c = search (walk-off, needs)
+
+loop-again : tie.Need-loop-again Inv-loop μ-loop
+loop-again c = search (walk-on, needs)
+
+returns-2 : tie.Need-returns-2 Inv-loop μ-loop
+returns-2 c = search (walk-end, needs)
+
+pub depth-listed-spec : {M : Type 1} → statement M
+depth-listed-spec =
+    tie.close
+    (tie.spec
+    Inv-loop
+    μ-loop
+    (λ c κs. search needs)
+    (λ c κs. search needs)
+    (λ c κs. search needs)
+    loop-holds
+    (λ c. search needs)
+    (λ c. search needs)
+    (λ c. search needs)
+    (λ c κs. search needs)
+    (λ c κs. search needs)
+    returns
+    (λ c κs. search needs)
+    (λ c κs. search needs)
+    (λ c κs. search needs)
+    (λ c. search needs)
+    (λ c. search needs)
+    loop-again
+    (λ c. search needs)
+    (λ c. search needs)
+    returns-2)

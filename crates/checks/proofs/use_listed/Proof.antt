@@ -1,0 +1,49 @@
+-- `checks::use_listed` meets its contract. Assumes nothing.
+use Rattle.checks.proofs.UseLaws.{Marking, marking-start, marking-twice, marking-on, marking-end}
+use Prim.Native.Nat.{_-_}
+use lib.ListN.{length}
+use borrow.Author.Needs.{needs}
+use Rattle.checks.proofs.use_listed.Statement.{statement}
+use Rattle.checks.proofs.use_listed.Tie as tie
+
+abbrev Inv-loop : tie.InvT-loop
+Inv-loop a b₀ r t again w₀ j₀ b w j = Marking a b₀ r b w j
+
+abbrev μ-loop : tie.MeasureT-loop
+μ-loop a b₀ r t again w₀ j₀ b w j = length r - j
+
+loop-holds : tie.Need-loop-holds Inv-loop μ-loop
+loop-holds c = search (marking-start, needs)
+
+returns : tie.Need-returns Inv-loop μ-loop
+returns c = search (marking-twice, needs)
+
+loop-again : tie.Need-loop-again Inv-loop μ-loop
+loop-again c = search (marking-on, needs)
+
+returns-2 : tie.Need-returns-2 Inv-loop μ-loop
+returns-2 c = search (marking-end, needs)
+
+pub use-listed-spec : {M : Type 1} → statement M
+use-listed-spec =
+    tie.close
+    (tie.spec
+    Inv-loop
+    μ-loop
+    (λ c κs. search needs)
+    (λ c κs. search needs)
+    (λ c κs. search needs)
+    loop-holds
+    (λ c. search needs)
+    (λ c. search needs)
+    (λ c. search needs)
+    (λ c κs. search needs)
+    (λ c κs. search needs)
+    (λ c. search needs)
+    returns
+    (λ c κs. search needs)
+    (λ c. search needs)
+    (λ c. search needs)
+    loop-again
+    (λ c. search needs)
+    returns-2)
