@@ -1,85 +1,36 @@
 -- The whole depth is enough in every state that is read: types refer downwards, and none is deeper than 64. Assumes nothing.
-use mathlib.Core.Path.{_≡_, refl, sym, ap, ap₂, subst, _∙_}
-use mathlib.Core.Bool.{Bool, true, false, cond, _&&_}
+use mathlib.Core.Path.{_≡_, refl, sym, ap, subst, _∙_}
+use mathlib.Core.Bool.{Bool, true, false, _&&_}
 use mathlib.Core.List.{List, [], _∷_, _++_}
 use mathlib.Core.Option.{Option, none, some}
-use Prim.Native.Nat.{ℕ, zero, suc, _+_, _-_, _%_, _≤_, _<_}
+use Prim.Native.Nat.{ℕ, zero, suc, _+_, _-_, _≤_, _<_}
 use native.Mathlib.Omega.{arith}
 use native.Mathlib.Decide.{ℕ-discrete, decLt}
-use borrow.Author.Tests.{le-ltb, ltb-true, ltb-false}
+use borrow.Author.Tests.{ltb-true, ltb-false}
 use lib.Dec.{eqb}
 use lib.ListN.{length, getD, set, length-append, List·getD-append, List·getD-eq-default}
 use lib.Seq.{getD-set-same, getD-set-other, getD-append-seam, getD-drop}
 use Rattle.cedar.proofs.Tools.{no-true}
-use Rattle.cedar.specs.Value.{onSome}
-use Rattle.cedar.specs.Rows.{Entries, stop, entry, Row, rbool, rlong, rtext, rent, rset, rrec}
-use Rattle.cedar.specs.Numbered.{pickN, entryOf, isSome}
-use Rattle.sheet.specs.Forms.{Mode, Slot, line, word, nothing, forms, formOf, slotAt, counted, itemsFrom, tag, items, rowOf, keyOf, ascendings, refsFrom, refs, isLine, keep, TYPE}
-use Rattle.sheet.specs.State.{State, linesOf, count, depthsOf, Declared, TypeRow, bool, long, string, entity, set′, record′, declareds, typeRow, valueRow}
-use Rattle.sheet.specs.Typing.{declaredIn, requiredThere, allIn, allEntries, rowFits, fitsBy, fitsIn}
+use Rattle.cedar.specs.Numbered.{pickN}
+use Rattle.sheet.specs.Forms.{Mode, Slot, line, nothing, forms, formOf, slotAt, tag, items, rowOf, keyOf, ascendings, refsFrom, refs, isLine, keep, TYPE}
+use Rattle.sheet.specs.State.{State, linesOf, count, depthsOf, bool, long, string, entity, set′, record′, declareds, typeRow, valueRow}
+use Rattle.sheet.specs.Typing.{declaredIn, fitsBy, fitsIn}
 use Rattle.sheet.specs.Sheet.{thereIs, allThere, ascend, fresh, found, deepest, depth, fault, more}
 use Rattle.sheet.proofs.Lines.{and-both, Passed, passed}
-use Rattle.sheet.proofs.Parsed.{parsed, counted-plain}
 use mathlib.Core.Logic.{_⊎_, inl, inr, ⊎-elim}
-use Rattle.sheet.proofs.ValueRows.{items-length, isNumber, some-is}
+use Rattle.sheet.proofs.ValueRows.{some-is}
+use Rattle.sheet.proofs.Fitting.{attr-slots, set-size}
+use Rattle.sheet.proofs.Shallow.{Part, row-more, set-part, attr-part}
 use Rattle.fits.specs.Fit.{Settled}
 
--- ---- the parts of a type
-
-pub data Part : TypeRow → ℕ → Type 0 where
-  elem : {y : ℕ} → Part (set′ y) y
-  attr : {ds : List Declared} {y : ℕ} (t : ℕ) → declaredIn t ds ≡ some y → Part (record′ ds) y
-
-part-set : {w y : ℕ} → Part (set′ w) y → w ≡ y
-part-set elem = refl
-
-part-record : {X : Type 0} {ds : List Declared} {y : ℕ} → Part (record′ ds) y → ((t : ℕ) → declaredIn t ds ≡ some y → X) → X
-part-record (attr t i) h = h t i
-
--- ---- what fits by f fits by g, where f's answers for the type's own parts are g's
-
-module _ (f g : ℕ → ℕ → Bool) where
-  all-mono : (y : ℕ) (l : List ℕ) → ((x : ℕ) → f x y ≡ true → g x y ≡ true) → allIn (λ x. f x y) l ≡ true → allIn (λ x. g x y) l ≡ true
-  all-mono y [] h e = refl
-  all-mono y (x ∷ l) h e = and-both (f x y) (allIn (λ x. f x y) l) e (λ p q. rw (h x p, all-mono y l h q))
-
-  some-mono : (o : Option ℕ) (x : ℕ) → ((y : ℕ) → o ≡ some y → f x y ≡ true → g x y ≡ true) → onSome false o (f x) ≡ true → onSome false o (g x) ≡ true
-  some-mono none x h e = e
-  some-mono (some y) x h e = h y refl e
-
-  entries-mono : (ds : List Declared) (e : Entries) → ((t x y : ℕ) → declaredIn t ds ≡ some y → f x y ≡ true → g x y ≡ true)
-      → allEntries (λ t x. onSome false (declaredIn t ds) (f x)) e ≡ true → allEntries (λ t x. onSome false (declaredIn t ds) (g x)) e ≡ true
-  entries-mono ds stop h q = refl
-  entries-mono ds (entry t x e) h q =
-      and-both (onSome false (declaredIn t ds) (f x)) (allEntries (λ t x. onSome false (declaredIn t ds) (f x)) e) q
-      (λ p r. rw (some-mono (declaredIn t ds) x (λ y i. h t x y i) p, entries-mono ds e h r))
-
-  row-mono : (r : Row) (T : TypeRow) → ((x y : ℕ) → Part T y → f x y ≡ true → g x y ≡ true) → rowFits f r T ≡ true → rowFits g r T ≡ true
-  row-mono r bool h e = e
-  row-mono r long h e = e
-  row-mono r string h e = e
-  row-mono r (entity k) h e = e
-  row-mono (rbool b) (set′ y) h e = e
-  row-mono (rlong n) (set′ y) h e = e
-  row-mono (rtext t) (set′ y) h e = e
-  row-mono (rent k t) (set′ y) h e = e
-  row-mono (rset l) (set′ y) h e = all-mono y l (λ x. h x y elem) e
-  row-mono (rrec d) (set′ y) h e = e
-  row-mono (rbool b) (record′ ds) h e = e
-  row-mono (rlong n) (record′ ds) h e = e
-  row-mono (rtext t) (record′ ds) h e = e
-  row-mono (rent k t) (record′ ds) h e = e
-  row-mono (rset l) (record′ ds) h e = e
-  row-mono (rrec d) (record′ ds) h e =
-      and-both (requiredThere ds (λ t. isSome (entryOf t d))) (allEntries (λ t x. onSome false (declaredIn t ds) (f x)) d) e
-      (λ p q. rw (p, entries-mono ds d (λ t x y i. h x y (attr t i)) q))
+-- ---- what fits at some depth fits at the whole
 
 module _ (values types : List (List ℕ)) (depth : ℕ → ℕ) (falls : (t y : ℕ) → Part (typeRow (getD types t [])) y → depth y < depth t) where
   enough : (n m v t : ℕ) → depth t < m → fitsBy values types n v t ≡ true → fitsBy values types m v t ≡ true
   enough zero m v t l e = no-true e
   enough (suc n) zero v t l e = absurd (omega arith)
   enough (suc n) (suc m) v t l e =
-      row-mono (fitsBy values types n) (fitsBy values types m) (valueRow (getD values v [])) (typeRow (getD types t []))
+      row-more (fitsBy values types n) (fitsBy values types m) (valueRow (getD values v [])) (typeRow (getD types t []))
       (λ x y p q. enough n m x y (omega (arith, falls t y p)) q) e
 
   settled : ((t : ℕ) → depth t < 64) → Settled values types
@@ -100,23 +51,6 @@ settled-in s values f =
     (λ t y p. omega (arith, f .falls t y p .0, f .falls t y p .1)) (λ t. omega (arith, f .low t))
 
 -- ---- a type's parts are among the lines that it refers to
-
-attr-slots : (i : ℕ) → slotAt 8 (suc (suc (i + i + i))) ≡ line 3
-unfolding slotAt formOf forms
-attr-slots i = let d : (suc (suc (i + i + i)) - 0) % 3 ≡ 2 = omega arith in
-    ap₂ (λ b d. cond b nothing (getD (line 1 ∷ word ("o" ∷ "r" ∷ []) ∷ line 3 ∷ []) d nothing)) (le-ltb (suc (suc (i + i + i))) 0 (omega arith)) d
-
-set-slot : (j : ℕ) → isNumber (slotAt 7 j) ≡ false
-unfolding isNumber slotAt formOf forms
-set-slot zero = refl
-set-slot (suc j) = rw (le-ltb (suc j) 1 (omega arith)) refl
-
-set-size : (m : Mode) (r l : List ℕ) → r ≡ rowOf m l → tag r ≡ 7 → length (items r) ≡ 1
-unfolding counted formOf forms
-set-size m r l e k = parsed m r (λ q. let z : 50 ≡ 7 = sym (ap tag q) ∙ k in absurd (omega (arith, z))) (λ v q. let z : 1 ≡ 7 = sym (ap tag q) ∙ k in absurd (omega (arith, z)))
-    (λ t fs l c i q. let z : t ≡ 7 = sym (ap tag q) ∙ k in
-    ap (λ x. length (items x)) q ∙ items-length m 7 set-slot 0 fs (subst (λ x. itemsFrom m x 0 fs ≡ some l) z i) ∙ counted-plain (formOf 7) (length fs) refl (subst (λ x. counted x (length fs) ≡ true) z c))
-    l e
 
 no-some : {X : Type 0} {y : ℕ} → none ≡ some y → X
 no-some e = let z : _≡_ {A = ℕ} 0 1 = cc in absurd (omega arith)
@@ -183,11 +117,11 @@ module _ (s : State) where
         go (suc (suc (suc (suc zero)))) q p = of-set (omega (arith, q)) p
           where
             of-set : tag r ≡ 7 → Part (set′ (getD r 1 0)) y → (y < count s 3) × (at-depth y ≤ deepest s 3 (refsFrom 3 (tag r) 0 (items r)))
-            of-set k p = rw (k, ← (part-set p), ← (getD-drop 1 r 0 0)) (set-in 0 (items r) k refl)
+            of-set k p = rw (k, ← (set-part p), ← (getD-drop 1 r 0 0)) (set-in 0 (items r) k refl)
         go (suc (suc (suc (suc (suc zero))))) q p = of-record (omega (arith, q)) p
           where
             of-record : tag r ≡ 8 → Part (record′ (declareds (items r))) y → (y < count s 3) × (at-depth y ≤ deepest s 3 (refsFrom 3 (tag r) 0 (items r)))
-            of-record k p = part-record p (λ t i. rw k (attr-in 0 (items r) t y (subst (λ (z : ℕ). allThere s z 0 (items r) ≡ true) k there) i))
+            of-record k p = attr-part p (λ t i. rw k (attr-in 0 (items r) t y (subst (λ (z : ℕ). allThere s z 0 (items r) ≡ true) k there) i))
         go (suc (suc (suc (suc (suc (suc d)))))) q p = elim p [ ]
 
 -- ---- a line more
@@ -201,15 +135,12 @@ falling-same s z l d f =
       falls = λ t y p. rw d (f .falls t y (subst (λ (x : List (List ℕ)). Part (typeRow (getD x t [])) y) l p));
     }
 
-getD-snoc : (l : List ℕ) (x t : ℕ) → t < length l → getD (l ++ (x ∷ [])) t 0 ≡ getD l t 0
-getD-snoc l x t h = List·getD-append l (x ∷ []) 0 t h
-
 falling-more : (s z : State) (r : List ℕ) (n : ℕ) → linesOf z TYPE ≡ linesOf s TYPE ++ (r ∷ []) → depthsOf z TYPE ≡ depthsOf s TYPE ++ (n ∷ []) → 1 ≤ n → n ≤ 64
     → ((y : ℕ) → Part (typeRow r) y → (y < count s 3) × (getD (depthsOf s 3) y 0 < n)) → Falling s → Falling z
 falling-more s z r n l d pos top part f =
     let c : count z TYPE ≡ suc (count s TYPE) = ap length l ∙ length-append (linesOf s TYPE) (r ∷ []) ∙ omega arith in
     let at-new : getD (depthsOf z TYPE) (count s TYPE) 0 ≡ n = rw d (subst (λ (i : ℕ). getD (depthsOf s TYPE ++ (n ∷ [])) i 0 ≡ n) (f .size) (getD-append-seam (depthsOf s TYPE) n [] 0)) in
-    let at-old : (t : ℕ) → t < count s TYPE → getD (depthsOf z TYPE) t 0 ≡ getD (depthsOf s TYPE) t 0 = λ t h. rw d (getD-snoc (depthsOf s TYPE) n t (omega (arith, f .size))) in
+    let at-old : (t : ℕ) → t < count s TYPE → getD (depthsOf z TYPE) t 0 ≡ getD (depthsOf s TYPE) t 0 = λ t h. rw d (List·getD-append (depthsOf s TYPE) (n ∷ []) 0 t (omega (arith, f .size))) in
     record {
       size = ap length d ∙ length-append (depthsOf s TYPE) (n ∷ []) ∙ omega (arith, f .size, c);
       low = λ t. depth-low t c at-new at-old (decLt t (count s TYPE));

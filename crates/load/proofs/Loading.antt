@@ -21,7 +21,8 @@ use Rattle.table.specs.Layout.{part, USES, heap, rowsAt, rowsOf, linesHeld, dep
 use Rattle.table.proofs.Rows.{limit-small}
 use Rattle.table.proofs.Held.{tab-same, linesIn, lines-tab, depthBase, depthsIn, depths-tab, counts-held}
 use Rattle.fits.proofs.Remembered as R
-use Rattle.judge.proofs.Settling.{Part, Falling}
+use Rattle.sheet.proofs.Shallow.{Part}
+use Rattle.judge.proofs.Settling.{Falling}
 use Rattle.judge.proofs.Alike.{count-alike}
 use Rattle.line.proofs.LawsLine.{entry-wide}
 use Rattle.take.specs.Steps.{Ready, taken, Lined, Taken}

@@ -119,7 +119,7 @@ module _ (a cs : List ℕ) (effect class n : ℕ) (en : n ≡ getD a 12 0) where
         → k ≡ bit (eqb e effect && eqb c class) → Tally (countIn effect class (verdictsIn a cs)) (m + k) (countIn effect class (verdictsFrom a cs (i + 1))) (i + 1) n
     tally-on e c k h ee ec ek =
         let s : countIn effect class (verdictsFrom a cs i) ≡ k + countIn effect class (verdictsFrom a cs (i + 1)) =
-            ap (countIn effect class) (verdicts-on a cs i (omega (arith, many))) ∙ rw (ek, ee, ec) in
+        ap (countIn effect class) (verdicts-on a cs i (omega (arith, many))) ∙ rw (ek, ee, ec) in
         let b : k ≤ 1 = hit-small k (eqb e effect && eqb c class) ek in
         record { near = omega arith; few = omega (arith, t .few); left = omega (arith, t .left) }
 
@@ -203,10 +203,16 @@ fourOf e ls = countIn e 0 ls ∷ countIn e 1 ls ∷ countIn e 2 ls ∷ countIn e
 
 pub counts-are : (ls : List Verdict) → countIn 0 0 ls ∷ countIn 0 1 ls ∷ countIn 0 2 ls ∷ countIn 0 3 ls ∷ fourOf 1 ls ≡ countsOf ls
 counts-are ls =
-    rw (many-same (effectIs 0) isPermit (classIs 0) isTrue is-permit is-true ls, many-same (effectIs 0) isPermit (classIs 1) isFalse is-permit is-false ls,
-        many-same (effectIs 0) isPermit (classIs 2) isError is-permit is-error ls, many-same (effectIs 0) isPermit (classIs 3) isOpen is-permit is-open ls,
-        many-same (effectIs 1) isForbid (classIs 0) isTrue is-forbid is-true ls, many-same (effectIs 1) isForbid (classIs 1) isFalse is-forbid is-false ls,
-        many-same (effectIs 1) isForbid (classIs 2) isError is-forbid is-error ls, many-same (effectIs 1) isForbid (classIs 3) isOpen is-forbid is-open ls)
+    rw (
+      many-same (effectIs 0) isPermit (classIs 0) isTrue is-permit is-true ls,
+      many-same (effectIs 0) isPermit (classIs 1) isFalse is-permit is-false ls,
+      many-same (effectIs 0) isPermit (classIs 2) isError is-permit is-error ls,
+      many-same (effectIs 0) isPermit (classIs 3) isOpen is-permit is-open ls,
+      many-same (effectIs 1) isForbid (classIs 0) isTrue is-forbid is-true ls,
+      many-same (effectIs 1) isForbid (classIs 1) isFalse is-forbid is-false ls,
+      many-same (effectIs 1) isForbid (classIs 2) isError is-forbid is-error ls,
+      many-same (effectIs 1) isForbid (classIs 3) isOpen is-forbid is-open ls,
+    )
 
 -- ---- the decision
 

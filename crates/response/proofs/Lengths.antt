@@ -163,9 +163,19 @@ unfolding AllMost
 value-most r =
     let z : ℤ = longAt (at r 0 * 4294967296 + at r 1) in
     let h = items-short r in
-    most-at (21 * length r + 60) (rbool (eqb (at r 0) 1) ∷ rlong z ∷ rtext (at r 0) ∷ rent (at r 0) (at r 1) ∷ rset (items r) ∷ rrec (entriesOf (items r)) ∷ [])
-    (omega (arith, digits-few (bit (eqb (at r 0) 1))), (omega (arith, signed-few z), (omega (arith, digits-few (at r 0)), (omega (arith, digits-few (at r 0), digits-few (at r 1)),
-    (omega (arith, numbers-most (items r), h), (omega (arith, entries-most (items r), h), tt))))))
+    most-at (21 * length r + 60) (rbool (eqb (at r 0) 1) ∷ rlong z ∷ rtext (at r 0) ∷ rent (at r 0) (at r 1) ∷ rset (items r) ∷ rrec (entriesOf (items r)) ∷ []) (
+      omega (arith, digits-few (bit (eqb (at r 0) 1))),
+      (
+        omega (arith, signed-few z),
+        (
+          omega (arith, digits-few (at r 0)),
+          (
+            omega (arith, digits-few (at r 0), digits-few (at r 1)),
+            (omega (arith, numbers-most (items r), h), (omega (arith, entries-most (items r), h), tt)),
+          ),
+        ),
+      ),
+    )
     false (omega arith) (tag r - 10)
 
 values-most : (rs : List (List ℕ)) → AllShort 16384 rs → length (concat (valueLines (rowsIn rs))) ≤ 400000 * length rs

@@ -41,9 +41,9 @@ unfolding policyAt
 rooted-step a cs es i h =
     ap (λ (l : List (List ℕ)). concat (rootedOf l (drop i cs) (drop i es))) (uncons (rowsOf a 12) [] i h)
     ∙ ap₂ (λ (c x : ℕ). printed "policy" (policyItems (at (getD (rowsOf a 12) i []) 0) (effectIn (getD (rowsOf a 12) i [])) (classIn c) (digits x ∷ []))
-        ++ concat (rootedOf (drop (i + 1) (rowsOf a 12)) (drop 1 (drop i cs)) (drop 1 (drop i es)))) (first-of cs i) (first-of es i)
+    ++ concat (rootedOf (drop (i + 1) (rowsOf a 12)) (drop 1 (drop i cs)) (drop 1 (drop i es)))) (first-of cs i) (first-of es i)
     ∙ ap₂ (λ (p q : List ℕ). printed "policy" (policyItems (at (getD (rowsOf a 12) i []) 0) (effectIn (getD (rowsOf a 12) i [])) (classIn (getD cs i 0)) (digits (getD es i 0) ∷ []))
-        ++ concat (rootedOf (drop (i + 1) (rowsOf a 12)) p q)) (next cs i) (next es i)
+    ++ concat (rootedOf (drop (i + 1) (rowsOf a 12)) p q)) (next cs i) (next es i)
     ∙ ap (λ (m : List ℕ). m ++ rootedFrom a cs es (i + 1)) (rooted-text (getD (rowsOf a 12) i []) (getD cs i 0) (getD es i 0))
 
 pub rooted-line : (was w₁ w₂ is : List ℕ) (at k₁ k₂ then : ℕ) (a cs : List ℕ) (i x : ℕ) → Written was at (policyAt a cs i) w₁ k₁ → Written w₁ k₁ (44 ∷ digits x) w₂ k₂

@@ -1,18 +1,18 @@
 // The decision, the counts and the policies printed from a place of the lent buffer on. Each call gives the place after its bytes.
+use crate::Decision;
 use crate::class_of;
 use crate::counts_in;
 use crate::decision_of;
 use crate::effect_of;
 use crate::nodes::node_lines;
 use crate::values::made_values;
-use crate::Decision;
 use print::byte;
 use print::bytes;
 use print::number;
+use table::POLICY;
 use table::count;
 use table::item;
 use table::row;
-use table::POLICY;
 ghost use mathlib.Core.List.{[], _∷_, _++_};
 ghost use lib.ListN.{getD};
 ghost use Rattle.table.specs.Layout.{rowsOf};
@@ -148,7 +148,13 @@ fn rooted_line(out: &mut [u8], at: usize, a: &[u32], classes: &[u32], i: u32, x:
 }
 
 // The policies of a partial answer: after the class stands the number of the residual's root, a word of `roots` for each policy.
-pub fn rooted_policies(out: &mut [u8], at: usize, a: &[u32], classes: &[u32], roots: &[u32]) -> usize
+pub fn rooted_policies(
+    out: &mut [u8],
+    at: usize,
+    a: &[u32],
+    classes: &[u32],
+    roots: &[u32],
+) -> usize
     ensures { λ r. ⌜ Written (now (out .entry)) at (concat (rootedLines (now (a .entry)) (now (classes .entry)) (now (roots .entry)))) (now (out .exit)) r ⌝ }
 {
     let n = count(a, POLICY);
@@ -163,7 +169,14 @@ pub fn rooted_policies(out: &mut [u8], at: usize, a: &[u32], classes: &[u32], ro
 }
 
 // A partial answer: `log` holds the residuals, `classes` and `roots` a word for each policy.
-pub fn partial(out: &mut [u8], at: usize, a: &[u32], log: &[u32], classes: &[u32], roots: &[u32]) -> usize
+pub fn partial(
+    out: &mut [u8],
+    at: usize,
+    a: &[u32],
+    log: &[u32],
+    classes: &[u32],
+    roots: &[u32],
+) -> usize
     ensures { λ r. ⌜ Written (now (out .entry)) at (partialBytes (now (a .entry)) (now (log .entry)) (now (classes .entry)) (now (roots .entry))) (now (out .exit)) r ⌝ }
 {
     let k = head(out, at, a, classes);

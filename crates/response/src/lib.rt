@@ -4,10 +4,10 @@ pub mod answer;
 pub mod nodes;
 pub mod values;
 
+use table::POLICY;
 use table::count;
 use table::item;
 use table::row;
-use table::POLICY;
 use words::read;
 ghost use mathlib.Core.Path.{_≡_};
 ghost use mathlib.Core.List.{[]};
@@ -101,7 +101,12 @@ pub fn counts_in(a: &[u32], classes: &[u32], effect: u32) -> Counts
 }
 
 // The decision, told whether there are true forbids, true permits, open permits and open forbids.
-pub fn decide(true_forbids: bool, true_permits: bool, residual_permits: bool, residual_forbids: bool) -> Decision
+pub fn decide(
+    true_forbids: bool,
+    true_permits: bool,
+    residual_permits: bool,
+    residual_forbids: bool,
+) -> Decision
     ensures { λ r. ⌜ r ≡ said (Cedar.decide «true_forbids» «true_permits» «residual_permits» «residual_forbids») ⌝ }
 {
     if true_forbids {
@@ -129,5 +134,10 @@ pub fn decision_of(a: &[u32], classes: &[u32]) -> Decision
     let true_permits = permits.trues > 0;
     let residual_permits = permits.opens > 0;
     let residual_forbids = forbids.opens > 0;
-    decide(true_forbids, true_permits, residual_permits, residual_forbids)
+    decide(
+        true_forbids,
+        true_permits,
+        residual_permits,
+        residual_forbids,
+    )
 }

@@ -3,16 +3,16 @@ use crate::answer::number_after;
 use crate::values::numbers;
 use print::byte;
 use print::bytes;
+use residual::Stage;
 use residual::stage_at;
 use residual::start_at;
 use residual::word_at;
-use residual::Stage;
+use table::NODE;
+use table::TYPE;
 use table::count;
 use table::item;
 use table::row;
 use table::tag;
-use table::NODE;
-use table::TYPE;
 ghost use mathlib.Core.Path.{_≡_};
 ghost use mathlib.Core.Bool.{_||_};
 ghost use mathlib.Core.List.{_∷_};
@@ -71,7 +71,15 @@ fn children(out: &mut [u8], at: usize, log: &[u32], start: usize, p: usize) -> u
 }
 
 // The same with a text before each number: `i` words of the record's row are left, the last two for the last block.
-fn fields(out: &mut [u8], at: usize, r: &[u32], i: usize, log: &[u32], start: usize, p: usize) -> usize
+fn fields(
+    out: &mut [u8],
+    at: usize,
+    r: &[u32],
+    i: usize,
+    log: &[u32],
+    start: usize,
+    p: usize,
+) -> usize
     ensures { λ e. ⌜ Written (now (out .entry)) at (after (numbers (fieldsTo (now (r .entry)) i (now (log .entry)) start p))) (now (out .exit)) e ⌝ }
 {
     if i < 2 {
@@ -191,7 +199,15 @@ fn rest_items(out: &mut [u8], at: usize, r: &[u32], k: u32) -> usize
 }
 
 // What stands after the name of the node of row `r`, whose blocks lie from `start` to `p`.
-fn left_items(out: &mut [u8], at: usize, r: &[u32], k: u32, log: &[u32], start: usize, p: usize) -> usize
+fn left_items(
+    out: &mut [u8],
+    at: usize,
+    r: &[u32],
+    k: u32,
+    log: &[u32],
+    start: usize,
+    p: usize,
+) -> usize
     ensures { λ e. ⌜ Written (now (out .entry)) at (after (leftItems (tag (now (r .entry))) (now (r .entry)) k (childrenTo (now (log .entry)) start p) (fieldsTo (now (r .entry)) (length (now (r .entry))) (now (log .entry)) start p))) (now (out .exit)) e ⌝ }
 {
     let t = tag(r);
@@ -206,7 +222,15 @@ fn left_items(out: &mut [u8], at: usize, r: &[u32], k: u32, log: &[u32], start: 
 }
 
 // A node that is left, after a comma.
-fn left_said(out: &mut [u8], at: usize, r: &[u32], k: u32, log: &[u32], start: usize, p: usize) -> usize
+fn left_said(
+    out: &mut [u8],
+    at: usize,
+    r: &[u32],
+    k: u32,
+    log: &[u32],
+    start: usize,
+    p: usize,
+) -> usize
     ensures { λ e. ⌜ Written (now (out .entry)) at (after (leftSaid (now (r .entry)) k (now (log .entry)) start p)) (now (out .exit)) e ⌝ }
 {
     let m = byte(out, at, 44);

@@ -25,9 +25,6 @@ module _ (c : ℕ) (s : List ℕ) (i : ℕ) where
   upTo-end h = rw (drop-of-length-le s h)
 
 module _ (a b : List ℕ) (i : ℕ) (ha : i < length a) (hb : i < length b) where
-  same-off : (getD a i 0 ≡ getD b i 0 → ⊥) → same (drop i a) (drop i b) ≡ false
-  same-off e = rw (drop-cons a i 0 ha, drop-cons b i 0 hb, ne-eqb _ _ e)
-
   same-on : getD a i 0 ≡ getD b i 0 → same (drop i a) (drop i b) ≡ same (drop (i + 1) a) (drop (i + 1) b)
   same-on e = rw (add-one i, drop-cons a i 0 ha, drop-cons b i 0 hb, eq-eqb _ _ e)
 
@@ -72,27 +69,30 @@ module _ (c : ℕ) (s : List ℕ) (from i : ℕ) (k : Finding c s from i) where
   pub finding-end : length s ≤ i → i ≡ from + upTo c (drop from s)
   finding-end h = omega (arith, k .left, upTo-end c s i h)
 
--- where a comparison stands: the first i elements are the same
+-- where a comparison from the end stands: the elements from i on are the same
 pub record Comparing (a b : List ℕ) (i : ℕ) : Type 0 where
   pub long : length a ≡ length b
   pub near : i ≤ length a
-  pub left : same a b ≡ same (drop i a) (drop i b)
+  pub rest : same (drop i a) (drop i b) ≡ true
 
 pub comparing-never : (a b : List ℕ) → (length a ≡ length b → ⊥) → false ≡ same a b
 comparing-never a b e = sym (same-length a b e)
 
-pub comparing-start : (a b : List ℕ) → length a ≡ length b → Comparing a b 0
-comparing-start a b e = record { long = e; near = omega arith; left = refl }
+pub comparing-start : (a b : List ℕ) → length a ≡ length b → Comparing a b (length a)
+comparing-start a b e = record { long = e; near = omega arith; rest = same-end a b (length a) (omega arith) (omega (arith, e)) }
 
 module _ (a b : List ℕ) (i : ℕ) (k : Comparing a b i) where
-  pub comparing-off : i < length a → (getD a i 0 ≡ getD b i 0 → ⊥) → false ≡ same a b
-  comparing-off h e = sym (k .left ∙ same-off a b i h (omega (arith, k .long)) e)
+  pub comparing-on : 0 < i → getD a (i - 1) 0 ≡ getD b (i - 1) 0 → Comparing a b (i - 1)
+  comparing-on h e =
+      let z : i - 1 + 1 ≡ i = omega arith in
+      record {
+        long = k .long;
+        near = omega (arith, k .near);
+        rest = same-on a b (i - 1) (omega (arith, k .near)) (omega (arith, k .near, k .long)) e ∙ ap (λ (j : ℕ). same (drop j a) (drop j b)) z ∙ k .rest;
+      }
 
-  pub comparing-on : i < length a → getD a i 0 ≡ getD b i 0 → Comparing a b (i + 1)
-  comparing-on h e = record { long = k .long; near = omega arith; left = k .left ∙ same-on a b i h (omega (arith, k .long)) e }
-
-  pub comparing-end : length a ≤ i → true ≡ same a b
-  comparing-end h = sym (k .left ∙ same-end a b i h (omega (arith, k .long)))
+  pub comparing-end : i ≤ 0 → true ≡ same a b
+  comparing-end h = let z : i ≡ 0 = omega arith in sym (ap (λ (j : ℕ). same (drop j a) (drop j b)) (sym z) ∙ k .rest)
 
 -- where a test of bytes stands: the first i are printable
 pub record Printing (s : List ℕ) (i : ℕ) : Type 0 where
@@ -236,15 +236,10 @@ same-is (x ∷ k) (y ∷ l) e = first-same x y k l (eqb x y) refl (same-is k l) 
 pub tried : (name w : List ℕ) (t : Bool) → t ≡ same name w → t ≡ true → w ≡ name
 tried name w t s h = sym (same-is name w (sym s ∙ h))
 
--- equal words have equal last bytes
+-- equal words have equal bytes at every place
 pub same-last : (a b : List ℕ) (i : ℕ) → (getD a i 0 ≡ getD b i 0 → ⊥) → false ≡ same a b
 same-last a b i e = go (same a b) refl
   where
     go : (t : Bool) → same a b ≡ t → false ≡ t
     go true q = absurd (e (ap (λ (l : List ℕ). getD l i 0) (same-is a b q)))
     go false q = refl
-
-pub same-none : (a b : List ℕ) → length a ≡ length b → length a ≡ 0 → true ≡ same a b
-same-none [] [] e z = refl
-same-none [] (y ∷ b) e z = absurd (omega arith)
-same-none (x ∷ a) b e z = absurd (omega arith)

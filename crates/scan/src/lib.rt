@@ -104,26 +104,19 @@ pub fn find(s: &[u8], from: usize, b: u8) -> usize
     i
 }
 
-// Whether two words are the same. Those that begin alike often end otherwise, so the last bytes are compared first.
+// Whether two words are the same. Those that begin alike often end otherwise, so they are compared from the end.
 pub fn same_bytes(a: &[u8], b: &[u8]) -> bool
     ensures { λ r. ⌜ r ≡ same (now (a .entry)) (now (b .entry)) ⌝ }
 {
     if a.len() != b.len() {
         return false;
     }
-    if a.len() == 0 {
-        return true;
-    }
-    let last = a.len() - 1;
-    if a[last] != b[last] {
-        return false;
-    }
-    let mut i = 0;
-    while i < a.len() {
+    let mut i = a.len();
+    while i > 0 {
+        i -= 1;
         if a[i] != b[i] {
             return false;
         }
-        i += 1;
     }
     true
 }
@@ -135,19 +128,12 @@ pub fn same_words(a: &[u32], b: &[u32]) -> bool
     if a.len() != b.len() {
         return false;
     }
-    if a.len() == 0 {
-        return true;
-    }
-    let last = a.len() - 1;
-    if a[last] != b[last] {
-        return false;
-    }
-    let mut i = 0;
-    while i < a.len() {
+    let mut i = a.len();
+    while i > 0 {
+        i -= 1;
         if a[i] != b[i] {
             return false;
         }
-        i += 1;
     }
     true
 }

@@ -127,5 +127,3 @@ counts-line ss f fs e = ap (itemsBy ss) (items-back f fs e)
 
 pub policy-line : (ss : List Slot) (f : List ℕ) (fs : List (List ℕ)) → allPlain (f ∷ fs) ≡ true → lineBy "policy" ss (unended "policy" (f ∷ fs)) ≡ itemsBy ss (f ∷ fs)
 policy-line ss f fs e = ap (itemsBy ss) (items-back f fs e)
-
-

@@ -20,7 +20,7 @@ use Rattle.value.specs.declared.Shape.the-variants.{Bool as Boolˢ, Long, Text,
 use Rattle.value.proofs.Shaped.{shape-row}
 use Rattle.strict.specs.Gives.{values, valueIn}
 
-row-in : (rows : List (List ℕ)) (v : ℕ) → rowAt (rowsIn rows) v ≡ valueRow (getD rows v [])
+pub row-in : (rows : List (List ℕ)) (v : ℕ) → rowAt (rowsIn rows) v ≡ valueRow (getD rows v [])
 row-in [] v = refl
 row-in (r ∷ rows) zero = refl
 row-in (r ∷ rows) (suc v) = row-in rows v

@@ -2,41 +2,36 @@
 use mathlib.Core.Path.{_≡_, refl, sym, ap, _∙_}
 use mathlib.Core.Bool.{Bool, true, false}
 use mathlib.Core.List.{List, [], _∷_}
-use Prim.Native.Nat.{ℕ, zero, suc, _-_, _≤_}
+use Prim.Native.Nat.{ℕ, _-_, _≤_}
 use native.Mathlib.Omega.{arith}
 use lib.ListN.{getD, take, length}
 use types.Run.{OneOf, miss}
 use denote.Enum.Declared.{tagOf}
 use Rattle.value.proofs.Shape.{the-type}
-use Rattle.cedar.specs.Residual.{Class, copen, truth}
-use Rattle.cedar.specs.Numbered.{rBool, rowAt}
+use Rattle.cedar.specs.Residual.{copen, truth}
+use Rattle.cedar.specs.Numbered.{rBool}
 use Rattle.sheet.specs.Forms.{items}
 use Rattle.sheet.specs.State.{valueRow}
-use Rattle.sheet.specs.Content.{rowsIn}
 use Rattle.value.specs.Lines.{valueLines}
 use Rattle.value.specs.Shapes.{shapeOf, shapeRow}
 use Rattle.value.specs.declared.Shape.{Shape}
 use Rattle.value.specs.declared.Shape.the-variants.{Bool as Boolˢ, Long, Text, Entity, Set, Record}
 use Rattle.value.proofs.Shaped.{shape-row}
-use Rattle.words.specs.Log.{appended, Appended, Room, Holds}
+use Rattle.words.specs.Log.{appended, Appended, Room}
 use Rattle.words.proofs.Logs.{append-holds, holds-as, holds-from, holds-room, log-cut, log-length}
-use Rattle.value.specs.Made.{boolRow, Made, numberOf, withValue}
+use Rattle.value.specs.Made.{boolRow, Made}
 use Rattle.residual.specs.Rows.{litRow, leftRow, stageAt}
 use Rattle.residual.specs.Errs.{errs}
 use Rattle.residual.specs.declared.Stage.{Stage}
 use Rattle.residual.specs.declared.Stage.the-variants.{Value, Error, Open}
-use Rattle.tpe.specs.Run.{O, litOf, madeOf, leftOf, decidedBy, classBy}
+use Rattle.strict.proofs.Shapes.{row-in}
+use Rattle.tpe.specs.Run.{litOf, madeOf, leftOf, decidedBy, classBy}
 use Rattle.tpe.specs.Classes.{classIn}
 use Rattle.tpe.specs.Leaves.{Leaves}
 use Rattle.table.specs.Layout.{rowsOf}
 use Rattle.tpe.proofs.Slices.{errs-log}
 use Rattle.tpe.specs.declared.Class.{Class as Classᶜ}
 use Rattle.tpe.specs.declared.Class.the-variants.{True, False, Error as Errorᶜ, Open as Openᶜ}
-
-row-in : (rows : List (List ℕ)) (v : ℕ) → rowAt (rowsIn rows) v ≡ valueRow (getD rows v [])
-row-in [] v = refl
-row-in (r ∷ rows) zero = refl
-row-in (r ∷ rows) (suc v) = row-in rows v
 
 module _ (a : List ℕ) (v : ℕ) (q : List ℕ) (s : Shape) (eq : q ≡ getD (valueLines a) v []) (es : s ≡ shapeOf q) where
   by-shape : classBy a (Value v) ≡ rBool copen (shapeRow s (items q)) truth

@@ -2,15 +2,15 @@
 // operands stands in `steps`.
 pub mod steps;
 
+use residual::Stage;
 use residual::can_error_assuming_well_formed;
 use residual::push_left;
 use residual::push_value;
 use residual::stage_at;
-use residual::Stage;
+use value::Shape;
 use value::making::make_bool;
 use value::row_of;
 use value::shape_of;
-use value::Shape;
 ghost use mathlib.Core.Path.{_≡_};
 ghost use Prim.Native.Nat.{_≤_};
 ghost use lib.ListN.{take};
@@ -66,7 +66,16 @@ pub fn give_bool(a: &mut [u32], b: &mut [u32], bt: usize, x: bool, y: u32) -> us
 }
 
 // Beside an open left side, which ends at `mid`, the right one is the bool `z` that decides: where the left side can err, node `n` stays.
-pub fn decided(a: &mut [u32], b: &mut [u32], start: usize, mid: usize, bt: usize, n: u32, z: bool, y: u32) -> usize
+pub fn decided(
+    a: &mut [u32],
+    b: &mut [u32],
+    start: usize,
+    mid: usize,
+    bt: usize,
+    n: u32,
+    z: bool,
+    y: u32,
+) -> usize
     requires { ⌜ Room (now b) bt ⌝ }
     requires { ⌜ (start ≤ mid) × (mid ≤ bt) ⌝ }
     ensures { λ e. ⌜ Leaves start (now (a .exit)) (now (b .exit)) e (decidedBy z start n y mid (now (a .entry)) (take bt (now (b .entry))) (errs (rowsOf (now (a .entry)) 11) (take bt (now (b .entry))) mid)) ⌝ }

@@ -1,26 +1,25 @@
 -- Finding or making a row of words is finding or making the value's row: what `made` values are. Assumes nothing.
 use mathlib.Core.Path.{_≡_, refl, sym, ap, ap₂, _∙_}
-use mathlib.Core.Bool.{Bool, true, false, not, cond, _||_, and-eq-true-iff}
+use mathlib.Core.Bool.{Bool, true, false, not, cond, _||_}
 use mathlib.Core.Option.{Option, none, some}
 use mathlib.Core.List.{List, [], _∷_, _++_, append-assoc}
-use Prim.Native.Nat.{ℕ, suc, _+_, _-_, _*_, _/_, _%_, _≤_, _<_}
+use Prim.Native.Nat.{ℕ, suc, _+_, _*_, _/_, _%_, _≤_, _<_}
 use native.Mathlib.Omega.{arith}
 use native.Mathlib.Decide.{decLt}
-use borrow.Author.Tests.{lt-ltb, le-ltb, ltb-false, eqb-true, leb-true, leb-false}
-use lib.Dec.{eqb, ltb, leb}
-use lib.IntN.{pos, negsuc}
+use borrow.Author.Tests.{lt-ltb, le-ltb, ltb-false}
+use lib.Dec.{ltb}
 use lib.ListN.{length, getD, take, drop, length-append}
 use lib.Seq.{sets, length-sets}
 use Rattle.words.proofs.Stores.{take-sets, part-sets}
-use Rattle.cedar.proofs.Tools.{no-true}
-use Rattle.cedar.specs.Rows.{Row, rlong, sameRow}
+use Rattle.cedar.specs.Rows.{rlong, sameRow}
 use Rattle.cedar.specs.Making.{oneLater, pickRow, findRow, orAdd, intern}
 use Rattle.cedar.proofs.TableLaws.{sameRow-true, sameRow-refl}
-use Rattle.sheet.specs.Bytes.{same, longAt, half}
+use Rattle.sheet.specs.Bytes.{same, longAt}
 use Rattle.sheet.specs.Forms.{VALUE}
 use Rattle.sheet.specs.State.{valueRow, entriesOf}
 use Rattle.sheet.specs.Content.{rowsIn}
-use Rattle.sheet.proofs.ValueRows.{back, flat, wordOf, same-refl}
+use Rattle.sheet.proofs.TwoSheets.{same-is}
+use Rattle.sheet.proofs.ValueRows.{back, flat, word-back, same-refl, rows-length, rows-snoc}
 use Rattle.table.specs.Layout.{part, rowsOf, MADE, TOP, withRow, limits, limit, Last, Sound}
 use Rattle.table.proofs.Rows.{count-rows, limit-small}
 use Rattle.table.proofs.Frame.{word-kept, rows-kept, sound-kept, top-new, count-new, rows-other, rows-own, sound-new}
@@ -45,13 +44,6 @@ formeds-more (one-formed e f) h = one-formed e (formeds-more f h)
 pub formed-bool : (b : Bool) → Formed (boolRow b)
 formed-bool true = refl
 formed-bool false = refl
-
-word-back : (w : ℕ) → wordOf (longAt w) ≡ w
-word-back w = go (leb half w) refl
-  where
-    go : (b : Bool) → leb half w ≡ b → wordOf (cond b (pos (w - half)) (negsuc (half - w - 1))) ≡ w
-    go true e = let h = leb-true half w e in omega (arith, h)
-    go false e = let h = leb-false half w e in omega (arith, h)
 
 long-joined : (w : ℕ) → w / 4294967296 * 4294967296 + w % 4294967296 ≡ w
 long-joined w = omega arith
@@ -85,21 +77,13 @@ formed-record r rows = ap (λ (x : List ℕ). 15 ∷ x) (flat-pairs (drop 2 r) r
 
 -- ---- the same words, the same row
 
-same-words : (x y : List ℕ) → same x y ≡ true → x ≡ y
-same-words [] [] e = refl
-same-words [] (b ∷ y) e = no-true e
-same-words (a ∷ x) [] e = no-true e
-same-words (a ∷ x) (b ∷ y) e =
-    let p = and-eq-true-iff (eqb a b) (same x y) .0 e in
-    ap₂ (λ (h : ℕ) (l : List ℕ). h ∷ l) (eqb-true a b (p .0)) (same-words x y (p .1))
-
 pub same-row : (q r : List ℕ) → Formed q → Formed r → same q r ≡ sameRow (valueRow q) (valueRow r)
 same-row q r hq hr = go (same q r) (sameRow (valueRow q) (valueRow r)) refl refl
   where
     go : (b c : Bool) → same q r ≡ b → sameRow (valueRow q) (valueRow r) ≡ c → b ≡ c
     go true true eb ec = refl
     go true false eb ec =
-        let p : q ≡ r = same-words q r eb in
+        let p : q ≡ r = same-is q r eb in
         sym (sameRow-refl (valueRow r)) ∙ ap (λ (x : List ℕ). sameRow (valueRow x) (valueRow r)) (sym p) ∙ ec
     go false true eb ec =
         let p : valueRow q ≡ valueRow r = sameRow-true (valueRow q) (valueRow r) ec in
@@ -129,14 +113,6 @@ find-is r (one-formed {r = q} {rows = rows} e f) h = ap (λ (b : Bool). pickRow 
     go true ih = rw (lt-ltb 0 (suc (length rows)) (omega arith))
     go false ih = ap oneLater ih ∙ oneLater-found (placeOf r rows) (length rows)
 
-rows-length : (rows : List (List ℕ)) → length (rowsIn rows) ≡ length rows
-rows-length [] = refl
-rows-length (r ∷ rows) = ap suc (rows-length rows)
-
-rows-more : (rows : List (List ℕ)) (r : List ℕ) → rowsIn (rows ++ (r ∷ [])) ≡ rowsIn rows ++ (valueRow r ∷ [])
-rows-more [] r = refl
-rows-more (q ∷ rows) r = ap (λ (l : List Row). valueRow q ∷ l) (rows-more rows r)
-
 -- a list of rows with r in it, and r's number there
 pub withRowIn : List ℕ → List (List ℕ) → List (List ℕ)
 withRowIn r rows = cond (ltb (placeOf r rows) (length rows)) rows (rows ++ (r ∷ []))
@@ -148,7 +124,7 @@ module _ {rows : List (List ℕ)} (r : List ℕ) (f : Formeds rows) (h : Formed 
     where
       go : (b : Bool) → rowsIn (cond b rows (rows ++ (r ∷ []))) ≡ orAdd (cond b (some (placeOf r rows)) none) (rowsIn rows) (valueRow r) .rows
       go true = refl
-      go false = rows-more rows r
+      go false = rows-snoc rows r
 
   pub intern-number : placeOf r rows ≡ intern (rowsIn rows) (valueRow r) .number
   unfolding found-at
