@@ -39,7 +39,7 @@ or-true : (x : Bool) → (x || true) ≡ true
 or-true true = refl
 or-true false = refl
 
-or-false : (x : Bool) → (x || false) ≡ x
+pub or-false : (x : Bool) → (x || false) ≡ x
 or-false true = refl
 or-false false = refl
 

@@ -16,12 +16,8 @@ use Rattle.checks.specs.Codes.{codeOf, formCodes, againCodes, codesAfter
 use Rattle.checks.specs.Depths.{OnTwo}
 use Rattle.checks.proofs.FormTable.{code-at, no-node}
 use Rattle.checks.specs.Uses.{usesIn, Marked}
-use Rattle.checks.proofs.FoundLaws.{items-end}
+use Rattle.checks.proofs.FoundLaws.{items-end, or-false}
 use Rattle.checks.proofs.DepthLaws.{line-code, refs-at, on-type, on-first, on-second}
-
-or-false : (x : Bool) → (x || false) ≡ x
-or-false true = refl
-or-false false = refl
 
 -- ---- one node
 

@@ -7,7 +7,7 @@ use native.Mathlib.Numerals.{add-one}
 use native.Mathlib.Nat.{le-refl}
 use native.Mathlib.Omega.{arith}
 use native.Mathlib.Decide.{decLt}
-use borrow.Author.Tests.{eqb-true, eq-eqb, ne-eqb, lt-ltb, le-ltb, lt-leb, le-leb, leb-true, not-true, not-false}
+use borrow.Author.Tests.{eq-eqb, ne-eqb, lt-ltb, le-ltb, lt-leb, le-leb, leb-true, not-true, not-false}
 use lib.Dec.{eqb, leb, ltb}
 use lib.ListN.{length, getD, take, drop, drop-of-length-le, length-drop, List·getD-append}
 use lib.Seq.{drop-cons, drop-drop, take-all, getD-append-add}
@@ -16,6 +16,7 @@ use Rattle.cedar.specs.Numbered.{memN, allN, anyN, entryOf}
 use Rattle.sheet.specs.Bytes.{same}
 use Rattle.sheet.specs.State.{entriesOf}
 use Rattle.sheet.specs.Sheet.{ascend}
+use Rattle.sheet.proofs.TwoSheets.{same-is}
 use Rattle.value.specs.Places.{lowerThan}
 use Rattle.value.specs.Shapes.{entryFound}
 use Rattle.value.specs.declared.Entry.{Entry}
@@ -249,16 +250,6 @@ module _ (x y : List ℕ) (i : ℕ) (e : length x ≡ length y) (g : Going (same
 
   pub same-all : length x ≤ i → true ≡ same x y
   same-all h = sym (g .left ∙ rw (spent x i h, spent y i (omega arith)))
-
-same-is : (x y : List ℕ) → same x y ≡ true → x ≡ y
-same-is [] [] e = refl
-same-is [] (b ∷ y) e = let z : _≡_ {A = ℕ} 0 1 = cc in absurd (omega arith)
-same-is (a ∷ x) [] e = let z : _≡_ {A = ℕ} 0 1 = cc in absurd (omega arith)
-same-is (a ∷ x) (b ∷ y) e =
-    let p = and-eq-true-iff (eqb a b) (same x y) .0 e in
-    let h : a ≡ b = eqb-true a b (p .0) in
-    let t : x ≡ y = same-is x y (p .1) in
-    rw (h, t)
 
 pub same-differ : (x y : List ℕ) (j : ℕ) → (getD x j 0 ≡ getD y j 0 → ⊥) → false ≡ same x y
 same-differ x y j h = go (same x y) refl
