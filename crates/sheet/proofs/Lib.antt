@@ -18,6 +18,7 @@ pub mod Limits
 pub mod Lines
 pub mod LinesBack
 pub mod MadeCount
+pub mod MadeWords
 pub mod NeverNine
 pub mod NodeRows
 pub mod NodeTyped

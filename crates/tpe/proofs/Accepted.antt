@@ -33,6 +33,7 @@ use Rattle.table.proofs.Rows.{count-held, count-rows}
 use Rattle.value.specs.Lines.{valueLines, placeOf}
 use Rattle.value.proofs.Interned.{Formeds}
 use Rattle.tpe.specs.Run.{interpOf, ranFrom, runOf}
+use Rattle.tpe.proofs.Reach.{reach-start}
 use Rattle.tpe.proofs.Stands.{Hold, values, Room, tys, nodes, ty}
 use Rattle.tpe.proofs.Operations.{sch, env}
 use Rattle.tpe.proofs.Depth.{childrenOf, Proper, Deep, interp-is}
@@ -225,16 +226,16 @@ module _ (sheet a b : List ℕ) (f : Facts partial (held sheet a b)) (d : Depths
   same-run : nRun (sch partial sheet a) (env partial sheet a) (numberedPolicies (trees (held sheet a [])) (rowsOf a POLICY)) (values a) ≡ run partial (held sheet a b)
   same-run = ap₂ (λ (N : NEnv) (R : List Row). nRun (sch partial sheet a) N (numberedPolicies (trees (held sheet a [])) (rowsOf a POLICY)) R) (env-same partial sheet a) start-rows ∙ as-run sheet a ∙ run-same sheet a b
 
-  run-held : policySizes (nPolicies (held sheet a b)) ≤ getD a NODE 0 → getD a TOP 0 + 5 * getD a NODE 0 ≤ 16384 → RunIs partial sheet a 64 [] (run partial (held sheet a b)) (runOf partial sheet a [])
+  run-held : policySizes (nPolicies (held sheet a b)) ≤ getD a NODE 0 → getD a TOP 0 + 12 + 3 * getD a NODE 0 ≤ 16384 → RunIs partial sheet a 64 [] (run partial (held sheet a b)) (runOf partial sheet a [])
   unfolding runOf limit limits
   run-held few top =
       let z : policySizes (nPolicies (held sheet a b)) ≡ policySizes (numberedPolicies (trees (held sheet a [])) (rowsOf a POLICY)) = ap policySizes (sym (policies-same sheet a b) ∙ own-policies sheet a) in
       let n = sound .few NODE (omega arith) in
       subst (λ (x : Run). RunIs partial sheet a 64 [] x (ranFrom (interpOf partial sheet 64) 0 (getD a POLICY 0) a [])) same-run
-      (run-from (record { top = omega (arith, z, few, top); few = omega (arith, z, few, none, n); log = omega (arith, z, few, n) }))
+      (run-from (record { top = omega (arith, z, few, top, reach-start a); few = omega (arith, z, few, none, n); log = omega (arith, z, few, n) }))
 
 -- THE THEOREM
-pub run-is : (sheet a b : List ℕ) → read partial sheet .number ≡ 0 → read partial sheet .state ≡ held sheet a b → Sound a → getD a MADE 0 ≡ 0 → getD a TOP 0 + 5 * getD a NODE 0 ≤ 16384
+pub run-is : (sheet a b : List ℕ) → read partial sheet .number ≡ 0 → read partial sheet .state ≡ held sheet a b → Sound a → getD a MADE 0 ≡ 0 → getD a TOP 0 + 12 + 3 * getD a NODE 0 ≤ 16384
     → RunIs partial sheet a 64 [] (run partial (read partial sheet .state)) (runOf partial sheet a [])
 run-is sheet a b e h sound none top =
     let (hi, fu) = accepted-history partial sheet e in

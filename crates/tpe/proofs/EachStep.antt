@@ -22,11 +22,13 @@ use Rattle.sheet.specs.Answer.{size, sizes, sizeArgs}
 use Rattle.sheet.proofs.MadeCount.{size-least}
 use Rattle.sheet.proofs.TypeNumbers.{Listed, TypesIn}
 use Rattle.table.specs.Layout.{rowsOf, held}
+use Rattle.table.proofs.Held.{held-same}
 use Rattle.value.specs.Lines.{placeOf}
 use Rattle.residual.specs.Trees.{rnil, flats, nodesOf, argsOf, leftFor, leftTree, suitsFor, suits, treesOf, Res, Whole, whole-none}
 use Rattle.tpe.specs.Run.{O, Rec, giveOf, varFor, others, litStep, errStep, varStep, lazyStep, ifStep, binStep, relStep, unStep, getStep, hasStep, pathStep, setStep, recStep, pathOf, steps}
 use Rattle.tpe.proofs.Outcomes.{RowFine, GiveFine, words-row, words-formed, words-short}
-use Rattle.tpe.proofs.Stands.{Hold, values, env-is, Room, tys, nodes, ty, Is, is-as, lit-is, err-is, left-is, make-is, drop-here}
+use Rattle.tpe.proofs.Reach.{asks}
+use Rattle.tpe.proofs.Stands.{Hold, values, env-is, Room, tys, nodes, ty, Is, is-as, lit-is, err-is, left-is, drop-here, make-asked}
 use Rattle.tpe.proofs.Operations.{sch, env, un-is, get-is, has-is, bin-is, rel-is}
 use Rattle.tpe.proofs.Logic.{Works, then-more, and-is, or-is}
 use Rattle.tpe.proofs.Branches.{if-is}
@@ -139,22 +141,26 @@ module _ (m : Mode) (sheet a₀ : List ℕ) (kinds : (k : ℕ) → Listed (tys s
   err-step room = err-is sheet a₀ d 1 (omega arith) a l a room h (record { top = omega arith; few = omega arith }) (at r 0)
 
   module _ (e : tag r - 21 ≡ 2) (room : Room 1 a l) where
-    var-by : (o : Option Give) → ((g : Give) → o ≡ some g → GiveFine g)
+    asked-as : (g : Give) → env m sheet a₀ .request (varOf (at r 1)) ≡ some g → asks a .request (varOf (at r 1)) ≡ some g
+    unfolding nEnv
+    asked-as g q = ap (λ (s : State). given s (varOf (at r 1))) (held-same [] a₀ a [] [] (h .same) refl) ∙ q
+
+    var-by : (o : Option Give) → env m sheet a₀ .request (varOf (at r 1)) ≡ o → ((g : Give) → o ≡ some g → GiveFine g)
         → Is sheet a₀ (suc d) 1 a l (nVar (sch m sheet a₀) (env m sheet a₀) T (var T (varOf (at r 1))) o (values a)) (varFor m sheet a l c (at r 0) o)
     unfolding varFor giveOf flats treesOf
-    var-by none fine =
+    var-by none ask fine =
         left-is sheet a₀ d 1 (omega arith) a l a room h (record { top = omega arith; few = omega arith }) l rnil (sym (append-nil l)) (omega arith) whole-none c 0 (at r 0)
         (suits-at r 2 low e 0) (var T (varOf (at r 1))) (left-at r 2 e 0 T [])
-    var-by (some (made q)) fine =
+    var-by (some (made q)) ask fine =
         let g : RowFine q = fine (made q) refl in
         is-as sheet a₀
-        (make-is sheet a₀ d 1 (omega arith) a l a room h 3 (record { top = omega arith; few = omega arith }) _ (words-formed q g) (words-short q g) (at r 0))
+        (make-asked sheet a₀ d 1 (omega arith) a l room h _ (words-formed q g) (words-short q g) (varOf (at r 1)) (asked-as (made q) ask ∙ ap (λ (z : Row). some (made z)) (sym (words-row q g))) (at r 0))
         (ap (λ (z : Row). giveLit T (made z) (values a)) (words-row q g))
-    var-by (some (old v)) fine = lit-is sheet a₀ d 1 (omega arith) a l a room h (record { top = omega arith; few = omega arith }) (at r 0) v
+    var-by (some (old v)) ask fine = lit-is sheet a₀ d 1 (omega arith) a l a room h (record { top = omega arith; few = omega arith }) (at r 0) v
 
     pub var-step : Is sheet a₀ (suc d) 1 a l (nInterpret (sch m sheet a₀) (env m sheet a₀) (var T (varOf (at r 1))) (values a)) (varStep m sheet f a l c r)
     unfolding varStep
-    var-step = rw (env-is m sheet a₀ a h) (var-by (env m sheet a₀ .request (varOf (at r 1))) (request-fine m (held [] a₀ []) (varOf (at r 1))))
+    var-step = rw (env-is m sheet a₀ a h) (var-by (env m sheet a₀ .request (varOf (at r 1))) refl (request-fine m (held [] a₀ []) (varOf (at r 1))))
 
   -- one operand
   module _ (b : Below (at r 1)) (room : Room (suc (size (tr (at r 1)))) a l) (su : suits r 1 ≡ true) where

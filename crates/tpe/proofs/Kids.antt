@@ -11,12 +11,13 @@ use Rattle.cedar.specs.Residual.{Node, Stage, value, error, open′, view, isEr
 use Rattle.cedar.specs.Rows.{Row}
 use Rattle.cedar.specs.Numbered.{Out, consN}
 use Rattle.sheet.specs.Forms.{Mode, NODE}
-use Rattle.table.specs.Layout.{MADE, TOP}
+use Rattle.table.specs.Layout.{MADE}
 use Rattle.residual.specs.Rows.{stageAt}
 use Rattle.residual.specs.Trees.{Ress, rnil, rcons, flat, flats, countRes, treesOf, Wholes, whole-none, whole-more}
 use Rattle.residual.proofs.Blocks.{flat-length}
 use Rattle.residual.proofs.Meaning.{stageFor}
 use Rattle.tpe.specs.Run.{O, Rec, Kids, joinOf, kidsOf}
+use Rattle.tpe.proofs.Reach.{reach}
 use Rattle.tpe.proofs.Stands.{Hold, values, Room, tys, nodes, Is}
 use Rattle.tpe.proofs.Strict.{last-stage}
 use Rattle.tpe.proofs.Logic.{Works}
@@ -97,7 +98,7 @@ module _ (m : Mode) (sheet a₀ : List ℕ) (P : List Row → Type 0) where
     pub hold : Hold a₀ (k .words)
     pub counted : countRes ress ≡ count
     pub many : count ≤ n
-    pub top : getD (k .words) TOP 0 + 2 * count ≤ getD a TOP 0 + 5 * n
+    pub top : reach (k .words) + 2 * count ≤ reach a + 3 * n
     pub few : getD (k .words) MADE 0 ≤ getD a MADE 0 + n
     pub join : k .join ≡ joins c (t .trees)
 

@@ -246,3 +246,12 @@ made-is a r s f h e =
       rows = ap rowsIn (k .lines) ∙ intern-rows r f h;
       number = number-place a s r ∙ intern-number r f h;
     }
+
+-- the words stay where the row is found, and no value is found where they do not
+pub stays-or-none : {X : Type 0} (a r : List ℕ) → Formeds (valueLines a) → Formed r → (withValue a r ≡ a → X) → (findRow (valueRow r) (rowsIn (valueLines a)) ≡ none → X) → X
+unfolding withValue found-at
+stays-or-none {X} a r f h y n = go (ltb (placeOf r (valueLines a)) (length (valueLines a))) refl
+  where
+    go : (b : Bool) → ltb (placeOf r (valueLines a)) (length (valueLines a)) ≡ b → X
+    go true e = y (ap (λ (b : Bool). cond (b || not (roomFor a (length r))) a (withMade a r)) e)
+    go false e = n (find-is r f h ∙ ap (λ (b : Bool). cond b (some (placeOf r (valueLines a))) none) e)
