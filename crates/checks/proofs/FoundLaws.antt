@@ -2,6 +2,9 @@
 use mathlib.Core.Path.{_≡_, refl, sym, ap, ap₂, subst, _∙_}
 use mathlib.Core.Bool.{Bool, true, false, cond, not, _&&_, _||_, and-eq-true-iff}
 use mathlib.Core.List.{List, [], _∷_}
+use mathlib.Core.Logic.{_⊎_, inl, inr}
+use Prim.Native.String.{String}
+use Rattle.sheet.specs.Ascii.{ascii}
 use Prim.Native.Nat.{ℕ, zero, suc, _+_, _-_, _*_, _/_, _%_, _≤_, _<_}
 use native.Mathlib.Numerals.{add-one}
 use native.Mathlib.Omega.{arith}
@@ -11,29 +14,59 @@ use lib.ListN.{length, getD, drop, drop-of-length-le, length-drop}
 use lib.Seq.{drop-cons, getD-drop}
 use Rattle.cedar.specs.Numbered.{memN}
 use Rattle.sheet.specs.Bytes.{same}
-use Rattle.sheet.specs.Forms.{Slot, entry, line, lineOr, lineUnknown, word, number, nothing, Form, forms, formOf, noForm, slotAt, tag, items, at, mark, everyFrom, refs, ascendings}
+use Rattle.sheet.specs.Forms.{Slot, entry, line, lineOr, lineUnknown, word, number, nothing, dash, Form, forms, formOf, noForm, slotAt, tag, items, at, mark, everyFrom, refs, ascendings}
 use Rattle.sheet.specs.State.{linesOf, lineAt, count}
 use Rattle.sheet.specs.Sheet.{thereIs, allThere, ascend, among, firsts, above, fresh, found, deepest, depth}
 use Rattle.table.specs.Layout.{held, part, rowsOf, textRow}
 use Rattle.table.proofs.Rows.{count-held, count-rows, lines-held}
-use Rattle.checks.specs.Codes.{codeOf}
+use Rattle.cedar.proofs.Tools.{no-true}
+use Rattle.forms.specs.declared.Form as F
+use Rattle.forms.specs.Rows.{wordCode, coded, code as codeOf}
+use Rattle.table.proofs.Counts.{items-are}
+use Rattle.checks.specs.Codes.{keyIn}
 use Rattle.checks.specs.Depths.{ThereAs, thereDepth}
-use Rattle.checks.proofs.FormTable.{stepIn}
+use Rattle.checks.proofs.FormTable.{stepIn, rises-are, step-some, step-none}
 use Rattle.checks.proofs.OrderLaws.{rowsHeld}
 
 -- ---- what an item refers to
 
-half-odd : (k : ℕ) → (2 * k + 1 - 1) / 2 ≡ k
-half-odd k = omega arith
+word-low : (w : String) → wordCode w ≤ 7
+word-low w = go (same (ascii w) (ascii "e")) (same (ascii w) (ascii "o")) (same (ascii w) (ascii "0")) (same (ascii w) (ascii "p"))
+  where
+    go : (a b c d : Bool) → cond a 3 (cond b 4 (cond c 5 (cond d 6 7))) ≤ 7
+    go true b c d = omega arith
+    go false true c d = omega arith
+    go false false true d = omega arith
+    go false false false true = omega arith
+    go false false false false = omega arith
 
-half-even : (k : ℕ) → (2 * k + 2 - 1) / 2 ≡ k
-half-even k = omega arith
+pub words-low : (ws : List String) → codeOf (word ws) ≤ 7
+unfolding codeOf
+words-low [] = omega arith
+words-low (w ∷ ws) = word-low w
 
-rem-odd : (k : ℕ) → (2 * k + 1) % 2 ≡ 1
-rem-odd k = omega arith
+-- a line of key k, or a mark, has a number of 48 or 64 and k
+pub marks-high : (b k : ℕ) → (codeOf (lineOr b k) ≡ 48 + k) ⊎ (codeOf (lineOr b k) ≡ 64 + k)
+unfolding codeOf
+marks-high b k = go (eqb b dash)
+  where
+    go : (y : Bool) → (cond y 48 64 + k ≡ 48 + k) ⊎ (cond y 48 64 + k ≡ 64 + k)
+    go true = inl refl
+    go false = inr refl
 
-rem-even : (k : ℕ) → (2 * k + 2) % 2 ≡ 0
-rem-even k = omega arith
+key-mark : (b k : ℕ) → k ≤ 12 → codeOf (lineOr b k) % 16 ≡ k
+key-mark b k h = go (marks-high b k)
+  where
+    go : (codeOf (lineOr b k) ≡ 48 + k) ⊎ (codeOf (lineOr b k) ≡ 64 + k) → codeOf (lineOr b k) % 16 ≡ k
+    go (inl e) = omega (arith, e)
+    go (inr e) = omega (arith, e)
+
+pub mark-high : (b k : ℕ) → 48 ≤ codeOf (lineOr b k)
+mark-high b k = go (marks-high b k)
+  where
+    go : (codeOf (lineOr b k) ≡ 48 + k) ⊎ (codeOf (lineOr b k) ≡ 64 + k) → 48 ≤ codeOf (lineOr b k)
+    go (inl e) = omega (arith, e)
+    go (inr e) = omega (arith, e)
 
 or-true : (x : Bool) → (x || true) ≡ true
 or-true true = refl
@@ -44,77 +77,65 @@ or-false true = refl
 or-false false = refl
 
 module _ (a : List ℕ) (x : ℕ) where
-  there-none : (s : Slot) → codeOf s ≡ 0 → true ≡ thereIs (rowsHeld a) s x
+  there-none : (s : Slot) → codeOf s < 16 → true ≡ thereIs (rowsHeld a) s x
   unfolding codeOf
   there-none entry e = refl
   there-none (line k) e = absurd (omega arith)
-  there-none (lineOr b k) e = absurd (omega arith)
+  there-none (lineOr b k) e = absurd (omega (arith, mark-high b k))
   there-none (lineUnknown k) e = absurd (omega arith)
   there-none (word ws) e = refl
   there-none number e = refl
   there-none nothing e = refl
 
-  there-in : (s : Slot) (n : ℕ) → (codeOf s ≡ 0 → ⊥) → codeOf s ≤ 26 → n ≡ getD a ((codeOf s - 1) / 2) 0 → x < n → true ≡ thereIs (rowsHeld a) s x
-  unfolding codeOf
-  there-in entry n z l e h = absurd (z refl)
-  there-in (line k) n z l e h =
-      let c : n ≡ count (rowsHeld a) k = e ∙ ap (λ (i : ℕ). getD a i 0) (half-odd k) ∙ sym (count-held [] a [] k (omega arith)) in
-      sym (rw (← c) (lt-ltb x n h))
-  there-in (lineOr b k) n z l e h =
-      let c : n ≡ count (rowsHeld a) k = e ∙ ap (λ (i : ℕ). getD a i 0) (half-even k) ∙ sym (count-held [] a [] k (omega arith)) in
-      sym (rw (← c, lt-ltb x n h) (or-true (eqb x mark)))
-  there-in (lineUnknown k) n z l e h =
-      let c : n ≡ count (rowsHeld a) k = e ∙ ap (λ (i : ℕ). getD a i 0) (half-even k) ∙ sym (count-held [] a [] k (omega arith)) in
-      sym (rw (← c, lt-ltb x n h) (or-true (eqb x mark)))
-  there-in (word ws) n z l e h = absurd (z refl)
-  there-in number n z l e h = absurd (z refl)
-  there-in nothing n z l e h = absurd (z refl)
+  counted : (n k m : ℕ) → k ≤ 12 → n ≡ getD a m 0 → m ≡ k → n ≡ count (rowsHeld a) k
+  counted n k m l e q = e ∙ ap (λ (i : ℕ). getD a i 0) q ∙ sym (count-held [] a [] k (omega arith))
 
-  there-out : (s : Slot) (n : ℕ) → (codeOf s ≡ 0 → ⊥) → codeOf s ≤ 26 → n ≡ getD a ((codeOf s - 1) / 2) 0 → n ≤ x → codeOf s % 2 ≡ 1 → false ≡ thereIs (rowsHeld a) s x
-  unfolding codeOf
-  there-out entry n z l e h o = absurd (z refl)
-  there-out (line k) n z l e h o =
-      let c : n ≡ count (rowsHeld a) k = e ∙ ap (λ (i : ℕ). getD a i 0) (half-odd k) ∙ sym (count-held [] a [] k (omega arith)) in
-      sym (rw (← c) (le-ltb x n h))
-  there-out (lineOr b k) n z l e h o = absurd (omega (arith, rem-even k, o))
-  there-out (lineUnknown k) n z l e h o = absurd (omega (arith, rem-even k, o))
-  there-out (word ws) n z l e h o = absurd (z refl)
-  there-out number n z l e h o = absurd (z refl)
-  there-out nothing n z l e h o = absurd (z refl)
+  there-in : (s : Slot) (n : ℕ) → 16 ≤ codeOf s → keyIn s ≤ 12 → n ≡ getD a (codeOf s % 16) 0 → x < n → true ≡ thereIs (rowsHeld a) s x
+  unfolding codeOf keyIn
+  there-in entry n z l e h = absurd (omega arith)
+  there-in (line k) n z l e h = sym (rw (← counted n k ((16 + k) % 16) l e (omega arith)) (lt-ltb x n h))
+  there-in (lineOr b k) n z l e h = sym (rw (← counted n k (codeOf (lineOr b k) % 16) l e (key-mark b k l), lt-ltb x n h) (or-true (eqb x mark)))
+  there-in (lineUnknown k) n z l e h = sym (rw (← counted n k ((32 + k) % 16) l e (omega arith), lt-ltb x n h) (or-true (eqb x mark)))
+  there-in (word ws) n z l e h = absurd (omega (arith, words-low ws))
+  there-in number n z l e h = absurd (omega arith)
+  there-in nothing n z l e h = absurd (omega arith)
 
-  there-mark : (s : Slot) (n : ℕ) → (codeOf s ≡ 0 → ⊥) → codeOf s ≤ 26 → n ≡ getD a ((codeOf s - 1) / 2) 0 → n ≤ x → (codeOf s % 2 ≡ 1 → ⊥) → eqb x 10000 ≡ thereIs (rowsHeld a) s x
-  unfolding codeOf
-  there-mark entry n z l e h o = absurd (z refl)
-  there-mark (line k) n z l e h o = absurd (o (rem-odd k))
-  there-mark (lineOr b k) n z l e h o =
-      let c : n ≡ count (rowsHeld a) k = e ∙ ap (λ (i : ℕ). getD a i 0) (half-even k) ∙ sym (count-held [] a [] k (omega arith)) in
-      sym (rw (← c, le-ltb x n h) (or-false (eqb x mark)))
-  there-mark (lineUnknown k) n z l e h o =
-      let c : n ≡ count (rowsHeld a) k = e ∙ ap (λ (i : ℕ). getD a i 0) (half-even k) ∙ sym (count-held [] a [] k (omega arith)) in
-      sym (rw (← c, le-ltb x n h) (or-false (eqb x mark)))
-  there-mark (word ws) n z l e h o = absurd (z refl)
-  there-mark number n z l e h o = absurd (z refl)
-  there-mark nothing n z l e h o = absurd (z refl)
+  there-out : (s : Slot) (n : ℕ) → 16 ≤ codeOf s → keyIn s ≤ 12 → n ≡ getD a (codeOf s % 16) 0 → n ≤ x → codeOf s < 32 → false ≡ thereIs (rowsHeld a) s x
+  unfolding codeOf keyIn
+  there-out entry n z l e h o = absurd (omega arith)
+  there-out (line k) n z l e h o = sym (rw (← counted n k ((16 + k) % 16) l e (omega arith)) (le-ltb x n h))
+  there-out (lineOr b k) n z l e h o = absurd (omega (arith, mark-high b k))
+  there-out (lineUnknown k) n z l e h o = absurd (omega arith)
+  there-out (word ws) n z l e h o = absurd (omega (arith, words-low ws))
+  there-out number n z l e h o = absurd (omega arith)
+  there-out nothing n z l e h o = absurd (omega arith)
+
+  there-mark : (s : Slot) (n : ℕ) → 32 ≤ codeOf s → keyIn s ≤ 12 → n ≡ getD a (codeOf s % 16) 0 → n ≤ x → eqb x 10000 ≡ thereIs (rowsHeld a) s x
+  unfolding codeOf keyIn
+  there-mark entry n z l e h = absurd (omega arith)
+  there-mark (line k) n z l e h = absurd (omega arith)
+  there-mark (lineOr b k) n z l e h = sym (rw (← counted n k (codeOf (lineOr b k) % 16) l e (key-mark b k l), le-ltb x n h) (or-false (eqb x mark)))
+  there-mark (lineUnknown k) n z l e h = sym (rw (← counted n k ((32 + k) % 16) l e (omega arith), le-ltb x n h) (or-false (eqb x mark)))
+  there-mark (word ws) n z l e h = absurd (omega (arith, words-low ws))
+  there-mark number n z l e h = absurd (omega arith)
+  there-mark nothing n z l e h = absurd (omega arith)
 
 module _ (a : List ℕ) (c x : ℕ) where
-  pub ref-none : c ≡ 0 → ThereAs a c x true
-  ref-none z = record { is = λ s hc. there-none a x s (sym (hc .0) ∙ z) }
+  pub ref-none : c < 16 → ThereAs a c x true
+  ref-none z = record { is = λ s hc. there-none a x s (omega (arith, hc .0)) }
 
-  module _ (n : ℕ) (z : c ≡ 0 → ⊥) (e : n ≡ getD a ((c - 1) / 2) 0) where
-    some-code : (s : Slot) → c ≡ codeOf s → codeOf s ≡ 0 → ⊥
-    some-code s h q = z (h ∙ q)
-
-    count-code : (s : Slot) → c ≡ codeOf s → n ≡ getD a ((codeOf s - 1) / 2) 0
-    count-code s h = e ∙ ap (λ (y : ℕ). getD a ((y - 1) / 2) 0) h
+  module _ (n : ℕ) (z : 16 ≤ c) (e : n ≡ getD a (c % 16) 0) where
+    count-code : (s : Slot) → c ≡ codeOf s → n ≡ getD a (codeOf s % 16) 0
+    count-code s h = e ∙ ap (λ (y : ℕ). getD a (y % 16) 0) h
 
     pub ref-in : x < n → ThereAs a c x true
-    ref-in h = record { is = λ s hc. there-in a x s n (some-code s (hc .0)) (omega (arith, hc .0, hc .1)) (count-code s (hc .0)) h }
+    ref-in h = record { is = λ s hc. there-in a x s n (omega (arith, hc .0)) (hc .1) (count-code s (hc .0)) h }
 
-    pub ref-out : n ≤ x → c % 2 ≡ 1 → ThereAs a c x false
-    ref-out h o = record { is = λ s hc. there-out a x s n (some-code s (hc .0)) (omega (arith, hc .0, hc .1)) (count-code s (hc .0)) h (ap (λ (y : ℕ). y % 2) (sym (hc .0)) ∙ o) }
+    pub ref-out : n ≤ x → c < 32 → ThereAs a c x false
+    ref-out h o = record { is = λ s hc. there-out a x s n (omega (arith, hc .0)) (hc .1) (count-code s (hc .0)) h (omega (arith, hc .0)) }
 
-    pub ref-mark : n ≤ x → (c % 2 ≡ 1 → ⊥) → ThereAs a c x (eqb x 10000)
-    ref-mark h o = record { is = λ s hc. there-mark a x s n (some-code s (hc .0)) (omega (arith, hc .0, hc .1)) (count-code s (hc .0)) h (λ q. o (ap (λ (y : ℕ). y % 2) (hc .0) ∙ q)) }
+    pub ref-mark : n ≤ x → 32 ≤ c → ThereAs a c x (eqb x 10000)
+    ref-mark h o = record { is = λ s hc. there-mark a x s n (omega (arith, hc .0)) (hc .1) (count-code s (hc .0)) h }
 
 -- ---- a row's items in turn
 
@@ -223,6 +244,28 @@ rising-start r t m n ht hm z hn =
       low = omega arith;
       near = omega (arith, hn .1);
     }
+
+-- by the row of the table
+module _ (r : List ℕ) (t : ℕ) (q : F.Form) (ht : t ≡ tag r) (e : q ≡ coded (formOf t)) where
+  pub rises-flat : not (q .rises) ≡ true → true ≡ ascend 0 (ascendings r)
+  rises-flat h = rises-none r t 0 ht (step-none t q e (flat (q .rises) h)) refl
+    where
+      flat : (b : Bool) → not b ≡ true → b ≡ false
+      flat true h = sym h
+      flat false h = refl
+
+  pub rising-first : not (q .rises) ≡ false → Rising r (q .group) 0 (q .items)
+  rising-first h = rising-start r t (q .group) (q .items) ht s (λ z. never z) (items-are t q e)
+    where
+      up : (b : Bool) → not b ≡ false → b ≡ true
+      up true h = refl
+      up false h = sym h
+
+      s : (q .group ≡ stepIn (formOf t)) × (q .group ≤ 3)
+      s = step-some t q e (up (q .rises) h)
+
+      never : q .group ≡ 0 → ⊥
+      never z = no-true (sym (none-rise (formOf t) (all-grouped t) (sym (s .0) ∙ z)) ∙ sym (rises-are t q e) ∙ up (q .rises) h)
 
 items-at : (r : List ℕ) (j : ℕ) → getD (items r) j 0 ≡ getD r (j + 1) 0
 items-at r j = let e : 1 + j ≡ j + 1 = omega arith in getD-drop 1 r j 0 ∙ ap (λ (i : ℕ). getD r i 0) e

@@ -7,11 +7,12 @@ use lib.ListN.{length}
 use Rattle.sheet.specs.Forms.{Slot, tag, items}
 use Rattle.sheet.specs.Sheet.{thereIs, allThere, depth}
 use Rattle.table.specs.Layout.{held}
-use Rattle.checks.specs.Codes.{codeOf}
+use Rattle.forms.specs.Rows.{code}
+use Rattle.checks.specs.Codes.{keyIn}
 
 -- whether item x is there, at a place of code c
 pub record ThereAs (a : List ℕ) (c x : ℕ) (v : Bool) : Type 0 where
-  pub is : (s : Slot) → (c ≡ codeOf s) × (c ≤ 26) → v ≡ thereIs (held [] a []) s x
+  pub is : (s : Slot) → (c ≡ code s) × (keyIn s ≤ 12) → v ≡ thereIs (held [] a []) s x
 
 -- the depth of a row of key k; 0 where it refers to a line that is not there
 unfoldable pub thereDepth : List ℕ → List ℕ → ℕ → List ℕ → ℕ

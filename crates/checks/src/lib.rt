@@ -1,4 +1,7 @@
 // The checks of one row against the rows that the words hold: order of keys, limits, references, repeats, depth, uses of nodes.
+use forms::Form;
+use forms::form_of;
+use forms::slots_of;
 use scan::same_bytes;
 use scan::same_words;
 use table::ACTION;
@@ -17,9 +20,7 @@ use table::VALUE;
 use table::base_of;
 use table::bytes;
 use table::count;
-use table::group_of;
 use table::item;
-use table::items_of;
 use table::row;
 use table::tag;
 use words::cut;
@@ -39,7 +40,7 @@ ghost use Rattle.sheet.specs.State.{count};
 ghost use Rattle.sheet.specs.Sheet.{greatest, enough, inOrder, ascend, among, firsts, above, fresh, found, depth};
 ghost use Rattle.table.specs.Layout.{rowAt, rowsOf, textRow, textRows, held};
 ghost use Rattle.table.proofs.Held.{depthsIn};
-ghost use Rattle.checks.specs.Codes.{formCodes, againCodes, codesAfter};
+ghost use Rattle.checks.specs.Codes.{packed, packedFrom, codesAfter};
 ghost use Rattle.checks.specs.Depths.{ThereAs, thereDepth, OnTwo, OnNone};
 ghost use Rattle.checks.specs.Ends.{RowEnds, endsOf, TextEnds};
 ghost use Rattle.checks.specs.Uses.{Marked};
@@ -58,96 +59,11 @@ const MARK: u32 = 10000;
 
 // ---- the table of forms
 
-// How many lie between items that ascend; 0 where none do.
-fn step_of(t: u32) -> usize
-    ensures { λ r. ⌜ (r ≡ cond (formOf t .ascends) (length (formOf t .group)) 0) × (r ≤ 3) ⌝ }
+// What may stand at the places of a form's group, which follow those of its items: a byte each, the first the lowest.
+fn again_of(f: Form) -> u32
+    ensures { λ r. ⌜ r ≡ packedFrom (f .items) (packed f) ⌝ }
 {
-    if t < 16 {
-        return digit(0x2100_0013_0000_0000, t as usize);
-    }
-    if t == 48 {
-        return 2;
-    }
-    0
-}
-
-// What four items of a form refer to, a byte each, the first the lowest: the forms before those of most nodes.
-fn codes_low(t: u32) -> u32
-    requires { ⌜ t < 24 ⌝ }
-    ensures { λ r. ⌜ r ≡ getD formCodes t 0 ⌝ }
-{
-    match t {
-        2 => 0x0000_0003,
-        6 => 0x0000_0005,
-        7 => 0x0000_0007,
-        8 => 0x0007_0003,
-        9 => 0x0005_0807,
-        12 => 0x0000_0003,
-        13 => 0x0000_0305,
-        14 => 0x0000_000b,
-        15 => 0x0000_0b03,
-        16 => 0x0c0c_0c0b,
-        17 => 0x0000_0405,
-        18 => 0x0000_0305,
-        19 => 0x0000_0405,
-        20 => 0x0000_0c07,
-        21 => 0x0000_0b07,
-        22 => 0x0000_0007,
-        23 => 0x0000_0007,
-        _ => 0,
-    }
-}
-
-// The same of the forms after them.
-fn codes_high(t: u32) -> u32
-    requires { ⌜ 38 ≤ t ⌝ }
-    ensures { λ r. ⌜ r ≡ getD formCodes t 0 ⌝ }
-{
-    match t {
-        38 => 0x1717_1707,
-        39 => 0x0005_1707,
-        40 => 0x0004_1707,
-        41 => 0x0003_1707,
-        42 => 0x0003_1707,
-        43 => 0x0303_1707,
-        44 => 0x0000_1707,
-        45 => 0x0000_1707,
-        46 => 0x0000_1707,
-        47 => 0x0000_1707,
-        48 => 0x0017_0307,
-        49 => 0x0017_0003,
-        _ => 0,
-    }
-}
-
-// The same of every form.
-fn codes_of(t: u32) -> u32
-    ensures { λ r. ⌜ r ≡ getD formCodes t 0 ⌝ }
-{
-    if t < 24 {
-        return codes_low(t);
-    }
-    if t < 38 {
-        return 0x0017_1707;
-    }
-    codes_high(t)
-}
-
-// The same of the items that follow in a group, any number of times; 0 for a form without a group.
-fn again_of(t: u32) -> u32
-    ensures { λ r. ⌜ r ≡ getD againCodes t 0 ⌝ }
-{
-    match t {
-        8 => 0x0007_0003,
-        9 => 0x0000_0005,
-        14 => 0x0000_000b,
-        15 => 0x0000_0b03,
-        40 => 0x0000_0004,
-        43 => 0x0000_0003,
-        47 => 0x0000_0017,
-        48 => 0x0000_1703,
-        _ => 0,
-    }
+    (slots_of(f) as usize >> (f.items % 8 * 8)) as u32
 }
 
 // What the places after the first of w refer to: the rest of w, or the group once more.
@@ -261,14 +177,14 @@ pub fn is_full(a: &[u32], k: usize) -> bool
 fn is_there(a: &[u32], c: usize, x: u32) -> bool
     ensures { λ r. ⌜ ThereAs (now (a .entry)) c x r ⌝ }
 {
-    if c == 0 {
+    if c < 16 {
         return true;
     }
-    let n = count(a, (c - 1) / 2);
+    let n = count(a, c % 16);
     if x < n {
         return true;
     }
-    if c % 2 == 1 {
+    if c < 32 {
         return false;
     }
     x == MARK
@@ -278,12 +194,13 @@ fn ascends(r: &[u32]) -> bool
     ensures { λ b. ⌜ b ≡ ascend 0 (ascendings (now (r .entry))) ⌝ }
 {
     let t = tag(r);
-    let m = step_of(t);
-    if m == 0 {
+    let f = form_of(t);
+    if !f.rises {
         return true;
     }
+    let m = f.group;
     let mut lo: usize = 0;
-    let mut j = items_of(t as usize);
+    let mut j = f.items;
     while j + 1 < r.len() {
         let x = item(r, j + 1) as usize;
         if x < lo {
@@ -479,9 +396,9 @@ fn depth_at(a: &[u32], b: &[u32], k: usize, n: u32) -> u32
 // The depth that item x adds to that of a line of key k, as code c asks.
 fn depth_from(a: &[u32], b: &[u32], k: usize, c: usize, x: u32) -> u32
     requires { ⌜ k < 13 ⌝ }
-    ensures { λ d. ⌜ d ≡ cond (eqb c (2 * k + 1)) (getD (depthsIn (now (a .entry)) (now (b .entry)) k) x 0) 0 ⌝ }
+    ensures { λ d. ⌜ d ≡ cond (eqb c (16 + k)) (getD (depthsIn (now (a .entry)) (now (b .entry)) k) x 0) 0 ⌝ }
 {
-    if c != 2 * k + 1 {
+    if c != 16 + k {
         return 0;
     }
     depth_at(a, b, k, x)
@@ -502,8 +419,9 @@ fn depth_listed(a: &[u32], b: &[u32], k: usize, r: &[u32]) -> usize
     ensures { λ d. ⌜ d ≡ thereDepth (now (a .entry)) (now (b .entry)) k (now (r .entry)) ⌝ }
 {
     let t = tag(r);
-    let again = again_of(t);
-    let mut w = codes_of(t);
+    let f = form_of(t);
+    let again = again_of(f);
+    let mut w = slots_of(f);
     let mut d: u32 = 0;
     let mut j = 0;
     while j + 1 < r.len() {
@@ -630,9 +548,9 @@ pub fn new_depth(a: &[u32], b: &[u32], k: usize, r: &[u32]) -> usize
 
 // Marks node x as used, if c refers to one. Returns whether it was used before.
 fn use_node(a: &[u32], b: &mut [u32], c: usize, x: u32) -> bool
-    ensures { λ r. ⌜ Marked (now (a .entry)) (now (b .entry)) (keep (eqb c 23) x []) (now (b .exit)) r ⌝ }
+    ensures { λ r. ⌜ Marked (now (a .entry)) (now (b .entry)) (keep (eqb c 27) x []) (now (b .exit)) r ⌝ }
 {
-    if c != 23 {
+    if c != 27 {
         return false;
     }
     let n = count(a, NODE);
@@ -653,8 +571,9 @@ fn use_listed(a: &[u32], b: &mut [u32], r: &[u32]) -> bool
     ensures { λ d. ⌜ Marked (now (a .entry)) (now (b .entry)) (refs 11 (now (r .entry))) (now (b .exit)) d ⌝ }
 {
     let t = tag(r);
-    let again = again_of(t);
-    let mut w = codes_of(t);
+    let f = form_of(t);
+    let again = again_of(f);
+    let mut w = slots_of(f);
     let mut j = 0;
     while j + 1 < r.len() {
         let c = w as usize % 256;
@@ -674,11 +593,11 @@ fn use_two(a: &[u32], b: &mut [u32], r: &[u32]) -> bool
     ensures { λ d. ⌜ Marked (now (a .entry)) (now (b .entry)) (refs 11 (now (r .entry))) (now (b .exit)) d ⌝ }
 {
     let y = item(r, 2);
-    if use_node(a, b, 23, y) {
+    if use_node(a, b, 27, y) {
         return true;
     }
     let z = item(r, 3);
-    use_node(a, b, 23, z)
+    use_node(a, b, 27, z)
 }
 
 // The same of every row; those of the forms before 24 use no node.

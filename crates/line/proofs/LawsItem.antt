@@ -15,14 +15,15 @@ use lib.Seq.{lt-length-set, take-set-le, drop-set-lt, drop-cons, getD-set-same, 
 use Rattle.sheet.specs.Ascii.{ascii}
 use Rattle.words.specs.Log.{part}
 use Rattle.sheet.specs.Bytes.{upTo, same, split, index, long}
-use Rattle.sheet.specs.Forms.{partial, complete, entry, line, lineUnknown, number, nothing, placeIn, wordNumber, one, markOr, isPartial, item}
+use Rattle.sheet.specs.Forms.{partial, complete, entry, line, lineOr, lineUnknown, number, nothing, dash, asterisk, placeIn, wordNumber, one, markOr, isPartial, item}
 use Rattle.scan.specs.declared.Number as N
 use Rattle.scan.specs.Numbers.{numberOf, placed}
 use Rattle.scan.proofs.Scans.{same-is, same-last, comparing-never}
 use Rattle.scan.proofs.Decimals.{index-small}
 use Rattle.scan.proofs.Wordlists.{words-are}
 use Rattle.table.proofs.Counts.{NoneOf}
-use Rattle.line.specs.Codes.{modeOf, slotOf, specials}
+use Rattle.forms.specs.Rows.{slotOf, specials}
+use Rattle.line.specs.Codes.{modeOf}
 use Rattle.line.specs.declared.Digits as D
 use Rattle.line.specs.Written.{told, indexAt, Item, After}
 
@@ -90,13 +91,21 @@ unmarked-is f k b r e t h = rw (← e, t) h
 -- ---- slots by their numbers
 
 module _ (p : Bool) (s : ℕ) (f : List ℕ) (r : N.Number) where
-  pub unknown-partial : 32 ≤ s → p ≡ true → numberOf r ≡ markOr (same f (63 ∷ [])) (index f) → one (numberOf r) ≡ item (modeOf p) (slotOf s) f
+  pub star-or : 64 ≤ s → numberOf r ≡ markOr (same f (42 ∷ [])) (index f) → one (numberOf r) ≡ item (modeOf p) (slotOf s) f
   unfolding slotOf
-  unknown-partial h e q = rw (le-ltb s 16 (omega arith), le-ltb s 32 h, e) (ap one q)
+  star-or h q = rw (le-ltb s 16 (omega arith), le-ltb s 32 (omega arith), le-ltb s 48 (omega arith), le-ltb s 64 h) (ap one q)
 
-  pub unknown-complete : 32 ≤ s → p ≡ false → numberOf r ≡ index f → one (numberOf r) ≡ item (modeOf p) (slotOf s) f
+  pub dash-or : s < 64 → 48 ≤ s → numberOf r ≡ markOr (same f (45 ∷ [])) (index f) → one (numberOf r) ≡ item (modeOf p) (slotOf s) f
   unfolding slotOf
-  unknown-complete h e q = rw (le-ltb s 16 (omega arith), le-ltb s 32 h, e) (ap one q)
+  dash-or l h q = rw (le-ltb s 16 (omega arith), le-ltb s 32 (omega arith), le-ltb s 48 h, lt-ltb s 64 l) (ap one q)
+
+  pub unknown-partial : s < 48 → 32 ≤ s → p ≡ true → numberOf r ≡ markOr (same f (63 ∷ [])) (index f) → one (numberOf r) ≡ item (modeOf p) (slotOf s) f
+  unfolding slotOf
+  unknown-partial l h e q = rw (le-ltb s 16 (omega arith), le-ltb s 32 h, lt-ltb s 48 l, e) (ap one q)
+
+  pub unknown-complete : s < 48 → 32 ≤ s → p ≡ false → numberOf r ≡ index f → one (numberOf r) ≡ item (modeOf p) (slotOf s) f
+  unfolding slotOf
+  unknown-complete l h e q = rw (le-ltb s 16 (omega arith), le-ltb s 32 h, lt-ltb s 48 l, e) (ap one q)
 
   pub line-index : s < 32 → 16 ≤ s → numberOf r ≡ index f → one (numberOf r) ≡ item (modeOf p) (slotOf s) f
   unfolding slotOf
@@ -126,27 +135,17 @@ module _ (p : Bool) (s : ℕ) (f : List ℕ) (r : N.Number) where
   unfolding slotOf
   slot-7 e q = rw e (ap one q)
 
-  pub slot-8 : s ≡ 8 → numberOf r ≡ markOr (same f (45 ∷ [])) (index f) → one (numberOf r) ≡ item (modeOf p) (slotOf s) f
-  unfolding slotOf
-  slot-8 e q = rw e (ap one q)
-
-  pub slot-9 : s ≡ 9 → numberOf r ≡ markOr (same f (42 ∷ [])) (index f) → one (numberOf r) ≡ item (modeOf p) (slotOf s) f
-  unfolding slotOf
-  slot-9 e q = rw e (ap one q)
-
-pub slot-none : (p : Bool) (s : ℕ) (f : List ℕ) → (s ≡ 0 → ⊥) → s < 16 → (s ≡ 2 → ⊥) → (s ≡ 3 → ⊥) → (s ≡ 4 → ⊥) → (s ≡ 5 → ⊥) → (s ≡ 6 → ⊥) → (s ≡ 7 → ⊥) → (s ≡ 8 → ⊥) → (s ≡ 9 → ⊥) → one (numberOf N.the-variants.Refused) ≡ item (modeOf p) (slotOf s) f
+pub slot-none : (p : Bool) (s : ℕ) (f : List ℕ) → (s ≡ 1 → ⊥) → s < 16 → (s ≡ 2 → ⊥) → (s ≡ 3 → ⊥) → (s ≡ 4 → ⊥) → (s ≡ 5 → ⊥) → (s ≡ 6 → ⊥) → (s ≡ 7 → ⊥) → one (numberOf N.the-variants.Refused) ≡ item (modeOf p) (slotOf s) f
 unfolding slotOf
-slot-none p zero f z h a b c d e g i j = absurd (z refl)
-slot-none p (suc zero) f z h a b c d e g i j = refl
-slot-none p (suc (suc zero)) f z h a b c d e g i j = absurd (a refl)
-slot-none p (suc (suc (suc zero))) f z h a b c d e g i j = absurd (b refl)
-slot-none p (suc (suc (suc (suc zero)))) f z h a b c d e g i j = absurd (c refl)
-slot-none p (suc (suc (suc (suc (suc zero))))) f z h a b c d e g i j = absurd (d refl)
-slot-none p (suc (suc (suc (suc (suc (suc zero)))))) f z h a b c d e g i j = absurd (e refl)
-slot-none p (suc (suc (suc (suc (suc (suc (suc zero))))))) f z h a b c d e g i j = absurd (g refl)
-slot-none p (suc (suc (suc (suc (suc (suc (suc (suc zero)))))))) f z h a b c d e g i j = absurd (i refl)
-slot-none p (suc (suc (suc (suc (suc (suc (suc (suc (suc zero))))))))) f z h a b c d e g i j = absurd (j refl)
-slot-none p (suc (suc (suc (suc (suc (suc (suc (suc (suc (suc n)))))))))) f z h a b c d e g i j = rw (lt-ltb (suc (suc (suc (suc (suc (suc (suc (suc (suc (suc n)))))))))) 16 h) refl
+slot-none p zero f z h a b c d e g = refl
+slot-none p (suc zero) f z h a b c d e g = absurd (z refl)
+slot-none p (suc (suc zero)) f z h a b c d e g = absurd (a refl)
+slot-none p (suc (suc (suc zero))) f z h a b c d e g = absurd (b refl)
+slot-none p (suc (suc (suc (suc zero)))) f z h a b c d e g = absurd (c refl)
+slot-none p (suc (suc (suc (suc (suc zero))))) f z h a b c d e g = absurd (d refl)
+slot-none p (suc (suc (suc (suc (suc (suc zero)))))) f z h a b c d e g = absurd (e refl)
+slot-none p (suc (suc (suc (suc (suc (suc (suc zero))))))) f z h a b c d e g = absurd (g refl)
+slot-none p (suc (suc (suc (suc (suc (suc (suc (suc n)))))))) f z h a b c d e g = rw (lt-ltb (suc (suc (suc (suc (suc (suc (suc (suc n)))))))) 16 h) refl
 
 no-some : {A X : Type 0} {a : A} → none ≡ some a → X
 no-some e = let z : _≡_ {A = ℕ} 0 1 = cc in absurd (omega arith)
@@ -177,9 +176,9 @@ low-one : (o : Option ℕ) → Low o → (x : ℕ) → one o ≡ some (x ∷ [])
 low-one none h x e = no-some e
 low-one (some n) h x e = let z : n ≡ x = cc in omega (arith, h n refl)
 
-special-low : (p : Bool) (s : ℕ) (f : List ℕ) (x : ℕ) → (s ≡ 0 → ⊥) → item (modeOf p) (getD specials s nothing) f ≡ some (x ∷ []) → x ≤ 10000
-special-low p zero f x z e = absurd (z refl)
-special-low p (suc zero) f x z e = no-some e
+special-low : (p : Bool) (s : ℕ) (f : List ℕ) (x : ℕ) → (s ≡ 1 → ⊥) → item (modeOf p) (getD specials s nothing) f ≡ some (x ∷ []) → x ≤ 10000
+special-low p zero f x z e = no-some e
+special-low p (suc zero) f x z e = absurd (z refl)
 special-low true (suc (suc zero)) f x z e = low-one (wordNumber f ("partial" ∷ [])) (low-word f ("partial" ∷ []) (omega arith)) x e
 special-low false (suc (suc zero)) f x z e = low-one (wordNumber f ("complete" ∷ [])) (low-word f ("complete" ∷ []) (omega arith)) x e
 special-low p (suc (suc (suc zero))) f x z e = low-one (wordNumber f ("e" ∷ "a" ∷ [])) (low-word f ("e" ∷ "a" ∷ []) (omega arith)) x e
@@ -187,18 +186,18 @@ special-low p (suc (suc (suc (suc zero)))) f x z e = low-one (wordNumber f ("o" 
 special-low p (suc (suc (suc (suc (suc zero))))) f x z e = low-one (wordNumber f ("0" ∷ "1" ∷ [])) (low-word f ("0" ∷ "1" ∷ []) (omega arith)) x e
 special-low p (suc (suc (suc (suc (suc (suc zero)))))) f x z e = low-one (wordNumber f ("p" ∷ "a" ∷ "r" ∷ "c" ∷ [])) (low-word f ("p" ∷ "a" ∷ "r" ∷ "c" ∷ []) (omega arith)) x e
 special-low p (suc (suc (suc (suc (suc (suc (suc zero))))))) f x z e = low-one (wordNumber f ("permit" ∷ "forbid" ∷ [])) (low-word f ("permit" ∷ "forbid" ∷ []) (omega arith)) x e
-special-low p (suc (suc (suc (suc (suc (suc (suc (suc zero)))))))) f x z e = low-one (markOr (same f (45 ∷ [])) (index f)) (low-mark (same f (45 ∷ [])) f) x e
-special-low p (suc (suc (suc (suc (suc (suc (suc (suc (suc zero))))))))) f x z e = low-one (markOr (same f (42 ∷ [])) (index f)) (low-mark (same f (42 ∷ [])) f) x e
-special-low p (suc (suc (suc (suc (suc (suc (suc (suc (suc (suc n)))))))))) f x z e = no-some e
+special-low p (suc (suc (suc (suc (suc (suc (suc (suc n)))))))) f x z e = no-some e
 
-slot-low : (p : Bool) (s : ℕ) (f : List ℕ) (x : ℕ) → (s ≡ 0 → ⊥) → item (modeOf p) (slotOf s) f ≡ some (x ∷ []) → x ≤ 10000
+slot-low : (p : Bool) (s : ℕ) (f : List ℕ) (x : ℕ) → (s ≡ 1 → ⊥) → item (modeOf p) (slotOf s) f ≡ some (x ∷ []) → x ≤ 10000
 unfolding slotOf
-slot-low p s f x z e = go p (ltb s 16) (ltb s 32) e
+slot-low p s f x z e = go p (ltb s 16) (ltb s 32) (ltb s 48) (ltb s 64) e
   where
-    go : (p t u : Bool) → item (modeOf p) (cond t (getD specials s nothing) (cond u (line (s - 16)) (lineUnknown (s - 32)))) f ≡ some (x ∷ []) → x ≤ 10000
-    go p true u q = special-low p s f x z q
-    go p false true q = low-one (index f) (low-index f) x q
-    go p false false q = low-one (markOr (isPartial (modeOf p) && same f (63 ∷ [])) (index f)) (low-mark (isPartial (modeOf p) && same f (63 ∷ [])) f) x q
+    go : (p t u v y : Bool) → item (modeOf p) (cond t (getD specials s nothing) (cond u (line (s - 16)) (cond v (lineUnknown (s - 32)) (cond y (lineOr dash (s - 48)) (lineOr asterisk (s - 64)))))) f ≡ some (x ∷ []) → x ≤ 10000
+    go p true u v y q = special-low p s f x z q
+    go p false true v y q = low-one (index f) (low-index f) x q
+    go p false false true y q = low-one (markOr (isPartial (modeOf p) && same f (63 ∷ [])) (index f)) (low-mark (isPartial (modeOf p) && same f (63 ∷ [])) f) x q
+    go p false false false true q = low-one (markOr (same f (45 ∷ [])) (index f)) (low-mark (same f (45 ∷ [])) f) x q
+    go p false false false false q = low-one (markOr (same f (42 ∷ [])) (index f)) (low-mark (same f (42 ∷ [])) f) x q
 
 -- ---- an index, where a line may stand
 
@@ -220,20 +219,25 @@ module _ (s : List ℕ) (a : ℕ) (d : D.Digits) (h : d ≡ indexAt s a) where
       let q = told-some (a + upTo 44 (drop a s)) (index (part s a (a + upTo 44 (drop a s)))) n e (sym g ∙ h) in
       (ap (λ (i : ℕ). index (part s a i)) (q .1) ∙ q .0, q .1)
 
-unmarked : (f : List ℕ) (n : ℕ) → index f ≡ some n → same f (63 ∷ []) ≡ false
-unmarked f n e = go (same f (63 ∷ [])) refl
+unmarked : (b : ℕ) (f : List ℕ) (n : ℕ) → index (b ∷ []) ≡ none → index f ≡ some n → same f (b ∷ []) ≡ false
+unmarked b f n m e = go (same f (b ∷ [])) refl
   where
-    go : (t : Bool) → same f (63 ∷ []) ≡ t → t ≡ false
-    go true q = no-some (ap index (sym (same-is f (63 ∷ []) q)) ∙ e)
+    go : (t : Bool) → same f (b ∷ []) ≡ t → t ≡ false
+    go true q = no-some (sym m ∙ ap index (sym (same-is f (b ∷ []) q)) ∙ e)
     go false q = refl
 
+marked-index : (b : ℕ) (f : List ℕ) (n : ℕ) → index (b ∷ []) ≡ none → index f ≡ some n → some n ≡ markOr (same f (b ∷ [])) (index f)
+marked-index b f n m e = sym (ap (λ (t : Bool). markOr t (index f)) (unmarked b f n m e) ∙ e)
+
 pub slot-index : (p : Bool) (s : ℕ) (f : List ℕ) (n : ℕ) → 16 ≤ s → index f ≡ some n → one (numberOf (N.the-variants.Value n)) ≡ item (modeOf p) (slotOf s) f
-slot-index p s f n h e = go p (decLt s 32)
+slot-index p s f n h e = go p (decLt s 32) (decLt s 48) (decLt s 64)
   where
-    go : (p : Bool) → Dec (s < 32) → one (numberOf (N.the-variants.Value n)) ≡ item (modeOf p) (slotOf s) f
-    go p (yes l) = line-index p s f (N.the-variants.Value n) l h (sym e)
-    go true (no l) = unknown-partial true s f (N.the-variants.Value n) (omega arith) refl (sym (ap (λ (t : Bool). markOr t (index f)) (unmarked f n e) ∙ e))
-    go false (no l) = unknown-complete false s f (N.the-variants.Value n) (omega arith) refl (sym e)
+    go : (p : Bool) → Dec (s < 32) → Dec (s < 48) → Dec (s < 64) → one (numberOf (N.the-variants.Value n)) ≡ item (modeOf p) (slotOf s) f
+    go p (yes l) u v = line-index p s f (N.the-variants.Value n) l h (sym e)
+    go true (no l) (yes u) v = unknown-partial true s f (N.the-variants.Value n) u (omega arith) refl (marked-index 63 f n refl e)
+    go false (no l) (yes u) v = unknown-complete false s f (N.the-variants.Value n) u (omega arith) refl (sym e)
+    go p (no l) (no u) (yes v) = dash-or p s f (N.the-variants.Value n) v (omega arith) (marked-index 45 f n refl e)
+    go p (no l) (no u) (no v) = star-or p s f (N.the-variants.Value n) (omega arith) (marked-index 42 f n refl e)
 
 -- ---- an item in words
 
@@ -270,19 +274,19 @@ special-empty p (suc (suc (suc (suc zero)))) = refl
 special-empty p (suc (suc (suc (suc (suc zero))))) = refl
 special-empty p (suc (suc (suc (suc (suc (suc zero)))))) = refl
 special-empty p (suc (suc (suc (suc (suc (suc (suc zero))))))) = refl
-special-empty p (suc (suc (suc (suc (suc (suc (suc (suc zero)))))))) = refl
-special-empty p (suc (suc (suc (suc (suc (suc (suc (suc (suc zero))))))))) = refl
-special-empty p (suc (suc (suc (suc (suc (suc (suc (suc (suc (suc n)))))))))) = refl
+special-empty p (suc (suc (suc (suc (suc (suc (suc (suc n)))))))) = refl
 
 slot-empty : (p : Bool) (s : ℕ) → item (modeOf p) (slotOf s) [] ≡ none
 unfolding slotOf
-slot-empty p s = go p (ltb s 16) (ltb s 32)
+slot-empty p s = go p (ltb s 16) (ltb s 32) (ltb s 48) (ltb s 64)
   where
-    go : (p t u : Bool) → item (modeOf p) (cond t (getD specials s nothing) (cond u (line (s - 16)) (lineUnknown (s - 32)))) [] ≡ none
-    go p true u = special-empty p s
-    go p false true = refl
-    go true false false = refl
-    go false false false = refl
+    go : (p t u v y : Bool) → item (modeOf p) (cond t (getD specials s nothing) (cond u (line (s - 16)) (cond v (lineUnknown (s - 32)) (cond y (lineOr dash (s - 48)) (lineOr asterisk (s - 64)))))) [] ≡ none
+    go p true u v y = special-empty p s
+    go p false true v y = refl
+    go true false false true y = refl
+    go false false false true y = refl
+    go p false false false true = refl
+    go p false false false false = refl
 
 item-wide : (p : Bool) (s : ℕ) (f l : List ℕ) → item (modeOf p) (slotOf s) f ≡ some l → 1 ≤ length f
 item-wide p s [] l e = no-some (sym (slot-empty p s) ∙ e)
@@ -290,7 +294,7 @@ item-wide p s (x ∷ f) l e = omega arith
 
 module _ (p : Bool) (s k : ℕ) (f w : List ℕ) (m : N.Number) where
   -- a long
-  pub put-long : (v : ℕ) → s ≡ 0 → numberOf m ≡ long f → m ≡ N.the-variants.Value v → (k + 2 ≤ 16384) × (16384 ≤ length w)
+  pub put-long : (v : ℕ) → s ≡ 1 → numberOf m ≡ long f → m ≡ N.the-variants.Value v → (k + 2 ≤ 16384) × (16384 ≤ length w)
       → Item (item (modeOf p) (slotOf s) f) f w (set (set w k (v / 4294967296)) (k + 1) (v % 4294967296)) s k 2
   unfolding slotOf
   put-long v e h g l =
@@ -310,7 +314,7 @@ module _ (p : Bool) (s k : ℕ) (f w : List ℕ) (m : N.Number) where
   nothing-put e =
       record { item = e; kept = record { below = refl; rest = refl }; few = omega arith; two = λ z. absurd (omega arith); wide = λ z. absurd (omega arith) }
 
-  pub put-no-long : s ≡ 0 → numberOf m ≡ long f → m ≡ N.the-variants.Refused → Item (item (modeOf p) (slotOf s) f) f w w s k 0
+  pub put-no-long : s ≡ 1 → numberOf m ≡ long f → m ≡ N.the-variants.Refused → Item (item (modeOf p) (slotOf s) f) f w w s k 0
   unfolding slotOf
   put-no-long e h g = let q : long f ≡ none = sym h ∙ ap numberOf g in nothing-put (rw (e, q) refl)
 
@@ -322,7 +326,7 @@ module _ (p : Bool) (s k : ℕ) (f w : List ℕ) (m : N.Number) where
       one-is : item (modeOf p) (slotOf s) f ≡ some (x ∷ [])
       one-is = sym h ∙ ap (λ (n : N.Number). one (numberOf n)) g
 
-      pub one-low : (s ≡ 0 → ⊥) → x ≤ 10000
+      pub one-low : (s ≡ 1 → ⊥) → x ≤ 10000
       one-low z = slot-low p s f x z one-is
 
       pub put-one : (k + 2 ≤ 16384) × (16384 ≤ length w) → Item (item (modeOf p) (slotOf s) f) f w (set w k x) s k 1

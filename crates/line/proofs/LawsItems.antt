@@ -18,7 +18,7 @@ use Rattle.scan.proofs.Scans.{drop-take}
 use Rattle.scan.proofs.Splits.{found-le, split-parts, split-at, after-on, after-end}
 use Rattle.line.specs.Codes.{modeOf, SlotAt}
 use Rattle.line.specs.Written.{given, countedFrom, Kept, After, Items}
-use Rattle.line.proofs.LawsTable.{placesAt, eleven, slot-here, counted-equal, counted-less, counted-alone, counted-within, place-again}
+use Rattle.line.proofs.LawsTable.{Places, eleven, slot-here, counted-equal, counted-less, counted-alone, counted-within, place-again}
 
 -- ---- words
 
@@ -145,7 +145,7 @@ module _ (s : List ℕ) (p : Bool) (t : ℕ) (w₀ : List ℕ) (e₀ j₀ k₀ :
         let more : 1 ≤ length (partsAfter 44 s e) = omega (arith, ap length (after-on 44 s e h ∙ split-parts 44 (drop (e + 1) s))) in
         uncounted (counted-alone t n g hn hg (j + length (partsAfter 44 s e)) (omega arith) z)
 
-    module _ (slots x e₂ r : ℕ) (w₂ : List ℕ) (hs : slots ≡ placesAt t) (hx : x ≡ byteOf slots j) (ne : j ≡ n + g → ⊥) (y : After (modeOf p) s w w₂ e x k e₂ r) where
+    module _ (slots x e₂ r : ℕ) (w₂ : List ℕ) (hs : Places t slots) (hx : x ≡ byteOf slots j) (ne : j ≡ n + g → ⊥) (y : After (modeOf p) s w w₂ e x k e₂ r) where
       inside : j < n + g
       inside = omega (arith, u .within, hn .0, hg .0)
 

@@ -11,7 +11,7 @@ use Rattle.sheet.specs.Bytes.{upTo, index}
 use Rattle.sheet.specs.Forms.{Mode, item, itemsFrom, counted, keyOf, TEXT, NODE}
 use Rattle.table.specs.Layout.{textRow}
 use Rattle.line.specs.declared.Digits as D
-use Rattle.line.specs.Codes.{slotOf}
+use Rattle.forms.specs.Rows.{slotOf}
 
 -- an index and its end
 abbrev pub told : ℕ → Option ℕ → D.Digits
@@ -41,7 +41,7 @@ pub record Item (o : Option (List ℕ)) (bytes was is : List ℕ) (slot k r : �
   pub item : o ≡ given r (take r (drop k is))
   pub kept : Kept was is k
   pub few : r ≤ 2
-  pub two : r ≡ 2 → slot ≡ 0
+  pub two : r ≡ 2 → slot ≡ 1
   pub wide : 1 ≤ r → 1 ≤ length bytes
 
 -- the item after the separator at byte a, up to byte e, of r words from k on

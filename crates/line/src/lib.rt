@@ -1,4 +1,17 @@
 // One line of a sheet: its row of numbers, written into lent words.
+use forms::BIT;
+use forms::DASH;
+use forms::EFFECT;
+use forms::ENTRY;
+use forms::FIELD_LETTER;
+use forms::KIND_LETTER;
+use forms::LINE;
+use forms::NUMBER;
+use forms::PART_LETTER;
+use forms::STAR;
+use forms::UNKNOWN;
+use forms::form_of;
+use forms::slots_of;
 use scan::Cursor;
 use scan::Number;
 use scan::find;
@@ -11,8 +24,6 @@ use scan::place;
 use scan::same_bytes;
 use scan::type_form;
 use scan::value_form;
-use table::group_of;
-use table::items_of;
 use words::byte;
 ghost use mathlib.Core.Path.{_≡_};
 ghost use mathlib.Core.Bool.{cond};
@@ -25,7 +36,8 @@ ghost use Rattle.sheet.specs.Bytes.{same, split, index};
 ghost use Rattle.sheet.specs.Forms.{entry, formOf, item, joined, markOr, one, orEmpty, tagOf, wordNumber, rowFor, rowHeaded, heading, nameFirst, nameSecond, rowOfValue, rowOf};
 ghost use Rattle.scan.specs.Numbers.{numberOf};
 ghost use Rattle.scan.specs.Places.{partsAfter, itemsAt};
-ghost use Rattle.line.specs.Codes.{modeOf, slotOf, formSlots};
+ghost use Rattle.forms.specs.Rows.{slotOf};
+ghost use Rattle.line.specs.Codes.{modeOf};
 ghost use Rattle.line.specs.Written.{indexAt, countedFrom, Item, After, Items, Row, Text, Line, room};
 
 // The keys that are read in a way of their own.
@@ -51,71 +63,6 @@ struct Placed {
 
 // What a mark is in a row.
 const MARK: u64 = 10000;
-
-// What may stand at four places of a form, its group after its items: a byte each, the first the lowest. The forms before those of most nodes.
-fn slots_low(t: usize) -> u32
-    requires { ⌜ t < 24 ⌝ }
-    ensures { λ r. ⌜ r ≡ getD formSlots t 0x0101_0101 ⌝ }
-{
-    match t {
-        0 => 0x0101_0102,
-        2 => 0x0101_0311,
-        6 => 0x0101_0112,
-        7 => 0x0101_0113,
-        8 => 0x0113_0411,
-        9 => 0x0112_0813,
-        10 => 0x0101_0105,
-        11 => 0x0101_0100,
-        12 => 0x0101_0111,
-        13 => 0x0101_1112,
-        14 => 0x0101_0115,
-        15 => 0x0101_1511,
-        16 => 0x2525_2515,
-        17 => 0x0101_2112,
-        18 => 0x0101_1112,
-        19 => 0x0101_2112,
-        20 => 0x0101_2513,
-        21 => 0x0101_1513,
-        22 => 0x0101_0113,
-        23 => 0x0101_0613,
-        _ => 0x0101_0101,
-    }
-}
-
-// The same of the forms after them.
-fn slots_high(t: usize) -> u32
-    requires { ⌜ 38 ≤ t ⌝ }
-    ensures { λ r. ⌜ r ≡ getD formSlots t 0x0101_0101 ⌝ }
-{
-    match t {
-        38 => 0x1b1b_1b13,
-        39 => 0x0112_1b13,
-        40 => 0x0109_1b13,
-        41 => 0x0111_1b13,
-        42 => 0x0111_1b13,
-        43 => 0x1111_1b13,
-        44 => 0x0101_1b13,
-        45 => 0x0101_1b13,
-        46 => 0x0101_1b13,
-        47 => 0x0101_1b13,
-        48 => 0x011b_1113,
-        49 => 0x011b_0711,
-        _ => 0x0101_0101,
-    }
-}
-
-// The same of every form.
-fn slots_of(t: usize) -> u32
-    ensures { λ r. ⌜ r ≡ getD formSlots t 0x0101_0101 ⌝ }
-{
-    if t < 24 {
-        return slots_low(t);
-    }
-    if t < 38 {
-        return 0x011b_1b13;
-    }
-    slots_high(t)
-}
 
 // A mark or an index.
 fn mark_or_index(f: &[u8], mark: &[u8]) -> Number
@@ -167,38 +114,42 @@ fn effect(f: &[u8]) -> Number
 }
 
 // An item of one number, by what may stand at its place.
-fn one_number(partial: bool, s: usize, f: &[u8]) -> Number
-    requires { ⌜ (s ≡ 0 → ⊥) ⌝ }
+fn one_number(partial: bool, s: u8, f: &[u8]) -> Number
+    requires { ⌜ (s ≡ 1 → ⊥) ⌝ }
     ensures { λ r. ⌜ one (numberOf r) ≡ item (modeOf partial) (slotOf s) (now (f .entry)) ⌝ }
 {
-    if 32 <= s {
+    if STAR <= s {
+        return mark_or_index(f, b"*");
+    }
+    if DASH <= s {
+        return mark_or_index(f, b"-");
+    }
+    if UNKNOWN <= s {
         if partial {
             return mark_or_index(f, b"?");
         }
         return index_of(f);
     }
-    if 16 <= s {
+    if LINE <= s {
         return index_of(f);
     }
     match s {
-        2 => entry_word(partial, f),
-        3 => place(f, b"e,a"),
-        4 => place(f, b"o,r"),
-        5 => place(f, b"0,1"),
-        6 => variable(f),
-        7 => effect(f),
-        8 => mark_or_index(f, b"-"),
-        9 => mark_or_index(f, b"*"),
+        ENTRY => entry_word(partial, f),
+        KIND_LETTER => place(f, b"e,a"),
+        FIELD_LETTER => place(f, b"o,r"),
+        BIT => place(f, b"0,1"),
+        PART_LETTER => variable(f),
+        EFFECT => effect(f),
         _ => Number::Refused,
     }
 }
 
 // Writes an item from word k on: how many words it has, 0 where it is malformed.
-fn put_item(f: &[u8], partial: bool, s: usize, w: &mut [u32], k: usize) -> usize
+fn put_item(f: &[u8], partial: bool, s: u8, w: &mut [u32], k: usize) -> usize
     requires { ⌜ (k + 2 ≤ 16384) × (16384 ≤ length (now w)) ⌝ }
     ensures { λ r. ⌜ Item (item (modeOf partial) (slotOf s) (now (f .entry))) (now (f .entry)) (now (w .entry)) (now (w .exit)) s k r ⌝ }
 {
-    if s == 0 {
+    if s == NUMBER {
         let n = long_of(f);
         match n {
             Number::Value(v) => {
@@ -274,12 +225,12 @@ fn index_at(s: &[u8], at: usize) -> Digits
 }
 
 // Writes the item after the separator at byte `at`. Most items are indices.
-fn put_next(s: &[u8], at: usize, partial: bool, slot: usize, w: &mut [u32], k: usize) -> Placed
+fn put_next(s: &[u8], at: usize, partial: bool, slot: u8, w: &mut [u32], k: usize) -> Placed
     requires { ⌜ (at < length (now s)) × (k + 2 ≤ 16384) × (16384 ≤ length (now w)) ⌝ }
     ensures { λ r. ⌜ After (modeOf partial) (now (s .entry)) (now (w .entry)) (now (w .exit)) at slot k (r .end) (r .words) ⌝ }
 {
     let start = at + 1;
-    if 16 <= slot {
+    if LINE <= slot {
         if let Digits::Index(n, end) = index_at(s, start) {
             w[k] = n;
             return Placed { end, words: 1 };
@@ -304,9 +255,10 @@ fn put_items(
     requires { ⌜ (t < 50) × (j ≤ length (formOf t .items)) × (1 ≤ k) × (at ≤ length (now s)) × (length (now s) ≤ 16384) × (16384 ≤ length (now w)) × (2 * k + length (now s) + 8 ≤ 32768 + at) ⌝ }
     ensures { λ r. ⌜ Items (countedFrom (modeOf partial) t j (partsAfter 44 (now (s .entry)) at)) (now (w .entry)) (now (w .exit)) t k r at (length (now (s .entry))) ⌝ }
 {
-    let slots = slots_of(t);
-    let n = items_of(t);
-    let last = n + group_of(t);
+    let f = form_of(t as u32);
+    let slots = slots_of(f);
+    let n = f.items;
+    let last = n + f.group;
     let mut at = at;
     let mut j = j;
     let mut k = k;
@@ -314,7 +266,7 @@ fn put_items(
         if j == last {
             return 0;
         }
-        let p = put_next(s, at, partial, byte(slots, j), w, k);
+        let p = put_next(s, at, partial, byte(slots, j) as u8, w, k);
         if p.words == 0 {
             return 0;
         }

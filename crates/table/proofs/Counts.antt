@@ -13,6 +13,8 @@ use Rattle.cedar.specs.Numbered.{memN}
 use Rattle.cedar.proofs.Tools.{no-true}
 use Rattle.words.specs.Bits.{digitOf}
 use Rattle.sheet.specs.Forms.{Form, forms, formOf, noForm}
+use Rattle.forms.specs.declared.Form as F
+use Rattle.forms.specs.Rows.{coded}
 use Rattle.sheet.proofs.Parsed.{allBelow, all-below}
 
 -- ---- entries are small
@@ -42,7 +44,7 @@ items-small : (t : ℕ) → itemsIn (formOf t) ≤ 4
 unfolding forms small
 items-small = form-small itemsIn 4 (omega arith) refl
 
-group-small : (t : ℕ) → groupIn (formOf t) ≤ 3
+pub group-small : (t : ℕ) → groupIn (formOf t) ≤ 3
 unfolding forms small
 group-small = form-small groupIn 3 (omega arith) refl
 
@@ -50,7 +52,12 @@ pub both-small : (t : ℕ) → length (formOf t .items) + length (formOf t .grou
 unfolding forms small
 both-small = form-small (λ f. length (f .items) + length (f .group)) 4 (omega arith) refl
 
--- ---- how many items, how many in a group
+-- what a row of the code's table counts
+pub items-are : (t : ℕ) (r : F.Form) → r ≡ coded (formOf t) → (r .items ≡ length (formOf t .items)) × (r .items ≤ 4)
+unfolding coded
+items-are t r e = let p : r .items ≡ length (formOf t .items) = ap (λ (f : F.Form). f .items) e in (p, omega (arith, p, both-small t))
+
+-- ---- computed tests
 
 -- what a computed test says of the n numbers from lo on
 pub ranged : (f : ℕ → Bool) (lo n : ℕ) → allBelow (λ (i : ℕ). f (lo + i)) n ≡ true → (t : ℕ) → lo ≤ t → t < lo + n → f t ≡ true
@@ -75,56 +82,6 @@ module _ (p : Form → ℕ) (m : ℕ) (few : (t : ℕ) → p (formOf t) ≤ m) (
 pub past-end : (p : Form → ℕ) (m : ℕ) → p noForm ≤ m → (t : ℕ) → 50 ≤ t → (p noForm ≡ p (formOf t)) × (p noForm ≤ m)
 unfolding formOf forms
 past-end p m h t u = (sym (ap p (List·getD-eq-default forms noForm u)), h)
-
-module _ (t r : ℕ) where
-  pub items-first : r ≡ digitOf 0x0021_1120_1100_0201 t → t < 16 → (r ≡ itemsIn (formOf t)) × (r ≤ 4)
-  unfolding forms formOf digitOf
-  items-first h = by-digit itemsIn 4 items-small 0 16 0x0021_1120_1100_0201 refl t r h (omega arith)
-
-  pub items-second : r ≡ digitOf 0x3333_3333_2122_2224 t → 16 ≤ t → t < 32 → (r ≡ itemsIn (formOf t)) × (r ≤ 4)
-  unfolding forms formOf digitOf
-  items-second = by-digit itemsIn 4 items-small 16 16 0x3333_3333_2122_2224 refl t r
-
-  pub items-third : r ≡ digitOf 0x1222_3332_3433_3333 t → 32 ≤ t → t < 48 → (r ≡ itemsIn (formOf t)) × (r ≤ 4)
-  unfolding forms formOf digitOf
-  items-third = by-digit itemsIn 4 items-small 32 16 0x1222_3332_3433_3333 refl t r
-
-  pub group-first : r ≡ digitOf 0x2100_0013_0000_0000 t → t < 16 → (r ≡ groupIn (formOf t)) × (r ≤ 3)
-  unfolding forms formOf digitOf
-  group-first h = by-digit groupIn 3 group-small 0 16 0x2100_0013_0000_0000 refl t r h (omega arith)
-
-  pub group-third : r ≡ digitOf 0x1000_1001_0000_0000 t → 32 ≤ t → t < 48 → (r ≡ groupIn (formOf t)) × (r ≤ 3)
-  unfolding forms formOf digitOf
-  group-third = by-digit groupIn 3 group-small 32 16 0x1000_1001_0000_0000 refl t r
-
-module _ (t : ℕ) where
-  pub items-policy : t ≡ 49 → (3 ≡ itemsIn (formOf t)) × (3 ≤ 4)
-  unfolding forms formOf
-  items-policy h = all-same itemsIn 4 items-small 49 1 3 refl t (omega arith) (omega arith)
-
-  pub items-last : 48 ≤ t → (t ≡ 49 → ⊥) → (1 ≡ itemsIn (formOf t)) × (1 ≤ 4)
-  unfolding forms formOf
-  items-last h ne = go (ℕ-discrete t 48)
-    where
-      go : Dec (t ≡ 48) → (1 ≡ itemsIn (formOf t)) × (1 ≤ 4)
-      go (yes e) = all-same itemsIn 4 items-small 48 1 1 refl t h (omega arith)
-      go (no d) = past-end itemsIn 4 (omega arith) t (omega arith)
-
-  pub group-second : 16 ≤ t → t < 32 → (0 ≡ groupIn (formOf t)) × (0 ≤ 3)
-  unfolding forms formOf
-  group-second = all-same groupIn 3 group-small 16 16 0 refl t
-
-  pub group-record : t ≡ 48 → (2 ≡ groupIn (formOf t)) × (2 ≤ 3)
-  unfolding forms formOf
-  group-record h = all-same groupIn 3 group-small 48 1 2 refl t (omega arith) (omega arith)
-
-  pub group-last : 48 ≤ t → (t ≡ 48 → ⊥) → (0 ≡ groupIn (formOf t)) × (0 ≤ 3)
-  unfolding forms formOf
-  group-last h ne = go (ℕ-discrete t 49)
-    where
-      go : Dec (t ≡ 49) → (0 ≡ groupIn (formOf t)) × (0 ≤ 3)
-      go (yes e) = all-same groupIn 3 group-small 49 1 0 refl t (omega arith) (omega arith)
-      go (no d) = past-end groupIn 3 (omega arith) t (omega arith)
 
 -- an item of a group stands among the form's four
 pub group-place : (t j n g : ℕ) → n ≡ itemsIn (formOf t) → g ≡ groupIn (formOf t) → (g ≡ 0 → ⊥) → n + (j - n) % g < 4

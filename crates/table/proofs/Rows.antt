@@ -16,56 +16,9 @@ use Rattle.table.proofs.Counts.{small, entry-small, form-small, ranged}
 
 -- ---- the tables of keys and of places
 
-unfoldable pub keysOfForms : List ℕ
-keysOfForms = 0 ∷ 1 ∷ 2 ∷ 3 ∷ 3 ∷ 3 ∷ 3 ∷ 3 ∷ 3 ∷ 4 ∷ 5 ∷ 5 ∷ 5 ∷ 5 ∷ 5 ∷ 5 ∷ 6 ∷ 7 ∷ 8 ∷ 9 ∷ 10 ∷ 11 ∷ 11 ∷ 11 ∷ 11
-    ∷ 11 ∷ 11 ∷ 11 ∷ 11 ∷ 11 ∷ 11 ∷ 11 ∷ 11 ∷ 11 ∷ 11 ∷ 11 ∷ 11 ∷ 11 ∷ 11 ∷ 11 ∷ 11 ∷ 11 ∷ 11 ∷ 11 ∷ 11 ∷ 11 ∷ 11 ∷ 11 ∷ 11 ∷ 12 ∷ []
-
-key-is : (t : ℕ) → getD keysOfForms t 13 ≡ formOf t .key
-unfolding keysOfForms forms formOf
-key-is t = List·getD-map (λ f. f .key) forms t noForm
-
 pub base-small : (k : ℕ) → base k ≤ 2978
 unfolding base bases small
 base-small k = entry-small 2978 bases k 0 (omega arith) refl
-
--- ---- the tables as the code decides them
-
--- a number that is the key of every form from lo on, n of them
-key-among : (lo n : ℕ) (f : ℕ → ℕ) → allBelow (λ (i : ℕ). eqb (f (lo + i)) (getD keysOfForms (lo + i) 13)) n ≡ true → (t : ℕ) → lo ≤ t → t < lo + n → f t ≡ formOf t .key
-key-among lo n f e t l h = eqb-true (f t) (getD keysOfForms t 13) (ranged (λ (i : ℕ). eqb (f i) (getD keysOfForms i 13)) lo n e t l h) ∙ key-is t
-
-module _ (t : ℕ) where
-  pub key-request : 16 ≤ t → t < 21 → t - 10 ≡ formOf t .key
-  unfolding keysOfForms
-  key-request = key-among 16 5 (λ (i : ℕ). i - 10) refl t
-
-  pub key-value : 10 ≤ t → t < 16 → 5 ≡ formOf t .key
-  unfolding keysOfForms
-  key-value = key-among 10 6 (λ (i : ℕ). 5) refl t
-
-  pub key-shape : t ≡ 9 → 4 ≡ formOf t .key
-  unfolding keysOfForms
-  key-shape e = key-among 9 1 (λ (i : ℕ). 4) refl t (omega arith) (omega arith)
-
-  pub key-type : 3 ≤ t → t < 10 → (t ≡ 9 → ⊥) → 3 ≡ formOf t .key
-  unfolding keysOfForms
-  key-type l h ne = key-among 3 6 (λ (i : ℕ). 3) refl t l (omega arith)
-
-  pub key-first : t < 3 → t ≡ formOf t .key
-  unfolding keysOfForms
-  key-first h = key-among 0 3 (λ (i : ℕ). i) refl t (omega arith) h
-
-  pub key-node : 21 ≤ t → t < 49 → 11 ≡ formOf t .key
-  unfolding keysOfForms
-  key-node = key-among 21 28 (λ (i : ℕ). 11) refl t
-
-  pub key-policy : t ≡ 49 → 12 ≡ formOf t .key
-  unfolding keysOfForms
-  key-policy e = key-among 49 1 (λ (i : ℕ). 12) refl t (omega arith) (omega arith)
-
-  pub key-none : 49 ≤ t → (t ≡ 49 → ⊥) → 13 ≡ formOf t .key
-  unfolding keysOfForms
-  key-none h ne = let l : 50 ≤ t = omega arith in sym (List·getD-eq-default keysOfForms 13 l) ∙ key-is t
 
 pub base-at : (k i v : ℕ) → k ≡ i → v ≡ base i → (v ≡ base k) × (v < heap)
 base-at k i v e q = (q ∙ ap base (sym e), omega (arith, q, base-small i))

@@ -1,11 +1,11 @@
 // The rows of a sheet in the lent words: every row of every key by its number, in constant time, and a row more at the heap's end.
+use forms::form_of;
 use words::cut;
-use words::digit;
 use words::put;
 use words::read;
 ghost use mathlib.Core.Path.{_≡_};
-ghost use Prim.Native.Nat.{_≤_, _<_};
-ghost use lib.ListN.{length, getD};
+ghost use Prim.Native.Nat.{_<_};
+ghost use lib.ListN.{getD};
 ghost use mathlib.Core.List.{[]};
 ghost use Rattle.sheet.specs.Forms.{tag, formOf};
 ghost use Rattle.words.specs.Log.{part};
@@ -113,78 +113,11 @@ pub fn tag(r: &[u32]) -> u32
     r[0]
 }
 
-// The key of a form that stands before the nodes'.
-fn key_before_nodes(t: u32) -> usize
-    requires { ⌜ t < 21 ⌝ }
-    ensures { λ k. ⌜ k ≡ formOf t .key ⌝ }
-{
-    if 16 <= t {
-        return t as usize - 10;
-    }
-    if 10 <= t {
-        return VALUE;
-    }
-    if t == 9 {
-        return SHAPE;
-    }
-    if 3 <= t {
-        return TYPE;
-    }
-    t as usize
-}
-
 // The key of a form.
 pub fn key_of(t: u32) -> usize
     ensures { λ k. ⌜ k ≡ formOf t .key ⌝ }
 {
-    if t < 21 {
-        return key_before_nodes(t);
-    }
-    if t < 49 {
-        return NODE;
-    }
-    if t == 49 {
-        return POLICY;
-    }
-    13
-}
-
-// How many items a form has: a digit for each form, form 0 the lowest.
-pub fn items_of(t: usize) -> usize
-    ensures { λ r. ⌜ (r ≡ length (formOf t .items)) × (r ≤ 4) ⌝ }
-{
-    if t < 16 {
-        return digit(0x0021_1120_1100_0201, t);
-    }
-    if t < 32 {
-        return digit(0x3333_3333_2122_2224, t);
-    }
-    if t < 48 {
-        return digit(0x1222_3332_3433_3333, t);
-    }
-    if t == 49 {
-        return 3;
-    }
-    1
-}
-
-// How many may follow in a group, any number of times.
-pub fn group_of(t: usize) -> usize
-    ensures { λ r. ⌜ (r ≡ length (formOf t .group)) × (r ≤ 3) ⌝ }
-{
-    if t < 16 {
-        return digit(0x2100_0013_0000_0000, t);
-    }
-    if t < 32 {
-        return 0;
-    }
-    if t < 48 {
-        return digit(0x1000_1001_0000_0000, t);
-    }
-    if t == 48 {
-        return 2;
-    }
-    0
+    form_of(t).key
 }
 
 // The part of the sheet from `s` to `e`, cut at its end.

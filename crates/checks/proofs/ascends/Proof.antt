@@ -1,5 +1,5 @@
 -- `checks::ascends` meets its contract. Assumes nothing.
-use Rattle.checks.proofs.FoundLaws.{rises-none, Rising, rising-start, rising-off, rising-on, rising-end}
+use Rattle.checks.proofs.FoundLaws.{rises-flat, Rising, rising-first, rising-off, rising-on, rising-end}
 use Prim.Native.Nat.{_-_}
 use lib.ListN.{length}
 use borrow.Author.Needs.{needs}
@@ -13,10 +13,10 @@ abbrev μ-loop : tie.MeasureT-loop
 μ-loop r t m lo₀ j₀ lo j = length r - j
 
 returns : tie.Need-returns Inv-loop μ-loop
-returns c = search (rises-none, needs)
+returns c = search (rises-flat, needs)
 
 loop-holds : tie.Need-loop-holds Inv-loop μ-loop
-loop-holds c = search (rising-start, needs)
+loop-holds c = search (rising-first, needs)
 
 returns-2 : tie.Need-returns-2 Inv-loop μ-loop
 returns-2 c = search (rising-off, needs)
@@ -36,8 +36,6 @@ ascends-spec =
     (λ c κs. search needs)
     (λ c κs. search needs)
     returns
-    (λ c. search needs)
-    (λ c κs. search needs)
     loop-holds
     (λ c. search needs)
     (λ c. search needs)

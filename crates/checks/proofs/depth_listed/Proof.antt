@@ -1,5 +1,8 @@
 -- `checks::depth_listed` meets its contract. Assumes nothing.
 use Rattle.checks.proofs.DepthLaws.{Walk, walk-start, walk-off, walk-on, walk-end}
+use Rattle.checks.proofs.FormTable.{codes-are, again-are}
+use mathlib.Core.Path.{_≡_}
+use Rattle.checks.specs.Codes.{againCode}
 use Prim.Native.Nat.{_-_}
 use lib.ListN.{length}
 use borrow.Author.Needs.{needs}
@@ -7,13 +10,13 @@ use Rattle.checks.proofs.depth_listed.Statement.{statement}
 use Rattle.checks.proofs.depth_listed.Tie as tie
 
 abbrev Inv-loop : tie.InvT-loop
-Inv-loop a b k r t again w₀ d₀ j₀ w d j = Walk a b k r w d j
+Inv-loop a b k r t again w₀ d₀ j₀ w d j = (Walk a b k r w d j) × (again ≡ againCode t)
 
 abbrev μ-loop : tie.MeasureT-loop
 μ-loop a b k r t again w₀ d₀ j₀ w d j = length r - j
 
 loop-holds : tie.Need-loop-holds Inv-loop μ-loop
-loop-holds c = search (walk-start, needs)
+loop-holds c = search (walk-start, codes-are, again-are, needs)
 
 returns : tie.Need-returns Inv-loop μ-loop
 returns c = search (walk-off, needs)
@@ -30,6 +33,7 @@ depth-listed-spec =
     (tie.spec
     Inv-loop
     μ-loop
+    (λ c κs. search needs)
     (λ c κs. search needs)
     (λ c κs. search needs)
     (λ c κs. search needs)
