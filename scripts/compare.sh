@@ -15,7 +15,7 @@ if [ ! -d "$source/cedar-policy-core" ]; then
 fi
 OPENRULES_CEDAR_SRC=$(cd "$source" && pwd)
 export OPENRULES_CEDAR_SRC
-rt staticlib ffi
+rt staticlib openrules_c
 cd host
 cargo build --release --offline --quiet --features library
 exec target/release/host compare "${1:-4000}" "${2:-1}"
