@@ -151,6 +151,38 @@ RECORD-OF = SET-OF + 1
 abbrev pub POLICY-LINE : ℕ
 POLICY-LINE = RECORD-OF + 1
 
--- how many forms there are; a tag that no form has
-abbrev pub NO-FORM : ℕ
-NO-FORM = POLICY-LINE + 1
+-- ---- words at a place: what each is in a row
+
+-- `e` and `a` of a kind
+abbrev pub ORDINARY : ℕ
+ORDINARY = 0
+
+abbrev pub OF-ACTIONS : ℕ
+OF-ACTIONS = 1
+
+-- `o` and `r` of an attribute
+abbrev pub OPTIONAL : ℕ
+OPTIONAL = 0
+
+abbrev pub REQUIRED : ℕ
+REQUIRED = 1
+
+-- `p`, `a`, `r` and `c` of a variable
+abbrev pub PART-P : ℕ
+PART-P = 0
+
+abbrev pub PART-A : ℕ
+PART-A = 1
+
+abbrev pub PART-R : ℕ
+PART-R = 2
+
+abbrev pub PART-C : ℕ
+PART-C = 3
+
+-- the effects of a policy
+abbrev pub PERMIT : ℕ
+PERMIT = 0
+
+abbrev pub FORBID : ℕ
+FORBID = 1

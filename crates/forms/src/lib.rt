@@ -84,6 +84,32 @@ pub const TEXT_OR_STAR: u8 = STAR + TEXT as u8;
 // What a mark is in a row.
 pub const MARK: u32 = 10000;
 
+// ---- words at a place: what each is in a row
+
+// `e` and `a` of a kind.
+pub const ORDINARY: u32 = 0;
+
+pub const OF_ACTIONS: u32 = 1;
+
+// `o` and `r` of an attribute.
+pub const OPTIONAL: u32 = 0;
+
+pub const REQUIRED: u32 = 1;
+
+// `p`, `a`, `r` and `c` of a variable.
+pub const PART_P: u32 = 0;
+
+pub const PART_A: u32 = 1;
+
+pub const PART_R: u32 = 2;
+
+pub const PART_C: u32 = 3;
+
+// The effects of a policy.
+pub const PERMIT: u32 = 0;
+
+pub const FORBID: u32 = 1;
+
 // ---- tags
 
 pub const SHEET_LINE: u32 = 0;
@@ -187,7 +213,7 @@ pub const RECORD_OF: u32 = SET_OF + 1;
 pub const POLICY_LINE: u32 = RECORD_OF + 1;
 
 // How many forms there are; a tag that no form has.
-pub const NO_FORM: u32 = POLICY_LINE + 1;
+pub const NO_TAG: u32 = POLICY_LINE + 1;
 
 // ---- the table
 

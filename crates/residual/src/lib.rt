@@ -13,6 +13,15 @@ ghost use Rattle.table.specs.Layout.{rowsOf};
 ghost use Rattle.residual.specs.Rows.{litRow, errRow, leftRow, wordAt, stageAt, startAt};
 ghost use Rattle.residual.specs.Errs.{opErrs, blocksErr, errsBy, errs};
 
+// What a policy is found to be, as a number.
+pub const CLASS_TRUE: u32 = 0;
+
+pub const CLASS_FALSE: u32 = 1;
+
+pub const CLASS_ERROR: u32 = 2;
+
+pub const CLASS_OPEN: u32 = 3;
+
 // How far a residual is worked.
 pub enum Stage {
     Value(u32),
