@@ -23,6 +23,7 @@ use Rattle.value.specs.Made.{boolRow, longRow, entityRow, Made}
 use Rattle.value.specs.Shapes.{shapeOf}
 use Rattle.value.specs.declared.Shape.{Shape}
 use Rattle.value.specs.declared.Shape.the-variants.{Bool as Boolˢ}
+use Rattle.residual.specs.Classes.{CLASS-TRUE, CLASS-FALSE, CLASS-ERROR, CLASS-OPEN, classNumber}
 use Rattle.strict.specs.Gives.{outOf, valueIn}
 use Rattle.strict.specs.Gives as S
 use Rattle.strict.specs.declared.Given.{Given}
@@ -30,7 +31,7 @@ use Rattle.strict.specs.declared.Given.the-variants.{Bool as Boolᵍ, Long, Old
 use Rattle.strict.proofs.Shapes.{value-shape, other-bool}
 use Rattle.tpe.specs.Run.{envIn}
 use Rattle.tpe.proofs.Settling.{long-words, var-last}
-use Rattle.evaluator.specs.Run.{yields, values, madeOf, giveOf, settleOf, optOf, onYield, next, boolOnly, envOf, classOf, classNumber}
+use Rattle.evaluator.specs.Run.{yields, values, madeOf, giveOf, settleOf, optOf, onYield, next, boolOnly, envOf, classOf}
 use Rattle.evaluator.specs.Gave.{Gave, truthOf, truthIn}
 use Rattle.evaluator.specs.declared.Yield.{Yield}
 use Rattle.evaluator.specs.declared.Yield.the-variants.{Value, Error}
@@ -102,7 +103,7 @@ module _ (a : List ℕ) (y : Yield) where
   unfolding boolOnly next onYield
   only-error e = rw e (record { words = refl; yield = refl })
 
-  pub class-error : y ≡ Error → 2 ≡ classNumber (classOf a y)
+  pub class-error : y ≡ Error → CLASS-ERROR ≡ classNumber (classOf a y)
   unfolding classOf
   class-error e = rw e
 
@@ -126,13 +127,13 @@ module _ (a : List ℕ) (y : Yield) where
     unfolding classOf
     class-by = ap (classOf a) e
 
-    pub class-open : t ≡ Other → 3 ≡ classNumber (classOf a y)
+    pub class-open : t ≡ Other → CLASS-OPEN ≡ classNumber (classOf a y)
     class-open h = sym (ap classNumber (class-by ∙ on-other copen truth the (says ∙ h)))
 
-    pub class-true : (x : Bool) → t ≡ Is x → x ≡ true → 0 ≡ classNumber (classOf a y)
+    pub class-true : (x : Bool) → t ≡ Is x → x ≡ true → CLASS-TRUE ≡ classNumber (classOf a y)
     class-true x h z = sym (ap classNumber (class-by ∙ on-is copen truth the x (says ∙ h) ∙ ap truth z))
 
-    pub class-false : (x : Bool) → t ≡ Is x → x ≡ false → 1 ≡ classNumber (classOf a y)
+    pub class-false : (x : Bool) → t ≡ Is x → x ≡ false → CLASS-FALSE ≡ classNumber (classOf a y)
     class-false x h z = sym (ap classNumber (class-by ∙ on-is copen truth the x (says ∙ h) ∙ ap truth z))
 
 -- ---- the request

@@ -18,7 +18,8 @@ use Rattle.table.specs.Layout.{rowsOf}
 use Rattle.table.proofs.Rows.{above}
 use Rattle.value.specs.Made.{boolRow, Made, MadeBeside, setRow, recordRow, written}
 use Rattle.residual.specs.Rows.{litRow}
-use Rattle.evaluator.specs.Run.{E, Rec, Step, Kids, Ran, yields, values, nodeIn, policyIn, madeOf, settleOf, optOf, onYield, next, onBool, boolOnly, sideOf, branchOf, kids, nextKid, kidsOf, manyOf, envOf, litStep, errStep, varStep, lazyStep, ifStep, oneStep, twoStep, setStep, recStep, binOut, unOut, twos, twoOut, each, ones, oneOut, steps, stepAt, stepOf, evalOf, classOf, classNumber, ranFrom, runOf}
+use Rattle.residual.specs.Classes.{classNumber}
+use Rattle.evaluator.specs.Run.{E, Rec, Step, Kids, Ran, yields, values, nodeIn, policyIn, madeOf, settleOf, optOf, onYield, next, onBool, boolOnly, sideOf, branchOf, kids, nextKid, kidsOf, manyOf, envOf, litStep, errStep, varStep, lazyStep, ifStep, oneStep, twoStep, setStep, recStep, binOut, unOut, twos, twoOut, each, ones, oneOut, steps, stepAt, stepOf, evalOf, classOf, ranFrom, runOf}
 use Rattle.evaluator.specs.Gave.{Gave, GaveBeside, Left, Done, truthIn, sameBool}
 use Rattle.evaluator.specs.declared.Yield.{Yield}
 use Rattle.evaluator.specs.declared.Yield.the-variants.{Value, Error}

@@ -10,7 +10,7 @@ use lib.ListN.{length, getD, drop}
 use Rattle.words.specs.Log.{appended, pushed}
 use Rattle.cedar.specs.Value.{onSome}
 use Rattle.cedar.specs.Types.{Schema}
-use Rattle.cedar.specs.Residual.{Un, unot, uneg, uempty, uis, ulike, Bin, beq, blt, ble, badd, bsub, bmul, bcontains, ball, bany, Rel, rin, rgettag, rhastag, Class, ctrue, cfalse, cerror, copen, truth}
+use Rattle.cedar.specs.Residual.{Un, unot, uneg, uempty, uis, ulike, Bin, beq, blt, ble, badd, bsub, bmul, bcontains, ball, bany, Rel, rin, rgettag, rhastag, Class, cerror, copen, truth}
 use Rattle.cedar.specs.Response.{Verdict}
 use Rattle.cedar.specs.Rows.{Row}
 use Rattle.cedar.specs.Numbered.{Give, made, old, NEnv, rowAt, rBool, NOut, give, fails, stays, truly, isSome, entryOf, nUn, nBin, nRel, onEntries, nGet, nHas}
@@ -20,6 +20,7 @@ use Rattle.table.specs.Layout.{rowsOf}
 use Rattle.value.specs.Lines.{valueLines}
 use Rattle.value.specs.Made.{boolRow, numberOf, withValue, setRow, recordRow, written}
 use Rattle.residual.specs.Rows.{litRow}
+use Rattle.residual.specs.Classes.{classNumber}
 use Rattle.tpe.specs.Run.{wordsOf, schemaIn, envIn}
 use Rattle.evaluator.specs.declared.Yield.{Yield}
 use Rattle.evaluator.specs.declared.Yield.the-variants.{Value, Error}
@@ -237,12 +238,6 @@ module _ (sheet : List ℕ) where
 unfoldable pub classOf : List ℕ → Yield → Class
 classOf a (Value v) = rBool copen (rowAt (values a) v) truth
 classOf a Error = cerror
-
-abbrev pub classNumber : Class → ℕ
-classNumber ctrue = 0
-classNumber cfalse = 1
-classNumber cerror = 2
-classNumber copen = 3
 
 -- of the policy lines of an answer
 abbrev pub classNumbers : List Verdict → List ℕ

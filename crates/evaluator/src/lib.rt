@@ -5,6 +5,10 @@ pub mod operands;
 use crate::operands::one_given;
 use crate::operands::two_given;
 use crate::operands::word_of;
+use residual::CLASS_ERROR;
+use residual::CLASS_FALSE;
+use residual::CLASS_OPEN;
+use residual::CLASS_TRUE;
 use residual::push_value;
 use strict::Given;
 use table::ACTION;
@@ -33,8 +37,9 @@ ghost use lib.ListN.{getD, take, length};
 ghost use Rattle.words.specs.Log.{Room};
 ghost use Rattle.sheet.specs.Content.{entityGiven, varOf};
 ghost use Rattle.table.specs.Layout.{rowsOf};
+ghost use Rattle.residual.specs.Classes.{classNumber};
 ghost use Rattle.strict.specs.Gives.{outOf, valueIn};
-ghost use Rattle.evaluator.specs.Run.{yields, nodeIn, settleOf, optOf, boolOnly, kidsOf, envOf, oneOut, twoOut, lazyStep, ifStep, oneStep, twoStep, setStep, recStep, stepAt, evalOf, classOf, classNumber, runOf};
+ghost use Rattle.evaluator.specs.Run.{yields, nodeIn, settleOf, optOf, boolOnly, kidsOf, envOf, oneOut, twoOut, lazyStep, ifStep, oneStep, twoStep, setStep, recStep, stepAt, evalOf, classOf, runOf};
 ghost use Rattle.evaluator.specs.Gave.{Gave, GaveBeside, Left, Done, truthOf, truthIn, sameBool};
 
 // What a node yields: a value, by its number, or an error.
@@ -319,20 +324,20 @@ fn record(sheet: &[u8], a: &mut [u32], b: &mut [u32], bt: usize, n: u32, d: u32)
     Yield::Error
 }
 
-// The number of a policy's class: 0 true, 1 false, 2 error; 3 of a value that is no bool.
+// The number of a policy's class; a value that is no bool leaves it open.
 fn class_of(a: &[u32], y: Yield) -> u32
     ensures { λ c. ⌜ c ≡ classNumber (classOf (now (a .entry)) y) ⌝ }
 {
     let Yield::Value(v) = y else {
-        return 2;
+        return CLASS_ERROR;
     };
     let Truth::Is(x) = as_bool(a, v) else {
-        return 3;
+        return CLASS_OPEN;
     };
     if x {
-        return 0;
+        return CLASS_TRUE;
     }
-    1
+    CLASS_FALSE
 }
 
 // Runs the policies of the sheet that the words `a` hold, in order, and leaves the numbers of their classes in `b`; how many there are.

@@ -35,11 +35,12 @@ use Rattle.sheet.proofs.NeverNine.{policy-sizes, residual-sizes}
 use Rattle.table.specs.Layout.{held, MADE, TOP, heap, limits, limit, Sound}
 use Rattle.table.proofs.Rows.{count-rows}
 use Rattle.residual.specs.Trees.{flats}
+use Rattle.residual.specs.Classes.{rootsOf}
 use Rattle.tpe.specs.Run.{Rec, Ran, ranFrom, runOf}
 use Rattle.tpe.proofs.Stands.{tys, nodes}
 use Rattle.tpe.proofs.Policies.{linesFor, RunIs}
 use Rattle.tpe.proofs.Accepted.{run-fits}
-use Rattle.interpret.specs.Lines.{linesFrom, linesOf, classesOf, rootsOf}
+use Rattle.interpret.specs.Lines.{linesFrom, linesOf, classesOf}
 use Rattle.interpret.proofs.Back.{Noted, noted, classes-noted, roots-noted}
 use Rattle.interpret.proofs.Rooted.{endOf, end-low, end-all, Stays, classes-long, roots-long, counted, all-long, root-there, class-there, start-at}
 

@@ -7,10 +7,11 @@ use native.Mathlib.Decide.{decLt}
 use lib.ListN.{length, getD, take, drop, set, length-set, length-take, length-drop}
 use lib.Seq.{take-set-le, getD-set-same, getD-set-other, ext-getD, getD-take, getD-drop}
 use Rattle.residual.specs.Rows.{stageAt, startAt}
+use Rattle.residual.specs.Classes.{classNumber}
 use Rattle.residual.specs.declared.Stage.{Stage}
 use Rattle.tpe.specs.Run.{classBy}
 use Rattle.tpe.proofs.Slices.{stage-log, start-log}
-use Rattle.interpret.specs.Lines.{classNumber, linesFrom}
+use Rattle.interpret.specs.Lines.{linesFrom}
 
 -- the first k classes and root numbers are noted, and nothing else is changed
 pub record Noted (E C : ℕ → ℕ) (k : ℕ) (b b′ : List ℕ) : Type 0 where

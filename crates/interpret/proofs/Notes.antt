@@ -6,11 +6,12 @@ use native.Mathlib.Omega.{arith}
 use borrow.Author.Tests.{le-leb, lt-leb}
 use lib.ListN.{getD, set}
 use Rattle.residual.specs.Rows.{stageAt, startAt}
+use Rattle.residual.specs.Classes.{classNumber}
 use Rattle.residual.proofs.Steps.{start-low}
 use Rattle.tpe.specs.Run.{classBy}
 use Rattle.tpe.specs.Classes.{classIn}
 use Rattle.tpe.specs.declared.Class.{Class as Classᶜ}
-use Rattle.interpret.specs.Lines.{classNumber, linesFrom, linesOf}
+use Rattle.interpret.specs.Lines.{linesFrom, linesOf}
 
 pub row-none : (e : ℕ) → e < 4 → 0 ≡ e / 4 - 1
 row-none e h = omega arith

@@ -1,5 +1,9 @@
 // The interpreter of policies, `Evaluator::interpret`: a cycle of calls over the nodes of a tree, of which no more than 64 levels are
 // taken. A node leaves one block more on the log of `b`; what is made joins the values in `a`.
+use residual::CLASS_ERROR;
+use residual::CLASS_FALSE;
+use residual::CLASS_OPEN;
+use residual::CLASS_TRUE;
 use residual::Stage;
 use residual::push_error;
 use residual::push_left;
@@ -30,12 +34,13 @@ ghost use lib.ListN.{getD, length, take};
 ghost use Rattle.words.specs.Log.{Room};
 ghost use Rattle.sheet.specs.Forms.{partial};
 ghost use Rattle.residual.specs.Rows.{stageAt};
+ghost use Rattle.residual.specs.Classes.{classNumber};
 ghost use Rattle.tpe.specs.Run.{left, sideOf, classOf, joinOf, secondOf, splitOf, interpOf, runOf};
 ghost use Rattle.tpe.specs.Leaves.{Leaves};
 ghost use Rattle.tpe.specs.Classes.{classIn};
 ghost use Rattle.interpret.specs.Sides.{sideIn};
 ghost use Rattle.interpret.specs.Nodes.{stepBy, leafOf, firstIn, branchIn, pairIn, groupOf, ended};
-ghost use Rattle.interpret.specs.Lines.{classNumber, linesOf};
+ghost use Rattle.interpret.specs.Lines.{linesOf};
 
 // The levels of a tree.
 const DEPTH: u32 = 64;
@@ -355,10 +360,10 @@ fn number_of(c: Class) -> u32
     ensures { λ r. ⌜ r ≡ classNumber (classIn c) ⌝ }
 {
     match c {
-        Class::True => 0,
-        Class::False => 1,
-        Class::Error => 2,
-        Class::Open => 3,
+        Class::True => CLASS_TRUE,
+        Class::False => CLASS_FALSE,
+        Class::Error => CLASS_ERROR,
+        Class::Open => CLASS_OPEN,
     }
 }
 
