@@ -5,18 +5,29 @@ pub mod operands;
 use crate::operands::one_given;
 use crate::operands::two_given;
 use crate::operands::word_of;
+use forms::ACTION;
+use forms::AND;
+use forms::CONTEXT;
+use forms::ERR;
+use forms::IF;
+use forms::MARK;
+use forms::NODE;
+use forms::OR;
+use forms::PART_A;
+use forms::PART_P;
+use forms::PART_R;
+use forms::POLICY;
+use forms::PRINCIPAL;
+use forms::RECORD_OF;
+use forms::RESOURCE;
+use forms::SET_OF;
+use forms::VAR;
 use residual::CLASS_ERROR;
 use residual::CLASS_FALSE;
 use residual::CLASS_OPEN;
 use residual::CLASS_TRUE;
 use residual::push_value;
 use strict::Given;
-use table::ACTION;
-use table::CONTEXT;
-use table::NODE;
-use table::POLICY;
-use table::PRINCIPAL;
-use table::RESOURCE;
 use table::count;
 use table::item;
 use table::row;
@@ -35,6 +46,7 @@ ghost use mathlib.Core.List.{[]};
 ghost use Prim.Native.Nat.{_+_, _*_, _≤_, _<_};
 ghost use lib.ListN.{getD, take, length};
 ghost use Rattle.words.specs.Log.{Room};
+ghost use Rattle.forms.specs.Tags.{EQ, IF, IS, SET-OF};
 ghost use Rattle.sheet.specs.Content.{entityGiven, varOf};
 ghost use Rattle.table.specs.Layout.{rowsOf};
 ghost use Rattle.residual.specs.Classes.{classNumber};
@@ -114,23 +126,23 @@ fn entity_of(a: &mut [u32], k: usize) -> Yield
     let r = row(a, k, 0);
     let kind = item(r, 1);
     let t = item(r, 2);
-    if t == 10000 {
+    if t == MARK {
         return Yield::Error;
     }
     Yield::Value(make_entity(a, kind, t))
 }
 
-// A part of the request: 0 principal, 1 action, 2 resource, 3 context.
+// A part of the request, by its letter.
 fn request(a: &mut [u32], x: u32) -> Yield
     ensures { λ y. ⌜ Gave (optOf (now (a .entry)) (envOf (now (a .entry)) .request (varOf x))) (now (a .exit)) y ⌝ }
 {
     match x {
-        0 => entity_of(a, PRINCIPAL),
-        1 => entity_of(a, ACTION),
-        2 => entity_of(a, RESOURCE),
+        PART_P => entity_of(a, PRINCIPAL),
+        PART_A => entity_of(a, ACTION),
+        PART_R => entity_of(a, RESOURCE),
         _ => {
             let v = item(row(a, CONTEXT, 0), 2);
-            if v == 10000 {
+            if v == MARK {
                 return Yield::Error;
             }
             Yield::Value(v)
@@ -140,7 +152,7 @@ fn request(a: &mut [u32], x: u32) -> Yield
 
 // What the operation of node `n`, of tag `t`, yields over value `v`.
 fn apply_one(sheet: &[u8], a: &mut [u32], n: u32, t: u32, v: u32) -> Yield
-    requires { ⌜ (39 ≤ t) × (t < 47) ⌝ }
+    requires { ⌜ (IS ≤ t) × (t < SET-OF) ⌝ }
     ensures { λ y. ⌜ Gave (settleOf (now (a .entry)) (oneOut (now (sheet .entry)) t (now (a .entry)) (nodeIn (now (a .entry)) n) v)) (now (a .exit)) y ⌝ }
 {
     let g = one_given(sheet, a, n, t, v);
@@ -149,7 +161,7 @@ fn apply_one(sheet: &[u8], a: &mut [u32], n: u32, t: u32, v: u32) -> Yield
 
 // What the operation of tag `t` yields over values `v` and `w`.
 fn apply_two(a: &mut [u32], t: u32, v: u32, w: u32) -> Yield
-    requires { ⌜ (26 ≤ t) × (t < 38) ⌝ }
+    requires { ⌜ (EQ ≤ t) × (t < IF) ⌝ }
     ensures { λ y. ⌜ Gave (settleOf (now (a .entry)) (twoOut t (now (a .entry)) v w)) (now (a .exit)) y ⌝ }
 {
     let g = two_given(a, t, v, w);
@@ -184,21 +196,21 @@ fn step(sheet: &[u8], a: &mut [u32], b: &mut [u32], bt: usize, n: u32, t: u32, d
     ensures { λ y. ⌜ GaveBeside (stepAt (now (sheet .entry)) t (evalOf (now (sheet .entry)) d) (now (a .entry)) (take bt (now (b .entry))) n (nodeIn (now (a .entry)) n)) (now (a .exit)) y bt (now (b .entry)) (now (b .exit)) ⌝ }
 {
     match t {
-        22 => Yield::Error,
-        23 => request(a, word_of(a, n, 2)),
-        24 => lazy(sheet, a, b, bt, n, false, d),
-        25 => lazy(sheet, a, b, bt, n, true, d),
-        38 => branch(sheet, a, b, bt, n, d),
-        47 => set(sheet, a, b, bt, n, d),
-        48 => record(sheet, a, b, bt, n, d),
+        ERR => Yield::Error,
+        VAR => request(a, word_of(a, n, 2)),
+        AND => lazy(sheet, a, b, bt, n, false, d),
+        OR => lazy(sheet, a, b, bt, n, true, d),
+        IF => branch(sheet, a, b, bt, n, d),
+        SET_OF => set(sheet, a, b, bt, n, d),
+        RECORD_OF => record(sheet, a, b, bt, n, d),
         _ => {
-            if t < 22 {
+            if t < ERR {
                 return Yield::Value(word_of(a, n, 2));
             }
-            if t < 38 {
+            if t < IF {
                 return two(sheet, a, b, bt, n, t, d);
             }
-            if t < 47 {
+            if t < SET_OF {
                 return one(sheet, a, b, bt, n, t, d);
             }
             Yield::Error
@@ -243,7 +255,7 @@ fn branch(sheet: &[u8], a: &mut [u32], b: &mut [u32], bt: usize, n: u32, d: u32)
 // An operation with one operand.
 fn one(sheet: &[u8], a: &mut [u32], b: &mut [u32], bt: usize, n: u32, t: u32, d: u32) -> Yield
     requires { ⌜ Room (now b) bt ⌝ }
-    requires { ⌜ (39 ≤ t) × (t < 47) ⌝ }
+    requires { ⌜ (IS ≤ t) × (t < SET-OF) ⌝ }
     ensures { λ y. ⌜ GaveBeside (oneStep (oneOut (now (sheet .entry)) t) (evalOf (now (sheet .entry)) d) (now (a .entry)) (take bt (now (b .entry))) n (nodeIn (now (a .entry)) n)) (now (a .exit)) y bt (now (b .entry)) (now (b .exit)) ⌝ }
 {
     let Yield::Value(v) = eval(sheet, a, b, bt, word_of(a, n, 2), d) else {
@@ -255,7 +267,7 @@ fn one(sheet: &[u8], a: &mut [u32], b: &mut [u32], bt: usize, n: u32, t: u32, d:
 // An operation with two operands: the right one is worked where the left one is a value.
 fn two(sheet: &[u8], a: &mut [u32], b: &mut [u32], bt: usize, n: u32, t: u32, d: u32) -> Yield
     requires { ⌜ Room (now b) bt ⌝ }
-    requires { ⌜ (26 ≤ t) × (t < 38) ⌝ }
+    requires { ⌜ (EQ ≤ t) × (t < IF) ⌝ }
     ensures { λ y. ⌜ GaveBeside (twoStep (twoOut t) (evalOf (now (sheet .entry)) d) (now (a .entry)) (take bt (now (b .entry))) n (nodeIn (now (a .entry)) n)) (now (a .exit)) y bt (now (b .entry)) (now (b .exit)) ⌝ }
 {
     let right = word_of(a, n, 3);

@@ -1,4 +1,19 @@
 // What an operation gives over its worked operands, by the node's tag, on a complete sheet.
+use forms::ALL;
+use forms::ANY;
+use forms::CONTAINS;
+use forms::EQ;
+use forms::GET;
+use forms::GETTAG;
+use forms::HAS;
+use forms::HASPATH;
+use forms::HASTAG;
+use forms::IN;
+use forms::IS;
+use forms::LIKE;
+use forms::NEG;
+use forms::NODE;
+use forms::NOT;
 use strict::Given;
 use strict::all_of;
 use strict::any_of;
@@ -17,13 +32,13 @@ use strict::is_of;
 use strict::like_of;
 use strict::neg_of;
 use strict::not_of;
-use table::NODE;
 use table::item;
 use table::row;
 use words::cut;
 ghost use mathlib.Core.Path.{_≡_};
 ghost use Prim.Native.Nat.{_≤_, _<_};
 ghost use lib.ListN.{getD, drop};
+ghost use Rattle.forms.specs.Tags.{EQ, IF, IS, SET-OF};
 ghost use Rattle.strict.specs.Gives.{outOf, likeOut, valueIn};
 ghost use Rattle.table.specs.Layout.{textAt};
 ghost use Rattle.evaluator.specs.Run.{nodeIn, walkOut, twoOut, oneOut};
@@ -67,34 +82,34 @@ fn path_at(a: &[u32], n: u32, v: u32) -> Given
 
 // Over one operand: is, like, get, has, haspath, not, neg, empty.
 pub fn one_given(sheet: &[u8], a: &[u32], n: u32, t: u32, v: u32) -> Given
-    requires { ⌜ (39 ≤ t) × (t < 47) ⌝ }
+    requires { ⌜ (IS ≤ t) × (t < SET-OF) ⌝ }
     ensures { λ g. ⌜ outOf g ≡ oneOut (now (sheet .entry)) t (now (a .entry)) (nodeIn (now (a .entry)) n) v ⌝ }
 {
     match t {
-        39 => is_of(a, v, word_of(a, n, 3)),
-        40 => like_at(sheet, a, n, v),
-        41 => get_of(a, true, v, word_of(a, n, 3)),
-        42 => has_of(a, true, v, word_of(a, n, 3)),
-        43 => path_at(a, n, v),
-        44 => not_of(a, v),
-        45 => neg_of(a, v),
+        IS => is_of(a, v, word_of(a, n, 3)),
+        LIKE => like_at(sheet, a, n, v),
+        GET => get_of(a, true, v, word_of(a, n, 3)),
+        HAS => has_of(a, true, v, word_of(a, n, 3)),
+        HASPATH => path_at(a, n, v),
+        NOT => not_of(a, v),
+        NEG => neg_of(a, v),
         _ => empty_of(a, v),
     }
 }
 
 // Over two operands: eq, lt, le, add, sub, mul, in, gettag, hastag, contains, all, any.
 pub fn two_given(a: &[u32], t: u32, v: u32, w: u32) -> Given
-    requires { ⌜ (26 ≤ t) × (t < 38) ⌝ }
+    requires { ⌜ (EQ ≤ t) × (t < IF) ⌝ }
     ensures { λ g. ⌜ outOf g ≡ twoOut t (now (a .entry)) v w ⌝ }
 {
     match t {
-        26 => eq_of(v, w),
-        32 => in_of(a, true, v, w),
-        33 => gettag_of(a, true, v, w),
-        34 => hastag_of(a, true, v, w),
-        35 => contains_of(a, v, w),
-        36 => all_of(a, v, w),
-        37 => any_of(a, v, w),
+        EQ => eq_of(v, w),
+        IN => in_of(a, true, v, w),
+        GETTAG => gettag_of(a, true, v, w),
+        HASTAG => hastag_of(a, true, v, w),
+        CONTAINS => contains_of(a, v, w),
+        ALL => all_of(a, v, w),
+        ANY => any_of(a, v, w),
         _ => arith_of(a, t, v, w),
     }
 }

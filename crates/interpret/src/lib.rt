@@ -1,5 +1,16 @@
 // The interpreter of policies, `Evaluator::interpret`: a cycle of calls over the nodes of a tree, of which no more than 64 levels are
 // taken. A node leaves one block more on the log of `b`; what is made joins the values in `a`.
+use forms::AND;
+use forms::EQ;
+use forms::ERR;
+use forms::IF;
+use forms::IS;
+use forms::NODE;
+use forms::OR;
+use forms::POLICY;
+use forms::RECORD_OF;
+use forms::SET_OF;
+use forms::VAR;
 use residual::CLASS_ERROR;
 use residual::CLASS_FALSE;
 use residual::CLASS_OPEN;
@@ -10,8 +21,6 @@ use residual::push_left;
 use residual::push_value;
 use residual::stage_at;
 use residual::start_at;
-use table::NODE;
-use table::POLICY;
 use table::count;
 use table::item;
 use table::row;
@@ -32,6 +41,7 @@ ghost use Prim.Native.Nat.{_+_, _-_, _/_, _≤_, _<_};
 ghost use lib.Dec.{leb};
 ghost use lib.ListN.{getD, length, take};
 ghost use Rattle.words.specs.Log.{Room};
+ghost use Rattle.forms.specs.Tags.{AND, SET-OF};
 ghost use Rattle.sheet.specs.Forms.{partial};
 ghost use Rattle.residual.specs.Rows.{stageAt};
 ghost use Rattle.residual.specs.Classes.{classNumber};
@@ -116,10 +126,10 @@ fn leaf(a: &mut [u32], b: &mut [u32], bt: usize, n: u32, t: u32) -> usize
     let r = row(a, NODE, n);
     let y = item(r, 1);
     let x = item(r, 2);
-    if t < 22 {
+    if t < ERR {
         return push_value(b, bt, x, y);
     }
-    if t == 23 {
+    if t == VAR {
         return var(a, b, bt, n, y, x);
     }
     push_error(b, bt, y)
@@ -159,15 +169,15 @@ pub fn interpret(sheet: &[u8], a: &mut [u32], b: &mut [u32], bt: usize, n: u32, 
         return push_error(b, bt, 0);
     }
     let t = tag(row(a, NODE, n));
-    if t < 24 {
+    if t < AND {
         return leaf(a, b, bt, n, t);
     }
-    if t < 47 {
+    if t < SET_OF {
         return operation(sheet, a, b, bt, n, t, d - 1);
     }
     match t {
-        47 => group(sheet, a, b, bt, n, t, 1, d - 1),
-        48 => group(sheet, a, b, bt, n, t, 2, d - 1),
+        SET_OF => group(sheet, a, b, bt, n, t, 1, d - 1),
+        RECORD_OF => group(sheet, a, b, bt, n, t, 2, d - 1),
         _ => leaf(a, b, bt, n, t),
     }
 }
@@ -175,18 +185,18 @@ pub fn interpret(sheet: &[u8], a: &mut [u32], b: &mut [u32], bt: usize, n: u32, 
 // An operation of which one operand is always worked, its first.
 fn operation(sheet: &[u8], a: &mut [u32], b: &mut [u32], bt: usize, n: u32, t: u32, d: u32) -> usize
     requires { ⌜ Room (now b) bt ⌝ }
-    requires { ⌜ (24 ≤ t) × (t < 47) ⌝ }
+    requires { ⌜ (AND ≤ t) × (t < SET-OF) ⌝ }
     ensures { λ e. ⌜ Leaves bt (now (a .exit)) (now (b .exit)) e (stepBy partial (now (sheet .entry)) t (interpOf partial (now (sheet .entry)) d) (now (a .entry)) (take bt (now (b .entry))) n) ⌝ }
 {
     let v = item(row(a, NODE, n), 2);
     let p = interpret(sheet, a, b, bt, v, d);
-    if t < 26 {
-        return first(sheet, a, b, bt, p, n, t == 25, d);
+    if t < EQ {
+        return first(sheet, a, b, bt, p, n, t == OR, d);
     }
-    if t < 38 {
+    if t < IF {
         return pair(sheet, a, b, bt, p, n, t, d);
     }
-    if t < 39 {
+    if t < IS {
         return branch(sheet, a, b, bt, p, n, d);
     }
     one(sheet, a, b, bt, p, n, t)
