@@ -135,7 +135,7 @@ fn leaf(rows: &mut [u32], log: &mut [u32], top: usize, node: u32, tag: u32) -> u
     push_error(log, top, ty)
 }
 
-// Beside an open left side, which ends at `mid`, the right side of `node` is worked.
+// Beside an open left side, which ends at `mid`, the right side of the node is worked.
 fn beside(
     rows: &mut [u32],
     log: &mut [u32],
@@ -160,7 +160,7 @@ fn beside(
 
 // ---- the cycle of calls
 
-// The `node`, to `depth` levels.
+// The node, to `depth` levels.
 pub fn interpret(sheet: &[u8], rows: &mut [u32], log: &mut [u32], top: usize, node: u32, depth: u32) -> usize
     requires { ⌜ Room (now log) top ⌝ }
     ensures { λ e. ⌜ Leaves top (now (rows .exit)) (now (log .exit)) e (interpOf partial (now (sheet .entry)) depth (now (rows .entry)) (take top (now (log .entry))) node) ⌝ }

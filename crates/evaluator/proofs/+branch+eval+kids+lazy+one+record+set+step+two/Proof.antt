@@ -278,7 +278,7 @@ kids-returns-4 t c =
     let c₇ = c₆ .before in
     let c₈ = c₇ .before .before in
     let c₉ = c₈ .before .before .before .before in
-    kids-more _ _ _ _ _ _ _ _ _ (c₉ .pre .1 .0) (c₈ .if1 .left) _ (c₇ .row .ensures) (c₆ .if2 .left) _ (c₅ .word-of .ensures) _ _ _ (c₄ .eval .ensures) (c₄ .eval .kept .1 .1 .0) _ _ _ (c₃ .v .given .1) (c₂ .push-value .ensures) _ _ _ (c₁ .kids .ensures)
+    kids-more _ _ _ _ _ _ _ _ _ (c₉ .pre .1 .0) (c₈ .if1 .left) _ (c₇ .row .ensures) (c₆ .if2 .left) _ (c₅ .word-of .ensures) _ _ _ (c₄ .eval .ensures) (c₄ .eval .kept .1 .1 .0) _ _ _ (c₃ .value .given .1) (c₂ .push-value .ensures) _ _ _ (c₁ .kids .ensures)
 
 lazy-returns : (t : ℕ) → lazy-lts.Need-returns (
   word-of-reads.Asked,
