@@ -28,7 +28,7 @@ loop-again c =
     (run-more _ _ _ _ _ _ _ (c₇ .loop .inv .0) _ _ _ _ _ _ _ _ (c₆ .loop-test .taken) (c₅ .row .ensures) (c₄ .item .ensures) (c₃ .eval .ensures) (c₃ .eval .kept .1 .1 .0) (c₂ .class-of .ensures) (c₁ .push .ensures), search needs, c₁ .push .kept .0 ∙ c₃ .eval .kept .1 .1 .0 ∙ c₇ .loop .inv .2)
 
 returns : tie.Need-returns Inv-loop μ-loop
-returns c = search (run-end, needs)
+returns c = search run-end
 
 pub run-spec : {M : Type 1} → statement M
 run-spec =
