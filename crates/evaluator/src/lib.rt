@@ -191,7 +191,15 @@ fn eval(sheet: &[u8], rows: &mut [u32], log: &mut [u32], top: usize, node: u32, 
 }
 
 // The same by the node's tag; its operands are seen to `depth` levels.
-fn step(sheet: &[u8], rows: &mut [u32], log: &mut [u32], top: usize, node: u32, tag: u32, depth: u32) -> Yield
+fn step(
+    sheet: &[u8],
+    rows: &mut [u32],
+    log: &mut [u32],
+    top: usize,
+    node: u32,
+    tag: u32,
+    depth: u32,
+) -> Yield
     requires { ⌜ Room (now log) top ⌝ }
     ensures { λ y. ⌜ GaveBeside (stepAt (now (sheet .entry)) tag (evalOf (now (sheet .entry)) depth) (now (rows .entry)) (take top (now (log .entry))) node (nodeIn (now (rows .entry)) node)) (now (rows .exit)) y top (now (log .entry)) (now (log .exit)) ⌝ }
 {
@@ -219,7 +227,15 @@ fn step(sheet: &[u8], rows: &mut [u32], log: &mut [u32], top: usize, node: u32, 
 }
 
 // `and` or `or`: `stop` is the bool that decides. The right side is worked where the left one does not decide.
-fn lazy(sheet: &[u8], rows: &mut [u32], log: &mut [u32], top: usize, node: u32, stop: bool, depth: u32) -> Yield
+fn lazy(
+    sheet: &[u8],
+    rows: &mut [u32],
+    log: &mut [u32],
+    top: usize,
+    node: u32,
+    stop: bool,
+    depth: u32,
+) -> Yield
     requires { ⌜ Room (now log) top ⌝ }
     ensures { λ y. ⌜ GaveBeside (lazyStep stop (evalOf (now (sheet .entry)) depth) (now (rows .entry)) (take top (now (log .entry))) node (nodeIn (now (rows .entry)) node)) (now (rows .exit)) y top (now (log .entry)) (now (log .exit)) ⌝ }
 {
@@ -236,7 +252,14 @@ fn lazy(sheet: &[u8], rows: &mut [u32], log: &mut [u32], top: usize, node: u32, 
 }
 
 // `if`: one branch is worked.
-fn branch(sheet: &[u8], rows: &mut [u32], log: &mut [u32], top: usize, node: u32, depth: u32) -> Yield
+fn branch(
+    sheet: &[u8],
+    rows: &mut [u32],
+    log: &mut [u32],
+    top: usize,
+    node: u32,
+    depth: u32,
+) -> Yield
     requires { ⌜ Room (now log) top ⌝ }
     ensures { λ y. ⌜ GaveBeside (ifStep (evalOf (now (sheet .entry)) depth) (now (rows .entry)) (take top (now (log .entry))) node (nodeIn (now (rows .entry)) node)) (now (rows .exit)) y top (now (log .entry)) (now (log .exit)) ⌝ }
 {
@@ -253,7 +276,15 @@ fn branch(sheet: &[u8], rows: &mut [u32], log: &mut [u32], top: usize, node: u32
 }
 
 // An operation with one operand.
-fn one(sheet: &[u8], rows: &mut [u32], log: &mut [u32], top: usize, node: u32, tag: u32, depth: u32) -> Yield
+fn one(
+    sheet: &[u8],
+    rows: &mut [u32],
+    log: &mut [u32],
+    top: usize,
+    node: u32,
+    tag: u32,
+    depth: u32,
+) -> Yield
     requires { ⌜ Room (now log) top ⌝ }
     requires { ⌜ (IS ≤ tag) × (tag < SET-OF) ⌝ }
     ensures { λ y. ⌜ GaveBeside (oneStep (oneOut (now (sheet .entry)) tag) (evalOf (now (sheet .entry)) depth) (now (rows .entry)) (take top (now (log .entry))) node (nodeIn (now (rows .entry)) node)) (now (rows .exit)) y top (now (log .entry)) (now (log .exit)) ⌝ }
@@ -265,7 +296,15 @@ fn one(sheet: &[u8], rows: &mut [u32], log: &mut [u32], top: usize, node: u32, t
 }
 
 // An operation with two operands: the right one is worked where the left one is a value.
-fn two(sheet: &[u8], rows: &mut [u32], log: &mut [u32], top: usize, node: u32, tag: u32, depth: u32) -> Yield
+fn two(
+    sheet: &[u8],
+    rows: &mut [u32],
+    log: &mut [u32],
+    top: usize,
+    node: u32,
+    tag: u32,
+    depth: u32,
+) -> Yield
     requires { ⌜ Room (now log) top ⌝ }
     requires { ⌜ (EQ ≤ tag) × (tag < IF) ⌝ }
     ensures { λ y. ⌜ GaveBeside (twoStep (twoOut tag) (evalOf (now (sheet .entry)) depth) (now (rows .entry)) (take top (now (log .entry))) node (nodeIn (now (rows .entry)) node)) (now (rows .exit)) y top (now (log .entry)) (now (log .exit)) ⌝ }
@@ -297,10 +336,16 @@ fn kids(
     ensures { λ o. ⌜ Left (kidsOf (evalOf (now (sheet .entry)) depth) node step most i (now (rows .entry)) (take top (now (log .entry)))) (now (rows .exit)) o top (now (log .entry)) (now (log .exit)) ⌝ }
 {
     if most == 0 {
-        return Children { all: true, end: top };
+        return Children {
+            all: true,
+            end: top,
+        };
     }
     if i >= row(rows, NODE, node).len() {
-        return Children { all: true, end: top };
+        return Children {
+            all: true,
+            end: top,
+        };
     }
     let Yield::Value(value) = eval(sheet, rows, log, top, word_of(rows, node, i), depth) else {
         return Children {
@@ -325,7 +370,14 @@ fn set(sheet: &[u8], rows: &mut [u32], log: &mut [u32], top: usize, node: u32, d
 }
 
 // A record likewise.
-fn record(sheet: &[u8], rows: &mut [u32], log: &mut [u32], top: usize, node: u32, depth: u32) -> Yield
+fn record(
+    sheet: &[u8],
+    rows: &mut [u32],
+    log: &mut [u32],
+    top: usize,
+    node: u32,
+    depth: u32,
+) -> Yield
     requires { ⌜ Room (now log) top ⌝ }
     ensures { λ y. ⌜ GaveBeside (recStep (evalOf (now (sheet .entry)) depth) (now (rows .entry)) (take top (now (log .entry))) node (nodeIn (now (rows .entry)) node)) (now (rows .exit)) y top (now (log .entry)) (now (log .exit)) ⌝ }
 {

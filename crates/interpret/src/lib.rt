@@ -161,7 +161,14 @@ fn beside(
 // ---- the cycle of calls
 
 // The node, to `depth` levels.
-pub fn interpret(sheet: &[u8], rows: &mut [u32], log: &mut [u32], top: usize, node: u32, depth: u32) -> usize
+pub fn interpret(
+    sheet: &[u8],
+    rows: &mut [u32],
+    log: &mut [u32],
+    top: usize,
+    node: u32,
+    depth: u32,
+) -> usize
     requires { ⌜ Room (now log) top ⌝ }
     ensures { λ e. ⌜ Leaves top (now (rows .exit)) (now (log .exit)) e (interpOf partial (now (sheet .entry)) depth (now (rows .entry)) (take top (now (log .entry))) node) ⌝ }
 {
@@ -183,7 +190,15 @@ pub fn interpret(sheet: &[u8], rows: &mut [u32], log: &mut [u32], top: usize, no
 }
 
 // An operation of which one operand is always worked, its first.
-fn operation(sheet: &[u8], rows: &mut [u32], log: &mut [u32], top: usize, node: u32, tag: u32, depth: u32) -> usize
+fn operation(
+    sheet: &[u8],
+    rows: &mut [u32],
+    log: &mut [u32],
+    top: usize,
+    node: u32,
+    tag: u32,
+    depth: u32,
+) -> usize
     requires { ⌜ Room (now log) top ⌝ }
     requires { ⌜ (AND ≤ tag) × (tag < SET-OF) ⌝ }
     ensures { λ e. ⌜ Leaves top (now (rows .exit)) (now (log .exit)) e (stepBy partial (now (sheet .entry)) tag (interpOf partial (now (sheet .entry)) depth) (now (rows .entry)) (take top (now (log .entry))) node) ⌝ }
