@@ -8,7 +8,7 @@ use borrow.Author.Tests.{leb-true, eqb-true}
 use lib.Dec.{leb}
 use lib.ListN.{length, getD, List·getD-map, List·getD-eq-default}
 use Rattle.cedar.proofs.Tools.{no-true}
-use Rattle.sheet.specs.Forms.{Slot, entry, line, lineOr, lineUnknown, word, number, nothing, Form, forms, formOf, noForm, noTag, slotAt, isLine, firstNode, TYPE}
+use Rattle.sheet.specs.Forms.{Slot, entry, line, lineOr, lineUnknown, word, number, nothing, Form, forms, formOf, noForm, noKey, noTag, slotAt, isLine, firstNode, TYPE}
 use Rattle.sheet.proofs.Parsed.{allBelow}
 use Rattle.forms.specs.declared.Form as D
 use Rattle.forms.specs.Rows.{Shape, shape, read, code, coded, slotOf}
@@ -44,6 +44,11 @@ group-small = form-small (λ f. length (f .group)) 3 (omega arith) refl
 pub both-small : (t : ℕ) → length (formOf t .items) + length (formOf t .group) ≤ 4
 unfolding forms small
 both-small = form-small (λ f. length (f .items) + length (f .group)) 4 (omega arith) refl
+
+-- no key is past the last but that of no form
+pub key-low : (t : ℕ) → formOf t .key ≤ noKey
+unfolding forms small
+key-low = form-small (λ f. f .key) noKey (omega arith) refl
 
 module _ (t : ℕ) (r : D.Form) (e : r ≡ rowAt t) where
   pub reads-as : read r ≡ shape (formOf t)
