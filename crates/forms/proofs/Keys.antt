@@ -1,12 +1,12 @@
 -- The code's table of keys is the definition's, and where the rows of keys may lie. Assumes nothing.
-use mathlib.Core.Path.{_≡_, refl, sym, ap, _∙_}
+use mathlib.Core.Path.{_≡_, refl, sym, ap}
 use mathlib.Core.Bool.{Bool, true, _&&_, and-eq-true-iff}
 use mathlib.Core.List.{List, [], _∷_}
 use Prim.Native.Nat.{ℕ, suc, _+_, _-_, _≤_, _<_}
 use native.Mathlib.Omega.{arith}
 use borrow.Author.Tests.{ltb-true, leb-true, ne-eqb}
 use lib.Dec.{leb, ltb}
-use lib.ListN.{length, getD, List·getD-eq-default}
+use lib.ListN.{length, List·getD-eq-default}
 use Rattle.sheet.specs.Forms.{Form, forms, formIn, tagOf, noKey, noTag}
 use Rattle.sheet.proofs.Parsed.{allBelow, all-below}
 use Rattle.forms.specs.declared.Key as D

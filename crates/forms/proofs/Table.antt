@@ -1,8 +1,8 @@
 -- The code's table of forms is the definition's, and what is in it. Assumes nothing.
 use mathlib.Core.Path.{_≡_, refl, sym, ap, _∙_}
-use mathlib.Core.Bool.{Bool, true, false, _&&_, and-eq-true-iff}
-use mathlib.Core.List.{List, [], _∷_, map}
-use Prim.Native.Nat.{ℕ, _+_, _≤_, _<_}
+use mathlib.Core.Bool.{Bool, true, _&&_, and-eq-true-iff}
+use mathlib.Core.List.{List, map}
+use Prim.Native.Nat.{ℕ, _+_, _-_, _≤_}
 use native.Mathlib.Omega.{arith}
 use borrow.Author.Tests.{leb-true, eqb-true}
 use lib.Dec.{leb}
@@ -12,7 +12,7 @@ use Rattle.sheet.specs.Forms.{Slot, entry, line, lineOr, lineUnknown, word, num
 use Rattle.sheet.proofs.Parsed.{allBelow}
 use Rattle.forms.specs.declared.Form as D
 use Rattle.forms.specs.Rows.{Shape, shape, read, code, coded, slotOf}
-use Rattle.forms.specs.Tags.{POLICY-LINE}
+use Rattle.forms.specs.Tags.{RECORD-OF, POLICY-LINE}
 use Rattle.forms.proofs.Tests.{ranged, small, entry-small, NoneOf, below, past}
 
 abbrev pub rowAt : ℕ → D.Form
@@ -81,7 +81,7 @@ module _ (t : ℕ) (r : D.Form) (e : r ≡ rowAt t) where
 abbrev typed : ℕ → Bool
 typed t = isLine TYPE (slotAt t 0) && leb 1 (length (formOf t .items))
 
-all-typed : allBelow (λ (i : ℕ). typed (firstNode + i)) 28 ≡ true
+all-typed : allBelow (λ (i : ℕ). typed (firstNode + i)) (POLICY-LINE - firstNode) ≡ true
 unfolding forms formOf slotAt
 all-typed = refl
 
@@ -94,9 +94,9 @@ is-line k (word ws) e = no-true e
 is-line k number e = no-true e
 is-line k nothing e = no-true e
 
-module _ (t : ℕ) (l : firstNode ≤ t) (h : t < POLICY-LINE) where
+module _ (t : ℕ) (l : firstNode ≤ t) (h : t ≤ RECORD-OF) where
   node-typed : typed t ≡ true
-  node-typed = ranged typed firstNode 28 all-typed t l (omega arith)
+  node-typed = ranged typed firstNode (POLICY-LINE - firstNode) all-typed t l (omega arith)
 
   pub node-items : 1 ≤ length (formOf t .items)
   node-items = leb-true 1 (length (formOf t .items)) (and-eq-true-iff (isLine TYPE (slotAt t 0)) (leb 1 (length (formOf t .items))) .0 node-typed .1)
