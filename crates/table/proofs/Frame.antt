@@ -75,9 +75,6 @@ module _ (w : List ℕ) (s : Sound w) where
         row-same w w′ (getD w TOP 0) (base k + j) (agree-below w w′ (getD w TOP 0) e) (word-kept (base k + j) (omega arith)) (word-kept (suc (base k + j)) (omega arith))
         (s .low k j h i) (s .high k j h i)))
 
-    pub last-kept : (k : ℕ) → Last w k → Last w′ k
-    last-kept k l = record { last = λ j h m. word-kept j (omega arith) ∙ l .last j h m }
-
     pub last-was : (k : ℕ) → Last w′ k → Last w k
     last-was k l = record { last = λ j h m. sym (word-kept j (omega arith)) ∙ l .last j h m }
 

@@ -1,10 +1,10 @@
 -- Rows in words: by number, where they are left as they were, and one more. Assumes nothing.
 use mathlib.Core.Path.{_≡_, refl, sym, ap, ap₂, _∙_}
 use mathlib.Core.List.{List, [], _∷_}
-use Prim.Native.Nat.{ℕ, zero, suc, _+_, _-_, _≤_, _<_}
+use Prim.Native.Nat.{ℕ, zero, suc, _+_, _≤_, _<_}
 use native.Mathlib.Numerals.{add-one}
 use native.Mathlib.Omega.{arith}
-use lib.ListN.{length, getD, set, List·getD-map, List·getD-eq-default}
+use lib.ListN.{length, getD, set, List·getD-eq-default}
 use Rattle.sheet.specs.Forms.{noKey, noTag, items, tag, at, SHEET, TEXT}
 use Rattle.sheet.specs.State.{linesOf, lineAt, count}
 use Rattle.table.specs.Layout.{part, TOP, base, rowAt, rowsAt, rowsOf, textRows, linesHeld, held, textAt, withRow}

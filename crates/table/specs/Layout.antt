@@ -7,7 +7,8 @@ use lib.ListN.{length, getD, take, drop, set, replicate}
 use Rattle.sheet.specs.Forms.{tag, items, at, noKey, SHEET, TEXT, KIND, TYPE, SHAPE, VALUE, ENTITY, PRINCIPAL, ACTION, RESOURCE, CONTEXT, NODE, POLICY}
 use Rattle.sheet.specs.State.{State}
 use Rattle.words.specs.Log.{room}
-pub use Rattle.forms.specs.Keys.{limits, limit, bases, base, heap}
+pub use Rattle.forms.specs.Keys.{limits, heap}
+unfoldable pub use Rattle.forms.specs.Keys.{limit, bases, base}
 
 -- the words from s up to e
 abbrev pub part : List ℕ → ℕ → ℕ → List ℕ
