@@ -9,8 +9,8 @@ use forms::KIND;
 use forms::LINE;
 use forms::LIT;
 use forms::MARK;
-use forms::NODE;
 use forms::NO_KEY;
+use forms::NODE;
 use forms::OF_NODE;
 use forms::POLICY;
 use forms::PRINCIPAL;
@@ -283,7 +283,15 @@ fn ends_of(sheet: &[u8], n: usize) -> &[u8]
 }
 
 // Whether the row whose beginning word `i` says, at word `start`, is that of a text. Most texts end with another byte.
-fn is_text_at(sheet: &[u8], rows: &[u32], ends: &[u8], x: u8, i: usize, start: usize, text: &[u8]) -> bool
+fn is_text_at(
+    sheet: &[u8],
+    rows: &[u32],
+    ends: &[u8],
+    x: u8,
+    i: usize,
+    start: usize,
+    text: &[u8],
+) -> bool
     requires { ⌜ TextEnds (now sheet) (now rows) (now text) (now ends) x i start ⌝ }
     ensures { λ b. ⌜ b ≡ same (TEXT-LINE ∷ now (text .entry)) (textRow (now (sheet .entry)) (rowAt (now (rows .entry)) i)) ⌝ }
 {

@@ -235,7 +235,14 @@ fn index_at(bytes: &[u8], at: usize) -> Digits
 }
 
 // Writes the item after the separator at byte `at`. Most items are indices.
-fn put_next(bytes: &[u8], at: usize, partial: bool, slot: u8, rows: &mut [u32], word: usize) -> Placed
+fn put_next(
+    bytes: &[u8],
+    at: usize,
+    partial: bool,
+    slot: u8,
+    rows: &mut [u32],
+    word: usize,
+) -> Placed
     requires { ⌜ (at < length (now bytes)) × (word + 2 ≤ room) × (room ≤ length (now rows)) ⌝ }
     ensures { λ r. ⌜ After (modeOf partial) (now (bytes .entry)) (now (rows .entry)) (now (rows .exit)) at slot word (r .end) (r .words) ⌝ }
 {
@@ -332,7 +339,14 @@ fn row_from(
 }
 
 // Writes the row of a tag with the items after the cursor.
-fn row_tagged(bytes: &[u8], cursor: Cursor, partial: bool, tag: usize, rows: &mut [u32], top: usize) -> usize
+fn row_tagged(
+    bytes: &[u8],
+    cursor: Cursor,
+    partial: bool,
+    tag: usize,
+    rows: &mut [u32],
+    top: usize,
+) -> usize
     requires { ⌜ (cursor .at ≤ length (now bytes)) × (length (now bytes) ≤ room) × (room ≤ length (now rows)) × (2 * top + length (now bytes) + 16 ≤ 2 * room + cursor .at) ⌝ }
     ensures { λ r. ⌜ Row (rowFor (modeOf partial) tag (itemsAt (now (bytes .entry)) cursor)) (now (rows .entry)) (now (rows .exit)) top r (length (now (bytes .entry)) + 4 - cursor .at) ⌝ }
 {
@@ -343,7 +357,14 @@ fn row_tagged(bytes: &[u8], cursor: Cursor, partial: bool, tag: usize, rows: &mu
 }
 
 // The row of a key without constructors.
-fn row_plain(key: u64, bytes: &[u8], cursor: Cursor, partial: bool, rows: &mut [u32], top: usize) -> usize
+fn row_plain(
+    key: u64,
+    bytes: &[u8],
+    cursor: Cursor,
+    partial: bool,
+    rows: &mut [u32],
+    top: usize,
+) -> usize
     requires { ⌜ (cursor .at < length (now bytes)) × (length (now bytes) ≤ room) × (room ≤ length (now rows)) × (2 * top + length (now bytes) + 16 ≤ 2 * room + cursor .at) ⌝ }
     ensures { λ r. ⌜ Row (rowFor (modeOf partial) (tagOf key []) (split 44 (drop (cursor .at + 1) (now (bytes .entry))))) (now (rows .entry)) (now (rows .exit)) top r (length (now (bytes .entry)) + 4 - cursor .at) ⌝ }
 {
@@ -352,7 +373,14 @@ fn row_plain(key: u64, bytes: &[u8], cursor: Cursor, partial: bool, rows: &mut [
 }
 
 // The row of a type or value: its constructor stands first.
-fn row_named(value: bool, bytes: &[u8], cursor: Cursor, partial: bool, rows: &mut [u32], top: usize) -> usize
+fn row_named(
+    value: bool,
+    bytes: &[u8],
+    cursor: Cursor,
+    partial: bool,
+    rows: &mut [u32],
+    top: usize,
+) -> usize
     requires { ⌜ (cursor .at < length (now bytes)) × (length (now bytes) ≤ room) × (room ≤ length (now rows)) × (2 * top + length (now bytes) + 16 ≤ 2 * room + cursor .at) ⌝ }
     ensures { λ r. ⌜ Row (rowHeaded (modeOf partial) (cond value VALUE TYPE) (nameFirst (split 44 (drop (cursor .at + 1) (now (bytes .entry)))))) (now (rows .entry)) (now (rows .exit)) top r (length (now (bytes .entry)) + 4 - cursor .at) ⌝ }
 {
@@ -388,7 +416,14 @@ fn row_node(bytes: &[u8], cursor: Cursor, partial: bool, rows: &mut [u32], top: 
 }
 
 // The row of a line of a key, which is not a text.
-fn row_value(key: u64, bytes: &[u8], cursor: Cursor, partial: bool, rows: &mut [u32], top: usize) -> usize
+fn row_value(
+    key: u64,
+    bytes: &[u8],
+    cursor: Cursor,
+    partial: bool,
+    rows: &mut [u32],
+    top: usize,
+) -> usize
     requires { ⌜ (cursor .at < length (now bytes)) × (length (now bytes) ≤ room) × (room ≤ length (now rows)) × (2 * top + length (now bytes) + 16 ≤ 2 * room + cursor .at) ⌝ }
     ensures { λ r. ⌜ Row (rowHeaded (modeOf partial) key (heading key (split 44 (drop (cursor .at + 1) (now (bytes .entry)))))) (now (rows .entry)) (now (rows .exit)) top r (rowRoom key (length (now (bytes .entry)) - (cursor .at + 1))) ⌝ }
 {
