@@ -1,12 +1,12 @@
 -- Depths of lines, as the code finds them. Assumes nothing.
 use mathlib.Core.Path.{_≡_, refl, sym, ap, ap₂, subst, _∙_}
-use mathlib.Core.Bool.{Bool, true, false, cond, not}
-use mathlib.Core.List.{List, []}
-use Prim.Native.Nat.{ℕ, zero, suc, _+_, _%_, _≤_, _<_, max}
+use mathlib.Core.Bool.{Bool, true, false, cond, not, _||_}
+use mathlib.Core.List.{List, [], _∷_}
+use Prim.Native.Nat.{ℕ, suc, _+_, _%_, _≤_, _<_, max}
 use native.Mathlib.Numerals.{add-one}
 use native.Mathlib.Omega.{arith}
-use native.Mathlib.Decide.{ℕ-discrete}
-use borrow.Author.Tests.{eq-eqb, ne-eqb, ltb-true}
+use native.Mathlib.Decide.{ℕ-discrete, decLt}
+use borrow.Author.Tests.{eqb-true, eq-eqb, ne-eqb, ltb-true}
 use lib.Dec.{ltb, eqb}
 use lib.ListN.{length, getD, drop, length-take, length-replicate, getD-replicate, List·getD-eq-default}
 use lib.Seq.{getD-take, getD-drop}
@@ -14,7 +14,10 @@ use Rattle.sheet.specs.Forms.{Slot, entry, line, lineOr, lineUnknown, word, num
 use Rattle.sheet.specs.State.{State, depthsOf}
 use Rattle.sheet.specs.Sheet.{allThere, deepest, depth}
 use Rattle.table.specs.Layout.{TYPEDEPTHS, VALUEDEPTHS, NODEDEPTHS, held, ones, depthsAt}
-use Rattle.table.proofs.Held.{depthBase, depthBases, depthsIn, depths-of}
+use Rattle.table.proofs.Held.{depthBase, depthBases, no-depths, depthsIn, depths-of}
+use Rattle.cedar.specs.Numbered.{memN}
+use Rattle.sheet.proofs.Parsed.{allBelow, all-below}
+use Rattle.forms.proofs.Tests.{other}
 use Rattle.forms.specs.Rows.{NONE, NUMBER, ENTRY, LINE, UNKNOWN, OF-TYPE, OF-VALUE, OF-NODE, code as codeOf}
 use Rattle.forms.specs.Tags.{LIT, AND, IF}
 use Rattle.checks.specs.Codes.{keyIn, formCode, againCode, codesAfter, codesAt}
@@ -50,22 +53,21 @@ module _ (a b : List ℕ) (k n m d : ℕ) (hm : m ≡ getD a k 0) (h : n < m) wh
   unfolding depthBase depthBases
   depth-node e hd = depth-word NODEDEPTHS (ap depthBase e) (λ q. absurd (omega arith)) hd
 
-pub no-base : (k : ℕ) → (k ≡ TYPE → ⊥) → (k ≡ VALUE → ⊥) → (k ≡ NODE → ⊥) → depthBase k ≡ 0
+based : allBelow (λ (i : ℕ). memN i (TYPE ∷ VALUE ∷ NODE ∷ []) || eqb (depthBase i) 0) noKey ≡ true
 unfolding depthBase depthBases
-no-base zero x y z = refl
-no-base (suc zero) x y z = refl
-no-base (suc (suc zero)) x y z = refl
-no-base (suc (suc (suc zero))) x y z = absurd (x refl)
-no-base (suc (suc (suc (suc zero)))) x y z = refl
-no-base (suc (suc (suc (suc (suc zero))))) x y z = absurd (y refl)
-no-base (suc (suc (suc (suc (suc (suc zero)))))) x y z = refl
-no-base (suc (suc (suc (suc (suc (suc (suc zero))))))) x y z = refl
-no-base (suc (suc (suc (suc (suc (suc (suc (suc zero)))))))) x y z = refl
-no-base (suc (suc (suc (suc (suc (suc (suc (suc (suc zero))))))))) x y z = refl
-no-base (suc (suc (suc (suc (suc (suc (suc (suc (suc (suc zero)))))))))) x y z = refl
-no-base (suc (suc (suc (suc (suc (suc (suc (suc (suc (suc (suc zero))))))))))) x y z = absurd (z refl)
-no-base (suc (suc (suc (suc (suc (suc (suc (suc (suc (suc (suc (suc zero)))))))))))) x y z = refl
-no-base (suc (suc (suc (suc (suc (suc (suc (suc (suc (suc (suc (suc (suc k))))))))))))) x y z = refl
+based = refl
+
+pub no-base : (k : ℕ) → (k ≡ TYPE → ⊥) → (k ≡ VALUE → ⊥) → (k ≡ NODE → ⊥) → depthBase k ≡ 0
+no-base k x y z = go (decLt k noKey)
+  where
+    none-there : memN k (TYPE ∷ VALUE ∷ NODE ∷ []) ≡ false
+    none-there = rw (ne-eqb k TYPE x, ne-eqb k VALUE y, ne-eqb k NODE z) refl
+
+    go : Dec (k < noKey) → depthBase k ≡ 0
+    go (yes h) =
+        eqb-true (depthBase k) 0
+        (other (memN k (TYPE ∷ VALUE ∷ NODE ∷ [])) (eqb (depthBase k) 0) none-there (all-below (λ (i : ℕ). memN i (TYPE ∷ VALUE ∷ NODE ∷ []) || eqb (depthBase i) 0) noKey k based h))
+    go (no h) = no-depths k (omega arith)
 
 pub depth-leaf : (a b : List ℕ) (k n m : ℕ) → m ≡ getD a k 0 → n < m → (k ≡ TYPE → ⊥) → (k ≡ VALUE → ⊥) → (k ≡ NODE → ⊥) → 1 ≡ getD (depthsIn a b k) n 0
 depth-leaf a b k n m hm h x y z = sym (rw (no-base k x y z) (getD-replicate (getD a k 0) n 1 0 (omega arith)))

@@ -1,63 +1,23 @@
 -- The state that words hold, key by key: what it is where a store leaves it, and with one line more. Assumes nothing.
-use mathlib.Core.Path.{_≡_, refl, sym, ap, ap₂, _∙_}
-use mathlib.Core.Bool.{Bool, true, false, cond}
+use mathlib.Core.Path.{_≡_, refl, sym, ap, _∙_}
+use mathlib.Core.Bool.{Bool, true, false, cond, _||_}
 use mathlib.Core.List.{List, [], _∷_, _++_}
 use Prim.Native.Nat.{ℕ, zero, suc, _+_, _-_, _≤_, _<_}
-use native.Mathlib.Nat.{le-refl}
 use native.Mathlib.Omega.{arith}
-use native.Mathlib.Decide.{ℕ-discrete}
-use borrow.Author.Tests.{eq-eqb, ne-eqb}
-use lib.Dec.{eqb}
-use lib.ListN.{length, getD, drop, set}
+use native.Mathlib.Decide.{ℕ-discrete, decLt}
+use borrow.Author.Tests.{eq-eqb, ne-eqb, leb-true}
+use lib.Dec.{leb, eqb}
+use lib.ListN.{length, getD, drop, set, List·getD-eq-default}
 use lib.Seq.{drop-drop}
 use Rattle.sheet.specs.Forms.{noKey, NODE, TEXT}
 use Rattle.sheet.specs.State.{linesOf, depthsOf, counts, lengths}
+use Rattle.sheet.proofs.Parsed.{allBelow, all-below}
+use Rattle.forms.proofs.Tests.{other}
 use Rattle.table.specs.Layout.{TYPEDEPTHS, VALUEDEPTHS, NODEDEPTHS, USES, rowsOf, textRow, textRows, linesHeld, ones, depthsAt, depthsHeld, held}
-use Rattle.table.proofs.Rows.{count-rows, length-texts}
-
--- ---- a list by places
-
-abbrev pub tab : {A : Type 0} → (ℕ → A) → ℕ → ℕ → List A
-tab f i zero = []
-tab f i (suc n) = f i ∷ tab f (suc i) n
-
-module _ {A : Type 0} where
-  pub length-tab : (f : ℕ → A) (i n : ℕ) → length (tab f i n) ≡ n
-  length-tab f i zero = refl
-  length-tab f i (suc n) = ap suc (length-tab f (suc i) n)
-
-  pub getD-tab : (f : ℕ → A) (i n k : ℕ) (d : A) → k < n → getD (tab f i n) k d ≡ f (i + k)
-  getD-tab f i zero k d h = absurd (omega arith)
-  getD-tab f i (suc n) zero d h = let e : i ≡ i + 0 = omega arith in ap f e
-  getD-tab f i (suc n) (suc k) d h =
-      let e : suc i + k ≡ i + suc k = omega arith in
-      getD-tab f (suc i) n k d (omega arith) ∙ ap f e
-
-  pub tab-same : (f g : ℕ → A) (i n : ℕ) → ((k : ℕ) → i ≤ k → k < i + n → f k ≡ g k) → tab f i n ≡ tab g i n
-  tab-same f g i zero h = refl
-  tab-same f g i (suc n) h = ap₂ (λ (x : A) (l : List A). x ∷ l) (h i (le-refl i) (omega arith)) (tab-same f g (suc i) n (λ k l m. h k (omega arith) (omega arith)))
-
-  pub set-tab : (f g : ℕ → A) (i n k : ℕ) (y : A) → k < n → g (i + k) ≡ y → ((j : ℕ) → i ≤ j → j < i + n → (j ≡ i + k → ⊥) → g j ≡ f j) → set (tab f i n) k y ≡ tab g i n
-  set-tab f g i zero k y h e o = absurd (omega arith)
-  set-tab f g i (suc n) zero y h e o =
-      let z : i + 0 ≡ i = omega arith in
-      ap₂ (λ (x : A) (l : List A). x ∷ l) (sym e ∙ ap g z) (tab-same f g (suc i) n (λ k l m. sym (o k (omega arith) (omega arith) (omega arith))))
-  set-tab f g i (suc n) (suc k) y h e o =
-      let z : i + suc k ≡ suc i + k = omega arith in
-      ap₂ (λ (x : A) (l : List A). x ∷ l) (sym (o i (le-refl i) (omega arith) (omega arith)))
-      (set-tab f g (suc i) n k y (omega arith) (sym (ap g z) ∙ e) (λ j l m p. o j (omega arith) (omega arith) (λ q. p (q ∙ z))))
-
-zero-plus : (k : ℕ) → 0 + k ≡ k
-zero-plus k = omega arith
+use Rattle.table.proofs.Rows.{count-rows, set-tab, zero-plus, lines-of, length-lines}
+pub use Rattle.table.proofs.Rows.{tab, length-tab, getD-tab, tab-same, linesIn, lines-tab}
 
 -- ---- the parts of the state, key by key
-
-abbrev pub linesIn : List ℕ → List ℕ → ℕ → List (List ℕ)
-linesIn sheet w k = cond (eqb k TEXT) (textRows sheet (rowsOf w k)) (rowsOf w k)
-
-pub lines-tab : (sheet w : List ℕ) → linesHeld sheet w ≡ tab (linesIn sheet w) 0 noKey
-unfolding linesHeld
-lines-tab sheet w = refl
 
 -- where the depths of a key's lines stand, 0 where they are all 1
 unfoldable pub depthBases : List ℕ
@@ -65,6 +25,11 @@ depthBases = 0 ∷ 0 ∷ 0 ∷ TYPEDEPTHS ∷ 0 ∷ VALUEDEPTHS ∷ 0 ∷ 0 ∷ 
 
 unfoldable pub depthBase : ℕ → ℕ
 depthBase k = getD depthBases k 0
+
+-- no key, no depths
+pub no-depths : (k : ℕ) → noKey ≤ k → depthBase k ≡ 0
+unfolding depthBase depthBases
+no-depths k h = List·getD-eq-default depthBases 0 h
 
 abbrev pub depthsIn : List ℕ → List ℕ → ℕ → List ℕ
 depthsIn w b k = cond (eqb (depthBase k) 0) (ones w k) (depthsAt b (depthBase k) (getD w k 0))
@@ -74,10 +39,6 @@ unfolding depthsHeld depthBases depthBase
 depths-tab w b = refl
 
 module _ (sheet w b : List ℕ) where
-  pub lines-of : (k : ℕ) → k < noKey → linesOf (held sheet w b) k ≡ linesIn sheet w k
-  unfolding held
-  lines-of k h = ap (λ (l : List (List (List ℕ))). getD l k []) (lines-tab sheet w) ∙ getD-tab (linesIn sheet w) 0 noKey k [] h ∙ ap (linesIn sheet w) (zero-plus k)
-
   pub depths-of : (k : ℕ) → k < noKey → depthsOf (held sheet w b) k ≡ depthsIn w b k
   unfolding held
   depths-of k h = ap (λ (l : List (List ℕ)). getD l k []) (depths-tab w b) ∙ getD-tab (depthsIn w b) 0 noKey k [] h ∙ ap (depthsIn w b) (zero-plus k)
@@ -85,13 +46,6 @@ module _ (sheet w b : List ℕ) where
   pub used-of : held sheet w b .used ≡ depthsAt b USES (getD w NODE 0)
   unfolding held
   used-of = refl
-
-length-lines : (sheet w : List ℕ) (k : ℕ) → length (linesIn sheet w k) ≡ getD w k 0
-length-lines sheet w k = go (eqb k TEXT)
-  where
-    go : (t : Bool) → length (cond t (textRows sheet (rowsOf w k)) (rowsOf w k)) ≡ getD w k 0
-    go true = length-texts sheet (rowsOf w k) ∙ count-rows w k
-    go false = count-rows w k
 
 lengths-tab : (f : ℕ → List (List ℕ)) (i n : ℕ) → lengths (tab f i n) ≡ tab (λ (k : ℕ). length (f k)) i n
 lengths-tab f i zero = refl
@@ -116,22 +70,18 @@ depths-kept b b′ i n h e =
     let j : TYPEDEPTHS + (i - TYPEDEPTHS) ≡ i = omega arith in
     rw (← j, ← (drop-drop (i - TYPEDEPTHS) TYPEDEPTHS b′), ← (drop-drop (i - TYPEDEPTHS) TYPEDEPTHS b), e)
 
-depth-base-low : (k : ℕ) → (depthBase k ≡ 0 → ⊥) → TYPEDEPTHS ≤ depthBase k
+low-bases : allBelow (λ (i : ℕ). eqb (depthBase i) 0 || leb TYPEDEPTHS (depthBase i)) noKey ≡ true
 unfolding depthBase depthBases
-depth-base-low zero h = absurd (h refl)
-depth-base-low (suc zero) h = absurd (h refl)
-depth-base-low (suc (suc zero)) h = absurd (h refl)
-depth-base-low (suc (suc (suc zero))) h = omega arith
-depth-base-low (suc (suc (suc (suc zero)))) h = absurd (h refl)
-depth-base-low (suc (suc (suc (suc (suc zero))))) h = omega arith
-depth-base-low (suc (suc (suc (suc (suc (suc zero)))))) h = absurd (h refl)
-depth-base-low (suc (suc (suc (suc (suc (suc (suc zero))))))) h = absurd (h refl)
-depth-base-low (suc (suc (suc (suc (suc (suc (suc (suc zero)))))))) h = absurd (h refl)
-depth-base-low (suc (suc (suc (suc (suc (suc (suc (suc (suc zero))))))))) h = absurd (h refl)
-depth-base-low (suc (suc (suc (suc (suc (suc (suc (suc (suc (suc zero)))))))))) h = absurd (h refl)
-depth-base-low (suc (suc (suc (suc (suc (suc (suc (suc (suc (suc (suc zero))))))))))) h = omega arith
-depth-base-low (suc (suc (suc (suc (suc (suc (suc (suc (suc (suc (suc (suc zero)))))))))))) h = absurd (h refl)
-depth-base-low (suc (suc (suc (suc (suc (suc (suc (suc (suc (suc (suc (suc (suc k))))))))))))) h = absurd (h refl)
+low-bases = refl
+
+depth-base-low : (k : ℕ) → (depthBase k ≡ 0 → ⊥) → TYPEDEPTHS ≤ depthBase k
+depth-base-low k h = go (decLt k noKey)
+  where
+    go : Dec (k < noKey) → TYPEDEPTHS ≤ depthBase k
+    go (yes l) =
+        leb-true TYPEDEPTHS (depthBase k)
+        (other (eqb (depthBase k) 0) (leb TYPEDEPTHS (depthBase k)) (ne-eqb (depthBase k) 0 h) (all-below (λ (i : ℕ). eqb (depthBase i) 0 || leb TYPEDEPTHS (depthBase i)) noKey k low-bases l))
+    go (no l) = absurd (h (no-depths k (omega arith)))
 
 depths-in-kept : (w w′ b b′ : List ℕ) (k : ℕ) → getD w′ k 0 ≡ getD w k 0 → drop TYPEDEPTHS b′ ≡ drop TYPEDEPTHS b → depthsIn w′ b′ k ≡ depthsIn w b k
 depths-in-kept w w′ b b′ k c e = go (ℕ-discrete (depthBase k) 0)
