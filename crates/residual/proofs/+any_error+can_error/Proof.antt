@@ -1,4 +1,5 @@
 -- The cycle of calls {any_error, can_error} meets its contracts. Assumes nothing.
+use Rattle.sheet.specs.Forms.{NODE}
 use Rattle.table.specs.Layout.{rowsOf}
 use Rattle.residual.specs.Errs.{errsBy}
 use Rattle.residual.proofs.Steps.{look-less, Looking, look-start, look-end, look-hit, look-on, errs-deep, errs-value, errs-error, errs-op, errs-short, errs-kids}
@@ -41,7 +42,7 @@ can-error-below t =
     and 2 can-error-kinds.ps (falls 2 can-error-kinds.ps _<_ μ-can-error t) can-error.Pre
 
 abbrev any-error-Inv-loop : any-error-lts.InvT-loop
-any-error-Inv-loop a b start end d p₀ p = Looking (errsBy (rowsOf a 11) b d) b start end p
+any-error-Inv-loop a b start end d p₀ p = Looking (errsBy (rowsOf a NODE) b d) b start end p
 
 abbrev any-error-μ-loop : any-error-lts.MeasureT-loop
 any-error-μ-loop a b start end d p₀ p = p
