@@ -1,7 +1,7 @@
 // The typing of lines: one rule for each key.
 use crate::nodes::child;
 use crate::nodes::node_typed;
-use crate::types::BOOL;
+use crate::types::BOOL_SORT;
 use crate::types::attribute_type;
 use crate::types::is_above;
 use crate::types::is_action;
@@ -12,20 +12,25 @@ use crate::types::tag_type;
 use fits::Found;
 use fits::tags_fit;
 use fits::value_fits;
-use table::ACTION;
-use table::CONTEXT;
-use table::ENTITY;
-use table::NODE;
-use table::POLICY;
-use table::PRINCIPAL;
-use table::RESOURCE;
-use table::SHAPE;
-use table::VALUE;
+use forms::ACTION;
+use forms::CONTEXT;
+use forms::ENTITY;
+use forms::ENTITY_VALUE;
+use forms::MARK;
+use forms::NODE;
+use forms::POLICY;
+use forms::PRINCIPAL;
+use forms::RECORD_VALUE;
+use forms::RESOURCE;
+use forms::SET_VALUE;
+use forms::SHAPE;
+use forms::VALUE;
 use table::count;
 use table::item;
 use table::row;
 use table::tag;
 ghost use mathlib.Core.Path.{_≡_};
+ghost use Rattle.sheet.specs.Forms.{ENTITY, CONTEXT, NODE};
 ghost use Rattle.fits.specs.Fit.{Known, Answered};
 ghost use Rattle.typing.specs.Rules.{
   shapeRule,
@@ -39,16 +44,6 @@ ghost use Rattle.typing.specs.Rules.{
   typedRule,
   Typed,
 };
-
-// `?` or `-` in a row.
-const MARK: u32 = 10000;
-
-// The forms of values that a line of key entity names.
-const ENTITY_VALUE: u32 = 13;
-
-const SET_VALUE: u32 = 14;
-
-const RECORD_VALUE: u32 = 15;
 
 // ---- shapes
 
@@ -175,14 +170,14 @@ fn context_typed(a: &[u32], m: &mut [u32], r: &[u32]) -> bool
 fn policy_typed(a: &[u32], r: &[u32]) -> bool
     ensures { λ b. ⌜ b ≡ policyRule (now (a .entry)) (now (r .entry)) ⌝ }
 {
-    sort(a, child(a, r, 3)) == BOOL
+    sort(a, child(a, r, 3)) == BOOL_SORT
 }
 
 // ---- any key
 
 // The rules that ask for no value.
 fn key_typed(a: &[u32], r: &[u32], k: usize) -> bool
-    requires { ⌜ (k ≡ 6 → ⊥) × (k ≡ 10 → ⊥) × (k ≡ 11 → ⊥) ⌝ }
+    requires { ⌜ (k ≡ ENTITY → ⊥) × (k ≡ CONTEXT → ⊥) × (k ≡ NODE → ⊥) ⌝ }
     ensures { λ b. ⌜ b ≡ typedRule (now (a .entry)) (now (r .entry)) k ⌝ }
 {
     match k {

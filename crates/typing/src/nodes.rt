@@ -1,9 +1,9 @@
 // The typing of nodes: one rule for each operation.
-use crate::types::BOOL;
-use crate::types::ENTITY;
-use crate::types::LONG;
-use crate::types::SET;
-use crate::types::STRING;
+use crate::types::BOOL_SORT;
+use crate::types::ENTITY_SORT;
+use crate::types::LONG_SORT;
+use crate::types::SET_SORT;
+use crate::types::STRING_SORT;
 use crate::types::attribute;
 use crate::types::attributes;
 use crate::types::element_of;
@@ -16,12 +16,43 @@ use crate::types::target;
 use fits::Found;
 use fits::complete;
 use fits::value_fits;
-use table::ACTION;
-use table::CONTEXT;
-use table::NODE;
-use table::PRINCIPAL;
-use table::RESOURCE;
-use table::TYPE;
+use forms::ACTION;
+use forms::ADD;
+use forms::ALL;
+use forms::AND;
+use forms::ANY;
+use forms::CONTAINS;
+use forms::CONTEXT;
+use forms::EMPTY;
+use forms::EQ;
+use forms::ERR;
+use forms::GET;
+use forms::GETTAG;
+use forms::HAS;
+use forms::HASPATH;
+use forms::HASTAG;
+use forms::IF;
+use forms::IN;
+use forms::IS;
+use forms::LE;
+use forms::LIKE;
+use forms::LIT;
+use forms::LT;
+use forms::MUL;
+use forms::NEG;
+use forms::NODE;
+use forms::NOT;
+use forms::OR;
+use forms::PART_A;
+use forms::PART_P;
+use forms::PART_R;
+use forms::PRINCIPAL;
+use forms::RECORD_OF;
+use forms::RESOURCE;
+use forms::SET_OF;
+use forms::SUB;
+use forms::TYPE;
+use forms::VAR;
 use table::item;
 use table::row;
 use table::tag;
@@ -29,7 +60,8 @@ use words::cut;
 ghost use mathlib.Core.Path.{_≡_};
 ghost use Prim.Native.Nat.{_-_, _≤_};
 ghost use lib.ListN.{drop};
-ghost use Rattle.sheet.specs.Forms.{tag};
+ghost use Rattle.sheet.specs.Forms.{tag, firstNode};
+ghost use Rattle.forms.specs.Tags.{ERR, CONTAINS, ALL, RECORD-OF};
 ghost use Rattle.fits.specs.Fit.{Known, Answered};
 ghost use Rattle.typing.specs.Rules.{
   nodeTypeAt,
@@ -54,63 +86,6 @@ ghost use Rattle.typing.specs.Rules.{
   recordRule,
   nodeRule,
 };
-
-// The forms of nodes.
-const LIT: u32 = 21;
-
-const ERR: u32 = 22;
-
-const VAR: u32 = 23;
-
-const AND: u32 = 24;
-
-const OR: u32 = 25;
-
-const EQ: u32 = 26;
-
-const LT: u32 = 27;
-
-const LE: u32 = 28;
-
-const ADD: u32 = 29;
-
-const SUB: u32 = 30;
-
-const MUL: u32 = 31;
-
-const IN: u32 = 32;
-
-const GETTAG: u32 = 33;
-
-const HASTAG: u32 = 34;
-
-const CONTAINS: u32 = 35;
-
-const ALL: u32 = 36;
-
-const ANY: u32 = 37;
-
-const IF: u32 = 38;
-
-const IS: u32 = 39;
-
-const LIKE: u32 = 40;
-
-const GET: u32 = 41;
-
-const HAS: u32 = 42;
-
-const HASPATH: u32 = 43;
-
-const NOT: u32 = 44;
-
-const NEG: u32 = 45;
-
-const EMPTY: u32 = 46;
-
-const SET_OF: u32 = 47;
-
-const RECORD_OF: u32 = 48;
 
 // ---- the types of a node and its children
 
@@ -165,9 +140,9 @@ fn var_typed(a: &[u32], r: &[u32]) -> bool
     ensures { λ b. ⌜ b ≡ varRule (now (a .entry)) (now (r .entry)) ⌝ }
 {
     match item(r, 2) {
-        0 => request_is(a, r, PRINCIPAL),
-        1 => request_is(a, r, ACTION),
-        2 => request_is(a, r, RESOURCE),
+        PART_P => request_is(a, r, PRINCIPAL),
+        PART_A => request_is(a, r, ACTION),
+        PART_R => request_is(a, r, RESOURCE),
         _ => item(r, 1) == request(a, CONTEXT),
     }
 }
@@ -177,7 +152,7 @@ fn var_typed(a: &[u32], r: &[u32]) -> bool
 fn eq_typed(a: &[u32], r: &[u32]) -> bool
     ensures { λ b. ⌜ b ≡ eqRule (now (a .entry)) (now (r .entry)) ⌝ }
 {
-    if sort(a, item(r, 1)) != BOOL {
+    if sort(a, item(r, 1)) != BOOL_SORT {
         return false;
     }
     let x = child(a, r, 2);
@@ -185,8 +160,8 @@ fn eq_typed(a: &[u32], r: &[u32]) -> bool
     if x == y {
         return true;
     }
-    if sort(a, x) == ENTITY {
-        return sort(a, y) == ENTITY;
+    if sort(a, x) == ENTITY_SORT {
+        return sort(a, y) == ENTITY_SORT;
     }
     false
 }
@@ -194,7 +169,7 @@ fn eq_typed(a: &[u32], r: &[u32]) -> bool
 fn in_typed(a: &[u32], r: &[u32]) -> bool
     ensures { λ b. ⌜ b ≡ inRule (now (a .entry)) (now (r .entry)) ⌝ }
 {
-    if !two_sorts(a, r, BOOL, ENTITY) {
+    if !two_sorts(a, r, BOOL_SORT, ENTITY_SORT) {
         return false;
     }
     let f = target(a, child(a, r, 3));
@@ -207,7 +182,7 @@ fn in_typed(a: &[u32], r: &[u32]) -> bool
 fn gettag_typed(a: &[u32], r: &[u32]) -> bool
     ensures { λ b. ⌜ b ≡ gettagRule (now (a .entry)) (now (r .entry)) ⌝ }
 {
-    if sort(a, child(a, r, 3)) != STRING {
+    if sort(a, child(a, r, 3)) != STRING_SORT {
         return false;
     }
     let f = kind_of(a, child(a, r, 2));
@@ -220,7 +195,7 @@ fn gettag_typed(a: &[u32], r: &[u32]) -> bool
 fn contains_typed(a: &[u32], r: &[u32]) -> bool
     ensures { λ b. ⌜ b ≡ containsRule (now (a .entry)) (now (r .entry)) ⌝ }
 {
-    if sort(a, item(r, 1)) != BOOL {
+    if sort(a, item(r, 1)) != BOOL_SORT {
         return false;
     }
     let f = element_of(a, child(a, r, 2));
@@ -233,7 +208,7 @@ fn contains_typed(a: &[u32], r: &[u32]) -> bool
 fn two_sets(a: &[u32], r: &[u32]) -> bool
     ensures { λ b. ⌜ b ≡ twoSetsRule (now (a .entry)) (now (r .entry)) ⌝ }
 {
-    if !two_sorts(a, r, BOOL, SET) {
+    if !two_sorts(a, r, BOOL_SORT, SET_SORT) {
         return false;
     }
     child(a, r, 2) == child(a, r, 3)
@@ -242,7 +217,7 @@ fn two_sets(a: &[u32], r: &[u32]) -> bool
 fn if_typed(a: &[u32], r: &[u32]) -> bool
     ensures { λ b. ⌜ b ≡ ifRule (now (a .entry)) (now (r .entry)) ⌝ }
 {
-    if sort(a, child(a, r, 2)) != BOOL {
+    if sort(a, child(a, r, 2)) != BOOL_SORT {
         return false;
     }
     let y = item(r, 1);
@@ -271,7 +246,7 @@ fn get_typed(a: &[u32], r: &[u32]) -> bool
 fn has_typed(a: &[u32], r: &[u32]) -> bool
     ensures { λ b. ⌜ b ≡ hasRule (now (a .entry)) (now (r .entry)) ⌝ }
 {
-    if sort(a, item(r, 1)) != BOOL {
+    if sort(a, item(r, 1)) != BOOL_SORT {
         return false;
     }
     let f = attributes(a, child(a, r, 2));
@@ -310,7 +285,7 @@ fn path_typed(a: &[u32], r: &[u32], y: u32) -> bool
 fn haspath_typed(a: &[u32], r: &[u32]) -> bool
     ensures { λ b. ⌜ b ≡ haspathRule (now (a .entry)) (now (r .entry)) ⌝ }
 {
-    if sort(a, item(r, 1)) != BOOL {
+    if sort(a, item(r, 1)) != BOOL_SORT {
         return false;
     }
     let f = attributes(a, child(a, r, 2));
@@ -385,43 +360,43 @@ fn record_typed(a: &[u32], r: &[u32]) -> bool
 // ---- the rule of each operation
 
 fn first_rules(a: &[u32], r: &[u32], op: u32) -> bool
-    requires { ⌜ (22 ≤ op) × (op ≤ 35) ⌝ }
-    ensures { λ b. ⌜ b ≡ nodeRule (now (a .entry)) (now (r .entry)) (op - 21) ⌝ }
+    requires { ⌜ (ERR ≤ op) × (op ≤ CONTAINS) ⌝ }
+    ensures { λ b. ⌜ b ≡ nodeRule (now (a .entry)) (now (r .entry)) (op - firstNode) ⌝ }
 {
     match op {
         ERR => true,
         VAR => var_typed(a, r),
-        AND => three_sorts(a, r, BOOL, BOOL, BOOL),
-        OR => three_sorts(a, r, BOOL, BOOL, BOOL),
+        AND => three_sorts(a, r, BOOL_SORT, BOOL_SORT, BOOL_SORT),
+        OR => three_sorts(a, r, BOOL_SORT, BOOL_SORT, BOOL_SORT),
         EQ => eq_typed(a, r),
-        LT => three_sorts(a, r, BOOL, LONG, LONG),
-        LE => three_sorts(a, r, BOOL, LONG, LONG),
-        ADD => three_sorts(a, r, LONG, LONG, LONG),
-        SUB => three_sorts(a, r, LONG, LONG, LONG),
-        MUL => three_sorts(a, r, LONG, LONG, LONG),
+        LT => three_sorts(a, r, BOOL_SORT, LONG_SORT, LONG_SORT),
+        LE => three_sorts(a, r, BOOL_SORT, LONG_SORT, LONG_SORT),
+        ADD => three_sorts(a, r, LONG_SORT, LONG_SORT, LONG_SORT),
+        SUB => three_sorts(a, r, LONG_SORT, LONG_SORT, LONG_SORT),
+        MUL => three_sorts(a, r, LONG_SORT, LONG_SORT, LONG_SORT),
         IN => in_typed(a, r),
         GETTAG => gettag_typed(a, r),
-        HASTAG => three_sorts(a, r, BOOL, ENTITY, STRING),
+        HASTAG => three_sorts(a, r, BOOL_SORT, ENTITY_SORT, STRING_SORT),
         _ => contains_typed(a, r),
     }
 }
 
 fn last_rules(a: &[u32], r: &[u32], op: u32) -> bool
-    requires { ⌜ (36 ≤ op) × (op ≤ 48) ⌝ }
-    ensures { λ b. ⌜ b ≡ nodeRule (now (a .entry)) (now (r .entry)) (op - 21) ⌝ }
+    requires { ⌜ (ALL ≤ op) × (op ≤ RECORD-OF) ⌝ }
+    ensures { λ b. ⌜ b ≡ nodeRule (now (a .entry)) (now (r .entry)) (op - firstNode) ⌝ }
 {
     match op {
         ALL => two_sets(a, r),
         ANY => two_sets(a, r),
         IF => if_typed(a, r),
-        IS => two_sorts(a, r, BOOL, ENTITY),
-        LIKE => two_sorts(a, r, BOOL, STRING),
+        IS => two_sorts(a, r, BOOL_SORT, ENTITY_SORT),
+        LIKE => two_sorts(a, r, BOOL_SORT, STRING_SORT),
         GET => get_typed(a, r),
         HAS => has_typed(a, r),
         HASPATH => haspath_typed(a, r),
-        NOT => two_sorts(a, r, BOOL, BOOL),
-        NEG => two_sorts(a, r, LONG, LONG),
-        EMPTY => two_sorts(a, r, BOOL, SET),
+        NOT => two_sorts(a, r, BOOL_SORT, BOOL_SORT),
+        NEG => two_sorts(a, r, LONG_SORT, LONG_SORT),
+        EMPTY => two_sorts(a, r, BOOL_SORT, SET_SORT),
         SET_OF => set_typed(a, r),
         _ => record_typed(a, r),
     }
@@ -430,7 +405,7 @@ fn last_rules(a: &[u32], r: &[u32], op: u32) -> bool
 // Whether a node's row is typed; a row of an earlier form is taken as a literal, one of a later form is not typed.
 pub fn node_typed(a: &[u32], m: &mut [u32], r: &[u32]) -> bool
     requires { ⌜ Known (now a) (now m) ⌝ }
-    ensures { λ b. ⌜ Answered (now (a .entry)) (now (m .entry)) (now (m .exit)) (nodeRule (now (a .entry)) (now (r .entry)) (tag (now (r .entry)) - 21)) b ⌝ }
+    ensures { λ b. ⌜ Answered (now (a .entry)) (now (m .entry)) (now (m .exit)) (nodeRule (now (a .entry)) (now (r .entry)) (tag (now (r .entry)) - firstNode)) b ⌝ }
 {
     let op = tag(r);
     if op <= LIT {

@@ -1,9 +1,16 @@
 // Types, shapes, kinds and the request, by their numbers.
 use fits::Found;
 use fits::declared;
-use table::KIND;
-use table::SHAPE;
-use table::TYPE;
+use forms::BOOL_TYPE;
+use forms::ENTITY_TYPE;
+use forms::KIND;
+use forms::LONG_TYPE;
+use forms::OF_ACTIONS;
+use forms::RECORD_TYPE;
+use forms::SET_TYPE;
+use forms::SHAPE;
+use forms::STRING_TYPE;
+use forms::TYPE;
 use table::item;
 use table::row;
 use table::tag;
@@ -25,25 +32,16 @@ ghost use Rattle.typing.specs.Rules.{
   requestAt,
 };
 
-// The sorts of types.
-pub const BOOL: u32 = 0;
+// The sorts of types: the places of their forms among the forms of types.
+pub const BOOL_SORT: u32 = 0;
 
-pub const LONG: u32 = 1;
+pub const LONG_SORT: u32 = LONG_TYPE - BOOL_TYPE;
 
-pub const STRING: u32 = 2;
+pub const STRING_SORT: u32 = STRING_TYPE - BOOL_TYPE;
 
-pub const ENTITY: u32 = 3;
+pub const ENTITY_SORT: u32 = ENTITY_TYPE - BOOL_TYPE;
 
-pub const SET: u32 = 4;
-
-// The forms of types with parts.
-const LONG_TYPE: u32 = 4;
-
-const ENTITY_TYPE: u32 = 6;
-
-const SET_TYPE: u32 = 7;
-
-const RECORD_TYPE: u32 = 8;
+pub const SET_SORT: u32 = SET_TYPE - BOOL_TYPE;
 
 // The sort of a type; a row of no form counts as a bool.
 pub fn sort(a: &[u32], y: u32) -> u32
@@ -52,12 +50,12 @@ pub fn sort(a: &[u32], y: u32) -> u32
     let q = row(a, TYPE, y);
     let k = tag(q);
     if k < LONG_TYPE {
-        return BOOL;
+        return BOOL_SORT;
     }
     if k > RECORD_TYPE {
-        return BOOL;
+        return BOOL_SORT;
     }
-    k - 3
+    k - BOOL_TYPE
 }
 
 // The kind of an entity type.
@@ -144,7 +142,7 @@ pub fn is_action(a: &[u32], k: u32) -> bool
     ensures { λ b. ⌜ b ≡ actionAt (now (a .entry)) k ⌝ }
 {
     let q = row(a, KIND, k);
-    item(q, 2) == 1
+    item(q, 2) == OF_ACTIONS
 }
 
 // The record type of the attributes of an entity or record type.
