@@ -3,8 +3,13 @@
 pub mod like;
 pub mod making;
 
+use forms::ENTITY_VALUE;
+use forms::LONG_VALUE;
+use forms::RECORD_VALUE;
+use forms::SET_VALUE;
+use forms::TEXT_VALUE;
+use forms::VALUE;
 use table::MADE;
-use table::VALUE;
 use table::count;
 use table::item;
 use table::row;
@@ -76,15 +81,15 @@ pub fn shape_of(r: &[u32]) -> Shape
     let t = tag(r);
     let x = item(r, 1);
     let y = item(r, 2);
-    if t > 15 {
+    if t > RECORD_VALUE {
         return Shape::Bool(false);
     }
     match t {
-        15 => Shape::Record,
-        14 => Shape::Set,
-        13 => Shape::Entity(x, y),
-        12 => Shape::Text(x),
-        11 => Shape::Long(joined(x, y)),
+        RECORD_VALUE => Shape::Record,
+        SET_VALUE => Shape::Set,
+        ENTITY_VALUE => Shape::Entity(x, y),
+        TEXT_VALUE => Shape::Text(x),
+        LONG_VALUE => Shape::Long(joined(x, y)),
         _ => Shape::Bool(x == 1),
     }
 }

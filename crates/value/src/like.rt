@@ -1,5 +1,6 @@
 // A text against a pattern of texts and `*`, which stands for any run. The items up to the next `*` are tried at one place after
 // the other; once they fit, no later place is tried for them.
+use forms::MARK;
 use table::text;
 ghost use mathlib.Core.Path.{_≡_};
 ghost use mathlib.Core.Bool.{cond, not};
@@ -11,9 +12,6 @@ ghost use Rattle.sheet.specs.Bytes.{same};
 ghost use Rattle.sheet.specs.Content.{patternOf};
 ghost use Rattle.table.specs.Layout.{textAt};
 ghost use Rattle.value.specs.Globs.{begins, blockOf, untilPiece, untilItem, laterOf, stepOf, after};
-
-// The item `*`.
-const STAR: u32 = 10000;
 
 // The items up to the next `*` at a place of the text: they do not stand there; they do, and are the last ones, up to this place;
 // they do, and the item after the `*` and the place reached are these.
@@ -83,7 +81,7 @@ fn block_at(sheet: &[u8], a: &[u32], pattern: &[u32], s: &[u8], q: usize, t: usi
             break Block::Ends(e);
         }
         let x = pattern[p];
-        if x == STAR {
+        if x == MARK {
             break Block::Star(p + 1, e);
         }
         let piece = text(sheet, a, x);
@@ -157,7 +155,7 @@ fn skip(sheet: &[u8], a: &[u32], pattern: &[u32], s: &[u8], q: usize, t: usize) 
         return t;
     }
     let x = pattern[q];
-    if x == STAR {
+    if x == MARK {
         return t;
     }
     seek(s, text(sheet, a, x), t)

@@ -1,10 +1,16 @@
 // A value found among those that there are, or made: its row then stands at the heap's end. Where there is no room, or 1,024 values
 // were made, nothing is stored.
 use crate::Entry;
+use forms::BOOL_VALUE;
+use forms::ENTITY_VALUE;
+use forms::LONG_VALUE;
+use forms::NODE;
+use forms::RECORD_VALUE;
+use forms::SET_VALUE;
+use forms::VALUE;
+use table::HEAP;
 use table::MADE;
-use table::NODE;
 use table::TOP;
-use table::VALUE;
 use table::add_row;
 use table::base_of;
 use table::count;
@@ -22,9 +28,15 @@ ghost use lib.ListN.{getD, length, take, drop};
 ghost use Rattle.words.specs.Log.{part, Room, Holds};
 ghost use Rattle.cedar.specs.Making.{sortN};
 ghost use Rattle.sheet.specs.Bytes.{same};
+ghost use Rattle.sheet.specs.Forms.{NODE};
 ghost use Rattle.table.specs.Layout.{base, rowsOf};
 ghost use Rattle.value.specs.Lines.{valueLines, placeOf};
 ghost use Rattle.value.specs.Made.{boolRow, longRow, entityRow, roomFor, narrow, withMade, Made, MadeBeside, valuesIn, Shifted, Inserted, lowerOf, leastOf, setRow, pairsOf, recordRow, pushAll};
+
+// The words of a residual's row, of which one is a value's number.
+const ROW: usize = 4;
+
+const SOURCE: usize = 1;
 
 // Whether two rows have the same words.
 pub fn same(x: &[u32], y: &[u32]) -> bool
@@ -138,7 +150,7 @@ fn has_room(a: &[u32], n: usize) -> bool
         return false;
     }
     let top = read(a, TOP) as usize;
-    if top < table::HEAP {
+    if top < HEAP {
         return false;
     }
     if n > 16384 {
@@ -187,16 +199,16 @@ pub fn make_bool(a: &mut [u32], b: bool) -> u32
     ensures { λ v. ⌜ Made (now (a .entry)) (boolRow b) (now (a .exit)) v ⌝ }
 {
     if b {
-        return make(a, &[10, 1]);
+        return make(a, &[BOOL_VALUE, 1]);
     }
-    make(a, &[10, 0])
+    make(a, &[BOOL_VALUE, 0])
 }
 
 // The long that is held as its number plus 2^63.
 pub fn make_long(a: &mut [u32], w: u64) -> u32
     ensures { λ v. ⌜ Made (now (a .entry)) (longRow w) (now (a .exit)) v ⌝ }
 {
-    let r = [11, (w / 4294967296) as u32, (w % 4294967296) as u32];
+    let r = [LONG_VALUE, (w / 4294967296) as u32, (w % 4294967296) as u32];
     make(a, &r)
 }
 
@@ -204,7 +216,7 @@ pub fn make_long(a: &mut [u32], w: u64) -> u32
 pub fn make_entity(a: &mut [u32], k: u32, t: u32) -> u32
     ensures { λ v. ⌜ Made (now (a .entry)) (entityRow k t) (now (a .exit)) v ⌝ }
 {
-    let r = [13, k, t];
+    let r = [ENTITY_VALUE, k, t];
     make(a, &r)
 }
 
@@ -232,9 +244,9 @@ fn least(rows: &[u32], lo: usize) -> Entry
 {
     let mut best = Entry::Nothing;
     let mut i = 0;
-    while rows.len() - i >= 4 {
-        best = lower(lo, best, rows[i + 1]);
-        i += 4;
+    while rows.len() - i >= ROW {
+        best = lower(lo, best, rows[i + SOURCE]);
+        i += ROW;
     }
     best
 }
@@ -304,10 +316,10 @@ fn inserted(b: &mut [u32], at: usize, start: usize, bt: usize) -> usize
     ensures { λ e. ⌜ Holds at (now (b .exit)) e (pushAll (take at (now (b .entry))) (sortN (valuesIn (part (now (b .entry)) start bt)))) ⌝ }
 {
     let mut p = at;
-    let mut i = cut(b, start, bt).len() / 4;
+    let mut i = cut(b, start, bt).len() / ROW;
     while i > 0 {
         i -= 1;
-        let x = read(b, start + 4 * i + 1);
+        let x = read(b, start + ROW * i + SOURCE);
         p = insert(b, at, p, x);
     }
     p
@@ -334,7 +346,7 @@ pub fn make_set(a: &mut [u32], b: &mut [u32], start: usize, bt: usize) -> u32
     requires { ⌜ Room (now b) bt ⌝ }
     ensures { λ v. ⌜ MadeBeside (now (a .entry)) (now (a .exit)) v bt (now (b .entry)) (now (b .exit)) (setRow (part (now (b .entry)) start bt)) ⌝ }
 {
-    let q = push(b, bt, 14);
+    let q = push(b, bt, SET_VALUE);
     let e = ascending(b, q, start, bt);
     make(a, cut(b, bt, e))
 }
@@ -352,14 +364,14 @@ fn paired(b: &mut [u32], at: usize, start: usize, bt: usize, r: &[u32]) -> usize
         if r.len() < i + 2 {
             break p;
         }
-        if bt < q + 4 {
+        if bt < q + ROW {
             break p;
         }
-        let v = read(b, q + 1);
+        let v = read(b, q + SOURCE);
         p = push(b, p, r[i]);
         p = push(b, p, v);
         i += 2;
-        q += 4;
+        q += ROW;
     }
 }
 
@@ -367,9 +379,9 @@ fn paired(b: &mut [u32], at: usize, start: usize, bt: usize, r: &[u32]) -> usize
 pub fn make_record(a: &mut [u32], b: &mut [u32], start: usize, bt: usize, n: u32) -> u32
     requires { ⌜ Room (now b) bt ⌝ }
     requires { ⌜ start ≤ bt ⌝ }
-    ensures { λ v. ⌜ MadeBeside (now (a .entry)) (now (a .exit)) v bt (now (b .entry)) (now (b .exit)) (recordRow (getD (rowsOf (now (a .entry)) 11) n []) (part (now (b .entry)) start bt)) ⌝ }
+    ensures { λ v. ⌜ MadeBeside (now (a .entry)) (now (a .exit)) v bt (now (b .entry)) (now (b .exit)) (recordRow (getD (rowsOf (now (a .entry)) NODE) n []) (part (now (b .entry)) start bt)) ⌝ }
 {
-    let q = push(b, bt, 15);
+    let q = push(b, bt, RECORD_VALUE);
     let e = paired(b, q, start, bt, row(a, NODE, n));
     make(a, cut(b, bt, e))
 }
