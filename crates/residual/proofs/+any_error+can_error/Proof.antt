@@ -22,10 +22,10 @@ use Rattle.residual.proofs.+any_error+can_error.{statement}
 use Rattle.residual.proofs.+any_error+can_error.Tie.{close}
 
 abbrev μ-any-error : Measures 2 any-error-kinds.ps ℕ
-μ-any-error κs a = a .1 .1 .1 .1 .0 * 2 + 1
+μ-any-error κs rows = rows .1 .1 .1 .1 .0 * 2 + 1
 
 abbrev μ-can-error : Measures 2 can-error-kinds.ps ℕ
-μ-can-error κs a = a .1 .1 .1 .0 * 2
+μ-can-error κs rows = rows .1 .1 .1 .0 * 2
 
 abbrev any-error-at : ℕ → In 2 any-error-kinds.ps
 any-error-at t = and 2 any-error-kinds.ps (is 2 any-error-kinds.ps μ-any-error t) any-error.Pre
