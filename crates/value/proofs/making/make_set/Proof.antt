@@ -9,7 +9,7 @@ ascending-requires : tie.Need-ascending-requires
 ascending-requires c κs =
     let p = c .before .before .before in
     let s = p .before .before .before .before in
-    (first-room (s .args .b .now) (s .args .bt) (s .pre) SET-VALUE (p .push .last .0) (p .push .result) (p .push .ensures), first-on (s .args .b .now) (s .args .bt) (s .pre) SET-VALUE (p .push .last .0) (p .push .result) (p .push .ensures))
+    (first-room (s .args .log .now) (s .args .top) (s .pre) SET-VALUE (p .push .last .0) (p .push .result) (p .push .ensures), first-on (s .args .log .now) (s .args .top) (s .pre) SET-VALUE (p .push .last .0) (p .push .result) (p .push .ensures))
 
 returns : tie.Need-returns
 returns c = search (set-made, needs)
