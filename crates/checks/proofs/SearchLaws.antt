@@ -13,7 +13,7 @@ use Rattle.words.proofs.Stores.{part-at}
 use Rattle.sheet.specs.Bytes.{same}
 use Rattle.sheet.specs.Forms.{formOf, forms, tag, at, keyOf}
 use Rattle.sheet.specs.Sheet.{among}
-use Rattle.scan.proofs.Scans.{same-is}
+use Rattle.sheet.proofs.TwoSheets.{same-is}
 use Rattle.table.specs.Layout.{part, base, rowAt, rowsOf, textRow, textRows}
 use Rattle.table.proofs.Rows.{count-rows, row-at-is, row-some}
 use Rattle.checks.specs.Ends.{endsOf, RowEnds, TextEnds}
