@@ -35,16 +35,7 @@ words =
     (with TYPE (6 ∷ 0 ∷ [])
     (with TYPE (3 ∷ []) (set (replicate 4064 0) TOP heap)))))))))))
 
--- the left side stays open and cannot err, the right side makes false: the policy is false
-left-open : runOf partial [] words [] .log ≡ 0 ∷ 1 ∷ 4 ∷ 0 ∷ []
-unfolding with words bases base rowAt rowsAt rowsOf linesHeld held withRow valueLines placeOf roomFor narrow numberOf withMade withValue wordAt stageAt startAt opErrs blocksBy blocksErr rowErrs errsBy errs litOf errOf leftOf madeOf giveOf settleOf ruledOf worked1 worked2 oneOf twoOf classBy classOf decidedBy secondBy secondOf firstBy firstOf schemaIn tyIn envIn varFor unOf binOf litStep varStep lazyStep binStep unStep stepWith stepOf interpOf ranFrom runOf appended types schema nEnv
-left-open = refl
-
-left-lines : runOf partial [] words [] .lines ≡ record { class = cfalse; end = 4 } ∷ []
-unfolding with words bases base rowAt rowsAt rowsOf linesHeld held withRow valueLines placeOf roomFor narrow numberOf withMade withValue wordAt stageAt startAt opErrs blocksBy blocksErr rowErrs errsBy errs litOf errOf leftOf madeOf giveOf settleOf ruledOf worked1 worked2 oneOf twoOf classBy classOf decidedBy secondBy secondOf firstBy firstOf schemaIn tyIn envIn varFor unOf binOf litStep varStep lazyStep binStep unStep stepWith stepOf interpOf ranFrom runOf appended types schema nEnv
-left-lines = refl
-
--- the same over `get` of the unknown context, which can err: the node stays, with a literal false
+-- the same over `get` of the unknown context, which can err
 risky : List ℕ
 risky =
     with POLICY (49 ∷ 0 ∷ 0 ∷ 4 ∷ [])
@@ -58,11 +49,7 @@ risky =
     (with TYPE (8 ∷ 0 ∷ 0 ∷ 0 ∷ [])
     (with TYPE (3 ∷ []) (set (replicate 4064 0) TOP heap))))))))))
 
-may-err : runOf partial [] risky [] .log ≡ 2 ∷ 0 ∷ 4 ∷ 1 ∷ 2 ∷ 1 ∷ 8 ∷ 0 ∷ 0 ∷ 1 ∷ 4 ∷ 0 ∷ 2 ∷ 4 ∷ 16 ∷ 0 ∷ []
-unfolding with risky bases base rowAt rowsAt rowsOf linesHeld held withRow valueLines placeOf roomFor narrow numberOf withMade withValue wordAt stageAt startAt opErrs blocksBy blocksErr rowErrs errsBy errs litOf errOf leftOf madeOf giveOf settleOf ruledOf worked1 worked2 oneOf twoOf classBy classOf decidedBy secondBy secondOf firstBy firstOf schemaIn tyIn envIn varFor unOf binOf litStep varStep lazyStep binStep unStep stepWith stepOf interpOf ranFrom runOf appended types schema nEnv getOf getStep
-may-err = refl
-
--- a path from the known principal, an entity that is not listed: what is left over begins at the entity made, with its type
+-- a path from the known principal, an entity that is not listed
 path : List ℕ
 path =
     with POLICY (49 ∷ 0 ∷ 0 ∷ 1 ∷ [])
@@ -75,6 +62,14 @@ path =
     (with TYPE (3 ∷ [])
     (with KIND (2 ∷ 0 ∷ 0 ∷ []) (set (replicate 4064 0) TOP heap)))))))))
 
-left-over : runOf partial [] path [] .log ≡ 0 ∷ 0 ∷ 4 ∷ 1 ∷ 2 ∷ 1 ∷ 8 ∷ 0 ∷ []
-unfolding with path bases base rowAt rowsAt rowsOf linesHeld held withRow valueLines placeOf roomFor narrow numberOf withMade withValue wordAt stageAt startAt opErrs blocksBy blocksErr rowErrs errsBy errs litOf errOf leftOf madeOf giveOf settleOf ruledOf worked1 worked2 oneOf twoOf classBy classOf decidedBy secondBy secondOf firstBy firstOf schemaIn tyIn envIn varFor unOf binOf litStep varStep lazyStep binStep unStep stepWith stepOf interpOf ranFrom runOf appended types schema nEnv walkFrom entityType stuckOf walkedOf pathBy pathOf pathStep
-left-over = refl
+-- what a run shows
+abbrev shown : List ℕ → List ℕ × List Line
+shown a = let r = runOf partial [] a [] in (r .log, r .lines)
+
+-- The left side stays open and cannot err, the right side makes false: the policy is false. Over a left side that can err the node
+-- stays, with a literal false. Of a path what is left over begins at the entity made, with its type.
+cases : (shown words ≡ (0 ∷ 1 ∷ 4 ∷ 0 ∷ [], record { class = cfalse; end = 4 } ∷ []))
+    × (shown risky .0 ≡ 2 ∷ 0 ∷ 4 ∷ 1 ∷ 2 ∷ 1 ∷ 8 ∷ 0 ∷ 0 ∷ 1 ∷ 4 ∷ 0 ∷ 2 ∷ 4 ∷ 16 ∷ 0 ∷ [])
+    × (shown path .0 ≡ 0 ∷ 0 ∷ 4 ∷ 1 ∷ 2 ∷ 1 ∷ 8 ∷ 0 ∷ [])
+unfolding with words bases base rowAt rowsAt rowsOf linesHeld held withRow valueLines placeOf roomFor narrow numberOf withMade withValue wordAt stageAt startAt opErrs blocksBy blocksErr rowErrs errsBy errs litOf errOf leftOf madeOf giveOf settleOf ruledOf worked1 worked2 oneOf twoOf classBy classOf decidedBy secondBy secondOf firstBy firstOf schemaIn tyIn envIn varFor unOf binOf litStep varStep lazyStep binStep unStep stepWith stepOf interpOf ranFrom runOf appended types schema nEnv risky getOf getStep path walkFrom entityType stuckOf walkedOf pathBy pathOf pathStep
+cases = (refl, refl, refl)

@@ -53,7 +53,7 @@ module _ (m : Mode) (sheet a₀ : List ℕ) (kinds : (k : ℕ) → Listed (tys s
   interp-is zero c deep e a l h good room = absurd e
   interp-is (suc d) c deep e a l h good room =
       let k = e .0 in
-      rw (h .same NODE (omega arith))
+      subst (λ (ns : List (List ℕ)). Is sheet a₀ (suc d) (size (getD trs c (err tbool))) a l (nInterpret (sch m sheet a₀) (env m sheet a₀) (getD trs c (err tbool)) (values a)) (stepWith m sheet (interpOf m sheet d) a l c (getD ns c []))) (sym (h .same NODE (omega arith)))
       (subst
       (λ (t : Node ℕ). Room (size t) a l → TypesIn (tys sheet a₀) (nInterpret (sch m sheet a₀) (env m sheet a₀) t (values a) .tree)
       → Is sheet a₀ (suc d) (size t) a l (nInterpret (sch m sheet a₀) (env m sheet a₀) t (values a)) (getD (steps m sheet) (tag (getD (nodes sheet a₀) c []) - 21) (errStep m sheet) (interpOf m sheet d) a l c (getD (nodes sheet a₀) c [])))
