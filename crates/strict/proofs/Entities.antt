@@ -28,7 +28,7 @@ use Rattle.value.specs.declared.Shape.{Shape}
 use Rattle.value.specs.declared.Shape.the-variants.{Bool as Boolˢ, Long, Text, Entity, Set, Record}
 use Rattle.value.proofs.Lists.{Going, uncons, spent}
 use Rattle.strict.specs.Gives.{outOf, values, valueIn, modeOf, envIn}
-use Rattle.strict.specs.Lookups.{stateIn, lineIn, partOfLine, partIn, lookFound, lookRow, lookIn, lookValue, lookAttr, takenOf, presentOf, getOut, hasOut, tagLook, gettagOut, hastagOut, isRentAt, inKnownOut, inUnknownOut, inListOut, inOut, walkStep, walkFrom}
+use Rattle.strict.specs.Lookups.{ATTRIBUTES, TAGS, ANCESTORS, stateIn, lineIn, partOfLine, partIn, lookFound, lookRow, lookIn, lookValue, lookAttr, takenOf, presentOf, getOut, hasOut, tagLook, gettagOut, hastagOut, isRentAt, inKnownOut, inUnknownOut, inListOut, inOut, walkStep, walkFrom}
 use Rattle.strict.specs.declared.Given.{Given}
 use Rattle.strict.specs.declared.Given.the-variants.{Bool as Boolᵍ, Fails, Stays}
 use Rattle.strict.specs.declared.entity.Part.{Part}
@@ -51,32 +51,32 @@ given-or e x true = refl
 given-or e x false = refl
 
 module _ (c : Bool) (a : List ℕ) (k t : ℕ) where
-  attrs-is : nentity (envIn c a) k t .attrs ≡ partGive (made (rrec stop)) (partIn c a k t 1)
+  attrs-is : nentity (envIn c a) k t .attrs ≡ partGive (made (rrec stop)) (partIn c a k t ATTRIBUTES)
   unfolding envIn nEnv partIn lineIn stateIn
   attrs-is = go c (lookUp (held [] a []) k t)
     where
-      go : (b : Bool) (o : Option (List ℕ)) → nlineOr (lineGiven (modeOf b) o) .attrs ≡ partGive (made (rrec stop)) (partOfLine b o 1)
+      go : (b : Bool) (o : Option (List ℕ)) → nlineOr (lineGiven (modeOf b) o) .attrs ≡ partGive (made (rrec stop)) (partOfLine b o ATTRIBUTES)
       go true none = refl
       go false none = refl
-      go b (some r) = given-or (made (rrec stop)) (at r 1) (eqb (at r 1) mark)
+      go b (some r) = given-or (made (rrec stop)) (at r ATTRIBUTES) (eqb (at r ATTRIBUTES) mark)
 
-  tags-is : nentity (envIn c a) k t .tags ≡ partGive (made (rrec stop)) (partIn c a k t 2)
+  tags-is : nentity (envIn c a) k t .tags ≡ partGive (made (rrec stop)) (partIn c a k t TAGS)
   unfolding envIn nEnv partIn lineIn stateIn
   tags-is = go c (lookUp (held [] a []) k t)
     where
-      go : (b : Bool) (o : Option (List ℕ)) → nlineOr (lineGiven (modeOf b) o) .tags ≡ partGive (made (rrec stop)) (partOfLine b o 2)
+      go : (b : Bool) (o : Option (List ℕ)) → nlineOr (lineGiven (modeOf b) o) .tags ≡ partGive (made (rrec stop)) (partOfLine b o TAGS)
       go true none = refl
       go false none = refl
-      go b (some r) = given-or (made (rrec stop)) (at r 2) (eqb (at r 2) mark)
+      go b (some r) = given-or (made (rrec stop)) (at r TAGS) (eqb (at r TAGS) mark)
 
-  ancestors-is : nentity (envIn c a) k t .ancestors ≡ partGive (made (rset [])) (partIn c a k t 3)
+  ancestors-is : nentity (envIn c a) k t .ancestors ≡ partGive (made (rset [])) (partIn c a k t ANCESTORS)
   unfolding envIn nEnv partIn lineIn stateIn
   ancestors-is = go c (lookUp (held [] a []) k t)
     where
-      go : (b : Bool) (o : Option (List ℕ)) → nlineOr (lineGiven (modeOf b) o) .ancestors ≡ partGive (made (rset [])) (partOfLine b o 3)
+      go : (b : Bool) (o : Option (List ℕ)) → nlineOr (lineGiven (modeOf b) o) .ancestors ≡ partGive (made (rset [])) (partOfLine b o ANCESTORS)
       go true none = refl
       go false none = refl
-      go b (some r) = given-or (made (rset [])) (at r 3) (eqb (at r 3) mark)
+      go b (some r) = given-or (made (rset [])) (at r ANCESTORS) (eqb (at r ANCESTORS) mark)
 
 -- ---- fields
 
@@ -111,7 +111,7 @@ module _ (c : Bool) (a : List ℕ) {A : Type 0} (d : A) (w : ℕ → A) (g : Opt
   in-value (rbool b) = refl
   in-value (rlong n) = refl
   in-value (rtext t) = refl
-  in-value (rent k t) = ap (λ (o : Option Give). onSome (w k) o (λ x. rRec d (giveRow (values a) x) (λ e. g (entryOf u e)))) (attrs-is c a k t) ∙ in-part k (partIn c a k t 1)
+  in-value (rent k t) = ap (λ (o : Option Give). onSome (w k) o (λ x. rRec d (giveRow (values a) x) (λ e. g (entryOf u e)))) (attrs-is c a k t) ∙ in-part k (partIn c a k t ATTRIBUTES)
   in-value (rset l) = refl
   in-value (rrec e) = found-as (entryOf u e)
 
@@ -141,26 +141,26 @@ module _ (c : Bool) (a : List ℕ) (v t : ℕ) (l : Look) (el : l ≡ lookAttr c
 module _ (c : Bool) (a : List ℕ) (m : ℕ) (q : List ℕ) (s : Shape) (eq : q ≡ getD (valueLines a) m []) (es : s ≡ shapeOf q) (n : ℕ) where
   pub tag-first : OneOf (0 ∷ 1 ∷ 2 ∷ 4 ∷ 5 ∷ []) (tagOf the-type s) → Bad ≡ tagLook c a m n
   unfolding tagLook
-  tag-first h = rw (value-shape a m q s eq es) (sym (other-entity Bad (items q) s (λ k t. rText Bad (valueIn a n) (λ u. lookIn a k (partIn c a k t 2) u)) h))
+  tag-first h = rw (value-shape a m q s eq es) (sym (other-entity Bad (items q) s (λ k t. rText Bad (valueIn a n) (λ u. lookIn a k (partIn c a k t TAGS) u)) h))
 
   module _ (k t : ℕ) (z : s ≡ Entity k t) (p : List ℕ) (d : Shape) (ep : p ≡ getD (valueLines a) n []) (ed : d ≡ shapeOf p) where
     pub tag-second : OneOf (0 ∷ 1 ∷ 3 ∷ 4 ∷ 5 ∷ []) (tagOf the-type d) → Bad ≡ tagLook c a m n
     unfolding tagLook
-    tag-second h = rw (value-shape a m q s eq es, z, value-shape a n p d ep ed) (sym (other-text Bad (items p) d (λ u. lookIn a k (partIn c a k t 2) u) h))
+    tag-second h = rw (value-shape a m q s eq es, z, value-shape a n p d ep ed) (sym (other-text Bad (items p) d (λ u. lookIn a k (partIn c a k t TAGS) u) h))
 
-    pub tag-both : (u : ℕ) (f : Part) (r : Look) → d ≡ Text u → f ≡ partIn c a k t 2 → r ≡ lookIn a k f u → r ≡ tagLook c a m n
+    pub tag-both : (u : ℕ) (f : Part) (r : Look) → d ≡ Text u → f ≡ partIn c a k t TAGS → r ≡ lookIn a k f u → r ≡ tagLook c a m n
     unfolding tagLook
     tag-both u f r y ef e = e ∙ rw (value-shape a m q s eq es, z, value-shape a n p d ep ed, y, ef)
 
 module _ (c : Bool) (a : List ℕ) (g : Option ℕ → NOut) where
   in-tag : (r s : Row) → rEnt fails r (λ k t. rText fails s (λ u. onSome stays (nentity (envIn c a) k t .tags) (λ x. rRec fails (giveRow (values a) x) (λ e. g (entryOf u e)))))
-      ≡ lookAs fails (λ k. stays) g (rEnt Bad r (λ k t. rText Bad s (λ u. lookIn a k (partIn c a k t 2) u)))
+      ≡ lookAs fails (λ k. stays) g (rEnt Bad r (λ k t. rText Bad s (λ u. lookIn a k (partIn c a k t TAGS) u)))
   in-tag (rbool b) s = refl
   in-tag (rlong n) s = refl
   in-tag (rtext t) s = refl
   in-tag (rent k t) (rbool b) = refl
   in-tag (rent k t) (rlong n) = refl
-  in-tag (rent k t) (rtext u) = ap (λ (o : Option Give). onSome stays o (λ x. rRec fails (giveRow (values a) x) (λ e. g (entryOf u e)))) (tags-is c a k t) ∙ in-part c a fails (λ i. stays) g u k (partIn c a k t 2)
+  in-tag (rent k t) (rtext u) = ap (λ (o : Option Give). onSome stays o (λ x. rRec fails (giveRow (values a) x) (λ e. g (entryOf u e)))) (tags-is c a k t) ∙ in-part c a fails (λ i. stays) g u k (partIn c a k t TAGS)
   in-tag (rent k t) (rent l u) = refl
   in-tag (rent k t) (rset l) = refl
   in-tag (rent k t) (rrec e) = refl
@@ -230,7 +230,7 @@ or-end : (b : Bool) → (b || false) ≡ b
 or-end true = refl
 or-end false = refl
 
-module _ (c : Bool) (a : List ℕ) (m k t : ℕ) (l : List ℕ) (p : Part) (ep : p ≡ partIn c a k t 3) where
+module _ (c : Bool) (a : List ℕ) (m k t : ℕ) (l : List ℕ) (p : Part) (ep : p ≡ partIn c a k t ANCESTORS) where
   the-ancestors : nentity (envIn c a) k t .ancestors ≡ partGive (made (rset [])) p
   the-ancestors = ancestors-is c a k t ∙ ap (partGive (made (rset []))) (sym ep)
 
