@@ -8,7 +8,7 @@ use native.Mathlib.Numerals.{add-one}
 use native.Mathlib.Omega.{arith}
 use borrow.Author.Tests.{not-true, not-false}
 use lib.Dec.{eqb}
-use lib.ListN.{getD, length, drop, length-drop}
+use lib.ListN.{getD, length, drop}
 use types.Run.{OneOf, miss}
 use denote.Enum.Declared.{tagOf}
 use Rattle.value.proofs.Shape.{the-type}
@@ -16,9 +16,7 @@ use Rattle.cedar.specs.Evaluate.{isNil}
 use Rattle.cedar.specs.Rows.{stop, Row, rbool, rlong, rtext, rent, rset, rrec}
 use Rattle.cedar.specs.Numbered.{Give, made, old, NOut, give, fails, stays, truly, rEnt, rText, rRec, giveRow, memN, anyN, entryOf, isSome, orFail, allRent, nentity, nIn, nTargets, onEntries}
 use Rattle.cedar.specs.Value.{onSome}
-use Rattle.cedar.specs.Types.{Ty, tent, Schema}
-use Rattle.cedar.specs.Numbered.{Out, out, make, nlineOr, nLeft, nWalk}
-use Rattle.cedar.specs.Residual.{lit, err}
+use Rattle.cedar.specs.Numbered.{nlineOr}
 use Rattle.sheet.specs.Forms.{items, at, mark}
 use Rattle.sheet.specs.Content.{lookUp, nEnv, lineGiven, known}
 use Rattle.table.specs.Layout.{held}
@@ -35,23 +33,22 @@ use Rattle.strict.specs.declared.entity.Part.{Part}
 use Rattle.strict.specs.declared.entity.Part.the-variants.{Known, Empty, Unknown}
 use Rattle.strict.specs.declared.entity.Look.{Look}
 use Rattle.strict.specs.declared.entity.Look.the-variants.{At as Atˡ, Missing, Unknown as Unknownˡ, Bad}
-use Rattle.strict.specs.declared.entity.Walked.{Walked}
 use Rattle.strict.specs.declared.entity.Walked.the-variants.{Holds, Fails as Failsʷ, Left}
 use Rattle.strict.proofs.Shapes.{value-shape, other-text, other-entity, other-set}
 
--- ---- known parts
+-- ---- known parts: what stands for one, where e does for nothing at all
 
-abbrev partGive : Give → Part → Option Give
+abbrev pub partGive : Give → Part → Option Give
 partGive e (Known n) = some (old n)
 partGive e Empty = some e
 partGive e Unknown = none
 
-given-or : (e : Give) (x : ℕ) (b : Bool) → cond b none (some (old x)) ≡ partGive e (cond b Unknown (Known x))
+pub given-or : (e : Give) (x : ℕ) (b : Bool) → cond b none (some (old x)) ≡ partGive e (cond b Unknown (Known x))
 given-or e x true = refl
 given-or e x false = refl
 
 module _ (c : Bool) (a : List ℕ) (k t : ℕ) where
-  attrs-is : nentity (envIn c a) k t .attrs ≡ partGive (made (rrec stop)) (partIn c a k t ATTRIBUTES)
+  pub attrs-is : nentity (envIn c a) k t .attrs ≡ partGive (made (rrec stop)) (partIn c a k t ATTRIBUTES)
   unfolding envIn nEnv partIn lineIn stateIn
   attrs-is = go c (lookUp (held [] a []) k t)
     where
@@ -81,7 +78,7 @@ module _ (c : Bool) (a : List ℕ) (k t : ℕ) where
 -- ---- fields
 
 -- what is made of a look-up
-abbrev lookAs : {A : Type 0} → A → (ℕ → A) → (Option ℕ → A) → Look → A
+abbrev pub lookAs : {A : Type 0} → A → (ℕ → A) → (Option ℕ → A) → Look → A
 lookAs d w g (Atˡ x) = g (some x)
 lookAs d w g Missing = g none
 lookAs d w g (Unknownˡ k) = w k
@@ -107,7 +104,7 @@ module _ (c : Bool) (a : List ℕ) {A : Type 0} (d : A) (w : ℕ → A) (g : Opt
   in-part k Empty = refl
   in-part k Unknown = refl
 
-  in-value : (r : Row) → onEntries (envIn c a) (values a) d (λ k i. w k) r (λ e. g (entryOf u e)) ≡ lookAs d w g (lookValue c a r u)
+  pub in-value : (r : Row) → onEntries (envIn c a) (values a) d (λ k i. w k) r (λ e. g (entryOf u e)) ≡ lookAs d w g (lookValue c a r u)
   in-value (rbool b) = refl
   in-value (rlong n) = refl
   in-value (rtext t) = refl
@@ -341,50 +338,3 @@ module _ (c : Bool) (a : List ℕ) (v : ℕ) (path : List ℕ) (n i : ℕ) (g : 
 
       pub walk-on : i + 1 < length path → Walking c a v path x (i + 1)
       walk-on m = record { near = omega arith; left = g .left ∙ walk-one ∙ rw (e, cons-drop path (i + 1) m, ← (add-one i)) }
-
--- what the numbered walk gives
-module _ (S : Schema) (c : Bool) (a : List ℕ) (T : Ty) (path : List ℕ) where
-  abbrev pub settleWalk : Walked → Out
-  settleWalk (Holds b) = make T (rbool b) (values a)
-  settleWalk Failsʷ = out (values a) (err T)
-  settleWalk (Left n k j) = nLeft S (envIn c a) T (lit (tent k) n) (getD path j 0) (drop (suc j) path) (values a)
-
-  -- the last step, and one before it
-  last-step : ℕ → Option ℕ → Out
-  last-step n o = make T (rbool (isSome o)) (values a)
-
-  rest-at : (t : ℕ) (ts : List ℕ) (i : ℕ) → t ∷ ts ≡ drop i path → (getD path i 0 ≡ t) × (drop (suc i) path ≡ ts)
-  rest-at t ts i e =
-      let l : i < length path = inside e in
-      let u : drop i path ≡ getD path i 0 ∷ drop (i + 1) path = uncons path 0 i l in
-      let p : t ≡ getD path i 0 = cc in
-      let q : ts ≡ drop (i + 1) path = cc in
-      (sym p, sym (q ∙ ap (λ (j : ℕ). drop j path) (add-one i)))
-    where
-      inside : t ∷ ts ≡ drop i path → i < length path
-      inside z = omega (arith, ap length z, length-drop i path)
-
-  pub walk-is : (ts : List ℕ) (t n i : ℕ) → t ∷ ts ≡ drop i path → nWalk S (envIn c a) T (values a) ts t n ≡ settleWalk (walkFrom c a n i (t ∷ ts))
-  unfolding walkFrom lookAttr valueIn last-step
-  walk-is [] t n i e =
-      let r = rest-at t [] i e in
-      in-value c a (out (values a) (err T)) (λ k. nLeft S (envIn c a) T (lit (tent k) n) t [] (values a)) (last-step n) t (valueIn a n) ∙ go (lookAttr c a n t) (r .0) (r .1)
-    where
-      go : (l : Look) → getD path i 0 ≡ t → drop (suc i) path ≡ []
-          → lookAs (out (values a) (err T)) (λ k. nLeft S (envIn c a) T (lit (tent k) n) t [] (values a)) (last-step n) l ≡ settleWalk (walkStep n i l true (λ x. walkFrom c a x (suc i) []))
-      go (Atˡ x) p q = refl
-      go Missing p q = refl
-      go (Unknownˡ k) p q = rw (p, q)
-      go Bad p q = refl
-  walk-is (u ∷ us) t n i e =
-      let r = rest-at t (u ∷ us) i e in
-      in-value c a (out (values a) (err T)) (λ k. nLeft S (envIn c a) T (lit (tent k) n) t (u ∷ us) (values a)) (λ o. onSome (make T (rbool false) (values a)) o (nWalk S (envIn c a) T (values a) us u)) t (valueIn a n)
-      ∙ go (lookAttr c a n t) (r .0) (r .1) (λ x. walk-is us u x (suc i) (sym (r .1)))
-    where
-      go : (l : Look) → getD path i 0 ≡ t → drop (suc i) path ≡ u ∷ us → ((x : ℕ) → nWalk S (envIn c a) T (values a) us u x ≡ settleWalk (walkFrom c a x (suc i) (u ∷ us)))
-          → lookAs (out (values a) (err T)) (λ k. nLeft S (envIn c a) T (lit (tent k) n) t (u ∷ us) (values a)) (λ o. onSome (make T (rbool false) (values a)) o (nWalk S (envIn c a) T (values a) us u)) l
-          ≡ settleWalk (walkStep n i l false (λ x. walkFrom c a x (suc i) (u ∷ us)))
-      go (Atˡ x) p q ih = ih x
-      go Missing p q ih = refl
-      go (Unknownˡ k) p q ih = rw (p, q)
-      go Bad p q ih = refl
