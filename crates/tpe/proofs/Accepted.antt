@@ -13,7 +13,8 @@ use Rattle.cedar.specs.Rows.{Row, rent, sameRow}
 use Rattle.cedar.specs.Numbered.{NEnv, nInterpret}
 use Rattle.cedar.specs.Runs.{Run, nRun}
 use Rattle.cedar.proofs.TableLaws.{InN}
-use Rattle.sheet.specs.Forms.{Mode, partial, forms, formOf, slotAt, tag, at, keyOf, TYPE, VALUE, NODE, POLICY}
+use Rattle.forms.specs.Tags.{POLICY-LINE}
+use Rattle.sheet.specs.Forms.{Mode, partial, forms, formOf, slotAt, tag, at, keyOf, TYPE, VALUE, NODE, POLICY, ENTITY}
 use Rattle.sheet.specs.State.{State, linesOf, count, depthsOf, valueRow}
 use Rattle.sheet.specs.Sheet.{read}
 use Rattle.sheet.specs.Content.{types, rowsIn, valueRows, schema, nEnv, given, requestTy, entityLine, lineGiven, trees, numberedPolicies, nPolicies}
@@ -53,11 +54,11 @@ given-same sheet a context = refl
 entity-same : (sheet a : List ℕ) (e : Row) (rows : List (List ℕ)) → entityLine (held [] a []) e rows ≡ entityLine (held sheet a []) e rows
 unfolding held linesHeld
 entity-same sheet a e [] = refl
-entity-same sheet a e (r ∷ rows) = ap (λ (o : Option (List ℕ)). cond (sameRow (valueRow (getD (rowsOf a 5) (at r 0) [])) e) (some r) o) (entity-same sheet a e rows)
+entity-same sheet a e (r ∷ rows) = ap (λ (o : Option (List ℕ)). cond (sameRow (valueRow (getD (rowsOf a VALUE) (at r 0) [])) e) (some r) o) (entity-same sheet a e rows)
 
 env-same : (m : Mode) (sheet a : List ℕ) → nEnv m (held [] a []) ≡ nEnv m (held sheet a [])
 unfolding nEnv held linesHeld
-env-same m sheet a = λ i. record { request = λ x. given-same sheet a x i; line = λ k t. lineGiven m (entity-same sheet a (rent k t) (rowsOf a 6) i) }
+env-same m sheet a = λ i. record { request = λ x. given-same sheet a x i; line = λ k t. lineGiven m (entity-same sheet a (rent k t) (rowsOf a ENTITY) i) }
 
 -- nor depths for what was read
 facts-lines : (l : List (List (List ℕ))) (d e : List (List ℕ)) (u v : List ℕ) → Facts partial (record { lines = l; depths = d; used = u }) → Facts partial (record { lines = l; depths = e; used = v })
@@ -109,11 +110,11 @@ module _ (sheet a₀ : List ℕ) (f : Facts partial (held sheet a₀ [])) where
     policy-node : (pre : List (List ℕ)) (r : List ℕ) → Was partial s POLICY pre r → at r 2 < length (nodes sheet a₀)
     unfolding held linesHeld keyOf slotAt formOf forms
     policy-node pre r w =
-        let (lo, hi) = tags-between 12 49 49 (tag r) (omega arith) policy-tags (w .key) in
-        let q : tag r ≡ 49 = omega (arith, lo, hi) in
-        let rd = row-read partial r (w .line) 49 (w .row) q (omega arith) (omega arith) (λ z. absurd (omega (arith, z))) in
-        let same : linesOf (w .was) 11 ≡ linesOf s 11 = w .earlier 11 (omega arith) in
-        let lt = ltb-true (at r 2) (count (w .was) 11) (item-there partial s (w .was) POLICY r 49 rd (w .pass .refers) 2 (ltb-true 2 3 refl)) in
+        let (lo, hi) = tags-between POLICY POLICY-LINE POLICY-LINE (tag r) (omega arith) policy-tags (w .key) in
+        let q : tag r ≡ POLICY-LINE = omega (arith, lo, hi) in
+        let rd = row-read partial r (w .line) POLICY-LINE (w .row) q (omega arith) (omega arith) (λ z. absurd (omega (arith, z))) in
+        let same : linesOf (w .was) NODE ≡ linesOf s NODE = w .earlier NODE (omega arith) in
+        let lt = ltb-true (at r 2) (count (w .was) NODE) (item-there partial s (w .was) POLICY r POLICY-LINE rd (w .pass .refers) 2 (ltb-true 2 3 refl)) in
         subst (λ z. at r 2 < length z) same lt
 
     all-work : (pre rest : List (List ℕ)) → linesOf s POLICY ≡ pre ++ rest → AllWork partial sheet a₀ (trees s) (Tabled s) 64 (omega arith) (interpOf partial sheet 64) rest
@@ -162,11 +163,11 @@ module _ (l : List (List (List ℕ))) (d e : List (List ℕ)) (u v : List ℕ) w
 
   entity-lines : (q : Row) (rows : List (List ℕ)) → entityLine one q rows ≡ entityLine two q rows
   entity-lines q [] = refl
-  entity-lines q (r ∷ rows) = ap (λ (o : Option (List ℕ)). cond (sameRow (valueRow (getD (getD l 5 []) (at r 0) [])) q) (some r) o) (entity-lines q rows)
+  entity-lines q (r ∷ rows) = ap (λ (o : Option (List ℕ)). cond (sameRow (valueRow (getD (getD l VALUE []) (at r 0) [])) q) (some r) o) (entity-lines q rows)
 
   env-lines : nEnv partial one ≡ nEnv partial two
   unfolding nEnv
-  env-lines = λ i. record { request = λ x. given-lines x i; line = λ k t. lineGiven partial (entity-lines (rent k t) (getD l 6 []) i) }
+  env-lines = λ i. record { request = λ x. given-lines x i; line = λ k t. lineGiven partial (entity-lines (rent k t) (getD l ENTITY []) i) }
 
   policies-lines : nPolicies one ≡ nPolicies two
   unfolding nPolicies trees types

@@ -14,6 +14,7 @@ use Rattle.cedar.specs.Residual.{Node, lit, err, haspath, tyOf, canErr, Stage, 
 use Rattle.cedar.specs.TypeRules.{hasRule}
 use Rattle.cedar.specs.Rows.{Entries, Row, rbool, rlong, rtext, rent, rset, rrec}
 use Rattle.cedar.specs.Numbered.{Give, NEnv, giveRow, rRec, nentity, onEntries, rowAt, isSome, entryOf, Out, out, make, nByRule, nLeft, nWalk, nPath, nStepPath}
+use Rattle.forms.specs.Tags.{ENTITY-TYPE}
 use Rattle.sheet.specs.Forms.{Mode, items, at, TYPE}
 use Rattle.sheet.proofs.TypeNumbers.{Listed, TypesIn}
 use Rattle.table.specs.Layout.{rowsOf}
@@ -64,7 +65,7 @@ item-at (t ∷ l) i k e = ap (λ (j : ℕ). getD l j 0) e
 drop-at : (l : List ℕ) (i k : ℕ) → i ≡ k → drop i l ≡ drop k l
 drop-at l i k e = ap (λ (j : ℕ). drop j l) e
 
-module _ (m : Mode) (sheet a₀ : List ℕ) (kinds : (k : ℕ) → Listed (tys sheet a₀) (tent k) → ty sheet a₀ (placeOf (6 ∷ k ∷ []) (rowsOf a₀ TYPE)) ≡ tent k) where
+module _ (m : Mode) (sheet a₀ : List ℕ) (kinds : (k : ℕ) → Listed (tys sheet a₀) (tent k) → ty sheet a₀ (placeOf (ENTITY-TYPE ∷ k ∷ []) (rowsOf a₀ TYPE)) ≡ tent k) where
   module _ (d n : ℕ) (most : 1 ≤ n) (a l a₁ : List ℕ) (R : List Row) (room : Room (suc n) a l) (h : Hold a₀ a₁) (space : Space 3 (suc n) a a₁) (rows : values a₁ ≡ R)
       (c : ℕ) (r : List ℕ) (su : suits (getD (nodes sheet a₀) c []) 1 ≡ true)
       (keep : (j : ℕ) (t : Node ℕ) → leftTree (getD (nodes sheet a₀) c []) j (ty sheet a₀ (at r 0)) (t ∷ []) ≡ haspath (ty sheet a₀ (at r 0)) t (at r (2 + j)) (drop (3 + j) (items r))) where
@@ -73,7 +74,7 @@ module _ (m : Mode) (sheet a₀ : List ℕ) (kinds : (k : ℕ) → Listed (tys s
 
     entity-type : (k : ℕ) → Listed (tys sheet a₀) (tent k) → ty sheet a₀ (entityType a₁ k) ≡ tent k
     unfolding entityType
-    entity-type k e = ap (λ (rs : List (List ℕ)). ty sheet a₀ (placeOf (6 ∷ k ∷ []) rs)) (h .same TYPE (omega arith)) ∙ kinds k e
+    entity-type k e = ap (λ (rs : List (List ℕ)). ty sheet a₀ (placeOf (ENTITY-TYPE ∷ k ∷ []) rs)) (h .same TYPE (omega arith)) ∙ kinds k e
 
     says-is : (b : Bool) → Is sheet a₀ (suc (suc d)) (suc n) a l (make T (rbool b) R) (madeOf a₁ l (at r 0) (boolRow b))
     says-is b = rw (← rows, ← bool-row b) (make-bool sheet a₀ (suc d) (suc n) (omega arith) a l a₁ room h space b (at r 0))

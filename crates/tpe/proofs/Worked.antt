@@ -13,7 +13,8 @@ use Rattle.rules.proofs.Rule.{the-type}
 use Rattle.cedar.specs.Residual.{uis, uempty, beq, bany, rin, rhastag}
 use Rattle.cedar.specs.TypeRules.{unRule, binRule, relRule, hasRule}
 use Rattle.cedar.specs.Numbered.{NOut, nUn, nBin}
-use Rattle.sheet.specs.Forms.{partial, items, at}
+use Rattle.forms.specs.Tags.{EQ, IS, HASPATH}
+use Rattle.sheet.specs.Forms.{partial, items, at, NODE}
 use Rattle.words.specs.Log.{Appended, Room}
 use Rattle.words.proofs.Logs.{log-cut, log-length}
 use Rattle.table.specs.Layout.{rowsOf}
@@ -41,11 +42,11 @@ use Rattle.tpe.proofs.Settling.{error-put, left-put}
 
 -- ---- by the operand alone
 
-module _ (sheet a b : List ℕ) (start bt n t y : ℕ) (r : List ℕ) (s : Stage) (room : Room b bt) (le : start ≤ bt) (er : r ≡ getD (rowsOf a 11) n []) (ey : y ≡ getD r 1 0) (es : s ≡ stageAt b bt) where
+module _ (sheet a b : List ℕ) (start bt n t y : ℕ) (r : List ℕ) (s : Stage) (room : Room b bt) (le : start ≤ bt) (er : r ≡ getD (rowsOf a NODE) n []) (ey : y ≡ getD r 1 0) (es : s ≡ stageAt b bt) where
   abbrev Worked₁ : List ℕ → List ℕ → ℕ → Type 0
-  Worked₁ a′ b′ e = Leaves start a′ b′ e (worked1 (oneGive sheet t a (getD (rowsOf a 11) n [])) a (take bt b) start n (at (getD (rowsOf a 11) n []) 0) (stageAt b bt))
+  Worked₁ a′ b′ e = Leaves start a′ b′ e (worked1 (oneGive sheet t a (getD (rowsOf a NODE) n [])) a (take bt b) start n (at (getD (rowsOf a NODE) n []) 0) (stageAt b bt))
 
-  pub one-value : (a′ b′ : List ℕ) (e v : ℕ) (g : Given) → s ≡ Value v → outOf g ≡ oneGive sheet t a (getD (rowsOf a 11) n []) v → Leaves start a′ b′ e (settleOf a (take bt b) start n y (outOf g)) → Worked₁ a′ b′ e
+  pub one-value : (a′ b′ : List ℕ) (e v : ℕ) (g : Given) → s ≡ Value v → outOf g ≡ oneGive sheet t a (getD (rowsOf a NODE) n []) v → Leaves start a′ b′ e (settleOf a (take bt b) start n y (outOf g)) → Worked₁ a′ b′ e
   unfolding worked1
   one-value a′ b′ e v g q eg h = rw (← es, q, ← eg, ← er, ← ey) h
 
@@ -113,9 +114,9 @@ module _ (sheet a l : List ℕ) (start n : ℕ) (r : List ℕ) where
   one-at (suc (suc (suc (suc (suc (suc (suc zero))))))) h = refl
   one-at (suc (suc (suc (suc (suc (suc (suc (suc j)))))))) h = refl
 
-  one-is : (t : ℕ) → (t ≡ 43 → ⊥) → oneAt partial sheet t start n r (left a l) ≡ oneOf (oneRule t a r last) (oneGive sheet t a r) a l start n (at r 0)
+  one-is : (t : ℕ) → (t ≡ HASPATH → ⊥) → oneAt partial sheet t start n r (left a l) ≡ oneOf (oneRule t a r last) (oneGive sheet t a r) a l start n (at r 0)
   unfolding oneAt oneRule oneGive
-  one-is t h = one-at (t - 39) (λ e. h (omega (arith, e)))
+  one-is t h = one-at (t - IS) (λ e. h (omega (arith, e)))
 
 -- a path asks no text's bytes
 module _ (sheet a l : List ℕ) (start n : ℕ) (r : List ℕ) where
@@ -129,7 +130,7 @@ module _ (sheet a l : List ℕ) (start n : ℕ) (r : List ℕ) where
   unfolding pathBy schemaIn tyIn envIn
   path-by (Value v) = walked-sheet (take start l) (walkFrom (envIn partial [] a) (rowsIn (valueLines a)) (drop 3 (items r)) (at r 2) v 0)
   path-by Error = refl
-  path-by Open = ap (λ (q : Option Bool). ruledOf a l start (at r 0) (errs (rowsOf a 11) l (length l)) q (leftOf a l start n 0 (at r 0)))
+  path-by Open = ap (λ (q : Option Bool). ruledOf a l start (at r 0) (errs (rowsOf a NODE) l (length l)) q (leftOf a l start n 0 (at r 0)))
       (has-same [] a (at r 2) (wordAt l (length l) 3) ∙ sym (has-same sheet a (at r 2) (wordAt l (length l) 3)))
 
   path-sheet : pathOf partial [] start n r (left a l) ≡ pathOf partial sheet start n r (left a l)
@@ -138,32 +139,32 @@ module _ (sheet a l : List ℕ) (start n : ℕ) (r : List ℕ) where
 
 module _ (sheet a b a′ b′ : List ℕ) (start bt n t e : ℕ) (room : Room b bt) (le : start ≤ bt) where
   abbrev One : Type 0
-  One = Leaves start a′ b′ e (oneAt partial sheet t start n (getD (rowsOf a 11) n []) (left a (take bt b)))
+  One = Leaves start a′ b′ e (oneAt partial sheet t start n (getD (rowsOf a NODE) n []) (left a (take bt b)))
 
   abbrev worked : O
-  worked = worked1 (oneGive sheet t a (getD (rowsOf a 11) n [])) a (take bt b) start n (at (getD (rowsOf a 11) n []) 0) (stageAt b bt)
+  worked = worked1 (oneGive sheet t a (getD (rowsOf a NODE) n [])) a (take bt b) start n (at (getD (rowsOf a NODE) n []) 0) (stageAt b bt)
 
-  pub one-path : t ≡ 43 → Leaves start a′ b′ e (pathOf partial [] start n (getD (rowsOf a 11) n []) (left a (take bt b))) → One
+  pub one-path : t ≡ HASPATH → Leaves start a′ b′ e (pathOf partial [] start n (getD (rowsOf a NODE) n []) (left a (take bt b))) → One
   unfolding oneAt
-  one-path h z = rw (h, ← path-sheet sheet a (take bt b) start n (getD (rowsOf a 11) n [])) z
+  one-path h z = rw (h, ← path-sheet sheet a (take bt b) start n (getD (rowsOf a NODE) n [])) z
 
-  module _ (q : Rule) (h : t ≡ 43 → ⊥) (eq : ruleIn q ≡ unlessErr (errs (rowsOf a 11) b bt) (oneRule t a (getD (rowsOf a 11) n []) (wordAt b bt 3))) where
+  module _ (q : Rule) (h : t ≡ HASPATH → ⊥) (eq : ruleIn q ≡ unlessErr (errs (rowsOf a NODE) b bt) (oneRule t a (getD (rowsOf a NODE) n []) (wordAt b bt 3))) where
     abbrev rule : Option Bool
-    rule = oneRule t a (getD (rowsOf a 11) n []) (wordAt b bt 3)
+    rule = oneRule t a (getD (rowsOf a NODE) n []) (wordAt b bt 3)
 
-    as-one : Leaves start a′ b′ e (ruledOf a (take bt b) start (at (getD (rowsOf a 11) n []) 0) (errs (rowsOf a 11) b bt) rule worked) → One
+    as-one : Leaves start a′ b′ e (ruledOf a (take bt b) start (at (getD (rowsOf a NODE) n []) 0) (errs (rowsOf a NODE) b bt) rule worked) → One
     unfolding oneOf
     as-one z =
-        rw (one-is sheet a (take bt b) start n (getD (rowsOf a 11) n []) t h, log-length b bt room, ← word-log b bt bt 3 (le-refl bt) (omega arith), ← errs-log b bt (rowsOf a 11) bt (le-refl bt), ← stage-log b bt bt (le-refl bt)) z
+        rw (one-is sheet a (take bt b) start n (getD (rowsOf a NODE) n []) t h, log-length b bt room, ← word-log b bt bt 3 (le-refl bt) (omega arith), ← errs-log b bt (rowsOf a NODE) bt (le-refl bt), ← stage-log b bt bt (le-refl bt)) z
 
     pub one-silent : OneOf (1 ∷ []) (tagOf the-type q) → Leaves start a′ b′ e worked → One
-    one-silent s z = as-one (not-said a b a′ b′ start bt e (at (getD (rowsOf a 11) n []) 0) worked q (errs (rowsOf a 11) b bt) rule eq s z)
+    one-silent s z = as-one (not-said a b a′ b′ start bt e (at (getD (rowsOf a NODE) n []) 0) worked q (errs (rowsOf a NODE) b bt) rule eq s z)
 
-    pub one-ruled : (x : Bool) (y : ℕ) (r : List ℕ) → q ≡ Says x → r ≡ getD (rowsOf a 11) n [] → y ≡ getD r 1 0 → Leaves start a′ b′ e (madeOf a (take start b) y (boolRow x)) → One
-    one-ruled x y r s er ey z = as-one (said a b a′ b′ start bt e (at (getD (rowsOf a 11) n []) 0) worked q (errs (rowsOf a 11) b bt) rule eq x le s (rw (← er, ← ey) z))
+    pub one-ruled : (x : Bool) (y : ℕ) (r : List ℕ) → q ≡ Says x → r ≡ getD (rowsOf a NODE) n [] → y ≡ getD r 1 0 → Leaves start a′ b′ e (madeOf a (take start b) y (boolRow x)) → One
+    one-ruled x y r s er ey z = as-one (said a b a′ b′ start bt e (at (getD (rowsOf a NODE) n []) 0) worked q (errs (rowsOf a NODE) b bt) rule eq x le s (rw (← er, ← ey) z))
 
-pub rule-one : (a b : List ℕ) (bt n t w : ℕ) (p q : Rule) → w ≡ wordAt b bt 3 → ruleIn p ≡ oneRule t a (getD (rowsOf a 11) n []) w → ruleIn q ≡ unlessErr (errs (rowsOf a 11) b bt) (ruleIn p)
-    → ruleIn q ≡ unlessErr (errs (rowsOf a 11) b bt) (oneRule t a (getD (rowsOf a 11) n []) (wordAt b bt 3))
+pub rule-one : (a b : List ℕ) (bt n t w : ℕ) (p q : Rule) → w ≡ wordAt b bt 3 → ruleIn p ≡ oneRule t a (getD (rowsOf a NODE) n []) w → ruleIn q ≡ unlessErr (errs (rowsOf a NODE) b bt) (ruleIn p)
+    → ruleIn q ≡ unlessErr (errs (rowsOf a NODE) b bt) (oneRule t a (getD (rowsOf a NODE) n []) (wordAt b bt 3))
 rule-one a b bt n t w p q ew ep eq = rw (← ew, ← ep) eq
 
 -- ---- `two`
@@ -208,9 +209,9 @@ by-pair g a l start n y Open (Value w) = refl
 by-pair g a l start n y Open Error = refl
 by-pair g a l start n y Open Open = refl
 
-module _ (a b : List ℕ) (start mid bt n t y : ℕ) (r : List ℕ) (p : Pair) (room : Room b bt) (order : (start ≤ mid) × (mid ≤ bt)) (er : r ≡ getD (rowsOf a 11) n []) (ey : y ≡ getD r 1 0) (ep : p ≡ pairOf (stageAt b mid) (stageAt b bt)) where
+module _ (a b : List ℕ) (start mid bt n t y : ℕ) (r : List ℕ) (p : Pair) (room : Room b bt) (order : (start ≤ mid) × (mid ≤ bt)) (er : r ≡ getD (rowsOf a NODE) n []) (ey : y ≡ getD r 1 0) (ep : p ≡ pairOf (stageAt b mid) (stageAt b bt)) where
   abbrev Worked₂ : List ℕ → List ℕ → ℕ → Type 0
-  Worked₂ a′ b′ e = Leaves start a′ b′ e (worked2 (twoGive t a) a (take bt b) start n (at (getD (rowsOf a 11) n []) 0) (stageAt b mid) (stageAt b bt))
+  Worked₂ a′ b′ e = Leaves start a′ b′ e (worked2 (twoGive t a) a (take bt b) start n (at (getD (rowsOf a NODE) n []) 0) (stageAt b mid) (stageAt b bt))
 
   as-pair : (a′ b′ : List ℕ) (e : ℕ) → Leaves start a′ b′ e (pairFor (twoGive t a) a (take bt b) start n y p) → Worked₂ a′ b′ e
   as-pair a′ b′ e h = rw (← er, ← ey, by-pair (twoGive t a) a (take bt b) start n y (stageAt b mid) (stageAt b bt), ← ep) h
@@ -251,7 +252,11 @@ module _ (sheet a l : List ℕ) (start mid n : ℕ) (r : List ℕ) where
 
   two-is : (t : ℕ) → twoAt partial sheet t start mid n r (left a l) ≡ twoOf (twoRule t a (wordAt l mid 3) (wordAt l (length l) 3)) (twoGive t a) a l start mid n (at r 0)
   unfolding twoAt twoRule twoGive
-  two-is t = two-at (t - 26)
+  two-is t = two-at (t - EQ)
+
+-- two operands ask no text's bytes
+pub two-sheet : (sheet a l : List ℕ) (start mid n : ℕ) (r : List ℕ) (t : ℕ) → twoAt partial [] t start mid n r (left a l) ≡ twoAt partial sheet t start mid n r (left a l)
+two-sheet sheet a l start mid n r t = two-is [] a l start mid n r t ∙ sym (two-is sheet a l start mid n r t)
 
 unless-both : (j k : Bool) (o : Option Bool) → unlessErr j (unlessErr k o) ≡ unlessErr (j || k) o
 unless-both true k o = refl
@@ -262,36 +267,36 @@ order-room b start mid bt room order = record { low = omega (arith, room .low, o
 
 module _ (sheet a b a′ b′ : List ℕ) (start mid bt n t e : ℕ) (room : Room b bt) (order : (start ≤ mid) × (mid ≤ bt)) where
   abbrev Two : Type 0
-  Two = Leaves start a′ b′ e (twoAt partial sheet t start mid n (getD (rowsOf a 11) n []) (left a (take bt b)))
+  Two = Leaves start a′ b′ e (twoAt partial sheet t start mid n (getD (rowsOf a NODE) n []) (left a (take bt b)))
 
   abbrev both : O
-  both = worked2 (twoGive t a) a (take bt b) start n (at (getD (rowsOf a 11) n []) 0) (stageAt b mid) (stageAt b bt)
+  both = worked2 (twoGive t a) a (take bt b) start n (at (getD (rowsOf a NODE) n []) 0) (stageAt b mid) (stageAt b bt)
 
-  module _ (q : Rule) (eq : ruleIn q ≡ unlessErr (errs (rowsOf a 11) b mid || errs (rowsOf a 11) b bt) (twoRule t a (wordAt b mid 3) (wordAt b bt 3))) where
+  module _ (q : Rule) (eq : ruleIn q ≡ unlessErr (errs (rowsOf a NODE) b mid || errs (rowsOf a NODE) b bt) (twoRule t a (wordAt b mid 3) (wordAt b bt 3))) where
     abbrev err : Bool
-    err = errs (rowsOf a 11) b mid || errs (rowsOf a 11) b bt
+    err = errs (rowsOf a NODE) b mid || errs (rowsOf a NODE) b bt
 
-    as-two : Leaves start a′ b′ e (ruledOf a (take bt b) start (at (getD (rowsOf a 11) n []) 0) err (twoRule t a (wordAt b mid 3) (wordAt b bt 3)) both) → Two
+    as-two : Leaves start a′ b′ e (ruledOf a (take bt b) start (at (getD (rowsOf a NODE) n []) 0) err (twoRule t a (wordAt b mid 3) (wordAt b bt 3)) both) → Two
     unfolding twoOf
     as-two z =
         rw (
-          two-is sheet a (take bt b) start mid n (getD (rowsOf a 11) n []) t,
+          two-is sheet a (take bt b) start mid n (getD (rowsOf a NODE) n []) t,
           log-length b bt room,
           ← word-log b bt mid 3 (order .1) (omega arith),
           ← word-log b bt bt 3 (le-refl bt) (omega arith),
-          ← errs-log b bt (rowsOf a 11) mid (order .1),
-          ← errs-log b bt (rowsOf a 11) bt (le-refl bt),
+          ← errs-log b bt (rowsOf a NODE) mid (order .1),
+          ← errs-log b bt (rowsOf a NODE) bt (le-refl bt),
           ← stage-log b bt mid (order .1),
           ← stage-log b bt bt (le-refl bt),
         ) z
 
     pub two-silent : OneOf (1 ∷ []) (tagOf the-type q) → Leaves start a′ b′ e both → Two
-    two-silent s z = as-two (not-said a b a′ b′ start bt e (at (getD (rowsOf a 11) n []) 0) both q err (twoRule t a (wordAt b mid 3) (wordAt b bt 3)) eq s z)
+    two-silent s z = as-two (not-said a b a′ b′ start bt e (at (getD (rowsOf a NODE) n []) 0) both q err (twoRule t a (wordAt b mid 3) (wordAt b bt 3)) eq s z)
 
-    pub two-ruled : (x : Bool) (y : ℕ) (r : List ℕ) → q ≡ Says x → r ≡ getD (rowsOf a 11) n [] → y ≡ getD r 1 0 → Leaves start a′ b′ e (madeOf a (take start b) y (boolRow x)) → Two
+    pub two-ruled : (x : Bool) (y : ℕ) (r : List ℕ) → q ≡ Says x → r ≡ getD (rowsOf a NODE) n [] → y ≡ getD r 1 0 → Leaves start a′ b′ e (madeOf a (take start b) y (boolRow x)) → Two
     two-ruled x y r s er ey z =
-        as-two (said a b a′ b′ start bt e (at (getD (rowsOf a 11) n []) 0) both q err (twoRule t a (wordAt b mid 3) (wordAt b bt 3)) eq x (omega (arith, order .0, order .1)) s (rw (← er, ← ey) z))
+        as-two (said a b a′ b′ start bt e (at (getD (rowsOf a NODE) n []) 0) both q err (twoRule t a (wordAt b mid 3) (wordAt b bt 3)) eq x (omega (arith, order .0, order .1)) s (rw (← er, ← ey) z))
 
-pub rule-two : (a b : List ℕ) (mid bt t u w : ℕ) (p o q : Rule) → u ≡ wordAt b mid 3 → w ≡ wordAt b bt 3 → ruleIn p ≡ twoRule t a u w → ruleIn o ≡ unlessErr (errs (rowsOf a 11) b bt) (ruleIn p)
-    → ruleIn q ≡ unlessErr (errs (rowsOf a 11) b mid) (ruleIn o) → ruleIn q ≡ unlessErr (errs (rowsOf a 11) b mid || errs (rowsOf a 11) b bt) (twoRule t a (wordAt b mid 3) (wordAt b bt 3))
-rule-two a b mid bt t u w p o q eu ew ep eo eq = rw (← eu, ← ew, ← ep) (eq ∙ rw eo (unless-both (errs (rowsOf a 11) b mid) (errs (rowsOf a 11) b bt) (ruleIn p)))
+pub rule-two : (a b : List ℕ) (mid bt t u w : ℕ) (p o q : Rule) → u ≡ wordAt b mid 3 → w ≡ wordAt b bt 3 → ruleIn p ≡ twoRule t a u w → ruleIn o ≡ unlessErr (errs (rowsOf a NODE) b bt) (ruleIn p)
+    → ruleIn q ≡ unlessErr (errs (rowsOf a NODE) b mid) (ruleIn o) → ruleIn q ≡ unlessErr (errs (rowsOf a NODE) b mid || errs (rowsOf a NODE) b bt) (twoRule t a (wordAt b mid 3) (wordAt b bt 3))
+rule-two a b mid bt t u w p o q eu ew ep eo eq = rw (← eu, ← ew, ← ep) (eq ∙ rw eo (unless-both (errs (rowsOf a NODE) b mid) (errs (rowsOf a NODE) b bt) (ruleIn p)))

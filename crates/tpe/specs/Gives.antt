@@ -8,6 +8,7 @@ use lib.ListN.{getD, drop}
 use Rattle.cedar.specs.Residual.{unot, uneg, uempty, uis, ulike, beq, blt, ble, badd, bsub, bmul, bcontains, ball, bany, rin, rgettag, rhastag}
 use Rattle.cedar.specs.TypeRules.{unRule, binRule, relRule, hasRule}
 use Rattle.cedar.specs.Numbered.{Give, old, NOut, nUn, nBin, nRel, nGet, nHas}
+use Rattle.forms.specs.Tags.{EQ, IS, SET-OF}
 use Rattle.sheet.specs.Forms.{partial, items, at}
 use Rattle.sheet.specs.Content.{known, rowsIn, patternOf}
 use Rattle.value.specs.Lines.{valueLines}
@@ -32,7 +33,7 @@ contextGiven r = known (at r 1) (old (at r 1))
 
 -- the words of a set or record: r is the node's row, rows are those of its children
 unfoldable pub manyRow : ℕ → List ℕ → List ℕ → List ℕ
-manyRow t r rows = getD (setRow rows ∷ []) (t - 47) (recordRow r rows)
+manyRow t r rows = getD (setRow rows ∷ []) (t - SET-OF) (recordRow r rows)
 
 -- ---- one operand: r is the node's row, v the operand's value, y its type; a path stands apart
 
@@ -48,10 +49,10 @@ oneGives sheet a r v =
     ∷ []
 
 unfoldable pub oneGive : List ℕ → ℕ → List ℕ → List ℕ → ℕ → NOut
-oneGive sheet t a r v = getD (oneGives sheet a r v) (t - 39) (nUn (schemaIn partial sheet a) uempty (valueIn partial sheet a v))
+oneGive sheet t a r v = getD (oneGives sheet a r v) (t - IS) (nUn (schemaIn partial sheet a) uempty (valueIn partial sheet a v))
 
 unfoldable pub oneRule : ℕ → List ℕ → List ℕ → ℕ → Option Bool
-oneRule t a r y = getD (unRule (schemaAt a) (uis (at r 2)) (tyAt a y) ∷ none ∷ none ∷ hasRule (schemaAt a) (at r 2) (tyAt a y) ∷ []) (t - 39) none
+oneRule t a r y = getD (unRule (schemaAt a) (uis (at r 2)) (tyAt a y) ∷ none ∷ none ∷ hasRule (schemaAt a) (at r 2) (tyAt a y) ∷ []) (t - IS) none
 
 -- ---- two operands, of values v and w and types y and z
 
@@ -71,12 +72,12 @@ twoGives a v w =
     ∷ []
 
 unfoldable pub twoGive : ℕ → List ℕ → ℕ → ℕ → NOut
-twoGive t a v w = getD (twoGives a v w) (t - 26) (nBin bany v w (valueIn partial [] a v) (valueIn partial [] a w))
+twoGive t a v w = getD (twoGives a v w) (t - EQ) (nBin bany v w (valueIn partial [] a v) (valueIn partial [] a w))
 
 unfoldable pub twoRule : ℕ → List ℕ → ℕ → ℕ → Option Bool
 twoRule t a y z =
     getD (binRule (schemaAt a) beq (tyAt a y) (tyAt a z) ∷ none ∷ none ∷ none ∷ none ∷ none ∷ relRule (schemaAt a) rin (tyAt a y) (tyAt a z) ∷ none ∷ relRule (schemaAt a) rhastag (tyAt a y) (tyAt a z) ∷ [])
-    (t - 26) none
+    (t - EQ) none
 
 -- how far both are worked
 abbrev pub pairOf : Stage → Stage → Pair

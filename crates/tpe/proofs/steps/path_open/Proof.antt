@@ -10,7 +10,7 @@ returns c =
     let q = p .before .before .before .before in
     let r = q .before .before .before .before in
     let k = r .before .before .before .before in
-    open-left (k .args .a .now) (k .args .b .now) (p .push-left .last .0) (k .args .start) (k .args .bt) (k .args .n) (p .push-left .result) (q .before .before .before .item .result) _ (q .ruled-one .result) (k .pre .0) (k .pre .1)
+    open-left (k .args .rows .now) (k .args .log .now) (p .push-left .last .0) (k .args .start) (k .args .top) (k .args .node) (p .push-left .result) (q .before .before .before .item .result) _ (q .ruled-one .result) (k .pre .0) (k .pre .1)
     (r .row .ensures) (q .before .before .before .item .ensures) (q .ruled-one .ensures) (p .before .before .before .match .keys2) (p .push-left .ensures)
 
 returns-2 : tie.Need-returns-2
