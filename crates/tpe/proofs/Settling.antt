@@ -156,19 +156,22 @@ drop-log b zero (suc bt) = let z : suc bt - 0 ≡ suc bt = omega arith in rw z
 drop-log [] (suc start) (suc bt) = sym (take-nil (suc bt - suc start))
 drop-log (x ∷ b) (suc start) (suc bt) = let z : suc bt - suc start ≡ bt - start = omega arith in rw z (drop-log b start bt)
 
-module _ (a b : List ℕ) (start bt n t y c : ℕ) (r : List ℕ) (room : Room b bt) (le : start ≤ bt) (er : r ≡ getD (rowsOf a NODE) n []) (ey : y ≡ getD r 1 0) where
+module _ (a b : List ℕ) (start bt n t y c : ℕ) (room : Room b bt) (le : start ≤ bt) (ey : y ≡ at (getD (rowsOf a NODE) n []) 0) where
+  abbrev r : List ℕ
+  r = getD (rowsOf a NODE) n []
+
   abbrev Left : List ℕ → List ℕ → ℕ → Type 0
   Left a′ b′ e = Leaves start a′ b′ e (manyAt partial [] t start n (getD (rowsOf a NODE) n []) (record { words = a; log = take bt b; join = c }))
 
   as-many : (a′ b′ : List ℕ) (e : ℕ) → Leaves start a′ b′ e (manyOf (manyRow t r (drop start (take bt b))) a (take bt b) start n y c) → Left a′ b′ e
-  as-many a′ b′ e h = rw (← er, many-is t r start n (record { words = a; log = take bt b; join = c }), ← ey) h
+  as-many a′ b′ e h = rw (many-is t r start n (record { words = a; log = take bt b; join = c }), ← ey) h
 
   pub many-made : (a′ b₁ b′ : List ℕ) (e v : ℕ) → c ≡ allValues → length b₁ ≡ length b → MadeBeside a a′ v bt b b₁ (manyRow t (getD (rowsOf a NODE) n []) (part b start bt)) → Appended b₁ start (litRow v y) b′ e → Left a′ b′ e
   unfolding manyOf
   many-made a′ b₁ b′ e v z el m p =
       let low : Room b₁ start = record { low = omega (arith, room .low); long = omega (arith, room .long) } in
       let cut : take start (take bt b) ≡ take start b₁ = ap (take start) (sym (m .log)) ∙ log-cut b₁ bt start le in
-      as-many a′ b′ e (rw (z, drop-log b start bt, er, cut) (made-pushed a a′ b₁ b′ (written (take bt b) (manyRow t (getD (rowsOf a NODE) n []) (part b start bt))) start e y v low (m .made) p))
+      as-many a′ b′ e (rw (z, drop-log b start bt, cut) (made-pushed a a′ b₁ b′ (written (take bt b) (manyRow t (getD (rowsOf a NODE) n []) (part b start bt))) start e y v low (m .made) p))
 
   pub many-error : (b′ : List ℕ) (e : ℕ) → c ≡ someError → Appended b start (errRow y) b′ e → Left a b′ e
   unfolding manyOf

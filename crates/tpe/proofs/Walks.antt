@@ -16,7 +16,7 @@ use Rattle.cedar.specs.Value.{onSome}
 use Rattle.cedar.specs.Types.{tent}
 use Rattle.cedar.specs.TypeRules.{hasRule}
 use Rattle.cedar.specs.Rows.{Entries, stop, Row, rbool, rlong, rtext, rent, rset, rrec}
-use Rattle.cedar.specs.Numbered.{Give, made, old, NEnv, nentity, giveRow, rRec, entryOf, isSome, onEntries}
+use Rattle.cedar.specs.Numbered.{Give, made, old, NEnv, nentity, giveRow, rRec, entryOf, isSome, onEntries, stays}
 use Rattle.forms.specs.Tags.{ENTITY-TYPE, HAS}
 use Rattle.sheet.specs.Bytes.{same}
 use Rattle.sheet.specs.Forms.{partial, items, at, TYPE, NODE}
@@ -36,24 +36,25 @@ use Rattle.rules.specs.Rules.{ruleIn, schemaAt}
 use Rattle.rules.specs.declared.Rule.{Rule}
 use Rattle.rules.specs.declared.Rule.the-variants.{Says}
 use Rattle.rules.proofs.Same.{has-same, has-kind-same}
-use Rattle.strict.specs.Gives.{values, valueIn}
+use Rattle.strict.specs.Gives.{outOf, values, valueIn}
 use Rattle.strict.specs.Gives as G
 use Rattle.strict.specs.Lookups.{lookAttr, walkStep}
 use Rattle.strict.specs.Lookups as S
 use Rattle.strict.proofs.Entities.{given-or, lookAs, in-value}
 use Rattle.strict.proofs.Entities as E
+use Rattle.strict.specs.declared.Given.{Given}
 use Rattle.strict.specs.declared.entity.Part.{Part}
 use Rattle.strict.specs.declared.entity.Part.the-variants.{Known, Unknown}
 use Rattle.strict.specs.declared.entity.Look.{Look}
 use Rattle.strict.specs.declared.entity.Look.the-variants.{At, Missing, Unknown as Unknownˡ, Bad}
 use Rattle.strict.specs.declared.entity.Walked.{Walked}
 use Rattle.strict.specs.declared.entity.Walked.the-variants.{Holds, Fails, Left}
-use Rattle.tpe.specs.Run.{left, errOf, leftOf, madeOf, ruledOf, Walk, lost, says, stuck, walkFrom, entityType, schemaIn, tyIn, envIn, stuckOf, walkedOf, pathBy, pathOf}
+use Rattle.tpe.specs.Run.{left, errOf, leftOf, madeOf, ruledOf, Walk, lost, says, stuck, walkFrom, entityType, schemaIn, tyIn, envIn, stuckOf, walkedOf, pathBy, pathOf, settleOf}
 use Rattle.tpe.specs.Leaves.{Leaves}
-use Rattle.tpe.specs.Gives.{oneRule, unlessErr, walkIn, Taken}
+use Rattle.tpe.specs.Gives.{oneRule, unlessErr, walkIn, Taken, ruleOr}
 use Rattle.tpe.proofs.Slices.{word-log, stage-log, errs-log}
 use Rattle.tpe.proofs.Settling.{error-put, left-put}
-use Rattle.tpe.proofs.Worked.{silent, not-said, said}
+use Rattle.tpe.proofs.Worked.{silent, ruled-settles}
 
 -- ---- the type line of a kind
 
@@ -229,7 +230,7 @@ module _ (a b b′ : List ℕ) (start n j v k e y u : ℕ) (r : List ℕ) (q : R
 
 -- ---- from a value
 
-module _ (a b b′ : List ℕ) (start n v e y : ℕ) (r : List ℕ) (w : Walked) (er : r ≡ getD (rowsOf a NODE) n []) (ey : y ≡ getD r 1 0)
+module _ (a b b′ : List ℕ) (start n v e y : ℕ) (w : Walked) (ey : y ≡ at (getD (rowsOf a NODE) n []) 0)
     (ew : walkIn w ≡ walkFrom (envIn partial [] a) (rowsIn (valueLines a)) (drop 3 (items (getD (rowsOf a NODE) n []))) (at (getD (rowsOf a NODE) n []) 2) v 0) where
   abbrev From : List ℕ → Type 0
   From a₁ = Leaves start a₁ b′ e (walkedOf partial [] a (take start b) n (getD (rowsOf a NODE) n [])
@@ -237,7 +238,7 @@ module _ (a b b′ : List ℕ) (start n v e y : ℕ) (r : List ℕ) (w : Walked)
 
   pub from-holds : (a′ : List ℕ) (x : Bool) → w ≡ Holds x → Leaves start a′ b′ e (madeOf a (take start b) y (boolRow x)) → From a′
   unfolding walkedOf
-  from-holds a′ x q h = rw (← ew, q, ← er, ← ey) h
+  from-holds a′ x q h = rw (← ew, q, ← ey) h
 
   pub from-left : (a′ : List ℕ) (x k j i : ℕ) → w ≡ Left x k j → Taken (length (getD (rowsOf a NODE) n [])) j i
       → Leaves start a′ b′ e (stuckOf partial [] a (take start b) n (getD (rowsOf a NODE) n []) i x k (hasRule (schemaAt a) (at (getD (rowsOf a NODE) n []) (2 + i)) (tent k))) → From a′
@@ -248,27 +249,17 @@ module _ (a b b′ : List ℕ) (start n v e y : ℕ) (r : List ℕ) (w : Walked)
 
   pub from-fails : Room b start → w ≡ Fails → Appended b start (errRow y) b′ e → From a
   unfolding walkedOf errOf
-  from-fails room q p = rw (← ew, q, ← er, ← ey) (record { words = refl; log = append-holds room p })
+  from-fails room q p = rw (← ew, q, ← ey) (record { words = refl; log = append-holds room p })
 
 -- ---- from an open operand
 
-module _ (a b b′ : List ℕ) (start bt n e y : ℕ) (r : List ℕ) (q : Rule) (room : Room b bt) (le : start ≤ bt) (er : r ≡ getD (rowsOf a NODE) n []) (ey : y ≡ getD r 1 0)
-    (eq : ruleIn q ≡ unlessErr (errs (rowsOf a NODE) b bt) (oneRule HAS a (getD (rowsOf a NODE) n []) (wordAt b bt 3))) where
-  abbrev OpenPath : List ℕ → Type 0
-  OpenPath a′ = Leaves start a′ b′ e (ruledOf a (take bt b) start (at (getD (rowsOf a NODE) n []) 0) (errs (rowsOf a NODE) b bt) (oneRule HAS a (getD (rowsOf a NODE) n []) (wordAt b bt 3))
-      (leftOf a (take bt b) start n 0 (at (getD (rowsOf a NODE) n []) 0)))
-
-  abbrev first : Option Bool
-  first = oneRule HAS a (getD (rowsOf a NODE) n []) (wordAt b bt 3)
-
-  the-type-of : at (getD (rowsOf a NODE) n []) 0 ≡ y
-  the-type-of = rw (← er, ← ey)
-
-  pub open-left : OneOf (1 ∷ []) (tagOf the-type q) → Appended b bt (leftRow n 0 (bt - start) y) b′ e → OpenPath a
-  open-left s z = rw the-type-of (not-said a b a b′ start bt e y (leftOf a (take bt b) start n 0 y) q (errs (rowsOf a NODE) b bt) first eq s (left-put a b b′ start bt e y room le n 0 z))
-
-  pub open-said : (a′ : List ℕ) (x : Bool) → q ≡ Says x → Leaves start a′ b′ e (madeOf a (take start b) y (boolRow x)) → OpenPath a′
-  open-said a′ x s z = rw the-type-of (said a b a′ b′ start bt e y (leftOf a (take bt b) start n 0 y) q (errs (rowsOf a NODE) b bt) first eq x le s z)
+pub open-settled : (a b a′ b′ : List ℕ) (start bt n e y : ℕ) (q : Rule) (g : Given) → y ≡ at (getD (rowsOf a NODE) n []) 0
+    → ruleIn q ≡ unlessErr (errs (rowsOf a NODE) b bt) (oneRule HAS a (getD (rowsOf a NODE) n []) (wordAt b bt 3)) → outOf g ≡ ruleOr (ruleIn q) stays
+    → Leaves start a′ b′ e (settleOf a (take bt b) start n y (outOf g))
+    → Leaves start a′ b′ e (ruledOf a (take bt b) start (at (getD (rowsOf a NODE) n []) 0) (errs (rowsOf a NODE) b bt) (oneRule HAS a (getD (rowsOf a NODE) n []) (wordAt b bt 3)) (leftOf a (take bt b) start n 0 (at (getD (rowsOf a NODE) n []) 0)))
+unfolding settleOf
+open-settled a b a′ b′ start bt n e y q g ey eq eg z =
+    rw (← ey, ruled-settles a (take bt b) start n y (errs (rowsOf a NODE) b bt) (oneRule HAS a (getD (rowsOf a NODE) n []) (wordAt b bt 3)) stays, ← eq, ← eg) z
 
 -- ---- `path`
 
@@ -286,9 +277,9 @@ module _ (a b b′ : List ℕ) (start bt n e : ℕ) (s : Stage) (room : Room b b
   unfolding pathBy
   path-value a′ v q h = as-path a′ (rw (q, log-cut b bt start le) h)
 
-  pub path-error : (y : ℕ) (r : List ℕ) → s ≡ Error → r ≡ getD (rowsOf a NODE) n [] → y ≡ getD r 1 0 → Appended b start (errRow y) b′ e → OnPath a
+  pub path-error : (y : ℕ) → s ≡ Error → y ≡ at (getD (rowsOf a NODE) n []) 0 → Appended b start (errRow y) b′ e → OnPath a
   unfolding pathBy
-  path-error y r q er ey p = as-path a (rw (q, ← er, ← ey) (error-put a b b′ start bt e y room le p))
+  path-error y q ey p = as-path a (rw (q, ← ey) (error-put a b b′ start bt e y room le p))
 
   pub path-open : (a′ : List ℕ) → s ≡ Open
       → Leaves start a′ b′ e (ruledOf a (take bt b) start (at (getD (rowsOf a NODE) n []) 0) (errs (rowsOf a NODE) b bt) (oneRule HAS a (getD (rowsOf a NODE) n []) (wordAt b bt 3)) (leftOf a (take bt b) start n 0 (at (getD (rowsOf a NODE) n []) 0)))

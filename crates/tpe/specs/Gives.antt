@@ -1,13 +1,13 @@
 -- What the parts of a step give: the operation and the type rule of a node by its tag t, over the words a.
 use mathlib.Core.Path.{_≡_}
 use mathlib.Core.Bool.{Bool, true, false}
-use mathlib.Core.Option.{Option, none}
+use mathlib.Core.Option.{Option, none, some}
 use mathlib.Core.List.{List, [], _∷_}
 use Prim.Native.Nat.{ℕ, _-_, _≤_, _<_}
 use lib.ListN.{getD, drop}
 use Rattle.cedar.specs.Residual.{unot, uneg, uempty, uis, ulike, beq, blt, ble, badd, bsub, bmul, bcontains, ball, bany, rin, rgettag, rhastag}
 use Rattle.cedar.specs.TypeRules.{unRule, binRule, relRule, hasRule}
-use Rattle.cedar.specs.Numbered.{Give, old, NOut, nUn, nBin, nRel, nGet, nHas}
+use Rattle.cedar.specs.Numbered.{Give, old, NOut, fails, stays, truly, nUn, nBin, nRel, nGet, nHas}
 use Rattle.forms.specs.Tags.{EQ, IS, SET-OF}
 use Rattle.sheet.specs.Forms.{partial, items, at}
 use Rattle.sheet.specs.Content.{known, rowsIn, patternOf}
@@ -26,6 +26,11 @@ use Rattle.tpe.specs.declared.steps.Pair.the-variants.{Values, Error as 
 abbrev pub unlessErr : Bool → Option Bool → Option Bool
 unlessErr true q = none
 unlessErr false q = q
+
+-- what it decides, or else what the operation gives
+abbrev pub ruleOr : Option Bool → NOut → NOut
+ruleOr none o = o
+ruleOr (some b) o = truly b
 
 -- the context, by its line
 abbrev pub contextGiven : List ℕ → Option Give
@@ -50,6 +55,12 @@ oneGives sheet a r v =
 
 unfoldable pub oneGive : List ℕ → ℕ → List ℕ → List ℕ → ℕ → NOut
 oneGive sheet t a r v = getD (oneGives sheet a r v) (t - IS) (nUn (schemaIn partial sheet a) uempty (valueIn partial sheet a v))
+
+-- by how far the operand is worked
+abbrev pub outOne : (ℕ → NOut) → Stage → NOut
+outOne g (Value v) = g v
+outOne g Error = fails
+outOne g Open = stays
 
 unfoldable pub oneRule : ℕ → List ℕ → List ℕ → ℕ → Option Bool
 oneRule t a r y = getD (unRule (schemaAt a) (uis (at r 2)) (tyAt a y) ∷ none ∷ none ∷ hasRule (schemaAt a) (at r 2) (tyAt a y) ∷ []) (t - IS) none
@@ -88,6 +99,11 @@ pairOf Error s = Errorᵖ
 pairOf Open (Value w) = Openᵖ
 pairOf Open Error = Errorᵖ
 pairOf Open Open = Openᵖ
+
+abbrev pub outTwo : (ℕ → ℕ → NOut) → Pair → NOut
+outTwo g (Values v w) = g v w
+outTwo g Errorᵖ = fails
+outTwo g Openᵖ = stays
 
 -- ---- a path
 

@@ -78,6 +78,7 @@ ghost use lib.ListN.{getD, take, drop, length};
 ghost use Rattle.words.specs.Log.{part, appended, Room};
 ghost use Rattle.forms.specs.Tags.{HAS};
 ghost use Rattle.sheet.specs.Forms.{partial, items, at, CONTEXT, NODE};
+ghost use Rattle.cedar.specs.Numbered.{stays};
 ghost use Rattle.cedar.specs.Types.{tent};
 ghost use Rattle.cedar.specs.TypeRules.{hasRule};
 ghost use Rattle.sheet.specs.Content.{varOf, entityGiven, rowsIn};
@@ -88,10 +89,10 @@ ghost use Rattle.residual.specs.Rows.{litRow, stageAt, wordAt};
 ghost use Rattle.residual.specs.Errs.{errs};
 ghost use Rattle.rules.specs.Rules.{ruleIn, schemaAt};
 ghost use Rattle.strict.specs.Gives.{outOf};
-ghost use Rattle.tpe.specs.Run.{left, leftOf, madeOf, settleOf, ruledOf, worked1, worked2, walkFrom, entityType, varFor, envIn, stuckOf, walkedOf, pathOf};
+ghost use Rattle.tpe.specs.Run.{left, leftOf, madeOf, settleOf, ruledOf, walkFrom, entityType, varFor, envIn, stuckOf, walkedOf, pathOf};
 ghost use Rattle.tpe.specs.Leaves.{Leaves};
 ghost use Rattle.tpe.specs.Steps.{oneAt, twoAt, manyAt};
-ghost use Rattle.tpe.specs.Gives.{contextGiven, manyRow, oneGive, oneRule, twoGive, twoRule, pairOf, unlessErr, walkIn, Taken};
+ghost use Rattle.tpe.specs.Gives.{contextGiven, manyRow, oneGive, oneRule, twoGive, twoRule, pairOf, outOne, outTwo, unlessErr, ruleOr, walkIn, Taken};
 
 // How far the children of a set or record are worked: all are values, one is an error, or else one is open.
 pub const ALL_VALUES: u32 = 0;
@@ -99,6 +100,13 @@ pub const ALL_VALUES: u32 = 0;
 pub const SOME_ERROR: u32 = 1;
 
 pub const SOME_OPEN: u32 = 2;
+
+// The type of a node.
+fn type_of(rows: &[u32], node: u32) -> u32
+    ensures { λ y. ⌜ y ≡ at (getD (rowsOf (now (rows .entry)) NODE) node []) 0 ⌝ }
+{
+    item(row(rows, NODE, node), 1)
+}
 
 // A long found or made, as a value of type `ty` more on the log.
 fn give_long(rows: &mut [u32], log: &mut [u32], top: usize, word: u64, ty: u32) -> usize
@@ -212,7 +220,7 @@ pub fn many(
     requires { ⌜ start ≤ top ⌝ }
     ensures { λ e. ⌜ Leaves start (now (rows .exit)) (now (log .exit)) e (manyAt partial [] tag start node (getD (rowsOf (now (rows .entry)) NODE) node []) (record { words = now (rows .entry); log = take top (now (log .entry)); join = joined })) ⌝ }
 {
-    let ty = item(row(rows, NODE, node), 1);
+    let ty = type_of(rows, node);
     match joined {
         ALL_VALUES => {
             let v = make_many(rows, log, start, top, node, tag);
@@ -289,29 +297,26 @@ fn ruled_one(rows: &[u32], log: &[u32], top: usize, node: u32, tag: u32) -> Rule
     unless_err(rows, log, top, q)
 }
 
-// A node by its operand alone.
-fn worked_one(
-    sheet: &[u8],
-    rows: &mut [u32],
-    log: &mut [u32],
-    start: usize,
-    top: usize,
-    node: u32,
-    tag: u32,
-) -> usize
-    requires { ⌜ Room (now log) top ⌝ }
-    requires { ⌜ start ≤ top ⌝ }
-    ensures { λ e. ⌜ Leaves start (now (rows .exit)) (now (log .exit)) e (worked1 (oneGive (now (sheet .entry)) tag (now (rows .entry)) (getD (rowsOf (now (rows .entry)) NODE) node [])) (now (rows .entry)) (take top (now (log .entry))) start node (at (getD (rowsOf (now (rows .entry)) NODE) node []) 0) (stageAt (now (log .entry)) top)) ⌝ }
+// What a node gives by its operand alone.
+fn given_one(sheet: &[u8], rows: &[u32], log: &[u32], top: usize, node: u32, tag: u32) -> Given
+    ensures { λ g. ⌜ outOf g ≡ outOne (oneGive (now (sheet .entry)) tag (now (rows .entry)) (getD (rowsOf (now (rows .entry)) NODE) node [])) (stageAt (now (log .entry)) top) ⌝ }
 {
-    let ty = item(row(rows, NODE, node), 1);
     match stage_at(log, top) {
-        Stage::Value(v) => {
-            let g = give_one(sheet, rows, node, tag, v);
-            settle(rows, log, start, top, node, ty, g)
-        }
-        Stage::Error => push_error(log, start, ty),
-        Stage::Open => push_left(log, start, top, node, 0, ty),
+        Stage::Value(v) => give_one(sheet, rows, node, tag, v),
+        Stage::Error => Given::Fails,
+        Stage::Open => Given::Stays,
     }
+}
+
+// What its type rule says, or else what it gives.
+fn asked_one(sheet: &[u8], rows: &[u32], log: &[u32], top: usize, node: u32, tag: u32) -> Given
+    ensures { λ g. ⌜ outOf g ≡ ruleOr (unlessErr (errs (rowsOf (now (rows .entry)) NODE) (now (log .entry)) top) (oneRule tag (now (rows .entry)) (getD (rowsOf (now (rows .entry)) NODE) node []) (wordAt (now (log .entry)) top 3))) (outOne (oneGive (now (sheet .entry)) tag (now (rows .entry)) (getD (rowsOf (now (rows .entry)) NODE) node [])) (stageAt (now (log .entry)) top)) ⌝ }
+{
+    let q = ruled_one(rows, log, top, node, tag);
+    let Rule::Says(x) = q else {
+        return given_one(sheet, rows, log, top, node, tag);
+    };
+    Given::Bool(x)
 }
 
 // ---- a path
@@ -406,7 +411,7 @@ fn path_from(rows: &mut [u32], log: &mut [u32], start: usize, node: u32, value: 
     requires { ⌜ Room (now log) start ⌝ }
     ensures { λ e. ⌜ Leaves start (now (rows .exit)) (now (log .exit)) e (walkedOf partial [] (now (rows .entry)) (take start (now (log .entry))) node (getD (rowsOf (now (rows .entry)) NODE) node []) (walkFrom (envIn partial [] (now (rows .entry))) (rowsIn (valueLines (now (rows .entry)))) (drop 3 (items (getD (rowsOf (now (rows .entry)) NODE) node []))) (at (getD (rowsOf (now (rows .entry)) NODE) node []) 2) value 0)) ⌝ }
 {
-    let ty = item(row(rows, NODE, node), 1);
+    let ty = type_of(rows, node);
     match walked(rows, node, value) {
         Walked::Holds(x) => give_bool(rows, log, start, x, ty),
         Walked::Fails => push_error(log, start, ty),
@@ -417,18 +422,25 @@ fn path_from(rows: &mut [u32], log: &mut [u32], start: usize, node: u32, value: 
     }
 }
 
+// What a rule says; a node stays where it says nothing.
+fn said(rule: Rule) -> Given
+    ensures { λ g. ⌜ outOf g ≡ ruleOr (ruleIn rule) stays ⌝ }
+{
+    let Rule::Says(x) = rule else {
+        return Given::Stays;
+    };
+    Given::Bool(x)
+}
+
 // A path from an open operand. The type rule of its first step decides where the operand cannot err.
 fn path_open(rows: &mut [u32], log: &mut [u32], start: usize, top: usize, node: u32) -> usize
     requires { ⌜ Room (now log) top ⌝ }
     requires { ⌜ start ≤ top ⌝ }
     ensures { λ e. ⌜ Leaves start (now (rows .exit)) (now (log .exit)) e (ruledOf (now (rows .entry)) (take top (now (log .entry))) start (at (getD (rowsOf (now (rows .entry)) NODE) node []) 0) (errs (rowsOf (now (rows .entry)) NODE) (now (log .entry)) top) (oneRule HAS (now (rows .entry)) (getD (rowsOf (now (rows .entry)) NODE) node []) (wordAt (now (log .entry)) top 3)) (leftOf (now (rows .entry)) (take top (now (log .entry))) start node 0 (at (getD (rowsOf (now (rows .entry)) NODE) node []) 0))) ⌝ }
 {
-    let ty = item(row(rows, NODE, node), 1);
-    let q = ruled_one(rows, log, top, node, HAS);
-    let Rule::Says(x) = q else {
-        return push_left(log, start, top, node, 0, ty);
-    };
-    give_bool(rows, log, start, x, ty)
+    let given = said(ruled_one(rows, log, top, node, HAS));
+    let ty = type_of(rows, node);
+    settle(rows, log, start, top, node, ty, given)
 }
 
 // Whether a node has its path from its operand on.
@@ -437,10 +449,9 @@ fn path(rows: &mut [u32], log: &mut [u32], start: usize, top: usize, node: u32) 
     requires { ⌜ start ≤ top ⌝ }
     ensures { λ e. ⌜ Leaves start (now (rows .exit)) (now (log .exit)) e (pathOf partial [] start node (getD (rowsOf (now (rows .entry)) NODE) node []) (left (now (rows .entry)) (take top (now (log .entry))))) ⌝ }
 {
-    let ty = item(row(rows, NODE, node), 1);
     match stage_at(log, top) {
         Stage::Value(v) => path_from(rows, log, start, node, v),
-        Stage::Error => push_error(log, start, ty),
+        Stage::Error => push_error(log, start, type_of(rows, node)),
         Stage::Open => path_open(rows, log, start, top, node),
     }
 }
@@ -462,12 +473,9 @@ pub fn one(
     if tag == HASPATH {
         return path(rows, log, start, top, node);
     }
-    let q = ruled_one(rows, log, top, node, tag);
-    let Rule::Says(x) = q else {
-        return worked_one(sheet, rows, log, start, top, node, tag);
-    };
-    let ty = item(row(rows, NODE, node), 1);
-    give_bool(rows, log, start, x, ty)
+    let given = asked_one(sheet, rows, log, top, node, tag);
+    let ty = type_of(rows, node);
+    settle(rows, log, start, top, node, ty, given)
 }
 
 // ---- two operands
@@ -542,29 +550,26 @@ fn pair_at(log: &[u32], mid: usize, top: usize) -> Pair
     }
 }
 
-// A node by its operands alone, the left of which ends at `mid`.
-fn worked_two(
-    rows: &mut [u32],
-    log: &mut [u32],
-    start: usize,
-    mid: usize,
-    top: usize,
-    node: u32,
-    tag: u32,
-) -> usize
-    requires { ⌜ Room (now log) top ⌝ }
-    requires { ⌜ (start ≤ mid) × (mid ≤ top) ⌝ }
-    ensures { λ e. ⌜ Leaves start (now (rows .exit)) (now (log .exit)) e (worked2 (twoGive tag (now (rows .entry))) (now (rows .entry)) (take top (now (log .entry))) start node (at (getD (rowsOf (now (rows .entry)) NODE) node []) 0) (stageAt (now (log .entry)) mid) (stageAt (now (log .entry)) top)) ⌝ }
+// What a node gives by its operands alone, the left of which ends at `mid`.
+fn given_two(rows: &[u32], log: &[u32], mid: usize, top: usize, tag: u32) -> Given
+    ensures { λ g. ⌜ outOf g ≡ outTwo (twoGive tag (now (rows .entry))) (pairOf (stageAt (now (log .entry)) mid) (stageAt (now (log .entry)) top)) ⌝ }
 {
-    let ty = item(row(rows, NODE, node), 1);
     match pair_at(log, mid, top) {
-        Pair::Values(v, w) => {
-            let g = give_two(rows, tag, v, w);
-            settle(rows, log, start, top, node, ty, g)
-        }
-        Pair::Error => push_error(log, start, ty),
-        Pair::Open => push_left(log, start, top, node, 0, ty),
+        Pair::Values(v, w) => give_two(rows, tag, v, w),
+        Pair::Error => Given::Fails,
+        Pair::Open => Given::Stays,
     }
+}
+
+// What its type rule says, or else what it gives.
+fn asked_two(rows: &[u32], log: &[u32], mid: usize, top: usize, tag: u32) -> Given
+    ensures { λ g. ⌜ outOf g ≡ ruleOr (unlessErr (errs (rowsOf (now (rows .entry)) NODE) (now (log .entry)) mid || errs (rowsOf (now (rows .entry)) NODE) (now (log .entry)) top) (twoRule tag (now (rows .entry)) (wordAt (now (log .entry)) mid 3) (wordAt (now (log .entry)) top 3))) (outTwo (twoGive tag (now (rows .entry))) (pairOf (stageAt (now (log .entry)) mid) (stageAt (now (log .entry)) top))) ⌝ }
+{
+    let q = ruled_two(rows, log, mid, top, tag);
+    let Rule::Says(x) = q else {
+        return given_two(rows, log, mid, top, tag);
+    };
+    Given::Bool(x)
 }
 
 // An operation on two operands, the left of which ends at `mid`. Its type rule decides where neither can err.
@@ -581,10 +586,7 @@ pub fn two(
     requires { ⌜ (start ≤ mid) × (mid ≤ top) ⌝ }
     ensures { λ e. ⌜ Leaves start (now (rows .exit)) (now (log .exit)) e (twoAt partial [] tag start mid node (getD (rowsOf (now (rows .entry)) NODE) node []) (left (now (rows .entry)) (take top (now (log .entry))))) ⌝ }
 {
-    let q = ruled_two(rows, log, mid, top, tag);
-    let Rule::Says(x) = q else {
-        return worked_two(rows, log, start, mid, top, node, tag);
-    };
-    let ty = item(row(rows, NODE, node), 1);
-    give_bool(rows, log, start, x, ty)
+    let given = asked_two(rows, log, mid, top, tag);
+    let ty = type_of(rows, node);
+    settle(rows, log, start, top, node, ty, given)
 }
