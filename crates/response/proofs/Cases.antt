@@ -6,7 +6,8 @@ use Rattle.sheet.specs.Ascii.{ascii}
 use Rattle.sheet.specs.Forms.{forms, formOf}
 use Rattle.sheet.specs.Answer.{concat}
 use Rattle.residual.specs.Rows.{wordAt, stageAt, startAt}
-use Rattle.response.specs.Nodes.{childrenBy, childrenTo, fieldsTo, opName, restItems, leftItems, leftAt, boolLine, typeIn, saidAt, nodeLine, linesBy, logLines}
+use Rattle.response.specs.Names.{opName}
+use Rattle.response.specs.Nodes.{childrenBy, childrenTo, fieldsTo, restItems, leftItems, leftAt, boolLine, typeIn, saidAt, nodeLine, linesBy, logLines}
 
 -- types 0 bool, 1 record, 2 `entity,0`, 3 `set,0`
 types : List (List ℕ)

@@ -32,7 +32,8 @@ use Rattle.print.proofs.Writing.{digits-few}
 use Rattle.response.specs.Verdicts.{classIn, effectIn, verdictsIn}
 use Rattle.response.specs.Printed.{policyLines, completeBytes, rootedOf, rootedLines}
 use Rattle.response.specs.Values.{madeLines}
-use Rattle.response.specs.Nodes.{numberOf, childrenBy, childrenTo, fieldsTo, opName, letter, pieces, restItems, leftItems, leftAt, saidAs, saidAt, typeIn, nodeLine, linesBy, logLines, partialBytes}
+use Rattle.response.specs.Names.{opName}
+use Rattle.response.specs.Nodes.{numberOf, childrenBy, childrenTo, fieldsTo, letter, pieces, restItems, leftItems, leftAt, saidAs, saidAt, typeIn, nodeLine, linesBy, logLines, partialBytes}
 use Rattle.response.proofs.Printing.{concat-append}
 
 -- ---- items and lines

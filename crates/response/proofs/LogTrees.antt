@@ -22,7 +22,8 @@ use Rattle.residual.specs.declared.Stage.the-variants.{Value, Error, Open}
 use Rattle.residual.proofs.Blocks.{rowOf, bodyOf, sizeAll, left-size, left-open, flat-length, res-word, res-start}
 use Rattle.residual.proofs.Meaning.{stageFor, stage-is, rows-are, suited, apart, before-row}
 use Rattle.value.proofs.Lists.{uncons2}
-use Rattle.response.specs.Nodes.{numberOf, childrenTo, fieldsTo, opName, leftItems, leftSaid, leftAt, saidAt, typeIn, nodeLine, linesBy, logLines}
+use Rattle.response.specs.Names.{opName}
+use Rattle.response.specs.Nodes.{numberOf, childrenTo, fieldsTo, leftItems, leftSaid, leftAt, saidAt, typeIn, nodeLine, linesBy, logLines}
 use Rattle.response.proofs.NodeLines.{children-end, children-step, fields-end, fields-step}
 use Rattle.response.proofs.TreeRows.{rowsAll, rootsAll, fieldsAll, lines-append, saidOver, left-lines}
 

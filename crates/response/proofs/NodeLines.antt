@@ -4,20 +4,17 @@ use mathlib.Core.Bool.{Bool, true, false, cond, _||_}
 use mathlib.Core.List.{List, [], _∷_, _++_, append-nil, append-assoc}
 use Prim.Native.Nat.{ℕ, zero, suc, _+_, _-_, _/_, _≤_, _<_}
 use native.Mathlib.Omega.{arith}
-use native.Mathlib.Decide.{decLe, decLt}
+use native.Mathlib.Decide.{decLe}
 use borrow.Author.Tests.{eq-eqb, ne-eqb, lt-ltb, le-ltb, le-leb, lt-leb}
 use lib.Dec.{leb, ltb}
-use lib.ListN.{length, getD, take, drop, length-drop, drop-of-length-le, List·getD-eq-default}
+use lib.ListN.{length, getD, take, drop, length-drop, drop-of-length-le}
 use lib.Seq.{take-all, drop-drop}
-use Rattle.cedar.specs.Numbered.{memN}
-use Rattle.cedar.proofs.Tools.{no-true}
 use Rattle.sheet.specs.Ascii.{ascii}
 use Rattle.sheet.specs.Bytes.{digits}
-use Rattle.sheet.specs.Forms.{Form, forms, formOf, noForm, lineOr, tag, items, at}
+use Rattle.sheet.specs.Forms.{lineOr, tag, items, at}
 use Rattle.sheet.specs.State.{typeRow}
 use Rattle.sheet.specs.Answer.{concat, numbers, itemOut, headLines}
 use Rattle.table.specs.Layout.{rowsOf}
-use Rattle.table.proofs.Counts.{ranged, NoneOf, none-of}
 use Rattle.table.proofs.Rows.{count-rows}
 use Rattle.residual.specs.Rows.{wordAt, stageAt, startAt}
 use Rattle.residual.specs.declared.Stage.{Stage}
@@ -29,7 +26,8 @@ use Rattle.print.proofs.Writing.{written-none, written-append, written-as}
 use Rattle.response.specs.Verdicts.{verdictsIn}
 use Rattle.response.specs.Printed.{rootedLines}
 use Rattle.response.specs.Values.{after, madeLines}
-use Rattle.response.specs.Nodes.{numberOf, childrenBy, childrenTo, fieldsTo, opName, letter, pieces, restItems, leftItems, leftSaid, leftAt, saidAs, saidAt, saysBool, boolLine, typeIn, nodeLine, linesBy, logLines, partialBytes}
+use Rattle.response.specs.Names.{unpadded, opName}
+use Rattle.response.specs.Nodes.{numberOf, childrenBy, childrenTo, fieldsTo, letter, pieces, restItems, leftItems, leftSaid, leftAt, saidAs, saidAt, saysBool, boolLine, typeIn, nodeLine, linesBy, logLines, partialBytes}
 use Rattle.response.proofs.Printing.{printing-start, printing-on, printing-end}
 use Rattle.response.proofs.Made.{Along, commas-after}
 
@@ -140,39 +138,6 @@ fields-more was w₁ w₂ is r l at k₁ k₂ next i start p q t x g h eq et ex 
     ∙ sym (after-two (fieldsTo r (i - 2) l start (startAt l p)) (getD r (i - 2) 0) (numberOf p))
     ∙ ap (λ (y : List ℕ). after (numbers y)) (sym (fields-back r l start i p g h)))
 
--- ---- names
-
-name-less : (t : ℕ) → t < 21 → [] ≡ ascii (opName t)
-unfolding opName
-name-less t h = rw (lt-ltb t 21 h)
-
-name-over : (t : ℕ) → 48 < t → [] ≡ ascii (opName t)
-unfolding opName formOf forms
-name-over t h = rw (le-ltb t 21 (omega arith)) (go (decLt 49 t))
-  where
-    go : Dec (49 < t) → [] ≡ ascii (getD forms t noForm .name)
-    go (yes d) = ap (λ (f : Form). ascii (f .name)) (sym (List·getD-eq-default forms noForm d))
-    go (no d) = let z : t ≡ 49 = omega arith in rw z
-
--- the forms of nodes, the last first
-abbrev pub opNumbers : List ℕ
-opNumbers = 48 ∷ 47 ∷ 46 ∷ 45 ∷ 44 ∷ 43 ∷ 42 ∷ 41 ∷ 40 ∷ 39 ∷ 38 ∷ 37 ∷ 36 ∷ 35 ∷ 34 ∷ 33 ∷ 32 ∷ 31 ∷ 30 ∷ 29 ∷ 28 ∷ 27 ∷ 26 ∷ 25 ∷ 24 ∷ 23 ∷ 22 ∷ 21 ∷ []
-
-no-name : (t : ℕ) → NoneOf opNumbers t → [] ≡ ascii (opName t)
-no-name t d = go (decLt t 21) (decLt 48 t)
-  where
-    go : Dec (t < 21) → Dec (48 < t) → [] ≡ ascii (opName t)
-    go (yes h) e = name-less t h
-    go (no g) (yes h) = name-over t h
-    go (no g) (no h) = no-true (sym (none-of opNumbers t d) ∙ ranged (λ (i : ℕ). memN i opNumbers) 21 28 refl t (omega arith) (omega arith))
-
-pub name-none : (was : List ℕ) (at t : ℕ) → at ≤ 18446744073709551615 → length was ≤ 18446744073709551615 → NoneOf opNumbers t → Written was at (ascii (opName t)) was at
-name-none was at t a b d = written-as (written-none was at a b) (no-name t d)
-
--- the bytes of a name that the code knows, by its number
-pub name-known : (was is q : List ℕ) (at next t n : ℕ) → t ≡ n → q ≡ ascii (opName n) → Written was at q is next → Written was at (ascii (opName t)) is next
-name-known was is q at next t n e p w = written-as w (p ∙ ap (λ (j : ℕ). ascii (opName j)) (sym e))
-
 -- ---- a variable, a pattern, a path
 
 module _ (was is : List ℕ) (at next : ℕ) where
@@ -275,11 +240,11 @@ module _ (was is : List ℕ) (at next t : ℕ) (r : List ℕ) (k : ℕ) (cs fs :
   items-others mid m a b v w =
       written-as (written-append v w) (rw (← et, ne-eqb t 23 a, ne-eqb t 48 b) (sym (after-append (numbers cs) (restItems t r k))))
 
-pub left-said : (was w₁ w₂ is : List ℕ) (at k₁ k₂ next : ℕ) (r : List ℕ) (k : ℕ) (l : List ℕ) (start p t : ℕ) → t ≡ tag r → Written was at (44 ∷ []) w₁ k₁ → Written w₁ k₁ (ascii (opName t)) w₂ k₂
+pub left-said : (was w₁ w₂ is : List ℕ) (at k₁ k₂ next : ℕ) (r : List ℕ) (k : ℕ) (l : List ℕ) (start p t : ℕ) (q : List ℕ) → t ≡ tag r → unpadded q ≡ ascii (opName t) → Written was at (44 ∷ []) w₁ k₁ → Written w₁ k₁ (unpadded q) w₂ k₂
     → Written w₂ k₂ (after (leftItems (tag r) r k (childrenTo l start p) (fieldsTo r (length r) l start p))) is next → Written was at (after (leftSaid r k l start p)) is next
-left-said was w₁ w₂ is at k₁ k₂ next r k l start p t e u v w =
+left-said was w₁ w₂ is at k₁ k₂ next r k l start p t q e n u v w =
     written-as (written-append u (written-append v w))
-    (ap (λ (i : ℕ). 44 ∷ (ascii (opName i) ++ after (leftItems (tag r) r k (childrenTo l start p) (fieldsTo r (length r) l start p)))) e)
+    (ap (λ (x : List ℕ). 44 ∷ (x ++ after (leftItems (tag r) r k (childrenTo l start p) (fieldsTo r (length r) l start p)))) (n ∙ ap (λ (i : ℕ). ascii (opName i)) e))
 
 pub left-at : (was is : List ℕ) (at next : ℕ) (a l : List ℕ) (e x t k s p : ℕ) (r : List ℕ) → x ≡ wordAt l e 1 → r ≡ getD (rowsOf a 11) x [] → t ≡ wordAt l e 0 → k ≡ t - 2 → s ≡ startAt l e → p ≡ e - 4
     → Written was at (after (leftSaid r k l s p)) is next → Written was at (after (leftAt (rowsOf a 11) l e)) is next

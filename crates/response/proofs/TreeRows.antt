@@ -17,7 +17,8 @@ use Rattle.sheet.specs.Content.{varOf, patternOf}
 use Rattle.sheet.specs.Answer.{printed, numbers, size, root, roots, argRoots, patternItems, varNumber, typeNumber, treeRows, allRows, argRows, itemOut, itemsOut, nodeItems, nodeLines}
 use Rattle.sheet.proofs.Slots.{like-slot, path-slot, set-slot, name-slot, field-slot}
 use Rattle.residual.specs.Trees.{nodesOf, argsOf, leftFor, leftTree, suitsFor, suits}
-use Rattle.response.specs.Nodes.{opName, letter, pieces, restItems, leftItems}
+use Rattle.response.specs.Names.{opName}
+use Rattle.response.specs.Nodes.{letter, pieces, restItems, leftItems}
 use Rattle.residual.proofs.Blocks.{Each, each0, each1, each-at, over0, over1, over2, over3}
 
 -- ---- the rows and the roots of trees in a row, numbered from m on

@@ -2,12 +2,11 @@
 use mathlib.Core.Bool.{Bool, true, false, cond, _||_}
 use mathlib.Core.List.{List, [], _∷_, _++_}
 use Prim.Native.Nat.{ℕ, zero, suc, _+_, _-_, _/_}
-use Prim.Native.String.{String}
 use lib.Dec.{eqb, leb, ltb}
 use lib.ListN.{length, getD, drop}
 use Rattle.sheet.specs.Ascii.{ascii}
 use Rattle.sheet.specs.Bytes.{digits}
-use Rattle.sheet.specs.Forms.{formOf, lineOr, tag, items, at, asterisk, firstNode, TEXT, TYPE, NODE}
+use Rattle.sheet.specs.Forms.{lineOr, tag, items, at, asterisk, TEXT, TYPE, NODE}
 use Rattle.sheet.specs.State.{TypeRow, bool, long, string, entity, set′, record′, typeRow}
 use Rattle.sheet.specs.Answer.{printed, concat, numbers, itemOut, headLines}
 use Rattle.table.specs.Layout.{rowsOf}
@@ -15,6 +14,7 @@ use Rattle.residual.specs.Rows.{wordAt, stageAt, startAt}
 use Rattle.residual.specs.declared.Stage.{Stage}
 use Rattle.residual.specs.declared.Stage.the-variants.{Value, Error, Open}
 use Rattle.response.specs.Verdicts.{verdictsIn}
+use Rattle.response.specs.Names.{opName}
 use Rattle.response.specs.Printed.{rootedLines}
 use Rattle.response.specs.Values.{madeLines}
 
@@ -40,10 +40,6 @@ fieldsTo r (suc zero) l start p = []
 fieldsTo r (suc (suc i)) l start p = cond (leb p start) [] (fieldsTo r i l start (startAt l p) ++ (getD r i 0 ∷ numberOf p ∷ []))
 
 -- ---- a node that is left: its operation and items, from the row of its source
-
--- the name of an operation; the forms before them have none here
-unfoldable pub opName : ℕ → String
-opName t = cond (ltb t firstNode) "" (formOf t .name)
 
 abbrev pub letter : ℕ → List ℕ
 letter x = ascii (getD ("p" ∷ "a" ∷ "r" ∷ []) x "c")

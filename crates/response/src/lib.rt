@@ -1,6 +1,7 @@
 // The response: what each policy is called, how many are called so, the decision that these give, and the printed answer. A policy's
 // class is a word of a slice: 0 true, 1 false, 2 error, 3 open; its effect and its id stand in its row of the sheet.
 pub mod answer;
+pub mod names;
 pub mod nodes;
 pub mod values;
 

@@ -1,5 +1,7 @@
 // The residuals, printed as the sheet's nodes are: a line for each row of the log, in order. A row's number is its place among the rows.
 use crate::answer::number_after;
+use crate::names::letters;
+use crate::names::op_name;
 use crate::values::numbers;
 use print::byte;
 use print::bytes;
@@ -21,12 +23,11 @@ ghost use lib.Dec.{leb, ltb};
 ghost use lib.ListN.{length, getD, drop};
 ghost use Rattle.table.specs.Layout.{rowsOf};
 ghost use Rattle.print.specs.Written.{Written};
-ghost use Rattle.sheet.specs.Ascii.{ascii};
 ghost use Rattle.sheet.specs.Bytes.{digits};
 ghost use Rattle.sheet.specs.Forms.{tag, lineOr};
 ghost use Rattle.sheet.specs.Answer.{numbers, itemOut, concat};
 ghost use Rattle.response.specs.Values.{after};
-ghost use Rattle.response.specs.Nodes.{numberOf, childrenTo, fieldsTo, opName, letter, pieces, restItems, leftItems, leftSaid, leftAt, saidAt, boolLine, typeIn, nodeLine, logLines};
+ghost use Rattle.response.specs.Nodes.{numberOf, childrenTo, fieldsTo, letter, pieces, restItems, leftItems, leftSaid, leftAt, saidAt, boolLine, typeIn, nodeLine, logLines};
 
 // What a `*` is in a pattern.
 const MARK: u32 = 10000;
@@ -92,43 +93,6 @@ fn fields(
     let k = fields(out, at, r, i - 2, log, start, q);
     let m = number_after(out, k, 44, item(r, i - 2) as u64);
     number_after(out, m, 44, number_of(p))
-}
-
-// The name of an operation.
-fn name(out: &mut [u8], at: usize, t: u32) -> usize
-    ensures { λ r. ⌜ Written (now (out .entry)) at (ascii (opName t)) (now (out .exit)) r ⌝ }
-{
-    match t {
-        21 => bytes(out, at, b"lit"),
-        22 => bytes(out, at, b"err"),
-        23 => bytes(out, at, b"var"),
-        24 => bytes(out, at, b"and"),
-        25 => bytes(out, at, b"or"),
-        26 => bytes(out, at, b"eq"),
-        27 => bytes(out, at, b"lt"),
-        28 => bytes(out, at, b"le"),
-        29 => bytes(out, at, b"add"),
-        30 => bytes(out, at, b"sub"),
-        31 => bytes(out, at, b"mul"),
-        32 => bytes(out, at, b"in"),
-        33 => bytes(out, at, b"gettag"),
-        34 => bytes(out, at, b"hastag"),
-        35 => bytes(out, at, b"contains"),
-        36 => bytes(out, at, b"all"),
-        37 => bytes(out, at, b"any"),
-        38 => bytes(out, at, b"if"),
-        39 => bytes(out, at, b"is"),
-        40 => bytes(out, at, b"like"),
-        41 => bytes(out, at, b"get"),
-        42 => bytes(out, at, b"has"),
-        43 => bytes(out, at, b"haspath"),
-        44 => bytes(out, at, b"not"),
-        45 => bytes(out, at, b"neg"),
-        46 => bytes(out, at, b"empty"),
-        47 => bytes(out, at, b"set"),
-        48 => bytes(out, at, b"record"),
-        _ => at,
-    }
 }
 
 // A variable after a comma.
@@ -233,8 +197,9 @@ fn left_said(
 ) -> usize
     ensures { λ e. ⌜ Written (now (out .entry)) at (after (leftSaid (now (r .entry)) k (now (log .entry)) start p)) (now (out .exit)) e ⌝ }
 {
+    let word = op_name(tag(r));
     let m = byte(out, at, 44);
-    let n = name(out, m, tag(r));
+    let n = letters(out, m, &word);
     left_items(out, n, r, k, log, start, p)
 }
 

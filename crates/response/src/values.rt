@@ -1,5 +1,7 @@
 // The values that a run made, printed as the sheet's values are.
 use crate::answer::number_after;
+use crate::names::letters;
+use crate::names::shape_name;
 use print::byte;
 use print::bytes;
 use print::long;
@@ -10,11 +12,9 @@ use table::row;
 use value::Shape;
 use value::members;
 use value::shape_of;
-ghost use mathlib.Core.List.{_∷_, _++_};
+ghost use lib.ListN.{drop};
 ghost use Rattle.print.specs.Written.{Written};
-ghost use Rattle.sheet.specs.Ascii.{ascii};
 ghost use Rattle.sheet.specs.Bytes.{commas};
-ghost use Rattle.sheet.specs.Forms.{items};
 ghost use Rattle.sheet.specs.State.{entriesOf};
 ghost use Rattle.sheet.specs.Answer.{numbers, entryItems, valueItems};
 ghost use Rattle.value.specs.Shapes.{shapeRow};
@@ -50,39 +50,38 @@ fn entries(out: &mut [u8], at: usize, l: &[u32]) -> usize
     k
 }
 
-// What a value of this shape and these items says.
-fn said(out: &mut [u8], at: usize, s: Shape, l: &[u32]) -> usize
-    ensures { λ r. ⌜ Written (now (out .entry)) at (commas (valueItems (shapeRow s (now (l .entry))))) (now (out .exit)) r ⌝ }
+// What a value of this shape and these items says after its name, each item after a comma.
+fn said_items(out: &mut [u8], at: usize, s: Shape, l: &[u32]) -> usize
+    ensures { λ r. ⌜ Written (now (out .entry)) at (after (drop 1 (valueItems (shapeRow s (now (l .entry)))))) (now (out .exit)) r ⌝ }
 {
     match s {
         Shape::Bool(b) => {
             if b {
-                return bytes(out, at, b"bool,1");
+                return number_after(out, at, 44, 1);
             }
-            bytes(out, at, b"bool,0")
+            number_after(out, at, 44, 0)
         }
         Shape::Long(w) => {
-            let k = bytes(out, at, b"long,");
+            let k = byte(out, at, 44);
             long(out, k, w)
         }
-        Shape::Text(t) => {
-            let k = bytes(out, at, b"text");
+        Shape::Text(t) => number_after(out, at, 44, t as u64),
+        Shape::Entity(e, t) => {
+            let k = number_after(out, at, 44, e as u64);
             number_after(out, k, 44, t as u64)
         }
-        Shape::Entity(e, t) => {
-            let k = bytes(out, at, b"entity");
-            let m = number_after(out, k, 44, e as u64);
-            number_after(out, m, 44, t as u64)
-        }
-        Shape::Set => {
-            let k = bytes(out, at, b"set");
-            numbers(out, k, l)
-        }
-        Shape::Record => {
-            let k = bytes(out, at, b"record");
-            entries(out, k, l)
-        }
+        Shape::Set => numbers(out, at, l),
+        Shape::Record => entries(out, at, l),
     }
+}
+
+// What a value of this shape and these items says.
+fn said(out: &mut [u8], at: usize, s: Shape, l: &[u32]) -> usize
+    ensures { λ r. ⌜ Written (now (out .entry)) at (commas (valueItems (shapeRow s (now (l .entry))))) (now (out .exit)) r ⌝ }
+{
+    let word = shape_name(s);
+    let k = letters(out, at, &word);
+    said_items(out, k, s, l)
 }
 
 // The line of a value's row.
