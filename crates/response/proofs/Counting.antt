@@ -15,7 +15,8 @@ use Rattle.sheet.specs.Answer.{howMany, isFalse, isError, countsOf}
 use Rattle.table.specs.Layout.{rowsOf}
 use Rattle.table.proofs.Rows.{count-rows}
 use Rattle.value.proofs.Lists.{uncons, spent}
-use Rattle.response.specs.Verdicts.{classIn, classNumber, effectIn, effectNumber, effectIs, classIs, verdictsOf, verdictsIn, said}
+use Rattle.residual.specs.Classes.{classNumber}
+use Rattle.response.specs.Verdicts.{classIn, effectIn, effectNumber, effectIs, classIs, verdictsOf, verdictsIn, said}
 use Rattle.response.specs.declared.Decision as D
 
 -- ---- one policy
@@ -50,6 +51,13 @@ class-open c x e h = go x (omega arith)
     go (suc (suc zero)) n = absurd (omega arith)
     go (suc (suc (suc zero))) n = refl
     go (suc (suc (suc (suc y)))) n = refl
+
+-- a class is found again by its number
+pub class-back : (c : Class) → classIn (classNumber c) ≡ c
+class-back ctrue = refl
+class-back cfalse = refl
+class-back cerror = refl
+class-back copen = refl
 
 module _ (e c effect class : ℕ) where
   pub hit-effect : (e ≡ effect → ⊥) → 0 ≡ bit (eqb e effect && eqb c class)

@@ -23,10 +23,11 @@ use Rattle.sheet.proofs.Lines.{History}
 use Rattle.sheet.proofs.TypeNumbers.{types-length, number-again}
 use Rattle.table.specs.Layout.{rowsOf, linesHeld, held}
 use Rattle.table.proofs.Rows.{count-rows, count-held, lines-held}
+use Rattle.residual.specs.Classes.{rootsOf}
 use Rattle.residual.specs.Trees.{Ress, flats, treesOf, Wholes}
 use Rattle.value.specs.Lines.{valueLines as allRows}
 use Rattle.response.specs.Verdicts.{classIn, effectIn, verdictsOf, verdictsIn}
-use Rattle.response.specs.Printed.{rootedOf, rootedLines, rootsOf}
+use Rattle.response.specs.Printed.{rootedOf, rootedLines}
 use Rattle.response.specs.Values.{madeLines}
 use Rattle.response.specs.Nodes.{saysBool, boolLine, typeIn, logLines, partialBytes}
 use Rattle.response.proofs.Printing.{concat-append}

@@ -16,7 +16,8 @@ use Rattle.table.proofs.Rows.{count-rows, lines-held}
 use Rattle.value.proofs.Lists.{uncons, spent}
 use Rattle.print.specs.Written.{Written}
 use Rattle.print.proofs.Writing.{written-none, written-append, written-as}
-use Rattle.response.specs.Verdicts.{classIn, classNumber, effectIn, effectNumber, verdictsIn, said}
+use Rattle.residual.specs.Classes.{classNumber}
+use Rattle.response.specs.Verdicts.{classIn, effectIn, effectNumber, verdictsIn, said}
 use Rattle.response.specs.Printed.{idBytes, decisionBytes, effectBytes, classBytes, listed, fourOf, policyAt, policyLines, completeBytes}
 use Rattle.response.specs.declared.Decision as D
 use Rattle.response.proofs.Counting.{counts-are, verdictsFrom, verdicts-on}

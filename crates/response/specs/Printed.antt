@@ -1,14 +1,13 @@
 -- What is printed of the policies that the words hold.
 use mathlib.Core.List.{List, [], _∷_, _++_}
-use Prim.Native.Nat.{ℕ, _+_}
+use Prim.Native.Nat.{ℕ}
 use lib.ListN.{getD, drop}
 use Rattle.cedar.specs.Response.{Verdict}
-use Rattle.cedar.specs.Runs.{NVerdict}
 use Rattle.sheet.specs.Ascii.{ascii}
 use Rattle.sheet.specs.Bytes.{digits, commas}
 use Rattle.sheet.specs.Forms.{at, POLICY}
 use Rattle.sheet.specs.Sheet.{firsts}
-use Rattle.sheet.specs.Answer.{howMany, printed, concat, headLines, policyItems, completeLines, root, size}
+use Rattle.sheet.specs.Answer.{howMany, printed, concat, headLines, policyItems, completeLines}
 use Rattle.table.specs.Layout.{rowsOf}
 use Rattle.response.specs.Verdicts.{classIn, effectIn, effectIs, classIs, verdictsIn}
 use Rattle.response.specs.declared.Decision as D
@@ -60,8 +59,3 @@ rootedOf (r ∷ rs) cs es = printed "policy" (policyItems (at r 0) (effectIn r) 
 
 unfoldable pub rootedLines : List ℕ → List ℕ → List ℕ → List (List ℕ)
 rootedLines a cs es = rootedOf (rowsOf a POLICY) cs es
-
--- the roots of the lines of a run, whose nodes are numbered from n
-abbrev pub rootsOf : ℕ → List NVerdict → List ℕ
-rootsOf n [] = []
-rootsOf n (l ∷ ls) = root n (l .root) ∷ rootsOf (n + size (l .root)) ls

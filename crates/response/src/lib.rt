@@ -20,7 +20,8 @@ ghost use Rattle.cedar.specs.Canonical.{bit};
 ghost use Rattle.cedar.specs.Response.{decision};
 ghost use Rattle.cedar.specs.Response as Cedar;
 ghost use Rattle.sheet.specs.Answer.{howMany};
-ghost use Rattle.response.specs.Verdicts.{effectNumber, classNumber, effectIn, classIn, effectIs, classIs, verdictsIn, said};
+ghost use Rattle.residual.specs.Classes.{classNumber};
+ghost use Rattle.response.specs.Verdicts.{effectNumber, effectIn, classIn, effectIs, classIs, verdictsIn, said};
 
 // What the policies decide.
 pub enum Decision {
