@@ -13,7 +13,7 @@ use Rattle.sheet.specs.Forms.{items}
 use Rattle.sheet.specs.State.{entriesOf}
 use Rattle.sheet.specs.Content.{rowsIn}
 use Rattle.sheet.specs.Answer.{printed, concat, numbers, entryItems, valueItems, valueLines}
-use Rattle.table.specs.Layout.{rowsOf}
+use Rattle.table.specs.Layout.{rowsOf, MADE}
 use Rattle.table.proofs.Rows.{count-rows}
 use Rattle.value.specs.Shapes.{shapeOf, shapeRow}
 use Rattle.value.specs.declared.Shape.{Shape}
@@ -134,22 +134,22 @@ value-line was is at next r l s w₁ w₂ k₁ k₂ es el u v w =
 -- ---- all of them
 
 abbrev pub madeFrom : List ℕ → ℕ → List ℕ
-madeFrom a i = concat (valueLines (rowsIn (drop i (rowsOf a 13))))
+madeFrom a i = concat (valueLines (rowsIn (drop i (rowsOf a MADE))))
 
-module _ (a : List ℕ) (n : ℕ) (en : n ≡ getD a 13 0) where
-  many : n ≡ length (rowsOf a 13)
-  many = en ∙ sym (count-rows a 13)
+module _ (a : List ℕ) (n : ℕ) (en : n ≡ getD a MADE 0) where
+  many : n ≡ length (rowsOf a MADE)
+  many = en ∙ sym (count-rows a MADE)
 
   pub made-start : (was : List ℕ) (at : ℕ) → at ≤ 18446744073709551615 → length was ≤ 18446744073709551615 → Printing (madeLines a) (madeFrom a 0) was at was at
   unfolding madeLines
   made-start was at h l = printing-start (madeLines a) (madeFrom a 0) was at refl h l
 
   module _ (i : ℕ) (was is : List ℕ) (at next : ℕ) (p : Printing (madeLines a) (madeFrom a i) was at is next) where
-    pub made-on : (r out : List ℕ) (then : ℕ) → i < n → r ≡ getD (rowsOf a 13) i [] → Written is next (valueLine r) out then → Printing (madeLines a) (madeFrom a (i + 1)) was at out then
+    pub made-on : (r out : List ℕ) (then : ℕ) → i < n → r ≡ getD (rowsOf a MADE) i [] → Written is next (valueLine r) out then → Printing (madeLines a) (madeFrom a (i + 1)) was at out then
     unfolding valueLine
     made-on r out then h e w =
         printing-on p (valueLine r) (madeFrom a (i + 1)) out then
-        (ap (λ (q : List (List ℕ)). concat (valueLines (rowsIn q))) (uncons (rowsOf a 13) [] i (omega (arith, many))) ∙ ap (λ (q : List ℕ). valueLine q ++ madeFrom a (i + 1)) (sym e)) w
+        (ap (λ (q : List (List ℕ)). concat (valueLines (rowsIn q))) (uncons (rowsOf a MADE) [] i (omega (arith, many))) ∙ ap (λ (q : List ℕ). valueLine q ++ madeFrom a (i + 1)) (sym e)) w
 
     pub made-end : n ≤ i → Written was at (madeLines a) is next
-    made-end h = printing-end p (rw (spent (rowsOf a 13) i (omega (arith, many))))
+    made-end h = printing-end p (rw (spent (rowsOf a MADE) i (omega (arith, many))))

@@ -15,7 +15,7 @@ use Rattle.forms.specs.Tags.{LIT, ERR, VAR, AND, OR, EQ, LT, LE, ADD, SUB, MUL,
 use Rattle.table.proofs.Counts.{ranged, NoneOf, none-of}
 use Rattle.value.proofs.Lists.{uncons, spent}
 use Rattle.print.specs.Written.{Written}
-use Rattle.response.specs.Names.{unpadded, opName}
+use Rattle.response.specs.Names.{blank, unpadded, opName}
 use Rattle.response.proofs.Printing.{printing-start, printing-on, printing-end}
 use Rattle.response.proofs.Made.{Along}
 
@@ -26,18 +26,18 @@ module _ (q was : List ℕ) (at : ℕ) (h : at ≤ 18446744073709551615) (g : le
   word-start = record { near = omega arith; print = printing-start (unpadded q) (unpadded (drop 0 q)) was at refl h g }
 
 module _ (q was is : List ℕ) (at next i : ℕ) (p : Along (unpadded q) (unpadded (drop i q)) was at is next i (length q)) where
-  pub word-on : (out : List ℕ) (then : ℕ) → i < length q → (getD q i 0 ≡ 32 → ⊥) → Written is next (getD q i 0 ∷ []) out then
+  pub word-on : (out : List ℕ) (then : ℕ) → i < length q → (getD q i 0 ≡ blank → ⊥) → Written is next (getD q i 0 ∷ []) out then
       → Along (unpadded q) (unpadded (drop (i + 1) q)) was at out then (i + 1) (length q)
   unfolding unpadded
   word-on out then h n w =
       record {
         near = omega arith;
-        print = printing-on (p .print) (getD q i 0 ∷ []) (unpadded (drop (i + 1) q)) out then (ap unpadded (uncons q 0 i h) ∙ rw (ne-eqb (getD q i 0) 32 n)) w;
+        print = printing-on (p .print) (getD q i 0 ∷ []) (unpadded (drop (i + 1) q)) out then (ap unpadded (uncons q 0 i h) ∙ rw (ne-eqb (getD q i 0) blank n)) w;
       }
 
-  pub word-blank : i < length q → getD q i 0 ≡ 32 → Written was at (unpadded q) is next
+  pub word-blank : i < length q → getD q i 0 ≡ blank → Written was at (unpadded q) is next
   unfolding unpadded
-  word-blank h e = printing-end (p .print) (ap unpadded (uncons q 0 i h) ∙ rw (eq-eqb (getD q i 0) 32 e))
+  word-blank h e = printing-end (p .print) (ap unpadded (uncons q 0 i h) ∙ rw (eq-eqb (getD q i 0) blank e))
 
   pub word-end : length q ≤ i → Written was at (unpadded q) is next
   unfolding unpadded

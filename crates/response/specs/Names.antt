@@ -6,10 +6,13 @@ use Prim.Native.String.{String}
 use lib.Dec.{eqb, ltb}
 use Rattle.sheet.specs.Forms.{formOf, firstNode}
 
+abbrev pub blank : ℕ
+blank = 32
+
 -- a word up to its first blank
 unfoldable pub unpadded : List ℕ → List ℕ
 unpadded [] = []
-unpadded (x ∷ l) = cond (eqb x 32) [] (x ∷ unpadded l)
+unpadded (x ∷ l) = cond (eqb x blank) [] (x ∷ unpadded l)
 
 -- the name of an operation; the forms before them have none here
 unfoldable pub opName : ℕ → String

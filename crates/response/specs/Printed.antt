@@ -8,6 +8,7 @@ use Rattle.sheet.specs.Bytes.{digits, commas}
 use Rattle.sheet.specs.Forms.{at, POLICY}
 use Rattle.sheet.specs.Sheet.{firsts}
 use Rattle.sheet.specs.Answer.{howMany, printed, concat, headLines, policyItems, completeLines}
+use Rattle.residual.specs.Classes.{CLASS-TRUE, CLASS-FALSE, CLASS-ERROR, CLASS-OPEN}
 use Rattle.table.specs.Layout.{rowsOf}
 use Rattle.response.specs.Verdicts.{classIn, effectIn, effectIs, classIs, verdictsIn}
 use Rattle.response.specs.declared.Decision as D
@@ -32,7 +33,7 @@ listed b (n ∷ l) = (b ∷ digits n) ++ listed 44 l
 
 -- the counts of one effect, in the answer's order
 abbrev pub fourOf : ℕ → List Verdict → List ℕ
-fourOf e ls = howMany (effectIs e) (classIs 0) ls ∷ howMany (effectIs e) (classIs 1) ls ∷ howMany (effectIs e) (classIs 2) ls ∷ howMany (effectIs e) (classIs 3) ls ∷ []
+fourOf e ls = howMany (effectIs e) (classIs CLASS-TRUE) ls ∷ howMany (effectIs e) (classIs CLASS-FALSE) ls ∷ howMany (effectIs e) (classIs CLASS-ERROR) ls ∷ howMany (effectIs e) (classIs CLASS-OPEN) ls ∷ []
 
 -- the line of the policy of row r up to its id; with class c, up to the class
 abbrev pub idBytes : List ℕ → List ℕ

@@ -6,10 +6,15 @@ use crate::decision_of;
 use crate::effect_of;
 use crate::nodes::node_lines;
 use crate::values::made_values;
+use forms::FORBID;
+use forms::PERMIT;
+use forms::POLICY;
 use print::byte;
 use print::bytes;
 use print::number;
-use table::POLICY;
+use residual::CLASS_ERROR;
+use residual::CLASS_FALSE;
+use residual::CLASS_TRUE;
 use table::count;
 use table::item;
 use table::row;
@@ -20,6 +25,7 @@ ghost use Rattle.print.specs.Written.{Written};
 ghost use Rattle.sheet.specs.Ascii.{ascii};
 ghost use Rattle.sheet.specs.Bytes.{digits};
 ghost use Rattle.sheet.specs.Answer.{printed, numbers, countsOf, headLines, concat};
+ghost use Rattle.sheet.specs.Forms.{POLICY};
 ghost use Rattle.response.specs.Verdicts.{verdictsIn};
 ghost use Rattle.response.specs.Printed.{idBytes, decisionBytes, effectBytes, classBytes, listed, fourOf, policyAt, policyLines, completeBytes, rootedLines};
 ghost use Rattle.response.specs.Nodes.{partialBytes};
@@ -49,9 +55,9 @@ fn counts_of(out: &mut [u8], at: usize, b: u8, a: &[u32], classes: &[u32], effec
 {
     let c = counts_in(a, classes, effect);
     let k = number_after(out, at, b, c.trues as u64);
-    let l = number_after(out, k, 44, c.falses as u64);
-    let m = number_after(out, l, 44, c.errors as u64);
-    number_after(out, m, 44, c.opens as u64)
+    let l = number_after(out, k, b',', c.falses as u64);
+    let m = number_after(out, l, b',', c.errors as u64);
+    number_after(out, m, b',', c.opens as u64)
 }
 
 // The line of the counts: permits, then forbids.
@@ -59,9 +65,9 @@ pub fn counts_line(out: &mut [u8], at: usize, a: &[u32], classes: &[u32]) -> usi
     ensures { λ r. ⌜ Written (now (out .entry)) at (printed "counts" (numbers (countsOf (verdictsIn (now (a .entry)) (now (classes .entry)))))) (now (out .exit)) r ⌝ }
 {
     let k = bytes(out, at, b"counts");
-    let l = counts_of(out, k, 61, a, classes, 0);
-    let m = counts_of(out, l, 44, a, classes, 1);
-    byte(out, m, 10)
+    let l = counts_of(out, k, b'=', a, classes, PERMIT);
+    let m = counts_of(out, l, b',', a, classes, FORBID);
+    byte(out, m, b'\n')
 }
 
 // The lines that every answer begins with.
@@ -78,7 +84,7 @@ fn effect_word(out: &mut [u8], at: usize, e: u32) -> usize
     ensures { λ r. ⌜ Written (now (out .entry)) at (effectBytes e) (now (out .exit)) r ⌝ }
 {
     match e {
-        0 => bytes(out, at, b",permit"),
+        PERMIT => bytes(out, at, b",permit"),
         _ => bytes(out, at, b",forbid"),
     }
 }
@@ -88,20 +94,20 @@ fn class_word(out: &mut [u8], at: usize, c: u32) -> usize
     ensures { λ r. ⌜ Written (now (out .entry)) at (classBytes c) (now (out .exit)) r ⌝ }
 {
     match c {
-        0 => bytes(out, at, b",true"),
-        1 => bytes(out, at, b",false"),
-        2 => bytes(out, at, b",error"),
+        CLASS_TRUE => bytes(out, at, b",true"),
+        CLASS_FALSE => bytes(out, at, b",false"),
+        CLASS_ERROR => bytes(out, at, b",error"),
         _ => bytes(out, at, b",open"),
     }
 }
 
 // The line of policy `i` up to its id.
 fn policy_id(out: &mut [u8], at: usize, a: &[u32], i: u32) -> usize
-    ensures { λ r. ⌜ Written (now (out .entry)) at (idBytes (getD (rowsOf (now (a .entry)) 12) i [])) (now (out .exit)) r ⌝ }
+    ensures { λ r. ⌜ Written (now (out .entry)) at (idBytes (getD (rowsOf (now (a .entry)) POLICY) i [])) (now (out .exit)) r ⌝ }
 {
     let x = item(row(a, POLICY, i), 1) as u64;
     let k = bytes(out, at, b"policy");
-    number_after(out, k, 61, x)
+    number_after(out, k, b'=', x)
 }
 
 // The line of policy `i` up to its class.
@@ -124,7 +130,7 @@ pub fn policies(out: &mut [u8], at: usize, a: &[u32], classes: &[u32]) -> usize
     let mut k = at;
     while i < n {
         let l = policy_start(out, k, a, classes, i);
-        k = byte(out, l, 10);
+        k = byte(out, l, b'\n');
         i += 1;
     }
     k
@@ -143,8 +149,8 @@ fn rooted_line(out: &mut [u8], at: usize, a: &[u32], classes: &[u32], i: u32, x:
     ensures { λ r. ⌜ Written (now (out .entry)) at (policyAt (now (a .entry)) (now (classes .entry)) i ++ ((44 ∷ digits x) ++ (10 ∷ []))) (now (out .exit)) r ⌝ }
 {
     let l = policy_start(out, at, a, classes, i);
-    let m = number_after(out, l, 44, x);
-    byte(out, m, 10)
+    let m = number_after(out, l, b',', x);
+    byte(out, m, b'\n')
 }
 
 // The policies of a partial answer: after the class stands the number of the residual's root, a word of `roots` for each policy.

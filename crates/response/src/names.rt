@@ -39,7 +39,7 @@ ghost use Rattle.value.specs.Shapes.{shapeRow};
 ghost use Rattle.response.specs.Names.{unpadded, opName};
 
 // What stands after a word.
-const BLANK: u8 = 32;
+const BLANK: u8 = b' ';
 
 const NAME_LIT: [u8; 8] = *b"lit     ";
 

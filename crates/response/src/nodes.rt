@@ -3,14 +3,27 @@ use crate::answer::number_after;
 use crate::names::letters;
 use crate::names::op_name;
 use crate::values::numbers;
+use forms::BOOL_TYPE;
+use forms::GET;
+use forms::HAS;
+use forms::HASPATH;
+use forms::IS;
+use forms::LIKE;
+use forms::MARK;
+use forms::NODE;
+use forms::PART_A;
+use forms::PART_P;
+use forms::PART_R;
+use forms::RECORD_OF;
+use forms::RECORD_TYPE;
+use forms::TYPE;
+use forms::VAR;
 use print::byte;
 use print::bytes;
 use residual::Stage;
 use residual::stage_at;
 use residual::start_at;
 use residual::word_at;
-use table::NODE;
-use table::TYPE;
 use table::count;
 use table::item;
 use table::row;
@@ -24,13 +37,11 @@ ghost use lib.ListN.{length, getD, drop};
 ghost use Rattle.table.specs.Layout.{rowsOf};
 ghost use Rattle.print.specs.Written.{Written};
 ghost use Rattle.sheet.specs.Bytes.{digits};
-ghost use Rattle.sheet.specs.Forms.{tag, lineOr};
+ghost use Rattle.sheet.specs.Forms.{tag, lineOr, TEXT, TYPE, NODE, asterisk};
 ghost use Rattle.sheet.specs.Answer.{numbers, itemOut, concat};
+ghost use Rattle.forms.specs.Tags.{BOOL-TYPE, RECORD-TYPE};
 ghost use Rattle.response.specs.Values.{after};
 ghost use Rattle.response.specs.Nodes.{numberOf, childrenTo, fieldsTo, letter, pieces, restItems, leftItems, leftSaid, leftAt, saidAt, boolLine, typeIn, nodeLine, logLines};
-
-// What a `*` is in a pattern.
-const MARK: u32 = 10000;
 
 // Where the row that ends at `e` begins.
 fn before(e: usize) -> usize
@@ -68,7 +79,7 @@ fn children(out: &mut [u8], at: usize, log: &[u32], start: usize, p: usize) -> u
     }
     let q = start_at(log, p);
     let k = children(out, at, log, start, q);
-    number_after(out, k, 44, number_of(p))
+    number_after(out, k, b',', number_of(p))
 }
 
 // The same with a text before each number: `i` words of the record's row are left, the last two for the last block.
@@ -91,8 +102,8 @@ fn fields(
     }
     let q = start_at(log, p);
     let k = fields(out, at, r, i - 2, log, start, q);
-    let m = number_after(out, k, 44, item(r, i - 2) as u64);
-    number_after(out, m, 44, number_of(p))
+    let m = number_after(out, k, b',', item(r, i - 2) as u64);
+    number_after(out, m, b',', number_of(p))
 }
 
 // A variable after a comma.
@@ -100,21 +111,21 @@ fn variable(out: &mut [u8], at: usize, x: u32) -> usize
     ensures { λ r. ⌜ Written (now (out .entry)) at (44 ∷ letter x) (now (out .exit)) r ⌝ }
 {
     match x {
-        0 => bytes(out, at, b",p"),
-        1 => bytes(out, at, b",a"),
-        2 => bytes(out, at, b",r"),
+        PART_P => bytes(out, at, b",p"),
+        PART_A => bytes(out, at, b",a"),
+        PART_R => bytes(out, at, b",r"),
         _ => bytes(out, at, b",c"),
     }
 }
 
 // An item of a pattern after a comma.
 fn piece(out: &mut [u8], at: usize, x: u32) -> usize
-    ensures { λ r. ⌜ Written (now (out .entry)) at (44 ∷ itemOut (lineOr 42 1) x) (now (out .exit)) r ⌝ }
+    ensures { λ r. ⌜ Written (now (out .entry)) at (44 ∷ itemOut (lineOr asterisk TEXT) x) (now (out .exit)) r ⌝ }
 {
     if x == MARK {
         return bytes(out, at, b",*");
     }
-    number_after(out, at, 44, x as u64)
+    number_after(out, at, b',', x as u64)
 }
 
 // A pattern, each item after a comma.
@@ -136,7 +147,7 @@ fn steps(out: &mut [u8], at: usize, r: &[u32], k: u32) -> usize
     ensures { λ e. ⌜ Written (now (out .entry)) at (after (digits (getD (now (r .entry)) (3 + k) 0) ∷ numbers (drop (4 + k) (now (r .entry))))) (now (out .exit)) e ⌝ }
 {
     let i = k as usize + 3;
-    let m = number_after(out, at, 44, item(r, i) as u64);
+    let m = number_after(out, at, b',', item(r, i) as u64);
     numbers(out, m, rest(r, i + 1))
 }
 
@@ -144,7 +155,7 @@ fn steps(out: &mut [u8], at: usize, r: &[u32], k: u32) -> usize
 fn second(out: &mut [u8], at: usize, r: &[u32]) -> usize
     ensures { λ e. ⌜ Written (now (out .entry)) at (44 ∷ digits (getD (now (r .entry)) 3 0)) (now (out .exit)) e ⌝ }
 {
-    number_after(out, at, 44, item(r, 3) as u64)
+    number_after(out, at, b',', item(r, 3) as u64)
 }
 
 // What the row `r` of a node says after its children, each item after a comma.
@@ -153,11 +164,11 @@ fn rest_items(out: &mut [u8], at: usize, r: &[u32], k: u32) -> usize
 {
     let t = tag(r);
     match t {
-        39 => second(out, at, r),
-        40 => pattern(out, at, rest(r, 3)),
-        41 => second(out, at, r),
-        42 => second(out, at, r),
-        43 => steps(out, at, r, k),
+        IS => second(out, at, r),
+        LIKE => pattern(out, at, rest(r, 3)),
+        GET => second(out, at, r),
+        HAS => second(out, at, r),
+        HASPATH => steps(out, at, r, k),
         _ => at,
     }
 }
@@ -175,10 +186,10 @@ fn left_items(
     ensures { λ e. ⌜ Written (now (out .entry)) at (after (leftItems (tag (now (r .entry))) (now (r .entry)) k (childrenTo (now (log .entry)) start p) (fieldsTo (now (r .entry)) (length (now (r .entry))) (now (log .entry)) start p))) (now (out .exit)) e ⌝ }
 {
     let t = tag(r);
-    if t == 23 {
+    if t == VAR {
         return variable(out, at, item(r, 2));
     }
-    if t == 48 {
+    if t == RECORD_OF {
         return fields(out, at, r, r.len(), log, start, p);
     }
     let m = children(out, at, log, start, p);
@@ -198,7 +209,7 @@ fn left_said(
     ensures { λ e. ⌜ Written (now (out .entry)) at (after (leftSaid (now (r .entry)) k (now (log .entry)) start p)) (now (out .exit)) e ⌝ }
 {
     let word = op_name(tag(r));
-    let m = byte(out, at, 44);
+    let m = byte(out, at, b',');
     let n = letters(out, m, &word);
     left_items(out, n, r, k, log, start, p)
 }
@@ -215,7 +226,7 @@ fn taken(t: u32) -> u32
 
 // The node of the row that ends at `e`, after a comma.
 fn left_at(out: &mut [u8], at: usize, a: &[u32], log: &[u32], e: usize) -> usize
-    ensures { λ r. ⌜ Written (now (out .entry)) at (after (leftAt (rowsOf (now (a .entry)) 11) (now (log .entry)) e)) (now (out .exit)) r ⌝ }
+    ensures { λ r. ⌜ Written (now (out .entry)) at (after (leftAt (rowsOf (now (a .entry)) NODE) (now (log .entry)) e)) (now (out .exit)) r ⌝ }
 {
     let r = row(a, NODE, word_at(log, e, 1));
     let k = taken(word_at(log, e, 0));
@@ -225,13 +236,13 @@ fn left_at(out: &mut [u8], at: usize, a: &[u32], log: &[u32], e: usize) -> usize
 
 // What stands after the type of the row that ends at `e`, after a comma.
 fn said_at(out: &mut [u8], at: usize, a: &[u32], log: &[u32], e: usize) -> usize
-    ensures { λ r. ⌜ Written (now (out .entry)) at (after (saidAt (rowsOf (now (a .entry)) 11) (now (log .entry)) e)) (now (out .exit)) r ⌝ }
+    ensures { λ r. ⌜ Written (now (out .entry)) at (after (saidAt (rowsOf (now (a .entry)) NODE) (now (log .entry)) e)) (now (out .exit)) r ⌝ }
 {
     let s = stage_at(log, e);
     match s {
         Stage::Value(v) => {
             let k = bytes(out, at, b",lit");
-            number_after(out, k, 44, v as u64)
+            number_after(out, k, b',', v as u64)
         }
         Stage::Error => bytes(out, at, b",err"),
         Stage::Open => left_at(out, at, a, log, e),
@@ -240,17 +251,17 @@ fn said_at(out: &mut [u8], at: usize, a: &[u32], log: &[u32], e: usize) -> usize
 
 // Whether a type line of this form says bool; a number that no form of types has is read so.
 fn says_bool(t: u32) -> bool
-    ensures { λ r. ⌜ r ≡ leb t 3 || ltb 8 t ⌝ }
+    ensures { λ r. ⌜ r ≡ leb t BOOL-TYPE || ltb RECORD-TYPE t ⌝ }
 {
-    if t <= 3 {
+    if t <= BOOL_TYPE {
         return true;
     }
-    t > 8
+    t > RECORD_TYPE
 }
 
 // The first type line that says bool, or how many lines there are.
 fn bool_line(a: &[u32]) -> u32
-    ensures { λ r. ⌜ r ≡ boolLine (rowsOf (now (a .entry)) 3) ⌝ }
+    ensures { λ r. ⌜ r ≡ boolLine (rowsOf (now (a .entry)) TYPE) ⌝ }
 {
     let n = count(a, TYPE);
     let mut i = 0;
@@ -267,7 +278,7 @@ fn bool_line(a: &[u32]) -> u32
 
 // The number of a type's line; a number that no line has is read as bool's.
 fn type_in(a: &[u32], y: u32) -> u32
-    ensures { λ r. ⌜ r ≡ typeIn (rowsOf (now (a .entry)) 3) y ⌝ }
+    ensures { λ r. ⌜ r ≡ typeIn (rowsOf (now (a .entry)) TYPE) y ⌝ }
 {
     if y < count(a, TYPE) {
         return y;
@@ -277,18 +288,18 @@ fn type_in(a: &[u32], y: u32) -> u32
 
 // The line of the row that ends at `e`.
 fn node_line(out: &mut [u8], at: usize, a: &[u32], log: &[u32], e: usize) -> usize
-    ensures { λ r. ⌜ Written (now (out .entry)) at (nodeLine (rowsOf (now (a .entry)) 3) (rowsOf (now (a .entry)) 11) (now (log .entry)) e) (now (out .exit)) r ⌝ }
+    ensures { λ r. ⌜ Written (now (out .entry)) at (nodeLine (rowsOf (now (a .entry)) TYPE) (rowsOf (now (a .entry)) NODE) (now (log .entry)) e) (now (out .exit)) r ⌝ }
 {
     let y = type_in(a, word_at(log, e, 3));
     let k = bytes(out, at, b"node");
-    let l = number_after(out, k, 61, y as u64);
+    let l = number_after(out, k, b'=', y as u64);
     let m = said_at(out, l, a, log, e);
-    byte(out, m, 10)
+    byte(out, m, b'\n')
 }
 
 // The lines of all rows.
 pub fn node_lines(out: &mut [u8], at: usize, a: &[u32], log: &[u32]) -> usize
-    ensures { λ r. ⌜ Written (now (out .entry)) at (concat (logLines (rowsOf (now (a .entry)) 3) (rowsOf (now (a .entry)) 11) (now (log .entry)))) (now (out .exit)) r ⌝ }
+    ensures { λ r. ⌜ Written (now (out .entry)) at (concat (logLines (rowsOf (now (a .entry)) TYPE) (rowsOf (now (a .entry)) NODE) (now (log .entry)))) (now (out .exit)) r ⌝ }
 {
     let mut s = 0;
     let mut k = at;

@@ -28,7 +28,7 @@ pub fn numbers(out: &mut [u8], at: usize, l: &[u32]) -> usize
     let mut k = at;
     while i < l.len() {
         let x = item(l, i) as u64;
-        k = number_after(out, k, 44, x);
+        k = number_after(out, k, b',', x);
         i += 1;
     }
     k
@@ -43,8 +43,8 @@ fn entries(out: &mut [u8], at: usize, l: &[u32]) -> usize
     while l.len() - i >= 2 {
         let x = item(l, i) as u64;
         let y = item(l, i + 1) as u64;
-        let m = number_after(out, k, 44, x);
-        k = number_after(out, m, 44, y);
+        let m = number_after(out, k, b',', x);
+        k = number_after(out, m, b',', y);
         i += 2;
     }
     k
@@ -57,18 +57,18 @@ fn said_items(out: &mut [u8], at: usize, s: Shape, l: &[u32]) -> usize
     match s {
         Shape::Bool(b) => {
             if b {
-                return number_after(out, at, 44, 1);
+                return number_after(out, at, b',', 1);
             }
-            number_after(out, at, 44, 0)
+            number_after(out, at, b',', 0)
         }
         Shape::Long(w) => {
-            let k = byte(out, at, 44);
+            let k = byte(out, at, b',');
             long(out, k, w)
         }
-        Shape::Text(t) => number_after(out, at, 44, t as u64),
+        Shape::Text(t) => number_after(out, at, b',', t as u64),
         Shape::Entity(e, t) => {
-            let k = number_after(out, at, 44, e as u64);
-            number_after(out, k, 44, t as u64)
+            let k = number_after(out, at, b',', e as u64);
+            number_after(out, k, b',', t as u64)
         }
         Shape::Set => numbers(out, at, l),
         Shape::Record => entries(out, at, l),
@@ -92,7 +92,7 @@ pub fn value_line(out: &mut [u8], at: usize, r: &[u32]) -> usize
     let l = members(r);
     let k = bytes(out, at, b"value=");
     let m = said(out, k, s, l);
-    byte(out, m, 10)
+    byte(out, m, b'\n')
 }
 
 // The lines of all values made.
