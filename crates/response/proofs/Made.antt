@@ -37,12 +37,8 @@ pub record Along (whole left was : List ℕ) (at : ℕ) (is : List ℕ) (next i 
   pub near : i ≤ n
   pub print : Printing whole left was at is next
 
-module _ (l was : List ℕ) (at : ℕ) (h : at ≤ 18446744073709551615) (g : length was ≤ 18446744073709551615) where
-  pub numbers-start : Along (after (numbers l)) (after (numbers (drop 0 l))) was at was at 0 (length l)
-  numbers-start = record { near = omega arith; print = printing-start (after (numbers l)) (after (numbers (drop 0 l))) was at refl h g }
-
-  pub entries-start : Along (after (entryItems (entriesOf l))) (after (entryItems (entriesOf (drop 0 l)))) was at was at 0 (length l)
-  entries-start = record { near = omega arith; print = printing-start (after (entryItems (entriesOf l))) (after (entryItems (entriesOf (drop 0 l)))) was at refl h g }
+pub along-start : (f : List ℕ → List ℕ) (l was : List ℕ) (at : ℕ) → at ≤ 18446744073709551615 → length was ≤ 18446744073709551615 → Along (f l) (f (drop 0 l)) was at was at 0 (length l)
+along-start f l was at h g = record { near = omega arith; print = printing-start (f l) (f (drop 0 l)) was at refl h g }
 
 module _ (l was is : List ℕ) (at next i : ℕ) (p : Along (after (numbers l)) (after (numbers (drop i l))) was at is next i (length l)) where
   pub numbers-on : (x : ℕ) (out : List ℕ) (then : ℕ) → i < length l → x ≡ getD l i 0 → Written is next (44 ∷ digits x) out then
@@ -139,10 +135,6 @@ madeFrom a i = concat (valueLines (rowsIn (drop i (rowsOf a MADE))))
 module _ (a : List ℕ) (n : ℕ) (en : n ≡ getD a MADE 0) where
   many : n ≡ length (rowsOf a MADE)
   many = en ∙ sym (count-rows a MADE)
-
-  pub made-start : (was : List ℕ) (at : ℕ) → at ≤ 18446744073709551615 → length was ≤ 18446744073709551615 → Printing (madeLines a) (madeFrom a 0) was at was at
-  unfolding madeLines
-  made-start was at h l = printing-start (madeLines a) (madeFrom a 0) was at refl h l
 
   module _ (i : ℕ) (was is : List ℕ) (at next : ℕ) (p : Printing (madeLines a) (madeFrom a i) was at is next) where
     pub made-on : (r out : List ℕ) (then : ℕ) → i < n → r ≡ getD (rowsOf a MADE) i [] → Written is next (valueLine r) out then → Printing (madeLines a) (madeFrom a (i + 1)) was at out then

@@ -163,10 +163,6 @@ module _ (was is : List ℕ) (at next : ℕ) where
   pub piece-text : (x : ℕ) → (x ≡ mark → ⊥) → Written was at (44 ∷ digits x) is next → Written was at (44 ∷ itemOut (lineOr asterisk TEXT) x) is next
   piece-text x e w = written-as w (rw (ne-eqb x mark e))
 
-module _ (l was : List ℕ) (at : ℕ) (h : at ≤ 18446744073709551615) (g : length was ≤ 18446744073709551615) where
-  pub pattern-start : Along (after (pieces l)) (after (pieces (drop 0 l))) was at was at 0 (length l)
-  pattern-start = record { near = omega arith; print = printing-start (after (pieces l)) (after (pieces (drop 0 l))) was at refl h g }
-
 module _ (l was is : List ℕ) (at next i : ℕ) (p : Along (after (pieces l)) (after (pieces (drop i l))) was at is next i (length l)) where
   pub pattern-on : (x : ℕ) (out : List ℕ) (then : ℕ) → i < length l → x ≡ getD l i 0 → Written is next (44 ∷ itemOut (lineOr asterisk TEXT) x) out then
       → Along (after (pieces l)) (after (pieces (drop (i + 1) l))) was at out then (i + 1) (length l)

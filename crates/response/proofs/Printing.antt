@@ -172,11 +172,6 @@ module _ (a cs : List ℕ) (n : ℕ) (en : n ≡ getD a POLICY 0) where
   many : n ≡ length (rowsOf a POLICY)
   many = en ∙ sym (count-rows a POLICY)
 
-  pub policies-start : (was : List ℕ) (at : ℕ) → at ≤ 18446744073709551615 → length was ≤ 18446744073709551615
-      → Printing (concat (policyLines a cs)) (concat (linesFrom a cs 0)) was at was at
-  unfolding policyLines verdictsIn
-  policies-start was at h l = printing-start (concat (policyLines a cs)) (concat (linesFrom a cs 0)) was at refl h l
-
   module _ (i : ℕ) (was is : List ℕ) (at next : ℕ) (p : Printing (concat (policyLines a cs)) (concat (linesFrom a cs i)) was at is next) where
     pub policies-on : (mid out : List ℕ) (m then : ℕ) → i < n → Written is next (policyAt a cs i) mid m → Written mid m (10 ∷ []) out then
         → Printing (concat (policyLines a cs)) (concat (linesFrom a cs (i + 1))) was at out then

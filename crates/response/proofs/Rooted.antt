@@ -17,7 +17,7 @@ use Rattle.print.proofs.Writing.{written-append, written-as}
 use Rattle.response.specs.Verdicts.{classIn, effectIn}
 use Rattle.response.specs.Printed.{policyOf, policyAt, rootedOf, rootedLines}
 use Rattle.response.proofs.Counting.{first-of, next-of}
-use Rattle.response.proofs.Printing.{Printing, printing-start, printing-on, printing-end}
+use Rattle.response.proofs.Printing.{Printing, printing-on, printing-end}
 
 commas-snoc : (x : List ℕ) (l : List (List ℕ)) (y : List ℕ) → commas ((x ∷ l) ++ (y ∷ [])) ≡ commas (x ∷ l) ++ (44 ∷ y)
 commas-snoc x [] y = refl
@@ -53,11 +53,6 @@ rooted-line was w₁ w₂ is at k₁ k₂ then a cs i x u v w = written-append u
 module _ (a cs es : List ℕ) (n : ℕ) (en : n ≡ getD a POLICY 0) where
   many : n ≡ length (rowsOf a POLICY)
   many = en ∙ sym (count-rows a POLICY)
-
-  pub rooted-start : (was : List ℕ) (at : ℕ) → at ≤ 18446744073709551615 → length was ≤ 18446744073709551615
-      → Printing (concat (rootedLines a cs es)) (rootedFrom a cs es 0) was at was at
-  unfolding rootedLines
-  rooted-start was at h l = printing-start (concat (rootedLines a cs es)) (rootedFrom a cs es 0) was at refl h l
 
   module _ (i : ℕ) (was is : List ℕ) (at then : ℕ) (p : Printing (concat (rootedLines a cs es)) (rootedFrom a cs es i) was at is then) where
     pub rooted-on : (x : ℕ) (out : List ℕ) (last : ℕ) → i < n → x ≡ getD es i 0 → Written is then (policyAt a cs i ++ ((44 ∷ digits x) ++ (10 ∷ []))) out last

@@ -16,14 +16,10 @@ use Rattle.table.proofs.Counts.{ranged, NoneOf, none-of}
 use Rattle.value.proofs.Lists.{uncons, spent}
 use Rattle.print.specs.Written.{Written}
 use Rattle.response.specs.Names.{blank, unpadded, opName}
-use Rattle.response.proofs.Printing.{printing-start, printing-on, printing-end}
+use Rattle.response.proofs.Printing.{printing-on, printing-end}
 use Rattle.response.proofs.Made.{Along}
 
 -- ---- a word
-
-module _ (q was : List ℕ) (at : ℕ) (h : at ≤ 18446744073709551615) (g : length was ≤ 18446744073709551615) where
-  pub word-start : Along (unpadded q) (unpadded (drop 0 q)) was at was at 0 (length q)
-  word-start = record { near = omega arith; print = printing-start (unpadded q) (unpadded (drop 0 q)) was at refl h g }
 
 module _ (q was is : List ℕ) (at next i : ℕ) (p : Along (unpadded q) (unpadded (drop i q)) was at is next i (length q)) where
   pub word-on : (out : List ℕ) (then : ℕ) → i < length q → (getD q i 0 ≡ blank → ⊥) → Written is next (getD q i 0 ∷ []) out then

@@ -1,8 +1,9 @@
 -- `response::answer::rooted_policies` meets its contract. Assumes nothing.
 use Rattle.print.proofs.Writing.{written-length}
+use mathlib.Core.Path.{refl}
 use Prim.Native.Nat.{_-_}
-use Rattle.response.proofs.Rooted.{rootedFrom, rooted-start, rooted-on, rooted-end}
-use Rattle.response.proofs.Printing.{Printing}
+use Rattle.response.proofs.Rooted.{rootedFrom, rooted-on, rooted-end}
+use Rattle.response.proofs.Printing.{Printing, printing-start}
 use Rattle.sheet.specs.Answer.{concat}
 use Rattle.response.specs.Printed.{rootedLines}
 use borrow.Author.Needs.{needs}
@@ -16,7 +17,8 @@ abbrev μ-loop : tie.MeasureT-loop
 μ-loop out₀ at a classes roots n i₀ k₀ out i k = n - i
 
 loop-holds : tie.Need-loop-holds Inv-loop μ-loop
-loop-holds c = let x = c .before .before .before .before .before .args in rooted-start (x .a .now) (x .classes .now) (x .roots .now) (c .count .result) (c .count .ensures) (x .out .now) (x .at) (search needs) (search needs)
+unfolding rootedLines
+loop-holds c = let x = c .before .before .before .before .before .args in printing-start _ _ (x .out .now) (x .at) refl (search needs) (search needs)
 
 loop-again : tie.Need-loop-again Inv-loop μ-loop
 loop-again c = search (rooted-on, needs)

@@ -3,8 +3,8 @@ use Rattle.print.proofs.Writing.{written-length}
 use Prim.Native.Nat.{_-_}
 use lib.ListN.{length, drop}
 use Rattle.response.specs.Names.{unpadded}
-use Rattle.response.proofs.Made.{Along}
-use Rattle.response.proofs.Wording.{word-start, word-on, word-blank, word-end}
+use Rattle.response.proofs.Made.{Along, along-start}
+use Rattle.response.proofs.Wording.{word-on, word-blank, word-end}
 use borrow.Author.Needs.{needs}
 use Rattle.response.proofs.names.letters.Statement.{statement}
 use Rattle.response.proofs.names.letters.Tie as tie
@@ -16,7 +16,7 @@ abbrev μ-loop : tie.MeasureT-loop
 μ-loop out₀ at word i₀ k₀ out i k = length word - i
 
 loop-holds : tie.Need-loop-holds Inv-loop μ-loop
-loop-holds c = let x = c .before .before .args in word-start (x .word .now) (x .out .now) (x .at) (search needs) (search needs)
+loop-holds c = let x = c .before .before .args in along-start (unpadded) (x .word .now) (x .out .now) (x .at) (search needs) (search needs)
 
 same-length : tie.Need-same-length Inv-loop μ-loop
 same-length c = search (written-length, needs)

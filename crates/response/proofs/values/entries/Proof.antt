@@ -1,9 +1,10 @@
 -- `response::values::entries` meets its contract. Assumes nothing.
 use Rattle.print.proofs.Writing.{written-length}
-use Prim.Native.Nat.{_-_}
+use mathlib.Core.List.{List}
+use Prim.Native.Nat.{ℕ, _-_}
 use lib.ListN.{length, drop}
 use Rattle.response.specs.Values.{after}
-use Rattle.response.proofs.Made.{Along, entries-start, entries-on, entries-end}
+use Rattle.response.proofs.Made.{Along, along-start, entries-on, entries-end}
 use Rattle.sheet.specs.Answer.{entryItems}
 use Rattle.sheet.specs.State.{entriesOf}
 use borrow.Author.Needs.{needs}
@@ -17,7 +18,7 @@ abbrev μ-loop : tie.MeasureT-loop
 μ-loop out₀ at l i₀ k₀ out i k = length l - i
 
 loop-holds : tie.Need-loop-holds Inv-loop μ-loop
-loop-holds c = let x = c .before .before .args in entries-start (x .l .now) (x .out .now) (x .at) (search needs) (search needs)
+loop-holds c = let x = c .before .before .args in along-start (λ (m : List ℕ). after (entryItems (entriesOf m))) (x .l .now) (x .out .now) (x .at) (search needs) (search needs)
 
 loop-again : tie.Need-loop-again Inv-loop μ-loop
 loop-again c = search (entries-on, needs)
