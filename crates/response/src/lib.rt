@@ -38,10 +38,10 @@ pub enum Decision {
 }
 
 // The effect of policy `i`.
-pub fn effect_of(a: &[u32], i: u32) -> u32
-    ensures { λ r. ⌜ r ≡ effectNumber (effectIn (getD (rowsOf (now (a .entry)) POLICY) i [])) ⌝ }
+pub fn effect_of(rows: &[u32], i: u32) -> u32
+    ensures { λ r. ⌜ r ≡ effectNumber (effectIn (getD (rowsOf (now (rows .entry)) POLICY) i [])) ⌝ }
 {
-    if item(row(a, POLICY, i), 2) == FORBID {
+    if item(row(rows, POLICY, i), 2) == FORBID {
         return FORBID;
     }
     PERMIT
@@ -80,20 +80,20 @@ pub struct Counts {
 }
 
 // The counts of an effect.
-pub fn counts_in(a: &[u32], classes: &[u32], effect: u32) -> Counts
-    ensures trues { λ r. ⌜ r .trues ≡ howMany (effectIs effect) (classIs CLASS-TRUE) (verdictsIn (now (a .entry)) (now (classes .entry))) ⌝ }
-    ensures falses { λ r. ⌜ r .falses ≡ howMany (effectIs effect) (classIs CLASS-FALSE) (verdictsIn (now (a .entry)) (now (classes .entry))) ⌝ }
-    ensures errors { λ r. ⌜ r .errors ≡ howMany (effectIs effect) (classIs CLASS-ERROR) (verdictsIn (now (a .entry)) (now (classes .entry))) ⌝ }
-    ensures opens { λ r. ⌜ r .opens ≡ howMany (effectIs effect) (classIs CLASS-OPEN) (verdictsIn (now (a .entry)) (now (classes .entry))) ⌝ }
+pub fn counts_in(rows: &[u32], classes: &[u32], effect: u32) -> Counts
+    ensures trues { λ r. ⌜ r .trues ≡ howMany (effectIs effect) (classIs CLASS-TRUE) (verdictsIn (now (rows .entry)) (now (classes .entry))) ⌝ }
+    ensures falses { λ r. ⌜ r .falses ≡ howMany (effectIs effect) (classIs CLASS-FALSE) (verdictsIn (now (rows .entry)) (now (classes .entry))) ⌝ }
+    ensures errors { λ r. ⌜ r .errors ≡ howMany (effectIs effect) (classIs CLASS-ERROR) (verdictsIn (now (rows .entry)) (now (classes .entry))) ⌝ }
+    ensures opens { λ r. ⌜ r .opens ≡ howMany (effectIs effect) (classIs CLASS-OPEN) (verdictsIn (now (rows .entry)) (now (classes .entry))) ⌝ }
 {
-    let n = count(a, POLICY);
+    let n = count(rows, POLICY);
     let mut i = 0;
     let mut trues = 0;
     let mut falses = 0;
     let mut errors = 0;
     let mut opens = 0;
     while i < n {
-        let e = effect_of(a, i);
+        let e = effect_of(rows, i);
         let c = class_of(classes, i);
         trues += hit(e, c, effect, CLASS_TRUE);
         falses += hit(e, c, effect, CLASS_FALSE);
@@ -134,11 +134,11 @@ pub fn decide(
 }
 
 // The decision that the classes of the policies give.
-pub fn decision_of(a: &[u32], classes: &[u32]) -> Decision
-    ensures { λ r. ⌜ r ≡ said (decision (verdictsIn (now (a .entry)) (now (classes .entry)))) ⌝ }
+pub fn decision_of(rows: &[u32], classes: &[u32]) -> Decision
+    ensures { λ r. ⌜ r ≡ said (decision (verdictsIn (now (rows .entry)) (now (classes .entry)))) ⌝ }
 {
-    let permits = counts_in(a, classes, PERMIT);
-    let forbids = counts_in(a, classes, FORBID);
+    let permits = counts_in(rows, classes, PERMIT);
+    let forbids = counts_in(rows, classes, FORBID);
     let true_forbids = forbids.trues > 0;
     let true_permits = permits.trues > 0;
     let residual_permits = permits.opens > 0;

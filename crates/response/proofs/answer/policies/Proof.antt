@@ -11,10 +11,10 @@ use Rattle.response.proofs.answer.policies.Statement.{statement}
 use Rattle.response.proofs.answer.policies.Tie as tie
 
 abbrev Inv-loop : tie.InvT-loop
-Inv-loop out₀ at a classes n i₀ k₀ out i k = Printing (concat (policyLines a classes)) (concat (linesFrom a classes i)) out₀ at out k
+Inv-loop out₀ at rows classes n i₀ k₀ out i k = Printing (concat (policyLines rows classes)) (concat (linesFrom rows classes i)) out₀ at out k
 
 abbrev μ-loop : tie.MeasureT-loop
-μ-loop out₀ at a classes n i₀ k₀ out i k = n - i
+μ-loop out₀ at rows classes n i₀ k₀ out i k = n - i
 
 loop-holds : tie.Need-loop-holds Inv-loop μ-loop
 unfolding policyLines verdictsIn

@@ -11,10 +11,10 @@ use Rattle.response.proofs.answer.rooted_policies.Statement.{statement}
 use Rattle.response.proofs.answer.rooted_policies.Tie as tie
 
 abbrev Inv-loop : tie.InvT-loop
-Inv-loop out₀ at a classes roots n i₀ k₀ out i k = Printing (concat (rootedLines a classes roots)) (rootedFrom a classes roots i) out₀ at out k
+Inv-loop out₀ at rows classes roots n i₀ k₀ out i k = Printing (concat (rootedLines rows classes roots)) (rootedFrom rows classes roots i) out₀ at out k
 
 abbrev μ-loop : tie.MeasureT-loop
-μ-loop out₀ at a classes roots n i₀ k₀ out i k = n - i
+μ-loop out₀ at rows classes roots n i₀ k₀ out i k = n - i
 
 loop-holds : tie.Need-loop-holds Inv-loop μ-loop
 unfolding rootedLines

@@ -10,10 +10,10 @@ use Rattle.response.proofs.values.made_values.Statement.{statement}
 use Rattle.response.proofs.values.made_values.Tie as tie
 
 abbrev Inv-loop : tie.InvT-loop
-Inv-loop out₀ at a n i₀ k₀ out i k = Printing (madeLines a) (madeFrom a i) out₀ at out k
+Inv-loop out₀ at rows n i₀ k₀ out i k = Printing (madeLines rows) (madeFrom rows i) out₀ at out k
 
 abbrev μ-loop : tie.MeasureT-loop
-μ-loop out₀ at a n i₀ k₀ out i k = n - i
+μ-loop out₀ at rows n i₀ k₀ out i k = n - i
 
 loop-holds : tie.Need-loop-holds Inv-loop μ-loop
 unfolding madeLines
