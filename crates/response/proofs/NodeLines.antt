@@ -14,7 +14,7 @@ use Rattle.sheet.specs.Bytes.{digits}
 use Rattle.sheet.specs.Forms.{lineOr, tag, items, at, TEXT, TYPE, NODE, firstType, mark, asterisk}
 use Rattle.sheet.specs.State.{typeRow}
 use Rattle.sheet.specs.Answer.{concat, numbers, itemOut, headLines}
-use Rattle.forms.specs.Tags.{VAR, IS, LIKE, GET, HAS, HASPATH, RECORD-OF, BOOL-TYPE, RECORD-TYPE, PART-P, PART-A, PART-R}
+use Rattle.forms.specs.Tags.{VAR, IS, LIKE, GET, HAS, HASPATH, RECORD-OF, BOOL-TYPE, RECORD-TYPE}
 use Rattle.table.specs.Layout.{rowsOf}
 use Rattle.table.proofs.Rows.{count-rows}
 use Rattle.residual.specs.Rows.{wordAt, stageAt, startAt}
@@ -142,21 +142,6 @@ fields-more was w₁ w₂ is r l at k₁ k₂ next i start p q t x g h eq et ex 
 -- ---- a variable, a pattern, a path
 
 module _ (was is : List ℕ) (at next : ℕ) where
-  pub var-zero : (x : ℕ) → x ≡ PART-P → Written was at (44 ∷ 112 ∷ []) is next → Written was at (44 ∷ letter x) is next
-  var-zero x e w = written-as w (rw e)
-
-  pub var-one : (x : ℕ) → x ≡ PART-A → Written was at (44 ∷ 97 ∷ []) is next → Written was at (44 ∷ letter x) is next
-  var-one x e w = written-as w (rw e)
-
-  pub var-two : (x : ℕ) → x ≡ PART-R → Written was at (44 ∷ 114 ∷ []) is next → Written was at (44 ∷ letter x) is next
-  var-two x e w = written-as w (rw e)
-
-  pub var-more : (x : ℕ) → (x ≡ PART-P → ⊥) → (x ≡ PART-A → ⊥) → (x ≡ PART-R → ⊥) → Written was at (44 ∷ 99 ∷ []) is next → Written was at (44 ∷ letter x) is next
-  var-more zero e f g w = absurd (e refl)
-  var-more (suc zero) e f g w = absurd (f refl)
-  var-more (suc (suc zero)) e f g w = absurd (g refl)
-  var-more (suc (suc (suc x))) e f g w = w
-
   pub piece-star : (x : ℕ) → x ≡ mark → Written was at (44 ∷ 42 ∷ []) is next → Written was at (44 ∷ itemOut (lineOr asterisk TEXT) x) is next
   piece-star x e w = written-as w (rw (eq-eqb x mark e))
 

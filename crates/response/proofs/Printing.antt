@@ -17,7 +17,7 @@ use Rattle.table.proofs.Rows.{count-rows, lines-held}
 use Rattle.value.proofs.Lists.{uncons, spent}
 use Rattle.print.specs.Written.{Written}
 use Rattle.print.proofs.Writing.{written-none, written-append, written-as}
-use Rattle.residual.specs.Classes.{classNumber, CLASS-TRUE, CLASS-FALSE, CLASS-ERROR}
+use Rattle.residual.specs.Classes.{classNumber}
 use Rattle.response.specs.Verdicts.{classIn, effectIn, effectNumber, verdictsIn, said}
 use Rattle.response.specs.Printed.{idBytes, decisionBytes, effectBytes, classBytes, listed, fourOf, policyAt, policyLines, completeBytes}
 use Rattle.response.specs.declared.Decision as D
@@ -56,36 +56,12 @@ module _ (was is : List ℕ) (at next : ℕ) where
   pub number-after : (b n : ℕ) (mid : List ℕ) (m : ℕ) → Written was at (b ∷ []) mid m → Written mid m (digits n) is next → Written was at (b ∷ digits n) is next
   number-after b n mid m v w = written-append v w
 
-  pub decision-allow : (d : D.Decision) → d ≡ D.the-variants.Allow → Written was at (100 ∷ 101 ∷ 99 ∷ 105 ∷ 115 ∷ 105 ∷ 111 ∷ 110 ∷ 61 ∷ 97 ∷ 108 ∷ 108 ∷ 111 ∷ 119 ∷ 10 ∷ []) is next → Written was at (decisionBytes d) is next
-  decision-allow d h w = written-as w (ap decisionBytes (sym h))
-
-  pub decision-deny : (d : D.Decision) → d ≡ D.the-variants.Deny → Written was at (100 ∷ 101 ∷ 99 ∷ 105 ∷ 115 ∷ 105 ∷ 111 ∷ 110 ∷ 61 ∷ 100 ∷ 101 ∷ 110 ∷ 121 ∷ 10 ∷ []) is next → Written was at (decisionBytes d) is next
-  decision-deny d h w = written-as w (ap decisionBytes (sym h))
-
-  pub decision-open : (d : D.Decision) → d ≡ D.the-variants.Open → Written was at (100 ∷ 101 ∷ 99 ∷ 105 ∷ 115 ∷ 105 ∷ 111 ∷ 110 ∷ 61 ∷ 111 ∷ 112 ∷ 101 ∷ 110 ∷ 10 ∷ []) is next → Written was at (decisionBytes d) is next
-  decision-open d h w = written-as w (ap decisionBytes (sym h))
-
   pub effect-zero : (e : ℕ) → e ≡ PERMIT → Written was at (44 ∷ 112 ∷ 101 ∷ 114 ∷ 109 ∷ 105 ∷ 116 ∷ []) is next → Written was at (effectBytes e) is next
   effect-zero e h w = written-as w (rw h)
 
   pub effect-more : (e : ℕ) → (e ≡ PERMIT → ⊥) → Written was at (44 ∷ 102 ∷ 111 ∷ 114 ∷ 98 ∷ 105 ∷ 100 ∷ []) is next → Written was at (effectBytes e) is next
   effect-more zero h w = absurd (h refl)
   effect-more (suc e) h w = w
-
-  pub class-zero : (c : ℕ) → c ≡ CLASS-TRUE → Written was at (44 ∷ 116 ∷ 114 ∷ 117 ∷ 101 ∷ []) is next → Written was at (classBytes c) is next
-  class-zero c h w = written-as w (rw h)
-
-  pub class-one : (c : ℕ) → c ≡ CLASS-FALSE → Written was at (44 ∷ 102 ∷ 97 ∷ 108 ∷ 115 ∷ 101 ∷ []) is next → Written was at (classBytes c) is next
-  class-one c h w = written-as w (rw h)
-
-  pub class-two : (c : ℕ) → c ≡ CLASS-ERROR → Written was at (44 ∷ 101 ∷ 114 ∷ 114 ∷ 111 ∷ 114 ∷ []) is next → Written was at (classBytes c) is next
-  class-two c h w = written-as w (rw h)
-
-  pub class-more : (c : ℕ) → (c ≡ CLASS-TRUE → ⊥) → (c ≡ CLASS-FALSE → ⊥) → (c ≡ CLASS-ERROR → ⊥) → Written was at (44 ∷ 111 ∷ 112 ∷ 101 ∷ 110 ∷ []) is next → Written was at (classBytes c) is next
-  class-more zero h k l w = absurd (h refl)
-  class-more (suc zero) h k l w = absurd (k refl)
-  class-more (suc (suc zero)) h k l w = absurd (l refl)
-  class-more (suc (suc (suc c))) h k l w = w
 
   pub counts-four : (b e : ℕ) (ls : List Verdict) (c₀ c₁ c₂ c₃ : ℕ) (w₁ w₂ w₃ : List ℕ) (k₁ k₂ k₃ : ℕ)
       → c₀ ≡ getD (fourOf e ls) 0 0 → c₁ ≡ getD (fourOf e ls) 1 0 → c₂ ≡ getD (fourOf e ls) 2 0 → c₃ ≡ getD (fourOf e ls) 3 0

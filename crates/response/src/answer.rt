@@ -4,6 +4,9 @@ use crate::class_of;
 use crate::counts_in;
 use crate::decision_of;
 use crate::effect_of;
+use crate::names::class_name;
+use crate::names::decision_name;
+use crate::names::letters;
 use crate::nodes::node_lines;
 use crate::values::made_values;
 use forms::FORBID;
@@ -12,9 +15,6 @@ use forms::POLICY;
 use print::byte;
 use print::bytes;
 use print::number;
-use residual::CLASS_ERROR;
-use residual::CLASS_FALSE;
-use residual::CLASS_TRUE;
 use table::count;
 use table::item;
 use table::row;
@@ -42,11 +42,10 @@ pub fn number_after(out: &mut [u8], at: usize, separator: u8, n: u64) -> usize
 pub fn decision_line(out: &mut [u8], at: usize, decision: Decision) -> usize
     ensures { λ r. ⌜ Written (now (out .entry)) at (decisionBytes decision) (now (out .exit)) r ⌝ }
 {
-    match decision {
-        Decision::Allow => bytes(out, at, b"decision=allow\n"),
-        Decision::Deny => bytes(out, at, b"decision=deny\n"),
-        Decision::Open => bytes(out, at, b"decision=open\n"),
-    }
+    let word = decision_name(decision);
+    let k = bytes(out, at, b"decision=");
+    let l = letters(out, k, &word);
+    byte(out, l, b'\n')
 }
 
 // The counts of one effect, after a separator: true, false, error, open.
@@ -93,12 +92,8 @@ fn effect_word(out: &mut [u8], at: usize, effect: u32) -> usize
 fn class_word(out: &mut [u8], at: usize, class: u32) -> usize
     ensures { λ r. ⌜ Written (now (out .entry)) at (classBytes class) (now (out .exit)) r ⌝ }
 {
-    match class {
-        CLASS_TRUE => bytes(out, at, b",true"),
-        CLASS_FALSE => bytes(out, at, b",false"),
-        CLASS_ERROR => bytes(out, at, b",error"),
-        _ => bytes(out, at, b",open"),
-    }
+    let word = class_name(class);
+    letters(out, at, &word)
 }
 
 // The line of policy `i` up to its id.

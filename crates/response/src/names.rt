@@ -1,4 +1,5 @@
 // Words that a number chooses, in eight bytes: blanks stand after a shorter one.
+use crate::Decision;
 use forms::ADD;
 use forms::ALL;
 use forms::AND;
@@ -23,20 +24,28 @@ use forms::MUL;
 use forms::NEG;
 use forms::NOT;
 use forms::OR;
+use forms::PART_A;
+use forms::PART_P;
+use forms::PART_R;
 use forms::RECORD_OF;
 use forms::SET_OF;
 use forms::SUB;
 use forms::VAR;
 use print::byte;
+use residual::CLASS_ERROR;
+use residual::CLASS_FALSE;
+use residual::CLASS_TRUE;
 use value::Shape;
 ghost use mathlib.Core.Path.{_≡_};
-ghost use mathlib.Core.List.{[]};
+ghost use mathlib.Core.List.{[], _∷_, _++_};
 ghost use lib.ListN.{getD};
 ghost use Rattle.print.specs.Written.{Written};
 ghost use Rattle.sheet.specs.Ascii.{ascii};
 ghost use Rattle.sheet.specs.Answer.{valueItems};
 ghost use Rattle.value.specs.Shapes.{shapeRow};
 ghost use Rattle.response.specs.Names.{unpadded, opName};
+ghost use Rattle.response.specs.Printed.{decisionBytes, classBytes};
+ghost use Rattle.response.specs.Nodes.{letter};
 
 // What stands after a word.
 const BLANK: u8 = b' ';
@@ -107,6 +116,28 @@ const NAME_TEXT: [u8; 8] = *b"text    ";
 
 const NAME_ENTITY: [u8; 8] = *b"entity  ";
 
+const NAME_ALLOW: [u8; 8] = *b"allow   ";
+
+const NAME_DENY: [u8; 8] = *b"deny    ";
+
+const NAME_OPEN: [u8; 8] = *b"open    ";
+
+const AFTER_TRUE: [u8; 8] = *b",true   ";
+
+const AFTER_FALSE: [u8; 8] = *b",false  ";
+
+const AFTER_ERROR: [u8; 8] = *b",error  ";
+
+const AFTER_OPEN: [u8; 8] = *b",open   ";
+
+const AFTER_P: [u8; 8] = *b",p      ";
+
+const AFTER_A: [u8; 8] = *b",a      ";
+
+const AFTER_R: [u8; 8] = *b",r      ";
+
+const AFTER_C: [u8; 8] = *b",c      ";
+
 // A word without its blanks.
 pub fn letters(out: &mut [u8], at: usize, word: &[u8]) -> usize
     ensures { λ r. ⌜ Written (now (out .entry)) at (unpadded (now (word .entry))) (now (out .exit)) r ⌝ }
@@ -172,5 +203,40 @@ pub fn shape_name(shape: Shape) -> [u8; 8]
         Shape::Entity(_, _) => NAME_ENTITY,
         Shape::Set => NAME_SET,
         Shape::Record => NAME_RECORD,
+    }
+}
+
+// What the line of a decision says.
+pub fn decision_name(decision: Decision) -> [u8; 8]
+    ensures { λ r. ⌜ decisionBytes decision ≡ ascii "decision=" ++ (unpadded r ++ (10 ∷ [])) ⌝ }
+{
+    match decision {
+        Decision::Allow => NAME_ALLOW,
+        Decision::Deny => NAME_DENY,
+        Decision::Open => NAME_OPEN,
+    }
+}
+
+// A class after a comma.
+pub fn class_name(class: u32) -> [u8; 8]
+    ensures { λ r. ⌜ unpadded r ≡ classBytes class ⌝ }
+{
+    match class {
+        CLASS_TRUE => AFTER_TRUE,
+        CLASS_FALSE => AFTER_FALSE,
+        CLASS_ERROR => AFTER_ERROR,
+        _ => AFTER_OPEN,
+    }
+}
+
+// A variable after a comma.
+pub fn part_name(part: u32) -> [u8; 8]
+    ensures { λ r. ⌜ unpadded r ≡ 44 ∷ letter part ⌝ }
+{
+    match part {
+        PART_P => AFTER_P,
+        PART_A => AFTER_A,
+        PART_R => AFTER_R,
+        _ => AFTER_C,
     }
 }

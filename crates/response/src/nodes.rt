@@ -2,6 +2,7 @@
 use crate::answer::number_after;
 use crate::names::letters;
 use crate::names::op_name;
+use crate::names::part_name;
 use crate::values::numbers;
 use forms::BOOL_TYPE;
 use forms::GET;
@@ -11,9 +12,6 @@ use forms::IS;
 use forms::LIKE;
 use forms::MARK;
 use forms::NODE;
-use forms::PART_A;
-use forms::PART_P;
-use forms::PART_R;
 use forms::RECORD_OF;
 use forms::RECORD_TYPE;
 use forms::TYPE;
@@ -110,12 +108,8 @@ fn fields(
 fn variable(out: &mut [u8], at: usize, part: u32) -> usize
     ensures { λ r. ⌜ Written (now (out .entry)) at (44 ∷ letter part) (now (out .exit)) r ⌝ }
 {
-    match part {
-        PART_P => bytes(out, at, b",p"),
-        PART_A => bytes(out, at, b",a"),
-        PART_R => bytes(out, at, b",r"),
-        _ => bytes(out, at, b",c"),
-    }
+    let word = part_name(part);
+    letters(out, at, &word)
 }
 
 // An item of a pattern after a comma.
