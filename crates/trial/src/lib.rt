@@ -81,7 +81,13 @@ fn mark_bytes(out: &mut [u8])
 }
 
 // The call of an entry, 0 partial and 1 complete, in marked slices.
-pub fn call(entry: usize, sheet: &[u8], work1: &mut [u32], work2: &mut [u32], out: &mut [u8]) -> Returned
+pub fn call(
+    entry: usize,
+    sheet: &[u8],
+    work1: &mut [u32],
+    work2: &mut [u32],
+    out: &mut [u8],
+) -> Returned
     ensures { λ r. ⌜ Called (entryOf entry) (now (sheet .entry)) (marks (length (now (work1 .entry)))) (marks (length (now (work2 .entry)))) (marks (length (now (out .entry)))) (r .number) (r .line) (r .length) (now (out .exit)) (now (work1 .exit)) (now (work2 .exit)) ⌝ }
 {
     mark_words(work1);
