@@ -31,17 +31,17 @@ fn main() {
     }
 }
 
-/// Links libffi.a, from the folder or file that OPENRULES_LIB names, else from the place where `rt staticlib ffi` writes it.
+/// Links libopenrules_c.a, from the folder or file that OPENRULES_LIB names, else from the place where `rt staticlib openrules_c` writes it.
 fn link_library() {
     let here = PathBuf::from(env::var("CARGO_MANIFEST_DIR").unwrap());
     let place = env::var("OPENRULES_LIB").map(PathBuf::from).unwrap_or(here.join("../target/staticlib"));
     let folder = if place.is_file() { place.parent().unwrap().to_path_buf() } else { place };
-    if !folder.join("libffi.a").is_file() {
-        panic!("The feature `library` needs libffi.a in {} (set OPENRULES_LIB, or run `rt staticlib ffi`).", folder.display());
+    if !folder.join("libopenrules_c.a").is_file() {
+        panic!("The feature `library` needs libopenrules_c.a in {} (set OPENRULES_LIB, or run `rt staticlib openrules_c`).", folder.display());
     }
-    println!("cargo:rerun-if-changed={}", folder.join("libffi.a").display());
+    println!("cargo:rerun-if-changed={}", folder.join("libopenrules_c.a").display());
     println!("cargo:rustc-link-search=native={}", folder.display());
-    println!("cargo:rustc-link-lib=static=ffi");
+    println!("cargo:rustc-link-lib=static=openrules_c");
 }
 
 fn cut_all(source: &Path, out: &Path) {

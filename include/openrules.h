@@ -18,7 +18,7 @@
  * pointer that is not null and aligned will do); no two of the slices, the buffer, `line` and `length` overlap, and nothing writes to
  * them during the call. What they hold is free, no length is too short or too long: the calls ask nothing else.
  *
- * To link: `rt staticlib ffi` writes target/staticlib/libffi.a, for x86-64 Linux.
+ * To link: `rt staticlib openrules_c` writes target/staticlib/libopenrules_c.a, for x86-64 Linux.
  */
 #ifndef OPENRULES_H
 #define OPENRULES_H

@@ -1,105 +1,64 @@
 -- The code's table of forms is the definition's. Assumes nothing.
 use mathlib.Core.Path.{_≡_, refl, sym, ap, _∙_}
-use mathlib.Core.Bool.{Bool, true, false, cond, not, _&&_, _||_, and-eq-true-iff}
+use mathlib.Core.Bool.{Bool, true, false, cond, not, _&&_, and-eq-true-iff}
 use mathlib.Core.List.{List, [], _∷_}
-use Prim.Native.Nat.{ℕ, zero, suc, _+_, _-_, _/_, _%_, _≤_, _<_}
+use Prim.Native.Nat.{ℕ, zero, suc, _+_, _-_, _*_, _/_, _%_, _^_, _≤_, _<_}
 use native.Mathlib.Omega.{arith}
 use native.Mathlib.Decide.{decLt}
 use borrow.Author.Tests.{leb-true, eqb-true, eq-eqb, ne-eqb, le-ltb}
 use lib.Dec.{leb, eqb}
-use lib.ListN.{length, getD, List·getD-eq-default}
-use Rattle.cedar.specs.Numbered.{memN}
-use Rattle.words.specs.Bits.{digitOf}
-use Rattle.sheet.specs.Forms.{Slot, nothing, Form, forms, formOf, noForm, slotIn, slotAt}
+use lib.ListN.{length, getD}
+use Rattle.sheet.specs.Forms.{Slot, line, nothing, Form, forms, formOf, noForm, slotIn, slotAt, noTag, TYPE, POLICY}
 use Rattle.sheet.proofs.Parsed.{allBelow, all-below}
-use Rattle.table.proofs.Counts.{small, form-small, both-small, ranged, by-digit, all-same, past-end, NoneOf, none-of, other}
-use Rattle.checks.specs.Codes.{codeOf, formCodes, againCodes, codesAfter, codesAt}
+use Rattle.forms.specs.declared.Form as F
+use Rattle.forms.specs.Rows.{LINE, EFFECT, OF-TYPE, OF-VALUE, OF-NODE, code as codeOf, coded, Packed}
+use Rattle.forms.specs.Tags.{LIT, ERR, AND, IS, RECORD-OF}
+use Rattle.forms.proofs.Tests.{ranged}
+use Rattle.forms.proofs.Table.{no-form, group-small, both-small, group-are, rises-are, node-slot}
+use Rattle.checks.specs.Codes.{keyIn, packed, packedFrom, formCode, againCode, codesAfter, codesAt}
 
 -- ---- how many lie between items that ascend
 
 abbrev pub stepIn : Form → ℕ
 stepIn f = cond (f .ascends) (length (f .group)) 0
 
-step-small : (t : ℕ) → stepIn (formOf t) ≤ 3
-unfolding forms small
-step-small = form-small stepIn 3 (omega arith) refl
+word-packed : (r : F.Form) (w : ℕ) → Packed r w → w < 4294967296 → w ≡ packed r
+word-packed r w p h =
+    let a : w / 65536 ≡ w / 256 / 256 = omega arith in
+    let b : w / 16777216 ≡ w / 65536 / 256 = omega arith in
+    let d : w / 65536 ≡ r .third + 256 * r .fourth = omega (arith, b, p .three, p .four) in
+    let g : w / 256 ≡ r .second + 256 * (r .third + 256 * r .fourth) = omega (arith, a, d, p .two) in
+    omega (arith, g, p .one)
 
-module _ (t r : ℕ) where
-  pub step-first : r ≡ digitOf 0x2100_0013_0000_0000 t → t < 16 → (r ≡ stepIn (formOf t)) × (r ≤ 3)
-  unfolding forms formOf digitOf
-  step-first h = by-digit stepIn 3 step-small 0 16 0x2100_0013_0000_0000 refl t r h (omega arith)
+module _ (t : ℕ) (r : F.Form) (e : r ≡ coded (formOf t)) where
+  pub step-some : r .rises ≡ true → (r .group ≡ stepIn (formOf t)) × (r .group ≤ 3)
+  step-some h = (sym (rw (← rises-are t r e, h) (sym (group-are t r e .0))), group-are t r e .1)
 
-module _ (t : ℕ) where
-  pub step-record : t ≡ 48 → (2 ≡ stepIn (formOf t)) × (2 ≤ 3)
-  unfolding forms formOf
-  step-record h = all-same stepIn 3 step-small 48 1 2 refl t (omega arith) (omega arith)
+  pub step-none : r .rises ≡ false → (0 ≡ stepIn (formOf t)) × (0 ≤ 3)
+  step-none h = (sym (rw (← rises-are t r e, h) refl), omega arith)
 
-  pub step-last : 16 ≤ t → (t ≡ 48 → ⊥) → (0 ≡ stepIn (formOf t)) × (0 ≤ 3)
-  unfolding forms formOf
-  step-last h ne = go (decLt t 48) (decLt t 50)
-    where
-      go : Dec (t < 48) → Dec (t < 50) → (0 ≡ stepIn (formOf t)) × (0 ≤ 3)
-      go (yes l) d = all-same stepIn 3 step-small 16 32 0 refl t h l
-      go (no l) (yes d) = all-same stepIn 3 step-small 49 1 0 refl t (omega arith) (omega arith)
-      go (no l) (no d) = past-end stepIn 3 (omega arith) t (omega arith)
+  -- ---- what items refer to, four to a word
 
--- ---- what items refer to, four to a word
+  pub codes-are : (w : ℕ) → Packed r w → w < 4294967296 → w ≡ formCode t
+  unfolding formCode
+  codes-are w p h = word-packed r w p h ∙ ap packed e
 
-abbrev pub codeAt : ℕ → ℕ
-codeAt t = getD formCodes t 0
+  pub again-are : (again : ℕ) → again ≡ packedFrom (r .items) (packed r) → again ≡ againCode t
+  unfolding againCode formCode
+  again-are again h = h ∙ ap (λ (f : F.Form). packedFrom (f .items) (packed f)) e
 
-pub codes-out : (t : ℕ) → 50 ≤ t → 0 ≡ codeAt t
-unfolding formCodes
-codes-out t h = sym (List·getD-eq-default formCodes 0 h)
+-- the places of the group alone
+pub again-of-packed : (r : F.Form) (w : ℕ) → Packed r w → w < 4294967296 → w / 2 ^ (r .items % 8 * 8) ≡ packedFrom (r .items) (packed r)
+again-of-packed r w p h = ap (packedFrom (r .items)) (word-packed r w p h)
 
-pub codes-node : (t : ℕ) → 24 ≤ t → t < 38 → 0x0017_1707 ≡ codeAt t
-unfolding formCodes
-codes-node t l h = eqb-true 0x0017_1707 (codeAt t) (ranged (λ (i : ℕ). eqb 0x0017_1707 (codeAt i)) 24 14 refl t l h)
+-- past the table's end
+codes-out : (t : ℕ) → noTag ≤ t → 0 ≡ formCode t
+unfolding formCode coded codeOf
+codes-out t h = sym (ap (λ (f : Form). packed (coded f)) (no-form t h))
 
--- the other forms that the code names, the last first
-abbrev pub lowNamed : List ℕ
-lowNamed = 23 ∷ 22 ∷ 21 ∷ 20 ∷ 19 ∷ 18 ∷ 17 ∷ 16 ∷ 15 ∷ 14 ∷ 13 ∷ 12 ∷ 9 ∷ 8 ∷ 7 ∷ 6 ∷ 2 ∷ []
-
-abbrev pub highNamed : List ℕ
-highNamed = 49 ∷ 48 ∷ 47 ∷ 46 ∷ 45 ∷ 44 ∷ 43 ∷ 42 ∷ 41 ∷ 40 ∷ 39 ∷ 38 ∷ []
-
-module _ (t : ℕ) where
-  zero-where : (lo n : ℕ) (ks : List ℕ) → allBelow (λ (i : ℕ). memN (lo + i) ks || eqb 0 (codeAt (lo + i))) n ≡ true → NoneOf ks t → lo ≤ t → t < lo + n → 0 ≡ codeAt t
-  zero-where lo n ks e d l h =
-      eqb-true 0 (codeAt t) (other (memN t ks) (eqb 0 (codeAt t)) (none-of ks t d) (ranged (λ (i : ℕ). memN i ks || eqb 0 (codeAt i)) lo n e t l h))
-
-  pub codes-low : t < 24 → NoneOf lowNamed t → 0 ≡ codeAt t
-  unfolding formCodes
-  codes-low h d = zero-where 0 24 lowNamed refl d (omega arith) h
-
-  pub codes-high : 38 ≤ t → NoneOf highNamed t → 0 ≡ codeAt t
-  unfolding formCodes
-  codes-high h d = go (decLt t 50)
-    where
-      go : Dec (t < 50) → 0 ≡ codeAt t
-      go (yes l) = zero-where 38 12 highNamed refl d h l
-      go (no l) = codes-out t (omega arith)
-
--- ---- the same of the group
-
-abbrev pub againAt : ℕ → ℕ
-againAt t = getD againCodes t 0
-
--- the forms with a group, the last first
-abbrev pub againNamed : List ℕ
-againNamed = 48 ∷ 47 ∷ 43 ∷ 40 ∷ 15 ∷ 14 ∷ 9 ∷ 8 ∷ []
-
-again-out : (t : ℕ) → 50 ≤ t → 0 ≡ againAt t
-unfolding againCodes
-again-out t h = sym (List·getD-eq-default againCodes 0 h)
-
-pub again-other : (t : ℕ) → NoneOf againNamed t → 0 ≡ againAt t
-unfolding againCodes
-again-other t d = go (decLt t 50)
-  where
-    go : Dec (t < 50) → 0 ≡ againAt t
-    go (yes l) = eqb-true 0 (againAt t) (other (memN t againNamed) (eqb 0 (againAt t)) (none-of againNamed t d) (all-below (λ (i : ℕ). memN i againNamed || eqb 0 (againAt i)) 50 t refl l))
-    go (no l) = again-out t (omega arith)
+again-out : (t : ℕ) → noTag ≤ t → 0 ≡ againCode t
+unfolding againCode formCode coded codeOf
+again-out t h = sym (ap (λ (f : Form). packedFrom (coded f .items) (packed (coded f))) (no-form t h))
 
 pub after-rest : (w again v : ℕ) → v ≡ w / 256 → (v ≡ 0 → ⊥) → v ≡ codesAfter again w
 after-rest w again v e n = sym (rw (← e, ne-eqb v 0 n) refl)
@@ -116,14 +75,6 @@ mod-six (suc (suc zero)) x h l = omega arith
 mod-six (suc (suc (suc zero))) x h l = omega arith
 mod-six (suc (suc (suc (suc g)))) x h l = absurd (omega arith)
 
-no-group : (l : List Slot) → length l ≡ 0 → (i : ℕ) → getD l i nothing ≡ nothing
-no-group [] e i = refl
-no-group (x ∷ l) e i = absurd (omega arith)
-
-group-small : (t : ℕ) → length (formOf t .group) ≤ 3
-unfolding forms small
-group-small = form-small (λ (f : Form). length (f .group)) 3 (omega arith) refl
-
 slot-period : (t j : ℕ) → slotAt t (4 + j + 6) ≡ slotAt t (4 + j)
 unfolding slotAt
 slot-period t j =
@@ -136,17 +87,17 @@ slot-period t j =
     go [] h = refl
     go (x ∷ l) h = ap (λ (i : ℕ). getD (x ∷ l) i nothing) (mod-six (length (x ∷ l)) (4 + j - length (formOf t .items)) (omega arith) h)
 
-codes-none : (t j : ℕ) → 50 ≤ t → codesAt t j ≡ 0
+codes-none : (t j : ℕ) → noTag ≤ t → codesAt t j ≡ 0
 unfolding codesAt
 codes-none t zero h = sym (codes-out t h)
 codes-none t (suc j) h = rw (codes-none t j h, ← (again-out t h)) refl
 
 codes-ten : (t : ℕ) → codesAt t 10 ≡ codesAt t 4
-unfolding codesAt formCodes againCodes
-codes-ten t = go (decLt t 50)
+unfolding codesAt formCode againCode coded codeOf forms formOf
+codes-ten t = go (decLt t noTag)
   where
-    go : Dec (t < 50) → codesAt t 10 ≡ codesAt t 4
-    go (yes l) = eqb-true (codesAt t 10) (codesAt t 4) (all-below (λ (i : ℕ). eqb (codesAt i 10) (codesAt i 4)) 50 t refl l)
+    go : Dec (t < noTag) → codesAt t 10 ≡ codesAt t 4
+    go (yes l) = eqb-true (codesAt t 10) (codesAt t 4) (all-below (λ (i : ℕ). eqb (codesAt i 10) (codesAt i 4)) noTag t refl l)
     go (no l) = codes-none t 10 (omega arith) ∙ sym (codes-none t 4 (omega arith))
 
 codes-period : (t j : ℕ) → codesAt t (4 + j + 6) ≡ codesAt t (4 + j)
@@ -155,7 +106,7 @@ codes-period t zero = codes-ten t
 codes-period t (suc j) =
     let p : 4 + suc j + 6 ≡ suc (4 + j + 6) = omega arith in
     let q : 4 + suc j ≡ suc (4 + j) = omega arith in
-    rw (p, q) (ap (codesAfter (againAt t)) (codes-period t j))
+    rw (p, q) (ap (codesAfter (againCode t)) (codes-period t j))
 
 record Early (t j : ℕ) : Type 0 where
   place : ℕ
@@ -181,50 +132,50 @@ early (suc n) t j h = go (decLt j 10) (λ i l. early n t i l)
         }
 
 -- what holds of the code of each of the first ten places of some forms holds of every place of theirs
-module _ (p : ℕ → ℕ → Bool) (lo n : ℕ) (e : allBelow (λ (t : ℕ). allBelow (λ (j : ℕ). p (codesAt (lo + t) j) (codeOf (slotAt (lo + t) j))) 10) n ≡ true) where
-  every-place : (t j : ℕ) → lo ≤ t → t < lo + n → p (codesAt t j) (codeOf (slotAt t j)) ≡ true
+module _ (p : ℕ → Slot → Bool) (lo n : ℕ) (e : allBelow (λ (t : ℕ). allBelow (λ (j : ℕ). p (codesAt (lo + t) j) (slotAt (lo + t) j)) 10) n ≡ true) where
+  every-place : (t j : ℕ) → lo ≤ t → t < lo + n → p (codesAt t j) (slotAt t j) ≡ true
   every-place t j l h =
       let y = early j t j (omega arith) in
-      rw (y .slot, y .codes) (all-below (λ (i : ℕ). p (codesAt t i) (codeOf (slotAt t i))) 10 (y .place) (ranged (λ (t : ℕ). allBelow (λ (j : ℕ). p (codesAt t j) (codeOf (slotAt t j))) 10) lo n e t l h) (y .low))
+      rw (y .slot, y .codes) (all-below (λ (i : ℕ). p (codesAt t i) (slotAt t i)) 10 (y .place) (ranged (λ (t : ℕ). allBelow (λ (j : ℕ). p (codesAt t j) (slotAt t j)) 10) lo n e t l h) (y .low))
 
-isCode : ℕ → ℕ → Bool
-isCode w c = eqb (w % 256) c && leb c 26
+isCode : ℕ → Slot → Bool
+isCode w s = eqb (w % 256) (codeOf s) && leb (keyIn s) POLICY
 
-slot-none : (t j : ℕ) → 50 ≤ t → codeOf (slotAt t j) ≡ 0
-unfolding slotAt formOf forms codeOf
-slot-none t j h =
-    let f : formOf t ≡ noForm = List·getD-eq-default forms noForm h in
-    ap (λ (x : Form). codeOf (slotIn x j)) f ∙ go (decLt j 1)
+slot-none : (t j : ℕ) → noTag ≤ t → slotAt t j ≡ nothing
+unfolding slotAt
+slot-none t j h = ap (λ (x : Form). slotIn x j) (no-form t h) ∙ go (decLt j 1)
   where
-    go : Dec (j < 1) → codeOf (slotIn noForm j) ≡ 0
+    go : Dec (j < 1) → slotIn noForm j ≡ nothing
     go (yes l) = let z : j ≡ 0 = omega arith in rw z refl
     go (no l) = rw (le-ltb j 1 (omega arith)) refl
 
-code-some : (t j : ℕ) → t < 50 → isCode (codesAt t j) (codeOf (slotAt t j)) ≡ true
-unfolding isCode codesAt formCodes againCodes forms formOf slotAt codeOf
-code-some t j l = every-place isCode 0 50 refl t j (omega arith) l
+code-some : (t j : ℕ) → t < noTag → isCode (codesAt t j) (slotAt t j) ≡ true
+unfolding isCode codesAt formCode againCode coded forms formOf slotAt codeOf keyIn
+code-some t j l = every-place isCode 0 noTag refl t j (omega arith) l
 
-pub code-at : (t j w c : ℕ) → w ≡ codesAt t j → c ≡ w % 256 → (c ≡ codeOf (slotAt t j)) × (c ≤ 26)
-unfolding isCode
-code-at t j w c hw hc = go (decLt t 50)
+pub code-at : (t j w c : ℕ) → w ≡ codesAt t j → c ≡ w % 256 → (c ≡ codeOf (slotAt t j)) × (keyIn (slotAt t j) ≤ POLICY)
+unfolding isCode codeOf keyIn
+code-at t j w c hw hc = go (decLt t noTag)
   where
-    go : Dec (t < 50) → (c ≡ codeOf (slotAt t j)) × (c ≤ 26)
+    go : Dec (t < noTag) → (c ≡ codeOf (slotAt t j)) × (keyIn (slotAt t j) ≤ POLICY)
     go (yes l) =
-        let b = and-eq-true-iff (eqb (codesAt t j % 256) (codeOf (slotAt t j))) (leb (codeOf (slotAt t j)) 26) .0 (code-some t j l) in
+        let b = and-eq-true-iff (eqb (codesAt t j % 256) (codeOf (slotAt t j))) (leb (keyIn (slotAt t j)) POLICY) .0 (code-some t j l) in
         let q : c ≡ codeOf (slotAt t j) = hc ∙ ap (λ (x : ℕ). x % 256) hw ∙ eqb-true (codesAt t j % 256) (codeOf (slotAt t j)) (b .0) in
-        (q, omega (arith, q, leb-true (codeOf (slotAt t j)) 26 (b .1)))
+        (q, leb-true (keyIn (slotAt t j)) POLICY (b .1))
     go (no l) =
         let z : w ≡ 0 = hw ∙ codes-none t j (omega arith) in
-        let q : c ≡ codeOf (slotAt t j) = hc ∙ ap (λ (x : ℕ). x % 256) z ∙ sym (slot-none t j (omega arith)) in
-        (q, omega (arith, hc, z))
+        let s : slotAt t j ≡ nothing = slot-none t j (omega arith) in
+        let q : c ≡ codeOf (slotAt t j) = hc ∙ ap (λ (x : ℕ). x % 256) z ∙ sym (ap codeOf s) in
+        let m : keyIn (slotAt t j) ≡ 0 = ap keyIn s in
+        (q, omega (arith, m))
 
--- the forms before 24 refer to no node
-isOther : ℕ → ℕ → Bool
-isOther w c = not (eqb c 23)
+-- the forms before those that work on nodes refer to none
+isOther : ℕ → Slot → Bool
+isOther w s = not (eqb (codeOf s) OF-NODE)
 
-pub no-node : (t j : ℕ) → t < 24 → eqb (codeOf (slotAt t j)) 23 ≡ false
-unfolding isOther codesAt formCodes againCodes forms formOf slotAt codeOf
-no-node t j h = go (eqb (codeOf (slotAt t j)) 23) (every-place isOther 0 24 refl t j (omega arith) h)
+pub no-node : (t j : ℕ) → t < AND → eqb (codeOf (slotAt t j)) OF-NODE ≡ false
+unfolding isOther codesAt formCode againCode coded forms formOf slotAt codeOf
+no-node t j h = go (eqb (codeOf (slotAt t j)) OF-NODE) (every-place isOther 0 AND refl t j (omega arith) h)
   where
     go : (b : Bool) → not b ≡ true → b ≡ false
     go true e = sym e
@@ -232,28 +183,36 @@ no-node t j h = go (eqb (codeOf (slotAt t j)) 23) (every-place isOther 0 24 refl
 
 -- ---- the first places of nodes
 
+isAt : ℕ → Slot → Bool
+isAt v s = eqb v (codeOf s) && leb (keyIn s) POLICY
+
 module _ (t j : ℕ) where
-  placed-by : (v i lo n : ℕ) → v ≤ 26 → allBelow (λ (x : ℕ). eqb v (codeOf (slotAt (lo + x) i))) n ≡ true → lo ≤ t → t < lo + n → j ≡ i → (v ≡ codeOf (slotAt t j)) × (v ≤ 26)
-  placed-by v i lo n m e l h q =
-      let p : v ≡ codeOf (slotAt t i) = eqb-true v (codeOf (slotAt t i)) (ranged (λ (x : ℕ). eqb v (codeOf (slotAt x i))) lo n e t l h) in
-      (p ∙ ap (λ (x : ℕ). codeOf (slotAt t x)) (sym q), m)
+  placed-by : (v i lo n : ℕ) → allBelow (λ (x : ℕ). isAt v (slotAt (lo + x) i)) n ≡ true → lo ≤ t → t < lo + n → j ≡ i → (v ≡ codeOf (slotAt t j)) × (keyIn (slotAt t j) ≤ POLICY)
+  unfolding isAt
+  placed-by v i lo n e l h q =
+      let b = and-eq-true-iff (eqb v (codeOf (slotAt t i))) (leb (keyIn (slotAt t i)) POLICY) .0 (ranged (λ (x : ℕ). isAt v (slotAt x i)) lo n e t l h) in
+      (eqb-true v (codeOf (slotAt t i)) (b .0) ∙ ap (λ (x : ℕ). codeOf (slotAt t x)) (sym q), rw q (leb-true (keyIn (slotAt t i)) POLICY (b .1)))
 
-  pub node-type : (21 ≤ t) × (t < 48) → j ≡ 0 → (7 ≡ codeOf (slotAt t j)) × (7 ≤ 26)
-  unfolding forms formOf slotAt codeOf
-  node-type b = placed-by 7 0 21 27 (omega arith) refl (b .0) (b .1)
+  pub node-type : (LIT ≤ t) × (t < RECORD-OF) → j ≡ 0 → (OF-TYPE ≡ codeOf (slotAt t j)) × (keyIn (slotAt t j) ≤ POLICY)
+  unfolding codeOf keyIn
+  node-type b q =
+      let s : slotAt t j ≡ line TYPE = ap (slotAt t) q ∙ node-slot t (b .0) (omega (arith, b .1)) in
+      (sym (ap codeOf s), omega (arith, ap keyIn s))
 
-  pub node-first : (21 ≤ t) × (t < 48) → 24 ≤ t → j ≡ 1 → (23 ≡ codeOf (slotAt t j)) × (23 ≤ 26)
-  unfolding forms formOf slotAt codeOf
-  node-first b l = placed-by 23 1 24 24 (omega arith) refl l (b .1)
+  pub node-first : (LIT ≤ t) × (t < RECORD-OF) → AND ≤ t → j ≡ 1 → (OF-NODE ≡ codeOf (slotAt t j)) × (keyIn (slotAt t j) ≤ POLICY)
+  unfolding forms formOf slotAt codeOf keyIn isAt
+  node-first b l = placed-by OF-NODE 1 AND (RECORD-OF - AND) refl l (b .1)
 
-  pub node-second : 24 ≤ t → t < 39 → j ≡ 2 → (23 ≡ codeOf (slotAt t j)) × (23 ≤ 26)
-  unfolding forms formOf slotAt codeOf
-  node-second = placed-by 23 2 24 15 (omega arith) refl
+  pub node-second : AND ≤ t → t < IS → j ≡ 2 → (OF-NODE ≡ codeOf (slotAt t j)) × (keyIn (slotAt t j) ≤ POLICY)
+  unfolding forms formOf slotAt codeOf keyIn isAt
+  node-second = placed-by OF-NODE 2 AND (IS - AND) refl
 
-  pub leaf-value : t ≡ 21 → j ≡ 1 → (11 ≡ codeOf (slotAt t j)) × (11 ≤ 26)
-  unfolding forms formOf slotAt codeOf
-  leaf-value e = placed-by 11 1 21 1 (omega arith) refl (omega arith) (omega arith)
+  pub leaf-value : t ≡ LIT → j ≡ 1 → (OF-VALUE ≡ codeOf (slotAt t j)) × (keyIn (slotAt t j) ≤ POLICY)
+  unfolding forms formOf slotAt codeOf keyIn isAt
+  leaf-value e = placed-by OF-VALUE 1 LIT 1 refl (omega arith) (omega arith)
 
-  pub leaf-other : 22 ≤ t → t < 24 → j ≡ 1 → (0 ≡ codeOf (slotAt t j)) × (0 ≤ 26)
-  unfolding forms formOf slotAt codeOf
-  leaf-other = placed-by 0 1 22 2 (omega arith) refl
+  pub leaf-other : ERR ≤ t → t < AND → (codeOf (slotAt t 1) < LINE) × (keyIn (slotAt t 1) ≤ POLICY)
+  unfolding forms formOf slotAt codeOf keyIn
+  leaf-other l h =
+      let b = and-eq-true-iff (leb (codeOf (slotAt t 1)) EFFECT) (leb (keyIn (slotAt t 1)) POLICY) .0 (ranged (λ (x : ℕ). leb (codeOf (slotAt x 1)) EFFECT && leb (keyIn (slotAt x 1)) POLICY) ERR (AND - ERR) refl t l h) in
+      (omega (arith, leb-true (codeOf (slotAt t 1)) EFFECT (b .0)), leb-true (keyIn (slotAt t 1)) POLICY (b .1))

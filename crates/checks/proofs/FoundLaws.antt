@@ -2,7 +2,10 @@
 use mathlib.Core.Path.{_≡_, refl, sym, ap, ap₂, subst, _∙_}
 use mathlib.Core.Bool.{Bool, true, false, cond, not, _&&_, _||_, and-eq-true-iff}
 use mathlib.Core.List.{List, [], _∷_}
-use Prim.Native.Nat.{ℕ, zero, suc, _+_, _-_, _*_, _/_, _%_, _≤_, _<_}
+use mathlib.Core.Logic.{_⊎_, inl, inr}
+use Prim.Native.String.{String}
+use Rattle.sheet.specs.Ascii.{ascii}
+use Prim.Native.Nat.{ℕ, zero, suc, _+_, _-_, _%_, _≤_, _<_}
 use native.Mathlib.Numerals.{add-one}
 use native.Mathlib.Omega.{arith}
 use borrow.Author.Tests.{eq-eqb, ne-eqb, lt-ltb, le-ltb, lt-leb, le-leb, leb-true, not-true, not-false}
@@ -11,29 +14,60 @@ use lib.ListN.{length, getD, drop, drop-of-length-le, length-drop}
 use lib.Seq.{drop-cons, getD-drop}
 use Rattle.cedar.specs.Numbered.{memN}
 use Rattle.sheet.specs.Bytes.{same}
-use Rattle.sheet.specs.Forms.{Slot, entry, line, lineOr, lineUnknown, word, number, nothing, Form, forms, formOf, noForm, slotAt, tag, items, at, mark, everyFrom, refs, ascendings}
+use Rattle.sheet.specs.Forms.{Slot, entry, line, lineOr, lineUnknown, word, number, nothing, dash, Form, forms, formOf, noForm, slotAt, tag, items, at, mark, everyFrom, refs, ascendings, TEXT, KIND, TYPE, VALUE, ENTITY, NODE, POLICY}
 use Rattle.sheet.specs.State.{linesOf, lineAt, count}
 use Rattle.sheet.specs.Sheet.{thereIs, allThere, ascend, among, firsts, above, fresh, found, deepest, depth}
 use Rattle.table.specs.Layout.{held, part, rowsOf, textRow}
 use Rattle.table.proofs.Rows.{count-held, count-rows, lines-held}
-use Rattle.checks.specs.Codes.{codeOf}
+use Rattle.cedar.proofs.Tools.{no-true}
+use Rattle.forms.specs.declared.Form as F
+use Rattle.forms.specs.Rows.{KIND-LETTER, FIELD-LETTER, BIT, PART-LETTER, EFFECT, LINE, UNKNOWN, DASH, STAR, wordCode, coded, code as codeOf}
+use Rattle.forms.specs.Tags.{TEXT-LINE}
+use Rattle.forms.proofs.Table.{items-are, rises-are}
+use Rattle.checks.specs.Codes.{keyIn}
 use Rattle.checks.specs.Depths.{ThereAs, thereDepth}
-use Rattle.checks.proofs.FormTable.{stepIn}
+use Rattle.checks.proofs.FormTable.{stepIn, step-some, step-none}
 use Rattle.checks.proofs.OrderLaws.{rowsHeld}
 
 -- ---- what an item refers to
 
-half-odd : (k : ℕ) → (2 * k + 1 - 1) / 2 ≡ k
-half-odd k = omega arith
+word-low : (w : String) → wordCode w ≤ EFFECT
+word-low w = go (same (ascii w) (ascii "e")) (same (ascii w) (ascii "o")) (same (ascii w) (ascii "0")) (same (ascii w) (ascii "p"))
+  where
+    go : (a b c d : Bool) → cond a KIND-LETTER (cond b FIELD-LETTER (cond c BIT (cond d PART-LETTER EFFECT))) ≤ EFFECT
+    go true b c d = omega arith
+    go false true c d = omega arith
+    go false false true d = omega arith
+    go false false false true = omega arith
+    go false false false false = omega arith
 
-half-even : (k : ℕ) → (2 * k + 2 - 1) / 2 ≡ k
-half-even k = omega arith
+pub words-low : (ws : List String) → codeOf (word ws) ≤ EFFECT
+unfolding codeOf
+words-low [] = omega arith
+words-low (w ∷ ws) = word-low w
 
-rem-odd : (k : ℕ) → (2 * k + 1) % 2 ≡ 1
-rem-odd k = omega arith
+-- a line of key k, or a mark, has the number of a mark and k
+pub marks-high : (b k : ℕ) → (codeOf (lineOr b k) ≡ DASH + k) ⊎ (codeOf (lineOr b k) ≡ STAR + k)
+unfolding codeOf
+marks-high b k = go (eqb b dash)
+  where
+    go : (y : Bool) → (cond y DASH STAR + k ≡ DASH + k) ⊎ (cond y DASH STAR + k ≡ STAR + k)
+    go true = inl refl
+    go false = inr refl
 
-rem-even : (k : ℕ) → (2 * k + 2) % 2 ≡ 0
-rem-even k = omega arith
+key-mark : (b k : ℕ) → k ≤ POLICY → codeOf (lineOr b k) % LINE ≡ k
+key-mark b k h = go (marks-high b k)
+  where
+    go : (codeOf (lineOr b k) ≡ DASH + k) ⊎ (codeOf (lineOr b k) ≡ STAR + k) → codeOf (lineOr b k) % LINE ≡ k
+    go (inl e) = omega (arith, e)
+    go (inr e) = omega (arith, e)
+
+pub mark-high : (b k : ℕ) → DASH ≤ codeOf (lineOr b k)
+mark-high b k = go (marks-high b k)
+  where
+    go : (codeOf (lineOr b k) ≡ DASH + k) ⊎ (codeOf (lineOr b k) ≡ STAR + k) → DASH ≤ codeOf (lineOr b k)
+    go (inl e) = omega (arith, e)
+    go (inr e) = omega (arith, e)
 
 or-true : (x : Bool) → (x || true) ≡ true
 or-true true = refl
@@ -44,77 +78,65 @@ or-false true = refl
 or-false false = refl
 
 module _ (a : List ℕ) (x : ℕ) where
-  there-none : (s : Slot) → codeOf s ≡ 0 → true ≡ thereIs (rowsHeld a) s x
+  there-none : (s : Slot) → codeOf s < LINE → true ≡ thereIs (rowsHeld a) s x
   unfolding codeOf
   there-none entry e = refl
   there-none (line k) e = absurd (omega arith)
-  there-none (lineOr b k) e = absurd (omega arith)
+  there-none (lineOr b k) e = absurd (omega (arith, mark-high b k))
   there-none (lineUnknown k) e = absurd (omega arith)
   there-none (word ws) e = refl
   there-none number e = refl
   there-none nothing e = refl
 
-  there-in : (s : Slot) (n : ℕ) → (codeOf s ≡ 0 → ⊥) → codeOf s ≤ 26 → n ≡ getD a ((codeOf s - 1) / 2) 0 → x < n → true ≡ thereIs (rowsHeld a) s x
-  unfolding codeOf
-  there-in entry n z l e h = absurd (z refl)
-  there-in (line k) n z l e h =
-      let c : n ≡ count (rowsHeld a) k = e ∙ ap (λ (i : ℕ). getD a i 0) (half-odd k) ∙ sym (count-held [] a [] k (omega arith)) in
-      sym (rw (← c) (lt-ltb x n h))
-  there-in (lineOr b k) n z l e h =
-      let c : n ≡ count (rowsHeld a) k = e ∙ ap (λ (i : ℕ). getD a i 0) (half-even k) ∙ sym (count-held [] a [] k (omega arith)) in
-      sym (rw (← c, lt-ltb x n h) (or-true (eqb x mark)))
-  there-in (lineUnknown k) n z l e h =
-      let c : n ≡ count (rowsHeld a) k = e ∙ ap (λ (i : ℕ). getD a i 0) (half-even k) ∙ sym (count-held [] a [] k (omega arith)) in
-      sym (rw (← c, lt-ltb x n h) (or-true (eqb x mark)))
-  there-in (word ws) n z l e h = absurd (z refl)
-  there-in number n z l e h = absurd (z refl)
-  there-in nothing n z l e h = absurd (z refl)
+  counted : (n k m : ℕ) → k ≤ POLICY → n ≡ getD a m 0 → m ≡ k → n ≡ count (rowsHeld a) k
+  counted n k m l e q = e ∙ ap (λ (i : ℕ). getD a i 0) q ∙ sym (count-held [] a [] k (omega arith))
 
-  there-out : (s : Slot) (n : ℕ) → (codeOf s ≡ 0 → ⊥) → codeOf s ≤ 26 → n ≡ getD a ((codeOf s - 1) / 2) 0 → n ≤ x → codeOf s % 2 ≡ 1 → false ≡ thereIs (rowsHeld a) s x
-  unfolding codeOf
-  there-out entry n z l e h o = absurd (z refl)
-  there-out (line k) n z l e h o =
-      let c : n ≡ count (rowsHeld a) k = e ∙ ap (λ (i : ℕ). getD a i 0) (half-odd k) ∙ sym (count-held [] a [] k (omega arith)) in
-      sym (rw (← c) (le-ltb x n h))
-  there-out (lineOr b k) n z l e h o = absurd (omega (arith, rem-even k, o))
-  there-out (lineUnknown k) n z l e h o = absurd (omega (arith, rem-even k, o))
-  there-out (word ws) n z l e h o = absurd (z refl)
-  there-out number n z l e h o = absurd (z refl)
-  there-out nothing n z l e h o = absurd (z refl)
+  there-in : (s : Slot) (n : ℕ) → LINE ≤ codeOf s → keyIn s ≤ POLICY → n ≡ getD a (codeOf s % LINE) 0 → x < n → true ≡ thereIs (rowsHeld a) s x
+  unfolding codeOf keyIn
+  there-in entry n z l e h = absurd (omega arith)
+  there-in (line k) n z l e h = sym (rw (← counted n k ((LINE + k) % LINE) l e (omega arith)) (lt-ltb x n h))
+  there-in (lineOr b k) n z l e h = sym (rw (← counted n k (codeOf (lineOr b k) % LINE) l e (key-mark b k l), lt-ltb x n h) (or-true (eqb x mark)))
+  there-in (lineUnknown k) n z l e h = sym (rw (← counted n k ((UNKNOWN + k) % LINE) l e (omega arith), lt-ltb x n h) (or-true (eqb x mark)))
+  there-in (word ws) n z l e h = absurd (omega (arith, words-low ws))
+  there-in number n z l e h = absurd (omega arith)
+  there-in nothing n z l e h = absurd (omega arith)
 
-  there-mark : (s : Slot) (n : ℕ) → (codeOf s ≡ 0 → ⊥) → codeOf s ≤ 26 → n ≡ getD a ((codeOf s - 1) / 2) 0 → n ≤ x → (codeOf s % 2 ≡ 1 → ⊥) → eqb x 10000 ≡ thereIs (rowsHeld a) s x
-  unfolding codeOf
-  there-mark entry n z l e h o = absurd (z refl)
-  there-mark (line k) n z l e h o = absurd (o (rem-odd k))
-  there-mark (lineOr b k) n z l e h o =
-      let c : n ≡ count (rowsHeld a) k = e ∙ ap (λ (i : ℕ). getD a i 0) (half-even k) ∙ sym (count-held [] a [] k (omega arith)) in
-      sym (rw (← c, le-ltb x n h) (or-false (eqb x mark)))
-  there-mark (lineUnknown k) n z l e h o =
-      let c : n ≡ count (rowsHeld a) k = e ∙ ap (λ (i : ℕ). getD a i 0) (half-even k) ∙ sym (count-held [] a [] k (omega arith)) in
-      sym (rw (← c, le-ltb x n h) (or-false (eqb x mark)))
-  there-mark (word ws) n z l e h o = absurd (z refl)
-  there-mark number n z l e h o = absurd (z refl)
-  there-mark nothing n z l e h o = absurd (z refl)
+  there-out : (s : Slot) (n : ℕ) → LINE ≤ codeOf s → keyIn s ≤ POLICY → n ≡ getD a (codeOf s % LINE) 0 → n ≤ x → codeOf s < UNKNOWN → false ≡ thereIs (rowsHeld a) s x
+  unfolding codeOf keyIn
+  there-out entry n z l e h o = absurd (omega arith)
+  there-out (line k) n z l e h o = sym (rw (← counted n k ((LINE + k) % LINE) l e (omega arith)) (le-ltb x n h))
+  there-out (lineOr b k) n z l e h o = absurd (omega (arith, mark-high b k))
+  there-out (lineUnknown k) n z l e h o = absurd (omega arith)
+  there-out (word ws) n z l e h o = absurd (omega (arith, words-low ws))
+  there-out number n z l e h o = absurd (omega arith)
+  there-out nothing n z l e h o = absurd (omega arith)
+
+  there-mark : (s : Slot) (n : ℕ) → UNKNOWN ≤ codeOf s → keyIn s ≤ POLICY → n ≡ getD a (codeOf s % LINE) 0 → n ≤ x → eqb x mark ≡ thereIs (rowsHeld a) s x
+  unfolding codeOf keyIn
+  there-mark entry n z l e h = absurd (omega arith)
+  there-mark (line k) n z l e h = absurd (omega arith)
+  there-mark (lineOr b k) n z l e h = sym (rw (← counted n k (codeOf (lineOr b k) % LINE) l e (key-mark b k l), le-ltb x n h) (or-false (eqb x mark)))
+  there-mark (lineUnknown k) n z l e h = sym (rw (← counted n k ((UNKNOWN + k) % LINE) l e (omega arith), le-ltb x n h) (or-false (eqb x mark)))
+  there-mark (word ws) n z l e h = absurd (omega (arith, words-low ws))
+  there-mark number n z l e h = absurd (omega arith)
+  there-mark nothing n z l e h = absurd (omega arith)
 
 module _ (a : List ℕ) (c x : ℕ) where
-  pub ref-none : c ≡ 0 → ThereAs a c x true
-  ref-none z = record { is = λ s hc. there-none a x s (sym (hc .0) ∙ z) }
+  pub ref-none : c < LINE → ThereAs a c x true
+  ref-none z = record { is = λ s hc. there-none a x s (omega (arith, hc .0)) }
 
-  module _ (n : ℕ) (z : c ≡ 0 → ⊥) (e : n ≡ getD a ((c - 1) / 2) 0) where
-    some-code : (s : Slot) → c ≡ codeOf s → codeOf s ≡ 0 → ⊥
-    some-code s h q = z (h ∙ q)
-
-    count-code : (s : Slot) → c ≡ codeOf s → n ≡ getD a ((codeOf s - 1) / 2) 0
-    count-code s h = e ∙ ap (λ (y : ℕ). getD a ((y - 1) / 2) 0) h
+  module _ (n : ℕ) (z : LINE ≤ c) (e : n ≡ getD a (c % LINE) 0) where
+    count-code : (s : Slot) → c ≡ codeOf s → n ≡ getD a (codeOf s % LINE) 0
+    count-code s h = e ∙ ap (λ (y : ℕ). getD a (y % LINE) 0) h
 
     pub ref-in : x < n → ThereAs a c x true
-    ref-in h = record { is = λ s hc. there-in a x s n (some-code s (hc .0)) (omega (arith, hc .0, hc .1)) (count-code s (hc .0)) h }
+    ref-in h = record { is = λ s hc. there-in a x s n (omega (arith, hc .0)) (hc .1) (count-code s (hc .0)) h }
 
-    pub ref-out : n ≤ x → c % 2 ≡ 1 → ThereAs a c x false
-    ref-out h o = record { is = λ s hc. there-out a x s n (some-code s (hc .0)) (omega (arith, hc .0, hc .1)) (count-code s (hc .0)) h (ap (λ (y : ℕ). y % 2) (sym (hc .0)) ∙ o) }
+    pub ref-out : n ≤ x → c < UNKNOWN → ThereAs a c x false
+    ref-out h o = record { is = λ s hc. there-out a x s n (omega (arith, hc .0)) (hc .1) (count-code s (hc .0)) h (omega (arith, hc .0)) }
 
-    pub ref-mark : n ≤ x → (c % 2 ≡ 1 → ⊥) → ThereAs a c x (eqb x 10000)
-    ref-mark h o = record { is = λ s hc. there-mark a x s n (some-code s (hc .0)) (omega (arith, hc .0, hc .1)) (count-code s (hc .0)) h (λ q. o (ap (λ (y : ℕ). y % 2) (hc .0) ∙ q)) }
+    pub ref-mark : n ≤ x → UNKNOWN ≤ c → ThereAs a c x (eqb x mark)
+    ref-mark h o = record { is = λ s hc. there-mark a x s n (omega (arith, hc .0)) (hc .1) (count-code s (hc .0)) h }
 
 -- ---- a row's items in turn
 
@@ -224,6 +246,28 @@ rising-start r t m n ht hm z hn =
       near = omega (arith, hn .1);
     }
 
+-- by the row of the table
+module _ (r : List ℕ) (t : ℕ) (q : F.Form) (ht : t ≡ tag r) (e : q ≡ coded (formOf t)) where
+  pub rises-flat : not (q .rises) ≡ true → true ≡ ascend 0 (ascendings r)
+  rises-flat h = rises-none r t 0 ht (step-none t q e (flat (q .rises) h)) refl
+    where
+      flat : (b : Bool) → not b ≡ true → b ≡ false
+      flat true h = sym h
+      flat false h = refl
+
+  pub rising-first : not (q .rises) ≡ false → Rising r (q .group) 0 (q .items)
+  rising-first h = rising-start r t (q .group) (q .items) ht s (λ z. never z) (items-are t q e)
+    where
+      up : (b : Bool) → not b ≡ false → b ≡ true
+      up true h = refl
+      up false h = sym h
+
+      s : (q .group ≡ stepIn (formOf t)) × (q .group ≤ 3)
+      s = step-some t q e (up (q .rises) h)
+
+      never : q .group ≡ 0 → ⊥
+      never z = no-true (sym (none-rise (formOf t) (all-grouped t) (sym (s .0) ∙ z)) ∙ sym (rises-are t q e) ∙ up (q .rises) h)
+
 items-at : (r : List ℕ) (j : ℕ) → getD (items r) j 0 ≡ getD r (j + 1) 0
 items-at r j = let e : 1 + j ≡ j + 1 = omega arith in getD-drop 1 r j 0 ∙ ap (λ (i : ℕ). getD r i 0) e
 
@@ -255,12 +299,12 @@ module _ (a : List ℕ) (k n i : ℕ) (hn : n ≡ getD a k 0) where
 
 -- ---- a text's row
 
-pub text-not : (sheet q text : List ℕ) (t : ℕ) → t ≡ tag q → (t ≡ 1 → ⊥) → false ≡ same (1 ∷ text) (textRow sheet q)
-text-not sheet q text t e n = sym (rw (← e, ne-eqb 1 t (λ z. n (sym z))) refl)
+pub text-not : (sheet q text : List ℕ) (t : ℕ) → t ≡ tag q → (t ≡ TEXT-LINE → ⊥) → false ≡ same (TEXT-LINE ∷ text) (textRow sheet q)
+text-not sheet q text t e n = sym (rw (← e, ne-eqb TEXT-LINE t (λ z. n (sym z))) refl)
 
-pub text-same : (sheet q text : List ℕ) (t s n : ℕ) (b : Bool) (x : List ℕ) → t ≡ tag q → t ≡ 1 → s ≡ getD q 1 0 → n ≡ getD q 2 0 → x ≡ part sheet s (s + n) → b ≡ same text x
-    → b ≡ same (1 ∷ text) (textRow sheet q)
-text-same sheet q text t s n b x e o hs hn hx hb = hb ∙ sym (rw (← e, eq-eqb 1 t (sym o), ← hs, ← hn, ← hx) refl)
+pub text-same : (sheet q text : List ℕ) (t s n : ℕ) (b : Bool) (x : List ℕ) → t ≡ tag q → t ≡ TEXT-LINE → s ≡ getD q 1 0 → n ≡ getD q 2 0 → x ≡ part sheet s (s + n) → b ≡ same text x
+    → b ≡ same (TEXT-LINE ∷ text) (textRow sheet q)
+text-same sheet q text t s n b x e o hs hn hx hb = hb ∙ sym (rw (← e, eq-eqb TEXT-LINE t (sym o), ← hs, ← hn, ← hx) refl)
 
 -- ---- a name among others
 
@@ -286,41 +330,41 @@ module _ (x : ℕ) (a : List ℕ) (k n i : ℕ) (s : Named x a k i) (hn : n ≡ 
 
 -- ---- order of entities
 
-pub above-first : (a r : List ℕ) (n : ℕ) → n ≡ getD a 6 0 → n ≡ 0 → true ≡ above (rowsHeld a) 6 r
-above-first a r n e z = sym (rw (count-held [] a [] 6 (omega arith), ← e, z) refl)
+pub above-first : (a r : List ℕ) (n : ℕ) → n ≡ getD a ENTITY 0 → n ≡ 0 → true ≡ above (rowsHeld a) ENTITY r
+above-first a r n e z = sym (rw (count-held [] a [] ENTITY (omega arith), ← e, z) refl)
 
-pub above-last : (a r q : List ℕ) (n x y : ℕ) → n ≡ getD a 6 0 → (n ≡ 0 → ⊥) → q ≡ getD (rowsOf a 6) (n - 1) [] → x ≡ getD q 1 0 → y ≡ getD r 1 0 → ltb x y ≡ above (rowsHeld a) 6 r
+pub above-last : (a r q : List ℕ) (n x y : ℕ) → n ≡ getD a ENTITY 0 → (n ≡ 0 → ⊥) → q ≡ getD (rowsOf a ENTITY) (n - 1) [] → x ≡ getD q 1 0 → y ≡ getD r 1 0 → ltb x y ≡ above (rowsHeld a) ENTITY r
 above-last a r q n x y e z hq hx hy =
-    let c : count (rowsHeld a) 6 ≡ n = count-held [] a [] 6 (omega arith) ∙ sym e in
-    let l : linesOf (rowsHeld a) 6 ≡ rowsOf a 6 = lines-held [] a [] 6 (omega arith) (λ q. absurd (omega arith)) in
-    let f : x ≡ at (lineAt (rowsHeld a) 6 (count (rowsHeld a) 6 - 1)) 0 = hx ∙ ap (λ (w : List ℕ). getD w 1 0) (hq ∙ ap₂ (λ (rs : List (List ℕ)) (i : ℕ). getD rs (i - 1) []) (sym l) (sym c)) in
+    let c : count (rowsHeld a) ENTITY ≡ n = count-held [] a [] ENTITY (omega arith) ∙ sym e in
+    let l : linesOf (rowsHeld a) ENTITY ≡ rowsOf a ENTITY = lines-held [] a [] ENTITY (omega arith) (λ q. absurd (omega arith)) in
+    let f : x ≡ at (lineAt (rowsHeld a) ENTITY (count (rowsHeld a) ENTITY - 1)) 0 = hx ∙ ap (λ (w : List ℕ). getD w 1 0) (hq ∙ ap₂ (λ (rs : List (List ℕ)) (i : ℕ). getD rs (i - 1) []) (sym l) (sym c)) in
     sym (rw (← f, c, ne-eqb n 0 z, ← hy) refl)
 
 -- ---- new lines
 
 module _ (a : List ℕ) (k : ℕ) (r : List ℕ) where
   module _ (b : Bool) (hb : b ≡ among r (rowsOf a k)) where
-    pub fresh-type : k ≡ 3 → not b ≡ fresh (rowsHeld a) k r
-    fresh-type e = sym (rw e (ap (λ (l : List (List ℕ)). not (among r l)) (lines-held [] a [] 3 (omega arith) (λ q. absurd (omega arith)) ∙ ap (rowsOf a) (sym e)) ∙ ap not (sym hb)))
+    pub fresh-type : k ≡ TYPE → not b ≡ fresh (rowsHeld a) k r
+    fresh-type e = sym (rw e (ap (λ (l : List (List ℕ)). not (among r l)) (lines-held [] a [] TYPE (omega arith) (λ q. absurd (omega arith)) ∙ ap (rowsOf a) (sym e)) ∙ ap not (sym hb)))
 
-    pub fresh-value : k ≡ 5 → not b ≡ fresh (rowsHeld a) k r
-    fresh-value e = sym (rw e (ap (λ (l : List (List ℕ)). not (among r l)) (lines-held [] a [] 5 (omega arith) (λ q. absurd (omega arith)) ∙ ap (rowsOf a) (sym e)) ∙ ap not (sym hb)))
+    pub fresh-value : k ≡ VALUE → not b ≡ fresh (rowsHeld a) k r
+    fresh-value e = sym (rw e (ap (λ (l : List (List ℕ)). not (among r l)) (lines-held [] a [] VALUE (omega arith) (λ q. absurd (omega arith)) ∙ ap (rowsOf a) (sym e)) ∙ ap not (sym hb)))
 
   module _ (b : Bool) (x : ℕ) (hx : x ≡ getD r 1 0) (hb : b ≡ memN x (firsts (rowsOf a k))) where
-    pub fresh-kind : k ≡ 2 → not b ≡ fresh (rowsHeld a) k r
-    fresh-kind e = sym (rw e (ap₂ (λ (y : ℕ) (l : List (List ℕ)). not (memN y (firsts l))) (sym hx) (lines-held [] a [] 2 (omega arith) (λ q. absurd (omega arith)) ∙ ap (rowsOf a) (sym e)) ∙ ap not (sym hb)))
+    pub fresh-kind : k ≡ KIND → not b ≡ fresh (rowsHeld a) k r
+    fresh-kind e = sym (rw e (ap₂ (λ (y : ℕ) (l : List (List ℕ)). not (memN y (firsts l))) (sym hx) (lines-held [] a [] KIND (omega arith) (λ q. absurd (omega arith)) ∙ ap (rowsOf a) (sym e)) ∙ ap not (sym hb)))
 
-    pub fresh-policy : k ≡ 12 → not b ≡ fresh (rowsHeld a) k r
-    fresh-policy e = sym (rw e (ap₂ (λ (y : ℕ) (l : List (List ℕ)). not (memN y (firsts l))) (sym hx) (lines-held [] a [] 12 (omega arith) (λ q. absurd (omega arith)) ∙ ap (rowsOf a) (sym e)) ∙ ap not (sym hb)))
+    pub fresh-policy : k ≡ POLICY → not b ≡ fresh (rowsHeld a) k r
+    fresh-policy e = sym (rw e (ap₂ (λ (y : ℕ) (l : List (List ℕ)). not (memN y (firsts l))) (sym hx) (lines-held [] a [] POLICY (omega arith) (λ q. absurd (omega arith)) ∙ ap (rowsOf a) (sym e)) ∙ ap not (sym hb)))
 
-  pub fresh-entity : (b : Bool) → b ≡ above (rowsHeld a) 6 r → k ≡ 6 → b ≡ fresh (rowsHeld a) k r
+  pub fresh-entity : (b : Bool) → b ≡ above (rowsHeld a) ENTITY r → k ≡ ENTITY → b ≡ fresh (rowsHeld a) k r
   fresh-entity b hb e = hb ∙ sym (rw e refl)
 
-  pub fresh-node : k ≡ 11 → true ≡ fresh (rowsHeld a) k r
+  pub fresh-node : k ≡ NODE → true ≡ fresh (rowsHeld a) k r
   fresh-node e = sym (rw e refl)
 
-  pub fresh-other : (k ≡ 1 → ⊥) → (k ≡ 3 → ⊥) → (k ≡ 5 → ⊥) → (k ≡ 2 → ⊥) → (k ≡ 12 → ⊥) → (k ≡ 6 → ⊥) → true ≡ fresh (rowsHeld a) k r
-  fresh-other n₁ n₃ n₅ n₂ n₁₂ n₆ = sym (rw (ne-eqb k 1 n₁, ne-eqb k 3 n₃, ne-eqb k 5 n₅, ne-eqb k 2 n₂, ne-eqb k 12 n₁₂, ne-eqb k 6 n₆) refl)
+  pub fresh-other : (k ≡ TEXT → ⊥) → (k ≡ TYPE → ⊥) → (k ≡ VALUE → ⊥) → (k ≡ KIND → ⊥) → (k ≡ POLICY → ⊥) → (k ≡ ENTITY → ⊥) → true ≡ fresh (rowsHeld a) k r
+  fresh-other text type value kind policy entity = sym (rw (ne-eqb k TEXT text, ne-eqb k TYPE type, ne-eqb k VALUE value, ne-eqb k KIND kind, ne-eqb k POLICY policy, ne-eqb k ENTITY entity) refl)
 
   -- ---- all of 5, with the depth of 6
 

@@ -1,40 +1,36 @@
--- What an item refers to, as a number.
-use mathlib.Core.List.{List, [], _∷_}
+-- What an item refers to, as a number: that of the table of forms.
 use mathlib.Core.Bool.{cond}
-use Prim.Native.Nat.{ℕ, zero, suc, _+_, _*_, _/_}
+use Prim.Native.Nat.{ℕ, zero, suc, _+_, _*_, _/_, _%_, _^_}
 use lib.Dec.{eqb}
-use lib.ListN.{getD}
-use Rattle.sheet.specs.Forms.{Slot, entry, line, lineOr, lineUnknown, word, number, nothing}
+use Rattle.sheet.specs.Forms.{Slot, entry, line, lineOr, lineUnknown, word, number, nothing, formOf}
+use Rattle.forms.specs.declared.Form as F
+use Rattle.forms.specs.Rows.{coded}
 
--- an odd number for a line of a key, an even one where a mark may stand instead, 0 for an item that refers to no line
-unfoldable pub codeOf : Slot → ℕ
-codeOf entry = 0
-codeOf (line k) = 2 * k + 1
-codeOf (lineOr b k) = 2 * k + 2
-codeOf (lineUnknown k) = 2 * k + 2
-codeOf (word ws) = 0
-codeOf number = 0
-codeOf nothing = 0
+-- the key that an item refers to
+unfoldable pub keyIn : Slot → ℕ
+keyIn entry = 0
+keyIn (line k) = k
+keyIn (lineOr b k) = k
+keyIn (lineUnknown k) = k
+keyIn (word ws) = 0
+keyIn number = 0
+keyIn nothing = 0
 
--- what four items of each form refer to, those of its group after the others: a byte each, the first the lowest
-unfoldable pub formCodes : List ℕ
-formCodes =
-    0x0000_0000 ∷ 0x0000_0000 ∷ 0x0000_0003 ∷ 0x0000_0000 ∷ 0x0000_0000 ∷ 0x0000_0000 ∷ 0x0000_0005 ∷ 0x0000_0007 ∷ 0x0007_0003 ∷ 0x0005_0807
-    ∷ 0x0000_0000 ∷ 0x0000_0000 ∷ 0x0000_0003 ∷ 0x0000_0305 ∷ 0x0000_000b ∷ 0x0000_0b03 ∷ 0x0c0c_0c0b ∷ 0x0000_0405 ∷ 0x0000_0305 ∷ 0x0000_0405
-    ∷ 0x0000_0c07 ∷ 0x0000_0b07 ∷ 0x0000_0007 ∷ 0x0000_0007 ∷ 0x0017_1707 ∷ 0x0017_1707 ∷ 0x0017_1707 ∷ 0x0017_1707 ∷ 0x0017_1707 ∷ 0x0017_1707
-    ∷ 0x0017_1707 ∷ 0x0017_1707 ∷ 0x0017_1707 ∷ 0x0017_1707 ∷ 0x0017_1707 ∷ 0x0017_1707 ∷ 0x0017_1707 ∷ 0x0017_1707 ∷ 0x1717_1707 ∷ 0x0005_1707
-    ∷ 0x0004_1707 ∷ 0x0003_1707 ∷ 0x0003_1707 ∷ 0x0303_1707 ∷ 0x0000_1707 ∷ 0x0000_1707 ∷ 0x0000_1707 ∷ 0x0000_1707 ∷ 0x0017_0307 ∷ 0x0017_0003
-    ∷ []
+-- four places in one word, a byte each, the first the lowest
+abbrev pub packed : F.Form → ℕ
+packed r = r .first + 256 * (r .second + 256 * (r .third + 256 * r .fourth))
+
+-- those from place n on
+abbrev pub packedFrom : ℕ → ℕ → ℕ
+packedFrom n w = w / 2 ^ (n % 8 * 8)
+
+-- what the first four places of a form refer to, those of its group after the others
+unfoldable pub formCode : ℕ → ℕ
+formCode t = packed (coded (formOf t))
 
 -- the same of the group alone, which follows any number of times
-unfoldable pub againCodes : List ℕ
-againCodes =
-    0x0000_0000 ∷ 0x0000_0000 ∷ 0x0000_0000 ∷ 0x0000_0000 ∷ 0x0000_0000 ∷ 0x0000_0000 ∷ 0x0000_0000 ∷ 0x0000_0000 ∷ 0x0007_0003 ∷ 0x0000_0005
-    ∷ 0x0000_0000 ∷ 0x0000_0000 ∷ 0x0000_0000 ∷ 0x0000_0000 ∷ 0x0000_000b ∷ 0x0000_0b03 ∷ 0x0000_0000 ∷ 0x0000_0000 ∷ 0x0000_0000 ∷ 0x0000_0000
-    ∷ 0x0000_0000 ∷ 0x0000_0000 ∷ 0x0000_0000 ∷ 0x0000_0000 ∷ 0x0000_0000 ∷ 0x0000_0000 ∷ 0x0000_0000 ∷ 0x0000_0000 ∷ 0x0000_0000 ∷ 0x0000_0000
-    ∷ 0x0000_0000 ∷ 0x0000_0000 ∷ 0x0000_0000 ∷ 0x0000_0000 ∷ 0x0000_0000 ∷ 0x0000_0000 ∷ 0x0000_0000 ∷ 0x0000_0000 ∷ 0x0000_0000 ∷ 0x0000_0000
-    ∷ 0x0000_0004 ∷ 0x0000_0000 ∷ 0x0000_0000 ∷ 0x0000_0003 ∷ 0x0000_0000 ∷ 0x0000_0000 ∷ 0x0000_0000 ∷ 0x0000_0017 ∷ 0x0000_1703 ∷ 0x0000_0000
-    ∷ []
+unfoldable pub againCode : ℕ → ℕ
+againCode t = packedFrom (coded (formOf t) .items) (formCode t)
 
 -- what the places after the first refer to: the rest of the word, or the group once more
 abbrev pub codesAfter : ℕ → ℕ → ℕ
@@ -42,5 +38,5 @@ codesAfter again w = cond (eqb (w / 256) 0) again (w / 256)
 
 -- what the places from j on refer to, in a line of form t
 unfoldable pub codesAt : ℕ → ℕ → ℕ
-codesAt t zero = getD formCodes t 0
-codesAt t (suc j) = codesAfter (getD againCodes t 0) (codesAt t j)
+codesAt t zero = formCode t
+codesAt t (suc j) = codesAfter (againCode t) (codesAt t j)

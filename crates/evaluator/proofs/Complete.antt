@@ -30,6 +30,7 @@ use Rattle.table.specs.Layout.{rowsOf, rowsAt, base, held, linesHeld, MADE, TOP
 use Rattle.table.proofs.Rows.{count-rows}
 use Rattle.value.specs.Lines.{valueLines}
 use Rattle.value.proofs.Interned.{Formeds, none-formed, one-formed}
+use Rattle.tpe.proofs.Reach.{reach-start}
 use Rattle.tpe.proofs.Stands.{Hold, Room}
 use Rattle.evaluator.specs.Run.{values, classNumbers, runOf, ranFrom, evalOf}
 use Rattle.evaluator.proofs.Gives.{Stand}
@@ -135,7 +136,7 @@ module _ (sheet a b : List ℕ) where
         let n = sound .few NODE (omega arith) in
         let p = sound .few POLICY (omega arith) in
         let q = count-rows a POLICY in
-        run-held (record { top = omega (arith, few, top, n); few = omega (arith, few, none, n); log = omega (arith, few, n) }) (omega (arith, few, n, p, q))
+        run-held (record { top = omega (arith, few, top, n, reach-start a); few = omega (arith, few, none, n); log = omega (arith, few, n) }) (omega (arith, few, n, p, q))
 
   nodes-count : count (held sheet a b) NODE ≡ getD a NODE 0
   nodes-count = ap length nodes-held ∙ count-rows a NODE

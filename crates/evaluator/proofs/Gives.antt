@@ -1,12 +1,14 @@
 -- What evaluation over words yields is what a result by content says: the values grow by those made, and the number yielded stands for
 -- the content. The words a₀ hold the sheet at the start. Assumes nothing.
-use mathlib.Core.Path.{_≡_, refl, sym, subst}
+use mathlib.Core.Path.{_≡_, refl, sym, subst, _∙_}
 use mathlib.Core.Bool.{Bool, true, false}
 use mathlib.Core.Option.{Option, none, some}
 use mathlib.Core.List.{List, [], _∷_}
 use Prim.Native.Nat.{ℕ, suc, _+_, _*_, _≤_}
 use native.Mathlib.Omega.{arith}
 use lib.ListN.{length, getD}
+use borrow.Author.Tests.{lt-ltb, le-leb}
+use Rattle.cedar.specs.Types.{Var}
 use Rattle.cedar.specs.Value.{Value as Content, vbool, vlong, vtext, vent, vset, vrec, Result, ok, fail, bind, okBool, find, onSome}
 use Rattle.cedar.specs.Residual.{Rel, rin, rgettag, rhastag}
 use Rattle.cedar.specs.Entities.{Env, whole, entity, pentity}
@@ -22,11 +24,12 @@ use Rattle.cedar.proofs.Outcomes.{e-entries}
 use Rattle.sheet.specs.Forms.{complete}
 use Rattle.sheet.specs.State.{valueRow}
 use Rattle.sheet.specs.Content.{nEnv}
-use Rattle.table.specs.Layout.{held, MADE, TOP}
-use Rattle.value.specs.Made.{boolRow}
-use Rattle.value.proofs.Interned.{Formed}
+use Rattle.table.specs.Layout.{held, MADE, TOP, heap}
+use Rattle.value.specs.Made.{boolRow, roomFor}
+use Rattle.value.proofs.Interned.{Formed, made-is}
 use Rattle.tpe.specs.Run.{wordsOf}
 use Rattle.tpe.proofs.Outcomes.{words-row, words-formed, words-short, Fine}
+use Rattle.tpe.proofs.Reach.{reach, asks, reach-asked}
 use Rattle.tpe.proofs.Stands.{Hold, Room, Space, Spent, space-spent}
 use Rattle.tpe.proofs.Stands as S
 use Rattle.evaluator.specs.Run.{E, yields, values, madeOf, giveOf, settleOf, onYield, next, onBool, boolOnly, pathOut}
@@ -53,7 +56,7 @@ module _ (sheet a₀ : List ℕ) (G : Env) where
     pub keeps : Keeps C contents
     pub stand : Stand contents (o .words)
     pub says : Says contents (o .yield) r
-    pub top : getD (o .words) TOP 0 + 2 ≤ getD a TOP 0 + 5 * n
+    pub top : reach (o .words) + 2 ≤ reach a + 3 * n
     pub few : getD (o .words) MADE 0 ≤ getD a MADE 0 + n
 
   -- ---- over words a₁ of contents D, reached from a
@@ -92,6 +95,31 @@ module _ (sheet a₀ : List ℕ) (G : Env) where
     settles p (omade {r = r} {v = v} d) f = is-made 3 p (wordsOf r) (words-formed r f) (words-short r f) (subst (λ (q : Row). Denotes D q v) (sym (words-row r f)) d)
     settles p (oold h) f = is-value (space-spent 3 n a a₁ p) h
     settles p ofail f = is-error (space-spent 3 n a a₁ p)
+
+  -- ---- a row that is asked, over the words a themselves
+
+  module _ (C : List Content) (n : ℕ) (a l : List ℕ) (room : Room n a l) (one : 1 ≤ n) (s : Stand C a) where
+    asked-room : (q : List ℕ) → length q ≤ 3 → roomFor a (length q) ≡ true
+    unfolding roomFor
+    asked-room q sh = rw (lt-ltb (getD a MADE 0) 1024 (omega (arith, room .few, one)), le-leb heap (getD a TOP 0) (s .hold .sound .over), le-leb (getD a TOP 0 + length q) 16384 (omega (arith, room .top, one, sh))) refl
+
+    pub is-asked : (q : List ℕ) → Formed q → length q ≤ 3 → (x : Var) → asks a .request x ≡ some (made (valueRow q)) → {c : Content} → Denotes C (valueRow q) c → Gives C n a (madeOf a q) (ok c)
+    unfolding madeOf
+    is-asked q f sh x e {c} d =
+        let i = made-is a q (s .hold .sound) (s .hold .formed) f (asked-room q sh) in
+        let m = intern-makes (s .table) d in
+        record {
+          contents = m .contents;
+          keeps = m .keeps;
+          stand = record {
+            hold = record { sound = i .kept .sound; formed = i .formed; same = λ k lt. i .kept .others k lt ∙ s .hold .same k lt };
+            table = subst (λ (R : List Row). Table R (m .contents)) (sym (i .rows)) (m .table);
+            env = keep-env (m .keeps) (s .env);
+          };
+          says = says-value (subst (λ (k : ℕ). At (m .contents) k c) (sym (i .number)) (m .at));
+          top = let r = reach-asked a q i (s .hold .formed) f sh x e in omega (arith, r, one);
+          few = let w = i .kept .few in omega (arith, w, one);
+        }
 
   -- ---- after a first part of p nodes
 

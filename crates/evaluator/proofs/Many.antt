@@ -24,6 +24,7 @@ use Rattle.cedar.proofs.MakingLaws.{set-denotes}
 use Rattle.cedar.specs.Reads.{Reads, xset, xrec, ReadsAll, xnil, xcons, ReadsArgs, xstop, xarg}
 use Rattle.cedar.proofs.ReadsLaws.{Keeps, keep-reads}
 use Rattle.sheet.specs.Forms.{items, NODE}
+use Rattle.forms.specs.Tags.{SET-VALUE}
 use Rattle.sheet.specs.State.{valueRow, entriesOf}
 use Rattle.sheet.specs.Answer.{size, sizes, sizeArgs}
 use Rattle.table.specs.Layout.{MADE, TOP, base, rowAt, Sound}
@@ -34,6 +35,7 @@ use Rattle.value.proofs.Fills.{written-is}
 use Rattle.value.proofs.Lists.{uncons, spent}
 use Rattle.residual.specs.Rows.{litRow}
 use Rattle.tpe.specs.Run.{others}
+use Rattle.tpe.proofs.Reach.{reach}
 use Rattle.tpe.proofs.Stands.{Room}
 use Rattle.tpe.proofs.Sets.{sort-short, drop-two}
 use Rattle.evaluator.specs.Run.{E, Rec, nodeIn, Kids, kids, nextKid, kidsOf, most, manyOf, setStep, recStep}
@@ -67,7 +69,7 @@ values-back [] = refl
 values-back (n ∷ ns) = ap (λ (l : List ℕ). n ∷ l) (values-back ns)
 
 pub data KidsSay (D : List Content) (a l : List ℕ) (n : ℕ) (k : Kids) (rs : List Result) : Type 0 where
-  all-say : {ns : List ℕ} → k .all ≡ true → k .log ≡ l ++ litRows ns → Oks D rs ns → length ns ≤ n → getD (k .words) TOP 0 + 2 * length ns ≤ getD a TOP 0 + 5 * n → KidsSay D a l n k rs
+  all-say : {ns : List ℕ} → k .all ≡ true → k .log ≡ l ++ litRows ns → Oks D rs ns → length ns ≤ n → reach (k .words) + 2 * length ns ≤ reach a + 3 * n → KidsSay D a l n k rs
   one-fails : k .all ≡ false → Bad rs → KidsSay D a l n k rs
 
 -- ---- children: x is the tree t x, and every other item of a record is a text
@@ -199,7 +201,7 @@ module _ (sheet a₀ : List ℕ) (G : Env) where
     pub keeps : Keeps D contents
     pub stand : Stand sheet a₀ G contents (k .words)
     pub say : KidsSay contents a l n k rs
-    pub top : getD (k .words) TOP 0 ≤ getD a TOP 0 + 5 * n
+    pub top : reach (k .words) ≤ reach a + 3 * n
     pub few : getD (k .words) MADE 0 ≤ getD a MADE 0 + n
 
   module _ {D : List Content} {q : ℕ} {a : List ℕ} {o : E} {r : Result} (g : Gives sheet a₀ G D q a o r) (one : 1 ≤ q) (n : ℕ) (l : List ℕ) (room : Room (q + n) a l) (rs : List Result) where
@@ -294,7 +296,7 @@ module _ (sheet a₀ : List ℕ) (G : Env) where
       unfolding manyOf
       error-gives e q = rw e (is-error sheet a₀ G C (w .contents) (suc n) a l room (omega arith) (k .words) (w .keeps) (w .stand) (record { top = omega (arith, w .top); few = omega (arith, w .few) }))
 
-      made-gives : (ns : List ℕ) → k .all ≡ true → k .log ≡ l ++ litRows ns → length ns ≤ n → getD (k .words) TOP 0 + 2 * length ns ≤ getD a TOP 0 + 5 * n
+      made-gives : (ns : List ℕ) → k .all ≡ true → k .log ≡ l ++ litRows ns → length ns ≤ n → reach (k .words) + 2 * length ns ≤ reach a + 3 * n
           → (q : List ℕ) → Formed q → length q ≤ 1 + 2 * length ns → {x : Content} → Denotes (w .contents) (valueRow q) x → Gives sheet a₀ G C (suc n) a (manyOf q k) (ok x)
       unfolding manyOf
       made-gives ns e z c t q f sh d =
@@ -310,7 +312,7 @@ module _ (sheet a₀ : List ℕ) (G : Env) where
     set-say a l C s n room k fs w (all-say {ns = ns} e z b c t) =
         let (vs, p, m) = set-oks fs b in
         let there : valuesIn (drop (length l) (k .log)) ≡ ns = ap valuesIn (rows-there [] a l C s n room k (resultsOf fs) w ns z) ∙ values-back ns in
-        rw (p, there) (made-gives [] a l C s n room k (resultsOf fs) w ns e z c t (14 ∷ sortN ns) refl (let h = sort-short ns in omega (arith, h)) (set-denotes m))
+        rw (p, there) (made-gives [] a l C s n room k (resultsOf fs) w ns e z c t (SET-VALUE ∷ sortN ns) refl (let h = sort-short ns in omega (arith, h)) (set-denotes m))
     set-say a l C s n room k fs w (one-fails e b) = rw (set-bad fs b) (error-gives [] a l C s n room k (resultsOf fs) w e _)
 
     rec-say : (r a l : List ℕ) (C : List Content) (s : Stand sheet a₀ G C a) (n : ℕ) (room : Room (suc n) a l) (k : Kids) (hs : Args) (w : Worked C n a l k (resultsArgs hs)) → ReadsArgs C (argsWith t (drop 2 r)) hs → KidsSay (w .contents) a l n k (resultsArgs hs)

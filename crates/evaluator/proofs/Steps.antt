@@ -1,11 +1,13 @@
 -- One step for each operation yields what `eval` gives the node, where its operands yield what `eval` gives them. Assumes nothing.
-use mathlib.Core.Path.{_≡_, sym, _∙_, ap, subst}
+use mathlib.Core.Path.{_≡_, sym, _∙_, ap, subst, refl}
 use mathlib.Core.Bool.{Bool, true, false, cond}
 use mathlib.Core.Option.{Option, none, some}
 use mathlib.Core.List.{List, []}
 use Prim.Native.Nat.{ℕ, suc, _+_, _≤_}
 use native.Mathlib.Omega.{arith}
 use lib.ListN.{getD, drop}
+use Rattle.table.proofs.Held.{held-same}
+use Rattle.tpe.proofs.Reach.{asks}
 use Rattle.cedar.specs.Value.{Value as Content, Result, ok, bind, okBool}
 use Rattle.cedar.specs.Types.{Ty, Schema, Var, principal, action, resource, context}
 use Rattle.cedar.specs.Residual.{Node, Expr, lit, err, var, and, or, ite, un, bin, rel, get, has, haspath, Un, Bin, Rel}
@@ -27,11 +29,11 @@ use Rattle.sheet.specs.Answer.{size}
 use Rattle.table.specs.Layout.{held}
 use Rattle.tpe.specs.Run.{wordsOf}
 use Rattle.tpe.proofs.Outcomes.{GiveFine, Fine, words-row, words-formed, words-short, row-fine}
-use Rattle.tpe.proofs.Stands.{Hold, Room, Space, Spent, schema-is, env-is}
+use Rattle.tpe.proofs.Stands.{Hold, Room, Spent, schema-is, env-is}
 use lib.Dec.{eqb}
 use Rattle.evaluator.specs.Run.{E, Rec, yields, values, giveOf, settleOf, optOf, next, nodeIn, sideOf, branchOf, pathOut, litStep, errStep, varStep, lazyStep, ifStep, oneStep, twoStep, unOut, binOut, relOut, getOut, hasOut, walkOut, schemaOf, envOf}
 use Rattle.evaluator.specs.declared.Yield.the-variants.{Value, Error}
-use Rattle.evaluator.proofs.Gives.{Stand, Gives, is-value, is-error, is-made, after, rest-room, some-room, then-bool, then-settles, nexts, bools, bool-only, rel-gives, get-gives, has-gives, path-gives, fine-path}
+use Rattle.evaluator.proofs.Gives.{Stand, Gives, is-value, is-error, after, rest-room, some-room, then-bool, then-settles, nexts, bools, bool-only, rel-gives, get-gives, has-gives, path-gives, fine-path, is-asked}
 
 -- what is asked is an entity or has a number
 abbrev OptFine : Option Give → Type 0
@@ -75,9 +77,6 @@ module _ (sheet a₀ : List ℕ) (G : Env) where
   nothing-spent : (n : ℕ) (a : List ℕ) → 1 ≤ n → Spent n a a
   nothing-spent n a h = record { top = omega (arith, h); few = omega arith }
 
-  all-space : (n : ℕ) (a : List ℕ) → 1 ≤ n → Space 3 n a a
-  all-space n a h = record { top = omega (arith, h); few = omega (arith, h) }
-
   -- ---- leaves
 
   module _ (a l : List ℕ) (C : List Content) (s : Stand sheet a₀ G C a) (room : Room 1 a l) where
@@ -87,14 +86,18 @@ module _ (sheet a₀ : List ℕ) (G : Env) where
     err-gives : (T : Ty) (X : Expr) → Reads C (err T) X → Gives sheet a₀ G C 1 a (yields a Error) (eval sch G X)
     err-gives T X xerr = is-error sheet a₀ G C C 1 a l room (omega arith) a (λ n x e. e) s (nothing-spent 1 a (omega arith))
 
-    opt-gives : {o : Option Give} {v : Content} → GiveRead C o (some v) → OptFine o → Gives sheet a₀ G C 1 a (optOf a o) (ok v)
+    opt-gives : {o : Option Give} {v : Content} (x : Var) → asks a .request x ≡ o → GiveRead C o (some v) → OptFine o → Gives sheet a₀ G C 1 a (optOf a o) (ok v)
     unfolding optOf giveOf
-    opt-gives (give-made {r = r} {v = v} d) f =
-        is-made sheet a₀ G C C 1 a l room (omega arith) a (λ n x e. e) s 3 (all-space 1 a (omega arith)) (wordsOf r) (words-formed r f) (words-short r f) (subst (λ (q : Row). Denotes C q v) (sym (words-row r f)) d)
-    opt-gives (give-old h) f = is-value sheet a₀ G C C 1 a l room (omega arith) a (λ n x e. e) s (nothing-spent 1 a (omega arith)) h
+    opt-gives x e (give-made {r = r} {v = v} d) f =
+        is-asked sheet a₀ G C 1 a l room (omega arith) s (wordsOf r) (words-formed r f) (words-short r f) x (e ∙ ap (λ (z : Row). some (made z)) (sym (words-row r f))) (subst (λ (q : Row). Denotes C q v) (sym (words-row r f)) d)
+    opt-gives x e (give-old h) f = is-value sheet a₀ G C C 1 a l room (omega arith) a (λ n x e. e) s (nothing-spent 1 a (omega arith)) h
+
+    asked-as : (x : Var) → asks a .request x ≡ nEnv complete (held [] a₀ []) .request x
+    unfolding nEnv
+    asked-as x = ap (λ (t : State). given t x) (held-same [] a₀ a [] [] (s .hold .same) refl)
 
     var-gives : (T : Ty) (x : Var) (X : Expr) → Reads C (var T x) X → Gives sheet a₀ G C 1 a (optOf a (envOf a .request x)) (eval sch G X)
-    var-gives T x X xvar = rw (env-is complete [] a₀ a (s .hold)) (opt-gives (s .env .request x) (request-fine (held [] a₀ []) x))
+    var-gives T x X xvar = rw (env-is complete [] a₀ a (s .hold)) (opt-gives x (asked-as x) (s .env .request x) (request-fine (held [] a₀ []) x))
 
   module _ (f : Rec) (m : ℕ) (r : List ℕ) where
     pub lit-meets : (T : Ty) → Meets (λ a l. litStep f a l m r) (lit T (at r 1))

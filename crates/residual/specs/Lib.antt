@@ -1,3 +1,4 @@
 pub mod Rows
 pub mod Errs
 pub mod Trees
+pub mod Classes

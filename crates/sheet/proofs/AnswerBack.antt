@@ -17,7 +17,7 @@ use Rattle.cedar.specs.Rows.{Row}
 use Rattle.cedar.specs.Runs.{NVerdict, verdicts}
 use Rattle.sheet.specs.Ascii.{ascii}
 use Rattle.sheet.specs.Bytes.{split, digits}
-use Rattle.sheet.specs.Forms.{Mode, partial, complete, Slot, line, word, joined, one, keys, forms, formOf, tagOf, counted, rowOf, rowHeaded, heading, keyOf, TEXT, VALUE, NODE, POLICY}
+use Rattle.sheet.specs.Forms.{Mode, partial, complete, Slot, line, word, joined, one, keys, forms, formOf, tagOf, counted, rowOf, rowHeaded, heading, keyOf, TEXT, VALUE, NODE, POLICY, noKey}
 use Rattle.sheet.specs.Content.{rowsIn}
 use Rattle.sheet.specs.Answer.{printed, concat, numbers, decisionWord, effectWord, classWord, isFalse, isError, howMany, countsOf, headLines, valueItems, valueLines, size, root, nodeItems, nodeLines, policyItems, partialLines, completeLines}
 use Rattle.sheet.specs.ReadAnswer.{PolicyLine, Said, itemsBy, decisionLine, decisionOf, countsLine, policyLine, policyOf, policyLines, rowsFirst, saidWith, restOf, linesSay, readAnswer}
@@ -237,7 +237,7 @@ backs-back (r ∷ rs) h = ap₂ _∷_ (row-back r (h .0)) (backs-back rs (h .1))
 abbrev theEnd : List (List ℕ)
 theEnd = [] ∷ []
 
-policies-stop : (k n : ℕ) → not (eqb 13 k) ≡ true → (is : List ℕ) (ls : List NVerdict) → AllSmall is → n + residualSizes ls ≤ 10000 → stops k (partialTexts n is ls ++ theEnd) ≡ true
+policies-stop : (k n : ℕ) → not (eqb noKey k) ≡ true → (is : List ℕ) (ls : List NVerdict) → AllSmall is → n + residualSizes ls ≤ 10000 → stops k (partialTexts n is ls ++ theEnd) ≡ true
 unfolding rowOf keyOf formOf forms
 policies-stop k n o [] ls h b = o
 policies-stop k n o (i ∷ is) [] h b = o

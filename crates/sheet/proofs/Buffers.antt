@@ -10,7 +10,7 @@ use lib.ListN.{length, getD, take, drop, replicate, length-append, length-drop, 
 use lib.Seq.{take-append-seam, drop-append-seam}
 use Rattle.cedar.proofs.Tools.{neither}
 use Rattle.sheet.specs.Bytes.{same, split}
-use Rattle.sheet.specs.Forms.{Mode, rowOf, keyOf, refs, NODE}
+use Rattle.sheet.specs.Forms.{Mode, rowOf, keyOf, refs, NODE, noKey}
 use Rattle.sheet.specs.State.{State, empty, count}
 use Rattle.sheet.specs.Typing.{typed}
 use Rattle.sheet.specs.Sheet.{greatest, inOrder, found, depth, usedTwice, fault, more, reads, enough, firstUnused, ending, goOn, reading, read}
@@ -95,7 +95,7 @@ fault-other s (t ∷ l) = go (not (inOrder s (keyOf (t ∷ l)))) (leb (getD (gre
     go false false false false false false = λ z. omega (arith, z)
 
 ending-other : (s : State) (k : ℕ) → Other (ending s k .number)
-ending-other s k = go (enough s 13) (ltb (firstUnused (s .used)) (count s NODE)) _
+ending-other s k = go (enough s noKey) (ltb (firstUnused (s .used)) (count s NODE)) _
   where
     go : (a b : Bool) (n : ℕ) → Other (cond a (cond b (reads s 8 n) (reads s 0 0)) (reads s 3 k) .number)
     go true true n = λ z. omega (arith, z)

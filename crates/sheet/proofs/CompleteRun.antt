@@ -16,7 +16,7 @@ use Rattle.cedar.specs.Table.{dent}
 use Rattle.cedar.specs.Numbered.{made, old}
 use Rattle.cedar.proofs.ReadsOps.{EnvRead, LineRead, GiveRead, give-made, give-old, rec-empty, set-empty}
 use Rattle.cedar.proofs.BothRuns.{whole, complete-classes}
-use Rattle.sheet.specs.Forms.{complete, forms, formOf, slotAt, tag, at, mark, keyOf, PRINCIPAL, ACTION, RESOURCE, CONTEXT, ENTITY}
+use Rattle.sheet.specs.Forms.{complete, forms, formOf, slotAt, tag, at, mark, keyOf, PRINCIPAL, ACTION, RESOURCE, CONTEXT, ENTITY, noKey, noTag}
 use Rattle.sheet.specs.State.{State, linesOf, count, lineAt}
 use Rattle.sheet.specs.Sheet.{read}
 use Rattle.sheet.specs.Content.{contents, schema, known, given, requested, contentIn, fieldsIn, membersIn, partsGiven, lineFound, lineGiven, lookUp, nEnv, env}
@@ -35,7 +35,7 @@ use Rattle.cedar.specs.Runs.{verdicts}
 use Rattle.cedar.specs.Numbered as N
 
 module _ (s : State) (f : Facts complete s) where
-  row-of-key : (k t : ℕ) → k < 13 → 2 ≤ t → t < 50 → (t ≡ 11 → ⊥) → allBelow (between k t t) 50 ≡ true → Was complete s k [] (lineAt s k 0) → Read complete (lineAt s k 0) t
+  row-of-key : (k t : ℕ) → k < noKey → 2 ≤ t → t < noTag → (t ≡ 11 → ⊥) → allBelow (between k t t) noTag ≡ true → Was complete s k [] (lineAt s k 0) → Read complete (lineAt s k 0) t
   unfolding keyOf
   row-of-key k t lt lo hi n e w = let (a, b) = tags-between k t t (tag (lineAt s k 0)) lt e (w .key) in row-read complete (lineAt s k 0) (w .line) t (w .row) (omega (arith, a, b)) lo hi n
 

@@ -12,7 +12,7 @@ use lib.ListN.{length, getD, replicate, length-set, length-append}
 use lib.Seq.{getD-set-same, getD-set-other}
 use Rattle.cedar.proofs.TableLaws.{InN, now′, later′}
 use Rattle.sheet.specs.Bytes.{same, split}
-use Rattle.sheet.specs.Forms.{Mode, tag, items, keyOf, refs, rowOf}
+use Rattle.sheet.specs.Forms.{Mode, tag, items, keyOf, refs, rowOf, NODE, noKey}
 use Rattle.sheet.specs.State.{State, empty, linesOf, count, depthsOf}
 use Rattle.sheet.specs.Sheet.{deepest, depth, fault, more, reads, ending, enough, firstUnused, goOn, reading, read}
 use Rattle.sheet.proofs.Lines.{Passed, passed, History, history-more, no-lines, not-empty}
@@ -27,7 +27,7 @@ pub data Reached (m : Mode) : State → Type 0 where
 
 module _ (m : Mode) where
   ends : (s : State) (k : ℕ) → Reached m s → Reached m (ending s k .state)
-  ends s k h = go (enough s 13) (ltb (firstUnused (s .used)) (count s 11)) _
+  ends s k h = go (enough s noKey) (ltb (firstUnused (s .used)) (count s NODE)) _
     where
       go : (a b : Bool) (n : ℕ) → Reached m (cond a (cond b (reads s 8 n) (reads s 0 0)) (reads s 3 k) .state)
       go true true n = h
@@ -106,8 +106,8 @@ one-more k ls ds r x h lo hi parts = record { sizes = omega (arith, a, b, c); lo
 -- ---- in every state reached
 
 pub record Depths (s : State) : Type 0 where
-  pub keys : length (s .lines) ≡ 13
-  pub columns : length (s .depths) ≡ 13
+  pub keys : length (s .lines) ≡ noKey
+  pub columns : length (s .depths) ≡ noKey
   pub deep : (k : ℕ) → Deep k (linesOf s k) (depthsOf s k)
 
 pub in-below : (k : ℕ) (l : List ℕ) (y : ℕ) → AllBelow k l → InN y l → y < k
@@ -126,7 +126,7 @@ module _ (m : Mode) (s : State) (l : List ℕ) (h : Depths s) (f : fault s (rowO
   unfolding new
   now = passed s (rowOf m l) f
 
-  key : keyOf new < 13
+  key : keyOf new < noKey
   key = key-below s (keyOf new) new now
 
   depths-other : (j : ℕ) → (j ≡ keyOf new → ⊥) → depthsOf (more s new) j ≡ depthsOf s j
@@ -168,7 +168,7 @@ module _ (m : Mode) (s : State) (l : List ℕ) (h : Depths s) (f : fault s (rowO
       go k (no a) (no b) = subst (λ z. Deep z (linesOf (more s new) z) (depthsOf (more s new) z)) (omega arith) own-deep
 
 nothing-deep : (k : ℕ) → Deep k (linesOf empty k) (depthsOf empty k)
-nothing-deep k = go 13 13 k
+nothing-deep k = go noKey noKey k
   where
     none : (k : ℕ) → Deep k [] []
     none k = record { sizes = refl; low = λ n. omega arith; least = λ n lt. absurd (omega arith); falls = λ n y i. no-refs k y i }

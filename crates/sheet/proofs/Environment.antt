@@ -18,7 +18,7 @@ use Rattle.cedar.specs.Table.{At, dent}
 use Rattle.cedar.proofs.TableLaws.{sameRow-true}
 use Rattle.cedar.specs.Numbered.{rRec, rSet}
 use Rattle.cedar.proofs.ReadsOps.{EnvRead, LineRead, GiveRead, give-unknown, give-made, give-old, RecRead, rec-unknown, rec-known, SetRead, set-unknown, set-known}
-use Rattle.sheet.specs.Forms.{Mode, partial, forms, formOf, slotAt, tag, at, mark, keyOf, rowOf, PRINCIPAL, ACTION, RESOURCE, CONTEXT, ENTITY, VALUE}
+use Rattle.sheet.specs.Forms.{Mode, partial, forms, formOf, slotAt, tag, at, mark, keyOf, rowOf, PRINCIPAL, ACTION, RESOURCE, CONTEXT, ENTITY, VALUE, noKey, noTag}
 use Rattle.sheet.specs.State.{State, linesOf, count, lineAt, counts, lengths, valueRow, valueAt}
 use Rattle.sheet.specs.Typing.{fits, attributesOf, tagsOf, unknownOr, allIn, tagsFit, ancestorFits, typed}
 use Rattle.sheet.specs.Sheet.{enough, reach, least, more, read}
@@ -38,9 +38,9 @@ use Rattle.cedar.specs.Entities as E
 set-length : {A : Type 0} (l : List A) (k : ℕ) (a : A) (n : ℕ) → length l ≡ n → length (set l k a) ≡ n
 set-length l k a n e = length-set l k a ∙ e
 
-pub thirteen : (m : Mode) (sheet : List ℕ) → read m sheet .number ≡ 0 → length (read m sheet .state .lines) ≡ 13
+pub thirteen : (m : Mode) (sheet : List ℕ) → read m sheet .number ≡ 0 → length (read m sheet .state .lines) ≡ noKey
 unfolding more
-thirteen m sheet e = holds-read m (λ s. length (s .lines) ≡ 13) (λ s l h f. set-length (s .lines) (keyOf (rowOf m l)) (linesOf s (keyOf (rowOf m l)) ++ (rowOf m l ∷ [])) 13 h) sheet refl e .0
+thirteen m sheet e = holds-read m (λ s. length (s .lines) ≡ noKey) (λ s l h f. set-length (s .lines) (keyOf (rowOf m l)) (linesOf s (keyOf (rowOf m l)) ++ (rowOf m l ∷ [])) noKey h) sheet refl e .0
 
 reach-at : (xs ys : List ℕ) → reach xs ys ≡ true → (j : ℕ) → j < length xs → j < length ys → getD ys j 0 ≤ getD xs j 0
 reach-at [] ys e j a b = absurd (omega arith)
@@ -70,12 +70,12 @@ first-of (r ∷ rest) h f = f rest refl
 -- what is known of the lines of a sheet that was read
 pub record Facts (m : Mode) (s : State) : Type 0 where
   pub history : History m s
-  pub full : enough s 13 ≡ true
-  pub keys : length (s .lines) ≡ 13
+  pub full : enough s noKey ≡ true
+  pub keys : length (s .lines) ≡ noKey
 
-pub the-line : (m : Mode) (s : State) → Facts m s → (k : ℕ) → k < 13 → 1 ≤ getD (least s) k 0 → Was m s k [] (lineAt s k 0)
+pub the-line : (m : Mode) (s : State) → Facts m s → (k : ℕ) → k < noKey → 1 ≤ getD (least s) k 0 → Was m s k [] (lineAt s k 0)
 the-line m s f k lt one =
-    let a : reach (counts s) (least s) ≡ true = subst (λ z. reach z (least s) ≡ true) (take-all 13 (counts s) (lengths-length (s .lines) ∙ f .keys)) (f .full) in
+    let a : reach (counts s) (least s) ≡ true = subst (λ z. reach z (least s) ≡ true) (take-all noKey (counts s) (lengths-length (s .lines) ∙ f .keys)) (f .full) in
     let b = reach-at (counts s) (least s) a k (let z = lengths-length (s .lines) ∙ f .keys in omega (arith, z, lt)) (omega (arith, lt)) in
     let c = lengths-at (s .lines) k in
     first-of (linesOf s k) (omega (arith, b, c, one)) (λ rest e. f .history k [] (lineAt s k 0) rest e)
@@ -106,11 +106,11 @@ entity-found {X} s e (x ∷ rs) r q f = go (sameRow (valueAt s (at x 0)) e) refl
     go true p ih q = let z : x ≡ r = Option·some-injective x r q in f [] rs (ap (λ i. i ∷ rs) z) (ap (λ i. valueAt s (at i 0)) (sym z) ∙ sameRow-true (valueAt s (at x 0)) e p)
     go false p ih q = ih q (λ pre rest a b. f (x ∷ pre) rest (ap (λ i. x ∷ i) a) b)
 
-entity-tags : allBelow (between 6 16 16) 50 ≡ true
+entity-tags : allBelow (between 6 16 16) noTag ≡ true
 unfolding formOf forms
 entity-tags = refl
 
-context-tags : allBelow (between 10 20 20) 50 ≡ true
+context-tags : allBelow (between 10 20 20) noTag ≡ true
 unfolding formOf forms
 context-tags = refl
 

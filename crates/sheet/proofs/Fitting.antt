@@ -16,7 +16,7 @@ use Rattle.cedar.specs.Rows.{Entries, Row}
 use Rattle.cedar.specs.Table.{At, now, later, Elems, elem0, elem1, Named, name0, name1, Denotes, dbool, dlong, dtext, dent, dset, drec}
 use Rattle.cedar.proofs.TableLaws.{row-of, same-length, at-append, at-snoc}
 use Rattle.cedar.proofs.ReadsLaws.{at-is}
-use Rattle.sheet.specs.Forms.{Mode, Slot, line, word, nothing, forms, formOf, slotAt, counted, itemsFrom, tag, items, rowOf, ascendings, TYPE, VALUE}
+use Rattle.sheet.specs.Forms.{Mode, Slot, line, word, nothing, forms, formOf, slotAt, counted, itemsFrom, tag, items, rowOf, ascendings, TYPE, VALUE, noTag}
 use Rattle.sheet.specs.State.{State, linesOf, count, Declared, TypeRow, bool, long, string, entity, set′, record′, declareds, typeRow, typeAt, valueRow, valueAt}
 use Rattle.sheet.specs.Sheet.{found as foundLine, allThere, thereIs, ascend, fresh}
 use Rattle.sheet.specs.Content.{attrsOver, tyOver, tysFrom, types, membersOver, fieldsOver, valueOver, rowsIn, valueRows, contents}
@@ -154,7 +154,7 @@ module _ (s : State) (ts : List Ty) (size : length ts ≡ count s TYPE) where
 module _ (m : Mode) where
   pub set-size : (r l : List ℕ) → r ≡ rowOf m l → tag r ≡ 7 → length (items r) ≡ 1
   unfolding counted formOf forms
-  set-size r l e k = parsed m r (λ q. let z : 50 ≡ 7 = sym (ap tag q) ∙ k in absurd (omega (arith, z))) (λ v q. let z : 1 ≡ 7 = sym (ap tag q) ∙ k in absurd (omega (arith, z)))
+  set-size r l e k = parsed m r (λ q. let z : noTag ≡ 7 = sym (ap tag q) ∙ k in absurd (omega (arith, z))) (λ v q. let z : 1 ≡ 7 = sym (ap tag q) ∙ k in absurd (omega (arith, z)))
       (λ t fs l c i q. let z : t ≡ 7 = sym (ap tag q) ∙ k in
       ap (λ x. length (items x)) q ∙ items-length m 7 set-slot 0 fs (subst (λ x. itemsFrom m x 0 fs ≡ some l) z i) ∙ counted-plain (formOf 7) (length fs) refl (subst (λ x. counted x (length fs) ≡ true) z c))
       l e

@@ -10,6 +10,7 @@ pub mod DigitsBack
 pub mod EnvFit
 pub mod Environment
 pub mod ExampleBytes
+pub mod ExampleEntities
 pub mod FitsSound
 pub mod Fitting
 pub mod KnownSheets
@@ -18,6 +19,7 @@ pub mod Limits
 pub mod Lines
 pub mod LinesBack
 pub mod MadeCount
+pub mod MadeWords
 pub mod NeverNine
 pub mod NodeRows
 pub mod NodeTyped

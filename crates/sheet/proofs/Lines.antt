@@ -10,7 +10,7 @@ use lib.ListN.{length, getD, drop, set, replicate}
 use Rattle.cedar.proofs.Tools.{eqb-true}
 pub use Rattle.cedar.proofs.Tools.{and-both}
 use Rattle.sheet.specs.Bytes.{same, split}
-use Rattle.sheet.specs.Forms.{Mode, rowOf, keyOf, refs, NODE}
+use Rattle.sheet.specs.Forms.{Mode, rowOf, keyOf, refs, NODE, noKey}
 use Rattle.sheet.specs.State.{State, empty, linesOf, count, counts, lengths}
 use Rattle.sheet.specs.Typing.{typed}
 use Rattle.sheet.proofs.Refusals.{in-number-order}
@@ -54,13 +54,13 @@ end-with s k n true true q = zero-not-suc q
 end-with s k n true false q = (refl, refl)
 end-with s k n false b q = zero-not-suc q
 
-pub ended : (s : State) (k : ℕ) → ending s k .number ≡ 0 → (ending s k .state ≡ s) × (enough s 13 ≡ true)
-ended s k e = end-with s k _ (enough s 13) (ltb (firstUnused (s .used)) (count s NODE)) e
+pub ended : (s : State) (k : ℕ) → ending s k .number ≡ 0 → (ending s k .state ≡ s) × (enough s noKey ≡ true)
+ended s k e = end-with s k _ (enough s noKey) (ltb (firstUnused (s .used)) (count s NODE)) e
 
 module _ (m : Mode) (Holds : State → Type 0) (step : (s : State) (l : List ℕ) → Holds s → fault s (rowOf m l) ≡ 0 → Holds (more s (rowOf m l))) where
   -- at the end: it holds, and no line is missing
   Final : Reading → Type 0
-  Final x = Holds (x .state) × (enough (x .state) 13 ≡ true)
+  Final x = Holds (x .state) × (enough (x .state) noKey ≡ true)
 
   at-end : (s : State) (k : ℕ) → Holds s → ending s k .number ≡ 0 → Final (ending s k)
   unfolding Final
@@ -81,7 +81,7 @@ module _ (m : Mode) (Holds : State → Type 0) (step : (s : State) (l : List ℕ
   holds-after (l ∷ []) s k h e = last-part s k (same l []) h e
   holds-after (l ∷ n ∷ ls) s k h e = go-on s k l (fault s (rowOf m l)) (reading m (n ∷ ls)) refl h (λ h e. holds-after (n ∷ ls) (more s (rowOf m l)) (suc k) h e) e
 
-  pub holds-read : (sheet : List ℕ) → Holds empty → read m sheet .number ≡ 0 → Holds (read m sheet .state) × (enough (read m sheet .state) 13 ≡ true)
+  pub holds-read : (sheet : List ℕ) → Holds empty → read m sheet .number ≡ 0 → Holds (read m sheet .state) × (enough (read m sheet .state) noKey ≡ true)
   unfolding read Final
   holds-read sheet h e = holds-after (split 10 sheet) empty 1 h e
 
@@ -178,7 +178,7 @@ module _ (m : Mode) (s : State) (l : List ℕ) (old : History m s) (f : fault s 
       (λ after a. still k pre r (old k pre r after a) (same-key k p)))
 
 pub no-lines : (k : ℕ) → linesOf empty k ≡ []
-no-lines k = go 13 k
+no-lines k = go noKey k
   where
     go : (n k : ℕ) → getD {A = List (List ℕ)} (replicate n []) k [] ≡ []
     go zero k = refl
@@ -186,5 +186,5 @@ no-lines k = go 13 k
     go (suc n) (suc k) = go n k
 
 -- every line of an accepted sheet was read without fault, over the lines before it; and no line is missing
-pub accepted-history : (m : Mode) (sheet : List ℕ) → read m sheet .number ≡ 0 → History m (read m sheet .state) × (enough (read m sheet .state) 13 ≡ true)
+pub accepted-history : (m : Mode) (sheet : List ℕ) → read m sheet .number ≡ 0 → History m (read m sheet .state) × (enough (read m sheet .state) noKey ≡ true)
 accepted-history m sheet e = holds-read m (History m) (λ s l h f. history-more m s l h f) sheet (λ k pre r rest q. not-empty pre r rest (sym (no-lines k) ∙ q)) e

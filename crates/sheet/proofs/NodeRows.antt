@@ -11,7 +11,7 @@ use lib.Dec.{leb, ltb, eqb}
 use lib.ListN.{length, getD}
 use Rattle.cedar.proofs.Tools.{no-true, no-some, eqb-true}
 use Rattle.sheet.specs.Bytes.{atMost, decimal}
-use Rattle.sheet.specs.Forms.{Mode, complete, Slot, Form, line, lineUnknown, nothing, forms, formOf, slotIn, slotAt, countedIn, counted, item, one, joined, itemsFrom, tag, items, at, rowOf}
+use Rattle.sheet.specs.Forms.{Mode, complete, Slot, Form, line, lineUnknown, nothing, forms, formOf, slotIn, slotAt, countedIn, counted, item, one, joined, itemsFrom, tag, items, at, rowOf, noTag}
 use Rattle.sheet.specs.State.{State}
 use Rattle.sheet.specs.Sheet.{allThere, thereIs}
 use Rattle.sheet.proofs.Lines.{and-both}
@@ -45,13 +45,13 @@ slot-plain f j a b = go (ltb j (length (f .items)))
 abbrev plainTag : ℕ → Bool
 plainTag t = eqb t 11 || (noNumbers (formOf t .items) && noNumbers (formOf t .group))
 
-plain-tags : allBelow plainTag 50 ≡ true
+plain-tags : allBelow plainTag noTag ≡ true
 unfolding formOf forms isNumber
 plain-tags = refl
 
-pub plain-slots : (t : ℕ) → t < 50 → (t ≡ 11 → ⊥) → (j : ℕ) → isNumber (slotAt t j) ≡ false
+pub plain-slots : (t : ℕ) → t < noTag → (t ≡ 11 → ⊥) → (j : ℕ) → isNumber (slotAt t j) ≡ false
 unfolding slotAt
-plain-slots t lt n j = go (eqb t 11) refl (all-below plainTag 50 t plain-tags lt)
+plain-slots t lt n j = go (eqb t 11) refl (all-below plainTag noTag t plain-tags lt)
   where
     go : (b : Bool) → eqb t 11 ≡ b → (b || (noNumbers (formOf t .items) && noNumbers (formOf t .group))) ≡ true → isNumber (slotIn (formOf t) j) ≡ false
     go true p q = absurd (n (eqb-true t 11 p))
@@ -104,9 +104,9 @@ pub record Read (m : Mode) (r : List ℕ) (t : ℕ) : Type 0 where
   pub field : ℕ → List ℕ
   pub reads : (j : ℕ) → j < length (formOf t .items) → item m (slotAt t j) (field j) ≡ some (at r j ∷ [])
 
-pub row-read : (m : Mode) (r l : List ℕ) (t : ℕ) → r ≡ rowOf m l → tag r ≡ t → 2 ≤ t → t < 50 → (t ≡ 11 → ⊥) → Read m r t
+pub row-read : (m : Mode) (r l : List ℕ) (t : ℕ) → r ≡ rowOf m l → tag r ≡ t → 2 ≤ t → t < noTag → (t ≡ 11 → ⊥) → Read m r t
 unfolding counted
-row-read m r l t e k lo hi other = parsed m r (λ q. let z : 50 ≡ t = sym (ap tag q) ∙ k in absurd (omega (arith, z))) (λ v q. let z : 1 ≡ t = sym (ap tag q) ∙ k in absurd (omega (arith, z)))
+row-read m r l t e k lo hi other = parsed m r (λ q. let z : noTag ≡ t = sym (ap tag q) ∙ k in absurd (omega (arith, z))) (λ v q. let z : 1 ≡ t = sym (ap tag q) ∙ k in absurd (omega (arith, z)))
     (λ t′ fs l c i q. let z : t′ ≡ t = sym (ap tag q) ∙ k in
     let c′ : counted t (length fs) ≡ true = subst (λ x. counted x (length fs) ≡ true) z c in
     let i′ : itemsFrom m t 0 fs ≡ some l = subst (λ x. itemsFrom m x 0 fs ≡ some l) z i in

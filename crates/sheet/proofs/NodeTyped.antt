@@ -15,7 +15,7 @@ use Rattle.cedar.specs.Types.{Ty, tbool, tlong, tstr, tent, tset, declared, Var
 use Rattle.cedar.specs.Residual.{Expr, lit, err, var, and, or, has, haspath, set, rec, enil, Item, unot, uneg, uempty, uis, ulike, beq, blt, ble, badd, bsub, bmul, bcontains, ball, bany, rin, rgettag, rhastag}
 use Rattle.cedar.specs.Typing.{named, attrsOf, UnOk, notOk, negOk, emptyOk, isOk, likeOk, BinOk, eqOk, eqEntOk, ltOk, leOk, addOk, subOk, mulOk, containsOk, allOk, anyOk, RelOk, inOk, inSetOk, getTagOk, hasTagOk, PathOk, lastOk, freeOk, stepOk, Typed, tlit, terr, tvar, tand, tor, tite, tun, tbin, trel, tget, thas, tpath, tset′, trec′, AllTyped, nilTyped, consTyped, ArgsTyped, noArg, oneArg}
 use Rattle.cedar.specs.Numbered.{entryOf, isSome, pickN}
-use Rattle.sheet.specs.Forms.{Mode, Slot, line, forms, formOf, slotAt, items, at, mark}
+use Rattle.sheet.specs.Forms.{Mode, Slot, line, forms, formOf, slotAt, items, at, mark, NODE}
 use Rattle.sheet.specs.State.{State, linesOf, count, lineAt, Declared, TypeRow, bool, long, string, entity, set′, record′, typeRow, typeAt, valueRow}
 use Rattle.sheet.specs.Typing.{onEntity, onSetOf, onRecord, isBool, isLong, isString, declaredIn, requiredThere, allIn, allEntries, entriesFit, rowFits, fitsBy, fits, fitsIn, attributesOf, tagsOf, attributes, targetKind, pathTyped, typeOfNode, entityIs, contextIs, varTyped, argTypes, rules}
 use Rattle.sheet.specs.Sheet.{allThere, thereIs}
@@ -29,7 +29,7 @@ use Rattle.sheet.proofs.Slots.{set-slot, field-slot}
 use Rattle.sheet.proofs.ValueRows.{some-is}
 
 -- u is the state in which a node's line was read
-module _ (m : Mode) (s : State) (h : History m s) (u : State) (same : (j : ℕ) → j < 11 → linesOf u j ≡ linesOf s j) where
+module _ (m : Mode) (s : State) (h : History m s) (u : State) (same : (j : ℕ) → j < NODE → linesOf u j ≡ linesOf s j) where
   abbrev pub T : ℕ → Ty
   T y = getD (types s) y tbool
 
@@ -51,7 +51,7 @@ module _ (m : Mode) (s : State) (h : History m s) (u : State) (same : (j : ℕ) 
   lit-typed v y e = tlit (fits-sound m s h v y (sym (fits-same 64 v y) ∙ e))
 
   -- variables
-  entity-var : (x : Var) (k y : ℕ) → k < 11 → schema s .request x ≡ tent (at (lineAt s k 0) 0) → entityIs u y k ≡ true → Typed (schema s) (var (T y) x) (T y)
+  entity-var : (x : Var) (k y : ℕ) → k < NODE → schema s .request x ≡ tent (at (lineAt s k 0) 0) → entityIs u y k ≡ true → Typed (schema s) (var (T y) x) (T y)
   entity-var x k y lt q e = on-entity (typeAt u y) (λ e. eqb e (at (lineAt u k 0) 0)) e (λ l p g.
       tvar (q ∙ ap (λ r. tent (at (getD r 0 []) 0)) (sym (same k lt)) ∙ ap tent (sym (eqb-true l (at (lineAt u k 0) 0) g)) ∙ sym (row-ty y p)))
 
@@ -184,9 +184,9 @@ module _ (m : Mode) (s : State) (h : History m s) (u : State) (same : (j : ℕ) 
   abbrev pub V′ : ℕ → Value
   V′ n = getD (contents s) n (vbool false)
 
-  module _ (es : List Expr) (kids : (n : ℕ) → n < count u 11 → Typed (schema s) (getD es n (err tbool)) (T (typeOfNode u n))) where
-    there-kid : (sl : Slot) (n : ℕ) → sl ≡ line 11 → thereIs u sl n ≡ true → Typed (schema s) (getD es n (err tbool)) (T (typeOfNode u n))
-    there-kid sl n e p = kids n (ltb-true n (count u 11) (sym (ap (λ z. thereIs u z n) e) ∙ p))
+  module _ (es : List Expr) (kids : (n : ℕ) → n < count u NODE → Typed (schema s) (getD es n (err tbool)) (T (typeOfNode u n))) where
+    there-kid : (sl : Slot) (n : ℕ) → sl ≡ line NODE → thereIs u sl n ≡ true → Typed (schema s) (getD es n (err tbool)) (T (typeOfNode u n))
+    there-kid sl n e p = kids n (ltb-true n (count u NODE) (sym (ap (λ z. thereIs u z n) e) ∙ p))
 
     all-typed : (e j : ℕ) (l : List ℕ) → allThere u 47 (suc j) l ≡ true → allIn (λ n. eqb (typeOfNode u n) e) l ≡ true → AllTyped (schema s) (childrenOver (types s) V′ es l) (T e)
     all-typed e j [] a b = nilTyped
@@ -223,7 +223,7 @@ module _ (m : Mode) (s : State) (h : History m s) (u : State) (same : (j : ℕ) 
     Rule : ℕ → Type 0
     Rule t = (l : List ℕ) → Read m (t ∷ l) t → allThere u t 0 l ≡ true → getD (rules u (t ∷ l)) (t - 21) false ≡ true → Typed (schema s) (treeOver (types s) V′ es (t ∷ l)) (T (getD l 0 0))
 
-    kid-at : (t : ℕ) (l : List ℕ) → Read m (t ∷ l) t → allThere u t 0 l ≡ true → (j : ℕ) → j < length (formOf t .items) → slotAt t j ≡ line 11 → Typed (schema s) (getD es (getD l j 0) (err tbool)) (T (typeOfNode u (getD l j 0)))
+    kid-at : (t : ℕ) (l : List ℕ) → Read m (t ∷ l) t → allThere u t 0 l ≡ true → (j : ℕ) → j < length (formOf t .items) → slotAt t j ≡ line NODE → Typed (schema s) (getD es (getD l j 0) (err tbool)) (T (typeOfNode u (getD l j 0)))
     kid-at t l rd a j lt e = let z = rd .least in there-kid (slotAt t (0 + j)) (getD l j 0) (ap (slotAt t) (omega arith) ∙ e) (there-at u t 0 l a j (omega (arith, z, lt)))
 
     rule21 : Rule 21

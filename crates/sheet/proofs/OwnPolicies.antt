@@ -23,7 +23,7 @@ module _ (m : Mode) (s : State) (h : History m s) where
   unfolding keyOf slotAt formOf forms
   lit-there pre r rest e z =
       let w = h NODE pre r rest e in
-      let (lo, hi) = tags-between 11 21 48 (tag r) (omega arith) node-tags (w .key) in
+      let (lo, hi) = tags-between NODE 21 48 (tag r) (omega arith) node-tags (w .key) in
       let rd = row-read m r (w .line) 21 (w .row) (omega (arith, lo, z)) (omega arith) (omega arith) (λ z. absurd (omega (arith, z))) in
       let lt = ltb-true (at r 1) (count (w .was) 5) (item-there m s (w .was) NODE r 21 rd (w .pass .refers) 1 (ltb-true 1 2 refl)) in
       there-value m s h (at r 1) (subst (λ l. at r 1 < length l) (w .earlier 5 (omega arith)) lt)

@@ -11,7 +11,7 @@ use lib.Dec.{leb, ltb, eqb}
 use lib.ListN.{length, take, drop, List·getD-eq-default}
 use Rattle.cedar.proofs.Tools.{no-true, eqb-true}
 use Rattle.sheet.specs.Bytes.{upTo, split, printable}
-use Rattle.sheet.specs.Forms.{Mode, Form, forms, formOf, countedIn, noForm, counted, itemsFrom, orEmpty, rowHeaded, rowOfText, rowOfValue, rowOf, heading, tagOf, placeIn, keys, TEXT}
+use Rattle.sheet.specs.Forms.{Mode, Form, forms, formOf, countedIn, noForm, counted, itemsFrom, orEmpty, rowHeaded, rowOfText, rowOfValue, rowOf, heading, tagOf, placeIn, keys, TEXT, noKey, noTag}
 use Rattle.sheet.proofs.Lines.{and-both}
 
 module _ {X : Type 0} (m : Mode) (r : List ℕ) (empty : r ≡ [] → X) (text : (v : List ℕ) → r ≡ 1 ∷ v → X)
@@ -40,6 +40,10 @@ module _ {X : Type 0} (m : Mode) (r : List ℕ) (empty : r ≡ [] → X) (text :
   unfolding rowOf
   parsed l q = cut-row l (upTo 61 l) (printable l && ltb (upTo 61 l) (length l)) q
 
+-- the form of `policy=`
+abbrev pub policyTag : ℕ
+policyTag = 49
+
 -- a test of all numbers below n
 abbrev pub allBelow : (ℕ → Bool) → ℕ → Bool
 allBelow f zero = true
@@ -54,7 +58,7 @@ all-below f (suc n) t e h = and-both (f n) (allBelow f n) e (λ p q. go (decLt t
     go (no d) p ih = subst (λ i. f i ≡ true) (omega arith) p
 
 -- a tag past the table is no form's
-pub past-table : (t : ℕ) → 50 ≤ t → formOf t ≡ noForm
+pub past-table : (t : ℕ) → noTag ≤ t → formOf t ≡ noForm
 unfolding formOf forms
 past-table t h = List·getD-eq-default forms noForm h
 
@@ -62,17 +66,17 @@ past-table t h = List·getD-eq-default forms noForm h
 abbrev pub between : ℕ → ℕ → ℕ → ℕ → Bool
 between k a b t = not (eqb (formOf t .key) k) || (leb a t && leb t b)
 
-pub tags-between : (k a b t : ℕ) → k < 13 → allBelow (between k a b) 50 ≡ true → formOf t .key ≡ k → (a ≤ t) × (t ≤ b)
-tags-between k a b t lt e q = go (decLt t 50)
+pub tags-between : (k a b t : ℕ) → k < noKey → allBelow (between k a b) noTag ≡ true → formOf t .key ≡ k → (a ≤ t) × (t ≤ b)
+tags-between k a b t lt e q = go (decLt t noTag)
   where
     inside : (x y : Bool) → x ≡ true → (not x || y) ≡ true → y ≡ true
     inside x true p h = refl
     inside true false p h = h
     inside false false p h = no-true p
 
-    go : Dec (t < 50) → (a ≤ t) × (t ≤ b)
-    go (yes d) = and-both (leb a t) (leb t b) (inside (eqb (formOf t .key) k) (leb a t && leb t b) (eq-eqb (formOf t .key) k q) (all-below (between k a b) 50 t e d)) (λ x y. (leb-true a t x, leb-true t b y))
-    go (no d) = let z : 13 ≡ k = sym (ap (λ f. f .key) (past-table t (omega arith))) ∙ q in absurd (omega (arith, z))
+    go : Dec (t < noTag) → (a ≤ t) × (t ≤ b)
+    go (yes d) = and-both (leb a t) (leb t b) (inside (eqb (formOf t .key) k) (leb a t && leb t b) (eq-eqb (formOf t .key) k q) (all-below (between k a b) noTag t e d)) (λ x y. (leb-true a t x, leb-true t b y))
+    go (no d) = let z : noKey ≡ k = sym (ap (λ f. f .key) (past-table t (omega arith))) ∙ q in absurd (omega (arith, z))
 
 -- a form without groups has just its items
 pub counted-plain : (f : Form) (n : ℕ) → f .group ≡ [] → countedIn f n ≡ true → n ≡ length (f .items)

@@ -15,26 +15,26 @@ use Rattle.cedar.specs.Table.{At}
 use Rattle.cedar.specs.Reads.{Reads, xlit, xerr, xvar, xand, xor, xite, xun, xbin, xrel, xget, xhas, xpath, xset, xrec, ReadsAll, xnil, xcons, ReadsArgs, xstop, xarg}
 use Rattle.cedar.proofs.Settled.{Policies, noPolicy, onePolicy}
 use Rattle.cedar.proofs.SettledByNumber.{ReadPolicies, done, also}
-use Rattle.sheet.specs.Forms.{Mode, line, forms, formOf, slotAt, tag, items, at, keyOf, ascendings, NODE, POLICY}
+use Rattle.sheet.specs.Forms.{Mode, line, forms, formOf, slotAt, tag, items, at, keyOf, ascendings, NODE, POLICY, noTag}
 use Rattle.sheet.specs.State.{State, linesOf, count}
 use Rattle.sheet.specs.Typing.{typeOfNode, typed}
 use Rattle.sheet.specs.Sheet.{found, allThere, thereIs, ascend, fresh}
 use Rattle.sheet.specs.Content.{types, contents, schema, childrenOver, argsOver, treeFor, treeOver, treesFrom, effectOf, numberedPolicies, contentPolicies, exprs, policies}
 use Rattle.sheet.proofs.Lines.{and-both, Was, History}
-use Rattle.sheet.proofs.Parsed.{allBelow, between, tags-between}
+use Rattle.sheet.proofs.Parsed.{allBelow, between, tags-between, policyTag}
 use Rattle.sheet.proofs.NodeRows.{Read, row-read, there-at}
 use Rattle.sheet.proofs.RowTests.{is-bool}
 use Rattle.sheet.proofs.NodeTyped.{node-typed, to-ty}
 
-pub node-tags : allBelow (between 11 21 48) 50 ≡ true
+pub node-tags : allBelow (between NODE 21 48) noTag ≡ true
 unfolding formOf forms
 node-tags = refl
 
-pub policy-tags : allBelow (between 12 49 49) 50 ≡ true
+pub policy-tags : allBelow (between POLICY policyTag policyTag) noTag ≡ true
 unfolding formOf forms
 policy-tags = refl
 
-pub request-tags : (allBelow (between 7 17 17) 50 ≡ true) × (allBelow (between 8 18 18) 50 ≡ true) × (allBelow (between 9 19 19) 50 ≡ true)
+pub request-tags : (allBelow (between 7 17 17) noTag ≡ true) × (allBelow (between 8 18 18) noTag ≡ true) × (allBelow (between 9 19 19) noTag ≡ true)
 unfolding formOf forms
 request-tags = (refl, refl, refl)
 
@@ -61,9 +61,9 @@ module _ (m : Mode) (s : State) (h : History m s) where
 
   new-typed : (pre : List (List ℕ)) (r : List ℕ) (es : List Expr) → Was m s NODE pre r → TypedAll pre es → Typed (schema s) (treeOver (types s) V′ es r) (T (at r 0))
   unfolding TypedAll typed keyOf
-  new-typed pre [] es w k = let (lo, hi) = tags-between 11 21 48 50 (omega arith) node-tags (w .key) in absurd (omega (arith, hi))
+  new-typed pre [] es w k = let (lo, hi) = tags-between NODE 21 48 noTag (omega arith) node-tags (w .key) in absurd (omega (arith, hi))
   new-typed pre (t ∷ l) es w k =
-      let (lo, hi) = tags-between 11 21 48 t (omega arith) node-tags (w .key) in
+      let (lo, hi) = tags-between NODE 21 48 t (omega arith) node-tags (w .key) in
       node-typed m s h (w .was) (w .earlier) es
       (λ n lt. subst (λ z. Typed (schema s) (getD es n (err tbool)) (T (at (getD z n []) 0))) (sym (w .mine)) (k .1 n (subst (λ z. n < length z) (w .mine) lt)))
       t lo hi l (row-read m (t ∷ l) (w .line) t (w .row) refl (omega (arith, lo)) (omega (arith, hi)) (λ z. absurd (omega (arith, z, lo)))) (all-there (w .was) NODE (t ∷ l) (w .pass .refers)) (w .pass .types)
@@ -103,11 +103,11 @@ module _ (m : Mode) (s : State) (h : History m s) where
   root-typed : (pre : List (List ℕ)) (r : List ℕ) → Was m s POLICY pre r → Typed (schema s) (getD (exprs s) (at r 2) (err tbool)) tbool
   unfolding TypedAll typed keyOf slotAt formOf forms
   root-typed pre r w =
-      let (lo, hi) = tags-between 12 49 49 (tag r) (omega arith) policy-tags (w .key) in
-      let q : tag r ≡ 49 = omega (arith, lo, hi) in
-      let rd = row-read m r (w .line) 49 (w .row) q (omega arith) (omega arith) (λ z. absurd (omega (arith, z))) in
-      let same : linesOf (w .was) 11 ≡ linesOf s 11 = w .earlier 11 (omega arith) in
-      let lt = ltb-true (at r 2) (count (w .was) 11) (item-there m s (w .was) POLICY r 49 rd (w .pass .refers) 2 (ltb-true 2 3 refl)) in
+      let (lo, hi) = tags-between POLICY policyTag policyTag (tag r) (omega arith) policy-tags (w .key) in
+      let q : tag r ≡ policyTag = omega (arith, lo, hi) in
+      let rd = row-read m r (w .line) policyTag (w .row) q (omega arith) (omega arith) (λ z. absurd (omega (arith, z))) in
+      let same : linesOf (w .was) NODE ≡ linesOf s NODE = w .earlier NODE (omega arith) in
+      let lt = ltb-true (at r 2) (count (w .was) NODE) (item-there m s (w .was) POLICY r policyTag rd (w .pass .refers) 2 (ltb-true 2 3 refl)) in
       to-ty m s h (w .was) (λ j l. w .earlier j (omega (arith, l))) (Typed (schema s) (getD (exprs s) (at r 2) (err tbool))) (typeOfNode (w .was) (at r 2)) (is-bool _ (w .pass .types))
       (subst (λ z. Typed (schema s) (getD (exprs s) (at r 2) (err tbool)) (T (at (getD z (at r 2) []) 0))) (sym same) (nodes-typed .1 (at r 2) (subst (λ z. at r 2 < length z) same lt)))
 

@@ -7,7 +7,7 @@ use native.Mathlib.Omega.{arith}
 use lib.Dec.{leb, ltb}
 use lib.ListN.{getD}
 use Rattle.sheet.specs.Bytes.{same, split}
-use Rattle.sheet.specs.Forms.{Mode, rowOf, keyOf, refs, NODE}
+use Rattle.sheet.specs.Forms.{Mode, rowOf, keyOf, refs, NODE, noKey}
 use Rattle.sheet.specs.State.{State, empty, count}
 use Rattle.sheet.specs.Typing.{typed}
 use Rattle.sheet.specs.Sheet.{greatest, inOrder, found, depth, usedTwice, faultOf, fault, more, reads, enough, firstUnused, ending, goOn, reading, read}
@@ -51,7 +51,7 @@ fault-small s [] = omega arith
 fault-small s (t ∷ l) = in-number-order s (keyOf (t ∷ l)) (t ∷ l) .small
 
 ending-small : (s : State) (k : ℕ) → ending s k .number ≤ 8
-ending-small s k = go (enough s 13) (ltb (firstUnused (s .used)) (count s NODE)) _
+ending-small s k = go (enough s noKey) (ltb (firstUnused (s .used)) (count s NODE)) _
   where
     go : (a b : Bool) (n : ℕ) → cond a (cond b (reads s 8 n) (reads s 0 0)) (reads s 3 k) .number ≤ 8
     go true true n = omega arith

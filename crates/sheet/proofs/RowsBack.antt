@@ -115,7 +115,7 @@ is-type nothing e = no-true e
 
 -- a tag that is found again by its name, with a type in front
 abbrev pub nodeTag : ℕ → Bool
-nodeTag t = ((eqb (tagOf 11 (ascii (formOf t .name))) t && eqb (formOf t .key) 11) && plainBytes (ascii (formOf t .name))) && isType (slotAt t 0)
+nodeTag t = ((eqb (tagOf NODE (ascii (formOf t .name))) t && eqb (formOf t .key) NODE) && plainBytes (ascii (formOf t .name))) && isType (slotAt t 0)
 
 -- a row whose line reads back
 abbrev pub goodRow : List ℕ → Bool
@@ -125,12 +125,12 @@ goodRow (t ∷ y ∷ l) = nodeTag t && counted t (suc (length l)) && allCome t 0
 
 module _ (t y : ℕ) (l : List ℕ) where
   good-parts : {X : Type 0} → goodRow (t ∷ y ∷ l) ≡ true
-      → (tagOf 11 (ascii (formOf t .name)) ≡ t → formOf t .key ≡ 11 → plainBytes (ascii (formOf t .name)) ≡ true → slotAt t 0 ≡ line 3 → counted t (suc (length l)) ≡ true → allCome t 0 (y ∷ l) ≡ true → X) → X
+      → (tagOf NODE (ascii (formOf t .name)) ≡ t → formOf t .key ≡ NODE → plainBytes (ascii (formOf t .name)) ≡ true → slotAt t 0 ≡ line 3 → counted t (suc (length l)) ≡ true → allCome t 0 (y ∷ l) ≡ true → X) → X
   good-parts e f = and-both (nodeTag t && counted t (suc (length l))) (allCome t 0 (y ∷ l)) e (λ e a. and-both (nodeTag t) (counted t (suc (length l))) e (λ e b.
-      and-both ((eqb (tagOf 11 (ascii (formOf t .name))) t && eqb (formOf t .key) 11) && plainBytes (ascii (formOf t .name))) (isType (slotAt t 0)) e (λ e c.
-      and-both (eqb (tagOf 11 (ascii (formOf t .name))) t && eqb (formOf t .key) 11) (plainBytes (ascii (formOf t .name))) e (λ e d.
-      and-both (eqb (tagOf 11 (ascii (formOf t .name))) t) (eqb (formOf t .key) 11) e (λ g h.
-      f (eqb-true (tagOf 11 (ascii (formOf t .name))) t g) (eqb-true (formOf t .key) 11 h) d (is-type (slotAt t 0) c) b a)))))
+      and-both ((eqb (tagOf NODE (ascii (formOf t .name))) t && eqb (formOf t .key) NODE) && plainBytes (ascii (formOf t .name))) (isType (slotAt t 0)) e (λ e c.
+      and-both (eqb (tagOf NODE (ascii (formOf t .name))) t && eqb (formOf t .key) NODE) (plainBytes (ascii (formOf t .name))) e (λ e d.
+      and-both (eqb (tagOf NODE (ascii (formOf t .name))) t) (eqb (formOf t .key) NODE) e (λ g h.
+      f (eqb-true (tagOf NODE (ascii (formOf t .name))) t g) (eqb-true (formOf t .key) NODE h) d (is-type (slotAt t 0) c) b a)))))
 
   first-out : slotAt t 0 ≡ line 3 → digits y ∷ itemsOut t 1 l ≡ itemsOut t 0 (y ∷ l)
   first-out e = ap (λ s. itemOut s y ∷ itemsOut t 1 l) (sym e)
@@ -160,7 +160,7 @@ node-plain r e = good-row r e (λ t y l q g. subst (λ r. allPlain (nodeItems r)
 
 pub node-key : (r : List ℕ) → goodRow r ≡ true → keyOf r ≡ NODE
 unfolding keyOf
-node-key r e = good-row r e (λ t y l q g. subst (λ r. keyOf r ≡ 11) (sym q) (good-parts t y l g (λ a k b s c d. k)))
+node-key r e = good-row r e (λ t y l q g. subst (λ r. keyOf r ≡ NODE) (sym q) (good-parts t y l g (λ a k b s c d. k)))
 
 -- ---- values
 

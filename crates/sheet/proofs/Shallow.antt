@@ -13,7 +13,7 @@ use Rattle.cedar.specs.Rows.{Entries, stop, entry, Row, rbool, rlong, rtext, re
 use Rattle.cedar.specs.Numbered.{entryOf, isSome, pickN}
 use Rattle.cedar.proofs.Tools.{no-true, no-some, iff}
 use Rattle.cedar.proofs.TableLaws.{InN, now′, later′}
-use Rattle.sheet.specs.Forms.{Mode, line, forms, formOf, slotAt, isLine, keep, refsFrom, refs, tag, items, TYPE, VALUE}
+use Rattle.sheet.specs.Forms.{Mode, line, forms, formOf, slotAt, isLine, keep, refsFrom, refs, tag, items, TYPE, VALUE, noTag}
 use Rattle.sheet.specs.State.{State, linesOf, count, depthsOf, Declared, TypeRow, bool, long, string, entity, set′, record′, declareds, typeRow, valueRow}
 use Rattle.sheet.specs.Typing.{declaredIn, requiredThere, allIn, allEntries, rowFits, fitsBy, fitsIn}
 use Rattle.sheet.specs.Sheet.{read}
@@ -145,7 +145,7 @@ module _ {m : Mode} {s : State} (h : Reached m s) where
     where
       go : Dec (t < count s TYPE) → length (items (getD (linesOf s TYPE) t [])) ≡ 1
       go (yes d) = split-at (linesOf s TYPE) t d (λ pre rest e. let w = reached-history h TYPE pre (getD (linesOf s TYPE) t []) rest e in set-size m (getD (linesOf s TYPE) t []) (w .line) (w .row) q)
-      go (no d) = let z : _≡_ {A = ℕ} 50 7 = ap tag (sym (List·getD-eq-default (linesOf s TYPE) [] (omega arith))) ∙ q in absurd (omega (arith, z))
+      go (no d) = let z : _≡_ {A = ℕ} noTag 7 = ap tag (sym (List·getD-eq-default (linesOf s TYPE) [] (omega arith))) ∙ q in absurd (omega (arith, z))
 
   -- one less than a type's depth
   pub types-shallow : Shallow (linesOf s TYPE) (λ t. getD (depthsOf s TYPE) t 0 - 1)

@@ -16,13 +16,13 @@ use Rattle.cedar.specs.Rows.{rent}
 use Rattle.cedar.specs.Numbered.{Give, made, old}
 use Rattle.sheet.specs.Ascii.{ascii}
 use Rattle.sheet.specs.Bytes.{same, index, decimal, atMost}
-use Rattle.sheet.specs.Forms.{Mode, partial, Slot, line, lineOr, lineUnknown, word, number, nothing, forms, formOf, slotAt, item, itemsFrom, joined, one, markOr, isPartial, mark, tag, items, at, keyOf, rowOf, PRINCIPAL, ACTION, RESOURCE, CONTEXT, NODE, POLICY}
+use Rattle.sheet.specs.Forms.{Mode, partial, Slot, line, lineOr, lineUnknown, word, number, nothing, forms, formOf, slotAt, item, itemsFrom, joined, one, markOr, isPartial, mark, tag, items, at, keyOf, rowOf, PRINCIPAL, ACTION, RESOURCE, CONTEXT, NODE, POLICY, noKey, noTag}
 use Rattle.sheet.specs.State.{State, linesOf, lineAt}
 use Rattle.sheet.specs.Sheet.{firsts}
 use Rattle.sheet.specs.Content.{types, patternOf, childrenOver, argsOver, treeFor, treeOver, treesFrom, trees, numberedPolicies, nPolicies, known, nEnv}
 use Rattle.sheet.specs.Answer.{ids}
 use Rattle.sheet.proofs.Lines.{and-both, Was, History}
-use Rattle.sheet.proofs.Parsed.{parsed, allBelow, between, tags-between}
+use Rattle.sheet.proofs.Parsed.{parsed, allBelow, between, tags-between, policyTag}
 use Rattle.sheet.proofs.ValueRows.{isNumber, item-length, some-is}
 use Rattle.sheet.proofs.NodeRows.{plain-slots, head-is, index-small}
 use Rattle.sheet.proofs.Slots.{like-slot, path-slot, name-slot}
@@ -80,7 +80,7 @@ items-fit m t pl j (f ∷ fs) l e = go (item m (slotAt t j) f) (itemsFrom m t (s
     go (some k) none a ih b q = no-some q
     go (some k) (some n) a ih b q = subst (λ z. allFit t j z ≡ true) (some-is q) (single k n a (item-length m (slotAt t j) f (pl j) a) (ih n b))
 
-pub row-fits : (m : Mode) (r l : List ℕ) → r ≡ rowOf m l → 2 ≤ tag r → tag r < 50 → (tag r ≡ 11 → ⊥) → allFit (tag r) 0 (items r) ≡ true
+pub row-fits : (m : Mode) (r l : List ℕ) → r ≡ rowOf m l → 2 ≤ tag r → tag r < noTag → (tag r ≡ 11 → ⊥) → allFit (tag r) 0 (items r) ≡ true
 row-fits m r l e lo hi other = parsed m r (λ q. subst (λ z. allFit (tag z) 0 (items z) ≡ true) (sym q) refl) (λ v q. let z = ap tag q in absurd (omega (arith, z, lo)))
     (λ t fs k c i q. let z : tag r ≡ t = ap tag q in subst (λ y. allFit (tag y) 0 (items y) ≡ true) (sym q)
     (items-fit m t (plain-slots t (omega (arith, z, hi)) (λ y. other (z ∙ y))) 0 fs k i))
@@ -198,7 +198,7 @@ module _ (m : Mode) (s : State) (h : History m s) where
   trees-from pre [] e ns k = k
   trees-from pre (r ∷ rest) e ns k =
       let w = h NODE pre r rest e in
-      let (lo, hi) = tags-between 11 21 48 (tag r) (omega arith) node-tags (w .key) in
+      let (lo, hi) = tags-between NODE 21 48 (tag r) (omega arith) node-tags (w .key) in
       trees-from (pre ++ (r ∷ [])) rest (e ∙ sym (append-assoc pre (r ∷ []) rest)) (ns ++ (treeOver (types s) (λ n. n) ns r ∷ []))
       (all-snoc (Small Any) (err tbool) tt ns (treeOver (types s) (λ n. n) ns r) k (node-small (types s) ns k r (row-fits m r (w .line) (w .row) (omega (arith, lo)) (omega (arith, hi)) (λ z. absurd (omega (arith, z, lo)))) lo))
 
@@ -217,8 +217,8 @@ module _ (m : Mode) (s : State) (h : History m s) where
   ids-from pre [] e = tt
   ids-from pre (r ∷ rest) e =
       let w = h POLICY pre r rest e in
-      let (lo, hi) = tags-between 12 49 49 (tag r) (omega arith) policy-tags (w .key) in
-      (at-small r 49 0 1 (omega (arith, lo, hi)) refl (row-fits m r (w .line) (w .row) (omega (arith, lo)) (omega (arith, hi)) (λ z. absurd (omega (arith, z, lo)))), ids-from (pre ++ (r ∷ [])) rest (e ∙ sym (append-assoc pre (r ∷ []) rest)))
+      let (lo, hi) = tags-between POLICY policyTag policyTag (tag r) (omega arith) policy-tags (w .key) in
+      (at-small r policyTag 0 1 (omega (arith, lo, hi)) refl (row-fits m r (w .line) (w .row) (omega (arith, lo)) (omega (arith, hi)) (λ z. absurd (omega (arith, z, lo)))), ids-from (pre ++ (r ∷ [])) rest (e ∙ sym (append-assoc pre (r ∷ []) rest)))
 
   pub ids-small : AllSmall (ids s)
   ids-small = ids-from [] (linesOf s POLICY) refl
@@ -227,7 +227,7 @@ module _ (m : Mode) (s : State) (h : History m s) where
 
 module _ (s : State) (f : Facts partial s) where
   -- the one row of a key with one tag
-  one-row : (k t : ℕ) → k < 13 → 12 ≤ t → t < 50 → allBelow (between k t t) 50 ≡ true → Was partial s k [] (lineAt s k 0) → (tag (lineAt s k 0) ≡ t) × (allFit (tag (lineAt s k 0)) 0 (items (lineAt s k 0)) ≡ true)
+  one-row : (k t : ℕ) → k < noKey → 12 ≤ t → t < noTag → allBelow (between k t t) noTag ≡ true → Was partial s k [] (lineAt s k 0) → (tag (lineAt s k 0) ≡ t) × (allFit (tag (lineAt s k 0)) 0 (items (lineAt s k 0)) ≡ true)
   unfolding keyOf
   one-row k t lt lo hi e w = let (a, b) = tags-between k t t (tag (lineAt s k 0)) lt e (w .key) in
       (omega (arith, a, b), row-fits partial (lineAt s k 0) (w .line) (w .row) (omega (arith, a, lo)) (omega (arith, b, hi)) (λ z. absurd (omega (arith, z, a, lo))))

@@ -132,7 +132,7 @@ module _ (p c : State) (fp : Facts partial p) (fc : Facts complete c) (k : Commo
   unfolding keyOf slotAt formOf forms
   lit-there pre r rest e z =
       let w = fp .history NODE pre r rest e in
-      let (lo, hi) = tags-between 11 21 48 (tag r) (omega arith) node-tags (w .key) in
+      let (lo, hi) = tags-between NODE 21 48 (tag r) (omega arith) node-tags (w .key) in
       let rd = row-read partial r (w .line) 21 (w .row) (omega (arith, lo, z)) (omega arith) (omega arith) (λ z. absurd (omega (arith, z))) in
       let lt = ltb-true (at r 1) (count (w .was) 5) (item-there partial p (w .was) NODE r 21 rd (w .pass .refers) 1 (ltb-true 1 2 refl)) in
       let lt′ : at r 1 < count p 5 = subst (λ l. at r 1 < length l) (w .earlier 5 (omega arith)) lt in

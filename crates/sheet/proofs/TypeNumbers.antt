@@ -27,14 +27,14 @@ use Rattle.cedar.proofs.SettledByNumber as R
 use Rattle.cedar.proofs.ReadsLaws.{at-is}
 use Rattle.cedar.proofs.TypingTestComplete.{tySame-refl}
 use Rattle.sheet.specs.Bytes.{same, index}
-use Rattle.sheet.specs.Forms.{Mode, partial, Slot, entry, line, lineOr, lineUnknown, word, number, nothing, isLine, forms, formOf, slotAt, counted, item, itemsFrom, one, joined, placeIn, tag, items, at, keyOf, rowOf, ascendings, TYPE, NODE, POLICY}
+use Rattle.sheet.specs.Forms.{Mode, partial, Slot, entry, line, lineOr, lineUnknown, word, number, nothing, isLine, forms, formOf, slotAt, counted, item, itemsFrom, one, joined, placeIn, tag, items, at, keyOf, rowOf, ascendings, TYPE, NODE, POLICY, noKey, noTag}
 use Rattle.sheet.specs.State.{State, linesOf, count, lineAt, Declared, TypeRow, bool, long, string, entity, set′, record′, declareds, typeRow, typeAt}
 use Rattle.sheet.specs.Typing.{attributesOf, typed}
 use Rattle.sheet.specs.Sheet.{found, allThere, thereIs, ascend, among, fresh}
 use Rattle.sheet.specs.Content.{tyOver, tysFrom, types, contents, attrsIn, schema, childrenOver, argsOver, treeFor, treeOver, treesFrom, contentPolicies, numberedPolicies, trees, exprs, nPolicies, policies, nEnv, pEnv}
 use Rattle.sheet.specs.Answer.{typeNumber, run}
 use Rattle.sheet.proofs.Lines.{and-both, Was, History}
-use Rattle.sheet.proofs.Parsed.{parsed, allBelow, all-below, between, tags-between, counted-plain}
+use Rattle.sheet.proofs.Parsed.{parsed, allBelow, all-below, between, tags-between, counted-plain, policyTag}
 use Rattle.sheet.proofs.RowTests.{is-bool}
 use Rattle.sheet.proofs.ValueRows.{at-getD, some-is, same-refl, values-table}
 use Rattle.sheet.proofs.Fitting.{at-less, AttrsAt, noA, oneA, TyAt, abool, along, astr, aent, aset, arec, attr-slots, ty-row, set-size, Known, one-known, all-known, ty-eq}
@@ -151,13 +151,13 @@ module _ (m : Mode) where
   back-for (suc (suc (suc (suc (suc zero))))) h = back8
   back-for (suc (suc (suc (suc (suc (suc d)))))) h = absurd (omega arith)
 
-  type-tags : allBelow (between 3 3 8) 50 ≡ true
+  type-tags : allBelow (between 3 3 8) noTag ≡ true
   unfolding formOf forms
   type-tags = refl
 
   pub type-back : (l r : List ℕ) → r ≡ rowOf m l → keyOf r ≡ TYPE → back (typeRow r) ≡ r
   unfolding Back keyOf formOf forms
-  type-back l r e k = parsed m r (λ q. let z : 13 ≡ 3 = sym (ap keyOf q) ∙ k in absurd (omega (arith, z)))
+  type-back l r e k = parsed m r (λ q. let z : noKey ≡ 3 = sym (ap keyOf q) ∙ k in absurd (omega (arith, z)))
       (λ v q. let z : 1 ≡ 3 = sym (ap keyOf q) ∙ k in absurd (omega (arith, z)))
       (λ t fs l c i q. let (lo, hi) = tags-between 3 3 8 t (omega arith) type-tags (sym (ap keyOf q) ∙ k) in
       subst (λ z. back (typeRow z) ≡ z) (sym q) (subst Back (omega arith) (back-for (t - 3) (omega arith)) fs l c i))
@@ -382,7 +382,7 @@ split-at (x ∷ l) (suc n) lt f = split-at l n (le-of-suc-le-suc lt) (λ pre res
 type-first : ℕ → Bool
 type-first t = ltb t 21 || ltb 48 t || (isLine 3 (slotAt t 0) && ltb 0 (length (formOf t .items)))
 
-types-first : allBelow type-first 50 ≡ true
+types-first : allBelow type-first noTag ≡ true
 unfolding type-first slotAt formOf forms
 types-first = refl
 
@@ -397,7 +397,7 @@ is-line k nothing e = no-true e
 
 first-is : (t : ℕ) → 21 ≤ t → t ≤ 48 → (slotAt t 0 ≡ line 3) × (0 < length (formOf t .items))
 unfolding type-first
-first-is t lo hi = go (ltb t 21) (ltb 48 t) (le-ltb t 21 lo) (le-ltb 48 t hi) (all-below type-first 50 t types-first (omega arith))
+first-is t lo hi = go (ltb t 21) (ltb 48 t) (le-ltb t 21 lo) (le-ltb 48 t hi) (all-below type-first noTag t types-first (omega arith))
   where
     go : (a b : Bool) → a ≡ false → b ≡ false → (a || b || (isLine 3 (slotAt t 0) && ltb 0 (length (formOf t .items)))) ≡ true → (slotAt t 0 ≡ line 3) × (0 < length (formOf t .items))
     go true b p q e = no-true (sym p)
@@ -423,7 +423,7 @@ module _ (m : Mode) (s : State) (h : History m s) where
   node-type n lt = split-at (linesOf s NODE) n lt (λ pre rest e.
       let r = lineAt s NODE n in
       let w = h NODE pre (lineAt s NODE n) rest e in
-      let (lo, hi) = tags-between 11 21 48 (tag r) (omega arith) node-tags (w .key) in
+      let (lo, hi) = tags-between NODE 21 48 (tag r) (omega arith) node-tags (w .key) in
       let (sl, le) = first-is (tag r) lo hi in
       let rd = row-read m r (w .line) (tag r) (w .row) refl (omega (arith, lo)) (omega (arith, hi)) (λ z. absurd (omega (arith, z, lo))) in
       let there = item-there m s (w .was) NODE r (tag r) rd (w .pass .refers) 0 le in
@@ -434,11 +434,11 @@ module _ (m : Mode) (s : State) (h : History m s) where
   unfolding typed keyOf slotAt formOf forms
   bool-listed pre r rest e =
       let w = h POLICY pre r rest e in
-      let (lo, hi) = tags-between 12 49 49 (tag r) (omega arith) policy-tags (w .key) in
-      let q : tag r ≡ 49 = omega (arith, lo, hi) in
-      let rd = row-read m r (w .line) 49 (w .row) q (omega arith) (omega arith) (λ z. absurd (omega (arith, z))) in
-      let nodes : linesOf (w .was) 11 ≡ linesOf s 11 = w .earlier 11 (omega arith) in
-      let lt = ltb-true (at r 2) (count (w .was) 11) (item-there m s (w .was) POLICY r 49 rd (w .pass .refers) 2 (ltb-true 2 3 refl)) in
+      let (lo, hi) = tags-between POLICY policyTag policyTag (tag r) (omega arith) policy-tags (w .key) in
+      let q : tag r ≡ policyTag = omega (arith, lo, hi) in
+      let rd = row-read m r (w .line) policyTag (w .row) q (omega arith) (omega arith) (λ z. absurd (omega (arith, z))) in
+      let nodes : linesOf (w .was) NODE ≡ linesOf s NODE = w .earlier NODE (omega arith) in
+      let lt = ltb-true (at r 2) (count (w .was) NODE) (item-there m s (w .was) POLICY r policyTag rd (w .pass .refers) 2 (ltb-true 2 3 refl)) in
       let y = at (lineAt s NODE (at r 2)) 0 in
       let there : y < count s TYPE = node-type (at r 2) (subst (λ l. at r 2 < length l) nodes lt) in
       let row : typeAt s y ≡ bool = subst (λ l. typeRow (getD l y []) ≡ bool) (w .earlier 3 (omega arith)) (subst (λ l. typeAt (w .was) (at (getD l (at r 2) []) 0) ≡ bool) nodes (is-bool _ (w .pass .types))) in

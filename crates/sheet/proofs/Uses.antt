@@ -13,13 +13,13 @@ use lib.Seq.{getD-set-same, getD-set-other}
 use Rattle.cedar.proofs.Tools.{neither}
 use Rattle.cedar.specs.Types.{Ty, tbool}
 use Rattle.cedar.specs.Residual.{Node, err}
-use Rattle.sheet.specs.Forms.{Mode, Slot, line, forms, formOf, slotAt, isLine, keep, refsFrom, refs, tag, items, at, keyOf, rowOf, NODE, POLICY}
+use Rattle.sheet.specs.Forms.{Mode, Slot, line, forms, formOf, slotAt, isLine, keep, refsFrom, refs, tag, items, at, keyOf, rowOf, NODE, POLICY, noKey, noTag}
 use Rattle.sheet.specs.State.{State, linesOf, count}
 use Rattle.sheet.specs.Sheet.{greatest, thereIs, allThere, marked, usedTwice, fault, more, read}
 use Rattle.sheet.specs.Content.{childrenOver, argsOver, treeOver, treesFrom, trees, nPolicies, numberedPolicies, types}
 use Rattle.sheet.specs.Answer.{size, sizes, sizeArgs}
 use Rattle.sheet.proofs.Lines.{and-both, Passed, passed, holds-read, later-empty, Was, History, accepted-history}
-use Rattle.sheet.proofs.Parsed.{tags-between}
+use Rattle.sheet.proofs.Parsed.{tags-between, policyTag}
 use Rattle.sheet.proofs.NodeRows.{row-read}
 use Rattle.sheet.proofs.MadeCount.{policySizes}
 use Rattle.sheet.proofs.PoliciesRead.{all-there, node-tags, policy-tags}
@@ -116,71 +116,71 @@ keep-more : (ws : List ℕ) (b : Bool) (x : ℕ) (l : List ℕ) → sumAt ws l �
 keep-more ws true x l = omega arith
 keep-more ws false x l = omega arith
 
-keep-this : (ws : List ℕ) (sl : Slot) (x : ℕ) (l : List ℕ) → sl ≡ line 11 → sumAt ws (keep (isLine 11 sl) x l) ≡ getD ws x 1 + sumAt ws l
-keep-this ws sl x l e = ap (λ z. sumAt ws (keep (isLine 11 z) x l)) e
+keep-this : (ws : List ℕ) (sl : Slot) (x : ℕ) (l : List ℕ) → sl ≡ line NODE → sumAt ws (keep (isLine NODE sl) x l) ≡ getD ws x 1 + sumAt ws l
+keep-this ws sl x l e = ap (λ z. sumAt ws (keep (isLine NODE z) x l)) e
 
 module _ {L : Type 0} (ts : List Ty) (value : ℕ → L) (ws : List ℕ) (ns : List (Node L)) (k : (n : ℕ) → size (getD ns n (err tbool)) ≤ getD ws n 1) where
   Small : ℕ → Type 0
-  Small t = (l : List ℕ) → length (formOf t .items) ≤ length l → size (treeOver ts value ns (t ∷ l)) ≤ suc (sumAt ws (refs 11 (t ∷ l)))
+  Small t = (l : List ℕ) → length (formOf t .items) ≤ length l → size (treeOver ts value ns (t ∷ l)) ≤ suc (sumAt ws (refs NODE (t ∷ l)))
 
   module _ (t : ℕ) where
-    one-kid : (l : List ℕ) → 2 ≤ length l → slotAt t 1 ≡ line 11 → suc (size (getD ns (getD l 1 0) (err tbool))) ≤ suc (sumAt ws (refs 11 (t ∷ l)))
+    one-kid : (l : List ℕ) → 2 ≤ length l → slotAt t 1 ≡ line NODE → suc (size (getD ns (getD l 1 0) (err tbool))) ≤ suc (sumAt ws (refs NODE (t ∷ l)))
     unfolding refs
     one-kid [] h p = absurd (omega arith)
     one-kid (x ∷ []) h p = absurd (omega arith)
     one-kid (x ∷ y ∷ l) h p = let a = k y in
-        let u = keep-more ws (isLine 11 (slotAt t 0)) x (refsFrom 11 t 1 (y ∷ l)) in
-        let v = keep-this ws (slotAt t 1) y (refsFrom 11 t 2 l) p in
+        let u = keep-more ws (isLine NODE (slotAt t 0)) x (refsFrom NODE t 1 (y ∷ l)) in
+        let v = keep-this ws (slotAt t 1) y (refsFrom NODE t 2 l) p in
         omega (arith, a, u, v)
 
-    two-kids : (l : List ℕ) → 3 ≤ length l → slotAt t 1 ≡ line 11 → slotAt t 2 ≡ line 11 → suc (size (getD ns (getD l 1 0) (err tbool)) + size (getD ns (getD l 2 0) (err tbool))) ≤ suc (sumAt ws (refs 11 (t ∷ l)))
+    two-kids : (l : List ℕ) → 3 ≤ length l → slotAt t 1 ≡ line NODE → slotAt t 2 ≡ line NODE → suc (size (getD ns (getD l 1 0) (err tbool)) + size (getD ns (getD l 2 0) (err tbool))) ≤ suc (sumAt ws (refs NODE (t ∷ l)))
     unfolding refs
     two-kids [] h p q = absurd (omega arith)
     two-kids (x ∷ []) h p q = absurd (omega arith)
     two-kids (x ∷ y ∷ []) h p q = absurd (omega arith)
     two-kids (x ∷ y ∷ z ∷ l) h p q = let a = k y in let b = k z in
-        let u = keep-more ws (isLine 11 (slotAt t 0)) x (refsFrom 11 t 1 (y ∷ z ∷ l)) in
-        let v = keep-this ws (slotAt t 1) y (refsFrom 11 t 2 (z ∷ l)) p in
-        let w = keep-this ws (slotAt t 2) z (refsFrom 11 t 3 l) q in
+        let u = keep-more ws (isLine NODE (slotAt t 0)) x (refsFrom NODE t 1 (y ∷ z ∷ l)) in
+        let v = keep-this ws (slotAt t 1) y (refsFrom NODE t 2 (z ∷ l)) p in
+        let w = keep-this ws (slotAt t 2) z (refsFrom NODE t 3 l) q in
         omega (arith, a, b, u, v, w)
 
-    three-kids : (l : List ℕ) → 4 ≤ length l → slotAt t 1 ≡ line 11 → slotAt t 2 ≡ line 11 → slotAt t 3 ≡ line 11
-        → suc (size (getD ns (getD l 1 0) (err tbool)) + size (getD ns (getD l 2 0) (err tbool)) + size (getD ns (getD l 3 0) (err tbool))) ≤ suc (sumAt ws (refs 11 (t ∷ l)))
+    three-kids : (l : List ℕ) → 4 ≤ length l → slotAt t 1 ≡ line NODE → slotAt t 2 ≡ line NODE → slotAt t 3 ≡ line NODE
+        → suc (size (getD ns (getD l 1 0) (err tbool)) + size (getD ns (getD l 2 0) (err tbool)) + size (getD ns (getD l 3 0) (err tbool))) ≤ suc (sumAt ws (refs NODE (t ∷ l)))
     unfolding refs
     three-kids [] h p q r = absurd (omega arith)
     three-kids (x ∷ []) h p q r = absurd (omega arith)
     three-kids (x ∷ y ∷ []) h p q r = absurd (omega arith)
     three-kids (x ∷ y ∷ z ∷ []) h p q r = absurd (omega arith)
     three-kids (x ∷ y ∷ z ∷ o ∷ l) h p q r = let a = k y in let b = k z in let c = k o in
-        let u = keep-more ws (isLine 11 (slotAt t 0)) x (refsFrom 11 t 1 (y ∷ z ∷ o ∷ l)) in
-        let v = keep-this ws (slotAt t 1) y (refsFrom 11 t 2 (z ∷ o ∷ l)) p in
-        let w = keep-this ws (slotAt t 2) z (refsFrom 11 t 3 (o ∷ l)) q in
-        let g = keep-this ws (slotAt t 3) o (refsFrom 11 t 4 l) r in
+        let u = keep-more ws (isLine NODE (slotAt t 0)) x (refsFrom NODE t 1 (y ∷ z ∷ o ∷ l)) in
+        let v = keep-this ws (slotAt t 1) y (refsFrom NODE t 2 (z ∷ o ∷ l)) p in
+        let w = keep-this ws (slotAt t 2) z (refsFrom NODE t 3 (o ∷ l)) q in
+        let g = keep-this ws (slotAt t 3) o (refsFrom NODE t 4 l) r in
         omega (arith, a, b, c, u, v, w, g)
 
-  children : (j : ℕ) (l : List ℕ) → sizes (childrenOver ts value ns l) ≤ sumAt ws (refsFrom 11 47 (suc j) l)
+  children : (j : ℕ) (l : List ℕ) → sizes (childrenOver ts value ns l) ≤ sumAt ws (refsFrom NODE 47 (suc j) l)
   children j [] = omega arith
-  children j (n ∷ l) = let a = k n in let b = children (suc j) l in let c = keep-this ws (slotAt 47 (suc j)) n (refsFrom 11 47 (suc (suc j)) l) (set-slot j) in omega (arith, a, b, c)
+  children j (n ∷ l) = let a = k n in let b = children (suc j) l in let c = keep-this ws (slotAt 47 (suc j)) n (refsFrom NODE 47 (suc (suc j)) l) (set-slot j) in omega (arith, a, b, c)
 
-  arguments : (i : ℕ) (l : List ℕ) → sizeArgs (argsOver ts value ns l) ≤ sumAt ws (refsFrom 11 48 (suc (i + i)) l)
+  arguments : (i : ℕ) (l : List ℕ) → sizeArgs (argsOver ts value ns l) ≤ sumAt ws (refsFrom NODE 48 (suc (i + i)) l)
   arguments i [] = omega arith
   arguments i (t ∷ []) = omega arith
   arguments i (t ∷ n ∷ l) = let a = k n in let b = arguments (suc i) l in
-      let c = keep-this ws (slotAt 48 (suc (suc (i + i)))) n (refsFrom 11 48 (suc (suc (suc (i + i)))) l) (field-slot i) in
-      let d = keep-more ws (isLine 11 (slotAt 48 (suc (i + i)))) t (keep (isLine 11 (slotAt 48 (suc (suc (i + i))))) n (refsFrom 11 48 (suc (suc (suc (i + i)))) l)) in
-      let e : refsFrom 11 48 (suc (suc i + suc i)) l ≡ refsFrom 11 48 (suc (suc (suc (i + i)))) l = ap (λ j. refsFrom 11 48 j l) (omega arith) in
+      let c = keep-this ws (slotAt 48 (suc (suc (i + i)))) n (refsFrom NODE 48 (suc (suc (suc (i + i)))) l) (field-slot i) in
+      let d = keep-more ws (isLine NODE (slotAt 48 (suc (i + i)))) t (keep (isLine NODE (slotAt 48 (suc (suc (i + i))))) n (refsFrom NODE 48 (suc (suc (suc (i + i)))) l)) in
+      let e : refsFrom NODE 48 (suc (suc i + suc i)) l ≡ refsFrom NODE 48 (suc (suc (suc (i + i)))) l = ap (λ j. refsFrom NODE 48 j l) (omega arith) in
       let f = ap (sumAt ws) e in
       omega (arith, a, b, c, d, f)
 
-  set-kids : (l : List ℕ) → suc (sizes (childrenOver ts value ns (drop 1 l))) ≤ suc (sumAt ws (refs 11 (47 ∷ l)))
+  set-kids : (l : List ℕ) → suc (sizes (childrenOver ts value ns (drop 1 l))) ≤ suc (sumAt ws (refs NODE (47 ∷ l)))
   unfolding refs
   set-kids [] = omega arith
-  set-kids (x ∷ l) = let a = children 0 l in let b = keep-more ws (isLine 11 (slotAt 47 0)) x (refsFrom 11 47 1 l) in omega (arith, a, b)
+  set-kids (x ∷ l) = let a = children 0 l in let b = keep-more ws (isLine NODE (slotAt 47 0)) x (refsFrom NODE 47 1 l) in omega (arith, a, b)
 
-  record-kids : (l : List ℕ) → suc (sizeArgs (argsOver ts value ns (drop 1 l))) ≤ suc (sumAt ws (refs 11 (48 ∷ l)))
+  record-kids : (l : List ℕ) → suc (sizeArgs (argsOver ts value ns (drop 1 l))) ≤ suc (sumAt ws (refs NODE (48 ∷ l)))
   unfolding refs
   record-kids [] = omega arith
-  record-kids (x ∷ l) = let a = arguments 0 l in let b = keep-more ws (isLine 11 (slotAt 48 0)) x (refsFrom 11 48 1 l) in omega (arith, a, b)
+  record-kids (x ∷ l) = let a = arguments 0 l in let b = keep-more ws (isLine NODE (slotAt 48 0)) x (refsFrom NODE 48 1 l) in omega (arith, a, b)
 
   rule-for : (d : ℕ) → d ≤ 27 → Small (21 + d)
   unfolding Small slotAt formOf forms
@@ -225,11 +225,11 @@ fit-snoc (x ∷ ns) (y ∷ ws) a w e k h (suc n) = fit-snoc ns ws a w (omega (ar
 
 module _ (m : Mode) (s : State) (h : History m s) where
   new-fit : (pre : List (List ℕ)) (r : List ℕ) → Was m s NODE pre r → (ns : List (Node ℕ)) (ws : List ℕ) → ((n : ℕ) → size (getD ns n (err tbool)) ≤ getD ws n 1)
-      → size (treeOver (types s) (λ n. n) ns r) ≤ suc (sumAt ws (refs 11 r))
+      → size (treeOver (types s) (λ n. n) ns r) ≤ suc (sumAt ws (refs NODE r))
   unfolding Small keyOf
-  new-fit pre [] w ns ws k = let (lo, hi) = tags-between 11 21 48 50 (omega arith) node-tags (w .key) in absurd (omega (arith, hi))
+  new-fit pre [] w ns ws k = let (lo, hi) = tags-between NODE 21 48 noTag (omega arith) node-tags (w .key) in absurd (omega (arith, hi))
   new-fit pre (t ∷ l) w ns ws k =
-      let (lo, hi) = tags-between 11 21 48 t (omega arith) node-tags (w .key) in
+      let (lo, hi) = tags-between NODE 21 48 t (omega arith) node-tags (w .key) in
       let rd = row-read m (t ∷ l) (w .line) t (w .row) refl (omega (arith, lo)) (omega (arith, hi)) (λ z. absurd (omega (arith, z, lo))) in
       let rule : Small (types s) (λ n. n) ws ns k t = subst (Small (types s) (λ n. n) ws ns k) (omega (arith, lo)) (rule-for (types s) (λ n. n) ws ns k (t - 21) (omega (arith, lo, hi))) in
       rule l (rd .least)
@@ -240,9 +240,9 @@ module _ (m : Mode) (s : State) (h : History m s) where
   fit-from pre (r ∷ rest) ns ws e q k =
       let a = treeOver (types s) (λ n. n) ns r in
       let x = length-append ns (a ∷ []) in
-      let y = length-append ws (suc (sumAt ws (refs 11 r)) ∷ []) in
-      fit-from (pre ++ (r ∷ [])) rest (ns ++ (a ∷ [])) (ws ++ (suc (sumAt ws (refs 11 r)) ∷ [])) (e ∙ sym (append-assoc pre (r ∷ []) rest)) (omega (arith, x, y, q))
-      (fit-snoc ns ws a (suc (sumAt ws (refs 11 r))) q k (new-fit pre r (h NODE pre r rest e) ns ws k))
+      let y = length-append ws (suc (sumAt ws (refs NODE r)) ∷ []) in
+      fit-from (pre ++ (r ∷ [])) rest (ns ++ (a ∷ [])) (ws ++ (suc (sumAt ws (refs NODE r)) ∷ [])) (e ∙ sym (append-assoc pre (r ∷ []) rest)) (omega (arith, x, y, q))
+      (fit-snoc ns ws a (suc (sumAt ws (refs NODE r))) q k (new-fit pre r (h NODE pre r rest e) ns ws k))
 
   roots-fit : (rs : List (List ℕ)) → policySizes (numberedPolicies (trees s) rs) ≤ rootWeights (weights (linesOf s NODE)) rs
   unfolding trees
@@ -262,31 +262,31 @@ pub record Shared (nodes policies : List (List ℕ)) (used : List ℕ) : Type 0 
 no-nodes : (us : List ℕ) → length us ≡ 0 → Shared [] [] us
 no-nodes us e = record { flags = e; total = omega arith }
 
-one-node : (nodes : List (List ℕ)) (used r : List ℕ) → Shared nodes [] used → AllBelow (length nodes) (refs 11 r) → usedTwice used (refs 11 r) ≡ false → Shared (nodes ++ (r ∷ [])) [] (marked used (refs 11 r) ++ (0 ∷ []))
+one-node : (nodes : List (List ℕ)) (used r : List ℕ) → Shared nodes [] used → AllBelow (length nodes) (refs NODE r) → usedTwice used (refs NODE r) ≡ false → Shared (nodes ++ (r ∷ [])) [] (marked used (refs NODE r) ++ (0 ∷ []))
 one-node nodes used r h b u =
     let ws = weights nodes in
-    let us = marked used (refs 11 r) in
-    let w = suc (sumAt (weights nodes) (refs 11 r)) in
+    let us = marked used (refs NODE r) in
+    let w = suc (sumAt (weights nodes) (refs NODE r)) in
     let f = h .flags in
     let t = h .total in
     let n : length ws ≡ length nodes = weights-length [] nodes ∙ omega arith in
-    let c = marked-length used (refs 11 r) in
+    let c = marked-length used (refs NODE r) in
     let d = length-append us (0 ∷ []) in
     let e = length-append nodes (r ∷ []) in
-    let x = free-marked ws used (refs 11 r) (omega (arith, n, f)) (subst (λ k. AllBelow k (refs 11 r)) (sym f) b) u in
+    let x = free-marked ws used (refs NODE r) (omega (arith, n, f)) (subst (λ k. AllBelow k (refs NODE r)) (sym f) b) u in
     let y = free-snoc ws us w (omega (arith, n, f, c)) in
     let z : free (weights (nodes ++ (r ∷ []))) (us ++ (0 ∷ [])) ≡ free (ws ++ (w ∷ [])) (us ++ (0 ∷ [])) = ap (λ k. free k (us ++ (0 ∷ []))) (weights-snoc [] nodes r) in
     record { flags = omega (arith, c, d, e, f); total = omega (arith, x, y, z, e, t) }
 
-one-policy : (nodes policies : List (List ℕ)) (used r : List ℕ) → Shared nodes policies used → AllBelow (length nodes) (refs 11 r) → usedTwice used (refs 11 r) ≡ false
-    → getD (weights nodes) (at r 2) 1 ≤ sumAt (weights nodes) (refs 11 r) → Shared nodes (policies ++ (r ∷ [])) (marked used (refs 11 r))
+one-policy : (nodes policies : List (List ℕ)) (used r : List ℕ) → Shared nodes policies used → AllBelow (length nodes) (refs NODE r) → usedTwice used (refs NODE r) ≡ false
+    → getD (weights nodes) (at r 2) 1 ≤ sumAt (weights nodes) (refs NODE r) → Shared nodes (policies ++ (r ∷ [])) (marked used (refs NODE r))
 one-policy nodes policies used r h b u k =
     let ws = weights nodes in
     let f = h .flags in
     let t = h .total in
     let n : length ws ≡ length nodes = weights-length [] nodes ∙ omega arith in
-    let c = marked-length used (refs 11 r) in
-    let x = free-marked ws used (refs 11 r) (omega (arith, n, f)) (subst (λ k. AllBelow k (refs 11 r)) (sym f) b) u in
+    let c = marked-length used (refs NODE r) in
+    let x = free-marked ws used (refs NODE r) (omega (arith, n, f)) (subst (λ k. AllBelow k (refs NODE r)) (sym f) b) u in
     let y = roots-snoc ws policies r in
     record { flags = omega (arith, c, f); total = omega (arith, x, y, t, k) }
 
@@ -301,33 +301,33 @@ unfolding more
 lines-own s r lt = getD-set-same (s .lines) (keyOf r) (linesOf s (keyOf r) ++ (r ∷ [])) [] lt
 
 -- a line's key is one of the thirteen
-pub key-below : (s : State) (k : ℕ) (r : List ℕ) → Passed s k r → k < 13
-key-below s k r p = go (decLt k 13)
+pub key-below : (s : State) (k : ℕ) (r : List ℕ) → Passed s k r → k < noKey
+key-below s k r p = go (decLt k noKey)
   where
-    go : Dec (k < 13) → k < 13
+    go : Dec (k < noKey) → k < noKey
     go (yes d) = d
     go (no d) = let a = leb-false (getD (greatest s) k 0) (count s k) (p .room) in let b = List·getD-eq-default (greatest s) 0 {n = k} (omega arith) in absurd (omega (arith, a, b))
 
 -- ---- for every state that a reading without fault reaches
 
 pub record Used (s : State) : Type 0 where
-  pub keys : length (s .lines) ≡ 13
+  pub keys : length (s .lines) ≡ noKey
   pub shared : Shared (linesOf s NODE) (linesOf s POLICY) (s .used)
 
-last-weight : (ws r : List ℕ) → tag r ≡ 49 → length (formOf 49 .items) ≤ length (items r) → getD ws (at r 2) 1 ≤ sumAt ws (refs 11 r)
+last-weight : (ws r : List ℕ) → tag r ≡ policyTag → length (formOf policyTag .items) ≤ length (items r) → getD ws (at r 2) 1 ≤ sumAt ws (refs NODE r)
 unfolding refs slotAt formOf forms
 last-weight ws [] q h = absurd (omega arith)
 last-weight ws (t ∷ []) q h = absurd (omega arith)
 last-weight ws (t ∷ x ∷ []) q h = absurd (omega arith)
 last-weight ws (t ∷ x ∷ y ∷ []) q h = absurd (omega arith)
-last-weight ws (t ∷ x ∷ y ∷ z ∷ l) q h = subst (λ t. getD ws z 1 ≤ sumAt ws (refsFrom 11 t 0 (x ∷ y ∷ z ∷ l))) (sym q) (omega arith)
+last-weight ws (t ∷ x ∷ y ∷ z ∷ l) q h = subst (λ t. getD ws z 1 ≤ sumAt ws (refsFrom NODE t 0 (x ∷ y ∷ z ∷ l))) (sym q) (omega arith)
 
-root-weight : (m : Mode) (ws l r : List ℕ) → r ≡ rowOf m l → keyOf r ≡ POLICY → getD ws (at r 2) 1 ≤ sumAt ws (refs 11 r)
+root-weight : (m : Mode) (ws l r : List ℕ) → r ≡ rowOf m l → keyOf r ≡ POLICY → getD ws (at r 2) 1 ≤ sumAt ws (refs NODE r)
 unfolding keyOf
 root-weight m ws l r e k =
-    let (lo, hi) = tags-between 12 49 49 (tag r) (omega arith) policy-tags k in
-    let q : tag r ≡ 49 = omega (arith, lo, hi) in
-    last-weight ws r q (row-read m r l 49 e q (omega arith) (omega arith) (λ z. absurd (omega (arith, z))) .least)
+    let (lo, hi) = tags-between POLICY policyTag policyTag (tag r) (omega arith) policy-tags k in
+    let q : tag r ≡ policyTag = omega (arith, lo, hi) in
+    last-weight ws r q (row-read m r l policyTag e q (omega arith) (omega arith) (λ z. absurd (omega (arith, z))) .least)
 
 module _ (m : Mode) (s : State) (l : List ℕ) (h : Used s) (f : fault s (rowOf m l) ≡ 0) where
   new : List ℕ
@@ -341,53 +341,53 @@ module _ (m : Mode) (s : State) (l : List ℕ) (h : Used s) (f : fault s (rowOf 
   unfolding new
   now = passed s (rowOf m l) f
 
-  keys-more : length (more s new .lines) ≡ 13
+  keys-more : length (more s new .lines) ≡ noKey
   unfolding more
   keys-more = length-set (s .lines) (keyOf new) (linesOf s (keyOf new) ++ (new ∷ [])) ∙ h .keys
 
-  below : AllBelow (count s 11) (refs 11 new)
+  below : AllBelow (count s NODE) (refs NODE new)
   unfolding refs
-  below = refs-below s 11 (tag new) 0 (items new) (all-there s (keyOf new) new (now .refers))
+  below = refs-below s NODE (tag new) 0 (items new) (all-there s (keyOf new) new (now .refers))
 
   -- before the nodes
-  before-nodes : keyOf new < 11 → Shared (linesOf (more s new) NODE) (linesOf (more s new) POLICY) (more s new .used)
+  before-nodes : keyOf new < NODE → Shared (linesOf (more s new) NODE) (linesOf (more s new) POLICY) (more s new .used)
   unfolding more
   before-nodes lt =
-      let a : linesOf (more s new) NODE ≡ [] = lines-other s new 11 (λ z. absurd (omega (arith, z, lt))) ∙ later-empty s (keyOf new) 11 (now .order) lt in
-      let b : linesOf (more s new) POLICY ≡ [] = lines-other s new 12 (λ z. absurd (omega (arith, z, lt))) ∙ later-empty s (keyOf new) 12 (now .order) (omega arith) in
-      let c : count s 11 ≡ 0 = ap length (later-empty s (keyOf new) 11 (now .order) lt) in
+      let a : linesOf (more s new) NODE ≡ [] = lines-other s new NODE (λ z. absurd (omega (arith, z, lt))) ∙ later-empty s (keyOf new) NODE (now .order) lt in
+      let b : linesOf (more s new) POLICY ≡ [] = lines-other s new POLICY (λ z. absurd (omega (arith, z, lt))) ∙ later-empty s (keyOf new) POLICY (now .order) (omega arith) in
+      let c : count s NODE ≡ 0 = ap length (later-empty s (keyOf new) NODE (now .order) lt) in
       let e = h .shared .flags in
-      let g = marked-length (s .used) (refs 11 new) in
+      let g = marked-length (s .used) (refs NODE new) in
       subst (λ z. Shared z (linesOf (more s new) POLICY) (more s new .used)) (sym a) (subst (λ z. Shared [] z (more s new .used)) (sym b)
-      (subst (λ z. Shared [] [] (cond z (marked (s .used) (refs 11 new) ++ (0 ∷ [])) (marked (s .used) (refs 11 new)))) (sym (ne-eqb (keyOf new) 11 (λ z. absurd (omega (arith, z, lt)))))
-      (no-nodes (marked (s .used) (refs 11 new)) (omega (arith, c, e, g)))))
+      (subst (λ z. Shared [] [] (cond z (marked (s .used) (refs NODE new) ++ (0 ∷ [])) (marked (s .used) (refs NODE new)))) (sym (ne-eqb (keyOf new) NODE (λ z. absurd (omega (arith, z, lt)))))
+      (no-nodes (marked (s .used) (refs NODE new)) (omega (arith, c, e, g)))))
 
-  node-line : keyOf new ≡ 11 → Shared (linesOf (more s new) NODE) (linesOf (more s new) POLICY) (more s new .used)
+  node-line : keyOf new ≡ NODE → Shared (linesOf (more s new) NODE) (linesOf (more s new) POLICY) (more s new .used)
   unfolding more
   node-line q =
       let k = h .keys in
       let a : linesOf (more s new) NODE ≡ linesOf s NODE ++ (new ∷ []) = subst (λ z. linesOf (more s new) z ≡ linesOf s z ++ (new ∷ [])) q (lines-own s new (omega (arith, q, k))) in
-      let c : linesOf s POLICY ≡ [] = later-empty s (keyOf new) 12 (now .order) (omega (arith, q)) in
-      let b : linesOf (more s new) POLICY ≡ [] = lines-other s new 12 (λ z. absurd (omega (arith, z, q))) ∙ c in
+      let c : linesOf s POLICY ≡ [] = later-empty s (keyOf new) POLICY (now .order) (omega (arith, q)) in
+      let b : linesOf (more s new) POLICY ≡ [] = lines-other s new POLICY (λ z. absurd (omega (arith, z, q))) ∙ c in
       subst (λ z. Shared z (linesOf (more s new) POLICY) (more s new .used)) (sym a) (subst (λ z. Shared (linesOf s NODE ++ (new ∷ [])) z (more s new .used)) (sym b)
-      (subst (λ z. Shared (linesOf s NODE ++ (new ∷ [])) [] (cond z (marked (s .used) (refs 11 new) ++ (0 ∷ [])) (marked (s .used) (refs 11 new)))) (sym (eq-eqb (keyOf new) 11 q))
+      (subst (λ z. Shared (linesOf s NODE ++ (new ∷ [])) [] (cond z (marked (s .used) (refs NODE new) ++ (0 ∷ [])) (marked (s .used) (refs NODE new)))) (sym (eq-eqb (keyOf new) NODE q))
       (one-node (linesOf s NODE) (s .used) new (subst (λ z. Shared (linesOf s NODE) z (s .used)) c (h .shared)) below (now .unused))))
 
-  policy-line : keyOf new ≡ 12 → Shared (linesOf (more s new) NODE) (linesOf (more s new) POLICY) (more s new .used)
+  policy-line : keyOf new ≡ POLICY → Shared (linesOf (more s new) NODE) (linesOf (more s new) POLICY) (more s new .used)
   unfolding more
   policy-line q =
       let k = h .keys in
-      let a : linesOf (more s new) NODE ≡ linesOf s NODE = lines-other s new 11 (λ z. absurd (omega (arith, z, q))) in
+      let a : linesOf (more s new) NODE ≡ linesOf s NODE = lines-other s new NODE (λ z. absurd (omega (arith, z, q))) in
       let b : linesOf (more s new) POLICY ≡ linesOf s POLICY ++ (new ∷ []) = subst (λ z. linesOf (more s new) z ≡ linesOf s z ++ (new ∷ [])) q (lines-own s new (omega (arith, q, k))) in
       subst (λ z. Shared z (linesOf (more s new) POLICY) (more s new .used)) (sym a) (subst (λ z. Shared (linesOf s NODE) z (more s new .used)) (sym b)
-      (subst (λ z. Shared (linesOf s NODE) (linesOf s POLICY ++ (new ∷ [])) (cond z (marked (s .used) (refs 11 new) ++ (0 ∷ [])) (marked (s .used) (refs 11 new)))) (sym (ne-eqb (keyOf new) 11 (λ z. absurd (omega (arith, z, q)))))
+      (subst (λ z. Shared (linesOf s NODE) (linesOf s POLICY ++ (new ∷ [])) (cond z (marked (s .used) (refs NODE new) ++ (0 ∷ [])) (marked (s .used) (refs NODE new)))) (sym (ne-eqb (keyOf new) NODE (λ z. absurd (omega (arith, z, q)))))
       (one-policy (linesOf s NODE) (linesOf s POLICY) (s .used) new (h .shared) below (now .unused) (root-weight m (weights (linesOf s NODE)) l new same q))))
 
   used-more : Used (more s (rowOf m l))
   unfolding new
-  used-more = record { keys = keys-more; shared = go (decLt (keyOf new) 11) (decLt 11 (keyOf new)) }
+  used-more = record { keys = keys-more; shared = go (decLt (keyOf new) NODE) (decLt NODE (keyOf new)) }
     where
-      go : Dec (keyOf new < 11) → Dec (11 < keyOf new) → Shared (linesOf (more s new) NODE) (linesOf (more s new) POLICY) (more s new .used)
+      go : Dec (keyOf new < NODE) → Dec (NODE < keyOf new) → Shared (linesOf (more s new) NODE) (linesOf (more s new) POLICY) (more s new .used)
       go (yes a) b = before-nodes a
       go (no a) (no b) = node-line (omega arith)
       go (no a) (yes b) = let z = key-below s (keyOf new) new now in policy-line (omega (arith, z))

@@ -18,7 +18,7 @@ use Rattle.cedar.specs.Table.{At, now, later, Least, end, less, Asc, up, Elems,
 use Rattle.cedar.proofs.TableLaws.{same-length}
 use Rattle.sheet.specs.Ascii.{ascii}
 use Rattle.sheet.specs.Bytes.{same, index, long, longAt, half}
-use Rattle.sheet.specs.Forms.{Mode, Slot, entry as entryˢ, line, lineOr, lineUnknown, word, number, nothing, forms, formOf, counted, slotAt, item, itemsFrom, one, two, joined, wordNumber, markOr, isPartial, modeWord, placeIn, tag, items, at, keyOf, rowOf, VALUE, ascendings, everyFrom}
+use Rattle.sheet.specs.Forms.{Mode, Slot, entry as entryˢ, line, lineOr, lineUnknown, word, number, nothing, forms, formOf, counted, slotAt, item, itemsFrom, one, two, joined, wordNumber, markOr, isPartial, modeWord, placeIn, tag, items, at, keyOf, rowOf, VALUE, ascendings, everyFrom, noKey, noTag}
 use Rattle.sheet.specs.State.{State, linesOf, count, entriesOf, valueRow}
 use Rattle.sheet.specs.Sheet.{found, allThere, thereIs, ascend, among, fresh}
 use Rattle.sheet.specs.Content.{membersOver, fieldsOver, valueOver, valuesFrom, rowsIn, valueRows, contents}
@@ -182,13 +182,13 @@ module _ (m : Mode) where
   unfolding Back
   back15 fs l c e = let z = items-length m 15 record-slots 0 fs e in let y = record-even (length fs) c in ap (λ k. 15 ∷ k) (flat-back l (rw z y))
 
-  value-tags : allBelow (between 5 10 15) 50 ≡ true
+  value-tags : allBelow (between 5 10 15) noTag ≡ true
   unfolding formOf forms
   value-tags = refl
 
   pub value-back : (l r : List ℕ) → r ≡ rowOf m l → keyOf r ≡ VALUE → back (valueRow r) ≡ r
   unfolding Back keyOf formOf forms
-  value-back l r e k = parsed m r (λ q. let z : 13 ≡ 5 = sym (ap keyOf q) ∙ k in absurd (omega (arith, z)))
+  value-back l r e k = parsed m r (λ q. let z : noKey ≡ 5 = sym (ap keyOf q) ∙ k in absurd (omega (arith, z)))
       (λ v q. let z : 1 ≡ 5 = sym (ap keyOf q) ∙ k in absurd (omega (arith, z)))
       (λ t fs l c i q. let (lo, hi) = tags-between 5 10 15 t (omega arith) value-tags (sym (ap keyOf q) ∙ k) in
       subst (λ z. back (valueRow z) ≡ z) (sym q) (six Back back10 back11 back12 back13 back14 back15 t lo hi fs l c i))

@@ -58,6 +58,13 @@ NODE = 11
 abbrev pub POLICY : ℕ
 POLICY = 12
 
+-- past the keys, and past the table of forms below: what stands for a key or a form that there is not
+abbrev pub noKey : ℕ
+noKey = 13
+
+abbrev pub noTag : ℕ
+noTag = 50
+
 -- the place of a word in a list; past its end where it is not there
 abbrev pub placeIn : List ℕ → List String → ℕ
 placeIn w [] = 0
@@ -175,7 +182,7 @@ firstNode = 21
 
 -- no line has this form
 abbrev pub noForm : Form
-noForm = plain 13 "" (nothing ∷ [])
+noForm = plain noKey "" (nothing ∷ [])
 
 unfoldable pub formOf : ℕ → Form
 formOf t = getD forms t noForm
@@ -302,7 +309,7 @@ rowOf m l = rowCut m l (upTo 61 l)
 -- ---- parts of a row
 
 abbrev pub tag : List ℕ → ℕ
-tag r = getD r 0 50
+tag r = getD r 0 noTag
 
 abbrev pub items : List ℕ → List ℕ
 items r = drop 1 r

@@ -5,7 +5,7 @@ use Prim.Native.Nat.{ℕ, zero, suc, _+_, _-_, max}
 use lib.Dec.{leb, ltb, eqb}
 use lib.ListN.{getD, take, drop, set}
 use Rattle.sheet.specs.Bytes.{same, split}
-use Rattle.sheet.specs.Forms.{Mode, Slot, entry, line, lineOr, lineUnknown, word, number, nothing, slotAt, mark, rowOf, tag, items, at, keyOf, refs, ascendings, TEXT, KIND, TYPE, VALUE, ENTITY, NODE, POLICY}
+use Rattle.sheet.specs.Forms.{Mode, Slot, entry, line, lineOr, lineUnknown, word, number, nothing, slotAt, mark, rowOf, tag, items, at, keyOf, refs, ascendings, TEXT, KIND, TYPE, VALUE, ENTITY, NODE, POLICY, noKey}
 use Rattle.cedar.specs.Numbered.{memN}
 use Rattle.sheet.specs.State.{State, empty, linesOf, count, lineAt, depthsOf, counts, before}
 use Rattle.sheet.specs.Typing.{typed}
@@ -152,7 +152,7 @@ allUsed s n = cond (ltb n (count s NODE)) (reads s 8 (suc (before s NODE + n))) 
 
 -- after the last line: "a line missing at the end has the number after the last"
 abbrev pub ending : State → ℕ → Reading
-ending s k = cond (enough s 13) (allUsed s (firstUnused (s .used))) (reads s 3 k)
+ending s k = cond (enough s noKey) (allUsed s (firstUnused (s .used))) (reads s 3 k)
 
 -- "lines in turn, the first faulty line ending the reading", from number k; what follows the last line end must be empty
 abbrev pub goOn : State → ℕ → List ℕ → ℕ → (State → ℕ → Reading) → Reading

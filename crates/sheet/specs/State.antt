@@ -5,7 +5,7 @@ use Prim.Native.Nat.{ℕ, _+_, _-_, _*_}
 use lib.Dec.{eqb}
 use lib.ListN.{length, getD, take, replicate}
 use Rattle.sheet.specs.Bytes.{longAt}
-use Rattle.sheet.specs.Forms.{tag, items, at, firstType, firstValue, TYPE, VALUE}
+use Rattle.sheet.specs.Forms.{noKey, tag, items, at, firstType, firstValue, TYPE, VALUE}
 use Rattle.cedar.specs.Rows.{Entries, stop, entry, Row, rbool, rlong, rtext, rent, rset, rrec}
 
 -- the lines of each key, in the keys' order, as rows; their depths; and for each node 1 where it is used, else 0
@@ -15,7 +15,7 @@ pub record State : Type 0 where
   pub used : List ℕ
 
 abbrev pub empty : State
-empty = record { lines = replicate 13 []; depths = replicate 13 []; used = [] }
+empty = record { lines = replicate noKey []; depths = replicate noKey []; used = [] }
 
 -- the lines of key k, how many there are, and number n of them
 abbrev pub linesOf : State → ℕ → List (List ℕ)

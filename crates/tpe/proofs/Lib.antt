@@ -1,4 +1,5 @@
 pub mod Outcomes
+pub mod Reach
 pub mod Stands
 pub mod Strict
 pub mod Operations

@@ -19,6 +19,7 @@ use Rattle.residual.specs.Rows.{litRow}
 use Rattle.residual.specs.Trees.{Res, rlit, rnil, rcons, flat, flats, leftTree, suits, treeOf, treesOf, Whole, whole-lit, whole-none, whole-more}
 use Rattle.residual.proofs.Meaning.{stageFor}
 use Rattle.tpe.specs.Run.{O, left, Rec, errOf, leftOf, madeOf, stops, goes, wrong, unsure, sideOf, classBy, classOf, decidedBy, secondBy, secondOf, firstBy, firstOf}
+use Rattle.tpe.proofs.Reach.{reach-most}
 use Rattle.tpe.proofs.Stands.{Hold, values, Room, Space, tys, nodes, ty, Is, is-as, is-up, whole-up, err-is, left-is, make-bool, made, made-hold, cut-back}
 use Rattle.tpe.proofs.Strict.{over-left, last-stage, first-errs}
 use Rattle.tpe.proofs.Operations.{over2}
@@ -139,7 +140,7 @@ module _ (m : Mode) (sheet a₀ : List ℕ) where
           is-as sheet a₀
           (left-is sheet a₀ d (suc (p + q)) (omega arith) a l (withValue (w .words) (boolRow z)) room
           (made-hold sheet a₀ d (suc (p + q)) (omega arith) a l (w .words) room (j .hold) 3 space (boolRow z) (formed-bool z) (omega arith))
-          (record { top = omega (arith, interned .kept .top, space .top); few = omega (arith, interned .kept .few, space .few) })
+          (record { top = omega (arith, reach-most (w .words) (boolRow z) interned, space .top); few = omega (arith, interned .kept .few, space .few) })
           (appended (take (length (o .log)) (w .log)) (litRow (numberOf (w .words) (boolRow z)) (at r 0)))
           (rcons (i .res) (rcons (rlit (numberOf (w .words) (boolRow z)) (at r 0)) rnil))
           (decided-log (at r 0))

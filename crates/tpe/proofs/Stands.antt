@@ -1,22 +1,21 @@
 -- What interpretation over words leaves stands for what the numbered interpretation leaves: one block more on the log, whose tree it is,
 -- and the values with those made. The words a₀ hold the sheet at the start; a and l are the words and the log before a node. Assumes nothing.
-use mathlib.Core.Path.{_≡_, refl, sym, _∙_, ap, ap₂, subst}
+use mathlib.Core.Path.{_≡_, refl, _∙_, ap, ap₂, subst}
 use mathlib.Core.Bool.{Bool, true, false}
-use mathlib.Core.List.{List, [], _∷_, _++_, append-assoc, append-nil}
+use mathlib.Core.List.{List, [], _∷_, _++_, append-assoc}
 use Prim.Native.Nat.{ℕ, zero, suc, _+_, _-_, _*_, _≤_, _<_}
 use native.Mathlib.Omega.{arith}
 use borrow.Author.Tests.{lt-ltb, le-leb}
-use lib.Dec.{ltb, leb}
 use lib.ListN.{length, getD, take, drop, length-append}
 use lib.Seq.{take-append-seam}
 use Rattle.words.specs.Log.{appended}
 use Rattle.words.proofs.Logs.{appended-is}
-use Rattle.cedar.specs.Types.{Ty, Schema}
+use mathlib.Core.Option.{some}
+use Rattle.cedar.specs.Types.{Ty, Var}
 use Rattle.cedar.specs.Residual.{Node, lit, err, tyOf, canErr, view}
 use Rattle.cedar.specs.Rows.{Row}
-use Rattle.cedar.specs.Making.{intern}
-use Rattle.cedar.specs.Numbered.{NEnv, Out, out, make}
-use Rattle.sheet.specs.Forms.{Mode, NODE}
+use Rattle.cedar.specs.Numbered.{Out, out, make, made as mk}
+use Rattle.sheet.specs.Forms.{Mode, NODE, noKey}
 use Rattle.sheet.specs.State.{State, valueRow}
 use Rattle.sheet.specs.Content.{types, rowsIn, schema, nEnv}
 use Rattle.table.specs.Layout.{rowsOf, held, MADE, TOP, heap, Sound}
@@ -26,8 +25,9 @@ use Rattle.value.specs.Made.{boolRow, numberOf, withValue, roomFor}
 use Rattle.value.proofs.Interned.{Formed, Formeds, made-is, Interning}
 use Rattle.residual.specs.Rows.{litRow, errRow, leftRow, wordAt, stageAt}
 use Rattle.residual.specs.Errs.{errs}
-use Rattle.residual.specs.Trees.{Res, rlit, rerr, rleft, Ress, rnil, rcons, flat, flats, countRes, leftTree, suits, tyAt, treeOf, treesOf, Whole, whole-lit, whole-err, whole-left, Wholes, whole-none, whole-more}
+use Rattle.residual.specs.Trees.{Res, rlit, rerr, rleft, Ress, flat, flats, countRes, leftTree, suits, tyAt, treeOf, treesOf, Whole, whole-lit, whole-err, whole-left, Wholes, whole-none, whole-more}
 use Rattle.residual.proofs.Meaning.{stageFor, stage-is, type-is, can-error-is}
+use Rattle.tpe.proofs.Reach.{reach, asks, reach-most, reach-asked}
 use Rattle.tpe.specs.Run.{O, left, litOf, errOf, leftOf, madeOf, schemaIn, tyIn, envIn}
 
 -- what stands at place i of a list, and what is after it
@@ -43,7 +43,7 @@ drop-here d (y ∷ l) (suc i) x q e = drop-here d l i x q e
 pub record Hold (a₀ a : List ℕ) : Type 0 where
   pub sound : Sound a
   pub formed : Formeds (valueLines a)
-  pub same : (k : ℕ) → k < 13 → rowsOf a k ≡ rowsOf a₀ k
+  pub same : (k : ℕ) → k < noKey → rowsOf a k ≡ rowsOf a₀ k
 
 abbrev pub values : List ℕ → List Row
 values a = rowsIn (valueLines a)
@@ -63,20 +63,20 @@ module _ (m : Mode) (sheet a₀ a : List ℕ) (h : Hold a₀ a) where
 
 -- ---- room
 
--- for n nodes: each makes at most one value, and a row has three words or two for each child and one
+-- for n nodes: each makes at most one value, and what they make takes three words for each, beside what the request makes
 pub record Room (n : ℕ) (a l : List ℕ) : Type 0 where
-  pub top : getD a TOP 0 + 5 * n ≤ 16384
+  pub top : reach a + 3 * n ≤ 16384
   pub few : getD a MADE 0 + n ≤ 1024
   pub log : length l + 6 * n ≤ 16384
 
 -- from a to a₁ so little was used that a row of w words more is within n nodes
 pub record Space (w n : ℕ) (a a₁ : List ℕ) : Type 0 where
-  pub top : getD a₁ TOP 0 + w + 2 ≤ getD a TOP 0 + 5 * n
+  pub top : reach a₁ + w + 2 ≤ reach a + 3 * n
   pub few : getD a₁ MADE 0 + 1 ≤ getD a MADE 0 + n
 
 -- from a to a₁ no more was used than n nodes may
 pub record Spent (n : ℕ) (a a₁ : List ℕ) : Type 0 where
-  pub top : getD a₁ TOP 0 + 2 ≤ getD a TOP 0 + 5 * n
+  pub top : reach a₁ + 2 ≤ reach a + 3 * n
   pub few : getD a₁ MADE 0 ≤ getD a MADE 0 + n
 
 pub space-spent : (w n : ℕ) (a a₁ : List ℕ) → Space w n a a₁ → Spent n a a₁
@@ -104,7 +104,7 @@ module _ (sheet a₀ : List ℕ) where
     pub whole : Whole tys nodes d res
     pub rows : values (o .words) ≡ X .rows
     pub hold : Hold a₀ (o .words)
-    pub top : getD (o .words) TOP 0 + 2 ≤ getD a TOP 0 + 5 * n
+    pub top : reach (o .words) + 2 ≤ reach a + 3 * n
     pub few : getD (o .words) MADE 0 ≤ getD a MADE 0 + n
 
   pub is-as : {d n : ℕ} {a l : List ℕ} {X Y : Out} {o : O} → Is d n a l X o → X ≡ Y → Is d n a l Y o
@@ -126,7 +126,7 @@ module _ (sheet a₀ : List ℕ) where
     wholes-up (whole-more w ws) e h = whole-more (whole-up w e h) (wholes-up ws e h)
 
   -- of a part: fewer levels, fewer nodes, and words reached on the way
-  pub is-up : {d e n p : ℕ} {a a₁ l : List ℕ} {X : Out} {o : O} → Is d p a₁ l X o → d ≤ e → p ≤ n → getD a₁ TOP 0 + 5 * p ≤ getD a TOP 0 + 5 * n → getD a₁ MADE 0 + p ≤ getD a MADE 0 + n → Is e n a l X o
+  pub is-up : {d e n p : ℕ} {a a₁ l : List ℕ} {X : Out} {o : O} → Is d p a₁ l X o → d ≤ e → p ≤ n → reach a₁ + 3 * p ≤ reach a + 3 * n → getD a₁ MADE 0 + p ≤ getD a MADE 0 + n → Is e n a l X o
   is-up {e = e} i h k t f = record {
     res = i .res;
     log = i .log;
@@ -218,8 +218,8 @@ module _ (sheet a₀ : List ℕ) where
       pub made-hold : Hold a₀ (withValue a₁ q)
       made-hold = record { sound = made .kept .sound; formed = made .formed; same = λ k lt. made .kept .others k lt ∙ h .same k lt }
 
-      pub made-top : getD (withValue a₁ q) TOP 0 + 2 ≤ getD a TOP 0 + 5 * n
-      made-top = omega (arith, made .kept .top, s .top, short)
+      pub made-top : reach (withValue a₁ q) + 2 ≤ reach a + 3 * n
+      made-top = omega (arith, reach-most a₁ q made, s .top, short)
 
       pub made-few : getD (withValue a₁ q) MADE 0 ≤ getD a MADE 0 + n
       made-few = omega (arith, made .kept .few, s .few)
@@ -241,6 +241,29 @@ module _ (sheet a₀ : List ℕ) where
     pub make-bool : Space 3 n a a₁ → (b : Bool) (y : ℕ) → Is (suc d) n a l (make (ty y) (valueRow (boolRow b)) (values a₁)) (madeOf a₁ l y (boolRow b))
     make-bool s true y = make-is 3 s (boolRow true) refl (omega arith) y
     make-bool s false y = make-is 3 s (boolRow false) refl (omega arith) y
+
+  -- a row that is asked
+  module _ (d n : ℕ) (one : 1 ≤ n) (a l : List ℕ) (room : Room n a l) (h : Hold a₀ a) (q : List ℕ) (f : Formed q) (short : length q ≤ 3) (x : Var) (e : asks a .request x ≡ some (mk (valueRow q))) where
+    asked-room : roomFor a (length q) ≡ true
+    unfolding roomFor
+    asked-room = rw (lt-ltb (getD a MADE 0) 1024 (omega (arith, room .few, one)), le-leb heap (getD a TOP 0) (h .sound .over), le-leb (getD a TOP 0 + length q) 16384 (omega (arith, room .top, one, short))) refl
+
+    asked-made : Interning a q
+    asked-made = made-is a q (h .sound) (h .formed) f asked-room
+
+    pub make-asked : (y : ℕ) → Is (suc d) n a l (make (ty y) (valueRow q) (values a)) (madeOf a l y q)
+    unfolding madeOf litOf flat treeOf
+    make-asked y = record {
+      res = rlit (numberOf a q) y;
+      log = four d n one a l a room h (litRow (numberOf a q) y) refl;
+      short = omega arith;
+      tree = ap (lit (ty y)) (asked-made .number);
+      whole = whole-lit;
+      rows = asked-made .rows;
+      hold = record { sound = asked-made .kept .sound; formed = asked-made .formed; same = λ k lt. asked-made .kept .others k lt ∙ h .same k lt };
+      top = let r = reach-asked a q asked-made (h .formed) f short x e in omega (arith, r, one);
+      few = let w = asked-made .kept .few in omega (arith, w, one);
+    }
 
 -- the log before is what is left where the last blocks are cut off
 pub cut-back : (l xs log : List ℕ) → log ≡ l ++ xs → take (length l) log ≡ l

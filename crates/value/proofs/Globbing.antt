@@ -1,6 +1,6 @@
 -- Wildcard match: the items between two stars may be matched at the first place where they stand. Assumes nothing.
 use mathlib.Core.Path.{_≡_, refl, sym, ap, _∙_, subst}
-use mathlib.Core.Bool.{Bool, true, false, not, cond, _&&_, _||_, and-eq-true-iff}
+use mathlib.Core.Bool.{Bool, true, false, not, cond, _&&_, _||_, and-true, and-false, and-eq-true-iff}
 use mathlib.Core.List.{List, [], _∷_}
 use Prim.Native.Nat.{ℕ, suc, _+_, _-_, _≤_, _<_}
 use native.Mathlib.Numerals.{add-one}
@@ -9,6 +9,7 @@ use borrow.Author.Tests.{eq-eqb, ne-eqb, ltb-true, ltb-false, lt-ltb, le-ltb, le
 use lib.Dec.{eqb, leb, ltb}
 use lib.ListN.{length, getD, take, drop, length-drop}
 use lib.Seq.{drop-drop, getD-take, getD-drop}
+use Rattle.cedar.proofs.Tools.{or-right, either, iff}
 use Rattle.cedar.specs.Evaluate.{matchPiece, anySuffix, isNil, matches}
 use Rattle.cedar.specs.Residual.{star, piece}
 use Rattle.sheet.specs.Bytes.{same}
@@ -105,17 +106,9 @@ pub record Telling (x y : List ℕ) (d i : ℕ) : Type 0 where
 pub tell-start : (x y : List ℕ) → Telling x y 0 0
 tell-start x y = record { near = omega arith; left = refl }
 
-and-true : (b : Bool) → (b && true) ≡ b
-and-true true = refl
-and-true false = refl
-
 tell : (d : ℕ) (b c : Bool) → (eqb d 0 && (b && c)) ≡ (eqb (cond b d 1) 0 && c)
 tell d true c = refl
-tell d false c = none (eqb d 0)
-  where
-    none : (b : Bool) → (b && false) ≡ false
-    none true = refl
-    none false = refl
+tell d false c = and-false (eqb d 0)
 
 module _ (x y : List ℕ) (e : length x ≡ length y) (d i : ℕ) (g : Telling x y d i) where
   pub tell-on : (f : ℕ) → i < length x → f ≡ cond (eqb (getD x i 0) (getD y i 0)) d 1 → Telling x y f (i + 1)
@@ -193,13 +186,13 @@ module _ (B : ℕ → List ℕ) (P S : List ℕ) (q t : ℕ) where
   skip-end h = let z : t ≡ t + 0 = omega arith in rw (spent P q h) z
 
   module _ (h : q < length P) (x : ℕ) (ex : x ≡ getD P q 0) where
-    pub skip-star : x ≡ 10000 → t ≡ t + untilItem B (drop q P) (drop t S)
+    pub skip-star : x ≡ mark → t ≡ t + untilItem B (drop q P) (drop t S)
     unfolding untilItem
-    skip-star m = let z : t ≡ t + 0 = omega arith in rw (uncons P 0 q h, ← ex, eq-eqb x 10000 m) z
+    skip-star m = let z : t ≡ t + 0 = omega arith in rw (uncons P 0 q h, ← ex, eq-eqb x mark m) z
 
-    pub skip-piece : (x ≡ 10000 → ⊥) → (w : List ℕ) → w ≡ B x → (u : ℕ) → u ≡ t + untilPiece w (drop t S) → u ≡ t + untilItem B (drop q P) (drop t S)
+    pub skip-piece : (x ≡ mark → ⊥) → (w : List ℕ) → w ≡ B x → (u : ℕ) → u ≡ t + untilPiece w (drop t S) → u ≡ t + untilItem B (drop q P) (drop t S)
     unfolding untilItem
-    skip-piece n w ew u eu = rw (uncons P 0 q h, ← ex, ne-eqb x 10000 n, ← ew) eu
+    skip-piece n w ew u eu = rw (uncons P 0 q h, ← ex, ne-eqb x mark n, ← ew) eu
 
 -- ---- a block: where the loop stands
 
@@ -222,17 +215,17 @@ module _ (B : ℕ → List ℕ) (P S : List ℕ) (q t p e : ℕ) (g : Blocking B
     unfolding blockOf
     at-item = rw (uncons P 0 p h, ← ex)
 
-    pub block-star : x ≡ 10000 → Star (p + 1) e ≡ blockOf B q t (drop q P) (drop t S)
-    block-star m = sym (g .left ∙ at-item ∙ rw (eq-eqb x 10000 m, add-one p))
+    pub block-star : x ≡ mark → Star (p + 1) e ≡ blockOf B q t (drop q P) (drop t S)
+    block-star m = sym (g .left ∙ at-item ∙ rw (eq-eqb x mark m, add-one p))
 
-    module _ (n : x ≡ 10000 → ⊥) (w : List ℕ) (ew : w ≡ B x) (b : Bool) (eb : b ≡ begins w (drop e S)) where
+    module _ (n : x ≡ mark → ⊥) (w : List ℕ) (ew : w ≡ B x) (b : Bool) (eb : b ≡ begins w (drop e S)) where
       here : begins (B x) (drop e S) ≡ b
       here = rw (← ew) (sym eb)
 
       pub block-miss : not b ≡ true → Misses ≡ blockOf B q t (drop q P) (drop t S)
       block-miss f =
           let z : begins (B x) (drop e S) ≡ false = here ∙ not-true b f in
-          sym (g .left ∙ at-item ∙ rw (ne-eqb x 10000 n, z))
+          sym (g .left ∙ at-item ∙ rw (ne-eqb x mark n, z))
 
       pub block-fits : not b ≡ false → e + length w ≤ length S
       block-fits f =
@@ -245,7 +238,7 @@ module _ (B : ℕ → List ℕ) (P S : List ℕ) (q t p e : ℕ) (g : Blocking B
           record {
             nearP = omega arith;
             nearS = block-fits f;
-            left = g .left ∙ at-item ∙ rw (ne-eqb x 10000 n, z, drop-drop (length (B x)) e S, ← ew, ← (add-one p));
+            left = g .left ∙ at-item ∙ rw (ne-eqb x mark n, z, drop-drop (length (B x)) e S, ← ew, ← (add-one p));
           }
 
 -- ---- what a block means
@@ -341,19 +334,6 @@ module _ (B : ℕ → List ℕ) where
 
   -- ---- the first place is enough
 
-  or-true : (a b : Bool) {X : Type 0} → (a || b) ≡ true → (a ≡ true → X) → (b ≡ true → X) → X
-  or-true true b e f g = f refl
-  or-true false b e f g = g e
-
-  or-right : (a b : Bool) → b ≡ true → (a || b) ≡ true
-  or-right true b e = refl
-  or-right false b e = e
-
-  same-truth : (a b : Bool) → (a ≡ true → b ≡ true) → (b ≡ true → a ≡ true) → a ≡ b
-  same-truth true b f g = sym (f refl)
-  same-truth false true f g = g refl
-  same-truth false false f g = refl
-
   module _ (K : List ℕ → Bool) where
     from-later : (l : List ℕ) → anySuffix K (drop 1 l) ≡ true → anySuffix K l ≡ true
     from-later [] e = e
@@ -370,14 +350,14 @@ module _ (B : ℕ → List ℕ) where
 
       any-wide : (s : List ℕ) → anySuffix f s ≡ true → anySuffix K (drop n s) ≡ true
       any-wide [] e = second [] e
-      any-wide (x ∷ s) e = or-true (f (x ∷ s)) (anySuffix f s) e (second (x ∷ s)) (λ q. later-wide n x s (any-wide s q))
+      any-wide (x ∷ s) e = either (f (x ∷ s)) (anySuffix f s) e (second (x ∷ s)) (λ q. later-wide n x s (any-wide s q))
 
       first : (s : List ℕ) → f s ≡ true → anySuffix f s ≡ true
       first [] e = e
       first (x ∷ s) e = rw e
 
       greedy : (s : List ℕ) → b s ≡ true → anySuffix f s ≡ anySuffix K (drop n s)
-      greedy s h = same-truth (anySuffix f s) (anySuffix K (drop n s)) (any-wide s) (λ e. first s (m s ∙ rw (h, e)))
+      greedy s h = iff (anySuffix f s) (anySuffix K (drop n s)) (any-wide s) (λ e. first s (m s ∙ rw (h, e)))
 
   -- ---- a step
 

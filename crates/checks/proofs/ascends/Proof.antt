@@ -1,5 +1,5 @@
 -- `checks::ascends` meets its contract. Assumes nothing.
-use Rattle.checks.proofs.FoundLaws.{rises-none, Rising, rising-start, rising-off, rising-on, rising-end}
+use Rattle.checks.proofs.FoundLaws.{rises-flat, Rising, rising-first, rising-off, rising-on, rising-end}
 use Prim.Native.Nat.{_-_}
 use lib.ListN.{length}
 use borrow.Author.Needs.{needs}
@@ -7,16 +7,16 @@ use Rattle.checks.proofs.ascends.Statement.{statement}
 use Rattle.checks.proofs.ascends.Tie as tie
 
 abbrev Inv-loop : tie.InvT-loop
-Inv-loop r t m lo₀ j₀ lo j = Rising r m lo j
+Inv-loop line t m lo₀ j₀ lo j = Rising line m lo j
 
 abbrev μ-loop : tie.MeasureT-loop
-μ-loop r t m lo₀ j₀ lo j = length r - j
+μ-loop line t m lo₀ j₀ lo j = length line - j
 
 returns : tie.Need-returns Inv-loop μ-loop
-returns c = search (rises-none, needs)
+returns c = search (rises-flat, needs)
 
 loop-holds : tie.Need-loop-holds Inv-loop μ-loop
-loop-holds c = search (rising-start, needs)
+loop-holds c = search (rising-first, needs)
 
 returns-2 : tie.Need-returns-2 Inv-loop μ-loop
 returns-2 c = search (rising-off, needs)
@@ -36,8 +36,6 @@ ascends-spec =
     (λ c κs. search needs)
     (λ c κs. search needs)
     returns
-    (λ c. search needs)
-    (λ c κs. search needs)
     loop-holds
     (λ c. search needs)
     (λ c. search needs)
