@@ -38,10 +38,11 @@ pub data Case : Type 0 where
   negativePositive : Case
   bothNegative : Case
 
--- where each case holds: those before it do not
+-- neither zero nor the smallest number is a factor
 abbrev pub plain : ℤ → ℤ → Bool
 plain a b = not (among (pos 0) a b) && not (among least a b)
 
+-- where each case holds: those before it do not
 abbrev pub holds : Case → ℤ → ℤ → Bool
 holds withZero a b = among (pos 0) a b
 holds withSmallest a b = not (among (pos 0) a b) && among least a b
@@ -60,7 +61,8 @@ bySigns false false = bothNegative
 unfoldable pub caseOf : ℤ → ℤ → Case
 caseOf a b = cond (among (pos 0) a b) withZero (cond (among least a b) withSmallest (bySigns (positive a) (positive b)))
 
--- the case's test: whether the product is outside the range
+-- the case's test: whether the product is outside the range. With MAX and MIN for the ends: never; unless 1 is the other; a > MAX / b; b < MIN / a;
+-- a < MIN / b; -a > MAX / -b
 abbrev pub outside : Case → ℤ → ℤ → Bool
 outside withZero a b = false
 outside withSmallest a b = not (among (pos 1) a b)
