@@ -1,4 +1,4 @@
-// Known sheets: K1 to K10 of document 01, the limits of depth and size, and every row of the table of refusals but 9. For each one
+// Known sheets: K1 to K10 of document 01, the limits of depth and size, and every row of the table of refusals. For each one
 // line with its name, what the call returned and whether slices and buffer came back as promised, then the answer.
 // Standard input: the number of records; a record is a line `name,entry,sheet,first,second,buffer` (the bytes of its name, 0 partial
 // or 1 complete, the bytes of the sheet, the words of each work slice, the bytes of the buffer), then its name and its sheet.
