@@ -255,8 +255,7 @@ fn random(count: u64, seed: u64, folder: Option<&Path>) -> ExitCode {
             println!("triple {n}: {text}");
         }
     }
-    let words: Vec<String> = numbers.iter().enumerate().map(|(n, count)| format!("{n}:{count}")).collect();
-    println!("{count} sheets, numbers {}; {} triples, {faults} against demand 3", words.join(" "), count / 4);
+    println!("{count} sheets, numbers {}; {} triples, {faults} against demand 3", compare::by_number(&numbers), count / 4);
     if faults == 0 {
         ExitCode::SUCCESS
     } else {

@@ -45,15 +45,20 @@ pub struct Counts {
     pub numbers: [usize; 11],
 }
 
+/// How often each number of the table was met; the table has no 9.
+pub fn by_number(numbers: &[usize; 11]) -> String {
+    let met = numbers.iter().enumerate().filter(|(n, count)| *n != 9 || **count > 0);
+    met.map(|(n, count)| format!("{n}:{count}")).collect::<Vec<String>>().join(" ")
+}
+
 impl Counts {
     pub fn line(&self) -> String {
-        let numbers: Vec<String> = self.numbers.iter().enumerate().map(|(n, count)| format!("{n}:{count}")).collect();
         format!(
             "{} sheets, {} triples, {} differences; numbers {}",
             self.sheets,
             self.triples,
             self.differences,
-            numbers.join(" ")
+            by_number(&self.numbers)
         )
     }
 }
