@@ -1,13 +1,12 @@
 #!/usr/bin/env python3
-"""Computes the definitions of crates `cedar` and `sheet` on known sheets.
+"""Computes the definitions of crates `cedar` and `sheet` on the known sheets (scripts/sheets.py).
 
-    python3 scripts/cases.py REFERENCE [PATTERN] [--each] [--wrong]
+    python3 scripts/cases.py [PATTERN] [--each] [--wrong]
 
-REFERENCE is a folder with `cases.py` and `refsheet.py`: sheets with the text that the program must print for
-them. For each case one theorem by computation is written to target/cases/: what the definitions make of the
-sheet's bytes is the expected text. One check computes all short sheets, and one each long sheet; with --each,
+For each sheet, or each whose name PATTERN is found in, one theorem by computation is written to target/cases/: what the definitions make of the
+sheet's bytes is the known text. One check computes all short sheets, and one each long sheet; with --each,
 one check each sheet. Two sheets are over the prover's own limit of steps: they have no verdict, which says neither that they agree nor
-that they do not. With --wrong every expected text is replaced by a wrong one: each check must then fail. Nothing outside target/ is written.
+that they do not. With --wrong every known text is replaced by a wrong one: each check must then fail. Nothing outside target/ is written.
 """
 import os
 import re
@@ -16,7 +15,8 @@ import subprocess
 import sys
 import time
 
-HERE = os.path.dirname(os.path.dirname(os.path.abspath(__file__)))
+from sheets import HERE, known, printed
+
 TREE = os.path.join(HERE, "target", "cases")
 UNFOLD = (
     "printedOf keys forms formOf slotAt counted tagOf rowOf keyOf refs ascendings fitsIn typed found depth fault "
@@ -24,7 +24,7 @@ UNFOLD = (
     "order sameV place insert ascending makeSet"
 )
 # sheets of 1,024 and 1,025 values, which the prover does not compute within its limit; any other sheet without verdict is a failure
-UNDECIDED = ("value-1024.partial", "value-1025.partial")
+UNDECIDED = ("value-1024", "value-1025")
 HEAD = """use mathlib.Core.Path.{_≡_, refl}
 use mathlib.Core.List.{List, [], _∷_, _++_}
 use Prim.Native.Nat.{ℕ, zero, suc}
@@ -46,8 +46,8 @@ shown a (suc n) r = printed "refused" (numbers (r .number ∷ r .line ∷ r .len
 abbrev shownOf : List ℕ → Returned → List ℕ
 shownOf a r = shown a (r .number) r
 
-unfoldable printedOf : Mode → ℕ → ℕ → List ℕ → List ℕ
-printedOf m work out sheet = shownOf (answer m (read m sheet .state)) (returned m work work out sheet)
+unfoldable printedOf : Mode → ℕ → ℕ → ℕ → List ℕ → List ℕ
+printedOf m work₁ work₂ out sheet = shownOf (answer m (read m sheet .state)) (returned m work₁ work₂ out sheet)
 """
 
 
@@ -65,24 +65,10 @@ def quoted(text):
     return '"' + "".join(out) + '"'
 
 
-def all_cases(cases):
-    for name, mode, text, expected in cases.CASES:
-        yield name + "." + mode, mode, 16384, 100000, text, cases.expected_text(expected)
-    answer = cases.expected_text(cases.CASES[0][3])
-    need = len(answer)
-    for size, want in [(16384, answer), (16385, "refused=2,0,0\n")]:
-        yield "size-%d" % size, "partial", 16384, 100000, cases.padded(size), want
-    yield "buffer-exact", "partial", 16384, need, cases.EXAMPLE, answer
-    yield "buffer-short", "partial", 16384, need - 1, cases.EXAMPLE, "refused=10,0,%d\n" % need
-    yield "buffer-none", "partial", 16384, 0, cases.EXAMPLE, "refused=10,0,%d\n" % need
-    yield "work-short", "partial", 16383, 0, "", "refused=1,0,0\n"
-    yield "refused-before-buffer", "partial", 16384, 0, "", "refused=3,1,0\n"
-
-
 def theorem(i, case):
-    name, mode, work, out, text, want = case
-    return "-- %s\ncase%d : printedOf %s %d %d (ascii %s) ≡ ascii %s\nunfolding %s\ncase%d = refl\n" % (
-        name, i, mode, work, out, quoted(text.replace("/", "\n")), quoted(want), UNFOLD, i)
+    sheet, want = case
+    return "-- %s\ncase%d : printedOf %s %d %d %d (ascii %s) ≡ ascii %s\nunfolding %s\ncase%d = refl\n" % (
+        sheet.name, i, sheet.entry, sheet.first, sheet.second, sheet.buffer, quoted(sheet.bytes.decode("latin-1")), quoted(want.decode()), UNFOLD, i)
 
 
 def check(chosen, limit):
@@ -115,17 +101,13 @@ def check(chosen, limit):
 
 def main(args):
     words = [a for a in args if not a.startswith("--")]
-    if not words or not os.path.exists(os.path.join(words[0], "cases.py")):
-        print("usage: cases.py REFERENCE [PATTERN] [--each] [--wrong], with cases.py in the folder REFERENCE")
+    if len(words) > 1:
+        print(__doc__)
         return 2
-    sys.path.insert(0, words[0])
-    sys.dont_write_bytecode = True
-    import cases
-    if "--wrong" in args:
-        cases.CASES[:] = [(n, m, t, "3,77,0") for n, m, t, e in cases.CASES]
-    chosen = [(i, c) for i, c in enumerate(all_cases(cases)) if len(words) < 2 or re.search(words[1], c[0])]
+    wrong = "--wrong" in args
+    chosen = [(i, (s, b"refused=3,77,0\n" if wrong else printed(r))) for i, (s, r) in enumerate(known()) if not words or re.search(words[0], s.name)]
     each = "--each" in args
-    long = [[x] for x in chosen if each or len(x[1][4]) > 4000]
+    long = [[x] for x in chosen if each or len(x[1][0].bytes) > 4000]
     short = [x for x in chosen if [x] not in long]
     begin = time.time()
     failed = unknown = 0
@@ -134,7 +116,7 @@ def main(args):
         status, out = check(group, 1500)
         ok = status == 0
         what = "ok" if ok else "NOT"
-        if not ok and len(group) == 1 and group[0][1][0] in UNDECIDED and status == 3:
+        if not ok and len(group) == 1 and group[0][1][0].name in UNDECIDED and status == 3:
             what = "no verdict: over the prover's limit of steps"
             unknown += 1
         elif not ok:
@@ -142,8 +124,8 @@ def main(args):
             for line in out.splitlines():
                 if "error" in line or "TIMEOUT" in line or "NOT PROVED" in line:
                     print("   ", line[:300])
-        print("%-30s %s, %.1f s" % (group[0][1][0] if len(group) == 1 else "%d short sheets" % len(group), what, time.time() - t), flush=True)
-    print("%d cases, %d checks failed, %d without verdict, %.1f s" % (len(chosen), failed, unknown, time.time() - begin))
+        print("%-30s %s, %.1f s" % (group[0][1][0].name if len(group) == 1 else "%d short sheets" % len(group), what, time.time() - t), flush=True)
+    print("%d sheets, %d checks failed, %d without verdict, %.1f s" % (len(chosen), failed, unknown, time.time() - begin))
     return 1 if failed else 0
 
 

@@ -1,5 +1,5 @@
 #!/usr/bin/env bash
-# Compares the proved library with the original on random sheets: scripts/compare.sh [SHEETS [SEED]]
+# Compares the proved library with the original on random sheets, as many for each seed: scripts/compare.sh [SHEETS [SEED..]]
 # It needs cargo and the original's source, in OPENRULES_CEDAR_SRC or ../shared/docs/src. Status 0: no difference; 1: one;
 # 3: something that it needs is not there, and nothing was compared.
 set -eu
@@ -18,4 +18,9 @@ export OPENRULES_CEDAR_SRC
 rt staticlib openrules_c
 cd host
 cargo build --release --offline --quiet --features library
-exec target/release/host compare "${1:-4000}" "${2:-1}"
+sheets=${1:-4000}
+[ $# -lt 2 ] && set -- 4000 1
+shift
+for seed; do
+    target/release/host compare "$sheets" "$seed"
+done

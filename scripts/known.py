@@ -1,90 +1,184 @@
 #!/usr/bin/env python3
-"""Writes the known sheets and what program `known` must print for them: python3 scripts/known.py REFERENCE [--check]
+"""Writes the known sheets and what program `known` must print for them.
 
-REFERENCE is a folder with `cases.py` and `refsheet.py`, a reading of document 01 apart from the proved code. The sheets are
-written to crates/known/stdin, and to crates/known/stdout what that reading makes of them, with every promise kept; the answers
-of the sheets in examples/ are written beside them. With --check nothing is written: the files must be what would be written.
+    python3 scripts/known.py REFERENCE [FOLDER] [--host HOST] [--have REQUESTS] [--check]
+
+REFERENCE is a folder with `cases.py` and `refsheet.py`, a reading of document 01 apart from the proved code. Written are, to
+crates/known/stdin, the sheets of `cases.py`, those of examples/, some with slices and buffers of other lengths, and the probes:
+each NAME.MODE.sheet of FOLDER, and those that are there already. To crates/known/stdout goes what that reading makes of them, with every
+promise kept, and beside each sheet of examples/ its answer.
+
+With --host each answer must also be that of the original: HOST is the program that `cargo build --release` makes in host/. With --have,
+a list as 2.3,2.5,2.9 of the requests of document 02 that have landed, the reading is asked with these; the cases of its `cases02.py` that hold
+then are added, and from 2.9 on each sheet of `cases.py` and each probe gets a `day` line. Where an expected text, the reading and the original
+differ, nothing is written. With --check nothing is written either: the files must be what would be written.
 """
 import os
+import subprocess
 import sys
 
-HERE = os.path.dirname(os.path.dirname(os.path.abspath(__file__)))
-CRATE = os.path.join(HERE, "crates", "known")
-WORDS = 16384
-# K1 to K10, the limits of depth, both entries, and refusals 3 to 8
-NAMES = ["K%d" % k for k in range(1, 11)] + ["%s-depth-%d" % (key, n) for key in ("node", "type", "value") for n in (64, 65)] + [
-    "example", "complete-run", "wrong-entry", "long-over", "text-513", "index-four-digits-absent", "gettag-none",
-    "used-twice-in-line", "never-used"]
+from sheets import CRATE, ENTRIES, HERE, WORDS, Result, Sheet, head, printed, sheets, shown, whole
+
+BUFFER, LARGE = 4096, 65536
+PROBE = "probe: "
+DAY = b"day=2026-06-15\n"
+
+
+def bytes_of(text):
+    """In the reference's sheets `/` is a line end."""
+    return text.replace("/", "\n").encode("latin-1")
 
 
 def examples():
     """The sheets of examples/, each with the entry that its first line names."""
     for file in sorted(os.listdir(os.path.join(HERE, "examples"))):
         if file.endswith(".sheet"):
-            text = open(os.path.join(HERE, "examples", file)).read()
-            yield file, "complete" if text.startswith("sheet=complete\n") else "partial", text
+            sheet = open(os.path.join(HERE, "examples", file), "rb").read()
+            yield file, "complete" if sheet.startswith(b"sheet=complete\n") else "partial", sheet
 
 
-def chosen(cases):
-    """Records: name, mode, sheet, words of each work slice, bytes of the answer buffer. `/` is a line end too."""
-    by_name = {}
-    for name, mode, text, _ in cases.CASES:
-        by_name.setdefault(name, []).append((mode, text))
-    for name in NAMES:
-        for mode, text in by_name[name]:
-            yield name + ("" if mode == "partial" else " complete"), mode, text, WORDS, WORDS + 16, 4096
-    for name, mode, text in examples():
-        yield name, mode, text, WORDS, WORDS, 4096
-    example = cases.EXAMPLE
-    need = len(cases.expected_text(cases.CASES[0][3]))
-    yield "16,384 bytes", "partial", cases.padded(16384), WORDS, WORDS, 4096
-    yield "16,385 bytes", "partial", cases.padded(16385), WORDS + 7, WORDS, 4096
-    yield "no sheet", "partial", "", WORDS, WORDS, 4096
-    yield "first slice short", "partial", example, WORDS - 1, WORDS + 16, 4096
-    yield "second slice short", "complete", example, WORDS + 16, WORDS - 1, 4096
-    yield "no slices", "partial", example, 0, 0, 0
-    yield "buffer as long as the answer", "partial", example, WORDS + 1, WORDS + 2, need
-    yield "buffer a byte short", "partial", example, WORDS + 1, WORDS + 2, need - 1
-    yield "no buffer", "partial", example, WORDS, WORDS, 0
-    yield "refused before the buffer", "partial", example[:-1], WORDS, WORDS, 0
-    whole = by_name["K7"][-1][1]
-    yield "complete, no buffer", "complete", whole, WORDS, WORDS, 0
+def with_day(sheet, landed):
+    """A sheet of document 01 with the line that every sheet has since request 2.9, after `context`."""
+    start = sheet.find(b"\ncontext=")
+    end = sheet.find(b"\n", start + 1) + 1
+    if "2.9" not in landed or b"\nday=" in sheet or start < 0 or end == 0:
+        return sheet
+    return sheet[:end] + DAY + sheet[end:]
 
 
-def files(cases, refsheet):
-    records, lines = [], []
-    for name, mode, text, first, second, buffer in chosen(cases):
-        sheet = text.replace("/", "\n").encode("latin-1")
-        number, line, length, answer = refsheet.run_entry(mode, sheet, buffer, min(first, second))
-        head = "%d,%d,%d,%d,%d,%d\n" % (len(name), mode == "complete", len(sheet), first, second, buffer)
-        records.append(head.encode() + name.encode() + sheet)
-        lines.append("%s: %d,%d,%d; first slice kept, second slice kept, buffer kept\n%s" % (name, number, line, length, answer))
-    return b"%d\n" % len(records) + b"".join(records), "".join(lines).encode()
+def titled(name, entry):
+    return name if entry == "partial" else name + " " + entry
+
+
+def probes(folder, landed):
+    """The sheets of the folder, and the probes that are there already."""
+    found = {}
+    for file in sorted(os.listdir(folder)) if folder else []:
+        name, _, entry = file[:-len(".sheet")].rpartition(".")
+        if file.endswith(".sheet") and entry in ENTRIES:
+            sheet = open(os.path.join(folder, file), "rb").read()
+            found[PROBE + titled(name, entry)] = Sheet(PROBE + titled(name, entry), entry, sheet, WORDS, WORDS, BUFFER)
+    for sheet in sheets():
+        if sheet.name.startswith(PROBE):
+            found.setdefault(sheet.name, sheet)
+    return [s._replace(bytes=with_day(s.bytes, landed)) for _, s in sorted(found.items())]
+
+
+def lent(cases, answer_length, landed):
+    """The limits of size, and other slices and buffers."""
+    def padded(size):
+        return with_day(bytes_of(cases.padded(size - (len(DAY) if "2.9" in landed else 0))), landed)
+    example = with_day(bytes_of(cases.EXAMPLE), landed)
+    complete = with_day(bytes_of([t for n, m, t, _ in cases.CASES if (n, m) == ("K7", "complete")][0]), landed)
+    need = answer_length(example)
+    yield Sheet("16,384 bytes", "partial", padded(16384), WORDS, WORDS, BUFFER)
+    yield Sheet("16,385 bytes", "partial", padded(16385), WORDS + 7, WORDS, BUFFER)
+    yield Sheet("no sheet", "partial", b"", WORDS, WORDS, BUFFER)
+    yield Sheet("first slice short", "partial", example, WORDS - 1, WORDS + 16, BUFFER)
+    yield Sheet("second slice short", "complete", example, WORDS + 16, WORDS - 1, BUFFER)
+    yield Sheet("no slices", "partial", example, 0, 0, 0)
+    yield Sheet("buffer as long as the answer", "partial", example, WORDS + 1, WORDS + 2, need)
+    yield Sheet("buffer a byte short", "partial", example, WORDS + 1, WORDS + 2, need - 1)
+    yield Sheet("no buffer", "partial", example, WORDS, WORDS, 0)
+    yield Sheet("refused before the buffer", "partial", example[:-1], WORDS, WORDS, 0)
+    yield Sheet("complete, no buffer", "complete", complete, WORDS, WORDS, 0)
+
+
+def of_requests(cases02, landed):
+    """Sheets with expected texts: the cases of document 02 that hold when these requests have landed and no more."""
+    others = 0
+    for name, since, until, kind, parts, expected, out_len, work in cases02.CASES if landed else []:
+        if since not in landed or until in landed:
+            continue
+        if kind not in ENTRIES:
+            others += 1
+            continue
+        want = cases02.expected_text(expected, kind, parts, "2.2" in landed).encode()
+        buffer = out_len if out_len is not None else BUFFER if len(want) <= BUFFER else LARGE
+        yield Sheet("%s %s" % (since, titled(name, kind)), kind, bytes_of(parts[0]), work[0], work[1], buffer), want
+    if others:
+        print("%d cases are of calls that program `known` does not run" % others)
+
+
+def chosen(cases, cases02, folder, answer_length, landed):
+    """Sheets, each with the expected text or none."""
+    for name, entry, text, expected in cases.CASES:
+        sheet = Sheet(titled(name, entry), entry, with_day(bytes_of(text), landed), WORDS, WORDS + 16, BUFFER)
+        yield sheet, None if landed else cases.expected_text(expected).encode()
+    for name, entry, sheet in examples():
+        yield Sheet(name, entry, sheet, WORDS, WORDS, BUFFER), None
+    for sheet in lent(cases, answer_length, landed):
+        yield sheet, None
+    for sheet in probes(folder, landed):
+        yield sheet, None
+    yield from of_requests(cases02, landed)
+
+
+def differs(sheet, result, want, host):
+    """Whether the result is not the expected one, or not the original's."""
+    texts = [] if want is None else [want]
+    if host and whole(sheet, result):
+        texts.append(subprocess.run([host, "answer", sheet.entry], input=sheet.bytes, capture_output=True, check=True).stdout)
+    for text in texts:
+        if text != printed(result):
+            print("%s: %r is wanted, the reading gives %r" % (sheet.name, text[:200], printed(result)[:200]))
+    return any(text != printed(result) for text in texts)
+
+
+def option(args, name):
+    """The word after a name, both taken out of the arguments."""
+    if name not in args:
+        return None
+    place = args.index(name)
+    _, value = args[place:place + 2]
+    del args[place:place + 2]
+    return value
+
+
+def settle(made, check):
+    """Writes the files, or counts those that are not what would be written."""
+    faults = 0
+    for path, data in made:
+        if not check:
+            with open(path, "wb") as f:
+                f.write(data)
+        elif open(path, "rb").read() != data:
+            print("%s is not what would be written" % os.path.relpath(path, HERE))
+            faults += 1
+    return faults
 
 
 def main(args):
+    host, have = option(args, "--host"), option(args, "--have")
     words = [a for a in args if not a.startswith("--")]
-    if len(words) != 1 or not os.path.exists(os.path.join(words[0], "cases.py")):
-        print("usage: known.py REFERENCE [--check], with cases.py and refsheet.py in the folder REFERENCE")
+    if len(words) not in (1, 2) or not os.path.exists(os.path.join(words[0], "cases.py")):
+        print(__doc__)
         return 2
     sys.path.insert(0, words[0])
     sys.dont_write_bytecode = True
     import cases
+    import cases02
     import refsheet
-    faults = 0
-    made = [(os.path.join(CRATE, name), data) for name, data in zip(("stdin", "stdout"), files(cases, refsheet))]
-    for name, mode, text in examples():
-        answer = refsheet.printed(refsheet.run_entry(mode, text.encode()))
-        made.append((os.path.join(HERE, "examples", name[:-6] + ".answer"), answer.encode()))
-    for path, data in made:
-        if "--check" not in args:
-            with open(path, "wb") as f:
-                f.write(data)
-        elif open(path, "rb").read() != data:
-            print("%s is not what the reading gives" % os.path.relpath(path, HERE))
-            faults += 1
-    print("%d known sheets" % sum(1 for _ in chosen(cases)))
+    landed = have.split(",") if have else []
+    refsheet.set_have(landed)
+
+    def result_of(sheet):
+        found = refsheet.run_entry(sheet.entry, sheet.bytes, sheet.buffer, min(sheet.first, sheet.second))
+        return Result(*found[:3], found[3].encode())
+
+    def answer_length(sheet):
+        return refsheet.run_entry("partial", sheet)[2]
+    folder = words[1] if len(words) == 2 else None
+    found = [(sheet, result_of(sheet), want) for sheet, want in chosen(cases, cases02, folder, answer_length, landed)]
+    faults = sum(differs(sheet, result, want, host) for sheet, result, want in found)
+    if not faults:
+        made = [(os.path.join(CRATE, "stdin"), b"%d\n" % len(found) + b"".join(head(s) + s.name.encode() + s.bytes for s, _, _ in found)),
+                (os.path.join(CRATE, "stdout"), b"".join(shown(s, r) for s, r, _ in found))]
+        made += [(os.path.join(HERE, "examples", s.name[:-6] + ".answer"), printed(r)) for s, r, _ in found if s.name.endswith(".sheet")]
+        faults = settle(made, "--check" in args)
+    print("%d known sheets, %d faults" % (len(found), faults))
     return 1 if faults else 0
 
 
-sys.exit(main(sys.argv[1:]))
+if __name__ == "__main__":
+    sys.exit(main(sys.argv[1:]))

@@ -1,9 +1,8 @@
 #!/usr/bin/env python3
-"""Runs the loader on known sheets: python3 scripts/refusals.py REFERENCE
+"""Runs the loader on the known sheets (scripts/sheets.py): python3 scripts/refusals.py
 
-REFERENCE is a folder with `cases.py`: sheets with the text that the program must print for them. A small program over crate
-`load` is written to target/refusals/ and run on all of them; its number and line must be those of the refusal, or 0 and 0 where
-the sheet is accepted. It is run natively three times: plain, optimised, and with the compiler's assumptions checked (the
+A small program over crate `load` is written to target/refusals/ and run on all of them; its number and line must be those of the
+refusal, or 0 and 0 where the sheet is accepted. It is run natively three times: plain, optimised, and with the compiler's assumptions checked (the
 interpreter of `rt try` stops at its limit of steps, which says nothing). Nothing outside target/ is written.
 """
 import os
@@ -13,7 +12,8 @@ import subprocess
 import sys
 import time
 
-HERE = os.path.dirname(os.path.dirname(os.path.abspath(__file__)))
+from sheets import HERE, known, whole
+
 TREE = os.path.join(HERE, "target", "refusals")
 MAIN = """// Reads sheets, each after its mode, its length in five digits and a line end; prints the number and line of each.
 fn length(head: &[u8; 7]) -> usize {
@@ -61,25 +61,10 @@ fn main() {
 """
 
 
-def wanted(text):
-    m = re.match(r"refused=(\d+),(\d+),", text)
-    return "%s,%s" % m.groups() if m and m.group(1) in "2345678" else "0,0"
-
-
-def sheets(cases):
-    for name, mode, text, expected in cases.CASES:
-        yield name + "." + mode, mode, text.replace("/", "\n").encode("latin-1"), wanted(cases.expected_text(expected))
-    for size in (16384, 16385):
-        yield "size-%d" % size, "partial", cases.padded(size).replace("/", "\n").encode("latin-1"), "0,0" if size == 16384 else "2,0"
-
-
 def main(args):
-    if len(args) != 1 or not os.path.exists(os.path.join(args[0], "cases.py")):
-        print("usage: refusals.py REFERENCE, with cases.py in the folder REFERENCE")
+    if args:
+        print(__doc__)
         return 2
-    sys.path.insert(0, args[0])
-    sys.dont_write_bytecode = True
-    import cases
     shutil.rmtree(TREE, ignore_errors=True)
     shutil.copytree(os.path.join(HERE, "crates"), os.path.join(TREE, "crates"))
     program = os.path.join(TREE, "crates", "reading_cases")
@@ -90,12 +75,12 @@ def main(args):
     deps = [l.split(":")[0] for l in lines.splitlines() if ":" in l and not l.startswith("#") and os.path.exists(os.path.join(HERE, "crates", l.split(":")[0], "src", "lib.rt"))]
     with open(os.path.join(TREE, "crates.txt"), "w") as f:
         f.write(lines + "reading_cases: %s io libc\n" % " ".join(deps))
-    chosen = list(sheets(cases))
-    data = b"".join(b"%s%05d\n%s" % (mode[:1].encode(), len(sheet), sheet) for _, mode, sheet, _ in chosen)
+    chosen = [(sheet, result) for sheet, result in known() if whole(sheet, result)]
+    data = b"".join(b"%s%05d\n%s" % (s.entry[:1].encode(), len(s.bytes), s.bytes) for s, _ in chosen)
     with open(os.path.join(program, "stdin"), "wb") as f:
         f.write(data)
     with open(os.path.join(program, "stdout"), "w") as f:
-        f.write("".join(w + "\n" for _, _, _, w in chosen))
+        f.write("".join("%d,%d\n" % r[:2] for _, r in chosen))
     begin = time.time()
     r = subprocess.run(["rt", "try", "reading_cases"], capture_output=True, text=True, cwd=TREE)
     said = r.stdout + r.stderr

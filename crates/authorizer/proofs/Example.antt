@@ -16,7 +16,7 @@ use Rattle.sheet.proofs.ExampleBytes.{open-sheet, low, high, low-agrees, high-a
 use Rattle.authorizer.proofs.Demand3.{Run, bytesIn, demand-3-calls}
 
 -- what a call leaves of what it is lent
-abbrev runOf : (m : Mode) (sheet work₁ work₂ buffer : List ℕ) → Run m sheet
+abbrev pub runOf : (m : Mode) (sheet work₁ work₂ buffer : List ℕ) → Run m sheet
 runOf m sheet work₁ work₂ buffer = record {
   work₁ = work₁;
   work₂ = work₂;
@@ -44,7 +44,7 @@ unfolding high keys forms formOf slotAt counted tagOf rowOf keyOf refs ascending
 high-accepted = refl
 
 -- whatever the lent words and bytes are
-at-lengths : (m : Mode) (sheet : List ℕ) (i j k : ℕ) → returned m i j k sheet .number ≡ 0 → (w v o : List ℕ) → length w ≡ i → length v ≡ j → length o ≡ k → returned m (length w) (length v) (length o) sheet .number ≡ 0
+pub at-lengths : (m : Mode) (sheet : List ℕ) (i j k : ℕ) → returned m i j k sheet .number ≡ 0 → (w v o : List ℕ) → length w ≡ i → length v ≡ j → length o ≡ k → returned m (length w) (length v) (length o) sheet .number ≡ 0
 at-lengths m sheet i j k e w v o hw hv ho =
     ap (λ (n : ℕ). returned m n (length v) (length o) sheet .number) hw
     ∙ ap (λ (n : ℕ). returned m i n (length o) sheet .number) hv

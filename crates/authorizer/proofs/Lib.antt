@@ -5,3 +5,4 @@ pub mod Completing
 pub mod PartialRun
 pub mod Demand3
 pub mod Example
+pub mod ExampleEntities

@@ -1,5 +1,6 @@
-// Known sheets: K1 to K10 of document 01, the limits of depth and size, and every row of the table of refusals but 9. For each one
-// line with its name, what the call returned and whether slices and buffer came back as promised, then the answer.
+// Known sheets, written by scripts/known.py: K1 to K10 of document 01, each form and limit of a sheet, every row of the table of refusals
+// but 9, and probes of single sentences. For each one line with its name, what the call returned and whether slices and buffer came
+// back as promised, then the answer.
 // Standard input: the number of records; a record is a line `name,entry,sheet,first,second,buffer` (the bytes of its name, 0 partial
 // or 1 complete, the bytes of the sheet, the words of each work slice, the bytes of the buffer), then its name and its sheet.
 use authorizer::Returned;
@@ -49,14 +50,14 @@ fn run(entry: usize, sheet: &[u8], a: &mut [u32], b: &mut [u32], out: &mut [u8])
 fn lend(entry: usize, sheet: &[u8], first: usize, second: usize, buffer: usize) {
     let mut a = [0u32; 16400];
     let mut b = [0u32; 16400];
-    let mut out = [0u8; 4096];
+    let mut out = io::large_buffer();
     if first > 16400 {
         return;
     }
     if second > 16400 {
         return;
     }
-    if buffer > 4096 {
+    if buffer > 65536 {
         return;
     }
     run(

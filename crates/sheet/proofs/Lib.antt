@@ -10,6 +10,7 @@ pub mod DigitsBack
 pub mod EnvFit
 pub mod Environment
 pub mod ExampleBytes
+pub mod ExampleEntities
 pub mod FitsSound
 pub mod Fitting
 pub mod KnownSheets
