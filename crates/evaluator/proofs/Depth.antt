@@ -10,7 +10,8 @@ use Rattle.cedar.specs.Types.{Ty, tbool}
 use Rattle.cedar.specs.Residual.{Node, Nodes, NodeArgs, econs, gcons, err, and, or, ite, un, bin, rel, get, has, haspath, set, rec, unot, uneg, uempty, uis, ulike, beq, blt, ble, badd, bsub, bmul, bcontains, ball, bany, rin, rgettag, rhastag}
 use Rattle.cedar.specs.Runs.{NPolicy}
 use Rattle.cedar.proofs.TableLaws.{InN, now′}
-use Rattle.sheet.specs.Forms.{Mode, line, nothing, forms, formOf, slotAt, isLine, refsFrom, refs, tag, items, at, keyOf, NODE, POLICY}
+use Rattle.sheet.specs.Forms.{Mode, line, nothing, forms, formOf, slotAt, isLine, refsFrom, refs, tag, items, at, keyOf, firstNode, noTag, NODE, POLICY}
+use Rattle.forms.specs.Tags.{AND, OR, EQ, LT, LE, ADD, SUB, MUL, IN, GETTAG, HASTAG, CONTAINS, ALL, ANY, IF, IS, LIKE, GET, HAS, HASPATH, NOT, NEG, EMPTY, SET-OF, RECORD-OF, POLICY-LINE}
 use Rattle.sheet.specs.State.{State, linesOf, count, depthsOf}
 use Rattle.sheet.specs.Content.{types, patternOf, childrenOver, argsOver, treeOver, treesFrom, trees, effectOf, numberedPolicies, nPolicies}
 use Rattle.sheet.proofs.Lines.{History}
@@ -24,29 +25,27 @@ use Rattle.sheet.proofs.Slots.{set-slot, field-slot}
 use Rattle.evaluator.proofs.Many.{kidsWith, argsWith}
 use Rattle.evaluator.proofs.Evaluates.{treesOf, treesWith, treeWith, treeAt, policiesAt}
 
--- ---- a row's children are among its references
-
 -- ---- trees of a row over t and over u, which agree at its references
 
 module _ (t u : ℕ → Node ℕ) where
   abbrev Agree : List ℕ → Type 0
   Agree l = (y : ℕ) → InN y l → t y ≡ u y
 
-  one : (g : ℕ) (l : List ℕ) → 2 ≤ length l → isLine 11 (slotAt g 1) ≡ true → Agree (refsFrom 11 g 0 l) → t (getD l 1 0) ≡ u (getD l 1 0)
+  one : (g : ℕ) (l : List ℕ) → 2 ≤ length l → isLine NODE (slotAt g 1) ≡ true → Agree (refsFrom NODE g 0 l) → t (getD l 1 0) ≡ u (getD l 1 0)
   one g [] c p h = absurd (omega arith)
   one g (x ∷ []) c p h = absurd (omega arith)
-  one g (x ∷ y ∷ l) c p h = h y (in-keep (isLine 11 (slotAt g 0)) x y (refsFrom 11 g 1 (y ∷ l)) (this-kept (isLine 11 (slotAt g 1)) y (refsFrom 11 g 2 l) p))
+  one g (x ∷ y ∷ l) c p h = h y (in-keep (isLine NODE (slotAt g 0)) x y (refsFrom NODE g 1 (y ∷ l)) (this-kept (isLine NODE (slotAt g 1)) y (refsFrom NODE g 2 l) p))
 
-  two : (g : ℕ) (l : List ℕ) → 3 ≤ length l → isLine 11 (slotAt g 1) ≡ true → isLine 11 (slotAt g 2) ≡ true → Agree (refsFrom 11 g 0 l) → (t (getD l 1 0) ≡ u (getD l 1 0)) × (t (getD l 2 0) ≡ u (getD l 2 0))
+  two : (g : ℕ) (l : List ℕ) → 3 ≤ length l → isLine NODE (slotAt g 1) ≡ true → isLine NODE (slotAt g 2) ≡ true → Agree (refsFrom NODE g 0 l) → (t (getD l 1 0) ≡ u (getD l 1 0)) × (t (getD l 2 0) ≡ u (getD l 2 0))
   two g [] c p q h = absurd (omega arith)
   two g (x ∷ []) c p q h = absurd (omega arith)
   two g (x ∷ y ∷ []) c p q h = absurd (omega arith)
   two g (x ∷ y ∷ z ∷ l) c p q h = (
     one g (x ∷ y ∷ z ∷ l) (omega arith) p h,
-    h z (in-keep (isLine 11 (slotAt g 0)) x z (refsFrom 11 g 1 (y ∷ z ∷ l)) (in-keep (isLine 11 (slotAt g 1)) y z (refsFrom 11 g 2 (z ∷ l)) (this-kept (isLine 11 (slotAt g 2)) z (refsFrom 11 g 3 l) q))),
+    h z (in-keep (isLine NODE (slotAt g 0)) x z (refsFrom NODE g 1 (y ∷ z ∷ l)) (in-keep (isLine NODE (slotAt g 1)) y z (refsFrom NODE g 2 (z ∷ l)) (this-kept (isLine NODE (slotAt g 2)) z (refsFrom NODE g 3 l) q))),
   )
 
-  three : (g : ℕ) (l : List ℕ) → 4 ≤ length l → isLine 11 (slotAt g 1) ≡ true → isLine 11 (slotAt g 2) ≡ true → isLine 11 (slotAt g 3) ≡ true → Agree (refsFrom 11 g 0 l)
+  three : (g : ℕ) (l : List ℕ) → 4 ≤ length l → isLine NODE (slotAt g 1) ≡ true → isLine NODE (slotAt g 2) ≡ true → isLine NODE (slotAt g 3) ≡ true → Agree (refsFrom NODE g 0 l)
       → (t (getD l 1 0) ≡ u (getD l 1 0)) × (t (getD l 2 0) ≡ u (getD l 2 0)) × (t (getD l 3 0) ≡ u (getD l 3 0))
   three g [] c p q r h = absurd (omega arith)
   three g (x ∷ []) c p q r h = absurd (omega arith)
@@ -55,72 +54,72 @@ module _ (t u : ℕ → Node ℕ) where
   three g (x ∷ y ∷ z ∷ w ∷ l) c p q r h = let (a, b) = two g (x ∷ y ∷ z ∷ w ∷ l) (omega arith) p q h in (
     a,
     b,
-    h w (in-keep (isLine 11 (slotAt g 0)) x w (refsFrom 11 g 1 (y ∷ z ∷ w ∷ l)) (in-keep (isLine 11 (slotAt g 1)) y w (refsFrom 11 g 2 (z ∷ w ∷ l))
-        (in-keep (isLine 11 (slotAt g 2)) z w (refsFrom 11 g 3 (w ∷ l)) (this-kept (isLine 11 (slotAt g 3)) w (refsFrom 11 g 4 l) r)))),
+    h w (in-keep (isLine NODE (slotAt g 0)) x w (refsFrom NODE g 1 (y ∷ z ∷ w ∷ l)) (in-keep (isLine NODE (slotAt g 1)) y w (refsFrom NODE g 2 (z ∷ w ∷ l))
+        (in-keep (isLine NODE (slotAt g 2)) z w (refsFrom NODE g 3 (w ∷ l)) (this-kept (isLine NODE (slotAt g 3)) w (refsFrom NODE g 4 l) r)))),
   )
 
-  kids-same : (j : ℕ) (l : List ℕ) → Agree (refsFrom 11 47 (suc j) l) → kidsWith t l ≡ kidsWith u l
+  kids-same : (j : ℕ) (l : List ℕ) → Agree (refsFrom NODE SET-OF (suc j) l) → kidsWith t l ≡ kidsWith u l
   kids-same j [] h = refl
-  kids-same j (n ∷ l) h = ap₂ econs (h n (this-kept (isLine 11 (slotAt 47 (suc j))) n (refsFrom 11 47 (suc (suc j)) l) (ap (isLine 11) (set-slot j))))
-      (kids-same (suc j) l (λ y i. h y (in-keep (isLine 11 (slotAt 47 (suc j))) n y (refsFrom 11 47 (suc (suc j)) l) i)))
+  kids-same j (n ∷ l) h = ap₂ econs (h n (this-kept (isLine NODE (slotAt SET-OF (suc j))) n (refsFrom NODE SET-OF (suc (suc j)) l) (ap (isLine NODE) (set-slot j))))
+      (kids-same (suc j) l (λ y i. h y (in-keep (isLine NODE (slotAt SET-OF (suc j))) n y (refsFrom NODE SET-OF (suc (suc j)) l) i)))
 
-  args-same : (i : ℕ) (l : List ℕ) → Agree (refsFrom 11 48 (suc (i + i)) l) → argsWith t l ≡ argsWith u l
+  args-same : (i : ℕ) (l : List ℕ) → Agree (refsFrom NODE RECORD-OF (suc (i + i)) l) → argsWith t l ≡ argsWith u l
   args-same i [] h = refl
   args-same i (x ∷ []) h = refl
   args-same i (x ∷ n ∷ l) h =
-      let e : refsFrom 11 48 (suc (suc i + suc i)) l ≡ refsFrom 11 48 (suc (suc (suc (i + i)))) l = ap (λ j. refsFrom 11 48 j l) (omega arith) in
+      let e : refsFrom NODE RECORD-OF (suc (suc i + suc i)) l ≡ refsFrom NODE RECORD-OF (suc (suc (suc (i + i)))) l = ap (λ j. refsFrom NODE RECORD-OF j l) (omega arith) in
       ap₂ (gcons x)
-      (h n (in-keep (isLine 11 (slotAt 48 (suc (i + i)))) x n (refsFrom 11 48 (suc (suc (i + i))) (n ∷ l)) (this-kept (isLine 11 (slotAt 48 (suc (suc (i + i))))) n (refsFrom 11 48 (suc (suc (suc (i + i)))) l) (ap (isLine 11) (field-slot i)))))
-      (args-same (suc i) l (λ y k. h y (in-keep (isLine 11 (slotAt 48 (suc (i + i)))) x y (refsFrom 11 48 (suc (suc (i + i))) (n ∷ l))
-      (in-keep (isLine 11 (slotAt 48 (suc (suc (i + i))))) n y (refsFrom 11 48 (suc (suc (suc (i + i)))) l) (subst (InN y) e k)))))
+      (h n (in-keep (isLine NODE (slotAt RECORD-OF (suc (i + i)))) x n (refsFrom NODE RECORD-OF (suc (suc (i + i))) (n ∷ l)) (this-kept (isLine NODE (slotAt RECORD-OF (suc (suc (i + i))))) n (refsFrom NODE RECORD-OF (suc (suc (suc (i + i)))) l) (ap (isLine NODE) (field-slot i)))))
+      (args-same (suc i) l (λ y k. h y (in-keep (isLine NODE (slotAt RECORD-OF (suc (i + i)))) x y (refsFrom NODE RECORD-OF (suc (suc (i + i))) (n ∷ l))
+      (in-keep (isLine NODE (slotAt RECORD-OF (suc (suc (i + i))))) n y (refsFrom NODE RECORD-OF (suc (suc (suc (i + i)))) l) (subst (InN y) e k)))))
 
-  set-same : (l : List ℕ) → Agree (refsFrom 11 47 0 l) → kidsWith t (drop 1 l) ≡ kidsWith u (drop 1 l)
+  set-same : (l : List ℕ) → Agree (refsFrom NODE SET-OF 0 l) → kidsWith t (drop 1 l) ≡ kidsWith u (drop 1 l)
   set-same [] h = refl
-  set-same (x ∷ l) h = kids-same 0 l (λ y i. h y (in-keep (isLine 11 (slotAt 47 0)) x y (refsFrom 11 47 1 l) i))
+  set-same (x ∷ l) h = kids-same 0 l (λ y i. h y (in-keep (isLine NODE (slotAt SET-OF 0)) x y (refsFrom NODE SET-OF 1 l) i))
 
-  record-same : (l : List ℕ) → Agree (refsFrom 11 48 0 l) → argsWith t (drop 1 l) ≡ argsWith u (drop 1 l)
+  record-same : (l : List ℕ) → Agree (refsFrom NODE RECORD-OF 0 l) → argsWith t (drop 1 l) ≡ argsWith u (drop 1 l)
   record-same [] h = refl
-  record-same (x ∷ l) h = args-same 0 l (λ y i. h y (in-keep (isLine 11 (slotAt 48 0)) x y (refsFrom 11 48 1 l) i))
+  record-same (x ∷ l) h = args-same 0 l (λ y i. h y (in-keep (isLine NODE (slotAt RECORD-OF 0)) x y (refsFrom NODE RECORD-OF 1 l) i))
 
   Same : ℕ → Type 0
-  Same g = (l : List ℕ) → length (formOf g .items) ≤ length l → (T : Ty) → Agree (refsFrom 11 g 0 l) → getD (treesWith t (g ∷ l) T) (g - 21) (err tbool) ≡ getD (treesWith u (g ∷ l) T) (g - 21) (err tbool)
+  Same g = (l : List ℕ) → length (formOf g .items) ≤ length l → (T : Ty) → Agree (refsFrom NODE g 0 l) → getD (treesWith t (g ∷ l) T) (g - firstNode) (err tbool) ≡ getD (treesWith u (g ∷ l) T) (g - firstNode) (err tbool)
 
-  rule-for : (d : ℕ) → d ≤ 27 → Same (21 + d)
+  rule-for : (d : ℕ) → firstNode + d ≤ RECORD-OF → Same (firstNode + d)
   unfolding Same slotAt formOf forms
   rule-for zero b l c T h = refl
   rule-for (suc zero) b l c T h = refl
   rule-for (suc (suc zero)) b l c T h = refl
-  rule-for (suc (suc (suc zero))) b l c T h = let (p, q) = two 24 l c refl refl h in ap₂ (and T) p q
-  rule-for (suc (suc (suc (suc zero)))) b l c T h = let (p, q) = two 25 l c refl refl h in ap₂ (or T) p q
-  rule-for (suc (suc (suc (suc (suc zero))))) b l c T h = let (p, q) = two 26 l c refl refl h in ap₂ (bin T beq) p q
-  rule-for (suc (suc (suc (suc (suc (suc zero)))))) b l c T h = let (p, q) = two 27 l c refl refl h in ap₂ (bin T blt) p q
-  rule-for (suc (suc (suc (suc (suc (suc (suc zero))))))) b l c T h = let (p, q) = two 28 l c refl refl h in ap₂ (bin T ble) p q
-  rule-for (suc (suc (suc (suc (suc (suc (suc (suc zero)))))))) b l c T h = let (p, q) = two 29 l c refl refl h in ap₂ (bin T badd) p q
-  rule-for (suc (suc (suc (suc (suc (suc (suc (suc (suc zero))))))))) b l c T h = let (p, q) = two 30 l c refl refl h in ap₂ (bin T bsub) p q
-  rule-for (suc (suc (suc (suc (suc (suc (suc (suc (suc (suc zero)))))))))) b l c T h = let (p, q) = two 31 l c refl refl h in ap₂ (bin T bmul) p q
-  rule-for (suc (suc (suc (suc (suc (suc (suc (suc (suc (suc (suc zero))))))))))) b l c T h = let (p, q) = two 32 l c refl refl h in ap₂ (rel T rin) p q
-  rule-for (suc (suc (suc (suc (suc (suc (suc (suc (suc (suc (suc (suc zero)))))))))))) b l c T h = let (p, q) = two 33 l c refl refl h in ap₂ (rel T rgettag) p q
-  rule-for (suc (suc (suc (suc (suc (suc (suc (suc (suc (suc (suc (suc (suc zero))))))))))))) b l c T h = let (p, q) = two 34 l c refl refl h in ap₂ (rel T rhastag) p q
-  rule-for (suc (suc (suc (suc (suc (suc (suc (suc (suc (suc (suc (suc (suc (suc zero)))))))))))))) b l c T h = let (p, q) = two 35 l c refl refl h in ap₂ (bin T bcontains) p q
-  rule-for (suc (suc (suc (suc (suc (suc (suc (suc (suc (suc (suc (suc (suc (suc (suc zero))))))))))))))) b l c T h = let (p, q) = two 36 l c refl refl h in ap₂ (bin T ball) p q
-  rule-for (suc (suc (suc (suc (suc (suc (suc (suc (suc (suc (suc (suc (suc (suc (suc (suc zero)))))))))))))))) b l c T h = let (p, q) = two 37 l c refl refl h in ap₂ (bin T bany) p q
-  rule-for (suc (suc (suc (suc (suc (suc (suc (suc (suc (suc (suc (suc (suc (suc (suc (suc (suc zero))))))))))))))))) b l c T h = let (p, q, z) = three 38 l c refl refl refl h in λ j. ite T (p j) (q j) (z j)
-  rule-for (suc (suc (suc (suc (suc (suc (suc (suc (suc (suc (suc (suc (suc (suc (suc (suc (suc (suc zero)))))))))))))))))) b l c T h = ap (un T (uis (getD l 2 0))) (one 39 l (omega arith) refl h)
-  rule-for (suc (suc (suc (suc (suc (suc (suc (suc (suc (suc (suc (suc (suc (suc (suc (suc (suc (suc (suc zero))))))))))))))))))) b l c T h = ap (un T (ulike (patternOf (drop 2 l)))) (one 40 l c refl h)
-  rule-for (suc (suc (suc (suc (suc (suc (suc (suc (suc (suc (suc (suc (suc (suc (suc (suc (suc (suc (suc (suc zero)))))))))))))))))))) b l c T h = ap (λ (x : Node ℕ). get T x (getD l 2 0)) (one 41 l (omega arith) refl h)
-  rule-for (suc (suc (suc (suc (suc (suc (suc (suc (suc (suc (suc (suc (suc (suc (suc (suc (suc (suc (suc (suc (suc zero))))))))))))))))))))) b l c T h = ap (λ (x : Node ℕ). has T x (getD l 2 0)) (one 42 l (omega arith) refl h)
-  rule-for (suc (suc (suc (suc (suc (suc (suc (suc (suc (suc (suc (suc (suc (suc (suc (suc (suc (suc (suc (suc (suc (suc zero)))))))))))))))))))))) b l c T h = ap (λ (x : Node ℕ). haspath T x (getD l 2 0) (drop 3 l)) (one 43 l (omega arith) refl h)
-  rule-for (suc (suc (suc (suc (suc (suc (suc (suc (suc (suc (suc (suc (suc (suc (suc (suc (suc (suc (suc (suc (suc (suc (suc zero))))))))))))))))))))))) b l c T h = ap (un T unot) (one 44 l c refl h)
-  rule-for (suc (suc (suc (suc (suc (suc (suc (suc (suc (suc (suc (suc (suc (suc (suc (suc (suc (suc (suc (suc (suc (suc (suc (suc zero)))))))))))))))))))))))) b l c T h = ap (un T uneg) (one 45 l c refl h)
-  rule-for (suc (suc (suc (suc (suc (suc (suc (suc (suc (suc (suc (suc (suc (suc (suc (suc (suc (suc (suc (suc (suc (suc (suc (suc (suc zero))))))))))))))))))))))))) b l c T h = ap (un T uempty) (one 46 l c refl h)
+  rule-for (suc (suc (suc zero))) b l c T h = let (p, q) = two AND l c refl refl h in ap₂ (and T) p q
+  rule-for (suc (suc (suc (suc zero)))) b l c T h = let (p, q) = two OR l c refl refl h in ap₂ (or T) p q
+  rule-for (suc (suc (suc (suc (suc zero))))) b l c T h = let (p, q) = two EQ l c refl refl h in ap₂ (bin T beq) p q
+  rule-for (suc (suc (suc (suc (suc (suc zero)))))) b l c T h = let (p, q) = two LT l c refl refl h in ap₂ (bin T blt) p q
+  rule-for (suc (suc (suc (suc (suc (suc (suc zero))))))) b l c T h = let (p, q) = two LE l c refl refl h in ap₂ (bin T ble) p q
+  rule-for (suc (suc (suc (suc (suc (suc (suc (suc zero)))))))) b l c T h = let (p, q) = two ADD l c refl refl h in ap₂ (bin T badd) p q
+  rule-for (suc (suc (suc (suc (suc (suc (suc (suc (suc zero))))))))) b l c T h = let (p, q) = two SUB l c refl refl h in ap₂ (bin T bsub) p q
+  rule-for (suc (suc (suc (suc (suc (suc (suc (suc (suc (suc zero)))))))))) b l c T h = let (p, q) = two MUL l c refl refl h in ap₂ (bin T bmul) p q
+  rule-for (suc (suc (suc (suc (suc (suc (suc (suc (suc (suc (suc zero))))))))))) b l c T h = let (p, q) = two IN l c refl refl h in ap₂ (rel T rin) p q
+  rule-for (suc (suc (suc (suc (suc (suc (suc (suc (suc (suc (suc (suc zero)))))))))))) b l c T h = let (p, q) = two GETTAG l c refl refl h in ap₂ (rel T rgettag) p q
+  rule-for (suc (suc (suc (suc (suc (suc (suc (suc (suc (suc (suc (suc (suc zero))))))))))))) b l c T h = let (p, q) = two HASTAG l c refl refl h in ap₂ (rel T rhastag) p q
+  rule-for (suc (suc (suc (suc (suc (suc (suc (suc (suc (suc (suc (suc (suc (suc zero)))))))))))))) b l c T h = let (p, q) = two CONTAINS l c refl refl h in ap₂ (bin T bcontains) p q
+  rule-for (suc (suc (suc (suc (suc (suc (suc (suc (suc (suc (suc (suc (suc (suc (suc zero))))))))))))))) b l c T h = let (p, q) = two ALL l c refl refl h in ap₂ (bin T ball) p q
+  rule-for (suc (suc (suc (suc (suc (suc (suc (suc (suc (suc (suc (suc (suc (suc (suc (suc zero)))))))))))))))) b l c T h = let (p, q) = two ANY l c refl refl h in ap₂ (bin T bany) p q
+  rule-for (suc (suc (suc (suc (suc (suc (suc (suc (suc (suc (suc (suc (suc (suc (suc (suc (suc zero))))))))))))))))) b l c T h = let (p, q, z) = three IF l c refl refl refl h in λ j. ite T (p j) (q j) (z j)
+  rule-for (suc (suc (suc (suc (suc (suc (suc (suc (suc (suc (suc (suc (suc (suc (suc (suc (suc (suc zero)))))))))))))))))) b l c T h = ap (un T (uis (getD l 2 0))) (one IS l (omega arith) refl h)
+  rule-for (suc (suc (suc (suc (suc (suc (suc (suc (suc (suc (suc (suc (suc (suc (suc (suc (suc (suc (suc zero))))))))))))))))))) b l c T h = ap (un T (ulike (patternOf (drop 2 l)))) (one LIKE l c refl h)
+  rule-for (suc (suc (suc (suc (suc (suc (suc (suc (suc (suc (suc (suc (suc (suc (suc (suc (suc (suc (suc (suc zero)))))))))))))))))))) b l c T h = ap (λ (x : Node ℕ). get T x (getD l 2 0)) (one GET l (omega arith) refl h)
+  rule-for (suc (suc (suc (suc (suc (suc (suc (suc (suc (suc (suc (suc (suc (suc (suc (suc (suc (suc (suc (suc (suc zero))))))))))))))))))))) b l c T h = ap (λ (x : Node ℕ). has T x (getD l 2 0)) (one HAS l (omega arith) refl h)
+  rule-for (suc (suc (suc (suc (suc (suc (suc (suc (suc (suc (suc (suc (suc (suc (suc (suc (suc (suc (suc (suc (suc (suc zero)))))))))))))))))))))) b l c T h = ap (λ (x : Node ℕ). haspath T x (getD l 2 0) (drop 3 l)) (one HASPATH l (omega arith) refl h)
+  rule-for (suc (suc (suc (suc (suc (suc (suc (suc (suc (suc (suc (suc (suc (suc (suc (suc (suc (suc (suc (suc (suc (suc (suc zero))))))))))))))))))))))) b l c T h = ap (un T unot) (one NOT l c refl h)
+  rule-for (suc (suc (suc (suc (suc (suc (suc (suc (suc (suc (suc (suc (suc (suc (suc (suc (suc (suc (suc (suc (suc (suc (suc (suc zero)))))))))))))))))))))))) b l c T h = ap (un T uneg) (one NEG l c refl h)
+  rule-for (suc (suc (suc (suc (suc (suc (suc (suc (suc (suc (suc (suc (suc (suc (suc (suc (suc (suc (suc (suc (suc (suc (suc (suc (suc zero))))))))))))))))))))))))) b l c T h = ap (un T uempty) (one EMPTY l c refl h)
   rule-for (suc (suc (suc (suc (suc (suc (suc (suc (suc (suc (suc (suc (suc (suc (suc (suc (suc (suc (suc (suc (suc (suc (suc (suc (suc (suc zero)))))))))))))))))))))))))) b l c T h = ap (set T) (set-same l h)
   rule-for (suc (suc (suc (suc (suc (suc (suc (suc (suc (suc (suc (suc (suc (suc (suc (suc (suc (suc (suc (suc (suc (suc (suc (suc (suc (suc (suc zero))))))))))))))))))))))))))) b l c T h = ap (rec T) (record-same l h)
   rule-for (suc (suc (suc (suc (suc (suc (suc (suc (suc (suc (suc (suc (suc (suc (suc (suc (suc (suc (suc (suc (suc (suc (suc (suc (suc (suc (suc (suc d)))))))))))))))))))))))))))) b l c T h = absurd (omega arith)
 
-  pub tree-same : (ts : List Ty) (g : ℕ) (l : List ℕ) → 21 ≤ g → g ≤ 48 → length (formOf g .items) ≤ length l → Agree (refsFrom 11 g 0 l) → treeWith ts t (g ∷ l) ≡ treeWith ts u (g ∷ l)
+  pub tree-same : (ts : List Ty) (g : ℕ) (l : List ℕ) → firstNode ≤ g → g ≤ RECORD-OF → length (formOf g .items) ≤ length l → Agree (refsFrom NODE g 0 l) → treeWith ts t (g ∷ l) ≡ treeWith ts u (g ∷ l)
   unfolding Same
   tree-same ts g l lo hi c h =
-      let rule : Same g = subst Same (omega (arith, lo)) (rule-for (g - 21) (omega (arith, lo, hi))) in
+      let rule : Same g = subst Same (omega (arith, lo)) (rule-for (g - firstNode) (omega (arith, lo, hi))) in
       rule l c (getD ts (getD l 0 0) tbool) h
 
 -- ---- the trees read line by line
@@ -136,7 +135,7 @@ module _ (ts : List Ty) (ns : List (Node ℕ)) where
   args-over (x ∷ n ∷ l) = ap (gcons x (getD ns n (err tbool))) (args-over l)
 
   tree-over : (r : List ℕ) → treeWith ts (λ x. getD ns x (err tbool)) r ≡ treeOver ts (λ n. n) ns r
-  tree-over r = ap₂ (λ (ks : Nodes ℕ) (gs : NodeArgs ℕ). getD (treesOf (λ x. getD ns x (err tbool)) r (getD ts (at r 0) tbool) ks gs) (tag r - 21) (err tbool)) (kids-over (drop 1 (items r))) (args-over (drop 1 (items r)))
+  tree-over r = ap₂ (λ (ks : Nodes ℕ) (gs : NodeArgs ℕ). getD (treesOf (λ x. getD ns x (err tbool)) r (getD ts (at r 0) tbool) ks gs) (tag r - firstNode) (err tbool)) (kids-over (drop 1 (items r))) (args-over (drop 1 (items r)))
 
 getD-end : {A : Type 0} (l : List A) (a d : A) (rest : List A) → getD (l ++ (a ∷ rest)) (length l) d ≡ a
 getD-end [] a d rest = refl
@@ -165,10 +164,10 @@ module _ (m : Mode) (s : State) (h : History m s) (dp : Deep NODE (linesOf s NOD
 
   row-same : (pre rest : List (List ℕ)) (r : List ℕ) (e : rows ≡ pre ++ (r ∷ rest)) (t u : ℕ → Node ℕ) → ((y : ℕ) → InN y (refs NODE r) → t y ≡ u y) → treeWith (types s) t r ≡ treeWith (types s) u r
   unfolding keyOf refs
-  row-same pre rest [] e t u f = let (lo, hi) = tags-between 11 21 48 50 (omega arith) node-tags (h NODE pre [] rest e .key) in absurd (omega (arith, hi))
+  row-same pre rest [] e t u f = let (lo, hi) = tags-between NODE firstNode RECORD-OF noTag (omega arith) node-tags (h NODE pre [] rest e .key) in absurd (omega (arith, hi))
   row-same pre rest (g ∷ l) e t u f =
       let w = h NODE pre (g ∷ l) rest e in
-      let (lo, hi) = tags-between 11 21 48 g (omega arith) node-tags (w .key) in
+      let (lo, hi) = tags-between NODE firstNode RECORD-OF g (omega arith) node-tags (w .key) in
       let rd = row-read m (g ∷ l) (w .line) g (w .row) refl (omega (arith, lo)) (omega (arith, hi)) (λ z. absurd (omega (arith, z, lo))) in
       tree-same t u (types s) g l lo hi (rd .least) f
 
@@ -208,7 +207,7 @@ module _ (m : Mode) (s : State) (h : History m s) (dp : Deep NODE (linesOf s NOD
 
   -- ---- the policies
 
-  last-in : (l : List ℕ) → 3 ≤ length l → InN (getD l 2 0) (refsFrom 11 49 0 l)
+  last-in : (l : List ℕ) → 3 ≤ length l → InN (getD l 2 0) (refsFrom NODE POLICY-LINE 0 l)
   unfolding slotAt formOf forms
   last-in [] c = absurd (omega arith)
   last-in (x ∷ []) c = absurd (omega arith)
@@ -217,15 +216,15 @@ module _ (m : Mode) (s : State) (h : History m s) (dp : Deep NODE (linesOf s NOD
 
   root-there : (pre rest : List (List ℕ)) (r : List ℕ) → linesOf s POLICY ≡ pre ++ (r ∷ rest) → at r 2 < length rows
   unfolding keyOf refs formOf forms
-  root-there pre rest [] e = let (lo, hi) = tags-between 12 49 49 50 (omega arith) policy-tags (h POLICY pre [] rest e .key) in absurd (omega (arith, hi))
+  root-there pre rest [] e = let (lo, hi) = tags-between POLICY POLICY-LINE POLICY-LINE noTag (omega arith) policy-tags (h POLICY pre [] rest e .key) in absurd (omega (arith, hi))
   root-there pre rest (g ∷ l) e =
       let w = h POLICY pre (g ∷ l) rest e in
-      let (lo, hi) = tags-between 12 49 49 g (omega arith) policy-tags (w .key) in
-      let q : 49 ≡ g = omega (arith, lo, hi) in
-      let rd = row-read m (g ∷ l) (w .line) 49 (w .row) (sym q) (omega arith) (omega arith) (λ z. absurd (omega (arith, z))) in
+      let (lo, hi) = tags-between POLICY POLICY-LINE POLICY-LINE g (omega arith) policy-tags (w .key) in
+      let q : POLICY-LINE ≡ g = omega (arith, lo, hi) in
+      let rd = row-read m (g ∷ l) (w .line) POLICY-LINE (w .row) (sym q) (omega arith) (omega arith) (λ z. absurd (omega (arith, z))) in
       let z : count (w .was) NODE ≡ length rows = ap length (w .earlier NODE (omega arith)) in
-      let i : InN (getD l 2 0) (refsFrom 11 g 0 l) = subst (λ (k : ℕ). InN (getD l 2 0) (refsFrom 11 k 0 l)) q (last-in l (rd .least)) in
-      let a = in-below (count (w .was) NODE) (refsFrom 11 g 0 l) (getD l 2 0) (refs-below (w .was) NODE g 0 l (all-there (w .was) POLICY (g ∷ l) (w .pass .refers))) i in
+      let i : InN (getD l 2 0) (refsFrom NODE g 0 l) = subst (λ (k : ℕ). InN (getD l 2 0) (refsFrom NODE k 0 l)) q (last-in l (rd .least)) in
+      let a = in-below (count (w .was) NODE) (refsFrom NODE g 0 l) (getD l 2 0) (refs-below (w .was) NODE g 0 l (all-there (w .was) POLICY (g ∷ l) (w .pass .refers))) i in
       omega (arith, a, z)
 
   policies-from : (pre rest : List (List ℕ)) → linesOf s POLICY ≡ pre ++ rest → policiesAt (types s) rows rest ≡ numberedPolicies (trees s) rest

@@ -19,8 +19,9 @@ use Rattle.sheet.specs.Content.{varOf, patternOf, types, effectOf}
 use Rattle.sheet.specs.Answer.{size}
 use Rattle.sheet.proofs.MadeCount.{policySizes}
 use Rattle.table.specs.Layout.{rowsOf, held}
+use Rattle.residual.specs.Classes.{classNumber}
 use Rattle.tpe.proofs.Stands.{Hold, Room}
-use Rattle.evaluator.specs.Run.{Rec, Step, yields, nodeIn, policyIn, steps, errStep, stepAt, stepOf, evalOf, classOf, classNumber, classNumbers, Ran, ranFrom}
+use Rattle.evaluator.specs.Run.{Rec, Step, yields, nodeIn, policyIn, steps, errStep, stepAt, stepOf, evalOf, classOf, classNumbers, Ran, ranFrom}
 use Rattle.evaluator.specs.declared.Yield.{Yield}
 use Rattle.evaluator.specs.declared.Yield.the-variants.{Error}
 use Rattle.evaluator.proofs.Gives.{Says, says-value, says-error, Stand, Gives, is-error, some-room, rest-room}

@@ -12,7 +12,8 @@ use Rattle.words.specs.Log.{part}
 use Rattle.cedar.specs.Value.{onSome}
 use Rattle.cedar.specs.Rows.{Row, rbool, rlong, rtext, rent, rset, rrec}
 use Rattle.cedar.specs.Numbered.{Give, NOut, fails, stays, truly, rRec, giveRow, entryOf, isSome, nentity, nlineOr, onEntries}
-use Rattle.sheet.specs.Forms.{items, at, mark}
+use Rattle.sheet.specs.Forms.{items, at, mark, NODE}
+use Rattle.forms.specs.Tags.{EQ, LT, IN, GETTAG, HASTAG, CONTAINS, ALL, ANY, IF, IS, LIKE, GET, HAS, HASPATH, NOT, NEG, EMPTY, SET-OF}
 use Rattle.sheet.specs.Content.{lookUp, nEnv, lineGiven, schema}
 use Rattle.table.specs.Layout.{rowsOf, textAt, held}
 use Rattle.table.proofs.Rows.{above}
@@ -35,7 +36,7 @@ use Rattle.evaluator.specs.Run.{nodeIn, pathOut, binOut, relOut, getOut,
 
 -- ---- words of a node
 
-module _ (a : List ℕ) (n : ℕ) (r : List ℕ) (er : r ≡ getD (rowsOf a 11) n []) where
+module _ (a : List ℕ) (n : ℕ) (r : List ℕ) (er : r ≡ getD (rowsOf a NODE) n []) where
   pub word-is : (j x : ℕ) → x ≡ getD r j 0 → x ≡ getD (nodeIn a n) j 0
   word-is j x e = e ∙ ap (λ (l : List ℕ). getD l j 0) er
 
@@ -148,85 +149,85 @@ module _ (a : List ℕ) where
 below : (t k : ℕ) → t < suc k → (t ≡ k → ⊥) → t < k
 below t k h n = omega arith
 
-from-here : (t : ℕ) → 27 ≤ t → t ≡ 27 + (t - 27)
+from-here : (t : ℕ) → LT ≤ t → t ≡ LT + (t - LT)
 from-here t h = omega arith
 
-so-many : (t : ℕ) → 27 ≤ t → t < 32 → t - 27 < 5
+so-many : (t : ℕ) → LT ≤ t → t < IN → LT + (t - LT) < IN
 so-many t h l = omega arith
 
-the-last : (t : ℕ) → 46 ≤ t → t < 47 → 46 ≡ t
+the-last : (t : ℕ) → EMPTY ≤ t → t < SET-OF → EMPTY ≡ t
 the-last t h l = omega arith
 
 -- ---- one operand, by the tag
 
 module _ (sheet a r : List ℕ) (t v : ℕ) (g : Given) where
-  pub one-is : (x : ℕ) → t ≡ 39 → x ≡ getD r 3 0 → outOf g ≡ isOut x (valueIn a v) → outOf g ≡ oneOut sheet t a r v
+  pub one-is : (x : ℕ) → t ≡ IS → x ≡ getD r 3 0 → outOf g ≡ isOut x (valueIn a v) → outOf g ≡ oneOut sheet t a r v
   unfolding oneOut unOut isOut values valueIn
   one-is x e ex h = h ∙ ap (λ (k : ℕ). isOut k (valueIn a v)) ex ∙ ap (λ (s : ℕ). oneOut sheet s a r v) (sym e)
 
-  pub one-like : t ≡ 40 → outOf g ≡ likeOut (textAt sheet a) (drop 3 r) (valueIn a v) → outOf g ≡ oneOut sheet t a r v
+  pub one-like : t ≡ LIKE → outOf g ≡ likeOut (textAt sheet a) (drop 3 r) (valueIn a v) → outOf g ≡ oneOut sheet t a r v
   unfolding oneOut unOut likeOut values valueIn schemaIn
   one-like e h =
       let bytes : textAt sheet a ≡ schema (held sheet a []) .bytes = fun-ext (λ (x : ℕ). sym (bytes-link true a sheet [] x)) in
       h ∙ ap (λ (f : ℕ → List ℕ). likeOut f (drop 3 r) (valueIn a v)) bytes ∙ ap (λ (p : List ℕ). likeOut (schema (held sheet a []) .bytes) p (valueIn a v)) (sym (drop-drop 2 1 r)) ∙ ap (λ (s : ℕ). oneOut sheet s a r v) (sym e)
 
-  pub one-get : (x : ℕ) → t ≡ 41 → x ≡ getD r 3 0 → outOf g ≡ L.getOut true a v x → outOf g ≡ oneOut sheet t a r v
+  pub one-get : (x : ℕ) → t ≡ GET → x ≡ getD r 3 0 → outOf g ≡ L.getOut true a v x → outOf g ≡ oneOut sheet t a r v
   unfolding oneOut getOut L.getOut values valueIn envIn S.envIn
   one-get x e ex h = h ∙ ap (λ (k : ℕ). L.getOut true a v k) ex ∙ ap (λ (s : ℕ). oneOut sheet s a r v) (sym e)
 
-  pub one-has : (x : ℕ) → t ≡ 42 → x ≡ getD r 3 0 → outOf g ≡ L.hasOut true a v x → outOf g ≡ oneOut sheet t a r v
+  pub one-has : (x : ℕ) → t ≡ HAS → x ≡ getD r 3 0 → outOf g ≡ L.hasOut true a v x → outOf g ≡ oneOut sheet t a r v
   unfolding oneOut hasOut L.hasOut values valueIn envIn S.envIn
   one-has x e ex h = h ∙ ap (λ (k : ℕ). L.hasOut true a v k) ex ∙ ap (λ (s : ℕ). oneOut sheet s a r v) (sym e)
 
-  pub one-path : t ≡ 43 → outOf g ≡ walkOut a r v → outOf g ≡ oneOut sheet t a r v
+  pub one-path : t ≡ HASPATH → outOf g ≡ walkOut a r v → outOf g ≡ oneOut sheet t a r v
   unfolding oneOut
   one-path e h = h ∙ ap (λ (s : ℕ). oneOut sheet s a r v) (sym e)
 
-  pub one-not : t ≡ 44 → outOf g ≡ notOut (valueIn a v) → outOf g ≡ oneOut sheet t a r v
+  pub one-not : t ≡ NOT → outOf g ≡ notOut (valueIn a v) → outOf g ≡ oneOut sheet t a r v
   unfolding oneOut unOut notOut values valueIn
   one-not e h = h ∙ ap (λ (s : ℕ). oneOut sheet s a r v) (sym e)
 
-  pub one-neg : t ≡ 45 → outOf g ≡ negOut (valueIn a v) → outOf g ≡ oneOut sheet t a r v
+  pub one-neg : t ≡ NEG → outOf g ≡ negOut (valueIn a v) → outOf g ≡ oneOut sheet t a r v
   unfolding oneOut unOut negOut values valueIn
   one-neg e h = h ∙ ap (λ (s : ℕ). oneOut sheet s a r v) (sym e)
 
-  pub one-empty : (39 ≤ t) × (t < 47) → (t ≡ 39 → ⊥) → (t ≡ 40 → ⊥) → (t ≡ 41 → ⊥) → (t ≡ 42 → ⊥) → (t ≡ 43 → ⊥) → (t ≡ 44 → ⊥) → (t ≡ 45 → ⊥)
+  pub one-empty : (IS ≤ t) × (t < SET-OF) → (t ≡ IS → ⊥) → (t ≡ LIKE → ⊥) → (t ≡ GET → ⊥) → (t ≡ HAS → ⊥) → (t ≡ HASPATH → ⊥) → (t ≡ NOT → ⊥) → (t ≡ NEG → ⊥)
       → outOf g ≡ emptyOut (valueIn a v) → outOf g ≡ oneOut sheet t a r v
   unfolding oneOut unOut emptyOut values valueIn
-  one-empty b n₁ n₂ n₃ n₄ n₅ n₆ n₇ h = let e : 46 ≡ t = the-last t (above t 45 (above t 44 (above t 43 (above t 42 (above t 41 (above t 40 (above t 39 (b .0) n₁) n₂) n₃) n₄) n₅) n₆) n₇) (b .1) in h ∙ ap (λ (s : ℕ). oneOut sheet s a r v) e
+  one-empty b n₁ n₂ n₃ n₄ n₅ n₆ n₇ h = let e : EMPTY ≡ t = the-last t (above t NEG (above t NOT (above t HASPATH (above t HAS (above t GET (above t LIKE (above t IS (b .0) n₁) n₂) n₃) n₄) n₅) n₆) n₇) (b .1) in h ∙ ap (λ (s : ℕ). oneOut sheet s a r v) e
 
 -- ---- two operands
 
 module _ (a : List ℕ) (t v w : ℕ) (g : Given) where
-  pub two-eq : t ≡ 26 → outOf g ≡ truly (eqb v w) → outOf g ≡ twoOut t a v w
+  pub two-eq : t ≡ EQ → outOf g ≡ truly (eqb v w) → outOf g ≡ twoOut t a v w
   unfolding twoOut binOut
   two-eq e h = h ∙ ap (λ (s : ℕ). twoOut s a v w) (sym e)
 
-  pub two-in : t ≡ 32 → outOf g ≡ inOut true a v w → outOf g ≡ twoOut t a v w
+  pub two-in : t ≡ IN → outOf g ≡ inOut true a v w → outOf g ≡ twoOut t a v w
   unfolding twoOut relOut inOut values valueIn envIn S.envIn
   two-in e h = h ∙ ap (λ (s : ℕ). twoOut s a v w) (sym e)
 
-  pub two-gettag : t ≡ 33 → outOf g ≡ gettagOut true a v w → outOf g ≡ twoOut t a v w
+  pub two-gettag : t ≡ GETTAG → outOf g ≡ gettagOut true a v w → outOf g ≡ twoOut t a v w
   unfolding twoOut relOut gettagOut values valueIn envIn S.envIn
   two-gettag e h = h ∙ ap (λ (s : ℕ). twoOut s a v w) (sym e)
 
-  pub two-hastag : t ≡ 34 → outOf g ≡ hastagOut true a v w → outOf g ≡ twoOut t a v w
+  pub two-hastag : t ≡ HASTAG → outOf g ≡ hastagOut true a v w → outOf g ≡ twoOut t a v w
   unfolding twoOut relOut hastagOut values valueIn envIn S.envIn
   two-hastag e h = h ∙ ap (λ (s : ℕ). twoOut s a v w) (sym e)
 
-  pub two-contains : t ≡ 35 → outOf g ≡ containsOut w (valueIn a v) → outOf g ≡ twoOut t a v w
+  pub two-contains : t ≡ CONTAINS → outOf g ≡ containsOut w (valueIn a v) → outOf g ≡ twoOut t a v w
   unfolding twoOut binOut containsOut values valueIn
   two-contains e h = h ∙ ap (λ (s : ℕ). twoOut s a v w) (sym e)
 
-  pub two-all : t ≡ 36 → outOf g ≡ allOut (valueIn a v) (valueIn a w) → outOf g ≡ twoOut t a v w
+  pub two-all : t ≡ ALL → outOf g ≡ allOut (valueIn a v) (valueIn a w) → outOf g ≡ twoOut t a v w
   unfolding twoOut binOut allOut values valueIn
   two-all e h = h ∙ ap (λ (s : ℕ). twoOut s a v w) (sym e)
 
-  pub two-any : t ≡ 37 → outOf g ≡ anyOut (valueIn a v) (valueIn a w) → outOf g ≡ twoOut t a v w
+  pub two-any : t ≡ ANY → outOf g ≡ anyOut (valueIn a v) (valueIn a w) → outOf g ≡ twoOut t a v w
   unfolding twoOut binOut anyOut values valueIn
   two-any e h = h ∙ ap (λ (s : ℕ). twoOut s a v w) (sym e)
 
-  longs : (i : ℕ) → i < 5 → arithOut (27 + i) (valueIn a v) (valueIn a w) ≡ twoOut (27 + i) a v w
+  longs : (i : ℕ) → LT + i < IN → arithOut (LT + i) (valueIn a v) (valueIn a w) ≡ twoOut (LT + i) a v w
   unfolding twoOut binOut arithOut longsOut values valueIn
   longs zero h = refl
   longs (suc zero) h = refl
@@ -235,10 +236,10 @@ module _ (a : List ℕ) (t v w : ℕ) (g : Given) where
   longs (suc (suc (suc (suc zero)))) h = refl
   longs (suc (suc (suc (suc (suc i))))) h = absurd (omega (arith, h))
 
-  pub two-arith : (26 ≤ t) × (t < 38) → (t ≡ 26 → ⊥) → (t ≡ 32 → ⊥) → (t ≡ 33 → ⊥) → (t ≡ 34 → ⊥) → (t ≡ 35 → ⊥) → (t ≡ 36 → ⊥) → (t ≡ 37 → ⊥)
+  pub two-arith : (EQ ≤ t) × (t < IF) → (t ≡ EQ → ⊥) → (t ≡ IN → ⊥) → (t ≡ GETTAG → ⊥) → (t ≡ HASTAG → ⊥) → (t ≡ CONTAINS → ⊥) → (t ≡ ALL → ⊥) → (t ≡ ANY → ⊥)
       → outOf g ≡ arithOut t (valueIn a v) (valueIn a w) → outOf g ≡ twoOut t a v w
   two-arith b n₁ n₂ n₃ n₄ n₅ n₆ n₇ h =
-      let lo = above t 26 (b .0) n₁ in
-      let hi = below t 32 (below t 33 (below t 34 (below t 35 (below t 36 (below t 37 (b .1) n₇) n₆) n₅) n₄) n₃) n₂ in
-      let e : t ≡ 27 + (t - 27) = from-here t lo in
-      h ∙ ap (λ (s : ℕ). arithOut s (valueIn a v) (valueIn a w)) e ∙ longs (t - 27) (so-many t lo hi) ∙ ap (λ (s : ℕ). twoOut s a v w) (sym e)
+      let lo = above t EQ (b .0) n₁ in
+      let hi = below t IN (below t GETTAG (below t HASTAG (below t CONTAINS (below t ALL (below t ANY (b .1) n₇) n₆) n₅) n₄) n₃) n₂ in
+      let e : t ≡ LT + (t - LT) = from-here t lo in
+      h ∙ ap (λ (s : ℕ). arithOut s (valueIn a v) (valueIn a w)) e ∙ longs (t - LT) (so-many t lo hi) ∙ ap (λ (s : ℕ). twoOut s a v w) (sym e)

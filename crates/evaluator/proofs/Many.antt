@@ -24,6 +24,7 @@ use Rattle.cedar.proofs.MakingLaws.{set-denotes}
 use Rattle.cedar.specs.Reads.{Reads, xset, xrec, ReadsAll, xnil, xcons, ReadsArgs, xstop, xarg}
 use Rattle.cedar.proofs.ReadsLaws.{Keeps, keep-reads}
 use Rattle.sheet.specs.Forms.{items, NODE}
+use Rattle.forms.specs.Tags.{SET-VALUE}
 use Rattle.sheet.specs.State.{valueRow, entriesOf}
 use Rattle.sheet.specs.Answer.{size, sizes, sizeArgs}
 use Rattle.table.specs.Layout.{MADE, TOP, base, rowAt, Sound}
@@ -311,7 +312,7 @@ module _ (sheet a₀ : List ℕ) (G : Env) where
     set-say a l C s n room k fs w (all-say {ns = ns} e z b c t) =
         let (vs, p, m) = set-oks fs b in
         let there : valuesIn (drop (length l) (k .log)) ≡ ns = ap valuesIn (rows-there [] a l C s n room k (resultsOf fs) w ns z) ∙ values-back ns in
-        rw (p, there) (made-gives [] a l C s n room k (resultsOf fs) w ns e z c t (14 ∷ sortN ns) refl (let h = sort-short ns in omega (arith, h)) (set-denotes m))
+        rw (p, there) (made-gives [] a l C s n room k (resultsOf fs) w ns e z c t (SET-VALUE ∷ sortN ns) refl (let h = sort-short ns in omega (arith, h)) (set-denotes m))
     set-say a l C s n room k fs w (one-fails e b) = rw (set-bad fs b) (error-gives [] a l C s n room k (resultsOf fs) w e _)
 
     rec-say : (r a l : List ℕ) (C : List Content) (s : Stand sheet a₀ G C a) (n : ℕ) (room : Room (suc n) a l) (k : Kids) (hs : Args) (w : Worked C n a l k (resultsArgs hs)) → ReadsArgs C (argsWith t (drop 2 r)) hs → KidsSay (w .contents) a l n k (resultsArgs hs)

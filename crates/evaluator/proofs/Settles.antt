@@ -15,7 +15,8 @@ use Rattle.cedar.specs.Types.{Var, principal, action, resource, context}
 use Rattle.cedar.specs.Residual.{copen, truth}
 use Rattle.cedar.specs.Rows.{Row, rbool, rlong, rtext, rent, rset, rrec}
 use Rattle.cedar.specs.Numbered.{made, old, rowAt, rBool, NOut}
-use Rattle.sheet.specs.Forms.{items, mark}
+use Rattle.sheet.specs.Forms.{items, mark, PRINCIPAL, ACTION, RESOURCE, CONTEXT}
+use Rattle.forms.specs.Tags.{PART-P, PART-A, PART-R}
 use Rattle.sheet.specs.Content.{varOf, entityGiven, given, nEnv}
 use Rattle.table.specs.Layout.{rowsOf, held, linesHeld}
 use Rattle.value.specs.Lines.{valueLines}
@@ -23,6 +24,7 @@ use Rattle.value.specs.Made.{boolRow, longRow, entityRow, Made}
 use Rattle.value.specs.Shapes.{shapeOf}
 use Rattle.value.specs.declared.Shape.{Shape}
 use Rattle.value.specs.declared.Shape.the-variants.{Bool as Boolˢ}
+use Rattle.residual.specs.Classes.{CLASS-TRUE, CLASS-FALSE, CLASS-ERROR, CLASS-OPEN, classNumber}
 use Rattle.strict.specs.Gives.{outOf, valueIn}
 use Rattle.strict.specs.Gives as S
 use Rattle.strict.specs.declared.Given.{Given}
@@ -30,7 +32,7 @@ use Rattle.strict.specs.declared.Given.the-variants.{Bool as Boolᵍ, Long, Old
 use Rattle.strict.proofs.Shapes.{value-shape, other-bool}
 use Rattle.tpe.specs.Run.{envIn}
 use Rattle.tpe.proofs.Settling.{long-words, var-last}
-use Rattle.evaluator.specs.Run.{yields, values, madeOf, giveOf, settleOf, optOf, onYield, next, boolOnly, envOf, classOf, classNumber}
+use Rattle.evaluator.specs.Run.{yields, values, madeOf, giveOf, settleOf, optOf, onYield, next, boolOnly, envOf, classOf}
 use Rattle.evaluator.specs.Gave.{Gave, truthOf, truthIn}
 use Rattle.evaluator.specs.declared.Yield.{Yield}
 use Rattle.evaluator.specs.declared.Yield.the-variants.{Value, Error}
@@ -102,7 +104,7 @@ module _ (a : List ℕ) (y : Yield) where
   unfolding boolOnly next onYield
   only-error e = rw e (record { words = refl; yield = refl })
 
-  pub class-error : y ≡ Error → 2 ≡ classNumber (classOf a y)
+  pub class-error : y ≡ Error → CLASS-ERROR ≡ classNumber (classOf a y)
   unfolding classOf
   class-error e = rw e
 
@@ -126,13 +128,13 @@ module _ (a : List ℕ) (y : Yield) where
     unfolding classOf
     class-by = ap (classOf a) e
 
-    pub class-open : t ≡ Other → 3 ≡ classNumber (classOf a y)
+    pub class-open : t ≡ Other → CLASS-OPEN ≡ classNumber (classOf a y)
     class-open h = sym (ap classNumber (class-by ∙ on-other copen truth the (says ∙ h)))
 
-    pub class-true : (x : Bool) → t ≡ Is x → x ≡ true → 0 ≡ classNumber (classOf a y)
+    pub class-true : (x : Bool) → t ≡ Is x → x ≡ true → CLASS-TRUE ≡ classNumber (classOf a y)
     class-true x h z = sym (ap classNumber (class-by ∙ on-is copen truth the x (says ∙ h) ∙ ap truth z))
 
-    pub class-false : (x : Bool) → t ≡ Is x → x ≡ false → 1 ≡ classNumber (classOf a y)
+    pub class-false : (x : Bool) → t ≡ Is x → x ≡ false → CLASS-FALSE ≡ classNumber (classOf a y)
     class-false x h z = sym (ap classNumber (class-by ∙ on-is copen truth the x (says ∙ h) ∙ ap truth z))
 
 -- ---- the request
@@ -141,11 +143,11 @@ module _ (a : List ℕ) (k : ℕ) (r : List ℕ) (er : r ≡ getD (rowsOf a k) 0
   the-line : entityGiven (getD (rowsOf a k) 0 []) ≡ cond (eqb t mark) none (some (made (rent (getD r 1 0) t)))
   the-line = ap entityGiven (sym er) ∙ rw (← et)
 
-  pub entity-unknown : t ≡ 10000 → Gave (optOf a (entityGiven (getD (rowsOf a k) 0 []))) a Error
+  pub entity-unknown : t ≡ mark → Gave (optOf a (entityGiven (getD (rowsOf a k) 0 []))) a Error
   unfolding optOf
   entity-unknown e = rw (the-line, eq-eqb t mark e) (record { words = refl; yield = refl })
 
-  pub entity-made : (is : List ℕ) (kind v : ℕ) → (t ≡ 10000 → ⊥) → kind ≡ getD r 1 0 → Made a (entityRow kind t) is v → Gave (optOf a (entityGiven (getD (rowsOf a k) 0 []))) is (Value v)
+  pub entity-made : (is : List ℕ) (kind v : ℕ) → (t ≡ mark → ⊥) → kind ≡ getD r 1 0 → Made a (entityRow kind t) is v → Gave (optOf a (entityGiven (getD (rowsOf a k) 0 []))) is (Value v)
   unfolding optOf giveOf madeOf
   entity-made is kind v n ek m = rw (the-line, ne-eqb t mark n, ← ek) (record { words = m .words; yield = ap Value (m .number) })
 
@@ -155,28 +157,28 @@ module _ (a : List ℕ) (x : ℕ) where
   asked u e = ap (given (held [] a [])) e
 
   module _ (is : List ℕ) (y : Yield) where
-    pub ask-principal : x ≡ 0 → Gave (optOf a (entityGiven (getD (rowsOf a 7) 0 []))) is y → Gave (optOf a (envOf a .request (varOf x))) is y
+    pub ask-principal : x ≡ PART-P → Gave (optOf a (entityGiven (getD (rowsOf a PRINCIPAL) 0 []))) is y → Gave (optOf a (envOf a .request (varOf x))) is y
     unfolding held linesHeld
     ask-principal e g = rw (asked principal (ap varOf e)) g
 
-    pub ask-action : x ≡ 1 → Gave (optOf a (entityGiven (getD (rowsOf a 8) 0 []))) is y → Gave (optOf a (envOf a .request (varOf x))) is y
+    pub ask-action : x ≡ PART-A → Gave (optOf a (entityGiven (getD (rowsOf a ACTION) 0 []))) is y → Gave (optOf a (envOf a .request (varOf x))) is y
     unfolding held linesHeld
     ask-action e g = rw (asked action (ap varOf e)) g
 
-    pub ask-resource : x ≡ 2 → Gave (optOf a (entityGiven (getD (rowsOf a 9) 0 []))) is y → Gave (optOf a (envOf a .request (varOf x))) is y
+    pub ask-resource : x ≡ PART-R → Gave (optOf a (entityGiven (getD (rowsOf a RESOURCE) 0 []))) is y → Gave (optOf a (envOf a .request (varOf x))) is y
     unfolding held linesHeld
     ask-resource e g = rw (asked resource (ap varOf e)) g
 
-  module _ (p : x ≡ 0 → ⊥) (q : x ≡ 1 → ⊥) (s : x ≡ 2 → ⊥) (r : List ℕ) (er : r ≡ getD (rowsOf a 10) 0 []) (v : ℕ) (ev : v ≡ getD r 2 0) where
+  module _ (p : x ≡ PART-P → ⊥) (q : x ≡ PART-A → ⊥) (s : x ≡ PART-R → ⊥) (r : List ℕ) (er : r ≡ getD (rowsOf a CONTEXT) 0 []) (v : ℕ) (ev : v ≡ getD r 2 0) where
     the-context : envOf a .request (varOf x) ≡ cond (eqb v mark) none (some (old v))
     unfolding held linesHeld
     the-context = asked context (var-last x p q s) ∙ ap (λ (n : ℕ). cond (eqb n mark) none (some (old n))) (sym (ev ∙ ap (λ (l : List ℕ). getD l 2 0) er))
 
-    pub ask-unknown : v ≡ 10000 → Gave (optOf a (envOf a .request (varOf x))) a Error
+    pub ask-unknown : v ≡ mark → Gave (optOf a (envOf a .request (varOf x))) a Error
     unfolding optOf
     ask-unknown e = rw (the-context, eq-eqb v mark e) (record { words = refl; yield = refl })
 
-    pub ask-context : (v ≡ 10000 → ⊥) → Gave (optOf a (envOf a .request (varOf x))) a (Value v)
+    pub ask-context : (v ≡ mark → ⊥) → Gave (optOf a (envOf a .request (varOf x))) a (Value v)
     unfolding optOf giveOf
     ask-context n = rw (the-context, ne-eqb v mark n) (record { words = refl; yield = refl })
 

@@ -12,13 +12,15 @@ use Rattle.words.specs.Log.{part, Room, Appended, appended, pushed}
 use Rattle.words.proofs.Logs.{append-holds, append-room, append-below, holds-same, holds-as, holds-from, log-cut, log-length}
 use Rattle.cedar.specs.Residual.{uempty, bany}
 use Rattle.cedar.specs.Numbered.{rowAt}
-use Rattle.sheet.specs.Forms.{tag, at}
+use Rattle.sheet.specs.Forms.{tag, at, firstNode, NODE, POLICY}
+use Rattle.forms.specs.Tags.{ERR, VAR, AND, OR, EQ, IF, IS, SET-OF, RECORD-OF}
 use Rattle.sheet.specs.Content.{varOf}
 use Rattle.table.specs.Layout.{rowsOf}
 use Rattle.table.proofs.Rows.{above}
 use Rattle.value.specs.Made.{boolRow, Made, MadeBeside, setRow, recordRow, written}
 use Rattle.residual.specs.Rows.{litRow}
-use Rattle.evaluator.specs.Run.{E, Rec, Step, Kids, Ran, yields, values, nodeIn, policyIn, madeOf, settleOf, optOf, onYield, next, onBool, boolOnly, sideOf, branchOf, kids, nextKid, kidsOf, manyOf, envOf, litStep, errStep, varStep, lazyStep, ifStep, oneStep, twoStep, setStep, recStep, binOut, unOut, twos, twoOut, each, ones, oneOut, steps, stepAt, stepOf, evalOf, classOf, classNumber, ranFrom, runOf}
+use Rattle.residual.specs.Classes.{classNumber}
+use Rattle.evaluator.specs.Run.{E, Rec, Step, Kids, Ran, yields, values, nodeIn, policyIn, madeOf, settleOf, optOf, onYield, next, onBool, boolOnly, sideOf, branchOf, kids, nextKid, kidsOf, manyOf, envOf, litStep, errStep, varStep, lazyStep, ifStep, oneStep, twoStep, setStep, recStep, binOut, unOut, twos, twoOut, each, ones, oneOut, steps, stepAt, stepOf, evalOf, classOf, ranFrom, runOf}
 use Rattle.evaluator.specs.Gave.{Gave, GaveBeside, Left, Done, truthIn, sameBool}
 use Rattle.evaluator.specs.declared.Yield.{Yield}
 use Rattle.evaluator.specs.declared.Yield.the-variants.{Value, Error}
@@ -166,7 +168,7 @@ unfolding evalOf
 by-level sheet zero h = absurd (h refl)
 by-level sheet (suc d) h = let z : d ≡ suc d - 1 = omega arith in ap (λ (m : ℕ). stepOf sheet (evalOf sheet m)) z
 
-pub eval-step : (sheet a b : List ℕ) (bt n d : ℕ) (r : List ℕ) (t : ℕ) (a₁ b₁ : List ℕ) (y : Yield) → (d ≡ 0 → ⊥) → r ≡ getD (rowsOf a 11) n [] → t ≡ tag r
+pub eval-step : (sheet a b : List ℕ) (bt n d : ℕ) (r : List ℕ) (t : ℕ) (a₁ b₁ : List ℕ) (y : Yield) → (d ≡ 0 → ⊥) → r ≡ getD (rowsOf a NODE) n [] → t ≡ tag r
     → GaveBeside (stepAt sheet t (evalOf sheet (d - 1)) a (take bt b) n (nodeIn a n)) a₁ y bt b b₁ → GaveBeside (evalOf sheet d a (take bt b) n) a₁ y bt b b₁
 unfolding stepOf
 eval-step sheet a b bt n d r t a₁ b₁ y h er et g =
@@ -179,11 +181,11 @@ each-in g (y ∷ xs) ss zero x h = refl
 each-in g (y ∷ xs) ss (suc i) x h = each-in g xs ss i x (omega (arith, h))
 
 -- a tag that is none of those before it
-pub two-low : (t : ℕ) → (t ≡ 22 → ⊥) → (t ≡ 23 → ⊥) → (t ≡ 24 → ⊥) → (t ≡ 25 → ⊥) → 22 ≤ t → 26 ≤ t
-two-low t n₁ n₂ n₃ n₄ lo = above t 25 (above t 24 (above t 23 (above t 22 lo n₁) n₂) n₃) n₄
+pub two-low : (t : ℕ) → (t ≡ ERR → ⊥) → (t ≡ VAR → ⊥) → (t ≡ AND → ⊥) → (t ≡ OR → ⊥) → ERR ≤ t → EQ ≤ t
+two-low t n₁ n₂ n₃ n₄ lo = above t OR (above t AND (above t VAR (above t ERR lo n₁) n₂) n₃) n₄
 
-pub one-low : (t : ℕ) → (t ≡ 38 → ⊥) → 38 ≤ t → 39 ≤ t
-one-low t n lo = above t 38 lo n
+pub one-low : (t : ℕ) → (t ≡ IF → ⊥) → IF ≤ t → IS ≤ t
+one-low t n lo = above t IF lo n
 
 module _ (sheet a b : List ℕ) (bt n d t : ℕ) where
   abbrev by : Step → E
@@ -192,68 +194,68 @@ module _ (sheet a b : List ℕ) (bt n d t : ℕ) where
   is-step : (k : ℕ) → t ≡ k → by (stepAt sheet t) ≡ by (stepAt sheet k)
   is-step k e = ap (λ (m : ℕ). by (stepAt sheet m)) e
 
-  pub step-err : t ≡ 22 → GaveBeside (stepAt sheet t (evalOf sheet d) a (take bt b) n (nodeIn a n)) a Error bt b b
+  pub step-err : t ≡ ERR → GaveBeside (stepAt sheet t (evalOf sheet d) a (take bt b) n (nodeIn a n)) a Error bt b b
   unfolding stepAt errStep
-  step-err e = gave-end _ a Error bt b b (is-step 22 e) refl
+  step-err e = gave-end _ a Error bt b b (is-step ERR e) refl
 
-  pub step-past : 47 ≤ t → (t ≡ 47 → ⊥) → (t ≡ 48 → ⊥) → GaveBeside (stepAt sheet t (evalOf sheet d) a (take bt b) n (nodeIn a n)) a Error bt b b
+  pub step-past : SET-OF ≤ t → (t ≡ SET-OF → ⊥) → (t ≡ RECORD-OF → ⊥) → GaveBeside (stepAt sheet t (evalOf sheet d) a (take bt b) n (nodeIn a n)) a Error bt b b
   unfolding stepAt errStep
-  step-past h p q = gave-end _ a Error bt b b (ap by (List·getD-eq-default (steps sheet) errStep {n = t - 21} (omega (arith, h)))) refl
+  step-past h p q = gave-end _ a Error bt b b (ap by (List·getD-eq-default (steps sheet) errStep {n = t - firstNode} (omega (arith, h)))) refl
 
-  pub step-lit : (x : ℕ) → t < 22 → x ≡ getD (nodeIn a n) 2 0 → GaveBeside (stepAt sheet t (evalOf sheet d) a (take bt b) n (nodeIn a n)) a (Value x) bt b b
+  pub step-lit : (x : ℕ) → t < ERR → x ≡ getD (nodeIn a n) 2 0 → GaveBeside (stepAt sheet t (evalOf sheet d) a (take bt b) n (nodeIn a n)) a (Value x) bt b b
   unfolding stepAt litStep
-  step-lit x h ex = let z : t - 21 ≡ 0 = omega (arith, h) in gave-end _ a (Value x) bt b b (ap (λ (m : ℕ). by (getD (steps sheet) m errStep)) z ∙ ap (λ (m : ℕ). yields a (Value m)) (sym ex)) refl
+  step-lit x h ex = let z : t - firstNode ≡ 0 = omega (arith, h) in gave-end _ a (Value x) bt b b (ap (λ (m : ℕ). by (getD (steps sheet) m errStep)) z ∙ ap (λ (m : ℕ). yields a (Value m)) (sym ex)) refl
 
-  pub step-var : (x : ℕ) (a₁ : List ℕ) (y : Yield) → t ≡ 23 → x ≡ getD (nodeIn a n) 2 0 → Gave (optOf a (envOf a .request (varOf x))) a₁ y → GaveBeside (stepAt sheet t (evalOf sheet d) a (take bt b) n (nodeIn a n)) a₁ y bt b b
+  pub step-var : (x : ℕ) (a₁ : List ℕ) (y : Yield) → t ≡ VAR → x ≡ getD (nodeIn a n) 2 0 → Gave (optOf a (envOf a .request (varOf x))) a₁ y → GaveBeside (stepAt sheet t (evalOf sheet d) a (take bt b) n (nodeIn a n)) a₁ y bt b b
   unfolding stepAt varStep
-  step-var x a₁ y e ex g = gave-on _ (optOf a (envOf a .request (varOf x))) a₁ y bt b b (is-step 23 e ∙ ap (λ (m : ℕ). optOf a (envOf a .request (varOf m))) (sym ex)) refl g
+  step-var x a₁ y e ex g = gave-on _ (optOf a (envOf a .request (varOf x))) a₁ y bt b b (is-step VAR e ∙ ap (λ (m : ℕ). optOf a (envOf a .request (varOf m))) (sym ex)) refl g
 
   module _ (a₁ b₁ : List ℕ) (y : Yield) where
-    pub step-and : t ≡ 24 → GaveBeside (lazyStep false (evalOf sheet d) a (take bt b) n (nodeIn a n)) a₁ y bt b b₁ → GaveBeside (stepAt sheet t (evalOf sheet d) a (take bt b) n (nodeIn a n)) a₁ y bt b b₁
+    pub step-and : t ≡ AND → GaveBeside (lazyStep false (evalOf sheet d) a (take bt b) n (nodeIn a n)) a₁ y bt b b₁ → GaveBeside (stepAt sheet t (evalOf sheet d) a (take bt b) n (nodeIn a n)) a₁ y bt b b₁
     unfolding stepAt
-    step-and e g = gave-after _ _ a₁ y bt b b b₁ (is-step 24 e) refl g
+    step-and e g = gave-after _ _ a₁ y bt b b b₁ (is-step AND e) refl g
 
-    pub step-or : t ≡ 25 → GaveBeside (lazyStep true (evalOf sheet d) a (take bt b) n (nodeIn a n)) a₁ y bt b b₁ → GaveBeside (stepAt sheet t (evalOf sheet d) a (take bt b) n (nodeIn a n)) a₁ y bt b b₁
+    pub step-or : t ≡ OR → GaveBeside (lazyStep true (evalOf sheet d) a (take bt b) n (nodeIn a n)) a₁ y bt b b₁ → GaveBeside (stepAt sheet t (evalOf sheet d) a (take bt b) n (nodeIn a n)) a₁ y bt b b₁
     unfolding stepAt
-    step-or e g = gave-after _ _ a₁ y bt b b b₁ (is-step 25 e) refl g
+    step-or e g = gave-after _ _ a₁ y bt b b b₁ (is-step OR e) refl g
 
-    pub step-if : t ≡ 38 → GaveBeside (ifStep (evalOf sheet d) a (take bt b) n (nodeIn a n)) a₁ y bt b b₁ → GaveBeside (stepAt sheet t (evalOf sheet d) a (take bt b) n (nodeIn a n)) a₁ y bt b b₁
+    pub step-if : t ≡ IF → GaveBeside (ifStep (evalOf sheet d) a (take bt b) n (nodeIn a n)) a₁ y bt b b₁ → GaveBeside (stepAt sheet t (evalOf sheet d) a (take bt b) n (nodeIn a n)) a₁ y bt b b₁
     unfolding stepAt
-    step-if e g = gave-after _ _ a₁ y bt b b b₁ (is-step 38 e) refl g
+    step-if e g = gave-after _ _ a₁ y bt b b b₁ (is-step IF e) refl g
 
-    pub step-set : t ≡ 47 → GaveBeside (setStep (evalOf sheet d) a (take bt b) n (nodeIn a n)) a₁ y bt b b₁ → GaveBeside (stepAt sheet t (evalOf sheet d) a (take bt b) n (nodeIn a n)) a₁ y bt b b₁
+    pub step-set : t ≡ SET-OF → GaveBeside (setStep (evalOf sheet d) a (take bt b) n (nodeIn a n)) a₁ y bt b b₁ → GaveBeside (stepAt sheet t (evalOf sheet d) a (take bt b) n (nodeIn a n)) a₁ y bt b b₁
     unfolding stepAt
-    step-set e g = gave-after _ _ a₁ y bt b b b₁ (is-step 47 e) refl g
+    step-set e g = gave-after _ _ a₁ y bt b b b₁ (is-step SET-OF e) refl g
 
-    pub step-record : t ≡ 48 → GaveBeside (recStep (evalOf sheet d) a (take bt b) n (nodeIn a n)) a₁ y bt b b₁ → GaveBeside (stepAt sheet t (evalOf sheet d) a (take bt b) n (nodeIn a n)) a₁ y bt b b₁
+    pub step-record : t ≡ RECORD-OF → GaveBeside (recStep (evalOf sheet d) a (take bt b) n (nodeIn a n)) a₁ y bt b b₁ → GaveBeside (stepAt sheet t (evalOf sheet d) a (take bt b) n (nodeIn a n)) a₁ y bt b b₁
     unfolding stepAt
-    step-record e g = gave-after _ _ a₁ y bt b b b₁ (is-step 48 e) refl g
+    step-record e g = gave-after _ _ a₁ y bt b b b₁ (is-step RECORD-OF e) refl g
 
-    two-at : (i : ℕ) → i < 12 → t ≡ 26 + i → by (stepAt sheet t) ≡ by (twoStep (twoOut t))
+    two-at : (i : ℕ) → i < length twos → t ≡ EQ + i → by (stepAt sheet t) ≡ by (twoStep (twoOut t))
     unfolding stepAt twoOut
     two-at i h e =
-        let p : t - 21 ≡ suc (suc (suc (suc (suc i)))) = omega (arith, e) in
-        let q : i ≡ t - 26 = omega (arith, e) in
+        let p : t - firstNode ≡ suc (suc (suc (suc (suc i)))) = omega (arith, e) in
+        let q : i ≡ t - EQ = omega (arith, e) in
         ap (λ (m : ℕ). by (getD (steps sheet) m errStep)) p ∙ ap by (each-in twoStep twos (ifStep ∷ each oneStep (ones sheet) (setStep ∷ recStep ∷ [])) i (binOut bany) h) ∙ ap (λ (m : ℕ). by (twoStep (getD twos m (binOut bany)))) q
 
-    one-at : (i : ℕ) → i < 8 → t ≡ 39 + i → by (stepAt sheet t) ≡ by (oneStep (oneOut sheet t))
+    one-at : (i : ℕ) → i < length (ones sheet) → t ≡ IS + i → by (stepAt sheet t) ≡ by (oneStep (oneOut sheet t))
     unfolding stepAt oneOut
     one-at i h e =
-        let p : t - 21 ≡ suc (suc (suc (suc (suc (suc (suc (suc (suc (suc (suc (suc (suc (suc (suc (suc (suc (suc i))))))))))))))))) = omega (arith, e) in
-        let q : i ≡ t - 39 = omega (arith, e) in
+        let p : t - firstNode ≡ suc (suc (suc (suc (suc (suc (suc (suc (suc (suc (suc (suc (suc (suc (suc (suc (suc (suc i))))))))))))))))) = omega (arith, e) in
+        let q : i ≡ t - IS = omega (arith, e) in
         ap (λ (m : ℕ). by (getD (steps sheet) m errStep)) p ∙ ap by (each-in oneStep (ones sheet) (setStep ∷ recStep ∷ []) i (unOut sheet (λ r. uempty)) h) ∙ ap (λ (m : ℕ). by (oneStep (getD (ones sheet) m (unOut sheet (λ r. uempty))))) q
 
-    two-here : 26 ≤ t → t < 38 → by (stepAt sheet t) ≡ by (twoStep (twoOut t))
-    two-here lo hi = two-at (t - 26) (omega arith) (omega arith)
+    two-here : EQ ≤ t → t < IF → by (stepAt sheet t) ≡ by (twoStep (twoOut t))
+    two-here lo hi = two-at (t - EQ) (omega arith) (omega arith)
 
-    one-here : 39 ≤ t → t < 47 → by (stepAt sheet t) ≡ by (oneStep (oneOut sheet t))
-    one-here lo hi = one-at (t - 39) (omega arith) (omega arith)
+    one-here : IS ≤ t → t < SET-OF → by (stepAt sheet t) ≡ by (oneStep (oneOut sheet t))
+    one-here lo hi = one-at (t - IS) (omega arith) (omega arith)
 
-    pub step-two : (t ≡ 22 → ⊥) → (t ≡ 23 → ⊥) → (t ≡ 24 → ⊥) → (t ≡ 25 → ⊥) → 22 ≤ t → t < 38 → GaveBeside (twoStep (twoOut t) (evalOf sheet d) a (take bt b) n (nodeIn a n)) a₁ y bt b b₁ → GaveBeside (stepAt sheet t (evalOf sheet d) a (take bt b) n (nodeIn a n)) a₁ y bt b b₁
+    pub step-two : (t ≡ ERR → ⊥) → (t ≡ VAR → ⊥) → (t ≡ AND → ⊥) → (t ≡ OR → ⊥) → ERR ≤ t → t < IF → GaveBeside (twoStep (twoOut t) (evalOf sheet d) a (take bt b) n (nodeIn a n)) a₁ y bt b b₁ → GaveBeside (stepAt sheet t (evalOf sheet d) a (take bt b) n (nodeIn a n)) a₁ y bt b b₁
     step-two n₁ n₂ n₃ n₄ lo hi g =
         gave-after _ _ a₁ y bt b b b₁ (two-here (two-low t n₁ n₂ n₃ n₄ lo) hi) refl g
 
-    pub step-one : (t ≡ 38 → ⊥) → 38 ≤ t → t < 47 → GaveBeside (oneStep (oneOut sheet t) (evalOf sheet d) a (take bt b) n (nodeIn a n)) a₁ y bt b b₁ → GaveBeside (stepAt sheet t (evalOf sheet d) a (take bt b) n (nodeIn a n)) a₁ y bt b b₁
+    pub step-one : (t ≡ IF → ⊥) → IF ≤ t → t < SET-OF → GaveBeside (oneStep (oneOut sheet t) (evalOf sheet d) a (take bt b) n (nodeIn a n)) a₁ y bt b b₁ → GaveBeside (stepAt sheet t (evalOf sheet d) a (take bt b) n (nodeIn a n)) a₁ y bt b b₁
     step-one n lo hi g = gave-after _ _ a₁ y bt b b b₁ (one-here (one-low t n lo) hi) refl g
 
 -- ---- children
@@ -274,7 +276,7 @@ module _ (sheet a b : List ℕ) (bt n s i k d : ℕ) (room : Room b bt) where
   unfolding kidsOf
   kids-none e = none-more b (ap (λ (m : ℕ). kidsOf (evalOf sheet d) n s m i a (take bt b)) e)
 
-  module _ (h : k ≡ 0 → ⊥) (r : List ℕ) (er : r ≡ getD (rowsOf a 11) n []) where
+  module _ (h : k ≡ 0 → ⊥) (r : List ℕ) (er : r ≡ getD (rowsOf a NODE) n []) where
     more : (j : ℕ) → k ≡ suc j → kidsOf (evalOf sheet d) n s k i a (take bt b)
         ≡ cond (ltb i (length r)) (nextKid (evalOf sheet d a (take bt b) (getD (nodeIn a n) i 0) .words) (take bt b) (evalOf sheet d a (take bt b) (getD (nodeIn a n) i 0) .yield)
         (λ m. kidsOf (evalOf sheet d) n s j (i + s) (evalOf sheet d a (take bt b) (getD (nodeIn a n) i 0) .words) m)) (kids a (take bt b) true)
@@ -370,10 +372,10 @@ module _ (sheet a b : List ℕ) (bt n d : ℕ) (room : Room b bt) (a₁ b₁ : L
     set-error e = many-error 1 2 g (λ k. setRow (drop (length (take bt b)) (k .log))) e
 
   module _ (g : Left (kidsOf (evalOf sheet d) n 2 16384 3 a (take bt b)) a₁ o bt b b₁) where
-    pub record-made : (a₂ b₂ : List ℕ) (v : ℕ) → o .all ≡ true → MadeBeside a₁ a₂ v (o .end) b₁ b₂ (recordRow (getD (rowsOf a₁ 11) n []) (part b₁ bt (o .end))) → GaveBeside (recStep (evalOf sheet d) a (take bt b) n (nodeIn a n)) a₂ (Value v) bt b b₂
+    pub record-made : (a₂ b₂ : List ℕ) (v : ℕ) → o .all ≡ true → MadeBeside a₁ a₂ v (o .end) b₁ b₂ (recordRow (getD (rowsOf a₁ NODE) n []) (part b₁ bt (o .end))) → GaveBeside (recStep (evalOf sheet d) a (take bt b) n (nodeIn a n)) a₂ (Value v) bt b b₂
     unfolding recStep
     record-made a₂ b₂ v e m =
-        many-made 2 3 g (λ k. recordRow (nodeIn (k .words) n) (drop (length (take bt b)) (k .log))) (recordRow (getD (rowsOf a₁ 11) n []) (part b₁ bt (o .end))) a₂ b₂ v e (ap (recordRow (nodeIn a₁ n)) (rows 2 3 g)) m
+        many-made 2 3 g (λ k. recordRow (nodeIn (k .words) n) (drop (length (take bt b)) (k .log))) (recordRow (getD (rowsOf a₁ NODE) n []) (part b₁ bt (o .end))) a₂ b₂ v e (ap (recordRow (nodeIn a₁ n)) (rows 2 3 g)) m
 
     pub record-error : o .all ≡ false → GaveBeside (recStep (evalOf sheet d) a (take bt b) n (nodeIn a n)) a₁ Error bt b b₁
     unfolding recStep
@@ -387,9 +389,9 @@ pub record Running (sheet a₀ : List ℕ) (all : ℕ) (a b : List ℕ) (bt i : 
   pub near : i ≤ all
   pub left : ranFrom (evalOf sheet 64) (all - i) i a (take bt b) ≡ runOf sheet a₀
 
-pub run-start : (sheet a b : List ℕ) (all : ℕ) → 16384 ≤ length b → all ≡ getD a 12 0 → Running sheet a all a b 0 0
+pub run-start : (sheet a b : List ℕ) (all : ℕ) → 16384 ≤ length b → all ≡ getD a POLICY 0 → Running sheet a all a b 0 0
 unfolding runOf
-run-start sheet a b all l e = record { room = record { low = omega arith; long = l }; near = omega arith; left = let z : all - 0 ≡ getD a 12 0 = omega (arith, e) in ap (λ (m : ℕ). ranFrom (evalOf sheet 64) m 0 a []) z }
+run-start sheet a b all l e = record { room = record { low = omega arith; long = l }; near = omega arith; left = let z : all - 0 ≡ getD a POLICY 0 = omega (arith, e) in ap (λ (m : ℕ). ranFrom (evalOf sheet 64) m 0 a []) z }
 
 ran-next : (f : Rec) (k i : ℕ) (a l : List ℕ) (x : ℕ) → x ≡ getD (policyIn a i) 3 0 → 0 < k
     → ranFrom f k i a l ≡ ranFrom f (k - 1) (suc i) (f a l x .words) (pushed l (classNumber (classOf (f a l x .words) (f a l x .yield))))
@@ -412,7 +414,7 @@ module _ (sheet a₀ : List ℕ) (all : ℕ) (a b : List ℕ) (bt i : ℕ) (g : 
         end = sym (ap (λ (t : Ran). length (t .log)) w ∙ log-length b bt (g .room));
       }
 
-  pub run-more : (r : List ℕ) (x : ℕ) (a₁ b₁ : List ℕ) (y : Yield) (c e : ℕ) (b₂ : List ℕ) → i < all → r ≡ getD (rowsOf a 12) i [] → x ≡ getD r 3 0 → GaveBeside (evalOf sheet 64 a (take bt b) x) a₁ y bt b b₁
+  pub run-more : (r : List ℕ) (x : ℕ) (a₁ b₁ : List ℕ) (y : Yield) (c e : ℕ) (b₂ : List ℕ) → i < all → r ≡ getD (rowsOf a POLICY) i [] → x ≡ getD r 3 0 → GaveBeside (evalOf sheet 64 a (take bt b) x) a₁ y bt b b₁
       → length b₁ ≡ length b → c ≡ classNumber (classOf a₁ y) → Appended b₁ bt (c ∷ []) b₂ e → Running sheet a₀ all a₁ b₂ e (i + 1)
   run-more r x a₁ b₁ y c e b₂ l er ex v len ec p =
       let room₁ : Room b₁ bt = record { low = g .room .low; long = omega (arith, g .room .long, len) } in

@@ -10,16 +10,18 @@ use lib.ListN.{length, getD, drop}
 use Rattle.words.specs.Log.{appended, pushed}
 use Rattle.cedar.specs.Value.{onSome}
 use Rattle.cedar.specs.Types.{Schema}
-use Rattle.cedar.specs.Residual.{Un, unot, uneg, uempty, uis, ulike, Bin, beq, blt, ble, badd, bsub, bmul, bcontains, ball, bany, Rel, rin, rgettag, rhastag, Class, ctrue, cfalse, cerror, copen, truth}
+use Rattle.cedar.specs.Residual.{Un, unot, uneg, uempty, uis, ulike, Bin, beq, blt, ble, badd, bsub, bmul, bcontains, ball, bany, Rel, rin, rgettag, rhastag, Class, cerror, copen, truth}
 use Rattle.cedar.specs.Response.{Verdict}
 use Rattle.cedar.specs.Rows.{Row}
 use Rattle.cedar.specs.Numbered.{Give, made, old, NEnv, rowAt, rBool, NOut, give, fails, stays, truly, isSome, entryOf, nUn, nBin, nRel, onEntries, nGet, nHas}
 use Rattle.sheet.specs.Forms.{complete, tag, items, at, firstNode, NODE, POLICY}
 use Rattle.sheet.specs.Content.{rowsIn, varOf, patternOf}
+use Rattle.forms.specs.Tags.{EQ, IS}
 use Rattle.table.specs.Layout.{rowsOf}
 use Rattle.value.specs.Lines.{valueLines}
 use Rattle.value.specs.Made.{boolRow, numberOf, withValue, setRow, recordRow, written}
 use Rattle.residual.specs.Rows.{litRow}
+use Rattle.residual.specs.Classes.{classNumber}
 use Rattle.tpe.specs.Run.{wordsOf, schemaIn, envIn}
 use Rattle.evaluator.specs.declared.Yield.{Yield}
 use Rattle.evaluator.specs.declared.Yield.the-variants.{Value, Error}
@@ -185,14 +187,14 @@ hasOut a r v = nHas (envOf a) (values a) (at r 2) (rowAt (values a) v)
 unfoldable pub walkOut : List ℕ → List ℕ → ℕ → NOut
 walkOut a r v = pathOut (envOf a) (values a) (drop 3 (items r)) (at r 2) v
 
--- by the tag, 26 to 37
+-- by the tag, EQ to ANY
 abbrev pub twos : List (List ℕ → ℕ → ℕ → NOut)
 twos =
     binOut beq ∷ binOut blt ∷ binOut ble ∷ binOut badd ∷ binOut bsub ∷ binOut bmul
     ∷ relOut rin ∷ relOut rgettag ∷ relOut rhastag ∷ binOut bcontains ∷ binOut ball ∷ binOut bany ∷ []
 
 unfoldable pub twoOut : ℕ → List ℕ → ℕ → ℕ → NOut
-twoOut t = getD twos (t - 26) (binOut bany)
+twoOut t = getD twos (t - EQ) (binOut bany)
 
 -- the steps g of these, then others
 abbrev pub each : {A : Type 0} → (A → Step) → List A → List Step → List Step
@@ -206,14 +208,14 @@ module _ (sheet : List ℕ) where
   unfoldable pub unOut : (List ℕ → Un) → List ℕ → List ℕ → ℕ → NOut
   unOut u a r v = nUn (schemaOf a) (u r) (rowAt (values a) v)
 
-  -- by the tag, 39 to 46
+  -- by the tag, IS to EMPTY
   abbrev pub ones : List (List ℕ → List ℕ → ℕ → NOut)
   ones =
       unOut (λ r. uis (at r 2)) ∷ unOut (λ r. ulike (patternOf (drop 2 (items r)))) ∷ getOut ∷ hasOut ∷ walkOut
       ∷ unOut (λ r. unot) ∷ unOut (λ r. uneg) ∷ unOut (λ r. uempty) ∷ []
 
   unfoldable pub oneOut : ℕ → List ℕ → List ℕ → ℕ → NOut
-  oneOut t = getD ones (t - 39) (unOut (λ r. uempty))
+  oneOut t = getD ones (t - IS) (unOut (λ r. uempty))
 
   -- in the table's order
   abbrev pub steps : List Step
@@ -237,12 +239,6 @@ module _ (sheet : List ℕ) where
 unfoldable pub classOf : List ℕ → Yield → Class
 classOf a (Value v) = rBool copen (rowAt (values a) v) truth
 classOf a Error = cerror
-
-abbrev pub classNumber : Class → ℕ
-classNumber ctrue = 0
-classNumber cfalse = 1
-classNumber cerror = 2
-classNumber copen = 3
 
 -- of the policy lines of an answer
 abbrev pub classNumbers : List Verdict → List ℕ

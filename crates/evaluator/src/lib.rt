@@ -5,14 +5,29 @@ pub mod operands;
 use crate::operands::one_given;
 use crate::operands::two_given;
 use crate::operands::word_of;
+use forms::ACTION;
+use forms::AND;
+use forms::CONTEXT;
+use forms::ERR;
+use forms::IF;
+use forms::MARK;
+use forms::NODE;
+use forms::OR;
+use forms::PART_A;
+use forms::PART_P;
+use forms::PART_R;
+use forms::POLICY;
+use forms::PRINCIPAL;
+use forms::RECORD_OF;
+use forms::RESOURCE;
+use forms::SET_OF;
+use forms::VAR;
+use residual::CLASS_ERROR;
+use residual::CLASS_FALSE;
+use residual::CLASS_OPEN;
+use residual::CLASS_TRUE;
 use residual::push_value;
 use strict::Given;
-use table::ACTION;
-use table::CONTEXT;
-use table::NODE;
-use table::POLICY;
-use table::PRINCIPAL;
-use table::RESOURCE;
 use table::count;
 use table::item;
 use table::row;
@@ -31,10 +46,12 @@ ghost use mathlib.Core.List.{[]};
 ghost use Prim.Native.Nat.{_+_, _*_, _≤_, _<_};
 ghost use lib.ListN.{getD, take, length};
 ghost use Rattle.words.specs.Log.{Room};
+ghost use Rattle.forms.specs.Tags.{EQ, IF, IS, SET-OF};
 ghost use Rattle.sheet.specs.Content.{entityGiven, varOf};
 ghost use Rattle.table.specs.Layout.{rowsOf};
+ghost use Rattle.residual.specs.Classes.{classNumber};
 ghost use Rattle.strict.specs.Gives.{outOf, valueIn};
-ghost use Rattle.evaluator.specs.Run.{yields, nodeIn, settleOf, optOf, boolOnly, kidsOf, envOf, oneOut, twoOut, lazyStep, ifStep, oneStep, twoStep, setStep, recStep, stepAt, evalOf, classOf, classNumber, runOf};
+ghost use Rattle.evaluator.specs.Run.{yields, nodeIn, settleOf, optOf, boolOnly, kidsOf, envOf, oneOut, twoOut, lazyStep, ifStep, oneStep, twoStep, setStep, recStep, stepAt, evalOf, classOf, runOf};
 ghost use Rattle.evaluator.specs.Gave.{Gave, GaveBeside, Left, Done, truthOf, truthIn, sameBool};
 
 // What a node yields: a value, by its number, or an error.
@@ -55,298 +72,350 @@ pub struct Children {
     pub end: usize,
 }
 
-// What value `v` says as a bool.
-pub fn as_bool(a: &[u32], v: u32) -> Truth
-    ensures { λ t. ⌜ t ≡ truthOf (valueIn (now (a .entry)) v) ⌝ }
+// What a value says as a bool.
+pub fn as_bool(rows: &[u32], value: u32) -> Truth
+    ensures { λ t. ⌜ t ≡ truthOf (valueIn (now (rows .entry)) value) ⌝ }
 {
-    let s = shape_of(row_of(a, v as usize));
-    let Shape::Bool(b) = s else {
+    let shape = shape_of(row_of(rows, value as usize));
+    let Shape::Bool(x) = shape else {
         return Truth::Other;
     };
-    Truth::Is(b)
+    Truth::Is(x)
 }
 
 // What a yield says as a bool.
-fn truth_of(a: &[u32], y: Yield) -> Truth
-    ensures { λ t. ⌜ t ≡ truthIn (now (a .entry)) y ⌝ }
+fn truth_of(rows: &[u32], yielded: Yield) -> Truth
+    ensures { λ t. ⌜ t ≡ truthIn (now (rows .entry)) yielded ⌝ }
 {
-    let Yield::Value(v) = y else {
+    let Yield::Value(value) = yielded else {
         return Truth::Other;
     };
-    as_bool(a, v)
+    as_bool(rows, value)
 }
 
 // A bool as it is; any other value is an error.
-fn only_bool(a: &[u32], y: Yield) -> Yield
-    ensures { λ r. ⌜ Gave (boolOnly (yields (now (a .entry)) y)) (now (a .entry)) r ⌝ }
+fn only_bool(rows: &[u32], yielded: Yield) -> Yield
+    ensures { λ r. ⌜ Gave (boolOnly (yields (now (rows .entry)) yielded)) (now (rows .entry)) r ⌝ }
 {
-    let Yield::Value(v) = y else {
+    let Yield::Value(value) = yielded else {
         return Yield::Error;
     };
-    match as_bool(a, v) {
-        Truth::Is(_) => Yield::Value(v),
+    match as_bool(rows, value) {
+        Truth::Is(_) => Yield::Value(value),
         Truth::Other => Yield::Error,
     }
 }
 
 // What an operation gives, as a value: found, or made where it is absent. Nothing is unknown on a complete sheet.
-pub fn settle(a: &mut [u32], g: Given) -> Yield
-    ensures { λ y. ⌜ Gave (settleOf (now (a .entry)) (outOf g)) (now (a .exit)) y ⌝ }
+pub fn settle(rows: &mut [u32], given: Given) -> Yield
+    ensures { λ y. ⌜ Gave (settleOf (now (rows .entry)) (outOf given)) (now (rows .exit)) y ⌝ }
 {
-    match g {
-        Given::Bool(b) => Yield::Value(make_bool(a, b)),
-        Given::Long(w) => Yield::Value(make_long(a, w)),
-        Given::Old(v) => Yield::Value(v),
+    match given {
+        Given::Bool(x) => Yield::Value(make_bool(rows, x)),
+        Given::Long(word) => Yield::Value(make_long(rows, word)),
+        Given::Old(value) => Yield::Value(value),
         Given::Fails => Yield::Error,
         Given::Stays => Yield::Error,
     }
 }
 
 // The entity that a line of the request says.
-fn entity_of(a: &mut [u32], k: usize) -> Yield
-    ensures { λ y. ⌜ Gave (optOf (now (a .entry)) (entityGiven (getD (rowsOf (now (a .entry)) k) 0 []))) (now (a .exit)) y ⌝ }
+fn entity_of(rows: &mut [u32], key: usize) -> Yield
+    ensures { λ y. ⌜ Gave (optOf (now (rows .entry)) (entityGiven (getD (rowsOf (now (rows .entry)) key) 0 []))) (now (rows .exit)) y ⌝ }
 {
-    let r = row(a, k, 0);
-    let kind = item(r, 1);
-    let t = item(r, 2);
-    if t == 10000 {
+    let line = row(rows, key, 0);
+    let kind = item(line, 1);
+    let text = item(line, 2);
+    if text == MARK {
         return Yield::Error;
     }
-    Yield::Value(make_entity(a, kind, t))
+    Yield::Value(make_entity(rows, kind, text))
 }
 
-// A part of the request: 0 principal, 1 action, 2 resource, 3 context.
-fn request(a: &mut [u32], x: u32) -> Yield
-    ensures { λ y. ⌜ Gave (optOf (now (a .entry)) (envOf (now (a .entry)) .request (varOf x))) (now (a .exit)) y ⌝ }
+// A part of the request, by its letter.
+fn request(rows: &mut [u32], letter: u32) -> Yield
+    ensures { λ y. ⌜ Gave (optOf (now (rows .entry)) (envOf (now (rows .entry)) .request (varOf letter))) (now (rows .exit)) y ⌝ }
 {
-    match x {
-        0 => entity_of(a, PRINCIPAL),
-        1 => entity_of(a, ACTION),
-        2 => entity_of(a, RESOURCE),
+    match letter {
+        PART_P => entity_of(rows, PRINCIPAL),
+        PART_A => entity_of(rows, ACTION),
+        PART_R => entity_of(rows, RESOURCE),
         _ => {
-            let v = item(row(a, CONTEXT, 0), 2);
-            if v == 10000 {
+            let value = item(row(rows, CONTEXT, 0), 2);
+            if value == MARK {
                 return Yield::Error;
             }
-            Yield::Value(v)
+            Yield::Value(value)
         }
     }
 }
 
-// What the operation of node `n`, of tag `t`, yields over value `v`.
-fn apply_one(sheet: &[u8], a: &mut [u32], n: u32, t: u32, v: u32) -> Yield
-    requires { ⌜ (39 ≤ t) × (t < 47) ⌝ }
-    ensures { λ y. ⌜ Gave (settleOf (now (a .entry)) (oneOut (now (sheet .entry)) t (now (a .entry)) (nodeIn (now (a .entry)) n) v)) (now (a .exit)) y ⌝ }
+// What the operation of the node, by its tag, yields over the value.
+fn apply_one(sheet: &[u8], rows: &mut [u32], node: u32, tag: u32, value: u32) -> Yield
+    requires { ⌜ (IS ≤ tag) × (tag < SET-OF) ⌝ }
+    ensures { λ y. ⌜ Gave (settleOf (now (rows .entry)) (oneOut (now (sheet .entry)) tag (now (rows .entry)) (nodeIn (now (rows .entry)) node) value)) (now (rows .exit)) y ⌝ }
 {
-    let g = one_given(sheet, a, n, t, v);
-    settle(a, g)
+    let given = one_given(sheet, rows, node, tag, value);
+    settle(rows, given)
 }
 
-// What the operation of tag `t` yields over values `v` and `w`.
-fn apply_two(a: &mut [u32], t: u32, v: u32, w: u32) -> Yield
-    requires { ⌜ (26 ≤ t) × (t < 38) ⌝ }
-    ensures { λ y. ⌜ Gave (settleOf (now (a .entry)) (twoOut t (now (a .entry)) v w)) (now (a .exit)) y ⌝ }
+// What the operation by the tag yields over two values.
+fn apply_two(rows: &mut [u32], tag: u32, left: u32, right: u32) -> Yield
+    requires { ⌜ (EQ ≤ tag) × (tag < IF) ⌝ }
+    ensures { λ y. ⌜ Gave (settleOf (now (rows .entry)) (twoOut tag (now (rows .entry)) left right)) (now (rows .exit)) y ⌝ }
 {
-    let g = two_given(a, t, v, w);
-    settle(a, g)
+    let given = two_given(rows, tag, left, right);
+    settle(rows, given)
 }
 
 // Whether two bools are the same.
-fn same(x: bool, z: bool) -> bool
-    ensures { λ r. ⌜ r ≡ sameBool x z ⌝ }
+fn same(x: bool, y: bool) -> bool
+    ensures { λ r. ⌜ r ≡ sameBool x y ⌝ }
 {
     if x {
-        return z;
+        return y;
     }
-    !z
+    !y
 }
 
-// Node `n`, of which `d` levels are seen, beside the log that ends at `bt`.
-fn eval(sheet: &[u8], a: &mut [u32], b: &mut [u32], bt: usize, n: u32, d: u32) -> Yield
-    requires { ⌜ Room (now b) bt ⌝ }
-    ensures { λ y. ⌜ GaveBeside (evalOf (now (sheet .entry)) d (now (a .entry)) (take bt (now (b .entry))) n) (now (a .exit)) y bt (now (b .entry)) (now (b .exit)) ⌝ }
+// The node, of which `depth` levels are seen, beside the log that ends at `top`.
+fn eval(sheet: &[u8], rows: &mut [u32], log: &mut [u32], top: usize, node: u32, depth: u32) -> Yield
+    requires { ⌜ Room (now log) top ⌝ }
+    ensures { λ y. ⌜ GaveBeside (evalOf (now (sheet .entry)) depth (now (rows .entry)) (take top (now (log .entry))) node) (now (rows .exit)) y top (now (log .entry)) (now (log .exit)) ⌝ }
 {
-    if d == 0 {
+    if depth == 0 {
         return Yield::Error;
     }
-    let t = tag(row(a, NODE, n));
-    step(sheet, a, b, bt, n, t, d - 1)
+    let tag = tag(row(rows, NODE, node));
+    step(sheet, rows, log, top, node, tag, depth - 1)
 }
 
-// The same by the node's tag `t`; its operands are seen to `d` levels.
-fn step(sheet: &[u8], a: &mut [u32], b: &mut [u32], bt: usize, n: u32, t: u32, d: u32) -> Yield
-    requires { ⌜ Room (now b) bt ⌝ }
-    ensures { λ y. ⌜ GaveBeside (stepAt (now (sheet .entry)) t (evalOf (now (sheet .entry)) d) (now (a .entry)) (take bt (now (b .entry))) n (nodeIn (now (a .entry)) n)) (now (a .exit)) y bt (now (b .entry)) (now (b .exit)) ⌝ }
+// The same by the node's tag; its operands are seen to `depth` levels.
+fn step(
+    sheet: &[u8],
+    rows: &mut [u32],
+    log: &mut [u32],
+    top: usize,
+    node: u32,
+    tag: u32,
+    depth: u32,
+) -> Yield
+    requires { ⌜ Room (now log) top ⌝ }
+    ensures { λ y. ⌜ GaveBeside (stepAt (now (sheet .entry)) tag (evalOf (now (sheet .entry)) depth) (now (rows .entry)) (take top (now (log .entry))) node (nodeIn (now (rows .entry)) node)) (now (rows .exit)) y top (now (log .entry)) (now (log .exit)) ⌝ }
 {
-    match t {
-        22 => Yield::Error,
-        23 => request(a, word_of(a, n, 2)),
-        24 => lazy(sheet, a, b, bt, n, false, d),
-        25 => lazy(sheet, a, b, bt, n, true, d),
-        38 => branch(sheet, a, b, bt, n, d),
-        47 => set(sheet, a, b, bt, n, d),
-        48 => record(sheet, a, b, bt, n, d),
+    match tag {
+        ERR => Yield::Error,
+        VAR => request(rows, word_of(rows, node, 2)),
+        AND => lazy(sheet, rows, log, top, node, false, depth),
+        OR => lazy(sheet, rows, log, top, node, true, depth),
+        IF => branch(sheet, rows, log, top, node, depth),
+        SET_OF => set(sheet, rows, log, top, node, depth),
+        RECORD_OF => record(sheet, rows, log, top, node, depth),
         _ => {
-            if t < 22 {
-                return Yield::Value(word_of(a, n, 2));
+            if tag < ERR {
+                return Yield::Value(word_of(rows, node, 2));
             }
-            if t < 38 {
-                return two(sheet, a, b, bt, n, t, d);
+            if tag < IF {
+                return two(sheet, rows, log, top, node, tag, depth);
             }
-            if t < 47 {
-                return one(sheet, a, b, bt, n, t, d);
+            if tag < SET_OF {
+                return one(sheet, rows, log, top, node, tag, depth);
             }
             Yield::Error
         }
     }
 }
 
-// `and` or `or`: `z` is the bool that decides. The right side is worked where the left one does not decide.
-fn lazy(sheet: &[u8], a: &mut [u32], b: &mut [u32], bt: usize, n: u32, z: bool, d: u32) -> Yield
-    requires { ⌜ Room (now b) bt ⌝ }
-    ensures { λ y. ⌜ GaveBeside (lazyStep z (evalOf (now (sheet .entry)) d) (now (a .entry)) (take bt (now (b .entry))) n (nodeIn (now (a .entry)) n)) (now (a .exit)) y bt (now (b .entry)) (now (b .exit)) ⌝ }
+// `and` or `or`: `stop` is the bool that decides. The right side is worked where the left one does not decide.
+fn lazy(
+    sheet: &[u8],
+    rows: &mut [u32],
+    log: &mut [u32],
+    top: usize,
+    node: u32,
+    stop: bool,
+    depth: u32,
+) -> Yield
+    requires { ⌜ Room (now log) top ⌝ }
+    ensures { λ y. ⌜ GaveBeside (lazyStep stop (evalOf (now (sheet .entry)) depth) (now (rows .entry)) (take top (now (log .entry))) node (nodeIn (now (rows .entry)) node)) (now (rows .exit)) y top (now (log .entry)) (now (log .exit)) ⌝ }
 {
-    let right = word_of(a, n, 3);
-    let left = eval(sheet, a, b, bt, word_of(a, n, 2), d);
-    let Truth::Is(x) = truth_of(a, left) else {
+    let right = word_of(rows, node, 3);
+    let left = eval(sheet, rows, log, top, word_of(rows, node, 2), depth);
+    let Truth::Is(x) = truth_of(rows, left) else {
         return Yield::Error;
     };
-    if same(x, z) {
-        return Yield::Value(make_bool(a, z));
+    if same(x, stop) {
+        return Yield::Value(make_bool(rows, stop));
     }
-    let r = eval(sheet, a, b, bt, right, d);
-    only_bool(a, r)
+    let r = eval(sheet, rows, log, top, right, depth);
+    only_bool(rows, r)
 }
 
 // `if`: one branch is worked.
-fn branch(sheet: &[u8], a: &mut [u32], b: &mut [u32], bt: usize, n: u32, d: u32) -> Yield
-    requires { ⌜ Room (now b) bt ⌝ }
-    ensures { λ y. ⌜ GaveBeside (ifStep (evalOf (now (sheet .entry)) d) (now (a .entry)) (take bt (now (b .entry))) n (nodeIn (now (a .entry)) n)) (now (a .exit)) y bt (now (b .entry)) (now (b .exit)) ⌝ }
+fn branch(
+    sheet: &[u8],
+    rows: &mut [u32],
+    log: &mut [u32],
+    top: usize,
+    node: u32,
+    depth: u32,
+) -> Yield
+    requires { ⌜ Room (now log) top ⌝ }
+    ensures { λ y. ⌜ GaveBeside (ifStep (evalOf (now (sheet .entry)) depth) (now (rows .entry)) (take top (now (log .entry))) node (nodeIn (now (rows .entry)) node)) (now (rows .exit)) y top (now (log .entry)) (now (log .exit)) ⌝ }
 {
-    let then = word_of(a, n, 3);
-    let other = word_of(a, n, 4);
-    let y = eval(sheet, a, b, bt, word_of(a, n, 2), d);
-    let Truth::Is(x) = truth_of(a, y) else {
+    let then = word_of(rows, node, 3);
+    let other = word_of(rows, node, 4);
+    let test = eval(sheet, rows, log, top, word_of(rows, node, 2), depth);
+    let Truth::Is(x) = truth_of(rows, test) else {
         return Yield::Error;
     };
     if x {
-        return eval(sheet, a, b, bt, then, d);
+        return eval(sheet, rows, log, top, then, depth);
     }
-    eval(sheet, a, b, bt, other, d)
+    eval(sheet, rows, log, top, other, depth)
 }
 
 // An operation with one operand.
-fn one(sheet: &[u8], a: &mut [u32], b: &mut [u32], bt: usize, n: u32, t: u32, d: u32) -> Yield
-    requires { ⌜ Room (now b) bt ⌝ }
-    requires { ⌜ (39 ≤ t) × (t < 47) ⌝ }
-    ensures { λ y. ⌜ GaveBeside (oneStep (oneOut (now (sheet .entry)) t) (evalOf (now (sheet .entry)) d) (now (a .entry)) (take bt (now (b .entry))) n (nodeIn (now (a .entry)) n)) (now (a .exit)) y bt (now (b .entry)) (now (b .exit)) ⌝ }
+fn one(
+    sheet: &[u8],
+    rows: &mut [u32],
+    log: &mut [u32],
+    top: usize,
+    node: u32,
+    tag: u32,
+    depth: u32,
+) -> Yield
+    requires { ⌜ Room (now log) top ⌝ }
+    requires { ⌜ (IS ≤ tag) × (tag < SET-OF) ⌝ }
+    ensures { λ y. ⌜ GaveBeside (oneStep (oneOut (now (sheet .entry)) tag) (evalOf (now (sheet .entry)) depth) (now (rows .entry)) (take top (now (log .entry))) node (nodeIn (now (rows .entry)) node)) (now (rows .exit)) y top (now (log .entry)) (now (log .exit)) ⌝ }
 {
-    let Yield::Value(v) = eval(sheet, a, b, bt, word_of(a, n, 2), d) else {
+    let Yield::Value(value) = eval(sheet, rows, log, top, word_of(rows, node, 2), depth) else {
         return Yield::Error;
     };
-    apply_one(sheet, a, n, t, v)
+    apply_one(sheet, rows, node, tag, value)
 }
 
 // An operation with two operands: the right one is worked where the left one is a value.
-fn two(sheet: &[u8], a: &mut [u32], b: &mut [u32], bt: usize, n: u32, t: u32, d: u32) -> Yield
-    requires { ⌜ Room (now b) bt ⌝ }
-    requires { ⌜ (26 ≤ t) × (t < 38) ⌝ }
-    ensures { λ y. ⌜ GaveBeside (twoStep (twoOut t) (evalOf (now (sheet .entry)) d) (now (a .entry)) (take bt (now (b .entry))) n (nodeIn (now (a .entry)) n)) (now (a .exit)) y bt (now (b .entry)) (now (b .exit)) ⌝ }
+fn two(
+    sheet: &[u8],
+    rows: &mut [u32],
+    log: &mut [u32],
+    top: usize,
+    node: u32,
+    tag: u32,
+    depth: u32,
+) -> Yield
+    requires { ⌜ Room (now log) top ⌝ }
+    requires { ⌜ (EQ ≤ tag) × (tag < IF) ⌝ }
+    ensures { λ y. ⌜ GaveBeside (twoStep (twoOut tag) (evalOf (now (sheet .entry)) depth) (now (rows .entry)) (take top (now (log .entry))) node (nodeIn (now (rows .entry)) node)) (now (rows .exit)) y top (now (log .entry)) (now (log .exit)) ⌝ }
 {
-    let right = word_of(a, n, 3);
-    let Yield::Value(v) = eval(sheet, a, b, bt, word_of(a, n, 2), d) else {
+    let right = word_of(rows, node, 3);
+    let Yield::Value(first) = eval(sheet, rows, log, top, word_of(rows, node, 2), depth) else {
         return Yield::Error;
     };
-    let Yield::Value(w) = eval(sheet, a, b, bt, right, d) else {
+    let Yield::Value(second) = eval(sheet, rows, log, top, right, depth) else {
         return Yield::Error;
     };
-    apply_two(a, t, v, w)
+    apply_two(rows, tag, first, second)
 }
 
-// The children of node `n` from word `i` of its row on, every `s`-th word of it, `k` of them at most: a row for each value.
+// The children of the node from word `i` of its row on, every `step`-th word of it, `most` of them at most: a row for each value.
 fn kids(
     sheet: &[u8],
-    a: &mut [u32],
-    b: &mut [u32],
-    bt: usize,
-    n: u32,
-    s: usize,
+    rows: &mut [u32],
+    log: &mut [u32],
+    top: usize,
+    node: u32,
+    step: usize,
     i: usize,
-    k: u32,
-    d: u32,
+    most: u32,
+    depth: u32,
 ) -> Children
-    requires { ⌜ Room (now b) bt ⌝ }
-    requires { ⌜ (s ≤ 2) × (i + 2 * k ≤ 65536) ⌝ }
-    ensures { λ o. ⌜ Left (kidsOf (evalOf (now (sheet .entry)) d) n s k i (now (a .entry)) (take bt (now (b .entry)))) (now (a .exit)) o bt (now (b .entry)) (now (b .exit)) ⌝ }
+    requires { ⌜ Room (now log) top ⌝ }
+    requires { ⌜ (step ≤ 2) × (i + 2 * most ≤ 65536) ⌝ }
+    ensures { λ o. ⌜ Left (kidsOf (evalOf (now (sheet .entry)) depth) node step most i (now (rows .entry)) (take top (now (log .entry)))) (now (rows .exit)) o top (now (log .entry)) (now (log .exit)) ⌝ }
 {
-    if k == 0 {
-        return Children { all: true, end: bt };
+    if most == 0 {
+        return Children {
+            all: true,
+            end: top,
+        };
     }
-    if i >= row(a, NODE, n).len() {
-        return Children { all: true, end: bt };
+    if i >= row(rows, NODE, node).len() {
+        return Children {
+            all: true,
+            end: top,
+        };
     }
-    let Yield::Value(v) = eval(sheet, a, b, bt, word_of(a, n, i), d) else {
+    let Yield::Value(value) = eval(sheet, rows, log, top, word_of(rows, node, i), depth) else {
         return Children {
             all: false,
-            end: bt,
+            end: top,
         };
     };
-    let e = push_value(b, bt, v, 0);
-    kids(sheet, a, b, e, n, s, i + s, k - 1, d)
+    let end = push_value(log, top, value, 0);
+    kids(sheet, rows, log, end, node, step, i + step, most - 1, depth)
 }
 
 // A set is made of its children, where all are values.
-fn set(sheet: &[u8], a: &mut [u32], b: &mut [u32], bt: usize, n: u32, d: u32) -> Yield
-    requires { ⌜ Room (now b) bt ⌝ }
-    ensures { λ y. ⌜ GaveBeside (setStep (evalOf (now (sheet .entry)) d) (now (a .entry)) (take bt (now (b .entry))) n (nodeIn (now (a .entry)) n)) (now (a .exit)) y bt (now (b .entry)) (now (b .exit)) ⌝ }
+fn set(sheet: &[u8], rows: &mut [u32], log: &mut [u32], top: usize, node: u32, depth: u32) -> Yield
+    requires { ⌜ Room (now log) top ⌝ }
+    ensures { λ y. ⌜ GaveBeside (setStep (evalOf (now (sheet .entry)) depth) (now (rows .entry)) (take top (now (log .entry))) node (nodeIn (now (rows .entry)) node)) (now (rows .exit)) y top (now (log .entry)) (now (log .exit)) ⌝ }
 {
-    let k = kids(sheet, a, b, bt, n, 1, 2, 16384, d);
-    if k.all {
-        return Yield::Value(make_set(a, b, bt, k.end));
+    let children = kids(sheet, rows, log, top, node, 1, 2, 16384, depth);
+    if children.all {
+        return Yield::Value(make_set(rows, log, top, children.end));
     }
     Yield::Error
 }
 
 // A record likewise.
-fn record(sheet: &[u8], a: &mut [u32], b: &mut [u32], bt: usize, n: u32, d: u32) -> Yield
-    requires { ⌜ Room (now b) bt ⌝ }
-    ensures { λ y. ⌜ GaveBeside (recStep (evalOf (now (sheet .entry)) d) (now (a .entry)) (take bt (now (b .entry))) n (nodeIn (now (a .entry)) n)) (now (a .exit)) y bt (now (b .entry)) (now (b .exit)) ⌝ }
+fn record(
+    sheet: &[u8],
+    rows: &mut [u32],
+    log: &mut [u32],
+    top: usize,
+    node: u32,
+    depth: u32,
+) -> Yield
+    requires { ⌜ Room (now log) top ⌝ }
+    ensures { λ y. ⌜ GaveBeside (recStep (evalOf (now (sheet .entry)) depth) (now (rows .entry)) (take top (now (log .entry))) node (nodeIn (now (rows .entry)) node)) (now (rows .exit)) y top (now (log .entry)) (now (log .exit)) ⌝ }
 {
-    let k = kids(sheet, a, b, bt, n, 2, 3, 16384, d);
-    if k.all {
-        return Yield::Value(make_record(a, b, bt, k.end, n));
+    let children = kids(sheet, rows, log, top, node, 2, 3, 16384, depth);
+    if children.all {
+        return Yield::Value(make_record(rows, log, top, children.end, node));
     }
     Yield::Error
 }
 
-// The number of a policy's class: 0 true, 1 false, 2 error; 3 of a value that is no bool.
-fn class_of(a: &[u32], y: Yield) -> u32
-    ensures { λ c. ⌜ c ≡ classNumber (classOf (now (a .entry)) y) ⌝ }
+// The number of a policy's class; a value that is no bool leaves it open.
+fn class_of(rows: &[u32], yielded: Yield) -> u32
+    ensures { λ c. ⌜ c ≡ classNumber (classOf (now (rows .entry)) yielded) ⌝ }
 {
-    let Yield::Value(v) = y else {
-        return 2;
+    let Yield::Value(value) = yielded else {
+        return CLASS_ERROR;
     };
-    let Truth::Is(x) = as_bool(a, v) else {
-        return 3;
+    let Truth::Is(x) = as_bool(rows, value) else {
+        return CLASS_OPEN;
     };
     if x {
-        return 0;
+        return CLASS_TRUE;
     }
-    1
+    CLASS_FALSE
 }
 
-// Runs the policies of the sheet that the words `a` hold, in order, and leaves the numbers of their classes in `b`; how many there are.
-pub fn run(sheet: &[u8], a: &mut [u32], b: &mut [u32]) -> usize
-    requires { ⌜ 16384 ≤ length (now b) ⌝ }
-    ensures { λ n. ⌜ Done (runOf (now (sheet .entry)) (now (a .entry))) (now (a .exit)) (now (b .exit)) n ⌝ }
+// Runs the policies of the sheet that `rows` hold, in order, and leaves the numbers of their classes in `log`; how many there are.
+pub fn run(sheet: &[u8], rows: &mut [u32], log: &mut [u32]) -> usize
+    requires { ⌜ 16384 ≤ length (now log) ⌝ }
+    ensures { λ n. ⌜ Done (runOf (now (sheet .entry)) (now (rows .entry))) (now (rows .exit)) (now (log .exit)) n ⌝ }
 {
-    let most = count(a, POLICY);
-    let mut bt: usize = 0;
+    let most = count(rows, POLICY);
+    let mut end: usize = 0;
     let mut i: u32 = 0;
     while i < most {
-        let y = eval(sheet, a, b, bt, item(row(a, POLICY, i), 3), 64);
-        bt = push(b, bt, class_of(a, y));
+        let yielded = eval(sheet, rows, log, end, item(row(rows, POLICY, i), 3), 64);
+        end = push(log, end, class_of(rows, yielded));
         i += 1;
     }
-    bt
+    end
 }

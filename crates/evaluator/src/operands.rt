@@ -1,4 +1,19 @@
 // What an operation gives over its worked operands, by the node's tag, on a complete sheet.
+use forms::ALL;
+use forms::ANY;
+use forms::CONTAINS;
+use forms::EQ;
+use forms::GET;
+use forms::GETTAG;
+use forms::HAS;
+use forms::HASPATH;
+use forms::HASTAG;
+use forms::IN;
+use forms::IS;
+use forms::LIKE;
+use forms::NEG;
+use forms::NODE;
+use forms::NOT;
 use strict::Given;
 use strict::all_of;
 use strict::any_of;
@@ -17,48 +32,48 @@ use strict::is_of;
 use strict::like_of;
 use strict::neg_of;
 use strict::not_of;
-use table::NODE;
 use table::item;
 use table::row;
 use words::cut;
 ghost use mathlib.Core.Path.{_≡_};
 ghost use Prim.Native.Nat.{_≤_, _<_};
 ghost use lib.ListN.{getD, drop};
+ghost use Rattle.forms.specs.Tags.{EQ, IF, IS, SET-OF};
 ghost use Rattle.strict.specs.Gives.{outOf, likeOut, valueIn};
 ghost use Rattle.table.specs.Layout.{textAt};
 ghost use Rattle.evaluator.specs.Run.{nodeIn, walkOut, twoOut, oneOut};
 
-// Word `j` of node `n`.
-pub fn word_of(a: &[u32], n: u32, j: usize) -> u32
-    ensures { λ x. ⌜ x ≡ getD (nodeIn (now (a .entry)) n) j 0 ⌝ }
+// Word `j` of the node.
+pub fn word_of(rows: &[u32], node: u32, j: usize) -> u32
+    ensures { λ x. ⌜ x ≡ getD (nodeIn (now (rows .entry)) node) j 0 ⌝ }
 {
-    item(row(a, NODE, n), j)
+    item(row(rows, NODE, node), j)
 }
 
-// The words of node `n` from its fourth on: the pattern of a `like`, the texts of a path.
-fn rest_of(a: &[u32], n: u32) -> &[u32]
-    ensures { λ l. ⌜ now l ≡ drop 3 (nodeIn (now (a .entry)) n) ⌝ }
+// The words of the node from its fourth on: the pattern of a `like`, the texts of a path.
+fn rest_of(rows: &[u32], node: u32) -> &[u32]
+    ensures { λ l. ⌜ now l ≡ drop 3 (nodeIn (now (rows .entry)) node) ⌝ }
 {
-    let r = row(a, NODE, n);
-    cut(r, 3, r.len())
+    let line = row(rows, NODE, node);
+    cut(line, 3, line.len())
 }
 
-// Whether value `v` matches the pattern of node `n`.
-fn like_at(sheet: &[u8], a: &[u32], n: u32, v: u32) -> Given
-    ensures { λ g. ⌜ outOf g ≡ likeOut (textAt (now (sheet .entry)) (now (a .entry))) (drop 3 (nodeIn (now (a .entry)) n)) (valueIn (now (a .entry)) v) ⌝ }
+// Whether the value matches the pattern of the node.
+fn like_at(sheet: &[u8], rows: &[u32], node: u32, value: u32) -> Given
+    ensures { λ g. ⌜ outOf g ≡ likeOut (textAt (now (sheet .entry)) (now (rows .entry))) (drop 3 (nodeIn (now (rows .entry)) node)) (valueIn (now (rows .entry)) value) ⌝ }
 {
-    like_of(sheet, a, v, rest_of(a, n))
+    like_of(sheet, rows, value, rest_of(rows, node))
 }
 
-// Whether the path of node `n` is there from value `v` on.
-fn path_at(a: &[u32], n: u32, v: u32) -> Given
-    ensures { λ g. ⌜ outOf g ≡ walkOut (now (a .entry)) (nodeIn (now (a .entry)) n) v ⌝ }
+// Whether the path of the node is there from the value on.
+fn path_at(rows: &[u32], node: u32, value: u32) -> Given
+    ensures { λ g. ⌜ outOf g ≡ walkOut (now (rows .entry)) (nodeIn (now (rows .entry)) node) value ⌝ }
 {
-    let path = rest_of(a, n);
+    let path = rest_of(rows, node);
     if path.len() < 1 {
-        return has_of(a, true, v, 0);
+        return has_of(rows, true, value, 0);
     }
-    match walk(a, true, v, path) {
+    match walk(rows, true, value, path) {
         Walked::Holds(x) => Given::Bool(x),
         Walked::Fails => Given::Fails,
         Walked::Left(_, _, _) => Given::Stays,
@@ -66,35 +81,35 @@ fn path_at(a: &[u32], n: u32, v: u32) -> Given
 }
 
 // Over one operand: is, like, get, has, haspath, not, neg, empty.
-pub fn one_given(sheet: &[u8], a: &[u32], n: u32, t: u32, v: u32) -> Given
-    requires { ⌜ (39 ≤ t) × (t < 47) ⌝ }
-    ensures { λ g. ⌜ outOf g ≡ oneOut (now (sheet .entry)) t (now (a .entry)) (nodeIn (now (a .entry)) n) v ⌝ }
+pub fn one_given(sheet: &[u8], rows: &[u32], node: u32, tag: u32, value: u32) -> Given
+    requires { ⌜ (IS ≤ tag) × (tag < SET-OF) ⌝ }
+    ensures { λ g. ⌜ outOf g ≡ oneOut (now (sheet .entry)) tag (now (rows .entry)) (nodeIn (now (rows .entry)) node) value ⌝ }
 {
-    match t {
-        39 => is_of(a, v, word_of(a, n, 3)),
-        40 => like_at(sheet, a, n, v),
-        41 => get_of(a, true, v, word_of(a, n, 3)),
-        42 => has_of(a, true, v, word_of(a, n, 3)),
-        43 => path_at(a, n, v),
-        44 => not_of(a, v),
-        45 => neg_of(a, v),
-        _ => empty_of(a, v),
+    match tag {
+        IS => is_of(rows, value, word_of(rows, node, 3)),
+        LIKE => like_at(sheet, rows, node, value),
+        GET => get_of(rows, true, value, word_of(rows, node, 3)),
+        HAS => has_of(rows, true, value, word_of(rows, node, 3)),
+        HASPATH => path_at(rows, node, value),
+        NOT => not_of(rows, value),
+        NEG => neg_of(rows, value),
+        _ => empty_of(rows, value),
     }
 }
 
 // Over two operands: eq, lt, le, add, sub, mul, in, gettag, hastag, contains, all, any.
-pub fn two_given(a: &[u32], t: u32, v: u32, w: u32) -> Given
-    requires { ⌜ (26 ≤ t) × (t < 38) ⌝ }
-    ensures { λ g. ⌜ outOf g ≡ twoOut t (now (a .entry)) v w ⌝ }
+pub fn two_given(rows: &[u32], tag: u32, left: u32, right: u32) -> Given
+    requires { ⌜ (EQ ≤ tag) × (tag < IF) ⌝ }
+    ensures { λ g. ⌜ outOf g ≡ twoOut tag (now (rows .entry)) left right ⌝ }
 {
-    match t {
-        26 => eq_of(v, w),
-        32 => in_of(a, true, v, w),
-        33 => gettag_of(a, true, v, w),
-        34 => hastag_of(a, true, v, w),
-        35 => contains_of(a, v, w),
-        36 => all_of(a, v, w),
-        37 => any_of(a, v, w),
-        _ => arith_of(a, t, v, w),
+    match tag {
+        EQ => eq_of(left, right),
+        IN => in_of(rows, true, left, right),
+        GETTAG => gettag_of(rows, true, left, right),
+        HASTAG => hastag_of(rows, true, left, right),
+        CONTAINS => contains_of(rows, left, right),
+        ALL => all_of(rows, left, right),
+        ANY => any_of(rows, left, right),
+        _ => arith_of(rows, tag, left, right),
     }
 }

@@ -35,11 +35,12 @@ use Rattle.sheet.proofs.NeverNine.{policy-sizes, residual-sizes}
 use Rattle.table.specs.Layout.{held, MADE, TOP, heap, limits, limit, Sound}
 use Rattle.table.proofs.Rows.{count-rows}
 use Rattle.residual.specs.Trees.{flats}
+use Rattle.residual.specs.Classes.{rootsOf}
 use Rattle.tpe.specs.Run.{Rec, Ran, ranFrom, runOf}
 use Rattle.tpe.proofs.Stands.{tys, nodes}
 use Rattle.tpe.proofs.Policies.{linesFor, RunIs}
 use Rattle.tpe.proofs.Accepted.{run-fits}
-use Rattle.interpret.specs.Lines.{linesFrom, linesOf, classesOf, rootsOf}
+use Rattle.interpret.specs.Lines.{CLASSES, ROOTS, linesFrom, linesOf, classesOf}
 use Rattle.interpret.proofs.Back.{Noted, noted, classes-noted, roots-noted}
 use Rattle.interpret.proofs.Rooted.{endOf, end-low, end-all, Stays, classes-long, roots-long, counted, all-long, root-there, class-there, start-at}
 
@@ -81,10 +82,10 @@ lines-long n (v ∷ vs) = ap suc (lines-long _ vs)
 
 -- from b to b′ the lines vs were noted, past the log
 pub record Lined (vs : List NVerdict) (b b′ : List ℕ) : Type 0 where
-  pub log : take 8192 b′ ≡ take 8192 b
+  pub log : take CLASSES b′ ≡ take CLASSES b
   pub long : length b′ ≡ length b
-  pub classes : take (length vs) (drop 8192 b′) ≡ classesOf vs
-  pub roots : take (length vs) (drop 8256 b′) ≡ rootsOf 0 vs
+  pub classes : take (length vs) (drop CLASSES b′) ≡ classesOf vs
+  pub roots : take (length vs) (drop ROOTS b′) ≡ rootsOf 0 vs
 
 module _ (sheet a b : List ℕ) (accepted : read partial sheet .number ≡ 0) (state : read partial sheet .state ≡ held sheet a b) (sound : Sound a) (none : getD a MADE 0 ≡ 0)
     (fits : 2 * getD a TOP 0 + 6 * getD a NODE 0 ≤ 2 * heap + 16384) where
@@ -156,5 +157,5 @@ module _ (sheet a b : List ℕ) (accepted : read partial sheet .number ≡ 0) (s
     -- the log is as the run left it
     pub log-stays : take e (linesOf (r .words) b₁ e) ≡ r .log
     log-stays =
-        let low : e ≤ 8192 = omega (arith, end-is, ap length (ran .log), log-short) in
-        sym (take-take e 8192 (linesOf (r .words) b₁ e) low) ∙ ap (take e) (lined .log) ∙ take-take e 8192 b₁ low ∙ h .is
+        let low : e ≤ CLASSES = omega (arith, end-is, ap length (ran .log), log-short) in
+        sym (take-take e CLASSES (linesOf (r .words) b₁ e) low) ∙ ap (take e) (lined .log) ∙ take-take e CLASSES b₁ low ∙ h .is

@@ -12,7 +12,8 @@ use lib.ListN.{length, getD, take}
 use Rattle.words.specs.Log.{appended, Appended, Room}
 use Rattle.words.proofs.Logs.{append-holds, holds-as, holds-from, log-cut, log-length}
 use Rattle.cedar.specs.Residual.{Class, ctrue, cfalse, cerror, copen}
-use Rattle.sheet.specs.Forms.{partial, at}
+use Rattle.sheet.specs.Forms.{partial, at, firstNode, NODE}
+use Rattle.forms.specs.Tags.{ERR, VAR}
 use Rattle.sheet.specs.Content.{varOf}
 use Rattle.table.specs.Layout.{rowsOf}
 use Rattle.value.specs.Made.{boolRow}
@@ -129,20 +130,20 @@ more-here k i s h = go (decLe s (k - i))
 
 -- ---- `leaf`
 
-module _ (a b : List ℕ) (bt n t : ℕ) (room : Room b bt) (r : List ℕ) (er : r ≡ getD (rowsOf a 11) n []) (y x : ℕ) (ey : y ≡ getD r 1 0) (ex : x ≡ getD r 2 0) where
-  pub leaf-value : (b′ : List ℕ) (e : ℕ) → t < 22 → Appended b bt (litRow x y) b′ e → Leaves bt a b′ e (leafOf partial [] t a (take bt b) n)
+module _ (a b : List ℕ) (bt n t : ℕ) (room : Room b bt) (r : List ℕ) (er : r ≡ getD (rowsOf a NODE) n []) (y x : ℕ) (ey : y ≡ getD r 1 0) (ex : x ≡ getD r 2 0) where
+  pub leaf-value : (b′ : List ℕ) (e : ℕ) → t < ERR → Appended b bt (litRow x y) b′ e → Leaves bt a b′ e (leafOf partial [] t a (take bt b) n)
   unfolding leafOf litStep litOf
-  leaf-value b′ e h p = let z : t - 21 ≡ 0 = omega (arith, h) in rw (z, ← er, ← ey, ← ex) (record { words = refl; log = append-holds room p })
+  leaf-value b′ e h p = let z : t - firstNode ≡ 0 = omega (arith, h) in rw (z, ← er, ← ey, ← ex) (record { words = refl; log = append-holds room p })
 
-  pub leaf-var : (a′ b′ : List ℕ) (e : ℕ) → t ≡ 23 → Leaves bt a′ b′ e (varFor partial [] a (take bt b) n y (envIn partial [] a .request (varOf x))) → Leaves bt a′ b′ e (leafOf partial [] t a (take bt b) n)
+  pub leaf-var : (a′ b′ : List ℕ) (e : ℕ) → t ≡ VAR → Leaves bt a′ b′ e (varFor partial [] a (take bt b) n y (envIn partial [] a .request (varOf x))) → Leaves bt a′ b′ e (leafOf partial [] t a (take bt b) n)
   unfolding leafOf varStep
   leaf-var a′ b′ e h p = rw (h, ← er, ← ey, ← ex) p
 
-  pub leaf-error : (b′ : List ℕ) (e : ℕ) → 22 ≤ t → (t ≡ 23 → ⊥) → Appended b bt (errRow y) b′ e → Leaves bt a b′ e (leafOf partial [] t a (take bt b) n)
+  pub leaf-error : (b′ : List ℕ) (e : ℕ) → ERR ≤ t → (t ≡ VAR → ⊥) → Appended b bt (errRow y) b′ e → Leaves bt a b′ e (leafOf partial [] t a (take bt b) n)
   unfolding leafOf errStep
-  leaf-error b′ e h k p = go (t - 21) refl (rw (← er, ← ey) (err-leaves a b b′ bt e y room p))
+  leaf-error b′ e h k p = go (t - firstNode) refl (rw (← er, ← ey) (err-leaves a b b′ bt e y room p))
     where
-      go : (j : ℕ) → t - 21 ≡ j → Leaves bt a b′ e (errOf a (take bt b) (at (nodeIn a n) 0))
+      go : (j : ℕ) → t - firstNode ≡ j → Leaves bt a b′ e (errOf a (take bt b) (at (nodeIn a n) 0))
           → Leaves bt a b′ e (getD (litStep partial [] ∷ errStep partial [] ∷ varStep partial [] ∷ []) j (errStep partial []) (λ a l n. left a l) a (take bt b) n (nodeIn a n))
       go zero q z = absurd (omega (arith, q, h))
       go (suc zero) q z = z
@@ -156,7 +157,7 @@ module _ (a b : List ℕ) (start mid bt n : ℕ) (z : Bool) (y : ℕ) (room : Ro
   unfolding secondOf
   by-side x e = ap (secondBy z start n y mid (left a (take bt b))) (sym es ∙ e)
 
-  pub beside-stops : (a′ b′ : List ℕ) (e : ℕ) → s ≡ Stops → Leaves start a′ b′ e (decidedBy z start n y mid a (take bt b) (errs (rowsOf a 11) (take bt b) mid))
+  pub beside-stops : (a′ b′ : List ℕ) (e : ℕ) → s ≡ Stops → Leaves start a′ b′ e (decidedBy z start n y mid a (take bt b) (errs (rowsOf a NODE) (take bt b) mid))
       → Leaves start a′ b′ e (secondOf z start n y mid (left a (take bt b)))
   unfolding secondBy
   beside-stops a′ b′ e h p = leaves-as p (sym (by-side stops (ap sideIn h)))
@@ -180,7 +181,7 @@ module _ (a b : List ℕ) (start mid bt n : ℕ) (z : Bool) (y : ℕ) (room : Ro
 
 -- ---- `first`
 
-module _ (f : Rec) (a b : List ℕ) (start bt n : ℕ) (z : Bool) (room : Room b bt) (below : start ≤ bt) (r : List ℕ) (er : r ≡ getD (rowsOf a 11) n [])
+module _ (f : Rec) (a b : List ℕ) (start bt n : ℕ) (z : Bool) (room : Room b bt) (below : start ≤ bt) (r : List ℕ) (er : r ≡ getD (rowsOf a NODE) n [])
     (y x : ℕ) (ey : y ≡ getD r 1 0) (ex : x ≡ getD r 3 0) (s : Sideᶜ) (es : sideIn s ≡ sideOf z (classOf a (take bt b))) where
   by-first : (q : Side) → sideIn s ≡ q → firstIn z f start n (left a (take bt b)) ≡ firstBy z f start n y x (left a (take bt b)) q
   unfolding firstIn firstOf
@@ -208,15 +209,15 @@ pub second-is : (a₁ b₁ : List ℕ) (mid p : ℕ) (o : O) → Leaves mid a₁
     → Leaves start a₂ b₂ e (secondOf z start n y mid o)
 second-is a₁ b₁ mid p o h a₂ b₂ start n e z y q = leaves-as q (ap (secondOf z start n y mid) (view h))
 
-pub pair-is : (sheet : List ℕ) (f : Rec) (a b : List ℕ) (start mid n t : ℕ) → Room b mid → (r : List ℕ) → r ≡ getD (rowsOf a 11) n [] → (x : ℕ) → x ≡ getD r 3 0 → (a₁ b₁ : List ℕ) (p : ℕ) → Leaves mid a₁ b₁ p (f a (take mid b) x)
-    → (a₂ b₂ : List ℕ) (e : ℕ) → Leaves start a₂ b₂ e (twoAt partial sheet t start mid n (getD (rowsOf a₁ 11) n []) (left a₁ (take p b₁))) → Leaves start a₂ b₂ e (pairIn partial sheet t f start n (left a (take mid b)))
+pub pair-is : (sheet : List ℕ) (f : Rec) (a b : List ℕ) (start mid n t : ℕ) → Room b mid → (r : List ℕ) → r ≡ getD (rowsOf a NODE) n [] → (x : ℕ) → x ≡ getD r 3 0 → (a₁ b₁ : List ℕ) (p : ℕ) → Leaves mid a₁ b₁ p (f a (take mid b) x)
+    → (a₂ b₂ : List ℕ) (e : ℕ) → Leaves start a₂ b₂ e (twoAt partial sheet t start mid n (getD (rowsOf a₁ NODE) n []) (left a₁ (take p b₁))) → Leaves start a₂ b₂ e (pairIn partial sheet t f start n (left a (take mid b)))
 unfolding pairIn pairBy
 pair-is sheet f a b start mid n t room r er x ex a₁ b₁ p h a₂ b₂ e q =
     rw (log-length b mid room, ← er, ← ex) (leaves-as q (ap (λ (o : O). twoAt partial sheet t start mid n (nodeIn (o .words) n) o) (view h)))
 
 -- ---- `branch`, `split`
 
-module _ (f : Rec) (a b : List ℕ) (start bt n : ℕ) (room : Room b bt) (below : start ≤ bt) (r : List ℕ) (er : r ≡ getD (rowsOf a 11) n [])
+module _ (f : Rec) (a b : List ℕ) (start bt n : ℕ) (room : Room b bt) (below : start ≤ bt) (r : List ℕ) (er : r ≡ getD (rowsOf a NODE) n [])
     (y x w : ℕ) (ey : y ≡ getD r 1 0) (ex : x ≡ getD r 3 0) (ew : w ≡ getD r 4 0) (c : Classᶜ) (ec : classIn c ≡ classBy a (stageAt b bt)) where
   by-branch : (q : Class) → classIn c ≡ q → branchIn f start n (left a (take bt b)) ≡ branchBy f start n y x w (left a (take bt b)) q
   unfolding branchIn branchOf

@@ -14,13 +14,14 @@ use Rattle.sheet.specs.Answer.{root, size}
 use Rattle.sheet.proofs.MadeCount.{residualSizes}
 use Rattle.value.specs.Lines.{valueLines}
 use Rattle.residual.specs.Rows.{stageAt, startAt}
+use Rattle.residual.specs.Classes.{classNumber, rootsOf}
 use Rattle.residual.specs.declared.Stage.{Stage as Stageʳ}
 use Rattle.residual.specs.Trees.{Res, Ress, rnil, rcons, flat, flats, countRes, treeOf, treesOf, Whole, Wholes, whole-more}
 use Rattle.residual.proofs.Blocks.{res-start}
 use Rattle.residual.proofs.Meaning.{stageFor, stage-is, rows-are}
 use Rattle.tpe.specs.Run.{classBy}
 use Rattle.tpe.proofs.Policies.{rootsOf as treesUnder}
-use Rattle.interpret.specs.Lines.{classNumber, classesOf, rootsOf}
+use Rattle.interpret.specs.Lines.{classesOf}
 
 -- the first i residuals
 pub upto : ℕ → Ress → Ress

@@ -10,7 +10,8 @@ use lib.Dec.{eqb, leb}
 use lib.ListN.{length, getD, take}
 use Rattle.words.specs.Log.{Appended, Room}
 use Rattle.words.proofs.Logs.{append-holds, log-length}
-use Rattle.sheet.specs.Forms.{partial, tag, at, POLICY}
+use Rattle.sheet.specs.Forms.{partial, tag, at, NODE, POLICY}
+use Rattle.forms.specs.Tags.{AND, OR, EQ, IF, IS, SET-OF, RECORD-OF}
 use Rattle.table.specs.Layout.{rowsOf}
 use Rattle.residual.specs.Rows.{errRow, stageAt}
 use Rattle.tpe.specs.Run.{O, Rec, Kids, left, errOf, joinOf, nodeIn, kidsOf, interpOf, setOf, recOf, ranFrom, runOf}
@@ -22,7 +23,7 @@ use Rattle.interpret.proofs.ByTag.{first-step, pair-step, branch-step, 
 
 -- ---- `operation`: the first operand is worked
 
-module _ (sheet : List ℕ) (f : Rec) (a b : List ℕ) (bt n t : ℕ) (room : Room b bt) (tags : (24 ≤ t) × (t < 47)) (r : List ℕ) (er : r ≡ getD (rowsOf a 11) n []) (v : ℕ) (ev : v ≡ getD r 2 0)
+module _ (sheet : List ℕ) (f : Rec) (a b : List ℕ) (bt n t : ℕ) (room : Room b bt) (tags : (AND ≤ t) × (t < SET-OF)) (r : List ℕ) (er : r ≡ getD (rowsOf a NODE) n []) (v : ℕ) (ev : v ≡ getD r 2 0)
     (a₁ b₁ : List ℕ) (p : ℕ) (h : Leaves bt a₁ b₁ p (f a (take bt b) v)) (a₂ b₂ : List ℕ) (e : ℕ) where
   len : length (take bt b) ≡ bt
   len = log-length b bt room
@@ -30,16 +31,16 @@ module _ (sheet : List ℕ) (f : Rec) (a b : List ℕ) (bt n t : ℕ) (room : Ro
   worked : left a₁ (take p b₁) ≡ f a (take bt b) (at (nodeIn a n) 1)
   worked = view h ∙ ap (f a (take bt b)) (ev ∙ ap (λ (q : List ℕ). getD q 2 0) er)
 
-  pub on-first : t < 26 → Leaves bt a₂ b₂ e (firstIn (eqb t 25) f bt n (left a₁ (take p b₁))) → Leaves bt a₂ b₂ e (stepBy partial sheet t f a (take bt b) n)
+  pub on-first : t < EQ → Leaves bt a₂ b₂ e (firstIn (eqb t OR) f bt n (left a₁ (take p b₁))) → Leaves bt a₂ b₂ e (stepBy partial sheet t f a (take bt b) n)
   on-first hi g = rw (first-step sheet f a (take bt b) n t (tags .0) hi, len, ← worked) g
 
-  pub on-pair : 26 ≤ t → t < 38 → Leaves bt a₂ b₂ e (pairIn partial sheet t f bt n (left a₁ (take p b₁))) → Leaves bt a₂ b₂ e (stepBy partial sheet t f a (take bt b) n)
+  pub on-pair : EQ ≤ t → t < IF → Leaves bt a₂ b₂ e (pairIn partial sheet t f bt n (left a₁ (take p b₁))) → Leaves bt a₂ b₂ e (stepBy partial sheet t f a (take bt b) n)
   on-pair lo hi g = rw (pair-step sheet f a (take bt b) n t lo hi, len, ← worked) g
 
-  pub on-branch : 38 ≤ t → t < 39 → Leaves bt a₂ b₂ e (branchIn f bt n (left a₁ (take p b₁))) → Leaves bt a₂ b₂ e (stepBy partial sheet t f a (take bt b) n)
+  pub on-branch : IF ≤ t → t < IS → Leaves bt a₂ b₂ e (branchIn f bt n (left a₁ (take p b₁))) → Leaves bt a₂ b₂ e (stepBy partial sheet t f a (take bt b) n)
   on-branch lo hi g = rw (branch-step sheet f a (take bt b) n t lo hi, len, ← worked) g
 
-  pub on-one : 39 ≤ t → Leaves bt a₂ b₂ e (oneAt partial sheet t bt n (getD (rowsOf a₁ 11) n []) (left a₁ (take p b₁))) → Leaves bt a₂ b₂ e (stepBy partial sheet t f a (take bt b) n)
+  pub on-one : IS ≤ t → Leaves bt a₂ b₂ e (oneAt partial sheet t bt n (getD (rowsOf a₁ NODE) n []) (left a₁ (take p b₁))) → Leaves bt a₂ b₂ e (stepBy partial sheet t f a (take bt b) n)
   on-one lo g = rw (one-step sheet f a (take bt b) n t lo (tags .1), len, ← worked) g
 
 -- ---- `interpret`
@@ -48,23 +49,23 @@ pub interpret-deep : (sheet a b b′ : List ℕ) (bt n d e : ℕ) → Room b bt 
 unfolding interpOf errOf
 interpret-deep sheet a b b′ bt n d e room z p = rw z (record { words = refl; log = append-holds room p })
 
-module _ (sheet a b a′ b′ : List ℕ) (bt n d e : ℕ) (deep : d ≡ 0 → ⊥) (r : List ℕ) (er : r ≡ getD (rowsOf a 11) n []) (t : ℕ) (et : t ≡ tag r) where
+module _ (sheet a b a′ b′ : List ℕ) (bt n d e : ℕ) (deep : d ≡ 0 → ⊥) (r : List ℕ) (er : r ≡ getD (rowsOf a NODE) n []) (t : ℕ) (et : t ≡ tag r) where
   level : interpOf partial sheet d a (take bt b) n ≡ stepBy partial sheet t (interpOf partial sheet (d - 1)) a (take bt b) n
   level = by-level sheet a (take bt b) d n t deep (et ∙ ap tag er)
 
-  pub interpret-leaf : t < 24 → Leaves bt a′ b′ e (leafOf partial [] t a (take bt b) n) → Leaves bt a′ b′ e (interpOf partial sheet d a (take bt b) n)
+  pub interpret-leaf : t < AND → Leaves bt a′ b′ e (leafOf partial [] t a (take bt b) n) → Leaves bt a′ b′ e (interpOf partial sheet d a (take bt b) n)
   interpret-leaf h g = leaves-as g (leaf-step sheet (interpOf partial sheet (d - 1)) a (take bt b) n t h ∙ sym level)
 
   pub interpret-operation : Leaves bt a′ b′ e (stepBy partial sheet t (interpOf partial sheet (d - 1)) a (take bt b) n) → Leaves bt a′ b′ e (interpOf partial sheet d a (take bt b) n)
   interpret-operation g = leaves-as g (sym level)
 
-  pub interpret-set : t ≡ 47 → Leaves bt a′ b′ e (groupOf partial sheet t 1 (interpOf partial sheet (d - 1)) a (take bt b) n) → Leaves bt a′ b′ e (interpOf partial sheet d a (take bt b) n)
+  pub interpret-set : t ≡ SET-OF → Leaves bt a′ b′ e (groupOf partial sheet t 1 (interpOf partial sheet (d - 1)) a (take bt b) n) → Leaves bt a′ b′ e (interpOf partial sheet d a (take bt b) n)
   interpret-set h g = leaves-as g (sym (level ∙ set-step sheet (interpOf partial sheet (d - 1)) a (take bt b) n t h))
 
-  pub interpret-record : t ≡ 48 → Leaves bt a′ b′ e (groupOf partial sheet t 2 (interpOf partial sheet (d - 1)) a (take bt b) n) → Leaves bt a′ b′ e (interpOf partial sheet d a (take bt b) n)
+  pub interpret-record : t ≡ RECORD-OF → Leaves bt a′ b′ e (groupOf partial sheet t 2 (interpOf partial sheet (d - 1)) a (take bt b) n) → Leaves bt a′ b′ e (interpOf partial sheet d a (take bt b) n)
   interpret-record h g = leaves-as g (sym (level ∙ record-step sheet (interpOf partial sheet (d - 1)) a (take bt b) n t h))
 
-  pub interpret-other : 47 ≤ t → (t ≡ 47 → ⊥) → (t ≡ 48 → ⊥) → Leaves bt a′ b′ e (leafOf partial [] t a (take bt b) n) → Leaves bt a′ b′ e (interpOf partial sheet d a (take bt b) n)
+  pub interpret-other : SET-OF ≤ t → (t ≡ SET-OF → ⊥) → (t ≡ RECORD-OF → ⊥) → Leaves bt a′ b′ e (leafOf partial [] t a (take bt b) n) → Leaves bt a′ b′ e (interpOf partial sheet d a (take bt b) n)
   interpret-other h i j g = leaves-as g (other-step sheet (interpOf partial sheet (d - 1)) a (take bt b) n t h i j ∙ sym level)
 
 -- ---- `group`
@@ -82,7 +83,7 @@ module _ (f : Rec) (n s bt k : ℕ) (a₀ b₀ a b : List ℕ) (p c i : ℕ) (g 
   pub turn-fits : m ≡ true → i + s ≤ k
   turn-fits h = leb-true (i + s) k (sym em ∙ h)
 
-  pub turn-on : (r : List ℕ) (x : ℕ) (a₁ b₁ : List ℕ) (p₁ c₁ : ℕ) → m ≡ true → r ≡ getD (rowsOf a 11) n [] → x ≡ getD r (i + s - 1) 0 → Leaves p a₁ b₁ p₁ (f a (take p b) x) → length b₁ ≡ length b
+  pub turn-on : (r : List ℕ) (x : ℕ) (a₁ b₁ : List ℕ) (p₁ c₁ : ℕ) → m ≡ true → r ≡ getD (rowsOf a NODE) n [] → x ≡ getD r (i + s - 1) 0 → Leaves p a₁ b₁ p₁ (f a (take p b) x) → length b₁ ≡ length b
       → c₁ ≡ joinOf c (stageAt (take p₁ b₁) (length (take p₁ b₁))) → Turning f n s bt k a₀ b₀ a₁ b₁ p₁ c₁ (i + s)
   unfolding kidsOf
   turn-on r x a₁ b₁ p₁ c₁ h er ex l lb ec =
@@ -101,8 +102,8 @@ module _ (f : Rec) (n s bt k : ℕ) (a₀ b₀ a b : List ℕ) (p c i : ℕ) (g 
         grows = omega (arith, g .grows, l .log .grows);
       }
 
-  pub turn-end : (sheet a′ b′ r : List ℕ) (t e : ℕ) → m ≡ false → r ≡ getD (rowsOf a₀ 11) n [] → k ≡ length r → Room b₀ bt
-      → Leaves bt a′ b′ e (manyAt partial [] t bt n (getD (rowsOf a 11) n []) (record { words = a; log = take p b; join = c })) → Leaves bt a′ b′ e (groupOf partial sheet t s f a₀ (take bt b₀) n)
+  pub turn-end : (sheet a′ b′ r : List ℕ) (t e : ℕ) → m ≡ false → r ≡ getD (rowsOf a₀ NODE) n [] → k ≡ length r → Room b₀ bt
+      → Leaves bt a′ b′ e (manyAt partial [] t bt n (getD (rowsOf a NODE) n []) (record { words = a; log = take p b; join = c })) → Leaves bt a′ b′ e (groupOf partial sheet t s f a₀ (take bt b₀) n)
   unfolding groupOf kidsOf manyAt setOf recOf
   turn-end sheet a′ b′ r t e h er ek room q =
       let over : k < i + s = leb-false (i + s) k (sym em ∙ h) in
@@ -124,7 +125,7 @@ pub run-start : (f : Rec) (n : ℕ) (a b : List ℕ) → 16384 ≤ length b → 
 run-start f n a b h = let e : n - 0 ≡ n = omega arith in record { whole = rw e; room = record { low = omega arith; long = h } }
 
 module _ (f : Rec) (n : ℕ) (a₀ a b : List ℕ) (p i : ℕ) (g : Running f n a₀ a b p i) where
-  pub run-on : (r : List ℕ) (x : ℕ) (a₁ b₁ : List ℕ) (p₁ : ℕ) → i < n → r ≡ getD (rowsOf a 12) i [] → x ≡ getD r 3 0 → Leaves p a₁ b₁ p₁ (f a (take p b) x) → length b₁ ≡ length b → Running f n a₀ a₁ b₁ p₁ (i + 1)
+  pub run-on : (r : List ℕ) (x : ℕ) (a₁ b₁ : List ℕ) (p₁ : ℕ) → i < n → r ≡ getD (rowsOf a POLICY) i [] → x ≡ getD r 3 0 → Leaves p a₁ b₁ p₁ (f a (take p b) x) → length b₁ ≡ length b → Running f n a₀ a₁ b₁ p₁ (i + 1)
   unfolding ranFrom
   run-on r x a₁ b₁ p₁ lt er ex l lb =
       let less : n - i ≡ suc (n - (i + 1)) = omega arith in
@@ -137,9 +138,9 @@ module _ (f : Rec) (n : ℕ) (a₀ a b : List ℕ) (p i : ℕ) (g : Running f n 
         room = record { low = l .log .low; long = omega (arith, lb, g .room .long) };
       }
 
-pub run-end : (sheet : List ℕ) (n : ℕ) (a₀ a b : List ℕ) (p i : ℕ) → Running (interpOf partial sheet 64) n a₀ a b p i → n ≤ i → n ≡ getD a₀ 12 0 → Leaves 0 a b p (ended (runOf partial sheet a₀ []))
+pub run-end : (sheet : List ℕ) (n : ℕ) (a₀ a b : List ℕ) (p i : ℕ) → Running (interpOf partial sheet 64) n a₀ a b p i → n ≤ i → n ≡ getD a₀ POLICY 0 → Leaves 0 a b p (ended (runOf partial sheet a₀ []))
 unfolding runOf ranFrom
 run-end sheet n a₀ a b p i g h e =
     let none : n - i ≡ 0 = omega arith in
-    let all : left a (take p b) ≡ ended (ranFrom (interpOf partial sheet 64) 0 (getD a₀ 12 0) a₀ []) = ap (λ (k : ℕ). ended (ranFrom (interpOf partial sheet 64) i k a (take p b))) (sym none) ∙ g .whole ∙ ap (λ (k : ℕ). ended (ranFrom (interpOf partial sheet 64) 0 k a₀ [])) e in
+    let all : left a (take p b) ≡ ended (ranFrom (interpOf partial sheet 64) 0 (getD a₀ POLICY 0) a₀ []) = ap (λ (k : ℕ). ended (ranFrom (interpOf partial sheet 64) i k a (take p b))) (sym none) ∙ g .whole ∙ ap (λ (k : ℕ). ended (ranFrom (interpOf partial sheet 64) 0 k a₀ [])) e in
     record { words = ap (λ (o : O). o .words) all; log = record { is = ap (λ (o : O). o .log) all; low = g .room .low; grows = omega arith } }

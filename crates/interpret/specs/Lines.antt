@@ -4,11 +4,10 @@ use mathlib.Core.List.{List, [], _∷_}
 use Prim.Native.Nat.{ℕ, zero, suc, _+_, _-_, _/_}
 use lib.Dec.{leb}
 use lib.ListN.{getD, set}
-use Rattle.cedar.specs.Residual.{Class, ctrue, cfalse, cerror, copen}
 use Rattle.cedar.specs.Runs.{NVerdict}
 use Rattle.sheet.specs.Forms.{POLICY}
-use Rattle.sheet.specs.Answer.{root, size}
 use Rattle.residual.specs.Rows.{stageAt, startAt}
+use Rattle.residual.specs.Classes.{classNumber}
 use Rattle.tpe.specs.Run.{classBy}
 
 -- where they stand
@@ -17,12 +16,6 @@ CLASSES = 8192
 
 abbrev pub ROOTS : ℕ
 ROOTS = 8256
-
-abbrev pub classNumber : Class → ℕ
-classNumber ctrue = 0
-classNumber cfalse = 1
-classNumber cerror = 2
-classNumber copen = 3
 
 -- of k policies, the last one first: its block ends at e, and a row has four words
 unfoldable pub linesFrom : List ℕ → ℕ → ℕ → List ℕ → List ℕ
@@ -33,12 +26,8 @@ linesFrom a (suc k) e b = linesFrom a k (startAt b e) (set (set b (CLASSES + k) 
 unfoldable pub linesOf : List ℕ → List ℕ → ℕ → List ℕ
 linesOf a b bt = cond (leb (getD a POLICY 0) 64 && leb bt 16384) (linesFrom a (getD a POLICY 0) bt b) b
 
--- ---- the same of the lines of a run, whose nodes are numbered from n
+-- ---- the classes of the lines of a run
 
 abbrev pub classesOf : List NVerdict → List ℕ
 classesOf [] = []
 classesOf (l ∷ ls) = classNumber (l .class) ∷ classesOf ls
-
-abbrev pub rootsOf : ℕ → List NVerdict → List ℕ
-rootsOf n [] = []
-rootsOf n (l ∷ ls) = root n (l .root) ∷ rootsOf (n + size (l .root)) ls

@@ -3,7 +3,7 @@ use mathlib.Core.Bool.{Bool}
 use mathlib.Core.List.{List, [], _∷_}
 use Prim.Native.Nat.{ℕ, _-_, _/_}
 use lib.ListN.{length, getD}
-use Rattle.sheet.specs.Forms.{Mode, at}
+use Rattle.sheet.specs.Forms.{Mode, at, firstNode}
 use Rattle.tpe.specs.Run.{O, Rec, Ran, left, litStep, errStep, varStep, steps, nodeIn, kidsOf, firstOf, branchOf}
 use Rattle.tpe.specs.Steps.{twoAt, manyAt}
 
@@ -17,11 +17,11 @@ branchIn f start n o = branchOf f start n (at (nodeIn (o .words) n) 0) (at (node
 module _ (m : Mode) (sheet : List ℕ) where
   -- the step by any tag
   unfoldable pub stepBy : ℕ → Rec → List ℕ → List ℕ → ℕ → O
-  stepBy t f a l n = getD (steps m sheet) (t - 21) (errStep m sheet) f a l n (nodeIn a n)
+  stepBy t f a l n = getD (steps m sheet) (t - firstNode) (errStep m sheet) f a l n (nodeIn a n)
 
   -- without operands
   unfoldable pub leafOf : ℕ → List ℕ → List ℕ → ℕ → O
-  leafOf t a l n = getD (litStep m sheet ∷ errStep m sheet ∷ varStep m sheet ∷ []) (t - 21) (errStep m sheet) (λ a l n. left a l) a l n (nodeIn a n)
+  leafOf t a l n = getD (litStep m sheet ∷ errStep m sheet ∷ varStep m sheet ∷ []) (t - firstNode) (errStep m sheet) (λ a l n. left a l) a l n (nodeIn a n)
 
   -- both operands are worked, and the first one ends at mid
   unfoldable pub pairBy : ℕ → ℕ → ℕ → ℕ → O → O

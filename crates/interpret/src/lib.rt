@@ -1,13 +1,26 @@
 // The interpreter of policies, `Evaluator::interpret`: a cycle of calls over the nodes of a tree, of which no more than 64 levels are
-// taken. A node leaves one block more on the log of `b`; what is made joins the values in `a`.
+// taken. A node leaves one block more on the `log`; what is made joins the values in `rows`.
+use forms::AND;
+use forms::EQ;
+use forms::ERR;
+use forms::IF;
+use forms::IS;
+use forms::NODE;
+use forms::OR;
+use forms::POLICY;
+use forms::RECORD_OF;
+use forms::SET_OF;
+use forms::VAR;
+use residual::CLASS_ERROR;
+use residual::CLASS_FALSE;
+use residual::CLASS_OPEN;
+use residual::CLASS_TRUE;
 use residual::Stage;
 use residual::push_error;
 use residual::push_left;
 use residual::push_value;
 use residual::stage_at;
 use residual::start_at;
-use table::NODE;
-use table::POLICY;
 use table::count;
 use table::item;
 use table::row;
@@ -28,19 +41,21 @@ ghost use Prim.Native.Nat.{_+_, _-_, _/_, _≤_, _<_};
 ghost use lib.Dec.{leb};
 ghost use lib.ListN.{getD, length, take};
 ghost use Rattle.words.specs.Log.{Room};
+ghost use Rattle.forms.specs.Tags.{AND, SET-OF};
 ghost use Rattle.sheet.specs.Forms.{partial};
 ghost use Rattle.residual.specs.Rows.{stageAt};
+ghost use Rattle.residual.specs.Classes.{classNumber};
 ghost use Rattle.tpe.specs.Run.{left, sideOf, classOf, joinOf, secondOf, splitOf, interpOf, runOf};
 ghost use Rattle.tpe.specs.Leaves.{Leaves};
 ghost use Rattle.tpe.specs.Classes.{classIn};
 ghost use Rattle.interpret.specs.Sides.{sideIn};
 ghost use Rattle.interpret.specs.Nodes.{stepBy, leafOf, firstIn, branchIn, pairIn, groupOf, ended};
-ghost use Rattle.interpret.specs.Lines.{classNumber, linesOf};
+ghost use Rattle.interpret.specs.Lines.{linesOf};
 
 // The levels of a tree.
 const DEPTH: u32 = 64;
 
-// The words of `b` where the policies' classes and root numbers stand.
+// The words of `log` where the policies' classes and root numbers stand.
 pub const CLASSES: usize = 8192;
 
 pub const ROOTS: usize = 8256;
@@ -53,20 +68,20 @@ pub enum Side {
     Unsure,
 }
 
-// What the last block says, where the bool `z` decides.
-fn side_at(a: &[u32], b: &[u32], bt: usize, z: bool) -> Side
-    requires { ⌜ Room (now b) bt ⌝ }
-    ensures { λ s. ⌜ sideIn s ≡ sideOf z (classOf (now (a .entry)) (take bt (now (b .entry)))) ⌝ }
+// What the last block says, where the bool `stop` decides.
+fn side_at(rows: &[u32], log: &[u32], top: usize, stop: bool) -> Side
+    requires { ⌜ Room (now log) top ⌝ }
+    ensures { λ s. ⌜ sideIn s ≡ sideOf stop (classOf (now (rows .entry)) (take top (now (log .entry)))) ⌝ }
 {
-    match class_at(a, b, bt) {
+    match class_at(rows, log, top) {
         Class::True => {
-            if z {
+            if stop {
                 return Side::Stops;
             }
             Side::Goes
         }
         Class::False => {
-            if z {
+            if stop {
                 return Side::Goes;
             }
             Side::Stops
@@ -77,15 +92,15 @@ fn side_at(a: &[u32], b: &[u32], bt: usize, z: bool) -> Side
 }
 
 // Whether all children so far are values (0), one is an error (1), or else one is open (2), with the last block.
-fn join(b: &[u32], bt: usize, c: u32) -> u32
-    requires { ⌜ Room (now b) bt ⌝ }
-    ensures { λ r. ⌜ r ≡ joinOf c (stageAt (take bt (now (b .entry))) (length (take bt (now (b .entry))))) ⌝ }
+fn join(log: &[u32], top: usize, joined: u32) -> u32
+    requires { ⌜ Room (now log) top ⌝ }
+    ensures { λ r. ⌜ r ≡ joinOf joined (stageAt (take top (now (log .entry))) (length (take top (now (log .entry))))) ⌝ }
 {
-    match stage_at(b, bt) {
-        Stage::Value(_) => c,
+    match stage_at(log, top) {
+        Stage::Value(_) => joined,
         Stage::Error => 1,
         Stage::Open => {
-            if c == 1 {
+            if joined == 1 {
                 return 1;
             }
             2
@@ -93,304 +108,319 @@ fn join(b: &[u32], bt: usize, c: u32) -> u32
     }
 }
 
-// Whether a row of `k` words has `s` more from `i` on.
-fn has_more(k: usize, i: usize, s: usize) -> bool
-    ensures { λ r. ⌜ r ≡ leb (i + s) k ⌝ }
+// Whether a row of `len` words has `step` more from `i` on.
+fn has_more(len: usize, i: usize, step: usize) -> bool
+    ensures { λ r. ⌜ r ≡ leb (i + step) len ⌝ }
 {
-    if k < i {
+    if len < i {
         return false;
     }
-    s <= k - i
+    step <= len - i
 }
 
 // A node without operands: a value, the request's part, or an error.
-fn leaf(a: &mut [u32], b: &mut [u32], bt: usize, n: u32, t: u32) -> usize
-    requires { ⌜ Room (now b) bt ⌝ }
-    ensures { λ e. ⌜ Leaves bt (now (a .exit)) (now (b .exit)) e (leafOf partial [] t (now (a .entry)) (take bt (now (b .entry))) n) ⌝ }
+fn leaf(rows: &mut [u32], log: &mut [u32], top: usize, node: u32, tag: u32) -> usize
+    requires { ⌜ Room (now log) top ⌝ }
+    ensures { λ e. ⌜ Leaves top (now (rows .exit)) (now (log .exit)) e (leafOf partial [] tag (now (rows .entry)) (take top (now (log .entry))) node) ⌝ }
 {
-    let r = row(a, NODE, n);
-    let y = item(r, 1);
-    let x = item(r, 2);
-    if t < 22 {
-        return push_value(b, bt, x, y);
+    let line = row(rows, NODE, node);
+    let ty = item(line, 1);
+    let x = item(line, 2);
+    if tag < ERR {
+        return push_value(log, top, x, ty);
     }
-    if t == 23 {
-        return var(a, b, bt, n, y, x);
+    if tag == VAR {
+        return var(rows, log, top, node, ty, x);
     }
-    push_error(b, bt, y)
+    push_error(log, top, ty)
 }
 
-// Beside an open left side, which ends at `mid`, the right side of node `n` is worked.
+// Beside an open left side, which ends at `mid`, the right side of the node is worked.
 fn beside(
-    a: &mut [u32],
-    b: &mut [u32],
+    rows: &mut [u32],
+    log: &mut [u32],
     start: usize,
     mid: usize,
-    bt: usize,
-    n: u32,
-    z: bool,
-    y: u32,
+    top: usize,
+    node: u32,
+    stop: bool,
+    ty: u32,
 ) -> usize
-    requires { ⌜ Room (now b) bt ⌝ }
-    requires { ⌜ (start ≤ mid) × (mid ≤ bt) ⌝ }
-    ensures { λ e. ⌜ Leaves start (now (a .exit)) (now (b .exit)) e (secondOf z start n y mid (left (now (a .entry)) (take bt (now (b .entry))))) ⌝ }
+    requires { ⌜ Room (now log) top ⌝ }
+    requires { ⌜ (start ≤ mid) × (mid ≤ top) ⌝ }
+    ensures { λ e. ⌜ Leaves start (now (rows .exit)) (now (log .exit)) e (secondOf stop start node ty mid (left (now (rows .entry)) (take top (now (log .entry))))) ⌝ }
 {
-    match side_at(a, b, bt, z) {
-        Side::Stops => decided(a, b, start, mid, bt, n, z, y),
+    match side_at(rows, log, top, stop) {
+        Side::Stops => decided(rows, log, start, mid, top, node, stop, ty),
         Side::Goes => mid,
-        Side::Wrong => push_left(b, start, bt, n, 0, y),
-        Side::Unsure => push_left(b, start, bt, n, 0, y),
+        Side::Wrong => push_left(log, start, top, node, 0, ty),
+        Side::Unsure => push_left(log, start, top, node, 0, ty),
     }
 }
 
 // ---- the cycle of calls
 
-// Node `n`, to `d` levels.
-pub fn interpret(sheet: &[u8], a: &mut [u32], b: &mut [u32], bt: usize, n: u32, d: u32) -> usize
-    requires { ⌜ Room (now b) bt ⌝ }
-    ensures { λ e. ⌜ Leaves bt (now (a .exit)) (now (b .exit)) e (interpOf partial (now (sheet .entry)) d (now (a .entry)) (take bt (now (b .entry))) n) ⌝ }
+// The node, to `depth` levels.
+pub fn interpret(
+    sheet: &[u8],
+    rows: &mut [u32],
+    log: &mut [u32],
+    top: usize,
+    node: u32,
+    depth: u32,
+) -> usize
+    requires { ⌜ Room (now log) top ⌝ }
+    ensures { λ e. ⌜ Leaves top (now (rows .exit)) (now (log .exit)) e (interpOf partial (now (sheet .entry)) depth (now (rows .entry)) (take top (now (log .entry))) node) ⌝ }
 {
-    if d == 0 {
-        return push_error(b, bt, 0);
+    if depth == 0 {
+        return push_error(log, top, 0);
     }
-    let t = tag(row(a, NODE, n));
-    if t < 24 {
-        return leaf(a, b, bt, n, t);
+    let tag = tag(row(rows, NODE, node));
+    if tag < AND {
+        return leaf(rows, log, top, node, tag);
     }
-    if t < 47 {
-        return operation(sheet, a, b, bt, n, t, d - 1);
+    if tag < SET_OF {
+        return operation(sheet, rows, log, top, node, tag, depth - 1);
     }
-    match t {
-        47 => group(sheet, a, b, bt, n, t, 1, d - 1),
-        48 => group(sheet, a, b, bt, n, t, 2, d - 1),
-        _ => leaf(a, b, bt, n, t),
+    match tag {
+        SET_OF => group(sheet, rows, log, top, node, tag, 1, depth - 1),
+        RECORD_OF => group(sheet, rows, log, top, node, tag, 2, depth - 1),
+        _ => leaf(rows, log, top, node, tag),
     }
 }
 
 // An operation of which one operand is always worked, its first.
-fn operation(sheet: &[u8], a: &mut [u32], b: &mut [u32], bt: usize, n: u32, t: u32, d: u32) -> usize
-    requires { ⌜ Room (now b) bt ⌝ }
-    requires { ⌜ (24 ≤ t) × (t < 47) ⌝ }
-    ensures { λ e. ⌜ Leaves bt (now (a .exit)) (now (b .exit)) e (stepBy partial (now (sheet .entry)) t (interpOf partial (now (sheet .entry)) d) (now (a .entry)) (take bt (now (b .entry))) n) ⌝ }
+fn operation(
+    sheet: &[u8],
+    rows: &mut [u32],
+    log: &mut [u32],
+    top: usize,
+    node: u32,
+    tag: u32,
+    depth: u32,
+) -> usize
+    requires { ⌜ Room (now log) top ⌝ }
+    requires { ⌜ (AND ≤ tag) × (tag < SET-OF) ⌝ }
+    ensures { λ e. ⌜ Leaves top (now (rows .exit)) (now (log .exit)) e (stepBy partial (now (sheet .entry)) tag (interpOf partial (now (sheet .entry)) depth) (now (rows .entry)) (take top (now (log .entry))) node) ⌝ }
 {
-    let v = item(row(a, NODE, n), 2);
-    let p = interpret(sheet, a, b, bt, v, d);
-    if t < 26 {
-        return first(sheet, a, b, bt, p, n, t == 25, d);
+    let left = item(row(rows, NODE, node), 2);
+    let end = interpret(sheet, rows, log, top, left, depth);
+    if tag < EQ {
+        return first(sheet, rows, log, top, end, node, tag == OR, depth);
     }
-    if t < 38 {
-        return pair(sheet, a, b, bt, p, n, t, d);
+    if tag < IF {
+        return pair(sheet, rows, log, top, end, node, tag, depth);
     }
-    if t < 39 {
-        return branch(sheet, a, b, bt, p, n, d);
+    if tag < IS {
+        return branch(sheet, rows, log, top, end, node, depth);
     }
-    one(sheet, a, b, bt, p, n, t)
+    one(sheet, rows, log, top, end, node, tag)
 }
 
-// `and` and `or`, where the bool `z` decides: the left side is worked.
+// `and` and `or`, where the bool `stop` decides: the left side is worked.
 fn first(
     sheet: &[u8],
-    a: &mut [u32],
-    b: &mut [u32],
+    rows: &mut [u32],
+    log: &mut [u32],
     start: usize,
-    bt: usize,
-    n: u32,
-    z: bool,
-    d: u32,
+    top: usize,
+    node: u32,
+    stop: bool,
+    depth: u32,
 ) -> usize
-    requires { ⌜ Room (now b) bt ⌝ }
-    requires { ⌜ start ≤ bt ⌝ }
-    ensures { λ e. ⌜ Leaves start (now (a .exit)) (now (b .exit)) e (firstIn z (interpOf partial (now (sheet .entry)) d) start n (left (now (a .entry)) (take bt (now (b .entry))))) ⌝ }
+    requires { ⌜ Room (now log) top ⌝ }
+    requires { ⌜ start ≤ top ⌝ }
+    ensures { λ e. ⌜ Leaves start (now (rows .exit)) (now (log .exit)) e (firstIn stop (interpOf partial (now (sheet .entry)) depth) start node (left (now (rows .entry)) (take top (now (log .entry))))) ⌝ }
 {
-    let r = row(a, NODE, n);
-    let y = item(r, 1);
-    let x = item(r, 3);
-    match side_at(a, b, bt, z) {
-        Side::Stops => give_bool(a, b, start, z, y),
-        Side::Goes => interpret(sheet, a, b, start, x, d),
-        Side::Wrong => push_error(b, start, y),
-        Side::Unsure => second(sheet, a, b, start, bt, n, z, y, x, d),
+    let line = row(rows, NODE, node);
+    let ty = item(line, 1);
+    let right = item(line, 3);
+    match side_at(rows, log, top, stop) {
+        Side::Stops => give_bool(rows, log, start, stop, ty),
+        Side::Goes => interpret(sheet, rows, log, start, right, depth),
+        Side::Wrong => push_error(log, start, ty),
+        Side::Unsure => second(sheet, rows, log, start, top, node, stop, ty, right, depth),
     }
 }
 
-// The same where the left side is open: it ends at `mid`, and the right one, `x`, is worked after it.
+// The same where the left side is open: it ends at `mid`, and the `right` one is worked after it.
 fn second(
     sheet: &[u8],
-    a: &mut [u32],
-    b: &mut [u32],
+    rows: &mut [u32],
+    log: &mut [u32],
     start: usize,
     mid: usize,
-    n: u32,
-    z: bool,
-    y: u32,
-    x: u32,
-    d: u32,
+    node: u32,
+    stop: bool,
+    ty: u32,
+    right: u32,
+    depth: u32,
 ) -> usize
-    requires { ⌜ Room (now b) mid ⌝ }
+    requires { ⌜ Room (now log) mid ⌝ }
     requires { ⌜ start ≤ mid ⌝ }
-    ensures { λ e. ⌜ Leaves start (now (a .exit)) (now (b .exit)) e (secondOf z start n y mid (interpOf partial (now (sheet .entry)) d (now (a .entry)) (take mid (now (b .entry))) x)) ⌝ }
+    ensures { λ e. ⌜ Leaves start (now (rows .exit)) (now (log .exit)) e (secondOf stop start node ty mid (interpOf partial (now (sheet .entry)) depth (now (rows .entry)) (take mid (now (log .entry))) right)) ⌝ }
 {
-    let p = interpret(sheet, a, b, mid, x, d);
-    beside(a, b, start, mid, p, n, z, y)
+    let end = interpret(sheet, rows, log, mid, right, depth);
+    beside(rows, log, start, mid, end, node, stop, ty)
 }
 
 // An operation on two operands: the left one is worked and ends at `mid`.
 fn pair(
     sheet: &[u8],
-    a: &mut [u32],
-    b: &mut [u32],
+    rows: &mut [u32],
+    log: &mut [u32],
     start: usize,
     mid: usize,
-    n: u32,
-    t: u32,
-    d: u32,
+    node: u32,
+    tag: u32,
+    depth: u32,
 ) -> usize
-    requires { ⌜ Room (now b) mid ⌝ }
+    requires { ⌜ Room (now log) mid ⌝ }
     requires { ⌜ start ≤ mid ⌝ }
-    ensures { λ e. ⌜ Leaves start (now (a .exit)) (now (b .exit)) e (pairIn partial (now (sheet .entry)) t (interpOf partial (now (sheet .entry)) d) start n (left (now (a .entry)) (take mid (now (b .entry))))) ⌝ }
+    ensures { λ e. ⌜ Leaves start (now (rows .exit)) (now (log .exit)) e (pairIn partial (now (sheet .entry)) tag (interpOf partial (now (sheet .entry)) depth) start node (left (now (rows .entry)) (take mid (now (log .entry))))) ⌝ }
 {
-    let x = item(row(a, NODE, n), 3);
-    let p = interpret(sheet, a, b, mid, x, d);
-    two(sheet, a, b, start, mid, p, n, t)
+    let right = item(row(rows, NODE, node), 3);
+    let end = interpret(sheet, rows, log, mid, right, depth);
+    two(sheet, rows, log, start, mid, end, node, tag)
 }
 
 // `if`, whose test is worked.
 fn branch(
     sheet: &[u8],
-    a: &mut [u32],
-    b: &mut [u32],
+    rows: &mut [u32],
+    log: &mut [u32],
     start: usize,
-    bt: usize,
-    n: u32,
-    d: u32,
+    top: usize,
+    node: u32,
+    depth: u32,
 ) -> usize
-    requires { ⌜ Room (now b) bt ⌝ }
-    requires { ⌜ start ≤ bt ⌝ }
-    ensures { λ e. ⌜ Leaves start (now (a .exit)) (now (b .exit)) e (branchIn (interpOf partial (now (sheet .entry)) d) start n (left (now (a .entry)) (take bt (now (b .entry))))) ⌝ }
+    requires { ⌜ Room (now log) top ⌝ }
+    requires { ⌜ start ≤ top ⌝ }
+    ensures { λ e. ⌜ Leaves start (now (rows .exit)) (now (log .exit)) e (branchIn (interpOf partial (now (sheet .entry)) depth) start node (left (now (rows .entry)) (take top (now (log .entry))))) ⌝ }
 {
-    let r = row(a, NODE, n);
-    let y = item(r, 1);
-    let x = item(r, 3);
-    let w = item(r, 4);
-    match class_at(a, b, bt) {
-        Class::True => interpret(sheet, a, b, start, x, d),
-        Class::False => interpret(sheet, a, b, start, w, d),
-        Class::Error => push_error(b, start, y),
-        Class::Open => split(sheet, a, b, start, bt, n, y, x, w, d),
+    let line = row(rows, NODE, node);
+    let ty = item(line, 1);
+    let then = item(line, 3);
+    let other = item(line, 4);
+    match class_at(rows, log, top) {
+        Class::True => interpret(sheet, rows, log, start, then, depth),
+        Class::False => interpret(sheet, rows, log, start, other, depth),
+        Class::Error => push_error(log, start, ty),
+        Class::Open => split(sheet, rows, log, start, top, node, ty, then, other, depth),
     }
 }
 
-// The same where the test is open: both branches, `x` and `w`, are worked after it.
+// The same where the test is open: both branches, `then` and `other`, are worked after it.
 fn split(
     sheet: &[u8],
-    a: &mut [u32],
-    b: &mut [u32],
+    rows: &mut [u32],
+    log: &mut [u32],
     start: usize,
-    bt: usize,
-    n: u32,
-    y: u32,
-    x: u32,
-    w: u32,
-    d: u32,
+    top: usize,
+    node: u32,
+    ty: u32,
+    then: u32,
+    other: u32,
+    depth: u32,
 ) -> usize
-    requires { ⌜ Room (now b) bt ⌝ }
-    requires { ⌜ start ≤ bt ⌝ }
-    ensures { λ e. ⌜ Leaves start (now (a .exit)) (now (b .exit)) e (splitOf (interpOf partial (now (sheet .entry)) d) start n y w (interpOf partial (now (sheet .entry)) d (now (a .entry)) (take bt (now (b .entry))) x)) ⌝ }
+    requires { ⌜ Room (now log) top ⌝ }
+    requires { ⌜ start ≤ top ⌝ }
+    ensures { λ e. ⌜ Leaves start (now (rows .exit)) (now (log .exit)) e (splitOf (interpOf partial (now (sheet .entry)) depth) start node ty other (interpOf partial (now (sheet .entry)) depth (now (rows .entry)) (take top (now (log .entry))) then)) ⌝ }
 {
-    let p = interpret(sheet, a, b, bt, x, d);
-    let q = interpret(sheet, a, b, p, w, d);
-    push_left(b, start, q, n, 0, y)
+    let mid = interpret(sheet, rows, log, top, then, depth);
+    let end = interpret(sheet, rows, log, mid, other, depth);
+    push_left(log, start, end, node, 0, ty)
 }
 
-// A set or record: each child is the last of `s` words of its row.
+// A set or record: each child is the last of `step` words of its row.
 fn group(
     sheet: &[u8],
-    a: &mut [u32],
-    b: &mut [u32],
-    bt: usize,
-    n: u32,
-    t: u32,
-    s: usize,
-    d: u32,
+    rows: &mut [u32],
+    log: &mut [u32],
+    top: usize,
+    node: u32,
+    tag: u32,
+    step: usize,
+    depth: u32,
 ) -> usize
-    requires { ⌜ Room (now b) bt ⌝ }
-    requires { ⌜ 0 < s ⌝ }
-    ensures { λ e. ⌜ Leaves bt (now (a .exit)) (now (b .exit)) e (groupOf partial (now (sheet .entry)) t s (interpOf partial (now (sheet .entry)) d) (now (a .entry)) (take bt (now (b .entry))) n) ⌝ }
+    requires { ⌜ Room (now log) top ⌝ }
+    requires { ⌜ 0 < step ⌝ }
+    ensures { λ e. ⌜ Leaves top (now (rows .exit)) (now (log .exit)) e (groupOf partial (now (sheet .entry)) tag step (interpOf partial (now (sheet .entry)) depth) (now (rows .entry)) (take top (now (log .entry))) node) ⌝ }
 {
-    let k = row(a, NODE, n).len();
-    let mut p = bt;
-    let mut c = 0;
+    let len = row(rows, NODE, node).len();
+    let mut end = top;
+    let mut joined = 0;
     let mut i = 2;
-    while has_more(k, i, s) {
-        let x = item(row(a, NODE, n), i + s - 1);
-        p = interpret(sheet, a, b, p, x, d);
-        c = join(b, p, c);
-        i += s;
+    while has_more(len, i, step) {
+        let child = item(row(rows, NODE, node), i + step - 1);
+        end = interpret(sheet, rows, log, end, child, depth);
+        joined = join(log, end, joined);
+        i += step;
     }
-    many(a, b, bt, p, n, t, c)
+    many(rows, log, top, end, node, tag, joined)
 }
 
 // ---- the run
 
 // The policies in order, each over what the ones before it left; the end of the log.
-pub fn run(sheet: &[u8], a: &mut [u32], b: &mut [u32]) -> usize
-    requires { ⌜ (16384 ≤ length (now a)) × (16384 ≤ length (now b)) ⌝ }
-    ensures { λ e. ⌜ Leaves 0 (now (a .exit)) (now (b .exit)) e (ended (runOf partial (now (sheet .entry)) (now (a .entry)) [])) ⌝ }
+pub fn run(sheet: &[u8], rows: &mut [u32], log: &mut [u32]) -> usize
+    requires { ⌜ (16384 ≤ length (now rows)) × (16384 ≤ length (now log)) ⌝ }
+    ensures { λ e. ⌜ Leaves 0 (now (rows .exit)) (now (log .exit)) e (ended (runOf partial (now (sheet .entry)) (now (rows .entry)) [])) ⌝ }
 {
-    let n = count(a, POLICY);
-    let mut p = 0;
+    let most = count(rows, POLICY);
+    let mut end = 0;
     let mut i = 0;
-    while i < n {
-        let x = item(row(a, POLICY, i), 3);
-        p = interpret(sheet, a, b, p, x, DEPTH);
+    while i < most {
+        let root = item(row(rows, POLICY, i), 3);
+        end = interpret(sheet, rows, log, end, root, DEPTH);
         i += 1;
     }
-    p
+    end
 }
 
 // ---- the lines
 
 // The number of a class in its word.
-fn number_of(c: Class) -> u32
-    ensures { λ r. ⌜ r ≡ classNumber (classIn c) ⌝ }
+fn number_of(class: Class) -> u32
+    ensures { λ r. ⌜ r ≡ classNumber (classIn class) ⌝ }
 {
-    match c {
-        Class::True => 0,
-        Class::False => 1,
-        Class::Error => 2,
-        Class::Open => 3,
+    match class {
+        Class::True => CLASS_TRUE,
+        Class::False => CLASS_FALSE,
+        Class::Error => CLASS_ERROR,
+        Class::Open => CLASS_OPEN,
     }
 }
 
-// The number of the row that ends at `e`.
-fn row_number(e: usize) -> u32
-    requires { ⌜ e ≤ 16384 ⌝ }
-    ensures { λ r. ⌜ r ≡ e / 4 - 1 ⌝ }
+// The number of the row that ends at `end`.
+fn row_number(end: usize) -> u32
+    requires { ⌜ end ≤ 16384 ⌝ }
+    ensures { λ r. ⌜ r ≡ end / 4 - 1 ⌝ }
 {
-    if e < 4 {
+    if end < 4 {
         return 0;
     }
-    (e / 4 - 1) as u32
+    (end / 4 - 1) as u32
 }
 
-// The classes and root numbers of the policies, whose blocks end at `bt`.
-pub fn lines(a: &[u32], b: &mut [u32], bt: usize)
-    ensures { λ _. ⌜ now (b .exit) ≡ linesOf (now (a .entry)) (now (b .entry)) bt ⌝ }
+// The classes and root numbers of the policies, whose blocks end at `top`.
+pub fn lines(rows: &[u32], log: &mut [u32], top: usize)
+    ensures { λ _. ⌜ now (log .exit) ≡ linesOf (now (rows .entry)) (now (log .entry)) top ⌝ }
 {
-    let mut k = count(a, POLICY);
+    let mut k = count(rows, POLICY);
     if k > 64 {
         return;
     }
-    if bt > ROOM {
+    if top > ROOM {
         return;
     }
-    let mut e = bt;
+    let mut end = top;
     while k > 0 {
         k -= 1;
-        let c = number_of(class_at(a, b, e));
-        let s = start_at(b, e);
-        put(b, CLASSES + k as usize, c);
-        put(b, ROOTS + k as usize, row_number(e));
-        e = s;
+        let class = number_of(class_at(rows, log, end));
+        let start = start_at(log, end);
+        put(log, CLASSES + k as usize, class);
+        put(log, ROOTS + k as usize, row_number(end));
+        end = start;
     }
 }

@@ -137,7 +137,7 @@ branch-returns : (t : ℕ) → branch-lts.Need-returns (
   truth-of-reads.Asked,
   truth-of-reads.Learnt,
 ) (branch-at t) branch.Post
-branch-returns t c = search (if-other, needs)
+branch-returns t c = search if-other
 
 branch-returns-2 : (t : ℕ) → branch-lts.Need-returns-2 (
   word-of-reads.Asked,
@@ -183,7 +183,7 @@ eval-returns : (t : ℕ) → eval-lts.Need-returns (
   step-below t,
   step.Post,
 ) (eval-at t) eval.Post
-eval-returns t c = search (eval-none, needs)
+eval-returns t c = search eval-none
 
 eval-returns-2 : (t : ℕ) → eval-lts.Need-returns-2 (
   row-reads.Asked,
@@ -193,7 +193,7 @@ eval-returns-2 : (t : ℕ) → eval-lts.Need-returns-2 (
   step-below t,
   step.Post,
 ) (eval-at t) eval.Post
-eval-returns-2 t c = search (eval-step, needs)
+eval-returns-2 t c = search eval-step
 
 kids-returns : (t : ℕ) → kids-lts.Need-returns (
   row-reads.Asked,
@@ -207,7 +207,7 @@ kids-returns : (t : ℕ) → kids-lts.Need-returns (
   kids-below t,
   kids.Post,
 ) (kids-at t) kids.Post
-kids-returns t c = search (kids-none, needs)
+kids-returns t c = search kids-none
 
 kids-returns-2 : (t : ℕ) → kids-lts.Need-returns-2 (
   row-reads.Asked,
@@ -221,7 +221,7 @@ kids-returns-2 : (t : ℕ) → kids-lts.Need-returns-2 (
   kids-below t,
   kids.Post,
 ) (kids-at t) kids.Post
-kids-returns-2 t c = search (kids-end, needs)
+kids-returns-2 t c = search kids-end
 
 kids-returns-3 : (t : ℕ) → kids-lts.Need-returns-3 (
   row-reads.Asked,
@@ -235,7 +235,7 @@ kids-returns-3 : (t : ℕ) → kids-lts.Need-returns-3 (
   kids-below t,
   kids.Post,
 ) (kids-at t) kids.Post
-kids-returns-3 t c = search (kids-error, needs)
+kids-returns-3 t c = search kids-error
 
 kids-kids-requires : (t : ℕ) → kids-lts.Need-kids-requires (
   row-reads.Asked,
@@ -278,7 +278,7 @@ kids-returns-4 t c =
     let c₇ = c₆ .before in
     let c₈ = c₇ .before .before in
     let c₉ = c₈ .before .before .before .before in
-    kids-more _ _ _ _ _ _ _ _ _ (c₉ .pre .1 .0) (c₈ .if1 .left) _ (c₇ .row .ensures) (c₆ .if2 .left) _ (c₅ .word-of .ensures) _ _ _ (c₄ .eval .ensures) (c₄ .eval .kept .1 .1 .0) _ _ _ (c₃ .v .given .1) (c₂ .push-value .ensures) _ _ _ (c₁ .kids .ensures)
+    kids-more _ _ _ _ _ _ _ _ _ (c₉ .pre .1 .0) (c₈ .if1 .left) _ (c₇ .row .ensures) (c₆ .if2 .left) _ (c₅ .word-of .ensures) _ _ _ (c₄ .eval .ensures) (c₄ .eval .kept .1 .1 .0) _ _ _ (c₃ .value .given .1) (c₂ .push-value .ensures) _ _ _ (c₁ .kids .ensures)
 
 lazy-returns : (t : ℕ) → lazy-lts.Need-returns (
   word-of-reads.Asked,
@@ -294,7 +294,7 @@ lazy-returns : (t : ℕ) → lazy-lts.Need-returns (
   only-bool-reads.Asked,
   only-bool-reads.Learnt,
 ) (lazy-at t) lazy.Post
-lazy-returns t c = search (lazy-other, needs)
+lazy-returns t c = search lazy-other
 
 lazy-returns-2 : (t : ℕ) → lazy-lts.Need-returns-2 (
   word-of-reads.Asked,
@@ -310,7 +310,7 @@ lazy-returns-2 : (t : ℕ) → lazy-lts.Need-returns-2 (
   only-bool-reads.Asked,
   only-bool-reads.Learnt,
 ) (lazy-at t) lazy.Post
-lazy-returns-2 t c = search (lazy-made, needs)
+lazy-returns-2 t c = search lazy-made
 
 lazy-returns-3 : (t : ℕ) → lazy-lts.Need-returns-3 (
   word-of-reads.Asked,
@@ -345,7 +345,7 @@ one-returns : (t : ℕ) → one-lts.Need-returns (
   apply-one-reads.Asked,
   apply-one-reads.Learnt,
 ) (one-at t) one.Post
-one-returns t c = search (one-error, needs)
+one-returns t c = search one-error
 
 one-returns-2 : (t : ℕ) → one-lts.Need-returns-2 (
   word-of-reads.Asked,
@@ -355,7 +355,7 @@ one-returns-2 : (t : ℕ) → one-lts.Need-returns-2 (
   apply-one-reads.Asked,
   apply-one-reads.Learnt,
 ) (one-at t) one.Post
-one-returns-2 t c = search (one-on, needs)
+one-returns-2 t c = search one-on
 
 record-make-record-requires : (t : ℕ) → record-lts.Need-make-record-requires (
   kids-below t,
@@ -371,7 +371,7 @@ record-returns : (t : ℕ) → record-lts.Need-returns (
   make-record-reads.Asked,
   make-record-reads.Learnt,
 ) (record-at t) record.Post
-record-returns t c = search (record-made, needs)
+record-returns t c = search record-made
 
 record-returns-2 : (t : ℕ) → record-lts.Need-returns-2 (
   kids-below t,
@@ -379,7 +379,7 @@ record-returns-2 : (t : ℕ) → record-lts.Need-returns-2 (
   make-record-reads.Asked,
   make-record-reads.Learnt,
 ) (record-at t) record.Post
-record-returns-2 t c = search (record-error, needs)
+record-returns-2 t c = search record-error
 
 set-make-set-requires : (t : ℕ) → set-lts.Need-make-set-requires (
   kids-below t,
@@ -395,7 +395,7 @@ set-returns : (t : ℕ) → set-lts.Need-returns (
   make-set-reads.Asked,
   make-set-reads.Learnt,
 ) (set-at t) set.Post
-set-returns t c = search (set-made, needs)
+set-returns t c = search set-made
 
 set-returns-2 : (t : ℕ) → set-lts.Need-returns-2 (
   kids-below t,
@@ -403,7 +403,7 @@ set-returns-2 : (t : ℕ) → set-lts.Need-returns-2 (
   make-set-reads.Asked,
   make-set-reads.Learnt,
 ) (set-at t) set.Post
-set-returns-2 t c = search (set-error, needs)
+set-returns-2 t c = search set-error
 
 step-returns : (t : ℕ) → step-lts.Need-returns (
   word-of-reads.Asked,
@@ -423,7 +423,7 @@ step-returns : (t : ℕ) → step-lts.Need-returns (
   one-below t,
   one.Post,
 ) (step-at t) step.Post
-step-returns t c = search (step-lit, needs)
+step-returns t c = search step-lit
 
 step-returns-2 : (t : ℕ) → step-lts.Need-returns-2 (
   word-of-reads.Asked,
@@ -443,7 +443,7 @@ step-returns-2 : (t : ℕ) → step-lts.Need-returns-2 (
   one-below t,
   one.Post,
 ) (step-at t) step.Post
-step-returns-2 t c = search (step-two, needs)
+step-returns-2 t c = search step-two
 
 step-returns-3 : (t : ℕ) → step-lts.Need-returns-3 (
   word-of-reads.Asked,
@@ -463,7 +463,7 @@ step-returns-3 : (t : ℕ) → step-lts.Need-returns-3 (
   one-below t,
   one.Post,
 ) (step-at t) step.Post
-step-returns-3 t c = search (step-one, needs)
+step-returns-3 t c = search step-one
 
 step-returns-4 : (t : ℕ) → step-lts.Need-returns-4 (
   word-of-reads.Asked,
@@ -483,7 +483,7 @@ step-returns-4 : (t : ℕ) → step-lts.Need-returns-4 (
   one-below t,
   one.Post,
 ) (step-at t) step.Post
-step-returns-4 t c = search (step-err, needs)
+step-returns-4 t c = search step-err
 
 step-returns-5 : (t : ℕ) → step-lts.Need-returns-5 (
   word-of-reads.Asked,
@@ -503,7 +503,7 @@ step-returns-5 : (t : ℕ) → step-lts.Need-returns-5 (
   one-below t,
   one.Post,
 ) (step-at t) step.Post
-step-returns-5 t c = search (step-var, needs)
+step-returns-5 t c = search step-var
 
 step-returns-6 : (t : ℕ) → step-lts.Need-returns-6 (
   word-of-reads.Asked,
@@ -523,7 +523,7 @@ step-returns-6 : (t : ℕ) → step-lts.Need-returns-6 (
   one-below t,
   one.Post,
 ) (step-at t) step.Post
-step-returns-6 t c = search (step-and, needs)
+step-returns-6 t c = search step-and
 
 step-returns-7 : (t : ℕ) → step-lts.Need-returns-7 (
   word-of-reads.Asked,
@@ -543,7 +543,7 @@ step-returns-7 : (t : ℕ) → step-lts.Need-returns-7 (
   one-below t,
   one.Post,
 ) (step-at t) step.Post
-step-returns-7 t c = search (step-or, needs)
+step-returns-7 t c = search step-or
 
 step-returns-8 : (t : ℕ) → step-lts.Need-returns-8 (
   word-of-reads.Asked,
@@ -563,7 +563,7 @@ step-returns-8 : (t : ℕ) → step-lts.Need-returns-8 (
   one-below t,
   one.Post,
 ) (step-at t) step.Post
-step-returns-8 t c = search (step-if, needs)
+step-returns-8 t c = search step-if
 
 step-returns-9 : (t : ℕ) → step-lts.Need-returns-9 (
   word-of-reads.Asked,
@@ -583,7 +583,7 @@ step-returns-9 : (t : ℕ) → step-lts.Need-returns-9 (
   one-below t,
   one.Post,
 ) (step-at t) step.Post
-step-returns-9 t c = search (step-set, needs)
+step-returns-9 t c = search step-set
 
 step-returns-10 : (t : ℕ) → step-lts.Need-returns-10 (
   word-of-reads.Asked,
@@ -603,7 +603,7 @@ step-returns-10 : (t : ℕ) → step-lts.Need-returns-10 (
   one-below t,
   one.Post,
 ) (step-at t) step.Post
-step-returns-10 t c = search (step-record, needs)
+step-returns-10 t c = search step-record
 
 step-returns-11 : (t : ℕ) → step-lts.Need-returns-11 (
   word-of-reads.Asked,
@@ -623,7 +623,7 @@ step-returns-11 : (t : ℕ) → step-lts.Need-returns-11 (
   one-below t,
   one.Post,
 ) (step-at t) step.Post
-step-returns-11 t c = search (step-past, needs)
+step-returns-11 t c = search step-past
 
 two-returns : (t : ℕ) → two-lts.Need-returns (
   word-of-reads.Asked,
@@ -633,7 +633,7 @@ two-returns : (t : ℕ) → two-lts.Need-returns (
   apply-two-reads.Asked,
   apply-two-reads.Learnt,
 ) (two-at t) two.Post
-two-returns t c = search (two-error, needs)
+two-returns t c = search two-error
 
 two-returns-2 : (t : ℕ) → two-lts.Need-returns-2 (
   word-of-reads.Asked,
@@ -649,7 +649,7 @@ two-returns-2 t c =
     let c₃ = c₂ .before .before .before .before .before .before .before in
     let c₄ = c₃ .before in
     let c₅ = c₄ .before .before .before .before in
-    search (two-right, c .enum-told2 .given, c₁ .eval2 .ensures, c₂ .known-told .given, c₃ .eval .ensures, c₄ .word-of2 .ensures, c₅ .word-of .ensures, needs)
+    search (two-right, c .enum-told2 .given, c₁ .eval2 .ensures, c₃ .eval .ensures, c₄ .word-of2 .ensures, c₅ .word-of .ensures)
 
 two-returns-3 : (t : ℕ) → two-lts.Need-returns-3 (
   word-of-reads.Asked,
@@ -667,7 +667,7 @@ two-returns-3 t c =
     let c₅ = c₄ .before .before .before .before .before .before .before in
     let c₆ = c₅ .before in
     let c₇ = c₆ .before .before .before .before in
-    search (two-on, c₁ .apply-two .ensures, c₂ .known-told2 .given, c₃ .eval2 .ensures, c₄ .known-told .given, c₅ .eval .ensures, c₆ .word-of2 .ensures, c₇ .word-of .ensures, needs)
+    search (two-on, c₁ .apply-two .ensures, c₃ .eval2 .ensures, c₅ .eval .ensures, c₆ .word-of2 .ensures, c₇ .word-of .ensures)
 
 pub +branch+eval+kids+lazy+one+record+set+step+two-spec : {M : Type 1} → statement M
 +branch+eval+kids+lazy+one+record+set+step+two-spec =

@@ -5,7 +5,7 @@ use Rattle.evaluator.proofs.apply_two.Statement.{statement}
 use Rattle.evaluator.proofs.apply_two.Tie as tie
 
 returns : tie.Need-returns
-returns c = search (settle-as, needs)
+returns c = search settle-as
 
 pub apply-two-spec : {M : Type 1} → statement M
 apply-two-spec = tie.close (tie.spec (λ c κs. search needs) (λ c κs. search needs) (λ c. search needs) returns)

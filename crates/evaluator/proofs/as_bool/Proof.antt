@@ -5,10 +5,10 @@ use Rattle.evaluator.proofs.as_bool.Statement.{statement}
 use Rattle.evaluator.proofs.as_bool.Tie as tie
 
 returns : tie.Need-returns
-returns c = search (truth-other, needs)
+returns c = search truth-other
 
 returns-2 : tie.Need-returns-2
-returns-2 c = search (truth-is, needs)
+returns-2 c = search truth-is
 
 pub as-bool-spec : {M : Type 1} → statement M
 as-bool-spec =

@@ -5,16 +5,16 @@ use Rattle.evaluator.proofs.class_of.Statement.{statement}
 use Rattle.evaluator.proofs.class_of.Tie as tie
 
 returns : tie.Need-returns
-returns c = search (class-error, needs)
+returns c = search class-error
 
 returns-2 : tie.Need-returns-2
-returns-2 c = search (class-open, needs)
+returns-2 c = search class-open
 
 returns-3 : tie.Need-returns-3
-returns-3 c = search (class-true, needs)
+returns-3 c = search class-true
 
 returns-4 : tie.Need-returns-4
-returns-4 c = search (class-false, needs)
+returns-4 c = search class-false
 
 pub class-of-spec : {M : Type 1} → statement M
 class-of-spec =

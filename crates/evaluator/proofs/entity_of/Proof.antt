@@ -5,10 +5,10 @@ use Rattle.evaluator.proofs.entity_of.Statement.{statement}
 use Rattle.evaluator.proofs.entity_of.Tie as tie
 
 returns : tie.Need-returns
-returns c = search (entity-unknown, needs)
+returns c = search entity-unknown
 
 returns-2 : tie.Need-returns-2
-returns-2 c = search (entity-made, needs)
+returns-2 c = search entity-made
 
 pub entity-of-spec : {M : Type 1} → statement M
 entity-of-spec =

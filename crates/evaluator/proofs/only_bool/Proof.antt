@@ -5,13 +5,13 @@ use Rattle.evaluator.proofs.only_bool.Statement.{statement}
 use Rattle.evaluator.proofs.only_bool.Tie as tie
 
 returns : tie.Need-returns
-returns c = search (only-error, needs)
+returns c = search only-error
 
 returns-2 : tie.Need-returns-2
-returns-2 c = search (only-is, needs)
+returns-2 c = search only-is
 
 returns-3 : tie.Need-returns-3
-returns-3 c = search (only-other, needs)
+returns-3 c = search only-other
 
 pub only-bool-spec : {M : Type 1} → statement M
 only-bool-spec =

@@ -8,10 +8,10 @@ use Rattle.evaluator.proofs.run.Statement.{statement}
 use Rattle.evaluator.proofs.run.Tie as tie
 
 abbrev Inv-loop : tie.InvT-loop
-Inv-loop sheet a₀ b₀ most bt₀ i₀ a b bt i = Running sheet a₀ most a b bt i × (length a ≡ length a₀) × (length b ≡ length b₀)
+Inv-loop sheet rows₀ log₀ most end₀ i₀ rows log end i = Running sheet rows₀ most rows log end i × (length rows ≡ length rows₀) × (length log ≡ length log₀)
 
 abbrev μ-loop : tie.MeasureT-loop
-μ-loop sheet a₀ b₀ most bt₀ i₀ a b bt i = most - i
+μ-loop sheet rows₀ log₀ most end₀ i₀ rows log end i = most - i
 
 loop-holds : tie.Need-loop-holds Inv-loop μ-loop
 loop-holds c = (search (run-start, needs), search needs, search needs)
@@ -28,7 +28,7 @@ loop-again c =
     (run-more _ _ _ _ _ _ _ (c₇ .loop .inv .0) _ _ _ _ _ _ _ _ (c₆ .loop-test .taken) (c₅ .row .ensures) (c₄ .item .ensures) (c₃ .eval .ensures) (c₃ .eval .kept .1 .1 .0) (c₂ .class-of .ensures) (c₁ .push .ensures), search needs, c₁ .push .kept .0 ∙ c₃ .eval .kept .1 .1 .0 ∙ c₇ .loop .inv .2)
 
 returns : tie.Need-returns Inv-loop μ-loop
-returns c = search (run-end, needs)
+returns c = search run-end
 
 pub run-spec : {M : Type 1} → statement M
 run-spec =

@@ -5,19 +5,19 @@ use Rattle.evaluator.proofs.settle.Statement.{statement}
 use Rattle.evaluator.proofs.settle.Tie as tie
 
 returns : tie.Need-returns
-returns c = search (settle-bool, needs)
+returns c = search settle-bool
 
 returns-2 : tie.Need-returns-2
-returns-2 c = search (settle-long, needs)
+returns-2 c = search settle-long
 
 returns-3 : tie.Need-returns-3
-returns-3 c = search (settle-old, needs)
+returns-3 c = search settle-old
 
 returns-4 : tie.Need-returns-4
-returns-4 c = search (settle-fails, needs)
+returns-4 c = search settle-fails
 
 returns-5 : tie.Need-returns-5
-returns-5 c = search (settle-stays, needs)
+returns-5 c = search settle-stays
 
 pub settle-spec : {M : Type 1} → statement M
 settle-spec =

@@ -5,10 +5,10 @@ use Rattle.evaluator.proofs.truth_of.Statement.{statement}
 use Rattle.evaluator.proofs.truth_of.Tie as tie
 
 returns : tie.Need-returns
-returns c = search (truth-error, needs)
+returns c = search truth-error
 
 returns-2 : tie.Need-returns-2
-returns-2 c = search (truth-value, needs)
+returns-2 c = search truth-value
 
 pub truth-of-spec : {M : Type 1} → statement M
 truth-of-spec = tie.close (tie.spec (λ c. search needs) (λ c. search needs) returns (λ c κs. search needs) returns-2)

@@ -268,10 +268,11 @@ first-returns-4 : (t : ℕ) → first-lts.Need-returns-4 (
 first-returns-4 t c = search first-unsure
 
 abbrev group-Inv-loop : group-lts.InvT-loop
-group-Inv-loop sheet a₀ b₀ bt n t s d k p₀ c₀ i₀ a b p c i = Turning (interpOf partial sheet d) n s bt k a₀ b₀ a b p c i × ((length a ≡ length a₀) × (length b ≡ length b₀))
+group-Inv-loop sheet rows₀ log₀ top node tag step depth len end₀ joined₀ i₀ rows log end joined i =
+    Turning (interpOf partial sheet depth) node step top len rows₀ log₀ rows log end joined i × ((length rows ≡ length rows₀) × (length log ≡ length log₀))
 
 abbrev group-μ-loop : group-lts.MeasureT-loop
-group-μ-loop sheet a₀ b₀ bt n t s d k p₀ c₀ i₀ a b p c i = k - i
+group-μ-loop sheet rows₀ log₀ top node tag step depth len end₀ joined₀ i₀ rows log end joined i = len - i
 
 group-loop-holds : (t : ℕ) → group-lts.Need-loop-holds (
   row-reads.Asked,

@@ -5,16 +5,16 @@ use Rattle.interpret.proofs.beside.Statement.{statement}
 use Rattle.interpret.proofs.beside.Tie as tie
 
 returns : tie.Need-returns
-returns c = search (beside-stops, needs)
+returns c = search beside-stops
 
 returns-2 : tie.Need-returns-2
-returns-2 c = search (beside-goes, needs)
+returns-2 c = search beside-goes
 
 returns-3 : tie.Need-returns-3
-returns-3 c = search (beside-wrong, needs)
+returns-3 c = search beside-wrong
 
 returns-4 : tie.Need-returns-4
-returns-4 c = search (beside-unsure, needs)
+returns-4 c = search beside-unsure
 
 pub beside-spec : {M : Type 1} → statement M
 beside-spec =

@@ -5,16 +5,16 @@ use Rattle.interpret.proofs.join.Statement.{statement}
 use Rattle.interpret.proofs.join.Tie as tie
 
 returns : tie.Need-returns
-returns c = search (join-open-error, needs)
+returns c = search join-open-error
 
 returns-2 : tie.Need-returns-2
-returns-2 c = search (join-value, needs)
+returns-2 c = search join-value
 
 returns-3 : tie.Need-returns-3
-returns-3 c = search (join-error, needs)
+returns-3 c = search join-error
 
 returns-4 : tie.Need-returns-4
-returns-4 c = search (join-open, needs)
+returns-4 c = search join-open
 
 pub join-spec : {M : Type 1} → statement M
 join-spec =

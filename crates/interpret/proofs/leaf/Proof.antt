@@ -5,13 +5,13 @@ use Rattle.interpret.proofs.leaf.Statement.{statement}
 use Rattle.interpret.proofs.leaf.Tie as tie
 
 returns : tie.Need-returns
-returns c = search (leaf-value, needs)
+returns c = search leaf-value
 
 returns-2 : tie.Need-returns-2
-returns-2 c = search (leaf-var, needs)
+returns-2 c = search leaf-var
 
 returns-3 : tie.Need-returns-3
-returns-3 c = search (leaf-error, needs)
+returns-3 c = search leaf-error
 
 pub leaf-spec : {M : Type 1} → statement M
 leaf-spec =

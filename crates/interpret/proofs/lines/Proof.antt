@@ -7,10 +7,10 @@ use Rattle.interpret.proofs.lines.Statement.{statement}
 use Rattle.interpret.proofs.lines.Tie as tie
 
 abbrev Inv-loop : tie.InvT-loop
-Inv-loop a b₀ bt k₀ e₀ b k e = Noting a b₀ b bt k e × (length b ≡ length b₀)
+Inv-loop rows log₀ top k₀ end₀ log k end = Noting rows log₀ log top k end × (length log ≡ length log₀)
 
 abbrev μ-loop : tie.MeasureT-loop
-μ-loop a b₀ bt k₀ e₀ b k e = k
+μ-loop rows log₀ top k₀ end₀ log k end = k
 
 returns : tie.Need-returns Inv-loop μ-loop
 returns c = search many-policies

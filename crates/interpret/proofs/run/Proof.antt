@@ -10,10 +10,10 @@ use Rattle.interpret.proofs.run.Statement.{statement}
 use Rattle.interpret.proofs.run.Tie as tie
 
 abbrev Inv-loop : tie.InvT-loop
-Inv-loop sheet a₀ b₀ n p₀ i₀ a b p i = Running (interpOf partial sheet 64) n a₀ a b p i × ((length a ≡ length a₀) × (length b ≡ length b₀))
+Inv-loop sheet rows₀ log₀ most end₀ i₀ rows log end i = Running (interpOf partial sheet 64) most rows₀ rows log end i × ((length rows ≡ length rows₀) × (length log ≡ length log₀))
 
 abbrev μ-loop : tie.MeasureT-loop
-μ-loop sheet a₀ b₀ n p₀ i₀ a b p i = n - i
+μ-loop sheet rows₀ log₀ most end₀ i₀ rows log end i = most - i
 
 loop-holds : tie.Need-loop-holds Inv-loop μ-loop
 loop-holds c = (search (run-start, needs), search needs)

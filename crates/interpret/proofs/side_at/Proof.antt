@@ -5,22 +5,22 @@ use Rattle.interpret.proofs.side_at.Statement.{statement}
 use Rattle.interpret.proofs.side_at.Tie as tie
 
 returns : tie.Need-returns
-returns c = search (side-true-stops, needs)
+returns c = search side-true-stops
 
 returns-2 : tie.Need-returns-2
-returns-2 c = search (side-false-goes, needs)
+returns-2 c = search side-false-goes
 
 returns-3 : tie.Need-returns-3
-returns-3 c = search (side-true-goes, needs)
+returns-3 c = search side-true-goes
 
 returns-4 : tie.Need-returns-4
-returns-4 c = search (side-false-stops, needs)
+returns-4 c = search side-false-stops
 
 returns-5 : tie.Need-returns-5
-returns-5 c = search (side-wrong, needs)
+returns-5 c = search side-wrong
 
 returns-6 : tie.Need-returns-6
-returns-6 c = search (side-unsure, needs)
+returns-6 c = search side-unsure
 
 pub side-at-spec : {M : Type 1} → statement M
 side-at-spec =

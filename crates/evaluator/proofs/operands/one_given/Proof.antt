@@ -5,28 +5,28 @@ use Rattle.evaluator.proofs.operands.one_given.Statement.{statement}
 use Rattle.evaluator.proofs.operands.one_given.Tie as tie
 
 returns : tie.Need-returns
-returns c = search (one-is, needs)
+returns c = search one-is
 
 returns-2 : tie.Need-returns-2
-returns-2 c = search (one-like, needs)
+returns-2 c = search one-like
 
 returns-3 : tie.Need-returns-3
-returns-3 c = search (one-get, needs)
+returns-3 c = search one-get
 
 returns-4 : tie.Need-returns-4
-returns-4 c = search (one-has, needs)
+returns-4 c = search one-has
 
 returns-5 : tie.Need-returns-5
-returns-5 c = search (one-path, needs)
+returns-5 c = search one-path
 
 returns-6 : tie.Need-returns-6
-returns-6 c = search (one-not, needs)
+returns-6 c = search one-not
 
 returns-7 : tie.Need-returns-7
-returns-7 c = search (one-neg, needs)
+returns-7 c = search one-neg
 
 returns-8 : tie.Need-returns-8
-returns-8 c = search (one-empty, needs)
+returns-8 c = search one-empty
 
 pub one-given-spec : {M : Type 1} → statement M
 one-given-spec =

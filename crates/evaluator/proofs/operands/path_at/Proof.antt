@@ -5,16 +5,16 @@ use Rattle.evaluator.proofs.operands.path_at.Statement.{statement}
 use Rattle.evaluator.proofs.operands.path_at.Tie as tie
 
 returns : tie.Need-returns
-returns c = search (path-none, needs)
+returns c = search path-none
 
 returns-2 : tie.Need-returns-2
-returns-2 c = search (path-holds, needs)
+returns-2 c = search path-holds
 
 returns-3 : tie.Need-returns-3
-returns-3 c = search (path-fails, needs)
+returns-3 c = search path-fails
 
 returns-4 : tie.Need-returns-4
-returns-4 c = search (path-left, needs)
+returns-4 c = search path-left
 
 pub path-at-spec : {M : Type 1} → statement M
 path-at-spec =

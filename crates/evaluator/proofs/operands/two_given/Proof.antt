@@ -5,28 +5,28 @@ use Rattle.evaluator.proofs.operands.two_given.Statement.{statement}
 use Rattle.evaluator.proofs.operands.two_given.Tie as tie
 
 returns : tie.Need-returns
-returns c = search (two-eq, needs)
+returns c = search two-eq
 
 returns-2 : tie.Need-returns-2
-returns-2 c = search (two-in, needs)
+returns-2 c = search two-in
 
 returns-3 : tie.Need-returns-3
-returns-3 c = search (two-gettag, needs)
+returns-3 c = search two-gettag
 
 returns-4 : tie.Need-returns-4
-returns-4 c = search (two-hastag, needs)
+returns-4 c = search two-hastag
 
 returns-5 : tie.Need-returns-5
-returns-5 c = search (two-contains, needs)
+returns-5 c = search two-contains
 
 returns-6 : tie.Need-returns-6
-returns-6 c = search (two-all, needs)
+returns-6 c = search two-all
 
 returns-7 : tie.Need-returns-7
-returns-7 c = search (two-any, needs)
+returns-7 c = search two-any
 
 returns-8 : tie.Need-returns-8
-returns-8 c = search (two-arith, needs)
+returns-8 c = search two-arith
 
 pub two-given-spec : {M : Type 1} → statement M
 two-given-spec =
