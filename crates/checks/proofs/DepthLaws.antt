@@ -1,21 +1,25 @@
 -- Depths of lines, as the code finds them. Assumes nothing.
 use mathlib.Core.Path.{_≡_, refl, sym, ap, ap₂, subst, _∙_}
-use mathlib.Core.Bool.{Bool, true, false, cond, not}
-use mathlib.Core.List.{List, []}
-use Prim.Native.Nat.{ℕ, zero, suc, _+_, _*_, _%_, _≤_, _<_, max}
+use mathlib.Core.Bool.{Bool, true, false, cond, not, _||_}
+use mathlib.Core.List.{List, [], _∷_}
+use Prim.Native.Nat.{ℕ, suc, _+_, _%_, _≤_, _<_, max}
 use native.Mathlib.Numerals.{add-one}
 use native.Mathlib.Omega.{arith}
-use native.Mathlib.Decide.{ℕ-discrete}
-use borrow.Author.Tests.{eq-eqb, ne-eqb, ltb-true}
+use native.Mathlib.Decide.{ℕ-discrete, decLt}
+use borrow.Author.Tests.{eqb-true, eq-eqb, ne-eqb, ltb-true}
 use lib.Dec.{ltb, eqb}
 use lib.ListN.{length, getD, drop, length-take, length-replicate, getD-replicate, List·getD-eq-default}
 use lib.Seq.{getD-take, getD-drop}
-use Rattle.sheet.specs.Forms.{Slot, entry, line, lineOr, lineUnknown, word, number, nothing, slotAt, tag, items, isLine, keep, refsFrom, refs}
+use Rattle.sheet.specs.Forms.{Slot, entry, line, lineOr, lineUnknown, word, number, nothing, slotAt, tag, items, isLine, keep, refsFrom, refs, noKey, TYPE, VALUE, NODE, POLICY}
 use Rattle.sheet.specs.State.{State, depthsOf}
 use Rattle.sheet.specs.Sheet.{allThere, deepest, depth}
-use Rattle.table.specs.Layout.{held, ones, depthsAt}
-use Rattle.table.proofs.Held.{depthBase, depthBases, depthsIn, depths-of}
-use Rattle.forms.specs.Rows.{code as codeOf}
+use Rattle.table.specs.Layout.{TYPEDEPTHS, VALUEDEPTHS, NODEDEPTHS, held, ones, depthsAt}
+use Rattle.table.proofs.Held.{depthBase, depthBases, no-depths, depthsIn, depths-of}
+use Rattle.cedar.specs.Numbered.{memN}
+use Rattle.sheet.proofs.Parsed.{allBelow, all-below}
+use Rattle.forms.proofs.Tests.{other}
+use Rattle.forms.specs.Rows.{NONE, NUMBER, ENTRY, LINE, UNKNOWN, OF-TYPE, OF-VALUE, OF-NODE, code as codeOf}
+use Rattle.forms.specs.Tags.{LIT, AND, IF}
 use Rattle.checks.specs.Codes.{keyIn, formCode, againCode, codesAfter, codesAt}
 use Rattle.checks.specs.Depths.{ThereAs, thereDepth, OnTwo, OnNone}
 use Rattle.checks.proofs.FormTable.{code-at, node-type, node-first, node-second, leaf-value, leaf-other}
@@ -37,60 +41,59 @@ module _ (a b : List ℕ) (k n m d : ℕ) (hm : m ≡ getD a k 0) (h : n < m) wh
   depth-word : (i : ℕ) → depthBase k ≡ i → (i ≡ 0 → ⊥) → d ≡ getD b (i + n) 0 → d ≡ getD (depthsIn a b k) n 0
   depth-word i e z hd = hd ∙ sym (rw (e, ne-eqb i 0 z, getD-take (getD a k 0) (drop i b) n 0 (omega arith)) (getD-drop i b n 0))
 
-  pub depth-type : k ≡ 3 → d ≡ getD b (4096 + n) 0 → d ≡ getD (depthsIn a b k) n 0
+  pub depth-type : k ≡ TYPE → d ≡ getD b (TYPEDEPTHS + n) 0 → d ≡ getD (depthsIn a b k) n 0
   unfolding depthBase depthBases
-  depth-type e hd = depth-word 4096 (ap depthBase e) (λ q. absurd (omega arith)) hd
+  depth-type e hd = depth-word TYPEDEPTHS (ap depthBase e) (λ q. absurd (omega arith)) hd
 
-  pub depth-value : k ≡ 5 → d ≡ getD b (4224 + n) 0 → d ≡ getD (depthsIn a b k) n 0
+  pub depth-value : k ≡ VALUE → d ≡ getD b (VALUEDEPTHS + n) 0 → d ≡ getD (depthsIn a b k) n 0
   unfolding depthBase depthBases
-  depth-value e hd = depth-word 4224 (ap depthBase e) (λ q. absurd (omega arith)) hd
+  depth-value e hd = depth-word VALUEDEPTHS (ap depthBase e) (λ q. absurd (omega arith)) hd
 
-  pub depth-node : k ≡ 11 → d ≡ getD b (5248 + n) 0 → d ≡ getD (depthsIn a b k) n 0
+  pub depth-node : k ≡ NODE → d ≡ getD b (NODEDEPTHS + n) 0 → d ≡ getD (depthsIn a b k) n 0
   unfolding depthBase depthBases
-  depth-node e hd = depth-word 5248 (ap depthBase e) (λ q. absurd (omega arith)) hd
+  depth-node e hd = depth-word NODEDEPTHS (ap depthBase e) (λ q. absurd (omega arith)) hd
 
-pub no-base : (k : ℕ) → (k ≡ 3 → ⊥) → (k ≡ 5 → ⊥) → (k ≡ 11 → ⊥) → depthBase k ≡ 0
+based : allBelow (λ (i : ℕ). memN i (TYPE ∷ VALUE ∷ NODE ∷ []) || eqb (depthBase i) 0) noKey ≡ true
 unfolding depthBase depthBases
-no-base zero x y z = refl
-no-base (suc zero) x y z = refl
-no-base (suc (suc zero)) x y z = refl
-no-base (suc (suc (suc zero))) x y z = absurd (x refl)
-no-base (suc (suc (suc (suc zero)))) x y z = refl
-no-base (suc (suc (suc (suc (suc zero))))) x y z = absurd (y refl)
-no-base (suc (suc (suc (suc (suc (suc zero)))))) x y z = refl
-no-base (suc (suc (suc (suc (suc (suc (suc zero))))))) x y z = refl
-no-base (suc (suc (suc (suc (suc (suc (suc (suc zero)))))))) x y z = refl
-no-base (suc (suc (suc (suc (suc (suc (suc (suc (suc zero))))))))) x y z = refl
-no-base (suc (suc (suc (suc (suc (suc (suc (suc (suc (suc zero)))))))))) x y z = refl
-no-base (suc (suc (suc (suc (suc (suc (suc (suc (suc (suc (suc zero))))))))))) x y z = absurd (z refl)
-no-base (suc (suc (suc (suc (suc (suc (suc (suc (suc (suc (suc (suc zero)))))))))))) x y z = refl
-no-base (suc (suc (suc (suc (suc (suc (suc (suc (suc (suc (suc (suc (suc k))))))))))))) x y z = refl
+based = refl
 
-pub depth-leaf : (a b : List ℕ) (k n m : ℕ) → m ≡ getD a k 0 → n < m → (k ≡ 3 → ⊥) → (k ≡ 5 → ⊥) → (k ≡ 11 → ⊥) → 1 ≡ getD (depthsIn a b k) n 0
+pub no-base : (k : ℕ) → (k ≡ TYPE → ⊥) → (k ≡ VALUE → ⊥) → (k ≡ NODE → ⊥) → depthBase k ≡ 0
+no-base k x y z = go (decLt k noKey)
+  where
+    none-there : memN k (TYPE ∷ VALUE ∷ NODE ∷ []) ≡ false
+    none-there = rw (ne-eqb k TYPE x, ne-eqb k VALUE y, ne-eqb k NODE z) refl
+
+    go : Dec (k < noKey) → depthBase k ≡ 0
+    go (yes h) =
+        eqb-true (depthBase k) 0
+        (other (memN k (TYPE ∷ VALUE ∷ NODE ∷ [])) (eqb (depthBase k) 0) none-there (all-below (λ (i : ℕ). memN i (TYPE ∷ VALUE ∷ NODE ∷ []) || eqb (depthBase i) 0) noKey k based h))
+    go (no h) = no-depths k (omega arith)
+
+pub depth-leaf : (a b : List ℕ) (k n m : ℕ) → m ≡ getD a k 0 → n < m → (k ≡ TYPE → ⊥) → (k ≡ VALUE → ⊥) → (k ≡ NODE → ⊥) → 1 ≡ getD (depthsIn a b k) n 0
 depth-leaf a b k n m hm h x y z = sym (rw (no-base k x y z) (getD-replicate (getD a k 0) n 1 0 (omega arith)))
 
 -- ---- the lines that a row refers to
 
-pub line-code : (k : ℕ) → k < 16 → (s : Slot) → isLine k s ≡ eqb (codeOf s) (16 + k)
+pub line-code : (k : ℕ) → k < LINE → (s : Slot) → isLine k s ≡ eqb (codeOf s) (LINE + k)
 unfolding codeOf
-line-code k b entry = sym (ne-eqb 2 (16 + k) (λ q. absurd (omega arith)))
+line-code k b entry = sym (ne-eqb ENTRY (LINE + k) (λ q. absurd (omega arith)))
 line-code k b (line l) = go (ℕ-discrete k l)
   where
-    go : Dec (k ≡ l) → eqb k l ≡ eqb (16 + l) (16 + k)
-    go (yes d) = eq-eqb k l d ∙ sym (eq-eqb (16 + l) (16 + k) (omega arith))
-    go (no d) = ne-eqb k l d ∙ sym (ne-eqb (16 + l) (16 + k) (λ q. d (omega arith)))
-line-code k b (lineOr m l) = sym (ne-eqb (codeOf (lineOr m l)) (16 + k) (λ q. absurd (omega (arith, q, mark-high m l))))
-line-code k b (lineUnknown l) = sym (ne-eqb (32 + l) (16 + k) (λ q. absurd (omega arith)))
-line-code k b (word ws) = sym (ne-eqb (codeOf (word ws)) (16 + k) (λ q. absurd (omega (arith, q, words-low ws))))
-line-code k b number = sym (ne-eqb 1 (16 + k) (λ q. absurd (omega arith)))
-line-code k b nothing = sym (ne-eqb 0 (16 + k) (λ q. absurd (omega arith)))
+    go : Dec (k ≡ l) → eqb k l ≡ eqb (LINE + l) (LINE + k)
+    go (yes d) = eq-eqb k l d ∙ sym (eq-eqb (LINE + l) (LINE + k) (omega arith))
+    go (no d) = ne-eqb k l d ∙ sym (ne-eqb (LINE + l) (LINE + k) (λ q. d (omega arith)))
+line-code k b (lineOr m l) = sym (ne-eqb (codeOf (lineOr m l)) (LINE + k) (λ q. absurd (omega (arith, q, mark-high m l))))
+line-code k b (lineUnknown l) = sym (ne-eqb (UNKNOWN + l) (LINE + k) (λ q. absurd (omega arith)))
+line-code k b (word ws) = sym (ne-eqb (codeOf (word ws)) (LINE + k) (λ q. absurd (omega (arith, q, words-low ws))))
+line-code k b number = sym (ne-eqb NUMBER (LINE + k) (λ q. absurd (omega arith)))
+line-code k b nothing = sym (ne-eqb NONE (LINE + k) (λ q. absurd (omega arith)))
 
-pub refs-at : (k : ℕ) → k < 16 → (r : List ℕ) (j t x c : ℕ) → t ≡ tag r → j + 1 < length r → x ≡ getD r (j + 1) 0 → (c ≡ codeOf (slotAt t j)) × (keyIn (slotAt t j) ≤ 12)
-    → refsFrom k (tag r) j (drop (suc j) r) ≡ keep (eqb c (16 + k)) x (refsFrom k (tag r) (suc j) (drop (suc (suc j)) r))
+pub refs-at : (k : ℕ) → k < LINE → (r : List ℕ) (j t x c : ℕ) → t ≡ tag r → j + 1 < length r → x ≡ getD r (j + 1) 0 → (c ≡ codeOf (slotAt t j)) × (keyIn (slotAt t j) ≤ POLICY)
+    → refsFrom k (tag r) j (drop (suc j) r) ≡ keep (eqb c (LINE + k)) x (refsFrom k (tag r) (suc j) (drop (suc (suc j)) r))
 refs-at k low r j t x c ht h hx hc =
     ap (refsFrom k (tag r) j) (item-at r j x h hx)
     ∙ ap (λ (y : Bool). keep y x (refsFrom k (tag r) (suc j) (drop (suc (suc j)) r)))
-    (ap (λ (y : ℕ). isLine k (slotAt y j)) (sym ht) ∙ line-code k low (slotAt t j) ∙ ap (λ (y : ℕ). eqb y (16 + k)) (sym (hc .0)))
+    (ap (λ (y : ℕ). isLine k (slotAt y j)) (sym ht) ∙ line-code k low (slotAt t j) ∙ ap (λ (y : ℕ). eqb y (LINE + k)) (sym (hc .0)))
 
 deepest-keep : (s : State) (k x : ℕ) (v : Bool) (l : List ℕ) → deepest s k (keep v x l) ≡ max (cond v (getD (depthsOf s k) x 0) 0) (deepest s k l)
 deepest-keep s k x true l = refl
@@ -105,15 +108,15 @@ pub deep-start : (a b : List ℕ) (k : ℕ) (r : List ℕ) → Deep a b k r 0 0
 unfolding refs
 deep-start a b k r = record { left = omega arith; near = omega arith; low = omega arith }
 
-module _ (a b : List ℕ) (k : ℕ) (r : List ℕ) (j d : ℕ) (i : Deep a b k r j d) (low : k < 13) where
-  pub deep-on : (t x c y d′ : ℕ) → t ≡ tag r → j + 1 < length r → x ≡ getD r (j + 1) 0 → (c ≡ codeOf (slotAt t j)) × (keyIn (slotAt t j) ≤ 12)
-      → y ≡ cond (eqb c (16 + k)) (getD (depthsIn a b k) x 0) 0 → d′ ≡ max d y → y < 4294967296 → Deep a b k r (j + 1) d′
+module _ (a b : List ℕ) (k : ℕ) (r : List ℕ) (j d : ℕ) (i : Deep a b k r j d) (low : k < noKey) where
+  pub deep-on : (t x c y d′ : ℕ) → t ≡ tag r → j + 1 < length r → x ≡ getD r (j + 1) 0 → (c ≡ codeOf (slotAt t j)) × (keyIn (slotAt t j) ≤ POLICY)
+      → y ≡ cond (eqb c (LINE + k)) (getD (depthsIn a b k) x 0) 0 → d′ ≡ max d y → y < 4294967296 → Deep a b k r (j + 1) d′
   deep-on t x c y d′ ht h hx hc hy hd small =
       let e : deepest (held [] a b) k (refsFrom k (tag r) j (drop (suc j) r)) ≡ max y (deepest (held [] a b) k (refsFrom k (tag r) (suc j) (drop (suc (suc j)) r))) =
       ap (deepest (held [] a b) k) (refs-at k (omega arith) r j t x c ht h hx hc)
-      ∙ deepest-keep (held [] a b) k x (eqb c (16 + k)) (refsFrom k (tag r) (suc j) (drop (suc (suc j)) r))
+      ∙ deepest-keep (held [] a b) k x (eqb c (LINE + k)) (refsFrom k (tag r) (suc j) (drop (suc (suc j)) r))
       ∙ ap (λ (z : ℕ). max z (deepest (held [] a b) k (refsFrom k (tag r) (suc j) (drop (suc (suc j)) r))))
-      (ap (λ (l : List ℕ). cond (eqb c (16 + k)) (getD l x 0) 0) (depths-of [] a b k low) ∙ sym hy) in
+      (ap (λ (l : List ℕ). cond (eqb c (LINE + k)) (getD l x 0) 0) (depths-of [] a b k low) ∙ sym hy) in
       subst (λ (n : ℕ). Deep a b k r n d′) (sym (add-one j)) (record { left = omega (arith, e, i .left); near = omega arith; low = omega (arith, i .low) })
 
   pub deep-end : length r ≤ j + 1 → d + 1 ≡ depth (held [] a b) k r
@@ -122,11 +125,11 @@ module _ (a b : List ℕ) (k : ℕ) (r : List ℕ) (j d : ℕ) (i : Deep a b k r
       let e : deepest (held [] a b) k (refsFrom k (tag r) j (drop (suc j) r)) ≡ 0 = ap (λ (l : List ℕ). deepest (held [] a b) k (refsFrom k (tag r) j l)) (items-end r j h) in
       omega (arith, e, i .left)
 
-pub from-other : (a b : List ℕ) (k c x : ℕ) → (c ≡ 16 + k → ⊥) → 0 ≡ cond (eqb c (16 + k)) (getD (depthsIn a b k) x 0) 0
-from-other a b k c x n = sym (rw (ne-eqb c (16 + k) n) refl)
+pub from-other : (a b : List ℕ) (k c x : ℕ) → (c ≡ LINE + k → ⊥) → 0 ≡ cond (eqb c (LINE + k)) (getD (depthsIn a b k) x 0) 0
+from-other a b k c x n = sym (rw (ne-eqb c (LINE + k) n) refl)
 
-pub from-line : (a b : List ℕ) (k c x d : ℕ) → c ≡ 16 + k → d ≡ getD (depthsIn a b k) x 0 → d ≡ cond (eqb c (16 + k)) (getD (depthsIn a b k) x 0) 0
-from-line a b k c x d e h = h ∙ sym (rw (eq-eqb c (16 + k) e) refl)
+pub from-line : (a b : List ℕ) (k c x d : ℕ) → c ≡ LINE + k → d ≡ getD (depthsIn a b k) x 0 → d ≡ cond (eqb c (LINE + k)) (getD (depthsIn a b k) x 0) 0
+from-line a b k c x d e h = h ∙ sym (rw (eq-eqb c (LINE + k) e) refl)
 
 -- ---- all of a row's items
 
@@ -148,15 +151,15 @@ absent-depth : (a b : List ℕ) (k : ℕ) (r : List ℕ) → false ≡ allThere 
 unfolding thereDepth
 absent-depth a b k r e = rw (← e) refl
 
-module _ (a b : List ℕ) (k : ℕ) (r : List ℕ) (w d j : ℕ) (i : Walk a b k r w d j) (low : k < 13) where
+module _ (a b : List ℕ) (k : ℕ) (r : List ℕ) (w d j : ℕ) (i : Walk a b k r w d j) (low : k < noKey) where
   module _ (t x c : ℕ) (v : Bool) (ht : t ≡ tag r) (h : j + 1 < length r) (hc : c ≡ w % 256) (hx : x ≡ getD r (j + 1) 0) (hv : ThereAs a c x v) where
-    code-here : (c ≡ codeOf (slotAt t j)) × (keyIn (slotAt t j) ≤ 12)
+    code-here : (c ≡ codeOf (slotAt t j)) × (keyIn (slotAt t j) ≤ POLICY)
     code-here = code-at t j w c (i .codes ∙ ap (λ (y : ℕ). codesAt y j) (sym ht)) hc
 
     pub walk-off : not v ≡ true → 0 ≡ thereDepth a b k r
     walk-off n = absent-depth a b k r (there-off a r j (i .there) t x v ht h hx (hv .is (slotAt t j) code-here) n)
 
-    pub walk-on : not v ≡ false → (y d′ again w′ : ℕ) → y ≡ cond (eqb c (16 + k)) (getD (depthsIn a b k) x 0) 0 → d′ ≡ max d y → y < 4294967296 → again ≡ againCode t → w′ ≡ codesAfter again w → w′ < 4294967296
+    pub walk-on : not v ≡ false → (y d′ again w′ : ℕ) → y ≡ cond (eqb c (LINE + k)) (getD (depthsIn a b k) x 0) 0 → d′ ≡ max d y → y < 4294967296 → again ≡ againCode t → w′ ≡ codesAfter again w → w′ < 4294967296
         → Walk a b k r w′ d′ (j + 1)
     unfolding codesAt
     walk-on n y d′ again w′ hy hd small ha hw low′ =
@@ -172,23 +175,23 @@ module _ (a b : List ℕ) (k : ℕ) (r : List ℕ) (w d j : ℕ) (i : Walk a b k
 
 -- ---- a node's type
 
-module _ (a b r : List ℕ) (long : 1 < length r) (code : (19 ≡ codeOf (slotAt (tag r) 0)) × (keyIn (slotAt (tag r) 0) ≤ 12)) (x m : ℕ) (hx : x ≡ getD r 1 0) (hm : m ≡ getD a 3 0) where
-  type-absent : m ≤ x → 0 ≡ thereDepth a b 11 r
-  type-absent l = absent-depth a b 11 r (there-off a r 0 (there-start a r) (tag r) x false refl long hx (ref-out a 19 x m (omega arith) hm l (omega arith) .is (slotAt (tag r) 0) code) refl)
+module _ (a b r : List ℕ) (long : 1 < length r) (code : (OF-TYPE ≡ codeOf (slotAt (tag r) 0)) × (keyIn (slotAt (tag r) 0) ≤ POLICY)) (x m : ℕ) (hx : x ≡ getD r 1 0) (hm : m ≡ getD a TYPE 0) where
+  type-absent : m ≤ x → 0 ≡ thereDepth a b NODE r
+  type-absent l = absent-depth a b NODE r (there-off a r 0 (there-start a r) (tag r) x false refl long hx (ref-out a OF-TYPE x m (omega arith) hm l (omega arith) .is (slotAt (tag r) 0) code) refl)
 
   type-there : x < m → There a r 1
-  type-there l = there-on a r 0 (there-start a r) (tag r) x true refl long hx (ref-in a 19 x m (omega arith) hm l .is (slotAt (tag r) 0) code) refl
+  type-there l = there-on a r 0 (there-start a r) (tag r) x true refl long hx (ref-in a OF-TYPE x m (omega arith) hm l .is (slotAt (tag r) 0) code) refl
 
-  type-deep : Deep a b 11 r 1 0
-  type-deep = deep-on a b 11 r 0 0 (deep-start a b 11 r) (omega arith) (tag r) x 19 0 0 refl long hx code refl (omega arith) (omega arith)
+  type-deep : Deep a b NODE r 1 0
+  type-deep = deep-on a b NODE r 0 0 (deep-start a b NODE r) (omega arith) (tag r) x OF-TYPE 0 0 refl long hx code refl (omega arith) (omega arith)
 
 -- ---- a node that works on none
 
-module _ (a r : List ℕ) (leaf : OnNone r) (x m : ℕ) (hx : x ≡ getD r 1 0) (hm : m ≡ getD a 3 0) where
-  leaf-type : (19 ≡ codeOf (slotAt (tag r) 0)) × (keyIn (slotAt (tag r) 0) ≤ 12)
+module _ (a r : List ℕ) (leaf : OnNone r) (x m : ℕ) (hx : x ≡ getD r 1 0) (hm : m ≡ getD a TYPE 0) where
+  leaf-type : (OF-TYPE ≡ codeOf (slotAt (tag r) 0)) × (keyIn (slotAt (tag r) 0) ≤ POLICY)
   leaf-type = node-type (tag r) 0 (leaf .low, omega (arith, leaf .high)) refl
 
-  pub leaf-untyped : m ≤ x → (b : List ℕ) → 0 ≡ thereDepth a b 11 r
+  pub leaf-untyped : m ≤ x → (b : List ℕ) → 0 ≡ thereDepth a b NODE r
   leaf-untyped l b = type-absent a b r (omega (arith, leaf .long)) leaf-type x m hx hm l
 
   module _ (lx : x < m) (t : ℕ) (ht : t ≡ tag r) where
@@ -196,75 +199,75 @@ module _ (a r : List ℕ) (leaf : OnNone r) (x m : ℕ) (hx : x ≡ getD r 1 0) 
     there₁ = type-there a [] r (omega (arith, leaf .long)) leaf-type x m hx hm lx
 
     -- the second item is there, and no node
-    leaf-end : (c : ℕ) → (c ≡ codeOf (slotAt (tag r) 1)) × (keyIn (slotAt (tag r) 1) ≤ 12) → eqb c 27 ≡ false → ThereAs a c (getD r 2 0) true → (b : List ℕ) → 1 ≡ thereDepth a b 11 r
+    leaf-end : (c : ℕ) → (c ≡ codeOf (slotAt (tag r) 1)) × (keyIn (slotAt (tag r) 1) ≤ POLICY) → eqb c OF-NODE ≡ false → ThereAs a c (getD r 2 0) true → (b : List ℕ) → 1 ≡ thereDepth a b NODE r
     leaf-end c hc e v b =
-        let deep₂ : Deep a b 11 r 2 0 = deep-on a b 11 r 1 0 (type-deep a b r (omega (arith, leaf .long)) leaf-type x m hx hm) (omega arith) (tag r) (getD r 2 0) c 0 0 refl (omega (arith, leaf .long)) refl hc (sym (rw e refl)) (omega arith) (omega arith) in
+        let deep₂ : Deep a b NODE r 2 0 = deep-on a b NODE r 1 0 (type-deep a b r (omega (arith, leaf .long)) leaf-type x m hx hm) (omega arith) (tag r) (getD r 2 0) c 0 0 refl (omega (arith, leaf .long)) refl hc (sym (rw e refl)) (omega arith) (omega arith) in
         let there₂ : There a r 2 = there-on a r 1 there₁ (tag r) (getD r 2 0) true refl (omega (arith, leaf .long)) refl (v .is (slotAt (tag r) 1) hc) refl in
-        there-depth a b 11 r 1 (there-end a r 2 there₂ (omega (arith, leaf .long))) (deep-end a b 11 r 2 0 deep₂ (omega arith) (omega (arith, leaf .long)))
+        there-depth a b NODE r 1 (there-end a r 2 there₂ (omega (arith, leaf .long))) (deep-end a b NODE r 2 0 deep₂ (omega arith) (omega (arith, leaf .long)))
 
-    pub leaf-whole : (t ≡ 21 → ⊥) → (b : List ℕ) → 1 ≡ thereDepth a b 11 r
+    pub leaf-whole : (t ≡ LIT → ⊥) → (b : List ℕ) → 1 ≡ thereDepth a b NODE r
     leaf-whole n =
         let o = leaf-other (tag r) 1 (omega (arith, leaf .low, ht)) (leaf .high) in
         let c = codeOf (slotAt (tag r) 1) in
-        leaf-end c (refl, o .1) (ne-eqb c 27 (λ q. absurd (omega (arith, q, o .0)))) (ref-none a c (getD r 2 0) (o .0))
+        leaf-end c (refl, o .1) (ne-eqb c OF-NODE (λ q. absurd (omega (arith, q, o .0)))) (ref-none a c (getD r 2 0) (o .0))
 
-    module _ (e : t ≡ 21) (y n : ℕ) (hy : y ≡ getD r 2 0) (hn : n ≡ getD a 5 0) where
-      value-code : (21 ≡ codeOf (slotAt (tag r) 1)) × (keyIn (slotAt (tag r) 1) ≤ 12)
+    module _ (e : t ≡ LIT) (y n : ℕ) (hy : y ≡ getD r 2 0) (hn : n ≡ getD a VALUE 0) where
+      value-code : (OF-VALUE ≡ codeOf (slotAt (tag r) 1)) × (keyIn (slotAt (tag r) 1) ≤ POLICY)
       value-code = leaf-value (tag r) 1 (sym ht ∙ e) refl
 
-      pub value-absent : n ≤ y → (b : List ℕ) → 0 ≡ thereDepth a b 11 r
-      value-absent l b = absent-depth a b 11 r (there-off a r 1 there₁ (tag r) y false refl (omega (arith, leaf .long)) hy (ref-out a 21 y n (omega arith) hn l (omega arith) .is (slotAt (tag r) 1) value-code) refl)
+      pub value-absent : n ≤ y → (b : List ℕ) → 0 ≡ thereDepth a b NODE r
+      value-absent l b = absent-depth a b NODE r (there-off a r 1 there₁ (tag r) y false refl (omega (arith, leaf .long)) hy (ref-out a OF-VALUE y n (omega arith) hn l (omega arith) .is (slotAt (tag r) 1) value-code) refl)
 
-      pub value-there : y < n → (b : List ℕ) → 1 ≡ thereDepth a b 11 r
-      value-there l = leaf-end 21 value-code refl (rw (← hy) (ref-in a 21 y n (omega arith) hn l))
+      pub value-there : y < n → (b : List ℕ) → 1 ≡ thereDepth a b NODE r
+      value-there l = leaf-end OF-VALUE value-code refl (rw (← hy) (ref-in a OF-VALUE y n (omega arith) hn l))
 
-pub leaf-row : (r : List ℕ) (t : ℕ) → length r ≡ 3 → t ≡ tag r → 21 ≤ t → ltb t 24 ≡ true → OnNone r
-leaf-row r t l h low high = record { long = l; low = omega arith; high = omega (arith, ltb-true t 24 high) }
+pub leaf-row : (r : List ℕ) (t : ℕ) → length r ≡ 3 → t ≡ tag r → LIT ≤ t → ltb t AND ≡ true → OnNone r
+leaf-row r t l h low high = record { long = l; low = omega arith; high = omega (arith, ltb-true t AND high) }
 
 -- ---- a node that works on two
 
 module _ (a b r : List ℕ) (two : OnTwo r) where
-  pub on-type : (19 ≡ codeOf (slotAt (tag r) 0)) × (keyIn (slotAt (tag r) 0) ≤ 12)
+  pub on-type : (OF-TYPE ≡ codeOf (slotAt (tag r) 0)) × (keyIn (slotAt (tag r) 0) ≤ POLICY)
   on-type = node-type (tag r) 0 (omega (arith, two .low), omega (arith, two .high)) refl
 
-  pub on-first : (27 ≡ codeOf (slotAt (tag r) 1)) × (keyIn (slotAt (tag r) 1) ≤ 12)
+  pub on-first : (OF-NODE ≡ codeOf (slotAt (tag r) 1)) × (keyIn (slotAt (tag r) 1) ≤ POLICY)
   on-first = node-first (tag r) 1 (omega (arith, two .low), omega (arith, two .high)) (two .low) refl
 
-  pub on-second : (27 ≡ codeOf (slotAt (tag r) 2)) × (keyIn (slotAt (tag r) 2) ≤ 12)
+  pub on-second : (OF-NODE ≡ codeOf (slotAt (tag r) 2)) × (keyIn (slotAt (tag r) 2) ≤ POLICY)
   on-second = node-second (tag r) 2 (two .low) (omega (arith, two .high)) refl
 
-  module _ (x m : ℕ) (hx : x ≡ getD r 1 0) (hm : m ≡ getD a 3 0) where
-    pub two-untyped : m ≤ x → 0 ≡ thereDepth a b 11 r
+  module _ (x m : ℕ) (hx : x ≡ getD r 1 0) (hm : m ≡ getD a TYPE 0) where
+    pub two-untyped : m ≤ x → 0 ≡ thereDepth a b NODE r
     two-untyped = type-absent a b r (omega (arith, two .long)) on-type x m hx hm
 
-    module _ (lx : x < m) (y n : ℕ) (hy : y ≡ getD r 2 0) (hn : n ≡ getD a 11 0) where
+    module _ (lx : x < m) (y n : ℕ) (hy : y ≡ getD r 2 0) (hn : n ≡ getD a NODE 0) where
       two₁ : There a r 1
       two₁ = type-there a b r (omega (arith, two .long)) on-type x m hx hm lx
 
-      deep₁ : Deep a b 11 r 1 0
+      deep₁ : Deep a b NODE r 1 0
       deep₁ = type-deep a b r (omega (arith, two .long)) on-type x m hx hm
 
-      pub two-first : n ≤ y → 0 ≡ thereDepth a b 11 r
-      two-first l = absent-depth a b 11 r (there-off a r 1 two₁ (tag r) y false refl (omega (arith, two .long)) hy (ref-out a 27 y n (omega arith) hn l (omega arith) .is (slotAt (tag r) 1) on-first) refl)
+      pub two-first : n ≤ y → 0 ≡ thereDepth a b NODE r
+      two-first l = absent-depth a b NODE r (there-off a r 1 two₁ (tag r) y false refl (omega (arith, two .long)) hy (ref-out a OF-NODE y n (omega arith) hn l (omega arith) .is (slotAt (tag r) 1) on-first) refl)
 
       module _ (ly : y < n) (z : ℕ) (hz : z ≡ getD r 3 0) where
         two₂ : There a r 2
-        two₂ = there-on a r 1 two₁ (tag r) y true refl (omega (arith, two .long)) hy (ref-in a 27 y n (omega arith) hn ly .is (slotAt (tag r) 1) on-first) refl
+        two₂ = there-on a r 1 two₁ (tag r) y true refl (omega (arith, two .long)) hy (ref-in a OF-NODE y n (omega arith) hn ly .is (slotAt (tag r) 1) on-first) refl
 
-        pub two-second : n ≤ z → 0 ≡ thereDepth a b 11 r
-        two-second l = absent-depth a b 11 r (there-off a r 2 two₂ (tag r) z false refl (omega (arith, two .long)) hz (ref-out a 27 z n (omega arith) hn l (omega arith) .is (slotAt (tag r) 2) on-second) refl)
+        pub two-second : n ≤ z → 0 ≡ thereDepth a b NODE r
+        two-second l = absent-depth a b NODE r (there-off a r 2 two₂ (tag r) z false refl (omega (arith, two .long)) hz (ref-out a OF-NODE z n (omega arith) hn l (omega arith) .is (slotAt (tag r) 2) on-second) refl)
 
-        pub two-deep : z < n → (d e m′ : ℕ) → d ≡ getD b (5248 + y) 0 → e ≡ getD b (5248 + z) 0 → m′ ≡ max d e → d < 4294967296 → e < 4294967296 → m′ + 1 ≡ thereDepth a b 11 r
+        pub two-deep : z < n → (d e m′ : ℕ) → d ≡ getD b (NODEDEPTHS + y) 0 → e ≡ getD b (NODEDEPTHS + z) 0 → m′ ≡ max d e → d < 4294967296 → e < 4294967296 → m′ + 1 ≡ thereDepth a b NODE r
         two-deep lz d e m′ hd he hm′ sd se =
-            let u : d ≡ getD (depthsIn a b 11) y 0 = depth-node a b 11 y n d hn ly refl hd in
-            let v : e ≡ getD (depthsIn a b 11) z 0 = depth-node a b 11 z n e hn lz refl he in
-            let deep₂ : Deep a b 11 r 2 d = deep-on a b 11 r 1 0 deep₁ (omega arith) (tag r) y 27 d d refl (omega (arith, two .long)) hy on-first u (omega arith) sd in
-            let deep₃ : Deep a b 11 r 3 m′ = deep-on a b 11 r 2 d deep₂ (omega arith) (tag r) z 27 e m′ refl (omega (arith, two .long)) hz on-second v hm′ se in
-            let there₃ : There a r 3 = there-on a r 2 two₂ (tag r) z true refl (omega (arith, two .long)) hz (ref-in a 27 z n (omega arith) hn lz .is (slotAt (tag r) 2) on-second) refl in
-            there-depth a b 11 r (m′ + 1) (there-end a r 3 there₃ (omega (arith, two .long))) (deep-end a b 11 r 3 m′ deep₃ (omega arith) (omega (arith, two .long)))
+            let u : d ≡ getD (depthsIn a b NODE) y 0 = depth-node a b NODE y n d hn ly refl hd in
+            let v : e ≡ getD (depthsIn a b NODE) z 0 = depth-node a b NODE z n e hn lz refl he in
+            let deep₂ : Deep a b NODE r 2 d = deep-on a b NODE r 1 0 deep₁ (omega arith) (tag r) y OF-NODE d d refl (omega (arith, two .long)) hy on-first u (omega arith) sd in
+            let deep₃ : Deep a b NODE r 3 m′ = deep-on a b NODE r 2 d deep₂ (omega arith) (tag r) z OF-NODE e m′ refl (omega (arith, two .long)) hz on-second v hm′ se in
+            let there₃ : There a r 3 = there-on a r 2 two₂ (tag r) z true refl (omega (arith, two .long)) hz (ref-in a OF-NODE z n (omega arith) hn lz .is (slotAt (tag r) 2) on-second) refl in
+            there-depth a b NODE r (m′ + 1) (there-end a r 3 there₃ (omega (arith, two .long))) (deep-end a b NODE r 3 m′ deep₃ (omega arith) (omega (arith, two .long)))
 
-pub two-row : (r : List ℕ) (t : ℕ) → length r ≡ 4 → t ≡ tag r → 24 ≤ t → ltb t 38 ≡ true → OnTwo r
-two-row r t l h low high = record { long = l; low = omega arith; high = omega (arith, ltb-true t 38 high) }
+pub two-row : (r : List ℕ) (t : ℕ) → length r ≡ 4 → t ≡ tag r → AND ≤ t → ltb t IF ≡ true → OnTwo r
+two-row r t l h low high = record { long = l; low = omega arith; high = omega (arith, ltb-true t IF high) }
 
-pub as-node : (a b r : List ℕ) (k d : ℕ) → k ≡ 11 → d ≡ thereDepth a b 11 r → d ≡ thereDepth a b k r
+pub as-node : (a b r : List ℕ) (k d : ℕ) → k ≡ NODE → d ≡ thereDepth a b NODE r → d ≡ thereDepth a b k r
 as-node a b r k d e h = h ∙ ap (λ (x : ℕ). thereDepth a b x r) (sym e)

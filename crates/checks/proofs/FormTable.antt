@@ -1,5 +1,5 @@
 -- The code's table of forms is the definition's. Assumes nothing.
-use mathlib.Core.Path.{_≡_, refl, sym, ap, ap₂, _∙_}
+use mathlib.Core.Path.{_≡_, refl, sym, ap, _∙_}
 use mathlib.Core.Bool.{Bool, true, false, cond, not, _&&_, and-eq-true-iff}
 use mathlib.Core.List.{List, [], _∷_}
 use Prim.Native.Nat.{ℕ, zero, suc, _+_, _-_, _*_, _/_, _%_, _^_, _≤_, _<_}
@@ -7,12 +7,14 @@ use native.Mathlib.Omega.{arith}
 use native.Mathlib.Decide.{decLt}
 use borrow.Author.Tests.{leb-true, eqb-true, eq-eqb, ne-eqb, le-ltb}
 use lib.Dec.{leb, eqb}
-use lib.ListN.{length, getD, List·getD-eq-default}
-use Rattle.sheet.specs.Forms.{Slot, nothing, Form, forms, formOf, noForm, slotIn, slotAt}
+use lib.ListN.{length, getD}
+use Rattle.sheet.specs.Forms.{Slot, line, nothing, Form, forms, formOf, noForm, slotIn, slotAt, noTag, TYPE, POLICY}
 use Rattle.sheet.proofs.Parsed.{allBelow, all-below}
 use Rattle.forms.specs.declared.Form as F
-use Rattle.forms.specs.Rows.{code as codeOf, coded, Packed}
-use Rattle.table.proofs.Counts.{group-small, both-small, ranged, NoneOf}
+use Rattle.forms.specs.Rows.{LINE, EFFECT, OF-TYPE, OF-VALUE, OF-NODE, code as codeOf, coded, Packed}
+use Rattle.forms.specs.Tags.{LIT, ERR, AND, IS, RECORD-OF}
+use Rattle.forms.proofs.Tests.{ranged}
+use Rattle.forms.proofs.Table.{no-form, group-small, both-small, group-are, rises-are, node-slot}
 use Rattle.checks.specs.Codes.{keyIn, packed, packedFrom, formCode, againCode, codesAfter, codesAt}
 
 -- ---- how many lie between items that ascend
@@ -29,19 +31,11 @@ word-packed r w p h =
     omega (arith, g, p .one)
 
 module _ (t : ℕ) (r : F.Form) (e : r ≡ coded (formOf t)) where
-  pub rises-are : r .rises ≡ formOf t .ascends
-  unfolding coded
-  rises-are = ap (λ (f : F.Form). f .rises) e
-
-  group-are : r .group ≡ length (formOf t .group)
-  unfolding coded
-  group-are = ap (λ (f : F.Form). f .group) e
-
   pub step-some : r .rises ≡ true → (r .group ≡ stepIn (formOf t)) × (r .group ≤ 3)
-  step-some h = (sym (rw (← rises-are, h) (sym group-are)), omega (arith, group-are, group-small t))
+  step-some h = (sym (rw (← rises-are t r e, h) (sym (group-are t r e .0))), group-are t r e .1)
 
   pub step-none : r .rises ≡ false → (0 ≡ stepIn (formOf t)) × (0 ≤ 3)
-  step-none h = (sym (rw (← rises-are, h) refl), omega arith)
+  step-none h = (sym (rw (← rises-are t r e, h) refl), omega arith)
 
   -- ---- what items refer to, four to a word
 
@@ -58,17 +52,13 @@ pub again-of-packed : (r : F.Form) (w : ℕ) → Packed r w → w < 4294967296 �
 again-of-packed r w p h = ap (packedFrom (r .items)) (word-packed r w p h)
 
 -- past the table's end
-form-out : (t : ℕ) → 50 ≤ t → formOf t ≡ noForm
-unfolding formOf forms
-form-out t h = List·getD-eq-default forms noForm h
-
-codes-out : (t : ℕ) → 50 ≤ t → 0 ≡ formCode t
+codes-out : (t : ℕ) → noTag ≤ t → 0 ≡ formCode t
 unfolding formCode coded codeOf
-codes-out t h = sym (ap (λ (f : Form). packed (coded f)) (form-out t h))
+codes-out t h = sym (ap (λ (f : Form). packed (coded f)) (no-form t h))
 
-again-out : (t : ℕ) → 50 ≤ t → 0 ≡ againCode t
+again-out : (t : ℕ) → noTag ≤ t → 0 ≡ againCode t
 unfolding againCode formCode coded codeOf
-again-out t h = sym (ap (λ (f : Form). packedFrom (coded f .items) (packed (coded f))) (form-out t h))
+again-out t h = sym (ap (λ (f : Form). packedFrom (coded f .items) (packed (coded f))) (no-form t h))
 
 pub after-rest : (w again v : ℕ) → v ≡ w / 256 → (v ≡ 0 → ⊥) → v ≡ codesAfter again w
 after-rest w again v e n = sym (rw (← e, ne-eqb v 0 n) refl)
@@ -85,10 +75,6 @@ mod-six (suc (suc zero)) x h l = omega arith
 mod-six (suc (suc (suc zero))) x h l = omega arith
 mod-six (suc (suc (suc (suc g)))) x h l = absurd (omega arith)
 
-no-group : (l : List Slot) → length l ≡ 0 → (i : ℕ) → getD l i nothing ≡ nothing
-no-group [] e i = refl
-no-group (x ∷ l) e i = absurd (omega arith)
-
 slot-period : (t j : ℕ) → slotAt t (4 + j + 6) ≡ slotAt t (4 + j)
 unfolding slotAt
 slot-period t j =
@@ -101,17 +87,17 @@ slot-period t j =
     go [] h = refl
     go (x ∷ l) h = ap (λ (i : ℕ). getD (x ∷ l) i nothing) (mod-six (length (x ∷ l)) (4 + j - length (formOf t .items)) (omega arith) h)
 
-codes-none : (t j : ℕ) → 50 ≤ t → codesAt t j ≡ 0
+codes-none : (t j : ℕ) → noTag ≤ t → codesAt t j ≡ 0
 unfolding codesAt
 codes-none t zero h = sym (codes-out t h)
 codes-none t (suc j) h = rw (codes-none t j h, ← (again-out t h)) refl
 
 codes-ten : (t : ℕ) → codesAt t 10 ≡ codesAt t 4
 unfolding codesAt formCode againCode coded codeOf forms formOf
-codes-ten t = go (decLt t 50)
+codes-ten t = go (decLt t noTag)
   where
-    go : Dec (t < 50) → codesAt t 10 ≡ codesAt t 4
-    go (yes l) = eqb-true (codesAt t 10) (codesAt t 4) (all-below (λ (i : ℕ). eqb (codesAt i 10) (codesAt i 4)) 50 t refl l)
+    go : Dec (t < noTag) → codesAt t 10 ≡ codesAt t 4
+    go (yes l) = eqb-true (codesAt t 10) (codesAt t 4) (all-below (λ (i : ℕ). eqb (codesAt i 10) (codesAt i 4)) noTag t refl l)
     go (no l) = codes-none t 10 (omega arith) ∙ sym (codes-none t 4 (omega arith))
 
 codes-period : (t j : ℕ) → codesAt t (4 + j + 6) ≡ codesAt t (4 + j)
@@ -153,29 +139,29 @@ module _ (p : ℕ → Slot → Bool) (lo n : ℕ) (e : allBelow (λ (t : ℕ). a
       rw (y .slot, y .codes) (all-below (λ (i : ℕ). p (codesAt t i) (slotAt t i)) 10 (y .place) (ranged (λ (t : ℕ). allBelow (λ (j : ℕ). p (codesAt t j) (slotAt t j)) 10) lo n e t l h) (y .low))
 
 isCode : ℕ → Slot → Bool
-isCode w s = eqb (w % 256) (codeOf s) && leb (keyIn s) 12
+isCode w s = eqb (w % 256) (codeOf s) && leb (keyIn s) POLICY
 
-slot-none : (t j : ℕ) → 50 ≤ t → slotAt t j ≡ nothing
+slot-none : (t j : ℕ) → noTag ≤ t → slotAt t j ≡ nothing
 unfolding slotAt
-slot-none t j h = ap (λ (x : Form). slotIn x j) (form-out t h) ∙ go (decLt j 1)
+slot-none t j h = ap (λ (x : Form). slotIn x j) (no-form t h) ∙ go (decLt j 1)
   where
     go : Dec (j < 1) → slotIn noForm j ≡ nothing
     go (yes l) = let z : j ≡ 0 = omega arith in rw z refl
     go (no l) = rw (le-ltb j 1 (omega arith)) refl
 
-code-some : (t j : ℕ) → t < 50 → isCode (codesAt t j) (slotAt t j) ≡ true
+code-some : (t j : ℕ) → t < noTag → isCode (codesAt t j) (slotAt t j) ≡ true
 unfolding isCode codesAt formCode againCode coded forms formOf slotAt codeOf keyIn
-code-some t j l = every-place isCode 0 50 refl t j (omega arith) l
+code-some t j l = every-place isCode 0 noTag refl t j (omega arith) l
 
-pub code-at : (t j w c : ℕ) → w ≡ codesAt t j → c ≡ w % 256 → (c ≡ codeOf (slotAt t j)) × (keyIn (slotAt t j) ≤ 12)
+pub code-at : (t j w c : ℕ) → w ≡ codesAt t j → c ≡ w % 256 → (c ≡ codeOf (slotAt t j)) × (keyIn (slotAt t j) ≤ POLICY)
 unfolding isCode codeOf keyIn
-code-at t j w c hw hc = go (decLt t 50)
+code-at t j w c hw hc = go (decLt t noTag)
   where
-    go : Dec (t < 50) → (c ≡ codeOf (slotAt t j)) × (keyIn (slotAt t j) ≤ 12)
+    go : Dec (t < noTag) → (c ≡ codeOf (slotAt t j)) × (keyIn (slotAt t j) ≤ POLICY)
     go (yes l) =
-        let b = and-eq-true-iff (eqb (codesAt t j % 256) (codeOf (slotAt t j))) (leb (keyIn (slotAt t j)) 12) .0 (code-some t j l) in
+        let b = and-eq-true-iff (eqb (codesAt t j % 256) (codeOf (slotAt t j))) (leb (keyIn (slotAt t j)) POLICY) .0 (code-some t j l) in
         let q : c ≡ codeOf (slotAt t j) = hc ∙ ap (λ (x : ℕ). x % 256) hw ∙ eqb-true (codesAt t j % 256) (codeOf (slotAt t j)) (b .0) in
-        (q, leb-true (keyIn (slotAt t j)) 12 (b .1))
+        (q, leb-true (keyIn (slotAt t j)) POLICY (b .1))
     go (no l) =
         let z : w ≡ 0 = hw ∙ codes-none t j (omega arith) in
         let s : slotAt t j ≡ nothing = slot-none t j (omega arith) in
@@ -183,13 +169,13 @@ code-at t j w c hw hc = go (decLt t 50)
         let m : keyIn (slotAt t j) ≡ 0 = ap keyIn s in
         (q, omega (arith, m))
 
--- the forms before 24 refer to no node
+-- the forms before those that work on nodes refer to none
 isOther : ℕ → Slot → Bool
-isOther w s = not (eqb (codeOf s) 27)
+isOther w s = not (eqb (codeOf s) OF-NODE)
 
-pub no-node : (t j : ℕ) → t < 24 → eqb (codeOf (slotAt t j)) 27 ≡ false
+pub no-node : (t j : ℕ) → t < AND → eqb (codeOf (slotAt t j)) OF-NODE ≡ false
 unfolding isOther codesAt formCode againCode coded forms formOf slotAt codeOf
-no-node t j h = go (eqb (codeOf (slotAt t j)) 27) (every-place isOther 0 24 refl t j (omega arith) h)
+no-node t j h = go (eqb (codeOf (slotAt t j)) OF-NODE) (every-place isOther 0 AND refl t j (omega arith) h)
   where
     go : (b : Bool) → not b ≡ true → b ≡ false
     go true e = sym e
@@ -198,33 +184,35 @@ no-node t j h = go (eqb (codeOf (slotAt t j)) 27) (every-place isOther 0 24 refl
 -- ---- the first places of nodes
 
 isAt : ℕ → Slot → Bool
-isAt v s = eqb v (codeOf s) && leb (keyIn s) 12
+isAt v s = eqb v (codeOf s) && leb (keyIn s) POLICY
 
 module _ (t j : ℕ) where
-  placed-by : (v i lo n : ℕ) → allBelow (λ (x : ℕ). isAt v (slotAt (lo + x) i)) n ≡ true → lo ≤ t → t < lo + n → j ≡ i → (v ≡ codeOf (slotAt t j)) × (keyIn (slotAt t j) ≤ 12)
+  placed-by : (v i lo n : ℕ) → allBelow (λ (x : ℕ). isAt v (slotAt (lo + x) i)) n ≡ true → lo ≤ t → t < lo + n → j ≡ i → (v ≡ codeOf (slotAt t j)) × (keyIn (slotAt t j) ≤ POLICY)
   unfolding isAt
   placed-by v i lo n e l h q =
-      let b = and-eq-true-iff (eqb v (codeOf (slotAt t i))) (leb (keyIn (slotAt t i)) 12) .0 (ranged (λ (x : ℕ). isAt v (slotAt x i)) lo n e t l h) in
-      (eqb-true v (codeOf (slotAt t i)) (b .0) ∙ ap (λ (x : ℕ). codeOf (slotAt t x)) (sym q), rw q (leb-true (keyIn (slotAt t i)) 12 (b .1)))
+      let b = and-eq-true-iff (eqb v (codeOf (slotAt t i))) (leb (keyIn (slotAt t i)) POLICY) .0 (ranged (λ (x : ℕ). isAt v (slotAt x i)) lo n e t l h) in
+      (eqb-true v (codeOf (slotAt t i)) (b .0) ∙ ap (λ (x : ℕ). codeOf (slotAt t x)) (sym q), rw q (leb-true (keyIn (slotAt t i)) POLICY (b .1)))
 
-  pub node-type : (21 ≤ t) × (t < 48) → j ≡ 0 → (19 ≡ codeOf (slotAt t j)) × (keyIn (slotAt t j) ≤ 12)
+  pub node-type : (LIT ≤ t) × (t < RECORD-OF) → j ≡ 0 → (OF-TYPE ≡ codeOf (slotAt t j)) × (keyIn (slotAt t j) ≤ POLICY)
+  unfolding codeOf keyIn
+  node-type b q =
+      let s : slotAt t j ≡ line TYPE = ap (slotAt t) q ∙ node-slot t (b .0) (omega (arith, b .1)) in
+      (sym (ap codeOf s), omega (arith, ap keyIn s))
+
+  pub node-first : (LIT ≤ t) × (t < RECORD-OF) → AND ≤ t → j ≡ 1 → (OF-NODE ≡ codeOf (slotAt t j)) × (keyIn (slotAt t j) ≤ POLICY)
   unfolding forms formOf slotAt codeOf keyIn isAt
-  node-type b = placed-by 19 0 21 27 refl (b .0) (b .1)
+  node-first b l = placed-by OF-NODE 1 AND (RECORD-OF - AND) refl l (b .1)
 
-  pub node-first : (21 ≤ t) × (t < 48) → 24 ≤ t → j ≡ 1 → (27 ≡ codeOf (slotAt t j)) × (keyIn (slotAt t j) ≤ 12)
+  pub node-second : AND ≤ t → t < IS → j ≡ 2 → (OF-NODE ≡ codeOf (slotAt t j)) × (keyIn (slotAt t j) ≤ POLICY)
   unfolding forms formOf slotAt codeOf keyIn isAt
-  node-first b l = placed-by 27 1 24 24 refl l (b .1)
+  node-second = placed-by OF-NODE 2 AND (IS - AND) refl
 
-  pub node-second : 24 ≤ t → t < 39 → j ≡ 2 → (27 ≡ codeOf (slotAt t j)) × (keyIn (slotAt t j) ≤ 12)
+  pub leaf-value : t ≡ LIT → j ≡ 1 → (OF-VALUE ≡ codeOf (slotAt t j)) × (keyIn (slotAt t j) ≤ POLICY)
   unfolding forms formOf slotAt codeOf keyIn isAt
-  node-second = placed-by 27 2 24 15 refl
+  leaf-value e = placed-by OF-VALUE 1 LIT 1 refl (omega arith) (omega arith)
 
-  pub leaf-value : t ≡ 21 → j ≡ 1 → (21 ≡ codeOf (slotAt t j)) × (keyIn (slotAt t j) ≤ 12)
-  unfolding forms formOf slotAt codeOf keyIn isAt
-  leaf-value e = placed-by 21 1 21 1 refl (omega arith) (omega arith)
-
-  pub leaf-other : 22 ≤ t → t < 24 → (codeOf (slotAt t 1) < 16) × (keyIn (slotAt t 1) ≤ 12)
+  pub leaf-other : ERR ≤ t → t < AND → (codeOf (slotAt t 1) < LINE) × (keyIn (slotAt t 1) ≤ POLICY)
   unfolding forms formOf slotAt codeOf keyIn
   leaf-other l h =
-      let b = and-eq-true-iff (leb (codeOf (slotAt t 1)) 15) (leb (keyIn (slotAt t 1)) 12) .0 (ranged (λ (x : ℕ). leb (codeOf (slotAt x 1)) 15 && leb (keyIn (slotAt x 1)) 12) 22 2 refl t l h) in
-      (omega (arith, leb-true (codeOf (slotAt t 1)) 15 (b .0)), leb-true (keyIn (slotAt t 1)) 12 (b .1))
+      let b = and-eq-true-iff (leb (codeOf (slotAt t 1)) EFFECT) (leb (keyIn (slotAt t 1)) POLICY) .0 (ranged (λ (x : ℕ). leb (codeOf (slotAt x 1)) EFFECT && leb (keyIn (slotAt x 1)) POLICY) ERR (AND - ERR) refl t l h) in
+      (omega (arith, leb-true (codeOf (slotAt t 1)) EFFECT (b .0)), leb-true (keyIn (slotAt t 1)) POLICY (b .1))

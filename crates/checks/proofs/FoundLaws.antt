@@ -5,7 +5,7 @@ use mathlib.Core.List.{List, [], _∷_}
 use mathlib.Core.Logic.{_⊎_, inl, inr}
 use Prim.Native.String.{String}
 use Rattle.sheet.specs.Ascii.{ascii}
-use Prim.Native.Nat.{ℕ, zero, suc, _+_, _-_, _*_, _/_, _%_, _≤_, _<_}
+use Prim.Native.Nat.{ℕ, zero, suc, _+_, _-_, _%_, _≤_, _<_}
 use native.Mathlib.Numerals.{add-one}
 use native.Mathlib.Omega.{arith}
 use borrow.Author.Tests.{eq-eqb, ne-eqb, lt-ltb, le-ltb, lt-leb, le-leb, leb-true, not-true, not-false}
@@ -14,57 +14,58 @@ use lib.ListN.{length, getD, drop, drop-of-length-le, length-drop}
 use lib.Seq.{drop-cons, getD-drop}
 use Rattle.cedar.specs.Numbered.{memN}
 use Rattle.sheet.specs.Bytes.{same}
-use Rattle.sheet.specs.Forms.{Slot, entry, line, lineOr, lineUnknown, word, number, nothing, dash, Form, forms, formOf, noForm, slotAt, tag, items, at, mark, everyFrom, refs, ascendings}
+use Rattle.sheet.specs.Forms.{Slot, entry, line, lineOr, lineUnknown, word, number, nothing, dash, Form, forms, formOf, noForm, slotAt, tag, items, at, mark, everyFrom, refs, ascendings, TEXT, KIND, TYPE, VALUE, ENTITY, NODE, POLICY}
 use Rattle.sheet.specs.State.{linesOf, lineAt, count}
 use Rattle.sheet.specs.Sheet.{thereIs, allThere, ascend, among, firsts, above, fresh, found, deepest, depth}
 use Rattle.table.specs.Layout.{held, part, rowsOf, textRow}
 use Rattle.table.proofs.Rows.{count-held, count-rows, lines-held}
 use Rattle.cedar.proofs.Tools.{no-true}
 use Rattle.forms.specs.declared.Form as F
-use Rattle.forms.specs.Rows.{wordCode, coded, code as codeOf}
-use Rattle.table.proofs.Counts.{items-are}
+use Rattle.forms.specs.Rows.{KIND-LETTER, FIELD-LETTER, BIT, PART-LETTER, EFFECT, LINE, UNKNOWN, DASH, STAR, wordCode, coded, code as codeOf}
+use Rattle.forms.specs.Tags.{TEXT-LINE}
+use Rattle.forms.proofs.Table.{items-are, rises-are}
 use Rattle.checks.specs.Codes.{keyIn}
 use Rattle.checks.specs.Depths.{ThereAs, thereDepth}
-use Rattle.checks.proofs.FormTable.{stepIn, rises-are, step-some, step-none}
+use Rattle.checks.proofs.FormTable.{stepIn, step-some, step-none}
 use Rattle.checks.proofs.OrderLaws.{rowsHeld}
 
 -- ---- what an item refers to
 
-word-low : (w : String) → wordCode w ≤ 7
+word-low : (w : String) → wordCode w ≤ EFFECT
 word-low w = go (same (ascii w) (ascii "e")) (same (ascii w) (ascii "o")) (same (ascii w) (ascii "0")) (same (ascii w) (ascii "p"))
   where
-    go : (a b c d : Bool) → cond a 3 (cond b 4 (cond c 5 (cond d 6 7))) ≤ 7
+    go : (a b c d : Bool) → cond a KIND-LETTER (cond b FIELD-LETTER (cond c BIT (cond d PART-LETTER EFFECT))) ≤ EFFECT
     go true b c d = omega arith
     go false true c d = omega arith
     go false false true d = omega arith
     go false false false true = omega arith
     go false false false false = omega arith
 
-pub words-low : (ws : List String) → codeOf (word ws) ≤ 7
+pub words-low : (ws : List String) → codeOf (word ws) ≤ EFFECT
 unfolding codeOf
 words-low [] = omega arith
 words-low (w ∷ ws) = word-low w
 
--- a line of key k, or a mark, has a number of 48 or 64 and k
-pub marks-high : (b k : ℕ) → (codeOf (lineOr b k) ≡ 48 + k) ⊎ (codeOf (lineOr b k) ≡ 64 + k)
+-- a line of key k, or a mark, has the number of a mark and k
+pub marks-high : (b k : ℕ) → (codeOf (lineOr b k) ≡ DASH + k) ⊎ (codeOf (lineOr b k) ≡ STAR + k)
 unfolding codeOf
 marks-high b k = go (eqb b dash)
   where
-    go : (y : Bool) → (cond y 48 64 + k ≡ 48 + k) ⊎ (cond y 48 64 + k ≡ 64 + k)
+    go : (y : Bool) → (cond y DASH STAR + k ≡ DASH + k) ⊎ (cond y DASH STAR + k ≡ STAR + k)
     go true = inl refl
     go false = inr refl
 
-key-mark : (b k : ℕ) → k ≤ 12 → codeOf (lineOr b k) % 16 ≡ k
+key-mark : (b k : ℕ) → k ≤ POLICY → codeOf (lineOr b k) % LINE ≡ k
 key-mark b k h = go (marks-high b k)
   where
-    go : (codeOf (lineOr b k) ≡ 48 + k) ⊎ (codeOf (lineOr b k) ≡ 64 + k) → codeOf (lineOr b k) % 16 ≡ k
+    go : (codeOf (lineOr b k) ≡ DASH + k) ⊎ (codeOf (lineOr b k) ≡ STAR + k) → codeOf (lineOr b k) % LINE ≡ k
     go (inl e) = omega (arith, e)
     go (inr e) = omega (arith, e)
 
-pub mark-high : (b k : ℕ) → 48 ≤ codeOf (lineOr b k)
+pub mark-high : (b k : ℕ) → DASH ≤ codeOf (lineOr b k)
 mark-high b k = go (marks-high b k)
   where
-    go : (codeOf (lineOr b k) ≡ 48 + k) ⊎ (codeOf (lineOr b k) ≡ 64 + k) → 48 ≤ codeOf (lineOr b k)
+    go : (codeOf (lineOr b k) ≡ DASH + k) ⊎ (codeOf (lineOr b k) ≡ STAR + k) → DASH ≤ codeOf (lineOr b k)
     go (inl e) = omega (arith, e)
     go (inr e) = omega (arith, e)
 
@@ -77,7 +78,7 @@ or-false true = refl
 or-false false = refl
 
 module _ (a : List ℕ) (x : ℕ) where
-  there-none : (s : Slot) → codeOf s < 16 → true ≡ thereIs (rowsHeld a) s x
+  there-none : (s : Slot) → codeOf s < LINE → true ≡ thereIs (rowsHeld a) s x
   unfolding codeOf
   there-none entry e = refl
   there-none (line k) e = absurd (omega arith)
@@ -87,54 +88,54 @@ module _ (a : List ℕ) (x : ℕ) where
   there-none number e = refl
   there-none nothing e = refl
 
-  counted : (n k m : ℕ) → k ≤ 12 → n ≡ getD a m 0 → m ≡ k → n ≡ count (rowsHeld a) k
+  counted : (n k m : ℕ) → k ≤ POLICY → n ≡ getD a m 0 → m ≡ k → n ≡ count (rowsHeld a) k
   counted n k m l e q = e ∙ ap (λ (i : ℕ). getD a i 0) q ∙ sym (count-held [] a [] k (omega arith))
 
-  there-in : (s : Slot) (n : ℕ) → 16 ≤ codeOf s → keyIn s ≤ 12 → n ≡ getD a (codeOf s % 16) 0 → x < n → true ≡ thereIs (rowsHeld a) s x
+  there-in : (s : Slot) (n : ℕ) → LINE ≤ codeOf s → keyIn s ≤ POLICY → n ≡ getD a (codeOf s % LINE) 0 → x < n → true ≡ thereIs (rowsHeld a) s x
   unfolding codeOf keyIn
   there-in entry n z l e h = absurd (omega arith)
-  there-in (line k) n z l e h = sym (rw (← counted n k ((16 + k) % 16) l e (omega arith)) (lt-ltb x n h))
-  there-in (lineOr b k) n z l e h = sym (rw (← counted n k (codeOf (lineOr b k) % 16) l e (key-mark b k l), lt-ltb x n h) (or-true (eqb x mark)))
-  there-in (lineUnknown k) n z l e h = sym (rw (← counted n k ((32 + k) % 16) l e (omega arith), lt-ltb x n h) (or-true (eqb x mark)))
+  there-in (line k) n z l e h = sym (rw (← counted n k ((LINE + k) % LINE) l e (omega arith)) (lt-ltb x n h))
+  there-in (lineOr b k) n z l e h = sym (rw (← counted n k (codeOf (lineOr b k) % LINE) l e (key-mark b k l), lt-ltb x n h) (or-true (eqb x mark)))
+  there-in (lineUnknown k) n z l e h = sym (rw (← counted n k ((UNKNOWN + k) % LINE) l e (omega arith), lt-ltb x n h) (or-true (eqb x mark)))
   there-in (word ws) n z l e h = absurd (omega (arith, words-low ws))
   there-in number n z l e h = absurd (omega arith)
   there-in nothing n z l e h = absurd (omega arith)
 
-  there-out : (s : Slot) (n : ℕ) → 16 ≤ codeOf s → keyIn s ≤ 12 → n ≡ getD a (codeOf s % 16) 0 → n ≤ x → codeOf s < 32 → false ≡ thereIs (rowsHeld a) s x
+  there-out : (s : Slot) (n : ℕ) → LINE ≤ codeOf s → keyIn s ≤ POLICY → n ≡ getD a (codeOf s % LINE) 0 → n ≤ x → codeOf s < UNKNOWN → false ≡ thereIs (rowsHeld a) s x
   unfolding codeOf keyIn
   there-out entry n z l e h o = absurd (omega arith)
-  there-out (line k) n z l e h o = sym (rw (← counted n k ((16 + k) % 16) l e (omega arith)) (le-ltb x n h))
+  there-out (line k) n z l e h o = sym (rw (← counted n k ((LINE + k) % LINE) l e (omega arith)) (le-ltb x n h))
   there-out (lineOr b k) n z l e h o = absurd (omega (arith, mark-high b k))
   there-out (lineUnknown k) n z l e h o = absurd (omega arith)
   there-out (word ws) n z l e h o = absurd (omega (arith, words-low ws))
   there-out number n z l e h o = absurd (omega arith)
   there-out nothing n z l e h o = absurd (omega arith)
 
-  there-mark : (s : Slot) (n : ℕ) → 32 ≤ codeOf s → keyIn s ≤ 12 → n ≡ getD a (codeOf s % 16) 0 → n ≤ x → eqb x 10000 ≡ thereIs (rowsHeld a) s x
+  there-mark : (s : Slot) (n : ℕ) → UNKNOWN ≤ codeOf s → keyIn s ≤ POLICY → n ≡ getD a (codeOf s % LINE) 0 → n ≤ x → eqb x mark ≡ thereIs (rowsHeld a) s x
   unfolding codeOf keyIn
   there-mark entry n z l e h = absurd (omega arith)
   there-mark (line k) n z l e h = absurd (omega arith)
-  there-mark (lineOr b k) n z l e h = sym (rw (← counted n k (codeOf (lineOr b k) % 16) l e (key-mark b k l), le-ltb x n h) (or-false (eqb x mark)))
-  there-mark (lineUnknown k) n z l e h = sym (rw (← counted n k ((32 + k) % 16) l e (omega arith), le-ltb x n h) (or-false (eqb x mark)))
+  there-mark (lineOr b k) n z l e h = sym (rw (← counted n k (codeOf (lineOr b k) % LINE) l e (key-mark b k l), le-ltb x n h) (or-false (eqb x mark)))
+  there-mark (lineUnknown k) n z l e h = sym (rw (← counted n k ((UNKNOWN + k) % LINE) l e (omega arith), le-ltb x n h) (or-false (eqb x mark)))
   there-mark (word ws) n z l e h = absurd (omega (arith, words-low ws))
   there-mark number n z l e h = absurd (omega arith)
   there-mark nothing n z l e h = absurd (omega arith)
 
 module _ (a : List ℕ) (c x : ℕ) where
-  pub ref-none : c < 16 → ThereAs a c x true
+  pub ref-none : c < LINE → ThereAs a c x true
   ref-none z = record { is = λ s hc. there-none a x s (omega (arith, hc .0)) }
 
-  module _ (n : ℕ) (z : 16 ≤ c) (e : n ≡ getD a (c % 16) 0) where
-    count-code : (s : Slot) → c ≡ codeOf s → n ≡ getD a (codeOf s % 16) 0
-    count-code s h = e ∙ ap (λ (y : ℕ). getD a (y % 16) 0) h
+  module _ (n : ℕ) (z : LINE ≤ c) (e : n ≡ getD a (c % LINE) 0) where
+    count-code : (s : Slot) → c ≡ codeOf s → n ≡ getD a (codeOf s % LINE) 0
+    count-code s h = e ∙ ap (λ (y : ℕ). getD a (y % LINE) 0) h
 
     pub ref-in : x < n → ThereAs a c x true
     ref-in h = record { is = λ s hc. there-in a x s n (omega (arith, hc .0)) (hc .1) (count-code s (hc .0)) h }
 
-    pub ref-out : n ≤ x → c < 32 → ThereAs a c x false
+    pub ref-out : n ≤ x → c < UNKNOWN → ThereAs a c x false
     ref-out h o = record { is = λ s hc. there-out a x s n (omega (arith, hc .0)) (hc .1) (count-code s (hc .0)) h (omega (arith, hc .0)) }
 
-    pub ref-mark : n ≤ x → 32 ≤ c → ThereAs a c x (eqb x 10000)
+    pub ref-mark : n ≤ x → UNKNOWN ≤ c → ThereAs a c x (eqb x mark)
     ref-mark h o = record { is = λ s hc. there-mark a x s n (omega (arith, hc .0)) (hc .1) (count-code s (hc .0)) h }
 
 -- ---- a row's items in turn
@@ -298,12 +299,12 @@ module _ (a : List ℕ) (k n i : ℕ) (hn : n ≡ getD a k 0) where
 
 -- ---- a text's row
 
-pub text-not : (sheet q text : List ℕ) (t : ℕ) → t ≡ tag q → (t ≡ 1 → ⊥) → false ≡ same (1 ∷ text) (textRow sheet q)
-text-not sheet q text t e n = sym (rw (← e, ne-eqb 1 t (λ z. n (sym z))) refl)
+pub text-not : (sheet q text : List ℕ) (t : ℕ) → t ≡ tag q → (t ≡ TEXT-LINE → ⊥) → false ≡ same (TEXT-LINE ∷ text) (textRow sheet q)
+text-not sheet q text t e n = sym (rw (← e, ne-eqb TEXT-LINE t (λ z. n (sym z))) refl)
 
-pub text-same : (sheet q text : List ℕ) (t s n : ℕ) (b : Bool) (x : List ℕ) → t ≡ tag q → t ≡ 1 → s ≡ getD q 1 0 → n ≡ getD q 2 0 → x ≡ part sheet s (s + n) → b ≡ same text x
-    → b ≡ same (1 ∷ text) (textRow sheet q)
-text-same sheet q text t s n b x e o hs hn hx hb = hb ∙ sym (rw (← e, eq-eqb 1 t (sym o), ← hs, ← hn, ← hx) refl)
+pub text-same : (sheet q text : List ℕ) (t s n : ℕ) (b : Bool) (x : List ℕ) → t ≡ tag q → t ≡ TEXT-LINE → s ≡ getD q 1 0 → n ≡ getD q 2 0 → x ≡ part sheet s (s + n) → b ≡ same text x
+    → b ≡ same (TEXT-LINE ∷ text) (textRow sheet q)
+text-same sheet q text t s n b x e o hs hn hx hb = hb ∙ sym (rw (← e, eq-eqb TEXT-LINE t (sym o), ← hs, ← hn, ← hx) refl)
 
 -- ---- a name among others
 
@@ -329,41 +330,41 @@ module _ (x : ℕ) (a : List ℕ) (k n i : ℕ) (s : Named x a k i) (hn : n ≡ 
 
 -- ---- order of entities
 
-pub above-first : (a r : List ℕ) (n : ℕ) → n ≡ getD a 6 0 → n ≡ 0 → true ≡ above (rowsHeld a) 6 r
-above-first a r n e z = sym (rw (count-held [] a [] 6 (omega arith), ← e, z) refl)
+pub above-first : (a r : List ℕ) (n : ℕ) → n ≡ getD a ENTITY 0 → n ≡ 0 → true ≡ above (rowsHeld a) ENTITY r
+above-first a r n e z = sym (rw (count-held [] a [] ENTITY (omega arith), ← e, z) refl)
 
-pub above-last : (a r q : List ℕ) (n x y : ℕ) → n ≡ getD a 6 0 → (n ≡ 0 → ⊥) → q ≡ getD (rowsOf a 6) (n - 1) [] → x ≡ getD q 1 0 → y ≡ getD r 1 0 → ltb x y ≡ above (rowsHeld a) 6 r
+pub above-last : (a r q : List ℕ) (n x y : ℕ) → n ≡ getD a ENTITY 0 → (n ≡ 0 → ⊥) → q ≡ getD (rowsOf a ENTITY) (n - 1) [] → x ≡ getD q 1 0 → y ≡ getD r 1 0 → ltb x y ≡ above (rowsHeld a) ENTITY r
 above-last a r q n x y e z hq hx hy =
-    let c : count (rowsHeld a) 6 ≡ n = count-held [] a [] 6 (omega arith) ∙ sym e in
-    let l : linesOf (rowsHeld a) 6 ≡ rowsOf a 6 = lines-held [] a [] 6 (omega arith) (λ q. absurd (omega arith)) in
-    let f : x ≡ at (lineAt (rowsHeld a) 6 (count (rowsHeld a) 6 - 1)) 0 = hx ∙ ap (λ (w : List ℕ). getD w 1 0) (hq ∙ ap₂ (λ (rs : List (List ℕ)) (i : ℕ). getD rs (i - 1) []) (sym l) (sym c)) in
+    let c : count (rowsHeld a) ENTITY ≡ n = count-held [] a [] ENTITY (omega arith) ∙ sym e in
+    let l : linesOf (rowsHeld a) ENTITY ≡ rowsOf a ENTITY = lines-held [] a [] ENTITY (omega arith) (λ q. absurd (omega arith)) in
+    let f : x ≡ at (lineAt (rowsHeld a) ENTITY (count (rowsHeld a) ENTITY - 1)) 0 = hx ∙ ap (λ (w : List ℕ). getD w 1 0) (hq ∙ ap₂ (λ (rs : List (List ℕ)) (i : ℕ). getD rs (i - 1) []) (sym l) (sym c)) in
     sym (rw (← f, c, ne-eqb n 0 z, ← hy) refl)
 
 -- ---- new lines
 
 module _ (a : List ℕ) (k : ℕ) (r : List ℕ) where
   module _ (b : Bool) (hb : b ≡ among r (rowsOf a k)) where
-    pub fresh-type : k ≡ 3 → not b ≡ fresh (rowsHeld a) k r
-    fresh-type e = sym (rw e (ap (λ (l : List (List ℕ)). not (among r l)) (lines-held [] a [] 3 (omega arith) (λ q. absurd (omega arith)) ∙ ap (rowsOf a) (sym e)) ∙ ap not (sym hb)))
+    pub fresh-type : k ≡ TYPE → not b ≡ fresh (rowsHeld a) k r
+    fresh-type e = sym (rw e (ap (λ (l : List (List ℕ)). not (among r l)) (lines-held [] a [] TYPE (omega arith) (λ q. absurd (omega arith)) ∙ ap (rowsOf a) (sym e)) ∙ ap not (sym hb)))
 
-    pub fresh-value : k ≡ 5 → not b ≡ fresh (rowsHeld a) k r
-    fresh-value e = sym (rw e (ap (λ (l : List (List ℕ)). not (among r l)) (lines-held [] a [] 5 (omega arith) (λ q. absurd (omega arith)) ∙ ap (rowsOf a) (sym e)) ∙ ap not (sym hb)))
+    pub fresh-value : k ≡ VALUE → not b ≡ fresh (rowsHeld a) k r
+    fresh-value e = sym (rw e (ap (λ (l : List (List ℕ)). not (among r l)) (lines-held [] a [] VALUE (omega arith) (λ q. absurd (omega arith)) ∙ ap (rowsOf a) (sym e)) ∙ ap not (sym hb)))
 
   module _ (b : Bool) (x : ℕ) (hx : x ≡ getD r 1 0) (hb : b ≡ memN x (firsts (rowsOf a k))) where
-    pub fresh-kind : k ≡ 2 → not b ≡ fresh (rowsHeld a) k r
-    fresh-kind e = sym (rw e (ap₂ (λ (y : ℕ) (l : List (List ℕ)). not (memN y (firsts l))) (sym hx) (lines-held [] a [] 2 (omega arith) (λ q. absurd (omega arith)) ∙ ap (rowsOf a) (sym e)) ∙ ap not (sym hb)))
+    pub fresh-kind : k ≡ KIND → not b ≡ fresh (rowsHeld a) k r
+    fresh-kind e = sym (rw e (ap₂ (λ (y : ℕ) (l : List (List ℕ)). not (memN y (firsts l))) (sym hx) (lines-held [] a [] KIND (omega arith) (λ q. absurd (omega arith)) ∙ ap (rowsOf a) (sym e)) ∙ ap not (sym hb)))
 
-    pub fresh-policy : k ≡ 12 → not b ≡ fresh (rowsHeld a) k r
-    fresh-policy e = sym (rw e (ap₂ (λ (y : ℕ) (l : List (List ℕ)). not (memN y (firsts l))) (sym hx) (lines-held [] a [] 12 (omega arith) (λ q. absurd (omega arith)) ∙ ap (rowsOf a) (sym e)) ∙ ap not (sym hb)))
+    pub fresh-policy : k ≡ POLICY → not b ≡ fresh (rowsHeld a) k r
+    fresh-policy e = sym (rw e (ap₂ (λ (y : ℕ) (l : List (List ℕ)). not (memN y (firsts l))) (sym hx) (lines-held [] a [] POLICY (omega arith) (λ q. absurd (omega arith)) ∙ ap (rowsOf a) (sym e)) ∙ ap not (sym hb)))
 
-  pub fresh-entity : (b : Bool) → b ≡ above (rowsHeld a) 6 r → k ≡ 6 → b ≡ fresh (rowsHeld a) k r
+  pub fresh-entity : (b : Bool) → b ≡ above (rowsHeld a) ENTITY r → k ≡ ENTITY → b ≡ fresh (rowsHeld a) k r
   fresh-entity b hb e = hb ∙ sym (rw e refl)
 
-  pub fresh-node : k ≡ 11 → true ≡ fresh (rowsHeld a) k r
+  pub fresh-node : k ≡ NODE → true ≡ fresh (rowsHeld a) k r
   fresh-node e = sym (rw e refl)
 
-  pub fresh-other : (k ≡ 1 → ⊥) → (k ≡ 3 → ⊥) → (k ≡ 5 → ⊥) → (k ≡ 2 → ⊥) → (k ≡ 12 → ⊥) → (k ≡ 6 → ⊥) → true ≡ fresh (rowsHeld a) k r
-  fresh-other n₁ n₃ n₅ n₂ n₁₂ n₆ = sym (rw (ne-eqb k 1 n₁, ne-eqb k 3 n₃, ne-eqb k 5 n₅, ne-eqb k 2 n₂, ne-eqb k 12 n₁₂, ne-eqb k 6 n₆) refl)
+  pub fresh-other : (k ≡ TEXT → ⊥) → (k ≡ TYPE → ⊥) → (k ≡ VALUE → ⊥) → (k ≡ KIND → ⊥) → (k ≡ POLICY → ⊥) → (k ≡ ENTITY → ⊥) → true ≡ fresh (rowsHeld a) k r
+  fresh-other text type value kind policy entity = sym (rw (ne-eqb k TEXT text, ne-eqb k TYPE type, ne-eqb k VALUE value, ne-eqb k KIND kind, ne-eqb k POLICY policy, ne-eqb k ENTITY entity) refl)
 
   -- ---- all of 5, with the depth of 6
 

@@ -1,115 +1,92 @@
 -- Order of keys and greatest numbers of lines, as the code asks for them. Assumes nothing.
 use mathlib.Core.Path.{_≡_, refl, sym, ap, subst, _∙_}
 use mathlib.Core.Logic.{_⊎_, inl, inr}
-use mathlib.Core.Bool.{Bool, true, false, not, _&&_, _||_}
+use mathlib.Core.Bool.{Bool, true, false, not, _&&_}
 use mathlib.Core.List.{List, [], _∷_}
-use Prim.Native.Nat.{ℕ, zero, suc, _+_, _-_, _*_, _%_, _^_, _≤_, _<_}
+use Prim.Native.Nat.{ℕ, zero, suc, _+_, _-_, _≤_, _<_}
 use native.Mathlib.Numerals.{add-one}
 use native.Mathlib.Omega.{arith}
 use native.Mathlib.Decide.{ℕ-discrete, decLt}
 use borrow.Author.Tests.{eqb-true, eq-eqb, ne-eqb, lt-leb, le-leb}
 use lib.Dec.{leb, eqb}
 use lib.ListN.{length, getD, take, drop, set, drop-of-length-le, List·getD-eq-default}
-use lib.Seq.{drop-cons, getD-set-other}
-use Rattle.sheet.specs.Forms.{KIND}
+use lib.Seq.{drop-cons, getD-set-other, getD-take}
+use Rattle.sheet.specs.Forms.{noKey, SHEET, TEXT, KIND, SHAPE, PRINCIPAL, ACTION, RESOURCE, CONTEXT, NODE, POLICY}
 use Rattle.sheet.specs.State.{State, count}
 use Rattle.sheet.specs.Sheet.{least, greatest, reach, enough, allZero, inOrder}
-use Rattle.words.specs.Bits.{digitOf}
-use Rattle.sheet.proofs.Parsed.{allBelow, all-below}
-use Rattle.table.specs.Layout.{held}
-use Rattle.table.proofs.Counts.{ranged, other}
+use Rattle.sheet.proofs.Parsed.{allBelow}
+use Rattle.table.specs.Layout.{held, limits, limit}
+use Rattle.table.proofs.Counts.{count-at}
 use Rattle.table.proofs.Rows.{count-held}
-use Rattle.table.proofs.Held.{length-tab, getD-tab, countsIn, counts-held}
+use Rattle.table.proofs.Held.{length-tab, countsIn, counts-held}
+use Rattle.forms.specs.declared.Key as K
+use Rattle.forms.specs.Keys.{keyed}
+use Rattle.forms.proofs.Tests.{ranged}
+use Rattle.forms.proofs.Keys.{most-is}
 
 -- the state that words hold, for what asks of it neither texts nor depths
 abbrev pub rowsHeld : List ℕ → State
 rowsHeld a = held [] a []
 
-count-at : (a : List ℕ) (i : ℕ) → i < 13 → getD (countsIn a) i 0 ≡ getD a i 0
-count-at a i h = let z : 0 + i ≡ i = omega arith in getD-tab (λ (k : ℕ). getD a k 0) 0 13 i 0 h ∙ ap (λ (k : ℕ). getD a k 0) z
-
-counts-long : (a : List ℕ) → length (countsIn a) ≡ 13
-counts-long a = length-tab (λ (k : ℕ). getD a k 0) 0 13
+counts-long : (a : List ℕ) → length (countsIn a) ≡ noKey
+counts-long a = length-tab (λ (k : ℕ). getD a k 0) 0 noKey
 
 -- ---- tables
 
 unfoldable leastTable : List ℕ
 leastTable = 1 ∷ 0 ∷ 0 ∷ 0 ∷ 0 ∷ 0 ∷ 0 ∷ 1 ∷ 1 ∷ 1 ∷ 1 ∷ 0 ∷ 0 ∷ []
 
-unfoldable pub mostTable : List ℕ
-mostTable = 1 ∷ 512 ∷ 32 ∷ 128 ∷ 0 ∷ 1024 ∷ 128 ∷ 1 ∷ 1 ∷ 1 ∷ 1 ∷ 1024 ∷ 64 ∷ []
-
 module _ (s : State) where
-  least-set : least s ≡ set leastTable 4 (count s KIND)
+  least-set : least s ≡ set leastTable SHAPE (count s KIND)
   unfolding leastTable
   least-set = refl
 
-  most-set : greatest s ≡ set mostTable 4 (count s KIND)
-  unfolding mostTable
+  most-set : greatest s ≡ set (take noKey limits) SHAPE (count s KIND)
   most-set = refl
 
-least-in : (a : List ℕ) (k : ℕ) → (k ≡ 4 → ⊥) → getD leastTable k 0 ≡ getD (least (rowsHeld a)) k 0
-least-in a k h = sym (ap (λ (l : List ℕ). getD l k 0) (least-set (rowsHeld a)) ∙ getD-set-other leastTable 4 k (count (rowsHeld a) KIND) 0 h)
+least-in : (a : List ℕ) (k : ℕ) → (k ≡ SHAPE → ⊥) → getD leastTable k 0 ≡ getD (least (rowsHeld a)) k 0
+least-in a k h = sym (ap (λ (l : List ℕ). getD l k 0) (least-set (rowsHeld a)) ∙ getD-set-other leastTable SHAPE k (count (rowsHeld a) KIND) 0 h)
 
 module _ (a : List ℕ) where
-  least-by : (v lo n : ℕ) → allBelow (λ (i : ℕ). eqb v (getD leastTable (lo + i) 0)) n ≡ true → (i : ℕ) → (i ≡ 4 → ⊥) → lo ≤ i → i < lo + n → v ≡ getD (least (rowsHeld a)) i 0
+  least-by : (v lo n : ℕ) → allBelow (λ (i : ℕ). eqb v (getD leastTable (lo + i) 0)) n ≡ true → (i : ℕ) → (i ≡ SHAPE → ⊥) → lo ≤ i → i < lo + n → v ≡ getD (least (rowsHeld a)) i 0
   least-by v lo n e i d l h = eqb-true v (getD leastTable i 0) (ranged (λ (i : ℕ). eqb v (getD leastTable i 0)) lo n e i l h) ∙ least-in a i d
 
-  least-shape : getD (least (rowsHeld a)) 4 0 ≡ getD a 2 0
-  least-shape = count-held [] a [] 2 (omega arith)
+  least-shape : getD (least (rowsHeld a)) SHAPE 0 ≡ getD a KIND 0
+  least-shape = count-held [] a [] KIND (omega arith)
 
   -- the keys of which a line can be missing: sheet, shape, and those of the request
-  least-one : (i : ℕ) → (i ≡ 0) ⊎ ((7 ≤ i) × (i < 11)) → 1 ≡ getD (least (rowsHeld a)) i 0
+  least-one : (i : ℕ) → (i ≡ SHEET) ⊎ ((PRINCIPAL ≤ i) × (i < NODE)) → 1 ≡ getD (least (rowsHeld a)) i 0
   unfolding leastTable
-  least-one i (inl e) = least-by 1 0 1 refl i (λ q. absurd (omega arith)) (omega arith) (omega arith)
-  least-one i (inr e) = least-by 1 7 4 refl i (λ q. absurd (omega arith)) (e .0) (e .1)
+  least-one i (inl e) = least-by 1 SHEET 1 refl i (λ q. absurd (omega arith)) (omega arith) (omega arith)
+  least-one i (inr e) = least-by 1 PRINCIPAL (NODE - PRINCIPAL) refl i (λ q. absurd (omega arith)) (e .0) (e .1)
 
-  least-none : (i : ℕ) → i < 13 → (i ≡ 0 → ⊥) → (i ≡ 4 → ⊥) → (i < 7) ⊎ (11 ≤ i) → 0 ≡ getD (least (rowsHeld a)) i 0
+  least-none : (i : ℕ) → i < noKey → (i ≡ SHEET → ⊥) → (i ≡ SHAPE → ⊥) → (i < PRINCIPAL) ⊎ (NODE ≤ i) → 0 ≡ getD (least (rowsHeld a)) i 0
   unfolding leastTable
-  least-none i h z d (inl l) = least-by 0 1 6 refl i d (omega arith) l
-  least-none i h z d (inr l) = least-by 0 11 2 refl i d l h
+  least-none i h z d (inl l) = least-by 0 TEXT (PRINCIPAL - TEXT) refl i d (omega arith) l
+  least-none i h z d (inr l) = least-by 0 NODE (noKey - NODE) refl i d l h
 
-pub most-nodes : (a : List ℕ) (k : ℕ) → k ≡ 11 → 1024 ≡ getD (greatest (rowsHeld a)) k 0
-most-nodes a k h = rw h refl
+pub most-shape : (a : List ℕ) (k n : ℕ) → k ≡ SHAPE → n ≡ getD a KIND 0 → n ≡ getD (greatest (rowsHeld a)) k 0
+most-shape a k n h e = rw h (e ∙ sym (count-held [] a [] KIND (omega arith)))
 
-pub most-shape : (a : List ℕ) (k n : ℕ) → k ≡ 4 → n ≡ getD a 2 0 → n ≡ getD (greatest (rowsHeld a)) k 0
-most-shape a k n h e = rw h (e ∙ sym (count-held [] a [] 2 (omega arith)))
+-- by the row of the table of keys
+pub most-row : (a : List ℕ) (k : ℕ) (r : K.Key) → r ≡ keyed k → (k ≡ SHAPE → ⊥) → k < noKey → r .most ≡ getD (greatest (rowsHeld a)) k 0
+unfolding limit
+most-row a k r e h l =
+    most-is k r e
+    ∙ sym (ap (λ (m : List ℕ). getD m k 0) (most-set (rowsHeld a)) ∙ getD-set-other (take noKey limits) SHAPE k (count (rowsHeld a) KIND) 0 h ∙ getD-take noKey limits k 0 l)
 
-pub most-in : (a : List ℕ) (k : ℕ) → (k ≡ 4 → ⊥) → getD mostTable k 0 ≡ getD (greatest (rowsHeld a)) k 0
-most-in a k h = sym (ap (λ (l : List ℕ). getD l k 0) (most-set (rowsHeld a)) ∙ getD-set-other mostTable 4 k (count (rowsHeld a) KIND) 0 h)
-
-pub most-out : (a : List ℕ) (k : ℕ) → 13 ≤ k → 0 ≡ getD (greatest (rowsHeld a)) k 0
+pub most-out : (a : List ℕ) (k : ℕ) → noKey ≤ k → 0 ≡ getD (greatest (rowsHeld a)) k 0
 most-out a k h = sym (List·getD-eq-default (greatest (rowsHeld a)) 0 h)
-
-module _ (w i d : ℕ) (e : d ≡ digitOf w i) where
-  pub digit-low : d < 32
-  unfolding digitOf
-  digit-low = omega (arith, e)
-
-  pub digit-fits : d < 4294967296
-  unfolding digitOf
-  digit-fits = omega (arith, e)
-
-pub most-power : (a : List ℕ) (k d : ℕ) → (k ≡ 4 → ⊥) → k < 13 → d ≡ digitOf 0x0006_a000_07a0_7590 k → (1 * 2 ^ d) % 4294967296 ≡ getD (greatest (rowsHeld a)) k 0
-unfolding mostTable digitOf
-most-power a k d h l e =
-    ap (λ (x : ℕ). (1 * 2 ^ x) % 4294967296) e ∙ eqb-true (power k) (getD mostTable k 0) (other (eqb k 4) (eqb (power k) (getD mostTable k 0)) (ne-eqb k 4 h) (all-below test 13 k refl l)) ∙ most-in a k h
-  where
-    power : ℕ → ℕ
-    power k = (1 * 2 ^ digitOf 0x0006_a000_07a0_7590 k) % 4294967296
-
-    test : ℕ → Bool
-    test k = eqb k 4 || eqb (power k) (getD mostTable k 0)
 
 -- ---- 4
 
 pub full-none : (a : List ℕ) (k m : ℕ) → m ≡ getD (greatest (rowsHeld a)) k 0 → m ≡ 0 → true ≡ leb (getD (greatest (rowsHeld a)) k 0) (count (rowsHeld a) k)
 full-none a k m h z = sym (le-leb (getD (greatest (rowsHeld a)) k 0) (count (rowsHeld a) k) (omega arith))
 
-below-most : (a : List ℕ) (k m : ℕ) → m ≡ getD (greatest (rowsHeld a)) k 0 → (m ≡ 0 → ⊥) → k < 13
-below-most a k m h z = go (ℕ-discrete (13 - k) 0)
+below-most : (a : List ℕ) (k m : ℕ) → m ≡ getD (greatest (rowsHeld a)) k 0 → (m ≡ 0 → ⊥) → k < noKey
+below-most a k m h z = go (ℕ-discrete (noKey - k) 0)
   where
-    go : Dec (13 - k ≡ 0) → k < 13
+    go : Dec (noKey - k ≡ 0) → k < noKey
     go (yes d) = absurd (z (h ∙ sym (most-out a k (omega arith))))
     go (no d) = omega arith
 
@@ -125,14 +102,11 @@ pub record Zeros (a : List ℕ) (k i : ℕ) : Type 0 where
 pub zeros-start : (a : List ℕ) (k : ℕ) → Zeros a k (k + 1)
 zeros-start a k = record { left = rw (add-one k) }
 
-and-none : (x : Bool) → (false && x) ≡ false
-and-none x = refl
-
 module _ (a : List ℕ) (k i : ℕ) (z : Zeros a k i) where
   order-is : inOrder (rowsHeld a) k ≡ (allZero (drop i (countsIn a)) && enough (rowsHeld a) k)
   order-is = ap (λ (c : List ℕ). allZero (drop (suc k) c) && enough (rowsHeld a) k) (counts-held [] a []) ∙ ap (λ (x : Bool). x && enough (rowsHeld a) k) (z .left)
 
-  module _ (n : ℕ) (h : i < 13) (e : n ≡ getD a i 0) where
+  module _ (n : ℕ) (h : i < noKey) (e : n ≡ getD a i 0) where
     zeros-at : drop i (countsIn a) ≡ n ∷ drop (suc i) (countsIn a)
     zeros-at = drop-cons (countsIn a) i 0 (rw (counts-long a) h) ∙ ap (λ (x : ℕ). x ∷ drop (suc i) (countsIn a)) (count-at a i h ∙ sym e)
 
@@ -142,15 +116,15 @@ module _ (a : List ℕ) (k i : ℕ) (z : Zeros a k i) where
     pub zeros-on : n ≡ 0 → Zeros a k (i + 1)
     zeros-on d = record { left = z .left ∙ rw (zeros-at, eq-eqb n 0 d, add-one i) refl }
 
-  pub zeros-end : (r : Bool) → 13 ≤ i → r ≡ enough (rowsHeld a) k → r ≡ inOrder (rowsHeld a) k
+  pub zeros-end : (r : Bool) → noKey ≤ i → r ≡ enough (rowsHeld a) k → r ≡ inOrder (rowsHeld a) k
   zeros-end r h e = e ∙ sym (order-is ∙ ap (λ (l : List ℕ). allZero l && enough (rowsHeld a) k) (drop-of-length-le (countsIn a) {i = i} (rw (counts-long a) h)))
 
 -- of the nodes' key on there is one key more
-pub nodes-off : (a : List ℕ) (k n : ℕ) → k ≡ 11 → n ≡ getD a 12 0 → (n ≡ 0 → ⊥) → false ≡ inOrder (rowsHeld a) k
-nodes-off a k n d e z = rw d (zeros-off a 11 12 (zeros-start a 11) n (omega arith) e z)
+pub nodes-off : (a : List ℕ) (k n : ℕ) → k ≡ NODE → n ≡ getD a POLICY 0 → (n ≡ 0 → ⊥) → false ≡ inOrder (rowsHeld a) k
+nodes-off a k n d e z = rw d (zeros-off a NODE POLICY (zeros-start a NODE) n (omega arith) e z)
 
-pub nodes-on : (a : List ℕ) (k n : ℕ) (r : Bool) → k ≡ 11 → n ≡ getD a 12 0 → n ≡ 0 → r ≡ enough (rowsHeld a) 11 → r ≡ inOrder (rowsHeld a) k
-nodes-on a k n r d e z h = rw d (zeros-end a 11 13 (zeros-on a 11 12 (zeros-start a 11) n (omega arith) e z) r (omega arith) h)
+pub nodes-on : (a : List ℕ) (k n : ℕ) (r : Bool) → k ≡ NODE → n ≡ getD a POLICY 0 → n ≡ 0 → r ≡ enough (rowsHeld a) NODE → r ≡ inOrder (rowsHeld a) k
+nodes-on a k n r d e z h = rw d (zeros-end a NODE noKey (zeros-on a NODE POLICY (zeros-start a NODE) n (omega arith) e z) r (omega arith) h)
 
 -- ---- 3: keys before k
 
@@ -161,19 +135,16 @@ pub record Reached (a : List ℕ) (k i : ℕ) : Type 0 where
 reached-start : (a : List ℕ) (k : ℕ) → Reached a k 0
 reached-start a k = let z : k - 0 ≡ k = omega arith in record { near = omega arith; left = rw z }
 
-least-long : (a : List ℕ) → length (least (rowsHeld a)) ≡ 13
-least-long a = refl
-
 module _ (a : List ℕ) (k i : ℕ) (z : Reached a k i) where
   enough-is : enough (rowsHeld a) k ≡ reach (take (k - i) (drop i (countsIn a))) (drop i (least (rowsHeld a)))
   enough-is = ap (λ (c : List ℕ). reach (take k c) (least (rowsHeld a))) (counts-held [] a []) ∙ z .left
 
-  module _ (n m : ℕ) (h : i < k) (top : k ≤ 13) (e : n ≡ getD a i 0) (f : m ≡ getD (least (rowsHeld a)) i 0) where
+  module _ (n m : ℕ) (h : i < k) (top : k ≤ noKey) (e : n ≡ getD a i 0) (f : m ≡ getD (least (rowsHeld a)) i 0) where
     reach-at : reach (take (k - i) (drop i (countsIn a))) (drop i (least (rowsHeld a)))
         ≡ (leb m n && reach (take (k - (i + 1)) (drop (i + 1) (countsIn a))) (drop (i + 1) (least (rowsHeld a))))
     reach-at =
         let p : k - i ≡ suc (k - (i + 1)) = omega arith in
-        let l : i < 13 = omega arith in
+        let l : i < noKey = omega arith in
         rw (p, drop-cons (countsIn a) i 0 (rw (counts-long a) l), count-at a i l, ← e, drop-cons (least (rowsHeld a)) i 0 l, ← f, add-one i) refl
 
     reached-off : n < m → false ≡ enough (rowsHeld a) k
@@ -185,7 +156,7 @@ module _ (a : List ℕ) (k i : ℕ) (z : Reached a k i) where
   reached-end : k ≤ i → true ≡ enough (rowsHeld a) k
   reached-end h = let p : k - i ≡ 0 = omega arith in sym (enough-is ∙ rw p refl)
 
-module _ (a : List ℕ) (k : ℕ) (top : k ≤ 13) where
+module _ (a : List ℕ) (k : ℕ) (top : k ≤ noKey) where
   -- a key before k lacks a line
   missing-from : (n i : ℕ) → Reached a k i → i + n < k → getD a (i + n) 0 < getD (least (rowsHeld a)) (i + n) 0 → false ≡ enough (rowsHeld a) k
   missing-from zero i z h l =
@@ -204,41 +175,42 @@ module _ (a : List ℕ) (k : ℕ) (top : k ≤ 13) where
   all-from zero i z e h = reached-end a k i z (omega arith)
   all-from (suc n) i z e h = all-from n (i + 1) (reached-on a k i z (getD a i 0) (getD (least (rowsHeld a)) i 0) (omega arith) top refl refl (h i (omega arith))) (omega arith) h
 
-  pub one-missing : (i n : ℕ) → (i ≡ 0) ⊎ ((7 ≤ i) × (i < 11)) → i < k → n ≡ getD a i 0 → n ≡ 0 → false ≡ enough (rowsHeld a) k
+  pub one-missing : (i n : ℕ) → (i ≡ SHEET) ⊎ ((PRINCIPAL ≤ i) × (i < NODE)) → i < k → n ≡ getD a i 0 → n ≡ 0 → false ≡ enough (rowsHeld a) k
   one-missing i n o h e z = missing-from i 0 (reached-start a k) (omega arith) (subst (λ (j : ℕ). getD a j 0 < getD (least (rowsHeld a)) j 0) q (omega (arith, least-one a i o)))
     where
       q : i ≡ 0 + i
       q = omega arith
 
-  pub shape-missing : (n m : ℕ) → 4 < k → n ≡ getD a 4 0 → m ≡ getD a 2 0 → n < m → false ≡ enough (rowsHeld a) k
-  shape-missing n m h e f l = missing-from 4 0 (reached-start a k) h (omega (arith, least-shape a))
+  pub shape-missing : (n m : ℕ) → SHAPE < k → n ≡ getD a SHAPE 0 → m ≡ getD a KIND 0 → n < m → false ≡ enough (rowsHeld a) k
+  shape-missing n m h e f l = missing-from SHAPE 0 (reached-start a k) h (omega (arith, least-shape a))
 
-  pub none-missing : (0 < k → 1 ≤ getD a 0 0) → (4 < k → getD a 2 0 ≤ getD a 4 0) → (7 < k → 1 ≤ getD a 7 0) → (8 < k → 1 ≤ getD a 8 0) → (9 < k → 1 ≤ getD a 9 0) → (10 < k → 1 ≤ getD a 10 0)
+  pub none-missing : (SHEET < k → 1 ≤ getD a SHEET 0) → (SHAPE < k → getD a KIND 0 ≤ getD a SHAPE 0) → (PRINCIPAL < k → 1 ≤ getD a PRINCIPAL 0) → (ACTION < k → 1 ≤ getD a ACTION 0)
+      → (RESOURCE < k → 1 ≤ getD a RESOURCE 0) → (CONTEXT < k → 1 ≤ getD a CONTEXT 0)
       → true ≡ enough (rowsHeld a) k
   none-missing sheet shape principal action resource context = all-from k 0 (reached-start a k) (omega arith) each
     where
-      one : (j i : ℕ) → j ≡ i → (i ≡ 0) ⊎ ((7 ≤ i) × (i < 11)) → 1 ≤ getD a i 0 → getD (least (rowsHeld a)) j 0 ≤ getD a j 0
+      one : (j i : ℕ) → j ≡ i → (i ≡ SHEET) ⊎ ((PRINCIPAL ≤ i) × (i < NODE)) → 1 ≤ getD a i 0 → getD (least (rowsHeld a)) j 0 ≤ getD a j 0
       one j i e o l = rw e (omega (arith, least-one a i o))
 
-      request : (j : ℕ) → j < k → 7 ≤ j → j < 11 → Dec (j ≡ 7) → Dec (j ≡ 8) → Dec (j ≡ 9) → getD (least (rowsHeld a)) j 0 ≤ getD a j 0
-      request j h l u (yes e) y z = one j 7 e (inr (omega arith, omega arith)) (principal (omega arith))
-      request j h l u (no x) (yes e) z = one j 8 e (inr (omega arith, omega arith)) (action (omega arith))
-      request j h l u (no x) (no y) (yes e) = one j 9 e (inr (omega arith, omega arith)) (resource (omega arith))
-      request j h l u (no x) (no y) (no z) = let e : j ≡ 10 = omega arith in one j 10 e (inr (omega arith, omega arith)) (context (omega arith))
+      request : (j : ℕ) → j < k → PRINCIPAL ≤ j → j < NODE → Dec (j ≡ PRINCIPAL) → Dec (j ≡ ACTION) → Dec (j ≡ RESOURCE) → getD (least (rowsHeld a)) j 0 ≤ getD a j 0
+      request j h l u (yes e) y z = one j PRINCIPAL e (inr (omega arith, omega arith)) (principal (omega arith))
+      request j h l u (no x) (yes e) z = one j ACTION e (inr (omega arith, omega arith)) (action (omega arith))
+      request j h l u (no x) (no y) (yes e) = one j RESOURCE e (inr (omega arith, omega arith)) (resource (omega arith))
+      request j h l u (no x) (no y) (no z) = let e : j ≡ CONTEXT = omega arith in one j CONTEXT e (inr (omega arith, omega arith)) (context (omega arith))
 
-      go : (j : ℕ) → j < k → Dec (j ≡ 0) → Dec (j ≡ 4) → Dec (j < 7) → Dec (j < 11) → getD (least (rowsHeld a)) j 0 ≤ getD a j 0
-      go j h (yes e) d u v = one j 0 e (inl refl) (sheet (omega arith))
+      go : (j : ℕ) → j < k → Dec (j ≡ SHEET) → Dec (j ≡ SHAPE) → Dec (j < PRINCIPAL) → Dec (j < NODE) → getD (least (rowsHeld a)) j 0 ≤ getD a j 0
+      go j h (yes e) d u v = one j SHEET e (inl refl) (sheet (omega arith))
       go j h (no z) (yes e) u v = rw e (omega (arith, least-shape a, shape (omega arith)))
       go j h (no z) (no d) (yes u) v = omega (arith, least-none a j (omega arith) z d (inl u))
-      go j h (no z) (no d) (no u) (yes v) = request j h (omega arith) v (ℕ-discrete j 7) (ℕ-discrete j 8) (ℕ-discrete j 9)
+      go j h (no z) (no d) (no u) (yes v) = request j h (omega arith) v (ℕ-discrete j PRINCIPAL) (ℕ-discrete j ACTION) (ℕ-discrete j RESOURCE)
       go j h (no z) (no d) (no u) (no v) = omega (arith, least-none a j (omega arith) z d (inr (omega arith)))
 
       each : (j : ℕ) → j < k → getD (least (rowsHeld a)) j 0 ≤ getD a j 0
-      each j h = go j h (ℕ-discrete j 0) (ℕ-discrete j 4) (decLt j 7) (decLt j 11)
+      each j h = go j h (ℕ-discrete j SHEET) (ℕ-discrete j SHAPE) (decLt j PRINCIPAL) (decLt j NODE)
 
-  pub context-decides : (n : ℕ) → 10 < k → n ≡ getD a 10 0 → 1 ≤ getD a 0 0 → getD a 2 0 ≤ getD a 4 0 → 1 ≤ getD a 7 0 → 1 ≤ getD a 8 0 → 1 ≤ getD a 9 0 → not (eqb n 0) ≡ enough (rowsHeld a) k
+  pub context-decides : (n : ℕ) → CONTEXT < k → n ≡ getD a CONTEXT 0 → 1 ≤ getD a SHEET 0 → getD a KIND 0 ≤ getD a SHAPE 0 → 1 ≤ getD a PRINCIPAL 0 → 1 ≤ getD a ACTION 0 → 1 ≤ getD a RESOURCE 0 → not (eqb n 0) ≡ enough (rowsHeld a) k
   context-decides n h e sheet shape principal action resource = go (ℕ-discrete n 0)
     where
       go : Dec (n ≡ 0) → not (eqb n 0) ≡ enough (rowsHeld a) k
-      go (yes z) = ap not (eq-eqb n 0 z) ∙ one-missing 10 n (inr (omega arith, omega arith)) h e z
+      go (yes z) = ap not (eq-eqb n 0 z) ∙ one-missing CONTEXT n (inr (omega arith, omega arith)) h e z
       go (no z) = ap not (ne-eqb n 0 z) ∙ none-missing (λ q. sheet) (λ q. shape) (λ q. principal) (λ q. action) (λ q. resource) (λ q. omega arith)

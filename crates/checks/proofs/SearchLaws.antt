@@ -11,10 +11,11 @@ use lib.ListN.{length, getD, drop, length-take, length-drop, List·getD-eq-defau
 use lib.Seq.{drop-cons, getD-drop, take-all}
 use Rattle.words.proofs.Stores.{part-at}
 use Rattle.sheet.specs.Bytes.{same}
-use Rattle.sheet.specs.Forms.{formOf, forms, tag, at, keyOf}
+use Rattle.sheet.specs.Forms.{formOf, forms, tag, at, keyOf, noKey}
+use Rattle.forms.specs.Tags.{TEXT-LINE}
 use Rattle.sheet.specs.Sheet.{among}
 use Rattle.scan.proofs.Scans.{same-is}
-use Rattle.table.specs.Layout.{part, base, rowAt, rowsOf, textRow, textRows}
+use Rattle.table.specs.Layout.{part, base, heap, rowAt, rowsOf, textRow, textRows}
 use Rattle.table.proofs.Rows.{count-rows, row-at-is, row-some}
 use Rattle.checks.specs.Ends.{endsOf, RowEnds, TextEnds}
 
@@ -43,11 +44,8 @@ any-none p (q ∷ l) h = rw (h 0 (omega arith)) (any-none p l (λ j i. h (suc j)
 pub record Scanned (p : List ℕ → Bool) (a : List ℕ) (k i : ℕ) : Type 0 where
   pub left : anyOf p (rowsOf a k) ≡ anyOf p (drop i (rowsOf a k))
 
-pub scan-start : (p : List ℕ → Bool) (a : List ℕ) (k : ℕ) → Scanned p a k 0
-scan-start p a k = record { left = refl }
-
 -- starts are those of the words that say where the rows of key k begin that are there
-module _ (p : List ℕ → Bool) (a : List ℕ) (k n b i : ℕ) (starts : List ℕ) (s : Scanned p a k i) (hn : n ≡ getD a k 0) (hb : (b ≡ base k) × (b < 4003)) (hs : starts ≡ part a b (b + n)) where
+module _ (p : List ℕ → Bool) (a : List ℕ) (k n b i : ℕ) (starts : List ℕ) (s : Scanned p a k i) (hn : n ≡ getD a k 0) (hb : (b ≡ base k) × (b < heap)) (hs : starts ≡ part a b (b + n)) where
   starts-long : (length starts ≤ n) × (length starts ≤ length a - b)
   starts-long =
       let z : b + n - b ≡ n = omega arith in
@@ -150,8 +148,8 @@ same-tail : (x y : ℕ) (k l : List ℕ) → x ∷ k ≡ y ∷ l → k ≡ l
 same-tail x y k l e = cc
 
 module _ (sheet a text ends : List ℕ) (x i s : ℕ) (h : TextEnds sheet a text ends x i s) where
-  pub text-otherwise : (p : ℕ) → p ≡ getD a (s + 1) 0 → p < length ends → (getD ends p 0 ≡ x → ⊥) → false ≡ same (1 ∷ text) (textRow sheet (rowAt a i))
-  text-otherwise p hp l n = not-same (1 ∷ text) (textRow sheet (rowAt a i)) (λ e. n (found (same-tail 1 (tag (rowAt a i)) text (part sheet (at (rowAt a i) 0) (at (rowAt a i) 0 + at (rowAt a i) 1)) e)))
+  pub text-otherwise : (p : ℕ) → p ≡ getD a (s + 1) 0 → p < length ends → (getD ends p 0 ≡ x → ⊥) → false ≡ same (TEXT-LINE ∷ text) (textRow sheet (rowAt a i))
+  text-otherwise p hp l n = not-same (TEXT-LINE ∷ text) (textRow sheet (rowAt a i)) (λ e. n (found (same-tail TEXT-LINE (tag (rowAt a i)) text (part sheet (at (rowAt a i) 0) (at (rowAt a i) 0 + at (rowAt a i) 1)) e)))
     where
       q : rowAt a i ≡ part a s (getD a (i + 1) 0)
       q = sym (row-at-is a i s (getD a (i + 1) 0) (part a s (getD a (i + 1) 0)) (h .start) refl refl)
@@ -171,12 +169,12 @@ module _ (sheet a text ends : List ℕ) (x i s : ℕ) (h : TextEnds sheet a text
               go (yes d) = d
               go (no d) = absurd (omega (arith, List·getD-eq-default l 0 {n = j} (omega arith)))
 
-  pub text-compared : (e : ℕ) (q : List ℕ) (b : Bool) → e ≡ getD a (i + 1) 0 → q ≡ part a s e → b ≡ same (1 ∷ text) (textRow sheet q) → b ≡ same (1 ∷ text) (textRow sheet (rowAt a i))
-  text-compared e q b he hq hb = hb ∙ ap (λ (y : List ℕ). same (1 ∷ text) (textRow sheet y)) (row-at-is a i s e q (h .start) he hq)
+  pub text-compared : (e : ℕ) (q : List ℕ) (b : Bool) → e ≡ getD a (i + 1) 0 → q ≡ part a s e → b ≡ same (TEXT-LINE ∷ text) (textRow sheet q) → b ≡ same (TEXT-LINE ∷ text) (textRow sheet (rowAt a i))
+  text-compared e q b he hq hb = hb ∙ ap (λ (y : List ℕ). same (TEXT-LINE ∷ text) (textRow sheet y)) (row-at-is a i s e q (h .start) he hq)
 
 -- ---- a row with a key has words
 
-pub keyed-row : (r : List ℕ) (k : ℕ) → k ≡ keyOf r → k < 13 → 1 ≤ length r
+pub keyed-row : (r : List ℕ) (k : ℕ) → k ≡ keyOf r → k < noKey → 1 ≤ length r
 unfolding keyOf formOf forms
 keyed-row [] k e h = absurd (omega arith)
 keyed-row (x ∷ r) k e h = omega arith

@@ -9,10 +9,11 @@ use borrow.Author.Tests.{eq-eqb, ne-eqb}
 use lib.Dec.{eqb}
 use lib.ListN.{length, getD, take, drop, set, length-take, List·getD-eq-default}
 use lib.Seq.{getD-take, getD-drop, set-out, take-set-lt, take-set-le, drop-set-lt, drop-set-add}
-use Rattle.sheet.specs.Forms.{slotAt, tag, items, keep, refsFrom, refs, NODE}
+use Rattle.sheet.specs.Forms.{slotAt, tag, items, keep, refsFrom, refs, NODE, POLICY}
 use Rattle.sheet.specs.Sheet.{marked, usedTwice}
 use Rattle.table.specs.Layout.{USES}
-use Rattle.forms.specs.Rows.{code as codeOf}
+use Rattle.forms.specs.Rows.{OF-TYPE, OF-NODE, code as codeOf}
+use Rattle.forms.specs.Tags.{AND}
 use Rattle.checks.specs.Codes.{keyIn, formCode, againCode, codesAfter, codesAt}
 use Rattle.checks.specs.Depths.{OnTwo}
 use Rattle.checks.proofs.FormTable.{code-at, no-node}
@@ -23,15 +24,15 @@ use Rattle.checks.proofs.DepthLaws.{line-code, refs-at, on-type, on-fir
 -- ---- one node
 
 module _ (a b : List ℕ) (c x : ℕ) where
-  pub use-other : (c ≡ 27 → ⊥) → Marked a b (keep (eqb c 27) x []) b false
-  use-other n = rw (ne-eqb c 27 n) (record { twice-is = refl; uses = λ z. refl; below = refl; above = λ z. refl })
+  pub use-other : (c ≡ OF-NODE → ⊥) → Marked a b (keep (eqb c OF-NODE) x []) b false
+  use-other n = rw (ne-eqb c OF-NODE n) (record { twice-is = refl; uses = λ z. refl; below = refl; above = λ z. refl })
 
-  module _ (e : c ≡ 27) (n : ℕ) (hn : n ≡ getD a NODE 0) where
-    pub use-none : n ≤ x → Marked a b (keep (eqb c 27) x []) b false
+  module _ (e : c ≡ OF-NODE) (n : ℕ) (hn : n ≡ getD a NODE 0) where
+    pub use-none : n ≤ x → Marked a b (keep (eqb c OF-NODE) x []) b false
     use-none h =
         let l : length (usesIn a b) ≤ x = omega (arith, length-take (getD a NODE 0) (drop USES b)) in
         let z : getD (usesIn a b) x 0 ≡ 0 = List·getD-eq-default (usesIn a b) 0 l in
-        rw (eq-eqb c 27 e)
+        rw (eq-eqb c OF-NODE e)
         (record {
           twice-is = sym (rw z refl);
           uses = λ q. sym (set-out (usesIn a b) x 1 l);
@@ -39,13 +40,13 @@ module _ (a b : List ℕ) (c x : ℕ) where
           above = λ q. refl;
         })
 
-    module _ (h : x < n) (u : ℕ) (hu : u ≡ getD b (6272 + x) 0) where
+    module _ (h : x < n) (u : ℕ) (hu : u ≡ getD b (USES + x) 0) where
       use-is : getD (usesIn a b) x 0 ≡ u
       use-is = getD-take (getD a NODE 0) (drop USES b) x 0 (omega arith) ∙ getD-drop USES b x 0 ∙ sym hu
 
-      pub use-twice : u ≡ 1 → Marked a b (keep (eqb c 27) x []) b true
+      pub use-twice : u ≡ 1 → Marked a b (keep (eqb c OF-NODE) x []) b true
       use-twice o =
-          rw (eq-eqb c 27 e)
+          rw (eq-eqb c OF-NODE e)
           (record {
             twice-is = sym (rw (use-is, eq-eqb u 1 o) refl);
             uses = λ q. absurd (never q);
@@ -56,21 +57,21 @@ module _ (a b : List ℕ) (c x : ℕ) where
           never : true ≡ false → ⊥
           never q = let z : _≡_ {A = ℕ} 0 1 = cc in omega arith
 
-      pub use-once : (u ≡ 1 → ⊥) → (b′ : List ℕ) → b′ ≡ set b (6272 + x) 1 → Marked a b (keep (eqb c 27) x []) b′ false
+      pub use-once : (u ≡ 1 → ⊥) → (b′ : List ℕ) → b′ ≡ set b (USES + x) 1 → Marked a b (keep (eqb c OF-NODE) x []) b′ false
       use-once o b′ hb =
-          rw (eq-eqb c 27 e)
+          rw (eq-eqb c OF-NODE e)
           (record {
             twice-is = sym (rw (use-is, ne-eqb u 1 o) refl);
             uses = λ q. rw (hb, drop-set-add USES b x 1) (take-set-lt (getD a NODE 0) (drop USES b) x 1 (omega arith));
-            below = rw hb (take-set-le USES b (6272 + x) 1 (omega arith));
-            above = λ q. rw hb (drop-set-lt 7296 b (6272 + x) 1 (omega arith));
+            below = rw hb (take-set-le USES b (USES + x) 1 (omega arith));
+            above = λ q. rw hb (drop-set-lt 7296 b (USES + x) 1 (omega arith));
           })
 
 -- ---- the nodes of a row
 
 pub record Using (a b₀ : List ℕ) (r b : List ℕ) (j : ℕ) : Type 0 where
-  pub twice : usedTwice (usesIn a b₀) (refs 11 r) ≡ usedTwice (usesIn a b) (refsFrom 11 (tag r) j (drop (suc j) r))
-  pub marks : marked (usesIn a b₀) (refs 11 r) ≡ marked (usesIn a b) (refsFrom 11 (tag r) j (drop (suc j) r))
+  pub twice : usedTwice (usesIn a b₀) (refs NODE r) ≡ usedTwice (usesIn a b) (refsFrom NODE (tag r) j (drop (suc j) r))
+  pub marks : marked (usesIn a b₀) (refs NODE r) ≡ marked (usesIn a b) (refsFrom NODE (tag r) j (drop (suc j) r))
   pub below : take USES b ≡ take USES b₀
   pub above : getD a NODE 0 ≤ 1024 → drop 7296 b ≡ drop 7296 b₀
   pub long : length b ≡ length b₀
@@ -89,18 +90,18 @@ marked-keep u true x l = refl
 marked-keep u false x l = refl
 
 module _ (a b₀ r b : List ℕ) (j : ℕ) (i : Using a b₀ r b j) where
-  module _ (t x c : ℕ) (ht : t ≡ tag r) (h : j + 1 < length r) (hx : x ≡ getD r (j + 1) 0) (hc : (c ≡ codeOf (slotAt t j)) × (keyIn (slotAt t j) ≤ 12))
-      (b′ : List ℕ) (w : Bool) (m : Marked a b (keep (eqb c 27) x []) b′ w) where
+  module _ (t x c : ℕ) (ht : t ≡ tag r) (h : j + 1 < length r) (hx : x ≡ getD r (j + 1) 0) (hc : (c ≡ codeOf (slotAt t j)) × (keyIn (slotAt t j) ≤ POLICY))
+      (b′ : List ℕ) (w : Bool) (m : Marked a b (keep (eqb c OF-NODE) x []) b′ w) where
     abbrev rest : List ℕ
-    rest = refsFrom 11 (tag r) (suc j) (drop (suc (suc j)) r)
+    rest = refsFrom NODE (tag r) (suc j) (drop (suc (suc j)) r)
 
-    left-is : refsFrom 11 (tag r) j (drop (suc j) r) ≡ keep (eqb c 27) x rest
-    left-is = refs-at 11 (omega arith) r j t x c ht h hx hc
+    left-is : refsFrom NODE (tag r) j (drop (suc j) r) ≡ keep (eqb c OF-NODE) x rest
+    left-is = refs-at NODE (omega arith) r j t x c ht h hx hc
 
-    pub using-twice : w ≡ true → Marked a b₀ (refs 11 r) b′ true
+    pub using-twice : w ≡ true → Marked a b₀ (refs NODE r) b′ true
     using-twice e =
         record {
-          twice-is = sym (i .twice ∙ ap (usedTwice (usesIn a b)) left-is ∙ twice-keep (usesIn a b) (eqb c 27) x rest ∙ rw (← (m .twice-is), e) refl);
+          twice-is = sym (i .twice ∙ ap (usedTwice (usesIn a b)) left-is ∙ twice-keep (usesIn a b) (eqb c OF-NODE) x rest ∙ rw (← (m .twice-is), e) refl);
           uses = λ q. absurd (never q);
           below = m .below ∙ i .below;
           above = λ q. m .above q ∙ i .above q;
@@ -113,18 +114,18 @@ module _ (a b₀ r b : List ℕ) (j : ℕ) (i : Using a b₀ r b j) where
     using-on e l =
         subst (Using a b₀ r b′) (sym (add-one j))
         (record {
-          twice = i .twice ∙ ap (usedTwice (usesIn a b)) left-is ∙ twice-keep (usesIn a b) (eqb c 27) x rest
+          twice = i .twice ∙ ap (usedTwice (usesIn a b)) left-is ∙ twice-keep (usesIn a b) (eqb c OF-NODE) x rest
               ∙ ap₂ (λ (y : Bool) (u : List ℕ). y || usedTwice u rest) (sym (m .twice-is) ∙ e) (sym (m .uses e));
-          marks = i .marks ∙ ap (marked (usesIn a b)) left-is ∙ marked-keep (usesIn a b) (eqb c 27) x rest ∙ ap (λ (u : List ℕ). marked u rest) (sym (m .uses e));
+          marks = i .marks ∙ ap (marked (usesIn a b)) left-is ∙ marked-keep (usesIn a b) (eqb c OF-NODE) x rest ∙ ap (λ (u : List ℕ). marked u rest) (sym (m .uses e));
           below = m .below ∙ i .below;
           above = λ q. m .above q ∙ i .above q;
           long = l ∙ i .long;
           near = omega arith;
         })
 
-  pub using-end : length r ≤ j + 1 → Marked a b₀ (refs 11 r) b false
+  pub using-end : length r ≤ j + 1 → Marked a b₀ (refs NODE r) b false
   using-end h =
-      let e : refsFrom 11 (tag r) j (drop (suc j) r) ≡ [] = ap (refsFrom 11 (tag r) j) (items-end r j h) in
+      let e : refsFrom NODE (tag r) j (drop (suc j) r) ≡ [] = ap (refsFrom NODE (tag r) j) (items-end r j h) in
       record {
         twice-is = sym (i .twice ∙ ap (usedTwice (usesIn a b)) e);
         uses = λ q. sym (i .marks ∙ ap (marked (usesIn a b)) e);
@@ -144,11 +145,11 @@ unfolding codesAt
 marking-start a b r t again w ht ha hw small = record { group = ha ∙ ap againCode ht; small = small; marks = using-start a b r; codes = hw ∙ ap formCode ht }
 
 module _ (a b₀ r b : List ℕ) (again w j : ℕ) (i : Marking a b₀ r b again w j) where
-  module _ (t x c : ℕ) (ht : t ≡ tag r) (h : j + 1 < length r) (hc : c ≡ w % 256) (hx : x ≡ getD r (j + 1) 0) (b′ : List ℕ) (v : Bool) (m : Marked a b (keep (eqb c 27) x []) b′ v) where
-    code-here : (c ≡ codeOf (slotAt t j)) × (keyIn (slotAt t j) ≤ 12)
+  module _ (t x c : ℕ) (ht : t ≡ tag r) (h : j + 1 < length r) (hc : c ≡ w % 256) (hx : x ≡ getD r (j + 1) 0) (b′ : List ℕ) (v : Bool) (m : Marked a b (keep (eqb c OF-NODE) x []) b′ v) where
+    code-here : (c ≡ codeOf (slotAt t j)) × (keyIn (slotAt t j) ≤ POLICY)
     code-here = code-at t j w c (i .codes ∙ ap (λ (y : ℕ). codesAt y j) (sym ht)) hc
 
-    pub marking-twice : v ≡ true → Marked a b₀ (refs 11 r) b′ true
+    pub marking-twice : v ≡ true → Marked a b₀ (refs NODE r) b′ true
     marking-twice = using-twice a b₀ r b j (i .marks) t x c ht h hx code-here b′ v m
 
     pub marking-on : v ≡ false → length b′ ≡ length b → (w′ : ℕ) → w′ ≡ codesAfter again w → w′ < 4294967296 → Marking a b₀ r b′ again w′ (j + 1)
@@ -161,16 +162,16 @@ module _ (a b₀ r b : List ℕ) (again w j : ℕ) (i : Marking a b₀ r b again
           codes = hw ∙ ap₂ codesAfter (i .group) (i .codes) ∙ ap (codesAt (tag r)) (sym (add-one j));
         }
 
-  pub marking-end : length r ≤ j + 1 → Marked a b₀ (refs 11 r) b false
+  pub marking-end : length r ≤ j + 1 → Marked a b₀ (refs NODE r) b false
   marking-end = using-end a b₀ r b j (i .marks)
 
 -- ---- rows without nodes
 
-no-refs : (t j : ℕ) (l : List ℕ) → t < 24 → refsFrom 11 t j l ≡ []
+no-refs : (t j : ℕ) (l : List ℕ) → t < AND → refsFrom NODE t j l ≡ []
 no-refs t j [] h = refl
-no-refs t j (x ∷ l) h = rw (line-code 11 (omega arith) (slotAt t j), no-node t j h) (no-refs t (suc j) l h)
+no-refs t j (x ∷ l) h = rw (line-code NODE (omega arith) (slotAt t j), no-node t j h) (no-refs t (suc j) l h)
 
-pub use-nothing : (a b r : List ℕ) (t : ℕ) → t ≡ tag r → t < 24 → Marked a b (refs 11 r) b false
+pub use-nothing : (a b r : List ℕ) (t : ℕ) → t ≡ tag r → t < AND → Marked a b (refs NODE r) b false
 unfolding refs
 use-nothing a b r t e h =
     rw (no-refs (tag r) 0 (items r) (omega arith))
@@ -180,19 +181,19 @@ use-nothing a b r t e h =
 
 module _ (a b r : List ℕ) (two : OnTwo r) where
   using₁ : Using a b r b 1
-  using₁ = using-on a b r b 0 (using-start a b r) (tag r) (getD r 1 0) 19 refl (omega (arith, two .long)) refl (on-type a b r two) b false (use-other a b 19 (getD r 1 0) (λ q. absurd (omega arith))) refl refl
+  using₁ = using-on a b r b 0 (using-start a b r) (tag r) (getD r 1 0) OF-TYPE refl (omega (arith, two .long)) refl (on-type a b r two) b false (use-other a b OF-TYPE (getD r 1 0) (λ q. absurd (omega arith))) refl refl
 
-  module _ (y : ℕ) (hy : y ≡ getD r 2 0) (b₁ : List ℕ) (u : Bool) (m : Marked a b (keep (eqb 27 27) y []) b₁ u) where
-    pub first-twice : u ≡ true → Marked a b (refs 11 r) b₁ true
-    first-twice = using-twice a b r b 1 using₁ (tag r) y 27 refl (omega (arith, two .long)) hy (on-first a b r two) b₁ u m
+  module _ (y : ℕ) (hy : y ≡ getD r 2 0) (b₁ : List ℕ) (u : Bool) (m : Marked a b (keep (eqb OF-NODE OF-NODE) y []) b₁ u) where
+    pub first-twice : u ≡ true → Marked a b (refs NODE r) b₁ true
+    first-twice = using-twice a b r b 1 using₁ (tag r) y OF-NODE refl (omega (arith, two .long)) hy (on-first a b r two) b₁ u m
 
-    module _ (e : u ≡ false) (l : length b₁ ≡ length b) (z : ℕ) (hz : z ≡ getD r 3 0) (b₂ : List ℕ) (v : Bool) (n : Marked a b₁ (keep (eqb 27 27) z []) b₂ v) (k : length b₂ ≡ length b₁) where
+    module _ (e : u ≡ false) (l : length b₁ ≡ length b) (z : ℕ) (hz : z ≡ getD r 3 0) (b₂ : List ℕ) (v : Bool) (n : Marked a b₁ (keep (eqb OF-NODE OF-NODE) z []) b₂ v) (k : length b₂ ≡ length b₁) where
       using₂ : Using a b r b₁ 2
-      using₂ = using-on a b r b 1 using₁ (tag r) y 27 refl (omega (arith, two .long)) hy (on-first a b r two) b₁ u m e l
+      using₂ = using-on a b r b 1 using₁ (tag r) y OF-NODE refl (omega (arith, two .long)) hy (on-first a b r two) b₁ u m e l
 
-      pub second-marked : Marked a b (refs 11 r) b₂ v
+      pub second-marked : Marked a b (refs NODE r) b₂ v
       second-marked = go v n
         where
-          go : (v : Bool) → Marked a b₁ (keep (eqb 27 27) z []) b₂ v → Marked a b (refs 11 r) b₂ v
-          go true n = using-twice a b r b₁ 2 using₂ (tag r) z 27 refl (omega (arith, two .long)) hz (on-second a b r two) b₂ true n refl
-          go false n = using-end a b r b₂ 3 (using-on a b r b₁ 2 using₂ (tag r) z 27 refl (omega (arith, two .long)) hz (on-second a b r two) b₂ false n refl k) (omega (arith, two .long))
+          go : (v : Bool) → Marked a b₁ (keep (eqb OF-NODE OF-NODE) z []) b₂ v → Marked a b (refs NODE r) b₂ v
+          go true n = using-twice a b r b₁ 2 using₂ (tag r) z OF-NODE refl (omega (arith, two .long)) hz (on-second a b r two) b₂ true n refl
+          go false n = using-end a b r b₂ 3 (using-on a b r b₁ 2 using₂ (tag r) z OF-NODE refl (omega (arith, two .long)) hz (on-second a b r two) b₂ false n refl k) (omega (arith, two .long))

@@ -1,22 +1,36 @@
 // The checks of one row against the rows that the words hold: order of keys, limits, references, repeats, depth, uses of nodes.
+use forms::ACTION;
+use forms::AND;
+use forms::CONTEXT;
+use forms::ENTITY;
 use forms::Form;
+use forms::IF;
+use forms::KIND;
+use forms::LINE;
+use forms::LIT;
+use forms::MARK;
+use forms::NO_KEY;
+use forms::NODE;
+use forms::OF_NODE;
+use forms::POLICY;
+use forms::PRINCIPAL;
+use forms::RESOURCE;
+use forms::SHAPE;
+use forms::SHEET;
+use forms::TEXT;
+use forms::TEXT_LINE;
+use forms::TYPE;
+use forms::UNKNOWN;
+use forms::VALUE;
 use forms::form_of;
+use forms::key_row;
 use forms::slots_of;
 use scan::same_bytes;
 use scan::same_words;
-use table::ACTION;
-use table::CONTEXT;
-use table::ENTITY;
-use table::KIND;
-use table::NODE;
-use table::POLICY;
-use table::PRINCIPAL;
-use table::RESOURCE;
-use table::SHAPE;
-use table::SHEET;
-use table::TEXT;
-use table::TYPE;
-use table::VALUE;
+use table::NODEDEPTHS;
+use table::TYPEDEPTHS;
+use table::USES;
+use table::VALUEDEPTHS;
 use table::base_of;
 use table::bytes;
 use table::count;
@@ -24,7 +38,6 @@ use table::item;
 use table::row;
 use table::tag;
 use words::cut;
-use words::digit;
 use words::put;
 use words::read;
 ghost use mathlib.Core.Path.{_≡_};
@@ -35,42 +48,32 @@ ghost use lib.Dec.{leb, eqb};
 ghost use lib.ListN.{length, getD, drop};
 ghost use Rattle.cedar.specs.Numbered.{memN};
 ghost use Rattle.sheet.specs.Bytes.{same};
-ghost use Rattle.sheet.specs.Forms.{tag, keyOf, formOf, keep, refs, ascendings};
+ghost use Rattle.sheet.specs.Forms.{tag, keyOf, formOf, keep, refs, ascendings, noKey, TEXT, ENTITY, NODE};
 ghost use Rattle.sheet.specs.State.{count};
 ghost use Rattle.sheet.specs.Sheet.{greatest, enough, inOrder, ascend, among, firsts, above, fresh, found, depth};
 ghost use Rattle.table.specs.Layout.{rowAt, rowsOf, textRow, textRows, held};
 ghost use Rattle.table.proofs.Held.{depthsIn};
+ghost use Rattle.forms.specs.Rows.{LINE, OF-NODE};
+ghost use Rattle.forms.specs.Tags.{TEXT-LINE};
 ghost use Rattle.checks.specs.Codes.{packed, packedFrom, codesAfter};
 ghost use Rattle.checks.specs.Depths.{ThereAs, thereDepth, OnTwo, OnNone};
 ghost use Rattle.checks.specs.Ends.{RowEnds, endsOf, TextEnds};
 ghost use Rattle.checks.specs.Uses.{Marked};
 
-// Where the depths of types, values and nodes stand, and the uses of nodes.
-pub const TYPEDEPTHS: usize = 4096;
-
-pub const VALUEDEPTHS: usize = 4224;
-
-pub const NODEDEPTHS: usize = 5248;
-
-pub const USES: usize = 6272;
-
-// What a mark is in a row.
-const MARK: u32 = 10000;
-
 // ---- the table of forms
 
 // What may stand at the places of a form's group, which follow those of its items: a byte each, the first the lowest.
-fn again_of(f: Form) -> u32
-    ensures { λ r. ⌜ r ≡ packedFrom (f .items) (packed f) ⌝ }
+fn again_of(form: Form) -> u32
+    ensures { λ r. ⌜ r ≡ packedFrom (form .items) (packed form) ⌝ }
 {
-    (slots_of(f) as usize >> (f.items % 8 * 8)) as u32
+    (slots_of(form) as usize >> (form.items % 8 * 8)) as u32
 }
 
-// What the places after the first of w refer to: the rest of w, or the group once more.
-fn codes_after(w: u32, again: u32) -> u32
-    ensures { λ r. ⌜ r ≡ codesAfter again w ⌝ }
+// What the places after the first of `slots` refer to: the rest of `slots`, or the group once more.
+fn codes_after(slots: u32, again: u32) -> u32
+    ensures { λ r. ⌜ r ≡ codesAfter again slots ⌝ }
 {
-    let v = w / 256;
+    let v = slots / 256;
     if v == 0 {
         return again;
     }
@@ -79,121 +82,118 @@ fn codes_after(w: u32, again: u32) -> u32
 
 // ---- 3: key order, lines missing
 
-// No line is missing of the keys before k: one of the sheet, as many shapes as kinds, one of each part of the request.
-pub fn enough_before(a: &[u32], k: usize) -> bool
-    requires { ⌜ k ≤ 13 ⌝ }
-    ensures { λ r. ⌜ r ≡ enough (held [] (now (a .entry)) []) k ⌝ }
+// No line is missing of the keys before `key`: one of the sheet, as many shapes as kinds, one of each part of the request.
+pub fn enough_before(rows: &[u32], key: usize) -> bool
+    requires { ⌜ key ≤ noKey ⌝ }
+    ensures { λ r. ⌜ r ≡ enough (held [] (now (rows .entry)) []) key ⌝ }
 {
-    if k == 0 {
+    if key == SHEET {
         return true;
     }
-    if count(a, SHEET) == 0 {
+    if count(rows, SHEET) == 0 {
         return false;
     }
-    if k < 5 {
+    if key <= SHAPE {
         return true;
     }
-    if count(a, SHAPE) < count(a, KIND) {
+    if count(rows, SHAPE) < count(rows, KIND) {
         return false;
     }
-    if k < 8 {
+    if key <= PRINCIPAL {
         return true;
     }
-    if count(a, PRINCIPAL) == 0 {
+    if count(rows, PRINCIPAL) == 0 {
         return false;
     }
-    if k < 9 {
+    if key <= ACTION {
         return true;
     }
-    if count(a, ACTION) == 0 {
+    if count(rows, ACTION) == 0 {
         return false;
     }
-    if k < 10 {
+    if key <= RESOURCE {
         return true;
     }
-    if count(a, RESOURCE) == 0 {
+    if count(rows, RESOURCE) == 0 {
         return false;
     }
-    if k < 11 {
+    if key <= CONTEXT {
         return true;
     }
-    count(a, CONTEXT) != 0
+    count(rows, CONTEXT) != 0
 }
 
-// No key after k has a line, and none is missing before it.
-pub fn in_order(a: &[u32], k: usize) -> bool
-    requires { ⌜ k ≤ 13 ⌝ }
-    ensures { λ r. ⌜ r ≡ inOrder (held [] (now (a .entry)) []) k ⌝ }
+// No key after `key` has a line, and none is missing before it.
+pub fn in_order(rows: &[u32], key: usize) -> bool
+    requires { ⌜ key ≤ noKey ⌝ }
+    ensures { λ r. ⌜ r ≡ inOrder (held [] (now (rows .entry)) []) key ⌝ }
 {
-    if k == NODE {
-        if count(a, POLICY) != 0 {
+    if key == NODE {
+        if count(rows, POLICY) != 0 {
             return false;
         }
-        return enough_before(a, NODE);
+        return enough_before(rows, NODE);
     }
-    let mut i = k + 1;
-    while i < 13 {
-        let n = count(a, i);
+    let mut i = key + 1;
+    while i < NO_KEY {
+        let n = count(rows, i);
         if n != 0 {
             return false;
         }
         i += 1;
     }
-    enough_before(a, k)
+    enough_before(rows, key)
 }
 
 // ---- 4: one line too many
 
-// The greatest number of lines of a key: a power of two, or as many shapes as there are kinds.
-fn most_of(a: &[u32], k: usize) -> u32
-    ensures { λ r. ⌜ r ≡ getD (greatest (held [] (now (a .entry)) [])) k 0 ⌝ }
+// The greatest number of lines of a key; there are as many shapes as kinds.
+fn most_of(rows: &[u32], key: usize) -> u32
+    ensures { λ r. ⌜ r ≡ getD (greatest (held [] (now (rows .entry)) [])) key 0 ⌝ }
 {
-    if k == NODE {
-        return 1024;
+    if key == SHAPE {
+        return count(rows, KIND);
     }
-    if k == SHAPE {
-        return count(a, KIND);
-    }
-    if k < 13 {
-        return 1 << digit(0x0006_a000_07a0_7590, k);
+    if key < NO_KEY {
+        return key_row(key).most;
     }
     0
 }
 
-pub fn is_full(a: &[u32], k: usize) -> bool
-    ensures { λ r. ⌜ r ≡ leb (getD (greatest (held [] (now (a .entry)) [])) k 0) (count (held [] (now (a .entry)) []) k) ⌝ }
+pub fn is_full(rows: &[u32], key: usize) -> bool
+    ensures { λ r. ⌜ r ≡ leb (getD (greatest (held [] (now (rows .entry)) [])) key 0) (count (held [] (now (rows .entry)) []) key) ⌝ }
 {
-    let m = most_of(a, k);
+    let m = most_of(rows, key);
     if m == 0 {
         return true;
     }
-    let n = count(a, k);
+    let n = count(rows, key);
     m <= n
 }
 
 // ---- 5: references, repeats, order
 
-// Whether item x is there, as code c asks.
-fn is_there(a: &[u32], c: usize, x: u32) -> bool
-    ensures { λ r. ⌜ ThereAs (now (a .entry)) c x r ⌝ }
+// Whether item `x` is there, as its slot asks.
+fn is_there(rows: &[u32], slot: u8, x: u32) -> bool
+    ensures { λ r. ⌜ ThereAs (now (rows .entry)) slot x r ⌝ }
 {
-    if c < 16 {
+    if slot < LINE {
         return true;
     }
-    let n = count(a, c % 16);
+    let n = count(rows, (slot % LINE) as usize);
     if x < n {
         return true;
     }
-    if c < 32 {
+    if slot < UNKNOWN {
         return false;
     }
     x == MARK
 }
 
-fn ascends(r: &[u32]) -> bool
-    ensures { λ b. ⌜ b ≡ ascend 0 (ascendings (now (r .entry))) ⌝ }
+fn ascends(line: &[u32]) -> bool
+    ensures { λ b. ⌜ b ≡ ascend 0 (ascendings (now (line .entry))) ⌝ }
 {
-    let t = tag(r);
+    let t = tag(line);
     let f = form_of(t);
     if !f.rises {
         return true;
@@ -201,8 +201,8 @@ fn ascends(r: &[u32]) -> bool
     let m = f.group;
     let mut lo: usize = 0;
     let mut j = f.items;
-    while j + 1 < r.len() {
-        let x = item(r, j + 1) as usize;
+    while j + 1 < line.len() {
+        let x = item(line, j + 1) as usize;
         if x < lo {
             return false;
         }
@@ -212,36 +212,36 @@ fn ascends(r: &[u32]) -> bool
     true
 }
 
-// Whether the row whose beginning word i says, at word s, is row r. Most rows end with another word than r: word s of `ends` is the
-// last word of a row that begins at word s and is as long as r.
-fn is_row_at(a: &[u32], ends: &[u32], x: u32, i: usize, s: usize, r: &[u32]) -> bool
-    requires { ⌜ RowEnds (now a) (now r) (now ends) x i s ⌝ }
-    ensures { λ b. ⌜ b ≡ same (now (r .entry)) (rowAt (now (a .entry)) i) ⌝ }
+// Whether the row whose beginning word `i` says, at word `start`, is this one. Most rows end with another word: word `start` of `ends` is the
+// last word of a row that begins there and is as long.
+fn is_row_at(rows: &[u32], ends: &[u32], x: u32, i: usize, start: usize, line: &[u32]) -> bool
+    requires { ⌜ RowEnds (now rows) (now line) (now ends) x i start ⌝ }
+    ensures { λ b. ⌜ b ≡ same (now (line .entry)) (rowAt (now (rows .entry)) i) ⌝ }
 {
-    if s < ends.len() {
-        if ends[s] != x {
+    if start < ends.len() {
+        if ends[start] != x {
             return false;
         }
     }
-    let e = read(a, i + 1) as usize;
-    same_words(r, cut(a, s, e))
+    let e = read(rows, i + 1) as usize;
+    same_words(line, cut(rows, start, e))
 }
 
-// Whether a row is among those of key k.
-fn is_row(a: &[u32], k: usize, r: &[u32]) -> bool
-    requires { ⌜ 1 ≤ length (now r) ⌝ }
-    ensures { λ b. ⌜ b ≡ among (now (r .entry)) (rowsOf (now (a .entry)) k) ⌝ }
+// Whether a row is among those of a key.
+fn is_row(rows: &[u32], key: usize, line: &[u32]) -> bool
+    requires { ⌜ 1 ≤ length (now line) ⌝ }
+    ensures { λ b. ⌜ b ≡ among (now (line .entry)) (rowsOf (now (rows .entry)) key) ⌝ }
 {
-    let n = count(a, k) as usize;
-    let b = base_of(k);
-    let starts = cut(a, b, b + n);
-    let last = r.len() - 1;
-    let x = r[last];
-    let ends = cut(a, last, a.len());
+    let n = count(rows, key) as usize;
+    let b = base_of(key);
+    let starts = cut(rows, b, b + n);
+    let last = line.len() - 1;
+    let x = line[last];
+    let ends = cut(rows, last, rows.len());
     let mut i = 0;
     while i < starts.len() {
         let s = starts[i] as usize;
-        if is_row_at(a, ends, x, b + i, s, r) {
+        if is_row_at(rows, ends, x, b + i, s, line) {
             return true;
         }
         i += 1;
@@ -250,15 +250,15 @@ fn is_row(a: &[u32], k: usize, r: &[u32]) -> bool
 }
 
 // Whether the words of a row say where these bytes stand.
-fn is_text_row(sheet: &[u8], q: &[u32], text: &[u8]) -> bool
-    ensures { λ b. ⌜ b ≡ same (1 ∷ now (text .entry)) (textRow (now (sheet .entry)) (now (q .entry))) ⌝ }
+fn is_text_row(sheet: &[u8], line: &[u32], text: &[u8]) -> bool
+    ensures { λ b. ⌜ b ≡ same (TEXT-LINE ∷ now (text .entry)) (textRow (now (sheet .entry)) (now (line .entry))) ⌝ }
 {
-    let t = tag(q);
-    if t != 1 {
+    let t = tag(line);
+    if t != TEXT_LINE {
         return false;
     }
-    let s = item(q, 1) as usize;
-    let n = item(q, 2) as usize;
+    let s = item(line, 1) as usize;
+    let n = item(line, 2) as usize;
     same_bytes(text, bytes(sheet, s, s + n))
 }
 
@@ -272,7 +272,7 @@ fn end_of(text: &[u8]) -> u8
     text[text.len() - 1]
 }
 
-// The bytes of the sheet that a text of n bytes may end with, the one for each beginning; none where n is 0.
+// The bytes of the sheet that a text of `n` bytes may end with, the one for each beginning; none where `n` is 0.
 fn ends_of(sheet: &[u8], n: usize) -> &[u8]
     ensures { λ r. ⌜ now r ≡ endsOf n (now (sheet .entry)) ⌝ }
 {
@@ -282,34 +282,42 @@ fn ends_of(sheet: &[u8], n: usize) -> &[u8]
     bytes(sheet, n - 1, sheet.len())
 }
 
-// Whether the row whose beginning word i says, at word s, is that of a text. Most texts end with another byte.
-fn is_text_at(sheet: &[u8], a: &[u32], ends: &[u8], x: u8, i: usize, s: usize, text: &[u8]) -> bool
-    requires { ⌜ TextEnds (now sheet) (now a) (now text) (now ends) x i s ⌝ }
-    ensures { λ b. ⌜ b ≡ same (1 ∷ now (text .entry)) (textRow (now (sheet .entry)) (rowAt (now (a .entry)) i)) ⌝ }
+// Whether the row whose beginning word `i` says, at word `start`, is that of a text. Most texts end with another byte.
+fn is_text_at(
+    sheet: &[u8],
+    rows: &[u32],
+    ends: &[u8],
+    x: u8,
+    i: usize,
+    start: usize,
+    text: &[u8],
+) -> bool
+    requires { ⌜ TextEnds (now sheet) (now rows) (now text) (now ends) x i start ⌝ }
+    ensures { λ b. ⌜ b ≡ same (TEXT-LINE ∷ now (text .entry)) (textRow (now (sheet .entry)) (rowAt (now (rows .entry)) i)) ⌝ }
 {
-    let p = read(a, s + 1) as usize;
+    let p = read(rows, start + 1) as usize;
     if p < ends.len() {
         if ends[p] != x {
             return false;
         }
     }
-    let e = read(a, i + 1) as usize;
-    is_text_row(sheet, cut(a, s, e), text)
+    let e = read(rows, i + 1) as usize;
+    is_text_row(sheet, cut(rows, start, e), text)
 }
 
 // Whether bytes are among the texts.
-pub fn is_text(sheet: &[u8], a: &[u32], text: &[u8]) -> bool
-    ensures { λ b. ⌜ b ≡ among (1 ∷ now (text .entry)) (textRows (now (sheet .entry)) (rowsOf (now (a .entry)) 1)) ⌝ }
+pub fn is_text(sheet: &[u8], rows: &[u32], text: &[u8]) -> bool
+    ensures { λ b. ⌜ b ≡ among (TEXT-LINE ∷ now (text .entry)) (textRows (now (sheet .entry)) (rowsOf (now (rows .entry)) TEXT)) ⌝ }
 {
-    let n = count(a, TEXT) as usize;
+    let n = count(rows, TEXT) as usize;
     let b = base_of(TEXT);
-    let starts = cut(a, b, b + n);
+    let starts = cut(rows, b, b + n);
     let ends = ends_of(sheet, text.len());
     let x = end_of(text);
     let mut i = 0;
     while i < starts.len() {
         let s = starts[i] as usize;
-        if is_text_at(sheet, a, ends, x, b + i, s, text) {
+        if is_text_at(sheet, rows, ends, x, b + i, s, text) {
             return true;
         }
         i += 1;
@@ -317,14 +325,14 @@ pub fn is_text(sheet: &[u8], a: &[u32], text: &[u8]) -> bool
     false
 }
 
-// Whether x is the first item of a row of key k.
-fn is_first(a: &[u32], k: usize, x: u32) -> bool
-    ensures { λ b. ⌜ b ≡ memN x (firsts (rowsOf (now (a .entry)) k)) ⌝ }
+// Whether `x` is the first item of a row of a key.
+fn is_first(rows: &[u32], key: usize, x: u32) -> bool
+    ensures { λ b. ⌜ b ≡ memN x (firsts (rowsOf (now (rows .entry)) key)) ⌝ }
 {
-    let n = count(a, k);
+    let n = count(rows, key);
     let mut i = 0;
     while i < n {
-        if x == item(row(a, k, i), 1) {
+        if x == item(row(rows, key, i), 1) {
             return true;
         }
         i += 1;
@@ -333,75 +341,75 @@ fn is_first(a: &[u32], k: usize, x: u32) -> bool
 }
 
 // Whether an entity line comes after the last one.
-fn is_above(a: &[u32], r: &[u32]) -> bool
-    ensures { λ b. ⌜ b ≡ above (held [] (now (a .entry)) []) 6 (now (r .entry)) ⌝ }
+fn is_above(rows: &[u32], line: &[u32]) -> bool
+    ensures { λ b. ⌜ b ≡ above (held [] (now (rows .entry)) []) ENTITY (now (line .entry)) ⌝ }
 {
-    let n = count(a, ENTITY);
+    let n = count(rows, ENTITY);
     if n == 0 {
         return true;
     }
-    let x = item(row(a, ENTITY, n - 1), 1);
-    x < item(r, 1)
+    let x = item(row(rows, ENTITY, n - 1), 1);
+    x < item(line, 1)
 }
 
-// Whether a row of key k, which is not that of a text, repeats no other and keeps their order.
-fn is_fresh(a: &[u32], k: usize, r: &[u32]) -> bool
-    requires { ⌜ (k ≡ 1 → ⊥) × (k ≡ keyOf (now r)) ⌝ }
-    ensures { λ b. ⌜ b ≡ fresh (held [] (now (a .entry)) []) k (now (r .entry)) ⌝ }
+// Whether a row of a key, which is not that of a text, repeats no other and keeps their order.
+fn is_fresh(rows: &[u32], key: usize, line: &[u32]) -> bool
+    requires { ⌜ (key ≡ TEXT → ⊥) × (key ≡ keyOf (now line)) ⌝ }
+    ensures { λ b. ⌜ b ≡ fresh (held [] (now (rows .entry)) []) key (now (line .entry)) ⌝ }
 {
-    if k == NODE {
+    if key == NODE {
         return true;
     }
-    if k == TYPE {
-        return !is_row(a, k, r);
+    if key == TYPE {
+        return !is_row(rows, key, line);
     }
-    if k == VALUE {
-        return !is_row(a, k, r);
+    if key == VALUE {
+        return !is_row(rows, key, line);
     }
-    if k == KIND {
-        return !is_first(a, k, item(r, 1));
+    if key == KIND {
+        return !is_first(rows, key, item(line, 1));
     }
-    if k == POLICY {
-        return !is_first(a, k, item(r, 1));
+    if key == POLICY {
+        return !is_first(rows, key, item(line, 1));
     }
-    if k == ENTITY {
-        return is_above(a, r);
+    if key == ENTITY {
+        return is_above(rows, line);
     }
     true
 }
 
 // ---- 6: depth
 
-fn depth_at(a: &[u32], b: &[u32], k: usize, n: u32) -> u32
-    requires { ⌜ k < 13 ⌝ }
-    ensures { λ d. ⌜ d ≡ getD (depthsIn (now (a .entry)) (now (b .entry)) k) n 0 ⌝ }
+fn depth_at(rows: &[u32], work: &[u32], key: usize, number: u32) -> u32
+    requires { ⌜ key < noKey ⌝ }
+    ensures { λ d. ⌜ d ≡ getD (depthsIn (now (rows .entry)) (now (work .entry)) key) number 0 ⌝ }
 {
-    let most = count(a, k);
-    if n >= most {
+    let most = count(rows, key);
+    if number >= most {
         return 0;
     }
-    let i = n as usize;
-    if k == TYPE {
-        return read(b, TYPEDEPTHS + i);
+    let i = number as usize;
+    if key == TYPE {
+        return read(work, TYPEDEPTHS + i);
     }
-    if k == VALUE {
-        return read(b, VALUEDEPTHS + i);
+    if key == VALUE {
+        return read(work, VALUEDEPTHS + i);
     }
-    if k == NODE {
-        return read(b, NODEDEPTHS + i);
+    if key == NODE {
+        return read(work, NODEDEPTHS + i);
     }
     1
 }
 
-// The depth that item x adds to that of a line of key k, as code c asks.
-fn depth_from(a: &[u32], b: &[u32], k: usize, c: usize, x: u32) -> u32
-    requires { ⌜ k < 13 ⌝ }
-    ensures { λ d. ⌜ d ≡ cond (eqb c (16 + k)) (getD (depthsIn (now (a .entry)) (now (b .entry)) k) x 0) 0 ⌝ }
+// The depth that item `x` adds to that of a line of a key, as its slot asks.
+fn depth_from(rows: &[u32], work: &[u32], key: usize, slot: u8, x: u32) -> u32
+    requires { ⌜ key < noKey ⌝ }
+    ensures { λ d. ⌜ d ≡ cond (eqb slot (LINE + key)) (getD (depthsIn (now (rows .entry)) (now (work .entry)) key) x 0) 0 ⌝ }
 {
-    if c != 16 + k {
+    if slot as usize != LINE as usize + key {
         return 0;
     }
-    depth_at(a, b, k, x)
+    depth_at(rows, work, key, x)
 }
 
 fn larger(x: u32, y: u32) -> u32
@@ -413,84 +421,84 @@ fn larger(x: u32, y: u32) -> u32
     x
 }
 
-// One more than the deepest line of key k that the row refers to; 0 where it refers to a line that is not there.
-fn depth_listed(a: &[u32], b: &[u32], k: usize, r: &[u32]) -> usize
-    requires { ⌜ k < 13 ⌝ }
-    ensures { λ d. ⌜ d ≡ thereDepth (now (a .entry)) (now (b .entry)) k (now (r .entry)) ⌝ }
+// One more than the deepest line of a key that the row refers to; 0 where it refers to a line that is not there.
+fn depth_listed(rows: &[u32], work: &[u32], key: usize, line: &[u32]) -> usize
+    requires { ⌜ key < noKey ⌝ }
+    ensures { λ d. ⌜ d ≡ thereDepth (now (rows .entry)) (now (work .entry)) key (now (line .entry)) ⌝ }
 {
-    let t = tag(r);
+    let t = tag(line);
     let f = form_of(t);
     let again = again_of(f);
-    let mut w = slots_of(f);
+    let mut slots = slots_of(f);
     let mut d: u32 = 0;
     let mut j = 0;
-    while j + 1 < r.len() {
-        let c = w as usize % 256;
-        let x = item(r, j + 1);
-        if !is_there(a, c, x) {
+    while j + 1 < line.len() {
+        let slot = (slots % 256) as u8;
+        let x = item(line, j + 1);
+        if !is_there(rows, slot, x) {
             return 0;
         }
-        d = larger(d, depth_from(a, b, k, c, x));
-        w = codes_after(w, again);
+        d = larger(d, depth_from(rows, work, key, slot, x));
+        slots = codes_after(slots, again);
         j += 1;
     }
     d as usize + 1
 }
 
 // The same of a node that works on two.
-fn depth_of_two(a: &[u32], b: &[u32], r: &[u32]) -> usize
-    requires { ⌜ OnTwo (now r) ⌝ }
-    ensures { λ d. ⌜ d ≡ thereDepth (now (a .entry)) (now (b .entry)) 11 (now (r .entry)) ⌝ }
+fn depth_of_two(rows: &[u32], work: &[u32], line: &[u32]) -> usize
+    requires { ⌜ OnTwo (now line) ⌝ }
+    ensures { λ d. ⌜ d ≡ thereDepth (now (rows .entry)) (now (work .entry)) NODE (now (line .entry)) ⌝ }
 {
-    let x = item(r, 1);
-    let m = count(a, TYPE);
+    let x = item(line, 1);
+    let m = count(rows, TYPE);
     if m <= x {
         return 0;
     }
-    let n = count(a, NODE);
-    let y = item(r, 2);
+    let n = count(rows, NODE);
+    let y = item(line, 2);
     if n <= y {
         return 0;
     }
-    let z = item(r, 3);
+    let z = item(line, 3);
     if n <= z {
         return 0;
     }
-    let d = read(b, NODEDEPTHS + y as usize);
-    let e = read(b, NODEDEPTHS + z as usize);
+    let d = read(work, NODEDEPTHS + y as usize);
+    let e = read(work, NODEDEPTHS + z as usize);
     larger(d, e) as usize + 1
 }
 
 // Whether a row is that of a node that works on two.
-fn is_on_two(r: &[u32]) -> bool
-    ensures { λ v. ⌜ (v ≡ true → OnTwo (now (r .entry))) ⌝ }
+fn is_on_two(line: &[u32]) -> bool
+    ensures { λ v. ⌜ (v ≡ true → OnTwo (now (line .entry))) ⌝ }
 {
-    if r.len() != 4 {
+    if line.len() != 4 {
         return false;
     }
-    let t = tag(r);
-    if t < 24 {
+    let t = tag(line);
+    if t < AND {
         return false;
     }
-    t < 38
+    t < IF
 }
 
 // The depth of a node that works on none: a value, an error or a part of the request.
-fn depth_of_leaf(a: &[u32], r: &[u32]) -> usize
-    requires { ⌜ OnNone (now r) ⌝ }
-    ensures { λ d. ⌜ ((b : List ℕ) → d ≡ thereDepth (now (a .entry)) b 11 (now (r .entry))) ⌝ }
+fn depth_of_leaf(rows: &[u32], line: &[u32]) -> usize
+    requires { ⌜ OnNone (now line) ⌝ }
+    ensures { λ d. ⌜ ((b : List ℕ) → d ≡ thereDepth (now (rows .entry)) b NODE (now (line .entry))) ⌝ }
 {
-    let x = item(r, 1);
-    let m = count(a, TYPE);
+    let x = item(line, 1);
+    let m = count(rows, TYPE);
     if m <= x {
         return 0;
     }
-    let t = tag(r);
-    if t != 21 {
+    let t = tag(line);
+    if t != LIT {
         return 1;
     }
-    let y = item(r, 2);
-    let n = count(a, VALUE);
+    let y = item(line, 2);
+    let n = count(rows, VALUE);
     if n <= y {
         return 0;
     }
@@ -498,47 +506,47 @@ fn depth_of_leaf(a: &[u32], r: &[u32]) -> usize
 }
 
 // Whether a row is that of a node that works on none, with two items.
-fn is_on_none(r: &[u32]) -> bool
-    ensures { λ v. ⌜ (v ≡ true → OnNone (now (r .entry))) ⌝ }
+fn is_on_none(line: &[u32]) -> bool
+    ensures { λ v. ⌜ (v ≡ true → OnNone (now (line .entry))) ⌝ }
 {
-    if r.len() != 3 {
+    if line.len() != 3 {
         return false;
     }
-    let t = tag(r);
-    if t < 21 {
+    let t = tag(line);
+    if t < LIT {
         return false;
     }
-    t < 24
+    t < AND
 }
 
-fn depth_there(a: &[u32], b: &[u32], k: usize, r: &[u32]) -> usize
-    requires { ⌜ k < 13 ⌝ }
-    ensures { λ d. ⌜ d ≡ thereDepth (now (a .entry)) (now (b .entry)) k (now (r .entry)) ⌝ }
+fn depth_there(rows: &[u32], work: &[u32], key: usize, line: &[u32]) -> usize
+    requires { ⌜ key < noKey ⌝ }
+    ensures { λ d. ⌜ d ≡ thereDepth (now (rows .entry)) (now (work .entry)) key (now (line .entry)) ⌝ }
 {
-    if k == NODE {
-        if is_on_two(r) {
-            return depth_of_two(a, b, r);
+    if key == NODE {
+        if is_on_two(line) {
+            return depth_of_two(rows, work, line);
         }
-        if is_on_none(r) {
-            return depth_of_leaf(a, r);
+        if is_on_none(line) {
+            return depth_of_leaf(rows, line);
         }
     }
-    depth_listed(a, b, k, r)
+    depth_listed(rows, work, key, line)
 }
 
-// The depth of a row of key k, which is not that of a text; 0 where it refers to a line that is not there or is not new.
-pub fn new_depth(a: &[u32], b: &[u32], k: usize, r: &[u32]) -> usize
-    requires { ⌜ (k ≡ 1 → ⊥) × (k ≡ keyOf (now r)) × (k < 13) ⌝ }
-    ensures { λ d. ⌜ d ≡ cond (found (held [] (now (a .entry)) []) k (now (r .entry))) (depth (held [] (now (a .entry)) (now (b .entry))) k (now (r .entry))) 0 ⌝ }
+// The depth of a row of a key, which is not that of a text; 0 where it refers to a line that is not there or is not new.
+pub fn new_depth(rows: &[u32], work: &[u32], key: usize, line: &[u32]) -> usize
+    requires { ⌜ (key ≡ TEXT → ⊥) × (key ≡ keyOf (now line)) × (key < noKey) ⌝ }
+    ensures { λ d. ⌜ d ≡ cond (found (held [] (now (rows .entry)) []) key (now (line .entry))) (depth (held [] (now (rows .entry)) (now (work .entry))) key (now (line .entry))) 0 ⌝ }
 {
-    let d = depth_there(a, b, k, r);
+    let d = depth_there(rows, work, key, line);
     if d == 0 {
         return 0;
     }
-    if !ascends(r) {
+    if !ascends(line) {
         return 0;
     }
-    if !is_fresh(a, k, r) {
+    if !is_fresh(rows, key, line) {
         return 0;
     }
     d
@@ -546,70 +554,70 @@ pub fn new_depth(a: &[u32], b: &[u32], k: usize, r: &[u32]) -> usize
 
 // ---- 8: uses of nodes
 
-// Marks node x as used, if c refers to one. Returns whether it was used before.
-fn use_node(a: &[u32], b: &mut [u32], c: usize, x: u32) -> bool
-    ensures { λ r. ⌜ Marked (now (a .entry)) (now (b .entry)) (keep (eqb c 27) x []) (now (b .exit)) r ⌝ }
+// Marks node `x` as used, if its slot refers to one. Returns whether it was used before.
+fn use_node(rows: &[u32], work: &mut [u32], slot: u8, x: u32) -> bool
+    ensures { λ r. ⌜ Marked (now (rows .entry)) (now (work .entry)) (keep (eqb slot OF-NODE) x []) (now (work .exit)) r ⌝ }
 {
-    if c != 27 {
+    if slot != OF_NODE {
         return false;
     }
-    let n = count(a, NODE);
+    let n = count(rows, NODE);
     if x >= n {
         return false;
     }
     let i = USES + x as usize;
-    let u = read(b, i);
+    let u = read(work, i);
     if u == 1 {
         return true;
     }
-    put(b, i, 1);
+    put(work, i, 1);
     false
 }
 
 // Marks the nodes that a row uses, in turn. Returns whether one was used before.
-fn use_listed(a: &[u32], b: &mut [u32], r: &[u32]) -> bool
-    ensures { λ d. ⌜ Marked (now (a .entry)) (now (b .entry)) (refs 11 (now (r .entry))) (now (b .exit)) d ⌝ }
+fn use_listed(rows: &[u32], work: &mut [u32], line: &[u32]) -> bool
+    ensures { λ d. ⌜ Marked (now (rows .entry)) (now (work .entry)) (refs NODE (now (line .entry))) (now (work .exit)) d ⌝ }
 {
-    let t = tag(r);
+    let t = tag(line);
     let f = form_of(t);
     let again = again_of(f);
-    let mut w = slots_of(f);
+    let mut slots = slots_of(f);
     let mut j = 0;
-    while j + 1 < r.len() {
-        let c = w as usize % 256;
-        let x = item(r, j + 1);
-        if use_node(a, b, c, x) {
+    while j + 1 < line.len() {
+        let slot = (slots % 256) as u8;
+        let x = item(line, j + 1);
+        if use_node(rows, work, slot, x) {
             return true;
         }
-        w = codes_after(w, again);
+        slots = codes_after(slots, again);
         j += 1;
     }
     false
 }
 
 // The same of a node that works on two.
-fn use_two(a: &[u32], b: &mut [u32], r: &[u32]) -> bool
-    requires { ⌜ OnTwo (now r) ⌝ }
-    ensures { λ d. ⌜ Marked (now (a .entry)) (now (b .entry)) (refs 11 (now (r .entry))) (now (b .exit)) d ⌝ }
+fn use_two(rows: &[u32], work: &mut [u32], line: &[u32]) -> bool
+    requires { ⌜ OnTwo (now line) ⌝ }
+    ensures { λ d. ⌜ Marked (now (rows .entry)) (now (work .entry)) (refs NODE (now (line .entry))) (now (work .exit)) d ⌝ }
 {
-    let y = item(r, 2);
-    if use_node(a, b, 27, y) {
+    let y = item(line, 2);
+    if use_node(rows, work, OF_NODE, y) {
         return true;
     }
-    let z = item(r, 3);
-    use_node(a, b, 27, z)
+    let z = item(line, 3);
+    use_node(rows, work, OF_NODE, z)
 }
 
-// The same of every row; those of the forms before 24 use no node.
-pub fn use_nodes(a: &[u32], b: &mut [u32], r: &[u32]) -> bool
-    ensures { λ d. ⌜ Marked (now (a .entry)) (now (b .entry)) (refs 11 (now (r .entry))) (now (b .exit)) d ⌝ }
+// The same of every row; those of the forms before the operations use no node.
+pub fn use_nodes(rows: &[u32], work: &mut [u32], line: &[u32]) -> bool
+    ensures { λ d. ⌜ Marked (now (rows .entry)) (now (work .entry)) (refs NODE (now (line .entry))) (now (work .exit)) d ⌝ }
 {
-    let t = tag(r);
-    if t < 24 {
+    let t = tag(line);
+    if t < AND {
         return false;
     }
-    if is_on_two(r) {
-        return use_two(a, b, r);
+    if is_on_two(line) {
+        return use_two(rows, work, line);
     }
-    use_listed(a, b, r)
+    use_listed(rows, work, line)
 }

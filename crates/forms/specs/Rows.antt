@@ -8,31 +8,77 @@ use mathlib.Core.List.{List, [], _∷_, _++_}
 use Prim.Native.Nat.{ℕ, _+_, _-_, _/_, _%_}
 use lib.Dec.{ltb, eqb}
 use lib.ListN.{length, getD}
-use Rattle.sheet.specs.Forms.{Slot, entry, line, lineOr, lineUnknown, word, number, nothing, dash, asterisk, Form}
+use Rattle.sheet.specs.Forms.{Slot, entry, line, lineOr, lineUnknown, word, number, nothing, dash, asterisk, Form, TYPE, VALUE, NODE}
 use Rattle.forms.specs.declared.Form as D
 
 abbrev pub row : ℕ → ℕ → ℕ → Bool → ℕ → ℕ → ℕ → ℕ → D.Form
 row k n g s a b c d =
     record { key = k; items = n; group = g; rises = s; first = a; second = b; third = c; fourth = d }
 
--- ---- what may stand at a place, as a number
+-- ---- what may stand at a place, as a number; the code's constants have the same names
 
--- below 16: refers to no line. The words that may stand at a place are told apart by the first
+-- below 16: refers to no line
+abbrev pub NONE : ℕ
+NONE = 0
+
+abbrev pub NUMBER : ℕ
+NUMBER = 1
+
+abbrev pub ENTRY : ℕ
+ENTRY = 2
+
+abbrev pub KIND-LETTER : ℕ
+KIND-LETTER = 3
+
+abbrev pub FIELD-LETTER : ℕ
+FIELD-LETTER = 4
+
+abbrev pub BIT : ℕ
+BIT = 5
+
+abbrev pub PART-LETTER : ℕ
+PART-LETTER = 6
+
+abbrev pub EFFECT : ℕ
+EFFECT = 7
+
+-- this and a key: a line of it; each of the next and a key: the same or `?`, `-`, `*`
+abbrev pub LINE : ℕ
+LINE = 16
+
+abbrev pub UNKNOWN : ℕ
+UNKNOWN = 32
+
+abbrev pub DASH : ℕ
+DASH = 48
+
+abbrev pub STAR : ℕ
+STAR = 64
+
+abbrev pub OF-TYPE : ℕ
+OF-TYPE = LINE + TYPE
+
+abbrev pub OF-VALUE : ℕ
+OF-VALUE = LINE + VALUE
+
+abbrev pub OF-NODE : ℕ
+OF-NODE = LINE + NODE
+
+-- the words that may stand at a place are told apart by the first
 abbrev pub wordCode : String → ℕ
 wordCode w =
-    cond (same (ascii w) (ascii "e")) 3
-    (cond (same (ascii w) (ascii "o")) 4 (cond (same (ascii w) (ascii "0")) 5 (cond (same (ascii w) (ascii "p")) 6 7)))
+    cond (same (ascii w) (ascii "e")) KIND-LETTER
+    (cond (same (ascii w) (ascii "o")) FIELD-LETTER (cond (same (ascii w) (ascii "0")) BIT (cond (same (ascii w) (ascii "p")) PART-LETTER EFFECT)))
 
--- 16 and a key: a line of it; 32, 48, 64 and a key: the same or `?`, `-`, `*`
 unfoldable pub code : Slot → ℕ
-code nothing = 0
-code number = 1
-code entry = 2
-code (word []) = 0
+code nothing = NONE
+code number = NUMBER
+code entry = ENTRY
+code (word []) = NONE
 code (word (w ∷ ws)) = wordCode w
-code (line k) = 16 + k
-code (lineUnknown k) = 32 + k
-code (lineOr b k) = cond (eqb b dash) 48 64 + k
+code (line k) = LINE + k
+code (lineUnknown k) = UNKNOWN + k
+code (lineOr b k) = cond (eqb b dash) DASH STAR + k
 
 abbrev pub places : Form → List Slot
 places f = f .items ++ f .group
@@ -45,18 +91,17 @@ coded f =
 
 -- ---- the same read back
 
--- what a number below 16 stands for
+-- what a number that refers to no line stands for
 abbrev pub specials : List Slot
 specials =
     nothing ∷ number ∷ entry ∷ word ("e" ∷ "a" ∷ []) ∷ word ("o" ∷ "r" ∷ []) ∷ word ("0" ∷ "1" ∷ []) ∷ word ("p" ∷ "a" ∷ "r" ∷ "c" ∷ [])
     ∷ word ("permit" ∷ "forbid" ∷ []) ∷ []
 
--- 16 and a key: a line of it; 32, 48, 64 and a key: the same or `?`, `-`, `*`
 unfoldable pub slotOf : ℕ → Slot
 slotOf c =
-    cond (ltb c 16) (getD specials c nothing)
-    (cond (ltb c 32) (line (c - 16))
-    (cond (ltb c 48) (lineUnknown (c - 32)) (cond (ltb c 64) (lineOr dash (c - 48)) (lineOr asterisk (c - 64)))))
+    cond (ltb c LINE) (getD specials c nothing)
+    (cond (ltb c UNKNOWN) (line (c - LINE))
+    (cond (ltb c DASH) (lineUnknown (c - UNKNOWN)) (cond (ltb c STAR) (lineOr dash (c - DASH)) (lineOr asterisk (c - STAR)))))
 
 -- a form's key, how many items it has, how many in its group, whether these ascend, and what may stand at its first four places
 pub record Shape : Type 0 where

@@ -3,6 +3,7 @@ ghost use mathlib.Core.Path.{_≡_};
 ghost use mathlib.Core.Bool.{true, false};
 ghost use Rattle.sheet.specs.Forms.{formOf};
 ghost use Rattle.forms.specs.Rows.{row, coded, Packed};
+ghost use Rattle.forms.specs.Keys.{keyRow, keyed};
 
 // ---- keys
 
@@ -359,4 +360,90 @@ pub fn slots_of(f: Form) -> u32
         + 0x100 * f.second as u32
         + 0x1_0000 * f.third as u32
         + 0x100_0000 * f.fourth as u32
+}
+
+// ---- the keys' table
+
+// The greatest number of lines of a key, where it is not one, and of made values.
+const TEXTS: u32 = 512;
+
+const KINDS: u32 = 32;
+
+const TYPES: u32 = 128;
+
+const VALUES: u32 = 1024;
+
+const ENTITIES: u32 = 128;
+
+const NODES: u32 = 1024;
+
+const POLICIES: u32 = 64;
+
+// The words that say where a key's rows begin: one a row, and one for the end of the last. Before them stand how many rows each key has, how many
+// values were made, where the next row begins, and a word that nothing uses.
+const SHEET_ROWS: usize = NO_KEY + 3;
+
+const TEXT_ROWS: usize = SHEET_ROWS + 2;
+
+const KIND_ROWS: usize = TEXT_ROWS + TEXTS as usize + 1;
+
+const TYPE_ROWS: usize = KIND_ROWS + KINDS as usize + 1;
+
+const SHAPE_ROWS: usize = TYPE_ROWS + TYPES as usize + 1;
+
+const VALUE_ROWS: usize = SHAPE_ROWS + KINDS as usize + 1;
+
+const ENTITY_ROWS: usize = VALUE_ROWS + VALUES as usize + 1;
+
+const PRINCIPAL_ROWS: usize = ENTITY_ROWS + ENTITIES as usize + 1;
+
+const ACTION_ROWS: usize = PRINCIPAL_ROWS + 2;
+
+const RESOURCE_ROWS: usize = ACTION_ROWS + 2;
+
+const CONTEXT_ROWS: usize = RESOURCE_ROWS + 2;
+
+const NODE_ROWS: usize = CONTEXT_ROWS + 2;
+
+const POLICY_ROWS: usize = NODE_ROWS + NODES as usize + 1;
+
+const MADE_ROWS: usize = POLICY_ROWS + POLICIES as usize + 1;
+
+// Where the first row begins.
+pub const HEAP: usize = MADE_ROWS + VALUES as usize + 1;
+
+// A key: the word that says where its first row begins, how many rows it may have, and its tag where it has no constructors.
+pub struct Key {
+    pub base: usize,
+    pub most: u32,
+    pub tag: u32,
+}
+
+fn of_key(base: usize, most: u32, tag: u32) -> Key
+    ensures { λ r. ⌜ r ≡ keyRow base most tag ⌝ }
+{
+    Key { base, most, tag }
+}
+
+// Made values stand after the keys.
+pub fn key_row(key: usize) -> Key
+    ensures { λ r. ⌜ r ≡ keyed key ⌝ }
+{
+    match key {
+        SHEET => of_key(SHEET_ROWS, 1, SHEET_LINE),
+        TEXT => of_key(TEXT_ROWS, TEXTS, TEXT_LINE),
+        KIND => of_key(KIND_ROWS, KINDS, KIND_LINE),
+        TYPE => of_key(TYPE_ROWS, TYPES, NO_TAG),
+        SHAPE => of_key(SHAPE_ROWS, KINDS, SHAPE_LINE),
+        VALUE => of_key(VALUE_ROWS, VALUES, NO_TAG),
+        ENTITY => of_key(ENTITY_ROWS, ENTITIES, ENTITY_LINE),
+        PRINCIPAL => of_key(PRINCIPAL_ROWS, 1, PRINCIPAL_LINE),
+        ACTION => of_key(ACTION_ROWS, 1, ACTION_LINE),
+        RESOURCE => of_key(RESOURCE_ROWS, 1, RESOURCE_LINE),
+        CONTEXT => of_key(CONTEXT_ROWS, 1, CONTEXT_LINE),
+        NODE => of_key(NODE_ROWS, NODES, NO_TAG),
+        POLICY => of_key(POLICY_ROWS, POLICIES, POLICY_LINE),
+        NO_KEY => of_key(MADE_ROWS, VALUES, NO_TAG),
+        _ => of_key(0, 0, NO_TAG),
+    }
 }

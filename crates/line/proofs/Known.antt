@@ -4,15 +4,16 @@ use mathlib.Core.List.{List, [], _∷_}
 use Prim.Native.Nat.{ℕ}
 use Prim.Native.String.{String}
 use Rattle.sheet.specs.Ascii.{ascii}
-use Rattle.sheet.specs.Forms.{Mode, partial, complete, keys, forms, formOf, slotAt, counted, tagOf, rowOf}
+use Rattle.sheet.specs.Forms.{Mode, partial, complete, keys, forms, formOf, slotAt, counted, tagOf, rowOf, mark}
+use Rattle.forms.specs.Tags.{SHEET-LINE, TEXT-LINE, KIND-LINE, RECORD-TYPE, SHAPE-LINE, LONG-VALUE, PRINCIPAL-LINE, EQ, LIKE, POLICY-LINE, OF-ACTIONS, OPTIONAL, REQUIRED, FORBID}
 
 unfoldable pub rows : Mode → List String → List (List ℕ)
 rows m [] = []
 rows m (l ∷ ls) = rowOf m (ascii l) ∷ rows m ls
 
 pub good : rows partial ("sheet=partial" ∷ "text=a,b" ∷ "kind=0,a" ∷ "type=record,0,r,1,2,o,3" ∷ "shape=1,-,0" ∷ "value=long,-1" ∷ "principal=0,?" ∷ "node=0,eq,0,1" ∷ "node=7,like,3,*,4" ∷ "policy=5,forbid,2" ∷ [])
-    ≡ (0 ∷ 0 ∷ []) ∷ (1 ∷ 97 ∷ 44 ∷ 98 ∷ []) ∷ (2 ∷ 0 ∷ 1 ∷ []) ∷ (8 ∷ 0 ∷ 1 ∷ 1 ∷ 2 ∷ 0 ∷ 3 ∷ []) ∷ (9 ∷ 1 ∷ 10000 ∷ 0 ∷ []) ∷ (11 ∷ 2147483647 ∷ 4294967295 ∷ []) ∷ (17 ∷ 0 ∷ 10000 ∷ [])
-    ∷ (26 ∷ 0 ∷ 0 ∷ 1 ∷ []) ∷ (40 ∷ 7 ∷ 3 ∷ 10000 ∷ 4 ∷ []) ∷ (49 ∷ 5 ∷ 1 ∷ 2 ∷ []) ∷ []
+    ≡ (SHEET-LINE ∷ 0 ∷ []) ∷ (TEXT-LINE ∷ 97 ∷ 44 ∷ 98 ∷ []) ∷ (KIND-LINE ∷ 0 ∷ OF-ACTIONS ∷ []) ∷ (RECORD-TYPE ∷ 0 ∷ REQUIRED ∷ 1 ∷ 2 ∷ OPTIONAL ∷ 3 ∷ []) ∷ (SHAPE-LINE ∷ 1 ∷ mark ∷ 0 ∷ []) ∷ (LONG-VALUE ∷ 2147483647 ∷ 4294967295 ∷ []) ∷ (PRINCIPAL-LINE ∷ 0 ∷ mark ∷ [])
+    ∷ (EQ ∷ 0 ∷ 0 ∷ 1 ∷ []) ∷ (LIKE ∷ 7 ∷ 3 ∷ mark ∷ 4 ∷ []) ∷ (POLICY-LINE ∷ 5 ∷ FORBID ∷ 2 ∷ []) ∷ []
 unfolding rows keys forms formOf slotAt counted tagOf rowOf
 good = refl
 

@@ -13,16 +13,17 @@ use lib.Dec.{ltb}
 use lib.ListN.{length, getD, take, drop, set}
 use lib.Seq.{lt-length-set, take-set-le, drop-set-lt, drop-cons, getD-set-same, getD-set-other}
 use Rattle.sheet.specs.Ascii.{ascii}
-use Rattle.words.specs.Log.{part}
+use Rattle.words.specs.Log.{part, room}
 use Rattle.sheet.specs.Bytes.{upTo, same, split, index, long}
-use Rattle.sheet.specs.Forms.{partial, complete, entry, line, lineOr, lineUnknown, number, nothing, dash, asterisk, placeIn, wordNumber, one, markOr, isPartial, item}
+use Rattle.sheet.specs.Forms.{partial, complete, entry, line, lineOr, lineUnknown, number, nothing, dash, asterisk, mark, placeIn, wordNumber, one, markOr, isPartial, item}
 use Rattle.scan.specs.declared.Number as N
 use Rattle.scan.specs.Numbers.{numberOf, placed}
 use Rattle.scan.proofs.Scans.{same-is, same-last, comparing-never}
 use Rattle.scan.proofs.Decimals.{index-small}
 use Rattle.scan.proofs.Wordlists.{words-are}
-use Rattle.table.proofs.Counts.{NoneOf}
-use Rattle.forms.specs.Rows.{slotOf, specials}
+use Rattle.forms.specs.Tags.{PERMIT, FORBID}
+use Rattle.forms.proofs.Tests.{NoneOf}
+use Rattle.forms.specs.Rows.{NUMBER, ENTRY, KIND-LETTER, FIELD-LETTER, BIT, PART-LETTER, EFFECT, LINE, UNKNOWN, DASH, STAR, slotOf, specials}
 use Rattle.line.specs.Codes.{modeOf}
 use Rattle.line.specs.declared.Digits as D
 use Rattle.line.specs.Written.{told, indexAt, Item, After}
@@ -38,6 +39,10 @@ variables = "p" ∷ "a" ∷ "r" ∷ "c" ∷ []
 abbrev pub effects : List String
 effects = "permit" ∷ "forbid" ∷ []
 
+-- the byte of a word of one
+abbrev pub letter : String → ℕ
+letter w = getD (ascii w) 0 0
+
 one-byte : (f : List ℕ) → length f ≡ 1 → f ≡ getD f 0 0 ∷ []
 one-byte [] h = absurd (omega arith)
 one-byte (x ∷ []) h = refl
@@ -47,42 +52,36 @@ module _ (f : List ℕ) where
   pub variable-is : (x n : ℕ) → wordNumber (x ∷ []) variables ≡ some n → length f ≡ 1 → getD f 0 0 ≡ x → numberOf (N.the-variants.Value n) ≡ wordNumber f variables
   variable-is x n e h q = sym (ap (λ (k : List ℕ). wordNumber k variables) (one-byte f h ∙ ap (λ (y : ℕ). y ∷ []) q) ∙ e)
 
-  none-same : false ≡ same f (112 ∷ []) → false ≡ same f (97 ∷ []) → false ≡ same f (114 ∷ []) → false ≡ same f (99 ∷ []) → numberOf N.the-variants.Refused ≡ wordNumber f variables
+  none-same : false ≡ same f (ascii "p") → false ≡ same f (ascii "a") → false ≡ same f (ascii "r") → false ≡ same f (ascii "c") → numberOf N.the-variants.Refused ≡ wordNumber f variables
   none-same a b c d = rw (← a, ← b, ← c, ← d) refl
 
   pub variable-long : (length f ≡ 1 → ⊥) → numberOf N.the-variants.Refused ≡ wordNumber f variables
-  variable-long h = none-same (comparing-never f (112 ∷ []) h) (comparing-never f (97 ∷ []) h) (comparing-never f (114 ∷ []) h) (comparing-never f (99 ∷ []) h)
+  variable-long h = none-same (comparing-never f (ascii "p") h) (comparing-never f (ascii "a") h) (comparing-never f (ascii "r") h) (comparing-never f (ascii "c") h)
 
-  pub variable-none : NoneOf (99 ∷ 114 ∷ 97 ∷ 112 ∷ []) (getD f 0 0) → numberOf N.the-variants.Refused ≡ wordNumber f variables
-  variable-none d = none-same (same-last f (112 ∷ []) 0 (d .0 .0 .0 .1)) (same-last f (97 ∷ []) 0 (d .0 .0 .1)) (same-last f (114 ∷ []) 0 (d .0 .1)) (same-last f (99 ∷ []) 0 (d .1))
+  pub variable-none : NoneOf (letter "c" ∷ letter "r" ∷ letter "a" ∷ letter "p" ∷ []) (getD f 0 0) → numberOf N.the-variants.Refused ≡ wordNumber f variables
+  variable-none d = none-same (same-last f (ascii "p") 0 (d .0 .0 .0 .1)) (same-last f (ascii "a") 0 (d .0 .0 .1)) (same-last f (ascii "r") 0 (d .0 .1)) (same-last f (ascii "c") 0 (d .1))
 
   module _ (a : Bool) (ha : a ≡ same f (ascii "permit")) where
-    pub effect-permit : a ≡ true → numberOf (N.the-variants.Value 0) ≡ wordNumber f effects
+    pub effect-permit : a ≡ true → numberOf (N.the-variants.Value PERMIT) ≡ wordNumber f effects
     effect-permit t = rw (← ha, t) refl
 
     module _ (b : Bool) (hb : b ≡ same f (ascii "forbid")) (t : a ≡ false) where
-      pub effect-forbid : b ≡ true → numberOf (N.the-variants.Value 1) ≡ wordNumber f effects
+      pub effect-forbid : b ≡ true → numberOf (N.the-variants.Value FORBID) ≡ wordNumber f effects
       effect-forbid u = rw (← ha, ← hb, t, u) refl
 
       pub effect-none : b ≡ false → numberOf N.the-variants.Refused ≡ wordNumber f effects
       effect-none u = rw (← ha, ← hb, t, u) refl
 
-abbrev partialBytes : List ℕ
-partialBytes = 112 ∷ 97 ∷ 114 ∷ 116 ∷ 105 ∷ 97 ∷ 108 ∷ []
-
-abbrev completeBytes : List ℕ
-completeBytes = 99 ∷ 111 ∷ 109 ∷ 112 ∷ 108 ∷ 101 ∷ 116 ∷ 101 ∷ []
-
 module _ (f : List ℕ) (r : N.Number) where
-  pub entry-partial : (p : Bool) → p ≡ true → numberOf r ≡ placed f (split 44 partialBytes) → one (numberOf r) ≡ item (modeOf p) entry f
-  entry-partial p e h = rw e (word-is f ("partial" ∷ []) partialBytes r refl h)
+  pub entry-partial : (p : Bool) → p ≡ true → numberOf r ≡ placed f (split 44 (ascii "partial")) → one (numberOf r) ≡ item (modeOf p) entry f
+  entry-partial p e h = rw e (word-is f ("partial" ∷ []) (ascii "partial") r refl h)
 
-  pub entry-complete : (p : Bool) → p ≡ false → numberOf r ≡ placed f (split 44 completeBytes) → one (numberOf r) ≡ item (modeOf p) entry f
-  entry-complete p e h = rw e (word-is f ("complete" ∷ []) completeBytes r refl h)
+  pub entry-complete : (p : Bool) → p ≡ false → numberOf r ≡ placed f (split 44 (ascii "complete")) → one (numberOf r) ≡ item (modeOf p) entry f
+  entry-complete p e h = rw e (word-is f ("complete" ∷ []) (ascii "complete") r refl h)
 
 -- ---- marks and indices
 
-pub mark-is : (f k : List ℕ) (b : Bool) → b ≡ same f k → b ≡ true → numberOf (N.the-variants.Value 10000) ≡ markOr (same f k) (index f)
+pub mark-is : (f k : List ℕ) (b : Bool) → b ≡ same f k → b ≡ true → numberOf (N.the-variants.Value mark) ≡ markOr (same f k) (index f)
 mark-is f k b e t = rw (← e, t) refl
 
 pub unmarked-is : (f k : List ℕ) (b : Bool) (r : N.Number) → b ≡ same f k → b ≡ false → numberOf r ≡ index f → numberOf r ≡ markOr (same f k) (index f)
@@ -90,52 +89,56 @@ unmarked-is f k b r e t h = rw (← e, t) h
 
 -- ---- slots by their numbers
 
+-- the byte `?`
+abbrev question : ℕ
+question = 63
+
 module _ (p : Bool) (s : ℕ) (f : List ℕ) (r : N.Number) where
-  pub star-or : 64 ≤ s → numberOf r ≡ markOr (same f (42 ∷ [])) (index f) → one (numberOf r) ≡ item (modeOf p) (slotOf s) f
+  pub star-or : STAR ≤ s → numberOf r ≡ markOr (same f (asterisk ∷ [])) (index f) → one (numberOf r) ≡ item (modeOf p) (slotOf s) f
   unfolding slotOf
-  star-or h q = rw (le-ltb s 16 (omega arith), le-ltb s 32 (omega arith), le-ltb s 48 (omega arith), le-ltb s 64 h) (ap one q)
+  star-or h q = rw (le-ltb s LINE (omega arith), le-ltb s UNKNOWN (omega arith), le-ltb s DASH (omega arith), le-ltb s STAR h) (ap one q)
 
-  pub dash-or : s < 64 → 48 ≤ s → numberOf r ≡ markOr (same f (45 ∷ [])) (index f) → one (numberOf r) ≡ item (modeOf p) (slotOf s) f
+  pub dash-or : s < STAR → DASH ≤ s → numberOf r ≡ markOr (same f (dash ∷ [])) (index f) → one (numberOf r) ≡ item (modeOf p) (slotOf s) f
   unfolding slotOf
-  dash-or l h q = rw (le-ltb s 16 (omega arith), le-ltb s 32 (omega arith), le-ltb s 48 h, lt-ltb s 64 l) (ap one q)
+  dash-or l h q = rw (le-ltb s LINE (omega arith), le-ltb s UNKNOWN (omega arith), le-ltb s DASH h, lt-ltb s STAR l) (ap one q)
 
-  pub unknown-partial : s < 48 → 32 ≤ s → p ≡ true → numberOf r ≡ markOr (same f (63 ∷ [])) (index f) → one (numberOf r) ≡ item (modeOf p) (slotOf s) f
+  pub unknown-partial : s < DASH → UNKNOWN ≤ s → p ≡ true → numberOf r ≡ markOr (same f (question ∷ [])) (index f) → one (numberOf r) ≡ item (modeOf p) (slotOf s) f
   unfolding slotOf
-  unknown-partial l h e q = rw (le-ltb s 16 (omega arith), le-ltb s 32 h, lt-ltb s 48 l, e) (ap one q)
+  unknown-partial l h e q = rw (le-ltb s LINE (omega arith), le-ltb s UNKNOWN h, lt-ltb s DASH l, e) (ap one q)
 
-  pub unknown-complete : s < 48 → 32 ≤ s → p ≡ false → numberOf r ≡ index f → one (numberOf r) ≡ item (modeOf p) (slotOf s) f
+  pub unknown-complete : s < DASH → UNKNOWN ≤ s → p ≡ false → numberOf r ≡ index f → one (numberOf r) ≡ item (modeOf p) (slotOf s) f
   unfolding slotOf
-  unknown-complete l h e q = rw (le-ltb s 16 (omega arith), le-ltb s 32 h, lt-ltb s 48 l, e) (ap one q)
+  unknown-complete l h e q = rw (le-ltb s LINE (omega arith), le-ltb s UNKNOWN h, lt-ltb s DASH l, e) (ap one q)
 
-  pub line-index : s < 32 → 16 ≤ s → numberOf r ≡ index f → one (numberOf r) ≡ item (modeOf p) (slotOf s) f
+  pub line-index : s < UNKNOWN → LINE ≤ s → numberOf r ≡ index f → one (numberOf r) ≡ item (modeOf p) (slotOf s) f
   unfolding slotOf
-  line-index h g q = rw (le-ltb s 16 g, lt-ltb s 32 h) (ap one q)
+  line-index h g q = rw (le-ltb s LINE g, lt-ltb s UNKNOWN h) (ap one q)
 
-  pub slot-2 : s ≡ 2 → one (numberOf r) ≡ item (modeOf p) entry f → one (numberOf r) ≡ item (modeOf p) (slotOf s) f
+  pub slot-entry : s ≡ ENTRY → one (numberOf r) ≡ item (modeOf p) entry f → one (numberOf r) ≡ item (modeOf p) (slotOf s) f
   unfolding slotOf
-  slot-2 e q = rw e q
+  slot-entry e q = rw e q
 
-  pub slot-3 : s ≡ 3 → numberOf r ≡ placed f (split 44 (101 ∷ 44 ∷ 97 ∷ [])) → one (numberOf r) ≡ item (modeOf p) (slotOf s) f
+  pub slot-kind : s ≡ KIND-LETTER → numberOf r ≡ placed f (split 44 (ascii "e,a")) → one (numberOf r) ≡ item (modeOf p) (slotOf s) f
   unfolding slotOf
-  slot-3 e q = rw e (word-is f ("e" ∷ "a" ∷ []) (101 ∷ 44 ∷ 97 ∷ []) r refl q)
+  slot-kind e q = rw e (word-is f ("e" ∷ "a" ∷ []) (ascii "e,a") r refl q)
 
-  pub slot-4 : s ≡ 4 → numberOf r ≡ placed f (split 44 (111 ∷ 44 ∷ 114 ∷ [])) → one (numberOf r) ≡ item (modeOf p) (slotOf s) f
+  pub slot-field : s ≡ FIELD-LETTER → numberOf r ≡ placed f (split 44 (ascii "o,r")) → one (numberOf r) ≡ item (modeOf p) (slotOf s) f
   unfolding slotOf
-  slot-4 e q = rw e (word-is f ("o" ∷ "r" ∷ []) (111 ∷ 44 ∷ 114 ∷ []) r refl q)
+  slot-field e q = rw e (word-is f ("o" ∷ "r" ∷ []) (ascii "o,r") r refl q)
 
-  pub slot-5 : s ≡ 5 → numberOf r ≡ placed f (split 44 (48 ∷ 44 ∷ 49 ∷ [])) → one (numberOf r) ≡ item (modeOf p) (slotOf s) f
+  pub slot-bit : s ≡ BIT → numberOf r ≡ placed f (split 44 (ascii "0,1")) → one (numberOf r) ≡ item (modeOf p) (slotOf s) f
   unfolding slotOf
-  slot-5 e q = rw e (word-is f ("0" ∷ "1" ∷ []) (48 ∷ 44 ∷ 49 ∷ []) r refl q)
+  slot-bit e q = rw e (word-is f ("0" ∷ "1" ∷ []) (ascii "0,1") r refl q)
 
-  pub slot-6 : s ≡ 6 → numberOf r ≡ wordNumber f variables → one (numberOf r) ≡ item (modeOf p) (slotOf s) f
+  pub slot-part : s ≡ PART-LETTER → numberOf r ≡ wordNumber f variables → one (numberOf r) ≡ item (modeOf p) (slotOf s) f
   unfolding slotOf
-  slot-6 e q = rw e (ap one q)
+  slot-part e q = rw e (ap one q)
 
-  pub slot-7 : s ≡ 7 → numberOf r ≡ wordNumber f effects → one (numberOf r) ≡ item (modeOf p) (slotOf s) f
+  pub slot-effect : s ≡ EFFECT → numberOf r ≡ wordNumber f effects → one (numberOf r) ≡ item (modeOf p) (slotOf s) f
   unfolding slotOf
-  slot-7 e q = rw e (ap one q)
+  slot-effect e q = rw e (ap one q)
 
-pub slot-none : (p : Bool) (s : ℕ) (f : List ℕ) → (s ≡ 1 → ⊥) → s < 16 → (s ≡ 2 → ⊥) → (s ≡ 3 → ⊥) → (s ≡ 4 → ⊥) → (s ≡ 5 → ⊥) → (s ≡ 6 → ⊥) → (s ≡ 7 → ⊥) → one (numberOf N.the-variants.Refused) ≡ item (modeOf p) (slotOf s) f
+pub slot-none : (p : Bool) (s : ℕ) (f : List ℕ) → (s ≡ NUMBER → ⊥) → s < LINE → (s ≡ ENTRY → ⊥) → (s ≡ KIND-LETTER → ⊥) → (s ≡ FIELD-LETTER → ⊥) → (s ≡ BIT → ⊥) → (s ≡ PART-LETTER → ⊥) → (s ≡ EFFECT → ⊥) → one (numberOf N.the-variants.Refused) ≡ item (modeOf p) (slotOf s) f
 unfolding slotOf
 slot-none p zero f z h a b c d e g = refl
 slot-none p (suc zero) f z h a b c d e g = absurd (z refl)
@@ -145,7 +148,7 @@ slot-none p (suc (suc (suc (suc zero)))) f z h a b c d e g = absurd (c refl)
 slot-none p (suc (suc (suc (suc (suc zero))))) f z h a b c d e g = absurd (d refl)
 slot-none p (suc (suc (suc (suc (suc (suc zero)))))) f z h a b c d e g = absurd (e refl)
 slot-none p (suc (suc (suc (suc (suc (suc (suc zero))))))) f z h a b c d e g = absurd (g refl)
-slot-none p (suc (suc (suc (suc (suc (suc (suc (suc n)))))))) f z h a b c d e g = rw (lt-ltb (suc (suc (suc (suc (suc (suc (suc (suc n)))))))) 16 h) refl
+slot-none p (suc (suc (suc (suc (suc (suc (suc (suc n)))))))) f z h a b c d e g = rw (lt-ltb (suc (suc (suc (suc (suc (suc (suc (suc n)))))))) LINE h) refl
 
 no-some : {A X : Type 0} {a : A} → none ≡ some a → X
 no-some e = let z : _≡_ {A = ℕ} 0 1 = cc in absurd (omega arith)
@@ -153,7 +156,7 @@ no-some e = let z : _≡_ {A = ℕ} 0 1 = cc in absurd (omega arith)
 -- ---- an item of one number is at most a mark
 
 abbrev Low : Option ℕ → Type 0
-Low o = (n : ℕ) → o ≡ some n → n ≤ 10000
+Low o = (n : ℕ) → o ≡ some n → n ≤ mark
 
 some-is : {m n : ℕ} → some m ≡ some n → m ≡ n
 some-is e = cc
@@ -165,18 +168,18 @@ low-mark : (b : Bool) (f : List ℕ) → Low (markOr b (index f))
 low-mark true f n e = omega (arith, some-is e)
 low-mark false f n e = low-index f n e
 
-low-word : (f : List ℕ) (ws : List String) → length ws ≤ 10000 → Low (wordNumber f ws)
+low-word : (f : List ℕ) (ws : List String) → length ws ≤ mark → Low (wordNumber f ws)
 low-word f ws h n e = go (ltb (placeIn f ws) (length ws)) refl e
   where
-    go : (t : Bool) → ltb (placeIn f ws) (length ws) ≡ t → cond t (some (placeIn f ws)) none ≡ some n → n ≤ 10000
+    go : (t : Bool) → ltb (placeIn f ws) (length ws) ≡ t → cond t (some (placeIn f ws)) none ≡ some n → n ≤ mark
     go true p q = omega (arith, some-is q, ltb-true (placeIn f ws) (length ws) p)
     go false p q = no-some q
 
-low-one : (o : Option ℕ) → Low o → (x : ℕ) → one o ≡ some (x ∷ []) → x ≤ 10000
+low-one : (o : Option ℕ) → Low o → (x : ℕ) → one o ≡ some (x ∷ []) → x ≤ mark
 low-one none h x e = no-some e
 low-one (some n) h x e = let z : n ≡ x = cc in omega (arith, h n refl)
 
-special-low : (p : Bool) (s : ℕ) (f : List ℕ) (x : ℕ) → (s ≡ 1 → ⊥) → item (modeOf p) (getD specials s nothing) f ≡ some (x ∷ []) → x ≤ 10000
+special-low : (p : Bool) (s : ℕ) (f : List ℕ) (x : ℕ) → (s ≡ NUMBER → ⊥) → item (modeOf p) (getD specials s nothing) f ≡ some (x ∷ []) → x ≤ mark
 special-low p zero f x z e = no-some e
 special-low p (suc zero) f x z e = absurd (z refl)
 special-low true (suc (suc zero)) f x z e = low-one (wordNumber f ("partial" ∷ [])) (low-word f ("partial" ∷ []) (omega arith)) x e
@@ -188,16 +191,16 @@ special-low p (suc (suc (suc (suc (suc (suc zero)))))) f x z e = low-one (wordNu
 special-low p (suc (suc (suc (suc (suc (suc (suc zero))))))) f x z e = low-one (wordNumber f ("permit" ∷ "forbid" ∷ [])) (low-word f ("permit" ∷ "forbid" ∷ []) (omega arith)) x e
 special-low p (suc (suc (suc (suc (suc (suc (suc (suc n)))))))) f x z e = no-some e
 
-slot-low : (p : Bool) (s : ℕ) (f : List ℕ) (x : ℕ) → (s ≡ 1 → ⊥) → item (modeOf p) (slotOf s) f ≡ some (x ∷ []) → x ≤ 10000
+slot-low : (p : Bool) (s : ℕ) (f : List ℕ) (x : ℕ) → (s ≡ NUMBER → ⊥) → item (modeOf p) (slotOf s) f ≡ some (x ∷ []) → x ≤ mark
 unfolding slotOf
-slot-low p s f x z e = go p (ltb s 16) (ltb s 32) (ltb s 48) (ltb s 64) e
+slot-low p s f x z e = go p (ltb s LINE) (ltb s UNKNOWN) (ltb s DASH) (ltb s STAR) e
   where
-    go : (p t u v y : Bool) → item (modeOf p) (cond t (getD specials s nothing) (cond u (line (s - 16)) (cond v (lineUnknown (s - 32)) (cond y (lineOr dash (s - 48)) (lineOr asterisk (s - 64)))))) f ≡ some (x ∷ []) → x ≤ 10000
+    go : (p t u v y : Bool) → item (modeOf p) (cond t (getD specials s nothing) (cond u (line (s - LINE)) (cond v (lineUnknown (s - UNKNOWN)) (cond y (lineOr dash (s - DASH)) (lineOr asterisk (s - STAR)))))) f ≡ some (x ∷ []) → x ≤ mark
     go p true u v y q = special-low p s f x z q
     go p false true v y q = low-one (index f) (low-index f) x q
-    go p false false true y q = low-one (markOr (isPartial (modeOf p) && same f (63 ∷ [])) (index f)) (low-mark (isPartial (modeOf p) && same f (63 ∷ [])) f) x q
-    go p false false false true q = low-one (markOr (same f (45 ∷ [])) (index f)) (low-mark (same f (45 ∷ [])) f) x q
-    go p false false false false q = low-one (markOr (same f (42 ∷ [])) (index f)) (low-mark (same f (42 ∷ [])) f) x q
+    go p false false true y q = low-one (markOr (isPartial (modeOf p) && same f (question ∷ [])) (index f)) (low-mark (isPartial (modeOf p) && same f (question ∷ [])) f) x q
+    go p false false false true q = low-one (markOr (same f (dash ∷ [])) (index f)) (low-mark (same f (dash ∷ [])) f) x q
+    go p false false false false q = low-one (markOr (same f (asterisk ∷ [])) (index f)) (low-mark (same f (asterisk ∷ [])) f) x q
 
 -- ---- an index, where a line may stand
 
@@ -229,15 +232,15 @@ unmarked b f n m e = go (same f (b ∷ [])) refl
 marked-index : (b : ℕ) (f : List ℕ) (n : ℕ) → index (b ∷ []) ≡ none → index f ≡ some n → some n ≡ markOr (same f (b ∷ [])) (index f)
 marked-index b f n m e = sym (ap (λ (t : Bool). markOr t (index f)) (unmarked b f n m e) ∙ e)
 
-pub slot-index : (p : Bool) (s : ℕ) (f : List ℕ) (n : ℕ) → 16 ≤ s → index f ≡ some n → one (numberOf (N.the-variants.Value n)) ≡ item (modeOf p) (slotOf s) f
-slot-index p s f n h e = go p (decLt s 32) (decLt s 48) (decLt s 64)
+pub slot-index : (p : Bool) (s : ℕ) (f : List ℕ) (n : ℕ) → LINE ≤ s → index f ≡ some n → one (numberOf (N.the-variants.Value n)) ≡ item (modeOf p) (slotOf s) f
+slot-index p s f n h e = go p (decLt s UNKNOWN) (decLt s DASH) (decLt s STAR)
   where
-    go : (p : Bool) → Dec (s < 32) → Dec (s < 48) → Dec (s < 64) → one (numberOf (N.the-variants.Value n)) ≡ item (modeOf p) (slotOf s) f
+    go : (p : Bool) → Dec (s < UNKNOWN) → Dec (s < DASH) → Dec (s < STAR) → one (numberOf (N.the-variants.Value n)) ≡ item (modeOf p) (slotOf s) f
     go p (yes l) u v = line-index p s f (N.the-variants.Value n) l h (sym e)
-    go true (no l) (yes u) v = unknown-partial true s f (N.the-variants.Value n) u (omega arith) refl (marked-index 63 f n refl e)
+    go true (no l) (yes u) v = unknown-partial true s f (N.the-variants.Value n) u (omega arith) refl (marked-index question f n refl e)
     go false (no l) (yes u) v = unknown-complete false s f (N.the-variants.Value n) u (omega arith) refl (sym e)
-    go p (no l) (no u) (yes v) = dash-or p s f (N.the-variants.Value n) v (omega arith) (marked-index 45 f n refl e)
-    go p (no l) (no u) (no v) = star-or p s f (N.the-variants.Value n) (omega arith) (marked-index 42 f n refl e)
+    go p (no l) (no u) (yes v) = dash-or p s f (N.the-variants.Value n) v (omega arith) (marked-index dash f n refl e)
+    go p (no l) (no u) (no v) = star-or p s f (N.the-variants.Value n) (omega arith) (marked-index asterisk f n refl e)
 
 -- ---- an item in words
 
@@ -278,9 +281,9 @@ special-empty p (suc (suc (suc (suc (suc (suc (suc (suc n)))))))) = refl
 
 slot-empty : (p : Bool) (s : ℕ) → item (modeOf p) (slotOf s) [] ≡ none
 unfolding slotOf
-slot-empty p s = go p (ltb s 16) (ltb s 32) (ltb s 48) (ltb s 64)
+slot-empty p s = go p (ltb s LINE) (ltb s UNKNOWN) (ltb s DASH) (ltb s STAR)
   where
-    go : (p t u v y : Bool) → item (modeOf p) (cond t (getD specials s nothing) (cond u (line (s - 16)) (cond v (lineUnknown (s - 32)) (cond y (lineOr dash (s - 48)) (lineOr asterisk (s - 64)))))) [] ≡ none
+    go : (p t u v y : Bool) → item (modeOf p) (cond t (getD specials s nothing) (cond u (line (s - LINE)) (cond v (lineUnknown (s - UNKNOWN)) (cond y (lineOr dash (s - DASH)) (lineOr asterisk (s - STAR)))))) [] ≡ none
     go p true u v y = special-empty p s
     go p false true v y = refl
     go true false false true y = refl
@@ -294,7 +297,7 @@ item-wide p s (x ∷ f) l e = omega arith
 
 module _ (p : Bool) (s k : ℕ) (f w : List ℕ) (m : N.Number) where
   -- a long
-  pub put-long : (v : ℕ) → s ≡ 1 → numberOf m ≡ long f → m ≡ N.the-variants.Value v → (k + 2 ≤ 16384) × (16384 ≤ length w)
+  pub put-long : (v : ℕ) → s ≡ NUMBER → numberOf m ≡ long f → m ≡ N.the-variants.Value v → (k + 2 ≤ room) × (room ≤ length w)
       → Item (item (modeOf p) (slotOf s) f) f w (set (set w k (v / 4294967296)) (k + 1) (v % 4294967296)) s k 2
   unfolding slotOf
   put-long v e h g l =
@@ -303,7 +306,7 @@ module _ (p : Bool) (s k : ℕ) (f w : List ℕ) (m : N.Number) where
         item = rw (e, q) (ap some (sym (two-words w k (v / 4294967296) (v % 4294967296) (omega (arith, l .0, l .1)))));
         kept = record {
           below = take-set-le k (set w k (v / 4294967296)) (k + 1) (v % 4294967296) (omega arith) ∙ take-set-le k w k (v / 4294967296) (omega arith);
-          rest = drop-set-lt 16384 (set w k (v / 4294967296)) (k + 1) (v % 4294967296) (omega (arith, l .0)) ∙ drop-set-lt 16384 w k (v / 4294967296) (omega (arith, l .0));
+          rest = drop-set-lt room (set w k (v / 4294967296)) (k + 1) (v % 4294967296) (omega (arith, l .0)) ∙ drop-set-lt room w k (v / 4294967296) (omega (arith, l .0));
         };
         few = omega arith;
         two = λ z. e;
@@ -314,7 +317,7 @@ module _ (p : Bool) (s k : ℕ) (f w : List ℕ) (m : N.Number) where
   nothing-put e =
       record { item = e; kept = record { below = refl; rest = refl }; few = omega arith; two = λ z. absurd (omega arith); wide = λ z. absurd (omega arith) }
 
-  pub put-no-long : s ≡ 1 → numberOf m ≡ long f → m ≡ N.the-variants.Refused → Item (item (modeOf p) (slotOf s) f) f w w s k 0
+  pub put-no-long : s ≡ NUMBER → numberOf m ≡ long f → m ≡ N.the-variants.Refused → Item (item (modeOf p) (slotOf s) f) f w w s k 0
   unfolding slotOf
   put-no-long e h g = let q : long f ≡ none = sym h ∙ ap numberOf g in nothing-put (rw (e, q) refl)
 
@@ -326,14 +329,14 @@ module _ (p : Bool) (s k : ℕ) (f w : List ℕ) (m : N.Number) where
       one-is : item (modeOf p) (slotOf s) f ≡ some (x ∷ [])
       one-is = sym h ∙ ap (λ (n : N.Number). one (numberOf n)) g
 
-      pub one-low : (s ≡ 1 → ⊥) → x ≤ 10000
+      pub one-low : (s ≡ NUMBER → ⊥) → x ≤ mark
       one-low z = slot-low p s f x z one-is
 
-      pub put-one : (k + 2 ≤ 16384) × (16384 ≤ length w) → Item (item (modeOf p) (slotOf s) f) f w (set w k x) s k 1
+      pub put-one : (k + 2 ≤ room) × (room ≤ length w) → Item (item (modeOf p) (slotOf s) f) f w (set w k x) s k 1
       put-one l =
           record {
             item = one-is ∙ ap some (sym (one-word w k x (omega (arith, l .0, l .1))));
-            kept = record { below = take-set-le k w k x (omega arith); rest = drop-set-lt 16384 w k x (omega (arith, l .0)) };
+            kept = record { below = take-set-le k w k x (omega arith); rest = drop-set-lt room w k x (omega (arith, l .0)) };
             few = omega arith;
             two = λ z. absurd (omega arith);
             wide = λ z. item-wide p s f (x ∷ []) one-is;
@@ -342,7 +345,7 @@ module _ (p : Bool) (s k : ℕ) (f w : List ℕ) (m : N.Number) where
 -- ---- the item after a separator
 
 module _ (p : Bool) (s w : List ℕ) (a slot k : ℕ) where
-  pub next-index : (d : D.Digits) (n e : ℕ) → 16 ≤ slot → d ≡ indexAt s (a + 1) → d ≡ D.the-variants.Index n e → k + 2 ≤ 16384 → 16384 ≤ length w
+  pub next-index : (d : D.Digits) (n e : ℕ) → LINE ≤ slot → d ≡ indexAt s (a + 1) → d ≡ D.the-variants.Index n e → k + 2 ≤ room → room ≤ length w
       → After (modeOf p) s w (set w k n) a slot k e 1
   next-index d n e h hd g l₁ l₂ =
       let q = index-told s (a + 1) d hd n e g in

@@ -16,9 +16,10 @@ use Rattle.sheet.specs.Forms.{Mode, Slot, formOf, slotAt, counted, item, joined
 use Rattle.scan.specs.Places.{partsAfter}
 use Rattle.scan.proofs.Scans.{drop-take}
 use Rattle.scan.proofs.Splits.{found-le, split-parts, split-at, after-on, after-end}
+use Rattle.forms.specs.Tags.{LONG-VALUE}
 use Rattle.line.specs.Codes.{modeOf, SlotAt}
 use Rattle.line.specs.Written.{given, countedFrom, Kept, After, Items}
-use Rattle.line.proofs.LawsTable.{Places, eleven, slot-here, counted-equal, counted-less, counted-alone, counted-within, place-again}
+use Rattle.line.proofs.LawsTable.{Places, one-long, slot-here, counted-equal, counted-less, counted-alone, counted-within, place-again}
 
 -- ---- words
 
@@ -76,9 +77,9 @@ pub record Walk (s : List ℕ) (p : Bool) (t : ℕ) (w₀ : List ℕ) (e₀ j₀
   pub near : e ≤ length s
   pub within : j ≤ length (formOf t .items) + length (formOf t .group)
   pub full : j ≡ length (formOf t .items) + length (formOf t .group) → length (formOf t .group) ≡ 0
-  pub first : t ≡ 11 → j ≡ 0 → k ≡ k₀
+  pub first : t ≡ LONG-VALUE → j ≡ 0 → k ≡ k₀
   pub room : 2 * k + e₀ ≤ 2 * k₀ + e + 2
-  pub close : (t ≡ 11 → ⊥) → 2 * k + e₀ ≤ 2 * k₀ + e
+  pub close : (t ≡ LONG-VALUE → ⊥) → 2 * k + e₀ ≤ 2 * k₀ + e
 
 pub walk-start : (s : List ℕ) (p : Bool) (t : ℕ) (w : List ℕ) (e j k : ℕ) → e ≤ length s → j ≤ length (formOf t .items) → Walk s p t w e j k w e j k
 walk-start s p t w e j k h l =
@@ -174,7 +175,7 @@ module _ (s : List ℕ) (p : Bool) (t : ℕ) (w₀ : List ℕ) (e₀ j₀ k₀ :
         far = omega (arith, y .put .wide (omega arith), length-part s (e + 1) e₂ (walk-near .1))
 
         moved : (j₂ : ℕ) → countedFrom (modeOf p) t (j + 1) (partsAfter 44 s e₂) ≡ countedFrom (modeOf p) t j₂ (partsAfter 44 s e₂) → j₂ ≤ length (formOf t .items) + length (formOf t .group)
-            → (j₂ ≡ length (formOf t .items) + length (formOf t .group) → length (formOf t .group) ≡ 0) → (t ≡ 11 → j₂ ≡ 0 → ⊥) → Walk s p t w₀ e₀ j₀ k₀ w₂ e₂ j₂ (k + r)
+            → (j₂ ≡ length (formOf t .items) + length (formOf t .group) → length (formOf t .group) ≡ 0) → (t ≡ LONG-VALUE → j₂ ≡ 0 → ⊥) → Walk s p t w₀ e₀ j₀ k₀ w₂ e₂ j₂ (k + r)
         moved j₂ same in₂ full₂ first₂ =
             let b = take r (drop k w₂) in
             let o = countedFrom (modeOf p) t j₂ (partsAfter 44 s e₂) in
@@ -206,4 +207,4 @@ module _ (s : List ℕ) (p : Bool) (t : ℕ) (w₀ : List ℕ) (e₀ j₀ k₀ :
 
         pub walk-again : j + 1 ≡ n + g → Walk s p t w₀ e₀ j₀ k₀ w₂ e₂ n (k + r)
         walk-again q =
-            moved n (place-again t n g hn hg (modeOf p) (partsAfter 44 s e₂) (j + 1) q) (omega (arith, hn .0)) (λ d. omega (arith, d, hn .0)) (λ d c. eleven t n (hn .0) d c)
+            moved n (place-again t n g hn hg (modeOf p) (partsAfter 44 s e₂) (j + 1) q) (omega (arith, hn .0)) (λ d. omega (arith, d, hn .0)) (λ d c. one-long t n (hn .0) d c)

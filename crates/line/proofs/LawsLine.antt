@@ -9,10 +9,10 @@ use borrow.Author.Tests.{ne-eqb, le-leb, lt-leb, ltb-true}
 use lib.Dec.{leb, ltb, eqb}
 use lib.ListN.{length, take, drop, set, length-drop}
 use lib.Seq.{take-set-le, drop-set-lt, lt-length-set, length-take-le}
-use Rattle.words.specs.Log.{part}
+use Rattle.words.specs.Log.{part, room}
 use Rattle.sheet.specs.Ascii.{ascii}
 use Rattle.sheet.specs.Bytes.{upTo, split, same, printable}
-use Rattle.sheet.specs.Forms.{Form, entry, plain, keys, wordNumber, forms, formOf, formIn, tagOf, keyOf, counted, orEmpty, itemsFrom, rowHeaded, heading, rowOfText, rowOfValue, tag, TEXT}
+use Rattle.sheet.specs.Forms.{Form, entry, plain, keys, wordNumber, forms, formOf, formIn, tagOf, keyOf, counted, orEmpty, itemsFrom, rowHeaded, heading, rowOfText, rowOfValue, tag, noKey, SHEET, TEXT, NODE}
 use Rattle.scan.specs.declared.Cursor.{Cursor}
 use Rattle.scan.specs.declared.Heading as H
 use Rattle.scan.specs.declared.Line as L
@@ -20,8 +20,9 @@ use Rattle.scan.specs.Places.{place, keyed, headingOf, entered, lineTo, lineAt}
 use Rattle.scan.proofs.Scans.{drop-take}
 use Rattle.scan.proofs.Wordlists.{word-number}
 use Rattle.table.specs.Layout.{textRow}
+use Rattle.forms.specs.Tags.{TEXT-LINE}
 use Rattle.line.specs.Codes.{modeOf}
-use Rattle.line.specs.Written.{Row, Text, Line, rowFrom, room}
+use Rattle.line.specs.Written.{Row, Text, Line, rowFrom, rowRoom}
 use Rattle.line.proofs.LawsItem.{one-word, two-words}
 use Rattle.line.proofs.LawsItems.{more-words}
 use Rattle.line.proofs.LawsTag.{wide, placed-wide, tag-key}
@@ -32,44 +33,44 @@ module _ (start len top : ℕ) (w : List ℕ) where
   pub text-long : 128 < len → Text start len w w top 0
   text-long h = record { words = rw (lt-leb len 128 h) refl; count = rw (lt-leb len 128 h) refl; kept = record { below = refl; rest = refl } }
 
-  pub text-row : len ≤ 128 → 16384 ≤ length w → top + 3 ≤ 16384 → Text start len w (set (set (set w top 1) (top + 1) start) (top + 1 + 1) len) top 3
+  pub text-row : len ≤ 128 → room ≤ length w → top + 3 ≤ room → Text start len w (set (set (set w top TEXT-LINE) (top + 1) start) (top + 1 + 1) len) top 3
   text-row h l r =
-      let u = set w top 1 in
+      let u = set w top TEXT-LINE in
       let w₂ = set (set u (top + 1) start) (top + 1 + 1) len in
       let k : top + 1 - top ≡ 1 = omega arith in
       let q : top + 1 + 2 - top ≡ 3 = omega arith in
-      let first : take (top + 1 - top) (drop top u) ≡ 1 ∷ [] = rw k (one-word w top 1 (omega arith)) in
-      let rest : take 2 (drop (top + 1) w₂) ≡ start ∷ len ∷ [] = two-words u (top + 1) start len (lt-length-set w top 1 (omega arith)) in
+      let first : take (top + 1 - top) (drop top u) ≡ TEXT-LINE ∷ [] = rw k (one-word w top TEXT-LINE (omega arith)) in
+      let rest : take 2 (drop (top + 1) w₂) ≡ start ∷ len ∷ [] = two-words u (top + 1) start len (lt-length-set w top TEXT-LINE (omega arith)) in
       let same : take (top + 1) w₂ ≡ take (top + 1) u = take-set-le (top + 1) (set u (top + 1) start) (top + 1 + 1) len (omega arith) ∙ take-set-le (top + 1) u (top + 1) start (omega arith) in
-      let all : take 3 (drop top w₂) ≡ 1 ∷ start ∷ len ∷ [] =
+      let all : take 3 (drop top w₂) ≡ TEXT-LINE ∷ start ∷ len ∷ [] =
       sym (more-words u w₂ top (top + 1) 2 (omega arith) same ∙ ap (λ (i : ℕ). take i (drop top w₂)) q) ∙ rw (first, rest) refl in
       record {
         words = all ∙ sym (rw (le-leb len 128 h) refl);
         count = rw (le-leb len 128 h) refl;
         kept = record {
-          below = take-set-le top (set u (top + 1) start) (top + 1 + 1) len (omega arith) ∙ take-set-le top u (top + 1) start (omega arith) ∙ take-set-le top w top 1 (omega arith);
-          rest = drop-set-lt 16384 (set u (top + 1) start) (top + 1 + 1) len (omega arith) ∙ drop-set-lt 16384 u (top + 1) start (omega arith) ∙ drop-set-lt 16384 w top 1 (omega arith);
+          below = take-set-le top (set u (top + 1) start) (top + 1 + 1) len (omega arith) ∙ take-set-le top u (top + 1) start (omega arith) ∙ take-set-le top w top TEXT-LINE (omega arith);
+          rest = drop-set-lt room (set u (top + 1) start) (top + 1 + 1) len (omega arith) ∙ drop-set-lt room u (top + 1) start (omega arith) ∙ drop-set-lt room w top TEXT-LINE (omega arith);
         };
       }
 
 -- ---- the key of a row is that of its line
 
-key-of-none : keyOf [] ≡ 13
+key-of-none : keyOf [] ≡ noKey
 unfolding keyOf formOf forms
 key-of-none = refl
 
-row-key : (k j t : ℕ) (w : List ℕ) (b : Bool) (o : Option (List ℕ)) → j < 13 → t ≡ tagOf k w → keyOf (cond b (orEmpty t o) []) ≡ j → k ≡ j
+row-key : (k j t : ℕ) (w : List ℕ) (b : Bool) (o : Option (List ℕ)) → j < noKey → t ≡ tagOf k w → keyOf (cond b (orEmpty t o) []) ≡ j → k ≡ j
 unfolding keyOf
 row-key k j t w true none h q e = absurd (omega (arith, key-of-none, e))
 row-key k j t w true (some l) h q e = tag-key k j w h (ap (λ (i : ℕ). formOf i .key) (sym q) ∙ e)
 row-key k j t w false o h q e = absurd (omega (arith, key-of-none, e))
 
-text-key : (v : List ℕ) (t : Bool) → keyOf (cond t (1 ∷ v) []) ≡ 11 → ⊥
+text-key : (v : List ℕ) (t : Bool) → keyOf (cond t (TEXT-LINE ∷ v) []) ≡ NODE → ⊥
 unfolding keyOf formOf forms
 text-key v true e = omega arith
 text-key v false e = omega arith
 
--- no row but a text's begins with 1
+-- no row but a text's begins with its tag
 second-form : (k : ℕ) (w : List ℕ) (f g : Form) (fs : List Form) → eqb k (g .key) ≡ false → formIn k w (f ∷ g ∷ fs) ≡ 1 → ⊥
 second-form k w f g fs h e = go (eqb k (f .key) && same w (ascii (f .name))) (rw h at e)
   where
@@ -77,13 +78,13 @@ second-form k w f g fs h e = go (eqb k (f .key) && same w (ascii (f .name))) (rw
     go true e = omega arith
     go false e = omega arith
 
-tag-not-text : (k : ℕ) (w : List ℕ) → (k ≡ 1 → ⊥) → tagOf k w ≡ 1 → ⊥
+tag-not-text : (k : ℕ) (w : List ℕ) → (k ≡ TEXT → ⊥) → tagOf k w ≡ TEXT-LINE → ⊥
 unfolding tagOf forms
-tag-not-text k w h e = second-form k w (plain 0 "" (entry ∷ [])) (plain 1 "" []) (drop 2 forms) (ne-eqb k 1 h) e
+tag-not-text k w h e = second-form k w (plain SHEET "" (entry ∷ [])) (plain TEXT "" []) (drop 2 forms) (ne-eqb k TEXT h) e
 
-from-row : (sheet : List ℕ) (t : ℕ) (b : Bool) (o : Option (List ℕ)) → (t ≡ 1 → ⊥) → rowFrom sheet (cond b (orEmpty t o) []) ≡ cond b (orEmpty t o) []
+from-row : (sheet : List ℕ) (t : ℕ) (b : Bool) (o : Option (List ℕ)) → (t ≡ TEXT-LINE → ⊥) → rowFrom sheet (cond b (orEmpty t o) []) ≡ cond b (orEmpty t o) []
 from-row sheet t true none h = refl
-from-row sheet t true (some l) h = rw (ne-eqb t 1 h) refl
+from-row sheet t true (some l) h = rw (ne-eqb t TEXT-LINE h) refl
 from-row sheet t false o h = refl
 
 no-length : (l : List ℕ) → 0 ≡ length l → l ≡ []
@@ -92,29 +93,29 @@ no-length (x ∷ l) e = absurd (omega arith)
 
 -- ---- the row of a line whose key and `=` are known
 
-tight-row : (k r v : ℕ) → 2 * r ≤ room k v → 2 * r ≤ v + 5
-tight-row k r v a = go (eqb k 11) a
+tight-row : (k r v : ℕ) → 2 * r ≤ rowRoom k v → 2 * r ≤ v + 5
+tight-row k r v a = go (eqb k NODE) a
   where
     go : (t : Bool) → 2 * r ≤ cond t v (v + 5) → 2 * r ≤ v + 5
     go true h = omega arith
     go false h = omega arith
 
-tight-node : (k r v : ℕ) → k ≡ 11 → 2 * r ≤ room k v → 2 * r ≤ v
+tight-node : (k r v : ℕ) → k ≡ NODE → 2 * r ≤ rowRoom k v → 2 * r ≤ v
 tight-node k r v q a = rw q at a
 
 tight-text : (t : Bool) (r : ℕ) → r ≡ cond t 3 0 → 2 * r ≤ 6
 tight-text true r a = omega arith
 tight-text false r a = omega arith
 
-text-from : (sheet v : List ℕ) (start : ℕ) (t : Bool) → v ≡ part sheet start (start + length v) → rowFrom sheet (cond t (1 ∷ start ∷ length v ∷ []) []) ≡ cond t (1 ∷ v) []
-text-from sheet v start true x = ap (λ (y : List ℕ). 1 ∷ y) (sym x)
+text-from : (sheet v : List ℕ) (start : ℕ) (t : Bool) → v ≡ part sheet start (start + length v) → rowFrom sheet (cond t (TEXT-LINE ∷ start ∷ length v ∷ []) []) ≡ cond t (TEXT-LINE ∷ v) []
+text-from sheet v start true x = ap (λ (y : List ℕ). TEXT-LINE ∷ y) (sym x)
 text-from sheet v start false x = refl
 
-text-none : (v : List ℕ) (t : Bool) → _≡_ {A = ℕ} 0 (cond t 3 0) → cond t (1 ∷ v) [] ≡ []
+text-none : (v : List ℕ) (t : Bool) → _≡_ {A = ℕ} 0 (cond t 3 0) → cond t (TEXT-LINE ∷ v) [] ≡ []
 text-none v true x = absurd (omega arith)
 text-none v false x = refl
 
-text-full : (v : List ℕ) (t : Bool) → cond t (1 ∷ v) [] ≡ [] → _≡_ {A = ℕ} (cond t 3 0) 0
+text-full : (v : List ℕ) (t : Bool) → cond t (TEXT-LINE ∷ v) [] ≡ [] → _≡_ {A = ℕ} (cond t 3 0) 0
 text-full v true x = absurd (omega (arith, ap length x))
 text-full v false x = refl
 
@@ -128,17 +129,17 @@ module _ (sheet w w₂ s : List ℕ) (p : Bool) (k top r end : ℕ) (c : Cursor)
   value-is : drop (c .at + 1) s ≡ part sheet (c .at + 1) end
   value-is = ap (drop (c .at + 1)) hs ∙ drop-take end (c .at + 1) sheet
 
-  pub entry-row : (k ≡ 1 → ⊥) → Row (rowHeaded (modeOf p) k (heading k (split 44 (drop (c .at + 1) s)))) w w₂ top r (room k (length s - (c .at + 1)))
+  pub entry-row : (k ≡ TEXT → ⊥) → Row (rowHeaded (modeOf p) k (heading k (split 44 (drop (c .at + 1) s)))) w w₂ top r (rowRoom k (length s - (c .at + 1)))
       → Line sheet (rowOfValue (modeOf p) k (part sheet (c .at + 1) end)) w w₂ top r (end + 4 - c .at)
   entry-row n g = rw (← value-is) (by-value (drop (c .at + 1) s) g)
     where
-      by-value : (v : List ℕ) → Row (rowHeaded (modeOf p) k (heading k (split 44 v))) w w₂ top r (room k (length s - (c .at + 1))) → Line sheet (rowOfValue (modeOf p) k v) w w₂ top r (end + 4 - c .at)
+      by-value : (v : List ℕ) → Row (rowHeaded (modeOf p) k (heading k (split 44 v))) w w₂ top r (rowRoom k (length s - (c .at + 1))) → Line sheet (rowOfValue (modeOf p) k v) w w₂ top r (end + 4 - c .at)
       by-value v g =
           let hd = heading k (split 44 v) in
           let t = tagOf k (hd .name) in
           let b = counted t (length (hd .items)) in
           let o = itemsFrom (modeOf p) t 0 (hd .items) in
-          let row : rowOfValue (modeOf p) k v ≡ rowHeaded (modeOf p) k hd = rw (ne-eqb k 1 n) refl in
+          let row : rowOfValue (modeOf p) k v ≡ rowHeaded (modeOf p) k hd = rw (ne-eqb k TEXT n) refl in
           let fits : 2 * r ≤ length s - (c .at + 1) + 5 = tight-row k r (length s - (c .at + 1)) (g .tight) in
           record {
             words = ap (rowFrom sheet) (g .words) ∙ from-row sheet t b o (tag-not-text k (hd .name) n) ∙ sym row;
@@ -146,10 +147,10 @@ module _ (sheet w w₂ s : List ℕ) (p : Bool) (k top r end : ℕ) (c : Cursor)
             full = λ y. g .count ∙ ap length (sym row ∙ y);
             kept = g .kept;
             tight = omega (arith, fits, long);
-            node = λ y. omega (arith, tight-node k r (length s - (c .at + 1)) (row-key k 11 t (hd .name) b o (omega arith) refl (ap keyOf (sym row) ∙ y)) (g .tight), long);
+            node = λ y. omega (arith, tight-node k r (length s - (c .at + 1)) (row-key k NODE t (hd .name) b o (omega arith) refl (ap keyOf (sym row) ∙ y)) (g .tight), long);
           }
 
-  pub entry-text : (v : List ℕ) → v ≡ drop (c .at + 1) s → k ≡ 1 → Text (c .at + 1) (length v) w w₂ top r → Line sheet (rowOfValue (modeOf p) k (part sheet (c .at + 1) end)) w w₂ top r (end + 4 - c .at)
+  pub entry-text : (v : List ℕ) → v ≡ drop (c .at + 1) s → k ≡ TEXT → Text (c .at + 1) (length v) w w₂ top r → Line sheet (rowOfValue (modeOf p) k (part sheet (c .at + 1) end)) w w₂ top r (end + 4 - c .at)
   entry-text v hv n g =
       let size : length v ≡ end - (c .at + 1) = ap length hv ∙ length-drop (c .at + 1) s ∙ ap (λ (i : ℕ). i - (c .at + 1)) long in
       let q : c .at + 1 + length v ≡ end = omega arith in
@@ -223,13 +224,13 @@ entry-wide s c k equals e next q = go (ltb stop (length s)) (ltb (c .at) (length
 -- the words begin with the row's tag
 pub words-tag : (sheet l : List ℕ) → tag (rowFrom sheet l) ≡ tag l
 words-tag sheet [] = refl
-words-tag sheet (t ∷ l) = go (eqb t 1)
+words-tag sheet (t ∷ l) = go (eqb t TEXT-LINE)
   where
     go : (b : Bool) → tag (cond b (textRow sheet (t ∷ l)) (t ∷ l)) ≡ t
     go true = refl
     go false = refl
 
-text-form : formOf 1 .key ≡ 1
+text-form : formOf TEXT-LINE .key ≡ TEXT
 unfolding formOf forms
 text-form = refl
 
@@ -242,6 +243,6 @@ module _ (sheet l : List ℕ) where
   pub words-row : (keyOf (rowFrom sheet l) ≡ TEXT → ⊥) → l ≡ rowFrom sheet l
   words-row n = by-tag l (λ e. n (key-of ∙ ap (λ (t : ℕ). formOf t .key) e ∙ text-form))
     where
-      by-tag : (l : List ℕ) → (tag l ≡ 1 → ⊥) → l ≡ rowFrom sheet l
+      by-tag : (l : List ℕ) → (tag l ≡ TEXT-LINE → ⊥) → l ≡ rowFrom sheet l
       by-tag [] h = refl
-      by-tag (t ∷ l) h = rw (ne-eqb t 1 h) refl
+      by-tag (t ∷ l) h = rw (ne-eqb t TEXT-LINE h) refl

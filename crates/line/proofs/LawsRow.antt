@@ -10,11 +10,13 @@ use native.Mathlib.Numerals.{add-one}
 use lib.ListN.{length, take, drop, set, length-set, length-drop}
 use lib.Seq.{length-take-le, take-set-le, drop-set-lt, drop-cons, lt-length-set, getD-set-same}
 use Rattle.sheet.specs.Bytes.{index}
-use Rattle.sheet.specs.Forms.{Mode, Slot, nothing, slotAt, item, one, joined, itemsFrom, counted, orEmpty, tagOf, rowFor}
+use Rattle.sheet.specs.Forms.{Mode, Slot, nothing, slotAt, item, one, joined, itemsFrom, counted, orEmpty, tagOf, rowFor, noTag, firstNode, NODE}
+use Rattle.words.specs.Log.{room}
+use Rattle.forms.specs.Tags.{RECORD-OF}
 use Rattle.line.specs.Codes.{modeOf}
 use Rattle.line.specs.Written.{countedFrom, Kept, Items, Row}
-use Rattle.line.proofs.LawsTable.{node-slot}
-use Rattle.line.proofs.LawsTag.{no-form, node-tag}
+use Rattle.forms.proofs.Table.{no-form, node-slot}
+use Rattle.line.proofs.LawsTag.{node-tag}
 use Rattle.line.proofs.LawsItems.{more-words, kept-both, given-some, joined-empty, counted-cons}
 
 pub empty-row : (row w : List ℕ) (top b : ℕ) → row ≡ [] → Row row w w top 0 b
@@ -22,16 +24,16 @@ empty-row row w top b e = record { count = sym (ap length e); words = sym e; kep
 
 -- ---- refused rows
 
-past-forms : (t : ℕ) → 50 ≤ t → slotAt t 0 ≡ nothing
+past-forms : (t : ℕ) → noTag ≤ t → slotAt t 0 ≡ nothing
 unfolding slotAt
 past-forms t h = rw (no-form t h) refl
 
-none-counted : (t : ℕ) → 50 ≤ t → counted t 0 ≡ false
+none-counted : (t : ℕ) → noTag ≤ t → counted t 0 ≡ false
 unfolding counted
 none-counted t h = rw (no-form t h) refl
 
--- no form has a number from 50 on
-pub row-unformed : (m : Mode) (t : ℕ) (fs : List (List ℕ)) → 50 ≤ t → rowFor m t fs ≡ []
+-- no form has a number past the last
+pub row-unformed : (m : Mode) (t : ℕ) (fs : List (List ℕ)) → noTag ≤ t → rowFor m t fs ≡ []
 row-unformed m t [] h = go (counted t 0) (none-counted t h)
   where
     go : (b : Bool) → b ≡ false → cond b (t ∷ []) [] ≡ []
@@ -51,7 +53,7 @@ row-is m t fs = let z : 0 + length fs ≡ length fs = omega arith in rw z (go (c
     go false o = refl
 
 -- a refused row takes no words, so any bound holds of them
-pub tagged-unformed : (p : Bool) (t top bound : ℕ) (fs : List (List ℕ)) (w : List ℕ) → 50 ≤ t → Row (rowFor (modeOf p) t fs) w w top 0 bound
+pub tagged-unformed : (p : Bool) (t top bound : ℕ) (fs : List (List ℕ)) (w : List ℕ) → noTag ≤ t → Row (rowFor (modeOf p) t fs) w w top 0 bound
 tagged-unformed p t top bound fs w h = empty-row (rowFor (modeOf p) t fs) w top bound (row-unformed (modeOf p) t fs h)
 
 pub tagged-row : (p : Bool) (t top r bound : ℕ) (fs : List (List ℕ)) (w w₂ : List ℕ) → Row (orEmpty t (joined (some (take 0 (drop (top + 1) w))) (countedFrom (modeOf p) t 0 fs))) w w₂ top r bound
@@ -65,9 +67,9 @@ tag-first : (w : List ℕ) (top t j : ℕ) → top < length w → take (suc j) (
 tag-first w top t j h =
     rw (drop-cons (set w top t) top 0 (lt-length-set w top t h), getD-set-same w top t 0 h, drop-set-lt (suc top) w top t (omega arith), ← add-one top) refl
 
-module _ (t j top e v : ℕ) (o : Option (List ℕ)) (w : List ℕ) (long : 16384 ≤ length w) (room : 2 * top + v + 16 ≤ 32768 + e) (near : e ≤ v) (few : j ≤ 1) (node : 1 ≤ j → 21 ≤ t) where
+module _ (t j top e v : ℕ) (o : Option (List ℕ)) (w : List ℕ) (long : room ≤ length w) (fits : 2 * top + v + 16 ≤ 2 * room + e) (near : e ≤ v) (few : j ≤ 1) (node : 1 ≤ j → firstNode ≤ t) where
   start : Kept w (set w top t) top
-  start = record { below = take-set-le top w top t (omega arith); rest = drop-set-lt 16384 w top t (omega arith) }
+  start = record { below = take-set-le top w top t (omega arith); rest = drop-set-lt room w top t (omega arith) }
 
   pub from-bad : (w₂ : List ℕ) (r : ℕ) → Items o (set w top t) w₂ t (top + 1 + j) r e v → r ≡ 0 → Row (orEmpty t (joined (some (take j (drop (top + 1) w))) o)) w w₂ top 0 (v + 4 - e)
   from-bad w₂ r i y =
@@ -89,7 +91,7 @@ module _ (t j top e v : ℕ) (o : Option (List ℕ)) (w : List ℕ) (long : 1638
       let first : take (k - top) (drop top (set w top t)) ≡ t ∷ x = ap (λ (z : ℕ). take z (drop top (set w top t))) n ∙ tag-first w top t j (omega arith) in
       let ws : t ∷ (x ++ y) ≡ take (r - top) (drop top w₂) =
       ap (λ (z : List ℕ). z ++ y) (sym first) ∙ more-words (set w top t) w₂ top k (r - k) (omega arith) (i .kept .below) ∙ ap (λ (z : ℕ). take z (drop top w₂)) q in
-      let within : r ≤ 16384 = omega (arith, i .tight) in
+      let within : r ≤ room = omega (arith, i .tight) in
       let long₂ : length w₂ ≡ length w = l ∙ length-set w top t in
       record {
         count = sym (ap length (row ∙ ws) ∙ length-take-le (r - top) (drop top w₂) (rw (length-drop top w₂) (omega arith)));
@@ -104,15 +106,15 @@ module _ (t j top e v : ℕ) (o : Option (List ℕ)) (w : List ℕ) (long : 1638
 
 -- ---- a node's row: its type stands before its constructor
 
-pub typed : (m : Mode) (t : ℕ) (f : List ℕ) (fs : List (List ℕ)) (o : Option ℕ) → 21 ≤ t → t ≤ 48 → index f ≡ o → rowFor m t (f ∷ fs) ≡ orEmpty t (joined (one o) (countedFrom m t 1 fs))
+pub typed : (m : Mode) (t : ℕ) (f : List ℕ) (fs : List (List ℕ)) (o : Option ℕ) → firstNode ≤ t → t ≤ RECORD-OF → index f ≡ o → rowFor m t (f ∷ fs) ≡ orEmpty t (joined (one o) (countedFrom m t 1 fs))
 typed m t f fs o l h e =
     row-is m t (f ∷ fs) ∙ ap (orEmpty t) (counted-cons m t 0 f fs)
     ∙ ap (λ (i : Option (List ℕ)). orEmpty t (joined i (countedFrom m t 1 fs))) (ap (λ (s : Slot). item m s f) (node-slot t l h) ∙ ap one e)
 
 -- a node whose type is no index has no row
-pub untyped : (m : Mode) (name f : List ℕ) (fs : List (List ℕ)) → index f ≡ none → rowFor m (tagOf 11 name) (f ∷ fs) ≡ []
-untyped m name f fs e = go (decLt (tagOf 11 name) 50)
+pub untyped : (m : Mode) (name f : List ℕ) (fs : List (List ℕ)) → index f ≡ none → rowFor m (tagOf NODE name) (f ∷ fs) ≡ []
+untyped m name f fs e = go (decLt (tagOf NODE name) noTag)
   where
-    go : Dec (tagOf 11 name < 50) → rowFor m (tagOf 11 name) (f ∷ fs) ≡ []
-    go (yes h) = let n = node-tag name (tagOf 11 name) refl in typed m (tagOf 11 name) f fs none (n .low) (n .high h) e
-    go (no h) = row-unformed m (tagOf 11 name) (f ∷ fs) (omega arith)
+    go : Dec (tagOf NODE name < noTag) → rowFor m (tagOf NODE name) (f ∷ fs) ≡ []
+    go (yes h) = let n = node-tag name (tagOf NODE name) refl in typed m (tagOf NODE name) f fs none (n .low) (n .high h) e
+    go (no h) = row-unformed m (tagOf NODE name) (f ∷ fs) (omega arith)

@@ -6,17 +6,19 @@ use Prim.Native.Nat.{ℕ, zero, suc, _+_, _-_, _*_, _/_, _%_, _^_, _≤_, _<_}
 use native.Mathlib.Nat.{zero-mod, mod-lt, mod-eq-of-lt, add-mod-right}
 use native.Mathlib.Omega.{arith}
 use native.Mathlib.Decide.{ℕ-discrete, decLt}
-use borrow.Author.Tests.{leb-true, eqb-true, eq-eqb, ne-eqb, lt-ltb, le-ltb}
-use lib.Dec.{leb, eqb}
-use lib.ListN.{length, getD, List·getD-append, List·getD-eq-default}
+use borrow.Author.Tests.{eqb-true, eq-eqb, ne-eqb, lt-ltb, le-ltb}
+use lib.Dec.{eqb}
+use lib.ListN.{length, getD, List·getD-append}
 use lib.Seq.{getD-append-add}
 use Rattle.cedar.proofs.Tools.{no-true}
-use Rattle.sheet.specs.Forms.{Mode, Slot, entry, line, lineOr, lineUnknown, word, number, nothing, Form, forms, formOf, noForm, slotAt, counted, item, joined, itemsFrom, isLine}
+use Rattle.sheet.specs.Forms.{Mode, Slot, entry, line, lineOr, lineUnknown, word, number, nothing, Form, forms, formOf, noTag, slotAt, counted, item, joined, itemsFrom}
 use Rattle.words.specs.Bits.{byteOf}
 use Rattle.sheet.proofs.Parsed.{allBelow, all-below}
 use Rattle.forms.specs.declared.Form as F
 use Rattle.forms.specs.Rows.{slotOf, Shape, places, shape, read, Packed}
-use Rattle.table.proofs.Counts.{group-small, both-small, ranged, other}
+use Rattle.forms.specs.Tags.{LONG-VALUE}
+use Rattle.forms.proofs.Tests.{other}
+use Rattle.forms.proofs.Table.{no-form, both-small}
 use Rattle.line.specs.Codes.{SlotAt}
 use Rattle.line.specs.Written.{countedFrom}
 
@@ -40,15 +42,6 @@ places-are t w r e p = record { at = at }
     at (suc (suc (suc zero))) h = slot 3 (w / 16777216 % 256) (r .fourth) (p .four) refl
     at (suc (suc (suc (suc j)))) h = absurd (omega arith)
 
-pub items-are : (t : ℕ) (r : F.Form) → read r ≡ shape (formOf t) → (r .items ≡ length (formOf t .items)) × (r .items ≤ 4)
-items-are t r e = let p : r .items ≡ length (formOf t .items) = ap (λ (s : Shape). s .items) e in (p, omega (arith, p, both-small t))
-
-pub group-are : (t : ℕ) (r : F.Form) → read r ≡ shape (formOf t) → (r .group ≡ length (formOf t .group)) × (r .group ≤ 3)
-group-are t r e = let p : r .group ≡ length (formOf t .group) = ap (λ (s : Shape). s .group) e in (p, omega (arith, p, group-small t))
-
-pub few-are : (t : ℕ) (r : F.Form) → read r ≡ shape (formOf t) → r .items + r .group ≤ 4
-few-are t r e = omega (arith, items-are t r e .0, group-are t r e .0, both-small t)
-
 pub byte-low : (w j r : ℕ) → r ≡ byteOf w j → r < 256
 unfolding byteOf
 byte-low w j r e = let l : byteOf w j < 256 = mod-lt (w / 2 ^ (j % 4 * 8)) {m = 256} (omega arith) in omega (arith, e, l)
@@ -64,41 +57,41 @@ isNumber number = true
 isNumber nothing = false
 
 first-long : ℕ → ℕ → Bool
-first-long t j = not (isNumber (getD (places (formOf t)) j nothing)) || (eqb t 11 && eqb j 0)
+first-long t j = not (isNumber (getD (places (formOf t)) j nothing)) || (eqb t LONG-VALUE && eqb j 0)
 
-longs-first : allBelow (λ (t : ℕ). allBelow (first-long t) 4) 50 ≡ true
+longs-first : allBelow (λ (t : ℕ). allBelow (first-long t) 4) noTag ≡ true
 unfolding forms formOf isNumber first-long
 longs-first = refl
 
-long-out : (t j : ℕ) → 50 ≤ t → isNumber (getD (places (formOf t)) j nothing) ≡ false
+long-out : (t j : ℕ) → noTag ≤ t → isNumber (getD (places (formOf t)) j nothing) ≡ false
 unfolding forms formOf isNumber
-long-out t j h = ap (λ (f : Form). isNumber (getD (places f) j nothing)) (List·getD-eq-default forms noForm h) ∙ go j
+long-out t j h = ap (λ (f : Form). isNumber (getD (places f) j nothing)) (no-form t h) ∙ go j
   where
     go : (j : ℕ) → isNumber (getD (nothing ∷ []) j nothing) ≡ false
     go zero = refl
     go (suc j) = refl
 
-number-once : (t j : ℕ) → j < 4 → getD (places (formOf t)) j nothing ≡ number → (t ≡ 11) × (j ≡ 0)
+number-once : (t j : ℕ) → j < 4 → getD (places (formOf t)) j nothing ≡ number → (t ≡ LONG-VALUE) × (j ≡ 0)
 unfolding isNumber first-long
-number-once t j h e = go (decLt t 50)
+number-once t j h e = go (decLt t noTag)
   where
     is : isNumber (getD (places (formOf t)) j nothing) ≡ true
     is = ap isNumber e
 
-    go : Dec (t < 50) → (t ≡ 11) × (j ≡ 0)
+    go : Dec (t < noTag) → (t ≡ LONG-VALUE) × (j ≡ 0)
     go (no l) = no-true (sym (long-out t j (omega arith)) ∙ is)
     go (yes l) =
-        let b = other (not (isNumber (getD (places (formOf t)) j nothing))) (eqb t 11 && eqb j 0) (ap not is) (all-below (first-long t) 4 j (all-below (λ (t : ℕ). allBelow (first-long t) 4) 50 t longs-first l) h) in
-        let c = and-eq-true-iff (eqb t 11) (eqb j 0) .0 b in
-        (eqb-true t 11 (c .0), eqb-true j 0 (c .1))
+        let b = other (not (isNumber (getD (places (formOf t)) j nothing))) (eqb t LONG-VALUE && eqb j 0) (ap not is) (all-below (first-long t) 4 j (all-below (λ (t : ℕ). allBelow (first-long t) 4) noTag t longs-first l) h) in
+        let c = and-eq-true-iff (eqb t LONG-VALUE) (eqb j 0) .0 b in
+        (eqb-true t LONG-VALUE (c .0), eqb-true j 0 (c .1))
 
-one-item : length (formOf 11 .items) ≡ 1
+one-item : length (formOf LONG-VALUE .items) ≡ 1
 unfolding forms formOf
 one-item = refl
 
--- form 11 has one item
-pub eleven : (t n : ℕ) → n ≡ length (formOf t .items) → t ≡ 11 → n ≡ 0 → ⊥
-eleven t n e q z = absurd (omega (arith, e, z, one-item, ap (λ (i : ℕ). length (formOf i .items)) q))
+-- the form of a long has one item
+pub one-long : (t n : ℕ) → n ≡ length (formOf t .items) → t ≡ LONG-VALUE → n ≡ 0 → ⊥
+one-long t n e q z = absurd (omega (arith, e, z, one-item, ap (λ (i : ℕ). length (formOf i .items)) q))
 
 -- ---- what may stand at a place
 
@@ -192,28 +185,3 @@ module _ (t n g : ℕ) (hn : (n ≡ length (formOf t .items)) × (n ≤ 4)) (hg 
       go (no z) =
           let q : n + g + length fs ≡ n + length fs + g = omega arith in
           rw (e, q, counted-again (n + length fs) (omega arith) z, items-again m fs n (omega arith)) refl
-
--- ---- nodes: a type stands first
-
-node-table : allBelow (λ (i : ℕ). isLine 3 (slotAt (21 + i) 0) && leb 1 (length (formOf (21 + i) .items))) 28 ≡ true
-unfolding forms formOf slotAt
-node-table = refl
-
-is-line : (k : ℕ) (s : Slot) → isLine k s ≡ true → s ≡ line k
-is-line k entry e = no-true e
-is-line k (line l) e = ap line (sym (eqb-true k l e))
-is-line k (lineOr b l) e = no-true e
-is-line k (lineUnknown l) e = no-true e
-is-line k (word ws) e = no-true e
-is-line k number e = no-true e
-is-line k nothing e = no-true e
-
-module _ (t : ℕ) (l : 21 ≤ t) (h : t ≤ 48) where
-  node-row : (isLine 3 (slotAt t 0) && leb 1 (length (formOf t .items))) ≡ true
-  node-row = ranged (λ (i : ℕ). isLine 3 (slotAt i 0) && leb 1 (length (formOf i .items))) 21 28 node-table t l (omega arith)
-
-  pub node-items : 1 ≤ length (formOf t .items)
-  node-items = leb-true 1 (length (formOf t .items)) (and-eq-true-iff (isLine 3 (slotAt t 0)) (leb 1 (length (formOf t .items))) .0 node-row .1)
-
-  pub node-slot : slotAt t 0 ≡ line 3
-  node-slot = is-line 3 (slotAt t 0) (and-eq-true-iff (isLine 3 (slotAt t 0)) (leb 1 (length (formOf t .items))) .0 node-row .0)

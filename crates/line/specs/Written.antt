@@ -6,12 +6,13 @@ use mathlib.Core.List.{List, [], _∷_}
 use Prim.Native.Nat.{ℕ, zero, suc, _+_, _-_, _*_, _≤_}
 use lib.Dec.{leb, eqb}
 use lib.ListN.{length, take, drop}
-use Rattle.words.specs.Log.{part}
+use Rattle.words.specs.Log.{part, room}
 use Rattle.sheet.specs.Bytes.{upTo, index}
-use Rattle.sheet.specs.Forms.{Mode, item, itemsFrom, counted, keyOf, TEXT, NODE}
+use Rattle.sheet.specs.Forms.{Mode, item, itemsFrom, counted, keyOf, NODE}
 use Rattle.table.specs.Layout.{textRow}
 use Rattle.line.specs.declared.Digits as D
-use Rattle.forms.specs.Rows.{slotOf}
+use Rattle.forms.specs.Rows.{NUMBER, slotOf}
+use Rattle.forms.specs.Tags.{TEXT-LINE, LONG-VALUE}
 
 -- an index and its end
 abbrev pub told : ℕ → Option ℕ → D.Digits
@@ -34,14 +35,14 @@ given (suc n) l = some l
 -- words below k, and those that no row may take, are as they were
 pub record Kept (was is : List ℕ) (k : ℕ) : Type 0 where
   pub below : take k is ≡ take k was
-  pub rest : drop 16384 is ≡ drop 16384 was
+  pub rest : drop room is ≡ drop room was
 
 -- an item, of r words from k on
 pub record Item (o : Option (List ℕ)) (bytes was is : List ℕ) (slot k r : ℕ) : Type 0 where
   pub item : o ≡ given r (take r (drop k is))
   pub kept : Kept was is k
   pub few : r ≤ 2
-  pub two : r ≡ 2 → slot ≡ 1
+  pub two : r ≡ 2 → slot ≡ NUMBER
   pub wide : 1 ≤ r → 1 ≤ length bytes
 
 -- the item after the separator at byte a, up to byte e, of r words from k on
@@ -49,12 +50,12 @@ pub record After (m : Mode) (s was is : List ℕ) (a slot k e r : ℕ) : Type 0 
   pub end : e ≡ a + 1 + upTo 44 (drop (a + 1) s)
   pub put : Item (item m (slotOf slot) (part s (a + 1) e)) (part s (a + 1) e) was is slot k r
 
--- items of form t after byte e of so many bytes, up to word r, which is 0 where one is malformed; only form 11 has a long, of two words
+-- items of form t after byte e of so many bytes, up to word r, which is 0 where one is malformed; one form alone has a long, of two words
 pub record Items (o : Option (List ℕ)) (was is : List ℕ) (t k r e bytes : ℕ) : Type 0 where
   pub items : o ≡ given r (take (r - k) (drop k is))
   pub kept : Kept was is k
   pub tight : 2 * r + e ≤ 2 * k + bytes + 2
-  pub close : (t ≡ 11 → ⊥) → 2 * r + e ≤ 2 * k + bytes
+  pub close : (t ≡ LONG-VALUE → ⊥) → 2 * r + e ≤ 2 * k + bytes
   pub grows : 1 ≤ r → k ≤ r
 
 -- a row of r words from top on
@@ -65,17 +66,17 @@ pub record Row (row was is : List ℕ) (top r bytes : ℕ) : Type 0 where
   pub tight : 2 * r ≤ bytes
 
 -- room for the words of a row of key k whose value has so many bytes: a node has a type of at least one byte and a name of at least two
-abbrev pub room : ℕ → ℕ → ℕ
-room k bytes = cond (eqb k NODE) bytes (bytes + 5)
+abbrev pub rowRoom : ℕ → ℕ → ℕ
+rowRoom k bytes = cond (eqb k NODE) bytes (bytes + 5)
 
 -- the row that words hold: a text's words say where its bytes stand in the sheet
 abbrev pub rowFrom : List ℕ → List ℕ → List ℕ
 rowFrom sheet [] = []
-rowFrom sheet (t ∷ l) = cond (eqb t TEXT) (textRow sheet (t ∷ l)) (t ∷ l)
+rowFrom sheet (t ∷ l) = cond (eqb t TEXT-LINE) (textRow sheet (t ∷ l)) (t ∷ l)
 
 -- a text of len bytes from start on
 pub record Text (start len : ℕ) (was is : List ℕ) (top r : ℕ) : Type 0 where
-  pub words : take r (drop top is) ≡ cond (leb len 128) (1 ∷ start ∷ len ∷ []) []
+  pub words : take r (drop top is) ≡ cond (leb len 128) (TEXT-LINE ∷ start ∷ len ∷ []) []
   pub count : r ≡ cond (leb len 128) 3 0
   pub kept : Kept was is top
 

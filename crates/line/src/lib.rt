@@ -4,13 +4,21 @@ use forms::DASH;
 use forms::EFFECT;
 use forms::ENTRY;
 use forms::FIELD_LETTER;
+use forms::FORBID;
 use forms::KIND_LETTER;
 use forms::LINE;
 use forms::NUMBER;
+use forms::PART_A;
+use forms::PART_C;
 use forms::PART_LETTER;
+use forms::PART_P;
+use forms::PART_R;
+use forms::PERMIT;
 use forms::STAR;
+use forms::TEXT_LINE;
 use forms::UNKNOWN;
 use forms::form_of;
+use forms::key_row;
 use forms::slots_of;
 use scan::Cursor;
 use scan::Number;
@@ -31,23 +39,28 @@ ghost use mathlib.Core.Option.{some};
 ghost use mathlib.Core.List.{[], _∷_};
 ghost use Prim.Native.Nat.{_+_, _-_, _*_, _≤_, _<_};
 ghost use lib.ListN.{length, getD, take, drop};
-ghost use Rattle.words.specs.Log.{part};
+ghost use Rattle.words.specs.Log.{part, room};
 ghost use Rattle.sheet.specs.Bytes.{same, split, index};
-ghost use Rattle.sheet.specs.Forms.{entry, formOf, item, joined, markOr, one, orEmpty, tagOf, wordNumber, rowFor, rowHeaded, heading, nameFirst, nameSecond, rowOfValue, rowOf};
+ghost use Rattle.sheet.specs.Forms.{entry, firstNode, formOf, noTag, TYPE, VALUE, NODE, item, joined, markOr, one, orEmpty, tagOf, wordNumber, rowFor, rowHeaded, heading, nameFirst, nameSecond, rowOfValue, rowOf};
 ghost use Rattle.scan.specs.Numbers.{numberOf};
 ghost use Rattle.scan.specs.Places.{partsAfter, itemsAt};
-ghost use Rattle.forms.specs.Rows.{slotOf};
+ghost use Rattle.forms.specs.Rows.{NUMBER, slotOf};
 ghost use Rattle.line.specs.Codes.{modeOf};
-ghost use Rattle.line.specs.Written.{indexAt, countedFrom, Item, After, Items, Row, Text, Line, room};
+ghost use Rattle.line.specs.Written.{indexAt, countedFrom, Item, After, Items, Row, Text, Line, rowRoom};
 
 // The keys that are read in a way of their own.
-const TEXT: u64 = 1;
+const TEXT: u64 = forms::TEXT as u64;
 
-const TYPE: u64 = 3;
+const TYPE: u64 = forms::TYPE as u64;
 
-const VALUE: u64 = 5;
+const VALUE: u64 = forms::VALUE as u64;
 
-const NODE: u64 = 11;
+const NODE: u64 = forms::NODE as u64;
+
+const NO_TAG: usize = forms::NO_TAG as usize;
+
+// What a mark is in a row.
+const MARK: u64 = forms::MARK as u64;
 
 // An item read as an index: its number and its end.
 enum Digits {
@@ -61,109 +74,106 @@ struct Placed {
     words: usize,
 }
 
-// What a mark is in a row.
-const MARK: u64 = 10000;
-
 // A mark or an index.
-fn mark_or_index(f: &[u8], mark: &[u8]) -> Number
-    ensures { λ r. ⌜ numberOf r ≡ markOr (same (now (f .entry)) (now (mark .entry))) (index (now (f .entry))) ⌝ }
+fn mark_or_index(bytes: &[u8], mark: &[u8]) -> Number
+    ensures { λ r. ⌜ numberOf r ≡ markOr (same (now (bytes .entry)) (now (mark .entry))) (index (now (bytes .entry))) ⌝ }
 {
-    if same_bytes(f, mark) {
+    if same_bytes(bytes, mark) {
         return Number::Value(MARK);
     }
-    index_of(f)
+    index_of(bytes)
 }
 
 // The word of the first line.
-fn entry_word(partial: bool, f: &[u8]) -> Number
-    ensures { λ r. ⌜ one (numberOf r) ≡ item (modeOf partial) entry (now (f .entry)) ⌝ }
+fn entry_word(partial: bool, bytes: &[u8]) -> Number
+    ensures { λ r. ⌜ one (numberOf r) ≡ item (modeOf partial) entry (now (bytes .entry)) ⌝ }
 {
     if partial {
-        return place(f, b"partial");
+        return place(bytes, b"partial");
     }
-    place(f, b"complete")
+    place(bytes, b"complete")
 }
 
 // The letter of a variable: principal, action, resource or context.
-fn variable(f: &[u8]) -> Number
-    ensures { λ r. ⌜ numberOf r ≡ wordNumber (now (f .entry)) ("p" ∷ "a" ∷ "r" ∷ "c" ∷ []) ⌝ }
+fn variable(bytes: &[u8]) -> Number
+    ensures { λ r. ⌜ numberOf r ≡ wordNumber (now (bytes .entry)) ("p" ∷ "a" ∷ "r" ∷ "c" ∷ []) ⌝ }
 {
-    if f.len() != 1 {
+    if bytes.len() != 1 {
         return Number::Refused;
     }
-    match f[0] {
-        112 => Number::Value(0),
-        97 => Number::Value(1),
-        114 => Number::Value(2),
-        99 => Number::Value(3),
+    match bytes[0] {
+        b'p' => Number::Value(PART_P as u64),
+        b'a' => Number::Value(PART_A as u64),
+        b'r' => Number::Value(PART_R as u64),
+        b'c' => Number::Value(PART_C as u64),
         _ => Number::Refused,
     }
 }
 
 // The effect of a policy.
-fn effect(f: &[u8]) -> Number
-    ensures { λ r. ⌜ numberOf r ≡ wordNumber (now (f .entry)) ("permit" ∷ "forbid" ∷ []) ⌝ }
+fn effect(bytes: &[u8]) -> Number
+    ensures { λ r. ⌜ numberOf r ≡ wordNumber (now (bytes .entry)) ("permit" ∷ "forbid" ∷ []) ⌝ }
 {
-    if same_bytes(f, b"permit") {
-        return Number::Value(0);
+    if same_bytes(bytes, b"permit") {
+        return Number::Value(PERMIT as u64);
     }
-    if same_bytes(f, b"forbid") {
-        return Number::Value(1);
+    if same_bytes(bytes, b"forbid") {
+        return Number::Value(FORBID as u64);
     }
     Number::Refused
 }
 
 // An item of one number, by what may stand at its place.
-fn one_number(partial: bool, s: u8, f: &[u8]) -> Number
-    requires { ⌜ (s ≡ 1 → ⊥) ⌝ }
-    ensures { λ r. ⌜ one (numberOf r) ≡ item (modeOf partial) (slotOf s) (now (f .entry)) ⌝ }
+fn one_number(partial: bool, slot: u8, bytes: &[u8]) -> Number
+    requires { ⌜ (slot ≡ NUMBER → ⊥) ⌝ }
+    ensures { λ r. ⌜ one (numberOf r) ≡ item (modeOf partial) (slotOf slot) (now (bytes .entry)) ⌝ }
 {
-    if STAR <= s {
-        return mark_or_index(f, b"*");
+    if STAR <= slot {
+        return mark_or_index(bytes, b"*");
     }
-    if DASH <= s {
-        return mark_or_index(f, b"-");
+    if DASH <= slot {
+        return mark_or_index(bytes, b"-");
     }
-    if UNKNOWN <= s {
+    if UNKNOWN <= slot {
         if partial {
-            return mark_or_index(f, b"?");
+            return mark_or_index(bytes, b"?");
         }
-        return index_of(f);
+        return index_of(bytes);
     }
-    if LINE <= s {
-        return index_of(f);
+    if LINE <= slot {
+        return index_of(bytes);
     }
-    match s {
-        ENTRY => entry_word(partial, f),
-        KIND_LETTER => place(f, b"e,a"),
-        FIELD_LETTER => place(f, b"o,r"),
-        BIT => place(f, b"0,1"),
-        PART_LETTER => variable(f),
-        EFFECT => effect(f),
+    match slot {
+        ENTRY => entry_word(partial, bytes),
+        KIND_LETTER => place(bytes, b"e,a"),
+        FIELD_LETTER => place(bytes, b"o,r"),
+        BIT => place(bytes, b"0,1"),
+        PART_LETTER => variable(bytes),
+        EFFECT => effect(bytes),
         _ => Number::Refused,
     }
 }
 
-// Writes an item from word k on: how many words it has, 0 where it is malformed.
-fn put_item(f: &[u8], partial: bool, s: u8, w: &mut [u32], k: usize) -> usize
-    requires { ⌜ (k + 2 ≤ 16384) × (16384 ≤ length (now w)) ⌝ }
-    ensures { λ r. ⌜ Item (item (modeOf partial) (slotOf s) (now (f .entry))) (now (f .entry)) (now (w .entry)) (now (w .exit)) s k r ⌝ }
+// Writes an item from `word` on: how many words it has, 0 where it is malformed.
+fn put_item(bytes: &[u8], partial: bool, slot: u8, rows: &mut [u32], word: usize) -> usize
+    requires { ⌜ (word + 2 ≤ room) × (room ≤ length (now rows)) ⌝ }
+    ensures { λ r. ⌜ Item (item (modeOf partial) (slotOf slot) (now (bytes .entry))) (now (bytes .entry)) (now (rows .entry)) (now (rows .exit)) slot word r ⌝ }
 {
-    if s == NUMBER {
-        let n = long_of(f);
+    if slot == NUMBER {
+        let n = long_of(bytes);
         match n {
             Number::Value(v) => {
-                w[k] = (v / 4294967296) as u32;
-                w[k + 1] = (v % 4294967296) as u32;
+                rows[word] = (v / 4294967296) as u32;
+                rows[word + 1] = (v % 4294967296) as u32;
                 return 2;
             }
             Number::Refused => return 0,
         }
     }
-    let n = one_number(partial, s, f);
+    let n = one_number(partial, slot, bytes);
     match n {
         Number::Value(x) => {
-            w[k] = x as u32;
+            rows[word] = x as u32;
             1
         }
         Number::Refused => 0,
@@ -171,106 +181,113 @@ fn put_item(f: &[u8], partial: bool, s: u8, w: &mut [u32], k: usize) -> usize
 }
 
 // A zero at byte `at`, which stands alone.
-fn zero_at(s: &[u8], at: usize) -> Digits
-    requires { ⌜ (at < length (now s)) × (getD (now s) at 0 ≡ 48) ⌝ }
-    ensures { λ r. ⌜ r ≡ indexAt (now (s .entry)) at ⌝ }
+fn zero_at(bytes: &[u8], at: usize) -> Digits
+    requires { ⌜ (at < length (now bytes)) × (getD (now bytes) at 0 ≡ 48) ⌝ }
+    ensures { λ r. ⌜ r ≡ indexAt (now (bytes .entry)) at ⌝ }
 {
     let end = at + 1;
-    if end >= s.len() {
+    if end >= bytes.len() {
         return Digits::Index(0, end);
     }
-    if s[end] == 44 {
+    if bytes[end] == b',' {
         return Digits::Index(0, end);
     }
     Digits::Other
 }
 
 // The item that begins at byte `at`, read as an index.
-fn index_at(s: &[u8], at: usize) -> Digits
-    ensures { λ r. ⌜ r ≡ indexAt (now (s .entry)) at ⌝ }
+fn index_at(bytes: &[u8], at: usize) -> Digits
+    ensures { λ r. ⌜ r ≡ indexAt (now (bytes .entry)) at ⌝ }
 {
-    if at >= s.len() {
+    if at >= bytes.len() {
         return Digits::Other;
     }
-    let x = s[at];
-    if x == 48 {
-        return zero_at(s, at);
+    let x = bytes[at];
+    if x == b'0' {
+        return zero_at(bytes, at);
     }
-    if x < 48 {
+    if x < b'0' {
         return Digits::Other;
     }
-    if x > 57 {
+    if x > b'9' {
         return Digits::Other;
     }
-    let mut n = (x - 48) as u32;
+    let mut n = (x - b'0') as u32;
     let mut i = at + 1;
-    while i < s.len() {
-        let y = s[i];
-        if y == 44 {
+    while i < bytes.len() {
+        let y = bytes[i];
+        if y == b',' {
             return Digits::Index(n, i);
         }
-        if y < 48 {
+        if y < b'0' {
             return Digits::Other;
         }
-        if y > 57 {
+        if y > b'9' {
             return Digits::Other;
         }
         if n > 999 {
             return Digits::Other;
         }
-        n = n * 10 + (y - 48) as u32;
+        n = n * 10 + (y - b'0') as u32;
         i += 1;
     }
     Digits::Index(n, i)
 }
 
 // Writes the item after the separator at byte `at`. Most items are indices.
-fn put_next(s: &[u8], at: usize, partial: bool, slot: u8, w: &mut [u32], k: usize) -> Placed
-    requires { ⌜ (at < length (now s)) × (k + 2 ≤ 16384) × (16384 ≤ length (now w)) ⌝ }
-    ensures { λ r. ⌜ After (modeOf partial) (now (s .entry)) (now (w .entry)) (now (w .exit)) at slot k (r .end) (r .words) ⌝ }
+fn put_next(
+    bytes: &[u8],
+    at: usize,
+    partial: bool,
+    slot: u8,
+    rows: &mut [u32],
+    word: usize,
+) -> Placed
+    requires { ⌜ (at < length (now bytes)) × (word + 2 ≤ room) × (room ≤ length (now rows)) ⌝ }
+    ensures { λ r. ⌜ After (modeOf partial) (now (bytes .entry)) (now (rows .entry)) (now (rows .exit)) at slot word (r .end) (r .words) ⌝ }
 {
     let start = at + 1;
     if LINE <= slot {
-        if let Digits::Index(n, end) = index_at(s, start) {
-            w[k] = n;
+        if let Digits::Index(n, end) = index_at(bytes, start) {
+            rows[word] = n;
             return Placed { end, words: 1 };
         }
     }
-    let end = find(s, start, 44);
-    let words = put_item(part_of(s, start, end), partial, slot, w, k);
+    let end = find(bytes, start, b',');
+    let words = put_item(part_of(bytes, start, end), partial, slot, rows, word);
     Placed { end, words }
 }
 
-// Writes the items after the separator at byte `at`, the first of them at place j of tag t: where they end, 0 where one is malformed or they are too
+// Writes the items after the separator at byte `at`, the first of them at place `j` of a form: where they end, 0 where one is malformed or they are too
 // few or too many. Past the form's items the places of its group come again and again.
 fn put_items(
-    s: &[u8],
+    bytes: &[u8],
     at: usize,
     partial: bool,
-    t: usize,
+    tag: usize,
     j: usize,
-    w: &mut [u32],
-    k: usize,
+    rows: &mut [u32],
+    word: usize,
 ) -> usize
-    requires { ⌜ (t < 50) × (j ≤ length (formOf t .items)) × (1 ≤ k) × (at ≤ length (now s)) × (length (now s) ≤ 16384) × (16384 ≤ length (now w)) × (2 * k + length (now s) + 8 ≤ 32768 + at) ⌝ }
-    ensures { λ r. ⌜ Items (countedFrom (modeOf partial) t j (partsAfter 44 (now (s .entry)) at)) (now (w .entry)) (now (w .exit)) t k r at (length (now (s .entry))) ⌝ }
+    requires { ⌜ (tag < noTag) × (j ≤ length (formOf tag .items)) × (1 ≤ word) × (at ≤ length (now bytes)) × (length (now bytes) ≤ room) × (room ≤ length (now rows)) × (2 * word + length (now bytes) + 8 ≤ 2 * room + at) ⌝ }
+    ensures { λ r. ⌜ Items (countedFrom (modeOf partial) tag j (partsAfter 44 (now (bytes .entry)) at)) (now (rows .entry)) (now (rows .exit)) tag word r at (length (now (bytes .entry))) ⌝ }
 {
-    let f = form_of(t as u32);
+    let f = form_of(tag as u32);
     let slots = slots_of(f);
     let n = f.items;
     let last = n + f.group;
     let mut at = at;
     let mut j = j;
-    let mut k = k;
-    while at < s.len() {
+    let mut word = word;
+    while at < bytes.len() {
         if j == last {
             return 0;
         }
-        let p = put_next(s, at, partial, byte(slots, j) as u8, w, k);
+        let p = put_next(bytes, at, partial, byte(slots, j) as u8, rows, word);
         if p.words == 0 {
             return 0;
         }
-        k += p.words;
+        word += p.words;
         at = p.end;
         j += 1;
         if j == last {
@@ -278,33 +295,21 @@ fn put_items(
         }
     }
     if j == n {
-        return k;
+        return word;
     }
     0
 }
 
-// The tag of a key without constructors, 50 for the others.
-fn plain_tag(k: u64) -> usize
-    ensures { λ r. ⌜ r ≡ tagOf k [] ⌝ }
+// The tag of a key without constructors; no tag for the others.
+fn plain_tag(key: u64) -> usize
+    ensures { λ r. ⌜ r ≡ tagOf key [] ⌝ }
 {
-    match k {
-        0 => 0,
-        1 => 1,
-        2 => 2,
-        4 => 9,
-        6 => 16,
-        7 => 17,
-        8 => 18,
-        9 => 19,
-        10 => 20,
-        12 => 49,
-        _ => 50,
-    }
+    key_row(key as usize).tag as usize
 }
 
 // The tag of a type or value by its constructor.
 fn named_tag(value: bool, name: &[u8]) -> usize
-    ensures { λ r. ⌜ r ≡ tagOf (cond value 5 3) (now (name .entry)) ⌝ }
+    ensures { λ r. ⌜ r ≡ tagOf (cond value VALUE TYPE) (now (name .entry)) ⌝ }
 {
     if value {
         return value_form(name) as usize;
@@ -312,132 +317,160 @@ fn named_tag(value: bool, name: &[u8]) -> usize
     type_form(name) as usize
 }
 
-// Writes the row of tag t: the items after the cursor from place j on, where the words before them are written.
+// Writes the row of a tag: the items after the cursor from place `j` on, where the words before them are written.
 fn row_from(
-    s: &[u8],
-    c: Cursor,
+    bytes: &[u8],
+    cursor: Cursor,
     partial: bool,
-    t: usize,
+    tag: usize,
     j: usize,
-    w: &mut [u32],
+    rows: &mut [u32],
     top: usize,
 ) -> usize
-    requires { ⌜ (t < 50) × (j ≤ 1) × (1 ≤ j → 21 ≤ t) × (j ≤ length (formOf t .items)) × (c .at ≤ length (now s)) × (length (now s) ≤ 16384) × (16384 ≤ length (now w)) × (2 * top + length (now s) + 16 ≤ 32768 + c .at) ⌝ }
-    ensures { λ r. ⌜ Row (orEmpty t (joined (some (take j (drop (top + 1) (now (w .entry))))) (countedFrom (modeOf partial) t j (itemsAt (now (s .entry)) c)))) (now (w .entry)) (now (w .exit)) top r (length (now (s .entry)) + 4 - c .at) ⌝ }
+    requires { ⌜ (tag < noTag) × (j ≤ 1) × (1 ≤ j → firstNode ≤ tag) × (j ≤ length (formOf tag .items)) × (cursor .at ≤ length (now bytes)) × (length (now bytes) ≤ room) × (room ≤ length (now rows)) × (2 * top + length (now bytes) + 16 ≤ 2 * room + cursor .at) ⌝ }
+    ensures { λ r. ⌜ Row (orEmpty tag (joined (some (take j (drop (top + 1) (now (rows .entry))))) (countedFrom (modeOf partial) tag j (itemsAt (now (bytes .entry)) cursor)))) (now (rows .entry)) (now (rows .exit)) top r (length (now (bytes .entry)) + 4 - cursor .at) ⌝ }
 {
-    w[top] = t as u32;
-    let z = put_items(s, c.at, partial, t, j, w, top + 1 + j);
+    rows[top] = tag as u32;
+    let z = put_items(bytes, cursor.at, partial, tag, j, rows, top + 1 + j);
     if z == 0 {
         return 0;
     }
     z - top
 }
 
-// Writes the row of tag t with the items after the cursor.
-fn row_tagged(s: &[u8], c: Cursor, partial: bool, t: usize, w: &mut [u32], top: usize) -> usize
-    requires { ⌜ (c .at ≤ length (now s)) × (length (now s) ≤ 16384) × (16384 ≤ length (now w)) × (2 * top + length (now s) + 16 ≤ 32768 + c .at) ⌝ }
-    ensures { λ r. ⌜ Row (rowFor (modeOf partial) t (itemsAt (now (s .entry)) c)) (now (w .entry)) (now (w .exit)) top r (length (now (s .entry)) + 4 - c .at) ⌝ }
+// Writes the row of a tag with the items after the cursor.
+fn row_tagged(
+    bytes: &[u8],
+    cursor: Cursor,
+    partial: bool,
+    tag: usize,
+    rows: &mut [u32],
+    top: usize,
+) -> usize
+    requires { ⌜ (cursor .at ≤ length (now bytes)) × (length (now bytes) ≤ room) × (room ≤ length (now rows)) × (2 * top + length (now bytes) + 16 ≤ 2 * room + cursor .at) ⌝ }
+    ensures { λ r. ⌜ Row (rowFor (modeOf partial) tag (itemsAt (now (bytes .entry)) cursor)) (now (rows .entry)) (now (rows .exit)) top r (length (now (bytes .entry)) + 4 - cursor .at) ⌝ }
 {
-    if 50 <= t {
+    if NO_TAG <= tag {
         return 0;
     }
-    row_from(s, c, partial, t, 0, w, top)
+    row_from(bytes, cursor, partial, tag, 0, rows, top)
 }
 
 // The row of a key without constructors.
-fn row_plain(k: u64, s: &[u8], c: Cursor, partial: bool, w: &mut [u32], top: usize) -> usize
-    requires { ⌜ (c .at < length (now s)) × (length (now s) ≤ 16384) × (16384 ≤ length (now w)) × (2 * top + length (now s) + 16 ≤ 32768 + c .at) ⌝ }
-    ensures { λ r. ⌜ Row (rowFor (modeOf partial) (tagOf k []) (split 44 (drop (c .at + 1) (now (s .entry))))) (now (w .entry)) (now (w .exit)) top r (length (now (s .entry)) + 4 - c .at) ⌝ }
+fn row_plain(
+    key: u64,
+    bytes: &[u8],
+    cursor: Cursor,
+    partial: bool,
+    rows: &mut [u32],
+    top: usize,
+) -> usize
+    requires { ⌜ (cursor .at < length (now bytes)) × (length (now bytes) ≤ room) × (room ≤ length (now rows)) × (2 * top + length (now bytes) + 16 ≤ 2 * room + cursor .at) ⌝ }
+    ensures { λ r. ⌜ Row (rowFor (modeOf partial) (tagOf key []) (split 44 (drop (cursor .at + 1) (now (bytes .entry))))) (now (rows .entry)) (now (rows .exit)) top r (length (now (bytes .entry)) + 4 - cursor .at) ⌝ }
 {
-    let t = plain_tag(k);
-    row_tagged(s, c, partial, t, w, top)
+    let t = plain_tag(key);
+    row_tagged(bytes, cursor, partial, t, rows, top)
 }
 
 // The row of a type or value: its constructor stands first.
-fn row_named(value: bool, s: &[u8], c: Cursor, partial: bool, w: &mut [u32], top: usize) -> usize
-    requires { ⌜ (c .at < length (now s)) × (length (now s) ≤ 16384) × (16384 ≤ length (now w)) × (2 * top + length (now s) + 16 ≤ 32768 + c .at) ⌝ }
-    ensures { λ r. ⌜ Row (rowHeaded (modeOf partial) (cond value 5 3) (nameFirst (split 44 (drop (c .at + 1) (now (s .entry)))))) (now (w .entry)) (now (w .exit)) top r (length (now (s .entry)) + 4 - c .at) ⌝ }
+fn row_named(
+    value: bool,
+    bytes: &[u8],
+    cursor: Cursor,
+    partial: bool,
+    rows: &mut [u32],
+    top: usize,
+) -> usize
+    requires { ⌜ (cursor .at < length (now bytes)) × (length (now bytes) ≤ room) × (room ≤ length (now rows)) × (2 * top + length (now bytes) + 16 ≤ 2 * room + cursor .at) ⌝ }
+    ensures { λ r. ⌜ Row (rowHeaded (modeOf partial) (cond value VALUE TYPE) (nameFirst (split 44 (drop (cursor .at + 1) (now (bytes .entry)))))) (now (rows .entry)) (now (rows .exit)) top r (length (now (bytes .entry)) + 4 - cursor .at) ⌝ }
 {
-    let scan::Item::Part(start, next) = c.item(s) else {
+    let scan::Item::Part(start, next) = cursor.item(bytes) else {
         return 0;
     };
     let end = next.at;
-    let t = named_tag(value, part_of(s, start, end));
-    row_tagged(s, next, partial, t, w, top)
+    let t = named_tag(value, part_of(bytes, start, end));
+    row_tagged(bytes, next, partial, t, rows, top)
 }
 
 // The row of a node: its type stands first, its constructor second.
-fn row_node(s: &[u8], c: Cursor, partial: bool, w: &mut [u32], top: usize) -> usize
-    requires { ⌜ (c .at < length (now s)) × (length (now s) ≤ 16384) × (16384 ≤ length (now w)) × (2 * top + length (now s) + 16 ≤ 32768 + c .at) ⌝ }
-    ensures { λ r. ⌜ Row (rowHeaded (modeOf partial) 11 (nameSecond (split 44 (drop (c .at + 1) (now (s .entry)))))) (now (w .entry)) (now (w .exit)) top r (length (now (s .entry)) - (c .at + 1)) ⌝ }
+fn row_node(bytes: &[u8], cursor: Cursor, partial: bool, rows: &mut [u32], top: usize) -> usize
+    requires { ⌜ (cursor .at < length (now bytes)) × (length (now bytes) ≤ room) × (room ≤ length (now rows)) × (2 * top + length (now bytes) + 16 ≤ 2 * room + cursor .at) ⌝ }
+    ensures { λ r. ⌜ Row (rowHeaded (modeOf partial) NODE (nameSecond (split 44 (drop (cursor .at + 1) (now (bytes .entry)))))) (now (rows .entry)) (now (rows .exit)) top r (length (now (bytes .entry)) - (cursor .at + 1)) ⌝ }
 {
-    let line = c.line;
-    let start = c.at + 1;
-    let Digits::Index(x, at) = index_at(s, start) else {
+    let line = cursor.line;
+    let start = cursor.at + 1;
+    let Digits::Index(x, at) = index_at(bytes, start) else {
         return 0;
     };
     let typed = Cursor { line, at };
-    let scan::Item::Part(name, next) = typed.item(s) else {
+    let scan::Item::Part(name, next) = typed.item(bytes) else {
         return 0;
     };
     let last = next.at;
-    let t = node_form(part_of(s, name, last)) as usize;
-    if 50 <= t {
+    let t = node_form(part_of(bytes, name, last)) as usize;
+    if NO_TAG <= t {
         return 0;
     }
-    w[top + 1] = x;
-    row_from(s, next, partial, t, 1, w, top)
+    rows[top + 1] = x;
+    row_from(bytes, next, partial, t, 1, rows, top)
 }
 
-// The row of a line of key k, which is not a text.
-fn row_value(k: u64, s: &[u8], c: Cursor, partial: bool, w: &mut [u32], top: usize) -> usize
-    requires { ⌜ (c .at < length (now s)) × (length (now s) ≤ 16384) × (16384 ≤ length (now w)) × (2 * top + length (now s) + 16 ≤ 32768 + c .at) ⌝ }
-    ensures { λ r. ⌜ Row (rowHeaded (modeOf partial) k (heading k (split 44 (drop (c .at + 1) (now (s .entry)))))) (now (w .entry)) (now (w .exit)) top r (room k (length (now (s .entry)) - (c .at + 1))) ⌝ }
+// The row of a line of a key, which is not a text.
+fn row_value(
+    key: u64,
+    bytes: &[u8],
+    cursor: Cursor,
+    partial: bool,
+    rows: &mut [u32],
+    top: usize,
+) -> usize
+    requires { ⌜ (cursor .at < length (now bytes)) × (length (now bytes) ≤ room) × (room ≤ length (now rows)) × (2 * top + length (now bytes) + 16 ≤ 2 * room + cursor .at) ⌝ }
+    ensures { λ r. ⌜ Row (rowHeaded (modeOf partial) key (heading key (split 44 (drop (cursor .at + 1) (now (bytes .entry)))))) (now (rows .entry)) (now (rows .exit)) top r (rowRoom key (length (now (bytes .entry)) - (cursor .at + 1))) ⌝ }
 {
-    if k == NODE {
-        return row_node(s, c, partial, w, top);
+    if key == NODE {
+        return row_node(bytes, cursor, partial, rows, top);
     }
-    if k == TYPE {
-        return row_named(false, s, c, partial, w, top);
+    if key == TYPE {
+        return row_named(false, bytes, cursor, partial, rows, top);
     }
-    if k == VALUE {
-        return row_named(true, s, c, partial, w, top);
+    if key == VALUE {
+        return row_named(true, bytes, cursor, partial, rows, top);
     }
-    row_plain(k, s, c, partial, w, top)
+    row_plain(key, bytes, cursor, partial, rows, top)
 }
 
 // Writes a text as its place and length in the sheet.
-fn row_text(start: usize, len: usize, w: &mut [u32], top: usize) -> usize
-    requires { ⌜ (start < 65536) × (16384 ≤ length (now w)) × (top + 3 ≤ 16384) ⌝ }
-    ensures { λ r. ⌜ Text start len (now (w .entry)) (now (w .exit)) top r ⌝ }
+fn row_text(start: usize, len: usize, rows: &mut [u32], top: usize) -> usize
+    requires { ⌜ (start < 65536) × (room ≤ length (now rows)) × (top + 3 ≤ room) ⌝ }
+    ensures { λ r. ⌜ Text start len (now (rows .entry)) (now (rows .exit)) top r ⌝ }
 {
     if 128 < len {
         return 0;
     }
     let k = top + 1;
-    w[top] = 1;
-    w[k] = start as u32;
-    w[k + 1] = len as u32;
+    rows[top] = TEXT_LINE;
+    rows[k] = start as u32;
+    rows[k + 1] = len as u32;
     3
 }
 
-// Writes the row of a line of key k that ends at byte `end` of the sheet, with its `=` at the cursor: how many words it has, 0 where its form is wrong.
+// Writes the row of a line of a key that ends at byte `end` of the sheet, with its `=` at the cursor: how many words it has, 0 where its form is wrong.
 pub fn row_entry(
     sheet: &[u8],
-    k: u64,
-    c: Cursor,
+    key: u64,
+    cursor: Cursor,
     end: usize,
     partial: bool,
-    w: &mut [u32],
+    rows: &mut [u32],
     top: usize,
 ) -> usize
-    requires { ⌜ (c .at < end) × (end ≤ length (now sheet)) × (length (now sheet) ≤ 16384) × (16384 ≤ length (now w)) × (2 * top + end + 16 ≤ 32768 + c .at) ⌝ }
-    ensures { λ r. ⌜ Line (now (sheet .entry)) (rowOfValue (modeOf partial) k (part (now (sheet .entry)) (c .at + 1) end)) (now (w .entry)) (now (w .exit)) top r (end + 4 - c .at) ⌝ }
+    requires { ⌜ (cursor .at < end) × (end ≤ length (now sheet)) × (length (now sheet) ≤ room) × (room ≤ length (now rows)) × (2 * top + end + 16 ≤ 2 * room + cursor .at) ⌝ }
+    ensures { λ r. ⌜ Line (now (sheet .entry)) (rowOfValue (modeOf partial) key (part (now (sheet .entry)) (cursor .at + 1) end)) (now (rows .entry)) (now (rows .exit)) top r (end + 4 - cursor .at) ⌝ }
 {
     let s = front(sheet, end);
-    let at = c.at;
-    if k == TEXT {
-        return row_text(at + 1, c.value(s).len(), w, top);
+    let at = cursor.at;
+    if key == TEXT {
+        return row_text(at + 1, cursor.value(s).len(), rows, top);
     }
-    row_value(k, s, c, partial, w, top)
+    row_value(key, s, cursor, partial, rows, top)
 }

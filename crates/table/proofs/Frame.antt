@@ -8,9 +8,11 @@ use native.Mathlib.Omega.{arith}
 use native.Mathlib.Decide.{ℕ-discrete}
 use lib.ListN.{length, getD, take, drop, set, length-set}
 use lib.Seq.{getD-set-same, getD-set-other, drop-set-lt, drop-drop}
+use Rattle.words.specs.Log.{room}
 use Rattle.words.proofs.Stores.{getD-below, part-below}
 use Rattle.table.specs.Layout.{part, TOP, heap, base, rowAt, rowsAt, rowsOf, withRow, limit, Last, Sound}
-use Rattle.table.proofs.Rows.{regions-rise, regions-low, regions-high}
+use Rattle.forms.specs.Keys.{INDEX}
+use Rattle.forms.proofs.Keys.{regions-rise, regions-low, regions-high}
 
 -- ---- rows that stand as they stood
 
@@ -63,7 +65,7 @@ module _ (w : List ℕ) (s : Sound w) where
     pub word-kept : (i : ℕ) → i < heap → getD w′ i 0 ≡ getD w i 0
     word-kept i h = getD-below (getD w TOP 0) w w′ e i (omega (arith, s .over))
 
-    pub rows-kept : (k : ℕ) → k < 14 → rowsOf w′ k ≡ rowsOf w k
+    pub rows-kept : (k : ℕ) → k < TOP → rowsOf w′ k ≡ rowsOf w k
     unfolding rowsOf
     rows-kept k h =
         let l = s .few k h in
@@ -73,13 +75,10 @@ module _ (w : List ℕ) (s : Sound w) where
         row-same w w′ (getD w TOP 0) (base k + j) (agree-below w w′ (getD w TOP 0) e) (word-kept (base k + j) (omega arith)) (word-kept (suc (base k + j)) (omega arith))
         (s .low k j h i) (s .high k j h i)))
 
-    pub last-kept : (k : ℕ) → Last w k → Last w′ k
-    last-kept k l = record { last = λ j h m. word-kept j (omega arith) ∙ l .last j h m }
-
     pub last-was : (k : ℕ) → Last w′ k → Last w k
     last-was k l = record { last = λ j h m. sym (word-kept j (omega arith)) ∙ l .last j h m }
 
-    pub sound-kept : 16384 ≤ length w′ → Sound w′
+    pub sound-kept : room ≤ length w′ → Sound w′
     sound-kept long =
         record {
           few = λ k h. rw (word-kept k (omega arith)) (s .few k h);
@@ -103,11 +102,11 @@ module _ (w : List ℕ) (s : Sound w) where
         }
 
   -- ---- a row more
-  module _ (k e : ℕ) (h : k < 14) (room : getD w k 0 < limit k) (last : Last w k) (lo : getD w TOP 0 ≤ e) where
+  module _ (k e : ℕ) (h : k < TOP) (free : getD w k 0 < limit k) (last : Last w k) (lo : getD w TOP 0 ≤ e) where
     place : ℕ
     place = base k + getD w k 0
 
-    low-place : 16 ≤ place
+    low-place : INDEX ≤ place
     unfolding place
     low-place = omega (arith, regions-low k h)
 
@@ -128,13 +127,13 @@ module _ (w : List ℕ) (s : Sound w) where
     unfolding withRow place
     new-is = refl
 
-    length₁ : 16384 ≤ length w₁
+    length₁ : room ≤ length w₁
     length₁ = omega (arith, length-set w place (getD w TOP 0), s .long)
 
-    length₂ : 16384 ≤ length w₂
+    length₂ : room ≤ length w₂
     length₂ = omega (arith, length-set w₁ (suc place) e, length₁)
 
-    length₃ : 16384 ≤ length w₃
+    length₃ : room ≤ length w₃
     length₃ = omega (arith, length-set w₂ k (suc (getD w k 0)), length₂)
 
     pub length-new : length (withRow w k e) ≡ length w
@@ -165,7 +164,7 @@ module _ (w : List ℕ) (s : Sound w) where
         rw (new-is, getD-set-other w₃ TOP i e 0 a, getD-set-other w₂ k i (suc (getD w k 0)) 0 b, getD-set-other w₁ (suc place) i e 0 d)
         (getD-set-other w place i (getD w TOP 0) 0 c)
 
-    pub count-other : (j : ℕ) → j < 14 → (j ≡ k → ⊥) → getD (withRow w k e) j 0 ≡ getD w j 0
+    pub count-other : (j : ℕ) → j < TOP → (j ≡ k → ⊥) → getD (withRow w k e) j 0 ≡ getD w j 0
     count-other j l n = let a = low-place in other-new j (omega arith) n (omega arith) (omega arith)
 
     heap-new : drop heap (withRow w k e) ≡ drop heap w
@@ -174,14 +173,14 @@ module _ (w : List ℕ) (s : Sound w) where
         rw (new-is, drop-set-lt heap w₃ TOP e (omega arith), drop-set-lt heap w₂ k (suc (getD w k 0)) (omega arith), drop-set-lt heap w₁ (suc place) e (omega arith))
         (drop-set-lt heap w place (getD w TOP 0) (omega arith))
 
-    pub rest-new : drop 16384 (withRow w k e) ≡ drop 16384 w
+    pub rest-new : drop room (withRow w k e) ≡ drop room w
     rest-new =
         let b = high-place in
-        rw (new-is, drop-set-lt 16384 w₃ TOP e (omega arith), drop-set-lt 16384 w₂ k (suc (getD w k 0)) (omega arith), drop-set-lt 16384 w₁ (suc place) e (omega arith))
-        (drop-set-lt 16384 w place (getD w TOP 0) (omega arith))
+        rw (new-is, drop-set-lt room w₃ TOP e (omega arith), drop-set-lt room w₂ k (suc (getD w k 0)) (omega arith), drop-set-lt room w₁ (suc place) e (omega arith))
+        (drop-set-lt room w place (getD w TOP 0) (omega arith))
 
     -- the words of another key's rows
-    index-other : (j i : ℕ) → j < 14 → (j ≡ k → ⊥) → i ≤ getD w j 0 → getD (withRow w k e) (base j + i) 0 ≡ getD w (base j + i) 0
+    index-other : (j i : ℕ) → j < TOP → (j ≡ k → ⊥) → i ≤ getD w j 0 → getD (withRow w k e) (base j + i) 0 ≡ getD w (base j + i) 0
     unfolding place
     index-other j i l n m =
         let f = s .few j l in
@@ -214,7 +213,7 @@ module _ (w : List ℕ) (s : Sound w) where
             let p : suc (base k + i) ≡ base k + suc i = omega arith in
             rw (p) (index-own (suc i) (omega arith))
 
-    pub rows-other : (j : ℕ) → j < 14 → (j ≡ k → ⊥) → rowsOf (withRow w k e) j ≡ rowsOf w j
+    pub rows-other : (j : ℕ) → j < TOP → (j ≡ k → ⊥) → rowsOf (withRow w k e) j ≡ rowsOf w j
     unfolding rowsOf
     rows-other j l n =
         rw (count-other j l n)
@@ -245,11 +244,11 @@ module _ (w : List ℕ) (s : Sound w) where
           long = rw length-new (s .long);
         }
       where
-        few : {j : ℕ} → Dec (j ≡ k) → j < 14 → getD (withRow w k e) j 0 ≤ limit j
-        few (yes d) l = rw (d, count-new) room
+        few : {j : ℕ} → Dec (j ≡ k) → j < TOP → getD (withRow w k e) j 0 ≤ limit j
+        few (yes d) l = rw (d, count-new) free
         few {j} (no d) l = rw (count-other j l d) (s .few j l)
 
-        low : {j : ℕ} → Dec (j ≡ k) → (i : ℕ) → j < 14 → i < getD (withRow w k e) j 0 → heap ≤ getD (withRow w k e) (base j + i) 0
+        low : {j : ℕ} → Dec (j ≡ k) → (i : ℕ) → j < TOP → i < getD (withRow w k e) j 0 → heap ≤ getD (withRow w k e) (base j + i) 0
         low {j} (yes d) i l m = rw d (newest (ℕ-discrete i (getD w k 0)))
           where
             newest : Dec (i ≡ getD w k 0) → heap ≤ getD (withRow w k e) (base k + i) 0
@@ -261,7 +260,7 @@ module _ (w : List ℕ) (s : Sound w) where
             let q : i < getD w j 0 = omega (arith, count-other j l d) in
             rw (index-other j i l d (omega arith)) (s .low j i l q)
 
-        high : {j : ℕ} → Dec (j ≡ k) → (i : ℕ) → j < 14 → i < getD (withRow w k e) j 0 → getD (withRow w k e) (suc (base j + i)) 0 ≤ getD (withRow w k e) TOP 0
+        high : {j : ℕ} → Dec (j ≡ k) → (i : ℕ) → j < TOP → i < getD (withRow w k e) j 0 → getD (withRow w k e) (suc (base j + i)) 0 ≤ getD (withRow w k e) TOP 0
         high {j} (yes d) i l m = rw (d, top-new) (newest (ℕ-discrete i (getD w k 0)))
           where
             newest : Dec (i ≡ getD w k 0) → getD (withRow w k e) (suc (base k + i)) 0 ≤ e
@@ -274,7 +273,7 @@ module _ (w : List ℕ) (s : Sound w) where
             let p : suc (base j + i) ≡ base j + suc i = omega arith in
             rw (p, index-other j (suc i) l d q, top-new, ← p) (omega (arith, s .high j i l q))
 
-        ends : {j : ℕ} → Dec (j ≡ k) → j < 14 → 1 ≤ getD (withRow w k e) j 0 → Last (withRow w k e) j → getD (withRow w k e) (base j + getD (withRow w k e) j 0) 0 ≡ getD (withRow w k e) TOP 0
+        ends : {j : ℕ} → Dec (j ≡ k) → j < TOP → 1 ≤ getD (withRow w k e) j 0 → Last (withRow w k e) j → getD (withRow w k e) (base j + getD (withRow w k e) j 0) 0 ≡ getD (withRow w k e) TOP 0
         ends (yes d) l m z =
             let p : base k + suc (getD w k 0) ≡ suc (base k + getD w k 0) = omega arith in
             rw (d, count-new, top-new, p) end-new

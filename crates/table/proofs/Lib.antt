@@ -1,4 +1,4 @@
-pub mod Counts
 pub mod Rows
 pub mod Frame
 pub mod Held
+pub mod Counts

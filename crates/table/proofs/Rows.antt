@@ -1,55 +1,23 @@
 -- Rows in words: by number, where they are left as they were, and one more. Assumes nothing.
 use mathlib.Core.Path.{_≡_, refl, sym, ap, ap₂, _∙_}
-use mathlib.Core.Bool.{true}
+use mathlib.Core.Bool.{Bool, true, false, cond}
 use mathlib.Core.List.{List, [], _∷_}
-use Prim.Native.Nat.{ℕ, zero, suc, _+_, _-_, _≤_, _<_}
+use Prim.Native.Nat.{ℕ, zero, suc, _+_, _≤_, _<_}
+use native.Mathlib.Nat.{le-refl}
 use native.Mathlib.Numerals.{add-one}
 use native.Mathlib.Omega.{arith}
-use borrow.Author.Tests.{leb-true, ltb-true, eqb-true}
-use lib.Dec.{leb, ltb, eqb}
-use lib.ListN.{length, getD, set, List·getD-map, List·getD-eq-default}
-use Rattle.sheet.specs.Forms.{forms, formOf, noForm, items, tag, at, TEXT}
+use borrow.Author.Tests.{ne-eqb}
+use lib.Dec.{eqb}
+use lib.ListN.{length, getD, set, List·getD-eq-default}
+use Rattle.sheet.specs.Forms.{noKey, noTag, items, tag, at, TEXT}
 use Rattle.sheet.specs.State.{linesOf, lineAt, count}
-use Rattle.table.specs.Layout.{part, TOP, heap, bases, base, rowAt, rowsAt, rowsOf, textRows, linesHeld, held, textAt, withRow, limits, limit}
-use Rattle.sheet.proofs.Parsed.{allBelow, all-below}
-use Rattle.table.proofs.Counts.{small, entry-small, form-small, ranged}
+use Rattle.table.specs.Layout.{part, TOP, base, rowAt, rowsAt, rowsOf, textRows, linesHeld, held, textAt, withRow}
+pub use Rattle.forms.proofs.Keys.{limit-small}
+pub use Rattle.forms.proofs.Table.{key-low}
 
--- ---- the tables of keys and of places
-
-pub base-small : (k : ℕ) → base k ≤ 2978
-unfolding base bases small
-base-small k = entry-small 2978 bases k 0 (omega arith) refl
-
-pub base-at : (k i v : ℕ) → k ≡ i → v ≡ base i → (v ≡ base k) × (v < heap)
-base-at k i v e q = (q ∙ ap base (sym e), omega (arith, q, base-small i))
-
+-- of a `match` on numbers one after another
 pub above : (k i : ℕ) → i ≤ k → (k ≡ i → ⊥) → suc i ≤ k
 above k i h ne = omega arith
-
-pub base-out : (k : ℕ) → (k ≡ 0 → ⊥) → (k ≡ 1 → ⊥) → (k ≡ 2 → ⊥) → (k ≡ 3 → ⊥) → (k ≡ 4 → ⊥) → (k ≡ 5 → ⊥) → (k ≡ 6 → ⊥) → (k ≡ 7 → ⊥) → (k ≡ 8 → ⊥) → (k ≡ 9 → ⊥) → (k ≡ 10 → ⊥) → (k ≡ 11 → ⊥) → (k ≡ 12 → ⊥) → (k ≡ 13 → ⊥) → (0 ≡ base k) × (0 < heap)
-unfolding base bases
-base-out k a b c d e f g i j l m n o p =
-    let h : 14 ≤ k = above k 13 (above k 12 (above k 11 (above k 10 (above k 9 (above k 8 (above k 7 (above k 6 (above k 5 (above k 4 (above k 3 (above k 2 (above k 1 (above k 0 (omega arith) a) b) c) d) e) f) g) i) j) l) m) n) o) p in
-    (sym (List·getD-eq-default bases 0 h), omega arith)
-
--- the regions of the index lie one after another
-pub regions-rise : (k j : ℕ) → k < 14 → j < k → base j + limit j < base k
-unfolding base bases limit limits
-regions-rise k j h l =
-    ltb-true (base j + limit j) (base k)
-    (all-below (λ (i : ℕ). ltb (base i + limit i) (base k)) k j (all-below (λ (m : ℕ). allBelow (λ (i : ℕ). ltb (base i + limit i) (base m)) m) 14 k refl h) l)
-
-pub regions-low : (k : ℕ) → k < 14 → 16 ≤ base k
-unfolding base bases
-regions-low k h = leb-true 16 (base k) (all-below (λ (m : ℕ). leb 16 (base m)) 14 k refl h)
-
-pub regions-high : (k : ℕ) → k < 14 → base k + limit k < heap
-unfolding base bases limit limits
-regions-high k h = ltb-true (base k + limit k) heap (all-below (λ (m : ℕ). ltb (base m + limit m) heap) 14 k refl h)
-
-pub limit-small : (k : ℕ) → limit k ≤ 1024
-unfolding limit limits small
-limit-small k = entry-small 1024 limits k 0 (omega arith) refl
 
 -- ---- rows by number
 
@@ -81,7 +49,7 @@ pub row-some : (a : List ℕ) (k n m b : ℕ) (q : List ℕ) → m ≡ getD a k 
 unfolding rowsOf
 row-some a k n m b q e h hb hq = hq ∙ ap (λ (x : ℕ). rowAt a (x + n)) hb ∙ sym (rows-in a (base k) (getD a k 0) n (omega arith))
 
-pub tag-none : (r : List ℕ) → length r < 1 → 50 ≡ tag r
+pub tag-none : (r : List ℕ) → length r < 1 → noTag ≡ tag r
 tag-none [] h = refl
 tag-none (x ∷ r) h = absurd (omega arith)
 
@@ -96,39 +64,49 @@ text-at sheet [] t = refl
 text-at sheet (r ∷ rs) zero = refl
 text-at sheet (r ∷ rs) (suc t) = text-at sheet rs t
 
-pub text-is : (sheet a : List ℕ) (t s n : ℕ) (r q : List ℕ) → r ≡ getD (rowsOf a 1) t [] → s ≡ getD r 1 0 → n ≡ getD r 2 0 → q ≡ part sheet s (s + n) → q ≡ textAt sheet a t
+pub text-is : (sheet a : List ℕ) (t s n : ℕ) (r q : List ℕ) → r ≡ getD (rowsOf a TEXT) t [] → s ≡ getD r 1 0 → n ≡ getD r 2 0 → q ≡ part sheet s (s + n) → q ≡ textAt sheet a t
 unfolding textAt
 text-is sheet a t s n r q hr hs hn hq =
-    let x : s ≡ at (getD (rowsOf a 1) t []) 0 = hs ∙ ap (λ (l : List ℕ). getD l 1 0) hr in
-    let y : n ≡ at (getD (rowsOf a 1) t []) 1 = hn ∙ ap (λ (l : List ℕ). getD l 2 0) hr in
-    hq ∙ ap₂ (λ (u v : ℕ). part sheet u (u + v)) x y ∙ sym (text-at sheet (rowsOf a 1) t)
+    let x : s ≡ at (getD (rowsOf a TEXT) t []) 0 = hs ∙ ap (λ (l : List ℕ). getD l 1 0) hr in
+    let y : n ≡ at (getD (rowsOf a TEXT) t []) 1 = hn ∙ ap (λ (l : List ℕ). getD l 2 0) hr in
+    hq ∙ ap₂ (λ (u v : ℕ). part sheet u (u + v)) x y ∙ sym (text-at sheet (rowsOf a TEXT) t)
+
+-- ---- a list by places
+
+abbrev pub tab : {A : Type 0} → (ℕ → A) → ℕ → ℕ → List A
+tab f i zero = []
+tab f i (suc n) = f i ∷ tab f (suc i) n
+
+module _ {A : Type 0} where
+  pub length-tab : (f : ℕ → A) (i n : ℕ) → length (tab f i n) ≡ n
+  length-tab f i zero = refl
+  length-tab f i (suc n) = ap suc (length-tab f (suc i) n)
+
+  pub getD-tab : (f : ℕ → A) (i n k : ℕ) (d : A) → k < n → getD (tab f i n) k d ≡ f (i + k)
+  getD-tab f i zero k d h = absurd (omega arith)
+  getD-tab f i (suc n) zero d h = let e : i ≡ i + 0 = omega arith in ap f e
+  getD-tab f i (suc n) (suc k) d h =
+      let e : suc i + k ≡ i + suc k = omega arith in
+      getD-tab f (suc i) n k d (omega arith) ∙ ap f e
+
+  pub tab-same : (f g : ℕ → A) (i n : ℕ) → ((k : ℕ) → i ≤ k → k < i + n → f k ≡ g k) → tab f i n ≡ tab g i n
+  tab-same f g i zero h = refl
+  tab-same f g i (suc n) h = ap₂ (λ (x : A) (l : List A). x ∷ l) (h i (le-refl i) (omega arith)) (tab-same f g (suc i) n (λ k l m. h k (omega arith) (omega arith)))
+
+  pub set-tab : (f g : ℕ → A) (i n k : ℕ) (y : A) → k < n → g (i + k) ≡ y → ((j : ℕ) → i ≤ j → j < i + n → (j ≡ i + k → ⊥) → g j ≡ f j) → set (tab f i n) k y ≡ tab g i n
+  set-tab f g i zero k y h e o = absurd (omega arith)
+  set-tab f g i (suc n) zero y h e o =
+      let z : i + 0 ≡ i = omega arith in
+      ap₂ (λ (x : A) (l : List A). x ∷ l) (sym e ∙ ap g z) (tab-same f g (suc i) n (λ k l m. sym (o k (omega arith) (omega arith) (omega arith))))
+  set-tab f g i (suc n) (suc k) y h e o =
+      let z : i + suc k ≡ suc i + k = omega arith in
+      ap₂ (λ (x : A) (l : List A). x ∷ l) (sym (o i (le-refl i) (omega arith) (omega arith)))
+      (set-tab f g (suc i) n k y (omega arith) (sym (ap g z) ∙ e) (λ j l m p. o j (omega arith) (omega arith) (λ q. p (q ∙ z))))
+
+pub zero-plus : (k : ℕ) → 0 + k ≡ k
+zero-plus k = omega arith
 
 -- ---- the state that words hold
-
-pub lines-held : (sheet a b : List ℕ) (k : ℕ) → k < 13 → (k ≡ 1 → ⊥) → linesOf (held sheet a b) k ≡ rowsOf a k
-unfolding held linesHeld
-lines-held sheet a b zero h n = refl
-lines-held sheet a b (suc zero) h n = absurd (n refl)
-lines-held sheet a b (suc (suc zero)) h n = refl
-lines-held sheet a b (suc (suc (suc zero))) h n = refl
-lines-held sheet a b (suc (suc (suc (suc zero)))) h n = refl
-lines-held sheet a b (suc (suc (suc (suc (suc zero))))) h n = refl
-lines-held sheet a b (suc (suc (suc (suc (suc (suc zero)))))) h n = refl
-lines-held sheet a b (suc (suc (suc (suc (suc (suc (suc zero))))))) h n = refl
-lines-held sheet a b (suc (suc (suc (suc (suc (suc (suc (suc zero)))))))) h n = refl
-lines-held sheet a b (suc (suc (suc (suc (suc (suc (suc (suc (suc zero))))))))) h n = refl
-lines-held sheet a b (suc (suc (suc (suc (suc (suc (suc (suc (suc (suc zero)))))))))) h n = refl
-lines-held sheet a b (suc (suc (suc (suc (suc (suc (suc (suc (suc (suc (suc zero))))))))))) h n = refl
-lines-held sheet a b (suc (suc (suc (suc (suc (suc (suc (suc (suc (suc (suc (suc zero)))))))))))) h n = refl
-lines-held sheet a b (suc (suc (suc (suc (suc (suc (suc (suc (suc (suc (suc (suc (suc k))))))))))))) h n = absurd (omega arith)
-
-pub texts-held : (sheet a b : List ℕ) → linesOf (held sheet a b) TEXT ≡ textRows sheet (rowsOf a 1)
-unfolding held linesHeld
-texts-held sheet a b = refl
-
-pub text-held : (sheet a b : List ℕ) (t : ℕ) → textAt sheet a t ≡ items (lineAt (held sheet a b) TEXT t)
-unfolding textAt held linesHeld
-text-held sheet a b t = refl
 
 pub length-texts : (sheet : List ℕ) (rs : List (List ℕ)) → length (textRows sheet rs) ≡ length rs
 length-texts sheet [] = refl
@@ -138,11 +116,38 @@ pub count-rows : (a : List ℕ) (k : ℕ) → length (rowsOf a k) ≡ getD a k 0
 unfolding rowsOf
 count-rows a k = length-rows a (base k) (getD a k 0)
 
-pub count-held : (sheet a b : List ℕ) (k : ℕ) → k < 13 → count (held sheet a b) k ≡ getD a k 0
-count-held sheet a b zero h = ap length (lines-held sheet a b 0 h (λ e. absurd (omega arith))) ∙ count-rows a 0
-count-held sheet a b (suc zero) h = ap length (texts-held sheet a b) ∙ length-texts sheet (rowsOf a 1) ∙ count-rows a 1
-count-held sheet a b (suc (suc k)) h =
-    ap length (lines-held sheet a b (suc (suc k)) h (λ e. absurd (omega arith))) ∙ count-rows a (suc (suc k))
+abbrev pub linesIn : List ℕ → List ℕ → ℕ → List (List ℕ)
+linesIn sheet w k = cond (eqb k TEXT) (textRows sheet (rowsOf w k)) (rowsOf w k)
+
+pub lines-tab : (sheet w : List ℕ) → linesHeld sheet w ≡ tab (linesIn sheet w) 0 noKey
+unfolding linesHeld
+lines-tab sheet w = refl
+
+pub lines-of : (sheet w b : List ℕ) (k : ℕ) → k < noKey → linesOf (held sheet w b) k ≡ linesIn sheet w k
+unfolding held
+lines-of sheet w b k h =
+    ap (λ (l : List (List (List ℕ))). getD l k []) (lines-tab sheet w) ∙ getD-tab (linesIn sheet w) 0 noKey k [] h ∙ ap (linesIn sheet w) (zero-plus k)
+
+pub length-lines : (sheet w : List ℕ) (k : ℕ) → length (linesIn sheet w k) ≡ getD w k 0
+length-lines sheet w k = go (eqb k TEXT)
+  where
+    go : (t : Bool) → length (cond t (textRows sheet (rowsOf w k)) (rowsOf w k)) ≡ getD w k 0
+    go true = length-texts sheet (rowsOf w k) ∙ count-rows w k
+    go false = count-rows w k
+
+pub lines-held : (sheet a b : List ℕ) (k : ℕ) → k < noKey → (k ≡ TEXT → ⊥) → linesOf (held sheet a b) k ≡ rowsOf a k
+lines-held sheet a b k h n = lines-of sheet a b k h ∙ rw (ne-eqb k TEXT n) refl
+
+pub texts-held : (sheet a b : List ℕ) → linesOf (held sheet a b) TEXT ≡ textRows sheet (rowsOf a TEXT)
+unfolding held linesHeld
+texts-held sheet a b = refl
+
+pub text-held : (sheet a b : List ℕ) (t : ℕ) → textAt sheet a t ≡ items (lineAt (held sheet a b) TEXT t)
+unfolding textAt held linesHeld
+text-held sheet a b t = refl
+
+pub count-held : (sheet a b : List ℕ) (k : ℕ) → k < noKey → count (held sheet a b) k ≡ getD a k 0
+count-held sheet a b k h = ap length (lines-of sheet a b k h) ∙ length-lines sheet a k
 
 -- ---- a row more
 
@@ -150,8 +155,3 @@ pub with-row-is : (a : List ℕ) (k e top n b : ℕ) (w₁ w₂ w₃ w₄ : List
     → w₁ ≡ set a (b + n) top → w₂ ≡ set w₁ (b + n + 1) e → w₃ ≡ set w₂ k (n + 1) → w₄ ≡ set w₃ TOP e → w₄ ≡ withRow a k e
 unfolding withRow
 with-row-is a k e top n b w₁ w₂ w₃ w₄ ht hn hb h₁ h₂ h₃ h₄ = rw (h₄, h₃, h₂, h₁, add-one (b + n), add-one n, hb, hn, ht)
-
--- no key is past 13, which is no line's
-pub key-low : (t : ℕ) → formOf t .key ≤ 13
-unfolding forms small
-key-low = form-small (λ f. f .key) 13 (omega arith) refl

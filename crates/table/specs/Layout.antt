@@ -1,35 +1,27 @@
--- Where the rows of a sheet lie in the lent words, and what state the words hold. Slice a: counts, for each key the places
--- where its rows begin, then the rows themselves. Slice b, while a sheet is read: pairs found to fit, depths, uses of nodes.
+-- Where the rows of a sheet lie in the lent words, and what state the words hold. The first slice, `rows`: counts, for each key the places
+-- where its rows begin, then the rows themselves. The second, `work`, while a sheet is read: pairs found to fit, depths, uses of nodes.
 use mathlib.Core.List.{List, [], _∷_}
 use mathlib.Core.Path.{_≡_}
 use Prim.Native.Nat.{ℕ, zero, suc, _+_, _-_, _≤_, _<_}
 use lib.ListN.{length, getD, take, drop, set, replicate}
-use Rattle.sheet.specs.Forms.{tag, items, at, KIND, TYPE, SHAPE, VALUE, ENTITY, PRINCIPAL, ACTION, RESOURCE, CONTEXT, NODE, POLICY}
+use Rattle.sheet.specs.Forms.{tag, items, at, noKey, SHEET, TEXT, KIND, TYPE, SHAPE, VALUE, ENTITY, PRINCIPAL, ACTION, RESOURCE, CONTEXT, NODE, POLICY}
 use Rattle.sheet.specs.State.{State}
+use Rattle.words.specs.Log.{room}
+pub use Rattle.forms.specs.Keys.{limits, heap}
+unfoldable pub use Rattle.forms.specs.Keys.{limit, bases, base}
 
 -- the words from s up to e
 abbrev pub part : List ℕ → ℕ → ℕ → List ℕ
 part w s e = take (e - s) (drop s w)
 
--- ---- slice a
+-- ---- rows
 
--- words 0 to 12: how many lines each key has; 13: how many values were made; 14: where the next row begins
+-- a word for each key says how many lines it has; then how many values were made, and where the next row begins
 abbrev pub MADE : ℕ
-MADE = 13
+MADE = noKey
 
 abbrev pub TOP : ℕ
-TOP = 14
-
--- the word that says where row 0 begins, for each key and for the made values: a key of at most n lines has n + 1 words
-unfoldable pub bases : List ℕ
-bases = 16 ∷ 18 ∷ 531 ∷ 564 ∷ 693 ∷ 726 ∷ 1751 ∷ 1880 ∷ 1882 ∷ 1884 ∷ 1886 ∷ 1888 ∷ 2913 ∷ 2978 ∷ []
-
-unfoldable pub base : ℕ → ℕ
-base k = getD bases k 0
-
--- rows begin here
-abbrev pub heap : ℕ
-heap = 4003
+TOP = MADE + 1
 
 -- the row whose beginning is said by word i: it ends where the next one begins
 unfoldable pub rowAt : List ℕ → ℕ → List ℕ
@@ -54,10 +46,10 @@ textRows sheet (r ∷ rs) = textRow sheet r ∷ textRows sheet rs
 
 unfoldable pub linesHeld : List ℕ → List ℕ → List (List (List ℕ))
 linesHeld sheet w =
-    rowsOf w 0 ∷ textRows sheet (rowsOf w 1) ∷ rowsOf w KIND ∷ rowsOf w TYPE ∷ rowsOf w SHAPE ∷ rowsOf w VALUE ∷ rowsOf w ENTITY
+    rowsOf w SHEET ∷ textRows sheet (rowsOf w TEXT) ∷ rowsOf w KIND ∷ rowsOf w TYPE ∷ rowsOf w SHAPE ∷ rowsOf w VALUE ∷ rowsOf w ENTITY
     ∷ rowsOf w PRINCIPAL ∷ rowsOf w ACTION ∷ rowsOf w RESOURCE ∷ rowsOf w CONTEXT ∷ rowsOf w NODE ∷ rowsOf w POLICY ∷ []
 
--- ---- slice b, while a sheet is read
+-- ---- work
 
 -- words 0 to 4,095 remember pairs of a value and a type that fit, one bit each; then the depths of types, values and nodes; then uses of nodes
 abbrev pub TYPEDEPTHS : ℕ
@@ -81,7 +73,7 @@ depthsAt b i n = take n (drop i b)
 
 unfoldable pub depthsHeld : List ℕ → List ℕ → List (List ℕ)
 depthsHeld w b =
-    ones w 0 ∷ ones w 1 ∷ ones w KIND ∷ depthsAt b TYPEDEPTHS (getD w TYPE 0) ∷ ones w SHAPE ∷ depthsAt b VALUEDEPTHS (getD w VALUE 0) ∷ ones w ENTITY
+    ones w SHEET ∷ ones w TEXT ∷ ones w KIND ∷ depthsAt b TYPEDEPTHS (getD w TYPE 0) ∷ ones w SHAPE ∷ depthsAt b VALUEDEPTHS (getD w VALUE 0) ∷ ones w ENTITY
     ∷ ones w PRINCIPAL ∷ ones w ACTION ∷ ones w RESOURCE ∷ ones w CONTEXT ∷ depthsAt b NODEDEPTHS (getD w NODE 0) ∷ ones w POLICY ∷ []
 
 -- the state that the words hold
@@ -92,29 +84,22 @@ held sheet w b = record { lines = linesHeld sheet w; depths = depthsHeld w b; us
 
 -- the bytes of text t
 unfoldable pub textAt : List ℕ → List ℕ → ℕ → List ℕ
-textAt sheet w t = items (getD (textRows sheet (rowsOf w 1)) t [])
+textAt sheet w t = items (getD (textRows sheet (rowsOf w TEXT)) t [])
 
 -- the words from the heap's end up to e are a row of key k: its beginning and its end are stored, then how many rows the key has, and the heap's end
 unfoldable pub withRow : List ℕ → ℕ → ℕ → List ℕ
 withRow w k e =
     set (set (set (set w (base k + getD w k 0) (getD w TOP 0)) (suc (base k + getD w k 0)) e) k (suc (getD w k 0))) TOP e
 
--- the greatest number of rows of each key, and of made values
-unfoldable pub limits : List ℕ
-limits = 1 ∷ 512 ∷ 32 ∷ 128 ∷ 32 ∷ 1024 ∷ 128 ∷ 1 ∷ 1 ∷ 1 ∷ 1 ∷ 1024 ∷ 64 ∷ 1024 ∷ []
-
-unfoldable pub limit : ℕ → ℕ
-limit k = getD limits k 0
-
 -- no key after k has a row
 pub record Last (w : List ℕ) (k : ℕ) : Type 0 where
-  pub last : (j : ℕ) → k < j → j < 14 → getD w j 0 ≡ 0
+  pub last : (j : ℕ) → k < j → j < TOP → getD w j 0 ≡ 0
 
 -- what the writers keep: no key has too many rows, each row lies in the heap, and the last row of the last key ends where the heap does
 pub record Sound (w : List ℕ) : Type 0 where
-  pub few : (k : ℕ) → k < 14 → getD w k 0 ≤ limit k
-  pub low : (k i : ℕ) → k < 14 → i < getD w k 0 → heap ≤ getD w (base k + i) 0
-  pub high : (k i : ℕ) → k < 14 → i < getD w k 0 → getD w (suc (base k + i)) 0 ≤ getD w TOP 0
-  pub ends : (k : ℕ) → k < 14 → 1 ≤ getD w k 0 → Last w k → getD w (base k + getD w k 0) 0 ≡ getD w TOP 0
+  pub few : (k : ℕ) → k < TOP → getD w k 0 ≤ limit k
+  pub low : (k i : ℕ) → k < TOP → i < getD w k 0 → heap ≤ getD w (base k + i) 0
+  pub high : (k i : ℕ) → k < TOP → i < getD w k 0 → getD w (suc (base k + i)) 0 ≤ getD w TOP 0
+  pub ends : (k : ℕ) → k < TOP → 1 ≤ getD w k 0 → Last w k → getD w (base k + getD w k 0) 0 ≡ getD w TOP 0
   pub over : heap ≤ getD w TOP 0
-  pub long : 16384 ≤ length w
+  pub long : room ≤ length w

@@ -18,5 +18,5 @@ again-of-spec =
     (λ c. search needs)
     (λ c. search needs)
     (λ c. search needs)
-    (λ c. omega (arith, div-le-self (c .before .slots-of .result) (2 ^ (c .before .before .args .f .items % 8 * 8))))
+    (λ c. omega (arith, div-le-self (c .before .slots-of .result) (2 ^ (c .before .before .args .form .items % 8 * 8))))
     returns)

@@ -7,10 +7,10 @@ use Rattle.checks.proofs.ascends.Statement.{statement}
 use Rattle.checks.proofs.ascends.Tie as tie
 
 abbrev Inv-loop : tie.InvT-loop
-Inv-loop r t m lo₀ j₀ lo j = Rising r m lo j
+Inv-loop line t m lo₀ j₀ lo j = Rising line m lo j
 
 abbrev μ-loop : tie.MeasureT-loop
-μ-loop r t m lo₀ j₀ lo j = length r - j
+μ-loop line t m lo₀ j₀ lo j = length line - j
 
 returns : tie.Need-returns Inv-loop μ-loop
 returns c = search (rises-flat, needs)

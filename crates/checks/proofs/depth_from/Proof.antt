@@ -11,4 +11,4 @@ returns-2 : tie.Need-returns-2
 returns-2 c = search (from-line, needs)
 
 pub depth-from-spec : {M : Type 1} → statement M
-depth-from-spec = tie.close (tie.spec (λ c. search needs) returns (λ c κs. search needs) returns-2)
+depth-from-spec = tie.close (tie.spec (λ c. search needs) (λ c. search needs) returns (λ c κs. search needs) returns-2)

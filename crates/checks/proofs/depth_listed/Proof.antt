@@ -5,15 +5,16 @@ use mathlib.Core.Path.{_≡_}
 use Rattle.checks.specs.Codes.{againCode}
 use Prim.Native.Nat.{_-_}
 use lib.ListN.{length}
+use native.Mathlib.Omega.{arith}
 use borrow.Author.Needs.{needs}
 use Rattle.checks.proofs.depth_listed.Statement.{statement}
 use Rattle.checks.proofs.depth_listed.Tie as tie
 
 abbrev Inv-loop : tie.InvT-loop
-Inv-loop a b k r t again w₀ d₀ j₀ w d j = (Walk a b k r w d j) × (again ≡ againCode t)
+Inv-loop rows work key line t again w₀ d₀ j₀ w d j = (Walk rows work key line w d j) × (again ≡ againCode t)
 
 abbrev μ-loop : tie.MeasureT-loop
-μ-loop a b k r t again w₀ d₀ j₀ w d j = length r - j
+μ-loop rows work key line t again w₀ d₀ j₀ w d j = length line - j
 
 loop-holds : tie.Need-loop-holds Inv-loop μ-loop
 loop-holds c = search (walk-start, codes-are, again-are, needs)
@@ -39,7 +40,7 @@ depth-listed-spec =
     (λ c κs. search needs)
     loop-holds
     (λ c. search needs)
-    (λ c. search needs)
+    (λ c. omega arith)
     (λ c. search needs)
     (λ c κs. search needs)
     (λ c κs. search needs)

@@ -14,7 +14,7 @@ depth-of-leaf-requires : tie.Need-depth-of-leaf-requires
 depth-of-leaf-requires c κs = c .before .is-on-none .ensures (c .if3 .taken)
 
 returns-2 : tie.Need-returns-2
-returns-2 c = let z = c .before .before .before .before .before .before .before .before .before .args in as-node (z .a .now) (z .b .now) (z .r .now) (z .k) (c .depth-of-leaf .result) (c .before .before .before .before .before .if1 .taken) (c .depth-of-leaf .ensures (z .b .now))
+returns-2 c = let z = c .before .before .before .before .before .before .before .before .before .args in as-node (z .rows .now) (z .work .now) (z .line .now) (z .key) (c .depth-of-leaf .result) (c .before .before .before .before .before .if1 .taken) (c .depth-of-leaf .ensures (z .work .now))
 
 pub depth-there-spec : {M : Type 1} → statement M
 depth-there-spec =

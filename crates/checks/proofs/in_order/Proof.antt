@@ -1,15 +1,16 @@
 -- `checks::in_order` meets its contract. Assumes nothing.
 use Rattle.checks.proofs.OrderLaws.{Zeros, zeros-start, zeros-off, zeros-on, zeros-end, nodes-off, nodes-on}
 use Prim.Native.Nat.{_-_}
+use Rattle.sheet.specs.Forms.{noKey}
 use borrow.Author.Needs.{needs}
 use Rattle.checks.proofs.in_order.Statement.{statement}
 use Rattle.checks.proofs.in_order.Tie as tie
 
 abbrev Inv-loop : tie.InvT-loop
-Inv-loop a k i₀ i = Zeros a k i
+Inv-loop rows key i₀ i = Zeros rows key i
 
 abbrev μ-loop : tie.MeasureT-loop
-μ-loop a k i₀ i = 13 - i
+μ-loop rows key i₀ i = noKey - i
 
 loop-holds : tie.Need-loop-holds Inv-loop μ-loop
 loop-holds c = search (zeros-start, needs)

@@ -6,10 +6,10 @@ use Rattle.checks.proofs.is_first.Statement.{statement}
 use Rattle.checks.proofs.is_first.Tie as tie
 
 abbrev Inv-loop : tie.InvT-loop
-Inv-loop a k x n i₀ i = Named x a k i
+Inv-loop rows key x n i₀ i = Named x rows key i
 
 abbrev μ-loop : tie.MeasureT-loop
-μ-loop a k x n i₀ i = n - i
+μ-loop rows key x n i₀ i = n - i
 
 loop-holds : tie.Need-loop-holds Inv-loop μ-loop
 loop-holds c = search (named-start, needs)

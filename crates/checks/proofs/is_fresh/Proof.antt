@@ -28,10 +28,10 @@ returns-7 : tie.Need-returns-7
 returns-7 c = search (fresh-other, needs)
 
 is-row-requires : tie.Need-is-row-requires
-is-row-requires c κs = let s = c .before .before .before .before in keyed-row (s .args .r .now) (s .args .k) (s .pre .1) (omega arith)
+is-row-requires c κs = let s = c .before .before .before .before in keyed-row (s .args .line .now) (s .args .key) (s .pre .1) (omega arith)
 
 is-row-requires-2 : tie.Need-is-row-requires-2
-is-row-requires-2 c κs = let s = c .before .before .before .before .before in keyed-row (s .args .r .now) (s .args .k) (s .pre .1) (omega arith)
+is-row-requires-2 c κs = let s = c .before .before .before .before .before in keyed-row (s .args .line .now) (s .args .key) (s .pre .1) (omega arith)
 
 pub is-fresh-spec : {M : Type 1} → statement M
 is-fresh-spec =

@@ -11,10 +11,10 @@ use Rattle.checks.proofs.is_row.Statement.{statement}
 use Rattle.checks.proofs.is_row.Tie as tie
 
 abbrev Inv-loop : tie.InvT-loop
-Inv-loop a k r n b starts last x ends i₀ i = Scanned (same r) a k i
+Inv-loop rows key line n b starts last x ends i₀ i = Scanned (same line) rows key i
 
 abbrev μ-loop : tie.MeasureT-loop
-μ-loop a k r n b starts last x ends i₀ i = length starts - i
+μ-loop rows key line n b starts last x ends i₀ i = length starts - i
 
 cast-s : tie.Need-cast-s Inv-loop μ-loop
 cast-s c = omega (arith, c .shared-slice-known4 .given (c .before .before .loop .i))
@@ -26,9 +26,9 @@ is-row-at-requires c κs =
     let z = c .before .before .before .before .before .before .before .before .before .before .args in
     record {
       last = refl;
-      all = ends-part (length (z .r .now)) (z .a .now) (c .before .before .before .cut2 .result .now) (c .before .before .before .before .before .before .before .before .before .before .pre) (c .before .before .before .cut2 .ensures);
-      start = start-at (same (z .r .now)) (z .a .now) (z .k) (u .count .result) (c .before .before .before .before .before .before .base-of .result) (w .i) (c .before .before .before .before .before .cut .result .now) (w .inv) (u .count .ensures) (c .before .before .before .before .before .before .base-of .ensures) (c .before .before .before .before .before .cut .ensures) (c .before .loop-test .taken);
-      low = start-low (same (z .r .now)) (z .a .now) (z .k) (u .count .result) (c .before .before .before .before .before .before .base-of .result) (w .i) (c .before .before .before .before .before .cut .result .now) (w .inv) (u .count .ensures) (c .before .before .before .before .before .before .base-of .ensures) (c .before .before .before .before .before .cut .ensures) (c .before .loop-test .taken) (omega arith);
+      all = ends-part (length (z .line .now)) (z .rows .now) (c .before .before .before .cut2 .result .now) (c .before .before .before .before .before .before .before .before .before .before .pre) (c .before .before .before .cut2 .ensures);
+      start = start-at (same (z .line .now)) (z .rows .now) (z .key) (u .count .result) (c .before .before .before .before .before .before .base-of .result) (w .i) (c .before .before .before .before .before .cut .result .now) (w .inv) (u .count .ensures) (c .before .before .before .before .before .before .base-of .ensures) (c .before .before .before .before .before .cut .ensures) (c .before .loop-test .taken);
+      low = start-low (same (z .line .now)) (z .rows .now) (z .key) (u .count .result) (c .before .before .before .before .before .before .base-of .result) (w .i) (c .before .before .before .before .before .cut .result .now) (w .inv) (u .count .ensures) (c .before .before .before .before .before .before .base-of .ensures) (c .before .before .before .before .before .cut .ensures) (c .before .loop-test .taken) (omega arith);
     }
 
 returns : tie.Need-returns Inv-loop μ-loop
@@ -36,23 +36,23 @@ returns c =
     let w = c .before .before .before .before .loop in
     let u = c .before .before .before .before .before .before .before .before .before in
     let z = c .before .before .before .before .before .before .before .before .before .before .before .before .args in
-    scan-found (same (z .r .now)) (z .a .now) (z .k) (u .count .result) (c .before .before .before .before .before .before .before .before .base-of .result) (w .i) (c .before .before .before .before .before .before .before .cut .result .now) (w .inv) (u .count .ensures) (c .before .before .before .before .before .before .before .before .base-of .ensures) (c .before .before .before .before .before .before .before .cut .ensures) (c .before .is-row-at .result) (c .before .before .before .loop-test .taken) (c .before .is-row-at .ensures) (c .if1 .taken)
-    ∙ any-row (z .r .now) (rowsOf (z .a .now) (z .k))
+    scan-found (same (z .line .now)) (z .rows .now) (z .key) (u .count .result) (c .before .before .before .before .before .before .before .before .base-of .result) (w .i) (c .before .before .before .before .before .before .before .cut .result .now) (w .inv) (u .count .ensures) (c .before .before .before .before .before .before .before .before .base-of .ensures) (c .before .before .before .before .before .before .before .cut .ensures) (c .before .is-row-at .result) (c .before .before .before .loop-test .taken) (c .before .is-row-at .ensures) (c .if1 .taken)
+    ∙ any-row (z .line .now) (rowsOf (z .rows .now) (z .key))
 
 loop-again : tie.Need-loop-again Inv-loop μ-loop
 loop-again c =
     let w = c .before .before .before .before .loop in
     let u = c .before .before .before .before .before .before .before .before .before in
     let z = c .before .before .before .before .before .before .before .before .before .before .before .before .args in
-    scan-on (same (z .r .now)) (z .a .now) (z .k) (u .count .result) (c .before .before .before .before .before .before .before .before .base-of .result) (w .i) (c .before .before .before .before .before .before .before .cut .result .now) (w .inv) (u .count .ensures) (c .before .before .before .before .before .before .before .before .base-of .ensures) (c .before .before .before .before .before .before .before .cut .ensures) (c .before .is-row-at .result) (c .before .before .before .loop-test .taken) (c .before .is-row-at .ensures) (c .if1 .left)
+    scan-on (same (z .line .now)) (z .rows .now) (z .key) (u .count .result) (c .before .before .before .before .before .before .before .before .base-of .result) (w .i) (c .before .before .before .before .before .before .before .cut .result .now) (w .inv) (u .count .ensures) (c .before .before .before .before .before .before .before .before .base-of .ensures) (c .before .before .before .before .before .before .before .cut .ensures) (c .before .is-row-at .result) (c .before .before .before .loop-test .taken) (c .before .is-row-at .ensures) (c .if1 .left)
 
 returns-2 : tie.Need-returns-2 Inv-loop μ-loop
 returns-2 c =
     let w = c .before .loop in
     let u = c .before .before .before .before .before .before in
     let z = c .before .before .before .before .before .before .before .before .before .args in
-    scan-end (same (z .r .now)) (z .a .now) (z .k) (u .count .result) (c .before .before .before .before .before .base-of .result) (w .i) (c .before .before .before .before .cut .result .now) (w .inv) (u .count .ensures) (c .before .before .before .before .before .base-of .ensures) (c .before .before .before .before .cut .ensures) (c .loop-test .left) (no-row (z .r .now) (c .before .before .before .before .before .before .before .before .before .pre))
-    ∙ any-row (z .r .now) (rowsOf (z .a .now) (z .k))
+    scan-end (same (z .line .now)) (z .rows .now) (z .key) (u .count .result) (c .before .before .before .before .before .base-of .result) (w .i) (c .before .before .before .before .cut .result .now) (w .inv) (u .count .ensures) (c .before .before .before .before .before .base-of .ensures) (c .before .before .before .before .cut .ensures) (c .loop-test .left) (no-row (z .line .now) (c .before .before .before .before .before .before .before .before .before .pre))
+    ∙ any-row (z .line .now) (rowsOf (z .rows .now) (z .key))
 
 pub is-row-spec : {M : Type 1} → statement M
 is-row-spec =

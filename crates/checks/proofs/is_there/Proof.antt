@@ -17,4 +17,4 @@ returns-4 : tie.Need-returns-4
 returns-4 c = search (ref-mark, needs)
 
 pub is-there-spec : {M : Type 1} → statement M
-is-there-spec = tie.close (tie.spec returns (λ c κs. search needs) returns-2 returns-3 returns-4)
+is-there-spec = tie.close (tie.spec returns (λ c. search needs) (λ c κs. search needs) returns-2 returns-3 returns-4)

@@ -4,15 +4,16 @@ use Rattle.checks.proofs.FormTable.{codes-are, again-are}
 use mathlib.Core.Path.{refl}
 use Prim.Native.Nat.{_-_}
 use lib.ListN.{length}
+use native.Mathlib.Omega.{arith}
 use borrow.Author.Needs.{needs}
 use Rattle.checks.proofs.use_listed.Statement.{statement}
 use Rattle.checks.proofs.use_listed.Tie as tie
 
 abbrev Inv-loop : tie.InvT-loop
-Inv-loop a b₀ r t again w₀ j₀ b w j = Marking a b₀ r b again w j
+Inv-loop rows work₀ line t again w₀ j₀ work w j = Marking rows work₀ line work again w j
 
 abbrev μ-loop : tie.MeasureT-loop
-μ-loop a b₀ r t again w₀ j₀ b w j = length r - j
+μ-loop rows work₀ line t again w₀ j₀ work w j = length line - j
 
 loop-holds : tie.Need-loop-holds Inv-loop μ-loop
 loop-holds c = search (marking-start, codes-are, again-are, needs)
@@ -44,7 +45,7 @@ use-listed-spec =
     (λ c κs. search needs)
     loop-holds
     (λ c. search needs)
-    (λ c. search needs)
+    (λ c. omega arith)
     (λ c. search needs)
     (λ c κs. search needs)
     (λ c κs. search needs)

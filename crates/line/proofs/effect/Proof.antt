@@ -19,8 +19,10 @@ effect-spec =
     (tie.spec
     (λ c. search needs)
     (λ c κs. search needs)
+    (λ c. search needs)
     returns
     (λ c. search needs)
     (λ c κs. search needs)
+    (λ c. search needs)
     returns-2
     returns-3)

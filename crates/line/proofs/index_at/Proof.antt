@@ -8,10 +8,10 @@ use Rattle.line.proofs.index_at.Statement.{statement}
 use Rattle.line.proofs.index_at.Tie as tie
 
 abbrev Inv-loop : tie.InvT-loop
-Inv-loop s at x n₀ i₀ n i = Reading s at n i
+Inv-loop bytes at x n₀ i₀ n i = Reading bytes at n i
 
 abbrev μ-loop : tie.MeasureT-loop
-μ-loop s at x n₀ i₀ n i = length s - i
+μ-loop bytes at x n₀ i₀ n i = length bytes - i
 
 returns : tie.Need-returns Inv-loop μ-loop
 returns c = search (index-none, needs)

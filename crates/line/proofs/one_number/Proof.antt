@@ -1,5 +1,5 @@
 -- `line::one_number` meets its contract. Assumes nothing.
-use Rattle.line.proofs.LawsItem.{star-or, dash-or, unknown-partial, unknown-complete, line-index, slot-2, slot-3, slot-4, slot-5, slot-6, slot-7, slot-none}
+use Rattle.line.proofs.LawsItem.{star-or, dash-or, unknown-partial, unknown-complete, line-index, slot-entry, slot-kind, slot-field, slot-bit, slot-part, slot-effect, slot-none}
 use borrow.Author.Needs.{needs}
 use Rattle.line.proofs.one_number.Statement.{statement}
 use Rattle.line.proofs.one_number.Tie as tie
@@ -20,22 +20,22 @@ returns-5 : tie.Need-returns-5
 returns-5 c = search (line-index, needs)
 
 returns-6 : tie.Need-returns-6
-returns-6 c = search (slot-2, needs)
+returns-6 c = search (slot-entry, needs)
 
 returns-7 : tie.Need-returns-7
-returns-7 c = search (slot-3, needs)
+returns-7 c = search (slot-kind, needs)
 
 returns-8 : tie.Need-returns-8
-returns-8 c = search (slot-4, needs)
+returns-8 c = search (slot-field, needs)
 
 returns-9 : tie.Need-returns-9
-returns-9 c = search (slot-5, needs)
+returns-9 c = search (slot-bit, needs)
 
 returns-10 : tie.Need-returns-10
-returns-10 c = search (slot-6, needs)
+returns-10 c = search (slot-part, needs)
 
 returns-11 : tie.Need-returns-11
-returns-11 c = search (slot-7, needs)
+returns-11 c = search (slot-effect, needs)
 
 returns-12 : tie.Need-returns-12
 returns-12 c = search (slot-none, needs)

@@ -25,14 +25,14 @@ row-from-requires c κs =
     let x = i .before .before in
     let d = x .before .before in
     let a = d .before .before .before .before in
-    let in₁ = type-in (a .args .s .now) (a .args .c) (a .pre .0) (d .index-at .result) (d .index-at .ensures) (x .x .given .0 .0) (x .x .given .0 .1 .0) (x .x .given .1) in
-    let in₂ = node-in (a .args .s .now) (a .args .c) (a .pre .0) (d .index-at .result) (d .index-at .ensures) (x .x .given .0 .0) (x .x .given .0 .1 .0) (x .x .given .1) (a .args .c .line) (i .item .result) (i .item .ensures)
+    let in₁ = type-in (a .args .bytes .now) (a .args .cursor) (a .pre .0) (d .index-at .result) (d .index-at .ensures) (x .x .given .0 .0) (x .x .given .0 .1 .0) (x .x .given .1) in
+    let in₂ = node-in (a .args .bytes .now) (a .args .cursor) (a .pre .0) (d .index-at .result) (d .index-at .ensures) (x .x .given .0 .0) (x .x .given .0 .1 .0) (x .x .given .1) (a .args .cursor .line) (i .item .result) (i .item .ensures)
     (n .name .given .0 .0) (n .name .given .0 .1 .0) (n .name .given .1) (f .part-of .result .now) (f .part-of .ensures) (t .node-form .result) (t .node-form .ensures) (c .before .if1 .left) in
-    let long = length-set (a .args .w .now) (a .args .top + 1) (x .x .given .0 .0) in
+    let long = length-set (a .args .rows .now) (a .args .top + 1) (x .x .given .0 .0) in
     (c .before .if1 .left, omega arith, λ z. in₂ .0, in₂ .1, in₂ .3, omega arith, omega (arith, long), omega (arith, in₁ .0, in₂ .2))
 
 same-length : tie.Need-same-length
-same-length c = let x = c .before .before .before .before .before .before .before .before .before .before .before .before in let a = x .before .before .before .before .before .before .args in omega (arith, length-set (a .w .now) (a .top + 1) (x .x .given .0 .0))
+same-length c = let x = c .before .before .before .before .before .before .before .before .before .before .before .before in let a = x .before .before .before .before .before .before .args in omega (arith, length-set (a .rows .now) (a .top + 1) (x .x .given .0 .0))
 
 returns-4 : tie.Need-returns-4
 returns-4 c =
@@ -44,7 +44,7 @@ returns-4 c =
     let x = i .before .before in
     let d = x .before .before in
     let a = d .before .before .before .before in
-    node-row (a .args .s .now) (a .args .c) (a .pre .0) (d .index-at .result) (d .index-at .ensures) (x .x .given .0 .0) (x .x .given .0 .1 .0) (x .x .given .1) (a .args .c .line) (i .item .result) (i .item .ensures)
+    node-row (a .args .bytes .now) (a .args .cursor) (a .pre .0) (d .index-at .result) (d .index-at .ensures) (x .x .given .0 .0) (x .x .given .0 .1 .0) (x .x .given .1) (a .args .cursor .line) (i .item .result) (i .item .ensures)
     (n .name .given .0 .0) (n .name .given .0 .1 .0) (n .name .given .1) (f .part-of .result .now) (f .part-of .ensures) (t .node-form .result) (t .node-form .ensures) (r .before .before .if1 .left) (a .args .partial) (a .args .top) (r .row-from .result) _ _ (omega arith) (omega arith) (r .row-from .ensures)
 
 pub row-node-spec : {M : Type 1} → statement M

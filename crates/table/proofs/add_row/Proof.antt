@@ -12,7 +12,7 @@ returns c =
     let p₂ = c .before .before .before .before .before .before .before .before .before .before .put2 in
     let p₃ = c .before .before .before .before .before .before .put3 in
     let p₄ = c .before .before .put4 in
-    with-row-is (s .args .a .now) (s .args .k) (s .args .end) (x .before .before .before .read .result) (x .before .read2 .result) (x .base-of .result)
+    with-row-is (s .args .rows .now) (s .args .key) (s .args .end) (x .before .before .before .read .result) (x .before .read2 .result) (x .base-of .result)
     (p₁ .last .0) (p₂ .last .0) (p₃ .last .0) (p₄ .last .0)
     (x .before .before .before .read .ensures) (x .before .read2 .ensures) (x .base-of .ensures .0) (p₁ .ensures) (p₂ .ensures) (p₃ .ensures) (p₄ .ensures)
 

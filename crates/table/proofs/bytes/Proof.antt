@@ -6,13 +6,13 @@ use Rattle.table.proofs.bytes.Statement.{statement}
 use Rattle.table.proofs.bytes.Tie as tie
 
 returns-2 : tie.Need-returns-2
-returns-2 c = let x = c .before .before .before .args in part-none (x .sheet .now) (x .s) (x .e) (omega arith)
+returns-2 c = let x = c .before .before .before .args in part-none (x .sheet .now) (x .start) (x .end) (omega arith)
 
 returns-3 : tie.Need-returns-3
-returns-3 c = let x = c .before .before .before .args in part-rest (x .sheet .now) (x .s) (x .e) (omega arith)
+returns-3 c = let x = c .before .before .before .args in part-rest (x .sheet .now) (x .start) (x .end) (omega arith)
 
 returns-4 : tie.Need-returns-4
-returns-4 c = let x = c .before .before .before .args in part-past-end (x .sheet .now) (x .s) (x .e) (omega arith)
+returns-4 c = let x = c .before .before .before .args in part-past-end (x .sheet .now) (x .start) (x .end) (omega arith)
 
 pub bytes-spec : {M : Type 1} → statement M
 bytes-spec =
