@@ -14,7 +14,8 @@ use Rattle.cedar.specs.Residual.{Node, err, and, or, ite, un, bin, rel, get, ha
 use Rattle.sheet.specs.Forms.{tag, items, at, firstNode}
 use Rattle.sheet.specs.Content.{patternOf}
 use Rattle.sheet.specs.Answer.{size, sizes, sizeArgs}
-use Rattle.residual.specs.Rows.{litRow, errRow, leftRow, wordAt, startAt}
+use Rattle.forms.specs.Tags.{AND, OR, EQ, LT, LE, ADD, SUB, MUL, IN, GETTAG, HASTAG, CONTAINS, ALL, ANY, IS, LIKE, GET, HAS, HASPATH, NOT, NEG, EMPTY}
+use Rattle.residual.specs.Rows.{ROW, WORDS, litRow, errRow, leftRow, wordAt, startAt}
 use Rattle.residual.specs.Errs.{opErrs}
 use Rattle.residual.specs.Trees.{Res, rlit, rerr, rleft, flat, flats, nodesOf, argsOf, leftFor, leftTree, suitsFor, suits}
 
@@ -36,16 +37,16 @@ flat-is (rlit v y) = refl
 flat-is (rerr y) = refl
 flat-is (rleft n k y rs) = refl
 
-row-four : (r : Res) → length (rowOf r) ≡ 4
+row-four : (r : Res) → length (rowOf r) ≡ ROW
 unfolding rowOf
 row-four (rlit v y) = refl
 row-four (rerr y) = refl
 row-four (rleft n k y rs) = refl
 
-pub flat-length : (r : Res) → length (flat r) ≡ length (bodyOf r) + 4
+pub flat-length : (r : Res) → length (flat r) ≡ length (bodyOf r) + ROW
 flat-length r = ap length (flat-is r) ∙ length-append (bodyOf r) (rowOf r) ∙ ap (λ (n : ℕ). length (bodyOf r) + n) (row-four r)
 
-row-length : (r : Res) → getD (rowOf r) 2 0 ≡ length (flat r)
+row-length : (r : Res) → getD (rowOf r) WORDS 0 ≡ length (flat r)
 unfolding rowOf flat bodyOf
 row-length (rlit v y) = refl
 row-length (rerr y) = refl
@@ -59,20 +60,20 @@ module _ (pre : List ℕ) (r : Res) (post : List ℕ) where
   abbrev end : ℕ
   end = length pre + length (flat r)
 
-  pub res-word : (j : ℕ) → j < 4 → wordAt log end j ≡ getD (rowOf r) j 0
+  pub res-word : (j : ℕ) → j < ROW → wordAt log end j ≡ getD (rowOf r) j 0
   unfolding wordAt
   res-word j h =
       let n = flat-length r in
-      let p : end - 4 + j ≡ length pre + (length (bodyOf r) + j) = omega arith in
+      let p : end - ROW + j ≡ length pre + (length (bodyOf r) + j) = omega arith in
       let q : flat r ++ post ≡ bodyOf r ++ (rowOf r ++ post) = ap (λ (l : List ℕ). l ++ post) (flat-is r) ∙ append-assoc (bodyOf r) (rowOf r) post in
-      rw (le-ltb end 4 (omega arith), p, getD-append-add pre (flat r ++ post) (length (bodyOf r) + j) 0, q, getD-append-add (bodyOf r) (rowOf r ++ post) j 0)
+      rw (le-ltb end ROW (omega arith), p, getD-append-add pre (flat r ++ post) (length (bodyOf r) + j) 0, q, getD-append-add (bodyOf r) (rowOf r ++ post) j 0)
       (List·getD-append (rowOf r) post 0 j (omega (arith, row-four r)))
 
   pub res-start : startAt log end ≡ length pre
   unfolding startAt
   res-start =
       let n = flat-length r in
-      rw (res-word 2 (omega arith), row-length r, le-ltb (length (flat r)) 4 (omega arith)) (omega arith)
+      rw (res-word WORDS (omega arith), row-length r, le-ltb (length (flat r)) ROW (omega arith)) (omega arith)
 
 -- ---- properties of a node over its children, operation by operation
 
@@ -125,12 +126,12 @@ module _ (r : List ℕ) (k : ℕ) (T : Ty) (cs : List (Node ℕ)) where
   abbrev c : ℕ → Node ℕ
   c j = getD cs j (err tbool)
 
-  at-operation : {Q : ℕ → Node ℕ → Type 0} → Each Q 21 (suitsFor r (length cs)) (leftFor r k T cs c) → suits r (length cs) ≡ true → Q (tag r) (leftTree r k T cs)
+  at-operation : {Q : ℕ → Node ℕ → Type 0} → Each Q firstNode (suitsFor r (length cs)) (leftFor r k T cs c) → suits r (length cs) ≡ true → Q (tag r) (leftTree r k T cs)
   unfolding suits leftTree
   at-operation {Q} e s =
       let p = and-eq-true-iff (leb firstNode (tag r)) (getD (suitsFor r (length cs)) (tag r - firstNode) false) .0 s in
-      let t : tag r - 21 + 21 ≡ tag r = omega (arith, leb-true firstNode (tag r) (p .0)) in
-      let q : Q (tag r - 21 + 21) (getD (leftFor r k T cs c) (tag r - 21) (err tbool)) = each-at (err tbool) e (tag r - 21) (p .1) in
+      let t : tag r - firstNode + firstNode ≡ tag r = omega (arith, leb-true firstNode (tag r) (p .0)) in
+      let q : Q (tag r - firstNode + firstNode) (getD (leftFor r k T cs c) (tag r - firstNode) (err tbool)) = each-at (err tbool) e (tag r - firstNode) (p .1) in
       rw t at q
 
   -- ---- errors
@@ -171,33 +172,33 @@ module _ (r : List ℕ) (k : ℕ) (T : Ty) (cs : List (Node ℕ)) where
   args-errs (t ∷ n ∷ ts) [] e = absurd (omega arith)
   args-errs (t ∷ n ∷ ts) (x ∷ l) e = ap (λ (b : Bool). canErr x || b) (args-errs ts l (omega arith))
 
-  all-errs : Each Errs 21 (suitsFor r (length cs)) (leftFor r k T cs c)
+  all-errs : Each Errs firstNode (suitsFor r (length cs)) (leftFor r k T cs c)
   unfolding Errs opErrs anyErrs
   all-errs =
       each1 (λ e. no-true e) (each1 (λ e. no-true e) (each1 (λ e. over0 (λ l. false ≡ anyErrs l) cs refl e)
-      (each1 (two-errs 24 (and T) (λ x y. or-two (canErr x) (canErr y)))
-      (each1 (two-errs 25 (or T) (λ x y. or-two (canErr x) (canErr y)))
-      (each1 (two-errs 26 (bin T beq) (λ x y. or-two (canErr x) (canErr y)))
-      (each1 (two-errs 27 (bin T blt) (λ x y. or-two (canErr x) (canErr y)))
-      (each1 (two-errs 28 (bin T ble) (λ x y. or-two (canErr x) (canErr y)))
-      (each1 (two-errs 29 (bin T badd) (λ x y. refl))
-      (each1 (two-errs 30 (bin T bsub) (λ x y. refl))
-      (each1 (two-errs 31 (bin T bmul) (λ x y. refl))
-      (each1 (two-errs 32 (rel T rin) (λ x y. or-two (canErr x) (canErr y)))
-      (each1 (two-errs 33 (rel T rgettag) (λ x y. refl))
-      (each1 (two-errs 34 (rel T rhastag) (λ x y. or-two (canErr x) (canErr y)))
-      (each1 (two-errs 35 (bin T bcontains) (λ x y. or-two (canErr x) (canErr y)))
-      (each1 (two-errs 36 (bin T ball) (λ x y. or-two (canErr x) (canErr y)))
-      (each1 (two-errs 37 (bin T bany) (λ x y. or-two (canErr x) (canErr y)))
+      (each1 (two-errs AND (and T) (λ x y. or-two (canErr x) (canErr y)))
+      (each1 (two-errs OR (or T) (λ x y. or-two (canErr x) (canErr y)))
+      (each1 (two-errs EQ (bin T beq) (λ x y. or-two (canErr x) (canErr y)))
+      (each1 (two-errs LT (bin T blt) (λ x y. or-two (canErr x) (canErr y)))
+      (each1 (two-errs LE (bin T ble) (λ x y. or-two (canErr x) (canErr y)))
+      (each1 (two-errs ADD (bin T badd) (λ x y. refl))
+      (each1 (two-errs SUB (bin T bsub) (λ x y. refl))
+      (each1 (two-errs MUL (bin T bmul) (λ x y. refl))
+      (each1 (two-errs IN (rel T rin) (λ x y. or-two (canErr x) (canErr y)))
+      (each1 (two-errs GETTAG (rel T rgettag) (λ x y. refl))
+      (each1 (two-errs HASTAG (rel T rhastag) (λ x y. or-two (canErr x) (canErr y)))
+      (each1 (two-errs CONTAINS (bin T bcontains) (λ x y. or-two (canErr x) (canErr y)))
+      (each1 (two-errs ALL (bin T ball) (λ x y. or-two (canErr x) (canErr y)))
+      (each1 (two-errs ANY (bin T bany) (λ x y. or-two (canErr x) (canErr y)))
       (each1 (λ e. over3 (λ l. canErr (ite T (getD l 0 (err tbool)) (getD l 1 (err tbool)) (getD l 2 (err tbool))) ≡ anyErrs l) cs (λ x y w. or-three (canErr x) (canErr y) (canErr w)) e)
-      (each1 (one-errs 39 (un T (uis (at r 2))) (λ x. or-nil (canErr x)))
-      (each1 (one-errs 40 (un T (ulike (patternOf (drop 2 (items r))))) (λ x. or-nil (canErr x)))
-      (each1 (one-errs 41 (λ x. get T x (at r 2)) (λ x. refl))
-      (each1 (one-errs 42 (λ x. has T x (at r 2)) (λ x. or-nil (canErr x)))
-      (each1 (one-errs 43 (λ x. haspath T x (at r (2 + k)) (drop (3 + k) (items r))) (λ x. or-nil (canErr x)))
-      (each1 (one-errs 44 (un T unot) (λ x. or-nil (canErr x)))
-      (each1 (one-errs 45 (un T uneg) (λ x. refl))
-      (each1 (one-errs 46 (un T uempty) (λ x. or-nil (canErr x)))
+      (each1 (one-errs IS (un T (uis (at r 2))) (λ x. or-nil (canErr x)))
+      (each1 (one-errs LIKE (un T (ulike (patternOf (drop 2 (items r))))) (λ x. or-nil (canErr x)))
+      (each1 (one-errs GET (λ x. get T x (at r 2)) (λ x. refl))
+      (each1 (one-errs HAS (λ x. has T x (at r 2)) (λ x. or-nil (canErr x)))
+      (each1 (one-errs HASPATH (λ x. haspath T x (at r (2 + k)) (drop (3 + k) (items r))) (λ x. or-nil (canErr x)))
+      (each1 (one-errs NOT (un T unot) (λ x. or-nil (canErr x)))
+      (each1 (one-errs NEG (un T uneg) (λ x. refl))
+      (each1 (one-errs EMPTY (un T uempty) (λ x. or-nil (canErr x)))
       (each1 (λ e. nodes-errs cs)
       (each1 (λ e. args-errs (drop 1 (items r)) cs (eqb-true (length (drop 1 (items r))) (length cs + length cs) e)) each0)))))))))))))))))))))))))))
 
@@ -210,7 +211,7 @@ module _ (r : List ℕ) (k : ℕ) (T : Ty) (cs : List (Node ℕ)) where
   Opens : ℕ → Node ℕ → Type 0
   Opens i n = view n ≡ open′
 
-  all-open : Each Opens 21 (suitsFor r (length cs)) (leftFor r k T cs c)
+  all-open : Each Opens firstNode (suitsFor r (length cs)) (leftFor r k T cs c)
   unfolding Opens
   all-open = each1 (λ e. no-true e) (each1 (λ e. no-true e) (each1 (λ e. refl) (each1 (λ e. refl) (each1 (λ e. refl) (each1 (λ e. refl) (each1 (λ e. refl) (each1 (λ e. refl) (each1 (λ e. refl) (each1 (λ e. refl) (each1 (λ e. refl) (each1 (λ e. refl) (each1 (λ e. refl) (each1 (λ e. refl) (each1 (λ e. refl) (each1 (λ e. refl) (each1 (λ e. refl) (each1 (λ e. refl) (each1 (λ e. refl) (each1 (λ e. refl) (each1 (λ e. refl) (each1 (λ e. refl) (each1 (λ e. refl) (each1 (λ e. refl) (each1 (λ e. refl) (each1 (λ e. refl) (each1 (λ e. refl) (each1 (λ e. refl) each0)))))))))))))))))))))))))))
 
@@ -221,7 +222,7 @@ module _ (r : List ℕ) (k : ℕ) (T : Ty) (cs : List (Node ℕ)) where
   Types : ℕ → Node ℕ → Type 0
   Types i n = tyOf n ≡ T
 
-  all-typed : Each Types 21 (suitsFor r (length cs)) (leftFor r k T cs c)
+  all-typed : Each Types firstNode (suitsFor r (length cs)) (leftFor r k T cs c)
   unfolding Types
   all-typed = each1 (λ e. no-true e) (each1 (λ e. no-true e) (each1 (λ e. refl) (each1 (λ e. refl) (each1 (λ e. refl) (each1 (λ e. refl) (each1 (λ e. refl) (each1 (λ e. refl) (each1 (λ e. refl) (each1 (λ e. refl) (each1 (λ e. refl) (each1 (λ e. refl) (each1 (λ e. refl) (each1 (λ e. refl) (each1 (λ e. refl) (each1 (λ e. refl) (each1 (λ e. refl) (each1 (λ e. refl) (each1 (λ e. refl) (each1 (λ e. refl) (each1 (λ e. refl) (each1 (λ e. refl) (each1 (λ e. refl) (each1 (λ e. refl) (each1 (λ e. refl) (each1 (λ e. refl) (each1 (λ e. refl) (each1 (λ e. refl) each0)))))))))))))))))))))))))))
 
@@ -264,33 +265,33 @@ module _ (r : List ℕ) (k : ℕ) (T : Ty) (cs : List (Node ℕ)) where
   args-size (t ∷ n ∷ ts) [] e = absurd (omega arith)
   args-size (t ∷ n ∷ ts) (x ∷ l) e = ap (λ (m : ℕ). size x + m) (args-size ts l (omega arith))
 
-  all-sizes : Each Sizes 21 (suitsFor r (length cs)) (leftFor r k T cs c)
+  all-sizes : Each Sizes firstNode (suitsFor r (length cs)) (leftFor r k T cs c)
   unfolding Sizes sizeAll
   all-sizes =
       each1 (λ e. no-true e) (each1 (λ e. no-true e) (each1 (λ e. over0 (λ l. 1 ≡ suc (sizeAll l)) cs refl e)
-      (each1 (two-size 24 (and T) (λ x y. refl))
-      (each1 (two-size 25 (or T) (λ x y. refl))
-      (each1 (two-size 26 (bin T beq) (λ x y. refl))
-      (each1 (two-size 27 (bin T blt) (λ x y. refl))
-      (each1 (two-size 28 (bin T ble) (λ x y. refl))
-      (each1 (two-size 29 (bin T badd) (λ x y. refl))
-      (each1 (two-size 30 (bin T bsub) (λ x y. refl))
-      (each1 (two-size 31 (bin T bmul) (λ x y. refl))
-      (each1 (two-size 32 (rel T rin) (λ x y. refl))
-      (each1 (two-size 33 (rel T rgettag) (λ x y. refl))
-      (each1 (two-size 34 (rel T rhastag) (λ x y. refl))
-      (each1 (two-size 35 (bin T bcontains) (λ x y. refl))
-      (each1 (two-size 36 (bin T ball) (λ x y. refl))
-      (each1 (two-size 37 (bin T bany) (λ x y. refl))
+      (each1 (two-size AND (and T) (λ x y. refl))
+      (each1 (two-size OR (or T) (λ x y. refl))
+      (each1 (two-size EQ (bin T beq) (λ x y. refl))
+      (each1 (two-size LT (bin T blt) (λ x y. refl))
+      (each1 (two-size LE (bin T ble) (λ x y. refl))
+      (each1 (two-size ADD (bin T badd) (λ x y. refl))
+      (each1 (two-size SUB (bin T bsub) (λ x y. refl))
+      (each1 (two-size MUL (bin T bmul) (λ x y. refl))
+      (each1 (two-size IN (rel T rin) (λ x y. refl))
+      (each1 (two-size GETTAG (rel T rgettag) (λ x y. refl))
+      (each1 (two-size HASTAG (rel T rhastag) (λ x y. refl))
+      (each1 (two-size CONTAINS (bin T bcontains) (λ x y. refl))
+      (each1 (two-size ALL (bin T ball) (λ x y. refl))
+      (each1 (two-size ANY (bin T bany) (λ x y. refl))
       (each1 (λ e. over3 (λ l. size (ite T (getD l 0 (err tbool)) (getD l 1 (err tbool)) (getD l 2 (err tbool))) ≡ suc (sizeAll l)) cs (λ x y w. sum-three (size x) (size y) (size w)) e)
-      (each1 (one-size 39 (un T (uis (at r 2))) (λ x. refl))
-      (each1 (one-size 40 (un T (ulike (patternOf (drop 2 (items r))))) (λ x. refl))
-      (each1 (one-size 41 (λ x. get T x (at r 2)) (λ x. refl))
-      (each1 (one-size 42 (λ x. has T x (at r 2)) (λ x. refl))
-      (each1 (one-size 43 (λ x. haspath T x (at r (2 + k)) (drop (3 + k) (items r))) (λ x. refl))
-      (each1 (one-size 44 (un T unot) (λ x. refl))
-      (each1 (one-size 45 (un T uneg) (λ x. refl))
-      (each1 (one-size 46 (un T uempty) (λ x. refl))
+      (each1 (one-size IS (un T (uis (at r 2))) (λ x. refl))
+      (each1 (one-size LIKE (un T (ulike (patternOf (drop 2 (items r))))) (λ x. refl))
+      (each1 (one-size GET (λ x. get T x (at r 2)) (λ x. refl))
+      (each1 (one-size HAS (λ x. has T x (at r 2)) (λ x. refl))
+      (each1 (one-size HASPATH (λ x. haspath T x (at r (2 + k)) (drop (3 + k) (items r))) (λ x. refl))
+      (each1 (one-size NOT (un T unot) (λ x. refl))
+      (each1 (one-size NEG (un T uneg) (λ x. refl))
+      (each1 (one-size EMPTY (un T uempty) (λ x. refl))
       (each1 (λ e. ap suc (nodes-size cs))
       (each1 (λ e. ap suc (args-size (drop 1 (items r)) cs (eqb-true (length (drop 1 (items r))) (length cs + length cs) e))) each0)))))))))))))))))))))))))))
 

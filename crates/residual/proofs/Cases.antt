@@ -5,20 +5,21 @@ use mathlib.Core.List.{List, [], _∷_}
 use Prim.Native.Nat.{ℕ}
 use Rattle.cedar.specs.Types.{tbool, tlong, context}
 use Rattle.cedar.specs.Residual.{lit, var, and, get, haspath}
-use Rattle.residual.specs.Rows.{wordAt, stageAt, startAt}
+use Rattle.forms.specs.Tags.{VAR, AND, GET, HASPATH, PART-P, PART-C}
+use Rattle.residual.specs.Rows.{VALUE-ROW, LEFT-ROW, wordAt, stageAt, startAt}
 use Rattle.residual.specs.Errs.{opErrs, blocksBy, blocksErr, rowErrs, errsBy}
 use Rattle.residual.specs.Trees.{Res, rlit, rleft, rnil, rcons, flat, flats, leftTree, suits, treeOf, treesOf}
 use Rattle.residual.specs.declared.Stage.the-variants.{Open}
 
 -- nodes 0 `var,p`, 1 `var,c`, 2 `get,1,5`, 3 `and,0,2`, 4 `haspath,0,7,8,9`
 nodes : List (List ℕ)
-nodes = (23 ∷ 0 ∷ 0 ∷ []) ∷ (23 ∷ 0 ∷ 3 ∷ []) ∷ (41 ∷ 0 ∷ 1 ∷ 5 ∷ []) ∷ (24 ∷ 0 ∷ 0 ∷ 2 ∷ []) ∷ (43 ∷ 0 ∷ 0 ∷ 7 ∷ 8 ∷ 9 ∷ []) ∷ []
+nodes = (VAR ∷ 0 ∷ PART-P ∷ []) ∷ (VAR ∷ 0 ∷ PART-C ∷ []) ∷ (GET ∷ 0 ∷ 1 ∷ 5 ∷ []) ∷ (AND ∷ 0 ∷ 0 ∷ 2 ∷ []) ∷ (HASPATH ∷ 0 ∷ 0 ∷ 7 ∷ 8 ∷ 9 ∷ []) ∷ []
 
 -- "open and false" over a left side that can err stays `and`
 kept : Res
 kept = rleft 3 0 0 (rcons (rleft 2 0 0 (rcons (rleft 1 0 0 rnil) rnil)) (rcons (rlit 6 0) rnil))
 
-words : flat kept ≡ 2 ∷ 1 ∷ 4 ∷ 0 ∷ 2 ∷ 2 ∷ 8 ∷ 0 ∷ 0 ∷ 6 ∷ 4 ∷ 0 ∷ 2 ∷ 3 ∷ 16 ∷ 0 ∷ []
+words : flat kept ≡ LEFT-ROW ∷ 1 ∷ 4 ∷ 0 ∷ LEFT-ROW ∷ 2 ∷ 8 ∷ 0 ∷ VALUE-ROW ∷ 6 ∷ 4 ∷ 0 ∷ LEFT-ROW ∷ 3 ∷ 16 ∷ 0 ∷ []
 unfolding kept flat flats
 words = refl
 
@@ -35,6 +36,6 @@ left : treeOf (tbool ∷ tlong ∷ []) nodes (rleft 4 1 0 (rcons (rlit 2 1) rnil
 unfolding nodes treeOf treesOf leftTree
 left = refl
 
-suited : suits (43 ∷ 0 ∷ 0 ∷ 7 ∷ []) 1 ≡ true
+suited : suits (HASPATH ∷ 0 ∷ 0 ∷ 7 ∷ []) 1 ≡ true
 unfolding suits
 suited = refl

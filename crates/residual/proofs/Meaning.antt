@@ -10,7 +10,7 @@ use Rattle.cedar.specs.Types.{Ty}
 use Rattle.cedar.specs.Residual.{tyOf, canErr, Stage, value, error, open′, view}
 use Rattle.sheet.specs.Forms.{tag}
 use Rattle.sheet.specs.Answer.{size}
-use Rattle.residual.specs.Rows.{leftRow, wordAt, stageAt, startAt}
+use Rattle.residual.specs.Rows.{ROW, WHAT, SOURCE, ROW-TYPE, VALUE-ROW, ERROR-ROW, LEFT-ROW, leftRow, wordAt, stageAt, startAt}
 use Rattle.residual.specs.Errs.{opErrs, blocksErr, rowErrs, errsBy, errs}
 use Rattle.residual.specs.Trees.{Res, rlit, rerr, rleft, Ress, rnil, rcons, flat, flats, countRes, suits, tyAt, treeOf, treesOf, Whole, whole-lit, whole-err, whole-left, Wholes, whole-none, whole-more}
 use Rattle.residual.specs.declared.Stage.the-variants.{Value, Error, Open}
@@ -45,33 +45,33 @@ module _ (ts : List Ty) (nodes : List (List ℕ)) where
   pub stage-is : {d : ℕ} (r : Res) → Whole ts nodes d r → (pre post : List ℕ)
       → stageAt (pre ++ (flat r ++ post)) (length pre + length (flat r)) ≡ stageFor (view (treeOf ts nodes r))
   unfolding stageAt rowOf treeOf
-  stage-is (rlit v y) w pre post = rw (res-word pre (rlit v y) post 0 (omega arith), res-word pre (rlit v y) post 1 (omega arith))
-  stage-is (rerr y) w pre post = rw (res-word pre (rerr y) post 0 (omega arith))
+  stage-is (rlit v y) w pre post = rw (res-word pre (rlit v y) post WHAT (omega arith), res-word pre (rlit v y) post SOURCE (omega arith))
+  stage-is (rerr y) w pre post = rw (res-word pre (rerr y) post WHAT (omega arith))
   stage-is (rleft n k y rs) (whole-left s ws) pre post =
       rw (
-        res-word pre (rleft n k y rs) post 0 (omega arith),
-        ne-eqb (2 + k) 0 (omega arith),
-        ne-eqb (2 + k) 1 (omega arith),
+        res-word pre (rleft n k y rs) post WHAT (omega arith),
+        ne-eqb (LEFT-ROW + k) VALUE-ROW (omega arith),
+        ne-eqb (LEFT-ROW + k) ERROR-ROW (omega arith),
         left-open (getD nodes n []) k (tyAt ts nodes y) (treesOf ts nodes rs) (suited ts nodes n rs s),
       )
 
   pub type-is : {d : ℕ} (r : Res) → Whole ts nodes d r → (pre post : List ℕ)
-      → tyAt ts nodes (wordAt (pre ++ (flat r ++ post)) (length pre + length (flat r)) 3) ≡ tyOf (treeOf ts nodes r)
+      → tyAt ts nodes (wordAt (pre ++ (flat r ++ post)) (length pre + length (flat r)) ROW-TYPE) ≡ tyOf (treeOf ts nodes r)
   unfolding rowOf treeOf
-  type-is (rlit v y) w pre post = rw (res-word pre (rlit v y) post 3 (omega arith))
-  type-is (rerr y) w pre post = rw (res-word pre (rerr y) post 3 (omega arith))
+  type-is (rlit v y) w pre post = rw (res-word pre (rlit v y) post ROW-TYPE (omega arith))
+  type-is (rerr y) w pre post = rw (res-word pre (rerr y) post ROW-TYPE (omega arith))
   type-is (rleft n k y rs) (whole-left s ws) pre post =
-      rw (res-word pre (rleft n k y rs) post 3 (omega arith)) (sym (left-typed (getD nodes n []) k (tyAt ts nodes y) (treesOf ts nodes rs) (suited ts nodes n rs s)))
+      rw (res-word pre (rleft n k y rs) post ROW-TYPE (omega arith)) (sym (left-typed (getD nodes n []) k (tyAt ts nodes y) (treesOf ts nodes rs) (suited ts nodes n rs s)))
 
   -- ---- errors
 
   lit-errs : (d v y : ℕ) (pre post : List ℕ) → errsBy nodes (pre ++ (flat (rlit v y) ++ post)) (suc d) (length pre + length (flat (rlit v y))) ≡ false
   unfolding errsBy rowErrs rowOf
-  lit-errs d v y pre post = rw (res-word pre (rlit v y) post 0 (omega arith))
+  lit-errs d v y pre post = rw (res-word pre (rlit v y) post WHAT (omega arith))
 
   err-errs : (d y : ℕ) (pre post : List ℕ) → errsBy nodes (pre ++ (flat (rerr y) ++ post)) (suc d) (length pre + length (flat (rerr y))) ≡ true
   unfolding errsBy rowErrs rowOf
-  err-errs d y pre post = rw (res-word pre (rerr y) post 0 (omega arith))
+  err-errs d y pre post = rw (res-word pre (rerr y) post WHAT (omega arith))
 
   or-cond : (o x : Bool) → cond o true x ≡ (o || x)
   or-cond true x = refl
@@ -87,11 +87,11 @@ module _ (ts : List Ty) (nodes : List (List ℕ)) where
   or-move false true x = refl
   or-move false false x = refl
 
-  opened : (l : List ℕ) (d e t n s p : ℕ) (b : Bool) → wordAt l e 0 ≡ suc (suc t) → wordAt l e 1 ≡ n → startAt l e ≡ s → e - 4 ≡ p → 4 ≤ e
+  opened : (l : List ℕ) (d e t n s p : ℕ) (b : Bool) → wordAt l e WHAT ≡ suc (suc t) → wordAt l e SOURCE ≡ n → startAt l e ≡ s → e - ROW ≡ p → ROW ≤ e
       → blocksErr (errsBy nodes l d) l s p ≡ b → errsBy nodes l (suc d) e ≡ (opErrs (tag (getD nodes n [])) || b)
   unfolding errsBy rowErrs
   opened l d e t n s p b w x y z f g =
-      rw (w, ne-eqb (suc (suc t)) 0 (omega arith), ne-eqb (suc (suc t)) 1 (omega arith), x, le-ltb e 4 f, y, z, g) (or-cond (opErrs (tag (getD nodes n []))) b)
+      rw (w, ne-eqb (suc (suc t)) VALUE-ROW (omega arith), ne-eqb (suc (suc t)) ERROR-ROW (omega arith), x, le-ltb e ROW f, y, z, g) (or-cond (opErrs (tag (getD nodes n []))) b)
 
   -- a node left: by its operation, or by the blocks before its row
   left-row : (d n k y : ℕ) (rs : Ress) (pre post : List ℕ) (b : Bool)
@@ -99,12 +99,12 @@ module _ (ts : List Ty) (nodes : List (List ℕ)) where
       → errsBy nodes (pre ++ (flat (rleft n k y rs) ++ post)) (suc d) (length pre + length (flat (rleft n k y rs))) ≡ (opErrs (tag (getD nodes n [])) || b)
   unfolding rowOf bodyOf
   left-row d n k y rs pre post b h =
-      let m : length (flat (rleft n k y rs)) ≡ length (flats rs) + 4 = flat-length (rleft n k y rs) in
-      let w : wordAt (pre ++ (flat (rleft n k y rs) ++ post)) (length pre + length (flat (rleft n k y rs))) 0 ≡ suc (suc k) = res-word pre (rleft n k y rs) post 0 (omega arith) ∙ two k in
+      let m : length (flat (rleft n k y rs)) ≡ length (flats rs) + ROW = flat-length (rleft n k y rs) in
+      let w : wordAt (pre ++ (flat (rleft n k y rs) ++ post)) (length pre + length (flat (rleft n k y rs))) WHAT ≡ suc (suc k) = res-word pre (rleft n k y rs) post WHAT (omega arith) ∙ two k in
       opened (pre ++ (flat (rleft n k y rs) ++ post)) d (length pre + length (flat (rleft n k y rs))) k n (length pre) (length pre + length (flats rs)) b
-      w (res-word pre (rleft n k y rs) post 1 (omega arith)) (res-start pre (rleft n k y rs) post) (omega arith) (omega arith) h
+      w (res-word pre (rleft n k y rs) post SOURCE (omega arith)) (res-start pre (rleft n k y rs) post) (omega arith) (omega arith) h
     where
-      two : (j : ℕ) → 2 + j ≡ suc (suc j)
+      two : (j : ℕ) → LEFT-ROW + j ≡ suc (suc j)
       two j = omega arith
 
   -- the blocks of children, up to one that ends before them
@@ -175,38 +175,38 @@ module _ (ts : List Ty) (nodes : List (List ℕ)) where
   unfolding errs
   can-error-is r w pre post = errs-is r w pre post
 
-  -- ---- rows: four words for each node of the tree
+  -- ---- a row for each node of the tree
 
-  left-rows : (n k y m : ℕ) (rs : Ress) → suits (getD nodes n []) (countRes rs) ≡ true → length (flats rs) ≡ m → m ≡ 4 * sizeAll (treesOf ts nodes rs)
-      → length (flat (rleft n k y rs)) ≡ 4 * size (treeOf ts nodes (rleft n k y rs))
+  left-rows : (n k y m : ℕ) (rs : Ress) → suits (getD nodes n []) (countRes rs) ≡ true → length (flats rs) ≡ m → m ≡ ROW * sizeAll (treesOf ts nodes rs)
+      → length (flat (rleft n k y rs)) ≡ ROW * size (treeOf ts nodes (rleft n k y rs))
   unfolding treeOf bodyOf
   left-rows n k y m rs s e f =
       let z = flat-length (rleft n k y rs) in
       let w = left-size (getD nodes n []) k (tyAt ts nodes y) (treesOf ts nodes rs) (suited ts nodes n rs s) in
       omega (arith, z, w, e, f)
 
-  more-rows : (r : Res) (rs : Ress) → length (flat r) ≡ 4 * size (treeOf ts nodes r) → length (flats rs) ≡ 4 * sizeAll (treesOf ts nodes rs) → length (flats (rcons r rs)) ≡ 4 * sizeAll (treesOf ts nodes (rcons r rs))
+  more-rows : (r : Res) (rs : Ress) → length (flat r) ≡ ROW * size (treeOf ts nodes r) → length (flats rs) ≡ ROW * sizeAll (treesOf ts nodes rs) → length (flats (rcons r rs)) ≡ ROW * sizeAll (treesOf ts nodes (rcons r rs))
   unfolding flats treesOf sizeAll
   more-rows r rs e f = length-append (flat r) (flats rs) ∙ omega (arith, e, f)
 
-  lit-rows : (v y : ℕ) → length (flat (rlit v y)) ≡ 4 * size (treeOf ts nodes (rlit v y))
+  lit-rows : (v y : ℕ) → length (flat (rlit v y)) ≡ ROW * size (treeOf ts nodes (rlit v y))
   unfolding flat treeOf
   lit-rows v y = refl
 
-  err-rows : (y : ℕ) → length (flat (rerr y)) ≡ 4 * size (treeOf ts nodes (rerr y))
+  err-rows : (y : ℕ) → length (flat (rerr y)) ≡ ROW * size (treeOf ts nodes (rerr y))
   unfolding flat treeOf
   err-rows y = refl
 
-  no-rows : length (flats rnil) ≡ 4 * sizeAll (treesOf ts nodes rnil)
+  no-rows : length (flats rnil) ≡ ROW * sizeAll (treesOf ts nodes rnil)
   unfolding flats treesOf sizeAll
   no-rows = refl
 
   mutual
-    pub rows-are : {d : ℕ} (r : Res) → Whole ts nodes d r → length (flat r) ≡ 4 * size (treeOf ts nodes r)
+    pub rows-are : {d : ℕ} (r : Res) → Whole ts nodes d r → length (flat r) ≡ ROW * size (treeOf ts nodes r)
     rows-are (rlit v y) w = lit-rows v y
     rows-are (rerr y) w = err-rows y
     rows-are (rleft n k y rs) (whole-left s ws) = left-rows n k y (length (flats rs)) rs s refl (all-rows rs ws)
 
-    all-rows : {d : ℕ} (rs : Ress) → Wholes ts nodes d rs → length (flats rs) ≡ 4 * sizeAll (treesOf ts nodes rs)
+    all-rows : {d : ℕ} (rs : Ress) → Wholes ts nodes d rs → length (flats rs) ≡ ROW * sizeAll (treesOf ts nodes rs)
     all-rows rnil w = no-rows
     all-rows (rcons r rs) (whole-more w ws) = more-rows r rs (rows-are r w) (all-rows rs ws)

@@ -9,7 +9,7 @@ use Rattle.words.specs.Log.{Room, Appended}
 use Rattle.words.proofs.Logs.{log-length, append-holds, append-length, appended-is}
 use Rattle.cedar.specs.Types.{Ty}
 use Rattle.cedar.specs.Residual.{tyOf, canErr, view}
-use Rattle.residual.specs.Rows.{litRow, errRow, leftRow, wordAt, stageAt, startAt}
+use Rattle.residual.specs.Rows.{ROW, ROW-TYPE, litRow, errRow, leftRow, wordAt, stageAt, startAt}
 use Rattle.residual.specs.Errs.{errs}
 use Rattle.residual.specs.Trees.{Res, rlit, rerr, rleft, Ress, flat, flats, tyAt, treeOf, Whole}
 use Rattle.residual.proofs.Blocks.{res-start}
@@ -31,17 +31,17 @@ module _ {b b′ : List ℕ} {bt e : ℕ} {row : List ℕ} (h : Room b bt) (w : 
       long = omega (arith, append-length w, h .long)
 
 module _ {b b′ : List ℕ} {bt e : ℕ} (h : Room b bt) where
-  pub value-pushed : (v y : ℕ) → Appended b bt (litRow v y) b′ e → bt + 4 ≤ 16384 → take e b′ ≡ take bt b ++ flat (rlit v y)
+  pub value-pushed : (v y : ℕ) → Appended b bt (litRow v y) b′ e → bt + ROW ≤ 16384 → take e b′ ≡ take bt b ++ flat (rlit v y)
   unfolding flat
   value-pushed v y w fits = row-pushed h w fits
 
-  pub error-pushed : (y : ℕ) → Appended b bt (errRow y) b′ e → bt + 4 ≤ 16384 → take e b′ ≡ take bt b ++ flat (rerr y)
+  pub error-pushed : (y : ℕ) → Appended b bt (errRow y) b′ e → bt + ROW ≤ 16384 → take e b′ ≡ take bt b ++ flat (rerr y)
   unfolding flat
   error-pushed y w fits = row-pushed h w fits
 
   -- over the blocks from start on
   pub left-pushed : (pre : List ℕ) (rs : Ress) (start n k y : ℕ) → take bt b ≡ pre ++ flats rs → start ≡ length pre
-      → Appended b bt (leftRow n k (bt - start) y) b′ e → bt + 4 ≤ 16384 → take e b′ ≡ pre ++ flat (rleft n k y rs)
+      → Appended b bt (leftRow n k (bt - start) y) b′ e → bt + ROW ≤ 16384 → take e b′ ≡ pre ++ flat (rleft n k y rs)
   unfolding flat
   left-pushed pre rs start n k y t s w fits =
       let l : length pre + length (flats rs) ≡ bt = sym (length-append pre (flats rs)) ∙ ap length (sym t) ∙ log-length b bt h in
@@ -68,8 +68,8 @@ module _ (b : List ℕ) (e : ℕ) (pre : List ℕ) (r : Res) (t : take e b ≡ p
     pub block-stage : {d : ℕ} → Whole ts nodes d r → stageAt b e ≡ stageFor (view (treeOf ts nodes r))
     block-stage w = at-block stageAt ∙ stage-is ts nodes r w pre (drop e b)
 
-    pub block-type : {d : ℕ} → Whole ts nodes d r → tyAt ts nodes (wordAt b e 3) ≡ tyOf (treeOf ts nodes r)
-    block-type w = ap (tyAt ts nodes) (at-block (λ x i. wordAt x i 3)) ∙ type-is ts nodes r w pre (drop e b)
+    pub block-type : {d : ℕ} → Whole ts nodes d r → tyAt ts nodes (wordAt b e ROW-TYPE) ≡ tyOf (treeOf ts nodes r)
+    block-type w = ap (tyAt ts nodes) (at-block (λ x i. wordAt x i ROW-TYPE)) ∙ type-is ts nodes r w pre (drop e b)
 
     pub block-errs : Whole ts nodes 64 r → errs nodes b e ≡ canErr (treeOf ts nodes r)
     block-errs w = at-block (errs nodes) ∙ can-error-is ts nodes r w pre (drop e b)

@@ -10,64 +10,65 @@ use lib.Dec.{leb, ltb}
 use lib.ListN.{getD}
 use Rattle.sheet.specs.Forms.{tag}
 use Rattle.residual.specs.declared.Stage.the-variants.{Value, Error, Open}
-use Rattle.residual.specs.Rows.{wordAt, stageAt, startAt}
+use Rattle.forms.specs.Tags.{ERR, ADD, SUB, MUL, GETTAG, GET, NEG}
+use Rattle.residual.specs.Rows.{ROW, WHAT, SOURCE, WORDS, VALUE-ROW, ERROR-ROW, wordAt, stageAt, startAt}
 use Rattle.residual.specs.Errs.{opErrs, blocksBy, blocksErr, rowErrs, errsBy, errs}
 
 -- ---- words of a row
 
-pub word-low : (l : List ℕ) (e j : ℕ) → e < 4 → 0 ≡ wordAt l e j
+pub word-low : (l : List ℕ) (e j : ℕ) → e < ROW → 0 ≡ wordAt l e j
 unfolding wordAt
-word-low l e j h = rw (lt-ltb e 4 h)
+word-low l e j h = rw (lt-ltb e ROW h)
 
-pub word-in : (l : List ℕ) (e j x : ℕ) → 4 ≤ e → x ≡ getD l (e - 4 + j) 0 → x ≡ wordAt l e j
+pub word-in : (l : List ℕ) (e j x : ℕ) → ROW ≤ e → x ≡ getD l (e - ROW + j) 0 → x ≡ wordAt l e j
 unfolding wordAt
-word-in l e j x h p = rw (le-ltb e 4 h) p
+word-in l e j x h p = rw (le-ltb e ROW h) p
 
-module _ (l : List ℕ) (e t x : ℕ) (et : t ≡ wordAt l e 0) (ex : x ≡ wordAt l e 1) where
-  pub stage-value : t ≡ 0 → Value x ≡ stageAt l e
+module _ (l : List ℕ) (e t x : ℕ) (et : t ≡ wordAt l e WHAT) (ex : x ≡ wordAt l e SOURCE) where
+  pub stage-value : t ≡ VALUE-ROW → Value x ≡ stageAt l e
   unfolding stageAt
-  stage-value z = rw (← et, ← ex, eq-eqb t 0 z)
+  stage-value z = rw (← et, ← ex, eq-eqb t VALUE-ROW z)
 
-  pub stage-error : t ≡ 1 → Error ≡ stageAt l e
+  pub stage-error : t ≡ ERROR-ROW → Error ≡ stageAt l e
   unfolding stageAt
   stage-error z = rw (← et, z)
 
-  pub stage-open : (t ≡ 0 → ⊥) → (t ≡ 1 → ⊥) → Open ≡ stageAt l e
+  pub stage-open : (t ≡ VALUE-ROW → ⊥) → (t ≡ ERROR-ROW → ⊥) → Open ≡ stageAt l e
   unfolding stageAt
-  stage-open n m = rw (← et, ne-eqb t 0 n, ne-eqb t 1 m)
+  stage-open n m = rw (← et, ne-eqb t VALUE-ROW n, ne-eqb t ERROR-ROW m)
 
 pub start-low : (l : List ℕ) (e : ℕ) → startAt l e ≤ e
 unfolding startAt
 start-low l e = omega arith
 
-module _ (l : List ℕ) (e n : ℕ) (en : n ≡ wordAt l e 2) where
-  pub start-none : n < 4 → e < 4 → 0 ≡ startAt l e
+module _ (l : List ℕ) (e n : ℕ) (en : n ≡ wordAt l e WORDS) where
+  pub start-none : n < ROW → e < ROW → 0 ≡ startAt l e
   unfolding startAt
-  start-none h k = rw (← en, lt-ltb n 4 h) (omega arith)
+  start-none h k = rw (← en, lt-ltb n ROW h) (omega arith)
 
-  pub start-row : n < 4 → 4 ≤ e → e - 4 ≡ startAt l e
+  pub start-row : n < ROW → ROW ≤ e → e - ROW ≡ startAt l e
   unfolding startAt
-  start-row h k = rw (← en, lt-ltb n 4 h)
+  start-row h k = rw (← en, lt-ltb n ROW h)
 
-  pub start-over : 4 ≤ n → e < n → 0 ≡ startAt l e
+  pub start-over : ROW ≤ n → e < n → 0 ≡ startAt l e
   unfolding startAt
-  start-over h k = rw (← en, le-ltb n 4 h) (omega arith)
+  start-over h k = rw (← en, le-ltb n ROW h) (omega arith)
 
-  pub start-in : 4 ≤ n → n ≤ e → e - n ≡ startAt l e
+  pub start-in : ROW ≤ n → n ≤ e → e - n ≡ startAt l e
   unfolding startAt
-  start-in h k = rw (← en, le-ltb n 4 h)
+  start-in h k = rw (← en, le-ltb n ROW h)
 
 -- a block has words
 pub start-less : (l : List ℕ) (p q : ℕ) → 0 < p → q ≡ startAt l p → q < p
 unfolding startAt
-start-less l p q h e = go (decLt (wordAt l p 2) 4)
+start-less l p q h e = go (decLt (wordAt l p WORDS) ROW)
   where
-    go : Dec (wordAt l p 2 < 4) → q < p
+    go : Dec (wordAt l p WORDS < ROW) → q < p
     go (yes k) =
-        let z : q ≡ p - 4 = e ∙ rw (lt-ltb (wordAt l p 2) 4 k) in
+        let z : q ≡ p - ROW = e ∙ rw (lt-ltb (wordAt l p WORDS) ROW k) in
         omega arith
     go (no k) =
-        let z : q ≡ p - wordAt l p 2 = e ∙ rw (le-ltb (wordAt l p 2) 4 (omega arith)) in
+        let z : q ≡ p - wordAt l p WORDS = e ∙ rw (le-ltb (wordAt l p WORDS) ROW (omega arith)) in
         omega arith
 
 pub look-less : (l : List ℕ) (start p q : ℕ) → start < p → q ≡ startAt l p → q < p
@@ -78,9 +79,9 @@ look-less l start p q h e = start-less l p q (omega arith) e
 pub op-errs : (n : ℕ) → opErrs n ≡ true → (t : ℕ) → t ≡ n → true ≡ opErrs t
 op-errs n p t e = sym (ap opErrs e ∙ p)
 
-pub op-no : (t : ℕ) → (t ≡ 22 → ⊥) → (t ≡ 29 → ⊥) → (t ≡ 30 → ⊥) → (t ≡ 31 → ⊥) → (t ≡ 33 → ⊥) → (t ≡ 41 → ⊥) → (t ≡ 45 → ⊥) → false ≡ opErrs t
+pub op-no : (t : ℕ) → (t ≡ ERR → ⊥) → (t ≡ ADD → ⊥) → (t ≡ SUB → ⊥) → (t ≡ MUL → ⊥) → (t ≡ GETTAG → ⊥) → (t ≡ GET → ⊥) → (t ≡ NEG → ⊥) → false ≡ opErrs t
 unfolding opErrs
-op-no t a b c d e f g = rw (ne-eqb t 22 a, ne-eqb t 29 b, ne-eqb t 30 c, ne-eqb t 31 d, ne-eqb t 33 e, ne-eqb t 41 f, ne-eqb t 45 g)
+op-no t a b c d e f g = rw (ne-eqb t ERR a, ne-eqb t ADD b, ne-eqb t SUB c, ne-eqb t MUL d, ne-eqb t GETTAG e, ne-eqb t GET f, ne-eqb t NEG g)
 
 -- ---- blocks
 
@@ -146,31 +147,31 @@ unfolding errsBy
 by-level nodes l zero e n = absurd (n refl)
 by-level nodes l (suc d) e n = let z : d ≡ suc d - 1 = omega arith in ap (λ (x : ℕ). rowErrs (errsBy nodes l x) nodes l e) z
 
-module _ (nodes : List (List ℕ)) (l : List ℕ) (d e : ℕ) (h : d ≡ 0 → ⊥) (t : ℕ) (et : t ≡ wordAt l e 0) where
+module _ (nodes : List (List ℕ)) (l : List ℕ) (d e : ℕ) (h : d ≡ 0 → ⊥) (t : ℕ) (et : t ≡ wordAt l e WHAT) where
   level : errsBy nodes l d e ≡ rowErrs (errsBy nodes l (d - 1)) nodes l e
   level = by-level nodes l d e h
 
-  pub errs-value : t ≡ 0 → false ≡ errsBy nodes l d e
+  pub errs-value : t ≡ VALUE-ROW → false ≡ errsBy nodes l d e
   unfolding rowErrs
   errs-value z = sym (level ∙ rw (← et, z))
 
-  pub errs-error : t ≡ 1 → true ≡ errsBy nodes l d e
+  pub errs-error : t ≡ ERROR-ROW → true ≡ errsBy nodes l d e
   unfolding rowErrs
   errs-error z = sym (level ∙ rw (← et, z))
 
-  module _ (n : t ≡ 0 → ⊥) (m : t ≡ 1 → ⊥) (x : ℕ) (ex : x ≡ wordAt l e 1) (r : List ℕ) (er : r ≡ getD nodes x []) (g : ℕ) (eg : g ≡ tag r) (o : Bool) (eo : o ≡ opErrs g) where
-    open-row : rowErrs (errsBy nodes l (d - 1)) nodes l e ≡ cond o true (cond (ltb e 4) false (blocksErr (errsBy nodes l (d - 1)) l (startAt l e) (e - 4)))
+  module _ (n : t ≡ VALUE-ROW → ⊥) (m : t ≡ ERROR-ROW → ⊥) (x : ℕ) (ex : x ≡ wordAt l e SOURCE) (r : List ℕ) (er : r ≡ getD nodes x []) (g : ℕ) (eg : g ≡ tag r) (o : Bool) (eo : o ≡ opErrs g) where
+    open-row : rowErrs (errsBy nodes l (d - 1)) nodes l e ≡ cond o true (cond (ltb e ROW) false (blocksErr (errsBy nodes l (d - 1)) l (startAt l e) (e - ROW)))
     unfolding rowErrs
-    open-row = rw (← et, ne-eqb t 0 n, ne-eqb t 1 m, ← ex, ← er, ← eg, ← eo)
+    open-row = rw (← et, ne-eqb t VALUE-ROW n, ne-eqb t ERROR-ROW m, ← ex, ← er, ← eg, ← eo)
 
     pub errs-op : o ≡ true → true ≡ errsBy nodes l d e
     errs-op z = sym (level ∙ open-row ∙ rw z)
 
-    pub errs-short : o ≡ false → e < 4 → false ≡ errsBy nodes l d e
-    errs-short z k = sym (level ∙ open-row ∙ rw (z, lt-ltb e 4 k))
+    pub errs-short : o ≡ false → e < ROW → false ≡ errsBy nodes l d e
+    errs-short z k = sym (level ∙ open-row ∙ rw (z, lt-ltb e ROW k))
 
-    pub errs-kids : o ≡ false → 4 ≤ e → (s : ℕ) → s ≡ startAt l e → (b : Bool) → b ≡ blocksErr (errsBy nodes l (d - 1)) l s (e - 4) → b ≡ errsBy nodes l d e
-    errs-kids z k s es b eb = eb ∙ rw es (sym (level ∙ open-row ∙ rw (z, le-ltb e 4 k)))
+    pub errs-kids : o ≡ false → ROW ≤ e → (s : ℕ) → s ≡ startAt l e → (b : Bool) → b ≡ blocksErr (errsBy nodes l (d - 1)) l s (e - ROW) → b ≡ errsBy nodes l d e
+    errs-kids z k s es b eb = eb ∙ rw es (sym (level ∙ open-row ∙ rw (z, le-ltb e ROW k)))
 
 pub errs-top : (nodes : List (List ℕ)) (l : List ℕ) (e : ℕ) (b : Bool) → b ≡ errsBy nodes l 64 e → b ≡ errs nodes l e
 unfolding errs

@@ -5,11 +5,11 @@ use Prim.Native.Nat.{ℕ, zero, suc, _-_}
 use lib.Dec.{eqb, leb, ltb}
 use lib.ListN.{getD}
 use Rattle.sheet.specs.Forms.{tag}
-use Rattle.residual.specs.Rows.{wordAt, startAt}
+use Rattle.forms.specs.Tags.{ERR, ADD, SUB, MUL, GETTAG, GET, NEG}
+use Rattle.residual.specs.Rows.{ROW, WHAT, SOURCE, VALUE-ROW, ERROR-ROW, wordAt, startAt}
 
--- the tags of err, add, sub, mul, gettag, get and neg
 unfoldable pub opErrs : ℕ → Bool
-opErrs t = eqb t 22 || (eqb t 29 || (eqb t 30 || (eqb t 31 || (eqb t 33 || (eqb t 41 || eqb t 45)))))
+opErrs t = eqb t ERR || (eqb t ADD || (eqb t SUB || (eqb t MUL || (eqb t GETTAG || (eqb t GET || eqb t NEG)))))
 
 -- the blocks from start to p, the last one first; n blocks at most
 unfoldable pub blocksBy : (ℕ → Bool) → List ℕ → ℕ → ℕ → ℕ → Bool
@@ -23,9 +23,9 @@ blocksErr f l start p = blocksBy f l start p p
 -- a row, where f says whether the block that ends at a place can err
 unfoldable pub rowErrs : (ℕ → Bool) → List (List ℕ) → List ℕ → ℕ → Bool
 rowErrs f nodes l e =
-    cond (eqb (wordAt l e 0) 0) false
-    (cond (eqb (wordAt l e 0) 1) true
-    (cond (opErrs (tag (getD nodes (wordAt l e 1) []))) true (cond (ltb e 4) false (blocksErr f l (startAt l e) (e - 4)))))
+    cond (eqb (wordAt l e WHAT) VALUE-ROW) false
+    (cond (eqb (wordAt l e WHAT) ERROR-ROW) true
+    (cond (opErrs (tag (getD nodes (wordAt l e SOURCE) []))) true (cond (ltb e ROW) false (blocksErr f l (startAt l e) (e - ROW)))))
 
 -- d levels of rows
 unfoldable pub errsBy : List (List ℕ) → List ℕ → ℕ → ℕ → Bool

@@ -146,23 +146,23 @@ tags-as a k = go (eqb (getD (getD (rowsOf a SHAPE) k []) 2 0) mark)
     go true = refl
     go false = refl
 
-module _ (a : List ℕ) (y z : ℕ) (f : F.Found) (ef : f ≡ found (kindAt a y)) where
+module _ (a : List ℕ) (y : ℕ) (f : F.Found) (ef : f ≡ found (kindAt a y)) where
   abbrev H : ℕ → Option Bool
   H k = falseIf (ordinary (schemaAt a .shape k) && undeclared (schemaAt a .shape k .tags))
 
-  pub tag-other : f ≡ F.the-variants.Undeclared → ruleIn Silent ≡ relRule (schemaAt a) rhastag (tyAt a y) (tyAt a z)
+  pub tag-other : f ≡ F.the-variants.Undeclared → ruleIn Silent ≡ relRule (schemaAt a) rhastag (tyAt a y) tstr
   tag-other e = sym (kind-none a y f none H ef e)
 
   module _ (k : ℕ) (b : Bool) (e : f ≡ F.the-variants.As k) (eb : b ≡ actionAt a k) where
-    pub tag-action : b ≡ true → ruleIn Silent ≡ relRule (schemaAt a) rhastag (tyAt a y) (tyAt a z)
+    pub tag-action : b ≡ true → ruleIn Silent ≡ relRule (schemaAt a) rhastag (tyAt a y) tstr
     tag-action t = sym (kind-some a y f none H k ef e ∙ rw (action-as a k, ← eb, t))
 
     module _ (x : ℕ) (t : b ≡ false) (ex : x ≡ tagTypeAt a k) where
-      pub tag-none : x ≡ 10000 → ruleIn (Says false) ≡ relRule (schemaAt a) rhastag (tyAt a y) (tyAt a z)
-      tag-none m = sym (kind-some a y f none H k ef e ∙ rw (action-as a k, ← eb, t, tags-as a k, ← ex, eq-eqb x 10000 m))
+      pub tag-none : x ≡ mark → ruleIn (Says false) ≡ relRule (schemaAt a) rhastag (tyAt a y) tstr
+      tag-none m = sym (kind-some a y f none H k ef e ∙ rw (action-as a k, ← eb, t, tags-as a k, ← ex, eq-eqb x mark m))
 
-      pub tag-some : (x ≡ 10000 → ⊥) → ruleIn Silent ≡ relRule (schemaAt a) rhastag (tyAt a y) (tyAt a z)
-      tag-some m = sym (kind-some a y f none H k ef e ∙ rw (action-as a k, ← eb, t, tags-as a k, ← ex, ne-eqb x 10000 m))
+      pub tag-some : (x ≡ mark → ⊥) → ruleIn Silent ≡ relRule (schemaAt a) rhastag (tyAt a y) tstr
+      tag-some m = sym (kind-some a y f none H k ef e ∙ rw (action-as a k, ← eb, t, tags-as a k, ← ex, ne-eqb x mark m))
 
 -- ---- `has`
 

@@ -8,18 +8,18 @@ use lib.Dec.{eqb}
 use lib.ListN.{getD, drop}
 use Rattle.cedar.specs.Value.{onSome}
 use Rattle.cedar.specs.Numbered.{rEnt, rSet, memN, pickN, entryOf, isSome}
-use Rattle.sheet.specs.Forms.{tag, items, mark, TYPE, SHAPE, VALUE}
+use Rattle.sheet.specs.Forms.{tag, items, mark, firstType, firstNode, TYPE, SHAPE, VALUE, PRINCIPAL, ACTION, RESOURCE, NODE}
 use Rattle.sheet.specs.State.{State, count, Declared, TypeRow, bool, long, string, entity, set′, record′, declareds, typeRow, entriesOf, valueRow}
 use Rattle.sheet.specs.Typing.{onEntity, onSetOf, onRecord, isBool, isLong, isString, declaredIn, requiredThere, allIn, allEntries, entriesFit, attributes, targetKind, pathTyped, typeOfNode, tagsOf, isAction, noneDeclared, argTypes, shapeTyped, contextTyped, entityTyped, varTyped, boolAt, longIn, stringAt, entityAt, setAt, twoBools, compared, arithmetic, twoSets, rules, typed, fitsIn}
 use Rattle.table.specs.Layout.{rowsOf, held, linesHeld}
 use Rattle.table.proofs.Rows.{count-rows}
 use Rattle.fits.specs.Fit.{full, hasIn, completeIn, declaredBy, Answered}
 use Rattle.fits.proofs.Sorts.{typeTable}
-use Rattle.typing.specs.Rules.{sortNumber, sortAt, kindAt, elementAt, recordAt, attributeAt, bareAt, attributeTypeAt, tagTypeAt, isAboveAt, actionAt, attributesAt, targetAt, requestAt, nodeTypeAt, pathFrom, allOf, argsFit, childAt, twoSorts, threeSorts, requestIs, contextIsAt, varRule, eqRule, inRule, gettagRule, containsRule, twoSetsRule, ifRule, getRule, hasRule, haspathRule, setRule, recordRule, nodeRules, nodeRule, shapeRule, contextRule, policyRule, attributesRule, tagsRule, ancestorRule, ancestorsRule, entityRule, typedRule, Typed}
+use Rattle.typing.specs.Rules.{BOOL-SORT, LONG-SORT, STRING-SORT, ENTITY-SORT, SET-SORT, sortNumber, sortAt, kindAt, elementAt, recordAt, attributeAt, bareAt, attributeTypeAt, tagTypeAt, isAboveAt, actionAt, attributesAt, targetAt, requestAt, nodeTypeAt, pathFrom, allOf, argsFit, childAt, twoSorts, threeSorts, requestIs, contextIsAt, varRule, eqRule, inRule, gettagRule, containsRule, twoSetsRule, ifRule, getRule, hasRule, haspathRule, setRule, recordRule, nodeRules, nodeRule, shapeRule, contextRule, policyRule, attributesRule, tagsRule, ancestorRule, ancestorsRule, entityRule, typedRule, Typed}
 
 -- ---- tests on a type are tests on its sort
 
-sort-bool : (T : TypeRow) → isBool T ≡ eqb (sortNumber T) 0
+sort-bool : (T : TypeRow) → isBool T ≡ eqb (sortNumber T) BOOL-SORT
 sort-bool bool = refl
 sort-bool long = refl
 sort-bool string = refl
@@ -27,7 +27,7 @@ sort-bool (entity k) = refl
 sort-bool (set′ t) = refl
 sort-bool (record′ ds) = refl
 
-sort-long : (T : TypeRow) → isLong T ≡ eqb (sortNumber T) 1
+sort-long : (T : TypeRow) → isLong T ≡ eqb (sortNumber T) LONG-SORT
 sort-long bool = refl
 sort-long long = refl
 sort-long string = refl
@@ -35,7 +35,7 @@ sort-long (entity k) = refl
 sort-long (set′ t) = refl
 sort-long (record′ ds) = refl
 
-sort-string : (T : TypeRow) → isString T ≡ eqb (sortNumber T) 2
+sort-string : (T : TypeRow) → isString T ≡ eqb (sortNumber T) STRING-SORT
 sort-string bool = refl
 sort-string long = refl
 sort-string string = refl
@@ -43,7 +43,7 @@ sort-string (entity k) = refl
 sort-string (set′ t) = refl
 sort-string (record′ ds) = refl
 
-sort-entity : (T : TypeRow) → onEntity false T (λ k. true) ≡ eqb (sortNumber T) 3
+sort-entity : (T : TypeRow) → onEntity false T (λ k. true) ≡ eqb (sortNumber T) ENTITY-SORT
 sort-entity bool = refl
 sort-entity long = refl
 sort-entity string = refl
@@ -51,7 +51,7 @@ sort-entity (entity k) = refl
 sort-entity (set′ t) = refl
 sort-entity (record′ ds) = refl
 
-sort-set : (T : TypeRow) → onSetOf false T (λ e. true) ≡ eqb (sortNumber T) 4
+sort-set : (T : TypeRow) → onSetOf false T (λ e. true) ≡ eqb (sortNumber T) SET-SORT
 sort-set bool = refl
 sort-set long = refl
 sort-set string = refl
@@ -107,7 +107,7 @@ on-attributes (record′ ds) p q g h f F e u = e
 -- a record type has the attributes of its row q; F: a test on the type's number, f: on its attributes
 module _ (q : List ℕ) (z : ℕ) (f : List Declared → Bool) (F : ℕ → Bool) (e : F z ≡ f (declareds (items q))) where
   on-record : onRecord false (typeRow q) f ≡ onSome false (onRecord none (typeRow q) (λ ds. some z)) F
-  on-record = go (tag q - 3)
+  on-record = go (tag q - firstType)
     where
       go : (j : ℕ) → onRecord false (getD (typeTable q) j bool) f ≡ onSome false (onRecord none (getD (typeTable q) j bool) (λ ds. some z)) F
       go zero = refl
@@ -119,7 +119,7 @@ module _ (q : List ℕ) (z : ℕ) (f : List Declared → Bool) (F : ℕ → Bool
       go (suc (suc (suc (suc (suc (suc j)))))) = refl
 
   on-records : onSome false (onRecord none (typeRow q) some) f ≡ onSome false (onRecord none (typeRow q) (λ ds. some z)) F
-  on-records = go (tag q - 3)
+  on-records = go (tag q - firstType)
     where
       go : (j : ℕ) → onSome false (onRecord none (getD (typeTable q) j bool) some) f ≡ onSome false (onRecord none (getD (typeTable q) j bool) (λ ds. some z)) F
       go zero = refl
@@ -155,7 +155,7 @@ module _ (sheet a c r : List ℕ) where
 
   -- the type of the node that word i names
   abbrev K : ℕ → ℕ
-  K i = getD (getD (rowsOf a 11) (getD r i 0) []) 1 0
+  K i = getD (getD (rowsOf a NODE) (getD r i 0) []) 1 0
 
   abbrev own : ℕ
   own = getD r 1 0
@@ -195,15 +195,15 @@ module _ (sheet a c r : List ℕ) where
   args-as f (t ∷ n ∷ l) = λ i. f t (nodeTypeAt a n) && args-as f l i
 
   -- the sorts of a node's type and of its children's
-  bools-as : twoBools s r ≡ threeSorts a r 0 0 0
+  bools-as : twoBools s r ≡ threeSorts a r BOOL-SORT BOOL-SORT BOOL-SORT
   unfolding held linesHeld threeSorts twoSorts sortAt childAt nodeTypeAt
   bools-as = λ i. sort-bool (T own) i && sort-bool (T (K 2)) i && sort-bool (T (K 3)) i
 
-  compared-as : compared s r ≡ threeSorts a r 0 1 1
+  compared-as : compared s r ≡ threeSorts a r BOOL-SORT LONG-SORT LONG-SORT
   unfolding held linesHeld threeSorts twoSorts sortAt childAt nodeTypeAt
   compared-as = λ i. sort-bool (T own) i && sort-long (T (K 2)) i && sort-long (T (K 3)) i
 
-  arithmetic-as : arithmetic s r ≡ threeSorts a r 1 1 1
+  arithmetic-as : arithmetic s r ≡ threeSorts a r LONG-SORT LONG-SORT LONG-SORT
   unfolding held linesHeld threeSorts twoSorts sortAt childAt nodeTypeAt
   arithmetic-as = λ i. sort-long (T own) i && sort-long (T (K 2)) i && sort-long (T (K 3)) i
 
@@ -213,7 +213,7 @@ module _ (sheet a c r : List ℕ) where
 
   var-as : varTyped s own (getD r 2 0) ≡ varRule a r
   unfolding held linesHeld varRule requestIs contextIsAt kindAt requestAt
-  var-as = λ i. getD (is 7 i ∷ is 8 i ∷ is 9 i ∷ contextIsAt a r ∷ []) (getD r 2 0) (contextIsAt a r)
+  var-as = λ i. getD (is PRINCIPAL i ∷ is ACTION i ∷ is RESOURCE i ∷ contextIsAt a r ∷ []) (getD r 2 0) (contextIsAt a r)
     where
       is : (k : ℕ) → onEntity false (T own) (λ e. eqb e (getD (getD (rowsOf a k) 0 []) 1 0)) ≡ requestIs a r k
       is k = on-kind (T own) (λ e. eqb e (getD (getD (rowsOf a k) 0 []) 1 0))
@@ -230,7 +230,7 @@ module _ (sheet a c r : List ℕ) where
   unfolding held linesHeld gettagRule sortAt childAt nodeTypeAt kindAt tagTypeAt
   gettag-as = λ i. sort-string (T (K 3)) i && on-kind (T (K 2)) (λ k. eqb (tagTypeAt a k) own) i
 
-  hastag-as : (boolAt s r own && entityAt s r (K 2) && stringAt s r (K 3)) ≡ threeSorts a r 0 3 2
+  hastag-as : (boolAt s r own && entityAt s r (K 2) && stringAt s r (K 3)) ≡ threeSorts a r BOOL-SORT ENTITY-SORT STRING-SORT
   unfolding held linesHeld threeSorts twoSorts sortAt childAt nodeTypeAt
   hastag-as = λ i. sort-bool (T own) i && sort-entity (T (K 2)) i && sort-string (T (K 3)) i
 
@@ -242,23 +242,23 @@ module _ (sheet a c r : List ℕ) where
   unfolding held linesHeld ifRule sortAt childAt nodeTypeAt
   if-as = λ i. sort-bool (T (K 2)) i && eqb (K 3) own && eqb (K 4) own
 
-  is-as : (boolAt s r own && entityAt s r (K 2)) ≡ twoSorts a r 0 3
+  is-as : (boolAt s r own && entityAt s r (K 2)) ≡ twoSorts a r BOOL-SORT ENTITY-SORT
   unfolding held linesHeld twoSorts sortAt childAt nodeTypeAt
   is-as = λ i. sort-bool (T own) i && sort-entity (T (K 2)) i
 
-  like-as : (boolAt s r own && stringAt s r (K 2)) ≡ twoSorts a r 0 2
+  like-as : (boolAt s r own && stringAt s r (K 2)) ≡ twoSorts a r BOOL-SORT STRING-SORT
   unfolding held linesHeld twoSorts sortAt childAt nodeTypeAt
   like-as = λ i. sort-bool (T own) i && sort-string (T (K 2)) i
 
-  not-as : (boolAt s r own && boolAt s r (K 2)) ≡ twoSorts a r 0 0
+  not-as : (boolAt s r own && boolAt s r (K 2)) ≡ twoSorts a r BOOL-SORT BOOL-SORT
   unfolding held linesHeld twoSorts sortAt childAt nodeTypeAt
   not-as = λ i. sort-bool (T own) i && sort-bool (T (K 2)) i
 
-  neg-as : (longIn s r own && longIn s r (K 2)) ≡ twoSorts a r 1 1
+  neg-as : (longIn s r own && longIn s r (K 2)) ≡ twoSorts a r LONG-SORT LONG-SORT
   unfolding held linesHeld twoSorts sortAt childAt nodeTypeAt
   neg-as = λ i. sort-long (T own) i && sort-long (T (K 2)) i
 
-  empty-as : (boolAt s r own && setAt s r (K 2)) ≡ twoSorts a r 0 4
+  empty-as : (boolAt s r own && setAt s r (K 2)) ≡ twoSorts a r BOOL-SORT SET-SORT
   unfolding held linesHeld twoSorts sortAt childAt nodeTypeAt
   empty-as = λ i. sort-bool (T own) i && sort-set (T (K 2)) i
 
@@ -293,7 +293,7 @@ module _ (sheet a c r : List ℕ) where
   rules-as : rules s r ≡ nodeRules a r
   unfolding held linesHeld nodeRules full
   rules-as = λ i.
-      fitsIn (rowsOf a 5) (rowsOf a 3) (getD r 2 0) own
+      fitsIn (rowsOf a VALUE) (rowsOf a TYPE) (getD r 2 0) own
       ∷ true
       ∷ var-as i
       ∷ bools-as i
@@ -357,7 +357,7 @@ module _ (sheet a c r : List ℕ) where
       ∷ actionAt a own
       ∷ not (actionAt a own)
       ∷ context-as i
-      ∷ getD (rules-as i) (tag r - 21) false
+      ∷ getD (rules-as i) (tag r - firstNode) false
       ∷ sort-bool (T (K 3)) i
       ∷ []) k false
 

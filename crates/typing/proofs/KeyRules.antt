@@ -8,7 +8,8 @@ use native.Mathlib.Omega.{arith}
 use borrow.Author.Tests.{eq-eqb, ne-eqb, not-true, not-false, lt-leb, le-ltb}
 use lib.Dec.{eqb, ltb, leb}
 use lib.ListN.{length, getD, drop, drop-of-length-le}
-use Rattle.sheet.specs.Forms.{tag, mark, VALUE}
+use Rattle.sheet.specs.Forms.{tag, mark, firstNode, SHAPE, VALUE, ENTITY, PRINCIPAL, ACTION, RESOURCE, CONTEXT, NODE, POLICY}
+use Rattle.forms.specs.Tags.{LONG-VALUE, ENTITY-VALUE, SET-VALUE, RECORD-VALUE}
 use Rattle.sheet.specs.State.{entriesOf, valueRow}
 use Rattle.sheet.specs.Typing.{allIn, allEntries, isStop}
 use Rattle.table.specs.Layout.{rowsOf}
@@ -17,7 +18,7 @@ use Rattle.fits.specs.declared.Found as F
 use Rattle.fits.proofs.Walks.{next}
 use Rattle.fits.proofs.Sorts.{sort-tag, no-entity, no-set, no-record}
 use Rattle.fits.proofs.Search.{found-some, found-none}
-use Rattle.typing.specs.Rules.{sortAt, recordAt, bareAt, attributeTypeAt, tagTypeAt, isAboveAt, actionAt, childAt, nodeRule, shapeRule, contextRule, policyRule, attributesRule, tagsRule, ancestorRule, ancestorsRule, entityRule, typedRule}
+use Rattle.typing.specs.Rules.{BOOL-SORT, sortAt, recordAt, bareAt, attributeTypeAt, tagTypeAt, isAboveAt, actionAt, childAt, nodeRule, shapeRule, contextRule, policyRule, attributesRule, tagsRule, ancestorRule, ancestorsRule, entityRule, typedRule}
 
 -- an answer that asks for no pair
 pub plain : (a m : List ℕ) (x b : Bool) → Known a m → b ≡ x → Answered a m m x b
@@ -33,7 +34,7 @@ module _ (a r : List ℕ) (o : ℕ) (f : F.Found) (eo : o ≡ getD r 1 0) (ef : 
   unfolding shapeRule
   shape-none g = let e : recordAt a o ≡ none = found-none (recordAt a o) (sym ef ∙ g) in rw (← eo, e)
 
-  module _ (y n : ℕ) (b : Bool) (g : f ≡ F.the-variants.As y) (en : n ≡ getD a 4 0) (eb : b ≡ actionAt a n) where
+  module _ (y n : ℕ) (b : Bool) (g : f ≡ F.the-variants.As y) (en : n ≡ getD a SHAPE 0) (eb : b ≡ actionAt a n) where
     pub shape-plain : not b ≡ true → true ≡ shapeRule a r
     unfolding shapeRule
     shape-plain h =
@@ -47,7 +48,7 @@ module _ (a r : List ℕ) (o : ℕ) (f : F.Found) (eo : o ≡ getD r 1 0) (ef : 
           let e : recordAt a o ≡ some y = found-some (recordAt a o) y (sym ef ∙ g) in
           rw (← eo, e, ← en, ← eb, h, ← ec, not-true c i)
 
-      pub shape-bare : (t : ℕ) → not c ≡ false → t ≡ getD r 2 0 → eqb t 10000 ≡ shapeRule a r
+      pub shape-bare : (t : ℕ) → not c ≡ false → t ≡ getD r 2 0 → eqb t mark ≡ shapeRule a r
       unfolding shapeRule
       shape-bare t i et =
           let e : recordAt a o ≡ some y = found-some (recordAt a o) y (sym ef ∙ g) in
@@ -56,24 +57,24 @@ module _ (a r : List ℕ) (o : ℕ) (f : F.Found) (eo : o ≡ getD r 1 0) (ef : 
 -- ---- attributes, tags, ancestors of an entity
 
 module _ (a m : List ℕ) (x k : ℕ) (u : Known a m) where
-  pub attributes-unknown : x ≡ 10000 → Answered a m m (attributesRule a x k) true
+  pub attributes-unknown : x ≡ mark → Answered a m m (attributesRule a x k) true
   unfolding attributesRule
-  attributes-unknown h = plain a m (attributesRule a x k) true u (rw (eq-eqb x 10000 h))
+  attributes-unknown h = plain a m (attributesRule a x k) true u (rw (eq-eqb x mark h))
 
-  pub tags-unknown : x ≡ 10000 → Answered a m m (tagsRule a x k) true
+  pub tags-unknown : x ≡ mark → Answered a m m (tagsRule a x k) true
   unfolding tagsRule
-  tags-unknown h = plain a m (tagsRule a x k) true u (rw (eq-eqb x 10000 h))
+  tags-unknown h = plain a m (tagsRule a x k) true u (rw (eq-eqb x mark h))
 
-  module _ (q : List ℕ) (t : ℕ) (eq : q ≡ getD (rowsOf a VALUE) x []) (et : t ≡ tag q) (nx : x ≡ 10000 → ⊥) where
-    pub attributes-sort : (t ≡ 15 → ⊥) → Answered a m m (attributesRule a x k) false
+  module _ (q : List ℕ) (t : ℕ) (eq : q ≡ getD (rowsOf a VALUE) x []) (et : t ≡ tag q) (nx : x ≡ mark → ⊥) where
+    pub attributes-sort : (t ≡ RECORD-VALUE → ⊥) → Answered a m m (attributesRule a x k) false
     unfolding attributesRule
     attributes-sort h = plain a m (attributesRule a x k) false u
-        (rw (ne-eqb x 10000 nx, ← eq) (sym (no-record false (valueRow q) (λ e. full a x (attributeTypeAt a k)) (λ s. h (et ∙ sort-tag q 4 s)))))
+        (rw (ne-eqb x mark nx, ← eq) (sym (no-record false (valueRow q) (λ e. full a x (attributeTypeAt a k)) (λ s. h (et ∙ sort-tag q (RECORD-VALUE - LONG-VALUE) s)))))
 
-    pub tags-sort : (t ≡ 15 → ⊥) → Answered a m m (tagsRule a x k) false
+    pub tags-sort : (t ≡ RECORD-VALUE → ⊥) → Answered a m m (tagsRule a x k) false
     unfolding tagsRule
     tags-sort h = plain a m (tagsRule a x k) false u
-        (rw (ne-eqb x 10000 nx, ← eq) (sym (no-record false (valueRow q) (λ e. cond (eqb (tagTypeAt a k) mark) (isStop e) (allEntries (λ t v. full a v (tagTypeAt a k)) e)) (λ s. h (et ∙ sort-tag q 4 s)))))
+        (rw (ne-eqb x mark nx, ← eq) (sym (no-record false (valueRow q) (λ e. cond (eqb (tagTypeAt a k) mark) (isStop e) (allEntries (λ t v. full a v (tagTypeAt a k)) e)) (λ s. h (et ∙ sort-tag q (RECORD-VALUE - LONG-VALUE) s)))))
 
 stops : (l : List ℕ) → ltb (length l) 3 ≡ isStop (entriesOf (drop 1 l))
 stops [] = refl
@@ -81,53 +82,53 @@ stops (x ∷ []) = refl
 stops (x ∷ y ∷ []) = refl
 stops (x ∷ y ∷ z ∷ l) = le-ltb (length (x ∷ y ∷ z ∷ l)) 3 (omega arith)
 
-module _ (a m n : List ℕ) (x k : ℕ) (q : List ℕ) (t : ℕ) (eq : q ≡ getD (rowsOf a VALUE) x []) (et : t ≡ tag q) (nx : x ≡ 10000 → ⊥) (h : t ≡ 15) where
-  is-record : tag q ≡ 15
+module _ (a m n : List ℕ) (x k : ℕ) (q : List ℕ) (t : ℕ) (eq : q ≡ getD (rowsOf a VALUE) x []) (et : t ≡ tag q) (nx : x ≡ mark → ⊥) (h : t ≡ RECORD-VALUE) where
+  is-record : tag q ≡ RECORD-VALUE
   is-record = sym et ∙ h
 
   attributes-as : (z : ℕ) → z ≡ attributeTypeAt a k → full a x z ≡ attributesRule a x k
   unfolding attributesRule
-  attributes-as z ez = rw (ne-eqb x 10000 nx, ← eq, is-record, ez)
+  attributes-as z ez = rw (ne-eqb x mark nx, ← eq, is-record, ez)
 
   pub attributes-known : (z : ℕ) (b : Bool) → z ≡ attributeTypeAt a k → Answered a m n (full a x z) b → Answered a m n (attributesRule a x k) b
   attributes-known z b ez = turned (attributes-as z ez)
 
-  pub tags-bare : (y : ℕ) → Known a m → y ≡ tagTypeAt a k → y ≡ 10000 → Answered a m m (tagsRule a x k) (ltb (length q) 3)
+  pub tags-bare : (y : ℕ) → Known a m → y ≡ tagTypeAt a k → y ≡ mark → Answered a m m (tagsRule a x k) (ltb (length q) 3)
   unfolding tagsRule
   tags-bare y u ey hy = plain a m (tagsRule a x k) (ltb (length q) 3) u
-      (rw (ne-eqb x 10000 nx, ← eq, is-record, ← ey, eq-eqb y 10000 hy) (stops q))
+      (rw (ne-eqb x mark nx, ← eq, is-record, ← ey, eq-eqb y mark hy) (stops q))
 
-  tags-as : (y : ℕ) → y ≡ tagTypeAt a k → (y ≡ 10000 → ⊥) → tagsFitBy (full a) q y ≡ tagsRule a x k
+  tags-as : (y : ℕ) → y ≡ tagTypeAt a k → (y ≡ mark → ⊥) → tagsFitBy (full a) q y ≡ tagsRule a x k
   unfolding tagsRule tagsFitBy
-  tags-as y ey ny = rw (ne-eqb x 10000 nx, ← eq, is-record, ← ey, ne-eqb y 10000 ny)
+  tags-as y ey ny = rw (ne-eqb x mark nx, ← eq, is-record, ← ey, ne-eqb y mark ny)
 
-  pub tags-known : (y : ℕ) (b : Bool) → y ≡ tagTypeAt a k → (y ≡ 10000 → ⊥) → Answered a m n (tagsFitBy (full a) q y) b → Answered a m n (tagsRule a x k) b
+  pub tags-known : (y : ℕ) (b : Bool) → y ≡ tagTypeAt a k → (y ≡ mark → ⊥) → Answered a m n (tagsFitBy (full a) q y) b → Answered a m n (tagsRule a x k) b
   tags-known y b ey ny = turned (tags-as y ey ny)
 
 module _ (a q : List ℕ) (x k t : ℕ) (eq : q ≡ getD (rowsOf a VALUE) x []) (et : t ≡ tag q) where
-  pub ancestor-yes : (b : Bool) (l : ℕ) → t ≡ 13 → l ≡ getD q 1 0 → b ≡ isAboveAt a k l → b ≡ ancestorRule a x k
+  pub ancestor-yes : (b : Bool) (l : ℕ) → t ≡ ENTITY-VALUE → l ≡ getD q 1 0 → b ≡ isAboveAt a k l → b ≡ ancestorRule a x k
   unfolding ancestorRule
-  ancestor-yes b l h el eb = let e : tag q ≡ 13 = sym et ∙ h in rw (← eq, e, ← el) eb
+  ancestor-yes b l h el eb = let e : tag q ≡ ENTITY-VALUE = sym et ∙ h in rw (← eq, e, ← el) eb
 
-  pub ancestor-no : (t ≡ 13 → ⊥) → false ≡ ancestorRule a x k
+  pub ancestor-no : (t ≡ ENTITY-VALUE → ⊥) → false ≡ ancestorRule a x k
   unfolding ancestorRule
-  ancestor-no h = rw (← eq) (sym (no-entity false (valueRow q) (λ l i. isAboveAt a k l) (λ s. h (et ∙ sort-tag q 2 s))))
+  ancestor-no h = rw (← eq) (sym (no-entity false (valueRow q) (λ l i. isAboveAt a k l) (λ s. h (et ∙ sort-tag q (ENTITY-VALUE - LONG-VALUE) s))))
 
-  pub ancestors-sort : (x ≡ 10000 → ⊥) → (t ≡ 14 → ⊥) → false ≡ ancestorsRule a x k
+  pub ancestors-sort : (x ≡ mark → ⊥) → (t ≡ SET-VALUE → ⊥) → false ≡ ancestorsRule a x k
   unfolding ancestorsRule
-  ancestors-sort nx h = rw (ne-eqb x 10000 nx, ← eq) (sym (no-set false (valueRow q) (allIn (λ v. ancestorRule a v k)) (λ s. h (et ∙ sort-tag q 3 s))))
+  ancestors-sort nx h = rw (ne-eqb x mark nx, ← eq) (sym (no-set false (valueRow q) (allIn (λ v. ancestorRule a v k)) (λ s. h (et ∙ sort-tag q (SET-VALUE - LONG-VALUE) s))))
 
-pub ancestors-unknown : (a : List ℕ) (x k : ℕ) → x ≡ 10000 → true ≡ ancestorsRule a x k
+pub ancestors-unknown : (a : List ℕ) (x k : ℕ) → x ≡ mark → true ≡ ancestorsRule a x k
 unfolding ancestorsRule
-ancestors-unknown a x k h = rw (eq-eqb x 10000 h)
+ancestors-unknown a x k h = rw (eq-eqb x mark h)
 
 -- what is left of the set, from word i on, decides the whole
 pub record Ancestors (a q : List ℕ) (x k i : ℕ) : Type 0 where
   pub left : ancestorsRule a x k ≡ allIn (λ v. ancestorRule a v k) (drop i q)
 
-pub ancestors-start : (a q : List ℕ) (x k t : ℕ) → q ≡ getD (rowsOf a VALUE) x [] → t ≡ tag q → (x ≡ 10000 → ⊥) → t ≡ 14 → Ancestors a q x k 1
+pub ancestors-start : (a q : List ℕ) (x k t : ℕ) → q ≡ getD (rowsOf a VALUE) x [] → t ≡ tag q → (x ≡ mark → ⊥) → t ≡ SET-VALUE → Ancestors a q x k 1
 unfolding ancestorsRule
-ancestors-start a q x k t eq et nx h = let e : tag q ≡ 14 = sym et ∙ h in record { left = rw (ne-eqb x 10000 nx, ← eq, e) }
+ancestors-start a q x k t eq et nx h = let e : tag q ≡ SET-VALUE = sym et ∙ h in record { left = rw (ne-eqb x mark nx, ← eq, e) }
 
 module _ (a q : List ℕ) (x k i : ℕ) (w : Ancestors a q x k i) where
   pub ancestors-end : length q ≤ i → true ≡ ancestorsRule a x k
@@ -143,15 +144,15 @@ module _ (a q : List ℕ) (x k i : ℕ) (w : Ancestors a q x k i) where
 -- ---- `entity_typed`
 
 module _ (a r q : List ℕ) (v t : ℕ) (ev : v ≡ getD r 1 0) (eq : q ≡ getD (rowsOf a VALUE) v []) (et : t ≡ tag q) where
-  pub entity-no : (m : List ℕ) → Known a m → (t ≡ 13 → ⊥) → Answered a m m (entityRule a r) false
+  pub entity-no : (m : List ℕ) → Known a m → (t ≡ ENTITY-VALUE → ⊥) → Answered a m m (entityRule a r) false
   unfolding entityRule
   entity-no m u h = plain a m (entityRule a r) false u
-      (rw (← ev, ← eq) (sym (no-entity false (valueRow q) (λ k i. attributesRule a (getD r 2 0) k && tagsRule a (getD r 3 0) k && ancestorsRule a (getD r 4 0) k) (λ s. h (et ∙ sort-tag q 2 s)))))
+      (rw (← ev, ← eq) (sym (no-entity false (valueRow q) (λ k i. attributesRule a (getD r 2 0) k && tagsRule a (getD r 3 0) k && ancestorsRule a (getD r 4 0) k) (λ s. h (et ∙ sort-tag q (ENTITY-VALUE - LONG-VALUE) s)))))
 
-  module _ (k x : ℕ) (h : t ≡ 13) (ek : k ≡ getD q 1 0) (ex : x ≡ getD r 2 0) where
+  module _ (k x : ℕ) (h : t ≡ ENTITY-VALUE) (ek : k ≡ getD q 1 0) (ex : x ≡ getD r 2 0) where
     entity-as : entityRule a r ≡ (attributesRule a x k && tagsRule a (getD r 3 0) k && ancestorsRule a (getD r 4 0) k)
     unfolding entityRule
-    entity-as = let e : tag q ≡ 13 = sym et ∙ h in rw (← ev, ← eq, e, ← ek, ← ex)
+    entity-as = let e : tag q ≡ ENTITY-VALUE = sym et ∙ h in rw (← ev, ← eq, e, ← ek, ← ex)
 
     module _ (m n : List ℕ) (b : Bool) (p : Answered a m n (attributesRule a x k) b) where
       pub entity-attributes : not b ≡ true → Answered a m n (entityRule a r) false
@@ -190,75 +191,75 @@ module _ (a r : List ℕ) (y : ℕ) (f : F.Found) (ey : y ≡ getD r 1 0) (ef : 
   context-none m u g = let e : recordAt a y ≡ none = found-none (recordAt a y) (sym ef ∙ g) in plain a m (contextRule a r) false u (rw (← ey, e))
 
   module _ (z x : ℕ) (g : f ≡ F.the-variants.As z) (ex : x ≡ getD r 2 0) where
-    pub context-unknown : (m : List ℕ) → Known a m → x ≡ 10000 → Answered a m m (contextRule a r) true
+    pub context-unknown : (m : List ℕ) → Known a m → x ≡ mark → Answered a m m (contextRule a r) true
     unfolding contextRule
     context-unknown m u h =
         let e : recordAt a y ≡ some z = found-some (recordAt a y) z (sym ef ∙ g) in
-        plain a m (contextRule a r) true u (rw (← ey, e, ← ex, eq-eqb x 10000 h))
+        plain a m (contextRule a r) true u (rw (← ey, e, ← ex, eq-eqb x mark h))
 
-    context-as : (x ≡ 10000 → ⊥) → full a x y ≡ contextRule a r
+    context-as : (x ≡ mark → ⊥) → full a x y ≡ contextRule a r
     unfolding contextRule
     context-as h =
         let e : recordAt a y ≡ some z = found-some (recordAt a y) z (sym ef ∙ g) in
-        rw (← ey, e, ← ex, ne-eqb x 10000 h)
+        rw (← ey, e, ← ex, ne-eqb x mark h)
 
-    pub context-known : (m n : List ℕ) (b : Bool) → (x ≡ 10000 → ⊥) → Answered a m n (full a x y) b → Answered a m n (contextRule a r) b
+    pub context-known : (m n : List ℕ) (b : Bool) → (x ≡ mark → ⊥) → Answered a m n (full a x y) b → Answered a m n (contextRule a r) b
     context-known m n b h = turned (context-as h)
 
-pub policy-is : (a r : List ℕ) (c s : ℕ) → c ≡ childAt a r 3 → s ≡ sortAt a c → eqb s 0 ≡ policyRule a r
+pub policy-is : (a r : List ℕ) (c s : ℕ) → c ≡ childAt a r 3 → s ≡ sortAt a c → eqb s BOOL-SORT ≡ policyRule a r
 unfolding policyRule
 policy-is a r c s ec es = rw (← ec, ← es)
 
 -- ---- any key
 
 module _ (a r : List ℕ) (k : ℕ) where
-  pub key-shape : (b : Bool) → k ≡ 4 → b ≡ shapeRule a r → b ≡ typedRule a r k
+  pub key-shape : (b : Bool) → k ≡ SHAPE → b ≡ shapeRule a r → b ≡ typedRule a r k
   unfolding typedRule
   key-shape b h e = rw h e
 
-  pub key-principal : (b : Bool) (x : ℕ) → k ≡ 7 → x ≡ getD r 1 0 → b ≡ actionAt a x → not b ≡ typedRule a r k
+  pub key-principal : (b : Bool) (x : ℕ) → k ≡ PRINCIPAL → x ≡ getD r 1 0 → b ≡ actionAt a x → not b ≡ typedRule a r k
   unfolding typedRule
   key-principal b x h ex e = rw (h, ← ex, ← e)
 
-  pub key-action : (b : Bool) (x : ℕ) → k ≡ 8 → x ≡ getD r 1 0 → b ≡ actionAt a x → b ≡ typedRule a r k
+  pub key-action : (b : Bool) (x : ℕ) → k ≡ ACTION → x ≡ getD r 1 0 → b ≡ actionAt a x → b ≡ typedRule a r k
   unfolding typedRule
   key-action b x h ex e = rw (h, ← ex) e
 
-  pub key-resource : (b : Bool) (x : ℕ) → k ≡ 9 → x ≡ getD r 1 0 → b ≡ actionAt a x → not b ≡ typedRule a r k
+  pub key-resource : (b : Bool) (x : ℕ) → k ≡ RESOURCE → x ≡ getD r 1 0 → b ≡ actionAt a x → not b ≡ typedRule a r k
   unfolding typedRule
   key-resource b x h ex e = rw (h, ← ex, ← e)
 
-  pub key-policy : (b : Bool) → k ≡ 12 → b ≡ policyRule a r → b ≡ typedRule a r k
+  pub key-policy : (b : Bool) → k ≡ POLICY → b ≡ policyRule a r → b ≡ typedRule a r k
   unfolding typedRule
   key-policy b h e = rw h e
 
   module _ (m n : List ℕ) (b : Bool) where
-    pub line-entity : k ≡ 6 → Answered a m n (entityRule a r) b → Answered a m n (typedRule a r k) b
+    pub line-entity : k ≡ ENTITY → Answered a m n (entityRule a r) b → Answered a m n (typedRule a r k) b
     unfolding typedRule
     line-entity h q = rw h q
 
-    pub line-context : k ≡ 10 → Answered a m n (contextRule a r) b → Answered a m n (typedRule a r k) b
+    pub line-context : k ≡ CONTEXT → Answered a m n (contextRule a r) b → Answered a m n (typedRule a r k) b
     unfolding typedRule
     line-context h q = rw h q
 
-    pub line-node : k ≡ 11 → Answered a m n (nodeRule a r (tag r - 21)) b → Answered a m n (typedRule a r k) b
+    pub line-node : k ≡ NODE → Answered a m n (nodeRule a r (tag r - firstNode)) b → Answered a m n (typedRule a r k) b
     unfolding typedRule
     line-node h q = rw h q
 
 -- the keys whose lines need no typing, and numbers that are no key
-pub key-free : (a r : List ℕ) (k : ℕ) → (k ≡ 6 → ⊥) × (k ≡ 10 → ⊥) × (k ≡ 11 → ⊥) → (k ≡ 4 → ⊥) → (k ≡ 7 → ⊥) → (k ≡ 8 → ⊥) → (k ≡ 9 → ⊥) → (k ≡ 12 → ⊥) → leb k 12 ≡ typedRule a r k
+pub key-free : (a r : List ℕ) (k : ℕ) → (k ≡ ENTITY → ⊥) × (k ≡ CONTEXT → ⊥) × (k ≡ NODE → ⊥) → (k ≡ SHAPE → ⊥) → (k ≡ PRINCIPAL → ⊥) → (k ≡ ACTION → ⊥) → (k ≡ RESOURCE → ⊥) → (k ≡ POLICY → ⊥) → leb k POLICY ≡ typedRule a r k
 unfolding typedRule
-key-free a r zero n n4 n7 n8 n9 n12 = refl
-key-free a r (suc zero) n n4 n7 n8 n9 n12 = refl
-key-free a r (suc (suc zero)) n n4 n7 n8 n9 n12 = refl
-key-free a r (suc (suc (suc zero))) n n4 n7 n8 n9 n12 = refl
-key-free a r (suc (suc (suc (suc zero)))) n n4 n7 n8 n9 n12 = absurd (n4 refl)
-key-free a r (suc (suc (suc (suc (suc zero))))) n n4 n7 n8 n9 n12 = refl
-key-free a r (suc (suc (suc (suc (suc (suc zero)))))) n n4 n7 n8 n9 n12 = absurd (n .0 refl)
-key-free a r (suc (suc (suc (suc (suc (suc (suc zero))))))) n n4 n7 n8 n9 n12 = absurd (n7 refl)
-key-free a r (suc (suc (suc (suc (suc (suc (suc (suc zero)))))))) n n4 n7 n8 n9 n12 = absurd (n8 refl)
-key-free a r (suc (suc (suc (suc (suc (suc (suc (suc (suc zero))))))))) n n4 n7 n8 n9 n12 = absurd (n9 refl)
-key-free a r (suc (suc (suc (suc (suc (suc (suc (suc (suc (suc zero)))))))))) n n4 n7 n8 n9 n12 = absurd (n .1 refl)
-key-free a r (suc (suc (suc (suc (suc (suc (suc (suc (suc (suc (suc zero))))))))))) n n4 n7 n8 n9 n12 = absurd (n .2 refl)
-key-free a r (suc (suc (suc (suc (suc (suc (suc (suc (suc (suc (suc (suc zero)))))))))))) n n4 n7 n8 n9 n12 = absurd (n12 refl)
-key-free a r (suc (suc (suc (suc (suc (suc (suc (suc (suc (suc (suc (suc (suc k))))))))))))) n n4 n7 n8 n9 n12 = lt-leb (suc (suc (suc (suc (suc (suc (suc (suc (suc (suc (suc (suc (suc k))))))))))))) 12 (omega arith)
+key-free a r zero n n-shape n-principal n-action n-resource n-policy = refl
+key-free a r (suc zero) n n-shape n-principal n-action n-resource n-policy = refl
+key-free a r (suc (suc zero)) n n-shape n-principal n-action n-resource n-policy = refl
+key-free a r (suc (suc (suc zero))) n n-shape n-principal n-action n-resource n-policy = refl
+key-free a r (suc (suc (suc (suc zero)))) n n-shape n-principal n-action n-resource n-policy = absurd (n-shape refl)
+key-free a r (suc (suc (suc (suc (suc zero))))) n n-shape n-principal n-action n-resource n-policy = refl
+key-free a r (suc (suc (suc (suc (suc (suc zero)))))) n n-shape n-principal n-action n-resource n-policy = absurd (n .0 refl)
+key-free a r (suc (suc (suc (suc (suc (suc (suc zero))))))) n n-shape n-principal n-action n-resource n-policy = absurd (n-principal refl)
+key-free a r (suc (suc (suc (suc (suc (suc (suc (suc zero)))))))) n n-shape n-principal n-action n-resource n-policy = absurd (n-action refl)
+key-free a r (suc (suc (suc (suc (suc (suc (suc (suc (suc zero))))))))) n n-shape n-principal n-action n-resource n-policy = absurd (n-resource refl)
+key-free a r (suc (suc (suc (suc (suc (suc (suc (suc (suc (suc zero)))))))))) n n-shape n-principal n-action n-resource n-policy = absurd (n .1 refl)
+key-free a r (suc (suc (suc (suc (suc (suc (suc (suc (suc (suc (suc zero))))))))))) n n-shape n-principal n-action n-resource n-policy = absurd (n .2 refl)
+key-free a r (suc (suc (suc (suc (suc (suc (suc (suc (suc (suc (suc (suc zero)))))))))))) n n-shape n-principal n-action n-resource n-policy = absurd (n-policy refl)
+key-free a r (suc (suc (suc (suc (suc (suc (suc (suc (suc (suc (suc (suc (suc k))))))))))))) n n-shape n-principal n-action n-resource n-policy = lt-leb (suc (suc (suc (suc (suc (suc (suc (suc (suc (suc (suc (suc (suc k))))))))))))) POLICY (omega arith)

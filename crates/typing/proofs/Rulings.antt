@@ -10,14 +10,15 @@ use lib.Dec.{eqb}
 use lib.ListN.{length, getD, drop, drop-of-length-le, length-drop}
 use lib.Seq.{take-all}
 use Rattle.cedar.specs.Value.{onSome}
-use Rattle.sheet.specs.Forms.{TYPE}
+use Rattle.sheet.specs.Forms.{TYPE, PRINCIPAL, ACTION, RESOURCE, CONTEXT}
+use Rattle.forms.specs.Tags.{PART-P, PART-A, PART-R}
 use Rattle.words.specs.Log.{part}
 use Rattle.table.specs.Layout.{rowsOf}
 use Rattle.fits.specs.Fit.{found, completeIn}
 use Rattle.fits.specs.declared.Found as F
 use Rattle.fits.proofs.Walks.{next, entries-end, entries-one, entries-on}
 use Rattle.fits.proofs.Search.{found-some, found-none}
-use Rattle.typing.specs.Rules.{sortAt, kindAt, elementAt, recordAt, attributeAt, tagTypeAt, attributesAt, targetAt, requestAt, pathFrom, allOf, argsFit, childAt, twoSorts, threeSorts, requestIs, contextIsAt, varRule, eqRule, inRule, gettagRule, containsRule, twoSetsRule, ifRule, getRule, hasRule, haspathRule, setRule, recordRule}
+use Rattle.typing.specs.Rules.{BOOL-SORT, STRING-SORT, ENTITY-SORT, SET-SORT, sortAt, kindAt, elementAt, recordAt, attributeAt, tagTypeAt, attributesAt, targetAt, requestAt, pathFrom, allOf, argsFit, childAt, twoSorts, threeSorts, requestIs, contextIsAt, varRule, eqRule, inRule, gettagRule, containsRule, twoSetsRule, ifRule, getRule, hasRule, haspathRule, setRule, recordRule}
 
 -- ---- sorts
 
@@ -49,23 +50,23 @@ module _ (a r : List ℕ) where
   unfolding requestIs
   request-yes k o e q f eo ef h eq = let s : kindAt a o ≡ some e = found-some (kindAt a o) e (sym ef ∙ h) in rw (← eo, s, ← eq)
 
-  pub var-principal : (x : ℕ) (b : Bool) → x ≡ getD r 2 0 → x ≡ 0 → b ≡ requestIs a r 7 → b ≡ varRule a r
+  pub var-principal : (x : ℕ) (b : Bool) → x ≡ getD r 2 0 → x ≡ PART-P → b ≡ requestIs a r PRINCIPAL → b ≡ varRule a r
   unfolding varRule
   var-principal x b ex h eb = rw (← ex, h) eb
 
-  pub var-action : (x : ℕ) (b : Bool) → x ≡ getD r 2 0 → x ≡ 1 → b ≡ requestIs a r 8 → b ≡ varRule a r
+  pub var-action : (x : ℕ) (b : Bool) → x ≡ getD r 2 0 → x ≡ PART-A → b ≡ requestIs a r ACTION → b ≡ varRule a r
   unfolding varRule
   var-action x b ex h eb = rw (← ex, h) eb
 
-  pub var-resource : (x : ℕ) (b : Bool) → x ≡ getD r 2 0 → x ≡ 2 → b ≡ requestIs a r 9 → b ≡ varRule a r
+  pub var-resource : (x : ℕ) (b : Bool) → x ≡ getD r 2 0 → x ≡ PART-R → b ≡ requestIs a r RESOURCE → b ≡ varRule a r
   unfolding varRule
   var-resource x b ex h eb = rw (← ex, h) eb
 
-  pub var-context : (x o q : ℕ) → x ≡ getD r 2 0 → (x ≡ 0 → ⊥) → (x ≡ 1 → ⊥) → (x ≡ 2 → ⊥) → o ≡ getD r 1 0 → q ≡ requestAt a 10 → eqb o q ≡ varRule a r
+  pub var-context : (x o q : ℕ) → x ≡ getD r 2 0 → (x ≡ PART-P → ⊥) → (x ≡ PART-A → ⊥) → (x ≡ PART-R → ⊥) → o ≡ getD r 1 0 → q ≡ requestAt a CONTEXT → eqb o q ≡ varRule a r
   unfolding varRule contextIsAt
   var-context x o q ex n0 n1 n2 eo eq = rw (← ex, eo, eq) (go x refl)
     where
-      go : (j : ℕ) → j ≡ x → eqb (getD r 1 0) (requestAt a 10) ≡ getD (requestIs a r 7 ∷ requestIs a r 8 ∷ requestIs a r 9 ∷ eqb (getD r 1 0) (requestAt a 10) ∷ []) j (eqb (getD r 1 0) (requestAt a 10))
+      go : (j : ℕ) → j ≡ x → eqb (getD r 1 0) (requestAt a CONTEXT) ≡ getD (requestIs a r PRINCIPAL ∷ requestIs a r ACTION ∷ requestIs a r RESOURCE ∷ eqb (getD r 1 0) (requestAt a CONTEXT) ∷ []) j (eqb (getD r 1 0) (requestAt a CONTEXT))
       go zero e = absurd (n0 (sym e))
       go (suc zero) e = absurd (n1 (sym e))
       go (suc (suc zero)) e = absurd (n2 (sym e))
@@ -75,27 +76,27 @@ module _ (a r : List ℕ) where
   -- ---- `eq`
 
   module _ (o s : ℕ) (eo : o ≡ getD r 1 0) (es : s ≡ sortAt a o) where
-    pub eq-no : (s ≡ 0 → ⊥) → false ≡ eqRule a r
+    pub eq-no : (s ≡ BOOL-SORT → ⊥) → false ≡ eqRule a r
     unfolding eqRule
-    eq-no h = rw (← eo, ← es, ne-eqb s 0 h)
+    eq-no h = rw (← eo, ← es, ne-eqb s BOOL-SORT h)
 
-    module _ (x y : ℕ) (h : s ≡ 0) (ex : x ≡ childAt a r 2) (ey : y ≡ childAt a r 3) where
+    module _ (x y : ℕ) (h : s ≡ BOOL-SORT) (ex : x ≡ childAt a r 2) (ey : y ≡ childAt a r 3) where
       pub eq-same : x ≡ y → true ≡ eqRule a r
       unfolding eqRule
-      eq-same e = rw (← eo, ← es, eq-eqb s 0 h, ← ex, ← ey, eq-eqb x y e)
+      eq-same e = rw (← eo, ← es, eq-eqb s BOOL-SORT h, ← ex, ← ey, eq-eqb x y e)
 
       module _ (n : x ≡ y → ⊥) (sx : ℕ) (ex′ : sx ≡ sortAt a x) where
-        pub eq-entities : (sy : ℕ) → sx ≡ 3 → sy ≡ sortAt a y → eqb sy 3 ≡ eqRule a r
+        pub eq-entities : (sy : ℕ) → sx ≡ ENTITY-SORT → sy ≡ sortAt a y → eqb sy ENTITY-SORT ≡ eqRule a r
         unfolding eqRule
-        eq-entities sy e ey′ = rw (← eo, ← es, eq-eqb s 0 h, ← ex, ← ey, ne-eqb x y n, ← ex′, eq-eqb sx 3 e, ← ey′)
+        eq-entities sy e ey′ = rw (← eo, ← es, eq-eqb s BOOL-SORT h, ← ex, ← ey, ne-eqb x y n, ← ex′, eq-eqb sx ENTITY-SORT e, ← ey′)
 
-        pub eq-differ : (sx ≡ 3 → ⊥) → false ≡ eqRule a r
+        pub eq-differ : (sx ≡ ENTITY-SORT → ⊥) → false ≡ eqRule a r
         unfolding eqRule
-        eq-differ e = rw (← eo, ← es, eq-eqb s 0 h, ← ex, ← ey, ne-eqb x y n, ← ex′, ne-eqb sx 3 e)
+        eq-differ e = rw (← eo, ← es, eq-eqb s BOOL-SORT h, ← ex, ← ey, ne-eqb x y n, ← ex′, ne-eqb sx ENTITY-SORT e)
 
   -- ---- `in`
 
-  module _ (b : Bool) (eb : b ≡ twoSorts a r 0 3) where
+  module _ (b : Bool) (eb : b ≡ twoSorts a r BOOL-SORT ENTITY-SORT) where
     pub in-no : not b ≡ true → false ≡ inRule a r
     unfolding inRule
     in-no h = rw (← eb, not-true b h)
@@ -112,58 +113,58 @@ module _ (a r : List ℕ) where
   -- ---- `gettag`
 
   module _ (c s : ℕ) (ec : c ≡ childAt a r 3) (es : s ≡ sortAt a c) where
-    pub gettag-no : (s ≡ 2 → ⊥) → false ≡ gettagRule a r
+    pub gettag-no : (s ≡ STRING-SORT → ⊥) → false ≡ gettagRule a r
     unfolding gettagRule
-    gettag-no h = rw (← ec, ← es, ne-eqb s 2 h)
+    gettag-no h = rw (← ec, ← es, ne-eqb s STRING-SORT h)
 
-    module _ (x : ℕ) (f : F.Found) (h : s ≡ 2) (ex : x ≡ childAt a r 2) (ef : f ≡ found (kindAt a x)) where
+    module _ (x : ℕ) (f : F.Found) (h : s ≡ STRING-SORT) (ex : x ≡ childAt a r 2) (ef : f ≡ found (kindAt a x)) where
       pub gettag-none : f ≡ F.the-variants.Undeclared → false ≡ gettagRule a r
       unfolding gettagRule
-      gettag-none g = let e : kindAt a x ≡ none = found-none (kindAt a x) (sym ef ∙ g) in rw (← ec, ← es, eq-eqb s 2 h, ← ex, e)
+      gettag-none g = let e : kindAt a x ≡ none = found-none (kindAt a x) (sym ef ∙ g) in rw (← ec, ← es, eq-eqb s STRING-SORT h, ← ex, e)
 
       pub gettag-some : (k t o : ℕ) → f ≡ F.the-variants.As k → t ≡ tagTypeAt a k → o ≡ getD r 1 0 → eqb t o ≡ gettagRule a r
       unfolding gettagRule
-      gettag-some k t o g et eo = let e : kindAt a x ≡ some k = found-some (kindAt a x) k (sym ef ∙ g) in rw (← ec, ← es, eq-eqb s 2 h, ← ex, e, ← et, ← eo)
+      gettag-some k t o g et eo = let e : kindAt a x ≡ some k = found-some (kindAt a x) k (sym ef ∙ g) in rw (← ec, ← es, eq-eqb s STRING-SORT h, ← ex, e, ← et, ← eo)
 
   -- ---- `contains`
 
   module _ (o s : ℕ) (eo : o ≡ getD r 1 0) (es : s ≡ sortAt a o) where
-    pub contains-no : (s ≡ 0 → ⊥) → false ≡ containsRule a r
+    pub contains-no : (s ≡ BOOL-SORT → ⊥) → false ≡ containsRule a r
     unfolding containsRule
-    contains-no h = rw (← eo, ← es, ne-eqb s 0 h)
+    contains-no h = rw (← eo, ← es, ne-eqb s BOOL-SORT h)
 
-    module _ (x : ℕ) (f : F.Found) (h : s ≡ 0) (ex : x ≡ childAt a r 2) (ef : f ≡ found (elementAt a x)) where
+    module _ (x : ℕ) (f : F.Found) (h : s ≡ BOOL-SORT) (ex : x ≡ childAt a r 2) (ef : f ≡ found (elementAt a x)) where
       pub contains-none : f ≡ F.the-variants.Undeclared → false ≡ containsRule a r
       unfolding containsRule
-      contains-none g = let e : elementAt a x ≡ none = found-none (elementAt a x) (sym ef ∙ g) in rw (← eo, ← es, eq-eqb s 0 h, ← ex, e)
+      contains-none g = let e : elementAt a x ≡ none = found-none (elementAt a x) (sym ef ∙ g) in rw (← eo, ← es, eq-eqb s BOOL-SORT h, ← ex, e)
 
       pub contains-some : (k y : ℕ) → f ≡ F.the-variants.As k → y ≡ childAt a r 3 → eqb k y ≡ containsRule a r
       unfolding containsRule
-      contains-some k y g ey = let e : elementAt a x ≡ some k = found-some (elementAt a x) k (sym ef ∙ g) in rw (← eo, ← es, eq-eqb s 0 h, ← ex, e, ← ey)
+      contains-some k y g ey = let e : elementAt a x ≡ some k = found-some (elementAt a x) k (sym ef ∙ g) in rw (← eo, ← es, eq-eqb s BOOL-SORT h, ← ex, e, ← ey)
 
   -- ---- `all`, `any`, `if`
 
-  pub sets-no : (b : Bool) → b ≡ twoSorts a r 0 4 → not b ≡ true → false ≡ twoSetsRule a r
+  pub sets-no : (b : Bool) → b ≡ twoSorts a r BOOL-SORT SET-SORT → not b ≡ true → false ≡ twoSetsRule a r
   unfolding twoSetsRule
   sets-no b eb h = rw (← eb, not-true b h)
 
-  pub sets-yes : (b : Bool) (x y : ℕ) → b ≡ twoSorts a r 0 4 → not b ≡ false → x ≡ childAt a r 2 → y ≡ childAt a r 3 → eqb x y ≡ twoSetsRule a r
+  pub sets-yes : (b : Bool) (x y : ℕ) → b ≡ twoSorts a r BOOL-SORT SET-SORT → not b ≡ false → x ≡ childAt a r 2 → y ≡ childAt a r 3 → eqb x y ≡ twoSetsRule a r
   unfolding twoSetsRule
   sets-yes b x y eb h ex ey = rw (← eb, not-false b h, ← ex, ← ey)
 
   module _ (c s : ℕ) (ec : c ≡ childAt a r 2) (es : s ≡ sortAt a c) where
-    pub if-no : (s ≡ 0 → ⊥) → false ≡ ifRule a r
+    pub if-no : (s ≡ BOOL-SORT → ⊥) → false ≡ ifRule a r
     unfolding ifRule
-    if-no h = rw (← ec, ← es, ne-eqb s 0 h)
+    if-no h = rw (← ec, ← es, ne-eqb s BOOL-SORT h)
 
-    module _ (o x : ℕ) (h : s ≡ 0) (eo : o ≡ getD r 1 0) (ex : x ≡ childAt a r 3) where
+    module _ (o x : ℕ) (h : s ≡ BOOL-SORT) (eo : o ≡ getD r 1 0) (ex : x ≡ childAt a r 3) where
       pub if-differs : (x ≡ o → ⊥) → false ≡ ifRule a r
       unfolding ifRule
-      if-differs n = rw (← ec, ← es, eq-eqb s 0 h, ← eo, ← ex, ne-eqb x o n)
+      if-differs n = rw (← ec, ← es, eq-eqb s BOOL-SORT h, ← eo, ← ex, ne-eqb x o n)
 
       pub if-yes : (y : ℕ) → x ≡ o → y ≡ childAt a r 4 → eqb y o ≡ ifRule a r
       unfolding ifRule
-      if-yes y n ey = rw (← ec, ← es, eq-eqb s 0 h, ← eo, ← ex, eq-eqb x o n, ← ey)
+      if-yes y n ey = rw (← ec, ← es, eq-eqb s BOOL-SORT h, ← eo, ← ex, eq-eqb x o n, ← ey)
 
   -- ---- `get`
 
@@ -190,30 +191,30 @@ module _ (a r : List ℕ) where
   -- ---- `has`, `haspath`
 
   module _ (o s : ℕ) (eo : o ≡ getD r 1 0) (es : s ≡ sortAt a o) where
-    pub has-no : (s ≡ 0 → ⊥) → false ≡ hasRule a r
+    pub has-no : (s ≡ BOOL-SORT → ⊥) → false ≡ hasRule a r
     unfolding hasRule
-    has-no h = rw (← eo, ← es, ne-eqb s 0 h)
+    has-no h = rw (← eo, ← es, ne-eqb s BOOL-SORT h)
 
-    pub haspath-no : (s ≡ 0 → ⊥) → false ≡ haspathRule a r
+    pub haspath-no : (s ≡ BOOL-SORT → ⊥) → false ≡ haspathRule a r
     unfolding haspathRule
-    haspath-no h = rw (← eo, ← es, ne-eqb s 0 h)
+    haspath-no h = rw (← eo, ← es, ne-eqb s BOOL-SORT h)
 
-    module _ (x : ℕ) (f : F.Found) (h : s ≡ 0) (ex : x ≡ childAt a r 2) (ef : f ≡ found (attributesAt a x)) where
+    module _ (x : ℕ) (f : F.Found) (h : s ≡ BOOL-SORT) (ex : x ≡ childAt a r 2) (ef : f ≡ found (attributesAt a x)) where
       pub has-none : f ≡ F.the-variants.Undeclared → false ≡ hasRule a r
       unfolding hasRule
-      has-none g = let e : attributesAt a x ≡ none = found-none (attributesAt a x) (sym ef ∙ g) in rw (← eo, ← es, eq-eqb s 0 h, ← ex, e)
+      has-none g = let e : attributesAt a x ≡ none = found-none (attributesAt a x) (sym ef ∙ g) in rw (← eo, ← es, eq-eqb s BOOL-SORT h, ← ex, e)
 
       pub has-some : (y : ℕ) → f ≡ F.the-variants.As y → true ≡ hasRule a r
       unfolding hasRule
-      has-some y g = let e : attributesAt a x ≡ some y = found-some (attributesAt a x) y (sym ef ∙ g) in rw (← eo, ← es, eq-eqb s 0 h, ← ex, e)
+      has-some y g = let e : attributesAt a x ≡ some y = found-some (attributesAt a x) y (sym ef ∙ g) in rw (← eo, ← es, eq-eqb s BOOL-SORT h, ← ex, e)
 
       pub haspath-none : f ≡ F.the-variants.Undeclared → false ≡ haspathRule a r
       unfolding haspathRule
-      haspath-none g = let e : attributesAt a x ≡ none = found-none (attributesAt a x) (sym ef ∙ g) in rw (← eo, ← es, eq-eqb s 0 h, ← ex, e)
+      haspath-none g = let e : attributesAt a x ≡ none = found-none (attributesAt a x) (sym ef ∙ g) in rw (← eo, ← es, eq-eqb s BOOL-SORT h, ← ex, e)
 
       pub haspath-some : (y : ℕ) (b : Bool) → f ≡ F.the-variants.As y → b ≡ pathFrom a (drop 3 r) y → b ≡ haspathRule a r
       unfolding haspathRule
-      haspath-some y b g eb = let e : attributesAt a x ≡ some y = found-some (attributesAt a x) y (sym ef ∙ g) in rw (← eo, ← es, eq-eqb s 0 h, ← ex, e) eb
+      haspath-some y b g eb = let e : attributesAt a x ≡ some y = found-some (attributesAt a x) y (sym ef ∙ g) in rw (← eo, ← es, eq-eqb s BOOL-SORT h, ← ex, e) eb
 
 -- ---- the walk of a path
 

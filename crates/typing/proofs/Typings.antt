@@ -9,7 +9,8 @@ use borrow.Author.Tests.{eq-eqb, ne-eqb, le-ltb}
 use lib.Dec.{eqb, ltb}
 use lib.ListN.{length, getD, drop, drop-of-length-le}
 use Rattle.cedar.specs.Numbered.{memN}
-use Rattle.sheet.specs.Forms.{tag, TYPE, SHAPE, KIND}
+use Rattle.sheet.specs.Forms.{tag, firstType, KIND, TYPE, SHAPE, NODE}
+use Rattle.forms.specs.Tags.{LONG-TYPE, ENTITY-TYPE, SET-TYPE, RECORD-TYPE, OF-ACTIONS}
 use Rattle.sheet.specs.State.{Declared, TypeRow, bool, long, string, entity, set′, record′, declareds, typeRow}
 use Rattle.sheet.specs.Typing.{onEntity, onSetOf, onRecord, noneDeclared}
 use Rattle.table.specs.Layout.{rowsOf}
@@ -18,11 +19,11 @@ use Rattle.fits.specs.declared.Found as F
 use Rattle.fits.proofs.Walks.{next}
 use Rattle.fits.proofs.Sorts.{typeTable}
 use Rattle.fits.proofs.Search.{found-some, found-none}
-use Rattle.typing.specs.Rules.{sortNumber, sortAt, kindAt, elementAt, recordAt, attributeAt, bareAt, attributeTypeAt, tagTypeAt, isAboveAt, actionAt, attributesAt, targetAt, requestAt, nodeTypeAt, childAt}
+use Rattle.typing.specs.Rules.{BOOL-SORT, ENTITY-SORT, SET-SORT, RECORD-SORT, sortNumber, sortAt, kindAt, elementAt, recordAt, attributeAt, bareAt, attributeTypeAt, tagTypeAt, isAboveAt, actionAt, attributesAt, targetAt, requestAt, nodeTypeAt, childAt}
 
 -- ---- the sort of a type's row
 
-sort-table : (r : List ℕ) (j : ℕ) → j < 6 → sortNumber (getD (typeTable r) j bool) ≡ j
+sort-table : (r : List ℕ) (j : ℕ) → j ≤ RECORD-SORT → sortNumber (getD (typeTable r) j bool) ≡ j
 sort-table r zero h = refl
 sort-table r (suc zero) h = refl
 sort-table r (suc (suc zero)) h = refl
@@ -31,7 +32,7 @@ sort-table r (suc (suc (suc (suc zero)))) h = refl
 sort-table r (suc (suc (suc (suc (suc zero))))) h = refl
 sort-table r (suc (suc (suc (suc (suc (suc j)))))) h = absurd (omega arith)
 
-sort-past : (r : List ℕ) (j : ℕ) → 6 ≤ j → sortNumber (getD (typeTable r) j bool) ≡ 0
+sort-past : (r : List ℕ) (j : ℕ) → RECORD-SORT < j → sortNumber (getD (typeTable r) j bool) ≡ BOOL-SORT
 sort-past r zero h = refl
 sort-past r (suc zero) h = absurd (omega arith)
 sort-past r (suc (suc zero)) h = absurd (omega arith)
@@ -41,23 +42,23 @@ sort-past r (suc (suc (suc (suc (suc zero))))) h = absurd (omega arith)
 sort-past r (suc (suc (suc (suc (suc (suc j)))))) h = refl
 
 module _ (a q : List ℕ) (y k : ℕ) (eq : q ≡ getD (rowsOf a TYPE) y []) (ek : k ≡ tag q) where
-  pub sort-low : k < 4 → 0 ≡ sortAt a y
+  pub sort-low : k < LONG-TYPE → BOOL-SORT ≡ sortAt a y
   unfolding sortAt
-  sort-low h = let e : tag q - 3 ≡ 0 = omega arith in rw (← eq, e)
+  sort-low h = let e : tag q - firstType ≡ 0 = omega arith in rw (← eq, e)
 
-  pub sort-high : 8 < k → 0 ≡ sortAt a y
+  pub sort-high : RECORD-TYPE < k → BOOL-SORT ≡ sortAt a y
   unfolding sortAt
-  sort-high h = rw (← eq) (sym (sort-past q (tag q - 3) (omega arith)))
+  sort-high h = rw (← eq) (sym (sort-past q (tag q - firstType) (omega arith)))
 
-  pub sort-mid : 4 ≤ k → k ≤ 8 → k - 3 ≡ sortAt a y
+  pub sort-mid : LONG-TYPE ≤ k → k ≤ RECORD-TYPE → k - firstType ≡ sortAt a y
   unfolding sortAt
-  sort-mid l h = rw (← eq) (ap (λ t. t - 3) ek ∙ sym (sort-table q (tag q - 3) (omega arith)))
+  sort-mid l h = rw (← eq) (ap (λ t. t - firstType) ek ∙ sym (sort-table q (tag q - firstType) (omega arith)))
 
 -- a type's row of another sort
-tag-sort : (q : List ℕ) (n : ℕ) → sortNumber (typeRow q) ≡ suc n → tag q ≡ 4 + n
-tag-sort q n h = go (tag q - 3) refl h
+tag-sort : (q : List ℕ) (n : ℕ) → sortNumber (typeRow q) ≡ suc n → tag q ≡ LONG-TYPE + n
+tag-sort q n h = go (tag q - firstType) refl h
   where
-    go : (j : ℕ) → j ≡ tag q - 3 → sortNumber (getD (typeTable q) j bool) ≡ suc n → tag q ≡ 4 + n
+    go : (j : ℕ) → j ≡ tag q - firstType → sortNumber (getD (typeTable q) j bool) ≡ suc n → tag q ≡ LONG-TYPE + n
     go zero e h = absurd (omega arith)
     go (suc zero) e h = omega arith
     go (suc (suc zero)) e h = omega arith
@@ -67,7 +68,7 @@ tag-sort q n h = go (tag q - 3) refl h
     go (suc (suc (suc (suc (suc (suc j)))))) e h = absurd (omega arith)
 
 module _ {A : Type 0} (d : A) where
-  not-entity : (T : TypeRow) (f : ℕ → A) → (sortNumber T ≡ 3 → ⊥) → onEntity d T f ≡ d
+  not-entity : (T : TypeRow) (f : ℕ → A) → (sortNumber T ≡ ENTITY-SORT → ⊥) → onEntity d T f ≡ d
   not-entity bool f h = refl
   not-entity long f h = refl
   not-entity string f h = refl
@@ -75,7 +76,7 @@ module _ {A : Type 0} (d : A) where
   not-entity (set′ t) f h = refl
   not-entity (record′ ds) f h = refl
 
-  not-set : (T : TypeRow) (f : ℕ → A) → (sortNumber T ≡ 4 → ⊥) → onSetOf d T f ≡ d
+  not-set : (T : TypeRow) (f : ℕ → A) → (sortNumber T ≡ SET-SORT → ⊥) → onSetOf d T f ≡ d
   not-set bool f h = refl
   not-set long f h = refl
   not-set string f h = refl
@@ -83,7 +84,7 @@ module _ {A : Type 0} (d : A) where
   not-set (set′ t) f h = absurd (h refl)
   not-set (record′ ds) f h = refl
 
-  not-record : (T : TypeRow) (f : List Declared → A) → (sortNumber T ≡ 5 → ⊥) → onRecord d T f ≡ d
+  not-record : (T : TypeRow) (f : List Declared → A) → (sortNumber T ≡ RECORD-SORT → ⊥) → onRecord d T f ≡ d
   not-record bool f h = refl
   not-record long f h = refl
   not-record string f h = refl
@@ -92,29 +93,29 @@ module _ {A : Type 0} (d : A) where
   not-record (record′ ds) f h = absurd (h refl)
 
 module _ (a q : List ℕ) (y k : ℕ) (eq : q ≡ getD (rowsOf a TYPE) y []) (ek : k ≡ tag q) where
-  pub kind-is : (x : ℕ) → k ≡ 6 → x ≡ getD q 1 0 → F.the-variants.As x ≡ found (kindAt a y)
+  pub kind-is : (x : ℕ) → k ≡ ENTITY-TYPE → x ≡ getD q 1 0 → F.the-variants.As x ≡ found (kindAt a y)
   unfolding found kindAt
-  kind-is x h ex = let e : tag q ≡ 6 = sym ek ∙ h in rw (← eq, e, ex)
+  kind-is x h ex = let e : tag q ≡ ENTITY-TYPE = sym ek ∙ h in rw (← eq, e, ex)
 
-  pub kind-not : (k ≡ 6 → ⊥) → F.the-variants.Undeclared ≡ found (kindAt a y)
+  pub kind-not : (k ≡ ENTITY-TYPE → ⊥) → F.the-variants.Undeclared ≡ found (kindAt a y)
   unfolding found kindAt
-  kind-not h = let e : onEntity none (typeRow q) some ≡ none = not-entity none (typeRow q) some (λ s. h (ek ∙ tag-sort q 2 s)) in rw (← eq, e)
+  kind-not h = let e : onEntity none (typeRow q) some ≡ none = not-entity none (typeRow q) some (λ s. h (ek ∙ tag-sort q (ENTITY-TYPE - LONG-TYPE) s)) in rw (← eq, e)
 
-  pub element-is : (x : ℕ) → k ≡ 7 → x ≡ getD q 1 0 → F.the-variants.As x ≡ found (elementAt a y)
+  pub element-is : (x : ℕ) → k ≡ SET-TYPE → x ≡ getD q 1 0 → F.the-variants.As x ≡ found (elementAt a y)
   unfolding found elementAt
-  element-is x h ex = let e : tag q ≡ 7 = sym ek ∙ h in rw (← eq, e, ex)
+  element-is x h ex = let e : tag q ≡ SET-TYPE = sym ek ∙ h in rw (← eq, e, ex)
 
-  pub element-not : (k ≡ 7 → ⊥) → F.the-variants.Undeclared ≡ found (elementAt a y)
+  pub element-not : (k ≡ SET-TYPE → ⊥) → F.the-variants.Undeclared ≡ found (elementAt a y)
   unfolding found elementAt
-  element-not h = let e : onSetOf none (typeRow q) some ≡ none = not-set none (typeRow q) some (λ s. h (ek ∙ tag-sort q 3 s)) in rw (← eq, e)
+  element-not h = let e : onSetOf none (typeRow q) some ≡ none = not-set none (typeRow q) some (λ s. h (ek ∙ tag-sort q (SET-TYPE - LONG-TYPE) s)) in rw (← eq, e)
 
-  pub record-is : k ≡ 8 → F.the-variants.As y ≡ found (recordAt a y)
+  pub record-is : k ≡ RECORD-TYPE → F.the-variants.As y ≡ found (recordAt a y)
   unfolding found recordAt
-  record-is h = let e : tag q ≡ 8 = sym ek ∙ h in rw (← eq, e)
+  record-is h = let e : tag q ≡ RECORD-TYPE = sym ek ∙ h in rw (← eq, e)
 
-  pub record-not : (k ≡ 8 → ⊥) → F.the-variants.Undeclared ≡ found (recordAt a y)
+  pub record-not : (k ≡ RECORD-TYPE → ⊥) → F.the-variants.Undeclared ≡ found (recordAt a y)
   unfolding found recordAt
-  record-not h = let e : onRecord none (typeRow q) (λ ds. some y) ≡ none = not-record none (typeRow q) (λ ds. some y) (λ s. h (ek ∙ tag-sort q 4 s)) in rw (← eq, e)
+  record-not h = let e : onRecord none (typeRow q) (λ ds. some y) ≡ none = not-record none (typeRow q) (λ ds. some y) (λ s. h (ek ∙ tag-sort q (RECORD-TYPE - LONG-TYPE) s)) in rw (← eq, e)
 
 -- ---- parts of a row
 
@@ -141,7 +142,7 @@ pub tag-type-is : (a q : List ℕ) (k x : ℕ) → q ≡ getD (rowsOf a SHAPE) k
 unfolding tagTypeAt
 tag-type-is a q k x eq ex = rw (← eq) ex
 
-pub action-is : (a q : List ℕ) (k x : ℕ) → q ≡ getD (rowsOf a KIND) k [] → x ≡ getD q 2 0 → eqb x 1 ≡ actionAt a k
+pub action-is : (a q : List ℕ) (k x : ℕ) → q ≡ getD (rowsOf a KIND) k [] → x ≡ getD q 2 0 → eqb x OF-ACTIONS ≡ actionAt a k
 unfolding actionAt
 action-is a q k x eq ex = rw (← eq, ← ex)
 
@@ -149,7 +150,7 @@ pub request-at-is : (a q : List ℕ) (k x : ℕ) → q ≡ getD (rowsOf a k) 0 [
 unfolding requestAt
 request-at-is a q k x eq ex = rw (← eq) ex
 
-pub node-type-is : (a q : List ℕ) (n x : ℕ) → q ≡ getD (rowsOf a 11) n [] → x ≡ getD q 1 0 → x ≡ nodeTypeAt a n
+pub node-type-is : (a q : List ℕ) (n x : ℕ) → q ≡ getD (rowsOf a NODE) n [] → x ≡ getD q 1 0 → x ≡ nodeTypeAt a n
 unfolding nodeTypeAt
 node-type-is a q n x eq ex = rw (← eq) ex
 

@@ -9,22 +9,41 @@ use lib.Dec.{eqb}
 use lib.ListN.{getD, drop}
 use Rattle.cedar.specs.Value.{onSome}
 use Rattle.cedar.specs.Numbered.{rEnt, rSet, rRec, memN, isSome}
-use Rattle.sheet.specs.Forms.{tag, items, mark, KIND, TYPE, SHAPE, VALUE, PRINCIPAL, ACTION, RESOURCE, CONTEXT, NODE}
+use Rattle.sheet.specs.Forms.{tag, items, mark, firstType, firstNode, KIND, TYPE, SHAPE, VALUE, PRINCIPAL, ACTION, RESOURCE, CONTEXT, NODE}
 use Rattle.sheet.specs.State.{TypeRow, bool, long, string, entity, set′, record′, declareds, typeRow, entriesOf, valueRow}
 use Rattle.sheet.specs.Typing.{onEntity, onSetOf, onRecord, allIn, allEntries, noneDeclared, isStop, typed}
-use Rattle.table.specs.Layout.{rowsOf, held}
+use Rattle.forms.specs.Tags.{LONG-TYPE, STRING-TYPE, ENTITY-TYPE, SET-TYPE, RECORD-TYPE, OF-ACTIONS}
+use Rattle.table.specs.Layout.{rowsOf, held, TYPEDEPTHS}
 use Rattle.fits.specs.Fit.{SettledIn, Known, full, completeIn, declaredBy}
 
 -- ---- types, by their numbers
 
--- bool, long, string, entity, set, record
+-- the sorts of types: the places of their forms among the forms of types
+abbrev pub BOOL-SORT : ℕ
+BOOL-SORT = 0
+
+abbrev pub LONG-SORT : ℕ
+LONG-SORT = LONG-TYPE - firstType
+
+abbrev pub STRING-SORT : ℕ
+STRING-SORT = STRING-TYPE - firstType
+
+abbrev pub ENTITY-SORT : ℕ
+ENTITY-SORT = ENTITY-TYPE - firstType
+
+abbrev pub SET-SORT : ℕ
+SET-SORT = SET-TYPE - firstType
+
+abbrev pub RECORD-SORT : ℕ
+RECORD-SORT = RECORD-TYPE - firstType
+
 abbrev pub sortNumber : TypeRow → ℕ
-sortNumber bool = 0
-sortNumber long = 1
-sortNumber string = 2
-sortNumber (entity k) = 3
-sortNumber (set′ t) = 4
-sortNumber (record′ ds) = 5
+sortNumber bool = BOOL-SORT
+sortNumber long = LONG-SORT
+sortNumber string = STRING-SORT
+sortNumber (entity k) = ENTITY-SORT
+sortNumber (set′ t) = SET-SORT
+sortNumber (record′ ds) = RECORD-SORT
 
 module _ (a : List ℕ) where
   unfoldable pub sortAt : ℕ → ℕ
@@ -59,7 +78,7 @@ module _ (a : List ℕ) where
   isAboveAt k l = memN l (drop 3 (getD (rowsOf a SHAPE) k []))
 
   unfoldable pub actionAt : ℕ → Bool
-  actionAt k = eqb (getD (getD (rowsOf a KIND) k []) 2 0) 1
+  actionAt k = eqb (getD (getD (rowsOf a KIND) k []) 2 0) OF-ACTIONS
 
   -- the record type of the attributes of an entity or record type
   unfoldable pub attributesAt : ℕ → Option ℕ
@@ -116,31 +135,31 @@ module _ (a r : List ℕ) where
   varRule = getD (requestIs PRINCIPAL ∷ requestIs ACTION ∷ requestIs RESOURCE ∷ contextIsAt ∷ []) (getD r 2 0) contextIsAt
 
   unfoldable pub eqRule : Bool
-  eqRule = eqb (sortAt a (getD r 1 0)) 0 && (eqb (childAt 2) (childAt 3) || (eqb (sortAt a (childAt 2)) 3 && eqb (sortAt a (childAt 3)) 3))
+  eqRule = eqb (sortAt a (getD r 1 0)) BOOL-SORT && (eqb (childAt 2) (childAt 3) || (eqb (sortAt a (childAt 2)) ENTITY-SORT && eqb (sortAt a (childAt 3)) ENTITY-SORT))
 
   unfoldable pub inRule : Bool
-  inRule = twoSorts 0 3 && isSome (targetAt a (childAt 3))
+  inRule = twoSorts BOOL-SORT ENTITY-SORT && isSome (targetAt a (childAt 3))
 
   unfoldable pub gettagRule : Bool
-  gettagRule = eqb (sortAt a (childAt 3)) 2 && onSome false (kindAt a (childAt 2)) (λ k. eqb (tagTypeAt a k) (getD r 1 0))
+  gettagRule = eqb (sortAt a (childAt 3)) STRING-SORT && onSome false (kindAt a (childAt 2)) (λ k. eqb (tagTypeAt a k) (getD r 1 0))
 
   unfoldable pub containsRule : Bool
-  containsRule = eqb (sortAt a (getD r 1 0)) 0 && onSome false (elementAt a (childAt 2)) (λ e. eqb e (childAt 3))
+  containsRule = eqb (sortAt a (getD r 1 0)) BOOL-SORT && onSome false (elementAt a (childAt 2)) (λ e. eqb e (childAt 3))
 
   unfoldable pub twoSetsRule : Bool
-  twoSetsRule = twoSorts 0 4 && eqb (childAt 2) (childAt 3)
+  twoSetsRule = twoSorts BOOL-SORT SET-SORT && eqb (childAt 2) (childAt 3)
 
   unfoldable pub ifRule : Bool
-  ifRule = eqb (sortAt a (childAt 2)) 0 && eqb (childAt 3) (getD r 1 0) && eqb (childAt 4) (getD r 1 0)
+  ifRule = eqb (sortAt a (childAt 2)) BOOL-SORT && eqb (childAt 3) (getD r 1 0) && eqb (childAt 4) (getD r 1 0)
 
   unfoldable pub getRule : Bool
   getRule = onSome false (attributesAt a (childAt 2)) (λ y. onSome false (attributeAt a y (getD r 3 0)) (eqb (getD r 1 0)))
 
   unfoldable pub hasRule : Bool
-  hasRule = eqb (sortAt a (getD r 1 0)) 0 && isSome (attributesAt a (childAt 2))
+  hasRule = eqb (sortAt a (getD r 1 0)) BOOL-SORT && isSome (attributesAt a (childAt 2))
 
   unfoldable pub haspathRule : Bool
-  haspathRule = eqb (sortAt a (getD r 1 0)) 0 && onSome false (attributesAt a (childAt 2)) (pathFrom a (drop 3 r))
+  haspathRule = eqb (sortAt a (getD r 1 0)) BOOL-SORT && onSome false (attributesAt a (childAt 2)) (pathFrom a (drop 3 r))
 
   unfoldable pub setRule : Bool
   setRule = onSome false (elementAt a (getD r 1 0)) (allOf a (drop 2 r))
@@ -154,29 +173,29 @@ module _ (a r : List ℕ) where
       full a (getD r 2 0) (getD r 1 0)  -- lit
       ∷ true  -- err
       ∷ varRule  -- var
-      ∷ threeSorts 0 0 0  -- and
-      ∷ threeSorts 0 0 0  -- or
+      ∷ threeSorts BOOL-SORT BOOL-SORT BOOL-SORT  -- and
+      ∷ threeSorts BOOL-SORT BOOL-SORT BOOL-SORT  -- or
       ∷ eqRule  -- eq
-      ∷ threeSorts 0 1 1  -- lt
-      ∷ threeSorts 0 1 1  -- le
-      ∷ threeSorts 1 1 1  -- add
-      ∷ threeSorts 1 1 1  -- sub
-      ∷ threeSorts 1 1 1  -- mul
+      ∷ threeSorts BOOL-SORT LONG-SORT LONG-SORT  -- lt
+      ∷ threeSorts BOOL-SORT LONG-SORT LONG-SORT  -- le
+      ∷ threeSorts LONG-SORT LONG-SORT LONG-SORT  -- add
+      ∷ threeSorts LONG-SORT LONG-SORT LONG-SORT  -- sub
+      ∷ threeSorts LONG-SORT LONG-SORT LONG-SORT  -- mul
       ∷ inRule  -- in
       ∷ gettagRule  -- gettag
-      ∷ threeSorts 0 3 2  -- hastag
+      ∷ threeSorts BOOL-SORT ENTITY-SORT STRING-SORT  -- hastag
       ∷ containsRule  -- contains
       ∷ twoSetsRule  -- all
       ∷ twoSetsRule  -- any
       ∷ ifRule  -- if
-      ∷ twoSorts 0 3  -- is
-      ∷ twoSorts 0 2  -- like
+      ∷ twoSorts BOOL-SORT ENTITY-SORT  -- is
+      ∷ twoSorts BOOL-SORT STRING-SORT  -- like
       ∷ getRule  -- get
       ∷ hasRule  -- has
       ∷ haspathRule  -- haspath
-      ∷ twoSorts 0 0  -- not
-      ∷ twoSorts 1 1  -- neg
-      ∷ twoSorts 0 4  -- empty
+      ∷ twoSorts BOOL-SORT BOOL-SORT  -- not
+      ∷ twoSorts LONG-SORT LONG-SORT  -- neg
+      ∷ twoSorts BOOL-SORT SET-SORT  -- empty
       ∷ setRule  -- set
       ∷ recordRule  -- record
       ∷ []
@@ -193,7 +212,7 @@ module _ (a r : List ℕ) where
   contextRule = isSome (recordAt a (getD r 1 0)) && (eqb (getD r 2 0) mark || full a (getD r 2 0) (getD r 1 0))
 
   unfoldable pub policyRule : Bool
-  policyRule = eqb (sortAt a (childAt 3)) 0
+  policyRule = eqb (sortAt a (childAt 3)) BOOL-SORT
 
 module _ (a : List ℕ) (x k : ℕ) where
   -- attributes, tags and ancestors x of an entity of kind k
@@ -228,7 +247,7 @@ module _ (a : List ℕ) where
       ∷ actionAt a (getD r 1 0)  -- action
       ∷ not (actionAt a (getD r 1 0))  -- resource
       ∷ contextRule a r  -- context
-      ∷ nodeRule a r (tag r - 21)  -- node
+      ∷ nodeRule a r (tag r - firstNode)  -- node
       ∷ policyRule a r  -- policy
       ∷ []) k false
 
@@ -238,4 +257,4 @@ module _ (a : List ℕ) where
 pub record Typed (a m n r : List ℕ) (k : ℕ) (b : Bool) : Type 0 where
   pub is : (sheet c : List ℕ) → SettledIn a → b ≡ typed (held sheet a c) r k
   pub known : Known a n
-  pub rest : drop 4096 n ≡ drop 4096 m
+  pub rest : drop TYPEDEPTHS n ≡ drop TYPEDEPTHS m

@@ -1,7 +1,7 @@
 // The typing of lines: one rule for each key.
 use crate::nodes::child;
 use crate::nodes::node_typed;
-use crate::types::BOOL;
+use crate::types::BOOL_SORT;
 use crate::types::attribute_type;
 use crate::types::is_above;
 use crate::types::is_action;
@@ -12,20 +12,25 @@ use crate::types::tag_type;
 use fits::Found;
 use fits::tags_fit;
 use fits::value_fits;
-use table::ACTION;
-use table::CONTEXT;
-use table::ENTITY;
-use table::NODE;
-use table::POLICY;
-use table::PRINCIPAL;
-use table::RESOURCE;
-use table::SHAPE;
-use table::VALUE;
+use forms::ACTION;
+use forms::CONTEXT;
+use forms::ENTITY;
+use forms::ENTITY_VALUE;
+use forms::MARK;
+use forms::NODE;
+use forms::POLICY;
+use forms::PRINCIPAL;
+use forms::RECORD_VALUE;
+use forms::RESOURCE;
+use forms::SET_VALUE;
+use forms::SHAPE;
+use forms::VALUE;
 use table::count;
 use table::item;
 use table::row;
 use table::tag;
 ghost use mathlib.Core.Path.{_≡_};
+ghost use Rattle.sheet.specs.Forms.{ENTITY, CONTEXT, NODE};
 ghost use Rattle.fits.specs.Fit.{Known, Answered};
 ghost use Rattle.typing.specs.Rules.{
   shapeRule,
@@ -40,95 +45,85 @@ ghost use Rattle.typing.specs.Rules.{
   Typed,
 };
 
-// `?` or `-` in a row.
-const MARK: u32 = 10000;
-
-// The forms of values that a line of key entity names.
-const ENTITY_VALUE: u32 = 13;
-
-const SET_VALUE: u32 = 14;
-
-const RECORD_VALUE: u32 = 15;
-
 // ---- shapes
 
-fn shape_typed(a: &[u32], r: &[u32]) -> bool
-    ensures { λ b. ⌜ b ≡ shapeRule (now (a .entry)) (now (r .entry)) ⌝ }
+fn shape_typed(rows: &[u32], line: &[u32]) -> bool
+    ensures { λ b. ⌜ b ≡ shapeRule (now (rows .entry)) (now (line .entry)) ⌝ }
 {
-    let f = record_of(a, item(r, 1));
+    let f = record_of(rows, item(line, 1));
     let Found::As(y) = f else {
         return false;
     };
-    if !is_action(a, count(a, SHAPE)) {
+    if !is_action(rows, count(rows, SHAPE)) {
         return true;
     }
-    if !is_bare(a, y) {
+    if !is_bare(rows, y) {
         return false;
     }
-    item(r, 2) == MARK
+    item(line, 2) == MARK
 }
 
 // ---- entities
 
-// Attributes x of an entity of kind k.
-fn attributes_typed(a: &[u32], m: &mut [u32], x: u32, k: u32) -> bool
-    requires { ⌜ Known (now a) (now m) ⌝ }
-    ensures { λ b. ⌜ Answered (now (a .entry)) (now (m .entry)) (now (m .exit)) (attributesRule (now (a .entry)) x k) b ⌝ }
+// The attributes of an entity of a kind, or a mark.
+fn attributes_typed(rows: &[u32], work: &mut [u32], value: u32, kind: u32) -> bool
+    requires { ⌜ Known (now rows) (now work) ⌝ }
+    ensures { λ b. ⌜ Answered (now (rows .entry)) (now (work .entry)) (now (work .exit)) (attributesRule (now (rows .entry)) value kind) b ⌝ }
 {
-    if x == MARK {
+    if value == MARK {
         return true;
     }
-    let q = row(a, VALUE, x);
+    let q = row(rows, VALUE, value);
     if tag(q) == RECORD_VALUE {
-        return value_fits(a, m, x, attribute_type(a, k));
+        return value_fits(rows, work, value, attribute_type(rows, kind));
     }
     false
 }
 
-// Tags x of an entity of kind k.
-fn tags_typed(a: &[u32], m: &mut [u32], x: u32, k: u32) -> bool
-    requires { ⌜ Known (now a) (now m) ⌝ }
-    ensures { λ b. ⌜ Answered (now (a .entry)) (now (m .entry)) (now (m .exit)) (tagsRule (now (a .entry)) x k) b ⌝ }
+// The tags of an entity of a kind, or a mark.
+fn tags_typed(rows: &[u32], work: &mut [u32], value: u32, kind: u32) -> bool
+    requires { ⌜ Known (now rows) (now work) ⌝ }
+    ensures { λ b. ⌜ Answered (now (rows .entry)) (now (work .entry)) (now (work .exit)) (tagsRule (now (rows .entry)) value kind) b ⌝ }
 {
-    if x == MARK {
+    if value == MARK {
         return true;
     }
-    let q = row(a, VALUE, x);
+    let q = row(rows, VALUE, value);
     if tag(q) != RECORD_VALUE {
         return false;
     }
-    let y = tag_type(a, k);
+    let y = tag_type(rows, kind);
     if y == MARK {
         return q.len() < 3;
     }
-    tags_fit(a, m, q, y)
+    tags_fit(rows, work, q, y)
 }
 
-// Whether value x is an entity whose kind is above kind k.
-fn is_ancestor(a: &[u32], x: u32, k: u32) -> bool
-    ensures { λ b. ⌜ b ≡ ancestorRule (now (a .entry)) x k ⌝ }
+// Whether a value is an entity whose kind is above this one.
+fn is_ancestor(rows: &[u32], value: u32, kind: u32) -> bool
+    ensures { λ b. ⌜ b ≡ ancestorRule (now (rows .entry)) value kind ⌝ }
 {
-    let q = row(a, VALUE, x);
+    let q = row(rows, VALUE, value);
     if tag(q) == ENTITY_VALUE {
-        return is_above(a, k, item(q, 1));
+        return is_above(rows, kind, item(q, 1));
     }
     false
 }
 
-// Ancestors x of an entity of kind k.
-fn ancestors_typed(a: &[u32], x: u32, k: u32) -> bool
-    ensures { λ b. ⌜ b ≡ ancestorsRule (now (a .entry)) x k ⌝ }
+// The ancestors of an entity of a kind, or a mark.
+fn ancestors_typed(rows: &[u32], value: u32, kind: u32) -> bool
+    ensures { λ b. ⌜ b ≡ ancestorsRule (now (rows .entry)) value kind ⌝ }
 {
-    if x == MARK {
+    if value == MARK {
         return true;
     }
-    let q = row(a, VALUE, x);
+    let q = row(rows, VALUE, value);
     if tag(q) != SET_VALUE {
         return false;
     }
     let mut i: usize = 1;
     while i < q.len() {
-        if !is_ancestor(a, item(q, i), k) {
+        if !is_ancestor(rows, item(q, i), kind) {
             return false;
         }
         i += 1;
@@ -136,81 +131,81 @@ fn ancestors_typed(a: &[u32], x: u32, k: u32) -> bool
     true
 }
 
-fn entity_typed(a: &[u32], m: &mut [u32], r: &[u32]) -> bool
-    requires { ⌜ Known (now a) (now m) ⌝ }
-    ensures { λ b. ⌜ Answered (now (a .entry)) (now (m .entry)) (now (m .exit)) (entityRule (now (a .entry)) (now (r .entry))) b ⌝ }
+fn entity_typed(rows: &[u32], work: &mut [u32], line: &[u32]) -> bool
+    requires { ⌜ Known (now rows) (now work) ⌝ }
+    ensures { λ b. ⌜ Answered (now (rows .entry)) (now (work .entry)) (now (work .exit)) (entityRule (now (rows .entry)) (now (line .entry))) b ⌝ }
 {
-    let q = row(a, VALUE, item(r, 1));
+    let q = row(rows, VALUE, item(line, 1));
     if tag(q) != ENTITY_VALUE {
         return false;
     }
     let k = item(q, 1);
-    if !attributes_typed(a, m, item(r, 2), k) {
+    if !attributes_typed(rows, work, item(line, 2), k) {
         return false;
     }
-    if !tags_typed(a, m, item(r, 3), k) {
+    if !tags_typed(rows, work, item(line, 3), k) {
         return false;
     }
-    ancestors_typed(a, item(r, 4), k)
+    ancestors_typed(rows, item(line, 4), k)
 }
 
 // ---- the request, policies
 
-fn context_typed(a: &[u32], m: &mut [u32], r: &[u32]) -> bool
-    requires { ⌜ Known (now a) (now m) ⌝ }
-    ensures { λ b. ⌜ Answered (now (a .entry)) (now (m .entry)) (now (m .exit)) (contextRule (now (a .entry)) (now (r .entry))) b ⌝ }
+fn context_typed(rows: &[u32], work: &mut [u32], line: &[u32]) -> bool
+    requires { ⌜ Known (now rows) (now work) ⌝ }
+    ensures { λ b. ⌜ Answered (now (rows .entry)) (now (work .entry)) (now (work .exit)) (contextRule (now (rows .entry)) (now (line .entry))) b ⌝ }
 {
-    let y = item(r, 1);
-    let f = record_of(a, y);
+    let y = item(line, 1);
+    let f = record_of(rows, y);
     let Found::As(_) = f else {
         return false;
     };
-    let x = item(r, 2);
+    let x = item(line, 2);
     if x == MARK {
         return true;
     }
-    value_fits(a, m, x, y)
+    value_fits(rows, work, x, y)
 }
 
-fn policy_typed(a: &[u32], r: &[u32]) -> bool
-    ensures { λ b. ⌜ b ≡ policyRule (now (a .entry)) (now (r .entry)) ⌝ }
+fn policy_typed(rows: &[u32], line: &[u32]) -> bool
+    ensures { λ b. ⌜ b ≡ policyRule (now (rows .entry)) (now (line .entry)) ⌝ }
 {
-    sort(a, child(a, r, 3)) == BOOL
+    sort(rows, child(rows, line, 3)) == BOOL_SORT
 }
 
 // ---- any key
 
 // The rules that ask for no value.
-fn key_typed(a: &[u32], r: &[u32], k: usize) -> bool
-    requires { ⌜ (k ≡ 6 → ⊥) × (k ≡ 10 → ⊥) × (k ≡ 11 → ⊥) ⌝ }
-    ensures { λ b. ⌜ b ≡ typedRule (now (a .entry)) (now (r .entry)) k ⌝ }
+fn key_typed(rows: &[u32], line: &[u32], key: usize) -> bool
+    requires { ⌜ (key ≡ ENTITY → ⊥) × (key ≡ CONTEXT → ⊥) × (key ≡ NODE → ⊥) ⌝ }
+    ensures { λ b. ⌜ b ≡ typedRule (now (rows .entry)) (now (line .entry)) key ⌝ }
 {
-    match k {
-        SHAPE => shape_typed(a, r),
-        PRINCIPAL => !is_action(a, item(r, 1)),
-        ACTION => is_action(a, item(r, 1)),
-        RESOURCE => !is_action(a, item(r, 1)),
-        POLICY => policy_typed(a, r),
-        _ => k <= POLICY,
+    match key {
+        SHAPE => shape_typed(rows, line),
+        PRINCIPAL => !is_action(rows, item(line, 1)),
+        ACTION => is_action(rows, item(line, 1)),
+        RESOURCE => !is_action(rows, item(line, 1)),
+        POLICY => policy_typed(rows, line),
+        _ => key <= POLICY,
     }
 }
 
-fn line_typed(a: &[u32], m: &mut [u32], r: &[u32], k: usize) -> bool
-    requires { ⌜ Known (now a) (now m) ⌝ }
-    ensures { λ b. ⌜ Answered (now (a .entry)) (now (m .entry)) (now (m .exit)) (typedRule (now (a .entry)) (now (r .entry)) k) b ⌝ }
+fn line_typed(rows: &[u32], work: &mut [u32], line: &[u32], key: usize) -> bool
+    requires { ⌜ Known (now rows) (now work) ⌝ }
+    ensures { λ b. ⌜ Answered (now (rows .entry)) (now (work .entry)) (now (work .exit)) (typedRule (now (rows .entry)) (now (line .entry)) key) b ⌝ }
 {
-    match k {
-        ENTITY => entity_typed(a, m, r),
-        CONTEXT => context_typed(a, m, r),
-        NODE => node_typed(a, m, r),
-        _ => key_typed(a, r, k),
+    match key {
+        ENTITY => entity_typed(rows, work, line),
+        CONTEXT => context_typed(rows, work, line),
+        NODE => node_typed(rows, work, line),
+        _ => key_typed(rows, line, key),
     }
 }
 
-// Whether row r of a line of key k is typed.
-pub fn typed(a: &[u32], m: &mut [u32], r: &[u32], k: usize) -> bool
-    requires { ⌜ Known (now a) (now m) ⌝ }
-    ensures { λ b. ⌜ Typed (now (a .entry)) (now (m .entry)) (now (m .exit)) (now (r .entry)) k b ⌝ }
+// Whether the row of a line of a key is typed.
+pub fn typed(rows: &[u32], work: &mut [u32], line: &[u32], key: usize) -> bool
+    requires { ⌜ Known (now rows) (now work) ⌝ }
+    ensures { λ b. ⌜ Typed (now (rows .entry)) (now (work .entry)) (now (work .exit)) (now (line .entry)) key b ⌝ }
 {
-    line_typed(a, m, r, k)
+    line_typed(rows, work, line, key)
 }

@@ -1,9 +1,9 @@
 // The typing of nodes: one rule for each operation.
-use crate::types::BOOL;
-use crate::types::ENTITY;
-use crate::types::LONG;
-use crate::types::SET;
-use crate::types::STRING;
+use crate::types::BOOL_SORT;
+use crate::types::ENTITY_SORT;
+use crate::types::LONG_SORT;
+use crate::types::SET_SORT;
+use crate::types::STRING_SORT;
 use crate::types::attribute;
 use crate::types::attributes;
 use crate::types::element_of;
@@ -16,12 +16,43 @@ use crate::types::target;
 use fits::Found;
 use fits::complete;
 use fits::value_fits;
-use table::ACTION;
-use table::CONTEXT;
-use table::NODE;
-use table::PRINCIPAL;
-use table::RESOURCE;
-use table::TYPE;
+use forms::ACTION;
+use forms::ADD;
+use forms::ALL;
+use forms::AND;
+use forms::ANY;
+use forms::CONTAINS;
+use forms::CONTEXT;
+use forms::EMPTY;
+use forms::EQ;
+use forms::ERR;
+use forms::GET;
+use forms::GETTAG;
+use forms::HAS;
+use forms::HASPATH;
+use forms::HASTAG;
+use forms::IF;
+use forms::IN;
+use forms::IS;
+use forms::LE;
+use forms::LIKE;
+use forms::LIT;
+use forms::LT;
+use forms::MUL;
+use forms::NEG;
+use forms::NODE;
+use forms::NOT;
+use forms::OR;
+use forms::PART_A;
+use forms::PART_P;
+use forms::PART_R;
+use forms::PRINCIPAL;
+use forms::RECORD_OF;
+use forms::RESOURCE;
+use forms::SET_OF;
+use forms::SUB;
+use forms::TYPE;
+use forms::VAR;
 use table::item;
 use table::row;
 use table::tag;
@@ -29,7 +60,8 @@ use words::cut;
 ghost use mathlib.Core.Path.{_≡_};
 ghost use Prim.Native.Nat.{_-_, _≤_};
 ghost use lib.ListN.{drop};
-ghost use Rattle.sheet.specs.Forms.{tag};
+ghost use Rattle.sheet.specs.Forms.{tag, firstNode};
+ghost use Rattle.forms.specs.Tags.{ERR, CONTAINS, ALL, RECORD-OF};
 ghost use Rattle.fits.specs.Fit.{Known, Answered};
 ghost use Rattle.typing.specs.Rules.{
   nodeTypeAt,
@@ -55,95 +87,38 @@ ghost use Rattle.typing.specs.Rules.{
   nodeRule,
 };
 
-// The forms of nodes.
-const LIT: u32 = 21;
-
-const ERR: u32 = 22;
-
-const VAR: u32 = 23;
-
-const AND: u32 = 24;
-
-const OR: u32 = 25;
-
-const EQ: u32 = 26;
-
-const LT: u32 = 27;
-
-const LE: u32 = 28;
-
-const ADD: u32 = 29;
-
-const SUB: u32 = 30;
-
-const MUL: u32 = 31;
-
-const IN: u32 = 32;
-
-const GETTAG: u32 = 33;
-
-const HASTAG: u32 = 34;
-
-const CONTAINS: u32 = 35;
-
-const ALL: u32 = 36;
-
-const ANY: u32 = 37;
-
-const IF: u32 = 38;
-
-const IS: u32 = 39;
-
-const LIKE: u32 = 40;
-
-const GET: u32 = 41;
-
-const HAS: u32 = 42;
-
-const HASPATH: u32 = 43;
-
-const NOT: u32 = 44;
-
-const NEG: u32 = 45;
-
-const EMPTY: u32 = 46;
-
-const SET_OF: u32 = 47;
-
-const RECORD_OF: u32 = 48;
-
 // ---- the types of a node and its children
 
-pub fn node_type(a: &[u32], n: u32) -> u32
-    ensures { λ y. ⌜ y ≡ nodeTypeAt (now (a .entry)) n ⌝ }
+pub fn node_type(rows: &[u32], node: u32) -> u32
+    ensures { λ y. ⌜ y ≡ nodeTypeAt (now (rows .entry)) node ⌝ }
 {
-    let q = row(a, NODE, n);
+    let q = row(rows, NODE, node);
     item(q, 1)
 }
 
-// The type of the node that word i of the row names.
-pub fn child(a: &[u32], r: &[u32], i: usize) -> u32
-    ensures { λ y. ⌜ y ≡ childAt (now (a .entry)) (now (r .entry)) i ⌝ }
+// The type of the node that word `i` of the row names.
+pub fn child(rows: &[u32], line: &[u32], i: usize) -> u32
+    ensures { λ y. ⌜ y ≡ childAt (now (rows .entry)) (now (line .entry)) i ⌝ }
 {
-    node_type(a, item(r, i))
+    node_type(rows, item(line, i))
 }
 
 // Whether the types of the node and its first child are of these sorts.
-fn two_sorts(a: &[u32], r: &[u32], i: u32, j: u32) -> bool
-    ensures { λ b. ⌜ b ≡ twoSorts (now (a .entry)) (now (r .entry)) i j ⌝ }
+fn two_sorts(rows: &[u32], line: &[u32], own: u32, first: u32) -> bool
+    ensures { λ b. ⌜ b ≡ twoSorts (now (rows .entry)) (now (line .entry)) own first ⌝ }
 {
-    if sort(a, item(r, 1)) == i {
-        return sort(a, child(a, r, 2)) == j;
+    if sort(rows, item(line, 1)) == own {
+        return sort(rows, child(rows, line, 2)) == first;
     }
     false
 }
 
 // Those of the node and its first two children.
-fn three_sorts(a: &[u32], r: &[u32], i: u32, j: u32, k: u32) -> bool
-    ensures { λ b. ⌜ b ≡ threeSorts (now (a .entry)) (now (r .entry)) i j k ⌝ }
+fn three_sorts(rows: &[u32], line: &[u32], own: u32, first: u32, second: u32) -> bool
+    ensures { λ b. ⌜ b ≡ threeSorts (now (rows .entry)) (now (line .entry)) own first second ⌝ }
 {
-    if two_sorts(a, r, i, j) {
-        return sort(a, child(a, r, 3)) == k;
+    if two_sorts(rows, line, own, first) {
+        return sort(rows, child(rows, line, 3)) == second;
     }
     false
 }
@@ -151,154 +126,154 @@ fn three_sorts(a: &[u32], r: &[u32], i: u32, j: u32, k: u32) -> bool
 // ---- variables
 
 // Whether the node's type is an entity of the kind that a line of the request names.
-fn request_is(a: &[u32], r: &[u32], k: usize) -> bool
-    ensures { λ b. ⌜ b ≡ requestIs (now (a .entry)) (now (r .entry)) k ⌝ }
+fn request_is(rows: &[u32], line: &[u32], key: usize) -> bool
+    ensures { λ b. ⌜ b ≡ requestIs (now (rows .entry)) (now (line .entry)) key ⌝ }
 {
-    let f = kind_of(a, item(r, 1));
+    let f = kind_of(rows, item(line, 1));
     let Found::As(e) = f else {
         return false;
     };
-    e == request(a, k)
+    e == request(rows, key)
 }
 
-fn var_typed(a: &[u32], r: &[u32]) -> bool
-    ensures { λ b. ⌜ b ≡ varRule (now (a .entry)) (now (r .entry)) ⌝ }
+fn var_typed(rows: &[u32], line: &[u32]) -> bool
+    ensures { λ b. ⌜ b ≡ varRule (now (rows .entry)) (now (line .entry)) ⌝ }
 {
-    match item(r, 2) {
-        0 => request_is(a, r, PRINCIPAL),
-        1 => request_is(a, r, ACTION),
-        2 => request_is(a, r, RESOURCE),
-        _ => item(r, 1) == request(a, CONTEXT),
+    match item(line, 2) {
+        PART_P => request_is(rows, line, PRINCIPAL),
+        PART_A => request_is(rows, line, ACTION),
+        PART_R => request_is(rows, line, RESOURCE),
+        _ => item(line, 1) == request(rows, CONTEXT),
     }
 }
 
 // ---- operations on entities and sets
 
-fn eq_typed(a: &[u32], r: &[u32]) -> bool
-    ensures { λ b. ⌜ b ≡ eqRule (now (a .entry)) (now (r .entry)) ⌝ }
+fn eq_typed(rows: &[u32], line: &[u32]) -> bool
+    ensures { λ b. ⌜ b ≡ eqRule (now (rows .entry)) (now (line .entry)) ⌝ }
 {
-    if sort(a, item(r, 1)) != BOOL {
+    if sort(rows, item(line, 1)) != BOOL_SORT {
         return false;
     }
-    let x = child(a, r, 2);
-    let y = child(a, r, 3);
+    let x = child(rows, line, 2);
+    let y = child(rows, line, 3);
     if x == y {
         return true;
     }
-    if sort(a, x) == ENTITY {
-        return sort(a, y) == ENTITY;
+    if sort(rows, x) == ENTITY_SORT {
+        return sort(rows, y) == ENTITY_SORT;
     }
     false
 }
 
-fn in_typed(a: &[u32], r: &[u32]) -> bool
-    ensures { λ b. ⌜ b ≡ inRule (now (a .entry)) (now (r .entry)) ⌝ }
+fn in_typed(rows: &[u32], line: &[u32]) -> bool
+    ensures { λ b. ⌜ b ≡ inRule (now (rows .entry)) (now (line .entry)) ⌝ }
 {
-    if !two_sorts(a, r, BOOL, ENTITY) {
+    if !two_sorts(rows, line, BOOL_SORT, ENTITY_SORT) {
         return false;
     }
-    let f = target(a, child(a, r, 3));
+    let f = target(rows, child(rows, line, 3));
     let Found::As(_) = f else {
         return false;
     };
     true
 }
 
-fn gettag_typed(a: &[u32], r: &[u32]) -> bool
-    ensures { λ b. ⌜ b ≡ gettagRule (now (a .entry)) (now (r .entry)) ⌝ }
+fn gettag_typed(rows: &[u32], line: &[u32]) -> bool
+    ensures { λ b. ⌜ b ≡ gettagRule (now (rows .entry)) (now (line .entry)) ⌝ }
 {
-    if sort(a, child(a, r, 3)) != STRING {
+    if sort(rows, child(rows, line, 3)) != STRING_SORT {
         return false;
     }
-    let f = kind_of(a, child(a, r, 2));
+    let f = kind_of(rows, child(rows, line, 2));
     let Found::As(k) = f else {
         return false;
     };
-    tag_type(a, k) == item(r, 1)
+    tag_type(rows, k) == item(line, 1)
 }
 
-fn contains_typed(a: &[u32], r: &[u32]) -> bool
-    ensures { λ b. ⌜ b ≡ containsRule (now (a .entry)) (now (r .entry)) ⌝ }
+fn contains_typed(rows: &[u32], line: &[u32]) -> bool
+    ensures { λ b. ⌜ b ≡ containsRule (now (rows .entry)) (now (line .entry)) ⌝ }
 {
-    if sort(a, item(r, 1)) != BOOL {
+    if sort(rows, item(line, 1)) != BOOL_SORT {
         return false;
     }
-    let f = element_of(a, child(a, r, 2));
+    let f = element_of(rows, child(rows, line, 2));
     let Found::As(e) = f else {
         return false;
     };
-    e == child(a, r, 3)
+    e == child(rows, line, 3)
 }
 
-fn two_sets(a: &[u32], r: &[u32]) -> bool
-    ensures { λ b. ⌜ b ≡ twoSetsRule (now (a .entry)) (now (r .entry)) ⌝ }
+fn two_sets(rows: &[u32], line: &[u32]) -> bool
+    ensures { λ b. ⌜ b ≡ twoSetsRule (now (rows .entry)) (now (line .entry)) ⌝ }
 {
-    if !two_sorts(a, r, BOOL, SET) {
+    if !two_sorts(rows, line, BOOL_SORT, SET_SORT) {
         return false;
     }
-    child(a, r, 2) == child(a, r, 3)
+    child(rows, line, 2) == child(rows, line, 3)
 }
 
-fn if_typed(a: &[u32], r: &[u32]) -> bool
-    ensures { λ b. ⌜ b ≡ ifRule (now (a .entry)) (now (r .entry)) ⌝ }
+fn if_typed(rows: &[u32], line: &[u32]) -> bool
+    ensures { λ b. ⌜ b ≡ ifRule (now (rows .entry)) (now (line .entry)) ⌝ }
 {
-    if sort(a, child(a, r, 2)) != BOOL {
+    if sort(rows, child(rows, line, 2)) != BOOL_SORT {
         return false;
     }
-    let y = item(r, 1);
-    if child(a, r, 3) != y {
+    let y = item(line, 1);
+    if child(rows, line, 3) != y {
         return false;
     }
-    child(a, r, 4) == y
+    child(rows, line, 4) == y
 }
 
 // ---- attributes
 
-fn get_typed(a: &[u32], r: &[u32]) -> bool
-    ensures { λ b. ⌜ b ≡ getRule (now (a .entry)) (now (r .entry)) ⌝ }
+fn get_typed(rows: &[u32], line: &[u32]) -> bool
+    ensures { λ b. ⌜ b ≡ getRule (now (rows .entry)) (now (line .entry)) ⌝ }
 {
-    let f = attributes(a, child(a, r, 2));
+    let f = attributes(rows, child(rows, line, 2));
     let Found::As(y) = f else {
         return false;
     };
-    let g = attribute(a, y, item(r, 3));
+    let g = attribute(rows, y, item(line, 3));
     let Found::As(z) = g else {
         return false;
     };
-    item(r, 1) == z
+    item(line, 1) == z
 }
 
-fn has_typed(a: &[u32], r: &[u32]) -> bool
-    ensures { λ b. ⌜ b ≡ hasRule (now (a .entry)) (now (r .entry)) ⌝ }
+fn has_typed(rows: &[u32], line: &[u32]) -> bool
+    ensures { λ b. ⌜ b ≡ hasRule (now (rows .entry)) (now (line .entry)) ⌝ }
 {
-    if sort(a, item(r, 1)) != BOOL {
+    if sort(rows, item(line, 1)) != BOOL_SORT {
         return false;
     }
-    let f = attributes(a, child(a, r, 2));
+    let f = attributes(rows, child(rows, line, 2));
     let Found::As(_) = f else {
         return false;
     };
     true
 }
 
-// The steps of a path, from record type y on: an undeclared one leaves the rest free.
-fn path_typed(a: &[u32], r: &[u32], y: u32) -> bool
-    ensures { λ b. ⌜ b ≡ pathFrom (now (a .entry)) (drop 3 (now (r .entry))) y ⌝ }
+// The steps of a path, from a record type on: an undeclared one leaves the rest free.
+fn path_typed(rows: &[u32], line: &[u32], ty: u32) -> bool
+    ensures { λ b. ⌜ b ≡ pathFrom (now (rows .entry)) (drop 3 (now (line .entry))) ty ⌝ }
 {
-    let mut z = y;
+    let mut z = ty;
     let mut i: usize = 3;
     loop {
-        if i >= r.len() {
+        if i >= line.len() {
             break true;
         }
-        if i + 1 == r.len() {
+        if i + 1 == line.len() {
             break true;
         }
-        let f = attribute(a, z, item(r, i));
+        let f = attribute(rows, z, item(line, i));
         let Found::As(t) = f else {
             break true;
         };
-        let g = attributes(a, t);
+        let g = attributes(rows, t);
         let Found::As(next) = g else {
             break false;
         };
@@ -307,28 +282,28 @@ fn path_typed(a: &[u32], r: &[u32], y: u32) -> bool
     }
 }
 
-fn haspath_typed(a: &[u32], r: &[u32]) -> bool
-    ensures { λ b. ⌜ b ≡ haspathRule (now (a .entry)) (now (r .entry)) ⌝ }
+fn haspath_typed(rows: &[u32], line: &[u32]) -> bool
+    ensures { λ b. ⌜ b ≡ haspathRule (now (rows .entry)) (now (line .entry)) ⌝ }
 {
-    if sort(a, item(r, 1)) != BOOL {
+    if sort(rows, item(line, 1)) != BOOL_SORT {
         return false;
     }
-    let f = attributes(a, child(a, r, 2));
+    let f = attributes(rows, child(rows, line, 2));
     let Found::As(y) = f else {
         return false;
     };
-    path_typed(a, r, y)
+    path_typed(rows, line, y)
 }
 
 // ---- sets and records
 
-// Whether the children from word 2 on have type e.
-fn children_are(a: &[u32], r: &[u32], e: u32) -> bool
-    ensures { λ b. ⌜ b ≡ allOf (now (a .entry)) (drop 2 (now (r .entry))) e ⌝ }
+// Whether the children from word 2 on have this type.
+fn children_are(rows: &[u32], line: &[u32], ty: u32) -> bool
+    ensures { λ b. ⌜ b ≡ allOf (now (rows .entry)) (drop 2 (now (line .entry))) ty ⌝ }
 {
     let mut i: usize = 2;
-    while i < r.len() {
-        if child(a, r, i) != e {
+    while i < line.len() {
+        if child(rows, line, i) != ty {
             return false;
         }
         i += 1;
@@ -336,30 +311,30 @@ fn children_are(a: &[u32], r: &[u32], e: u32) -> bool
     true
 }
 
-fn set_typed(a: &[u32], r: &[u32]) -> bool
-    ensures { λ b. ⌜ b ≡ setRule (now (a .entry)) (now (r .entry)) ⌝ }
+fn set_typed(rows: &[u32], line: &[u32]) -> bool
+    ensures { λ b. ⌜ b ≡ setRule (now (rows .entry)) (now (line .entry)) ⌝ }
 {
-    let f = element_of(a, item(r, 1));
+    let f = element_of(rows, item(line, 1));
     let Found::As(e) = f else {
         return false;
     };
-    children_are(a, r, e)
+    children_are(rows, line, e)
 }
 
-// Whether record type y declares each child's type for its text, from word 2 on.
-fn args_fit(a: &[u32], r: &[u32], y: u32) -> bool
-    ensures { λ b. ⌜ b ≡ argsFit (now (a .entry)) (drop 2 (now (r .entry))) y ⌝ }
+// Whether a record type declares each child's type for its text, from word 2 on.
+fn args_fit(rows: &[u32], line: &[u32], ty: u32) -> bool
+    ensures { λ b. ⌜ b ≡ argsFit (now (rows .entry)) (drop 2 (now (line .entry))) ty ⌝ }
 {
     let mut i: usize = 2;
-    while i < r.len() {
-        if r.len() - i < 2 {
+    while i < line.len() {
+        if line.len() - i < 2 {
             return true;
         }
-        let f = attribute(a, y, item(r, i));
+        let f = attribute(rows, ty, item(line, i));
         let Found::As(z) = f else {
             return false;
         };
-        if child(a, r, i + 1) != z {
+        if child(rows, line, i + 1) != z {
             return false;
         }
         i += 2;
@@ -367,80 +342,80 @@ fn args_fit(a: &[u32], r: &[u32], y: u32) -> bool
     true
 }
 
-fn record_typed(a: &[u32], r: &[u32]) -> bool
-    ensures { λ b. ⌜ b ≡ recordRule (now (a .entry)) (now (r .entry)) ⌝ }
+fn record_typed(rows: &[u32], line: &[u32]) -> bool
+    ensures { λ b. ⌜ b ≡ recordRule (now (rows .entry)) (now (line .entry)) ⌝ }
 {
-    let f = record_of(a, item(r, 1));
+    let f = record_of(rows, item(line, 1));
     let Found::As(y) = f else {
         return false;
     };
-    let args = cut(r, 1, r.len());
-    let q = row(a, TYPE, y);
+    let args = cut(line, 1, line.len());
+    let q = row(rows, TYPE, y);
     if !complete(args, q) {
         return false;
     }
-    args_fit(a, r, y)
+    args_fit(rows, line, y)
 }
 
 // ---- the rule of each operation
 
-fn first_rules(a: &[u32], r: &[u32], op: u32) -> bool
-    requires { ⌜ (22 ≤ op) × (op ≤ 35) ⌝ }
-    ensures { λ b. ⌜ b ≡ nodeRule (now (a .entry)) (now (r .entry)) (op - 21) ⌝ }
+fn first_rules(rows: &[u32], line: &[u32], tag: u32) -> bool
+    requires { ⌜ (ERR ≤ tag) × (tag ≤ CONTAINS) ⌝ }
+    ensures { λ b. ⌜ b ≡ nodeRule (now (rows .entry)) (now (line .entry)) (tag - firstNode) ⌝ }
 {
-    match op {
+    match tag {
         ERR => true,
-        VAR => var_typed(a, r),
-        AND => three_sorts(a, r, BOOL, BOOL, BOOL),
-        OR => three_sorts(a, r, BOOL, BOOL, BOOL),
-        EQ => eq_typed(a, r),
-        LT => three_sorts(a, r, BOOL, LONG, LONG),
-        LE => three_sorts(a, r, BOOL, LONG, LONG),
-        ADD => three_sorts(a, r, LONG, LONG, LONG),
-        SUB => three_sorts(a, r, LONG, LONG, LONG),
-        MUL => three_sorts(a, r, LONG, LONG, LONG),
-        IN => in_typed(a, r),
-        GETTAG => gettag_typed(a, r),
-        HASTAG => three_sorts(a, r, BOOL, ENTITY, STRING),
-        _ => contains_typed(a, r),
+        VAR => var_typed(rows, line),
+        AND => three_sorts(rows, line, BOOL_SORT, BOOL_SORT, BOOL_SORT),
+        OR => three_sorts(rows, line, BOOL_SORT, BOOL_SORT, BOOL_SORT),
+        EQ => eq_typed(rows, line),
+        LT => three_sorts(rows, line, BOOL_SORT, LONG_SORT, LONG_SORT),
+        LE => three_sorts(rows, line, BOOL_SORT, LONG_SORT, LONG_SORT),
+        ADD => three_sorts(rows, line, LONG_SORT, LONG_SORT, LONG_SORT),
+        SUB => three_sorts(rows, line, LONG_SORT, LONG_SORT, LONG_SORT),
+        MUL => three_sorts(rows, line, LONG_SORT, LONG_SORT, LONG_SORT),
+        IN => in_typed(rows, line),
+        GETTAG => gettag_typed(rows, line),
+        HASTAG => three_sorts(rows, line, BOOL_SORT, ENTITY_SORT, STRING_SORT),
+        _ => contains_typed(rows, line),
     }
 }
 
-fn last_rules(a: &[u32], r: &[u32], op: u32) -> bool
-    requires { ⌜ (36 ≤ op) × (op ≤ 48) ⌝ }
-    ensures { λ b. ⌜ b ≡ nodeRule (now (a .entry)) (now (r .entry)) (op - 21) ⌝ }
+fn last_rules(rows: &[u32], line: &[u32], tag: u32) -> bool
+    requires { ⌜ (ALL ≤ tag) × (tag ≤ RECORD-OF) ⌝ }
+    ensures { λ b. ⌜ b ≡ nodeRule (now (rows .entry)) (now (line .entry)) (tag - firstNode) ⌝ }
 {
-    match op {
-        ALL => two_sets(a, r),
-        ANY => two_sets(a, r),
-        IF => if_typed(a, r),
-        IS => two_sorts(a, r, BOOL, ENTITY),
-        LIKE => two_sorts(a, r, BOOL, STRING),
-        GET => get_typed(a, r),
-        HAS => has_typed(a, r),
-        HASPATH => haspath_typed(a, r),
-        NOT => two_sorts(a, r, BOOL, BOOL),
-        NEG => two_sorts(a, r, LONG, LONG),
-        EMPTY => two_sorts(a, r, BOOL, SET),
-        SET_OF => set_typed(a, r),
-        _ => record_typed(a, r),
+    match tag {
+        ALL => two_sets(rows, line),
+        ANY => two_sets(rows, line),
+        IF => if_typed(rows, line),
+        IS => two_sorts(rows, line, BOOL_SORT, ENTITY_SORT),
+        LIKE => two_sorts(rows, line, BOOL_SORT, STRING_SORT),
+        GET => get_typed(rows, line),
+        HAS => has_typed(rows, line),
+        HASPATH => haspath_typed(rows, line),
+        NOT => two_sorts(rows, line, BOOL_SORT, BOOL_SORT),
+        NEG => two_sorts(rows, line, LONG_SORT, LONG_SORT),
+        EMPTY => two_sorts(rows, line, BOOL_SORT, SET_SORT),
+        SET_OF => set_typed(rows, line),
+        _ => record_typed(rows, line),
     }
 }
 
 // Whether a node's row is typed; a row of an earlier form is taken as a literal, one of a later form is not typed.
-pub fn node_typed(a: &[u32], m: &mut [u32], r: &[u32]) -> bool
-    requires { ⌜ Known (now a) (now m) ⌝ }
-    ensures { λ b. ⌜ Answered (now (a .entry)) (now (m .entry)) (now (m .exit)) (nodeRule (now (a .entry)) (now (r .entry)) (tag (now (r .entry)) - 21)) b ⌝ }
+pub fn node_typed(rows: &[u32], work: &mut [u32], line: &[u32]) -> bool
+    requires { ⌜ Known (now rows) (now work) ⌝ }
+    ensures { λ b. ⌜ Answered (now (rows .entry)) (now (work .entry)) (now (work .exit)) (nodeRule (now (rows .entry)) (now (line .entry)) (tag (now (line .entry)) - firstNode)) b ⌝ }
 {
-    let op = tag(r);
+    let op = tag(line);
     if op <= LIT {
-        return value_fits(a, m, item(r, 2), item(r, 1));
+        return value_fits(rows, work, item(line, 2), item(line, 1));
     }
     if op <= CONTAINS {
-        return first_rules(a, r, op);
+        return first_rules(rows, line, op);
     }
     if op <= RECORD_OF {
-        return last_rules(a, r, op);
+        return last_rules(rows, line, op);
     }
     false
 }

@@ -1,9 +1,16 @@
 // Types, shapes, kinds and the request, by their numbers.
 use fits::Found;
 use fits::declared;
-use table::KIND;
-use table::SHAPE;
-use table::TYPE;
+use forms::BOOL_TYPE;
+use forms::ENTITY_TYPE;
+use forms::KIND;
+use forms::LONG_TYPE;
+use forms::OF_ACTIONS;
+use forms::RECORD_TYPE;
+use forms::SET_TYPE;
+use forms::SHAPE;
+use forms::STRING_TYPE;
+use forms::TYPE;
 use table::item;
 use table::row;
 use table::tag;
@@ -25,46 +32,37 @@ ghost use Rattle.typing.specs.Rules.{
   requestAt,
 };
 
-// The sorts of types.
-pub const BOOL: u32 = 0;
+// The sorts of types: the places of their forms among the forms of types.
+pub const BOOL_SORT: u32 = 0;
 
-pub const LONG: u32 = 1;
+pub const LONG_SORT: u32 = LONG_TYPE - BOOL_TYPE;
 
-pub const STRING: u32 = 2;
+pub const STRING_SORT: u32 = STRING_TYPE - BOOL_TYPE;
 
-pub const ENTITY: u32 = 3;
+pub const ENTITY_SORT: u32 = ENTITY_TYPE - BOOL_TYPE;
 
-pub const SET: u32 = 4;
-
-// The forms of types with parts.
-const LONG_TYPE: u32 = 4;
-
-const ENTITY_TYPE: u32 = 6;
-
-const SET_TYPE: u32 = 7;
-
-const RECORD_TYPE: u32 = 8;
+pub const SET_SORT: u32 = SET_TYPE - BOOL_TYPE;
 
 // The sort of a type; a row of no form counts as a bool.
-pub fn sort(a: &[u32], y: u32) -> u32
-    ensures { λ s. ⌜ s ≡ sortAt (now (a .entry)) y ⌝ }
+pub fn sort(rows: &[u32], ty: u32) -> u32
+    ensures { λ s. ⌜ s ≡ sortAt (now (rows .entry)) ty ⌝ }
 {
-    let q = row(a, TYPE, y);
+    let q = row(rows, TYPE, ty);
     let k = tag(q);
     if k < LONG_TYPE {
-        return BOOL;
+        return BOOL_SORT;
     }
     if k > RECORD_TYPE {
-        return BOOL;
+        return BOOL_SORT;
     }
-    k - 3
+    k - BOOL_TYPE
 }
 
 // The kind of an entity type.
-pub fn kind_of(a: &[u32], y: u32) -> Found
-    ensures { λ f. ⌜ f ≡ found (kindAt (now (a .entry)) y) ⌝ }
+pub fn kind_of(rows: &[u32], ty: u32) -> Found
+    ensures { λ f. ⌜ f ≡ found (kindAt (now (rows .entry)) ty) ⌝ }
 {
-    let q = row(a, TYPE, y);
+    let q = row(rows, TYPE, ty);
     if tag(q) == ENTITY_TYPE {
         return Found::As(item(q, 1));
     }
@@ -72,10 +70,10 @@ pub fn kind_of(a: &[u32], y: u32) -> Found
 }
 
 // The type of a set's elements.
-pub fn element_of(a: &[u32], y: u32) -> Found
-    ensures { λ f. ⌜ f ≡ found (elementAt (now (a .entry)) y) ⌝ }
+pub fn element_of(rows: &[u32], ty: u32) -> Found
+    ensures { λ f. ⌜ f ≡ found (elementAt (now (rows .entry)) ty) ⌝ }
 {
-    let q = row(a, TYPE, y);
+    let q = row(rows, TYPE, ty);
     if tag(q) == SET_TYPE {
         return Found::As(item(q, 1));
     }
@@ -83,56 +81,56 @@ pub fn element_of(a: &[u32], y: u32) -> Found
 }
 
 // A record type itself.
-pub fn record_of(a: &[u32], y: u32) -> Found
-    ensures { λ f. ⌜ f ≡ found (recordAt (now (a .entry)) y) ⌝ }
+pub fn record_of(rows: &[u32], ty: u32) -> Found
+    ensures { λ f. ⌜ f ≡ found (recordAt (now (rows .entry)) ty) ⌝ }
 {
-    let q = row(a, TYPE, y);
+    let q = row(rows, TYPE, ty);
     if tag(q) == RECORD_TYPE {
-        return Found::As(y);
+        return Found::As(ty);
     }
     Found::Undeclared
 }
 
-// The type that record type y declares for attribute t.
-pub fn attribute(a: &[u32], y: u32, t: u32) -> Found
-    ensures { λ f. ⌜ f ≡ found (attributeAt (now (a .entry)) y t) ⌝ }
+// The type that a record type declares for an attribute.
+pub fn attribute(rows: &[u32], ty: u32, text: u32) -> Found
+    ensures { λ f. ⌜ f ≡ found (attributeAt (now (rows .entry)) ty text) ⌝ }
 {
-    let q = row(a, TYPE, y);
-    declared(q, t)
+    let q = row(rows, TYPE, ty);
+    declared(q, text)
 }
 
-// Whether record type y declares nothing.
-pub fn is_bare(a: &[u32], y: u32) -> bool
-    ensures { λ b. ⌜ b ≡ bareAt (now (a .entry)) y ⌝ }
+// Whether a record type declares nothing.
+pub fn is_bare(rows: &[u32], ty: u32) -> bool
+    ensures { λ b. ⌜ b ≡ bareAt (now (rows .entry)) ty ⌝ }
 {
-    let q = row(a, TYPE, y);
+    let q = row(rows, TYPE, ty);
     q.len() < 4
 }
 
 // The type of a kind's attributes.
-pub fn attribute_type(a: &[u32], k: u32) -> u32
-    ensures { λ y. ⌜ y ≡ attributeTypeAt (now (a .entry)) k ⌝ }
+pub fn attribute_type(rows: &[u32], kind: u32) -> u32
+    ensures { λ y. ⌜ y ≡ attributeTypeAt (now (rows .entry)) kind ⌝ }
 {
-    let q = row(a, SHAPE, k);
+    let q = row(rows, SHAPE, kind);
     item(q, 1)
 }
 
 // The type of a kind's tags, a mark where it has none.
-pub fn tag_type(a: &[u32], k: u32) -> u32
-    ensures { λ y. ⌜ y ≡ tagTypeAt (now (a .entry)) k ⌝ }
+pub fn tag_type(rows: &[u32], kind: u32) -> u32
+    ensures { λ y. ⌜ y ≡ tagTypeAt (now (rows .entry)) kind ⌝ }
 {
-    let q = row(a, SHAPE, k);
+    let q = row(rows, SHAPE, kind);
     item(q, 2)
 }
 
-// Whether kind l is above kind k.
-pub fn is_above(a: &[u32], k: u32, l: u32) -> bool
-    ensures { λ b. ⌜ b ≡ isAboveAt (now (a .entry)) k l ⌝ }
+// Whether kind `above` is above `kind`.
+pub fn is_above(rows: &[u32], kind: u32, above: u32) -> bool
+    ensures { λ b. ⌜ b ≡ isAboveAt (now (rows .entry)) kind above ⌝ }
 {
-    let q = row(a, SHAPE, k);
+    let q = row(rows, SHAPE, kind);
     let mut i: usize = 3;
     while i < q.len() {
-        if item(q, i) == l {
+        if item(q, i) == above {
             return true;
         }
         i += 1;
@@ -140,39 +138,39 @@ pub fn is_above(a: &[u32], k: u32, l: u32) -> bool
     false
 }
 
-pub fn is_action(a: &[u32], k: u32) -> bool
-    ensures { λ b. ⌜ b ≡ actionAt (now (a .entry)) k ⌝ }
+pub fn is_action(rows: &[u32], kind: u32) -> bool
+    ensures { λ b. ⌜ b ≡ actionAt (now (rows .entry)) kind ⌝ }
 {
-    let q = row(a, KIND, k);
-    item(q, 2) == 1
+    let q = row(rows, KIND, kind);
+    item(q, 2) == OF_ACTIONS
 }
 
 // The record type of the attributes of an entity or record type.
-pub fn attributes(a: &[u32], y: u32) -> Found
-    ensures { λ f. ⌜ f ≡ found (attributesAt (now (a .entry)) y) ⌝ }
+pub fn attributes(rows: &[u32], ty: u32) -> Found
+    ensures { λ f. ⌜ f ≡ found (attributesAt (now (rows .entry)) ty) ⌝ }
 {
-    let f = kind_of(a, y);
+    let f = kind_of(rows, ty);
     let Found::As(k) = f else {
-        return record_of(a, y);
+        return record_of(rows, ty);
     };
-    record_of(a, attribute_type(a, k))
+    record_of(rows, attribute_type(rows, k))
 }
 
 // The kind of an entity or set of entities.
-pub fn target(a: &[u32], y: u32) -> Found
-    ensures { λ f. ⌜ f ≡ found (targetAt (now (a .entry)) y) ⌝ }
+pub fn target(rows: &[u32], ty: u32) -> Found
+    ensures { λ f. ⌜ f ≡ found (targetAt (now (rows .entry)) ty) ⌝ }
 {
-    let f = element_of(a, y);
+    let f = element_of(rows, ty);
     let Found::As(e) = f else {
-        return kind_of(a, y);
+        return kind_of(rows, ty);
     };
-    kind_of(a, e)
+    kind_of(rows, e)
 }
 
 // The kind or type that a line of the request names.
-pub fn request(a: &[u32], k: usize) -> u32
-    ensures { λ x. ⌜ x ≡ requestAt (now (a .entry)) k ⌝ }
+pub fn request(rows: &[u32], key: usize) -> u32
+    ensures { λ x. ⌜ x ≡ requestAt (now (rows .entry)) key ⌝ }
 {
-    let q = row(a, k, 0);
+    let q = row(rows, key, 0);
     item(q, 1)
 }

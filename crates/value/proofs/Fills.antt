@@ -11,9 +11,10 @@ use Rattle.words.specs.Log.{part, Room, Holds, Appended, pushed}
 use Rattle.words.proofs.Logs.{log-length, append-holds, append-room, append-below, append-length, appended-is, appended-full}
 use Rattle.words.proofs.Stores.{getD-below, length-part}
 use Rattle.cedar.specs.Making.{sortN}
+use Rattle.forms.specs.Tags.{SET-VALUE, RECORD-VALUE}
 use Rattle.value.specs.declared.Entry.{Entry}
 use Rattle.value.specs.declared.Entry.the-variants.{At, Nothing}
-use Rattle.value.specs.Made.{Made, MadeBeside, valuesIn, leastOf, setRow, pairsOf, recordRow, pushAll, written}
+use Rattle.value.specs.Made.{ROW, SOURCE, Made, MadeBeside, valuesIn, leastOf, setRow, pairsOf, recordRow, pushAll, written}
 use Rattle.value.proofs.Lists.{uncons2}
 use Rattle.value.proofs.Sorting.{fromN, from-none, least-none, least-some, uncons4}
 
@@ -149,7 +150,7 @@ few-texts [] rows h = refl
 few-texts (t ∷ []) rows h = refl
 few-texts (t ∷ n ∷ l) rows h = absurd (omega arith)
 
-few-rows : (l rows : List ℕ) → length rows < 4 → pairsOf l rows ≡ []
+few-rows : (l rows : List ℕ) → length rows < ROW → pairsOf l rows ≡ []
 unfolding pairsOf
 few-rows [] rows h = refl
 few-rows (t ∷ []) rows h = refl
@@ -172,29 +173,29 @@ module _ (r b₀ : List ℕ) (at start bt : ℕ) (h : bt ≤ at) (b : List ℕ) 
   rows-length : length (part b₀ q bt) ≡ bt - q
   rows-length = length-part b₀ q bt (omega (arith, g .room .long, g .room .low, g .len, g .grows))
 
-  pub pair-rows : bt < q + 4 → Holds at b p (pushAll (take at b₀) (pairsOf (drop 2 r) (part b₀ start bt)))
+  pub pair-rows : bt < q + ROW → Holds at b p (pushAll (take at b₀) (pairsOf (drop 2 r) (part b₀ start bt)))
   pair-rows l =
-      let n : length (part b₀ q bt) < 4 = rw rows-length (omega (arith, g .nearQ)) in
+      let n : length (part b₀ q bt) < ROW = rw rows-length (omega (arith, g .nearQ)) in
       done (few-rows (drop i r) (part b₀ q bt) n)
 
-  module _ (li : i + 2 ≤ length r) (lq : q + 4 ≤ bt) (v : ℕ) (ev : v ≡ getD b (q + 1) 0) where
-    the-value : getD b₀ (q + 1) 0 ≡ v
-    the-value = sym (ev ∙ getD-below at b₀ b (g .base) (q + 1) (omega arith))
+  module _ (li : i + 2 ≤ length r) (lq : q + ROW ≤ bt) (v : ℕ) (ev : v ≡ getD b (q + SOURCE) 0) where
+    the-value : getD b₀ (q + SOURCE) 0 ≡ v
+    the-value = sym (ev ∙ getD-below at b₀ b (g .base) (q + SOURCE) (omega arith))
 
     -- the rows from q on, as the log has them
-    four : part b₀ q bt ≡ getD b₀ q 0 ∷ v ∷ getD b₀ (q + 2) 0 ∷ getD b₀ (q + 2 + 1) 0 ∷ part b₀ (q + 4) bt
+    four : part b₀ q bt ≡ getD b₀ q 0 ∷ v ∷ getD b₀ (q + 2) 0 ∷ getD b₀ (q + 2 + 1) 0 ∷ part b₀ (q + ROW) bt
     four =
         let k : length (take bt b₀) ≡ bt = length-take-le bt b₀ (omega (arith, g .room .long, g .room .low, g .len, g .grows)) in
         let u = uncons4 (take bt b₀) q (omega arith) in
         sym (drop-take q bt b₀) ∙ u
-        ∙ rw (getD-take bt b₀ q 0 (omega arith), getD-take bt b₀ (q + 1) 0 (omega arith), getD-take bt b₀ (q + 2) 0 (omega arith), getD-take bt b₀ (q + 2 + 1) 0 (omega arith), the-value, drop-take (q + 4) bt b₀)
+        ∙ rw (getD-take bt b₀ q 0 (omega arith), getD-take bt b₀ (q + SOURCE) 0 (omega arith), getD-take bt b₀ (q + 2) 0 (omega arith), getD-take bt b₀ (q + 2 + 1) 0 (omega arith), the-value, drop-take (q + ROW) bt b₀)
 
-    pair : pairsOf (drop i r) (part b₀ q bt) ≡ getD r i 0 ∷ v ∷ pairsOf (drop (i + 2) r) (part b₀ (q + 4) bt)
+    pair : pairsOf (drop i r) (part b₀ q bt) ≡ getD r i 0 ∷ v ∷ pairsOf (drop (i + 2) r) (part b₀ (q + ROW) bt)
     unfolding pairsOf
     pair = rw (four, uncons2 r i li)
 
     pub pair-on : (b₁ : List ℕ) (p₁ : ℕ) (b₂ : List ℕ) (p₂ : ℕ) → Appended b p (getD r i 0 ∷ []) b₁ p₁ → Appended b₁ p₁ (v ∷ []) b₂ p₂
-        → Pairing r b₀ at start bt b₂ p₂ (i + 2) (q + 4)
+        → Pairing r b₀ at start bt b₂ p₂ (i + 2) (q + ROW)
     unfolding pushAll
     pair-on b₁ p₁ b₂ p₂ w₁ w₂ =
         let m : Room b₁ p₁ = append-room (g .room) w₁ in
@@ -206,7 +207,7 @@ module _ (r b₀ : List ℕ) (at start bt : ℕ) (h : bt ≤ at) (b : List ℕ) 
           nearQ = lq;
           nearI = omega arith;
           left = g .left ∙ ap (pushAll (take p b)) pair
-              ∙ ap (λ (l : List ℕ). pushAll l (pairsOf (drop (i + 2) r) (part b₀ (q + 4) bt)))
+              ∙ ap (λ (l : List ℕ). pushAll l (pairsOf (drop (i + 2) r) (part b₀ (q + ROW) bt)))
               (sym (pushed-log m w₂ ∙ ap (λ (l : List ℕ). pushed l v) (pushed-log (g .room) w₁)));
         }
 
@@ -241,13 +242,13 @@ module _ (b : List ℕ) (bt : ℕ) (h : Room b bt) (k : ℕ) (b₁ : List ℕ) (
     beside a is v row er m = record { made = rw (← (er ∙ row-written)) m; log = log-kept }
 
 module _ (a is : List ℕ) (v : ℕ) (b : List ℕ) (start bt : ℕ) (h : Room b bt) (b₁ : List ℕ) (q : ℕ) where
-  pub set-made : (b₂ : List ℕ) (e : ℕ) (row : List ℕ) → Appended b bt (14 ∷ []) b₁ q → Holds q b₂ e (pushAll (take q b₁) (sortN (valuesIn (part b₁ start bt))))
+  pub set-made : (b₂ : List ℕ) (e : ℕ) (row : List ℕ) → Appended b bt (SET-VALUE ∷ []) b₁ q → Holds q b₂ e (pushAll (take q b₁) (sortN (valuesIn (part b₁ start bt))))
       → row ≡ part b₂ bt e → Made a row is v → MadeBeside a is v bt b b₂ (setRow (part b start bt))
   unfolding setRow
-  set-made b₂ e row w f er m = rw (← (first-part b bt h 14 b₁ q w start)) (beside b bt h 14 b₁ q w (sortN (valuesIn (part b₁ start bt))) b₂ e f a is v row er m)
+  set-made b₂ e row w f er m = rw (← (first-part b bt h SET-VALUE b₁ q w start)) (beside b bt h SET-VALUE b₁ q w (sortN (valuesIn (part b₁ start bt))) b₂ e f a is v row er m)
 
-  pub record-made : (b₂ : List ℕ) (e : ℕ) (row r node : List ℕ) → r ≡ node → Appended b bt (15 ∷ []) b₁ q → Holds q b₂ e (pushAll (take q b₁) (pairsOf (drop 2 r) (part b₁ start bt)))
+  pub record-made : (b₂ : List ℕ) (e : ℕ) (row r node : List ℕ) → r ≡ node → Appended b bt (RECORD-VALUE ∷ []) b₁ q → Holds q b₂ e (pushAll (take q b₁) (pairsOf (drop 2 r) (part b₁ start bt)))
       → row ≡ part b₂ bt e → Made a row is v → MadeBeside a is v bt b b₂ (recordRow node (part b start bt))
   unfolding recordRow
   record-made b₂ e row r node en w f er m =
-      rw (← en, ← (first-part b bt h 15 b₁ q w start)) (beside b bt h 15 b₁ q w (pairsOf (drop 2 r) (part b₁ start bt)) b₂ e f a is v row er m)
+      rw (← en, ← (first-part b bt h RECORD-VALUE b₁ q w start)) (beside b bt h RECORD-VALUE b₁ q w (pairsOf (drop 2 r) (part b₁ start bt)) b₂ e f a is v row er m)

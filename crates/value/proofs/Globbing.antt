@@ -193,13 +193,13 @@ module _ (B : ℕ → List ℕ) (P S : List ℕ) (q t : ℕ) where
   skip-end h = let z : t ≡ t + 0 = omega arith in rw (spent P q h) z
 
   module _ (h : q < length P) (x : ℕ) (ex : x ≡ getD P q 0) where
-    pub skip-star : x ≡ 10000 → t ≡ t + untilItem B (drop q P) (drop t S)
+    pub skip-star : x ≡ mark → t ≡ t + untilItem B (drop q P) (drop t S)
     unfolding untilItem
-    skip-star m = let z : t ≡ t + 0 = omega arith in rw (uncons P 0 q h, ← ex, eq-eqb x 10000 m) z
+    skip-star m = let z : t ≡ t + 0 = omega arith in rw (uncons P 0 q h, ← ex, eq-eqb x mark m) z
 
-    pub skip-piece : (x ≡ 10000 → ⊥) → (w : List ℕ) → w ≡ B x → (u : ℕ) → u ≡ t + untilPiece w (drop t S) → u ≡ t + untilItem B (drop q P) (drop t S)
+    pub skip-piece : (x ≡ mark → ⊥) → (w : List ℕ) → w ≡ B x → (u : ℕ) → u ≡ t + untilPiece w (drop t S) → u ≡ t + untilItem B (drop q P) (drop t S)
     unfolding untilItem
-    skip-piece n w ew u eu = rw (uncons P 0 q h, ← ex, ne-eqb x 10000 n, ← ew) eu
+    skip-piece n w ew u eu = rw (uncons P 0 q h, ← ex, ne-eqb x mark n, ← ew) eu
 
 -- ---- a block: where the loop stands
 
@@ -222,17 +222,17 @@ module _ (B : ℕ → List ℕ) (P S : List ℕ) (q t p e : ℕ) (g : Blocking B
     unfolding blockOf
     at-item = rw (uncons P 0 p h, ← ex)
 
-    pub block-star : x ≡ 10000 → Star (p + 1) e ≡ blockOf B q t (drop q P) (drop t S)
-    block-star m = sym (g .left ∙ at-item ∙ rw (eq-eqb x 10000 m, add-one p))
+    pub block-star : x ≡ mark → Star (p + 1) e ≡ blockOf B q t (drop q P) (drop t S)
+    block-star m = sym (g .left ∙ at-item ∙ rw (eq-eqb x mark m, add-one p))
 
-    module _ (n : x ≡ 10000 → ⊥) (w : List ℕ) (ew : w ≡ B x) (b : Bool) (eb : b ≡ begins w (drop e S)) where
+    module _ (n : x ≡ mark → ⊥) (w : List ℕ) (ew : w ≡ B x) (b : Bool) (eb : b ≡ begins w (drop e S)) where
       here : begins (B x) (drop e S) ≡ b
       here = rw (← ew) (sym eb)
 
       pub block-miss : not b ≡ true → Misses ≡ blockOf B q t (drop q P) (drop t S)
       block-miss f =
           let z : begins (B x) (drop e S) ≡ false = here ∙ not-true b f in
-          sym (g .left ∙ at-item ∙ rw (ne-eqb x 10000 n, z))
+          sym (g .left ∙ at-item ∙ rw (ne-eqb x mark n, z))
 
       pub block-fits : not b ≡ false → e + length w ≤ length S
       block-fits f =
@@ -245,7 +245,7 @@ module _ (B : ℕ → List ℕ) (P S : List ℕ) (q t p e : ℕ) (g : Blocking B
           record {
             nearP = omega arith;
             nearS = block-fits f;
-            left = g .left ∙ at-item ∙ rw (ne-eqb x 10000 n, z, drop-drop (length (B x)) e S, ← ew, ← (add-one p));
+            left = g .left ∙ at-item ∙ rw (ne-eqb x mark n, z, drop-drop (length (B x)) e S, ← ew, ← (add-one p));
           }
 
 -- ---- what a block means

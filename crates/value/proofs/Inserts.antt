@@ -16,7 +16,7 @@ use Rattle.words.proofs.Stores.{length-part, part-at, getD-below}
 use Rattle.cedar.specs.Making.{placeN, insertN, sortN}
 use Rattle.cedar.proofs.OrderLaws.{compare-eq, compare-lt, compare-gt}
 use Rattle.value.specs.Places.{lowerThan}
-use Rattle.value.specs.Made.{Shifted, Inserted, valuesIn, pushAll}
+use Rattle.value.specs.Made.{ROW, SOURCE, Shifted, Inserted, valuesIn, pushAll}
 use Rattle.value.proofs.Lists.{uncons}
 use Rattle.value.proofs.Sorting.{short, uncons4}
 use Rattle.value.proofs.Fills.{drop-take, push-all}
@@ -166,15 +166,15 @@ pub record Inserting (b₀ : List ℕ) (at start bt : ℕ) (b : List ℕ) (p i :
   pub len : length b ≡ length b₀
   pub grows : at ≤ p
   pub most : p + i ≤ at + length (part b₀ start bt)
-  pub fits : 4 * i ≤ length (part b₀ start bt)
-  pub is : take p b ≡ take at b₀ ++ sortN (valuesIn (drop (4 * i) (part b₀ start bt)))
+  pub fits : ROW * i ≤ length (part b₀ start bt)
+  pub is : take p b ≡ take at b₀ ++ sortN (valuesIn (drop (ROW * i) (part b₀ start bt)))
 
 module _ (b₀ : List ℕ) (at start bt : ℕ) (h : Room b₀ at) (k : bt ≤ at) (r : at + length (part b₀ start bt) ≤ 16384) where
-  pub inserting-start : (l : List ℕ) → l ≡ part b₀ start bt → Inserting b₀ at start bt b₀ at (length l / 4)
+  pub inserting-start : (l : List ℕ) → l ≡ part b₀ start bt → Inserting b₀ at start bt b₀ at (length l / ROW)
   inserting-start l el =
       let n : length (part b₀ start bt) ≡ length l = ap length (sym el) in
-      let w : length (drop (4 * (length l / 4)) (part b₀ start bt)) < 4 = rw (length-drop (4 * (length l / 4)) (part b₀ start bt)) (omega arith) in
-      let e : valuesIn (drop (4 * (length l / 4)) (part b₀ start bt)) ≡ [] = short (drop (4 * (length l / 4)) (part b₀ start bt)) w in
+      let w : length (drop (ROW * (length l / ROW)) (part b₀ start bt)) < ROW = rw (length-drop (ROW * (length l / ROW)) (part b₀ start bt)) (omega arith) in
+      let e : valuesIn (drop (ROW * (length l / ROW)) (part b₀ start bt)) ≡ [] = short (drop (ROW * (length l / ROW)) (part b₀ start bt)) w in
       record { len = refl; grows = le-refl at; most = omega arith; fits = omega arith; is = rw e (sym (append-nil (take at b₀))) }
 
   module _ (b : List ℕ) (p i : ℕ) (g : Inserting b₀ at start bt b p i) where
@@ -184,39 +184,39 @@ module _ (b₀ : List ℕ) (at start bt : ℕ) (h : Room b₀ at) (k : bt ≤ at
     pub inserting-room : 0 < i → p < length b
     inserting-room o = omega (arith, g .most, g .len, h .long)
 
-    pub inserting-near : 0 < i → start + 4 * (i - 1) + 4 ≤ 16384
+    pub inserting-near : 0 < i → start + ROW * (i - 1) + ROW ≤ 16384
     inserting-near o = omega (arith, g .fits, length-part b₀ start bt (omega (arith, h .low, h .long)), h .low)
 
     pub inserting-end : i ≤ 0 → Holds at b p (pushAll (take at b₀) (sortN (valuesIn (part b₀ start bt))))
     inserting-end o =
-        let z : 4 * i ≡ 0 = omega arith in
+        let z : ROW * i ≡ 0 = omega arith in
         let e : take p b ≡ take at b₀ ++ sortN (valuesIn (part b₀ start bt)) = rw z at (g .is) in
         let n : length (take p b) ≡ p = length-take-le p b (omega (arith, g .most, g .len, h .long)) in
         let m : length (take at b₀) + length (sortN (valuesIn (part b₀ start bt))) ≤ 16384 = omega (arith, length-append (take at b₀) (sortN (valuesIn (part b₀ start bt))), ap length e, g .most) in
         record { is = e ∙ sym (push-all (take at b₀) (sortN (valuesIn (part b₀ start bt))) m); low = omega (arith, g .most); grows = g .grows }
 
-    module _ (o : 0 < i) (x : ℕ) (ex : x ≡ getD b (start + 4 * (i - 1) + 1) 0) (b′ : List ℕ) (p′ : ℕ) (w : Inserted b at p x b′ p′) where
+    module _ (o : 0 < i) (x : ℕ) (ex : x ≡ getD b (start + ROW * (i - 1) + SOURCE) 0) (b′ : List ℕ) (p′ : ℕ) (w : Inserted b at p x b′ p′) where
       kept : take at b ≡ take at b₀
-      kept = sym (take-take at p b (g .grows)) ∙ ap (take at) (g .is) ∙ take-at (take at b₀) (sortN (valuesIn (drop (4 * i) (part b₀ start bt)))) at base
+      kept = sym (take-take at p b (g .grows)) ∙ ap (take at) (g .is) ∙ take-at (take at b₀) (sortN (valuesIn (drop (ROW * i) (part b₀ start bt)))) at base
 
-      held : part b at p ≡ sortN (valuesIn (drop (4 * i) (part b₀ start bt)))
-      held = sym (drop-take at p b) ∙ ap (drop at) (g .is) ∙ drop-at (take at b₀) (sortN (valuesIn (drop (4 * i) (part b₀ start bt)))) at base
+      held : part b at p ≡ sortN (valuesIn (drop (ROW * i) (part b₀ start bt)))
+      held = sym (drop-take at p b) ∙ ap (drop at) (g .is) ∙ drop-at (take at b₀) (sortN (valuesIn (drop (ROW * i) (part b₀ start bt)))) at base
 
       wide : length (part b₀ start bt) ≡ bt - start
       wide = length-part b₀ start bt (omega (arith, h .low, h .long))
 
-      value : getD (part b₀ start bt) (4 * (i - 1) + 1) 0 ≡ x
+      value : getD (part b₀ start bt) (ROW * (i - 1) + SOURCE) 0 ≡ x
       value =
-          let z : start + (4 * (i - 1) + 1) ≡ start + 4 * (i - 1) + 1 = omega arith in
-          part-at b₀ start bt (4 * (i - 1) + 1) (omega (arith, g .fits, wide))
+          let z : start + (ROW * (i - 1) + SOURCE) ≡ start + ROW * (i - 1) + SOURCE = omega arith in
+          part-at b₀ start bt (ROW * (i - 1) + SOURCE) (omega (arith, g .fits, wide))
           ∙ ap (λ (j : ℕ). getD b₀ j 0) z
-          ∙ sym (ex ∙ getD-below at b₀ b kept (start + 4 * (i - 1) + 1) (omega (arith, g .fits, wide)))
+          ∙ sym (ex ∙ getD-below at b₀ b kept (start + ROW * (i - 1) + SOURCE) (omega (arith, g .fits, wide)))
 
-      four : valuesIn (drop (4 * (i - 1)) (part b₀ start bt)) ≡ x ∷ valuesIn (drop (4 * i) (part b₀ start bt))
+      four : valuesIn (drop (ROW * (i - 1)) (part b₀ start bt)) ≡ x ∷ valuesIn (drop (ROW * i) (part b₀ start bt))
       unfolding valuesIn
       four =
-          let z : 4 * (i - 1) + 4 ≡ 4 * i = omega arith in
-          ap valuesIn (uncons4 (part b₀ start bt) (4 * (i - 1)) (omega (arith, g .fits))) ∙ rw (value, z)
+          let z : ROW * (i - 1) + ROW ≡ ROW * i = omega arith in
+          ap valuesIn (uncons4 (part b₀ start bt) (ROW * (i - 1)) (omega (arith, g .fits))) ∙ rw (value, z)
 
       pub inserting-on : Inserting b₀ at start bt b′ p′ (i - 1)
       inserting-on =

@@ -23,6 +23,7 @@ use Rattle.sheet.proofs.ValueRows.{back, flat, word-back, same-refl, rows-lengt
 use Rattle.table.specs.Layout.{part, rowsOf, MADE, TOP, withRow, limits, limit, Last, Sound}
 use Rattle.table.proofs.Rows.{count-rows, limit-small}
 use Rattle.table.proofs.Frame.{word-kept, rows-kept, sound-kept, top-new, count-new, rows-other, rows-own, sound-new}
+use Rattle.forms.specs.Tags.{LONG-VALUE, RECORD-VALUE}
 use Rattle.value.specs.Lines.{valueLines, placeOf}
 use Rattle.value.specs.Made.{boolRow, longRow, entityRow, roomFor, narrow, numberOf, withMade, withValue, setRow, pairsOf, recordRow}
 use Rattle.value.proofs.Makes.{place-most, HasRoom, room-is}
@@ -52,7 +53,7 @@ pub long-row : (w : ℕ) → valueRow (longRow w) ≡ rlong (longAt w)
 long-row w = ap (λ (n : ℕ). rlong (longAt n)) (long-joined w)
 
 pub formed-long : (w : ℕ) → Formed (longRow w)
-formed-long w = ap back (long-row w) ∙ ap (λ (n : ℕ). 11 ∷ n / 4294967296 ∷ n % 4294967296 ∷ []) (word-back w)
+formed-long w = ap back (long-row w) ∙ ap (λ (n : ℕ). LONG-VALUE ∷ n / 4294967296 ∷ n % 4294967296 ∷ []) (word-back w)
 
 pub formed-entity : (k t : ℕ) → Formed (entityRow k t)
 formed-entity k t = refl
@@ -73,7 +74,7 @@ flat-pairs (t ∷ n ∷ l) (a ∷ b ∷ c ∷ d ∷ rows) = ap (λ (x : List ℕ
 
 pub formed-record : (r rows : List ℕ) → Formed (recordRow r rows)
 unfolding recordRow
-formed-record r rows = ap (λ (x : List ℕ). 15 ∷ x) (flat-pairs (drop 2 r) rows)
+formed-record r rows = ap (λ (x : List ℕ). RECORD-VALUE ∷ x) (flat-pairs (drop 2 r) rows)
 
 -- ---- the same words, the same row
 
@@ -152,7 +153,7 @@ module _ {rows : List (List ℕ)} (r : List ℕ) (f : Formeds rows) (h : Formed 
 pub record Kept (a r is : List ℕ) : Type 0 where
   pub sound : Sound is
   pub lines : valueLines is ≡ withRowIn r (valueLines a)
-  pub others : (k : ℕ) → k < 13 → rowsOf is k ≡ rowsOf a k
+  pub others : (k : ℕ) → k < MADE → rowsOf is k ≡ rowsOf a k
   pub few : getD is MADE 0 ≤ suc (getD a MADE 0)
   pub top : getD is TOP 0 ≤ getD a TOP 0 + length r
 

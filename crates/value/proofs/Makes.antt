@@ -14,6 +14,7 @@ use Rattle.sheet.specs.Bytes.{same}
 use Rattle.sheet.specs.Forms.{VALUE}
 use Rattle.table.specs.Layout.{MADE, TOP, heap, base, rowsOf, withRow}
 use Rattle.table.proofs.Rows.{count-rows, row-at-is, row-some}
+use Rattle.forms.specs.Tags.{BOOL-VALUE}
 use Rattle.value.specs.Lines.{valueLines, placeOf}
 use Rattle.value.specs.Made.{boolRow, roomFor, narrow, numberOf, withMade, withValue, Made}
 use Rattle.value.proofs.Lists.{uncons, spent, same-apart, same-differ}
@@ -152,22 +153,22 @@ module _ (a : List ℕ) (n : ℕ) where
   room-made m e h = rw (← e, le-ltb m 1024 h)
 
   module _ (m t : ℕ) (em : m ≡ getD a MADE 0) (hm : m < 1024) (et : t ≡ getD a TOP 0) where
-    pub room-low : t < 4003 → false ≡ roomFor a n
+    pub room-low : t < heap → false ≡ roomFor a n
     unfolding roomFor
-    room-low h = rw (← em, lt-ltb m 1024 hm, ← et, lt-leb 4003 t h)
+    room-low h = rw (← em, lt-ltb m 1024 hm, ← et, lt-leb heap t h)
 
-    pub room-long : 4003 ≤ t → 16384 < n → false ≡ roomFor a n
+    pub room-long : heap ≤ t → 16384 < n → false ≡ roomFor a n
     unfolding roomFor
-    room-long h k = rw (← em, lt-ltb m 1024 hm, ← et, le-leb 4003 t h, lt-leb (t + n) 16384 (omega arith))
+    room-long h k = rw (← em, lt-ltb m 1024 hm, ← et, le-leb heap t h, lt-leb (t + n) 16384 (omega arith))
 
-    pub room-test : 4003 ≤ t → leb (t + n) 16384 ≡ roomFor a n
+    pub room-test : heap ≤ t → leb (t + n) 16384 ≡ roomFor a n
     unfolding roomFor
-    room-test h = rw (← em, lt-ltb m 1024 hm, ← et, le-leb 4003 t h)
+    room-test h = rw (← em, lt-ltb m 1024 hm, ← et, le-leb heap t h)
 
 -- what room means
 pub record HasRoom (a : List ℕ) (n : ℕ) : Type 0 where
   pub few : getD a MADE 0 < 1024
-  pub over : 4003 ≤ getD a TOP 0
+  pub over : heap ≤ getD a TOP 0
   pub fits : getD a TOP 0 + n ≤ 16384
 
 pub room-is : (a : List ℕ) (n : ℕ) → roomFor a n ≡ true → HasRoom a n
@@ -175,7 +176,7 @@ unfolding roomFor
 room-is a n e =
     let p = and-eq-true-iff (ltb (getD a MADE 0) 1024) (leb heap (getD a TOP 0) && leb (getD a TOP 0 + n) 16384) .0 e in
     let q = and-eq-true-iff (leb heap (getD a TOP 0)) (leb (getD a TOP 0 + n) 16384) .0 (p .1) in
-    record { few = ltb-true (getD a MADE 0) 1024 (p .0); over = leb-true 4003 (getD a TOP 0) (q .0); fits = leb-true (getD a TOP 0 + n) 16384 (q .1) }
+    record { few = ltb-true (getD a MADE 0) 1024 (p .0); over = leb-true heap (getD a TOP 0) (q .0); fits = leb-true (getD a TOP 0 + n) 16384 (q .1) }
 
 -- ---- a number as a word
 
@@ -233,8 +234,8 @@ room-tested a n b e f = sym e ∙ not-false b f
 
 -- ---- bools
 
-pub bool-true : (a w : List ℕ) (b : Bool) (v : ℕ) → b ≡ true → Made a (10 ∷ 1 ∷ []) w v → Made a (boolRow b) w v
+pub bool-true : (a w : List ℕ) (b : Bool) (v : ℕ) → b ≡ true → Made a (BOOL-VALUE ∷ 1 ∷ []) w v → Made a (boolRow b) w v
 bool-true a w b v e m = rw e m
 
-pub bool-false : (a w : List ℕ) (b : Bool) (v : ℕ) → b ≡ false → Made a (10 ∷ 0 ∷ []) w v → Made a (boolRow b) w v
+pub bool-false : (a w : List ℕ) (b : Bool) (v : ℕ) → b ≡ false → Made a (BOOL-VALUE ∷ 0 ∷ []) w v → Made a (boolRow b) w v
 bool-false a w b v e m = rw e m

@@ -7,10 +7,11 @@ use native.Mathlib.Omega.{arith}
 use lib.Dec.{eqb}
 use lib.ListN.{length, getD, drop, take, length-append, List·getD-eq-default}
 use lib.Seq.{take-all}
-use Rattle.sheet.specs.Forms.{tag, items, at, VALUE}
+use Rattle.sheet.specs.Forms.{tag, items, at, VALUE, firstValue}
 use Rattle.sheet.specs.State.{valueRow}
 use Rattle.table.specs.Layout.{rowsOf, MADE}
 use Rattle.table.proofs.Rows.{count-rows}
+use Rattle.forms.specs.Tags.{LONG-VALUE, TEXT-VALUE, ENTITY-VALUE, SET-VALUE, RECORD-VALUE}
 use Rattle.value.specs.Lines.{valueLines}
 use Rattle.value.specs.Shapes.{shapeOf, shapeRow}
 use Rattle.value.specs.declared.Shape.{Shape}
@@ -46,40 +47,40 @@ shapes x y = Boolˢ (eqb x 1) ∷ Long (x * 4294967296 + y) ∷ Text x ∷ Entit
 
 -- a row of tag t, and items x and y
 module _ (r : List ℕ) (t x y : ℕ) (et : t ≡ tag r) (ex : x ≡ getD r 1 0) (ey : y ≡ getD r 2 0) where
-  shape : shapeOf r ≡ getD (shapes x y) (t - 10) (Boolˢ false)
+  shape : shapeOf r ≡ getD (shapes x y) (t - firstValue) (Boolˢ false)
   unfolding shapeOf
   shape = rw (et, ex, ey)
 
-  at-place : (j : ℕ) → t - 10 ≡ j → shapeOf r ≡ getD (shapes x y) j (Boolˢ false)
+  at-place : (j : ℕ) → t - firstValue ≡ j → shapeOf r ≡ getD (shapes x y) j (Boolˢ false)
   at-place j e = shape ∙ ap (λ (i : ℕ). getD (shapes x y) i (Boolˢ false)) e
 
-  pub shape-none : 15 < t → Boolˢ false ≡ shapeOf r
+  pub shape-none : RECORD-VALUE < t → Boolˢ false ≡ shapeOf r
   shape-none h =
-      let n : 6 ≤ t - 10 = omega arith in
+      let n : RECORD-VALUE - firstValue < t - firstValue = omega arith in
       sym (shape ∙ List·getD-eq-default (shapes x y) (Boolˢ false) n)
 
-  pub shape-record : t ≡ 15 → Record ≡ shapeOf r
-  shape-record e = sym (at-place 5 (omega arith))
+  pub shape-record : t ≡ RECORD-VALUE → Record ≡ shapeOf r
+  shape-record e = sym (at-place (RECORD-VALUE - firstValue) (omega arith))
 
-  pub shape-set : t ≡ 14 → Set ≡ shapeOf r
-  shape-set e = sym (at-place 4 (omega arith))
+  pub shape-set : t ≡ SET-VALUE → Set ≡ shapeOf r
+  shape-set e = sym (at-place (SET-VALUE - firstValue) (omega arith))
 
-  pub shape-entity : t ≡ 13 → Entity x y ≡ shapeOf r
-  shape-entity e = sym (at-place 3 (omega arith))
+  pub shape-entity : t ≡ ENTITY-VALUE → Entity x y ≡ shapeOf r
+  shape-entity e = sym (at-place (ENTITY-VALUE - firstValue) (omega arith))
 
-  pub shape-text : t ≡ 12 → Text x ≡ shapeOf r
-  shape-text e = sym (at-place 2 (omega arith))
+  pub shape-text : t ≡ TEXT-VALUE → Text x ≡ shapeOf r
+  shape-text e = sym (at-place (TEXT-VALUE - firstValue) (omega arith))
 
-  pub shape-long : (w : ℕ) → t ≡ 11 → w ≡ x * 4294967296 + y → Long w ≡ shapeOf r
-  shape-long w e q = ap Long q ∙ sym (at-place 1 (omega arith))
+  pub shape-long : (w : ℕ) → t ≡ LONG-VALUE → w ≡ x * 4294967296 + y → Long w ≡ shapeOf r
+  shape-long w e q = ap Long q ∙ sym (at-place (LONG-VALUE - firstValue) (omega arith))
 
-  pub shape-bool : t ≤ 15 → (t ≡ 15 → ⊥) → (t ≡ 14 → ⊥) → (t ≡ 13 → ⊥) → (t ≡ 12 → ⊥) → (t ≡ 11 → ⊥) → Boolˢ (eqb x 1) ≡ shapeOf r
+  pub shape-bool : t ≤ RECORD-VALUE → (t ≡ RECORD-VALUE → ⊥) → (t ≡ SET-VALUE → ⊥) → (t ≡ ENTITY-VALUE → ⊥) → (t ≡ TEXT-VALUE → ⊥) → (t ≡ LONG-VALUE → ⊥) → Boolˢ (eqb x 1) ≡ shapeOf r
   shape-bool h a b c d e = sym (at-place 0 (omega arith))
 
 -- a value's row is its shape, with its items
 pub shape-row : (r : List ℕ) → valueRow r ≡ shapeRow (shapeOf r) (items r)
 unfolding shapeOf
-shape-row r = go (tag r - 10)
+shape-row r = go (tag r - firstValue)
   where
     go : (j : ℕ) → getD (shapeRow (Boolˢ (eqb (at r 0) 1)) (items r) ∷ shapeRow (Long (at r 0 * 4294967296 + at r 1)) (items r) ∷ shapeRow (Text (at r 0)) (items r)
         ∷ shapeRow (Entity (at r 0) (at r 1)) (items r) ∷ shapeRow Set (items r) ∷ shapeRow Record (items r) ∷ []) j (shapeRow (Boolˢ false) (items r))

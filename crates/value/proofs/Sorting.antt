@@ -13,7 +13,7 @@ use Rattle.cedar.specs.Making.{placeN, insertN, sortN}
 use Rattle.cedar.proofs.OrderLaws.{compare-eq, compare-lt, compare-gt}
 use Rattle.value.specs.declared.Entry.{Entry}
 use Rattle.value.specs.declared.Entry.the-variants.{At, Nothing}
-use Rattle.value.specs.Made.{lowerOf, leastOf, valuesIn}
+use Rattle.value.specs.Made.{ROW, SOURCE, lowerOf, leastOf, valuesIn}
 use Rattle.value.proofs.Lists.{uncons2}
 
 -- ---- one number more
@@ -195,7 +195,7 @@ uncons4 s i h =
     uncons2 s i (omega arith) ∙ ap (λ (x : List ℕ). getD s i 0 ∷ getD s (i + 1) 0 ∷ x)
     (uncons2 s (i + 2) (omega arith) ∙ ap (λ (j : ℕ). getD s (i + 2) 0 ∷ getD s (i + 2 + 1) 0 ∷ drop j s) e)
 
-pub short : (l : List ℕ) → length l < 4 → valuesIn l ≡ []
+pub short : (l : List ℕ) → length l < ROW → valuesIn l ≡ []
 unfolding valuesIn
 short [] h = refl
 short (a ∷ []) h = refl
@@ -211,16 +211,16 @@ pub lowering-start : (rows : List ℕ) (lo : ℕ) → Lowering rows lo Nothing 0
 lowering-start rows lo = record { near = omega arith; left = refl }
 
 module _ (rows : List ℕ) (lo : ℕ) (e : Entry) (i : ℕ) (g : Lowering rows lo e i) where
-  pub lowering-on : (f : Entry) → 4 ≤ length rows - i → f ≡ lowerOf lo e (getD rows (i + 1) 0) → Lowering rows lo f (i + 4)
+  pub lowering-on : (f : Entry) → ROW ≤ length rows - i → f ≡ lowerOf lo e (getD rows (i + SOURCE) 0) → Lowering rows lo f (i + ROW)
   unfolding valuesIn leastOf
   lowering-on f h q =
       record {
         near = omega (arith, g .near);
-        left = g .left ∙ ap (λ (l : List ℕ). leastOf lo e (valuesIn l)) (uncons4 rows i (omega (arith, g .near))) ∙ ap (λ (d : Entry). leastOf lo d (valuesIn (drop (i + 4) rows))) (sym q);
+        left = g .left ∙ ap (λ (l : List ℕ). leastOf lo e (valuesIn l)) (uncons4 rows i (omega (arith, g .near))) ∙ ap (λ (d : Entry). leastOf lo d (valuesIn (drop (i + ROW) rows))) (sym q);
       }
 
-  pub lowering-end : length rows - i < 4 → e ≡ leastOf lo Nothing (valuesIn rows)
+  pub lowering-end : length rows - i < ROW → e ≡ leastOf lo Nothing (valuesIn rows)
   unfolding leastOf
   lowering-end h =
-      let n : length (drop i rows) < 4 = rw (length-drop i rows) h in
+      let n : length (drop i rows) < ROW = rw (length-drop i rows) h in
       sym (g .left ∙ ap (leastOf lo e) (short (drop i rows) n))

@@ -9,6 +9,7 @@ use lib.Seq.{sets}
 use Rattle.words.specs.Log.{part, pushed}
 use Rattle.cedar.specs.Canonical.{bit}
 use Rattle.cedar.specs.Making.{insertN, sortN}
+use Rattle.forms.specs.Tags.{BOOL-VALUE, LONG-VALUE, ENTITY-VALUE, SET-VALUE, RECORD-VALUE}
 use Rattle.table.specs.Layout.{MADE, TOP, heap, withRow}
 use Rattle.value.specs.Lines.{valueLines, placeOf}
 use Rattle.value.specs.declared.Entry.{Entry}
@@ -17,14 +18,14 @@ use Rattle.value.specs.declared.Entry.the-variants.{At, Nothing}
 -- ---- rows made
 
 abbrev pub boolRow : Bool → List ℕ
-boolRow b = 10 ∷ bit b ∷ []
+boolRow b = BOOL-VALUE ∷ bit b ∷ []
 
 -- of a long that is held as its number plus 2^63
 abbrev pub longRow : ℕ → List ℕ
-longRow w = 11 ∷ w / 4294967296 ∷ w % 4294967296 ∷ []
+longRow w = LONG-VALUE ∷ w / 4294967296 ∷ w % 4294967296 ∷ []
 
 abbrev pub entityRow : ℕ → ℕ → List ℕ
-entityRow k t = 13 ∷ k ∷ t ∷ []
+entityRow k t = ENTITY-VALUE ∷ k ∷ t ∷ []
 
 -- ---- found or made
 
@@ -53,7 +54,14 @@ pub record Made (a r is : List ℕ) (n : ℕ) : Type 0 where
   pub words : is ≡ withValue a r
   pub number : n ≡ numberOf a r
 
--- ---- sets and records from rows of four words, of which word 1 is a value's number
+-- ---- sets and records from a residual's rows
+
+-- the words of such a row, of which one is a value's number
+abbrev pub ROW : ℕ
+ROW = 4
+
+abbrev pub SOURCE : ℕ
+SOURCE = 1
 
 unfoldable pub valuesIn : List ℕ → List ℕ
 valuesIn [] = []
@@ -73,7 +81,7 @@ leastOf lo e [] = e
 leastOf lo e (x ∷ l) = leastOf lo (lowerOf lo e x) l
 
 unfoldable pub setRow : List ℕ → List ℕ
-setRow rows = 14 ∷ sortN (valuesIn rows)
+setRow rows = SET-VALUE ∷ sortN (valuesIn rows)
 
 -- the words from j to p stand one place further on, and x before them
 pub record Shifted (b : List ℕ) (j p x : ℕ) (is : List ℕ) : Type 0 where
@@ -98,7 +106,7 @@ pairsOf (t ∷ n ∷ l) (g ∷ v ∷ m ∷ []) = []
 pairsOf (t ∷ n ∷ l) (g ∷ v ∷ m ∷ y ∷ rows) = t ∷ v ∷ pairsOf l rows
 
 unfoldable pub recordRow : List ℕ → List ℕ → List ℕ
-recordRow r rows = 15 ∷ pairsOf (drop 2 r) rows
+recordRow r rows = RECORD-VALUE ∷ pairsOf (drop 2 r) rows
 
 -- a row is written past the end of a log, in the words after it: word by word, while there is room
 unfoldable pub pushAll : List ℕ → List ℕ → List ℕ

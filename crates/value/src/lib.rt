@@ -3,8 +3,13 @@
 pub mod like;
 pub mod making;
 
+use forms::ENTITY_VALUE;
+use forms::LONG_VALUE;
+use forms::RECORD_VALUE;
+use forms::SET_VALUE;
+use forms::TEXT_VALUE;
+use forms::VALUE;
 use table::MADE;
-use table::VALUE;
 use table::count;
 use table::item;
 use table::row;
@@ -40,75 +45,75 @@ pub enum Entry {
 }
 
 // How many values there are.
-pub fn total(a: &[u32]) -> usize
-    ensures { λ r. ⌜ r ≡ length (valueLines (now (a .entry))) ⌝ }
+pub fn total(rows: &[u32]) -> usize
+    ensures { λ r. ⌜ r ≡ length (valueLines (now (rows .entry))) ⌝ }
 {
-    count(a, VALUE) as usize + count(a, MADE) as usize
+    count(rows, VALUE) as usize + count(rows, MADE) as usize
 }
 
-// The row of value `v`; of a number that no value has, the empty row.
-pub fn row_of(a: &[u32], v: usize) -> &[u32]
-    ensures { λ r. ⌜ now r ≡ getD (valueLines (now (a .entry))) v [] ⌝ }
+// The row of a value; of a number that no value has, the empty row.
+pub fn row_of(rows: &[u32], value: usize) -> &[u32]
+    ensures { λ r. ⌜ now r ≡ getD (valueLines (now (rows .entry))) value [] ⌝ }
 {
-    let n = count(a, VALUE) as usize;
-    if v < n {
-        return row(a, VALUE, v as u32);
+    let n = count(rows, VALUE) as usize;
+    if value < n {
+        return row(rows, VALUE, value as u32);
     }
-    let m = count(a, MADE) as usize;
-    let w = v - n;
+    let m = count(rows, MADE) as usize;
+    let w = value - n;
     if w < m {
-        return row(a, MADE, w as u32);
+        return row(rows, MADE, w as u32);
     }
-    &a[0..0]
+    &rows[0..0]
 }
 
 // A long from its two words.
-fn joined(x: u32, y: u32) -> u64
-    ensures { λ r. ⌜ r ≡ x * 4294967296 + y ⌝ }
+fn joined(high: u32, low: u32) -> u64
+    ensures { λ r. ⌜ r ≡ high * 4294967296 + low ⌝ }
 {
-    x as u64 * 4294967296 + y as u64
+    high as u64 * 4294967296 + low as u64
 }
 
 // What a row says.
-pub fn shape_of(r: &[u32]) -> Shape
-    ensures { λ s. ⌜ s ≡ shapeOf (now (r .entry)) ⌝ }
+pub fn shape_of(line: &[u32]) -> Shape
+    ensures { λ s. ⌜ s ≡ shapeOf (now (line .entry)) ⌝ }
 {
-    let t = tag(r);
-    let x = item(r, 1);
-    let y = item(r, 2);
-    if t > 15 {
+    let t = tag(line);
+    let x = item(line, 1);
+    let y = item(line, 2);
+    if t > RECORD_VALUE {
         return Shape::Bool(false);
     }
     match t {
-        15 => Shape::Record,
-        14 => Shape::Set,
-        13 => Shape::Entity(x, y),
-        12 => Shape::Text(x),
-        11 => Shape::Long(joined(x, y)),
+        RECORD_VALUE => Shape::Record,
+        SET_VALUE => Shape::Set,
+        ENTITY_VALUE => Shape::Entity(x, y),
+        TEXT_VALUE => Shape::Text(x),
+        LONG_VALUE => Shape::Long(joined(x, y)),
         _ => Shape::Bool(x == 1),
     }
 }
 
 // The items of a row: a set's members, a record's texts and numbers in turn.
-pub fn members(r: &[u32]) -> &[u32]
-    ensures { λ l. ⌜ now l ≡ items (now (r .entry)) ⌝ }
+pub fn members(line: &[u32]) -> &[u32]
+    ensures { λ l. ⌜ now l ≡ items (now (line .entry)) ⌝ }
 {
-    if r.len() < 1 {
-        return r;
+    if line.len() < 1 {
+        return line;
     }
-    &r[1..]
+    &line[1..]
 }
 
-// Whether `v` is a member.
-pub fn contains(l: &[u32], v: u32) -> bool
-    ensures { λ r. ⌜ r ≡ memN v (now (l .entry)) ⌝ }
+// Whether `value` is a member.
+pub fn contains(words: &[u32], value: u32) -> bool
+    ensures { λ r. ⌜ r ≡ memN value (now (words .entry)) ⌝ }
 {
     let mut i = 0;
     loop {
-        if i >= l.len() {
+        if i >= words.len() {
             break false;
         }
-        if v == l[i] {
+        if value == words[i] {
             break true;
         }
         i += 1;
@@ -116,16 +121,16 @@ pub fn contains(l: &[u32], v: u32) -> bool
 }
 
 // Whether the members ascend without repeats.
-fn ascends(l: &[u32]) -> bool
-    ensures { λ r. ⌜ r ≡ ascend 0 (now (l .entry)) ⌝ }
+fn ascends(words: &[u32]) -> bool
+    ensures { λ r. ⌜ r ≡ ascend 0 (now (words .entry)) ⌝ }
 {
     let mut lo: usize = 0;
     let mut i = 0;
     loop {
-        if i >= l.len() {
+        if i >= words.len() {
             break true;
         }
-        let x = l[i] as usize;
+        let x = words[i] as usize;
         if x < lo {
             break false;
         }
@@ -134,66 +139,66 @@ fn ascends(l: &[u32]) -> bool
     }
 }
 
-// The first place from `from` on whose member is not below `v`.
-fn reach(l: &[u32], v: u32, from: usize) -> usize
-    ensures { λ r. ⌜ r ≡ from + lowerThan v (drop from (now (l .entry))) ⌝ }
+// The first place from `from` on whose member is not below `value`.
+fn reach(words: &[u32], value: u32, from: usize) -> usize
+    ensures { λ r. ⌜ r ≡ from + lowerThan value (drop from (now (words .entry))) ⌝ }
 {
     let mut j = from;
     loop {
-        if j >= l.len() {
+        if j >= words.len() {
             break j;
         }
-        if l[j] >= v {
+        if words[j] >= value {
             break j;
         }
         j += 1;
     }
 }
 
-// Where to look for `v`, after `u` was looked for and reached place `j`.
-fn resume(u: u32, v: u32, j: usize) -> usize
-    ensures { λ r. ⌜ r ≡ cond (ltb v u) 0 j ⌝ }
+// Where to look for `value`, after `last` was looked for and reached place `j`.
+fn resume(last: u32, value: u32, j: usize) -> usize
+    ensures { λ r. ⌜ r ≡ cond (ltb value last) 0 j ⌝ }
 {
-    if v < u {
+    if value < last {
         return 0;
     }
     j
 }
 
-// Whether `v` is a member from place `j` on; `up` may be true if the members ascend.
-fn stands(l: &[u32], up: bool, v: u32, j: usize) -> bool
-    requires { ⌜ (up ≡ true → ascend 0 (now l) ≡ true) ⌝ }
-    ensures { λ r. ⌜ r ≡ memN v (drop j (now (l .entry))) ⌝ }
+// Whether `value` is a member from place `from` on; `up` may be true if the members ascend.
+fn stands(words: &[u32], up: bool, value: u32, from: usize) -> bool
+    requires { ⌜ (up ≡ true → ascend 0 (now words) ≡ true) ⌝ }
+    ensures { λ r. ⌜ r ≡ memN value (drop from (now (words .entry))) ⌝ }
 {
-    if j >= l.len() {
+    if from >= words.len() {
         return false;
     }
-    let x = l[j];
-    if v == x {
+    let x = words[from];
+    if value == x {
         return true;
     }
     if up {
-        if v < x {
+        if value < x {
             return false;
         }
     }
-    contains(&l[j..], v)
+    contains(&words[from..], value)
 }
 
-// Whether every member of `k` is one of `l`.
-pub fn covers(k: &[u32], l: &[u32]) -> bool
-    ensures { λ r. ⌜ r ≡ allN (now (k .entry)) (now (l .entry)) ⌝ }
+// Whether every member of `words` is one of `among`.
+pub fn covers(words: &[u32], among: &[u32]) -> bool
+    ensures { λ r. ⌜ r ≡ allN (now (words .entry)) (now (among .entry)) ⌝ }
 {
     let mut u: u32 = 0;
     let mut j = 0;
     let mut i = 0;
     loop {
-        if i >= k.len() {
+        if i >= words.len() {
             break true;
         }
-        let v = k[i];
-        j = reach(l, v, resume(u, v, j));
-        if !stands(l, false, v, j) {
+        let v = words[i];
+        j = reach(among, v, resume(u, v, j));
+        if !stands(among, false, v, j) {
             break false;
         }
         u = v;
@@ -201,21 +206,21 @@ pub fn covers(k: &[u32], l: &[u32]) -> bool
     }
 }
 
-// Whether some member of `k` is one of `l`.
-pub fn meets(k: &[u32], l: &[u32]) -> bool
-    ensures { λ r. ⌜ r ≡ anyN (now (k .entry)) (now (l .entry)) ⌝ }
+// Whether some member of `words` is one of `among`.
+pub fn meets(words: &[u32], among: &[u32]) -> bool
+    ensures { λ r. ⌜ r ≡ anyN (now (words .entry)) (now (among .entry)) ⌝ }
 {
-    let up = ascends(l);
+    let up = ascends(among);
     let mut u: u32 = 0;
     let mut j = 0;
     let mut i = 0;
     loop {
-        if i >= k.len() {
+        if i >= words.len() {
             break false;
         }
-        let v = k[i];
-        j = reach(l, v, resume(u, v, j));
-        if stands(l, up, v, j) {
+        let v = words[i];
+        j = reach(among, v, resume(u, v, j));
+        if stands(among, up, v, j) {
             break true;
         }
         u = v;
@@ -223,17 +228,17 @@ pub fn meets(k: &[u32], l: &[u32]) -> bool
     }
 }
 
-// The value of text `t` in a record's items.
-pub fn entry_of(l: &[u32], t: u32) -> Entry
-    ensures { λ r. ⌜ r ≡ entryFound (entryOf t (entriesOf (now (l .entry)))) ⌝ }
+// The value that a record's items have for a text.
+pub fn entry_of(words: &[u32], text: u32) -> Entry
+    ensures { λ r. ⌜ r ≡ entryFound (entryOf text (entriesOf (now (words .entry)))) ⌝ }
 {
     let mut i = 0;
     loop {
-        if l.len() - i < 2 {
+        if words.len() - i < 2 {
             break Entry::Nothing;
         }
-        if t == l[i] {
-            break Entry::At(l[i + 1]);
+        if text == words[i] {
+            break Entry::At(words[i + 1]);
         }
         i += 2;
     }

@@ -1,5 +1,6 @@
 // A text against a pattern of texts and `*`, which stands for any run. The items up to the next `*` are tried at one place after
 // the other; once they fit, no later place is tried for them.
+use forms::MARK;
 use table::text;
 ghost use mathlib.Core.Path.{_≡_};
 ghost use mathlib.Core.Bool.{cond, not};
@@ -12,9 +13,6 @@ ghost use Rattle.sheet.specs.Content.{patternOf};
 ghost use Rattle.table.specs.Layout.{textAt};
 ghost use Rattle.value.specs.Globs.{begins, blockOf, untilPiece, untilItem, laterOf, stepOf, after};
 
-// The item `*`.
-const STAR: u32 = 10000;
-
 // The items up to the next `*` at a place of the text: they do not stand there; they do, and are the last ones, up to this place;
 // they do, and the item after the `*` and the place reached are these.
 pub enum Block {
@@ -24,70 +22,77 @@ pub enum Block {
 }
 
 // What is known of two texts, one byte further on: 1 once two bytes differ.
-fn told(d: u8, x: u8, y: u8) -> u8
-    ensures { λ r. ⌜ r ≡ cond (eqb x y) d 1 ⌝ }
+fn told(known: u8, x: u8, y: u8) -> u8
+    ensures { λ r. ⌜ r ≡ cond (eqb x y) known 1 ⌝ }
 {
     if x == y {
-        return d;
+        return known;
     }
     1
 }
 
 // Whether two texts of one length differ. Every byte is looked at, so that many are compared at once.
-fn differ(x: &[u8], y: &[u8]) -> bool
-    requires { ⌜ length (now x) ≡ length (now y) ⌝ }
-    ensures { λ r. ⌜ r ≡ not (same (now (x .entry)) (now (y .entry))) ⌝ }
+fn differ(left: &[u8], right: &[u8]) -> bool
+    requires { ⌜ length (now left) ≡ length (now right) ⌝ }
+    ensures { λ r. ⌜ r ≡ not (same (now (left .entry)) (now (right .entry))) ⌝ }
 {
     let mut d: u8 = 0;
     let mut i = 0;
-    while i < x.len() {
-        d = told(d, x[i], y[i]);
+    while i < left.len() {
+        d = told(d, left[i], right[i]);
         i += 1;
     }
     d != 0
 }
 
 // Whether the text has the piece at a place: the first and the last byte are compared first.
-fn begins(s: &[u8], at: usize, piece: &[u8]) -> bool
-    ensures { λ r. ⌜ r ≡ begins (now (piece .entry)) (drop at (now (s .entry))) ⌝ }
+fn begins(bytes: &[u8], at: usize, piece: &[u8]) -> bool
+    ensures { λ r. ⌜ r ≡ begins (now (piece .entry)) (drop at (now (bytes .entry))) ⌝ }
 {
     let n = piece.len();
-    if at > s.len() {
+    if at > bytes.len() {
         return n == 0;
     }
-    if n > s.len() - at {
+    if n > bytes.len() - at {
         return false;
     }
     if n == 0 {
         return true;
     }
-    if piece[0] != s[at] {
+    if piece[0] != bytes[at] {
         return false;
     }
     let e = at + n;
-    if piece[n - 1] != s[e - 1] {
+    if piece[n - 1] != bytes[e - 1] {
         return false;
     }
-    !differ(piece, &s[at..e])
+    !differ(piece, &bytes[at..e])
 }
 
-// The items from `q` on at place `t`.
-fn block_at(sheet: &[u8], a: &[u32], pattern: &[u32], s: &[u8], q: usize, t: usize) -> Block
-    requires { ⌜ (q ≤ length (now pattern)) × (t ≤ length (now s)) ⌝ }
-    ensures { λ r. ⌜ r ≡ blockOf (textAt (now (sheet .entry)) (now (a .entry))) q t (drop q (now (pattern .entry))) (drop t (now (s .entry))) ⌝ }
+// The items from `from` on at place `at`.
+fn block_at(
+    sheet: &[u8],
+    rows: &[u32],
+    pattern: &[u32],
+    bytes: &[u8],
+    from: usize,
+    at: usize,
+) -> Block
+    requires { ⌜ (from ≤ length (now pattern)) × (at ≤ length (now bytes)) ⌝ }
+    ensures { λ r. ⌜ r ≡ blockOf (textAt (now (sheet .entry)) (now (rows .entry))) from at (drop from (now (pattern .entry))) (drop at (now (bytes .entry))) ⌝ }
 {
-    let mut p = q;
-    let mut e = t;
+    let mut p = from;
+    let mut e = at;
     loop {
         if p >= pattern.len() {
             break Block::Ends(e);
         }
         let x = pattern[p];
-        if x == STAR {
+        if x == MARK {
             break Block::Star(p + 1, e);
         }
-        let piece = text(sheet, a, x);
-        if !begins(s, e, piece) {
+        let piece = text(sheet, rows, x);
+        if !begins(bytes, e, piece) {
             break Block::Misses;
         }
         e += piece.len();
@@ -103,76 +108,83 @@ enum Step {
 }
 
 // The same items one place further on.
-fn later(s: &[u8], q: usize, t: usize) -> Step
-    ensures { λ r. ⌜ r ≡ laterOf (length (now (s .entry))) q t ⌝ }
+fn later(bytes: &[u8], from: usize, at: usize) -> Step
+    ensures { λ r. ⌜ r ≡ laterOf (length (now (bytes .entry))) from at ⌝ }
 {
-    if t < s.len() {
-        return Step::On(q, t + 1);
+    if at < bytes.len() {
+        return Step::On(from, at + 1);
     }
     Step::Fails
 }
 
-// The items from `q` on, after a `*`, at place `t` or a later one.
-fn step_at(sheet: &[u8], a: &[u32], pattern: &[u32], s: &[u8], q: usize, t: usize) -> Step
-    requires { ⌜ (q ≤ length (now pattern)) × (t ≤ length (now s)) ⌝ }
-    ensures { λ r. ⌜ r ≡ stepOf (length (now (s .entry))) q t (blockOf (textAt (now (sheet .entry)) (now (a .entry))) q t (drop q (now (pattern .entry))) (drop t (now (s .entry)))) ⌝ }
+// The items from `from` on, after a `*`, at place `at` or a later one.
+fn step_at(
+    sheet: &[u8],
+    rows: &[u32],
+    pattern: &[u32],
+    bytes: &[u8],
+    from: usize,
+    at: usize,
+) -> Step
+    requires { ⌜ (from ≤ length (now pattern)) × (at ≤ length (now bytes)) ⌝ }
+    ensures { λ r. ⌜ r ≡ stepOf (length (now (bytes .entry))) from at (blockOf (textAt (now (sheet .entry)) (now (rows .entry))) from at (drop from (now (pattern .entry))) (drop at (now (bytes .entry)))) ⌝ }
 {
-    let b = block_at(sheet, a, pattern, s, q, t);
+    let b = block_at(sheet, rows, pattern, bytes, from, at);
     match b {
         Block::Star(p, e) => Step::On(p, e),
-        Block::Misses => later(s, q, t),
+        Block::Misses => later(bytes, from, at),
         Block::Ends(e) => {
-            if e >= s.len() {
+            if e >= bytes.len() {
                 return Step::Holds;
             }
-            later(s, q, t)
+            later(bytes, from, at)
         }
     }
 }
 
 // The first place from `from` on where the text has the piece, or the text's end.
-fn seek(s: &[u8], piece: &[u8], from: usize) -> usize
-    requires { ⌜ from ≤ length (now s) ⌝ }
-    ensures { λ r. ⌜ r ≡ from + untilPiece (now (piece .entry)) (drop from (now (s .entry))) ⌝ }
+fn seek(bytes: &[u8], piece: &[u8], from: usize) -> usize
+    requires { ⌜ from ≤ length (now bytes) ⌝ }
+    ensures { λ r. ⌜ r ≡ from + untilPiece (now (piece .entry)) (drop from (now (bytes .entry))) ⌝ }
 {
     let n = piece.len();
     let mut u = from;
     loop {
-        if s.len() - u < n {
-            break s.len();
+        if bytes.len() - u < n {
+            break bytes.len();
         }
-        if begins(s, u, piece) {
+        if begins(bytes, u, piece) {
             break u;
         }
         u += 1;
     }
 }
 
-// The first place from `t` on where item `q` stands, if it is a text.
-fn skip(sheet: &[u8], a: &[u32], pattern: &[u32], s: &[u8], q: usize, t: usize) -> usize
-    requires { ⌜ t ≤ length (now s) ⌝ }
-    ensures { λ r. ⌜ r ≡ t + untilItem (textAt (now (sheet .entry)) (now (a .entry))) (drop q (now (pattern .entry))) (drop t (now (s .entry))) ⌝ }
+// The first place from `at` on where item `from` stands, if it is a text.
+fn skip(sheet: &[u8], rows: &[u32], pattern: &[u32], bytes: &[u8], from: usize, at: usize) -> usize
+    requires { ⌜ at ≤ length (now bytes) ⌝ }
+    ensures { λ r. ⌜ r ≡ at + untilItem (textAt (now (sheet .entry)) (now (rows .entry))) (drop from (now (pattern .entry))) (drop at (now (bytes .entry))) ⌝ }
 {
-    if q >= pattern.len() {
-        return t;
+    if from >= pattern.len() {
+        return at;
     }
-    let x = pattern[q];
-    if x == STAR {
-        return t;
+    let x = pattern[from];
+    if x == MARK {
+        return at;
     }
-    seek(s, text(sheet, a, x), t)
+    seek(bytes, text(sheet, rows, x), at)
 }
 
-// Whether the items from `q` on, after a `*`, match at place `t` or a later one.
-fn go_on(sheet: &[u8], a: &[u32], pattern: &[u32], s: &[u8], from: usize, place: usize) -> bool
-    requires { ⌜ (from ≤ length (now pattern)) × (place ≤ length (now s)) ⌝ }
-    ensures { λ r. ⌜ r ≡ after (textAt (now (sheet .entry)) (now (a .entry))) (now (pattern .entry)) (now (s .entry)) from place ⌝ }
+// Whether the items from `from` on, after a `*`, match at place `at` or a later one.
+fn go_on(sheet: &[u8], rows: &[u32], pattern: &[u32], bytes: &[u8], from: usize, at: usize) -> bool
+    requires { ⌜ (from ≤ length (now pattern)) × (at ≤ length (now bytes)) ⌝ }
+    ensures { λ r. ⌜ r ≡ after (textAt (now (sheet .entry)) (now (rows .entry))) (now (pattern .entry)) (now (bytes .entry)) from at ⌝ }
 {
     let mut q = from;
-    let mut t = place;
+    let mut t = at;
     loop {
-        let u = skip(sheet, a, pattern, s, q, t);
-        let next = step_at(sheet, a, pattern, s, q, u);
+        let u = skip(sheet, rows, pattern, bytes, q, t);
+        let next = step_at(sheet, rows, pattern, bytes, q, u);
         match next {
             Step::Holds => break true,
             Step::Fails => break false,
@@ -185,13 +197,13 @@ fn go_on(sheet: &[u8], a: &[u32], pattern: &[u32], s: &[u8], from: usize, place:
 }
 
 // Whether the text matches the pattern.
-pub fn like(sheet: &[u8], a: &[u32], pattern: &[u32], s: &[u8]) -> bool
-    ensures { λ r. ⌜ r ≡ matches (textAt (now (sheet .entry)) (now (a .entry))) (patternOf (now (pattern .entry))) (now (s .entry)) ⌝ }
+pub fn like(sheet: &[u8], rows: &[u32], pattern: &[u32], bytes: &[u8]) -> bool
+    ensures { λ r. ⌜ r ≡ matches (textAt (now (sheet .entry)) (now (rows .entry))) (patternOf (now (pattern .entry))) (now (bytes .entry)) ⌝ }
 {
-    let first = block_at(sheet, a, pattern, s, 0, 0);
+    let first = block_at(sheet, rows, pattern, bytes, 0, 0);
     match first {
         Block::Misses => false,
-        Block::Ends(e) => e >= s.len(),
-        Block::Star(p, e) => go_on(sheet, a, pattern, s, p, e),
+        Block::Ends(e) => e >= bytes.len(),
+        Block::Star(p, e) => go_on(sheet, rows, pattern, bytes, p, e),
     }
 }

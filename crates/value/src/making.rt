@@ -1,10 +1,16 @@
 // A value found among those that there are, or made: its row then stands at the heap's end. Where there is no room, or 1,024 values
 // were made, nothing is stored.
 use crate::Entry;
+use forms::BOOL_VALUE;
+use forms::ENTITY_VALUE;
+use forms::LONG_VALUE;
+use forms::NODE;
+use forms::RECORD_VALUE;
+use forms::SET_VALUE;
+use forms::VALUE;
+use table::HEAP;
 use table::MADE;
-use table::NODE;
 use table::TOP;
-use table::VALUE;
 use table::add_row;
 use table::base_of;
 use table::count;
@@ -22,80 +28,86 @@ ghost use lib.ListN.{getD, length, take, drop};
 ghost use Rattle.words.specs.Log.{part, Room, Holds};
 ghost use Rattle.cedar.specs.Making.{sortN};
 ghost use Rattle.sheet.specs.Bytes.{same};
+ghost use Rattle.sheet.specs.Forms.{NODE};
 ghost use Rattle.table.specs.Layout.{base, rowsOf};
 ghost use Rattle.value.specs.Lines.{valueLines, placeOf};
 ghost use Rattle.value.specs.Made.{boolRow, longRow, entityRow, roomFor, narrow, withMade, Made, MadeBeside, valuesIn, Shifted, Inserted, lowerOf, leastOf, setRow, pairsOf, recordRow, pushAll};
 
+// The words of a residual's row, of which one is a value's number.
+const ROW: usize = 4;
+
+const SOURCE: usize = 1;
+
 // Whether two rows have the same words.
-pub fn same(x: &[u32], y: &[u32]) -> bool
-    ensures { λ r. ⌜ r ≡ same (now (x .entry)) (now (y .entry)) ⌝ }
+pub fn same(left: &[u32], right: &[u32]) -> bool
+    ensures { λ r. ⌜ r ≡ same (now (left .entry)) (now (right .entry)) ⌝ }
 {
-    if x.len() != y.len() {
+    if left.len() != right.len() {
         return false;
     }
     let mut i = 0;
     loop {
-        if i >= x.len() {
+        if i >= left.len() {
             break true;
         }
-        if x[i] != y[i] {
+        if left[i] != right[i] {
             break false;
         }
         i += 1;
     }
 }
 
-// The number of the first row of key `k` with these words, or of all its rows where none has them, row by row.
-fn find_row(a: &[u32], k: usize, r: &[u32]) -> usize
-    ensures { λ v. ⌜ v ≡ placeOf (now (r .entry)) (rowsOf (now (a .entry)) k) ⌝ }
+// The number of the first row of a key with these words, or of all its rows where none has them, row by row.
+fn find_row(rows: &[u32], key: usize, line: &[u32]) -> usize
+    ensures { λ v. ⌜ v ≡ placeOf (now (line .entry)) (rowsOf (now (rows .entry)) key) ⌝ }
 {
-    let n = count(a, k);
+    let n = count(rows, key);
     let mut i = 0;
     loop {
         if i >= n {
             break n as usize;
         }
-        if same(row(a, k, i), r) {
+        if same(row(rows, key, i), line) {
             break i as usize;
         }
         i += 1;
     }
 }
 
-// Whether the row from `s` to `e` has these words: its length is compared first, then its last word.
-fn is_row(a: &[u32], s: usize, e: usize, r: &[u32]) -> bool
-    requires { ⌜ (1 ≤ length (now r)) × (e ≤ length (now a)) × (s < 4294967296) ⌝ }
-    ensures { λ b. ⌜ b ≡ same (part (now (a .entry)) s e) (now (r .entry)) ⌝ }
+// Whether the row from `start` to `end` has these words: its length is compared first, then its last word.
+fn is_row(rows: &[u32], start: usize, end: usize, line: &[u32]) -> bool
+    requires { ⌜ (1 ≤ length (now line)) × (end ≤ length (now rows)) × (start < 4294967296) ⌝ }
+    ensures { λ b. ⌜ b ≡ same (part (now (rows .entry)) start end) (now (line .entry)) ⌝ }
 {
-    let n = r.len();
-    if s + n != e {
+    let n = line.len();
+    if start + n != end {
         return false;
     }
-    if a[e - 1] != r[n - 1] {
+    if rows[end - 1] != line[n - 1] {
         return false;
     }
-    same(&a[s..e], r)
+    same(&rows[start..end], line)
 }
 
-// The same in one walk: word `b` says where the first of the `n` rows begins, and each begins where the one before ends.
-fn find_walking(a: &[u32], k: usize, b: usize, n: usize, r: &[u32]) -> usize
-    requires { ⌜ (b ≡ base k) × (n ≡ getD (now a) k 0) × (b + n < length (now a)) × (1 ≤ length (now r)) ⌝ }
-    ensures { λ v. ⌜ v ≡ placeOf (now (r .entry)) (rowsOf (now (a .entry)) k) ⌝ }
+// The same in one walk: word `first` says where the first of the `many` rows begins, and each begins where the one before ends.
+fn find_walking(rows: &[u32], key: usize, first: usize, many: usize, line: &[u32]) -> usize
+    requires { ⌜ (first ≡ base key) × (many ≡ getD (now rows) key 0) × (first + many < length (now rows)) × (1 ≤ length (now line)) ⌝ }
+    ensures { λ v. ⌜ v ≡ placeOf (now (line .entry)) (rowsOf (now (rows .entry)) key) ⌝ }
 {
-    let p = b + 1;
-    let q = p + n;
-    let ends = &a[p..q];
-    let mut s = a[b] as usize;
+    let p = first + 1;
+    let q = p + many;
+    let ends = &rows[p..q];
+    let mut s = rows[first] as usize;
     let mut i = 0;
     loop {
         if i >= ends.len() {
-            break n;
+            break many;
         }
         let e = ends[i] as usize;
-        if e > a.len() {
-            break find_row(a, k, r);
+        if e > rows.len() {
+            break find_row(rows, key, line);
         }
-        if is_row(a, s, e, r) {
+        if is_row(rows, s, e, line) {
             break i;
         }
         s = e;
@@ -103,273 +115,277 @@ fn find_walking(a: &[u32], k: usize, b: usize, n: usize, r: &[u32]) -> usize
     }
 }
 
-// The number of the first row of key `k` with these words, or of all its rows where none has them.
-fn find_in(a: &[u32], k: usize, r: &[u32]) -> usize
-    ensures { λ v. ⌜ v ≡ placeOf (now (r .entry)) (rowsOf (now (a .entry)) k) ⌝ }
+// The number of the first row of a key with these words, or of all its rows where none has them.
+fn find_in(rows: &[u32], key: usize, line: &[u32]) -> usize
+    ensures { λ v. ⌜ v ≡ placeOf (now (line .entry)) (rowsOf (now (rows .entry)) key) ⌝ }
 {
-    let n = count(a, k) as usize;
-    let b = base_of(k);
-    if b + n >= a.len() {
-        return find_row(a, k, r);
+    let n = count(rows, key) as usize;
+    let b = base_of(key);
+    if b + n >= rows.len() {
+        return find_row(rows, key, line);
     }
-    if r.len() < 1 {
-        return find_row(a, k, r);
+    if line.len() < 1 {
+        return find_row(rows, key, line);
     }
-    find_walking(a, k, b, n, r)
+    find_walking(rows, key, b, n, line)
 }
 
 // The number of the first value with these words, or of all values where none has them.
-pub fn find(a: &[u32], r: &[u32]) -> usize
-    ensures { λ v. ⌜ v ≡ placeOf (now (r .entry)) (valueLines (now (a .entry))) ⌝ }
+pub fn find(rows: &[u32], line: &[u32]) -> usize
+    ensures { λ v. ⌜ v ≡ placeOf (now (line .entry)) (valueLines (now (rows .entry))) ⌝ }
 {
-    let n = count(a, VALUE) as usize;
-    let v = find_in(a, VALUE, r);
+    let n = count(rows, VALUE) as usize;
+    let v = find_in(rows, VALUE, line);
     if v < n {
         return v;
     }
-    n + find_in(a, MADE, r)
+    n + find_in(rows, MADE, line)
 }
 
-// Whether a row of `n` words more may be made.
-fn has_room(a: &[u32], n: usize) -> bool
-    ensures { λ r. ⌜ r ≡ roomFor (now (a .entry)) n ⌝ }
+// Whether a row of `size` words more may be made.
+fn has_room(rows: &[u32], size: usize) -> bool
+    ensures { λ r. ⌜ r ≡ roomFor (now (rows .entry)) size ⌝ }
 {
-    if read(a, MADE) >= 1024 {
+    if read(rows, MADE) >= 1024 {
         return false;
     }
-    let top = read(a, TOP) as usize;
-    if top < table::HEAP {
+    let top = read(rows, TOP) as usize;
+    if top < HEAP {
         return false;
     }
-    if n > 16384 {
+    if size > 16384 {
         return false;
     }
-    top + n <= 16384
+    top + size <= 16384
 }
 
 // A number as a word.
-fn narrowed(v: usize) -> u32
-    ensures { λ r. ⌜ r ≡ narrow v ⌝ }
+fn narrowed(value: usize) -> u32
+    ensures { λ r. ⌜ r ≡ narrow value ⌝ }
 {
-    if v < 4294967296 {
-        return v as u32;
+    if value < 4294967296 {
+        return value as u32;
     }
     0
 }
 
 // The words become a row of the made ones.
-fn add(a: &mut [u32], r: &[u32])
-    requires { ⌜ roomFor (now a) (length (now r)) ≡ true ⌝ }
-    ensures { λ _. ⌜ now (a .exit) ≡ withMade (now (a .entry)) (now (r .entry)) ⌝ }
+fn add(rows: &mut [u32], line: &[u32])
+    requires { ⌜ roomFor (now rows) (length (now line)) ≡ true ⌝ }
+    ensures { λ _. ⌜ now (rows .exit) ≡ withMade (now (rows .entry)) (now (line .entry)) ⌝ }
 {
-    let top = read(a, TOP);
-    store(a, top as usize, r);
-    add_row(a, MADE, top + r.len() as u32);
+    let top = read(rows, TOP);
+    store(rows, top as usize, line);
+    add_row(rows, MADE, top + line.len() as u32);
 }
 
 // The number of the value with these words, made where it is absent.
-pub fn make(a: &mut [u32], r: &[u32]) -> u32
-    ensures { λ v. ⌜ Made (now (a .entry)) (now (r .entry)) (now (a .exit)) v ⌝ }
+pub fn make(rows: &mut [u32], line: &[u32]) -> u32
+    ensures { λ v. ⌜ Made (now (rows .entry)) (now (line .entry)) (now (rows .exit)) v ⌝ }
 {
-    let v = find(a, r);
-    if v < crate::total(a) {
+    let v = find(rows, line);
+    if v < crate::total(rows) {
         return narrowed(v);
     }
-    if !has_room(a, r.len()) {
+    if !has_room(rows, line.len()) {
         return narrowed(v);
     }
-    add(a, r);
+    add(rows, line);
     narrowed(v)
 }
 
 // The bool.
-pub fn make_bool(a: &mut [u32], b: bool) -> u32
-    ensures { λ v. ⌜ Made (now (a .entry)) (boolRow b) (now (a .exit)) v ⌝ }
+pub fn make_bool(rows: &mut [u32], truth: bool) -> u32
+    ensures { λ v. ⌜ Made (now (rows .entry)) (boolRow truth) (now (rows .exit)) v ⌝ }
 {
-    if b {
-        return make(a, &[10, 1]);
+    if truth {
+        return make(rows, &[BOOL_VALUE, 1]);
     }
-    make(a, &[10, 0])
+    make(rows, &[BOOL_VALUE, 0])
 }
 
 // The long that is held as its number plus 2^63.
-pub fn make_long(a: &mut [u32], w: u64) -> u32
-    ensures { λ v. ⌜ Made (now (a .entry)) (longRow w) (now (a .exit)) v ⌝ }
+pub fn make_long(rows: &mut [u32], long: u64) -> u32
+    ensures { λ v. ⌜ Made (now (rows .entry)) (longRow long) (now (rows .exit)) v ⌝ }
 {
-    let r = [11, (w / 4294967296) as u32, (w % 4294967296) as u32];
-    make(a, &r)
+    let r = [
+        LONG_VALUE,
+        (long / 4294967296) as u32,
+        (long % 4294967296) as u32,
+    ];
+    make(rows, &r)
 }
 
 // The entity of a kind and a text.
-pub fn make_entity(a: &mut [u32], k: u32, t: u32) -> u32
-    ensures { λ v. ⌜ Made (now (a .entry)) (entityRow k t) (now (a .exit)) v ⌝ }
+pub fn make_entity(rows: &mut [u32], kind: u32, text: u32) -> u32
+    ensures { λ v. ⌜ Made (now (rows .entry)) (entityRow kind text) (now (rows .exit)) v ⌝ }
 {
-    let r = [13, k, t];
-    make(a, &r)
+    let r = [ENTITY_VALUE, kind, text];
+    make(rows, &r)
 }
 
-// The lower of the best so far and `x`, if `x` is not below `lo`.
-fn lower(lo: usize, best: Entry, x: u32) -> Entry
-    ensures { λ r. ⌜ r ≡ lowerOf lo best x ⌝ }
+// The lower of the best so far and `value`, if `value` is not below `low`.
+fn lower(low: usize, best: Entry, value: u32) -> Entry
+    ensures { λ r. ⌜ r ≡ lowerOf low best value ⌝ }
 {
-    if (x as usize) < lo {
+    if (value as usize) < low {
         return best;
     }
     match best {
-        Entry::Nothing => Entry::At(x),
+        Entry::Nothing => Entry::At(value),
         Entry::At(y) => {
-            if x < y {
-                return Entry::At(x);
+            if value < y {
+                return Entry::At(value);
             }
             Entry::At(y)
         }
     }
 }
 
-// The least value of these rows that is not below `lo`.
-fn least(rows: &[u32], lo: usize) -> Entry
-    ensures { λ r. ⌜ r ≡ leastOf lo Entry.Nothing (valuesIn (now (rows .entry))) ⌝ }
+// The least value of these rows that is not below `low`.
+fn least(words: &[u32], low: usize) -> Entry
+    ensures { λ r. ⌜ r ≡ leastOf low Entry.Nothing (valuesIn (now (words .entry))) ⌝ }
 {
     let mut best = Entry::Nothing;
     let mut i = 0;
-    while rows.len() - i >= 4 {
-        best = lower(lo, best, rows[i + 1]);
-        i += 4;
+    while words.len() - i >= ROW {
+        best = lower(low, best, words[i + SOURCE]);
+        i += ROW;
     }
     best
 }
 
-// The values of the rows from `start` to `bt`, ascending and without repeats, at the end `at` of the log while there is room; the end
+// The values of the rows from `start` to `top`, ascending and without repeats, at the end `at` of the log while there is room; the end
 // after them. The least of those left is looked for again and again.
-fn selected(b: &mut [u32], at: usize, start: usize, bt: usize) -> usize
-    requires { ⌜ Room (now b) at ⌝ }
-    requires { ⌜ bt ≤ at ⌝ }
-    ensures { λ e. ⌜ Holds at (now (b .exit)) e (pushAll (take at (now (b .entry))) (sortN (valuesIn (part (now (b .entry)) start bt)))) ⌝ }
+fn selected(log: &mut [u32], at: usize, start: usize, top: usize) -> usize
+    requires { ⌜ Room (now log) at ⌝ }
+    requires { ⌜ top ≤ at ⌝ }
+    ensures { λ e. ⌜ Holds at (now (log .exit)) e (pushAll (take at (now (log .entry))) (sortN (valuesIn (part (now (log .entry)) start top)))) ⌝ }
 {
     let mut p = at;
     let mut lo: usize = 0;
     loop {
-        let Entry::At(x) = least(cut(b, start, bt), lo) else {
+        let Entry::At(x) = least(cut(log, start, top), lo) else {
             break p;
         };
-        p = push(b, p, x);
+        p = push(log, p, x);
         lo = x as usize + 1;
     }
 }
 
-// The words from `j` to `p` move one place on, and `x` stands before them.
-fn shift(b: &mut [u32], j: usize, p: usize, x: u32)
-    requires { ⌜ (j ≤ p) × (p < length (now b)) ⌝ }
-    ensures { λ _. ⌜ Shifted (now (b .entry)) j p x (now (b .exit)) ⌝ }
+// The words from `start` to `end` move one place on, and `value` stands before them.
+fn shift(log: &mut [u32], start: usize, end: usize, value: u32)
+    requires { ⌜ (start ≤ end) × (end < length (now log)) ⌝ }
+    ensures { λ _. ⌜ Shifted (now (log .entry)) start end value (now (log .exit)) ⌝ }
 {
-    let mut y = x;
-    let mut i = j;
-    while i < p {
-        let z = b[i];
-        b[i] = y;
+    let mut y = value;
+    let mut i = start;
+    while i < end {
+        let z = log[i];
+        log[i] = y;
         y = z;
         i += 1;
     }
-    b[p] = y;
+    log[end] = y;
 }
 
-// Whether `x` stands at `j`, before `p`.
-fn is_there(b: &[u32], j: usize, p: usize, x: u32) -> bool
-    ensures { λ r. ⌜ r ≡ (ltb j p && eqb (getD (now (b .entry)) j 0) x) ⌝ }
+// Whether `value` stands at `at`, before `end`.
+fn is_there(log: &[u32], at: usize, end: usize, value: u32) -> bool
+    ensures { λ r. ⌜ r ≡ (ltb at end && eqb (getD (now (log .entry)) at 0) value) ⌝ }
 {
-    if j >= p {
+    if at >= end {
         return false;
     }
-    read(b, j) == x
+    read(log, at) == value
 }
 
-// The number `x` in its place among the words from `at` to `p`, unless it is there; the end after them.
-fn insert(b: &mut [u32], at: usize, p: usize, x: u32) -> usize
-    requires { ⌜ (at ≤ p) × (p < length (now b)) ⌝ }
-    ensures { λ e. ⌜ Inserted (now (b .entry)) at p x (now (b .exit)) e ⌝ }
+// The number `value` in its place among the words from `at` to `end`, unless it is there; the end after them.
+fn insert(log: &mut [u32], at: usize, end: usize, value: u32) -> usize
+    requires { ⌜ (at ≤ end) × (end < length (now log)) ⌝ }
+    ensures { λ e. ⌜ Inserted (now (log .entry)) at end value (now (log .exit)) e ⌝ }
 {
-    let j = at + crate::reach(cut(b, at, p), x, 0);
-    if is_there(b, j, p, x) {
-        return p;
+    let j = at + crate::reach(cut(log, at, end), value, 0);
+    if is_there(log, j, end, value) {
+        return end;
     }
-    shift(b, j, p, x);
-    p + 1
+    shift(log, j, end, value);
+    end + 1
 }
 
-// The values of the rows from `start` to `bt`, ascending and without repeats, at the end `at` of the log, which has room for them; the
+// The values of the rows from `start` to `top`, ascending and without repeats, at the end `at` of the log, which has room for them; the
 // end after them. Each is put in its place, the last row's first.
-fn inserted(b: &mut [u32], at: usize, start: usize, bt: usize) -> usize
-    requires { ⌜ Room (now b) at ⌝ }
-    requires { ⌜ (bt ≤ at) × (at + length (part (now b) start bt) ≤ 16384) ⌝ }
-    ensures { λ e. ⌜ Holds at (now (b .exit)) e (pushAll (take at (now (b .entry))) (sortN (valuesIn (part (now (b .entry)) start bt)))) ⌝ }
+fn inserted(log: &mut [u32], at: usize, start: usize, top: usize) -> usize
+    requires { ⌜ Room (now log) at ⌝ }
+    requires { ⌜ (top ≤ at) × (at + length (part (now log) start top) ≤ 16384) ⌝ }
+    ensures { λ e. ⌜ Holds at (now (log .exit)) e (pushAll (take at (now (log .entry))) (sortN (valuesIn (part (now (log .entry)) start top)))) ⌝ }
 {
     let mut p = at;
-    let mut i = cut(b, start, bt).len() / 4;
+    let mut i = cut(log, start, top).len() / ROW;
     while i > 0 {
         i -= 1;
-        let x = read(b, start + 4 * i + 1);
-        p = insert(b, at, p, x);
+        let x = read(log, start + ROW * i + SOURCE);
+        p = insert(log, at, p, x);
     }
     p
 }
 
-// The values of the rows from `start` to `bt`, ascending and without repeats, at the end `at` of the log; the end after them.
-fn ascending(b: &mut [u32], at: usize, start: usize, bt: usize) -> usize
-    requires { ⌜ Room (now b) at ⌝ }
-    requires { ⌜ bt ≤ at ⌝ }
-    ensures { λ e. ⌜ Holds at (now (b .exit)) e (pushAll (take at (now (b .entry))) (sortN (valuesIn (part (now (b .entry)) start bt)))) ⌝ }
+// The values of the rows from `start` to `top`, ascending and without repeats, at the end `at` of the log; the end after them.
+fn ascending(log: &mut [u32], at: usize, start: usize, top: usize) -> usize
+    requires { ⌜ Room (now log) at ⌝ }
+    requires { ⌜ top ≤ at ⌝ }
+    ensures { λ e. ⌜ Holds at (now (log .exit)) e (pushAll (take at (now (log .entry))) (sortN (valuesIn (part (now (log .entry)) start top)))) ⌝ }
 {
-    let n = cut(b, start, bt).len();
+    let n = cut(log, start, top).len();
     if n > 16384 {
-        return selected(b, at, start, bt);
+        return selected(log, at, start, top);
     }
     if at + n > 16384 {
-        return selected(b, at, start, bt);
+        return selected(log, at, start, top);
     }
-    inserted(b, at, start, bt)
+    inserted(log, at, start, top)
 }
 
 // The set of the values of the rows from `start` to the log's end.
-pub fn make_set(a: &mut [u32], b: &mut [u32], start: usize, bt: usize) -> u32
-    requires { ⌜ Room (now b) bt ⌝ }
-    ensures { λ v. ⌜ MadeBeside (now (a .entry)) (now (a .exit)) v bt (now (b .entry)) (now (b .exit)) (setRow (part (now (b .entry)) start bt)) ⌝ }
+pub fn make_set(rows: &mut [u32], log: &mut [u32], start: usize, top: usize) -> u32
+    requires { ⌜ Room (now log) top ⌝ }
+    ensures { λ v. ⌜ MadeBeside (now (rows .entry)) (now (rows .exit)) v top (now (log .entry)) (now (log .exit)) (setRow (part (now (log .entry)) start top)) ⌝ }
 {
-    let q = push(b, bt, 14);
-    let e = ascending(b, q, start, bt);
-    make(a, cut(b, bt, e))
+    let q = push(log, top, SET_VALUE);
+    let e = ascending(log, q, start, top);
+    make(rows, cut(log, top, e))
 }
 
-// The texts of a node's row with the values of the rows from `start` to `bt`, at the end `at` of the log; the end after them.
-fn paired(b: &mut [u32], at: usize, start: usize, bt: usize, r: &[u32]) -> usize
-    requires { ⌜ Room (now b) at ⌝ }
-    requires { ⌜ (start ≤ bt) × (bt ≤ at) ⌝ }
-    ensures { λ e. ⌜ Holds at (now (b .exit)) e (pushAll (take at (now (b .entry))) (pairsOf (drop 2 (now (r .entry))) (part (now (b .entry)) start bt))) ⌝ }
+// The texts of a node's row with the values of the rows from `start` to `top`, at the end `at` of the log; the end after them.
+fn paired(log: &mut [u32], at: usize, start: usize, top: usize, line: &[u32]) -> usize
+    requires { ⌜ Room (now log) at ⌝ }
+    requires { ⌜ (start ≤ top) × (top ≤ at) ⌝ }
+    ensures { λ e. ⌜ Holds at (now (log .exit)) e (pushAll (take at (now (log .entry))) (pairsOf (drop 2 (now (line .entry))) (part (now (log .entry)) start top))) ⌝ }
 {
     let mut p = at;
     let mut i = 2;
     let mut q = start;
     loop {
-        if r.len() < i + 2 {
+        if line.len() < i + 2 {
             break p;
         }
-        if bt < q + 4 {
+        if top < q + ROW {
             break p;
         }
-        let v = read(b, q + 1);
-        p = push(b, p, r[i]);
-        p = push(b, p, v);
+        let v = read(log, q + SOURCE);
+        p = push(log, p, line[i]);
+        p = push(log, p, v);
         i += 2;
-        q += 4;
+        q += ROW;
     }
 }
 
-// The record of the texts of node `n` and the values of the rows from `start` to the log's end.
-pub fn make_record(a: &mut [u32], b: &mut [u32], start: usize, bt: usize, n: u32) -> u32
-    requires { ⌜ Room (now b) bt ⌝ }
-    requires { ⌜ start ≤ bt ⌝ }
-    ensures { λ v. ⌜ MadeBeside (now (a .entry)) (now (a .exit)) v bt (now (b .entry)) (now (b .exit)) (recordRow (getD (rowsOf (now (a .entry)) 11) n []) (part (now (b .entry)) start bt)) ⌝ }
+// The record of the texts of a node and the values of the rows from `start` to the log's end.
+pub fn make_record(rows: &mut [u32], log: &mut [u32], start: usize, top: usize, node: u32) -> u32
+    requires { ⌜ Room (now log) top ⌝ }
+    requires { ⌜ start ≤ top ⌝ }
+    ensures { λ v. ⌜ MadeBeside (now (rows .entry)) (now (rows .exit)) v top (now (log .entry)) (now (log .exit)) (recordRow (getD (rowsOf (now (rows .entry)) NODE) node []) (part (now (log .entry)) start top)) ⌝ }
 {
-    let q = push(b, bt, 15);
-    let e = paired(b, q, start, bt, row(a, NODE, n));
-    make(a, cut(b, bt, e))
+    let q = push(log, top, RECORD_VALUE);
+    let e = paired(log, q, start, top, row(rows, NODE, node));
+    make(rows, cut(log, top, e))
 }

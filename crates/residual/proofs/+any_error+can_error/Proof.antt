@@ -1,4 +1,5 @@
 -- The cycle of calls {any_error, can_error} meets its contracts. Assumes nothing.
+use Rattle.sheet.specs.Forms.{NODE}
 use Rattle.table.specs.Layout.{rowsOf}
 use Rattle.residual.specs.Errs.{errsBy}
 use Rattle.residual.proofs.Steps.{look-less, Looking, look-start, look-end, look-hit, look-on, errs-deep, errs-value, errs-error, errs-op, errs-short, errs-kids}
@@ -21,10 +22,10 @@ use Rattle.residual.proofs.+any_error+can_error.{statement}
 use Rattle.residual.proofs.+any_error+can_error.Tie.{close}
 
 abbrev μ-any-error : Measures 2 any-error-kinds.ps ℕ
-μ-any-error κs a = a .1 .1 .1 .1 .0 * 2 + 1
+μ-any-error κs rows = rows .1 .1 .1 .1 .0 * 2 + 1
 
 abbrev μ-can-error : Measures 2 can-error-kinds.ps ℕ
-μ-can-error κs a = a .1 .1 .1 .0 * 2
+μ-can-error κs rows = rows .1 .1 .1 .0 * 2
 
 abbrev any-error-at : ℕ → In 2 any-error-kinds.ps
 any-error-at t = and 2 any-error-kinds.ps (is 2 any-error-kinds.ps μ-any-error t) any-error.Pre
@@ -41,7 +42,7 @@ can-error-below t =
     and 2 can-error-kinds.ps (falls 2 can-error-kinds.ps _<_ μ-can-error t) can-error.Pre
 
 abbrev any-error-Inv-loop : any-error-lts.InvT-loop
-any-error-Inv-loop a b start end d p₀ p = Looking (errsBy (rowsOf a 11) b d) b start end p
+any-error-Inv-loop a b start end d p₀ p = Looking (errsBy (rowsOf a NODE) b d) b start end p
 
 abbrev any-error-μ-loop : any-error-lts.MeasureT-loop
 any-error-μ-loop a b start end d p₀ p = p

@@ -1,6 +1,7 @@
 -- `residual::op_errs` meets its contract. Assumes nothing.
 use Rattle.residual.proofs.Steps.{op-errs, op-no}
 use mathlib.Core.Path.{refl}
+use Rattle.forms.specs.Tags.{ERR, ADD, SUB, MUL, GETTAG, GET, NEG}
 use Rattle.residual.specs.Errs.{opErrs}
 use borrow.Author.Needs.{needs}
 use Rattle.residual.proofs.op_errs.Statement.{statement}
@@ -8,31 +9,31 @@ use Rattle.residual.proofs.op_errs.Tie as tie
 
 returns : tie.Need-returns
 unfolding opErrs
-returns c = search (op-errs 22 refl, needs)
+returns c = search (op-errs ERR refl, needs)
 
 returns-2 : tie.Need-returns-2
 unfolding opErrs
-returns-2 c = search (op-errs 29 refl, needs)
+returns-2 c = search (op-errs ADD refl, needs)
 
 returns-3 : tie.Need-returns-3
 unfolding opErrs
-returns-3 c = search (op-errs 30 refl, needs)
+returns-3 c = search (op-errs SUB refl, needs)
 
 returns-4 : tie.Need-returns-4
 unfolding opErrs
-returns-4 c = search (op-errs 31 refl, needs)
+returns-4 c = search (op-errs MUL refl, needs)
 
 returns-5 : tie.Need-returns-5
 unfolding opErrs
-returns-5 c = search (op-errs 33 refl, needs)
+returns-5 c = search (op-errs GETTAG refl, needs)
 
 returns-6 : tie.Need-returns-6
 unfolding opErrs
-returns-6 c = search (op-errs 41 refl, needs)
+returns-6 c = search (op-errs GET refl, needs)
 
 returns-7 : tie.Need-returns-7
 unfolding opErrs
-returns-7 c = search (op-errs 45 refl, needs)
+returns-7 c = search (op-errs NEG refl, needs)
 
 returns-8 : tie.Need-returns-8
 returns-8 c = search (op-no, needs)

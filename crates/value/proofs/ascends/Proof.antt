@@ -10,10 +10,10 @@ use Rattle.value.proofs.ascends.Statement.{statement}
 use Rattle.value.proofs.ascends.Tie as tie
 
 abbrev Inv-loop : tie.InvT-loop
-Inv-loop l lo₀ i₀ lo i = Going (ascend 0 l) (ascend lo (drop i l)) i (length l)
+Inv-loop words lo₀ i₀ lo i = Going (ascend 0 words) (ascend lo (drop i words)) i (length words)
 
 abbrev μ-loop : tie.MeasureT-loop
-μ-loop l lo₀ i₀ lo i = length l - i
+μ-loop words lo₀ i₀ lo i = length words - i
 
 loop-holds : tie.Need-loop-holds Inv-loop μ-loop
 loop-holds c = record { near = search needs; left = refl }

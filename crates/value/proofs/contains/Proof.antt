@@ -9,10 +9,10 @@ use Rattle.value.proofs.contains.Statement.{statement}
 use Rattle.value.proofs.contains.Tie as tie
 
 abbrev Inv-loop : tie.InvT-loop
-Inv-loop l v i₀ i = Going (memN v l) (memN v (drop i l)) i (length l)
+Inv-loop words value i₀ i = Going (memN value words) (memN value (drop i words)) i (length words)
 
 abbrev μ-loop : tie.MeasureT-loop
-μ-loop l v i₀ i = length l - i
+μ-loop words value i₀ i = length words - i
 
 loop-holds : tie.Need-loop-holds Inv-loop μ-loop
 loop-holds c = record { near = search needs; left = refl }

@@ -9,10 +9,10 @@ use Rattle.value.proofs.covers.Statement.{statement}
 use Rattle.value.proofs.covers.Tie as tie
 
 abbrev Inv-loop : tie.InvT-loop
-Inv-loop k l u₀ j₀ i₀ u j i = Seeking (allN k l) (allN (drop i k) l) l u j i (length k)
+Inv-loop words among u₀ j₀ i₀ u j i = Seeking (allN words among) (allN (drop i words) among) among u j i (length words)
 
 abbrev μ-loop : tie.MeasureT-loop
-μ-loop k l u₀ j₀ i₀ u j i = length k - i
+μ-loop words among u₀ j₀ i₀ u j i = length words - i
 
 loop-holds : tie.Need-loop-holds Inv-loop μ-loop
 loop-holds c = search (seek-start, needs)

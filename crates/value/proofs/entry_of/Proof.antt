@@ -8,10 +8,10 @@ use Rattle.value.proofs.entry_of.Statement.{statement}
 use Rattle.value.proofs.entry_of.Tie as tie
 
 abbrev Inv-loop : tie.InvT-loop
-Inv-loop l t i₀ i = Going (entryIn t l) (entryIn t (drop i l)) i (length l)
+Inv-loop words text i₀ i = Going (entryIn text words) (entryIn text (drop i words)) i (length words)
 
 abbrev μ-loop : tie.MeasureT-loop
-μ-loop l t i₀ i = length l - i
+μ-loop words text i₀ i = length words - i
 
 loop-holds : tie.Need-loop-holds Inv-loop μ-loop
 loop-holds c = record { near = search needs; left = refl }

@@ -7,10 +7,10 @@ use Rattle.value.proofs.reach.Statement.{statement}
 use Rattle.value.proofs.reach.Tie as tie
 
 abbrev Inv-loop : tie.InvT-loop
-Inv-loop l v from j₀ j = Reaching l v from j
+Inv-loop words value from j₀ j = Reaching words value from j
 
 abbrev μ-loop : tie.MeasureT-loop
-μ-loop l v from j₀ j = length l - j
+μ-loop words value from j₀ j = length words - j
 
 loop-holds : tie.Need-loop-holds Inv-loop μ-loop
 loop-holds c = search (reach-start, needs)

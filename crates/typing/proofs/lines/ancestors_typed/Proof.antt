@@ -7,10 +7,10 @@ use Rattle.typing.proofs.lines.ancestors_typed.Statement.{statement}
 use Rattle.typing.proofs.lines.ancestors_typed.Tie as tie
 
 abbrev Inv-loop : tie.InvT-loop
-Inv-loop a x k q i₀ i = Ancestors a q x k i
+Inv-loop rows value kind q i₀ i = Ancestors rows q value kind i
 
 abbrev μ-loop : tie.MeasureT-loop
-μ-loop a x k q i₀ i = length q - i
+μ-loop rows value kind q i₀ i = length q - i
 
 returns : tie.Need-returns Inv-loop μ-loop
 returns c = search ancestors-unknown

@@ -7,10 +7,10 @@ use Rattle.typing.proofs.nodes.args_fit.Statement.{statement}
 use Rattle.typing.proofs.nodes.args_fit.Tie as tie
 
 abbrev Inv-loop : tie.InvT-loop
-Inv-loop a r y i₀ i = Args a r y i
+Inv-loop rows line ty i₀ i = Args rows line ty i
 
 abbrev μ-loop : tie.MeasureT-loop
-μ-loop a r y i₀ i = length r - i
+μ-loop rows line ty i₀ i = length line - i
 
 loop-holds : tie.Need-loop-holds Inv-loop μ-loop
 loop-holds c = search args-start

@@ -7,10 +7,10 @@ use Rattle.typing.proofs.nodes.children_are.Statement.{statement}
 use Rattle.typing.proofs.nodes.children_are.Tie as tie
 
 abbrev Inv-loop : tie.InvT-loop
-Inv-loop a r e i₀ i = Children a r e i
+Inv-loop rows line ty i₀ i = Children rows line ty i
 
 abbrev μ-loop : tie.MeasureT-loop
-μ-loop a r e i₀ i = length r - i
+μ-loop rows line ty i₀ i = length line - i
 
 loop-holds : tie.Need-loop-holds Inv-loop μ-loop
 loop-holds c = search children-start

@@ -1,61 +1,62 @@
 -- `first_rules`: the operation by its number.
 use Rattle.typing.proofs.Operations.{op-at, op-contains}
 use Rattle.typing.specs.Rules.{nodeRule, nodeRules}
+use Rattle.forms.specs.Tags.{ERR, VAR, AND, OR, EQ, LT, LE, ADD, SUB, MUL, IN, GETTAG, HASTAG}
 use borrow.Author.Needs.{needs}
 use Rattle.typing.proofs.nodes.first_rules.Statement.{statement}
 use Rattle.typing.proofs.nodes.first_rules.Tie as tie
 
 returns : tie.Need-returns
 unfolding nodeRule nodeRules
-returns c = search (op-at 22, needs)
+returns c = search (op-at ERR, needs)
 
 returns-2 : tie.Need-returns-2
 unfolding nodeRule nodeRules
-returns-2 c = search (op-at 23, needs)
+returns-2 c = search (op-at VAR, needs)
 
 returns-3 : tie.Need-returns-3
 unfolding nodeRule nodeRules
-returns-3 c = search (op-at 24, needs)
+returns-3 c = search (op-at AND, needs)
 
 returns-4 : tie.Need-returns-4
 unfolding nodeRule nodeRules
-returns-4 c = search (op-at 25, needs)
+returns-4 c = search (op-at OR, needs)
 
 returns-5 : tie.Need-returns-5
 unfolding nodeRule nodeRules
-returns-5 c = search (op-at 26, needs)
+returns-5 c = search (op-at EQ, needs)
 
 returns-6 : tie.Need-returns-6
 unfolding nodeRule nodeRules
-returns-6 c = search (op-at 27, needs)
+returns-6 c = search (op-at LT, needs)
 
 returns-7 : tie.Need-returns-7
 unfolding nodeRule nodeRules
-returns-7 c = search (op-at 28, needs)
+returns-7 c = search (op-at LE, needs)
 
 returns-8 : tie.Need-returns-8
 unfolding nodeRule nodeRules
-returns-8 c = search (op-at 29, needs)
+returns-8 c = search (op-at ADD, needs)
 
 returns-9 : tie.Need-returns-9
 unfolding nodeRule nodeRules
-returns-9 c = search (op-at 30, needs)
+returns-9 c = search (op-at SUB, needs)
 
 returns-10 : tie.Need-returns-10
 unfolding nodeRule nodeRules
-returns-10 c = search (op-at 31, needs)
+returns-10 c = search (op-at MUL, needs)
 
 returns-11 : tie.Need-returns-11
 unfolding nodeRule nodeRules
-returns-11 c = search (op-at 32, needs)
+returns-11 c = search (op-at IN, needs)
 
 returns-12 : tie.Need-returns-12
 unfolding nodeRule nodeRules
-returns-12 c = search (op-at 33, needs)
+returns-12 c = search (op-at GETTAG, needs)
 
 returns-13 : tie.Need-returns-13
 unfolding nodeRule nodeRules
-returns-13 c = search (op-at 34, needs)
+returns-13 c = search (op-at HASTAG, needs)
 
 returns-14 : tie.Need-returns-14
 returns-14 c = search op-contains

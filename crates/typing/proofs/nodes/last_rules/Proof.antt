@@ -1,57 +1,58 @@
 -- `last_rules`: the operation by its number.
 use Rattle.typing.proofs.Operations.{op-at, op-record}
 use Rattle.typing.specs.Rules.{nodeRule, nodeRules}
+use Rattle.forms.specs.Tags.{ALL, ANY, IF, IS, LIKE, GET, HAS, HASPATH, NOT, NEG, EMPTY, SET-OF}
 use borrow.Author.Needs.{needs}
 use Rattle.typing.proofs.nodes.last_rules.Statement.{statement}
 use Rattle.typing.proofs.nodes.last_rules.Tie as tie
 
 returns : tie.Need-returns
 unfolding nodeRule nodeRules
-returns c = search (op-at 36, needs)
+returns c = search (op-at ALL, needs)
 
 returns-2 : tie.Need-returns-2
 unfolding nodeRule nodeRules
-returns-2 c = search (op-at 37, needs)
+returns-2 c = search (op-at ANY, needs)
 
 returns-3 : tie.Need-returns-3
 unfolding nodeRule nodeRules
-returns-3 c = search (op-at 38, needs)
+returns-3 c = search (op-at IF, needs)
 
 returns-4 : tie.Need-returns-4
 unfolding nodeRule nodeRules
-returns-4 c = search (op-at 39, needs)
+returns-4 c = search (op-at IS, needs)
 
 returns-5 : tie.Need-returns-5
 unfolding nodeRule nodeRules
-returns-5 c = search (op-at 40, needs)
+returns-5 c = search (op-at LIKE, needs)
 
 returns-6 : tie.Need-returns-6
 unfolding nodeRule nodeRules
-returns-6 c = search (op-at 41, needs)
+returns-6 c = search (op-at GET, needs)
 
 returns-7 : tie.Need-returns-7
 unfolding nodeRule nodeRules
-returns-7 c = search (op-at 42, needs)
+returns-7 c = search (op-at HAS, needs)
 
 returns-8 : tie.Need-returns-8
 unfolding nodeRule nodeRules
-returns-8 c = search (op-at 43, needs)
+returns-8 c = search (op-at HASPATH, needs)
 
 returns-9 : tie.Need-returns-9
 unfolding nodeRule nodeRules
-returns-9 c = search (op-at 44, needs)
+returns-9 c = search (op-at NOT, needs)
 
 returns-10 : tie.Need-returns-10
 unfolding nodeRule nodeRules
-returns-10 c = search (op-at 45, needs)
+returns-10 c = search (op-at NEG, needs)
 
 returns-11 : tie.Need-returns-11
 unfolding nodeRule nodeRules
-returns-11 c = search (op-at 46, needs)
+returns-11 c = search (op-at EMPTY, needs)
 
 returns-12 : tie.Need-returns-12
 unfolding nodeRule nodeRules
-returns-12 c = search (op-at 47, needs)
+returns-12 c = search (op-at SET-OF, needs)
 
 returns-13 : tie.Need-returns-13
 returns-13 c = search op-record

@@ -7,10 +7,10 @@ use Rattle.typing.proofs.nodes.path_typed.Statement.{statement}
 use Rattle.typing.proofs.nodes.path_typed.Tie as tie
 
 abbrev Inv-loop : tie.InvT-loop
-Inv-loop a r y z₀ i₀ z i = Path a r y z i
+Inv-loop rows line ty z₀ i₀ z i = Path rows line ty z i
 
 abbrev μ-loop : tie.MeasureT-loop
-μ-loop a r y z₀ i₀ z i = length r - i
+μ-loop rows line ty z₀ i₀ z i = length line - i
 
 loop-holds : tie.Need-loop-holds Inv-loop μ-loop
 loop-holds c = search path-start

@@ -7,10 +7,10 @@ use Rattle.typing.proofs.types.is_above.Statement.{statement}
 use Rattle.typing.proofs.types.is_above.Tie as tie
 
 abbrev Inv-loop : tie.InvT-loop
-Inv-loop a k l q i₀ i = Above a q k l i
+Inv-loop rows kind above q i₀ i = Above rows q kind above i
 
 abbrev μ-loop : tie.MeasureT-loop
-μ-loop a k l q i₀ i = length q - i
+μ-loop rows kind above q i₀ i = length q - i
 
 loop-holds : tie.Need-loop-holds Inv-loop μ-loop
 loop-holds c = search above-start

@@ -8,10 +8,10 @@ use Rattle.value.proofs.like.block_at.Statement.{statement}
 use Rattle.value.proofs.like.block_at.Tie as tie
 
 abbrev Inv-loop : tie.InvT-loop
-Inv-loop sheet a pattern s q t p₀ e₀ p e = Blocking (textAt sheet a) pattern s q t p e
+Inv-loop sheet rows pattern bytes from at p₀ e₀ p e = Blocking (textAt sheet rows) pattern bytes from at p e
 
 abbrev μ-loop : tie.MeasureT-loop
-μ-loop sheet a pattern s q t p₀ e₀ p e = length pattern - p
+μ-loop sheet rows pattern bytes from at p₀ e₀ p e = length pattern - p
 
 loop-holds : tie.Need-loop-holds Inv-loop μ-loop
 loop-holds c = search (block-start, needs)

@@ -7,10 +7,10 @@ use Rattle.value.proofs.like.differ.Statement.{statement}
 use Rattle.value.proofs.like.differ.Tie as tie
 
 abbrev Inv-loop : tie.InvT-loop
-Inv-loop x y d₀ i₀ d i = Telling x y d i
+Inv-loop left right d₀ i₀ d i = Telling left right d i
 
 abbrev μ-loop : tie.MeasureT-loop
-μ-loop x y d₀ i₀ d i = length x - i
+μ-loop left right d₀ i₀ d i = length left - i
 
 loop-holds : tie.Need-loop-holds Inv-loop μ-loop
 loop-holds c = search (tell-start, needs)

@@ -8,10 +8,10 @@ use Rattle.value.proofs.like.go_on.Statement.{statement}
 use Rattle.value.proofs.like.go_on.Tie as tie
 
 abbrev Inv-loop : tie.InvT-loop
-Inv-loop sheet a pattern s from place q₀ t₀ q t = Globbing (textAt sheet a) pattern s from place q t
+Inv-loop sheet rows pattern bytes from at q₀ t₀ q t = Globbing (textAt sheet rows) pattern bytes from at q t
 
 abbrev μ-loop : tie.MeasureT-loop
-μ-loop sheet a pattern s from place q₀ t₀ q t = length pattern - q + (length s - t)
+μ-loop sheet rows pattern bytes from at q₀ t₀ q t = length pattern - q + (length bytes - t)
 
 loop-holds : tie.Need-loop-holds Inv-loop μ-loop
 loop-holds c = search (glob-start, needs)

@@ -7,10 +7,10 @@ use Rattle.value.proofs.like.seek.Statement.{statement}
 use Rattle.value.proofs.like.seek.Tie as tie
 
 abbrev Inv-loop : tie.InvT-loop
-Inv-loop s piece from n u₀ u = Hunting piece s from u
+Inv-loop bytes piece from n u₀ u = Hunting piece bytes from u
 
 abbrev μ-loop : tie.MeasureT-loop
-μ-loop s piece from n u₀ u = length s + 1 - u
+μ-loop bytes piece from n u₀ u = length bytes + 1 - u
 
 loop-holds : tie.Need-loop-holds Inv-loop μ-loop
 loop-holds c = search (hunt-start, needs)

@@ -9,13 +9,13 @@ cast-add-row : tie.Need-cast-add-row
 cast-add-row c =
     let t = c .before .before .before .before .before in
     let s = t .before .before .before .before in
-    omega (arith, add-fits (s .args .a .now) (s .args .r .now) (s .pre) (t .read .result) (t .read .ensures))
+    omega (arith, add-fits (s .args .rows .now) (s .args .line .now) (s .pre) (t .read .result) (t .read .ensures))
 
 add-add-row : tie.Need-add-add-row
 add-add-row c =
     let t = c .before .before .before .before .before in
     let s = t .before .before .before .before in
-    omega (arith, add-fits (s .args .a .now) (s .args .r .now) (s .pre) (t .read .result) (t .read .ensures))
+    omega (arith, add-fits (s .args .rows .now) (s .args .line .now) (s .pre) (t .read .result) (t .read .ensures))
 
 add-row-requires : tie.Need-add-row-requires
 add-row-requires c κs = search (add-few, needs)

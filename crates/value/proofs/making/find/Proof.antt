@@ -1,6 +1,7 @@
 -- `value::making::find` meets its contract. Assumes nothing.
 use Rattle.value.proofs.Makes.{found-most, find-given, find-made}
 use native.Mathlib.Omega.{arith}
+use Rattle.table.specs.Layout.{MADE}
 use borrow.Author.Needs.{needs}
 use Rattle.value.proofs.making.find.Statement.{statement}
 use Rattle.value.proofs.making.find.Tie as tie
@@ -12,7 +13,7 @@ add-result : tie.Need-add-result
 add-result c =
     let k = c .before .before .before .before in
     let s = k .before .before in
-    omega (arith, found-most (s .args .r .now) (s .args .a .now) 13 (c .find-in2 .result) (c .find-in2 .ensures), k .before .shared-slice-known .given 13)
+    omega (arith, found-most (s .args .line .now) (s .args .rows .now) MADE (c .find-in2 .result) (c .find-in2 .ensures), k .before .shared-slice-known .given MADE)
 
 returns-2 : tie.Need-returns-2
 returns-2 c = search (find-made, needs)

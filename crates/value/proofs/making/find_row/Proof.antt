@@ -7,10 +7,10 @@ use Rattle.value.proofs.making.find_row.Statement.{statement}
 use Rattle.value.proofs.making.find_row.Tie as tie
 
 abbrev Inv-loop : tie.InvT-loop
-Inv-loop a k r n i₀ i = Finding r (rowsOf a k) n i
+Inv-loop rows key line n i₀ i = Finding line (rowsOf rows key) n i
 
 abbrev μ-loop : tie.MeasureT-loop
-μ-loop a k r n i₀ i = n - i
+μ-loop rows key line n i₀ i = n - i
 
 loop-holds : tie.Need-loop-holds Inv-loop μ-loop
 loop-holds c = search (rows-start, needs)

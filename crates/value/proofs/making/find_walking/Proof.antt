@@ -9,18 +9,18 @@ use Rattle.value.proofs.making.find_walking.Statement.{statement}
 use Rattle.value.proofs.making.find_walking.Tie as tie
 
 abbrev Inv-loop : tie.InvT-loop
-Inv-loop a k b n r p q ends s₀ i₀ s i = Walking r a k n i s
+Inv-loop rows key first many line p q ends s₀ i₀ s i = Walking line rows key many i s
 
 abbrev μ-loop : tie.MeasureT-loop
-μ-loop a k b n r p q ends s₀ i₀ s i = length ends - i
+μ-loop rows key first many line p q ends s₀ i₀ s i = length ends - i
 
 cast-s : tie.Need-cast-s Inv-loop μ-loop
-cast-s c = omega (arith, c .shared-slice-known3 .given (c .before .before .before .before .args .b))
+cast-s c = omega (arith, c .shared-slice-known3 .given (c .before .before .before .before .args .first))
 
 loop-holds : tie.Need-loop-holds Inv-loop μ-loop
 loop-holds c =
     let s = c .before .before .before .before in
-    walk-start (s .args .r .now) (s .args .a .now) (s .args .k) (s .args .b) (s .args .n) (s .pre .0) (s .pre .1) (s .pre .2) (omega (arith, c .shared-slice-known3 .given (s .args .b)))
+    walk-start (s .args .line .now) (s .args .rows .now) (s .args .key) (s .args .first) (s .args .many) (s .pre .0) (s .pre .1) (s .pre .2) (omega (arith, c .shared-slice-known3 .given (s .args .first)))
 
 cast-e : tie.Need-cast-e Inv-loop μ-loop
 cast-e c = omega (arith, c .shared-slice-known4 .given (c .before .before .loop .i))
@@ -29,7 +29,7 @@ loop-again : tie.Need-loop-again Inv-loop μ-loop
 loop-again c =
     let l = c .before .before .before .before .before in
     let s = l .before .before .before .before .before in
-    walk-on (s .args .r .now) (s .args .a .now) (s .args .k) (s .args .b) (s .args .n) (s .pre .0) (s .pre .1) (s .pre .2) (l .loop .i) (l .loop .s) (l .loop .inv)
+    walk-on (s .args .line .now) (s .args .rows .now) (s .args .key) (s .args .first) (s .args .many) (s .pre .0) (s .pre .1) (s .pre .2) (l .loop .i) (l .loop .s) (l .loop .inv)
     (c .before .before .before .before .if1 .left) _ refl (c .before .is-row .result) (c .before .is-row .ensures) (omega (arith, c .before .before .before .shared-slice-known4 .given (l .loop .i))) (c .if3 .left)
 
 returns : tie.Need-returns Inv-loop μ-loop

@@ -9,7 +9,7 @@ add-j : tie.Need-add-j
 add-j c =
     let r = c in
     let s = r .before .before .before .before in
-    omega (arith, insert-low (s .args .b .now) (s .args .at) (s .args .p) (s .args .x) (s .pre .0) (s .pre .1) (r .before .cut .result .now) (r .before .cut .ensures) (r .reach .result) (r .reach .ensures))
+    omega (arith, insert-low (s .args .log .now) (s .args .at) (s .args .end) (s .args .value) (s .pre .0) (s .pre .1) (r .before .cut .result .now) (r .before .cut .ensures) (r .reach .result) (r .reach .ensures))
 
 returns : tie.Need-returns
 returns c = search (insert-same, needs)
@@ -18,7 +18,7 @@ shift-requires : tie.Need-shift-requires
 shift-requires c κs =
     let r = c .before .before .before .before in
     let s = r .before .before .before .before in
-    (insert-low (s .args .b .now) (s .args .at) (s .args .p) (s .args .x) (s .pre .0) (s .pre .1) (r .before .cut .result .now) (r .before .cut .ensures) (r .reach .result) (r .reach .ensures), s .pre .1)
+    (insert-low (s .args .log .now) (s .args .at) (s .args .end) (s .args .value) (s .pre .0) (s .pre .1) (r .before .cut .result .now) (r .before .cut .ensures) (r .reach .result) (r .reach .ensures), s .pre .1)
 
 returns-2 : tie.Need-returns-2
 returns-2 c = search (insert-shift, needs)

@@ -6,10 +6,10 @@ use Rattle.value.proofs.making.inserted.Statement.{statement}
 use Rattle.value.proofs.making.inserted.Tie as tie
 
 abbrev Inv-loop : tie.InvT-loop
-Inv-loop b₀ at start bt p₀ i₀ b p i = Inserting b₀ at start bt b p i
+Inv-loop log₀ at start top p₀ i₀ log p i = Inserting log₀ at start top log p i
 
 abbrev μ-loop : tie.MeasureT-loop
-μ-loop b₀ at start bt p₀ i₀ b p i = i
+μ-loop log₀ at start top p₀ i₀ log p i = i
 
 loop-holds : tie.Need-loop-holds Inv-loop μ-loop
 loop-holds c = search (inserting-start, needs)
@@ -19,28 +19,28 @@ mul-read c =
     let t = c .before in
     let l = t .before in
     let s = l .before .before .before .before in
-    omega (arith, inserting-near (s .args .b .now) (s .args .at) (s .args .start) (s .args .bt) (s .pre .0) (s .pre .1 .0) (s .pre .1 .1) (l .loop .b) (l .loop .p) (l .loop .i) (l .loop .inv) (t .loop-test .taken))
+    omega (arith, inserting-near (s .args .log .now) (s .args .at) (s .args .start) (s .args .top) (s .pre .0) (s .pre .1 .0) (s .pre .1 .1) (l .loop .log) (l .loop .p) (l .loop .i) (l .loop .inv) (t .loop-test .taken))
 
 add-read : tie.Need-add-read Inv-loop μ-loop
 add-read c =
     let t = c .before in
     let l = t .before in
     let s = l .before .before .before .before in
-    omega (arith, inserting-near (s .args .b .now) (s .args .at) (s .args .start) (s .args .bt) (s .pre .0) (s .pre .1 .0) (s .pre .1 .1) (l .loop .b) (l .loop .p) (l .loop .i) (l .loop .inv) (t .loop-test .taken))
+    omega (arith, inserting-near (s .args .log .now) (s .args .at) (s .args .start) (s .args .top) (s .pre .0) (s .pre .1 .0) (s .pre .1 .1) (l .loop .log) (l .loop .p) (l .loop .i) (l .loop .inv) (t .loop-test .taken))
 
 add-read-2 : tie.Need-add-read-2 Inv-loop μ-loop
 add-read-2 c =
     let t = c .before in
     let l = t .before in
     let s = l .before .before .before .before in
-    omega (arith, inserting-near (s .args .b .now) (s .args .at) (s .args .start) (s .args .bt) (s .pre .0) (s .pre .1 .0) (s .pre .1 .1) (l .loop .b) (l .loop .p) (l .loop .i) (l .loop .inv) (t .loop-test .taken))
+    omega (arith, inserting-near (s .args .log .now) (s .args .at) (s .args .start) (s .args .top) (s .pre .0) (s .pre .1 .0) (s .pre .1 .1) (l .loop .log) (l .loop .p) (l .loop .i) (l .loop .inv) (t .loop-test .taken))
 
 insert-requires : tie.Need-insert-requires Inv-loop μ-loop
 insert-requires c κs =
     let t = c .before .before .before in
     let l = t .before in
     let s = l .before .before .before .before in
-    (l .loop .inv .grows, inserting-room (s .args .b .now) (s .args .at) (s .args .start) (s .args .bt) (s .pre .0) (s .pre .1 .0) (s .pre .1 .1) (l .loop .b) (l .loop .p) (l .loop .i) (l .loop .inv) (t .loop-test .taken))
+    (l .loop .inv .grows, inserting-room (s .args .log .now) (s .args .at) (s .args .start) (s .args .top) (s .pre .0) (s .pre .1 .0) (s .pre .1 .1) (l .loop .log) (l .loop .p) (l .loop .i) (l .loop .inv) (t .loop-test .taken))
 
 loop-again : tie.Need-loop-again Inv-loop μ-loop
 loop-again c = search (inserting-on, needs)

@@ -7,10 +7,10 @@ use Rattle.value.proofs.making.least.Statement.{statement}
 use Rattle.value.proofs.making.least.Tie as tie
 
 abbrev Inv-loop : tie.InvT-loop
-Inv-loop rows lo best₀ i₀ best i = Lowering rows lo best i
+Inv-loop words low best₀ i₀ best i = Lowering words low best i
 
 abbrev μ-loop : tie.MeasureT-loop
-μ-loop rows lo best₀ i₀ best i = length rows - i
+μ-loop words low best₀ i₀ best i = length words - i
 
 loop-holds : tie.Need-loop-holds Inv-loop μ-loop
 loop-holds c = search (lowering-start, needs)

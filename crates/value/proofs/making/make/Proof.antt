@@ -15,7 +15,7 @@ add-requires : tie.Need-add-requires
 add-requires c κs =
     let h = c .before .before in
     let s = h .before .before .before .before .before .before .before .before .before in
-    room-tested (s .args .a .now) (length (s .args .r .now)) (h .has-room .result) (h .has-room .ensures) (c .before .if2 .left)
+    room-tested (s .args .rows .now) (length (s .args .line .now)) (h .has-room .result) (h .has-room .ensures) (c .before .if2 .left)
 
 returns-3 : tie.Need-returns-3
 returns-3 c = search (make-added, needs)

@@ -1,5 +1,6 @@
 -- `value::making::make_record` meets its contract. Assumes nothing.
 use Rattle.value.proofs.Fills.{first-room, first-on, record-made}
+use Rattle.forms.specs.Tags.{RECORD-VALUE}
 use borrow.Author.Needs.{needs}
 use Rattle.value.proofs.making.make_record.Statement.{statement}
 use Rattle.value.proofs.making.make_record.Tie as tie
@@ -8,7 +9,7 @@ paired-requires : tie.Need-paired-requires
 paired-requires c κs =
     let p = c .before .before .before .before .before in
     let s = p .before .before .before .before in
-    (first-room (s .args .b .now) (s .args .bt) (s .pre .0) 15 (p .push .last .0) (p .push .result) (p .push .ensures), (s .pre .1, first-on (s .args .b .now) (s .args .bt) (s .pre .0) 15 (p .push .last .0) (p .push .result) (p .push .ensures)))
+    (first-room (s .args .log .now) (s .args .top) (s .pre .0) RECORD-VALUE (p .push .last .0) (p .push .result) (p .push .ensures), (s .pre .1, first-on (s .args .log .now) (s .args .top) (s .pre .0) RECORD-VALUE (p .push .last .0) (p .push .result) (p .push .ensures)))
 
 returns : tie.Need-returns
 returns c = search (record-made, needs)

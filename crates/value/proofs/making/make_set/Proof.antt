@@ -1,5 +1,6 @@
 -- `value::making::make_set` meets its contract. Assumes nothing.
 use Rattle.value.proofs.Fills.{first-room, first-on, set-made}
+use Rattle.forms.specs.Tags.{SET-VALUE}
 use borrow.Author.Needs.{needs}
 use Rattle.value.proofs.making.make_set.Statement.{statement}
 use Rattle.value.proofs.making.make_set.Tie as tie
@@ -8,7 +9,7 @@ ascending-requires : tie.Need-ascending-requires
 ascending-requires c κs =
     let p = c .before .before .before in
     let s = p .before .before .before .before in
-    (first-room (s .args .b .now) (s .args .bt) (s .pre) 14 (p .push .last .0) (p .push .result) (p .push .ensures), first-on (s .args .b .now) (s .args .bt) (s .pre) 14 (p .push .last .0) (p .push .result) (p .push .ensures))
+    (first-room (s .args .log .now) (s .args .top) (s .pre) SET-VALUE (p .push .last .0) (p .push .result) (p .push .ensures), first-on (s .args .log .now) (s .args .top) (s .pre) SET-VALUE (p .push .last .0) (p .push .result) (p .push .ensures))
 
 returns : tie.Need-returns
 returns c = search (set-made, needs)

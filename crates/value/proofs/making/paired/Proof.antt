@@ -6,10 +6,10 @@ use Rattle.value.proofs.making.paired.Statement.{statement}
 use Rattle.value.proofs.making.paired.Tie as tie
 
 abbrev Inv-loop : tie.InvT-loop
-Inv-loop b₀ at start bt r p₀ i₀ q₀ b p i q = Pairing r b₀ at start bt b p i q
+Inv-loop log₀ at start top line p₀ i₀ q₀ log p i q = Pairing line log₀ at start top log p i q
 
 abbrev μ-loop : tie.MeasureT-loop
-μ-loop b₀ at start bt r p₀ i₀ q₀ b p i q = bt - q
+μ-loop log₀ at start top line p₀ i₀ q₀ log p i q = top - q
 
 loop-holds : tie.Need-loop-holds Inv-loop μ-loop
 loop-holds c = search (pair-start, needs)
@@ -21,7 +21,7 @@ loop-again c =
     let v = n .before .before .before in
     let l = v .before .before .before .before in
     let s = l .before .before .before in
-    pair-on (s .args .r .now) (s .args .b .now) (s .args .at) (s .args .start) (s .args .bt) (search needs) (l .loop .b) (l .loop .p) (l .loop .i) (l .loop .q) (l .loop .inv)
+    pair-on (s .args .line .now) (s .args .log .now) (s .args .at) (s .args .start) (s .args .top) (search needs) (l .loop .log) (l .loop .p) (l .loop .i) (l .loop .q) (l .loop .inv)
     (search needs) (search needs) (v .read .result) (v .read .ensures) (n .push .last .0) (n .push .result) (m .push2 .last .0) (m .push2 .result) (n .push .ensures) (m .push2 .ensures)
 
 returns : tie.Need-returns Inv-loop μ-loop

@@ -9,10 +9,10 @@ use Rattle.value.proofs.making.same.Statement.{statement}
 use Rattle.value.proofs.making.same.Tie as tie
 
 abbrev Inv-loop : tie.InvT-loop
-Inv-loop x y i₀ i = Going (same x y) (same (drop i x) (drop i y)) i (length x)
+Inv-loop left right i₀ i = Going (same left right) (same (drop i left) (drop i right)) i (length left)
 
 abbrev μ-loop : tie.MeasureT-loop
-μ-loop x y i₀ i = length x - i
+μ-loop left right i₀ i = length left - i
 
 returns : tie.Need-returns Inv-loop μ-loop
 returns c = search (same-apart, needs)

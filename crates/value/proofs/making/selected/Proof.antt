@@ -10,10 +10,10 @@ use Rattle.value.proofs.making.selected.Statement.{statement}
 use Rattle.value.proofs.making.selected.Tie as tie
 
 abbrev Inv-loop : tie.InvT-loop
-Inv-loop b₀ at start bt p₀ lo₀ b p lo = Filling b₀ at start bt b p lo
+Inv-loop log₀ at start top p₀ lo₀ log p lo = Filling log₀ at start top log p lo
 
 abbrev μ-loop : tie.MeasureT-loop
-μ-loop b₀ at start bt p₀ lo₀ b p lo = length (fromN lo (sortN (valuesIn (part b₀ start bt))))
+μ-loop log₀ at start top p₀ lo₀ log p lo = length (fromN lo (sortN (valuesIn (part log₀ start top))))
 
 loop-holds : tie.Need-loop-holds Inv-loop μ-loop
 loop-holds c = search (fill-start, needs)

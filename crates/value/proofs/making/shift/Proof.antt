@@ -6,10 +6,10 @@ use Rattle.value.proofs.making.shift.Statement.{statement}
 use Rattle.value.proofs.making.shift.Tie as tie
 
 abbrev Inv-loop : tie.InvT-loop
-Inv-loop b₀ j p x y₀ i₀ b y i = Shifting b₀ j p x b y i
+Inv-loop log₀ start end value y₀ i₀ log y i = Shifting log₀ start end value log y i
 
 abbrev μ-loop : tie.MeasureT-loop
-μ-loop b₀ j p x y₀ i₀ b y i = p - i
+μ-loop log₀ start end value y₀ i₀ log y i = end - i
 
 loop-holds : tie.Need-loop-holds Inv-loop μ-loop
 loop-holds c = search (shift-start, needs)
