@@ -1,5 +1,5 @@
 -- Pairs that are remembered: the bit of a pair, words that remember nothing, and rows that stay.
-use mathlib.Core.Path.{_≡_, refl, sym, _∙_}
+use mathlib.Core.Path.{_≡_, refl, sym, ap, _∙_}
 use mathlib.Core.Bool.{Bool, true, false, cond, _&&_}
 use mathlib.Core.Logic.{_⊎_, inl, inr, ⊎-elim}
 use mathlib.Core.List.{List}
@@ -10,18 +10,13 @@ use borrow.Author.Tests.{lt-ltb, le-ltb, ltb-true}
 use lib.Dec.{ltb}
 use lib.ListN.{getD, drop, set, replicate}
 use lib.Seq.{drop-set-lt}
-use Rattle.cedar.proofs.Tools.{no-true}
+use Rattle.cedar.proofs.Tools.{no-true, and-both}
 use Rattle.sheet.specs.Forms.{VALUE, TYPE}
 use Rattle.sheet.specs.State.{linesOf}
 use Rattle.words.specs.Bits.{bit, member, added}
 use Rattle.words.proofs.Bits.{added-is}
-use Rattle.table.specs.Layout.{rowsOf, held, linesHeld}
+use Rattle.table.specs.Layout.{rowsOf, held, linesHeld, TYPEDEPTHS}
 use Rattle.fits.specs.Fit.{isPair, marked, withPair, Settled, SettledIn, full, Known}
-
-both : {A : Type 0} (x y : Bool) → (x && y) ≡ true → (x ≡ true → y ≡ true → A) → A
-both true true e k = k refl refl
-both true false e k = k refl e
-both false y e k = no-true e
 
 -- ---- the tests of the code
 
@@ -55,7 +50,7 @@ module _ (m : List ℕ) (v t : ℕ) (p : Bool) (ep : p ≡ isPair v t) where
 
 pub small-pair : (v t : ℕ) → isPair v t ≡ true → (v < 1024) × (t < 128)
 unfolding isPair
-small-pair v t e = both (ltb v 1024) (ltb t 128) e (λ p q. (ltb-true v 1024 p, ltb-true t 128 q))
+small-pair v t e = and-both (ltb v 1024) (ltb t 128) e (λ p q. (ltb-true v 1024 p, ltb-true t 128 q))
 
 -- nothing but the pair has been marked
 pub only-pair : (m : List ℕ) (v t w u : ℕ) → marked (withPair m v t) w u ≡ true → (marked m w u ≡ true) ⊎ ((w ≡ v) × (u ≡ t))
@@ -65,38 +60,52 @@ only-pair m v t w u e = go (isPair v t) refl e
     go : (p : Bool) → isPair v t ≡ p → (isPair w u && member (cond p (added m (v * 128 + t)) m) (w * 128 + u)) ≡ true → (marked m w u ≡ true) ⊎ ((w ≡ v) × (u ≡ t))
     go false hp e = inl e
     go true hp e =
-        both (isPair w u) (member (added m (v * 128 + t)) (w * 128 + u)) e (λ q k.
+        and-both (isPair w u) (member (added m (v * 128 + t)) (w * 128 + u)) e (λ q k.
         let x : (v < 1024) × (t < 128) = small-pair v t hp in
         let y : (w < 1024) × (u < 128) = small-pair w u q in
         ⊎-elim (λ i. inl (rw q i)) (λ i. inr (omega arith, omega arith)) (added-is m (v * 128 + t) .joined (w * 128 + u) k))
 
 -- the words that follow the pairs are untouched
-drop-added : (m : List ℕ) (p : ℕ) → p / 32 < 4096 → drop 4096 (added m p) ≡ drop 4096 m
+drop-added : (m : List ℕ) (p : ℕ) → p / 32 < TYPEDEPTHS → drop TYPEDEPTHS (added m p) ≡ drop TYPEDEPTHS m
 unfolding added
 drop-added m p h = go (member m p)
   where
-    go : (t : Bool) → drop 4096 (cond t m (set m (p / 32) (getD m (p / 32) 0 + 2 ^ (p % 32)))) ≡ drop 4096 m
+    go : (t : Bool) → drop TYPEDEPTHS (cond t m (set m (p / 32) (getD m (p / 32) 0 + 2 ^ (p % 32)))) ≡ drop TYPEDEPTHS m
     go true = refl
-    go false = drop-set-lt 4096 m (p / 32) (getD m (p / 32) 0 + 2 ^ (p % 32)) h
+    go false = drop-set-lt TYPEDEPTHS m (p / 32) (getD m (p / 32) 0 + 2 ^ (p % 32)) h
 
-pub rest-pair : (m : List ℕ) (v t : ℕ) → drop 4096 (withPair m v t) ≡ drop 4096 m
+pub rest-pair : (m : List ℕ) (v t : ℕ) → drop TYPEDEPTHS (withPair m v t) ≡ drop TYPEDEPTHS m
 unfolding withPair
 rest-pair m v t = go (isPair v t) refl
   where
-    go : (p : Bool) → isPair v t ≡ p → drop 4096 (cond p (added m (v * 128 + t)) m) ≡ drop 4096 m
+    go : (p : Bool) → isPair v t ≡ p → drop TYPEDEPTHS (cond p (added m (v * 128 + t)) m) ≡ drop TYPEDEPTHS m
     go false e = refl
     go true e = let x : (v < 1024) × (t < 128) = small-pair v t e in drop-added m (v * 128 + t) (omega arith)
 
 -- ---- words that remember nothing
 
-pub cleared : (a m : List ℕ) → ((i : ℕ) → i < 4096 → getD m i 0 ≡ 0) → Known a m
+pub cleared : (a m : List ℕ) → ((i : ℕ) → i < TYPEDEPTHS → getD m i 0 ≡ 0) → Known a m
 unfolding marked member bit
 cleared a m h = record {
-  holds = λ v t e s. both (isPair v t) (member m (v * 128 + t)) e (λ q k.
+  holds = λ v t e s. and-both (isPair v t) (member m (v * 128 + t)) e (λ q k.
       let x : (v < 1024) × (t < 128) = small-pair v t q in
       let z : member m (v * 128 + t) ≡ false = rw (h ((v * 128 + t) / 32) (omega arith), zero-div (2 ^ ((v * 128 + t) % 32))) in
       no-true (sym z ∙ k));
 }
+
+-- what is remembered stands in the first words
+pub known-words : (a m m′ : List ℕ) → ((i : ℕ) → i < TYPEDEPTHS → getD m′ i 0 ≡ getD m i 0) → Known a m → Known a m′
+unfolding marked member
+known-words a m m′ e k =
+    record {
+      holds = λ v t h s. and-both (isPair v t) (member m′ (v * 128 + t)) h (λ q i.
+          let x = small-pair v t q in
+          let w : getD m′ ((v * 128 + t) / 32) 0 ≡ getD m ((v * 128 + t) / 32) 0 = e ((v * 128 + t) / 32) (omega (arith, x .0, x .1)) in
+          k .holds v t (both (isPair v t) (member m (v * 128 + t)) q (ap (bit ((v * 128 + t) % 32)) (sym w) ∙ i)) s);
+    }
+  where
+    both : (x y : Bool) → x ≡ true → y ≡ true → (x && y) ≡ true
+    both x y p q = rw (p, q) refl
 
 zeros : (n i : ℕ) → _≡_ {A = ℕ} (getD (replicate n 0) i 0) 0
 zeros zero i = refl

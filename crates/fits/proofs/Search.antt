@@ -13,7 +13,8 @@ use Rattle.cedar.proofs.Tools.{no-true}
 use Rattle.sheet.specs.Forms.{tag, items, VALUE, TYPE}
 use Rattle.sheet.specs.State.{declareds, entriesOf}
 use Rattle.sheet.specs.Typing.{declaredIn, allIn, allEntries, fitsIn}
-use Rattle.table.specs.Layout.{rowsOf}
+use Rattle.forms.specs.Tags.{SET-TYPE, RECORD-TYPE, SET-VALUE, RECORD-VALUE}
+use Rattle.table.specs.Layout.{rowsOf, TYPEDEPTHS}
 use Rattle.fits.specs.Fit.{completeIn, declaredBy, found, setFits, recordFits, tagsFitBy, rowsFit, Leaf, marked, withPair, SettledIn, deep, full, Known, Ran, Answered}
 use Rattle.fits.specs.declared.Found as F
 use Rattle.fits.proofs.Walks.{next, entries-end, entries-one, entries-on}
@@ -21,10 +22,10 @@ use Rattle.fits.proofs.Sorts.{set-is, set-not, record-is, record-lacks,
 use Rattle.fits.proofs.Remembered.{only-pair, rest-pair}
 
 module _ {a m n : List ℕ} {low high : Bool} where
-  ran-no : low ≡ false → Known a n → drop 4096 n ≡ drop 4096 m → Ran a m n low high false
+  ran-no : low ≡ false → Known a n → drop TYPEDEPTHS n ≡ drop TYPEDEPTHS m → Ran a m n low high false
   ran-no e k q = record { yes-is = λ h. no-true h; no-is = λ h. e; known = k; rest = q }
 
-  ran-yes : (SettledIn a → high ≡ true) → Known a n → drop 4096 n ≡ drop 4096 m → Ran a m n low high true
+  ran-yes : (SettledIn a → high ≡ true) → Known a n → drop TYPEDEPTHS n ≡ drop TYPEDEPTHS m → Ran a m n low high true
   ran-yes e k q = record { yes-is = λ h. e; no-is = λ h. no-true (sym h); known = k; rest = q }
 
   ran-as : {l h b : Bool} → low ≡ l → high ≡ h → Ran a m n l h b → Ran a m n low high b
@@ -36,7 +37,7 @@ pub record Walk (a m n : List ℕ) (low high low′ high′ : Bool) : Type 0 whe
   pub up : SettledIn a → high′ ≡ true → high ≡ true
   pub down : low′ ≡ false → low ≡ false
   pub known : Known a n
-  pub rest : drop 4096 n ≡ drop 4096 m
+  pub rest : drop TYPEDEPTHS n ≡ drop TYPEDEPTHS m
 
 and-true : (x y : Bool) → x ≡ true → y ≡ true → (x && y) ≡ true
 and-true x y p q = rw (p, q)
@@ -159,26 +160,26 @@ module _ (a r y : List ℕ) (d : ℕ) where
 -- ---- `row_fits`
 
 module _ (a m n r y : List ℕ) (d k z : ℕ) (ek : k ≡ tag r) (ez : z ≡ tag y) where
-  pub row-set : (b : Bool) (e : ℕ) → z ≡ 7 → k ≡ 14 → e ≡ getD y 1 0 → Ran a m n (setFits (deep a d) r e) (setFits (full a) r e) b → Ran a m n (rowsFit (deep a d) r y) (rowsFit (full a) r y) b
+  pub row-set : (b : Bool) (e : ℕ) → z ≡ SET-TYPE → k ≡ SET-VALUE → e ≡ getD y 1 0 → Ran a m n (setFits (deep a d) r e) (setFits (full a) r e) b → Ran a m n (rowsFit (deep a d) r y) (rowsFit (full a) r y) b
   row-set b e h7 h14 he q = ran-as (set-is (deep a d) r y e (sym ez ∙ h7) (sym ek ∙ h14) he) (set-is (full a) r y e (sym ez ∙ h7) (sym ek ∙ h14) he) q
 
-  pub row-record : (b c : Bool) → z ≡ 8 → k ≡ 15 → c ≡ completeIn r y → not c ≡ false → Ran a m n (recordFits (deep a d) r y) (recordFits (full a) r y) b
+  pub row-record : (b c : Bool) → z ≡ RECORD-TYPE → k ≡ RECORD-VALUE → c ≡ completeIn r y → not c ≡ false → Ran a m n (recordFits (deep a d) r y) (recordFits (full a) r y) b
       → Ran a m n (rowsFit (deep a d) r y) (rowsFit (full a) r y) b
   row-record b c h8 h15 ec nc q =
       let t : completeIn r y ≡ true = sym ec ∙ not-false c nc in
       ran-as (record-is (deep a d) r y (sym ez ∙ h8) (sym ek ∙ h15) t) (record-is (full a) r y (sym ez ∙ h8) (sym ek ∙ h15) t) q
 
 module _ (a m r y : List ℕ) (d k z : ℕ) (ek : k ≡ tag r) (ez : z ≡ tag y) (q : Known a m) where
-  pub row-no-set : z ≡ 7 → (k ≡ 14 → ⊥) → Ran a m m (rowsFit (deep a d) r y) (rowsFit (full a) r y) false
+  pub row-no-set : z ≡ SET-TYPE → (k ≡ SET-VALUE → ⊥) → Ran a m m (rowsFit (deep a d) r y) (rowsFit (full a) r y) false
   row-no-set h7 h14 = ran-no (set-not (deep a d) r y (sym ez ∙ h7) (λ e. h14 (ek ∙ e))) q refl
 
-  pub row-lacks : (c : Bool) → z ≡ 8 → k ≡ 15 → c ≡ completeIn r y → not c ≡ true → Ran a m m (rowsFit (deep a d) r y) (rowsFit (full a) r y) false
+  pub row-lacks : (c : Bool) → z ≡ RECORD-TYPE → k ≡ RECORD-VALUE → c ≡ completeIn r y → not c ≡ true → Ran a m m (rowsFit (deep a d) r y) (rowsFit (full a) r y) false
   row-lacks c h8 h15 ec nc = ran-no (record-lacks (deep a d) r y (sym ez ∙ h8) (sym ek ∙ h15) (sym ec ∙ not-true c nc)) q refl
 
-  pub row-no-record : z ≡ 8 → (k ≡ 15 → ⊥) → Ran a m m (rowsFit (deep a d) r y) (rowsFit (full a) r y) false
+  pub row-no-record : z ≡ RECORD-TYPE → (k ≡ RECORD-VALUE → ⊥) → Ran a m m (rowsFit (deep a d) r y) (rowsFit (full a) r y) false
   row-no-record h8 h15 = ran-no (record-not (deep a d) r y (sym ez ∙ h8) (λ e. h15 (ek ∙ e))) q refl
 
-  pub row-leaf : (b : Bool) → (z ≡ 7 → ⊥) → (z ≡ 8 → ⊥) → Leaf r y b → Ran a m m (rowsFit (deep a d) r y) (rowsFit (full a) r y) b
+  pub row-leaf : (b : Bool) → (z ≡ SET-TYPE → ⊥) → (z ≡ RECORD-TYPE → ⊥) → Leaf r y b → Ran a m m (rowsFit (deep a d) r y) (rowsFit (full a) r y) b
   row-leaf b h7 h8 l =
       let e : (f : ℕ → ℕ → Bool) → b ≡ rowsFit f r y = λ f. l .is f (λ h. h7 (ez ∙ h)) (λ h. h8 (ez ∙ h)) in
       record { yes-is = λ h s. sym (e (full a)) ∙ h; no-is = λ h. sym (e (deep a d)) ∙ h; known = q; rest = refl }
@@ -227,7 +228,7 @@ module _ (a r : List ℕ) (y : ℕ) where
   pub record Tagged (m n : List ℕ) (i : ℕ) : Type 0 where
     pub left : SettledIn a → tagsFitBy (full a) r y ≡ tags i
     pub known : Known a n
-    pub rest : drop 4096 n ≡ drop 4096 m
+    pub rest : drop TYPEDEPTHS n ≡ drop TYPEDEPTHS m
 
   pub tags-start : (m : List ℕ) → Known a m → Tagged m m 1
   unfolding tagsFitBy

@@ -10,9 +10,10 @@ use lib.ListN.{getD}
 use Rattle.cedar.specs.Rows.{Entries, Row, rbool, rlong, rtext, rent, rset, rrec}
 use Rattle.cedar.specs.Numbered.{rBool, rLong, rText, rEnt, rSet, rRec}
 use Rattle.sheet.specs.Bytes.{longAt}
-use Rattle.sheet.specs.Forms.{tag, items, at}
+use Rattle.sheet.specs.Forms.{tag, items, at, firstType, firstValue}
 use Rattle.sheet.specs.State.{TypeRow, bool, long, string, entity, set′, record′, declareds, typeRow, entriesOf, valueRow}
 use Rattle.sheet.specs.Typing.{allIn, entriesFit}
+use Rattle.forms.specs.Tags.{LONG-TYPE, STRING-TYPE, ENTITY-TYPE, SET-TYPE, RECORD-TYPE, LONG-VALUE, TEXT-VALUE, ENTITY-VALUE, SET-VALUE, RECORD-VALUE}
 use Rattle.fits.specs.Fit.{hasIn, completeIn, setFits, recordFits, rowsFit, isBoolRow, Leaf}
 
 -- ---- the number of a row's sort
@@ -81,10 +82,10 @@ valueTable r = rbool (eqb (at r 0) 1) ∷ rlong (longAt (at r 0 * 4294967296 + a
 abbrev pub typeTable : List ℕ → List TypeRow
 typeTable r = bool ∷ long ∷ string ∷ entity (at r 0) ∷ set′ (at r 0) ∷ record′ (declareds (items r)) ∷ []
 
-pub sort-tag : (r : List ℕ) (n : ℕ) → sort (valueRow r) ≡ suc n → tag r ≡ 11 + n
-sort-tag r n h = go (tag r - 10) refl h
+pub sort-tag : (r : List ℕ) (n : ℕ) → sort (valueRow r) ≡ suc n → tag r ≡ LONG-VALUE + n
+sort-tag r n h = go (tag r - firstValue) refl h
   where
-    go : (j : ℕ) → j ≡ tag r - 10 → sort (getD (valueTable r) j (rbool false)) ≡ suc n → tag r ≡ 11 + n
+    go : (j : ℕ) → j ≡ tag r - firstValue → sort (getD (valueTable r) j (rbool false)) ≡ suc n → tag r ≡ LONG-VALUE + n
     go zero e h = absurd (omega arith)
     go (suc zero) e h = omega arith
     go (suc (suc zero)) e h = omega arith
@@ -94,15 +95,15 @@ sort-tag r n h = go (tag r - 10) refl h
     go (suc (suc (suc (suc (suc (suc j)))))) e h = absurd (omega arith)
 
 module _ (r : List ℕ) (k : ℕ) (ek : k ≡ tag r) where
-  pub bool-low : k < 11 → true ≡ isBoolRow r
+  pub bool-low : k < LONG-VALUE → true ≡ isBoolRow r
   unfolding isBoolRow
-  bool-low h = let e : tag r - 10 ≡ 0 = omega arith in rw e
+  bool-low h = let e : tag r - firstValue ≡ 0 = omega arith in rw e
 
-  pub bool-high : 15 < k → true ≡ isBoolRow r
+  pub bool-high : RECORD-VALUE < k → true ≡ isBoolRow r
   unfolding isBoolRow
-  bool-high h = go (tag r - 10) refl
+  bool-high h = go (tag r - firstValue) refl
     where
-      go : (j : ℕ) → j ≡ tag r - 10 → true ≡ rBool false (getD (valueTable r) j (rbool false)) (λ b. true)
+      go : (j : ℕ) → j ≡ tag r - firstValue → true ≡ rBool false (getD (valueTable r) j (rbool false)) (λ b. true)
       go zero e = refl
       go (suc zero) e = absurd (omega arith)
       go (suc (suc zero)) e = absurd (omega arith)
@@ -111,11 +112,11 @@ module _ (r : List ℕ) (k : ℕ) (ek : k ≡ tag r) where
       go (suc (suc (suc (suc (suc zero))))) e = absurd (omega arith)
       go (suc (suc (suc (suc (suc (suc j)))))) e = refl
 
-  pub bool-mid : 11 ≤ k → k ≤ 15 → false ≡ isBoolRow r
+  pub bool-mid : LONG-VALUE ≤ k → k ≤ RECORD-VALUE → false ≡ isBoolRow r
   unfolding isBoolRow
-  bool-mid l h = go (tag r - 10) refl
+  bool-mid l h = go (tag r - firstValue) refl
     where
-      go : (j : ℕ) → j ≡ tag r - 10 → false ≡ rBool false (getD (valueTable r) j (rbool false)) (λ b. true)
+      go : (j : ℕ) → j ≡ tag r - firstValue → false ≡ rBool false (getD (valueTable r) j (rbool false)) (λ b. true)
       go zero e = absurd (omega arith)
       go (suc zero) e = refl
       go (suc (suc zero)) e = refl
@@ -125,10 +126,10 @@ module _ (r : List ℕ) (k : ℕ) (ek : k ≡ tag r) where
       go (suc (suc (suc (suc (suc (suc j)))))) e = absurd (omega arith)
 
 -- the type of a row of no other tag
-pub type-bool : (y : List ℕ) → (tag y ≡ 4 → ⊥) → (tag y ≡ 5 → ⊥) → (tag y ≡ 6 → ⊥) → (tag y ≡ 7 → ⊥) → (tag y ≡ 8 → ⊥) → typeRow y ≡ bool
-type-bool y n4 n5 n6 n7 n8 = go (tag y - 3) refl
+pub type-bool : (y : List ℕ) → (tag y ≡ LONG-TYPE → ⊥) → (tag y ≡ STRING-TYPE → ⊥) → (tag y ≡ ENTITY-TYPE → ⊥) → (tag y ≡ SET-TYPE → ⊥) → (tag y ≡ RECORD-TYPE → ⊥) → typeRow y ≡ bool
+type-bool y n4 n5 n6 n7 n8 = go (tag y - firstType) refl
   where
-    go : (j : ℕ) → j ≡ tag y - 3 → getD (typeTable y) j bool ≡ bool
+    go : (j : ℕ) → j ≡ tag y - firstType → getD (typeTable y) j bool ≡ bool
     go zero e = refl
     go (suc zero) e = absurd (n4 (omega arith))
     go (suc (suc zero)) e = absurd (n5 (omega arith))
@@ -140,53 +141,53 @@ type-bool y n4 n5 n6 n7 n8 = go (tag y - 3) refl
 -- ---- leaves
 
 module _ (r y : List ℕ) (k z : ℕ) (ek : k ≡ tag r) (ez : z ≡ tag y) where
-  pub leaf-long : z ≡ 4 → Leaf r y (eqb k 11)
+  pub leaf-long : z ≡ LONG-TYPE → Leaf r y (eqb k LONG-VALUE)
   unfolding rowsFit
-  leaf-long e = record { is = λ f _ _. rw (← ez, e) (go (eqb k 11) refl) }
+  leaf-long e = record { is = λ f _ _. rw (← ez, e) (go (eqb k LONG-VALUE) refl) }
     where
-      go : (t : Bool) → eqb k 11 ≡ t → t ≡ rLong false (valueRow r) (λ n. true)
-      go true e = rw (← ek, eqb-true k 11 e)
-      go false e = sym (no-long (valueRow r) (λ h. eqb-false k 11 e (ek ∙ sort-tag r 0 h)))
+      go : (t : Bool) → eqb k LONG-VALUE ≡ t → t ≡ rLong false (valueRow r) (λ n. true)
+      go true e = rw (← ek, eqb-true k LONG-VALUE e)
+      go false e = sym (no-long (valueRow r) (λ h. eqb-false k LONG-VALUE e (ek ∙ sort-tag r 0 h)))
 
-  pub leaf-text : z ≡ 5 → Leaf r y (eqb k 12)
+  pub leaf-text : z ≡ STRING-TYPE → Leaf r y (eqb k TEXT-VALUE)
   unfolding rowsFit
-  leaf-text e = record { is = λ f _ _. rw (← ez, e) (go (eqb k 12) refl) }
+  leaf-text e = record { is = λ f _ _. rw (← ez, e) (go (eqb k TEXT-VALUE) refl) }
     where
-      go : (t : Bool) → eqb k 12 ≡ t → t ≡ rText false (valueRow r) (λ n. true)
-      go true e = rw (← ek, eqb-true k 12 e)
-      go false e = sym (no-text false (valueRow r) (λ n. true) (λ h. eqb-false k 12 e (ek ∙ sort-tag r 1 h)))
+      go : (t : Bool) → eqb k TEXT-VALUE ≡ t → t ≡ rText false (valueRow r) (λ n. true)
+      go true e = rw (← ek, eqb-true k TEXT-VALUE e)
+      go false e = sym (no-text false (valueRow r) (λ n. true) (λ h. eqb-false k TEXT-VALUE e (ek ∙ sort-tag r 1 h)))
 
-  pub leaf-entity : (i j : ℕ) → z ≡ 6 → k ≡ 13 → i ≡ getD r 1 0 → j ≡ getD y 1 0 → Leaf r y (eqb i j)
+  pub leaf-entity : (i j : ℕ) → z ≡ ENTITY-TYPE → k ≡ ENTITY-VALUE → i ≡ getD r 1 0 → j ≡ getD y 1 0 → Leaf r y (eqb i j)
   unfolding rowsFit
   leaf-entity i j e h ei ej = record { is = λ f _ _. rw (← ez, e, ← ek, h, ei, ej) }
 
-  pub leaf-no-entity : z ≡ 6 → (k ≡ 13 → ⊥) → Leaf r y false
+  pub leaf-no-entity : z ≡ ENTITY-TYPE → (k ≡ ENTITY-VALUE → ⊥) → Leaf r y false
   unfolding rowsFit
   leaf-no-entity e h = record { is = λ f _ _. rw (← ez, e) (sym (no-entity false (valueRow r) (λ l t. eqb l (getD y 1 0)) (λ q. h (ek ∙ sort-tag r 2 q)))) }
 
-  pub leaf-bool : (b : Bool) → (z ≡ 4 → ⊥) → (z ≡ 5 → ⊥) → (z ≡ 6 → ⊥) → b ≡ isBoolRow r → Leaf r y b
+  pub leaf-bool : (b : Bool) → (z ≡ LONG-TYPE → ⊥) → (z ≡ STRING-TYPE → ⊥) → (z ≡ ENTITY-TYPE → ⊥) → b ≡ isBoolRow r → Leaf r y b
   unfolding rowsFit isBoolRow
   leaf-bool b n4 n5 n6 eb = record { is = λ f n7 n8. rw (type-bool y (λ e. n4 (ez ∙ e)) (λ e. n5 (ez ∙ e)) (λ e. n6 (ez ∙ e)) n7 n8) eb }
 
 -- ---- sets and records
 
 module _ (f : ℕ → ℕ → Bool) (r y : List ℕ) where
-  pub set-is : (e : ℕ) → tag y ≡ 7 → tag r ≡ 14 → e ≡ getD y 1 0 → rowsFit f r y ≡ setFits f r e
+  pub set-is : (e : ℕ) → tag y ≡ SET-TYPE → tag r ≡ SET-VALUE → e ≡ getD y 1 0 → rowsFit f r y ≡ setFits f r e
   unfolding rowsFit setFits
   set-is e hy hr he = rw (hy, hr, he)
 
-  pub set-not : tag y ≡ 7 → (tag r ≡ 14 → ⊥) → rowsFit f r y ≡ false
+  pub set-not : tag y ≡ SET-TYPE → (tag r ≡ SET-VALUE → ⊥) → rowsFit f r y ≡ false
   unfolding rowsFit
   set-not hy hr = rw hy (no-set false (valueRow r) (allIn (λ x. f x (getD y 1 0))) (λ e. hr (sort-tag r 3 e)))
 
-  pub record-is : tag y ≡ 8 → tag r ≡ 15 → completeIn r y ≡ true → rowsFit f r y ≡ recordFits f r y
+  pub record-is : tag y ≡ RECORD-TYPE → tag r ≡ RECORD-VALUE → completeIn r y ≡ true → rowsFit f r y ≡ recordFits f r y
   unfolding rowsFit recordFits completeIn hasIn
   record-is hy hr c = rw (hy, hr, c)
 
-  pub record-lacks : tag y ≡ 8 → tag r ≡ 15 → completeIn r y ≡ false → rowsFit f r y ≡ false
+  pub record-lacks : tag y ≡ RECORD-TYPE → tag r ≡ RECORD-VALUE → completeIn r y ≡ false → rowsFit f r y ≡ false
   unfolding rowsFit completeIn hasIn
   record-lacks hy hr c = rw (hy, hr, c)
 
-  pub record-not : tag y ≡ 8 → (tag r ≡ 15 → ⊥) → rowsFit f r y ≡ false
+  pub record-not : tag y ≡ RECORD-TYPE → (tag r ≡ RECORD-VALUE → ⊥) → rowsFit f r y ≡ false
   unfolding rowsFit
   record-not hy hr = rw hy (no-record false (valueRow r) (entriesFit f (declareds (items y))) (λ e. hr (sort-tag r 4 e)))

@@ -12,7 +12,8 @@ use Rattle.sheet.specs.Forms.{tag, items, VALUE, TYPE}
 use Rattle.sheet.specs.State.{declareds, entriesOf, typeRow, valueRow}
 use Rattle.sheet.specs.Typing.{declaredIn, requiredThere, allIn, allEntries, rowFits, fitsBy, fitsIn}
 use Rattle.words.specs.Bits.{member, added}
-use Rattle.table.specs.Layout.{rowsOf}
+use Rattle.forms.specs.Tags.{SET-TYPE, RECORD-TYPE, REQUIRED}
+use Rattle.table.specs.Layout.{rowsOf, TYPEDEPTHS}
 use Rattle.fits.specs.declared.Found as F
 
 -- ---- parts of `rowFits` over rows of numbers
@@ -27,7 +28,7 @@ completeIn r y = requiredThere (declareds (items y)) (hasIn r)
 
 -- the attribute that row y declares at word i is optional or there
 unfoldable pub metAt : List ℕ → List ℕ → ℕ → Bool
-metAt r y i = not (eqb (getD y (i + 1) 0) 1) || hasIn r (getD y i 0)
+metAt r y i = not (eqb (getD y (i + 1) 0) REQUIRED) || hasIn r (getD y i 0)
 
 -- the type that record type y declares for attribute t, and the answer of a search for it
 unfoldable pub declaredBy : List ℕ → ℕ → Option ℕ
@@ -56,7 +57,7 @@ isBoolRow r = rBool false (valueRow r) (λ b. true)
 
 -- where the type is no set and no record, the parts are not asked for
 pub record Leaf (r y : List ℕ) (b : Bool) : Type 0 where
-  pub is : (f : ℕ → ℕ → Bool) → (tag y ≡ 7 → ⊥) → (tag y ≡ 8 → ⊥) → b ≡ rowsFit f r y
+  pub is : (f : ℕ → ℕ → Bool) → (tag y ≡ SET-TYPE → ⊥) → (tag y ≡ RECORD-TYPE → ⊥) → b ≡ rowsFit f r y
 
 -- ---- pairs found to fit: one bit for each of 1,024 values and 128 types
 
@@ -97,10 +98,10 @@ pub record Ran (a m n : List ℕ) (low high b : Bool) : Type 0 where
   pub yes-is : b ≡ true → SettledIn a → high ≡ true
   pub no-is : b ≡ false → low ≡ false
   pub known : Known a n
-  pub rest : drop 4096 n ≡ drop 4096 m
+  pub rest : drop TYPEDEPTHS n ≡ drop TYPEDEPTHS m
 
 -- the answer is the definition's wherever the whole depth is enough
 pub record Answered (a m n : List ℕ) (answer b : Bool) : Type 0 where
   pub is : SettledIn a → b ≡ answer
   pub known : Known a n
-  pub rest : drop 4096 n ≡ drop 4096 m
+  pub rest : drop TYPEDEPTHS n ≡ drop TYPEDEPTHS m

@@ -1,7 +1,18 @@
 // Whether a value fits a type, of rows that refer to earlier rows by number and share them. Pairs that were found to fit are
 // remembered in lent words, one bit for each of 1,024 values and 128 types, so that no pair is worked out twice.
-use table::TYPE;
-use table::VALUE;
+use forms::ENTITY_TYPE;
+use forms::ENTITY_VALUE;
+use forms::LONG_TYPE;
+use forms::LONG_VALUE;
+use forms::RECORD_TYPE;
+use forms::RECORD_VALUE;
+use forms::REQUIRED;
+use forms::SET_TYPE;
+use forms::SET_VALUE;
+use forms::STRING_TYPE;
+use forms::TEXT_VALUE;
+use forms::TYPE;
+use forms::VALUE;
 use table::item;
 use table::row;
 use table::tag;
@@ -35,39 +46,18 @@ ghost use Rattle.fits.specs.Fit.{
 // A tree is never deeper.
 const DEPTH: u32 = 64;
 
-// The forms of types, and those of values.
-const LONG_TYPE: u32 = 4;
-
-const STRING_TYPE: u32 = 5;
-
-const ENTITY_TYPE: u32 = 6;
-
-const SET_TYPE: u32 = 7;
-
-const RECORD_TYPE: u32 = 8;
-
-const LONG: u32 = 11;
-
-const TEXT: u32 = 12;
-
-const ENTITY: u32 = 13;
-
-const SET: u32 = 14;
-
-const RECORD: u32 = 15;
-
 // ---- records
 
-// Whether a record has attribute t.
-fn there(r: &[u32], t: u32) -> bool
-    ensures { λ b. ⌜ b ≡ hasIn (now (r .entry)) t ⌝ }
+// Whether a record has this attribute.
+fn there(line: &[u32], text: u32) -> bool
+    ensures { λ b. ⌜ b ≡ hasIn (now (line .entry)) text ⌝ }
 {
     let mut i: usize = 1;
-    while i < r.len() {
-        if i + 1 == r.len() {
+    while i < line.len() {
+        if i + 1 == line.len() {
             return false;
         }
-        if t == item(r, i) {
+        if text == item(line, i) {
             return true;
         }
         i += 2;
@@ -81,44 +71,44 @@ pub enum Found {
     Undeclared,
 }
 
-// The type that a record type declares for attribute t.
-pub fn declared(y: &[u32], t: u32) -> Found
-    ensures { λ f. ⌜ f ≡ found (declaredBy (now (y .entry)) t) ⌝ }
+// The type that a record type declares for this attribute.
+pub fn declared(type_row: &[u32], text: u32) -> Found
+    ensures { λ f. ⌜ f ≡ found (declaredBy (now («type_row» .entry)) text) ⌝ }
 {
     let mut i: usize = 1;
-    while i < y.len() {
-        if y.len() - i < 3 {
+    while i < type_row.len() {
+        if type_row.len() - i < 3 {
             return Found::Undeclared;
         }
-        if t == item(y, i) {
-            return Found::As(item(y, i + 2));
+        if text == item(type_row, i) {
+            return Found::As(item(type_row, i + 2));
         }
         i += 3;
     }
     Found::Undeclared
 }
 
-// Whether the attribute declared at i is optional or there.
-fn meets(r: &[u32], y: &[u32], i: usize) -> bool
-    requires { ⌜ i < length (now y) ⌝ }
-    ensures { λ b. ⌜ b ≡ metAt (now (r .entry)) (now (y .entry)) i ⌝ }
+// Whether the attribute declared at `i` is optional or there.
+fn meets(value_row: &[u32], type_row: &[u32], i: usize) -> bool
+    requires { ⌜ i < length (now «type_row») ⌝ }
+    ensures { λ b. ⌜ b ≡ metAt (now («value_row» .entry)) (now («type_row» .entry)) i ⌝ }
 {
-    if item(y, i + 1) == 1 {
-        return there(r, item(y, i));
+    if item(type_row, i + 1) == REQUIRED {
+        return there(value_row, item(type_row, i));
     }
     true
 }
 
 // Whether a record has all attributes that the type requires.
-pub fn complete(r: &[u32], y: &[u32]) -> bool
-    ensures { λ b. ⌜ b ≡ completeIn (now (r .entry)) (now (y .entry)) ⌝ }
+pub fn complete(value_row: &[u32], type_row: &[u32]) -> bool
+    ensures { λ b. ⌜ b ≡ completeIn (now («value_row» .entry)) (now («type_row» .entry)) ⌝ }
 {
     let mut i: usize = 1;
-    while i < y.len() {
-        if y.len() - i < 3 {
+    while i < type_row.len() {
+        if type_row.len() - i < 3 {
             return true;
         }
-        if !meets(r, y, i) {
+        if !meets(value_row, type_row, i) {
             return false;
         }
         i += 3;
@@ -129,74 +119,74 @@ pub fn complete(r: &[u32], y: &[u32]) -> bool
 // ---- values without parts
 
 // A row of no other form counts as a bool.
-fn bool_fits(r: &[u32]) -> bool
-    ensures { λ b. ⌜ b ≡ isBoolRow (now (r .entry)) ⌝ }
+fn bool_fits(line: &[u32]) -> bool
+    ensures { λ b. ⌜ b ≡ isBoolRow (now (line .entry)) ⌝ }
 {
-    let k = tag(r);
-    if k < LONG {
+    let k = tag(line);
+    if k < LONG_VALUE {
         return true;
     }
-    if k <= RECORD {
+    if k <= RECORD_VALUE {
         return false;
     }
     true
 }
 
-fn leaf_fits(r: &[u32], y: &[u32]) -> bool
-    ensures { λ b. ⌜ Leaf (now (r .entry)) (now (y .entry)) b ⌝ }
+fn leaf_fits(value_row: &[u32], type_row: &[u32]) -> bool
+    ensures { λ b. ⌜ Leaf (now («value_row» .entry)) (now («type_row» .entry)) b ⌝ }
 {
-    let k = tag(r);
-    match tag(y) {
-        LONG_TYPE => k == LONG,
-        STRING_TYPE => k == TEXT,
+    let k = tag(value_row);
+    match tag(type_row) {
+        LONG_TYPE => k == LONG_VALUE,
+        STRING_TYPE => k == TEXT_VALUE,
         ENTITY_TYPE => match k {
-            ENTITY => item(r, 1) == item(y, 1),
+            ENTITY_VALUE => item(value_row, 1) == item(type_row, 1),
             _ => false,
         },
-        _ => bool_fits(r),
+        _ => bool_fits(value_row),
     }
 }
 
 // ---- pairs found to fit
 
 // Whether the pair has a bit.
-fn is_pair(v: u32, t: u32) -> bool
-    ensures { λ b. ⌜ b ≡ isPair v t ⌝ }
+fn is_pair(value: u32, ty: u32) -> bool
+    ensures { λ b. ⌜ b ≡ isPair value ty ⌝ }
 {
-    if v < 1024 {
-        return t < 128;
+    if value < 1024 {
+        return ty < 128;
     }
     false
 }
 
-fn is_marked(m: &[u32], v: u32, t: u32) -> bool
-    ensures { λ b. ⌜ b ≡ marked (now (m .entry)) v t ⌝ }
+fn is_marked(work: &[u32], value: u32, ty: u32) -> bool
+    ensures { λ b. ⌜ b ≡ marked (now (work .entry)) value ty ⌝ }
 {
-    if is_pair(v, t) {
-        return has(m, v as usize * 128 + t as usize);
+    if is_pair(value, ty) {
+        return has(work, value as usize * 128 + ty as usize);
     }
     false
 }
 
-fn mark(m: &mut [u32], v: u32, t: u32)
-    ensures { λ _. ⌜ now (m .exit) ≡ withPair (now (m .entry)) v t ⌝ }
+fn mark(work: &mut [u32], value: u32, ty: u32)
+    ensures { λ _. ⌜ now (work .exit) ≡ withPair (now (work .entry)) value ty ⌝ }
 {
-    if is_pair(v, t) {
-        add(m, v as usize * 128 + t as usize);
+    if is_pair(value, ty) {
+        add(work, value as usize * 128 + ty as usize);
     }
 }
 
 // ---- the recursion
 
-// Whether each element of a set fits type y.
-fn elements(a: &[u32], m: &mut [u32], r: &[u32], y: u32, d: u32) -> bool
-    requires { ⌜ Known (now a) (now m) ⌝ }
-    ensures { λ b. ⌜ Ran (now (a .entry)) (now (m .entry)) (now (m .exit)) (setFits (deep (now (a .entry)) d) (now (r .entry)) y) (setFits (full (now (a .entry))) (now (r .entry)) y) b ⌝ }
+// Whether each element of a set fits a type.
+fn elements(rows: &[u32], work: &mut [u32], line: &[u32], ty: u32, depth: u32) -> bool
+    requires { ⌜ Known (now rows) (now work) ⌝ }
+    ensures { λ b. ⌜ Ran (now (rows .entry)) (now (work .entry)) (now (work .exit)) (setFits (deep (now (rows .entry)) depth) (now (line .entry)) ty) (setFits (full (now (rows .entry))) (now (line .entry)) ty) b ⌝ }
 {
     let mut i: usize = 1;
-    while i < r.len() {
-        let x = item(r, i);
-        if !fits(a, m, x, y, d) {
+    while i < line.len() {
+        let x = item(line, i);
+        if !fits(rows, work, x, ty, depth) {
             return false;
         }
         i += 1;
@@ -205,21 +195,21 @@ fn elements(a: &[u32], m: &mut [u32], r: &[u32], y: u32, d: u32) -> bool
 }
 
 // Whether each attribute of a record is declared and fits.
-fn entries(a: &[u32], m: &mut [u32], r: &[u32], y: &[u32], d: u32) -> bool
-    requires { ⌜ Known (now a) (now m) ⌝ }
-    ensures { λ b. ⌜ Ran (now (a .entry)) (now (m .entry)) (now (m .exit)) (recordFits (deep (now (a .entry)) d) (now (r .entry)) (now (y .entry))) (recordFits (full (now (a .entry))) (now (r .entry)) (now (y .entry))) b ⌝ }
+fn entries(rows: &[u32], work: &mut [u32], value_row: &[u32], type_row: &[u32], depth: u32) -> bool
+    requires { ⌜ Known (now rows) (now work) ⌝ }
+    ensures { λ b. ⌜ Ran (now (rows .entry)) (now (work .entry)) (now (work .exit)) (recordFits (deep (now (rows .entry)) depth) (now («value_row» .entry)) (now («type_row» .entry))) (recordFits (full (now (rows .entry))) (now («value_row» .entry)) (now («type_row» .entry))) b ⌝ }
 {
     let mut i: usize = 1;
-    while i < r.len() {
-        if i + 1 == r.len() {
+    while i < value_row.len() {
+        if i + 1 == value_row.len() {
             return true;
         }
-        let f = declared(y, item(r, i));
+        let f = declared(type_row, item(value_row, i));
         let Found::As(z) = f else {
             return false;
         };
-        let x = item(r, i + 1);
-        if !fits(a, m, x, z, d) {
+        let x = item(value_row, i + 1);
+        if !fits(rows, work, x, z, depth) {
             return false;
         }
         i += 2;
@@ -227,72 +217,72 @@ fn entries(a: &[u32], m: &mut [u32], r: &[u32], y: &[u32], d: u32) -> bool
     true
 }
 
-// Whether a value's row fits a type's, with depth d left for their parts.
-fn row_fits(a: &[u32], m: &mut [u32], r: &[u32], y: &[u32], d: u32) -> bool
-    requires { ⌜ Known (now a) (now m) ⌝ }
-    ensures { λ b. ⌜ Ran (now (a .entry)) (now (m .entry)) (now (m .exit)) (rowsFit (deep (now (a .entry)) d) (now (r .entry)) (now (y .entry))) (rowsFit (full (now (a .entry))) (now (r .entry)) (now (y .entry))) b ⌝ }
+// Whether a value's row fits a type's, with so much depth left for their parts.
+fn row_fits(rows: &[u32], work: &mut [u32], value_row: &[u32], type_row: &[u32], depth: u32) -> bool
+    requires { ⌜ Known (now rows) (now work) ⌝ }
+    ensures { λ b. ⌜ Ran (now (rows .entry)) (now (work .entry)) (now (work .exit)) (rowsFit (deep (now (rows .entry)) depth) (now («value_row» .entry)) (now («type_row» .entry))) (rowsFit (full (now (rows .entry))) (now («value_row» .entry)) (now («type_row» .entry))) b ⌝ }
 {
-    let k = tag(r);
-    match tag(y) {
+    let k = tag(value_row);
+    match tag(type_row) {
         SET_TYPE => match k {
-            SET => elements(a, m, r, item(y, 1), d),
+            SET_VALUE => elements(rows, work, value_row, item(type_row, 1), depth),
             _ => false,
         },
         RECORD_TYPE => match k {
-            RECORD => {
-                if !complete(r, y) {
+            RECORD_VALUE => {
+                if !complete(value_row, type_row) {
                     return false;
                 }
-                entries(a, m, r, y, d)
+                entries(rows, work, value_row, type_row, depth)
             }
             _ => false,
         },
-        _ => leaf_fits(r, y),
+        _ => leaf_fits(value_row, type_row),
     }
 }
 
-// Whether value v fits type t, with depth d left.
-fn fits(a: &[u32], m: &mut [u32], v: u32, t: u32, d: u32) -> bool
-    requires { ⌜ Known (now a) (now m) ⌝ }
-    ensures { λ b. ⌜ Ran (now (a .entry)) (now (m .entry)) (now (m .exit)) (deep (now (a .entry)) d v t) (full (now (a .entry)) v t) b ⌝ }
+// Whether a value fits a type, with so much depth left.
+fn fits(rows: &[u32], work: &mut [u32], value: u32, ty: u32, depth: u32) -> bool
+    requires { ⌜ Known (now rows) (now work) ⌝ }
+    ensures { λ b. ⌜ Ran (now (rows .entry)) (now (work .entry)) (now (work .exit)) (deep (now (rows .entry)) depth value ty) (full (now (rows .entry)) value ty) b ⌝ }
 {
-    if d == 0 {
+    if depth == 0 {
         return false;
     }
-    if is_marked(m, v, t) {
+    if is_marked(work, value, ty) {
         return true;
     }
-    let r = row(a, VALUE, v);
-    let y = row(a, TYPE, t);
-    if !row_fits(a, m, r, y, d - 1) {
+    let r = row(rows, VALUE, value);
+    let y = row(rows, TYPE, ty);
+    if !row_fits(rows, work, r, y, depth - 1) {
         return false;
     }
-    mark(m, v, t);
+    mark(work, value, ty);
     true
 }
 
 // ---- the whole depth
 
-// Whether value v fits type t.
-pub fn value_fits(a: &[u32], m: &mut [u32], v: u32, t: u32) -> bool
-    requires { ⌜ Known (now a) (now m) ⌝ }
-    ensures { λ b. ⌜ Answered (now (a .entry)) (now (m .entry)) (now (m .exit)) (full (now (a .entry)) v t) b ⌝ }
+// Whether a value fits a type.
+pub fn value_fits(rows: &[u32], work: &mut [u32], value: u32, ty: u32) -> bool
+    requires { ⌜ Known (now rows) (now work) ⌝ }
+    ensures { λ b. ⌜ Answered (now (rows .entry)) (now (work .entry)) (now (work .exit)) (full (now (rows .entry)) value ty) b ⌝ }
 {
-    fits(a, m, v, t, DEPTH)
+    fits(rows, work, value, ty, DEPTH)
 }
 
-// Whether each tag of record r fits type y.
-pub fn tags_fit(a: &[u32], m: &mut [u32], r: &[u32], y: u32) -> bool
-    requires { ⌜ Known (now a) (now m) ⌝ }
-    ensures { λ b. ⌜ Answered (now (a .entry)) (now (m .entry)) (now (m .exit)) (tagsFitBy (full (now (a .entry))) (now (r .entry)) y) b ⌝ }
+// Whether each tag of a record fits a type.
+pub fn tags_fit(rows: &[u32], work: &mut [u32], line: &[u32], ty: u32) -> bool
+    requires { ⌜ Known (now rows) (now work) ⌝ }
+    ensures { λ b. ⌜ Answered (now (rows .entry)) (now (work .entry)) (now (work .exit)) (tagsFitBy (full (now (rows .entry))) (now (line .entry)) ty) b ⌝ }
 {
     let mut i: usize = 1;
-    while i < r.len() {
-        if i + 1 == r.len() {
+    while i < line.len() {
+        if i + 1 == line.len() {
             return true;
         }
-        let x = item(r, i + 1);
-        if !value_fits(a, m, x, y) {
+        let x = item(line, i + 1);
+        if !value_fits(rows, work, x, ty) {
             return false;
         }
         i += 2;

@@ -9,33 +9,34 @@ use borrow.Author.Tests.{eq-eqb, ne-eqb, le-ltb}
 use lib.Dec.{leb, ltb, eqb}
 use lib.ListN.{length, getD, take, drop, List·getD-eq-default}
 use Rattle.cedar.specs.Numbered.{memN}
-use Rattle.sheet.specs.Forms.{Slot, entry, line, lineOr, lineUnknown, word, number, nothing, forms, formOf, slotAt, tag, items, at, keyOf, refsFrom, refs, ascendings, mark, KIND}
+use Rattle.sheet.specs.Forms.{Slot, entry, line, lineOr, lineUnknown, word, number, nothing, forms, formOf, slotAt, tag, items, at, keyOf, refsFrom, refs, ascendings, mark, TEXT, KIND, TYPE, VALUE, ENTITY, POLICY, noKey}
 use Rattle.sheet.specs.State.{State, linesOf, count, depthsOf}
 use Rattle.sheet.specs.Sheet.{greatest, reach, allZero, inOrder, thereIs, allThere, ascend, among, firsts, fresh, found, deepest, depth}
 use Rattle.sheet.proofs.Parsed.{tags-between}
+use Rattle.forms.specs.Tags.{TEXT-LINE}
 use Rattle.table.specs.Layout.{part, rowsOf, textRows, linesHeld, held}
 use Rattle.table.proofs.Rows.{count-held, lines-held, texts-held}
-use Rattle.table.proofs.Held.{rowIn, counts-held}
-use Rattle.judge.specs.Verdicts.{NewDepth}
+use Rattle.table.proofs.Held.{counts-held}
+use Rattle.judge.specs.Verdicts.{rowIn, NewDepth}
 
 module _ (a sheet b : List ℕ) where
-  count-past : (k : ℕ) → 13 ≤ k → count (held sheet a b) k ≡ 0
+  count-past : (k : ℕ) → noKey ≤ k → count (held sheet a b) k ≡ 0
   unfolding held linesHeld
   count-past k h = ap length (List·getD-eq-default (linesHeld sheet a) [] {n = k} h)
 
 module _ (a sheet b : List ℕ) where
   pub count-alike : (k : ℕ) → count (held [] a []) k ≡ count (held sheet a b) k
-  count-alike k = go (decLt k 13)
+  count-alike k = go (decLt k noKey)
     where
-      go : Dec (k < 13) → count (held [] a []) k ≡ count (held sheet a b) k
+      go : Dec (k < noKey) → count (held [] a []) k ≡ count (held sheet a b) k
       go (yes h) = count-held [] a [] k h ∙ sym (count-held sheet a b k h)
       go (no h) = count-past a [] [] k (omega arith) ∙ sym (count-past a sheet b k (omega arith))
 
-  lines-alike : (k : ℕ) → (k ≡ 1 → ⊥) → linesOf (held [] a []) k ≡ linesOf (held sheet a b) k
+  lines-alike : (k : ℕ) → (k ≡ TEXT → ⊥) → linesOf (held [] a []) k ≡ linesOf (held sheet a b) k
   unfolding held linesHeld
-  lines-alike k n = go (decLt k 13)
+  lines-alike k n = go (decLt k noKey)
     where
-      go : Dec (k < 13) → linesOf (held [] a []) k ≡ linesOf (held sheet a b) k
+      go : Dec (k < noKey) → linesOf (held [] a []) k ≡ linesOf (held sheet a b) k
       go (yes h) = lines-held [] a [] k h n ∙ sym (lines-held sheet a b k h n)
       go (no h) = List·getD-eq-default (linesHeld [] a) [] {n = k} (omega arith) ∙ sym (List·getD-eq-default (linesHeld sheet a) [] {n = k} (omega arith))
 
@@ -61,13 +62,13 @@ module _ (a sheet b : List ℕ) where
   there-alike t j [] = refl
   there-alike t j (x ∷ l) = ap₂ _&&_ (slot-alike (slotAt t j) x) (there-alike t (suc j) l)
 
-  fresh-alike : (k : ℕ) (r : List ℕ) → (k ≡ 1 → ⊥) → fresh (held [] a []) k r ≡ fresh (held sheet a b) k r
+  fresh-alike : (k : ℕ) (r : List ℕ) → (k ≡ TEXT → ⊥) → fresh (held [] a []) k r ≡ fresh (held sheet a b) k r
   fresh-alike k r n =
-      ap (λ (l : List (List ℕ)). cond (eqb k 1 || eqb k 3 || eqb k 5) (not (among r l)) (cond (eqb k 2 || eqb k 12) (not (memN (at r 0) (firsts l)))
-      (cond (eqb k 6) (eqb (length l) 0 || ltb (at (getD l (length l - 1) []) 0) (at r 0)) true)))
+      ap (λ (l : List (List ℕ)). cond (eqb k TEXT || eqb k TYPE || eqb k VALUE) (not (among r l)) (cond (eqb k KIND || eqb k POLICY) (not (memN (at r 0) (firsts l)))
+      (cond (eqb k ENTITY) (eqb (length l) 0 || ltb (at (getD l (length l - 1) []) 0) (at r 0)) true)))
       (lines-alike k n)
 
-  pub found-alike : (k : ℕ) (r : List ℕ) → (k ≡ 1 → ⊥) → found (held [] a []) k r ≡ found (held sheet a b) k r
+  pub found-alike : (k : ℕ) (r : List ℕ) → (k ≡ TEXT → ⊥) → found (held [] a []) k r ≡ found (held sheet a b) k r
   unfolding found
   found-alike k r n = ap₂ (λ (x y : Bool). x && ascend 0 (ascendings r) && y) (there-alike (tag r) 0 (items r)) (fresh-alike k r n)
 
@@ -79,32 +80,32 @@ deep-alike sheet a b k (x ∷ l) = ap (max (getD (depthsOf (held sheet a b) k) x
 
 -- ---- texts
 
-pub text-tag : (r : List ℕ) → keyOf r ≡ 1 → tag r ≡ 1
+pub text-tag : (r : List ℕ) → keyOf r ≡ TEXT → tag r ≡ TEXT-LINE
 unfolding keyOf formOf forms
-text-tag r e = let b = tags-between 1 1 1 (tag r) (omega arith) refl e in omega (arith, b .0, b .1)
+text-tag r e = let b = tags-between TEXT TEXT-LINE TEXT-LINE (tag r) (omega arith) refl e in omega (arith, b .0, b .1)
 
-text-slot : (j : ℕ) → slotAt 1 j ≡ nothing
+text-slot : (j : ℕ) → slotAt TEXT-LINE j ≡ nothing
 unfolding slotAt formOf forms
 text-slot j = rw (le-ltb j 0 (omega arith)) refl
 
-text-refs : (k j : ℕ) (l : List ℕ) → refsFrom k 1 j l ≡ []
+text-refs : (k j : ℕ) (l : List ℕ) → refsFrom k TEXT-LINE j l ≡ []
 text-refs k j [] = refl
 text-refs k j (x ∷ l) = rw (text-slot j) (text-refs k (suc j) l)
 
-text-there : (s : State) (j : ℕ) (l : List ℕ) → allThere s 1 j l ≡ true
+text-there : (s : State) (j : ℕ) (l : List ℕ) → allThere s TEXT-LINE j l ≡ true
 text-there s j [] = refl
 text-there s j (x ∷ l) = rw (text-slot j) (text-there s (suc j) l)
 
 -- what a row refers to is what its words refer to
 pub refs-alike : (sheet : List ℕ) (k j : ℕ) (r : List ℕ) → k ≡ keyOf r → refs j (rowIn sheet k r) ≡ refs j r
 unfolding refs
-refs-alike sheet k j r e = go (ℕ-discrete k 1)
+refs-alike sheet k j r e = go (ℕ-discrete k TEXT)
   where
-    go : Dec (k ≡ 1) → refs j (rowIn sheet k r) ≡ refs j r
+    go : Dec (k ≡ TEXT) → refs j (rowIn sheet k r) ≡ refs j r
     go (yes d) =
         let t = text-tag r (sym e ∙ d) in
-        rw (eq-eqb k 1 d, t) (text-refs j 0 (part sheet (at r 0) (at r 0 + at r 1)) ∙ sym (text-refs j 0 (items r)))
-    go (no d) = rw (ne-eqb k 1 d) refl
+        rw (eq-eqb k TEXT d, t) (text-refs j 0 (part sheet (at r 0) (at r 0 + at r 1)) ∙ sym (text-refs j 0 (items r)))
+    go (no d) = rw (ne-eqb k TEXT d) refl
 
 pub depth-alike : (sheet a b : List ℕ) (k : ℕ) (r : List ℕ) → k ≡ keyOf r → depth (held [] a b) k r ≡ depth (held sheet a b) k (rowIn sheet k r)
 unfolding depth
@@ -113,25 +114,25 @@ depth-alike sheet a b k r e =
 
 -- ---- `depth_of`
 
-pub new-other : (sheet a b : List ℕ) (k : ℕ) (r : List ℕ) (d : ℕ) → k ≡ keyOf r → (k ≡ 1 → ⊥) → d ≡ cond (found (held [] a []) k r) (depth (held [] a b) k r) 0 → NewDepth sheet a b r k d
+pub new-other : (sheet a b : List ℕ) (k : ℕ) (r : List ℕ) (d : ℕ) → k ≡ keyOf r → (k ≡ TEXT → ⊥) → d ≡ cond (found (held [] a []) k r) (depth (held [] a b) k r) 0 → NewDepth sheet a b r k d
 new-other sheet a b k r d e n h =
-    let row : rowIn sheet k r ≡ r = rw (ne-eqb k 1 n) refl in
+    let row : rowIn sheet k r ≡ r = rw (ne-eqb k TEXT n) refl in
     record { is = h ∙ ap₂ (λ (x : Bool) (y : ℕ). cond x y 0) (found-alike a sheet b k r n ∙ ap (found (held sheet a b) k) (sym row)) (depth-alike sheet a b k r e) }
 
-module _ (sheet a b : List ℕ) (k : ℕ) (r : List ℕ) (e : k ≡ keyOf r) (d : k ≡ 1) where
+module _ (sheet a b : List ℕ) (k : ℕ) (r : List ℕ) (e : k ≡ keyOf r) (d : k ≡ TEXT) where
   text-depth : depth (held sheet a b) k (rowIn sheet k r) ≡ 1
   unfolding depth refs
   text-depth =
-      let t : tag r ≡ 1 = text-tag r (sym e ∙ d) in
+      let t : tag r ≡ TEXT-LINE = text-tag r (sym e ∙ d) in
       sym (depth-alike sheet a b k r e) ∙ ap (λ (l : List ℕ). suc (deepest (held [] a b) k l)) (ap (λ (x : ℕ). refsFrom k x 0 (items r)) t ∙ text-refs k 0 (items r))
 
-  module _ (s n : ℕ) (x : List ℕ) (v : Bool) (hs : s ≡ getD r 1 0) (hn : n ≡ getD r 2 0) (hx : x ≡ part sheet s (s + n)) (hv : v ≡ among (1 ∷ x) (textRows sheet (rowsOf a 1))) where
+  module _ (s n : ℕ) (x : List ℕ) (v : Bool) (hs : s ≡ getD r 1 0) (hn : n ≡ getD r 2 0) (hx : x ≡ part sheet s (s + n)) (hv : v ≡ among (TEXT-LINE ∷ x) (textRows sheet (rowsOf a TEXT))) where
     text-found : found (held sheet a b) k (rowIn sheet k r) ≡ not v
     unfolding found ascendings formOf forms
     text-found =
-        let t : tag r ≡ 1 = text-tag r (sym e ∙ d) in
-        let row : rowIn sheet k r ≡ 1 ∷ x = rw (eq-eqb k 1 d, t, hx, hs, hn) refl in
-        ap (found (held sheet a b) k) row ∙ rw (d, text-there (held sheet a b) 0 x) (ap not (ap (among (1 ∷ x)) (texts-held sheet a b) ∙ sym hv))
+        let t : tag r ≡ TEXT-LINE = text-tag r (sym e ∙ d) in
+        let row : rowIn sheet k r ≡ TEXT-LINE ∷ x = rw (eq-eqb k TEXT d, t, hx, hs, hn) refl in
+        ap (found (held sheet a b) k) row ∙ rw (d, text-there (held sheet a b) 0 x) (ap not (ap (among (TEXT-LINE ∷ x)) (texts-held sheet a b) ∙ sym hv))
 
     pub text-again : v ≡ true → NewDepth sheet a b r k 0
     text-again q = record { is = sym (rw (text-found, q) refl) }

@@ -1,31 +1,27 @@
 -- The refusals of a row in number order, and what is left of the words. Assumes nothing.
 use mathlib.Core.Path.{_≡_, refl, sym, ap, ap₂, subst, _∙_}
-use mathlib.Core.Bool.{Bool, true, false, cond, not, _&&_}
+use mathlib.Core.Bool.{Bool, true, false, cond, not}
 use mathlib.Core.List.{List, [], _∷_, _++_}
-use Prim.Native.Nat.{ℕ, suc, _+_, _-_, _*_, _/_, _%_, _≤_, _<_}
+use Prim.Native.Nat.{ℕ, suc, _+_, _-_, _≤_, _<_}
 use native.Mathlib.Omega.{arith}
 use native.Mathlib.Decide.{ℕ-discrete, decLt}
-use borrow.Author.Tests.{ne-eqb, lt-ltb, le-ltb, le-leb, not-true, not-false}
+use borrow.Author.Tests.{ne-eqb, lt-ltb, le-ltb, leb-false, not-true, not-false}
 use lib.Dec.{leb, ltb}
 use lib.ListN.{length, getD, take, drop, List·getD-eq-default}
 use lib.Seq.{drop-drop}
-use Rattle.words.specs.Bits.{member, bit}
 use Rattle.words.proofs.Stores.{getD-below, part-below}
-use Rattle.cedar.proofs.Tools.{no-true}
-use Rattle.sheet.specs.Forms.{formOf, tag, keyOf, refs, NODE}
+use Rattle.sheet.specs.Forms.{formOf, tag, keyOf, refs, TEXT, ENTITY, NODE, noKey}
 use Rattle.sheet.specs.State.{State, count}
 use Rattle.sheet.specs.Typing.{typed}
 use Rattle.sheet.specs.Sheet.{greatest, inOrder, found, deepest, depth, usedTwice, marked, faultOf}
-use Rattle.sheet.proofs.Lines.{and-both}
-use Rattle.table.specs.Layout.{USES, depthsAt, held}
+use Rattle.table.specs.Layout.{TYPEDEPTHS, USES, depthsAt, held}
 use Rattle.table.proofs.Rows.{key-low}
-use Rattle.table.proofs.Held.{rowIn, used-of, depths-kept}
-use Rattle.fits.specs.Fit.{isPair, SettledIn, Known}
-use Rattle.fits.specs.Fit as F
-use Rattle.fits.proofs.Remembered.{small-pair, cleared}
+use Rattle.table.proofs.Held.{used-of, depths-kept}
+use Rattle.fits.specs.Fit.{SettledIn, Known}
+use Rattle.fits.proofs.Remembered.{cleared, known-words}
 use Rattle.checks.specs.Uses.{usesIn, Marked}
 use Rattle.typing.specs.Rules.{Typed}
-use Rattle.judge.specs.Verdicts.{NewDepth, TypedLine, Judged}
+use Rattle.judge.specs.Verdicts.{rowIn, NewDepth, TypedLine, Judged}
 use Rattle.judge.proofs.Alike.{order-alike, full-alike, refs-alike}
 
 -- ---- the chain of refusals
@@ -69,17 +65,11 @@ none-found s k r e = go (found s k r) e
 -- ---- what is remembered of pairs stands in the first words
 
 known-below : (a m m′ : List ℕ) → take USES m′ ≡ take USES m → Known a m → Known a m′
-unfolding F.marked member
-known-below a m m′ e k =
-    record {
-      holds = λ v t h s. and-both (isPair v t) (member m′ (v * 128 + t)) h (λ q i.
-          let x = small-pair v t q in
-          let w : getD m′ ((v * 128 + t) / 32) 0 ≡ getD m ((v * 128 + t) / 32) 0 = getD-below USES m m′ e ((v * 128 + t) / 32) (omega (arith, x .0, x .1)) in
-          k .holds v t (both (isPair v t) (member m (v * 128 + t)) q (ap (bit ((v * 128 + t) % 32)) (sym w) ∙ i)) s);
-    }
-  where
-    both : (x y : Bool) → x ≡ true → y ≡ true → (x && y) ≡ true
-    both x y p q = rw (p, q) refl
+known-below a m m′ e k = known-words a m m′ (λ i h. getD-below USES m m′ e i (omega arith)) k
+
+-- the words past the uses of nodes stand past the pairs
+later : (b b₁ : List ℕ) → drop TYPEDEPTHS b₁ ≡ drop TYPEDEPTHS b → drop (USES + 1024) b₁ ≡ drop (USES + 1024) b
+later b b₁ q = sym (drop-drop 3200 TYPEDEPTHS b₁) ∙ ap (drop 3200) q ∙ drop-drop 3200 TYPEDEPTHS b
 
 -- ---- `typed_line`
 
@@ -96,7 +86,7 @@ pub typed-early : (a b m r : List ℕ) (k : ℕ) (v : Bool) → Known a b → Ty
 typed-early a b m r k v known t e =
     rw (none-lent m b e) (record { is = t .is; known = known; early = λ h. refl; rest = refl })
 
-pub typed-late : (a b b′ r : List ℕ) (k : ℕ) (v : Bool) → Typed a b b′ r k v → 6 ≤ k → TypedLine a b b′ r k v
+pub typed-late : (a b b′ r : List ℕ) (k : ℕ) (v : Bool) → Typed a b b′ r k v → ENTITY ≤ k → TypedLine a b b′ r k v
 typed-late a b b′ r k v t h =
     record {
       is = t .is;
@@ -111,18 +101,19 @@ pub key-of-row : (r : List ℕ) (t k : ℕ) → t ≡ tag r → k ≡ formOf t .
 unfolding keyOf
 key-of-row r t k ht hk = hk ∙ ap (λ (x : ℕ). formOf x .key) ht
 
-pub key-in-table : (t k : ℕ) → k ≡ formOf t .key → k ≤ 13
+pub key-in-table : (t k : ℕ) → k ≡ formOf t .key → k ≤ noKey
 key-in-table t k e = rw e (key-low t)
 
 -- a key that has room is a line's
-pub key-of-line : (a : List ℕ) (k : ℕ) (u : Bool) → u ≡ leb (getD (greatest (held [] a [])) k 0) (count (held [] a []) k) → u ≡ false → k < 13
-key-of-line a k u e f = go (decLt k 13)
+pub line-key : (s : State) (k : ℕ) → leb (getD (greatest s) k 0) (count s k) ≡ false → k < noKey
+line-key s k e = go (decLt k noKey)
   where
-    go : Dec (k < 13) → k < 13
+    go : Dec (k < noKey) → k < noKey
     go (yes h) = h
-    go (no h) =
-        let z : getD (greatest (held [] a [])) k 0 ≡ 0 = List·getD-eq-default (greatest (held [] a [])) 0 {n = k} (omega arith) in
-        no-true (sym f ∙ e ∙ le-leb (getD (greatest (held [] a [])) k 0) (count (held [] a []) k) (omega (arith, z)))
+    go (no h) = absurd (omega (arith, leb-false (getD (greatest s) k 0) (count s k) e, List·getD-eq-default (greatest s) 0 {n = k} (omega arith)))
+
+pub key-of-line : (a : List ℕ) (k : ℕ) (u : Bool) → u ≡ leb (getD (greatest (held [] a [])) k 0) (count (held [] a []) k) → u ≡ false → k < noKey
+key-of-line a k u e f = line-key (held [] a []) k (sym e ∙ f)
 
 -- ---- `judge`
 
@@ -192,16 +183,16 @@ module _ (sheet a b r : List ℕ) (known : Known a b) (t k : ℕ) (ht : t ≡ ta
 
             typed-row : (j : ℕ) → typed (held sheet a b) r j ≡ typed (held sheet a b) (rowIn sheet j r) j
             unfolding typed
-            typed-row j = go (ℕ-discrete j 1)
+            typed-row j = go (ℕ-discrete j TEXT)
               where
-                go : Dec (j ≡ 1) → typed (held sheet a b) r j ≡ typed (held sheet a b) (rowIn sheet j r) j
+                go : Dec (j ≡ TEXT) → typed (held sheet a b) r j ≡ typed (held sheet a b) (rowIn sheet j r) j
                 go (yes d) = rw d refl
-                go (no d) = rw (ne-eqb j 1 d) refl
+                go (no d) = rw (ne-eqb j TEXT d) refl
 
             typed-is : SettledIn a → y ≡ typed (held sheet a b) (rowIn sheet (keyOf r) r) (keyOf r)
             typed-is s = hy .is sheet b s ∙ typed-row k ∙ ap (λ (x : ℕ). typed (held sheet a b) (rowIn sheet x r) x) key-is
 
-            early₁ : keyOf r < 6 → b₁ ≡ b
+            early₁ : keyOf r < ENTITY → b₁ ≡ b
             early₁ h = hy .early (rw key-is h)
 
             pub judged-7 : not y ≡ true → (f n d : ℕ) → f ≡ 7 → Judged sheet a b r b₁ f n d
@@ -214,32 +205,29 @@ module _ (sheet a b r : List ℕ) (known : Known a b) (t k : ℕ) (ht : t ≡ ta
                   known = hy .known;
                   early = λ h i l. ap (λ (x : List ℕ). getD x i 0) (early₁ h);
                   depths = λ i m h l. depths-kept b b₁ i m h (hy .rest);
-                  rest = λ h. later (hy .rest);
+                  rest = λ h. later b b₁ (hy .rest);
                 }
-              where
-                later : drop 4096 b₁ ≡ drop 4096 b → drop 7296 b₁ ≡ drop 7296 b
-                later q = sym (drop-drop 3200 4096 b₁) ∙ ap (drop 3200) q ∙ drop-drop 3200 4096 b
 
-            module _ (py : not y ≡ false) (b₂ : List ℕ) (x : Bool) (hx : Marked a b₁ (refs 11 r) b₂ x) where
+            module _ (py : not y ≡ false) (b₂ : List ℕ) (x : Bool) (hx : Marked a b₁ (refs NODE r) b₂ x) where
               uses-same : usesIn a b₁ ≡ usesIn a b
               uses-same = depths-kept b b₁ USES (getD a NODE 0) (omega arith) (hy .rest)
 
-              refs-same : refs 11 r ≡ refs NODE (rowIn sheet (keyOf r) r)
-              refs-same = sym (refs-alike sheet (keyOf r) 11 r refl)
+              refs-same : refs NODE r ≡ refs NODE (rowIn sheet (keyOf r) r)
+              refs-same = sym (refs-alike sheet (keyOf r) NODE r refl)
 
               twice-is : x ≡ usedTwice (held sheet a b .used) (refs NODE (rowIn sheet (keyOf r) r))
               twice-is = hx .twice-is ∙ ap₂ usedTwice uses-same refs-same ∙ ap (λ (l : List ℕ). usedTwice l (refs NODE (rowIn sheet (keyOf r) r))) (sym (used-of sheet a b))
 
-              kept-part : (i m : ℕ) → 4096 ≤ i → i + m ≤ USES → depthsAt b₂ i m ≡ depthsAt b i m
+              kept-part : (i m : ℕ) → TYPEDEPTHS ≤ i → i + m ≤ USES → depthsAt b₂ i m ≡ depthsAt b i m
               kept-part i m h l =
                   let z : i + m - i ≡ m = omega arith in
                   subst (λ (c : ℕ). take c (drop i b₂) ≡ take c (drop i b₁)) z (part-below USES b₁ b₂ (hx .below) i (i + m) (omega arith) l) ∙ depths-kept b b₁ i m h (hy .rest)
 
-              early₂ : keyOf r < 6 → (i : ℕ) → i < 4096 → getD b₂ i 0 ≡ getD b i 0
+              early₂ : keyOf r < ENTITY → (i : ℕ) → i < TYPEDEPTHS → getD b₂ i 0 ≡ getD b i 0
               early₂ h i l = getD-below USES b₁ b₂ (hx .below) i (omega arith) ∙ ap (λ (c : List ℕ). getD c i 0) (early₁ h)
 
-              rest₂ : getD a NODE 0 ≤ 1024 → drop 7296 b₂ ≡ drop 7296 b
-              rest₂ h = hx .above h ∙ sym (drop-drop 3200 4096 b₁) ∙ ap (drop 3200) (hy .rest) ∙ drop-drop 3200 4096 b
+              rest₂ : getD a NODE 0 ≤ 1024 → drop (USES + 1024) b₂ ≡ drop (USES + 1024) b
+              rest₂ h = hx .above h ∙ later b b₁ (hy .rest)
 
               pub judged-8 : x ≡ true → (f n d : ℕ) → f ≡ 8 → Judged sheet a b r b₂ f n d
               judged-8 h f n d e =

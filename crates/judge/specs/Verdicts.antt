@@ -3,14 +3,18 @@ use mathlib.Core.Path.{_≡_}
 use mathlib.Core.Bool.{Bool, cond}
 use mathlib.Core.List.{List}
 use Prim.Native.Nat.{ℕ, _+_, _≤_, _<_}
+use lib.Dec.{eqb}
 use lib.ListN.{getD, drop}
-use Rattle.sheet.specs.Forms.{keyOf, refs, NODE}
+use Rattle.sheet.specs.Forms.{keyOf, refs, TEXT, ENTITY, NODE}
 use Rattle.sheet.specs.Typing.{typed}
 use Rattle.sheet.specs.Sheet.{found, depth, faultOf, marked}
-use Rattle.table.specs.Layout.{USES, depthsAt, held}
-use Rattle.table.proofs.Held.{rowIn}
+use Rattle.table.specs.Layout.{TYPEDEPTHS, USES, depthsAt, textRow, held}
 use Rattle.fits.specs.Fit.{SettledIn, Known}
 use Rattle.checks.specs.Uses.{usesIn}
+
+-- the row of a line of key k, from its row of words
+abbrev pub rowIn : List ℕ → ℕ → List ℕ → List ℕ
+rowIn sheet k r = cond (eqb k TEXT) (textRow sheet r) r
 
 -- the depth of a row of key k; 0 where what it refers to is not there, or the row is not new
 pub record NewDepth (sheet a b r : List ℕ) (k d : ℕ) : Type 0 where
@@ -20,8 +24,8 @@ pub record NewDepth (sheet a b r : List ℕ) (k d : ℕ) : Type 0 where
 pub record TypedLine (a b b′ r : List ℕ) (k : ℕ) (v : Bool) : Type 0 where
   pub is : (sheet c : List ℕ) → SettledIn a → v ≡ typed (held sheet a c) r k
   pub known : Known a b′
-  pub early : k < 6 → b′ ≡ b
-  pub rest : drop 4096 b′ ≡ drop 4096 b
+  pub early : k < ENTITY → b′ ≡ b
+  pub rest : drop TYPEDEPTHS b′ ≡ drop TYPEDEPTHS b
 
 -- number f of the row that words r hold, of key k; where it is 0 the row's depth d, and the nodes that it uses are marked
 pub record Judged (sheet a b r b′ : List ℕ) (f k d : ℕ) : Type 0 where
@@ -30,6 +34,6 @@ pub record Judged (sheet a b r b′ : List ℕ) (f k d : ℕ) : Type 0 where
   pub deep : f ≡ 0 → d ≡ depth (held sheet a b) (keyOf r) (rowIn sheet (keyOf r) r)
   pub uses : f ≡ 0 → usesIn a b′ ≡ marked (usesIn a b) (refs NODE (rowIn sheet (keyOf r) r))
   pub known : Known a b′
-  pub early : keyOf r < 6 → (i : ℕ) → i < 4096 → getD b′ i 0 ≡ getD b i 0
-  pub depths : (i n : ℕ) → 4096 ≤ i → i + n ≤ USES → depthsAt b′ i n ≡ depthsAt b i n
-  pub rest : getD a NODE 0 ≤ 1024 → drop 7296 b′ ≡ drop 7296 b
+  pub early : keyOf r < ENTITY → (i : ℕ) → i < TYPEDEPTHS → getD b′ i 0 ≡ getD b i 0
+  pub depths : (i n : ℕ) → TYPEDEPTHS ≤ i → i + n ≤ USES → depthsAt b′ i n ≡ depthsAt b i n
+  pub rest : getD a NODE 0 ≤ 1024 → drop (USES + 1024) b′ ≡ drop (USES + 1024) b

@@ -4,8 +4,9 @@ use checks::is_full;
 use checks::is_text;
 use checks::new_depth;
 use checks::use_nodes;
-use table::ENTITY;
-use table::TEXT;
+use forms::ENTITY;
+use forms::NO_KEY;
+use forms::TEXT;
 use table::bytes;
 use table::item;
 use table::key_of;
@@ -15,7 +16,7 @@ use words::cut;
 ghost use mathlib.Core.Path.{_≡_};
 ghost use Prim.Native.Nat.{_<_};
 ghost use Rattle.words.specs.Log.{part};
-ghost use Rattle.sheet.specs.Forms.{keyOf};
+ghost use Rattle.sheet.specs.Forms.{keyOf, noKey};
 ghost use Rattle.fits.specs.Fit.{Known};
 ghost use Rattle.judge.specs.Verdicts.{NewDepth, TypedLine, Judged};
 
@@ -31,61 +32,61 @@ fn refused(number: u32) -> Verdict
 {
     Verdict {
         number,
-        key: 13,
+        key: NO_KEY,
         depth: 0,
     }
 }
 
-// Whether a row of key k is typed. No line before the entities asks whether a value fits, so nothing is remembered of it.
-fn typed_line(a: &[u32], b: &mut [u32], r: &[u32], k: usize) -> bool
-    requires { ⌜ Known (now a) (now b) ⌝ }
-    ensures { λ v. ⌜ TypedLine (now (a .entry)) (now (b .entry)) (now (b .exit)) (now (r .entry)) k v ⌝ }
+// Whether a row of this key is typed. No line before the entities asks whether a value fits, so nothing is remembered of it.
+fn typed_line(rows: &[u32], work: &mut [u32], line: &[u32], key: usize) -> bool
+    requires { ⌜ Known (now rows) (now work) ⌝ }
+    ensures { λ v. ⌜ TypedLine (now (rows .entry)) (now (work .entry)) (now (work .exit)) (now (line .entry)) key v ⌝ }
 {
-    if k < ENTITY {
-        return typed(a, &mut b[0..0], r, k);
+    if key < ENTITY {
+        return typed(rows, &mut work[0..0], line, key);
     }
-    typed(a, b, r, k)
+    typed(rows, work, line, key)
 }
 
-// The depth of a row of key k; 0 where a line that it refers to is not there, or the row is not new.
-fn depth_of(sheet: &[u8], a: &[u32], b: &[u32], k: usize, r: &[u32]) -> usize
-    requires { ⌜ (k ≡ keyOf (now r)) × (k < 13) ⌝ }
-    ensures { λ d. ⌜ NewDepth (now (sheet .entry)) (now (a .entry)) (now (b .entry)) (now (r .entry)) k d ⌝ }
+// The depth of a row of this key; 0 where a line that it refers to is not there, or the row is not new.
+fn depth_of(sheet: &[u8], rows: &[u32], work: &[u32], key: usize, line: &[u32]) -> usize
+    requires { ⌜ (key ≡ keyOf (now line)) × (key < noKey) ⌝ }
+    ensures { λ d. ⌜ NewDepth (now (sheet .entry)) (now (rows .entry)) (now (work .entry)) (now (line .entry)) key d ⌝ }
 {
-    if k == TEXT {
-        let s = item(r, 1) as usize;
-        let n = item(r, 2) as usize;
-        if is_text(sheet, a, bytes(sheet, s, s + n)) {
+    if key == TEXT {
+        let s = item(line, 1) as usize;
+        let n = item(line, 2) as usize;
+        if is_text(sheet, rows, bytes(sheet, s, s + n)) {
             return 0;
         }
         return 1;
     }
-    new_depth(a, b, k, r)
+    new_depth(rows, work, key, line)
 }
 
 // The refusal of a row of words, and where there is none its key and depth; the nodes that it uses are then marked.
-pub fn judge(sheet: &[u8], a: &[u32], b: &mut [u32], r: &[u32]) -> Verdict
-    requires { ⌜ Known (now a) (now b) ⌝ }
-    ensures { λ v. ⌜ Judged (now (sheet .entry)) (now (a .entry)) (now (b .entry)) (now (r .entry)) (now (b .exit)) (v .number) (v .key) (v .depth) ⌝ }
+pub fn judge(sheet: &[u8], rows: &[u32], work: &mut [u32], line: &[u32]) -> Verdict
+    requires { ⌜ Known (now rows) (now work) ⌝ }
+    ensures { λ v. ⌜ Judged (now (sheet .entry)) (now (rows .entry)) (now (work .entry)) (now (line .entry)) (now (work .exit)) (v .number) (v .key) (v .depth) ⌝ }
 {
-    let k = key_of(tag(r));
-    if !in_order(a, k) {
+    let k = key_of(tag(line));
+    if !in_order(rows, k) {
         return refused(3);
     }
-    if is_full(a, k) {
+    if is_full(rows, k) {
         return refused(4);
     }
-    let d = depth_of(sheet, a, b, k, r);
+    let d = depth_of(sheet, rows, work, k, line);
     if d == 0 {
         return refused(5);
     }
     if 64 < d {
         return refused(6);
     }
-    if !typed_line(a, b, r, k) {
+    if !typed_line(rows, work, line, k) {
         return refused(7);
     }
-    if use_nodes(a, b, r) {
+    if use_nodes(rows, work, line) {
         return refused(8);
     }
     Verdict {
@@ -96,10 +97,10 @@ pub fn judge(sheet: &[u8], a: &[u32], b: &mut [u32], r: &[u32]) -> Verdict
 }
 
 // The same of the row that lies from word `top` to word `end`.
-pub fn judge_at(sheet: &[u8], a: &[u32], b: &mut [u32], top: usize, end: usize) -> Verdict
-    requires { ⌜ Known (now a) (now b) ⌝ }
-    ensures { λ v. ⌜ Judged (now (sheet .entry)) (now (a .entry)) (now (b .entry)) (part (now (a .entry)) top end) (now (b .exit)) (v .number) (v .key) (v .depth) ⌝ }
+pub fn judge_at(sheet: &[u8], rows: &[u32], work: &mut [u32], top: usize, end: usize) -> Verdict
+    requires { ⌜ Known (now rows) (now work) ⌝ }
+    ensures { λ v. ⌜ Judged (now (sheet .entry)) (now (rows .entry)) (now (work .entry)) (part (now (rows .entry)) top end) (now (work .exit)) (v .number) (v .key) (v .depth) ⌝ }
 {
-    let r = cut(a, top, end);
-    judge(sheet, a, b, r)
+    let r = cut(rows, top, end);
+    judge(sheet, rows, work, r)
 }

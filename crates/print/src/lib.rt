@@ -21,13 +21,13 @@ pub fn byte(out: &mut [u8], at: usize, b: u8) -> usize
 }
 
 // A run of bytes: a word of the format, or a text of the sheet.
-pub fn bytes(out: &mut [u8], at: usize, text: &[u8]) -> usize
-    ensures { λ r. ⌜ Written (now (out .entry)) at (now (text .entry)) (now (out .exit)) r ⌝ }
+pub fn bytes(out: &mut [u8], at: usize, bytes: &[u8]) -> usize
+    ensures { λ r. ⌜ Written (now (out .entry)) at (now (bytes .entry)) (now (out .exit)) r ⌝ }
 {
     let mut k = at;
     let mut i = 0;
-    while i < text.len() {
-        let b = text[i];
+    while i < bytes.len() {
+        let b = bytes[i];
         k = byte(out, k, b);
         i += 1;
     }
@@ -51,12 +51,12 @@ pub fn number(out: &mut [u8], at: usize, n: u64) -> usize
 }
 
 // A long, from its word.
-pub fn long(out: &mut [u8], at: usize, w: u64) -> usize
-    ensures { λ r. ⌜ Written (now (out .entry)) at (signed (longAt w)) (now (out .exit)) r ⌝ }
+pub fn long(out: &mut [u8], at: usize, word: u64) -> usize
+    ensures { λ r. ⌜ Written (now (out .entry)) at (signed (longAt word)) (now (out .exit)) r ⌝ }
 {
-    if w < 9223372036854775808 {
-        let mid = byte(out, at, 45);
-        return number(out, mid, 9223372036854775808 - w);
+    if word < 9223372036854775808 {
+        let mid = byte(out, at, b'-');
+        return number(out, mid, 9223372036854775808 - word);
     }
-    number(out, at, w - 9223372036854775808)
+    number(out, at, word - 9223372036854775808)
 }

@@ -16,7 +16,7 @@ use Rattle.words.specs.Log.{part}
 use Rattle.words.proofs.Stores.{length-part}
 use Rattle.sheet.specs.Ascii.{ascii}
 use Rattle.sheet.specs.Bytes.{upTo, split, same, printable, index}
-use Rattle.sheet.specs.Forms.{Mode, Slot, keys, forms, noForm, formOf, slotAt, counted, item, itemsFrom, joined, orEmpty, placeIn, wordNumber, tagOf, rowFor, rowOfValue, rowOf}
+use Rattle.sheet.specs.Forms.{Mode, Slot, keys, forms, noForm, formOf, slotAt, counted, item, itemsFrom, joined, orEmpty, placeIn, wordNumber, tagOf, rowFor, rowOfValue, rowOf, noKey, noTag}
 use Rattle.sheet.specs.State.{State}
 use Rattle.sheet.specs.Sheet.{fault, reads, ending, lineRead, reading}
 use Rattle.scan.specs.declared.Cursor.{Cursor}
@@ -72,7 +72,7 @@ items-part s c start next e = go (decLt (c .at) (length s))
           items = after-on 44 s (c .at) d ∙ rw (← b) (split-at 44 s start (next .at) w f);
         }
 
--- ---- a key that is none of the thirteen: its line has no row
+-- ---- a key that is none of all: its line has no row
 
 place-is : (w : List ℕ) (ws : List String) (k : ℕ) → wordNumber w ws ≡ some k → placeIn w ws ≡ k
 place-is w ws k e = go (ltb (placeIn w ws) (length ws)) e
@@ -96,31 +96,31 @@ place-past w ws e = go (ltb (placeIn w ws) (length ws)) refl e
     go true p q = let z : _≡_ {A = ℕ} 0 1 = cc in absurd (omega arith)
     go false p q = omega (arith, ltb-false (placeIn w ws) (length ws) p, place-le w ws)
 
-thirteen : length keys ≡ 13
+all-keys : length keys ≡ noKey
 unfolding keys
-thirteen = refl
+all-keys = refl
 
-fifty : length forms ≡ 50
+all-forms : length forms ≡ noTag
 unfolding forms
-fifty = refl
+all-forms = refl
 
-no-tag : tagOf 13 [] ≡ 50
+no-tag : tagOf noKey [] ≡ noTag
 unfolding tagOf forms
 no-tag = refl
 
-no-form : (t : ℕ) → t ≡ 50 → formOf t ≡ noForm
+no-form : (t : ℕ) → t ≡ noTag → formOf t ≡ noForm
 unfolding formOf
-no-form t h = List·getD-eq-default forms noForm {n = t} (omega (arith, fifty))
+no-form t h = List·getD-eq-default forms noForm {n = t} (omega (arith, all-forms))
 
-no-slot : (t : ℕ) → t ≡ 50 → slotAt t 0 ≡ Slot.nothing
+no-slot : (t : ℕ) → t ≡ noTag → slotAt t 0 ≡ Slot.nothing
 unfolding slotAt
 no-slot t h = rw (no-form t h) refl
 
-no-count : (t : ℕ) → t ≡ 50 → counted t 0 ≡ false
+no-count : (t : ℕ) → t ≡ noTag → counted t 0 ≡ false
 unfolding counted
 no-count t h = rw (no-form t h) refl
 
-no-row : (m : Mode) (t : ℕ) (fs : List (List ℕ)) → t ≡ 50 → rowFor m t fs ≡ []
+no-row : (m : Mode) (t : ℕ) (fs : List (List ℕ)) → t ≡ noTag → rowFor m t fs ≡ []
 no-row m t [] h = go (counted t 0) (no-count t h)
   where
     go : (b : Bool) → b ≡ false → cond b (t ∷ []) [] ≡ []
@@ -164,8 +164,8 @@ module _ (m : Mode) (l : List ℕ) where
       go false o f q = refl
       go true (some j) f q = let z : _≡_ {A = ℕ} 0 1 = cc in absurd (omega arith)
       go true none f q =
-          let x : placeIn (take (upTo 61 l) l) keys ≡ 13 = place-past (take (upTo 61 l) l) keys f ∙ thirteen in
-          rw x (no-row m (tagOf 13 []) (split 44 (drop (suc (upTo 61 l)) l)) no-tag)
+          let x : placeIn (take (upTo 61 l) l) keys ≡ noKey = place-past (take (upTo 61 l) l) keys f ∙ all-keys in
+          rw x (no-row m (tagOf noKey []) (split 44 (drop (suc (upTo 61 l)) l)) no-tag)
 
 -- ---- lines: reading one takes the first of those left
 

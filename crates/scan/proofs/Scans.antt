@@ -9,9 +9,9 @@ use borrow.Author.Tests.{eq-eqb, ne-eqb, le-leb, lt-leb, not-false, not-true}
 use lib.Dec.{eqb, leb}
 use lib.ListN.{length, getD, take, drop, length-drop, drop-of-length-le}
 use lib.Seq.{drop-cons, take-all, take-nil, drop-nil}
-use Rattle.cedar.proofs.Tools.{no-true, eqb-true}
 use Rattle.words.specs.Log.{part}
 use Rattle.sheet.specs.Bytes.{upTo, same, printable}
+use Rattle.sheet.proofs.TwoSheets.{same-is}
 use Rattle.scan.specs.Places.{isPrintable, plainTo}
 
 module _ (c : ℕ) (s : List ℕ) (i : ℕ) where
@@ -221,16 +221,6 @@ drop-take (suc e) (suc a) (x ∷ s) = drop-take e a s ∙ ap (λ (n : ℕ). take
     z = omega arith
 
 -- ---- words that are the same
-
-first-same : (x y : ℕ) (k l : List ℕ) (t : Bool) → t ≡ eqb x y → (same k l ≡ true → k ≡ l) → (t && same k l) ≡ true → (x ∷ k) ≡ (y ∷ l)
-first-same x y k l true h f e = ap₂ _∷_ (eqb-true x y (sym h)) (f e)
-first-same x y k l false h f e = no-true e
-
-pub same-is : (k l : List ℕ) → same k l ≡ true → k ≡ l
-same-is [] [] e = refl
-same-is [] (y ∷ l) e = no-true e
-same-is (x ∷ k) [] e = no-true e
-same-is (x ∷ k) (y ∷ l) e = first-same x y k l (eqb x y) refl (same-is k l) e
 
 -- a word that was tried
 pub tried : (name w : List ℕ) (t : Bool) → t ≡ same name w → t ≡ true → w ≡ name

@@ -17,13 +17,14 @@ use Rattle.sheet.specs.Ascii.{ascii}
 use Rattle.sheet.specs.Bytes.{upTo, same, printable}
 use Rattle.sheet.specs.Forms.{keys, wordNumber}
 use Rattle.sheet.proofs.Lines.{and-both}
+use Rattle.sheet.proofs.TwoSheets.{same-is}
 use Rattle.scan.specs.declared.Cursor.{Cursor}
 use Rattle.scan.specs.declared.Number as N
 use Rattle.scan.specs.declared.Heading as H
 use Rattle.scan.specs.declared.Line as L
 use Rattle.scan.specs.Numbers.{numberOf, following, placed}
 use Rattle.scan.specs.Places.{place, keyed, headingOf, startOf, isPrintable, plainTo, lineAfter, lineTo, lineAt}
-use Rattle.scan.proofs.Scans.{rest-is, same-is}
+use Rattle.scan.proofs.Scans.{rest-is}
 use Rattle.scan.proofs.Wordlists.{word-number}
 
 -- ---- the first byte that is not printable

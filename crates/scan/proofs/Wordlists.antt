@@ -12,7 +12,7 @@ use lib.ListN.{length, drop, length-map}
 use Rattle.words.specs.Log.{part}
 use Rattle.sheet.specs.Ascii.{ascii}
 use Rattle.sheet.specs.Bytes.{upTo, split, same}
-use Rattle.sheet.specs.Forms.{keys, forms, placeIn, wordNumber, tagOf}
+use Rattle.sheet.specs.Forms.{keys, forms, placeIn, wordNumber, tagOf, TYPE, VALUE, NODE, firstType, firstValue, firstNode, noTag}
 use Rattle.scan.specs.declared.Number as N
 use Rattle.scan.specs.Numbers.{numberOf, following, placed, formAfter}
 use Rattle.scan.specs.Places.{partsAfter}
@@ -140,19 +140,23 @@ sucs-is : (k n : ℕ) → sucs k n ≡ k + n
 sucs-is zero n = omega arith
 sucs-is (suc k) n = omega (arith, sucs-is k n)
 
+-- how many forms stand in the table after those of one key, which begin at `first`
+abbrev after : ℕ → List String → ℕ
+after first ns = noTag - (first + length ns)
+
 -- a table with the forms of one key from `first` on
-form-is : (w : List ℕ) (ns : List String) (l : List ℕ) (r : N.Number) (first after t tag : ℕ) → map ascii ns ≡ split 44 l → numberOf r ≡ placed w (split 44 l) → first + (length ns + after) ≡ 50
-    → t ≡ formAfter first (numberOf r) → tag ≡ sucs first (run w ns after) → t ≡ tag
+form-is : (w : List ℕ) (ns : List String) (l : List ℕ) (r : N.Number) (first rest t tag : ℕ) → map ascii ns ≡ split 44 l → numberOf r ≡ placed w (split 44 l) → first + (length ns + rest) ≡ noTag
+    → t ≡ formAfter first (numberOf r) → tag ≡ sucs first (run w ns rest) → t ≡ tag
 unfolding past
-form-is w ns l r first after t tag e h n et eg = go (numberOf r) (h ∙ ap (placed w) (sym e)) et
+form-is w ns l r first rest t tag e h n et eg = go (numberOf r) (h ∙ ap (placed w) (sym e)) et
   where
     go : (o : Option ℕ) → o ≡ placed w (map ascii ns) → t ≡ formAfter first o → t ≡ tag
-    go none p q = omega (arith, eg, sucs-is first (run w ns after), run-is w ns after ∙ ap (past (length ns + after)) (sym p))
+    go none p q = omega (arith, eg, sucs-is first (run w ns rest), run-is w ns rest ∙ ap (past (length ns + rest)) (sym p))
     go (some k) p q =
         let b : k < length (map ascii ns) = placed-below w (map ascii ns) k (sym p) in
         let m : length (map ascii ns) ≡ length ns = length-map ns ascii in
-        let u : t ≡ first + k = q ∙ rw (lt-ltb k (50 - first) (omega arith)) in
-        omega (arith, eg, sucs-is first (run w ns after), run-is w ns after ∙ ap (past (length ns + after)) (sym p))
+        let u : t ≡ first + k = q ∙ rw (lt-ltb k (noTag - first) (omega arith)) in
+        omega (arith, eg, sucs-is first (run w ns rest), run-is w ns rest ∙ ap (past (length ns + rest)) (sym p))
 
 typeNames : List String
 typeNames = "bool" ∷ "long" ∷ "string" ∷ "entity" ∷ "set" ∷ "record" ∷ []
@@ -160,7 +164,7 @@ typeNames = "bool" ∷ "long" ∷ "string" ∷ "entity" ∷ "set" ∷ "record" �
 abbrev pub typeBytes : List ℕ
 typeBytes = ascii "bool,long,string,entity,set,record"
 
-type-tag : (w : List ℕ) → tagOf 3 w ≡ sucs 3 (run w typeNames 41)
+type-tag : (w : List ℕ) → tagOf TYPE w ≡ sucs firstType (run w typeNames (after firstType typeNames))
 unfolding tagOf forms typeNames
 type-tag w = refl
 
@@ -168,12 +172,12 @@ type-names : map ascii typeNames ≡ split 44 typeBytes
 unfolding typeNames
 type-names = refl
 
-type-count : 3 + (length typeNames + 41) ≡ 50
+type-count : firstType + (length typeNames + after firstType typeNames) ≡ noTag
 unfolding typeNames
 type-count = refl
 
-pub type-form : (w : List ℕ) (r : N.Number) (t : ℕ) → numberOf r ≡ placed w (split 44 typeBytes) → t ≡ formAfter 3 (numberOf r) → t ≡ tagOf 3 w
-type-form w r t h e = form-is w typeNames typeBytes r 3 41 t (tagOf 3 w) type-names h type-count e (type-tag w)
+pub type-form : (w : List ℕ) (r : N.Number) (t : ℕ) → numberOf r ≡ placed w (split 44 typeBytes) → t ≡ formAfter firstType (numberOf r) → t ≡ tagOf TYPE w
+type-form w r t h e = form-is w typeNames typeBytes r firstType (after firstType typeNames) t (tagOf TYPE w) type-names h type-count e (type-tag w)
 
 valueNames : List String
 valueNames = "bool" ∷ "long" ∷ "text" ∷ "entity" ∷ "set" ∷ "record" ∷ []
@@ -181,7 +185,7 @@ valueNames = "bool" ∷ "long" ∷ "text" ∷ "entity" ∷ "set" ∷ "record" �
 abbrev pub valueBytes : List ℕ
 valueBytes = ascii "bool,long,text,entity,set,record"
 
-value-tag : (w : List ℕ) → tagOf 5 w ≡ sucs 10 (run w valueNames 34)
+value-tag : (w : List ℕ) → tagOf VALUE w ≡ sucs firstValue (run w valueNames (after firstValue valueNames))
 unfolding tagOf forms valueNames
 value-tag w = refl
 
@@ -189,12 +193,12 @@ value-names : map ascii valueNames ≡ split 44 valueBytes
 unfolding valueNames
 value-names = refl
 
-value-count : 10 + (length valueNames + 34) ≡ 50
+value-count : firstValue + (length valueNames + after firstValue valueNames) ≡ noTag
 unfolding valueNames
 value-count = refl
 
-pub value-form : (w : List ℕ) (r : N.Number) (t : ℕ) → numberOf r ≡ placed w (split 44 valueBytes) → t ≡ formAfter 10 (numberOf r) → t ≡ tagOf 5 w
-value-form w r t h e = form-is w valueNames valueBytes r 10 34 t (tagOf 5 w) value-names h value-count e (value-tag w)
+pub value-form : (w : List ℕ) (r : N.Number) (t : ℕ) → numberOf r ≡ placed w (split 44 valueBytes) → t ≡ formAfter firstValue (numberOf r) → t ≡ tagOf VALUE w
+value-form w r t h e = form-is w valueNames valueBytes r firstValue (after firstValue valueNames) t (tagOf VALUE w) value-names h value-count e (value-tag w)
 
 nodeNames : List String
 nodeNames =
@@ -204,7 +208,7 @@ nodeNames =
 abbrev pub nodeBytes : List ℕ
 nodeBytes = ascii "lit,err,var,and,or,eq,lt,le,add,sub,mul,in,gettag,hastag,contains,all,any,if,is,like,get,has,haspath,not,neg,empty,set,record"
 
-node-tag : (w : List ℕ) → tagOf 11 w ≡ sucs 21 (run w nodeNames 1)
+node-tag : (w : List ℕ) → tagOf NODE w ≡ sucs firstNode (run w nodeNames (after firstNode nodeNames))
 unfolding tagOf forms nodeNames
 node-tag w = refl
 
@@ -212,23 +216,23 @@ node-names : map ascii nodeNames ≡ split 44 nodeBytes
 unfolding nodeNames
 node-names = refl
 
-node-count : 21 + (length nodeNames + 1) ≡ 50
+node-count : firstNode + (length nodeNames + after firstNode nodeNames) ≡ noTag
 unfolding nodeNames
 node-count = refl
 
-pub node-form : (w : List ℕ) (r : N.Number) (t : ℕ) → numberOf r ≡ placed w (split 44 nodeBytes) → t ≡ formAfter 21 (numberOf r) → t ≡ tagOf 11 w
-node-form w r t h e = form-is w nodeNames nodeBytes r 21 1 t (tagOf 11 w) node-names h node-count e (node-tag w)
+pub node-form : (w : List ℕ) (r : N.Number) (t : ℕ) → numberOf r ≡ placed w (split 44 nodeBytes) → t ≡ formAfter firstNode (numberOf r) → t ≡ tagOf NODE w
+node-form w r t h e = form-is w nodeNames nodeBytes r firstNode (after firstNode nodeNames) t (tagOf NODE w) node-names h node-count e (node-tag w)
 
 -- the answers of the code
 module _ (first : ℕ) (r : N.Number) where
-  pub after-value : (p : ℕ) → r ≡ N.the-variants.Value p → p < 50 - first → first + p ≡ formAfter first (numberOf r)
-  after-value p v h = rw v (rw (lt-ltb p (50 - first) h) refl)
+  pub after-value : (p : ℕ) → r ≡ N.the-variants.Value p → p < noTag - first → first + p ≡ formAfter first (numberOf r)
+  after-value p v h = rw v (rw (lt-ltb p (noTag - first) h) refl)
 
-  pub after-past : (p : ℕ) → r ≡ N.the-variants.Value p → 50 - first ≤ p → 50 ≡ formAfter first (numberOf r)
-  after-past p v h = rw v (rw (le-ltb p (50 - first) h) refl)
+  pub after-past : (p : ℕ) → r ≡ N.the-variants.Value p → noTag - first ≤ p → noTag ≡ formAfter first (numberOf r)
+  after-past p v h = rw v (rw (le-ltb p (noTag - first) h) refl)
 
-  pub after-most : (p : ℕ) → r ≡ N.the-variants.Value p → 50 ≤ first → 50 ≡ formAfter first (numberOf r)
+  pub after-most : (p : ℕ) → r ≡ N.the-variants.Value p → noTag ≤ first → noTag ≡ formAfter first (numberOf r)
   after-most p v h = after-past p v (omega arith)
 
-  pub after-none : r ≡ N.the-variants.Refused → 50 ≡ formAfter first (numberOf r)
+  pub after-none : r ≡ N.the-variants.Refused → noTag ≡ formAfter first (numberOf r)
   after-none v = rw v

@@ -7,6 +7,7 @@ use Prim.Native.Nat.{ℕ, suc, _+_, _-_, _*_, _^_, _<_}
 use lib.Dec.{ltb, leb}
 use lib.ListN.{length, getD, take, drop}
 use Rattle.sheet.specs.Bytes.{same}
+use Rattle.sheet.specs.Forms.{noTag}
 use Rattle.scan.specs.declared.Number as N
 
 -- the number that was read; none, which is refusal 3, where the bytes are malformed
@@ -23,10 +24,10 @@ abbrev pub placed : List ℕ → List (List ℕ) → Option ℕ
 placed w [] = none
 placed w (x ∷ l) = cond (same w x) (some 0) (following (placed w l))
 
--- the form that stands so many places after a key's first; 50, past the table's end, for none
+-- the form that stands so many places after a key's first; the number past the table's end for none
 abbrev pub formAfter : ℕ → Option ℕ → ℕ
-formAfter first none = 50
-formAfter first (some p) = cond (ltb p (50 - first)) (first + p) 50
+formAfter first none = noTag
+formAfter first (some p) = cond (ltb p (noTag - first)) (first + p) noTag
 
 -- ---- a word as one number
 

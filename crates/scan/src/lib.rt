@@ -1,16 +1,79 @@
 // Bytes of a sheet: parts, lines, items, words and numbers. A text is handed on as a part of the sheet, never copied.
+use forms::ACTION;
+use forms::ADD;
+use forms::ALL;
+use forms::AND;
+use forms::ANY;
+use forms::BOOL_TYPE;
+use forms::BOOL_VALUE;
+use forms::CONTAINS;
+use forms::CONTEXT;
+use forms::EMPTY;
+use forms::ENTITY;
+use forms::ENTITY_TYPE;
+use forms::ENTITY_VALUE;
+use forms::EQ;
+use forms::ERR;
+use forms::GET;
+use forms::GETTAG;
+use forms::HAS;
+use forms::HASPATH;
+use forms::HASTAG;
+use forms::IF;
+use forms::IN;
+use forms::IS;
+use forms::KIND;
+use forms::LE;
+use forms::LIKE;
+use forms::LIT;
+use forms::LONG_TYPE;
+use forms::LONG_VALUE;
+use forms::LT;
+use forms::MUL;
+use forms::NEG;
+use forms::NO_TAG;
+use forms::NODE;
+use forms::NOT;
+use forms::OR;
+use forms::POLICY;
+use forms::PRINCIPAL;
+use forms::RECORD_OF;
+use forms::RECORD_TYPE;
+use forms::RECORD_VALUE;
+use forms::RESOURCE;
+use forms::SET_OF;
+use forms::SET_TYPE;
+use forms::SET_VALUE;
+use forms::SHAPE;
+use forms::SHEET;
+use forms::STRING_TYPE;
+use forms::SUB;
+use forms::TEXT;
+use forms::TEXT_VALUE;
+use forms::TYPE;
+use forms::VALUE;
+use forms::VAR;
 ghost use mathlib.Core.Path.{_≡_};
 ghost use mathlib.Core.Bool.{cond};
 ghost use Prim.Native.Nat.{_+_, _≤_, _<_};
 ghost use lib.ListN.{length, take, drop};
 ghost use Rattle.words.specs.Log.{part};
 ghost use Rattle.sheet.specs.Bytes.{upTo, split, same, printable, digitsFrom, decimal, atMost, index, half, upward, downward, long};
-ghost use Rattle.sheet.specs.Forms.{keys, wordNumber, tagOf};
+ghost use Rattle.sheet.specs.Forms.{keys, wordNumber, tagOf, TYPE, VALUE, NODE};
 ghost use Rattle.scan.specs.Numbers.{numberOf, placed, formAfter, Packed, WordRead};
 ghost use Rattle.scan.specs.Places.{headingOf, startOf, isPrintable, plainTo, lineAfter, itemAt, LineRead, NumberRead};
 
 // 2^63, which a long is held above.
 const HALF: u64 = 9223372036854775808;
+
+// The first forms of types, of values and of nodes, and what stands for a form that there is not.
+const FIRST_TYPE: u64 = BOOL_TYPE as u64;
+
+const FIRST_VALUE: u64 = BOOL_VALUE as u64;
+
+const FIRST_NODE: u64 = LIT as u64;
+
+const NO_FORM: u64 = NO_TAG as u64;
 
 // A number that was read, or nothing where the bytes are malformed.
 pub enum Number {
@@ -57,46 +120,46 @@ pub enum Counted {
 
 // ---- parts
 
-// The bytes before byte `e`.
-pub fn front(s: &[u8], e: usize) -> &[u8]
-    ensures { λ r. ⌜ now r ≡ take e (now (s .entry)) ⌝ }
+// The bytes before byte `end`.
+pub fn front(bytes: &[u8], end: usize) -> &[u8]
+    ensures { λ r. ⌜ now r ≡ take end (now (bytes .entry)) ⌝ }
 {
-    if e <= s.len() {
-        return &s[0..e];
+    if end <= bytes.len() {
+        return &bytes[0..end];
     }
-    s
+    bytes
 }
 
-// The bytes from byte `a` on.
-pub fn rest(s: &[u8], a: usize) -> &[u8]
-    ensures { λ r. ⌜ now r ≡ drop a (now (s .entry)) ⌝ }
+// The bytes from byte `start` on.
+pub fn rest(bytes: &[u8], start: usize) -> &[u8]
+    ensures { λ r. ⌜ now r ≡ drop start (now (bytes .entry)) ⌝ }
 {
-    if a <= s.len() {
-        return &s[a..];
+    if start <= bytes.len() {
+        return &bytes[start..];
     }
-    &s[0..0]
+    &bytes[0..0]
 }
 
-// The part from byte `a` to byte `e`, cut at the end.
-pub fn part_of(s: &[u8], a: usize, e: usize) -> &[u8]
-    ensures { λ r. ⌜ now r ≡ part (now (s .entry)) a e ⌝ }
+// The part from byte `start` to byte `end`, cut at the end.
+pub fn part_of(bytes: &[u8], start: usize, end: usize) -> &[u8]
+    ensures { λ r. ⌜ now r ≡ part (now (bytes .entry)) start end ⌝ }
 {
-    if e <= s.len() {
-        if a <= e {
-            return &s[a..e];
+    if end <= bytes.len() {
+        if start <= end {
+            return &bytes[start..end];
         }
-        return &s[e..e];
+        return &bytes[end..end];
     }
-    rest(s, a)
+    rest(bytes, start)
 }
 
-// Where the first `b` at or after `from` stands, or the end.
-pub fn find(s: &[u8], from: usize, b: u8) -> usize
-    ensures { λ r. ⌜ r ≡ from + upTo b (drop from (now (s .entry))) ⌝ }
+// Where the first `byte` at or after `from` stands, or the end.
+pub fn find(bytes: &[u8], from: usize, byte: u8) -> usize
+    ensures { λ r. ⌜ r ≡ from + upTo byte (drop from (now (bytes .entry))) ⌝ }
 {
     let mut i = from;
-    while i < s.len() {
-        if s[i] == b {
+    while i < bytes.len() {
+        if bytes[i] == byte {
             return i;
         }
         i += 1;
@@ -105,16 +168,16 @@ pub fn find(s: &[u8], from: usize, b: u8) -> usize
 }
 
 // Whether two words are the same. Those that begin alike often end otherwise, so they are compared from the end.
-pub fn same_bytes(a: &[u8], b: &[u8]) -> bool
-    ensures { λ r. ⌜ r ≡ same (now (a .entry)) (now (b .entry)) ⌝ }
+pub fn same_bytes(left: &[u8], right: &[u8]) -> bool
+    ensures { λ r. ⌜ r ≡ same (now (left .entry)) (now (right .entry)) ⌝ }
 {
-    if a.len() != b.len() {
+    if left.len() != right.len() {
         return false;
     }
-    let mut i = a.len();
+    let mut i = left.len();
     while i > 0 {
         i -= 1;
-        if a[i] != b[i] {
+        if left[i] != right[i] {
             return false;
         }
     }
@@ -122,16 +185,16 @@ pub fn same_bytes(a: &[u8], b: &[u8]) -> bool
 }
 
 // The same of two rows of words.
-pub fn same_words(a: &[u32], b: &[u32]) -> bool
-    ensures { λ r. ⌜ r ≡ same (now (a .entry)) (now (b .entry)) ⌝ }
+pub fn same_words(left: &[u32], right: &[u32]) -> bool
+    ensures { λ r. ⌜ r ≡ same (now (left .entry)) (now (right .entry)) ⌝ }
 {
-    if a.len() != b.len() {
+    if left.len() != right.len() {
         return false;
     }
-    let mut i = a.len();
+    let mut i = left.len();
     while i > 0 {
         i -= 1;
-        if a[i] != b[i] {
+        if left[i] != right[i] {
             return false;
         }
     }
@@ -139,13 +202,13 @@ pub fn same_words(a: &[u32], b: &[u32]) -> bool
 }
 
 // Whether a byte is printable.
-fn plain(x: u8) -> bool
-    ensures { λ r. ⌜ r ≡ isPrintable x ⌝ }
+fn plain(byte: u8) -> bool
+    ensures { λ r. ⌜ r ≡ isPrintable byte ⌝ }
 {
-    if x < 32 {
+    if byte < 32 {
         return false;
     }
-    x <= 126
+    byte <= 126
 }
 
 // ---- words
@@ -157,7 +220,7 @@ pub fn place(word: &[u8], list: &[u8]) -> Number
     let mut i: u64 = 0;
     let mut a = 0;
     loop {
-        let e = find(list, a, 44);
+        let e = find(list, a, b',');
         if same_bytes(word, part_of(list, a, e)) {
             return Number::Value(i);
         }
@@ -170,48 +233,48 @@ pub fn place(word: &[u8], list: &[u8]) -> Number
 }
 
 // Byte `i` as a number.
-fn one(s: &[u8], i: usize) -> u64
-    requires { ⌜ i < length (now s) ⌝ }
-    ensures { λ r. ⌜ Packed (now (s .entry)) i 1 r ⌝ }
+fn one(bytes: &[u8], i: usize) -> u64
+    requires { ⌜ i < length (now bytes) ⌝ }
+    ensures { λ r. ⌜ Packed (now (bytes .entry)) i 1 r ⌝ }
 {
-    s[i] as u64
+    bytes[i] as u64
 }
 
 // Two bytes from byte `i` on as one number, the first the lowest.
-fn two(s: &[u8], i: usize) -> u64
-    requires { ⌜ i + 2 ≤ length (now s) ⌝ }
-    ensures { λ r. ⌜ Packed (now (s .entry)) i 2 r ⌝ }
+fn two(bytes: &[u8], i: usize) -> u64
+    requires { ⌜ i + 2 ≤ length (now bytes) ⌝ }
+    ensures { λ r. ⌜ Packed (now (bytes .entry)) i 2 r ⌝ }
 {
-    one(s, i) + 256 * one(s, i + 1)
+    one(bytes, i) + 256 * one(bytes, i + 1)
 }
 
 // The same of three.
-fn three(s: &[u8], i: usize) -> u64
-    requires { ⌜ i + 3 ≤ length (now s) ⌝ }
-    ensures { λ r. ⌜ Packed (now (s .entry)) i 3 r ⌝ }
+fn three(bytes: &[u8], i: usize) -> u64
+    requires { ⌜ i + 3 ≤ length (now bytes) ⌝ }
+    ensures { λ r. ⌜ Packed (now (bytes .entry)) i 3 r ⌝ }
 {
-    two(s, i) + 65536 * one(s, i + 2)
+    two(bytes, i) + 65536 * one(bytes, i + 2)
 }
 
 // The same of four.
-fn four(s: &[u8], i: usize) -> u64
-    requires { ⌜ i + 4 ≤ length (now s) ⌝ }
-    ensures { λ r. ⌜ Packed (now (s .entry)) i 4 r ⌝ }
+fn four(bytes: &[u8], i: usize) -> u64
+    requires { ⌜ i + 4 ≤ length (now bytes) ⌝ }
+    ensures { λ r. ⌜ Packed (now (bytes .entry)) i 4 r ⌝ }
 {
-    two(s, i) + 65536 * two(s, i + 2)
+    two(bytes, i) + 65536 * two(bytes, i + 2)
 }
 
 // A word of two to seven bytes as one number: its bytes, the first the lowest, and 1 after them; 0 for any other.
-fn word_of(s: &[u8]) -> u64
-    ensures { λ r. ⌜ WordRead (now (s .entry)) r ⌝ }
+fn word_of(bytes: &[u8]) -> u64
+    ensures { λ r. ⌜ WordRead (now (bytes .entry)) r ⌝ }
 {
-    match s.len() {
-        2 => 0x1_0000 + two(s, 0),
-        3 => 0x100_0000 + three(s, 0),
-        4 => 0x1_0000_0000 + four(s, 0),
-        5 => 0x100_0000_0000 + (four(s, 0) + 0x1_0000_0000 * one(s, 4)),
-        6 => 0x1_0000_0000_0000 + (four(s, 0) + 0x1_0000_0000 * two(s, 4)),
-        7 => 0x100_0000_0000_0000 + (four(s, 0) + 0x1_0000_0000 * three(s, 4)),
+    match bytes.len() {
+        2 => 0x1_0000 + two(bytes, 0),
+        3 => 0x100_0000 + three(bytes, 0),
+        4 => 0x1_0000_0000 + four(bytes, 0),
+        5 => 0x100_0000_0000 + (four(bytes, 0) + 0x1_0000_0000 * one(bytes, 4)),
+        6 => 0x1_0000_0000_0000 + (four(bytes, 0) + 0x1_0000_0000 * two(bytes, 4)),
+        7 => 0x100_0000_0000_0000 + (four(bytes, 0) + 0x1_0000_0000 * three(bytes, 4)),
         _ => 0,
     }
 }
@@ -231,10 +294,10 @@ fn long_key(name: &[u8]) -> Number
     ensures { λ r. ⌜ numberOf r ≡ wordNumber (now (name .entry)) keys ⌝ }
 {
     if same_bytes(name, b"principal") {
-        return Number::Value(7);
+        return Number::Value(PRINCIPAL as u64);
     }
     if same_bytes(name, b"resource") {
-        return Number::Value(9);
+        return Number::Value(RESOURCE as u64);
     }
     listed_key(name)
 }
@@ -244,89 +307,95 @@ pub fn key_of(name: &[u8]) -> Number
     ensures { λ r. ⌜ numberOf r ≡ wordNumber (now (name .entry)) keys ⌝ }
 {
     match word_of(name) {
-        0x0174_6565_6873 => Number::Value(0), // sheet
-        0x01_7478_6574 => Number::Value(1), // text
-        0x01_646e_696b => Number::Value(2), // kind
-        0x01_6570_7974 => Number::Value(3), // type
-        0x0165_7061_6873 => Number::Value(4), // shape
-        0x0165_756c_6176 => Number::Value(5), // value
-        0x01_7974_6974_6e65 => Number::Value(6), // entity
-        0x01_6e6f_6974_6361 => Number::Value(8), // action
-        0x0174_7865_746e_6f63 => Number::Value(10), // context
-        0x01_6564_6f6e => Number::Value(11), // node
-        0x01_7963_696c_6f70 => Number::Value(12), // policy
+        0x0174_6565_6873 => Number::Value(SHEET as u64), // sheet
+        0x01_7478_6574 => Number::Value(TEXT as u64), // text
+        0x01_646e_696b => Number::Value(KIND as u64), // kind
+        0x01_6570_7974 => Number::Value(TYPE as u64), // type
+        0x0165_7061_6873 => Number::Value(SHAPE as u64), // shape
+        0x0165_756c_6176 => Number::Value(VALUE as u64), // value
+        0x01_7974_6974_6e65 => Number::Value(ENTITY as u64), // entity
+        0x01_6e6f_6974_6361 => Number::Value(ACTION as u64), // action
+        0x0174_7865_746e_6f63 => Number::Value(CONTEXT as u64), // context
+        0x01_6564_6f6e => Number::Value(NODE as u64), // node
+        0x01_7963_696c_6f70 => Number::Value(POLICY as u64), // policy
         _ => long_key(name),
     }
 }
 
-// The form that stands so many places after a key's first, or 50, past the table's end.
-fn form_after(first: u64, r: Number) -> u64
-    ensures { λ t. ⌜ t ≡ formAfter first (numberOf r) ⌝ }
+// The form that stands so many places after a key's first, or the number past the table's end.
+fn form_after(first: u64, found: Number) -> u64
+    ensures { λ t. ⌜ t ≡ formAfter first (numberOf found) ⌝ }
 {
-    match r {
+    match found {
         Number::Value(p) => {
-            if first >= 50 {
-                return 50;
+            if first >= NO_FORM {
+                return NO_FORM;
             }
-            if p < 50 - first {
+            if p < NO_FORM - first {
                 return first + p;
             }
-            50
+            NO_FORM
         }
-        Number::Refused => 50,
+        Number::Refused => NO_FORM,
     }
 }
 
-// The form of a type by its constructor, 50 for none, found in the list of all.
+// The form of a type by its constructor, the number past the table's end for none, found in the list of all.
 fn listed_type(name: &[u8]) -> u64
-    ensures { λ r. ⌜ r ≡ tagOf 3 (now (name .entry)) ⌝ }
+    ensures { λ r. ⌜ r ≡ tagOf TYPE (now (name .entry)) ⌝ }
 {
-    form_after(3, place(name, b"bool,long,string,entity,set,record"))
+    form_after(
+        FIRST_TYPE,
+        place(name, b"bool,long,string,entity,set,record"),
+    )
 }
 
 // The form of a type by its constructor.
 pub fn type_form(name: &[u8]) -> u64
-    ensures { λ r. ⌜ r ≡ tagOf 3 (now (name .entry)) ⌝ }
+    ensures { λ r. ⌜ r ≡ tagOf TYPE (now (name .entry)) ⌝ }
 {
     match word_of(name) {
-        0x01_6c6f_6f62 => 3, // bool
-        0x01_676e_6f6c => 4, // long
-        0x01_676e_6972_7473 => 5, // string
-        0x01_7974_6974_6e65 => 6, // entity
-        0x0174_6573 => 7, // set
-        0x01_6472_6f63_6572 => 8, // record
+        0x01_6c6f_6f62 => BOOL_TYPE as u64, // bool
+        0x01_676e_6f6c => LONG_TYPE as u64, // long
+        0x01_676e_6972_7473 => STRING_TYPE as u64, // string
+        0x01_7974_6974_6e65 => ENTITY_TYPE as u64, // entity
+        0x0174_6573 => SET_TYPE as u64, // set
+        0x01_6472_6f63_6572 => RECORD_TYPE as u64, // record
         _ => listed_type(name),
     }
 }
 
 // The form of a value by its constructor, found in the list of all.
 fn listed_value(name: &[u8]) -> u64
-    ensures { λ r. ⌜ r ≡ tagOf 5 (now (name .entry)) ⌝ }
+    ensures { λ r. ⌜ r ≡ tagOf VALUE (now (name .entry)) ⌝ }
 {
-    form_after(10, place(name, b"bool,long,text,entity,set,record"))
+    form_after(
+        FIRST_VALUE,
+        place(name, b"bool,long,text,entity,set,record"),
+    )
 }
 
 // The form of a value by its constructor.
 pub fn value_form(name: &[u8]) -> u64
-    ensures { λ r. ⌜ r ≡ tagOf 5 (now (name .entry)) ⌝ }
+    ensures { λ r. ⌜ r ≡ tagOf VALUE (now (name .entry)) ⌝ }
 {
     match word_of(name) {
-        0x01_6c6f_6f62 => 10, // bool
-        0x01_676e_6f6c => 11, // long
-        0x01_7478_6574 => 12, // text
-        0x01_7974_6974_6e65 => 13, // entity
-        0x0174_6573 => 14, // set
-        0x01_6472_6f63_6572 => 15, // record
+        0x01_6c6f_6f62 => BOOL_VALUE as u64, // bool
+        0x01_676e_6f6c => LONG_VALUE as u64, // long
+        0x01_7478_6574 => TEXT_VALUE as u64, // text
+        0x01_7974_6974_6e65 => ENTITY_VALUE as u64, // entity
+        0x0174_6573 => SET_VALUE as u64, // set
+        0x01_6472_6f63_6572 => RECORD_VALUE as u64, // record
         _ => listed_value(name),
     }
 }
 
 // The form of a node by its operation, found in the list of all.
 fn listed_form(name: &[u8]) -> u64
-    ensures { λ r. ⌜ r ≡ tagOf 11 (now (name .entry)) ⌝ }
+    ensures { λ r. ⌜ r ≡ tagOf NODE (now (name .entry)) ⌝ }
 {
     form_after(
-        21,
+        FIRST_NODE,
         place(
             name,
             b"lit,err,var,and,or,eq,lt,le,add,sub,mul,in,gettag,hastag,contains,all,any,if,is,like,get,has,haspath,not,neg,empty,set,record",
@@ -336,64 +405,64 @@ fn listed_form(name: &[u8]) -> u64
 
 // The same, where operations of two letters are tried first.
 fn short_form(name: &[u8]) -> u64
-    ensures { λ r. ⌜ r ≡ tagOf 11 (now (name .entry)) ⌝ }
+    ensures { λ r. ⌜ r ≡ tagOf NODE (now (name .entry)) ⌝ }
 {
     match word_of(name) {
-        0x01_726f => 25, // or
-        0x01_7165 => 26, // eq
-        0x01_746c => 27, // lt
-        0x01_656c => 28, // le
-        0x01_6e69 => 32, // in
-        0x01_6669 => 38, // if
-        0x01_7369 => 39, // is
+        0x01_726f => OR as u64, // or
+        0x01_7165 => EQ as u64, // eq
+        0x01_746c => LT as u64, // lt
+        0x01_656c => LE as u64, // le
+        0x01_6e69 => IN as u64, // in
+        0x01_6669 => IF as u64, // if
+        0x01_7369 => IS as u64, // is
         _ => listed_form(name),
     }
 }
 
 // The same, where operations of three letters are tried first.
 fn middle_form(name: &[u8]) -> u64
-    ensures { λ r. ⌜ r ≡ tagOf 11 (now (name .entry)) ⌝ }
+    ensures { λ r. ⌜ r ≡ tagOf NODE (now (name .entry)) ⌝ }
 {
     match word_of(name) {
-        0x0174_696c => 21, // lit
-        0x0172_7265 => 22, // err
-        0x0172_6176 => 23, // var
-        0x0164_6e61 => 24, // and
-        0x0164_6461 => 29, // add
-        0x0162_7573 => 30, // sub
-        0x016c_756d => 31, // mul
-        0x016c_6c61 => 36, // all
-        0x0179_6e61 => 37, // any
-        0x0174_6567 => 41, // get
-        0x0173_6168 => 42, // has
-        0x0174_6f6e => 44, // not
-        0x0167_656e => 45, // neg
-        0x0174_6573 => 47, // set
+        0x0174_696c => LIT as u64, // lit
+        0x0172_7265 => ERR as u64, // err
+        0x0172_6176 => VAR as u64, // var
+        0x0164_6e61 => AND as u64, // and
+        0x0164_6461 => ADD as u64, // add
+        0x0162_7573 => SUB as u64, // sub
+        0x016c_756d => MUL as u64, // mul
+        0x016c_6c61 => ALL as u64, // all
+        0x0179_6e61 => ANY as u64, // any
+        0x0174_6567 => GET as u64, // get
+        0x0173_6168 => HAS as u64, // has
+        0x0174_6f6e => NOT as u64, // not
+        0x0167_656e => NEG as u64, // neg
+        0x0174_6573 => SET_OF as u64, // set
         _ => listed_form(name),
     }
 }
 
 // The same, where longer operations are tried first.
 fn long_form(name: &[u8]) -> u64
-    ensures { λ r. ⌜ r ≡ tagOf 11 (now (name .entry)) ⌝ }
+    ensures { λ r. ⌜ r ≡ tagOf NODE (now (name .entry)) ⌝ }
 {
     if same_bytes(name, b"contains") {
-        return 35;
+        return CONTAINS as u64;
     }
     match word_of(name) {
-        0x01_6761_7474_6567 => 33, // gettag
-        0x01_6761_7473_6168 => 34, // hastag
-        0x01_656b_696c => 40, // like
-        0x0168_7461_7073_6168 => 43, // haspath
-        0x0179_7470_6d65 => 46, // empty
-        0x01_6472_6f63_6572 => 48, // record
+        0x01_6761_7474_6567 => GETTAG as u64, // gettag
+        0x01_6761_7473_6168 => HASTAG as u64, // hastag
+        0x01_656b_696c => LIKE as u64, // like
+        0x0168_7461_7073_6168 => HASPATH as u64, // haspath
+        0x0179_7470_6d65 => EMPTY as u64, // empty
+        0x01_6472_6f63_6572 => RECORD_OF as u64, // record
         _ => listed_form(name),
     }
 }
 
 // The form of a node by its operation.
 pub fn node_form(name: &[u8]) -> u64
-    ensures { λ r. ⌜ r ≡ tagOf 11 (now (name .entry)) ⌝ }
+    ensures { λ r. ⌜ r ≡ tagOf NODE (now (name .entry)) ⌝ }
 {
     match name.len() {
         2 => short_form(name),
@@ -405,23 +474,23 @@ pub fn node_form(name: &[u8]) -> u64
 // ---- numbers
 
 // The number that digits write, leading zeros or not, at most 2^63.
-fn digits(s: &[u8]) -> Number
-    ensures { λ r. ⌜ numberOf r ≡ atMost half (digitsFrom 0 (now (s .entry))) ⌝ }
+fn digits(bytes: &[u8]) -> Number
+    ensures { λ r. ⌜ numberOf r ≡ atMost half (digitsFrom 0 (now (bytes .entry))) ⌝ }
 {
     let mut n: u64 = 0;
     let mut i = 0;
-    while i < s.len() {
-        let x = s[i];
-        if x < 48 {
+    while i < bytes.len() {
+        let x = bytes[i];
+        if x < b'0' {
             return Number::Refused;
         }
-        if x > 57 {
+        if x > b'9' {
             return Number::Refused;
         }
         if n > 922337203685477580 {
             return Number::Refused;
         }
-        n = n * 10 + (x - 48) as u64;
+        n = n * 10 + (x - b'0') as u64;
         i += 1;
     }
     if n <= HALF {
@@ -432,26 +501,26 @@ fn digits(s: &[u8]) -> Number
 }
 
 // A decimal number of at most 2^63.
-fn size(s: &[u8]) -> Number
-    ensures { λ r. ⌜ numberOf r ≡ atMost half (decimal (now (s .entry))) ⌝ }
+fn size(bytes: &[u8]) -> Number
+    ensures { λ r. ⌜ numberOf r ≡ atMost half (decimal (now (bytes .entry))) ⌝ }
 {
-    if s.len() == 0 {
+    if bytes.len() == 0 {
         return Number::Refused;
     }
-    if s.len() == 1 {
-        return digits(s);
+    if bytes.len() == 1 {
+        return digits(bytes);
     }
-    if s[0] == 48 {
+    if bytes[0] == b'0' {
         return Number::Refused;
     }
-    digits(s)
+    digits(bytes)
 }
 
 // An index, of at most four digits.
-pub fn index_of(s: &[u8]) -> Number
-    ensures { λ r. ⌜ numberOf r ≡ index (now (s .entry)) ⌝ }
+pub fn index_of(bytes: &[u8]) -> Number
+    ensures { λ r. ⌜ numberOf r ≡ index (now (bytes .entry)) ⌝ }
 {
-    let r = size(s);
+    let r = size(bytes);
     match r {
         Number::Value(n) => {
             if n <= 9999 {
@@ -464,10 +533,10 @@ pub fn index_of(s: &[u8]) -> Number
 }
 
 // A long from its size, without a sign.
-fn up(r: Number) -> Number
-    ensures { λ l. ⌜ numberOf l ≡ upward (numberOf r) ⌝ }
+fn up(size: Number) -> Number
+    ensures { λ l. ⌜ numberOf l ≡ upward (numberOf size) ⌝ }
 {
-    match r {
+    match size {
         Number::Value(n) => {
             if n < HALF {
                 return Number::Value(HALF + n);
@@ -479,10 +548,10 @@ fn up(r: Number) -> Number
 }
 
 // A long from its size, after `-`.
-fn down(r: Number) -> Number
-    ensures { λ l. ⌜ numberOf l ≡ downward (numberOf r) ⌝ }
+fn down(size: Number) -> Number
+    ensures { λ l. ⌜ numberOf l ≡ downward (numberOf size) ⌝ }
 {
-    match r {
+    match size {
         Number::Value(n) => {
             if n == 0 {
                 return Number::Refused;
@@ -497,27 +566,27 @@ fn down(r: Number) -> Number
 }
 
 // A long, held as the number plus 2^63.
-pub fn long_of(s: &[u8]) -> Number
-    ensures { λ r. ⌜ numberOf r ≡ long (now (s .entry)) ⌝ }
+pub fn long_of(bytes: &[u8]) -> Number
+    ensures { λ r. ⌜ numberOf r ≡ long (now (bytes .entry)) ⌝ }
 {
-    if s.len() == 0 {
+    if bytes.len() == 0 {
         return Number::Refused;
     }
-    if s[0] == 45 {
-        return down(size(&s[1..]));
+    if bytes[0] == b'-' {
+        return down(size(&bytes[1..]));
     }
-    up(size(s))
+    up(size(bytes))
 }
 
 // ---- lines and items
 
 // Where the first byte that is not printable stands, from byte `i` on, or the end.
-fn printable_to(s: &[u8], i: usize) -> usize
-    ensures { λ r. ⌜ r ≡ i + plainTo (drop i (now (s .entry))) ⌝ }
+fn printable_to(bytes: &[u8], i: usize) -> usize
+    ensures { λ r. ⌜ r ≡ i + plainTo (drop i (now (bytes .entry))) ⌝ }
 {
     let mut i = i;
-    while i < s.len() {
-        if !plain(s[i]) {
+    while i < bytes.len() {
+        if !plain(bytes[i]) {
             return i;
         }
         i += 1;
@@ -526,37 +595,37 @@ fn printable_to(s: &[u8], i: usize) -> usize
 }
 
 // Where the first byte that is not printable stands, or the end: four bytes at a step, then one.
-fn printable_end(s: &[u8]) -> usize
-    ensures { λ r. ⌜ r ≡ plainTo (now (s .entry)) ⌝ }
+fn printable_end(bytes: &[u8]) -> usize
+    ensures { λ r. ⌜ r ≡ plainTo (now (bytes .entry)) ⌝ }
 {
     let mut i = 0;
-    while 4 <= s.len() - i {
-        if !plain(s[i]) {
+    while 4 <= bytes.len() - i {
+        if !plain(bytes[i]) {
             return i;
         }
-        if !plain(s[i + 1]) {
+        if !plain(bytes[i + 1]) {
             return i + 1;
         }
-        if !plain(s[i + 2]) {
+        if !plain(bytes[i + 2]) {
             return i + 2;
         }
-        if !plain(s[i + 3]) {
+        if !plain(bytes[i + 3]) {
             return i + 3;
         }
         i += 4;
     }
-    printable_to(s, i)
+    printable_to(bytes, i)
 }
 
 // The key that stands before the first `=` of these bytes.
-fn key_found(s: &[u8]) -> Heading
-    ensures { λ r. ⌜ r ≡ startOf (now (s .entry)) ⌝ }
+fn key_found(bytes: &[u8]) -> Heading
+    ensures { λ r. ⌜ r ≡ startOf (now (bytes .entry)) ⌝ }
 {
-    let n = find(s, 0, 61);
-    if n >= s.len() {
+    let n = find(bytes, 0, b'=');
+    if n >= bytes.len() {
         return Heading::Malformed;
     }
-    let k = key_of(front(s, n));
+    let k = key_of(front(bytes, n));
     match k {
         Number::Value(key) => Heading::Keyed(key, n),
         Number::Refused => Heading::Malformed,
@@ -564,27 +633,27 @@ fn key_found(s: &[u8]) -> Heading
 }
 
 // The same, where `value` is tried first.
-fn value_at(s: &[u8]) -> Heading
-    requires { ⌜ 6 ≤ length (now s) ⌝ }
-    ensures { λ r. ⌜ r ≡ startOf (now (s .entry)) ⌝ }
+fn value_at(bytes: &[u8]) -> Heading
+    requires { ⌜ 6 ≤ length (now bytes) ⌝ }
+    ensures { λ r. ⌜ r ≡ startOf (now (bytes .entry)) ⌝ }
 {
-    match word_of(&s[0..6]) {
-        0x01_3d65_756c_6176 => Heading::Keyed(5, 5), // value=
-        _ => key_found(s),
+    match word_of(&bytes[0..6]) {
+        0x01_3d65_756c_6176 => Heading::Keyed(VALUE as u64, 5), // value=
+        _ => key_found(bytes),
     }
 }
 
 // The same, where the keys of most lines are tried first.
-fn key_at(s: &[u8]) -> Heading
-    ensures { λ r. ⌜ r ≡ startOf (now (s .entry)) ⌝ }
+fn key_at(bytes: &[u8]) -> Heading
+    ensures { λ r. ⌜ r ≡ startOf (now (bytes .entry)) ⌝ }
 {
-    if s.len() < 6 {
-        return key_found(s);
+    if bytes.len() < 6 {
+        return key_found(bytes);
     }
-    match word_of(&s[0..5]) {
-        0x013d_6564_6f6e => Heading::Keyed(11, 4), // node=
-        0x013d_7478_6574 => Heading::Keyed(1, 4), // text=
-        _ => value_at(s),
+    match word_of(&bytes[0..5]) {
+        0x013d_6564_6f6e => Heading::Keyed(NODE as u64, 4), // node=
+        0x013d_7478_6574 => Heading::Keyed(TEXT as u64, 4), // text=
+        _ => value_at(bytes),
     }
 }
 
@@ -623,7 +692,7 @@ impl Cursor {
         if e >= v.len() {
             return Line::Faulty;
         }
-        if v[e] != 10 {
+        if v[e] != b'\n' {
             return Line::Faulty;
         }
         let end = at + n + 1 + e;
@@ -639,38 +708,38 @@ impl Cursor {
     }
 
     // What follows the `=` at the cursor, in the part of the sheet that ends with the line.
-    pub fn value(self, s: &[u8]) -> &[u8]
-        ensures { λ r. ⌜ now r ≡ drop (self .at + 1) (now (s .entry)) ⌝ }
+    pub fn value(self, bytes: &[u8]) -> &[u8]
+        ensures { λ r. ⌜ now r ≡ drop (self .at + 1) (now (bytes .entry)) ⌝ }
     {
         let at = self.at;
-        if at >= s.len() {
-            return rest(s, at);
+        if at >= bytes.len() {
+            return rest(bytes, at);
         }
-        rest(s, at + 1)
+        rest(bytes, at + 1)
     }
 
     // The item after the `=` or the comma at the cursor, in the part of the sheet that ends with the line.
-    pub fn item(self, s: &[u8]) -> Item
-        ensures { λ r. ⌜ r ≡ itemAt (now (s .entry)) self ⌝ }
+    pub fn item(self, bytes: &[u8]) -> Item
+        ensures { λ r. ⌜ r ≡ itemAt (now (bytes .entry)) self ⌝ }
     {
         let at = self.at;
         let line = self.line;
-        if at >= s.len() {
+        if at >= bytes.len() {
             return Item::End;
         }
-        let end = find(s, at + 1, 44);
+        let end = find(bytes, at + 1, b',');
         Item::Part(at + 1, Cursor { line, at: end })
     }
 
     // That item as an index.
-    pub fn number(self, s: &[u8]) -> Counted
-        ensures { λ r. ⌜ NumberRead (now (s .entry)) self r ⌝ }
+    pub fn number(self, bytes: &[u8]) -> Counted
+        ensures { λ r. ⌜ NumberRead (now (bytes .entry)) self r ⌝ }
     {
-        let i = self.item(s);
+        let i = self.item(bytes);
         match i {
             Item::Part(start, next) => {
                 let end = next.at;
-                let n = index_of(part_of(s, start, end));
+                let n = index_of(part_of(bytes, start, end));
                 match n {
                     Number::Value(v) => Counted::Value(v, next),
                     Number::Refused => Counted::Refused,

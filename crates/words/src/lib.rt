@@ -14,61 +14,61 @@ ghost use Rattle.words.specs.Bits.{member, added, digitOf, byteOf};
 pub const ROOM: usize = 16384;
 
 // A word of the slice.
-pub fn read(w: &[u32], i: usize) -> u32
-    ensures { λ r. ⌜ r ≡ getD (now (w .entry)) i 0 ⌝ }
+pub fn read(words: &[u32], i: usize) -> u32
+    ensures { λ r. ⌜ r ≡ getD (now (words .entry)) i 0 ⌝ }
 {
-    if i < w.len() {
-        return w[i];
+    if i < words.len() {
+        return words[i];
     }
     0
 }
 
 // A word of the log.
-pub fn word(w: &[u32], top: usize, i: usize) -> u32
-    ensures { λ r. ⌜ r ≡ getD (take top (now (w .entry))) i 0 ⌝ }
+pub fn word(words: &[u32], top: usize, i: usize) -> u32
+    ensures { λ r. ⌜ r ≡ getD (take top (now (words .entry))) i 0 ⌝ }
 {
     if i < top {
-        return read(w, i);
+        return read(words, i);
     }
     0
 }
 
-// The part from `a` to `e`, cut at the end.
-pub fn cut(w: &[u32], a: usize, e: usize) -> &[u32]
-    ensures { λ r. ⌜ now r ≡ part (now (w .entry)) a e ⌝ }
+// The part from `start` to `end`, cut at the end.
+pub fn cut(words: &[u32], start: usize, end: usize) -> &[u32]
+    ensures { λ r. ⌜ now r ≡ part (now (words .entry)) start end ⌝ }
 {
-    if e <= w.len() {
-        if a <= e {
-            return &w[a..e];
+    if end <= words.len() {
+        if start <= end {
+            return &words[start..end];
         }
-        return &w[e..e];
+        return &words[end..end];
     }
-    if a <= w.len() {
-        return &w[a..];
+    if start <= words.len() {
+        return &words[start..];
     }
-    &w[0..0]
+    &words[0..0]
 }
 
 // Another word in the place of one.
-pub fn put(w: &mut [u32], i: usize, x: u32)
-    ensures { λ _. ⌜ now (w .exit) ≡ set (now (w .entry)) i x ⌝ }
+pub fn put(words: &mut [u32], i: usize, word: u32)
+    ensures { λ _. ⌜ now (words .exit) ≡ set (now (words .entry)) i word ⌝ }
 {
-    if i < w.len() {
-        w[i] = x;
+    if i < words.len() {
+        words[i] = word;
     }
 }
 
 // A run of stores from `at` on.
-pub fn store(w: &mut [u32], at: usize, row: &[u32])
-    ensures { λ _. ⌜ now (w .exit) ≡ sets (now (w .entry)) at (now (row .entry)) ⌝ }
+pub fn store(words: &mut [u32], at: usize, row: &[u32])
+    ensures { λ _. ⌜ now (words .exit) ≡ sets (now (words .entry)) at (now (row .entry)) ⌝ }
 {
     let mut k = at;
     let mut i = 0;
     while i < row.len() {
-        if k >= w.len() {
+        if k >= words.len() {
             return;
         }
-        w[k] = row[i];
+        words[k] = row[i];
         k += 1;
         i += 1;
     }
@@ -88,81 +88,81 @@ fn has_room(len: usize, top: usize, n: usize) -> bool
 }
 
 // One word at the log's end, and the end after it.
-pub fn push(w: &mut [u32], top: usize, x: u32) -> usize
-    ensures { λ r. ⌜ Appended (now (w .entry)) top (x ∷ []) (now (w .exit)) r ⌝ }
+pub fn push(words: &mut [u32], top: usize, word: u32) -> usize
+    ensures { λ r. ⌜ Appended (now (words .entry)) top (word ∷ []) (now (words .exit)) r ⌝ }
 {
-    if has_room(w.len(), top, 1) {
-        w[top] = x;
+    if has_room(words.len(), top, 1) {
+        words[top] = word;
         return top + 1;
     }
     top
 }
 
 // A run of words at the log's end, all or none of it, and the end after it.
-pub fn append(w: &mut [u32], top: usize, row: &[u32]) -> usize
-    ensures { λ r. ⌜ Appended (now (w .entry)) top (now (row .entry)) (now (w .exit)) r ⌝ }
+pub fn append(words: &mut [u32], top: usize, row: &[u32]) -> usize
+    ensures { λ r. ⌜ Appended (now (words .entry)) top (now (row .entry)) (now (words .exit)) r ⌝ }
 {
-    if has_room(w.len(), top, row.len()) {
-        store(w, top, row);
+    if has_room(words.len(), top, row.len()) {
+        store(words, top, row);
         return top + row.len();
     }
     top
 }
 
 // The first 16,384 words become 0, the rest stays; a shorter slice stays whole.
-pub fn clear(w: &mut [u32])
-    ensures { λ _. ⌜ now (w .exit) ≡ cleared (now (w .entry)) ⌝ }
+pub fn clear(words: &mut [u32])
+    ensures { λ _. ⌜ now (words .exit) ≡ cleared (now (words .entry)) ⌝ }
 {
-    if w.len() < ROOM {
+    if words.len() < ROOM {
         return;
     }
     let mut i = 0;
     while i < ROOM {
-        w[i] = 0;
+        words[i] = 0;
         i += 1;
     }
 }
 
-// The word that has the bit of `p` alone.
-fn power(p: usize) -> u32
-    ensures { λ r. ⌜ r ≡ 2 ^ (p % 32) ⌝ }
+// The word that has the bit of `number` alone.
+fn power(number: usize) -> u32
+    ensures { λ r. ⌜ r ≡ 2 ^ (number % 32) ⌝ }
 {
-    1 << (p % 32)
+    1 << (number % 32)
 }
 
-// Whether `p` is in the set.
-pub fn has(w: &[u32], p: usize) -> bool
-    ensures { λ r. ⌜ r ≡ member (now (w .entry)) p ⌝ }
+// Whether `number` is in the set.
+pub fn has(words: &[u32], number: usize) -> bool
+    ensures { λ r. ⌜ r ≡ member (now (words .entry)) number ⌝ }
 {
-    let x = read(w, p / 32);
-    x / power(p) % 2 == 1
+    let x = read(words, number / 32);
+    x / power(number) % 2 == 1
 }
 
-// `p` joins the set, if the slice has a word for it.
-pub fn add(w: &mut [u32], p: usize)
-    ensures { λ _. ⌜ now (w .exit) ≡ added (now (w .entry)) p ⌝ }
+// `number` joins the set, if the slice has a word for it.
+pub fn add(words: &mut [u32], number: usize)
+    ensures { λ _. ⌜ now (words .exit) ≡ added (now (words .entry)) number ⌝ }
 {
-    if has(w, p) {
+    if has(words, number) {
         return;
     }
-    let i = p / 32;
-    if i < w.len() {
-        let x = w[i];
-        let q = power(p);
-        w[i] = x + q;
+    let i = number / 32;
+    if i < words.len() {
+        let x = words[i];
+        let q = power(number);
+        words[i] = x + q;
     }
 }
 
 // Digit `i`, modulo 16, of a word of sixteen hexadecimal digits, the lowest first.
-pub fn digit(w: u64, i: usize) -> usize
-    ensures { λ r. ⌜ r ≡ digitOf w i ⌝ }
+pub fn digit(word: u64, i: usize) -> usize
+    ensures { λ r. ⌜ r ≡ digitOf word i ⌝ }
 {
-    (w as usize >> (i % 16 * 4)) % 16
+    (word as usize >> (i % 16 * 4)) % 16
 }
 
 // Byte `i`, modulo 4, of a word of four, the lowest first.
-pub fn byte(w: u32, i: usize) -> usize
-    ensures { λ r. ⌜ r ≡ byteOf w i ⌝ }
+pub fn byte(word: u32, i: usize) -> usize
+    ensures { λ r. ⌜ r ≡ byteOf word i ⌝ }
 {
-    (w as usize >> (i % 4 * 8)) % 256
+    (word as usize >> (i % 4 * 8)) % 256
 }

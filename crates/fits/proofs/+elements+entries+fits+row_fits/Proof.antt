@@ -159,7 +159,7 @@ entries-loop-again : (t : ℕ) → entries-lts.Need-loop-again (
   fits-below t,
   fits.Post,
 ) (entries-at t) entries.Post entries-Inv-loop entries-μ-loop
-entries-loop-again t c = let f = c .before .before .before in let g = f .before .before .before .before in let e = g .before .before in let l = e .before .before .before .before in let a = l .before .before .before .before .before .args in (entries-more (a .a .now) (a .r .now) (a .y .now) (a .d) _ (l .loop .m) (l .loop .i) (l .loop .inv .0) (e .before .item .result) (e .declared .result) (e .before .before .before .loop-test .taken) (e .before .before .if1 .left) (e .before .item .ensures) (e .declared .ensures) (f .fits2 .last .1 .0) (f .before .before .item2 .result) (g .f .given .0 .0) (f .fits2 .result) (g .f .given .1) (f .before .before .item2 .ensures) (f .fits2 .ensures) (c .if2 .left), search needs)
+entries-loop-again t c = let f = c .before .before .before in let g = f .before .before .before .before in let e = g .before .before in let l = e .before .before .before .before in let a = l .before .before .before .before .before .args in (entries-more (a .rows .now) (a .value-row .now) (a .type-row .now) (a .depth) _ (l .loop .work) (l .loop .i) (l .loop .inv .0) (e .before .item .result) (e .declared .result) (e .before .before .before .loop-test .taken) (e .before .before .if1 .left) (e .before .item .ensures) (e .declared .ensures) (f .fits2 .last .1 .0) (f .before .before .item2 .result) (g .f .given .0 .0) (f .fits2 .result) (g .f .given .1) (f .before .before .item2 .ensures) (f .fits2 .ensures) (c .if2 .left), search needs)
 
 entries-returns-4 : (t : ℕ) → entries-lts.Need-returns-4 (
   item-reads.Asked,

@@ -7,10 +7,10 @@ use Rattle.fits.proofs.complete.Statement.{statement}
 use Rattle.fits.proofs.complete.Tie as tie
 
 abbrev Inv-loop : tie.InvT-loop
-Inv-loop r y i₀ i = Completes r y i
+Inv-loop value-row type-row i₀ i = Completes value-row type-row i
 
 abbrev μ-loop : tie.MeasureT-loop
-μ-loop r y i₀ i = length y - i
+μ-loop value-row type-row i₀ i = length type-row - i
 
 loop-holds : tie.Need-loop-holds Inv-loop μ-loop
 loop-holds c = search complete-start

@@ -7,10 +7,10 @@ use Rattle.fits.proofs.declared.Statement.{statement}
 use Rattle.fits.proofs.declared.Tie as tie
 
 abbrev Inv-loop : tie.InvT-loop
-Inv-loop y t i₀ i = Declares y t i
+Inv-loop type-row text i₀ i = Declares type-row text i
 
 abbrev μ-loop : tie.MeasureT-loop
-μ-loop y t i₀ i = length y - i
+μ-loop type-row text i₀ i = length type-row - i
 
 loop-holds : tie.Need-loop-holds Inv-loop μ-loop
 loop-holds c = search declared-start
@@ -22,7 +22,7 @@ returns-2 : tie.Need-returns-2 Inv-loop μ-loop
 returns-2 c = search declared-hit
 
 loop-again : tie.Need-loop-again Inv-loop μ-loop
-loop-again c = let l = c .before .before .before .before in let a = l .before .before .args in declared-on (a .y .now) (a .t) (l .loop .i) (l .loop .inv) (c .before .item .result) (c .before .before .before .loop-test .taken) (c .before .before .if1 .left) (c .before .item .ensures) (c .if2 .left)
+loop-again c = let l = c .before .before .before .before in let a = l .before .before .args in declared-on (a .type-row .now) (a .text) (l .loop .i) (l .loop .inv) (c .before .item .result) (c .before .before .before .loop-test .taken) (c .before .before .if1 .left) (c .before .item .ensures) (c .if2 .left)
 
 returns-3 : tie.Need-returns-3 Inv-loop μ-loop
 returns-3 c = search declared-end

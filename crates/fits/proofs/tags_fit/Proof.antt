@@ -8,10 +8,10 @@ use Rattle.fits.proofs.tags_fit.Statement.{statement}
 use Rattle.fits.proofs.tags_fit.Tie as tie
 
 abbrev Inv-loop : tie.InvT-loop
-Inv-loop a m₀ r y i₀ m i = Tagged a r y m₀ m i × (length m ≡ length m₀)
+Inv-loop rows work₀ line ty i₀ work i = Tagged rows line ty work₀ work i × (length work ≡ length work₀)
 
 abbrev μ-loop : tie.MeasureT-loop
-μ-loop a m₀ r y i₀ m i = length r - i
+μ-loop rows work₀ line ty i₀ work i = length line - i
 
 loop-holds : tie.Need-loop-holds Inv-loop μ-loop
 loop-holds c = (search tags-start, search needs)
@@ -23,7 +23,7 @@ returns-2 : tie.Need-returns-2 Inv-loop μ-loop
 returns-2 c = search tags-off
 
 loop-again : tie.Need-loop-again Inv-loop μ-loop
-loop-again c = let f = c .before .before .before in let l = f .before .before .before .before .before in let a = l .before .before .before .before .args in (tags-on (a .a .now) (a .r .now) (a .y) _ (l .loop .m) (l .loop .i) (l .loop .inv .0) (f .value-fits .last .1 .0) (f .before .before .item .result) (f .value-fits .result) (f .before .before .before .before .loop-test .taken) (f .before .before .before .if1 .left) (f .before .before .item .ensures) (f .value-fits .ensures) (c .if2 .left), search needs)
+loop-again c = let f = c .before .before .before in let l = f .before .before .before .before .before in let a = l .before .before .before .before .args in (tags-on (a .rows .now) (a .line .now) (a .ty) _ (l .loop .work) (l .loop .i) (l .loop .inv .0) (f .value-fits .last .1 .0) (f .before .before .item .result) (f .value-fits .result) (f .before .before .before .before .loop-test .taken) (f .before .before .before .if1 .left) (f .before .before .item .ensures) (f .value-fits .ensures) (c .if2 .left), search needs)
 
 returns-3 : tie.Need-returns-3 Inv-loop μ-loop
 returns-3 c = search tags-done

@@ -7,10 +7,10 @@ use Rattle.fits.proofs.there.Statement.{statement}
 use Rattle.fits.proofs.there.Tie as tie
 
 abbrev Inv-loop : tie.InvT-loop
-Inv-loop r t i₀ i = There r t i
+Inv-loop line text i₀ i = There line text i
 
 abbrev μ-loop : tie.MeasureT-loop
-μ-loop r t i₀ i = length r - i
+μ-loop line text i₀ i = length line - i
 
 loop-holds : tie.Need-loop-holds Inv-loop μ-loop
 loop-holds c = search there-start
@@ -22,7 +22,7 @@ returns-2 : tie.Need-returns-2 Inv-loop μ-loop
 returns-2 c = search there-hit
 
 loop-again : tie.Need-loop-again Inv-loop μ-loop
-loop-again c = let l = c .before .before .before .before in let a = l .before .before .args in there-on (a .r .now) (a .t) (l .loop .i) (l .loop .inv) (c .before .item .result) (c .before .before .before .loop-test .taken) (c .before .before .if1 .left) (c .before .item .ensures) (c .if2 .left)
+loop-again c = let l = c .before .before .before .before in let a = l .before .before .args in there-on (a .line .now) (a .text) (l .loop .i) (l .loop .inv) (c .before .item .result) (c .before .before .before .loop-test .taken) (c .before .before .if1 .left) (c .before .item .ensures) (c .if2 .left)
 
 returns-3 : tie.Need-returns-3 Inv-loop μ-loop
 returns-3 c = search there-end

@@ -18,7 +18,7 @@ depth-of-requires c κs =
     let z = c .before .before .before .before .before .before .before .before .before .before .before .args in
     let k = c .before .before .before .before .before .key-of in
     let u = c .before .before .is-full in
-    (key-of-row (z .r .now) (c .before .before .before .before .before .before .tag .result) (k .result) (c .before .before .before .before .before .before .tag .ensures) (k .ensures), key-of-line (z .a .now) (k .result) (u .result) (u .ensures) (c .before .if2 .left))
+    (key-of-row (z .line .now) (c .before .before .before .before .before .before .tag .result) (k .result) (c .before .before .before .before .before .before .tag .ensures) (k .ensures), key-of-line (z .rows .now) (k .result) (u .result) (u .ensures) (c .before .if2 .left))
 
 returns-3 : tie.Need-returns-3
 returns-3 c = search (judged-5, needs)
@@ -42,7 +42,7 @@ returns-7 c =
     let d = c .before .before .before .before .before .before .before .before .before .before .before .before .depth-of in
     let y = c .before .before .before .before .before .before .before .before .typed-line in
     let x = c .before .before .before .use-nodes in
-    judged-0 (s .args .sheet .now) (s .args .a .now) (s .args .b .now) (s .args .r .now) (s .pre) (g .result) (k .result) (g .ensures) (k .ensures)
+    judged-0 (s .args .sheet .now) (s .args .rows .now) (s .args .work .now) (s .args .line .now) (s .pre) (g .result) (k .result) (g .ensures) (k .ensures)
     (o .result) (o .ensures) (c .before .before .before .before .before .before .before .before .before .before .before .before .before .before .before .before .if1 .left) (u .result) (u .ensures) (c .before .before .before .before .before .before .before .before .before .before .before .before .before .before .if2 .left) (d .result) (d .ensures) (c .before .before .before .before .before .before .before .before .before .before .before .if3 .left)
     (c .before .before .before .before .before .before .before .before .before .before .if4 .left) (y .last .1 .0) (y .result) (y .ensures) (c .before .before .before .before .before .if5 .left) (x .last .1 .0) (x .result) (x .ensures) (c .if6 .left)
 

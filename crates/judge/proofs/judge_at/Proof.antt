@@ -11,7 +11,7 @@ returns : tie.Need-returns
 returns c =
     let s = c .before .before .before .before .before .before .before .before .args in
     let j = c .before .before .judge in
-    subst (λ (x : List ℕ). Judged (s .sheet .now) (s .a .now) (s .b .now) x (j .last .1 .1 .0) (j .result .number) (j .result .key) (j .result .depth)) (c .before .before .before .before .cut .ensures) (j .ensures)
+    subst (λ (x : List ℕ). Judged (s .sheet .now) (s .rows .now) (s .work .now) x (j .last .1 .1 .0) (j .result .number) (j .result .key) (j .result .depth)) (c .before .before .before .before .cut .ensures) (j .ensures)
 
 pub judge-at-spec : {M : Type 1} → statement M
 judge-at-spec = tie.close (tie.spec (λ c κs. search needs) (λ c κs. search needs) (λ c. search needs) returns)

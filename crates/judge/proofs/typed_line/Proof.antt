@@ -6,13 +6,13 @@ use Rattle.judge.proofs.typed_line.Statement.{statement}
 use Rattle.judge.proofs.typed_line.Tie as tie
 
 typed-requires : tie.Need-typed-requires
-typed-requires c κs = known-none (c .before .before .before .before .before .args .a .now) (c .before .before .before .before .before .args .b .now)
+typed-requires c κs = known-none (c .before .before .before .before .before .args .rows .now) (c .before .before .before .before .before .args .work .now)
 
 returns : tie.Need-returns
 returns c =
     let s = c .before .before .before .before .before .before .before .before in
     let t = c .before .before .typed in
-    typed-early (s .args .a .now) (s .args .b .now) (t .last .1 .0) (s .args .r .now) (s .args .k) (t .result) (s .pre) (t .ensures) (omega arith)
+    typed-early (s .args .rows .now) (s .args .work .now) (t .last .1 .0) (s .args .line .now) (s .args .key) (t .result) (s .pre) (t .ensures) (omega arith)
 
 returns-2 : tie.Need-returns-2
 returns-2 c = search (typed-late, needs)

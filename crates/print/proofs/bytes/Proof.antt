@@ -7,10 +7,10 @@ use Rattle.print.proofs.bytes.Statement.{statement}
 use Rattle.print.proofs.bytes.Tie as tie
 
 abbrev Inv-loop : tie.InvT-loop
-Inv-loop out₀ at text k₀ i₀ out k i = Copying text out₀ at out k i
+Inv-loop out₀ at bytes k₀ i₀ out k i = Copying bytes out₀ at out k i
 
 abbrev μ-loop : tie.MeasureT-loop
-μ-loop out₀ at text k₀ i₀ out k i = length text - i
+μ-loop out₀ at bytes k₀ i₀ out k i = length bytes - i
 
 loop-holds : tie.Need-loop-holds Inv-loop μ-loop
 loop-holds c = search (copying-start, needs)

@@ -8,10 +8,10 @@ use Rattle.scan.proofs.digits.Statement.{statement}
 use Rattle.scan.proofs.digits.Tie as tie
 
 abbrev Inv-loop : tie.InvT-loop
-Inv-loop s n₀ i₀ n i = Reading s n i
+Inv-loop bytes n₀ i₀ n i = Reading bytes n i
 
 abbrev μ-loop : tie.MeasureT-loop
-μ-loop s n₀ i₀ n i = length s - i
+μ-loop bytes n₀ i₀ n i = length bytes - i
 
 loop-holds : tie.Need-loop-holds Inv-loop μ-loop
 loop-holds c = search (reading-start, needs)

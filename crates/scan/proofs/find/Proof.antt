@@ -7,10 +7,10 @@ use Rattle.scan.proofs.find.Statement.{statement}
 use Rattle.scan.proofs.find.Tie as tie
 
 abbrev Inv-loop : tie.InvT-loop
-Inv-loop s from b i₀ i = Finding b s from i
+Inv-loop bytes from byte i₀ i = Finding byte bytes from i
 
 abbrev μ-loop : tie.MeasureT-loop
-μ-loop s from b i₀ i = length s - i
+μ-loop bytes from byte i₀ i = length bytes - i
 
 loop-holds : tie.Need-loop-holds Inv-loop μ-loop
 loop-holds c = search (finding-start, needs)

@@ -5,7 +5,7 @@ use Rattle.scan.proofs.front.Statement.{statement}
 use Rattle.scan.proofs.front.Tie as tie
 
 returns : tie.Need-returns
-returns c = front-is (c .before .before .args .s .now) (c .before .before .args .e)
+returns c = front-is (c .before .before .args .bytes .now) (c .before .before .args .end)
 
 returns-2 : tie.Need-returns-2
 returns-2 c = search (front-all, needs)

@@ -7,7 +7,7 @@ use Rattle.scan.proofs.part_of.Statement.{statement}
 use Rattle.scan.proofs.part_of.Tie as tie
 
 returns-2 : tie.Need-returns-2
-returns-2 c = let x = c .before .before .before .before .args in part-none (x .s .now) (x .a) (x .e) (omega arith)
+returns-2 c = let x = c .before .before .before .before .args in part-none (x .bytes .now) (x .start) (x .end) (omega arith)
 
 returns-3 : tie.Need-returns-3
 returns-3 c = search (rest-part, needs)

@@ -8,10 +8,10 @@ use Rattle.scan.proofs.printable_end.Statement.{statement}
 use Rattle.scan.proofs.printable_end.Tie as tie
 
 abbrev Inv-loop : tie.InvT-loop
-Inv-loop s i₀ i = Stepping s (plainTo s) i
+Inv-loop bytes i₀ i = Stepping bytes (plainTo bytes) i
 
 abbrev μ-loop : tie.MeasureT-loop
-μ-loop s i₀ i = length s - i
+μ-loop bytes i₀ i = length bytes - i
 
 loop-holds : tie.Need-loop-holds Inv-loop μ-loop
 loop-holds c = search (stepping-start, needs)
@@ -20,16 +20,16 @@ returns : tie.Need-returns Inv-loop μ-loop
 returns c = search (first-stop, needs)
 
 returns-2 : tie.Need-returns-2 Inv-loop μ-loop
-returns-2 c = let l = c .before .before .before .before .before .before .before .loop in let q = c .before .before .before .before .before .before .loop-test .taken in second-stop (c .before .before .before .before .before .before .before .before .before .args .s .now) _ (l .i) (l .inv) q (c .before .before .before .before .plain .result) (c .before .before .before .before .plain .ensures) (c .before .before .before .if1 .left) (c .before .plain2 .result) (c .before .plain2 .ensures) (c .if2 .taken)
+returns-2 c = let l = c .before .before .before .before .before .before .before .loop in let q = c .before .before .before .before .before .before .loop-test .taken in second-stop (c .before .before .before .before .before .before .before .before .before .args .bytes .now) _ (l .i) (l .inv) q (c .before .before .before .before .plain .result) (c .before .before .before .before .plain .ensures) (c .before .before .before .if1 .left) (c .before .plain2 .result) (c .before .plain2 .ensures) (c .if2 .taken)
 
 returns-3 : tie.Need-returns-3 Inv-loop μ-loop
-returns-3 c = let l = c .before .before .before .before .before .before .before .before .before .before .loop in let q = c .before .before .before .before .before .before .before .before .before .loop-test .taken in third-stop (c .before .before .before .before .before .before .before .before .before .before .before .before .args .s .now) _ (l .i) (l .inv) q (c .before .before .before .before .before .before .before .plain .result) (c .before .before .before .before .before .before .before .plain .ensures) (c .before .before .before .before .before .before .if1 .left) (c .before .before .before .before .plain2 .result) (c .before .before .before .before .plain2 .ensures) (c .before .before .before .if2 .left) (c .before .plain3 .result) (c .before .plain3 .ensures) (c .if3 .taken)
+returns-3 c = let l = c .before .before .before .before .before .before .before .before .before .before .loop in let q = c .before .before .before .before .before .before .before .before .before .loop-test .taken in third-stop (c .before .before .before .before .before .before .before .before .before .before .before .before .args .bytes .now) _ (l .i) (l .inv) q (c .before .before .before .before .before .before .before .plain .result) (c .before .before .before .before .before .before .before .plain .ensures) (c .before .before .before .before .before .before .if1 .left) (c .before .before .before .before .plain2 .result) (c .before .before .before .before .plain2 .ensures) (c .before .before .before .if2 .left) (c .before .plain3 .result) (c .before .plain3 .ensures) (c .if3 .taken)
 
 returns-4 : tie.Need-returns-4 Inv-loop μ-loop
-returns-4 c = let l = c .before .before .before .before .before .before .before .before .before .before .before .before .before .loop in let q = c .before .before .before .before .before .before .before .before .before .before .before .before .loop-test .taken in fourth-stop (c .before .before .before .before .before .before .before .before .before .before .before .before .before .before .before .args .s .now) _ (l .i) (l .inv) q (c .before .before .before .before .before .before .before .before .before .before .plain .result) (c .before .before .before .before .before .before .before .before .before .before .plain .ensures) (c .before .before .before .before .before .before .before .before .before .if1 .left) (c .before .before .before .before .before .before .before .plain2 .result) (c .before .before .before .before .before .before .before .plain2 .ensures) (c .before .before .before .before .before .before .if2 .left) (c .before .before .before .before .plain3 .result) (c .before .before .before .before .plain3 .ensures) (c .before .before .before .if3 .left) (c .before .plain4 .result) (c .before .plain4 .ensures) (c .if4 .taken)
+returns-4 c = let l = c .before .before .before .before .before .before .before .before .before .before .before .before .before .loop in let q = c .before .before .before .before .before .before .before .before .before .before .before .before .loop-test .taken in fourth-stop (c .before .before .before .before .before .before .before .before .before .before .before .before .before .before .before .args .bytes .now) _ (l .i) (l .inv) q (c .before .before .before .before .before .before .before .before .before .before .plain .result) (c .before .before .before .before .before .before .before .before .before .before .plain .ensures) (c .before .before .before .before .before .before .before .before .before .if1 .left) (c .before .before .before .before .before .before .before .plain2 .result) (c .before .before .before .before .before .before .before .plain2 .ensures) (c .before .before .before .before .before .before .if2 .left) (c .before .before .before .before .plain3 .result) (c .before .before .before .before .plain3 .ensures) (c .before .before .before .if3 .left) (c .before .plain4 .result) (c .before .plain4 .ensures) (c .if4 .taken)
 
 loop-again : tie.Need-loop-again Inv-loop μ-loop
-loop-again c = let l = c .before .before .before .before .before .before .before .before .before .before .before .before .before .loop in let q = c .before .before .before .before .before .before .before .before .before .before .before .before .loop-test .taken in stepping-on (c .before .before .before .before .before .before .before .before .before .before .before .before .before .before .before .args .s .now) _ (l .i) (l .inv) q (c .before .before .before .before .before .before .before .before .before .before .plain .result) (c .before .before .before .before .before .before .before .before .before .before .plain .ensures) (c .before .before .before .before .before .before .before .before .before .if1 .left) (c .before .before .before .before .before .before .before .plain2 .result) (c .before .before .before .before .before .before .before .plain2 .ensures) (c .before .before .before .before .before .before .if2 .left) (c .before .before .before .before .plain3 .result) (c .before .before .before .before .plain3 .ensures) (c .before .before .before .if3 .left) (c .before .plain4 .result) (c .before .plain4 .ensures) (c .if4 .left)
+loop-again c = let l = c .before .before .before .before .before .before .before .before .before .before .before .before .before .loop in let q = c .before .before .before .before .before .before .before .before .before .before .before .before .loop-test .taken in stepping-on (c .before .before .before .before .before .before .before .before .before .before .before .before .before .before .before .args .bytes .now) _ (l .i) (l .inv) q (c .before .before .before .before .before .before .before .before .before .before .plain .result) (c .before .before .before .before .before .before .before .before .before .before .plain .ensures) (c .before .before .before .before .before .before .before .before .before .if1 .left) (c .before .before .before .before .before .before .before .plain2 .result) (c .before .before .before .before .before .before .before .plain2 .ensures) (c .before .before .before .before .before .before .if2 .left) (c .before .before .before .before .plain3 .result) (c .before .before .before .before .plain3 .ensures) (c .before .before .before .if3 .left) (c .before .plain4 .result) (c .before .plain4 .ensures) (c .if4 .left)
 
 returns-5 : tie.Need-returns-5 Inv-loop μ-loop
 returns-5 c = search (stepping-rest, needs)

@@ -8,10 +8,10 @@ use Rattle.scan.proofs.printable_to.Statement.{statement}
 use Rattle.scan.proofs.printable_to.Tie as tie
 
 abbrev Inv-loop : tie.InvT-loop
-Inv-loop s i i₀ i' = Passing s (i + plainTo (drop i s)) i'
+Inv-loop bytes i i₀ i' = Passing bytes (i + plainTo (drop i bytes)) i'
 
 abbrev μ-loop : tie.MeasureT-loop
-μ-loop s i i₀ i' = length s - i'
+μ-loop bytes i i₀ i' = length bytes - i'
 
 loop-holds : tie.Need-loop-holds Inv-loop μ-loop
 loop-holds c = search (passing-from, needs)

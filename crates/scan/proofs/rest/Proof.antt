@@ -5,7 +5,7 @@ use Rattle.scan.proofs.rest.Statement.{statement}
 use Rattle.scan.proofs.rest.Tie as tie
 
 returns : tie.Need-returns
-returns c = rest-is (c .before .before .args .s .now) (c .before .before .args .a)
+returns c = rest-is (c .before .before .args .bytes .now) (c .before .before .args .start)
 
 returns-2 : tie.Need-returns-2
 returns-2 c = search (rest-none, needs)

@@ -6,10 +6,10 @@ use Rattle.scan.proofs.same_bytes.Statement.{statement}
 use Rattle.scan.proofs.same_bytes.Tie as tie
 
 abbrev Inv-loop : tie.InvT-loop
-Inv-loop a b i₀ i = Comparing a b i
+Inv-loop left right i₀ i = Comparing left right i
 
 abbrev μ-loop : tie.MeasureT-loop
-μ-loop a b i₀ i = i
+μ-loop left right i₀ i = i
 
 returns : tie.Need-returns Inv-loop μ-loop
 returns c = search (comparing-never, needs)
@@ -18,7 +18,7 @@ loop-holds : tie.Need-loop-holds Inv-loop μ-loop
 loop-holds c = search (comparing-start, needs)
 
 returns-2 : tie.Need-returns-2 Inv-loop μ-loop
-returns-2 c = let l = c .before .before .before .before in let x = l .before .before .args in same-last (x .a .now) (x .b .now) (l .loop .i - 1) (c .if2 .taken)
+returns-2 c = let l = c .before .before .before .before in let x = l .before .before .args in same-last (x .left .now) (x .right .now) (l .loop .i - 1) (c .if2 .taken)
 
 loop-again : tie.Need-loop-again Inv-loop μ-loop
 loop-again c = search (comparing-on, needs)

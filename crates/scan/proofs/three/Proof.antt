@@ -6,7 +6,7 @@ use Rattle.scan.proofs.three.Statement.{statement}
 use Rattle.scan.proofs.three.Tie as tie
 
 returns : tie.Need-returns
-returns c = let a = c .before .before .before .args in packed-join (a .s .now) (a .i) 2 1 (c .before .two .result) (c .one .result) (omega arith) (c .before .two .ensures) (c .one .ensures)
+returns c = let a = c .before .before .before .args in packed-join (a .bytes .now) (a .i) 2 1 (c .before .two .result) (c .one .result) (omega arith) (c .before .two .ensures) (c .one .ensures)
 
 pub three-spec : {M : Type 1} → statement M
 three-spec = tie.close (tie.spec (λ c κs. search needs) (λ c. search needs) (λ c κs. search needs) (λ c. search needs) (λ c. search needs) returns)

@@ -10,9 +10,9 @@ use Rattle.words.proofs.add.Tie as tie
 returns : tie.Need-returns
 returns c = search (added-there, needs)
 
-add-w : tie.Need-add-w
-add-w c = let s = c .before .before .before in let a = s .before .before .before .before .args in
-    omega (arith, add-room (a .w .now) (a .p) (c .power .result) (omega (arith, c .before .slice-known2 .given (a .p / 32))) (c .power .ensures) (sym (s .before .has .ensures) ∙ s .if1 .left))
+add-words : tie.Need-add-words
+add-words c = let s = c .before .before .before in let a = s .before .before .before .before .args in
+    omega (arith, add-room (a .words .now) (a .number) (c .power .result) (omega (arith, c .before .slice-known2 .given (a .number / 32))) (c .power .ensures) (sym (s .before .has .ensures) ∙ s .if1 .left))
 
 returns-2 : tie.Need-returns-2
 returns-2 c = search (added-new, needs)
@@ -30,7 +30,7 @@ add-spec =
     (λ c. search needs)
     (λ c. search needs)
     (λ c κs. search needs)
-    add-w
+    add-words
     (λ c. search needs)
     (λ c. search needs)
     (λ c. search needs)

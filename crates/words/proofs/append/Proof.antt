@@ -9,7 +9,7 @@ use Rattle.words.proofs.append.Tie as tie
 
 add-result : tie.Need-add-result
 add-result c = let s = c .before .before .before .before in let a = s .before .before .before .before .args in
-    omega (arith, room-within (length (a .w .now)) (a .top) (length (a .row .now)) (sym (s .before .has-room .ensures) ∙ s .if1 .taken) .0)
+    omega (arith, room-within (length (a .words .now)) (a .top) (length (a .row .now)) (sym (s .before .has-room .ensures) ∙ s .if1 .taken) .0)
 
 returns : tie.Need-returns
 returns c = search (append-stored, needs)

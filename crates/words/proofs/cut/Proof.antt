@@ -6,13 +6,13 @@ use Rattle.words.proofs.cut.Statement.{statement}
 use Rattle.words.proofs.cut.Tie as tie
 
 returns-2 : tie.Need-returns-2
-returns-2 c = let x = c .before .before .before .args in part-none (x .w .now) (x .a) (x .e) (omega arith)
+returns-2 c = let x = c .before .before .before .args in part-none (x .words .now) (x .start) (x .end) (omega arith)
 
 returns-3 : tie.Need-returns-3
-returns-3 c = let x = c .before .before .before .args in part-rest (x .w .now) (x .a) (x .e) (omega arith)
+returns-3 c = let x = c .before .before .before .args in part-rest (x .words .now) (x .start) (x .end) (omega arith)
 
 returns-4 : tie.Need-returns-4
-returns-4 c = let x = c .before .before .before .args in part-past-end (x .w .now) (x .a) (x .e) (omega arith)
+returns-4 c = let x = c .before .before .before .args in part-past-end (x .words .now) (x .start) (x .end) (omega arith)
 
 pub cut-spec : {M : Type 1} → statement M
 cut-spec =

@@ -7,7 +7,7 @@ use Rattle.words.proofs.has.Statement.{statement}
 use Rattle.words.proofs.has.Tie as tie
 
 div-result : tie.Need-div-result
-div-result c = rw (c .power .ensures) (pow-pos (c .before .before .before .args .p % 32))
+div-result c = rw (c .power .ensures) (pow-pos (c .before .before .before .args .number % 32))
 
 returns : tie.Need-returns
 returns c = search (has-is, needs)

@@ -7,10 +7,10 @@ use Rattle.words.proofs.store.Statement.{statement}
 use Rattle.words.proofs.store.Tie as tie
 
 abbrev Inv-loop : tie.InvT-loop
-Inv-loop w₀ at row k₀ i₀ w k i = Storing row w₀ at w k i
+Inv-loop words₀ at row k₀ i₀ words k i = Storing row words₀ at words k i
 
 abbrev μ-loop : tie.MeasureT-loop
-μ-loop w₀ at row k₀ i₀ w k i = length row - i
+μ-loop words₀ at row k₀ i₀ words k i = length row - i
 
 loop-holds : tie.Need-loop-holds Inv-loop μ-loop
 loop-holds c = search (storing-start, needs)

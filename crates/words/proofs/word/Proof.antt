@@ -7,7 +7,7 @@ use Rattle.words.proofs.word.Statement.{statement}
 use Rattle.words.proofs.word.Tie as tie
 
 returns : tie.Need-returns
-returns c = let a = c .before .before .before .args in c .read .ensures ∙ log-read (a .w .now) (a .top) (a .i) (omega arith)
+returns c = let a = c .before .before .before .args in c .read .ensures ∙ log-read (a .words .now) (a .top) (a .i) (omega arith)
 
 returns-2 : tie.Need-returns-2
 returns-2 c = search log-past
