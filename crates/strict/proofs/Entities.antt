@@ -8,7 +8,7 @@ use native.Mathlib.Numerals.{add-one}
 use native.Mathlib.Omega.{arith}
 use borrow.Author.Tests.{not-true, not-false}
 use lib.Dec.{eqb}
-use lib.ListN.{getD, length, drop, length-drop}
+use lib.ListN.{getD, length, drop}
 use types.Run.{OneOf, miss}
 use denote.Enum.Declared.{tagOf}
 use Rattle.value.proofs.Shape.{the-type}
@@ -16,9 +16,7 @@ use Rattle.cedar.specs.Evaluate.{isNil}
 use Rattle.cedar.specs.Rows.{stop, Row, rbool, rlong, rtext, rent, rset, rrec}
 use Rattle.cedar.specs.Numbered.{Give, made, old, NOut, give, fails, stays, truly, rEnt, rText, rRec, giveRow, memN, anyN, entryOf, isSome, orFail, allRent, nentity, nIn, nTargets, onEntries}
 use Rattle.cedar.specs.Value.{onSome}
-use Rattle.cedar.specs.Types.{Ty, tent, Schema}
-use Rattle.cedar.specs.Numbered.{Out, out, make, nlineOr, nLeft, nWalk}
-use Rattle.cedar.specs.Residual.{lit, err}
+use Rattle.cedar.specs.Numbered.{nlineOr}
 use Rattle.sheet.specs.Forms.{items, at, mark}
 use Rattle.sheet.specs.Content.{lookUp, nEnv, lineGiven, known}
 use Rattle.table.specs.Layout.{held}
@@ -28,60 +26,59 @@ use Rattle.value.specs.declared.Shape.{Shape}
 use Rattle.value.specs.declared.Shape.the-variants.{Bool as Boolˢ, Long, Text, Entity, Set, Record}
 use Rattle.value.proofs.Lists.{Going, uncons, spent}
 use Rattle.strict.specs.Gives.{outOf, values, valueIn, modeOf, envIn}
-use Rattle.strict.specs.Lookups.{stateIn, lineIn, partOfLine, partIn, lookFound, lookRow, lookIn, lookValue, lookAttr, takenOf, presentOf, getOut, hasOut, tagLook, gettagOut, hastagOut, isRentAt, inKnownOut, inUnknownOut, inListOut, inOut, walkStep, walkFrom}
+use Rattle.strict.specs.Lookups.{ATTRIBUTES, TAGS, ANCESTORS, stateIn, lineIn, partOfLine, partIn, lookFound, lookRow, lookIn, lookValue, lookAttr, takenOf, presentOf, getOut, hasOut, tagLook, gettagOut, hastagOut, isRentAt, inKnownOut, inUnknownOut, inListOut, inOut, walkStep, walkFrom}
 use Rattle.strict.specs.declared.Given.{Given}
 use Rattle.strict.specs.declared.Given.the-variants.{Bool as Boolᵍ, Fails, Stays}
 use Rattle.strict.specs.declared.entity.Part.{Part}
 use Rattle.strict.specs.declared.entity.Part.the-variants.{Known, Empty, Unknown}
 use Rattle.strict.specs.declared.entity.Look.{Look}
 use Rattle.strict.specs.declared.entity.Look.the-variants.{At as Atˡ, Missing, Unknown as Unknownˡ, Bad}
-use Rattle.strict.specs.declared.entity.Walked.{Walked}
 use Rattle.strict.specs.declared.entity.Walked.the-variants.{Holds, Fails as Failsʷ, Left}
 use Rattle.strict.proofs.Shapes.{value-shape, other-text, other-entity, other-set}
 
--- ---- known parts
+-- ---- known parts: what stands for one, where e does for nothing at all
 
-abbrev partGive : Give → Part → Option Give
+abbrev pub partGive : Give → Part → Option Give
 partGive e (Known n) = some (old n)
 partGive e Empty = some e
 partGive e Unknown = none
 
-given-or : (e : Give) (x : ℕ) (b : Bool) → cond b none (some (old x)) ≡ partGive e (cond b Unknown (Known x))
+pub given-or : (e : Give) (x : ℕ) (b : Bool) → cond b none (some (old x)) ≡ partGive e (cond b Unknown (Known x))
 given-or e x true = refl
 given-or e x false = refl
 
 module _ (c : Bool) (a : List ℕ) (k t : ℕ) where
-  attrs-is : nentity (envIn c a) k t .attrs ≡ partGive (made (rrec stop)) (partIn c a k t 1)
+  pub attrs-is : nentity (envIn c a) k t .attrs ≡ partGive (made (rrec stop)) (partIn c a k t ATTRIBUTES)
   unfolding envIn nEnv partIn lineIn stateIn
   attrs-is = go c (lookUp (held [] a []) k t)
     where
-      go : (b : Bool) (o : Option (List ℕ)) → nlineOr (lineGiven (modeOf b) o) .attrs ≡ partGive (made (rrec stop)) (partOfLine b o 1)
+      go : (b : Bool) (o : Option (List ℕ)) → nlineOr (lineGiven (modeOf b) o) .attrs ≡ partGive (made (rrec stop)) (partOfLine b o ATTRIBUTES)
       go true none = refl
       go false none = refl
-      go b (some r) = given-or (made (rrec stop)) (at r 1) (eqb (at r 1) mark)
+      go b (some r) = given-or (made (rrec stop)) (at r ATTRIBUTES) (eqb (at r ATTRIBUTES) mark)
 
-  tags-is : nentity (envIn c a) k t .tags ≡ partGive (made (rrec stop)) (partIn c a k t 2)
+  tags-is : nentity (envIn c a) k t .tags ≡ partGive (made (rrec stop)) (partIn c a k t TAGS)
   unfolding envIn nEnv partIn lineIn stateIn
   tags-is = go c (lookUp (held [] a []) k t)
     where
-      go : (b : Bool) (o : Option (List ℕ)) → nlineOr (lineGiven (modeOf b) o) .tags ≡ partGive (made (rrec stop)) (partOfLine b o 2)
+      go : (b : Bool) (o : Option (List ℕ)) → nlineOr (lineGiven (modeOf b) o) .tags ≡ partGive (made (rrec stop)) (partOfLine b o TAGS)
       go true none = refl
       go false none = refl
-      go b (some r) = given-or (made (rrec stop)) (at r 2) (eqb (at r 2) mark)
+      go b (some r) = given-or (made (rrec stop)) (at r TAGS) (eqb (at r TAGS) mark)
 
-  ancestors-is : nentity (envIn c a) k t .ancestors ≡ partGive (made (rset [])) (partIn c a k t 3)
+  ancestors-is : nentity (envIn c a) k t .ancestors ≡ partGive (made (rset [])) (partIn c a k t ANCESTORS)
   unfolding envIn nEnv partIn lineIn stateIn
   ancestors-is = go c (lookUp (held [] a []) k t)
     where
-      go : (b : Bool) (o : Option (List ℕ)) → nlineOr (lineGiven (modeOf b) o) .ancestors ≡ partGive (made (rset [])) (partOfLine b o 3)
+      go : (b : Bool) (o : Option (List ℕ)) → nlineOr (lineGiven (modeOf b) o) .ancestors ≡ partGive (made (rset [])) (partOfLine b o ANCESTORS)
       go true none = refl
       go false none = refl
-      go b (some r) = given-or (made (rset [])) (at r 3) (eqb (at r 3) mark)
+      go b (some r) = given-or (made (rset [])) (at r ANCESTORS) (eqb (at r ANCESTORS) mark)
 
 -- ---- fields
 
 -- what is made of a look-up
-abbrev lookAs : {A : Type 0} → A → (ℕ → A) → (Option ℕ → A) → Look → A
+abbrev pub lookAs : {A : Type 0} → A → (ℕ → A) → (Option ℕ → A) → Look → A
 lookAs d w g (Atˡ x) = g (some x)
 lookAs d w g Missing = g none
 lookAs d w g (Unknownˡ k) = w k
@@ -107,11 +104,11 @@ module _ (c : Bool) (a : List ℕ) {A : Type 0} (d : A) (w : ℕ → A) (g : Opt
   in-part k Empty = refl
   in-part k Unknown = refl
 
-  in-value : (r : Row) → onEntries (envIn c a) (values a) d (λ k i. w k) r (λ e. g (entryOf u e)) ≡ lookAs d w g (lookValue c a r u)
+  pub in-value : (r : Row) → onEntries (envIn c a) (values a) d (λ k i. w k) r (λ e. g (entryOf u e)) ≡ lookAs d w g (lookValue c a r u)
   in-value (rbool b) = refl
   in-value (rlong n) = refl
   in-value (rtext t) = refl
-  in-value (rent k t) = ap (λ (o : Option Give). onSome (w k) o (λ x. rRec d (giveRow (values a) x) (λ e. g (entryOf u e)))) (attrs-is c a k t) ∙ in-part k (partIn c a k t 1)
+  in-value (rent k t) = ap (λ (o : Option Give). onSome (w k) o (λ x. rRec d (giveRow (values a) x) (λ e. g (entryOf u e)))) (attrs-is c a k t) ∙ in-part k (partIn c a k t ATTRIBUTES)
   in-value (rset l) = refl
   in-value (rrec e) = found-as (entryOf u e)
 
@@ -141,26 +138,26 @@ module _ (c : Bool) (a : List ℕ) (v t : ℕ) (l : Look) (el : l ≡ lookAttr c
 module _ (c : Bool) (a : List ℕ) (m : ℕ) (q : List ℕ) (s : Shape) (eq : q ≡ getD (valueLines a) m []) (es : s ≡ shapeOf q) (n : ℕ) where
   pub tag-first : OneOf (0 ∷ 1 ∷ 2 ∷ 4 ∷ 5 ∷ []) (tagOf the-type s) → Bad ≡ tagLook c a m n
   unfolding tagLook
-  tag-first h = rw (value-shape a m q s eq es) (sym (other-entity Bad (items q) s (λ k t. rText Bad (valueIn a n) (λ u. lookIn a k (partIn c a k t 2) u)) h))
+  tag-first h = rw (value-shape a m q s eq es) (sym (other-entity Bad (items q) s (λ k t. rText Bad (valueIn a n) (λ u. lookIn a k (partIn c a k t TAGS) u)) h))
 
   module _ (k t : ℕ) (z : s ≡ Entity k t) (p : List ℕ) (d : Shape) (ep : p ≡ getD (valueLines a) n []) (ed : d ≡ shapeOf p) where
     pub tag-second : OneOf (0 ∷ 1 ∷ 3 ∷ 4 ∷ 5 ∷ []) (tagOf the-type d) → Bad ≡ tagLook c a m n
     unfolding tagLook
-    tag-second h = rw (value-shape a m q s eq es, z, value-shape a n p d ep ed) (sym (other-text Bad (items p) d (λ u. lookIn a k (partIn c a k t 2) u) h))
+    tag-second h = rw (value-shape a m q s eq es, z, value-shape a n p d ep ed) (sym (other-text Bad (items p) d (λ u. lookIn a k (partIn c a k t TAGS) u) h))
 
-    pub tag-both : (u : ℕ) (f : Part) (r : Look) → d ≡ Text u → f ≡ partIn c a k t 2 → r ≡ lookIn a k f u → r ≡ tagLook c a m n
+    pub tag-both : (u : ℕ) (f : Part) (r : Look) → d ≡ Text u → f ≡ partIn c a k t TAGS → r ≡ lookIn a k f u → r ≡ tagLook c a m n
     unfolding tagLook
     tag-both u f r y ef e = e ∙ rw (value-shape a m q s eq es, z, value-shape a n p d ep ed, y, ef)
 
 module _ (c : Bool) (a : List ℕ) (g : Option ℕ → NOut) where
   in-tag : (r s : Row) → rEnt fails r (λ k t. rText fails s (λ u. onSome stays (nentity (envIn c a) k t .tags) (λ x. rRec fails (giveRow (values a) x) (λ e. g (entryOf u e)))))
-      ≡ lookAs fails (λ k. stays) g (rEnt Bad r (λ k t. rText Bad s (λ u. lookIn a k (partIn c a k t 2) u)))
+      ≡ lookAs fails (λ k. stays) g (rEnt Bad r (λ k t. rText Bad s (λ u. lookIn a k (partIn c a k t TAGS) u)))
   in-tag (rbool b) s = refl
   in-tag (rlong n) s = refl
   in-tag (rtext t) s = refl
   in-tag (rent k t) (rbool b) = refl
   in-tag (rent k t) (rlong n) = refl
-  in-tag (rent k t) (rtext u) = ap (λ (o : Option Give). onSome stays o (λ x. rRec fails (giveRow (values a) x) (λ e. g (entryOf u e)))) (tags-is c a k t) ∙ in-part c a fails (λ i. stays) g u k (partIn c a k t 2)
+  in-tag (rent k t) (rtext u) = ap (λ (o : Option Give). onSome stays o (λ x. rRec fails (giveRow (values a) x) (λ e. g (entryOf u e)))) (tags-is c a k t) ∙ in-part c a fails (λ i. stays) g u k (partIn c a k t TAGS)
   in-tag (rent k t) (rent l u) = refl
   in-tag (rent k t) (rset l) = refl
   in-tag (rent k t) (rrec e) = refl
@@ -230,7 +227,7 @@ or-end : (b : Bool) → (b || false) ≡ b
 or-end true = refl
 or-end false = refl
 
-module _ (c : Bool) (a : List ℕ) (m k t : ℕ) (l : List ℕ) (p : Part) (ep : p ≡ partIn c a k t 3) where
+module _ (c : Bool) (a : List ℕ) (m k t : ℕ) (l : List ℕ) (p : Part) (ep : p ≡ partIn c a k t ANCESTORS) where
   the-ancestors : nentity (envIn c a) k t .ancestors ≡ partGive (made (rset [])) p
   the-ancestors = ancestors-is c a k t ∙ ap (partGive (made (rset []))) (sym ep)
 
@@ -341,50 +338,3 @@ module _ (c : Bool) (a : List ℕ) (v : ℕ) (path : List ℕ) (n i : ℕ) (g : 
 
       pub walk-on : i + 1 < length path → Walking c a v path x (i + 1)
       walk-on m = record { near = omega arith; left = g .left ∙ walk-one ∙ rw (e, cons-drop path (i + 1) m, ← (add-one i)) }
-
--- what the numbered walk gives
-module _ (S : Schema) (c : Bool) (a : List ℕ) (T : Ty) (path : List ℕ) where
-  abbrev pub settleWalk : Walked → Out
-  settleWalk (Holds b) = make T (rbool b) (values a)
-  settleWalk Failsʷ = out (values a) (err T)
-  settleWalk (Left n k j) = nLeft S (envIn c a) T (lit (tent k) n) (getD path j 0) (drop (suc j) path) (values a)
-
-  -- the last step, and one before it
-  last-step : ℕ → Option ℕ → Out
-  last-step n o = make T (rbool (isSome o)) (values a)
-
-  rest-at : (t : ℕ) (ts : List ℕ) (i : ℕ) → t ∷ ts ≡ drop i path → (getD path i 0 ≡ t) × (drop (suc i) path ≡ ts)
-  rest-at t ts i e =
-      let l : i < length path = inside e in
-      let u : drop i path ≡ getD path i 0 ∷ drop (i + 1) path = uncons path 0 i l in
-      let p : t ≡ getD path i 0 = cc in
-      let q : ts ≡ drop (i + 1) path = cc in
-      (sym p, sym (q ∙ ap (λ (j : ℕ). drop j path) (add-one i)))
-    where
-      inside : t ∷ ts ≡ drop i path → i < length path
-      inside z = omega (arith, ap length z, length-drop i path)
-
-  pub walk-is : (ts : List ℕ) (t n i : ℕ) → t ∷ ts ≡ drop i path → nWalk S (envIn c a) T (values a) ts t n ≡ settleWalk (walkFrom c a n i (t ∷ ts))
-  unfolding walkFrom lookAttr valueIn last-step
-  walk-is [] t n i e =
-      let r = rest-at t [] i e in
-      in-value c a (out (values a) (err T)) (λ k. nLeft S (envIn c a) T (lit (tent k) n) t [] (values a)) (last-step n) t (valueIn a n) ∙ go (lookAttr c a n t) (r .0) (r .1)
-    where
-      go : (l : Look) → getD path i 0 ≡ t → drop (suc i) path ≡ []
-          → lookAs (out (values a) (err T)) (λ k. nLeft S (envIn c a) T (lit (tent k) n) t [] (values a)) (last-step n) l ≡ settleWalk (walkStep n i l true (λ x. walkFrom c a x (suc i) []))
-      go (Atˡ x) p q = refl
-      go Missing p q = refl
-      go (Unknownˡ k) p q = rw (p, q)
-      go Bad p q = refl
-  walk-is (u ∷ us) t n i e =
-      let r = rest-at t (u ∷ us) i e in
-      in-value c a (out (values a) (err T)) (λ k. nLeft S (envIn c a) T (lit (tent k) n) t (u ∷ us) (values a)) (λ o. onSome (make T (rbool false) (values a)) o (nWalk S (envIn c a) T (values a) us u)) t (valueIn a n)
-      ∙ go (lookAttr c a n t) (r .0) (r .1) (λ x. walk-is us u x (suc i) (sym (r .1)))
-    where
-      go : (l : Look) → getD path i 0 ≡ t → drop (suc i) path ≡ u ∷ us → ((x : ℕ) → nWalk S (envIn c a) T (values a) us u x ≡ settleWalk (walkFrom c a x (suc i) (u ∷ us)))
-          → lookAs (out (values a) (err T)) (λ k. nLeft S (envIn c a) T (lit (tent k) n) t (u ∷ us) (values a)) (λ o. onSome (make T (rbool false) (values a)) o (nWalk S (envIn c a) T (values a) us u)) l
-          ≡ settleWalk (walkStep n i l false (λ x. walkFrom c a x (suc i) (u ∷ us)))
-      go (Atˡ x) p q ih = ih x
-      go Missing p q ih = refl
-      go (Unknownˡ k) p q ih = rw (p, q)
-      go Bad p q ih = refl

@@ -19,10 +19,10 @@ use Rattle.cedar.specs.Numbered.{rRec, entryOf}
 use Rattle.words.specs.Log.{part}
 use Rattle.words.proofs.Stores.{part-at}
 use Rattle.sheet.specs.Bytes.{longAt}
-use Rattle.sheet.specs.Forms.{tag, items, at, mark}
+use Rattle.sheet.specs.Forms.{tag, items, at, mark, firstValue, VALUE, ENTITY}
 use Rattle.sheet.specs.State.{valueRow, entriesOf}
 use Rattle.sheet.specs.Content.{entityLine}
-use Rattle.table.specs.Layout.{base, rowsOf, held, linesHeld}
+use Rattle.table.specs.Layout.{base, rowsOf, held, linesHeld, heap}
 use Rattle.table.proofs.Rows.{count-rows, row-none, row-some, row-at-is}
 use Rattle.value.specs.Lines.{valueLines}
 use Rattle.value.specs.Shapes.{shapeOf, shapeRow, entryFound}
@@ -65,7 +65,7 @@ module _ (a : List ℕ) (v t : ℕ) where
   unfolding textThere
   text-free h = sym (rw (eq-eqb t 0 h))
 
-  pub text-read : (b s x : ℕ) → (b ≡ base 5) × (b < 4003) → (t ≡ 0 → ⊥) → s ≡ getD a (b + v) 0 → x ≡ getD a (s + 2) 0 → eqb x t ≡ textThere a v t
+  pub text-read : (b s x : ℕ) → (b ≡ base VALUE) × (b < heap) → (t ≡ 0 → ⊥) → s ≡ getD a (b + v) 0 → x ≡ getD a (s + 2) 0 → eqb x t ≡ textThere a v t
   unfolding textThere
   text-read b s x hb n es ex = rw (ne-eqb t 0 n, ← (hb .0), ← es, ← ex)
 
@@ -90,7 +90,7 @@ module _ (a : List ℕ) (s e : ℕ) where
       go (no h) = n (sym (word-none 2 (omega arith) ∙ z))
 
 not-entity : (q : List ℕ) (k t : ℕ) → (getD q 2 0 ≡ t → ⊥) → valueRow q ≡ rent k t → ⊥
-not-entity q k t n e = go (tag q - 10) e
+not-entity q k t n e = go (tag q - firstValue) e
   where
     go : (j : ℕ) → getD (rbool (eqb (at q 0) 1) ∷ rlong (longAt (at q 0 * 4294967296 + at q 1)) ∷ rtext (at q 0) ∷ rent (at q 0) (at q 1) ∷ rset (items q) ∷ rrec (entriesOf (items q)) ∷ []) j (rbool false)
         ≡ rent k t → ⊥
@@ -104,31 +104,31 @@ not-entity q k t n e = go (tag q - 10) e
 
 pub entity-far : (a : List ℕ) (v k t : ℕ) (b : Bool) → b ≡ textThere a v t → not b ≡ true → false ≡ isEntityAt a v k t
 unfolding textThere isEntityAt
-entity-far a v k t b eb f = not-same (valueRow (getD (rowsOf a 5) v [])) (rent k t) (not-entity (getD (rowsOf a 5) v []) k t (other (decLt v (getD a 5 0))))
+entity-far a v k t b eb f = not-same (valueRow (getD (rowsOf a VALUE) v [])) (rent k t) (not-entity (getD (rowsOf a VALUE) v []) k t (other (decLt v (getD a VALUE 0))))
   where
-    far : (eqb t 0 || eqb (getD a (getD a (base 5 + v) 0 + 2) 0) t) ≡ false
+    far : (eqb t 0 || eqb (getD a (getD a (base VALUE + v) 0 + 2) 0) t) ≡ false
     far = sym eb ∙ not-true b f
 
     free : t ≡ 0 → ⊥
     free z = let y : _≡_ {A = Bool} true false = sym (rw (eq-eqb t 0 z)) ∙ far in let w : _≡_ {A = ℕ} 0 1 = cc in omega arith
 
-    apart : getD a (getD a (base 5 + v) 0 + 2) 0 ≡ t → ⊥
-    apart z = let y : eqb (getD a (getD a (base 5 + v) 0 + 2) 0) t ≡ false = or-right (eqb t 0) (eqb (getD a (getD a (base 5 + v) 0 + 2) 0) t) far in eqb-false (getD a (getD a (base 5 + v) 0 + 2) 0) t y z
+    apart : getD a (getD a (base VALUE + v) 0 + 2) 0 ≡ t → ⊥
+    apart z = let y : eqb (getD a (getD a (base VALUE + v) 0 + 2) 0) t ≡ false = or-right (eqb t 0) (eqb (getD a (getD a (base VALUE + v) 0 + 2) 0) t) far in eqb-false (getD a (getD a (base VALUE + v) 0 + 2) 0) t y z
       where
         or-right : (c d : Bool) → (c || d) ≡ false → d ≡ false
         or-right true d e = let w : _≡_ {A = ℕ} 0 1 = cc in absurd (omega arith)
         or-right false d e = e
 
-    other : Dec (v < getD a 5 0) → getD (getD (rowsOf a 5) v []) 2 0 ≡ t → ⊥
+    other : Dec (v < getD a VALUE 0) → getD (getD (rowsOf a VALUE) v []) 2 0 ≡ t → ⊥
     other (yes h) z =
-        word-other a (getD a (base 5 + v) 0) (getD a (base 5 + v + 1) 0) t free apart
-        (ap (λ (l : List ℕ). getD l 2 0) (row-some a 5 v (getD a 5 0) (base 5) (part a (getD a (base 5 + v) 0) (getD a (base 5 + v + 1) 0)) refl h refl (row-at-is a (base 5 + v) (getD a (base 5 + v) 0) (getD a (base 5 + v + 1) 0) (part a (getD a (base 5 + v) 0) (getD a (base 5 + v + 1) 0)) refl refl refl)) ∙ z)
-    other (no h) z = free (sym (ap (λ (l : List ℕ). getD l 2 0) (row-none a 5 v (getD a 5 0) refl (omega arith)) ∙ z))
+        word-other a (getD a (base VALUE + v) 0) (getD a (base VALUE + v + 1) 0) t free apart
+        (ap (λ (l : List ℕ). getD l 2 0) (row-some a VALUE v (getD a VALUE 0) (base VALUE) (part a (getD a (base VALUE + v) 0) (getD a (base VALUE + v + 1) 0)) refl h refl (row-at-is a (base VALUE + v) (getD a (base VALUE + v) 0) (getD a (base VALUE + v + 1) 0) (part a (getD a (base VALUE + v) 0) (getD a (base VALUE + v + 1) 0)) refl refl refl)) ∙ z)
+    other (no h) z = free (sym (ap (λ (l : List ℕ). getD l 2 0) (row-none a VALUE v (getD a VALUE 0) refl (omega arith)) ∙ z))
 
 -- ---- by its row
 
-module _ (a : List ℕ) (v : ℕ) (q : List ℕ) (s : Shape) (eq : q ≡ getD (rowsOf a 5) v []) (es : s ≡ shapeOf q) where
-  row-is : valueRow (getD (rowsOf a 5) v []) ≡ shapeRow s (items q)
+module _ (a : List ℕ) (v : ℕ) (q : List ℕ) (s : Shape) (eq : q ≡ getD (rowsOf a VALUE) v []) (es : s ≡ shapeOf q) where
+  row-is : valueRow (getD (rowsOf a VALUE) v []) ≡ shapeRow s (items q)
   row-is = ap valueRow (sym eq) ∙ shape-row q ∙ ap (λ (x : Shape). shapeRow x (items q)) (sym es)
 
   pub entity-other : (k t : ℕ) → OneOf (0 ∷ 1 ∷ 2 ∷ 4 ∷ 5 ∷ []) (tagOf the-type s) → false ≡ isEntityAt a v k t
@@ -136,7 +136,7 @@ module _ (a : List ℕ) (v : ℕ) (q : List ℕ) (s : Shape) (eq : q ≡ getD (r
   entity-other k t h = not-same (shapeRow s (items q)) (rent k t) (no-entity s (items q) k t h) ∙ ap (λ (x : Row). sameRow x (rent k t)) (sym row-is)
 
   module _ (k t l u : ℕ) (e : s ≡ Entity l u) where
-    entity-row : valueRow (getD (rowsOf a 5) v []) ≡ rent l u
+    entity-row : valueRow (getD (rowsOf a VALUE) v []) ≡ rent l u
     entity-row = row-is ∙ ap (λ (x : Shape). shapeRow x (items q)) e
 
     pub entity-kind : (l ≡ k → ⊥) → false ≡ isEntityAt a v k t
@@ -165,31 +165,31 @@ entityFrom a k t (r ∷ rs) = cond (isEntityAt a (at r 0) k t) (some r) (entityF
 entity-lines : (a : List ℕ) (k t : ℕ) (rs : List (List ℕ)) → entityLine (stateIn a) (rent k t) rs ≡ entityFrom a k t rs
 unfolding entityFrom isEntityAt stateIn held linesHeld
 entity-lines a k t [] = refl
-entity-lines a k t (r ∷ rs) = ap (λ (o : Option (List ℕ)). cond (sameRow (valueRow (getD (rowsOf a 5) (at r 0) [])) (rent k t)) (some r) o) (entity-lines a k t rs)
+entity-lines a k t (r ∷ rs) = ap (λ (o : Option (List ℕ)). cond (sameRow (valueRow (getD (rowsOf a VALUE) (at r 0) [])) (rent k t)) (some r) o) (entity-lines a k t rs)
 
-line-from : (a : List ℕ) (k t : ℕ) → lineIn a k t ≡ entityFrom a k t (rowsOf a 6)
+line-from : (a : List ℕ) (k t : ℕ) → lineIn a k t ≡ entityFrom a k t (rowsOf a ENTITY)
 unfolding lineIn stateIn held linesHeld
-line-from a k t = entity-lines a k t (rowsOf a 6)
+line-from a k t = entity-lines a k t (rowsOf a ENTITY)
 
 pub record Seeking (a : List ℕ) (k t n i : ℕ) : Type 0 where
-  pub all : n ≡ getD a 6 0
+  pub all : n ≡ getD a ENTITY 0
   pub near : i ≤ n
-  pub left : lineIn a k t ≡ entityFrom a k t (drop i (rowsOf a 6))
+  pub left : lineIn a k t ≡ entityFrom a k t (drop i (rowsOf a ENTITY))
 
-pub seek-start : (a : List ℕ) (k t n : ℕ) → n ≡ getD a 6 0 → Seeking a k t n 0
+pub seek-start : (a : List ℕ) (k t n : ℕ) → n ≡ getD a ENTITY 0 → Seeking a k t n 0
 seek-start a k t n e = record { all = e; near = omega arith; left = line-from a k t }
 
 module _ (a : List ℕ) (k t n i : ℕ) (g : Seeking a k t n i) where
-  pub seek-end : n ≤ i → lineAt (rowsOf a 6) Nothing ≡ lineIn a k t
+  pub seek-end : n ≤ i → lineAt (rowsOf a ENTITY) Nothing ≡ lineIn a k t
   unfolding entityFrom
-  seek-end h = sym (g .left ∙ ap (entityFrom a k t) (spent (rowsOf a 6) i (omega (arith, g .all, count-rows a 6))))
+  seek-end h = sym (g .left ∙ ap (entityFrom a k t) (spent (rowsOf a ENTITY) i (omega (arith, g .all, count-rows a ENTITY))))
 
-  module _ (h : i < n) (r : List ℕ) (er : r ≡ getD (rowsOf a 6) i []) (x : ℕ) (ex : x ≡ getD r 1 0) (b : Bool) (eb : b ≡ isEntityAt a x k t) where
-    at-line : entityFrom a k t (drop i (rowsOf a 6)) ≡ cond b (some r) (entityFrom a k t (drop (i + 1) (rowsOf a 6)))
+  module _ (h : i < n) (r : List ℕ) (er : r ≡ getD (rowsOf a ENTITY) i []) (x : ℕ) (ex : x ≡ getD r 1 0) (b : Bool) (eb : b ≡ isEntityAt a x k t) where
+    at-line : entityFrom a k t (drop i (rowsOf a ENTITY)) ≡ cond b (some r) (entityFrom a k t (drop (i + 1) (rowsOf a ENTITY)))
     unfolding entityFrom
-    at-line = rw (uncons (rowsOf a 6) [] i (omega (arith, g .all, count-rows a 6)), ← er, ← ex, ← eb)
+    at-line = rw (uncons (rowsOf a ENTITY) [] i (omega (arith, g .all, count-rows a ENTITY)), ← er, ← ex, ← eb)
 
-    pub seek-hit : b ≡ true → lineAt (rowsOf a 6) (At i) ≡ lineIn a k t
+    pub seek-hit : b ≡ true → lineAt (rowsOf a ENTITY) (At i) ≡ lineIn a k t
     seek-hit z = sym (g .left ∙ at-line ∙ rw (z, er))
 
     pub seek-on : b ≡ false → Seeking a k t n (i + 1)
@@ -198,55 +198,55 @@ module _ (a : List ℕ) (k t n i : ℕ) (g : Seeking a k t n i) where
 -- the same, with where the next line begins
 pub record Walking (a : List ℕ) (k t n i s : ℕ) : Type 0 where
   pub seeking : Seeking a k t n i
-  pub start : s ≡ getD a (base 6 + i) 0
+  pub start : s ≡ getD a (base ENTITY + i) 0
 
-pub walk-start : (a : List ℕ) (k t n b s : ℕ) → n ≡ getD a 6 0 → (b ≡ base 6) × (b < 4003) → s ≡ getD a b 0 → Walking a k t n 0 s
+pub walk-start : (a : List ℕ) (k t n b s : ℕ) → n ≡ getD a ENTITY 0 → (b ≡ base ENTITY) × (b < heap) → s ≡ getD a b 0 → Walking a k t n 0 s
 walk-start a k t n b s en hb es =
-    let z : b ≡ base 6 + 0 = omega (arith, hb .0) in
+    let z : b ≡ base ENTITY + 0 = omega (arith, hb .0) in
     record { seeking = seek-start a k t n en; start = es ∙ ap (λ (j : ℕ). getD a j 0) z }
 
 module _ (a : List ℕ) (k t n i s : ℕ) (g : Walking a k t n i s) where
-  pub walk-end : n ≤ i → lineAt (rowsOf a 6) Nothing ≡ lineIn a k t
+  pub walk-end : n ≤ i → lineAt (rowsOf a ENTITY) Nothing ≡ lineIn a k t
   walk-end = seek-end a k t n i (g .seeking)
 
-  module _ (h : i < n) (b e x : ℕ) (c : Bool) (hb : (b ≡ base 6) × (b < 4003)) (ee : e ≡ getD a (b + i + 1) 0) (ex : x ≡ getD (part a s e) 1 0) (ec : c ≡ isEntityAt a x k t) where
-    next : e ≡ getD a (base 6 + i + 1) 0
+  module _ (h : i < n) (b e x : ℕ) (c : Bool) (hb : (b ≡ base ENTITY) × (b < heap)) (ee : e ≡ getD a (b + i + 1) 0) (ex : x ≡ getD (part a s e) 1 0) (ec : c ≡ isEntityAt a x k t) where
+    next : e ≡ getD a (base ENTITY + i + 1) 0
     next = ee ∙ ap (λ (j : ℕ). getD a (j + i + 1) 0) (hb .0)
 
-    line-here : part a s e ≡ getD (rowsOf a 6) i []
-    line-here = row-some a 6 i n (base 6) (part a s e) (g .seeking .all) h refl (row-at-is a (base 6 + i) s e (part a s e) (g .start) next refl)
+    line-here : part a s e ≡ getD (rowsOf a ENTITY) i []
+    line-here = row-some a ENTITY i n (base ENTITY) (part a s e) (g .seeking .all) h refl (row-at-is a (base ENTITY + i) s e (part a s e) (g .start) next refl)
 
-    pub walk-hit : c ≡ true → lineAt (rowsOf a 6) (At i) ≡ lineIn a k t
+    pub walk-hit : c ≡ true → lineAt (rowsOf a ENTITY) (At i) ≡ lineIn a k t
     walk-hit = seek-hit a k t n i (g .seeking) h (part a s e) line-here x ex c ec
 
     pub walk-on : c ≡ false → Walking a k t n (i + 1) e
     walk-on z =
-        let y : base 6 + i + 1 ≡ base 6 + (i + 1) = omega arith in
+        let y : base ENTITY + i + 1 ≡ base ENTITY + (i + 1) = omega arith in
         record { seeking = seek-on a k t n i (g .seeking) h (part a s e) line-here x ex c ec z; start = next ∙ ap (λ (j : ℕ). getD a j 0) y }
 
 -- ---- a part of a line
 
-module _ (c : Bool) (a : List ℕ) (k t j : ℕ) (e : Entry) (ee : lineAt (rowsOf a 6) e ≡ lineIn a k t) where
+module _ (c : Bool) (a : List ℕ) (k t j : ℕ) (e : Entry) (ee : lineAt (rowsOf a ENTITY) e ≡ lineIn a k t) where
   pub part-empty : e ≡ Nothing → c ≡ true → Empty ≡ partIn c a k t j
   unfolding partIn
-  part-empty z y = sym (ap (λ (o : Option (List ℕ)). partOfLine c o j) (sym ee ∙ ap (lineAt (rowsOf a 6)) z) ∙ rw y)
+  part-empty z y = sym (ap (λ (o : Option (List ℕ)). partOfLine c o j) (sym ee ∙ ap (lineAt (rowsOf a ENTITY)) z) ∙ rw y)
 
   pub part-unlisted : e ≡ Nothing → c ≡ false → Unknown ≡ partIn c a k t j
   unfolding partIn
-  part-unlisted z y = sym (ap (λ (o : Option (List ℕ)). partOfLine c o j) (sym ee ∙ ap (lineAt (rowsOf a 6)) z) ∙ rw y)
+  part-unlisted z y = sym (ap (λ (o : Option (List ℕ)). partOfLine c o j) (sym ee ∙ ap (lineAt (rowsOf a ENTITY)) z) ∙ rw y)
 
-  module _ (i : ℕ) (z : e ≡ At i) (r : List ℕ) (er : r ≡ getD (rowsOf a 6) i []) (x : ℕ) (ex : x ≡ getD r (j + 1) 0) where
+  module _ (i : ℕ) (z : e ≡ At i) (r : List ℕ) (er : r ≡ getD (rowsOf a ENTITY) i []) (x : ℕ) (ex : x ≡ getD r (j + 1) 0) where
     part-item : partIn c a k t j ≡ cond (eqb x mark) Unknown (Known x)
     unfolding partIn
     part-item =
-        let w : x ≡ at (getD (rowsOf a 6) i []) j = ex ∙ ap (λ (m : ℕ). getD r m 0) (add-one j) ∙ ap (λ (l : List ℕ). at l j) er in
-        ap (λ (o : Option (List ℕ)). partOfLine c o j) (sym ee ∙ ap (lineAt (rowsOf a 6)) z) ∙ rw (← w)
+        let w : x ≡ at (getD (rowsOf a ENTITY) i []) j = ex ∙ ap (λ (m : ℕ). getD r m 0) (add-one j) ∙ ap (λ (l : List ℕ). at l j) er in
+        ap (λ (o : Option (List ℕ)). partOfLine c o j) (sym ee ∙ ap (lineAt (rowsOf a ENTITY)) z) ∙ rw (← w)
 
-    pub part-unknown : x ≡ 10000 → Unknown ≡ partIn c a k t j
-    part-unknown y = sym (part-item ∙ rw (eq-eqb x 10000 y))
+    pub part-unknown : x ≡ mark → Unknown ≡ partIn c a k t j
+    part-unknown y = sym (part-item ∙ rw (eq-eqb x mark y))
 
-    pub part-known : (x ≡ 10000 → ⊥) → Known x ≡ partIn c a k t j
-    part-known y = sym (part-item ∙ rw (ne-eqb x 10000 y))
+    pub part-known : (x ≡ mark → ⊥) → Known x ≡ partIn c a k t j
+    part-known y = sym (part-item ∙ rw (ne-eqb x mark y))
 
 -- ---- a text in a record
 

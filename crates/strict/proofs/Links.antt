@@ -10,8 +10,9 @@ use Rattle.cedar.specs.Types.{Schema, Var, principal, action, resource, context
 use Rattle.cedar.specs.Residual.{unot, uneg, uempty, uis, ulike, beq, blt, ble, badd, bsub, bmul, bcontains, ball, bany, rin, rgettag, rhastag}
 use Rattle.cedar.specs.Rows.{Row, rent, sameRow}
 use Rattle.cedar.specs.Numbered.{rowAt, truly, nUn, nBin, nRel, nGet, nHas}
+use Rattle.forms.specs.Tags.{LT, LE, ADD, SUB, MUL}
 use Rattle.sheet.specs.Content.{patternOf, schema, given, entityLine, lookUp, lineGiven, nEnv}
-use Rattle.sheet.specs.Forms.{at}
+use Rattle.sheet.specs.Forms.{at, VALUE, ENTITY}
 use Rattle.sheet.specs.State.{valueRow}
 use Rattle.table.specs.Layout.{rowsOf, textAt, held, linesHeld}
 use Rattle.table.proofs.Rows.{text-held}
@@ -47,23 +48,23 @@ module _ (m n : ℕ) (r s : Row) where
   pub eq-link : truly (eqb m n) ≡ nBin beq m n r s
   eq-link = refl
 
-  pub lt-link : arithOut 27 r s ≡ nBin blt m n r s
+  pub lt-link : arithOut LT r s ≡ nBin blt m n r s
   unfolding arithOut longsOut
   lt-link = refl
 
-  pub le-link : arithOut 28 r s ≡ nBin ble m n r s
+  pub le-link : arithOut LE r s ≡ nBin ble m n r s
   unfolding arithOut longsOut
   le-link = refl
 
-  pub add-link : arithOut 29 r s ≡ nBin badd m n r s
+  pub add-link : arithOut ADD r s ≡ nBin badd m n r s
   unfolding arithOut longsOut
   add-link = refl
 
-  pub sub-link : arithOut 30 r s ≡ nBin bsub m n r s
+  pub sub-link : arithOut SUB r s ≡ nBin bsub m n r s
   unfolding arithOut longsOut
   sub-link = refl
 
-  pub mul-link : arithOut 31 r s ≡ nBin bmul m n r s
+  pub mul-link : arithOut MUL r s ≡ nBin bmul m n r s
   unfolding arithOut longsOut
   mul-link = refl
 
@@ -118,11 +119,11 @@ module _ (c : Bool) (a : List ℕ) where
     same-lines : (e : Row) (rs : List (List ℕ)) → entityLine (held [] a []) e rs ≡ entityLine (held sheet a b) e rs
     unfolding held linesHeld
     same-lines e [] = refl
-    same-lines e (r ∷ rs) = ap (λ (o : Option (List ℕ)). cond (sameRow (valueRow (getD (rowsOf a 5) (at r 0) [])) e) (some r) o) (same-lines e rs)
+    same-lines e (r ∷ rs) = ap (λ (o : Option (List ℕ)). cond (sameRow (valueRow (getD (rowsOf a VALUE) (at r 0) [])) e) (some r) o) (same-lines e rs)
 
     same-line : (k t : ℕ) → lineGiven (modeOf c) (lookUp (held [] a []) k t) ≡ lineGiven (modeOf c) (lookUp (held sheet a b) k t)
     unfolding held linesHeld
-    same-line k t = ap (lineGiven (modeOf c)) (same-lines (rent k t) (rowsOf a 6))
+    same-line k t = ap (lineGiven (modeOf c)) (same-lines (rent k t) (rowsOf a ENTITY))
 
     pub env-link : envIn c a ≡ nEnv (modeOf c) (held sheet a b)
     unfolding envIn nEnv

@@ -16,6 +16,7 @@ use Rattle.value.proofs.Shape.{the-type}
 use Rattle.cedar.specs.Evaluate.{matches, isNil, inRange}
 use Rattle.cedar.specs.Numbered.{rLong, rSet, truly, nlong, fails, give, made, memN, allN, anyN, NOut}
 use Rattle.cedar.specs.Rows.{rlong}
+use Rattle.forms.specs.Tags.{LT, LE, ADD, SUB}
 use Rattle.sheet.specs.Bytes.{longAt}
 use Rattle.sheet.specs.Forms.{items}
 use Rattle.sheet.specs.Content.{patternOf}
@@ -48,26 +49,26 @@ pub arith-out : (g : Given) (c : Checked) (z : ℤ) → numberOf c ≡ ranged z 
 arith-out g c z e h = h ∙ ap longOut e ∙ in-range z
 
 module _ (op x y : ℕ) where
-  pub arith-lt : (b : Bool) → op ≡ 27 → b ≡ ltZ (longAt x) (longAt y) → outOf (Boolᵍ b) ≡ longsOut op (longAt x) (longAt y)
+  pub arith-lt : (b : Bool) → op ≡ LT → b ≡ ltZ (longAt x) (longAt y) → outOf (Boolᵍ b) ≡ longsOut op (longAt x) (longAt y)
   unfolding longsOut
   arith-lt b e h = rw (e, h)
 
-  pub arith-le : (b : Bool) → op ≡ 28 → b ≡ leZ (longAt x) (longAt y) → outOf (Boolᵍ b) ≡ longsOut op (longAt x) (longAt y)
+  pub arith-le : (b : Bool) → op ≡ LE → b ≡ leZ (longAt x) (longAt y) → outOf (Boolᵍ b) ≡ longsOut op (longAt x) (longAt y)
   unfolding longsOut
   arith-le b e h = rw (e, h)
 
-  pub arith-add : (g : Given) (c : Checked) → op ≡ 29 → numberOf c ≡ ranged (longAt x +ℤ longAt y) → outOf g ≡ longOut (numberOf c) → outOf g ≡ longsOut op (longAt x) (longAt y)
+  pub arith-add : (g : Given) (c : Checked) → op ≡ ADD → numberOf c ≡ ranged (longAt x +ℤ longAt y) → outOf g ≡ longOut (numberOf c) → outOf g ≡ longsOut op (longAt x) (longAt y)
   unfolding longsOut
   arith-add g c e p h = rw e (arith-out g c (longAt x +ℤ longAt y) p h)
 
-  pub arith-sub : (g : Given) (c : Checked) → op ≡ 30 → numberOf c ≡ ranged (longAt x -ℤ longAt y) → outOf g ≡ longOut (numberOf c) → outOf g ≡ longsOut op (longAt x) (longAt y)
+  pub arith-sub : (g : Given) (c : Checked) → op ≡ SUB → numberOf c ≡ ranged (longAt x -ℤ longAt y) → outOf g ≡ longOut (numberOf c) → outOf g ≡ longsOut op (longAt x) (longAt y)
   unfolding longsOut
   arith-sub g c e p h = rw e (arith-out g c (longAt x -ℤ longAt y) p h)
 
-  pub arith-mul : (g : Given) (c : Checked) → (op ≡ 27 → ⊥) → (op ≡ 28 → ⊥) → (op ≡ 29 → ⊥) → (op ≡ 30 → ⊥)
+  pub arith-mul : (g : Given) (c : Checked) → (op ≡ LT → ⊥) → (op ≡ LE → ⊥) → (op ≡ ADD → ⊥) → (op ≡ SUB → ⊥)
       → numberOf c ≡ ranged (longAt x *ℤ longAt y) → outOf g ≡ longOut (numberOf c) → outOf g ≡ longsOut op (longAt x) (longAt y)
   unfolding longsOut
-  arith-mul g c i j k l p h = rw (ne-eqb op 27 i, ne-eqb op 28 j, ne-eqb op 29 k, ne-eqb op 30 l) (arith-out g c (longAt x *ℤ longAt y) p h)
+  arith-mul g c i j k l p h = rw (ne-eqb op LT i, ne-eqb op LE j, ne-eqb op ADD k, ne-eqb op SUB l) (arith-out g c (longAt x *ℤ longAt y) p h)
 
 nil-length : (l : List ℕ) → eqb (length l) 0 ≡ isNil l
 nil-length [] = refl

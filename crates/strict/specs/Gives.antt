@@ -9,6 +9,7 @@ use lib.Signed.{ltZ, leZ}
 use Rattle.cedar.specs.Rows.{Row, rlong}
 use Rattle.cedar.specs.Evaluate.{matches, isNil}
 use Rattle.cedar.specs.Numbered.{NEnv, NOut, give, fails, stays, made, old, truly, nlong, rowAt, memN, allN, anyN, rBool, rLong, rText, rEnt, rSet}
+use Rattle.forms.specs.Tags.{LT, LE, ADD, SUB}
 use Rattle.sheet.specs.Bytes.{longAt}
 use Rattle.sheet.specs.Forms.{Mode, partial, complete}
 use Rattle.sheet.specs.Content.{rowsIn, patternOf, nEnv}
@@ -47,8 +48,8 @@ longOut (some z) = give (made (rlong z))
 -- two longs, by the operation's tag: lt, le, add, sub, and mul
 unfoldable pub longsOut : ℕ → ℤ → ℤ → NOut
 longsOut op x y =
-    cond (eqb op 27) (truly (ltZ x y))
-    (cond (eqb op 28) (truly (leZ x y)) (cond (eqb op 29) (nlong (x +ℤ y)) (cond (eqb op 30) (nlong (x -ℤ y)) (nlong (x *ℤ y)))))
+    cond (eqb op LT) (truly (ltZ x y))
+    (cond (eqb op LE) (truly (leZ x y)) (cond (eqb op ADD) (nlong (x +ℤ y)) (cond (eqb op SUB) (nlong (x -ℤ y)) (nlong (x *ℤ y)))))
 
 -- ---- operations over rows, as `nUn` and `nBin` have them
 

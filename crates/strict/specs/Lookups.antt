@@ -9,7 +9,7 @@ use Rattle.cedar.specs.Residual.{rin, rgettag, rhastag}
 use Rattle.cedar.specs.Evaluate.{isNil}
 use Rattle.cedar.specs.Rows.{Row, rbool, rlong, rtext, rent, rset, rrec, sameRow}
 use Rattle.cedar.specs.Numbered.{NOut, fails, stays, truly, rEnt, rText, rSet, rRec, memN, anyN, entryOf, isRent, nentity, nIn, nRel, nGet, nHas}
-use Rattle.sheet.specs.Forms.{at, mark}
+use Rattle.sheet.specs.Forms.{at, mark, VALUE}
 use Rattle.sheet.specs.State.{State, valueRow}
 use Rattle.sheet.specs.Content.{lookUp}
 use Rattle.table.specs.Layout.{base, held, rowsOf}
@@ -31,11 +31,11 @@ stateIn a = held [] a []
 
 -- whether the word that would be the text of entity v of the sheet is t; a missing word is 0
 unfoldable pub textThere : List ℕ → ℕ → ℕ → Bool
-textThere a v t = eqb t 0 || eqb (getD a (getD a (base 5 + v) 0 + 2) 0) t
+textThere a v t = eqb t 0 || eqb (getD a (getD a (base VALUE + v) 0 + 2) 0) t
 
 -- whether value v of the sheet is this entity
 unfoldable pub isEntityAt : List ℕ → ℕ → ℕ → ℕ → Bool
-isEntityAt a v k t = sameRow (valueRow (getD (rowsOf a 5) v [])) (rent k t)
+isEntityAt a v k t = sameRow (valueRow (getD (rowsOf a VALUE) v [])) (rent k t)
 
 -- the line of an entity
 unfoldable pub lineIn : List ℕ → ℕ → ℕ → Option (List ℕ)
@@ -44,6 +44,16 @@ lineIn a k t = lookUp (stateIn a) k t
 abbrev pub lineAt : List (List ℕ) → Entry → Option (List ℕ)
 lineAt rows (At i) = some (getD rows i [])
 lineAt rows Nothing = none
+
+-- where the parts of an entity stand in its line
+abbrev pub ATTRIBUTES : ℕ
+ATTRIBUTES = 1
+
+abbrev pub TAGS : ℕ
+TAGS = 2
+
+abbrev pub ANCESTORS : ℕ
+ANCESTORS = 3
 
 -- item j of a line, if it is known; of an unlisted entity, nothing on a complete sheet
 abbrev pub partOfLine : Bool → Option (List ℕ) → ℕ → Part
@@ -72,7 +82,7 @@ abbrev pub lookValue : Bool → List ℕ → Row → ℕ → Look
 lookValue c a (rbool b) u = Bad
 lookValue c a (rlong n) u = Bad
 lookValue c a (rtext t) u = Bad
-lookValue c a (rent k t) u = lookIn a k (partIn c a k t 1) u
+lookValue c a (rent k t) u = lookIn a k (partIn c a k t ATTRIBUTES) u
 lookValue c a (rset l) u = Bad
 lookValue c a (rrec e) u = lookFound (entryOf u e)
 
@@ -100,7 +110,7 @@ unfoldable pub hasOut : Bool → List ℕ → ℕ → ℕ → NOut
 hasOut c a v t = nHas (envIn c a) (values a) t (valueIn a v)
 
 unfoldable pub tagLook : Bool → List ℕ → ℕ → ℕ → Look
-tagLook c a m n = rEnt Bad (valueIn a m) (λ k t. rText Bad (valueIn a n) (λ u. lookIn a k (partIn c a k t 2) u))
+tagLook c a m n = rEnt Bad (valueIn a m) (λ k t. rText Bad (valueIn a n) (λ u. lookIn a k (partIn c a k t TAGS) u))
 
 unfoldable pub gettagOut : Bool → List ℕ → ℕ → ℕ → NOut
 gettagOut c a m n = nRel (envIn c a) (values a) rgettag m n (valueIn a m) (valueIn a n)

@@ -1,7 +1,8 @@
 // Operations on entities: their lines, attributes, tags and ancestors, known in part. On a complete sheet an unlisted entity has none.
 use crate::Given;
-use table::ENTITY;
-use table::VALUE;
+use forms::ENTITY;
+use forms::MARK;
+use forms::VALUE;
 use table::base_of;
 use table::count;
 use table::item;
@@ -16,13 +17,21 @@ use value::row_of;
 use value::shape_of;
 use words::read;
 ghost use mathlib.Core.Path.{_≡_};
-ghost use Prim.Native.Nat.{_<_};
+ghost use Prim.Native.Nat.{_≤_};
 ghost use lib.ListN.{getD};
 ghost use Rattle.words.specs.Log.{part};
+ghost use Rattle.sheet.specs.Forms.{ENTITY};
 ghost use Rattle.table.specs.Layout.{rowsOf};
 ghost use Rattle.cedar.specs.Numbered.{allRent};
 ghost use Rattle.strict.specs.Gives.{outOf, values, valueIn};
-ghost use Rattle.strict.specs.Lookups.{textThere, isEntityAt, lineAt, lineIn, partIn, lookRow, lookIn, lookAttr, takenOf, presentOf, getOut, hasOut, tagLook, gettagOut, hastagOut, isRentAt, inKnownOut, inUnknownOut, inListOut, inOut, walkFrom};
+ghost use Rattle.strict.specs.Lookups.{ANCESTORS, textThere, isEntityAt, lineAt, lineIn, partIn, lookRow, lookIn, lookAttr, takenOf, presentOf, getOut, hasOut, tagLook, gettagOut, hastagOut, isRentAt, inKnownOut, inUnknownOut, inListOut, inOut, walkFrom};
+
+// Where the parts of an entity stand in its line.
+const ATTRIBUTES: usize = 1;
+
+const TAGS: usize = 2;
+
+const ANCESTORS: usize = 3;
 
 // A part of an entity's line: a value, nothing at all, or unknown.
 pub enum Part {
@@ -39,61 +48,61 @@ pub enum Look {
     Bad,
 }
 
-// Whether the word that would be the text of entity `v` of the sheet is `t`; a missing word is 0.
-fn has_text(a: &[u32], v: u32, t: u32) -> bool
-    ensures { λ r. ⌜ r ≡ textThere (now (a .entry)) v t ⌝ }
+// Whether the word that would be the text of entity `value` of the sheet is `text`; a missing word is 0.
+fn has_text(rows: &[u32], value: u32, text: u32) -> bool
+    ensures { λ r. ⌜ r ≡ textThere (now (rows .entry)) value text ⌝ }
 {
-    if t == 0 {
+    if text == 0 {
         return true;
     }
-    let s = read(a, base_of(VALUE) + v as usize);
-    read(a, s as usize + 2) == t
+    let s = read(rows, base_of(VALUE) + value as usize);
+    read(rows, s as usize + 2) == text
 }
 
-// Whether value `v` of the sheet is the entity of kind `k` and text `t`. Most others have another text.
-fn is_entity(a: &[u32], v: u32, k: u32, t: u32) -> bool
-    ensures { λ r. ⌜ r ≡ isEntityAt (now (a .entry)) v k t ⌝ }
+// Whether `value` of the sheet is the entity of this kind and text. Most others have another text.
+fn is_entity(rows: &[u32], value: u32, kind: u32, text: u32) -> bool
+    ensures { λ r. ⌜ r ≡ isEntityAt (now (rows .entry)) value kind text ⌝ }
 {
-    if !has_text(a, v, t) {
+    if !has_text(rows, value, text) {
         return false;
     }
-    let s = shape_of(row(a, VALUE, v));
+    let s = shape_of(row(rows, VALUE, value));
     let Shape::Entity(l, u) = s else {
         return false;
     };
-    if l != k {
+    if l != kind {
         return false;
     }
-    u == t
+    u == text
 }
 
-// The first item of the row from `s` to `e`.
-fn first_of(a: &[u32], s: usize, e: usize) -> u32
-    ensures { λ r. ⌜ r ≡ getD (part (now (a .entry)) s e) 1 0 ⌝ }
+// The first item of the row from `start` to `end`.
+fn first_of(rows: &[u32], start: usize, end: usize) -> u32
+    ensures { λ r. ⌜ r ≡ getD (part (now (rows .entry)) start end) 1 0 ⌝ }
 {
-    if s >= e {
+    if start >= end {
         return 0;
     }
-    if s + 1 >= e {
+    if start + 1 >= end {
         return 0;
     }
-    read(a, s + 1)
+    read(rows, start + 1)
 }
 
 // The line of an entity: each line begins where the one before ends.
-pub fn find_entity(a: &[u32], k: u32, t: u32) -> Entry
-    ensures { λ r. ⌜ lineAt (rowsOf (now (a .entry)) 6) r ≡ lineIn (now (a .entry)) k t ⌝ }
+pub fn find_entity(rows: &[u32], kind: u32, text: u32) -> Entry
+    ensures { λ r. ⌜ lineAt (rowsOf (now (rows .entry)) ENTITY) r ≡ lineIn (now (rows .entry)) kind text ⌝ }
 {
-    let n = count(a, ENTITY);
+    let n = count(rows, ENTITY);
     let b = base_of(ENTITY);
-    let mut s = read(a, b) as usize;
+    let mut s = read(rows, b) as usize;
     let mut i = 0;
     loop {
         if i >= n {
             break Entry::Nothing;
         }
-        let e = read(a, b + i as usize + 1) as usize;
-        if is_entity(a, first_of(a, s, e), k, t) {
+        let e = read(rows, b + i as usize + 1) as usize;
+        if is_entity(rows, first_of(rows, s, e), kind, text) {
             break Entry::At(i);
         }
         s = e;
@@ -101,66 +110,66 @@ pub fn find_entity(a: &[u32], k: u32, t: u32) -> Entry
     }
 }
 
-// Item `j` of an entity's line: 1 attributes, 2 tags, 3 ancestors.
-pub fn part_of(a: &[u32], complete: bool, k: u32, t: u32, j: usize) -> Part
-    requires { ⌜ j < 4 ⌝ }
-    ensures { λ r. ⌜ r ≡ partIn complete (now (a .entry)) k t j ⌝ }
+// The item at `place` of an entity's line.
+pub fn part_of(rows: &[u32], complete: bool, kind: u32, text: u32, place: usize) -> Part
+    requires { ⌜ place ≤ ANCESTORS ⌝ }
+    ensures { λ r. ⌜ r ≡ partIn complete (now (rows .entry)) kind text place ⌝ }
 {
-    let Entry::At(i) = find_entity(a, k, t) else {
+    let Entry::At(i) = find_entity(rows, kind, text) else {
         if complete {
             return Part::Empty;
         }
         return Part::Unknown;
     };
-    let x = item(row(a, ENTITY, i), j + 1);
-    if x == 10000 {
+    let x = item(row(rows, ENTITY, i), place + 1);
+    if x == MARK {
         return Part::Unknown;
     }
     Part::Known(x)
 }
 
-// Text `u` in a part of the line of an entity of kind `k`.
-fn look_in(a: &[u32], k: u32, p: Part, u: u32) -> Look
-    ensures { λ r. ⌜ r ≡ lookIn (now (a .entry)) k p u ⌝ }
+// `text` in a part of the line of an entity of this kind.
+fn look_in(rows: &[u32], kind: u32, part: Part, text: u32) -> Look
+    ensures { λ r. ⌜ r ≡ lookIn (now (rows .entry)) kind part text ⌝ }
 {
-    match p {
-        Part::Unknown => Look::Unknown(k),
+    match part {
+        Part::Unknown => Look::Unknown(kind),
         Part::Empty => Look::Missing,
-        Part::Known(n) => look_at(a, n, u),
+        Part::Known(n) => look_at(rows, n, text),
     }
 }
 
-// Text `u` in record `n`.
-fn look_at(a: &[u32], n: u32, u: u32) -> Look
-    ensures { λ r. ⌜ r ≡ lookRow (valueIn (now (a .entry)) n) u ⌝ }
+// `text` in the record `value`.
+fn look_at(rows: &[u32], value: u32, text: u32) -> Look
+    ensures { λ r. ⌜ r ≡ lookRow (valueIn (now (rows .entry)) value) text ⌝ }
 {
-    let r = row_of(a, n as usize);
+    let r = row_of(rows, value as usize);
     let s = shape_of(r);
     let Shape::Record = s else {
         return Look::Bad;
     };
-    let Entry::At(x) = entry_of(members(r), u) else {
+    let Entry::At(x) = entry_of(members(r), text) else {
         return Look::Missing;
     };
     Look::At(x)
 }
 
-// Text `u` among the attributes of a record or an entity.
-pub fn look_attr(a: &[u32], complete: bool, v: u32, u: u32) -> Look
-    ensures { λ r. ⌜ r ≡ lookAttr complete (now (a .entry)) v u ⌝ }
+// `text` among the attributes of a record or an entity.
+pub fn look_attr(rows: &[u32], complete: bool, value: u32, text: u32) -> Look
+    ensures { λ r. ⌜ r ≡ lookAttr complete (now (rows .entry)) value text ⌝ }
 {
-    let s = shape_of(row_of(a, v as usize));
+    let s = shape_of(row_of(rows, value as usize));
     let Shape::Entity(k, t) = s else {
-        return look_at(a, v, u);
+        return look_at(rows, value, text);
     };
-    look_in(a, k, part_of(a, complete, k, t, 1), u)
+    look_in(rows, k, part_of(rows, complete, k, t, ATTRIBUTES), text)
 }
 
 // What was found; an error where it is missing.
-fn taken(l: Look) -> Given
-    ensures { λ r. ⌜ r ≡ takenOf l ⌝ }
+fn taken(look: Look) -> Given
+    ensures { λ r. ⌜ r ≡ takenOf look ⌝ }
 {
-    match l {
+    match look {
         Look::At(x) => Given::Old(x),
         Look::Missing => Given::Fails,
         Look::Unknown(_) => Given::Stays,
@@ -169,10 +178,10 @@ fn taken(l: Look) -> Given
 }
 
 // Whether something was found.
-fn present(l: Look) -> Given
-    ensures { λ r. ⌜ r ≡ presentOf l ⌝ }
+fn present(look: Look) -> Given
+    ensures { λ r. ⌜ r ≡ presentOf look ⌝ }
 {
-    match l {
+    match look {
         Look::At(_) => Given::Bool(true),
         Look::Missing => Given::Bool(false),
         Look::Unknown(_) => Given::Stays,
@@ -181,53 +190,53 @@ fn present(l: Look) -> Given
 }
 
 // An attribute of a record or an entity.
-pub fn get_of(a: &[u32], complete: bool, v: u32, t: u32) -> Given
-    ensures { λ r. ⌜ outOf r ≡ getOut complete (now (a .entry)) v t ⌝ }
+pub fn get_of(rows: &[u32], complete: bool, value: u32, text: u32) -> Given
+    ensures { λ r. ⌜ outOf r ≡ getOut complete (now (rows .entry)) value text ⌝ }
 {
-    taken(look_attr(a, complete, v, t))
+    taken(look_attr(rows, complete, value, text))
 }
 
 // Whether a record or an entity has an attribute.
-pub fn has_of(a: &[u32], complete: bool, v: u32, t: u32) -> Given
-    ensures { λ r. ⌜ outOf r ≡ hasOut complete (now (a .entry)) v t ⌝ }
+pub fn has_of(rows: &[u32], complete: bool, value: u32, text: u32) -> Given
+    ensures { λ r. ⌜ outOf r ≡ hasOut complete (now (rows .entry)) value text ⌝ }
 {
-    present(look_attr(a, complete, v, t))
+    present(look_attr(rows, complete, value, text))
 }
 
 // A tag of an entity, by the number of its name.
-fn look_tag(a: &[u32], complete: bool, m: u32, n: u32) -> Look
-    ensures { λ r. ⌜ r ≡ tagLook complete (now (a .entry)) m n ⌝ }
+fn look_tag(rows: &[u32], complete: bool, left: u32, right: u32) -> Look
+    ensures { λ r. ⌜ r ≡ tagLook complete (now (rows .entry)) left right ⌝ }
 {
-    let s = shape_of(row_of(a, m as usize));
+    let s = shape_of(row_of(rows, left as usize));
     let Shape::Entity(k, t) = s else {
         return Look::Bad;
     };
-    let d = shape_of(row_of(a, n as usize));
+    let d = shape_of(row_of(rows, right as usize));
     let Shape::Text(u) = d else {
         return Look::Bad;
     };
-    look_in(a, k, part_of(a, complete, k, t, 2), u)
+    look_in(rows, k, part_of(rows, complete, k, t, TAGS), u)
 }
 
 // A tag of an entity.
-pub fn gettag_of(a: &[u32], complete: bool, m: u32, n: u32) -> Given
-    ensures { λ r. ⌜ outOf r ≡ gettagOut complete (now (a .entry)) m n ⌝ }
+pub fn gettag_of(rows: &[u32], complete: bool, left: u32, right: u32) -> Given
+    ensures { λ r. ⌜ outOf r ≡ gettagOut complete (now (rows .entry)) left right ⌝ }
 {
-    taken(look_tag(a, complete, m, n))
+    taken(look_tag(rows, complete, left, right))
 }
 
 // Whether an entity has a tag.
-pub fn hastag_of(a: &[u32], complete: bool, m: u32, n: u32) -> Given
-    ensures { λ r. ⌜ outOf r ≡ hastagOut complete (now (a .entry)) m n ⌝ }
+pub fn hastag_of(rows: &[u32], complete: bool, left: u32, right: u32) -> Given
+    ensures { λ r. ⌜ outOf r ≡ hastagOut complete (now (rows .entry)) left right ⌝ }
 {
-    present(look_tag(a, complete, m, n))
+    present(look_tag(rows, complete, left, right))
 }
 
 // Whether a value is an entity.
-fn is_one(a: &[u32], v: u32) -> bool
-    ensures { λ r. ⌜ r ≡ isRentAt (now (a .entry)) v ⌝ }
+fn is_one(rows: &[u32], value: u32) -> bool
+    ensures { λ r. ⌜ r ≡ isRentAt (now (rows .entry)) value ⌝ }
 {
-    let s = shape_of(row_of(a, v as usize));
+    let s = shape_of(row_of(rows, value as usize));
     let Shape::Entity(_, _) = s else {
         return false;
     };
@@ -235,80 +244,80 @@ fn is_one(a: &[u32], v: u32) -> bool
 }
 
 // Whether all of these values are entities.
-fn all_entities(a: &[u32], l: &[u32]) -> bool
-    ensures { λ r. ⌜ r ≡ allRent (values (now (a .entry))) (now (l .entry)) ⌝ }
+fn all_entities(rows: &[u32], list: &[u32]) -> bool
+    ensures { λ r. ⌜ r ≡ allRent (values (now (rows .entry))) (now (list .entry)) ⌝ }
 {
     let mut i = 0;
     loop {
-        if i >= l.len() {
+        if i >= list.len() {
             break true;
         }
-        let v = l[i];
-        if !is_one(a, v) {
+        let v = list[i];
+        if !is_one(rows, v) {
             break false;
         }
         i += 1;
     }
 }
 
-// Whether an entity or one of its known ancestors `v` is among these.
-fn in_known(a: &[u32], m: u32, v: u32, l: &[u32]) -> Given
-    ensures { λ r. ⌜ outOf r ≡ inKnownOut (now (a .entry)) m v (now (l .entry)) ⌝ }
+// Whether an entity or one of its known `ancestors` is among these.
+fn in_known(rows: &[u32], value: u32, ancestors: u32, list: &[u32]) -> Given
+    ensures { λ r. ⌜ outOf r ≡ inKnownOut (now (rows .entry)) value ancestors (now (list .entry)) ⌝ }
 {
-    let r = row_of(a, v as usize);
+    let r = row_of(rows, ancestors as usize);
     let s = shape_of(r);
     let Shape::Set = s else {
         return Given::Fails;
     };
-    if contains(l, m) {
+    if contains(list, value) {
         return Given::Bool(true);
     }
-    Given::Bool(meets(l, members(r)))
+    Given::Bool(meets(list, members(r)))
 }
 
 // Whether an entity whose ancestors are unknown is among these.
-fn in_unknown(m: u32, l: &[u32]) -> Given
-    ensures { λ r. ⌜ outOf r ≡ inUnknownOut m (now (l .entry)) ⌝ }
+fn in_unknown(value: u32, list: &[u32]) -> Given
+    ensures { λ r. ⌜ outOf r ≡ inUnknownOut value (now (list .entry)) ⌝ }
 {
-    if contains(l, m) {
+    if contains(list, value) {
         return Given::Bool(true);
     }
-    if l.len() == 0 {
+    if list.len() == 0 {
         return Given::Bool(false);
     }
     Given::Stays
 }
 
-// Whether entity `m`, of kind `k` and text `t`, or one of its ancestors is among these.
-fn in_list(a: &[u32], complete: bool, m: u32, k: u32, t: u32, l: &[u32]) -> Given
-    ensures { λ r. ⌜ outOf r ≡ inListOut complete (now (a .entry)) m k t (now (l .entry)) ⌝ }
+// Whether an entity, of this kind and text, or one of its ancestors is among these.
+fn in_list(rows: &[u32], complete: bool, value: u32, kind: u32, text: u32, list: &[u32]) -> Given
+    ensures { λ r. ⌜ outOf r ≡ inListOut complete (now (rows .entry)) value kind text (now (list .entry)) ⌝ }
 {
-    let p = part_of(a, complete, k, t, 3);
+    let p = part_of(rows, complete, kind, text, ANCESTORS);
     match p {
-        Part::Known(v) => in_known(a, m, v, l),
-        Part::Empty => Given::Bool(contains(l, m)),
-        Part::Unknown => in_unknown(m, l),
+        Part::Known(v) => in_known(rows, value, v, list),
+        Part::Empty => Given::Bool(contains(list, value)),
+        Part::Unknown => in_unknown(value, list),
     }
 }
 
 // Whether an entity is in another or in one of a set.
-pub fn in_of(a: &[u32], complete: bool, m: u32, n: u32) -> Given
-    ensures { λ r. ⌜ outOf r ≡ inOut complete (now (a .entry)) m n ⌝ }
+pub fn in_of(rows: &[u32], complete: bool, left: u32, right: u32) -> Given
+    ensures { λ r. ⌜ outOf r ≡ inOut complete (now (rows .entry)) left right ⌝ }
 {
-    let s = shape_of(row_of(a, m as usize));
+    let s = shape_of(row_of(rows, left as usize));
     let Shape::Entity(k, t) = s else {
         return Given::Fails;
     };
-    let q = row_of(a, n as usize);
+    let q = row_of(rows, right as usize);
     let d = shape_of(q);
     match d {
-        Shape::Entity(_, _) => in_list(a, complete, m, k, t, &[n]),
+        Shape::Entity(_, _) => in_list(rows, complete, left, k, t, &[right]),
         Shape::Set => {
             let l = members(q);
-            if !all_entities(a, l) {
+            if !all_entities(rows, l) {
                 return Given::Fails;
             }
-            in_list(a, complete, m, k, t, l)
+            in_list(rows, complete, left, k, t, l)
         }
         _ => Given::Fails,
     }
@@ -321,17 +330,17 @@ pub enum Walked {
     Left(u32, u32, usize),
 }
 
-// A path of texts from value `v` on.
-pub fn walk(a: &[u32], complete: bool, v: u32, path: &[u32]) -> Walked
-    ensures { λ r. ⌜ r ≡ walkFrom complete (now (a .entry)) v 0 (now (path .entry)) ⌝ }
+// A path of texts from value `value` on.
+pub fn walk(rows: &[u32], complete: bool, value: u32, path: &[u32]) -> Walked
+    ensures { λ r. ⌜ r ≡ walkFrom complete (now (rows .entry)) value 0 (now (path .entry)) ⌝ }
 {
-    let mut n = v;
+    let mut n = value;
     let mut i = 0;
     loop {
         if i >= path.len() {
             break Walked::Fails;
         }
-        match look_attr(a, complete, n, path[i]) {
+        match look_attr(rows, complete, n, path[i]) {
             Look::Bad => break Walked::Fails,
             Look::Missing => break Walked::Holds(false),
             Look::Unknown(k) => break Walked::Left(n, k, i),

@@ -1,6 +1,10 @@
 // The strict operations on values by number: what each gives, without making it. Those that look at entities stand in `entity`.
 pub mod entity;
 
+use forms::ADD;
+use forms::LE;
+use forms::LT;
+use forms::SUB;
 use long::Checked;
 use table::text;
 use value::Shape;
@@ -29,10 +33,10 @@ pub enum Given {
 }
 
 // The other bool.
-pub fn not_of(a: &[u32], v: u32) -> Given
-    ensures { λ r. ⌜ outOf r ≡ notOut (valueIn (now (a .entry)) v) ⌝ }
+pub fn not_of(rows: &[u32], value: u32) -> Given
+    ensures { λ r. ⌜ outOf r ≡ notOut (valueIn (now (rows .entry)) value) ⌝ }
 {
-    let s = shape_of(row_of(a, v as usize));
+    let s = shape_of(row_of(rows, value as usize));
     let Shape::Bool(b) = s else {
         return Given::Fails;
     };
@@ -50,10 +54,10 @@ fn checked(c: Checked) -> Given
 }
 
 // The negative.
-pub fn neg_of(a: &[u32], v: u32) -> Given
-    ensures { λ r. ⌜ outOf r ≡ negOut (valueIn (now (a .entry)) v) ⌝ }
+pub fn neg_of(rows: &[u32], value: u32) -> Given
+    ensures { λ r. ⌜ outOf r ≡ negOut (valueIn (now (rows .entry)) value) ⌝ }
 {
-    let s = shape_of(row_of(a, v as usize));
+    let s = shape_of(row_of(rows, value as usize));
     let Shape::Long(x) = s else {
         return Given::Fails;
     };
@@ -61,10 +65,10 @@ pub fn neg_of(a: &[u32], v: u32) -> Given
 }
 
 // Whether a set has no members.
-pub fn empty_of(a: &[u32], v: u32) -> Given
-    ensures { λ r. ⌜ outOf r ≡ emptyOut (valueIn (now (a .entry)) v) ⌝ }
+pub fn empty_of(rows: &[u32], value: u32) -> Given
+    ensures { λ r. ⌜ outOf r ≡ emptyOut (valueIn (now (rows .entry)) value) ⌝ }
 {
-    let r = row_of(a, v as usize);
+    let r = row_of(rows, value as usize);
     let s = shape_of(r);
     let Shape::Set = s else {
         return Given::Fails;
@@ -72,85 +76,85 @@ pub fn empty_of(a: &[u32], v: u32) -> Given
     Given::Bool(members(r).len() == 0)
 }
 
-// Whether an entity is of kind `k`.
-pub fn is_of(a: &[u32], v: u32, k: u32) -> Given
-    ensures { λ r. ⌜ outOf r ≡ isOut k (valueIn (now (a .entry)) v) ⌝ }
+// Whether an entity is of this kind.
+pub fn is_of(rows: &[u32], value: u32, kind: u32) -> Given
+    ensures { λ r. ⌜ outOf r ≡ isOut kind (valueIn (now (rows .entry)) value) ⌝ }
 {
-    let s = shape_of(row_of(a, v as usize));
+    let s = shape_of(row_of(rows, value as usize));
     let Shape::Entity(l, _) = s else {
         return Given::Fails;
     };
-    Given::Bool(k == l)
+    Given::Bool(kind == l)
 }
 
 // Whether a text matches a pattern.
-pub fn like_of(sheet: &[u8], a: &[u32], v: u32, pattern: &[u32]) -> Given
-    ensures { λ r. ⌜ outOf r ≡ likeOut (textAt (now (sheet .entry)) (now (a .entry))) (now (pattern .entry)) (valueIn (now (a .entry)) v) ⌝ }
+pub fn like_of(sheet: &[u8], rows: &[u32], value: u32, pattern: &[u32]) -> Given
+    ensures { λ r. ⌜ outOf r ≡ likeOut (textAt (now (sheet .entry)) (now (rows .entry))) (now (pattern .entry)) (valueIn (now (rows .entry)) value) ⌝ }
 {
-    let s = shape_of(row_of(a, v as usize));
+    let s = shape_of(row_of(rows, value as usize));
     let Shape::Text(t) = s else {
         return Given::Fails;
     };
-    Given::Bool(like(sheet, a, pattern, text(sheet, a, t)))
+    Given::Bool(like(sheet, rows, pattern, text(sheet, rows, t)))
 }
 
 // Whether two values are the same.
-pub fn eq_of(m: u32, n: u32) -> Given
-    ensures { λ r. ⌜ outOf r ≡ truly (eqb m n) ⌝ }
+pub fn eq_of(left: u32, right: u32) -> Given
+    ensures { λ r. ⌜ outOf r ≡ truly (eqb left right) ⌝ }
 {
-    Given::Bool(m == n)
+    Given::Bool(left == right)
 }
 
 // Two longs, by the operation's tag: lt, le, add, sub, mul.
-fn arith(op: u32, x: u64, y: u64) -> Given
-    ensures { λ r. ⌜ outOf r ≡ longsOut op (longAt x) (longAt y) ⌝ }
+fn arith(tag: u32, x: u64, y: u64) -> Given
+    ensures { λ r. ⌜ outOf r ≡ longsOut tag (longAt x) (longAt y) ⌝ }
 {
-    match op {
-        27 => Given::Bool(long::less(x, y)),
-        28 => Given::Bool(long::at_most(x, y)),
-        29 => checked(long::add(x, y)),
-        30 => checked(long::sub(x, y)),
+    match tag {
+        LT => Given::Bool(long::less(x, y)),
+        LE => Given::Bool(long::at_most(x, y)),
+        ADD => checked(long::add(x, y)),
+        SUB => checked(long::sub(x, y)),
         _ => checked(long::mul(x, y)),
     }
 }
 
 // Two longs by number, and the operation's tag.
-pub fn arith_of(a: &[u32], op: u32, m: u32, n: u32) -> Given
-    ensures { λ r. ⌜ outOf r ≡ arithOut op (valueIn (now (a .entry)) m) (valueIn (now (a .entry)) n) ⌝ }
+pub fn arith_of(rows: &[u32], tag: u32, left: u32, right: u32) -> Given
+    ensures { λ r. ⌜ outOf r ≡ arithOut tag (valueIn (now (rows .entry)) left) (valueIn (now (rows .entry)) right) ⌝ }
 {
-    let s = shape_of(row_of(a, m as usize));
+    let s = shape_of(row_of(rows, left as usize));
     let Shape::Long(x) = s else {
         return Given::Fails;
     };
-    let t = shape_of(row_of(a, n as usize));
+    let t = shape_of(row_of(rows, right as usize));
     let Shape::Long(y) = t else {
         return Given::Fails;
     };
-    arith(op, x, y)
+    arith(tag, x, y)
 }
 
 // Whether a set has a member.
-pub fn contains_of(a: &[u32], m: u32, n: u32) -> Given
-    ensures { λ r. ⌜ outOf r ≡ containsOut n (valueIn (now (a .entry)) m) ⌝ }
+pub fn contains_of(rows: &[u32], left: u32, right: u32) -> Given
+    ensures { λ r. ⌜ outOf r ≡ containsOut right (valueIn (now (rows .entry)) left) ⌝ }
 {
-    let r = row_of(a, m as usize);
+    let r = row_of(rows, left as usize);
     let s = shape_of(r);
     let Shape::Set = s else {
         return Given::Fails;
     };
-    Given::Bool(contains(members(r), n))
+    Given::Bool(contains(members(r), right))
 }
 
 // Whether a set has all members of another.
-pub fn all_of(a: &[u32], m: u32, n: u32) -> Given
-    ensures { λ r. ⌜ outOf r ≡ allOut (valueIn (now (a .entry)) m) (valueIn (now (a .entry)) n) ⌝ }
+pub fn all_of(rows: &[u32], left: u32, right: u32) -> Given
+    ensures { λ r. ⌜ outOf r ≡ allOut (valueIn (now (rows .entry)) left) (valueIn (now (rows .entry)) right) ⌝ }
 {
-    let r = row_of(a, m as usize);
+    let r = row_of(rows, left as usize);
     let s = shape_of(r);
     let Shape::Set = s else {
         return Given::Fails;
     };
-    let q = row_of(a, n as usize);
+    let q = row_of(rows, right as usize);
     let t = shape_of(q);
     let Shape::Set = t else {
         return Given::Fails;
@@ -159,15 +163,15 @@ pub fn all_of(a: &[u32], m: u32, n: u32) -> Given
 }
 
 // Whether a set has some member of another.
-pub fn any_of(a: &[u32], m: u32, n: u32) -> Given
-    ensures { λ r. ⌜ outOf r ≡ anyOut (valueIn (now (a .entry)) m) (valueIn (now (a .entry)) n) ⌝ }
+pub fn any_of(rows: &[u32], left: u32, right: u32) -> Given
+    ensures { λ r. ⌜ outOf r ≡ anyOut (valueIn (now (rows .entry)) left) (valueIn (now (rows .entry)) right) ⌝ }
 {
-    let r = row_of(a, m as usize);
+    let r = row_of(rows, left as usize);
     let s = shape_of(r);
     let Shape::Set = s else {
         return Given::Fails;
     };
-    let q = row_of(a, n as usize);
+    let q = row_of(rows, right as usize);
     let t = shape_of(q);
     let Shape::Set = t else {
         return Given::Fails;

@@ -1,6 +1,6 @@
 -- THE RUN OVER WORDS IS THE NUMBERED RUN, for every accepted partial sheet that the words hold, if they have room for what is made.
 use mathlib.Core.Path.{_≡_, refl, sym, _∙_, ap, ap₂, subst}
-use mathlib.Core.Bool.{cond}
+use mathlib.Core.Bool.{false, cond}
 use mathlib.Core.Option.{Option, some}
 use mathlib.Core.List.{List, [], _∷_, _++_, append-assoc, append-nil}
 use Prim.Native.Nat.{ℕ, zero, suc, _+_, _-_, _*_, _≤_, _<_}
@@ -13,7 +13,8 @@ use Rattle.cedar.specs.Rows.{Row, rent, sameRow}
 use Rattle.cedar.specs.Numbered.{NEnv, nInterpret}
 use Rattle.cedar.specs.Runs.{Run, nRun}
 use Rattle.cedar.proofs.TableLaws.{InN}
-use Rattle.sheet.specs.Forms.{Mode, partial, forms, formOf, slotAt, tag, at, keyOf, TYPE, VALUE, NODE, POLICY}
+use Rattle.forms.specs.Tags.{POLICY-LINE}
+use Rattle.sheet.specs.Forms.{partial, forms, formOf, slotAt, tag, at, keyOf, TYPE, VALUE, NODE, POLICY, ENTITY}
 use Rattle.sheet.specs.State.{State, linesOf, count, depthsOf, valueRow}
 use Rattle.sheet.specs.Sheet.{read}
 use Rattle.sheet.specs.Content.{types, rowsIn, valueRows, schema, nEnv, given, requestTy, entityLine, lineGiven, trees, numberedPolicies, nPolicies}
@@ -32,6 +33,8 @@ use Rattle.table.specs.Layout.{base, rowsAt, rowsOf, linesHeld, held, MADE, TOP
 use Rattle.table.proofs.Rows.{count-held, count-rows}
 use Rattle.value.specs.Lines.{valueLines, placeOf}
 use Rattle.value.proofs.Interned.{Formeds}
+use Rattle.strict.specs.Gives.{envIn}
+use Rattle.strict.proofs.Links.{env-link}
 use Rattle.tpe.specs.Run.{interpOf, ranFrom, runOf}
 use Rattle.tpe.proofs.Reach.{reach-start}
 use Rattle.tpe.proofs.Stands.{Hold, values, Room, tys, nodes, ty}
@@ -43,21 +46,9 @@ use Rattle.tpe.proofs.Readings.{Tabled, own-tabled, keeps-tabled, lists
 use Rattle.tpe.proofs.KindLines.{kind-found, rows-formed}
 
 -- texts do not matter for the known parts
-given-same : (sheet a : List ℕ) (x : Var) → given (held [] a []) x ≡ given (held sheet a []) x
-unfolding held linesHeld
-given-same sheet a principal = refl
-given-same sheet a action = refl
-given-same sheet a resource = refl
-given-same sheet a context = refl
-
-entity-same : (sheet a : List ℕ) (e : Row) (rows : List (List ℕ)) → entityLine (held [] a []) e rows ≡ entityLine (held sheet a []) e rows
-unfolding held linesHeld
-entity-same sheet a e [] = refl
-entity-same sheet a e (r ∷ rows) = ap (λ (o : Option (List ℕ)). cond (sameRow (valueRow (getD (rowsOf a 5) (at r 0) [])) e) (some r) o) (entity-same sheet a e rows)
-
-env-same : (m : Mode) (sheet a : List ℕ) → nEnv m (held [] a []) ≡ nEnv m (held sheet a [])
-unfolding nEnv held linesHeld
-env-same m sheet a = λ i. record { request = λ x. given-same sheet a x i; line = λ k t. lineGiven m (entity-same sheet a (rent k t) (rowsOf a 6) i) }
+env-same : (sheet a : List ℕ) → nEnv partial (held [] a []) ≡ nEnv partial (held sheet a [])
+unfolding envIn
+env-same sheet a = env-link false a sheet []
 
 -- nor depths for what was read
 facts-lines : (l : List (List (List ℕ))) (d e : List (List ℕ)) (u v : List ℕ) → Facts partial (record { lines = l; depths = d; used = u }) → Facts partial (record { lines = l; depths = e; used = v })
@@ -80,14 +71,14 @@ module _ (sheet a₀ : List ℕ) (f : Facts partial (held sheet a₀ [])) where
   kinds k e = kind-found partial s (f .history) k e
 
   keeps : (c : ℕ) → c < length (nodes sheet a₀) → (R : List Row) → Tabled s R → Tabled s (nInterpret (sch partial sheet a₀) (env partial sheet a₀) (getD (trees s) c (err tbool)) R .rows)
-  keeps c lt R t = subst (λ (N : NEnv). Tabled s (nInterpret (schema s) N (getD (trees s) c (err tbool)) R .rows)) (sym (env-same partial sheet a₀)) (keeps-tabled s f c R t)
+  keeps c lt R t = subst (λ (N : NEnv). Tabled s (nInterpret (schema s) N (getD (trees s) c (err tbool)) R .rows)) (sym (env-same sheet a₀)) (keeps-tabled s f c R t)
 
   node-count : count s NODE ≡ length (nodes sheet a₀)
   unfolding held linesHeld
   node-count = refl
 
   lists : Listed (types s) tbool → (c : ℕ) → c < length (nodes sheet a₀) → (R : List Row) → Tabled s R → TypesIn (tys sheet a₀) (nInterpret (sch partial sheet a₀) (env partial sheet a₀) (getD (trees s) c (err tbool)) R .tree)
-  lists b c lt R t = subst (λ (N : NEnv). TypesIn (tys sheet a₀) (nInterpret (schema s) N (getD (trees s) c (err tbool)) R .tree)) (sym (env-same partial sheet a₀)) (lists-types s f b c (subst (λ (n : ℕ). c < n) (sym node-count) lt) R t)
+  lists b c lt R t = subst (λ (N : NEnv). TypesIn (tys sheet a₀) (nInterpret (schema s) N (getD (trees s) c (err tbool)) R .tree)) (sym (env-same sheet a₀)) (lists-types s f b c (subst (λ (n : ℕ). c < n) (sym node-count) lt) R t)
 
   -- ---- depths
 
@@ -109,11 +100,11 @@ module _ (sheet a₀ : List ℕ) (f : Facts partial (held sheet a₀ [])) where
     policy-node : (pre : List (List ℕ)) (r : List ℕ) → Was partial s POLICY pre r → at r 2 < length (nodes sheet a₀)
     unfolding held linesHeld keyOf slotAt formOf forms
     policy-node pre r w =
-        let (lo, hi) = tags-between 12 49 49 (tag r) (omega arith) policy-tags (w .key) in
-        let q : tag r ≡ 49 = omega (arith, lo, hi) in
-        let rd = row-read partial r (w .line) 49 (w .row) q (omega arith) (omega arith) (λ z. absurd (omega (arith, z))) in
-        let same : linesOf (w .was) 11 ≡ linesOf s 11 = w .earlier 11 (omega arith) in
-        let lt = ltb-true (at r 2) (count (w .was) 11) (item-there partial s (w .was) POLICY r 49 rd (w .pass .refers) 2 (ltb-true 2 3 refl)) in
+        let (lo, hi) = tags-between POLICY POLICY-LINE POLICY-LINE (tag r) (omega arith) policy-tags (w .key) in
+        let q : tag r ≡ POLICY-LINE = omega (arith, lo, hi) in
+        let rd = row-read partial r (w .line) POLICY-LINE (w .row) q (omega arith) (omega arith) (λ z. absurd (omega (arith, z))) in
+        let same : linesOf (w .was) NODE ≡ linesOf s NODE = w .earlier NODE (omega arith) in
+        let lt = ltb-true (at r 2) (count (w .was) NODE) (item-there partial s (w .was) POLICY r POLICY-LINE rd (w .pass .refers) 2 (ltb-true 2 3 refl)) in
         subst (λ z. at r 2 < length z) same lt
 
     all-work : (pre rest : List (List ℕ)) → linesOf s POLICY ≡ pre ++ rest → AllWork partial sheet a₀ (trees s) (Tabled s) 64 (omega arith) (interpOf partial sheet 64) rest
@@ -162,11 +153,11 @@ module _ (l : List (List (List ℕ))) (d e : List (List ℕ)) (u v : List ℕ) w
 
   entity-lines : (q : Row) (rows : List (List ℕ)) → entityLine one q rows ≡ entityLine two q rows
   entity-lines q [] = refl
-  entity-lines q (r ∷ rows) = ap (λ (o : Option (List ℕ)). cond (sameRow (valueRow (getD (getD l 5 []) (at r 0) [])) q) (some r) o) (entity-lines q rows)
+  entity-lines q (r ∷ rows) = ap (λ (o : Option (List ℕ)). cond (sameRow (valueRow (getD (getD l VALUE []) (at r 0) [])) q) (some r) o) (entity-lines q rows)
 
   env-lines : nEnv partial one ≡ nEnv partial two
   unfolding nEnv
-  env-lines = λ i. record { request = λ x. given-lines x i; line = λ k t. lineGiven partial (entity-lines (rent k t) (getD l 6 []) i) }
+  env-lines = λ i. record { request = λ x. given-lines x i; line = λ k t. lineGiven partial (entity-lines (rent k t) (getD l ENTITY []) i) }
 
   policies-lines : nPolicies one ≡ nPolicies two
   unfolding nPolicies trees types
@@ -224,7 +215,7 @@ module _ (sheet a b : List ℕ) (f : Facts partial (held sheet a b)) (d : Depths
 
   -- what is run is the sheet's run
   same-run : nRun (sch partial sheet a) (env partial sheet a) (numberedPolicies (trees (held sheet a [])) (rowsOf a POLICY)) (values a) ≡ run partial (held sheet a b)
-  same-run = ap₂ (λ (N : NEnv) (R : List Row). nRun (sch partial sheet a) N (numberedPolicies (trees (held sheet a [])) (rowsOf a POLICY)) R) (env-same partial sheet a) start-rows ∙ as-run sheet a ∙ run-same sheet a b
+  same-run = ap₂ (λ (N : NEnv) (R : List Row). nRun (sch partial sheet a) N (numberedPolicies (trees (held sheet a [])) (rowsOf a POLICY)) R) (env-same sheet a) start-rows ∙ as-run sheet a ∙ run-same sheet a b
 
   run-held : policySizes (nPolicies (held sheet a b)) ≤ getD a NODE 0 → getD a TOP 0 + 12 + 3 * getD a NODE 0 ≤ 16384 → RunIs partial sheet a 64 [] (run partial (held sheet a b)) (runOf partial sheet a [])
   unfolding runOf limit limits

@@ -7,7 +7,8 @@ use lib.ListN.{length, getD, set, replicate}
 use lib.Seq.{sets}
 use Rattle.words.specs.Log.{appended}
 use Rattle.cedar.specs.Residual.{cfalse}
-use Rattle.sheet.specs.Forms.{partial, TYPE, VALUE, NODE, POLICY, PRINCIPAL, CONTEXT, KIND, SHAPE}
+use Rattle.forms.specs.Tags.{KIND-LINE, BOOL-TYPE, ENTITY-TYPE, RECORD-TYPE, SHAPE-LINE, BOOL-VALUE, PRINCIPAL-LINE, CONTEXT-LINE, LIT, VAR, AND, EQ, GET, HASPATH, NOT, POLICY-LINE, PART-P, PART-C, PERMIT}
+use Rattle.sheet.specs.Forms.{partial, TYPE, VALUE, NODE, POLICY, PRINCIPAL, CONTEXT, KIND, SHAPE, mark}
 use Rattle.sheet.specs.Content.{types, schema, nEnv}
 use Rattle.table.specs.Layout.{bases, base, rowAt, rowsAt, rowsOf, linesHeld, held, withRow, TOP, heap}
 use Rattle.value.specs.Lines.{valueLines, placeOf}
@@ -23,58 +24,53 @@ with k r w = withRow (sets w (getD w TOP 0) r) k (getD w TOP 0 + length r)
 -- types `bool`, `entity,0`; value `bool,1`; principal `0,?`; nodes `var p` twice, `eq`, `lit` true, `not`, `and`; one policy
 words : List ℕ
 words =
-    with POLICY (49 ∷ 0 ∷ 0 ∷ 5 ∷ [])
-    (with NODE (24 ∷ 0 ∷ 2 ∷ 4 ∷ [])
-    (with NODE (44 ∷ 0 ∷ 3 ∷ [])
-    (with NODE (21 ∷ 0 ∷ 0 ∷ [])
-    (with NODE (26 ∷ 0 ∷ 0 ∷ 1 ∷ [])
-    (with NODE (23 ∷ 1 ∷ 0 ∷ [])
-    (with NODE (23 ∷ 1 ∷ 0 ∷ [])
-    (with PRINCIPAL (17 ∷ 0 ∷ 10000 ∷ [])
-    (with VALUE (10 ∷ 1 ∷ [])
-    (with TYPE (6 ∷ 0 ∷ [])
-    (with TYPE (3 ∷ []) (set (replicate 4064 0) TOP heap)))))))))))
+    with POLICY (POLICY-LINE ∷ 0 ∷ PERMIT ∷ 5 ∷ [])
+    (with NODE (AND ∷ 0 ∷ 2 ∷ 4 ∷ [])
+    (with NODE (NOT ∷ 0 ∷ 3 ∷ [])
+    (with NODE (LIT ∷ 0 ∷ 0 ∷ [])
+    (with NODE (EQ ∷ 0 ∷ 0 ∷ 1 ∷ [])
+    (with NODE (VAR ∷ 1 ∷ PART-P ∷ [])
+    (with NODE (VAR ∷ 1 ∷ PART-P ∷ [])
+    (with PRINCIPAL (PRINCIPAL-LINE ∷ 0 ∷ mark ∷ [])
+    (with VALUE (BOOL-VALUE ∷ 1 ∷ [])
+    (with TYPE (ENTITY-TYPE ∷ 0 ∷ [])
+    (with TYPE (BOOL-TYPE ∷ []) (set (replicate 4064 0) TOP heap)))))))))))
 
--- the left side stays open and cannot err, the right side makes false: the policy is false
-left-open : runOf partial [] words [] .log ≡ 0 ∷ 1 ∷ 4 ∷ 0 ∷ []
-unfolding with words bases base rowAt rowsAt rowsOf linesHeld held withRow valueLines placeOf roomFor narrow numberOf withMade withValue wordAt stageAt startAt opErrs blocksBy blocksErr rowErrs errsBy errs litOf errOf leftOf madeOf giveOf settleOf ruledOf worked1 worked2 oneOf twoOf classBy classOf decidedBy secondBy secondOf firstBy firstOf schemaIn tyIn envIn varFor unOf binOf litStep varStep lazyStep binStep unStep stepWith stepOf interpOf ranFrom runOf appended types schema nEnv
-left-open = refl
-
-left-lines : runOf partial [] words [] .lines ≡ record { class = cfalse; end = 4 } ∷ []
-unfolding with words bases base rowAt rowsAt rowsOf linesHeld held withRow valueLines placeOf roomFor narrow numberOf withMade withValue wordAt stageAt startAt opErrs blocksBy blocksErr rowErrs errsBy errs litOf errOf leftOf madeOf giveOf settleOf ruledOf worked1 worked2 oneOf twoOf classBy classOf decidedBy secondBy secondOf firstBy firstOf schemaIn tyIn envIn varFor unOf binOf litStep varStep lazyStep binStep unStep stepWith stepOf interpOf ranFrom runOf appended types schema nEnv
-left-lines = refl
-
--- the same over `get` of the unknown context, which can err: the node stays, with a literal false
+-- the same over `get` of the unknown context, which can err
 risky : List ℕ
 risky =
-    with POLICY (49 ∷ 0 ∷ 0 ∷ 4 ∷ [])
-    (with NODE (24 ∷ 0 ∷ 1 ∷ 3 ∷ [])
-    (with NODE (44 ∷ 0 ∷ 2 ∷ [])
-    (with NODE (21 ∷ 0 ∷ 0 ∷ [])
-    (with NODE (41 ∷ 0 ∷ 0 ∷ 0 ∷ [])
-    (with NODE (23 ∷ 1 ∷ 3 ∷ [])
-    (with CONTEXT (20 ∷ 1 ∷ 10000 ∷ [])
-    (with VALUE (10 ∷ 1 ∷ [])
-    (with TYPE (8 ∷ 0 ∷ 0 ∷ 0 ∷ [])
-    (with TYPE (3 ∷ []) (set (replicate 4064 0) TOP heap))))))))))
+    with POLICY (POLICY-LINE ∷ 0 ∷ PERMIT ∷ 4 ∷ [])
+    (with NODE (AND ∷ 0 ∷ 1 ∷ 3 ∷ [])
+    (with NODE (NOT ∷ 0 ∷ 2 ∷ [])
+    (with NODE (LIT ∷ 0 ∷ 0 ∷ [])
+    (with NODE (GET ∷ 0 ∷ 0 ∷ 0 ∷ [])
+    (with NODE (VAR ∷ 1 ∷ PART-C ∷ [])
+    (with CONTEXT (CONTEXT-LINE ∷ 1 ∷ mark ∷ [])
+    (with VALUE (BOOL-VALUE ∷ 1 ∷ [])
+    (with TYPE (RECORD-TYPE ∷ 0 ∷ 0 ∷ 0 ∷ [])
+    (with TYPE (BOOL-TYPE ∷ []) (set (replicate 4064 0) TOP heap))))))))))
 
-may-err : runOf partial [] risky [] .log ≡ 2 ∷ 0 ∷ 4 ∷ 1 ∷ 2 ∷ 1 ∷ 8 ∷ 0 ∷ 0 ∷ 1 ∷ 4 ∷ 0 ∷ 2 ∷ 4 ∷ 16 ∷ 0 ∷ []
-unfolding with risky bases base rowAt rowsAt rowsOf linesHeld held withRow valueLines placeOf roomFor narrow numberOf withMade withValue wordAt stageAt startAt opErrs blocksBy blocksErr rowErrs errsBy errs litOf errOf leftOf madeOf giveOf settleOf ruledOf worked1 worked2 oneOf twoOf classBy classOf decidedBy secondBy secondOf firstBy firstOf schemaIn tyIn envIn varFor unOf binOf litStep varStep lazyStep binStep unStep stepWith stepOf interpOf ranFrom runOf appended types schema nEnv getOf getStep
-may-err = refl
-
--- a path from the known principal, an entity that is not listed: what is left over begins at the entity made, with its type
+-- a path from the known principal, an entity that is not listed
 path : List ℕ
 path =
-    with POLICY (49 ∷ 0 ∷ 0 ∷ 1 ∷ [])
-    (with NODE (43 ∷ 0 ∷ 0 ∷ 0 ∷ 0 ∷ [])
-    (with NODE (23 ∷ 1 ∷ 0 ∷ [])
-    (with PRINCIPAL (17 ∷ 0 ∷ 0 ∷ [])
-    (with SHAPE (9 ∷ 2 ∷ 10000 ∷ [])
-    (with TYPE (8 ∷ 0 ∷ 0 ∷ 1 ∷ [])
-    (with TYPE (6 ∷ 0 ∷ [])
-    (with TYPE (3 ∷ [])
-    (with KIND (2 ∷ 0 ∷ 0 ∷ []) (set (replicate 4064 0) TOP heap)))))))))
+    with POLICY (POLICY-LINE ∷ 0 ∷ PERMIT ∷ 1 ∷ [])
+    (with NODE (HASPATH ∷ 0 ∷ 0 ∷ 0 ∷ 0 ∷ [])
+    (with NODE (VAR ∷ 1 ∷ PART-P ∷ [])
+    (with PRINCIPAL (PRINCIPAL-LINE ∷ 0 ∷ 0 ∷ [])
+    (with SHAPE (SHAPE-LINE ∷ 2 ∷ mark ∷ [])
+    (with TYPE (RECORD-TYPE ∷ 0 ∷ 0 ∷ 1 ∷ [])
+    (with TYPE (ENTITY-TYPE ∷ 0 ∷ [])
+    (with TYPE (BOOL-TYPE ∷ [])
+    (with KIND (KIND-LINE ∷ 0 ∷ 0 ∷ []) (set (replicate 4064 0) TOP heap)))))))))
 
-left-over : runOf partial [] path [] .log ≡ 0 ∷ 0 ∷ 4 ∷ 1 ∷ 2 ∷ 1 ∷ 8 ∷ 0 ∷ []
-unfolding with path bases base rowAt rowsAt rowsOf linesHeld held withRow valueLines placeOf roomFor narrow numberOf withMade withValue wordAt stageAt startAt opErrs blocksBy blocksErr rowErrs errsBy errs litOf errOf leftOf madeOf giveOf settleOf ruledOf worked1 worked2 oneOf twoOf classBy classOf decidedBy secondBy secondOf firstBy firstOf schemaIn tyIn envIn varFor unOf binOf litStep varStep lazyStep binStep unStep stepWith stepOf interpOf ranFrom runOf appended types schema nEnv walkFrom entityType stuckOf walkedOf pathBy pathOf pathStep
-left-over = refl
+-- what a run shows
+abbrev shown : List ℕ → List ℕ × List Line
+shown a = let r = runOf partial [] a [] in (r .log, r .lines)
+
+-- The left side stays open and cannot err, the right side makes false: the policy is false. Over a left side that can err the node
+-- stays, with a literal false. Of a path what is left over begins at the entity made, with its type.
+cases : (shown words ≡ (0 ∷ 1 ∷ 4 ∷ 0 ∷ [], record { class = cfalse; end = 4 } ∷ []))
+    × (shown risky .0 ≡ 2 ∷ 0 ∷ 4 ∷ 1 ∷ 2 ∷ 1 ∷ 8 ∷ 0 ∷ 0 ∷ 1 ∷ 4 ∷ 0 ∷ 2 ∷ 4 ∷ 16 ∷ 0 ∷ [])
+    × (shown path .0 ≡ 0 ∷ 0 ∷ 4 ∷ 1 ∷ 2 ∷ 1 ∷ 8 ∷ 0 ∷ [])
+unfolding with words bases base rowAt rowsAt rowsOf linesHeld held withRow valueLines placeOf roomFor narrow numberOf withMade withValue wordAt stageAt startAt opErrs blocksBy blocksErr rowErrs errsBy errs litOf errOf leftOf madeOf giveOf settleOf ruledOf worked1 worked2 oneOf twoOf classBy classOf decidedBy secondBy secondOf firstBy firstOf schemaIn tyIn envIn varFor unOf binOf litStep varStep lazyStep binStep unStep stepWith stepOf interpOf ranFrom runOf appended types schema nEnv risky getOf getStep path walkFrom entityType stuckOf walkedOf pathBy pathOf pathStep
+cases = (refl, refl, refl)

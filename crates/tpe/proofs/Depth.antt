@@ -9,7 +9,8 @@ use Rattle.cedar.specs.Residual.{Node, err}
 use Rattle.cedar.specs.Rows.{Row}
 use Rattle.cedar.specs.Numbered.{Out, nInterpret}
 use Rattle.cedar.proofs.TableLaws.{InN}
-use Rattle.sheet.specs.Forms.{Mode, tag, items, TYPE, NODE}
+use Rattle.forms.specs.Tags.{ENTITY-TYPE, RECORD-OF}
+use Rattle.sheet.specs.Forms.{Mode, tag, items, TYPE, NODE, firstNode}
 use Rattle.sheet.specs.Content.{treeOver}
 use Rattle.sheet.specs.Answer.{size}
 use Rattle.sheet.proofs.TypeNumbers.{Listed, TypesIn}
@@ -23,15 +24,15 @@ use Rattle.tpe.proofs.EachStep.{kidsFor, Below, treeAt, step-is}
 
 -- the children of a node's row
 abbrev pub childrenOf : List ℕ → List ℕ
-childrenOf r = getD (kidsFor r) (tag r - 21) []
+childrenOf r = getD (kidsFor r) (tag r - firstNode) []
 
 module _ (sheet a₀ : List ℕ) (trs : List (Node ℕ)) where
   -- node c is there, its row is of an operation, and tree c is the one that the row says
   pub record Proper (c : ℕ) : Type 0 where
     pub there : c < length (nodes sheet a₀)
-    pub low : 21 ≤ tag (getD (nodes sheet a₀) c [])
-    pub high : tag (getD (nodes sheet a₀) c []) ≤ 48
-    pub even : tag (getD (nodes sheet a₀) c []) ≡ 48 → length (drop 1 (items (getD (nodes sheet a₀) c []))) ≡ 2 * length (others (drop 1 (items (getD (nodes sheet a₀) c []))))
+    pub low : firstNode ≤ tag (getD (nodes sheet a₀) c [])
+    pub high : tag (getD (nodes sheet a₀) c []) ≤ RECORD-OF
+    pub even : tag (getD (nodes sheet a₀) c []) ≡ RECORD-OF → length (drop 1 (items (getD (nodes sheet a₀) c []))) ≡ 2 * length (others (drop 1 (items (getD (nodes sheet a₀) c []))))
     pub tree : getD trs c (err tbool) ≡ treeOver (tys sheet a₀) (λ n. n) trs (getD (nodes sheet a₀) c [])
 
   -- node c is proper, and so are those below it, which are d levels with it at most
@@ -43,7 +44,7 @@ module _ (sheet a₀ : List ℕ) (trs : List (Node ℕ)) where
   deep-there zero c e = absurd e
   deep-there (suc d) c e = e .0 .there
 
-module _ (m : Mode) (sheet a₀ : List ℕ) (kinds : (k : ℕ) → Listed (tys sheet a₀) (tent k) → ty sheet a₀ (placeOf (6 ∷ k ∷ []) (rowsOf a₀ TYPE)) ≡ tent k)
+module _ (m : Mode) (sheet a₀ : List ℕ) (kinds : (k : ℕ) → Listed (tys sheet a₀) (tent k) → ty sheet a₀ (placeOf (ENTITY-TYPE ∷ k ∷ []) (rowsOf a₀ TYPE)) ≡ tent k)
     (trs : List (Node ℕ)) (P : List Row → Type 0)
     (keeps : (c : ℕ) → c < length (nodes sheet a₀) → (R : List Row) → P R → P (nInterpret (sch m sheet a₀) (env m sheet a₀) (getD trs c (err tbool)) R .rows))
     (lists : (c : ℕ) → c < length (nodes sheet a₀) → (R : List Row) → P R → TypesIn (tys sheet a₀) (nInterpret (sch m sheet a₀) (env m sheet a₀) (getD trs c (err tbool)) R .tree)) where
@@ -53,11 +54,11 @@ module _ (m : Mode) (sheet a₀ : List ℕ) (kinds : (k : ℕ) → Listed (tys s
   interp-is zero c deep e a l h good room = absurd e
   interp-is (suc d) c deep e a l h good room =
       let k = e .0 in
-      rw (h .same NODE (omega arith))
+      subst (λ (ns : List (List ℕ)). Is sheet a₀ (suc d) (size (getD trs c (err tbool))) a l (nInterpret (sch m sheet a₀) (env m sheet a₀) (getD trs c (err tbool)) (values a)) (stepWith m sheet (interpOf m sheet d) a l c (getD ns c []))) (sym (h .same NODE (omega arith)))
       (subst
       (λ (t : Node ℕ). Room (size t) a l → TypesIn (tys sheet a₀) (nInterpret (sch m sheet a₀) (env m sheet a₀) t (values a) .tree)
-      → Is sheet a₀ (suc d) (size t) a l (nInterpret (sch m sheet a₀) (env m sheet a₀) t (values a)) (getD (steps m sheet) (tag (getD (nodes sheet a₀) c []) - 21) (errStep m sheet) (interpOf m sheet d) a l c (getD (nodes sheet a₀) c [])))
+      → Is sheet a₀ (suc d) (size t) a l (nInterpret (sch m sheet a₀) (env m sheet a₀) t (values a)) (getD (steps m sheet) (tag (getD (nodes sheet a₀) c []) - firstNode) (errStep m sheet) (interpOf m sheet d) a l c (getD (nodes sheet a₀) c [])))
       (sym (k .tree))
-      (step-is m sheet a₀ kinds trs P d (omega (arith, deep)) (interpOf m sheet d) c (k .low) a l h good (k .even) (tag (getD (nodes sheet a₀) c []) - 21) refl (omega (arith, k .high))
+      (step-is m sheet a₀ kinds trs P d (omega (arith, deep)) (interpOf m sheet d) c (k .low) a l h good (k .even) (tag (getD (nodes sheet a₀) c []) - firstNode) refl (omega (arith, k .high))
       (λ j i. record { working = interp-is d j (omega (arith, deep)) (e .1 j i); keeps = keeps j (deep-there sheet a₀ trs d j (e .1 j i)) }))
       room (lists c (k .there) (values a) good))

@@ -15,7 +15,8 @@ use Rattle.cedar.specs.Rows.{Row}
 use Rattle.cedar.specs.Numbered.{Give, made, old, NEnv, Out, out, Outs, OutArgs, nVar, giveLit, nStepUn, nStepGet, nStepHas, nStepPath, nStepSet, nStepRec, thenAnd, thenOr, thenIf, thenBin, thenRel, nInterpret, nInterprets, nInterpretArgs}
 use Rattle.cedar.proofs.Tools.{no-some}
 use Rattle.cedar.proofs.TableLaws.{InN, now′, later′}
-use Rattle.sheet.specs.Forms.{Mode, tag, items, at, mark, TYPE, NODE, PRINCIPAL, ACTION, RESOURCE, CONTEXT}
+use Rattle.forms.specs.Tags.{ENTITY-TYPE, VAR, SET-OF, RECORD-OF}
+use Rattle.sheet.specs.Forms.{Mode, tag, items, at, mark, TYPE, NODE, PRINCIPAL, ACTION, RESOURCE, CONTEXT, firstNode}
 use Rattle.sheet.specs.State.{State, lineAt}
 use Rattle.sheet.specs.Content.{varOf, known, given, nEnv, child, childrenOver, argsOver, treeFor, patternOf}
 use Rattle.sheet.specs.Answer.{size, sizes, sizeArgs}
@@ -83,16 +84,16 @@ kidsFor r =
     [] ∷ [] ∷ [] ∷ two ∷ two ∷ two ∷ two ∷ two ∷ two ∷ two ∷ two ∷ two ∷ two ∷ two ∷ two ∷ two ∷ two
     ∷ (at r 1 ∷ at r 2 ∷ at r 3 ∷ []) ∷ one ∷ one ∷ one ∷ one ∷ one ∷ one ∷ one ∷ one ∷ drop 1 (items r) ∷ others (drop 1 (items r)) ∷ []
 
-pub left-at : (r : List ℕ) (x : ℕ) → tag r - 21 ≡ x → (k : ℕ) (T : Ty) (cs : List (Node ℕ)) → leftTree r k T cs ≡ getD (leftFor r k T cs (λ j. getD cs j (err tbool))) x (err tbool)
+pub left-at : (r : List ℕ) (x : ℕ) → tag r - firstNode ≡ x → (k : ℕ) (T : Ty) (cs : List (Node ℕ)) → leftTree r k T cs ≡ getD (leftFor r k T cs (λ j. getD cs j (err tbool))) x (err tbool)
 unfolding leftTree
 left-at r x e k T cs = ap (λ (z : ℕ). getD (leftFor r k T cs (λ j. getD cs j (err tbool))) z (err tbool)) e
 
-pub suits-at : (r : List ℕ) (x : ℕ) → 21 ≤ tag r → tag r - 21 ≡ x → (n : ℕ) → suits r n ≡ getD (suitsFor r n) x false
+pub suits-at : (r : List ℕ) (x : ℕ) → firstNode ≤ tag r → tag r - firstNode ≡ x → (n : ℕ) → suits r n ≡ getD (suitsFor r n) x false
 unfolding suits
-suits-at r x h e n = rw (le-leb 21 (tag r) h, e)
+suits-at r x h e n = rw (le-leb firstNode (tag r) h, e)
 
 -- a path over a child of any depth: none is of depth 0
-path-any : (m : Mode) (sheet a₀ : List ℕ) (kinds : (k : ℕ) → Listed (tys sheet a₀) (tent k) → ty sheet a₀ (placeOf (6 ∷ k ∷ []) (rowsOf a₀ TYPE)) ≡ tent k)
+path-any : (m : Mode) (sheet a₀ : List ℕ) (kinds : (k : ℕ) → Listed (tys sheet a₀) (tent k) → ty sheet a₀ (placeOf (ENTITY-TYPE ∷ k ∷ []) (rowsOf a₀ TYPE)) ≡ tent k)
     (d : ℕ) {n : ℕ} {a l : List ℕ} {X : Out} {o : O} → d ≤ 64 → Is sheet a₀ d n a l X o → (c : ℕ) (r : List ℕ) → Room (suc n) a l → suits (getD (nodes sheet a₀) c []) 1 ≡ true
     → ((j : ℕ) (t : Node ℕ) → leftTree (getD (nodes sheet a₀) c []) j (ty sheet a₀ (at r 0)) (t ∷ []) ≡ haspath (ty sheet a₀ (at r 0)) t (at r (2 + j)) (drop (3 + j) (items r)))
     → TypesIn (tys sheet a₀) (nStepPath (sch m sheet a₀) (env m sheet a₀) (ty sheet a₀ (at r 0)) X (at r 2) (drop 3 (items r)) .tree)
@@ -105,8 +106,8 @@ path-any m sheet a₀ kinds (suc d) deep i c r room su keep lists = path-is m sh
 
 -- ---- one step: node c has row r, and the nodes below work
 
-module _ (m : Mode) (sheet a₀ : List ℕ) (kinds : (k : ℕ) → Listed (tys sheet a₀) (tent k) → ty sheet a₀ (placeOf (6 ∷ k ∷ []) (rowsOf a₀ TYPE)) ≡ tent k)
-    (trs : List (Node ℕ)) (P : List Row → Type 0) (d : ℕ) (deep : d ≤ 64) (f : Rec) (c : ℕ) (low : 21 ≤ tag (getD (nodes sheet a₀) c []))
+module _ (m : Mode) (sheet a₀ : List ℕ) (kinds : (k : ℕ) → Listed (tys sheet a₀) (tent k) → ty sheet a₀ (placeOf (ENTITY-TYPE ∷ k ∷ []) (rowsOf a₀ TYPE)) ≡ tent k)
+    (trs : List (Node ℕ)) (P : List Row → Type 0) (d : ℕ) (deep : d ≤ 64) (f : Rec) (c : ℕ) (low : firstNode ≤ tag (getD (nodes sheet a₀) c []))
     (a l : List ℕ) (h : Hold a₀ a) (good : P (values a)) where
   abbrev r : List ℕ
   r = getD (nodes sheet a₀) c []
@@ -140,7 +141,7 @@ module _ (m : Mode) (sheet a₀ : List ℕ) (kinds : (k : ℕ) → Listed (tys s
   unfolding errStep
   err-step room = err-is sheet a₀ d 1 (omega arith) a l a room h (record { top = omega arith; few = omega arith }) (at r 0)
 
-  module _ (e : tag r - 21 ≡ 2) (room : Room 1 a l) where
+  module _ (e : tag r - firstNode ≡ VAR - firstNode) (room : Room 1 a l) where
     asked-as : (g : Give) → env m sheet a₀ .request (varOf (at r 1)) ≡ some g → asks a .request (varOf (at r 1)) ≡ some g
     unfolding nEnv
     asked-as g q = ap (λ (s : State). given s (varOf (at r 1))) (held-same [] a₀ a [] [] (h .same) refl) ∙ q
@@ -150,7 +151,7 @@ module _ (m : Mode) (sheet a₀ : List ℕ) (kinds : (k : ℕ) → Listed (tys s
     unfolding varFor giveOf flats treesOf
     var-by none ask fine =
         left-is sheet a₀ d 1 (omega arith) a l a room h (record { top = omega arith; few = omega arith }) l rnil (sym (append-nil l)) (omega arith) whole-none c 0 (at r 0)
-        (suits-at r 2 low e 0) (var T (varOf (at r 1))) (left-at r 2 e 0 T [])
+        (suits-at r (VAR - firstNode) low e 0) (var T (varOf (at r 1))) (left-at r (VAR - firstNode) e 0 T [])
     var-by (some (made q)) ask fine =
         let g : RowFine q = fine (made q) refl in
         is-as sheet a₀
@@ -260,7 +261,7 @@ module _ (m : Mode) (sheet a₀ : List ℕ) (kinds : (k : ℕ) → Listed (tys s
   less-room : {n : ℕ} → Room (suc n) a l → Room n a l
   less-room room = record { top = omega (arith, room .top); few = omega (arith, room .few); log = omega (arith, room .log) }
 
-  pub set-step : ((x : ℕ) → InN x (drop 1 (items r)) → Below x) → Room (suc (sizes (childrenOver (tys sheet a₀) (λ n. n) trs (drop 1 (items r))))) a l → tag r - 21 ≡ 26
+  pub set-step : ((x : ℕ) → InN x (drop 1 (items r)) → Below x) → Room (suc (sizes (childrenOver (tys sheet a₀) (λ n. n) trs (drop 1 (items r))))) a l → tag r - firstNode ≡ SET-OF - firstNode
       → Is sheet a₀ (suc d) (suc (sizes (childrenOver (tys sheet a₀) (λ n. n) trs (drop 1 (items r))))) a l
       (nStepSet (sch m sheet a₀) (env m sheet a₀) T (nInterprets (sch m sheet a₀) (env m sheet a₀) (childrenOver (tys sheet a₀) (λ n. n) trs (drop 1 (items r))) (values a))) (setStep m sheet f a l c r)
   unfolding setStep
@@ -269,10 +270,10 @@ module _ (m : Mode) (sheet a₀ : List ℕ) (kinds : (k : ℕ) → Listed (tys s
       let n : length (drop 1 (items r)) ≡ length r - 2 = simp length-drop (omega arith) in
       rw (← n, same-row _ (k .hold))
       (is-as sheet a₀
-      (set-is m sheet a₀ P k c r room (suits-at r 26 low e (length (drop 1 (items r)))) (left-at r 26 e 0 T _))
+      (set-is m sheet a₀ P k c r room (suits-at r (SET-OF - firstNode) low e (length (drop 1 (items r)))) (left-at r (SET-OF - firstNode) e 0 T _))
       (ap (nStepSet (sch m sheet a₀) (env m sheet a₀) T) (sym (all-are (sch m sheet a₀) (env m sheet a₀) (tys sheet a₀) trs (drop 1 (items r)) (values a)))))
 
-  pub rec-step : ((x : ℕ) → InN x (others (drop 1 (items r))) → Below x) → Room (suc (sizeArgs (argsOver (tys sheet a₀) (λ n. n) trs (drop 1 (items r))))) a l → tag r - 21 ≡ 27
+  pub rec-step : ((x : ℕ) → InN x (others (drop 1 (items r))) → Below x) → Room (suc (sizeArgs (argsOver (tys sheet a₀) (λ n. n) trs (drop 1 (items r))))) a l → tag r - firstNode ≡ RECORD-OF - firstNode
       → length (drop 1 (items r)) ≡ 2 * length (others (drop 1 (items r)))
       → Is sheet a₀ (suc d) (suc (sizeArgs (argsOver (tys sheet a₀) (λ n. n) trs (drop 1 (items r))))) a l
       (nStepRec (sch m sheet a₀) (env m sheet a₀) T (nInterpretArgs (sch m sheet a₀) (env m sheet a₀) (argsOver (tys sheet a₀) (λ n. n) trs (drop 1 (items r))) (values a))) (recStep m sheet f a l c r)
@@ -284,8 +285,8 @@ module _ (m : Mode) (sheet a₀ : List ℕ) (kinds : (k : ℕ) → Listed (tys s
       rw (← n, same-row _ (k .hold))
       (is-as sheet a₀
       (rec-is m sheet a₀ P k c r room
-      (suits-at r 27 low e (length (others (drop 1 (items r)))) ∙ eq-eqb (length (drop 1 (items r))) (length (others (drop 1 (items r))) + length (others (drop 1 (items r)))) (omega (arith, even)))
-      even (left-at r 27 e 0 T _))
+      (suits-at r (RECORD-OF - firstNode) low e (length (others (drop 1 (items r)))) ∙ eq-eqb (length (drop 1 (items r))) (length (others (drop 1 (items r))) + length (others (drop 1 (items r)))) (omega (arith, even)))
+      even (left-at r (RECORD-OF - firstNode) e 0 T _))
       (ap (nStepRec (sch m sheet a₀) (env m sheet a₀) T) (sym (args-are (sch m sheet a₀) (env m sheet a₀) (tys sheet a₀) trs (drop 1 (items r)) (values a)))))
 
   pub path-step : Below (at r 1) → Room (suc (size (tr (at r 1)))) a l → suits r 1 ≡ true
@@ -302,36 +303,36 @@ module _ (m : Mode) (sheet a₀ : List ℕ) (kinds : (k : ℕ) → Listed (tys s
   treeAt x = getD (treeFor (tys sheet a₀) (λ n. n) trs r T (λ j. tr (at r j))) x (err tbool)
 
   -- EVERY OPERATION
-  module _ (even : tag r ≡ 48 → length (drop 1 (items r)) ≡ 2 * length (others (drop 1 (items r)))) where
-    pub step-is : (x : ℕ) → tag r - 21 ≡ x → x ≤ 27 → ((j : ℕ) → InN j (getD (kidsFor r) x []) → Below j) → Room (size (treeAt x)) a l
+  module _ (even : tag r ≡ RECORD-OF → length (drop 1 (items r)) ≡ 2 * length (others (drop 1 (items r)))) where
+    pub step-is : (x : ℕ) → tag r - firstNode ≡ x → x ≤ RECORD-OF - firstNode → ((j : ℕ) → InN j (getD (kidsFor r) x []) → Below j) → Room (size (treeAt x)) a l
         → TypesIn (tys sheet a₀) (nInterpret (sch m sheet a₀) (env m sheet a₀) (treeAt x) (values a) .tree)
         → Is sheet a₀ (suc d) (size (treeAt x)) a l (nInterpret (sch m sheet a₀) (env m sheet a₀) (treeAt x) (values a)) (getD (steps m sheet) x (errStep m sheet) f a l c r)
     step-is zero e small below room lists = lit-step room
     step-is (suc zero) e small below room lists = err-step room
     step-is (suc (suc zero)) e small below room lists = var-step e room
-    step-is (suc (suc (suc zero))) e small below room lists = and-step (below (at r 1) now′) (below (at r 2) (later′ now′)) room (suits-at r 3 low e 2) (λ t u. left-at r 3 e 0 T (t ∷ u ∷ []))
-    step-is (suc (suc (suc (suc zero)))) e small below room lists = or-step (below (at r 1) now′) (below (at r 2) (later′ now′)) room (suits-at r 4 low e 2) (λ t u. left-at r 4 e 0 T (t ∷ u ∷ []))
-    step-is (suc (suc (suc (suc (suc zero))))) e small below room lists = bin-step (below (at r 1) now′) (below (at r 2) (later′ now′)) room (suits-at r 5 low e 2) beq (λ t u. left-at r 5 e 0 T (t ∷ u ∷ []))
-    step-is (suc (suc (suc (suc (suc (suc zero)))))) e small below room lists = bin-step (below (at r 1) now′) (below (at r 2) (later′ now′)) room (suits-at r 6 low e 2) blt (λ t u. left-at r 6 e 0 T (t ∷ u ∷ []))
-    step-is (suc (suc (suc (suc (suc (suc (suc zero))))))) e small below room lists = bin-step (below (at r 1) now′) (below (at r 2) (later′ now′)) room (suits-at r 7 low e 2) ble (λ t u. left-at r 7 e 0 T (t ∷ u ∷ []))
-    step-is (suc (suc (suc (suc (suc (suc (suc (suc zero)))))))) e small below room lists = bin-step (below (at r 1) now′) (below (at r 2) (later′ now′)) room (suits-at r 8 low e 2) badd (λ t u. left-at r 8 e 0 T (t ∷ u ∷ []))
-    step-is (suc (suc (suc (suc (suc (suc (suc (suc (suc zero))))))))) e small below room lists = bin-step (below (at r 1) now′) (below (at r 2) (later′ now′)) room (suits-at r 9 low e 2) bsub (λ t u. left-at r 9 e 0 T (t ∷ u ∷ []))
-    step-is (suc (suc (suc (suc (suc (suc (suc (suc (suc (suc zero)))))))))) e small below room lists = bin-step (below (at r 1) now′) (below (at r 2) (later′ now′)) room (suits-at r 10 low e 2) bmul (λ t u. left-at r 10 e 0 T (t ∷ u ∷ []))
-    step-is (suc (suc (suc (suc (suc (suc (suc (suc (suc (suc (suc zero))))))))))) e small below room lists = rel-step (below (at r 1) now′) (below (at r 2) (later′ now′)) room (suits-at r 11 low e 2) rin (λ t u. left-at r 11 e 0 T (t ∷ u ∷ []))
-    step-is (suc (suc (suc (suc (suc (suc (suc (suc (suc (suc (suc (suc zero)))))))))))) e small below room lists = rel-step (below (at r 1) now′) (below (at r 2) (later′ now′)) room (suits-at r 12 low e 2) rgettag (λ t u. left-at r 12 e 0 T (t ∷ u ∷ []))
-    step-is (suc (suc (suc (suc (suc (suc (suc (suc (suc (suc (suc (suc (suc zero))))))))))))) e small below room lists = rel-step (below (at r 1) now′) (below (at r 2) (later′ now′)) room (suits-at r 13 low e 2) rhastag (λ t u. left-at r 13 e 0 T (t ∷ u ∷ []))
-    step-is (suc (suc (suc (suc (suc (suc (suc (suc (suc (suc (suc (suc (suc (suc zero)))))))))))))) e small below room lists = bin-step (below (at r 1) now′) (below (at r 2) (later′ now′)) room (suits-at r 14 low e 2) bcontains (λ t u. left-at r 14 e 0 T (t ∷ u ∷ []))
-    step-is (suc (suc (suc (suc (suc (suc (suc (suc (suc (suc (suc (suc (suc (suc (suc zero))))))))))))))) e small below room lists = bin-step (below (at r 1) now′) (below (at r 2) (later′ now′)) room (suits-at r 15 low e 2) ball (λ t u. left-at r 15 e 0 T (t ∷ u ∷ []))
-    step-is (suc (suc (suc (suc (suc (suc (suc (suc (suc (suc (suc (suc (suc (suc (suc (suc zero)))))))))))))))) e small below room lists = bin-step (below (at r 1) now′) (below (at r 2) (later′ now′)) room (suits-at r 16 low e 2) bany (λ t u. left-at r 16 e 0 T (t ∷ u ∷ []))
-    step-is (suc (suc (suc (suc (suc (suc (suc (suc (suc (suc (suc (suc (suc (suc (suc (suc (suc zero))))))))))))))))) e small below room lists = if-step (below (at r 1) now′) (below (at r 2) (later′ now′)) (below (at r 3) (later′ (later′ now′))) room (suits-at r 17 low e 3) (λ t u v. left-at r 17 e 0 T (t ∷ u ∷ v ∷ []))
-    step-is (suc (suc (suc (suc (suc (suc (suc (suc (suc (suc (suc (suc (suc (suc (suc (suc (suc (suc zero)))))))))))))))))) e small below room lists = un-step (below (at r 1) now′) room (suits-at r 18 low e 1) (λ r. uis (at r 2)) (λ t. left-at r 18 e 0 T (t ∷ []))
-    step-is (suc (suc (suc (suc (suc (suc (suc (suc (suc (suc (suc (suc (suc (suc (suc (suc (suc (suc (suc zero))))))))))))))))))) e small below room lists = un-step (below (at r 1) now′) room (suits-at r 19 low e 1) (λ r. ulike (patternOf (drop 2 (items r)))) (λ t. left-at r 19 e 0 T (t ∷ []))
-    step-is (suc (suc (suc (suc (suc (suc (suc (suc (suc (suc (suc (suc (suc (suc (suc (suc (suc (suc (suc (suc zero)))))))))))))))))))) e small below room lists = get-step (below (at r 1) now′) room (suits-at r 20 low e 1) (λ t. left-at r 20 e 0 T (t ∷ []))
-    step-is (suc (suc (suc (suc (suc (suc (suc (suc (suc (suc (suc (suc (suc (suc (suc (suc (suc (suc (suc (suc (suc zero))))))))))))))))))))) e small below room lists = has-step (below (at r 1) now′) room (suits-at r 21 low e 1) (λ t. left-at r 21 e 0 T (t ∷ []))
-    step-is (suc (suc (suc (suc (suc (suc (suc (suc (suc (suc (suc (suc (suc (suc (suc (suc (suc (suc (suc (suc (suc (suc zero)))))))))))))))))))))) e small below room lists = path-step (below (at r 1) now′) room (suits-at r 22 low e 1) (λ j t. left-at r 22 e j T (t ∷ [])) lists
-    step-is (suc (suc (suc (suc (suc (suc (suc (suc (suc (suc (suc (suc (suc (suc (suc (suc (suc (suc (suc (suc (suc (suc (suc zero))))))))))))))))))))))) e small below room lists = un-step (below (at r 1) now′) room (suits-at r 23 low e 1) (λ r. unot) (λ t. left-at r 23 e 0 T (t ∷ []))
-    step-is (suc (suc (suc (suc (suc (suc (suc (suc (suc (suc (suc (suc (suc (suc (suc (suc (suc (suc (suc (suc (suc (suc (suc (suc zero)))))))))))))))))))))))) e small below room lists = un-step (below (at r 1) now′) room (suits-at r 24 low e 1) (λ r. uneg) (λ t. left-at r 24 e 0 T (t ∷ []))
-    step-is (suc (suc (suc (suc (suc (suc (suc (suc (suc (suc (suc (suc (suc (suc (suc (suc (suc (suc (suc (suc (suc (suc (suc (suc (suc zero))))))))))))))))))))))))) e small below room lists = un-step (below (at r 1) now′) room (suits-at r 25 low e 1) (λ r. uempty) (λ t. left-at r 25 e 0 T (t ∷ []))
+    step-is (suc (suc (suc zero))) e small below room lists = and-step (below (at r 1) now′) (below (at r 2) (later′ now′)) room (suits-at r _ low e 2) (λ t u. left-at r _ e 0 T (t ∷ u ∷ []))
+    step-is (suc (suc (suc (suc zero)))) e small below room lists = or-step (below (at r 1) now′) (below (at r 2) (later′ now′)) room (suits-at r _ low e 2) (λ t u. left-at r _ e 0 T (t ∷ u ∷ []))
+    step-is (suc (suc (suc (suc (suc zero))))) e small below room lists = bin-step (below (at r 1) now′) (below (at r 2) (later′ now′)) room (suits-at r _ low e 2) beq (λ t u. left-at r _ e 0 T (t ∷ u ∷ []))
+    step-is (suc (suc (suc (suc (suc (suc zero)))))) e small below room lists = bin-step (below (at r 1) now′) (below (at r 2) (later′ now′)) room (suits-at r _ low e 2) blt (λ t u. left-at r _ e 0 T (t ∷ u ∷ []))
+    step-is (suc (suc (suc (suc (suc (suc (suc zero))))))) e small below room lists = bin-step (below (at r 1) now′) (below (at r 2) (later′ now′)) room (suits-at r _ low e 2) ble (λ t u. left-at r _ e 0 T (t ∷ u ∷ []))
+    step-is (suc (suc (suc (suc (suc (suc (suc (suc zero)))))))) e small below room lists = bin-step (below (at r 1) now′) (below (at r 2) (later′ now′)) room (suits-at r _ low e 2) badd (λ t u. left-at r _ e 0 T (t ∷ u ∷ []))
+    step-is (suc (suc (suc (suc (suc (suc (suc (suc (suc zero))))))))) e small below room lists = bin-step (below (at r 1) now′) (below (at r 2) (later′ now′)) room (suits-at r _ low e 2) bsub (λ t u. left-at r _ e 0 T (t ∷ u ∷ []))
+    step-is (suc (suc (suc (suc (suc (suc (suc (suc (suc (suc zero)))))))))) e small below room lists = bin-step (below (at r 1) now′) (below (at r 2) (later′ now′)) room (suits-at r _ low e 2) bmul (λ t u. left-at r _ e 0 T (t ∷ u ∷ []))
+    step-is (suc (suc (suc (suc (suc (suc (suc (suc (suc (suc (suc zero))))))))))) e small below room lists = rel-step (below (at r 1) now′) (below (at r 2) (later′ now′)) room (suits-at r _ low e 2) rin (λ t u. left-at r _ e 0 T (t ∷ u ∷ []))
+    step-is (suc (suc (suc (suc (suc (suc (suc (suc (suc (suc (suc (suc zero)))))))))))) e small below room lists = rel-step (below (at r 1) now′) (below (at r 2) (later′ now′)) room (suits-at r _ low e 2) rgettag (λ t u. left-at r _ e 0 T (t ∷ u ∷ []))
+    step-is (suc (suc (suc (suc (suc (suc (suc (suc (suc (suc (suc (suc (suc zero))))))))))))) e small below room lists = rel-step (below (at r 1) now′) (below (at r 2) (later′ now′)) room (suits-at r _ low e 2) rhastag (λ t u. left-at r _ e 0 T (t ∷ u ∷ []))
+    step-is (suc (suc (suc (suc (suc (suc (suc (suc (suc (suc (suc (suc (suc (suc zero)))))))))))))) e small below room lists = bin-step (below (at r 1) now′) (below (at r 2) (later′ now′)) room (suits-at r _ low e 2) bcontains (λ t u. left-at r _ e 0 T (t ∷ u ∷ []))
+    step-is (suc (suc (suc (suc (suc (suc (suc (suc (suc (suc (suc (suc (suc (suc (suc zero))))))))))))))) e small below room lists = bin-step (below (at r 1) now′) (below (at r 2) (later′ now′)) room (suits-at r _ low e 2) ball (λ t u. left-at r _ e 0 T (t ∷ u ∷ []))
+    step-is (suc (suc (suc (suc (suc (suc (suc (suc (suc (suc (suc (suc (suc (suc (suc (suc zero)))))))))))))))) e small below room lists = bin-step (below (at r 1) now′) (below (at r 2) (later′ now′)) room (suits-at r _ low e 2) bany (λ t u. left-at r _ e 0 T (t ∷ u ∷ []))
+    step-is (suc (suc (suc (suc (suc (suc (suc (suc (suc (suc (suc (suc (suc (suc (suc (suc (suc zero))))))))))))))))) e small below room lists = if-step (below (at r 1) now′) (below (at r 2) (later′ now′)) (below (at r 3) (later′ (later′ now′))) room (suits-at r _ low e 3) (λ t u v. left-at r _ e 0 T (t ∷ u ∷ v ∷ []))
+    step-is (suc (suc (suc (suc (suc (suc (suc (suc (suc (suc (suc (suc (suc (suc (suc (suc (suc (suc zero)))))))))))))))))) e small below room lists = un-step (below (at r 1) now′) room (suits-at r _ low e 1) (λ r. uis (at r 2)) (λ t. left-at r _ e 0 T (t ∷ []))
+    step-is (suc (suc (suc (suc (suc (suc (suc (suc (suc (suc (suc (suc (suc (suc (suc (suc (suc (suc (suc zero))))))))))))))))))) e small below room lists = un-step (below (at r 1) now′) room (suits-at r _ low e 1) (λ r. ulike (patternOf (drop 2 (items r)))) (λ t. left-at r _ e 0 T (t ∷ []))
+    step-is (suc (suc (suc (suc (suc (suc (suc (suc (suc (suc (suc (suc (suc (suc (suc (suc (suc (suc (suc (suc zero)))))))))))))))))))) e small below room lists = get-step (below (at r 1) now′) room (suits-at r _ low e 1) (λ t. left-at r _ e 0 T (t ∷ []))
+    step-is (suc (suc (suc (suc (suc (suc (suc (suc (suc (suc (suc (suc (suc (suc (suc (suc (suc (suc (suc (suc (suc zero))))))))))))))))))))) e small below room lists = has-step (below (at r 1) now′) room (suits-at r _ low e 1) (λ t. left-at r _ e 0 T (t ∷ []))
+    step-is (suc (suc (suc (suc (suc (suc (suc (suc (suc (suc (suc (suc (suc (suc (suc (suc (suc (suc (suc (suc (suc (suc zero)))))))))))))))))))))) e small below room lists = path-step (below (at r 1) now′) room (suits-at r _ low e 1) (λ j t. left-at r _ e j T (t ∷ [])) lists
+    step-is (suc (suc (suc (suc (suc (suc (suc (suc (suc (suc (suc (suc (suc (suc (suc (suc (suc (suc (suc (suc (suc (suc (suc zero))))))))))))))))))))))) e small below room lists = un-step (below (at r 1) now′) room (suits-at r _ low e 1) (λ r. unot) (λ t. left-at r _ e 0 T (t ∷ []))
+    step-is (suc (suc (suc (suc (suc (suc (suc (suc (suc (suc (suc (suc (suc (suc (suc (suc (suc (suc (suc (suc (suc (suc (suc (suc zero)))))))))))))))))))))))) e small below room lists = un-step (below (at r 1) now′) room (suits-at r _ low e 1) (λ r. uneg) (λ t. left-at r _ e 0 T (t ∷ []))
+    step-is (suc (suc (suc (suc (suc (suc (suc (suc (suc (suc (suc (suc (suc (suc (suc (suc (suc (suc (suc (suc (suc (suc (suc (suc (suc zero))))))))))))))))))))))))) e small below room lists = un-step (below (at r 1) now′) room (suits-at r _ low e 1) (λ r. uempty) (λ t. left-at r _ e 0 T (t ∷ []))
     step-is (suc (suc (suc (suc (suc (suc (suc (suc (suc (suc (suc (suc (suc (suc (suc (suc (suc (suc (suc (suc (suc (suc (suc (suc (suc (suc zero)))))))))))))))))))))))))) e small below room lists = set-step below room e
     step-is (suc (suc (suc (suc (suc (suc (suc (suc (suc (suc (suc (suc (suc (suc (suc (suc (suc (suc (suc (suc (suc (suc (suc (suc (suc (suc (suc zero))))))))))))))))))))))))))) e small below room lists = rec-step below room e (even (omega (arith, e, low)))
     step-is (suc (suc (suc (suc (suc (suc (suc (suc (suc (suc (suc (suc (suc (suc (suc (suc (suc (suc (suc (suc (suc (suc (suc (suc (suc (suc (suc (suc y)))))))))))))))))))))))))))) e small below room lists = absurd (omega (arith, small))

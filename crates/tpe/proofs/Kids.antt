@@ -16,7 +16,7 @@ use Rattle.residual.specs.Rows.{stageAt}
 use Rattle.residual.specs.Trees.{Ress, rnil, rcons, flat, flats, countRes, treesOf, Wholes, whole-none, whole-more}
 use Rattle.residual.proofs.Blocks.{flat-length}
 use Rattle.residual.proofs.Meaning.{stageFor}
-use Rattle.tpe.specs.Run.{O, Rec, Kids, joinOf, kidsOf}
+use Rattle.tpe.specs.Run.{O, Rec, Kids, joinOf, kidsOf, allValues, someError, someOpen}
 use Rattle.tpe.proofs.Reach.{reach}
 use Rattle.tpe.proofs.Stands.{Hold, values, Room, tys, nodes, Is}
 use Rattle.tpe.proofs.Strict.{last-stage}
@@ -46,36 +46,36 @@ pub joins : ℕ → List (Node ℕ) → ℕ
 joins c [] = c
 joins c (e ∷ es) = joins (joinOf c (stageFor (view e))) es
 
-join-one : (es : List (Node ℕ)) → joins 1 es ≡ 1
+join-one : (es : List (Node ℕ)) → joins someError es ≡ someError
 unfolding joins joinOf
 join-one [] = refl
 join-one (e ∷ es) = go (view e) (join-one es)
   where
-    go : (s : Stage ℕ) → joins 1 es ≡ 1 → joins (joinOf 1 (stageFor s)) es ≡ 1
+    go : (s : Stage ℕ) → joins someError es ≡ someError → joins (joinOf someError (stageFor s)) es ≡ someError
     go (value v) ih = ih
     go error ih = ih
     go open′ ih = ih
 
-join-two : (es : List (Node ℕ)) → joins 2 es ≡ cond (bad es) 1 2
+join-two : (es : List (Node ℕ)) → joins someOpen es ≡ cond (bad es) someError someOpen
 unfolding joins joinOf
 join-two [] = refl
 join-two (e ∷ es) = go (view e) (join-two es)
   where
-    go : (s : Stage ℕ) → joins 2 es ≡ cond (bad es) 1 2 → joins (joinOf 2 (stageFor s)) es ≡ cond (isError s || bad es) 1 2
+    go : (s : Stage ℕ) → joins someOpen es ≡ cond (bad es) someError someOpen → joins (joinOf someOpen (stageFor s)) es ≡ cond (isError s || bad es) someError someOpen
     go (value v) ih = ih
     go error ih = join-one es
     go open′ ih = ih
 
-pub join-none : (es : List (Node ℕ)) → joins 0 es ≡ onSome (cond (bad es) 1 2) (vals es) (λ vs. 0)
+pub join-none : (es : List (Node ℕ)) → joins allValues es ≡ onSome (cond (bad es) someError someOpen) (vals es) (λ vs. allValues)
 unfolding joins joinOf
 join-none [] = refl
 join-none (e ∷ es) = go (view e) (join-none es)
   where
-    both : (b : Bool) (v : ℕ) (o : Option (List ℕ)) → _≡_ {A = ℕ} (onSome (cond b 1 2) o (λ vs. 0)) (onSome (cond b 1 2) (consN (value v) o) (λ vs. 0))
+    both : (b : Bool) (v : ℕ) (o : Option (List ℕ)) → _≡_ {A = ℕ} (onSome (cond b someError someOpen) o (λ vs. allValues)) (onSome (cond b someError someOpen) (consN (value v) o) (λ vs. allValues))
     both b v none = refl
     both b v (some l) = refl
 
-    go : (s : Stage ℕ) → joins 0 es ≡ onSome (cond (bad es) 1 2) (vals es) (λ vs. 0) → joins (joinOf 0 (stageFor s)) es ≡ onSome (cond (isError s || bad es) 1 2) (consN s (vals es)) (λ vs. 0)
+    go : (s : Stage ℕ) → joins allValues es ≡ onSome (cond (bad es) someError someOpen) (vals es) (λ vs. allValues) → joins (joinOf allValues (stageFor s)) es ≡ onSome (cond (isError s || bad es) someError someOpen) (consN s (vals es)) (λ vs. allValues)
     go (value v) ih = ih ∙ both (bad es) v (vals es)
     go error ih = join-one es
     go open′ ih = join-two es

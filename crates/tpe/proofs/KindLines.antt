@@ -7,6 +7,7 @@ use native.Mathlib.Nat.{le-of-suc-le-suc}
 use native.Mathlib.Omega.{arith}
 use lib.ListN.{length, getD}
 use Rattle.cedar.specs.Types.{Ty, tbool, tlong, tstr, tent, tset, trec}
+use Rattle.forms.specs.Tags.{ENTITY-TYPE}
 use Rattle.sheet.specs.Bytes.{same}
 use Rattle.sheet.specs.Forms.{Mode, TYPE, VALUE}
 use Rattle.sheet.specs.State.{State, linesOf, count, TypeRow, bool, long, string, entity, set′, record′, typeRow}
@@ -49,16 +50,16 @@ entity-of ts k (set′ y) e = absurd e
 entity-of ts k (record′ ds) e = absurd e
 
 module _ (m : Mode) (s : State) (h : History m s) where
-  pub kind-found : (k : ℕ) → Listed (types s) (tent k) → getD (types s) (placeOf (6 ∷ k ∷ []) (linesOf s TYPE)) tbool ≡ tent k
+  pub kind-found : (k : ℕ) → Listed (types s) (tent k) → getD (types s) (placeOf (ENTITY-TYPE ∷ k ∷ []) (linesOf s TYPE)) tbool ≡ tent k
   kind-found k e =
       let y = typeNumber (types s) (tent k) in
       let n = types-length m s h in
       let lt : y < count s TYPE = let b = e .below in omega (arith, b, n) in
       let q : tent k ≡ tyOver (types s) (typeRow (getD (linesOf s TYPE) y [])) = sym (e .found) ∙ ty-eq m s h y in
       let r : typeRow (getD (linesOf s TYPE) y []) ≡ entity k = entity-of (types s) k (typeRow (getD (linesOf s TYPE) y [])) (subst (IsEnt k) q refl) in
-      let row : getD (linesOf s TYPE) y [] ≡ 6 ∷ k ∷ [] = split-at (linesOf s TYPE) y lt (λ pre rest z. let w = h TYPE pre (getD (linesOf s TYPE) y []) rest z in let b = type-back m (w .line) (getD (linesOf s TYPE) y []) (w .row) (w .key) in sym (rw r at b)) in
-      let p = place-found (6 ∷ k ∷ []) (linesOf s TYPE) y lt row in
-      ty-eq m s h (placeOf (6 ∷ k ∷ []) (linesOf s TYPE)) ∙ ap (λ x. tyOver (types s) (typeRow x)) (p .1)
+      let row : getD (linesOf s TYPE) y [] ≡ ENTITY-TYPE ∷ k ∷ [] = split-at (linesOf s TYPE) y lt (λ pre rest z. let w = h TYPE pre (getD (linesOf s TYPE) y []) rest z in let b = type-back m (w .line) (getD (linesOf s TYPE) y []) (w .row) (w .key) in sym (rw r at b)) in
+      let p = place-found (ENTITY-TYPE ∷ k ∷ []) (linesOf s TYPE) y lt row in
+      ty-eq m s h (placeOf (ENTITY-TYPE ∷ k ∷ []) (linesOf s TYPE)) ∙ ap (λ x. tyOver (types s) (typeRow x)) (p .1)
 
   formeds-from : (pre rest : List (List ℕ)) → linesOf s VALUE ≡ pre ++ rest → Formeds rest
   formeds-from pre [] e = none-formed

@@ -12,7 +12,8 @@ use Rattle.cedar.proofs.Tools.{no-true, eqb-true}
 use Rattle.cedar.proofs.TableLaws.{InN, now′, later′, nowhere}
 use Rattle.cedar.specs.Types.{Ty, tbool}
 use Rattle.cedar.specs.Residual.{Node, err, and, or, ite, un, bin, rel, get, has, haspath, set, rec, econs, gcons, unot, uneg, uempty, uis, ulike, beq, blt, ble, badd, bsub, bmul, bcontains, ball, bany, rin, rgettag, rhastag}
-use Rattle.sheet.specs.Forms.{Mode, line, forms, formOf, slotAt, isLine, refsFrom, refs, counted, itemsFrom, tag, items, at, keyOf, rowOf, NODE}
+use Rattle.forms.specs.Tags.{TEXT-LINE, SET-OF, RECORD-OF}
+use Rattle.sheet.specs.Forms.{Mode, line, forms, formOf, slotAt, isLine, refsFrom, refs, counted, itemsFrom, tag, items, at, keyOf, rowOf, NODE, noTag, firstNode}
 use Rattle.sheet.specs.State.{State, linesOf, count}
 use Rattle.sheet.specs.Content.{types, childrenOver, argsOver, treeFor, treeOver, treesFrom, trees, patternOf}
 use Rattle.sheet.proofs.Lines.{Was, History}
@@ -86,82 +87,82 @@ module _ (ts : List Ty) (ns ms : List (Node ℕ)) where
 
 -- ---- the children of a row are its references
 
-item-ref : (t j i : ℕ) (l : List ℕ) → i < length l → slotAt t (j + i) ≡ line 11 → InN (getD l i 0) (refsFrom 11 t j l)
+item-ref : (t j i : ℕ) (l : List ℕ) → i < length l → slotAt t (j + i) ≡ line NODE → InN (getD l i 0) (refsFrom NODE t j l)
 item-ref t j i [] lt e = absurd (omega arith)
-item-ref t j zero (x ∷ l) lt e = this-kept (isLine 11 (slotAt t j)) x (refsFrom 11 t (suc j) l) (ap (isLine 11) (ap (slotAt t) (omega arith) ∙ e))
-item-ref t j (suc i) (x ∷ l) lt e = in-keep (isLine 11 (slotAt t j)) x (getD l i 0) (refsFrom 11 t (suc j) l) (item-ref t (suc j) i l (le-of-suc-le-suc lt) (ap (slotAt t) (omega arith) ∙ e))
+item-ref t j zero (x ∷ l) lt e = this-kept (isLine NODE (slotAt t j)) x (refsFrom NODE t (suc j) l) (ap (isLine NODE) (ap (slotAt t) (omega arith) ∙ e))
+item-ref t j (suc i) (x ∷ l) lt e = in-keep (isLine NODE (slotAt t j)) x (getD l i 0) (refsFrom NODE t (suc j) l) (item-ref t (suc j) i l (le-of-suc-le-suc lt) (ap (slotAt t) (omega arith) ∙ e))
 
 module _ (t : ℕ) (l : List ℕ) where
-  ref-at : (i : ℕ) → i < length l → slotAt t i ≡ line 11 → (j : ℕ) → j ≡ getD l i 0 → InN j (refs 11 (t ∷ l))
+  ref-at : (i : ℕ) → i < length l → slotAt t i ≡ line NODE → (j : ℕ) → j ≡ getD l i 0 → InN j (refs NODE (t ∷ l))
   unfolding refs
-  ref-at i lt e j q = subst (λ z. InN z (refsFrom 11 t 0 l)) (sym q) (item-ref t 0 i l lt (ap (slotAt t) (omega arith) ∙ e))
+  ref-at i lt e j q = subst (λ z. InN z (refsFrom NODE t 0 l)) (sym q) (item-ref t 0 i l lt (ap (slotAt t) (omega arith) ∙ e))
 
-  one-refs : 2 ≤ length l → slotAt t 1 ≡ line 11 → (j : ℕ) → InN j (getD l 1 0 ∷ []) → InN j (refs 11 (t ∷ l))
+  one-refs : 2 ≤ length l → slotAt t 1 ≡ line NODE → (j : ℕ) → InN j (getD l 1 0 ∷ []) → InN j (refs NODE (t ∷ l))
   one-refs h p j i = in-cons i (ref-at 1 (omega arith) p j) nowhere
 
-  two-refs : 3 ≤ length l → slotAt t 1 ≡ line 11 → slotAt t 2 ≡ line 11 → (j : ℕ) → InN j (getD l 1 0 ∷ getD l 2 0 ∷ []) → InN j (refs 11 (t ∷ l))
+  two-refs : 3 ≤ length l → slotAt t 1 ≡ line NODE → slotAt t 2 ≡ line NODE → (j : ℕ) → InN j (getD l 1 0 ∷ getD l 2 0 ∷ []) → InN j (refs NODE (t ∷ l))
   two-refs h p q j i = in-cons i (ref-at 1 (omega arith) p j) (λ k. in-cons k (ref-at 2 (omega arith) q j) nowhere)
 
-  three-refs : 4 ≤ length l → slotAt t 1 ≡ line 11 → slotAt t 2 ≡ line 11 → slotAt t 3 ≡ line 11 → (j : ℕ) → InN j (getD l 1 0 ∷ getD l 2 0 ∷ getD l 3 0 ∷ []) → InN j (refs 11 (t ∷ l))
+  three-refs : 4 ≤ length l → slotAt t 1 ≡ line NODE → slotAt t 2 ≡ line NODE → slotAt t 3 ≡ line NODE → (j : ℕ) → InN j (getD l 1 0 ∷ getD l 2 0 ∷ getD l 3 0 ∷ []) → InN j (refs NODE (t ∷ l))
   three-refs h p q r j i = in-cons i (ref-at 1 (omega arith) p j) (λ k. in-cons k (ref-at 2 (omega arith) q j) (λ k. in-cons k (ref-at 3 (omega arith) r j) nowhere))
 
-set-from : (i : ℕ) (l : List ℕ) (j : ℕ) → InN j l → InN j (refsFrom 11 47 (suc i) l)
+set-from : (i : ℕ) (l : List ℕ) (j : ℕ) → InN j l → InN j (refsFrom NODE SET-OF (suc i) l)
 set-from i [] j k = k
-set-from i (x ∷ l) j k = in-cons k (λ e. subst (λ z. InN z (refsFrom 11 47 (suc i) (x ∷ l))) (sym e) (this-kept (isLine 11 (slotAt 47 (suc i))) x (refsFrom 11 47 (suc (suc i)) l) (ap (isLine 11) (set-slot i))))
-    (λ n. in-keep (isLine 11 (slotAt 47 (suc i))) x j (refsFrom 11 47 (suc (suc i)) l) (set-from (suc i) l j n))
+set-from i (x ∷ l) j k = in-cons k (λ e. subst (λ z. InN z (refsFrom NODE SET-OF (suc i) (x ∷ l))) (sym e) (this-kept (isLine NODE (slotAt SET-OF (suc i))) x (refsFrom NODE SET-OF (suc (suc i)) l) (ap (isLine NODE) (set-slot i))))
+    (λ n. in-keep (isLine NODE (slotAt SET-OF (suc i))) x j (refsFrom NODE SET-OF (suc (suc i)) l) (set-from (suc i) l j n))
 
-record-from : (i : ℕ) (l : List ℕ) (j : ℕ) → InN j (others l) → InN j (refsFrom 11 48 (suc (i + i)) l)
+record-from : (i : ℕ) (l : List ℕ) (j : ℕ) → InN j (others l) → InN j (refsFrom NODE RECORD-OF (suc (i + i)) l)
 record-from i [] j k = k
 record-from i (t ∷ []) j k = nowhere k
-record-from i (t ∷ x ∷ l) j k = in-keep (isLine 11 (slotAt 48 (suc (i + i)))) t j _
-    (in-cons k (λ e. subst (λ z. InN z (refsFrom 11 48 (suc (suc (i + i))) (x ∷ l))) (sym e) (this-kept (isLine 11 (slotAt 48 (suc (suc (i + i))))) x (refsFrom 11 48 (suc (suc (suc (i + i)))) l) (ap (isLine 11) (field-slot i))))
-    (λ n. in-keep (isLine 11 (slotAt 48 (suc (suc (i + i))))) x j (refsFrom 11 48 (suc (suc (suc (i + i)))) l) (subst (λ z. InN j (refsFrom 11 48 z l)) (omega arith) (record-from (suc i) l j n))))
+record-from i (t ∷ x ∷ l) j k = in-keep (isLine NODE (slotAt RECORD-OF (suc (i + i)))) t j _
+    (in-cons k (λ e. subst (λ z. InN z (refsFrom NODE RECORD-OF (suc (suc (i + i))) (x ∷ l))) (sym e) (this-kept (isLine NODE (slotAt RECORD-OF (suc (suc (i + i))))) x (refsFrom NODE RECORD-OF (suc (suc (suc (i + i)))) l) (ap (isLine NODE) (field-slot i))))
+    (λ n. in-keep (isLine NODE (slotAt RECORD-OF (suc (suc (i + i))))) x j (refsFrom NODE RECORD-OF (suc (suc (suc (i + i)))) l) (subst (λ z. InN j (refsFrom NODE RECORD-OF z l)) (omega arith) (record-from (suc i) l j n))))
 
-set-refs : (l : List ℕ) (j : ℕ) → InN j (drop 1 l) → InN j (refs 11 (47 ∷ l))
+set-refs : (l : List ℕ) (j : ℕ) → InN j (drop 1 l) → InN j (refs NODE (SET-OF ∷ l))
 unfolding refs
 set-refs [] j i = nowhere i
-set-refs (x ∷ l) j i = in-keep (isLine 11 (slotAt 47 0)) x j (refsFrom 11 47 1 l) (set-from 0 l j i)
+set-refs (x ∷ l) j i = in-keep (isLine NODE (slotAt SET-OF 0)) x j (refsFrom NODE SET-OF 1 l) (set-from 0 l j i)
 
-record-refs : (l : List ℕ) (j : ℕ) → InN j (others (drop 1 l)) → InN j (refs 11 (48 ∷ l))
+record-refs : (l : List ℕ) (j : ℕ) → InN j (others (drop 1 l)) → InN j (refs NODE (RECORD-OF ∷ l))
 unfolding refs
 record-refs [] j i = nowhere i
-record-refs (x ∷ l) j i = in-keep (isLine 11 (slotAt 48 0)) x j (refsFrom 11 48 1 l) (record-from 0 l j i)
+record-refs (x ∷ l) j i = in-keep (isLine NODE (slotAt RECORD-OF 0)) x j (refsFrom NODE RECORD-OF 1 l) (record-from 0 l j i)
 
-kid-refs : (x : ℕ) → x ≤ 27 → (l : List ℕ) → length (formOf (21 + x) .items) ≤ length l → (j : ℕ) → InN j (getD (kidsFor ((21 + x) ∷ l)) x []) → InN j (refs 11 ((21 + x) ∷ l))
+kid-refs : (x : ℕ) → x ≤ RECORD-OF - firstNode → (l : List ℕ) → length (formOf (firstNode + x) .items) ≤ length l → (j : ℕ) → InN j (getD (kidsFor ((firstNode + x) ∷ l)) x []) → InN j (refs NODE ((firstNode + x) ∷ l))
 unfolding slotAt formOf forms
 kid-refs zero small l h j i = nowhere i
 kid-refs (suc zero) small l h j i = nowhere i
 kid-refs (suc (suc zero)) small l h j i = nowhere i
-kid-refs (suc (suc (suc zero))) small l h j i = two-refs 24 l h refl refl j i
-kid-refs (suc (suc (suc (suc zero)))) small l h j i = two-refs 25 l h refl refl j i
-kid-refs (suc (suc (suc (suc (suc zero))))) small l h j i = two-refs 26 l h refl refl j i
-kid-refs (suc (suc (suc (suc (suc (suc zero)))))) small l h j i = two-refs 27 l h refl refl j i
-kid-refs (suc (suc (suc (suc (suc (suc (suc zero))))))) small l h j i = two-refs 28 l h refl refl j i
-kid-refs (suc (suc (suc (suc (suc (suc (suc (suc zero)))))))) small l h j i = two-refs 29 l h refl refl j i
-kid-refs (suc (suc (suc (suc (suc (suc (suc (suc (suc zero))))))))) small l h j i = two-refs 30 l h refl refl j i
-kid-refs (suc (suc (suc (suc (suc (suc (suc (suc (suc (suc zero)))))))))) small l h j i = two-refs 31 l h refl refl j i
-kid-refs (suc (suc (suc (suc (suc (suc (suc (suc (suc (suc (suc zero))))))))))) small l h j i = two-refs 32 l h refl refl j i
-kid-refs (suc (suc (suc (suc (suc (suc (suc (suc (suc (suc (suc (suc zero)))))))))))) small l h j i = two-refs 33 l h refl refl j i
-kid-refs (suc (suc (suc (suc (suc (suc (suc (suc (suc (suc (suc (suc (suc zero))))))))))))) small l h j i = two-refs 34 l h refl refl j i
-kid-refs (suc (suc (suc (suc (suc (suc (suc (suc (suc (suc (suc (suc (suc (suc zero)))))))))))))) small l h j i = two-refs 35 l h refl refl j i
-kid-refs (suc (suc (suc (suc (suc (suc (suc (suc (suc (suc (suc (suc (suc (suc (suc zero))))))))))))))) small l h j i = two-refs 36 l h refl refl j i
-kid-refs (suc (suc (suc (suc (suc (suc (suc (suc (suc (suc (suc (suc (suc (suc (suc (suc zero)))))))))))))))) small l h j i = two-refs 37 l h refl refl j i
-kid-refs (suc (suc (suc (suc (suc (suc (suc (suc (suc (suc (suc (suc (suc (suc (suc (suc (suc zero))))))))))))))))) small l h j i = three-refs 38 l h refl refl refl j i
-kid-refs (suc (suc (suc (suc (suc (suc (suc (suc (suc (suc (suc (suc (suc (suc (suc (suc (suc (suc zero)))))))))))))))))) small l h j i = one-refs 39 l (omega arith) refl j i
-kid-refs (suc (suc (suc (suc (suc (suc (suc (suc (suc (suc (suc (suc (suc (suc (suc (suc (suc (suc (suc zero))))))))))))))))))) small l h j i = one-refs 40 l h refl j i
-kid-refs (suc (suc (suc (suc (suc (suc (suc (suc (suc (suc (suc (suc (suc (suc (suc (suc (suc (suc (suc (suc zero)))))))))))))))))))) small l h j i = one-refs 41 l (omega arith) refl j i
-kid-refs (suc (suc (suc (suc (suc (suc (suc (suc (suc (suc (suc (suc (suc (suc (suc (suc (suc (suc (suc (suc (suc zero))))))))))))))))))))) small l h j i = one-refs 42 l (omega arith) refl j i
-kid-refs (suc (suc (suc (suc (suc (suc (suc (suc (suc (suc (suc (suc (suc (suc (suc (suc (suc (suc (suc (suc (suc (suc zero)))))))))))))))))))))) small l h j i = one-refs 43 l (omega arith) refl j i
-kid-refs (suc (suc (suc (suc (suc (suc (suc (suc (suc (suc (suc (suc (suc (suc (suc (suc (suc (suc (suc (suc (suc (suc (suc zero))))))))))))))))))))))) small l h j i = one-refs 44 l h refl j i
-kid-refs (suc (suc (suc (suc (suc (suc (suc (suc (suc (suc (suc (suc (suc (suc (suc (suc (suc (suc (suc (suc (suc (suc (suc (suc zero)))))))))))))))))))))))) small l h j i = one-refs 45 l h refl j i
-kid-refs (suc (suc (suc (suc (suc (suc (suc (suc (suc (suc (suc (suc (suc (suc (suc (suc (suc (suc (suc (suc (suc (suc (suc (suc (suc zero))))))))))))))))))))))))) small l h j i = one-refs 46 l h refl j i
+kid-refs (suc (suc (suc zero))) small l h j i = two-refs _ l h refl refl j i
+kid-refs (suc (suc (suc (suc zero)))) small l h j i = two-refs _ l h refl refl j i
+kid-refs (suc (suc (suc (suc (suc zero))))) small l h j i = two-refs _ l h refl refl j i
+kid-refs (suc (suc (suc (suc (suc (suc zero)))))) small l h j i = two-refs _ l h refl refl j i
+kid-refs (suc (suc (suc (suc (suc (suc (suc zero))))))) small l h j i = two-refs _ l h refl refl j i
+kid-refs (suc (suc (suc (suc (suc (suc (suc (suc zero)))))))) small l h j i = two-refs _ l h refl refl j i
+kid-refs (suc (suc (suc (suc (suc (suc (suc (suc (suc zero))))))))) small l h j i = two-refs _ l h refl refl j i
+kid-refs (suc (suc (suc (suc (suc (suc (suc (suc (suc (suc zero)))))))))) small l h j i = two-refs _ l h refl refl j i
+kid-refs (suc (suc (suc (suc (suc (suc (suc (suc (suc (suc (suc zero))))))))))) small l h j i = two-refs _ l h refl refl j i
+kid-refs (suc (suc (suc (suc (suc (suc (suc (suc (suc (suc (suc (suc zero)))))))))))) small l h j i = two-refs _ l h refl refl j i
+kid-refs (suc (suc (suc (suc (suc (suc (suc (suc (suc (suc (suc (suc (suc zero))))))))))))) small l h j i = two-refs _ l h refl refl j i
+kid-refs (suc (suc (suc (suc (suc (suc (suc (suc (suc (suc (suc (suc (suc (suc zero)))))))))))))) small l h j i = two-refs _ l h refl refl j i
+kid-refs (suc (suc (suc (suc (suc (suc (suc (suc (suc (suc (suc (suc (suc (suc (suc zero))))))))))))))) small l h j i = two-refs _ l h refl refl j i
+kid-refs (suc (suc (suc (suc (suc (suc (suc (suc (suc (suc (suc (suc (suc (suc (suc (suc zero)))))))))))))))) small l h j i = two-refs _ l h refl refl j i
+kid-refs (suc (suc (suc (suc (suc (suc (suc (suc (suc (suc (suc (suc (suc (suc (suc (suc (suc zero))))))))))))))))) small l h j i = three-refs _ l h refl refl refl j i
+kid-refs (suc (suc (suc (suc (suc (suc (suc (suc (suc (suc (suc (suc (suc (suc (suc (suc (suc (suc zero)))))))))))))))))) small l h j i = one-refs _ l (omega arith) refl j i
+kid-refs (suc (suc (suc (suc (suc (suc (suc (suc (suc (suc (suc (suc (suc (suc (suc (suc (suc (suc (suc zero))))))))))))))))))) small l h j i = one-refs _ l h refl j i
+kid-refs (suc (suc (suc (suc (suc (suc (suc (suc (suc (suc (suc (suc (suc (suc (suc (suc (suc (suc (suc (suc zero)))))))))))))))))))) small l h j i = one-refs _ l (omega arith) refl j i
+kid-refs (suc (suc (suc (suc (suc (suc (suc (suc (suc (suc (suc (suc (suc (suc (suc (suc (suc (suc (suc (suc (suc zero))))))))))))))))))))) small l h j i = one-refs _ l (omega arith) refl j i
+kid-refs (suc (suc (suc (suc (suc (suc (suc (suc (suc (suc (suc (suc (suc (suc (suc (suc (suc (suc (suc (suc (suc (suc zero)))))))))))))))))))))) small l h j i = one-refs _ l (omega arith) refl j i
+kid-refs (suc (suc (suc (suc (suc (suc (suc (suc (suc (suc (suc (suc (suc (suc (suc (suc (suc (suc (suc (suc (suc (suc (suc zero))))))))))))))))))))))) small l h j i = one-refs _ l h refl j i
+kid-refs (suc (suc (suc (suc (suc (suc (suc (suc (suc (suc (suc (suc (suc (suc (suc (suc (suc (suc (suc (suc (suc (suc (suc (suc zero)))))))))))))))))))))))) small l h j i = one-refs _ l h refl j i
+kid-refs (suc (suc (suc (suc (suc (suc (suc (suc (suc (suc (suc (suc (suc (suc (suc (suc (suc (suc (suc (suc (suc (suc (suc (suc (suc zero))))))))))))))))))))))))) small l h j i = one-refs _ l h refl j i
 kid-refs (suc (suc (suc (suc (suc (suc (suc (suc (suc (suc (suc (suc (suc (suc (suc (suc (suc (suc (suc (suc (suc (suc (suc (suc (suc (suc zero)))))))))))))))))))))))))) small l h j i = set-refs l j i
 kid-refs (suc (suc (suc (suc (suc (suc (suc (suc (suc (suc (suc (suc (suc (suc (suc (suc (suc (suc (suc (suc (suc (suc (suc (suc (suc (suc (suc zero))))))))))))))))))))))))))) small l h j i = record-refs l j i
 kid-refs (suc (suc (suc (suc (suc (suc (suc (suc (suc (suc (suc (suc (suc (suc (suc (suc (suc (suc (suc (suc (suc (suc (suc (suc (suc (suc (suc (suc y)))))))))))))))))))))))))))) small l h j i = absurd (omega (arith, small))
 
 -- ---- a record's row has a node for each text
 
-record-odd : (n : ℕ) → counted 48 n ≡ true → (n - 1) % 2 ≡ 0
+record-odd : (n : ℕ) → counted RECORD-OF n ≡ true → (n - 1) % 2 ≡ 0
 unfolding counted formOf forms
 record-odd n e = go (eqb n 1) refl e
   where
@@ -182,12 +183,12 @@ length-rest : (l : List ℕ) → length (drop 1 l) ≡ length l - 1
 length-rest [] = refl
 length-rest (x ∷ l) = omega arith
 
-pub even-row : (m : Mode) (r l : List ℕ) → r ≡ rowOf m l → tag r ≡ 48 → length (drop 1 (items r)) ≡ 2 * length (others (drop 1 (items r)))
-even-row m r l e k = parsed m r (λ q. let z : 50 ≡ 48 = sym (ap tag q) ∙ k in absurd (omega (arith, z))) (λ v q. let z : 1 ≡ 48 = sym (ap tag q) ∙ k in absurd (omega (arith, z)))
-    (λ t fs xs c i q. let z : t ≡ 48 = sym (ap tag q) ∙ k in
-    let c′ : counted 48 (length fs) ≡ true = subst (λ x. counted x (length fs) ≡ true) z c in
-    let i′ : itemsFrom m 48 0 fs ≡ some xs = subst (λ x. itemsFrom m x 0 fs ≡ some xs) z i in
-    let b : length xs ≡ length fs = items-length m 48 (plain-slots 48 (omega arith) (λ w. absurd (omega (arith, w)))) 0 fs i′ in
+pub even-row : (m : Mode) (r l : List ℕ) → r ≡ rowOf m l → tag r ≡ RECORD-OF → length (drop 1 (items r)) ≡ 2 * length (others (drop 1 (items r)))
+even-row m r l e k = parsed m r (λ q. let z : noTag ≡ RECORD-OF = sym (ap tag q) ∙ k in absurd (omega (arith, z))) (λ v q. let z : TEXT-LINE ≡ RECORD-OF = sym (ap tag q) ∙ k in absurd (omega (arith, z)))
+    (λ t fs xs c i q. let z : t ≡ RECORD-OF = sym (ap tag q) ∙ k in
+    let c′ : counted RECORD-OF (length fs) ≡ true = subst (λ x. counted x (length fs) ≡ true) z c in
+    let i′ : itemsFrom m RECORD-OF 0 fs ≡ some xs = subst (λ x. itemsFrom m x 0 fs ≡ some xs) z i in
+    let b : length xs ≡ length fs = items-length m RECORD-OF (plain-slots RECORD-OF (omega arith) (λ w. absurd (omega (arith, w)))) 0 fs i′ in
     let o = record-odd (length fs) c′ in
     let d = length-rest xs in
     let f : length (drop 1 (items r)) ≡ length (drop 1 xs) = ap (λ x. length (drop 1 (items x))) q in
@@ -224,15 +225,15 @@ module _ (ts : List Ty) where
       let n = from-length [] pre in
       let z = length-append ns (a ∷ []) in
       ap (λ (x : List (Node ℕ)). getD x (length pre) (err tbool)) e ∙ from-before (ns ++ (a ∷ [])) rest (length pre) (omega (arith, n, z)) ∙ last-at ns a (length pre) (omega (arith, n))
-      ∙ tree-same ts ns (from [] (pre ++ (r ∷ rest))) r (tag r - 21)
+      ∙ tree-same ts ns (from [] (pre ++ (r ∷ rest))) r (tag r - firstNode)
       (λ j i. let lt = below j i in sym (ap (λ (x : List (Node ℕ)). getD x j (err tbool)) e ∙ from-before (ns ++ (a ∷ [])) rest j (omega (arith, n, z, lt)) ∙ List·getD-append ns (a ∷ []) (err tbool) j (omega (arith, n, lt))))
 
 -- ---- a node's row as it was read
 
 pub record Fact (s : State) (c : ℕ) : Type 0 where
-  pub low : 21 ≤ tag (getD (linesOf s NODE) c [])
-  pub high : tag (getD (linesOf s NODE) c []) ≤ 48
-  pub even : tag (getD (linesOf s NODE) c []) ≡ 48 → length (drop 1 (items (getD (linesOf s NODE) c []))) ≡ 2 * length (others (drop 1 (items (getD (linesOf s NODE) c []))))
+  pub low : firstNode ≤ tag (getD (linesOf s NODE) c [])
+  pub high : tag (getD (linesOf s NODE) c []) ≤ RECORD-OF
+  pub even : tag (getD (linesOf s NODE) c []) ≡ RECORD-OF → length (drop 1 (items (getD (linesOf s NODE) c []))) ≡ 2 * length (others (drop 1 (items (getD (linesOf s NODE) c []))))
   pub kids : (j : ℕ) → InN j (childrenOf (getD (linesOf s NODE) c [])) → InN j (refs NODE (getD (linesOf s NODE) c []))
   pub tree : getD (trees s) c (err tbool) ≡ treeOver (types s) (λ n. n) (trees s) (getD (linesOf s NODE) c [])
 
@@ -241,19 +242,19 @@ split-here [] c lt f = absurd (omega arith)
 split-here (x ∷ l) zero lt f = f [] l refl refl
 split-here (x ∷ l) (suc c) lt f = split-here l c (le-of-suc-le-suc lt) (λ pre rest n e. f (x ∷ pre) rest (ap suc n) (ap (λ z. x ∷ z) e))
 
-kids-of : (t : ℕ) (l : List ℕ) → 21 ≤ t → t ≤ 48 → length (formOf t .items) ≤ length l → (j : ℕ) → InN j (getD (kidsFor (t ∷ l)) (t - 21) []) → InN j (refs 11 (t ∷ l))
+kids-of : (t : ℕ) (l : List ℕ) → firstNode ≤ t → t ≤ RECORD-OF → length (formOf t .items) ≤ length l → (j : ℕ) → InN j (getD (kidsFor (t ∷ l)) (t - firstNode) []) → InN j (refs NODE (t ∷ l))
 kids-of t l lo hi =
-    let e : 21 + (t - 21) ≡ t = omega (arith, lo) in
-    subst (λ z. length (formOf z .items) ≤ length l → (j : ℕ) → InN j (getD (kidsFor (z ∷ l)) (t - 21) []) → InN j (refs 11 (z ∷ l))) e (kid-refs (t - 21) (omega (arith, hi)) l)
+    let e : firstNode + (t - firstNode) ≡ t = omega (arith, lo) in
+    subst (λ z. length (formOf z .items) ≤ length l → (j : ℕ) → InN j (getD (kidsFor (z ∷ l)) (t - firstNode) []) → InN j (refs NODE (z ∷ l))) e (kid-refs (t - firstNode) (omega (arith, hi)) l)
 
 module _ (m : Mode) (s : State) where
-  row-kids : (pre : List (List ℕ)) (r : List ℕ) → Was m s NODE pre r → 21 ≤ tag r → tag r ≤ 48 → (j : ℕ) → InN j (childrenOf r) → InN j (refs NODE r)
+  row-kids : (pre : List (List ℕ)) (r : List ℕ) → Was m s NODE pre r → firstNode ≤ tag r → tag r ≤ RECORD-OF → (j : ℕ) → InN j (childrenOf r) → InN j (refs NODE r)
   row-kids pre [] w lo hi = absurd (omega (arith, hi))
   row-kids pre (t ∷ l) w lo hi = kids-of t l lo hi (row-read m (t ∷ l) (w .line) t (w .row) refl (omega (arith, lo)) (omega (arith, hi)) (λ z. absurd (omega (arith, z, lo))) .least)
 
   row-below : (pre : List (List ℕ)) (r : List ℕ) → Was m s NODE pre r → (j : ℕ) → InN j (refs NODE r) → j < length pre
   unfolding refs
-  row-below pre r w j i = subst (λ z. j < length z) (w .mine) (in-below (count (w .was) 11) (refsFrom 11 (tag r) 0 (items r)) j (refs-below (w .was) 11 (tag r) 0 (items r) (all-there (w .was) NODE r (w .pass .refers))) i)
+  row-below pre r w j i = subst (λ z. j < length z) (w .mine) (in-below (count (w .was) NODE) (refsFrom NODE (tag r) 0 (items r)) j (refs-below (w .was) NODE (tag r) 0 (items r) (all-there (w .was) NODE r (w .pass .refers))) i)
 
   pub node-fact : History m s → (c : ℕ) → c < count s NODE → Fact s c
   unfolding keyOf trees
@@ -267,11 +268,11 @@ module _ (m : Mode) (s : State) where
 
       go : (pre : List (List ℕ)) (r : List ℕ) (rest : List (List ℕ)) → length pre ≡ c → linesOf s NODE ≡ pre ++ (r ∷ rest) → Was m s NODE pre r → getD (linesOf s NODE) c [] ≡ r → Fact s c
       go pre r rest n e w q =
-          let (lo, hi) = tags-between 11 21 48 (tag r) (omega arith) node-tags (w .key) in
+          let (lo, hi) = tags-between NODE firstNode RECORD-OF (tag r) (omega arith) node-tags (w .key) in
           record {
-            low = subst (λ z. 21 ≤ tag z) (sym q) lo;
-            high = subst (λ z. tag z ≤ 48) (sym q) hi;
-            even = subst (λ z. tag z ≡ 48 → length (drop 1 (items z)) ≡ 2 * length (others (drop 1 (items z)))) (sym q) (even-row m r (w .line) (w .row));
+            low = subst (λ z. firstNode ≤ tag z) (sym q) lo;
+            high = subst (λ z. tag z ≤ RECORD-OF) (sym q) hi;
+            even = subst (λ z. tag z ≡ RECORD-OF → length (drop 1 (items z)) ≡ 2 * length (others (drop 1 (items z)))) (sym q) (even-row m r (w .line) (w .row));
             kids = subst (λ z. (j : ℕ) → InN j (childrenOf z) → InN j (refs NODE z)) (sym q) (row-kids pre r w lo hi);
             tree = subst (λ z. getD (treesFrom (types s) (λ n. n) [] (linesOf s NODE)) c (err tbool) ≡ treeOver (types s) (λ n. n) (treesFrom (types s) (λ n. n) [] (linesOf s NODE)) z) (sym q)
                 (tree-here pre r rest n e (λ j i. row-below pre r w j (row-kids pre r w lo hi j i)));

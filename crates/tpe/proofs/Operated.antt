@@ -11,7 +11,8 @@ use lib.Seq.{take-all}
 use Rattle.cedar.specs.Residual.{uempty, uis, ulike, beq, bany, rin, rhastag}
 use Rattle.cedar.specs.TypeRules.{unRule, binRule, relRule, hasRule}
 use Rattle.cedar.specs.Numbered.{NOut, truly, nUn, nBin}
-use Rattle.sheet.specs.Forms.{partial, items, at}
+use Rattle.forms.specs.Tags.{EQ, LT, MUL, IN, GETTAG, HASTAG, CONTAINS, ALL, ANY, IS, LIKE, GET, HAS, NOT, NEG}
+use Rattle.sheet.specs.Forms.{partial, items, at, NODE}
 use Rattle.sheet.specs.Content.{schema, patternOf}
 use Rattle.table.specs.Layout.{rowsOf, textAt, held}
 use Rattle.strict.specs.Gives.{outOf, values, valueIn, envIn, longsOut, notOut, negOut, emptyOut, isOut, likeOut, arithOut, containsOut, allOut, anyOut}
@@ -29,37 +30,37 @@ use Rattle.tpe.specs.Gives.{oneGives, oneGive, oneRule, twoGives, twoGiv
 same-bytes : (sheet a : List ℕ) → schema (held sheet a []) .bytes ≡ textAt sheet a
 same-bytes sheet a = λ i t. bytes-link false a sheet [] t i
 
-module _ (sheet a : List ℕ) (n t v : ℕ) (r : List ℕ) (g : Given) (er : r ≡ getD (rowsOf a 11) n []) where
+module _ (sheet a : List ℕ) (n t v : ℕ) (r : List ℕ) (g : Given) (er : r ≡ getD (rowsOf a NODE) n []) where
   abbrev Gives₁ : Type 0
-  Gives₁ = outOf g ≡ oneGive sheet t a (getD (rowsOf a 11) n []) v
+  Gives₁ = outOf g ≡ oneGive sheet t a (getD (rowsOf a NODE) n []) v
 
-  place-one : (j : ℕ) → t - 39 ≡ j → outOf g ≡ getD (oneGives sheet a r v) j (nUn (W.schemaIn partial sheet a) uempty (W.valueIn partial sheet a v)) → Gives₁
+  place-one : (j : ℕ) → t - IS ≡ j → outOf g ≡ getD (oneGives sheet a r v) j (nUn (W.schemaIn partial sheet a) uempty (W.valueIn partial sheet a v)) → Gives₁
   unfolding oneGive
   place-one j e h = rw (← er, e) h
 
-  pub gives-is : (x : ℕ) → x ≡ getD r 3 0 → t ≤ 39 → outOf g ≡ isOut x (valueIn a v) → Gives₁
+  pub gives-is : (x : ℕ) → x ≡ getD r 3 0 → t ≤ IS → outOf g ≡ isOut x (valueIn a v) → Gives₁
   unfolding isOut valueIn values
   gives-is x ex h q = place-one 0 (omega arith) (rw (← ex) q)
 
-  pub gives-like : (l : List ℕ) → l ≡ drop 2 (items r) → t ≡ 40 → outOf g ≡ likeOut (textAt sheet a) l (valueIn a v) → Gives₁
+  pub gives-like : (l : List ℕ) → l ≡ drop 2 (items r) → t ≡ LIKE → outOf g ≡ likeOut (textAt sheet a) l (valueIn a v) → Gives₁
   unfolding valueIn values W.schemaIn
   gives-like l el h q = place-one 1 (omega arith)
       (q ∙ ap (λ (f : ℕ → List ℕ). likeOut f l (valueIn a v)) (sym (same-bytes sheet a)) ∙ like-link (schema (held sheet a [])) (valueIn a v) l
       ∙ ap (λ (k : List ℕ). nUn (schema (held sheet a [])) (ulike (patternOf k)) (valueIn a v)) el)
 
-  pub gives-get : (x : ℕ) → x ≡ getD r 3 0 → t ≡ 41 → outOf g ≡ getOut false a v x → Gives₁
+  pub gives-get : (x : ℕ) → x ≡ getD r 3 0 → t ≡ GET → outOf g ≡ getOut false a v x → Gives₁
   unfolding getOut valueIn values envIn W.envIn
   gives-get x ex h q = place-one 2 (omega arith) (rw (← ex) q)
 
-  pub gives-has : (x : ℕ) → x ≡ getD r 3 0 → t ≡ 42 → outOf g ≡ hasOut false a v x → Gives₁
+  pub gives-has : (x : ℕ) → x ≡ getD r 3 0 → t ≡ HAS → outOf g ≡ hasOut false a v x → Gives₁
   unfolding hasOut valueIn values envIn W.envIn
   gives-has x ex h q = place-one 3 (omega arith) (rw (← ex) q)
 
-  pub gives-not : t ≡ 44 → outOf g ≡ notOut (valueIn a v) → Gives₁
+  pub gives-not : t ≡ NOT → outOf g ≡ notOut (valueIn a v) → Gives₁
   unfolding notOut valueIn values
   gives-not h q = place-one 5 (omega arith) q
 
-  pub gives-neg : t ≡ 45 → outOf g ≡ negOut (valueIn a v) → Gives₁
+  pub gives-neg : t ≡ NEG → outOf g ≡ negOut (valueIn a v) → Gives₁
   unfolding negOut valueIn values
   gives-neg h q = place-one 6 (omega arith) q
 
@@ -76,20 +77,20 @@ module _ (sheet a : List ℕ) (n t v : ℕ) (r : List ℕ) (g : Given) (er : r �
   others-one (suc (suc (suc (suc (suc (suc zero)))))) h i j k l m = absurd (m refl)
   others-one (suc (suc (suc (suc (suc (suc (suc x))))))) h i j k l m = refl
 
-  pub gives-empty : 39 < t → (t ≡ 40 → ⊥) → (t ≡ 41 → ⊥) → (t ≡ 42 → ⊥) → (t ≡ 44 → ⊥) → (t ≡ 45 → ⊥) → outOf g ≡ emptyOut (valueIn a v) → Gives₁
+  pub gives-empty : IS < t → (t ≡ LIKE → ⊥) → (t ≡ GET → ⊥) → (t ≡ HAS → ⊥) → (t ≡ NOT → ⊥) → (t ≡ NEG → ⊥) → outOf g ≡ emptyOut (valueIn a v) → Gives₁
   unfolding emptyOut valueIn values
   gives-empty h i j k l m q =
-      place-one (t - 39) refl
-      (q ∙ sym (others-one (t - 39) (λ e. omega (arith, e, h)) (λ e. i (omega (arith, e))) (λ e. j (omega (arith, e))) (λ e. k (omega (arith, e))) (λ e. l (omega (arith, e))) (λ e. m (omega (arith, e)))))
+      place-one (t - IS) refl
+      (q ∙ sym (others-one (t - IS) (λ e. omega (arith, e, h)) (λ e. i (omega (arith, e))) (λ e. j (omega (arith, e))) (λ e. k (omega (arith, e))) (λ e. l (omega (arith, e))) (λ e. m (omega (arith, e)))))
 
-module _ (a : List ℕ) (n t x y : ℕ) (r : List ℕ) (q : Rule) (er : r ≡ getD (rowsOf a 11) n []) (ex : x ≡ getD r 3 0) where
-  pub rules-is : t ≤ 39 → ruleIn q ≡ unRule (schemaAt a) (uis x) (tyAt a y) → ruleIn q ≡ oneRule t a (getD (rowsOf a 11) n []) y
+module _ (a : List ℕ) (n t x y : ℕ) (r : List ℕ) (q : Rule) (er : r ≡ getD (rowsOf a NODE) n []) (ex : x ≡ getD r 3 0) where
+  pub rules-is : t ≤ IS → ruleIn q ≡ unRule (schemaAt a) (uis x) (tyAt a y) → ruleIn q ≡ oneRule t a (getD (rowsOf a NODE) n []) y
   unfolding oneRule
-  rules-is h e = let z : t - 39 ≡ 0 = omega arith in rw (← er, z, ← ex) e
+  rules-is h e = let z : t - IS ≡ 0 = omega arith in rw (← er, z, ← ex) e
 
-  pub rules-has : t ≡ 42 → ruleIn q ≡ hasRule (schemaAt a) x (tyAt a y) → ruleIn q ≡ oneRule t a (getD (rowsOf a 11) n []) y
+  pub rules-has : t ≡ HAS → ruleIn q ≡ hasRule (schemaAt a) x (tyAt a y) → ruleIn q ≡ oneRule t a (getD (rowsOf a NODE) n []) y
   unfolding oneRule
-  rules-has h e = let z : t - 39 ≡ 3 = omega arith in rw (← er, z, ← ex) e
+  rules-has h e = let z : t - IS ≡ 3 = omega arith in rw (← er, z, ← ex) e
 
 no-rule-one : (j : ℕ) (p q : Option Bool) → (j ≡ 0 → ⊥) → (j ≡ 3 → ⊥) → getD (p ∷ none ∷ none ∷ q ∷ []) j none ≡ none
 no-rule-one zero p q h k = absurd (h refl)
@@ -98,9 +99,9 @@ no-rule-one (suc (suc zero)) p q h k = refl
 no-rule-one (suc (suc (suc zero))) p q h k = absurd (k refl)
 no-rule-one (suc (suc (suc (suc j)))) p q h k = refl
 
-pub rules-none : (a r : List ℕ) (t y : ℕ) → 39 < t → (t ≡ 42 → ⊥) → ruleIn Silent ≡ oneRule t a r y
+pub rules-none : (a r : List ℕ) (t y : ℕ) → IS < t → (t ≡ HAS → ⊥) → ruleIn Silent ≡ oneRule t a r y
 unfolding oneRule
-rules-none a r t y h k = sym (no-rule-one (t - 39) (unRule (schemaAt a) (uis (at r 2)) (tyAt a y)) (hasRule (schemaAt a) (at r 2) (tyAt a y)) (λ e. omega (arith, e, h)) (λ e. k (omega (arith, e))))
+rules-none a r t y h k = sym (no-rule-one (t - IS) (unRule (schemaAt a) (uis (at r 2)) (tyAt a y)) (hasRule (schemaAt a) (at r 2) (tyAt a y)) (λ e. omega (arith, e, h)) (λ e. k (omega (arith, e))))
 
 -- the texts of a row
 pub texts-none : (r : List ℕ) → length r < 3 → take 0 (drop 0 r) ≡ drop 2 (items r)
@@ -115,7 +116,7 @@ texts-some (x ∷ r) h = take-all (length (x ∷ r) - 3) (drop 2 r) (omega (arit
 
 -- ---- two operands
 
-above : (t x : ℕ) → t ≡ 32 + x → (x ≡ 0 → ⊥) → (x ≡ 1 → ⊥) → (x ≡ 2 → ⊥) → (x ≡ 3 → ⊥) → (x ≡ 4 → ⊥) → 37 ≤ t
+above : (t x : ℕ) → t ≡ IN + x → (x ≡ 0 → ⊥) → (x ≡ 1 → ⊥) → (x ≡ 2 → ⊥) → (x ≡ 3 → ⊥) → (x ≡ 4 → ⊥) → ANY ≤ t
 above t zero e i j k l m = absurd (i refl)
 above t (suc zero) e i j k l m = absurd (j refl)
 above t (suc (suc zero)) e i j k l m = absurd (k refl)
@@ -123,7 +124,7 @@ above t (suc (suc (suc zero))) e i j k l m = absurd (l refl)
 above t (suc (suc (suc (suc zero)))) e i j k l m = absurd (m refl)
 above t (suc (suc (suc (suc (suc x))))) e i j k l m = omega (arith, e)
 
-past : (t : ℕ) → 37 ≤ t → t - 26 ≡ suc (suc (suc (suc (suc (suc (suc (suc (suc (suc (suc (t - 37)))))))))))
+past : (t : ℕ) → ANY ≤ t → t - EQ ≡ suc (suc (suc (suc (suc (suc (suc (suc (suc (suc (suc (t - ANY)))))))))))
 past t n = omega (arith, n)
 
 module _ (a : List ℕ) (t v w : ℕ) (g : Given) where
@@ -133,14 +134,14 @@ module _ (a : List ℕ) (t v w : ℕ) (g : Given) where
   abbrev any₂ : NOut
   any₂ = nBin bany v w (W.valueIn partial [] a v) (W.valueIn partial [] a w)
 
-  place-two : (j : ℕ) → t - 26 ≡ j → outOf g ≡ getD (twoGives a v w) j any₂ → Gives₂
+  place-two : (j : ℕ) → t - EQ ≡ j → outOf g ≡ getD (twoGives a v w) j any₂ → Gives₂
   unfolding twoGive
   place-two j e h = rw e h
 
-  pub gives-eq : t ≤ 26 → outOf g ≡ truly (eqb v w) → Gives₂
+  pub gives-eq : t ≤ EQ → outOf g ≡ truly (eqb v w) → Gives₂
   gives-eq h q = place-two 0 (omega arith) q
 
-  arith-at : (j : ℕ) → j < 5 → t ≡ 27 + j → outOf g ≡ arithOut t (valueIn a v) (valueIn a w) → outOf g ≡ getD (twoGives a v w) (suc j) any₂
+  arith-at : (j : ℕ) → j < 5 → t ≡ LT + j → outOf g ≡ arithOut t (valueIn a v) (valueIn a w) → outOf g ≡ getD (twoGives a v w) (suc j) any₂
   unfolding arithOut longsOut valueIn values
   arith-at zero h e q = rw e at q
   arith-at (suc zero) h e q = rw e at q
@@ -149,47 +150,47 @@ module _ (a : List ℕ) (t v w : ℕ) (g : Given) where
   arith-at (suc (suc (suc (suc zero)))) h e q = rw e at q
   arith-at (suc (suc (suc (suc (suc j))))) h e q = absurd (omega (arith, h))
 
-  pub gives-arith : 26 < t → t ≤ 31 → outOf g ≡ arithOut t (valueIn a v) (valueIn a w) → Gives₂
-  gives-arith h k q = place-two (suc (t - 27)) (omega arith) (arith-at (t - 27) (omega arith) (omega arith) q)
+  pub gives-arith : EQ < t → t ≤ MUL → outOf g ≡ arithOut t (valueIn a v) (valueIn a w) → Gives₂
+  gives-arith h k q = place-two (suc (t - LT)) (omega arith) (arith-at (t - LT) (omega arith) (omega arith) q)
 
-  pub gives-in : t ≡ 32 → outOf g ≡ inOut false a v w → Gives₂
+  pub gives-in : t ≡ IN → outOf g ≡ inOut false a v w → Gives₂
   unfolding inOut valueIn values envIn W.envIn
   gives-in h q = place-two 6 (omega arith) q
 
-  pub gives-gettag : t ≡ 33 → outOf g ≡ gettagOut false a v w → Gives₂
+  pub gives-gettag : t ≡ GETTAG → outOf g ≡ gettagOut false a v w → Gives₂
   unfolding gettagOut valueIn values envIn W.envIn
   gives-gettag h q = place-two 7 (omega arith) q
 
-  pub gives-hastag : t ≡ 34 → outOf g ≡ hastagOut false a v w → Gives₂
+  pub gives-hastag : t ≡ HASTAG → outOf g ≡ hastagOut false a v w → Gives₂
   unfolding hastagOut valueIn values envIn W.envIn
   gives-hastag h q = place-two 8 (omega arith) q
 
-  pub gives-contains : t ≡ 35 → outOf g ≡ containsOut w (valueIn a v) → Gives₂
+  pub gives-contains : t ≡ CONTAINS → outOf g ≡ containsOut w (valueIn a v) → Gives₂
   unfolding containsOut valueIn values
   gives-contains h q = place-two 9 (omega arith) q
 
-  pub gives-all : t ≡ 36 → outOf g ≡ allOut (valueIn a v) (valueIn a w) → Gives₂
+  pub gives-all : t ≡ ALL → outOf g ≡ allOut (valueIn a v) (valueIn a w) → Gives₂
   unfolding allOut valueIn values
   gives-all h q = place-two 10 (omega arith) q
 
-  pub gives-any : 31 < t → (t ≡ 32 → ⊥) → (t ≡ 33 → ⊥) → (t ≡ 34 → ⊥) → (t ≡ 35 → ⊥) → (t ≡ 36 → ⊥) → outOf g ≡ anyOut (valueIn a v) (valueIn a w) → Gives₂
+  pub gives-any : MUL < t → (t ≡ IN → ⊥) → (t ≡ GETTAG → ⊥) → (t ≡ HASTAG → ⊥) → (t ≡ CONTAINS → ⊥) → (t ≡ ALL → ⊥) → outOf g ≡ anyOut (valueIn a v) (valueIn a w) → Gives₂
   unfolding anyOut valueIn values
   gives-any h i j k l m q =
-      let n : 37 ≤ t = above t (t - 32) (omega (arith, h)) (λ e. i (omega (arith, e))) (λ e. j (omega (arith, e))) (λ e. k (omega (arith, e))) (λ e. l (omega (arith, e))) (λ e. m (omega (arith, e))) in
-      place-two (suc (suc (suc (suc (suc (suc (suc (suc (suc (suc (suc (t - 37)))))))))))) (past t n) q
+      let n : ANY ≤ t = above t (t - IN) (omega (arith, h)) (λ e. i (omega (arith, e))) (λ e. j (omega (arith, e))) (λ e. k (omega (arith, e))) (λ e. l (omega (arith, e))) (λ e. m (omega (arith, e))) in
+      place-two (suc (suc (suc (suc (suc (suc (suc (suc (suc (suc (suc (t - ANY)))))))))))) (past t n) q
 
 module _ (a : List ℕ) (t y z : ℕ) (q : Rule) where
-  pub rules-eq : t ≤ 26 → ruleIn q ≡ binRule (schemaAt a) beq (tyAt a y) (tyAt a z) → ruleIn q ≡ twoRule t a y z
+  pub rules-eq : t ≤ EQ → ruleIn q ≡ binRule (schemaAt a) beq (tyAt a y) (tyAt a z) → ruleIn q ≡ twoRule t a y z
   unfolding twoRule
-  rules-eq h e = let j : t - 26 ≡ 0 = omega arith in rw j e
+  rules-eq h e = let j : t - EQ ≡ 0 = omega arith in rw j e
 
-  pub rules-in : t ≡ 32 → ruleIn q ≡ relRule (schemaAt a) rin (tyAt a y) (tyAt a z) → ruleIn q ≡ twoRule t a y z
+  pub rules-in : t ≡ IN → ruleIn q ≡ relRule (schemaAt a) rin (tyAt a y) (tyAt a z) → ruleIn q ≡ twoRule t a y z
   unfolding twoRule
-  rules-in h e = let j : t - 26 ≡ 6 = omega arith in rw j e
+  rules-in h e = let j : t - EQ ≡ 6 = omega arith in rw j e
 
-  pub rules-hastag : t ≡ 34 → ruleIn q ≡ relRule (schemaAt a) rhastag (tyAt a y) (tyAt a z) → ruleIn q ≡ twoRule t a y z
+  pub rules-hastag : t ≡ HASTAG → ruleIn q ≡ relRule (schemaAt a) rhastag (tyAt a y) (tyAt a z) → ruleIn q ≡ twoRule t a y z
   unfolding twoRule
-  rules-hastag h e = let j : t - 26 ≡ 8 = omega arith in rw j e
+  rules-hastag h e = let j : t - EQ ≡ 8 = omega arith in rw j e
 
 no-rule-two : (j : ℕ) (p q r : Option Bool) → (j ≡ 0 → ⊥) → (j ≡ 6 → ⊥) → (j ≡ 8 → ⊥) → getD (p ∷ none ∷ none ∷ none ∷ none ∷ none ∷ q ∷ none ∷ r ∷ []) j none ≡ none
 no-rule-two zero p q r h k l = absurd (h refl)
@@ -203,8 +204,8 @@ no-rule-two (suc (suc (suc (suc (suc (suc (suc zero))))))) p q r h k l = refl
 no-rule-two (suc (suc (suc (suc (suc (suc (suc (suc zero)))))))) p q r h k l = absurd (l refl)
 no-rule-two (suc (suc (suc (suc (suc (suc (suc (suc (suc j))))))))) p q r h k l = refl
 
-pub rules-silent : (a : List ℕ) (t y z : ℕ) → 26 < t → (t ≡ 32 → ⊥) → (t ≡ 34 → ⊥) → ruleIn Silent ≡ twoRule t a y z
+pub rules-silent : (a : List ℕ) (t y z : ℕ) → EQ < t → (t ≡ IN → ⊥) → (t ≡ HASTAG → ⊥) → ruleIn Silent ≡ twoRule t a y z
 unfolding twoRule
 rules-silent a t y z h k l =
-    sym (no-rule-two (t - 26) (binRule (schemaAt a) beq (tyAt a y) (tyAt a z)) (relRule (schemaAt a) rin (tyAt a y) (tyAt a z)) (relRule (schemaAt a) rhastag (tyAt a y) (tyAt a z))
+    sym (no-rule-two (t - EQ) (binRule (schemaAt a) beq (tyAt a y) (tyAt a z)) (relRule (schemaAt a) rin (tyAt a y) (tyAt a z)) (relRule (schemaAt a) rhastag (tyAt a y) (tyAt a z))
     (λ e. omega (arith, e, h)) (λ e. k (omega (arith, e))) (λ e. l (omega (arith, e))))

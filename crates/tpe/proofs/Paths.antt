@@ -1,9 +1,9 @@
 -- `haspath` over words is the numbered one: the walk, and what is left over of it with its types. Assumes nothing.
-use mathlib.Core.Path.{_≡_, refl, _∙_, ap}
+use mathlib.Core.Path.{_≡_, refl, sym, _∙_, ap}
 use mathlib.Core.Bool.{Bool, true, false}
 use mathlib.Core.Option.{Option, none, some}
 use mathlib.Core.List.{List, [], _∷_}
-use Prim.Native.Nat.{ℕ, zero, suc, _+_, _≤_}
+use Prim.Native.Nat.{ℕ, suc, _+_, _≤_}
 use native.Mathlib.Omega.{arith}
 use lib.ListN.{length, getD, take, drop}
 use Rattle.words.specs.Log.{appended}
@@ -14,6 +14,7 @@ use Rattle.cedar.specs.Residual.{Node, lit, err, haspath, tyOf, canErr, Stage, 
 use Rattle.cedar.specs.TypeRules.{hasRule}
 use Rattle.cedar.specs.Rows.{Entries, Row, rbool, rlong, rtext, rent, rset, rrec}
 use Rattle.cedar.specs.Numbered.{Give, NEnv, giveRow, rRec, nentity, onEntries, rowAt, isSome, entryOf, Out, out, make, nByRule, nLeft, nWalk, nPath, nStepPath}
+use Rattle.forms.specs.Tags.{ENTITY-TYPE}
 use Rattle.sheet.specs.Forms.{Mode, items, at, TYPE}
 use Rattle.sheet.proofs.TypeNumbers.{Listed, TypesIn}
 use Rattle.table.specs.Layout.{rowsOf}
@@ -24,7 +25,7 @@ use Rattle.residual.specs.Trees.{rlit, rnil, rcons, flat, flats, leftTree, suit
 use Rattle.residual.proofs.Blocks.{flat-length}
 use Rattle.residual.proofs.Meaning.{stageFor}
 use Rattle.tpe.specs.Run.{O, errOf, leftOf, madeOf, Walk, lost, says, stuck, walkFrom, entityType, stuckOf, walkedOf, pathBy, pathOf, tyIn}
-use Rattle.tpe.proofs.Stands.{Hold, values, schema-is, types-are, env-is, Room, Space, space-spent, tys, nodes, ty, Is, err-is, left-is, make-bool, cut-back}
+use Rattle.tpe.proofs.Stands.{Hold, values, schema-is, types-are, env-is, Room, Space, space-spent, tys, nodes, ty, Is, err-is, left-is, make-bool, cut-back, drop-here}
 use Rattle.tpe.proofs.Strict.{Over, over1, over-left, over-ruled, last-stage, last-type, last-errs}
 use Rattle.tpe.proofs.Operations.{sch, env}
 use Rattle.tpe.proofs.Outcomes.{bool-row}
@@ -51,12 +52,6 @@ entries-both Q N R d e u v f g p q h (rent k t) = go (nentity N k t .attrs)
 entries-both Q N R d e u v f g p q h (rset l) = p
 entries-both Q N R d e u v f g p q h (rrec x) = h x
 
-drop-next : (l : List ℕ) (j u : ℕ) (us : List ℕ) → u ∷ us ≡ drop j l → (u ≡ getD l j 0) × (us ≡ drop (suc j) l)
-drop-next [] zero u us e = absurd (omega (arith, ap length e))
-drop-next [] (suc j) u us e = absurd (omega (arith, ap length e))
-drop-next (x ∷ l) zero u us e = (ap (λ (z : List ℕ). getD z 0 0) e, ap (drop 1) e)
-drop-next (x ∷ l) (suc j) u us e = drop-next l j u us e
-
 item-at : (r : List ℕ) (i k : ℕ) → i ≡ k → getD (items r) i 0 ≡ at r k
 item-at [] i k e = refl
 item-at (t ∷ l) i k e = ap (λ (j : ℕ). getD l j 0) e
@@ -64,7 +59,7 @@ item-at (t ∷ l) i k e = ap (λ (j : ℕ). getD l j 0) e
 drop-at : (l : List ℕ) (i k : ℕ) → i ≡ k → drop i l ≡ drop k l
 drop-at l i k e = ap (λ (j : ℕ). drop j l) e
 
-module _ (m : Mode) (sheet a₀ : List ℕ) (kinds : (k : ℕ) → Listed (tys sheet a₀) (tent k) → ty sheet a₀ (placeOf (6 ∷ k ∷ []) (rowsOf a₀ TYPE)) ≡ tent k) where
+module _ (m : Mode) (sheet a₀ : List ℕ) (kinds : (k : ℕ) → Listed (tys sheet a₀) (tent k) → ty sheet a₀ (placeOf (ENTITY-TYPE ∷ k ∷ []) (rowsOf a₀ TYPE)) ≡ tent k) where
   module _ (d n : ℕ) (most : 1 ≤ n) (a l a₁ : List ℕ) (R : List Row) (room : Room (suc n) a l) (h : Hold a₀ a₁) (space : Space 3 (suc n) a a₁) (rows : values a₁ ≡ R)
       (c : ℕ) (r : List ℕ) (su : suits (getD (nodes sheet a₀) c []) 1 ≡ true)
       (keep : (j : ℕ) (t : Node ℕ) → leftTree (getD (nodes sheet a₀) c []) j (ty sheet a₀ (at r 0)) (t ∷ []) ≡ haspath (ty sheet a₀ (at r 0)) t (at r (2 + j)) (drop (3 + j) (items r))) where
@@ -73,7 +68,7 @@ module _ (m : Mode) (sheet a₀ : List ℕ) (kinds : (k : ℕ) → Listed (tys s
 
     entity-type : (k : ℕ) → Listed (tys sheet a₀) (tent k) → ty sheet a₀ (entityType a₁ k) ≡ tent k
     unfolding entityType
-    entity-type k e = ap (λ (rs : List (List ℕ)). ty sheet a₀ (placeOf (6 ∷ k ∷ []) rs)) (h .same TYPE (omega arith)) ∙ kinds k e
+    entity-type k e = ap (λ (rs : List (List ℕ)). ty sheet a₀ (placeOf (ENTITY-TYPE ∷ k ∷ []) rs)) (h .same TYPE (omega arith)) ∙ kinds k e
 
     says-is : (b : Bool) → Is sheet a₀ (suc (suc d)) (suc n) a l (make T (rbool b) R) (madeOf a₁ l (at r 0) (boolRow b))
     says-is b = rw (← rows, ← bool-row b) (make-bool sheet a₀ (suc d) (suc n) (omega arith) a l a₁ room h space b (at r 0))
@@ -119,10 +114,10 @@ module _ (m : Mode) (sheet a₀ : List ℕ) (kinds : (k : ℕ) → Listed (tys s
         (λ e. make T (rbool (isSome (entryOf t e))) R) (λ e. says (isSome (entryOf t e)))
         walked-lost (λ k i. walked-stuck j v k t [] et eu) (λ e. walked-says (isSome (entryOf t e))) (rowAt R v)
     walk-is (u ∷ us) t v j et eu =
-        let (p, q) = drop-next (items r) (3 + j) u us eu in
+        let (p, q) = drop-here 0 (items r) (3 + j) u us (sym eu) in
         entries-both Walked (env m sheet a₀) R (out R (err T)) lost (λ k i. nLeft (sch m sheet a₀) (env m sheet a₀) T (lit (tent k) v) t (u ∷ us) R) (λ k i. stuck j v k)
         (λ e. onSome (make T (rbool false) R) (entryOf t e) (nWalk (sch m sheet a₀) (env m sheet a₀) T R us u)) (λ e. onSome (says false) (entryOf t e) (λ w. walkFrom (env m sheet a₀) R us u w (suc j)))
-        walked-lost (λ k i. walked-stuck j v k t (u ∷ us) et eu) (λ e. go (entryOf t e) (λ w. walk-is us u w (suc j) (p ∙ item-at r (3 + j) (2 + suc j) (omega arith)) (q ∙ drop-at (items r) (suc (3 + j)) (3 + suc j) (omega arith)))) (rowAt R v)
+        walked-lost (λ k i. walked-stuck j v k t (u ∷ us) et eu) (λ e. go (entryOf t e) (λ w. walk-is us u w (suc j) (sym p ∙ item-at r (3 + j) (2 + suc j) (omega arith)) (sym q ∙ drop-at (items r) (suc (3 + j)) (3 + suc j) (omega arith)))) (rowAt R v)
       where
         go : (o : Option ℕ) → ((w : ℕ) → Walked (nWalk (sch m sheet a₀) (env m sheet a₀) T R us u w) (walkFrom (env m sheet a₀) R us u w (suc j)))
             → Walked (onSome (make T (rbool false) R) o (nWalk (sch m sheet a₀) (env m sheet a₀) T R us u)) (onSome (says false) o (λ w. walkFrom (env m sheet a₀) R us u w (suc j)))

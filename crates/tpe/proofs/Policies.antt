@@ -84,7 +84,7 @@ module _ (m : Mode) (sheet a₀ : List ℕ) where
     ran-is [] w i z a l h good room = record { ress = rnil; log = sym (append-nil l); trees = refl; wholes = whole-none; rows = refl; hold = h; lines = refl }
     ran-is (r ∷ rs) w i z a l h good room =
         let e : getD (rowsOf a POLICY) i [] ≡ r = ap (λ (q : List (List ℕ)). getD q i []) (h .same POLICY (omega arith)) ∙ drop-here [] (rowsOf a₀ POLICY) i r rs z .0 in
-        rw e
+        subst (λ (q : List ℕ). RunIs d l (nRun (sch m sheet a₀) (env m sheet a₀) (numberedPolicies trs (r ∷ rs)) (values a)) (thenRan (f a l (at q 2)) (ranFrom f (suc i) (length rs)))) (sym e)
         (go (w .0 .0 a l h good (record { top = omega (arith, room .top); few = omega (arith, room .few); log = omega (arith, room .log) }))
         (λ b j k p e. ran-is rs (w .1) (suc i) (drop-here [] (rowsOf a₀ POLICY) i r rs z .1) b j k p e))
       where

@@ -18,6 +18,7 @@ use Rattle.cedar.proofs.ReadsOps.{keep-env}
 use Rattle.cedar.proofs.Refine.{refine}
 use Rattle.cedar.proofs.SettledByNumber.{ReadPolicies, also}
 use Rattle.cedar.proofs.TypesKept.{reads-hold, types-kept}
+use Rattle.forms.specs.Tags.{POLICY-LINE}
 use Rattle.sheet.specs.Forms.{partial, at, NODE}
 use Rattle.sheet.specs.State.{State, linesOf, count}
 use Rattle.sheet.specs.Content.{types, contents, trees, exprs, schema, nEnv, pEnv, valueRows}
@@ -48,7 +49,7 @@ module _ (s : State) (f : Facts partial s) where
   -- every node reads
   node-reads : (c : ℕ) → Reads (contents s) (getD (trees s) c (err tbool)) (getD (exprs s) c (err tbool))
   unfolding trees exprs
-  node-reads c = head-reads (read-policies (contents s) (types s) (λ n. getD (contents s) n (vbool false)) (linesOf s NODE) ((49 ∷ 0 ∷ 0 ∷ c ∷ []) ∷ []) (lit-there partial s (f .history)))
+  node-reads c = head-reads (read-policies (contents s) (types s) (λ n. getD (contents s) n (vbool false)) (linesOf s NODE) ((POLICY-LINE ∷ 0 ∷ 0 ∷ c ∷ []) ∷ []) (lit-there partial s (f .history)))
 
   refined : (c : ℕ) (R : List Row) (t : Tabled s R) → Refines (t .all) (nInterpret (schema s) (nEnv partial s) (getD (trees s) c (err tbool)) R) (interpret (schema s) (pEnv s) (getD (exprs s) c (err tbool)))
   refined c R t = refine (schema s) (nEnv partial s) (pEnv s) (getD (trees s) c (err tbool)) (t .table) (keep-env (t .keeps) (env-read s f)) (keep-reads (t .keeps) (node-reads c))

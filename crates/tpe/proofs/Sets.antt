@@ -14,15 +14,17 @@ use Rattle.cedar.specs.Rows.{Entries, stop, entry, Row, rset, rrec}
 use Rattle.cedar.specs.Making.{insertN, placeN, sortN}
 use Rattle.cedar.specs.Numbered.{out, make, consN, numbers, entryN, entries}
 use Rattle.cedar.proofs.Tools.{no-some}
+use Rattle.forms.specs.Tags.{SET-VALUE, RECORD-VALUE}
 use Rattle.sheet.specs.Forms.{Mode, items, at}
 use Rattle.sheet.specs.State.{valueRow, entriesOf}
 use Rattle.value.specs.Made.{valuesIn, setRow, pairsOf, recordRow, written}
 use Rattle.value.proofs.Interned.{Formed, formed-set, formed-record}
 use Rattle.value.proofs.Fills.{written-is}
+use Rattle.residual.specs.Rows.{litRow}
 use Rattle.residual.specs.Trees.{Res, rlit, rerr, rleft, Ress, rnil, rcons, flat, flats, countRes, nodesOf, argsOf, leftTree, suits, tyAt, treeOf, treesOf, Whole, whole-left, Wholes, whole-more}
 use Rattle.residual.proofs.Blocks.{left-open}
 use Rattle.residual.proofs.Meaning.{trees-count, suited}
-use Rattle.tpe.specs.Run.{Kids, madeOf, errOf, leftOf, manyOf, setOf, recOf}
+use Rattle.tpe.specs.Run.{Kids, madeOf, errOf, leftOf, manyOf, setOf, recOf, allValues, someError, someOpen}
 use Rattle.tpe.proofs.Stands.{values, Room, Spent, tys, nodes, ty, Is, is-as, err-is, left-is, make-is, cut-back}
 use Rattle.tpe.proofs.Kids.{Results, bad, vals, join-none, Are}
 
@@ -107,9 +109,9 @@ value-in {v} e = ap (λ (s : Stage ℕ). got s) e
 
 module _ (ts : List Ty) (ns : List (List ℕ)) where
   -- a residual that is a value is its row
-  lit-flat : {X : Type 0} {d : ℕ} (r : Res) → Whole ts ns d r → (v : ℕ) → view (treeOf ts ns r) ≡ value v → ((y : ℕ) → flat r ≡ 0 ∷ v ∷ 4 ∷ y ∷ [] → X) → X
+  lit-flat : {X : Type 0} {d : ℕ} (r : Res) → Whole ts ns d r → (v : ℕ) → view (treeOf ts ns r) ≡ value v → ((y : ℕ) → flat r ≡ litRow v y → X) → X
   unfolding flat treeOf
-  lit-flat (rlit w y) h v e f = f y (ap (λ (x : ℕ). 0 ∷ x ∷ 4 ∷ y ∷ []) (value-in e))
+  lit-flat (rlit w y) h v e f = f y (ap (λ (x : ℕ). litRow x y) (value-in e))
   lit-flat (rerr y) h v e f = value-not e
   lit-flat (rleft n k y rs) (whole-left s ws) v e f = open-not (sym (left-open (getD ns n []) k (tyAt ts ns y) (treesOf ts ns rs) (suited ts ns n rs s)) ∙ e)
 
@@ -156,7 +158,7 @@ pub drop-two : (r : List ℕ) → drop 2 r ≡ drop 1 (items r)
 drop-two [] = refl
 drop-two (t ∷ l) = refl
 
-module _ (m : Mode) (sheet a₀ : List ℕ) (P : List Row → Type 0) {d n count : ℕ} {a l : List ℕ} {t : Results} {k : Kids} (h : Are m sheet a₀ P d n a l t 0 count k) (c : ℕ) (r : List ℕ) (room : Room (suc n) a l) where
+module _ (m : Mode) (sheet a₀ : List ℕ) (P : List Row → Type 0) {d n count : ℕ} {a l : List ℕ} {t : Results} {k : Kids} (h : Are m sheet a₀ P d n a l t allValues count k) (c : ℕ) (r : List ℕ) (room : Room (suc n) a l) where
   abbrev T : Ty
   T = ty sheet a₀ (at r 0)
 
@@ -185,7 +187,7 @@ module _ (m : Mode) (sheet a₀ : List ℕ) (P : List Row → Type 0) {d n count
         (ap (leftTree (getD (nodes sheet a₀) c []) 0 T) (h .trees) ∙ e))
 
     -- where not all are values
-    many-other : (q : List ℕ) (b : Bool) → Is sheet a₀ (suc d) (suc n) a l (out (t .rows) (cond b (err T) keep)) (manyOf q (k .words) (k .log) (length l) c (at r 0) (cond b 1 2))
+    many-other : (q : List ℕ) (b : Bool) → Is sheet a₀ (suc d) (suc n) a l (out (t .rows) (cond b (err T) keep)) (manyOf q (k .words) (k .log) (length l) c (at r 0) (cond b someError someOpen))
     unfolding manyOf
     many-other q true = many-err
     many-other q false = many-left
@@ -201,13 +203,13 @@ module _ (m : Mode) (sheet a₀ : List ℕ) (P : List Row → Type 0) {d n count
   module _ (su : suits (getD (nodes sheet a₀) c []) count ≡ true) (e : leftTree (getD (nodes sheet a₀) c []) 0 T (t .trees) ≡ set T (nodesOf (t .trees))) where
     set-go : (o : Option (List ℕ)) → vals (t .trees) ≡ o
         → Is sheet a₀ (suc d) (suc n) a l (onSome (out (t .rows) (cond (bad (t .trees)) (err T) (set T (nodesOf (t .trees))))) o (λ vs. make T (rset (sortN vs)) (t .rows)))
-        (manyOf (setRow (flats (h .ress))) (k .words) (k .log) (length l) c (at r 0) (onSome (cond (bad (t .trees)) 1 2) o (λ vs. 0)))
+        (manyOf (setRow (flats (h .ress))) (k .words) (k .log) (length l) c (at r 0) (onSome (cond (bad (t .trees)) 1 2) o (λ vs. allValues)))
     unfolding manyOf setRow
     set-go none p = many-other su (set T (nodesOf (t .trees))) e (setRow (flats (h .ress))) (bad (t .trees))
     set-go (some vs) p =
         let z : valuesIn (flats (h .ress)) ≡ vs = values-in (tys sheet a₀) (nodes sheet a₀) (h .ress) (h .wholes) vs (own-vals vs p) in
         is-as sheet a₀
-        (many-made (14 ∷ sortN (valuesIn (flats (h .ress)))) (formed-set (flats (h .ress)))
+        (many-made (SET-VALUE ∷ sortN (valuesIn (flats (h .ress)))) (formed-set (flats (h .ress)))
         (omega (arith, sort-short (valuesIn (flats (h .ress))), ap length z, vals-length (t .trees) vs p, count-is)))
         (ap (λ (x : List ℕ). make T (rset (sortN x)) (t .rows)) z)
 
@@ -229,14 +231,14 @@ module _ (m : Mode) (sheet a₀ : List ℕ) (P : List Row → Type 0) {d n count
 
     rec-go : (o : Option (List ℕ)) → vals (t .trees) ≡ o
         → Is sheet a₀ (suc d) (suc n) a l (onSome (out (t .rows) (cond (bad (t .trees)) (err T) (rec T (argsOf texts (t .trees))))) (zippedIf texts o) (λ x. make T (rrec x) (t .rows)))
-        (manyOf (recordRow r (flats (h .ress))) (k .words) (k .log) (length l) c (at r 0) (onSome (cond (bad (t .trees)) 1 2) o (λ vs. 0)))
+        (manyOf (recordRow r (flats (h .ress))) (k .words) (k .log) (length l) c (at r 0) (onSome (cond (bad (t .trees)) 1 2) o (λ vs. allValues)))
     unfolding manyOf recordRow
     rec-go none p = many-other su (rec T (argsOf texts (t .trees))) e (recordRow r (flats (h .ress))) (bad (t .trees))
     rec-go (some vs) p =
         let z : entriesOf (pairsOf (drop 2 r) (flats (h .ress))) ≡ zipped texts vs =
         ap (λ (x : List ℕ). entriesOf (pairsOf x (flats (h .ress)))) (drop-two r) ∙ pairs-in (tys sheet a₀) (nodes sheet a₀) (h .ress) (h .wholes) texts vs (even ∙ ap (λ (x : ℕ). 2 * x) (sym (h .counted))) (own-vals vs p) in
         is-as sheet a₀
-        (many-made (15 ∷ pairsOf (drop 2 r) (flats (h .ress))) (formed-record r (flats (h .ress)))
+        (many-made (RECORD-VALUE ∷ pairsOf (drop 2 r) (flats (h .ress))) (formed-record r (flats (h .ress)))
         (omega (arith, pairs-short (drop 2 r) (flats (h .ress)), ap length (drop-two r), even)))
         (ap (λ (x : Entries). make T (rrec x) (t .rows)) z)
 

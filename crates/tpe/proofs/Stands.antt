@@ -15,7 +15,7 @@ use Rattle.cedar.specs.Types.{Ty, Var}
 use Rattle.cedar.specs.Residual.{Node, lit, err, tyOf, canErr, view}
 use Rattle.cedar.specs.Rows.{Row}
 use Rattle.cedar.specs.Numbered.{Out, out, make, made as mk}
-use Rattle.sheet.specs.Forms.{Mode, NODE}
+use Rattle.sheet.specs.Forms.{Mode, NODE, noKey}
 use Rattle.sheet.specs.State.{State, valueRow}
 use Rattle.sheet.specs.Content.{types, rowsIn, schema, nEnv}
 use Rattle.table.specs.Layout.{rowsOf, held, MADE, TOP, heap, Sound}
@@ -43,7 +43,7 @@ drop-here d (y ∷ l) (suc i) x q e = drop-here d l i x q e
 pub record Hold (a₀ a : List ℕ) : Type 0 where
   pub sound : Sound a
   pub formed : Formeds (valueLines a)
-  pub same : (k : ℕ) → k < 13 → rowsOf a k ≡ rowsOf a₀ k
+  pub same : (k : ℕ) → k < noKey → rowsOf a k ≡ rowsOf a₀ k
 
 abbrev pub values : List ℕ → List Row
 values a = rowsIn (valueLines a)

@@ -8,7 +8,6 @@ use native.Mathlib.Nat.{le-refl}
 use native.Mathlib.Numerals.{add-one}
 use native.Mathlib.Omega.{arith}
 use native.Mathlib.Decide.{decLt}
-use lib.Dec.{eqb}
 use lib.ListN.{getD, take, drop, length, length-take, length-drop}
 use types.Run.{OneOf}
 use denote.Enum.Declared.{tagOf}
@@ -17,13 +16,14 @@ use Rattle.cedar.specs.Value.{onSome}
 use Rattle.cedar.specs.Types.{tent}
 use Rattle.cedar.specs.TypeRules.{hasRule}
 use Rattle.cedar.specs.Rows.{Entries, stop, Row, rbool, rlong, rtext, rent, rset, rrec}
-use Rattle.cedar.specs.Numbered.{Give, made, old, NEnv, nentity, nlineOr, giveRow, rRec, entryOf, isSome, onEntries}
+use Rattle.cedar.specs.Numbered.{Give, made, old, NEnv, nentity, giveRow, rRec, entryOf, isSome, onEntries, stays}
+use Rattle.forms.specs.Tags.{ENTITY-TYPE, HAS}
 use Rattle.sheet.specs.Bytes.{same}
-use Rattle.sheet.specs.Forms.{partial, items, at, mark}
-use Rattle.sheet.specs.Content.{rowsIn, lookUp, lineGiven, nEnv}
+use Rattle.sheet.specs.Forms.{partial, items, at, TYPE, NODE}
+use Rattle.sheet.specs.Content.{rowsIn}
 use Rattle.words.specs.Log.{appended, Appended, Room}
 use Rattle.words.proofs.Logs.{append-holds, append-room, log-cut, log-length}
-use Rattle.table.specs.Layout.{base, rowAt, rowsOf, held}
+use Rattle.table.specs.Layout.{base, rowAt, rowsOf}
 use Rattle.table.proofs.Rows.{row-none, row-some, count-rows}
 use Rattle.value.specs.Lines.{valueLines}
 use Rattle.value.specs.Made.{boolRow}
@@ -36,116 +36,76 @@ use Rattle.rules.specs.Rules.{ruleIn, schemaAt}
 use Rattle.rules.specs.declared.Rule.{Rule}
 use Rattle.rules.specs.declared.Rule.the-variants.{Says}
 use Rattle.rules.proofs.Same.{has-same, has-kind-same}
-use Rattle.strict.specs.Gives.{values, valueIn}
-use Rattle.strict.specs.Lookups.{stateIn, lineIn, partOfLine, partIn, lookFound, lookRow, lookIn, lookValue, lookAttr, walkStep}
+use Rattle.strict.specs.Gives.{outOf, values, valueIn}
+use Rattle.strict.specs.Gives as G
+use Rattle.strict.specs.Lookups.{lookAttr, walkStep}
 use Rattle.strict.specs.Lookups as S
+use Rattle.strict.proofs.Entities.{given-or, lookAs, in-value}
+use Rattle.strict.proofs.Entities as E
+use Rattle.strict.specs.declared.Given.{Given}
 use Rattle.strict.specs.declared.entity.Part.{Part}
-use Rattle.strict.specs.declared.entity.Part.the-variants.{Known, Empty, Unknown}
+use Rattle.strict.specs.declared.entity.Part.the-variants.{Known, Unknown}
 use Rattle.strict.specs.declared.entity.Look.{Look}
 use Rattle.strict.specs.declared.entity.Look.the-variants.{At, Missing, Unknown as Unknownˡ, Bad}
 use Rattle.strict.specs.declared.entity.Walked.{Walked}
 use Rattle.strict.specs.declared.entity.Walked.the-variants.{Holds, Fails, Left}
-use Rattle.tpe.specs.Run.{left, errOf, leftOf, madeOf, ruledOf, Walk, lost, says, stuck, walkFrom, entityType, schemaIn, tyIn, envIn, stuckOf, walkedOf, pathBy, pathOf}
+use Rattle.tpe.specs.Run.{left, errOf, leftOf, madeOf, ruledOf, Walk, lost, says, stuck, walkFrom, entityType, schemaIn, tyIn, envIn, stuckOf, walkedOf, pathBy, pathOf, settleOf}
 use Rattle.tpe.specs.Leaves.{Leaves}
-use Rattle.tpe.specs.Gives.{oneRule, unlessErr, walkIn, Taken}
+use Rattle.tpe.specs.Gives.{oneRule, unlessErr, walkIn, Taken, ruleOr}
 use Rattle.tpe.proofs.Slices.{word-log, stage-log, errs-log}
 use Rattle.tpe.proofs.Settling.{error-put, left-put}
-use Rattle.tpe.proofs.Worked.{silent, not-said, said}
+use Rattle.tpe.proofs.Worked.{silent, ruled-settles}
 
 -- ---- the type line of a kind
 
 abbrev pub Seeking : List ℕ → ℕ → ℕ → ℕ → Type 0
-Seeking a k n i = Finding (6 ∷ k ∷ []) (rowsOf a 3) n i
+Seeking a k n i = Finding (ENTITY-TYPE ∷ k ∷ []) (rowsOf a TYPE) n i
 
 module _ (a : List ℕ) (k n : ℕ) where
-  pub seek-start : n ≡ getD a 3 0 → Seeking a k n 0
-  seek-start e = find-start (6 ∷ k ∷ []) (rowsOf a 3) n (e ∙ sym (count-rows a 3))
+  pub seek-start : n ≡ getD a TYPE 0 → Seeking a k n 0
+  seek-start e = find-start (ENTITY-TYPE ∷ k ∷ []) (rowsOf a TYPE) n (e ∙ sym (count-rows a TYPE))
 
   module _ (i : ℕ) (g : Seeking a k n i) where
     pub seek-end : n ≤ i → n ≡ entityType a k
     unfolding entityType
-    seek-end h = find-end (6 ∷ k ∷ []) (rowsOf a 3) n i g h
+    seek-end h = find-end (ENTITY-TYPE ∷ k ∷ []) (rowsOf a TYPE) n i g h
 
-    module _ (h : i < n) (q l : List ℕ) (el : l ≡ 6 ∷ k ∷ []) (eq : q ≡ getD (rowsOf a 3) i []) (b : Bool) (eb : b ≡ same q l) where
-      is-same : b ≡ same q (6 ∷ k ∷ [])
+    module _ (h : i < n) (q l : List ℕ) (el : l ≡ ENTITY-TYPE ∷ k ∷ []) (eq : q ≡ getD (rowsOf a TYPE) i []) (b : Bool) (eb : b ≡ same q l) where
+      is-same : b ≡ same q (ENTITY-TYPE ∷ k ∷ [])
       is-same = eb ∙ ap (same q) el
 
       pub seek-hit : b ≡ true → i ≡ entityType a k
       unfolding entityType
-      seek-hit e = find-hit (6 ∷ k ∷ []) (rowsOf a 3) n i g h q eq b is-same e
+      seek-hit e = find-hit (ENTITY-TYPE ∷ k ∷ []) (rowsOf a TYPE) n i g h q eq b is-same e
 
       pub seek-on : b ≡ false → Seeking a k n (i + 1)
-      seek-on e = find-on (6 ∷ k ∷ []) (rowsOf a 3) n i g h q eq b is-same e
+      seek-on e = find-on (ENTITY-TYPE ∷ k ∷ []) (rowsOf a TYPE) n i g h q eq b is-same e
 
 -- ---- the walk
 
 -- an unlisted entity has no attributes
 abbrev pub partGive : Part → Option Give
-partGive (Known n) = some (old n)
-partGive Empty = some (made (rrec stop))
-partGive Unknown = none
+partGive p = E.partGive (made (rrec stop)) p
 
 pub known-or : (x : ℕ) (b : Bool) → cond b none (some (old x)) ≡ partGive (cond b Unknown (Known x))
-known-or x true = refl
-known-or x false = refl
-
-attrs-are : (a : List ℕ) (k t : ℕ) → nentity (envIn partial [] a) k t .attrs ≡ partGive (partIn false a k t 1)
-unfolding envIn nEnv partIn lineIn stateIn
-attrs-are a k t = go (lookUp (held [] a []) k t)
-  where
-    go : (o : Option (List ℕ)) → nlineOr (lineGiven partial o) .attrs ≡ partGive (partOfLine false o 1)
-    go none = refl
-    go (some r) = known-or (at r 1) (eqb (at r 1) mark)
-
--- what a walk makes of a look-up: g of what was found
-abbrev lookWalk : ℕ → ℕ → (Option ℕ → Walk) → Look → Walk
-lookWalk v j g (At x) = g (some x)
-lookWalk v j g Missing = g none
-lookWalk v j g (Unknownˡ k) = stuck j v k
-lookWalk v j g Bad = lost
-
-module _ (a : List ℕ) (v j : ℕ) (g : Option ℕ → Walk) (u : ℕ) where
-  found-walk : (o : Option ℕ) → g o ≡ lookWalk v j g (lookFound o)
-  found-walk none = refl
-  found-walk (some x) = refl
-
-  record-walk : (r : Row) → rRec lost r (λ e. g (entryOf u e)) ≡ lookWalk v j g (lookRow r u)
-  unfolding lookRow
-  record-walk (rbool b) = refl
-  record-walk (rlong n) = refl
-  record-walk (rtext t) = refl
-  record-walk (rent k t) = refl
-  record-walk (rset l) = refl
-  record-walk (rrec e) = found-walk (entryOf u e)
-
-  part-walk : (k : ℕ) (p : Part) → onSome (stuck j v k) (partGive p) (λ x. rRec lost (giveRow (rowsIn (valueLines a)) x) (λ e. g (entryOf u e))) ≡ lookWalk v j g (lookIn a k p u)
-  unfolding valueIn values
-  part-walk k (Known n) = record-walk (valueIn a n)
-  part-walk k Empty = refl
-  part-walk k Unknown = refl
-
-  value-walk : (r : Row) → onEntries (envIn partial [] a) (rowsIn (valueLines a)) lost (λ k i. stuck j v k) r (λ e. g (entryOf u e)) ≡ lookWalk v j g (lookValue false a r u)
-  value-walk (rbool b) = refl
-  value-walk (rlong n) = refl
-  value-walk (rtext t) = refl
-  value-walk (rent k t) = ap (λ (o : Option Give). onSome (stuck j v k) o (λ x. rRec lost (giveRow (rowsIn (valueLines a)) x) (λ e. g (entryOf u e)))) (attrs-are a k t) ∙ part-walk k (partIn false a k t 1)
-  value-walk (rset l) = refl
-  value-walk (rrec e) = found-walk (entryOf u e)
+known-or x b = given-or (made (rrec stop)) x b
 
 walk-link : (a ts : List ℕ) (t v j : ℕ) → walkIn (S.walkFrom false a v j (t ∷ ts)) ≡ walkFrom (envIn partial [] a) (rowsIn (valueLines a)) ts t v j
-unfolding S.walkFrom walkFrom lookAttr valueIn values
-walk-link a [] t v j = sym (value-walk a v j (λ o. says (isSome o)) t (valueIn a v) ∙ go (lookAttr false a v t))
+unfolding S.walkFrom walkFrom lookAttr valueIn values envIn G.envIn
+walk-link a [] t v j = sym (in-value false a lost (λ k. stuck j v k) (λ o. says (isSome o)) t (valueIn a v) ∙ go (lookAttr false a v t))
   where
-    go : (l : Look) → lookWalk v j (λ o. says (isSome o)) l ≡ walkIn (walkStep v j l true (λ x. S.walkFrom false a x (suc j) []))
+    go : (l : Look) → lookAs lost (λ k. stuck j v k) (λ o. says (isSome o)) l ≡ walkIn (walkStep v j l true (λ x. S.walkFrom false a x (suc j) []))
     go (At x) = refl
     go Missing = refl
     go (Unknownˡ k) = refl
     go Bad = refl
-walk-link a (u ∷ us) t v j =
-    sym (value-walk a v j (λ o. onSome (says false) o (λ w. walkFrom (envIn partial [] a) (rowsIn (valueLines a)) us u w (suc j))) t (valueIn a v) ∙ go (λ x. walk-link a us u x (suc j)) (lookAttr false a v t))
+walk-link a (u ∷ us) t v j = sym (in-value false a lost (λ k. stuck j v k) next t (valueIn a v) ∙ go (λ x. walk-link a us u x (suc j)) (lookAttr false a v t))
   where
+    next : Option ℕ → Walk
+    next o = onSome (says false) o (λ w. walkFrom (envIn partial [] a) (rowsIn (valueLines a)) us u w (suc j))
+
     go : ((x : ℕ) → walkIn (S.walkFrom false a x (suc j) (u ∷ us)) ≡ walkFrom (envIn partial [] a) (rowsIn (valueLines a)) us u x (suc j))
-        → (l : Look) → lookWalk v j (λ o. onSome (says false) o (λ w. walkFrom (envIn partial [] a) (rowsIn (valueLines a)) us u w (suc j))) l ≡ walkIn (walkStep v j l false (λ x. S.walkFrom false a x (suc j) (u ∷ us)))
+        → (l : Look) → lookAs lost (λ k. stuck j v k) next l ≡ walkIn (walkStep v j l false (λ x. S.walkFrom false a x (suc j) (u ∷ us)))
     go ih (At x) = sym (ih x)
     go ih Missing = refl
     go ih (Unknownˡ k) = refl
@@ -166,9 +126,9 @@ some-texts (x ∷ y ∷ []) h = absurd (h refl)
 some-texts (x ∷ y ∷ z ∷ []) h = absurd (h refl)
 some-texts (x ∷ y ∷ z ∷ w ∷ r) h = refl
 
-module _ (a : List ℕ) (n v : ℕ) (r l : List ℕ) (w : Walked) (er : r ≡ getD (rowsOf a 11) n []) (el : l ≡ drop 2 (items r)) where
+module _ (a : List ℕ) (n v : ℕ) (r l : List ℕ) (w : Walked) (er : r ≡ getD (rowsOf a NODE) n []) (el : l ≡ drop 2 (items r)) where
   abbrev Walked₁ : Type 0
-  Walked₁ = walkIn w ≡ walkFrom (envIn partial [] a) (rowsIn (valueLines a)) (drop 3 (items (getD (rowsOf a 11) n []))) (at (getD (rowsOf a 11) n []) 2) v 0
+  Walked₁ = walkIn w ≡ walkFrom (envIn partial [] a) (rowsIn (valueLines a)) (drop 3 (items (getD (rowsOf a NODE) n []))) (at (getD (rowsOf a NODE) n []) 2) v 0
 
   pub walked-none : length l ≡ 0 → w ≡ S.walkFrom false a v 0 (0 ∷ []) → Walked₁
   walked-none h e =
@@ -227,21 +187,21 @@ row-ends : (a : List ℕ) (i : ℕ) → length (rowAt a i) ≤ getD a (i + 1) 0
 unfolding rowAt
 row-ends a i = rw (add-one i) (omega (arith, length-take (getD a (suc i) 0 - getD a i 0) (drop (getD a i 0) a)))
 
-row-short : (a : List ℕ) (n : ℕ) → length (getD (rowsOf a 11) n []) ≤ getD a (base 11 + n + 1) 0
-row-short a n = go (decLt n (getD a 11 0))
+row-short : (a : List ℕ) (n : ℕ) → length (getD (rowsOf a NODE) n []) ≤ getD a (base NODE + n + 1) 0
+row-short a n = go (decLt n (getD a NODE 0))
   where
-    go : Dec (n < getD a 11 0) → length (getD (rowsOf a 11) n []) ≤ getD a (base 11 + n + 1) 0
-    go (yes h) = rw (← row-some a 11 n (getD a 11 0) (base 11) (rowAt a (base 11 + n)) refl h refl refl) (row-ends a (base 11 + n))
-    go (no h) = rw (← row-none a 11 n (getD a 11 0) refl (omega (arith, h))) (omega arith)
+    go : Dec (n < getD a NODE 0) → length (getD (rowsOf a NODE) n []) ≤ getD a (base NODE + n + 1) 0
+    go (yes h) = rw (← row-some a NODE n (getD a NODE 0) (base NODE) (rowAt a (base NODE + n)) refl h refl refl) (row-ends a (base NODE + n))
+    go (no h) = rw (← row-none a NODE n (getD a NODE 0) refl (omega (arith, h))) (omega arith)
 
-module _ (a : List ℕ) (n b end j : ℕ) (eb : b ≡ base 11) (ee : end ≡ getD a (b + n + 1) 0) where
-  row-end : length (getD (rowsOf a 11) n []) ≤ end
+module _ (a : List ℕ) (n b end j : ℕ) (eb : b ≡ base NODE) (ee : end ≡ getD a (b + n + 1) 0) where
+  row-end : length (getD (rowsOf a NODE) n []) ≤ end
   row-end = rw (ee, eb) (row-short a n)
 
-  pub taken-none : end < 2 → Taken (length (getD (rowsOf a 11) n [])) j 0
+  pub taken-none : end < 2 → Taken (length (getD (rowsOf a NODE) n [])) j 0
   taken-none h = record { is = λ q. omega (arith, q, row-end); low = omega arith }
 
-  pub taken-over : 2 ≤ end → end - 2 ≤ j → Taken (length (getD (rowsOf a 11) n [])) j 0
+  pub taken-over : 2 ≤ end → end - 2 ≤ j → Taken (length (getD (rowsOf a NODE) n [])) j 0
   taken-over h i = record { is = λ q. omega (arith, q, row-end, h, i); low = omega arith }
 
 -- ---- what is left over
@@ -254,87 +214,77 @@ pub rest-put : (a b b₁ b₂ : List ℕ) (start p e n y j v k T : ℕ) → Room
 rest-put a b b₁ b₂ start p e n y j v k T room et w u =
     rw (← et, ← append-holds room w .is, log-length b start room) (left-put a b₁ b₂ start p e y (append-room room w) (append-holds room w .grows) n j u)
 
-module _ (a b b′ : List ℕ) (start n j v k e y u : ℕ) (r : List ℕ) (q : Rule) (er : r ≡ getD (rowsOf a 11) n []) (ey : y ≡ getD r 1 0) (eu : u ≡ getD r (3 + j) 0) (eq : ruleIn q ≡ hasRule (schemaAt a) u (tent k)) where
+module _ (a b b′ : List ℕ) (start n j v k e y u : ℕ) (r : List ℕ) (q : Rule) (er : r ≡ getD (rowsOf a NODE) n []) (ey : y ≡ getD r 1 0) (eu : u ≡ getD r (3 + j) 0) (eq : ruleIn q ≡ hasRule (schemaAt a) u (tent k)) where
   next-text : hasRule (schemaAt a) (at r (2 + j)) (tent k) ≡ ruleIn q
   next-text = let z : suc (2 + j) ≡ 3 + j = omega arith in rw (z, ← eu) (sym eq)
 
   pub stuck-left : OneOf (1 ∷ []) (tagOf the-type q) → Leaves start a b′ e (leftOf a (appended (take start b) (litRow v (entityType a k))) (length (take start b)) n j y)
-      → Leaves start a b′ e (stuckOf partial [] a (take start b) n (getD (rowsOf a 11) n []) j v k (hasRule (schemaAt a) (at (getD (rowsOf a 11) n []) (2 + j)) (tent k)))
+      → Leaves start a b′ e (stuckOf partial [] a (take start b) n (getD (rowsOf a NODE) n []) j v k (hasRule (schemaAt a) (at (getD (rowsOf a NODE) n []) (2 + j)) (tent k)))
   unfolding stuckOf
   stuck-left s h = rw (← er, next-text, silent q s, ← ey) h
 
   pub stuck-said : (a′ : List ℕ) (x : Bool) → q ≡ Says x → Leaves start a′ b′ e (madeOf a (take start b) y (boolRow x))
-      → Leaves start a′ b′ e (stuckOf partial [] a (take start b) n (getD (rowsOf a 11) n []) j v k (hasRule (schemaAt a) (at (getD (rowsOf a 11) n []) (2 + j)) (tent k)))
+      → Leaves start a′ b′ e (stuckOf partial [] a (take start b) n (getD (rowsOf a NODE) n []) j v k (hasRule (schemaAt a) (at (getD (rowsOf a NODE) n []) (2 + j)) (tent k)))
   unfolding stuckOf
   stuck-said a′ x s h = rw (← er, next-text, s, ← ey) h
 
 -- ---- from a value
 
-module _ (a b b′ : List ℕ) (start n v e y : ℕ) (r : List ℕ) (w : Walked) (er : r ≡ getD (rowsOf a 11) n []) (ey : y ≡ getD r 1 0)
-    (ew : walkIn w ≡ walkFrom (envIn partial [] a) (rowsIn (valueLines a)) (drop 3 (items (getD (rowsOf a 11) n []))) (at (getD (rowsOf a 11) n []) 2) v 0) where
+module _ (a b b′ : List ℕ) (start n v e y : ℕ) (w : Walked) (ey : y ≡ at (getD (rowsOf a NODE) n []) 0)
+    (ew : walkIn w ≡ walkFrom (envIn partial [] a) (rowsIn (valueLines a)) (drop 3 (items (getD (rowsOf a NODE) n []))) (at (getD (rowsOf a NODE) n []) 2) v 0) where
   abbrev From : List ℕ → Type 0
-  From a₁ = Leaves start a₁ b′ e (walkedOf partial [] a (take start b) n (getD (rowsOf a 11) n [])
-      (walkFrom (envIn partial [] a) (rowsIn (valueLines a)) (drop 3 (items (getD (rowsOf a 11) n []))) (at (getD (rowsOf a 11) n []) 2) v 0))
+  From a₁ = Leaves start a₁ b′ e (walkedOf partial [] a (take start b) n (getD (rowsOf a NODE) n [])
+      (walkFrom (envIn partial [] a) (rowsIn (valueLines a)) (drop 3 (items (getD (rowsOf a NODE) n []))) (at (getD (rowsOf a NODE) n []) 2) v 0))
 
   pub from-holds : (a′ : List ℕ) (x : Bool) → w ≡ Holds x → Leaves start a′ b′ e (madeOf a (take start b) y (boolRow x)) → From a′
   unfolding walkedOf
-  from-holds a′ x q h = rw (← ew, q, ← er, ← ey) h
+  from-holds a′ x q h = rw (← ew, q, ← ey) h
 
-  pub from-left : (a′ : List ℕ) (x k j i : ℕ) → w ≡ Left x k j → Taken (length (getD (rowsOf a 11) n [])) j i
-      → Leaves start a′ b′ e (stuckOf partial [] a (take start b) n (getD (rowsOf a 11) n []) i x k (hasRule (schemaAt a) (at (getD (rowsOf a 11) n []) (2 + i)) (tent k))) → From a′
+  pub from-left : (a′ : List ℕ) (x k j i : ℕ) → w ≡ Left x k j → Taken (length (getD (rowsOf a NODE) n [])) j i
+      → Leaves start a′ b′ e (stuckOf partial [] a (take start b) n (getD (rowsOf a NODE) n []) i x k (hasRule (schemaAt a) (at (getD (rowsOf a NODE) n []) (2 + i)) (tent k))) → From a′
   unfolding walkedOf schemaIn
   from-left a′ x k j i q t h =
-      let z : i ≡ j = t .is (few-steps a (getD (rowsOf a 11) n []) v x k j (sym ew ∙ ap walkIn q)) in
-      rw (← ew, q, has-kind-same [] a (at (getD (rowsOf a 11) n []) (2 + j)) k, ← z) h
+      let z : i ≡ j = t .is (few-steps a (getD (rowsOf a NODE) n []) v x k j (sym ew ∙ ap walkIn q)) in
+      rw (← ew, q, has-kind-same [] a (at (getD (rowsOf a NODE) n []) (2 + j)) k, ← z) h
 
   pub from-fails : Room b start → w ≡ Fails → Appended b start (errRow y) b′ e → From a
   unfolding walkedOf errOf
-  from-fails room q p = rw (← ew, q, ← er, ← ey) (record { words = refl; log = append-holds room p })
+  from-fails room q p = rw (← ew, q, ← ey) (record { words = refl; log = append-holds room p })
 
 -- ---- from an open operand
 
-module _ (a b b′ : List ℕ) (start bt n e y : ℕ) (r : List ℕ) (q : Rule) (room : Room b bt) (le : start ≤ bt) (er : r ≡ getD (rowsOf a 11) n []) (ey : y ≡ getD r 1 0)
-    (eq : ruleIn q ≡ unlessErr (errs (rowsOf a 11) b bt) (oneRule 42 a (getD (rowsOf a 11) n []) (wordAt b bt 3))) where
-  abbrev OpenPath : List ℕ → Type 0
-  OpenPath a′ = Leaves start a′ b′ e (ruledOf a (take bt b) start (at (getD (rowsOf a 11) n []) 0) (errs (rowsOf a 11) b bt) (oneRule 42 a (getD (rowsOf a 11) n []) (wordAt b bt 3))
-      (leftOf a (take bt b) start n 0 (at (getD (rowsOf a 11) n []) 0)))
-
-  abbrev first : Option Bool
-  first = oneRule 42 a (getD (rowsOf a 11) n []) (wordAt b bt 3)
-
-  the-type-of : at (getD (rowsOf a 11) n []) 0 ≡ y
-  the-type-of = rw (← er, ← ey)
-
-  pub open-left : OneOf (1 ∷ []) (tagOf the-type q) → Appended b bt (leftRow n 0 (bt - start) y) b′ e → OpenPath a
-  open-left s z = rw the-type-of (not-said a b a b′ start bt e y (leftOf a (take bt b) start n 0 y) q (errs (rowsOf a 11) b bt) first eq s (left-put a b b′ start bt e y room le n 0 z))
-
-  pub open-said : (a′ : List ℕ) (x : Bool) → q ≡ Says x → Leaves start a′ b′ e (madeOf a (take start b) y (boolRow x)) → OpenPath a′
-  open-said a′ x s z = rw the-type-of (said a b a′ b′ start bt e y (leftOf a (take bt b) start n 0 y) q (errs (rowsOf a 11) b bt) first eq x le s z)
+pub open-settled : (a b a′ b′ : List ℕ) (start bt n e y : ℕ) (q : Rule) (g : Given) → y ≡ at (getD (rowsOf a NODE) n []) 0
+    → ruleIn q ≡ unlessErr (errs (rowsOf a NODE) b bt) (oneRule HAS a (getD (rowsOf a NODE) n []) (wordAt b bt 3)) → outOf g ≡ ruleOr (ruleIn q) stays
+    → Leaves start a′ b′ e (settleOf a (take bt b) start n y (outOf g))
+    → Leaves start a′ b′ e (ruledOf a (take bt b) start (at (getD (rowsOf a NODE) n []) 0) (errs (rowsOf a NODE) b bt) (oneRule HAS a (getD (rowsOf a NODE) n []) (wordAt b bt 3)) (leftOf a (take bt b) start n 0 (at (getD (rowsOf a NODE) n []) 0)))
+unfolding settleOf
+open-settled a b a′ b′ start bt n e y q g ey eq eg z =
+    rw (← ey, ruled-settles a (take bt b) start n y (errs (rowsOf a NODE) b bt) (oneRule HAS a (getD (rowsOf a NODE) n []) (wordAt b bt 3)) stays, ← eq, ← eg) z
 
 -- ---- `path`
 
 module _ (a b b′ : List ℕ) (start bt n e : ℕ) (s : Stage) (room : Room b bt) (le : start ≤ bt) (es : s ≡ stageAt b bt) where
   abbrev OnPath : List ℕ → Type 0
-  OnPath a′ = Leaves start a′ b′ e (pathOf partial [] start n (getD (rowsOf a 11) n []) (left a (take bt b)))
+  OnPath a′ = Leaves start a′ b′ e (pathOf partial [] start n (getD (rowsOf a NODE) n []) (left a (take bt b)))
 
-  as-path : (a′ : List ℕ) → Leaves start a′ b′ e (pathBy partial [] a (take bt b) start n (getD (rowsOf a 11) n []) s) → OnPath a′
+  as-path : (a′ : List ℕ) → Leaves start a′ b′ e (pathBy partial [] a (take bt b) start n (getD (rowsOf a NODE) n []) s) → OnPath a′
   unfolding pathOf
   as-path a′ h = rw (log-length b bt room, ← stage-log b bt bt (le-refl bt), ← es) h
 
   pub path-value : (a′ : List ℕ) (v : ℕ) → s ≡ Value v
-      → Leaves start a′ b′ e (walkedOf partial [] a (take start b) n (getD (rowsOf a 11) n []) (walkFrom (envIn partial [] a) (rowsIn (valueLines a)) (drop 3 (items (getD (rowsOf a 11) n []))) (at (getD (rowsOf a 11) n []) 2) v 0))
+      → Leaves start a′ b′ e (walkedOf partial [] a (take start b) n (getD (rowsOf a NODE) n []) (walkFrom (envIn partial [] a) (rowsIn (valueLines a)) (drop 3 (items (getD (rowsOf a NODE) n []))) (at (getD (rowsOf a NODE) n []) 2) v 0))
       → OnPath a′
   unfolding pathBy
   path-value a′ v q h = as-path a′ (rw (q, log-cut b bt start le) h)
 
-  pub path-error : (y : ℕ) (r : List ℕ) → s ≡ Error → r ≡ getD (rowsOf a 11) n [] → y ≡ getD r 1 0 → Appended b start (errRow y) b′ e → OnPath a
+  pub path-error : (y : ℕ) → s ≡ Error → y ≡ at (getD (rowsOf a NODE) n []) 0 → Appended b start (errRow y) b′ e → OnPath a
   unfolding pathBy
-  path-error y r q er ey p = as-path a (rw (q, ← er, ← ey) (error-put a b b′ start bt e y room le p))
+  path-error y q ey p = as-path a (rw (q, ← ey) (error-put a b b′ start bt e y room le p))
 
   pub path-open : (a′ : List ℕ) → s ≡ Open
-      → Leaves start a′ b′ e (ruledOf a (take bt b) start (at (getD (rowsOf a 11) n []) 0) (errs (rowsOf a 11) b bt) (oneRule 42 a (getD (rowsOf a 11) n []) (wordAt b bt 3)) (leftOf a (take bt b) start n 0 (at (getD (rowsOf a 11) n []) 0)))
+      → Leaves start a′ b′ e (ruledOf a (take bt b) start (at (getD (rowsOf a NODE) n []) 0) (errs (rowsOf a NODE) b bt) (oneRule HAS a (getD (rowsOf a NODE) n []) (wordAt b bt 3)) (leftOf a (take bt b) start n 0 (at (getD (rowsOf a NODE) n []) 0)))
       → OnPath a′
   unfolding pathBy schemaIn tyIn oneRule
   path-open a′ q h =
       as-path a′
-      (rw (q, log-length b bt room, ← errs-log b bt (rowsOf a 11) bt (le-refl bt), ← word-log b bt bt 3 (le-refl bt) (omega arith), has-same [] a (at (getD (rowsOf a 11) n []) 2) (wordAt b bt 3)) h)
+      (rw (q, log-length b bt room, ← errs-log b bt (rowsOf a NODE) bt (le-refl bt), ← word-log b bt bt 3 (le-refl bt) (omega arith), has-same [] a (at (getD (rowsOf a NODE) n []) 2) (wordAt b bt 3)) h)

@@ -10,7 +10,7 @@ use denote.Enum.Declared.{tagOf}
 use Rattle.value.proofs.Shape.{the-type}
 use Rattle.cedar.specs.Residual.{copen, truth}
 use Rattle.cedar.specs.Numbered.{rBool}
-use Rattle.sheet.specs.Forms.{items}
+use Rattle.sheet.specs.Forms.{items, NODE}
 use Rattle.sheet.specs.State.{valueRow}
 use Rattle.value.specs.Lines.{valueLines}
 use Rattle.value.specs.Shapes.{shapeOf, shapeRow}
@@ -76,17 +76,17 @@ made-pushed a a′ b b′ r bt e y v room m p = record {
 }
 
 -- `decided`
-module _ (a b : List ℕ) (start mid bt n y : ℕ) (z x : Bool) (room : Room b bt) (order : (start ≤ mid) × (mid ≤ bt)) (ex : x ≡ errs (rowsOf a 11) b mid) where
-  test-log : x ≡ errs (rowsOf a 11) (take bt b) mid
-  test-log = ex ∙ errs-log b bt (rowsOf a 11) mid (order .1)
+module _ (a b : List ℕ) (start mid bt n y : ℕ) (z x : Bool) (room : Room b bt) (order : (start ≤ mid) × (mid ≤ bt)) (ex : x ≡ errs (rowsOf a NODE) b mid) where
+  test-log : x ≡ errs (rowsOf a NODE) (take bt b) mid
+  test-log = ex ∙ errs-log b bt (rowsOf a NODE) mid (order .1)
 
   pub decided-made : (a′ b′ : List ℕ) (e : ℕ) → x ≡ false → Leaves start a′ b′ e (madeOf a (take start b) y (boolRow z))
-      → Leaves start a′ b′ e (decidedBy z start n y mid a (take bt b) (errs (rowsOf a 11) (take bt b) mid))
+      → Leaves start a′ b′ e (decidedBy z start n y mid a (take bt b) (errs (rowsOf a NODE) (take bt b) mid))
   unfolding decidedBy
   decided-made a′ b′ e f h = rw (← test-log, f, log-cut b bt start (omega (arith, order .0, order .1))) h
 
   pub decided-kept : (a′ b₁ b₂ : List ℕ) (p e : ℕ) → x ≡ true → length b₁ ≡ length b → Leaves mid a′ b₁ p (madeOf a (take mid b) y (boolRow z)) → Appended b₁ p (leftRow n 0 (p - start) y) b₂ e
-      → Leaves start a′ b₂ e (decidedBy z start n y mid a (take bt b) (errs (rowsOf a 11) (take bt b) mid))
+      → Leaves start a′ b₂ e (decidedBy z start n y mid a (take bt b) (errs (rowsOf a NODE) (take bt b) mid))
   unfolding decidedBy madeOf litOf leftOf
   decided-kept a′ b₁ b₂ p e f el h q =
       let low : Room b mid = record { low = omega (arith, order .1, room .low); long = room .long } in

@@ -1,13 +1,14 @@
 -- What the parts of a step give: the operation and the type rule of a node by its tag t, over the words a.
 use mathlib.Core.Path.{_≡_}
 use mathlib.Core.Bool.{Bool, true, false}
-use mathlib.Core.Option.{Option, none}
+use mathlib.Core.Option.{Option, none, some}
 use mathlib.Core.List.{List, [], _∷_}
 use Prim.Native.Nat.{ℕ, _-_, _≤_, _<_}
 use lib.ListN.{getD, drop}
 use Rattle.cedar.specs.Residual.{unot, uneg, uempty, uis, ulike, beq, blt, ble, badd, bsub, bmul, bcontains, ball, bany, rin, rgettag, rhastag}
 use Rattle.cedar.specs.TypeRules.{unRule, binRule, relRule, hasRule}
-use Rattle.cedar.specs.Numbered.{Give, old, NOut, nUn, nBin, nRel, nGet, nHas}
+use Rattle.cedar.specs.Numbered.{Give, old, NOut, fails, stays, truly, nUn, nBin, nRel, nGet, nHas}
+use Rattle.forms.specs.Tags.{EQ, IS, SET-OF}
 use Rattle.sheet.specs.Forms.{partial, items, at}
 use Rattle.sheet.specs.Content.{known, rowsIn, patternOf}
 use Rattle.value.specs.Lines.{valueLines}
@@ -26,13 +27,18 @@ abbrev pub unlessErr : Bool → Option Bool → Option Bool
 unlessErr true q = none
 unlessErr false q = q
 
+-- what it decides, or else what the operation gives
+abbrev pub ruleOr : Option Bool → NOut → NOut
+ruleOr none o = o
+ruleOr (some b) o = truly b
+
 -- the context, by its line
 abbrev pub contextGiven : List ℕ → Option Give
 contextGiven r = known (at r 1) (old (at r 1))
 
 -- the words of a set or record: r is the node's row, rows are those of its children
 unfoldable pub manyRow : ℕ → List ℕ → List ℕ → List ℕ
-manyRow t r rows = getD (setRow rows ∷ []) (t - 47) (recordRow r rows)
+manyRow t r rows = getD (setRow rows ∷ []) (t - SET-OF) (recordRow r rows)
 
 -- ---- one operand: r is the node's row, v the operand's value, y its type; a path stands apart
 
@@ -48,10 +54,16 @@ oneGives sheet a r v =
     ∷ []
 
 unfoldable pub oneGive : List ℕ → ℕ → List ℕ → List ℕ → ℕ → NOut
-oneGive sheet t a r v = getD (oneGives sheet a r v) (t - 39) (nUn (schemaIn partial sheet a) uempty (valueIn partial sheet a v))
+oneGive sheet t a r v = getD (oneGives sheet a r v) (t - IS) (nUn (schemaIn partial sheet a) uempty (valueIn partial sheet a v))
+
+-- by how far the operand is worked
+abbrev pub outOne : (ℕ → NOut) → Stage → NOut
+outOne g (Value v) = g v
+outOne g Error = fails
+outOne g Open = stays
 
 unfoldable pub oneRule : ℕ → List ℕ → List ℕ → ℕ → Option Bool
-oneRule t a r y = getD (unRule (schemaAt a) (uis (at r 2)) (tyAt a y) ∷ none ∷ none ∷ hasRule (schemaAt a) (at r 2) (tyAt a y) ∷ []) (t - 39) none
+oneRule t a r y = getD (unRule (schemaAt a) (uis (at r 2)) (tyAt a y) ∷ none ∷ none ∷ hasRule (schemaAt a) (at r 2) (tyAt a y) ∷ []) (t - IS) none
 
 -- ---- two operands, of values v and w and types y and z
 
@@ -71,12 +83,12 @@ twoGives a v w =
     ∷ []
 
 unfoldable pub twoGive : ℕ → List ℕ → ℕ → ℕ → NOut
-twoGive t a v w = getD (twoGives a v w) (t - 26) (nBin bany v w (valueIn partial [] a v) (valueIn partial [] a w))
+twoGive t a v w = getD (twoGives a v w) (t - EQ) (nBin bany v w (valueIn partial [] a v) (valueIn partial [] a w))
 
 unfoldable pub twoRule : ℕ → List ℕ → ℕ → ℕ → Option Bool
 twoRule t a y z =
     getD (binRule (schemaAt a) beq (tyAt a y) (tyAt a z) ∷ none ∷ none ∷ none ∷ none ∷ none ∷ relRule (schemaAt a) rin (tyAt a y) (tyAt a z) ∷ none ∷ relRule (schemaAt a) rhastag (tyAt a y) (tyAt a z) ∷ [])
-    (t - 26) none
+    (t - EQ) none
 
 -- how far both are worked
 abbrev pub pairOf : Stage → Stage → Pair
@@ -87,6 +99,11 @@ pairOf Error s = Errorᵖ
 pairOf Open (Value w) = Openᵖ
 pairOf Open Error = Errorᵖ
 pairOf Open Open = Openᵖ
+
+abbrev pub outTwo : (ℕ → ℕ → NOut) → Pair → NOut
+outTwo g (Values v w) = g v w
+outTwo g Errorᵖ = fails
+outTwo g Openᵖ = stays
 
 -- ---- a path
 

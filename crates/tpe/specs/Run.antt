@@ -14,6 +14,7 @@ use Rattle.cedar.specs.Residual.{Un, unot, uneg, uempty, uis, ulike, Bin, beq, 
 use Rattle.cedar.specs.TypeRules.{unRule, binRule, relRule, hasRule}
 use Rattle.cedar.specs.Rows.{Entries, stop, entry, Row, rbool, rlong, rtext, rent, rset, rrec}
 use Rattle.cedar.specs.Numbered.{Give, made, old, NEnv, rowAt, rBool, NOut, give, fails, stays, isSome, entryOf, nUn, nBin, nRel, onEntries, nGet, nHas}
+use Rattle.forms.specs.Tags.{ENTITY-TYPE, LONG-VALUE, TEXT-VALUE, SET-VALUE, RECORD-VALUE}
 use Rattle.sheet.specs.Bytes.{half}
 use Rattle.sheet.specs.Forms.{Mode, tag, items, at, firstNode, TYPE, NODE, POLICY}
 use Rattle.sheet.specs.Content.{types, rowsIn, schema, nEnv, varOf, patternOf}
@@ -64,11 +65,11 @@ entryWords (entry t v e) = t ∷ v ∷ entryWords e
 
 abbrev pub wordsOf : Row → List ℕ
 wordsOf (rbool b) = boolRow b
-wordsOf (rlong z) = 11 ∷ longWord z / 4294967296 ∷ longWord z % 4294967296 ∷ []
-wordsOf (rtext t) = 12 ∷ t ∷ []
+wordsOf (rlong z) = LONG-VALUE ∷ longWord z / 4294967296 ∷ longWord z % 4294967296 ∷ []
+wordsOf (rtext t) = TEXT-VALUE ∷ t ∷ []
 wordsOf (rent k t) = entityRow k t
-wordsOf (rset l) = 14 ∷ l
-wordsOf (rrec e) = 15 ∷ entryWords e
+wordsOf (rset l) = SET-VALUE ∷ l
+wordsOf (rrec e) = RECORD-VALUE ∷ entryWords e
 
 unfoldable pub giveOf : List ℕ → List ℕ → ℕ → Give → O
 giveOf a l y (made r) = madeOf a l y (wordsOf r)
@@ -124,15 +125,24 @@ walkFrom N R (u ∷ us) t v j = onEntries N R lost (λ k i. stuck j v k) (rowAt 
 
 -- the number of the type line `entity,k`
 unfoldable pub entityType : List ℕ → ℕ → ℕ
-entityType a k = placeOf (6 ∷ k ∷ []) (rowsOf a TYPE)
+entityType a k = placeOf (ENTITY-TYPE ∷ k ∷ []) (rowsOf a TYPE)
 
 -- ---- children of sets and records
 
--- whether all so far are values (0), one is an error (1), or else one is open (2)
+-- how far they are worked: all are values, one is an error, or else one is open
+abbrev pub allValues : ℕ
+allValues = 0
+
+abbrev pub someError : ℕ
+someError = 1
+
+abbrev pub someOpen : ℕ
+someOpen = 2
+
 unfoldable pub joinOf : ℕ → Stage → ℕ
 joinOf c (Value v) = c
-joinOf c Error = 1
-joinOf c Open = cond (eqb c 1) 1 2
+joinOf c Error = someError
+joinOf c Open = cond (eqb c someError) someError someOpen
 
 pub record Kids : Type 0 where
   pub words : List ℕ
@@ -343,10 +353,10 @@ module _ (m : Mode) (sheet : List ℕ) where
 
   -- the children of a row: those of a set from word 2 on, those of a record each after its text
   unfoldable pub setStep : Step
-  setStep f a l n r = let k = kidsOf f n 1 2 a l 0 (length r - 2) in setOf (length l) n (nodeIn (k .words) n) k
+  setStep f a l n r = let k = kidsOf f n 1 2 a l allValues (length r - 2) in setOf (length l) n (nodeIn (k .words) n) k
 
   unfoldable pub recStep : Step
-  recStep f a l n r = let k = kidsOf f n 2 2 a l 0 ((length r - 2) / 2) in recOf (length l) n (nodeIn (k .words) n) k
+  recStep f a l n r = let k = kidsOf f n 2 2 a l allValues ((length r - 2) / 2) in recOf (length l) n (nodeIn (k .words) n) k
 
   -- in the table's order
   abbrev pub steps : List Step

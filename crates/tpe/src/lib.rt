@@ -16,6 +16,7 @@ ghost use Prim.Native.Nat.{_≤_};
 ghost use lib.ListN.{take};
 ghost use Rattle.words.specs.Log.{Room};
 ghost use Rattle.value.specs.Made.{boolRow};
+ghost use Rattle.sheet.specs.Forms.{NODE};
 ghost use Rattle.table.specs.Layout.{rowsOf};
 ghost use Rattle.residual.specs.Rows.{stageAt};
 ghost use Rattle.residual.specs.Errs.{errs};
@@ -31,11 +32,11 @@ pub enum Class {
     Open,
 }
 
-// The class of value `v`: a value that is not a bool is called open.
-pub fn class_of(a: &[u32], v: u32) -> Class
-    ensures { λ c. ⌜ classIn c ≡ classBy (now (a .entry)) (Stage.Value v) ⌝ }
+// The class of a value: one that is not a bool is called open.
+pub fn class_of(rows: &[u32], value: u32) -> Class
+    ensures { λ c. ⌜ classIn c ≡ classBy (now (rows .entry)) (Stage.Value value) ⌝ }
 {
-    let s = shape_of(row_of(a, v as usize));
+    let s = shape_of(row_of(rows, value as usize));
     let Shape::Bool(x) = s else {
         return Class::Open;
     };
@@ -45,44 +46,44 @@ pub fn class_of(a: &[u32], v: u32) -> Class
     Class::False
 }
 
-// The class of the block that ends at `e`.
-pub fn class_at(a: &[u32], b: &[u32], e: usize) -> Class
-    ensures { λ c. ⌜ classIn c ≡ classBy (now (a .entry)) (stageAt (now (b .entry)) e) ⌝ }
+// The class of the block that ends at `end`.
+pub fn class_at(rows: &[u32], log: &[u32], end: usize) -> Class
+    ensures { λ c. ⌜ classIn c ≡ classBy (now (rows .entry)) (stageAt (now (log .entry)) end) ⌝ }
 {
-    match stage_at(b, e) {
-        Stage::Value(v) => class_of(a, v),
+    match stage_at(log, end) {
+        Stage::Value(v) => class_of(rows, v),
         Stage::Error => Class::Error,
         Stage::Open => Class::Open,
     }
 }
 
-// A bool found or made, as a value of type `y` more on the log.
-pub fn give_bool(a: &mut [u32], b: &mut [u32], bt: usize, x: bool, y: u32) -> usize
-    requires { ⌜ Room (now b) bt ⌝ }
-    ensures { λ e. ⌜ Leaves bt (now (a .exit)) (now (b .exit)) e (madeOf (now (a .entry)) (take bt (now (b .entry))) y (boolRow x)) ⌝ }
+// A bool found or made, as a value of type `ty` more on the log.
+pub fn give_bool(rows: &mut [u32], log: &mut [u32], top: usize, truth: bool, ty: u32) -> usize
+    requires { ⌜ Room (now log) top ⌝ }
+    ensures { λ e. ⌜ Leaves top (now (rows .exit)) (now (log .exit)) e (madeOf (now (rows .entry)) (take top (now (log .entry))) ty (boolRow truth)) ⌝ }
 {
-    let v = make_bool(a, x);
-    push_value(b, bt, v, y)
+    let v = make_bool(rows, truth);
+    push_value(log, top, v, ty)
 }
 
-// Beside an open left side, which ends at `mid`, the right one is the bool `z` that decides: where the left side can err, node `n` stays.
+// Beside an open left side, which ends at `mid`, the right one is the bool that decides: where the left side can err, the node stays.
 pub fn decided(
-    a: &mut [u32],
-    b: &mut [u32],
+    rows: &mut [u32],
+    log: &mut [u32],
     start: usize,
     mid: usize,
-    bt: usize,
-    n: u32,
-    z: bool,
-    y: u32,
+    top: usize,
+    node: u32,
+    truth: bool,
+    ty: u32,
 ) -> usize
-    requires { ⌜ Room (now b) bt ⌝ }
-    requires { ⌜ (start ≤ mid) × (mid ≤ bt) ⌝ }
-    ensures { λ e. ⌜ Leaves start (now (a .exit)) (now (b .exit)) e (decidedBy z start n y mid (now (a .entry)) (take bt (now (b .entry))) (errs (rowsOf (now (a .entry)) 11) (take bt (now (b .entry))) mid)) ⌝ }
+    requires { ⌜ Room (now log) top ⌝ }
+    requires { ⌜ (start ≤ mid) × (mid ≤ top) ⌝ }
+    ensures { λ e. ⌜ Leaves start (now (rows .exit)) (now (log .exit)) e (decidedBy truth start node ty mid (now (rows .entry)) (take top (now (log .entry))) (errs (rowsOf (now (rows .entry)) NODE) (take top (now (log .entry))) mid)) ⌝ }
 {
-    if can_error_assuming_well_formed(a, b, mid) {
-        let p = give_bool(a, b, mid, z, y);
-        return push_left(b, start, p, n, 0, y);
+    if can_error_assuming_well_formed(rows, log, mid) {
+        let p = give_bool(rows, log, mid, truth, ty);
+        return push_left(log, start, p, node, 0, ty);
     }
-    give_bool(a, b, start, z, y)
+    give_bool(rows, log, start, truth, ty)
 }

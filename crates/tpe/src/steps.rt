@@ -1,6 +1,32 @@
-// What a node does once its operands are worked. They are the blocks from `start` to `bt`, and what stands for them begins at `start`.
-// A node goes by its tag `t`, which its caller has read; its row is read here.
+// What a node does once its operands are worked. They are the blocks from `start` to `top`, and what stands for them begins at `start`.
+// A node goes by its tag, which its caller has read; its row is read here.
 use crate::give_bool;
+use forms::ACTION;
+use forms::ALL;
+use forms::CONTAINS;
+use forms::CONTEXT;
+use forms::ENTITY_TYPE;
+use forms::EQ;
+use forms::GET;
+use forms::GETTAG;
+use forms::HAS;
+use forms::HASPATH;
+use forms::HASTAG;
+use forms::IN;
+use forms::IS;
+use forms::LIKE;
+use forms::MARK;
+use forms::MUL;
+use forms::NEG;
+use forms::NODE;
+use forms::NOT;
+use forms::PART_A;
+use forms::PART_P;
+use forms::PART_R;
+use forms::PRINCIPAL;
+use forms::RESOURCE;
+use forms::SET_OF;
+use forms::TYPE;
 use residual::Stage;
 use residual::can_error_assuming_well_formed;
 use residual::push_error;
@@ -33,12 +59,6 @@ use strict::is_of;
 use strict::like_of;
 use strict::neg_of;
 use strict::not_of;
-use table::ACTION;
-use table::CONTEXT;
-use table::NODE;
-use table::PRINCIPAL;
-use table::RESOURCE;
-use table::TYPE;
 use table::base_of;
 use table::count;
 use table::item;
@@ -56,7 +76,9 @@ ghost use mathlib.Core.List.{[]};
 ghost use Prim.Native.Nat.{_+_, _≤_, _<_};
 ghost use lib.ListN.{getD, take, drop, length};
 ghost use Rattle.words.specs.Log.{part, appended, Room};
-ghost use Rattle.sheet.specs.Forms.{partial, items, at};
+ghost use Rattle.forms.specs.Tags.{HAS};
+ghost use Rattle.sheet.specs.Forms.{partial, items, at, CONTEXT, NODE};
+ghost use Rattle.cedar.specs.Numbered.{stays};
 ghost use Rattle.cedar.specs.Types.{tent};
 ghost use Rattle.cedar.specs.TypeRules.{hasRule};
 ghost use Rattle.sheet.specs.Content.{varOf, entityGiven, rowsIn};
@@ -67,120 +89,156 @@ ghost use Rattle.residual.specs.Rows.{litRow, stageAt, wordAt};
 ghost use Rattle.residual.specs.Errs.{errs};
 ghost use Rattle.rules.specs.Rules.{ruleIn, schemaAt};
 ghost use Rattle.strict.specs.Gives.{outOf};
-ghost use Rattle.tpe.specs.Run.{left, leftOf, madeOf, settleOf, ruledOf, worked1, worked2, walkFrom, entityType, varFor, envIn, stuckOf, walkedOf, pathOf};
+ghost use Rattle.tpe.specs.Run.{left, leftOf, madeOf, settleOf, ruledOf, walkFrom, entityType, varFor, envIn, stuckOf, walkedOf, pathOf};
 ghost use Rattle.tpe.specs.Leaves.{Leaves};
 ghost use Rattle.tpe.specs.Steps.{oneAt, twoAt, manyAt};
-ghost use Rattle.tpe.specs.Gives.{contextGiven, manyRow, oneGive, oneRule, twoGive, twoRule, pairOf, unlessErr, walkIn, Taken};
+ghost use Rattle.tpe.specs.Gives.{contextGiven, manyRow, oneGive, oneRule, twoGive, twoRule, pairOf, outOne, outTwo, unlessErr, ruleOr, walkIn, Taken};
 
-// What an unknown part of the request is in its line.
-const UNKNOWN: u32 = 10000;
+// How far the children of a set or record are worked: all are values, one is an error, or else one is open.
+pub const ALL_VALUES: u32 = 0;
 
-// The tags of `has` and of a path.
-const HAS: u32 = 42;
+pub const SOME_ERROR: u32 = 1;
 
-const HASPATH: u32 = 43;
+pub const SOME_OPEN: u32 = 2;
 
-// A long found or made, as a value of type `y` more on the log.
-fn give_long(a: &mut [u32], b: &mut [u32], bt: usize, w: u64, y: u32) -> usize
-    requires { ⌜ Room (now b) bt ⌝ }
-    ensures { λ e. ⌜ Leaves bt (now (a .exit)) (now (b .exit)) e (madeOf (now (a .entry)) (take bt (now (b .entry))) y (longRow w)) ⌝ }
+// The type of a node.
+fn type_of(rows: &[u32], node: u32) -> u32
+    ensures { λ y. ⌜ y ≡ at (getD (rowsOf (now (rows .entry)) NODE) node []) 0 ⌝ }
 {
-    let v = make_long(a, w);
-    push_value(b, bt, v, y)
+    item(row(rows, NODE, node), 1)
 }
 
-// What an operation gives, in the place of the operands; node `n` stays where it gives nothing yet.
-fn settle(a: &mut [u32], b: &mut [u32], start: usize, bt: usize, n: u32, y: u32, g: Given) -> usize
-    requires { ⌜ Room (now b) bt ⌝ }
-    requires { ⌜ start ≤ bt ⌝ }
-    ensures { λ e. ⌜ Leaves start (now (a .exit)) (now (b .exit)) e (settleOf (now (a .entry)) (take bt (now (b .entry))) start n y (outOf g)) ⌝ }
+// A long found or made, as a value of type `ty` more on the log.
+fn give_long(rows: &mut [u32], log: &mut [u32], top: usize, word: u64, ty: u32) -> usize
+    requires { ⌜ Room (now log) top ⌝ }
+    ensures { λ e. ⌜ Leaves top (now (rows .exit)) (now (log .exit)) e (madeOf (now (rows .entry)) (take top (now (log .entry))) ty (longRow word)) ⌝ }
 {
-    match g {
-        Given::Bool(x) => give_bool(a, b, start, x, y),
-        Given::Long(w) => give_long(a, b, start, w, y),
-        Given::Old(v) => push_value(b, start, v, y),
-        Given::Fails => push_error(b, start, y),
-        Given::Stays => push_left(b, start, bt, n, 0, y),
+    let v = make_long(rows, word);
+    push_value(log, top, v, ty)
+}
+
+// What an operation gives, in the place of the operands; the node stays where it gives nothing yet.
+fn settle(
+    rows: &mut [u32],
+    log: &mut [u32],
+    start: usize,
+    top: usize,
+    node: u32,
+    ty: u32,
+    given: Given,
+) -> usize
+    requires { ⌜ Room (now log) top ⌝ }
+    requires { ⌜ start ≤ top ⌝ }
+    ensures { λ e. ⌜ Leaves start (now (rows .exit)) (now (log .exit)) e (settleOf (now (rows .entry)) (take top (now (log .entry))) start node ty (outOf given)) ⌝ }
+{
+    match given {
+        Given::Bool(x) => give_bool(rows, log, start, x, ty),
+        Given::Long(w) => give_long(rows, log, start, w, ty),
+        Given::Old(v) => push_value(log, start, v, ty),
+        Given::Fails => push_error(log, start, ty),
+        Given::Stays => push_left(log, start, top, node, 0, ty),
     }
 }
 
-// The entity of a line of the request, key `k`, at node `n`; the node stays where it is unknown.
-fn known_entity(a: &mut [u32], b: &mut [u32], bt: usize, n: u32, y: u32, k: usize) -> usize
-    requires { ⌜ Room (now b) bt ⌝ }
-    ensures { λ e. ⌜ Leaves bt (now (a .exit)) (now (b .exit)) e (varFor partial [] (now (a .entry)) (take bt (now (b .entry))) n y (entityGiven (getD (rowsOf (now (a .entry)) k) 0 []))) ⌝ }
+// The entity of the request's line of this key, at a node; the node stays where it is unknown.
+fn known_entity(
+    rows: &mut [u32],
+    log: &mut [u32],
+    top: usize,
+    node: u32,
+    ty: u32,
+    key: usize,
+) -> usize
+    requires { ⌜ Room (now log) top ⌝ }
+    ensures { λ e. ⌜ Leaves top (now (rows .exit)) (now (log .exit)) e (varFor partial [] (now (rows .entry)) (take top (now (log .entry))) node ty (entityGiven (getD (rowsOf (now (rows .entry)) key) 0 []))) ⌝ }
 {
-    let r = row(a, k, 0);
-    let k = item(r, 1);
-    let t = item(r, 2);
-    if t == UNKNOWN {
-        return push_left(b, bt, bt, n, 0, y);
+    let line = row(rows, key, 0);
+    let kind = item(line, 1);
+    let text = item(line, 2);
+    if text == MARK {
+        return push_left(log, top, top, node, 0, ty);
     }
-    let v = make_entity(a, k, t);
-    push_value(b, bt, v, y)
+    let v = make_entity(rows, kind, text);
+    push_value(log, top, v, ty)
 }
 
-// The context of the request at node `n`; the node stays where it is unknown.
-fn known_context(a: &[u32], b: &mut [u32], bt: usize, n: u32, y: u32) -> usize
-    requires { ⌜ Room (now b) bt ⌝ }
-    ensures { λ e. ⌜ Leaves bt (now (a .entry)) (now (b .exit)) e (varFor partial [] (now (a .entry)) (take bt (now (b .entry))) n y (contextGiven (getD (rowsOf (now (a .entry)) 10) 0 []))) ⌝ }
+// The context of the request at a node, which stays where the context is unknown.
+fn known_context(rows: &[u32], log: &mut [u32], top: usize, node: u32, ty: u32) -> usize
+    requires { ⌜ Room (now log) top ⌝ }
+    ensures { λ e. ⌜ Leaves top (now (rows .entry)) (now (log .exit)) e (varFor partial [] (now (rows .entry)) (take top (now (log .entry))) node ty (contextGiven (getD (rowsOf (now (rows .entry)) CONTEXT) 0 []))) ⌝ }
 {
-    let v = item(row(a, CONTEXT, 0), 2);
-    if v == UNKNOWN {
-        return push_left(b, bt, bt, n, 0, y);
+    let v = item(row(rows, CONTEXT, 0), 2);
+    if v == MARK {
+        return push_left(log, top, top, node, 0, ty);
     }
-    push_value(b, bt, v, y)
+    push_value(log, top, v, ty)
 }
 
-// Part `x` of the request at node `n` of type `y`: principal, action, resource, context.
-pub fn var(a: &mut [u32], b: &mut [u32], bt: usize, n: u32, y: u32, x: u32) -> usize
-    requires { ⌜ Room (now b) bt ⌝ }
-    ensures { λ e. ⌜ Leaves bt (now (a .exit)) (now (b .exit)) e (varFor partial [] (now (a .entry)) (take bt (now (b .entry))) n y (envIn partial [] (now (a .entry)) .request (varOf x))) ⌝ }
+// The part of the request that a letter names, at a node of type `ty`.
+pub fn var(rows: &mut [u32], log: &mut [u32], top: usize, node: u32, ty: u32, letter: u32) -> usize
+    requires { ⌜ Room (now log) top ⌝ }
+    ensures { λ e. ⌜ Leaves top (now (rows .exit)) (now (log .exit)) e (varFor partial [] (now (rows .entry)) (take top (now (log .entry))) node ty (envIn partial [] (now (rows .entry)) .request (varOf letter))) ⌝ }
 {
-    match x {
-        0 => known_entity(a, b, bt, n, y, PRINCIPAL),
-        1 => known_entity(a, b, bt, n, y, ACTION),
-        2 => known_entity(a, b, bt, n, y, RESOURCE),
-        _ => known_context(a, b, bt, n, y),
+    match letter {
+        PART_P => known_entity(rows, log, top, node, ty, PRINCIPAL),
+        PART_A => known_entity(rows, log, top, node, ty, ACTION),
+        PART_R => known_entity(rows, log, top, node, ty, RESOURCE),
+        _ => known_context(rows, log, top, node, ty),
     }
 }
 
-// The set or the record, by tag `t`, of the values of node `n`.
-fn make_many(a: &mut [u32], b: &mut [u32], start: usize, bt: usize, n: u32, t: u32) -> u32
-    requires { ⌜ Room (now b) bt ⌝ }
-    requires { ⌜ start ≤ bt ⌝ }
-    ensures { λ v. ⌜ MadeBeside (now (a .entry)) (now (a .exit)) v bt (now (b .entry)) (now (b .exit)) (manyRow t (getD (rowsOf (now (a .entry)) 11) n []) (part (now (b .entry)) start bt)) ⌝ }
+// The set or the record, by its tag, of the values of a node.
+fn make_many(
+    rows: &mut [u32],
+    log: &mut [u32],
+    start: usize,
+    top: usize,
+    node: u32,
+    tag: u32,
+) -> u32
+    requires { ⌜ Room (now log) top ⌝ }
+    requires { ⌜ start ≤ top ⌝ }
+    ensures { λ v. ⌜ MadeBeside (now (rows .entry)) (now (rows .exit)) v top (now (log .entry)) (now (log .exit)) (manyRow tag (getD (rowsOf (now (rows .entry)) NODE) node []) (part (now (log .entry)) start top)) ⌝ }
 {
-    if t <= 47 {
-        return make_set(a, b, start, bt);
+    if tag <= SET_OF {
+        return make_set(rows, log, start, top);
     }
-    make_record(a, b, start, bt, n)
+    make_record(rows, log, start, top, node)
 }
 
-// The set or record of node `n`, by tag `t`. Its children are all values (`c` is 0), or one is an error (1), or else one is open.
-pub fn many(a: &mut [u32], b: &mut [u32], start: usize, bt: usize, n: u32, t: u32, c: u32) -> usize
-    requires { ⌜ Room (now b) bt ⌝ }
-    requires { ⌜ start ≤ bt ⌝ }
-    ensures { λ e. ⌜ Leaves start (now (a .exit)) (now (b .exit)) e (manyAt partial [] t start n (getD (rowsOf (now (a .entry)) 11) n []) (record { words = now (a .entry); log = take bt (now (b .entry)); join = c })) ⌝ }
+// The set or record of a node, by its tag and by how far its children are worked.
+pub fn many(
+    rows: &mut [u32],
+    log: &mut [u32],
+    start: usize,
+    top: usize,
+    node: u32,
+    tag: u32,
+    joined: u32,
+) -> usize
+    requires { ⌜ Room (now log) top ⌝ }
+    requires { ⌜ start ≤ top ⌝ }
+    ensures { λ e. ⌜ Leaves start (now (rows .exit)) (now (log .exit)) e (manyAt partial [] tag start node (getD (rowsOf (now (rows .entry)) NODE) node []) (record { words = now (rows .entry); log = take top (now (log .entry)); join = joined })) ⌝ }
 {
-    let y = item(row(a, NODE, n), 1);
-    match c {
-        0 => {
-            let v = make_many(a, b, start, bt, n, t);
-            push_value(b, start, v, y)
+    let ty = type_of(rows, node);
+    match joined {
+        ALL_VALUES => {
+            let v = make_many(rows, log, start, top, node, tag);
+            push_value(log, start, v, ty)
         }
-        1 => push_error(b, start, y),
-        _ => push_left(b, start, bt, n, 0, y),
+        SOME_ERROR => push_error(log, start, ty),
+        _ => push_left(log, start, top, node, 0, ty),
     }
 }
 
-// What a rule says, where the operand that ends at `bt` cannot err.
-fn unless_err(a: &[u32], b: &[u32], bt: usize, q: Rule) -> Rule
-    ensures { λ r. ⌜ ruleIn r ≡ unlessErr (errs (rowsOf (now (a .entry)) 11) (now (b .entry)) bt) (ruleIn q) ⌝ }
+// What a rule says, where the operand that ends at `end` cannot err.
+fn unless_err(rows: &[u32], log: &[u32], end: usize, rule: Rule) -> Rule
+    ensures { λ r. ⌜ ruleIn r ≡ unlessErr (errs (rowsOf (now (rows .entry)) NODE) (now (log .entry)) end) (ruleIn rule) ⌝ }
 {
-    let Rule::Says(x) = q else {
+    let Rule::Says(x) = rule else {
         return Rule::Silent;
     };
-    if can_error_assuming_well_formed(a, b, bt) {
+    if can_error_assuming_well_formed(rows, log, end) {
         return Rule::Silent;
     }
     Rule::Says(x)
@@ -189,271 +247,279 @@ fn unless_err(a: &[u32], b: &[u32], bt: usize, q: Rule) -> Rule
 // ---- one operand
 
 // The texts of a node's row, after its type and its operand.
-fn texts(r: &[u32]) -> &[u32]
-    ensures { λ l. ⌜ now l ≡ drop 2 (items (now (r .entry))) ⌝ }
+fn texts(line: &[u32]) -> &[u32]
+    ensures { λ l. ⌜ now l ≡ drop 2 (items (now (line .entry))) ⌝ }
 {
-    if r.len() < 3 {
-        return &r[0..0];
+    if line.len() < 3 {
+        return &line[0..0];
     }
-    &r[3..]
+    &line[3..]
 }
 
-// What the operation of node `n` gives on value `v`.
-fn give_one(sheet: &[u8], a: &[u32], n: u32, t: u32, v: u32) -> Given
-    ensures { λ g. ⌜ outOf g ≡ oneGive (now (sheet .entry)) t (now (a .entry)) (getD (rowsOf (now (a .entry)) 11) n []) v ⌝ }
+// What the operation of a node gives on a value.
+fn give_one(sheet: &[u8], rows: &[u32], node: u32, tag: u32, value: u32) -> Given
+    ensures { λ g. ⌜ outOf g ≡ oneGive (now (sheet .entry)) tag (now (rows .entry)) (getD (rowsOf (now (rows .entry)) NODE) node []) value ⌝ }
 {
-    let r = row(a, NODE, n);
+    let r = row(rows, NODE, node);
     let x = item(r, 3);
-    if t <= 39 {
-        return is_of(a, v, x);
+    if tag <= IS {
+        return is_of(rows, value, x);
     }
-    match t {
-        40 => like_of(sheet, a, v, texts(r)),
-        41 => get_of(a, false, v, x),
-        42 => has_of(a, false, v, x),
-        44 => not_of(a, v),
-        45 => neg_of(a, v),
-        _ => empty_of(a, v),
+    match tag {
+        LIKE => like_of(sheet, rows, value, texts(r)),
+        GET => get_of(rows, false, value, x),
+        HAS => has_of(rows, false, value, x),
+        NOT => not_of(rows, value),
+        NEG => neg_of(rows, value),
+        _ => empty_of(rows, value),
     }
 }
 
-// What the type rule of node `n` says of an operand of type `y`.
-fn rule_one(a: &[u32], n: u32, t: u32, y: u32) -> Rule
-    ensures { λ q. ⌜ ruleIn q ≡ oneRule t (now (a .entry)) (getD (rowsOf (now (a .entry)) 11) n []) y ⌝ }
+// What the type rule of a node says of an operand of type `ty`.
+fn rule_one(rows: &[u32], node: u32, tag: u32, ty: u32) -> Rule
+    ensures { λ q. ⌜ ruleIn q ≡ oneRule tag (now (rows .entry)) (getD (rowsOf (now (rows .entry)) NODE) node []) ty ⌝ }
 {
-    let x = item(row(a, NODE, n), 3);
-    if t <= 39 {
-        return is_rule(a, x, y);
+    let x = item(row(rows, NODE, node), 3);
+    if tag <= IS {
+        return is_rule(rows, x, ty);
     }
-    if t == HAS {
-        return has_rule(a, x, y);
+    if tag == HAS {
+        return has_rule(rows, x, ty);
     }
     Rule::Silent
 }
 
-// The same for the operand that ends at `bt`, where it cannot err.
-fn ruled_one(a: &[u32], b: &[u32], bt: usize, n: u32, t: u32) -> Rule
-    ensures { λ q. ⌜ ruleIn q ≡ unlessErr (errs (rowsOf (now (a .entry)) 11) (now (b .entry)) bt) (oneRule t (now (a .entry)) (getD (rowsOf (now (a .entry)) 11) n []) (wordAt (now (b .entry)) bt 3)) ⌝ }
+// The same for the operand that ends at `top`, where it cannot err.
+fn ruled_one(rows: &[u32], log: &[u32], top: usize, node: u32, tag: u32) -> Rule
+    ensures { λ q. ⌜ ruleIn q ≡ unlessErr (errs (rowsOf (now (rows .entry)) NODE) (now (log .entry)) top) (oneRule tag (now (rows .entry)) (getD (rowsOf (now (rows .entry)) NODE) node []) (wordAt (now (log .entry)) top 3)) ⌝ }
 {
-    let q = rule_one(a, n, t, word_at(b, bt, 3));
-    unless_err(a, b, bt, q)
+    let q = rule_one(rows, node, tag, word_at(log, top, 3));
+    unless_err(rows, log, top, q)
 }
 
-// Node `n` by its operand alone.
-fn worked_one(
-    sheet: &[u8],
-    a: &mut [u32],
-    b: &mut [u32],
-    start: usize,
-    bt: usize,
-    n: u32,
-    t: u32,
-) -> usize
-    requires { ⌜ Room (now b) bt ⌝ }
-    requires { ⌜ start ≤ bt ⌝ }
-    ensures { λ e. ⌜ Leaves start (now (a .exit)) (now (b .exit)) e (worked1 (oneGive (now (sheet .entry)) t (now (a .entry)) (getD (rowsOf (now (a .entry)) 11) n [])) (now (a .entry)) (take bt (now (b .entry))) start n (at (getD (rowsOf (now (a .entry)) 11) n []) 0) (stageAt (now (b .entry)) bt)) ⌝ }
+// What a node gives by its operand alone.
+fn given_one(sheet: &[u8], rows: &[u32], log: &[u32], top: usize, node: u32, tag: u32) -> Given
+    ensures { λ g. ⌜ outOf g ≡ outOne (oneGive (now (sheet .entry)) tag (now (rows .entry)) (getD (rowsOf (now (rows .entry)) NODE) node [])) (stageAt (now (log .entry)) top) ⌝ }
 {
-    let y = item(row(a, NODE, n), 1);
-    match stage_at(b, bt) {
-        Stage::Value(v) => {
-            let g = give_one(sheet, a, n, t, v);
-            settle(a, b, start, bt, n, y, g)
-        }
-        Stage::Error => push_error(b, start, y),
-        Stage::Open => push_left(b, start, bt, n, 0, y),
+    match stage_at(log, top) {
+        Stage::Value(v) => give_one(sheet, rows, node, tag, v),
+        Stage::Error => Given::Fails,
+        Stage::Open => Given::Stays,
     }
+}
+
+// What its type rule says, or else what it gives.
+fn asked_one(sheet: &[u8], rows: &[u32], log: &[u32], top: usize, node: u32, tag: u32) -> Given
+    ensures { λ g. ⌜ outOf g ≡ ruleOr (unlessErr (errs (rowsOf (now (rows .entry)) NODE) (now (log .entry)) top) (oneRule tag (now (rows .entry)) (getD (rowsOf (now (rows .entry)) NODE) node []) (wordAt (now (log .entry)) top 3))) (outOne (oneGive (now (sheet .entry)) tag (now (rows .entry)) (getD (rowsOf (now (rows .entry)) NODE) node [])) (stageAt (now (log .entry)) top)) ⌝ }
+{
+    let q = ruled_one(rows, log, top, node, tag);
+    let Rule::Says(x) = q else {
+        return given_one(sheet, rows, log, top, node, tag);
+    };
+    Given::Bool(x)
 }
 
 // ---- a path
 
 // The number of the type line `entity,k`, or of all types where there is none.
-fn entity_type(a: &[u32], k: u32) -> u32
-    ensures { λ y. ⌜ y ≡ entityType (now (a .entry)) k ⌝ }
+fn entity_type(rows: &[u32], kind: u32) -> u32
+    ensures { λ y. ⌜ y ≡ entityType (now (rows .entry)) kind ⌝ }
 {
-    let n = count(a, TYPE);
+    let n = count(rows, TYPE);
     let mut i: u32 = 0;
     loop {
         if i >= n {
             break n;
         }
-        if same(row(a, TYPE, i), &[6, k]) {
+        if same(row(rows, TYPE, i), &[ENTITY_TYPE, kind]) {
             break i;
         }
         i += 1;
     }
 }
 
-// The path of node `n` from value `v` on; an unlisted entity is unknown.
-fn walked(a: &[u32], n: u32, v: u32) -> Walked
-    ensures { λ w. ⌜ walkIn w ≡ walkFrom (envIn partial [] (now (a .entry))) (rowsIn (valueLines (now (a .entry)))) (drop 3 (items (getD (rowsOf (now (a .entry)) 11) n []))) (at (getD (rowsOf (now (a .entry)) 11) n []) 2) v 0 ⌝ }
+// The path of a node from a value on; an unlisted entity is unknown.
+fn walked(rows: &[u32], node: u32, value: u32) -> Walked
+    ensures { λ w. ⌜ walkIn w ≡ walkFrom (envIn partial [] (now (rows .entry))) (rowsIn (valueLines (now (rows .entry)))) (drop 3 (items (getD (rowsOf (now (rows .entry)) NODE) node []))) (at (getD (rowsOf (now (rows .entry)) NODE) node []) 2) value 0 ⌝ }
 {
-    let l = texts(row(a, NODE, n));
+    let l = texts(row(rows, NODE, node));
     if l.len() == 0 {
-        return walk(a, false, v, &[0]);
+        return walk(rows, false, value, &[0]);
     }
-    walk(a, false, v, l)
+    walk(rows, false, value, l)
 }
 
 // The steps taken, as a word: each has a word of the row, whose end is said by one.
-fn taken(a: &[u32], n: u32, j: usize) -> u32
-    ensures { λ k. ⌜ Taken (length (getD (rowsOf (now (a .entry)) 11) n [])) j k ⌝ }
+fn taken(rows: &[u32], node: u32, steps: usize) -> u32
+    ensures { λ k. ⌜ Taken (length (getD (rowsOf (now (rows .entry)) NODE) node [])) steps k ⌝ }
 {
-    let end = read(a, base_of(NODE) + n as usize + 1);
+    let end = read(rows, base_of(NODE) + node as usize + 1);
     if end < 2 {
         return 0;
     }
-    if j >= (end - 2) as usize {
+    if steps >= (end - 2) as usize {
         return 0;
     }
-    j as u32
+    steps as u32
 }
 
-// Node `n` after `j` steps, over value `v`, an entity of kind `k`.
+// A node after some steps, over `value`, an entity of this kind.
 fn push_rest(
-    a: &[u32],
-    b: &mut [u32],
+    rows: &[u32],
+    log: &mut [u32],
     start: usize,
-    n: u32,
-    y: u32,
-    j: u32,
-    v: u32,
-    k: u32,
+    node: u32,
+    ty: u32,
+    steps: u32,
+    value: u32,
+    kind: u32,
 ) -> usize
-    requires { ⌜ Room (now b) start ⌝ }
-    requires { ⌜ j < 4294967294 ⌝ }
-    ensures { λ e. ⌜ Leaves start (now (a .entry)) (now (b .exit)) e (leftOf (now (a .entry)) (appended (take start (now (b .entry))) (litRow v (entityType (now (a .entry)) k))) (length (take start (now (b .entry)))) n j y) ⌝ }
+    requires { ⌜ Room (now log) start ⌝ }
+    requires { ⌜ steps < 4294967294 ⌝ }
+    ensures { λ e. ⌜ Leaves start (now (rows .entry)) (now (log .exit)) e (leftOf (now (rows .entry)) (appended (take start (now (log .entry))) (litRow value (entityType (now (rows .entry)) kind))) (length (take start (now (log .entry)))) node steps ty) ⌝ }
 {
-    let p = push_value(b, start, v, entity_type(a, k));
-    let r = [2 + j, n, (p - start) as u32 + 4, y];
-    append(b, p, &r)
+    let p = push_value(log, start, value, entity_type(rows, kind));
+    let r = [2 + steps, node, (p - start) as u32 + 4, ty];
+    append(log, p, &r)
 }
 
-// A path stuck at value `v`, an entity of kind `k`, after `j` steps. The type rule decides by the next one.
-fn stuck(a: &mut [u32], b: &mut [u32], start: usize, n: u32, j: u32, v: u32, k: u32) -> usize
-    requires { ⌜ Room (now b) start ⌝ }
-    requires { ⌜ j < 4294967294 ⌝ }
-    ensures { λ e. ⌜ Leaves start (now (a .exit)) (now (b .exit)) e (stuckOf partial [] (now (a .entry)) (take start (now (b .entry))) n (getD (rowsOf (now (a .entry)) 11) n []) j v k (hasRule (schemaAt (now (a .entry))) (at (getD (rowsOf (now (a .entry)) 11) n []) (2 + j)) (tent k))) ⌝ }
+// A path stuck after some steps at `value`, an entity of this kind. The type rule decides by the next step.
+fn stuck(
+    rows: &mut [u32],
+    log: &mut [u32],
+    start: usize,
+    node: u32,
+    steps: u32,
+    value: u32,
+    kind: u32,
+) -> usize
+    requires { ⌜ Room (now log) start ⌝ }
+    requires { ⌜ steps < 4294967294 ⌝ }
+    ensures { λ e. ⌜ Leaves start (now (rows .exit)) (now (log .exit)) e (stuckOf partial [] (now (rows .entry)) (take start (now (log .entry))) node (getD (rowsOf (now (rows .entry)) NODE) node []) steps value kind (hasRule (schemaAt (now (rows .entry))) (at (getD (rowsOf (now (rows .entry)) NODE) node []) (2 + steps)) (tent kind))) ⌝ }
 {
-    let r = row(a, NODE, n);
-    let y = item(r, 1);
-    let q = has_kind_rule(a, item(r, 3 + j as usize), k);
+    let r = row(rows, NODE, node);
+    let ty = item(r, 1);
+    let q = has_kind_rule(rows, item(r, 3 + steps as usize), kind);
     let Rule::Says(x) = q else {
-        return push_rest(a, b, start, n, y, j, v, k);
+        return push_rest(rows, log, start, node, ty, steps, value, kind);
     };
-    give_bool(a, b, start, x, y)
+    give_bool(rows, log, start, x, ty)
 }
 
-// A path from value `v` on.
-fn path_from(a: &mut [u32], b: &mut [u32], start: usize, n: u32, v: u32) -> usize
-    requires { ⌜ Room (now b) start ⌝ }
-    ensures { λ e. ⌜ Leaves start (now (a .exit)) (now (b .exit)) e (walkedOf partial [] (now (a .entry)) (take start (now (b .entry))) n (getD (rowsOf (now (a .entry)) 11) n []) (walkFrom (envIn partial [] (now (a .entry))) (rowsIn (valueLines (now (a .entry)))) (drop 3 (items (getD (rowsOf (now (a .entry)) 11) n []))) (at (getD (rowsOf (now (a .entry)) 11) n []) 2) v 0)) ⌝ }
+// A path from a value on.
+fn path_from(rows: &mut [u32], log: &mut [u32], start: usize, node: u32, value: u32) -> usize
+    requires { ⌜ Room (now log) start ⌝ }
+    ensures { λ e. ⌜ Leaves start (now (rows .exit)) (now (log .exit)) e (walkedOf partial [] (now (rows .entry)) (take start (now (log .entry))) node (getD (rowsOf (now (rows .entry)) NODE) node []) (walkFrom (envIn partial [] (now (rows .entry))) (rowsIn (valueLines (now (rows .entry)))) (drop 3 (items (getD (rowsOf (now (rows .entry)) NODE) node []))) (at (getD (rowsOf (now (rows .entry)) NODE) node []) 2) value 0)) ⌝ }
 {
-    let y = item(row(a, NODE, n), 1);
-    match walked(a, n, v) {
-        Walked::Holds(x) => give_bool(a, b, start, x, y),
-        Walked::Fails => push_error(b, start, y),
+    let ty = type_of(rows, node);
+    match walked(rows, node, value) {
+        Walked::Holds(x) => give_bool(rows, log, start, x, ty),
+        Walked::Fails => push_error(log, start, ty),
         Walked::Left(w, k, j) => {
-            let i = taken(a, n, j);
-            stuck(a, b, start, n, i, w, k)
+            let i = taken(rows, node, j);
+            stuck(rows, log, start, node, i, w, k)
         }
     }
 }
 
-// A path from an open operand. The type rule of its first step decides where the operand cannot err.
-fn path_open(a: &mut [u32], b: &mut [u32], start: usize, bt: usize, n: u32) -> usize
-    requires { ⌜ Room (now b) bt ⌝ }
-    requires { ⌜ start ≤ bt ⌝ }
-    ensures { λ e. ⌜ Leaves start (now (a .exit)) (now (b .exit)) e (ruledOf (now (a .entry)) (take bt (now (b .entry))) start (at (getD (rowsOf (now (a .entry)) 11) n []) 0) (errs (rowsOf (now (a .entry)) 11) (now (b .entry)) bt) (oneRule 42 (now (a .entry)) (getD (rowsOf (now (a .entry)) 11) n []) (wordAt (now (b .entry)) bt 3)) (leftOf (now (a .entry)) (take bt (now (b .entry))) start n 0 (at (getD (rowsOf (now (a .entry)) 11) n []) 0))) ⌝ }
+// What a rule says; a node stays where it says nothing.
+fn said(rule: Rule) -> Given
+    ensures { λ g. ⌜ outOf g ≡ ruleOr (ruleIn rule) stays ⌝ }
 {
-    let y = item(row(a, NODE, n), 1);
-    let q = ruled_one(a, b, bt, n, HAS);
-    let Rule::Says(x) = q else {
-        return push_left(b, start, bt, n, 0, y);
+    let Rule::Says(x) = rule else {
+        return Given::Stays;
     };
-    give_bool(a, b, start, x, y)
+    Given::Bool(x)
 }
 
-// Whether node `n` has its path from its operand on.
-fn path(a: &mut [u32], b: &mut [u32], start: usize, bt: usize, n: u32) -> usize
-    requires { ⌜ Room (now b) bt ⌝ }
-    requires { ⌜ start ≤ bt ⌝ }
-    ensures { λ e. ⌜ Leaves start (now (a .exit)) (now (b .exit)) e (pathOf partial [] start n (getD (rowsOf (now (a .entry)) 11) n []) (left (now (a .entry)) (take bt (now (b .entry))))) ⌝ }
+// A path from an open operand. The type rule of its first step decides where the operand cannot err.
+fn path_open(rows: &mut [u32], log: &mut [u32], start: usize, top: usize, node: u32) -> usize
+    requires { ⌜ Room (now log) top ⌝ }
+    requires { ⌜ start ≤ top ⌝ }
+    ensures { λ e. ⌜ Leaves start (now (rows .exit)) (now (log .exit)) e (ruledOf (now (rows .entry)) (take top (now (log .entry))) start (at (getD (rowsOf (now (rows .entry)) NODE) node []) 0) (errs (rowsOf (now (rows .entry)) NODE) (now (log .entry)) top) (oneRule HAS (now (rows .entry)) (getD (rowsOf (now (rows .entry)) NODE) node []) (wordAt (now (log .entry)) top 3)) (leftOf (now (rows .entry)) (take top (now (log .entry))) start node 0 (at (getD (rowsOf (now (rows .entry)) NODE) node []) 0))) ⌝ }
 {
-    let y = item(row(a, NODE, n), 1);
-    match stage_at(b, bt) {
-        Stage::Value(v) => path_from(a, b, start, n, v),
-        Stage::Error => push_error(b, start, y),
-        Stage::Open => path_open(a, b, start, bt, n),
+    let given = said(ruled_one(rows, log, top, node, HAS));
+    let ty = type_of(rows, node);
+    settle(rows, log, start, top, node, ty, given)
+}
+
+// Whether a node has its path from its operand on.
+fn path(rows: &mut [u32], log: &mut [u32], start: usize, top: usize, node: u32) -> usize
+    requires { ⌜ Room (now log) top ⌝ }
+    requires { ⌜ start ≤ top ⌝ }
+    ensures { λ e. ⌜ Leaves start (now (rows .exit)) (now (log .exit)) e (pathOf partial [] start node (getD (rowsOf (now (rows .entry)) NODE) node []) (left (now (rows .entry)) (take top (now (log .entry))))) ⌝ }
+{
+    match stage_at(log, top) {
+        Stage::Value(v) => path_from(rows, log, start, node, v),
+        Stage::Error => push_error(log, start, type_of(rows, node)),
+        Stage::Open => path_open(rows, log, start, top, node),
     }
 }
 
 // An operation on one operand. Its type rule decides where the operand cannot err.
 pub fn one(
     sheet: &[u8],
-    a: &mut [u32],
-    b: &mut [u32],
+    rows: &mut [u32],
+    log: &mut [u32],
     start: usize,
-    bt: usize,
-    n: u32,
-    t: u32,
+    top: usize,
+    node: u32,
+    tag: u32,
 ) -> usize
-    requires { ⌜ Room (now b) bt ⌝ }
-    requires { ⌜ start ≤ bt ⌝ }
-    ensures { λ e. ⌜ Leaves start (now (a .exit)) (now (b .exit)) e (oneAt partial (now (sheet .entry)) t start n (getD (rowsOf (now (a .entry)) 11) n []) (left (now (a .entry)) (take bt (now (b .entry))))) ⌝ }
+    requires { ⌜ Room (now log) top ⌝ }
+    requires { ⌜ start ≤ top ⌝ }
+    ensures { λ e. ⌜ Leaves start (now (rows .exit)) (now (log .exit)) e (oneAt partial (now (sheet .entry)) tag start node (getD (rowsOf (now (rows .entry)) NODE) node []) (left (now (rows .entry)) (take top (now (log .entry))))) ⌝ }
 {
-    if t == HASPATH {
-        return path(a, b, start, bt, n);
+    if tag == HASPATH {
+        return path(rows, log, start, top, node);
     }
-    let q = ruled_one(a, b, bt, n, t);
-    let Rule::Says(x) = q else {
-        return worked_one(sheet, a, b, start, bt, n, t);
-    };
-    let y = item(row(a, NODE, n), 1);
-    give_bool(a, b, start, x, y)
+    let given = asked_one(sheet, rows, log, top, node, tag);
+    let ty = type_of(rows, node);
+    settle(rows, log, start, top, node, ty, given)
 }
 
 // ---- two operands
 
-// What the operation gives on values `v` and `w`.
-fn give_two(a: &[u32], t: u32, v: u32, w: u32) -> Given
-    ensures { λ g. ⌜ outOf g ≡ twoGive t (now (a .entry)) v w ⌝ }
+// What the operation gives on values `left` and `right`.
+fn give_two(rows: &[u32], tag: u32, left: u32, right: u32) -> Given
+    ensures { λ g. ⌜ outOf g ≡ twoGive tag (now (rows .entry)) left right ⌝ }
 {
-    if t <= 26 {
-        return eq_of(v, w);
+    if tag <= EQ {
+        return eq_of(left, right);
     }
-    if t <= 31 {
-        return arith_of(a, t, v, w);
+    if tag <= MUL {
+        return arith_of(rows, tag, left, right);
     }
-    match t {
-        32 => in_of(a, false, v, w),
-        33 => gettag_of(a, false, v, w),
-        34 => hastag_of(a, false, v, w),
-        35 => contains_of(a, v, w),
-        36 => all_of(a, v, w),
-        _ => any_of(a, v, w),
+    match tag {
+        IN => in_of(rows, false, left, right),
+        GETTAG => gettag_of(rows, false, left, right),
+        HASTAG => hastag_of(rows, false, left, right),
+        CONTAINS => contains_of(rows, left, right),
+        ALL => all_of(rows, left, right),
+        _ => any_of(rows, left, right),
     }
 }
 
-// What the type rule says of operands of types `y` and `z`.
-fn rule_two(a: &[u32], t: u32, y: u32, z: u32) -> Rule
-    ensures { λ q. ⌜ ruleIn q ≡ twoRule t (now (a .entry)) y z ⌝ }
+// What the type rule says of operands of types `left` and `right`.
+fn rule_two(rows: &[u32], tag: u32, left: u32, right: u32) -> Rule
+    ensures { λ q. ⌜ ruleIn q ≡ twoRule tag (now (rows .entry)) left right ⌝ }
 {
-    if t <= 26 {
-        return eq_rule(a, y, z);
+    if tag <= EQ {
+        return eq_rule(rows, left, right);
     }
-    match t {
-        32 => in_rule(a, y, z),
-        34 => hastag_rule(a, y, z),
+    match tag {
+        IN => in_rule(rows, left, right),
+        HASTAG => hastag_rule(rows, left, right),
         _ => Rule::Silent,
     }
 }
 
-// The same for the operands that end at `mid` and `bt`, where neither can err.
-fn ruled_two(a: &[u32], b: &[u32], mid: usize, bt: usize, t: u32) -> Rule
-    ensures { λ q. ⌜ ruleIn q ≡ unlessErr (errs (rowsOf (now (a .entry)) 11) (now (b .entry)) mid || errs (rowsOf (now (a .entry)) 11) (now (b .entry)) bt) (twoRule t (now (a .entry)) (wordAt (now (b .entry)) mid 3) (wordAt (now (b .entry)) bt 3)) ⌝ }
+// The same for the operands that end at `mid` and `top`, where neither can err.
+fn ruled_two(rows: &[u32], log: &[u32], mid: usize, top: usize, tag: u32) -> Rule
+    ensures { λ q. ⌜ ruleIn q ≡ unlessErr (errs (rowsOf (now (rows .entry)) NODE) (now (log .entry)) mid || errs (rowsOf (now (rows .entry)) NODE) (now (log .entry)) top) (twoRule tag (now (rows .entry)) (wordAt (now (log .entry)) mid 3) (wordAt (now (log .entry)) top 3)) ⌝ }
 {
-    let q = rule_two(a, t, word_at(b, mid, 3), word_at(b, bt, 3));
-    unless_err(a, b, mid, unless_err(a, b, bt, q))
+    let q = rule_two(rows, tag, word_at(log, mid, 3), word_at(log, top, 3));
+    unless_err(rows, log, mid, unless_err(rows, log, top, q))
 }
 
 // How far two operands are worked.
@@ -463,12 +529,12 @@ pub enum Pair {
     Open,
 }
 
-// How far the operands that end at `mid` and `bt` are worked: one that is an error is the result, also beside an open one.
-fn pair_at(b: &[u32], mid: usize, bt: usize) -> Pair
-    ensures { λ p. ⌜ p ≡ pairOf (stageAt (now (b .entry)) mid) (stageAt (now (b .entry)) bt) ⌝ }
+// How far the operands that end at `mid` and `top` are worked: one that is an error is the result, also beside an open one.
+fn pair_at(log: &[u32], mid: usize, top: usize) -> Pair
+    ensures { λ p. ⌜ p ≡ pairOf (stageAt (now (log .entry)) mid) (stageAt (now (log .entry)) top) ⌝ }
 {
-    let s = stage_at(b, mid);
-    let t = stage_at(b, bt);
+    let s = stage_at(log, mid);
+    let t = stage_at(log, top);
     match s {
         Stage::Error => Pair::Error,
         Stage::Value(v) => match t {
@@ -484,50 +550,43 @@ fn pair_at(b: &[u32], mid: usize, bt: usize) -> Pair
     }
 }
 
-// Node `n` by its operands alone, the left of which ends at `mid`.
-fn worked_two(
-    a: &mut [u32],
-    b: &mut [u32],
-    start: usize,
-    mid: usize,
-    bt: usize,
-    n: u32,
-    t: u32,
-) -> usize
-    requires { ⌜ Room (now b) bt ⌝ }
-    requires { ⌜ (start ≤ mid) × (mid ≤ bt) ⌝ }
-    ensures { λ e. ⌜ Leaves start (now (a .exit)) (now (b .exit)) e (worked2 (twoGive t (now (a .entry))) (now (a .entry)) (take bt (now (b .entry))) start n (at (getD (rowsOf (now (a .entry)) 11) n []) 0) (stageAt (now (b .entry)) mid) (stageAt (now (b .entry)) bt)) ⌝ }
+// What a node gives by its operands alone, the left of which ends at `mid`.
+fn given_two(rows: &[u32], log: &[u32], mid: usize, top: usize, tag: u32) -> Given
+    ensures { λ g. ⌜ outOf g ≡ outTwo (twoGive tag (now (rows .entry))) (pairOf (stageAt (now (log .entry)) mid) (stageAt (now (log .entry)) top)) ⌝ }
 {
-    let y = item(row(a, NODE, n), 1);
-    match pair_at(b, mid, bt) {
-        Pair::Values(v, w) => {
-            let g = give_two(a, t, v, w);
-            settle(a, b, start, bt, n, y, g)
-        }
-        Pair::Error => push_error(b, start, y),
-        Pair::Open => push_left(b, start, bt, n, 0, y),
+    match pair_at(log, mid, top) {
+        Pair::Values(v, w) => give_two(rows, tag, v, w),
+        Pair::Error => Given::Fails,
+        Pair::Open => Given::Stays,
     }
+}
+
+// What its type rule says, or else what it gives.
+fn asked_two(rows: &[u32], log: &[u32], mid: usize, top: usize, tag: u32) -> Given
+    ensures { λ g. ⌜ outOf g ≡ ruleOr (unlessErr (errs (rowsOf (now (rows .entry)) NODE) (now (log .entry)) mid || errs (rowsOf (now (rows .entry)) NODE) (now (log .entry)) top) (twoRule tag (now (rows .entry)) (wordAt (now (log .entry)) mid 3) (wordAt (now (log .entry)) top 3))) (outTwo (twoGive tag (now (rows .entry))) (pairOf (stageAt (now (log .entry)) mid) (stageAt (now (log .entry)) top))) ⌝ }
+{
+    let q = ruled_two(rows, log, mid, top, tag);
+    let Rule::Says(x) = q else {
+        return given_two(rows, log, mid, top, tag);
+    };
+    Given::Bool(x)
 }
 
 // An operation on two operands, the left of which ends at `mid`. Its type rule decides where neither can err.
 pub fn two(
-    sheet: &[u8],
-    a: &mut [u32],
-    b: &mut [u32],
+    rows: &mut [u32],
+    log: &mut [u32],
     start: usize,
     mid: usize,
-    bt: usize,
-    n: u32,
-    t: u32,
+    top: usize,
+    node: u32,
+    tag: u32,
 ) -> usize
-    requires { ⌜ Room (now b) bt ⌝ }
-    requires { ⌜ (start ≤ mid) × (mid ≤ bt) ⌝ }
-    ensures { λ e. ⌜ Leaves start (now (a .exit)) (now (b .exit)) e (twoAt partial (now (sheet .entry)) t start mid n (getD (rowsOf (now (a .entry)) 11) n []) (left (now (a .entry)) (take bt (now (b .entry))))) ⌝ }
+    requires { ⌜ Room (now log) top ⌝ }
+    requires { ⌜ (start ≤ mid) × (mid ≤ top) ⌝ }
+    ensures { λ e. ⌜ Leaves start (now (rows .exit)) (now (log .exit)) e (twoAt partial [] tag start mid node (getD (rowsOf (now (rows .entry)) NODE) node []) (left (now (rows .entry)) (take top (now (log .entry))))) ⌝ }
 {
-    let q = ruled_two(a, b, mid, bt, t);
-    let Rule::Says(x) = q else {
-        return worked_two(a, b, start, mid, bt, n, t);
-    };
-    let y = item(row(a, NODE, n), 1);
-    give_bool(a, b, start, x, y)
+    let given = asked_two(rows, log, mid, top, tag);
+    let ty = type_of(rows, node);
+    settle(rows, log, start, top, node, ty, given)
 }

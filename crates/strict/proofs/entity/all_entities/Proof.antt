@@ -11,10 +11,10 @@ use Rattle.strict.proofs.entity.all_entities.Statement.{statement}
 use Rattle.strict.proofs.entity.all_entities.Tie as tie
 
 abbrev Inv-loop : tie.InvT-loop
-Inv-loop a l i₀ i = Going (allRent (values a) l) (allRent (values a) (drop i l)) i (length l)
+Inv-loop rows list i₀ i = Going (allRent (values rows) list) (allRent (values rows) (drop i list)) i (length list)
 
 abbrev μ-loop : tie.MeasureT-loop
-μ-loop a l i₀ i = length l - i
+μ-loop rows list i₀ i = length list - i
 
 loop-holds : tie.Need-loop-holds Inv-loop μ-loop
 loop-holds c = record { near = search needs; left = refl }

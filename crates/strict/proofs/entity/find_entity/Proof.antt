@@ -6,10 +6,10 @@ use Rattle.strict.proofs.entity.find_entity.Statement.{statement}
 use Rattle.strict.proofs.entity.find_entity.Tie as tie
 
 abbrev Inv-loop : tie.InvT-loop
-Inv-loop a k t n b s₀ i₀ s i = Walking a k t n i s
+Inv-loop rows kind text n b s₀ i₀ s i = Walking rows kind text n i s
 
 abbrev μ-loop : tie.MeasureT-loop
-μ-loop a k t n b s₀ i₀ s i = n - i
+μ-loop rows kind text n b s₀ i₀ s i = n - i
 
 loop-holds : tie.Need-loop-holds Inv-loop μ-loop
 loop-holds c = search (walk-start, needs)

@@ -8,7 +8,7 @@ use Rattle.strict.proofs.entity.first_of.Tie as tie
 returns : tie.Need-returns
 returns c =
     let s = c .before .before in
-    word-none (s .args .a .now) (s .args .s) (s .args .e) 1 (omega arith)
+    word-none (s .args .rows .now) (s .args .start) (s .args .end) 1 (omega arith)
 
 returns-2 : tie.Need-returns-2
 returns-2 c = search (word-none, needs)

@@ -7,10 +7,10 @@ use Rattle.strict.proofs.entity.walk.Statement.{statement}
 use Rattle.strict.proofs.entity.walk.Tie as tie
 
 abbrev Inv-loop : tie.InvT-loop
-Inv-loop a complete v path n₀ i₀ n i = Walking complete a v path n i
+Inv-loop rows complete value path n₀ i₀ n i = Walking complete rows value path n i
 
 abbrev μ-loop : tie.MeasureT-loop
-μ-loop a complete v path n₀ i₀ n i = length path - i
+μ-loop rows complete value path n₀ i₀ n i = length path - i
 
 loop-holds : tie.Need-loop-holds Inv-loop μ-loop
 loop-holds c = search (walk-start, needs)

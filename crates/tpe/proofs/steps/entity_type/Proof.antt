@@ -6,10 +6,10 @@ use Rattle.tpe.proofs.steps.entity_type.Statement.{statement}
 use Rattle.tpe.proofs.steps.entity_type.Tie as tie
 
 abbrev Inv-loop : tie.InvT-loop
-Inv-loop a k n i₀ i = Seeking a k n i
+Inv-loop rows kind n i₀ i = Seeking rows kind n i
 
 abbrev μ-loop : tie.MeasureT-loop
-μ-loop a k n i₀ i = n - i
+μ-loop rows kind n i₀ i = n - i
 
 loop-holds : tie.Need-loop-holds Inv-loop μ-loop
 loop-holds c = search (seek-start, needs)

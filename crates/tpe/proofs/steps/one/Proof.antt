@@ -1,5 +1,5 @@
 -- `tpe::steps::one` meets its contract. Assumes nothing.
-use Rattle.tpe.proofs.Worked.{one-path, one-silent, one-ruled}
+use Rattle.tpe.proofs.Worked.{one-path, one-settled}
 use borrow.Author.Needs.{needs}
 use Rattle.tpe.proofs.steps.one.Statement.{statement}
 use Rattle.tpe.proofs.steps.one.Tie as tie
@@ -8,10 +8,7 @@ returns : tie.Need-returns
 returns c = search one-path
 
 returns-2 : tie.Need-returns-2
-returns-2 c = search one-silent
-
-returns-3 : tie.Need-returns-3
-returns-3 c = search one-ruled
+returns-2 c = search one-settled
 
 pub one-spec : {M : Type 1} → statement M
 one-spec =
@@ -22,15 +19,8 @@ one-spec =
     (λ c. search needs)
     returns
     (λ c κs. search needs)
-    (λ c. search needs)
-    (λ c. search needs)
-    (λ c κs. search needs)
-    (λ c. search needs)
-    (λ c. search needs)
-    returns-2
-    (λ c κs. search needs)
     (λ c κs. search needs)
     (λ c κs. search needs)
     (λ c. search needs)
     (λ c. search needs)
-    returns-3)
+    returns-2)

@@ -9,21 +9,21 @@ sub-t14 : tie.Need-sub-t14
 sub-t14 c =
     let v = c .before .before in
     let k = c .before .before .before .before .before .before .before in
-    let h = value-room (k .args .b .now) (v .push-value .last .0) _ (k .args .start) (v .push-value .result) (k .pre .0) (v .push-value .ensures) in
+    let h = value-room (k .args .log .now) (v .push-value .last .0) _ (k .args .start) (v .push-value .result) (k .pre .0) (v .push-value .ensures) in
     omega (arith, h)
 
 cast-t15 : tie.Need-cast-t15
 cast-t15 c =
     let v = c .before .before in
     let k = c .before .before .before .before .before .before .before in
-    let h = value-room (k .args .b .now) (v .push-value .last .0) _ (k .args .start) (v .push-value .result) (k .pre .0) (v .push-value .ensures) in
+    let h = value-room (k .args .log .now) (v .push-value .last .0) _ (k .args .start) (v .push-value .result) (k .pre .0) (v .push-value .ensures) in
     omega (arith, h)
 
 add-t16 : tie.Need-add-t16
 add-t16 c =
     let v = c .before .before in
     let k = c .before .before .before .before .before .before .before in
-    let h = value-room (k .args .b .now) (v .push-value .last .0) _ (k .args .start) (v .push-value .result) (k .pre .0) (v .push-value .ensures) in
+    let h = value-room (k .args .log .now) (v .push-value .last .0) _ (k .args .start) (v .push-value .result) (k .pre .0) (v .push-value .ensures) in
     omega (arith, h)
 
 returns : tie.Need-returns
