@@ -5,7 +5,7 @@ use Prim.Native.Nat.{ℕ, _-_}
 use native.Mathlib.Omega.{arith}
 use lib.ListN.{take}
 use Rattle.words.specs.Log.{part}
-use Rattle.cedar.specs.Residual.{Class, ctrue, cfalse, cerror, copen, Expr}
+use Rattle.cedar.specs.Residual.{Class, Expr}
 use Rattle.cedar.specs.Response.{Verdict}
 use Rattle.cedar.specs.Types.{Schema}
 use Rattle.cedar.specs.Entities.{Env}
@@ -17,21 +17,16 @@ use Rattle.sheet.specs.Sheet.{firsts, read}
 use Rattle.sheet.specs.Answer.{concat, headLines, completeLines, completeOf, results, answer}
 use Rattle.table.specs.Layout.{rowsOf, held}
 use Rattle.table.proofs.Rows.{lines-held}
-use Rattle.response.specs.Verdicts.{classIn, verdictsOf, verdictsIn}
+use Rattle.response.specs.Verdicts.{verdictsOf, verdictsIn}
 use Rattle.response.specs.Printed.{policyLines, completeBytes}
+use Rattle.response.proofs.Counting.{class-back}
 use Rattle.response.proofs.Printing.{complete-held}
-use Rattle.evaluator.specs.Run.{classNumber, classNumbers, runOf}
+use Rattle.evaluator.specs.Run.{classNumbers, runOf}
 use Rattle.evaluator.specs.Gave.{Done}
 use Rattle.evaluator.proofs.Complete.{complete-run, complete-hold}
 use Rattle.authorizer.specs.Parts.{Holding, Sends, Runs}
 
 -- ---- classes by their numbers
-
-class-back : (c : Class) → classIn (classNumber c) ≡ c
-class-back ctrue = refl
-class-back cfalse = refl
-class-back cerror = refl
-class-back copen = refl
 
 verdicts-back : (S : Schema) (G : Env) (ns : List Expr) (rs : List (List ℕ)) → verdictsOf rs (classNumbers (completeAnswer S G (contentPolicies ns rs))) ≡ completeAnswer S G (contentPolicies ns rs)
 verdicts-back S G ns [] = refl

@@ -9,24 +9,7 @@ use Rattle.sheet.specs.Sheet.{read}
 use Rattle.sheet.specs.Agreement.{agrees}
 use Rattle.sheet.specs.Demand3.{Answered, bytesOf, Demand3}
 use Rattle.sheet.proofs.Demand3Answers.{demand-3-bytes}
-use Rattle.authorizer.specs.Called.{Called}
-
--- a run of a call: what it was lent, what it returned and left, and what the call promises of these
-pub record Run (m : Mode) (sheet : List ℕ) : Type 0 where
-  pub work₁ : List ℕ
-  pub work₂ : List ℕ
-  pub buffer : List ℕ
-  pub number : ℕ
-  pub line : ℕ
-  pub len : ℕ
-  pub buffer′ : List ℕ
-  pub work₁′ : List ℕ
-  pub work₂′ : List ℕ
-  pub called : Called m sheet work₁ work₂ buffer number line len buffer′ work₁′ work₂′
-
--- the bytes of the answer: so many as the returned length says, of the buffer after the call
-abbrev pub bytesIn : {m : Mode} {sheet : List ℕ} → Run m sheet → List ℕ
-bytesIn x = take (x .len) (x .buffer′)
+use Rattle.authorizer.specs.Calls.{Run, bytesIn}
 
 module _ {m : Mode} {sheet : List ℕ} (x : Run m sheet) (e : x .number ≡ 0) where
   abbrev answered : Answered m sheet

@@ -13,7 +13,8 @@ use Rattle.sheet.specs.Answer.{run, results, answer}
 use Rattle.sheet.specs.Call.{returned, written, worked}
 use Rattle.sheet.specs.Demand3.{Demand3}
 use Rattle.sheet.proofs.ExampleBytes.{open-sheet, low, high, low-agrees, high-agrees}
-use Rattle.authorizer.proofs.Demand3.{Run, bytesIn, demand-3-calls}
+use Rattle.authorizer.specs.Calls.{Run, bytesIn}
+use Rattle.authorizer.proofs.Demand3.{demand-3-calls}
 
 -- what a call leaves of what it is lent
 abbrev pub runOf : (m : Mode) (sheet work₁ work₂ buffer : List ℕ) → Run m sheet

@@ -25,10 +25,10 @@ pub struct Returned {
 }
 
 // A complete answer printed, where the buffer has room for it.
-fn send_complete(out: &mut [u8], a: &[u32], classes: &[u32]) -> Returned
-    ensures { λ r. ⌜ Sends (completeBytes (now (a .entry)) (now (classes .entry))) (now (out .entry)) (r .number) (r .line) (r .length) (now (out .exit)) ⌝ }
+fn send_complete(out: &mut [u8], rows: &[u32], classes: &[u32]) -> Returned
+    ensures { λ r. ⌜ Sends (completeBytes (now (rows .entry)) (now (classes .entry))) (now (out .entry)) (r .number) (r .line) (r .length) (now (out .exit)) ⌝ }
 {
-    let k = answer::complete(&mut out[..0], 0, a, classes);
+    let k = answer::complete(&mut out[..0], 0, rows, classes);
     if out.len() < k {
         return Returned {
             number: 10,
@@ -36,7 +36,7 @@ fn send_complete(out: &mut [u8], a: &[u32], classes: &[u32]) -> Returned
             length: k,
         };
     }
-    answer::complete(out, 0, a, classes);
+    answer::complete(out, 0, rows, classes);
     Returned {
         number: 0,
         line: 0,
@@ -45,11 +45,11 @@ fn send_complete(out: &mut [u8], a: &[u32], classes: &[u32]) -> Returned
 }
 
 // A partial answer printed, where the buffer has room for it.
-fn send_partial(out: &mut [u8], a: &[u32], log: &[u32], classes: &[u32], roots: &[u32]) -> Returned
-    requires { ⌜ (length (now a) ≤ 16384) × (length (now log) ≤ 16384) ⌝ }
-    ensures { λ r. ⌜ Sends (partialBytes (now (a .entry)) (now (log .entry)) (now (classes .entry)) (now (roots .entry))) (now (out .entry)) (r .number) (r .line) (r .length) (now (out .exit)) ⌝ }
+fn send_partial(out: &mut [u8], rows: &[u32], log: &[u32], classes: &[u32], roots: &[u32]) -> Returned
+    requires { ⌜ (length (now rows) ≤ 16384) × (length (now log) ≤ 16384) ⌝ }
+    ensures { λ r. ⌜ Sends (partialBytes (now (rows .entry)) (now (log .entry)) (now (classes .entry)) (now (roots .entry))) (now (out .entry)) (r .number) (r .line) (r .length) (now (out .exit)) ⌝ }
 {
-    let n = answer::partial(&mut out[..0], 0, a, log, classes, roots);
+    let n = answer::partial(&mut out[..0], 0, rows, log, classes, roots);
     if out.len() < n {
         return Returned {
             number: 10,
@@ -57,7 +57,7 @@ fn send_partial(out: &mut [u8], a: &[u32], log: &[u32], classes: &[u32], roots: 
             length: n,
         };
     }
-    answer::partial(out, 0, a, log, classes, roots);
+    answer::partial(out, 0, rows, log, classes, roots);
     Returned {
         number: 0,
         line: 0,
@@ -66,33 +66,33 @@ fn send_partial(out: &mut [u8], a: &[u32], log: &[u32], classes: &[u32], roots: 
 }
 
 // A complete sheet that the words hold, run and answered.
-fn answer_complete(sheet: &[u8], a: &mut [u32], b: &mut [u32], out: &mut [u8]) -> Returned
-    requires { ⌜ 16384 ≤ length (now b) ⌝ }
-    ensures { λ r. ⌜ Runs complete (now (sheet .entry)) (now (a .entry)) (now (b .entry)) (now (out .entry)) (r .number) (r .line) (r .length) (now (out .exit)) ⌝ }
+fn answer_complete(sheet: &[u8], rows: &mut [u32], log: &mut [u32], out: &mut [u8]) -> Returned
+    requires { ⌜ 16384 ≤ length (now log) ⌝ }
+    ensures { λ r. ⌜ Runs complete (now (sheet .entry)) (now (rows .entry)) (now (log .entry)) (now (out .entry)) (r .number) (r .line) (r .length) (now (out .exit)) ⌝ }
 {
-    let n = evaluator::run(sheet, a, b);
-    send_complete(out, a, cut(b, 0, n))
+    let n = evaluator::run(sheet, rows, log);
+    send_complete(out, rows, cut(log, 0, n))
 }
 
 // A partial sheet that the words hold, run and answered.
-fn answer_partial(sheet: &[u8], a: &mut [u32], b: &mut [u32], out: &mut [u8]) -> Returned
-    requires { ⌜ (length (now a) ≡ 16384) × (length (now b) ≡ 16384) ⌝ }
-    ensures { λ r. ⌜ Runs partial (now (sheet .entry)) (now (a .entry)) (now (b .entry)) (now (out .entry)) (r .number) (r .line) (r .length) (now (out .exit)) ⌝ }
+fn answer_partial(sheet: &[u8], rows: &mut [u32], log: &mut [u32], out: &mut [u8]) -> Returned
+    requires { ⌜ (length (now rows) ≡ 16384) × (length (now log) ≡ 16384) ⌝ }
+    ensures { λ r. ⌜ Runs partial (now (sheet .entry)) (now (rows .entry)) (now (log .entry)) (now (out .entry)) (r .number) (r .line) (r .length) (now (out .exit)) ⌝ }
 {
-    let e = interpret::run(sheet, a, b);
-    interpret::lines(a, b, e);
+    let e = interpret::run(sheet, rows, log);
+    interpret::lines(rows, log, e);
     send_partial(
         out,
-        a,
-        cut(b, 0, e),
-        cut(b, CLASSES, ROOM),
-        cut(b, ROOTS, ROOM),
+        rows,
+        cut(log, 0, e),
+        cut(log, CLASSES, ROOM),
+        cut(log, ROOTS, ROOM),
     )
 }
 
 // A sheet read, run and answered, in work slices that are long enough.
-fn answered(sheet: &[u8], partial: bool, a: &mut [u32], b: &mut [u32], out: &mut [u8]) -> Returned
-    requires { ⌜ (length (now a) ≡ 16384) × (length (now b) ≡ 16384) ⌝ }
+fn answered(sheet: &[u8], partial: bool, rows: &mut [u32], work: &mut [u32], out: &mut [u8]) -> Returned
+    requires { ⌜ (length (now rows) ≡ 16384) × (length (now work) ≡ 16384) ⌝ }
     ensures { λ r. ⌜ Answers (modeOf partial) (now (sheet .entry)) (now (out .entry)) (r .number) (r .line) (r .length) (now (out .exit)) ⌝ }
 {
     if sheet.len() > ROOM {
@@ -102,7 +102,7 @@ fn answered(sheet: &[u8], partial: bool, a: &mut [u32], b: &mut [u32], out: &mut
             length: 0,
         };
     }
-    let l = load(sheet, partial, a, b);
+    let l = load(sheet, partial, rows, work);
     let number = l.number;
     if number != 0 {
         return Returned {
@@ -112,9 +112,9 @@ fn answered(sheet: &[u8], partial: bool, a: &mut [u32], b: &mut [u32], out: &mut
         };
     }
     if partial {
-        return answer_partial(sheet, a, b, out);
+        return answer_partial(sheet, rows, work, out);
     }
-    answer_complete(sheet, a, b, out)
+    answer_complete(sheet, rows, work, out)
 }
 
 // The call: what was used of the work slices is cleared.

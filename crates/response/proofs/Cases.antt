@@ -3,20 +3,22 @@ use mathlib.Core.Path.{_≡_, refl}
 use mathlib.Core.List.{List, [], _∷_}
 use Prim.Native.Nat.{ℕ}
 use Rattle.sheet.specs.Ascii.{ascii}
-use Rattle.sheet.specs.Forms.{forms, formOf}
+use Rattle.sheet.specs.Forms.{forms, formOf, mark}
 use Rattle.sheet.specs.Answer.{concat}
+use Rattle.forms.specs.Tags.{LIT, VAR, EQ, IS, LIKE, HASPATH, SET-OF, RECORD-OF, BOOL-TYPE, RECORD-TYPE, PART-P, SET-TYPE, ENTITY-TYPE}
 use Rattle.residual.specs.Rows.{wordAt, stageAt, startAt}
-use Rattle.response.specs.Nodes.{childrenBy, childrenTo, fieldsTo, opName, restItems, leftItems, leftAt, boolLine, typeIn, saidAt, nodeLine, linesBy, logLines}
+use Rattle.response.specs.Names.{opName}
+use Rattle.response.specs.Nodes.{childrenBy, childrenTo, fieldsTo, restItems, leftItems, leftAt, boolLine, typeIn, saidAt, nodeLine, linesBy, logLines}
 
 -- types 0 bool, 1 record, 2 `entity,0`, 3 `set,0`
 types : List (List ℕ)
-types = (3 ∷ []) ∷ (8 ∷ []) ∷ (6 ∷ 0 ∷ []) ∷ (7 ∷ 0 ∷ []) ∷ []
+types = (BOOL-TYPE ∷ []) ∷ (RECORD-TYPE ∷ []) ∷ (ENTITY-TYPE ∷ 0 ∷ []) ∷ (SET-TYPE ∷ 0 ∷ []) ∷ []
 
 -- nodes 0 `var,p`, 1 `lit,5`, 2 `eq,0,1`, 3 `haspath,0,7,8,9`, 4 `like,0,3,*`, 5 `record,4,0,6,1`, 6 `set,0,1,2`, 7 `is,0,2`
 nodes : List (List ℕ)
 nodes =
-    (23 ∷ 2 ∷ 0 ∷ []) ∷ (21 ∷ 2 ∷ 5 ∷ []) ∷ (26 ∷ 0 ∷ 0 ∷ 1 ∷ []) ∷ (43 ∷ 0 ∷ 0 ∷ 7 ∷ 8 ∷ 9 ∷ []) ∷ (40 ∷ 0 ∷ 0 ∷ 3 ∷ 10000 ∷ [])
-    ∷ (48 ∷ 1 ∷ 4 ∷ 0 ∷ 6 ∷ 1 ∷ []) ∷ (47 ∷ 3 ∷ 0 ∷ 1 ∷ 2 ∷ []) ∷ (39 ∷ 0 ∷ 0 ∷ 2 ∷ []) ∷ []
+    (VAR ∷ 2 ∷ PART-P ∷ []) ∷ (LIT ∷ 2 ∷ 5 ∷ []) ∷ (EQ ∷ 0 ∷ 0 ∷ 1 ∷ []) ∷ (HASPATH ∷ 0 ∷ 0 ∷ 7 ∷ 8 ∷ 9 ∷ []) ∷ (LIKE ∷ 0 ∷ 0 ∷ 3 ∷ mark ∷ [])
+    ∷ (RECORD-OF ∷ 1 ∷ 4 ∷ 0 ∷ 6 ∷ 1 ∷ []) ∷ (SET-OF ∷ 3 ∷ 0 ∷ 1 ∷ 2 ∷ []) ∷ (IS ∷ 0 ∷ 0 ∷ 2 ∷ []) ∷ []
 
 -- a set of `eq` over a variable and a value, an error and a record; then paths, a pattern and a kind
 log : List ℕ

@@ -12,44 +12,54 @@ use Rattle.cedar.specs.Canonical.{bit}
 use Rattle.cedar.specs.Residual.{Class, ctrue, cfalse, cerror, copen}
 use Rattle.cedar.specs.Response.{Effect, permit, forbid, isPermit, isForbid, isTrue, isOpen, Verdict, anyLine, decide, decision}
 use Rattle.sheet.specs.Answer.{howMany, isFalse, isError, countsOf}
+use Rattle.sheet.specs.Forms.{POLICY}
+use Rattle.forms.specs.Tags.{PERMIT, FORBID}
 use Rattle.table.specs.Layout.{rowsOf}
 use Rattle.table.proofs.Rows.{count-rows}
 use Rattle.value.proofs.Lists.{uncons, spent}
-use Rattle.response.specs.Verdicts.{classIn, classNumber, effectIn, effectNumber, effectIs, classIs, verdictsOf, verdictsIn, said}
+use Rattle.residual.specs.Classes.{classNumber, CLASS-TRUE, CLASS-FALSE, CLASS-ERROR, CLASS-OPEN}
+use Rattle.response.specs.Verdicts.{classIn, effectIn, effectNumber, effectIs, classIs, verdictsOf, verdictsIn, said}
 use Rattle.response.specs.declared.Decision as D
 
 -- ---- one policy
 
-module _ (a : List ℕ) (i x : ℕ) (r : List ℕ) (er : r ≡ getD (rowsOf a 12) i []) (ex : x ≡ getD r 2 0) where
-  pub effect-forbid : x ≡ 1 → 1 ≡ effectNumber (effectIn (getD (rowsOf a 12) i []))
-  effect-forbid h = let z : getD (getD (rowsOf a 12) i []) 2 0 ≡ 1 = ap (λ (q : List ℕ). getD q 2 0) (sym er) ∙ sym ex ∙ h in rw z
+module _ (a : List ℕ) (i x : ℕ) (r : List ℕ) (er : r ≡ getD (rowsOf a POLICY) i []) (ex : x ≡ getD r 2 0) where
+  pub effect-forbid : x ≡ FORBID → FORBID ≡ effectNumber (effectIn (getD (rowsOf a POLICY) i []))
+  effect-forbid h = let z : getD (getD (rowsOf a POLICY) i []) 2 0 ≡ FORBID = ap (λ (q : List ℕ). getD q 2 0) (sym er) ∙ sym ex ∙ h in rw z
 
-  pub effect-permit : (x ≡ 1 → ⊥) → 0 ≡ effectNumber (effectIn (getD (rowsOf a 12) i []))
-  effect-permit h = go (getD (getD (rowsOf a 12) i []) 2 0) (λ z. h (ex ∙ ap (λ (q : List ℕ). getD q 2 0) er ∙ z))
+  pub effect-permit : (x ≡ FORBID → ⊥) → PERMIT ≡ effectNumber (effectIn (getD (rowsOf a POLICY) i []))
+  effect-permit h = go (getD (getD (rowsOf a POLICY) i []) 2 0) (λ z. h (ex ∙ ap (λ (q : List ℕ). getD q 2 0) er ∙ z))
     where
-      go : (y : ℕ) → (y ≡ 1 → ⊥) → 0 ≡ effectNumber (getD (permit ∷ forbid ∷ []) y permit)
+      go : (y : ℕ) → (y ≡ FORBID → ⊥) → PERMIT ≡ effectNumber (getD (permit ∷ forbid ∷ []) y permit)
       go zero n = refl
       go (suc zero) n = absurd (n refl)
       go (suc (suc y)) n = refl
 
-pub class-settled : (c x : ℕ) → c ≡ x → c < 3 → c ≡ classNumber (classIn x)
+pub class-settled : (c x : ℕ) → c ≡ x → c < CLASS-OPEN → c ≡ classNumber (classIn x)
 class-settled c x e h = e ∙ go x (omega arith)
   where
-    go : (y : ℕ) → y < 3 → y ≡ classNumber (classIn y)
+    go : (y : ℕ) → y < CLASS-OPEN → y ≡ classNumber (classIn y)
     go zero n = refl
     go (suc zero) n = refl
     go (suc (suc zero)) n = refl
     go (suc (suc (suc y))) n = absurd (omega arith)
 
-pub class-open : (c x : ℕ) → c ≡ x → 3 ≤ c → 3 ≡ classNumber (classIn x)
+pub class-open : (c x : ℕ) → c ≡ x → CLASS-OPEN ≤ c → CLASS-OPEN ≡ classNumber (classIn x)
 class-open c x e h = go x (omega arith)
   where
-    go : (y : ℕ) → 3 ≤ y → 3 ≡ classNumber (classIn y)
+    go : (y : ℕ) → CLASS-OPEN ≤ y → CLASS-OPEN ≡ classNumber (classIn y)
     go zero n = absurd (omega arith)
     go (suc zero) n = absurd (omega arith)
     go (suc (suc zero)) n = absurd (omega arith)
     go (suc (suc (suc zero))) n = refl
     go (suc (suc (suc (suc y)))) n = refl
+
+-- a class is found again by its number
+pub class-back : (c : Class) → classIn (classNumber c) ≡ c
+class-back ctrue = refl
+class-back cfalse = refl
+class-back cerror = refl
+class-back copen = refl
 
 module _ (e c effect class : ℕ) where
   pub hit-effect : (e ≡ effect → ⊥) → 0 ≡ bit (eqb e effect && eqb c class)
@@ -64,7 +74,7 @@ module _ (e c effect class : ℕ) where
 -- ---- the policies from one on
 
 abbrev pub verdictsFrom : List ℕ → List ℕ → ℕ → List Verdict
-verdictsFrom a cs i = verdictsOf (drop i (rowsOf a 12)) (drop i cs)
+verdictsFrom a cs i = verdictsOf (drop i (rowsOf a POLICY)) (drop i cs)
 
 pub first-of : (l : List ℕ) (i : ℕ) → getD (drop i l) 0 0 ≡ getD l i 0
 first-of [] zero = refl
@@ -79,16 +89,16 @@ next-of (x ∷ l) zero = refl
 next-of (x ∷ l) (suc i) = next-of l i
 
 abbrev pub verdictAt : List ℕ → List ℕ → ℕ → Verdict
-verdictAt a cs i = record { effect = effectIn (getD (rowsOf a 12) i []); class = classIn (getD cs i 0) }
+verdictAt a cs i = record { effect = effectIn (getD (rowsOf a POLICY) i []); class = classIn (getD cs i 0) }
 
-pub verdicts-on : (a cs : List ℕ) (i : ℕ) → i < length (rowsOf a 12) → verdictsFrom a cs i ≡ verdictAt a cs i ∷ verdictsFrom a cs (i + 1)
+pub verdicts-on : (a cs : List ℕ) (i : ℕ) → i < length (rowsOf a POLICY) → verdictsFrom a cs i ≡ verdictAt a cs i ∷ verdictsFrom a cs (i + 1)
 verdicts-on a cs i h =
-    ap (λ (l : List (List ℕ)). verdictsOf l (drop i cs)) (uncons (rowsOf a 12) [] i h)
-    ∙ ap₂ (λ (x : ℕ) (l : List ℕ). record { effect = effectIn (getD (rowsOf a 12) i []); class = classIn x } ∷ verdictsOf (drop (i + 1) (rowsOf a 12)) l)
+    ap (λ (l : List (List ℕ)). verdictsOf l (drop i cs)) (uncons (rowsOf a POLICY) [] i h)
+    ∙ ap₂ (λ (x : ℕ) (l : List ℕ). record { effect = effectIn (getD (rowsOf a POLICY) i []); class = classIn x } ∷ verdictsOf (drop (i + 1) (rowsOf a POLICY)) l)
     (first-of cs i) (next-of cs i ∙ ap (λ (j : ℕ). drop j cs) (sym (add-one i)))
 
-pub verdicts-end : (a cs : List ℕ) (i : ℕ) → length (rowsOf a 12) ≤ i → verdictsFrom a cs i ≡ []
-verdicts-end a cs i h = ap (λ (l : List (List ℕ)). verdictsOf l (drop i cs)) (spent (rowsOf a 12) i h)
+pub verdicts-end : (a cs : List ℕ) (i : ℕ) → length (rowsOf a POLICY) ≤ i → verdictsFrom a cs i ≡ []
+verdicts-end a cs i h = ap (λ (l : List (List ℕ)). verdictsOf l (drop i cs)) (spent (rowsOf a POLICY) i h)
 
 -- m were counted up to place i of n, and the rest gives what is left
 pub record Tally (whole m rest i n : ℕ) : Type 0 where
@@ -106,16 +116,16 @@ hit-small k false e = omega arith
 pub hit-le : (k e c effect class : ℕ) → k ≡ bit (eqb e effect && eqb c class) → k ≤ 1
 hit-le k e c effect class h = hit-small k (eqb e effect && eqb c class) h
 
-module _ (a cs : List ℕ) (effect class n : ℕ) (en : n ≡ getD a 12 0) where
-  many : n ≡ length (rowsOf a 12)
-  many = en ∙ sym (count-rows a 12)
+module _ (a cs : List ℕ) (effect class n : ℕ) (en : n ≡ getD a POLICY 0) where
+  many : n ≡ length (rowsOf a POLICY)
+  many = en ∙ sym (count-rows a POLICY)
 
   pub tally-start : Tally (countIn effect class (verdictsIn a cs)) 0 (countIn effect class (verdictsFrom a cs 0)) 0 n
   unfolding verdictsIn
   tally-start = record { near = omega arith; few = omega arith; left = omega arith }
 
   module _ (i m : ℕ) (t : Tally (countIn effect class (verdictsIn a cs)) m (countIn effect class (verdictsFrom a cs i)) i n) where
-    pub tally-on : (e c k : ℕ) → i < n → e ≡ effectNumber (effectIn (getD (rowsOf a 12) i [])) → c ≡ classNumber (classIn (getD cs i 0))
+    pub tally-on : (e c k : ℕ) → i < n → e ≡ effectNumber (effectIn (getD (rowsOf a POLICY) i [])) → c ≡ classNumber (classIn (getD cs i 0))
         → k ≡ bit (eqb e effect && eqb c class) → Tally (countIn effect class (verdictsIn a cs)) (m + k) (countIn effect class (verdictsFrom a cs (i + 1))) (i + 1) n
     tally-on e c k h ee ec ek =
         let s : countIn effect class (verdictsFrom a cs i) ≡ k + countIn effect class (verdictsFrom a cs (i + 1)) =
@@ -130,15 +140,15 @@ module _ (a cs : List ℕ) (effect class n : ℕ) (en : n ≡ getD a 12 0) where
 
 -- the four counts of an effect, each so
 pub record Tallies (a cs : List ℕ) (effect n i t f e o : ℕ) : Type 0 where
-  pub trues : Tally (countIn effect 0 (verdictsIn a cs)) t (countIn effect 0 (verdictsFrom a cs i)) i n
-  pub falses : Tally (countIn effect 1 (verdictsIn a cs)) f (countIn effect 1 (verdictsFrom a cs i)) i n
-  pub errors : Tally (countIn effect 2 (verdictsIn a cs)) e (countIn effect 2 (verdictsFrom a cs i)) i n
-  pub opens : Tally (countIn effect 3 (verdictsIn a cs)) o (countIn effect 3 (verdictsFrom a cs i)) i n
+  pub trues : Tally (countIn effect CLASS-TRUE (verdictsIn a cs)) t (countIn effect CLASS-TRUE (verdictsFrom a cs i)) i n
+  pub falses : Tally (countIn effect CLASS-FALSE (verdictsIn a cs)) f (countIn effect CLASS-FALSE (verdictsFrom a cs i)) i n
+  pub errors : Tally (countIn effect CLASS-ERROR (verdictsIn a cs)) e (countIn effect CLASS-ERROR (verdictsFrom a cs i)) i n
+  pub opens : Tally (countIn effect CLASS-OPEN (verdictsIn a cs)) o (countIn effect CLASS-OPEN (verdictsFrom a cs i)) i n
 
-pub tallies-end : (a cs : List ℕ) (effect n i t f e o : ℕ) → n ≡ getD a 12 0 → Tallies a cs effect n i t f e o → n ≤ i
-    → (t ≡ countIn effect 0 (verdictsIn a cs)) × ((f ≡ countIn effect 1 (verdictsIn a cs)) × ((e ≡ countIn effect 2 (verdictsIn a cs)) × (o ≡ countIn effect 3 (verdictsIn a cs))))
+pub tallies-end : (a cs : List ℕ) (effect n i t f e o : ℕ) → n ≡ getD a POLICY 0 → Tallies a cs effect n i t f e o → n ≤ i
+    → (t ≡ countIn effect CLASS-TRUE (verdictsIn a cs)) × ((f ≡ countIn effect CLASS-FALSE (verdictsIn a cs)) × ((e ≡ countIn effect CLASS-ERROR (verdictsIn a cs)) × (o ≡ countIn effect CLASS-OPEN (verdictsIn a cs))))
 tallies-end a cs effect n i t f e o en l h =
-    (tally-end a cs effect 0 n en i t (l .trues) h, (tally-end a cs effect 1 n en i f (l .falses) h, (tally-end a cs effect 2 n en i e (l .errors) h, tally-end a cs effect 3 n en i o (l .opens) h)))
+    (tally-end a cs effect CLASS-TRUE n en i t (l .trues) h, (tally-end a cs effect CLASS-FALSE n en i f (l .falses) h, (tally-end a cs effect CLASS-ERROR n en i e (l .errors) h, tally-end a cs effect CLASS-OPEN n en i o (l .opens) h)))
 
 -- ---- whether there is one
 
@@ -165,33 +175,33 @@ any-same f f′ g g′ p q [] = refl
 any-same f f′ g g′ p q (l ∷ ls) =
     ap₂ _||_ (ap₂ _&&_ (p (l .effect)) (q (l .class))) (any-same f f′ g g′ p q ls)
 
-is-permit : (e : Effect) → effectIs 0 e ≡ isPermit e
+is-permit : (e : Effect) → effectIs PERMIT e ≡ isPermit e
 is-permit permit = refl
 is-permit forbid = refl
 
-is-forbid : (e : Effect) → effectIs 1 e ≡ isForbid e
+is-forbid : (e : Effect) → effectIs FORBID e ≡ isForbid e
 is-forbid permit = refl
 is-forbid forbid = refl
 
-is-true : (c : Class) → classIs 0 c ≡ isTrue c
+is-true : (c : Class) → classIs CLASS-TRUE c ≡ isTrue c
 is-true ctrue = refl
 is-true cfalse = refl
 is-true cerror = refl
 is-true copen = refl
 
-is-false : (c : Class) → classIs 1 c ≡ isFalse c
+is-false : (c : Class) → classIs CLASS-FALSE c ≡ isFalse c
 is-false ctrue = refl
 is-false cfalse = refl
 is-false cerror = refl
 is-false copen = refl
 
-is-error : (c : Class) → classIs 2 c ≡ isError c
+is-error : (c : Class) → classIs CLASS-ERROR c ≡ isError c
 is-error ctrue = refl
 is-error cfalse = refl
 is-error cerror = refl
 is-error copen = refl
 
-is-open : (c : Class) → classIs 3 c ≡ isOpen c
+is-open : (c : Class) → classIs CLASS-OPEN c ≡ isOpen c
 is-open ctrue = refl
 is-open cfalse = refl
 is-open cerror = refl
@@ -199,19 +209,19 @@ is-open copen = refl
 
 -- the counts of one effect, in the answer's order
 abbrev pub fourOf : ℕ → List Verdict → List ℕ
-fourOf e ls = countIn e 0 ls ∷ countIn e 1 ls ∷ countIn e 2 ls ∷ countIn e 3 ls ∷ []
+fourOf e ls = countIn e CLASS-TRUE ls ∷ countIn e CLASS-FALSE ls ∷ countIn e CLASS-ERROR ls ∷ countIn e CLASS-OPEN ls ∷ []
 
-pub counts-are : (ls : List Verdict) → countIn 0 0 ls ∷ countIn 0 1 ls ∷ countIn 0 2 ls ∷ countIn 0 3 ls ∷ fourOf 1 ls ≡ countsOf ls
+pub counts-are : (ls : List Verdict) → countIn PERMIT CLASS-TRUE ls ∷ countIn PERMIT CLASS-FALSE ls ∷ countIn PERMIT CLASS-ERROR ls ∷ countIn PERMIT CLASS-OPEN ls ∷ fourOf FORBID ls ≡ countsOf ls
 counts-are ls =
     rw (
-      many-same (effectIs 0) isPermit (classIs 0) isTrue is-permit is-true ls,
-      many-same (effectIs 0) isPermit (classIs 1) isFalse is-permit is-false ls,
-      many-same (effectIs 0) isPermit (classIs 2) isError is-permit is-error ls,
-      many-same (effectIs 0) isPermit (classIs 3) isOpen is-permit is-open ls,
-      many-same (effectIs 1) isForbid (classIs 0) isTrue is-forbid is-true ls,
-      many-same (effectIs 1) isForbid (classIs 1) isFalse is-forbid is-false ls,
-      many-same (effectIs 1) isForbid (classIs 2) isError is-forbid is-error ls,
-      many-same (effectIs 1) isForbid (classIs 3) isOpen is-forbid is-open ls,
+      many-same (effectIs PERMIT) isPermit (classIs CLASS-TRUE) isTrue is-permit is-true ls,
+      many-same (effectIs PERMIT) isPermit (classIs CLASS-FALSE) isFalse is-permit is-false ls,
+      many-same (effectIs PERMIT) isPermit (classIs CLASS-ERROR) isError is-permit is-error ls,
+      many-same (effectIs PERMIT) isPermit (classIs CLASS-OPEN) isOpen is-permit is-open ls,
+      many-same (effectIs FORBID) isForbid (classIs CLASS-TRUE) isTrue is-forbid is-true ls,
+      many-same (effectIs FORBID) isForbid (classIs CLASS-FALSE) isFalse is-forbid is-false ls,
+      many-same (effectIs FORBID) isForbid (classIs CLASS-ERROR) isError is-forbid is-error ls,
+      many-same (effectIs FORBID) isForbid (classIs CLASS-OPEN) isOpen is-forbid is-open ls,
     )
 
 -- ---- the decision
@@ -223,11 +233,11 @@ decide-open tf tp op of h k l = rw (h, k, l) (go of)
     go true = refl
     go false = refl
 
-pub decision-is : (ls : List Verdict) (tf tp op of : Bool) (d : D.Decision) → tf ≡ anyLine (effectIs 1) (classIs 0) ls → tp ≡ anyLine (effectIs 0) (classIs 0) ls
-    → op ≡ anyLine (effectIs 0) (classIs 3) ls → of ≡ anyLine (effectIs 1) (classIs 3) ls → d ≡ said (decide tf tp op of) → d ≡ said (decision ls)
+pub decision-is : (ls : List Verdict) (tf tp op of : Bool) (d : D.Decision) → tf ≡ anyLine (effectIs FORBID) (classIs CLASS-TRUE) ls → tp ≡ anyLine (effectIs PERMIT) (classIs CLASS-TRUE) ls
+    → op ≡ anyLine (effectIs PERMIT) (classIs CLASS-OPEN) ls → of ≡ anyLine (effectIs FORBID) (classIs CLASS-OPEN) ls → d ≡ said (decide tf tp op of) → d ≡ said (decision ls)
 decision-is ls tf tp op of d etf etp eop eof ed =
-    let a = etf ∙ any-same (effectIs 1) isForbid (classIs 0) isTrue is-forbid is-true ls in
-    let b = etp ∙ any-same (effectIs 0) isPermit (classIs 0) isTrue is-permit is-true ls in
-    let e = eop ∙ any-same (effectIs 0) isPermit (classIs 3) isOpen is-permit is-open ls in
-    let f = eof ∙ any-same (effectIs 1) isForbid (classIs 3) isOpen is-forbid is-open ls in
+    let a = etf ∙ any-same (effectIs FORBID) isForbid (classIs CLASS-TRUE) isTrue is-forbid is-true ls in
+    let b = etp ∙ any-same (effectIs PERMIT) isPermit (classIs CLASS-TRUE) isTrue is-permit is-true ls in
+    let e = eop ∙ any-same (effectIs PERMIT) isPermit (classIs CLASS-OPEN) isOpen is-permit is-open ls in
+    let f = eof ∙ any-same (effectIs FORBID) isForbid (classIs CLASS-OPEN) isOpen is-forbid is-open ls in
     ed ∙ rw (a, b, e, f)

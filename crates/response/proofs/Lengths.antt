@@ -15,14 +15,15 @@ use Rattle.cedar.specs.Response.{Effect, permit, forbid, Verdict, Decision, all
 use Rattle.cedar.specs.Rows.{Row, rbool, rlong, rtext, rent, rset, rrec}
 use Rattle.sheet.specs.Ascii.{ascii}
 use Rattle.sheet.specs.Bytes.{digits, signed, longAt, commas}
-use Rattle.sheet.specs.Forms.{Form, forms, formOf, noForm, firstNode, tag, items, at, mark}
+use Rattle.sheet.specs.Forms.{Form, forms, formOf, noForm, firstNode, tag, items, at, mark, TYPE, NODE, POLICY, firstValue, asterisk}
 use Rattle.sheet.specs.Sheet.{firsts}
 use Rattle.sheet.specs.State.{entriesOf, valueRow}
 use Rattle.sheet.specs.Content.{rowsIn}
 use Rattle.sheet.specs.Answer.{printed, concat, numbers, decisionWord, effectWord, classWord, countsOf, headLines, entryItems, valueItems, valueLines, policyItems, completeLines}
 use Rattle.sheet.proofs.Lines.{and-both}
 use Rattle.sheet.proofs.AnswerRead.{firsts-length}
-use Rattle.table.specs.Layout.{part, rowAt, rowsAt, rowsOf, base}
+use Rattle.forms.specs.Tags.{VAR, IS, LIKE, GET, HAS, HASPATH, RECORD-OF}
+use Rattle.table.specs.Layout.{part, rowAt, rowsAt, rowsOf, base, MADE}
 use Rattle.table.proofs.Rows.{count-rows}
 use Rattle.residual.specs.Rows.{wordAt, stageAt, startAt}
 use Rattle.residual.specs.declared.Stage.{Stage}
@@ -32,7 +33,8 @@ use Rattle.print.proofs.Writing.{digits-few}
 use Rattle.response.specs.Verdicts.{classIn, effectIn, verdictsIn}
 use Rattle.response.specs.Printed.{policyLines, completeBytes, rootedOf, rootedLines}
 use Rattle.response.specs.Values.{madeLines}
-use Rattle.response.specs.Nodes.{numberOf, childrenBy, childrenTo, fieldsTo, opName, letter, pieces, restItems, leftItems, leftAt, saidAs, saidAt, typeIn, nodeLine, linesBy, logLines, partialBytes}
+use Rattle.response.specs.Names.{opName}
+use Rattle.response.specs.Nodes.{numberOf, childrenBy, childrenTo, fieldsTo, letter, pieces, restItems, leftItems, leftAt, saidAs, saidAt, typeIn, nodeLine, linesBy, logLines, partialBytes}
 use Rattle.response.proofs.Printing.{concat-append}
 
 -- ---- items and lines
@@ -98,13 +100,13 @@ complete-most (i ∷ is) (l ∷ ls) =
     omega (arith, a, h, length-append (printed "policy" (policyItems i (l .effect) (l .class) [])) (concat (completeLines is ls)))
 
 -- A COMPLETE ANSWER CAN BE COUNTED: the word that says how many policies there are has 32 bits
-pub complete-counted : (a cs : List ℕ) → getD a 12 0 < 4294967296 → length (completeBytes a cs) ≤ greatest
+pub complete-counted : (a cs : List ℕ) → getD a POLICY 0 < 4294967296 → length (completeBytes a cs) ≤ greatest
 unfolding completeBytes policyLines
 complete-counted a cs h =
-    let p : length (firsts (rowsOf a 12)) ≡ getD a 12 0 = firsts-length (rowsOf a 12) ∙ count-rows a 12 in
+    let p : length (firsts (rowsOf a POLICY)) ≡ getD a POLICY 0 = firsts-length (rowsOf a POLICY) ∙ count-rows a POLICY in
     let b = head-most (verdictsIn a cs) in
-    let d = complete-most (firsts (rowsOf a 12)) (verdictsIn a cs) in
-    omega (arith, p, b, d, ap length (concat-append (headLines (verdictsIn a cs)) (completeLines (firsts (rowsOf a 12)) (verdictsIn a cs))), length-append (concat (headLines (verdictsIn a cs))) (concat (completeLines (firsts (rowsOf a 12)) (verdictsIn a cs))))
+    let d = complete-most (firsts (rowsOf a POLICY)) (verdictsIn a cs) in
+    omega (arith, p, b, d, ap length (concat-append (headLines (verdictsIn a cs)) (completeLines (firsts (rowsOf a POLICY)) (verdictsIn a cs))), length-append (concat (headLines (verdictsIn a cs))) (concat (completeLines (firsts (rowsOf a POLICY)) (verdictsIn a cs))))
 
 -- ---- rows
 
@@ -176,7 +178,7 @@ value-most r =
         ),
       ),
     )
-    false (omega arith) (tag r - 10)
+    false (omega arith) (tag r - firstValue)
 
 values-most : (rs : List (List ℕ)) → AllShort 16384 rs → length (concat (valueLines (rowsIn rs))) ≤ 400000 * length rs
 values-most [] h = omega arith
@@ -245,7 +247,7 @@ fields-few r (suc (suc i)) l start p = go (leb p start) (fields-few r i l start 
     go true h = omega arith
     go false h = omega (arith, h, length-append (fieldsTo r i l start (startAt l p)) (getD r i 0 ∷ numberOf p ∷ []))
 
-piece-most : (x : ℕ) (b : Bool) → length (cond b (42 ∷ []) (digits x)) ≤ 20
+piece-most : (x : ℕ) (b : Bool) → length (cond b (asterisk ∷ []) (digits x)) ≤ 20
 piece-most x true = omega arith
 piece-most x false = digits-few x
 
@@ -259,7 +261,7 @@ weigh-append (x ∷ k) l = omega (arith, weigh-append k l)
 
 rest-most : (t : ℕ) (r : List ℕ) (k : ℕ) → weigh (restItems t r k) ≤ 21 * length r + 21
 unfolding restItems
-rest-most t r k = go (eqb t 39 || (eqb t 41 || eqb t 42)) (eqb t 40) (eqb t 43)
+rest-most t r k = go (eqb t IS || (eqb t GET || eqb t HAS)) (eqb t LIKE) (eqb t HASPATH)
   where
     go : (x y z : Bool) → weigh (cond x (digits (at r 2) ∷ []) (cond y (pieces (drop 2 (items r))) (cond z (digits (at r (2 + k)) ∷ numbers (drop (3 + k) (items r))) []))) ≤ 21 * length r + 21
     go true y z = omega (arith, digits-few (at r 2))
@@ -269,7 +271,7 @@ rest-most t r k = go (eqb t 39 || (eqb t 41 || eqb t 42)) (eqb t 40) (eqb t 43)
 
 left-most : (t : ℕ) (r : List ℕ) (k : ℕ) (cs fs : List ℕ) → weigh (leftItems t r k cs fs) ≤ 21 * (length cs + length fs + length r) + 21
 unfolding leftItems
-left-most t r k cs fs = go (eqb t 23) (eqb t 48)
+left-most t r k cs fs = go (eqb t VAR) (eqb t RECORD-OF)
   where
     go : (x y : Bool) → weigh (cond x (letter (at r 1) ∷ []) (cond y (numbers fs) (numbers cs ++ restItems t r k))) ≤ 21 * (length cs + length fs + length r) + 21
     go true y = omega (arith, letter-most (at r 1))
@@ -317,13 +319,13 @@ rooted-most (r ∷ rs) cs es =
     omega (arith, p, i, digits-few (getD es 0 0), length-append (printed "policy" (policyItems (at r 0) (effectIn r) (classIn (getD cs 0 0)) d)) (concat (rootedOf rs (drop 1 cs) (drop 1 es))))
 
 -- A PARTIAL ANSWER CAN BE COUNTED: a slice of 16,384 words at most, a log of as many, and words of 32 bits that say how many values and policies there are
-pub partial-counted : (a l cs es : List ℕ) → length a ≤ 16384 → length l ≤ 16384 → getD a 12 0 < 4294967296 → getD a 13 0 < 4294967296 → length (partialBytes a l cs es) ≤ greatest
+pub partial-counted : (a l cs es : List ℕ) → length a ≤ 16384 → length l ≤ 16384 → getD a POLICY 0 < 4294967296 → getD a MADE 0 < 4294967296 → length (partialBytes a l cs es) ≤ greatest
 unfolding partialBytes madeLines logLines rootedLines
 partial-counted a l cs es h k p q =
-    let n : List ℕ = concat (logLines (rowsOf a 3) (rowsOf a 11) l) in
+    let n : List ℕ = concat (logLines (rowsOf a TYPE) (rowsOf a NODE) l) in
     let o : List ℕ = concat (rootedLines a cs es) in
     let b = head-most (verdictsIn a cs) in
-    let d = values-most (rowsOf a 13) (all-short a 13 h) in
-    let e = nodes-most (rowsOf a 3) (rowsOf a 11) l (all-short a 11 h) (length l / 4) 0 (omega (arith, k)) in
-    let f = rooted-most (rowsOf a 12) cs es in
-    omega (arith, b, d, e, f, count-rows a 12, count-rows a 13, length-append (concat (headLines (verdictsIn a cs))) (madeLines a ++ (n ++ o)), length-append (madeLines a) (n ++ o), length-append n o)
+    let d = values-most (rowsOf a MADE) (all-short a MADE h) in
+    let e = nodes-most (rowsOf a TYPE) (rowsOf a NODE) l (all-short a NODE h) (length l / 4) 0 (omega (arith, k)) in
+    let f = rooted-most (rowsOf a POLICY) cs es in
+    omega (arith, b, d, e, f, count-rows a POLICY, count-rows a MADE, length-append (concat (headLines (verdictsIn a cs))) (madeLines a ++ (n ++ o)), length-append (madeLines a) (n ++ o), length-append n o)

@@ -1,6 +1,7 @@
 pub mod Counting
 pub mod Printing
 pub mod Made
+pub mod Wording
 pub mod Rooted
 pub mod Partial
 pub mod NodeLines

@@ -16,13 +16,15 @@ use Rattle.sheet.specs.Ascii.{ascii}
 use Rattle.sheet.specs.Bytes.{digits}
 use Rattle.sheet.specs.Forms.{forms, formOf, slotAt, tagOf, tag, items, firstNode}
 use Rattle.sheet.specs.Answer.{printed, size, root, typeNumber, treeRows, residualRows, nodeLines}
+use Rattle.forms.specs.Tags.{RECORD-OF}
 use Rattle.residual.specs.Rows.{leftRow, wordAt, stageAt, startAt}
 use Rattle.residual.specs.Trees.{Res, rlit, rerr, rleft, Ress, rnil, rcons, flat, flats, countRes, suits, suitsFor, tyAt, leftTree, treeOf, treesOf, Whole, whole-lit, whole-err, whole-left, Wholes, whole-more}
 use Rattle.residual.specs.declared.Stage.the-variants.{Value, Error, Open}
 use Rattle.residual.proofs.Blocks.{rowOf, bodyOf, sizeAll, left-size, left-open, flat-length, res-word, res-start}
 use Rattle.residual.proofs.Meaning.{stageFor, stage-is, rows-are, suited, apart, before-row}
 use Rattle.value.proofs.Lists.{uncons2}
-use Rattle.response.specs.Nodes.{numberOf, childrenTo, fieldsTo, opName, leftItems, leftSaid, leftAt, saidAt, typeIn, nodeLine, linesBy, logLines}
+use Rattle.response.specs.Names.{opName}
+use Rattle.response.specs.Nodes.{numberOf, childrenTo, fieldsTo, leftItems, leftSaid, leftAt, saidAt, typeIn, nodeLine, linesBy, logLines}
 use Rattle.response.proofs.NodeLines.{children-end, children-step, fields-end, fields-step}
 use Rattle.response.proofs.TreeRows.{rowsAll, rootsAll, fieldsAll, lines-append, saidOver, left-lines}
 
@@ -160,20 +162,20 @@ module _ (ts : List Ty) (nodes : List (List ℕ)) where
 -- ---- a node that is left
 
 -- fields matter to a record alone
-fields-matter : (t : ℕ) (r : List ℕ) (k : ℕ) (cs fs fs′ : List ℕ) → (t ≡ 48 → fs ≡ fs′) → leftItems t r k cs fs ≡ leftItems t r k cs fs′
+fields-matter : (t : ℕ) (r : List ℕ) (k : ℕ) (cs fs fs′ : List ℕ) → (t ≡ RECORD-OF → fs ≡ fs′) → leftItems t r k cs fs ≡ leftItems t r k cs fs′
 unfolding leftItems
-fields-matter t r k cs fs fs′ h = go (ℕ-discrete t 48)
+fields-matter t r k cs fs fs′ h = go (ℕ-discrete t RECORD-OF)
   where
-    go : Dec (t ≡ 48) → leftItems t r k cs fs ≡ leftItems t r k cs fs′
+    go : Dec (t ≡ RECORD-OF) → leftItems t r k cs fs ≡ leftItems t r k cs fs′
     go (yes d) = ap (leftItems t r k cs) (h d)
-    go (no d) = rw (ne-eqb t 48 d)
+    go (no d) = rw (ne-eqb t RECORD-OF d)
 
 -- a record has a text for each child
-record-texts : (r : List ℕ) (n : ℕ) → suits r n ≡ true → tag r ≡ 48 → length (drop 1 (items r)) ≡ n + n
+record-texts : (r : List ℕ) (n : ℕ) → suits r n ≡ true → tag r ≡ RECORD-OF → length (drop 1 (items r)) ≡ n + n
 unfolding suits
 record-texts r n s e =
     let p = and-eq-true-iff (leb firstNode (tag r)) (getD (suitsFor r n) (tag r - firstNode) false) .0 s in
-    let q : getD (suitsFor r n) 27 false ≡ true = ap (λ (t : ℕ). getD (suitsFor r n) (t - firstNode) false) (sym e) ∙ p .1 in
+    let q : getD (suitsFor r n) (RECORD-OF - firstNode) false ≡ true = ap (λ (t : ℕ). getD (suitsFor r n) (t - firstNode) false) (sym e) ∙ p .1 in
     eqb-true (length (drop 1 (items r))) (n + n) q
 
 body-length : (n k y : ℕ) (rs : Ress) → length (flat (rleft n k y rs)) ≡ length (flats rs) + 4

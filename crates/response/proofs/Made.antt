@@ -5,13 +5,15 @@ use mathlib.Core.List.{List, [], _∷_, _++_, append-nil, append-assoc}
 use Prim.Native.Nat.{ℕ, _+_, _-_, _≤_, _<_}
 use native.Mathlib.Omega.{arith}
 use lib.ListN.{length, getD, drop, length-drop}
+use Rattle.cedar.specs.Canonical.{bit}
 use Rattle.cedar.specs.Rows.{Row}
+use Rattle.sheet.specs.Ascii.{ascii}
 use Rattle.sheet.specs.Bytes.{digits, signed, longAt, commas}
 use Rattle.sheet.specs.Forms.{items}
 use Rattle.sheet.specs.State.{entriesOf}
 use Rattle.sheet.specs.Content.{rowsIn}
 use Rattle.sheet.specs.Answer.{printed, concat, numbers, entryItems, valueItems, valueLines}
-use Rattle.table.specs.Layout.{rowsOf}
+use Rattle.table.specs.Layout.{rowsOf, MADE}
 use Rattle.table.proofs.Rows.{count-rows}
 use Rattle.value.specs.Shapes.{shapeOf, shapeRow}
 use Rattle.value.specs.declared.Shape.{Shape}
@@ -20,6 +22,7 @@ use Rattle.value.proofs.Lists.{uncons, uncons2, spent}
 use Rattle.value.proofs.Shaped.{shape-row}
 use Rattle.print.specs.Written.{Written}
 use Rattle.print.proofs.Writing.{written-append, written-as}
+use Rattle.response.specs.Names.{unpadded}
 use Rattle.response.specs.Values.{after, valueLine, madeLines}
 use Rattle.response.proofs.Printing.{Printing, printing-start, printing-on, printing-end}
 
@@ -34,12 +37,8 @@ pub record Along (whole left was : List ℕ) (at : ℕ) (is : List ℕ) (next i 
   pub near : i ≤ n
   pub print : Printing whole left was at is next
 
-module _ (l was : List ℕ) (at : ℕ) (h : at ≤ 18446744073709551615) (g : length was ≤ 18446744073709551615) where
-  pub numbers-start : Along (after (numbers l)) (after (numbers (drop 0 l))) was at was at 0 (length l)
-  numbers-start = record { near = omega arith; print = printing-start (after (numbers l)) (after (numbers (drop 0 l))) was at refl h g }
-
-  pub entries-start : Along (after (entryItems (entriesOf l))) (after (entryItems (entriesOf (drop 0 l)))) was at was at 0 (length l)
-  entries-start = record { near = omega arith; print = printing-start (after (entryItems (entriesOf l))) (after (entryItems (entriesOf (drop 0 l)))) was at refl h g }
+pub along-start : (f : List ℕ → List ℕ) (l was : List ℕ) (at : ℕ) → at ≤ 18446744073709551615 → length was ≤ 18446744073709551615 → Along (f l) (f (drop 0 l)) was at was at 0 (length l)
+along-start f l was at h g = record { near = omega arith; print = printing-start (f l) (f (drop 0 l)) was at refl h g }
 
 module _ (l was is : List ℕ) (at next i : ℕ) (p : Along (after (numbers l)) (after (numbers (drop i l))) was at is next i (length l)) where
   pub numbers-on : (x : ℕ) (out : List ℕ) (then : ℕ) → i < length l → x ≡ getD l i 0 → Written is next (44 ∷ digits x) out then
@@ -77,28 +76,49 @@ module _ (l was is : List ℕ) (at next i : ℕ) (p : Along (after (entryItems (
 -- ---- one value
 
 module _ (was is : List ℕ) (at next : ℕ) (s : Shape) (l : List ℕ) where
-  pub said-true : (b : Bool) → s ≡ Boolˢ b → b ≡ true → Written was at (98 ∷ 111 ∷ 111 ∷ 108 ∷ 44 ∷ 49 ∷ []) is next → Written was at (commas (valueItems (shapeRow s l))) is next
-  said-true b e h w = written-as w (rw (e, h))
+  items-as : (x : Shape) → s ≡ x → Written was at (after (drop 1 (valueItems (shapeRow x l)))) is next → Written was at (after (drop 1 (valueItems (shapeRow s l)))) is next
+  items-as x e w = written-as w (ap (λ (y : Shape). after (drop 1 (valueItems (shapeRow y l)))) (sym e))
 
-  pub said-false : (b : Bool) → s ≡ Boolˢ b → b ≡ false → Written was at (98 ∷ 111 ∷ 111 ∷ 108 ∷ 44 ∷ 48 ∷ []) is next → Written was at (commas (valueItems (shapeRow s l))) is next
-  said-false b e h w = written-as w (rw (e, h))
+  items-bool : (b : Bool) (n : ℕ) → s ≡ Boolˢ b → bit b ≡ n → Written was at (44 ∷ digits n) is next → Written was at (after (drop 1 (valueItems (shapeRow s l)))) is next
+  items-bool b n e h w = items-as (Boolˢ b) e (written-as w (ap (λ (x : ℕ). 44 ∷ digits x) (sym h) ∙ sym (append-nil (44 ∷ digits (bit b)))))
 
-  pub said-long : (x : ℕ) (mid : List ℕ) (m : ℕ) → s ≡ Long x → Written was at (108 ∷ 111 ∷ 110 ∷ 103 ∷ 44 ∷ []) mid m → Written mid m (signed (longAt x)) is next → Written was at (commas (valueItems (shapeRow s l))) is next
-  said-long x mid m e v w = written-as (written-append v w) (rw e)
+  pub items-true : (b : Bool) → s ≡ Boolˢ b → b ≡ true → Written was at (44 ∷ digits 1) is next → Written was at (after (drop 1 (valueItems (shapeRow s l)))) is next
+  items-true b e h w = items-bool b 1 e (ap bit h) w
 
-  pub said-text : (t : ℕ) (mid : List ℕ) (m : ℕ) → s ≡ Text t → Written was at (116 ∷ 101 ∷ 120 ∷ 116 ∷ []) mid m → Written mid m (44 ∷ digits t) is next → Written was at (commas (valueItems (shapeRow s l))) is next
-  said-text t mid m e v w = written-as (written-append v w) (rw e)
+  pub items-false : (b : Bool) → s ≡ Boolˢ b → b ≡ false → Written was at (44 ∷ digits 0) is next → Written was at (after (drop 1 (valueItems (shapeRow s l)))) is next
+  items-false b e h w = items-bool b 0 e (ap bit h) w
 
-  pub said-entity : (k t : ℕ) (w₁ w₂ : List ℕ) (k₁ k₂ : ℕ) → s ≡ Entity k t → Written was at (101 ∷ 110 ∷ 116 ∷ 105 ∷ 116 ∷ 121 ∷ []) w₁ k₁ → Written w₁ k₁ (44 ∷ digits k) w₂ k₂ → Written w₂ k₂ (44 ∷ digits t) is next
-      → Written was at (commas (valueItems (shapeRow s l))) is next
-  said-entity k t w₁ w₂ k₁ k₂ e u v w = written-as (written-append u (written-append v w)) (rw e)
+  pub items-long : (x : ℕ) (mid : List ℕ) (m : ℕ) → s ≡ Long x → Written was at (44 ∷ []) mid m → Written mid m (signed (longAt x)) is next → Written was at (after (drop 1 (valueItems (shapeRow s l)))) is next
+  items-long x mid m e v w = items-as (Long x) e (written-as (written-append v w) (sym (append-nil (44 ∷ signed (longAt x)))))
 
-  pub said-set : (mid : List ℕ) (m : ℕ) → s ≡ Set → Written was at (115 ∷ 101 ∷ 116 ∷ []) mid m → Written mid m (after (numbers l)) is next → Written was at (commas (valueItems (shapeRow s l))) is next
-  said-set mid m e v w = written-as (written-append v w) (sym (ap (λ (x : Shape). commas (valueItems (shapeRow x l))) e ∙ commas-after (115 ∷ 101 ∷ 116 ∷ []) (numbers l)))
+  pub items-text : (t : ℕ) → s ≡ Text t → Written was at (44 ∷ digits t) is next → Written was at (after (drop 1 (valueItems (shapeRow s l)))) is next
+  items-text t e w = items-as (Text t) e (written-as w (sym (append-nil (44 ∷ digits t))))
 
-  pub said-record : (mid : List ℕ) (m : ℕ) → s ≡ Record → Written was at (114 ∷ 101 ∷ 99 ∷ 111 ∷ 114 ∷ 100 ∷ []) mid m → Written mid m (after (entryItems (entriesOf l))) is next
-      → Written was at (commas (valueItems (shapeRow s l))) is next
-  said-record mid m e v w = written-as (written-append v w) (sym (ap (λ (x : Shape). commas (valueItems (shapeRow x l))) e ∙ commas-after (114 ∷ 101 ∷ 99 ∷ 111 ∷ 114 ∷ 100 ∷ []) (entryItems (entriesOf l))))
+  pub items-entity : (k t : ℕ) (mid : List ℕ) (m : ℕ) → s ≡ Entity k t → Written was at (44 ∷ digits k) mid m → Written mid m (44 ∷ digits t) is next → Written was at (after (drop 1 (valueItems (shapeRow s l)))) is next
+  items-entity k t mid m e v w = items-as (Entity k t) e (written-as (written-append v w) (ap (λ (x : List ℕ). (44 ∷ digits k) ++ x) (sym (append-nil (44 ∷ digits t)))))
+
+  pub items-set : s ≡ Set → Written was at (after (numbers l)) is next → Written was at (after (drop 1 (valueItems (shapeRow s l)))) is next
+  items-set e w = items-as Set e w
+
+  pub items-record : s ≡ Record → Written was at (after (entryItems (entriesOf l))) is next → Written was at (after (drop 1 (valueItems (shapeRow s l)))) is next
+  items-record e w = items-as Record e w
+
+-- a shape's name
+pub shaped : (s x : Shape) (q : List ℕ) → s ≡ x → q ≡ getD (valueItems (shapeRow x [])) 0 [] → q ≡ getD (valueItems (shapeRow s [])) 0 []
+shaped s x q e p = p ∙ ap (λ (y : Shape). getD (valueItems (shapeRow y [])) 0 []) (sym e)
+
+-- and the items after it
+name-items : (s : Shape) (l : List ℕ) → getD (valueItems (shapeRow s [])) 0 [] ++ after (drop 1 (valueItems (shapeRow s l))) ≡ commas (valueItems (shapeRow s l))
+name-items (Boolˢ b) l = sym (commas-after (ascii "bool") (digits (bit b) ∷ []))
+name-items (Long w) l = sym (commas-after (ascii "long") (signed (longAt w) ∷ []))
+name-items (Text t) l = sym (commas-after (ascii "text") (digits t ∷ []))
+name-items (Entity k t) l = sym (commas-after (ascii "entity") (digits k ∷ digits t ∷ []))
+name-items Set l = sym (commas-after (ascii "set") (numbers l))
+name-items Record l = sym (commas-after (ascii "record") (entryItems (entriesOf l)))
+
+pub said-is : (was mid is : List ℕ) (at m next : ℕ) (s : Shape) (l q : List ℕ) → unpadded q ≡ getD (valueItems (shapeRow s [])) 0 [] → Written was at (unpadded q) mid m
+    → Written mid m (after (drop 1 (valueItems (shapeRow s l)))) is next → Written was at (commas (valueItems (shapeRow s l))) is next
+said-is was mid is at m next s l q e v w = written-as (written-append v w) (ap (λ (x : List ℕ). x ++ after (drop 1 (valueItems (shapeRow s l)))) e ∙ name-items s l)
 
 pub value-line : (was is : List ℕ) (at next : ℕ) (r l : List ℕ) (s : Shape) (w₁ w₂ : List ℕ) (k₁ k₂ : ℕ) → s ≡ shapeOf r → l ≡ items r → Written was at (118 ∷ 97 ∷ 108 ∷ 117 ∷ 101 ∷ 61 ∷ []) w₁ k₁
     → Written w₁ k₁ (commas (valueItems (shapeRow s l))) w₂ k₂ → Written w₂ k₂ (10 ∷ []) is next → Written was at (valueLine r) is next
@@ -110,22 +130,18 @@ value-line was is at next r l s w₁ w₂ k₁ k₂ es el u v w =
 -- ---- all of them
 
 abbrev pub madeFrom : List ℕ → ℕ → List ℕ
-madeFrom a i = concat (valueLines (rowsIn (drop i (rowsOf a 13))))
+madeFrom a i = concat (valueLines (rowsIn (drop i (rowsOf a MADE))))
 
-module _ (a : List ℕ) (n : ℕ) (en : n ≡ getD a 13 0) where
-  many : n ≡ length (rowsOf a 13)
-  many = en ∙ sym (count-rows a 13)
-
-  pub made-start : (was : List ℕ) (at : ℕ) → at ≤ 18446744073709551615 → length was ≤ 18446744073709551615 → Printing (madeLines a) (madeFrom a 0) was at was at
-  unfolding madeLines
-  made-start was at h l = printing-start (madeLines a) (madeFrom a 0) was at refl h l
+module _ (a : List ℕ) (n : ℕ) (en : n ≡ getD a MADE 0) where
+  many : n ≡ length (rowsOf a MADE)
+  many = en ∙ sym (count-rows a MADE)
 
   module _ (i : ℕ) (was is : List ℕ) (at next : ℕ) (p : Printing (madeLines a) (madeFrom a i) was at is next) where
-    pub made-on : (r out : List ℕ) (then : ℕ) → i < n → r ≡ getD (rowsOf a 13) i [] → Written is next (valueLine r) out then → Printing (madeLines a) (madeFrom a (i + 1)) was at out then
+    pub made-on : (r out : List ℕ) (then : ℕ) → i < n → r ≡ getD (rowsOf a MADE) i [] → Written is next (valueLine r) out then → Printing (madeLines a) (madeFrom a (i + 1)) was at out then
     unfolding valueLine
     made-on r out then h e w =
         printing-on p (valueLine r) (madeFrom a (i + 1)) out then
-        (ap (λ (q : List (List ℕ)). concat (valueLines (rowsIn q))) (uncons (rowsOf a 13) [] i (omega (arith, many))) ∙ ap (λ (q : List ℕ). valueLine q ++ madeFrom a (i + 1)) (sym e)) w
+        (ap (λ (q : List (List ℕ)). concat (valueLines (rowsIn q))) (uncons (rowsOf a MADE) [] i (omega (arith, many))) ∙ ap (λ (q : List ℕ). valueLine q ++ madeFrom a (i + 1)) (sym e)) w
 
     pub made-end : n ≤ i → Written was at (madeLines a) is next
-    made-end h = printing-end p (rw (spent (rowsOf a 13) i (omega (arith, many))))
+    made-end h = printing-end p (rw (spent (rowsOf a MADE) i (omega (arith, many))))

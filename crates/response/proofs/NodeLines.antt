@@ -4,20 +4,18 @@ use mathlib.Core.Bool.{Bool, true, false, cond, _||_}
 use mathlib.Core.List.{List, [], _∷_, _++_, append-nil, append-assoc}
 use Prim.Native.Nat.{ℕ, zero, suc, _+_, _-_, _/_, _≤_, _<_}
 use native.Mathlib.Omega.{arith}
-use native.Mathlib.Decide.{decLe, decLt}
+use native.Mathlib.Decide.{decLe}
 use borrow.Author.Tests.{eq-eqb, ne-eqb, lt-ltb, le-ltb, le-leb, lt-leb}
 use lib.Dec.{leb, ltb}
-use lib.ListN.{length, getD, take, drop, length-drop, drop-of-length-le, List·getD-eq-default}
+use lib.ListN.{length, getD, take, drop, length-drop, drop-of-length-le}
 use lib.Seq.{take-all, drop-drop}
-use Rattle.cedar.specs.Numbered.{memN}
-use Rattle.cedar.proofs.Tools.{no-true}
 use Rattle.sheet.specs.Ascii.{ascii}
 use Rattle.sheet.specs.Bytes.{digits}
-use Rattle.sheet.specs.Forms.{Form, forms, formOf, noForm, lineOr, tag, items, at}
+use Rattle.sheet.specs.Forms.{lineOr, tag, items, at, TEXT, TYPE, NODE, firstType, mark, asterisk}
 use Rattle.sheet.specs.State.{typeRow}
 use Rattle.sheet.specs.Answer.{concat, numbers, itemOut, headLines}
+use Rattle.forms.specs.Tags.{VAR, IS, LIKE, GET, HAS, HASPATH, RECORD-OF, BOOL-TYPE, RECORD-TYPE}
 use Rattle.table.specs.Layout.{rowsOf}
-use Rattle.table.proofs.Counts.{ranged, NoneOf, none-of}
 use Rattle.table.proofs.Rows.{count-rows}
 use Rattle.residual.specs.Rows.{wordAt, stageAt, startAt}
 use Rattle.residual.specs.declared.Stage.{Stage}
@@ -29,7 +27,8 @@ use Rattle.print.proofs.Writing.{written-none, written-append, written-as}
 use Rattle.response.specs.Verdicts.{verdictsIn}
 use Rattle.response.specs.Printed.{rootedLines}
 use Rattle.response.specs.Values.{after, madeLines}
-use Rattle.response.specs.Nodes.{numberOf, childrenBy, childrenTo, fieldsTo, opName, letter, pieces, restItems, leftItems, leftSaid, leftAt, saidAs, saidAt, saysBool, boolLine, typeIn, nodeLine, linesBy, logLines, partialBytes}
+use Rattle.response.specs.Names.{unpadded, opName}
+use Rattle.response.specs.Nodes.{numberOf, childrenBy, childrenTo, fieldsTo, letter, pieces, restItems, leftItems, leftSaid, leftAt, saidAs, saidAt, saysBool, boolLine, typeIn, nodeLine, linesBy, logLines, partialBytes}
 use Rattle.response.proofs.Printing.{printing-start, printing-on, printing-end}
 use Rattle.response.proofs.Made.{Along, commas-after}
 
@@ -140,75 +139,23 @@ fields-more was w₁ w₂ is r l at k₁ k₂ next i start p q t x g h eq et ex 
     ∙ sym (after-two (fieldsTo r (i - 2) l start (startAt l p)) (getD r (i - 2) 0) (numberOf p))
     ∙ ap (λ (y : List ℕ). after (numbers y)) (sym (fields-back r l start i p g h)))
 
--- ---- names
-
-name-less : (t : ℕ) → t < 21 → [] ≡ ascii (opName t)
-unfolding opName
-name-less t h = rw (lt-ltb t 21 h)
-
-name-over : (t : ℕ) → 48 < t → [] ≡ ascii (opName t)
-unfolding opName formOf forms
-name-over t h = rw (le-ltb t 21 (omega arith)) (go (decLt 49 t))
-  where
-    go : Dec (49 < t) → [] ≡ ascii (getD forms t noForm .name)
-    go (yes d) = ap (λ (f : Form). ascii (f .name)) (sym (List·getD-eq-default forms noForm d))
-    go (no d) = let z : t ≡ 49 = omega arith in rw z
-
--- the forms of nodes, the last first
-abbrev pub opNumbers : List ℕ
-opNumbers = 48 ∷ 47 ∷ 46 ∷ 45 ∷ 44 ∷ 43 ∷ 42 ∷ 41 ∷ 40 ∷ 39 ∷ 38 ∷ 37 ∷ 36 ∷ 35 ∷ 34 ∷ 33 ∷ 32 ∷ 31 ∷ 30 ∷ 29 ∷ 28 ∷ 27 ∷ 26 ∷ 25 ∷ 24 ∷ 23 ∷ 22 ∷ 21 ∷ []
-
-no-name : (t : ℕ) → NoneOf opNumbers t → [] ≡ ascii (opName t)
-no-name t d = go (decLt t 21) (decLt 48 t)
-  where
-    go : Dec (t < 21) → Dec (48 < t) → [] ≡ ascii (opName t)
-    go (yes h) e = name-less t h
-    go (no g) (yes h) = name-over t h
-    go (no g) (no h) = no-true (sym (none-of opNumbers t d) ∙ ranged (λ (i : ℕ). memN i opNumbers) 21 28 refl t (omega arith) (omega arith))
-
-pub name-none : (was : List ℕ) (at t : ℕ) → at ≤ 18446744073709551615 → length was ≤ 18446744073709551615 → NoneOf opNumbers t → Written was at (ascii (opName t)) was at
-name-none was at t a b d = written-as (written-none was at a b) (no-name t d)
-
--- the bytes of a name that the code knows, by its number
-pub name-known : (was is q : List ℕ) (at next t n : ℕ) → t ≡ n → q ≡ ascii (opName n) → Written was at q is next → Written was at (ascii (opName t)) is next
-name-known was is q at next t n e p w = written-as w (p ∙ ap (λ (j : ℕ). ascii (opName j)) (sym e))
-
 -- ---- a variable, a pattern, a path
 
 module _ (was is : List ℕ) (at next : ℕ) where
-  pub var-zero : (x : ℕ) → x ≡ 0 → Written was at (44 ∷ 112 ∷ []) is next → Written was at (44 ∷ letter x) is next
-  var-zero x e w = written-as w (rw e)
+  pub piece-star : (x : ℕ) → x ≡ mark → Written was at (44 ∷ 42 ∷ []) is next → Written was at (44 ∷ itemOut (lineOr asterisk TEXT) x) is next
+  piece-star x e w = written-as w (rw (eq-eqb x mark e))
 
-  pub var-one : (x : ℕ) → x ≡ 1 → Written was at (44 ∷ 97 ∷ []) is next → Written was at (44 ∷ letter x) is next
-  var-one x e w = written-as w (rw e)
-
-  pub var-two : (x : ℕ) → x ≡ 2 → Written was at (44 ∷ 114 ∷ []) is next → Written was at (44 ∷ letter x) is next
-  var-two x e w = written-as w (rw e)
-
-  pub var-more : (x : ℕ) → (x ≡ 0 → ⊥) → (x ≡ 1 → ⊥) → (x ≡ 2 → ⊥) → Written was at (44 ∷ 99 ∷ []) is next → Written was at (44 ∷ letter x) is next
-  var-more zero e f g w = absurd (e refl)
-  var-more (suc zero) e f g w = absurd (f refl)
-  var-more (suc (suc zero)) e f g w = absurd (g refl)
-  var-more (suc (suc (suc x))) e f g w = w
-
-  pub piece-star : (x : ℕ) → x ≡ 10000 → Written was at (44 ∷ 42 ∷ []) is next → Written was at (44 ∷ itemOut (lineOr 42 1) x) is next
-  piece-star x e w = written-as w (rw (eq-eqb x 10000 e))
-
-  pub piece-text : (x : ℕ) → (x ≡ 10000 → ⊥) → Written was at (44 ∷ digits x) is next → Written was at (44 ∷ itemOut (lineOr 42 1) x) is next
-  piece-text x e w = written-as w (rw (ne-eqb x 10000 e))
-
-module _ (l was : List ℕ) (at : ℕ) (h : at ≤ 18446744073709551615) (g : length was ≤ 18446744073709551615) where
-  pub pattern-start : Along (after (pieces l)) (after (pieces (drop 0 l))) was at was at 0 (length l)
-  pattern-start = record { near = omega arith; print = printing-start (after (pieces l)) (after (pieces (drop 0 l))) was at refl h g }
+  pub piece-text : (x : ℕ) → (x ≡ mark → ⊥) → Written was at (44 ∷ digits x) is next → Written was at (44 ∷ itemOut (lineOr asterisk TEXT) x) is next
+  piece-text x e w = written-as w (rw (ne-eqb x mark e))
 
 module _ (l was is : List ℕ) (at next i : ℕ) (p : Along (after (pieces l)) (after (pieces (drop i l))) was at is next i (length l)) where
-  pub pattern-on : (x : ℕ) (out : List ℕ) (then : ℕ) → i < length l → x ≡ getD l i 0 → Written is next (44 ∷ itemOut (lineOr 42 1) x) out then
+  pub pattern-on : (x : ℕ) (out : List ℕ) (then : ℕ) → i < length l → x ≡ getD l i 0 → Written is next (44 ∷ itemOut (lineOr asterisk TEXT) x) out then
       → Along (after (pieces l)) (after (pieces (drop (i + 1) l))) was at out then (i + 1) (length l)
   pattern-on x out then h e w =
       record {
         near = omega arith;
-        print = printing-on (p .print) (44 ∷ itemOut (lineOr 42 1) (getD l i 0)) (after (pieces (drop (i + 1) l))) out then (ap (λ (m : List ℕ). after (pieces m)) (uncons l 0 i h))
-            (written-as w (ap (λ (y : ℕ). 44 ∷ itemOut (lineOr 42 1) y) e));
+        print = printing-on (p .print) (44 ∷ itemOut (lineOr asterisk TEXT) (getD l i 0)) (after (pieces (drop (i + 1) l))) out then (ap (λ (m : List ℕ). after (pieces m)) (uncons l 0 i h))
+            (written-as w (ap (λ (y : ℕ). 44 ∷ itemOut (lineOr asterisk TEXT) y) e));
       }
 
   pub pattern-end : length l ≤ i → Written was at (after (pieces l)) is next
@@ -231,23 +178,23 @@ module _ (was is : List ℕ) (at next t : ℕ) (r : List ℕ) (k : ℕ) (et : t 
   second-is : Written was at (44 ∷ digits (getD r 3 0)) is next → Written was at (after (digits (getD r 3 0) ∷ [])) is next
   second-is w = written-as w (sym (append-nil (44 ∷ digits (getD r 3 0))))
 
-  pub rest-is : t ≡ 39 → Written was at (44 ∷ digits (getD r 3 0)) is next → Written was at (after (restItems (tag r) r k)) is next
+  pub rest-is : t ≡ IS → Written was at (44 ∷ digits (getD r 3 0)) is next → Written was at (after (restItems (tag r) r k)) is next
   unfolding restItems
   rest-is e w = written-as (second-is w) (rw (← et, e))
 
-  pub rest-get : t ≡ 41 → Written was at (44 ∷ digits (getD r 3 0)) is next → Written was at (after (restItems (tag r) r k)) is next
+  pub rest-get : t ≡ GET → Written was at (44 ∷ digits (getD r 3 0)) is next → Written was at (after (restItems (tag r) r k)) is next
   unfolding restItems
   rest-get e w = written-as (second-is w) (rw (← et, e))
 
-  pub rest-has : t ≡ 42 → Written was at (44 ∷ digits (getD r 3 0)) is next → Written was at (after (restItems (tag r) r k)) is next
+  pub rest-has : t ≡ HAS → Written was at (44 ∷ digits (getD r 3 0)) is next → Written was at (after (restItems (tag r) r k)) is next
   unfolding restItems
   rest-has e w = written-as (second-is w) (rw (← et, e))
 
-  pub rest-like : (q : List ℕ) → t ≡ 40 → q ≡ drop 3 r → Written was at (after (pieces q)) is next → Written was at (after (restItems (tag r) r k)) is next
+  pub rest-like : (q : List ℕ) → t ≡ LIKE → q ≡ drop 3 r → Written was at (after (pieces q)) is next → Written was at (after (restItems (tag r) r k)) is next
   unfolding restItems
   rest-like q e f w = written-as w (ap (λ (x : List ℕ). after (pieces x)) (f ∙ sym (drop-drop 2 1 r)) ∙ rw (← et, e))
 
-  pub rest-path : t ≡ 43 → Written was at (after (digits (getD r (3 + k) 0) ∷ numbers (drop (4 + k) r))) is next → Written was at (after (restItems (tag r) r k)) is next
+  pub rest-path : t ≡ HASPATH → Written was at (after (digits (getD r (3 + k) 0) ∷ numbers (drop (4 + k) r))) is next → Written was at (after (restItems (tag r) r k)) is next
   unfolding restItems
   rest-path e w =
       let a : 3 + k ≡ suc (2 + k) = omega arith in
@@ -256,38 +203,38 @@ module _ (was is : List ℕ) (at next t : ℕ) (r : List ℕ) (k : ℕ) (et : t 
       written-as w (rw (← et, e) (ap₂ (λ (i : ℕ) (l : List ℕ). (44 ∷ digits (getD r i 0)) ++ after (numbers l)) a d))
 
 pub rest-over : (was : List ℕ) (at t : ℕ) (r : List ℕ) (k : ℕ) → at ≤ 18446744073709551615 → length was ≤ 18446744073709551615 → t ≡ tag r
-    → (t ≡ 39 → ⊥) → (t ≡ 40 → ⊥) → (t ≡ 41 → ⊥) → (t ≡ 42 → ⊥) → (t ≡ 43 → ⊥) → Written was at (after (restItems (tag r) r k)) was at
+    → (t ≡ IS → ⊥) → (t ≡ LIKE → ⊥) → (t ≡ GET → ⊥) → (t ≡ HAS → ⊥) → (t ≡ HASPATH → ⊥) → Written was at (after (restItems (tag r) r k)) was at
 unfolding restItems
-rest-over was at t r k h l et a b c d e = written-as (written-none was at h l) (rw (← et, ne-eqb t 39 a, ne-eqb t 41 c, ne-eqb t 42 d, ne-eqb t 40 b, ne-eqb t 43 e))
+rest-over was at t r k h l et a b c d e = written-as (written-none was at h l) (rw (← et, ne-eqb t IS a, ne-eqb t GET c, ne-eqb t HAS d, ne-eqb t LIKE b, ne-eqb t HASPATH e))
 
 module _ (was is : List ℕ) (at next t : ℕ) (r : List ℕ) (k : ℕ) (cs fs : List ℕ) (et : t ≡ tag r) where
-  pub items-var : (x : ℕ) → t ≡ 23 → x ≡ getD r 2 0 → Written was at (44 ∷ letter x) is next → Written was at (after (leftItems (tag r) r k cs fs)) is next
+  pub items-var : (x : ℕ) → t ≡ VAR → x ≡ getD r 2 0 → Written was at (44 ∷ letter x) is next → Written was at (after (leftItems (tag r) r k cs fs)) is next
   unfolding leftItems
   items-var x e f w = written-as w (rw (← et, e) (ap (λ (y : ℕ). 44 ∷ letter y) f ∙ sym (append-nil (44 ∷ letter (getD r 2 0)))))
 
-  pub items-record : t ≡ 48 → Written was at (after (numbers fs)) is next → Written was at (after (leftItems (tag r) r k cs fs)) is next
+  pub items-record : t ≡ RECORD-OF → Written was at (after (numbers fs)) is next → Written was at (after (leftItems (tag r) r k cs fs)) is next
   unfolding leftItems
   items-record e w = written-as w (rw (← et, e))
 
-  pub items-others : (mid : List ℕ) (m : ℕ) → (t ≡ 23 → ⊥) → (t ≡ 48 → ⊥) → Written was at (after (numbers cs)) mid m → Written mid m (after (restItems (tag r) r k)) is next
+  pub items-others : (mid : List ℕ) (m : ℕ) → (t ≡ VAR → ⊥) → (t ≡ RECORD-OF → ⊥) → Written was at (after (numbers cs)) mid m → Written mid m (after (restItems (tag r) r k)) is next
       → Written was at (after (leftItems (tag r) r k cs fs)) is next
   unfolding leftItems
   items-others mid m a b v w =
-      written-as (written-append v w) (rw (← et, ne-eqb t 23 a, ne-eqb t 48 b) (sym (after-append (numbers cs) (restItems t r k))))
+      written-as (written-append v w) (rw (← et, ne-eqb t VAR a, ne-eqb t RECORD-OF b) (sym (after-append (numbers cs) (restItems t r k))))
 
-pub left-said : (was w₁ w₂ is : List ℕ) (at k₁ k₂ next : ℕ) (r : List ℕ) (k : ℕ) (l : List ℕ) (start p t : ℕ) → t ≡ tag r → Written was at (44 ∷ []) w₁ k₁ → Written w₁ k₁ (ascii (opName t)) w₂ k₂
+pub left-said : (was w₁ w₂ is : List ℕ) (at k₁ k₂ next : ℕ) (r : List ℕ) (k : ℕ) (l : List ℕ) (start p t : ℕ) (q : List ℕ) → t ≡ tag r → unpadded q ≡ ascii (opName t) → Written was at (44 ∷ []) w₁ k₁ → Written w₁ k₁ (unpadded q) w₂ k₂
     → Written w₂ k₂ (after (leftItems (tag r) r k (childrenTo l start p) (fieldsTo r (length r) l start p))) is next → Written was at (after (leftSaid r k l start p)) is next
-left-said was w₁ w₂ is at k₁ k₂ next r k l start p t e u v w =
+left-said was w₁ w₂ is at k₁ k₂ next r k l start p t q e n u v w =
     written-as (written-append u (written-append v w))
-    (ap (λ (i : ℕ). 44 ∷ (ascii (opName i) ++ after (leftItems (tag r) r k (childrenTo l start p) (fieldsTo r (length r) l start p)))) e)
+    (ap (λ (x : List ℕ). 44 ∷ (x ++ after (leftItems (tag r) r k (childrenTo l start p) (fieldsTo r (length r) l start p)))) (n ∙ ap (λ (i : ℕ). ascii (opName i)) e))
 
-pub left-at : (was is : List ℕ) (at next : ℕ) (a l : List ℕ) (e x t k s p : ℕ) (r : List ℕ) → x ≡ wordAt l e 1 → r ≡ getD (rowsOf a 11) x [] → t ≡ wordAt l e 0 → k ≡ t - 2 → s ≡ startAt l e → p ≡ e - 4
-    → Written was at (after (leftSaid r k l s p)) is next → Written was at (after (leftAt (rowsOf a 11) l e)) is next
+pub left-at : (was is : List ℕ) (at next : ℕ) (a l : List ℕ) (e x t k s p : ℕ) (r : List ℕ) → x ≡ wordAt l e 1 → r ≡ getD (rowsOf a NODE) x [] → t ≡ wordAt l e 0 → k ≡ t - 2 → s ≡ startAt l e → p ≡ e - 4
+    → Written was at (after (leftSaid r k l s p)) is next → Written was at (after (leftAt (rowsOf a NODE) l e)) is next
 unfolding leftAt
 left-at was is at next a l e x t k s p r ex er et ek es ep w =
     written-as w
-    (ap₂ (λ (i : List ℕ) (j : ℕ). after (leftSaid i j l s p)) (er ∙ ap (λ (i : ℕ). getD (rowsOf a 11) i []) ex) (ek ∙ ap (λ (i : ℕ). i - 2) et)
-    ∙ ap₂ (λ (i j : ℕ). after (leftSaid (getD (rowsOf a 11) (wordAt l e 1) []) (wordAt l e 0 - 2) l i j)) es ep)
+    (ap₂ (λ (i : List ℕ) (j : ℕ). after (leftSaid i j l s p)) (er ∙ ap (λ (i : ℕ). getD (rowsOf a NODE) i []) ex) (ek ∙ ap (λ (i : ℕ). i - 2) et)
+    ∙ ap₂ (λ (i j : ℕ). after (leftSaid (getD (rowsOf a NODE) (wordAt l e 1) []) (wordAt l e 0 - 2) l i j)) es ep)
 
 module _ (was is : List ℕ) (at next : ℕ) (nodes : List (List ℕ)) (l : List ℕ) (e : ℕ) (s : Stage) (es : s ≡ stageAt l e) where
   said-as : after (saidAs nodes l e s) ≡ after (saidAt nodes l e)
@@ -307,10 +254,10 @@ module _ (was is : List ℕ) (at next : ℕ) (nodes : List (List ℕ)) (l : List
 
 -- ---- a type
 
-bool-tag : (r : List ℕ) → (leb (tag r) 3 || ltb 8 (tag r)) ≡ saysBool (typeRow r)
+bool-tag : (r : List ℕ) → (leb (tag r) BOOL-TYPE || ltb RECORD-TYPE (tag r)) ≡ saysBool (typeRow r)
 bool-tag r = go (tag r) refl
   where
-    go : (t : ℕ) → tag r ≡ t → (leb t 3 || ltb 8 t) ≡ saysBool (typeRow r)
+    go : (t : ℕ) → tag r ≡ t → (leb t BOOL-TYPE || ltb RECORD-TYPE t) ≡ saysBool (typeRow r)
     go zero e = rw e
     go (suc zero) e = rw e
     go (suc (suc zero)) e = rw e
@@ -322,75 +269,75 @@ bool-tag r = go (tag r) refl
     go (suc (suc (suc (suc (suc (suc (suc (suc zero)))))))) e = rw e
     go (suc (suc (suc (suc (suc (suc (suc (suc (suc t))))))))) e =
         let n : ℕ = suc (suc (suc (suc (suc (suc (suc (suc (suc t)))))))) in
-        let z : n - 3 ≡ suc (suc (suc (suc (suc (suc t))))) = omega arith in
-        rw (e, lt-leb n 3 (omega arith), lt-ltb 8 n (omega arith), z)
+        let z : n - firstType ≡ suc (suc (suc (suc (suc (suc t))))) = omega arith in
+        rw (e, lt-leb n BOOL-TYPE (omega arith), lt-ltb RECORD-TYPE n (omega arith), z)
 
-pub says-low : (t : ℕ) → t ≤ 3 → true ≡ (leb t 3 || ltb 8 t)
-says-low t h = rw (le-leb t 3 h)
+pub says-low : (t : ℕ) → t ≤ BOOL-TYPE → true ≡ (leb t BOOL-TYPE || ltb RECORD-TYPE t)
+says-low t h = rw (le-leb t BOOL-TYPE h)
 
-pub says-high : (t : ℕ) → 3 < t → ltb 8 t ≡ (leb t 3 || ltb 8 t)
-says-high t h = rw (lt-leb t 3 h)
+pub says-high : (t : ℕ) → BOOL-TYPE < t → ltb RECORD-TYPE t ≡ (leb t BOOL-TYPE || ltb RECORD-TYPE t)
+says-high t h = rw (lt-leb t BOOL-TYPE h)
 
 -- the lines before place i do not say bool
 pub record Seeking (a : List ℕ) (i n : ℕ) : Type 0 where
   pub near : i ≤ n
-  pub left : boolLine (rowsOf a 3) ≡ i + boolLine (drop i (rowsOf a 3))
+  pub left : boolLine (rowsOf a TYPE) ≡ i + boolLine (drop i (rowsOf a TYPE))
 
 pub seek-start : (a : List ℕ) (n : ℕ) → Seeking a 0 n
 seek-start a n = record { near = omega arith; left = omega arith }
 
-module _ (a : List ℕ) (n : ℕ) (en : n ≡ getD a 3 0) where
-  many : n ≡ length (rowsOf a 3)
-  many = en ∙ sym (count-rows a 3)
+module _ (a : List ℕ) (n : ℕ) (en : n ≡ getD a TYPE 0) where
+  many : n ≡ length (rowsOf a TYPE)
+  many = en ∙ sym (count-rows a TYPE)
 
   module _ (i : ℕ) (s : Seeking a i n) where
-    pub seek-end : n ≤ i → n ≡ boolLine (rowsOf a 3)
+    pub seek-end : n ≤ i → n ≡ boolLine (rowsOf a TYPE)
     unfolding boolLine
     seek-end h =
-        let z : boolLine (drop i (rowsOf a 3)) ≡ 0 = ap boolLine (spent (rowsOf a 3) i (omega (arith, many))) in
+        let z : boolLine (drop i (rowsOf a TYPE)) ≡ 0 = ap boolLine (spent (rowsOf a TYPE) i (omega (arith, many))) in
         omega (arith, s .near, s .left)
 
-    module _ (h : i < n) (r : List ℕ) (er : r ≡ getD (rowsOf a 3) i []) (t : ℕ) (et : t ≡ tag r) (b : Bool) (eb : b ≡ (leb t 3 || ltb 8 t)) where
-      seen : b ≡ saysBool (typeRow (getD (rowsOf a 3) i []))
-      seen = eb ∙ ap (λ (x : ℕ). leb x 3 || ltb 8 x) et ∙ bool-tag r ∙ ap (λ (x : List ℕ). saysBool (typeRow x)) er
+    module _ (h : i < n) (r : List ℕ) (er : r ≡ getD (rowsOf a TYPE) i []) (t : ℕ) (et : t ≡ tag r) (b : Bool) (eb : b ≡ (leb t BOOL-TYPE || ltb RECORD-TYPE t)) where
+      seen : b ≡ saysBool (typeRow (getD (rowsOf a TYPE) i []))
+      seen = eb ∙ ap (λ (x : ℕ). leb x BOOL-TYPE || ltb RECORD-TYPE x) et ∙ bool-tag r ∙ ap (λ (x : List ℕ). saysBool (typeRow x)) er
 
-      from-here : boolLine (drop i (rowsOf a 3)) ≡ cond b 0 (suc (boolLine (drop (i + 1) (rowsOf a 3))))
+      from-here : boolLine (drop i (rowsOf a TYPE)) ≡ cond b 0 (suc (boolLine (drop (i + 1) (rowsOf a TYPE))))
       unfolding boolLine
-      from-here = ap boolLine (uncons (rowsOf a 3) [] i (omega (arith, many))) ∙ ap (λ (x : Bool). cond x 0 (suc (boolLine (drop (i + 1) (rowsOf a 3))))) (sym seen)
+      from-here = ap boolLine (uncons (rowsOf a TYPE) [] i (omega (arith, many))) ∙ ap (λ (x : Bool). cond x 0 (suc (boolLine (drop (i + 1) (rowsOf a TYPE))))) (sym seen)
 
-      pub seek-hit : b ≡ true → i ≡ boolLine (rowsOf a 3)
+      pub seek-hit : b ≡ true → i ≡ boolLine (rowsOf a TYPE)
       seek-hit e =
-          let z : boolLine (drop i (rowsOf a 3)) ≡ 0 = from-here ∙ rw e in
+          let z : boolLine (drop i (rowsOf a TYPE)) ≡ 0 = from-here ∙ rw e in
           omega (arith, s .left)
 
       pub seek-on : b ≡ false → Seeking a (i + 1) n
       seek-on e =
-          let z : boolLine (drop i (rowsOf a 3)) ≡ suc (boolLine (drop (i + 1) (rowsOf a 3))) = from-here ∙ rw e in
+          let z : boolLine (drop i (rowsOf a TYPE)) ≡ suc (boolLine (drop (i + 1) (rowsOf a TYPE))) = from-here ∙ rw e in
           record { near = omega arith; left = omega (arith, s .left) }
 
-module _ (a : List ℕ) (n y : ℕ) (en : n ≡ getD a 3 0) where
-  count-is : n ≡ length (rowsOf a 3)
-  count-is = en ∙ sym (count-rows a 3)
+module _ (a : List ℕ) (n y : ℕ) (en : n ≡ getD a TYPE 0) where
+  count-is : n ≡ length (rowsOf a TYPE)
+  count-is = en ∙ sym (count-rows a TYPE)
 
-  pub type-there : y < n → y ≡ typeIn (rowsOf a 3) y
+  pub type-there : y < n → y ≡ typeIn (rowsOf a TYPE) y
   unfolding typeIn
   type-there h = rw (← count-is, lt-ltb y n h)
 
-  pub type-none : (x : ℕ) → n ≤ y → x ≡ boolLine (rowsOf a 3) → x ≡ typeIn (rowsOf a 3) y
+  pub type-none : (x : ℕ) → n ≤ y → x ≡ boolLine (rowsOf a TYPE) → x ≡ typeIn (rowsOf a TYPE) y
   unfolding typeIn
   type-none x h e = e ∙ rw (← count-is, le-ltb y n h)
 
 -- ---- lines
 
-pub node-line : (was w₁ w₂ w₃ is : List ℕ) (at k₁ k₂ k₃ next : ℕ) (a l : List ℕ) (e w y : ℕ) → w ≡ wordAt l e 3 → y ≡ typeIn (rowsOf a 3) w → Written was at (110 ∷ 111 ∷ 100 ∷ 101 ∷ []) w₁ k₁
-    → Written w₁ k₁ (61 ∷ digits y) w₂ k₂ → Written w₂ k₂ (after (saidAt (rowsOf a 11) l e)) w₃ k₃ → Written w₃ k₃ (10 ∷ []) is next → Written was at (nodeLine (rowsOf a 3) (rowsOf a 11) l e) is next
+pub node-line : (was w₁ w₂ w₃ is : List ℕ) (at k₁ k₂ k₃ next : ℕ) (a l : List ℕ) (e w y : ℕ) → w ≡ wordAt l e 3 → y ≡ typeIn (rowsOf a TYPE) w → Written was at (110 ∷ 111 ∷ 100 ∷ 101 ∷ []) w₁ k₁
+    → Written w₁ k₁ (61 ∷ digits y) w₂ k₂ → Written w₂ k₂ (after (saidAt (rowsOf a NODE) l e)) w₃ k₃ → Written w₃ k₃ (10 ∷ []) is next → Written was at (nodeLine (rowsOf a TYPE) (rowsOf a NODE) l e) is next
 unfolding nodeLine
 node-line was w₁ w₂ w₃ is at k₁ k₂ k₃ next a l e w y ew ey p q r s =
     written-as (written-append p (written-append q (written-append r s)))
-    (ap (λ (z : ℕ). (110 ∷ 111 ∷ 100 ∷ 101 ∷ []) ++ ((61 ∷ digits z) ++ (after (saidAt (rowsOf a 11) l e) ++ (10 ∷ [])))) (ey ∙ ap (typeIn (rowsOf a 3)) ew)
+    (ap (λ (z : ℕ). (110 ∷ 111 ∷ 100 ∷ 101 ∷ []) ++ ((61 ∷ digits z) ++ (after (saidAt (rowsOf a NODE) l e) ++ (10 ∷ [])))) (ey ∙ ap (typeIn (rowsOf a TYPE)) ew)
     ∙ ap (λ (z : List ℕ). (110 ∷ 111 ∷ 100 ∷ 101 ∷ 61 ∷ []) ++ z)
-    (sym (append-assoc (digits (typeIn (rowsOf a 3) (wordAt l e 3))) (after (saidAt (rowsOf a 11) l e)) (10 ∷ []))
-    ∙ ap (λ (z : List ℕ). z ++ (10 ∷ [])) (sym (commas-after (digits (typeIn (rowsOf a 3) (wordAt l e 3))) (saidAt (rowsOf a 11) l e)))))
+    (sym (append-assoc (digits (typeIn (rowsOf a TYPE) (wordAt l e 3))) (after (saidAt (rowsOf a NODE) l e)) (10 ∷ []))
+    ∙ ap (λ (z : List ℕ). z ++ (10 ∷ [])) (sym (commas-after (digits (typeIn (rowsOf a TYPE) (wordAt l e 3))) (saidAt (rowsOf a NODE) l e)))))
 
 module _ (types nodes : List (List ℕ)) (l : List ℕ) where
   -- the rows from word s on
@@ -431,6 +378,6 @@ module _ (types nodes : List (List ℕ)) (l : List ℕ) where
 -- ---- a partial answer
 
 pub partial-is : (was w₁ w₂ w₃ is : List ℕ) (at k₁ k₂ k₃ next : ℕ) (a l cs es : List ℕ) → Written was at (concat (headLines (verdictsIn a cs))) w₁ k₁ → Written w₁ k₁ (madeLines a) w₂ k₂
-    → Written w₂ k₂ (concat (logLines (rowsOf a 3) (rowsOf a 11) l)) w₃ k₃ → Written w₃ k₃ (concat (rootedLines a cs es)) is next → Written was at (partialBytes a l cs es) is next
+    → Written w₂ k₂ (concat (logLines (rowsOf a TYPE) (rowsOf a NODE) l)) w₃ k₃ → Written w₃ k₃ (concat (rootedLines a cs es)) is next → Written was at (partialBytes a l cs es) is next
 unfolding partialBytes
 partial-is was w₁ w₂ w₃ is at k₁ k₂ k₃ next a l cs es p q r s = written-append p (written-append q (written-append r s))

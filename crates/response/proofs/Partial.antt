@@ -14,19 +14,20 @@ use Rattle.cedar.specs.Rows.{Row}
 use Rattle.cedar.specs.Numbered.{NEnv, nInterpret}
 use Rattle.cedar.specs.Runs.{NVerdict, Run, nRun, verdicts}
 use Rattle.sheet.specs.Bytes.{digits}
-use Rattle.sheet.specs.Forms.{Mode, partial, at, TYPE, VALUE, NODE, POLICY}
+use Rattle.sheet.specs.Forms.{Mode, partial, at, TYPE, VALUE, NODE, POLICY, noKey}
 use Rattle.sheet.specs.State.{State, linesOf, count, TypeRow, bool, long, string, entity, set′, record′, typeRow}
 use Rattle.sheet.specs.Content.{tyOver, tysFrom, types, rowsIn, numberedPolicies, nPolicies, schema, nEnv, trees, valueRows}
 use Rattle.sheet.specs.Sheet.{firsts}
 use Rattle.sheet.specs.Answer.{printed, concat, policyItems, headLines, partialLines, valueLines, root, size, typeNumber, residualRows, nodeLines, ids, run, partialOf, answer}
 use Rattle.sheet.proofs.Lines.{History}
 use Rattle.sheet.proofs.TypeNumbers.{types-length, number-again}
-use Rattle.table.specs.Layout.{rowsOf, linesHeld, held}
+use Rattle.table.specs.Layout.{rowsOf, linesHeld, held, MADE}
 use Rattle.table.proofs.Rows.{count-rows, count-held, lines-held}
+use Rattle.residual.specs.Classes.{rootsOf}
 use Rattle.residual.specs.Trees.{Ress, flats, treesOf, Wholes}
 use Rattle.value.specs.Lines.{valueLines as allRows}
 use Rattle.response.specs.Verdicts.{classIn, effectIn, verdictsOf, verdictsIn}
-use Rattle.response.specs.Printed.{rootedOf, rootedLines, rootsOf}
+use Rattle.response.specs.Printed.{rootedOf, rootedLines}
 use Rattle.response.specs.Values.{madeLines}
 use Rattle.response.specs.Nodes.{saysBool, boolLine, typeIn, logLines, partialBytes}
 use Rattle.response.proofs.Printing.{concat-append}
@@ -43,7 +44,7 @@ pub made-held : (sheet a b : List ℕ) → madeLines a ≡ concat (valueLines (d
 unfolding madeLines allRows
 made-held sheet a b =
     ap (λ (q : List Row). concat (valueLines q))
-    (sym (rows-after (rowsOf a 5) (rowsOf a 13)) ∙ ap (λ (n : ℕ). drop n (rowsIn (allRows a))) (count-rows a 5 ∙ sym (count-held sheet a b 5 (omega arith))))
+    (sym (rows-after (rowsOf a VALUE) (rowsOf a MADE)) ∙ ap (λ (n : ℕ). drop n (rowsIn (allRows a))) (count-rows a VALUE ∙ sym (count-held sheet a b VALUE (omega arith))))
 
 -- ---- policies
 
@@ -147,7 +148,7 @@ pub record RunWords (sheet a₀ : List ℕ) (x : Run) (a l cs es : List ℕ) : T
   pub log : l ≡ flats ress
   pub trees : treesOf (types (held sheet a₀ [])) (rowsOf a₀ NODE) ress ≡ treesIn (x .lines)
   pub wholes : Wholes (types (held sheet a₀ [])) (rowsOf a₀ NODE) levels ress
-  pub same : (k : ℕ) → k < 13 → rowsOf a k ≡ rowsOf a₀ k
+  pub same : (k : ℕ) → k < noKey → rowsOf a k ≡ rowsOf a₀ k
   pub rows : rowsIn (allRows a) ≡ x .rows
   pub verdicts : verdictsIn a cs ≡ verdicts (x .lines)
   pub roots : (i : ℕ) → i < length (x .lines) → getD es i 0 ≡ getD (rootsOf 0 (x .lines)) i 0
@@ -160,7 +161,7 @@ module _ (sheet a₀ b₀ : List ℕ) (h : History partial (held sheet a₀ b₀
   unfolding types held linesHeld
   types-are = refl
 
-  kept : (k : ℕ) → k < 13 → (k ≡ 1 → ⊥) → rowsOf a k ≡ linesOf s k
+  kept : (k : ℕ) → k < noKey → (k ≡ 1 → ⊥) → rowsOf a k ≡ linesOf s k
   kept k lt n = w .same k lt ∙ sym (lines-held sheet a₀ b₀ k lt n)
 
   made-are : madeLines a ≡ concat (valueLines (drop (count s VALUE) (x .rows)))

@@ -8,15 +8,17 @@ use Rattle.cedar.specs.Residual.{Class, ctrue, cfalse, cerror, copen}
 use Rattle.cedar.specs.Response.{Effect, permit, forbid, Verdict, Decision, allow, deny, undecided, decision}
 use Rattle.sheet.specs.Ascii.{ascii}
 use Rattle.sheet.specs.Bytes.{digits, commas}
-use Rattle.sheet.specs.Forms.{at}
+use Rattle.sheet.specs.Forms.{at, POLICY}
 use Rattle.sheet.specs.Sheet.{firsts}
 use Rattle.sheet.specs.Answer.{printed, concat, numbers, countsOf, headLines, decisionWord, effectWord, classWord, completeLines, completeOf}
+use Rattle.forms.specs.Tags.{PERMIT, FORBID}
 use Rattle.table.specs.Layout.{rowsOf, held}
 use Rattle.table.proofs.Rows.{count-rows, lines-held}
 use Rattle.value.proofs.Lists.{uncons, spent}
 use Rattle.print.specs.Written.{Written}
 use Rattle.print.proofs.Writing.{written-none, written-append, written-as}
-use Rattle.response.specs.Verdicts.{classIn, classNumber, effectIn, effectNumber, verdictsIn, said}
+use Rattle.residual.specs.Classes.{classNumber}
+use Rattle.response.specs.Verdicts.{classIn, effectIn, effectNumber, verdictsIn, said}
 use Rattle.response.specs.Printed.{idBytes, decisionBytes, effectBytes, classBytes, listed, fourOf, policyAt, policyLines, completeBytes}
 use Rattle.response.specs.declared.Decision as D
 use Rattle.response.proofs.Counting.{counts-are, verdictsFrom, verdicts-on}
@@ -54,36 +56,12 @@ module _ (was is : List ℕ) (at next : ℕ) where
   pub number-after : (b n : ℕ) (mid : List ℕ) (m : ℕ) → Written was at (b ∷ []) mid m → Written mid m (digits n) is next → Written was at (b ∷ digits n) is next
   number-after b n mid m v w = written-append v w
 
-  pub decision-allow : (d : D.Decision) → d ≡ D.the-variants.Allow → Written was at (100 ∷ 101 ∷ 99 ∷ 105 ∷ 115 ∷ 105 ∷ 111 ∷ 110 ∷ 61 ∷ 97 ∷ 108 ∷ 108 ∷ 111 ∷ 119 ∷ 10 ∷ []) is next → Written was at (decisionBytes d) is next
-  decision-allow d h w = written-as w (ap decisionBytes (sym h))
-
-  pub decision-deny : (d : D.Decision) → d ≡ D.the-variants.Deny → Written was at (100 ∷ 101 ∷ 99 ∷ 105 ∷ 115 ∷ 105 ∷ 111 ∷ 110 ∷ 61 ∷ 100 ∷ 101 ∷ 110 ∷ 121 ∷ 10 ∷ []) is next → Written was at (decisionBytes d) is next
-  decision-deny d h w = written-as w (ap decisionBytes (sym h))
-
-  pub decision-open : (d : D.Decision) → d ≡ D.the-variants.Open → Written was at (100 ∷ 101 ∷ 99 ∷ 105 ∷ 115 ∷ 105 ∷ 111 ∷ 110 ∷ 61 ∷ 111 ∷ 112 ∷ 101 ∷ 110 ∷ 10 ∷ []) is next → Written was at (decisionBytes d) is next
-  decision-open d h w = written-as w (ap decisionBytes (sym h))
-
-  pub effect-zero : (e : ℕ) → e ≡ 0 → Written was at (44 ∷ 112 ∷ 101 ∷ 114 ∷ 109 ∷ 105 ∷ 116 ∷ []) is next → Written was at (effectBytes e) is next
+  pub effect-zero : (e : ℕ) → e ≡ PERMIT → Written was at (44 ∷ 112 ∷ 101 ∷ 114 ∷ 109 ∷ 105 ∷ 116 ∷ []) is next → Written was at (effectBytes e) is next
   effect-zero e h w = written-as w (rw h)
 
-  pub effect-more : (e : ℕ) → (e ≡ 0 → ⊥) → Written was at (44 ∷ 102 ∷ 111 ∷ 114 ∷ 98 ∷ 105 ∷ 100 ∷ []) is next → Written was at (effectBytes e) is next
+  pub effect-more : (e : ℕ) → (e ≡ PERMIT → ⊥) → Written was at (44 ∷ 102 ∷ 111 ∷ 114 ∷ 98 ∷ 105 ∷ 100 ∷ []) is next → Written was at (effectBytes e) is next
   effect-more zero h w = absurd (h refl)
   effect-more (suc e) h w = w
-
-  pub class-zero : (c : ℕ) → c ≡ 0 → Written was at (44 ∷ 116 ∷ 114 ∷ 117 ∷ 101 ∷ []) is next → Written was at (classBytes c) is next
-  class-zero c h w = written-as w (rw h)
-
-  pub class-one : (c : ℕ) → c ≡ 1 → Written was at (44 ∷ 102 ∷ 97 ∷ 108 ∷ 115 ∷ 101 ∷ []) is next → Written was at (classBytes c) is next
-  class-one c h w = written-as w (rw h)
-
-  pub class-two : (c : ℕ) → c ≡ 2 → Written was at (44 ∷ 101 ∷ 114 ∷ 114 ∷ 111 ∷ 114 ∷ []) is next → Written was at (classBytes c) is next
-  class-two c h w = written-as w (rw h)
-
-  pub class-more : (c : ℕ) → (c ≡ 0 → ⊥) → (c ≡ 1 → ⊥) → (c ≡ 2 → ⊥) → Written was at (44 ∷ 111 ∷ 112 ∷ 101 ∷ 110 ∷ []) is next → Written was at (classBytes c) is next
-  class-more zero h k l w = absurd (h refl)
-  class-more (suc zero) h k l w = absurd (k refl)
-  class-more (suc (suc zero)) h k l w = absurd (l refl)
-  class-more (suc (suc (suc c))) h k l w = w
 
   pub counts-four : (b e : ℕ) (ls : List Verdict) (c₀ c₁ c₂ c₃ : ℕ) (w₁ w₂ w₃ : List ℕ) (k₁ k₂ k₃ : ℕ)
       → c₀ ≡ getD (fourOf e ls) 0 0 → c₁ ≡ getD (fourOf e ls) 1 0 → c₂ ≡ getD (fourOf e ls) 2 0 → c₃ ≡ getD (fourOf e ls) 3 0
@@ -102,21 +80,21 @@ listed-append : (b n : ℕ) (k l : List ℕ) → listed b ((n ∷ k) ++ l) ≡ l
 listed-append b n [] l = ap (λ (x : List ℕ). x ++ listed 44 l) (sym (append-nil (b ∷ digits n)))
 listed-append b n (m ∷ k) l = ap (λ (x : List ℕ). (b ∷ digits n) ++ x) (listed-append 44 m k l) ∙ sym (append-assoc (b ∷ digits n) (listed 44 (m ∷ k)) (listed 44 l))
 
-counts-text : (ls : List Verdict) → (99 ∷ 111 ∷ 117 ∷ 110 ∷ 116 ∷ 115 ∷ []) ++ (listed 61 (fourOf 0 ls) ++ (listed 44 (fourOf 1 ls) ++ (10 ∷ []))) ≡ printed "counts" (numbers (countsOf ls))
+counts-text : (ls : List Verdict) → (99 ∷ 111 ∷ 117 ∷ 110 ∷ 116 ∷ 115 ∷ []) ++ (listed 61 (fourOf PERMIT ls) ++ (listed 44 (fourOf FORBID ls) ++ (10 ∷ []))) ≡ printed "counts" (numbers (countsOf ls))
 counts-text ls =
     ap (λ (l : List ℕ). (99 ∷ 111 ∷ 117 ∷ 110 ∷ 116 ∷ 115 ∷ []) ++ l)
-    (sym (append-assoc (listed 61 (fourOf 0 ls)) (listed 44 (fourOf 1 ls)) (10 ∷ []))
-    ∙ ap (λ (l : List ℕ). l ++ (10 ∷ [])) (sym (all (fourOf 0 ls) (fourOf 1 ls) refl) ∙ ap (listed 61) (counts-are ls) ∙ last))
+    (sym (append-assoc (listed 61 (fourOf PERMIT ls)) (listed 44 (fourOf FORBID ls)) (10 ∷ []))
+    ∙ ap (λ (l : List ℕ). l ++ (10 ∷ [])) (sym (all (fourOf PERMIT ls) (fourOf FORBID ls) refl) ∙ ap (listed 61) (counts-are ls) ∙ last))
   where
-    all : (k l : List ℕ) → k ≡ fourOf 0 ls → listed 61 (fourOf 0 ls ++ l) ≡ listed 61 (fourOf 0 ls) ++ listed 44 l
-    all k l e = listed-append 61 (getD (fourOf 0 ls) 0 0) (drop 1 (fourOf 0 ls)) l
+    all : (k l : List ℕ) → k ≡ fourOf PERMIT ls → listed 61 (fourOf PERMIT ls ++ l) ≡ listed 61 (fourOf PERMIT ls) ++ listed 44 l
+    all k l e = listed-append 61 (getD (fourOf PERMIT ls) 0 0) (drop 1 (fourOf PERMIT ls)) l
 
     last : listed 61 (countsOf ls) ≡ 61 ∷ commas (numbers (countsOf ls))
     last = listed-numbers 61 (getD (countsOf ls) 0 0) (drop 1 (countsOf ls))
 
 module _ (was is : List ℕ) (at next : ℕ) (ls : List Verdict) where
-  pub counts-line : (w₁ w₂ w₃ : List ℕ) (k₁ k₂ k₃ : ℕ) → Written was at (99 ∷ 111 ∷ 117 ∷ 110 ∷ 116 ∷ 115 ∷ []) w₁ k₁ → Written w₁ k₁ (listed 61 (fourOf 0 ls)) w₂ k₂
-      → Written w₂ k₂ (listed 44 (fourOf 1 ls)) w₃ k₃ → Written w₃ k₃ (10 ∷ []) is next → Written was at (printed "counts" (numbers (countsOf ls))) is next
+  pub counts-line : (w₁ w₂ w₃ : List ℕ) (k₁ k₂ k₃ : ℕ) → Written was at (99 ∷ 111 ∷ 117 ∷ 110 ∷ 116 ∷ 115 ∷ []) w₁ k₁ → Written w₁ k₁ (listed 61 (fourOf PERMIT ls)) w₂ k₂
+      → Written w₂ k₂ (listed 44 (fourOf FORBID ls)) w₃ k₃ → Written w₃ k₃ (10 ∷ []) is next → Written was at (printed "counts" (numbers (countsOf ls))) is next
   counts-line w₁ w₂ w₃ k₁ k₂ k₃ a b c d = written-as (written-append a (written-append b (written-append c d))) (counts-text ls)
 
   decision-text : (d : Decision) → decisionBytes (said d) ≡ printed "decision" (ascii (decisionWord d) ∷ [])
@@ -142,38 +120,33 @@ class-text cfalse = refl
 class-text cerror = refl
 class-text copen = refl
 
-pub policy-id : (was is : List ℕ) (at next : ℕ) (a : List ℕ) (i x : ℕ) (r mid : List ℕ) (m : ℕ) → r ≡ getD (rowsOf a 12) i [] → x ≡ getD r 1 0
-    → Written was at (112 ∷ 111 ∷ 108 ∷ 105 ∷ 99 ∷ 121 ∷ []) mid m → Written mid m (61 ∷ digits x) is next → Written was at (idBytes (getD (rowsOf a 12) i [])) is next
+pub policy-id : (was is : List ℕ) (at next : ℕ) (a : List ℕ) (i x : ℕ) (r mid : List ℕ) (m : ℕ) → r ≡ getD (rowsOf a POLICY) i [] → x ≡ getD r 1 0
+    → Written was at (112 ∷ 111 ∷ 108 ∷ 105 ∷ 99 ∷ 121 ∷ []) mid m → Written mid m (61 ∷ digits x) is next → Written was at (idBytes (getD (rowsOf a POLICY) i [])) is next
 policy-id was is at next a i x r mid m er ex v w =
     written-as (written-append v w) (ap (λ (n : ℕ). (112 ∷ 111 ∷ 108 ∷ 105 ∷ 99 ∷ 121 ∷ 61 ∷ []) ++ digits n) (ex ∙ ap (λ (q : List ℕ). getD q 1 0) er))
 
 pub policy-start : (was is : List ℕ) (at next : ℕ) (a cs : List ℕ) (i e c : ℕ) (w₁ w₂ : List ℕ) (k₁ k₂ : ℕ)
-    → e ≡ effectNumber (effectIn (getD (rowsOf a 12) i [])) → c ≡ classNumber (classIn (getD cs i 0))
-    → Written was at (idBytes (getD (rowsOf a 12) i [])) w₁ k₁ → Written w₁ k₁ (effectBytes e) w₂ k₂ → Written w₂ k₂ (classBytes c) is next
+    → e ≡ effectNumber (effectIn (getD (rowsOf a POLICY) i [])) → c ≡ classNumber (classIn (getD cs i 0))
+    → Written was at (idBytes (getD (rowsOf a POLICY) i [])) w₁ k₁ → Written w₁ k₁ (effectBytes e) w₂ k₂ → Written w₂ k₂ (classBytes c) is next
     → Written was at (policyAt a cs i) is next
 unfolding policyAt
 policy-start was is at next a cs i e c w₁ w₂ k₁ k₂ ee ec v₁ v₂ v₃ =
     written-as (written-append v₁ (written-append v₂ v₃))
-    (ap₂ (λ (k l : List ℕ). idBytes (getD (rowsOf a 12) i []) ++ (k ++ l)) (ap effectBytes ee ∙ effect-text (effectIn (getD (rowsOf a 12) i []))) (ap classBytes ec ∙ class-text (classIn (getD cs i 0))))
+    (ap₂ (λ (k l : List ℕ). idBytes (getD (rowsOf a POLICY) i []) ++ (k ++ l)) (ap effectBytes ee ∙ effect-text (effectIn (getD (rowsOf a POLICY) i []))) (ap classBytes ec ∙ class-text (classIn (getD cs i 0))))
 
 -- ---- all of them
 
 abbrev pub linesFrom : List ℕ → List ℕ → ℕ → List (List ℕ)
-linesFrom a cs i = completeLines (firsts (drop i (rowsOf a 12))) (verdictsFrom a cs i)
+linesFrom a cs i = completeLines (firsts (drop i (rowsOf a POLICY))) (verdictsFrom a cs i)
 
-lines-on : (a cs : List ℕ) (i : ℕ) → i < length (rowsOf a 12) → concat (linesFrom a cs i) ≡ (policyAt a cs i ++ (10 ∷ [])) ++ concat (linesFrom a cs (i + 1))
+lines-on : (a cs : List ℕ) (i : ℕ) → i < length (rowsOf a POLICY) → concat (linesFrom a cs i) ≡ (policyAt a cs i ++ (10 ∷ [])) ++ concat (linesFrom a cs (i + 1))
 unfolding policyAt
 lines-on a cs i h =
-    ap₂ (λ (rs : List (List ℕ)) (vs : List Verdict). concat (completeLines (firsts rs) vs)) (uncons (rowsOf a 12) [] i h) (verdicts-on a cs i h)
+    ap₂ (λ (rs : List (List ℕ)) (vs : List Verdict). concat (completeLines (firsts rs) vs)) (uncons (rowsOf a POLICY) [] i h) (verdicts-on a cs i h)
 
-module _ (a cs : List ℕ) (n : ℕ) (en : n ≡ getD a 12 0) where
-  many : n ≡ length (rowsOf a 12)
-  many = en ∙ sym (count-rows a 12)
-
-  pub policies-start : (was : List ℕ) (at : ℕ) → at ≤ 18446744073709551615 → length was ≤ 18446744073709551615
-      → Printing (concat (policyLines a cs)) (concat (linesFrom a cs 0)) was at was at
-  unfolding policyLines verdictsIn
-  policies-start was at h l = printing-start (concat (policyLines a cs)) (concat (linesFrom a cs 0)) was at refl h l
+module _ (a cs : List ℕ) (n : ℕ) (en : n ≡ getD a POLICY 0) where
+  many : n ≡ length (rowsOf a POLICY)
+  many = en ∙ sym (count-rows a POLICY)
 
   module _ (i : ℕ) (was is : List ℕ) (at next : ℕ) (p : Printing (concat (policyLines a cs)) (concat (linesFrom a cs i)) was at is next) where
     pub policies-on : (mid out : List ℕ) (m then : ℕ) → i < n → Written is next (policyAt a cs i) mid m → Written mid m (10 ∷ []) out then
@@ -182,7 +155,7 @@ module _ (a cs : List ℕ) (n : ℕ) (en : n ≡ getD a 12 0) where
         printing-on p (policyAt a cs i ++ (10 ∷ [])) (concat (linesFrom a cs (i + 1))) out then (lines-on a cs i (omega (arith, many))) (written-append v w)
 
     pub policies-end : n ≤ i → Written was at (concat (policyLines a cs)) is next
-    policies-end h = printing-end p (rw (spent (rowsOf a 12) i (omega (arith, many))))
+    policies-end h = printing-end p (rw (spent (rowsOf a POLICY) i (omega (arith, many))))
 
 pub complete-is : (was mid is : List ℕ) (at m next : ℕ) (a cs : List ℕ) → Written was at (concat (headLines (verdictsIn a cs))) mid m → Written mid m (concat (policyLines a cs)) is next
     → Written was at (completeBytes a cs) is next
@@ -193,4 +166,4 @@ complete-is was mid is at m next a cs v w = written-as (written-append v w) (sym
 pub complete-held : (sheet a b cs : List ℕ) → completeBytes a cs ≡ completeOf (held sheet a b) (verdictsIn a cs)
 unfolding completeBytes policyLines
 complete-held sheet a b cs =
-    ap (λ (l : List (List ℕ)). concat (headLines (verdictsIn a cs) ++ completeLines (firsts l) (verdictsIn a cs))) (sym (lines-held sheet a b 12 (omega arith) (λ e. absurd (omega arith))))
+    ap (λ (l : List (List ℕ)). concat (headLines (verdictsIn a cs) ++ completeLines (firsts l) (verdictsIn a cs))) (sym (lines-held sheet a b POLICY (omega arith) (λ e. absurd (omega arith))))

@@ -7,7 +7,7 @@ use native.Mathlib.Omega.{arith}
 use lib.ListN.{length, getD, drop}
 use Rattle.sheet.specs.Ascii.{ascii}
 use Rattle.sheet.specs.Bytes.{digits, commas}
-use Rattle.sheet.specs.Forms.{at}
+use Rattle.sheet.specs.Forms.{at, POLICY}
 use Rattle.sheet.specs.Answer.{printed, concat, effectWord, classWord, policyItems}
 use Rattle.table.specs.Layout.{rowsOf}
 use Rattle.table.proofs.Rows.{count-rows}
@@ -17,7 +17,7 @@ use Rattle.print.proofs.Writing.{written-append, written-as}
 use Rattle.response.specs.Verdicts.{classIn, effectIn}
 use Rattle.response.specs.Printed.{policyOf, policyAt, rootedOf, rootedLines}
 use Rattle.response.proofs.Counting.{first-of, next-of}
-use Rattle.response.proofs.Printing.{Printing, printing-start, printing-on, printing-end}
+use Rattle.response.proofs.Printing.{Printing, printing-on, printing-end}
 
 commas-snoc : (x : List ℕ) (l : List (List ℕ)) (y : List ℕ) → commas ((x ∷ l) ++ (y ∷ [])) ≡ commas (x ∷ l) ++ (44 ∷ y)
 commas-snoc x [] y = refl
@@ -31,33 +31,28 @@ rooted-text r c x =
     ∙ ap (λ (m : List ℕ). ascii "policy" ++ (61 ∷ m)) (append-assoc (commas (digits (at r 0) ∷ i)) (44 ∷ digits x) (10 ∷ []))
 
 abbrev pub rootedFrom : List ℕ → List ℕ → List ℕ → ℕ → List ℕ
-rootedFrom a cs es i = concat (rootedOf (drop i (rowsOf a 12)) (drop i cs) (drop i es))
+rootedFrom a cs es i = concat (rootedOf (drop i (rowsOf a POLICY)) (drop i cs) (drop i es))
 
 next : (l : List ℕ) (i : ℕ) → drop 1 (drop i l) ≡ drop (i + 1) l
 next l i = next-of l i ∙ ap (λ (j : ℕ). drop j l) (sym (add-one i))
 
-rooted-step : (a cs es : List ℕ) (i : ℕ) → i < length (rowsOf a 12) → rootedFrom a cs es i ≡ (policyAt a cs i ++ ((44 ∷ digits (getD es i 0)) ++ (10 ∷ []))) ++ rootedFrom a cs es (i + 1)
+rooted-step : (a cs es : List ℕ) (i : ℕ) → i < length (rowsOf a POLICY) → rootedFrom a cs es i ≡ (policyAt a cs i ++ ((44 ∷ digits (getD es i 0)) ++ (10 ∷ []))) ++ rootedFrom a cs es (i + 1)
 unfolding policyAt
 rooted-step a cs es i h =
-    ap (λ (l : List (List ℕ)). concat (rootedOf l (drop i cs) (drop i es))) (uncons (rowsOf a 12) [] i h)
-    ∙ ap₂ (λ (c x : ℕ). printed "policy" (policyItems (at (getD (rowsOf a 12) i []) 0) (effectIn (getD (rowsOf a 12) i [])) (classIn c) (digits x ∷ []))
-    ++ concat (rootedOf (drop (i + 1) (rowsOf a 12)) (drop 1 (drop i cs)) (drop 1 (drop i es)))) (first-of cs i) (first-of es i)
-    ∙ ap₂ (λ (p q : List ℕ). printed "policy" (policyItems (at (getD (rowsOf a 12) i []) 0) (effectIn (getD (rowsOf a 12) i [])) (classIn (getD cs i 0)) (digits (getD es i 0) ∷ []))
-    ++ concat (rootedOf (drop (i + 1) (rowsOf a 12)) p q)) (next cs i) (next es i)
-    ∙ ap (λ (m : List ℕ). m ++ rootedFrom a cs es (i + 1)) (rooted-text (getD (rowsOf a 12) i []) (getD cs i 0) (getD es i 0))
+    ap (λ (l : List (List ℕ)). concat (rootedOf l (drop i cs) (drop i es))) (uncons (rowsOf a POLICY) [] i h)
+    ∙ ap₂ (λ (c x : ℕ). printed "policy" (policyItems (at (getD (rowsOf a POLICY) i []) 0) (effectIn (getD (rowsOf a POLICY) i [])) (classIn c) (digits x ∷ []))
+    ++ concat (rootedOf (drop (i + 1) (rowsOf a POLICY)) (drop 1 (drop i cs)) (drop 1 (drop i es)))) (first-of cs i) (first-of es i)
+    ∙ ap₂ (λ (p q : List ℕ). printed "policy" (policyItems (at (getD (rowsOf a POLICY) i []) 0) (effectIn (getD (rowsOf a POLICY) i [])) (classIn (getD cs i 0)) (digits (getD es i 0) ∷ []))
+    ++ concat (rootedOf (drop (i + 1) (rowsOf a POLICY)) p q)) (next cs i) (next es i)
+    ∙ ap (λ (m : List ℕ). m ++ rootedFrom a cs es (i + 1)) (rooted-text (getD (rowsOf a POLICY) i []) (getD cs i 0) (getD es i 0))
 
 pub rooted-line : (was w₁ w₂ is : List ℕ) (at k₁ k₂ then : ℕ) (a cs : List ℕ) (i x : ℕ) → Written was at (policyAt a cs i) w₁ k₁ → Written w₁ k₁ (44 ∷ digits x) w₂ k₂
     → Written w₂ k₂ (10 ∷ []) is then → Written was at (policyAt a cs i ++ ((44 ∷ digits x) ++ (10 ∷ []))) is then
 rooted-line was w₁ w₂ is at k₁ k₂ then a cs i x u v w = written-append u (written-append v w)
 
-module _ (a cs es : List ℕ) (n : ℕ) (en : n ≡ getD a 12 0) where
-  many : n ≡ length (rowsOf a 12)
-  many = en ∙ sym (count-rows a 12)
-
-  pub rooted-start : (was : List ℕ) (at : ℕ) → at ≤ 18446744073709551615 → length was ≤ 18446744073709551615
-      → Printing (concat (rootedLines a cs es)) (rootedFrom a cs es 0) was at was at
-  unfolding rootedLines
-  rooted-start was at h l = printing-start (concat (rootedLines a cs es)) (rootedFrom a cs es 0) was at refl h l
+module _ (a cs es : List ℕ) (n : ℕ) (en : n ≡ getD a POLICY 0) where
+  many : n ≡ length (rowsOf a POLICY)
+  many = en ∙ sym (count-rows a POLICY)
 
   module _ (i : ℕ) (was is : List ℕ) (at then : ℕ) (p : Printing (concat (rootedLines a cs es)) (rootedFrom a cs es i) was at is then) where
     pub rooted-on : (x : ℕ) (out : List ℕ) (last : ℕ) → i < n → x ≡ getD es i 0 → Written is then (policyAt a cs i ++ ((44 ∷ digits x) ++ (10 ∷ []))) out last
@@ -67,4 +62,4 @@ module _ (a cs es : List ℕ) (n : ℕ) (en : n ≡ getD a 12 0) where
         (written-as w (ap (λ (y : ℕ). policyAt a cs i ++ ((44 ∷ digits y) ++ (10 ∷ []))) e))
 
     pub rooted-end : n ≤ i → Written was at (concat (rootedLines a cs es)) is then
-    rooted-end h = printing-end p (ap (λ (l : List (List ℕ)). concat (rootedOf l (drop i cs) (drop i es))) (spent (rowsOf a 12) i (omega (arith, many))))
+    rooted-end h = printing-end p (ap (λ (l : List (List ℕ)). concat (rootedOf l (drop i cs) (drop i es))) (spent (rowsOf a POLICY) i (omega (arith, many))))

@@ -12,12 +12,14 @@ use Rattle.cedar.specs.Types.{Ty, tbool}
 use Rattle.cedar.specs.Residual.{star, piece, Node, err, var, and, or, ite, un, bin, rel, get, has, haspath, set, rec, unot, uneg, uempty, uis, ulike, beq, blt, ble, badd, bsub, bmul, bcontains, ball, bany, rin, rgettag, rhastag}
 use Rattle.sheet.specs.Ascii.{ascii}
 use Rattle.sheet.specs.Bytes.{digits}
-use Rattle.sheet.specs.Forms.{Slot, line, lineOr, forms, formOf, slotAt, tagOf, tag, items, at, mark, firstNode}
+use Rattle.sheet.specs.Forms.{Slot, line, lineOr, forms, formOf, slotAt, tagOf, tag, items, at, mark, firstNode, TEXT, asterisk}
 use Rattle.sheet.specs.Content.{varOf, patternOf}
 use Rattle.sheet.specs.Answer.{printed, numbers, size, root, roots, argRoots, patternItems, varNumber, typeNumber, treeRows, allRows, argRows, itemOut, itemsOut, nodeItems, nodeLines}
 use Rattle.sheet.proofs.Slots.{like-slot, path-slot, set-slot, name-slot, field-slot}
+use Rattle.forms.specs.Tags.{LIT, VAR, AND, OR, EQ, LT, LE, ADD, SUB, MUL, IN, GETTAG, HASTAG, CONTAINS, ALL, ANY, IF, IS, LIKE, GET, HAS, HASPATH, NOT, NEG, EMPTY, SET-OF, RECORD-OF}
 use Rattle.residual.specs.Trees.{nodesOf, argsOf, leftFor, leftTree, suitsFor, suits}
-use Rattle.response.specs.Nodes.{opName, letter, pieces, restItems, leftItems}
+use Rattle.response.specs.Names.{opName}
+use Rattle.response.specs.Nodes.{letter, pieces, restItems, leftItems}
 use Rattle.residual.proofs.Blocks.{Each, each0, each1, each-at, over0, over1, over2, over3}
 
 -- ---- the rows and the roots of trees in a row, numbered from m on
@@ -61,24 +63,24 @@ args-roots m (t ∷ n ∷ l) (c ∷ cs) = ap (λ (x : List ℕ). t ∷ root m c 
 
 -- ---- items that repeat
 
-like-items : (j : ℕ) (l : List ℕ) → itemsOut 40 (suc (suc j)) (patternItems (patternOf l)) ≡ pieces l
+like-items : (j : ℕ) (l : List ℕ) → itemsOut LIKE (suc (suc j)) (patternItems (patternOf l)) ≡ pieces l
 like-items j [] = refl
 like-items j (x ∷ l) = go (eqb x mark) refl (like-items (suc j) l)
   where
-    go : (b : Bool) → eqb x mark ≡ b → itemsOut 40 (suc (suc (suc j))) (patternItems (patternOf l)) ≡ pieces l
-        → itemsOut 40 (suc (suc j)) (patternItems (cond b star (piece x) ∷ patternOf l)) ≡ itemOut (lineOr 42 1) x ∷ pieces l
-    go true e ih = ap₂ (λ (s : Slot) (k : List (List ℕ)). itemOut s mark ∷ k) (like-slot j) ih ∙ ap (λ (b : Bool). cond b (42 ∷ []) (digits x) ∷ pieces l) (sym e)
+    go : (b : Bool) → eqb x mark ≡ b → itemsOut LIKE (suc (suc (suc j))) (patternItems (patternOf l)) ≡ pieces l
+        → itemsOut LIKE (suc (suc j)) (patternItems (cond b star (piece x) ∷ patternOf l)) ≡ itemOut (lineOr asterisk TEXT) x ∷ pieces l
+    go true e ih = ap₂ (λ (s : Slot) (k : List (List ℕ)). itemOut s mark ∷ k) (like-slot j) ih ∙ ap (λ (b : Bool). cond b (asterisk ∷ []) (digits x) ∷ pieces l) (sym e)
     go false e ih = ap₂ (λ (s : Slot) (k : List (List ℕ)). itemOut s x ∷ k) (like-slot j) ih
 
-path-items : (j : ℕ) (l : List ℕ) → itemsOut 43 (suc (suc (suc j))) l ≡ numbers l
+path-items : (j : ℕ) (l : List ℕ) → itemsOut HASPATH (suc (suc (suc j))) l ≡ numbers l
 path-items j [] = refl
 path-items j (x ∷ l) = ap₂ (λ (s : Slot) (k : List (List ℕ)). itemOut s x ∷ k) (path-slot j) (path-items (suc j) l)
 
-set-items : (j : ℕ) (l : List ℕ) → itemsOut 47 (suc j) l ≡ numbers l
+set-items : (j : ℕ) (l : List ℕ) → itemsOut SET-OF (suc j) l ≡ numbers l
 set-items j [] = refl
 set-items j (x ∷ l) = ap₂ (λ (s : Slot) (k : List (List ℕ)). itemOut s x ∷ k) (set-slot j) (set-items (suc j) l)
 
-field-items : (i m : ℕ) (l : List ℕ) (cs : List (Node ℕ)) → itemsOut 48 (suc (i + i)) (fieldsAll m l cs) ≡ numbers (fieldsAll m l cs)
+field-items : (i m : ℕ) (l : List ℕ) (cs : List (Node ℕ)) → itemsOut RECORD-OF (suc (i + i)) (fieldsAll m l cs) ≡ numbers (fieldsAll m l cs)
 field-items i m [] cs = refl
 field-items i m (t ∷ []) cs = refl
 field-items i m (t ∷ n ∷ l) [] = refl
@@ -86,7 +88,7 @@ field-items i m (t ∷ n ∷ l) (c ∷ cs) =
     let z : suc (suc (suc (i + i))) ≡ suc (suc i + suc i) = omega arith in
     ap₂ (λ (s : Slot) (k : List (List ℕ)). itemOut s t ∷ k) (name-slot i)
     (ap₂ (λ (s : Slot) (k : List (List ℕ)). itemOut s (root m c) ∷ k) (field-slot i)
-    (ap (λ (j : ℕ). itemsOut 48 j (fieldsAll (m + size c) l cs)) z ∙ field-items (suc i) (m + size c) l cs))
+    (ap (λ (j : ℕ). itemsOut RECORD-OF j (fieldsAll (m + size c) l cs)) z ∙ field-items (suc i) (m + size c) l cs))
 
 letter-is : (x : ℕ) → ascii (getD ("p" ∷ "a" ∷ "r" ∷ "c" ∷ []) (varNumber (varOf x)) "") ≡ letter x
 letter-is zero = refl
@@ -159,61 +161,61 @@ module _ (ts : List Ty) (r : List ℕ) (k m : ℕ) (T : Ty) where
     single i f more h g e =
         over1 (λ l. Lines i (f (getD l 0 (err tbool))) l) cs (λ x. lines1 i x (f x) (i ∷ typeNumber ts T ∷ root m x ∷ more) (h x) (g x)) e
 
-    var-said : eqb (length cs) 0 ≡ true → Said 23 (var T (varOf (at r 1)))
+    var-said : eqb (length cs) 0 ≡ true → Said VAR (var T (varOf (at r 1)))
     unfolding Said Lines tagOf formOf forms slotAt opName leftItems
-    var-said e = over0 (λ l. Lines 23 (var T (varOf (at r 1))) l) cs (ap (λ (x : List ℕ). printed "node" (digits (typeNumber ts T) ∷ ascii "var" ∷ x ∷ []) ∷ []) (letter-is (at r 1))) e
+    var-said e = over0 (λ l. Lines VAR (var T (varOf (at r 1))) l) cs (ap (λ (x : List ℕ). printed "node" (digits (typeNumber ts T) ∷ ascii "var" ∷ x ∷ []) ∷ []) (letter-is (at r 1))) e
 
-    if-said : eqb (length cs) 3 ≡ true → Said 38 (ite T (c 0) (c 1) (c 2))
+    if-said : eqb (length cs) 3 ≡ true → Said IF (ite T (c 0) (c 1) (c 2))
     unfolding Said tagOf formOf forms slotAt opName leftItems restItems
     if-said e =
-        over3 (λ l. Lines 38 (ite T (getD l 0 (err tbool)) (getD l 1 (err tbool)) (getD l 2 (err tbool))) l) cs
-        (λ x y w. lines3 38 x y w (ite T x y w) (38 ∷ typeNumber ts T ∷ root m x ∷ root (m + size x) y ∷ root (m + size x + size y) w ∷ []) refl refl) e
+        over3 (λ l. Lines IF (ite T (getD l 0 (err tbool)) (getD l 1 (err tbool)) (getD l 2 (err tbool))) l) cs
+        (λ x y w. lines3 IF x y w (ite T x y w) (IF ∷ typeNumber ts T ∷ root m x ∷ root (m + size x) y ∷ root (m + size x + size y) w ∷ []) refl refl) e
 
-    set-said : Said 47 (set T (nodesOf cs))
+    set-said : Said SET-OF (set T (nodesOf cs))
     unfolding Said Lines tagOf formOf forms opName leftItems restItems
     set-said =
-        one-line (treeRows ts m (set T (nodesOf cs))) (rowsAll ts m cs) (47 ∷ typeNumber ts T ∷ roots m (nodesOf cs)) (saidOver 47 cs)
-        (ap (λ (l : List (List ℕ)). l ++ ((47 ∷ typeNumber ts T ∷ roots m (nodesOf cs)) ∷ [])) (nodes-rows ts m cs))
+        one-line (treeRows ts m (set T (nodesOf cs))) (rowsAll ts m cs) (SET-OF ∷ typeNumber ts T ∷ roots m (nodesOf cs)) (saidOver SET-OF cs)
+        (ap (λ (l : List (List ℕ)). l ++ ((SET-OF ∷ typeNumber ts T ∷ roots m (nodesOf cs)) ∷ [])) (nodes-rows ts m cs))
         (ap (λ (l : List (List ℕ)). digits (typeNumber ts T) ∷ ascii "set" ∷ l) (set-items 0 (roots m (nodesOf cs)) ∙ ap numbers (nodes-roots m cs) ∙ sym (append-nil (numbers (rootsAll m cs)))))
 
-    record-said : eqb (length (drop 1 (items r))) (length cs + length cs) ≡ true → Said 48 (rec T (argsOf (drop 1 (items r)) cs))
+    record-said : eqb (length (drop 1 (items r))) (length cs + length cs) ≡ true → Said RECORD-OF (rec T (argsOf (drop 1 (items r)) cs))
     unfolding Said Lines tagOf formOf forms opName leftItems
     record-said e =
-        one-line (treeRows ts m (rec T (argsOf (drop 1 (items r)) cs))) (rowsAll ts m cs) (48 ∷ typeNumber ts T ∷ argRoots m (argsOf (drop 1 (items r)) cs)) (saidOver 48 cs)
-        (ap (λ (l : List (List ℕ)). l ++ ((48 ∷ typeNumber ts T ∷ argRoots m (argsOf (drop 1 (items r)) cs)) ∷ []))
+        one-line (treeRows ts m (rec T (argsOf (drop 1 (items r)) cs))) (rowsAll ts m cs) (RECORD-OF ∷ typeNumber ts T ∷ argRoots m (argsOf (drop 1 (items r)) cs)) (saidOver RECORD-OF cs)
+        (ap (λ (l : List (List ℕ)). l ++ ((RECORD-OF ∷ typeNumber ts T ∷ argRoots m (argsOf (drop 1 (items r)) cs)) ∷ []))
         (args-rows ts m (drop 1 (items r)) cs (eqb-true (length (drop 1 (items r))) (length cs + length cs) e)))
         (ap (λ (l : List (List ℕ)). digits (typeNumber ts T) ∷ ascii "record" ∷ l)
-        (ap (itemsOut 48 1) (args-roots m (drop 1 (items r)) cs) ∙ field-items 0 m (drop 1 (items r)) cs))
+        (ap (itemsOut RECORD-OF 1) (args-roots m (drop 1 (items r)) cs) ∙ field-items 0 m (drop 1 (items r)) cs))
 
-    all-said : Each Said 21 (suitsFor r (length cs)) (leftFor r k T cs c)
+    all-said : Each Said LIT (suitsFor r (length cs)) (leftFor r k T cs c)
     unfolding tagOf formOf forms slotAt opName leftItems restItems
     all-said =
         each1 (λ e. no-true e) (each1 (λ e. no-true e) (each1 var-said
-        (each1 (pair 24 (and T) (λ x y. refl) (λ x y. refl))
-        (each1 (pair 25 (or T) (λ x y. refl) (λ x y. refl))
-        (each1 (pair 26 (bin T beq) (λ x y. refl) (λ x y. refl))
-        (each1 (pair 27 (bin T blt) (λ x y. refl) (λ x y. refl))
-        (each1 (pair 28 (bin T ble) (λ x y. refl) (λ x y. refl))
-        (each1 (pair 29 (bin T badd) (λ x y. refl) (λ x y. refl))
-        (each1 (pair 30 (bin T bsub) (λ x y. refl) (λ x y. refl))
-        (each1 (pair 31 (bin T bmul) (λ x y. refl) (λ x y. refl))
-        (each1 (pair 32 (rel T rin) (λ x y. refl) (λ x y. refl))
-        (each1 (pair 33 (rel T rgettag) (λ x y. refl) (λ x y. refl))
-        (each1 (pair 34 (rel T rhastag) (λ x y. refl) (λ x y. refl))
-        (each1 (pair 35 (bin T bcontains) (λ x y. refl) (λ x y. refl))
-        (each1 (pair 36 (bin T ball) (λ x y. refl) (λ x y. refl))
-        (each1 (pair 37 (bin T bany) (λ x y. refl) (λ x y. refl))
+        (each1 (pair AND (and T) (λ x y. refl) (λ x y. refl))
+        (each1 (pair OR (or T) (λ x y. refl) (λ x y. refl))
+        (each1 (pair EQ (bin T beq) (λ x y. refl) (λ x y. refl))
+        (each1 (pair LT (bin T blt) (λ x y. refl) (λ x y. refl))
+        (each1 (pair LE (bin T ble) (λ x y. refl) (λ x y. refl))
+        (each1 (pair ADD (bin T badd) (λ x y. refl) (λ x y. refl))
+        (each1 (pair SUB (bin T bsub) (λ x y. refl) (λ x y. refl))
+        (each1 (pair MUL (bin T bmul) (λ x y. refl) (λ x y. refl))
+        (each1 (pair IN (rel T rin) (λ x y. refl) (λ x y. refl))
+        (each1 (pair GETTAG (rel T rgettag) (λ x y. refl) (λ x y. refl))
+        (each1 (pair HASTAG (rel T rhastag) (λ x y. refl) (λ x y. refl))
+        (each1 (pair CONTAINS (bin T bcontains) (λ x y. refl) (λ x y. refl))
+        (each1 (pair ALL (bin T ball) (λ x y. refl) (λ x y. refl))
+        (each1 (pair ANY (bin T bany) (λ x y. refl) (λ x y. refl))
         (each1 if-said
-        (each1 (single 39 (un T (uis (at r 2))) (at r 2 ∷ []) (λ x. refl) (λ x. refl))
-        (each1 (single 40 (un T (ulike (patternOf (drop 2 (items r))))) (patternItems (patternOf (drop 2 (items r)))) (λ x. refl)
+        (each1 (single IS (un T (uis (at r 2))) (at r 2 ∷ []) (λ x. refl) (λ x. refl))
+        (each1 (single LIKE (un T (ulike (patternOf (drop 2 (items r))))) (patternItems (patternOf (drop 2 (items r)))) (λ x. refl)
         (λ x. ap (λ (l : List (List ℕ)). digits (typeNumber ts T) ∷ ascii "like" ∷ digits (root m x) ∷ l) (like-items 0 (drop 2 (items r)))))
-        (each1 (single 41 (λ x. get T x (at r 2)) (at r 2 ∷ []) (λ x. refl) (λ x. refl))
-        (each1 (single 42 (λ x. has T x (at r 2)) (at r 2 ∷ []) (λ x. refl) (λ x. refl))
-        (each1 (single 43 (λ x. haspath T x (at r (2 + k)) (drop (3 + k) (items r))) (at r (2 + k) ∷ drop (3 + k) (items r)) (λ x. refl)
+        (each1 (single GET (λ x. get T x (at r 2)) (at r 2 ∷ []) (λ x. refl) (λ x. refl))
+        (each1 (single HAS (λ x. has T x (at r 2)) (at r 2 ∷ []) (λ x. refl) (λ x. refl))
+        (each1 (single HASPATH (λ x. haspath T x (at r (2 + k)) (drop (3 + k) (items r))) (at r (2 + k) ∷ drop (3 + k) (items r)) (λ x. refl)
         (λ x. ap (λ (l : List (List ℕ)). digits (typeNumber ts T) ∷ ascii "haspath" ∷ digits (root m x) ∷ digits (at r (2 + k)) ∷ l) (path-items 0 (drop (3 + k) (items r)))))
-        (each1 (single 44 (un T unot) [] (λ x. refl) (λ x. refl))
-        (each1 (single 45 (un T uneg) [] (λ x. refl) (λ x. refl))
-        (each1 (single 46 (un T uempty) [] (λ x. refl) (λ x. refl))
+        (each1 (single NOT (un T unot) [] (λ x. refl) (λ x. refl))
+        (each1 (single NEG (un T uneg) [] (λ x. refl) (λ x. refl))
+        (each1 (single EMPTY (un T uempty) [] (λ x. refl) (λ x. refl))
         (each1 (λ e. set-said) (each1 record-said each0)))))))))))))))))))))))))))
 
     -- THE LINES OF A NODE THAT IS LEFT: its children's, then its own
@@ -221,6 +223,6 @@ module _ (ts : List Ty) (r : List ℕ) (k m : ℕ) (T : Ty) where
     unfolding suits leftTree Said Lines
     left-lines s =
         let p = and-eq-true-iff (leb firstNode (tag r)) (getD (suitsFor r (length cs)) (tag r - firstNode) false) .0 s in
-        let t : tag r - 21 + 21 ≡ tag r = omega (arith, leb-true firstNode (tag r) (p .0)) in
-        let q : Said (tag r - 21 + 21) (getD (leftFor r k T cs c) (tag r - 21) (err tbool)) = each-at (err tbool) all-said (tag r - 21) (p .1) in
+        let t : tag r - firstNode + firstNode ≡ tag r = omega (arith, leb-true firstNode (tag r) (p .0)) in
+        let q : Said (tag r - firstNode + firstNode) (getD (leftFor r k T cs c) (tag r - firstNode) (err tbool)) = each-at (err tbool) all-said (tag r - firstNode) (p .1) in
         rw t at q

@@ -1,4 +1,5 @@
 pub mod Verdicts
 pub mod Printed
+pub mod Names
 pub mod Values
 pub mod Nodes

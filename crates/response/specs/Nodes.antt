@@ -2,19 +2,20 @@
 use mathlib.Core.Bool.{Bool, true, false, cond, _||_}
 use mathlib.Core.List.{List, [], _∷_, _++_}
 use Prim.Native.Nat.{ℕ, zero, suc, _+_, _-_, _/_}
-use Prim.Native.String.{String}
 use lib.Dec.{eqb, leb, ltb}
 use lib.ListN.{length, getD, drop}
 use Rattle.sheet.specs.Ascii.{ascii}
 use Rattle.sheet.specs.Bytes.{digits}
-use Rattle.sheet.specs.Forms.{formOf, lineOr, tag, items, at, asterisk, firstNode, TEXT, TYPE, NODE}
+use Rattle.sheet.specs.Forms.{lineOr, tag, items, at, asterisk, TEXT, TYPE, NODE}
 use Rattle.sheet.specs.State.{TypeRow, bool, long, string, entity, set′, record′, typeRow}
 use Rattle.sheet.specs.Answer.{printed, concat, numbers, itemOut, headLines}
+use Rattle.forms.specs.Tags.{VAR, IS, LIKE, GET, HAS, HASPATH, RECORD-OF}
 use Rattle.table.specs.Layout.{rowsOf}
 use Rattle.residual.specs.Rows.{wordAt, stageAt, startAt}
 use Rattle.residual.specs.declared.Stage.{Stage}
 use Rattle.residual.specs.declared.Stage.the-variants.{Value, Error, Open}
 use Rattle.response.specs.Verdicts.{verdictsIn}
+use Rattle.response.specs.Names.{opName}
 use Rattle.response.specs.Printed.{rootedLines}
 use Rattle.response.specs.Values.{madeLines}
 
@@ -41,10 +42,6 @@ fieldsTo r (suc (suc i)) l start p = cond (leb p start) [] (fieldsTo r i l start
 
 -- ---- a node that is left: its operation and items, from the row of its source
 
--- the name of an operation; the forms before them have none here
-unfoldable pub opName : ℕ → String
-opName t = cond (ltb t firstNode) "" (formOf t .name)
-
 abbrev pub letter : ℕ → List ℕ
 letter x = ascii (getD ("p" ∷ "a" ∷ "r" ∷ []) x "c")
 
@@ -56,15 +53,15 @@ pieces (x ∷ l) = itemOut (lineOr asterisk TEXT) x ∷ pieces l
 -- what the row r of operation t says after the children, where k steps of a path were taken
 unfoldable pub restItems : ℕ → List ℕ → ℕ → List (List ℕ)
 restItems t r k =
-    cond (eqb t 39 || (eqb t 41 || eqb t 42)) (digits (at r 2) ∷ [])  -- is, get, has
-    (cond (eqb t 40) (pieces (drop 2 (items r)))  -- like
-    (cond (eqb t 43) (digits (at r (2 + k)) ∷ numbers (drop (3 + k) (items r))) []))  -- haspath
+    cond (eqb t IS || (eqb t GET || eqb t HAS)) (digits (at r 2) ∷ [])
+    (cond (eqb t LIKE) (pieces (drop 2 (items r)))
+    (cond (eqb t HASPATH) (digits (at r (2 + k)) ∷ numbers (drop (3 + k) (items r))) []))
 
 -- its items, over the children cs or the fields fs
 unfoldable pub leftItems : ℕ → List ℕ → ℕ → List ℕ → List ℕ → List (List ℕ)
 leftItems t r k cs fs =
-    cond (eqb t 23) (letter (at r 1) ∷ [])  -- var
-    (cond (eqb t 48) (numbers fs) (numbers cs ++ restItems t r k))  -- record, the others
+    cond (eqb t VAR) (letter (at r 1) ∷ [])
+    (cond (eqb t RECORD-OF) (numbers fs) (numbers cs ++ restItems t r k))
 
 -- the node of row r, with its blocks from start to p
 abbrev pub leftSaid : List ℕ → ℕ → List ℕ → ℕ → ℕ → List (List ℕ)

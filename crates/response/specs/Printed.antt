@@ -1,14 +1,14 @@
 -- What is printed of the policies that the words hold.
 use mathlib.Core.List.{List, [], _∷_, _++_}
-use Prim.Native.Nat.{ℕ, _+_}
+use Prim.Native.Nat.{ℕ}
 use lib.ListN.{getD, drop}
 use Rattle.cedar.specs.Response.{Verdict}
-use Rattle.cedar.specs.Runs.{NVerdict}
 use Rattle.sheet.specs.Ascii.{ascii}
 use Rattle.sheet.specs.Bytes.{digits, commas}
 use Rattle.sheet.specs.Forms.{at, POLICY}
 use Rattle.sheet.specs.Sheet.{firsts}
-use Rattle.sheet.specs.Answer.{howMany, printed, concat, headLines, policyItems, completeLines, root, size}
+use Rattle.sheet.specs.Answer.{howMany, printed, concat, headLines, policyItems, completeLines}
+use Rattle.residual.specs.Classes.{CLASS-TRUE, CLASS-FALSE, CLASS-ERROR, CLASS-OPEN}
 use Rattle.table.specs.Layout.{rowsOf}
 use Rattle.response.specs.Verdicts.{classIn, effectIn, effectIs, classIs, verdictsIn}
 use Rattle.response.specs.declared.Decision as D
@@ -33,7 +33,7 @@ listed b (n ∷ l) = (b ∷ digits n) ++ listed 44 l
 
 -- the counts of one effect, in the answer's order
 abbrev pub fourOf : ℕ → List Verdict → List ℕ
-fourOf e ls = howMany (effectIs e) (classIs 0) ls ∷ howMany (effectIs e) (classIs 1) ls ∷ howMany (effectIs e) (classIs 2) ls ∷ howMany (effectIs e) (classIs 3) ls ∷ []
+fourOf e ls = howMany (effectIs e) (classIs CLASS-TRUE) ls ∷ howMany (effectIs e) (classIs CLASS-FALSE) ls ∷ howMany (effectIs e) (classIs CLASS-ERROR) ls ∷ howMany (effectIs e) (classIs CLASS-OPEN) ls ∷ []
 
 -- the line of the policy of row r up to its id; with class c, up to the class
 abbrev pub idBytes : List ℕ → List ℕ
@@ -60,8 +60,3 @@ rootedOf (r ∷ rs) cs es = printed "policy" (policyItems (at r 0) (effectIn r) 
 
 unfoldable pub rootedLines : List ℕ → List ℕ → List ℕ → List (List ℕ)
 rootedLines a cs es = rootedOf (rowsOf a POLICY) cs es
-
--- the roots of the lines of a run, whose nodes are numbered from n
-abbrev pub rootsOf : ℕ → List NVerdict → List ℕ
-rootsOf n [] = []
-rootsOf n (l ∷ ls) = root n (l .root) ∷ rootsOf (n + size (l .root)) ls

@@ -8,26 +8,22 @@ use Rattle.cedar.specs.Residual.{Class, ctrue, cfalse, cerror, copen}
 use Rattle.cedar.specs.Response.{Effect, permit, forbid, Verdict, Decision, allow, deny, undecided}
 use Rattle.sheet.specs.Forms.{at, POLICY}
 use Rattle.sheet.specs.Content.{effectOf}
+use Rattle.forms.specs.Tags.{PERMIT, FORBID}
 use Rattle.table.specs.Layout.{rowsOf}
+use Rattle.residual.specs.Classes.{classNumber}
 use Rattle.response.specs.declared.Decision as D
 
--- a class by its number: 0 true, 1 false, 2 error, 3 open
+-- a class by its number; a greater number is open too
 abbrev pub classIn : ℕ → Class
 classIn n = getD (ctrue ∷ cfalse ∷ cerror ∷ copen ∷ []) n copen
 
-abbrev pub classNumber : Class → ℕ
-classNumber ctrue = 0
-classNumber cfalse = 1
-classNumber cerror = 2
-classNumber copen = 3
-
--- the effect that a policy's row says: 0 permit, 1 forbid
+-- the effect that a policy's row says
 abbrev pub effectIn : List ℕ → Effect
 effectIn r = effectOf (at r 1)
 
 abbrev pub effectNumber : Effect → ℕ
-effectNumber permit = 0
-effectNumber forbid = 1
+effectNumber permit = PERMIT
+effectNumber forbid = FORBID
 
 abbrev pub effectIs : ℕ → Effect → Bool
 effectIs n e = eqb (effectNumber e) n

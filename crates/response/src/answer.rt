@@ -4,12 +4,17 @@ use crate::class_of;
 use crate::counts_in;
 use crate::decision_of;
 use crate::effect_of;
+use crate::names::class_name;
+use crate::names::decision_name;
+use crate::names::letters;
 use crate::nodes::node_lines;
 use crate::values::made_values;
+use forms::FORBID;
+use forms::PERMIT;
+use forms::POLICY;
 use print::byte;
 use print::bytes;
 use print::number;
-use table::POLICY;
 use table::count;
 use table::item;
 use table::row;
@@ -20,149 +25,145 @@ ghost use Rattle.print.specs.Written.{Written};
 ghost use Rattle.sheet.specs.Ascii.{ascii};
 ghost use Rattle.sheet.specs.Bytes.{digits};
 ghost use Rattle.sheet.specs.Answer.{printed, numbers, countsOf, headLines, concat};
+ghost use Rattle.sheet.specs.Forms.{POLICY};
 ghost use Rattle.response.specs.Verdicts.{verdictsIn};
 ghost use Rattle.response.specs.Printed.{idBytes, decisionBytes, effectBytes, classBytes, listed, fourOf, policyAt, policyLines, completeBytes, rootedLines};
 ghost use Rattle.response.specs.Nodes.{partialBytes};
 
 // A separator and a number.
-pub fn number_after(out: &mut [u8], at: usize, b: u8, n: u64) -> usize
-    ensures { λ r. ⌜ Written (now (out .entry)) at (b ∷ digits n) (now (out .exit)) r ⌝ }
+pub fn number_after(out: &mut [u8], at: usize, separator: u8, n: u64) -> usize
+    ensures { λ r. ⌜ Written (now (out .entry)) at (separator ∷ digits n) (now (out .exit)) r ⌝ }
 {
-    let k = byte(out, at, b);
+    let k = byte(out, at, separator);
     number(out, k, n)
 }
 
 // The line of the decision.
-pub fn decision_line(out: &mut [u8], at: usize, d: Decision) -> usize
-    ensures { λ r. ⌜ Written (now (out .entry)) at (decisionBytes d) (now (out .exit)) r ⌝ }
+pub fn decision_line(out: &mut [u8], at: usize, decision: Decision) -> usize
+    ensures { λ r. ⌜ Written (now (out .entry)) at (decisionBytes decision) (now (out .exit)) r ⌝ }
 {
-    match d {
-        Decision::Allow => bytes(out, at, b"decision=allow\n"),
-        Decision::Deny => bytes(out, at, b"decision=deny\n"),
-        Decision::Open => bytes(out, at, b"decision=open\n"),
-    }
+    let word = decision_name(decision);
+    let k = bytes(out, at, b"decision=");
+    let l = letters(out, k, &word);
+    byte(out, l, b'\n')
 }
 
 // The counts of one effect, after a separator: true, false, error, open.
-fn counts_of(out: &mut [u8], at: usize, b: u8, a: &[u32], classes: &[u32], effect: u32) -> usize
-    ensures { λ r. ⌜ Written (now (out .entry)) at (listed b (fourOf effect (verdictsIn (now (a .entry)) (now (classes .entry))))) (now (out .exit)) r ⌝ }
+fn counts_of(out: &mut [u8], at: usize, separator: u8, rows: &[u32], classes: &[u32], effect: u32) -> usize
+    ensures { λ r. ⌜ Written (now (out .entry)) at (listed separator (fourOf effect (verdictsIn (now (rows .entry)) (now (classes .entry))))) (now (out .exit)) r ⌝ }
 {
-    let c = counts_in(a, classes, effect);
-    let k = number_after(out, at, b, c.trues as u64);
-    let l = number_after(out, k, 44, c.falses as u64);
-    let m = number_after(out, l, 44, c.errors as u64);
-    number_after(out, m, 44, c.opens as u64)
+    let c = counts_in(rows, classes, effect);
+    let k = number_after(out, at, separator, c.trues as u64);
+    let l = number_after(out, k, b',', c.falses as u64);
+    let m = number_after(out, l, b',', c.errors as u64);
+    number_after(out, m, b',', c.opens as u64)
 }
 
 // The line of the counts: permits, then forbids.
-pub fn counts_line(out: &mut [u8], at: usize, a: &[u32], classes: &[u32]) -> usize
-    ensures { λ r. ⌜ Written (now (out .entry)) at (printed "counts" (numbers (countsOf (verdictsIn (now (a .entry)) (now (classes .entry)))))) (now (out .exit)) r ⌝ }
+pub fn counts_line(out: &mut [u8], at: usize, rows: &[u32], classes: &[u32]) -> usize
+    ensures { λ r. ⌜ Written (now (out .entry)) at (printed "counts" (numbers (countsOf (verdictsIn (now (rows .entry)) (now (classes .entry)))))) (now (out .exit)) r ⌝ }
 {
     let k = bytes(out, at, b"counts");
-    let l = counts_of(out, k, 61, a, classes, 0);
-    let m = counts_of(out, l, 44, a, classes, 1);
-    byte(out, m, 10)
+    let l = counts_of(out, k, b'=', rows, classes, PERMIT);
+    let m = counts_of(out, l, b',', rows, classes, FORBID);
+    byte(out, m, b'\n')
 }
 
 // The lines that every answer begins with.
-pub fn head(out: &mut [u8], at: usize, a: &[u32], classes: &[u32]) -> usize
-    ensures { λ r. ⌜ Written (now (out .entry)) at (concat (headLines (verdictsIn (now (a .entry)) (now (classes .entry))))) (now (out .exit)) r ⌝ }
+pub fn head(out: &mut [u8], at: usize, rows: &[u32], classes: &[u32]) -> usize
+    ensures { λ r. ⌜ Written (now (out .entry)) at (concat (headLines (verdictsIn (now (rows .entry)) (now (classes .entry))))) (now (out .exit)) r ⌝ }
 {
-    let d = decision_of(a, classes);
+    let d = decision_of(rows, classes);
     let k = decision_line(out, at, d);
-    counts_line(out, k, a, classes)
+    counts_line(out, k, rows, classes)
 }
 
 // An effect after a comma.
-fn effect_word(out: &mut [u8], at: usize, e: u32) -> usize
-    ensures { λ r. ⌜ Written (now (out .entry)) at (effectBytes e) (now (out .exit)) r ⌝ }
+fn effect_word(out: &mut [u8], at: usize, effect: u32) -> usize
+    ensures { λ r. ⌜ Written (now (out .entry)) at (effectBytes effect) (now (out .exit)) r ⌝ }
 {
-    match e {
-        0 => bytes(out, at, b",permit"),
+    match effect {
+        PERMIT => bytes(out, at, b",permit"),
         _ => bytes(out, at, b",forbid"),
     }
 }
 
 // A class after a comma.
-fn class_word(out: &mut [u8], at: usize, c: u32) -> usize
-    ensures { λ r. ⌜ Written (now (out .entry)) at (classBytes c) (now (out .exit)) r ⌝ }
+fn class_word(out: &mut [u8], at: usize, class: u32) -> usize
+    ensures { λ r. ⌜ Written (now (out .entry)) at (classBytes class) (now (out .exit)) r ⌝ }
 {
-    match c {
-        0 => bytes(out, at, b",true"),
-        1 => bytes(out, at, b",false"),
-        2 => bytes(out, at, b",error"),
-        _ => bytes(out, at, b",open"),
-    }
+    let word = class_name(class);
+    letters(out, at, &word)
 }
 
 // The line of policy `i` up to its id.
-fn policy_id(out: &mut [u8], at: usize, a: &[u32], i: u32) -> usize
-    ensures { λ r. ⌜ Written (now (out .entry)) at (idBytes (getD (rowsOf (now (a .entry)) 12) i [])) (now (out .exit)) r ⌝ }
+fn policy_id(out: &mut [u8], at: usize, rows: &[u32], i: u32) -> usize
+    ensures { λ r. ⌜ Written (now (out .entry)) at (idBytes (getD (rowsOf (now (rows .entry)) POLICY) i [])) (now (out .exit)) r ⌝ }
 {
-    let x = item(row(a, POLICY, i), 1) as u64;
+    let x = item(row(rows, POLICY, i), 1) as u64;
     let k = bytes(out, at, b"policy");
-    number_after(out, k, 61, x)
+    number_after(out, k, b'=', x)
 }
 
 // The line of policy `i` up to its class.
-pub fn policy_start(out: &mut [u8], at: usize, a: &[u32], classes: &[u32], i: u32) -> usize
-    ensures { λ r. ⌜ Written (now (out .entry)) at (policyAt (now (a .entry)) (now (classes .entry)) i) (now (out .exit)) r ⌝ }
+pub fn policy_start(out: &mut [u8], at: usize, rows: &[u32], classes: &[u32], i: u32) -> usize
+    ensures { λ r. ⌜ Written (now (out .entry)) at (policyAt (now (rows .entry)) (now (classes .entry)) i) (now (out .exit)) r ⌝ }
 {
-    let e = effect_of(a, i);
+    let e = effect_of(rows, i);
     let c = class_of(classes, i);
-    let k = policy_id(out, at, a, i);
+    let k = policy_id(out, at, rows, i);
     let l = effect_word(out, k, e);
     class_word(out, l, c)
 }
 
 // The policies of a complete answer.
-pub fn policies(out: &mut [u8], at: usize, a: &[u32], classes: &[u32]) -> usize
-    ensures { λ r. ⌜ Written (now (out .entry)) at (concat (policyLines (now (a .entry)) (now (classes .entry)))) (now (out .exit)) r ⌝ }
+pub fn policies(out: &mut [u8], at: usize, rows: &[u32], classes: &[u32]) -> usize
+    ensures { λ r. ⌜ Written (now (out .entry)) at (concat (policyLines (now (rows .entry)) (now (classes .entry)))) (now (out .exit)) r ⌝ }
 {
-    let n = count(a, POLICY);
+    let n = count(rows, POLICY);
     let mut i = 0;
     let mut k = at;
     while i < n {
-        let l = policy_start(out, k, a, classes, i);
-        k = byte(out, l, 10);
+        let l = policy_start(out, k, rows, classes, i);
+        k = byte(out, l, b'\n');
         i += 1;
     }
     k
 }
 
 // A complete answer.
-pub fn complete(out: &mut [u8], at: usize, a: &[u32], classes: &[u32]) -> usize
-    ensures { λ r. ⌜ Written (now (out .entry)) at (completeBytes (now (a .entry)) (now (classes .entry))) (now (out .exit)) r ⌝ }
+pub fn complete(out: &mut [u8], at: usize, rows: &[u32], classes: &[u32]) -> usize
+    ensures { λ r. ⌜ Written (now (out .entry)) at (completeBytes (now (rows .entry)) (now (classes .entry))) (now (out .exit)) r ⌝ }
 {
-    let k = head(out, at, a, classes);
-    policies(out, k, a, classes)
+    let k = head(out, at, rows, classes);
+    policies(out, k, rows, classes)
 }
 
 // The line of policy `i` with the number of its root.
-fn rooted_line(out: &mut [u8], at: usize, a: &[u32], classes: &[u32], i: u32, x: u64) -> usize
-    ensures { λ r. ⌜ Written (now (out .entry)) at (policyAt (now (a .entry)) (now (classes .entry)) i ++ ((44 ∷ digits x) ++ (10 ∷ []))) (now (out .exit)) r ⌝ }
+fn rooted_line(out: &mut [u8], at: usize, rows: &[u32], classes: &[u32], i: u32, root: u64) -> usize
+    ensures { λ r. ⌜ Written (now (out .entry)) at (policyAt (now (rows .entry)) (now (classes .entry)) i ++ ((44 ∷ digits root) ++ (10 ∷ []))) (now (out .exit)) r ⌝ }
 {
-    let l = policy_start(out, at, a, classes, i);
-    let m = number_after(out, l, 44, x);
-    byte(out, m, 10)
+    let l = policy_start(out, at, rows, classes, i);
+    let m = number_after(out, l, b',', root);
+    byte(out, m, b'\n')
 }
 
 // The policies of a partial answer: after the class stands the number of the residual's root, a word of `roots` for each policy.
 pub fn rooted_policies(
     out: &mut [u8],
     at: usize,
-    a: &[u32],
+    rows: &[u32],
     classes: &[u32],
     roots: &[u32],
 ) -> usize
-    ensures { λ r. ⌜ Written (now (out .entry)) at (concat (rootedLines (now (a .entry)) (now (classes .entry)) (now (roots .entry)))) (now (out .exit)) r ⌝ }
+    ensures { λ r. ⌜ Written (now (out .entry)) at (concat (rootedLines (now (rows .entry)) (now (classes .entry)) (now (roots .entry)))) (now (out .exit)) r ⌝ }
 {
-    let n = count(a, POLICY);
+    let n = count(rows, POLICY);
     let mut i = 0;
     let mut k = at;
     while i < n {
         let x = item(roots, i as usize) as u64;
-        k = rooted_line(out, k, a, classes, i, x);
+        k = rooted_line(out, k, rows, classes, i, x);
         i += 1;
     }
     k
@@ -172,15 +173,15 @@ pub fn rooted_policies(
 pub fn partial(
     out: &mut [u8],
     at: usize,
-    a: &[u32],
+    rows: &[u32],
     log: &[u32],
     classes: &[u32],
     roots: &[u32],
 ) -> usize
-    ensures { λ r. ⌜ Written (now (out .entry)) at (partialBytes (now (a .entry)) (now (log .entry)) (now (classes .entry)) (now (roots .entry))) (now (out .exit)) r ⌝ }
+    ensures { λ r. ⌜ Written (now (out .entry)) at (partialBytes (now (rows .entry)) (now (log .entry)) (now (classes .entry)) (now (roots .entry))) (now (out .exit)) r ⌝ }
 {
-    let k = head(out, at, a, classes);
-    let l = made_values(out, k, a);
-    let m = node_lines(out, l, a, log);
-    rooted_policies(out, m, a, classes, roots)
+    let k = head(out, at, rows, classes);
+    let l = made_values(out, k, rows);
+    let m = node_lines(out, l, rows, log);
+    rooted_policies(out, m, rows, classes, roots)
 }

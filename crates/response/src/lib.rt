@@ -1,10 +1,17 @@
 // The response: what each policy is called, how many are called so, the decision that these give, and the printed answer. A policy's
-// class is a word of a slice: 0 true, 1 false, 2 error, 3 open; its effect and its id stand in its row of the sheet.
+// class is a word of a slice; its effect and its id stand in its row of the sheet.
 pub mod answer;
+pub mod names;
 pub mod nodes;
 pub mod values;
 
-use table::POLICY;
+use forms::FORBID;
+use forms::PERMIT;
+use forms::POLICY;
+use residual::CLASS_ERROR;
+use residual::CLASS_FALSE;
+use residual::CLASS_OPEN;
+use residual::CLASS_TRUE;
 use table::count;
 use table::item;
 use table::row;
@@ -19,7 +26,9 @@ ghost use Rattle.cedar.specs.Canonical.{bit};
 ghost use Rattle.cedar.specs.Response.{decision};
 ghost use Rattle.cedar.specs.Response as Cedar;
 ghost use Rattle.sheet.specs.Answer.{howMany};
-ghost use Rattle.response.specs.Verdicts.{effectNumber, classNumber, effectIn, classIn, effectIs, classIs, verdictsIn, said};
+ghost use Rattle.sheet.specs.Forms.{POLICY};
+ghost use Rattle.residual.specs.Classes.{classNumber, CLASS-TRUE, CLASS-FALSE, CLASS-ERROR, CLASS-OPEN};
+ghost use Rattle.response.specs.Verdicts.{effectNumber, effectIn, classIn, effectIs, classIs, verdictsIn, said};
 
 // What the policies decide.
 pub enum Decision {
@@ -28,25 +37,25 @@ pub enum Decision {
     Open,
 }
 
-// The effect of policy `i`: 0 permit, 1 forbid.
-pub fn effect_of(a: &[u32], i: u32) -> u32
-    ensures { λ r. ⌜ r ≡ effectNumber (effectIn (getD (rowsOf (now (a .entry)) 12) i [])) ⌝ }
+// The effect of policy `i`.
+pub fn effect_of(rows: &[u32], i: u32) -> u32
+    ensures { λ r. ⌜ r ≡ effectNumber (effectIn (getD (rowsOf (now (rows .entry)) POLICY) i [])) ⌝ }
 {
-    if item(row(a, POLICY, i), 2) == 1 {
-        return 1;
+    if item(row(rows, POLICY, i), 2) == FORBID {
+        return FORBID;
     }
-    0
+    PERMIT
 }
 
-// The class of policy `i`; a greater number than 3 is open too.
+// The class of policy `i`; a greater number is open too.
 pub fn class_of(classes: &[u32], i: u32) -> u32
     ensures { λ r. ⌜ r ≡ classNumber (classIn (getD (now (classes .entry)) i 0)) ⌝ }
 {
     let c = read(classes, i as usize);
-    if c < 3 {
+    if c < CLASS_OPEN {
         return c;
     }
-    3
+    CLASS_OPEN
 }
 
 // 1 where a policy's effect and class are these, else 0.
@@ -71,25 +80,25 @@ pub struct Counts {
 }
 
 // The counts of an effect.
-pub fn counts_in(a: &[u32], classes: &[u32], effect: u32) -> Counts
-    ensures trues { λ r. ⌜ r .trues ≡ howMany (effectIs effect) (classIs 0) (verdictsIn (now (a .entry)) (now (classes .entry))) ⌝ }
-    ensures falses { λ r. ⌜ r .falses ≡ howMany (effectIs effect) (classIs 1) (verdictsIn (now (a .entry)) (now (classes .entry))) ⌝ }
-    ensures errors { λ r. ⌜ r .errors ≡ howMany (effectIs effect) (classIs 2) (verdictsIn (now (a .entry)) (now (classes .entry))) ⌝ }
-    ensures opens { λ r. ⌜ r .opens ≡ howMany (effectIs effect) (classIs 3) (verdictsIn (now (a .entry)) (now (classes .entry))) ⌝ }
+pub fn counts_in(rows: &[u32], classes: &[u32], effect: u32) -> Counts
+    ensures trues { λ r. ⌜ r .trues ≡ howMany (effectIs effect) (classIs CLASS-TRUE) (verdictsIn (now (rows .entry)) (now (classes .entry))) ⌝ }
+    ensures falses { λ r. ⌜ r .falses ≡ howMany (effectIs effect) (classIs CLASS-FALSE) (verdictsIn (now (rows .entry)) (now (classes .entry))) ⌝ }
+    ensures errors { λ r. ⌜ r .errors ≡ howMany (effectIs effect) (classIs CLASS-ERROR) (verdictsIn (now (rows .entry)) (now (classes .entry))) ⌝ }
+    ensures opens { λ r. ⌜ r .opens ≡ howMany (effectIs effect) (classIs CLASS-OPEN) (verdictsIn (now (rows .entry)) (now (classes .entry))) ⌝ }
 {
-    let n = count(a, POLICY);
+    let n = count(rows, POLICY);
     let mut i = 0;
     let mut trues = 0;
     let mut falses = 0;
     let mut errors = 0;
     let mut opens = 0;
     while i < n {
-        let e = effect_of(a, i);
+        let e = effect_of(rows, i);
         let c = class_of(classes, i);
-        trues += hit(e, c, effect, 0);
-        falses += hit(e, c, effect, 1);
-        errors += hit(e, c, effect, 2);
-        opens += hit(e, c, effect, 3);
+        trues += hit(e, c, effect, CLASS_TRUE);
+        falses += hit(e, c, effect, CLASS_FALSE);
+        errors += hit(e, c, effect, CLASS_ERROR);
+        opens += hit(e, c, effect, CLASS_OPEN);
         i += 1;
     }
     Counts {
@@ -125,11 +134,11 @@ pub fn decide(
 }
 
 // The decision that the classes of the policies give.
-pub fn decision_of(a: &[u32], classes: &[u32]) -> Decision
-    ensures { λ r. ⌜ r ≡ said (decision (verdictsIn (now (a .entry)) (now (classes .entry)))) ⌝ }
+pub fn decision_of(rows: &[u32], classes: &[u32]) -> Decision
+    ensures { λ r. ⌜ r ≡ said (decision (verdictsIn (now (rows .entry)) (now (classes .entry)))) ⌝ }
 {
-    let permits = counts_in(a, classes, 0);
-    let forbids = counts_in(a, classes, 1);
+    let permits = counts_in(rows, classes, PERMIT);
+    let forbids = counts_in(rows, classes, FORBID);
     let true_forbids = forbids.trues > 0;
     let true_permits = permits.trues > 0;
     let residual_permits = permits.opens > 0;

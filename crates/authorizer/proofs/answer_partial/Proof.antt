@@ -22,7 +22,7 @@ returns c =
     let y = c .before .before .before .before .cut2 in
     let z = c .before .before .before .cut3 in
     let t = c .before .before .send-partial in
-    partial-runs (s .args .sheet .now) (s .args .a .now) (s .args .b .now) (r .last .1 .0) (r .last .1 .1 .0) (l .last .1 .0) (x .result .now) (y .result .now) (z .result .now) (s .args .out .now)
+    partial-runs (s .args .sheet .now) (s .args .rows .now) (s .args .log .now) (r .last .1 .0) (r .last .1 .1 .0) (l .last .1 .0) (x .result .now) (y .result .now) (z .result .now) (s .args .out .now)
     (r .result) (t .result .number) (t .result .line) (t .result .length) (t .last .0) (r .ensures) (s .pre .1) (r .kept .1 .1 .0) (l .ensures) (x .ensures) (y .ensures) (z .ensures) (t .ensures)
 
 pub answer-partial-spec : {M : Type 1} → statement M

@@ -7,10 +7,10 @@ use Rattle.response.proofs.counts_in.Statement.{statement}
 use Rattle.response.proofs.counts_in.Tie as tie
 
 abbrev Inv-loop : tie.InvT-loop
-Inv-loop a classes effect n i₀ trues₀ falses₀ errors₀ opens₀ i trues falses errors opens = Tallies a classes effect n i trues falses errors opens
+Inv-loop rows classes effect n i₀ trues₀ falses₀ errors₀ opens₀ i trues falses errors opens = Tallies rows classes effect n i trues falses errors opens
 
 abbrev μ-loop : tie.MeasureT-loop
-μ-loop a classes effect n i₀ trues₀ falses₀ errors₀ opens₀ i trues falses errors opens = n - i
+μ-loop rows classes effect n i₀ trues₀ falses₀ errors₀ opens₀ i trues falses errors opens = n - i
 
 loop-holds : tie.Need-loop-holds Inv-loop μ-loop
 loop-holds c = search (tally-start, needs)
@@ -34,7 +34,7 @@ returns : tie.Need-returns Inv-loop μ-loop
 returns c =
     let x = c .before .before .before .before .before .args in
     let l = c .before .loop in
-    tallies-end (x .a .now) (x .classes .now) (x .effect) (c .before .before .count .result) (l .i) (l .trues) (l .falses) (l .errors) (l .opens) (c .before .before .count .ensures) (l .inv) (search needs)
+    tallies-end (x .rows .now) (x .classes .now) (x .effect) (c .before .before .count .result) (l .i) (l .trues) (l .falses) (l .errors) (l .opens) (c .before .before .count .ensures) (l .inv) (search needs)
 
 pub counts-in-spec : {M : Type 1} → statement M
 counts-in-spec =

@@ -11,7 +11,7 @@ returns c =
     let q = p .before .before .before .before .before .before .before .before in
     let x = q .before .before .before .before .args in
     let k = q .counts-in .ensures in
-    counts-four _ _ _ _ (x .b) (x .effect) (verdictsIn (x .a .now) (x .classes .now)) _ _ _ _ _ _ _ _ _ _ (k .0) (k .1 .0) (k .1 .1 .0) (k .1 .1 .1)
+    counts-four _ _ _ _ (x .separator) (x .effect) (verdictsIn (x .rows .now) (x .classes .now)) _ _ _ _ _ _ _ _ _ _ (k .0) (k .1 .0) (k .1 .1 .0) (k .1 .1 .1)
     (p .before .before .before .before .before .number-after .ensures) (p .number-after2 .ensures) (c .before .before .before .before .before .before .before .number-after3 .ensures) (c .before .before .number-after4 .ensures)
 
 pub counts-of-spec : {M : Type 1} → statement M

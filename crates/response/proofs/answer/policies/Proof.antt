@@ -1,7 +1,9 @@
 -- `response::answer::policies` meets its contract. Assumes nothing.
+use mathlib.Core.Path.{refl}
 use Prim.Native.Nat.{_-_}
-use Rattle.response.proofs.Printing.{Printing, linesFrom, policies-start, policies-on, policies-end}
+use Rattle.response.proofs.Printing.{Printing, printing-start, linesFrom, policies-on, policies-end}
 use Rattle.sheet.specs.Answer.{concat}
+use Rattle.response.specs.Verdicts.{verdictsIn}
 use Rattle.response.specs.Printed.{policyLines}
 use Rattle.print.proofs.Writing.{written-length}
 use borrow.Author.Needs.{needs}
@@ -9,13 +11,14 @@ use Rattle.response.proofs.answer.policies.Statement.{statement}
 use Rattle.response.proofs.answer.policies.Tie as tie
 
 abbrev Inv-loop : tie.InvT-loop
-Inv-loop out₀ at a classes n i₀ k₀ out i k = Printing (concat (policyLines a classes)) (concat (linesFrom a classes i)) out₀ at out k
+Inv-loop out₀ at rows classes n i₀ k₀ out i k = Printing (concat (policyLines rows classes)) (concat (linesFrom rows classes i)) out₀ at out k
 
 abbrev μ-loop : tie.MeasureT-loop
-μ-loop out₀ at a classes n i₀ k₀ out i k = n - i
+μ-loop out₀ at rows classes n i₀ k₀ out i k = n - i
 
 loop-holds : tie.Need-loop-holds Inv-loop μ-loop
-loop-holds c = let x = c .before .before .before .before .args in policies-start (x .a .now) (x .classes .now) (c .count .result) (c .count .ensures) (x .out .now) (x .at) (search needs) (search needs)
+unfolding policyLines verdictsIn
+loop-holds c = let x = c .before .before .before .before .args in printing-start _ _ (x .out .now) (x .at) refl (search needs) (search needs)
 
 loop-again : tie.Need-loop-again Inv-loop μ-loop
 loop-again c = search (policies-on, needs)

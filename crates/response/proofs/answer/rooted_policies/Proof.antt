@@ -1,8 +1,9 @@
 -- `response::answer::rooted_policies` meets its contract. Assumes nothing.
 use Rattle.print.proofs.Writing.{written-length}
+use mathlib.Core.Path.{refl}
 use Prim.Native.Nat.{_-_}
-use Rattle.response.proofs.Rooted.{rootedFrom, rooted-start, rooted-on, rooted-end}
-use Rattle.response.proofs.Printing.{Printing}
+use Rattle.response.proofs.Rooted.{rootedFrom, rooted-on, rooted-end}
+use Rattle.response.proofs.Printing.{Printing, printing-start}
 use Rattle.sheet.specs.Answer.{concat}
 use Rattle.response.specs.Printed.{rootedLines}
 use borrow.Author.Needs.{needs}
@@ -10,13 +11,14 @@ use Rattle.response.proofs.answer.rooted_policies.Statement.{statement}
 use Rattle.response.proofs.answer.rooted_policies.Tie as tie
 
 abbrev Inv-loop : tie.InvT-loop
-Inv-loop out₀ at a classes roots n i₀ k₀ out i k = Printing (concat (rootedLines a classes roots)) (rootedFrom a classes roots i) out₀ at out k
+Inv-loop out₀ at rows classes roots n i₀ k₀ out i k = Printing (concat (rootedLines rows classes roots)) (rootedFrom rows classes roots i) out₀ at out k
 
 abbrev μ-loop : tie.MeasureT-loop
-μ-loop out₀ at a classes roots n i₀ k₀ out i k = n - i
+μ-loop out₀ at rows classes roots n i₀ k₀ out i k = n - i
 
 loop-holds : tie.Need-loop-holds Inv-loop μ-loop
-loop-holds c = let x = c .before .before .before .before .before .args in rooted-start (x .a .now) (x .classes .now) (x .roots .now) (c .count .result) (c .count .ensures) (x .out .now) (x .at) (search needs) (search needs)
+unfolding rootedLines
+loop-holds c = let x = c .before .before .before .before .before .args in printing-start _ _ (x .out .now) (x .at) refl (search needs) (search needs)
 
 loop-again : tie.Need-loop-again Inv-loop μ-loop
 loop-again c = search (rooted-on, needs)

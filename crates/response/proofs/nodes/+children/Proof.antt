@@ -35,7 +35,7 @@ children-returns : (t : ℕ) → children-lts.Need-returns (
   number-after-reads.Asked,
   number-after-reads.Learnt,
 ) (children-at t) children.Post
-children-returns t c = let x = c .before .before .before .args in children-none (x .out .now) (x .log .now) (x .at) (x .start) (x .p) (search needs) (search needs) (search needs)
+children-returns t c = let x = c .before .before .before .args in children-none (x .out .now) (x .log .now) (x .at) (x .start) (x .end) (search needs) (search needs) (search needs)
 
 children-children-requires : (t : ℕ) → children-lts.Need-children-requires (
   start-at-reads.Asked,
@@ -47,7 +47,7 @@ children-children-requires : (t : ℕ) → children-lts.Need-children-requires (
   number-after-reads.Asked,
   number-after-reads.Learnt,
 ) (children-at t) children.Post
-children-children-requires t c κs = (let x = c .before .before .before .before .before .args in let z = look-less (x .log .now) (x .start) (x .p) (c .before .start-at .result) (search needs) (c .before .start-at .ensures) in omega arith, search needs)
+children-children-requires t c κs = (let x = c .before .before .before .before .before .args in let z = look-less (x .log .now) (x .start) (x .end) (c .before .start-at .result) (search needs) (c .before .start-at .ensures) in omega arith, search needs)
 
 children-returns-2 : (t : ℕ) → children-lts.Need-returns-2 (
   start-at-reads.Asked,

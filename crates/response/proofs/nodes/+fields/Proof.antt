@@ -36,7 +36,7 @@ fields-returns : (t : ℕ) → fields-lts.Need-returns (
   number-of-reads.Asked,
   number-of-reads.Learnt,
 ) (fields-at t) fields.Post
-fields-returns t c = let x = c .before .before .before .before .args in fields-few (x .out .now) (x .r .now) (x .log .now) (x .at) (x .i) (x .start) (x .p) (search needs) (search needs) (search needs)
+fields-returns t c = let x = c .before .before .before .before .args in fields-few (x .out .now) (x .line .now) (x .log .now) (x .at) (x .i) (x .start) (x .end) (search needs) (search needs) (search needs)
 
 fields-returns-2 : (t : ℕ) → fields-lts.Need-returns-2 (
   start-at-reads.Asked,
@@ -50,7 +50,7 @@ fields-returns-2 : (t : ℕ) → fields-lts.Need-returns-2 (
   number-of-reads.Asked,
   number-of-reads.Learnt,
 ) (fields-at t) fields.Post
-fields-returns-2 t c = let x = c .before .before .before .before .before .args in fields-none (x .out .now) (x .r .now) (x .log .now) (x .at) (x .i) (x .start) (x .p) (search needs) (search needs) (search needs)
+fields-returns-2 t c = let x = c .before .before .before .before .before .args in fields-none (x .out .now) (x .line .now) (x .log .now) (x .at) (x .i) (x .start) (x .end) (search needs) (search needs) (search needs)
 
 fields-fields-requires : (t : ℕ) → fields-lts.Need-fields-requires (
   start-at-reads.Asked,

@@ -6,10 +6,10 @@ use Rattle.response.proofs.nodes.bool_line.Statement.{statement}
 use Rattle.response.proofs.nodes.bool_line.Tie as tie
 
 abbrev Inv-loop : tie.InvT-loop
-Inv-loop a n i₀ i = Seeking a i n
+Inv-loop rows n i₀ i = Seeking rows i n
 
 abbrev μ-loop : tie.MeasureT-loop
-μ-loop a n i₀ i = n - i
+μ-loop rows n i₀ i = n - i
 
 loop-holds : tie.Need-loop-holds Inv-loop μ-loop
 loop-holds c = search (seek-start, needs)

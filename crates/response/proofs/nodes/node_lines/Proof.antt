@@ -4,6 +4,7 @@ use Prim.Native.Nat.{_-_}
 use lib.ListN.{length}
 use Rattle.table.specs.Layout.{rowsOf}
 use Rattle.sheet.specs.Answer.{concat}
+use Rattle.sheet.specs.Forms.{TYPE, NODE}
 use Rattle.response.specs.Nodes.{logLines}
 use Rattle.response.proofs.Made.{Along}
 use Rattle.response.proofs.NodeLines.{linesFrom, lines-start, lines-more, lines-end}
@@ -12,13 +13,13 @@ use Rattle.response.proofs.nodes.node_lines.Statement.{statement}
 use Rattle.response.proofs.nodes.node_lines.Tie as tie
 
 abbrev Inv-loop : tie.InvT-loop
-Inv-loop out₀ at a log s₀ k₀ out s k = Along (concat (logLines (rowsOf a 3) (rowsOf a 11) log)) (linesFrom (rowsOf a 3) (rowsOf a 11) log s) out₀ at out k s (length log)
+Inv-loop out₀ at rows log s₀ k₀ out s k = Along (concat (logLines (rowsOf rows TYPE) (rowsOf rows NODE) log)) (linesFrom (rowsOf rows TYPE) (rowsOf rows NODE) log s) out₀ at out k s (length log)
 
 abbrev μ-loop : tie.MeasureT-loop
-μ-loop out₀ at a log s₀ k₀ out s k = length log - s
+μ-loop out₀ at rows log s₀ k₀ out s k = length log - s
 
 loop-holds : tie.Need-loop-holds Inv-loop μ-loop
-loop-holds c = let x = c .before .before .before .args in lines-start (rowsOf (x .a .now) 3) (rowsOf (x .a .now) 11) (x .log .now) (x .out .now) (x .at) (search needs) (search needs)
+loop-holds c = let x = c .before .before .before .args in lines-start (rowsOf (x .rows .now) TYPE) (rowsOf (x .rows .now) NODE) (x .log .now) (x .out .now) (x .at) (search needs) (search needs)
 
 loop-again : tie.Need-loop-again Inv-loop μ-loop
 loop-again c = search (lines-more, needs)

@@ -20,7 +20,7 @@ returns-5 : tie.Need-returns-5
 returns-5 c = search (rest-path, needs)
 
 returns-6 : tie.Need-returns-6
-returns-6 c = let x = c .before .before .before .before .args in rest-over (x .out .now) (x .at) _ (x .r .now) (x .k) (search needs) (search needs) (c .before .tag .ensures) (search needs) (search needs) (search needs) (search needs) (search needs)
+returns-6 c = let x = c .before .before .before .before .args in rest-over (x .out .now) (x .at) _ (x .line .now) (x .passed) (search needs) (search needs) (c .before .tag .ensures) (search needs) (search needs) (search needs) (search needs) (search needs)
 
 pub rest-items-spec : {M : Type 1} → statement M
 rest-items-spec =

@@ -1,9 +1,10 @@
 -- `response::values::entries` meets its contract. Assumes nothing.
 use Rattle.print.proofs.Writing.{written-length}
-use Prim.Native.Nat.{_-_}
+use mathlib.Core.List.{List}
+use Prim.Native.Nat.{ℕ, _-_}
 use lib.ListN.{length, drop}
 use Rattle.response.specs.Values.{after}
-use Rattle.response.proofs.Made.{Along, entries-start, entries-on, entries-end}
+use Rattle.response.proofs.Made.{Along, along-start, entries-on, entries-end}
 use Rattle.sheet.specs.Answer.{entryItems}
 use Rattle.sheet.specs.State.{entriesOf}
 use borrow.Author.Needs.{needs}
@@ -11,13 +12,13 @@ use Rattle.response.proofs.values.entries.Statement.{statement}
 use Rattle.response.proofs.values.entries.Tie as tie
 
 abbrev Inv-loop : tie.InvT-loop
-Inv-loop out₀ at l i₀ k₀ out i k = Along (after (entryItems (entriesOf l))) (after (entryItems (entriesOf (drop i l)))) out₀ at out k i (length l)
+Inv-loop out₀ at words i₀ k₀ out i k = Along (after (entryItems (entriesOf words))) (after (entryItems (entriesOf (drop i words)))) out₀ at out k i (length words)
 
 abbrev μ-loop : tie.MeasureT-loop
-μ-loop out₀ at l i₀ k₀ out i k = length l - i
+μ-loop out₀ at words i₀ k₀ out i k = length words - i
 
 loop-holds : tie.Need-loop-holds Inv-loop μ-loop
-loop-holds c = let x = c .before .before .args in entries-start (x .l .now) (x .out .now) (x .at) (search needs) (search needs)
+loop-holds c = let x = c .before .before .args in along-start (λ (m : List ℕ). after (entryItems (entriesOf m))) (x .words .now) (x .out .now) (x .at) (search needs) (search needs)
 
 loop-again : tie.Need-loop-again Inv-loop μ-loop
 loop-again c = search (entries-on, needs)

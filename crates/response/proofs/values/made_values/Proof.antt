@@ -1,21 +1,23 @@
 -- `response::values::made_values` meets its contract. Assumes nothing.
 use Rattle.print.proofs.Writing.{written-length}
+use mathlib.Core.Path.{refl}
 use Prim.Native.Nat.{_-_}
-use Rattle.response.proofs.Made.{madeFrom, made-start, made-on, made-end}
-use Rattle.response.proofs.Printing.{Printing}
+use Rattle.response.proofs.Made.{madeFrom, made-on, made-end}
+use Rattle.response.proofs.Printing.{Printing, printing-start}
 use Rattle.response.specs.Values.{madeLines}
 use borrow.Author.Needs.{needs}
 use Rattle.response.proofs.values.made_values.Statement.{statement}
 use Rattle.response.proofs.values.made_values.Tie as tie
 
 abbrev Inv-loop : tie.InvT-loop
-Inv-loop out₀ at a n i₀ k₀ out i k = Printing (madeLines a) (madeFrom a i) out₀ at out k
+Inv-loop out₀ at rows n i₀ k₀ out i k = Printing (madeLines rows) (madeFrom rows i) out₀ at out k
 
 abbrev μ-loop : tie.MeasureT-loop
-μ-loop out₀ at a n i₀ k₀ out i k = n - i
+μ-loop out₀ at rows n i₀ k₀ out i k = n - i
 
 loop-holds : tie.Need-loop-holds Inv-loop μ-loop
-loop-holds c = let x = c .before .before .before .args in made-start (x .a .now) (c .count .result) (c .count .ensures) (x .out .now) (x .at) (search needs) (search needs)
+unfolding madeLines
+loop-holds c = let x = c .before .before .before .args in printing-start _ _ (x .out .now) (x .at) refl (search needs) (search needs)
 
 loop-again : tie.Need-loop-again Inv-loop μ-loop
 loop-again c = search (made-on, needs)

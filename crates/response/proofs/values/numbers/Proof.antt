@@ -1,22 +1,23 @@
 -- `response::values::numbers` meets its contract. Assumes nothing.
 use Rattle.print.proofs.Writing.{written-length}
-use Prim.Native.Nat.{_-_}
+use mathlib.Core.List.{List}
+use Prim.Native.Nat.{ℕ, _-_}
 use lib.ListN.{length, drop}
 use Rattle.response.specs.Values.{after}
-use Rattle.response.proofs.Made.{Along, numbers-start, numbers-on, numbers-end}
+use Rattle.response.proofs.Made.{Along, along-start, numbers-on, numbers-end}
 use Rattle.sheet.specs.Answer.{numbers}
 use borrow.Author.Needs.{needs}
 use Rattle.response.proofs.values.numbers.Statement.{statement}
 use Rattle.response.proofs.values.numbers.Tie as tie
 
 abbrev Inv-loop : tie.InvT-loop
-Inv-loop out₀ at l i₀ k₀ out i k = Along (after (numbers l)) (after (numbers (drop i l))) out₀ at out k i (length l)
+Inv-loop out₀ at words i₀ k₀ out i k = Along (after (numbers words)) (after (numbers (drop i words))) out₀ at out k i (length words)
 
 abbrev μ-loop : tie.MeasureT-loop
-μ-loop out₀ at l i₀ k₀ out i k = length l - i
+μ-loop out₀ at words i₀ k₀ out i k = length words - i
 
 loop-holds : tie.Need-loop-holds Inv-loop μ-loop
-loop-holds c = let x = c .before .before .args in numbers-start (x .l .now) (x .out .now) (x .at) (search needs) (search needs)
+loop-holds c = let x = c .before .before .args in along-start (λ (m : List ℕ). after (numbers m)) (x .words .now) (x .out .now) (x .at) (search needs) (search needs)
 
 loop-again : tie.Need-loop-again Inv-loop μ-loop
 loop-again c = search (numbers-on, needs)
