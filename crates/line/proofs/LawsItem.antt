@@ -18,7 +18,8 @@ use Rattle.sheet.specs.Bytes.{upTo, same, split, index, long}
 use Rattle.sheet.specs.Forms.{partial, complete, entry, line, lineOr, lineUnknown, number, nothing, dash, asterisk, mark, placeIn, wordNumber, one, markOr, isPartial, item}
 use Rattle.scan.specs.declared.Number as N
 use Rattle.scan.specs.Numbers.{numberOf, placed}
-use Rattle.scan.proofs.Scans.{same-is, same-last, comparing-never}
+use Rattle.sheet.proofs.TwoSheets.{same-is}
+use Rattle.scan.proofs.Scans.{same-last, comparing-never}
 use Rattle.scan.proofs.Decimals.{index-small}
 use Rattle.scan.proofs.Wordlists.{words-are}
 use Rattle.forms.specs.Tags.{PERMIT, FORBID}

@@ -1,33 +1,33 @@
 -- One line: its row is written past the heap's end, judged there, and added. Assumes nothing.
 use mathlib.Core.Path.{_≡_, refl, sym, ap, ap₂, subst, _∙_}
-use mathlib.Core.Bool.{Bool, true, false, cond, _&&_}
+use mathlib.Core.Bool.{Bool, true, false, cond}
 use mathlib.Core.List.{List, [], _∷_, _++_}
-use Prim.Native.Nat.{ℕ, zero, suc, _+_, _-_, _*_, _/_, _%_, _≤_, _<_}
+use Prim.Native.Nat.{ℕ, zero, suc, _+_, _-_, _*_, _≤_, _<_}
 use native.Mathlib.Omega.{arith}
 use native.Mathlib.Decide.{ℕ-discrete, decLt}
-use borrow.Author.Tests.{eq-eqb, ne-eqb, le-leb}
-use lib.Dec.{leb, eqb}
-use lib.ListN.{length, getD, take, drop, List·getD-eq-default}
+use borrow.Author.Tests.{eq-eqb, ne-eqb, leb-false}
+use lib.Dec.{eqb}
+use lib.ListN.{length, getD, take, drop}
 use lib.Seq.{drop-drop}
-use Rattle.words.specs.Bits.{member, bit}
-use Rattle.cedar.proofs.Tools.{no-true}
-use Rattle.sheet.specs.Forms.{Mode, forms, formOf, tag, keyOf, refs, NODE, TYPE, VALUE, KIND, TEXT}
+use Rattle.sheet.specs.Forms.{Mode, forms, formOf, tag, keyOf, refs, TEXT, KIND, TYPE, VALUE, ENTITY, NODE, noKey}
 use Rattle.sheet.specs.State.{State, count}
 use Rattle.sheet.specs.Sheet.{greatest, fault, faultOf, more, depth, marked}
-use Rattle.sheet.proofs.Lines.{and-both, Passed, passed, later-empty}
-use Rattle.table.specs.Layout.{part, TOP, rowsOf, textRow, linesHeld, depthsHeld, held, withRow, limits, limit, Last, Sound}
-use Rattle.table.proofs.Rows.{count-held, lines-held, limit-small}
+use Rattle.sheet.proofs.Lines.{Passed, passed, later-empty}
+use Rattle.sheet.proofs.Shallow.{reached-settled}
+use Rattle.sheet.proofs.Depths as D
+use Rattle.forms.specs.Tags.{TEXT-LINE}
+use Rattle.table.specs.Layout.{part, MADE, TOP, TYPEDEPTHS, USES, rowsOf, textRow, held, withRow, limits, limit, Last, Sound}
+use Rattle.table.proofs.Rows.{count-held, limit-small}
 use Rattle.table.proofs.Frame.{rows-kept, word-kept, sound-kept, top-new, count-new, count-other, rest-new, rows-own, rows-other, sound-new}
-use Rattle.table.proofs.Held.{rowIn, held-same}
-use Rattle.fits.specs.Fit.{isPair, SettledIn, Known}
-use Rattle.fits.specs.Fit as F
-use Rattle.fits.proofs.Remembered.{small-pair, cleared, known-kept}
+use Rattle.table.proofs.Held.{held-same}
+use Rattle.fits.specs.Fit.{SettledIn, Known}
+use Rattle.fits.proofs.Remembered.{cleared, settled-held, known-kept, known-words}
 use Rattle.checks.specs.Uses.{usesIn}
-use Rattle.judge.specs.Verdicts.{Judged}
+use Rattle.judge.specs.Verdicts.{rowIn, Judged}
 use Rattle.judge.proofs.Alike.{text-tag}
-use Rattle.judge.proofs.Settling.{Falling, settled-in, falling-line}
+use Rattle.judge.proofs.Judging.{line-key}
 use Rattle.line.specs.Written.{rowFrom, Line}
-use Rattle.take.specs.Steps.{withDepth, Ready, taken, Lined, Taken}
+use Rattle.take.specs.Steps.{withDepth, Reached, before-any, after-line, Ready, taken, Taken}
 use Rattle.take.proofs.Committing.{line-words, state-more}
 
 -- ---- rows of words and rows of the definition
@@ -35,13 +35,13 @@ use Rattle.take.proofs.Committing.{line-words, state-more}
 row-alike : (sheet q : List ℕ) → (q ≡ [] → ⊥) → rowIn sheet (keyOf q) q ≡ rowFrom sheet q
 unfolding keyOf formOf forms
 row-alike sheet [] n = absurd (n refl)
-row-alike sheet (t ∷ l) n = go (ℕ-discrete t 1) (ℕ-discrete (keyOf (t ∷ l)) 1)
+row-alike sheet (t ∷ l) n = go (ℕ-discrete t TEXT-LINE) (ℕ-discrete (keyOf (t ∷ l)) TEXT)
   where
-    go : Dec (t ≡ 1) → Dec (keyOf (t ∷ l) ≡ 1) → cond (eqb (keyOf (t ∷ l)) 1) (textRow sheet (t ∷ l)) (t ∷ l) ≡ cond (eqb t TEXT) (textRow sheet (t ∷ l)) (t ∷ l)
-    go (yes e) (yes k) = rw (eq-eqb t 1 e, eq-eqb (keyOf (t ∷ l)) 1 k) refl
+    go : Dec (t ≡ TEXT-LINE) → Dec (keyOf (t ∷ l) ≡ TEXT) → cond (eqb (keyOf (t ∷ l)) TEXT) (textRow sheet (t ∷ l)) (t ∷ l) ≡ cond (eqb t TEXT) (textRow sheet (t ∷ l)) (t ∷ l)
+    go (yes e) (yes k) = rw (eq-eqb t TEXT-LINE e, eq-eqb (keyOf (t ∷ l)) TEXT k) refl
     go (yes e) (no k) = absurd (k (ap (λ (x : ℕ). formOf x .key) e))
     go (no e) (yes k) = absurd (e (text-tag (t ∷ l) k))
-    go (no e) (no k) = rw (ne-eqb t 1 e, ne-eqb (keyOf (t ∷ l)) 1 k) refl
+    go (no e) (no k) = rw (ne-eqb t TEXT-LINE e, ne-eqb (keyOf (t ∷ l)) TEXT k) refl
 
 key-alike : (sheet q : List ℕ) → keyOf (rowIn sheet (keyOf q) q) ≡ keyOf q
 unfolding keyOf
@@ -60,24 +60,14 @@ fault-none : (s : State) (r : List ℕ) → r ≡ [] → 3 ≡ fault s r
 unfolding fault
 fault-none s r e = rw e refl
 
--- ---- what is remembered stands in the first words
+-- ---- the words past those that a sheet uses
 
-known-words : (a m m′ : List ℕ) → ((i : ℕ) → i < 4096 → getD m′ i 0 ≡ getD m i 0) → Known a m → Known a m′
-unfolding F.marked member
-known-words a m m′ e k =
-    record {
-      holds = λ v t h s. and-both (isPair v t) (member m′ (v * 128 + t)) h (λ q i.
-          let x = small-pair v t q in
-          let w : getD m′ ((v * 128 + t) / 32) 0 ≡ getD m ((v * 128 + t) / 32) 0 = e ((v * 128 + t) / 32) (omega (arith, x .0, x .1)) in
-          k .holds v t (both (isPair v t) (member m (v * 128 + t)) q (ap (bit ((v * 128 + t) % 32)) (sym w) ∙ i)) s);
-    }
-  where
-    both : (x y : Bool) → x ≡ true → y ≡ true → (x && y) ≡ true
-    both x y p q = rw (p, q) refl
+past-uses : (b b′ : List ℕ) → drop (USES + 1024) b′ ≡ drop (USES + 1024) b → drop 16384 b′ ≡ drop 16384 b
+past-uses b b′ e = sym (drop-drop 9088 (USES + 1024) b′) ∙ ap (drop 9088) e ∙ drop-drop 9088 (USES + 1024) b
 
 -- ---- limits
 
-most-low : (s : State) (k : ℕ) → k < 13 → count s KIND ≤ 32 → getD (greatest s) k 0 ≤ limit k
+most-low : (s : State) (k : ℕ) → k < noKey → count s KIND ≤ 32 → getD (greatest s) k 0 ≤ limit k
 unfolding limit limits
 most-low s zero h c = omega arith
 most-low s (suc zero) h c = omega arith
@@ -94,32 +84,27 @@ most-low s (suc (suc (suc (suc (suc (suc (suc (suc (suc (suc (suc zero))))))))))
 most-low s (suc (suc (suc (suc (suc (suc (suc (suc (suc (suc (suc (suc zero)))))))))))) h c = omega arith
 most-low s (suc (suc (suc (suc (suc (suc (suc (suc (suc (suc (suc (suc (suc k))))))))))))) h c = absurd (omega arith)
 
-not-full : (m c : ℕ) → leb m c ≡ false → c < m
-not-full m c e = go (decLt c m)
-  where
-    go : Dec (c < m) → c < m
-    go (yes h) = h
-    go (no h) = no-true (sym e ∙ le-leb m c (omega arith))
-
-key-low : (s : State) (k : ℕ) → leb (getD (greatest s) k 0) (count s k) ≡ false → k < 13
-key-low s k e = go (decLt k 13)
-  where
-    go : Dec (k < 13) → k < 13
-    go (yes h) = h
-    go (no h) = absurd (omega (arith, not-full (getD (greatest s) k 0) (count s k) e, List·getD-eq-default (greatest s) 0 {n = k} (omega arith)))
-
-kinds : limit 2 ≡ 32
+kinds : limit KIND ≡ 32
 unfolding limit limits
 kinds = refl
 
-nodes : limit 11 ≡ 1024
+nodes : limit NODE ≡ 1024
 unfolding limit limits
 nodes = refl
 
+-- ---- the whole depth is enough in every state that is reached
+
+reached-as : {m : Mode} {s : State} → Reached m s → D.Reached m s
+reached-as before-any = D.start
+reached-as (after-line l r e) = D.next l (reached-as r) e
+
+settled-rows : {m : Mode} (sheet a b : List ℕ) → Reached m (held sheet a b) → SettledIn a
+settled-rows sheet a b r = settled-held sheet a b (record { closes = reached-settled (reached-as r) .closes })
+
 -- ---- `take_line`
 
-module _ (sheet row a b : List ℕ) (bytes : ℕ) (ready : Ready sheet a b) (fits : 2 * getD a 14 0 + bytes ≤ 24400)
-    (top : ℕ) (ht : top ≡ getD a 14 0) (a₁ : List ℕ) (n : ℕ) (l : Line sheet row a a₁ top n (bytes)) (long₁ : length a₁ ≡ length a) where
+module _ (sheet row a b : List ℕ) (bytes : ℕ) (m : Mode) (ready : Ready a b) (reached : Reached m (held sheet a b)) (fits : 2 * getD a TOP 0 + bytes ≤ 24400)
+    (top : ℕ) (ht : top ≡ getD a TOP 0) (a₁ : List ℕ) (n : ℕ) (l : Line sheet row a a₁ top n (bytes)) (long₁ : length a₁ ≡ length a) where
   below : take (getD a TOP 0) a₁ ≡ take (getD a TOP 0) a
   below = subst (λ (x : ℕ). take x a₁ ≡ take x a) ht (l .kept .below)
 
@@ -139,7 +124,7 @@ module _ (sheet row a b : List ℕ) (bytes : ℕ) (ready : Ready sheet a b) (fit
   word-as i h = word-kept a (ready .sound) a₁ below i (omega arith)
 
   few-nodes : getD a₁ NODE 0 ≤ 1024
-  few-nodes = omega (arith, sound₁ .few 11 (omega arith), nodes)
+  few-nodes = omega (arith, sound₁ .few NODE (omega arith), nodes)
 
   pub line-malformed : n ≡ 0 → Taken sheet row a b a₁ b bytes 3
   line-malformed z =
@@ -172,12 +157,8 @@ module _ (sheet row a b : List ℕ) (bytes : ℕ) (ready : Ready sheet a b) (fit
     key-is : keyOf row ≡ keyOf r₁
     key-is = ap keyOf (sym row-is) ∙ key-alike sheet r₁
 
-    falling₁ : Falling (held sheet a₁ b)
-    falling₁ = subst Falling (sym state-as) (ready .falling)
-
     settled₁ : SettledIn a₁
-    unfolding SettledIn
-    settled₁ = subst (F.Settled (rowsOf a₁ VALUE)) (lines-held sheet a₁ b 3 (omega arith) (λ q. absurd (omega arith))) (settled-in (held sheet a₁ b) (rowsOf a₁ VALUE) falling₁)
+    settled₁ = settled-rows sheet a₁ b (subst (Reached m) (sym state-as) reached)
 
     module _ (b₁ : List ℕ) (f k d : ℕ) (j : Judged sheet a₁ b (part a₁ top end) b₁ f k d) (long-b₁ : length b₁ ≡ length b) where
       number-is : f ≡ fault (held sheet a b) row
@@ -186,7 +167,7 @@ module _ (sheet row a b : List ℕ) (bytes : ℕ) (ready : Ready sheet a b) (fit
           ∙ ap (λ (x : ℕ). faultOf (held sheet a b) x row) (sym key-is) ∙ sym (fault-some (held sheet a b) row some-row)
 
       rest-b₁ : drop 16384 b₁ ≡ drop 16384 b
-      rest-b₁ = sym (drop-drop 9088 7296 b₁) ∙ ap (drop 9088) (j .rest few-nodes) ∙ drop-drop 9088 7296 b
+      rest-b₁ = past-uses b b₁ (j .rest few-nodes)
 
       pub line-refused : (f ≡ 0 → ⊥) → Taken sheet row a b a₁ b₁ bytes f
       line-refused z =
@@ -212,34 +193,31 @@ module _ (sheet row a b : List ℕ) (bytes : ℕ) (ready : Ready sheet a b) (fit
             (subst (λ (x : ℕ). Passed (held sheet a b) x (rowIn sheet x r₁)) (sym key-row)
             (subst (Passed (held sheet a b) (keyOf r₁)) (sym row-is) (subst (λ (x : ℕ). Passed (held sheet a b) x row) key-is (passed (held sheet a b) row clean))))
 
-        low : k < 13
-        low = key-low (held sheet a₁ b) k (pass .room)
+        low : k < noKey
+        low = line-key (held sheet a₁ b) k (pass .room)
 
         room₁ : getD a₁ k 0 < limit k
         room₁ =
             let c = count-held sheet a₁ b k low in
-            let s : count (held sheet a₁ b) KIND ≤ 32 = omega (arith, count-held sheet a₁ b 2 (omega arith), sound₁ .few 2 (omega arith), kinds) in
-            omega (arith, not-full (getD (greatest (held sheet a₁ b)) k 0) (count (held sheet a₁ b) k) (pass .room), most-low (held sheet a₁ b) k low s)
+            let s : count (held sheet a₁ b) KIND ≤ 32 = omega (arith, count-held sheet a₁ b KIND (omega arith), sound₁ .few KIND (omega arith), kinds) in
+            omega (arith, leb-false (getD (greatest (held sheet a₁ b)) k 0) (count (held sheet a₁ b) k) (pass .room), most-low (held sheet a₁ b) k low s)
 
-        made₁ : getD a₁ 13 0 ≡ 0
-        made₁ = word-as 13 (omega arith) ∙ ready .made
+        made₁ : getD a₁ MADE 0 ≡ 0
+        made₁ = word-as MADE (omega arith) ∙ ready .made
 
         last₁ : Last a₁ k
-        last₁ = record { last = λ i h t. go i h (decLt i 13) t }
+        last₁ = record { last = λ i h t. go i h (decLt i noKey) t }
           where
-            go : (i : ℕ) → k < i → Dec (i < 13) → i < 14 → getD a₁ i 0 ≡ 0
+            go : (i : ℕ) → k < i → Dec (i < noKey) → i < 14 → getD a₁ i 0 ≡ 0
             go i h (yes t) u = sym (count-held sheet a₁ b i t) ∙ ap length (later-empty (held sheet a₁ b) k i (pass .order) h)
-            go i h (no t) u = let e : i ≡ 13 = omega arith in rw e made₁
+            go i h (no t) u = let e : i ≡ MADE = omega arith in rw e made₁
 
         pub commit-room : getD a₁ k 0 < 4294967295
         commit-room = omega (arith, room₁, limit-small k)
 
-        pub end-low : end < 4294967296
-        end-low = omega (arith, l .tight)
-
-        module _ (m : Mode) (lined : Lined m row) (a₂ b₂ : List ℕ) (pa : a₂ ≡ withRow a₁ k end) (pb : b₂ ≡ withDepth b₁ k (getD a₁ k 0) d) (long-b₂ : length b₂ ≡ length b₁) where
+        module _ (a₂ b₂ : List ℕ) (pa : a₂ ≡ withRow a₁ k end) (pb : b₂ ≡ withDepth b₁ k (getD a₁ k 0) d) (long-b₂ : length b₂ ≡ length b₁) where
           top₁ : getD a₁ TOP 0 ≡ top
-          top₁ = word-as 14 (omega arith) ∙ sym ht
+          top₁ = word-as TOP (omega arith) ∙ sym ht
 
           lo : getD a₁ TOP 0 ≤ end
           lo = omega (arith, top₁)
@@ -282,43 +260,34 @@ module _ (sheet row a b : List ℕ) (bytes : ℕ) (ready : Ready sheet a b) (fit
               markedOf : ℕ → List ℕ
               markedOf x = marked (usesIn a₁ b) (refs NODE (rowIn sheet x (part a₁ top end)))
 
-          words₂ : ((i : ℕ) → i < 4096 → getD b₂ i 0 ≡ getD b₁ i 0) × (drop 7296 b₂ ≡ drop 7296 b₁)
+          words₂ : ((i : ℕ) → i < TYPEDEPTHS → getD b₂ i 0 ≡ getD b₁ i 0) × (drop (USES + 1024) b₂ ≡ drop (USES + 1024) b₁)
           words₂ = line-words a₁ a₂ b b₁ b₂ k d low room₁ (λ i h. sound₁ .few i (omega arith)) own₂ (λ i h ne. other₂ i (omega arith) ne) long-b (j .depths) pb
 
           -- before the entities nothing is remembered
-          blank₁ : k < 6 → (i : ℕ) → i < 4096 → getD b₂ i 0 ≡ 0
+          blank₁ : k < ENTITY → (i : ℕ) → i < TYPEDEPTHS → getD b₂ i 0 ≡ 0
           unfolding r₁
           blank₁ h i t =
-              let q : Last a 5 = record { last = λ x y w. sym (word-as x (omega arith)) ∙ last₁ .last x (omega arith) w } in
-              words₂ .0 i t ∙ j .early (subst (λ (x : ℕ). x < 6) key-row h) i t ∙ ready .blank q i t
+              let q : Last a VALUE = record { last = λ x y w. sym (word-as x (omega arith)) ∙ last₁ .last x (omega arith) w } in
+              words₂ .0 i t ∙ j .early (subst (λ (x : ℕ). x < ENTITY) key-row h) i t ∙ ready .blank q i t
 
-          known₂ : Dec (k < 6) → Known a₂ b₂
+          known₂ : Dec (k < ENTITY) → Known a₂ b₂
           known₂ (yes h) = cleared a₂ b₂ (blank₁ h)
           known₂ (no h) = known-words a₂ b₁ b₂ (words₂ .0) (known-kept a₁ a₂ b₁ (rows-same₂ VALUE (omega arith) (λ q. h (omega arith))) (rows-same₂ TYPE (omega arith) (λ q. h (omega arith))) (j .known))
 
-          blank₂ : Dec (k < 6) → Last a₂ 5 → (i : ℕ) → i < 4096 → getD b₂ i 0 ≡ 0
+          blank₂ : Dec (k < ENTITY) → Last a₂ VALUE → (i : ℕ) → i < TYPEDEPTHS → getD b₂ i 0 ≡ 0
           blank₂ (yes h) q i t = blank₁ h i t
           blank₂ (no h) q i t = absurd (omega (arith, own₂, q .last k (omega arith) in-range))
 
-          thirteen : (length (held sheet a b .lines) ≡ 13) × (length (held sheet a b .depths) ≡ 13)
-          unfolding held linesHeld depthsHeld
-          thirteen = (refl, refl)
-
-          room₂ : Dec (k ≡ 11) → taken a₂ ≤ taken a + bytes + 1
+          room₂ : Dec (k ≡ NODE) → taken a₂ ≤ taken a + bytes + 1
           room₂ (yes e) =
               let t : getD a₂ TOP 0 ≡ end = rw pa (top-new a₁ sound₁ k end in-range room₁ last₁ lo) in
-              let c : getD a₂ 11 0 ≡ suc (getD a₁ 11 0) = subst (λ (x : ℕ). getD a₂ x 0 ≡ suc (getD a₁ x 0)) e own₂ in
+              let c : getD a₂ NODE 0 ≡ suc (getD a₁ NODE 0) = subst (λ (x : ℕ). getD a₂ x 0 ≡ suc (getD a₁ x 0)) e own₂ in
               let w : 2 * n + 6 ≤ bytes + 1 = l .node (key-is ∙ sym key-row ∙ e) in
-              omega (arith, t, c, w, word-as 11 (omega arith))
+              omega (arith, t, c, w, word-as NODE (omega arith))
           room₂ (no e) =
               let t : getD a₂ TOP 0 ≡ end = rw pa (top-new a₁ sound₁ k end in-range room₁ last₁ lo) in
-              let c : getD a₂ 11 0 ≡ getD a₁ 11 0 = other₂ 11 (omega arith) (λ q. e (sym q)) in
-              omega (arith, t, c, l .tight, word-as 11 (omega arith))
-
-          falls : Falling (more (held sheet a b) row)
-          falls =
-              subst (λ (r : List ℕ). Falling (more (held sheet a b) r)) (lined .row-is)
-              (falling-line m (held sheet a b) (lined .line) (thirteen .0) (thirteen .1) (ap (fault (held sheet a b)) (lined .row-is) ∙ clean) (ready .falling))
+              let c : getD a₂ NODE 0 ≡ getD a₁ NODE 0 = other₂ NODE (omega arith) (λ q. e (sym q)) in
+              omega (arith, t, c, l .tight, word-as NODE (omega arith))
 
           pub line-added : Taken sheet row a b a₂ b₂ bytes 0
           line-added =
@@ -327,13 +296,12 @@ module _ (sheet row a b : List ℕ) (bytes : ℕ) (ready : Ready sheet a b) (fit
                 state = λ q. state₂;
                 ready = λ q. record {
                   sound = rw pa (sound-new a₁ sound₁ k end in-range room₁ last₁ lo);
-                  made = other₂ 13 (omega arith) (λ x. absurd (omega (arith, low, x))) ∙ made₁;
-                  known = known₂ (decLt k 6);
-                  blank = blank₂ (decLt k 6);
-                  falling = subst Falling (sym state₂) falls;
+                  made = other₂ MADE (omega arith) (λ x. absurd (omega (arith, low, x))) ∙ made₁;
+                  known = known₂ (decLt k ENTITY);
+                  blank = blank₂ (decLt k ENTITY);
                   long = omega (arith, ready .long);
                 };
-                room = λ q. room₂ (ℕ-discrete k 11);
+                room = λ q. room₂ (ℕ-discrete k NODE);
                 rest-a = rw pa (rest-new a₁ sound₁ k end in-range room₁ last₁ lo) ∙ l .kept .rest;
-                rest-b = sym (drop-drop 9088 7296 b₂) ∙ ap (drop 9088) (words₂ .1) ∙ drop-drop 9088 7296 b₁ ∙ rest-b₁;
+                rest-b = past-uses b₁ b₂ (words₂ .1) ∙ rest-b₁;
               }

@@ -15,7 +15,7 @@ returns c =
     let s = c .before .before .before .before .before .before .before .before .before .before in
     let r = c .before .before .before .row-entry in
     let t = c .before .before .before .before .before .read in
-    line-malformed (s .args .sheet .now) (rowOfValue (modeOf (s .args .partial)) (s .args .key) (part (s .args .sheet .now) (s .args .equals .at + 1) (s .args .end))) (s .args .a .now) (s .args .b .now) (s .args .end + 4 - s .args .equals .at) (s .pre .0) (s .pre .5)
+    line-malformed (s .args .sheet .now) (rowOfValue (modeOf (s .args .partial)) (s .args .key) (part (s .args .sheet .now) (s .args .equals .at + 1) (s .args .end))) (s .args .rows .now) (s .args .work .now) (s .args .end + 4 - s .args .equals .at) (modeOf (s .args .partial)) (s .pre .0) (s .pre .1) (s .pre .5)
     (t .result) (t .ensures) (r .last .1 .1 .1 .1 .1 .0) (r .result) (r .ensures) (omega arith) (c .if1 .taken)
 
 judge-at-requires : tie.Need-judge-at-requires
@@ -23,7 +23,7 @@ judge-at-requires c κs =
     let s = c .before .before .before .before .before .before .before .before .before .before .before .before in
     let r = c .before .before .before .before .before .row-entry in
     let t = c .before .before .before .before .before .before .before .read in
-    known₁ (s .args .sheet .now) (rowOfValue (modeOf (s .args .partial)) (s .args .key) (part (s .args .sheet .now) (s .args .equals .at + 1) (s .args .end))) (s .args .a .now) (s .args .b .now) (s .args .end + 4 - s .args .equals .at) (s .pre .0) (s .pre .5)
+    known₁ (s .args .sheet .now) (rowOfValue (modeOf (s .args .partial)) (s .args .key) (part (s .args .sheet .now) (s .args .equals .at + 1) (s .args .end))) (s .args .rows .now) (s .args .work .now) (s .args .end + 4 - s .args .equals .at) (modeOf (s .args .partial)) (s .pre .0) (s .pre .1) (s .pre .5)
     (t .result) (t .ensures) (r .last .1 .1 .1 .1 .1 .0) (r .result) (r .ensures) (omega arith)
 
 returns-2 : tie.Need-returns-2
@@ -32,7 +32,7 @@ returns-2 c =
     let r = c .before .before .before .before .before .before .before .before .before .row-entry in
     let t = c .before .before .before .before .before .before .before .before .before .before .before .read in
     let j = c .before .before .before .judge-at in
-    line-refused (s .args .sheet .now) (rowOfValue (modeOf (s .args .partial)) (s .args .key) (part (s .args .sheet .now) (s .args .equals .at + 1) (s .args .end))) (s .args .a .now) (s .args .b .now) (s .args .end + 4 - s .args .equals .at) (s .pre .0) (s .pre .5)
+    line-refused (s .args .sheet .now) (rowOfValue (modeOf (s .args .partial)) (s .args .key) (part (s .args .sheet .now) (s .args .equals .at + 1) (s .args .end))) (s .args .rows .now) (s .args .work .now) (s .args .end + 4 - s .args .equals .at) (modeOf (s .args .partial)) (s .pre .0) (s .pre .1) (s .pre .5)
     (t .result) (t .ensures) (r .last .1 .1 .1 .1 .1 .0) (r .result) (r .ensures) (omega arith)
     (c .before .before .before .before .before .before .if1 .left) (t .result + r .result) refl (j .last .1 .1 .0) (j .result .number) (j .result .key) (j .result .depth) (j .ensures) (omega arith) (c .if2 .taken)
 
@@ -42,7 +42,7 @@ commit-requires c κs =
     let r = c .before .before .before .before .before .before .before .before .before .before .before .row-entry in
     let t = c .before .before .before .before .before .before .before .before .before .before .before .before .before .read in
     let j = c .before .before .before .before .before .judge-at in
-    commit-room (s .args .sheet .now) (rowOfValue (modeOf (s .args .partial)) (s .args .key) (part (s .args .sheet .now) (s .args .equals .at + 1) (s .args .end))) (s .args .a .now) (s .args .b .now) (s .args .end + 4 - s .args .equals .at) (s .pre .0) (s .pre .5)
+    commit-room (s .args .sheet .now) (rowOfValue (modeOf (s .args .partial)) (s .args .key) (part (s .args .sheet .now) (s .args .equals .at + 1) (s .args .end))) (s .args .rows .now) (s .args .work .now) (s .args .end + 4 - s .args .equals .at) (modeOf (s .args .partial)) (s .pre .0) (s .pre .1) (s .pre .5)
     (t .result) (t .ensures) (r .last .1 .1 .1 .1 .1 .0) (r .result) (r .ensures) (omega arith)
     (c .before .before .before .before .before .before .before .before .if1 .left) (t .result + r .result) refl (j .last .1 .1 .0) (j .result .number) (j .result .key) (j .result .depth) (j .ensures) (omega arith) (c .before .before .if2 .left)
 
@@ -53,10 +53,10 @@ returns-3 c =
     let t = c .before .before .before .before .before .before .before .before .before .before .before .before .before .before .before .before .before .before .read in
     let j = c .before .before .before .before .before .before .before .before .before .before .judge-at in
     let w = c .before .before .before .before .commit in
-    line-added (s .args .sheet .now) (rowOfValue (modeOf (s .args .partial)) (s .args .key) (part (s .args .sheet .now) (s .args .equals .at + 1) (s .args .end))) (s .args .a .now) (s .args .b .now) (s .args .end + 4 - s .args .equals .at) (s .pre .0) (s .pre .5)
+    line-added (s .args .sheet .now) (rowOfValue (modeOf (s .args .partial)) (s .args .key) (part (s .args .sheet .now) (s .args .equals .at + 1) (s .args .end))) (s .args .rows .now) (s .args .work .now) (s .args .end + 4 - s .args .equals .at) (modeOf (s .args .partial)) (s .pre .0) (s .pre .1) (s .pre .5)
     (t .result) (t .ensures) (r .last .1 .1 .1 .1 .1 .0) (r .result) (r .ensures) (omega arith)
     (c .before .before .before .before .before .before .before .before .before .before .before .before .before .if1 .left) (t .result + r .result) refl (j .last .1 .1 .0) (j .result .number) (j .result .key) (j .result .depth) (j .ensures) (omega arith) (c .before .before .before .before .before .before .before .if2 .left)
-    (modeOf (s .args .partial)) (s .pre .1) (w .last .0) (w .last .1 .0) (w .ensures .0) (w .ensures .1) (omega arith)
+    (w .last .0) (w .last .1 .0) (w .ensures .0) (w .ensures .1) (omega arith)
 
 pub take-line-spec : {M : Type 1} → statement M
 take-line-spec =
