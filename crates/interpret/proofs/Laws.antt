@@ -28,6 +28,7 @@ use Rattle.tpe.specs.Leaves.{Leaves}
 use Rattle.tpe.specs.declared.Class.{Class as Classᶜ}
 use Rattle.tpe.specs.declared.Class.the-variants.{True, False, Error as Errorᶜ, Open as Openᶜ}
 use Rattle.tpe.proofs.Slices.{stage-log}
+use Rattle.tpe.proofs.Worked.{two-sheet}
 use Rattle.interpret.specs.Sides.{sideIn}
 use Rattle.interpret.specs.Nodes.{leafOf, firstIn, branchIn, pairBy, pairIn}
 use Rattle.interpret.specs.declared.Side.{Side as Sideᶜ}
@@ -210,10 +211,10 @@ pub second-is : (a₁ b₁ : List ℕ) (mid p : ℕ) (o : O) → Leaves mid a₁
 second-is a₁ b₁ mid p o h a₂ b₂ start n e z y q = leaves-as q (ap (secondOf z start n y mid) (view h))
 
 pub pair-is : (sheet : List ℕ) (f : Rec) (a b : List ℕ) (start mid n t : ℕ) → Room b mid → (r : List ℕ) → r ≡ getD (rowsOf a NODE) n [] → (x : ℕ) → x ≡ getD r 3 0 → (a₁ b₁ : List ℕ) (p : ℕ) → Leaves mid a₁ b₁ p (f a (take mid b) x)
-    → (a₂ b₂ : List ℕ) (e : ℕ) → Leaves start a₂ b₂ e (twoAt partial sheet t start mid n (getD (rowsOf a₁ NODE) n []) (left a₁ (take p b₁))) → Leaves start a₂ b₂ e (pairIn partial sheet t f start n (left a (take mid b)))
+    → (a₂ b₂ : List ℕ) (e : ℕ) → Leaves start a₂ b₂ e (twoAt partial [] t start mid n (getD (rowsOf a₁ NODE) n []) (left a₁ (take p b₁))) → Leaves start a₂ b₂ e (pairIn partial sheet t f start n (left a (take mid b)))
 unfolding pairIn pairBy
 pair-is sheet f a b start mid n t room r er x ex a₁ b₁ p h a₂ b₂ e q =
-    rw (log-length b mid room, ← er, ← ex) (leaves-as q (ap (λ (o : O). twoAt partial sheet t start mid n (nodeIn (o .words) n) o) (view h)))
+    rw (log-length b mid room, ← er, ← ex) (leaves-as q (two-sheet sheet a₁ (take p b₁) start mid n (getD (rowsOf a₁ NODE) n []) t ∙ ap (λ (o : O). twoAt partial sheet t start mid n (nodeIn (o .words) n) o) (view h)))
 
 -- ---- `branch`, `split`
 

@@ -281,7 +281,7 @@ fn pair(
 {
     let right = item(row(rows, NODE, node), 3);
     let end = interpret(sheet, rows, log, mid, right, depth);
-    two(sheet, rows, log, start, mid, end, node, tag)
+    two(rows, log, start, mid, end, node, tag)
 }
 
 // `if`, whose test is worked.

@@ -1,6 +1,4 @@
 // The reading of a sheet into the lent words: lines in turn, the first faulty line ends it.
-use checks::TYPEDEPTHS;
-use checks::USES;
 use checks::enough_before;
 use scan::Cursor;
 use scan::Line;

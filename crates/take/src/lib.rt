@@ -1,15 +1,15 @@
 // A line of a sheet read: its row is written past the rows that the words hold, judged there, and added.
-use checks::NODEDEPTHS;
-use checks::TYPEDEPTHS;
-use checks::USES;
-use checks::VALUEDEPTHS;
 use forms::NODE;
 use forms::TYPE;
 use forms::VALUE;
 use judge::judge_at;
 use line::row_entry;
 use scan::Cursor;
+use table::NODEDEPTHS;
 use table::TOP;
+use table::TYPEDEPTHS;
+use table::USES;
+use table::VALUEDEPTHS;
 use table::add_row;
 use table::count;
 use words::put;

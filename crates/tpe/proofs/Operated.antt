@@ -8,6 +8,7 @@ use native.Mathlib.Omega.{arith}
 use lib.Dec.{eqb}
 use lib.ListN.{getD, take, drop, length, length-drop}
 use lib.Seq.{take-all}
+use Rattle.cedar.specs.Types.{tstr}
 use Rattle.cedar.specs.Residual.{uempty, uis, ulike, beq, bany, rin, rhastag}
 use Rattle.cedar.specs.TypeRules.{unRule, binRule, relRule, hasRule}
 use Rattle.cedar.specs.Numbered.{NOut, truly, nUn, nBin}
@@ -188,7 +189,7 @@ module _ (a : List ℕ) (t y z : ℕ) (q : Rule) where
   unfolding twoRule
   rules-in h e = let j : t - EQ ≡ 6 = omega arith in rw j e
 
-  pub rules-hastag : t ≡ HASTAG → ruleIn q ≡ relRule (schemaAt a) rhastag (tyAt a y) (tyAt a z) → ruleIn q ≡ twoRule t a y z
+  pub rules-hastag : t ≡ HASTAG → ruleIn q ≡ relRule (schemaAt a) rhastag (tyAt a y) tstr → ruleIn q ≡ twoRule t a y z
   unfolding twoRule
   rules-hastag h e = let j : t - EQ ≡ 8 = omega arith in rw j e
 

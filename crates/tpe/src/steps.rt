@@ -509,7 +509,7 @@ fn rule_two(rows: &[u32], tag: u32, left: u32, right: u32) -> Rule
     }
     match tag {
         IN => in_rule(rows, left, right),
-        HASTAG => hastag_rule(rows, left, right),
+        HASTAG => hastag_rule(rows, left),
         _ => Rule::Silent,
     }
 }
