@@ -14,18 +14,16 @@ use Rattle.scan.specs.declared.Line as L
 use Rattle.scan.specs.Places.{readingBy, LineRead}
 use Rattle.scan.proofs.Readings.{Entered, line-entered}
 use Rattle.sheet.specs.Bytes.{split}
-use Rattle.sheet.specs.Forms.{Mode, rowOfValue, NODE}
-use Rattle.sheet.specs.State.{State, bool, empty, count, before, sum}
-use Rattle.sheet.specs.Sheet.{Reading, enough, reach, firstUnused, reads, ending, more, goOn, reading, read}
-use Rattle.table.specs.Layout.{part, USES, heap, rowsAt, rowsOf, linesHeld, depthsHeld, depthsAt, held}
+use Rattle.sheet.specs.Forms.{Mode, rowOf, rowOfValue, TEXT, KIND, NODE, noKey}
+use Rattle.sheet.specs.State.{State, empty, count, before, sum}
+use Rattle.sheet.specs.Sheet.{Reading, enough, reach, firstUnused, reads, ending, fault, more, goOn, reading, read}
+use Rattle.table.specs.Layout.{part, MADE, TOP, TYPEDEPTHS, USES, heap, rowsAt, rowsOf, linesHeld, depthsHeld, depthsAt, held}
 use Rattle.table.proofs.Rows.{limit-small}
 use Rattle.table.proofs.Held.{tab-same, linesIn, lines-tab, depthBase, depthsIn, depths-tab, counts-held}
 use Rattle.fits.proofs.Remembered as R
-use Rattle.sheet.proofs.Shallow.{Part}
-use Rattle.judge.proofs.Settling.{Falling}
 use Rattle.judge.proofs.Alike.{count-alike}
 use Rattle.line.proofs.LawsLine.{entry-wide}
-use Rattle.take.specs.Steps.{Ready, taken, Lined, Taken}
+use Rattle.take.specs.Steps.{Reached, before-any, after-line, Ready, taken, Taken}
 use Rattle.load.specs.Result.{Read}
 
 -- ---- the definition after a line
@@ -39,16 +37,16 @@ go-on s k r f rest e = rw e refl
 
 -- ---- the end
 
-end-number : (s : State) (k : ℕ) → ending s k .number ≡ cond (enough s 13) (cond (ltb (firstUnused (s .used)) (count s NODE)) 8 0) 3
-end-number s k = go (enough s 13) (ltb (firstUnused (s .used)) (count s NODE))
+end-number : (s : State) (k : ℕ) → ending s k .number ≡ cond (enough s noKey) (cond (ltb (firstUnused (s .used)) (count s NODE)) 8 0) 3
+end-number s k = go (enough s noKey) (ltb (firstUnused (s .used)) (count s NODE))
   where
     go : (x y : Bool) → cond x (cond y (reads s 8 (suc (before s NODE + firstUnused (s .used)))) (reads s 0 0)) (reads s 3 k) .number ≡ cond x (cond y 8 0) 3
     go true true = refl
     go true false = refl
     go false y = refl
 
-end-line : (s : State) (k : ℕ) → ending s k .line ≡ cond (enough s 13) (cond (ltb (firstUnused (s .used)) (count s NODE)) (suc (before s NODE + firstUnused (s .used))) 0) k
-end-line s k = go (enough s 13) (ltb (firstUnused (s .used)) (count s NODE))
+end-line : (s : State) (k : ℕ) → ending s k .line ≡ cond (enough s noKey) (cond (ltb (firstUnused (s .used)) (count s NODE)) (suc (before s NODE + firstUnused (s .used))) 0) k
+end-line s k = go (enough s noKey) (ltb (firstUnused (s .used)) (count s NODE))
   where
     go : (x y : Bool) → cond x (cond y (reads s 8 (suc (before s NODE + firstUnused (s .used)))) (reads s 0 0)) (reads s 3 k) .line ≡ cond x (cond y (suc (before s NODE + firstUnused (s .used))) 0) k
     go true true = refl
@@ -56,7 +54,7 @@ end-line s k = go (enough s 13) (ltb (firstUnused (s .used)) (count s NODE))
     go false y = refl
 
 end-state : (s : State) (k : ℕ) → ending s k .state ≡ s
-end-state s k = go (enough s 13) (ltb (firstUnused (s .used)) (count s NODE))
+end-state s k = go (enough s noKey) (ltb (firstUnused (s .used)) (count s NODE))
   where
     go : (x y : Bool) → cond x (cond y (reads s 8 (suc (before s NODE + firstUnused (s .used)))) (reads s 0 0)) (reads s 3 k) .state ≡ s
     go true true = refl
@@ -67,13 +65,13 @@ module _ (sheet a b : List ℕ) where
   pub counts-same : (k : ℕ) → count (held [] a b) k ≡ count (held sheet a b) k
   counts-same k = sym (count-alike a [] b k) ∙ count-alike a sheet b k
 
-  enough-same : enough (held [] a b) 13 ≡ enough (held sheet a b) 13
+  enough-same : enough (held [] a b) noKey ≡ enough (held sheet a b) noKey
   enough-same =
-      ap₂ (λ (c : List ℕ) (n : ℕ). reach (take 13 c) (1 ∷ 0 ∷ 0 ∷ 0 ∷ n ∷ 0 ∷ 0 ∷ 1 ∷ 1 ∷ 1 ∷ 1 ∷ 0 ∷ 0 ∷ []))
-      (counts-held [] a b ∙ sym (counts-held sheet a b)) (counts-same 2)
+      ap₂ (λ (c : List ℕ) (n : ℕ). reach (take noKey c) (1 ∷ 0 ∷ 0 ∷ 0 ∷ n ∷ 0 ∷ 0 ∷ 1 ∷ 1 ∷ 1 ∷ 1 ∷ 0 ∷ 0 ∷ []))
+      (counts-held [] a b ∙ sym (counts-held sheet a b)) (counts-same KIND)
 
   before-same : before (held [] a b) NODE ≡ before (held sheet a b) NODE
-  before-same = ap (λ (c : List ℕ). sum (take 11 c)) (counts-held [] a b ∙ sym (counts-held sheet a b))
+  before-same = ap (λ (c : List ℕ). sum (take NODE c)) (counts-held [] a b ∙ sym (counts-held sheet a b))
 
   used-same : held [] a b .used ≡ held sheet a b .used
   unfolding held
@@ -85,7 +83,7 @@ module _ (sheet a b : List ℕ) where
       ap₂ (λ (u : List ℕ) (n : ℕ). ltb (firstUnused u) n) used-same (counts-same NODE) in (
         end-number (held [] a b) k ∙ ap₂ (λ (x y : Bool). cond x (cond y 8 0) 3) enough-same t ∙ sym (end-number (held sheet a b) k),
         end-line (held [] a b) k ∙ ap₂ (λ (x y : Bool). cond x (cond y (suc (before (held [] a b) NODE + firstUnused (held [] a b .used))) 0) k) enough-same t
-            ∙ ap₂ (λ (p : ℕ) (u : List ℕ). cond (enough (held sheet a b) 13) (cond (ltb (firstUnused (held sheet a b .used)) (count (held sheet a b) NODE)) (suc (p + firstUnused u)) 0) k) before-same used-same
+            ∙ ap₂ (λ (p : ℕ) (u : List ℕ). cond (enough (held sheet a b) noKey) (cond (ltb (firstUnused (held sheet a b .used)) (count (held sheet a b) NODE)) (suc (p + firstUnused u)) 0) k) before-same used-same
             ∙ sym (end-line (held sheet a b) k),
       )
 
@@ -108,68 +106,56 @@ module _ (w₀ : List ℕ) (n : ℕ) (w : List ℕ) (i : ℕ) (c : Zeroing w₀ 
   pub zeroing-end : n ≤ i → w ≡ zeros n w₀
   zeroing-end h = let e : i ≡ n = omega (arith, c .near) in c .front ∙ ap (λ (k : ℕ). zeros k w₀) e
 
-falling-empty : Falling empty
-falling-empty =
-    record {
-      size = refl;
-      low = λ t. omega arith;
-      one = λ t h. absurd (omega arith);
-      falls = λ t y p. none-in p;
-    }
-  where
-    none-in : {X : Type 0} {y : ℕ} → Part bool y → X
-    none-in p = elim p [ ]
-
 -- what stands past the words that become 0
 drop-past : (n m : ℕ) (w : List ℕ) → drop (n + m) (zeros n w) ≡ drop (n + m) w
 drop-past n m w = sym (drop-drop m n (zeros n w)) ∙ ap (drop m) (drop-zeros n w) ∙ drop-drop m n w
 
-module _ (sheet a b a₁ b₁ a₂ : List ℕ) (la : 16384 ≤ length a) (lb : 16384 ≤ length b) (ha : a₁ ≡ zeros 14 a) (hb : b₁ ≡ zeros 4096 b) (h₂ : a₂ ≡ set a₁ 14 4003) where
+module _ (sheet a b a₁ b₁ a₂ : List ℕ) (la : 16384 ≤ length a) (lb : 16384 ≤ length b) (ha : a₁ ≡ zeros TOP a) (hb : b₁ ≡ zeros TYPEDEPTHS b) (h₂ : a₂ ≡ set a₁ TOP heap) where
   long-a₁ : length a₁ ≡ length a
-  long-a₁ = ap length ha ∙ length-zeros 14 a (omega arith)
+  long-a₁ = ap length ha ∙ length-zeros TOP a (omega arith)
 
   long-b₁ : length b₁ ≡ length b
-  long-b₁ = ap length hb ∙ length-zeros 4096 b (omega arith)
+  long-b₁ = ap length hb ∙ length-zeros TYPEDEPTHS b (omega arith)
 
-  none-yet : (k : ℕ) → k < 14 → getD a₂ k 0 ≡ 0
-  none-yet k h = ap (λ (x : List ℕ). getD x k 0) h₂ ∙ getD-set-other a₁ 14 k 4003 0 (omega arith) ∙ ap (λ (x : List ℕ). getD x k 0) ha ∙ getD-zeros 14 a k h
+  none-yet : (k : ℕ) → k < TOP → getD a₂ k 0 ≡ 0
+  none-yet k h = ap (λ (x : List ℕ). getD x k 0) h₂ ∙ getD-set-other a₁ TOP k heap 0 (omega arith) ∙ ap (λ (x : List ℕ). getD x k 0) ha ∙ getD-zeros TOP a k h
 
-  top-first : getD a₂ 14 0 ≡ 4003
-  top-first = ap (λ (x : List ℕ). getD x 14 0) h₂ ∙ getD-set-same a₁ 14 4003 0 (omega (arith, long-a₁))
+  top-first : getD a₂ TOP 0 ≡ heap
+  top-first = ap (λ (x : List ℕ). getD x TOP 0) h₂ ∙ getD-set-same a₁ TOP heap 0 (omega (arith, long-a₁))
 
   long-a₂ : length a₂ ≡ length a
-  long-a₂ = ap length h₂ ∙ length-set a₁ 14 4003 ∙ long-a₁
+  long-a₂ = ap length h₂ ∙ length-set a₁ TOP heap ∙ long-a₁
 
-  no-rows : (k : ℕ) → k < 14 → rowsOf a₂ k ≡ []
+  no-rows : (k : ℕ) → k < TOP → rowsOf a₂ k ≡ []
   unfolding rowsOf rowsAt
   no-rows k h = rw (none-yet k h) refl
 
   state-empty : held sheet a₂ b₁ ≡ empty
   unfolding held
   state-empty =
-      let l : linesHeld sheet a₂ ≡ replicate 13 [] = lines-tab sheet a₂ ∙ tab-same (linesIn sheet a₂) (λ (k : ℕ). []) 0 13 (λ k x h. no-lines k h) in
-      let d : depthsHeld a₂ b₁ ≡ replicate 13 [] = depths-tab a₂ b₁ ∙ tab-same (depthsIn a₂ b₁) (λ (k : ℕ). []) 0 13 (λ k x h. no-depths k h) in
+      let l : linesHeld sheet a₂ ≡ replicate noKey [] = lines-tab sheet a₂ ∙ tab-same (linesIn sheet a₂) (λ (k : ℕ). []) 0 noKey (λ k x h. no-lines k h) in
+      let d : depthsHeld a₂ b₁ ≡ replicate noKey [] = depths-tab a₂ b₁ ∙ tab-same (depthsIn a₂ b₁) (λ (k : ℕ). []) 0 noKey (λ k x h. no-depths k h) in
       let u : depthsAt b₁ USES (getD a₂ NODE 0) ≡ [] = rw (none-yet NODE (omega arith)) refl in
       λ i. record { lines = l i; depths = d i; used = u i }
     where
-      no-lines : (k : ℕ) → k < 13 → linesIn sheet a₂ k ≡ []
-      no-lines k h = rw (no-rows k (omega arith)) (go (eqb k 1))
+      no-lines : (k : ℕ) → k < noKey → linesIn sheet a₂ k ≡ []
+      no-lines k h = rw (no-rows k (omega arith)) (go (eqb k TEXT))
         where
           go : (t : Bool) → _≡_ {A = List (List ℕ)} (cond t [] []) []
           go true = refl
           go false = refl
 
-      no-depths : (k : ℕ) → k < 13 → depthsIn a₂ b₁ k ≡ []
+      no-depths : (k : ℕ) → k < noKey → depthsIn a₂ b₁ k ≡ []
       no-depths k h = rw (none-yet k (omega arith)) (go (eqb (depthBase k) 0))
         where
           go : (t : Bool) → _≡_ {A = List ℕ} (cond t [] []) []
           go true = refl
           go false = refl
 
-  blank : (i : ℕ) → i < 4096 → getD b₁ i 0 ≡ 0
-  blank i h = ap (λ (x : List ℕ). getD x i 0) hb ∙ getD-zeros 4096 b i h
+  blank : (i : ℕ) → i < TYPEDEPTHS → getD b₁ i 0 ≡ 0
+  blank i h = ap (λ (x : List ℕ). getD x i 0) hb ∙ getD-zeros TYPEDEPTHS b i h
 
-  ready-first : Ready sheet a₂ b₁
+  ready-first : Ready a₂ b₁
   ready-first =
       record {
         sound = record {
@@ -180,17 +166,16 @@ module _ (sheet a b a₁ b₁ a₂ : List ℕ) (la : 16384 ≤ length a) (lb : 1
           over = omega (arith, top-first);
           long = omega (arith, long-a₂);
         };
-        made = none-yet 13 (omega arith);
+        made = none-yet MADE (omega arith);
         known = R.cleared a₂ b₁ blank;
         blank = λ l. blank;
-        falling = subst Falling (sym state-empty) falling-empty;
         long = omega (arith, long-b₁);
       }
 
   rest-first : (drop 16384 a₂ ≡ drop 16384 a) × (drop 16384 b₁ ≡ drop 16384 b)
   rest-first = (
-    ap (drop 16384) h₂ ∙ drop-set-lt 16384 a₁ 14 4003 (omega arith) ∙ ap (drop 16384) ha ∙ drop-past 14 16370 a,
-    ap (drop 16384) hb ∙ drop-past 4096 12288 b,
+    ap (drop 16384) h₂ ∙ drop-set-lt 16384 a₁ TOP heap (omega arith) ∙ ap (drop 16384) ha ∙ drop-past TOP 16370 a,
+    ap (drop 16384) hb ∙ drop-past TYPEDEPTHS 12288 b,
   )
 
 -- ---- the lines
@@ -199,7 +184,8 @@ module _ (sheet a b a₁ b₁ a₂ : List ℕ) (la : 16384 ≤ length a) (lb : 1
 pub record Progress (m : Mode) (sheet a₀ b₀ a b : List ℕ) (at k : ℕ) : Type 0 where
   pub left : read m sheet ≡ reading m (split 10 (drop at sheet)) (held sheet a b) k
   pub in-sheet : at ≤ length sheet
-  pub ready : Ready sheet a b
+  pub ready : Ready a b
+  pub reached : Reached m (held sheet a b)
   pub room : taken a ≤ 2 * heap + at
   pub near : k ≤ at + 1
   pub long-a : length a ≡ length a₀
@@ -207,14 +193,15 @@ pub record Progress (m : Mode) (sheet a₀ b₀ a b : List ℕ) (at k : ℕ) : T
   pub rest-a : drop 16384 a ≡ drop 16384 a₀
   pub rest-b : drop 16384 b ≡ drop 16384 b₀
 
-progress-start : (m : Mode) (sheet a b a₁ b₁ a₂ : List ℕ) → 16384 ≤ length a → 16384 ≤ length b → a₁ ≡ zeros 14 a → b₁ ≡ zeros 4096 b → a₂ ≡ set a₁ 14 4003 → Progress m sheet a₂ b₁ a₂ b₁ 0 1
+progress-start : (m : Mode) (sheet a b a₁ b₁ a₂ : List ℕ) → 16384 ≤ length a → 16384 ≤ length b → a₁ ≡ zeros TOP a → b₁ ≡ zeros TYPEDEPTHS b → a₂ ≡ set a₁ TOP heap → Progress m sheet a₂ b₁ a₂ b₁ 0 1
 unfolding read
 progress-start m sheet a b a₁ b₁ a₂ la lb ha hb h₂ =
     record {
       left = ap (λ (s : State). reading m (split 10 sheet) s 1) (sym (state-empty sheet a b a₁ b₁ a₂ la lb ha hb h₂));
       in-sheet = omega arith;
       ready = ready-first sheet a b a₁ b₁ a₂ la lb ha hb h₂;
-      room = omega (arith, top-first sheet a b a₁ b₁ a₂ la lb ha hb h₂, none-yet sheet a b a₁ b₁ a₂ la lb ha hb h₂ 11 (omega arith));
+      reached = subst (Reached m) (sym (state-empty sheet a b a₁ b₁ a₂ la lb ha hb h₂)) before-any;
+      room = omega (arith, top-first sheet a b a₁ b₁ a₂ la lb ha hb h₂, none-yet sheet a b a₁ b₁ a₂ la lb ha hb h₂ NODE (omega arith));
       near = omega arith;
       long-a = refl;
       long-b = refl;
@@ -223,22 +210,22 @@ progress-start m sheet a b a₁ b₁ a₂ la lb ha hb h₂ =
     }
 
 -- the same at the sheet's first cursor
-pub progress-first : (m : Mode) (sheet a b a₁ b₁ a₂ : List ℕ) (c : Cursor) → c .line ≡ 1 → c .at ≡ 0 → 16384 ≤ length a → 16384 ≤ length b → a₁ ≡ zeros 14 a → b₁ ≡ zeros 4096 b → a₂ ≡ set a₁ 14 4003
+pub progress-first : (m : Mode) (sheet a b a₁ b₁ a₂ : List ℕ) (c : Cursor) → c .line ≡ 1 → c .at ≡ 0 → 16384 ≤ length a → 16384 ≤ length b → a₁ ≡ zeros TOP a → b₁ ≡ zeros TYPEDEPTHS b → a₂ ≡ set a₁ TOP heap
     → Progress m sheet a₂ b₁ a₂ b₁ (c .at) (c .line)
 progress-first m sheet a b a₁ b₁ a₂ c hl hc la lb ha hb h₂ =
     subst (λ (x : ℕ). Progress m sheet a₂ b₁ a₂ b₁ x (c .line)) (sym hc)
     (subst (Progress m sheet a₂ b₁ a₂ b₁ 0) (sym hl) (progress-start m sheet a b a₁ b₁ a₂ la lb ha hb h₂))
 
 -- what the words at entry, the loop's first words and its last ones leave
-pub from-entry : (x : Reading) (sheet a b a₁ b₁ a₂ a₃ b₃ : List ℕ) (n l : ℕ) → 16384 ≤ length a → 16384 ≤ length b → a₁ ≡ zeros 14 a → b₁ ≡ zeros 4096 b → a₂ ≡ set a₁ 14 4003
+pub from-entry : (x : Reading) (sheet a b a₁ b₁ a₂ a₃ b₃ : List ℕ) (n l : ℕ) → 16384 ≤ length a → 16384 ≤ length b → a₁ ≡ zeros TOP a → b₁ ≡ zeros TYPEDEPTHS b → a₂ ≡ set a₁ TOP heap
     → Read x sheet a₂ b₁ a₃ b₃ n l → Read x sheet a b a₃ b₃ n l
 from-entry x sheet a b a₁ b₁ a₂ a₃ b₃ n l la lb ha hb h₂ r =
     let q = rest-first sheet a b a₁ b₁ a₂ la lb ha hb h₂ in
     record { number-is = r .number-is; line-is = r .line-is; state-is = r .state-is; ready = r .ready; room = r .room; rest-a = r .rest-a ∙ q .0; rest-b = r .rest-b ∙ q .1 }
 
 module _ (m : Mode) (sheet a₀ b₀ a b : List ℕ) (c : Cursor) (i : Progress m sheet a₀ b₀ a b (c .at) (c .line)) where
-  pub finish-room : 6272 + getD a 11 0 ≤ length b
-  finish-room = omega (arith, i .ready .long, i .ready .sound .few 11 (omega arith), limit-small 11)
+  pub finish-room : USES + getD a NODE 0 ≤ length b
+  finish-room = omega (arith, i .ready .long, i .ready .sound .few NODE (omega arith), limit-small NODE)
 
   module _ (r : L.Line) (q : LineRead sheet c r) where
     by-line : (o : L.Line) → r ≡ o → read m sheet ≡ readingBy m (held sheet a b) (c .line) sheet o
@@ -289,10 +276,10 @@ module _ (m : Mode) (sheet a₀ b₀ a b : List ℕ) (c : Cursor) (i : Progress 
       row = rowOfValue m j (part sheet (equals .at + 1) e)
 
       pub line-fits : length sheet ≤ 16384
-          → Ready sheet a b × Lined m (rowOfValue m j (part sheet (equals .at + 1) e)) × (equals .at < e) × (e ≤ length sheet) × (length sheet ≤ 16384) × (2 * getD a 14 0 + (e + 4 - equals .at) ≤ 24400)
+          → Ready a b × Reached m (held sheet a b) × (equals .at < e) × (e ≤ length sheet) × (length sheet ≤ 16384) × (2 * getD a TOP 0 + (e + 4 - equals .at) ≤ 24400)
       line-fits s =
           let w = entry in
-          (i .ready, record { line = part sheet (c .at) e; row-is = w .row m }, w .equals-in, omega (arith, w .ends), s, omega (arith, i .room, wide, w .equals-in, w .ends))
+          (i .ready, i .reached, w .equals-in, omega (arith, w .ends), s, omega (arith, i .room, wide, w .equals-in, w .ends))
 
       module _ (a′ b′ : List ℕ) (n : ℕ) (t : Taken sheet (rowOfValue m j (part sheet (equals .at + 1) e)) a b a′ b′ (e + 4 - equals .at) n) where
         line-does : read m sheet ≡ goOn (held sheet a b) (c .line) row n (reading m (split 10 (drop (next .at) sheet)))
@@ -312,6 +299,11 @@ module _ (m : Mode) (sheet a₀ b₀ a b : List ℕ) (c : Cursor) (i : Progress 
               rest-b = t .rest-b ∙ i .rest-b;
             }
 
+        line-reached : n ≡ 0 → Reached m (more (held sheet a b) (rowOfValue m j (part sheet (equals .at + 1) e)))
+        line-reached z =
+            let w : rowOf m (part sheet (c .at) e) ≡ rowOfValue m j (part sheet (equals .at + 1) e) = entry .row m in
+            subst (λ (x : List ℕ). Reached m (more (held sheet a b) x)) w (after-line (part sheet (c .at) e) (i .reached) (ap (fault (held sheet a b)) w ∙ sym (t .number) ∙ z))
+
         pub line-goes : n ≡ 0 → length sheet ≤ 16384 → length a′ ≡ length a → length b′ ≡ length b → Progress m sheet a₀ b₀ a′ b′ (next .at) (next .line)
         unfolding row
         line-goes z s la lb =
@@ -322,6 +314,7 @@ module _ (m : Mode) (sheet a₀ b₀ a b : List ℕ) (c : Cursor) (i : Progress 
                   ∙ ap₂ (reading m (split 10 (drop (next .at) sheet))) (sym (t .state z)) v;
               in-sheet = omega (arith, line-long .1, line-long .2);
               ready = t .ready z;
+              reached = subst (Reached m) (sym (t .state z)) (line-reached z);
               room = omega (arith, t .room z, i .room, wide, entry .equals-in, line-long .2);
               near = omega (arith, i .near, line-long .0, line-long .2);
               long-a = la ∙ i .long-a;

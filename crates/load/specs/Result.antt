@@ -12,7 +12,7 @@ pub record Read (x : Reading) (sheet a b a′ b′ : List ℕ) (number line : �
   pub number-is : number ≡ x .number
   pub line-is : line ≡ x .line
   pub state-is : number ≡ 0 → held sheet a′ b′ ≡ x .state
-  pub ready : number ≡ 0 → Ready sheet a′ b′
+  pub ready : number ≡ 0 → Ready a′ b′
   pub room : number ≡ 0 → taken a′ ≤ 2 * heap + length sheet
   pub rest-a : drop 16384 a′ ≡ drop 16384 a
   pub rest-b : drop 16384 b′ ≡ drop 16384 b

@@ -1,9 +1,10 @@
 // The reading of a sheet into the lent words: lines in turn, the first faulty line ends it.
 use checks::enough_before;
+use forms::NO_KEY;
+use forms::NODE;
 use scan::Cursor;
 use scan::Line;
 use table::HEAP;
-use table::NODE;
 use table::TOP;
 use table::count;
 use take::take_line;
@@ -14,9 +15,10 @@ ghost use mathlib.Core.List.{[]};
 ghost use Prim.Native.Nat.{_+_, _≤_};
 ghost use lib.ListN.{length, getD};
 ghost use Rattle.words.specs.Log.{zeros};
+ghost use Rattle.sheet.specs.Forms.{NODE};
 ghost use Rattle.sheet.specs.State.{before};
 ghost use Rattle.sheet.specs.Sheet.{read, firstUnused, ending};
-ghost use Rattle.table.specs.Layout.{held};
+ghost use Rattle.table.specs.Layout.{USES, held};
 ghost use Rattle.line.specs.Codes.{modeOf};
 ghost use Rattle.checks.specs.Uses.{usesIn};
 ghost use Rattle.load.specs.Result.{Read};
@@ -30,14 +32,14 @@ pub struct Loaded {
 // ---- after the last line
 
 // The lowest node that is not used, their number where all are.
-fn first_unused(a: &[u32], b: &[u32]) -> usize
-    requires { ⌜ 6272 + getD (now a) 11 0 ≤ length (now b) ⌝ }
-    ensures { λ r. ⌜ r ≡ firstUnused (usesIn (now (a .entry)) (now (b .entry))) ⌝ }
+fn first_unused(rows: &[u32], work: &[u32]) -> usize
+    requires { ⌜ USES + getD (now rows) NODE 0 ≤ length (now work) ⌝ }
+    ensures { λ r. ⌜ r ≡ firstUnused (usesIn (now (rows .entry)) (now (work .entry))) ⌝ }
 {
-    let n = count(a, NODE) as usize;
+    let n = count(rows, NODE) as usize;
     let mut i = 0;
     while i < n {
-        let u = read(b, USES + i);
+        let u = read(work, USES + i);
         if u == 0 {
             return i;
         }
@@ -47,31 +49,34 @@ fn first_unused(a: &[u32], b: &[u32]) -> usize
 }
 
 // How many lines stand before the nodes.
-fn before_nodes(a: &[u32]) -> usize
-    ensures { λ r. ⌜ (r ≡ before (held [] (now (a .entry)) []) 11) × (r ≤ 47244640245) ⌝ }
+fn before_nodes(rows: &[u32]) -> usize
+    ensures { λ r. ⌜ (r ≡ before (held [] (now (rows .entry)) []) NODE) × (r ≤ 47244640245) ⌝ }
 {
     let mut s: usize = 0;
     let mut i = 0;
-    while i < 11 {
-        s += count(a, i) as usize;
+    while i < NODE {
+        s += count(rows, i) as usize;
         i += 1;
     }
     s
 }
 
-// After the last line, with k the number of the next: a line missing, a node never used, or accepted.
-fn finish(a: &[u32], b: &[u32], k: usize) -> Loaded
-    requires { ⌜ 6272 + getD (now a) 11 0 ≤ length (now b) ⌝ }
-    ensures number { λ r. ⌜ r .number ≡ ending (held [] (now (a .entry)) (now (b .entry))) k .number ⌝ }
-    ensures line { λ r. ⌜ r .line ≡ ending (held [] (now (a .entry)) (now (b .entry))) k .line ⌝ }
+// After the last line, with the number of the next: a line missing, a node never used, or accepted.
+fn finish(rows: &[u32], work: &[u32], next: usize) -> Loaded
+    requires { ⌜ USES + getD (now rows) NODE 0 ≤ length (now work) ⌝ }
+    ensures number { λ r. ⌜ r .number ≡ ending (held [] (now (rows .entry)) (now (work .entry))) next .number ⌝ }
+    ensures line { λ r. ⌜ r .line ≡ ending (held [] (now (rows .entry)) (now (work .entry))) next .line ⌝ }
 {
-    if !enough_before(a, 13) {
-        return Loaded { number: 3, line: k };
+    if !enough_before(rows, NO_KEY) {
+        return Loaded {
+            number: 3,
+            line: next,
+        };
     }
-    let u = first_unused(a, b);
-    let n = count(a, NODE) as usize;
+    let u = first_unused(rows, work);
+    let n = count(rows, NODE) as usize;
     if u < n {
-        let m = before_nodes(a);
+        let m = before_nodes(rows);
         return Loaded {
             number: 8,
             line: m + u + 1,
@@ -82,26 +87,26 @@ fn finish(a: &[u32], b: &[u32], k: usize) -> Loaded
 
 // ---- the sheet
 
-// The first n words become 0.
-fn zero(w: &mut [u32], n: usize)
-    requires { ⌜ n ≤ length (now w) ⌝ }
-    ensures { λ _. ⌜ now (w .exit) ≡ zeros n (now (w .entry)) ⌝ }
+// The words before `end` become 0.
+fn zero(words: &mut [u32], end: usize)
+    requires { ⌜ end ≤ length (now words) ⌝ }
+    ensures { λ _. ⌜ now (words .exit) ≡ zeros end (now (words .entry)) ⌝ }
 {
     let mut i = 0;
-    while i < n {
-        w[i] = 0;
+    while i < end {
+        words[i] = 0;
         i += 1;
     }
 }
 
 // Reads the sheet; before the first line there are no rows, and no pairs are remembered. The answer is the refusal of the first faulty line, or of the end; where it is accepted the words hold its rows.
-pub fn load(sheet: &[u8], partial: bool, a: &mut [u32], b: &mut [u32]) -> Loaded
-    requires { ⌜ (length (now sheet) ≤ 16384) × (16384 ≤ length (now a)) × (16384 ≤ length (now b)) ⌝ }
-    ensures { λ r. ⌜ Read (read (modeOf partial) (now (sheet .entry))) (now (sheet .entry)) (now (a .entry)) (now (b .entry)) (now (a .exit)) (now (b .exit)) (r .number) (r .line) ⌝ }
+pub fn load(sheet: &[u8], partial: bool, rows: &mut [u32], work: &mut [u32]) -> Loaded
+    requires { ⌜ (length (now sheet) ≤ 16384) × (16384 ≤ length (now rows)) × (16384 ≤ length (now work)) ⌝ }
+    ensures { λ r. ⌜ Read (read (modeOf partial) (now (sheet .entry))) (now (sheet .entry)) (now (rows .entry)) (now (work .entry)) (now (rows .exit)) (now (work .exit)) (r .number) (r .line) ⌝ }
 {
-    zero(a, TOP);
-    zero(b, TYPEDEPTHS);
-    put(a, TOP, HEAP as u32);
+    zero(rows, TOP);
+    zero(work, TYPEDEPTHS);
+    put(rows, TOP, HEAP as u32);
     let mut c = Cursor::new();
     loop {
         let k = c.line;
@@ -113,7 +118,7 @@ pub fn load(sheet: &[u8], partial: bool, a: &mut [u32], b: &mut [u32]) -> Loaded
                 end,
                 next,
             } => {
-                let f = take_line(sheet, key, equals, end, partial, a, b);
+                let f = take_line(sheet, key, equals, end, partial, rows, work);
                 if f != 0 {
                     return Loaded { number: f, line: k };
                 }
@@ -123,7 +128,7 @@ pub fn load(sheet: &[u8], partial: bool, a: &mut [u32], b: &mut [u32]) -> Loaded
                 return Loaded { number: 3, line: k };
             }
             Line::End => {
-                return finish(a, b, k);
+                return finish(rows, work, k);
             }
         }
     }

@@ -3,6 +3,7 @@ use mathlib.Core.Path.{_≡_, refl, sym, ap, subst, _∙_}
 use mathlib.Core.Bool.{Bool, true, false, cond, _&&_, not, and-eq-true-iff}
 use mathlib.Core.List.{List, [], _∷_, _++_}
 use Prim.Native.Nat.{ℕ, zero, suc, _+_, _-_, _%_, _≤_, _<_}
+use native.Mathlib.Nat.{le-refl}
 use native.Mathlib.Omega.{arith}
 use native.Mathlib.Decide.{ℕ-discrete}
 use borrow.Author.Tests.{eq-eqb, ne-eqb}
@@ -109,139 +110,170 @@ more-is : (s : State) (k d : ℕ) (r u : List ℕ) → keyOf r ≡ k → d ≡ d
 unfolding more
 more-is s k d r u key deep e = rw (key, deep, e) refl
 
+-- what the stores leave, for each key
+pub data Put (b b′ : List ℕ) (k n d : ℕ) : Type 0 where
+  type : k ≡ TYPE → b′ ≡ set b (TYPEDEPTHS + n) d → Put b b′ k n d
+  value : k ≡ VALUE → b′ ≡ set b (VALUEDEPTHS + n) d → Put b b′ k n d
+  node : k ≡ NODE → b′ ≡ set (set b (NODEDEPTHS + n) d) (USES + n) 0 → Put b b′ k n d
+  leaf : (k ≡ TYPE → ⊥) → (k ≡ VALUE → ⊥) → (k ≡ NODE → ⊥) → b′ ≡ b → Put b b′ k n d
+
+put-is : (b b′ : List ℕ) (k n d : ℕ) → b′ ≡ withDepth b k n d → Put b b′ k n d
+unfolding withDepth
+put-is b b′ k n d put = go (ℕ-discrete k TYPE) (ℕ-discrete k VALUE) (ℕ-discrete k NODE)
+  where
+    go : Dec (k ≡ TYPE) → Dec (k ≡ VALUE) → Dec (k ≡ NODE) → Put b b′ k n d
+    go (yes e) v w = type e (put ∙ rw (eq-eqb k TYPE e) refl)
+    go (no u) (yes e) w = value e (put ∙ rw (ne-eqb k TYPE u, eq-eqb k VALUE e) refl)
+    go (no u) (no v) (yes e) = node e (put ∙ rw (ne-eqb k TYPE u, ne-eqb k VALUE v, eq-eqb k NODE e) refl)
+    go (no u) (no v) (no w) = leaf u v w (put ∙ rw (ne-eqb k TYPE u, ne-eqb k VALUE v, ne-eqb k NODE w) refl)
+
+limits-are : (limit TYPE ≡ 128) × (limit VALUE ≡ 1024) × (limit NODE ≡ 1024)
+unfolding limit limits
+limits-are = (refl, refl, refl)
+
+bases-are : (depthBase TYPE ≡ TYPEDEPTHS) × (depthBase VALUE ≡ VALUEDEPTHS) × (depthBase NODE ≡ NODEDEPTHS)
+unfolding depthBase depthBases
+bases-are = (refl, refl, refl)
+
+depth-in : (j i : ℕ) (l : List ℕ) (m : ℕ) → depthBase j ≡ i → (i ≡ 0 → ⊥) → getD l j 0 ≡ m → (c : List ℕ) → depthsIn l c j ≡ depthsAt c i m
+depth-in j i l m e z q c = rw (e, ne-eqb i 0 z, q) refl
+
+not-zero : (i : ℕ) → TYPEDEPTHS ≤ i → i ≡ 0 → ⊥
+not-zero i h e = omega arith
+
+-- as many as the key may have
+at-most : (j k n m : ℕ) → j ≡ k → limit k ≡ m → n ≤ limit j → n ≤ m
+at-most j k n m e q h = subst (λ (x : ℕ). n ≤ x) (ap limit e ∙ q) h
+
+-- the three regions of depths, each below the uses
+type-in : (n : ℕ) → n ≤ 128 → (TYPEDEPTHS ≤ TYPEDEPTHS) × (TYPEDEPTHS + n ≤ USES)
+type-in n h = (omega arith, omega arith)
+
+value-in : (n : ℕ) → n ≤ 1024 → (TYPEDEPTHS ≤ VALUEDEPTHS) × (VALUEDEPTHS + n ≤ USES)
+value-in n h = (omega arith, omega arith)
+
+node-in : (n : ℕ) → n ≤ 1024 → (TYPEDEPTHS ≤ NODEDEPTHS) × (NODEDEPTHS + n ≤ USES)
+node-in n h = (omega arith, omega arith)
+
+node-key : NODE < noKey
+node-key = omega arith
+
+uses-past : NODEDEPTHS ≤ USES
+uses-past = omega arith
+
+type-node : TYPE ≡ NODE → ⊥
+type-node e = omega arith
+
+value-node : VALUE ≡ NODE → ⊥
+value-node e = omega arith
+
+module _ (b b′ : List ℕ) (k n d : ℕ) where
+  -- the new depth follows those of its key
+  own-type : n < 128 → 16384 ≤ length b → b′ ≡ set b (TYPEDEPTHS + n) d → depthsAt b′ TYPEDEPTHS (suc n) ≡ depthsAt b TYPEDEPTHS n ++ (d ∷ [])
+  own-type h l p = rw p (put-next b TYPEDEPTHS n d (omega arith))
+
+  own-value : n < 1024 → 16384 ≤ length b → b′ ≡ set b (VALUEDEPTHS + n) d → depthsAt b′ VALUEDEPTHS (suc n) ≡ depthsAt b VALUEDEPTHS n ++ (d ∷ [])
+  own-value h l p = rw p (put-next b VALUEDEPTHS n d (omega arith))
+
+  own-node : n < 1024 → 16384 ≤ length b → b′ ≡ set (set b (NODEDEPTHS + n) d) (USES + n) 0 → depthsAt b′ NODEDEPTHS (suc n) ≡ depthsAt b NODEDEPTHS n ++ (d ∷ [])
+  own-node h l p = rw p (put-after (set b (NODEDEPTHS + n) d) (USES + n) 0 NODEDEPTHS (suc n) (omega arith) ∙ put-next b NODEDEPTHS n d (omega arith))
+
+  own-use : n < 1024 → 16384 ≤ length b → b′ ≡ set (set b (NODEDEPTHS + n) d) (USES + n) 0 → depthsAt b′ USES (suc n) ≡ depthsAt b USES n ++ (0 ∷ [])
+  own-use h l p =
+      rw p (put-next (set b (NODEDEPTHS + n) d) USES n 0 (omega (arith, length-set b (NODEDEPTHS + n) d))
+      ∙ ap (λ (x : List ℕ). x ++ (0 ∷ [])) (put-before b (NODEDEPTHS + n) d USES n (omega arith)))
+
+  -- the depths of the other keys stay
+  keeps-type : (k ≡ TYPE → ⊥) → (m : ℕ) → m ≤ 128 → Put b b′ k n d → depthsAt b′ TYPEDEPTHS m ≡ depthsAt b TYPEDEPTHS m
+  keeps-type ne m s (type f p) = absurd (ne f)
+  keeps-type ne m s (value f p) = rw p (put-after b (VALUEDEPTHS + n) d TYPEDEPTHS m (omega arith))
+  keeps-type ne m s (node f p) = rw p (put-after (set b (NODEDEPTHS + n) d) (USES + n) 0 TYPEDEPTHS m (omega arith) ∙ put-after b (NODEDEPTHS + n) d TYPEDEPTHS m (omega arith))
+  keeps-type ne m s (leaf u v w p) = rw p refl
+
+  keeps-value : (k ≡ VALUE → ⊥) → n < limit k → (m : ℕ) → m ≤ 1024 → Put b b′ k n d → depthsAt b′ VALUEDEPTHS m ≡ depthsAt b VALUEDEPTHS m
+  keeps-value ne h m s (type f p) = let l : suc n ≤ 128 = at-most k TYPE (suc n) 128 f (limits-are .0) h in rw p (put-before b (TYPEDEPTHS + n) d VALUEDEPTHS m (omega arith))
+  keeps-value ne h m s (value f p) = absurd (ne f)
+  keeps-value ne h m s (node f p) = rw p (put-after (set b (NODEDEPTHS + n) d) (USES + n) 0 VALUEDEPTHS m (omega arith) ∙ put-after b (NODEDEPTHS + n) d VALUEDEPTHS m (omega arith))
+  keeps-value ne h m s (leaf u v w p) = rw p refl
+
+  -- what stands past the depths of types and values stays, where the line is no node
+  keeps-past : (k ≡ NODE → ⊥) → n < limit k → (i m : ℕ) → NODEDEPTHS ≤ i → Put b b′ k n d → depthsAt b′ i m ≡ depthsAt b i m
+  keeps-past ne h i m s (type f p) = let l : suc n ≤ 128 = at-most k TYPE (suc n) 128 f (limits-are .0) h in rw p (put-before b (TYPEDEPTHS + n) d i m (omega arith))
+  keeps-past ne h i m s (value f p) = let l : suc n ≤ 1024 = at-most k VALUE (suc n) 1024 f (limits-are .1) h in rw p (put-before b (VALUEDEPTHS + n) d i m (omega arith))
+  keeps-past ne h i m s (node f p) = absurd (ne f)
+  keeps-past ne h i m s (leaf u v w p) = rw p refl
+
+  -- words below the depths, and those past the uses, are as they were
+  low-kept : Put b b′ k n d → (i : ℕ) → i < TYPEDEPTHS → getD b′ i 0 ≡ getD b i 0
+  low-kept (type f p) i h = rw p (getD-set-other b (TYPEDEPTHS + n) i d 0 (omega arith))
+  low-kept (value f p) i h = rw p (getD-set-other b (VALUEDEPTHS + n) i d 0 (omega arith))
+  low-kept (node f p) i h = rw (p, getD-set-other (set b (NODEDEPTHS + n) d) (USES + n) i 0 0 (omega arith)) (getD-set-other b (NODEDEPTHS + n) i d 0 (omega arith))
+  low-kept (leaf x y z p) i h = rw p refl
+
+  rest-kept : n < limit k → Put b b′ k n d → drop (USES + 1024) b′ ≡ drop (USES + 1024) b
+  rest-kept h (type f p) = let l : suc n ≤ 128 = at-most k TYPE (suc n) 128 f (limits-are .0) h in rw p (drop-set-lt (USES + 1024) b (TYPEDEPTHS + n) d (omega arith))
+  rest-kept h (value f p) = let l : suc n ≤ 1024 = at-most k VALUE (suc n) 1024 f (limits-are .1) h in rw p (drop-set-lt (USES + 1024) b (VALUEDEPTHS + n) d (omega arith))
+  rest-kept h (node f p) =
+      let l : suc n ≤ 1024 = at-most k NODE (suc n) 1024 f (limits-are .2) h in
+      rw (p, drop-set-lt (USES + 1024) (set b (NODEDEPTHS + n) d) (USES + n) 0 (omega arith)) (drop-set-lt (USES + 1024) b (NODEDEPTHS + n) d (omega arith))
+  rest-kept h (leaf x y z p) = rw p refl
+
+  pub line-words : n < limit k → b′ ≡ withDepth b k n d → ((i : ℕ) → i < TYPEDEPTHS → getD b′ i 0 ≡ getD b i 0) × (drop (USES + 1024) b′ ≡ drop (USES + 1024) b)
+  line-words h put = let p = put-is b b′ k n d put in (low-kept p, rest-kept h p)
+
 -- words a with n lines of key k become words a′ with one more; words b become b₁ with the same depths and the nodes of the line marked, then b′
 module _ (a a′ b b₁ b′ : List ℕ) (k d : ℕ) (low : k < noKey)
     (room : getD a k 0 < limit k) (few : (j : ℕ) → j < noKey → getD a j 0 ≤ limit j)
     (own : getD a′ k 0 ≡ suc (getD a k 0)) (other : (j : ℕ) → j < noKey → (j ≡ k → ⊥) → getD a′ j 0 ≡ getD a j 0)
     (long : 16384 ≤ length b₁) (kept : (i n : ℕ) → TYPEDEPTHS ≤ i → i + n ≤ USES → depthsAt b₁ i n ≡ depthsAt b i n)
     (put : b′ ≡ withDepth b₁ k (getD a k 0) d) where
-  abbrev n : ℕ
-  n = getD a k 0
+  own-at : (i : ℕ) → depthBase k ≡ i → (TYPEDEPTHS ≤ i) × (i + getD a k 0 ≤ USES) → depthsAt b′ i (suc (getD a k 0)) ≡ depthsAt b₁ i (getD a k 0) ++ (d ∷ []) → depthsIn a′ b′ k ≡ depthsIn a b k ++ (d ∷ [])
+  own-at i e h q =
+      depth-in k i a′ (suc (getD a k 0)) e (not-zero i (h .0)) own b′ ∙ q
+      ∙ ap (λ (x : List ℕ). x ++ (d ∷ [])) (kept i (getD a k 0) (h .0) (h .1) ∙ sym (depth-in k i a (getD a k 0) e (not-zero i (h .0)) refl b))
 
-  -- what the stores leave, for each key
-  data Put : Type 0 where
-    type : k ≡ TYPE → b′ ≡ set b₁ (TYPEDEPTHS + n) d → Put
-    value : k ≡ VALUE → b′ ≡ set b₁ (VALUEDEPTHS + n) d → Put
-    node : k ≡ NODE → b′ ≡ set (set b₁ (NODEDEPTHS + n) d) (USES + n) 0 → Put
-    leaf : (k ≡ TYPE → ⊥) → (k ≡ VALUE → ⊥) → (k ≡ NODE → ⊥) → b′ ≡ b₁ → Put
+  depth-own : ((k ≡ TYPE → ⊥) → (k ≡ VALUE → ⊥) → (k ≡ NODE → ⊥) → d ≡ 1) → Put b₁ b′ k (getD a k 0) d → depthsIn a′ b′ k ≡ depthsIn a b k ++ (d ∷ [])
+  depth-own one (type e p) = own-at TYPEDEPTHS (ap depthBase e ∙ bases-are .0) (type-in (getD a k 0) (at-most k TYPE (getD a k 0) 128 e (limits-are .0) (few k low)))
+      (own-type b₁ b′ k (getD a k 0) d (at-most k TYPE (suc (getD a k 0)) 128 e (limits-are .0) room) long p)
+  depth-own one (value e p) = own-at VALUEDEPTHS (ap depthBase e ∙ bases-are .1) (value-in (getD a k 0) (at-most k VALUE (getD a k 0) 1024 e (limits-are .1) (few k low)))
+      (own-value b₁ b′ k (getD a k 0) d (at-most k VALUE (suc (getD a k 0)) 1024 e (limits-are .1) room) long p)
+  depth-own one (node e p) = own-at NODEDEPTHS (ap depthBase e ∙ bases-are .2) (node-in (getD a k 0) (at-most k NODE (getD a k 0) 1024 e (limits-are .2) (few k low)))
+      (own-node b₁ b′ k (getD a k 0) d (at-most k NODE (suc (getD a k 0)) 1024 e (limits-are .2) room) long p)
+  depth-own one (leaf u v w p) = rw (no-base k u v w, own, one u v w) (ones-next (getD a k 0))
 
-  put-is : Put
-  unfolding withDepth
-  put-is = go (ℕ-discrete k TYPE) (ℕ-discrete k VALUE) (ℕ-discrete k NODE)
+  other-at : (j : ℕ) → j < noKey → (j ≡ k → ⊥) → (i : ℕ) → depthBase j ≡ i → (TYPEDEPTHS ≤ i) × (i + getD a j 0 ≤ USES) → depthsAt b′ i (getD a j 0) ≡ depthsAt b₁ i (getD a j 0) → depthsIn a′ b′ j ≡ depthsIn a b j
+  other-at j l ne i e h q =
+      depth-in j i a′ (getD a j 0) e (not-zero i (h .0)) (other j l ne) b′ ∙ q ∙ kept i (getD a j 0) (h .0) (h .1) ∙ sym (depth-in j i a (getD a j 0) e (not-zero i (h .0)) refl b)
+
+  depth-other : Put b₁ b′ k (getD a k 0) d → (j : ℕ) → j < noKey → (j ≡ k → ⊥) → depthsIn a′ b′ j ≡ depthsIn a b j
+  depth-other p j l ne = go (ℕ-discrete j TYPE) (ℕ-discrete j VALUE) (ℕ-discrete j NODE)
     where
-      go : Dec (k ≡ TYPE) → Dec (k ≡ VALUE) → Dec (k ≡ NODE) → Put
-      go (yes e) v w = type e (put ∙ rw (eq-eqb k TYPE e) refl)
-      go (no u) (yes e) w = value e (put ∙ rw (ne-eqb k TYPE u, eq-eqb k VALUE e) refl)
-      go (no u) (no v) (yes e) = node e (put ∙ rw (ne-eqb k TYPE u, ne-eqb k VALUE v, eq-eqb k NODE e) refl)
-      go (no u) (no v) (no w) = leaf u v w (put ∙ rw (ne-eqb k TYPE u, ne-eqb k VALUE v, ne-eqb k NODE w) refl)
-
-  limits-are : (limit TYPE ≡ 128) × (limit VALUE ≡ 1024) × (limit NODE ≡ 1024)
-  unfolding limit limits
-  limits-are = (refl, refl, refl)
-
-  depth-in : (j i : ℕ) (l : List ℕ) (m : ℕ) → depthBase j ≡ i → (i ≡ 0 → ⊥) → getD l j 0 ≡ m → (c : List ℕ) → depthsIn l c j ≡ depthsAt c i m
-  depth-in j i l m e z q c = rw (e, ne-eqb i 0 z, q) refl
-
-  bases-are : (depthBase TYPE ≡ TYPEDEPTHS) × (depthBase VALUE ≡ VALUEDEPTHS) × (depthBase NODE ≡ NODEDEPTHS)
-  unfolding depthBase depthBases
-  bases-are = (refl, refl, refl)
-
-  small : (j : ℕ) → j ≡ k → (m : ℕ) → limit j ≡ m → n < m
-  small j e m q = subst (λ (x : ℕ). n < x) (ap limit (sym e) ∙ q) room
-
-  depth-own : ((k ≡ TYPE → ⊥) → (k ≡ VALUE → ⊥) → (k ≡ NODE → ⊥) → d ≡ 1) → depthsIn a′ b′ k ≡ depthsIn a b k ++ (d ∷ [])
-  depth-own one = go put-is
-    where
-      at : (i m : ℕ) → depthBase k ≡ i → TYPEDEPTHS ≤ i → i + m ≤ USES → n < m → (c : List ℕ) → depthsAt c i (suc n) ≡ depthsAt b₁ i n ++ (d ∷ []) → b′ ≡ c → depthsIn a′ b′ k ≡ depthsIn a b k ++ (d ∷ [])
-      at i m e l h s c q p =
-          depth-in k i a′ (suc n) e (λ z. absurd (omega arith)) own b′ ∙ ap (λ (x : List ℕ). depthsAt x i (suc n)) p ∙ q
-          ∙ ap (λ (x : List ℕ). x ++ (d ∷ [])) (kept i n l (omega arith) ∙ sym (depth-in k i a n e (λ z. absurd (omega arith)) refl b))
-
-      go : Put → depthsIn a′ b′ k ≡ depthsIn a b k ++ (d ∷ [])
-      go (type e p) = at TYPEDEPTHS 128 (ap depthBase e ∙ bases-are .0) (omega arith) (omega arith) (small TYPE (sym e) 128 (limits-are .0)) (set b₁ (TYPEDEPTHS + n) d) (put-next b₁ TYPEDEPTHS n d (omega (arith, small TYPE (sym e) 128 (limits-are .0)))) p
-      go (value e p) = at VALUEDEPTHS 1024 (ap depthBase e ∙ bases-are .1) (omega arith) (omega arith) (small VALUE (sym e) 1024 (limits-are .1)) (set b₁ (VALUEDEPTHS + n) d) (put-next b₁ VALUEDEPTHS n d (omega (arith, small VALUE (sym e) 1024 (limits-are .1)))) p
-      go (node e p) = at NODEDEPTHS 1024 (ap depthBase e ∙ bases-are .2) (omega arith) (omega arith) (small NODE (sym e) 1024 (limits-are .2)) (set (set b₁ (NODEDEPTHS + n) d) (USES + n) 0)
-          (put-after (set b₁ (NODEDEPTHS + n) d) (USES + n) 0 NODEDEPTHS (suc n) (omega arith) ∙ put-next b₁ NODEDEPTHS n d (omega (arith, small NODE (sym e) 1024 (limits-are .2)))) p
-      go (leaf u v w p) = rw (no-base k u v w, own, one u v w) (ones-next n)
-
-  depth-other : (j : ℕ) → j < noKey → (j ≡ k → ⊥) → depthsIn a′ b′ j ≡ depthsIn a b j
-  depth-other j l ne = go (ℕ-discrete j TYPE) (ℕ-discrete j VALUE) (ℕ-discrete j NODE)
-    where
-      m : ℕ
-      m = getD a j 0
-
-      at : (i : ℕ) → depthBase j ≡ i → TYPEDEPTHS ≤ i → i + getD a j 0 ≤ USES → depthsAt b′ i (getD a j 0) ≡ depthsAt b₁ i (getD a j 0) → depthsIn a′ b′ j ≡ depthsIn a b j
-      at i e h s q =
-          depth-in j i a′ (getD a j 0) e (λ z. absurd (omega arith)) (other j l ne) b′ ∙ q ∙ kept i (getD a j 0) h s ∙ sym (depth-in j i a (getD a j 0) e (λ z. absurd (omega arith)) refl b)
-
-      few-at : (x : ℕ) → limit j ≡ x → getD a j 0 ≤ x
-      few-at x e = subst (λ (y : ℕ). getD a j 0 ≤ y) e (few j l)
-
-      keeps-type : j ≡ TYPE → getD a j 0 ≤ 128 → Put → depthsAt b′ TYPEDEPTHS (getD a j 0) ≡ depthsAt b₁ TYPEDEPTHS (getD a j 0)
-      keeps-type e s (type f p) = absurd (ne (e ∙ sym f))
-      keeps-type e s (value f p) = rw p (put-after b₁ (VALUEDEPTHS + n) d TYPEDEPTHS (getD a j 0) (omega arith))
-      keeps-type e s (node f p) = rw p (put-after (set b₁ (NODEDEPTHS + n) d) (USES + n) 0 TYPEDEPTHS (getD a j 0) (omega arith) ∙ put-after b₁ (NODEDEPTHS + n) d TYPEDEPTHS (getD a j 0) (omega arith))
-      keeps-type e s (leaf u v w p) = rw p refl
-
-      keeps-value : j ≡ VALUE → getD a j 0 ≤ 1024 → Put → depthsAt b′ VALUEDEPTHS (getD a j 0) ≡ depthsAt b₁ VALUEDEPTHS (getD a j 0)
-      keeps-value e s (type f p) = rw p (put-before b₁ (TYPEDEPTHS + n) d VALUEDEPTHS (getD a j 0) (omega (arith, small TYPE (sym f) 128 (limits-are .0))))
-      keeps-value e s (value f p) = absurd (ne (e ∙ sym f))
-      keeps-value e s (node f p) = rw p (put-after (set b₁ (NODEDEPTHS + n) d) (USES + n) 0 VALUEDEPTHS (getD a j 0) (omega arith) ∙ put-after b₁ (NODEDEPTHS + n) d VALUEDEPTHS (getD a j 0) (omega arith))
-      keeps-value e s (leaf u v w p) = rw p refl
-
-      keeps-node : j ≡ NODE → getD a j 0 ≤ 1024 → Put → depthsAt b′ NODEDEPTHS (getD a j 0) ≡ depthsAt b₁ NODEDEPTHS (getD a j 0)
-      keeps-node e s (type f p) = rw p (put-before b₁ (TYPEDEPTHS + n) d NODEDEPTHS (getD a j 0) (omega (arith, small TYPE (sym f) 128 (limits-are .0))))
-      keeps-node e s (value f p) = rw p (put-before b₁ (VALUEDEPTHS + n) d NODEDEPTHS (getD a j 0) (omega (arith, small VALUE (sym f) 1024 (limits-are .1))))
-      keeps-node e s (node f p) = absurd (ne (e ∙ sym f))
-      keeps-node e s (leaf u v w p) = rw p refl
-
       go : Dec (j ≡ TYPE) → Dec (j ≡ VALUE) → Dec (j ≡ NODE) → depthsIn a′ b′ j ≡ depthsIn a b j
-      go (yes e) y z = let s = few-at 128 (ap limit e ∙ limits-are .0) in at TYPEDEPTHS (ap depthBase e ∙ bases-are .0) (omega arith) (omega arith) (keeps-type e s put-is)
-      go (no x) (yes e) z = let s = few-at 1024 (ap limit e ∙ limits-are .1) in at VALUEDEPTHS (ap depthBase e ∙ bases-are .1) (omega arith) (omega arith) (keeps-value e s put-is)
-      go (no x) (no y) (yes e) = let s = few-at 1024 (ap limit e ∙ limits-are .2) in at NODEDEPTHS (ap depthBase e ∙ bases-are .2) (omega arith) (omega arith) (keeps-node e s put-is)
+      go (yes e) y z =
+          let s = at-most j TYPE (getD a j 0) 128 e (limits-are .0) (few j l) in
+          other-at j l ne TYPEDEPTHS (ap depthBase e ∙ bases-are .0) (type-in (getD a j 0) s) (keeps-type b₁ b′ k (getD a k 0) d (λ q. ne (e ∙ sym q)) (getD a j 0) s p)
+      go (no x) (yes e) z =
+          let s = at-most j VALUE (getD a j 0) 1024 e (limits-are .1) (few j l) in
+          other-at j l ne VALUEDEPTHS (ap depthBase e ∙ bases-are .1) (value-in (getD a j 0) s) (keeps-value b₁ b′ k (getD a k 0) d (λ q. ne (e ∙ sym q)) room (getD a j 0) s p)
+      go (no x) (no y) (yes e) =
+          let s = at-most j NODE (getD a j 0) 1024 e (limits-are .2) (few j l) in
+          other-at j l ne NODEDEPTHS (ap depthBase e ∙ bases-are .2) (node-in (getD a j 0) s) (keeps-past b₁ b′ k (getD a k 0) d (λ q. ne (e ∙ sym q)) room NODEDEPTHS (getD a j 0) (le-refl NODEDEPTHS) p)
       go (no x) (no y) (no z) = rw (no-base j x y z, other j l ne) refl
 
-  used-new : (u : List ℕ) → usesIn a b₁ ≡ u → depthsAt b′ USES (getD a′ NODE 0) ≡ cond (eqb k NODE) (u ++ (0 ∷ [])) u
-  used-new u e = go put-is
-    where
-      same : (k ≡ NODE → ⊥) → depthsAt b′ USES (getD a NODE 0) ≡ depthsAt b₁ USES (getD a NODE 0) → depthsAt b′ USES (getD a′ NODE 0) ≡ cond (eqb k NODE) (u ++ (0 ∷ [])) u
-      same ne q = rw (other NODE (omega arith) (λ z. ne (sym z)), ne-eqb k NODE ne) (q ∙ e)
+  used-same : (k ≡ NODE → ⊥) → (u : List ℕ) → usesIn a b₁ ≡ u → Put b₁ b′ k (getD a k 0) d → depthsAt b′ USES (getD a′ NODE 0) ≡ cond (eqb k NODE) (u ++ (0 ∷ [])) u
+  used-same ne u e p =
+      rw (other NODE node-key (λ z. ne (sym z)), ne-eqb k NODE ne) (keeps-past b₁ b′ k (getD a k 0) d ne room USES (getD a NODE 0) uses-past p ∙ e)
 
-      go : Put → depthsAt b′ USES (getD a′ NODE 0) ≡ cond (eqb k NODE) (u ++ (0 ∷ [])) u
-      go (type f p) = same (λ z. absurd (omega arith)) (rw p (put-before b₁ (TYPEDEPTHS + n) d USES (getD a NODE 0) (omega (arith, small TYPE (sym f) 128 (limits-are .0)))))
-      go (value f p) = same (λ z. absurd (omega arith)) (rw p (put-before b₁ (VALUEDEPTHS + n) d USES (getD a NODE 0) (omega (arith, small VALUE (sym f) 1024 (limits-are .1)))))
-      go (node f p) =
-          let s = small NODE (sym f) 1024 (limits-are .2) in
-          let c : getD a′ NODE 0 ≡ suc n = ap (λ (j : ℕ). getD a′ j 0) (sym f) ∙ own in
-          let w : getD a NODE 0 ≡ n = ap (λ (j : ℕ). getD a j 0) (sym f) in
-          rw (c, eq-eqb k NODE f, p)
-          (put-next (set b₁ (NODEDEPTHS + n) d) USES n 0 (omega (arith, length-set b₁ (NODEDEPTHS + n) d))
-          ∙ ap (λ (x : List ℕ). x ++ (0 ∷ [])) (put-before b₁ (NODEDEPTHS + n) d USES n (omega arith) ∙ ap (depthsAt b₁ USES) (sym w) ∙ e))
-      go (leaf x y z p) = same z (rw p refl)
-
-  -- words below the depths, and those past the uses, are as they were
-  low-kept : (i : ℕ) → i < TYPEDEPTHS → getD b′ i 0 ≡ getD b₁ i 0
-  low-kept i h = go put-is
-    where
-      go : Put → getD b′ i 0 ≡ getD b₁ i 0
-      go (type f p) = rw p (getD-set-other b₁ (TYPEDEPTHS + n) i d 0 (omega arith))
-      go (value f p) = rw p (getD-set-other b₁ (VALUEDEPTHS + n) i d 0 (omega arith))
-      go (node f p) = rw (p, getD-set-other (set b₁ (NODEDEPTHS + n) d) (USES + n) i 0 0 (omega arith)) (getD-set-other b₁ (NODEDEPTHS + n) i d 0 (omega arith))
-      go (leaf x y z p) = rw p refl
-
-  rest-kept : drop (USES + 1024) b′ ≡ drop (USES + 1024) b₁
-  rest-kept = go put-is
-    where
-      go : Put → drop (USES + 1024) b′ ≡ drop (USES + 1024) b₁
-      go (type f p) = rw p (drop-set-lt (USES + 1024) b₁ (TYPEDEPTHS + n) d (omega (arith, small TYPE (sym f) 128 (limits-are .0))))
-      go (value f p) = rw p (drop-set-lt (USES + 1024) b₁ (VALUEDEPTHS + n) d (omega (arith, small VALUE (sym f) 1024 (limits-are .1))))
-      go (node f p) =
-          let s = small NODE (sym f) 1024 (limits-are .2) in
-          rw (p, drop-set-lt (USES + 1024) (set b₁ (NODEDEPTHS + n) d) (USES + n) 0 (omega arith)) (drop-set-lt (USES + 1024) b₁ (NODEDEPTHS + n) d (omega arith))
-      go (leaf x y z p) = rw p refl
-
-  pub line-words : ((i : ℕ) → i < TYPEDEPTHS → getD b′ i 0 ≡ getD b₁ i 0) × (drop (USES + 1024) b′ ≡ drop (USES + 1024) b₁)
-  line-words = (low-kept, rest-kept)
+  used-new : (u : List ℕ) → usesIn a b₁ ≡ u → Put b₁ b′ k (getD a k 0) d → depthsAt b′ USES (getD a′ NODE 0) ≡ cond (eqb k NODE) (u ++ (0 ∷ [])) u
+  used-new u e (type f p) = used-same (λ z. type-node (sym f ∙ z)) u e (type f p)
+  used-new u e (value f p) = used-same (λ z. value-node (sym f ∙ z)) u e (value f p)
+  used-new u e (node f p) =
+      let c : getD a′ NODE 0 ≡ suc (getD a k 0) = ap (λ (j : ℕ). getD a′ j 0) (sym f) ∙ own in
+      let w : getD a NODE 0 ≡ getD a k 0 = ap (λ (j : ℕ). getD a j 0) (sym f) in
+      rw (c, eq-eqb k NODE f)
+      (own-use b₁ b′ k (getD a k 0) d (at-most k NODE (suc (getD a k 0)) 1024 f (limits-are .2) room) long p
+      ∙ ap (λ (x : List ℕ). x ++ (0 ∷ [])) (ap (depthsAt b₁ USES) (sym w) ∙ e))
+  used-new u e (leaf x y z p) = used-same z u e (leaf x y z p)
 
   module _ (sheet r : List ℕ) (rows-own : rowsOf a′ k ≡ rowsOf a k ++ (r ∷ [])) (rows-other : (j : ℕ) → j < noKey → (j ≡ k → ⊥) → rowsOf a′ j ≡ rowsOf a j)
       (key : keyOf (rowIn sheet k r) ≡ k) (deep : d ≡ depth (held sheet a b) k (rowIn sheet k r)) (uses : usesIn a b₁ ≡ marked (usesIn a b) (refs NODE (rowIn sheet k r))) where
@@ -250,10 +282,13 @@ module _ (a a′ b b₁ b′ : List ℕ) (k d : ℕ) (low : k < noKey)
         deep ∙ ap (λ (j : ℕ). depth (held sheet a b) j (rowIn sheet k r)) (sym key)
         ∙ leaf-depth (held sheet a b) (rowIn sheet k r) (λ q. x (sym key ∙ q)) (λ q. y (sym key ∙ q)) (λ q. z (sym key ∙ q))
 
+    stores : Put b₁ b′ k (getD a k 0) d
+    stores = put-is b₁ b′ k (getD a k 0) d put
+
     pub state-more : held sheet a′ b′ ≡ more (held sheet a b) (rowIn sheet k r)
     state-more =
         held-more sheet a a′ b b′ k d r (cond (eqb k NODE) (marked (usesIn a b) (refs NODE (rowIn sheet k r)) ++ (0 ∷ [])) (marked (usesIn a b) (refs NODE (rowIn sheet k r)))) low
-        rows-own rows-other (depth-own one-deep) depth-other (used-new (marked (usesIn a b) (refs NODE (rowIn sheet k r))) uses)
+        rows-own rows-other (depth-own one-deep stores) (depth-other stores) (used-new (marked (usesIn a b) (refs NODE (rowIn sheet k r))) uses stores)
         ∙ more-is (held sheet a b) k d (rowIn sheet k r) (usesIn a b) key deep (used-of sheet a b)
 
 -- ---- `put_depth` and `commit`

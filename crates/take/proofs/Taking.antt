@@ -261,7 +261,7 @@ module _ (sheet row a b : List ℕ) (bytes : ℕ) (m : Mode) (ready : Ready a b)
               markedOf x = marked (usesIn a₁ b) (refs NODE (rowIn sheet x (part a₁ top end)))
 
           words₂ : ((i : ℕ) → i < TYPEDEPTHS → getD b₂ i 0 ≡ getD b₁ i 0) × (drop (USES + 1024) b₂ ≡ drop (USES + 1024) b₁)
-          words₂ = line-words a₁ a₂ b b₁ b₂ k d low room₁ (λ i h. sound₁ .few i (omega arith)) own₂ (λ i h ne. other₂ i (omega arith) ne) long-b (j .depths) pb
+          words₂ = line-words b₁ b₂ k (getD a₁ k 0) d room₁ pb
 
           -- before the entities nothing is remembered
           blank₁ : k < ENTITY → (i : ℕ) → i < TYPEDEPTHS → getD b₂ i 0 ≡ 0

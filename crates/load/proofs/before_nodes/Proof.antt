@@ -1,15 +1,16 @@
 -- `load::before_nodes` meets its contract. Assumes nothing.
 use Rattle.load.proofs.Finishing.{Summed, summed-start, summed-on, summed-end}
 use Prim.Native.Nat.{_-_}
+use Rattle.sheet.specs.Forms.{NODE}
 use borrow.Author.Needs.{needs}
 use Rattle.load.proofs.before_nodes.Statement.{statement}
 use Rattle.load.proofs.before_nodes.Tie as tie
 
 abbrev Inv-loop : tie.InvT-loop
-Inv-loop a s₀ i₀ s i = Summed a s i
+Inv-loop rows s₀ i₀ s i = Summed rows s i
 
 abbrev μ-loop : tie.MeasureT-loop
-μ-loop a s₀ i₀ s i = 11 - i
+μ-loop rows s₀ i₀ s i = NODE - i
 
 loop-holds : tie.Need-loop-holds Inv-loop μ-loop
 loop-holds c = search (summed-start, needs)
@@ -20,7 +21,7 @@ loop-again c = search (summed-on, needs)
 returns : tie.Need-returns Inv-loop μ-loop
 returns c =
     let l = c .before .loop in
-    summed-end (c .before .before .before .args .a .now) (l .s) (l .i) (l .inv) (c .loop-test .left)
+    summed-end (c .before .before .before .args .rows .now) (l .s) (l .i) (l .inv) (c .loop-test .left)
 
 pub before-nodes-spec : {M : Type 1} → statement M
 before-nodes-spec =

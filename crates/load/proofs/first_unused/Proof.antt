@@ -6,10 +6,10 @@ use Rattle.load.proofs.first_unused.Statement.{statement}
 use Rattle.load.proofs.first_unused.Tie as tie
 
 abbrev Inv-loop : tie.InvT-loop
-Inv-loop a b n i₀ i = Unused a b n i
+Inv-loop rows work n i₀ i = Unused rows work n i
 
 abbrev μ-loop : tie.MeasureT-loop
-μ-loop a b n i₀ i = n - i
+μ-loop rows work n i₀ i = n - i
 
 loop-holds : tie.Need-loop-holds Inv-loop μ-loop
 loop-holds c = search (unused-start, needs)

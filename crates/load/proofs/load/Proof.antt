@@ -11,10 +11,10 @@ use Rattle.load.proofs.load.Statement.{statement}
 use Rattle.load.proofs.load.Tie as tie
 
 abbrev Inv-loop : tie.InvT-loop
-Inv-loop sheet partial a₀ b₀ c₀ a b c = Progress (modeOf partial) sheet a₀ b₀ a b (c .at) (c .line)
+Inv-loop sheet partial rows₀ work₀ c₀ rows work c = Progress (modeOf partial) sheet rows₀ work₀ rows work (c .at) (c .line)
 
 abbrev μ-loop : tie.MeasureT-loop
-μ-loop sheet partial a₀ b₀ c₀ a b c = length sheet - c .at
+μ-loop sheet partial rows₀ work₀ c₀ rows work c = length sheet - c .at
 
 loop-holds : tie.Need-loop-holds Inv-loop μ-loop
 loop-holds c =
@@ -23,7 +23,7 @@ loop-holds c =
     let y = c .before .before .before .before .before .before .before .zero2 in
     let p = c .before .before .before .put in
     let n = c .new in
-    progress-first (modeOf (s .args .partial)) (s .args .sheet .now) (s .args .a .now) (s .args .b .now) (x .last .0) (y .last .0) (p .last .0) (n .result) (n .ensures .0) (n .ensures .1) (s .pre .1) (s .pre .2) (x .ensures) (y .ensures) (p .ensures)
+    progress-first (modeOf (s .args .partial)) (s .args .sheet .now) (s .args .rows .now) (s .args .work .now) (x .last .0) (y .last .0) (p .last .0) (n .result) (n .ensures .0) (n .ensures .1) (s .pre .1) (s .pre .2) (x .ensures) (y .ensures) (p .ensures)
 
 take-line-requires : tie.Need-take-line-requires Inv-loop μ-loop
 take-line-requires c κs =
@@ -33,7 +33,7 @@ take-line-requires c κs =
     let l = c .before .before .before .before .before .before .loop in
     let g = c .before .before .before .before .before .next-line in
     let v = c .before .before .before .l .given in
-    line-fits (modeOf (s .args .partial)) (s .args .sheet .now) (p .last .0) (y .last .0) (l .a) (l .b) (l .c) (l .inv) (g .result) (g .ensures) (v .0 .0) (v .0 .1 .0) (v .0 .1 .1 .0) (v .0 .1 .1 .1 .0) (v .1) (s .pre .0)
+    line-fits (modeOf (s .args .partial)) (s .args .sheet .now) (p .last .0) (y .last .0) (l .rows) (l .work) (l .c) (l .inv) (g .result) (g .ensures) (v .0 .0) (v .0 .1 .0) (v .0 .1 .1 .0) (v .0 .1 .1 .1 .0) (v .1) (s .pre .0)
 
 same-length : tie.Need-same-length Inv-loop μ-loop
 same-length c =
@@ -50,9 +50,9 @@ returns c =
     let g = c .before .before .before .before .before .before .before .before .before .before .before .next-line in
     let v = c .before .before .before .before .before .before .before .before .before .l .given in
     let t = c .before .before .before .before .before .take-line in
-    from-entry (read (modeOf (s .args .partial)) (s .args .sheet .now)) (s .args .sheet .now) (s .args .a .now) (s .args .b .now) (x .last .0) (y .last .0) (p .last .0)
+    from-entry (read (modeOf (s .args .partial)) (s .args .sheet .now)) (s .args .sheet .now) (s .args .rows .now) (s .args .work .now) (x .last .0) (y .last .0) (p .last .0)
     (t .last .1 .1 .1 .1 .1 .0) (t .last .1 .1 .1 .1 .1 .1 .0) (t .result) (l .c .line) (s .pre .1) (s .pre .2) (x .ensures) (y .ensures) (p .ensures)
-    (line-stops (modeOf (s .args .partial)) (s .args .sheet .now) (p .last .0) (y .last .0) (l .a) (l .b) (l .c) (l .inv) (g .result) (g .ensures) (v .0 .0) (v .0 .1 .0) (v .0 .1 .1 .0) (v .0 .1 .1 .1 .0) (v .1)
+    (line-stops (modeOf (s .args .partial)) (s .args .sheet .now) (p .last .0) (y .last .0) (l .rows) (l .work) (l .c) (l .inv) (g .result) (g .ensures) (v .0 .0) (v .0 .1 .0) (v .0 .1 .1 .0) (v .0 .1 .1 .1 .0) (v .1)
     (t .last .1 .1 .1 .1 .1 .0) (t .last .1 .1 .1 .1 .1 .1 .0) (t .result) (t .ensures) (c .if1 .taken) (t .result) (l .c .line) refl refl)
 
 loop-less : tie.Need-loop-less Inv-loop μ-loop
@@ -63,7 +63,7 @@ loop-less c =
     let l = c .before .before .before .before .before .before .before .before .before .before .before .before .loop in
     let g = c .before .before .before .before .before .before .before .before .before .before .before .next-line in
     let v = c .before .before .before .before .before .before .before .before .before .l .given in
-    line-falls (modeOf (s .args .partial)) (s .args .sheet .now) (p .last .0) (y .last .0) (l .a) (l .b) (l .c) (l .inv) (g .result) (g .ensures) (v .0 .0) (v .0 .1 .0) (v .0 .1 .1 .0) (v .0 .1 .1 .1 .0) (v .1)
+    line-falls (modeOf (s .args .partial)) (s .args .sheet .now) (p .last .0) (y .last .0) (l .rows) (l .work) (l .c) (l .inv) (g .result) (g .ensures) (v .0 .0) (v .0 .1 .0) (v .0 .1 .1 .0) (v .0 .1 .1 .1 .0) (v .1)
 
 loop-again : tie.Need-loop-again Inv-loop μ-loop
 loop-again c =
@@ -74,7 +74,7 @@ loop-again c =
     let g = c .before .before .before .before .before .before .before .before .before .before .before .next-line in
     let v = c .before .before .before .before .before .before .before .before .before .l .given in
     let t = c .before .before .before .before .before .take-line in
-    line-goes (modeOf (s .args .partial)) (s .args .sheet .now) (p .last .0) (y .last .0) (l .a) (l .b) (l .c) (l .inv) (g .result) (g .ensures) (v .0 .0) (v .0 .1 .0) (v .0 .1 .1 .0) (v .0 .1 .1 .1 .0) (v .1)
+    line-goes (modeOf (s .args .partial)) (s .args .sheet .now) (p .last .0) (y .last .0) (l .rows) (l .work) (l .c) (l .inv) (g .result) (g .ensures) (v .0 .0) (v .0 .1 .0) (v .0 .1 .1 .0) (v .0 .1 .1 .1 .0) (v .1)
     (t .last .1 .1 .1 .1 .1 .0) (t .last .1 .1 .1 .1 .1 .1 .0) (t .result) (t .ensures) (c .if1 .left) (s .pre .0) (omega arith) (omega arith)
 
 returns-2 : tie.Need-returns-2 Inv-loop μ-loop
@@ -85,9 +85,9 @@ returns-2 c =
     let p = c .before .before .before .before .before .before .before .put in
     let l = c .before .before .before .loop in
     let g = c .before .before .next-line in
-    from-entry (read (modeOf (s .args .partial)) (s .args .sheet .now)) (s .args .sheet .now) (s .args .a .now) (s .args .b .now) (x .last .0) (y .last .0) (p .last .0)
-    (l .a) (l .b) 3 (l .c .line) (s .pre .1) (s .pre .2) (x .ensures) (y .ensures) (p .ensures)
-    (line-faulty (modeOf (s .args .partial)) (s .args .sheet .now) (p .last .0) (y .last .0) (l .a) (l .b) (l .c) (l .inv) (g .result) (g .ensures) (c .enum-told .given .1) 3 (l .c .line) refl refl)
+    from-entry (read (modeOf (s .args .partial)) (s .args .sheet .now)) (s .args .sheet .now) (s .args .rows .now) (s .args .work .now) (x .last .0) (y .last .0) (p .last .0)
+    (l .rows) (l .work) 3 (l .c .line) (s .pre .1) (s .pre .2) (x .ensures) (y .ensures) (p .ensures)
+    (line-faulty (modeOf (s .args .partial)) (s .args .sheet .now) (p .last .0) (y .last .0) (l .rows) (l .work) (l .c) (l .inv) (g .result) (g .ensures) (c .enum-told .given .1) 3 (l .c .line) refl refl)
 
 finish-requires : tie.Need-finish-requires Inv-loop μ-loop
 finish-requires c κs =
@@ -95,7 +95,7 @@ finish-requires c κs =
     let y = c .before .before .before .before .before .before .before .before .before .before .before .before .before .zero2 in
     let p = c .before .before .before .before .before .before .before .before .before .put in
     let l = c .before .before .before .before .before .loop in
-    finish-room (modeOf (s .args .partial)) (s .args .sheet .now) (p .last .0) (y .last .0) (l .a) (l .b) (l .c) (l .inv)
+    finish-room (modeOf (s .args .partial)) (s .args .sheet .now) (p .last .0) (y .last .0) (l .rows) (l .work) (l .c) (l .inv)
 
 returns-3 : tie.Need-returns-3 Inv-loop μ-loop
 returns-3 c =
@@ -106,9 +106,9 @@ returns-3 c =
     let l = c .before .before .before .before .before .before .loop in
     let g = c .before .before .before .before .before .next-line in
     let f = c .finish in
-    from-entry (read (modeOf (s .args .partial)) (s .args .sheet .now)) (s .args .sheet .now) (s .args .a .now) (s .args .b .now) (x .last .0) (y .last .0) (p .last .0)
-    (l .a) (l .b) (f .result .number) (f .result .line) (s .pre .1) (s .pre .2) (x .ensures) (y .ensures) (p .ensures)
-    (all-read (modeOf (s .args .partial)) (s .args .sheet .now) (p .last .0) (y .last .0) (l .a) (l .b) (l .c) (l .inv) (g .result) (g .ensures) (c .before .before .before .enum-told2 .given .1) (f .result .number) (f .result .line) (f .ensures .0) (f .ensures .1))
+    from-entry (read (modeOf (s .args .partial)) (s .args .sheet .now)) (s .args .sheet .now) (s .args .rows .now) (s .args .work .now) (x .last .0) (y .last .0) (p .last .0)
+    (l .rows) (l .work) (f .result .number) (f .result .line) (s .pre .1) (s .pre .2) (x .ensures) (y .ensures) (p .ensures)
+    (all-read (modeOf (s .args .partial)) (s .args .sheet .now) (p .last .0) (y .last .0) (l .rows) (l .work) (l .c) (l .inv) (g .result) (g .ensures) (c .before .before .before .enum-told2 .given .1) (f .result .number) (f .result .line) (f .ensures .0) (f .ensures .1))
 
 pub load-spec : {M : Type 1} → statement M
 load-spec =

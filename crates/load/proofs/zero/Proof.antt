@@ -6,10 +6,10 @@ use Rattle.load.proofs.zero.Statement.{statement}
 use Rattle.load.proofs.zero.Tie as tie
 
 abbrev Inv-loop : tie.InvT-loop
-Inv-loop w₀ n i₀ w i = Zeroing w₀ n w i
+Inv-loop words₀ end i₀ words i = Zeroing words₀ end words i
 
 abbrev μ-loop : tie.MeasureT-loop
-μ-loop w₀ n i₀ w i = n - i
+μ-loop words₀ end i₀ words i = end - i
 
 loop-holds : tie.Need-loop-holds Inv-loop μ-loop
 loop-holds c = search (zeroing-start, needs)
