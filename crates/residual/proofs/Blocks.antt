@@ -1,6 +1,6 @@
 -- Where the words of a residual lie, and that a row's words say what its tree is. Assumes nothing.
 use mathlib.Core.Path.{_≡_, refl, sym, ap, _∙_, subst}
-use mathlib.Core.Bool.{Bool, true, false, _||_, and-eq-true-iff}
+use mathlib.Core.Bool.{Bool, true, false, _||_, or-false, and-eq-true-iff}
 use mathlib.Core.List.{List, [], _∷_, _++_, append-assoc}
 use Prim.Native.Nat.{ℕ, zero, suc, _+_, _-_, _<_}
 use native.Mathlib.Omega.{arith}
@@ -136,13 +136,9 @@ module _ (r : List ℕ) (k : ℕ) (T : Ty) (cs : List (Node ℕ)) where
 
   -- ---- errors
 
-  or-nil : (a : Bool) → a ≡ (a || false)
-  or-nil true = refl
-  or-nil false = refl
-
   or-two : (a b : Bool) → (a || b) ≡ (a || (b || false))
   or-two true b = refl
-  or-two false b = or-nil b
+  or-two false b = sym (or-false b)
 
   or-three : (a b d : Bool) → (a || b || d) ≡ (a || (b || (d || false)))
   or-three true b d = refl
@@ -191,14 +187,14 @@ module _ (r : List ℕ) (k : ℕ) (T : Ty) (cs : List (Node ℕ)) where
       (each1 (two-errs ALL (bin T ball) (λ x y. or-two (canErr x) (canErr y)))
       (each1 (two-errs ANY (bin T bany) (λ x y. or-two (canErr x) (canErr y)))
       (each1 (λ e. over3 (λ l. canErr (ite T (getD l 0 (err tbool)) (getD l 1 (err tbool)) (getD l 2 (err tbool))) ≡ anyErrs l) cs (λ x y w. or-three (canErr x) (canErr y) (canErr w)) e)
-      (each1 (one-errs IS (un T (uis (at r 2))) (λ x. or-nil (canErr x)))
-      (each1 (one-errs LIKE (un T (ulike (patternOf (drop 2 (items r))))) (λ x. or-nil (canErr x)))
+      (each1 (one-errs IS (un T (uis (at r 2))) (λ x. sym (or-false (canErr x))))
+      (each1 (one-errs LIKE (un T (ulike (patternOf (drop 2 (items r))))) (λ x. sym (or-false (canErr x))))
       (each1 (one-errs GET (λ x. get T x (at r 2)) (λ x. refl))
-      (each1 (one-errs HAS (λ x. has T x (at r 2)) (λ x. or-nil (canErr x)))
-      (each1 (one-errs HASPATH (λ x. haspath T x (at r (2 + k)) (drop (3 + k) (items r))) (λ x. or-nil (canErr x)))
-      (each1 (one-errs NOT (un T unot) (λ x. or-nil (canErr x)))
+      (each1 (one-errs HAS (λ x. has T x (at r 2)) (λ x. sym (or-false (canErr x))))
+      (each1 (one-errs HASPATH (λ x. haspath T x (at r (2 + k)) (drop (3 + k) (items r))) (λ x. sym (or-false (canErr x))))
+      (each1 (one-errs NOT (un T unot) (λ x. sym (or-false (canErr x))))
       (each1 (one-errs NEG (un T uneg) (λ x. refl))
-      (each1 (one-errs EMPTY (un T uempty) (λ x. or-nil (canErr x)))
+      (each1 (one-errs EMPTY (un T uempty) (λ x. sym (or-false (canErr x))))
       (each1 (λ e. nodes-errs cs)
       (each1 (λ e. args-errs (drop 1 (items r)) cs (eqb-true (length (drop 1 (items r))) (length cs + length cs) e)) each0)))))))))))))))))))))))))))
 

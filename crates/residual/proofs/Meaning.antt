@@ -1,6 +1,6 @@
 -- A block of words that is a residual's: its stage, its type and whether it can err are those of its tree. Assumes nothing.
 use mathlib.Core.Path.{_≡_, refl, sym, ap, _∙_}
-use mathlib.Core.Bool.{Bool, true, false, cond, _||_}
+use mathlib.Core.Bool.{Bool, true, false, cond, _||_, or-false}
 use mathlib.Core.List.{List, [], _++_, append-assoc}
 use Prim.Native.Nat.{ℕ, suc, _+_, _-_, _*_, _≤_}
 use native.Mathlib.Omega.{arith}
@@ -77,10 +77,6 @@ module _ (ts : List Ty) (nodes : List (List ℕ)) where
   or-cond true x = refl
   or-cond false x = refl
 
-  or-end : (x : Bool) → (x || false) ≡ x
-  or-end true = refl
-  or-end false = refl
-
   or-move : (a b x : Bool) → (b || (a || x)) ≡ ((a || b) || x)
   or-move true true x = refl
   or-move true false x = refl
@@ -156,7 +152,7 @@ module _ (ts : List Ty) (nodes : List (List ℕ)) where
         left-row d n k y rs pre post (anyErrs (treesOf ts nodes rs))
         (blocks-are rs ws (pre ++ (flat (rleft n k y rs) ++ post)) (length pre) pre (leftRow n k (length (flats rs)) y ++ post) (before-row n k y rs pre post) (omega arith)
         ∙ ap (λ (b : Bool). anyErrs (treesOf ts nodes rs) || b) (blocks-none (errsBy nodes (pre ++ (flat (rleft n k y rs) ++ post)) d) (pre ++ (flat (rleft n k y rs) ++ post)) (length pre) (length pre) (omega arith))
-        ∙ or-end (anyErrs (treesOf ts nodes rs)))
+        ∙ or-false (anyErrs (treesOf ts nodes rs)))
         ∙ sym (tree-left n k y rs s)
 
     blocks-are : {d : ℕ} (rs : Ress) → Wholes ts nodes d rs → (l : List ℕ) (start : ℕ) (pre post : List ℕ) → l ≡ pre ++ (flats rs ++ post) → start ≤ length pre

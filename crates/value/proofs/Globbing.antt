@@ -1,6 +1,6 @@
 -- Wildcard match: the items between two stars may be matched at the first place where they stand. Assumes nothing.
 use mathlib.Core.Path.{_≡_, refl, sym, ap, _∙_, subst}
-use mathlib.Core.Bool.{Bool, true, false, not, cond, _&&_, _||_, and-eq-true-iff}
+use mathlib.Core.Bool.{Bool, true, false, not, cond, _&&_, _||_, and-true, and-false, and-eq-true-iff}
 use mathlib.Core.List.{List, [], _∷_}
 use Prim.Native.Nat.{ℕ, suc, _+_, _-_, _≤_, _<_}
 use native.Mathlib.Numerals.{add-one}
@@ -9,6 +9,7 @@ use borrow.Author.Tests.{eq-eqb, ne-eqb, ltb-true, ltb-false, lt-ltb, le-ltb, le
 use lib.Dec.{eqb, leb, ltb}
 use lib.ListN.{length, getD, take, drop, length-drop}
 use lib.Seq.{drop-drop, getD-take, getD-drop}
+use Rattle.cedar.proofs.Tools.{or-right, either, iff}
 use Rattle.cedar.specs.Evaluate.{matchPiece, anySuffix, isNil, matches}
 use Rattle.cedar.specs.Residual.{star, piece}
 use Rattle.sheet.specs.Bytes.{same}
@@ -105,17 +106,9 @@ pub record Telling (x y : List ℕ) (d i : ℕ) : Type 0 where
 pub tell-start : (x y : List ℕ) → Telling x y 0 0
 tell-start x y = record { near = omega arith; left = refl }
 
-and-true : (b : Bool) → (b && true) ≡ b
-and-true true = refl
-and-true false = refl
-
 tell : (d : ℕ) (b c : Bool) → (eqb d 0 && (b && c)) ≡ (eqb (cond b d 1) 0 && c)
 tell d true c = refl
-tell d false c = none (eqb d 0)
-  where
-    none : (b : Bool) → (b && false) ≡ false
-    none true = refl
-    none false = refl
+tell d false c = and-false (eqb d 0)
 
 module _ (x y : List ℕ) (e : length x ≡ length y) (d i : ℕ) (g : Telling x y d i) where
   pub tell-on : (f : ℕ) → i < length x → f ≡ cond (eqb (getD x i 0) (getD y i 0)) d 1 → Telling x y f (i + 1)
@@ -341,19 +334,6 @@ module _ (B : ℕ → List ℕ) where
 
   -- ---- the first place is enough
 
-  or-true : (a b : Bool) {X : Type 0} → (a || b) ≡ true → (a ≡ true → X) → (b ≡ true → X) → X
-  or-true true b e f g = f refl
-  or-true false b e f g = g e
-
-  or-right : (a b : Bool) → b ≡ true → (a || b) ≡ true
-  or-right true b e = refl
-  or-right false b e = e
-
-  same-truth : (a b : Bool) → (a ≡ true → b ≡ true) → (b ≡ true → a ≡ true) → a ≡ b
-  same-truth true b f g = sym (f refl)
-  same-truth false true f g = g refl
-  same-truth false false f g = refl
-
   module _ (K : List ℕ → Bool) where
     from-later : (l : List ℕ) → anySuffix K (drop 1 l) ≡ true → anySuffix K l ≡ true
     from-later [] e = e
@@ -370,14 +350,14 @@ module _ (B : ℕ → List ℕ) where
 
       any-wide : (s : List ℕ) → anySuffix f s ≡ true → anySuffix K (drop n s) ≡ true
       any-wide [] e = second [] e
-      any-wide (x ∷ s) e = or-true (f (x ∷ s)) (anySuffix f s) e (second (x ∷ s)) (λ q. later-wide n x s (any-wide s q))
+      any-wide (x ∷ s) e = either (f (x ∷ s)) (anySuffix f s) e (second (x ∷ s)) (λ q. later-wide n x s (any-wide s q))
 
       first : (s : List ℕ) → f s ≡ true → anySuffix f s ≡ true
       first [] e = e
       first (x ∷ s) e = rw e
 
       greedy : (s : List ℕ) → b s ≡ true → anySuffix f s ≡ anySuffix K (drop n s)
-      greedy s h = same-truth (anySuffix f s) (anySuffix K (drop n s)) (any-wide s) (λ e. first s (m s ∙ rw (h, e)))
+      greedy s h = iff (anySuffix f s) (anySuffix K (drop n s)) (any-wide s) (λ e. first s (m s ∙ rw (h, e)))
 
   -- ---- a step
 
