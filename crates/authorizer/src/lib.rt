@@ -45,7 +45,13 @@ fn send_complete(out: &mut [u8], rows: &[u32], classes: &[u32]) -> Returned
 }
 
 // A partial answer printed, where the buffer has room for it.
-fn send_partial(out: &mut [u8], rows: &[u32], log: &[u32], classes: &[u32], roots: &[u32]) -> Returned
+fn send_partial(
+    out: &mut [u8],
+    rows: &[u32],
+    log: &[u32],
+    classes: &[u32],
+    roots: &[u32],
+) -> Returned
     requires { ⌜ (length (now rows) ≤ 16384) × (length (now log) ≤ 16384) ⌝ }
     ensures { λ r. ⌜ Sends (partialBytes (now (rows .entry)) (now (log .entry)) (now (classes .entry)) (now (roots .entry))) (now (out .entry)) (r .number) (r .line) (r .length) (now (out .exit)) ⌝ }
 {
@@ -91,7 +97,13 @@ fn answer_partial(sheet: &[u8], rows: &mut [u32], log: &mut [u32], out: &mut [u8
 }
 
 // A sheet read, run and answered, in work slices that are long enough.
-fn answered(sheet: &[u8], partial: bool, rows: &mut [u32], work: &mut [u32], out: &mut [u8]) -> Returned
+fn answered(
+    sheet: &[u8],
+    partial: bool,
+    rows: &mut [u32],
+    work: &mut [u32],
+    out: &mut [u8],
+) -> Returned
     requires { ⌜ (length (now rows) ≡ 16384) × (length (now work) ≡ 16384) ⌝ }
     ensures { λ r. ⌜ Answers (modeOf partial) (now (sheet .entry)) (now (out .entry)) (r .number) (r .line) (r .length) (now (out .exit)) ⌝ }
 {

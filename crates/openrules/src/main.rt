@@ -20,19 +20,19 @@ ghost use Rattle.openrules.specs.Shown.{saysComplete, entryOf, refusal, 
 fn says_complete(sheet: &[u8]) -> bool
     ensures { λ r. ⌜ r ≡ saysComplete (now (sheet .entry)) ⌝ }
 {
-    let n = find(sheet, 0, 10);
+    let n = find(sheet, 0, b'\n');
     let line = front(sheet, n);
     same_bytes(line, b"sheet=complete")
 }
 
 // The call of the entry that the sheet's first line names.
-fn call(sheet: &[u8], a: &mut [u32], b: &mut [u32], out: &mut [u8]) -> Returned
-    ensures { λ r. ⌜ Called (entryOf (now (sheet .entry))) (now (sheet .entry)) (now (a .entry)) (now (b .entry)) (now (out .entry)) (r .number) (r .line) (r .length) (now (out .exit)) (now (a .exit)) (now (b .exit)) ⌝ }
+fn call(sheet: &[u8], work1: &mut [u32], work2: &mut [u32], out: &mut [u8]) -> Returned
+    ensures { λ r. ⌜ Called (entryOf (now (sheet .entry))) (now (sheet .entry)) (now (work1 .entry)) (now (work2 .entry)) (now (out .entry)) (r .number) (r .line) (r .length) (now (out .exit)) (now (work1 .exit)) (now (work2 .exit)) ⌝ }
 {
     if says_complete(sheet) {
-        return complete(sheet, a, b, out);
+        return complete(sheet, work1, work2, out);
     }
-    partial(sheet, a, b, out)
+    partial(sheet, work1, work2, out)
 }
 
 // The line of a refusal at the start of the buffer, and its length.
@@ -41,11 +41,11 @@ fn refused(out: &mut [u8], n: u32, line: usize, length: usize) -> usize
 {
     let a = bytes(out, 0, b"refused=");
     let b = number(out, a, n as u64);
-    let c = byte(out, b, 44);
+    let c = byte(out, b, b',');
     let d = number(out, c, line as u64);
-    let e = byte(out, d, 44);
+    let e = byte(out, d, b',');
     let f = number(out, e, length as u64);
-    byte(out, f, 10)
+    byte(out, f, b'\n')
 }
 
 // The words of a work slice.

@@ -49,7 +49,14 @@ pub fn decision_line(out: &mut [u8], at: usize, decision: Decision) -> usize
 }
 
 // The counts of one effect, after a separator: true, false, error, open.
-fn counts_of(out: &mut [u8], at: usize, separator: u8, rows: &[u32], classes: &[u32], effect: u32) -> usize
+fn counts_of(
+    out: &mut [u8],
+    at: usize,
+    separator: u8,
+    rows: &[u32],
+    classes: &[u32],
+    effect: u32,
+) -> usize
     ensures { λ r. ⌜ Written (now (out .entry)) at (listed separator (fourOf effect (verdictsIn (now (rows .entry)) (now (classes .entry))))) (now (out .exit)) r ⌝ }
 {
     let c = counts_in(rows, classes, effect);

@@ -18,17 +18,17 @@ use Rattle.trial.specs.Lent.{mark, marks, entryOf, every, wordsKept, Tak
 
 pub record Marking (w₀ w : List ℕ) (i : ℕ) : Type 0 where
   pub long : length w ≡ length w₀
-  pub front : w ≡ replicate i 165 ++ drop i w₀
+  pub front : w ≡ replicate i mark ++ drop i w₀
 
 pub marking-start : (w : List ℕ) → Marking w w 0
 marking-start w = record { long = refl; front = refl }
 
 module _ (w₀ w : List ℕ) (i : ℕ) (k : Marking w₀ w i) where
-  pub marking-on : i < length w → Marking w₀ (set w i 165) (i + 1)
+  pub marking-on : i < length w → Marking w₀ (set w i mark) (i + 1)
   marking-on h =
       record {
-        long = length-set w i 165 ∙ k .long;
-        front = ap (λ (l : List ℕ). set l i 165) (k .front) ∙ fill-more i 165 w₀ (omega (arith, k .long));
+        long = length-set w i mark ∙ k .long;
+        front = ap (λ (l : List ℕ). set l i mark) (k .front) ∙ fill-more i mark w₀ (omega (arith, k .long));
       }
 
   pub marking-end : i ≤ length w₀ → length w ≤ i → w ≡ marks (length w₀)
@@ -84,7 +84,7 @@ never : false ≡ true → ⊥
 never e = let z : _≡_ {A = ℕ} 0 1 = cc in omega arith
 
 module _ (number : ℕ) (w : List ℕ) where
-  pub kept-whole : (r : Bool) → number ≡ 1 → r ≡ every 165 w → r ≡ wordsKept number w
+  pub kept-whole : (r : Bool) → number ≡ 1 → r ≡ every mark w → r ≡ wordsKept number w
   unfolding wordsKept
   kept-whole r h e = e ∙ rw (eq-eqb number 1 h)
 
@@ -96,16 +96,16 @@ module _ (number : ℕ) (w : List ℕ) where
     unfolding wordsKept
     kept-not n = rw (ne-eqb number 1 h, ← first) (go f n)
       where
-        go : (b : Bool) → not b ≡ true → false ≡ (b && every 165 (drop 16384 w))
+        go : (b : Bool) → not b ≡ true → false ≡ (b && every mark (drop 16384 w))
         go false n = refl
         go true n = absurd (never n)
 
-    pub kept-rest : not f ≡ false → (back : List ℕ) (r : Bool) → back ≡ part w 16384 (length w) → r ≡ every 165 back → r ≡ wordsKept number w
+    pub kept-rest : not f ≡ false → (back : List ℕ) (r : Bool) → back ≡ part w 16384 (length w) → r ≡ every mark back → r ≡ wordsKept number w
     unfolding wordsKept
     kept-rest n back r b k =
         let t : part w 16384 (length w) ≡ drop 16384 w = take-all (length w - 16384) (drop 16384 w) (omega (arith, length-drop 16384 w)) in
-        k ∙ ap (every 165) (b ∙ t) ∙ rw (ne-eqb number 1 h, ← first) (go f n)
+        k ∙ ap (every mark) (b ∙ t) ∙ rw (ne-eqb number 1 h, ← first) (go f n)
       where
-        go : (b : Bool) → not b ≡ false → every 165 (drop 16384 w) ≡ (b && every 165 (drop 16384 w))
+        go : (b : Bool) → not b ≡ false → every mark (drop 16384 w) ≡ (b && every mark (drop 16384 w))
         go true n = refl
         go false n = absurd (never (sym n))

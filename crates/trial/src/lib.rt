@@ -3,13 +3,14 @@ use authorizer::Returned;
 use authorizer::complete;
 use authorizer::partial;
 use scan::rest;
+use words::ROOM;
 use words::cut;
 ghost use mathlib.Core.Path.{_≡_};
 ghost use mathlib.Core.Bool.{cond};
 ghost use Prim.Native.Nat.{_≤_};
 ghost use lib.ListN.{length, drop};
 ghost use Rattle.authorizer.specs.Called.{Called};
-ghost use Rattle.trial.specs.Lent.{marks, entryOf, every, wordsKept, Taken};
+ghost use Rattle.trial.specs.Lent.{mark, marks, entryOf, every, wordsKept, Taken};
 
 // What stands in every lent word and byte before a call.
 const MARK: u8 = 165;
@@ -58,12 +59,12 @@ pub fn take(space: &mut [u8], n: usize)
 // ---- the call
 
 // The mark in every word.
-fn mark_words(w: &mut [u32])
-    ensures { λ _. ⌜ now (w .exit) ≡ marks (length (now (w .entry))) ⌝ }
+fn mark_words(words: &mut [u32])
+    ensures { λ _. ⌜ now (words .exit) ≡ marks (length (now (words .entry))) ⌝ }
 {
     let mut i = 0;
-    while i < w.len() {
-        w[i] = MARK as u32;
+    while i < words.len() {
+        words[i] = MARK as u32;
         i += 1;
     }
 }
@@ -80,27 +81,33 @@ fn mark_bytes(out: &mut [u8])
 }
 
 // The call of an entry, 0 partial and 1 complete, in marked slices.
-pub fn call(entry: usize, sheet: &[u8], a: &mut [u32], b: &mut [u32], out: &mut [u8]) -> Returned
-    ensures { λ r. ⌜ Called (entryOf entry) (now (sheet .entry)) (marks (length (now (a .entry)))) (marks (length (now (b .entry)))) (marks (length (now (out .entry)))) (r .number) (r .line) (r .length) (now (out .exit)) (now (a .exit)) (now (b .exit)) ⌝ }
+pub fn call(
+    entry: usize,
+    sheet: &[u8],
+    work1: &mut [u32],
+    work2: &mut [u32],
+    out: &mut [u8],
+) -> Returned
+    ensures { λ r. ⌜ Called (entryOf entry) (now (sheet .entry)) (marks (length (now (work1 .entry)))) (marks (length (now (work2 .entry)))) (marks (length (now (out .entry)))) (r .number) (r .line) (r .length) (now (out .exit)) (now (work1 .exit)) (now (work2 .exit)) ⌝ }
 {
-    mark_words(a);
-    mark_words(b);
+    mark_words(work1);
+    mark_words(work2);
     mark_bytes(out);
     if entry == 1 {
-        return complete(sheet, a, b, out);
+        return complete(sheet, work1, work2, out);
     }
-    partial(sheet, a, b, out)
+    partial(sheet, work1, work2, out)
 }
 
 // ---- what came back
 
 // Whether every word is x.
-fn every_word(w: &[u32], x: u32) -> bool
-    ensures { λ r. ⌜ r ≡ every x (now (w .entry)) ⌝ }
+fn every_word(words: &[u32], x: u32) -> bool
+    ensures { λ r. ⌜ r ≡ every x (now (words .entry)) ⌝ }
 {
     let mut i = 0;
-    while i < w.len() {
-        if w[i] != x {
+    while i < words.len() {
+        if words[i] != x {
             return false;
         }
         i += 1;
@@ -109,12 +116,12 @@ fn every_word(w: &[u32], x: u32) -> bool
 }
 
 // Whether every byte is x.
-fn every_byte(s: &[u8], x: u8) -> bool
-    ensures { λ r. ⌜ r ≡ every x (now (s .entry)) ⌝ }
+fn every_byte(bytes: &[u8], x: u8) -> bool
+    ensures { λ r. ⌜ r ≡ every x (now (bytes .entry)) ⌝ }
 {
     let mut i = 0;
-    while i < s.len() {
-        if s[i] != x {
+    while i < bytes.len() {
+        if bytes[i] != x {
             return false;
         }
         i += 1;
@@ -123,16 +130,16 @@ fn every_byte(s: &[u8], x: u8) -> bool
 }
 
 // Whether a marked work slice came back as promised, after a call that returned a number.
-pub fn words_kept(number: u32, w: &[u32]) -> bool
-    ensures { λ r. ⌜ r ≡ wordsKept number (now (w .entry)) ⌝ }
+pub fn words_kept(number: u32, words: &[u32]) -> bool
+    ensures { λ r. ⌜ r ≡ wordsKept number (now (words .entry)) ⌝ }
 {
     if number == 1 {
-        return every_word(w, MARK as u32);
+        return every_word(words, MARK as u32);
     }
-    if !every_word(cut(w, 0, 16384), 0) {
+    if !every_word(cut(words, 0, ROOM), 0) {
         return false;
     }
-    every_word(cut(w, 16384, w.len()), MARK as u32)
+    every_word(cut(words, ROOM, words.len()), MARK as u32)
 }
 
 // How many bytes of the buffer have changed.
@@ -144,7 +151,7 @@ pub fn written(accepted: bool, length: usize) -> usize
 
 // Whether the bytes of a marked buffer from a place on are as they were.
 pub fn bytes_kept(out: &[u8], from: usize) -> bool
-    ensures { λ r. ⌜ r ≡ every 165 (drop from (now (out .entry))) ⌝ }
+    ensures { λ r. ⌜ r ≡ every mark (drop from (now (out .entry))) ⌝ }
 {
     every_byte(rest(out, from), MARK)
 }

@@ -7,10 +7,10 @@ use Rattle.trial.proofs.every_byte.Statement.{statement}
 use Rattle.trial.proofs.every_byte.Tie as tie
 
 abbrev Inv-loop : tie.InvT-loop
-Inv-loop s x i₀ i = Looking x s i
+Inv-loop bytes x i₀ i = Looking x bytes i
 
 abbrev μ-loop : tie.MeasureT-loop
-μ-loop s x i₀ i = length s - i
+μ-loop bytes x i₀ i = length bytes - i
 
 loop-holds : tie.Need-loop-holds Inv-loop μ-loop
 loop-holds c = search (looking-start, needs)

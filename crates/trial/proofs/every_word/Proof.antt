@@ -7,10 +7,10 @@ use Rattle.trial.proofs.every_word.Statement.{statement}
 use Rattle.trial.proofs.every_word.Tie as tie
 
 abbrev Inv-loop : tie.InvT-loop
-Inv-loop w x i₀ i = Looking x w i
+Inv-loop words x i₀ i = Looking x words i
 
 abbrev μ-loop : tie.MeasureT-loop
-μ-loop w x i₀ i = length w - i
+μ-loop words x i₀ i = length words - i
 
 loop-holds : tie.Need-loop-holds Inv-loop μ-loop
 loop-holds c = search (looking-start, needs)

@@ -7,10 +7,10 @@ use Rattle.trial.proofs.mark_words.Statement.{statement}
 use Rattle.trial.proofs.mark_words.Tie as tie
 
 abbrev Inv-loop : tie.InvT-loop
-Inv-loop w₀ i₀ w i = (i ≤ length w₀) × Marking w₀ w i
+Inv-loop words₀ i₀ words i = (i ≤ length words₀) × Marking words₀ words i
 
 abbrev μ-loop : tie.MeasureT-loop
-μ-loop w₀ i₀ w i = length w₀ - i
+μ-loop words₀ i₀ words i = length words₀ - i
 
 loop-holds : tie.Need-loop-holds Inv-loop μ-loop
 loop-holds c = search (marking-start, needs)
