@@ -6,6 +6,8 @@ use scan::Cursor;
 use scan::Line;
 use table::HEAP;
 use table::TOP;
+use table::TYPEDEPTHS;
+use table::USES;
 use table::count;
 use take::take_line;
 use words::put;
