@@ -14,7 +14,8 @@ use Rattle.sheet.specs.State.{sum, before}
 use Rattle.sheet.specs.Sheet.{Reading, reach, enough, firstUnused, reads, allUsed, ending}
 use Rattle.table.specs.Layout.{USES, held}
 use Rattle.table.proofs.Rows.{count-held}
-use Rattle.table.proofs.Held.{countsIn, counts-held, length-tab, getD-tab, used-of}
+use Rattle.table.proofs.Counts.{count-at}
+use Rattle.table.proofs.Held.{countsIn, counts-held, length-tab, used-of}
 use Rattle.checks.specs.Uses.{usesIn}
 use Rattle.judge.proofs.Alike.{count-alike}
 
@@ -62,9 +63,6 @@ pub record Summed (a : List ℕ) (s i : ℕ) : Type 0 where
 
 pub summed-start : (a : List ℕ) → Summed a 0 0
 summed-start a = record { left = omega arith; low = omega arith; near = omega arith }
-
-count-at : (a : List ℕ) (i : ℕ) → i < noKey → getD (countsIn a) i 0 ≡ getD a i 0
-count-at a i h = let z : 0 + i ≡ i = omega arith in getD-tab (λ (k : ℕ). getD a k 0) 0 noKey i 0 h ∙ ap (λ (k : ℕ). getD a k 0) z
 
 module _ (a : List ℕ) (s i : ℕ) (t : Summed a s i) where
   pub summed-on : (x : ℕ) → i < NODE → x ≡ getD a i 0 → x < 4294967296 → Summed a (s + x) (i + 1)
