@@ -1,6 +1,5 @@
 -- `evaluator::same` meets its contract. Assumes nothing.
 use Rattle.evaluator.proofs.Ways.{same-true, same-false}
-use borrow.Author.Needs.{needs}
 use Rattle.evaluator.proofs.same.Statement.{statement}
 use Rattle.evaluator.proofs.same.Tie as tie
 

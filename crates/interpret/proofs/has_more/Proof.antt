@@ -1,6 +1,5 @@
 -- `interpret::has_more` meets its contract. Assumes nothing.
 use Rattle.interpret.proofs.Laws.{more-past, more-here}
-use borrow.Author.Needs.{needs}
 use Rattle.interpret.proofs.has_more.Statement.{statement}
 use Rattle.interpret.proofs.has_more.Tie as tie
 
