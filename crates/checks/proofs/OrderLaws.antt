@@ -15,12 +15,12 @@ use Rattle.sheet.specs.Forms.{noKey, SHEET, TEXT, KIND, SHAPE, PRINCIPAL, ACTIO
 use Rattle.sheet.specs.State.{State, count}
 use Rattle.sheet.specs.Sheet.{least, greatest, reach, enough, allZero, inOrder}
 use Rattle.sheet.proofs.Parsed.{allBelow}
-use Rattle.table.specs.Layout.{held, limits, limit}
+use Rattle.table.specs.Layout.{held, limit}
 use Rattle.table.proofs.Counts.{count-at}
 use Rattle.table.proofs.Rows.{count-held}
 use Rattle.table.proofs.Held.{length-tab, countsIn, counts-held}
 use Rattle.forms.specs.declared.Key as K
-use Rattle.forms.specs.Keys.{keyed}
+use Rattle.forms.specs.Keys.{limits, keyed}
 use Rattle.forms.proofs.Tests.{ranged}
 use Rattle.forms.proofs.Keys.{most-is}
 

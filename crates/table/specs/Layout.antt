@@ -7,7 +7,8 @@ use lib.ListN.{length, getD, take, drop, set, replicate}
 use Rattle.sheet.specs.Forms.{tag, items, at, noKey, SHEET, TEXT, KIND, TYPE, SHAPE, VALUE, ENTITY, PRINCIPAL, ACTION, RESOURCE, CONTEXT, NODE, POLICY}
 use Rattle.sheet.specs.State.{State}
 use Rattle.words.specs.Log.{room}
-pub use Rattle.forms.specs.Keys.{limits, heap}
+use Rattle.forms.specs.Keys as K
+pub use Rattle.forms.specs.Keys.{heap}
 unfoldable pub use Rattle.forms.specs.Keys.{limit, bases, base}
 
 -- the words from s up to e
@@ -22,6 +23,10 @@ MADE = noKey
 
 abbrev pub TOP : ℕ
 TOP = MADE + 1
+
+-- the greatest number of rows of each key, and of made values
+unfoldable pub limits : List ℕ
+limits = K.limits
 
 -- the row whose beginning is said by word i: it ends where the next one begins
 unfoldable pub rowAt : List ℕ → ℕ → List ℕ
