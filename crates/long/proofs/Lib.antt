@@ -1,1 +1,3 @@
 pub mod Longs
+pub mod ProductWords
+pub mod Products

@@ -1,12 +1,12 @@
 -- Sums and differences of longs as differences of natural numbers, when such a difference is in range, and products by size and sign. Assumes nothing.
 use Prim.Native.Nat.{ℕ, zero, suc, _+_, _-_, _*_, _/_, _≤_, _<_}
 use mathlib.Core.Path.{_≡_, refl, sym, _∙_, ap, ap₂}
-use mathlib.Core.Bool.{Bool, true, false, cond, not}
+use mathlib.Core.Bool.{Bool, true, false, cond}
 use mathlib.Core.Option.{none, some}
 use native.Mathlib.Nat.{mul-zero, zero-mul, le-div-iff-mul-le, div-lt-iff-lt-mul}
 use native.Mathlib.Omega.{arith}
 use native.Mathlib.Decide.{decLt, decLe}
-use borrow.Author.Tests.{lt-ltb, le-ltb, le-leb, lt-leb, leb-true, ltb-true, not-true, not-false}
+use borrow.Author.Tests.{lt-ltb, le-ltb, le-leb, lt-leb, leb-true, ltb-true}
 use lib.Dec.{ltb, leb}
 use lib.IntN.{ℤ, pos, negsuc, subℕ, natAbs, negℤ, _+ℤ_, _-ℤ_, _*ℤ_, zero-*ℤ}
 use lib.Signed.{ltZ, leZ}
@@ -143,9 +143,9 @@ answer : (z : ℤ) (w : ℕ) → inRange z ≡ true → longAt w ≡ z → numbe
 unfolding ranged
 answer z w h e = rw h (ap some e)
 
-outside : (z : ℤ) → inRange z ≡ false → numberOf C.the-variants.Outside ≡ ranged z
+pub answer-outside : (z : ℤ) → inRange z ≡ false → numberOf C.the-variants.Outside ≡ ranged z
 unfolding ranged
-outside z h = rw h
+answer-outside z h = rw h
 
 sub-in : (a b w : ℕ) → w + b ≡ a + half → w < 18446744073709551616 → inRange (subℕ a b) ≡ true
 sub-in a b w e l = go (decLt a b)
@@ -158,10 +158,10 @@ pub answer-in : (z : ℤ) (a b w : ℕ) → z ≡ subℕ a b → w + b ≡ a + h
 answer-in z a b w p e l = answer z w (ap inRange p ∙ sub-in a b w e l) (long-sub w ∙ sub-same w half a b (omega arith) ∙ sym p)
 
 pub answer-below : (z : ℤ) (a b : ℕ) → z ≡ subℕ a b → a + half < b → numberOf C.the-variants.Outside ≡ ranged z
-answer-below z a b p h = outside z (ap inRange (p ∙ sub-less a b (omega arith)) ∙ rw (lt-leb (b - suc a) 9223372036854775807 (omega arith)))
+answer-below z a b p h = answer-outside z (ap inRange (p ∙ sub-less a b (omega arith)) ∙ rw (lt-leb (b - suc a) 9223372036854775807 (omega arith)))
 
 pub answer-above : (z : ℤ) (a b : ℕ) → z ≡ subℕ a b → b + half ≤ a → numberOf C.the-variants.Outside ≡ ranged z
-answer-above z a b p h = outside z (ap inRange (p ∙ sub-more a b (omega arith)) ∙ rw (lt-leb (a - b) 9223372036854775807 (omega arith)))
+answer-above z a b p h = answer-outside z (ap inRange (p ∙ sub-more a b (omega arith)) ∙ rw (lt-leb (a - b) 9223372036854775807 (omega arith)))
 
 -- ---- the operations, as differences
 
@@ -279,62 +279,31 @@ product-in c m n h l = le-div-iff-mul-le {k = n} {x = m} {y = c} (omega arith) .
 product-over : (c m n : ℕ) → (n ≡ 0 → ⊥) → c / n < m → c < m * n
 product-over c m n h l = div-lt-iff-lt-mul {k = n} {x = c} {y = m} (omega arith) .0 l
 
-product-most : (c m n : ℕ) → (n ≡ 0 → ⊥) → leb m (c / n) ≡ leb (m * n) c
+pub product-most : (c m n : ℕ) → (n ≡ 0 → ⊥) → leb m (c / n) ≡ leb (m * n) c
 product-most c m n h = go (decLe m (c / n))
   where
     go : Dec (m ≤ c / n) → leb m (c / n) ≡ leb (m * n) c
     go (yes d) = le-leb m (c / n) d ∙ sym (le-leb (m * n) c (product-in c m n h d))
     go (no d) = lt-leb m (c / n) (omega arith) ∙ sym (lt-leb (m * n) c (product-over c m n h (omega arith)))
 
--- whether a product is in range, by the tests of the code
-module _ (a b m n : ℕ) (em : m ≡ natAbs (longAt a)) (en : n ≡ natAbs (longAt b)) where
-  product : longAt a *ℤ longAt b ≡ signedBy (opposite a b) (m * n)
-  product = product-is a b ∙ ap₂ (λ (x y : ℕ). signedBy (opposite a b) (x * y)) (sym em) (sym en)
+-- a product in range, from the sizes and signs of its factors
+module _ (a b m n : ℕ) (em : m ≡ natAbs (longAt a)) (en : n ≡ natAbs (longAt b)) (t : Bool) (et : t ≡ opposite a b) (h : inRange (longAt a *ℤ longAt b) ≡ true) where
+  product : (u : Bool) → t ≡ u → longAt a *ℤ longAt b ≡ signedBy u (m * n)
+  product u e = product-is a b ∙ signed-as (opposite a b) u (natAbs (longAt a)) (natAbs (longAt b)) m n (sym e ∙ et) (sym em) (sym en)
 
-  zero-in : (t : Bool) → inRange (signedBy t 0) ≡ true
-  zero-in true = range-down 0 ∙ le-leb 0 half (omega arith)
-  zero-in false = range-up 0 ∙ le-leb 0 9223372036854775807 (omega arith)
+  pub product-low : t ≡ true → m * n ≤ half
+  product-low e = leb-true (m * n) half (sym (ap inRange (product true e) ∙ range-down (m * n)) ∙ h)
 
-  pub fits-zero : n ≡ 0 → true ≡ inRange (longAt a *ℤ longAt b)
-  fits-zero z =
-      let k : m * n ≡ 0 = ap (λ (x : ℕ). m * x) z ∙ mul-zero m in
-      sym (ap inRange (product ∙ ap (signedBy (opposite a b)) k) ∙ zero-in (opposite a b))
+  pub product-high : t ≡ false → m * n ≤ 9223372036854775807
+  product-high e = leb-true (m * n) 9223372036854775807 (sym (ap inRange (product false e) ∙ range-up (m * n)) ∙ h)
 
-  module _ (t : Bool) (et : t ≡ opposite a b) where
-    pub fits-opposed : (n ≡ 0 → ⊥) → t ≡ true → leb m (9223372036854775808 / n) ≡ inRange (longAt a *ℤ longAt b)
-    fits-opposed h e =
-        product-most half m n h ∙ sym (ap inRange (product ∙ ap (λ (x : Bool). signedBy x (m * n)) (sym et ∙ e)) ∙ range-down (m * n))
+  pub product-opposed : t ≡ true → numberOf (C.the-variants.Value (9223372036854775808 - m * n)) ≡ ranged (longAt a *ℤ longAt b)
+  product-opposed e = answer (longAt a *ℤ longAt b) (half - m * n) h (long-down (m * n) (product-low e) ∙ sym (product true e))
 
-    pub fits-alike : (n ≡ 0 → ⊥) → t ≡ false → leb m (9223372036854775807 / n) ≡ inRange (longAt a *ℤ longAt b)
-    fits-alike h e =
-        product-most 9223372036854775807 m n h ∙ sym (ap inRange (product ∙ ap (λ (x : Bool). signedBy x (m * n)) (sym et ∙ e)) ∙ range-up (m * n))
-
-    -- a product that is in range
-    module _ (b₁ : Bool) (eb : b₁ ≡ inRange (longAt a *ℤ longAt b)) (hb : not b₁ ≡ false) where
-      in-range : inRange (longAt a *ℤ longAt b) ≡ true
-      in-range = sym eb ∙ not-false b₁ hb
-
-      pub product-low : t ≡ true → m * n ≤ half
-      product-low e =
-          leb-true (m * n) half (sym (ap inRange (product ∙ ap (λ (x : Bool). signedBy x (m * n)) (sym et ∙ e)) ∙ range-down (m * n)) ∙ in-range)
-
-      pub product-high : t ≡ false → m * n ≤ 9223372036854775807
-      product-high e =
-          leb-true (m * n) 9223372036854775807 (sym (ap inRange (product ∙ ap (λ (x : Bool). signedBy x (m * n)) (sym et ∙ e)) ∙ range-up (m * n)) ∙ in-range)
-
-      pub product-opposed : t ≡ true → numberOf (C.the-variants.Value (9223372036854775808 - m * n)) ≡ ranged (longAt a *ℤ longAt b)
-      product-opposed e =
-          let l : m * n ≤ half = product-low e in
-          answer (longAt a *ℤ longAt b) (half - m * n) in-range
-          (long-down (m * n) l ∙ sym (product ∙ ap (λ (x : Bool). signedBy x (m * n)) (sym et ∙ e)))
-
-      pub product-alike : t ≡ false → numberOf (C.the-variants.Value (9223372036854775808 + m * n)) ≡ ranged (longAt a *ℤ longAt b)
-      product-alike e =
-          answer (longAt a *ℤ longAt b) (half + m * n) in-range
-          (long-positive (half + m * n) (omega arith) ∙ ap pos (omega arith) ∙ sym (product ∙ ap (λ (x : Bool). signedBy x (m * n)) (sym et ∙ e)))
-
-pub product-outside : (a b : ℕ) (t : Bool) → t ≡ inRange (longAt a *ℤ longAt b) → not t ≡ true → numberOf C.the-variants.Outside ≡ ranged (longAt a *ℤ longAt b)
-product-outside a b t e h = outside (longAt a *ℤ longAt b) (sym e ∙ not-true t h)
+  pub product-alike : t ≡ false → numberOf (C.the-variants.Value (9223372036854775808 + m * n)) ≡ ranged (longAt a *ℤ longAt b)
+  product-alike e =
+      answer (longAt a *ℤ longAt b) (half + m * n) h
+      (long-positive (half + m * n) (omega arith) ∙ ap pos (omega arith) ∙ sym (product false e))
 
 -- whether two signs differ, by the tests of the code
 pub opposite-first : (a b : ℕ) → a < 9223372036854775808 → leb 9223372036854775808 b ≡ opposite a b

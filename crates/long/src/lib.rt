@@ -3,14 +3,21 @@ ghost use mathlib.Core.Path.{_≡_};
 ghost use Prim.Native.Nat.{_+_, _*_, _/_, _%_};
 ghost use lib.IntN.{natAbs, negℤ, _+ℤ_, _-ℤ_, _*ℤ_};
 ghost use lib.Signed.{ltZ, leZ};
-ghost use Rattle.cedar.specs.Evaluate.{inRange};
 ghost use Rattle.sheet.specs.Bytes.{longAt};
 ghost use Rattle.long.specs.Ranged.{numberOf, ranged, opposite};
+ghost use Rattle.long.specs.Products.{among, positive, bySigns, caseOf, outside, theCase};
 
 // 2^63, which a word is more than its number.
 const HALF: u64 = 9223372036854775808;
 
 const GREATEST: u64 = 9223372036854775807;
+
+// The words of -2^63, 0 and 1.
+const SMALLEST: u64 = 0;
+
+const ZERO: u64 = 9223372036854775808;
+
+const ONE: u64 = 9223372036854775809;
 
 // The word of a result, or none where it leaves the 64-bit range.
 pub enum Checked {
@@ -81,25 +88,74 @@ fn opposed(a: u64, b: u64) -> bool
     b < HALF
 }
 
-// Whether a product is in the 64-bit range: the one place that decides it.
-fn product_fits(a: u64, b: u64) -> bool
-    ensures { λ r. ⌜ r ≡ inRange (longAt a *ℤ longAt b) ⌝ }
+// The cases of a product, by the signs of its factors, in their order: each holds where those before it do not.
+enum Case {
+    WithZero,
+    WithSmallest,
+    BothPositive,
+    PositiveNegative,
+    NegativePositive,
+    BothNegative,
+}
+
+// Whether one of two factors is the number of the word `w`.
+fn is_among(w: u64, a: u64, b: u64) -> bool
+    ensures { λ r. ⌜ r ≡ among (longAt w) (longAt a) (longAt b) ⌝ }
+{
+    if a == w {
+        return true;
+    }
+    b == w
+}
+
+// The pair of signs of two factors.
+fn by_signs(a: u64, b: u64) -> Case
+    ensures { λ r. ⌜ theCase r ≡ bySigns (positive (longAt a)) (positive (longAt b)) ⌝ }
+{
+    if a > ZERO {
+        if b > ZERO {
+            return Case::BothPositive;
+        }
+        return Case::PositiveNegative;
+    }
+    if b > ZERO {
+        return Case::NegativePositive;
+    }
+    Case::BothNegative
+}
+
+fn case_of(a: u64, b: u64) -> Case
+    ensures { λ r. ⌜ theCase r ≡ caseOf (longAt a) (longAt b) ⌝ }
+{
+    if is_among(ZERO, a, b) {
+        return Case::WithZero;
+    }
+    if is_among(SMALLEST, a, b) {
+        return Case::WithSmallest;
+    }
+    by_signs(a, b)
+}
+
+// Whether a product is outside the 64-bit range, by the test of its case: the one place that decides it.
+fn product_outside(a: u64, b: u64) -> bool
+    ensures { λ r. ⌜ r ≡ outside (caseOf (longAt a) (longAt b)) (longAt a) (longAt b) ⌝ }
 {
     let m = size(a);
     let n = size(b);
-    if n == 0 {
-        return true;
+    match case_of(a, b) {
+        Case::WithZero => false,
+        Case::WithSmallest => !is_among(ONE, a, b),
+        Case::BothPositive => m > GREATEST / n,
+        Case::PositiveNegative => n > HALF / m,
+        Case::NegativePositive => m > HALF / n,
+        Case::BothNegative => m > GREATEST / n,
     }
-    if opposed(a, b) {
-        return m <= HALF / n;
-    }
-    m <= GREATEST / n
 }
 
 pub fn mul(a: u64, b: u64) -> Checked
     ensures { λ r. ⌜ numberOf r ≡ ranged (longAt a *ℤ longAt b) ⌝ }
 {
-    if !product_fits(a, b) {
+    if product_outside(a, b) {
         return Checked::Outside;
     }
     let m = size(a);
