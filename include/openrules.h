@@ -8,7 +8,6 @@
  *   1, 0, 0           a work slice has under OPENRULES_WORDS words
  *   2, 0, 0           the sheet has over OPENRULES_SHEET bytes
  *   3 to 8, line, 0   the sheet is faulty, first at that line
- *   9, 0, 0           too many values (this cannot arise)
  *   10, 0, needed     the answer buffer is shorter than the answer
  *
  * After 1 the work slices are untouched, otherwise their first 16,384 words are 0 and the rest untouched. The answer

@@ -14,7 +14,7 @@ use crate::sheet::Mode;
 
 const SEED: u64 = 8;
 
-/// How many records of each number are taken from the random sheets. Those of 1 need other work slices and 9 cannot arise.
+/// How many records of each number are taken from the random sheets. Those of 1 need other work slices, and there is no 9.
 const WANTED: [usize; 11] = [260, 0, 1, 70, 20, 60, 12, 50, 30, 0, 40];
 
 /// Accepted sheets are taken only up to this size, so that the list stays short.

@@ -44,9 +44,7 @@ pub fn answer(mode: Mode, bytes: &[u8]) -> Result<Vec<u8>, Refusal> {
         Mode::Partial => partial_answer(&sheet, &ground),
         Mode::Complete => complete_answer(&sheet, &ground),
     };
-    if rows::full() {
-        return Err(Refusal { number: 9, line: 0, length: 0 });
-    }
+    assert!(rows::count() <= rows::GREATEST_VALUES, "1,024 given and 1,024 made always fit");
     Ok(text.into_bytes())
 }
 

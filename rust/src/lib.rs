@@ -87,7 +87,7 @@ extern "C" {
 /// ```
 #[derive(Clone, Copy, Debug, PartialEq, Eq)]
 pub struct Refusal {
-    /// 1 to 10.
+    /// 1 to 8, or 10.
     pub number: u32,
     /// The line of the first fault, counted from 1, for the numbers 3 to 8; else 0.
     pub line: usize,
@@ -111,7 +111,6 @@ impl Refusal {
             6 => "depth over 64",
             7 => "typing, request kind or shape",
             8 => "a node is used twice or never",
-            9 => "a 2,049th value would be made",
             10 => "the answer buffer is shorter than the answer",
             _ => "no refusal",
         }

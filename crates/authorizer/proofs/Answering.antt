@@ -8,9 +8,8 @@ use borrow.Author.Tests.{lt-ltb, le-ltb, ne-eqb}
 use lib.ListN.{length}
 use Rattle.sheet.specs.Forms.{Mode, partial, complete}
 use Rattle.sheet.specs.Sheet.{read}
-use Rattle.sheet.specs.Answer.{run, answer}
-use Rattle.sheet.specs.Call.{returns, fitted, afterReading, readAs, over, mostValues}
-use Rattle.sheet.proofs.NeverNine.{rows-at-most}
+use Rattle.sheet.specs.Answer.{answer}
+use Rattle.sheet.specs.Call.{returns, fitted, afterReading, readAs, over}
 use Rattle.line.specs.Codes.{modeOf}
 use Rattle.load.specs.Result.{Read}
 use Rattle.authorizer.specs.Parts.{afterLengths, Answers, Holding, Runs}
@@ -47,11 +46,8 @@ module _ (m : Mode) (sheet : List ℕ) (short : length sheet ≤ 16384) (a b a�
     holding : Holding m sheet a′ b′
     holding = let t = x .room z in record { accepted = zero-read; state = sym (x .state-is z); sound = x .ready z .sound; none = x .ready z .made; fits = omega (arith, t, short) }
 
-    -- 9 never arises
     accepted-is : fitted (length out) (length (answer m (read m sheet .state))) ≡ readAs m (length out) (read m sheet)
-    accepted-is = sym (
-        ap (λ (n : ℕ). afterReading m (length out) (read m sheet .state) n (read m sheet .line)) zero-read
-        ∙ ap (λ (t : Bool). cond t (returns 9 0 0) (fitted (length out) (length (answer m (read m sheet .state))))) (le-ltb mostValues (length (run m (read m sheet .state) .rows)) (rows-at-most m sheet zero-read)))
+    accepted-is = ap (λ (n : ℕ). afterReading m (length out) (read m sheet .state) n (read m sheet .line)) (sym zero-read)
 
     -- 10, or accepted
     pub accepted : (n k len : ℕ) (out′ : List ℕ) → Runs m sheet a′ b′ out n k len out′ → Answers m sheet out n k len out′

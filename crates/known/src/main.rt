@@ -1,6 +1,6 @@
-// Known sheets, written by scripts/known.py: K1 to K10 of document 01, each form and limit of a sheet, every row of the table of refusals
-// but 9, and probes of single sentences. For each one line with its name, what the call returned and whether slices and buffer came
-// back as promised, then the answer.
+// Known sheets, written by scripts/known.py: K1 to K10 of document 01, each form and limit of a sheet, every row of the table of refusals,
+// and probes of single sentences. For each one line with its name, what the call returned and whether slices and buffer came back as
+// promised, then the answer.
 // Standard input: the number of records; a record is a line `name,entry,sheet,first,second,buffer` (the bytes of its name, 0 partial
 // or 1 complete, the bytes of the sheet, the words of each work slice, the bytes of the buffer), then its name and its sheet.
 use authorizer::Returned;

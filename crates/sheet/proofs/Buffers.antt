@@ -14,8 +14,8 @@ use Rattle.sheet.specs.Forms.{Mode, rowOf, keyOf, refs, NODE, noKey}
 use Rattle.sheet.specs.State.{State, empty, count}
 use Rattle.sheet.specs.Typing.{typed}
 use Rattle.sheet.specs.Sheet.{greatest, inOrder, found, depth, usedTwice, fault, more, reads, enough, firstUnused, ending, goOn, reading, read}
-use Rattle.sheet.specs.Answer.{run, answer}
-use Rattle.sheet.specs.Call.{Returned, returns, room, mostValues, afterReading, readAs, returned, over, written, zeros, worked}
+use Rattle.sheet.specs.Answer.{answer}
+use Rattle.sheet.specs.Call.{Returned, returns, room, afterReading, readAs, returned, over, written, zeros, worked}
 use Rattle.sheet.specs.Demand3.{Answered, bytesOf}
 use Rattle.sheet.proofs.Lines.{zero-not-suc}
 
@@ -41,13 +41,12 @@ module _ (m : Mode) (work₁ work₂ : ℕ) (buffer sheet : List ℕ) where
   unfolding returned
   accepted-whole e = go (ltb work₁ room || ltb work₂ room) (ltb room (length sheet)) e
     where
-      fits : (b c : Bool) → ltb (length buffer) (length bytes) ≡ c → cond b (returns 9 0 0) (cond c (returns 10 0 (length bytes)) (returns 0 0 (length bytes))) .number ≡ 0 → Whole (cond b (returns 9 0 0) (cond c (returns 10 0 (length bytes)) (returns 0 0 (length bytes))))
-      fits true c q e = zero-not-suc e
-      fits false true q e = zero-not-suc e
-      fits false false q e = (refl, refl, ltb-false (length buffer) (length bytes) q)
+      fits : (c : Bool) → ltb (length buffer) (length bytes) ≡ c → cond c (returns 10 0 (length bytes)) (returns 0 0 (length bytes)) .number ≡ 0 → Whole (cond c (returns 10 0 (length bytes)) (returns 0 0 (length bytes)))
+      fits true q e = zero-not-suc e
+      fits false q e = (refl, refl, ltb-false (length buffer) (length bytes) q)
 
       after : (n k : ℕ) → afterReading m (length buffer) (read m sheet .state) n k .number ≡ 0 → Whole (afterReading m (length buffer) (read m sheet .state) n k)
-      after zero k e = fits (ltb mostValues (length (run m (read m sheet .state) .rows))) (ltb (length buffer) (length bytes)) refl e
+      after zero k e = fits (ltb (length buffer) (length bytes)) refl e
       after (suc n) k e = zero-not-suc e
 
       go : (x y : Bool) → cond x (returns 1 0 0) (cond y (returns 2 0 0) (readAs m (length buffer) (read m sheet))) .number ≡ 0 → Whole (cond x (returns 1 0 0) (cond y (returns 2 0 0) (readAs m (length buffer) (read m sheet))))
@@ -130,12 +129,11 @@ module _ (m : Mode) (work₁ work₂ out : ℕ) (sheet : List ℕ) where
   one-short e = go (ltb work₁ room || ltb work₂ room) (ltb room (length sheet)) e
     where
       after : (n k : ℕ) → Other n → Other (afterReading m out (read m sheet .state) n k .number)
-      after zero k h = fits (ltb mostValues (length (run m (read m sheet .state) .rows))) (ltb out (length (answer m (read m sheet .state))))
+      after zero k h = fits (ltb out (length (answer m (read m sheet .state))))
         where
-          fits : (b c : Bool) → Other (cond b (returns 9 0 0) (cond c (returns 10 0 (length (answer m (read m sheet .state)))) (returns 0 0 (length (answer m (read m sheet .state))))) .number)
-          fits true c = λ z. omega (arith, z)
-          fits false true = λ z. omega (arith, z)
-          fits false false = λ z. omega (arith, z)
+          fits : (c : Bool) → Other (cond c (returns 10 0 (length (answer m (read m sheet .state)))) (returns 0 0 (length (answer m (read m sheet .state)))) .number)
+          fits true = λ z. omega (arith, z)
+          fits false = λ z. omega (arith, z)
       after (suc n) k h = h
 
       go : (x y : Bool) → cond x (returns 1 0 0) (cond y (returns 2 0 0) (readAs m out (read m sheet))) .number ≡ 1 → x ≡ true

@@ -8,7 +8,7 @@ use lib.ListN.{length, drop, replicate}
 use Rattle.sheet.specs.Forms.{Mode}
 use Rattle.sheet.specs.State.{State}
 use Rattle.sheet.specs.Sheet.{Reading, read}
-use Rattle.sheet.specs.Answer.{run, answer}
+use Rattle.sheet.specs.Answer.{answer}
 
 pub record Returned : Type 0 where
   pub number : ℕ
@@ -18,20 +18,17 @@ pub record Returned : Type 0 where
 abbrev pub returns : ℕ → ℕ → ℕ → Returned
 returns n k l = record { number = n; line = k; length = l }
 
--- the words that each work slice must have, and the bytes that a sheet may have; the values there may be
+-- the words that each work slice must have, and the bytes that a sheet may have
 abbrev pub room : ℕ
 room = 16384
-
-abbrev pub mostValues : ℕ
-mostValues = 2048
 
 -- 10, or accepted: an answer of so many bytes in a buffer of so many
 abbrev pub fitted : ℕ → ℕ → Returned
 fitted out n = cond (ltb out n) (returns 10 0 n) (returns 0 0 n)
 
--- after the reading: 3 to 8, then 9, then 10
+-- after the reading: 3 to 8, then 10. Number 9 has left the table (a value too many, which cannot be made), and is not given again.
 abbrev pub afterReading : Mode → ℕ → State → ℕ → ℕ → Returned
-afterReading m out s zero k = cond (ltb mostValues (length (run m s .rows))) (returns 9 0 0) (fitted out (length (answer m s)))
+afterReading m out s zero k = fitted out (length (answer m s))
 afterReading m out s (suc n) k = returns (suc n) k 0
 
 abbrev pub readAs : Mode → ℕ → Reading → Returned

@@ -22,7 +22,7 @@ pub enum Row {
     Record(Vec<(u32, u32)>),
 }
 
-/// "a 2,049th value would be made"
+/// "1,024 given and 1,024 made always fit"
 pub const GREATEST_VALUES: usize = 2048;
 
 #[derive(Default)]
@@ -30,7 +30,6 @@ struct Table {
     values: Vec<Value>,
     rows: Vec<Row>,
     place: HashMap<Row, u32>,
-    full: bool,
 }
 
 thread_local! {
@@ -54,9 +53,6 @@ pub(crate) fn make(row: Row, build: impl FnOnce() -> Value) -> Value {
     TABLE.with(|table| {
         let mut table = table.borrow_mut();
         let number = table.values.len();
-        if number >= GREATEST_VALUES {
-            table.full = true;
-        }
         value.loc = Some(Loc(number as u32));
         table.values.push(value.clone());
         table.rows.push(row.clone());
@@ -68,11 +64,6 @@ pub(crate) fn make(row: Row, build: impl FnOnce() -> Value) -> Value {
 /// How many values there are.
 pub fn count() -> usize {
     TABLE.with(|table| table.borrow().values.len())
-}
-
-/// Whether a value over the greatest number was made.
-pub fn full() -> bool {
-    TABLE.with(|table| table.borrow().full)
 }
 
 pub fn value(number: u32) -> Value {
