@@ -6,7 +6,7 @@ use native.Mathlib.Omega.{arith}
 use native.Mathlib.Decide.{decLt}
 use lib.ListN.{length, getD, take, drop, set, length-set, length-take, length-drop}
 use lib.Seq.{take-set-le, getD-set-same, getD-set-other, ext-getD, getD-take, getD-drop}
-use Rattle.residual.specs.Rows.{stageAt, startAt}
+use Rattle.residual.specs.Rows.{ROW, stageAt, startAt}
 use Rattle.residual.specs.Classes.{classNumber}
 use Rattle.residual.specs.declared.Stage.{Stage}
 use Rattle.tpe.specs.Run.{classBy}
@@ -18,7 +18,7 @@ pub record Noted (E C : ℕ → ℕ) (k : ℕ) (b b′ : List ℕ) : Type 0 wher
   pub log : take CLASSES b′ ≡ take CLASSES b
   pub long : length b′ ≡ length b
   pub class : (i : ℕ) → i < k → getD b′ (CLASSES + i) 0 ≡ C i
-  pub root : (i : ℕ) → i < k → getD b′ (ROOTS + i) 0 ≡ E (suc i) / 4 - 1
+  pub root : (i : ℕ) → i < k → getD b′ (ROOTS + i) 0 ≡ E (suc i) / ROW - 1
   pub between : (j : ℕ) → CLASSES + k ≤ j → j < ROOTS → getD b′ j 0 ≡ getD b j 0
   pub after : (j : ℕ) → ROOTS + k ≤ j → getD b′ j 0 ≡ getD b j 0
 
@@ -26,13 +26,13 @@ pub record Noted (E C : ℕ → ℕ) (k : ℕ) (b b′ : List ℕ) : Type 0 wher
 module _ (a l : List ℕ) (E C : ℕ → ℕ) (m n : ℕ) (few : n ≤ 64) (top : m ≤ CLASSES) (low : (i : ℕ) → i ≤ n → E i ≤ m)
     (starts : (i : ℕ) → i < n → startAt l (E (suc i)) ≡ E i) (classes : (i : ℕ) → i < n → classNumber (classBy a (stageAt l (E (suc i)))) ≡ C i) where
   abbrev next : ℕ → List ℕ → List ℕ
-  next k b = set (set b (CLASSES + k) (C k)) (ROOTS + k) (E (suc k) / 4 - 1)
+  next k b = set (set b (CLASSES + k) (C k)) (ROOTS + k) (E (suc k) / ROW - 1)
 
   cut-next : (k t : ℕ) (b : List ℕ) → t ≤ CLASSES → take t (next k b) ≡ take t b
-  cut-next k t b h = take-set-le t (set b (CLASSES + k) (C k)) (ROOTS + k) (E (suc k) / 4 - 1) (omega arith) ∙ take-set-le t b (CLASSES + k) (C k) (omega arith)
+  cut-next k t b h = take-set-le t (set b (CLASSES + k) (C k)) (ROOTS + k) (E (suc k) / ROW - 1) (omega arith) ∙ take-set-le t b (CLASSES + k) (C k) (omega arith)
 
   long-next : (k : ℕ) (b : List ℕ) → length (next k b) ≡ length b
-  long-next k b = length-set (set b (CLASSES + k) (C k)) (ROOTS + k) (E (suc k) / 4 - 1) ∙ length-set b (CLASSES + k) (C k)
+  long-next k b = length-set (set b (CLASSES + k) (C k)) (ROOTS + k) (E (suc k) / ROW - 1) ∙ length-set b (CLASSES + k) (C k)
 
   one-more : (k : ℕ) (b b′ : List ℕ) → k < n → ROOTS + 64 ≤ length b → Noted E C k (next k b) b′ → Noted E C (suc k) b b′
   one-more k b b′ h len g = record {
@@ -45,7 +45,7 @@ module _ (a l : List ℕ) (E C : ℕ → ℕ) (m n : ℕ) (few : n ≤ 64) (top 
   }
     where
       other : (j : ℕ) → (j ≡ CLASSES + k → ⊥) → (j ≡ ROOTS + k → ⊥) → getD (next k b) j 0 ≡ getD b j 0
-      other j p q = getD-set-other (set b (CLASSES + k) (C k)) (ROOTS + k) j (E (suc k) / 4 - 1) 0 q ∙ getD-set-other b (CLASSES + k) j (C k) 0 p
+      other j p q = getD-set-other (set b (CLASSES + k) (C k)) (ROOTS + k) j (E (suc k) / ROW - 1) 0 q ∙ getD-set-other b (CLASSES + k) j (C k) 0 p
 
       class-at : (i : ℕ) → i < suc k → Dec (i < k) → getD b′ (CLASSES + i) 0 ≡ C i
       class-at i lt (yes d) = g .class i d
@@ -53,15 +53,15 @@ module _ (a l : List ℕ) (E C : ℕ → ℕ) (m n : ℕ) (few : n ≤ 64) (top 
           let e : i ≡ k = omega arith in
           let z : getD b′ (CLASSES + k) 0 ≡ C k =
           g .between (CLASSES + k) (omega arith) (omega (arith, few))
-          ∙ getD-set-other (set b (CLASSES + k) (C k)) (ROOTS + k) (CLASSES + k) (E (suc k) / 4 - 1) 0 (omega arith) ∙ getD-set-same b (CLASSES + k) (C k) 0 (omega (arith, few)) in
+          ∙ getD-set-other (set b (CLASSES + k) (C k)) (ROOTS + k) (CLASSES + k) (E (suc k) / ROW - 1) 0 (omega arith) ∙ getD-set-same b (CLASSES + k) (C k) 0 (omega (arith, few)) in
           rw e z
 
-      root-at : (i : ℕ) → i < suc k → Dec (i < k) → getD b′ (ROOTS + i) 0 ≡ E (suc i) / 4 - 1
+      root-at : (i : ℕ) → i < suc k → Dec (i < k) → getD b′ (ROOTS + i) 0 ≡ E (suc i) / ROW - 1
       root-at i lt (yes d) = g .root i d
       root-at i lt (no d) =
           let e : i ≡ k = omega arith in
-          let z : getD b′ (ROOTS + k) 0 ≡ E (suc k) / 4 - 1 =
-          g .after (ROOTS + k) (omega arith) ∙ getD-set-same (set b (CLASSES + k) (C k)) (ROOTS + k) (E (suc k) / 4 - 1) 0 (omega (arith, few, length-set b (CLASSES + k) (C k))) in
+          let z : getD b′ (ROOTS + k) 0 ≡ E (suc k) / ROW - 1 =
+          g .after (ROOTS + k) (omega arith) ∙ getD-set-same (set b (CLASSES + k) (C k)) (ROOTS + k) (E (suc k) / ROW - 1) 0 (omega (arith, few, length-set b (CLASSES + k) (C k))) in
           rw e z
 
   pub noted : (k : ℕ) → k ≤ n → (b : List ℕ) → take m b ≡ l → ROOTS + 64 ≤ length b → Noted E C k b (linesFrom a k (E k) b)
@@ -86,7 +86,7 @@ module _ (E C : ℕ → ℕ) (n : ℕ) (b b′ : List ℕ) (few : n ≤ 64) (len
       ext-getD 0 (take n (drop CLASSES b′)) xs (part-long CLASSES (omega arith))
       (λ i lt. let h : i < n = omega (arith, lt, same, part-long CLASSES (omega arith)) in part-at CLASSES i h ∙ g .class i h ∙ f i h)
 
-  pub roots-noted : ((i : ℕ) → i < n → E (suc i) / 4 - 1 ≡ getD xs i 0) → take n (drop ROOTS b′) ≡ xs
+  pub roots-noted : ((i : ℕ) → i < n → E (suc i) / ROW - 1 ≡ getD xs i 0) → take n (drop ROOTS b′) ≡ xs
   roots-noted f =
       ext-getD 0 (take n (drop ROOTS b′)) xs (part-long ROOTS (omega arith))
       (λ i lt. let h : i < n = omega (arith, lt, same, part-long ROOTS (omega arith)) in part-at ROOTS i h ∙ g .root i h ∙ f i h)

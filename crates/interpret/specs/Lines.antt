@@ -6,7 +6,7 @@ use lib.Dec.{leb}
 use lib.ListN.{getD, set}
 use Rattle.cedar.specs.Runs.{NVerdict}
 use Rattle.sheet.specs.Forms.{POLICY}
-use Rattle.residual.specs.Rows.{stageAt, startAt}
+use Rattle.residual.specs.Rows.{ROW, stageAt, startAt}
 use Rattle.residual.specs.Classes.{classNumber}
 use Rattle.tpe.specs.Run.{classBy}
 
@@ -20,7 +20,7 @@ ROOTS = 8256
 -- of k policies, the last one first: its block ends at e, and a row has four words
 unfoldable pub linesFrom : List ℕ → ℕ → ℕ → List ℕ → List ℕ
 linesFrom a zero e b = b
-linesFrom a (suc k) e b = linesFrom a k (startAt b e) (set (set b (CLASSES + k) (classNumber (classBy a (stageAt b e)))) (ROOTS + k) (e / 4 - 1))
+linesFrom a (suc k) e b = linesFrom a k (startAt b e) (set (set b (CLASSES + k) (classNumber (classBy a (stageAt b e)))) (ROOTS + k) (e / ROW - 1))
 
 -- of all policies, whose blocks end at bt; nothing where there are too many
 unfoldable pub linesOf : List ℕ → List ℕ → ℕ → List ℕ

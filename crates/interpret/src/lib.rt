@@ -15,6 +15,7 @@ use residual::CLASS_ERROR;
 use residual::CLASS_FALSE;
 use residual::CLASS_OPEN;
 use residual::CLASS_TRUE;
+use residual::ROW;
 use residual::Stage;
 use residual::push_error;
 use residual::push_left;
@@ -29,6 +30,9 @@ use tpe::Class;
 use tpe::class_at;
 use tpe::decided;
 use tpe::give_bool;
+use tpe::steps::ALL_VALUES;
+use tpe::steps::SOME_ERROR;
+use tpe::steps::SOME_OPEN;
 use tpe::steps::many;
 use tpe::steps::one;
 use tpe::steps::two;
@@ -43,7 +47,7 @@ ghost use lib.ListN.{getD, length, take};
 ghost use Rattle.words.specs.Log.{Room};
 ghost use Rattle.forms.specs.Tags.{AND, SET-OF};
 ghost use Rattle.sheet.specs.Forms.{partial};
-ghost use Rattle.residual.specs.Rows.{stageAt};
+ghost use Rattle.residual.specs.Rows.{ROW, stageAt};
 ghost use Rattle.residual.specs.Classes.{classNumber};
 ghost use Rattle.tpe.specs.Run.{left, sideOf, classOf, joinOf, secondOf, splitOf, interpOf, runOf};
 ghost use Rattle.tpe.specs.Leaves.{Leaves};
@@ -91,19 +95,19 @@ fn side_at(rows: &[u32], log: &[u32], top: usize, stop: bool) -> Side
     }
 }
 
-// Whether all children so far are values (0), one is an error (1), or else one is open (2), with the last block.
+// Whether all children so far are values, one is an error, or else one is open, with the last block.
 fn join(log: &[u32], top: usize, joined: u32) -> u32
     requires { ⌜ Room (now log) top ⌝ }
     ensures { λ r. ⌜ r ≡ joinOf joined (stageAt (take top (now (log .entry))) (length (take top (now (log .entry))))) ⌝ }
 {
     match stage_at(log, top) {
         Stage::Value(_) => joined,
-        Stage::Error => 1,
+        Stage::Error => SOME_ERROR,
         Stage::Open => {
-            if joined == 1 {
-                return 1;
+            if joined == SOME_ERROR {
+                return SOME_ERROR;
             }
-            2
+            SOME_OPEN
         }
     }
 }
@@ -349,7 +353,7 @@ fn group(
 {
     let len = row(rows, NODE, node).len();
     let mut end = top;
-    let mut joined = 0;
+    let mut joined = ALL_VALUES;
     let mut i = 2;
     while has_more(len, i, step) {
         let child = item(row(rows, NODE, node), i + step - 1);
@@ -395,12 +399,12 @@ fn number_of(class: Class) -> u32
 // The number of the row that ends at `end`.
 fn row_number(end: usize) -> u32
     requires { ⌜ end ≤ 16384 ⌝ }
-    ensures { λ r. ⌜ r ≡ end / 4 - 1 ⌝ }
+    ensures { λ r. ⌜ r ≡ end / ROW - 1 ⌝ }
 {
-    if end < 4 {
+    if end < ROW {
         return 0;
     }
-    (end / 4 - 1) as u32
+    (end / ROW - 1) as u32
 }
 
 // The classes and root numbers of the policies, whose blocks end at `top`.
