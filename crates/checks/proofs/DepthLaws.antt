@@ -13,8 +13,8 @@ use lib.Seq.{getD-take, getD-drop}
 use Rattle.sheet.specs.Forms.{Slot, entry, line, lineOr, lineUnknown, word, number, nothing, slotAt, tag, items, isLine, keep, refsFrom, refs, noKey, TYPE, VALUE, NODE, POLICY}
 use Rattle.sheet.specs.State.{State, depthsOf}
 use Rattle.sheet.specs.Sheet.{allThere, deepest, depth}
-use Rattle.table.specs.Layout.{TYPEDEPTHS, VALUEDEPTHS, NODEDEPTHS, held, ones, depthsAt}
-use Rattle.table.proofs.Held.{depthBase, depthBases, no-depths, depthsIn, depths-of}
+use Rattle.table.specs.Layout.{TYPEDEPTHS, VALUEDEPTHS, NODEDEPTHS, held, ones, depthsAt, depthBase, depthBases, depthsIn}
+use Rattle.table.proofs.Held.{no-depths, depths-of}
 use Rattle.cedar.specs.Numbered.{memN}
 use Rattle.sheet.proofs.Parsed.{allBelow, all-below}
 use Rattle.forms.proofs.Tests.{other}

@@ -14,10 +14,10 @@ use Rattle.sheet.specs.State.{State, linesOf, count, depthsOf}
 use Rattle.sheet.specs.Sheet.{greatest, reach, allZero, inOrder, thereIs, allThere, ascend, among, firsts, fresh, found, deepest, depth}
 use Rattle.sheet.proofs.Parsed.{tags-between}
 use Rattle.forms.specs.Tags.{TEXT-LINE}
-use Rattle.table.specs.Layout.{part, rowsOf, textRows, linesHeld, held}
+use Rattle.table.specs.Layout.{part, rowsOf, textRows, linesHeld, held, rowIn}
 use Rattle.table.proofs.Rows.{count-held, lines-held, texts-held}
 use Rattle.table.proofs.Held.{counts-held}
-use Rattle.judge.specs.Verdicts.{rowIn, NewDepth}
+use Rattle.judge.specs.Verdicts.{NewDepth}
 
 module _ (a sheet b : List ℕ) where
   count-past : (k : ℕ) → noKey ≤ k → count (held sheet a b) k ≡ 0

@@ -14,14 +14,14 @@ use Rattle.sheet.specs.Forms.{formOf, tag, keyOf, refs, TEXT, ENTITY, NODE, noK
 use Rattle.sheet.specs.State.{State, count}
 use Rattle.sheet.specs.Typing.{typed}
 use Rattle.sheet.specs.Sheet.{greatest, inOrder, found, deepest, depth, usedTwice, marked, faultOf}
-use Rattle.table.specs.Layout.{TYPEDEPTHS, USES, depthsAt, held}
+use Rattle.table.specs.Layout.{TYPEDEPTHS, USES, depthsAt, held, rowIn}
 use Rattle.table.proofs.Rows.{key-low}
 use Rattle.table.proofs.Held.{used-of, depths-kept}
 use Rattle.fits.specs.Fit.{SettledIn, Known}
 use Rattle.fits.proofs.Remembered.{cleared, known-words}
 use Rattle.checks.specs.Uses.{usesIn, Marked}
 use Rattle.typing.specs.Rules.{Typed}
-use Rattle.judge.specs.Verdicts.{rowIn, NewDepth, TypedLine, Judged}
+use Rattle.judge.specs.Verdicts.{NewDepth, TypedLine, Judged}
 use Rattle.judge.proofs.Alike.{order-alike, full-alike, refs-alike}
 
 -- ---- the chain of refusals

@@ -3,18 +3,13 @@ use mathlib.Core.Path.{_≡_}
 use mathlib.Core.Bool.{Bool, cond}
 use mathlib.Core.List.{List}
 use Prim.Native.Nat.{ℕ, _+_, _≤_, _<_}
-use lib.Dec.{eqb}
 use lib.ListN.{getD, drop}
-use Rattle.sheet.specs.Forms.{keyOf, refs, TEXT, ENTITY, NODE}
+use Rattle.sheet.specs.Forms.{keyOf, refs, ENTITY, NODE}
 use Rattle.sheet.specs.Typing.{typed}
 use Rattle.sheet.specs.Sheet.{found, depth, faultOf, marked}
-use Rattle.table.specs.Layout.{TYPEDEPTHS, USES, depthsAt, textRow, held}
+use Rattle.table.specs.Layout.{TYPEDEPTHS, USES, depthsAt, rowIn, held}
 use Rattle.fits.specs.Fit.{SettledIn, Known}
 use Rattle.checks.specs.Uses.{usesIn}
-
--- the row of a line of key k, from its row of words
-abbrev pub rowIn : List ℕ → ℕ → List ℕ → List ℕ
-rowIn sheet k r = cond (eqb k TEXT) (textRow sheet r) r
 
 -- the depth of a row of key k; 0 where what it refers to is not there, or the row is not new
 pub record NewDepth (sheet a b r : List ℕ) (k d : ℕ) : Type 0 where

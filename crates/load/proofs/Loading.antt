@@ -17,9 +17,9 @@ use Rattle.sheet.specs.Bytes.{split}
 use Rattle.sheet.specs.Forms.{Mode, rowOf, rowOfValue, TEXT, KIND, NODE, noKey}
 use Rattle.sheet.specs.State.{State, empty, count, before, sum}
 use Rattle.sheet.specs.Sheet.{Reading, enough, reach, firstUnused, reads, ending, fault, more, goOn, reading, read}
-use Rattle.table.specs.Layout.{part, MADE, TOP, TYPEDEPTHS, USES, heap, rowsAt, rowsOf, linesHeld, depthsHeld, depthsAt, held}
+use Rattle.table.specs.Layout.{part, MADE, TOP, TYPEDEPTHS, USES, heap, rowsAt, rowsOf, linesHeld, depthsHeld, depthsAt, held, depthBase, depthsIn}
 use Rattle.table.proofs.Rows.{limit-small}
-use Rattle.table.proofs.Held.{tab-same, linesIn, lines-tab, depthBase, depthsIn, depths-tab, counts-held}
+use Rattle.table.proofs.Held.{tab-same, linesIn, lines-tab, depths-tab, counts-held}
 use Rattle.fits.proofs.Remembered as R
 use Rattle.judge.proofs.Alike.{count-alike}
 use Rattle.line.proofs.LawsLine.{entry-wide}

@@ -13,26 +13,16 @@ use Rattle.sheet.specs.Forms.{noKey, NODE, TEXT}
 use Rattle.sheet.specs.State.{linesOf, depthsOf, counts, lengths}
 use Rattle.sheet.proofs.Parsed.{allBelow, all-below}
 use Rattle.forms.proofs.Tests.{other}
-use Rattle.table.specs.Layout.{TYPEDEPTHS, VALUEDEPTHS, NODEDEPTHS, USES, rowsOf, textRow, textRows, linesHeld, ones, depthsAt, depthsHeld, held}
+use Rattle.table.specs.Layout.{TYPEDEPTHS, VALUEDEPTHS, NODEDEPTHS, USES, rowsOf, rowIn, textRow, textRows, linesHeld, ones, depthsAt, depthBases, depthBase, depthsIn, depthsHeld, held}
 use Rattle.table.proofs.Rows.{count-rows, set-tab, zero-plus, lines-of, length-lines}
 pub use Rattle.table.proofs.Rows.{tab, length-tab, getD-tab, tab-same, linesIn, lines-tab}
 
 -- ---- the parts of the state, key by key
 
--- where the depths of a key's lines stand, 0 where they are all 1
-unfoldable pub depthBases : List ℕ
-depthBases = 0 ∷ 0 ∷ 0 ∷ TYPEDEPTHS ∷ 0 ∷ VALUEDEPTHS ∷ 0 ∷ 0 ∷ 0 ∷ 0 ∷ 0 ∷ NODEDEPTHS ∷ 0 ∷ []
-
-unfoldable pub depthBase : ℕ → ℕ
-depthBase k = getD depthBases k 0
-
 -- no key, no depths
 pub no-depths : (k : ℕ) → noKey ≤ k → depthBase k ≡ 0
 unfolding depthBase depthBases
 no-depths k h = List·getD-eq-default depthBases 0 h
-
-abbrev pub depthsIn : List ℕ → List ℕ → ℕ → List ℕ
-depthsIn w b k = cond (eqb (depthBase k) 0) (ones w k) (depthsAt b (depthBase k) (getD w k 0))
 
 pub depths-tab : (w b : List ℕ) → depthsHeld w b ≡ tab (depthsIn w b) 0 noKey
 unfolding depthsHeld depthBases depthBase
@@ -107,10 +97,6 @@ held-same sheet w w′ b b′ r e =
 texts-snoc : (sheet : List ℕ) (rs : List (List ℕ)) (r : List ℕ) → textRows sheet (rs ++ (r ∷ [])) ≡ textRows sheet rs ++ (textRow sheet r ∷ [])
 texts-snoc sheet [] r = refl
 texts-snoc sheet (x ∷ rs) r = ap (λ (l : List (List ℕ)). textRow sheet x ∷ l) (texts-snoc sheet rs r)
-
--- the row of a line of key k that words hold
-abbrev pub rowIn : List ℕ → ℕ → List ℕ → List ℕ
-rowIn sheet k r = cond (eqb k TEXT) (textRow sheet r) r
 
 module _ (sheet w w′ b b′ : List ℕ) (k d : ℕ) (r u : List ℕ) (h : k < noKey)
     (own : rowsOf w′ k ≡ rowsOf w k ++ (r ∷ []))

@@ -1,8 +1,10 @@
 -- Where the rows of a sheet lie in the lent words, and what state the words hold. The first slice, `rows`: counts, for each key the places
 -- where its rows begin, then the rows themselves. The second, `work`, while a sheet is read: pairs found to fit, depths, uses of nodes.
+use mathlib.Core.Bool.{cond}
 use mathlib.Core.List.{List, [], _∷_}
 use mathlib.Core.Path.{_≡_}
 use Prim.Native.Nat.{ℕ, zero, suc, _+_, _-_, _≤_, _<_}
+use lib.Dec.{eqb}
 use lib.ListN.{length, getD, take, drop, set, replicate}
 use Rattle.sheet.specs.Forms.{tag, items, at, noKey, SHEET, TEXT, KIND, TYPE, SHAPE, VALUE, ENTITY, PRINCIPAL, ACTION, RESOURCE, CONTEXT, NODE, POLICY}
 use Rattle.sheet.specs.State.{State}
@@ -49,6 +51,10 @@ abbrev pub textRows : List ℕ → List (List ℕ) → List (List ℕ)
 textRows sheet [] = []
 textRows sheet (r ∷ rs) = textRow sheet r ∷ textRows sheet rs
 
+-- the row of a line of key k that words hold
+abbrev pub rowIn : List ℕ → ℕ → List ℕ → List ℕ
+rowIn sheet k r = cond (eqb k TEXT) (textRow sheet r) r
+
 unfoldable pub linesHeld : List ℕ → List ℕ → List (List (List ℕ))
 linesHeld sheet w =
     rowsOf w SHEET ∷ textRows sheet (rowsOf w TEXT) ∷ rowsOf w KIND ∷ rowsOf w TYPE ∷ rowsOf w SHAPE ∷ rowsOf w VALUE ∷ rowsOf w ENTITY
@@ -75,6 +81,16 @@ ones w k = replicate (getD w k 0) 1
 
 abbrev pub depthsAt : List ℕ → ℕ → ℕ → List ℕ
 depthsAt b i n = take n (drop i b)
+
+-- where the depths of a key's lines stand, 0 where they are all 1
+unfoldable pub depthBases : List ℕ
+depthBases = 0 ∷ 0 ∷ 0 ∷ TYPEDEPTHS ∷ 0 ∷ VALUEDEPTHS ∷ 0 ∷ 0 ∷ 0 ∷ 0 ∷ 0 ∷ NODEDEPTHS ∷ 0 ∷ []
+
+unfoldable pub depthBase : ℕ → ℕ
+depthBase k = getD depthBases k 0
+
+abbrev pub depthsIn : List ℕ → List ℕ → ℕ → List ℕ
+depthsIn w b k = cond (eqb (depthBase k) 0) (ones w k) (depthsAt b (depthBase k) (getD w k 0))
 
 unfoldable pub depthsHeld : List ℕ → List ℕ → List (List ℕ)
 depthsHeld w b =

@@ -13,11 +13,10 @@ use lib.Seq.{drop-set-lt, drop-set-add, take-set-le, take-suc-set, getD-set-othe
 use Rattle.sheet.specs.Forms.{Slot, nothing, Form, forms, formOf, noForm, slotAt, slotIn, isLine, tag, items, keyOf, refsFrom, refs, TYPE, VALUE, NODE, noKey}
 use Rattle.sheet.specs.State.{State, linesOf, depthsOf}
 use Rattle.sheet.specs.Sheet.{deepest, depth, marked, more}
-use Rattle.table.specs.Layout.{TYPEDEPTHS, VALUEDEPTHS, NODEDEPTHS, USES, depthsAt, rowsOf, held, limits, limit}
-use Rattle.table.proofs.Held.{depthBase, depthBases, depthsIn, used-of, held-more}
+use Rattle.table.specs.Layout.{TYPEDEPTHS, VALUEDEPTHS, NODEDEPTHS, USES, depthsAt, rowsOf, held, limits, limit, depthBase, depthBases, depthsIn, rowIn}
+use Rattle.table.proofs.Held.{used-of, held-more}
 use Rattle.checks.proofs.DepthLaws.{no-base}
 use Rattle.checks.specs.Uses.{usesIn}
-use Rattle.judge.specs.Verdicts.{rowIn}
 use Rattle.take.specs.Steps.{withDepth}
 
 -- ---- stores in regions

@@ -16,14 +16,14 @@ use Rattle.sheet.proofs.Lines.{Passed, passed, later-empty}
 use Rattle.sheet.proofs.Shallow.{reached-settled}
 use Rattle.sheet.proofs.Depths as D
 use Rattle.forms.specs.Tags.{TEXT-LINE}
-use Rattle.table.specs.Layout.{part, MADE, TOP, TYPEDEPTHS, USES, rowsOf, textRow, held, withRow, limits, limit, Last, Sound}
+use Rattle.table.specs.Layout.{part, MADE, TOP, TYPEDEPTHS, USES, rowsOf, textRow, held, withRow, limits, limit, Last, Sound, rowIn}
 use Rattle.table.proofs.Rows.{count-held, limit-small}
 use Rattle.table.proofs.Frame.{rows-kept, word-kept, sound-kept, top-new, count-new, count-other, rest-new, rows-own, rows-other, sound-new}
 use Rattle.table.proofs.Held.{held-same}
 use Rattle.fits.specs.Fit.{SettledIn, Known}
 use Rattle.fits.proofs.Remembered.{cleared, settled-held, known-kept, known-words}
 use Rattle.checks.specs.Uses.{usesIn}
-use Rattle.judge.specs.Verdicts.{rowIn, Judged}
+use Rattle.judge.specs.Verdicts.{Judged}
 use Rattle.judge.proofs.Alike.{text-tag}
 use Rattle.judge.proofs.Judging.{line-key}
 use Rattle.line.specs.Written.{rowFrom, Line}
