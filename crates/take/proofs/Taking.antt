@@ -108,7 +108,7 @@ module _ (sheet row a b : List ℕ) (bytes : ℕ) (m : Mode) (ready : Ready a b)
   below : take (getD a TOP 0) a₁ ≡ take (getD a TOP 0) a
   below = subst (λ (x : ℕ). take x a₁ ≡ take x a) ht (l .kept .below)
 
-  rows-as : (k : ℕ) → k < 14 → rowsOf a₁ k ≡ rowsOf a k
+  rows-as : (k : ℕ) → k < TOP → rowsOf a₁ k ≡ rowsOf a k
   rows-as = rows-kept a (ready .sound) a₁ below
 
   state-as : held sheet a₁ b ≡ held sheet a b
@@ -120,7 +120,7 @@ module _ (sheet row a b : List ℕ) (bytes : ℕ) (m : Mode) (ready : Ready a b)
   pub known₁ : Known a₁ b
   known₁ = known-kept a a₁ b (rows-as VALUE (omega arith)) (rows-as TYPE (omega arith)) (ready .known)
 
-  word-as : (i : ℕ) → i < 15 → getD a₁ i 0 ≡ getD a i 0
+  word-as : (i : ℕ) → i < TOP + 1 → getD a₁ i 0 ≡ getD a i 0
   word-as i h = word-kept a (ready .sound) a₁ below i (omega arith)
 
   few-nodes : getD a₁ NODE 0 ≤ 1024
@@ -208,7 +208,7 @@ module _ (sheet row a b : List ℕ) (bytes : ℕ) (m : Mode) (ready : Ready a b)
         last₁ : Last a₁ k
         last₁ = record { last = λ i h t. go i h (decLt i noKey) t }
           where
-            go : (i : ℕ) → k < i → Dec (i < noKey) → i < 14 → getD a₁ i 0 ≡ 0
+            go : (i : ℕ) → k < i → Dec (i < noKey) → i < TOP → getD a₁ i 0 ≡ 0
             go i h (yes t) u = sym (count-held sheet a₁ b i t) ∙ ap length (later-empty (held sheet a₁ b) k i (pass .order) h)
             go i h (no t) u = let e : i ≡ MADE = omega arith in rw e made₁
 
@@ -222,20 +222,20 @@ module _ (sheet row a b : List ℕ) (bytes : ℕ) (m : Mode) (ready : Ready a b)
           lo : getD a₁ TOP 0 ≤ end
           lo = omega (arith, top₁)
 
-          in-range : k < 14
+          in-range : k < TOP
           in-range = omega (arith, low)
 
           own₂ : getD a₂ k 0 ≡ suc (getD a₁ k 0)
           own₂ = rw pa (count-new a₁ sound₁ k end in-range room₁ last₁ lo)
 
-          other₂ : (i : ℕ) → i < 14 → (i ≡ k → ⊥) → getD a₂ i 0 ≡ getD a₁ i 0
+          other₂ : (i : ℕ) → i < TOP → (i ≡ k → ⊥) → getD a₂ i 0 ≡ getD a₁ i 0
           other₂ i h ne = rw pa (count-other a₁ sound₁ k end in-range room₁ last₁ lo i h ne)
 
           rows₂ : rowsOf a₂ k ≡ rowsOf a₁ k ++ (r₁ ∷ [])
           unfolding r₁
           rows₂ = rw pa (rows-own a₁ sound₁ k end in-range room₁ last₁ lo ∙ ap (λ (x : ℕ). rowsOf a₁ k ++ (part a₁ x end ∷ [])) top₁)
 
-          rows-same₂ : (i : ℕ) → i < 14 → (i ≡ k → ⊥) → rowsOf a₂ i ≡ rowsOf a₁ i
+          rows-same₂ : (i : ℕ) → i < TOP → (i ≡ k → ⊥) → rowsOf a₂ i ≡ rowsOf a₁ i
           rows-same₂ i h ne = rw pa (rows-other a₁ sound₁ k end in-range room₁ last₁ lo i h ne)
 
           row-k : rowIn sheet k r₁ ≡ row
