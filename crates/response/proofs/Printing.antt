@@ -16,46 +16,17 @@ use Rattle.table.specs.Layout.{rowsOf, held}
 use Rattle.table.proofs.Rows.{count-rows, lines-held}
 use Rattle.value.proofs.Lists.{uncons, spent}
 use Rattle.print.specs.Written.{Written}
-use Rattle.print.proofs.Writing.{written-none, written-append, written-as}
+use Rattle.print.proofs.Writing.{written-append, written-as}
 use Rattle.residual.specs.Classes.{classNumber}
+use Rattle.listing.proofs.Printing.{Printing, printing-on, printing-end, concat-append}
 use Rattle.response.specs.Verdicts.{classIn, effectIn, effectNumber, verdictsIn, said}
 use Rattle.response.specs.Printed.{idBytes, decisionBytes, effectBytes, classBytes, listed, fourOf, policyAt, policyLines, completeBytes}
 use Rattle.response.specs.declared.Decision as D
 use Rattle.response.proofs.Counting.{counts-are, verdictsFrom, verdicts-on}
 
--- ---- a run that has come so far: what was written, and what is left to write
-
-pub record Printing (whole left was : List ℕ) (at : ℕ) (is : List ℕ) (next : ℕ) : Type 0 where
-  pub done : List ℕ
-  pub written : Written was at done is next
-  pub joins : whole ≡ done ++ left
-
-pub printing-start : (whole left was : List ℕ) (at : ℕ) → whole ≡ left → at ≤ 18446744073709551615 → length was ≤ 18446744073709551615 → Printing whole left was at was at
-printing-start whole left was at e h l = record { done = []; written = written-none was at h l; joins = e }
-
-pub printing-on : {whole left was is : List ℕ} {at next : ℕ} → Printing whole left was at is next → (xs rest out : List ℕ) (then : ℕ) → left ≡ xs ++ rest → Written is next xs out then
-    → Printing whole rest was at out then
-printing-on {whole} {left} {was} {is} {at} {next} p xs rest out then e w =
-    record {
-      done = p .done ++ xs;
-      written = written-append (p .written) w;
-      joins = p .joins ∙ ap (λ (l : List ℕ). p .done ++ l) e ∙ sym (append-assoc (p .done) xs rest);
-    }
-
-pub printing-end : {whole left was is : List ℕ} {at next : ℕ} → Printing whole left was at is next → left ≡ [] → Written was at whole is next
-printing-end {whole} {left} {was} {is} {at} {next} p e =
-    written-as (p .written) (sym (p .joins ∙ ap (λ (l : List ℕ). p .done ++ l) e ∙ append-nil (p .done)))
-
-pub concat-append : (k l : List (List ℕ)) → concat (k ++ l) ≡ concat k ++ concat l
-concat-append [] l = refl
-concat-append (x ∷ k) l = ap (λ (m : List ℕ). x ++ m) (concat-append k l) ∙ sym (append-assoc x (concat k) (concat l))
-
 -- ---- straight runs
 
 module _ (was is : List ℕ) (at next : ℕ) where
-  pub number-after : (b n : ℕ) (mid : List ℕ) (m : ℕ) → Written was at (b ∷ []) mid m → Written mid m (digits n) is next → Written was at (b ∷ digits n) is next
-  number-after b n mid m v w = written-append v w
-
   pub effect-zero : (e : ℕ) → e ≡ PERMIT → Written was at (44 ∷ 112 ∷ 101 ∷ 114 ∷ 109 ∷ 105 ∷ 116 ∷ []) is next → Written was at (effectBytes e) is next
   effect-zero e h w = written-as w (rw h)
 
