@@ -33,7 +33,7 @@ use Rattle.value.specs.declared.Entry.the-variants.{At, Nothing}
 use Rattle.value.proofs.Shaped.{shape-row}
 use Rattle.value.proofs.Lists.{uncons, spent}
 use Rattle.strict.specs.Gives.{valueIn}
-use Rattle.strict.specs.Lookups.{stateIn, textThere, isEntityAt, lineAt, lineIn, partOfLine, partIn, lookFound, lookRow, lookIn, lookValue, lookAttr, takenOf, presentOf}
+use Rattle.strict.specs.Lookups.{stateIn, textThere, isEntityAt, lineAt, lineIn, partOf, partOfLine, partIn, lookFound, lookRow, lookIn, lookValue, lookAttr, takenOf, presentOf}
 use Rattle.strict.specs.declared.Given.the-variants.{Bool as Boolᵍ, Old, Fails, Stays}
 use Rattle.strict.specs.declared.entity.Part.{Part}
 use Rattle.strict.specs.declared.entity.Part.the-variants.{Known, Empty, Unknown}
@@ -227,25 +227,25 @@ module _ (a : List ℕ) (k t n i s : ℕ) (g : Walking a k t n i s) where
 -- ---- a part of a line
 
 module _ (c : Bool) (a : List ℕ) (k t j : ℕ) (e : Entry) (ee : lineAt (rowsOf a ENTITY) e ≡ lineIn a k t) where
-  pub part-empty : e ≡ Nothing → c ≡ true → Empty ≡ partIn c a k t j
+  pub part-empty : e ≡ Nothing → c ≡ true → partOf Empty ≡ partIn c a k t j
   unfolding partIn
   part-empty z y = sym (ap (λ (o : Option (List ℕ)). partOfLine c o j) (sym ee ∙ ap (lineAt (rowsOf a ENTITY)) z) ∙ rw y)
 
-  pub part-unlisted : e ≡ Nothing → c ≡ false → Unknown ≡ partIn c a k t j
+  pub part-unlisted : e ≡ Nothing → c ≡ false → partOf Unknown ≡ partIn c a k t j
   unfolding partIn
   part-unlisted z y = sym (ap (λ (o : Option (List ℕ)). partOfLine c o j) (sym ee ∙ ap (lineAt (rowsOf a ENTITY)) z) ∙ rw y)
 
   module _ (i : ℕ) (z : e ≡ At i) (r : List ℕ) (er : r ≡ getD (rowsOf a ENTITY) i []) (x : ℕ) (ex : x ≡ getD r (j + 1) 0) where
-    part-item : partIn c a k t j ≡ cond (eqb x mark) Unknown (Known x)
+    part-item : partIn c a k t j ≡ cond (eqb x mark) none (some (some x))
     unfolding partIn
     part-item =
         let w : x ≡ at (getD (rowsOf a ENTITY) i []) j = ex ∙ ap (λ (m : ℕ). getD r m 0) (add-one j) ∙ ap (λ (l : List ℕ). at l j) er in
         ap (λ (o : Option (List ℕ)). partOfLine c o j) (sym ee ∙ ap (lineAt (rowsOf a ENTITY)) z) ∙ rw (← w)
 
-    pub part-unknown : x ≡ mark → Unknown ≡ partIn c a k t j
+    pub part-unknown : x ≡ mark → partOf Unknown ≡ partIn c a k t j
     part-unknown y = sym (part-item ∙ rw (eq-eqb x mark y))
 
-    pub part-known : (x ≡ mark → ⊥) → Known x ≡ partIn c a k t j
+    pub part-known : (x ≡ mark → ⊥) → partOf (Known x) ≡ partIn c a k t j
     part-known y = sym (part-item ∙ rw (ne-eqb x mark y))
 
 -- ---- a text in a record
@@ -286,18 +286,18 @@ module _ (a : List ℕ) (v : ℕ) (q : List ℕ) (s : Shape) (eq : q ≡ getD (v
       go Set y = refl
       go Record y = refl
 
-  pub attr-entity : (c : Bool) (k t : ℕ) (p : Part) (r : Look) → s ≡ Entity k t → p ≡ partIn c a k t 1 → r ≡ lookIn a k p u → r ≡ lookAttr c a v u
+  pub attr-entity : (c : Bool) (k t : ℕ) (p : Part) (r : Look) → s ≡ Entity k t → partOf p ≡ partIn c a k t 1 → r ≡ lookIn a k (partOf p) u → r ≡ lookAttr c a v u
   unfolding lookAttr
-  attr-entity c k t p r z ep e = e ∙ rw (value-shape a v q s eq es, z, ep)
+  attr-entity c k t p r z ep e = e ∙ ap (λ (o : Option (Option ℕ)). lookIn a k o u) ep ∙ rw (value-shape a v q s eq es, z)
 
 module _ (a : List ℕ) (k u : ℕ) (p : Part) where
-  pub look-unknown : p ≡ Unknown → Unknownˡ k ≡ lookIn a k p u
+  pub look-unknown : p ≡ Unknown → Unknownˡ k ≡ lookIn a k (partOf p) u
   look-unknown e = rw e
 
-  pub look-empty : p ≡ Empty → Missing ≡ lookIn a k p u
+  pub look-empty : p ≡ Empty → Missing ≡ lookIn a k (partOf p) u
   look-empty e = rw e
 
-  pub look-known : (n : ℕ) (r : Look) → p ≡ Known n → r ≡ lookRow (valueIn a n) u → r ≡ lookIn a k p u
+  pub look-known : (n : ℕ) (r : Look) → p ≡ Known n → r ≡ lookRow (valueIn a n) u → r ≡ lookIn a k (partOf p) u
   look-known n r e h = rw e h
 
 module _ (l : Look) where
