@@ -5,12 +5,12 @@ use Prim.Native.Nat.{ℕ, zero, suc, _+_, _≤_, _<_}
 use native.Mathlib.Omega.{arith}
 use lib.ListN.{length, getD, drop}
 use Rattle.cedar.specs.Residual.{Class, ctrue, cfalse, cerror, copen}
-use Rattle.cedar.specs.Response.{Effect, permit, forbid, Verdict, Decision, allow, deny, undecided, decision}
+use Rattle.cedar.specs.Response.{Effect, permit, forbid, Verdict, decision}
 use Rattle.sheet.specs.Ascii.{ascii}
 use Rattle.sheet.specs.Bytes.{digits, commas}
 use Rattle.sheet.specs.Forms.{at, POLICY}
 use Rattle.sheet.specs.Sheet.{firsts}
-use Rattle.sheet.specs.Answer.{printed, concat, numbers, countsOf, headLines, decisionWord, effectWord, classWord, completeLines, completeOf}
+use Rattle.sheet.specs.Answer.{printed, concat, numbers, countsOf, headLines, effectWord, classWord, completeLines, completeOf}
 use Rattle.forms.specs.Tags.{PERMIT, FORBID}
 use Rattle.table.specs.Layout.{rowsOf, held}
 use Rattle.table.proofs.Rows.{count-rows, lines-held}
@@ -19,7 +19,7 @@ use Rattle.print.specs.Written.{Written}
 use Rattle.print.proofs.Writing.{written-append, written-as}
 use Rattle.residual.specs.Classes.{classNumber}
 use Rattle.listing.proofs.Printing.{Printing, printing-on, printing-end, concat-append}
-use Rattle.response.specs.Verdicts.{classIn, effectIn, effectNumber, verdictsIn, said}
+use Rattle.response.specs.Verdicts.{classIn, effectIn, effectNumber, verdictsIn, decisionOf}
 use Rattle.response.specs.Printed.{idBytes, decisionBytes, effectBytes, classBytes, listed, fourOf, policyAt, policyLines, completeBytes}
 use Rattle.response.specs.declared.Decision as D
 use Rattle.response.proofs.Counting.{counts-are, verdictsFrom, verdicts-on}
@@ -68,16 +68,11 @@ module _ (was is : List ℕ) (at next : ℕ) (ls : List Verdict) where
       → Written w₂ k₂ (listed 44 (fourOf FORBID ls)) w₃ k₃ → Written w₃ k₃ (10 ∷ []) is next → Written was at (printed "counts" (numbers (countsOf ls))) is next
   counts-line w₁ w₂ w₃ k₁ k₂ k₃ a b c d = written-as (written-append a (written-append b (written-append c d))) (counts-text ls)
 
-  decision-text : (d : Decision) → decisionBytes (said d) ≡ printed "decision" (ascii (decisionWord d) ∷ [])
-  decision-text allow = refl
-  decision-text deny = refl
-  decision-text undecided = refl
-
-  pub head-lines : (d : D.Decision) (mid : List ℕ) (m : ℕ) → d ≡ said (decision ls) → Written was at (decisionBytes d) mid m
+  pub head-lines : (d : D.Decision) (mid : List ℕ) (m : ℕ) → decisionOf d ≡ decision ls → Written was at (decisionBytes (decisionOf d)) mid m
       → Written mid m (printed "counts" (numbers (countsOf ls))) is next → Written was at (concat (headLines ls)) is next
   head-lines d mid m e v w =
       written-as (written-append v w)
-      (ap₂ (λ (k l : List ℕ). k ++ l) (ap decisionBytes e ∙ decision-text (decision ls)) (sym (append-nil (printed "counts" (numbers (countsOf ls))))))
+      (ap₂ (λ (k l : List ℕ). k ++ l) (ap decisionBytes e) (sym (append-nil (printed "counts" (numbers (countsOf ls))))))
 
 -- ---- a policy
 

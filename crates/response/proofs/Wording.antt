@@ -7,14 +7,15 @@ use Rattle.residual.specs.Classes.{CLASS-TRUE, CLASS-FALSE, CLASS-ERROR}
 use Rattle.print.specs.Written.{Written}
 use Rattle.print.proofs.Writing.{written-append, written-as}
 use Rattle.listing.specs.Names.{unpadded}
+use Rattle.response.specs.Verdicts.{decisionOf}
 use Rattle.response.specs.Printed.{decisionBytes, classBytes}
 use Rattle.response.specs.declared.Decision.{Decision}
 
-pub decided : (d x : Decision) (q : List ℕ) → d ≡ x → decisionBytes x ≡ q → decisionBytes d ≡ q
-decided d x q e p = ap decisionBytes e ∙ p
+pub decided : (d x : Decision) (q : List ℕ) → d ≡ x → decisionBytes (decisionOf x) ≡ q → decisionBytes (decisionOf d) ≡ q
+decided d x q e p = ap (λ (y : Decision). decisionBytes (decisionOf y)) e ∙ p
 
-pub decision-line : (was w₁ w₂ is : List ℕ) (at k₁ k₂ next : ℕ) (d : Decision) (q : List ℕ) → decisionBytes d ≡ ascii "decision=" ++ (unpadded q ++ (10 ∷ []))
-    → Written was at (ascii "decision=") w₁ k₁ → Written w₁ k₁ (unpadded q) w₂ k₂ → Written w₂ k₂ (10 ∷ []) is next → Written was at (decisionBytes d) is next
+pub decision-line : (was w₁ w₂ is : List ℕ) (at k₁ k₂ next : ℕ) (d : Decision) (q : List ℕ) → decisionBytes (decisionOf d) ≡ ascii "decision=" ++ (unpadded q ++ (10 ∷ []))
+    → Written was at (ascii "decision=") w₁ k₁ → Written w₁ k₁ (unpadded q) w₂ k₂ → Written w₂ k₂ (10 ∷ []) is next → Written was at (decisionBytes (decisionOf d)) is next
 decision-line was w₁ w₂ is at k₁ k₂ next d q e u v w = written-as (written-append u (written-append v w)) (sym e)
 
 pub classed : (c n : ℕ) (q : List ℕ) → c ≡ n → q ≡ classBytes n → q ≡ classBytes c

@@ -25,12 +25,12 @@ ghost use Rattle.print.specs.Written.{Written};
 ghost use Rattle.sheet.specs.Bytes.{digits};
 ghost use Rattle.sheet.specs.Answer.{printed, numbers, countsOf, headLines, concat};
 ghost use Rattle.sheet.specs.Forms.{POLICY};
-ghost use Rattle.response.specs.Verdicts.{verdictsIn};
+ghost use Rattle.response.specs.Verdicts.{verdictsIn, decisionOf};
 ghost use Rattle.response.specs.Printed.{idBytes, decisionBytes, effectBytes, classBytes, listed, fourOf, policyAt, policyLines, completeBytes, rootedLines, partialBytes};
 
 // The line of the decision.
 pub fn decision_line(out: &mut [u8], at: usize, decision: Decision) -> usize
-    ensures { λ r. ⌜ Written (now (out .entry)) at (decisionBytes decision) (now (out .exit)) r ⌝ }
+    ensures { λ r. ⌜ Written (now (out .entry)) at (decisionBytes (decisionOf decision)) (now (out .exit)) r ⌝ }
 {
     let word = decision_name(decision);
     let k = bytes(out, at, b"decision=");

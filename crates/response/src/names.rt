@@ -7,6 +7,7 @@ ghost use mathlib.Core.Path.{_≡_};
 ghost use mathlib.Core.List.{[], _∷_, _++_};
 ghost use Rattle.sheet.specs.Ascii.{ascii};
 ghost use Rattle.listing.specs.Names.{unpadded};
+ghost use Rattle.response.specs.Verdicts.{decisionOf};
 ghost use Rattle.response.specs.Printed.{decisionBytes, classBytes};
 
 const NAME_ALLOW: [u8; 8] = *b"allow   ";
@@ -25,7 +26,7 @@ const AFTER_OPEN: [u8; 8] = *b",open   ";
 
 // What the line of a decision says.
 pub fn decision_name(decision: Decision) -> [u8; 8]
-    ensures { λ r. ⌜ decisionBytes decision ≡ ascii "decision=" ++ (unpadded r ++ (10 ∷ [])) ⌝ }
+    ensures { λ r. ⌜ decisionBytes (decisionOf decision) ≡ ascii "decision=" ++ (unpadded r ++ (10 ∷ [])) ⌝ }
 {
     match decision {
         Decision::Allow => NAME_ALLOW,
