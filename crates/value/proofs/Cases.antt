@@ -11,11 +11,9 @@ use Rattle.sheet.specs.Forms.{mark}
 use Rattle.value.specs.Lines.{placeOf}
 use Rattle.value.specs.Shapes.{shapeOf}
 use Rattle.value.specs.Made.{valuesIn, setRow, pairsOf, recordRow, lowerOf, leastOf}
-use Rattle.value.specs.Globs.{begins, blockOf, laterOf, stepOf}
+use Rattle.value.specs.Globs.{misses, endsAt, starAt, holds, fails, onTo, begins, blockOf, laterOf, stepOf}
 use Rattle.value.specs.declared.Shape.the-variants.{Bool as Boolˢ, Long, Entity, Set}
 use Rattle.value.specs.declared.Entry.the-variants.{At, Nothing}
-use Rattle.value.specs.declared.like.Block.the-variants.{Misses, Ends, Star}
-use Rattle.value.specs.declared.like.Step.the-variants.{Holds, Fails, On}
 
 -- texts 0 `a`, 1 `ab`, 2 empty
 texts : ℕ → List ℕ
@@ -30,11 +28,11 @@ like-is : block-cases ≡ true ∷ false ∷ true ∷ false ∷ []
 unfolding texts block-cases
 like-is = refl
 
-blocks : (blockOf texts 0 0 (0 ∷ mark ∷ 1 ∷ []) (97 ∷ 97 ∷ 98 ∷ []) ≡ Star 2 1) × (blockOf texts 2 1 (1 ∷ []) (97 ∷ 98 ∷ []) ≡ Ends 3) × (blockOf texts 2 2 (1 ∷ []) (98 ∷ []) ≡ Misses)
+blocks : (blockOf texts 0 0 (0 ∷ mark ∷ 1 ∷ []) (97 ∷ 97 ∷ 98 ∷ []) ≡ starAt 2 1) × (blockOf texts 2 1 (1 ∷ []) (97 ∷ 98 ∷ []) ≡ endsAt 3) × (blockOf texts 2 2 (1 ∷ []) (98 ∷ []) ≡ misses)
 unfolding texts begins blockOf
 blocks = (refl, refl, refl)
 
-steps : (stepOf 3 2 1 (Ends 3) ≡ Holds) × (stepOf 3 2 1 (Ends 2) ≡ On 2 2) × (stepOf 3 2 3 Misses ≡ Fails)
+steps : (stepOf 3 2 1 (endsAt 3) ≡ holds) × (stepOf 3 2 1 (endsAt 2) ≡ onTo 2 2) × (stepOf 3 2 3 misses ≡ fails)
 unfolding laterOf stepOf
 steps = (refl, refl, refl)
 
