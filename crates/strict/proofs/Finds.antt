@@ -25,7 +25,7 @@ use Rattle.sheet.specs.Content.{entityLine}
 use Rattle.table.specs.Layout.{base, rowsOf, held, linesHeld, heap}
 use Rattle.table.proofs.Rows.{count-rows, row-none, row-some, row-at-is}
 use Rattle.value.specs.Lines.{valueLines}
-use Rattle.value.specs.Shapes.{shapeOf, shapeRow, entryFound}
+use Rattle.value.specs.Shapes.{shapeOf, shapeRow, valueFound}
 use Rattle.value.specs.declared.Shape.{Shape}
 use Rattle.value.specs.declared.Shape.the-variants.{Bool as Boolˢ, Long, Text, Entity, Set, Record}
 use Rattle.value.specs.declared.Entry.{Entry}
@@ -250,29 +250,21 @@ module _ (c : Bool) (a : List ℕ) (k t j : ℕ) (e : Entry) (ee : lineAt (rowsO
 
 -- ---- a text in a record
 
-found-none : (o : Option ℕ) → entryFound o ≡ Nothing → o ≡ none
-found-none none e = refl
-found-none (some x) e = let z : _≡_ {A = ℕ} 0 1 = cc in absurd (omega arith)
-
-found-some : (o : Option ℕ) (x : ℕ) → entryFound o ≡ At x → o ≡ some x
-found-some none x e = let z : _≡_ {A = ℕ} 0 1 = cc in absurd (omega arith)
-found-some (some y) x e = let z : y ≡ x = cc in ap some z
-
 module _ (a : List ℕ) (v : ℕ) (q : List ℕ) (s : Shape) (eq : q ≡ getD (valueLines a) v []) (es : s ≡ shapeOf q) (u : ℕ) where
   pub look-bad : OneOf (0 ∷ 1 ∷ 2 ∷ 3 ∷ 4 ∷ []) (tagOf the-type s) → Bad ≡ lookRow (valueIn a v) u
   unfolding lookRow
   look-bad h = rw (value-shape a v q s eq es) (sym (other-record Bad (items q) s (λ e. lookFound (entryOf u e)) h))
 
-  module _ (z : s ≡ Record) (l : List ℕ) (el : l ≡ items q) (e : Entry) (ee : e ≡ entryFound (entryOf u (entriesOf l))) where
+  module _ (z : s ≡ Record) (l : List ℕ) (el : l ≡ items q) (e : Entry) (ee : valueFound e ≡ entryOf u (entriesOf l)) where
     look-row : lookRow (valueIn a v) u ≡ lookFound (entryOf u (entriesOf l))
     unfolding lookRow
     look-row = rw (value-shape a v q s eq es, z, el)
 
     pub look-missing : e ≡ Nothing → Missing ≡ lookRow (valueIn a v) u
-    look-missing y = sym (look-row ∙ ap lookFound (found-none (entryOf u (entriesOf l)) (sym ee ∙ y)))
+    look-missing y = sym (look-row ∙ ap lookFound (sym ee ∙ ap valueFound y))
 
     pub look-found : (x : ℕ) → e ≡ At x → Atˡ x ≡ lookRow (valueIn a v) u
-    look-found x y = sym (look-row ∙ ap lookFound (found-some (entryOf u (entriesOf l)) x (sym ee ∙ y)))
+    look-found x y = sym (look-row ∙ ap lookFound (sym ee ∙ ap valueFound y))
 
   pub attr-other : (c : Bool) (r : Look) → OneOf (0 ∷ 1 ∷ 2 ∷ 4 ∷ 5 ∷ []) (tagOf the-type s) → r ≡ lookRow (valueIn a v) u → r ≡ lookAttr c a v u
   unfolding lookAttr lookRow

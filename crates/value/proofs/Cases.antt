@@ -2,6 +2,7 @@
 use mathlib.Core.Path.{_≡_, refl}
 use mathlib.Core.Bool.{Bool, true, false}
 use mathlib.Core.List.{List, [], _∷_}
+use mathlib.Core.Option.{none, some}
 use Prim.Native.Nat.{ℕ}
 use lib.ListN.{getD}
 use Rattle.cedar.specs.Evaluate.{matches}
@@ -13,7 +14,6 @@ use Rattle.value.specs.Shapes.{shapeOf}
 use Rattle.value.specs.Made.{valuesIn, setRow, pairsOf, recordRow, lowerOf, leastOf}
 use Rattle.value.specs.Globs.{misses, endsAt, starAt, holds, fails, onTo, begins, blockOf, laterOf, stepOf}
 use Rattle.value.specs.declared.Shape.the-variants.{Bool as Boolˢ, Long, Entity, Set}
-use Rattle.value.specs.declared.Entry.the-variants.{At, Nothing}
 
 -- texts 0 `a`, 1 `ab`, 2 empty
 texts : ℕ → List ℕ
@@ -49,7 +49,7 @@ sets : setRow (0 ∷ 7 ∷ 4 ∷ 0 ∷ 0 ∷ 3 ∷ 4 ∷ 0 ∷ 0 ∷ 7 ∷ 4 ∷
 unfolding setRow valuesIn
 sets = refl
 
-least : (leastOf 4 Nothing (7 ∷ 3 ∷ 7 ∷ 5 ∷ []) ≡ At 5) × (leastOf 8 Nothing (7 ∷ 3 ∷ []) ≡ Nothing)
+least : (leastOf 4 none (7 ∷ 3 ∷ 7 ∷ 5 ∷ []) ≡ some 5) × (leastOf 8 none (7 ∷ 3 ∷ []) ≡ none)
 unfolding leastOf lowerOf
 least = (refl, refl)
 
