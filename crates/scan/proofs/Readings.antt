@@ -40,19 +40,19 @@ module _ (s : List ℕ) (c : Cursor) where
       go (no d) = let z : _≡_ {A = ℕ} 0 1 = let q = rw (le-leb (c .at) (length s) (omega arith)) at e in cc in absurd (omega arith)
 
   -- the first of them, where there is one
-  pub items-first : c .at ≤ length s → itemsAt s c ≡ part s (c .at) (itemEnd s c) ∷ partsFrom 44 s (itemEnd s c + 1)
-  items-first h = from-on 44 s (c .at) h ∙ split-at 44 s (c .at) (itemEnd s c) h refl
+  pub items-first : c .at ≤ length s → itemsAt s c ≡ part s (c .at) (itemEnd s (c .at)) ∷ partsFrom 44 s (itemEnd s (c .at) + 1)
+  items-first h = from-on 44 s (c .at) h ∙ split-at 44 s (c .at) (itemEnd s (c .at)) h refl
 
 -- an item that was read up to byte e, with the cursor after it
 pub record Walked (s : List ℕ) (c : Cursor) (e : ℕ) (next : Cursor) : Type 0 where
   pub begins : c .at ≤ length s
-  pub end : e ≡ itemEnd s c
+  pub end : e ≡ itemEnd s (c .at)
   pub within : e ≤ length s
   pub next-at : next .at ≡ e + 1
   pub line-kept : next .line ≡ c .line
   pub items : itemsAt s c ≡ part s (c .at) e ∷ itemsAt s next
 
-walked : (s : List ℕ) (c : Cursor) (e : ℕ) (next : Cursor) → c .at ≤ length s → e ≡ itemEnd s c → next ≡ place (c .line) (e + 1) → Walked s c e next
+walked : (s : List ℕ) (c : Cursor) (e : ℕ) (next : Cursor) → c .at ≤ length s → e ≡ itemEnd s (c .at) → next ≡ place (c .line) (e + 1) → Walked s c e next
 walked s c e next h f m =
     let a : next .at ≡ e + 1 = ap (λ (x : Cursor). x .at) m in
     record {
@@ -73,19 +73,19 @@ items-part s c e next q = go (decLt (length s) (c .at))
     go (no d) =
         let h : c .at ≤ length s = omega arith in
         let y = rw (le-leb (c .at) (length s) h) at q in
-        let f : e ≡ itemEnd s c = cc in
-        let m : next ≡ place (c .line) (itemEnd s c + 1) = cc in
+        let f : e ≡ itemEnd s (c .at) = cc in
+        let m : next ≡ place (c .line) (itemEnd s (c .at) + 1) = cc in
         walked s c e next h f (m ∙ ap (λ (i : ℕ). place (c .line) (i + 1)) (sym f))
 
 -- ---- numbers: the first item as an index
 
 -- an index that was read, with the cursor after it
 pub record Numbered (s : List ℕ) (c : Cursor) (n : ℕ) (next : Cursor) : Type 0 where
-  pub index-is : index (part s (c .at) (itemEnd s c)) ≡ some n
-  pub item : Walked s c (itemEnd s c) next
+  pub index-is : index (part s (c .at) (itemEnd s (c .at))) ≡ some n
+  pub item : Walked s c (itemEnd s (c .at)) next
 
-part-lead : (s : List ℕ) (c : Cursor) → part s (c .at) (itemEnd s c) ≡ lead (drop (c .at) s)
-part-lead s c = let z : itemEnd s c - c .at ≡ upTo 44 (drop (c .at) s) = omega arith in ap (λ (n : ℕ). take n (drop (c .at) s)) z
+part-lead : (s : List ℕ) (c : Cursor) → part s (c .at) (itemEnd s (c .at)) ≡ lead (drop (c .at) s)
+part-lead s c = let z : itemEnd s (c .at) - c .at ≡ upTo 44 (drop (c .at) s) = omega arith in ap (λ (n : ℕ). take n (drop (c .at) s)) z
 
 module _ (s : List ℕ) (c : Cursor) (n : ℕ) (next : Cursor) where
   handed-some : (k : ℕ) (o : Option ℕ) → C.the-variants.Value n next ≡ handed c (told k o) → (o ≡ some n) × (next ≡ place (c .line) (c .at + k + 1))
@@ -101,7 +101,7 @@ module _ (s : List ℕ) (c : Cursor) (n : ℕ) (next : Cursor) where
       go (no d) =
           let h : c .at ≤ length s = omega arith in
           let y = handed-some (upTo 44 (drop (c .at) s)) (index (lead (drop (c .at) s))) (rw (le-leb (c .at) (length s) h) at q) in
-          record { index-is = ap index (part-lead s c) ∙ y .0; item = walked s c (itemEnd s c) next h refl (y .1) }
+          record { index-is = ap index (part-lead s c) ∙ y .0; item = walked s c (itemEnd s (c .at)) next h refl (y .1) }
 
 -- ---- a key that is none of all: its line has no row
 

@@ -72,12 +72,13 @@ partsFrom b s a = cond (leb a (length s)) (split b (drop a s)) []
 abbrev pub itemsAt : List ℕ → Cursor → List (List ℕ)
 itemsAt s c = partsFrom 44 s (c .at)
 
--- the end of the first of them
-abbrev pub itemEnd : List ℕ → Cursor → ℕ
-itemEnd s c = c .at + upTo 44 (drop (c .at) s)
+-- the end of the item that begins at a byte
+abbrev pub itemEnd : List ℕ → ℕ → ℕ
+itemEnd s a = a + upTo 44 (drop a s)
 
+-- the first of the items at a cursor
 unfoldable pub itemAt : List ℕ → Cursor → I.Item
-itemAt s c = cond (leb (c .at) (length s)) (I.the-variants.Part (itemEnd s c) (place (c .line) (itemEnd s c + 1))) I.the-variants.End
+itemAt s c = cond (leb (c .at) (length s)) (I.the-variants.Part (itemEnd s (c .at)) (place (c .line) (itemEnd s (c .at) + 1))) I.the-variants.End
 
 -- the bytes before the first comma
 abbrev pub lead : List ℕ → List ℕ
