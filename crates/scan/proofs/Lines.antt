@@ -27,13 +27,9 @@ module _ (s : List ℕ) (c : Cursor) where
 
 -- ---- an index before the first comma
 
-pub told-some : (k : ℕ) (o : Option ℕ) (n m : ℕ) → D.the-variants.Index n m ≡ told k o → (o ≡ some n) × (m ≡ k)
+told-some : (k : ℕ) (o : Option ℕ) (n m : ℕ) → D.the-variants.Index n m ≡ told k o → (o ≡ some n) × (m ≡ k)
 told-some k none n m q = let z : _≡_ {A = ℕ} 0 1 = cc in absurd (omega arith)
 told-some k (some i) n m q = let a : i ≡ n = cc in let b : m ≡ k = cc in (ap some a, b)
-
-pub told-none : (k : ℕ) (o : Option ℕ) → D.the-variants.Other ≡ told k o → o ≡ none
-told-none k none q = refl
-told-none k (some i) q = let z : _≡_ {A = ℕ} 0 1 = cc in absurd (omega arith)
 
 pub leading-read : (s : List ℕ) (r : D.Leading) → r ≡ indexIn s → LeadingRead s r
 leading-read s r e = record { is = e; index-is = ap leadOf e ∙ by-index (index (lead s)) }
