@@ -12,8 +12,9 @@ use Rattle.sheet.specs.Answer.{answer}
 use Rattle.sheet.specs.Call.{returns, fitted, afterReading, readAs, over}
 use Rattle.line.specs.Codes.{modeOf}
 use Rattle.load.specs.Result.{Read}
-use Rattle.authorizer.specs.Parts.{afterLengths, Answers, Holding, Runs}
-use Rattle.authorizer.proofs.Sending.{gives-as}
+use Rattle.response.specs.Runs.{Holding, Runs}
+use Rattle.response.proofs.Sending.{gives-as}
+use Rattle.authorizer.specs.Parts.{afterLengths, Answers}
 
 -- 2
 pub too-long : (m : Mode) (sheet out : List ℕ) → 16384 < length sheet → Answers m sheet out 2 0 0 out
@@ -50,14 +51,14 @@ module _ (m : Mode) (sheet : List ℕ) (short : length sheet ≤ 16384) (a b a�
     accepted-is = ap (λ (n : ℕ). afterReading m (length out) (read m sheet .state) n (read m sheet .line)) (sym zero-read)
 
     -- 10, or accepted
-    pub accepted : (n k len : ℕ) (out′ : List ℕ) → Runs m sheet a′ b′ out n k len out′ → Answers m sheet out n k len out′
-    accepted n k len out′ s = gives-as (accepted-is ∙ is-read) (s holding)
+    pub accepted : (n len : ℕ) (out′ : List ℕ) → Runs m sheet a′ b′ out n len out′ → Answers m sheet out n 0 len out′
+    accepted n len out′ s = gives-as (accepted-is ∙ is-read) (s holding)
 
 -- by the test of the code
 module _ (p : Bool) (sheet : List ℕ) (short : length sheet ≤ 16384) (a b a′ b′ : List ℕ) (number line : ℕ) (x : Read (read (modeOf p) sheet) sheet a b a′ b′ number line) (z : number ≡ 0)
-    (out : List ℕ) (n k len : ℕ) (out′ : List ℕ) where
-  pub partial-when : p ≡ true → Runs partial sheet a′ b′ out n k len out′ → Answers (modeOf p) sheet out n k len out′
-  partial-when e s = accepted (modeOf p) sheet short a b a′ b′ number line x out z n k len out′ (rw e s)
+    (out : List ℕ) (n len : ℕ) (out′ : List ℕ) where
+  pub partial-when : p ≡ true → Runs partial sheet a′ b′ out n len out′ → Answers (modeOf p) sheet out n 0 len out′
+  partial-when e s = accepted (modeOf p) sheet short a b a′ b′ number line x out z n len out′ (rw e s)
 
-  pub complete-when : p ≡ false → Runs complete sheet a′ b′ out n k len out′ → Answers (modeOf p) sheet out n k len out′
-  complete-when e s = accepted (modeOf p) sheet short a b a′ b′ number line x out z n k len out′ (rw e s)
+  pub complete-when : p ≡ false → Runs complete sheet a′ b′ out n len out′ → Answers (modeOf p) sheet out n 0 len out′
+  complete-when e s = accepted (modeOf p) sheet short a b a′ b′ number line x out z n len out′ (rw e s)

@@ -1,7 +1,7 @@
 -- The laws of the code's `operands`: what the strict operations give is what the definition says for the node's tag. Assumes nothing.
 use mathlib.Core.Path.{_≡_, refl, sym, ap, _∙_, fun-ext}
 use mathlib.Core.Bool.{Bool, true, false}
-use mathlib.Core.Option.{Option, none, some}
+use mathlib.Core.Option.{none}
 use mathlib.Core.List.{List, [], _∷_}
 use Prim.Native.Nat.{ℕ, zero, suc, _+_, _-_, _≤_, _<_}
 use native.Mathlib.Omega.{arith}
@@ -10,28 +10,25 @@ use lib.ListN.{length, getD, take, drop, length-drop, List·getD-eq-default, dro
 use lib.Seq.{take-length, drop-drop, drop-cons}
 use Rattle.words.specs.Log.{part}
 use Rattle.cedar.specs.Value.{onSome}
-use Rattle.cedar.specs.Rows.{Row, rbool, rlong, rtext, rent, rset, rrec}
-use Rattle.cedar.specs.Numbered.{Give, NOut, fails, stays, truly, rRec, giveRow, entryOf, isSome, nentity, nlineOr, onEntries}
-use Rattle.sheet.specs.Forms.{items, at, mark, NODE}
+use Rattle.cedar.specs.Numbered.{NOut, fails, stays, truly, isSome}
+use Rattle.sheet.specs.Forms.{items, at, NODE}
 use Rattle.forms.specs.Tags.{EQ, LT, IN, GETTAG, HASTAG, CONTAINS, ALL, ANY, IF, IS, LIKE, GET, HAS, HASPATH, NOT, NEG, EMPTY, SET-OF}
-use Rattle.sheet.specs.Content.{lookUp, nEnv, lineGiven, schema}
+use Rattle.sheet.specs.Content.{schema}
 use Rattle.table.specs.Layout.{rowsOf, textAt, held}
 use Rattle.table.proofs.Rows.{above}
-use Rattle.strict.specs.Gives.{outOf, values, valueIn, modeOf, notOut, negOut, emptyOut, isOut, likeOut, arithOut, longsOut, containsOut, allOut, anyOut}
+use Rattle.strict.specs.Gives.{outOf, values, valueIn, notOut, negOut, emptyOut, isOut, likeOut, arithOut, longsOut, containsOut, allOut, anyOut}
 use Rattle.strict.specs.Gives as S
-use Rattle.strict.specs.Lookups.{stateIn, lineIn, partOfLine, partIn, lookFound, lookRow, lookIn, lookValue, lookAttr, inOut, gettagOut, hastagOut, walkStep, walkFrom}
+use Rattle.strict.specs.Lookups.{lookAttr, inOut, gettagOut, hastagOut, walkStep, walkFrom}
 use Rattle.strict.specs.Lookups as L
 use Rattle.strict.specs.declared.Given.{Given}
 use Rattle.strict.specs.declared.Given.the-variants.{Bool as Boolᵍ, Fails, Stays}
-use Rattle.strict.specs.declared.entity.Part.{Part}
-use Rattle.strict.specs.declared.entity.Part.the-variants.{Known, Empty, Unknown}
 use Rattle.strict.specs.declared.entity.Look.{Look}
 use Rattle.strict.specs.declared.entity.Look.the-variants.{At as Atˡ, Missing, Unknown as Unknownˡ, Bad}
 use Rattle.strict.specs.declared.entity.Walked.{Walked}
 use Rattle.strict.specs.declared.entity.Walked.the-variants.{Holds, Fails as Failsʷ, Left}
 use Rattle.strict.proofs.Links.{bytes-link}
+use Rattle.strict.proofs.Entities.{lookAs, in-value}
 use Rattle.tpe.specs.Run.{envIn, schemaIn}
-use Rattle.tpe.proofs.Walks.{partGive, known-or}
 use Rattle.evaluator.specs.Run.{nodeIn, pathOut, binOut, relOut, getOut, hasOut, walkOut, twoOut, unOut, oneOut}
 
 -- ---- words of a node
@@ -48,51 +45,9 @@ module _ (a : List ℕ) (n : ℕ) (r : List ℕ) (er : r ≡ getD (rowsOf a NODE
 pub like-is : (sheet a r p : List ℕ) (v : ℕ) (g : Given) → p ≡ r → outOf g ≡ likeOut (textAt sheet a) p (valueIn a v) → outOf g ≡ likeOut (textAt sheet a) r (valueIn a v)
 like-is sheet a r p v g ep e = e ∙ ap (λ (q : List ℕ). likeOut (textAt sheet a) q (valueIn a v)) ep
 
--- ---- a path: what a look-up finds
-
-abbrev lookAs : (Option ℕ → NOut) → Look → NOut
-lookAs g (Atˡ x) = g (some x)
-lookAs g Missing = g none
-lookAs g (Unknownˡ k) = stays
-lookAs g Bad = fails
+-- ---- a path
 
 module _ (a : List ℕ) where
-  attrs-is : (k t : ℕ) → nentity (S.envIn true a) k t .attrs ≡ partGive (partIn true a k t 1)
-  unfolding S.envIn nEnv partIn lineIn stateIn
-  attrs-is k t = go (lookUp (held [] a []) k t)
-    where
-      go : (o : Option (List ℕ)) → nlineOr (lineGiven (modeOf true) o) .attrs ≡ partGive (partOfLine true o 1)
-      go none = refl
-      go (some r) = known-or (at r 1) (eqb (at r 1) mark)
-
-  module _ (g : Option ℕ → NOut) (u : ℕ) where
-    found-as : (o : Option ℕ) → g o ≡ lookAs g (lookFound o)
-    found-as none = refl
-    found-as (some x) = refl
-
-    in-record : (r : Row) → rRec fails r (λ e. g (entryOf u e)) ≡ lookAs g (lookRow r u)
-    unfolding lookRow
-    in-record (rbool b) = refl
-    in-record (rlong n) = refl
-    in-record (rtext t) = refl
-    in-record (rent k t) = refl
-    in-record (rset l) = refl
-    in-record (rrec e) = found-as (entryOf u e)
-
-    in-part : (k : ℕ) (p : Part) → onSome stays (partGive p) (λ x. rRec fails (giveRow (values a) x) (λ e. g (entryOf u e))) ≡ lookAs g (lookIn a k p u)
-    unfolding valueIn
-    in-part k (Known n) = in-record (valueIn a n)
-    in-part k Empty = refl
-    in-part k Unknown = refl
-
-    in-value : (r : Row) → onEntries (S.envIn true a) (values a) fails (λ k i. stays) r (λ e. g (entryOf u e)) ≡ lookAs g (lookValue true a r u)
-    in-value (rbool b) = refl
-    in-value (rlong n) = refl
-    in-value (rtext t) = refl
-    in-value (rent k t) = ap (λ (o : Option Give). onSome stays o (λ x. rRec fails (giveRow (values a) x) (λ e. g (entryOf u e)))) (attrs-is k t) ∙ in-part k (partIn true a k t 1)
-    in-value (rset l) = refl
-    in-value (rrec e) = found-as (entryOf u e)
-
   -- the walk is the path
   abbrev walkedOut : Walked → NOut
   walkedOut (Holds b) = truly b
@@ -101,17 +56,17 @@ module _ (a : List ℕ) where
 
   walk-link : (ts : List ℕ) (t n i : ℕ) → pathOut (S.envIn true a) (values a) ts t n ≡ walkedOut (walkFrom true a n i (t ∷ ts))
   unfolding pathOut walkFrom lookAttr valueIn
-  walk-link [] t n i = in-value (λ o. truly (isSome o)) t (valueIn a n) ∙ go (lookAttr true a n t)
+  walk-link [] t n i = in-value true a fails (λ k. stays) (λ o. truly (isSome o)) t (valueIn a n) ∙ go (lookAttr true a n t)
     where
-      go : (l : Look) → lookAs (λ o. truly (isSome o)) l ≡ walkedOut (walkStep n i l true (λ x. walkFrom true a x (suc i) []))
+      go : (l : Look) → lookAs fails (λ k. stays) (λ o. truly (isSome o)) l ≡ walkedOut (walkStep n i l true (λ x. walkFrom true a x (suc i) []))
       go (Atˡ x) = refl
       go Missing = refl
       go (Unknownˡ k) = refl
       go Bad = refl
-  walk-link (u ∷ us) t n i = in-value (λ o. onSome (truly false) o (pathOut (S.envIn true a) (values a) us u)) t (valueIn a n) ∙ go (lookAttr true a n t) (λ x. walk-link us u x (suc i))
+  walk-link (u ∷ us) t n i = in-value true a fails (λ k. stays) (λ o. onSome (truly false) o (pathOut (S.envIn true a) (values a) us u)) t (valueIn a n) ∙ go (lookAttr true a n t) (λ x. walk-link us u x (suc i))
     where
       go : (l : Look) → ((x : ℕ) → pathOut (S.envIn true a) (values a) us u x ≡ walkedOut (walkFrom true a x (suc i) (u ∷ us)))
-          → lookAs (λ o. onSome (truly false) o (pathOut (S.envIn true a) (values a) us u)) l ≡ walkedOut (walkStep n i l false (λ x. walkFrom true a x (suc i) (u ∷ us)))
+          → lookAs fails (λ k. stays) (λ o. onSome (truly false) o (pathOut (S.envIn true a) (values a) us u)) l ≡ walkedOut (walkStep n i l false (λ x. walkFrom true a x (suc i) (u ∷ us)))
       go (Atˡ x) ih = ih x
       go Missing ih = refl
       go (Unknownˡ k) ih = refl

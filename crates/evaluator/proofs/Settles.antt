@@ -33,20 +33,20 @@ use Rattle.strict.proofs.Shapes.{value-shape, other-bool}
 use Rattle.tpe.specs.Run.{envIn}
 use Rattle.tpe.proofs.Settling.{long-words, var-last}
 use Rattle.evaluator.specs.Run.{yields, values, madeOf, giveOf, settleOf, optOf, onYield, next, boolOnly, envOf, classOf}
-use Rattle.evaluator.specs.Gave.{Gave, truthOf, truthIn}
+use Rattle.evaluator.specs.Gave.{Gave, truthOf, asBool, yieldBool}
 use Rattle.evaluator.specs.declared.Yield.{Yield}
 use Rattle.evaluator.specs.declared.Yield.the-variants.{Value, Error}
 use Rattle.evaluator.specs.declared.Truth.{Truth}
 use Rattle.evaluator.specs.declared.Truth.the-variants.{Is, Other}
 
 module _ (a : List ℕ) (v : ℕ) (q : List ℕ) (s : Shape) (eq : q ≡ getD (valueLines a) v []) (es : s ≡ shapeOf q) where
-  pub truth-is : (b : Bool) → s ≡ Boolˢ b → Is b ≡ truthOf (valueIn a v)
-  unfolding truthOf
+  pub truth-is : (b : Bool) → s ≡ Boolˢ b → truthOf (Is b) ≡ asBool (valueIn a v)
+  unfolding asBool
   truth-is b e = rw (value-shape a v q s eq es, e)
 
-  pub truth-other : OneOf (1 ∷ 2 ∷ 3 ∷ 4 ∷ 5 ∷ []) (tagOf the-type s) → Other ≡ truthOf (valueIn a v)
-  unfolding truthOf
-  truth-other h = rw (value-shape a v q s eq es) (sym (other-bool Other (items q) s Is h))
+  pub truth-other : OneOf (1 ∷ 2 ∷ 3 ∷ 4 ∷ 5 ∷ []) (tagOf the-type s) → truthOf Other ≡ asBool (valueIn a v)
+  unfolding asBool
+  truth-other h = rw (value-shape a v q s eq es) (sym (other-bool none (items q) s some h))
 
 module _ (a is : List ℕ) (g : Given) where
   pub settle-bool : (b : Bool) (n : ℕ) → g ≡ Boolᵍ b → Made a (boolRow b) is n → Gave (settleOf a (outOf g)) is (Value n)
@@ -73,8 +73,8 @@ module _ (a : List ℕ) (g : Given) where
 -- ---- a bool or not
 
 module _ {A : Type 0} (d : A) (f : Bool → A) where
-  pub on-is : (r : Row) (x : Bool) → truthOf r ≡ Is x → rBool d r f ≡ f x
-  unfolding truthOf
+  pub on-is : (r : Row) (x : Bool) → asBool r ≡ some x → rBool d r f ≡ f x
+  unfolding asBool
   on-is (rbool b) x e = let z : b ≡ x = cc in ap f z
   on-is (rlong n) x e = let z : _≡_ {A = ℕ} 0 1 = cc in absurd (omega arith)
   on-is (rtext t) x e = let z : _≡_ {A = ℕ} 0 1 = cc in absurd (omega arith)
@@ -82,8 +82,8 @@ module _ {A : Type 0} (d : A) (f : Bool → A) where
   on-is (rset l) x e = let z : _≡_ {A = ℕ} 0 1 = cc in absurd (omega arith)
   on-is (rrec g) x e = let z : _≡_ {A = ℕ} 0 1 = cc in absurd (omega arith)
 
-  pub on-other : (r : Row) → truthOf r ≡ Other → rBool d r f ≡ d
-  unfolding truthOf
+  pub on-other : (r : Row) → asBool r ≡ none → rBool d r f ≡ d
+  unfolding asBool
   on-other (rbool b) e = let z : _≡_ {A = ℕ} 0 1 = cc in absurd (omega arith)
   on-other (rlong n) e = refl
   on-other (rtext t) e = refl
@@ -92,13 +92,13 @@ module _ {A : Type 0} (d : A) (f : Bool → A) where
   on-other (rrec g) e = refl
 
 module _ (a : List ℕ) (y : Yield) where
-  pub truth-error : y ≡ Error → Other ≡ truthIn a y
-  unfolding truthIn
+  pub truth-error : y ≡ Error → truthOf Other ≡ yieldBool a y
+  unfolding yieldBool
   truth-error e = rw e
 
-  pub truth-value : (v : ℕ) (t : Truth) → y ≡ Value v → t ≡ truthOf (valueIn a v) → t ≡ truthIn a y
-  unfolding truthIn valueIn S.values
-  truth-value v t e h = h ∙ ap (truthIn a) (sym e)
+  pub truth-value : (v : ℕ) (t : Truth) → y ≡ Value v → truthOf t ≡ asBool (valueIn a v) → truthOf t ≡ yieldBool a y
+  unfolding yieldBool valueIn S.values
+  truth-value v t e h = h ∙ ap (yieldBool a) (sym e)
 
   pub only-error : y ≡ Error → Gave (boolOnly (yields a y)) a Error
   unfolding boolOnly next onYield
@@ -108,34 +108,34 @@ module _ (a : List ℕ) (y : Yield) where
   unfolding classOf
   class-error e = rw e
 
-  module _ (v : ℕ) (e : y ≡ Value v) (t : Truth) (et : t ≡ truthOf (valueIn a v)) where
+  module _ (v : ℕ) (e : y ≡ Value v) (t : Truth) (et : truthOf t ≡ asBool (valueIn a v)) where
     abbrev the : Row
     the = rowAt (values a) v
 
-    says : truthOf the ≡ t
+    says : asBool the ≡ truthOf t
     unfolding valueIn S.values
     says = sym et
 
     pub only-is : (x : Bool) → t ≡ Is x → Gave (boolOnly (yields a y)) a (Value v)
     unfolding boolOnly next onYield
-    only-is x h = rw (e, on-is (yields a Error) (λ b. yields a (Value v)) the x (says ∙ h)) (record { words = refl; yield = refl })
+    only-is x h = rw (e, on-is (yields a Error) (λ b. yields a (Value v)) the x (says ∙ ap truthOf h)) (record { words = refl; yield = refl })
 
     pub only-other : t ≡ Other → Gave (boolOnly (yields a y)) a Error
     unfolding boolOnly next onYield
-    only-other h = rw (e, on-other (yields a Error) (λ b. yields a (Value v)) the (says ∙ h)) (record { words = refl; yield = refl })
+    only-other h = rw (e, on-other (yields a Error) (λ b. yields a (Value v)) the (says ∙ ap truthOf h)) (record { words = refl; yield = refl })
 
     class-by : classOf a y ≡ rBool copen the truth
     unfolding classOf
     class-by = ap (classOf a) e
 
     pub class-open : t ≡ Other → CLASS-OPEN ≡ classNumber (classOf a y)
-    class-open h = sym (ap classNumber (class-by ∙ on-other copen truth the (says ∙ h)))
+    class-open h = sym (ap classNumber (class-by ∙ on-other copen truth the (says ∙ ap truthOf h)))
 
     pub class-true : (x : Bool) → t ≡ Is x → x ≡ true → CLASS-TRUE ≡ classNumber (classOf a y)
-    class-true x h z = sym (ap classNumber (class-by ∙ on-is copen truth the x (says ∙ h) ∙ ap truth z))
+    class-true x h z = sym (ap classNumber (class-by ∙ on-is copen truth the x (says ∙ ap truthOf h) ∙ ap truth z))
 
     pub class-false : (x : Bool) → t ≡ Is x → x ≡ false → CLASS-FALSE ≡ classNumber (classOf a y)
-    class-false x h z = sym (ap classNumber (class-by ∙ on-is copen truth the x (says ∙ h) ∙ ap truth z))
+    class-false x h z = sym (ap classNumber (class-by ∙ on-is copen truth the x (says ∙ ap truthOf h) ∙ ap truth z))
 
 -- ---- the request
 

@@ -2,6 +2,7 @@
 use mathlib.Core.Path.{_≡_, refl, sym, ap, _∙_}
 use mathlib.Core.Bool.{Bool, true, false, cond, not}
 use mathlib.Core.List.{List, [], _∷_}
+use mathlib.Core.Option.{none, some}
 use Prim.Native.Nat.{ℕ, zero, suc, _+_, _-_, _≤_, _<_}
 use native.Mathlib.Omega.{arith}
 use borrow.Author.Tests.{lt-ltb, le-ltb}
@@ -21,7 +22,7 @@ use Rattle.value.specs.Made.{boolRow, Made, MadeBeside, setRow, recordRow, writ
 use Rattle.residual.specs.Rows.{litRow}
 use Rattle.residual.specs.Classes.{classNumber}
 use Rattle.evaluator.specs.Run.{E, Rec, Step, Kids, Ran, yields, values, nodeIn, policyIn, madeOf, settleOf, optOf, onYield, next, onBool, boolOnly, sideOf, branchOf, kids, nextKid, kidsOf, manyOf, envOf, litStep, errStep, varStep, lazyStep, ifStep, oneStep, twoStep, setStep, recStep, binOut, unOut, twos, twoOut, each, ones, oneOut, steps, stepAt, stepOf, evalOf, classOf, ranFrom, runOf}
-use Rattle.evaluator.specs.Gave.{Gave, GaveBeside, Left, Done, truthIn, sameBool}
+use Rattle.evaluator.specs.Gave.{Gave, GaveBeside, Left, Done, truthOf, yieldBool, sameBool}
 use Rattle.evaluator.specs.declared.Yield.{Yield}
 use Rattle.evaluator.specs.declared.Yield.the-variants.{Value, Error}
 use Rattle.evaluator.specs.declared.Truth.{Truth}
@@ -44,13 +45,13 @@ gave-on o e is y bt b b₁ h k g = gave-end o is y bt b b₁ (h ∙ is-yields e 
 gave-after : (o e : E) (is : List ℕ) (y : Yield) (bt : ℕ) (b b₁ b₂ : List ℕ) → o ≡ e → take bt b₁ ≡ take bt b → GaveBeside e is y bt b₁ b₂ → GaveBeside o is y bt b b₂
 gave-after o e is y bt b b₁ b₂ h k g = gave-end o is y bt b b₂ (h ∙ is-yields e is y (g .words) (g .yield)) (g .log ∙ k)
 
-truth-on : (is : List ℕ) (y : Yield) (k : List ℕ → Bool → E) (x : Bool) → truthIn is y ≡ Is x → onBool (yields is y) k ≡ k is x
-unfolding onBool next onYield truthIn
+truth-on : (is : List ℕ) (y : Yield) (k : List ℕ → Bool → E) (x : Bool) → yieldBool is y ≡ some x → onBool (yields is y) k ≡ k is x
+unfolding onBool next onYield yieldBool
 truth-on is (Value v) k x t = on-is (yields is Error) (k is) (rowAt (values is) v) x t
 truth-on is Error k x t = let z : _≡_ {A = ℕ} 0 1 = cc in absurd (omega arith)
 
-truth-off : (is : List ℕ) (y : Yield) (k : List ℕ → Bool → E) → truthIn is y ≡ Other → onBool (yields is y) k ≡ yields is Error
-unfolding onBool next onYield truthIn
+truth-off : (is : List ℕ) (y : Yield) (k : List ℕ → Bool → E) → yieldBool is y ≡ none → onBool (yields is y) k ≡ yields is Error
+unfolding onBool next onYield yieldBool
 truth-off is (Value v) k t = on-other (yields is Error) (k is) (rowAt (values is) v) t
 truth-off is Error k t = refl
 
@@ -117,19 +118,19 @@ module _ (sheet a b : List ℕ) (bt n d : ℕ) where
 
     -- ---- and, or, if: the first operand as a bool
 
-    module _ (t : Truth) (et : t ≡ truthIn a₁ y) where
+    module _ (t : Truth) (et : truthOf t ≡ yieldBool a₁ y) where
       pub lazy-other : (z : Bool) → t ≡ Other → GaveBeside (lazyStep z (evalOf sheet d) a (take bt b) n (nodeIn a n)) a₁ Error bt b b₁
       unfolding lazyStep
-      lazy-other z e = gave-end _ a₁ Error bt b b₁ (ap (λ (o : E). onBool o (sideOf z (evalOf sheet d) (take bt b) (at (nodeIn a n) 2))) first ∙ truth-off a₁ y (sideOf z (evalOf sheet d) (take bt b) (at (nodeIn a n) 2)) (sym et ∙ e)) (g .log)
+      lazy-other z e = gave-end _ a₁ Error bt b b₁ (ap (λ (o : E). onBool o (sideOf z (evalOf sheet d) (take bt b) (at (nodeIn a n) 2))) first ∙ truth-off a₁ y (sideOf z (evalOf sheet d) (take bt b) (at (nodeIn a n) 2)) (sym et ∙ ap truthOf e)) (g .log)
 
       pub if-other : t ≡ Other → GaveBeside (ifStep (evalOf sheet d) a (take bt b) n (nodeIn a n)) a₁ Error bt b b₁
       unfolding ifStep
-      if-other e = gave-end _ a₁ Error bt b b₁ (ap (λ (o : E). onBool o (branchOf (evalOf sheet d) (take bt b) (at (nodeIn a n) 2) (at (nodeIn a n) 3))) first ∙ truth-off a₁ y (branchOf (evalOf sheet d) (take bt b) (at (nodeIn a n) 2) (at (nodeIn a n) 3)) (sym et ∙ e)) (g .log)
+      if-other e = gave-end _ a₁ Error bt b b₁ (ap (λ (o : E). onBool o (branchOf (evalOf sheet d) (take bt b) (at (nodeIn a n) 2) (at (nodeIn a n) 3))) first ∙ truth-off a₁ y (branchOf (evalOf sheet d) (take bt b) (at (nodeIn a n) 2) (at (nodeIn a n) 3)) (sym et ∙ ap truthOf e)) (g .log)
 
       module _ (x₁ : Bool) (e : t ≡ Is x₁) where
         lazy-side : (z : Bool) → lazyStep z (evalOf sheet d) a (take bt b) n (nodeIn a n) ≡ sideOf z (evalOf sheet d) (take bt b) (at (nodeIn a n) 2) a₁ x₁
         unfolding lazyStep
-        lazy-side z = ap (λ (o : E). onBool o (sideOf z (evalOf sheet d) (take bt b) (at (nodeIn a n) 2))) first ∙ truth-on a₁ y (sideOf z (evalOf sheet d) (take bt b) (at (nodeIn a n) 2)) x₁ (sym et ∙ e)
+        lazy-side z = ap (λ (o : E). onBool o (sideOf z (evalOf sheet d) (take bt b) (at (nodeIn a n) 2))) first ∙ truth-on a₁ y (sideOf z (evalOf sheet d) (take bt b) (at (nodeIn a n) 2)) x₁ (sym et ∙ ap truthOf e)
 
         pub lazy-made : (z q : Bool) (a₂ : List ℕ) (v : ℕ) → q ≡ sameBool x₁ z → q ≡ true → Made a₁ (boolRow z) a₂ v → GaveBeside (lazyStep z (evalOf sheet d) a (take bt b) n (nodeIn a n)) a₂ (Value v) bt b b₁
         unfolding madeOf
@@ -143,7 +144,7 @@ module _ (sheet a b : List ℕ) (bt n d : ℕ) where
 
         if-side : ifStep (evalOf sheet d) a (take bt b) n (nodeIn a n) ≡ branchOf (evalOf sheet d) (take bt b) (at (nodeIn a n) 2) (at (nodeIn a n) 3) a₁ x₁
         unfolding ifStep
-        if-side = ap (λ (o : E). onBool o (branchOf (evalOf sheet d) (take bt b) (at (nodeIn a n) 2) (at (nodeIn a n) 3))) first ∙ truth-on a₁ y (branchOf (evalOf sheet d) (take bt b) (at (nodeIn a n) 2) (at (nodeIn a n) 3)) x₁ (sym et ∙ e)
+        if-side = ap (λ (o : E). onBool o (branchOf (evalOf sheet d) (take bt b) (at (nodeIn a n) 2) (at (nodeIn a n) 3))) first ∙ truth-on a₁ y (branchOf (evalOf sheet d) (take bt b) (at (nodeIn a n) 2) (at (nodeIn a n) 3)) x₁ (sym et ∙ ap truthOf e)
 
         module _ (w : ℕ) (a₂ b₂ : List ℕ) (u : Yield) (h : GaveBeside (evalOf sheet d a₁ (take bt b₁) w) a₂ u bt b₁ b₂) where
           branch-is : (m : ℕ) → w ≡ m → evalOf sheet d a₁ (take bt b) m ≡ evalOf sheet d a₁ (take bt b₁) w

@@ -2,6 +2,7 @@
 use mathlib.Core.Path.{_≡_}
 use mathlib.Core.Bool.{Bool, true, false, not}
 use mathlib.Core.List.{List}
+use mathlib.Core.Option.{Option, none, some}
 use Prim.Native.Nat.{ℕ}
 use lib.ListN.{length, take}
 use Rattle.words.specs.Log.{Holds}
@@ -37,13 +38,19 @@ pub record Done (t : Ran) (a b : List ℕ) (n : ℕ) : Type 0 where
   pub log : take n b ≡ t .log
   pub end : n ≡ length (t .log)
 
-unfoldable pub truthOf : Row → Truth
-truthOf r = rBool Other r Is
+-- a bool, or none: as the code answers it
+abbrev pub truthOf : Truth → Option Bool
+truthOf (Is b) = some b
+truthOf Other = none
 
--- an error is no bool
-unfoldable pub truthIn : List ℕ → Yield → Truth
-truthIn a (Value v) = truthOf (rowAt (values a) v)
-truthIn a Error = Other
+-- as a value's row says it
+unfoldable pub asBool : Row → Option Bool
+asBool r = rBool none r some
+
+-- and a yield; an error is no bool
+unfoldable pub yieldBool : List ℕ → Yield → Option Bool
+yieldBool a (Value v) = asBool (rowAt (values a) v)
+yieldBool a Error = none
 
 unfoldable pub sameBool : Bool → Bool → Bool
 sameBool true z = z

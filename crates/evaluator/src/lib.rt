@@ -52,7 +52,7 @@ ghost use Rattle.table.specs.Layout.{rowsOf};
 ghost use Rattle.residual.specs.Classes.{classNumber};
 ghost use Rattle.strict.specs.Gives.{outOf, valueIn};
 ghost use Rattle.evaluator.specs.Run.{yields, nodeIn, settleOf, optOf, boolOnly, kidsOf, envOf, oneOut, twoOut, lazyStep, ifStep, oneStep, twoStep, setStep, recStep, stepAt, evalOf, classOf, runOf};
-ghost use Rattle.evaluator.specs.Gave.{Gave, GaveBeside, Left, Done, truthOf, truthIn, sameBool};
+ghost use Rattle.evaluator.specs.Gave.{Gave, GaveBeside, Left, Done, truthOf, asBool, yieldBool, sameBool};
 
 // What a node yields: a value, by its number, or an error.
 pub enum Yield {
@@ -74,7 +74,7 @@ pub struct Children {
 
 // What a value says as a bool.
 pub fn as_bool(rows: &[u32], value: u32) -> Truth
-    ensures { λ t. ⌜ t ≡ truthOf (valueIn (now (rows .entry)) value) ⌝ }
+    ensures { λ t. ⌜ truthOf t ≡ asBool (valueIn (now (rows .entry)) value) ⌝ }
 {
     let shape = shape_of(row_of(rows, value as usize));
     let Shape::Bool(x) = shape else {
@@ -85,7 +85,7 @@ pub fn as_bool(rows: &[u32], value: u32) -> Truth
 
 // What a yield says as a bool.
 fn truth_of(rows: &[u32], yielded: Yield) -> Truth
-    ensures { λ t. ⌜ t ≡ truthIn (now (rows .entry)) yielded ⌝ }
+    ensures { λ t. ⌜ truthOf t ≡ yieldBool (now (rows .entry)) yielded ⌝ }
 {
     let Yield::Value(value) = yielded else {
         return Truth::Other;

@@ -3,7 +3,7 @@ use mathlib.Core.Path.{_≡_, refl, sym, ap, _∙_}
 use mathlib.Core.Bool.{Bool, true, false, _&&_, not}
 use mathlib.Core.Logic.{⊎-elim}
 use mathlib.Core.List.{List, []}
-use mathlib.Core.Option.{Option, none, some}
+use mathlib.Core.Option.{none, some}
 use Prim.Native.Nat.{ℕ, suc, _+_, _-_, _≤_, _<_}
 use native.Mathlib.Omega.{arith}
 use borrow.Author.Tests.{not-true, not-false}
@@ -15,7 +15,7 @@ use Rattle.sheet.specs.State.{declareds, entriesOf}
 use Rattle.sheet.specs.Typing.{declaredIn, allIn, allEntries, fitsIn}
 use Rattle.forms.specs.Tags.{SET-TYPE, RECORD-TYPE, SET-VALUE, RECORD-VALUE}
 use Rattle.table.specs.Layout.{rowsOf, TYPEDEPTHS}
-use Rattle.fits.specs.Fit.{completeIn, declaredBy, found, setFits, recordFits, tagsFitBy, rowsFit, Leaf, marked, withPair, SettledIn, deep, full, Known, Ran, Answered}
+use Rattle.fits.specs.Fit.{completeIn, declaredBy, foundIn, setFits, recordFits, tagsFitBy, rowsFit, Leaf, marked, withPair, SettledIn, deep, full, Known, Ran, Answered}
 use Rattle.fits.specs.declared.Found as F
 use Rattle.fits.proofs.Walks.{next, entries-end, entries-one, entries-on}
 use Rattle.fits.proofs.Sorts.{set-is, set-not, record-is, record-lacks, record-not}
@@ -98,16 +98,6 @@ module _ (a r : List ℕ) (y d : ℕ) where
 
 -- ---- `entries`
 
-pub found-some : (o : Option ℕ) (z : ℕ) → found o ≡ F.the-variants.As z → o ≡ some z
-unfolding found
-found-some none z e = let q : _≡_ {A = ℕ} 0 1 = cc in absurd (omega arith)
-found-some (some w) z e = cc
-
-pub found-none : (o : Option ℕ) → found o ≡ F.the-variants.Undeclared → o ≡ none
-unfolding found
-found-none none e = refl
-found-none (some w) e = let q : _≡_ {A = ℕ} 0 1 = cc in absurd (omega arith)
-
 module _ (a r y : List ℕ) (d : ℕ) where
   abbrev left : (ℕ → ℕ → Bool) → ℕ → Bool
   left f i = allEntries (λ t x. onSome false (declaredIn t (declareds (items y))) (f x)) (entriesOf (drop i r))
@@ -130,14 +120,14 @@ module _ (a r y : List ℕ) (d : ℕ) where
         let e : (f : ℕ → ℕ → Bool) → left f i ≡ true = λ f. rw (entries-one r i l h) in
         walk-end (walk-as (e (deep a d)) (e (full a)) (w .walk))
 
-    module _ (u : ℕ) (g : F.Found) (l : i < length r) (h : i + 1 ≡ length r → ⊥) (eu : u ≡ getD r i 0) (eg : g ≡ found (declaredBy y u)) where
+    module _ (u : ℕ) (g : F.Found) (l : i < length r) (h : i + 1 ≡ length r → ⊥) (eu : u ≡ getD r i 0) (eg : foundIn g ≡ declaredBy y u) where
       on : (f : ℕ → ℕ → Bool) (x : ℕ) → x ≡ getD r (i + 1) 0 → left f i ≡ (onSome false (declaredIn u (declareds (items y))) (f x) && left f (i + 2))
       on f x e = rw (entries-on r i (omega arith), ← eu, ← e)
 
       pub entries-undeclared : g ≡ F.the-variants.Undeclared → Ran a m n (recordFits (deep a d) r y) (recordFits (full a) r y) false
       unfolding declaredBy
       entries-undeclared e =
-          let q : declaredIn u (declareds (items y)) ≡ none = found-none (declaredBy y u) (sym eg ∙ e) in
+          let q : declaredIn u (declareds (items y)) ≡ none = sym eg ∙ ap foundIn e in
           let p : (f : ℕ → ℕ → Bool) → left f i ≡ false = λ f. on f (getD r (i + 1) 0) refl ∙ rw q in
           walk-no (walk-as (p (deep a d)) (p (full a)) (w .walk))
 
@@ -145,7 +135,7 @@ module _ (a r y : List ℕ) (d : ℕ) where
         on-as : (f : ℕ → ℕ → Bool) → left f i ≡ (f x z && left f (i + 2))
         unfolding declaredBy
         on-as f =
-            let p : declaredIn u (declareds (items y)) ≡ some z = found-some (declaredBy y u) z (sym eg ∙ e) in
+            let p : declaredIn u (declareds (items y)) ≡ some z = sym eg ∙ ap foundIn e in
             on f x ex ∙ rw p
 
         stepped : Walk a m n (recordFits (deep a d) r y) (recordFits (full a) r y) (deep a d x z && left (deep a d) (i + 2)) (full a x z && left (full a) (i + 2))

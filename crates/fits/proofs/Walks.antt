@@ -15,7 +15,7 @@ use Rattle.cedar.specs.Numbered.{entryOf, isSome}
 use Rattle.sheet.specs.Forms.{items}
 use Rattle.sheet.specs.State.{declareds, entriesOf}
 use Rattle.sheet.specs.Typing.{declaredIn, requiredThere}
-use Rattle.fits.specs.Fit.{hasIn, completeIn, metAt, declaredBy, found}
+use Rattle.fits.specs.Fit.{hasIn, completeIn, metAt, declaredBy, foundIn}
 use Rattle.fits.specs.declared.Found as F
 
 -- ---- the items from i on
@@ -95,20 +95,17 @@ unfolding declaredBy
 declared-start y t = record { left = refl }
 
 module _ (y : List ℕ) (t i : ℕ) (inv : Declares y t i) where
-  pub declared-few : length y - i < 3 → F.the-variants.Undeclared ≡ found (declaredBy y t)
-  unfolding found
-  declared-few h = sym (ap found (inv .left ∙ ap (declaredIn t) (declareds-few y i h)))
+  pub declared-few : length y - i < 3 → foundIn F.the-variants.Undeclared ≡ declaredBy y t
+  declared-few h = sym (inv .left ∙ ap (declaredIn t) (declareds-few y i h))
 
-  pub declared-end : length y ≤ i → F.the-variants.Undeclared ≡ found (declaredBy y t)
-  unfolding found
-  declared-end h = sym (ap found (inv .left ∙ ap (declaredIn t) (declareds-end y i h)))
+  pub declared-end : length y ≤ i → foundIn F.the-variants.Undeclared ≡ declaredBy y t
+  declared-end h = sym (inv .left ∙ ap (declaredIn t) (declareds-end y i h))
 
   module _ (x : ℕ) (h : i < length y) (n : 3 ≤ length y - i) (ex : x ≡ getD y i 0) where
-    pub declared-hit : (z : ℕ) → t ≡ x → z ≡ getD y (i + 2) 0 → F.the-variants.As z ≡ found (declaredBy y t)
-    unfolding found
+    pub declared-hit : (z : ℕ) → t ≡ x → z ≡ getD y (i + 2) 0 → foundIn (F.the-variants.As z) ≡ declaredBy y t
     declared-hit z e ez =
         let q : declaredIn t (declareds (drop i y)) ≡ some z = rw (declareds-on y i (omega arith), ← ex, eq-eqb t x e, ← ez) in
-        sym (ap found (inv .left ∙ q))
+        sym (inv .left ∙ q)
 
     pub declared-on : (t ≡ x → ⊥) → Declares y t (i + 3)
     declared-on e = record { left = inv .left ∙ rw (declareds-on y i (omega arith), ← ex, ne-eqb t x e) }

@@ -30,13 +30,13 @@ completeIn r y = requiredThere (declareds (items y)) (hasIn r)
 unfoldable pub metAt : List ℕ → List ℕ → ℕ → Bool
 metAt r y i = not (eqb (getD y (i + 1) 0) REQUIRED) || hasIn r (getD y i 0)
 
--- the type that record type y declares for attribute t, and the answer of a search for it
+-- the type that record type y declares for attribute t, and what the answer of a search says
 unfoldable pub declaredBy : List ℕ → ℕ → Option ℕ
 declaredBy y t = declaredIn t (declareds (items y))
 
-unfoldable pub found : Option ℕ → F.Found
-found none = F.the-variants.Undeclared
-found (some y) = F.the-variants.As y
+abbrev pub foundIn : F.Found → Option ℕ
+foundIn (F.the-variants.As y) = some y
+foundIn F.the-variants.Undeclared = none
 
 unfoldable pub setFits : (ℕ → ℕ → Bool) → List ℕ → ℕ → Bool
 setFits f r y = allIn (λ x. f x y) (items r)

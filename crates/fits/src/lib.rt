@@ -26,7 +26,7 @@ ghost use Rattle.fits.specs.Fit.{
   completeIn,
   metAt,
   declaredBy,
-  found,
+  foundIn,
   setFits,
   recordFits,
   tagsFitBy,
@@ -73,7 +73,7 @@ pub enum Found {
 
 // The type that a record type declares for this attribute.
 pub fn declared(type_row: &[u32], text: u32) -> Found
-    ensures { λ f. ⌜ f ≡ found (declaredBy (now («type_row» .entry)) text) ⌝ }
+    ensures { λ f. ⌜ foundIn f ≡ declaredBy (now («type_row» .entry)) text ⌝ }
 {
     let mut i: usize = 1;
     while i < type_row.len() {

@@ -14,20 +14,24 @@ use lib.ListN.{length, getD, take, drop, set}
 use lib.Seq.{lt-length-set, take-set-le, drop-set-lt, drop-cons, getD-set-same, getD-set-other}
 use Rattle.sheet.specs.Ascii.{ascii}
 use Rattle.words.specs.Log.{part, room}
-use Rattle.sheet.specs.Bytes.{upTo, same, split, index, long}
+use Rattle.sheet.specs.Bytes.{same, split, index, long}
 use Rattle.sheet.specs.Forms.{partial, complete, entry, line, lineOr, lineUnknown, number, nothing, dash, asterisk, mark, placeIn, wordNumber, one, markOr, isPartial, item}
 use Rattle.scan.specs.declared.Number as N
+use Rattle.scan.specs.declared.Cursor.{Cursor}
+use Rattle.scan.specs.declared.Item as I
+use Rattle.scan.specs.declared.Counted as C
 use Rattle.scan.specs.Numbers.{numberOf, placed}
+use Rattle.scan.specs.Places.{itemEnd, itemsBy, ItemRead, NumberRead}
 use Rattle.sheet.proofs.TwoSheets.{same-is}
 use Rattle.scan.proofs.Scans.{same-last, comparing-never}
 use Rattle.scan.proofs.Decimals.{index-small}
 use Rattle.scan.proofs.Wordlists.{words-are}
+use Rattle.scan.proofs.Readings.{items-first, items-part, numbered}
 use Rattle.forms.specs.Tags.{PERMIT, FORBID}
 use Rattle.forms.proofs.Tests.{NoneOf}
 use Rattle.forms.specs.Rows.{NUMBER, ENTRY, KIND-LETTER, FIELD-LETTER, BIT, PART-LETTER, EFFECT, LINE, UNKNOWN, DASH, STAR, slotOf, specials}
 use Rattle.line.specs.Codes.{modeOf}
-use Rattle.line.specs.declared.Digits as D
-use Rattle.line.specs.Written.{told, indexAt, Item, After}
+use Rattle.line.specs.Written.{Item, After}
 
 -- ---- words
 
@@ -205,24 +209,6 @@ slot-low p s f x z e = go p (ltb s LINE) (ltb s UNKNOWN) (ltb s DASH) (ltb s STA
 
 -- ---- an index, where a line may stand
 
-told-some : (e₁ : ℕ) (o : Option ℕ) (n e : ℕ) → D.the-variants.Index n e ≡ told e₁ o → (o ≡ some n) × (e ≡ e₁)
-told-some e₁ none n e q = let z : _≡_ {A = ℕ} 0 1 = cc in absurd (omega arith)
-told-some e₁ (some m) n e q = let a : m ≡ n = cc in let b : e ≡ e₁ = cc in (ap some a, b)
-
-told-none : (e : ℕ) (o : Option ℕ) → D.the-variants.Other ≡ told e o → o ≡ none
-told-none e none q = refl
-told-none e (some m) q = let z : _≡_ {A = ℕ} 0 1 = cc in absurd (omega arith)
-
--- what the answer of the reader of indices says
-module _ (s : List ℕ) (a : ℕ) (d : D.Digits) (h : d ≡ indexAt s a) where
-  pub untold : d ≡ D.the-variants.Other → index (part s a (a + upTo 44 (drop a s))) ≡ none
-  untold g = told-none (a + upTo 44 (drop a s)) (index (part s a (a + upTo 44 (drop a s)))) (sym g ∙ h)
-
-  pub index-told : (n e : ℕ) → d ≡ D.the-variants.Index n e → (index (part s a e) ≡ some n) × (e ≡ a + upTo 44 (drop a s))
-  index-told n e g =
-      let q = told-some (a + upTo 44 (drop a s)) (index (part s a (a + upTo 44 (drop a s)))) n e (sym g ∙ h) in
-      (ap (λ (i : ℕ). index (part s a i)) (q .1) ∙ q .0, q .1)
-
 unmarked : (b : ℕ) (f : List ℕ) (n : ℕ) → index (b ∷ []) ≡ none → index f ≡ some n → same f (b ∷ []) ≡ false
 unmarked b f n m e = go (same f (b ∷ [])) refl
   where
@@ -343,16 +329,23 @@ module _ (p : Bool) (s k : ℕ) (f w : List ℕ) (m : N.Number) where
             wide = λ z. item-wide p s f (x ∷ []) one-is;
           }
 
--- ---- the item after a separator
+-- ---- the item at a cursor
 
-module _ (p : Bool) (s w : List ℕ) (a slot k : ℕ) where
-  pub next-index : (d : D.Digits) (n e : ℕ) → LINE ≤ slot → d ≡ indexAt s (a + 1) → d ≡ D.the-variants.Index n e → k + 2 ≤ room → room ≤ length w
-      → After (modeOf p) s w (set w k n) a slot k e 1
-  next-index d n e h hd g l₁ l₂ =
-      let q = index-told s (a + 1) d hd n e g in
-      let f = part s (a + 1) e in
-      record { end = q .1; put = put-one p slot k f w (N.the-variants.Value n) (slot-index p slot f n h (q .0)) n refl (l₁, l₂) }
+-- within a value there is one
+pub item-there : {X : Type 0} (s : List ℕ) (c : Cursor) (i : I.Item) → ItemRead s c i → c .at ≤ length s → i ≡ I.the-variants.End → X
+item-there s c i q h g = absurd (omega (arith, ap length (q .items ∙ ap (itemsBy s c) g), ap length (items-first s c h)))
 
-  pub next-part : (f : List ℕ) (e r : ℕ) (w₂ : List ℕ) → e ≡ a + 1 + upTo 44 (drop (a + 1) s) → f ≡ part s (a + 1) e → Item (item (modeOf p) (slotOf slot) f) f w w₂ slot k r
-      → After (modeOf p) s w w₂ a slot k e r
-  next-part f e r w₂ he hf i = record { end = he; put = rw (← hf) i }
+module _ (p : Bool) (s w : List ℕ) (c : Cursor) (slot k : ℕ) where
+  pub next-index : (d : C.Counted) (n : ℕ) (next : Cursor) → LINE ≤ slot → NumberRead s c d → d ≡ C.the-variants.Value n next → k + 2 ≤ room → room ≤ length w
+      → After (modeOf p) s w (set w k n) (c .at) slot k (next .at) 1
+  next-index d n next h hd g l₁ l₂ =
+      let q = numbered s c n next (sym g ∙ hd .is) in
+      let f = part s (c .at) (itemEnd s (c .at)) in
+      record { next = q .item .next-at; put = put-one p slot k f w (N.the-variants.Value n) (slot-index p slot f n h (q .index-is)) n refl (l₁, l₂) }
+
+  pub next-part : (i : I.Item) (e : ℕ) (next : Cursor) (f : List ℕ) (r : ℕ) (w₂ : List ℕ) → ItemRead s c i → i ≡ I.the-variants.Part e next → f ≡ part s (c .at) e → Item (item (modeOf p) (slotOf slot) f) f w w₂ slot k r
+      → After (modeOf p) s w w₂ (c .at) slot k (next .at) r
+  next-part i e next f r w₂ hi g hf j =
+      let q = items-part s c e next (sym g ∙ hi .is) in
+      let hf₂ : f ≡ part s (c .at) (itemEnd s (c .at)) = hf ∙ ap (part s (c .at)) (q .end) in
+      record { next = q .next-at ∙ ap (λ (x : ℕ). x + 1) (q .end); put = rw (← hf₂) j }

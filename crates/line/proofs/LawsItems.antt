@@ -13,9 +13,9 @@ use Rattle.words.specs.Log.{part}
 use Rattle.words.specs.Bits.{byteOf}
 use Rattle.words.proofs.Stores.{length-part}
 use Rattle.sheet.specs.Forms.{Mode, Slot, formOf, slotAt, counted, item, joined, itemsFrom}
-use Rattle.scan.specs.Places.{partsAfter}
+use Rattle.scan.specs.Places.{partsFrom, itemEnd}
 use Rattle.scan.proofs.Scans.{drop-take}
-use Rattle.scan.proofs.Splits.{found-le, split-parts, split-at, after-on, after-end}
+use Rattle.scan.proofs.Splits.{found-le, split-parts, split-at, from-on, from-end}
 use Rattle.forms.specs.Tags.{LONG-VALUE}
 use Rattle.line.specs.Codes.{modeOf, SlotAt}
 use Rattle.line.specs.Written.{given, countedFrom, Kept, After, Items}
@@ -69,23 +69,23 @@ counted-cons m t j f fs =
     go false o = sym (joined-none (item m (slotAt t j) f))
 
 pub record Walk (s : List ℕ) (p : Bool) (t : ℕ) (w₀ : List ℕ) (e₀ j₀ k₀ : ℕ) (w : List ℕ) (e j k : ℕ) : Type 0 where
-  pub items : countedFrom (modeOf p) t j₀ (partsAfter 44 s e₀) ≡ joined (some (take (k - k₀) (drop k₀ w))) (countedFrom (modeOf p) t j (partsAfter 44 s e))
+  pub items : countedFrom (modeOf p) t j₀ (partsFrom 44 s e₀) ≡ joined (some (take (k - k₀) (drop k₀ w))) (countedFrom (modeOf p) t j (partsFrom 44 s e))
   pub kept : Kept w₀ w k₀
   pub long : length w ≡ length w₀
   pub grows : k₀ ≤ k
   pub further : e₀ ≤ e
-  pub near : e ≤ length s
+  pub near : e ≤ length s + 1
   pub within : j ≤ length (formOf t .items) + length (formOf t .group)
   pub full : j ≡ length (formOf t .items) + length (formOf t .group) → length (formOf t .group) ≡ 0
   pub first : t ≡ LONG-VALUE → j ≡ 0 → k ≡ k₀
   pub room : 2 * k + e₀ ≤ 2 * k₀ + e + 2
   pub close : (t ≡ LONG-VALUE → ⊥) → 2 * k + e₀ ≤ 2 * k₀ + e
 
-pub walk-start : (s : List ℕ) (p : Bool) (t : ℕ) (w : List ℕ) (e j k : ℕ) → e ≤ length s → j ≤ length (formOf t .items) → Walk s p t w e j k w e j k
+pub walk-start : (s : List ℕ) (p : Bool) (t : ℕ) (w : List ℕ) (e j k : ℕ) → e ≤ length s + 1 → j ≤ length (formOf t .items) → Walk s p t w e j k w e j k
 walk-start s p t w e j k h l =
     let z : k - k ≡ 0 = omega arith in
     record {
-      items = sym (rw z (joined-empty (countedFrom (modeOf p) t j (partsAfter 44 s e))));
+      items = sym (rw z (joined-empty (countedFrom (modeOf p) t j (partsFrom 44 s e))));
       kept = record { below = refl; rest = refl };
       long = refl;
       grows = omega arith;
@@ -101,7 +101,7 @@ walk-start s p t w e j k h l =
 module _ (s : List ℕ) (p : Bool) (t : ℕ) (w₀ : List ℕ) (e₀ j₀ k₀ : ℕ) (w : List ℕ) (e j k : ℕ) (u : Walk s p t w₀ e₀ j₀ k₀ w e j k) (n g : ℕ)
     (hn : (n ≡ length (formOf t .items)) × (n ≤ 4)) (hg : (g ≡ length (formOf t .group)) × (g ≤ 3)) where
   -- no row
-  refused : (w₂ : List ℕ) → Kept w w₂ k → countedFrom (modeOf p) t j (partsAfter 44 s e) ≡ none → Items (countedFrom (modeOf p) t j₀ (partsAfter 44 s e₀)) w₀ w₂ t k₀ 0 e₀ (length s)
+  refused : (w₂ : List ℕ) → Kept w w₂ k → countedFrom (modeOf p) t j (partsFrom 44 s e) ≡ none → Items (countedFrom (modeOf p) t j₀ (partsFrom 44 s e₀)) w₀ w₂ t k₀ 0 e₀ (length s)
   refused w₂ h o =
       record {
         items = u .items ∙ ap (joined (some (take (k - k₀) (drop k₀ w)))) o;
@@ -111,18 +111,18 @@ module _ (s : List ℕ) (p : Bool) (t : ℕ) (w₀ : List ℕ) (e₀ j₀ k₀ :
         grows = λ y. absurd (omega arith);
       }
 
-  uncounted : counted t (j + length (partsAfter 44 s e)) ≡ false → Items (countedFrom (modeOf p) t j₀ (partsAfter 44 s e₀)) w₀ w t k₀ 0 e₀ (length s)
+  uncounted : counted t (j + length (partsFrom 44 s e)) ≡ false → Items (countedFrom (modeOf p) t j₀ (partsFrom 44 s e₀)) w₀ w t k₀ 0 e₀ (length s)
   uncounted o = refused w (record { below = refl; rest = refl }) (rw o refl)
 
-  module _ (h : length s ≤ e) where
-    none-left : j + length (partsAfter 44 s e) ≡ j
-    none-left = ap (λ (l : List (List ℕ)). j + length l) (after-end 44 s e h) ∙ omega arith
+  module _ (h : length s < e) where
+    none-left : j + length (partsFrom 44 s e) ≡ j
+    none-left = ap (λ (l : List (List ℕ)). j + length l) (from-end 44 s e h) ∙ omega arith
 
-    pub walk-end : j ≡ n → 1 ≤ k₀ → Items (countedFrom (modeOf p) t j₀ (partsAfter 44 s e₀)) w₀ w t k₀ k e₀ (length s)
+    pub walk-end : j ≡ n → 1 ≤ k₀ → Items (countedFrom (modeOf p) t j₀ (partsFrom 44 s e₀)) w₀ w t k₀ k e₀ (length s)
     walk-end q l =
         let x = take (k - k₀) (drop k₀ w) in
         let z : j + 0 ≡ n = omega arith in
-        let o : countedFrom (modeOf p) t j (partsAfter 44 s e) ≡ some [] = rw (after-end 44 s e h) (rw (z, counted-equal t n g hn hg) refl) in
+        let o : countedFrom (modeOf p) t j (partsFrom 44 s e) ≡ some [] = rw (from-end 44 s e h) (rw (z, counted-equal t n g hn hg) refl) in
         record {
           items = u .items ∙ rw o (ap some (append-nil x)) ∙ sym (given-some k x (omega (arith, u .grows)));
           kept = u .kept;
@@ -131,7 +131,7 @@ module _ (s : List ℕ) (p : Bool) (t : ℕ) (w₀ : List ℕ) (e₀ j₀ k₀ :
           grows = λ z. u .grows;
         }
 
-    pub walk-short : (j ≡ n → ⊥) → Items (countedFrom (modeOf p) t j₀ (partsAfter 44 s e₀)) w₀ w t k₀ 0 e₀ (length s)
+    pub walk-short : (j ≡ n → ⊥) → Items (countedFrom (modeOf p) t j₀ (partsFrom 44 s e₀)) w₀ w t k₀ 0 e₀ (length s)
     walk-short q = uncounted (ap (counted t) none-left ∙ go (decLt j n) (ℕ-discrete j (n + g)))
       where
         go : Dec (j < n) → Dec (j ≡ n + g) → counted t j ≡ false
@@ -139,12 +139,12 @@ module _ (s : List ℕ) (p : Bool) (t : ℕ) (w₀ : List ℕ) (e₀ j₀ k₀ :
         go (no d) (yes x) = absurd (omega (arith, u .full (omega (arith, hn .0, hg .0)), hg .0))
         go (no d) (no x) = counted-within t n g hn hg j (omega arith) (omega (arith, u .within, hn .0, hg .0))
 
-  module _ (h : e < length s) where
-    pub walk-long : j ≡ n + g → Items (countedFrom (modeOf p) t j₀ (partsAfter 44 s e₀)) w₀ w t k₀ 0 e₀ (length s)
+  module _ (h : e ≤ length s) where
+    pub walk-long : j ≡ n + g → Items (countedFrom (modeOf p) t j₀ (partsFrom 44 s e₀)) w₀ w t k₀ 0 e₀ (length s)
     walk-long q =
         let z : g ≡ 0 = omega (arith, u .full (omega (arith, hn .0, hg .0)), hg .0) in
-        let more : 1 ≤ length (partsAfter 44 s e) = omega (arith, ap length (after-on 44 s e h ∙ split-parts 44 (drop (e + 1) s))) in
-        uncounted (counted-alone t n g hn hg (j + length (partsAfter 44 s e)) (omega arith) z)
+        let more : 1 ≤ length (partsFrom 44 s e) = omega (arith, ap length (from-on 44 s e h ∙ split-parts 44 (drop e s))) in
+        uncounted (counted-alone t n g hn hg (j + length (partsFrom 44 s e)) (omega arith) z)
 
     module _ (slots x e₂ r : ℕ) (w₂ : List ℕ) (hs : Places t slots) (hx : x ≡ byteOf slots j) (ne : j ≡ n + g → ⊥) (y : After (modeOf p) s w w₂ e x k e₂ r) where
       inside : j < n + g
@@ -153,32 +153,32 @@ module _ (s : List ℕ) (p : Bool) (t : ℕ) (w₀ : List ℕ) (e₀ j₀ k₀ :
       at : SlotAt t j x
       at = slot-here t n g hn hg j slots x inside hs hx
 
-      begins : e + 1 ≤ length s
-      begins = omega arith
+      inside-item : itemEnd s e ≤ length s
+      inside-item = found-le 44 s e (itemEnd s e) h refl
 
-      pub walk-near : (e < e₂) × (e₂ ≤ length s)
-      walk-near = (omega (arith, y .end), found-le 44 s (e + 1) e₂ begins (y .end))
+      pub walk-near : (e < e₂) × (e₂ ≤ length s + 1)
+      walk-near = (omega (arith, y .next), omega (arith, y .next, inside-item))
 
-      parts : partsAfter 44 s e ≡ part s (e + 1) e₂ ∷ partsAfter 44 s e₂
-      parts = after-on 44 s e h ∙ split-at 44 s (e + 1) e₂ begins (y .end)
+      parts : partsFrom 44 s e ≡ part s e (itemEnd s e) ∷ partsFrom 44 s e₂
+      parts = rw (y .next) (from-on 44 s e h ∙ split-at 44 s e (itemEnd s e) h refl)
 
-      here : countedFrom (modeOf p) t j (partsAfter 44 s e) ≡ joined (given r (take r (drop k w₂))) (countedFrom (modeOf p) t (j + 1) (partsAfter 44 s e₂))
+      here : countedFrom (modeOf p) t j (partsFrom 44 s e) ≡ joined (given r (take r (drop k w₂))) (countedFrom (modeOf p) t (j + 1) (partsFrom 44 s e₂))
       here =
-          ap (countedFrom (modeOf p) t j) parts ∙ counted-cons (modeOf p) t j (part s (e + 1) e₂) (partsAfter 44 s e₂)
-          ∙ ap (λ (o : Option (List ℕ)). joined o (countedFrom (modeOf p) t (j + 1) (partsAfter 44 s e₂))) (ap (λ (l : Slot). item (modeOf p) l (part s (e + 1) e₂)) (sym (at .is)) ∙ y .put .item)
+          ap (countedFrom (modeOf p) t j) parts ∙ counted-cons (modeOf p) t j (part s e (itemEnd s e)) (partsFrom 44 s e₂)
+          ∙ ap (λ (o : Option (List ℕ)). joined o (countedFrom (modeOf p) t (j + 1) (partsFrom 44 s e₂))) (ap (λ (l : Slot). item (modeOf p) l (part s e (itemEnd s e))) (sym (at .is)) ∙ y .put .item)
 
-      pub walk-bad : r ≡ 0 → Items (countedFrom (modeOf p) t j₀ (partsAfter 44 s e₀)) w₀ w₂ t k₀ 0 e₀ (length s)
-      walk-bad z = refused w₂ (y .put .kept) (here ∙ none-given r z (take r (drop k w₂)) (countedFrom (modeOf p) t (j + 1) (partsAfter 44 s e₂)))
+      pub walk-bad : r ≡ 0 → Items (countedFrom (modeOf p) t j₀ (partsFrom 44 s e₀)) w₀ w₂ t k₀ 0 e₀ (length s)
+      walk-bad z = refused w₂ (y .put .kept) (here ∙ none-given r z (take r (drop k w₂)) (countedFrom (modeOf p) t (j + 1) (partsFrom 44 s e₂)))
 
       module _ (z : r ≡ 0 → ⊥) (l : length w₂ ≡ length w) where
         far : e + 2 ≤ e₂
-        far = omega (arith, y .put .wide (omega arith), length-part s (e + 1) e₂ (walk-near .1))
+        far = omega (arith, y .put .wide (omega arith), length-part s e (itemEnd s e) inside-item, y .next)
 
-        moved : (j₂ : ℕ) → countedFrom (modeOf p) t (j + 1) (partsAfter 44 s e₂) ≡ countedFrom (modeOf p) t j₂ (partsAfter 44 s e₂) → j₂ ≤ length (formOf t .items) + length (formOf t .group)
+        moved : (j₂ : ℕ) → countedFrom (modeOf p) t (j + 1) (partsFrom 44 s e₂) ≡ countedFrom (modeOf p) t j₂ (partsFrom 44 s e₂) → j₂ ≤ length (formOf t .items) + length (formOf t .group)
             → (j₂ ≡ length (formOf t .items) + length (formOf t .group) → length (formOf t .group) ≡ 0) → (t ≡ LONG-VALUE → j₂ ≡ 0 → ⊥) → Walk s p t w₀ e₀ j₀ k₀ w₂ e₂ j₂ (k + r)
         moved j₂ same in₂ full₂ first₂ =
             let b = take r (drop k w₂) in
-            let o = countedFrom (modeOf p) t j₂ (partsAfter 44 s e₂) in
+            let o = countedFrom (modeOf p) t j₂ (partsFrom 44 s e₂) in
             let a = take (k - k₀) (drop k₀ w) in
             record {
               items = u .items ∙ ap (joined (some a)) (here ∙ ap (joined (given r b)) same ∙ ap (λ (y : Option (List ℕ)). joined y o) (given-some r b (omega arith)))
@@ -207,4 +207,4 @@ module _ (s : List ℕ) (p : Bool) (t : ℕ) (w₀ : List ℕ) (e₀ j₀ k₀ :
 
         pub walk-again : j + 1 ≡ n + g → Walk s p t w₀ e₀ j₀ k₀ w₂ e₂ n (k + r)
         walk-again q =
-            moved n (place-again t n g hn hg (modeOf p) (partsAfter 44 s e₂) (j + 1) q) (omega (arith, hn .0)) (λ d. omega (arith, d, hn .0)) (λ d c. one-long t n (hn .0) d c)
+            moved n (place-again t n g hn hg (modeOf p) (partsFrom 44 s e₂) (j + 1) q) (omega (arith, hn .0)) (λ d. omega (arith, d, hn .0)) (λ d c. one-long t n (hn .0) d c)

@@ -7,22 +7,23 @@ use Prim.Native.Nat.{ℕ, zero, suc, _+_, _-_, _*_, _≤_, _<_}
 use native.Mathlib.Omega.{arith}
 use borrow.Author.Tests.{ne-eqb, le-leb, lt-leb, ltb-true}
 use lib.Dec.{leb, ltb, eqb}
-use lib.ListN.{length, take, drop, set, length-drop}
+use lib.ListN.{length, take, drop, set}
 use lib.Seq.{take-set-le, drop-set-lt, lt-length-set, length-take-le}
 use Rattle.words.specs.Log.{part, room}
+use Rattle.words.proofs.Stores.{length-part}
 use Rattle.sheet.specs.Ascii.{ascii}
 use Rattle.sheet.specs.Bytes.{upTo, split, same, printable}
 use Rattle.sheet.specs.Forms.{Form, entry, plain, keys, wordNumber, forms, formOf, formIn, tagOf, keyOf, counted, orEmpty, itemsFrom, rowHeaded, heading, rowOfText, rowOfValue, tag, noKey, SHEET, TEXT, NODE}
 use Rattle.scan.specs.declared.Cursor.{Cursor}
 use Rattle.scan.specs.declared.Heading as H
 use Rattle.scan.specs.declared.Line as L
-use Rattle.scan.specs.Places.{place, keyed, headingOf, entered, lineTo, lineAt}
-use Rattle.scan.proofs.Scans.{drop-take}
+use Rattle.scan.specs.Places.{place, keyed, headingOf, entered, lineTo, lineAt, itemsAt}
+use Rattle.scan.proofs.Splits.{from-on}
 use Rattle.scan.proofs.Wordlists.{word-number}
 use Rattle.table.specs.Layout.{textRow}
 use Rattle.forms.specs.Tags.{TEXT-LINE}
 use Rattle.line.specs.Codes.{modeOf}
-use Rattle.line.specs.Written.{Row, Text, Line, rowFrom, rowRoom}
+use Rattle.line.specs.Written.{Row, Text, Line, Entry, rowFrom, rowRoom}
 use Rattle.line.proofs.LawsItem.{one-word, two-words}
 use Rattle.line.proofs.LawsItems.{more-words}
 use Rattle.line.proofs.LawsTag.{wide, placed-wide, tag-key}
@@ -119,51 +120,54 @@ text-full : (v : List ℕ) (t : Bool) → cond t (TEXT-LINE ∷ v) [] ≡ [] →
 text-full v true x = absurd (omega (arith, ap length x))
 text-full v false x = refl
 
-pub front-long : (sheet s : List ℕ) (end : ℕ) → s ≡ take end sheet → end ≤ length sheet → length s ≡ end
-front-long sheet s end hs high = ap length hs ∙ length-take-le end sheet high
-
-module _ (sheet w w₂ s : List ℕ) (p : Bool) (k top r end : ℕ) (c : Cursor) (hs : s ≡ take end sheet) (low : c .at < end) (high : end ≤ length sheet) where
-  long : length s ≡ end
-  long = front-long sheet s end hs high
-
-  value-is : drop (c .at + 1) s ≡ part sheet (c .at + 1) end
-  value-is = ap (drop (c .at + 1)) hs ∙ drop-take end (c .at + 1) sheet
-
-  pub entry-row : (k ≡ TEXT → ⊥) → Row (rowHeaded (modeOf p) k (heading k (split 44 (drop (c .at + 1) s)))) w w₂ top r (rowRoom k (length s - (c .at + 1)))
-      → Line sheet (rowOfValue (modeOf p) k (part sheet (c .at + 1) end)) w w₂ top r (end + 4 - c .at)
-  entry-row n g = rw (← value-is) (by-value (drop (c .at + 1) s) g)
+module _ (w w₂ v : List ℕ) (p : Bool) (k top r start : ℕ) where
+  pub entry-row : (c : Cursor) → c .at ≡ 0 → (k ≡ TEXT → ⊥) → Row (rowHeaded (modeOf p) k (heading k (itemsAt v c))) w w₂ top r (rowRoom k (length v - c .at))
+      → Entry v start (rowOfValue (modeOf p) k v) w w₂ top r
+  entry-row c z n g₀ =
+      let items : itemsAt v c ≡ split 44 v = from-on 44 v (c .at) (omega arith) ∙ ap (λ (a : ℕ). split 44 (drop a v)) z in
+      let size : length v - c .at ≡ length v = omega arith in
+      let g = rw (items, size) at g₀ in
+      record { line = λ sheet within. by-value sheet g }
     where
-      by-value : (v : List ℕ) → Row (rowHeaded (modeOf p) k (heading k (split 44 v))) w w₂ top r (rowRoom k (length s - (c .at + 1))) → Line sheet (rowOfValue (modeOf p) k v) w w₂ top r (end + 4 - c .at)
-      by-value v g =
+      by-value : (sheet : List ℕ) → Row (rowHeaded (modeOf p) k (heading k (split 44 v))) w w₂ top r (rowRoom k (length v)) → Line sheet (rowOfValue (modeOf p) k v) w w₂ top r (length v + 5)
+      by-value sheet g =
           let hd = heading k (split 44 v) in
           let t = tagOf k (hd .name) in
           let b = counted t (length (hd .items)) in
           let o = itemsFrom (modeOf p) t 0 (hd .items) in
           let row : rowOfValue (modeOf p) k v ≡ rowHeaded (modeOf p) k hd = rw (ne-eqb k TEXT n) refl in
-          let fits : 2 * r ≤ length s - (c .at + 1) + 5 = tight-row k r (length s - (c .at + 1)) (g .tight) in
           record {
             words = ap (rowFrom sheet) (g .words) ∙ from-row sheet t b o (tag-not-text k (hd .name) n) ∙ sym row;
             empty = λ y. row ∙ no-length (rowHeaded (modeOf p) k hd) (sym y ∙ g .count);
             full = λ y. g .count ∙ ap length (sym row ∙ y);
             kept = g .kept;
-            tight = omega (arith, fits, long);
-            node = λ y. omega (arith, tight-node k r (length s - (c .at + 1)) (row-key k NODE t (hd .name) b o (omega arith) refl (ap keyOf (sym row) ∙ y)) (g .tight), long);
+            tight = omega (arith, tight-row k r (length v) (g .tight));
+            node = λ y. omega (arith, tight-node k r (length v) (row-key k NODE t (hd .name) b o (omega arith) refl (ap keyOf (sym row) ∙ y)) (g .tight));
           }
 
-  pub entry-text : (v : List ℕ) → v ≡ drop (c .at + 1) s → k ≡ TEXT → Text (c .at + 1) (length v) w w₂ top r → Line sheet (rowOfValue (modeOf p) k (part sheet (c .at + 1) end)) w w₂ top r (end + 4 - c .at)
-  entry-text v hv n g =
-      let size : length v ≡ end - (c .at + 1) = ap length hv ∙ length-drop (c .at + 1) s ∙ ap (λ (i : ℕ). i - (c .at + 1)) long in
-      let q : c .at + 1 + length v ≡ end = omega arith in
-      let is : v ≡ part sheet (c .at + 1) end = hv ∙ value-is in
-      let row : rowOfValue (modeOf p) k (part sheet (c .at + 1) end) ≡ rowOfText v = rw (n, is) refl in
+  pub entry-text : k ≡ TEXT → Text start (length v) w w₂ top r → Entry v start (rowOfValue (modeOf p) k v) w w₂ top r
+  entry-text n g =
+      let row : rowOfValue (modeOf p) k v ≡ rowOfText v = rw n refl in
       record {
-        words = ap (rowFrom sheet) (g .words) ∙ text-from sheet v (c .at + 1) (leb (length v) 128) (is ∙ ap (part sheet (c .at + 1)) (sym q)) ∙ sym row;
-        empty = λ y. row ∙ text-none v (leb (length v) 128) (sym y ∙ g .count);
-        full = λ y. g .count ∙ text-full v (leb (length v) 128) (sym row ∙ y);
-        kept = g .kept;
-        tight = omega (arith, tight-text (leb (length v) 128) r (g .count));
-        node = λ y. absurd (text-key v (leb (length v) 128) (ap keyOf (sym row) ∙ y));
+        line = λ sheet within. record {
+          words = ap (rowFrom sheet) (g .words) ∙ text-from sheet v start (leb (length v) 128) within ∙ sym row;
+          empty = λ y. row ∙ text-none v (leb (length v) 128) (sym y ∙ g .count);
+          full = λ y. g .count ∙ text-full v (leb (length v) 128) (sym row ∙ y);
+          kept = g .kept;
+          tight = omega (arith, tight-text (leb (length v) 128) r (g .count));
+          node = λ y. absurd (text-key v (leb (length v) 128) (ap keyOf (sym row) ∙ y));
+        };
       }
+
+-- the value of a line that ends at byte e of a sheet, with its `=` at byte a
+module _ (sheet v : List ℕ) (a e : ℕ) (hv : v ≡ part sheet (a + 1) e) (low : a < e) (high : e ≤ length sheet) where
+  pub value-long : length v + 5 ≡ e + 4 - a
+  value-long = omega (arith, ap length hv, length-part sheet (a + 1) e high)
+
+  pub entered-line : (p : Bool) (k top r : ℕ) (w w₂ : List ℕ) → Entry v (a + 1) (rowOfValue (modeOf p) k v) w w₂ top r → Line sheet (rowOfValue (modeOf p) k (part sheet (a + 1) e)) w w₂ top r (e + 4 - a)
+  entered-line p k top r w w₂ g =
+      let q : a + 1 + length v ≡ e = omega (arith, value-long) in
+      rw (← hv, ← value-long) (g .line sheet (hv ∙ ap (part sheet (a + 1)) (sym q)))
 
 -- ---- the row of a line by its heading
 

@@ -1,5 +1,4 @@
 pub mod LawsTable
-pub mod LawsIndex
 pub mod LawsItem
 pub mod LawsItems
 pub mod LawsTag

@@ -7,21 +7,11 @@ use Prim.Native.Nat.{ℕ, zero, suc, _+_, _-_, _*_, _≤_}
 use lib.Dec.{leb, eqb}
 use lib.ListN.{length, take, drop}
 use Rattle.words.specs.Log.{part, room}
-use Rattle.sheet.specs.Bytes.{upTo, index}
 use Rattle.sheet.specs.Forms.{Mode, item, itemsFrom, counted, keyOf, NODE}
 use Rattle.table.specs.Layout.{textRow}
-use Rattle.line.specs.declared.Digits as D
+use Rattle.scan.specs.Places.{itemEnd}
 use Rattle.forms.specs.Rows.{NUMBER, slotOf}
 use Rattle.forms.specs.Tags.{TEXT-LINE, LONG-VALUE}
-
--- an index and its end
-abbrev pub told : ℕ → Option ℕ → D.Digits
-told e none = D.the-variants.Other
-told e (some n) = D.the-variants.Index n e
-
--- the item that begins at a byte and ends before the next comma, read as an index
-abbrev pub indexAt : List ℕ → ℕ → D.Digits
-indexAt s a = told (a + upTo 44 (drop a s)) (index (part s a (a + upTo 44 (drop a s))))
 
 -- the items from place j on of a line of tag t, none where there may not be so many
 abbrev pub countedFrom : Mode → ℕ → ℕ → List (List ℕ) → Option (List ℕ)
@@ -45,17 +35,17 @@ pub record Item (o : Option (List ℕ)) (bytes was is : List ℕ) (slot k r : �
   pub two : r ≡ 2 → slot ≡ NUMBER
   pub wide : 1 ≤ r → 1 ≤ length bytes
 
--- the item after the separator at byte a, up to byte e, of r words from k on
-pub record After (m : Mode) (s was is : List ℕ) (a slot k e r : ℕ) : Type 0 where
-  pub end : e ≡ a + 1 + upTo 44 (drop (a + 1) s)
-  pub put : Item (item m (slotOf slot) (part s (a + 1) e)) (part s (a + 1) e) was is slot k r
+-- the item that begins at byte a, of r words from k on; the next one begins at byte n
+pub record After (m : Mode) (s was is : List ℕ) (a slot k n r : ℕ) : Type 0 where
+  pub next : n ≡ itemEnd s a + 1
+  pub put : Item (item m (slotOf slot) (part s a (itemEnd s a))) (part s a (itemEnd s a)) was is slot k r
 
--- items of form t after byte e of so many bytes, up to word r, which is 0 where one is malformed; one form alone has a long, of two words
+-- items of form t from byte e on of so many bytes, up to word r, which is 0 where one is malformed; one form alone has a long, of two words
 pub record Items (o : Option (List ℕ)) (was is : List ℕ) (t k r e bytes : ℕ) : Type 0 where
   pub items : o ≡ given r (take (r - k) (drop k is))
   pub kept : Kept was is k
-  pub tight : 2 * r + e ≤ 2 * k + bytes + 2
-  pub close : (t ≡ LONG-VALUE → ⊥) → 2 * r + e ≤ 2 * k + bytes
+  pub tight : 2 * r + e ≤ 2 * k + bytes + 3
+  pub close : (t ≡ LONG-VALUE → ⊥) → 2 * r + e ≤ 2 * k + bytes + 1
   pub grows : 1 ≤ r → k ≤ r
 
 -- a row of r words from top on
@@ -88,3 +78,7 @@ pub record Line (sheet row was is : List ℕ) (top r bytes : ℕ) : Type 0 where
   pub kept : Kept was is top
   pub tight : 2 * r ≤ bytes + 1
   pub node : keyOf row ≡ NODE → 2 * r + 6 ≤ bytes + 1
+
+-- the same where the line's value stands at byte start of whatever sheet
+pub record Entry (v : List ℕ) (start : ℕ) (row was is : List ℕ) (top r : ℕ) : Type 0 where
+  pub line : (sheet : List ℕ) → v ≡ part sheet start (start + length v) → Line sheet row was is top r (length v + 5)

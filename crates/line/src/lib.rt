@@ -20,10 +20,9 @@ use forms::UNKNOWN;
 use forms::form_of;
 use forms::key_row;
 use forms::slots_of;
+use scan::Counted;
 use scan::Cursor;
 use scan::Number;
-use scan::find;
-use scan::front;
 use scan::index_of;
 use scan::long_of;
 use scan::node_form;
@@ -38,15 +37,15 @@ ghost use mathlib.Core.Bool.{cond};
 ghost use mathlib.Core.Option.{some};
 ghost use mathlib.Core.List.{[], _∷_};
 ghost use Prim.Native.Nat.{_+_, _-_, _*_, _≤_, _<_};
-ghost use lib.ListN.{length, getD, take, drop};
-ghost use Rattle.words.specs.Log.{part, room};
-ghost use Rattle.sheet.specs.Bytes.{same, split, index};
-ghost use Rattle.sheet.specs.Forms.{entry, firstNode, formOf, noTag, TYPE, VALUE, NODE, item, joined, markOr, one, orEmpty, tagOf, wordNumber, rowFor, rowHeaded, heading, nameFirst, nameSecond, rowOfValue, rowOf};
+ghost use lib.ListN.{length, take, drop};
+ghost use Rattle.words.specs.Log.{room};
+ghost use Rattle.sheet.specs.Bytes.{same, index};
+ghost use Rattle.sheet.specs.Forms.{entry, firstNode, formOf, noTag, TYPE, VALUE, NODE, item, joined, markOr, one, orEmpty, tagOf, wordNumber, rowFor, rowHeaded, heading, nameFirst, nameSecond, rowOfValue};
 ghost use Rattle.scan.specs.Numbers.{numberOf};
-ghost use Rattle.scan.specs.Places.{partsAfter, itemsAt};
+ghost use Rattle.scan.specs.Places.{itemsAt};
 ghost use Rattle.forms.specs.Rows.{NUMBER, slotOf};
 ghost use Rattle.line.specs.Codes.{modeOf};
-ghost use Rattle.line.specs.Written.{indexAt, countedFrom, Item, After, Items, Row, Text, Line, rowRoom};
+ghost use Rattle.line.specs.Written.{countedFrom, Item, After, Items, Row, Text, Entry, rowRoom};
 
 // The keys that are read in a way of their own.
 const TEXT: u64 = forms::TEXT as u64;
@@ -62,15 +61,9 @@ const NO_TAG: usize = forms::NO_TAG as usize;
 // What a mark is in a row.
 const MARK: u64 = forms::MARK as u64;
 
-// An item read as an index: its number and its end.
-enum Digits {
-    Index(u32, usize),
-    Other,
-}
-
-// An item that was written: its end, and how many words it has.
+// An item that was written: the cursor at the next item, and how many words it has.
 struct Placed {
-    end: usize,
+    next: Cursor,
     words: usize,
 }
 
@@ -180,115 +173,67 @@ fn put_item(bytes: &[u8], partial: bool, slot: u8, rows: &mut [u32], word: usize
     }
 }
 
-// A zero at byte `at`, which stands alone.
-fn zero_at(bytes: &[u8], at: usize) -> Digits
-    requires { ⌜ (at < length (now bytes)) × (getD (now bytes) at 0 ≡ 48) ⌝ }
-    ensures { λ r. ⌜ r ≡ indexAt (now (bytes .entry)) at ⌝ }
-{
-    let end = at + 1;
-    if end >= bytes.len() {
-        return Digits::Index(0, end);
-    }
-    if bytes[end] == b',' {
-        return Digits::Index(0, end);
-    }
-    Digits::Other
-}
-
-// The item that begins at byte `at`, read as an index.
-fn index_at(bytes: &[u8], at: usize) -> Digits
-    ensures { λ r. ⌜ r ≡ indexAt (now (bytes .entry)) at ⌝ }
-{
-    if at >= bytes.len() {
-        return Digits::Other;
-    }
-    let x = bytes[at];
-    if x == b'0' {
-        return zero_at(bytes, at);
-    }
-    if x < b'0' {
-        return Digits::Other;
-    }
-    if x > b'9' {
-        return Digits::Other;
-    }
-    let mut n = (x - b'0') as u32;
-    let mut i = at + 1;
-    while i < bytes.len() {
-        let y = bytes[i];
-        if y == b',' {
-            return Digits::Index(n, i);
-        }
-        if y < b'0' {
-            return Digits::Other;
-        }
-        if y > b'9' {
-            return Digits::Other;
-        }
-        if n > 999 {
-            return Digits::Other;
-        }
-        n = n * 10 + (y - b'0') as u32;
-        i += 1;
-    }
-    Digits::Index(n, i)
-}
-
-// Writes the item after the separator at byte `at`. Most items are indices.
+// Writes the item at the cursor. Most items are indices.
 fn put_next(
     bytes: &[u8],
-    at: usize,
+    cursor: Cursor,
     partial: bool,
     slot: u8,
     rows: &mut [u32],
     word: usize,
 ) -> Placed
-    requires { ⌜ (at < length (now bytes)) × (word + 2 ≤ room) × (room ≤ length (now rows)) ⌝ }
-    ensures { λ r. ⌜ After (modeOf partial) (now (bytes .entry)) (now (rows .entry)) (now (rows .exit)) at slot word (r .end) (r .words) ⌝ }
+    requires { ⌜ (cursor .at ≤ length (now bytes)) × (length (now bytes) ≤ room) × (word + 2 ≤ room) × (room ≤ length (now rows)) ⌝ }
+    ensures { λ r. ⌜ After (modeOf partial) (now (bytes .entry)) (now (rows .entry)) (now (rows .exit)) (cursor .at) slot word (r .next .at) (r .words) ⌝ }
 {
-    let start = at + 1;
     if LINE <= slot {
-        if let Digits::Index(n, end) = index_at(bytes, start) {
+        if let Counted::Value(n, next) = cursor.number(bytes) {
             rows[word] = n;
-            return Placed { end, words: 1 };
+            return Placed { next, words: 1 };
         }
     }
-    let end = find(bytes, start, b',');
+    let start = cursor.at;
+    let scan::Item::Part(end, next) = cursor.item(bytes) else {
+        return Placed {
+            next: cursor,
+            words: 0,
+        };
+    };
     let words = put_item(part_of(bytes, start, end), partial, slot, rows, word);
-    Placed { end, words }
+    Placed { next, words }
 }
 
-// Writes the items after the separator at byte `at`, the first of them at place `j` of a form: where they end, 0 where one is malformed or they are too
+// Writes the items from the cursor on, the first of them at place `j` of a form: where they end, 0 where one is malformed or they are too
 // few or too many. Past the form's items the places of its group come again and again.
 fn put_items(
     bytes: &[u8],
-    at: usize,
+    cursor: Cursor,
     partial: bool,
     tag: usize,
     j: usize,
     rows: &mut [u32],
     word: usize,
 ) -> usize
-    requires { ⌜ (tag < noTag) × (j ≤ length (formOf tag .items)) × (1 ≤ word) × (at ≤ length (now bytes)) × (length (now bytes) ≤ room) × (room ≤ length (now rows)) × (2 * word + length (now bytes) + 8 ≤ 2 * room + at) ⌝ }
-    ensures { λ r. ⌜ Items (countedFrom (modeOf partial) tag j (partsAfter 44 (now (bytes .entry)) at)) (now (rows .entry)) (now (rows .exit)) tag word r at (length (now (bytes .entry))) ⌝ }
+    requires { ⌜ (tag < noTag) × (j ≤ length (formOf tag .items)) × (1 ≤ word) × (cursor .at ≤ length (now bytes) + 1) × (length (now bytes) ≤ room) × (room ≤ length (now rows)) × (2 * word + length (now bytes) + 8 ≤ 2 * room + cursor .at) ⌝ }
+    ensures { λ r. ⌜ Items (countedFrom (modeOf partial) tag j (itemsAt (now (bytes .entry)) cursor)) (now (rows .entry)) (now (rows .exit)) tag word r (cursor .at) (length (now (bytes .entry))) ⌝ }
 {
     let f = form_of(tag as u32);
     let slots = slots_of(f);
     let n = f.items;
     let last = n + f.group;
-    let mut at = at;
+    let mut cursor = cursor;
     let mut j = j;
     let mut word = word;
-    while at < bytes.len() {
+    while cursor.at <= bytes.len() {
         if j == last {
             return 0;
         }
-        let p = put_next(bytes, at, partial, byte(slots, j) as u8, rows, word);
+        let p = put_next(bytes, cursor, partial, byte(slots, j) as u8, rows, word);
         if p.words == 0 {
             return 0;
         }
         word += p.words;
-        at = p.end;
+        let next = p.next;
+        cursor = next;
         j += 1;
         if j == last {
             j = n;
@@ -317,7 +262,7 @@ fn named_tag(value: bool, name: &[u8]) -> usize
     type_form(name) as usize
 }
 
-// Writes the row of a tag: the items after the cursor from place `j` on, where the words before them are written.
+// Writes the row of a tag: the items from the cursor on, the first at place `j`, where the words before them are written.
 fn row_from(
     bytes: &[u8],
     cursor: Cursor,
@@ -327,18 +272,18 @@ fn row_from(
     rows: &mut [u32],
     top: usize,
 ) -> usize
-    requires { ⌜ (tag < noTag) × (j ≤ 1) × (1 ≤ j → firstNode ≤ tag) × (j ≤ length (formOf tag .items)) × (cursor .at ≤ length (now bytes)) × (length (now bytes) ≤ room) × (room ≤ length (now rows)) × (2 * top + length (now bytes) + 16 ≤ 2 * room + cursor .at) ⌝ }
-    ensures { λ r. ⌜ Row (orEmpty tag (joined (some (take j (drop (top + 1) (now (rows .entry))))) (countedFrom (modeOf partial) tag j (itemsAt (now (bytes .entry)) cursor)))) (now (rows .entry)) (now (rows .exit)) top r (length (now (bytes .entry)) + 4 - cursor .at) ⌝ }
+    requires { ⌜ (tag < noTag) × (j ≤ 1) × (1 ≤ j → firstNode ≤ tag) × (j ≤ length (formOf tag .items)) × (cursor .at ≤ length (now bytes) + 1) × (length (now bytes) ≤ room) × (room ≤ length (now rows)) × (2 * top + length (now bytes) + 16 ≤ 2 * room + cursor .at) ⌝ }
+    ensures { λ r. ⌜ Row (orEmpty tag (joined (some (take j (drop (top + 1) (now (rows .entry))))) (countedFrom (modeOf partial) tag j (itemsAt (now (bytes .entry)) cursor)))) (now (rows .entry)) (now (rows .exit)) top r (length (now (bytes .entry)) + 5 - cursor .at) ⌝ }
 {
     rows[top] = tag as u32;
-    let z = put_items(bytes, cursor.at, partial, tag, j, rows, top + 1 + j);
+    let z = put_items(bytes, cursor, partial, tag, j, rows, top + 1 + j);
     if z == 0 {
         return 0;
     }
     z - top
 }
 
-// Writes the row of a tag with the items after the cursor.
+// Writes the row of a tag with the items from the cursor on.
 fn row_tagged(
     bytes: &[u8],
     cursor: Cursor,
@@ -347,8 +292,8 @@ fn row_tagged(
     rows: &mut [u32],
     top: usize,
 ) -> usize
-    requires { ⌜ (cursor .at ≤ length (now bytes)) × (length (now bytes) ≤ room) × (room ≤ length (now rows)) × (2 * top + length (now bytes) + 16 ≤ 2 * room + cursor .at) ⌝ }
-    ensures { λ r. ⌜ Row (rowFor (modeOf partial) tag (itemsAt (now (bytes .entry)) cursor)) (now (rows .entry)) (now (rows .exit)) top r (length (now (bytes .entry)) + 4 - cursor .at) ⌝ }
+    requires { ⌜ (cursor .at ≤ length (now bytes) + 1) × (length (now bytes) ≤ room) × (room ≤ length (now rows)) × (2 * top + length (now bytes) + 16 ≤ 2 * room + cursor .at) ⌝ }
+    ensures { λ r. ⌜ Row (rowFor (modeOf partial) tag (itemsAt (now (bytes .entry)) cursor)) (now (rows .entry)) (now (rows .exit)) top r (length (now (bytes .entry)) + 5 - cursor .at) ⌝ }
 {
     if NO_TAG <= tag {
         return 0;
@@ -365,8 +310,8 @@ fn row_plain(
     rows: &mut [u32],
     top: usize,
 ) -> usize
-    requires { ⌜ (cursor .at < length (now bytes)) × (length (now bytes) ≤ room) × (room ≤ length (now rows)) × (2 * top + length (now bytes) + 16 ≤ 2 * room + cursor .at) ⌝ }
-    ensures { λ r. ⌜ Row (rowFor (modeOf partial) (tagOf key []) (split 44 (drop (cursor .at + 1) (now (bytes .entry))))) (now (rows .entry)) (now (rows .exit)) top r (length (now (bytes .entry)) + 4 - cursor .at) ⌝ }
+    requires { ⌜ (cursor .at ≤ length (now bytes)) × (length (now bytes) ≤ room) × (room ≤ length (now rows)) × (2 * top + length (now bytes) + 16 ≤ 2 * room + cursor .at) ⌝ }
+    ensures { λ r. ⌜ Row (rowFor (modeOf partial) (tagOf key []) (itemsAt (now (bytes .entry)) cursor)) (now (rows .entry)) (now (rows .exit)) top r (length (now (bytes .entry)) + 5 - cursor .at) ⌝ }
 {
     let t = plain_tag(key);
     row_tagged(bytes, cursor, partial, t, rows, top)
@@ -381,33 +326,30 @@ fn row_named(
     rows: &mut [u32],
     top: usize,
 ) -> usize
-    requires { ⌜ (cursor .at < length (now bytes)) × (length (now bytes) ≤ room) × (room ≤ length (now rows)) × (2 * top + length (now bytes) + 16 ≤ 2 * room + cursor .at) ⌝ }
-    ensures { λ r. ⌜ Row (rowHeaded (modeOf partial) (cond value VALUE TYPE) (nameFirst (split 44 (drop (cursor .at + 1) (now (bytes .entry)))))) (now (rows .entry)) (now (rows .exit)) top r (length (now (bytes .entry)) + 4 - cursor .at) ⌝ }
+    requires { ⌜ (cursor .at ≤ length (now bytes)) × (length (now bytes) ≤ room) × (room ≤ length (now rows)) × (2 * top + length (now bytes) + 16 ≤ 2 * room + cursor .at) ⌝ }
+    ensures { λ r. ⌜ Row (rowHeaded (modeOf partial) (cond value VALUE TYPE) (nameFirst (itemsAt (now (bytes .entry)) cursor))) (now (rows .entry)) (now (rows .exit)) top r (length (now (bytes .entry)) + 5 - cursor .at) ⌝ }
 {
-    let scan::Item::Part(start, next) = cursor.item(bytes) else {
+    let start = cursor.at;
+    let scan::Item::Part(end, next) = cursor.item(bytes) else {
         return 0;
     };
-    let end = next.at;
     let t = named_tag(value, part_of(bytes, start, end));
     row_tagged(bytes, next, partial, t, rows, top)
 }
 
 // The row of a node: its type stands first, its constructor second.
 fn row_node(bytes: &[u8], cursor: Cursor, partial: bool, rows: &mut [u32], top: usize) -> usize
-    requires { ⌜ (cursor .at < length (now bytes)) × (length (now bytes) ≤ room) × (room ≤ length (now rows)) × (2 * top + length (now bytes) + 16 ≤ 2 * room + cursor .at) ⌝ }
-    ensures { λ r. ⌜ Row (rowHeaded (modeOf partial) NODE (nameSecond (split 44 (drop (cursor .at + 1) (now (bytes .entry)))))) (now (rows .entry)) (now (rows .exit)) top r (length (now (bytes .entry)) - (cursor .at + 1)) ⌝ }
+    requires { ⌜ (cursor .at ≤ length (now bytes)) × (length (now bytes) ≤ room) × (room ≤ length (now rows)) × (2 * top + length (now bytes) + 16 ≤ 2 * room + cursor .at) ⌝ }
+    ensures { λ r. ⌜ Row (rowHeaded (modeOf partial) NODE (nameSecond (itemsAt (now (bytes .entry)) cursor))) (now (rows .entry)) (now (rows .exit)) top r (length (now (bytes .entry)) - cursor .at) ⌝ }
 {
-    let line = cursor.line;
-    let start = cursor.at + 1;
-    let Digits::Index(x, at) = index_at(bytes, start) else {
+    let Counted::Value(x, typed) = cursor.number(bytes) else {
         return 0;
     };
-    let typed = Cursor { line, at };
-    let scan::Item::Part(name, next) = typed.item(bytes) else {
+    let start = typed.at;
+    let scan::Item::Part(end, next) = typed.item(bytes) else {
         return 0;
     };
-    let last = next.at;
-    let t = node_form(part_of(bytes, name, last)) as usize;
+    let t = node_form(part_of(bytes, start, end)) as usize;
     if NO_TAG <= t {
         return 0;
     }
@@ -424,8 +366,8 @@ fn row_value(
     rows: &mut [u32],
     top: usize,
 ) -> usize
-    requires { ⌜ (cursor .at < length (now bytes)) × (length (now bytes) ≤ room) × (room ≤ length (now rows)) × (2 * top + length (now bytes) + 16 ≤ 2 * room + cursor .at) ⌝ }
-    ensures { λ r. ⌜ Row (rowHeaded (modeOf partial) key (heading key (split 44 (drop (cursor .at + 1) (now (bytes .entry)))))) (now (rows .entry)) (now (rows .exit)) top r (rowRoom key (length (now (bytes .entry)) - (cursor .at + 1))) ⌝ }
+    requires { ⌜ (cursor .at ≤ length (now bytes)) × (length (now bytes) ≤ room) × (room ≤ length (now rows)) × (2 * top + length (now bytes) + 16 ≤ 2 * room + cursor .at) ⌝ }
+    ensures { λ r. ⌜ Row (rowHeaded (modeOf partial) key (heading key (itemsAt (now (bytes .entry)) cursor))) (now (rows .entry)) (now (rows .exit)) top r (rowRoom key (length (now (bytes .entry)) - cursor .at)) ⌝ }
 {
     if key == NODE {
         return row_node(bytes, cursor, partial, rows, top);
@@ -454,23 +396,21 @@ fn row_text(start: usize, len: usize, rows: &mut [u32], top: usize) -> usize
     3
 }
 
-// Writes the row of a line of a key that ends at byte `end` of the sheet, with its `=` at the cursor: how many words it has, 0 where its form is wrong.
+// Writes the row of a line of a key and this value, the part of a sheet after the `=` at the cursor: how many words it has, 0 where its form is wrong.
 pub fn row_entry(
-    sheet: &[u8],
+    bytes: &[u8],
     key: u64,
-    cursor: Cursor,
-    end: usize,
+    equals: Cursor,
     partial: bool,
     rows: &mut [u32],
     top: usize,
 ) -> usize
-    requires { ⌜ (cursor .at < end) × (end ≤ length (now sheet)) × (length (now sheet) ≤ room) × (room ≤ length (now rows)) × (2 * top + end + 16 ≤ 2 * room + cursor .at) ⌝ }
-    ensures { λ r. ⌜ Line (now (sheet .entry)) (rowOfValue (modeOf partial) key (part (now (sheet .entry)) (cursor .at + 1) end)) (now (rows .entry)) (now (rows .exit)) top r (end + 4 - cursor .at) ⌝ }
+    requires { ⌜ (equals .at < room) × (length (now bytes) ≤ room) × (room ≤ length (now rows)) × (2 * top + length (now bytes) + 16 ≤ 2 * room) ⌝ }
+    ensures { λ r. ⌜ Entry (now (bytes .entry)) (equals .at + 1) (rowOfValue (modeOf partial) key (now (bytes .entry))) (now (rows .entry)) (now (rows .exit)) top r ⌝ }
 {
-    let s = front(sheet, end);
-    let at = cursor.at;
+    let at = equals.at;
     if key == TEXT {
-        return row_text(at + 1, cursor.value(s).len(), rows, top);
+        return row_text(at + 1, bytes.len(), rows, top);
     }
-    row_value(key, s, cursor, partial, rows, top)
+    row_value(key, bytes, equals.items(), partial, rows, top)
 }

@@ -18,7 +18,7 @@ use Rattle.table.specs.Layout.{rowsOf}
 use Rattle.table.proofs.Rows.{count-rows}
 use Rattle.value.proofs.Lists.{uncons, spent}
 use Rattle.residual.specs.Classes.{classNumber, CLASS-TRUE, CLASS-FALSE, CLASS-ERROR, CLASS-OPEN}
-use Rattle.response.specs.Verdicts.{classIn, effectIn, effectNumber, effectIs, classIs, verdictsOf, verdictsIn, said}
+use Rattle.response.specs.Verdicts.{classIn, effectIn, effectNumber, effectIs, classIs, verdictsOf, verdictsIn, decisionOf}
 use Rattle.response.specs.declared.Decision as D
 
 -- ---- one policy
@@ -226,15 +226,15 @@ counts-are ls =
 
 -- ---- the decision
 
-pub decide-open : (tf tp op of : Bool) → tf ≡ false → tp ≡ false → op ≡ true → D.the-variants.Open ≡ said (decide tf tp op of)
+pub decide-open : (tf tp op of : Bool) → tf ≡ false → tp ≡ false → op ≡ true → decisionOf D.the-variants.Open ≡ decide tf tp op of
 decide-open tf tp op of h k l = rw (h, k, l) (go of)
   where
-    go : (b : Bool) → D.the-variants.Open ≡ said (decide false false true b)
+    go : (b : Bool) → decisionOf D.the-variants.Open ≡ decide false false true b
     go true = refl
     go false = refl
 
 pub decision-is : (ls : List Verdict) (tf tp op of : Bool) (d : D.Decision) → tf ≡ anyLine (effectIs FORBID) (classIs CLASS-TRUE) ls → tp ≡ anyLine (effectIs PERMIT) (classIs CLASS-TRUE) ls
-    → op ≡ anyLine (effectIs PERMIT) (classIs CLASS-OPEN) ls → of ≡ anyLine (effectIs FORBID) (classIs CLASS-OPEN) ls → d ≡ said (decide tf tp op of) → d ≡ said (decision ls)
+    → op ≡ anyLine (effectIs PERMIT) (classIs CLASS-OPEN) ls → of ≡ anyLine (effectIs FORBID) (classIs CLASS-OPEN) ls → decisionOf d ≡ decide tf tp op of → decisionOf d ≡ decision ls
 decision-is ls tf tp op of d etf etp eop eof ed =
     let a = etf ∙ any-same (effectIs FORBID) isForbid (classIs CLASS-TRUE) isTrue is-forbid is-true ls in
     let b = etp ∙ any-same (effectIs PERMIT) isPermit (classIs CLASS-TRUE) isTrue is-permit is-true ls in

@@ -1,11 +1,9 @@
 pub mod Counting
 pub mod Printing
-pub mod Made
 pub mod Wording
 pub mod Rooted
 pub mod Partial
-pub mod NodeLines
-pub mod TreeRows
-pub mod LogTrees
 pub mod Lengths
-pub mod Cases
+pub mod Sending
+pub mod Completing
+pub mod PartialRun

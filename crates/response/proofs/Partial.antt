@@ -26,13 +26,13 @@ use Rattle.table.proofs.Rows.{count-rows, count-held, lines-held}
 use Rattle.residual.specs.Classes.{rootsOf}
 use Rattle.residual.specs.Trees.{Ress, flats, treesOf, Wholes}
 use Rattle.value.specs.Lines.{valueLines as allRows}
+use Rattle.listing.specs.Values.{madeLines}
+use Rattle.listing.specs.Nodes.{saysBool, boolLine, typeIn, logLines}
+use Rattle.listing.proofs.Printing.{concat-append}
+use Rattle.listing.proofs.TreeRows.{rowsAll}
+use Rattle.listing.proofs.LogTrees.{treesIn, residual-rows, log-lines}
 use Rattle.response.specs.Verdicts.{classIn, effectIn, verdictsOf, verdictsIn}
-use Rattle.response.specs.Printed.{rootedOf, rootedLines}
-use Rattle.response.specs.Values.{madeLines}
-use Rattle.response.specs.Nodes.{saysBool, boolLine, typeIn, logLines, partialBytes}
-use Rattle.response.proofs.Printing.{concat-append}
-use Rattle.response.proofs.TreeRows.{rowsAll}
-use Rattle.response.proofs.LogTrees.{treesIn, residual-rows, log-lines}
+use Rattle.response.specs.Printed.{rootedOf, rootedLines, partialBytes}
 
 -- ---- values: the rows after the sheet's
 

@@ -5,57 +5,28 @@ use Prim.Native.Nat.{ℕ, zero, suc, _+_, _≤_, _<_}
 use native.Mathlib.Omega.{arith}
 use lib.ListN.{length, getD, drop}
 use Rattle.cedar.specs.Residual.{Class, ctrue, cfalse, cerror, copen}
-use Rattle.cedar.specs.Response.{Effect, permit, forbid, Verdict, Decision, allow, deny, undecided, decision}
+use Rattle.cedar.specs.Response.{Effect, permit, forbid, Verdict, decision}
 use Rattle.sheet.specs.Ascii.{ascii}
 use Rattle.sheet.specs.Bytes.{digits, commas}
 use Rattle.sheet.specs.Forms.{at, POLICY}
 use Rattle.sheet.specs.Sheet.{firsts}
-use Rattle.sheet.specs.Answer.{printed, concat, numbers, countsOf, headLines, decisionWord, effectWord, classWord, completeLines, completeOf}
+use Rattle.sheet.specs.Answer.{printed, concat, numbers, countsOf, headLines, effectWord, classWord, completeLines, completeOf}
 use Rattle.forms.specs.Tags.{PERMIT, FORBID}
 use Rattle.table.specs.Layout.{rowsOf, held}
 use Rattle.table.proofs.Rows.{count-rows, lines-held}
 use Rattle.value.proofs.Lists.{uncons, spent}
 use Rattle.print.specs.Written.{Written}
-use Rattle.print.proofs.Writing.{written-none, written-append, written-as}
+use Rattle.print.proofs.Writing.{written-append, written-as}
 use Rattle.residual.specs.Classes.{classNumber}
-use Rattle.response.specs.Verdicts.{classIn, effectIn, effectNumber, verdictsIn, said}
+use Rattle.listing.proofs.Printing.{Printing, printing-on, printing-end, concat-append}
+use Rattle.response.specs.Verdicts.{classIn, effectIn, effectNumber, verdictsIn, decisionOf}
 use Rattle.response.specs.Printed.{idBytes, decisionBytes, effectBytes, classBytes, listed, fourOf, policyAt, policyLines, completeBytes}
 use Rattle.response.specs.declared.Decision as D
 use Rattle.response.proofs.Counting.{counts-are, verdictsFrom, verdicts-on}
 
--- ---- a run that has come so far: what was written, and what is left to write
-
-pub record Printing (whole left was : List ℕ) (at : ℕ) (is : List ℕ) (next : ℕ) : Type 0 where
-  pub done : List ℕ
-  pub written : Written was at done is next
-  pub joins : whole ≡ done ++ left
-
-pub printing-start : (whole left was : List ℕ) (at : ℕ) → whole ≡ left → at ≤ 18446744073709551615 → length was ≤ 18446744073709551615 → Printing whole left was at was at
-printing-start whole left was at e h l = record { done = []; written = written-none was at h l; joins = e }
-
-pub printing-on : {whole left was is : List ℕ} {at next : ℕ} → Printing whole left was at is next → (xs rest out : List ℕ) (then : ℕ) → left ≡ xs ++ rest → Written is next xs out then
-    → Printing whole rest was at out then
-printing-on {whole} {left} {was} {is} {at} {next} p xs rest out then e w =
-    record {
-      done = p .done ++ xs;
-      written = written-append (p .written) w;
-      joins = p .joins ∙ ap (λ (l : List ℕ). p .done ++ l) e ∙ sym (append-assoc (p .done) xs rest);
-    }
-
-pub printing-end : {whole left was is : List ℕ} {at next : ℕ} → Printing whole left was at is next → left ≡ [] → Written was at whole is next
-printing-end {whole} {left} {was} {is} {at} {next} p e =
-    written-as (p .written) (sym (p .joins ∙ ap (λ (l : List ℕ). p .done ++ l) e ∙ append-nil (p .done)))
-
-pub concat-append : (k l : List (List ℕ)) → concat (k ++ l) ≡ concat k ++ concat l
-concat-append [] l = refl
-concat-append (x ∷ k) l = ap (λ (m : List ℕ). x ++ m) (concat-append k l) ∙ sym (append-assoc x (concat k) (concat l))
-
 -- ---- straight runs
 
 module _ (was is : List ℕ) (at next : ℕ) where
-  pub number-after : (b n : ℕ) (mid : List ℕ) (m : ℕ) → Written was at (b ∷ []) mid m → Written mid m (digits n) is next → Written was at (b ∷ digits n) is next
-  number-after b n mid m v w = written-append v w
-
   pub effect-zero : (e : ℕ) → e ≡ PERMIT → Written was at (44 ∷ 112 ∷ 101 ∷ 114 ∷ 109 ∷ 105 ∷ 116 ∷ []) is next → Written was at (effectBytes e) is next
   effect-zero e h w = written-as w (rw h)
 
@@ -97,16 +68,11 @@ module _ (was is : List ℕ) (at next : ℕ) (ls : List Verdict) where
       → Written w₂ k₂ (listed 44 (fourOf FORBID ls)) w₃ k₃ → Written w₃ k₃ (10 ∷ []) is next → Written was at (printed "counts" (numbers (countsOf ls))) is next
   counts-line w₁ w₂ w₃ k₁ k₂ k₃ a b c d = written-as (written-append a (written-append b (written-append c d))) (counts-text ls)
 
-  decision-text : (d : Decision) → decisionBytes (said d) ≡ printed "decision" (ascii (decisionWord d) ∷ [])
-  decision-text allow = refl
-  decision-text deny = refl
-  decision-text undecided = refl
-
-  pub head-lines : (d : D.Decision) (mid : List ℕ) (m : ℕ) → d ≡ said (decision ls) → Written was at (decisionBytes d) mid m
+  pub head-lines : (d : D.Decision) (mid : List ℕ) (m : ℕ) → decisionOf d ≡ decision ls → Written was at (decisionBytes (decisionOf d)) mid m
       → Written mid m (printed "counts" (numbers (countsOf ls))) is next → Written was at (concat (headLines ls)) is next
   head-lines d mid m e v w =
       written-as (written-append v w)
-      (ap₂ (λ (k l : List ℕ). k ++ l) (ap decisionBytes e ∙ decision-text (decision ls)) (sym (append-nil (printed "counts" (numbers (countsOf ls))))))
+      (ap₂ (λ (k l : List ℕ). k ++ l) (ap decisionBytes e) (sym (append-nil (printed "counts" (numbers (countsOf ls))))))
 
 -- ---- a policy
 

@@ -1,4 +1,4 @@
--- The policies of a partial answer, with the roots of their residuals. Assumes nothing.
+-- The policies of a partial answer, with the roots of their residuals, and the whole of it. Assumes nothing.
 use mathlib.Core.Path.{_≡_, refl, sym, ap, ap₂, _∙_}
 use mathlib.Core.List.{List, [], _∷_, _++_, append-assoc}
 use Prim.Native.Nat.{ℕ, _+_, _≤_, _<_}
@@ -7,17 +7,19 @@ use native.Mathlib.Omega.{arith}
 use lib.ListN.{length, getD, drop}
 use Rattle.sheet.specs.Ascii.{ascii}
 use Rattle.sheet.specs.Bytes.{digits, commas}
-use Rattle.sheet.specs.Forms.{at, POLICY}
-use Rattle.sheet.specs.Answer.{printed, concat, effectWord, classWord, policyItems}
+use Rattle.sheet.specs.Forms.{at, TYPE, NODE, POLICY}
+use Rattle.sheet.specs.Answer.{printed, concat, headLines, effectWord, classWord, policyItems}
 use Rattle.table.specs.Layout.{rowsOf}
 use Rattle.table.proofs.Rows.{count-rows}
 use Rattle.value.proofs.Lists.{uncons, spent}
 use Rattle.print.specs.Written.{Written}
 use Rattle.print.proofs.Writing.{written-append, written-as}
-use Rattle.response.specs.Verdicts.{classIn, effectIn}
-use Rattle.response.specs.Printed.{policyOf, policyAt, rootedOf, rootedLines}
+use Rattle.listing.specs.Values.{madeLines}
+use Rattle.listing.specs.Nodes.{logLines}
+use Rattle.listing.proofs.Printing.{Printing, printing-on, printing-end}
+use Rattle.response.specs.Verdicts.{classIn, effectIn, verdictsIn}
+use Rattle.response.specs.Printed.{policyOf, policyAt, rootedOf, rootedLines, partialBytes}
 use Rattle.response.proofs.Counting.{first-of, next-of}
-use Rattle.response.proofs.Printing.{Printing, printing-on, printing-end}
 
 commas-snoc : (x : List ℕ) (l : List (List ℕ)) (y : List ℕ) → commas ((x ∷ l) ++ (y ∷ [])) ≡ commas (x ∷ l) ++ (44 ∷ y)
 commas-snoc x [] y = refl
@@ -63,3 +65,10 @@ module _ (a cs es : List ℕ) (n : ℕ) (en : n ≡ getD a POLICY 0) where
 
     pub rooted-end : n ≤ i → Written was at (concat (rootedLines a cs es)) is then
     rooted-end h = printing-end p (ap (λ (l : List (List ℕ)). concat (rootedOf l (drop i cs) (drop i es))) (spent (rowsOf a POLICY) i (omega (arith, many))))
+
+-- ---- a partial answer
+
+pub partial-is : (was w₁ w₂ w₃ is : List ℕ) (at k₁ k₂ k₃ next : ℕ) (a l cs es : List ℕ) → Written was at (concat (headLines (verdictsIn a cs))) w₁ k₁ → Written w₁ k₁ (madeLines a) w₂ k₂
+    → Written w₂ k₂ (concat (logLines (rowsOf a TYPE) (rowsOf a NODE) l)) w₃ k₃ → Written w₃ k₃ (concat (rootedLines a cs es)) is next → Written was at (partialBytes a l cs es) is next
+unfolding partialBytes
+partial-is was w₁ w₂ w₃ is at k₁ k₂ k₃ next a l cs es p q r s = written-append p (written-append q (written-append r s))

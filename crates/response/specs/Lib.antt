@@ -1,5 +1,3 @@
 pub mod Verdicts
 pub mod Printed
-pub mod Names
-pub mod Values
-pub mod Nodes
+pub mod Runs

@@ -2,22 +2,21 @@
 use mathlib.Core.List.{List, [], _∷_, _++_}
 use Prim.Native.Nat.{ℕ}
 use lib.ListN.{getD, drop}
-use Rattle.cedar.specs.Response.{Verdict}
+use Rattle.cedar.specs.Response.{Verdict, Decision}
 use Rattle.sheet.specs.Ascii.{ascii}
 use Rattle.sheet.specs.Bytes.{digits, commas}
-use Rattle.sheet.specs.Forms.{at, POLICY}
+use Rattle.sheet.specs.Forms.{at, TYPE, NODE, POLICY}
 use Rattle.sheet.specs.Sheet.{firsts}
-use Rattle.sheet.specs.Answer.{howMany, printed, concat, headLines, policyItems, completeLines}
+use Rattle.sheet.specs.Answer.{howMany, decisionWord, printed, concat, headLines, policyItems, completeLines}
 use Rattle.residual.specs.Classes.{CLASS-TRUE, CLASS-FALSE, CLASS-ERROR, CLASS-OPEN}
 use Rattle.table.specs.Layout.{rowsOf}
+use Rattle.listing.specs.Values.{madeLines}
+use Rattle.listing.specs.Nodes.{logLines}
 use Rattle.response.specs.Verdicts.{classIn, effectIn, effectIs, classIs, verdictsIn}
-use Rattle.response.specs.declared.Decision as D
 
 -- the line of the decision
-abbrev pub decisionBytes : D.Decision → List ℕ
-decisionBytes D.the-variants.Allow = printed "decision" (ascii "allow" ∷ [])
-decisionBytes D.the-variants.Deny = printed "decision" (ascii "deny" ∷ [])
-decisionBytes D.the-variants.Open = printed "decision" (ascii "open" ∷ [])
+abbrev pub decisionBytes : Decision → List ℕ
+decisionBytes d = printed "decision" (ascii (decisionWord d) ∷ [])
 
 -- an effect and a class by their numbers, after a comma
 abbrev pub effectBytes : ℕ → List ℕ
@@ -60,3 +59,8 @@ rootedOf (r ∷ rs) cs es = printed "policy" (policyItems (at r 0) (effectIn r) 
 
 unfoldable pub rootedLines : List ℕ → List ℕ → List ℕ → List (List ℕ)
 rootedLines a cs es = rootedOf (rowsOf a POLICY) cs es
+
+-- a partial answer: the words of the sheet and of what was made, the log, a class and the number of a root for each policy
+unfoldable pub partialBytes : List ℕ → List ℕ → List ℕ → List ℕ → List ℕ
+partialBytes a l cs es =
+    concat (headLines (verdictsIn a cs)) ++ (madeLines a ++ (concat (logLines (rowsOf a TYPE) (rowsOf a NODE) l) ++ concat (rootedLines a cs es)))

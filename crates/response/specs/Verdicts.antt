@@ -40,8 +40,8 @@ verdictsOf (r ∷ rs) cs = record { effect = effectIn r; class = classIn (getD c
 unfoldable pub verdictsIn : List ℕ → List ℕ → List Verdict
 verdictsIn a cs = verdictsOf (rowsOf a POLICY) cs
 
--- the decision as the code says it
-abbrev pub said : Decision → D.Decision
-said allow = D.the-variants.Allow
-said deny = D.the-variants.Deny
-said undecided = D.the-variants.Open
+-- the decision that the code answers
+abbrev pub decisionOf : D.Decision → Decision
+decisionOf D.the-variants.Allow = allow
+decisionOf D.the-variants.Deny = deny
+decisionOf D.the-variants.Open = undecided

@@ -6,15 +6,15 @@ use crate::decision_of;
 use crate::effect_of;
 use crate::names::class_name;
 use crate::names::decision_name;
-use crate::names::letters;
-use crate::nodes::node_lines;
-use crate::values::made_values;
 use forms::FORBID;
 use forms::PERMIT;
 use forms::POLICY;
+use listing::names::letters;
+use listing::nodes::node_lines;
+use listing::number_after;
+use listing::values::made_values;
 use print::byte;
 use print::bytes;
-use print::number;
 use table::count;
 use table::item;
 use table::row;
@@ -22,25 +22,15 @@ ghost use mathlib.Core.List.{[], _∷_, _++_};
 ghost use lib.ListN.{getD};
 ghost use Rattle.table.specs.Layout.{rowsOf};
 ghost use Rattle.print.specs.Written.{Written};
-ghost use Rattle.sheet.specs.Ascii.{ascii};
 ghost use Rattle.sheet.specs.Bytes.{digits};
 ghost use Rattle.sheet.specs.Answer.{printed, numbers, countsOf, headLines, concat};
 ghost use Rattle.sheet.specs.Forms.{POLICY};
-ghost use Rattle.response.specs.Verdicts.{verdictsIn};
-ghost use Rattle.response.specs.Printed.{idBytes, decisionBytes, effectBytes, classBytes, listed, fourOf, policyAt, policyLines, completeBytes, rootedLines};
-ghost use Rattle.response.specs.Nodes.{partialBytes};
-
-// A separator and a number.
-pub fn number_after(out: &mut [u8], at: usize, separator: u8, n: u64) -> usize
-    ensures { λ r. ⌜ Written (now (out .entry)) at (separator ∷ digits n) (now (out .exit)) r ⌝ }
-{
-    let k = byte(out, at, separator);
-    number(out, k, n)
-}
+ghost use Rattle.response.specs.Verdicts.{verdictsIn, decisionOf};
+ghost use Rattle.response.specs.Printed.{idBytes, decisionBytes, effectBytes, classBytes, listed, fourOf, policyAt, policyLines, completeBytes, rootedLines, partialBytes};
 
 // The line of the decision.
 pub fn decision_line(out: &mut [u8], at: usize, decision: Decision) -> usize
-    ensures { λ r. ⌜ Written (now (out .entry)) at (decisionBytes decision) (now (out .exit)) r ⌝ }
+    ensures { λ r. ⌜ Written (now (out .entry)) at (decisionBytes (decisionOf decision)) (now (out .exit)) r ⌝ }
 {
     let word = decision_name(decision);
     let k = bytes(out, at, b"decision=");

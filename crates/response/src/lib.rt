@@ -2,8 +2,7 @@
 // class is a word of a slice; its effect and its id stand in its row of the sheet.
 pub mod answer;
 pub mod names;
-pub mod nodes;
-pub mod values;
+pub mod runs;
 
 use forms::FORBID;
 use forms::PERMIT;
@@ -28,7 +27,7 @@ ghost use Rattle.cedar.specs.Response as Cedar;
 ghost use Rattle.sheet.specs.Answer.{howMany};
 ghost use Rattle.sheet.specs.Forms.{POLICY};
 ghost use Rattle.residual.specs.Classes.{classNumber, CLASS-TRUE, CLASS-FALSE, CLASS-ERROR, CLASS-OPEN};
-ghost use Rattle.response.specs.Verdicts.{effectNumber, effectIn, classIn, effectIs, classIs, verdictsIn, said};
+ghost use Rattle.response.specs.Verdicts.{effectNumber, effectIn, classIn, effectIs, classIs, verdictsIn, decisionOf};
 
 // What the policies decide.
 pub enum Decision {
@@ -116,7 +115,7 @@ pub fn decide(
     residual_permits: bool,
     residual_forbids: bool,
 ) -> Decision
-    ensures { λ r. ⌜ r ≡ said (Cedar.decide «true_forbids» «true_permits» «residual_permits» «residual_forbids») ⌝ }
+    ensures { λ r. ⌜ decisionOf r ≡ Cedar.decide «true_forbids» «true_permits» «residual_permits» «residual_forbids» ⌝ }
 {
     if true_forbids {
         return Decision::Deny;
@@ -135,7 +134,7 @@ pub fn decide(
 
 // The decision that the classes of the policies give.
 pub fn decision_of(rows: &[u32], classes: &[u32]) -> Decision
-    ensures { λ r. ⌜ r ≡ said (decision (verdictsIn (now (rows .entry)) (now (classes .entry)))) ⌝ }
+    ensures { λ r. ⌜ decisionOf r ≡ decision (verdictsIn (now (rows .entry)) (now (classes .entry))) ⌝ }
 {
     let permits = counts_in(rows, classes, PERMIT);
     let forbids = counts_in(rows, classes, FORBID);

@@ -16,9 +16,8 @@ use Rattle.cedar.specs.Numbered.{memN}
 use Rattle.sheet.specs.Forms.{mark, SHAPE}
 use Rattle.sheet.specs.Content.{types, schema}
 use Rattle.table.specs.Layout.{rowsOf, held, linesHeld}
-use Rattle.fits.specs.Fit.{found}
+use Rattle.fits.specs.Fit.{foundIn}
 use Rattle.fits.specs.declared.Found as F
-use Rattle.fits.proofs.Search.{found-some, found-none}
 use Rattle.typing.specs.Rules.{kindAt, elementAt, recordAt, attributeAt, attributeTypeAt, tagTypeAt, isAboveAt, actionAt}
 use Rattle.rules.specs.Rules.{ruleIn, schemaAt, tyAt, targetIn, recordRule}
 use Rattle.rules.specs.declared.Rule.{Rule}
@@ -29,11 +28,11 @@ use Rattle.typing.proofs.Joined.{drop-three}
 -- ---- what a search found
 
 module _ (a : List ℕ) (y : ℕ) (f : F.Found) where
-  kind-none : {A : Type 0} (d : A) (g : ℕ → A) → f ≡ found (kindAt a y) → f ≡ F.the-variants.Undeclared → onKind d (tyAt a y) g ≡ d
-  kind-none d g ef e = let q : kindAt a y ≡ none = found-none (kindAt a y) (sym ef ∙ e) in kind-read d g a y ∙ rw q
+  kind-none : {A : Type 0} (d : A) (g : ℕ → A) → foundIn f ≡ kindAt a y → f ≡ F.the-variants.Undeclared → onKind d (tyAt a y) g ≡ d
+  kind-none d g ef e = let q : kindAt a y ≡ none = sym ef ∙ ap foundIn e in kind-read d g a y ∙ rw q
 
-  kind-some : {A : Type 0} (d : A) (g : ℕ → A) (k : ℕ) → f ≡ found (kindAt a y) → f ≡ F.the-variants.As k → onKind d (tyAt a y) g ≡ g k
-  kind-some d g k ef e = let q : kindAt a y ≡ some k = found-some (kindAt a y) k (sym ef ∙ e) in kind-read d g a y ∙ rw q
+  kind-some : {A : Type 0} (d : A) (g : ℕ → A) (k : ℕ) → foundIn f ≡ kindAt a y → f ≡ F.the-variants.As k → onKind d (tyAt a y) g ≡ g k
+  kind-some d g k ef e = let q : kindAt a y ≡ some k = sym ef ∙ ap foundIn e in kind-read d g a y ∙ rw q
 
 on-target : {A : Type 0} (d : A) (g : ℕ → A) (T : Ty) → onTarget d T g ≡ onSome d (onTarget none T some) g
 on-target d g tbool = refl
@@ -49,46 +48,45 @@ on-target d g (tset (trec R)) = refl
 on-target d g (trec R) = refl
 
 module _ (a : List ℕ) (y : ℕ) (f : F.Found) where
-  to-none : {A : Type 0} (d : A) (g : ℕ → A) → f ≡ found (targetIn a y) → f ≡ F.the-variants.Undeclared → onTarget d (tyAt a y) g ≡ d
+  to-none : {A : Type 0} (d : A) (g : ℕ → A) → foundIn f ≡ targetIn a y → f ≡ F.the-variants.Undeclared → onTarget d (tyAt a y) g ≡ d
   unfolding targetIn
-  to-none d g ef e = let q : onTarget none (tyAt a y) some ≡ none = found-none (targetIn a y) (sym ef ∙ e) in on-target d g (tyAt a y) ∙ rw q
+  to-none d g ef e = let q : onTarget none (tyAt a y) some ≡ none = sym ef ∙ ap foundIn e in on-target d g (tyAt a y) ∙ rw q
 
-  to-some : {A : Type 0} (d : A) (g : ℕ → A) (k : ℕ) → f ≡ found (targetIn a y) → f ≡ F.the-variants.As k → onTarget d (tyAt a y) g ≡ g k
+  to-some : {A : Type 0} (d : A) (g : ℕ → A) (k : ℕ) → foundIn f ≡ targetIn a y → f ≡ F.the-variants.As k → onTarget d (tyAt a y) g ≡ g k
   unfolding targetIn
-  to-some d g k ef e = let q : onTarget none (tyAt a y) some ≡ some k = found-some (targetIn a y) k (sym ef ∙ e) in on-target d g (tyAt a y) ∙ rw q
+  to-some d g k ef e = let q : onTarget none (tyAt a y) some ≡ some k = sym ef ∙ ap foundIn e in on-target d g (tyAt a y) ∙ rw q
 
-  pub target-none : (g : F.Found) → f ≡ found (elementAt a y) → f ≡ F.the-variants.Undeclared → g ≡ found (kindAt a y) → g ≡ found (targetIn a y)
-  target-none g ef e eg = let q : elementAt a y ≡ none = found-none (elementAt a y) (sym ef ∙ e) in rw (target-read a y, q) eg
+  pub target-none : (g : F.Found) → foundIn f ≡ elementAt a y → f ≡ F.the-variants.Undeclared → foundIn g ≡ kindAt a y → foundIn g ≡ targetIn a y
+  target-none g ef e eg = let q : elementAt a y ≡ none = sym ef ∙ ap foundIn e in rw (target-read a y, q) eg
 
-  module _ (z : ℕ) (ef : f ≡ found (elementAt a y)) (e : f ≡ F.the-variants.As z) where
+  module _ (z : ℕ) (ef : foundIn f ≡ elementAt a y) (e : f ≡ F.the-variants.As z) where
     through : targetIn a y ≡ onKind none (getD (earlier a y) z tbool) some
-    through = let q : elementAt a y ≡ some z = found-some (elementAt a y) z (sym ef ∙ e) in target-read a y ∙ rw q
+    through = let q : elementAt a y ≡ some z = sym ef ∙ ap foundIn e in target-read a y ∙ rw q
 
     some-self : (o : Option ℕ) → onSome none o some ≡ o
     some-self none = refl
     some-self (some x) = refl
 
-    pub target-some : (g : F.Found) → z < y → g ≡ found (kindAt a z) → g ≡ found (targetIn a y)
-    target-some g h eg = eg ∙ ap found (sym (through ∙ ap (λ (T : Ty). onKind none T some) (earlier-in a y z h) ∙ kind-read none some a z ∙ some-self (kindAt a z)))
+    pub target-some : (g : F.Found) → z < y → foundIn g ≡ kindAt a z → foundIn g ≡ targetIn a y
+    target-some g h eg = eg ∙ sym (through ∙ ap (λ (T : Ty). onKind none T some) (earlier-in a y z h) ∙ kind-read none some a z ∙ some-self (kindAt a z))
 
-    pub target-late : y ≤ z → F.the-variants.Undeclared ≡ found (targetIn a y)
-    unfolding found
-    target-late h = ap found (sym (through ∙ ap (λ (T : Ty). onKind none T some) (earlier-out a y z h)))
+    pub target-late : y ≤ z → foundIn F.the-variants.Undeclared ≡ targetIn a y
+    target-late h = sym (through ∙ ap (λ (T : Ty). onKind none T some) (earlier-out a y z h))
 
 -- ---- `is`, `eq`
 
 module _ (a : List ℕ) (y : ℕ) (f : F.Found) where
-  pub is-silent : (k : ℕ) → f ≡ found (kindAt a y) → f ≡ F.the-variants.Undeclared → ruleIn Silent ≡ unRule (schemaAt a) (uis k) (tyAt a y)
+  pub is-silent : (k : ℕ) → foundIn f ≡ kindAt a y → f ≡ F.the-variants.Undeclared → ruleIn Silent ≡ unRule (schemaAt a) (uis k) (tyAt a y)
   is-silent k ef e = sym (kind-none a y f none (λ l. some (eqb k l)) ef e)
 
-  pub is-says : (k l : ℕ) → f ≡ found (kindAt a y) → f ≡ F.the-variants.As l → ruleIn (Says (eqb k l)) ≡ unRule (schemaAt a) (uis k) (tyAt a y)
+  pub is-says : (k l : ℕ) → foundIn f ≡ kindAt a y → f ≡ F.the-variants.As l → ruleIn (Says (eqb k l)) ≡ unRule (schemaAt a) (uis k) (tyAt a y)
   is-says k l ef e = sym (kind-some a y f none (λ l. some (eqb k l)) l ef e)
 
 module _ (a : List ℕ) (y z : ℕ) (f : F.Found) where
-  pub eq-left : f ≡ found (kindAt a y) → f ≡ F.the-variants.Undeclared → ruleIn Silent ≡ binRule (schemaAt a) beq (tyAt a y) (tyAt a z)
+  pub eq-left : foundIn f ≡ kindAt a y → f ≡ F.the-variants.Undeclared → ruleIn Silent ≡ binRule (schemaAt a) beq (tyAt a y) (tyAt a z)
   eq-left ef e = sym (kind-none a y f none (λ k. onKind none (tyAt a z) (λ l. falseIf (not (eqb k l)))) ef e)
 
-  module _ (k : ℕ) (g : F.Found) (ef : f ≡ found (kindAt a y)) (e : f ≡ F.the-variants.As k) (eg : g ≡ found (kindAt a z)) where
+  module _ (k : ℕ) (g : F.Found) (ef : foundIn f ≡ kindAt a y) (e : f ≡ F.the-variants.As k) (eg : foundIn g ≡ kindAt a z) where
     first : binRule (schemaAt a) beq (tyAt a y) (tyAt a z) ≡ onKind none (tyAt a z) (λ l. falseIf (not (eqb k l)))
     first = kind-some a y f none (λ k. onKind none (tyAt a z) (λ l. falseIf (not (eqb k l)))) k ef e
 
@@ -115,10 +113,10 @@ module _ (a : List ℕ) (y z : ℕ) (f : F.Found) where
   abbrev G : ℕ → ℕ → Option Bool
   G k l = falseIf (not (eqb k l || among l (schemaAt a .shape k .above)))
 
-  pub in-left : f ≡ found (kindAt a y) → f ≡ F.the-variants.Undeclared → ruleIn Silent ≡ relRule (schemaAt a) rin (tyAt a y) (tyAt a z)
+  pub in-left : foundIn f ≡ kindAt a y → f ≡ F.the-variants.Undeclared → ruleIn Silent ≡ relRule (schemaAt a) rin (tyAt a y) (tyAt a z)
   in-left ef e = sym (kind-none a y f none (λ k. onTarget none (tyAt a z) (G k)) ef e)
 
-  module _ (k : ℕ) (g : F.Found) (ef : f ≡ found (kindAt a y)) (e : f ≡ F.the-variants.As k) (eg : g ≡ found (targetIn a z)) where
+  module _ (k : ℕ) (g : F.Found) (ef : foundIn f ≡ kindAt a y) (e : f ≡ F.the-variants.As k) (eg : foundIn g ≡ targetIn a z) where
     in-first : relRule (schemaAt a) rin (tyAt a y) (tyAt a z) ≡ onTarget none (tyAt a z) (G k)
     in-first = kind-some a y f none (λ k. onTarget none (tyAt a z) (G k)) k ef e
 
@@ -146,7 +144,7 @@ tags-as a k = go (eqb (getD (getD (rowsOf a SHAPE) k []) 2 0) mark)
     go true = refl
     go false = refl
 
-module _ (a : List ℕ) (y : ℕ) (f : F.Found) (ef : f ≡ found (kindAt a y)) where
+module _ (a : List ℕ) (y : ℕ) (f : F.Found) (ef : foundIn f ≡ kindAt a y) where
   abbrev H : ℕ → Option Bool
   H k = falseIf (ordinary (schemaAt a .shape k) && undeclared (schemaAt a .shape k .tags))
 
@@ -166,14 +164,14 @@ module _ (a : List ℕ) (y : ℕ) (f : F.Found) (ef : f ≡ found (kindAt a y)) 
 
 -- ---- `has`
 
-module _ (a : List ℕ) (t y : ℕ) (f : F.Found) (ef : f ≡ found (attributeAt a y t)) where
+module _ (a : List ℕ) (t y : ℕ) (f : F.Found) (ef : foundIn f ≡ attributeAt a y t) where
   pub record-says : f ≡ F.the-variants.Undeclared → ruleIn (Says false) ≡ recordRule a t y
   unfolding recordRule
-  record-says e = let q : attributeAt a y t ≡ none = found-none (attributeAt a y t) (sym ef ∙ e) in rw q
+  record-says e = let q : attributeAt a y t ≡ none = sym ef ∙ ap foundIn e in rw q
 
   pub record-silent : (z : ℕ) → f ≡ F.the-variants.As z → ruleIn Silent ≡ recordRule a t y
   unfolding recordRule
-  record-silent z e = let q : attributeAt a y t ≡ some z = found-some (attributeAt a y t) z (sym ef ∙ e) in rw q
+  record-silent z e = let q : attributeAt a y t ≡ some z = sym ef ∙ ap foundIn e in rw q
 
 attrs-as : (a : List ℕ) (t k : ℕ) → undeclared (declared t (schemaAt a .shape k .attrs)) ≡ onSome true (recordAt a (attributeTypeAt a k)) (λ z. undeclared (attributeAt a z t))
 unfolding schemaAt schema tyAt held linesHeld attributeTypeAt
@@ -183,27 +181,27 @@ module _ (a : List ℕ) (t k : ℕ) (b : Bool) (eb : b ≡ actionAt a k) where
   pub has-action : b ≡ true → ruleIn Silent ≡ hasRule (schemaAt a) t (tent k)
   has-action h = rw (action-as a k, ← eb, h)
 
-  module _ (y : ℕ) (f : F.Found) (h : b ≡ false) (ey : y ≡ attributeTypeAt a k) (ef : f ≡ found (recordAt a y)) where
+  module _ (y : ℕ) (f : F.Found) (h : b ≡ false) (ey : y ≡ attributeTypeAt a k) (ef : foundIn f ≡ recordAt a y) where
     pub has-no-record : f ≡ F.the-variants.Undeclared → ruleIn (Says false) ≡ hasRule (schemaAt a) t (tent k)
-    has-no-record e = let q : recordAt a y ≡ none = found-none (recordAt a y) (sym ef ∙ e) in rw (action-as a k, ← eb, h, attrs-as a t k, ← ey, q)
+    has-no-record e = let q : recordAt a y ≡ none = sym ef ∙ ap foundIn e in rw (action-as a k, ← eb, h, attrs-as a t k, ← ey, q)
 
     pub has-shape : (z : ℕ) (r : Rule) → f ≡ F.the-variants.As z → ruleIn r ≡ recordRule a t z → ruleIn r ≡ hasRule (schemaAt a) t (tent k)
     unfolding recordRule
-    has-shape z r e q = let p : recordAt a y ≡ some z = found-some (recordAt a y) z (sym ef ∙ e) in rw (action-as a k, ← eb, h, attrs-as a t k, ← ey, p) q
+    has-shape z r e q = let p : recordAt a y ≡ some z = sym ef ∙ ap foundIn e in rw (action-as a k, ← eb, h, attrs-as a t k, ← ey, p) q
 
-module _ (a : List ℕ) (t y : ℕ) (f : F.Found) (ef : f ≡ found (kindAt a y)) where
+module _ (a : List ℕ) (t y : ℕ) (f : F.Found) (ef : foundIn f ≡ kindAt a y) where
   pub has-entity : (k : ℕ) (r : Rule) → f ≡ F.the-variants.As k → ruleIn r ≡ hasRule (schemaAt a) t (tent k) → ruleIn r ≡ hasRule (schemaAt a) t (tyAt a y)
-  has-entity k r e q = let p : kindAt a y ≡ some k = found-some (kindAt a y) k (sym ef ∙ e) in rw (has-read a t y (schemaAt a), p) q
+  has-entity k r e q = let p : kindAt a y ≡ some k = sym ef ∙ ap foundIn e in rw (has-read a t y (schemaAt a), p) q
 
-  module _ (g : F.Found) (e : f ≡ F.the-variants.Undeclared) (eg : g ≡ found (recordAt a y)) where
+  module _ (g : F.Found) (e : f ≡ F.the-variants.Undeclared) (eg : foundIn g ≡ recordAt a y) where
     pub has-other : g ≡ F.the-variants.Undeclared → ruleIn Silent ≡ hasRule (schemaAt a) t (tyAt a y)
     has-other h =
-        let p : kindAt a y ≡ none = found-none (kindAt a y) (sym ef ∙ e) in
-        let q : recordAt a y ≡ none = found-none (recordAt a y) (sym eg ∙ h) in
+        let p : kindAt a y ≡ none = sym ef ∙ ap foundIn e in
+        let q : recordAt a y ≡ none = sym eg ∙ ap foundIn h in
         rw (has-read a t y (schemaAt a), p, q)
 
     pub has-record : (z : ℕ) (r : Rule) → g ≡ F.the-variants.As z → ruleIn r ≡ recordRule a t z → ruleIn r ≡ hasRule (schemaAt a) t (tyAt a y)
     has-record z r h er =
-        let p : kindAt a y ≡ none = found-none (kindAt a y) (sym ef ∙ e) in
-        let q : recordAt a y ≡ some z = found-some (recordAt a y) z (sym eg ∙ h) in
+        let p : kindAt a y ≡ none = sym ef ∙ ap foundIn e in
+        let q : recordAt a y ≡ some z = sym eg ∙ ap foundIn h in
         rw (has-read a t y (schemaAt a), p, q) er

@@ -13,7 +13,7 @@ ghost use mathlib.Core.Path.{_≡_};
 ghost use Rattle.cedar.specs.Types.{tstr, tent};
 ghost use Rattle.cedar.specs.Residual.{uis, beq, rin, rhastag};
 ghost use Rattle.cedar.specs.TypeRules.{unRule, binRule, relRule, hasRule};
-ghost use Rattle.fits.specs.Fit.{found};
+ghost use Rattle.fits.specs.Fit.{foundIn};
 ghost use Rattle.rules.specs.Rules.{ruleIn, schemaAt, tyAt, targetIn, recordRule};
 
 // What a rule says of a node, where it decides.
@@ -55,7 +55,7 @@ pub fn eq_rule(rows: &[u32], ty: u32, other: u32) -> Rule
 
 // The kind of an entity type or of a set of entities. A type refers to earlier ones: a row that names a later one is read as a set of bools.
 fn target_of(rows: &[u32], ty: u32) -> Found
-    ensures { λ f. ⌜ f ≡ found (targetIn (now (rows .entry)) ty) ⌝ }
+    ensures { λ f. ⌜ foundIn f ≡ targetIn (now (rows .entry)) ty ⌝ }
 {
     let f = element_of(rows, ty);
     let Found::As(e) = f else {

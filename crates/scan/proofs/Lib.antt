@@ -4,5 +4,6 @@ pub mod Packing
 pub mod Decimals
 pub mod Wordlists
 pub mod Starts
+pub mod Indices
 pub mod Lines
 pub mod Readings

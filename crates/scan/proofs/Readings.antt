@@ -8,7 +8,7 @@ use Prim.Native.String.{String}
 use native.Mathlib.Omega.{arith}
 use native.Mathlib.Decide.{decLt}
 use native.Mathlib.Numerals.{add-one}
-use borrow.Author.Tests.{lt-ltb, le-ltb, ltb-true, ltb-false}
+use borrow.Author.Tests.{le-leb, lt-leb, ltb-true, ltb-false}
 use lib.Dec.{ltb}
 use lib.ListN.{length, take, drop, drop-of-length-le, List·getD-eq-default}
 use lib.Seq.{drop-drop}
@@ -24,53 +24,84 @@ use Rattle.scan.specs.declared.Heading as H
 use Rattle.scan.specs.declared.Line as L
 use Rattle.scan.specs.declared.Item as I
 use Rattle.scan.specs.declared.Counted as C
-use Rattle.scan.specs.Places.{place, keyed, headingOf, entered, lineAfter, lineTo, lineAt, itemsAt, itemAt, LineRead, NumberRead, numberAt, handed, asIndex, itemsBy, indexBy, firstIndex}
+use Rattle.scan.specs.Places.{place, keyed, headingOf, entered, lineAfter, lineTo, lineAt, partsFrom, itemsAt, itemEnd, itemAt, lead, told, handed, numberAt, indexBy, firstIndex, LineRead, ItemRead, NumberRead}
 use Rattle.scan.proofs.Scans.{drop-take}
-use Rattle.scan.proofs.Splits.{found-le, split-parts, split-at, after-on, after-end}
+use Rattle.scan.proofs.Splits.{found-le, split-parts, split-at, from-on, from-end}
 
 -- ---- items: reading one takes the first of those left
 
 module _ (s : List ℕ) (c : Cursor) where
   pub items-end : I.the-variants.End ≡ itemAt s c → itemsAt s c ≡ []
   unfolding itemAt
-  items-end e = go (decLt (c .at) (length s))
+  items-end e = go (decLt (length s) (c .at))
     where
-      go : Dec (c .at < length s) → itemsAt s c ≡ []
-      go (yes d) = let z : _≡_ {A = ℕ} 0 1 = let q = rw (lt-ltb (c .at) (length s) d) at e in cc in absurd (omega arith)
-      go (no d) = after-end 44 s (c .at) (omega arith)
+      go : Dec (length s < c .at) → itemsAt s c ≡ []
+      go (yes d) = from-end 44 s (c .at) d
+      go (no d) = let z : _≡_ {A = ℕ} 0 1 = let q = rw (le-leb (c .at) (length s) (omega arith)) at e in cc in absurd (omega arith)
 
--- an item that was read, with the cursor after it
-pub record Walked (s : List ℕ) (c : Cursor) (start : ℕ) (next : Cursor) : Type 0 where
-  pub begins : start ≡ c .at + 1
-  pub within : start ≤ next .at
-  pub ends : next .at ≤ length s
+  -- the first of them, where there is one
+  pub items-first : c .at ≤ length s → itemsAt s c ≡ part s (c .at) (itemEnd s (c .at)) ∷ partsFrom 44 s (itemEnd s (c .at) + 1)
+  items-first h = from-on 44 s (c .at) h ∙ split-at 44 s (c .at) (itemEnd s (c .at)) h refl
+
+-- an item that was read up to byte e, with the cursor after it
+pub record Walked (s : List ℕ) (c : Cursor) (e : ℕ) (next : Cursor) : Type 0 where
+  pub begins : c .at ≤ length s
+  pub end : e ≡ itemEnd s (c .at)
+  pub within : e ≤ length s
+  pub next-at : next .at ≡ e + 1
   pub line-kept : next .line ≡ c .line
-  pub items : itemsAt s c ≡ part s start (next .at) ∷ itemsAt s next
+  pub items : itemsAt s c ≡ part s (c .at) e ∷ itemsAt s next
 
-pub items-part : (s : List ℕ) (c : Cursor) (start : ℕ) (next : Cursor) → I.the-variants.Part start next ≡ itemAt s c → Walked s c start next
+walked : (s : List ℕ) (c : Cursor) (e : ℕ) (next : Cursor) → c .at ≤ length s → e ≡ itemEnd s (c .at) → next ≡ place (c .line) (e + 1) → Walked s c e next
+walked s c e next h f m =
+    let a : next .at ≡ e + 1 = ap (λ (x : Cursor). x .at) m in
+    record {
+      begins = h;
+      end = f;
+      within = found-le 44 s (c .at) e h f;
+      next-at = a;
+      line-kept = ap (λ (x : Cursor). x .line) m;
+      items = rw (a, f) (items-first s c h);
+    }
+
+pub items-part : (s : List ℕ) (c : Cursor) (e : ℕ) (next : Cursor) → I.the-variants.Part e next ≡ itemAt s c → Walked s c e next
 unfolding itemAt
-items-part s c start next e = go (decLt (c .at) (length s))
+items-part s c e next q = go (decLt (length s) (c .at))
   where
-    n : ℕ
-    n = c .at + 1 + upTo 44 (drop (c .at + 1) s)
+    go : Dec (length s < c .at) → Walked s c e next
+    go (yes d) = let y = rw (lt-leb (c .at) (length s) d) at q in let z : _≡_ {A = ℕ} 0 1 = cc in absurd (omega arith)
+    go (no d) =
+        let h : c .at ≤ length s = omega arith in
+        let y = rw (le-leb (c .at) (length s) h) at q in
+        let f : e ≡ itemEnd s (c .at) = cc in
+        let m : next ≡ place (c .line) (itemEnd s (c .at) + 1) = cc in
+        walked s c e next h f (m ∙ ap (λ (i : ℕ). place (c .line) (i + 1)) (sym f))
 
-    go : Dec (c .at < length s) → Walked s c start next
-    go (no d) = let q = rw (le-ltb (c .at) (length s) (omega arith)) at e in let z : _≡_ {A = ℕ} 0 1 = cc in absurd (omega arith)
-    go (yes d) =
-        let q = rw (lt-ltb (c .at) (length s) d) at e in
-        let b : start ≡ c .at + 1 = cc in
-        let m : next ≡ place (c .line) n = cc in
-        let a : next .at ≡ n = ap (λ (x : Cursor). x .at) m in
-        let l : c .at + 1 ≤ length s = omega arith in
-        let f : next .at ≡ start + upTo 44 (drop start s) = rw b a in
-        let w : start ≤ length s = omega arith in
-        record {
-          begins = b;
-          within = omega arith;
-          ends = found-le 44 s start (next .at) w f;
-          line-kept = ap (λ (x : Cursor). x .line) m;
-          items = after-on 44 s (c .at) d ∙ rw (← b) (split-at 44 s start (next .at) w f);
-        }
+-- ---- numbers: the first item as an index
+
+-- an index that was read, with the cursor after it
+pub record Numbered (s : List ℕ) (c : Cursor) (n : ℕ) (next : Cursor) : Type 0 where
+  pub index-is : index (part s (c .at) (itemEnd s (c .at))) ≡ some n
+  pub item : Walked s c (itemEnd s (c .at)) next
+
+part-lead : (s : List ℕ) (c : Cursor) → part s (c .at) (itemEnd s (c .at)) ≡ lead (drop (c .at) s)
+part-lead s c = let z : itemEnd s (c .at) - c .at ≡ upTo 44 (drop (c .at) s) = omega arith in ap (λ (n : ℕ). take n (drop (c .at) s)) z
+
+module _ (s : List ℕ) (c : Cursor) (n : ℕ) (next : Cursor) where
+  handed-some : (k : ℕ) (o : Option ℕ) → C.the-variants.Value n next ≡ handed c (told k o) → (o ≡ some n) × (next ≡ place (c .line) (c .at + k + 1))
+  handed-some k none q = let z : _≡_ {A = ℕ} 0 1 = cc in absurd (omega arith)
+  handed-some k (some i) q = let a : i ≡ n = cc in let b : next ≡ place (c .line) (c .at + k + 1) = cc in (ap some a, b)
+
+  pub numbered : C.the-variants.Value n next ≡ numberAt s c → Numbered s c n next
+  unfolding numberAt
+  numbered q = go (decLt (length s) (c .at))
+    where
+      go : Dec (length s < c .at) → Numbered s c n next
+      go (yes d) = let y = rw (lt-leb (c .at) (length s) d) at q in let z : _≡_ {A = ℕ} 0 1 = cc in absurd (omega arith)
+      go (no d) =
+          let h : c .at ≤ length s = omega arith in
+          let y = handed-some (upTo 44 (drop (c .at) s)) (index (lead (drop (c .at) s))) (rw (le-leb (c .at) (length s) h) at q) in
+          record { index-is = ap index (part-lead s c) ∙ y .0; item = walked s c (itemEnd s (c .at)) next h refl (y .1) }
 
 -- ---- a key that is none of all: its line has no row
 
@@ -197,11 +228,11 @@ module _ (s : List ℕ) (c : Cursor) where
 
   lines-at : stop < length s → split 10 (drop (c .at) s) ≡ part s (c .at) stop ∷ split 10 (drop (stop + 1) s)
   unfolding stop
-  lines-at h = split-at 10 s (c .at) stop (starts h) refl ∙ ap (λ (t : List (List ℕ)). part s (c .at) stop ∷ t) (after-on 10 s stop h)
+  lines-at h = split-at 10 s (c .at) stop (starts h) refl ∙ ap (λ (t : List (List ℕ)). part s (c .at) stop ∷ t) (from-on 10 s (stop + 1) (omega arith))
 
   lines-last : length s ≤ stop → c .at ≤ length s → split 10 (drop (c .at) s) ≡ part s (c .at) stop ∷ []
   unfolding stop
-  lines-last h l = split-at 10 s (c .at) stop l refl ∙ ap (λ (t : List (List ℕ)). part s (c .at) stop ∷ t) (after-end 10 s stop h)
+  lines-last h l = split-at 10 s (c .at) stop l refl ∙ ap (λ (t : List (List ℕ)). part s (c .at) stop ∷ t) (from-end 10 s (stop + 1) (omega arith))
 
   pub line-entered : (k : ℕ) (equals : Cursor) (e : ℕ) (next : Cursor) → L.the-variants.Entry k equals e next ≡ lineAt s c → Entered s c k equals e next
   unfolding lineTo stop
@@ -314,17 +345,21 @@ line-read s c (L.the-variants.Entry k equals e next) q = record { is = q; reads-
 line-read s c L.the-variants.Faulty q = record { is = q; reads-on = λ m st i. reading-faulty s c m st i q }
 line-read s c L.the-variants.End q = record { is = q; reads-on = λ m st i. reading-end s c m st i q }
 
-pub item-items : (s : List ℕ) (c : Cursor) (r : I.Item) → r ≡ itemAt s c → itemsAt s c ≡ itemsBy s r
-item-items s c (I.the-variants.Part start next) e = items-part s c start next e .items
-item-items s c I.the-variants.End e = items-end s c e
+pub item-read : (s : List ℕ) (c : Cursor) (r : I.Item) → r ≡ itemAt s c → ItemRead s c r
+item-read s c (I.the-variants.Part e next) q = record { is = q; items = items-part s c e next q .items }
+item-read s c I.the-variants.End q = record { is = q; items = items-end s c q }
 
 pub number-read : (s : List ℕ) (c : Cursor) (r : C.Counted) → r ≡ numberAt s c → NumberRead s c r
-number-read s c r e = record { is = e; index-is = ap firstIndex (item-items s c (itemAt s c) refl) ∙ by-item (itemAt s c) ∙ ap indexBy (sym e) }
+unfolding numberAt
+number-read s c r e = record { is = e; index-is = go (decLt (length s) (c .at)) ∙ ap indexBy (sym e) }
   where
-    by-index : (next : Cursor) (o : Option ℕ) → o ∷ [] ≡ indexBy (handed next o)
-    by-index next none = refl
-    by-index next (some n) = refl
+    by-index : (k : ℕ) (o : Option ℕ) → o ≡ indexBy (handed c (told k o))
+    by-index k none = refl
+    by-index k (some n) = refl
 
-    by-item : (i : I.Item) → firstIndex (itemsBy s i) ≡ indexBy (asIndex s i)
-    by-item (I.the-variants.Part start next) = by-index next (index (part s start (next .at)))
-    by-item I.the-variants.End = refl
+    go : Dec (length s < c .at) → firstIndex (itemsAt s c) ≡ indexBy (numberAt s c)
+    go (yes d) = rw (from-end 44 s (c .at) d, lt-leb (c .at) (length s) d) refl
+    go (no d) =
+        let h : c .at ≤ length s = omega arith in
+        ap firstIndex (items-first s c h) ∙ ap index (part-lead s c)
+        ∙ rw (le-leb (c .at) (length s) h) (by-index (upTo 44 (drop (c .at) s)) (index (lead (drop (c .at) s))))

@@ -201,8 +201,9 @@ rest-none s a h = rw (drop-of-length-le s {i = a} (omega arith))
 pub rest-part : (s r : List ℕ) (a e : ℕ) → length s < e → r ≡ drop a s → r ≡ part s a e
 rest-part s r a e h p = p ∙ sym (take-all (e - a) (drop a s) (rw (length-drop a s) (omega arith)))
 
-pub value-none : (s r : List ℕ) (a : ℕ) → length s ≤ a → r ≡ drop a s → r ≡ drop (a + 1) s
-value-none s r a h p = p ∙ drop-of-length-le s h ∙ sym (drop-of-length-le s {i = a + 1} (omega arith))
+pub value-none : (s r : List ℕ) (a e : ℕ) → length s ≤ a → r ≡ drop a s → r ≡ part s (a + 1) e
+value-none s r a e h p =
+    p ∙ drop-of-length-le s h ∙ sym (ap (take (e - (a + 1))) (drop-of-length-le s {i = a + 1} (omega arith)) ∙ take-nil (e - (a + 1)))
 
 -- the value of a line, in the part of the sheet that ends with the line
 pub drop-take : (e a : ℕ) (s : List ℕ) → drop a (take e s) ≡ part s a e

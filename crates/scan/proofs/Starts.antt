@@ -23,9 +23,10 @@ use Rattle.scan.specs.declared.Number as N
 use Rattle.scan.specs.declared.Heading as H
 use Rattle.scan.specs.declared.Line as L
 use Rattle.scan.specs.Numbers.{numberOf, following, placed}
-use Rattle.scan.specs.Places.{place, keyed, headingOf, startOf, isPrintable, plainTo, lineAfter, lineTo, lineAt}
+use Rattle.scan.specs.Places.{place, keyed, headingOf, startOf, isPrintable, plainTo, lineAfter, lineTo, lineAt, HeadingRead}
 use Rattle.scan.proofs.Scans.{rest-is}
 use Rattle.scan.proofs.Wordlists.{word-number}
+use Rattle.scan.proofs.Readings.{row-keyed, row-malformed}
 
 -- ---- the first byte that is not printable
 
@@ -166,6 +167,12 @@ start-malformed d m e = go (printable l) (ltb (upTo 61 l) (length l)) refl
         let w : take (upTo 61 d) l ≡ take (upTo 61 d) d = take-take (upTo 61 d) m d (omega (arith, s .1)) in
         let q = rw (lt-ltb (upTo 61 d) (length d) (omega (arith, s .0))) at e in
         rw (u, w) (sym q)
+
+pub heading-read : (d : List ℕ) (r : H.Heading) → r ≡ startOf d → HeadingRead d r
+heading-read d (H.the-variants.Keyed k n) e =
+    let s = started d k n e in
+    record { is = e; row = λ m i lt le p. row-keyed m (take i d) k n (sym (start-heading d k n i s (omega (arith, s .equals)) le p)) .1 }
+heading-read d H.the-variants.Malformed e = record { is = e; row = λ m i lt le p. row-malformed m (take i d) (sym (start-malformed d i e)) }
 
 -- bytes that begin with a key and `=`
 pub start-known : (d w : List ℕ) (k n : ℕ) → w ≡ take (n + 1) d → n < length d → upTo 61 w ≡ n → n < length w → wordNumber (take n w) keys ≡ some k → H.the-variants.Keyed k n ≡ startOf d

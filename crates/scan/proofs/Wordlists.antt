@@ -15,8 +15,8 @@ use Rattle.sheet.specs.Bytes.{upTo, split, same}
 use Rattle.sheet.specs.Forms.{keys, forms, placeIn, wordNumber, tagOf, TYPE, VALUE, NODE, firstType, firstValue, firstNode, noTag}
 use Rattle.scan.specs.declared.Number as N
 use Rattle.scan.specs.Numbers.{numberOf, following, placed, formAfter}
-use Rattle.scan.specs.Places.{partsAfter}
-use Rattle.scan.proofs.Splits.{split-at, after-on, after-end}
+use Rattle.scan.specs.Places.{partsFrom}
+use Rattle.scan.proofs.Splits.{split-at, from-on, from-end}
 
 -- a place counted from i
 pub later : ℕ → Option ℕ → Option ℕ
@@ -43,10 +43,10 @@ pub searching-start : (w l : List ℕ) → Searching w l 0 0
 searching-start w l = record { near = omega arith; few = omega arith; left = sym (later-zero (placed w (split 44 l))) }
 
 module _ (w l : List ℕ) (i a e : ℕ) (k : Searching w l i a) (f : e ≡ a + upTo 44 (drop a l)) (q : List ℕ) (p : q ≡ part l a e) (r : Bool) (s : r ≡ same w q) where
-  here : placed w (split 44 (drop a l)) ≡ cond r (some 0) (following (placed w (partsAfter 44 l e)))
+  here : placed w (split 44 (drop a l)) ≡ cond r (some 0) (following (placed w (partsFrom 44 l (e + 1))))
   here =
       ap (placed w) (split-at 44 l a e (k .near) f)
-      ∙ ap (λ (t : Bool). cond t (some 0) (following (placed w (partsAfter 44 l e)))) (ap (same w) (sym p) ∙ sym s)
+      ∙ ap (λ (t : Bool). cond t (some 0) (following (placed w (partsFrom 44 l (e + 1))))) (ap (same w) (sym p) ∙ sym s)
 
   pub searching-hit : r ≡ true → numberOf (N.the-variants.Value i) ≡ placed w (split 44 l)
   unfolding later
@@ -58,12 +58,12 @@ module _ (w l : List ℕ) (i a e : ℕ) (k : Searching w l i a) (f : e ≡ a + u
   pub searching-end : r ≡ false → length l ≤ e → numberOf N.the-variants.Refused ≡ placed w (split 44 l)
   unfolding later
   searching-end t h =
-      let g : placed w (split 44 (drop a l)) ≡ none = here ∙ rw (t, after-end 44 l e h) in
+      let g : placed w (split 44 (drop a l)) ≡ none = here ∙ rw (t, from-end 44 l (e + 1) (omega arith)) in
       sym (k .left ∙ ap (later i) g)
 
   pub searching-on : r ≡ false → e < length l → Searching w l (i + 1) (e + 1)
   searching-on t h =
-      let g : placed w (split 44 (drop a l)) ≡ following (placed w (split 44 (drop (e + 1) l))) = here ∙ rw (t, after-on 44 l e h) in
+      let g : placed w (split 44 (drop a l)) ≡ following (placed w (split 44 (drop (e + 1) l))) = here ∙ rw (t, from-on 44 l (e + 1) (omega arith)) in
       record {
         near = omega arith;
         few = omega (arith, k .few);

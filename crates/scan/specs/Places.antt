@@ -1,20 +1,21 @@
 -- What stands at a place of a sheet: the line, the next item, the next number.
-use mathlib.Core.Bool.{Bool, cond, _&&_}
+use mathlib.Core.Bool.{Bool, true, cond, _&&_}
 use mathlib.Core.Option.{Option, none, some}
 use mathlib.Core.List.{List, [], _∷_}
 use mathlib.Core.Path.{_≡_}
-use Prim.Native.Nat.{ℕ, suc, _+_, min}
+use Prim.Native.Nat.{ℕ, suc, _+_, _≤_, _<_, min}
 use lib.Dec.{ltb, leb}
 use lib.ListN.{length, take, drop}
 use Rattle.words.specs.Log.{part}
 use Rattle.sheet.specs.Bytes.{upTo, split, printable, index}
-use Rattle.sheet.specs.Forms.{Mode, keys, wordNumber, rowOfValue}
+use Rattle.sheet.specs.Forms.{Mode, keys, wordNumber, rowOfValue, rowOf}
 use Rattle.sheet.specs.State.{State}
 use Rattle.sheet.specs.Sheet.{Reading, reads, ending, lineRead, reading}
 use Rattle.scan.specs.declared.Cursor.{Cursor}
 use Rattle.scan.specs.declared.Heading as H
 use Rattle.scan.specs.declared.Line as L
 use Rattle.scan.specs.declared.Item as I
+use Rattle.scan.specs.declared.Leading as D
 use Rattle.scan.specs.declared.Counted as C
 
 abbrev pub place : ℕ → ℕ → Cursor
@@ -61,32 +62,43 @@ lineTo s c e =
 abbrev pub lineAt : List ℕ → Cursor → L.Line
 lineAt s c = lineTo s c (c .at + upTo 10 (drop (c .at) s))
 
--- ---- items, in the part of the sheet that ends with the line
+-- ---- items of a value, whose bytes count from 0
 
--- the parts after the separator at a place; none where no byte stands there
-unfoldable pub partsAfter : ℕ → List ℕ → ℕ → List (List ℕ)
-partsAfter b s e = cond (ltb e (length s)) (split b (drop (suc e) s)) []
+-- the parts from a place on; none past the end
+unfoldable pub partsFrom : ℕ → List ℕ → ℕ → List (List ℕ)
+partsFrom b s a = cond (leb a (length s)) (split b (drop a s)) []
 
--- the items after the `=` or the comma at a cursor
+-- the items from the one on that begins at a cursor
 abbrev pub itemsAt : List ℕ → Cursor → List (List ℕ)
-itemsAt s c = partsAfter 44 s (c .at)
+itemsAt s c = partsFrom 44 s (c .at)
 
--- the first of them
+-- the end of the item that begins at a byte
+abbrev pub itemEnd : List ℕ → ℕ → ℕ
+itemEnd s a = a + upTo 44 (drop a s)
+
+-- the first of the items at a cursor
 unfoldable pub itemAt : List ℕ → Cursor → I.Item
-itemAt s c =
-    cond (ltb (c .at) (length s)) (I.the-variants.Part (c .at + 1) (place (c .line) (c .at + 1 + upTo 44 (drop (c .at + 1) s)))) I.the-variants.End
+itemAt s c = cond (leb (c .at) (length s)) (I.the-variants.Part (itemEnd s (c .at)) (place (c .line) (itemEnd s (c .at) + 1))) I.the-variants.End
 
--- it as an index
-abbrev pub handed : Cursor → Option ℕ → C.Counted
-handed next none = C.the-variants.Refused
-handed next (some n) = C.the-variants.Value n next
+-- the bytes before the first comma
+abbrev pub lead : List ℕ → List ℕ
+lead l = take (upTo 44 l) l
 
-abbrev pub asIndex : List ℕ → I.Item → C.Counted
-asIndex s (I.the-variants.Part start next) = handed next (index (part s start (next .at)))
-asIndex s I.the-variants.End = C.the-variants.End
+-- they as an index, and how many they are
+abbrev pub told : ℕ → Option ℕ → D.Leading
+told k none = D.the-variants.Other
+told k (some n) = D.the-variants.Index n k
 
-abbrev pub numberAt : List ℕ → Cursor → C.Counted
-numberAt s c = asIndex s (itemAt s c)
+abbrev pub indexIn : List ℕ → D.Leading
+indexIn s = told (upTo 44 s) (index (lead s))
+
+-- the item at a cursor as an index
+abbrev pub handed : Cursor → D.Leading → C.Counted
+handed c (D.the-variants.Index n k) = C.the-variants.Value n (place (c .line) (c .at + k + 1))
+handed c D.the-variants.Other = C.the-variants.Refused
+
+unfoldable pub numberAt : List ℕ → Cursor → C.Counted
+numberAt s c = cond (leb (c .at) (length s)) (handed c (indexIn (drop (c .at) s))) C.the-variants.Refused
 
 -- ---- what each case of an answer is to the definition of the sheet
 
@@ -103,25 +115,41 @@ readingBy m st i s L.the-variants.Faulty = reads st 3 i
 readingBy m st i s L.the-variants.End = ending st i
 
 -- the items left: the one that was read and those after it
-abbrev pub itemsBy : List ℕ → I.Item → List (List ℕ)
-itemsBy s (I.the-variants.Part start next) = part s start (next .at) ∷ itemsAt s next
-itemsBy s I.the-variants.End = []
+abbrev pub itemsBy : List ℕ → Cursor → I.Item → List (List ℕ)
+itemsBy s c (I.the-variants.Part e next) = part s (c .at) e ∷ itemsAt s next
+itemsBy s c I.the-variants.End = []
 
--- the first of them as an index, if there is one: none where it is malformed
-abbrev pub indexBy : C.Counted → List (Option ℕ)
-indexBy (C.the-variants.Value n next) = some n ∷ []
-indexBy C.the-variants.Refused = none ∷ []
-indexBy C.the-variants.End = []
+-- an index, of digits or of an item: none, which is refusal 3, where it is malformed
+abbrev pub leadOf : D.Leading → Option ℕ
+leadOf (D.the-variants.Index n k) = some n
+leadOf D.the-variants.Other = none
 
-abbrev pub firstIndex : List (List ℕ) → List (Option ℕ)
-firstIndex [] = []
-firstIndex (x ∷ l) = index x ∷ []
+abbrev pub indexBy : C.Counted → Option ℕ
+indexBy (C.the-variants.Value n next) = some n
+indexBy C.the-variants.Refused = none
 
--- ---- the promises of those that read a line or a number
+abbrev pub firstIndex : List (List ℕ) → Option ℕ
+firstIndex [] = none
+firstIndex (x ∷ l) = index x
+
+-- ---- the promises of those that read a line, an item or a number
+
+-- the row of each line that begins with these bytes
+pub record HeadingRead (s : List ℕ) (r : H.Heading) : Type 0 where
+  pub is : r ≡ startOf s
+  pub row : (m : Mode) (n : ℕ) → upTo 61 s < n → n ≤ length s → printable (take n s) ≡ true → rowOf m (take n s) ≡ rowBy m (take n s) r
 
 pub record LineRead (s : List ℕ) (c : Cursor) (r : L.Line) : Type 0 where
   pub is : r ≡ lineAt s c
   pub reads-on : (m : Mode) (st : State) (i : ℕ) → reading m (split 10 (drop (c .at) s)) st i ≡ readingBy m st i s r
+
+pub record ItemRead (s : List ℕ) (c : Cursor) (r : I.Item) : Type 0 where
+  pub is : r ≡ itemAt s c
+  pub items : itemsAt s c ≡ itemsBy s c r
+
+pub record LeadingRead (s : List ℕ) (r : D.Leading) : Type 0 where
+  pub is : r ≡ indexIn s
+  pub index-is : leadOf r ≡ index (lead s)
 
 pub record NumberRead (s : List ℕ) (c : Cursor) (r : C.Counted) : Type 0 where
   pub is : r ≡ numberAt s c

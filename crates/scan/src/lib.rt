@@ -56,12 +56,12 @@ use forms::VAR;
 ghost use mathlib.Core.Path.{_≡_};
 ghost use mathlib.Core.Bool.{cond};
 ghost use Prim.Native.Nat.{_+_, _≤_, _<_};
-ghost use lib.ListN.{length, take, drop};
+ghost use lib.ListN.{length, getD, take, drop};
 ghost use Rattle.words.specs.Log.{part};
 ghost use Rattle.sheet.specs.Bytes.{upTo, split, same, printable, digitsFrom, decimal, atMost, index, half, upward, downward, long};
 ghost use Rattle.sheet.specs.Forms.{keys, wordNumber, tagOf, TYPE, VALUE, NODE};
 ghost use Rattle.scan.specs.Numbers.{numberOf, placed, formAfter, Packed, WordRead};
-ghost use Rattle.scan.specs.Places.{headingOf, startOf, isPrintable, plainTo, lineAfter, itemAt, LineRead, NumberRead};
+ghost use Rattle.scan.specs.Places.{isPrintable, plainTo, lineAfter, HeadingRead, LineRead, LeadingRead, ItemRead, NumberRead};
 
 // 2^63, which a long is held above.
 const HALF: u64 = 9223372036854775808;
@@ -105,17 +105,22 @@ pub enum Line {
     End,
 }
 
-// An item: where it begins, and the cursor at its end.
+// An index in front of some bytes: its number, and how many bytes it takes.
+enum Leading {
+    Index(u32, usize),
+    Other,
+}
+
+// An item: its end, and the cursor at the next item.
 pub enum Item {
     Part(usize, Cursor),
     End,
 }
 
-// An item read as an index, and the cursor at its end.
+// An item read as an index, and the cursor at the next item.
 pub enum Counted {
-    Value(u64, Cursor),
+    Value(u32, Cursor),
     Refused,
-    End,
 }
 
 // ---- parts
@@ -532,6 +537,59 @@ pub fn index_of(bytes: &[u8]) -> Number
     }
 }
 
+// A zero in front, which stands alone.
+fn front_zero(bytes: &[u8]) -> Leading
+    requires { ⌜ (0 < length (now bytes)) × (getD (now bytes) 0 0 ≡ 48) ⌝ }
+    ensures { λ r. ⌜ LeadingRead (now (bytes .entry)) r ⌝ }
+{
+    if 1 >= bytes.len() {
+        return Leading::Index(0, 1);
+    }
+    if bytes[1] == b',' {
+        return Leading::Index(0, 1);
+    }
+    Leading::Other
+}
+
+// The index that stands before the first comma, or the end.
+fn front_index(bytes: &[u8]) -> Leading
+    ensures { λ r. ⌜ LeadingRead (now (bytes .entry)) r ⌝ }
+{
+    if bytes.len() == 0 {
+        return Leading::Other;
+    }
+    let x = bytes[0];
+    if x == b'0' {
+        return front_zero(bytes);
+    }
+    if x < b'0' {
+        return Leading::Other;
+    }
+    if x > b'9' {
+        return Leading::Other;
+    }
+    let mut n = (x - b'0') as u32;
+    let mut i = 1;
+    while i < bytes.len() {
+        let y = bytes[i];
+        if y == b',' {
+            return Leading::Index(n, i);
+        }
+        if y < b'0' {
+            return Leading::Other;
+        }
+        if y > b'9' {
+            return Leading::Other;
+        }
+        if n > 999 {
+            return Leading::Other;
+        }
+        n = n * 10 + (y - b'0') as u32;
+        i += 1;
+    }
+    Leading::Index(n, i)
+}
+
 // A long from its size, without a sign.
 fn up(size: Number) -> Number
     ensures { λ l. ⌜ numberOf l ≡ upward (numberOf size) ⌝ }
@@ -619,7 +677,7 @@ fn printable_end(bytes: &[u8]) -> usize
 
 // The key that stands before the first `=` of these bytes.
 fn key_found(bytes: &[u8]) -> Heading
-    ensures { λ r. ⌜ r ≡ startOf (now (bytes .entry)) ⌝ }
+    ensures { λ r. ⌜ HeadingRead (now (bytes .entry)) r ⌝ }
 {
     let n = find(bytes, 0, b'=');
     if n >= bytes.len() {
@@ -635,7 +693,7 @@ fn key_found(bytes: &[u8]) -> Heading
 // The same, where `value` is tried first.
 fn value_at(bytes: &[u8]) -> Heading
     requires { ⌜ 6 ≤ length (now bytes) ⌝ }
-    ensures { λ r. ⌜ r ≡ startOf (now (bytes .entry)) ⌝ }
+    ensures { λ r. ⌜ HeadingRead (now (bytes .entry)) r ⌝ }
 {
     match word_of(&bytes[0..6]) {
         0x01_3d65_756c_6176 => Heading::Keyed(VALUE as u64, 5), // value=
@@ -645,7 +703,7 @@ fn value_at(bytes: &[u8]) -> Heading
 
 // The same, where the keys of most lines are tried first.
 fn key_at(bytes: &[u8]) -> Heading
-    ensures { λ r. ⌜ r ≡ startOf (now (bytes .entry)) ⌝ }
+    ensures { λ r. ⌜ HeadingRead (now (bytes .entry)) r ⌝ }
 {
     if bytes.len() < 6 {
         return key_found(bytes);
@@ -707,45 +765,59 @@ impl Cursor {
         }
     }
 
-    // What follows the `=` at the cursor, in the part of the sheet that ends with the line.
-    pub fn value(self, bytes: &[u8]) -> &[u8]
-        ensures { λ r. ⌜ now r ≡ drop (self .at + 1) (now (bytes .entry)) ⌝ }
+    // The line's value: the part of the sheet after the `=` at the cursor, up to byte `end`.
+    pub fn value(self, sheet: &[u8], end: usize) -> &[u8]
+        ensures { λ r. ⌜ now r ≡ part (now (sheet .entry)) (self .at + 1) end ⌝ }
     {
         let at = self.at;
-        if at >= bytes.len() {
-            return rest(bytes, at);
+        if at >= sheet.len() {
+            return rest(sheet, at);
         }
-        rest(bytes, at + 1)
+        part_of(sheet, at + 1, end)
     }
 
-    // The item after the `=` or the comma at the cursor, in the part of the sheet that ends with the line.
+    // The cursor at the first item of a value, whose bytes count from 0.
+    pub fn items(self) -> Self
+        ensures { λ r. ⌜ (r .line ≡ self .line) × (r .at ≡ 0) ⌝ }
+    {
+        let line = self.line;
+        Cursor { line, at: 0 }
+    }
+
+    // The item of a value that begins at the cursor.
     pub fn item(self, bytes: &[u8]) -> Item
-        ensures { λ r. ⌜ r ≡ itemAt (now (bytes .entry)) self ⌝ }
+        requires { ⌜ length (now bytes) < 18446744073709551615 ⌝ }
+        ensures { λ r. ⌜ ItemRead (now (bytes .entry)) self r ⌝ }
     {
         let at = self.at;
         let line = self.line;
-        if at >= bytes.len() {
+        if at > bytes.len() {
             return Item::End;
         }
-        let end = find(bytes, at + 1, b',');
-        Item::Part(at + 1, Cursor { line, at: end })
+        let end = find(bytes, at, b',');
+        Item::Part(end, Cursor { line, at: end + 1 })
     }
 
-    // That item as an index.
+    // That item as an index: the part that begins at the cursor is handed to the reader of digits.
     pub fn number(self, bytes: &[u8]) -> Counted
+        requires { ⌜ length (now bytes) < 18446744073709551615 ⌝ }
         ensures { λ r. ⌜ NumberRead (now (bytes .entry)) self r ⌝ }
     {
-        let i = self.item(bytes);
-        match i {
-            Item::Part(start, next) => {
-                let end = next.at;
-                let n = index_of(part_of(bytes, start, end));
-                match n {
-                    Number::Value(v) => Counted::Value(v, next),
-                    Number::Refused => Counted::Refused,
-                }
-            }
-            Item::End => Counted::End,
+        let at = self.at;
+        let line = self.line;
+        if at > bytes.len() {
+            return Counted::Refused;
+        }
+        let d = front_index(rest(bytes, at));
+        match d {
+            Leading::Index(n, taken) => Counted::Value(
+                n,
+                Cursor {
+                    line,
+                    at: at + taken + 1,
+                },
+            ),
+            Leading::Other => Counted::Refused,
         }
     }
 }

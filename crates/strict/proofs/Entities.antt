@@ -26,7 +26,7 @@ use Rattle.value.specs.declared.Shape.{Shape}
 use Rattle.value.specs.declared.Shape.the-variants.{Bool as Boolˢ, Long, Text, Entity, Set, Record}
 use Rattle.value.proofs.Lists.{Going, uncons, spent}
 use Rattle.strict.specs.Gives.{outOf, values, valueIn, modeOf, envIn}
-use Rattle.strict.specs.Lookups.{ATTRIBUTES, TAGS, ANCESTORS, stateIn, lineIn, partOfLine, partIn, lookFound, lookRow, lookIn, lookValue, lookAttr, takenOf, presentOf, getOut, hasOut, tagLook, gettagOut, hastagOut, isRentAt, inKnownOut, inUnknownOut, inListOut, inOut, walkStep, walkFrom}
+use Rattle.strict.specs.Lookups.{ATTRIBUTES, TAGS, ANCESTORS, stateIn, lineIn, partOf, partOfLine, partIn, lookFound, lookRow, lookIn, lookValue, lookAttr, takenOf, presentOf, getOut, hasOut, tagLook, gettagOut, hastagOut, isRentAt, inKnownOut, inUnknownOut, inListOut, inOut, walkStep, walkFrom}
 use Rattle.strict.specs.declared.Given.{Given}
 use Rattle.strict.specs.declared.Given.the-variants.{Bool as Boolᵍ, Fails, Stays}
 use Rattle.strict.specs.declared.entity.Part.{Part}
@@ -38,17 +38,17 @@ use Rattle.strict.proofs.Shapes.{value-shape, other-text, other-entity,
 
 -- ---- known parts: what stands for one, where e does for nothing at all
 
-abbrev pub partGive : Give → Part → Option Give
-partGive e (Known n) = some (old n)
-partGive e Empty = some e
-partGive e Unknown = none
+abbrev partGive : Give → Option (Option ℕ) → Option Give
+partGive e (some (some n)) = some (old n)
+partGive e (some none) = some e
+partGive e none = none
 
-pub given-or : (e : Give) (x : ℕ) (b : Bool) → cond b none (some (old x)) ≡ partGive e (cond b Unknown (Known x))
+given-or : (e : Give) (x : ℕ) (b : Bool) → cond b none (some (old x)) ≡ partGive e (cond b none (some (some x)))
 given-or e x true = refl
 given-or e x false = refl
 
 module _ (c : Bool) (a : List ℕ) (k t : ℕ) where
-  pub attrs-is : nentity (envIn c a) k t .attrs ≡ partGive (made (rrec stop)) (partIn c a k t ATTRIBUTES)
+  attrs-is : nentity (envIn c a) k t .attrs ≡ partGive (made (rrec stop)) (partIn c a k t ATTRIBUTES)
   unfolding envIn nEnv partIn lineIn stateIn
   attrs-is = go c (lookUp (held [] a []) k t)
     where
@@ -98,11 +98,11 @@ module _ (c : Bool) (a : List ℕ) {A : Type 0} (d : A) (w : ℕ → A) (g : Opt
   in-record (rset l) = refl
   in-record (rrec e) = found-as (entryOf u e)
 
-  in-part : (k : ℕ) (p : Part) → onSome (w k) (partGive (made (rrec stop)) p) (λ x. rRec d (giveRow (values a) x) (λ e. g (entryOf u e))) ≡ lookAs d w g (lookIn a k p u)
+  in-part : (k : ℕ) (p : Option (Option ℕ)) → onSome (w k) (partGive (made (rrec stop)) p) (λ x. rRec d (giveRow (values a) x) (λ e. g (entryOf u e))) ≡ lookAs d w g (lookIn a k p u)
   unfolding valueIn
-  in-part k (Known n) = in-record (valueIn a n)
-  in-part k Empty = refl
-  in-part k Unknown = refl
+  in-part k (some (some n)) = in-record (valueIn a n)
+  in-part k (some none) = refl
+  in-part k none = refl
 
   pub in-value : (r : Row) → onEntries (envIn c a) (values a) d (λ k i. w k) r (λ e. g (entryOf u e)) ≡ lookAs d w g (lookValue c a r u)
   in-value (rbool b) = refl
@@ -145,9 +145,9 @@ module _ (c : Bool) (a : List ℕ) (m : ℕ) (q : List ℕ) (s : Shape) (eq : q 
     unfolding tagLook
     tag-second h = rw (value-shape a m q s eq es, z, value-shape a n p d ep ed) (sym (other-text Bad (items p) d (λ u. lookIn a k (partIn c a k t TAGS) u) h))
 
-    pub tag-both : (u : ℕ) (f : Part) (r : Look) → d ≡ Text u → f ≡ partIn c a k t TAGS → r ≡ lookIn a k f u → r ≡ tagLook c a m n
+    pub tag-both : (u : ℕ) (f : Part) (r : Look) → d ≡ Text u → partOf f ≡ partIn c a k t TAGS → r ≡ lookIn a k (partOf f) u → r ≡ tagLook c a m n
     unfolding tagLook
-    tag-both u f r y ef e = e ∙ rw (value-shape a m q s eq es, z, value-shape a n p d ep ed, y, ef)
+    tag-both u f r y ef e = e ∙ ap (λ (o : Option (Option ℕ)). lookIn a k o u) ef ∙ rw (value-shape a m q s eq es, z, value-shape a n p d ep ed, y)
 
 module _ (c : Bool) (a : List ℕ) (g : Option ℕ → NOut) where
   in-tag : (r s : Row) → rEnt fails r (λ k t. rText fails s (λ u. onSome stays (nentity (envIn c a) k t .tags) (λ x. rRec fails (giveRow (values a) x) (λ e. g (entryOf u e)))))
@@ -227,22 +227,22 @@ or-end : (b : Bool) → (b || false) ≡ b
 or-end true = refl
 or-end false = refl
 
-module _ (c : Bool) (a : List ℕ) (m k t : ℕ) (l : List ℕ) (p : Part) (ep : p ≡ partIn c a k t ANCESTORS) where
-  the-ancestors : nentity (envIn c a) k t .ancestors ≡ partGive (made (rset [])) p
-  the-ancestors = ancestors-is c a k t ∙ ap (partGive (made (rset []))) (sym ep)
+module _ (c : Bool) (a : List ℕ) (m k t : ℕ) (l : List ℕ) (p : Part) (ep : partOf p ≡ partIn c a k t ANCESTORS) where
+  the-ancestors : (q : Part) → p ≡ q → nentity (envIn c a) k t .ancestors ≡ partGive (made (rset [])) (partOf q)
+  the-ancestors q z = ancestors-is c a k t ∙ ap (partGive (made (rset []))) (sym ep ∙ ap partOf z)
 
   pub list-known : (v : ℕ) (g : Given) → p ≡ Known v → outOf g ≡ inKnownOut a m v l → outOf g ≡ inListOut c a m k t l
   unfolding inListOut inKnownOut valueIn
-  list-known v g z e = e ∙ sym (ap (λ (o : Option Give). nIn (values a) m o l) (the-ancestors ∙ ap (partGive (made (rset []))) z))
+  list-known v g z e = e ∙ sym (ap (λ (o : Option Give). nIn (values a) m o l) (the-ancestors (Known v) z))
 
   pub list-empty : (b : Bool) → p ≡ Empty → b ≡ memN m l → outOf (Boolᵍ b) ≡ inListOut c a m k t l
   unfolding inListOut
   list-empty b z e =
-      sym (ap (λ (o : Option Give). nIn (values a) m o l) (the-ancestors ∙ ap (partGive (made (rset []))) z) ∙ ap truly (ap (λ (x : Bool). memN m l || x) (any-nil l) ∙ or-end (memN m l) ∙ sym e))
+      sym (ap (λ (o : Option Give). nIn (values a) m o l) (the-ancestors Empty z) ∙ ap truly (ap (λ (x : Bool). memN m l || x) (any-nil l) ∙ or-end (memN m l) ∙ sym e))
 
   pub list-unknown : (g : Given) → p ≡ Unknown → outOf g ≡ inUnknownOut m l → outOf g ≡ inListOut c a m k t l
   unfolding inListOut inUnknownOut
-  list-unknown g z e = e ∙ sym (ap (λ (o : Option Give). nIn (values a) m o l) (the-ancestors ∙ ap (partGive (made (rset []))) z))
+  list-unknown g z e = e ∙ sym (ap (λ (o : Option Give). nIn (values a) m o l) (the-ancestors Unknown z))
 
 module _ (a l : List ℕ) (i : ℕ) (g : Going (allRent (values a) l) (allRent (values a) (drop i l)) i (length l)) where
   pub ents-end : length l ≤ i → true ≡ allRent (values a) l

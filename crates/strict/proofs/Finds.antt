@@ -25,7 +25,7 @@ use Rattle.sheet.specs.Content.{entityLine}
 use Rattle.table.specs.Layout.{base, rowsOf, held, linesHeld, heap}
 use Rattle.table.proofs.Rows.{count-rows, row-none, row-some, row-at-is}
 use Rattle.value.specs.Lines.{valueLines}
-use Rattle.value.specs.Shapes.{shapeOf, shapeRow, entryFound}
+use Rattle.value.specs.Shapes.{shapeOf, shapeRow, valueFound}
 use Rattle.value.specs.declared.Shape.{Shape}
 use Rattle.value.specs.declared.Shape.the-variants.{Bool as Boolˢ, Long, Text, Entity, Set, Record}
 use Rattle.value.specs.declared.Entry.{Entry}
@@ -33,7 +33,7 @@ use Rattle.value.specs.declared.Entry.the-variants.{At, Nothing}
 use Rattle.value.proofs.Shaped.{shape-row}
 use Rattle.value.proofs.Lists.{uncons, spent}
 use Rattle.strict.specs.Gives.{valueIn}
-use Rattle.strict.specs.Lookups.{stateIn, textThere, isEntityAt, lineAt, lineIn, partOfLine, partIn, lookFound, lookRow, lookIn, lookValue, lookAttr, takenOf, presentOf}
+use Rattle.strict.specs.Lookups.{stateIn, textThere, isEntityAt, lineAt, lineIn, partOf, partOfLine, partIn, lookFound, lookRow, lookIn, lookValue, lookAttr, takenOf, presentOf}
 use Rattle.strict.specs.declared.Given.the-variants.{Bool as Boolᵍ, Old, Fails, Stays}
 use Rattle.strict.specs.declared.entity.Part.{Part}
 use Rattle.strict.specs.declared.entity.Part.the-variants.{Known, Empty, Unknown}
@@ -227,52 +227,44 @@ module _ (a : List ℕ) (k t n i s : ℕ) (g : Walking a k t n i s) where
 -- ---- a part of a line
 
 module _ (c : Bool) (a : List ℕ) (k t j : ℕ) (e : Entry) (ee : lineAt (rowsOf a ENTITY) e ≡ lineIn a k t) where
-  pub part-empty : e ≡ Nothing → c ≡ true → Empty ≡ partIn c a k t j
+  pub part-empty : e ≡ Nothing → c ≡ true → partOf Empty ≡ partIn c a k t j
   unfolding partIn
   part-empty z y = sym (ap (λ (o : Option (List ℕ)). partOfLine c o j) (sym ee ∙ ap (lineAt (rowsOf a ENTITY)) z) ∙ rw y)
 
-  pub part-unlisted : e ≡ Nothing → c ≡ false → Unknown ≡ partIn c a k t j
+  pub part-unlisted : e ≡ Nothing → c ≡ false → partOf Unknown ≡ partIn c a k t j
   unfolding partIn
   part-unlisted z y = sym (ap (λ (o : Option (List ℕ)). partOfLine c o j) (sym ee ∙ ap (lineAt (rowsOf a ENTITY)) z) ∙ rw y)
 
   module _ (i : ℕ) (z : e ≡ At i) (r : List ℕ) (er : r ≡ getD (rowsOf a ENTITY) i []) (x : ℕ) (ex : x ≡ getD r (j + 1) 0) where
-    part-item : partIn c a k t j ≡ cond (eqb x mark) Unknown (Known x)
+    part-item : partIn c a k t j ≡ cond (eqb x mark) none (some (some x))
     unfolding partIn
     part-item =
         let w : x ≡ at (getD (rowsOf a ENTITY) i []) j = ex ∙ ap (λ (m : ℕ). getD r m 0) (add-one j) ∙ ap (λ (l : List ℕ). at l j) er in
         ap (λ (o : Option (List ℕ)). partOfLine c o j) (sym ee ∙ ap (lineAt (rowsOf a ENTITY)) z) ∙ rw (← w)
 
-    pub part-unknown : x ≡ mark → Unknown ≡ partIn c a k t j
+    pub part-unknown : x ≡ mark → partOf Unknown ≡ partIn c a k t j
     part-unknown y = sym (part-item ∙ rw (eq-eqb x mark y))
 
-    pub part-known : (x ≡ mark → ⊥) → Known x ≡ partIn c a k t j
+    pub part-known : (x ≡ mark → ⊥) → partOf (Known x) ≡ partIn c a k t j
     part-known y = sym (part-item ∙ rw (ne-eqb x mark y))
 
 -- ---- a text in a record
-
-found-none : (o : Option ℕ) → entryFound o ≡ Nothing → o ≡ none
-found-none none e = refl
-found-none (some x) e = let z : _≡_ {A = ℕ} 0 1 = cc in absurd (omega arith)
-
-found-some : (o : Option ℕ) (x : ℕ) → entryFound o ≡ At x → o ≡ some x
-found-some none x e = let z : _≡_ {A = ℕ} 0 1 = cc in absurd (omega arith)
-found-some (some y) x e = let z : y ≡ x = cc in ap some z
 
 module _ (a : List ℕ) (v : ℕ) (q : List ℕ) (s : Shape) (eq : q ≡ getD (valueLines a) v []) (es : s ≡ shapeOf q) (u : ℕ) where
   pub look-bad : OneOf (0 ∷ 1 ∷ 2 ∷ 3 ∷ 4 ∷ []) (tagOf the-type s) → Bad ≡ lookRow (valueIn a v) u
   unfolding lookRow
   look-bad h = rw (value-shape a v q s eq es) (sym (other-record Bad (items q) s (λ e. lookFound (entryOf u e)) h))
 
-  module _ (z : s ≡ Record) (l : List ℕ) (el : l ≡ items q) (e : Entry) (ee : e ≡ entryFound (entryOf u (entriesOf l))) where
+  module _ (z : s ≡ Record) (l : List ℕ) (el : l ≡ items q) (e : Entry) (ee : valueFound e ≡ entryOf u (entriesOf l)) where
     look-row : lookRow (valueIn a v) u ≡ lookFound (entryOf u (entriesOf l))
     unfolding lookRow
     look-row = rw (value-shape a v q s eq es, z, el)
 
     pub look-missing : e ≡ Nothing → Missing ≡ lookRow (valueIn a v) u
-    look-missing y = sym (look-row ∙ ap lookFound (found-none (entryOf u (entriesOf l)) (sym ee ∙ y)))
+    look-missing y = sym (look-row ∙ ap lookFound (sym ee ∙ ap valueFound y))
 
     pub look-found : (x : ℕ) → e ≡ At x → Atˡ x ≡ lookRow (valueIn a v) u
-    look-found x y = sym (look-row ∙ ap lookFound (found-some (entryOf u (entriesOf l)) x (sym ee ∙ y)))
+    look-found x y = sym (look-row ∙ ap lookFound (sym ee ∙ ap valueFound y))
 
   pub attr-other : (c : Bool) (r : Look) → OneOf (0 ∷ 1 ∷ 2 ∷ 4 ∷ 5 ∷ []) (tagOf the-type s) → r ≡ lookRow (valueIn a v) u → r ≡ lookAttr c a v u
   unfolding lookAttr lookRow
@@ -286,18 +278,18 @@ module _ (a : List ℕ) (v : ℕ) (q : List ℕ) (s : Shape) (eq : q ≡ getD (v
       go Set y = refl
       go Record y = refl
 
-  pub attr-entity : (c : Bool) (k t : ℕ) (p : Part) (r : Look) → s ≡ Entity k t → p ≡ partIn c a k t 1 → r ≡ lookIn a k p u → r ≡ lookAttr c a v u
+  pub attr-entity : (c : Bool) (k t : ℕ) (p : Part) (r : Look) → s ≡ Entity k t → partOf p ≡ partIn c a k t 1 → r ≡ lookIn a k (partOf p) u → r ≡ lookAttr c a v u
   unfolding lookAttr
-  attr-entity c k t p r z ep e = e ∙ rw (value-shape a v q s eq es, z, ep)
+  attr-entity c k t p r z ep e = e ∙ ap (λ (o : Option (Option ℕ)). lookIn a k o u) ep ∙ rw (value-shape a v q s eq es, z)
 
 module _ (a : List ℕ) (k u : ℕ) (p : Part) where
-  pub look-unknown : p ≡ Unknown → Unknownˡ k ≡ lookIn a k p u
+  pub look-unknown : p ≡ Unknown → Unknownˡ k ≡ lookIn a k (partOf p) u
   look-unknown e = rw e
 
-  pub look-empty : p ≡ Empty → Missing ≡ lookIn a k p u
+  pub look-empty : p ≡ Empty → Missing ≡ lookIn a k (partOf p) u
   look-empty e = rw e
 
-  pub look-known : (n : ℕ) (r : Look) → p ≡ Known n → r ≡ lookRow (valueIn a n) u → r ≡ lookIn a k p u
+  pub look-known : (n : ℕ) (r : Look) → p ≡ Known n → r ≡ lookRow (valueIn a n) u → r ≡ lookIn a k (partOf p) u
   look-known n r e h = rw e h
 
 module _ (l : Look) where

@@ -55,12 +55,18 @@ TAGS = 2
 abbrev pub ANCESTORS : ℕ
 ANCESTORS = 3
 
--- item j of a line, if it is known; of an unlisted entity, nothing on a complete sheet
-abbrev pub partOfLine : Bool → Option (List ℕ) → ℕ → Part
-partOfLine c none j = cond c Empty Unknown
-partOfLine c (some r) j = cond (eqb (at r j) mark) Unknown (Known (at r j))
+-- what is known of a part of an entity: none where it is unknown, else nothing at all or a value; as the code answers it
+abbrev pub partOf : Part → Option (Option ℕ)
+partOf (Known v) = some (some v)
+partOf Empty = some none
+partOf Unknown = none
 
-unfoldable pub partIn : Bool → List ℕ → ℕ → ℕ → ℕ → Part
+-- item j of a line; of an unlisted entity, nothing on a complete sheet
+abbrev pub partOfLine : Bool → Option (List ℕ) → ℕ → Option (Option ℕ)
+partOfLine c none j = cond c (some none) none
+partOfLine c (some r) j = cond (eqb (at r j) mark) none (some (some (at r j)))
+
+unfoldable pub partIn : Bool → List ℕ → ℕ → ℕ → ℕ → Option (Option ℕ)
 partIn c a k t j = partOfLine c (lineIn a k t) j
 
 abbrev pub lookFound : Option ℕ → Look
@@ -72,10 +78,10 @@ unfoldable pub lookRow : Row → ℕ → Look
 lookRow r u = rRec Bad r (λ e. lookFound (entryOf u e))
 
 -- and in a part of the line of an entity of kind k
-abbrev pub lookIn : List ℕ → ℕ → Part → ℕ → Look
-lookIn a k (Known n) u = lookRow (valueIn a n) u
-lookIn a k Empty u = Missing
-lookIn a k Unknown u = Unknownˡ k
+abbrev pub lookIn : List ℕ → ℕ → Option (Option ℕ) → ℕ → Look
+lookIn a k (some (some n)) u = lookRow (valueIn a n) u
+lookIn a k (some none) u = Missing
+lookIn a k none u = Unknownˡ k
 
 -- and among the attributes of a record or an entity
 abbrev pub lookValue : Bool → List ℕ → Row → ℕ → Look

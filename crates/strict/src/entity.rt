@@ -24,7 +24,7 @@ ghost use Rattle.sheet.specs.Forms.{ENTITY};
 ghost use Rattle.table.specs.Layout.{rowsOf};
 ghost use Rattle.cedar.specs.Numbered.{allRent};
 ghost use Rattle.strict.specs.Gives.{outOf, values, valueIn};
-ghost use Rattle.strict.specs.Lookups.{ANCESTORS, textThere, isEntityAt, lineAt, lineIn, partIn, lookRow, lookIn, lookAttr, takenOf, presentOf, getOut, hasOut, tagLook, gettagOut, hastagOut, isRentAt, inKnownOut, inUnknownOut, inListOut, inOut, walkFrom};
+ghost use Rattle.strict.specs.Lookups.{ANCESTORS, textThere, isEntityAt, lineAt, lineIn, partOf, partIn, lookRow, lookIn, lookAttr, takenOf, presentOf, getOut, hasOut, tagLook, gettagOut, hastagOut, isRentAt, inKnownOut, inUnknownOut, inListOut, inOut, walkFrom};
 
 // Where the parts of an entity stand in its line.
 const ATTRIBUTES: usize = 1;
@@ -113,7 +113,7 @@ pub fn find_entity(rows: &[u32], kind: u32, text: u32) -> Entry
 // The item at `place` of an entity's line.
 pub fn part_of(rows: &[u32], complete: bool, kind: u32, text: u32, place: usize) -> Part
     requires { ⌜ place ≤ ANCESTORS ⌝ }
-    ensures { λ r. ⌜ r ≡ partIn complete (now (rows .entry)) kind text place ⌝ }
+    ensures { λ r. ⌜ partOf r ≡ partIn complete (now (rows .entry)) kind text place ⌝ }
 {
     let Entry::At(i) = find_entity(rows, kind, text) else {
         if complete {
@@ -130,7 +130,7 @@ pub fn part_of(rows: &[u32], complete: bool, kind: u32, text: u32, place: usize)
 
 // `text` in a part of the line of an entity of this kind.
 fn look_in(rows: &[u32], kind: u32, part: Part, text: u32) -> Look
-    ensures { λ r. ⌜ r ≡ lookIn (now (rows .entry)) kind part text ⌝ }
+    ensures { λ r. ⌜ r ≡ lookIn (now (rows .entry)) kind (partOf part) text ⌝ }
 {
     match part {
         Part::Unknown => Look::Unknown(kind),

@@ -66,7 +66,8 @@ pub fn take_line(
     ensures { λ f. ⌜ Taken (now (sheet .entry)) (rowOfValue (modeOf partial) key (part (now (sheet .entry)) (equals .at + 1) end)) (now (rows .entry)) (now (work .entry)) (now (rows .exit)) (now (work .exit)) (end + 4 - equals .at) f ⌝ }
 {
     let top = read(rows, TOP) as usize;
-    let n = row_entry(sheet, key, equals, end, partial, rows, top);
+    let value = equals.value(sheet, end);
+    let n = row_entry(value, key, equals, partial, rows, top);
     if n == 0 {
         return 3;
     }

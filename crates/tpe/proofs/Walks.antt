@@ -1,6 +1,6 @@
 -- A path over words: the laws of its walk and of what is left over of it. Assumes nothing.
 use mathlib.Core.Path.{_≡_, refl, sym, ap, _∙_, subst}
-use mathlib.Core.Bool.{Bool, true, false, cond}
+use mathlib.Core.Bool.{Bool, true, false}
 use mathlib.Core.Option.{Option, none, some}
 use mathlib.Core.List.{List, [], _∷_}
 use Prim.Native.Nat.{ℕ, suc, _+_, _-_, _≤_, _<_}
@@ -15,8 +15,8 @@ use Rattle.rules.proofs.Rule.{the-type}
 use Rattle.cedar.specs.Value.{onSome}
 use Rattle.cedar.specs.Types.{tent}
 use Rattle.cedar.specs.TypeRules.{hasRule}
-use Rattle.cedar.specs.Rows.{Entries, stop, Row, rbool, rlong, rtext, rent, rset, rrec}
-use Rattle.cedar.specs.Numbered.{Give, made, old, NEnv, nentity, giveRow, rRec, entryOf, isSome, onEntries, stays}
+use Rattle.cedar.specs.Rows.{Entries, Row, rbool, rlong, rtext, rent, rset, rrec}
+use Rattle.cedar.specs.Numbered.{Give, NEnv, nentity, giveRow, rRec, entryOf, isSome, onEntries, stays}
 use Rattle.forms.specs.Tags.{ENTITY-TYPE, HAS}
 use Rattle.sheet.specs.Bytes.{same}
 use Rattle.sheet.specs.Forms.{partial, items, at, TYPE, NODE}
@@ -40,11 +40,8 @@ use Rattle.strict.specs.Gives.{outOf, values, valueIn}
 use Rattle.strict.specs.Gives as G
 use Rattle.strict.specs.Lookups.{lookAttr, walkStep}
 use Rattle.strict.specs.Lookups as S
-use Rattle.strict.proofs.Entities.{given-or, lookAs, in-value}
-use Rattle.strict.proofs.Entities as E
+use Rattle.strict.proofs.Entities.{lookAs, in-value}
 use Rattle.strict.specs.declared.Given.{Given}
-use Rattle.strict.specs.declared.entity.Part.{Part}
-use Rattle.strict.specs.declared.entity.Part.the-variants.{Known, Unknown}
 use Rattle.strict.specs.declared.entity.Look.{Look}
 use Rattle.strict.specs.declared.entity.Look.the-variants.{At, Missing, Unknown as Unknownˡ, Bad}
 use Rattle.strict.specs.declared.entity.Walked.{Walked}
@@ -82,13 +79,6 @@ module _ (a : List ℕ) (k n : ℕ) where
       seek-on e = find-on (ENTITY-TYPE ∷ k ∷ []) (rowsOf a TYPE) n i g h q eq b is-same e
 
 -- ---- the walk
-
--- an unlisted entity has no attributes
-abbrev pub partGive : Part → Option Give
-partGive p = E.partGive (made (rrec stop)) p
-
-pub known-or : (x : ℕ) (b : Bool) → cond b none (some (old x)) ≡ partGive (cond b Unknown (Known x))
-known-or x b = given-or (made (rrec stop)) x b
 
 walk-link : (a ts : List ℕ) (t v j : ℕ) → walkIn (S.walkFrom false a v j (t ∷ ts)) ≡ walkFrom (envIn partial [] a) (rowsIn (valueLines a)) ts t v j
 unfolding S.walkFrom walkFrom lookAttr valueIn values envIn G.envIn

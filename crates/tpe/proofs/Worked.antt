@@ -34,7 +34,7 @@ use Rattle.strict.specs.declared.Given.the-variants.{Bool as Boolᵍ, Fails, St
 use Rattle.tpe.specs.Run.{left, leftOf, settleOf, ruledOf, worked1, worked2, oneOf, twoOf, schemaIn, tyIn, envIn, valueIn, unOf, binOf, relOf, getOf, hasOf, Walk, lost, says, stuck, walkFrom, stuckOf, walkedOf, pathBy, pathOf, giveOf}
 use Rattle.tpe.specs.Leaves.{Leaves}
 use Rattle.tpe.specs.Steps.{oneSteps, oneAt, twoSteps, twoAt}
-use Rattle.tpe.specs.Gives.{oneGives, oneGive, oneRule, twoGives, twoGive, twoRule, pairOf, unlessErr, outOne, outTwo, ruleOr}
+use Rattle.tpe.specs.Gives.{oneGives, oneGive, oneRule, twoGives, twoGive, twoRule, unlessErr, outOne, outTwo, pairOut, Tells, ruleOr}
 use Rattle.tpe.specs.declared.steps.Pair.{Pair}
 use Rattle.tpe.specs.declared.steps.Pair.the-variants.{Values, Error as Errorᵖ, Open as Openᵖ}
 use Rattle.tpe.proofs.Slices.{word-log, stage-log, errs-log}
@@ -181,43 +181,43 @@ rule-one a b bt n t w p q ew ep eq = rw (← ew, ← ep) eq
 
 module _ (b : List ℕ) (mid bt : ℕ) where
   module _ (s : Stage) (es : s ≡ stageAt b mid) where
-    pub pair-left : s ≡ Error → Errorᵖ ≡ pairOf (stageAt b mid) (stageAt b bt)
-    pair-left h = rw (← es, h)
+    pub pair-left : s ≡ Error → Tells Errorᵖ (stageAt b mid) (stageAt b bt)
+    pair-left h = record { is = λ g. rw (← es, h) }
 
     module _ (u : Stage) (eu : u ≡ stageAt b bt) where
-      pub pair-values : (v w : ℕ) → s ≡ Value v → u ≡ Value w → Values v w ≡ pairOf (stageAt b mid) (stageAt b bt)
-      pair-values v w h i = rw (← es, h, ← eu, i)
+      pub pair-values : (v w : ℕ) → s ≡ Value v → u ≡ Value w → Tells (Values v w) (stageAt b mid) (stageAt b bt)
+      pair-values v w h i = record { is = λ g. rw (← es, h, ← eu, i) }
 
-      pub pair-right : (v : ℕ) → s ≡ Value v → u ≡ Error → Errorᵖ ≡ pairOf (stageAt b mid) (stageAt b bt)
-      pair-right v h i = rw (← es, h, ← eu, i)
+      pub pair-right : (v : ℕ) → s ≡ Value v → u ≡ Error → Tells Errorᵖ (stageAt b mid) (stageAt b bt)
+      pair-right v h i = record { is = λ g. rw (← es, h, ← eu, i) }
 
-      pub pair-half : (v : ℕ) → s ≡ Value v → u ≡ Open → Openᵖ ≡ pairOf (stageAt b mid) (stageAt b bt)
-      pair-half v h i = rw (← es, h, ← eu, i)
+      pub pair-half : (v : ℕ) → s ≡ Value v → u ≡ Open → Tells Openᵖ (stageAt b mid) (stageAt b bt)
+      pair-half v h i = record { is = λ g. rw (← es, h, ← eu, i) }
 
-      pub pair-open-value : (w : ℕ) → s ≡ Open → u ≡ Value w → Openᵖ ≡ pairOf (stageAt b mid) (stageAt b bt)
-      pair-open-value w h i = rw (← es, h, ← eu, i)
+      pub pair-open-value : (w : ℕ) → s ≡ Open → u ≡ Value w → Tells Openᵖ (stageAt b mid) (stageAt b bt)
+      pair-open-value w h i = record { is = λ g. rw (← es, h, ← eu, i) }
 
-      pub pair-open-error : s ≡ Open → u ≡ Error → Errorᵖ ≡ pairOf (stageAt b mid) (stageAt b bt)
-      pair-open-error h i = rw (← es, h, ← eu, i)
+      pub pair-open-error : s ≡ Open → u ≡ Error → Tells Errorᵖ (stageAt b mid) (stageAt b bt)
+      pair-open-error h i = record { is = λ g. rw (← es, h, ← eu, i) }
 
-      pub pair-open : s ≡ Open → u ≡ Open → Openᵖ ≡ pairOf (stageAt b mid) (stageAt b bt)
-      pair-open h i = rw (← es, h, ← eu, i)
+      pub pair-open : s ≡ Open → u ≡ Open → Tells Openᵖ (stageAt b mid) (stageAt b bt)
+      pair-open h i = record { is = λ g. rw (← es, h, ← eu, i) }
 
-module _ (a b : List ℕ) (mid bt t : ℕ) (p : Pair) (ep : p ≡ pairOf (stageAt b mid) (stageAt b bt)) where
+module _ (a b : List ℕ) (mid bt t : ℕ) (p : Pair) (ep : Tells p (stageAt b mid) (stageAt b bt)) where
   abbrev Out₂ : Given → Type 0
-  Out₂ g = outOf g ≡ outTwo (twoGive t a) (pairOf (stageAt b mid) (stageAt b bt))
+  Out₂ g = outOf g ≡ outTwo (twoGive t a) (stageAt b mid) (stageAt b bt)
 
   pub two-values : (v w : ℕ) (g : Given) → p ≡ Values v w → outOf g ≡ twoGive t a v w → Out₂ g
-  two-values v w g q e = rw (← ep, q) e
+  two-values v w g q e = e ∙ sym (ap (pairOut (twoGive t a)) q) ∙ ep .is (twoGive t a)
 
   pub two-error : p ≡ Errorᵖ → Out₂ Fails
-  two-error q = rw (← ep, q)
+  two-error q = sym (ap (pairOut (twoGive t a)) q) ∙ ep .is (twoGive t a)
 
   pub two-open : p ≡ Openᵖ → Out₂ Stays
-  two-open q = rw (← ep, q)
+  two-open q = sym (ap (pairOut (twoGive t a)) q) ∙ ep .is (twoGive t a)
 
 -- by how far both are worked
-two-settles : (g : ℕ → ℕ → NOut) (a l : List ℕ) (start n y : ℕ) (s u : Stage) → worked2 g a l start n y s u ≡ settleOf a l start n y (outTwo g (pairOf s u))
+two-settles : (g : ℕ → ℕ → NOut) (a l : List ℕ) (start n y : ℕ) (s u : Stage) → worked2 g a l start n y s u ≡ settleOf a l start n y (outTwo g s u)
 unfolding worked2 settleOf
 two-settles g a l start n y (Value v) (Value w) = refl
 two-settles g a l start n y (Value v) Error = refl
@@ -269,7 +269,7 @@ module _ (a b a′ b′ : List ℕ) (start mid bt n t e : ℕ) (room : Room b bt
   err = errs (rowsOf a NODE) b mid || errs (rowsOf a NODE) b bt
 
   pub two-settled : (y : ℕ) (g : Given) → y ≡ at (getD (rowsOf a NODE) n []) 0
-      → outOf g ≡ ruleOr (unlessErr (errs (rowsOf a NODE) b mid || errs (rowsOf a NODE) b bt) (twoRule t a (wordAt b mid 3) (wordAt b bt 3))) (outTwo (twoGive t a) (pairOf (stageAt b mid) (stageAt b bt)))
+      → outOf g ≡ ruleOr (unlessErr (errs (rowsOf a NODE) b mid || errs (rowsOf a NODE) b bt) (twoRule t a (wordAt b mid 3) (wordAt b bt 3))) (outTwo (twoGive t a) (stageAt b mid) (stageAt b bt))
       → Leaves start a′ b′ e (settleOf a (take bt b) start n y (outOf g)) → Leaves start a′ b′ e (twoAt partial [] t start mid n (getD (rowsOf a NODE) n []) (left a (take bt b)))
   unfolding twoOf
   two-settled y g ey eg z =
@@ -284,7 +284,7 @@ module _ (a b a′ b′ : List ℕ) (start mid bt n t e : ℕ) (room : Room b bt
         ← stage-log b bt bt (le-refl bt),
         ← ey,
         two-settles (twoGive t a) a (take bt b) start n y (stageAt b mid) (stageAt b bt),
-        ruled-settles a (take bt b) start n y err (twoRule t a (wordAt b mid 3) (wordAt b bt 3)) (outTwo (twoGive t a) (pairOf (stageAt b mid) (stageAt b bt))),
+        ruled-settles a (take bt b) start n y err (twoRule t a (wordAt b mid 3) (wordAt b bt 3)) (outTwo (twoGive t a) (stageAt b mid) (stageAt b bt)),
         ← eg,
       ) z
 

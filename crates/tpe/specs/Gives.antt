@@ -90,20 +90,25 @@ twoRule t a y z =
     getD (binRule (schemaAt a) beq (tyAt a y) (tyAt a z) ∷ none ∷ none ∷ none ∷ none ∷ none ∷ relRule (schemaAt a) rin (tyAt a y) (tyAt a z) ∷ none ∷ relRule (schemaAt a) rhastag (tyAt a y) (tyAt a z) ∷ [])
     (t - EQ) none
 
--- how far both are worked
-abbrev pub pairOf : Stage → Stage → Pair
-pairOf (Value v) (Value w) = Values v w
-pairOf (Value v) Error = Errorᵖ
-pairOf (Value v) Open = Openᵖ
-pairOf Error s = Errorᵖ
-pairOf Open (Value w) = Openᵖ
-pairOf Open Error = Errorᵖ
-pairOf Open Open = Openᵖ
+-- what an operation that gives g of two values gives by how far both are worked
+abbrev pub outTwo : (ℕ → ℕ → NOut) → Stage → Stage → NOut
+outTwo g (Value v) (Value w) = g v w
+outTwo g (Value v) Error = fails
+outTwo g (Value v) Open = stays
+outTwo g Error s = fails
+outTwo g Open (Value w) = stays
+outTwo g Open Error = fails
+outTwo g Open Open = stays
 
-abbrev pub outTwo : (ℕ → ℕ → NOut) → Pair → NOut
-outTwo g (Values v w) = g v w
-outTwo g Errorᵖ = fails
-outTwo g Openᵖ = stays
+-- and by the code's word for that
+abbrev pub pairOut : (ℕ → ℕ → NOut) → Pair → NOut
+pairOut g (Values v w) = g v w
+pairOut g Errorᵖ = fails
+pairOut g Openᵖ = stays
+
+-- the word tells these two, whatever the operation
+pub record Tells (p : Pair) (s u : Stage) : Type 0 where
+  pub is : (g : ℕ → ℕ → NOut) → pairOut g p ≡ outTwo g s u
 
 -- ---- a path
 

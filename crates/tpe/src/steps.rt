@@ -92,7 +92,7 @@ ghost use Rattle.strict.specs.Gives.{outOf};
 ghost use Rattle.tpe.specs.Run.{left, leftOf, madeOf, settleOf, ruledOf, walkFrom, entityType, varFor, envIn, stuckOf, walkedOf, pathOf};
 ghost use Rattle.tpe.specs.Leaves.{Leaves};
 ghost use Rattle.tpe.specs.Steps.{oneAt, twoAt, manyAt};
-ghost use Rattle.tpe.specs.Gives.{contextGiven, manyRow, oneGive, oneRule, twoGive, twoRule, pairOf, outOne, outTwo, unlessErr, ruleOr, walkIn, Taken};
+ghost use Rattle.tpe.specs.Gives.{contextGiven, manyRow, oneGive, oneRule, twoGive, twoRule, outOne, outTwo, Tells, unlessErr, ruleOr, walkIn, Taken};
 
 // How far the children of a set or record are worked: all are values, one is an error, or else one is open.
 pub const ALL_VALUES: u32 = 0;
@@ -531,7 +531,7 @@ pub enum Pair {
 
 // How far the operands that end at `mid` and `top` are worked: one that is an error is the result, also beside an open one.
 fn pair_at(log: &[u32], mid: usize, top: usize) -> Pair
-    ensures { λ p. ⌜ p ≡ pairOf (stageAt (now (log .entry)) mid) (stageAt (now (log .entry)) top) ⌝ }
+    ensures { λ p. ⌜ Tells p (stageAt (now (log .entry)) mid) (stageAt (now (log .entry)) top) ⌝ }
 {
     let s = stage_at(log, mid);
     let t = stage_at(log, top);
@@ -552,7 +552,7 @@ fn pair_at(log: &[u32], mid: usize, top: usize) -> Pair
 
 // What a node gives by its operands alone, the left of which ends at `mid`.
 fn given_two(rows: &[u32], log: &[u32], mid: usize, top: usize, tag: u32) -> Given
-    ensures { λ g. ⌜ outOf g ≡ outTwo (twoGive tag (now (rows .entry))) (pairOf (stageAt (now (log .entry)) mid) (stageAt (now (log .entry)) top)) ⌝ }
+    ensures { λ g. ⌜ outOf g ≡ outTwo (twoGive tag (now (rows .entry))) (stageAt (now (log .entry)) mid) (stageAt (now (log .entry)) top) ⌝ }
 {
     match pair_at(log, mid, top) {
         Pair::Values(v, w) => give_two(rows, tag, v, w),
@@ -563,7 +563,7 @@ fn given_two(rows: &[u32], log: &[u32], mid: usize, top: usize, tag: u32) -> Giv
 
 // What its type rule says, or else what it gives.
 fn asked_two(rows: &[u32], log: &[u32], mid: usize, top: usize, tag: u32) -> Given
-    ensures { λ g. ⌜ outOf g ≡ ruleOr (unlessErr (errs (rowsOf (now (rows .entry)) NODE) (now (log .entry)) mid || errs (rowsOf (now (rows .entry)) NODE) (now (log .entry)) top) (twoRule tag (now (rows .entry)) (wordAt (now (log .entry)) mid 3) (wordAt (now (log .entry)) top 3))) (outTwo (twoGive tag (now (rows .entry))) (pairOf (stageAt (now (log .entry)) mid) (stageAt (now (log .entry)) top))) ⌝ }
+    ensures { λ g. ⌜ outOf g ≡ ruleOr (unlessErr (errs (rowsOf (now (rows .entry)) NODE) (now (log .entry)) mid || errs (rowsOf (now (rows .entry)) NODE) (now (log .entry)) top) (twoRule tag (now (rows .entry)) (wordAt (now (log .entry)) mid 3) (wordAt (now (log .entry)) top 3))) (outTwo (twoGive tag (now (rows .entry))) (stageAt (now (log .entry)) mid) (stageAt (now (log .entry)) top)) ⌝ }
 {
     let q = ruled_two(rows, log, mid, top, tag);
     let Rule::Says(x) = q else {

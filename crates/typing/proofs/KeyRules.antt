@@ -1,5 +1,5 @@
 -- The rules of keys: one law for each answer of the code.
-use mathlib.Core.Path.{_≡_, refl, sym, _∙_}
+use mathlib.Core.Path.{_≡_, refl, sym, ap, _∙_}
 use mathlib.Core.Bool.{Bool, true, false, not, cond, _&&_}
 use mathlib.Core.List.{List, [], _∷_}
 use mathlib.Core.Option.{none, some}
@@ -13,11 +13,10 @@ use Rattle.forms.specs.Tags.{LONG-VALUE, ENTITY-VALUE, SET-VALUE, RECORD-VALUE}
 use Rattle.sheet.specs.State.{entriesOf, valueRow}
 use Rattle.sheet.specs.Typing.{allIn, allEntries, isStop}
 use Rattle.table.specs.Layout.{rowsOf}
-use Rattle.fits.specs.Fit.{full, found, tagsFitBy, Known, Answered}
+use Rattle.fits.specs.Fit.{full, foundIn, tagsFitBy, Known, Answered}
 use Rattle.fits.specs.declared.Found as F
 use Rattle.fits.proofs.Walks.{next}
 use Rattle.fits.proofs.Sorts.{sort-tag, no-entity, no-set, no-record}
-use Rattle.fits.proofs.Search.{found-some, found-none}
 use Rattle.typing.specs.Rules.{BOOL-SORT, sortAt, recordAt, bareAt, attributeTypeAt, tagTypeAt, isAboveAt, actionAt, childAt, nodeRule, shapeRule, contextRule, policyRule, attributesRule, tagsRule, ancestorRule, ancestorsRule, entityRule, typedRule}
 
 -- an answer that asks for no pair
@@ -29,29 +28,29 @@ turned e q = record { is = λ s. q .is s ∙ e; known = q .known; rest = q .rest
 
 -- ---- shapes
 
-module _ (a r : List ℕ) (o : ℕ) (f : F.Found) (eo : o ≡ getD r 1 0) (ef : f ≡ found (recordAt a o)) where
+module _ (a r : List ℕ) (o : ℕ) (f : F.Found) (eo : o ≡ getD r 1 0) (ef : foundIn f ≡ recordAt a o) where
   pub shape-none : f ≡ F.the-variants.Undeclared → false ≡ shapeRule a r
   unfolding shapeRule
-  shape-none g = let e : recordAt a o ≡ none = found-none (recordAt a o) (sym ef ∙ g) in rw (← eo, e)
+  shape-none g = let e : recordAt a o ≡ none = sym ef ∙ ap foundIn g in rw (← eo, e)
 
   module _ (y n : ℕ) (b : Bool) (g : f ≡ F.the-variants.As y) (en : n ≡ getD a SHAPE 0) (eb : b ≡ actionAt a n) where
     pub shape-plain : not b ≡ true → true ≡ shapeRule a r
     unfolding shapeRule
     shape-plain h =
-        let e : recordAt a o ≡ some y = found-some (recordAt a o) y (sym ef ∙ g) in
+        let e : recordAt a o ≡ some y = sym ef ∙ ap foundIn g in
         rw (← eo, e, ← en, ← eb, h)
 
     module _ (c : Bool) (h : not b ≡ false) (ec : c ≡ bareAt a y) where
       pub shape-full : not c ≡ true → false ≡ shapeRule a r
       unfolding shapeRule
       shape-full i =
-          let e : recordAt a o ≡ some y = found-some (recordAt a o) y (sym ef ∙ g) in
+          let e : recordAt a o ≡ some y = sym ef ∙ ap foundIn g in
           rw (← eo, e, ← en, ← eb, h, ← ec, not-true c i)
 
       pub shape-bare : (t : ℕ) → not c ≡ false → t ≡ getD r 2 0 → eqb t mark ≡ shapeRule a r
       unfolding shapeRule
       shape-bare t i et =
-          let e : recordAt a o ≡ some y = found-some (recordAt a o) y (sym ef ∙ g) in
+          let e : recordAt a o ≡ some y = sym ef ∙ ap foundIn g in
           rw (← eo, e, ← en, ← eb, h, ← ec, not-false c i, ← et)
 
 -- ---- attributes, tags, ancestors of an entity
@@ -185,22 +184,22 @@ module _ (a r q : List ℕ) (v t : ℕ) (ev : v ≡ getD r 1 0) (eq : q ≡ getD
 
 -- ---- the context, policies
 
-module _ (a r : List ℕ) (y : ℕ) (f : F.Found) (ey : y ≡ getD r 1 0) (ef : f ≡ found (recordAt a y)) where
+module _ (a r : List ℕ) (y : ℕ) (f : F.Found) (ey : y ≡ getD r 1 0) (ef : foundIn f ≡ recordAt a y) where
   pub context-none : (m : List ℕ) → Known a m → f ≡ F.the-variants.Undeclared → Answered a m m (contextRule a r) false
   unfolding contextRule
-  context-none m u g = let e : recordAt a y ≡ none = found-none (recordAt a y) (sym ef ∙ g) in plain a m (contextRule a r) false u (rw (← ey, e))
+  context-none m u g = let e : recordAt a y ≡ none = sym ef ∙ ap foundIn g in plain a m (contextRule a r) false u (rw (← ey, e))
 
   module _ (z x : ℕ) (g : f ≡ F.the-variants.As z) (ex : x ≡ getD r 2 0) where
     pub context-unknown : (m : List ℕ) → Known a m → x ≡ mark → Answered a m m (contextRule a r) true
     unfolding contextRule
     context-unknown m u h =
-        let e : recordAt a y ≡ some z = found-some (recordAt a y) z (sym ef ∙ g) in
+        let e : recordAt a y ≡ some z = sym ef ∙ ap foundIn g in
         plain a m (contextRule a r) true u (rw (← ey, e, ← ex, eq-eqb x mark h))
 
     context-as : (x ≡ mark → ⊥) → full a x y ≡ contextRule a r
     unfolding contextRule
     context-as h =
-        let e : recordAt a y ≡ some z = found-some (recordAt a y) z (sym ef ∙ g) in
+        let e : recordAt a y ≡ some z = sym ef ∙ ap foundIn g in
         rw (← ey, e, ← ex, ne-eqb x mark h)
 
     pub context-known : (m n : List ℕ) (b : Bool) → (x ≡ mark → ⊥) → Answered a m n (full a x y) b → Answered a m n (contextRule a r) b

@@ -1,5 +1,5 @@
 -- The rules of nodes: one law for each answer of the code.
-use mathlib.Core.Path.{_≡_, refl, sym, _∙_}
+use mathlib.Core.Path.{_≡_, refl, sym, ap, _∙_}
 use mathlib.Core.Bool.{Bool, true, false, not, _&&_}
 use mathlib.Core.List.{List, [], _∷_}
 use mathlib.Core.Option.{none, some}
@@ -14,10 +14,9 @@ use Rattle.sheet.specs.Forms.{TYPE, PRINCIPAL, ACTION, RESOURCE, CONTEXT}
 use Rattle.forms.specs.Tags.{PART-P, PART-A, PART-R}
 use Rattle.words.specs.Log.{part}
 use Rattle.table.specs.Layout.{rowsOf}
-use Rattle.fits.specs.Fit.{found, completeIn}
+use Rattle.fits.specs.Fit.{foundIn, completeIn}
 use Rattle.fits.specs.declared.Found as F
 use Rattle.fits.proofs.Walks.{next, entries-end, entries-one, entries-on}
-use Rattle.fits.proofs.Search.{found-some, found-none}
 use Rattle.typing.specs.Rules.{BOOL-SORT, STRING-SORT, ENTITY-SORT, SET-SORT, sortAt, kindAt, elementAt, recordAt, attributeAt, tagTypeAt, attributesAt, targetAt, requestAt, pathFrom, allOf, argsFit, childAt, twoSorts, threeSorts, requestIs, contextIsAt, varRule, eqRule, inRule, gettagRule, containsRule, twoSetsRule, ifRule, getRule, hasRule, haspathRule, setRule, recordRule}
 
 -- ---- sorts
@@ -42,13 +41,13 @@ module _ (a r : List ℕ) (i j : ℕ) where
 -- ---- variables
 
 module _ (a r : List ℕ) where
-  pub request-no : (k o : ℕ) (f : F.Found) → o ≡ getD r 1 0 → f ≡ found (kindAt a o) → f ≡ F.the-variants.Undeclared → false ≡ requestIs a r k
+  pub request-no : (k o : ℕ) (f : F.Found) → o ≡ getD r 1 0 → foundIn f ≡ kindAt a o → f ≡ F.the-variants.Undeclared → false ≡ requestIs a r k
   unfolding requestIs
-  request-no k o f eo ef h = let e : kindAt a o ≡ none = found-none (kindAt a o) (sym ef ∙ h) in rw (← eo, e)
+  request-no k o f eo ef h = let e : kindAt a o ≡ none = sym ef ∙ ap foundIn h in rw (← eo, e)
 
-  pub request-yes : (k o e q : ℕ) (f : F.Found) → o ≡ getD r 1 0 → f ≡ found (kindAt a o) → f ≡ F.the-variants.As e → q ≡ requestAt a k → eqb e q ≡ requestIs a r k
+  pub request-yes : (k o e q : ℕ) (f : F.Found) → o ≡ getD r 1 0 → foundIn f ≡ kindAt a o → f ≡ F.the-variants.As e → q ≡ requestAt a k → eqb e q ≡ requestIs a r k
   unfolding requestIs
-  request-yes k o e q f eo ef h eq = let s : kindAt a o ≡ some e = found-some (kindAt a o) e (sym ef ∙ h) in rw (← eo, s, ← eq)
+  request-yes k o e q f eo ef h eq = let s : kindAt a o ≡ some e = sym ef ∙ ap foundIn h in rw (← eo, s, ← eq)
 
   pub var-principal : (x : ℕ) (b : Bool) → x ≡ getD r 2 0 → x ≡ PART-P → b ≡ requestIs a r PRINCIPAL → b ≡ varRule a r
   unfolding varRule
@@ -101,14 +100,14 @@ module _ (a r : List ℕ) where
     unfolding inRule
     in-no h = rw (← eb, not-true b h)
 
-    module _ (c : ℕ) (f : F.Found) (h : not b ≡ false) (ec : c ≡ childAt a r 3) (ef : f ≡ found (targetAt a c)) where
+    module _ (c : ℕ) (f : F.Found) (h : not b ≡ false) (ec : c ≡ childAt a r 3) (ef : foundIn f ≡ targetAt a c) where
       pub in-none : f ≡ F.the-variants.Undeclared → false ≡ inRule a r
       unfolding inRule
-      in-none g = let e : targetAt a c ≡ none = found-none (targetAt a c) (sym ef ∙ g) in rw (← eb, not-false b h, ← ec, e)
+      in-none g = let e : targetAt a c ≡ none = sym ef ∙ ap foundIn g in rw (← eb, not-false b h, ← ec, e)
 
       pub in-some : (k : ℕ) → f ≡ F.the-variants.As k → true ≡ inRule a r
       unfolding inRule
-      in-some k g = let e : targetAt a c ≡ some k = found-some (targetAt a c) k (sym ef ∙ g) in rw (← eb, not-false b h, ← ec, e)
+      in-some k g = let e : targetAt a c ≡ some k = sym ef ∙ ap foundIn g in rw (← eb, not-false b h, ← ec, e)
 
   -- ---- `gettag`
 
@@ -117,14 +116,14 @@ module _ (a r : List ℕ) where
     unfolding gettagRule
     gettag-no h = rw (← ec, ← es, ne-eqb s STRING-SORT h)
 
-    module _ (x : ℕ) (f : F.Found) (h : s ≡ STRING-SORT) (ex : x ≡ childAt a r 2) (ef : f ≡ found (kindAt a x)) where
+    module _ (x : ℕ) (f : F.Found) (h : s ≡ STRING-SORT) (ex : x ≡ childAt a r 2) (ef : foundIn f ≡ kindAt a x) where
       pub gettag-none : f ≡ F.the-variants.Undeclared → false ≡ gettagRule a r
       unfolding gettagRule
-      gettag-none g = let e : kindAt a x ≡ none = found-none (kindAt a x) (sym ef ∙ g) in rw (← ec, ← es, eq-eqb s STRING-SORT h, ← ex, e)
+      gettag-none g = let e : kindAt a x ≡ none = sym ef ∙ ap foundIn g in rw (← ec, ← es, eq-eqb s STRING-SORT h, ← ex, e)
 
       pub gettag-some : (k t o : ℕ) → f ≡ F.the-variants.As k → t ≡ tagTypeAt a k → o ≡ getD r 1 0 → eqb t o ≡ gettagRule a r
       unfolding gettagRule
-      gettag-some k t o g et eo = let e : kindAt a x ≡ some k = found-some (kindAt a x) k (sym ef ∙ g) in rw (← ec, ← es, eq-eqb s STRING-SORT h, ← ex, e, ← et, ← eo)
+      gettag-some k t o g et eo = let e : kindAt a x ≡ some k = sym ef ∙ ap foundIn g in rw (← ec, ← es, eq-eqb s STRING-SORT h, ← ex, e, ← et, ← eo)
 
   -- ---- `contains`
 
@@ -133,14 +132,14 @@ module _ (a r : List ℕ) where
     unfolding containsRule
     contains-no h = rw (← eo, ← es, ne-eqb s BOOL-SORT h)
 
-    module _ (x : ℕ) (f : F.Found) (h : s ≡ BOOL-SORT) (ex : x ≡ childAt a r 2) (ef : f ≡ found (elementAt a x)) where
+    module _ (x : ℕ) (f : F.Found) (h : s ≡ BOOL-SORT) (ex : x ≡ childAt a r 2) (ef : foundIn f ≡ elementAt a x) where
       pub contains-none : f ≡ F.the-variants.Undeclared → false ≡ containsRule a r
       unfolding containsRule
-      contains-none g = let e : elementAt a x ≡ none = found-none (elementAt a x) (sym ef ∙ g) in rw (← eo, ← es, eq-eqb s BOOL-SORT h, ← ex, e)
+      contains-none g = let e : elementAt a x ≡ none = sym ef ∙ ap foundIn g in rw (← eo, ← es, eq-eqb s BOOL-SORT h, ← ex, e)
 
       pub contains-some : (k y : ℕ) → f ≡ F.the-variants.As k → y ≡ childAt a r 3 → eqb k y ≡ containsRule a r
       unfolding containsRule
-      contains-some k y g ey = let e : elementAt a x ≡ some k = found-some (elementAt a x) k (sym ef ∙ g) in rw (← eo, ← es, eq-eqb s BOOL-SORT h, ← ex, e, ← ey)
+      contains-some k y g ey = let e : elementAt a x ≡ some k = sym ef ∙ ap foundIn g in rw (← eo, ← es, eq-eqb s BOOL-SORT h, ← ex, e, ← ey)
 
   -- ---- `all`, `any`, `if`
 
@@ -168,24 +167,24 @@ module _ (a r : List ℕ) where
 
   -- ---- `get`
 
-  module _ (x : ℕ) (f : F.Found) (ex : x ≡ childAt a r 2) (ef : f ≡ found (attributesAt a x)) where
+  module _ (x : ℕ) (f : F.Found) (ex : x ≡ childAt a r 2) (ef : foundIn f ≡ attributesAt a x) where
     pub get-none : f ≡ F.the-variants.Undeclared → false ≡ getRule a r
     unfolding getRule
-    get-none g = let e : attributesAt a x ≡ none = found-none (attributesAt a x) (sym ef ∙ g) in rw (← ex, e)
+    get-none g = let e : attributesAt a x ≡ none = sym ef ∙ ap foundIn g in rw (← ex, e)
 
-    module _ (y t : ℕ) (d : F.Found) (g : f ≡ F.the-variants.As y) (et : t ≡ getD r 3 0) (ed : d ≡ found (attributeAt a y t)) where
+    module _ (y t : ℕ) (d : F.Found) (g : f ≡ F.the-variants.As y) (et : t ≡ getD r 3 0) (ed : foundIn d ≡ attributeAt a y t) where
       pub get-undeclared : d ≡ F.the-variants.Undeclared → false ≡ getRule a r
       unfolding getRule
       get-undeclared h =
-          let e : attributesAt a x ≡ some y = found-some (attributesAt a x) y (sym ef ∙ g) in
-          let q : attributeAt a y t ≡ none = found-none (attributeAt a y t) (sym ed ∙ h) in
+          let e : attributesAt a x ≡ some y = sym ef ∙ ap foundIn g in
+          let q : attributeAt a y t ≡ none = sym ed ∙ ap foundIn h in
           rw (← ex, e, ← et, q)
 
       pub get-declared : (z o : ℕ) → d ≡ F.the-variants.As z → o ≡ getD r 1 0 → eqb o z ≡ getRule a r
       unfolding getRule
       get-declared z o h eo =
-          let e : attributesAt a x ≡ some y = found-some (attributesAt a x) y (sym ef ∙ g) in
-          let q : attributeAt a y t ≡ some z = found-some (attributeAt a y t) z (sym ed ∙ h) in
+          let e : attributesAt a x ≡ some y = sym ef ∙ ap foundIn g in
+          let q : attributeAt a y t ≡ some z = sym ed ∙ ap foundIn h in
           rw (← ex, e, ← et, q, ← eo)
 
   -- ---- `has`, `haspath`
@@ -199,22 +198,22 @@ module _ (a r : List ℕ) where
     unfolding haspathRule
     haspath-no h = rw (← eo, ← es, ne-eqb s BOOL-SORT h)
 
-    module _ (x : ℕ) (f : F.Found) (h : s ≡ BOOL-SORT) (ex : x ≡ childAt a r 2) (ef : f ≡ found (attributesAt a x)) where
+    module _ (x : ℕ) (f : F.Found) (h : s ≡ BOOL-SORT) (ex : x ≡ childAt a r 2) (ef : foundIn f ≡ attributesAt a x) where
       pub has-none : f ≡ F.the-variants.Undeclared → false ≡ hasRule a r
       unfolding hasRule
-      has-none g = let e : attributesAt a x ≡ none = found-none (attributesAt a x) (sym ef ∙ g) in rw (← eo, ← es, eq-eqb s BOOL-SORT h, ← ex, e)
+      has-none g = let e : attributesAt a x ≡ none = sym ef ∙ ap foundIn g in rw (← eo, ← es, eq-eqb s BOOL-SORT h, ← ex, e)
 
       pub has-some : (y : ℕ) → f ≡ F.the-variants.As y → true ≡ hasRule a r
       unfolding hasRule
-      has-some y g = let e : attributesAt a x ≡ some y = found-some (attributesAt a x) y (sym ef ∙ g) in rw (← eo, ← es, eq-eqb s BOOL-SORT h, ← ex, e)
+      has-some y g = let e : attributesAt a x ≡ some y = sym ef ∙ ap foundIn g in rw (← eo, ← es, eq-eqb s BOOL-SORT h, ← ex, e)
 
       pub haspath-none : f ≡ F.the-variants.Undeclared → false ≡ haspathRule a r
       unfolding haspathRule
-      haspath-none g = let e : attributesAt a x ≡ none = found-none (attributesAt a x) (sym ef ∙ g) in rw (← eo, ← es, eq-eqb s BOOL-SORT h, ← ex, e)
+      haspath-none g = let e : attributesAt a x ≡ none = sym ef ∙ ap foundIn g in rw (← eo, ← es, eq-eqb s BOOL-SORT h, ← ex, e)
 
       pub haspath-some : (y : ℕ) (b : Bool) → f ≡ F.the-variants.As y → b ≡ pathFrom a (drop 3 r) y → b ≡ haspathRule a r
       unfolding haspathRule
-      haspath-some y b g eb = let e : attributesAt a x ≡ some y = found-some (attributesAt a x) y (sym ef ∙ g) in rw (← eo, ← es, eq-eqb s BOOL-SORT h, ← ex, e) eb
+      haspath-some y b g eb = let e : attributesAt a x ≡ some y = sym ef ∙ ap foundIn g in rw (← eo, ← es, eq-eqb s BOOL-SORT h, ← ex, e) eb
 
 -- ---- the walk of a path
 
@@ -237,7 +236,7 @@ module _ (a r : List ℕ) (y z i : ℕ) (w : Path a r y z i) where
         let h : length r ≤ i + 1 = omega arith in
         sym (w .left ∙ rw (next r i l, drop-of-length-le r h))
 
-    module _ (n : i + 1 ≡ length r → ⊥) (t : ℕ) (f : F.Found) (et : t ≡ getD r i 0) (ef : f ≡ found (attributeAt a z t)) where
+    module _ (n : i + 1 ≡ length r → ⊥) (t : ℕ) (f : F.Found) (et : t ≡ getD r i 0) (ef : foundIn f ≡ attributeAt a z t) where
       path-step : pathFrom a (drop i r) z ≡ onSome true (attributeAt a z t) (λ x. onSome false (attributesAt a x) (pathFrom a (drop (i + 1) r)))
       unfolding pathFrom
       path-step =
@@ -245,32 +244,32 @@ module _ (a r : List ℕ) (y z i : ℕ) (w : Path a r y z i) where
           rw (next r i l, next r (i + 1) k, ← et)
 
       pub path-free : f ≡ F.the-variants.Undeclared → true ≡ pathFrom a (drop 3 r) y
-      path-free h = let e : attributeAt a z t ≡ none = found-none (attributeAt a z t) (sym ef ∙ h) in sym (w .left ∙ path-step ∙ rw e)
+      path-free h = let e : attributeAt a z t ≡ none = sym ef ∙ ap foundIn h in sym (w .left ∙ path-step ∙ rw e)
 
-      module _ (x : ℕ) (g : F.Found) (h : f ≡ F.the-variants.As x) (eg : g ≡ found (attributesAt a x)) where
+      module _ (x : ℕ) (g : F.Found) (h : f ≡ F.the-variants.As x) (eg : foundIn g ≡ attributesAt a x) where
         pub path-off : g ≡ F.the-variants.Undeclared → false ≡ pathFrom a (drop 3 r) y
         path-off k =
-            let e : attributeAt a z t ≡ some x = found-some (attributeAt a z t) x (sym ef ∙ h) in
-            let q : attributesAt a x ≡ none = found-none (attributesAt a x) (sym eg ∙ k) in
+            let e : attributeAt a z t ≡ some x = sym ef ∙ ap foundIn h in
+            let q : attributesAt a x ≡ none = sym eg ∙ ap foundIn k in
             sym (w .left ∙ path-step ∙ rw (e, q))
 
         pub path-on : (v : ℕ) → g ≡ F.the-variants.As v → Path a r y v (i + 1)
         path-on v k =
-            let e : attributeAt a z t ≡ some x = found-some (attributeAt a z t) x (sym ef ∙ h) in
-            let q : attributesAt a x ≡ some v = found-some (attributesAt a x) v (sym eg ∙ k) in
+            let e : attributeAt a z t ≡ some x = sym ef ∙ ap foundIn h in
+            let q : attributesAt a x ≡ some v = sym eg ∙ ap foundIn k in
             record { left = w .left ∙ path-step ∙ rw (e, q) }
 
 -- ---- sets
 
 module _ (a r : List ℕ) where
-  module _ (o : ℕ) (f : F.Found) (eo : o ≡ getD r 1 0) (ef : f ≡ found (elementAt a o)) where
+  module _ (o : ℕ) (f : F.Found) (eo : o ≡ getD r 1 0) (ef : foundIn f ≡ elementAt a o) where
     pub set-none : f ≡ F.the-variants.Undeclared → false ≡ setRule a r
     unfolding setRule
-    set-none g = let e : elementAt a o ≡ none = found-none (elementAt a o) (sym ef ∙ g) in rw (← eo, e)
+    set-none g = let e : elementAt a o ≡ none = sym ef ∙ ap foundIn g in rw (← eo, e)
 
     pub set-some : (k : ℕ) (b : Bool) → f ≡ F.the-variants.As k → b ≡ allOf a (drop 2 r) k → b ≡ setRule a r
     unfolding setRule
-    set-some k b g eb = let e : elementAt a o ≡ some k = found-some (elementAt a o) k (sym ef ∙ g) in rw (← eo, e) eb
+    set-some k b g eb = let e : elementAt a o ≡ some k = sym ef ∙ ap foundIn g in rw (← eo, e) eb
 
   -- what is left of the children, from word i on, decides the whole
   pub record Children (e i : ℕ) : Type 0 where
@@ -297,10 +296,10 @@ module _ (a r : List ℕ) where
 
   -- ---- records
 
-  module _ (o : ℕ) (f : F.Found) (eo : o ≡ getD r 1 0) (ef : f ≡ found (recordAt a o)) where
+  module _ (o : ℕ) (f : F.Found) (eo : o ≡ getD r 1 0) (ef : foundIn f ≡ recordAt a o) where
     pub record-none : f ≡ F.the-variants.Undeclared → false ≡ recordRule a r
     unfolding recordRule
-    record-none g = let e : recordAt a o ≡ none = found-none (recordAt a o) (sym ef ∙ g) in rw (← eo, e)
+    record-none g = let e : recordAt a o ≡ none = sym ef ∙ ap foundIn g in rw (← eo, e)
 
     module _ (y : ℕ) (p q : List ℕ) (b : Bool) (g : f ≡ F.the-variants.As y) (ep : p ≡ part r 1 (length r)) (eq : q ≡ getD (rowsOf a TYPE) y []) (eb : b ≡ completeIn p q) where
       whole : p ≡ drop 1 r
@@ -309,13 +308,13 @@ module _ (a r : List ℕ) where
       pub record-lacks : not b ≡ true → false ≡ recordRule a r
       unfolding recordRule
       record-lacks h =
-          let e : recordAt a o ≡ some y = found-some (recordAt a o) y (sym ef ∙ g) in
+          let e : recordAt a o ≡ some y = sym ef ∙ ap foundIn g in
           rw (← eo, e, ← eq, ← whole, ← eb, not-true b h)
 
       pub record-some : (c : Bool) → not b ≡ false → c ≡ argsFit a (drop 2 r) y → c ≡ recordRule a r
       unfolding recordRule
       record-some c h ec =
-          let e : recordAt a o ≡ some y = found-some (recordAt a o) y (sym ef ∙ g) in
+          let e : recordAt a o ≡ some y = sym ef ∙ ap foundIn g in
           rw (← eo, e, ← eq, ← whole, ← eb, not-false b h) ec
 
   -- what is left of the texts and nodes, from word i on, decides the whole
@@ -335,23 +334,23 @@ module _ (a r : List ℕ) where
       unfolding argsFit
       args-odd h = sym (w .left ∙ rw (entries-one r i l (omega arith)))
 
-      module _ (n : 2 ≤ length r - i) (t : ℕ) (f : F.Found) (et : t ≡ getD r i 0) (ef : f ≡ found (attributeAt a y t)) where
+      module _ (n : 2 ≤ length r - i) (t : ℕ) (f : F.Found) (et : t ≡ getD r i 0) (ef : foundIn f ≡ attributeAt a y t) where
         args-step : (x : ℕ) → x ≡ childAt a r (i + 1) → argsFit a (drop i r) y ≡ (onSome false (attributeAt a y t) (eqb x) && argsFit a (drop (i + 2) r) y)
         unfolding argsFit childAt
         args-step x ex = rw (entries-on r i (omega arith), ← et, ex)
 
         pub args-undeclared : f ≡ F.the-variants.Undeclared → false ≡ argsFit a (drop 2 r) y
         args-undeclared h =
-            let e : attributeAt a y t ≡ none = found-none (attributeAt a y t) (sym ef ∙ h) in
+            let e : attributeAt a y t ≡ none = sym ef ∙ ap foundIn h in
             sym (w .left ∙ args-step (childAt a r (i + 1)) refl ∙ rw e)
 
         module _ (z x : ℕ) (h : f ≡ F.the-variants.As z) (ex : x ≡ childAt a r (i + 1)) where
           pub args-off : (x ≡ z → ⊥) → false ≡ argsFit a (drop 2 r) y
           args-off k =
-              let e : attributeAt a y t ≡ some z = found-some (attributeAt a y t) z (sym ef ∙ h) in
+              let e : attributeAt a y t ≡ some z = sym ef ∙ ap foundIn h in
               sym (w .left ∙ args-step x ex ∙ rw (e, ne-eqb x z k))
 
           pub args-on : x ≡ z → Args y (i + 2)
           args-on k =
-              let e : attributeAt a y t ≡ some z = found-some (attributeAt a y t) z (sym ef ∙ h) in
+              let e : attributeAt a y t ≡ some z = sym ef ∙ ap foundIn h in
               record { left = w .left ∙ args-step x ex ∙ rw (e, eq-eqb x z k) }

@@ -14,11 +14,10 @@ use Rattle.forms.specs.Tags.{LONG-TYPE, ENTITY-TYPE, SET-TYPE, RECORD-TYPE, OF-
 use Rattle.sheet.specs.State.{Declared, TypeRow, bool, long, string, entity, set′, record′, declareds, typeRow}
 use Rattle.sheet.specs.Typing.{onEntity, onSetOf, onRecord, noneDeclared}
 use Rattle.table.specs.Layout.{rowsOf}
-use Rattle.fits.specs.Fit.{declaredBy, found}
+use Rattle.fits.specs.Fit.{declaredBy, foundIn}
 use Rattle.fits.specs.declared.Found as F
 use Rattle.fits.proofs.Walks.{next}
 use Rattle.fits.proofs.Sorts.{typeTable}
-use Rattle.fits.proofs.Search.{found-some, found-none}
 use Rattle.typing.specs.Rules.{BOOL-SORT, ENTITY-SORT, SET-SORT, RECORD-SORT, sortNumber, sortAt, kindAt, elementAt, recordAt, attributeAt, bareAt, attributeTypeAt, tagTypeAt, isAboveAt, actionAt, attributesAt, targetAt, requestAt, nodeTypeAt, childAt}
 
 -- ---- the sort of a type's row
@@ -93,33 +92,33 @@ module _ {A : Type 0} (d : A) where
   not-record (record′ ds) f h = absurd (h refl)
 
 module _ (a q : List ℕ) (y k : ℕ) (eq : q ≡ getD (rowsOf a TYPE) y []) (ek : k ≡ tag q) where
-  pub kind-is : (x : ℕ) → k ≡ ENTITY-TYPE → x ≡ getD q 1 0 → F.the-variants.As x ≡ found (kindAt a y)
-  unfolding found kindAt
+  pub kind-is : (x : ℕ) → k ≡ ENTITY-TYPE → x ≡ getD q 1 0 → foundIn (F.the-variants.As x) ≡ kindAt a y
+  unfolding kindAt
   kind-is x h ex = let e : tag q ≡ ENTITY-TYPE = sym ek ∙ h in rw (← eq, e, ex)
 
-  pub kind-not : (k ≡ ENTITY-TYPE → ⊥) → F.the-variants.Undeclared ≡ found (kindAt a y)
-  unfolding found kindAt
+  pub kind-not : (k ≡ ENTITY-TYPE → ⊥) → foundIn F.the-variants.Undeclared ≡ kindAt a y
+  unfolding kindAt
   kind-not h = let e : onEntity none (typeRow q) some ≡ none = not-entity none (typeRow q) some (λ s. h (ek ∙ tag-sort q (ENTITY-TYPE - LONG-TYPE) s)) in rw (← eq, e)
 
-  pub element-is : (x : ℕ) → k ≡ SET-TYPE → x ≡ getD q 1 0 → F.the-variants.As x ≡ found (elementAt a y)
-  unfolding found elementAt
+  pub element-is : (x : ℕ) → k ≡ SET-TYPE → x ≡ getD q 1 0 → foundIn (F.the-variants.As x) ≡ elementAt a y
+  unfolding elementAt
   element-is x h ex = let e : tag q ≡ SET-TYPE = sym ek ∙ h in rw (← eq, e, ex)
 
-  pub element-not : (k ≡ SET-TYPE → ⊥) → F.the-variants.Undeclared ≡ found (elementAt a y)
-  unfolding found elementAt
+  pub element-not : (k ≡ SET-TYPE → ⊥) → foundIn F.the-variants.Undeclared ≡ elementAt a y
+  unfolding elementAt
   element-not h = let e : onSetOf none (typeRow q) some ≡ none = not-set none (typeRow q) some (λ s. h (ek ∙ tag-sort q (SET-TYPE - LONG-TYPE) s)) in rw (← eq, e)
 
-  pub record-is : k ≡ RECORD-TYPE → F.the-variants.As y ≡ found (recordAt a y)
-  unfolding found recordAt
+  pub record-is : k ≡ RECORD-TYPE → foundIn (F.the-variants.As y) ≡ recordAt a y
+  unfolding recordAt
   record-is h = let e : tag q ≡ RECORD-TYPE = sym ek ∙ h in rw (← eq, e)
 
-  pub record-not : (k ≡ RECORD-TYPE → ⊥) → F.the-variants.Undeclared ≡ found (recordAt a y)
-  unfolding found recordAt
+  pub record-not : (k ≡ RECORD-TYPE → ⊥) → foundIn F.the-variants.Undeclared ≡ recordAt a y
+  unfolding recordAt
   record-not h = let e : onRecord none (typeRow q) (λ ds. some y) ≡ none = not-record none (typeRow q) (λ ds. some y) (λ s. h (ek ∙ tag-sort q (RECORD-TYPE - LONG-TYPE) s)) in rw (← eq, e)
 
 -- ---- parts of a row
 
-pub attribute-is : (a q : List ℕ) (y t : ℕ) (f : F.Found) → q ≡ getD (rowsOf a TYPE) y [] → f ≡ found (declaredBy q t) → f ≡ found (attributeAt a y t)
+pub attribute-is : (a q : List ℕ) (y t : ℕ) (f : F.Found) → q ≡ getD (rowsOf a TYPE) y [] → foundIn f ≡ declaredBy q t → foundIn f ≡ attributeAt a y t
 unfolding attributeAt
 attribute-is a q y t f eq ef = rw (← eq) ef
 
@@ -182,18 +181,18 @@ module _ (a q : List ℕ) (k l i : ℕ) (w : Above a q k l i) where
 -- ---- attributes, targets
 
 module _ (a : List ℕ) (y : ℕ) (f : F.Found) where
-  pub attributes-none : (g : F.Found) → f ≡ found (kindAt a y) → f ≡ F.the-variants.Undeclared → g ≡ found (recordAt a y) → g ≡ found (attributesAt a y)
+  pub attributes-none : (g : F.Found) → foundIn f ≡ kindAt a y → f ≡ F.the-variants.Undeclared → foundIn g ≡ recordAt a y → foundIn g ≡ attributesAt a y
   unfolding attributesAt
-  attributes-none g ef h eg = let e : kindAt a y ≡ none = found-none (kindAt a y) (sym ef ∙ h) in rw e eg
+  attributes-none g ef h eg = let e : kindAt a y ≡ none = sym ef ∙ ap foundIn h in rw e eg
 
-  pub attributes-some : (g : F.Found) (k z : ℕ) → f ≡ found (kindAt a y) → f ≡ F.the-variants.As k → z ≡ attributeTypeAt a k → g ≡ found (recordAt a z) → g ≡ found (attributesAt a y)
+  pub attributes-some : (g : F.Found) (k z : ℕ) → foundIn f ≡ kindAt a y → f ≡ F.the-variants.As k → z ≡ attributeTypeAt a k → foundIn g ≡ recordAt a z → foundIn g ≡ attributesAt a y
   unfolding attributesAt
-  attributes-some g k z ef h ez eg = let e : kindAt a y ≡ some k = found-some (kindAt a y) k (sym ef ∙ h) in rw (e, ← ez) eg
+  attributes-some g k z ef h ez eg = let e : kindAt a y ≡ some k = sym ef ∙ ap foundIn h in rw (e, ← ez) eg
 
-  pub target-none : (g : F.Found) → f ≡ found (elementAt a y) → f ≡ F.the-variants.Undeclared → g ≡ found (kindAt a y) → g ≡ found (targetAt a y)
+  pub target-none : (g : F.Found) → foundIn f ≡ elementAt a y → f ≡ F.the-variants.Undeclared → foundIn g ≡ kindAt a y → foundIn g ≡ targetAt a y
   unfolding targetAt
-  target-none g ef h eg = let e : elementAt a y ≡ none = found-none (elementAt a y) (sym ef ∙ h) in rw e eg
+  target-none g ef h eg = let e : elementAt a y ≡ none = sym ef ∙ ap foundIn h in rw e eg
 
-  pub target-some : (g : F.Found) (z : ℕ) → f ≡ found (elementAt a y) → f ≡ F.the-variants.As z → g ≡ found (kindAt a z) → g ≡ found (targetAt a y)
+  pub target-some : (g : F.Found) (z : ℕ) → foundIn f ≡ elementAt a y → f ≡ F.the-variants.As z → foundIn g ≡ kindAt a z → foundIn g ≡ targetAt a y
   unfolding targetAt
-  target-some g z ef h eg = let e : elementAt a y ≡ some z = found-some (elementAt a y) z (sym ef ∙ h) in rw e eg
+  target-some g z ef h eg = let e : elementAt a y ≡ some z = sym ef ∙ ap foundIn h in rw e eg

@@ -15,7 +15,7 @@ use table::item;
 use table::row;
 use table::tag;
 ghost use mathlib.Core.Path.{_≡_};
-ghost use Rattle.fits.specs.Fit.{found};
+ghost use Rattle.fits.specs.Fit.{foundIn};
 ghost use Rattle.typing.specs.Rules.{
   sortAt,
   kindAt,
@@ -60,7 +60,7 @@ pub fn sort(rows: &[u32], ty: u32) -> u32
 
 // The kind of an entity type.
 pub fn kind_of(rows: &[u32], ty: u32) -> Found
-    ensures { λ f. ⌜ f ≡ found (kindAt (now (rows .entry)) ty) ⌝ }
+    ensures { λ f. ⌜ foundIn f ≡ kindAt (now (rows .entry)) ty ⌝ }
 {
     let q = row(rows, TYPE, ty);
     if tag(q) == ENTITY_TYPE {
@@ -71,7 +71,7 @@ pub fn kind_of(rows: &[u32], ty: u32) -> Found
 
 // The type of a set's elements.
 pub fn element_of(rows: &[u32], ty: u32) -> Found
-    ensures { λ f. ⌜ f ≡ found (elementAt (now (rows .entry)) ty) ⌝ }
+    ensures { λ f. ⌜ foundIn f ≡ elementAt (now (rows .entry)) ty ⌝ }
 {
     let q = row(rows, TYPE, ty);
     if tag(q) == SET_TYPE {
@@ -82,7 +82,7 @@ pub fn element_of(rows: &[u32], ty: u32) -> Found
 
 // A record type itself.
 pub fn record_of(rows: &[u32], ty: u32) -> Found
-    ensures { λ f. ⌜ f ≡ found (recordAt (now (rows .entry)) ty) ⌝ }
+    ensures { λ f. ⌜ foundIn f ≡ recordAt (now (rows .entry)) ty ⌝ }
 {
     let q = row(rows, TYPE, ty);
     if tag(q) == RECORD_TYPE {
@@ -93,7 +93,7 @@ pub fn record_of(rows: &[u32], ty: u32) -> Found
 
 // The type that a record type declares for an attribute.
 pub fn attribute(rows: &[u32], ty: u32, text: u32) -> Found
-    ensures { λ f. ⌜ f ≡ found (attributeAt (now (rows .entry)) ty text) ⌝ }
+    ensures { λ f. ⌜ foundIn f ≡ attributeAt (now (rows .entry)) ty text ⌝ }
 {
     let q = row(rows, TYPE, ty);
     declared(q, text)
@@ -147,7 +147,7 @@ pub fn is_action(rows: &[u32], kind: u32) -> bool
 
 // The record type of the attributes of an entity or record type.
 pub fn attributes(rows: &[u32], ty: u32) -> Found
-    ensures { λ f. ⌜ f ≡ found (attributesAt (now (rows .entry)) ty) ⌝ }
+    ensures { λ f. ⌜ foundIn f ≡ attributesAt (now (rows .entry)) ty ⌝ }
 {
     let f = kind_of(rows, ty);
     let Found::As(k) = f else {
@@ -158,7 +158,7 @@ pub fn attributes(rows: &[u32], ty: u32) -> Found
 
 // The kind of an entity or set of entities.
 pub fn target(rows: &[u32], ty: u32) -> Found
-    ensures { λ f. ⌜ f ≡ found (targetAt (now (rows .entry)) ty) ⌝ }
+    ensures { λ f. ⌜ foundIn f ≡ targetAt (now (rows .entry)) ty ⌝ }
 {
     let f = element_of(rows, ty);
     let Found::As(e) = f else {

@@ -2,6 +2,7 @@
 use mathlib.Core.Path.{_≡_, refl}
 use mathlib.Core.Bool.{Bool, true, false}
 use mathlib.Core.List.{List, [], _∷_}
+use mathlib.Core.Option.{none, some}
 use Prim.Native.Nat.{ℕ}
 use lib.ListN.{getD}
 use Rattle.cedar.specs.Evaluate.{matches}
@@ -11,11 +12,8 @@ use Rattle.sheet.specs.Forms.{mark}
 use Rattle.value.specs.Lines.{placeOf}
 use Rattle.value.specs.Shapes.{shapeOf}
 use Rattle.value.specs.Made.{valuesIn, setRow, pairsOf, recordRow, lowerOf, leastOf}
-use Rattle.value.specs.Globs.{begins, blockOf, laterOf, stepOf}
+use Rattle.value.specs.Globs.{misses, endsAt, starAt, holds, fails, onTo, begins, blockOf, laterOf, stepOf}
 use Rattle.value.specs.declared.Shape.the-variants.{Bool as Boolˢ, Long, Entity, Set}
-use Rattle.value.specs.declared.Entry.the-variants.{At, Nothing}
-use Rattle.value.specs.declared.like.Block.the-variants.{Misses, Ends, Star}
-use Rattle.value.specs.declared.like.Step.the-variants.{Holds, Fails, On}
 
 -- texts 0 `a`, 1 `ab`, 2 empty
 texts : ℕ → List ℕ
@@ -30,11 +28,11 @@ like-is : block-cases ≡ true ∷ false ∷ true ∷ false ∷ []
 unfolding texts block-cases
 like-is = refl
 
-blocks : (blockOf texts 0 0 (0 ∷ mark ∷ 1 ∷ []) (97 ∷ 97 ∷ 98 ∷ []) ≡ Star 2 1) × (blockOf texts 2 1 (1 ∷ []) (97 ∷ 98 ∷ []) ≡ Ends 3) × (blockOf texts 2 2 (1 ∷ []) (98 ∷ []) ≡ Misses)
+blocks : (blockOf texts 0 0 (0 ∷ mark ∷ 1 ∷ []) (97 ∷ 97 ∷ 98 ∷ []) ≡ starAt 2 1) × (blockOf texts 2 1 (1 ∷ []) (97 ∷ 98 ∷ []) ≡ endsAt 3) × (blockOf texts 2 2 (1 ∷ []) (98 ∷ []) ≡ misses)
 unfolding texts begins blockOf
 blocks = (refl, refl, refl)
 
-steps : (stepOf 3 2 1 (Ends 3) ≡ Holds) × (stepOf 3 2 1 (Ends 2) ≡ On 2 2) × (stepOf 3 2 3 Misses ≡ Fails)
+steps : (stepOf 3 2 1 (endsAt 3) ≡ holds) × (stepOf 3 2 1 (endsAt 2) ≡ onTo 2 2) × (stepOf 3 2 3 misses ≡ fails)
 unfolding laterOf stepOf
 steps = (refl, refl, refl)
 
@@ -51,7 +49,7 @@ sets : setRow (0 ∷ 7 ∷ 4 ∷ 0 ∷ 0 ∷ 3 ∷ 4 ∷ 0 ∷ 0 ∷ 7 ∷ 4 ∷
 unfolding setRow valuesIn
 sets = refl
 
-least : (leastOf 4 Nothing (7 ∷ 3 ∷ 7 ∷ 5 ∷ []) ≡ At 5) × (leastOf 8 Nothing (7 ∷ 3 ∷ []) ≡ Nothing)
+least : (leastOf 4 none (7 ∷ 3 ∷ 7 ∷ 5 ∷ []) ≡ some 5) × (leastOf 8 none (7 ∷ 3 ∷ []) ≡ none)
 unfolding leastOf lowerOf
 least = (refl, refl)
 

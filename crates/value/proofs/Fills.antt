@@ -1,6 +1,7 @@
 -- A row written word by word past the end of a log, and made. Assumes nothing.
 use mathlib.Core.Path.{_≡_, refl, sym, ap, _∙_}
 use mathlib.Core.List.{List, [], _∷_, _++_, append-assoc, append-nil}
+use mathlib.Core.Option.{none}
 use Prim.Native.Nat.{ℕ, zero, suc, _+_, _-_, _≤_, _<_}
 use native.Mathlib.Nat.{le-refl}
 use native.Mathlib.Omega.{arith}
@@ -14,6 +15,7 @@ use Rattle.cedar.specs.Making.{sortN}
 use Rattle.forms.specs.Tags.{SET-VALUE, RECORD-VALUE}
 use Rattle.value.specs.declared.Entry.{Entry}
 use Rattle.value.specs.declared.Entry.the-variants.{At, Nothing}
+use Rattle.value.specs.Shapes.{valueFound}
 use Rattle.value.specs.Made.{ROW, SOURCE, Made, MadeBeside, valuesIn, leastOf, setRow, pairsOf, recordRow, pushAll, written}
 use Rattle.value.proofs.Lists.{uncons2}
 use Rattle.value.proofs.Sorting.{fromN, from-none, least-none, least-some, uncons4}
@@ -99,22 +101,22 @@ module _ {b b′ : List ℕ} {p p′ x : ℕ} (h : Room b p) (w : Appended b p (
   pushed-base at l = sym (take-take at p b′ l) ∙ ap (take at) (append-below w) ∙ take-take at p b l
 
 module _ (b₀ : List ℕ) (at start bt : ℕ) (h : bt ≤ at) (b : List ℕ) (p lo : ℕ) (g : Filling b₀ at start bt b p lo)
-    (rows : List ℕ) (er : rows ≡ part b start bt) (e : Entry) (ee : e ≡ leastOf lo Nothing (valuesIn rows)) where
-  the-least : leastOf lo Nothing (valuesIn (part b₀ start bt)) ≡ e
-  the-least = ap (λ (l : List ℕ). leastOf lo Nothing (valuesIn l)) (sym (er ∙ part-same b₀ b at start bt (g .base) h)) ∙ sym ee
+    (rows : List ℕ) (er : rows ≡ part b start bt) (e : Entry) (ee : valueFound e ≡ leastOf lo none (valuesIn rows)) where
+  the-least : leastOf lo none (valuesIn (part b₀ start bt)) ≡ valueFound e
+  the-least = ap (λ (l : List ℕ). leastOf lo none (valuesIn l)) (sym (er ∙ part-same b₀ b at start bt (g .base) h)) ∙ sym ee
 
   pub fill-end : e ≡ Nothing → Holds at b p (pushAll (take at b₀) (sortN (valuesIn (part b₀ start bt))))
   unfolding pushAll
   fill-end z =
       record {
-        is = sym (g .left ∙ ap (pushAll (take p b)) (least-none lo (valuesIn (part b₀ start bt)) (the-least ∙ z)));
+        is = sym (g .left ∙ ap (pushAll (take p b)) (least-none lo (valuesIn (part b₀ start bt)) (the-least ∙ ap valueFound z)));
         low = g .room .low;
         grows = g .grows;
       }
 
   module _ (x : ℕ) (z : e ≡ At x) where
     next : fromN lo (sortN (valuesIn (part b₀ start bt))) ≡ x ∷ fromN (x + 1) (sortN (valuesIn (part b₀ start bt)))
-    next = least-some lo x (valuesIn (part b₀ start bt)) (the-least ∙ z)
+    next = least-some lo x (valuesIn (part b₀ start bt)) (the-least ∙ ap valueFound z)
 
     pub fill-less : length (fromN (x + 1) (sortN (valuesIn (part b₀ start bt)))) < length (fromN lo (sortN (valuesIn (part b₀ start bt))))
     fill-less = omega (arith, ap length next)

@@ -15,10 +15,10 @@ use Rattle.cedar.specs.Residual.{star, piece}
 use Rattle.sheet.specs.Bytes.{same}
 use Rattle.sheet.specs.Forms.{mark}
 use Rattle.sheet.specs.Content.{patternOf}
-use Rattle.value.specs.Globs.{begins, blockOf, untilPiece, untilItem, laterOf, stepOf, after}
-use Rattle.value.specs.declared.like.Block.{Block}
+use Rattle.value.specs.Globs.{Block, misses, endsAt, starAt, Step, holds, fails, onTo, blockIn, stepIn, begins, blockOf, untilPiece, untilItem, laterOf, stepOf, after}
+use Rattle.value.specs.declared.like.Block.{Block as Blockᶜ}
 use Rattle.value.specs.declared.like.Block.the-variants.{Misses, Ends, Star}
-use Rattle.value.specs.declared.like.Step.{Step}
+use Rattle.value.specs.declared.like.Step.{Step as Stepᶜ}
 use Rattle.value.specs.declared.like.Step.the-variants.{Holds, Fails, On}
 use Rattle.value.proofs.Lists.{uncons, spent, same-differ}
 
@@ -205,24 +205,24 @@ pub block-start : (B : ℕ → List ℕ) (P S : List ℕ) (q t : ℕ) → q ≤ 
 block-start B P S q t h k = record { nearP = h; nearS = k; left = refl }
 
 module _ (B : ℕ → List ℕ) (P S : List ℕ) (q t p e : ℕ) (g : Blocking B P S q t p e) where
-  pub block-end : length P ≤ p → Ends e ≡ blockOf B q t (drop q P) (drop t S)
+  pub block-end : length P ≤ p → blockIn (Ends e) ≡ blockOf B q t (drop q P) (drop t S)
   unfolding blockOf
   block-end h = sym (g .left ∙ rw (spent P p h))
 
   module _ (h : p < length P) (x : ℕ) (ex : x ≡ getD P p 0) where
-    at-item : blockOf B p e (drop p P) (drop e S) ≡ cond (eqb x mark) (Star (suc p) e)
-        (cond (begins (B x) (drop e S)) (blockOf B (suc p) (e + length (B x)) (drop (p + 1) P) (drop (length (B x)) (drop e S))) Misses)
+    at-item : blockOf B p e (drop p P) (drop e S) ≡ cond (eqb x mark) (starAt (suc p) e)
+        (cond (begins (B x) (drop e S)) (blockOf B (suc p) (e + length (B x)) (drop (p + 1) P) (drop (length (B x)) (drop e S))) misses)
     unfolding blockOf
     at-item = rw (uncons P 0 p h, ← ex)
 
-    pub block-star : x ≡ mark → Star (p + 1) e ≡ blockOf B q t (drop q P) (drop t S)
+    pub block-star : x ≡ mark → blockIn (Star (p + 1) e) ≡ blockOf B q t (drop q P) (drop t S)
     block-star m = sym (g .left ∙ at-item ∙ rw (eq-eqb x mark m, add-one p))
 
     module _ (n : x ≡ mark → ⊥) (w : List ℕ) (ew : w ≡ B x) (b : Bool) (eb : b ≡ begins w (drop e S)) where
       here : begins (B x) (drop e S) ≡ b
       here = rw (← ew) (sym eb)
 
-      pub block-miss : not b ≡ true → Misses ≡ blockOf B q t (drop q P) (drop t S)
+      pub block-miss : not b ≡ true → blockIn Misses ≡ blockOf B q t (drop q P) (drop t S)
       block-miss f =
           let z : begins (B x) (drop e S) ≡ false = here ∙ not-true b f in
           sym (g .left ∙ at-item ∙ rw (ne-eqb x mark n, z))
@@ -276,17 +276,17 @@ module _ (B : ℕ → List ℕ) where
       within : e ≤ length S
 
     Means : List ℕ → ℕ → ℕ → Block → Type 0
-    Means p q t Misses = M p (drop t S) ≡ false
-    Means p q t (Ends e) = M p (drop t S) ≡ isNil (drop e S)
-    Means p q t (Star k e) = Jumps p q t k e
+    Means p q t misses = M p (drop t S) ≡ false
+    Means p q t (endsAt e) = M p (drop t S) ≡ isNil (drop e S)
+    Means p q t (starAt k e) = Jumps p q t k e
 
     -- one piece more before a block
     further : (x : ℕ) (p : List ℕ) (q t : ℕ) → eqb x mark ≡ false → begins (B x) (drop t S) ≡ true
         → (r : Block) → Means p (suc q) (t + length (B x)) r → Means (x ∷ p) q t r
     unfolding Means
-    further x p q t e h Misses m = at-piece x p (drop t S) e ∙ rw (h, drop-drop (length (B x)) t S) m
-    further x p q t e h (Ends f) m = at-piece x p (drop t S) e ∙ rw (h, drop-drop (length (B x)) t S) m
-    further x p q t e h (Star k f) m =
+    further x p q t e h misses m = at-piece x p (drop t S) e ∙ rw (h, drop-drop (length (B x)) t S) m
+    further x p q t e h (endsAt f) m = at-piece x p (drop t S) e ∙ rw (h, drop-drop (length (B x)) t S) m
+    further x p q t e h (starAt k f) m =
         record {
           wide = length (B x) + m .wide;
           stands = λ s. begins (B x) s && m .stands (drop (length (B x)) s);
@@ -315,7 +315,7 @@ module _ (B : ℕ → List ℕ) where
       where
         go : (m b : Bool) → eqb x mark ≡ m → begins (B x) (drop t S) ≡ b
             → (t + length (B x) ≤ length S → Means p (suc q) (t + length (B x)) (blockOf B (suc q) (t + length (B x)) p (drop (t + length (B x)) S)))
-            → Means (x ∷ p) q t (cond m (Star (suc q) t) (cond b (blockOf B (suc q) (t + length (B x)) p (drop (length (B x)) (drop t S))) Misses))
+            → Means (x ∷ p) q t (cond m (starAt (suc q) t) (cond b (blockOf B (suc q) (t + length (B x)) p (drop (length (B x)) (drop t S))) misses))
         go true b em eb ih =
             record {
               wide = 0;
@@ -390,15 +390,15 @@ module _ (B : ℕ → List ℕ) where
 
     -- what is found by a step, or is left after it
     abbrev pub reached : Step → Bool
-    reached Holds = true
-    reached Fails = false
-    reached (On q t) = After q t
+    reached holds = true
+    reached fails = false
+    reached (onTo q t) = After q t
 
     later-is : (q t : ℕ) → t ≤ length S → M (drop q P) (drop t S) ≡ false → After q t ≡ reached (laterOf (length S) q t)
     unfolding laterOf
     later-is q t h m = go (ltb t (length S)) refl
       where
-        go : (b : Bool) → ltb t (length S) ≡ b → After q t ≡ reached (cond b (On q (t + 1)) Fails)
+        go : (b : Bool) → ltb t (length S) ≡ b → After q t ≡ reached (cond b (onTo q (t + 1)) fails)
         go true e = passed q t h m (ltb-true t (length S) e)
         go false e = over q t m (ltb-false t (length S) e)
 
@@ -410,14 +410,14 @@ module _ (B : ℕ → List ℕ) where
     unfolding Means stepOf
     step-is q t h = go (blockOf B q t (drop q P) (drop t S)) (block-means P S (drop q P) q t refl h)
       where
-        ends : (e : ℕ) (b : Bool) → M (drop q P) (drop t S) ≡ b → leb (length S) e ≡ b → After q t ≡ reached (cond b Holds (laterOf (length S) q t))
+        ends : (e : ℕ) (b : Bool) → M (drop q P) (drop t S) ≡ b → leb (length S) e ≡ b → After q t ≡ reached (cond b holds (laterOf (length S) q t))
         ends e true m l = any-first (M (drop q P)) (drop t S) m
         ends e false m l = later-is q t h m
 
         go : (r : Block) → Means P S (drop q P) q t r → After q t ≡ reached (stepOf (length S) q t r)
-        go Misses m = later-is q t h m
-        go (Ends e) m = ends e (leb (length S) e) (m ∙ nil-past e) refl
-        go (Star k e) m = jumped q t k e m
+        go misses m = later-is q t h m
+        go (endsAt e) m = ends e (leb (length S) e) (m ∙ nil-past e) refl
+        go (starAt k e) m = jumped q t k e m
 
     -- where a step goes on, it has come nearer to the end
     record Nearer (q t k e : ℕ) : Type 0 where
@@ -425,11 +425,11 @@ module _ (B : ℕ → List ℕ) where
       within : e ≤ length S
       less : length P - k + (length S - e) < length P - q + (length S - t)
 
-    step-nearer : (q t k e : ℕ) → q ≤ length P → t ≤ length S → stepOf (length S) q t (blockOf B q t (drop q P) (drop t S)) ≡ On k e → Nearer q t k e
+    step-nearer : (q t k e : ℕ) → q ≤ length P → t ≤ length S → stepOf (length S) q t (blockOf B q t (drop q P) (drop t S)) ≡ onTo k e → Nearer q t k e
     unfolding Means stepOf laterOf
     step-nearer q t k e l h eq = go (blockOf B q t (drop q P) (drop t S)) (block-means P S (drop q P) q t refl h) eq
       where
-        later : (b : Bool) → ltb t (length S) ≡ b → cond b (On q (t + 1)) Fails ≡ On k e → Nearer q t k e
+        later : (b : Bool) → ltb t (length S) ≡ b → cond b (onTo q (t + 1)) fails ≡ onTo k e → Nearer q t k e
         later true y z =
             let j : t < length S = ltb-true t (length S) y in
             let p : q ≡ k = cc in
@@ -437,41 +437,41 @@ module _ (B : ℕ → List ℕ) where
             record { most = omega arith; within = omega arith; less = omega arith }
         later false y z = let w : _≡_ {A = ℕ} 0 1 = cc in absurd (omega arith)
 
-        ends : (b : Bool) → cond b Holds (laterOf (length S) q t) ≡ On k e → Nearer q t k e
+        ends : (b : Bool) → cond b holds (laterOf (length S) q t) ≡ onTo k e → Nearer q t k e
         ends true z = let w : _≡_ {A = ℕ} 0 1 = cc in absurd (omega arith)
         ends false z = later (ltb t (length S)) refl z
 
-        star : (i j : ℕ) → Jumps P S (drop q P) q t i j → On i j ≡ On k e → Nearer q t k e
+        star : (i j : ℕ) → Jumps P S (drop q P) q t i j → onTo i j ≡ onTo k e → Nearer q t k e
         star i j m z =
             let p : i ≡ k = cc in
             let u : j ≡ e = cc in
             record { most = omega (arith, m .most); within = omega (arith, m .within); less = omega (arith, m .most, m .within, m .next, m .far) }
 
-        go : (r : Block) → Means P S (drop q P) q t r → stepOf (length S) q t r ≡ On k e → Nearer q t k e
-        go Misses m z = later (ltb t (length S)) refl z
-        go (Ends f) m z = ends (leb (length S) f) z
-        go (Star i j) m z = star i j m z
+        go : (r : Block) → Means P S (drop q P) q t r → stepOf (length S) q t r ≡ onTo k e → Nearer q t k e
+        go misses m z = later (ltb t (length S)) refl z
+        go (endsAt f) m z = ends (leb (length S) f) z
+        go (starAt i j) m z = star i j m z
 
     -- the items before the first star
-    pub first-misses : (r : Block) → r ≡ blockOf B 0 0 P S → r ≡ Misses → false ≡ matches B (patternOf P) S
+    pub first-misses : (r : Blockᶜ) → blockIn r ≡ blockOf B 0 0 P S → r ≡ Misses → false ≡ matches B (patternOf P) S
     unfolding Means
-    first-misses r er e = sym (the-block (sym er ∙ e))
+    first-misses r er e = sym (the-block (sym er ∙ ap blockIn e))
       where
-        the-block : blockOf B 0 0 P S ≡ Misses → M P S ≡ false
+        the-block : blockOf B 0 0 P S ≡ misses → M P S ≡ false
         the-block z = subst (λ (x : Block). Means P S P 0 0 x) z (block-means P S P 0 0 refl (omega arith))
 
-    pub first-ends : (r : Block) (e : ℕ) → r ≡ blockOf B 0 0 P S → r ≡ Ends e → leb (length S) e ≡ matches B (patternOf P) S
+    pub first-ends : (r : Blockᶜ) (e : ℕ) → blockIn r ≡ blockOf B 0 0 P S → r ≡ Ends e → leb (length S) e ≡ matches B (patternOf P) S
     unfolding Means
-    first-ends r e er z = sym (the-block (sym er ∙ z) ∙ nil-past e)
+    first-ends r e er z = sym (the-block (sym er ∙ ap blockIn z) ∙ nil-past e)
       where
-        the-block : blockOf B 0 0 P S ≡ Ends e → M P S ≡ isNil (drop e S)
+        the-block : blockOf B 0 0 P S ≡ endsAt e → M P S ≡ isNil (drop e S)
         the-block y = subst (λ (x : Block). Means P S P 0 0 x) y (block-means P S P 0 0 refl (omega arith))
 
 -- the first block ends at a star
-module _ (B : ℕ → List ℕ) (P S : List ℕ) (r : Block) (k e : ℕ) (er : r ≡ blockOf B 0 0 P S) (z : r ≡ Star k e) where
+module _ (B : ℕ → List ℕ) (P S : List ℕ) (r : Blockᶜ) (k e : ℕ) (er : blockIn r ≡ blockOf B 0 0 P S) (z : r ≡ Star k e) where
   the-jump : Jumps B P S P 0 0 k e
   unfolding Means
-  the-jump = subst (λ (x : Block). Means B P S P 0 0 x) (sym er ∙ z) (block-means B P S P 0 0 refl (omega arith))
+  the-jump = subst (λ (x : Block). Means B P S P 0 0 x) (sym er ∙ ap blockIn z) (block-means B P S P 0 0 refl (omega arith))
 
   pub first-most : k ≤ length P
   first-most = the-jump .most
@@ -534,10 +534,10 @@ module _ (B : ℕ → List ℕ) (P S : List ℕ) (q₀ t₀ q t : ℕ) (g : Glob
       let z : drop (untilItem B (drop q P) (drop t S)) (drop t S) ≡ drop u S = drop-drop (untilItem B (drop q P) (drop t S)) t S ∙ ap (λ (n : ℕ). drop n S) (sym eu) in
       record { nearP = g .nearP; nearS = skip-within; left = g .left ∙ item-skip B (drop q P) (drop t S) ∙ ap (anySuffix (M B (drop q P))) z }
 
-  module _ (r : Step) (er : r ≡ stepOf (length S) q u (blockOf B q u (drop q P) (drop u S))) where
-    by-step : (o : Step) → r ≡ o → after B P S q₀ t₀ ≡ reached B P S o
+  module _ (r : Stepᶜ) (er : stepIn r ≡ stepOf (length S) q u (blockOf B q u (drop q P) (drop u S))) where
+    by-step : (o : Stepᶜ) → r ≡ o → after B P S q₀ t₀ ≡ reached B P S (stepIn o)
     unfolding after
-    by-step o e = skipped .left ∙ step-is B P S q u skip-within ∙ ap (reached B P S) (sym er ∙ e)
+    by-step o e = skipped .left ∙ step-is B P S q u skip-within ∙ ap (reached B P S) (sym er ∙ ap stepIn e)
 
     pub glob-holds : r ≡ Holds → true ≡ after B P S q₀ t₀
     glob-holds e = sym (by-step Holds e)
@@ -547,7 +547,7 @@ module _ (B : ℕ → List ℕ) (P S : List ℕ) (q₀ t₀ q t : ℕ) (g : Glob
 
     module _ (k e : ℕ) (z : r ≡ On k e) where
       nearer : Nearer B P S q u k e
-      nearer = step-nearer B P S q u k e (g .nearP) skip-within (sym er ∙ z)
+      nearer = step-nearer B P S q u k e (g .nearP) skip-within (sym er ∙ ap stepIn z)
 
       pub glob-on : Globbing B P S q₀ t₀ k e
       unfolding after
@@ -557,27 +557,27 @@ module _ (B : ℕ → List ℕ) (P S : List ℕ) (q₀ t₀ q t : ℕ) (g : Glob
       glob-less = omega (arith, nearer .less)
 
 -- a step by its block
-module _ (n q t : ℕ) (B : ℕ → List ℕ) (p s : List ℕ) (r : Block) (er : r ≡ blockOf B q t p s) where
-  pub step-star : (k e : ℕ) → r ≡ Star k e → On k e ≡ stepOf n q t (blockOf B q t p s)
+module _ (n q t : ℕ) (B : ℕ → List ℕ) (p s : List ℕ) (r : Blockᶜ) (er : blockIn r ≡ blockOf B q t p s) where
+  pub step-star : (k e : ℕ) → r ≡ Star k e → stepIn (On k e) ≡ stepOf n q t (blockOf B q t p s)
   unfolding stepOf
-  step-star k e z = sym (ap (stepOf n q t) (sym er ∙ z))
+  step-star k e z = sym (ap (stepOf n q t) (sym er ∙ ap blockIn z))
 
-  pub step-misses : (o : Step) → o ≡ laterOf n q t → r ≡ Misses → o ≡ stepOf n q t (blockOf B q t p s)
+  pub step-misses : (o : Stepᶜ) → stepIn o ≡ laterOf n q t → r ≡ Misses → stepIn o ≡ stepOf n q t (blockOf B q t p s)
   unfolding stepOf
-  step-misses o eo z = eo ∙ sym (ap (stepOf n q t) (sym er ∙ z))
+  step-misses o eo z = eo ∙ sym (ap (stepOf n q t) (sym er ∙ ap blockIn z))
 
-  pub step-holds : (e : ℕ) → r ≡ Ends e → n ≤ e → Holds ≡ stepOf n q t (blockOf B q t p s)
+  pub step-holds : (e : ℕ) → r ≡ Ends e → n ≤ e → stepIn Holds ≡ stepOf n q t (blockOf B q t p s)
   unfolding stepOf
-  step-holds e z h = sym (ap (stepOf n q t) (sym er ∙ z) ∙ rw (le-leb n e h))
+  step-holds e z h = sym (ap (stepOf n q t) (sym er ∙ ap blockIn z) ∙ rw (le-leb n e h))
 
-  pub step-later : (e : ℕ) (o : Step) → o ≡ laterOf n q t → r ≡ Ends e → e < n → o ≡ stepOf n q t (blockOf B q t p s)
+  pub step-later : (e : ℕ) (o : Stepᶜ) → stepIn o ≡ laterOf n q t → r ≡ Ends e → e < n → stepIn o ≡ stepOf n q t (blockOf B q t p s)
   unfolding stepOf
-  step-later e o eo z h = eo ∙ sym (ap (stepOf n q t) (sym er ∙ z) ∙ rw (lt-leb n e h))
+  step-later e o eo z h = eo ∙ sym (ap (stepOf n q t) (sym er ∙ ap blockIn z) ∙ rw (lt-leb n e h))
 
-pub later-on : (n q t : ℕ) → t < n → On q (t + 1) ≡ laterOf n q t
+pub later-on : (n q t : ℕ) → t < n → stepIn (On q (t + 1)) ≡ laterOf n q t
 unfolding laterOf
 later-on n q t h = rw (lt-ltb t n h)
 
-pub later-fails : (n q t : ℕ) → n ≤ t → Fails ≡ laterOf n q t
+pub later-fails : (n q t : ℕ) → n ≤ t → stepIn Fails ≡ laterOf n q t
 unfolding laterOf
 later-fails n q t h = rw (le-ltb t n h)

@@ -2,6 +2,7 @@
 use mathlib.Core.Path.{_≡_, refl, sym, ap, _∙_}
 use mathlib.Core.Bool.{Bool, true, false, not, cond, _&&_, and-eq-true-iff}
 use mathlib.Core.List.{List, [], _∷_, _++_}
+use mathlib.Core.Option.{Option}
 use Prim.Native.Nat.{ℕ, zero, suc, _+_, _-_, _≤_, _<_}
 use native.Mathlib.Numerals.{add-one}
 use native.Mathlib.Nat.{le-refl}
@@ -18,8 +19,7 @@ use Rattle.sheet.specs.State.{entriesOf}
 use Rattle.sheet.specs.Sheet.{ascend}
 use Rattle.sheet.proofs.TwoSheets.{same-is}
 use Rattle.value.specs.Places.{lowerThan}
-use Rattle.value.specs.Shapes.{entryFound}
-use Rattle.value.specs.declared.Entry.{Entry}
+use Rattle.value.specs.Shapes.{valueFound}
 use Rattle.value.specs.declared.Entry.the-variants.{At, Nothing}
 
 -- a loop over n places has come to place i, and what is left gives what the whole gives
@@ -197,8 +197,8 @@ module _ (k l : List ℕ) (u j i : ℕ) (r j′ : ℕ) (b : Bool) (er : r ≡ co
 -- ---- entries
 
 -- of the items of a record
-abbrev pub entryIn : ℕ → List ℕ → Entry
-entryIn t l = entryFound (entryOf t (entriesOf l))
+abbrev pub entryIn : ℕ → List ℕ → Option ℕ
+entryIn t l = entryOf t (entriesOf l)
 
 pub uncons2 : (s : List ℕ) (i : ℕ) → i + 2 ≤ length s → drop i s ≡ getD s i 0 ∷ getD s (i + 1) 0 ∷ drop (i + 2) s
 uncons2 s i h =
@@ -211,12 +211,12 @@ short-entries (t ∷ []) h = refl
 short-entries (t ∷ v ∷ l) h = absurd (omega arith)
 
 module _ (l : List ℕ) (t i : ℕ) (g : Going (entryIn t l) (entryIn t (drop i l)) i (length l)) where
-  pub entry-end : length l - i < 2 → Nothing ≡ entryIn t l
+  pub entry-end : length l - i < 2 → valueFound Nothing ≡ entryIn t l
   entry-end h =
       let n : length (drop i l) < 2 = rw (length-drop i l) h in
       sym (g .left ∙ rw (short-entries (drop i l) n))
 
-  pub entry-hit : 2 ≤ length l - i → t ≡ getD l i 0 → At (getD l (i + 1) 0) ≡ entryIn t l
+  pub entry-hit : 2 ≤ length l - i → t ≡ getD l i 0 → valueFound (At (getD l (i + 1) 0)) ≡ entryIn t l
   entry-hit h e = sym (g .left ∙ ap (entryIn t) (uncons2 l i (omega (arith, g .near))) ∙ rw (eq-eqb t (getD l i 0) e))
 
   pub entry-on : 2 ≤ length l - i → (t ≡ getD l i 0 → ⊥) → Going (entryIn t l) (entryIn t (drop (i + 2) l)) (i + 2) (length l)

@@ -2,6 +2,7 @@
 use mathlib.Core.Path.{_≡_, refl, sym, ap, _∙_}
 use mathlib.Core.Bool.{Bool, true, false, cond}
 use mathlib.Core.List.{List, [], _∷_}
+use mathlib.Core.Option.{Option, none, some}
 use Prim.Native.Nat.{ℕ, suc, _+_, _-_, _≤_, _<_, compare, Ordering, Ordering·lt, Ordering·eq, Ordering·gt}
 use native.Mathlib.Numerals.{add-one}
 use native.Mathlib.Omega.{arith}
@@ -13,46 +14,61 @@ use Rattle.cedar.specs.Making.{placeN, insertN, sortN}
 use Rattle.cedar.proofs.OrderLaws.{compare-eq, compare-lt, compare-gt}
 use Rattle.value.specs.declared.Entry.{Entry}
 use Rattle.value.specs.declared.Entry.the-variants.{At, Nothing}
+use Rattle.value.specs.Shapes.{valueFound}
 use Rattle.value.specs.Made.{ROW, SOURCE, lowerOf, leastOf, valuesIn}
 use Rattle.value.proofs.Lists.{uncons2}
 
 -- ---- one number more
 
-pub lower-low : (lo : ℕ) (e : Entry) (x : ℕ) → x < lo → e ≡ lowerOf lo e x
+lower-low : (lo : ℕ) (e : Option ℕ) (x : ℕ) → x < lo → e ≡ lowerOf lo e x
 unfolding lowerOf
-lower-low lo Nothing x h = rw (lt-ltb x lo h)
-lower-low lo (At y) x h = rw (lt-ltb x lo h)
+lower-low lo none x h = rw (lt-ltb x lo h)
+lower-low lo (some y) x h = rw (lt-ltb x lo h)
 
-module _ (lo : ℕ) (e : Entry) (x : ℕ) (h : lo ≤ x) where
-  pub lower-first : e ≡ Nothing → At x ≡ lowerOf lo e x
+module _ (lo : ℕ) (e : Option ℕ) (x : ℕ) (h : lo ≤ x) where
+  lower-first : e ≡ none → some x ≡ lowerOf lo e x
   unfolding lowerOf
   lower-first z = rw (z, le-ltb x lo h)
 
-  pub lower-less : (y : ℕ) → e ≡ At y → x < y → At x ≡ lowerOf lo e x
+  lower-less : (y : ℕ) → e ≡ some y → x < y → some x ≡ lowerOf lo e x
   unfolding lowerOf
   lower-less y z l = rw (z, le-ltb x lo h, lt-ltb x y l)
 
-  pub lower-more : (y : ℕ) → e ≡ At y → y ≤ x → At y ≡ lowerOf lo e x
+  lower-more : (y : ℕ) → e ≡ some y → y ≤ x → some y ≡ lowerOf lo e x
   unfolding lowerOf
   lower-more y z l = rw (z, le-ltb x lo h, le-ltb x y l)
 
+-- the same by the code's word for the best so far
+module _ (lo : ℕ) (e : Entry) (x : ℕ) where
+  pub best-low : x < lo → valueFound e ≡ lowerOf lo (valueFound e) x
+  best-low h = lower-low lo (valueFound e) x h
+
+  pub best-first : lo ≤ x → e ≡ Nothing → valueFound (At x) ≡ lowerOf lo (valueFound e) x
+  best-first h z = lower-first lo (valueFound e) x h (ap valueFound z)
+
+  pub best-less : (y : ℕ) → lo ≤ x → e ≡ At y → x < y → valueFound (At x) ≡ lowerOf lo (valueFound e) x
+  best-less y h z l = lower-less lo (valueFound e) x h y (ap valueFound z) l
+
+  pub best-more : (y : ℕ) → lo ≤ x → e ≡ At y → y ≤ x → valueFound (At y) ≡ lowerOf lo (valueFound e) x
+  best-more y h z l = lower-more lo (valueFound e) x h y (ap valueFound z) l
+
 -- two numbers in either order
-swap : (lo : ℕ) (e : Entry) (x y : ℕ) → lowerOf lo (lowerOf lo e x) y ≡ lowerOf lo (lowerOf lo e y) x
+swap : (lo : ℕ) (e : Option ℕ) (x y : ℕ) → lowerOf lo (lowerOf lo e x) y ≡ lowerOf lo (lowerOf lo e y) x
 swap lo e x y = low (decLt x lo) (decLt y lo)
   where
-    none : lo ≤ x → lo ≤ y → Dec (x < y) → Dec (y < x) → lowerOf lo (lowerOf lo Nothing x) y ≡ lowerOf lo (lowerOf lo Nothing y) x
-    none a b (yes c) d =
-        rw (← (lower-first lo Nothing x a refl), ← (lower-first lo Nothing y b refl), ← (lower-less lo (At y) x a y refl c), ← (lower-more lo (At x) y b x refl (omega arith)))
-    none a b (no c) (yes d) =
-        rw (← (lower-first lo Nothing x a refl), ← (lower-first lo Nothing y b refl), ← (lower-more lo (At y) x a y refl (omega arith)), ← (lower-less lo (At x) y b x refl d))
-    none a b (no c) (no d) = let z : x ≡ y = omega arith in rw z
+    empty : lo ≤ x → lo ≤ y → Dec (x < y) → Dec (y < x) → lowerOf lo (lowerOf lo none x) y ≡ lowerOf lo (lowerOf lo none y) x
+    empty a b (yes c) d =
+        rw (← (lower-first lo none x a refl), ← (lower-first lo none y b refl), ← (lower-less lo (some y) x a y refl c), ← (lower-more lo (some x) y b x refl (omega arith)))
+    empty a b (no c) (yes d) =
+        rw (← (lower-first lo none x a refl), ← (lower-first lo none y b refl), ← (lower-more lo (some y) x a y refl (omega arith)), ← (lower-less lo (some x) y b x refl d))
+    empty a b (no c) (no d) = let z : x ≡ y = omega arith in rw z
 
-    at-least : (u v : ℕ) → lo ≤ u → lowerOf lo (At v) u ≡ At (cond (ltb u v) u v)
+    at-least : (u v : ℕ) → lo ≤ u → lowerOf lo (some v) u ≡ some (cond (ltb u v) u v)
     at-least u v a = go (decLt u v)
       where
-        go : Dec (u < v) → lowerOf lo (At v) u ≡ At (cond (ltb u v) u v)
-        go (yes c) = sym (lower-less lo (At v) u a v refl c) ∙ rw (lt-ltb u v c)
-        go (no c) = sym (lower-more lo (At v) u a v refl (omega arith)) ∙ rw (le-ltb u v (omega arith))
+        go : Dec (u < v) → lowerOf lo (some v) u ≡ some (cond (ltb u v) u v)
+        go (yes c) = sym (lower-less lo (some v) u a v refl c) ∙ rw (lt-ltb u v c)
+        go (no c) = sym (lower-more lo (some v) u a v refl (omega arith)) ∙ rw (le-ltb u v (omega arith))
 
     three : (z : ℕ) → Dec (x < z) → Dec (y < z) → Dec (x < y) → Dec (y < x) → cond (ltb y (cond (ltb x z) x z)) y (cond (ltb x z) x z) ≡ cond (ltb x (cond (ltb y z) y z)) x (cond (ltb y z) y z)
     three z (yes a) (yes b) (yes c) d = rw (lt-ltb x z a, lt-ltb y z b, lt-ltb x y c, le-ltb y x (omega arith))
@@ -62,11 +78,11 @@ swap lo e x y = low (decLt x lo) (decLt y lo)
     three z (no a) (yes b) c d = rw (le-ltb x z (omega arith), lt-ltb y z b, le-ltb x y (omega arith))
     three z (no a) (no b) c d = rw (le-ltb x z (omega arith), le-ltb y z (omega arith), le-ltb x z (omega arith))
 
-    both : (f : Entry) → lo ≤ x → lo ≤ y → lowerOf lo (lowerOf lo f x) y ≡ lowerOf lo (lowerOf lo f y) x
-    both Nothing a b = none a b (decLt x y) (decLt y x)
-    both (At z) a b =
+    both : (f : Option ℕ) → lo ≤ x → lo ≤ y → lowerOf lo (lowerOf lo f x) y ≡ lowerOf lo (lowerOf lo f y) x
+    both none a b = empty a b (decLt x y) (decLt y x)
+    both (some z) a b =
         rw (at-least x z a, at-least y z b, at-least y (cond (ltb x z) x z) b, at-least x (cond (ltb y z) y z) a)
-        (ap At (three z (decLt x z) (decLt y z) (decLt x y) (decLt y x)))
+        (ap some (three z (decLt x z) (decLt y z) (decLt x y) (decLt y x)))
 
     low : Dec (x < lo) → Dec (y < lo) → lowerOf lo (lowerOf lo e x) y ≡ lowerOf lo (lowerOf lo e y) x
     low (yes a) d = rw (← (lower-low lo e x a), ← (lower-low lo (lowerOf lo e y) x a))
@@ -74,10 +90,10 @@ swap lo e x y = low (decLt x lo) (decLt y lo)
     low (no a) (no b) = both e (omega arith) (omega arith)
 
 -- the first number of a list may as well come last
-last : (lo : ℕ) (e : Entry) (x : ℕ) (l : List ℕ) → leastOf lo (lowerOf lo e x) l ≡ lowerOf lo (leastOf lo e l) x
+last : (lo : ℕ) (e : Option ℕ) (x : ℕ) (l : List ℕ) → leastOf lo (lowerOf lo e x) l ≡ lowerOf lo (leastOf lo e l) x
 unfolding leastOf
 last lo e x [] = refl
-last lo e x (y ∷ l) = ap (λ (f : Entry). leastOf lo f l) (swap lo e x y) ∙ last lo (lowerOf lo e y) x l
+last lo e x (y ∷ l) = ap (λ (f : Option ℕ). leastOf lo f l) (swap lo e x y) ∙ last lo (lowerOf lo e y) x l
 
 -- ---- from a place on
 
@@ -85,9 +101,9 @@ abbrev pub fromN : ℕ → List ℕ → List ℕ
 fromN lo [] = []
 fromN lo (x ∷ l) = cond (ltb x lo) (fromN lo l) (x ∷ l)
 
-headN : List ℕ → Entry
-headN [] = Nothing
-headN (x ∷ l) = At x
+headN : List ℕ → Option ℕ
+headN [] = none
+headN (x ∷ l) = some x
 
 pub from-none : (l : List ℕ) → fromN 0 l ≡ l
 from-none [] = refl
@@ -97,7 +113,7 @@ head-insert : (lo m : ℕ) (s : List ℕ) → headN (fromN lo (insertN m s)) ≡
 unfolding headN lowerOf
 head-insert lo m [] = go (ltb m lo)
   where
-    go : (b : Bool) → headN (cond b [] (m ∷ [])) ≡ cond b Nothing (At m)
+    go : (b : Bool) → headN (cond b [] (m ∷ [])) ≡ cond b none (some m)
     go true = refl
     go false = refl
 head-insert lo m (n ∷ l) = go (compare m n) refl (decLt m lo) (decLt n lo) (head-insert lo m l)
@@ -120,10 +136,10 @@ head-insert lo m (n ∷ l) = go (compare m n) refl (decLt m lo) (decLt n lo) (he
         rw (le-ltb n lo (omega arith), le-ltb m lo (omega arith), le-ltb m n (omega arith))
 
 -- the least number from lo on is the first of those in order
-least-head : (lo : ℕ) (l : List ℕ) → leastOf lo Nothing l ≡ headN (fromN lo (sortN l))
+least-head : (lo : ℕ) (l : List ℕ) → leastOf lo none l ≡ headN (fromN lo (sortN l))
 unfolding leastOf headN
 least-head lo [] = refl
-least-head lo (x ∷ l) = last lo Nothing x l ∙ ap (λ (e : Entry). lowerOf lo e x) (least-head lo l) ∙ sym (head-insert lo x (sortN l))
+least-head lo (x ∷ l) = last lo none x l ∙ ap (λ (e : Option ℕ). lowerOf lo e x) (least-head lo l) ∙ sym (head-insert lo x (sortN l))
 
 -- numbers that ascend, from lo on
 data Up : ℕ → List ℕ → Type 0 where
@@ -147,44 +163,44 @@ from-all : (lo : ℕ) (l : List ℕ) → Up lo l → fromN lo l ≡ l
 from-all lo [] u = refl
 from-all lo (x ∷ l) (up1 h u) = rw (le-ltb x lo h)
 
-head-low : (lo x : ℕ) (l : List ℕ) → headN (fromN lo l) ≡ At x → lo ≤ x
+head-low : (lo x : ℕ) (l : List ℕ) → headN (fromN lo l) ≡ some x → lo ≤ x
 unfolding headN
 head-low lo x [] e = let z : _≡_ {A = ℕ} 0 1 = cc in absurd (omega arith)
 head-low lo x (n ∷ l) e = go (decLt n lo) e (head-low lo x l)
   where
-    go : Dec (n < lo) → headN (cond (ltb n lo) (fromN lo l) (n ∷ l)) ≡ At x → (headN (fromN lo l) ≡ At x → lo ≤ x) → lo ≤ x
+    go : Dec (n < lo) → headN (cond (ltb n lo) (fromN lo l) (n ∷ l)) ≡ some x → (headN (fromN lo l) ≡ some x → lo ≤ x) → lo ≤ x
     go (yes a) q ih = ih (rw (lt-ltb n lo a) at q)
     go (no a) q ih =
-        let r : At n ≡ At x = rw (le-ltb n lo (omega arith)) at q in
+        let r : some n ≡ some x = rw (le-ltb n lo (omega arith)) at q in
         let z : n ≡ x = cc in
         omega arith
 
-from-on : {b : ℕ} (lo x : ℕ) (l : List ℕ) → Up b l → headN (fromN lo l) ≡ At x → fromN lo l ≡ x ∷ fromN (x + 1) l
+from-on : {b : ℕ} (lo x : ℕ) (l : List ℕ) → Up b l → headN (fromN lo l) ≡ some x → fromN lo l ≡ x ∷ fromN (x + 1) l
 unfolding headN
 from-on lo x [] u e = let z : _≡_ {A = ℕ} 0 1 = cc in absurd (omega arith)
 from-on {b} lo x (n ∷ l) (up1 h u) e = go (decLt n lo) e (λ q. from-on lo x l u q)
   where
-    go : Dec (n < lo) → headN (cond (ltb n lo) (fromN lo l) (n ∷ l)) ≡ At x → (headN (fromN lo l) ≡ At x → fromN lo l ≡ x ∷ fromN (x + 1) l)
+    go : Dec (n < lo) → headN (cond (ltb n lo) (fromN lo l) (n ∷ l)) ≡ some x → (headN (fromN lo l) ≡ some x → fromN lo l ≡ x ∷ fromN (x + 1) l)
         → cond (ltb n lo) (fromN lo l) (n ∷ l) ≡ x ∷ cond (ltb n (x + 1)) (fromN (x + 1) l) (n ∷ l)
     go (yes a) q ih =
-        let p : headN (fromN lo l) ≡ At x = rw (lt-ltb n lo a) at q in
+        let p : headN (fromN lo l) ≡ some x = rw (lt-ltb n lo a) at q in
         let k : lo ≤ x = head-low lo x l p in
         rw (lt-ltb n lo a, lt-ltb n (x + 1) (omega arith)) (ih p)
     go (no a) q ih =
-        let r : At n ≡ At x = rw (le-ltb n lo (omega arith)) at q in
+        let r : some n ≡ some x = rw (le-ltb n lo (omega arith)) at q in
         let z : n ≡ x = cc in
         rw (le-ltb n lo (omega arith), ← z, lt-ltb n (n + 1) (omega arith), add-one n) (ap (λ (m : List ℕ). n ∷ m) (sym (from-all (suc n) l u)))
 
-nothing-left : (l : List ℕ) → headN l ≡ Nothing → l ≡ []
+nothing-left : (l : List ℕ) → headN l ≡ none → l ≡ []
 unfolding headN
 nothing-left [] e = refl
 nothing-left (x ∷ l) e = let z : _≡_ {A = ℕ} 0 1 = cc in absurd (omega arith)
 
 -- what one more number does to what is left
-pub least-none : (lo : ℕ) (l : List ℕ) → leastOf lo Nothing l ≡ Nothing → fromN lo (sortN l) ≡ []
+pub least-none : (lo : ℕ) (l : List ℕ) → leastOf lo none l ≡ none → fromN lo (sortN l) ≡ []
 least-none lo l e = nothing-left (fromN lo (sortN l)) (sym (least-head lo l) ∙ e)
 
-pub least-some : (lo x : ℕ) (l : List ℕ) → leastOf lo Nothing l ≡ At x → fromN lo (sortN l) ≡ x ∷ fromN (x + 1) (sortN l)
+pub least-some : (lo x : ℕ) (l : List ℕ) → leastOf lo none l ≡ some x → fromN lo (sortN l) ≡ x ∷ fromN (x + 1) (sortN l)
 least-some lo x l e = from-on lo x (sortN l) (sort-up l) (sym (least-head lo l) ∙ e)
 
 -- ---- rows of four words
@@ -205,22 +221,22 @@ short (a ∷ b ∷ c ∷ d ∷ l) h = absurd (omega arith)
 
 pub record Lowering (rows : List ℕ) (lo : ℕ) (e : Entry) (i : ℕ) : Type 0 where
   pub near : i ≤ length rows
-  pub left : leastOf lo Nothing (valuesIn rows) ≡ leastOf lo e (valuesIn (drop i rows))
+  pub left : leastOf lo none (valuesIn rows) ≡ leastOf lo (valueFound e) (valuesIn (drop i rows))
 
 pub lowering-start : (rows : List ℕ) (lo : ℕ) → Lowering rows lo Nothing 0
 lowering-start rows lo = record { near = omega arith; left = refl }
 
 module _ (rows : List ℕ) (lo : ℕ) (e : Entry) (i : ℕ) (g : Lowering rows lo e i) where
-  pub lowering-on : (f : Entry) → ROW ≤ length rows - i → f ≡ lowerOf lo e (getD rows (i + SOURCE) 0) → Lowering rows lo f (i + ROW)
+  pub lowering-on : (f : Entry) → ROW ≤ length rows - i → valueFound f ≡ lowerOf lo (valueFound e) (getD rows (i + SOURCE) 0) → Lowering rows lo f (i + ROW)
   unfolding valuesIn leastOf
   lowering-on f h q =
       record {
         near = omega (arith, g .near);
-        left = g .left ∙ ap (λ (l : List ℕ). leastOf lo e (valuesIn l)) (uncons4 rows i (omega (arith, g .near))) ∙ ap (λ (d : Entry). leastOf lo d (valuesIn (drop (i + ROW) rows))) (sym q);
+        left = g .left ∙ ap (λ (l : List ℕ). leastOf lo (valueFound e) (valuesIn l)) (uncons4 rows i (omega (arith, g .near))) ∙ ap (λ (d : Option ℕ). leastOf lo d (valuesIn (drop (i + ROW) rows))) (sym q);
       }
 
-  pub lowering-end : length rows - i < ROW → e ≡ leastOf lo Nothing (valuesIn rows)
+  pub lowering-end : length rows - i < ROW → valueFound e ≡ leastOf lo none (valuesIn rows)
   unfolding leastOf
   lowering-end h =
       let n : length (drop i rows) < ROW = rw (length-drop i rows) h in
-      sym (g .left ∙ ap (leastOf lo e) (short (drop i rows) n))
+      sym (g .left ∙ ap (leastOf lo (valueFound e)) (short (drop i rows) n))

@@ -7,10 +7,34 @@ use lib.ListN.{length, drop}
 use Rattle.cedar.specs.Evaluate.{anySuffix, matches}
 use Rattle.sheet.specs.Forms.{mark}
 use Rattle.sheet.specs.Content.{patternOf}
-use Rattle.value.specs.declared.like.Block.{Block}
+use Rattle.value.specs.declared.like.Block.{Block as Blockᶜ}
 use Rattle.value.specs.declared.like.Block.the-variants.{Misses, Ends, Star}
-use Rattle.value.specs.declared.like.Step.{Step}
+use Rattle.value.specs.declared.like.Step.{Step as Stepᶜ}
 use Rattle.value.specs.declared.like.Step.the-variants.{Holds, Fails, On}
+
+-- a block at a place of the text: it does not stand there; it does, is the last one and ends at place e; or a star follows, before item p,
+-- and the text is reached up to place e
+pub data Block : Type 0 where
+  misses : Block
+  endsAt : ℕ → Block
+  starAt : ℕ → ℕ → Block
+
+-- a step of the search after a star: the pattern holds, it does not, or it is asked of the items from p on at place e or later
+pub data Step : Type 0 where
+  holds : Step
+  fails : Step
+  onTo : ℕ → ℕ → Step
+
+-- as the code answers them
+abbrev pub blockIn : Blockᶜ → Block
+blockIn Misses = misses
+blockIn (Ends e) = endsAt e
+blockIn (Star p e) = starAt p e
+
+abbrev pub stepIn : Stepᶜ → Step
+stepIn Holds = holds
+stepIn Fails = fails
+stepIn (On p e) = onTo p e
 
 -- whether the text begins with the piece
 unfoldable pub begins : List ℕ → List ℕ → Bool
@@ -20,10 +44,10 @@ begins (x ∷ p) (y ∷ s) = eqb x y && begins p s
 
 -- the items p, of which the first is item q, against s, which begins at place t: they miss, they end there, or a star follows
 unfoldable pub blockOf : (ℕ → List ℕ) → ℕ → ℕ → List ℕ → List ℕ → Block
-blockOf bytes q t [] s = Ends t
+blockOf bytes q t [] s = endsAt t
 blockOf bytes q t (x ∷ p) s =
-    cond (eqb x mark) (Star (suc q) t)
-    (cond (begins (bytes x) s) (blockOf bytes (suc q) (t + length (bytes x)) p (drop (length (bytes x)) s)) Misses)
+    cond (eqb x mark) (starAt (suc q) t)
+    (cond (begins (bytes x) s) (blockOf bytes (suc q) (t + length (bytes x)) p (drop (length (bytes x)) s)) misses)
 
 -- how many places of the text come before the first one where it has the piece; all of them where it never has
 unfoldable pub untilPiece : List ℕ → List ℕ → ℕ
@@ -37,13 +61,13 @@ untilItem bytes (x ∷ p) s = cond (eqb x mark) 0 (untilPiece (bytes x) s)
 
 -- the same items one place further on in a text of n bytes
 unfoldable pub laterOf : ℕ → ℕ → ℕ → Step
-laterOf n q t = cond (ltb t n) (On q (t + 1)) Fails
+laterOf n q t = cond (ltb t n) (onTo q (t + 1)) fails
 
 -- what the items from q on, after a star, leave to do at place t
 unfoldable pub stepOf : ℕ → ℕ → ℕ → Block → Step
-stepOf n q t Misses = laterOf n q t
-stepOf n q t (Ends e) = cond (leb n e) Holds (laterOf n q t)
-stepOf n q t (Star p e) = On p e
+stepOf n q t misses = laterOf n q t
+stepOf n q t (endsAt e) = cond (leb n e) holds (laterOf n q t)
+stepOf n q t (starAt p e) = onTo p e
 
 -- whether the items from q on, after a star, match at place t of the text or a later one
 unfoldable pub after : (ℕ → List ℕ) → List ℕ → List ℕ → ℕ → ℕ → Bool

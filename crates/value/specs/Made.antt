@@ -2,6 +2,7 @@
 use mathlib.Core.Path.{_≡_}
 use mathlib.Core.Bool.{Bool, cond, not, _&&_, _||_}
 use mathlib.Core.List.{List, [], _∷_, _++_}
+use mathlib.Core.Option.{Option, none, some}
 use Prim.Native.Nat.{ℕ, _+_, _/_, _%_, _≤_}
 use lib.Dec.{ltb, leb}
 use lib.ListN.{length, getD, take, drop}
@@ -12,8 +13,6 @@ use Rattle.cedar.specs.Making.{insertN, sortN}
 use Rattle.forms.specs.Tags.{BOOL-VALUE, LONG-VALUE, ENTITY-VALUE, SET-VALUE, RECORD-VALUE}
 use Rattle.table.specs.Layout.{MADE, TOP, heap, withRow}
 use Rattle.value.specs.Lines.{valueLines, placeOf}
-use Rattle.value.specs.declared.Entry.{Entry}
-use Rattle.value.specs.declared.Entry.the-variants.{At, Nothing}
 
 -- ---- rows made
 
@@ -71,12 +70,12 @@ valuesIn (t ∷ v ∷ n ∷ []) = []
 valuesIn (t ∷ v ∷ n ∷ y ∷ l) = v ∷ valuesIn l
 
 -- the lower of the best so far and x, if x is not below lo
-unfoldable pub lowerOf : ℕ → Entry → ℕ → Entry
-lowerOf lo Nothing x = cond (ltb x lo) Nothing (At x)
-lowerOf lo (At y) x = cond (ltb x lo) (At y) (cond (ltb x y) (At x) (At y))
+unfoldable pub lowerOf : ℕ → Option ℕ → ℕ → Option ℕ
+lowerOf lo none x = cond (ltb x lo) none (some x)
+lowerOf lo (some y) x = cond (ltb x lo) (some y) (cond (ltb x y) (some x) (some y))
 
 -- the least number that is not below lo, of the best so far and of the list
-unfoldable pub leastOf : ℕ → Entry → List ℕ → Entry
+unfoldable pub leastOf : ℕ → Option ℕ → List ℕ → Option ℕ
 leastOf lo e [] = e
 leastOf lo e (x ∷ l) = leastOf lo (lowerOf lo e x) l
 

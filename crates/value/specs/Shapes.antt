@@ -26,6 +26,7 @@ shapeRow (Entity k t) l = rent k t
 shapeRow Set l = rset l
 shapeRow Record l = rrec (entriesOf l)
 
-abbrev pub entryFound : Option ℕ → Entry
-entryFound none = Nothing
-entryFound (some v) = At v
+-- what a search found, if anything; as the code answers it
+abbrev pub valueFound : Entry → Option ℕ
+valueFound (At v) = some v
+valueFound Nothing = none

@@ -26,7 +26,7 @@ ghost use Rattle.sheet.specs.State.{entriesOf};
 ghost use Rattle.sheet.specs.Sheet.{ascend};
 ghost use Rattle.value.specs.Lines.{valueLines};
 ghost use Rattle.value.specs.Places.{lowerThan};
-ghost use Rattle.value.specs.Shapes.{shapeOf, entryFound};
+ghost use Rattle.value.specs.Shapes.{shapeOf, valueFound};
 
 // What a value's row says: a bool, a long as its number plus 2^63, a text, an entity's kind and text, a set, a record.
 pub enum Shape {
@@ -230,7 +230,7 @@ pub fn meets(words: &[u32], among: &[u32]) -> bool
 
 // The value that a record's items have for a text.
 pub fn entry_of(words: &[u32], text: u32) -> Entry
-    ensures { λ r. ⌜ r ≡ entryFound (entryOf text (entriesOf (now (words .entry)))) ⌝ }
+    ensures { λ r. ⌜ valueFound r ≡ entryOf text (entriesOf (now (words .entry))) ⌝ }
 {
     let mut i = 0;
     loop {

@@ -11,7 +11,7 @@ ghost use Rattle.cedar.specs.Evaluate.{matches};
 ghost use Rattle.sheet.specs.Bytes.{same};
 ghost use Rattle.sheet.specs.Content.{patternOf};
 ghost use Rattle.table.specs.Layout.{textAt};
-ghost use Rattle.value.specs.Globs.{begins, blockOf, untilPiece, untilItem, laterOf, stepOf, after};
+ghost use Rattle.value.specs.Globs.{blockIn, stepIn, begins, blockOf, untilPiece, untilItem, laterOf, stepOf, after};
 
 // The items up to the next `*` at a place of the text: they do not stand there; they do, and are the last ones, up to this place;
 // they do, and the item after the `*` and the place reached are these.
@@ -79,7 +79,7 @@ fn block_at(
     at: usize,
 ) -> Block
     requires { ⌜ (from ≤ length (now pattern)) × (at ≤ length (now bytes)) ⌝ }
-    ensures { λ r. ⌜ r ≡ blockOf (textAt (now (sheet .entry)) (now (rows .entry))) from at (drop from (now (pattern .entry))) (drop at (now (bytes .entry))) ⌝ }
+    ensures { λ r. ⌜ blockIn r ≡ blockOf (textAt (now (sheet .entry)) (now (rows .entry))) from at (drop from (now (pattern .entry))) (drop at (now (bytes .entry))) ⌝ }
 {
     let mut p = from;
     let mut e = at;
@@ -109,7 +109,7 @@ enum Step {
 
 // The same items one place further on.
 fn later(bytes: &[u8], from: usize, at: usize) -> Step
-    ensures { λ r. ⌜ r ≡ laterOf (length (now (bytes .entry))) from at ⌝ }
+    ensures { λ r. ⌜ stepIn r ≡ laterOf (length (now (bytes .entry))) from at ⌝ }
 {
     if at < bytes.len() {
         return Step::On(from, at + 1);
@@ -127,7 +127,7 @@ fn step_at(
     at: usize,
 ) -> Step
     requires { ⌜ (from ≤ length (now pattern)) × (at ≤ length (now bytes)) ⌝ }
-    ensures { λ r. ⌜ r ≡ stepOf (length (now (bytes .entry))) from at (blockOf (textAt (now (sheet .entry)) (now (rows .entry))) from at (drop from (now (pattern .entry))) (drop at (now (bytes .entry)))) ⌝ }
+    ensures { λ r. ⌜ stepIn r ≡ stepOf (length (now (bytes .entry))) from at (blockOf (textAt (now (sheet .entry)) (now (rows .entry))) from at (drop from (now (pattern .entry))) (drop at (now (bytes .entry)))) ⌝ }
 {
     let b = block_at(sheet, rows, pattern, bytes, from, at);
     match b {

@@ -22,6 +22,7 @@ use words::store;
 ghost use mathlib.Core.Path.{_≡_};
 ghost use mathlib.Core.Bool.{true, _&&_};
 ghost use mathlib.Core.List.{[]};
+ghost use mathlib.Core.Option.{none};
 ghost use Prim.Native.Nat.{_+_, _-_, _≤_, _<_};
 ghost use lib.Dec.{eqb, ltb};
 ghost use lib.ListN.{getD, length, take, drop};
@@ -31,6 +32,7 @@ ghost use Rattle.sheet.specs.Bytes.{same};
 ghost use Rattle.sheet.specs.Forms.{NODE};
 ghost use Rattle.table.specs.Layout.{base, rowsOf};
 ghost use Rattle.value.specs.Lines.{valueLines, placeOf};
+ghost use Rattle.value.specs.Shapes.{valueFound};
 ghost use Rattle.value.specs.Made.{boolRow, longRow, entityRow, roomFor, narrow, withMade, Made, MadeBeside, valuesIn, Shifted, Inserted, lowerOf, leastOf, setRow, pairsOf, recordRow, pushAll};
 
 // The words of a residual's row, of which one is a value's number.
@@ -226,7 +228,7 @@ pub fn make_entity(rows: &mut [u32], kind: u32, text: u32) -> u32
 
 // The lower of the best so far and `value`, if `value` is not below `low`.
 fn lower(low: usize, best: Entry, value: u32) -> Entry
-    ensures { λ r. ⌜ r ≡ lowerOf low best value ⌝ }
+    ensures { λ r. ⌜ valueFound r ≡ lowerOf low (valueFound best) value ⌝ }
 {
     if (value as usize) < low {
         return best;
@@ -244,7 +246,7 @@ fn lower(low: usize, best: Entry, value: u32) -> Entry
 
 // The least value of these rows that is not below `low`.
 fn least(words: &[u32], low: usize) -> Entry
-    ensures { λ r. ⌜ r ≡ leastOf low Entry.Nothing (valuesIn (now (words .entry))) ⌝ }
+    ensures { λ r. ⌜ valueFound r ≡ leastOf low none (valuesIn (now (words .entry))) ⌝ }
 {
     let mut best = Entry::Nothing;
     let mut i = 0;

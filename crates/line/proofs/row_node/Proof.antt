@@ -18,40 +18,37 @@ returns-3 c = search (node-unformed, needs)
 
 row-from-requires : tie.Need-row-from-requires
 row-from-requires c κs =
-    let t = c .before .before in
-    let f = t .before in
-    let n = f .before .before in
-    let i = n .before .before in
-    let x = i .before .before in
-    let d = x .before .before in
-    let a = d .before .before .before .before in
-    let in₁ = type-in (a .args .bytes .now) (a .args .cursor) (a .pre .0) (d .index-at .result) (d .index-at .ensures) (x .x .given .0 .0) (x .x .given .0 .1 .0) (x .x .given .1) in
-    let in₂ = node-in (a .args .bytes .now) (a .args .cursor) (a .pre .0) (d .index-at .result) (d .index-at .ensures) (x .x .given .0 .0) (x .x .given .0 .1 .0) (x .x .given .1) (a .args .cursor .line) (i .item .result) (i .item .ensures)
-    (n .name .given .0 .0) (n .name .given .0 .1 .0) (n .name .given .1) (f .part-of .result .now) (f .part-of .ensures) (t .node-form .result) (t .node-form .ensures) (c .before .if1 .left) in
-    let long = length-set (a .args .rows .now) (a .args .top + 1) (x .x .given .0 .0) in
-    (c .before .if1 .left, omega arith, λ z. in₂ .0, in₂ .1, in₂ .3, omega arith, omega (arith, long), omega (arith, in₁ .0, in₂ .2))
+    let t = c .before .before .node-form in
+    let f = c .before .before .before .part-of in
+    let e = c .before .before .before .before .before .end .given in
+    let i = c .before .before .before .before .before .before .before .item in
+    let x = c .before .before .before .before .before .before .before .before .before .x .given in
+    let d = c .before .before .before .before .before .before .before .before .before .before .before .number in
+    let a = c .before .before .before .before .before .before .before .before .before .before .before .before .before .before in
+    let in₁ = type-in (a .args .bytes .now) (a .args .cursor) (a .pre .0) (d .result) (d .ensures) (x .0 .0) (x .0 .1 .0) (x .1) in
+    let in₂ = node-in (a .args .bytes .now) (a .args .cursor) (a .pre .0) (d .result) (d .ensures) (x .0 .0) (x .0 .1 .0) (x .1) (i .result) (i .ensures) (e .0 .0) (e .0 .1 .0) (e .1) (f .result .now) (f .ensures) (t .result) (t .ensures) (c .before .if1 .left) in
+    let long = length-set (a .args .rows .now) (a .args .top + 1) (x .0 .0) in
+    (c .before .if1 .left, omega arith, λ z. in₂ .0, in₂ .1, in₂ .3, omega arith, omega (arith, long), omega (arith, in₁, in₂ .2))
 
 same-length : tie.Need-same-length
-same-length c = let x = c .before .before .before .before .before .before .before .before .before .before .before .before in let a = x .before .before .before .before .before .before .args in omega (arith, length-set (a .rows .now) (a .top + 1) (x .x .given .0 .0))
+same-length c = let x = c .before .before .before .before .before .before .before .before .before .before .before .before .x .given in let a = c .before .before .before .before .before .before .before .before .before .before .before .before .before .before .before .before .before .args in omega (arith, length-set (a .rows .now) (a .top + 1) (x .0 .0))
 
 returns-4 : tie.Need-returns-4
 returns-4 c =
-    let r = c .before .before in
-    let t = r .before .before .before in
-    let f = t .before in
-    let n = f .before .before in
-    let i = n .before .before in
-    let x = i .before .before in
-    let d = x .before .before in
-    let a = d .before .before .before .before in
-    node-row (a .args .bytes .now) (a .args .cursor) (a .pre .0) (d .index-at .result) (d .index-at .ensures) (x .x .given .0 .0) (x .x .given .0 .1 .0) (x .x .given .1) (a .args .cursor .line) (i .item .result) (i .item .ensures)
-    (n .name .given .0 .0) (n .name .given .0 .1 .0) (n .name .given .1) (f .part-of .result .now) (f .part-of .ensures) (t .node-form .result) (t .node-form .ensures) (r .before .before .if1 .left) (a .args .partial) (a .args .top) (r .row-from .result) _ _ (omega arith) (omega arith) (r .row-from .ensures)
+    let t = c .before .before .before .before .before .node-form in
+    let f = c .before .before .before .before .before .before .part-of in
+    let e = c .before .before .before .before .before .before .before .before .end .given in
+    let i = c .before .before .before .before .before .before .before .before .before .before .item in
+    let x = c .before .before .before .before .before .before .before .before .before .before .before .before .x .given in
+    let d = c .before .before .before .before .before .before .before .before .before .before .before .before .before .before .number in
+    let a = c .before .before .before .before .before .before .before .before .before .before .before .before .before .before .before .before .before in
+    let r = c .before .before .row-from in
+    node-row (a .args .bytes .now) (a .args .cursor) (a .pre .0) (d .result) (d .ensures) (x .0 .0) (x .0 .1 .0) (x .1) (i .result) (i .ensures) (e .0 .0) (e .0 .1 .0) (e .1) (f .result .now) (f .ensures) (t .result) (t .ensures) (c .before .before .before .before .if1 .left) (a .args .partial) (a .args .top) (r .result) _ _ (omega arith) (omega arith) (r .ensures)
 
 pub row-node-spec : {M : Type 1} → statement M
 row-node-spec =
     tie.close
     (tie.spec
-    (λ c. search needs)
     (λ c κs. search needs)
     (λ c. search needs)
     (λ c. search needs)

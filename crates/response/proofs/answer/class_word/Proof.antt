@@ -1,5 +1,5 @@
 -- `response::answer::class_word` meets its contract. Assumes nothing.
-use Rattle.response.proofs.Wording.{word-is}
+use Rattle.listing.proofs.Wording.{word-is}
 use borrow.Author.Needs.{needs}
 use Rattle.response.proofs.answer.class_word.Statement.{statement}
 use Rattle.response.proofs.answer.class_word.Tie as tie

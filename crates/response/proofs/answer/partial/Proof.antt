@@ -1,5 +1,5 @@
 -- `response::answer::partial` meets its contract. Assumes nothing.
-use Rattle.response.proofs.NodeLines.{partial-is}
+use Rattle.response.proofs.Rooted.{partial-is}
 use borrow.Author.Needs.{needs}
 use Rattle.response.proofs.answer.partial.Statement.{statement}
 use Rattle.response.proofs.answer.partial.Tie as tie

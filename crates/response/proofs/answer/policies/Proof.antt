@@ -1,7 +1,8 @@
 -- `response::answer::policies` meets its contract. Assumes nothing.
 use mathlib.Core.Path.{refl}
 use Prim.Native.Nat.{_-_}
-use Rattle.response.proofs.Printing.{Printing, printing-start, linesFrom, policies-on, policies-end}
+use Rattle.listing.proofs.Printing.{Printing, printing-start}
+use Rattle.response.proofs.Printing.{linesFrom, policies-on, policies-end}
 use Rattle.sheet.specs.Answer.{concat}
 use Rattle.response.specs.Verdicts.{verdictsIn}
 use Rattle.response.specs.Printed.{policyLines}

@@ -3,7 +3,7 @@ use Rattle.print.proofs.Writing.{written-length}
 use mathlib.Core.Path.{refl}
 use Prim.Native.Nat.{_-_}
 use Rattle.response.proofs.Rooted.{rootedFrom, rooted-on, rooted-end}
-use Rattle.response.proofs.Printing.{Printing, printing-start}
+use Rattle.listing.proofs.Printing.{Printing, printing-start}
 use Rattle.sheet.specs.Answer.{concat}
 use Rattle.response.specs.Printed.{rootedLines}
 use borrow.Author.Needs.{needs}

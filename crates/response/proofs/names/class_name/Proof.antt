@@ -1,5 +1,5 @@
 -- `response::names::class_name` meets its contract. Assumes nothing.
-use Rattle.response.specs.Names.{unpadded}
+use Rattle.listing.specs.Names.{unpadded}
 use Rattle.response.proofs.Wording.{classed, class-over}
 use borrow.Author.Needs.{needs}
 use Rattle.response.proofs.names.class_name.Statement.{statement}

@@ -1,5 +1,5 @@
 -- `response::names::decision_name` meets its contract. Assumes nothing.
-use Rattle.response.specs.Names.{unpadded}
+use Rattle.listing.specs.Names.{unpadded}
 use Rattle.response.proofs.Wording.{decided}
 use borrow.Author.Needs.{needs}
 use Rattle.response.proofs.names.decision_name.Statement.{statement}

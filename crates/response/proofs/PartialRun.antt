@@ -1,0 +1,114 @@
+-- The partial answer: what is printed of the run over words is what the definition says. Assumes nothing.
+use mathlib.Core.Path.{_≡_, refl, sym, _∙_, ap, ap₂, subst}
+use mathlib.Core.List.{List, [], _∷_}
+use Prim.Native.Nat.{ℕ, zero, suc, _-_, _≤_, _<_}
+use native.Mathlib.Omega.{arith}
+use lib.ListN.{length, getD, take, drop, length-take}
+use lib.Seq.{getD-take}
+use Rattle.words.specs.Log.{part}
+use Rattle.cedar.specs.Residual.{Node, copen}
+use Rattle.cedar.specs.Runs.{NVerdict, Run, verdicts}
+use Rattle.sheet.specs.Forms.{partial, POLICY}
+use Rattle.sheet.specs.State.{State}
+use Rattle.sheet.specs.Sheet.{read}
+use Rattle.sheet.specs.Answer.{run, partialOf, answer}
+use Rattle.sheet.specs.Call.{room}
+use Rattle.sheet.proofs.Lines.{History, accepted-history}
+use Rattle.residual.specs.Classes.{rootsOf}
+use Rattle.listing.proofs.LogTrees.{treesIn}
+use Rattle.tpe.specs.Run.{Ran, runOf}
+use Rattle.tpe.specs.Leaves.{Leaves}
+use Rattle.tpe.proofs.Policies.{RunIs}
+use Rattle.interpret.specs.Nodes.{ended}
+use Rattle.interpret.proofs.Answered.{Lined, ran, lined, log-stays, few}
+use Rattle.interpret.specs.Lines.{CLASSES, ROOTS, classesOf, linesOf}
+use Rattle.response.specs.Verdicts.{classIn, verdictsIn}
+use Rattle.response.specs.Printed.{partialBytes}
+use Rattle.response.proofs.Counting.{class-back}
+use Rattle.response.proofs.Partial.{classesIn, verdicts-run, RunWords, partial-held}
+use Rattle.response.specs.Runs.{Holding, Sends, Runs}
+use Rattle.response.proofs.Completing.{part-front}
+use Rattle.tpe.proofs.Policies as P
+
+-- ---- the same lists by two names
+
+trees-same : (vs : List NVerdict) → P.rootsOf vs ≡ treesIn vs
+trees-same [] = refl
+trees-same (v ∷ vs) = ap (λ (l : List (Node ℕ)). v .root ∷ l) (trees-same vs)
+
+classes-back : (vs : List NVerdict) (i : ℕ) → i < length vs → classIn (getD (classesOf vs) i 0) ≡ getD (classesIn vs) i copen
+classes-back [] i h = absurd (omega arith)
+classes-back (v ∷ vs) zero h = class-back (v .class)
+classes-back (v ∷ vs) (suc i) h = classes-back vs i (omega arith)
+
+-- a longer part begins with a shorter one
+longer : (n m : ℕ) (w : List ℕ) (i : ℕ) → i < n → n ≤ m → getD (take m w) i 0 ≡ getD (take n w) i 0
+longer n m w i h k = getD-take m w i 0 (omega arith) ∙ sym (getD-take n w i 0 h)
+
+-- ---- what the run leaves
+
+module _ (sheet a b : List ℕ) (h : Holding partial sheet a b) where
+  abbrev x : Run
+  x = run partial (read partial sheet .state)
+
+  abbrev r : Ran
+  r = runOf partial sheet a []
+
+  is-ran : RunIs partial sheet a 64 [] x r
+  is-ran = ran sheet a b (h .accepted) (h .state) (h .sound) (h .none) (h .fits)
+
+  most : length (x .lines) ≤ 64
+  most = few sheet a b (h .accepted) (h .state) (h .sound) (h .none) (h .fits)
+
+  -- the lines are noted in w
+  module _ (v w : List ℕ) (n : Lined (x .lines) v w) where
+    class-at : (i : ℕ) → i < length (x .lines) → classIn (getD (part w CLASSES room) i 0) ≡ getD (classesIn (x .lines)) i copen
+    class-at i lt = ap classIn (longer (length (x .lines)) (room - CLASSES) (drop CLASSES w) i lt (omega (arith, most)) ∙ ap (λ (l : List ℕ). getD l i 0) (n .classes)) ∙ classes-back (x .lines) i lt
+
+    root-at : (i : ℕ) → i < length (x .lines) → getD (part w ROOTS room) i 0 ≡ getD (rootsOf 0 (x .lines)) i 0
+    root-at i lt = longer (length (x .lines)) (room - ROOTS) (drop ROOTS w) i lt (omega (arith, most)) ∙ ap (λ (l : List ℕ). getD l i 0) (n .roots)
+
+    said : verdictsIn (r .words) (part w CLASSES room) ≡ verdicts (x .lines)
+    said =
+        subst (λ (s : State). ((i : ℕ) → i < length (run partial s .lines) → classIn (getD (part w CLASSES room) i 0) ≡ getD (classesIn (run partial s .lines)) i copen)
+        → verdictsIn (r .words) (part w CLASSES room) ≡ verdicts (run partial s .lines))
+        (sym (h .state)) (verdicts-run sheet a b (r .words) (part w CLASSES room) (is-ran .hold .same POLICY (omega arith))) class-at
+
+    words : RunWords sheet a x (r .words) (r .log) (part w CLASSES room) (part w ROOTS room)
+    words = record {
+      levels = 64;
+      ress = is-ran .ress;
+      log = is-ran .log;
+      trees = is-ran .trees ∙ trees-same (x .lines);
+      wholes = is-ran .wholes;
+      same = is-ran .hold .same;
+      rows = is-ran .rows;
+      verdicts = said;
+      roots = root-at;
+    }
+
+    run-bytes : partialBytes (r .words) (r .log) (part w CLASSES room) (part w ROOTS room) ≡ answer partial (read partial sheet .state)
+    unfolding answer
+    run-bytes =
+        let (k, g) = accepted-history partial sheet (h .accepted) in
+        partial-held sheet a b (subst (History partial) (h .state) k) x (r .words) (r .log) (part w CLASSES room) (part w ROOTS room) words
+        ∙ ap (λ (s : State). partialOf s x) (sym (h .state))
+
+-- ---- the run, the lines, then the printing
+
+pub log-fits : (l b : List ℕ) (e : ℕ) → l ≡ part b 0 e → length b ≡ room → length l ≤ room
+log-fits l b e el h = omega (arith, ap length (el ∙ part-front b e), length-take e b)
+
+pub partial-runs : (sheet a b a′ b′ b″ l cs es out : List ℕ) (e number len : ℕ) (out′ : List ℕ) → Leaves 0 a′ b′ e (ended (runOf partial sheet a [])) → length b ≡ room → length b′ ≡ length b
+    → b″ ≡ linesOf a′ b′ e → l ≡ part b″ 0 e → cs ≡ part b″ CLASSES room → es ≡ part b″ ROOTS room → Sends (partialBytes a′ l cs es) out number len out′
+    → Runs partial sheet a b out number len out′
+partial-runs sheet a b a′ b′ b″ l cs es out e number len out′ q lb lb′ eb el ec ee s h =
+    let t : Ran = runOf partial sheet a [] in
+    let k : room ≤ length b′ = omega (arith, lb, lb′) in
+    let w : b″ ≡ linesOf (t .words) b′ e = eb ∙ ap (λ (y : List ℕ). linesOf y b′ e) (q .words) in
+    let n : Lined (run partial (read partial sheet .state) .lines) b′ b″ =
+    subst (Lined (run partial (read partial sheet .state) .lines) b′) (sym w) (lined sheet a b (h .accepted) (h .state) (h .sound) (h .none) (h .fits) b′ e (q .log) k) in
+    let g : l ≡ t .log = el ∙ part-front b″ e ∙ ap (take e) w ∙ log-stays sheet a b (h .accepted) (h .state) (h .sound) (h .none) (h .fits) b′ e (q .log) k in
+    let i : partialBytes a′ l cs es ≡ partialBytes (t .words) (t .log) (part b″ CLASSES room) (part b″ ROOTS room) =
+    ap₂ (λ (y z : List ℕ). partialBytes y z cs es) (q .words) g ∙ ap₂ (λ (y z : List ℕ). partialBytes (t .words) (t .log) y z) ec ee in
+    subst (λ (y : List ℕ). Sends y out number len out′) (i ∙ run-bytes sheet a b h b′ b″ n) s

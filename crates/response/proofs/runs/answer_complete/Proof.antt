@@ -1,0 +1,20 @@
+-- `response::runs::answer_complete` meets its contract. Assumes nothing.
+use Rattle.response.proofs.Completing.{complete-runs}
+use borrow.Author.Needs.{needs}
+use Rattle.response.proofs.runs.answer_complete.Statement.{statement}
+use Rattle.response.proofs.runs.answer_complete.Tie as tie
+
+returns : tie.Need-returns
+returns c = search (complete-runs, needs)
+
+pub answer-complete-spec : {M : Type 1} → statement M
+answer-complete-spec =
+    tie.close
+    (tie.spec
+    (λ c κs. search needs)
+    (λ c κs. search needs)
+    (λ c κs. search needs)
+    (λ c. search needs)
+    (λ c. search needs)
+    (λ c. search needs)
+    returns)

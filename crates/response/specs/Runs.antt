@@ -1,0 +1,35 @@
+-- A run of a sheet that the words hold, and its answer sent into a buffer that may be too short for it. A name with a prime is what is left.
+use mathlib.Core.Path.{_≡_}
+use mathlib.Core.Bool.{cond}
+use mathlib.Core.List.{List}
+use Prim.Native.Nat.{ℕ, _+_, _*_, _≤_}
+use lib.Dec.{eqb}
+use lib.ListN.{length, getD}
+use Rattle.sheet.specs.Forms.{Mode, NODE}
+use Rattle.sheet.specs.Sheet.{read}
+use Rattle.sheet.specs.Answer.{answer}
+use Rattle.sheet.specs.Call.{Returned, fitted, over}
+use Rattle.table.specs.Layout.{held, Sound, heap, MADE, TOP}
+
+-- where r is to be returned, and these bytes are the answer
+pub record Gives (r : Returned) (bytes out : List ℕ) (number line len : ℕ) (out′ : List ℕ) : Type 0 where
+  pub number-is : number ≡ r .number
+  pub line-is : line ≡ r .line
+  pub length-is : len ≡ r .length
+  pub buffer : out′ ≡ cond (eqb number 0) (over bytes out) out
+
+-- an answer into a buffer: 10 where it is too short, else 0, at no line
+abbrev pub Sends : List ℕ → List ℕ → ℕ → ℕ → List ℕ → Type 0
+Sends bytes out number len out′ = Gives (fitted (length out) (length bytes)) bytes out number 0 len out′
+
+-- the words hold an accepted sheet, as reading leaves it
+pub record Holding (m : Mode) (sheet a b : List ℕ) : Type 0 where
+  pub accepted : read m sheet .number ≡ 0
+  pub state : read m sheet .state ≡ held sheet a b
+  pub sound : Sound a
+  pub none : getD a MADE 0 ≡ 0
+  pub fits : 2 * getD a TOP 0 + 6 * getD a NODE 0 ≤ 2 * heap + 16384
+
+-- where they do, its answer is sent
+abbrev pub Runs : Mode → List ℕ → List ℕ → List ℕ → List ℕ → ℕ → ℕ → List ℕ → Type 0
+Runs m sheet a b out number len out′ = Holding m sheet a b → Sends (answer m (read m sheet .state)) out number len out′

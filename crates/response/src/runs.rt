@@ -1,0 +1,81 @@
+// A sheet that the words hold, run and answered. What a run says of each policy, its class and what is left of it, is taken from the promises of
+// `interpret` and `evaluator` alone.
+use crate::answer;
+use interpret::CLASSES;
+use interpret::ROOTS;
+use words::ROOM;
+use words::cut;
+ghost use mathlib.Core.Path.{_≡_};
+ghost use Prim.Native.Nat.{_≤_};
+ghost use lib.ListN.{length};
+ghost use Rattle.sheet.specs.Forms.{partial, complete};
+ghost use Rattle.response.specs.Printed.{completeBytes, partialBytes};
+ghost use Rattle.response.specs.Runs.{Sends, Runs};
+
+// An answer printed, 0, or a buffer too short for it, 10; the bytes of the answer in both cases.
+pub struct Sent {
+    pub number: u32,
+    pub length: usize,
+}
+
+// A complete answer printed, where the buffer has room for it.
+fn send_complete(out: &mut [u8], rows: &[u32], classes: &[u32]) -> Sent
+    ensures { λ r. ⌜ Sends (completeBytes (now (rows .entry)) (now (classes .entry))) (now (out .entry)) (r .number) (r .length) (now (out .exit)) ⌝ }
+{
+    let k = answer::complete(&mut out[..0], 0, rows, classes);
+    if out.len() < k {
+        return Sent {
+            number: 10,
+            length: k,
+        };
+    }
+    answer::complete(out, 0, rows, classes);
+    Sent {
+        number: 0,
+        length: k,
+    }
+}
+
+// A partial answer printed, where the buffer has room for it.
+fn send_partial(out: &mut [u8], rows: &[u32], log: &[u32], classes: &[u32], roots: &[u32]) -> Sent
+    requires { ⌜ (length (now rows) ≤ 16384) × (length (now log) ≤ 16384) ⌝ }
+    ensures { λ r. ⌜ Sends (partialBytes (now (rows .entry)) (now (log .entry)) (now (classes .entry)) (now (roots .entry))) (now (out .entry)) (r .number) (r .length) (now (out .exit)) ⌝ }
+{
+    let n = answer::partial(&mut out[..0], 0, rows, log, classes, roots);
+    if out.len() < n {
+        return Sent {
+            number: 10,
+            length: n,
+        };
+    }
+    answer::partial(out, 0, rows, log, classes, roots);
+    Sent {
+        number: 0,
+        length: n,
+    }
+}
+
+// A complete sheet that the words hold, run and answered.
+pub fn answer_complete(sheet: &[u8], rows: &mut [u32], log: &mut [u32], out: &mut [u8]) -> Sent
+    requires { ⌜ 16384 ≤ length (now log) ⌝ }
+    ensures { λ r. ⌜ Runs complete (now (sheet .entry)) (now (rows .entry)) (now (log .entry)) (now (out .entry)) (r .number) (r .length) (now (out .exit)) ⌝ }
+{
+    let n = evaluator::run(sheet, rows, log);
+    send_complete(out, rows, cut(log, 0, n))
+}
+
+// A partial sheet that the words hold, run and answered.
+pub fn answer_partial(sheet: &[u8], rows: &mut [u32], log: &mut [u32], out: &mut [u8]) -> Sent
+    requires { ⌜ (length (now rows) ≡ 16384) × (length (now log) ≡ 16384) ⌝ }
+    ensures { λ r. ⌜ Runs partial (now (sheet .entry)) (now (rows .entry)) (now (log .entry)) (now (out .entry)) (r .number) (r .length) (now (out .exit)) ⌝ }
+{
+    let e = interpret::run(sheet, rows, log);
+    interpret::lines(rows, log, e);
+    send_partial(
+        out,
+        rows,
+        cut(log, 0, e),
+        cut(log, CLASSES, ROOM),
+        cut(log, ROOTS, ROOM),
+    )
+}
