@@ -5,7 +5,7 @@
 
 For each sheet, or each whose name PATTERN is found in, one theorem by computation is written to target/cases/: what the definitions make of the
 sheet's bytes is the known text. One check computes all short sheets, and one each long sheet; with --each,
-one check each sheet. Two sheets are over the prover's own limit of steps: they have no verdict, which says neither that they agree nor
+one check each sheet. Three sheets are over the prover's own limit of steps: they have no verdict, which says neither that they agree nor
 that they do not. With --wrong every known text is replaced by a wrong one: each check must then fail. Nothing outside target/ is written.
 """
 import os
@@ -23,8 +23,8 @@ UNFOLD = (
     "more read types valueRows contents schema trees exprs nPolicies policies nEnv env run results answer returned "
     "order sameV place insert ascending makeSet"
 )
-# sheets of 1,024 and 1,025 values, which the prover does not compute within its limit; any other sheet without verdict is a failure
-UNDECIDED = ("value-1024", "value-1025")
+# sheets of 1,024 and 1,025 values, given or made, which the prover does not compute within its limit; any other sheet without verdict is a failure
+UNDECIDED = ("value-1024", "value-1025", "2.5 many-made-2.5")
 HEAD = """use mathlib.Core.Path.{_≡_, refl}
 use mathlib.Core.List.{List, [], _∷_, _++_}
 use Prim.Native.Nat.{ℕ, zero, suc}
