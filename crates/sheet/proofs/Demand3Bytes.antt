@@ -21,7 +21,7 @@ use Rattle.sheet.specs.Forms.{Mode, partial, complete, line, forms, form
 use Rattle.sheet.specs.State.{State, linesOf, count, lineAt, entriesOf, valueRow}
 use Rattle.sheet.specs.Bytes.{longAt}
 use Rattle.sheet.specs.Sheet.{allThere, thereIs, read}
-use Rattle.sheet.specs.Content.{types, rowsIn, valueRows, contents, schema, patternOf, childrenOver, argsOver, treeFor, treeOver, treesFrom, trees, numberedPolicies, nPolicies, policies, known, nEnv, pEnv, env}
+use Rattle.sheet.specs.Content.{types, rowsIn, valueRows, contents, schema, patternOf, childrenOver, argsOver, treeFor, treeOver, treesFrom, trees, numberedPolicies, nPolicies, policies, known, nEnv, pEnv, env, onTerm}
 use Rattle.sheet.specs.Answer.{run, results}
 use Rattle.sheet.specs.Call.{returns, afterReading, readAs, returned, room, Accepted}
 use Rattle.sheet.specs.Agreement.{agrees}
@@ -206,7 +206,7 @@ module _ (p c : State) (fp : Facts partial p) (fc : Facts complete c) (k : Commo
   run-same : run partial p ≡ nRun (schema c) (nEnv partial p) (nPolicies p) (valueRows p)
   unfolding run nPolicies texts
   run-same = ap (λ S. nRun S (nEnv partial p) (nPolicies p) (valueRows p)) (schema-eq p c fp fc k)
-      ∙ same-run (count p TEXT) (schema c) (schema p .bytes) bytes-agree (nEnv partial p) asked (policy-texts (linesOf p POLICY)) (valueRows p) (rows-ok partial p (fp .history))
+      ∙ same-run (count p TEXT) (schema c) (schema p .bytes) bytes-agree (nEnv partial p) asked (policy-texts (onTerm p)) (valueRows p) (rows-ok partial p (fp .history))
 
   t : Table (valueRows p) (contents p)
   t = values-table partial p (fp .history)

@@ -23,6 +23,7 @@ pub mod MadeWords
 pub mod NeverNine
 pub mod NodeRows
 pub mod NodeTyped
+pub mod OnTerm
 pub mod OwnPolicies
 pub mod Parsed
 pub mod PoliciesRead
