@@ -1,0 +1,30 @@
+-- The policies that run, as rows of their own after those of a sheet that the words hold. A name with a prime is what is left.
+use mathlib.Core.Path.{_≡_}
+use mathlib.Core.List.{List, []}
+use Prim.Native.Nat.{ℕ, _+_, _*_, _≤_, _<_}
+use lib.ListN.{length, getD, drop}
+use Rattle.sheet.specs.Forms.{noKey, POLICY}
+use Rattle.sheet.specs.Content.{onTerm}
+use Rattle.table.specs.Layout.{RUN, MADE, TOP, heap, rowsOf, held, Sound}
+
+-- the words of a policy's row: its tag, id, effect and node
+abbrev pub ROW : ℕ
+ROW = 4
+
+-- words that hold a sheet's rows, and none after them: each policy's row has its four words, and there is room for as many more
+pub record Choosable (a : List ℕ) : Type 0 where
+  pub sound : Sound a
+  pub none : getD a RUN 0 ≡ 0
+  pub made : getD a MADE 0 ≡ 0
+  pub rows : (n : ℕ) → n < getD a POLICY 0 → length (getD (rowsOf a POLICY) n []) ≡ ROW
+  pub space : getD a TOP 0 + ROW * getD a POLICY 0 ≤ 16384
+
+-- the rows of the policies on term, in the sheet's order; the sheet's own rows are as they were
+pub record Chosen (a a′ : List ℕ) : Type 0 where
+  pub runs : rowsOf a′ RUN ≡ onTerm (held [] a [])
+  pub same : (k : ℕ) → k < noKey → rowsOf a′ k ≡ rowsOf a k
+  pub sound : Sound a′
+  pub made : getD a′ MADE 0 ≡ 0
+  pub top : getD a′ TOP 0 ≤ getD a TOP 0 + ROW * getD a POLICY 0
+  pub long : length a′ ≡ length a
+  pub rest : drop 16384 a′ ≡ drop 16384 a
