@@ -21,7 +21,7 @@ use Rattle.sheet.specs.Answer.{results}
 use Rattle.sheet.proofs.Lines.{accepted-history}
 use Rattle.sheet.proofs.ValueRows.{values-table, value-back}
 use Rattle.sheet.proofs.OwnPolicies.{read-own}
-use Rattle.sheet.proofs.Environment.{Facts, thirteen}
+use Rattle.sheet.proofs.Environment.{Facts, all-keys}
 use Rattle.sheet.proofs.CompleteRun.{whole-read}
 use Rattle.sheet.proofs.MadeCount.{policySizes}
 use Rattle.sheet.proofs.Uses.{policies-small}
@@ -146,7 +146,7 @@ module _ (sheet a b : List ℕ) (e : read complete sheet .number ≡ 0) (h : rea
   the-run : Runs sheet a (env (held sheet a b)) [] (classNumbers (results (held sheet a b))) (runOf sheet a)
   the-run =
       let (hi, fu) = accepted-history complete sheet e in
-      let f : Facts complete (held sheet a b) = subst (Facts complete) h (record { history = hi; full = fu; keys = thirteen complete sheet e }) in
+      let f : Facts complete (held sheet a b) = subst (Facts complete) h (record { history = hi; full = fu; keys = all-keys complete sheet e }) in
       let d : Depths (held sheet a b) = reached-depths (subst (Reached complete) h (read-reached complete sheet)) in
       let c : policySizes (nPolicies (held sheet a b)) ≤ count (held sheet a b) NODE = subst (λ (s : State). policySizes (nPolicies s) ≤ count s NODE) h (policies-small complete sheet e) in
       let n = nodes-count sheet a b in

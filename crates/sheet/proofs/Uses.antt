@@ -310,7 +310,7 @@ pub lines-own : (s : State) (r : List ℕ) → keyOf r < length (s .lines) → l
 unfolding more
 lines-own s r lt = getD-set-same (s .lines) (keyOf r) (linesOf s (keyOf r) ++ (r ∷ [])) [] lt
 
--- a line's key is one of the thirteen
+-- a line's key is one of the sheet's
 pub key-below : (s : State) (k : ℕ) (r : List ℕ) → Passed s k r → k < noKey
 key-below s k r p = go (decLt k noKey)
   where

@@ -24,7 +24,7 @@ use Rattle.sheet.proofs.Parsed.{tags-between}
 use Rattle.sheet.proofs.NodeRows.{row-read}
 use Rattle.sheet.proofs.MadeCount.{policySizes}
 use Rattle.sheet.proofs.PoliciesRead.{item-there, policy-tags}
-use Rattle.sheet.proofs.Environment.{Facts, thirteen}
+use Rattle.sheet.proofs.Environment.{Facts, all-keys}
 use Rattle.sheet.proofs.TypeNumbers.{Listed, TypesIn, bool-listed}
 use Rattle.sheet.proofs.Depths.{Reached, read-reached, reached-depths, Depths}
 use Rattle.sheet.proofs.Depths as D
@@ -230,7 +230,7 @@ pub run-is : (sheet a b : List ℕ) → read partial sheet .number ≡ 0 → rea
     → RunIs partial sheet a 64 [] (run partial (read partial sheet .state)) (runOf partial sheet a [])
 run-is sheet a b e h sound none top =
     let (hi, fu) = accepted-history partial sheet e in
-    let f : Facts partial (held sheet a b) = subst (Facts partial) h (record { history = hi; full = fu; keys = thirteen partial sheet e }) in
+    let f : Facts partial (held sheet a b) = subst (Facts partial) h (record { history = hi; full = fu; keys = all-keys partial sheet e }) in
     let d : Depths (held sheet a b) = reached-depths (subst (Reached partial) h (read-reached partial sheet)) in
     let c : policySizes (nPolicies (held sheet a b)) ≤ count (held sheet a b) NODE = subst (λ (s : State). policySizes (nPolicies s) ≤ count s NODE) h (policies-small partial sheet e) in
     let n : count (held sheet a b) NODE ≡ getD a NODE 0 = count-held sheet a b NODE (omega arith) in
