@@ -86,7 +86,7 @@ module _ (a : List ℕ) (s i : ℕ) (t : Summed a s i) where
 
 enough-alike : (a b : List ℕ) → enough (held [] a []) noKey ≡ enough (held [] a b) noKey
 enough-alike a b =
-    ap₂ (λ (c : List ℕ) (n : ℕ). reach (take noKey c) (1 ∷ 0 ∷ 0 ∷ 0 ∷ n ∷ 0 ∷ 0 ∷ 1 ∷ 1 ∷ 1 ∷ 1 ∷ 0 ∷ 0 ∷ []))
+    ap₂ (λ (c : List ℕ) (n : ℕ). reach (take noKey c) (1 ∷ 0 ∷ 0 ∷ 0 ∷ n ∷ 0 ∷ 0 ∷ 1 ∷ 1 ∷ 1 ∷ 1 ∷ 1 ∷ 0 ∷ 0 ∷ 0 ∷ []))
     (counts-held [] a [] ∙ sym (counts-held [] a b)) (count-alike a [] b KIND)
 
 module _ (a b : List ℕ) (k : ℕ) (o : Bool) (ho : o ≡ enough (held [] a []) noKey) where
