@@ -47,7 +47,7 @@ module _ (a sheet b : List ℕ) where
 
   pub full-alike : (k : ℕ) → leb (getD (greatest (held [] a [])) k 0) (count (held [] a []) k) ≡ leb (getD (greatest (held sheet a b)) k 0) (count (held sheet a b) k)
   full-alike k =
-      ap₂ (λ (n m : ℕ). leb (getD (1 ∷ 512 ∷ 32 ∷ 128 ∷ n ∷ 1024 ∷ 128 ∷ 1 ∷ 1 ∷ 1 ∷ 1 ∷ 1024 ∷ 64 ∷ []) k 0) m) (count-alike KIND) (count-alike k)
+      ap₂ (λ (n m : ℕ). leb (getD (1 ∷ 512 ∷ 32 ∷ 128 ∷ n ∷ 1024 ∷ 128 ∷ 1 ∷ 1 ∷ 1 ∷ 1 ∷ 1 ∷ 1024 ∷ 64 ∷ 64 ∷ []) k 0) m) (count-alike KIND) (count-alike k)
 
   slot-alike : (s : Slot) (x : ℕ) → thereIs (held [] a []) s x ≡ thereIs (held sheet a b) s x
   slot-alike entry x = refl
