@@ -42,7 +42,7 @@ module _ (a sheet b : List ℕ) where
 
   pub order-alike : (k : ℕ) → inOrder (held [] a []) k ≡ inOrder (held sheet a b) k
   order-alike k =
-      ap₂ (λ (c : List ℕ) (n : ℕ). allZero (drop (suc k) c) && reach (take k c) (1 ∷ 0 ∷ 0 ∷ 0 ∷ n ∷ 0 ∷ 0 ∷ 1 ∷ 1 ∷ 1 ∷ 1 ∷ 0 ∷ 0 ∷ []))
+      ap₂ (λ (c : List ℕ) (n : ℕ). allZero (drop (suc k) c) && reach (take k c) (1 ∷ 0 ∷ 0 ∷ 0 ∷ n ∷ 0 ∷ 0 ∷ 1 ∷ 1 ∷ 1 ∷ 1 ∷ 1 ∷ 0 ∷ 0 ∷ 0 ∷ []))
       (counts-held [] a [] ∙ sym (counts-held sheet a b)) (count-alike KIND)
 
   pub full-alike : (k : ℕ) → leb (getD (greatest (held [] a [])) k 0) (count (held [] a []) k) ≡ leb (getD (greatest (held sheet a b)) k 0) (count (held sheet a b) k)
