@@ -1,6 +1,6 @@
 -- The row of a whole line. Assumes nothing.
 use mathlib.Core.Path.{_≡_, refl, sym, ap, _∙_}
-use mathlib.Core.Bool.{Bool, true, false, cond, _&&_}
+use mathlib.Core.Bool.{Bool, true, false, cond, _&&_, _||_}
 use mathlib.Core.Option.{Option, none, some}
 use mathlib.Core.List.{List, [], _∷_, map}
 use Prim.Native.Nat.{ℕ, zero, suc, _+_, _-_, _*_, _≤_, _<_}
@@ -13,7 +13,7 @@ use Rattle.words.specs.Log.{part, room}
 use Rattle.words.proofs.Stores.{length-part}
 use Rattle.sheet.specs.Ascii.{ascii}
 use Rattle.sheet.specs.Bytes.{upTo, split, same, printable}
-use Rattle.sheet.specs.Forms.{Form, entry, plain, keys, wordNumber, forms, formOf, formIn, tagOf, keyOf, counted, orEmpty, itemsFrom, rowHeaded, heading, rowOfText, rowOfValue, tag, noKey, SHEET, TEXT, NODE}
+use Rattle.sheet.specs.Forms.{Form, entry, plain, keys, wordNumber, forms, formOf, formIn, tagOf, keyOf, counted, orEmpty, itemsFrom, rowHeaded, heading, rowOfText, rowOfValue, tag, noKey, SHEET, TEXT, DAY, NODE}
 use Rattle.sheet.proofs.Parsed.{allBelow, all-below}
 use Rattle.scan.specs.declared.Cursor.{Cursor}
 use Rattle.scan.specs.declared.Heading as H
@@ -199,9 +199,13 @@ letters-wide : allBelow (λ (k : ℕ). leb 3 (letters k)) noKey ≡ true
 unfolding letters keys
 letters-wide = refl
 
-text-letters : letters TEXT ≡ 4
+four-letters : allBelow (λ (k : ℕ). eqb k DAY || leb 4 (letters k)) noKey ≡ true
 unfolding letters keys
-text-letters = refl
+four-letters = refl
+
+-- every key but `day` has at least four
+most-wide : (k : ℕ) → k < noKey → (k ≡ DAY → ⊥) → 4 ≤ letters k
+most-wide k h n = leb-true 4 (letters k) (rw (ne-eqb k DAY n) at (all-below (λ (i : ℕ). eqb i DAY || leb 4 (letters i)) noKey k four-letters h))
 
 keys-long : length (map ascii keys) ≡ noKey
 unfolding keys
@@ -256,9 +260,9 @@ module _ (s : List ℕ) (c : Cursor) (k : ℕ) (equals : Cursor) (e : ℕ) (next
   pub entry-wide : c .at + 3 ≤ equals .at
   entry-wide = omega (arith, entry-letters .1, leb-true 3 (letters k) (all-below (λ (i : ℕ). leb 3 (letters i)) noKey k letters-wide (entry-letters .0)))
 
-  -- and four where the line is a text's
-  pub text-wide : k ≡ TEXT → c .at + 4 ≤ equals .at
-  text-wide t = omega (arith, entry-letters .1, ap letters t, text-letters)
+  -- and four where the line is not a day's
+  pub entry-wider : (k ≡ DAY → ⊥) → c .at + 4 ≤ equals .at
+  entry-wider n = omega (arith, entry-letters .1, most-wide k (entry-letters .0) n)
 
 -- ---- what the words of a row say, to those that read them
 
