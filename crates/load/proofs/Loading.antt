@@ -42,16 +42,15 @@ go-on s k r f rest e = rw e refl
 
 -- its row is none or one of the key `day`
 day-key : (m : Mode) (k : ℕ) (v : List ℕ) → k ≡ DAY → (rowOfValue m k v ≡ [] → ⊥) → keyOf (rowOfValue m k v) ≡ DAY
+unfolding keyOf tagOf formOf forms
 day-key m k v e = subst (λ (x : ℕ). (rowOfValue m x v ≡ [] → ⊥) → keyOf (rowOfValue m x v) ≡ DAY) (sym e) own
   where
     by-items : (t : Bool) (o : Option (List ℕ)) → (cond t (orEmpty DAY-LINE o) [] ≡ [] → ⊥) → keyOf (cond t (orEmpty DAY-LINE o) []) ≡ DAY
-    unfolding keyOf formOf forms
     by-items true none h = absurd (h refl)
     by-items true (some l) h = refl
     by-items false o h = absurd (h refl)
 
     own : (rowOfValue m DAY v ≡ [] → ⊥) → keyOf (rowOfValue m DAY v) ≡ DAY
-    unfolding tagOf forms
     own h = by-items (counted DAY-LINE (length (split 44 v))) (itemsFrom m DAY-LINE 0 (split 44 v)) h
 
 -- ---- the end
