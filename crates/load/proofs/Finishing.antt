@@ -7,11 +7,11 @@ use native.Mathlib.Numerals.{add-one}
 use native.Mathlib.Omega.{arith}
 use borrow.Author.Tests.{eq-eqb, ne-eqb, lt-ltb, le-ltb, not-true, not-false}
 use lib.Dec.{ltb}
-use lib.ListN.{length, getD, take, drop, length-drop, drop-of-length-le}
+use lib.ListN.{length, getD, take, drop, set, length-drop, drop-of-length-le}
 use lib.Seq.{drop-cons, getD-take, getD-drop, length-take-le}
-use Rattle.sheet.specs.Forms.{KIND, NODE, noKey}
-use Rattle.sheet.specs.State.{sum, before}
-use Rattle.sheet.specs.Sheet.{Reading, reach, enough, firstUnused, reads, allUsed, ending}
+use Rattle.sheet.specs.Forms.{KIND, SHAPE, NODE, noKey}
+use Rattle.sheet.specs.State.{empty, sum, before}
+use Rattle.sheet.specs.Sheet.{Reading, least, reach, enough, firstUnused, reads, allUsed, ending}
 use Rattle.table.specs.Layout.{USES, held}
 use Rattle.table.proofs.Rows.{count-held}
 use Rattle.table.proofs.Counts.{count-at}
@@ -86,7 +86,7 @@ module _ (a : List ℕ) (s i : ℕ) (t : Summed a s i) where
 
 enough-alike : (a b : List ℕ) → enough (held [] a []) noKey ≡ enough (held [] a b) noKey
 enough-alike a b =
-    ap₂ (λ (c : List ℕ) (n : ℕ). reach (take noKey c) (1 ∷ 0 ∷ 0 ∷ 0 ∷ n ∷ 0 ∷ 0 ∷ 1 ∷ 1 ∷ 1 ∷ 1 ∷ 1 ∷ 0 ∷ 0 ∷ 0 ∷ []))
+    ap₂ (λ (c : List ℕ) (n : ℕ). reach (take noKey c) (set (least empty) SHAPE n))
     (counts-held [] a [] ∙ sym (counts-held [] a b)) (count-alike a [] b KIND)
 
 module _ (a b : List ℕ) (k : ℕ) (o : Bool) (ho : o ≡ enough (held [] a []) noKey) where

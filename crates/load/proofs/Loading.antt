@@ -16,10 +16,10 @@ use Rattle.scan.specs.declared.Line as L
 use Rattle.scan.specs.Places.{readingBy, LineRead}
 use Rattle.scan.proofs.Readings.{Entered, line-entered}
 use Rattle.sheet.specs.Bytes.{split}
-use Rattle.sheet.specs.Forms.{Mode, forms, formOf, tagOf, keyOf, itemsFrom, counted, orEmpty, rowFor, rowOf, rowOfValue, TEXT, KIND, DAY, NODE, noKey}
+use Rattle.sheet.specs.Forms.{Mode, forms, formOf, tagOf, keyOf, itemsFrom, counted, orEmpty, rowFor, rowOf, rowOfValue, TEXT, KIND, SHAPE, DAY, NODE, noKey}
 use Rattle.forms.specs.Tags.{DAY-LINE}
 use Rattle.sheet.specs.State.{State, empty, count, before, sum}
-use Rattle.sheet.specs.Sheet.{Reading, enough, reach, firstUnused, reads, ending, fault, more, goOn, reading, read}
+use Rattle.sheet.specs.Sheet.{Reading, least, enough, reach, firstUnused, reads, ending, fault, more, goOn, reading, read}
 use Rattle.table.specs.Layout.{part, RUN, MADE, TOP, TYPEDEPTHS, USES, heap, rowsAt, rowsOf, linesHeld, depthsHeld, depthsAt, held, depthBase, depthsIn}
 use Rattle.table.proofs.Rows.{limit-small}
 use Rattle.table.proofs.Held.{tab-same, linesIn, lines-tab, depths-tab, counts-held}
@@ -85,7 +85,7 @@ module _ (sheet a b : List ℕ) where
 
   enough-same : enough (held [] a b) noKey ≡ enough (held sheet a b) noKey
   enough-same =
-      ap₂ (λ (c : List ℕ) (n : ℕ). reach (take noKey c) (1 ∷ 0 ∷ 0 ∷ 0 ∷ n ∷ 0 ∷ 0 ∷ 1 ∷ 1 ∷ 1 ∷ 1 ∷ 1 ∷ 0 ∷ 0 ∷ 0 ∷ []))
+      ap₂ (λ (c : List ℕ) (n : ℕ). reach (take noKey c) (set (least empty) SHAPE n))
       (counts-held [] a b ∙ sym (counts-held sheet a b)) (counts-same KIND)
 
   before-same : before (held [] a b) NODE ≡ before (held sheet a b) NODE

@@ -5,13 +5,14 @@ use mathlib.Core.List.{List, [], _∷_, _++_}
 use Prim.Native.Nat.{ℕ, zero, suc, _+_, _-_, _*_, _≤_, _<_}
 use native.Mathlib.Omega.{arith}
 use native.Mathlib.Decide.{ℕ-discrete, decLt}
-use borrow.Author.Tests.{eq-eqb, ne-eqb, leb-false}
-use lib.Dec.{eqb}
+use borrow.Author.Tests.{eq-eqb, ne-eqb, leb-true, leb-false}
+use lib.Dec.{leb, eqb}
 use lib.ListN.{length, getD, take, drop}
-use lib.Seq.{drop-drop}
-use Rattle.sheet.specs.Forms.{Mode, forms, formOf, tag, keyOf, refs, TEXT, KIND, TYPE, VALUE, ENTITY, DAY, NODE, noKey}
-use Rattle.sheet.specs.State.{State, count}
+use lib.Seq.{drop-drop, getD-set-other}
+use Rattle.sheet.specs.Forms.{Mode, forms, formOf, tag, keyOf, refs, TEXT, KIND, TYPE, SHAPE, VALUE, ENTITY, DAY, NODE, noKey}
+use Rattle.sheet.specs.State.{State, empty, count}
 use Rattle.sheet.specs.Sheet.{greatest, fault, faultOf, more, depth, marked}
+use Rattle.sheet.proofs.Parsed.{allBelow, all-below}
 use Rattle.sheet.proofs.Lines.{Passed, passed, later-empty}
 use Rattle.sheet.proofs.Shallow.{reached-settled}
 use Rattle.sheet.proofs.Depths as D
@@ -67,22 +68,20 @@ past-uses b b′ e = sym (drop-drop 9088 (USES + 1024) b′) ∙ ap (drop 9088) 
 
 -- ---- limits
 
+-- but for shapes the greatest numbers are those of the table
+most-else : allBelow (λ (k : ℕ). leb (getD (greatest empty) k 0) (limit k)) noKey ≡ true
+unfolding limit limits
+most-else = refl
+
 most-low : (s : State) (k : ℕ) → k < noKey → count s KIND ≤ 32 → getD (greatest s) k 0 ≤ limit k
 unfolding limit limits
-most-low s zero h c = omega arith
-most-low s (suc zero) h c = omega arith
-most-low s (suc (suc zero)) h c = omega arith
-most-low s (suc (suc (suc zero))) h c = omega arith
-most-low s (suc (suc (suc (suc zero)))) h c = c
-most-low s (suc (suc (suc (suc (suc zero))))) h c = omega arith
-most-low s (suc (suc (suc (suc (suc (suc zero)))))) h c = omega arith
-most-low s (suc (suc (suc (suc (suc (suc (suc zero))))))) h c = omega arith
-most-low s (suc (suc (suc (suc (suc (suc (suc (suc zero)))))))) h c = omega arith
-most-low s (suc (suc (suc (suc (suc (suc (suc (suc (suc zero))))))))) h c = omega arith
-most-low s (suc (suc (suc (suc (suc (suc (suc (suc (suc (suc zero)))))))))) h c = omega arith
-most-low s (suc (suc (suc (suc (suc (suc (suc (suc (suc (suc (suc zero))))))))))) h c = omega arith
-most-low s (suc (suc (suc (suc (suc (suc (suc (suc (suc (suc (suc (suc zero)))))))))))) h c = omega arith
-most-low s (suc (suc (suc (suc (suc (suc (suc (suc (suc (suc (suc (suc (suc k))))))))))))) h c = absurd (omega arith)
+most-low s k h c = go (ℕ-discrete k SHAPE)
+  where
+    go : Dec (k ≡ SHAPE) → getD (greatest s) k 0 ≤ limit k
+    go (yes e) = rw e c
+    go (no n) =
+        subst (λ (x : ℕ). x ≤ limit k) (sym (getD-set-other (greatest empty) SHAPE k (count s KIND) 0 n))
+        (leb-true (getD (greatest empty) k 0) (limit k) (all-below (λ (i : ℕ). leb (getD (greatest empty) i 0) (limit i)) noKey k most-else h))
 
 kinds : limit KIND ≡ 32
 unfolding limit limits
