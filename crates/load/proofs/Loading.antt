@@ -26,6 +26,7 @@ use Rattle.table.proofs.Held.{tab-same, linesIn, lines-tab, depths-tab, counts-
 use Rattle.fits.proofs.Remembered as R
 use Rattle.judge.proofs.Alike.{count-alike}
 use Rattle.line.proofs.LawsLine.{entry-wide, entry-wider}
+use Rattle.take.proofs.Taking.{fault-none}
 use Rattle.take.specs.Steps.{Reached, before-any, after-line, Ready, taken, Taken}
 use Rattle.load.specs.Result.{Read}
 
@@ -329,7 +330,7 @@ module _ (m : Mode) (sheet a₀ b₀ a b : List ℕ) (c : Cursor) (i : Progress 
         line-room : n ≡ 0 → Dec (j ≡ DAY) → taken a′ ≤ 2 * heap + next .at
         line-room z (yes d) =
             let v = part sheet (equals .at + 1) e in
-            let k : keyOf (rowOfValue m j v) ≡ DAY = day-key m j v d (λ x. absurd (omega (arith, ap (fault (held sheet a b)) x, t .number, z))) in
+            let k : keyOf (rowOfValue m j v) ≡ DAY = day-key m j v d (λ x. absurd (omega (arith, fault-none (held sheet a b) (rowOfValue m j v) x, t .number, z))) in
             omega (arith, t .day k z, i .room, wide, entry .equals-in, line-long .2)
         line-room z (no d) = omega (arith, t .room z, i .room, wider d, entry .equals-in, line-long .2)
 

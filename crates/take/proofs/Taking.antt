@@ -57,7 +57,7 @@ unfolding fault
 fault-some s [] n = absurd (n refl)
 fault-some s (t ∷ l) n = refl
 
-fault-none : (s : State) (r : List ℕ) → r ≡ [] → 3 ≡ fault s r
+pub fault-none : (s : State) (r : List ℕ) → r ≡ [] → 3 ≡ fault s r
 unfolding fault
 fault-none s r e = rw e refl
 
