@@ -5,14 +5,17 @@ use mathlib.Core.Option.{Option, none, some, Option·some-injective}
 use mathlib.Core.List.{List, [], _∷_, _++_}
 use Prim.Native.Nat.{ℕ, zero, suc, _≤_, _<_, _/_, _%_}
 use native.Mathlib.Omega.{arith}
-use borrow.Author.Tests.{eq-eqb, ne-eqb, le-leb, lt-leb, leb-false}
+use native.Mathlib.Decide.{decLt}
+use borrow.Author.Tests.{eq-eqb, ne-eqb, le-leb, lt-leb, leb-true, leb-false}
 use lib.Dec.{leb, eqb}
-use lib.ListN.{length, getD, take, drop}
-use Rattle.cedar.proofs.Tools.{no-true, no-some}
+use lib.ListN.{length, getD, take, drop, List·getD-eq-default}
+use Rattle.cedar.proofs.Tools.{no-some, eqb-true, and-left, and-right}
 use Rattle.cedar.specs.Numbered.{memN}
 use Rattle.sheet.specs.Bytes.{leapYear, daysIn, isDate, dateIn, digitsFrom, atMost, half, date}
-use Rattle.dates.specs.declared.Number as N
-use Rattle.dates.specs.Numbers.{numberOf}
+use Rattle.scan.specs.declared.Number as N
+use Rattle.scan.specs.Numbers.{numberOf}
+use Rattle.sheet.proofs.Parsed.{all-below}
+use Rattle.forms.proofs.Tests.{NoneOf, none-of, other}
 
 pub leap-no : (y : ℕ) → (y % 4 ≡ 0 → ⊥) → false ≡ leapYear y
 leap-no y h = sym (ap (λ b. b && (not (eqb (y % 100) 0) || eqb (y % 400) 0)) (ne-eqb (y % 4) 0 h))
@@ -25,33 +28,20 @@ leap-last y h k = sym (rw (eq-eqb (y % 4) 0 h, eq-eqb (y % 100) 0 k) refl)
 
 -- ---- months
 
--- none of these: what the last arm of a match knows
-abbrev pub NoneOf : List ℕ → ℕ → Type 0
-NoneOf [] t = Unit {0}
-NoneOf (k ∷ ks) t = NoneOf ks t × (t ≡ k → ⊥)
-
-none-of : (ks : List ℕ) (t : ℕ) → NoneOf ks t → memN t ks ≡ false
-none-of [] t h = refl
-none-of (k ∷ ks) t h = rw (ne-eqb t k (h .1)) (none-of ks t (h .0))
-
 abbrev pub months : List ℕ
 months = 12 ∷ 11 ∷ 10 ∷ 9 ∷ 8 ∷ 7 ∷ 6 ∷ 5 ∷ 4 ∷ 3 ∷ 2 ∷ 1 ∷ []
 
+-- what the last arm of the match knows
 pub no-month : (y m : ℕ) → NoneOf months m → 0 ≡ daysIn y m
-no-month y zero h = refl
-no-month y (suc zero) h = no-true (sym (none-of months 1 h))
-no-month y (suc (suc zero)) h = no-true (sym (none-of months 2 h))
-no-month y (suc (suc (suc zero))) h = no-true (sym (none-of months 3 h))
-no-month y (suc (suc (suc (suc zero)))) h = no-true (sym (none-of months 4 h))
-no-month y (suc (suc (suc (suc (suc zero))))) h = no-true (sym (none-of months 5 h))
-no-month y (suc (suc (suc (suc (suc (suc zero)))))) h = no-true (sym (none-of months 6 h))
-no-month y (suc (suc (suc (suc (suc (suc (suc zero))))))) h = no-true (sym (none-of months 7 h))
-no-month y (suc (suc (suc (suc (suc (suc (suc (suc zero)))))))) h = no-true (sym (none-of months 8 h))
-no-month y (suc (suc (suc (suc (suc (suc (suc (suc (suc zero))))))))) h = no-true (sym (none-of months 9 h))
-no-month y (suc (suc (suc (suc (suc (suc (suc (suc (suc (suc zero)))))))))) h = no-true (sym (none-of months 10 h))
-no-month y (suc (suc (suc (suc (suc (suc (suc (suc (suc (suc (suc zero))))))))))) h = no-true (sym (none-of months 11 h))
-no-month y (suc (suc (suc (suc (suc (suc (suc (suc (suc (suc (suc (suc zero)))))))))))) h = no-true (sym (none-of months 12 h))
-no-month y (suc (suc (suc (suc (suc (suc (suc (suc (suc (suc (suc (suc (suc m))))))))))))) h = refl
+no-month y m h = go (decLt m 13)
+  where
+    go : Dec (m < 13) → 0 ≡ daysIn y m
+    go (yes l) =
+        let z : m ≡ 0 = eqb-true m 0 (other (memN m months) (eqb m 0) (none-of months m h) (all-below (λ (i : ℕ). memN i months || eqb i 0) 13 m refl l)) in
+        rw z refl
+    go (no l) =
+        let past : 13 ≤ m = omega arith in
+        sym (List·getD-eq-default (0 ∷ 31 ∷ cond (leapYear y) 29 28 ∷ 31 ∷ 30 ∷ 31 ∷ 30 ∷ 31 ∷ 31 ∷ 30 ∷ 31 ∷ 30 ∷ 31 ∷ []) 0 past)
 
 pub long-february : (y m : ℕ) (b : Bool) → m ≡ 2 → b ≡ leapYear y → b ≡ true → 29 ≡ daysIn y m
 long-february y m b e l t = sym (ap (daysIn y) e ∙ ap (λ z. cond z 29 28) (sym l ∙ t))
@@ -83,19 +73,21 @@ module _ (n : ℕ) where
 abbrev eight : List ℕ → List ℕ
 eight s = getD s 0 0 ∷ getD s 1 0 ∷ getD s 2 0 ∷ getD s 3 0 ∷ getD s 5 0 ∷ getD s 6 0 ∷ getD s 8 0 ∷ getD s 9 0 ∷ []
 
+-- the first n items, one by one
+firsts : ℕ → List ℕ → List ℕ
+firsts zero s = []
+firsts (suc n) s = getD s 0 0 ∷ firsts n (drop 1 s)
+
+firsts-are : (n : ℕ) (s : List ℕ) → length s ≡ n → s ≡ firsts n s
+unfolding firsts
+firsts-are zero [] e = refl
+firsts-are zero (x ∷ s) e = absurd (omega (arith, e))
+firsts-are (suc n) [] e = absurd (omega (arith, e))
+firsts-are (suc n) (x ∷ s) e = ap (λ (l : List ℕ). x ∷ l) (firsts-are n s (omega (arith, e)))
+
 eight-are : (s : List ℕ) → length s ≡ 10 → take 4 s ++ (take 2 (drop 5 s) ++ drop 8 s) ≡ eight s
-eight-are [] e = absurd (omega (arith, e))
-eight-are (a ∷ []) e = absurd (omega (arith, e))
-eight-are (a ∷ b ∷ []) e = absurd (omega (arith, e))
-eight-are (a ∷ b ∷ c ∷ []) e = absurd (omega (arith, e))
-eight-are (a ∷ b ∷ c ∷ d ∷ []) e = absurd (omega (arith, e))
-eight-are (a ∷ b ∷ c ∷ d ∷ f ∷ []) e = absurd (omega (arith, e))
-eight-are (a ∷ b ∷ c ∷ d ∷ f ∷ g ∷ []) e = absurd (omega (arith, e))
-eight-are (a ∷ b ∷ c ∷ d ∷ f ∷ g ∷ h ∷ []) e = absurd (omega (arith, e))
-eight-are (a ∷ b ∷ c ∷ d ∷ f ∷ g ∷ h ∷ i ∷ []) e = absurd (omega (arith, e))
-eight-are (a ∷ b ∷ c ∷ d ∷ f ∷ g ∷ h ∷ i ∷ j ∷ []) e = absurd (omega (arith, e))
-eight-are (a ∷ b ∷ c ∷ d ∷ f ∷ g ∷ h ∷ i ∷ j ∷ k ∷ []) e = refl
-eight-are (a ∷ b ∷ c ∷ d ∷ f ∷ g ∷ h ∷ i ∷ j ∷ k ∷ x ∷ l) e = absurd (omega (arith, e))
+unfolding firsts
+eight-are s e = rw (firsts-are 10 s e) refl
 
 module _ (s : List ℕ) where
   pub not-ten : (length s ≡ 10 → ⊥) → numberOf N.the-variants.Refused ≡ date s
@@ -145,3 +137,24 @@ module _ (s : List ℕ) where
                 far : (c : Bool) → leb m half ≡ c → none ≡ cond c (some m) none → cond (isDate m) (some m) none ≡ none
                 far true p q = no-some q
                 far false p q = let z = leb-false m half p in ap (λ b. cond b (some m) none) (sym (too-late m (omega (arith, z))))
+
+-- ---- a date is small
+
+-- a number that no date reaches
+abbrev pub pastDates : ℕ
+pastDates = 22000000
+
+pub date-small : (s : List ℕ) (n : ℕ) → date s ≡ some n → n < pastDates
+date-small s n e = go (eqb (length s) 10 && (eqb (getD s 4 0) 45 && eqb (getD s 7 0) 45)) (digitsFrom 0 (take 4 s ++ (take 2 (drop 5 s) ++ drop 8 s))) e
+  where
+    year-in : (m : ℕ) (t : Bool) → isDate m ≡ t → cond t (some m) none ≡ some n → n < pastDates
+    year-in m true p q =
+        let years = and-left (leb 1900 (m / 10000) && leb (m / 10000) 2199) (leb 1 (m % 100) && leb (m % 100) (daysIn (m / 10000) (m / 100 % 100))) p in
+        let l = leb-true (m / 10000) 2199 (and-right (leb 1900 (m / 10000)) (leb (m / 10000) 2199) years) in
+        omega (arith, l, Option·some-injective m n q)
+    year-in m false p q = no-some q
+
+    go : (t : Bool) (o : Option ℕ) → cond t (dateIn o) none ≡ some n → n < pastDates
+    go true none q = no-some q
+    go true (some m) q = year-in m (isDate m) refl q
+    go false o q = no-some q

@@ -82,7 +82,14 @@ pub fn date_of(bytes: &[u8]) -> Number
         return Number::Refused;
     }
     let d = [
-        bytes[0], bytes[1], bytes[2], bytes[3], bytes[5], bytes[6], bytes[8], bytes[9],
+        bytes[0],
+        bytes[1],
+        bytes[2],
+        bytes[3],
+        bytes[5],
+        bytes[6],
+        bytes[8],
+        bytes[9],
     ];
     let r = digits(&d);
     match r {

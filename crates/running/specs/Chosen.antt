@@ -3,21 +3,23 @@ use mathlib.Core.Path.{_≡_}
 use mathlib.Core.List.{List, []}
 use Prim.Native.Nat.{ℕ, _+_, _*_, _≤_, _<_}
 use lib.ListN.{length, getD, drop}
+use lib.Seq.{sets}
 use Rattle.sheet.specs.Forms.{noKey, POLICY}
 use Rattle.sheet.specs.Content.{onTerm}
-use Rattle.table.specs.Layout.{RUN, MADE, TOP, heap, rowsOf, held, Sound}
+use Rattle.words.specs.Log.{room}
+use Rattle.table.specs.Layout.{RUN, MADE, TOP, rowsOf, held, withRow, Sound}
 
 -- the words of a policy's row: its tag, id, effect and node
 abbrev pub ROW : ℕ
 ROW = 4
 
--- words that hold a sheet's rows, and none after them: each policy's row has its four words, and there is room for as many more
+-- words that hold a sheet's rows, and none after them: each policy's row has its words, and there is room for as many more
 pub record Choosable (a : List ℕ) : Type 0 where
   pub sound : Sound a
   pub none : getD a RUN 0 ≡ 0
   pub made : getD a MADE 0 ≡ 0
   pub rows : (n : ℕ) → n < getD a POLICY 0 → length (getD (rowsOf a POLICY) n []) ≡ ROW
-  pub space : getD a TOP 0 + ROW * getD a POLICY 0 ≤ 16384
+  pub space : getD a TOP 0 + ROW * getD a POLICY 0 ≤ room
 
 -- the rows of the policies on term, in the sheet's order; the sheet's own rows are as they were
 pub record Chosen (a a′ : List ℕ) : Type 0 where
@@ -27,4 +29,16 @@ pub record Chosen (a a′ : List ℕ) : Type 0 where
   pub made : getD a′ MADE 0 ≡ 0
   pub top : getD a′ TOP 0 ≤ getD a TOP 0 + ROW * getD a POLICY 0
   pub long : length a′ ≡ length a
-  pub rest : drop 16384 a′ ≡ drop 16384 a
+  pub rest : drop room a′ ≡ drop room a
+
+-- ---- one of them
+
+-- a policy's row has its words, and there is room for as many more
+pub record Runnable (a : List ℕ) (policy : ℕ) : Type 0 where
+  pub sound : Sound a
+  pub row : length (getD (rowsOf a POLICY) policy []) ≡ ROW
+  pub space : getD a TOP 0 + ROW ≤ room
+
+-- row r as the last of those of the policies that run, at the heap's end
+unfoldable pub withRun : List ℕ → List ℕ → List ℕ
+withRun a r = withRow (sets a (getD a TOP 0) r) RUN (getD a TOP 0 + length r)

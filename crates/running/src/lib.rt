@@ -12,11 +12,16 @@ use words::read;
 use words::store;
 ghost use mathlib.Core.Path.{_≡_};
 ghost use mathlib.Core.Bool.{_&&_};
+ghost use mathlib.Core.List.{[]};
 ghost use lib.Dec.{leb};
-ghost use Rattle.sheet.specs.Forms.{at, TERM};
+ghost use lib.ListN.{getD};
+ghost use Rattle.sheet.specs.Forms.{at, POLICY, TERM};
 ghost use Rattle.sheet.specs.Content.{runsOn};
 ghost use Rattle.table.specs.Layout.{rowsOf};
-ghost use Rattle.running.specs.Chosen.{Choosable, Chosen};
+ghost use Rattle.running.specs.Chosen.{Choosable, Chosen, Runnable, withRun};
+
+// The words of a policy's row: its tag, id, effect and node.
+const ROW: u32 = 4;
 
 // Whether a day is one of a term's: both edge days are.
 fn is_within(term: &[u32], day: u32) -> bool
@@ -45,12 +50,15 @@ fn runs_on(rows: &[u32], day: u32, policy: u32) -> bool
 }
 
 // The row of a policy once more, as that of one that runs.
-fn run_row(rows: &mut [u32], policy: u32) {
+fn run_row(rows: &mut [u32], policy: u32)
+    requires { ⌜ Runnable (now rows) policy ⌝ }
+    ensures { λ _. ⌜ now (rows .exit) ≡ withRun (now (rows .entry)) (getD (rowsOf (now (rows .entry)) POLICY) policy []) ⌝ }
+{
     let line = row(rows, POLICY, policy);
     let words = [item(line, 0), item(line, 1), item(line, 2), item(line, 3)];
     let top = read(rows, TOP);
     store(rows, top as usize, &words);
-    add_row(rows, RUN, top + 4);
+    add_row(rows, RUN, top + ROW);
 }
 
 // The policies that run, in the sheet's order.

@@ -11,6 +11,7 @@ pub mod EnvFit
 pub mod Environment
 pub mod ExampleBytes
 pub mod ExampleEntities
+pub mod ExampleTerms
 pub mod FitsSound
 pub mod Fitting
 pub mod KnownSheets

@@ -9,14 +9,14 @@ use borrow.Author.Tests.{eq-eqb, ne-eqb, leb-false}
 use lib.Dec.{eqb}
 use lib.ListN.{length, getD, take, drop}
 use lib.Seq.{drop-drop}
-use Rattle.sheet.specs.Forms.{Mode, forms, formOf, tag, keyOf, refs, TEXT, KIND, TYPE, VALUE, ENTITY, NODE, noKey}
+use Rattle.sheet.specs.Forms.{Mode, forms, formOf, tag, keyOf, refs, TEXT, KIND, TYPE, VALUE, ENTITY, DAY, NODE, noKey}
 use Rattle.sheet.specs.State.{State, count}
 use Rattle.sheet.specs.Sheet.{greatest, fault, faultOf, more, depth, marked}
 use Rattle.sheet.proofs.Lines.{Passed, passed, later-empty}
 use Rattle.sheet.proofs.Shallow.{reached-settled}
 use Rattle.sheet.proofs.Depths as D
 use Rattle.forms.specs.Tags.{TEXT-LINE}
-use Rattle.table.specs.Layout.{part, MADE, TOP, TYPEDEPTHS, USES, rowsOf, textRow, held, withRow, limits, limit, Last, Sound, rowIn}
+use Rattle.table.specs.Layout.{part, heap, RUN, MADE, TOP, TYPEDEPTHS, USES, rowsOf, textRow, held, withRow, limits, limit, Last, Sound, rowIn}
 use Rattle.table.proofs.Rows.{count-held, limit-small}
 use Rattle.table.proofs.Frame.{rows-kept, word-kept, sound-kept, top-new, count-new, count-other, rest-new, rows-own, rows-other, sound-new}
 use Rattle.table.proofs.Held.{held-same}
@@ -103,7 +103,7 @@ settled-rows sheet a b r = settled-held sheet a b (record { closes = reached-set
 
 -- ---- `take_line`
 
-module _ (sheet row a b : List ℕ) (bytes : ℕ) (m : Mode) (ready : Ready a b) (reached : Reached m (held sheet a b)) (fits : 2 * getD a TOP 0 + bytes ≤ 24400)
+module _ (sheet row a b : List ℕ) (bytes : ℕ) (m : Mode) (ready : Ready a b) (reached : Reached m (held sheet a b)) (fits : 2 * getD a TOP 0 + bytes ≤ 2 * heap + 16400)
     (top : ℕ) (ht : top ≡ getD a TOP 0) (a₁ : List ℕ) (n : ℕ) (l : Line sheet row a a₁ top n (bytes)) (long₁ : length a₁ ≡ length a) where
   below : take (getD a TOP 0) a₁ ≡ take (getD a TOP 0) a
   below = subst (λ (x : ℕ). take x a₁ ≡ take x a) ht (l .kept .below)
@@ -133,6 +133,7 @@ module _ (sheet row a b : List ℕ) (bytes : ℕ) (m : Mode) (ready : Ready a b)
         state = λ q. absurd (omega arith);
         ready = λ q. absurd (omega arith);
         room = λ q. absurd (omega arith);
+        day = λ e q. absurd (omega arith);
         rest-a = l .kept .rest;
         rest-b = refl;
       }
@@ -176,6 +177,7 @@ module _ (sheet row a b : List ℕ) (bytes : ℕ) (m : Mode) (ready : Ready a b)
             state = λ q. absurd (z q);
             ready = λ q. absurd (z q);
             room = λ q. absurd (z q);
+            day = λ e q. absurd (z q);
             rest-a = l .kept .rest;
             rest-b = rest-b₁;
           }
@@ -205,12 +207,19 @@ module _ (sheet row a b : List ℕ) (bytes : ℕ) (m : Mode) (ready : Ready a b)
         made₁ : getD a₁ MADE 0 ≡ 0
         made₁ = word-as MADE (omega arith) ∙ ready .made
 
+        none₁ : getD a₁ RUN 0 ≡ 0
+        none₁ = word-as RUN (omega arith) ∙ ready .none
+
         last₁ : Last a₁ k
         last₁ = record { last = λ i h t. go i h (decLt i noKey) t }
           where
             go : (i : ℕ) → k < i → Dec (i < noKey) → i < TOP → getD a₁ i 0 ≡ 0
             go i h (yes t) u = sym (count-held sheet a₁ b i t) ∙ ap length (later-empty (held sheet a₁ b) k i (pass .order) h)
-            go i h (no t) u = let e : i ≡ MADE = omega arith in rw e made₁
+            go i h (no t) u = past (ℕ-discrete i MADE)
+              where
+                past : Dec (i ≡ MADE) → getD a₁ i 0 ≡ 0
+                past (yes e) = rw e made₁
+                past (no e) = let q : i ≡ RUN = omega arith in rw q none₁
 
         pub commit-room : getD a₁ k 0 < 4294967295
         commit-room = omega (arith, room₁, limit-small k)
@@ -289,6 +298,13 @@ module _ (sheet row a b : List ℕ) (bytes : ℕ) (m : Mode) (ready : Ready a b)
               let c : getD a₂ NODE 0 ≡ getD a₁ NODE 0 = other₂ NODE (omega arith) (λ q. e (sym q)) in
               omega (arith, t, c, l .tight, word-as NODE (omega arith))
 
+          day₂ : keyOf row ≡ DAY → taken a₂ ≤ taken a + bytes
+          day₂ e =
+              let q : k ≡ DAY = key-row ∙ sym key-is ∙ e in
+              let t : getD a₂ TOP 0 ≡ end = rw pa (top-new a₁ sound₁ k end in-range room₁ last₁ lo) in
+              let c : getD a₂ NODE 0 ≡ getD a₁ NODE 0 = other₂ NODE (omega arith) (λ x. absurd (omega (arith, q, x))) in
+              omega (arith, t, c, l .short (λ x. absurd (omega (arith, e, x))), word-as NODE (omega arith))
+
           pub line-added : Taken sheet row a b a₂ b₂ bytes 0
           line-added =
               record {
@@ -296,12 +312,14 @@ module _ (sheet row a b : List ℕ) (bytes : ℕ) (m : Mode) (ready : Ready a b)
                 state = λ q. state₂;
                 ready = λ q. record {
                   sound = rw pa (sound-new a₁ sound₁ k end in-range room₁ last₁ lo);
+                  none = other₂ RUN (omega arith) (λ x. absurd (omega (arith, low, x))) ∙ none₁;
                   made = other₂ MADE (omega arith) (λ x. absurd (omega (arith, low, x))) ∙ made₁;
                   known = known₂ (decLt k ENTITY);
                   blank = blank₂ (decLt k ENTITY);
                   long = omega (arith, ready .long);
                 };
                 room = λ q. room₂ (ℕ-discrete k NODE);
+                day = λ e q. day₂ e;
                 rest-a = rw pa (rest-new a₁ sound₁ k end in-range room₁ last₁ lo) ∙ l .kept .rest;
                 rest-b = past-uses b₁ b₂ (words₂ .1) ∙ rest-b₁;
               }

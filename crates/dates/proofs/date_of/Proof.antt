@@ -14,13 +14,26 @@ returns-3 : tie.Need-returns-3
 returns-3 c = search (no-second, needs)
 
 returns-4 : tie.Need-returns-4
-returns-4 c = a-date (c .before .before .before .before .before .before .before .before .before .before .before .before .before .before .before .before .before .before .before .before .before .args .s .now) (c .before .before .before .before .before .before .before .before .before .before .before .before .before .before .before .before .before .before .before .if1 .left) (c .before .before .before .before .before .before .before .before .before .before .before .before .before .before .before .before .before .if2 .left) (c .before .before .before .before .before .before .before .before .before .before .before .before .before .before .before .if3 .left) (c .before .before .before .before .before .digits .result) (c .before .before .before .before .before .digits .ensures) _ (search needs) (c .before .is-date .result) (c .before .is-date .ensures) (c .if4 .taken)
+returns-4 c =
+    let d = c .before .before .before .before .before in
+    let i = c .before .is-date in
+    let three = d .before .before .before .before .before .before .before .before .before .before in
+    let one = three .before .before .before .before in
+    a-date (one .before .before .args .bytes .now) (one .if1 .left) (three .before .before .if2 .left) (three .if3 .left) (d .digits .result) (d .digits .ensures) _ (search needs) (i .result) (i .ensures) (c .if4 .taken)
 
 returns-5 : tie.Need-returns-5
-returns-5 c = search (no-date (c .before .before .before .before .before .before .before .before .before .before .before .before .before .before .before .before .before .before .before .before .before .args .s .now) (c .before .before .before .before .before .before .before .before .before .before .before .before .before .before .before .before .before .before .before .if1 .left) (c .before .before .before .before .before .before .before .before .before .before .before .before .before .before .before .before .before .if2 .left) (c .before .before .before .before .before .before .before .before .before .before .before .before .before .before .before .if3 .left) (c .before .before .before .before .before .digits .result) (c .before .before .before .before .before .digits .ensures), needs)
+returns-5 c =
+    let d = c .before .before .before .before .before in
+    let three = d .before .before .before .before .before .before .before .before .before .before in
+    let one = three .before .before .before .before in
+    search (no-date (one .before .before .args .bytes .now) (one .if1 .left) (three .before .before .if2 .left) (three .if3 .left) (d .digits .result) (d .digits .ensures), needs)
 
 returns-6 : tie.Need-returns-6
-returns-6 c = no-digits (c .before .before .before .before .before .before .before .before .before .before .before .before .before .before .before .before .before .before .args .s .now) (c .before .before .before .before .before .before .before .before .before .before .before .before .before .before .before .before .if1 .left) (c .before .before .before .before .before .before .before .before .before .before .before .before .before .before .if2 .left) (c .before .before .before .before .before .before .before .before .before .before .before .before .if3 .left) (c .before .before .digits .result) (c .before .before .digits .ensures) (search needs)
+returns-6 c =
+    let d = c .before .before in
+    let three = d .before .before .before .before .before .before .before .before .before .before in
+    let one = three .before .before .before .before in
+    no-digits (one .before .before .args .bytes .now) (one .if1 .left) (three .before .before .if2 .left) (three .if3 .left) (d .digits .result) (d .digits .ensures) (search needs)
 
 pub date-of-spec : {M : Type 1} → statement M
 date-of-spec =

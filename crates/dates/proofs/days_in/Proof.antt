@@ -11,7 +11,7 @@ returns-3 : tie.Need-returns-3
 returns-3 c = search (short-february, needs)
 
 returns-14 : tie.Need-returns-14
-returns-14 c = no-month (c .before .args .y) (c .before .args .m) (c .match .rest)
+returns-14 c = no-month (c .before .args .year) (c .before .args .month) (c .match .rest)
 
 pub days-in-spec : {M : Type 1} → statement M
 days-in-spec =
