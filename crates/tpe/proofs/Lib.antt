@@ -11,6 +11,7 @@ pub mod Sets
 pub mod EachStep
 pub mod Depth
 pub mod Policies
+pub mod Terms
 pub mod Nodes
 pub mod Readings
 pub mod KindLines
