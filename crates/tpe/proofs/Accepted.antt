@@ -45,7 +45,6 @@ use Rattle.tpe.proofs.Operations.{sch, env}
 use Rattle.tpe.proofs.Depth.{childrenOf, Proper, Deep, interp-is}
 use Rattle.tpe.proofs.Nodes.{node-fact}
 use Rattle.tpe.proofs.Policies.{RunIs, PolicyWorks, ran-is}
-use Rattle.tpe.proofs.Terms.{on-term-same}
 use Rattle.tpe.proofs.Readings.{Tabled, own-tabled, keeps-tabled, lists-types}
 use Rattle.tpe.proofs.KindLines.{kind-found, rows-formed}
 
@@ -165,6 +164,10 @@ module _ (l : List (List (List ℕ))) (d e : List (List ℕ)) (u v : List ℕ) w
   unfolding nEnv
   env-lines = λ i. record { request = λ x. given-lines x i; line = λ k t. lineGiven partial (entity-lines (rent k t) (getD l ENTITY []) i) }
 
+  term-lines : onTerm one ≡ onTerm two
+  unfolding onTerm
+  term-lines = refl
+
   policies-lines : nPolicies one ≡ nPolicies two
   unfolding nPolicies trees types onTerm
   policies-lines = refl
@@ -181,13 +184,17 @@ run-same : (sheet a b : List ℕ) → run partial (held sheet a []) ≡ run part
 unfolding held
 run-same sheet a b = run-lines (linesHeld sheet a) _ _ _ _
 
+term-same : (sheet a b : List ℕ) → onTerm (held sheet a []) ≡ onTerm (held sheet a b)
+unfolding held
+term-same sheet a b = term-lines (linesHeld sheet a) _ _ _ _
+
 policies-same : (sheet a b : List ℕ) → nPolicies (held sheet a []) ≡ nPolicies (held sheet a b)
 unfolding held
 policies-same sheet a b = policies-lines (linesHeld sheet a) _ _ _ _
 
 module _ (sheet a b : List ℕ) (f : Facts partial (held sheet a b)) (d : Depths (held sheet a b)) (sound : Sound a) (none : getD a MADE 0 ≡ 0) (runs : rowsOf a RUN ≡ onTerm (held sheet a b)) where
   own-runs : rowsOf a RUN ≡ onTerm (held sheet a [])
-  own-runs = runs ∙ on-term-same sheet sheet a a b [] (λ k lt. refl)
+  own-runs = runs ∙ sym (term-same sheet a b)
 
   own-policies : nPolicies (held sheet a []) ≡ numberedPolicies (trees (held sheet a [])) (rowsOf a RUN)
   unfolding nPolicies

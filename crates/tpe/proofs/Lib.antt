@@ -11,7 +11,6 @@ pub mod Sets
 pub mod EachStep
 pub mod Depth
 pub mod Policies
-pub mod Terms
 pub mod Nodes
 pub mod Readings
 pub mod KindLines
