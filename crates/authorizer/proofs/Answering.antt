@@ -11,7 +11,7 @@ use Rattle.sheet.specs.Sheet.{read}
 use Rattle.sheet.specs.Answer.{answer}
 use Rattle.sheet.specs.Call.{returns, fitted, afterReading, readAs, over}
 use Rattle.sheet.specs.Content.{onTerm}
-use Rattle.table.specs.Layout.{held, limits, limit}
+use Rattle.table.specs.Layout.{RUN, held, limits, limit}
 use Rattle.table.proofs.Rows.{count-rows}
 use Rattle.table.proofs.Held.{held-same}
 use Rattle.line.specs.Codes.{modeOf}
@@ -22,10 +22,10 @@ use Rattle.response.proofs.Sending.{gives-as}
 use Rattle.authorizer.specs.Parts.{afterLengths, Answers}
 use Rattle.authorizer.proofs.Choosing.{policy-rows, term-alike}
 
--- there are at most 64 policies
-policies : limit POLICY ≡ 64
+-- there are at most 64 policies, and as many that run
+policies : (limit POLICY ≡ 64) × (limit RUN ≡ 64)
 unfolding limit limits
-policies = refl
+policies = (refl, refl)
 
 -- 2
 pub too-long : (m : Mode) (sheet out : List ℕ) → 16384 < length sheet → Answers m sheet out 2 0 0 out
@@ -64,7 +64,7 @@ module _ (m : Mode) (sheet : List ℕ) (short : length sheet ≤ 16384) (a b a�
           none = r .none;
           made = r .made;
           rows = policy-rows m sheet a′ b′ zero-read (x .state-is z);
-          space = omega (arith, x .room z, short, r .sound .few POLICY (omega arith), policies);
+          space = omega (arith, x .room z, short, r .sound .few POLICY (omega arith), policies .0);
         }
 
     module _ (a″ : List ℕ) (c : Chosen a′ a″) where
@@ -78,7 +78,7 @@ module _ (m : Mode) (sheet : List ℕ) (short : length sheet ≤ 16384) (a b a�
         sound = c .sound;
         none = c .made;
         runs = c .runs ∙ term-alike a′ sheet b′ ∙ ap onTerm (sym state-kept);
-        fits = omega (arith, x .room z, short, c .top, x .ready z .sound .few POLICY (omega arith), policies, ap length (c .same NODE (omega arith)), count-rows a′ NODE, count-rows a″ NODE);
+        fits = omega (arith, x .room z, short, c .top, x .ready z .sound .few POLICY (omega arith), policies .0, policies .1, ap length (c .same NODE (omega arith)), count-rows a′ NODE, count-rows a″ NODE);
       }
 
     accepted-is : fitted (length out) (length (answer m (read m sheet .state))) ≡ readAs m (length out) (read m sheet)
