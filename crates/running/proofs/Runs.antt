@@ -11,10 +11,10 @@ use Rattle.words.specs.Log.{room}
 use Rattle.words.proofs.Stores.{take-sets, drop-sets, part-sets}
 use Rattle.sheet.specs.Forms.{at, keep, noKey, DAY, POLICY, TERM}
 use Rattle.sheet.specs.Content.{runsOn, running, onTerm}
-use Rattle.table.specs.Layout.{part, limits, limit, RUN, MADE, TOP, rowsAt, rowsOf, held, withRow, Last, Sound}
+use Rattle.table.specs.Layout.{part, limits, limit, RUN, MADE, TOP, RUN-WORDS, rowsAt, rowsOf, held, withRow, Last, Sound}
 use Rattle.table.proofs.Rows.{count-rows, limit-small, lines-held}
 use Rattle.table.proofs.Frame.{word-kept, rows-kept, sound-kept, length-new, top-new, count-new, count-other, rest-new, rows-other, rows-own, sound-new}
-use Rattle.running.specs.Chosen.{ROW, Choosable, Chosen, Runnable, withRun}
+use Rattle.running.specs.Chosen.{Choosable, Chosen, Runnable, withRun}
 
 -- ---- one row more
 
@@ -84,7 +84,7 @@ module _ (a : List ℕ) (s : Sound a) (r : List ℕ) where
 
 -- ---- the row of a policy once more
 
-four-words : (r : List ℕ) (x y z u : ℕ) → length r ≡ ROW → x ≡ getD r 0 0 → y ≡ getD r 1 0 → z ≡ getD r 2 0 → u ≡ getD r 3 0 → x ∷ y ∷ z ∷ u ∷ [] ≡ r
+four-words : (r : List ℕ) (x y z u : ℕ) → length r ≡ RUN-WORDS → x ≡ getD r 0 0 → y ≡ getD r 1 0 → z ≡ getD r 2 0 → u ≡ getD r 3 0 → x ∷ y ∷ z ∷ u ∷ [] ≡ r
 four-words [] x y z u h ex ey ez eu = absurd (omega arith)
 four-words (a ∷ []) x y z u h ex ey ez eu = absurd (omega arith)
 four-words (a ∷ b ∷ []) x y z u h ex ey ez eu = absurd (omega arith)
@@ -98,11 +98,11 @@ module _ (a : List ℕ) (p : ℕ) (f : Runnable a p) (top : ℕ) (et : top ≡ g
 
   pub run-is : (line : List ℕ) (x y z u : ℕ) (w w′ : List ℕ) → line ≡ getD (rowsOf a POLICY) p []
       → x ≡ getD line 0 0 → y ≡ getD line 1 0 → z ≡ getD line 2 0 → u ≡ getD line 3 0
-      → w ≡ sets a top (x ∷ y ∷ z ∷ u ∷ []) → w′ ≡ withRow w RUN (top + ROW) → w′ ≡ withRun a (getD (rowsOf a POLICY) p [])
+      → w ≡ sets a top (x ∷ y ∷ z ∷ u ∷ []) → w′ ≡ withRow w RUN (top + RUN-WORDS) → w′ ≡ withRun a (getD (rowsOf a POLICY) p [])
   unfolding withRun
   run-is line x y z u w w′ el ex ey ez eu e e′ =
       let four : x ∷ y ∷ z ∷ u ∷ [] ≡ getD (rowsOf a POLICY) p [] = four-words line x y z u (ap length el ∙ f .row) ex ey ez eu ∙ el in
-      let m : top + ROW ≡ getD a TOP 0 + length (getD (rowsOf a POLICY) p []) = omega (arith, f .row) in
+      let m : top + RUN-WORDS ≡ getD a TOP 0 + length (getD (rowsOf a POLICY) p []) = omega (arith, f .row) in
       e′ ∙ ap₂ (λ (v : List ℕ) (t : ℕ). withRow v RUN t) (e ∙ ap₂ (sets a) et four) m
 
 -- ---- what is left to choose
@@ -115,7 +115,7 @@ pub record Choosing (a w : List ℕ) (day i : ℕ) : Type 0 where
   pub sound : Sound w
   pub made : getD w MADE 0 ≡ 0
   pub few : getD w RUN 0 ≤ i
-  pub top : getD w TOP 0 ≤ getD a TOP 0 + ROW * i
+  pub top : getD w TOP 0 ≤ getD a TOP 0 + RUN-WORDS * i
   pub long : length w ≡ length a
   pub rest : drop room w ≡ drop room a
 

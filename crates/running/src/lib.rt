@@ -3,6 +3,7 @@ use forms::DAY;
 use forms::POLICY;
 use forms::TERM;
 use table::RUN;
+use table::RUN_WORDS;
 use table::TOP;
 use table::add_row;
 use table::count;
@@ -19,9 +20,6 @@ ghost use Rattle.sheet.specs.Forms.{at, POLICY, TERM};
 ghost use Rattle.sheet.specs.Content.{runsOn};
 ghost use Rattle.table.specs.Layout.{rowsOf};
 ghost use Rattle.running.specs.Chosen.{Choosable, Chosen, Runnable, withRun};
-
-// The words of a policy's row: its tag, id, effect and node.
-const ROW: u32 = 4;
 
 // Whether a day is one of a term's: both edge days are.
 fn is_within(term: &[u32], day: u32) -> bool
@@ -58,7 +56,7 @@ fn run_row(rows: &mut [u32], policy: u32)
     let words = [item(line, 0), item(line, 1), item(line, 2), item(line, 3)];
     let top = read(rows, TOP);
     store(rows, top as usize, &words);
-    add_row(rows, RUN, top + ROW);
+    add_row(rows, RUN, top + RUN_WORDS);
 }
 
 // The policies that run, in the sheet's order.

@@ -23,6 +23,10 @@ part w s e = take (e - s) (drop s w)
 abbrev pub TOP : ℕ
 TOP = MADE + 1
 
+-- the words of the row of a policy that runs: tag, id, effect and node
+abbrev pub RUN-WORDS : ℕ
+RUN-WORDS = 4
+
 -- the greatest number of rows of each key, of policies that run and of made values
 unfoldable pub limits : List ℕ
 limits = K.limits

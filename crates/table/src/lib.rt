@@ -21,6 +21,9 @@ pub const MADE: usize = forms::MADE;
 
 pub const TOP: usize = MADE + 1;
 
+// The words of the row of a policy that runs: tag, id, effect and node.
+pub const RUN_WORDS: u32 = 4;
+
 // Where the first row begins.
 pub const HEAP: usize = forms::HEAP;
 

@@ -3,16 +3,8 @@ use mathlib.Core.List.{List}
 use Prim.Native.Nat.{ℕ, _+_, _*_, _≤_}
 use lib.ListN.{getD}
 use Rattle.sheet.specs.Forms.{NODE}
-use Rattle.table.specs.Layout.{RUN, TOP, heap, limit}
-
--- the row of a policy that runs: its tag, id, effect and node
-abbrev pub POLICY-WORDS : ℕ
-POLICY-WORDS = 4
-
--- what the rows of all policies that run take at most
-abbrev pub RUN-WORDS : ℕ
-RUN-WORDS = POLICY-WORDS * limit RUN
+use Rattle.table.specs.Layout.{RUN, TOP, RUN-WORDS, heap, limit}
 
 -- of the 16,384 bytes of a sheet each item of a row takes two at least, and a node's line six more; then come the rows of the policies that run
 abbrev pub Fits : List ℕ → Type 0
-Fits a = 2 * getD a TOP 0 + 6 * getD a NODE 0 ≤ 2 * heap + 16384 + 2 * RUN-WORDS
+Fits a = 2 * getD a TOP 0 + 6 * getD a NODE 0 ≤ 2 * heap + 16384 + 2 * (RUN-WORDS * limit RUN)
