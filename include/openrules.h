@@ -10,6 +10,8 @@
  *   3 to 8, line, 0   the sheet is faulty, first at that line
  *   10, 0, needed     the answer buffer is shorter than the answer
  *
+ * Every sheet has a line `day=yyyy-mm-dd`; the answer has nothing of a policy whose `term` line does not hold that day.
+ *
  * After 1 the work slices are untouched, otherwise their first 16,384 words are 0 and the rest untouched. The answer
  * buffer changes only in the bytes written. Nothing is kept between calls, so calls in slices of their own may run at the same time.
  *

@@ -20,11 +20,11 @@ from sheets import HERE, known, printed
 TREE = os.path.join(HERE, "target", "cases")
 UNFOLD = (
     "printedOf keys forms formOf slotAt counted tagOf rowOf keyOf refs ascendings fitsIn typed found depth fault "
-    "more read types valueRows contents schema trees exprs nPolicies policies nEnv env run results answer returned "
+    "more read types valueRows contents schema trees exprs onTerm nPolicies policies nEnv env run results answer returned "
     "order sameV place insert ascending makeSet"
 )
 # sheets of 1,024 and 1,025 values, given or made, which the prover does not compute within its limit; any other sheet without verdict is a failure
-UNDECIDED = ("value-1024", "value-1025", "2.5 many-made-2.5")
+UNDECIDED = ("value-1024", "value-1025", "2.9 many-made-2.9")
 HEAD = """use mathlib.Core.Path.{_≡_, refl}
 use mathlib.Core.List.{List, [], _∷_, _++_}
 use Prim.Native.Nat.{ℕ, zero, suc}
@@ -34,7 +34,7 @@ use Rattle.sheet.specs.Ascii.{ascii}
 use Rattle.sheet.specs.Forms.{Mode, partial, complete, keys, forms, formOf, slotAt, counted, tagOf, rowOf, keyOf, refs, ascendings}
 use Rattle.sheet.specs.Typing.{fitsIn, typed}
 use Rattle.sheet.specs.Sheet.{found, depth, fault, more, read}
-use Rattle.sheet.specs.Content.{types, valueRows, contents, schema, trees, exprs, nPolicies, policies, nEnv, env}
+use Rattle.sheet.specs.Content.{types, valueRows, contents, schema, trees, exprs, onTerm, nPolicies, policies, nEnv, env}
 use Rattle.sheet.specs.Answer.{run, results, answer, printed, numbers}
 use Rattle.sheet.specs.Call.{Returned, returned}
 

@@ -4,7 +4,7 @@ use std::collections::HashMap;
 use std::fmt::Write;
 
 use crate::sheet::{
-    declaration, EntityRow, Mode, NodeRow, One, Operation, PolicyRow, ShapeRow, TypeRow, ValueRow, Variable, TWO,
+    declaration, Day, EntityRow, Mode, NodeRow, One, Operation, PolicyRow, ShapeRow, TermRow, TypeRow, ValueRow, Variable, TWO,
 };
 
 #[derive(Clone)]
@@ -20,8 +20,10 @@ pub struct Draft {
     pub action: (u32, u32),
     pub resource: (u32, Option<u32>),
     pub context: (u32, Option<u32>),
+    pub day: Day,
     pub nodes: Vec<NodeRow>,
     pub policies: Vec<PolicyRow>,
+    pub terms: Vec<TermRow>,
     places: HashMap<ValueRow, u32>,
 }
 
@@ -39,8 +41,10 @@ impl Draft {
             action: (0, 0),
             resource: (0, None),
             context: (0, None),
+            day: (2000, 1, 1),
             nodes: Vec::new(),
             policies: Vec::new(),
+            terms: Vec::new(),
             places: HashMap::new(),
         }
     }
@@ -140,11 +144,15 @@ impl Draft {
         line(format!("action={},{}", self.action.0, self.action.1));
         line(format!("resource={},{}", self.resource.0, part(self.resource.1)));
         line(format!("context={},{}", self.context.0, part(self.context.1)));
+        line(format!("day={}", day_text(self.day)));
         for row in &self.nodes {
             line(node_line(row));
         }
         for row in &self.policies {
             line(format!("policy={},{},{}", row.id, if row.permit { "permit" } else { "forbid" }, row.node));
+        }
+        for row in &self.terms {
+            line(format!("term={},{},{}", row.policy, day_text(row.first), day_text(row.last)));
         }
         lines
     }
@@ -162,6 +170,10 @@ pub fn bytes_of(lines: &[Vec<u8>]) -> Vec<u8> {
         bytes.push(b'\n');
     }
     bytes
+}
+
+pub fn day_text((year, month, day): Day) -> String {
+    format!("{year:04}-{month:02}-{day:02}")
 }
 
 /// Each number after a comma.

@@ -1,8 +1,8 @@
 //! Random sheets: valid ones with every operation, complete ones that agree with a partial one, and damaged ones.
 
-use crate::draft::{bytes_of, Draft};
+use crate::draft::{bytes_of, day_text, Draft};
 use crate::random::Random;
-use crate::sheet::{EntityRow, Mode, One, Operation, ShapeRow, Two, TypeRow, ValueRow, Variable};
+use crate::sheet::{days_in, Day, EntityRow, Mode, One, Operation, ShapeRow, TermRow, Two, TypeRow, ValueRow, Variable};
 
 /// A sheet and the entry that it is handed to.
 pub struct Case {
@@ -103,6 +103,7 @@ pub fn valid(random: &mut Random) -> Draft {
     let size = [20, 60, 150][random.below(3)];
     random_policies(&mut draft, random, size);
     random_entities(&mut draft, random, 60);
+    random_terms(&mut draft, random);
     draft
 }
 
@@ -264,6 +265,91 @@ fn random_policies(draft: &mut Draft, random: &mut Random, size: usize) {
         let left = size.saturating_sub(draft.nodes.len());
         let node = tree(draft, random, bool_type, if left == 0 { 0 } else { depth });
         draft.policy(id, random.chance(60), node);
+    }
+}
+
+const FIRST_DAY: Day = (1900, 1, 1);
+const LAST_DAY: Day = (2199, 12, 31);
+
+/// Days at the ends of months and years, around leap days, and the first and last of all.
+const DAYS: [Day; 20] = [
+    FIRST_DAY,
+    (1900, 1, 2),
+    (1900, 2, 28),
+    (1900, 3, 1),
+    (1999, 12, 31),
+    (2000, 1, 1),
+    (2000, 2, 28),
+    (2000, 2, 29),
+    (2000, 3, 1),
+    (2023, 2, 28),
+    (2024, 2, 29),
+    (2024, 4, 30),
+    (2024, 5, 1),
+    (2024, 12, 31),
+    (2025, 1, 1),
+    (2100, 2, 28),
+    (2100, 3, 1),
+    (2100, 12, 31),
+    (2199, 12, 30),
+    LAST_DAY,
+];
+
+fn random_day(random: &mut Random) -> Day {
+    if random.chance(60) {
+        return random.pick(&DAYS);
+    }
+    let (year, month) = (random.from(1900, 2199) as u32, random.from(1, 12) as u32);
+    (year, month, random.from(1, days_in(year, month) as usize) as u32)
+}
+
+/// The day after; the last of all stays.
+fn day_after(day: Day) -> Day {
+    match day {
+        LAST_DAY => LAST_DAY,
+        (year, month, day) if day < days_in(year, month) => (year, month, day + 1),
+        (year, 12, _) => (year + 1, 1, 1),
+        (year, month, _) => (year, month + 1, 1),
+    }
+}
+
+/// The day before; the first of all stays.
+fn day_before(day: Day) -> Day {
+    match day {
+        FIRST_DAY => FIRST_DAY,
+        (year, 1, 1) => (year - 1, 12, 31),
+        (year, month, 1) => (year, month - 1, days_in(year, month - 1)),
+        (year, month, day) => (year, month, day - 1),
+    }
+}
+
+/// A term near a day: it begins or ends on that day or beside it, holds it, or is anywhere.
+fn random_term(random: &mut Random, day: Day) -> (Day, Day) {
+    let other = random_day(random);
+    match random.below(9) {
+        0 => (day, day.max(other)),
+        1 => (day.min(other), day),
+        2 => (day_after(day), day_after(day).max(other)),
+        3 => (day_before(day).min(other), day_before(day)),
+        4 => (day, day),
+        5 => (day_before(day), day_after(day)),
+        6 => (FIRST_DAY, LAST_DAY),
+        _ => {
+            let another = random_day(random);
+            (other.min(another), other.max(another))
+        }
+    }
+}
+
+/// The day, and terms for some of the policies.
+fn random_terms(draft: &mut Draft, random: &mut Random) {
+    draft.day = random_day(random);
+    let chosen = [0, 30, 60, 100][random.below(4)];
+    for policy in 0..draft.policies.len() as u32 {
+        if random.chance(chosen) {
+            let (first, last) = random_term(random, draft.day);
+            draft.terms.push(TermRow { policy, first, last });
+        }
     }
 }
 
@@ -611,7 +697,7 @@ fn garbage(random: &mut Random) -> Vec<u8> {
         let length = if random.chance(5) { random.from(16000, 70000) } else { random.below(300) };
         return (0..length).map(|_| random.next() as u8).collect();
     }
-    let lines: [&[u8]; 14] = [
+    let lines: [&[u8]; 15] = [
         b"sheet=partial",
         b"text=a",
         b"text=b",
@@ -625,6 +711,7 @@ fn garbage(random: &mut Random) -> Vec<u8> {
         b"action=1,0",
         b"resource=0,?",
         b"context=1,?",
+        b"day=2000-01-01",
         b"node=0,err",
     ];
     let mut picked: Vec<Vec<u8>> = lines.iter().filter(|_| random.chance(80)).map(|line| line.to_vec()).collect();
@@ -670,13 +757,42 @@ const ITEMS: [&[u8]; 28] = [
     b"forbid",
 ];
 
+/// Items that are no days of a term.
+const NO_DAYS: [&[u8]; 25] = [
+    b"2100-02-29",
+    b"1900-02-29",
+    b"2023-02-29",
+    b"2000-02-30",
+    b"1899-12-31",
+    b"2200-01-01",
+    b"0000-00-00",
+    b"9999-12-31",
+    b"2000-00-01",
+    b"2000-13-01",
+    b"2000-01-00",
+    b"2000-01-32",
+    b"2000-04-31",
+    b"2000-1-01",
+    b"2000-01-1",
+    b"2000-001-1",
+    b"02000-01-01",
+    b"2000-01-01 ",
+    b"2000-01-0a",
+    b"2000/01/01",
+    b"2000-01_01",
+    b"+200-01-01",
+    b"20000101",
+    b"?",
+    b"",
+];
+
 /// Damages one line, or their order.
 fn damage(lines: &mut Vec<Vec<u8>>, random: &mut Random) {
     if lines.is_empty() {
         return;
     }
     let at = random.below(lines.len());
-    match random.below(20) {
+    match random.below(23) {
         0 => {
             lines.remove(at);
         }
@@ -700,6 +816,8 @@ fn damage(lines: &mut Vec<Vec<u8>>, random: &mut Random) {
                 b"value=bool,0",
                 b"type=long",
                 b"principal=0,0",
+                b"day=2000-01-01",
+                b"term=0,2000-01-01,2000-01-01",
             ]);
             lines.insert(at, line.to_vec());
         }
@@ -739,6 +857,17 @@ fn damage(lines: &mut Vec<Vec<u8>>, random: &mut Random) {
             if !line.is_empty() {
                 let place = random.below(line.len());
                 line[place] = random.below(256) as u8;
+            }
+        }
+        19..=21 => {
+            // Another item on the line of the day or of a term: a day that is none, mostly.
+            let dated: Vec<usize> =
+                (0..lines.len()).filter(|at| lines[*at].starts_with(b"day=") || lines[*at].starts_with(b"term=")).collect();
+            if !dated.is_empty() {
+                replace_item(&mut lines[random.pick(&dated)], random, |random, _| match random.below(4) {
+                    0 => day_text(random_day(random)).into_bytes(),
+                    _ => random.pick(&NO_DAYS).to_vec(),
+                });
             }
         }
         _ => {
@@ -788,7 +917,7 @@ fn damaged_draft(mut draft: Draft, random: &mut Random) -> Case {
     if random.chance(30) {
         draft = completion(&draft, random);
     }
-    match random.below(9) {
+    match random.below(11) {
         0 | 1 if !draft.nodes.is_empty() => {
             let n = random.below(draft.nodes.len());
             draft.nodes[n].ty = random.below(draft.types.len()) as u32;
@@ -825,6 +954,7 @@ fn damaged_draft(mut draft: Draft, random: &mut Random) -> Case {
                 _ => draft.principal.0 = kind as u32,
             }
         }
+        8 | 9 if !draft.policies.is_empty() => damage_terms(&mut draft, random),
         _ => {
             // A node whose second child is another one.
             for row in &mut draft.nodes {
@@ -838,6 +968,26 @@ fn damaged_draft(mut draft: Draft, random: &mut Random) -> Case {
         }
     }
     case(&draft)
+}
+
+/// Terms with a last day before the first, a repeat, another order, or a policy that is not there.
+fn damage_terms(draft: &mut Draft, random: &mut Random) {
+    let policies = draft.policies.len() as u32;
+    if draft.terms.is_empty() {
+        let (first, last) = random_term(random, draft.day);
+        draft.terms.push(TermRow { policy: random.below(policies as usize) as u32, first, last });
+    }
+    let at = random.below(draft.terms.len());
+    match random.below(5) {
+        0 => draft.terms[at].last = day_before(draft.terms[at].first),
+        1 => {
+            let again = TermRow { first: FIRST_DAY, ..draft.terms[at].clone() };
+            draft.terms.insert(at, again);
+        }
+        2 => draft.terms.reverse(),
+        3 => draft.terms.push(TermRow { policy: policies, first: FIRST_DAY, last: LAST_DAY }),
+        _ => draft.terms[at].policy = random.below(policies as usize + 2) as u32,
+    }
 }
 
 // Limits -----------------------------------------------------------------------------------------------------------------
@@ -864,7 +1014,7 @@ pub fn at_limit(random: &mut Random) -> Case {
     limit(random.below(LIMITS), over, random)
 }
 
-pub const LIMITS: usize = 17;
+pub const LIMITS: usize = 22;
 
 /// The limit of a number, met (`over` 0) or exceeded by one.
 pub fn limit(which: usize, over: usize, random: &mut Random) -> Case {
@@ -1008,7 +1158,7 @@ pub fn limit(which: usize, over: usize, random: &mut Random) -> Case {
             // A second line of a one-line key.
             let mut lines = draft.lines();
             if over == 1 {
-                let key = random.pick(&[&b"sheet="[..], b"principal=", b"action=", b"resource=", b"context="]);
+                let key = random.pick(&[&b"sheet="[..], b"principal=", b"action=", b"resource=", b"context=", b"day="]);
                 let at = lines.iter().position(|line| line.starts_with(key)).expect("the line");
                 let line = lines[at].clone();
                 lines.insert(at, line);
@@ -1029,6 +1179,28 @@ pub fn limit(which: usize, over: usize, random: &mut Random) -> Case {
             let node = draft.node(0, Operation::Two(Two::Eq, x, y));
             draft.policy(3, true, node);
         }
+        16 => {
+            // 64 policies with as many terms around the day, and perhaps a term more, which repeats one.
+            for n in 0..64 {
+                let id = draft.text(format!("p{n}").as_bytes());
+                let node = draft.node(0, Operation::Err);
+                draft.policy(id, n % 2 == 0, node);
+                let (first, last) = random_term(random, draft.day);
+                draft.terms.push(TermRow { policy: n, first, last });
+            }
+            let last = draft.terms[63].clone();
+            draft.terms.extend(vec![last; over]);
+        }
+        17 => draft.day = [FIRST_DAY, (1899, 12, 31)][over],
+        18 => draft.day = [LAST_DAY, (2200, 1, 1)][over],
+        19 => draft.day = [(2000, 2, 29), (2100, 2, 29)][over],
+        20 => {
+            // A term of one day, or one that ends the day before it begins.
+            let node = draft.node(0, Operation::Err);
+            draft.policy(3, true, node);
+            let last = if over == 0 { draft.day } else { day_before(draft.day) };
+            draft.terms.push(TermRow { policy: 0, first: draft.day, last });
+        }
         _ => {
             // A pattern with many stars on a text that almost matches.
             let t = draft.text(&[&vec![b'a'; 127 - over][..], b"b"].concat());
@@ -1044,4 +1216,19 @@ pub fn limit(which: usize, over: usize, random: &mut Random) -> Case {
         }
     }
     case(&draft)
+}
+
+#[cfg(test)]
+mod tests {
+    use super::*;
+
+    #[test]
+    fn days_in_a_row() {
+        let mut days = vec![FIRST_DAY];
+        while day_after(days[days.len() - 1]) != days[days.len() - 1] {
+            days.push(day_after(days[days.len() - 1]));
+        }
+        assert_eq!((days.len(), days[days.len() - 1]), (300 * 365 + 73, LAST_DAY));
+        assert!(days.windows(2).all(|pair| pair[0] < pair[1] && day_before(pair[1]) == pair[0]));
+    }
 }

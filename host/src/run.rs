@@ -289,14 +289,14 @@ fn partial_entities(sheet: &Sheet, ground: &Ground) -> PartialEntities {
     entities
 }
 
-/// The residuals of all policies, by the original's `interpret`.
+/// The residuals of the policies on term, by the original's `interpret`, which never sees the others.
 fn residuals(sheet: &Sheet, ground: &Ground, request: &PartialRequest, entities: &PartialEntities) -> Vec<ResidualPolicy> {
     let one = |row: &sheet::PolicyRow| {
         let tree = ground.tree(&sheet.nodes, row.node, &|n| n);
         let residual = original::tpe::interpret(request, entities, &ground.schema, ground.heavy, &tree);
         ResidualPolicy::new(Arc::new(residual), Arc::new(policy_of(row, Expr::val(true))))
     };
-    sheet.policies.iter().map(one).collect()
+    sheet.on_term().into_iter().map(one).collect()
 }
 
 fn partial_answer(sheet: &Sheet, ground: &Ground) -> String {
@@ -328,7 +328,7 @@ fn partial_answer(sheet: &Sheet, ground: &Ground) -> String {
     }
     let mut nodes = 0;
     let mut policies = String::new();
-    for (row, residual) in sheet.policies.iter().zip(&residuals) {
+    for (row, residual) in sheet.on_term().into_iter().zip(&residuals) {
         let root = push_tree(&mut text, ground, residual.as_residual(), &mut nodes);
         policies.push_str(&format!("policy={},{},{},{root}\n", row.id, effect_word(row.permit), classes[&row.id]));
     }
@@ -401,7 +401,7 @@ fn complete_answer(sheet: &Sheet, ground: &Ground) -> String {
     let complete = Complete::of(sheet, ground);
     let mut counts = [0; 8];
     let mut policies = String::new();
-    for row in &sheet.policies {
+    for row in sheet.on_term() {
         let class = class_of(complete.yields(ground.tree(&sheet.nodes, row.node, &|n| n)));
         let place = ["true", "false", "error"].iter().position(|word| *word == class).expect("a class");
         counts[if row.permit { place } else { 4 + place }] += 1;
@@ -550,7 +550,7 @@ pub fn demand3(sheets: [&[u8]; 3], answers: [&[u8]; 3]) -> Result<(), String> {
     let partial = said(Mode::Partial, answers[0]).ok_or("the partial answer does not read back")?;
     let sum: usize = partial.counts.iter().sum();
     if partial.counts.len() != 8 || sum != partial.policies.len() {
-        return Err("the partial counts do not sum to the policies".into());
+        return Err("the partial counts do not sum to the policies on term".into());
     }
     let first = sheet::read(Mode::Partial, sheets[0]).map_err(|_| "the partial sheet is refused")?;
     let given = first.values.len();
@@ -560,7 +560,11 @@ pub fn demand3(sheets: [&[u8]; 3], answers: [&[u8]; 3]) -> Result<(), String> {
         if ["allow", "deny"].contains(&partial.decision.as_str()) && partial.decision != complete.decision {
             return Err(format!("decision {} became {}", partial.decision, complete.decision));
         }
-        if partial.policies.len() != complete.policies.len() || partial.policies.len() != sheet.policies.len() {
+        if (first.day, &first.terms) != (sheet.day, &sheet.terms) {
+            return Err("the sheets do not agree: another day or term".into());
+        }
+        let policies = sheet.on_term();
+        if partial.policies.len() != complete.policies.len() || partial.policies.len() != policies.len() {
             return Err("the policies are not as many".into());
         }
         let ground = Ground::of(&sheet);
@@ -571,7 +575,7 @@ pub fn demand3(sheets: [&[u8]; 3], answers: [&[u8]; 3]) -> Result<(), String> {
             let value = ground.value(row, |n| places[n as usize]);
             places.push(rows::number(&value));
         }
-        for (n, row) in sheet.policies.iter().enumerate() {
+        for (n, row) in policies.into_iter().enumerate() {
             let (old, new) = (&partial.policies[n], &complete.policies[n]);
             if (old.0, &old.1) != (new.0, &new.1) || old.0 != row.id {
                 return Err(format!("policy line {n} names another policy"));

@@ -1,4 +1,4 @@
-//! The sheet, read from its bytes, with refusals 2 to 8. Written from document 01, apart from the proved code.
+//! The sheet, read from its bytes, with refusals 2 to 8. Written from documents 01 and 02, apart from the proved code.
 //!
 //! Each line goes through the checks in the order of their numbers: form (3), too many (4), references (5), depth (6),
 //! typing (7), uses (8). The first faulty line ends the reading.
@@ -47,11 +47,13 @@ pub enum Key {
     Action,
     Resource,
     Context,
+    Day,
     Node,
     Policy,
+    Term,
 }
 
-const KEYS: [(&[u8], Key); 13] = [
+const KEYS: [(&[u8], Key); 15] = [
     (b"sheet", Key::Sheet),
     (b"text", Key::Text),
     (b"kind", Key::Kind),
@@ -63,8 +65,10 @@ const KEYS: [(&[u8], Key); 13] = [
     (b"action", Key::Action),
     (b"resource", Key::Resource),
     (b"context", Key::Context),
+    (b"day", Key::Day),
     (b"node", Key::Node),
     (b"policy", Key::Policy),
+    (b"term", Key::Term),
 ];
 
 #[derive(Clone, Debug, PartialEq, Eq, Hash)]
@@ -204,6 +208,16 @@ pub struct PolicyRow {
     pub node: u32,
 }
 
+/// Year, month and day; later days are greater.
+pub type Day = (u32, u32, u32);
+
+#[derive(Clone, Debug, PartialEq, Eq)]
+pub struct TermRow {
+    pub policy: u32,
+    pub first: Day,
+    pub last: Day,
+}
+
 /// A line that has a right form.
 enum Row<'a> {
     Sheet,
@@ -216,8 +230,10 @@ enum Row<'a> {
     /// Principal, action and resource.
     Request(u32, Option<u32>),
     Context(u32, Option<u32>),
+    Day(Day),
     Node(NodeRow),
     Policy(PolicyRow),
+    Term(TermRow),
 }
 
 /// The rows of a sheet by key.
@@ -234,8 +250,10 @@ pub struct Sheet<'a> {
     pub action: (u32, u32),
     pub resource: (u32, Option<u32>),
     pub context: (u32, Option<u32>),
+    pub day: Day,
     pub nodes: Vec<NodeRow>,
     pub policies: Vec<PolicyRow>,
+    pub terms: Vec<TermRow>,
 }
 
 /// A sheet while it is read.
@@ -291,7 +309,7 @@ pub fn read(mode: Mode, bytes: &[u8]) -> Result<Sheet<'_>, Refusal> {
         }
         rest = &rest[end + 1..];
     }
-    if !reader.seen.contains(&Key::Context) {
+    if !reader.seen.contains(&Key::Day) {
         return refuse(3, line + 1);
     }
     if let Some(unused) = reader.used.iter().position(|used| !used) {
@@ -334,6 +352,30 @@ fn index_or(item: &[u8], mark: &[u8]) -> Option<Option<u32>> {
         return Some(None);
     }
     index(item).map(Some)
+}
+
+/// The days of a month, none where there is no such month.
+pub fn days_in(year: u32, month: u32) -> u32 {
+    match month {
+        2 if year % 4 == 0 && (year % 100 != 0 || year % 400 == 0) => 29,
+        2 => 28,
+        4 | 6 | 9 | 11 => 30,
+        1..=12 => 31,
+        _ => 0,
+    }
+}
+
+/// `yyyy-mm-dd`, "Gregorian, 1900-01-01 to 2199-12-31".
+pub fn day(item: &[u8]) -> Option<Day> {
+    let number = |digits: &[u8]| {
+        let all = digits.iter().all(u8::is_ascii_digit);
+        all.then(|| digits.iter().fold(0, |n, digit| 10 * n + u32::from(digit - b'0')))
+    };
+    let [y0, y1, y2, y3, b'-', m0, m1, b'-', d0, d1] = *item else {
+        return None;
+    };
+    let (year, month, day) = (number(&[y0, y1, y2, y3])?, number(&[m0, m1])?, number(&[d0, d1])?);
+    ((1900..=2199).contains(&year) && (1..=days_in(year, month)).contains(&day)).then_some((year, month, day))
 }
 
 fn pairs(items: &[&[u8]]) -> Option<Vec<(u32, u32)>> {
@@ -508,6 +550,7 @@ impl<'a> Reader<'a> {
             (Key::Principal | Key::Resource, 2) => Some(Row::Request(index(items[0])?, self.known_or_not(items[1])?)),
             (Key::Action, 2) => Some(Row::Request(index(items[0])?, Some(index(items[1])?))),
             (Key::Context, 2) => Some(Row::Context(index(items[0])?, self.known_or_not(items[1])?)),
+            (Key::Day, 1) => day(items[0]).map(Row::Day),
             (Key::Node, n) if n >= 2 => {
                 let operation = form_operation(items[1], &items[2..])?;
                 Some(Row::Node(NodeRow { ty: index(items[0])?, operation }))
@@ -520,13 +563,14 @@ impl<'a> Reader<'a> {
                 };
                 Some(Row::Policy(PolicyRow { id: index(items[0])?, permit, node: index(items[2])? }))
             }
+            (Key::Term, 3) => Some(Row::Term(TermRow { policy: index(items[0])?, first: day(items[1])?, last: day(items[2])? })),
             _ => None,
         }
     }
 
     /// No later key was read, and no line that must stand before is missing.
     fn in_order(&self, key: Key) -> bool {
-        let needed = [Key::Sheet, Key::Principal, Key::Action, Key::Resource, Key::Context];
+        let needed = [Key::Sheet, Key::Principal, Key::Action, Key::Resource, Key::Context, Key::Day];
         key >= self.last
             && needed.iter().all(|one| *one >= key || self.seen.contains(one))
             && (key <= Key::Shape || self.sheet.shapes.len() == self.sheet.kinds.len())
@@ -545,6 +589,7 @@ impl<'a> Reader<'a> {
             Key::Entity => (sheet.entities.len(), 128),
             Key::Node => (sheet.nodes.len(), 1024),
             Key::Policy => (sheet.policies.len(), 64),
+            Key::Term => (sheet.terms.len(), 64),
             one => (self.seen.contains(&one) as usize, 1),
         };
         count >= greatest
@@ -560,7 +605,7 @@ impl<'a> Reader<'a> {
         let value = |n: u32| below(sheet.values.len(), n);
         let node = |n: u32| below(sheet.nodes.len(), n);
         match row {
-            Row::Sheet => true,
+            Row::Sheet | Row::Day(_) => true,
             Row::Text(bytes) => !self.text_places.contains(bytes),
             Row::Kind(name, _) => text(*name) && sheet.kinds.iter().all(|(other, _)| other != name),
             Row::Type(row) => {
@@ -620,6 +665,11 @@ impl<'a> Reader<'a> {
                     }
             }
             Row::Policy(row) => text(row.id) && node(row.node) && sheet.policies.iter().all(|other| other.id != row.id),
+            Row::Term(row) => {
+                below(sheet.policies.len(), row.policy)
+                    && sheet.terms.last().is_none_or(|before| before.policy < row.policy)
+                    && row.first <= row.last
+            }
         }
     }
 
@@ -802,6 +852,7 @@ impl<'a> Reader<'a> {
                 _ => sheet.resource = (kind, text),
             },
             Row::Context(ty, value) => sheet.context = (ty, value),
+            Row::Day(day) => sheet.day = day,
             Row::Node(row) => {
                 self.node_depths.push(depth);
                 self.node_lines.push(line);
@@ -809,6 +860,7 @@ impl<'a> Reader<'a> {
                 sheet.nodes.push(row);
             }
             Row::Policy(row) => sheet.policies.push(row),
+            Row::Term(row) => sheet.terms.push(row),
         }
     }
 }
@@ -830,6 +882,15 @@ fn required_there(declared: &[(u32, bool, u32)], fields: &[(u32, u32)]) -> bool 
 }
 
 impl Sheet<'_> {
+    /// The policies that run on the sheet's day: "Both edge days belong to the term", "Without a term it always runs."
+    pub fn on_term(&self) -> Vec<&PolicyRow> {
+        let runs = |n: u32| {
+            let term = self.terms.iter().find(|term| term.policy == n);
+            term.is_none_or(|term| (term.first..=term.last).contains(&self.day))
+        };
+        (0..).zip(&self.policies).filter(|(n, _)| runs(*n)).map(|(_, row)| row).collect()
+    }
+
     /// The declared attributes of a record or entity type.
     pub fn attributes<'s>(&'s self, row: &'s TypeRow) -> Option<&'s [(u32, bool, u32)]> {
         match row {
@@ -865,5 +926,24 @@ impl Sheet<'_> {
             }
         }
         true
+    }
+}
+
+#[cfg(test)]
+mod tests {
+    use super::*;
+
+    #[test]
+    fn days() {
+        let text = |(year, month, day): Day| format!("{year:04}-{month:02}-{day:02}").into_bytes();
+        let every = || (0..2300).flat_map(|year| (0..14).flat_map(move |month| (0..33).map(move |day| (year, month, day))));
+        let days: Vec<Day> = every().filter_map(|given| day(&text(given)).inspect(|found| assert_eq!(*found, given))).collect();
+        // 300 years, 73 of them with a leap day.
+        assert_eq!(days.len(), 300 * 365 + 73);
+        assert_eq!((days[0], days[days.len() - 1]), ((1900, 1, 1), (2199, 12, 31)));
+        assert!(day(b"2000-02-29").is_some() && day(b"2100-02-29").is_none() && day(b"1900-02-29").is_none());
+        for wrong in [&b""[..], b"?", b"2000-1-01", b"2000-01-1", b"2000-01-011", b"2000/01/01", b"+200-01-01", b"2000-01- 1"] {
+            assert_eq!(day(wrong), None);
+        }
     }
 }

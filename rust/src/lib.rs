@@ -1,7 +1,7 @@
 //! A partial evaluator for Cedar policies, proved: a safe crate over its static library.
 //!
-//! A *sheet* is a text of `key=value` lines with a schema, known values and entities, a request and policies. The answer says
-//! for each policy whether it is true, false, in error or open, what is left of it, and the decision. The library is written
+//! A *sheet* is a text of `key=value` lines with a schema, known values and entities, a request, its day, policies and their terms. The
+//! answer says for each policy on term that day whether it is true, false, in error or open, what is left of it, and the decision. The library is written
 //! in Rattle, and every function of it is proved to meet its contract; the repository's README.md says what is proved and what is assumed.
 //!
 //! [`Evaluator`] keeps the slices that a call works in and gives an [`Outcome`]:
@@ -23,6 +23,7 @@
 //! action=1,2
 //! resource=0,?
 //! context=0,?
+//! day=2026-06-30
 //! ";
 //! let mut evaluator = Evaluator::new();
 //! match evaluator.partial(sheet.as_bytes()) {
@@ -105,9 +106,9 @@ impl Refusal {
         match self.number {
             1 => "a work slice has under 16,384 words",
             2 => "the sheet has over 16,384 bytes",
-            3 => "form, length, range, key, key order or item count wrong, `?` misplaced, or a line missing",
+            3 => "form, length, range, key, key order or item count wrong, no such day, `?` misplaced, or a line missing",
             4 => "one line too many of a key",
-            5 => "a reference is absent, or a repeat, or wrong order",
+            5 => "a reference is absent, or a repeat, or wrong order, or a term's last day before its first",
             6 => "depth over 64",
             7 => "typing, request kind or shape",
             8 => "a node is used twice or never",

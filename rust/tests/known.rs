@@ -48,9 +48,31 @@ fn refusals() {
         evaluator.partial(SHEET.replace("principal=0,?\n", "principal=0,?\nprincipal=0,?\n").as_bytes()),
         refused(4, 22, 0)
     );
-    assert_eq!(evaluator.partial(SHEET.replace("node=0,lit,1", "node=0,lit,2").as_bytes()), refused(5, 28, 0));
-    assert_eq!(evaluator.partial(SHEET.replace("node=0,lit,1", "node=0,lit,0").as_bytes()), refused(7, 28, 0));
-    assert_eq!(evaluator.partial(SHEET.replace("policy=6,permit,3\n", "").as_bytes()), refused(8, 28, 0));
+    assert_eq!(evaluator.partial(SHEET.replace("node=0,lit,1", "node=0,lit,2").as_bytes()), refused(5, 29, 0));
+    assert_eq!(evaluator.partial(SHEET.replace("node=0,lit,1", "node=0,lit,0").as_bytes()), refused(7, 29, 0));
+    assert_eq!(evaluator.partial(SHEET.replace("policy=6,permit,3\n", "").as_bytes()), refused(8, 29, 0));
+}
+
+#[test]
+fn days_and_terms() {
+    let mut evaluator = Evaluator::new();
+    let line = SHEET.lines().find(|line| line.starts_with("day=")).expect("every sheet has a day");
+    let day = &line[4..];
+    let with = |lines: &str| SHEET.replace(line, lines);
+    assert_eq!(evaluator.partial(SHEET.replace(&format!("{line}\n"), "").as_bytes()), refused(3, 25, 0));
+    assert_eq!(evaluator.partial(with("day=2100-02-29").as_bytes()), refused(3, 25, 0));
+    assert_eq!(evaluator.partial(with("day=2000-02-29\nday=2000-02-29").as_bytes()), refused(4, 26, 0));
+    // both edge days belong to the term
+    let term = |policy: usize, first: &str, last: &str| format!("{SHEET}term={policy},{first},{last}\n");
+    for (first, last) in [(day, day), (day, "2199-12-31"), ("1900-01-01", day)] {
+        assert_eq!(evaluator.partial(term(1, first, last).as_bytes()), Outcome::Answer(ANSWER));
+    }
+    // off term, the rule that was true has no part in the answer
+    let open = "decision=open\ncounts=0,0,0,1,0,0,0,0\nnode=2,var,p\nnode=2,lit,0\nnode=0,eq,0,1\npolicy=5,permit,open,2\n";
+    assert_eq!(evaluator.partial(term(1, "2199-12-30", "2199-12-31").as_bytes()), Outcome::Answer(open));
+    assert_eq!(evaluator.partial(term(2, "1900-01-01", "2199-12-31").as_bytes()), refused(5, 32, 0));
+    assert_eq!(evaluator.partial(term(1, "2000-02-29", "2000-02-28").as_bytes()), refused(5, 32, 0));
+    assert_eq!(evaluator.partial(term(1, "2000-02-30", "2000-02-29").as_bytes()), refused(3, 32, 0));
 }
 
 #[test]

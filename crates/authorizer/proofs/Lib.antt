@@ -1,4 +1,5 @@
 pub mod Calling
+pub mod Choosing
 pub mod Answering
 pub mod Demand3
 pub mod Example

@@ -3,6 +3,7 @@
 use load::load;
 use response::runs::answer_complete;
 use response::runs::answer_partial;
+use running::choose;
 use words::ROOM;
 use words::clear;
 ghost use mathlib.Core.Path.{_≡_};
@@ -46,6 +47,7 @@ fn answered(
             length: 0,
         };
     }
+    choose(rows);
     if partial {
         let s = answer_partial(sheet, rows, work, out);
         return Returned {

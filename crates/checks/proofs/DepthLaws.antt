@@ -10,7 +10,7 @@ use borrow.Author.Tests.{eqb-true, eq-eqb, ne-eqb, ltb-true}
 use lib.Dec.{ltb, eqb}
 use lib.ListN.{length, getD, drop, length-take, length-replicate, getD-replicate, List·getD-eq-default}
 use lib.Seq.{getD-take, getD-drop}
-use Rattle.sheet.specs.Forms.{Slot, entry, line, lineOr, lineUnknown, word, number, nothing, slotAt, tag, items, isLine, keep, refsFrom, refs, noKey, TYPE, VALUE, NODE, POLICY}
+use Rattle.sheet.specs.Forms.{Slot, entry, line, lineOr, lineUnknown, word, number, day, nothing, slotAt, tag, items, isLine, keep, refsFrom, refs, noKey, TYPE, VALUE, NODE, POLICY}
 use Rattle.sheet.specs.State.{State, depthsOf}
 use Rattle.sheet.specs.Sheet.{allThere, deepest, depth}
 use Rattle.table.specs.Layout.{TYPEDEPTHS, VALUEDEPTHS, NODEDEPTHS, held, ones, depthsAt, depthBase, depthBases, depthsIn}
@@ -18,7 +18,7 @@ use Rattle.table.proofs.Held.{no-depths, depths-of}
 use Rattle.cedar.specs.Numbered.{memN}
 use Rattle.sheet.proofs.Parsed.{allBelow, all-below}
 use Rattle.forms.proofs.Tests.{other}
-use Rattle.forms.specs.Rows.{NONE, NUMBER, ENTRY, LINE, UNKNOWN, OF-TYPE, OF-VALUE, OF-NODE, code as codeOf}
+use Rattle.forms.specs.Rows.{NONE, NUMBER, ENTRY, DATE, LINE, UNKNOWN, OF-TYPE, OF-VALUE, OF-NODE, code as codeOf}
 use Rattle.forms.specs.Tags.{LIT, AND, IF}
 use Rattle.checks.specs.Codes.{keyIn, formCode, againCode, codesAfter, codesAt}
 use Rattle.checks.specs.Depths.{ThereAs, thereDepth, OnTwo, OnNone}
@@ -86,6 +86,7 @@ line-code k b (lineOr m l) = sym (ne-eqb (codeOf (lineOr m l)) (LINE + k) (λ q.
 line-code k b (lineUnknown l) = sym (ne-eqb (UNKNOWN + l) (LINE + k) (λ q. absurd (omega arith)))
 line-code k b (word ws) = sym (ne-eqb (codeOf (word ws)) (LINE + k) (λ q. absurd (omega (arith, q, words-low ws))))
 line-code k b number = sym (ne-eqb NUMBER (LINE + k) (λ q. absurd (omega arith)))
+line-code k b day = sym (ne-eqb DATE (LINE + k) (λ q. absurd (omega arith)))
 line-code k b nothing = sym (ne-eqb NONE (LINE + k) (λ q. absurd (omega arith)))
 
 pub refs-at : (k : ℕ) → k < LINE → (r : List ℕ) (j t x c : ℕ) → t ≡ tag r → j + 1 < length r → x ≡ getD r (j + 1) 0 → (c ≡ codeOf (slotAt t j)) × (keyIn (slotAt t j) ≤ POLICY)

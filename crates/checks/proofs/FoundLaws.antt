@@ -14,9 +14,9 @@ use lib.ListN.{length, getD, drop, drop-of-length-le, length-drop}
 use lib.Seq.{drop-cons, getD-drop}
 use Rattle.cedar.specs.Numbered.{memN}
 use Rattle.sheet.specs.Bytes.{same}
-use Rattle.sheet.specs.Forms.{Slot, entry, line, lineOr, lineUnknown, word, number, nothing, dash, Form, forms, formOf, noForm, slotAt, tag, items, at, mark, everyFrom, refs, ascendings, TEXT, KIND, TYPE, VALUE, ENTITY, NODE, POLICY}
-use Rattle.sheet.specs.State.{linesOf, lineAt, count}
-use Rattle.sheet.specs.Sheet.{thereIs, allThere, ascend, among, firsts, above, fresh, found, deepest, depth}
+use Rattle.sheet.specs.Forms.{Slot, entry, line, lineOr, lineUnknown, word, number, day, nothing, dash, Form, forms, formOf, noForm, slotAt, tag, items, at, mark, everyFrom, refs, ascendings, TEXT, KIND, TYPE, VALUE, ENTITY, NODE, POLICY, TERM, noKey}
+use Rattle.sheet.specs.State.{lineAt, count}
+use Rattle.sheet.specs.Sheet.{thereIs, allThere, ascend, among, firsts, above, termGoes, fresh, found, deepest, depth}
 use Rattle.table.specs.Layout.{held, part, rowsOf, textRow}
 use Rattle.table.proofs.Rows.{count-held, count-rows, lines-held}
 use Rattle.cedar.proofs.Tools.{no-true}
@@ -86,6 +86,7 @@ module _ (a : List ℕ) (x : ℕ) where
   there-none (lineUnknown k) e = absurd (omega arith)
   there-none (word ws) e = refl
   there-none number e = refl
+  there-none day e = refl
   there-none nothing e = refl
 
   counted : (n k m : ℕ) → k ≤ POLICY → n ≡ getD a m 0 → m ≡ k → n ≡ count (rowsHeld a) k
@@ -99,6 +100,7 @@ module _ (a : List ℕ) (x : ℕ) where
   there-in (lineUnknown k) n z l e h = sym (rw (← counted n k ((UNKNOWN + k) % LINE) l e (omega arith), lt-ltb x n h) (or-true (eqb x mark)))
   there-in (word ws) n z l e h = absurd (omega (arith, words-low ws))
   there-in number n z l e h = absurd (omega arith)
+  there-in day n z l e h = absurd (omega arith)
   there-in nothing n z l e h = absurd (omega arith)
 
   there-out : (s : Slot) (n : ℕ) → LINE ≤ codeOf s → keyIn s ≤ POLICY → n ≡ getD a (codeOf s % LINE) 0 → n ≤ x → codeOf s < UNKNOWN → false ≡ thereIs (rowsHeld a) s x
@@ -109,6 +111,7 @@ module _ (a : List ℕ) (x : ℕ) where
   there-out (lineUnknown k) n z l e h o = absurd (omega arith)
   there-out (word ws) n z l e h o = absurd (omega (arith, words-low ws))
   there-out number n z l e h o = absurd (omega arith)
+  there-out day n z l e h o = absurd (omega arith)
   there-out nothing n z l e h o = absurd (omega arith)
 
   there-mark : (s : Slot) (n : ℕ) → UNKNOWN ≤ codeOf s → keyIn s ≤ POLICY → n ≡ getD a (codeOf s % LINE) 0 → n ≤ x → eqb x mark ≡ thereIs (rowsHeld a) s x
@@ -119,6 +122,7 @@ module _ (a : List ℕ) (x : ℕ) where
   there-mark (lineUnknown k) n z l e h = sym (rw (← counted n k ((UNKNOWN + k) % LINE) l e (omega arith), le-ltb x n h) (or-false (eqb x mark)))
   there-mark (word ws) n z l e h = absurd (omega (arith, words-low ws))
   there-mark number n z l e h = absurd (omega arith)
+  there-mark day n z l e h = absurd (omega arith)
   there-mark nothing n z l e h = absurd (omega arith)
 
 module _ (a : List ℕ) (c x : ℕ) where
@@ -328,17 +332,30 @@ module _ (x : ℕ) (a : List ℕ) (k n i : ℕ) (s : Named x a k i) (hn : n ≡ 
   pub named-end : n ≤ i → false ≡ memN x (firsts (rowsOf a k))
   named-end h = sym (s .left ∙ ap (λ (l : List (List ℕ)). memN x (firsts l)) (rows-end a k n i hn h))
 
--- ---- order of entities
+-- ---- order of entities and terms
 
-pub above-first : (a r : List ℕ) (n : ℕ) → n ≡ getD a ENTITY 0 → n ≡ 0 → true ≡ above (rowsHeld a) ENTITY r
-above-first a r n e z = sym (rw (count-held [] a [] ENTITY (omega arith), ← e, z) refl)
+module _ (a : List ℕ) (k : ℕ) (r : List ℕ) (hk : (k ≡ TEXT → ⊥) × (k < noKey)) (n : ℕ) (e : n ≡ getD a k 0) where
+  count-is : count (rowsHeld a) k ≡ n
+  count-is = count-held [] a [] k (hk .1) ∙ sym e
 
-pub above-last : (a r q : List ℕ) (n x y : ℕ) → n ≡ getD a ENTITY 0 → (n ≡ 0 → ⊥) → q ≡ getD (rowsOf a ENTITY) (n - 1) [] → x ≡ getD q 1 0 → y ≡ getD r 1 0 → ltb x y ≡ above (rowsHeld a) ENTITY r
-above-last a r q n x y e z hq hx hy =
-    let c : count (rowsHeld a) ENTITY ≡ n = count-held [] a [] ENTITY (omega arith) ∙ sym e in
-    let l : linesOf (rowsHeld a) ENTITY ≡ rowsOf a ENTITY = lines-held [] a [] ENTITY (omega arith) (λ q. absurd (omega arith)) in
-    let f : x ≡ at (lineAt (rowsHeld a) ENTITY (count (rowsHeld a) ENTITY - 1)) 0 = hx ∙ ap (λ (w : List ℕ). getD w 1 0) (hq ∙ ap₂ (λ (rs : List (List ℕ)) (i : ℕ). getD rs (i - 1) []) (sym l) (sym c)) in
-    sym (rw (← f, c, ne-eqb n 0 z, ← hy) refl)
+  pub above-first : n ≡ 0 → true ≡ above (rowsHeld a) k r
+  above-first z = sym (rw (count-is, z) refl)
+
+  pub above-last : (q : List ℕ) (x y : ℕ) → (n ≡ 0 → ⊥) → q ≡ getD (rowsOf a k) (n - 1) [] → x ≡ getD q 1 0 → y ≡ getD r 1 0 → ltb x y ≡ above (rowsHeld a) k r
+  above-last q x y z hq hx hy =
+      let f : x ≡ at (lineAt (rowsHeld a) k (count (rowsHeld a) k - 1)) 0 =
+      hx ∙ ap (λ (w : List ℕ). getD w 1 0) (hq ∙ ap₂ (λ (rs : List (List ℕ)) (i : ℕ). getD rs (i - 1) []) (sym (lines-held [] a [] k (hk .1) (hk .0))) (sym count-is)) in
+      sym (rw (← f, count-is, ne-eqb n 0 z, ← hy) refl)
+
+pub goes-days : (r : List ℕ) (x y : ℕ) → x ≡ getD r 2 0 → y ≡ getD r 3 0 → leb x y ≡ termGoes r
+goes-days r x y hx hy = ap₂ leb hx hy
+
+module _ (a r : List ℕ) (b : Bool) (hb : b ≡ above (rowsHeld a) TERM r) where
+  pub term-below : not b ≡ true → false ≡ (above (rowsHeld a) TERM r && termGoes r)
+  term-below n = sym (rw (← hb, not-true b n) refl)
+
+  pub term-above : not b ≡ false → (v : Bool) → v ≡ termGoes r → v ≡ (above (rowsHeld a) TERM r && termGoes r)
+  term-above n v hv = hv ∙ sym (rw (← hb, not-false b n) refl)
 
 -- ---- new lines
 
@@ -363,8 +380,12 @@ module _ (a : List ℕ) (k : ℕ) (r : List ℕ) where
   pub fresh-node : k ≡ NODE → true ≡ fresh (rowsHeld a) k r
   fresh-node e = sym (rw e refl)
 
-  pub fresh-other : (k ≡ TEXT → ⊥) → (k ≡ TYPE → ⊥) → (k ≡ VALUE → ⊥) → (k ≡ KIND → ⊥) → (k ≡ POLICY → ⊥) → (k ≡ ENTITY → ⊥) → true ≡ fresh (rowsHeld a) k r
-  fresh-other text type value kind policy entity = sym (rw (ne-eqb k TEXT text, ne-eqb k TYPE type, ne-eqb k VALUE value, ne-eqb k KIND kind, ne-eqb k POLICY policy, ne-eqb k ENTITY entity) refl)
+  pub fresh-term : (b : Bool) → b ≡ (above (rowsHeld a) TERM r && termGoes r) → k ≡ TERM → b ≡ fresh (rowsHeld a) k r
+  fresh-term b hb e = hb ∙ sym (rw e refl)
+
+  pub fresh-other : (k ≡ TEXT → ⊥) → (k ≡ TYPE → ⊥) → (k ≡ VALUE → ⊥) → (k ≡ KIND → ⊥) → (k ≡ POLICY → ⊥) → (k ≡ ENTITY → ⊥) → (k ≡ TERM → ⊥) → true ≡ fresh (rowsHeld a) k r
+  fresh-other text type value kind policy entity term =
+      sym (rw (ne-eqb k TEXT text, ne-eqb k TYPE type, ne-eqb k VALUE value, ne-eqb k KIND kind, ne-eqb k POLICY policy, ne-eqb k ENTITY entity, ne-eqb k TERM term) refl)
 
   -- ---- all of 5, with the depth of 6
 

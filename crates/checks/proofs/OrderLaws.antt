@@ -11,7 +11,7 @@ use borrow.Author.Tests.{eqb-true, eq-eqb, ne-eqb, lt-leb, le-leb}
 use lib.Dec.{leb, eqb}
 use lib.ListN.{length, getD, take, drop, set, drop-of-length-le, List·getD-eq-default}
 use lib.Seq.{drop-cons, getD-set-other, getD-take}
-use Rattle.sheet.specs.Forms.{noKey, SHEET, TEXT, KIND, SHAPE, PRINCIPAL, ACTION, RESOURCE, CONTEXT, NODE, POLICY}
+use Rattle.sheet.specs.Forms.{noKey, SHEET, TEXT, KIND, SHAPE, PRINCIPAL, ACTION, RESOURCE, CONTEXT, DAY, NODE, POLICY, TERM}
 use Rattle.sheet.specs.State.{State, count}
 use Rattle.sheet.specs.Sheet.{least, greatest, reach, enough, allZero, inOrder}
 use Rattle.sheet.proofs.Parsed.{allBelow}
@@ -34,7 +34,7 @@ counts-long a = length-tab (λ (k : ℕ). getD a k 0) 0 noKey
 -- ---- tables
 
 unfoldable leastTable : List ℕ
-leastTable = 1 ∷ 0 ∷ 0 ∷ 0 ∷ 0 ∷ 0 ∷ 0 ∷ 1 ∷ 1 ∷ 1 ∷ 1 ∷ 0 ∷ 0 ∷ []
+leastTable = 1 ∷ 0 ∷ 0 ∷ 0 ∷ 0 ∷ 0 ∷ 0 ∷ 1 ∷ 1 ∷ 1 ∷ 1 ∷ 1 ∷ 0 ∷ 0 ∷ 0 ∷ []
 
 module _ (s : State) where
   least-set : least s ≡ set leastTable SHAPE (count s KIND)
@@ -54,7 +54,7 @@ module _ (a : List ℕ) where
   least-shape : getD (least (rowsHeld a)) SHAPE 0 ≡ getD a KIND 0
   least-shape = count-held [] a [] KIND (omega arith)
 
-  -- the keys of which a line can be missing: sheet, shape, and those of the request
+  -- the keys of which a line can be missing: sheet, shape, those of the request, and day
   least-one : (i : ℕ) → (i ≡ SHEET) ⊎ ((PRINCIPAL ≤ i) × (i < NODE)) → 1 ≡ getD (least (rowsHeld a)) i 0
   unfolding leastTable
   least-one i (inl e) = least-by 1 SHEET 1 refl i (λ q. absurd (omega arith)) (omega arith) (omega arith)
@@ -119,12 +119,19 @@ module _ (a : List ℕ) (k i : ℕ) (z : Zeros a k i) where
   pub zeros-end : (r : Bool) → noKey ≤ i → r ≡ enough (rowsHeld a) k → r ≡ inOrder (rowsHeld a) k
   zeros-end r h e = e ∙ sym (order-is ∙ ap (λ (l : List ℕ). allZero l && enough (rowsHeld a) k) (drop-of-length-le (countsIn a) {i = i} (rw (counts-long a) h)))
 
--- of the nodes' key on there is one key more
+-- after the nodes' key there are two keys
 pub nodes-off : (a : List ℕ) (k n : ℕ) → k ≡ NODE → n ≡ getD a POLICY 0 → (n ≡ 0 → ⊥) → false ≡ inOrder (rowsHeld a) k
 nodes-off a k n d e z = rw d (zeros-off a NODE POLICY (zeros-start a NODE) n (omega arith) e z)
 
-pub nodes-on : (a : List ℕ) (k n : ℕ) (r : Bool) → k ≡ NODE → n ≡ getD a POLICY 0 → n ≡ 0 → r ≡ enough (rowsHeld a) NODE → r ≡ inOrder (rowsHeld a) k
-nodes-on a k n r d e z h = rw d (zeros-end a NODE noKey (zeros-on a NODE POLICY (zeros-start a NODE) n (omega arith) e z) r (omega arith) h)
+module _ (a : List ℕ) (k n m : ℕ) (d : k ≡ NODE) (e : n ≡ getD a POLICY 0) (z : n ≡ 0) (f : m ≡ getD a TERM 0) where
+  no-policies : Zeros a NODE TERM
+  no-policies = zeros-on a NODE POLICY (zeros-start a NODE) n (omega arith) e z
+
+  pub terms-off : (m ≡ 0 → ⊥) → false ≡ inOrder (rowsHeld a) k
+  terms-off y = rw d (zeros-off a NODE TERM no-policies m (omega arith) f y)
+
+  pub nodes-on : (r : Bool) → m ≡ 0 → r ≡ enough (rowsHeld a) NODE → r ≡ inOrder (rowsHeld a) k
+  nodes-on r y h = rw d (zeros-end a NODE noKey (zeros-on a NODE TERM no-policies m (omega arith) f y) r (omega arith) h)
 
 -- ---- 3: keys before k
 
@@ -185,32 +192,34 @@ module _ (a : List ℕ) (k : ℕ) (top : k ≤ noKey) where
   shape-missing n m h e f l = missing-from SHAPE 0 (reached-start a k) h (omega (arith, least-shape a))
 
   pub none-missing : (SHEET < k → 1 ≤ getD a SHEET 0) → (SHAPE < k → getD a KIND 0 ≤ getD a SHAPE 0) → (PRINCIPAL < k → 1 ≤ getD a PRINCIPAL 0) → (ACTION < k → 1 ≤ getD a ACTION 0)
-      → (RESOURCE < k → 1 ≤ getD a RESOURCE 0) → (CONTEXT < k → 1 ≤ getD a CONTEXT 0)
+      → (RESOURCE < k → 1 ≤ getD a RESOURCE 0) → (CONTEXT < k → 1 ≤ getD a CONTEXT 0) → (DAY < k → 1 ≤ getD a DAY 0)
       → true ≡ enough (rowsHeld a) k
-  none-missing sheet shape principal action resource context = all-from k 0 (reached-start a k) (omega arith) each
+  none-missing sheet shape principal action resource context day = all-from k 0 (reached-start a k) (omega arith) each
     where
       one : (j i : ℕ) → j ≡ i → (i ≡ SHEET) ⊎ ((PRINCIPAL ≤ i) × (i < NODE)) → 1 ≤ getD a i 0 → getD (least (rowsHeld a)) j 0 ≤ getD a j 0
       one j i e o l = rw e (omega (arith, least-one a i o))
 
-      request : (j : ℕ) → j < k → PRINCIPAL ≤ j → j < NODE → Dec (j ≡ PRINCIPAL) → Dec (j ≡ ACTION) → Dec (j ≡ RESOURCE) → getD (least (rowsHeld a)) j 0 ≤ getD a j 0
-      request j h l u (yes e) y z = one j PRINCIPAL e (inr (omega arith, omega arith)) (principal (omega arith))
-      request j h l u (no x) (yes e) z = one j ACTION e (inr (omega arith, omega arith)) (action (omega arith))
-      request j h l u (no x) (no y) (yes e) = one j RESOURCE e (inr (omega arith, omega arith)) (resource (omega arith))
-      request j h l u (no x) (no y) (no z) = let e : j ≡ CONTEXT = omega arith in one j CONTEXT e (inr (omega arith, omega arith)) (context (omega arith))
+      single : (j : ℕ) → j < k → PRINCIPAL ≤ j → j < NODE → Dec (j ≡ PRINCIPAL) → Dec (j ≡ ACTION) → Dec (j ≡ RESOURCE) → Dec (j ≡ CONTEXT) → getD (least (rowsHeld a)) j 0 ≤ getD a j 0
+      single j h l u (yes e) y z w = one j PRINCIPAL e (inr (omega arith, omega arith)) (principal (omega arith))
+      single j h l u (no x) (yes e) z w = one j ACTION e (inr (omega arith, omega arith)) (action (omega arith))
+      single j h l u (no x) (no y) (yes e) w = one j RESOURCE e (inr (omega arith, omega arith)) (resource (omega arith))
+      single j h l u (no x) (no y) (no z) (yes e) = one j CONTEXT e (inr (omega arith, omega arith)) (context (omega arith))
+      single j h l u (no x) (no y) (no z) (no w) = let e : j ≡ DAY = omega arith in one j DAY e (inr (omega arith, omega arith)) (day (omega arith))
 
       go : (j : ℕ) → j < k → Dec (j ≡ SHEET) → Dec (j ≡ SHAPE) → Dec (j < PRINCIPAL) → Dec (j < NODE) → getD (least (rowsHeld a)) j 0 ≤ getD a j 0
       go j h (yes e) d u v = one j SHEET e (inl refl) (sheet (omega arith))
       go j h (no z) (yes e) u v = rw e (omega (arith, least-shape a, shape (omega arith)))
       go j h (no z) (no d) (yes u) v = omega (arith, least-none a j (omega arith) z d (inl u))
-      go j h (no z) (no d) (no u) (yes v) = request j h (omega arith) v (ℕ-discrete j PRINCIPAL) (ℕ-discrete j ACTION) (ℕ-discrete j RESOURCE)
+      go j h (no z) (no d) (no u) (yes v) = single j h (omega arith) v (ℕ-discrete j PRINCIPAL) (ℕ-discrete j ACTION) (ℕ-discrete j RESOURCE) (ℕ-discrete j CONTEXT)
       go j h (no z) (no d) (no u) (no v) = omega (arith, least-none a j (omega arith) z d (inr (omega arith)))
 
       each : (j : ℕ) → j < k → getD (least (rowsHeld a)) j 0 ≤ getD a j 0
       each j h = go j h (ℕ-discrete j SHEET) (ℕ-discrete j SHAPE) (decLt j PRINCIPAL) (decLt j NODE)
 
-  pub context-decides : (n : ℕ) → CONTEXT < k → n ≡ getD a CONTEXT 0 → 1 ≤ getD a SHEET 0 → getD a KIND 0 ≤ getD a SHAPE 0 → 1 ≤ getD a PRINCIPAL 0 → 1 ≤ getD a ACTION 0 → 1 ≤ getD a RESOURCE 0 → not (eqb n 0) ≡ enough (rowsHeld a) k
-  context-decides n h e sheet shape principal action resource = go (ℕ-discrete n 0)
+  pub day-decides : (n : ℕ) → DAY < k → n ≡ getD a DAY 0 → 1 ≤ getD a SHEET 0 → getD a KIND 0 ≤ getD a SHAPE 0 → 1 ≤ getD a PRINCIPAL 0 → 1 ≤ getD a ACTION 0 → 1 ≤ getD a RESOURCE 0 → 1 ≤ getD a CONTEXT 0
+      → not (eqb n 0) ≡ enough (rowsHeld a) k
+  day-decides n h e sheet shape principal action resource context = go (ℕ-discrete n 0)
     where
       go : Dec (n ≡ 0) → not (eqb n 0) ≡ enough (rowsHeld a) k
-      go (yes z) = ap not (eq-eqb n 0 z) ∙ one-missing CONTEXT n (inr (omega arith, omega arith)) h e z
-      go (no z) = ap not (ne-eqb n 0 z) ∙ none-missing (λ q. sheet) (λ q. shape) (λ q. principal) (λ q. action) (λ q. resource) (λ q. omega arith)
+      go (yes z) = ap not (eq-eqb n 0 z) ∙ one-missing DAY n (inr (omega arith, omega arith)) h e z
+      go (no z) = ap not (ne-eqb n 0 z) ∙ none-missing (λ q. sheet) (λ q. shape) (λ q. principal) (λ q. action) (λ q. resource) (λ q. context) (λ q. omega arith)

@@ -2,7 +2,7 @@
 use mathlib.Core.Bool.{cond}
 use Prim.Native.Nat.{ℕ, zero, suc, _+_, _*_, _/_, _%_, _^_}
 use lib.Dec.{eqb}
-use Rattle.sheet.specs.Forms.{Slot, entry, line, lineOr, lineUnknown, word, number, nothing, formOf}
+use Rattle.sheet.specs.Forms.{Slot, entry, line, lineOr, lineUnknown, word, number, day, nothing, formOf}
 use Rattle.forms.specs.declared.Form as F
 use Rattle.forms.specs.Rows.{coded}
 
@@ -14,6 +14,7 @@ keyIn (lineOr b k) = k
 keyIn (lineUnknown k) = k
 keyIn (word ws) = 0
 keyIn number = 0
+keyIn day = 0
 keyIn nothing = 0
 
 -- four places in one word, a byte each, the first the lowest

@@ -2,6 +2,7 @@
 use forms::ACTION;
 use forms::AND;
 use forms::CONTEXT;
+use forms::DAY;
 use forms::ENTITY;
 use forms::Form;
 use forms::IF;
@@ -17,6 +18,7 @@ use forms::PRINCIPAL;
 use forms::RESOURCE;
 use forms::SHAPE;
 use forms::SHEET;
+use forms::TERM;
 use forms::TEXT;
 use forms::TEXT_LINE;
 use forms::TYPE;
@@ -42,15 +44,15 @@ use words::put;
 use words::read;
 ghost use mathlib.Core.Path.{_≡_};
 ghost use mathlib.Core.List.{List, [], _∷_};
-ghost use mathlib.Core.Bool.{true, cond};
+ghost use mathlib.Core.Bool.{true, cond, _&&_};
 ghost use Prim.Native.Nat.{ℕ, _+_, _-_, _*_, _≤_, _<_, max};
 ghost use lib.Dec.{leb, eqb};
 ghost use lib.ListN.{length, getD, drop};
 ghost use Rattle.cedar.specs.Numbered.{memN};
 ghost use Rattle.sheet.specs.Bytes.{same};
-ghost use Rattle.sheet.specs.Forms.{tag, keyOf, formOf, keep, refs, ascendings, noKey, TEXT, ENTITY, NODE};
+ghost use Rattle.sheet.specs.Forms.{tag, keyOf, formOf, keep, refs, ascendings, noKey, TEXT, NODE, TERM};
 ghost use Rattle.sheet.specs.State.{count};
-ghost use Rattle.sheet.specs.Sheet.{greatest, enough, inOrder, ascend, among, firsts, above, fresh, found, depth};
+ghost use Rattle.sheet.specs.Sheet.{greatest, enough, inOrder, ascend, among, firsts, above, termGoes, fresh, found, depth};
 ghost use Rattle.table.specs.Layout.{depthsIn, rowAt, rowsOf, textRow, textRows, held};
 ghost use Rattle.forms.specs.Rows.{LINE, OF-NODE};
 ghost use Rattle.forms.specs.Tags.{TEXT-LINE};
@@ -81,7 +83,7 @@ fn codes_after(slots: u32, again: u32) -> u32
 
 // ---- 3: key order, lines missing
 
-// No line is missing of the keys before `key`: one of the sheet, as many shapes as kinds, one of each part of the request.
+// No line is missing of the keys before `key`: one of the sheet, as many shapes as kinds, one of each part of the request and of the day.
 pub fn enough_before(rows: &[u32], key: usize) -> bool
     requires { ⌜ key ≤ noKey ⌝ }
     ensures { λ r. ⌜ r ≡ enough (held [] (now (rows .entry)) []) key ⌝ }
@@ -119,7 +121,13 @@ pub fn enough_before(rows: &[u32], key: usize) -> bool
     if key <= CONTEXT {
         return true;
     }
-    count(rows, CONTEXT) != 0
+    if count(rows, CONTEXT) == 0 {
+        return false;
+    }
+    if key <= DAY {
+        return true;
+    }
+    count(rows, DAY) != 0
 }
 
 // No key after `key` has a line, and none is missing before it.
@@ -129,6 +137,9 @@ pub fn in_order(rows: &[u32], key: usize) -> bool
 {
     if key == NODE {
         if count(rows, POLICY) != 0 {
+            return false;
+        }
+        if count(rows, TERM) != 0 {
             return false;
         }
         return enough_before(rows, NODE);
@@ -339,16 +350,34 @@ fn is_first(rows: &[u32], key: usize, x: u32) -> bool
     false
 }
 
-// Whether an entity line comes after the last one.
-fn is_above(rows: &[u32], line: &[u32]) -> bool
-    ensures { λ b. ⌜ b ≡ above (held [] (now (rows .entry)) []) ENTITY (now (line .entry)) ⌝ }
+// Whether a line of a key comes after the last one.
+fn is_above(rows: &[u32], key: usize, line: &[u32]) -> bool
+    requires { ⌜ (key ≡ TEXT → ⊥) × (key < noKey) ⌝ }
+    ensures { λ b. ⌜ b ≡ above (held [] (now (rows .entry)) []) key (now (line .entry)) ⌝ }
 {
-    let n = count(rows, ENTITY);
+    let n = count(rows, key);
     if n == 0 {
         return true;
     }
-    let x = item(row(rows, ENTITY, n - 1), 1);
+    let x = item(row(rows, key, n - 1), 1);
     x < item(line, 1)
+}
+
+// Whether the last day of a term is not before its first.
+fn term_goes(line: &[u32]) -> bool
+    ensures { λ b. ⌜ b ≡ termGoes (now (line .entry)) ⌝ }
+{
+    item(line, 2) <= item(line, 3)
+}
+
+// Whether a term line comes after the last one and its days are in order.
+fn is_term(rows: &[u32], line: &[u32]) -> bool
+    ensures { λ b. ⌜ b ≡ above (held [] (now (rows .entry)) []) TERM (now (line .entry)) && termGoes (now (line .entry)) ⌝ }
+{
+    if !is_above(rows, TERM, line) {
+        return false;
+    }
+    term_goes(line)
 }
 
 // Whether a row of a key, which is not that of a text, repeats no other and keeps their order.
@@ -372,7 +401,10 @@ fn is_fresh(rows: &[u32], key: usize, line: &[u32]) -> bool
         return !is_first(rows, key, item(line, 1));
     }
     if key == ENTITY {
-        return is_above(rows, line);
+        return is_above(rows, ENTITY, line);
+    }
+    if key == TERM {
+        return is_term(rows, line);
     }
     true
 }

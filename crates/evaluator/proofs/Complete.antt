@@ -1,4 +1,4 @@
--- For every accepted complete sheet, the run over the words that hold it leaves the class that the Cedar specification gives each policy.
+-- For every accepted complete sheet, the run over the words that hold it leaves the class that the Cedar specification gives each policy on term.
 use mathlib.Core.Path.{_≡_, refl, sym, _∙_, ap, ap₂, subst}
 use mathlib.Core.Bool.{cond}
 use mathlib.Core.Option.{Option, some}
@@ -13,23 +13,24 @@ use Rattle.cedar.specs.Reads.{ReadPolicies, EnvRead}
 use Rattle.cedar.specs.Runs.{NPolicy, completeAnswer}
 use Rattle.cedar.specs.Table.{Table}
 use Rattle.cedar.specs.Numbered.{NEnv}
-use Rattle.sheet.specs.Forms.{complete, at, VALUE, ENTITY, NODE, POLICY}
+use Rattle.sheet.specs.Forms.{complete, at, VALUE, ENTITY, NODE}
 use Rattle.sheet.specs.State.{State, linesOf, count, valueRow}
-use Rattle.sheet.specs.Content.{types, rowsIn, valueRows, contents, schema, requestTy, given, entityLine, lineGiven, nEnv, env, nPolicies, policies}
+use Rattle.sheet.specs.Content.{types, rowsIn, valueRows, contents, schema, requestTy, given, entityLine, lineGiven, nEnv, env, nPolicies, policies, onTerm}
 use Rattle.sheet.specs.Sheet.{read}
 use Rattle.sheet.specs.Answer.{results}
 use Rattle.sheet.proofs.Lines.{accepted-history}
 use Rattle.sheet.proofs.ValueRows.{values-table, value-back}
 use Rattle.sheet.proofs.OwnPolicies.{read-own}
-use Rattle.sheet.proofs.Environment.{Facts, thirteen}
+use Rattle.sheet.proofs.Environment.{Facts, all-keys}
 use Rattle.sheet.proofs.CompleteRun.{whole-read}
 use Rattle.sheet.proofs.MadeCount.{policySizes}
 use Rattle.sheet.proofs.Uses.{policies-small}
 use Rattle.sheet.proofs.Depths.{Depths, Reached, read-reached, reached-depths}
-use Rattle.table.specs.Layout.{rowsOf, rowsAt, base, held, linesHeld, MADE, TOP, heap, limit, limits, Sound}
+use Rattle.table.specs.Layout.{rowsOf, rowsAt, base, held, linesHeld, RUN, MADE, limit, limits, Sound}
 use Rattle.table.proofs.Rows.{count-rows}
 use Rattle.value.specs.Lines.{valueLines}
 use Rattle.value.proofs.Interned.{Formeds, none-formed, one-formed}
+use Rattle.tpe.specs.Fits.{Fits}
 use Rattle.tpe.proofs.Reach.{reach-start}
 use Rattle.tpe.proofs.Stands.{Hold, Room}
 use Rattle.evaluator.specs.Run.{values, classNumbers, runOf, ranFrom, evalOf}
@@ -82,17 +83,13 @@ module _ (sheet a b : List ℕ) where
   unfolding held linesHeld
   nodes-held = refl
 
-  policies-held : linesOf (held sheet a b) POLICY ≡ rowsOf a POLICY
-  unfolding held linesHeld
-  policies-held = refl
-
   values-held : linesOf (held sheet a b) VALUE ≡ rowsOf a VALUE
   unfolding held linesHeld
   values-held = refl
 
   -- ---- the words hold an accepted complete sheet, and no value is made
 
-  module _ (f : Facts complete (held sheet a b)) (d : Depths (held sheet a b)) (sound : Sound a) (none : getD a MADE 0 ≡ 0) where
+  module _ (f : Facts complete (held sheet a b)) (d : Depths (held sheet a b)) (sound : Sound a) (none : getD a MADE 0 ≡ 0) (runs : rowsOf a RUN ≡ onTerm (held sheet a b)) where
     formeds-from : (pre rest : List (List ℕ)) → linesOf (held sheet a b) VALUE ≡ pre ++ rest → Formeds rest
     formeds-from pre [] e = none-formed
     formeds-from pre (r ∷ rest) e = let w = f .history VALUE pre r rest e in one-formed (value-back complete (w .line) r (w .row) (w .key)) (formeds-from (pre ++ (r ∷ [])) rest (e ∙ sym (append-assoc pre (r ∷ []) rest)))
@@ -112,50 +109,51 @@ module _ (sheet a b : List ℕ) where
       env = subst (λ (M : NEnv). EnvRead (contents (held sheet a b)) M (whole (env (held sheet a b)))) env-same (whole-read (held sheet a b) f);
     }
 
-    -- the policies' trees, whole
-    all-policies : policiesAt (types (held sheet a [])) (rowsOf a NODE) (rowsOf a POLICY) ≡ nPolicies (held sheet a b)
+    -- the trees of the policies that run, whole
+    all-policies : policiesAt (types (held sheet a [])) (rowsOf a NODE) (rowsOf a RUN) ≡ nPolicies (held sheet a b)
     all-policies =
-        ap₂ (λ (ts : List Ty) (rs : List (List ℕ)). policiesAt ts (rowsOf a NODE) rs) (sym types-same) (sym policies-held)
-        ∙ ap (λ (ns : List (List ℕ)). policiesAt (types (held sheet a b)) ns (linesOf (held sheet a b) POLICY)) (sym nodes-held)
+        ap₂ (λ (ts : List Ty) (rs : List (List ℕ)). policiesAt ts (rowsOf a NODE) rs) (sym types-same) runs
+        ∙ ap (λ (ns : List (List ℕ)). policiesAt (types (held sheet a b)) ns (onTerm (held sheet a b))) (sym nodes-held)
         ∙ policies-whole complete (held sheet a b) (f .history) (d .deep NODE)
 
-    run-held : Room (policySizes (nPolicies (held sheet a b))) a [] → length (rowsOf a POLICY) + 6 * policySizes (nPolicies (held sheet a b)) ≤ 16384
+    run-held : Room (policySizes (nPolicies (held sheet a b))) a [] → length (rowsOf a RUN) + 6 * policySizes (nPolicies (held sheet a b)) ≤ 16384
         → Runs sheet a (env (held sheet a b)) [] (classNumbers (results (held sheet a b))) (runOf sheet a)
     unfolding runOf results
     run-held room fits =
-        let t = run-is sheet a (env (held sheet a b)) (rowsOf a POLICY) 0 a [] (contents (held sheet a b)) refl start
+        let t = run-is sheet a (env (held sheet a b)) (rowsOf a RUN) 0 a [] (contents (held sheet a b)) refl start
         (subst (λ (ps : List NPolicy). Room (policySizes ps) a []) (sym all-policies) room)
         (omega (arith, fits, ap policySizes all-policies))
         (subst (λ (ps : List NPolicy). ReadPolicies (contents (held sheet a b)) ps (policies (held sheet a b))) (sym all-policies) (read-own complete (held sheet a b) (f .history))) in
-        subst (λ (k : ℕ). Runs sheet a (env (held sheet a b)) [] (classNumbers (results (held sheet a b))) (ranFrom (evalOf sheet 64) k 0 a [])) (count-rows a POLICY)
-        (subst (λ (S : Schema). Runs sheet a (env (held sheet a b)) [] (classNumbers (completeAnswer S (env (held sheet a b)) (policies (held sheet a b)))) (ranFrom (evalOf sheet 64) (length (rowsOf a POLICY)) 0 a [])) schema-same t)
+        subst (λ (k : ℕ). Runs sheet a (env (held sheet a b)) [] (classNumbers (results (held sheet a b))) (ranFrom (evalOf sheet 64) k 0 a [])) (count-rows a RUN)
+        (subst (λ (S : Schema). Runs sheet a (env (held sheet a b)) [] (classNumbers (completeAnswer S (env (held sheet a b)) (policies (held sheet a b)))) (ranFrom (evalOf sheet 64) (length (rowsOf a RUN)) 0 a [])) schema-same t)
 
-    pub run-few : policySizes (nPolicies (held sheet a b)) ≤ getD a NODE 0 → 2 * getD a TOP 0 + 6 * getD a NODE 0 ≤ 2 * heap + 16384 → Runs sheet a (env (held sheet a b)) [] (classNumbers (results (held sheet a b))) (runOf sheet a)
+    pub run-few : policySizes (nPolicies (held sheet a b)) ≤ getD a NODE 0 → Fits a → Runs sheet a (env (held sheet a b)) [] (classNumbers (results (held sheet a b))) (runOf sheet a)
     unfolding limit limits
-    run-few few top =
+    run-few few fits =
         let n = sound .few NODE (omega arith) in
-        let p = sound .few POLICY (omega arith) in
-        let q = count-rows a POLICY in
-        run-held (record { top = omega (arith, few, top, n, reach-start a); few = omega (arith, few, none, n); log = omega (arith, few, n) }) (omega (arith, few, n, p, q))
+        let p = sound .few RUN (omega arith) in
+        let q = count-rows a RUN in
+        run-held (record { top = omega (arith, few, fits, n, reach-start a); few = omega (arith, few, none, n); log = omega (arith, few, n) }) (omega (arith, few, n, p, q))
 
   nodes-count : count (held sheet a b) NODE ≡ getD a NODE 0
   nodes-count = ap length nodes-held ∙ count-rows a NODE
 
 -- of an accepted complete sheet that the words hold, as reading leaves it
-module _ (sheet a b : List ℕ) (e : read complete sheet .number ≡ 0) (h : read complete sheet .state ≡ held sheet a b) (sound : Sound a) (none : getD a MADE 0 ≡ 0) (top : 2 * getD a TOP 0 + 6 * getD a NODE 0 ≤ 2 * heap + 16384) where
+module _ (sheet a b : List ℕ) (e : read complete sheet .number ≡ 0) (h : read complete sheet .state ≡ held sheet a b) (sound : Sound a) (none : getD a MADE 0 ≡ 0)
+    (runs : rowsOf a RUN ≡ onTerm (held sheet a b)) (fits : Fits a) where
   the-run : Runs sheet a (env (held sheet a b)) [] (classNumbers (results (held sheet a b))) (runOf sheet a)
   the-run =
       let (hi, fu) = accepted-history complete sheet e in
-      let f : Facts complete (held sheet a b) = subst (Facts complete) h (record { history = hi; full = fu; keys = thirteen complete sheet e }) in
+      let f : Facts complete (held sheet a b) = subst (Facts complete) h (record { history = hi; full = fu; keys = all-keys complete sheet e }) in
       let d : Depths (held sheet a b) = reached-depths (subst (Reached complete) h (read-reached complete sheet)) in
       let c : policySizes (nPolicies (held sheet a b)) ≤ count (held sheet a b) NODE = subst (λ (s : State). policySizes (nPolicies s) ≤ count s NODE) h (policies-small complete sheet e) in
       let n = nodes-count sheet a b in
-      run-few sheet a b f d sound none (omega (arith, c, n)) top
+      run-few sheet a b f d sound none runs (omega (arith, c, n)) fits
 
-  -- THE THEOREM: the run's log is the list of the numbers of the classes that the Cedar specification gives the policies
+  -- THE THEOREM: the run's log is the list of the numbers of the classes that the Cedar specification gives the policies on term
   pub complete-run : runOf sheet a .log ≡ classNumbers (results (read complete sheet .state))
   complete-run = subst (λ (s : State). runOf sheet a .log ≡ classNumbers (results s)) (sym h) (the-run .log)
 
-  -- and its words hold the sheet's rows as before
+  -- and its words hold the rows of the sheet and of the policies that run as before
   pub complete-hold : Hold a (runOf sheet a .words)
   complete-hold = the-run .hold

@@ -13,7 +13,7 @@ use Rattle.cedar.proofs.TableLaws.{InN, now′}
 use Rattle.sheet.specs.Forms.{Mode, line, nothing, forms, formOf, slotAt, isLine, refsFrom, refs, tag, items, at, keyOf, firstNode, noTag, NODE, POLICY}
 use Rattle.forms.specs.Tags.{AND, OR, EQ, LT, LE, ADD, SUB, MUL, IN, GETTAG, HASTAG, CONTAINS, ALL, ANY, IF, IS, LIKE, GET, HAS, HASPATH, NOT, NEG, EMPTY, SET-OF, RECORD-OF, POLICY-LINE}
 use Rattle.sheet.specs.State.{State, linesOf, count, depthsOf}
-use Rattle.sheet.specs.Content.{types, patternOf, childrenOver, argsOver, treeOver, treesFrom, trees, effectOf, numberedPolicies, nPolicies}
+use Rattle.sheet.specs.Content.{types, patternOf, childrenOver, argsOver, treeOver, treesFrom, trees, effectOf, numberedPolicies, nPolicies, onTerm}
 use Rattle.sheet.proofs.Lines.{History}
 use Rattle.sheet.proofs.Parsed.{tags-between}
 use Rattle.sheet.proofs.NodeRows.{row-read}
@@ -22,6 +22,8 @@ use Rattle.sheet.proofs.Uses.{refs-below}
 use Rattle.sheet.proofs.Depths.{Deep, in-below}
 use Rattle.sheet.proofs.Shallow.{in-keep, this-kept}
 use Rattle.sheet.proofs.Slots.{set-slot, field-slot}
+use Rattle.sheet.proofs.OnTerm as T
+use Rattle.sheet.proofs.OnTerm.{Each, on-term}
 use Rattle.evaluator.proofs.Many.{kidsWith, argsWith}
 use Rattle.evaluator.proofs.Evaluates.{treesOf, treesWith, treeWith, treeAt, policiesAt}
 
@@ -227,11 +229,10 @@ module _ (m : Mode) (s : State) (h : History m s) (dp : Deep NODE (linesOf s NOD
       let a = in-below (count (w .was) NODE) (refsFrom NODE g 0 l) (getD l 2 0) (refs-below (w .was) NODE g 0 l (all-there (w .was) POLICY (g ∷ l) (w .pass .refers))) i in
       omega (arith, a, z)
 
-  policies-from : (pre rest : List (List ℕ)) → linesOf s POLICY ≡ pre ++ rest → policiesAt (types s) rows rest ≡ numberedPolicies (trees s) rest
-  policies-from pre [] e = refl
-  policies-from pre (r ∷ rest) e = ap₂ (λ (t : Node ℕ) (ps : List NPolicy). record { effect = effectOf (at r 1); tree = t } ∷ ps) (whole-tree (at r 2) (root-there pre rest r e))
-      (policies-from (pre ++ (r ∷ [])) rest (e ∙ sym (append-assoc pre (r ∷ []) rest)))
+  policies-each : {rs : List (List ℕ)} → Each (λ r. at r 2 < length rows) rs → policiesAt (types s) rows rs ≡ numberedPolicies (trees s) rs
+  policies-each T.none = refl
+  policies-each (T.more {r = r} lt lts) = ap₂ (λ (t : Node ℕ) (ps : List NPolicy). record { effect = effectOf (at r 1); tree = t } ∷ ps) (whole-tree (at r 2) lt) (policies-each lts)
 
-  pub policies-whole : policiesAt (types s) rows (linesOf s POLICY) ≡ nPolicies s
+  pub policies-whole : policiesAt (types s) rows (onTerm s) ≡ nPolicies s
   unfolding nPolicies
-  policies-whole = policies-from [] (linesOf s POLICY) refl
+  policies-whole = policies-each (on-term (λ r. at r 2 < length rows) s (λ pre r rest e. root-there pre rest r e))

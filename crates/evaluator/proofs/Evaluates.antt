@@ -14,11 +14,11 @@ use Rattle.cedar.specs.Evaluate.{eval}
 use Rattle.cedar.specs.Runs.{Policy, NPolicy, resultClass, completeAnswer}
 use Rattle.cedar.specs.Reads.{Reads, xerr, ReadPolicies, done, also}
 use Rattle.cedar.proofs.ReadsLaws.{Keeps, keep-reads, row-denotes, on-bool}
-use Rattle.sheet.specs.Forms.{tag, items, at, firstNode, NODE, POLICY}
+use Rattle.sheet.specs.Forms.{tag, items, at, firstNode, NODE}
 use Rattle.sheet.specs.Content.{varOf, patternOf, types, effectOf}
 use Rattle.sheet.specs.Answer.{size}
 use Rattle.sheet.proofs.MadeCount.{policySizes}
-use Rattle.table.specs.Layout.{rowsOf, held}
+use Rattle.table.specs.Layout.{RUN, rowsOf, held}
 use Rattle.residual.specs.Classes.{classNumber}
 use Rattle.tpe.proofs.Stands.{Hold, Room}
 use Rattle.evaluator.specs.Run.{Rec, Step, yields, nodeIn, policyIn, steps, errStep, stepAt, stepOf, evalOf, classOf, classNumbers, Ran, ranFrom}
@@ -130,9 +130,9 @@ module _ (sheet a₀ : List ℕ) (G : Env) where
   keep-policies k [] done = done
   keep-policies k (r ∷ rs) (also q h) = also (keep-reads k q) (keep-policies k rs h)
 
-  -- row i of the policies, which are rs from there on
-  policy-here : (a : List ℕ) → Hold a₀ a → (i : ℕ) {r : List ℕ} {rs : List (List ℕ)} → drop i (rowsOf a₀ POLICY) ≡ r ∷ rs → policyIn a i ≡ r
-  policy-here a h i e = ap (λ (rows : List (List ℕ)). getD rows i []) (h .same POLICY (omega arith)) ∙ here (rowsOf a₀ POLICY) i [] e
+  -- row i of the policies that run, which are rs from there on
+  policy-here : (a : List ℕ) → Hold a₀ a → (i : ℕ) {r : List ℕ} {rs : List (List ℕ)} → drop i (rowsOf a₀ RUN) ≡ r ∷ rs → policyIn a i ≡ r
+  policy-here a h i e = ap (λ (rows : List (List ℕ)). getD rows i []) (h .same RUN (omega arith)) ∙ here (rowsOf a₀ RUN) i [] e
 
   ran-step : (f : Rec) (k i : ℕ) (a l r : List ℕ) (c : ℕ) → policyIn a i ≡ r → classNumber (classOf (f a l (at r 2) .words) (f a l (at r 2) .yield)) ≡ c
       → ranFrom f (suc k) i a l ≡ ranFrom f k (suc i) (f a l (at r 2) .words) (pushed l c)
@@ -147,7 +147,7 @@ module _ (sheet a₀ : List ℕ) (G : Env) where
     pub log : t .log ≡ l ++ cs
 
   -- the numbers of the classes of the complete answer
-  pub run-is : (rs : List (List ℕ)) {ps : List Policy} (i : ℕ) (a l : List ℕ) (C : List Content) → drop i (rowsOf a₀ POLICY) ≡ rs → Stand sheet a₀ G C a
+  pub run-is : (rs : List (List ℕ)) {ps : List Policy} (i : ℕ) (a l : List ℕ) (C : List Content) → drop i (rowsOf a₀ RUN) ≡ rs → Stand sheet a₀ G C a
       → Room (policySizes (policiesAt tys nodes rs)) a l → length l + length rs + 6 * policySizes (policiesAt tys nodes rs) ≤ 16384 → ReadPolicies C (policiesAt tys nodes rs) ps
       → Runs l (classNumbers (completeAnswer (sch sheet a₀ G) G ps)) (ranFrom (evalOf sheet 64) (length rs) i a l)
   unfolding ranFrom
@@ -159,7 +159,7 @@ module _ (sheet a₀ : List ℕ) (G : Env) where
       let c : ℕ = classNumber (resultClass (eval (sch sheet a₀ G) G X)) in
       let z = rest-room sheet a₀ G k m (n + m) l room (omega arith) in
       let len = length-append l (c ∷ []) in
-      let rest = run-is rs (suc i) (evalOf sheet 64 a l (at r 2) .words) (l ++ (c ∷ [])) (k .contents) (further (rowsOf a₀ POLICY) i e) (k .stand)
+      let rest = run-is rs (suc i) (evalOf sheet 64 a l (at r 2) .words) (l ++ (c ∷ [])) (k .contents) (further (rowsOf a₀ RUN) i e) (k .stand)
       (record { top = z .top; few = z .few; log = omega (arith, fits, len) }) (omega (arith, fits, len)) (keep-policies (k .keeps) rs h) in
       subst (Runs l _)
       (sym (ran-step (evalOf sheet 64) (length rs) i a l r c (policy-here a (s .hold) i e) (ap classNumber (class-is (k .stand) (k .says)))

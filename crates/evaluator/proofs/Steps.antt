@@ -1,12 +1,11 @@
 -- One step for each operation yields what `eval` gives the node, where its operands yield what `eval` gives them. Assumes nothing.
-use mathlib.Core.Path.{_≡_, sym, _∙_, ap, subst, refl}
+use mathlib.Core.Path.{_≡_, sym, _∙_, ap, subst}
 use mathlib.Core.Bool.{Bool, true, false, cond}
 use mathlib.Core.Option.{Option, none, some}
 use mathlib.Core.List.{List, []}
 use Prim.Native.Nat.{ℕ, suc, _+_, _≤_}
 use native.Mathlib.Omega.{arith}
 use lib.ListN.{getD, drop}
-use Rattle.table.proofs.Held.{held-same}
 use Rattle.tpe.proofs.Reach.{asks}
 use Rattle.cedar.specs.Value.{Value as Content, Result, ok, bind, okBool}
 use Rattle.cedar.specs.Types.{Ty, Schema, Var, principal, action, resource, context}
@@ -29,7 +28,7 @@ use Rattle.sheet.specs.Answer.{size}
 use Rattle.table.specs.Layout.{held}
 use Rattle.tpe.specs.Run.{wordsOf}
 use Rattle.tpe.proofs.Outcomes.{GiveFine, Fine, words-row, words-formed, words-short, row-fine}
-use Rattle.tpe.proofs.Stands.{Hold, Room, Spent, schema-is, env-is}
+use Rattle.tpe.proofs.Stands.{Hold, Room, Spent, same-sheet, schema-is, env-is}
 use lib.Dec.{eqb}
 use Rattle.evaluator.specs.Run.{E, Rec, yields, values, giveOf, settleOf, optOf, next, nodeIn, sideOf, branchOf, pathOut, litStep, errStep, varStep, lazyStep, ifStep, oneStep, twoStep, unOut, binOut, relOut, getOut, hasOut, walkOut, schemaOf, envOf}
 use Rattle.evaluator.specs.declared.Yield.the-variants.{Value, Error}
@@ -94,7 +93,7 @@ module _ (sheet a₀ : List ℕ) (G : Env) where
 
     asked-as : (x : Var) → asks a .request x ≡ nEnv complete (held [] a₀ []) .request x
     unfolding nEnv
-    asked-as x = ap (λ (t : State). given t x) (held-same [] a₀ a [] [] (s .hold .same) refl)
+    asked-as x = ap (λ (t : State). given t x) (same-sheet [] a₀ a (s .hold))
 
     var-gives : (T : Ty) (x : Var) (X : Expr) → Reads C (var T x) X → Gives sheet a₀ G C 1 a (optOf a (envOf a .request x)) (eval sch G X)
     var-gives T x X xvar = rw (env-is complete [] a₀ a (s .hold)) (opt-gives x (asked-as x) (s .env .request x) (request-fine (held [] a₀ []) x))

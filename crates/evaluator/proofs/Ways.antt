@@ -13,10 +13,10 @@ use Rattle.words.specs.Log.{part, Room, Appended, appended, pushed}
 use Rattle.words.proofs.Logs.{append-holds, append-room, append-below, holds-same, holds-as, holds-from, log-cut, log-length}
 use Rattle.cedar.specs.Residual.{uempty, bany}
 use Rattle.cedar.specs.Numbered.{rowAt}
-use Rattle.sheet.specs.Forms.{tag, at, firstNode, NODE, POLICY}
+use Rattle.sheet.specs.Forms.{tag, at, firstNode, NODE}
 use Rattle.forms.specs.Tags.{ERR, VAR, AND, OR, EQ, IF, IS, SET-OF, RECORD-OF}
 use Rattle.sheet.specs.Content.{varOf}
-use Rattle.table.specs.Layout.{rowsOf}
+use Rattle.table.specs.Layout.{RUN, rowsOf}
 use Rattle.table.proofs.Rows.{above}
 use Rattle.value.specs.Made.{boolRow, Made, MadeBeside, setRow, recordRow, written}
 use Rattle.residual.specs.Rows.{litRow}
@@ -390,9 +390,9 @@ pub record Running (sheet a₀ : List ℕ) (all : ℕ) (a b : List ℕ) (bt i : 
   pub near : i ≤ all
   pub left : ranFrom (evalOf sheet 64) (all - i) i a (take bt b) ≡ runOf sheet a₀
 
-pub run-start : (sheet a b : List ℕ) (all : ℕ) → 16384 ≤ length b → all ≡ getD a POLICY 0 → Running sheet a all a b 0 0
+pub run-start : (sheet a b : List ℕ) (all : ℕ) → 16384 ≤ length b → all ≡ getD a RUN 0 → Running sheet a all a b 0 0
 unfolding runOf
-run-start sheet a b all l e = record { room = record { low = omega arith; long = l }; near = omega arith; left = let z : all - 0 ≡ getD a POLICY 0 = omega (arith, e) in ap (λ (m : ℕ). ranFrom (evalOf sheet 64) m 0 a []) z }
+run-start sheet a b all l e = record { room = record { low = omega arith; long = l }; near = omega arith; left = let z : all - 0 ≡ getD a RUN 0 = omega (arith, e) in ap (λ (m : ℕ). ranFrom (evalOf sheet 64) m 0 a []) z }
 
 ran-next : (f : Rec) (k i : ℕ) (a l : List ℕ) (x : ℕ) → x ≡ getD (policyIn a i) 3 0 → 0 < k
     → ranFrom f k i a l ≡ ranFrom f (k - 1) (suc i) (f a l x .words) (pushed l (classNumber (classOf (f a l x .words) (f a l x .yield))))
@@ -415,7 +415,7 @@ module _ (sheet a₀ : List ℕ) (all : ℕ) (a b : List ℕ) (bt i : ℕ) (g : 
         end = sym (ap (λ (t : Ran). length (t .log)) w ∙ log-length b bt (g .room));
       }
 
-  pub run-more : (r : List ℕ) (x : ℕ) (a₁ b₁ : List ℕ) (y : Yield) (c e : ℕ) (b₂ : List ℕ) → i < all → r ≡ getD (rowsOf a POLICY) i [] → x ≡ getD r 3 0 → GaveBeside (evalOf sheet 64 a (take bt b) x) a₁ y bt b b₁
+  pub run-more : (r : List ℕ) (x : ℕ) (a₁ b₁ : List ℕ) (y : Yield) (c e : ℕ) (b₂ : List ℕ) → i < all → r ≡ getD (rowsOf a RUN) i [] → x ≡ getD r 3 0 → GaveBeside (evalOf sheet 64 a (take bt b) x) a₁ y bt b b₁
       → length b₁ ≡ length b → c ≡ classNumber (classOf a₁ y) → Appended b₁ bt (c ∷ []) b₂ e → Running sheet a₀ all a₁ b₂ e (i + 1)
   run-more r x a₁ b₁ y c e b₂ l er ex v len ec p =
       let room₁ : Room b₁ bt = record { low = g .room .low; long = omega (arith, g .room .long, len) } in

@@ -14,10 +14,10 @@ use Rattle.cedar.specs.Residual.{Un, unot, uneg, uempty, uis, ulike, Bin, beq, 
 use Rattle.cedar.specs.Response.{Verdict}
 use Rattle.cedar.specs.Rows.{Row}
 use Rattle.cedar.specs.Numbered.{Give, made, old, NEnv, rowAt, rBool, NOut, give, fails, stays, truly, isSome, entryOf, nUn, nBin, nRel, onEntries, nGet, nHas}
-use Rattle.sheet.specs.Forms.{complete, tag, items, at, firstNode, NODE, POLICY}
+use Rattle.sheet.specs.Forms.{complete, tag, items, at, firstNode, NODE}
 use Rattle.sheet.specs.Content.{rowsIn, varOf, patternOf}
 use Rattle.forms.specs.Tags.{EQ, IS}
-use Rattle.table.specs.Layout.{rowsOf}
+use Rattle.table.specs.Layout.{RUN, rowsOf}
 use Rattle.value.specs.Lines.{valueLines}
 use Rattle.value.specs.Made.{boolRow, numberOf, withValue, setRow, recordRow, written}
 use Rattle.residual.specs.Rows.{litRow}
@@ -47,7 +47,7 @@ abbrev pub nodeIn : List ℕ → ℕ → List ℕ
 nodeIn a n = getD (rowsOf a NODE) n []
 
 abbrev pub policyIn : List ℕ → ℕ → List ℕ
-policyIn a i = getD (rowsOf a POLICY) i []
+policyIn a i = getD (rowsOf a RUN) i []
 
 -- ---- what an operation gives
 
@@ -257,4 +257,4 @@ ranFrom f (suc k) i a l = let o = f a l (at (policyIn a i) 2) in ranFrom f k (su
 
 -- "a tree is never deeper than 64"
 unfoldable pub runOf : List ℕ → List ℕ → Ran
-runOf sheet a = ranFrom (evalOf sheet 64) (getD a POLICY 0) 0 a []
+runOf sheet a = ranFrom (evalOf sheet 64) (getD a RUN 0) 0 a []

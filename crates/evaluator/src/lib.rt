@@ -16,7 +16,6 @@ use forms::OR;
 use forms::PART_A;
 use forms::PART_P;
 use forms::PART_R;
-use forms::POLICY;
 use forms::PRINCIPAL;
 use forms::RECORD_OF;
 use forms::RESOURCE;
@@ -28,6 +27,7 @@ use residual::CLASS_OPEN;
 use residual::CLASS_TRUE;
 use residual::push_value;
 use strict::Given;
+use table::RUN;
 use table::count;
 use table::item;
 use table::row;
@@ -409,11 +409,11 @@ pub fn run(sheet: &[u8], rows: &mut [u32], log: &mut [u32]) -> usize
     requires { ⌜ 16384 ≤ length (now log) ⌝ }
     ensures { λ n. ⌜ Done (runOf (now (sheet .entry)) (now (rows .entry))) (now (rows .exit)) (now (log .exit)) n ⌝ }
 {
-    let most = count(rows, POLICY);
+    let most = count(rows, RUN);
     let mut end: usize = 0;
     let mut i: u32 = 0;
     while i < most {
-        let yielded = eval(sheet, rows, log, end, item(row(rows, POLICY, i), 3), 64);
+        let yielded = eval(sheet, rows, log, end, item(row(rows, RUN, i), 3), 64);
         end = push(log, end, class_of(rows, yielded));
         i += 1;
     }

@@ -10,7 +10,7 @@ use lib.ListN.{length, List·getD-eq-default}
 use Rattle.sheet.specs.Forms.{Form, forms, formIn, tagOf, noKey, noTag}
 use Rattle.sheet.proofs.Parsed.{allBelow, all-below}
 use Rattle.forms.specs.declared.Key as D
-use Rattle.forms.specs.Keys.{INDEX, limits, limit, bases, base, heap, keyRow, keyed}
+use Rattle.forms.specs.Keys.{MADE, INDEX, limits, limit, bases, base, heap, keyRow, keyed}
 use Rattle.forms.proofs.Tests.{small, entry-small, NoneOf, below, past}
 
 -- ---- past the last key
@@ -30,11 +30,11 @@ tag-none : (k : ℕ) → noKey ≤ k → noTag ≡ tagOf k []
 unfolding tagOf forms lowKeys
 tag-none k h = sym (past-keys k [] forms h refl)
 
--- made values stand after the last key
-pub key-out : (k : ℕ) → NoneOf (below (suc noKey)) k → keyRow 0 0 noTag ≡ keyed k
+-- the policies that run and made values stand after the last key
+pub key-out : (k : ℕ) → NoneOf (below (suc MADE)) k → keyRow 0 0 noTag ≡ keyed k
 unfolding keyed base bases limit
 key-out k h =
-    let l : suc noKey ≤ k = past (suc noKey) k h in
+    let l : suc MADE ≤ k = past (suc MADE) k h in
     λ i. record { base = sym (List·getD-eq-default bases 0 l) i; most = sym (List·getD-eq-default limits 0 l) i; tag = tag-none k (omega arith) i }
 
 base-small : (k : ℕ) → base k < heap
@@ -56,19 +56,19 @@ module _ (k : ℕ) (r : D.Key) (e : r ≡ keyed k) where
 
 -- ---- the regions of the index lie one after another
 
-pub regions-rise : (k j : ℕ) → k < suc noKey → j < k → base j + limit j < base k
+pub regions-rise : (k j : ℕ) → k < suc MADE → j < k → base j + limit j < base k
 unfolding base bases limit
 regions-rise k j h l =
     ltb-true (base j + limit j) (base k)
-    (all-below (λ (i : ℕ). ltb (base i + limit i) (base k)) k j (all-below (λ (m : ℕ). allBelow (λ (i : ℕ). ltb (base i + limit i) (base m)) m) (suc noKey) k refl h) l)
+    (all-below (λ (i : ℕ). ltb (base i + limit i) (base k)) k j (all-below (λ (m : ℕ). allBelow (λ (i : ℕ). ltb (base i + limit i) (base m)) m) (suc MADE) k refl h) l)
 
-pub regions-low : (k : ℕ) → k < suc noKey → INDEX ≤ base k
+pub regions-low : (k : ℕ) → k < suc MADE → INDEX ≤ base k
 unfolding base bases
-regions-low k h = leb-true INDEX (base k) (all-below (λ (m : ℕ). leb INDEX (base m)) (suc noKey) k refl h)
+regions-low k h = leb-true INDEX (base k) (all-below (λ (m : ℕ). leb INDEX (base m)) (suc MADE) k refl h)
 
-pub regions-high : (k : ℕ) → k < suc noKey → base k + limit k < heap
+pub regions-high : (k : ℕ) → k < suc MADE → base k + limit k < heap
 unfolding base bases limit
-regions-high k h = ltb-true (base k + limit k) heap (all-below (λ (m : ℕ). ltb (base m + limit m) heap) (suc noKey) k refl h)
+regions-high k h = ltb-true (base k + limit k) heap (all-below (λ (m : ℕ). ltb (base m + limit m) heap) (suc MADE) k refl h)
 
 pub limit-small : (k : ℕ) → limit k ≤ 1024
 unfolding limit small

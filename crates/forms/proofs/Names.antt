@@ -4,8 +4,8 @@ use mathlib.Core.List.{List, [], _∷_, map}
 use Prim.Native.Nat.{ℕ, zero, suc, _+_}
 use Prim.Native.String.{String}
 use Rattle.sheet.specs.Ascii.{ascii}
-use Rattle.sheet.specs.Forms.{Slot, entry, line, lineOr, lineUnknown, word, number, nothing, forms, formOf, slotAt, placeIn, noTag, firstType, firstValue, firstNode, SHEET, TEXT, KIND, TYPE, SHAPE, VALUE, ENTITY, PRINCIPAL, ACTION, RESOURCE, CONTEXT, NODE, POLICY}
-use Rattle.forms.specs.Tags.{SHEET-LINE, TEXT-LINE, KIND-LINE, BOOL-TYPE, LONG-TYPE, STRING-TYPE, ENTITY-TYPE, SET-TYPE, RECORD-TYPE, SHAPE-LINE, BOOL-VALUE, LONG-VALUE, TEXT-VALUE, ENTITY-VALUE, SET-VALUE, RECORD-VALUE, ENTITY-LINE, PRINCIPAL-LINE, ACTION-LINE, RESOURCE-LINE, CONTEXT-LINE, LIT, ERR, VAR, AND, OR, EQ, LT, LE, ADD, SUB, MUL, IN, GETTAG, HASTAG, CONTAINS, ALL, ANY, IF, IS, LIKE, GET, HAS, HASPATH, NOT, NEG, EMPTY, SET-OF, RECORD-OF, POLICY-LINE, ORDINARY, OF-ACTIONS, OPTIONAL, REQUIRED, PART-P, PART-A, PART-R, PART-C, PERMIT, FORBID}
+use Rattle.sheet.specs.Forms.{Slot, entry, line, lineOr, lineUnknown, word, number, day, nothing, forms, formOf, slotAt, placeIn, noTag, firstType, firstValue, firstNode, SHEET, TEXT, KIND, TYPE, SHAPE, VALUE, ENTITY, PRINCIPAL, ACTION, RESOURCE, CONTEXT, DAY, NODE, POLICY, TERM}
+use Rattle.forms.specs.Tags.{SHEET-LINE, TEXT-LINE, KIND-LINE, BOOL-TYPE, LONG-TYPE, STRING-TYPE, ENTITY-TYPE, SET-TYPE, RECORD-TYPE, SHAPE-LINE, BOOL-VALUE, LONG-VALUE, TEXT-VALUE, ENTITY-VALUE, SET-VALUE, RECORD-VALUE, ENTITY-LINE, PRINCIPAL-LINE, ACTION-LINE, RESOURCE-LINE, CONTEXT-LINE, LIT, ERR, VAR, AND, OR, EQ, LT, LE, ADD, SUB, MUL, IN, GETTAG, HASTAG, CONTAINS, ALL, ANY, IF, IS, LIKE, GET, HAS, HASPATH, NOT, NEG, EMPTY, SET-OF, RECORD-OF, POLICY-LINE, DAY-LINE, TERM-LINE, ORDINARY, OF-ACTIONS, OPTIONAL, REQUIRED, PART-P, PART-A, PART-R, PART-C, PERMIT, FORBID}
 
 -- ---- tags
 
@@ -70,6 +70,8 @@ tags =
     ∷ named SET-OF NODE "set"
     ∷ named RECORD-OF NODE "record"
     ∷ named POLICY-LINE POLICY ""
+    ∷ named DAY-LINE DAY ""
+    ∷ named TERM-LINE TERM ""
     ∷ []
 
 abbrev upFrom : ℕ → ℕ → List ℕ
@@ -80,7 +82,7 @@ pub tags-are : map (λ (t : ℕ). named t (formOf t .key) (formOf t .name)) (upF
 unfolding formOf forms
 tags-are = refl
 
-pub no-more : POLICY-LINE + 1 ≡ noTag
+pub no-more : TERM-LINE + 1 ≡ noTag
 no-more = refl
 
 pub firsts-are : (firstType ∷ firstValue ∷ firstNode ∷ []) ≡ (BOOL-TYPE ∷ BOOL-VALUE ∷ LIT ∷ [])
@@ -95,6 +97,7 @@ wordsIn (lineOr b k) = []
 wordsIn (lineUnknown k) = []
 wordsIn (word ws) = ws
 wordsIn number = []
+wordsIn day = []
 wordsIn nothing = []
 
 -- a word's number, and where it may stand: a form and a place

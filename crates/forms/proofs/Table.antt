@@ -8,7 +8,7 @@ use borrow.Author.Tests.{leb-true, eqb-true}
 use lib.Dec.{leb}
 use lib.ListN.{length, getD, List·getD-map, List·getD-eq-default}
 use Rattle.cedar.proofs.Tools.{no-true}
-use Rattle.sheet.specs.Forms.{Slot, entry, line, lineOr, lineUnknown, word, number, nothing, Form, forms, formOf, noForm, noKey, noTag, slotAt, isLine, firstNode, TYPE}
+use Rattle.sheet.specs.Forms.{Slot, entry, line, lineOr, lineUnknown, word, number, day, nothing, Form, forms, formOf, noForm, noKey, noTag, slotAt, isLine, firstNode, TYPE}
 use Rattle.sheet.proofs.Parsed.{allBelow}
 use Rattle.forms.specs.declared.Form as D
 use Rattle.forms.specs.Rows.{Shape, shape, read, code, coded, slotOf}
@@ -92,6 +92,7 @@ is-line k (lineOr b l) e = no-true e
 is-line k (lineUnknown l) e = no-true e
 is-line k (word ws) e = no-true e
 is-line k number e = no-true e
+is-line k day e = no-true e
 is-line k nothing e = no-true e
 
 module _ (t : ℕ) (l : firstNode ≤ t) (h : t ≤ RECORD-OF) where

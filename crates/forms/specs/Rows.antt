@@ -8,7 +8,7 @@ use mathlib.Core.List.{List, [], _∷_, _++_}
 use Prim.Native.Nat.{ℕ, _+_, _-_, _/_, _%_}
 use lib.Dec.{ltb, eqb}
 use lib.ListN.{length, getD}
-use Rattle.sheet.specs.Forms.{Slot, entry, line, lineOr, lineUnknown, word, number, nothing, dash, asterisk, Form, TYPE, VALUE, NODE}
+use Rattle.sheet.specs.Forms.{Slot, entry, line, lineOr, lineUnknown, word, number, day, nothing, dash, asterisk, Form, TYPE, VALUE, NODE}
 use Rattle.forms.specs.declared.Form as D
 
 abbrev pub row : ℕ → ℕ → ℕ → Bool → ℕ → ℕ → ℕ → ℕ → D.Form
@@ -42,6 +42,9 @@ PART-LETTER = 6
 abbrev pub EFFECT : ℕ
 EFFECT = 7
 
+abbrev pub DATE : ℕ
+DATE = 8
+
 -- this and a key: a line of it; each of the next and a key: the same or `?`, `-`, `*`
 abbrev pub LINE : ℕ
 LINE = 16
@@ -73,6 +76,7 @@ wordCode w =
 unfoldable pub code : Slot → ℕ
 code nothing = NONE
 code number = NUMBER
+code day = DATE
 code entry = ENTRY
 code (word []) = NONE
 code (word (w ∷ ws)) = wordCode w
@@ -95,7 +99,7 @@ coded f =
 abbrev pub specials : List Slot
 specials =
     nothing ∷ number ∷ entry ∷ word ("e" ∷ "a" ∷ []) ∷ word ("o" ∷ "r" ∷ []) ∷ word ("0" ∷ "1" ∷ []) ∷ word ("p" ∷ "a" ∷ "r" ∷ "c" ∷ [])
-    ∷ word ("permit" ∷ "forbid" ∷ []) ∷ []
+    ∷ word ("permit" ∷ "forbid" ∷ []) ∷ day ∷ []
 
 unfoldable pub slotOf : ℕ → Slot
 slotOf c =

@@ -151,6 +151,12 @@ RECORD-OF = SET-OF + 1
 abbrev pub POLICY-LINE : ℕ
 POLICY-LINE = RECORD-OF + 1
 
+abbrev pub DAY-LINE : ℕ
+DAY-LINE = POLICY-LINE + 1
+
+abbrev pub TERM-LINE : ℕ
+TERM-LINE = DAY-LINE + 1
+
 -- ---- words at a place: what each is in a row
 
 -- `e` and `a` of a kind

@@ -29,12 +29,21 @@ pub const RESOURCE: usize = 9;
 
 pub const CONTEXT: usize = 10;
 
-pub const NODE: usize = 11;
+pub const DAY: usize = 11;
 
-pub const POLICY: usize = 12;
+pub const NODE: usize = 12;
+
+pub const POLICY: usize = 13;
+
+pub const TERM: usize = 14;
 
 // What no form has as its key.
-pub const NO_KEY: usize = 13;
+pub const NO_KEY: usize = 15;
+
+// Rows that stand in words only, after those of the keys: the policies that run, and made values.
+pub const RUN: usize = NO_KEY;
+
+pub const MADE: usize = RUN + 1;
 
 // ---- what may stand at a place
 
@@ -56,6 +65,8 @@ pub const PART_LETTER: u8 = 6;
 
 pub const EFFECT: u8 = 7;
 
+pub const DATE: u8 = 8;
+
 pub const LINE: u8 = 16;
 
 pub const UNKNOWN: u8 = 32;
@@ -73,6 +84,8 @@ pub const OF_TYPE: u8 = LINE + TYPE as u8;
 pub const OF_VALUE: u8 = LINE + VALUE as u8;
 
 pub const OF_NODE: u8 = LINE + NODE as u8;
+
+pub const OF_POLICY: u8 = LINE + POLICY as u8;
 
 pub const TEXT_OR_UNKNOWN: u8 = UNKNOWN + TEXT as u8;
 
@@ -213,8 +226,12 @@ pub const RECORD_OF: u32 = SET_OF + 1;
 
 pub const POLICY_LINE: u32 = RECORD_OF + 1;
 
+pub const DAY_LINE: u32 = POLICY_LINE + 1;
+
+pub const TERM_LINE: u32 = DAY_LINE + 1;
+
 // How many forms there are; a tag that no form has.
-pub const NO_TAG: u32 = POLICY_LINE + 1;
+pub const NO_TAG: u32 = TERM_LINE + 1;
 
 // ---- the table
 
@@ -286,7 +303,7 @@ fn rising(
     }
 }
 
-// The forms of one key stand together, in the keys' order.
+// The forms of one key stand together.
 pub fn form_of(tag: u32) -> Form
     ensures { λ r. ⌜ r ≡ coded (formOf tag) ⌝ }
 {
@@ -348,6 +365,8 @@ pub fn form_of(tag: u32) -> Form
         SET_OF => with(NODE, 1, 1, OF_TYPE, OF_NODE, NONE, NONE),
         RECORD_OF => rising(NODE, 1, 2, OF_TYPE, OF_TEXT, OF_NODE, NONE),
         POLICY_LINE => plain(POLICY, 3, OF_TEXT, EFFECT, OF_NODE, NONE),
+        DAY_LINE => plain(DAY, 1, DATE, NONE, NONE, NONE),
+        TERM_LINE => plain(TERM, 3, OF_POLICY, DATE, DATE, NONE),
         _ => plain(NO_KEY, 1, NONE, NONE, NONE, NONE),
     }
 }
@@ -380,8 +399,8 @@ const NODES: u32 = 1024;
 const POLICIES: u32 = 64;
 
 // The words that say where a key's rows begin: one a row, and one for the end of the last. Before them stand how many rows each key has, how many
-// values were made, where the next row begins, and a word that nothing uses.
-const SHEET_ROWS: usize = NO_KEY + 3;
+// policies run, how many values were made, where the next row begins, and a word that nothing uses.
+const SHEET_ROWS: usize = MADE + 3;
 
 const TEXT_ROWS: usize = SHEET_ROWS + 2;
 
@@ -403,11 +422,17 @@ const RESOURCE_ROWS: usize = ACTION_ROWS + 2;
 
 const CONTEXT_ROWS: usize = RESOURCE_ROWS + 2;
 
-const NODE_ROWS: usize = CONTEXT_ROWS + 2;
+const DAY_ROWS: usize = CONTEXT_ROWS + 2;
+
+const NODE_ROWS: usize = DAY_ROWS + 2;
 
 const POLICY_ROWS: usize = NODE_ROWS + NODES as usize + 1;
 
-const MADE_ROWS: usize = POLICY_ROWS + POLICIES as usize + 1;
+const TERM_ROWS: usize = POLICY_ROWS + POLICIES as usize + 1;
+
+const RUN_ROWS: usize = TERM_ROWS + POLICIES as usize + 1;
+
+const MADE_ROWS: usize = RUN_ROWS + POLICIES as usize + 1;
 
 // Where the first row begins.
 pub const HEAP: usize = MADE_ROWS + VALUES as usize + 1;
@@ -425,7 +450,7 @@ fn of_key(base: usize, most: u32, tag: u32) -> Key
     Key { base, most, tag }
 }
 
-// Made values stand after the keys.
+// The policies that run and made values stand after the keys.
 pub fn key_row(key: usize) -> Key
     ensures { λ r. ⌜ r ≡ keyed key ⌝ }
 {
@@ -441,9 +466,12 @@ pub fn key_row(key: usize) -> Key
         ACTION => of_key(ACTION_ROWS, 1, ACTION_LINE),
         RESOURCE => of_key(RESOURCE_ROWS, 1, RESOURCE_LINE),
         CONTEXT => of_key(CONTEXT_ROWS, 1, CONTEXT_LINE),
+        DAY => of_key(DAY_ROWS, 1, DAY_LINE),
         NODE => of_key(NODE_ROWS, NODES, NO_TAG),
         POLICY => of_key(POLICY_ROWS, POLICIES, POLICY_LINE),
-        NO_KEY => of_key(MADE_ROWS, VALUES, NO_TAG),
+        TERM => of_key(TERM_ROWS, POLICIES, TERM_LINE),
+        RUN => of_key(RUN_ROWS, POLICIES, NO_TAG),
+        MADE => of_key(MADE_ROWS, VALUES, NO_TAG),
         _ => of_key(0, 0, NO_TAG),
     }
 }

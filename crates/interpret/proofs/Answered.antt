@@ -1,7 +1,7 @@
 -- AFTER A RUN OVER AN ACCEPTED SHEET, what is noted of the policies is what the sheet's run says of them.
 use mathlib.Core.Path.{_≡_, refl, sym, ap, _∙_, subst}
 use mathlib.Core.List.{List, [], _∷_}
-use Prim.Native.Nat.{ℕ, zero, suc, _+_, _*_, _≤_}
+use Prim.Native.Nat.{ℕ, zero, suc, _≤_}
 use native.Mathlib.Nat.{le-refl}
 use native.Mathlib.Omega.{arith}
 use borrow.Author.Tests.{le-leb}
@@ -22,21 +22,22 @@ use Rattle.cedar.proofs.Refine.{class-of}
 use Rattle.cedar.proofs.Settled.{partialAnswer}
 use Rattle.cedar.proofs.SettledByNumber as R
 use Rattle.cedar.proofs.SettledByNumber.{Residuals, run-reads}
-use Rattle.sheet.specs.Forms.{partial, NODE, POLICY}
+use Rattle.sheet.specs.Forms.{partial}
 use Rattle.sheet.specs.State.{State}
 use Rattle.sheet.specs.Sheet.{read}
-use Rattle.sheet.specs.Content.{schema, nEnv, pEnv, nPolicies}
+use Rattle.sheet.specs.Content.{schema, nEnv, pEnv, nPolicies, onTerm}
 use Rattle.sheet.specs.Answer.{run}
 use Rattle.sheet.proofs.Lines.{accepted-history}
-use Rattle.sheet.proofs.Environment.{Facts, env-read, thirteen}
+use Rattle.sheet.proofs.Environment.{Facts, env-read, all-keys}
 use Rattle.sheet.proofs.ValueRows.{values-table}
 use Rattle.sheet.proofs.OwnPolicies.{read-own}
 use Rattle.sheet.proofs.NeverNine.{policy-sizes, residual-sizes}
-use Rattle.table.specs.Layout.{held, MADE, TOP, heap, limits, limit, Sound}
+use Rattle.table.specs.Layout.{rowsOf, held, RUN, MADE, limits, limit, Sound}
 use Rattle.table.proofs.Rows.{count-rows}
 use Rattle.residual.specs.Trees.{flats}
 use Rattle.residual.specs.Classes.{rootsOf}
 use Rattle.tpe.specs.Run.{Rec, Ran, ranFrom, runOf}
+use Rattle.tpe.specs.Fits.{Fits}
 use Rattle.tpe.proofs.Stands.{tys, nodes}
 use Rattle.tpe.proofs.Policies.{linesFor, RunIs}
 use Rattle.tpe.proofs.Accepted.{run-fits}
@@ -88,7 +89,7 @@ pub record Lined (vs : List NVerdict) (b b′ : List ℕ) : Type 0 where
   pub roots : take (length vs) (drop ROOTS b′) ≡ rootsOf 0 vs
 
 module _ (sheet a b : List ℕ) (accepted : read partial sheet .number ≡ 0) (state : read partial sheet .state ≡ held sheet a b) (sound : Sound a) (none : getD a MADE 0 ≡ 0)
-    (fits : 2 * getD a TOP 0 + 6 * getD a NODE 0 ≤ 2 * heap + 16384) where
+    (runs : rowsOf a RUN ≡ onTerm (held sheet a b)) (fits : Fits a) where
   abbrev x : Run
   x = run partial (read partial sheet .state)
 
@@ -96,22 +97,22 @@ module _ (sheet a b : List ℕ) (accepted : read partial sheet .number ≡ 0) (s
   r = runOf partial sheet a []
 
   pub ran : RunIs partial sheet a 64 [] x r
-  ran = run-fits sheet a b accepted state sound none (omega (arith, fits, sound .over))
+  ran = run-fits sheet a b accepted state sound none runs fits
 
   stays : Stays (x .rows) (x .lines)
-  stays = let (h, g) = accepted-history partial sheet accepted in run-stays (read partial sheet .state) (record { history = h; full = g; keys = thirteen partial sheet accepted })
+  stays = let (h, g) = accepted-history partial sheet accepted in run-stays (read partial sheet .state) (record { history = h; full = g; keys = all-keys partial sheet accepted })
 
-  -- a line for each policy
-  pub policies : length (x .lines) ≡ getD a POLICY 0
+  -- a line for each policy that runs
+  pub policies : length (x .lines) ≡ getD a RUN 0
   unfolding runOf
-  policies = sym (lines-long 0 (x .lines)) ∙ ap length (sym (ran .lines)) ∙ ran-long _ 0 (getD a POLICY 0) a []
+  policies = sym (lines-long 0 (x .lines)) ∙ ap length (sym (ran .lines)) ∙ ran-long _ 0 (getD a RUN 0) a []
 
-  same-count : getD (r .words) POLICY 0 ≡ getD a POLICY 0
-  same-count = sym (count-rows (r .words) POLICY) ∙ ap length (ran .hold .same POLICY (omega arith)) ∙ count-rows a POLICY
+  same-count : getD (r .words) RUN 0 ≡ getD a RUN 0
+  same-count = sym (count-rows (r .words) RUN) ∙ ap length (ran .hold .same RUN (omega arith)) ∙ count-rows a RUN
 
   pub few : length (x .lines) ≤ 64
   unfolding limit limits
-  few = let n = sound .few POLICY (omega arith) in omega (arith, n, policies)
+  few = let n = sound .few RUN (omega arith) in omega (arith, n, policies)
 
   -- at most 1,024 rows of four words
   pub log-short : length (r .log) ≤ 4096
@@ -140,7 +141,7 @@ module _ (sheet a b : List ℕ) (accepted : read partial sheet .number ≡ 0) (s
     written : linesOf (r .words) b₁ e ≡ linesFrom (r .words) n (endOf (ran .ress) n) b₁
     unfolding linesOf
     written =
-        let c : getD (r .words) POLICY 0 ≡ n = same-count ∙ sym policies in
+        let c : getD (r .words) RUN 0 ≡ n = same-count ∙ sym policies in
         let q : endOf (ran .ress) n ≡ e = ap (endOf (ran .ress)) (sym (counted (tys sheet a) (nodes sheet a) (ran .ress) (x .lines) (ran .trees))) ∙ end-all (ran .ress) ∙ end-is in
         rw (c, le-leb n 64 few, le-leb e 16384 (h .low), q)
 

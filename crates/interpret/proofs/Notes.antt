@@ -5,7 +5,7 @@ use Prim.Native.Nat.{ℕ, suc, _+_, _-_, _/_, _≤_, _<_}
 use native.Mathlib.Omega.{arith}
 use borrow.Author.Tests.{le-leb, lt-leb}
 use lib.ListN.{getD, set}
-use Rattle.sheet.specs.Forms.{POLICY}
+use Rattle.table.specs.Layout.{RUN}
 use Rattle.residual.specs.Rows.{stageAt, startAt}
 use Rattle.residual.specs.Classes.{classNumber}
 use Rattle.residual.proofs.Steps.{start-low}
@@ -17,11 +17,11 @@ use Rattle.interpret.specs.Lines.{CLASSES, ROOTS, linesFrom, linesOf}
 pub row-none : (e : ℕ) → e < 4 → 0 ≡ e / 4 - 1
 row-none e h = omega arith
 
-pub many-policies : (a b : List ℕ) (bt k : ℕ) → k ≡ getD a POLICY 0 → 64 < k → b ≡ linesOf a b bt
+pub many-policies : (a b : List ℕ) (bt k : ℕ) → k ≡ getD a RUN 0 → 64 < k → b ≡ linesOf a b bt
 unfolding linesOf
 many-policies a b bt k e h = rw (← e, lt-leb k 64 h)
 
-pub long-log : (a b : List ℕ) (bt k : ℕ) → k ≡ getD a POLICY 0 → k ≤ 64 → 16384 < bt → b ≡ linesOf a b bt
+pub long-log : (a b : List ℕ) (bt k : ℕ) → k ≡ getD a RUN 0 → k ≤ 64 → 16384 < bt → b ≡ linesOf a b bt
 unfolding linesOf
 long-log a b bt k e h l = rw (← e, le-leb k 64 h, lt-leb bt 16384 l)
 
@@ -31,7 +31,7 @@ pub record Noting (a b₀ b : List ℕ) (bt k e : ℕ) : Type 0 where
   pub few : k ≤ 64
   pub low : e ≤ 16384
 
-pub note-start : (a b : List ℕ) (bt k : ℕ) → k ≡ getD a POLICY 0 → k ≤ 64 → bt ≤ 16384 → Noting a b b bt k bt
+pub note-start : (a b : List ℕ) (bt k : ℕ) → k ≡ getD a RUN 0 → k ≤ 64 → bt ≤ 16384 → Noting a b b bt k bt
 unfolding linesOf
 note-start a b bt k e h l = record { whole = rw (← e, le-leb k 64 h, le-leb bt 16384 l); few = h; low = l }
 

@@ -10,9 +10,9 @@ use lib.Dec.{eqb, leb}
 use lib.ListN.{length, getD, take}
 use Rattle.words.specs.Log.{Appended, Room}
 use Rattle.words.proofs.Logs.{append-holds, log-length}
-use Rattle.sheet.specs.Forms.{partial, tag, at, NODE, POLICY}
+use Rattle.sheet.specs.Forms.{partial, tag, at, NODE}
 use Rattle.forms.specs.Tags.{AND, OR, EQ, IF, IS, SET-OF, RECORD-OF}
-use Rattle.table.specs.Layout.{rowsOf}
+use Rattle.table.specs.Layout.{RUN, rowsOf}
 use Rattle.residual.specs.Rows.{errRow, stageAt}
 use Rattle.tpe.specs.Run.{O, Rec, Kids, left, errOf, joinOf, nodeIn, kidsOf, interpOf, setOf, recOf, ranFrom, runOf}
 use Rattle.tpe.specs.Steps.{oneAt, manyAt}
@@ -125,12 +125,12 @@ pub run-start : (f : Rec) (n : ℕ) (a b : List ℕ) → 16384 ≤ length b → 
 run-start f n a b h = let e : n - 0 ≡ n = omega arith in record { whole = rw e; room = record { low = omega arith; long = h } }
 
 module _ (f : Rec) (n : ℕ) (a₀ a b : List ℕ) (p i : ℕ) (g : Running f n a₀ a b p i) where
-  pub run-on : (r : List ℕ) (x : ℕ) (a₁ b₁ : List ℕ) (p₁ : ℕ) → i < n → r ≡ getD (rowsOf a POLICY) i [] → x ≡ getD r 3 0 → Leaves p a₁ b₁ p₁ (f a (take p b) x) → length b₁ ≡ length b → Running f n a₀ a₁ b₁ p₁ (i + 1)
+  pub run-on : (r : List ℕ) (x : ℕ) (a₁ b₁ : List ℕ) (p₁ : ℕ) → i < n → r ≡ getD (rowsOf a RUN) i [] → x ≡ getD r 3 0 → Leaves p a₁ b₁ p₁ (f a (take p b) x) → length b₁ ≡ length b → Running f n a₀ a₁ b₁ p₁ (i + 1)
   unfolding ranFrom
   run-on r x a₁ b₁ p₁ lt er ex l lb =
       let less : n - i ≡ suc (n - (i + 1)) = omega arith in
       let next : suc i ≡ i + 1 = omega arith in
-      let v : left a₁ (take p₁ b₁) ≡ f a (take p b) (at (getD (rowsOf a POLICY) i []) 2) = view l ∙ ap (f a (take p b)) (ex ∙ ap (λ (q : List ℕ). getD q 3 0) er) in
+      let v : left a₁ (take p₁ b₁) ≡ f a (take p b) (at (getD (rowsOf a RUN) i []) 2) = view l ∙ ap (f a (take p b)) (ex ∙ ap (λ (q : List ℕ). getD q 3 0) er) in
       record {
         whole =
             sym (ap (λ (k : ℕ). ended (ranFrom f i k a (take p b))) less ∙ ap (λ (o : O). ended (ranFrom f (suc i) (n - (i + 1)) (o .words) (o .log))) (sym v) ∙ ap (λ (j : ℕ). ended (ranFrom f j (n - (i + 1)) a₁ (take p₁ b₁))) next)
@@ -138,9 +138,9 @@ module _ (f : Rec) (n : ℕ) (a₀ a b : List ℕ) (p i : ℕ) (g : Running f n 
         room = record { low = l .log .low; long = omega (arith, lb, g .room .long) };
       }
 
-pub run-end : (sheet : List ℕ) (n : ℕ) (a₀ a b : List ℕ) (p i : ℕ) → Running (interpOf partial sheet 64) n a₀ a b p i → n ≤ i → n ≡ getD a₀ POLICY 0 → Leaves 0 a b p (ended (runOf partial sheet a₀ []))
+pub run-end : (sheet : List ℕ) (n : ℕ) (a₀ a b : List ℕ) (p i : ℕ) → Running (interpOf partial sheet 64) n a₀ a b p i → n ≤ i → n ≡ getD a₀ RUN 0 → Leaves 0 a b p (ended (runOf partial sheet a₀ []))
 unfolding runOf ranFrom
 run-end sheet n a₀ a b p i g h e =
     let none : n - i ≡ 0 = omega arith in
-    let all : left a (take p b) ≡ ended (ranFrom (interpOf partial sheet 64) 0 (getD a₀ POLICY 0) a₀ []) = ap (λ (k : ℕ). ended (ranFrom (interpOf partial sheet 64) i k a (take p b))) (sym none) ∙ g .whole ∙ ap (λ (k : ℕ). ended (ranFrom (interpOf partial sheet 64) 0 k a₀ [])) e in
+    let all : left a (take p b) ≡ ended (ranFrom (interpOf partial sheet 64) 0 (getD a₀ RUN 0) a₀ []) = ap (λ (k : ℕ). ended (ranFrom (interpOf partial sheet 64) i k a (take p b))) (sym none) ∙ g .whole ∙ ap (λ (k : ℕ). ended (ranFrom (interpOf partial sheet 64) 0 k a₀ [])) e in
     record { words = ap (λ (o : O). o .words) all; log = record { is = ap (λ (o : O). o .log) all; low = g .room .low; grows = omega arith } }

@@ -5,9 +5,9 @@ use Prim.Native.Nat.{ℕ, zero, suc, _+_, _-_, _/_}
 use lib.Dec.{leb}
 use lib.ListN.{getD, set}
 use Rattle.cedar.specs.Runs.{NVerdict}
-use Rattle.sheet.specs.Forms.{POLICY}
 use Rattle.residual.specs.Rows.{ROW, stageAt, startAt}
 use Rattle.residual.specs.Classes.{classNumber}
+use Rattle.table.specs.Layout.{RUN}
 use Rattle.tpe.specs.Run.{classBy}
 
 -- where they stand
@@ -24,7 +24,7 @@ linesFrom a (suc k) e b = linesFrom a k (startAt b e) (set (set b (CLASSES + k) 
 
 -- of all policies, whose blocks end at bt; nothing where there are too many
 unfoldable pub linesOf : List ℕ → List ℕ → ℕ → List ℕ
-linesOf a b bt = cond (leb (getD a POLICY 0) 64 && leb bt 16384) (linesFrom a (getD a POLICY 0) bt b) b
+linesOf a b bt = cond (leb (getD a RUN 0) 64 && leb bt 16384) (linesFrom a (getD a RUN 0) bt b) b
 
 -- ---- the classes of the lines of a run
 

@@ -7,7 +7,6 @@ use forms::IF;
 use forms::IS;
 use forms::NODE;
 use forms::OR;
-use forms::POLICY;
 use forms::RECORD_OF;
 use forms::SET_OF;
 use forms::VAR;
@@ -22,6 +21,7 @@ use residual::push_left;
 use residual::push_value;
 use residual::stage_at;
 use residual::start_at;
+use table::RUN;
 use table::count;
 use table::item;
 use table::row;
@@ -371,11 +371,11 @@ pub fn run(sheet: &[u8], rows: &mut [u32], log: &mut [u32]) -> usize
     requires { ⌜ (16384 ≤ length (now rows)) × (16384 ≤ length (now log)) ⌝ }
     ensures { λ e. ⌜ Leaves 0 (now (rows .exit)) (now (log .exit)) e (ended (runOf partial (now (sheet .entry)) (now (rows .entry)) [])) ⌝ }
 {
-    let most = count(rows, POLICY);
+    let most = count(rows, RUN);
     let mut end = 0;
     let mut i = 0;
     while i < most {
-        let root = item(row(rows, POLICY, i), 3);
+        let root = item(row(rows, RUN, i), 3);
         end = interpret(sheet, rows, log, end, root, DEPTH);
         i += 1;
     }
@@ -411,7 +411,7 @@ fn row_number(end: usize) -> u32
 pub fn lines(rows: &[u32], log: &mut [u32], top: usize)
     ensures { λ _. ⌜ now (log .exit) ≡ linesOf (now (rows .entry)) (now (log .entry)) top ⌝ }
 {
-    let mut k = count(rows, POLICY);
+    let mut k = count(rows, RUN);
     if k > 64 {
         return;
     }

@@ -7,11 +7,11 @@ use native.Mathlib.Omega.{arith}
 use native.Mathlib.Decide.{ℕ-discrete, decLt}
 use borrow.Author.Tests.{eq-eqb, ne-eqb, le-ltb}
 use lib.Dec.{leb, ltb, eqb}
-use lib.ListN.{length, getD, take, drop, List·getD-eq-default}
+use lib.ListN.{length, getD, take, drop, set, List·getD-eq-default}
 use Rattle.cedar.specs.Numbered.{memN}
-use Rattle.sheet.specs.Forms.{Slot, entry, line, lineOr, lineUnknown, word, number, nothing, forms, formOf, slotAt, tag, items, at, keyOf, refsFrom, refs, ascendings, mark, TEXT, KIND, TYPE, VALUE, ENTITY, POLICY, noKey}
-use Rattle.sheet.specs.State.{State, linesOf, count, depthsOf}
-use Rattle.sheet.specs.Sheet.{greatest, reach, allZero, inOrder, thereIs, allThere, ascend, among, firsts, fresh, found, deepest, depth}
+use Rattle.sheet.specs.Forms.{Slot, entry, line, lineOr, lineUnknown, word, number, day, nothing, forms, formOf, slotAt, tag, items, at, keyOf, refsFrom, refs, ascendings, mark, TEXT, KIND, TYPE, SHAPE, VALUE, ENTITY, POLICY, TERM, noKey}
+use Rattle.sheet.specs.State.{State, empty, linesOf, count, depthsOf}
+use Rattle.sheet.specs.Sheet.{least, greatest, reach, allZero, inOrder, thereIs, allThere, ascend, among, firsts, termGoes, fresh, found, deepest, depth}
 use Rattle.sheet.proofs.Parsed.{tags-between}
 use Rattle.forms.specs.Tags.{TEXT-LINE}
 use Rattle.table.specs.Layout.{part, rowsOf, textRows, linesHeld, held, rowIn}
@@ -42,12 +42,11 @@ module _ (a sheet b : List ℕ) where
 
   pub order-alike : (k : ℕ) → inOrder (held [] a []) k ≡ inOrder (held sheet a b) k
   order-alike k =
-      ap₂ (λ (c : List ℕ) (n : ℕ). allZero (drop (suc k) c) && reach (take k c) (1 ∷ 0 ∷ 0 ∷ 0 ∷ n ∷ 0 ∷ 0 ∷ 1 ∷ 1 ∷ 1 ∷ 1 ∷ 0 ∷ 0 ∷ []))
+      ap₂ (λ (c : List ℕ) (n : ℕ). allZero (drop (suc k) c) && reach (take k c) (set (least empty) SHAPE n))
       (counts-held [] a [] ∙ sym (counts-held sheet a b)) (count-alike KIND)
 
   pub full-alike : (k : ℕ) → leb (getD (greatest (held [] a [])) k 0) (count (held [] a []) k) ≡ leb (getD (greatest (held sheet a b)) k 0) (count (held sheet a b) k)
-  full-alike k =
-      ap₂ (λ (n m : ℕ). leb (getD (1 ∷ 512 ∷ 32 ∷ 128 ∷ n ∷ 1024 ∷ 128 ∷ 1 ∷ 1 ∷ 1 ∷ 1 ∷ 1024 ∷ 64 ∷ []) k 0) m) (count-alike KIND) (count-alike k)
+  full-alike k = ap₂ (λ (n m : ℕ). leb (getD (set (greatest empty) SHAPE n) k 0) m) (count-alike KIND) (count-alike k)
 
   slot-alike : (s : Slot) (x : ℕ) → thereIs (held [] a []) s x ≡ thereIs (held sheet a b) s x
   slot-alike entry x = refl
@@ -56,6 +55,7 @@ module _ (a sheet b : List ℕ) where
   slot-alike (lineUnknown k) x = ap (λ (n : ℕ). eqb x mark || ltb x n) (count-alike k)
   slot-alike (word ws) x = refl
   slot-alike number x = refl
+  slot-alike day x = refl
   slot-alike nothing x = refl
 
   there-alike : (t j : ℕ) (l : List ℕ) → allThere (held [] a []) t j l ≡ allThere (held sheet a b) t j l
@@ -65,8 +65,11 @@ module _ (a sheet b : List ℕ) where
   fresh-alike : (k : ℕ) (r : List ℕ) → (k ≡ TEXT → ⊥) → fresh (held [] a []) k r ≡ fresh (held sheet a b) k r
   fresh-alike k r n =
       ap (λ (l : List (List ℕ)). cond (eqb k TEXT || eqb k TYPE || eqb k VALUE) (not (among r l)) (cond (eqb k KIND || eqb k POLICY) (not (memN (at r 0) (firsts l)))
-      (cond (eqb k ENTITY) (eqb (length l) 0 || ltb (at (getD l (length l - 1) []) 0) (at r 0)) true)))
+      (cond (eqb k ENTITY) (last-below l) (cond (eqb k TERM) (last-below l && termGoes r) true))))
       (lines-alike k n)
+    where
+      last-below : List (List ℕ) → Bool
+      last-below l = eqb (length l) 0 || ltb (at (getD l (length l - 1) []) 0) (at r 0)
 
   pub found-alike : (k : ℕ) (r : List ℕ) → (k ≡ TEXT → ⊥) → found (held [] a []) k r ≡ found (held sheet a b) k r
   unfolding found

@@ -14,7 +14,7 @@ use lib.ListN.{length, getD, take, drop, set}
 use lib.Seq.{lt-length-set, take-set-le, drop-set-lt, drop-cons, getD-set-same, getD-set-other}
 use Rattle.sheet.specs.Ascii.{ascii}
 use Rattle.words.specs.Log.{part, room}
-use Rattle.sheet.specs.Bytes.{same, split, index, long}
+use Rattle.sheet.specs.Bytes.{same, split, index, long, date}
 use Rattle.sheet.specs.Forms.{partial, complete, entry, line, lineOr, lineUnknown, number, nothing, dash, asterisk, mark, placeIn, wordNumber, one, markOr, isPartial, item}
 use Rattle.scan.specs.declared.Number as N
 use Rattle.scan.specs.declared.Cursor.{Cursor}
@@ -27,9 +27,10 @@ use Rattle.scan.proofs.Scans.{same-last, comparing-never}
 use Rattle.scan.proofs.Decimals.{index-small}
 use Rattle.scan.proofs.Wordlists.{words-are}
 use Rattle.scan.proofs.Readings.{items-first, items-part, numbered}
+use Rattle.dates.proofs.Calendar.{pastDates, date-small}
 use Rattle.forms.specs.Tags.{PERMIT, FORBID}
 use Rattle.forms.proofs.Tests.{NoneOf}
-use Rattle.forms.specs.Rows.{NUMBER, ENTRY, KIND-LETTER, FIELD-LETTER, BIT, PART-LETTER, EFFECT, LINE, UNKNOWN, DASH, STAR, slotOf, specials}
+use Rattle.forms.specs.Rows.{NUMBER, ENTRY, KIND-LETTER, FIELD-LETTER, BIT, PART-LETTER, EFFECT, DATE, LINE, UNKNOWN, DASH, STAR, slotOf, specials}
 use Rattle.line.specs.Codes.{modeOf}
 use Rattle.line.specs.Written.{Item, After}
 
@@ -143,25 +144,30 @@ module _ (p : Bool) (s : ℕ) (f : List ℕ) (r : N.Number) where
   unfolding slotOf
   slot-effect e q = rw e (ap one q)
 
-pub slot-none : (p : Bool) (s : ℕ) (f : List ℕ) → (s ≡ NUMBER → ⊥) → s < LINE → (s ≡ ENTRY → ⊥) → (s ≡ KIND-LETTER → ⊥) → (s ≡ FIELD-LETTER → ⊥) → (s ≡ BIT → ⊥) → (s ≡ PART-LETTER → ⊥) → (s ≡ EFFECT → ⊥) → one (numberOf N.the-variants.Refused) ≡ item (modeOf p) (slotOf s) f
+  pub slot-date : s ≡ DATE → numberOf r ≡ date f → one (numberOf r) ≡ item (modeOf p) (slotOf s) f
+  unfolding slotOf
+  slot-date e q = rw e (ap one q)
+
+pub slot-none : (p : Bool) (s : ℕ) (f : List ℕ) → (s ≡ NUMBER → ⊥) → s < LINE → (s ≡ ENTRY → ⊥) → (s ≡ KIND-LETTER → ⊥) → (s ≡ FIELD-LETTER → ⊥) → (s ≡ BIT → ⊥) → (s ≡ PART-LETTER → ⊥) → (s ≡ EFFECT → ⊥) → (s ≡ DATE → ⊥) → one (numberOf N.the-variants.Refused) ≡ item (modeOf p) (slotOf s) f
 unfolding slotOf
-slot-none p zero f z h a b c d e g = refl
-slot-none p (suc zero) f z h a b c d e g = absurd (z refl)
-slot-none p (suc (suc zero)) f z h a b c d e g = absurd (a refl)
-slot-none p (suc (suc (suc zero))) f z h a b c d e g = absurd (b refl)
-slot-none p (suc (suc (suc (suc zero)))) f z h a b c d e g = absurd (c refl)
-slot-none p (suc (suc (suc (suc (suc zero))))) f z h a b c d e g = absurd (d refl)
-slot-none p (suc (suc (suc (suc (suc (suc zero)))))) f z h a b c d e g = absurd (e refl)
-slot-none p (suc (suc (suc (suc (suc (suc (suc zero))))))) f z h a b c d e g = absurd (g refl)
-slot-none p (suc (suc (suc (suc (suc (suc (suc (suc n)))))))) f z h a b c d e g = rw (lt-ltb (suc (suc (suc (suc (suc (suc (suc (suc n)))))))) LINE h) refl
+slot-none p zero f z h a b c d e g i = refl
+slot-none p (suc zero) f z h a b c d e g i = absurd (z refl)
+slot-none p (suc (suc zero)) f z h a b c d e g i = absurd (a refl)
+slot-none p (suc (suc (suc zero))) f z h a b c d e g i = absurd (b refl)
+slot-none p (suc (suc (suc (suc zero)))) f z h a b c d e g i = absurd (c refl)
+slot-none p (suc (suc (suc (suc (suc zero))))) f z h a b c d e g i = absurd (d refl)
+slot-none p (suc (suc (suc (suc (suc (suc zero)))))) f z h a b c d e g i = absurd (e refl)
+slot-none p (suc (suc (suc (suc (suc (suc (suc zero))))))) f z h a b c d e g i = absurd (g refl)
+slot-none p (suc (suc (suc (suc (suc (suc (suc (suc zero)))))))) f z h a b c d e g i = absurd (i refl)
+slot-none p (suc (suc (suc (suc (suc (suc (suc (suc (suc n))))))))) f z h a b c d e g i = rw (lt-ltb (suc (suc (suc (suc (suc (suc (suc (suc (suc n))))))))) LINE h) refl
 
 no-some : {A X : Type 0} {a : A} → none ≡ some a → X
 no-some e = let z : _≡_ {A = ℕ} 0 1 = cc in absurd (omega arith)
 
--- ---- an item of one number is at most a mark
+-- ---- an item of one number is at most a mark or a date
 
 abbrev Low : Option ℕ → Type 0
-Low o = (n : ℕ) → o ≡ some n → n ≤ mark
+Low o = (n : ℕ) → o ≡ some n → n < pastDates
 
 some-is : {m n : ℕ} → some m ≡ some n → m ≡ n
 some-is e = cc
@@ -176,15 +182,15 @@ low-mark false f n e = low-index f n e
 low-word : (f : List ℕ) (ws : List String) → length ws ≤ mark → Low (wordNumber f ws)
 low-word f ws h n e = go (ltb (placeIn f ws) (length ws)) refl e
   where
-    go : (t : Bool) → ltb (placeIn f ws) (length ws) ≡ t → cond t (some (placeIn f ws)) none ≡ some n → n ≤ mark
+    go : (t : Bool) → ltb (placeIn f ws) (length ws) ≡ t → cond t (some (placeIn f ws)) none ≡ some n → n < pastDates
     go true p q = omega (arith, some-is q, ltb-true (placeIn f ws) (length ws) p)
     go false p q = no-some q
 
-low-one : (o : Option ℕ) → Low o → (x : ℕ) → one o ≡ some (x ∷ []) → x ≤ mark
+low-one : (o : Option ℕ) → Low o → (x : ℕ) → one o ≡ some (x ∷ []) → x < pastDates
 low-one none h x e = no-some e
 low-one (some n) h x e = let z : n ≡ x = cc in omega (arith, h n refl)
 
-special-low : (p : Bool) (s : ℕ) (f : List ℕ) (x : ℕ) → (s ≡ NUMBER → ⊥) → item (modeOf p) (getD specials s nothing) f ≡ some (x ∷ []) → x ≤ mark
+special-low : (p : Bool) (s : ℕ) (f : List ℕ) (x : ℕ) → (s ≡ NUMBER → ⊥) → item (modeOf p) (getD specials s nothing) f ≡ some (x ∷ []) → x < pastDates
 special-low p zero f x z e = no-some e
 special-low p (suc zero) f x z e = absurd (z refl)
 special-low true (suc (suc zero)) f x z e = low-one (wordNumber f ("partial" ∷ [])) (low-word f ("partial" ∷ []) (omega arith)) x e
@@ -194,13 +200,14 @@ special-low p (suc (suc (suc (suc zero)))) f x z e = low-one (wordNumber f ("o" 
 special-low p (suc (suc (suc (suc (suc zero))))) f x z e = low-one (wordNumber f ("0" ∷ "1" ∷ [])) (low-word f ("0" ∷ "1" ∷ []) (omega arith)) x e
 special-low p (suc (suc (suc (suc (suc (suc zero)))))) f x z e = low-one (wordNumber f ("p" ∷ "a" ∷ "r" ∷ "c" ∷ [])) (low-word f ("p" ∷ "a" ∷ "r" ∷ "c" ∷ []) (omega arith)) x e
 special-low p (suc (suc (suc (suc (suc (suc (suc zero))))))) f x z e = low-one (wordNumber f ("permit" ∷ "forbid" ∷ [])) (low-word f ("permit" ∷ "forbid" ∷ []) (omega arith)) x e
-special-low p (suc (suc (suc (suc (suc (suc (suc (suc n)))))))) f x z e = no-some e
+special-low p (suc (suc (suc (suc (suc (suc (suc (suc zero)))))))) f x z e = low-one (date f) (date-small f) x e
+special-low p (suc (suc (suc (suc (suc (suc (suc (suc (suc n))))))))) f x z e = no-some e
 
-slot-low : (p : Bool) (s : ℕ) (f : List ℕ) (x : ℕ) → (s ≡ NUMBER → ⊥) → item (modeOf p) (slotOf s) f ≡ some (x ∷ []) → x ≤ mark
+slot-low : (p : Bool) (s : ℕ) (f : List ℕ) (x : ℕ) → (s ≡ NUMBER → ⊥) → item (modeOf p) (slotOf s) f ≡ some (x ∷ []) → x < pastDates
 unfolding slotOf
 slot-low p s f x z e = go p (ltb s LINE) (ltb s UNKNOWN) (ltb s DASH) (ltb s STAR) e
   where
-    go : (p t u v y : Bool) → item (modeOf p) (cond t (getD specials s nothing) (cond u (line (s - LINE)) (cond v (lineUnknown (s - UNKNOWN)) (cond y (lineOr dash (s - DASH)) (lineOr asterisk (s - STAR)))))) f ≡ some (x ∷ []) → x ≤ mark
+    go : (p t u v y : Bool) → item (modeOf p) (cond t (getD specials s nothing) (cond u (line (s - LINE)) (cond v (lineUnknown (s - UNKNOWN)) (cond y (lineOr dash (s - DASH)) (lineOr asterisk (s - STAR)))))) f ≡ some (x ∷ []) → x < pastDates
     go p true u v y q = special-low p s f x z q
     go p false true v y q = low-one (index f) (low-index f) x q
     go p false false true y q = low-one (markOr (isPartial (modeOf p) && same f (question ∷ [])) (index f)) (low-mark (isPartial (modeOf p) && same f (question ∷ [])) f) x q
@@ -264,7 +271,8 @@ special-empty p (suc (suc (suc (suc zero)))) = refl
 special-empty p (suc (suc (suc (suc (suc zero))))) = refl
 special-empty p (suc (suc (suc (suc (suc (suc zero)))))) = refl
 special-empty p (suc (suc (suc (suc (suc (suc (suc zero))))))) = refl
-special-empty p (suc (suc (suc (suc (suc (suc (suc (suc n)))))))) = refl
+special-empty p (suc (suc (suc (suc (suc (suc (suc (suc zero)))))))) = refl
+special-empty p (suc (suc (suc (suc (suc (suc (suc (suc (suc n))))))))) = refl
 
 slot-empty : (p : Bool) (s : ℕ) → item (modeOf p) (slotOf s) [] ≡ none
 unfolding slotOf
@@ -316,7 +324,7 @@ module _ (p : Bool) (s k : ℕ) (f w : List ℕ) (m : N.Number) where
       one-is : item (modeOf p) (slotOf s) f ≡ some (x ∷ [])
       one-is = sym h ∙ ap (λ (n : N.Number). one (numberOf n)) g
 
-      pub one-low : (s ≡ NUMBER → ⊥) → x ≤ mark
+      pub one-low : (s ≡ NUMBER → ⊥) → x < pastDates
       one-low z = slot-low p s f x z one-is
 
       pub put-one : (k + 2 ≤ room) × (room ≤ length w) → Item (item (modeOf p) (slotOf s) f) f w (set w k x) s k 1

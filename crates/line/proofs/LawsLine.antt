@@ -1,32 +1,34 @@
 -- The row of a whole line. Assumes nothing.
 use mathlib.Core.Path.{_≡_, refl, sym, ap, _∙_}
-use mathlib.Core.Bool.{Bool, true, false, cond, _&&_}
+use mathlib.Core.Bool.{Bool, true, false, cond, _&&_, _||_}
 use mathlib.Core.Option.{Option, none, some}
 use mathlib.Core.List.{List, [], _∷_, map}
 use Prim.Native.Nat.{ℕ, zero, suc, _+_, _-_, _*_, _≤_, _<_}
 use native.Mathlib.Omega.{arith}
-use borrow.Author.Tests.{ne-eqb, le-leb, lt-leb, ltb-true}
+use borrow.Author.Tests.{ne-eqb, le-leb, lt-leb, leb-true, ltb-true}
 use lib.Dec.{leb, ltb, eqb}
-use lib.ListN.{length, take, drop, set}
+use lib.ListN.{length, getD, take, drop, set}
 use lib.Seq.{take-set-le, drop-set-lt, lt-length-set, length-take-le}
 use Rattle.words.specs.Log.{part, room}
 use Rattle.words.proofs.Stores.{length-part}
 use Rattle.sheet.specs.Ascii.{ascii}
 use Rattle.sheet.specs.Bytes.{upTo, split, same, printable}
-use Rattle.sheet.specs.Forms.{Form, entry, plain, keys, wordNumber, forms, formOf, formIn, tagOf, keyOf, counted, orEmpty, itemsFrom, rowHeaded, heading, rowOfText, rowOfValue, tag, noKey, SHEET, TEXT, NODE}
+use Rattle.sheet.specs.Forms.{Form, entry, plain, keys, wordNumber, forms, formOf, formIn, tagOf, keyOf, counted, orEmpty, itemsFrom, rowHeaded, heading, rowOfText, rowOfValue, tag, noKey, SHEET, TEXT, DAY, NODE}
+use Rattle.sheet.proofs.Parsed.{allBelow, all-below}
 use Rattle.scan.specs.declared.Cursor.{Cursor}
 use Rattle.scan.specs.declared.Heading as H
 use Rattle.scan.specs.declared.Line as L
 use Rattle.scan.specs.Places.{place, keyed, headingOf, entered, lineTo, lineAt, itemsAt}
+use Rattle.scan.specs.Numbers.{placed}
 use Rattle.scan.proofs.Splits.{from-on}
-use Rattle.scan.proofs.Wordlists.{word-number}
+use Rattle.scan.proofs.Wordlists.{word-number, placed-below}
 use Rattle.table.specs.Layout.{textRow}
 use Rattle.forms.specs.Tags.{TEXT-LINE}
 use Rattle.line.specs.Codes.{modeOf}
 use Rattle.line.specs.Written.{Row, Text, Line, Entry, rowFrom, rowRoom}
 use Rattle.line.proofs.LawsItem.{one-word, two-words}
 use Rattle.line.proofs.LawsItems.{more-words}
-use Rattle.line.proofs.LawsTag.{wide, placed-wide, tag-key}
+use Rattle.line.proofs.LawsTag.{placed-long, tag-key}
 
 -- ---- a text in words
 
@@ -108,6 +110,12 @@ tight-text : (t : Bool) (r : ℕ) → r ≡ cond t 3 0 → 2 * r ≤ 6
 tight-text true r a = omega arith
 tight-text false r a = omega arith
 
+-- a text that is too long has no words
+short-text : (v : List ℕ) (t : Bool) (r b : ℕ) → r ≡ cond t 3 0 → (keyOf (cond t (TEXT-LINE ∷ v) []) ≡ TEXT → ⊥) → 2 * r ≤ b
+unfolding keyOf formOf forms
+short-text v true r b a h = absurd (h refl)
+short-text v false r b a h = omega arith
+
 text-from : (sheet v : List ℕ) (start : ℕ) (t : Bool) → v ≡ part sheet start (start + length v) → rowFrom sheet (cond t (TEXT-LINE ∷ start ∷ length v ∷ []) []) ≡ cond t (TEXT-LINE ∷ v) []
 text-from sheet v start true x = ap (λ (y : List ℕ). TEXT-LINE ∷ y) (sym x)
 text-from sheet v start false x = refl
@@ -142,6 +150,7 @@ module _ (w w₂ v : List ℕ) (p : Bool) (k top r start : ℕ) where
             full = λ y. g .count ∙ ap length (sym row ∙ y);
             kept = g .kept;
             tight = omega (arith, tight-row k r (length v) (g .tight));
+            short = λ y. tight-row k r (length v) (g .tight);
             node = λ y. omega (arith, tight-node k r (length v) (row-key k NODE t (hd .name) b o (omega arith) refl (ap keyOf (sym row) ∙ y)) (g .tight));
           }
 
@@ -155,6 +164,7 @@ module _ (w w₂ v : List ℕ) (p : Bool) (k top r start : ℕ) where
           full = λ y. g .count ∙ text-full v (leb (length v) 128) (sym row ∙ y);
           kept = g .kept;
           tight = omega (arith, tight-text (leb (length v) 128) r (g .count));
+          short = λ y. short-text v (leb (length v) 128) r (length v + 5) (g .count) (λ e. y (ap keyOf row ∙ e));
           node = λ y. absurd (text-key v (leb (length v) 128) (ap keyOf (sym row) ∙ y));
         };
       }
@@ -181,47 +191,78 @@ take-short zero l = omega arith
 take-short (suc n) [] = omega arith
 take-short (suc n) (x ∷ l) = omega (arith, take-short n l)
 
-keys-wide : wide 4 (map ascii keys) ≡ true
-unfolding wide keys
-keys-wide = refl
+-- how many letters a key has
+unfoldable letters : ℕ → ℕ
+letters k = length (getD (map ascii keys) k [])
 
--- a key has at least four letters
-key-wide : (f : List ℕ) (k : ℕ) → wordNumber f keys ≡ some k → 4 ≤ length f
-key-wide f k e = placed-wide 4 f (map ascii keys) k keys-wide (sym (word-number f keys) ∙ e)
+letters-wide : allBelow (λ (k : ℕ). leb 3 (letters k)) noKey ≡ true
+unfolding letters keys
+letters-wide = refl
 
-heading-wide : (l : List ℕ) (k n : ℕ) → H.the-variants.Keyed k n ≡ headingOf l → 4 ≤ n
+four-letters : allBelow (λ (k : ℕ). eqb k DAY || leb 4 (letters k)) noKey ≡ true
+unfolding letters keys
+four-letters = refl
+
+-- every key but `day` has at least four
+most-wide : (k : ℕ) → k < noKey → (k ≡ DAY → ⊥) → 4 ≤ letters k
+most-wide k h n = leb-true 4 (letters k) (rw (ne-eqb k DAY n) at (all-below (λ (i : ℕ). eqb i DAY || leb 4 (letters i)) noKey k four-letters h))
+
+keys-long : length (map ascii keys) ≡ noKey
+unfolding keys
+keys-long = refl
+
+key-letters : (f : List ℕ) (k : ℕ) → wordNumber f keys ≡ some k → (k < noKey) × (length f ≡ letters k)
+unfolding letters
+key-letters f k e =
+    let p : placed f (map ascii keys) ≡ some k = sym (word-number f keys) ∙ e in
+    (omega (arith, placed-below f (map ascii keys) k p, keys-long), placed-long f (map ascii keys) k p)
+
+heading-letters : (l : List ℕ) (k n : ℕ) → H.the-variants.Keyed k n ≡ headingOf l → (k < noKey) × (n ≡ letters k)
 unfolding headingOf
-heading-wide l k n e = go (printable l) (ltb (upTo 61 l) (length l)) refl (wordNumber (take (upTo 61 l) l) keys) refl e
+heading-letters l k n e = go (printable l) (ltb (upTo 61 l) (length l)) refl (wordNumber (take (upTo 61 l) l) keys) refl e
   where
-    none-of : H.the-variants.Keyed k n ≡ H.the-variants.Malformed → 4 ≤ n
+    none-of : H.the-variants.Keyed k n ≡ H.the-variants.Malformed → (k < noKey) × (n ≡ letters k)
     none-of q = let z : _≡_ {A = ℕ} 0 1 = cc in absurd (omega arith)
 
     go : (t u : Bool) → ltb (upTo 61 l) (length l) ≡ u → (o : Option ℕ) → wordNumber (take (upTo 61 l) l) keys ≡ o
-        → H.the-variants.Keyed k n ≡ cond (t && u) (keyed (upTo 61 l) o) H.the-variants.Malformed → 4 ≤ n
+        → H.the-variants.Keyed k n ≡ cond (t && u) (keyed (upTo 61 l) o) H.the-variants.Malformed → (k < noKey) × (n ≡ letters k)
     go false u d o p q = none-of q
     go true false d o p q = none-of q
     go true true d none p q = none-of q
     go true true d (some j) p q =
         let z : n ≡ upTo 61 l = cc in
+        let y : k ≡ j = cc in
         let i = ltb-true (upTo 61 l) (length l) d in
-        omega (arith, key-wide (take (upTo 61 l) l) j p, length-take-le (upTo 61 l) l (omega (arith, i)), z)
+        let r = key-letters (take (upTo 61 l) l) k (p ∙ ap some (sym y)) in
+        (r .0, omega (arith, r .1, length-take-le (upTo 61 l) l (omega (arith, i)), z))
 
--- the `=` of a line that was read stands behind at least four letters
-pub entry-wide : (s : List ℕ) (c : Cursor) (k : ℕ) (equals : Cursor) (e : ℕ) (next : Cursor) → L.the-variants.Entry k equals e next ≡ lineAt s c → c .at + 4 ≤ equals .at
-unfolding lineTo
-entry-wide s c k equals e next q = go (ltb stop (length s)) (ltb (c .at) (length s)) (headingOf (part s (c .at) stop)) refl q
-  where
-    stop : ℕ
-    stop = c .at + upTo 10 (drop (c .at) s)
+module _ (s : List ℕ) (c : Cursor) (k : ℕ) (equals : Cursor) (e : ℕ) (next : Cursor) (q : L.the-variants.Entry k equals e next ≡ lineAt s c) where
+  -- the `=` of a line that was read stands behind the letters of its key
+  entry-letters : (k < noKey) × (equals .at ≡ c .at + letters k)
+  unfolding lineTo
+  entry-letters = go (ltb stop (length s)) (ltb (c .at) (length s)) (headingOf (part s (c .at) stop)) refl q
+    where
+      stop : ℕ
+      stop = c .at + upTo 10 (drop (c .at) s)
 
-    go : (t u : Bool) (h : H.Heading) → headingOf (part s (c .at) stop) ≡ h
-        → L.the-variants.Entry k equals e next ≡ cond t (entered c stop h) (cond u L.the-variants.Faulty L.the-variants.End) → c .at + 4 ≤ equals .at
-    go false true h f y = let z : _≡_ {A = ℕ} 0 1 = cc in absurd (omega arith)
-    go false false h f y = let z : _≡_ {A = ℕ} 0 1 = cc in absurd (omega arith)
-    go true u H.the-variants.Malformed f y = let z : _≡_ {A = ℕ} 0 1 = cc in absurd (omega arith)
-    go true u (H.the-variants.Keyed j n) f y =
-        let x : equals ≡ place (c .line) (c .at + n) = cc in
-        omega (arith, heading-wide (part s (c .at) stop) j n (sym f), ap (λ (d : Cursor). d .at) x)
+      go : (t u : Bool) (h : H.Heading) → headingOf (part s (c .at) stop) ≡ h
+          → L.the-variants.Entry k equals e next ≡ cond t (entered c stop h) (cond u L.the-variants.Faulty L.the-variants.End) → (k < noKey) × (equals .at ≡ c .at + letters k)
+      go false true h f y = let z : _≡_ {A = ℕ} 0 1 = cc in absurd (omega arith)
+      go false false h f y = let z : _≡_ {A = ℕ} 0 1 = cc in absurd (omega arith)
+      go true u H.the-variants.Malformed f y = let z : _≡_ {A = ℕ} 0 1 = cc in absurd (omega arith)
+      go true u (H.the-variants.Keyed j n) f y =
+          let x : equals ≡ place (c .line) (c .at + n) = cc in
+          let z : k ≡ j = cc in
+          let r = heading-letters (part s (c .at) stop) k n (ap (λ (i : ℕ). H.the-variants.Keyed i n) z ∙ sym f) in
+          (r .0, omega (arith, r .1, ap (λ (d : Cursor). d .at) x))
+
+  -- these are at least three
+  pub entry-wide : c .at + 3 ≤ equals .at
+  entry-wide = omega (arith, entry-letters .1, leb-true 3 (letters k) (all-below (λ (i : ℕ). leb 3 (letters i)) noKey k letters-wide (entry-letters .0)))
+
+  -- and four where the line is not a day's
+  pub entry-wider : (k ≡ DAY → ⊥) → c .at + 4 ≤ equals .at
+  entry-wider n = omega (arith, entry-letters .1, most-wide k (entry-letters .0) n)
 
 -- ---- what the words of a row say, to those that read them
 

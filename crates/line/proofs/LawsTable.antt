@@ -11,7 +11,7 @@ use lib.Dec.{eqb}
 use lib.ListN.{length, getD, List·getD-append}
 use lib.Seq.{getD-append-add}
 use Rattle.cedar.proofs.Tools.{no-true}
-use Rattle.sheet.specs.Forms.{Mode, Slot, entry, line, lineOr, lineUnknown, word, number, nothing, Form, forms, formOf, noTag, slotAt, counted, item, joined, itemsFrom}
+use Rattle.sheet.specs.Forms.{Mode, Slot, entry, line, lineOr, lineUnknown, word, number, day, nothing, Form, forms, formOf, noTag, slotAt, counted, item, joined, itemsFrom}
 use Rattle.words.specs.Bits.{byteOf}
 use Rattle.sheet.proofs.Parsed.{allBelow, all-below}
 use Rattle.forms.specs.declared.Form as F
@@ -54,6 +54,7 @@ isNumber (lineOr b k) = false
 isNumber (lineUnknown k) = false
 isNumber (word ws) = false
 isNumber number = true
+isNumber day = false
 isNumber nothing = false
 
 first-long : ℕ → ℕ → Bool

@@ -1,7 +1,7 @@
 -- The tags of a line's key and constructor. Assumes nothing.
 use mathlib.Core.Path.{_≡_, refl, sym, ap, _∙_}
 use mathlib.Core.Bool.{Bool, true, false, cond, not, _&&_, _||_}
-use mathlib.Core.Option.{Option, none, some}
+use mathlib.Core.Option.{Option, none, some, Option·some-injective}
 use mathlib.Core.List.{List, [], _∷_}
 use Prim.Native.Nat.{ℕ, suc, _≤_, _<_}
 use native.Mathlib.Omega.{arith}
@@ -17,11 +17,7 @@ use Rattle.scan.specs.Numbers.{following, placed}
 use Rattle.forms.specs.Tags.{RECORD-OF}
 use Rattle.forms.proofs.Table.{no-form}
 
--- ---- how many bytes a word of a list has
-
-unfoldable pub wide : ℕ → List (List ℕ) → Bool
-wide n [] = true
-wide n (x ∷ l) = leb n (length x) && wide n l
+-- ---- a word of a list has as many bytes as the one at its place
 
 both : (a b : Bool) → (a && b) ≡ true → (a ≡ true) × (b ≡ true)
 both true b e = (refl, e)
@@ -33,16 +29,15 @@ same-long [] (y ∷ x) e = let z : _≡_ {A = ℕ} 0 1 = cc in absurd (omega ari
 same-long (a ∷ f) [] e = let z : _≡_ {A = ℕ} 0 1 = cc in absurd (omega arith)
 same-long (a ∷ f) (y ∷ x) e = ap suc (same-long f x (both (eqb a y) (same f x) e .1))
 
-pub placed-wide : (n : ℕ) (f : List ℕ) (l : List (List ℕ)) (k : ℕ) → wide n l ≡ true → placed f l ≡ some k → n ≤ length f
-unfolding wide
-placed-wide n f [] k e h = let z : _≡_ {A = ℕ} 0 1 = cc in absurd (omega arith)
-placed-wide n f (x ∷ l) k e h = go (same f x) refl (placed f l) (both (leb n (length x)) (wide n l) e) (placed-wide n f l) h
+pub placed-long : (f : List ℕ) (l : List (List ℕ)) (k : ℕ) → placed f l ≡ some k → length f ≡ length (getD l k [])
+placed-long f [] k h = let z : _≡_ {A = ℕ} 0 1 = cc in absurd (omega arith)
+placed-long f (x ∷ l) k h = go (same f x) refl (placed f l) (placed-long f l) h
   where
-    go : (t : Bool) → same f x ≡ t → (o : Option ℕ) → (leb n (length x) ≡ true) × (wide n l ≡ true) → ((m : ℕ) → wide n l ≡ true → o ≡ some m → n ≤ length f)
-        → cond t (some 0) (following o) ≡ some k → n ≤ length f
-    go true p o b ih q = omega (arith, same-long f x p, leb-true n (length x) (b .0))
-    go false p none b ih q = let z : _≡_ {A = ℕ} 0 1 = cc in absurd (omega arith)
-    go false p (some m) b ih q = ih m (b .1) refl
+    go : (t : Bool) → same f x ≡ t → (o : Option ℕ) → ((m : ℕ) → o ≡ some m → length f ≡ length (getD l m []))
+        → cond t (some 0) (following o) ≡ some k → length f ≡ length (getD (x ∷ l) k [])
+    go true p o ih q = same-long f x p ∙ ap (λ (i : ℕ). length (getD (x ∷ l) i [])) (Option·some-injective 0 k q)
+    go false p none ih q = let z : _≡_ {A = ℕ} 0 1 = cc in absurd (omega arith)
+    go false p (some m) ih q = ih m refl ∙ ap (λ (i : ℕ). length (getD (x ∷ l) i [])) (Option·some-injective (suc m) k q)
 
 -- ---- the form of a tag
 

@@ -7,7 +7,7 @@ use Prim.Native.Nat.{ℕ, zero, suc, _+_, _-_, _*_, _≤_}
 use lib.Dec.{leb, eqb}
 use lib.ListN.{length, take, drop}
 use Rattle.words.specs.Log.{part, room}
-use Rattle.sheet.specs.Forms.{Mode, item, itemsFrom, counted, keyOf, NODE}
+use Rattle.sheet.specs.Forms.{Mode, item, itemsFrom, counted, keyOf, TEXT, NODE}
 use Rattle.table.specs.Layout.{textRow}
 use Rattle.scan.specs.Places.{itemEnd}
 use Rattle.forms.specs.Rows.{NUMBER, slotOf}
@@ -70,13 +70,14 @@ pub record Text (start len : ℕ) (was is : List ℕ) (top r : ℕ) : Type 0 whe
   pub count : r ≡ cond (leb len 128) 3 0
   pub kept : Kept was is top
 
--- the row of a line of so many bytes, in r words from top on
+-- the row of a line of so many bytes, in r words from top on; a row that is not a text's takes no more than so many half words
 pub record Line (sheet row was is : List ℕ) (top r bytes : ℕ) : Type 0 where
   pub words : rowFrom sheet (take r (drop top is)) ≡ row
   pub empty : r ≡ 0 → row ≡ []
   pub full : row ≡ [] → r ≡ 0
   pub kept : Kept was is top
   pub tight : 2 * r ≤ bytes + 1
+  pub short : (keyOf row ≡ TEXT → ⊥) → 2 * r ≤ bytes
   pub node : keyOf row ≡ NODE → 2 * r + 6 ≤ bytes + 1
 
 -- the same where the line's value stands at byte start of whatever sheet

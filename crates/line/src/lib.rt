@@ -1,6 +1,8 @@
 // One line of a sheet: its row of numbers, written into lent words.
+use dates::date_of;
 use forms::BIT;
 use forms::DASH;
+use forms::DATE;
 use forms::EFFECT;
 use forms::ENTRY;
 use forms::FIELD_LETTER;
@@ -143,6 +145,7 @@ fn one_number(partial: bool, slot: u8, bytes: &[u8]) -> Number
         BIT => place(bytes, b"0,1"),
         PART_LETTER => variable(bytes),
         EFFECT => effect(bytes),
+        DATE => date_of(bytes),
         _ => Number::Refused,
     }
 }

@@ -1,11 +1,12 @@
 -- Words of eight bytes without their blanks, and the names of operations. Assumes nothing.
 use mathlib.Core.Path.{_≡_, refl, sym, ap, _∙_}
 use mathlib.Core.List.{List, [], _∷_}
-use Prim.Native.Nat.{ℕ, zero, suc, _+_, _≤_, _<_}
+use Prim.Native.Nat.{ℕ, zero, suc, _+_, _-_, _≤_, _<_}
 use native.Mathlib.Omega.{arith}
 use native.Mathlib.Decide.{decLt}
 use borrow.Author.Tests.{eq-eqb, ne-eqb, lt-ltb, le-ltb}
-use lib.ListN.{length, getD, drop, List·getD-eq-default}
+use lib.ListN.{length, getD, drop}
+use lib.Seq.{getD-drop}
 use Rattle.cedar.specs.Numbered.{memN}
 use Rattle.cedar.proofs.Tools.{no-true}
 use Rattle.sheet.specs.Ascii.{ascii}
@@ -46,13 +47,20 @@ name-less : (t : ℕ) → t < firstNode → [] ≡ ascii (opName t)
 unfolding opName
 name-less t h = rw (lt-ltb t firstNode h)
 
+-- the forms after those of nodes
+name-after : (j : ℕ) → [] ≡ ascii (getD (drop POLICY-LINE forms) j noForm .name)
+unfolding forms
+name-after zero = refl
+name-after (suc zero) = refl
+name-after (suc (suc zero)) = refl
+name-after (suc (suc (suc j))) = refl
+
 name-over : (t : ℕ) → RECORD-OF < t → [] ≡ ascii (opName t)
-unfolding opName formOf forms
-name-over t h = rw (le-ltb t firstNode (omega arith)) (go (decLt POLICY-LINE t))
-  where
-    go : Dec (POLICY-LINE < t) → [] ≡ ascii (getD forms t noForm .name)
-    go (yes d) = ap (λ (f : Form). ascii (f .name)) (sym (List·getD-eq-default forms noForm d))
-    go (no d) = let z : t ≡ POLICY-LINE = omega arith in rw z
+unfolding opName formOf
+name-over t h =
+    let e : POLICY-LINE + (t - POLICY-LINE) ≡ t = omega arith in
+    rw (le-ltb t firstNode (omega arith))
+    (name-after (t - POLICY-LINE) ∙ ap (λ (f : Form). ascii (f .name)) (getD-drop POLICY-LINE forms (t - POLICY-LINE) noForm ∙ ap (λ (i : ℕ). getD forms i noForm) e))
 
 -- the forms of nodes, the last first
 abbrev pub opNumbers : List ℕ

@@ -7,11 +7,11 @@ use native.Mathlib.Numerals.{add-one}
 use native.Mathlib.Omega.{arith}
 use borrow.Author.Tests.{eq-eqb, ne-eqb, lt-ltb, le-ltb, not-true, not-false}
 use lib.Dec.{ltb}
-use lib.ListN.{length, getD, take, drop, length-drop, drop-of-length-le}
+use lib.ListN.{length, getD, take, drop, set, length-drop, drop-of-length-le}
 use lib.Seq.{drop-cons, getD-take, getD-drop, length-take-le}
-use Rattle.sheet.specs.Forms.{KIND, NODE, noKey}
-use Rattle.sheet.specs.State.{sum, before}
-use Rattle.sheet.specs.Sheet.{Reading, reach, enough, firstUnused, reads, allUsed, ending}
+use Rattle.sheet.specs.Forms.{KIND, SHAPE, NODE, noKey}
+use Rattle.sheet.specs.State.{empty, sum, before}
+use Rattle.sheet.specs.Sheet.{Reading, least, reach, enough, firstUnused, reads, allUsed, ending}
 use Rattle.table.specs.Layout.{USES, held}
 use Rattle.table.proofs.Rows.{count-held}
 use Rattle.table.proofs.Counts.{count-at}
@@ -74,7 +74,7 @@ module _ (a : List ℕ) (s i : ℕ) (t : Summed a s i) where
       let v : sum (take (NODE - (i + 1)) (drop (suc i) (countsIn a))) ≡ sum (take (NODE - (i + 1)) (drop (i + 1) (countsIn a))) = ap (λ (c : ℕ). sum (take (NODE - (i + 1)) (drop c (countsIn a)))) (sym (add-one i)) in
       record { left = omega (arith, t .left, w, v); low = omega (arith, t .low); near = omega arith }
 
-  pub summed-end : NODE ≤ i → (s ≡ before (held [] a []) NODE) × (s ≤ 47244640245)
+  pub summed-end : NODE ≤ i → (s ≡ before (held [] a []) NODE) × (s ≤ 51539607540)
   summed-end h =
       let p : NODE - i ≡ 0 = omega arith in
       let q : sum (take (NODE - i) (drop i (countsIn a))) ≡ 0 = ap (λ (c : ℕ). sum (take c (drop i (countsIn a)))) p in
@@ -86,7 +86,7 @@ module _ (a : List ℕ) (s i : ℕ) (t : Summed a s i) where
 
 enough-alike : (a b : List ℕ) → enough (held [] a []) noKey ≡ enough (held [] a b) noKey
 enough-alike a b =
-    ap₂ (λ (c : List ℕ) (n : ℕ). reach (take noKey c) (1 ∷ 0 ∷ 0 ∷ 0 ∷ n ∷ 0 ∷ 0 ∷ 1 ∷ 1 ∷ 1 ∷ 1 ∷ 0 ∷ 0 ∷ []))
+    ap₂ (λ (c : List ℕ) (n : ℕ). reach (take noKey c) (set (least empty) SHAPE n))
     (counts-held [] a [] ∙ sym (counts-held [] a b)) (count-alike a [] b KIND)
 
 module _ (a b : List ℕ) (k : ℕ) (o : Bool) (ho : o ≡ enough (held [] a []) noKey) where
@@ -103,7 +103,7 @@ module _ (a b : List ℕ) (k : ℕ) (o : Bool) (ho : o ≡ enough (held [] a [])
         ∙ ap (allUsed (held [] a b)) (ap firstUnused (used-of [] a b) ∙ sym hu)
         ∙ ap (λ (x : ℕ). cond (ltb u x) (reads (held [] a b) 8 (suc (before (held [] a b) NODE + u))) (reads (held [] a b) 0 0)) (count-held [] a b NODE (omega arith) ∙ sym hn)
 
-    pub unused : u < n → (m : ℕ) → (m ≡ before (held [] a []) NODE) × (m ≤ 47244640245) → (8 ≡ ending (held [] a b) k .number) × (m + u + 1 ≡ ending (held [] a b) k .line)
+    pub unused : u < n → (m : ℕ) → (m ≡ before (held [] a []) NODE) × (m ≤ 51539607540) → (8 ≡ ending (held [] a b) k .number) × (m + u + 1 ≡ ending (held [] a b) k .line)
     unused h m hm =
         let e : ending (held [] a b) k ≡ reads (held [] a b) 8 (suc (before (held [] a b) NODE + u)) = all-is ∙ rw (lt-ltb u n h) refl in
         let w : before (held [] a b) NODE ≡ before (held [] a []) NODE = ap (λ (c : List ℕ). sum (take NODE c)) (counts-held [] a b ∙ sym (counts-held [] a [])) in

@@ -1,9 +1,11 @@
 -- The lines in turn. Assumes nothing.
 use mathlib.Core.Path.{_≡_, refl, sym, ap, ap₂, subst, _∙_}
 use mathlib.Core.Bool.{Bool, true, false, cond}
+use mathlib.Core.Option.{Option, none, some}
 use mathlib.Core.List.{List, [], _∷_}
 use Prim.Native.Nat.{ℕ, zero, suc, _+_, _-_, _*_, _≤_, _<_}
 use native.Mathlib.Omega.{arith}
+use native.Mathlib.Decide.{ℕ-discrete}
 use lib.Dec.{ltb, eqb}
 use lib.ListN.{length, getD, take, drop, set, replicate, length-set}
 use lib.Seq.{getD-set-same, getD-set-other, drop-set-lt, drop-drop}
@@ -14,15 +16,17 @@ use Rattle.scan.specs.declared.Line as L
 use Rattle.scan.specs.Places.{readingBy, LineRead}
 use Rattle.scan.proofs.Readings.{Entered, line-entered}
 use Rattle.sheet.specs.Bytes.{split}
-use Rattle.sheet.specs.Forms.{Mode, rowOf, rowOfValue, TEXT, KIND, NODE, noKey}
+use Rattle.sheet.specs.Forms.{Mode, forms, formOf, tagOf, keyOf, itemsFrom, counted, orEmpty, rowFor, rowOf, rowOfValue, TEXT, KIND, SHAPE, DAY, NODE, noKey}
+use Rattle.forms.specs.Tags.{DAY-LINE}
 use Rattle.sheet.specs.State.{State, empty, count, before, sum}
-use Rattle.sheet.specs.Sheet.{Reading, enough, reach, firstUnused, reads, ending, fault, more, goOn, reading, read}
-use Rattle.table.specs.Layout.{part, MADE, TOP, TYPEDEPTHS, USES, heap, rowsAt, rowsOf, linesHeld, depthsHeld, depthsAt, held, depthBase, depthsIn}
+use Rattle.sheet.specs.Sheet.{Reading, least, enough, reach, firstUnused, reads, ending, fault, more, goOn, reading, read}
+use Rattle.table.specs.Layout.{part, RUN, MADE, TOP, TYPEDEPTHS, USES, heap, rowsAt, rowsOf, linesHeld, depthsHeld, depthsAt, held, depthBase, depthsIn}
 use Rattle.table.proofs.Rows.{limit-small}
 use Rattle.table.proofs.Held.{tab-same, linesIn, lines-tab, depths-tab, counts-held}
 use Rattle.fits.proofs.Remembered as R
 use Rattle.judge.proofs.Alike.{count-alike}
-use Rattle.line.proofs.LawsLine.{entry-wide}
+use Rattle.line.proofs.LawsLine.{entry-wide, entry-wider}
+use Rattle.take.proofs.Taking.{fault-none}
 use Rattle.take.specs.Steps.{Reached, before-any, after-line, Ready, taken, Taken}
 use Rattle.load.specs.Result.{Read}
 
@@ -34,6 +38,21 @@ go-stops s k r (suc f) rest n = refl
 
 go-on : (s : State) (k : ℕ) (r : List ℕ) (f : ℕ) (rest : State → ℕ → Reading) → f ≡ 0 → goOn s k r f rest ≡ rest (more s r) (suc k)
 go-on s k r f rest e = rw e refl
+
+-- ---- a day's line
+
+-- its row is none or one of the key `day`
+day-key : (m : Mode) (k : ℕ) (v : List ℕ) → k ≡ DAY → (rowOfValue m k v ≡ [] → ⊥) → keyOf (rowOfValue m k v) ≡ DAY
+unfolding keyOf tagOf formOf forms
+day-key m k v e = subst (λ (x : ℕ). (rowOfValue m x v ≡ [] → ⊥) → keyOf (rowOfValue m x v) ≡ DAY) (sym e) own
+  where
+    by-items : (t : Bool) (o : Option (List ℕ)) → (cond t (orEmpty DAY-LINE o) [] ≡ [] → ⊥) → keyOf (cond t (orEmpty DAY-LINE o) []) ≡ DAY
+    by-items true none h = absurd (h refl)
+    by-items true (some l) h = refl
+    by-items false o h = absurd (h refl)
+
+    own : (rowOfValue m DAY v ≡ [] → ⊥) → keyOf (rowOfValue m DAY v) ≡ DAY
+    own h = by-items (counted DAY-LINE (length (split 44 v))) (itemsFrom m DAY-LINE 0 (split 44 v)) h
 
 -- ---- the end
 
@@ -67,7 +86,7 @@ module _ (sheet a b : List ℕ) where
 
   enough-same : enough (held [] a b) noKey ≡ enough (held sheet a b) noKey
   enough-same =
-      ap₂ (λ (c : List ℕ) (n : ℕ). reach (take noKey c) (1 ∷ 0 ∷ 0 ∷ 0 ∷ n ∷ 0 ∷ 0 ∷ 1 ∷ 1 ∷ 1 ∷ 1 ∷ 0 ∷ 0 ∷ []))
+      ap₂ (λ (c : List ℕ) (n : ℕ). reach (take noKey c) (set (least empty) SHAPE n))
       (counts-held [] a b ∙ sym (counts-held sheet a b)) (counts-same KIND)
 
   before-same : before (held [] a b) NODE ≡ before (held sheet a b) NODE
@@ -166,6 +185,7 @@ module _ (sheet a b a₁ b₁ a₂ : List ℕ) (la : 16384 ≤ length a) (lb : 1
           over = omega (arith, top-first);
           long = omega (arith, long-a₂);
         };
+        none = none-yet RUN (omega arith);
         made = none-yet MADE (omega arith);
         known = R.cleared a₂ b₁ blank;
         blank = λ l. blank;
@@ -174,7 +194,7 @@ module _ (sheet a b a₁ b₁ a₂ : List ℕ) (la : 16384 ≤ length a) (lb : 1
 
   rest-first : (drop 16384 a₂ ≡ drop 16384 a) × (drop 16384 b₁ ≡ drop 16384 b)
   rest-first = (
-    ap (drop 16384) h₂ ∙ drop-set-lt 16384 a₁ TOP heap (omega arith) ∙ ap (drop 16384) ha ∙ drop-past TOP 16370 a,
+    ap (drop 16384) h₂ ∙ drop-set-lt 16384 a₁ TOP heap (omega arith) ∙ ap (drop 16384) ha ∙ drop-past TOP (16384 - TOP) a,
     ap (drop 16384) hb ∙ drop-past TYPEDEPTHS 12288 b,
   )
 
@@ -262,9 +282,12 @@ module _ (m : Mode) (sheet a₀ b₀ a b : List ℕ) (c : Cursor) (i : Progress 
       entry : Entered sheet c j equals e next
       entry = line-entered sheet c j equals e next (sym o ∙ q .is)
 
-      -- a key has at least four letters
-      wide : c .at + 4 ≤ equals .at
+      -- a key has at least three letters, and every key but `day` one more
+      wide : c .at + 3 ≤ equals .at
       wide = entry-wide sheet c j equals e next (sym o ∙ q .is)
+
+      wider : (j ≡ DAY → ⊥) → c .at + 4 ≤ equals .at
+      wider = entry-wider sheet c j equals e next (sym o ∙ q .is)
 
       line-long : (c .at + length (part sheet (c .at) e) ≡ e) × (e < length sheet) × (next .at ≡ e + 1)
       line-long = let w = entry in (omega (arith, length-part sheet (c .at) e (omega (arith, w .ends)), w .begins, w .equals-in), w .ends, w .next-at)
@@ -276,7 +299,7 @@ module _ (m : Mode) (sheet a₀ b₀ a b : List ℕ) (c : Cursor) (i : Progress 
       row = rowOfValue m j (part sheet (equals .at + 1) e)
 
       pub line-fits : length sheet ≤ 16384
-          → Ready a b × Reached m (held sheet a b) × (equals .at < e) × (e ≤ length sheet) × (length sheet ≤ 16384) × (2 * getD a TOP 0 + (e + 4 - equals .at) ≤ 24400)
+          → Ready a b × Reached m (held sheet a b) × (equals .at < e) × (e ≤ length sheet) × (length sheet ≤ 16384) × (2 * getD a TOP 0 + (e + 4 - equals .at) ≤ 2 * heap + 16400)
       line-fits s =
           let w = entry in
           (i .ready, i .reached, w .equals-in, omega (arith, w .ends), s, omega (arith, i .room, wide, w .equals-in, w .ends))
@@ -304,6 +327,13 @@ module _ (m : Mode) (sheet a₀ b₀ a b : List ℕ) (c : Cursor) (i : Progress 
             let w : rowOf m (part sheet (c .at) e) ≡ rowOfValue m j (part sheet (equals .at + 1) e) = entry .row m in
             subst (λ (x : List ℕ). Reached m (more (held sheet a b) x)) w (after-line (part sheet (c .at) e) (i .reached) (ap (fault (held sheet a b)) w ∙ sym (t .number) ∙ z))
 
+        line-room : n ≡ 0 → Dec (j ≡ DAY) → taken a′ ≤ 2 * heap + next .at
+        line-room z (yes d) =
+            let v = part sheet (equals .at + 1) e in
+            let k : keyOf (rowOfValue m j v) ≡ DAY = day-key m j v d (λ x. absurd (omega (arith, fault-none (held sheet a b) (rowOfValue m j v) x, t .number, z))) in
+            omega (arith, t .day k z, i .room, wide, entry .equals-in, line-long .2)
+        line-room z (no d) = omega (arith, t .room z, i .room, wider d, entry .equals-in, line-long .2)
+
         pub line-goes : n ≡ 0 → length sheet ≤ 16384 → length a′ ≡ length a → length b′ ≡ length b → Progress m sheet a₀ b₀ a′ b′ (next .at) (next .line)
         unfolding row
         line-goes z s la lb =
@@ -315,7 +345,7 @@ module _ (m : Mode) (sheet a₀ b₀ a b : List ℕ) (c : Cursor) (i : Progress 
               in-sheet = omega (arith, line-long .1, line-long .2);
               ready = t .ready z;
               reached = subst (Reached m) (sym (t .state z)) (line-reached z);
-              room = omega (arith, t .room z, i .room, wide, entry .equals-in, line-long .2);
+              room = line-room z (ℕ-discrete j DAY);
               near = omega (arith, i .near, line-long .0, line-long .2);
               long-a = la ∙ i .long-a;
               long-b = lb ∙ i .long-b;

@@ -52,7 +52,7 @@ fn first_unused(rows: &[u32], work: &[u32]) -> usize
 
 // How many lines stand before the nodes.
 fn before_nodes(rows: &[u32]) -> usize
-    ensures { λ r. ⌜ (r ≡ before (held [] (now (rows .entry)) []) NODE) × (r ≤ 47244640245) ⌝ }
+    ensures { λ r. ⌜ (r ≡ before (held [] (now (rows .entry)) []) NODE) × (r ≤ 51539607540) ⌝ }
 {
     let mut s: usize = 0;
     let mut i = 0;

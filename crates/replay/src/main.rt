@@ -79,7 +79,7 @@ fn record() -> bool {
         line: number(),
         length: number(),
     };
-    let mut sheet = [0u8; 16400];
+    let mut sheet = [0u8; 16448];
     take(&mut sheet, size);
     let mut answer = io::large_buffer();
     let n = written(wanted.number == 0, wanted.length);

@@ -10,13 +10,12 @@ use Rattle.cedar.specs.Response.{Verdict}
 use Rattle.cedar.specs.Types.{Schema}
 use Rattle.cedar.specs.Entities.{Env}
 use Rattle.cedar.specs.Runs.{completeAnswer}
-use Rattle.sheet.specs.Forms.{at, complete, POLICY}
-use Rattle.sheet.specs.State.{State, linesOf}
-use Rattle.sheet.specs.Content.{effectOf, schema, env, contentPolicies, exprs, policies}
+use Rattle.sheet.specs.Forms.{at, complete}
+use Rattle.sheet.specs.State.{State}
+use Rattle.sheet.specs.Content.{effectOf, schema, env, contentPolicies, exprs, onTerm, policies}
 use Rattle.sheet.specs.Sheet.{firsts, read}
 use Rattle.sheet.specs.Answer.{concat, headLines, completeLines, completeOf, results, answer}
-use Rattle.table.specs.Layout.{rowsOf, held}
-use Rattle.table.proofs.Rows.{lines-held}
+use Rattle.table.specs.Layout.{RUN, rowsOf, held}
 use Rattle.evaluator.specs.Run.{classNumbers, runOf}
 use Rattle.evaluator.specs.Gave.{Done}
 use Rattle.evaluator.proofs.Complete.{complete-run, complete-hold}
@@ -33,21 +32,21 @@ verdicts-back S G ns [] = refl
 verdicts-back S G ns (r ∷ rs) =
     ap₂ (λ (c : Class) (vs : List Verdict). record { effect = effectOf (at r 1); class = c } ∷ vs) (class-back _) (verdicts-back S G ns rs)
 
-results-back : (s : State) → verdictsOf (linesOf s POLICY) (classNumbers (results s)) ≡ results s
+results-back : (s : State) → verdictsOf (onTerm s) (classNumbers (results s)) ≡ results s
 unfolding results policies
-results-back s = verdicts-back (schema s) (env s) (exprs s) (linesOf s POLICY)
+results-back s = verdicts-back (schema s) (env s) (exprs s) (onTerm s)
 
--- only the policies' rows are printed
-same-bytes : (a a′ cs : List ℕ) → rowsOf a′ POLICY ≡ rowsOf a POLICY → completeBytes a′ cs ≡ completeBytes a cs
+-- only the rows of the policies that run are printed
+same-bytes : (a a′ cs : List ℕ) → rowsOf a′ RUN ≡ rowsOf a RUN → completeBytes a′ cs ≡ completeBytes a cs
 unfolding completeBytes policyLines verdictsIn
 same-bytes a a′ cs e = ap (λ (rs : List (List ℕ)). concat (headLines (verdictsOf rs cs) ++ completeLines (firsts rs) (verdictsOf rs cs))) e
 
-module _ (sheet a b : List ℕ) where
+module _ (sheet a b : List ℕ) (runs : rowsOf a RUN ≡ onTerm (held sheet a b)) where
   held-bytes : completeBytes a (classNumbers (results (held sheet a b))) ≡ answer complete (held sheet a b)
   unfolding answer verdictsIn
   held-bytes =
-      complete-held sheet a b (classNumbers (results (held sheet a b)))
-      ∙ ap (completeOf (held sheet a b)) (ap (λ (rs : List (List ℕ)). verdictsOf rs (classNumbers (results (held sheet a b)))) (sym (lines-held sheet a b POLICY (omega arith) (λ e. absurd (omega arith)))) ∙ results-back (held sheet a b))
+      complete-held sheet a b runs (classNumbers (results (held sheet a b)))
+      ∙ ap (completeOf (held sheet a b)) (ap (λ (rs : List (List ℕ)). verdictsOf rs (classNumbers (results (held sheet a b)))) runs ∙ results-back (held sheet a b))
 
 -- ---- the run, then the printing
 
@@ -57,10 +56,10 @@ part-front b n = let e : n - 0 ≡ n = omega arith in ap (λ (k : ℕ). take k b
 module _ (sheet a b : List ℕ) (h : Holding complete sheet a b) where
   run-bytes : completeBytes (runOf sheet a .words) (runOf sheet a .log) ≡ answer complete (read complete sheet .state)
   run-bytes =
-      same-bytes a (runOf sheet a .words) (runOf sheet a .log) (complete-hold sheet a b (h .accepted) (h .state) (h .sound) (h .none) (h .fits) .same POLICY (omega arith))
-      ∙ ap (completeBytes a) (complete-run sheet a b (h .accepted) (h .state) (h .sound) (h .none) (h .fits))
+      same-bytes a (runOf sheet a .words) (runOf sheet a .log) (complete-hold sheet a b (h .accepted) (h .state) (h .sound) (h .none) (h .runs) (h .fits) .same RUN (omega arith))
+      ∙ ap (completeBytes a) (complete-run sheet a b (h .accepted) (h .state) (h .sound) (h .none) (h .runs) (h .fits))
       ∙ ap (λ (s : State). completeBytes a (classNumbers (results s))) (h .state)
-      ∙ held-bytes sheet a b ∙ ap (answer complete) (sym (h .state))
+      ∙ held-bytes sheet a b (h .runs) ∙ ap (answer complete) (sym (h .state))
 
 pub complete-runs : (sheet a b a′ b′ cs out : List ℕ) (n number len : ℕ) (out′ : List ℕ) → Done (runOf sheet a) a′ b′ n → cs ≡ part b′ 0 n → Sends (completeBytes a′ cs) out number len out′
     → Runs complete sheet a b out number len out′

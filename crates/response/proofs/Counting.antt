@@ -12,9 +12,8 @@ use Rattle.cedar.specs.Canonical.{bit}
 use Rattle.cedar.specs.Residual.{Class, ctrue, cfalse, cerror, copen}
 use Rattle.cedar.specs.Response.{Effect, permit, forbid, isPermit, isForbid, isTrue, isOpen, Verdict, anyLine, decide, decision}
 use Rattle.sheet.specs.Answer.{howMany, isFalse, isError, countsOf}
-use Rattle.sheet.specs.Forms.{POLICY}
 use Rattle.forms.specs.Tags.{PERMIT, FORBID}
-use Rattle.table.specs.Layout.{rowsOf}
+use Rattle.table.specs.Layout.{RUN, rowsOf}
 use Rattle.table.proofs.Rows.{count-rows}
 use Rattle.value.proofs.Lists.{uncons, spent}
 use Rattle.residual.specs.Classes.{classNumber, CLASS-TRUE, CLASS-FALSE, CLASS-ERROR, CLASS-OPEN}
@@ -23,12 +22,12 @@ use Rattle.response.specs.declared.Decision as D
 
 -- ---- one policy
 
-module _ (a : List ℕ) (i x : ℕ) (r : List ℕ) (er : r ≡ getD (rowsOf a POLICY) i []) (ex : x ≡ getD r 2 0) where
-  pub effect-forbid : x ≡ FORBID → FORBID ≡ effectNumber (effectIn (getD (rowsOf a POLICY) i []))
-  effect-forbid h = let z : getD (getD (rowsOf a POLICY) i []) 2 0 ≡ FORBID = ap (λ (q : List ℕ). getD q 2 0) (sym er) ∙ sym ex ∙ h in rw z
+module _ (a : List ℕ) (i x : ℕ) (r : List ℕ) (er : r ≡ getD (rowsOf a RUN) i []) (ex : x ≡ getD r 2 0) where
+  pub effect-forbid : x ≡ FORBID → FORBID ≡ effectNumber (effectIn (getD (rowsOf a RUN) i []))
+  effect-forbid h = let z : getD (getD (rowsOf a RUN) i []) 2 0 ≡ FORBID = ap (λ (q : List ℕ). getD q 2 0) (sym er) ∙ sym ex ∙ h in rw z
 
-  pub effect-permit : (x ≡ FORBID → ⊥) → PERMIT ≡ effectNumber (effectIn (getD (rowsOf a POLICY) i []))
-  effect-permit h = go (getD (getD (rowsOf a POLICY) i []) 2 0) (λ z. h (ex ∙ ap (λ (q : List ℕ). getD q 2 0) er ∙ z))
+  pub effect-permit : (x ≡ FORBID → ⊥) → PERMIT ≡ effectNumber (effectIn (getD (rowsOf a RUN) i []))
+  effect-permit h = go (getD (getD (rowsOf a RUN) i []) 2 0) (λ z. h (ex ∙ ap (λ (q : List ℕ). getD q 2 0) er ∙ z))
     where
       go : (y : ℕ) → (y ≡ FORBID → ⊥) → PERMIT ≡ effectNumber (getD (permit ∷ forbid ∷ []) y permit)
       go zero n = refl
@@ -74,7 +73,7 @@ module _ (e c effect class : ℕ) where
 -- ---- the policies from one on
 
 abbrev pub verdictsFrom : List ℕ → List ℕ → ℕ → List Verdict
-verdictsFrom a cs i = verdictsOf (drop i (rowsOf a POLICY)) (drop i cs)
+verdictsFrom a cs i = verdictsOf (drop i (rowsOf a RUN)) (drop i cs)
 
 pub first-of : (l : List ℕ) (i : ℕ) → getD (drop i l) 0 0 ≡ getD l i 0
 first-of [] zero = refl
@@ -89,16 +88,16 @@ next-of (x ∷ l) zero = refl
 next-of (x ∷ l) (suc i) = next-of l i
 
 abbrev pub verdictAt : List ℕ → List ℕ → ℕ → Verdict
-verdictAt a cs i = record { effect = effectIn (getD (rowsOf a POLICY) i []); class = classIn (getD cs i 0) }
+verdictAt a cs i = record { effect = effectIn (getD (rowsOf a RUN) i []); class = classIn (getD cs i 0) }
 
-pub verdicts-on : (a cs : List ℕ) (i : ℕ) → i < length (rowsOf a POLICY) → verdictsFrom a cs i ≡ verdictAt a cs i ∷ verdictsFrom a cs (i + 1)
+pub verdicts-on : (a cs : List ℕ) (i : ℕ) → i < length (rowsOf a RUN) → verdictsFrom a cs i ≡ verdictAt a cs i ∷ verdictsFrom a cs (i + 1)
 verdicts-on a cs i h =
-    ap (λ (l : List (List ℕ)). verdictsOf l (drop i cs)) (uncons (rowsOf a POLICY) [] i h)
-    ∙ ap₂ (λ (x : ℕ) (l : List ℕ). record { effect = effectIn (getD (rowsOf a POLICY) i []); class = classIn x } ∷ verdictsOf (drop (i + 1) (rowsOf a POLICY)) l)
+    ap (λ (l : List (List ℕ)). verdictsOf l (drop i cs)) (uncons (rowsOf a RUN) [] i h)
+    ∙ ap₂ (λ (x : ℕ) (l : List ℕ). record { effect = effectIn (getD (rowsOf a RUN) i []); class = classIn x } ∷ verdictsOf (drop (i + 1) (rowsOf a RUN)) l)
     (first-of cs i) (next-of cs i ∙ ap (λ (j : ℕ). drop j cs) (sym (add-one i)))
 
-pub verdicts-end : (a cs : List ℕ) (i : ℕ) → length (rowsOf a POLICY) ≤ i → verdictsFrom a cs i ≡ []
-verdicts-end a cs i h = ap (λ (l : List (List ℕ)). verdictsOf l (drop i cs)) (spent (rowsOf a POLICY) i h)
+pub verdicts-end : (a cs : List ℕ) (i : ℕ) → length (rowsOf a RUN) ≤ i → verdictsFrom a cs i ≡ []
+verdicts-end a cs i h = ap (λ (l : List (List ℕ)). verdictsOf l (drop i cs)) (spent (rowsOf a RUN) i h)
 
 -- m were counted up to place i of n, and the rest gives what is left
 pub record Tally (whole m rest i n : ℕ) : Type 0 where
@@ -116,16 +115,16 @@ hit-small k false e = omega arith
 pub hit-le : (k e c effect class : ℕ) → k ≡ bit (eqb e effect && eqb c class) → k ≤ 1
 hit-le k e c effect class h = hit-small k (eqb e effect && eqb c class) h
 
-module _ (a cs : List ℕ) (effect class n : ℕ) (en : n ≡ getD a POLICY 0) where
-  many : n ≡ length (rowsOf a POLICY)
-  many = en ∙ sym (count-rows a POLICY)
+module _ (a cs : List ℕ) (effect class n : ℕ) (en : n ≡ getD a RUN 0) where
+  many : n ≡ length (rowsOf a RUN)
+  many = en ∙ sym (count-rows a RUN)
 
   pub tally-start : Tally (countIn effect class (verdictsIn a cs)) 0 (countIn effect class (verdictsFrom a cs 0)) 0 n
   unfolding verdictsIn
   tally-start = record { near = omega arith; few = omega arith; left = omega arith }
 
   module _ (i m : ℕ) (t : Tally (countIn effect class (verdictsIn a cs)) m (countIn effect class (verdictsFrom a cs i)) i n) where
-    pub tally-on : (e c k : ℕ) → i < n → e ≡ effectNumber (effectIn (getD (rowsOf a POLICY) i [])) → c ≡ classNumber (classIn (getD cs i 0))
+    pub tally-on : (e c k : ℕ) → i < n → e ≡ effectNumber (effectIn (getD (rowsOf a RUN) i [])) → c ≡ classNumber (classIn (getD cs i 0))
         → k ≡ bit (eqb e effect && eqb c class) → Tally (countIn effect class (verdictsIn a cs)) (m + k) (countIn effect class (verdictsFrom a cs (i + 1))) (i + 1) n
     tally-on e c k h ee ec ek =
         let s : countIn effect class (verdictsFrom a cs i) ≡ k + countIn effect class (verdictsFrom a cs (i + 1)) =
@@ -145,7 +144,7 @@ pub record Tallies (a cs : List ℕ) (effect n i t f e o : ℕ) : Type 0 where
   pub errors : Tally (countIn effect CLASS-ERROR (verdictsIn a cs)) e (countIn effect CLASS-ERROR (verdictsFrom a cs i)) i n
   pub opens : Tally (countIn effect CLASS-OPEN (verdictsIn a cs)) o (countIn effect CLASS-OPEN (verdictsFrom a cs i)) i n
 
-pub tallies-end : (a cs : List ℕ) (effect n i t f e o : ℕ) → n ≡ getD a POLICY 0 → Tallies a cs effect n i t f e o → n ≤ i
+pub tallies-end : (a cs : List ℕ) (effect n i t f e o : ℕ) → n ≡ getD a RUN 0 → Tallies a cs effect n i t f e o → n ≤ i
     → (t ≡ countIn effect CLASS-TRUE (verdictsIn a cs)) × ((f ≡ countIn effect CLASS-FALSE (verdictsIn a cs)) × ((e ≡ countIn effect CLASS-ERROR (verdictsIn a cs)) × (o ≡ countIn effect CLASS-OPEN (verdictsIn a cs))))
 tallies-end a cs effect n i t f e o en l h =
     (tally-end a cs effect CLASS-TRUE n en i t (l .trues) h, (tally-end a cs effect CLASS-FALSE n en i f (l .falses) h, (tally-end a cs effect CLASS-ERROR n en i e (l .errors) h, tally-end a cs effect CLASS-OPEN n en i o (l .opens) h)))

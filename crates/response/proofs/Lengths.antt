@@ -8,11 +8,11 @@ use Rattle.cedar.specs.Residual.{Class, ctrue, cfalse, cerror, copen}
 use Rattle.cedar.specs.Response.{Effect, permit, forbid, Verdict, Decision, allow, deny, undecided, decision}
 use Rattle.sheet.specs.Ascii.{ascii}
 use Rattle.sheet.specs.Bytes.{digits}
-use Rattle.sheet.specs.Forms.{at, TYPE, NODE, POLICY}
+use Rattle.sheet.specs.Forms.{at, TYPE, NODE}
 use Rattle.sheet.specs.Sheet.{firsts}
 use Rattle.sheet.specs.Answer.{printed, concat, numbers, decisionWord, effectWord, classWord, countsOf, headLines, policyItems, completeLines}
 use Rattle.sheet.proofs.AnswerRead.{firsts-length}
-use Rattle.table.specs.Layout.{rowsOf, MADE}
+use Rattle.table.specs.Layout.{RUN, rowsOf, MADE}
 use Rattle.table.proofs.Rows.{count-rows}
 use Rattle.print.specs.Written.{greatest}
 use Rattle.print.proofs.Writing.{digits-few}
@@ -65,13 +65,13 @@ complete-most (i ∷ is) (l ∷ ls) =
     omega (arith, a, h, length-append (printed "policy" (policyItems i (l .effect) (l .class) [])) (concat (completeLines is ls)))
 
 -- A COMPLETE ANSWER CAN BE COUNTED: the word that says how many policies there are has 32 bits
-pub complete-counted : (a cs : List ℕ) → getD a POLICY 0 < 4294967296 → length (completeBytes a cs) ≤ greatest
+pub complete-counted : (a cs : List ℕ) → getD a RUN 0 < 4294967296 → length (completeBytes a cs) ≤ greatest
 unfolding completeBytes policyLines
 complete-counted a cs h =
-    let p : length (firsts (rowsOf a POLICY)) ≡ getD a POLICY 0 = firsts-length (rowsOf a POLICY) ∙ count-rows a POLICY in
+    let p : length (firsts (rowsOf a RUN)) ≡ getD a RUN 0 = firsts-length (rowsOf a RUN) ∙ count-rows a RUN in
     let b = head-most (verdictsIn a cs) in
-    let d = complete-most (firsts (rowsOf a POLICY)) (verdictsIn a cs) in
-    omega (arith, p, b, d, ap length (concat-append (headLines (verdictsIn a cs)) (completeLines (firsts (rowsOf a POLICY)) (verdictsIn a cs))), length-append (concat (headLines (verdictsIn a cs))) (concat (completeLines (firsts (rowsOf a POLICY)) (verdictsIn a cs))))
+    let d = complete-most (firsts (rowsOf a RUN)) (verdictsIn a cs) in
+    omega (arith, p, b, d, ap length (concat-append (headLines (verdictsIn a cs)) (completeLines (firsts (rowsOf a RUN)) (verdictsIn a cs))), length-append (concat (headLines (verdictsIn a cs))) (concat (completeLines (firsts (rowsOf a RUN)) (verdictsIn a cs))))
 
 -- ---- policies with roots
 
@@ -84,7 +84,7 @@ rooted-most (r ∷ rs) cs es =
     omega (arith, p, i, digits-few (getD es 0 0), length-append (printed "policy" (policyItems (at r 0) (effectIn r) (classIn (getD cs 0 0)) d)) (concat (rootedOf rs (drop 1 cs) (drop 1 es))))
 
 -- A PARTIAL ANSWER CAN BE COUNTED: a slice of 16,384 words at most, a log of as many, and words of 32 bits that say how many values and policies there are
-pub partial-counted : (a l cs es : List ℕ) → length a ≤ 16384 → length l ≤ 16384 → getD a POLICY 0 < 4294967296 → getD a MADE 0 < 4294967296 → length (partialBytes a l cs es) ≤ greatest
+pub partial-counted : (a l cs es : List ℕ) → length a ≤ 16384 → length l ≤ 16384 → getD a RUN 0 < 4294967296 → getD a MADE 0 < 4294967296 → length (partialBytes a l cs es) ≤ greatest
 unfolding partialBytes rootedLines
 partial-counted a l cs es h k p q =
     let n : List ℕ = concat (logLines (rowsOf a TYPE) (rowsOf a NODE) l) in
@@ -92,5 +92,5 @@ partial-counted a l cs es h k p q =
     let b = head-most (verdictsIn a cs) in
     let d = made-most a h in
     let e = log-most a h l k in
-    let f = rooted-most (rowsOf a POLICY) cs es in
-    omega (arith, b, d, e, f, k, count-rows a POLICY, length-append (concat (headLines (verdictsIn a cs))) (madeLines a ++ (n ++ o)), length-append (madeLines a) (n ++ o), length-append n o)
+    let f = rooted-most (rowsOf a RUN) cs es in
+    omega (arith, b, d, e, f, k, count-rows a RUN, length-append (concat (headLines (verdictsIn a cs))) (madeLines a ++ (n ++ o)), length-append (madeLines a) (n ++ o), length-append n o)

@@ -14,14 +14,14 @@ use Rattle.cedar.specs.Rows.{Row}
 use Rattle.cedar.specs.Numbered.{NEnv, nInterpret}
 use Rattle.cedar.specs.Runs.{NVerdict, Run, nRun, verdicts}
 use Rattle.sheet.specs.Bytes.{digits}
-use Rattle.sheet.specs.Forms.{Mode, partial, at, TYPE, VALUE, NODE, POLICY, noKey}
+use Rattle.sheet.specs.Forms.{Mode, partial, at, TYPE, VALUE, NODE, noKey}
 use Rattle.sheet.specs.State.{State, linesOf, count, TypeRow, bool, long, string, entity, set′, record′, typeRow}
-use Rattle.sheet.specs.Content.{tyOver, tysFrom, types, rowsIn, numberedPolicies, nPolicies, schema, nEnv, trees, valueRows}
+use Rattle.sheet.specs.Content.{tyOver, tysFrom, types, rowsIn, numberedPolicies, onTerm, nPolicies, schema, nEnv, trees, valueRows}
 use Rattle.sheet.specs.Sheet.{firsts}
 use Rattle.sheet.specs.Answer.{printed, concat, policyItems, headLines, partialLines, valueLines, root, size, typeNumber, residualRows, nodeLines, ids, run, partialOf, answer}
 use Rattle.sheet.proofs.Lines.{History}
 use Rattle.sheet.proofs.TypeNumbers.{types-length, number-again}
-use Rattle.table.specs.Layout.{rowsOf, linesHeld, held, MADE}
+use Rattle.table.specs.Layout.{RUN, rowsOf, linesHeld, held, MADE}
 use Rattle.table.proofs.Rows.{count-rows, count-held, lines-held}
 use Rattle.residual.specs.Classes.{rootsOf}
 use Rattle.residual.specs.Trees.{Ress, flats, treesOf, Wholes}
@@ -92,13 +92,13 @@ module _ (S : Schema) (M : NEnv) (ns : List (Node ℕ)) where
       ap₂ (λ (c : Class) (l : List Verdict). record { effect = effectIn r; class = c } ∷ l) (f 0 (omega arith))
       (verdicts-from rs (drop 1 cs) R₁ (λ i h. ap classIn (second-of cs i) ∙ f (suc i) (omega arith)))
 
-pub verdicts-run : (sheet a₀ b₀ a cs : List ℕ) → rowsOf a POLICY ≡ rowsOf a₀ POLICY
+pub verdicts-run : (sheet a₀ b₀ a cs : List ℕ) → rowsOf a RUN ≡ onTerm (held sheet a₀ b₀)
     → ((i : ℕ) → i < length (run partial (held sheet a₀ b₀) .lines) → classIn (getD cs i 0) ≡ getD (classesIn (run partial (held sheet a₀ b₀) .lines)) i copen)
     → verdictsIn a cs ≡ verdicts (run partial (held sheet a₀ b₀) .lines)
-unfolding run nPolicies verdictsIn held linesHeld
+unfolding run nPolicies verdictsIn
 verdicts-run sheet a₀ b₀ a cs e f =
     ap (λ (rs : List (List ℕ)). verdictsOf rs cs) e
-    ∙ verdicts-from (schema (held sheet a₀ b₀)) (nEnv partial (held sheet a₀ b₀)) (trees (held sheet a₀ b₀)) (rowsOf a₀ POLICY) cs (valueRows (held sheet a₀ b₀)) f
+    ∙ verdicts-from (schema (held sheet a₀ b₀)) (nEnv partial (held sheet a₀ b₀)) (trees (held sheet a₀ b₀)) (onTerm (held sheet a₀ b₀)) cs (valueRows (held sheet a₀ b₀)) f
 
 -- ---- types: a number of a line is the one that its content is found by; past the lines it is bool's
 
@@ -148,12 +148,13 @@ pub record RunWords (sheet a₀ : List ℕ) (x : Run) (a l cs es : List ℕ) : T
   pub log : l ≡ flats ress
   pub trees : treesOf (types (held sheet a₀ [])) (rowsOf a₀ NODE) ress ≡ treesIn (x .lines)
   pub wholes : Wholes (types (held sheet a₀ [])) (rowsOf a₀ NODE) levels ress
-  pub same : (k : ℕ) → k < noKey → rowsOf a k ≡ rowsOf a₀ k
+  pub same : (k : ℕ) → k < MADE → rowsOf a k ≡ rowsOf a₀ k
   pub rows : rowsIn (allRows a) ≡ x .rows
   pub verdicts : verdictsIn a cs ≡ verdicts (x .lines)
   pub roots : (i : ℕ) → i < length (x .lines) → getD es i 0 ≡ getD (rootsOf 0 (x .lines)) i 0
 
-module _ (sheet a₀ b₀ : List ℕ) (h : History partial (held sheet a₀ b₀)) (x : Run) (a l cs es : List ℕ) (w : RunWords sheet a₀ x a l cs es) where
+module _ (sheet a₀ b₀ : List ℕ) (h : History partial (held sheet a₀ b₀)) (runs : rowsOf a₀ RUN ≡ onTerm (held sheet a₀ b₀)) (x : Run) (a l cs es : List ℕ)
+    (w : RunWords sheet a₀ x a l cs es) where
   abbrev s : State
   s = held sheet a₀ b₀
 
@@ -162,7 +163,7 @@ module _ (sheet a₀ b₀ : List ℕ) (h : History partial (held sheet a₀ b₀
   types-are = refl
 
   kept : (k : ℕ) → k < noKey → (k ≡ 1 → ⊥) → rowsOf a k ≡ linesOf s k
-  kept k lt n = w .same k lt ∙ sym (lines-held sheet a₀ b₀ k lt n)
+  kept k lt n = w .same k (omega arith) ∙ sym (lines-held sheet a₀ b₀ k lt n)
 
   made-are : madeLines a ≡ concat (valueLines (drop (count s VALUE) (x .rows)))
   made-are =
@@ -183,8 +184,8 @@ module _ (sheet a₀ b₀ : List ℕ) (h : History partial (held sheet a₀ b₀
   policies-are : rootedLines a cs es ≡ partialLines 0 (ids s) (x .lines)
   unfolding rootedLines verdictsIn
   policies-are =
-      rooted-words 0 (rowsOf a POLICY) cs es (x .lines) (w .verdicts) (w .roots)
-      ∙ ap (λ (rs : List (List ℕ)). partialLines 0 (firsts rs) (x .lines)) (kept POLICY (omega arith) (λ e. absurd (omega arith)))
+      rooted-words 0 (rowsOf a RUN) cs es (x .lines) (w .verdicts) (w .roots)
+      ∙ ap (λ (rs : List (List ℕ)). partialLines 0 (firsts rs) (x .lines)) (w .same RUN (omega arith) ∙ runs)
 
   -- THE BYTES ARE THOSE OF THE DEFINITION
   pub partial-held : partialBytes a l cs es ≡ partialOf s x
@@ -200,7 +201,7 @@ module _ (sheet a₀ b₀ : List ℕ) (h : History partial (held sheet a₀ b₀
       ∙ append-assoc (concat H ++ concat M) (concat N) (concat P) ∙ append-assoc (concat H) (concat M) (concat N ++ concat P))
 
 -- of the sheet's own run they are the answer
-pub partial-answer : (sheet a₀ b₀ : List ℕ) → History partial (held sheet a₀ b₀) → (a l cs es : List ℕ) → RunWords sheet a₀ (run partial (held sheet a₀ b₀)) a l cs es
+pub partial-answer : (sheet a₀ b₀ : List ℕ) → History partial (held sheet a₀ b₀) → rowsOf a₀ RUN ≡ onTerm (held sheet a₀ b₀) → (a l cs es : List ℕ) → RunWords sheet a₀ (run partial (held sheet a₀ b₀)) a l cs es
     → partialBytes a l cs es ≡ answer partial (held sheet a₀ b₀)
 unfolding answer
-partial-answer sheet a₀ b₀ h a l cs es w = partial-held sheet a₀ b₀ h (run partial (held sheet a₀ b₀)) a l cs es w
+partial-answer sheet a₀ b₀ h runs a l cs es w = partial-held sheet a₀ b₀ h runs (run partial (held sheet a₀ b₀)) a l cs es w

@@ -8,8 +8,9 @@ use lib.Seq.{getD-take}
 use Rattle.words.specs.Log.{part}
 use Rattle.cedar.specs.Residual.{Node, copen}
 use Rattle.cedar.specs.Runs.{NVerdict, Run, verdicts}
-use Rattle.sheet.specs.Forms.{partial, POLICY}
+use Rattle.sheet.specs.Forms.{partial}
 use Rattle.sheet.specs.State.{State}
+use Rattle.table.specs.Layout.{RUN}
 use Rattle.sheet.specs.Sheet.{read}
 use Rattle.sheet.specs.Answer.{run, partialOf, answer}
 use Rattle.sheet.specs.Call.{room}
@@ -55,10 +56,10 @@ module _ (sheet a b : List ℕ) (h : Holding partial sheet a b) where
   r = runOf partial sheet a []
 
   is-ran : RunIs partial sheet a 64 [] x r
-  is-ran = ran sheet a b (h .accepted) (h .state) (h .sound) (h .none) (h .fits)
+  is-ran = ran sheet a b (h .accepted) (h .state) (h .sound) (h .none) (h .runs) (h .fits)
 
   most : length (x .lines) ≤ 64
-  most = few sheet a b (h .accepted) (h .state) (h .sound) (h .none) (h .fits)
+  most = few sheet a b (h .accepted) (h .state) (h .sound) (h .none) (h .runs) (h .fits)
 
   -- the lines are noted in w
   module _ (v w : List ℕ) (n : Lined (x .lines) v w) where
@@ -72,7 +73,7 @@ module _ (sheet a b : List ℕ) (h : Holding partial sheet a b) where
     said =
         subst (λ (s : State). ((i : ℕ) → i < length (run partial s .lines) → classIn (getD (part w CLASSES room) i 0) ≡ getD (classesIn (run partial s .lines)) i copen)
         → verdictsIn (r .words) (part w CLASSES room) ≡ verdicts (run partial s .lines))
-        (sym (h .state)) (verdicts-run sheet a b (r .words) (part w CLASSES room) (is-ran .hold .same POLICY (omega arith))) class-at
+        (sym (h .state)) (verdicts-run sheet a b (r .words) (part w CLASSES room) (is-ran .hold .same RUN (omega arith) ∙ h .runs)) class-at
 
     words : RunWords sheet a x (r .words) (r .log) (part w CLASSES room) (part w ROOTS room)
     words = record {
@@ -91,7 +92,7 @@ module _ (sheet a b : List ℕ) (h : Holding partial sheet a b) where
     unfolding answer
     run-bytes =
         let (k, g) = accepted-history partial sheet (h .accepted) in
-        partial-held sheet a b (subst (History partial) (h .state) k) x (r .words) (r .log) (part w CLASSES room) (part w ROOTS room) words
+        partial-held sheet a b (subst (History partial) (h .state) k) (h .runs) x (r .words) (r .log) (part w CLASSES room) (part w ROOTS room) words
         ∙ ap (λ (s : State). partialOf s x) (sym (h .state))
 
 -- ---- the run, the lines, then the printing
@@ -107,8 +108,8 @@ partial-runs sheet a b a′ b′ b″ l cs es out e number len out′ q lb lb′
     let k : room ≤ length b′ = omega (arith, lb, lb′) in
     let w : b″ ≡ linesOf (t .words) b′ e = eb ∙ ap (λ (y : List ℕ). linesOf y b′ e) (q .words) in
     let n : Lined (run partial (read partial sheet .state) .lines) b′ b″ =
-    subst (Lined (run partial (read partial sheet .state) .lines) b′) (sym w) (lined sheet a b (h .accepted) (h .state) (h .sound) (h .none) (h .fits) b′ e (q .log) k) in
-    let g : l ≡ t .log = el ∙ part-front b″ e ∙ ap (take e) w ∙ log-stays sheet a b (h .accepted) (h .state) (h .sound) (h .none) (h .fits) b′ e (q .log) k in
+    subst (Lined (run partial (read partial sheet .state) .lines) b′) (sym w) (lined sheet a b (h .accepted) (h .state) (h .sound) (h .none) (h .runs) (h .fits) b′ e (q .log) k) in
+    let g : l ≡ t .log = el ∙ part-front b″ e ∙ ap (take e) w ∙ log-stays sheet a b (h .accepted) (h .state) (h .sound) (h .none) (h .runs) (h .fits) b′ e (q .log) k in
     let i : partialBytes a′ l cs es ≡ partialBytes (t .words) (t .log) (part b″ CLASSES room) (part b″ ROOTS room) =
     ap₂ (λ (y z : List ℕ). partialBytes y z cs es) (q .words) g ∙ ap₂ (λ (y z : List ℕ). partialBytes (t .words) (t .log) y z) ec ee in
     subst (λ (y : List ℕ). Sends y out number len out′) (i ∙ run-bytes sheet a b h b′ b″ n) s

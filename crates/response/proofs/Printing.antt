@@ -8,12 +8,13 @@ use Rattle.cedar.specs.Residual.{Class, ctrue, cfalse, cerror, copen}
 use Rattle.cedar.specs.Response.{Effect, permit, forbid, Verdict, decision}
 use Rattle.sheet.specs.Ascii.{ascii}
 use Rattle.sheet.specs.Bytes.{digits, commas}
-use Rattle.sheet.specs.Forms.{at, POLICY}
+use Rattle.sheet.specs.Forms.{at}
 use Rattle.sheet.specs.Sheet.{firsts}
+use Rattle.sheet.specs.Content.{onTerm}
 use Rattle.sheet.specs.Answer.{printed, concat, numbers, countsOf, headLines, effectWord, classWord, completeLines, completeOf}
 use Rattle.forms.specs.Tags.{PERMIT, FORBID}
-use Rattle.table.specs.Layout.{rowsOf, held}
-use Rattle.table.proofs.Rows.{count-rows, lines-held}
+use Rattle.table.specs.Layout.{RUN, rowsOf, held}
+use Rattle.table.proofs.Rows.{count-rows}
 use Rattle.value.proofs.Lists.{uncons, spent}
 use Rattle.print.specs.Written.{Written}
 use Rattle.print.proofs.Writing.{written-append, written-as}
@@ -86,33 +87,33 @@ class-text cfalse = refl
 class-text cerror = refl
 class-text copen = refl
 
-pub policy-id : (was is : List ℕ) (at next : ℕ) (a : List ℕ) (i x : ℕ) (r mid : List ℕ) (m : ℕ) → r ≡ getD (rowsOf a POLICY) i [] → x ≡ getD r 1 0
-    → Written was at (112 ∷ 111 ∷ 108 ∷ 105 ∷ 99 ∷ 121 ∷ []) mid m → Written mid m (61 ∷ digits x) is next → Written was at (idBytes (getD (rowsOf a POLICY) i [])) is next
+pub policy-id : (was is : List ℕ) (at next : ℕ) (a : List ℕ) (i x : ℕ) (r mid : List ℕ) (m : ℕ) → r ≡ getD (rowsOf a RUN) i [] → x ≡ getD r 1 0
+    → Written was at (112 ∷ 111 ∷ 108 ∷ 105 ∷ 99 ∷ 121 ∷ []) mid m → Written mid m (61 ∷ digits x) is next → Written was at (idBytes (getD (rowsOf a RUN) i [])) is next
 policy-id was is at next a i x r mid m er ex v w =
     written-as (written-append v w) (ap (λ (n : ℕ). (112 ∷ 111 ∷ 108 ∷ 105 ∷ 99 ∷ 121 ∷ 61 ∷ []) ++ digits n) (ex ∙ ap (λ (q : List ℕ). getD q 1 0) er))
 
 pub policy-start : (was is : List ℕ) (at next : ℕ) (a cs : List ℕ) (i e c : ℕ) (w₁ w₂ : List ℕ) (k₁ k₂ : ℕ)
-    → e ≡ effectNumber (effectIn (getD (rowsOf a POLICY) i [])) → c ≡ classNumber (classIn (getD cs i 0))
-    → Written was at (idBytes (getD (rowsOf a POLICY) i [])) w₁ k₁ → Written w₁ k₁ (effectBytes e) w₂ k₂ → Written w₂ k₂ (classBytes c) is next
+    → e ≡ effectNumber (effectIn (getD (rowsOf a RUN) i [])) → c ≡ classNumber (classIn (getD cs i 0))
+    → Written was at (idBytes (getD (rowsOf a RUN) i [])) w₁ k₁ → Written w₁ k₁ (effectBytes e) w₂ k₂ → Written w₂ k₂ (classBytes c) is next
     → Written was at (policyAt a cs i) is next
 unfolding policyAt
 policy-start was is at next a cs i e c w₁ w₂ k₁ k₂ ee ec v₁ v₂ v₃ =
     written-as (written-append v₁ (written-append v₂ v₃))
-    (ap₂ (λ (k l : List ℕ). idBytes (getD (rowsOf a POLICY) i []) ++ (k ++ l)) (ap effectBytes ee ∙ effect-text (effectIn (getD (rowsOf a POLICY) i []))) (ap classBytes ec ∙ class-text (classIn (getD cs i 0))))
+    (ap₂ (λ (k l : List ℕ). idBytes (getD (rowsOf a RUN) i []) ++ (k ++ l)) (ap effectBytes ee ∙ effect-text (effectIn (getD (rowsOf a RUN) i []))) (ap classBytes ec ∙ class-text (classIn (getD cs i 0))))
 
 -- ---- all of them
 
 abbrev pub linesFrom : List ℕ → List ℕ → ℕ → List (List ℕ)
-linesFrom a cs i = completeLines (firsts (drop i (rowsOf a POLICY))) (verdictsFrom a cs i)
+linesFrom a cs i = completeLines (firsts (drop i (rowsOf a RUN))) (verdictsFrom a cs i)
 
-lines-on : (a cs : List ℕ) (i : ℕ) → i < length (rowsOf a POLICY) → concat (linesFrom a cs i) ≡ (policyAt a cs i ++ (10 ∷ [])) ++ concat (linesFrom a cs (i + 1))
+lines-on : (a cs : List ℕ) (i : ℕ) → i < length (rowsOf a RUN) → concat (linesFrom a cs i) ≡ (policyAt a cs i ++ (10 ∷ [])) ++ concat (linesFrom a cs (i + 1))
 unfolding policyAt
 lines-on a cs i h =
-    ap₂ (λ (rs : List (List ℕ)) (vs : List Verdict). concat (completeLines (firsts rs) vs)) (uncons (rowsOf a POLICY) [] i h) (verdicts-on a cs i h)
+    ap₂ (λ (rs : List (List ℕ)) (vs : List Verdict). concat (completeLines (firsts rs) vs)) (uncons (rowsOf a RUN) [] i h) (verdicts-on a cs i h)
 
-module _ (a cs : List ℕ) (n : ℕ) (en : n ≡ getD a POLICY 0) where
-  many : n ≡ length (rowsOf a POLICY)
-  many = en ∙ sym (count-rows a POLICY)
+module _ (a cs : List ℕ) (n : ℕ) (en : n ≡ getD a RUN 0) where
+  many : n ≡ length (rowsOf a RUN)
+  many = en ∙ sym (count-rows a RUN)
 
   module _ (i : ℕ) (was is : List ℕ) (at next : ℕ) (p : Printing (concat (policyLines a cs)) (concat (linesFrom a cs i)) was at is next) where
     pub policies-on : (mid out : List ℕ) (m then : ℕ) → i < n → Written is next (policyAt a cs i) mid m → Written mid m (10 ∷ []) out then
@@ -121,7 +122,7 @@ module _ (a cs : List ℕ) (n : ℕ) (en : n ≡ getD a POLICY 0) where
         printing-on p (policyAt a cs i ++ (10 ∷ [])) (concat (linesFrom a cs (i + 1))) out then (lines-on a cs i (omega (arith, many))) (written-append v w)
 
     pub policies-end : n ≤ i → Written was at (concat (policyLines a cs)) is next
-    policies-end h = printing-end p (rw (spent (rowsOf a POLICY) i (omega (arith, many))))
+    policies-end h = printing-end p (rw (spent (rowsOf a RUN) i (omega (arith, many))))
 
 pub complete-is : (was mid is : List ℕ) (at m next : ℕ) (a cs : List ℕ) → Written was at (concat (headLines (verdictsIn a cs))) mid m → Written mid m (concat (policyLines a cs)) is next
     → Written was at (completeBytes a cs) is next
@@ -129,7 +130,6 @@ unfolding completeBytes
 complete-is was mid is at m next a cs v w = written-as (written-append v w) (sym (concat-append (headLines (verdictsIn a cs)) (policyLines a cs)))
 
 -- the bytes are those of the definition, over the state that the words hold
-pub complete-held : (sheet a b cs : List ℕ) → completeBytes a cs ≡ completeOf (held sheet a b) (verdictsIn a cs)
+pub complete-held : (sheet a b : List ℕ) → rowsOf a RUN ≡ onTerm (held sheet a b) → (cs : List ℕ) → completeBytes a cs ≡ completeOf (held sheet a b) (verdictsIn a cs)
 unfolding completeBytes policyLines
-complete-held sheet a b cs =
-    ap (λ (l : List (List ℕ)). concat (headLines (verdictsIn a cs) ++ completeLines (firsts l) (verdictsIn a cs))) (sym (lines-held sheet a b POLICY (omega arith) (λ e. absurd (omega arith))))
+complete-held sheet a b runs cs = ap (λ (l : List (List ℕ)). concat (headLines (verdictsIn a cs) ++ completeLines (firsts l) (verdictsIn a cs))) runs

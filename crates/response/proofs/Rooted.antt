@@ -7,9 +7,9 @@ use native.Mathlib.Omega.{arith}
 use lib.ListN.{length, getD, drop}
 use Rattle.sheet.specs.Ascii.{ascii}
 use Rattle.sheet.specs.Bytes.{digits, commas}
-use Rattle.sheet.specs.Forms.{at, TYPE, NODE, POLICY}
+use Rattle.sheet.specs.Forms.{at, TYPE, NODE}
 use Rattle.sheet.specs.Answer.{printed, concat, headLines, effectWord, classWord, policyItems}
-use Rattle.table.specs.Layout.{rowsOf}
+use Rattle.table.specs.Layout.{RUN, rowsOf}
 use Rattle.table.proofs.Rows.{count-rows}
 use Rattle.value.proofs.Lists.{uncons, spent}
 use Rattle.print.specs.Written.{Written}
@@ -33,28 +33,28 @@ rooted-text r c x =
     ∙ ap (λ (m : List ℕ). ascii "policy" ++ (61 ∷ m)) (append-assoc (commas (digits (at r 0) ∷ i)) (44 ∷ digits x) (10 ∷ []))
 
 abbrev pub rootedFrom : List ℕ → List ℕ → List ℕ → ℕ → List ℕ
-rootedFrom a cs es i = concat (rootedOf (drop i (rowsOf a POLICY)) (drop i cs) (drop i es))
+rootedFrom a cs es i = concat (rootedOf (drop i (rowsOf a RUN)) (drop i cs) (drop i es))
 
 next : (l : List ℕ) (i : ℕ) → drop 1 (drop i l) ≡ drop (i + 1) l
 next l i = next-of l i ∙ ap (λ (j : ℕ). drop j l) (sym (add-one i))
 
-rooted-step : (a cs es : List ℕ) (i : ℕ) → i < length (rowsOf a POLICY) → rootedFrom a cs es i ≡ (policyAt a cs i ++ ((44 ∷ digits (getD es i 0)) ++ (10 ∷ []))) ++ rootedFrom a cs es (i + 1)
+rooted-step : (a cs es : List ℕ) (i : ℕ) → i < length (rowsOf a RUN) → rootedFrom a cs es i ≡ (policyAt a cs i ++ ((44 ∷ digits (getD es i 0)) ++ (10 ∷ []))) ++ rootedFrom a cs es (i + 1)
 unfolding policyAt
 rooted-step a cs es i h =
-    ap (λ (l : List (List ℕ)). concat (rootedOf l (drop i cs) (drop i es))) (uncons (rowsOf a POLICY) [] i h)
-    ∙ ap₂ (λ (c x : ℕ). printed "policy" (policyItems (at (getD (rowsOf a POLICY) i []) 0) (effectIn (getD (rowsOf a POLICY) i [])) (classIn c) (digits x ∷ []))
-    ++ concat (rootedOf (drop (i + 1) (rowsOf a POLICY)) (drop 1 (drop i cs)) (drop 1 (drop i es)))) (first-of cs i) (first-of es i)
-    ∙ ap₂ (λ (p q : List ℕ). printed "policy" (policyItems (at (getD (rowsOf a POLICY) i []) 0) (effectIn (getD (rowsOf a POLICY) i [])) (classIn (getD cs i 0)) (digits (getD es i 0) ∷ []))
-    ++ concat (rootedOf (drop (i + 1) (rowsOf a POLICY)) p q)) (next cs i) (next es i)
-    ∙ ap (λ (m : List ℕ). m ++ rootedFrom a cs es (i + 1)) (rooted-text (getD (rowsOf a POLICY) i []) (getD cs i 0) (getD es i 0))
+    ap (λ (l : List (List ℕ)). concat (rootedOf l (drop i cs) (drop i es))) (uncons (rowsOf a RUN) [] i h)
+    ∙ ap₂ (λ (c x : ℕ). printed "policy" (policyItems (at (getD (rowsOf a RUN) i []) 0) (effectIn (getD (rowsOf a RUN) i [])) (classIn c) (digits x ∷ []))
+    ++ concat (rootedOf (drop (i + 1) (rowsOf a RUN)) (drop 1 (drop i cs)) (drop 1 (drop i es)))) (first-of cs i) (first-of es i)
+    ∙ ap₂ (λ (p q : List ℕ). printed "policy" (policyItems (at (getD (rowsOf a RUN) i []) 0) (effectIn (getD (rowsOf a RUN) i [])) (classIn (getD cs i 0)) (digits (getD es i 0) ∷ []))
+    ++ concat (rootedOf (drop (i + 1) (rowsOf a RUN)) p q)) (next cs i) (next es i)
+    ∙ ap (λ (m : List ℕ). m ++ rootedFrom a cs es (i + 1)) (rooted-text (getD (rowsOf a RUN) i []) (getD cs i 0) (getD es i 0))
 
 pub rooted-line : (was w₁ w₂ is : List ℕ) (at k₁ k₂ then : ℕ) (a cs : List ℕ) (i x : ℕ) → Written was at (policyAt a cs i) w₁ k₁ → Written w₁ k₁ (44 ∷ digits x) w₂ k₂
     → Written w₂ k₂ (10 ∷ []) is then → Written was at (policyAt a cs i ++ ((44 ∷ digits x) ++ (10 ∷ []))) is then
 rooted-line was w₁ w₂ is at k₁ k₂ then a cs i x u v w = written-append u (written-append v w)
 
-module _ (a cs es : List ℕ) (n : ℕ) (en : n ≡ getD a POLICY 0) where
-  many : n ≡ length (rowsOf a POLICY)
-  many = en ∙ sym (count-rows a POLICY)
+module _ (a cs es : List ℕ) (n : ℕ) (en : n ≡ getD a RUN 0) where
+  many : n ≡ length (rowsOf a RUN)
+  many = en ∙ sym (count-rows a RUN)
 
   module _ (i : ℕ) (was is : List ℕ) (at then : ℕ) (p : Printing (concat (rootedLines a cs es)) (rootedFrom a cs es i) was at is then) where
     pub rooted-on : (x : ℕ) (out : List ℕ) (last : ℕ) → i < n → x ≡ getD es i 0 → Written is then (policyAt a cs i ++ ((44 ∷ digits x) ++ (10 ∷ []))) out last
@@ -64,7 +64,7 @@ module _ (a cs es : List ℕ) (n : ℕ) (en : n ≡ getD a POLICY 0) where
         (written-as w (ap (λ (y : ℕ). policyAt a cs i ++ ((44 ∷ digits y) ++ (10 ∷ []))) e))
 
     pub rooted-end : n ≤ i → Written was at (concat (rootedLines a cs es)) is then
-    rooted-end h = printing-end p (ap (λ (l : List (List ℕ)). concat (rootedOf l (drop i cs) (drop i es))) (spent (rowsOf a POLICY) i (omega (arith, many))))
+    rooted-end h = printing-end p (ap (λ (l : List (List ℕ)). concat (rootedOf l (drop i cs) (drop i es))) (spent (rowsOf a RUN) i (omega (arith, many))))
 
 -- ---- a partial answer
 

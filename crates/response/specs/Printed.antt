@@ -5,11 +5,11 @@ use lib.ListN.{getD, drop}
 use Rattle.cedar.specs.Response.{Verdict, Decision}
 use Rattle.sheet.specs.Ascii.{ascii}
 use Rattle.sheet.specs.Bytes.{digits, commas}
-use Rattle.sheet.specs.Forms.{at, TYPE, NODE, POLICY}
+use Rattle.sheet.specs.Forms.{at, TYPE, NODE}
 use Rattle.sheet.specs.Sheet.{firsts}
 use Rattle.sheet.specs.Answer.{howMany, decisionWord, printed, concat, headLines, policyItems, completeLines}
 use Rattle.residual.specs.Classes.{CLASS-TRUE, CLASS-FALSE, CLASS-ERROR, CLASS-OPEN}
-use Rattle.table.specs.Layout.{rowsOf}
+use Rattle.table.specs.Layout.{RUN, rowsOf}
 use Rattle.listing.specs.Values.{madeLines}
 use Rattle.listing.specs.Nodes.{logLines}
 use Rattle.response.specs.Verdicts.{classIn, effectIn, effectIs, classIs, verdictsIn}
@@ -42,11 +42,11 @@ abbrev pub policyOf : List ℕ → ℕ → List ℕ
 policyOf r c = ascii "policy" ++ (61 ∷ commas (policyItems (at r 0) (effectIn r) (classIn c) []))
 
 unfoldable pub policyAt : List ℕ → List ℕ → ℕ → List ℕ
-policyAt a cs i = policyOf (getD (rowsOf a POLICY) i []) (getD cs i 0)
+policyAt a cs i = policyOf (getD (rowsOf a RUN) i []) (getD cs i 0)
 
 -- the policies of a complete answer, with the ids of their rows
 unfoldable pub policyLines : List ℕ → List ℕ → List (List ℕ)
-policyLines a cs = completeLines (firsts (rowsOf a POLICY)) (verdictsIn a cs)
+policyLines a cs = completeLines (firsts (rowsOf a RUN)) (verdictsIn a cs)
 
 -- a complete answer
 unfoldable pub completeBytes : List ℕ → List ℕ → List ℕ
@@ -58,7 +58,7 @@ rootedOf [] cs es = []
 rootedOf (r ∷ rs) cs es = printed "policy" (policyItems (at r 0) (effectIn r) (classIn (getD cs 0 0)) (digits (getD es 0 0) ∷ [])) ∷ rootedOf rs (drop 1 cs) (drop 1 es)
 
 unfoldable pub rootedLines : List ℕ → List ℕ → List ℕ → List (List ℕ)
-rootedLines a cs es = rootedOf (rowsOf a POLICY) cs es
+rootedLines a cs es = rootedOf (rowsOf a RUN) cs es
 
 -- a partial answer: the words of the sheet and of what was made, the log, a class and the number of a root for each policy
 unfoldable pub partialBytes : List ℕ → List ℕ → List ℕ → List ℕ → List ℕ

@@ -2,14 +2,16 @@
 use mathlib.Core.Path.{_≡_}
 use mathlib.Core.Bool.{cond}
 use mathlib.Core.List.{List}
-use Prim.Native.Nat.{ℕ, _+_, _*_, _≤_}
+use Prim.Native.Nat.{ℕ}
 use lib.Dec.{eqb}
 use lib.ListN.{length, getD}
-use Rattle.sheet.specs.Forms.{Mode, NODE}
+use Rattle.sheet.specs.Forms.{Mode}
 use Rattle.sheet.specs.Sheet.{read}
+use Rattle.sheet.specs.Content.{onTerm}
 use Rattle.sheet.specs.Answer.{answer}
 use Rattle.sheet.specs.Call.{Returned, fitted, over}
-use Rattle.table.specs.Layout.{held, Sound, heap, MADE, TOP}
+use Rattle.table.specs.Layout.{rowsOf, held, Sound, RUN, MADE}
+use Rattle.tpe.specs.Fits.{Fits}
 
 -- where r is to be returned, and these bytes are the answer
 pub record Gives (r : Returned) (bytes out : List ℕ) (number line len : ℕ) (out′ : List ℕ) : Type 0 where
@@ -22,13 +24,14 @@ pub record Gives (r : Returned) (bytes out : List ℕ) (number line len : ℕ) (
 abbrev pub Sends : List ℕ → List ℕ → ℕ → ℕ → List ℕ → Type 0
 Sends bytes out number len out′ = Gives (fitted (length out) (length bytes)) bytes out number 0 len out′
 
--- the words hold an accepted sheet, as reading leaves it
+-- the words hold an accepted sheet, as reading leaves it, with its policies on term as those that run
 pub record Holding (m : Mode) (sheet a b : List ℕ) : Type 0 where
   pub accepted : read m sheet .number ≡ 0
   pub state : read m sheet .state ≡ held sheet a b
   pub sound : Sound a
   pub none : getD a MADE 0 ≡ 0
-  pub fits : 2 * getD a TOP 0 + 6 * getD a NODE 0 ≤ 2 * heap + 16384
+  pub runs : rowsOf a RUN ≡ onTerm (held sheet a b)
+  pub fits : Fits a
 
 -- where they do, its answer is sent
 abbrev pub Runs : Mode → List ℕ → List ℕ → List ℕ → List ℕ → ℕ → ℕ → List ℕ → Type 0

@@ -6,10 +6,10 @@ use lib.Dec.{eqb}
 use lib.ListN.{getD, drop}
 use Rattle.cedar.specs.Residual.{Class, ctrue, cfalse, cerror, copen}
 use Rattle.cedar.specs.Response.{Effect, permit, forbid, Verdict, Decision, allow, deny, undecided}
-use Rattle.sheet.specs.Forms.{at, POLICY}
+use Rattle.sheet.specs.Forms.{at}
 use Rattle.sheet.specs.Content.{effectOf}
 use Rattle.forms.specs.Tags.{PERMIT, FORBID}
-use Rattle.table.specs.Layout.{rowsOf}
+use Rattle.table.specs.Layout.{RUN, rowsOf}
 use Rattle.residual.specs.Classes.{classNumber}
 use Rattle.response.specs.declared.Decision as D
 
@@ -38,7 +38,7 @@ verdictsOf (r ∷ rs) cs = record { effect = effectIn r; class = classIn (getD c
 
 -- the policies of a sheet that the words a hold
 unfoldable pub verdictsIn : List ℕ → List ℕ → List Verdict
-verdictsIn a cs = verdictsOf (rowsOf a POLICY) cs
+verdictsIn a cs = verdictsOf (rowsOf a RUN) cs
 
 -- the decision that the code answers
 abbrev pub decisionOf : D.Decision → Decision

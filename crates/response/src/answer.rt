@@ -8,23 +8,22 @@ use crate::names::class_name;
 use crate::names::decision_name;
 use forms::FORBID;
 use forms::PERMIT;
-use forms::POLICY;
 use listing::names::letters;
 use listing::nodes::node_lines;
 use listing::number_after;
 use listing::values::made_values;
 use print::byte;
 use print::bytes;
+use table::RUN;
 use table::count;
 use table::item;
 use table::row;
 ghost use mathlib.Core.List.{[], _∷_, _++_};
 ghost use lib.ListN.{getD};
-ghost use Rattle.table.specs.Layout.{rowsOf};
+ghost use Rattle.table.specs.Layout.{RUN, rowsOf};
 ghost use Rattle.print.specs.Written.{Written};
 ghost use Rattle.sheet.specs.Bytes.{digits};
 ghost use Rattle.sheet.specs.Answer.{printed, numbers, countsOf, headLines, concat};
-ghost use Rattle.sheet.specs.Forms.{POLICY};
 ghost use Rattle.response.specs.Verdicts.{verdictsIn, decisionOf};
 ghost use Rattle.response.specs.Printed.{idBytes, decisionBytes, effectBytes, classBytes, listed, fourOf, policyAt, policyLines, completeBytes, rootedLines, partialBytes};
 
@@ -95,9 +94,9 @@ fn class_word(out: &mut [u8], at: usize, class: u32) -> usize
 
 // The line of policy `i` up to its id.
 fn policy_id(out: &mut [u8], at: usize, rows: &[u32], i: u32) -> usize
-    ensures { λ r. ⌜ Written (now (out .entry)) at (idBytes (getD (rowsOf (now (rows .entry)) POLICY) i [])) (now (out .exit)) r ⌝ }
+    ensures { λ r. ⌜ Written (now (out .entry)) at (idBytes (getD (rowsOf (now (rows .entry)) RUN) i [])) (now (out .exit)) r ⌝ }
 {
-    let x = item(row(rows, POLICY, i), 1) as u64;
+    let x = item(row(rows, RUN, i), 1) as u64;
     let k = bytes(out, at, b"policy");
     number_after(out, k, b'=', x)
 }
@@ -117,7 +116,7 @@ pub fn policy_start(out: &mut [u8], at: usize, rows: &[u32], classes: &[u32], i:
 pub fn policies(out: &mut [u8], at: usize, rows: &[u32], classes: &[u32]) -> usize
     ensures { λ r. ⌜ Written (now (out .entry)) at (concat (policyLines (now (rows .entry)) (now (classes .entry)))) (now (out .exit)) r ⌝ }
 {
-    let n = count(rows, POLICY);
+    let n = count(rows, RUN);
     let mut i = 0;
     let mut k = at;
     while i < n {
@@ -155,7 +154,7 @@ pub fn rooted_policies(
 ) -> usize
     ensures { λ r. ⌜ Written (now (out .entry)) at (concat (rootedLines (now (rows .entry)) (now (classes .entry)) (now (roots .entry)))) (now (out .exit)) r ⌝ }
 {
-    let n = count(rows, POLICY);
+    let n = count(rows, RUN);
     let mut i = 0;
     let mut k = at;
     while i < n {

@@ -6,11 +6,11 @@ pub mod runs;
 
 use forms::FORBID;
 use forms::PERMIT;
-use forms::POLICY;
 use residual::CLASS_ERROR;
 use residual::CLASS_FALSE;
 use residual::CLASS_OPEN;
 use residual::CLASS_TRUE;
+use table::RUN;
 use table::count;
 use table::item;
 use table::row;
@@ -20,12 +20,11 @@ ghost use mathlib.Core.List.{[]};
 ghost use mathlib.Core.Bool.{_&&_};
 ghost use lib.Dec.{eqb};
 ghost use lib.ListN.{getD};
-ghost use Rattle.table.specs.Layout.{rowsOf};
+ghost use Rattle.table.specs.Layout.{RUN, rowsOf};
 ghost use Rattle.cedar.specs.Canonical.{bit};
 ghost use Rattle.cedar.specs.Response.{decision};
 ghost use Rattle.cedar.specs.Response as Cedar;
 ghost use Rattle.sheet.specs.Answer.{howMany};
-ghost use Rattle.sheet.specs.Forms.{POLICY};
 ghost use Rattle.residual.specs.Classes.{classNumber, CLASS-TRUE, CLASS-FALSE, CLASS-ERROR, CLASS-OPEN};
 ghost use Rattle.response.specs.Verdicts.{effectNumber, effectIn, classIn, effectIs, classIs, verdictsIn, decisionOf};
 
@@ -38,9 +37,9 @@ pub enum Decision {
 
 // The effect of policy `i`.
 pub fn effect_of(rows: &[u32], i: u32) -> u32
-    ensures { λ r. ⌜ r ≡ effectNumber (effectIn (getD (rowsOf (now (rows .entry)) POLICY) i [])) ⌝ }
+    ensures { λ r. ⌜ r ≡ effectNumber (effectIn (getD (rowsOf (now (rows .entry)) RUN) i [])) ⌝ }
 {
-    if item(row(rows, POLICY, i), 2) == FORBID {
+    if item(row(rows, RUN, i), 2) == FORBID {
         return FORBID;
     }
     PERMIT
@@ -85,7 +84,7 @@ pub fn counts_in(rows: &[u32], classes: &[u32], effect: u32) -> Counts
     ensures errors { λ r. ⌜ r .errors ≡ howMany (effectIs effect) (classIs CLASS-ERROR) (verdictsIn (now (rows .entry)) (now (classes .entry))) ⌝ }
     ensures opens { λ r. ⌜ r .opens ≡ howMany (effectIs effect) (classIs CLASS-OPEN) (verdictsIn (now (rows .entry)) (now (classes .entry))) ⌝ }
 {
-    let n = count(rows, POLICY);
+    let n = count(rows, RUN);
     let mut i = 0;
     let mut trues = 0;
     let mut falses = 0;

@@ -99,10 +99,10 @@ placed-below w (x ∷ l) n e = go (same w x) (placed w l) (placed-below w l) e
     go false none f q = let z : _≡_ {A = ℕ} 0 1 = cc in absurd (omega arith)
     go false (some m) f q = let z : suc m ≡ n = cc in omega (arith, f m refl)
 
--- ---- the thirteen keys
+-- ---- the keys
 
 abbrev pub keyBytes : List ℕ
-keyBytes = ascii "sheet,text,kind,type,shape,value,entity,principal,action,resource,context,node,policy"
+keyBytes = ascii "sheet,text,kind,type,shape,value,entity,principal,action,resource,context,day,node,policy,term"
 
 keys-are : map ascii keys ≡ split 44 keyBytes
 unfolding keys

@@ -8,6 +8,7 @@ use forms::BOOL_TYPE;
 use forms::BOOL_VALUE;
 use forms::CONTAINS;
 use forms::CONTEXT;
+use forms::DAY;
 use forms::EMPTY;
 use forms::ENTITY;
 use forms::ENTITY_TYPE;
@@ -48,6 +49,7 @@ use forms::SHAPE;
 use forms::SHEET;
 use forms::STRING_TYPE;
 use forms::SUB;
+use forms::TERM;
 use forms::TEXT;
 use forms::TEXT_VALUE;
 use forms::TYPE;
@@ -290,7 +292,7 @@ fn listed_key(name: &[u8]) -> Number
 {
     place(
         name,
-        b"sheet,text,kind,type,shape,value,entity,principal,action,resource,context,node,policy",
+        b"sheet,text,kind,type,shape,value,entity,principal,action,resource,context,day,node,policy,term",
     )
 }
 
@@ -307,7 +309,7 @@ fn long_key(name: &[u8]) -> Number
     listed_key(name)
 }
 
-// The number of a key, in the order of the thirteen keys.
+// The number of a key, in the order of the keys.
 pub fn key_of(name: &[u8]) -> Number
     ensures { λ r. ⌜ numberOf r ≡ wordNumber (now (name .entry)) keys ⌝ }
 {
@@ -321,8 +323,10 @@ pub fn key_of(name: &[u8]) -> Number
         0x01_7974_6974_6e65 => Number::Value(ENTITY as u64), // entity
         0x01_6e6f_6974_6361 => Number::Value(ACTION as u64), // action
         0x0174_7865_746e_6f63 => Number::Value(CONTEXT as u64), // context
+        0x0179_6164 => Number::Value(DAY as u64), // day
         0x01_6564_6f6e => Number::Value(NODE as u64), // node
         0x01_7963_696c_6f70 => Number::Value(POLICY as u64), // policy
+        0x01_6d72_6574 => Number::Value(TERM as u64), // term
         _ => long_key(name),
     }
 }
@@ -479,7 +483,7 @@ pub fn node_form(name: &[u8]) -> u64
 // ---- numbers
 
 // The number that digits write, leading zeros or not, at most 2^63.
-fn digits(bytes: &[u8]) -> Number
+pub fn digits(bytes: &[u8]) -> Number
     ensures { λ r. ⌜ numberOf r ≡ atMost half (digitsFrom 0 (now (bytes .entry))) ⌝ }
 {
     let mut n: u64 = 0;

@@ -22,7 +22,7 @@ use Rattle.cedar.proofs.SettledByNumber.{Residuals, RunReads, run-reads}
 use Rattle.sheet.specs.Forms.{partial, complete, VALUE, POLICY}
 use Rattle.sheet.specs.State.{State, count, linesOf, sum}
 use Rattle.sheet.specs.Sheet.{firsts, read}
-use Rattle.sheet.specs.Content.{types, rowsIn, valueRows, contents, valueOver, valuesFrom, schema, pEnv, nEnv, exprs, nPolicies, policies, treesFrom}
+use Rattle.sheet.specs.Content.{types, rowsIn, valueRows, contents, valueOver, valuesFrom, schema, pEnv, nEnv, exprs, nPolicies, policies, treesFrom, onTerm}
 use Rattle.sheet.specs.Answer.{size, root, treeRows, residualRows, countsOf, ids, run, results, answer}
 use Rattle.sheet.specs.Call.{Accepted}
 use Rattle.sheet.specs.ReadAnswer.{PolicyLine, Said, readAnswer}
@@ -46,6 +46,7 @@ use Rattle.sheet.proofs.AnswerBack.{GoodValues, partialPolicies, comple
 use Rattle.sheet.proofs.Fitting.{at-less, denotes-over}
 use Rattle.cedar.proofs.SettledByNumber as R
 use Rattle.cedar.proofs.ReadsLaws.{at-is}
+use Rattle.sheet.proofs.OnTerm.{on-term-few}
 
 -- ---- numbers of values
 
@@ -241,7 +242,7 @@ module _ (sheet : List ℕ) (acc : Accepted partial sheet) where
   few-types = let a = types-length partial s h in let b = most-lines partial s h .types in omega (arith, a, b)
 
   counts-small : AllSmall (countsOf (verdicts (run partial s .lines)))
-  counts-small = let a = partial-counts partial s in let b = most-lines partial s h .policies in parts-small (countsOf (verdicts (run partial s .lines))) (omega (arith, a, b))
+  counts-small = let a = partial-counts partial s in let b = most-lines partial s h .policies in let c = on-term-few s in parts-small (countsOf (verdicts (run partial s .lines))) (omega (arith, a, b, c))
 
   -- A PARTIAL ANSWER READS BACK
   pub partial-answer-back : readAnswer partial (answer partial s) ≡ some (partialSaid s)
@@ -255,7 +256,7 @@ module _ (sheet : List ℕ) (acc : Accepted partial sheet) where
 
   pub as-many : length (ids s) ≡ length (run partial s .lines)
   unfolding policies
-  as-many = firsts-length (linesOf s POLICY) ∙ sym (lines-length (reads .residuals) ∙ content-length (exprs s) (linesOf s POLICY))
+  as-many = firsts-length (onTerm s) ∙ sym (lines-length (reads .residuals) ∙ content-length (exprs s) (onTerm s))
 
   -- under each root stands its residual, its literals read by whatever reads value numbers
   pub roots-stand : {L : Type 0} (value : ℕ → L) → Standing (treesFrom (types s) value [] (residualRows (types s) 0 (run partial s .lines))) (λ l. valued value (l .root)) (partialPolicies 0 (ids s) (run partial s .lines)) (run partial s .lines)
@@ -291,4 +292,5 @@ module _ (sheet : List ℕ) (acc : Accepted complete sheet) where
       let k = facts complete sheet acc .history in
       let a = complete-counts c in
       let b = most-lines complete c k .policies in
-      complete-reads (ids c) (results c) (ids-small complete c k) (parts-small (countsOf (results c)) (omega (arith, a, b)))
+      let d = on-term-few c in
+      complete-reads (ids c) (results c) (ids-small complete c k) (parts-small (countsOf (results c)) (omega (arith, a, b, d)))

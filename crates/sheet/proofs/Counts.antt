@@ -1,4 +1,4 @@
--- "The eight counts sum to the policies", and when the decision is open.
+-- "the eight counts sum to the policies on term", and when the decision is open.
 use mathlib.Core.Path.{_≡_, refl, _∙_, ap}
 use mathlib.Core.List.{List, [], _∷_}
 use Prim.Native.Nat.{ℕ, suc}
@@ -11,9 +11,9 @@ use Rattle.cedar.specs.Types.{Schema}
 use Rattle.cedar.specs.Entities.{Env}
 use Rattle.cedar.specs.Numbered.{NEnv, nInterpret}
 use Rattle.cedar.specs.Rows.{Row}
-use Rattle.sheet.specs.Forms.{Mode, partial, POLICY}
-use Rattle.sheet.specs.State.{State, sum, count, linesOf}
-use Rattle.sheet.specs.Content.{numberedPolicies, contentPolicies, nPolicies, policies, schema, nEnv, env, valueRows, trees, exprs}
+use Rattle.sheet.specs.Forms.{Mode, partial}
+use Rattle.sheet.specs.State.{State, sum}
+use Rattle.sheet.specs.Content.{numberedPolicies, contentPolicies, nPolicies, policies, schema, nEnv, env, valueRows, trees, exprs, onTerm}
 use Rattle.cedar.specs.Value.{Value}
 use Rattle.sheet.specs.Answer.{countsOf, run, results}
 use Rattle.cedar.specs.Runs.{Policy, completeAnswer, NPolicy, nRun, verdicts}
@@ -32,7 +32,7 @@ pub counts-sum : (ls : List Verdict) → sum (countsOf ls) ≡ length ls
 counts-sum [] = refl
 counts-sum (l ∷ ls) = one-more (l .effect) (l .class) ls (counts-sum ls)
 
--- one line for each policy of the sheet
+-- one line for each policy on term
 
 as-many : (S : Schema) (M : NEnv) (ps : List NPolicy) (R : List Row) → length (verdicts (nRun S M ps R .lines)) ≡ length ps
 as-many S M [] R = refl
@@ -51,13 +51,13 @@ content-length ns [] = refl
 content-length ns (r ∷ rs) = ap suc (content-length ns rs)
 
 -- for every sheet, partial or complete
-pub partial-counts : (m : Mode) (s : State) → sum (countsOf (verdicts (run m s .lines))) ≡ count s POLICY
+pub partial-counts : (m : Mode) (s : State) → sum (countsOf (verdicts (run m s .lines))) ≡ length (onTerm s)
 unfolding run nPolicies
-partial-counts m s = counts-sum (verdicts (run m s .lines)) ∙ as-many (schema s) (nEnv m s) (nPolicies s) (valueRows s) ∙ numbered-length (trees s) (linesOf s POLICY)
+partial-counts m s = counts-sum (verdicts (run m s .lines)) ∙ as-many (schema s) (nEnv m s) (nPolicies s) (valueRows s) ∙ numbered-length (trees s) (onTerm s)
 
-pub complete-counts : (s : State) → sum (countsOf (results s)) ≡ count s POLICY
+pub complete-counts : (s : State) → sum (countsOf (results s)) ≡ length (onTerm s)
 unfolding results policies
-complete-counts s = counts-sum (results s) ∙ complete-length (schema s) (env s) (policies s) ∙ content-length (exprs s) (linesOf s POLICY)
+complete-counts s = counts-sum (results s) ∙ complete-length (schema s) (env s) (policies s) ∙ content-length (exprs s) (onTerm s)
 
 -- ---- "Open" is given where some choice yields allow and another deny, and nowhere else
 

@@ -21,7 +21,7 @@ use Rattle.sheet.specs.Forms.{Mode, partial, complete, line, forms, form
 use Rattle.sheet.specs.State.{State, linesOf, count, lineAt, entriesOf, valueRow}
 use Rattle.sheet.specs.Bytes.{longAt}
 use Rattle.sheet.specs.Sheet.{allThere, thereIs, read}
-use Rattle.sheet.specs.Content.{types, rowsIn, valueRows, contents, schema, patternOf, childrenOver, argsOver, treeFor, treeOver, treesFrom, trees, numberedPolicies, nPolicies, policies, known, nEnv, pEnv, env}
+use Rattle.sheet.specs.Content.{types, rowsIn, valueRows, contents, schema, patternOf, childrenOver, argsOver, treeFor, treeOver, treesFrom, trees, numberedPolicies, nPolicies, policies, known, nEnv, pEnv, env, onTerm}
 use Rattle.sheet.specs.Answer.{run, results}
 use Rattle.sheet.specs.Call.{returns, afterReading, readAs, returned, room, Accepted}
 use Rattle.sheet.specs.Agreement.{agrees}
@@ -30,7 +30,7 @@ use Rattle.sheet.proofs.ValueRows.{values-table}
 use Rattle.sheet.proofs.NodeRows.{row-read}
 use Rattle.sheet.proofs.Slots.{like-slot}
 use Rattle.sheet.proofs.PoliciesRead.{all-there, item-there, policies-typed}
-use Rattle.sheet.proofs.Environment.{Facts, thirteen, env-read}
+use Rattle.sheet.proofs.Environment.{Facts, all-keys, env-read}
 use Rattle.sheet.proofs.EnvFit.{env-fits}
 use Rattle.sheet.proofs.TwoSheets.{Common, common, begins-with, schema-eq, read-as, env-agrees}
 use Rattle.cedar.proofs.TextsOnly.{RowOk, RowsOk, Pieces, Texts, xlit, xerr, xvar, xand, xor, xite, xun, xbin, xrel, xget, xhas, xpath, xset, xrec, AllTexts, xnil, xcons, ArgTexts, xstop, xarg, GiveOk, PolicyTexts, none-left, one-more, same-run}
@@ -206,7 +206,7 @@ module _ (p c : State) (fp : Facts partial p) (fc : Facts complete c) (k : Commo
   run-same : run partial p ≡ nRun (schema c) (nEnv partial p) (nPolicies p) (valueRows p)
   unfolding run nPolicies texts
   run-same = ap (λ S. nRun S (nEnv partial p) (nPolicies p) (valueRows p)) (schema-eq p c fp fc k)
-      ∙ same-run (count p TEXT) (schema c) (schema p .bytes) bytes-agree (nEnv partial p) asked (policy-texts (linesOf p POLICY)) (valueRows p) (rows-ok partial p (fp .history))
+      ∙ same-run (count p TEXT) (schema c) (schema p .bytes) bytes-agree (nEnv partial p) asked (policy-texts (onTerm p)) (valueRows p) (rows-ok partial p (fp .history))
 
   t : Table (valueRows p) (contents p)
   t = values-table partial p (fp .history)
@@ -248,7 +248,7 @@ accepted-read m sheet a = go (ltb (a .work₁) room || ltb (a .work₂) room) (l
     go false false e = after (read m sheet .state) (read m sheet .number) (read m sheet .line) e
 
 pub facts : (m : Mode) (sheet : List ℕ) → Accepted m sheet → Facts m (read m sheet .state)
-facts m sheet a = let e = accepted-read m sheet a in let (h, f) = accepted-history m sheet e in record { history = h; full = f; keys = thirteen m sheet e }
+facts m sheet a = let e = accepted-read m sheet a in let (h, f) = accepted-history m sheet e in record { history = h; full = f; keys = all-keys m sheet e }
 
 -- THE THEOREM, for one complete sheet, and for two
 pub demand-3 : (p c : List ℕ) → Accepted partial p → Accepted complete c → agrees (read partial p .state) (read complete c .state) ≡ true → Settles (read partial p .state) (read complete c .state)

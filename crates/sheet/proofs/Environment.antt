@@ -38,9 +38,9 @@ use Rattle.cedar.specs.Entities as E
 set-length : {A : Type 0} (l : List A) (k : ℕ) (a : A) (n : ℕ) → length l ≡ n → length (set l k a) ≡ n
 set-length l k a n e = length-set l k a ∙ e
 
-pub thirteen : (m : Mode) (sheet : List ℕ) → read m sheet .number ≡ 0 → length (read m sheet .state .lines) ≡ noKey
+pub all-keys : (m : Mode) (sheet : List ℕ) → read m sheet .number ≡ 0 → length (read m sheet .state .lines) ≡ noKey
 unfolding more
-thirteen m sheet e = holds-read m (λ s. length (s .lines) ≡ noKey) (λ s l h f. set-length (s .lines) (keyOf (rowOf m l)) (linesOf s (keyOf (rowOf m l)) ++ (rowOf m l ∷ [])) noKey h) sheet refl e .0
+all-keys m sheet e = holds-read m (λ s. length (s .lines) ≡ noKey) (λ s l h f. set-length (s .lines) (keyOf (rowOf m l)) (linesOf s (keyOf (rowOf m l)) ++ (rowOf m l ∷ [])) noKey h) sheet refl e .0
 
 reach-at : (xs ys : List ℕ) → reach xs ys ≡ true → (j : ℕ) → j < length xs → j < length ys → getD ys j 0 ≤ getD xs j 0
 reach-at [] ys e j a b = absurd (omega arith)

@@ -11,6 +11,7 @@ pub mod EnvFit
 pub mod Environment
 pub mod ExampleBytes
 pub mod ExampleEntities
+pub mod ExampleTerms
 pub mod FitsSound
 pub mod Fitting
 pub mod KnownSheets
@@ -23,6 +24,7 @@ pub mod MadeWords
 pub mod NeverNine
 pub mod NodeRows
 pub mod NodeTyped
+pub mod OnTerm
 pub mod OwnPolicies
 pub mod Parsed
 pub mod PoliciesRead

@@ -11,7 +11,7 @@ use Rattle.cedar.specs.Table.{At}
 use Rattle.cedar.proofs.SettledByNumber.{ReadPolicies}
 use Rattle.sheet.specs.Forms.{Mode, forms, formOf, slotAt, tag, at, keyOf, NODE, POLICY}
 use Rattle.sheet.specs.State.{State, linesOf, count}
-use Rattle.sheet.specs.Content.{types, contents, trees, exprs, nPolicies, policies}
+use Rattle.sheet.specs.Content.{types, contents, trees, exprs, nPolicies, policies, onTerm}
 use Rattle.sheet.proofs.Lines.{History}
 use Rattle.sheet.proofs.Parsed.{tags-between}
 use Rattle.sheet.proofs.NodeRows.{row-read}
@@ -30,4 +30,4 @@ module _ (m : Mode) (s : State) (h : History m s) where
 
   pub read-own : ReadPolicies (contents s) (nPolicies s) (policies s)
   unfolding nPolicies policies trees exprs
-  read-own = read-policies (contents s) (types s) (λ n. getD (contents s) n (vbool false)) (linesOf s NODE) (linesOf s POLICY) lit-there
+  read-own = read-policies (contents s) (types s) (λ n. getD (contents s) n (vbool false)) (linesOf s NODE) (onTerm s) lit-there

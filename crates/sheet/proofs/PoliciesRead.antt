@@ -25,6 +25,8 @@ use Rattle.sheet.proofs.Parsed.{allBelow, between, tags-between, policy
 use Rattle.sheet.proofs.NodeRows.{Read, row-read, there-at}
 use Rattle.sheet.proofs.RowTests.{is-bool}
 use Rattle.sheet.proofs.NodeTyped.{node-typed, to-ty}
+use Rattle.sheet.proofs.OnTerm as O
+use Rattle.sheet.proofs.OnTerm.{Each, on-term}
 
 pub node-tags : allBelow (between NODE 21 48) noTag ≡ true
 unfolding formOf forms
@@ -111,14 +113,14 @@ module _ (m : Mode) (s : State) (h : History m s) where
       to-ty m s h (w .was) (λ j l. w .earlier j (omega (arith, l))) (Typed (schema s) (getD (exprs s) (at r 2) (err tbool))) (typeOfNode (w .was) (at r 2)) (is-bool _ (w .pass .types))
       (subst (λ z. Typed (schema s) (getD (exprs s) (at r 2) (err tbool)) (T (at (getD z (at r 2) []) 0))) (sym same) (nodes-typed .1 (at r 2) (subst (λ z. at r 2 < length z) same lt)))
 
-  policies-from : (pre rest : List (List ℕ)) → linesOf s POLICY ≡ pre ++ rest → Policies (schema s) (contentPolicies (exprs s) rest)
-  policies-from pre [] e = noPolicy
-  policies-from pre (r ∷ rest) e = onePolicy {p = record { effect = effectOf (at r 1); tree = getD (exprs s) (at r 2) (err tbool) }} (root-typed pre r (h POLICY pre r rest e)) (policies-from (pre ++ (r ∷ [])) rest (e ∙ sym (append-assoc pre (r ∷ []) rest)))
+  policies-each : {rs : List (List ℕ)} → Each (λ r. Typed (schema s) (getD (exprs s) (at r 2) (err tbool)) tbool) rs → Policies (schema s) (contentPolicies (exprs s) rs)
+  policies-each O.none = noPolicy
+  policies-each (O.more {r = r} t ts) = onePolicy {p = record { effect = effectOf (at r 1); tree = getD (exprs s) (at r 2) (err tbool) }} t (policies-each ts)
 
   -- TYPED POLICIES
   pub policies-typed : Policies (schema s) (policies s)
   unfolding policies
-  policies-typed = policies-from [] (linesOf s POLICY) refl
+  policies-typed = policies-each (on-term (λ r. Typed (schema s) (getD (exprs s) (at r 2) (err tbool)) tbool) s (λ pre r rest e. root-typed pre r (h POLICY pre r rest e)))
 
 -- ---- numbered trees and trees by content over the same lines
 

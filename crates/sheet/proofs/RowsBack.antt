@@ -15,7 +15,7 @@ use Rattle.cedar.proofs.Tools.{no-true, eqb-true}
 use Rattle.cedar.specs.Rows.{Entries, stop, entry, Row, rbool, rlong, rtext, rent, rset, rrec}
 use Rattle.sheet.specs.Ascii.{ascii}
 use Rattle.sheet.specs.Bytes.{same, index, long, longAt, half, digits, signed}
-use Rattle.sheet.specs.Forms.{Mode, Slot, line, lineOr, lineUnknown, word, number, nothing, forms, formOf, slotAt, counted, mark, one, two, markOr, placeIn, wordNumber, item, joined, itemsFrom, orEmpty, rowFor, rowOf, tagOf, tag, items, keyOf, VALUE, NODE}
+use Rattle.sheet.specs.Forms.{Mode, Slot, line, lineOr, lineUnknown, word, number, nothing, forms, formOf, slotAt, counted, mark, one, two, markOr, placeIn, wordNumber, item, joined, itemsFrom, orEmpty, rowFor, rowOf, tagOf, tag, items, keyOf, VALUE, NODE, day}
 use Rattle.sheet.specs.State.{entriesOf, valueRow}
 use Rattle.sheet.specs.Answer.{numbers, entryItems, valueItems, itemOut, itemsOut, nodeItems}
 use Rattle.sheet.proofs.Lines.{and-both}
@@ -36,6 +36,7 @@ comes (lineOr b k) x = (ltb b 48 && plainByte b) && (eqb x mark || leb x 9999)
 comes (lineUnknown k) x = false
 comes (word ws) x = wordComes ws x
 comes number x = false
+comes day x = false
 comes nothing x = false
 
 index-comes : (x : ℕ) → leb x 9999 ≡ true → one (index (digits x)) ≡ some (x ∷ [])
@@ -62,6 +63,7 @@ item-back m (lineOr b k) x e = and-both (ltb b 48 && plainByte b) (eqb x mark ||
 item-back m (lineUnknown k) x e = no-true e
 item-back m (word ws) x e = word-back ws x e
 item-back m number x e = no-true e
+item-back m day x e = no-true e
 item-back m nothing x e = no-true e
 
 mark-plain : (b x : ℕ) → plainByte b ≡ true → (c : Bool) → (c || leb x 9999) ≡ true → plainBytes (cond c (b ∷ []) (digits x)) ≡ true
@@ -75,6 +77,7 @@ item-plain (lineOr b k) x e = and-both (ltb b 48 && plainByte b) (eqb x mark || 
 item-plain (lineUnknown k) x e = no-true e
 item-plain (word ws) x e = and-both (ltb x (length ws) && eqb (placeIn (ascii (getD ws x "")) ws) x) (plainBytes (ascii (getD ws x ""))) e (λ p q. q)
 item-plain number x e = no-true e
+item-plain day x e = no-true e
 item-plain nothing x e = no-true e
 
 abbrev pub allCome : ℕ → ℕ → List ℕ → Bool
@@ -102,6 +105,7 @@ isType (lineOr b k) = false
 isType (lineUnknown k) = false
 isType (word ws) = false
 isType number = false
+isType day = false
 isType nothing = false
 
 is-type : (s : Slot) → isType s ≡ true → s ≡ line 3
@@ -111,6 +115,7 @@ is-type (lineOr b k) e = no-true e
 is-type (lineUnknown k) e = no-true e
 is-type (word ws) e = no-true e
 is-type number e = no-true e
+is-type day e = no-true e
 is-type nothing e = no-true e
 
 -- a tag that is found again by its name, with a type in front

@@ -16,10 +16,10 @@ use Rattle.cedar.specs.Rows.{rent}
 use Rattle.cedar.specs.Numbered.{Give, made, old}
 use Rattle.sheet.specs.Ascii.{ascii}
 use Rattle.sheet.specs.Bytes.{same, index, decimal, atMost}
-use Rattle.sheet.specs.Forms.{Mode, partial, Slot, line, lineOr, lineUnknown, word, number, nothing, forms, formOf, slotAt, item, itemsFrom, joined, one, markOr, isPartial, mark, tag, items, at, keyOf, rowOf, PRINCIPAL, ACTION, RESOURCE, CONTEXT, NODE, POLICY, noKey, noTag}
+use Rattle.sheet.specs.Forms.{Mode, partial, Slot, line, lineOr, lineUnknown, word, number, nothing, forms, formOf, slotAt, item, itemsFrom, joined, one, markOr, isPartial, mark, tag, items, at, keyOf, rowOf, PRINCIPAL, ACTION, RESOURCE, CONTEXT, NODE, POLICY, noKey, noTag, day}
 use Rattle.sheet.specs.State.{State, linesOf, lineAt}
 use Rattle.sheet.specs.Sheet.{firsts}
-use Rattle.sheet.specs.Content.{types, patternOf, childrenOver, argsOver, treeFor, treeOver, treesFrom, trees, numberedPolicies, nPolicies, known, nEnv}
+use Rattle.sheet.specs.Content.{types, patternOf, childrenOver, argsOver, treeFor, treeOver, treesFrom, trees, numberedPolicies, nPolicies, known, nEnv, onTerm}
 use Rattle.sheet.specs.Answer.{ids}
 use Rattle.sheet.proofs.Lines.{and-both, Was, History}
 use Rattle.sheet.proofs.Parsed.{parsed, allBelow, between, tags-between, policyTag}
@@ -32,6 +32,8 @@ use Rattle.sheet.proofs.RowsBack.{AllSmall}
 use Rattle.sheet.proofs.TreesBack.{SmallPattern, SmallTexts, Small, SmallAll, SmallArgs}
 use Rattle.sheet.proofs.LeftOver.{Any, GiveMade, PoliciesSmall}
 use Rattle.sheet.specs.Forms as F
+use Rattle.sheet.proofs.OnTerm as O
+use Rattle.sheet.proofs.OnTerm.{Each, on-term}
 
 -- ---- an item that was read
 
@@ -42,6 +44,7 @@ fitsSlot (lineOr b k) x = eqb x mark || leb x 9999
 fitsSlot (lineUnknown k) x = eqb x mark || leb x 9999
 fitsSlot (word ws) x = true
 fitsSlot number x = true
+fitsSlot day x = true
 fitsSlot nothing x = true
 
 index-fits : (o : Option ℕ) (x : ℕ) → one (atMost 9999 o) ≡ some (x ∷ []) → leb x 9999 ≡ true
@@ -58,6 +61,7 @@ item-fits m (lineOr b k) f x e = mark-fits (same f (b ∷ [])) (decimal f) x e
 item-fits m (lineUnknown k) f x e = mark-fits (isPartial m && same f (ascii "?")) (decimal f) x e
 item-fits m (word ws) f x e = refl
 item-fits m number f x e = refl
+item-fits m day f x e = refl
 item-fits m nothing f x e = refl
 
 -- ---- the items of a row that was read
@@ -209,19 +213,22 @@ module _ (m : Mode) (s : State) (h : History m s) where
   -- THE SHEET'S OWN TREES
   pub policies-small : PoliciesSmall (nPolicies s)
   unfolding nPolicies trees
-  policies-small = policies-from (linesOf s POLICY) (trees-from [] (linesOf s NODE) refl [] (λ n. tt))
+  policies-small = policies-from (onTerm s) (trees-from [] (linesOf s NODE) refl [] (λ n. tt))
 
   -- ---- the policies' ids
-  ids-from : (pre rest : List (List ℕ)) → linesOf s POLICY ≡ pre ++ rest → AllSmall (firsts rest)
+  id-small : (pre : List (List ℕ)) (r : List ℕ) (rest : List (List ℕ)) → linesOf s POLICY ≡ pre ++ (r ∷ rest) → at r 0 ≤ 9999
   unfolding keyOf slotAt formOf forms
-  ids-from pre [] e = tt
-  ids-from pre (r ∷ rest) e =
+  id-small pre r rest e =
       let w = h POLICY pre r rest e in
       let (lo, hi) = tags-between POLICY policyTag policyTag (tag r) (omega arith) policy-tags (w .key) in
-      (at-small r policyTag 0 1 (omega (arith, lo, hi)) refl (row-fits m r (w .line) (w .row) (omega (arith, lo)) (omega (arith, hi)) (λ z. absurd (omega (arith, z, lo)))), ids-from (pre ++ (r ∷ [])) rest (e ∙ sym (append-assoc pre (r ∷ []) rest)))
+      at-small r policyTag 0 1 (omega (arith, lo, hi)) refl (row-fits m r (w .line) (w .row) (omega (arith, lo)) (omega (arith, hi)) (λ z. absurd (omega (arith, z, lo))))
+
+  ids-each : {rs : List (List ℕ)} → Each (λ r. at r 0 ≤ 9999) rs → AllSmall (firsts rs)
+  ids-each O.none = tt
+  ids-each (O.more a as′) = (a, ids-each as′)
 
   pub ids-small : AllSmall (ids s)
-  ids-small = ids-from [] (linesOf s POLICY) refl
+  ids-small = ids-each (on-term (λ r. at r 0 ≤ 9999) s id-small)
 
 -- ---- the request
 

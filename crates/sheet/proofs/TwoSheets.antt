@@ -19,10 +19,10 @@ use Rattle.cedar.proofs.SettledByNumber.{ReadPolicies}
 use Rattle.cedar.proofs.TypingTest.{some-test}
 use Rattle.cedar.proofs.ReadsLaws.{at-is}
 use Rattle.sheet.specs.Bytes.{same}
-use Rattle.sheet.specs.Forms.{partial, complete, forms, formOf, slotAt, items, at, tag, mark, keyOf, TEXT, KIND, TYPE, SHAPE, VALUE, ENTITY, PRINCIPAL, ACTION, RESOURCE, CONTEXT, NODE, POLICY}
+use Rattle.sheet.specs.Forms.{partial, complete, forms, formOf, slotAt, items, at, tag, mark, keyOf, TEXT, KIND, TYPE, SHAPE, VALUE, ENTITY, PRINCIPAL, ACTION, RESOURCE, CONTEXT, NODE, POLICY, DAY, TERM}
 use Rattle.sheet.specs.State.{State, linesOf, count, lineAt, valueRow, valueAt}
 use Rattle.sheet.specs.Typing.{unknownOr}
-use Rattle.sheet.specs.Content.{tysFrom, types, valueOver, valuesFrom, rowsIn, valueRows, contents, attrsIn, tagTy, requestTy, schema, treesFrom, trees, exprs, contentPolicies, nPolicies, policies, known, entityKnown, requestKnown, requested, contentIn, fieldsIn, membersIn, partsIn, partsFound, lineIn, lineFound, entityLine, lookUp, env, pEnv}
+use Rattle.sheet.specs.Content.{tysFrom, types, valueOver, valuesFrom, rowsIn, valueRows, contents, attrsIn, tagTy, requestTy, schema, treesFrom, trees, exprs, contentPolicies, nPolicies, policies, known, entityKnown, requestKnown, requested, contentIn, fieldsIn, membersIn, partsIn, partsFound, lineIn, lineFound, entityLine, lookUp, env, pEnv, onTerm}
 use Rattle.sheet.specs.Agreement.{begins, sameLines, partSame, requestSame, lineFor, entitySame, listed, allListed, agrees}
 use Rattle.sheet.proofs.Lines.{and-both, Was}
 use Rattle.sheet.proofs.Parsed.{tags-between}
@@ -31,6 +31,7 @@ use Rattle.sheet.proofs.Fitting.{val, val-eq}
 use Rattle.sheet.proofs.NodeRows.{row-read}
 use Rattle.sheet.proofs.PoliciesRead.{item-there, node-tags, read-policies}
 use Rattle.sheet.proofs.Environment.{Facts, the-line, there-value, entity-found, entity-read, context-read}
+use Rattle.sheet.proofs.OnTerm.{same-term}
 
 -- ---- equal lines
 
@@ -58,7 +59,7 @@ pub record Common (p c : State) : Type 0 where
   pub types-same : linesOf p TYPE ≡ linesOf c TYPE
   pub shapes : linesOf p SHAPE ≡ linesOf c SHAPE
   pub nodes : linesOf p NODE ≡ linesOf c NODE
-  pub rules : linesOf p POLICY ≡ linesOf c POLICY
+  pub rules : onTerm p ≡ onTerm c
   pub who : requestSame (lineAt p PRINCIPAL 0) (lineAt c PRINCIPAL 0) ≡ true
   pub does : requestSame (lineAt p ACTION 0) (lineAt c ACTION 0) ≡ true
   pub whom : requestSame (lineAt p RESOURCE 0) (lineAt c RESOURCE 0) ≡ true
@@ -68,10 +69,11 @@ pub record Common (p c : State) : Type 0 where
 pub common : (p c : State) → agrees p c ≡ true → Common p c
 unfolding agrees
 common p c e = and-both _ (allListed (linesOf p ENTITY) (linesOf c ENTITY)) e (λ e x12. and-both _ (requestSame (lineAt p CONTEXT 0) (lineAt c CONTEXT 0)) e (λ e x11. and-both _ (requestSame (lineAt p RESOURCE 0) (lineAt c RESOURCE 0)) e (λ e x10.
-    and-both _ (requestSame (lineAt p ACTION 0) (lineAt c ACTION 0)) e (λ e x9. and-both _ (requestSame (lineAt p PRINCIPAL 0) (lineAt c PRINCIPAL 0)) e (λ e x8. and-both _ (sameLines (linesOf p POLICY) (linesOf c POLICY)) e (λ e x7.
+    and-both _ (requestSame (lineAt p ACTION 0) (lineAt c ACTION 0)) e (λ e x9. and-both _ (requestSame (lineAt p PRINCIPAL 0) (lineAt c PRINCIPAL 0)) e (λ e x8.
+    and-both _ (sameLines (linesOf p TERM) (linesOf c TERM)) e (λ e t. and-both _ (sameLines (linesOf p DAY) (linesOf c DAY)) e (λ e d. and-both _ (sameLines (linesOf p POLICY) (linesOf c POLICY)) e (λ e x7.
     and-both _ (sameLines (linesOf p NODE) (linesOf c NODE)) e (λ e x6. and-both _ (sameLines (linesOf p SHAPE) (linesOf c SHAPE)) e (λ e x5. and-both _ (sameLines (linesOf p TYPE) (linesOf c TYPE)) e (λ e x4.
     and-both _ (sameLines (linesOf p KIND) (linesOf c KIND)) e (λ e x3. and-both (begins (linesOf p TEXT) (linesOf c TEXT)) (begins (linesOf p VALUE) (linesOf c VALUE)) e (λ x1 x2.
-    record { texts = x1; values = x2; kinds = lines-same _ _ x3; types-same = lines-same _ _ x4; shapes = lines-same _ _ x5; nodes = lines-same _ _ x6; rules = lines-same _ _ x7; who = x8; does = x9; whom = x10; where′ = x11; entities = x12 })))))))))))
+    record { texts = x1; values = x2; kinds = lines-same _ _ x3; types-same = lines-same _ _ x4; shapes = lines-same _ _ x5; nodes = lines-same _ _ x6; rules = same-term p c (lines-same _ _ d) (lines-same _ _ t) (lines-same _ _ x7); who = x8; does = x9; whom = x10; where′ = x11; entities = x12 })))))))))))))
 
 -- ---- contents
 
@@ -141,9 +143,9 @@ module _ (p c : State) (fp : Facts partial p) (fc : Facts complete c) (k : Commo
   pub read-as : ReadPolicies (contents p) (nPolicies p) (policies c)
   unfolding nPolicies policies trees exprs
   read-as = subst (λ z. ReadPolicies (contents p) (nPolicies p) (contentPolicies (treesFrom (types c) (λ n. getD (contents c) n (vbool false)) [] (linesOf c NODE)) z)) (k .rules)
-      (subst (λ z. ReadPolicies (contents p) (nPolicies p) (contentPolicies (treesFrom (types c) (λ n. getD (contents c) n (vbool false)) [] z) (linesOf p POLICY))) (k .nodes)
-      (subst (λ z. ReadPolicies (contents p) (nPolicies p) (contentPolicies (treesFrom z (λ n. getD (contents c) n (vbool false)) [] (linesOf p NODE)) (linesOf p POLICY))) types-eq
-      (read-policies (contents p) (types p) (λ n. getD (contents c) n (vbool false)) (linesOf p NODE) (linesOf p POLICY) lit-there)))
+      (subst (λ z. ReadPolicies (contents p) (nPolicies p) (contentPolicies (treesFrom (types c) (λ n. getD (contents c) n (vbool false)) [] z) (onTerm p))) (k .nodes)
+      (subst (λ z. ReadPolicies (contents p) (nPolicies p) (contentPolicies (treesFrom z (λ n. getD (contents c) n (vbool false)) [] (linesOf p NODE)) (onTerm p))) types-eq
+      (read-policies (contents p) (types p) (λ n. getD (contents c) n (vbool false)) (linesOf p NODE) (onTerm p) lit-there)))
 
   -- ---- agreement of the known parts
 

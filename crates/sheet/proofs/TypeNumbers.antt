@@ -27,11 +27,11 @@ use Rattle.cedar.proofs.SettledByNumber as R
 use Rattle.cedar.proofs.ReadsLaws.{at-is}
 use Rattle.cedar.proofs.TypingTestComplete.{tySame-refl}
 use Rattle.sheet.specs.Bytes.{same, index}
-use Rattle.sheet.specs.Forms.{Mode, partial, Slot, entry, line, lineOr, lineUnknown, word, number, nothing, isLine, forms, formOf, slotAt, counted, item, itemsFrom, one, joined, placeIn, tag, items, at, keyOf, rowOf, ascendings, TYPE, NODE, POLICY, noKey, noTag}
+use Rattle.sheet.specs.Forms.{Mode, partial, Slot, entry, line, lineOr, lineUnknown, word, number, nothing, isLine, forms, formOf, slotAt, counted, item, itemsFrom, one, joined, placeIn, tag, items, at, keyOf, rowOf, ascendings, TYPE, NODE, POLICY, noKey, noTag, day}
 use Rattle.sheet.specs.State.{State, linesOf, count, lineAt, Declared, TypeRow, bool, long, string, entity, set′, record′, declareds, typeRow, typeAt}
 use Rattle.sheet.specs.Typing.{attributesOf, typed}
 use Rattle.sheet.specs.Sheet.{found, allThere, thereIs, ascend, among, fresh}
-use Rattle.sheet.specs.Content.{tyOver, tysFrom, types, contents, attrsIn, schema, childrenOver, argsOver, treeFor, treeOver, treesFrom, contentPolicies, numberedPolicies, trees, exprs, nPolicies, policies, nEnv, pEnv}
+use Rattle.sheet.specs.Content.{tyOver, tysFrom, types, contents, attrsIn, schema, childrenOver, argsOver, treeFor, treeOver, treesFrom, contentPolicies, numberedPolicies, trees, exprs, nPolicies, policies, nEnv, pEnv, onTerm}
 use Rattle.sheet.specs.Answer.{typeNumber, run}
 use Rattle.sheet.proofs.Lines.{and-both, Was, History}
 use Rattle.sheet.proofs.Parsed.{parsed, allBelow, all-below, between, tags-between, counted-plain, policyTag}
@@ -43,6 +43,8 @@ use Rattle.sheet.proofs.PoliciesRead.{item-there, node-tags, policy-tag
 use Rattle.sheet.proofs.Environment.{Facts, env-read}
 use Rattle.sheet.proofs.EnvFit.{known-fits}
 use Rattle.sheet.proofs.OwnPolicies.{read-own}
+use Rattle.sheet.proofs.OnTerm as O
+use Rattle.sheet.proofs.OnTerm.{Each, on-term}
 
 -- ---- a type's row says what its line said
 
@@ -393,6 +395,7 @@ is-line k (lineOr b l) e = no-true e
 is-line k (lineUnknown l) e = no-true e
 is-line k (word ws) e = no-true e
 is-line k number e = no-true e
+is-line k day e = no-true e
 is-line k nothing e = no-true e
 
 first-is : (t : ℕ) → 21 ≤ t → t ≤ 48 → (slotAt t 0 ≡ line 3) × (0 < length (formOf t .items))
@@ -452,24 +455,23 @@ module _ (m : Mode) (s : State) (h : History m s) where
       go (yes d) = listed (at-getD (types s) y tbool d)
       go (no d) = subst (Listed (types s)) (sym (List·getD-eq-default (types s) tbool (omega arith))) b
 
-  policies-from : (pre rest : List (List ℕ)) → linesOf s POLICY ≡ pre ++ rest → PoliciesIn (types s) (numberedPolicies (trees s) rest)
-  unfolding trees
-  policies-from pre [] e = tt
-  policies-from pre (r ∷ rest) e =
-      let b = bool-listed pre r rest e in
-      (hold-from (Listed (types s)) b (types s) (λ n. n) (any-listed b) (linesOf s NODE) [] (λ n. b) (at r 2), policies-from (pre ++ (r ∷ [])) rest (e ∙ sym (append-assoc pre (r ∷ []) rest)))
+  all-listed : Each (λ r. Listed (types s) tbool) (onTerm s)
+  all-listed = on-term (λ r. Listed (types s) tbool) s bool-listed
 
-  contents-from : (pre rest : List (List ℕ)) → linesOf s POLICY ≡ pre ++ rest → ContentsIn (types s) (contentPolicies (exprs s) rest)
+  policies-each : {rs : List (List ℕ)} → Each (λ r. Listed (types s) tbool) rs → PoliciesIn (types s) (numberedPolicies (trees s) rs)
+  unfolding trees
+  policies-each O.none = tt
+  policies-each (O.more {r = r} b bs) = (hold-from (Listed (types s)) b (types s) (λ n. n) (any-listed b) (linesOf s NODE) [] (λ n. b) (at r 2), policies-each bs)
+
+  contents-each : {rs : List (List ℕ)} → Each (λ r. Listed (types s) tbool) rs → ContentsIn (types s) (contentPolicies (exprs s) rs)
   unfolding exprs
-  contents-from pre [] e = tt
-  contents-from pre (r ∷ rest) e =
-      let b = bool-listed pre r rest e in
-      (hold-from (Listed (types s)) b (types s) (λ n. getD (contents s) n (vbool false)) (any-listed b) (linesOf s NODE) [] (λ n. b) (at r 2), contents-from (pre ++ (r ∷ [])) rest (e ∙ sym (append-assoc pre (r ∷ []) rest)))
+  contents-each O.none = tt
+  contents-each (O.more {r = r} b bs) = (hold-from (Listed (types s)) b (types s) (λ n. getD (contents s) n (vbool false)) (any-listed b) (linesOf s NODE) [] (λ n. b) (at r 2), contents-each bs)
 
   -- THE SHEET'S OWN TREES: each type of each policy's tree has a type line
   pub sheet-types : PoliciesIn (types s) (nPolicies s)
   unfolding nPolicies
-  sheet-types = policies-from [] (linesOf s POLICY) refl
+  sheet-types = policies-each all-listed
 
 module _ (s : State) (f : Facts partial s) where
   lines-in : {D : List Value} {ls : List NVerdict} {ps : List Policy} → Residuals (schema s) (nEnv partial s) (pEnv s) D ls ps → Policies (schema s) ps → ContentsIn (types s) ps → LinesIn (types s) ls
@@ -481,4 +483,4 @@ module _ (s : State) (f : Facts partial s) where
   pub residual-types : LinesIn (types s) (run partial s .lines)
   unfolding run policies
   residual-types = lines-in (run-reads (schema s) (nEnv partial s) (pEnv s) (nPolicies s) (values-table partial s (f .history)) (env-read s f) (read-own partial s (f .history)) .residuals)
-      (policies-typed partial s (f .history)) (contents-from partial s (f .history) [] (linesOf s POLICY) refl)
+      (policies-typed partial s (f .history)) (contents-each partial s (f .history) (all-listed partial s (f .history)))

@@ -6,25 +6,26 @@ use Prim.Native.Nat.{ℕ, zero, suc, _<_, _≤_, _+_, _-_}
 use native.Mathlib.Nat.{le-of-suc-le-suc}
 use native.Mathlib.Omega.{arith}
 use native.Mathlib.Decide.{decLt}
-use borrow.Author.Tests.{eq-eqb, ne-eqb, ltb-true, leb-false}
+use borrow.Author.Tests.{eq-eqb, ne-eqb, ltb-true, leb-false, le-ltb}
 use lib.Dec.{eqb}
 use lib.ListN.{length, getD, drop, set, length-set, length-append, List·getD-eq-default}
 use lib.Seq.{getD-set-same, getD-set-other}
 use Rattle.cedar.proofs.Tools.{neither}
 use Rattle.cedar.specs.Types.{Ty, tbool}
 use Rattle.cedar.specs.Residual.{Node, err}
-use Rattle.sheet.specs.Forms.{Mode, Slot, line, forms, formOf, slotAt, isLine, keep, refsFrom, refs, tag, items, at, keyOf, rowOf, NODE, POLICY, noKey, noTag}
+use Rattle.sheet.specs.Forms.{Mode, Slot, line, forms, formOf, slotAt, isLine, keep, refsFrom, refs, tag, items, at, keyOf, rowOf, NODE, POLICY, noKey, noTag, TERM, day, nothing}
 use Rattle.sheet.specs.State.{State, linesOf, count}
 use Rattle.sheet.specs.Sheet.{greatest, thereIs, allThere, marked, usedTwice, fault, more, read}
-use Rattle.sheet.specs.Content.{childrenOver, argsOver, treeOver, treesFrom, trees, nPolicies, numberedPolicies, types}
+use Rattle.sheet.specs.Content.{childrenOver, argsOver, treeOver, treesFrom, trees, nPolicies, numberedPolicies, types, onTerm}
 use Rattle.sheet.specs.Answer.{size, sizes, sizeArgs}
 use Rattle.sheet.proofs.Lines.{and-both, Passed, passed, holds-read, later-empty, Was, History, accepted-history}
-use Rattle.sheet.proofs.Parsed.{tags-between, policyTag}
+use Rattle.sheet.proofs.Parsed.{tags-between, policyTag, allBelow, between}
 use Rattle.sheet.proofs.NodeRows.{row-read}
 use Rattle.sheet.proofs.MadeCount.{policySizes}
 use Rattle.sheet.proofs.PoliciesRead.{all-there, node-tags, policy-tags}
 use Rattle.sheet.proofs.TypeNumbers.{is-line}
 use Rattle.sheet.proofs.Slots.{set-slot, field-slot}
+use Rattle.sheet.proofs.OnTerm.{total, on-term-total}
 
 -- ---- weights and flags, as lists of numbers
 
@@ -99,6 +100,10 @@ rootWeights ws (r ∷ rs) = getD ws (at r 2) 1 + rootWeights ws rs
 roots-snoc : (ws : List ℕ) (rs : List (List ℕ)) (r : List ℕ) → rootWeights ws (rs ++ (r ∷ [])) ≡ rootWeights ws rs + getD ws (at r 2) 1
 roots-snoc ws [] r = omega arith
 roots-snoc ws (x ∷ rs) r = let z = roots-snoc ws rs r in omega (arith, z)
+
+roots-total : (ws : List ℕ) (rs : List (List ℕ)) → total (λ r. getD ws (at r 2) 1) rs ≡ rootWeights ws rs
+roots-total ws [] = refl
+roots-total ws (r ∷ rs) = ap (λ z. getD ws (at r 2) 1 + z) (roots-total ws rs)
 
 -- ---- references are there
 
@@ -251,7 +256,12 @@ module _ (m : Mode) (s : State) (h : History m s) where
 
   pub policies-fit : policySizes (nPolicies s) ≤ rootWeights (weights (linesOf s NODE)) (linesOf s POLICY)
   unfolding nPolicies
-  policies-fit = roots-fit (linesOf s POLICY)
+  policies-fit = let ws = weights (linesOf s NODE) in
+      let a = roots-fit (onTerm s) in
+      let b = on-term-total (λ r. getD ws (at r 2) 1) s in
+      let c = roots-total ws (onTerm s) in
+      let d = roots-total ws (linesOf s POLICY) in
+      omega (arith, a, b, c, d)
 
 -- ---- what is unused and what the policies have: no more than there are nodes
 
@@ -300,7 +310,7 @@ pub lines-own : (s : State) (r : List ℕ) → keyOf r < length (s .lines) → l
 unfolding more
 lines-own s r lt = getD-set-same (s .lines) (keyOf r) (linesOf s (keyOf r) ++ (r ∷ [])) [] lt
 
--- a line's key is one of the thirteen
+-- a line's key is one of the sheet's
 pub key-below : (s : State) (k : ℕ) (r : List ℕ) → Passed s k r → k < noKey
 key-below s k r p = go (decLt k noKey)
   where
@@ -328,6 +338,25 @@ root-weight m ws l r e k =
     let (lo, hi) = tags-between POLICY policyTag policyTag (tag r) (omega arith) policy-tags k in
     let q : tag r ≡ policyTag = omega (arith, lo, hi) in
     last-weight ws r q (row-read m r l policyTag e q (omega arith) (omega arith) (λ z. absurd (omega (arith, z))) .least)
+
+term-slot : (j : ℕ) → isLine NODE (slotAt 51 j) ≡ false
+unfolding slotAt formOf forms
+term-slot zero = refl
+term-slot (suc zero) = refl
+term-slot (suc (suc zero)) = refl
+term-slot (suc (suc (suc j))) = ap (λ b. isLine NODE (cond b (getD (line POLICY ∷ day ∷ day ∷ []) (suc (suc (suc j))) nothing) nothing)) (le-ltb (suc (suc (suc j))) 3 (omega arith))
+
+no-refs : (t j : ℕ) (l : List ℕ) → ((j : ℕ) → isLine NODE (slotAt t j) ≡ false) → refsFrom NODE t j l ≡ []
+no-refs t j [] h = refl
+no-refs t j (x ∷ l) h = ap (λ b. keep b x (refsFrom NODE t (suc j) l)) (h j) ∙ no-refs t (suc j) l h
+
+term-refs : (r : List ℕ) → tag r ≡ 51 → refs NODE r ≡ []
+unfolding refs
+term-refs r q = no-refs (tag r) 0 (items r) (λ j. ap (λ t. isLine NODE (slotAt t j)) q ∙ term-slot j)
+
+term-tags : allBelow (between TERM 51 51) noTag ≡ true
+unfolding formOf forms
+term-tags = refl
 
 module _ (m : Mode) (s : State) (l : List ℕ) (h : Used s) (f : fault s (rowOf m l) ≡ 0) where
   new : List ℕ
@@ -383,14 +412,30 @@ module _ (m : Mode) (s : State) (l : List ℕ) (h : Used s) (f : fault s (rowOf 
       (subst (λ z. Shared (linesOf s NODE) (linesOf s POLICY ++ (new ∷ [])) (cond z (marked (s .used) (refs NODE new) ++ (0 ∷ [])) (marked (s .used) (refs NODE new)))) (sym (ne-eqb (keyOf new) NODE (λ z. absurd (omega (arith, z, q)))))
       (one-policy (linesOf s NODE) (linesOf s POLICY) (s .used) new (h .shared) below (now .unused) (root-weight m (weights (linesOf s NODE)) l new same q))))
 
+  -- a term uses no node
+  term-line : keyOf new ≡ TERM → Shared (linesOf (more s new) NODE) (linesOf (more s new) POLICY) (more s new .used)
+  unfolding more keyOf
+  term-line q =
+      let (lo, hi) = tags-between TERM 51 51 (tag new) (omega arith) term-tags q in
+      let a : linesOf (more s new) NODE ≡ linesOf s NODE = lines-other s new NODE (λ z. absurd (omega (arith, z, q))) in
+      let b : linesOf (more s new) POLICY ≡ linesOf s POLICY = lines-other s new POLICY (λ z. absurd (omega (arith, z, q))) in
+      let c : refs NODE new ≡ [] = term-refs new (omega (arith, lo, hi)) in
+      subst (λ z. Shared z (linesOf (more s new) POLICY) (more s new .used)) (sym a) (subst (λ z. Shared (linesOf s NODE) z (more s new .used)) (sym b)
+      (subst (λ z. Shared (linesOf s NODE) (linesOf s POLICY) (cond z (marked (s .used) (refs NODE new) ++ (0 ∷ [])) (marked (s .used) (refs NODE new)))) (sym (ne-eqb (keyOf new) NODE (λ z. absurd (omega (arith, z, q)))))
+      (subst (λ z. Shared (linesOf s NODE) (linesOf s POLICY) (marked (s .used) z)) (sym c) (h .shared))))
+
   used-more : Used (more s (rowOf m l))
   unfolding new
   used-more = record { keys = keys-more; shared = go (decLt (keyOf new) NODE) (decLt NODE (keyOf new)) }
     where
+      later : Dec (POLICY < keyOf new) → NODE < keyOf new → Shared (linesOf (more s new) NODE) (linesOf (more s new) POLICY) (more s new .used)
+      later (yes a) b = let z = key-below s (keyOf new) new now in term-line (omega (arith, z))
+      later (no a) b = policy-line (omega arith)
+
       go : Dec (keyOf new < NODE) → Dec (NODE < keyOf new) → Shared (linesOf (more s new) NODE) (linesOf (more s new) POLICY) (more s new .used)
       go (yes a) b = before-nodes a
       go (no a) (no b) = node-line (omega arith)
-      go (no a) (yes b) = let z = key-below s (keyOf new) new now in policy-line (omega (arith, z))
+      go (no a) (yes b) = later (decLt POLICY (keyOf new)) b
 
 -- of an accepted sheet: the policies' trees together have no more nodes than there are node lines
 pub policies-small : (m : Mode) (sheet : List ℕ) → read m sheet .number ≡ 0 → policySizes (nPolicies (read m sheet .state)) ≤ count (read m sheet .state) NODE

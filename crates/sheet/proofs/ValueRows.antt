@@ -17,8 +17,8 @@ use Rattle.cedar.specs.Rows.{Entries, stop, entry, Row, rbool, rlong, rtext, re
 use Rattle.cedar.specs.Table.{At, now, later, Least, end, less, Asc, up, Elems, elem0, elem1, Named, name0, name1, Denotes, dbool, dlong, dtext, dent, dset, drec, Table, start, grow}
 use Rattle.cedar.proofs.TableLaws.{same-length}
 use Rattle.sheet.specs.Ascii.{ascii}
-use Rattle.sheet.specs.Bytes.{same, index, long, longAt, half}
-use Rattle.sheet.specs.Forms.{Mode, Slot, entry as entryˢ, line, lineOr, lineUnknown, word, number, nothing, forms, formOf, counted, slotAt, item, itemsFrom, one, two, joined, wordNumber, markOr, isPartial, modeWord, placeIn, tag, items, at, keyOf, rowOf, VALUE, ascendings, everyFrom, noKey, noTag}
+use Rattle.sheet.specs.Bytes.{same, index, long, longAt, half, date}
+use Rattle.sheet.specs.Forms.{Mode, Slot, entry as entryˢ, line, lineOr, lineUnknown, word, number, nothing, forms, formOf, counted, slotAt, item, itemsFrom, one, two, joined, wordNumber, markOr, isPartial, modeWord, placeIn, tag, items, at, keyOf, rowOf, VALUE, ascendings, everyFrom, noKey, noTag, day}
 use Rattle.sheet.specs.State.{State, linesOf, count, entriesOf, valueRow}
 use Rattle.sheet.specs.Sheet.{found, allThere, thereIs, ascend, among, fresh}
 use Rattle.sheet.specs.Content.{membersOver, fieldsOver, valueOver, valuesFrom, rowsIn, valueRows, contents}
@@ -78,6 +78,7 @@ isNumber (lineOr w k) = false
 isNumber (lineUnknown k) = false
 isNumber (word ws) = false
 isNumber number = true
+isNumber day = false
 isNumber nothing = false
 
 one-length : (o : Option ℕ) {k : List ℕ} → one o ≡ some k → length k ≡ 1
@@ -92,6 +93,7 @@ item-length m (lineOr w k) f h e = one-length (markOr (same f (w ∷ [])) (index
 item-length m (lineUnknown k) f h e = one-length (markOr (isPartial m && same f (ascii "?")) (index f)) e
 item-length m (word ws) f h e = one-length (wordNumber f ws) e
 item-length m number f h e = no-true (sym h)
+item-length m day f h e = one-length (date f) e
 item-length m nothing f h e = no-some e
 
 pub items-length : (m : Mode) (t : ℕ) → ((j : ℕ) → isNumber (slotAt t j) ≡ false) → (j : ℕ) (fs : List (List ℕ)) {l : List ℕ} → itemsFrom m t j fs ≡ some l → length l ≡ length fs

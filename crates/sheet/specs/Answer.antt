@@ -12,10 +12,10 @@ use Rattle.cedar.specs.Types.{Ty, Var, principal, action, resource, context, ty
 use Rattle.cedar.specs.Residual.{Item, star, piece, Node, Nodes, NodeArgs, lit, err, var, and, or, ite, un, bin, rel, get, has, haspath, set, rec, enil, econs, gnil, gcons, Un, unot, uneg, uempty, uis, ulike, Bin, beq, blt, ble, badd, bsub, bmul, bcontains, ball, bany, Rel, rin, rgettag, rhastag, Class, ctrue, cfalse, cerror, copen}
 use Rattle.cedar.specs.Response.{Effect, permit, forbid, isPermit, isForbid, isTrue, isOpen, Verdict, Decision, allow, deny, undecided, decision}
 use Rattle.cedar.specs.Rows.{Entries, stop, entry, Row, rbool, rlong, rtext, rent, rset, rrec}
-use Rattle.sheet.specs.Forms.{Mode, partial, complete, Slot, line, lineOr, lineUnknown, word, number, nothing, formOf, slotAt, tagOf, tag, items, at, mark, VALUE, NODE, POLICY}
-use Rattle.sheet.specs.State.{State, count, linesOf}
+use Rattle.sheet.specs.Forms.{Mode, partial, complete, Slot, line, lineOr, lineUnknown, word, number, day, nothing, formOf, slotAt, tagOf, tag, items, at, mark, VALUE, NODE}
+use Rattle.sheet.specs.State.{State, count}
 use Rattle.sheet.specs.Sheet.{firsts}
-use Rattle.sheet.specs.Content.{types, valueRows, schema, nEnv, env, nPolicies, policies}
+use Rattle.sheet.specs.Content.{types, valueRows, schema, nEnv, env, onTerm, nPolicies, policies}
 use Rattle.cedar.specs.Runs.{completeAnswer, NVerdict, Run, nRun, verdicts}
 use Rattle.sheet.specs.Forms as F
 
@@ -222,6 +222,7 @@ itemOut (lineOr b k) x = cond (eqb x mark) (b ∷ []) (digits x)
 itemOut (lineUnknown k) x = digits x
 itemOut (word ws) x = ascii (getD ws x "")
 itemOut number x = digits x
+itemOut day x = digits x
 itemOut nothing x = digits x
 
 abbrev pub itemsOut : ℕ → ℕ → List ℕ → List (List ℕ)
@@ -254,7 +255,7 @@ completeLines (i ∷ is) (l ∷ ls) = printed "policy" (policyItems i (l .effect
 -- ---- the answers
 
 abbrev pub ids : State → List ℕ
-ids s = firsts (linesOf s POLICY)
+ids s = firsts (onTerm s)
 
 -- the run over numbers: all values, with those made; and for each policy its class and residual
 unfoldable pub run : Mode → State → Run

@@ -1,10 +1,10 @@
 -- An accepted sheet read: its types, values and policies by content, its schema, and the known parts of its request and entities.
 -- Rows refer only to earlier ones of their key, so each list of contents is built line by line over the contents before.
-use mathlib.Core.Bool.{false, cond}
+use mathlib.Core.Bool.{Bool, true, false, cond, _&&_}
 use mathlib.Core.Option.{Option, none, some}
 use mathlib.Core.List.{List, [], _∷_, _++_}
-use Prim.Native.Nat.{ℕ, _-_}
-use lib.Dec.{eqb}
+use Prim.Native.Nat.{ℕ, suc, _-_}
+use lib.Dec.{leb, eqb}
 use lib.ListN.{getD, drop}
 use Rattle.cedar.specs.Value.{Value, vbool, vlong, vtext, vent, vset, vrec, Values, vnil, vcons, Fields, fnil, fcons}
 use Rattle.cedar.specs.Canonical.{makeSet}
@@ -14,7 +14,7 @@ use Rattle.cedar.specs.Entities.{Env, Line, PEnv, PLine}
 use Rattle.cedar.specs.Response.{Effect, permit, forbid}
 use Rattle.cedar.specs.Rows.{Entries, stop, entry, Row, rbool, rlong, rtext, rent, rset, rrec, sameRow}
 use Rattle.cedar.specs.Numbered.{Give, made, old, NLine, NEnv}
-use Rattle.sheet.specs.Forms.{Mode, partial, complete, tag, items, at, mark, firstNode, TEXT, TYPE, VALUE, ENTITY, PRINCIPAL, ACTION, RESOURCE, CONTEXT, NODE, POLICY}
+use Rattle.sheet.specs.Forms.{Mode, partial, complete, tag, items, at, keep, mark, firstNode, TEXT, TYPE, VALUE, ENTITY, PRINCIPAL, ACTION, RESOURCE, CONTEXT, DAY, NODE, POLICY, TERM}
 use Rattle.sheet.specs.State.{State, lineAt, linesOf, Declared, TypeRow, bool, long, string, entity, set′, record′, typeRow, valueRow, valueAt}
 use Rattle.sheet.specs.Typing.{isAction, attributesOf, tagsOf, aboveOf}
 use Rattle.cedar.specs.Runs.{Policy, NPolicy}
@@ -164,6 +164,21 @@ module _ {L : Type 0} (ts : List Ty) (value : ℕ → L) where
   treesFrom ns [] = ns
   treesFrom ns (r ∷ rs) = treesFrom (ns ++ (treeOver ns r ∷ [])) rs
 
+-- ---- policies
+
+-- whether policy n runs on day d: "Both edge days belong to the term", "Without a term it always runs"
+abbrev pub runsOn : ℕ → List (List ℕ) → ℕ → Bool
+runsOn d [] n = true
+runsOn d (r ∷ rs) n = cond (eqb (at r 0) n) (leb (at r 1) d && leb d (at r 2)) (runsOn d rs n)
+
+-- of policy lines, numbered from n, those that run: "A policy off term is skipped"
+abbrev pub running : (ℕ → Bool) → ℕ → List (List ℕ) → List (List ℕ)
+running runs n [] = []
+running runs n (r ∷ rs) = keep (runs n) r (running runs (suc n) rs)
+
+unfoldable pub onTerm : State → List (List ℕ)
+onTerm s = running (runsOn (at (lineAt s DAY 0) 0) (linesOf s TERM)) 0 (linesOf s POLICY)
+
 abbrev pub effectOf : ℕ → Effect
 effectOf x = getD (permit ∷ forbid ∷ []) x permit
 
@@ -182,10 +197,10 @@ unfoldable pub exprs : State → List (Node Value)
 exprs s = treesFrom (types s) (λ n. getD (contents s) n (vbool false)) [] (linesOf s NODE)
 
 unfoldable pub nPolicies : State → List NPolicy
-nPolicies s = numberedPolicies (trees s) (linesOf s POLICY)
+nPolicies s = numberedPolicies (trees s) (onTerm s)
 
 unfoldable pub policies : State → List Policy
-policies s = contentPolicies (exprs s) (linesOf s POLICY)
+policies s = contentPolicies (exprs s) (onTerm s)
 
 -- ---- the request and the entities
 

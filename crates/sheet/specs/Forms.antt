@@ -8,7 +8,7 @@ use Prim.Native.String.{String}
 use lib.Dec.{leb, ltb, eqb}
 use lib.ListN.{length, getD, take, drop}
 use Rattle.sheet.specs.Ascii.{ascii}
-use Rattle.sheet.specs.Bytes.{upTo, split, same, printable, index, long}
+use Rattle.sheet.specs.Bytes.{upTo, split, same, printable, index, long, date}
 
 -- the two entries
 pub data Mode : Type 0 where
@@ -17,7 +17,7 @@ pub data Mode : Type 0 where
 -- ---- keys, in their order
 
 unfoldable pub keys : List String
-keys = "sheet" ∷ "text" ∷ "kind" ∷ "type" ∷ "shape" ∷ "value" ∷ "entity" ∷ "principal" ∷ "action" ∷ "resource" ∷ "context" ∷ "node" ∷ "policy" ∷ []
+keys = "sheet" ∷ "text" ∷ "kind" ∷ "type" ∷ "shape" ∷ "value" ∷ "entity" ∷ "principal" ∷ "action" ∷ "resource" ∷ "context" ∷ "day" ∷ "node" ∷ "policy" ∷ "term" ∷ []
 
 abbrev pub SHEET : ℕ
 SHEET = 0
@@ -52,18 +52,24 @@ RESOURCE = 9
 abbrev pub CONTEXT : ℕ
 CONTEXT = 10
 
+abbrev pub DAY : ℕ
+DAY = 11
+
 abbrev pub NODE : ℕ
-NODE = 11
+NODE = 12
 
 abbrev pub POLICY : ℕ
-POLICY = 12
+POLICY = 13
+
+abbrev pub TERM : ℕ
+TERM = 14
 
 -- past the keys, and past the table of forms below: what stands for a key or a form that there is not
 abbrev pub noKey : ℕ
-noKey = 13
+noKey = 15
 
 abbrev pub noTag : ℕ
-noTag = 50
+noTag = 52
 
 -- the place of a word in a list; past its end where it is not there
 abbrev pub placeIn : List ℕ → List String → ℕ
@@ -79,6 +85,7 @@ pub data Slot : Type 0 where
   lineUnknown : ℕ → Slot  -- the same, or `?` on a partial sheet
   word : List String → Slot  -- one of these words
   number : Slot  -- a long
+  day : Slot  -- a date
   nothing : Slot  -- nothing may stand here
 
 -- the bytes `-` and `*`
@@ -115,7 +122,7 @@ node1 w = nodeWith w (line NODE ∷ []) []
 abbrev pub node2 : String → Form
 node2 w = nodeWith w (line NODE ∷ line NODE ∷ []) []
 
--- the forms of one key stand together, in the keys' order; a form's place is its tag
+-- the forms of one key stand together; a form's place is its tag
 unfoldable pub forms : List Form
 forms =
     plain SHEET "" (entry ∷ [])
@@ -168,6 +175,8 @@ forms =
     ∷ nodeWith "set" [] (line NODE ∷ [])
     ∷ rising NODE "record" (line TYPE ∷ []) (line TEXT ∷ line NODE ∷ [])
     ∷ plain POLICY "" (line TEXT ∷ word ("permit" ∷ "forbid" ∷ []) ∷ line NODE ∷ [])
+    ∷ plain DAY "" (day ∷ [])
+    ∷ plain TERM "" (line POLICY ∷ day ∷ day ∷ [])
     ∷ []
 
 -- the tags of `type=bool`, `value=bool` and `node=..,lit` in the table; the other constructors of these keys follow in its order
@@ -239,6 +248,7 @@ item m (lineOr b k) f = one (markOr (same f (b ∷ [])) (index f))
 item m (lineUnknown k) f = one (markOr (isPartial m && same f (ascii "?")) (index f))
 item m (word ws) f = one (wordNumber f ws)
 item m number f = two (long f)
+item m day f = one (date f)
 item m nothing f = none
 
 abbrev pub joined : Option (List ℕ) → Option (List ℕ) → Option (List ℕ)
@@ -328,9 +338,10 @@ isLine k (lineOr b l) = false
 isLine k (lineUnknown l) = false
 isLine k (word ws) = false
 isLine k number = false
+isLine k day = false
 isLine k nothing = false
 
-abbrev pub keep : Bool → ℕ → List ℕ → List ℕ
+abbrev pub keep : {A : Type 0} → Bool → A → List A → List A
 keep true x l = x ∷ l
 keep false x l = l
 

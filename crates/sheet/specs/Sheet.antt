@@ -5,7 +5,7 @@ use Prim.Native.Nat.{ℕ, zero, suc, _+_, _-_, max}
 use lib.Dec.{leb, ltb, eqb}
 use lib.ListN.{getD, take, drop, set}
 use Rattle.sheet.specs.Bytes.{same, split}
-use Rattle.sheet.specs.Forms.{Mode, Slot, entry, line, lineOr, lineUnknown, word, number, nothing, slotAt, mark, rowOf, tag, items, at, keyOf, refs, ascendings, TEXT, KIND, TYPE, VALUE, ENTITY, NODE, POLICY, noKey}
+use Rattle.sheet.specs.Forms.{Mode, Slot, entry, line, lineOr, lineUnknown, word, number, day, nothing, slotAt, mark, rowOf, tag, items, at, keyOf, refs, ascendings, TEXT, KIND, TYPE, VALUE, ENTITY, NODE, POLICY, TERM, noKey}
 use Rattle.cedar.specs.Numbered.{memN}
 use Rattle.sheet.specs.State.{State, empty, linesOf, count, lineAt, depthsOf, counts, before}
 use Rattle.sheet.specs.Typing.{typed}
@@ -14,10 +14,10 @@ use Rattle.sheet.specs.Typing.{typed}
 
 -- the least and the greatest number of lines of each key; "shape .. one per kind"
 abbrev pub least : State → List ℕ
-least s = 1 ∷ 0 ∷ 0 ∷ 0 ∷ count s KIND ∷ 0 ∷ 0 ∷ 1 ∷ 1 ∷ 1 ∷ 1 ∷ 0 ∷ 0 ∷ []
+least s = 1 ∷ 0 ∷ 0 ∷ 0 ∷ count s KIND ∷ 0 ∷ 0 ∷ 1 ∷ 1 ∷ 1 ∷ 1 ∷ 1 ∷ 0 ∷ 0 ∷ 0 ∷ []
 
 abbrev pub greatest : State → List ℕ
-greatest s = 1 ∷ 512 ∷ 32 ∷ 128 ∷ count s KIND ∷ 1024 ∷ 128 ∷ 1 ∷ 1 ∷ 1 ∷ 1 ∷ 1024 ∷ 64 ∷ []
+greatest s = 1 ∷ 512 ∷ 32 ∷ 128 ∷ count s KIND ∷ 1024 ∷ 128 ∷ 1 ∷ 1 ∷ 1 ∷ 1 ∷ 1 ∷ 1024 ∷ 64 ∷ 64 ∷ []
 
 -- each of the first at least that of the second
 abbrev pub reach : List ℕ → List ℕ → Bool
@@ -46,6 +46,7 @@ thereIs s (lineOr w k) x = eqb x mark || ltb x (count s k)
 thereIs s (lineUnknown k) x = eqb x mark || ltb x (count s k)
 thereIs s (word ws) x = true
 thereIs s number x = true
+thereIs s day x = true
 thereIs s nothing x = true
 
 -- the items from place j on of a row of tag t
@@ -74,12 +75,16 @@ newRow s k r = not (among r (linesOf s k))
 abbrev pub newName : State → ℕ → List ℕ → Bool
 newName s k r = not (memN (at r 0) (firsts (linesOf s k)))
 
--- entities: "ascending"
+-- entities, terms: "ascending"
 abbrev pub above : State → ℕ → List ℕ → Bool
 above s k r = eqb (count s k) 0 || ltb (at (lineAt s k (count s k - 1)) 0) (at r 0)
 
+-- terms: "A last day before the first gets 5"
+abbrev pub termGoes : List ℕ → Bool
+termGoes r = leb (at r 1) (at r 2)
+
 abbrev pub fresh : State → ℕ → List ℕ → Bool
-fresh s k r = cond (eqb k TEXT || eqb k TYPE || eqb k VALUE) (newRow s k r) (cond (eqb k KIND || eqb k POLICY) (newName s k r) (cond (eqb k ENTITY) (above s k r) true))
+fresh s k r = cond (eqb k TEXT || eqb k TYPE || eqb k VALUE) (newRow s k r) (cond (eqb k KIND || eqb k POLICY) (newName s k r) (cond (eqb k ENTITY) (above s k r) (cond (eqb k TERM) (above s k r && termGoes r) true)))
 
 unfoldable pub found : State → ℕ → List ℕ → Bool
 found s k r = allThere s (tag r) 0 (items r) && ascend 0 (ascendings r) && fresh s k r

@@ -279,6 +279,8 @@ module _ (s : State) (r : List ℕ) where
       ∷ isAction s (at r 0)  -- action
       ∷ not (isAction s (at r 0))  -- resource
       ∷ contextTyped s r  -- context
+      ∷ true  -- day
       ∷ nodeTyped  -- node
       ∷ policyTyped  -- policy
+      ∷ true  -- term
       ∷ []) k false

@@ -6,11 +6,11 @@ use mathlib.Core.Path.{_≡_}
 use Prim.Native.Nat.{ℕ, zero, suc, _+_, _-_, _≤_, _<_}
 use lib.Dec.{eqb}
 use lib.ListN.{length, getD, take, drop, set, replicate}
-use Rattle.sheet.specs.Forms.{tag, items, at, noKey, SHEET, TEXT, KIND, TYPE, SHAPE, VALUE, ENTITY, PRINCIPAL, ACTION, RESOURCE, CONTEXT, NODE, POLICY}
+use Rattle.sheet.specs.Forms.{tag, items, at, SHEET, TEXT, KIND, TYPE, SHAPE, VALUE, ENTITY, PRINCIPAL, ACTION, RESOURCE, CONTEXT, DAY, NODE, POLICY, TERM}
 use Rattle.sheet.specs.State.{State}
 use Rattle.words.specs.Log.{room}
 use Rattle.forms.specs.Keys as K
-pub use Rattle.forms.specs.Keys.{heap}
+pub use Rattle.forms.specs.Keys.{RUN, MADE, heap}
 unfoldable pub use Rattle.forms.specs.Keys.{limit, bases, base}
 
 -- the words from s up to e
@@ -19,14 +19,15 @@ part w s e = take (e - s) (drop s w)
 
 -- ---- rows
 
--- a word for each key says how many lines it has; then how many values were made, and where the next row begins
-abbrev pub MADE : ℕ
-MADE = noKey
-
+-- a word for each key says how many lines it has; then how many policies run (RUN), how many values were made (MADE), and where the next row begins
 abbrev pub TOP : ℕ
 TOP = MADE + 1
 
--- the greatest number of rows of each key, and of made values
+-- the words of the row of a policy that runs: tag, id, effect and node
+abbrev pub RUN-WORDS : ℕ
+RUN-WORDS = 4
+
+-- the greatest number of rows of each key, of policies that run and of made values
 unfoldable pub limits : List ℕ
 limits = K.limits
 
@@ -58,7 +59,7 @@ rowIn sheet k r = cond (eqb k TEXT) (textRow sheet r) r
 unfoldable pub linesHeld : List ℕ → List ℕ → List (List (List ℕ))
 linesHeld sheet w =
     rowsOf w SHEET ∷ textRows sheet (rowsOf w TEXT) ∷ rowsOf w KIND ∷ rowsOf w TYPE ∷ rowsOf w SHAPE ∷ rowsOf w VALUE ∷ rowsOf w ENTITY
-    ∷ rowsOf w PRINCIPAL ∷ rowsOf w ACTION ∷ rowsOf w RESOURCE ∷ rowsOf w CONTEXT ∷ rowsOf w NODE ∷ rowsOf w POLICY ∷ []
+    ∷ rowsOf w PRINCIPAL ∷ rowsOf w ACTION ∷ rowsOf w RESOURCE ∷ rowsOf w CONTEXT ∷ rowsOf w DAY ∷ rowsOf w NODE ∷ rowsOf w POLICY ∷ rowsOf w TERM ∷ []
 
 -- ---- work
 
@@ -84,7 +85,7 @@ depthsAt b i n = take n (drop i b)
 
 -- where the depths of a key's lines stand, 0 where they are all 1
 unfoldable pub depthBases : List ℕ
-depthBases = 0 ∷ 0 ∷ 0 ∷ TYPEDEPTHS ∷ 0 ∷ VALUEDEPTHS ∷ 0 ∷ 0 ∷ 0 ∷ 0 ∷ 0 ∷ NODEDEPTHS ∷ 0 ∷ []
+depthBases = 0 ∷ 0 ∷ 0 ∷ TYPEDEPTHS ∷ 0 ∷ VALUEDEPTHS ∷ 0 ∷ 0 ∷ 0 ∷ 0 ∷ 0 ∷ 0 ∷ NODEDEPTHS ∷ 0 ∷ 0 ∷ []
 
 unfoldable pub depthBase : ℕ → ℕ
 depthBase k = getD depthBases k 0
@@ -95,7 +96,7 @@ depthsIn w b k = cond (eqb (depthBase k) 0) (ones w k) (depthsAt b (depthBase k)
 unfoldable pub depthsHeld : List ℕ → List ℕ → List (List ℕ)
 depthsHeld w b =
     ones w SHEET ∷ ones w TEXT ∷ ones w KIND ∷ depthsAt b TYPEDEPTHS (getD w TYPE 0) ∷ ones w SHAPE ∷ depthsAt b VALUEDEPTHS (getD w VALUE 0) ∷ ones w ENTITY
-    ∷ ones w PRINCIPAL ∷ ones w ACTION ∷ ones w RESOURCE ∷ ones w CONTEXT ∷ depthsAt b NODEDEPTHS (getD w NODE 0) ∷ ones w POLICY ∷ []
+    ∷ ones w PRINCIPAL ∷ ones w ACTION ∷ ones w RESOURCE ∷ ones w CONTEXT ∷ ones w DAY ∷ depthsAt b NODEDEPTHS (getD w NODE 0) ∷ ones w POLICY ∷ ones w TERM ∷ []
 
 -- the state that the words hold
 unfoldable pub held : List ℕ → List ℕ → List ℕ → State

@@ -1,5 +1,4 @@
 // The rows of a sheet in the lent words: every row of every key by its number, in constant time, and a row more at the heap's end.
-use forms::NO_KEY;
 use forms::NO_TAG;
 use forms::TEXT;
 use forms::form_of;
@@ -15,10 +14,15 @@ ghost use Rattle.sheet.specs.Forms.{tag, formOf};
 ghost use Rattle.words.specs.Log.{part};
 ghost use Rattle.table.specs.Layout.{base, heap, rowAt, rowsOf, textAt, withRow};
 
-// The words after the keys' counts: how many values were made, and where the next row begins.
-pub const MADE: usize = NO_KEY;
+// The words after the keys' counts: how many policies run, how many values were made, and where the next row begins.
+pub const RUN: usize = forms::RUN;
+
+pub const MADE: usize = forms::MADE;
 
 pub const TOP: usize = MADE + 1;
+
+// The words of the row of a policy that runs: tag, id, effect and node.
+pub const RUN_WORDS: u32 = 4;
 
 // Where the first row begins.
 pub const HEAP: usize = forms::HEAP;

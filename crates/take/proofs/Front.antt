@@ -6,12 +6,12 @@ use native.Mathlib.Nat.{le-refl}
 use native.Mathlib.Omega.{arith}
 use lib.ListN.{length, getD, take, drop, length-append}
 use lib.Seq.{length-take-le, take-take, take-append-le, drop-append-seam}
-use Rattle.sheet.specs.Forms.{Mode, TYPE, VALUE, NODE}
+use Rattle.sheet.specs.Forms.{Mode, keyOf, TYPE, VALUE, DAY, NODE}
 use Rattle.sheet.specs.State.{State}
 use Rattle.sheet.specs.Sheet.{fault, more}
 use Rattle.words.specs.Log.{room}
 use Rattle.words.proofs.Stores.{getD-below, take-below, part-below}
-use Rattle.table.specs.Layout.{TOP, TYPEDEPTHS, VALUEDEPTHS, NODEDEPTHS, USES, rowsOf, depthsAt, depthsHeld, held, limits, limit, Sound}
+use Rattle.table.specs.Layout.{TOP, heap, TYPEDEPTHS, VALUEDEPTHS, NODEDEPTHS, USES, rowsOf, depthsAt, depthsHeld, held, limits, limit, Sound}
 use Rattle.table.proofs.Frame.{rows-kept, word-kept, last-was, sound-kept}
 use Rattle.table.proofs.Held.{held-same}
 use Rattle.fits.proofs.Remembered.{known-kept, known-words}
@@ -58,6 +58,7 @@ module _ (sheet a b a′ b′ : List ℕ) (ea : take room a′ ≡ take room a) 
   ready-alike la lb =
       record {
         sound = sound-kept a (ready .sound) a′ below la;
+        none = word-alike _ (omega arith) ∙ ready .none;
         made = word-alike _ (omega arith) ∙ ready .made;
         known = known-words a′ b b′ (λ i h. getD-below room b b′ eb i (omega arith)) (known-kept a a′ b (rows-alike VALUE (omega arith)) (rows-alike TYPE (omega arith)) (ready .known));
         blank = λ q i h. getD-below room b b′ eb i (omega arith) ∙ ready .blank (last-was a (ready .sound) a′ below VALUE q) i h;
@@ -83,9 +84,9 @@ module _ (w p : List ℕ) (long : length p ≡ room) where
 pub record Fronts (sheet a b : List ℕ) (bytes : ℕ) (m : Mode) : Type 0 where
   pub ready : Ready (take room a) (take room b)
   pub reached : Reached m (held sheet (take room a) (take room b))
-  pub fits : 2 * getD (take room a) TOP 0 + bytes ≤ 24400
+  pub fits : 2 * getD (take room a) TOP 0 + bytes ≤ 2 * heap + 16400
 
-module _ (sheet a b : List ℕ) (bytes : ℕ) (ready : Ready a b) (fits : 2 * getD a TOP 0 + bytes ≤ 24400) where
+module _ (sheet a b : List ℕ) (bytes : ℕ) (ready : Ready a b) (fits : 2 * getD a TOP 0 + bytes ≤ 2 * heap + 16400) where
   long-a : length (take room a) ≡ room
   long-a = length-take-le room a (ready .sound .long)
 
@@ -107,6 +108,9 @@ module _ (sheet a b : List ℕ) (bytes : ℕ) (ready : Ready a b) (fits : 2 * ge
     room-front : f ≡ 0 → taken p ≤ taken a + bytes + 1
     room-front z = subst (λ (n : ℕ). taken p ≤ n + bytes + 1) (taken-alike sheet a b (take room a) (take room b) (front a) (front b) ready (omega arith)) (t .room z)
 
+    day-front : keyOf row ≡ DAY → f ≡ 0 → taken p ≤ taken a + bytes
+    day-front e z = subst (λ (n : ℕ). taken p ≤ n + bytes) (taken-alike sheet a b (take room a) (take room b) (front a) (front b) ready (omega arith)) (t .day e z)
+
     low : f ≡ 0 → getD p TOP 0 ≤ room
     low z = omega (arith, room-front z, ready .sound .few NODE (omega arith), most .2)
 
@@ -121,6 +125,7 @@ module _ (sheet a b : List ℕ) (bytes : ℕ) (ready : Ready a b) (fits : 2 * ge
               ∙ t .state z ∙ ap (λ (s : State). more s row) state-front;
           ready = λ z. ready-alike sheet p q (p ++ drop room a) (q ++ drop room b) (back a p ka) (back b q kb) (t .ready z) (low z) (back-long a p ka) (back-long b q kb);
           room = λ z. subst (λ (n : ℕ). n ≤ taken a + bytes + 1) (sym (taken-alike sheet p q (p ++ drop room a) (q ++ drop room b) (back a p ka) (back b q kb) (t .ready z) (low z))) (room-front z);
+          day = λ e z. subst (λ (n : ℕ). n ≤ taken a + bytes) (sym (taken-alike sheet p q (p ++ drop room a) (q ++ drop room b) (back a p ka) (back b q kb) (t .ready z) (low z))) (day-front e z);
           rest-a = back-rest a p ka;
           rest-b = back-rest b q kb;
         }

@@ -5,18 +5,19 @@ use mathlib.Core.List.{List, [], _∷_, _++_}
 use Prim.Native.Nat.{ℕ, zero, suc, _+_, _-_, _*_, _≤_, _<_}
 use native.Mathlib.Omega.{arith}
 use native.Mathlib.Decide.{ℕ-discrete, decLt}
-use borrow.Author.Tests.{eq-eqb, ne-eqb, leb-false}
-use lib.Dec.{eqb}
+use borrow.Author.Tests.{eq-eqb, ne-eqb, leb-true, leb-false}
+use lib.Dec.{leb, eqb}
 use lib.ListN.{length, getD, take, drop}
-use lib.Seq.{drop-drop}
-use Rattle.sheet.specs.Forms.{Mode, forms, formOf, tag, keyOf, refs, TEXT, KIND, TYPE, VALUE, ENTITY, NODE, noKey}
-use Rattle.sheet.specs.State.{State, count}
+use lib.Seq.{drop-drop, getD-set-other}
+use Rattle.sheet.specs.Forms.{Mode, forms, formOf, tag, keyOf, refs, TEXT, KIND, TYPE, SHAPE, VALUE, ENTITY, DAY, NODE, noKey}
+use Rattle.sheet.specs.State.{State, empty, count}
 use Rattle.sheet.specs.Sheet.{greatest, fault, faultOf, more, depth, marked}
+use Rattle.sheet.proofs.Parsed.{allBelow, all-below}
 use Rattle.sheet.proofs.Lines.{Passed, passed, later-empty}
 use Rattle.sheet.proofs.Shallow.{reached-settled}
 use Rattle.sheet.proofs.Depths as D
 use Rattle.forms.specs.Tags.{TEXT-LINE}
-use Rattle.table.specs.Layout.{part, MADE, TOP, TYPEDEPTHS, USES, rowsOf, textRow, held, withRow, limits, limit, Last, Sound, rowIn}
+use Rattle.table.specs.Layout.{part, heap, RUN, MADE, TOP, TYPEDEPTHS, USES, rowsOf, textRow, held, withRow, limits, limit, Last, Sound, rowIn}
 use Rattle.table.proofs.Rows.{count-held, limit-small}
 use Rattle.table.proofs.Frame.{rows-kept, word-kept, sound-kept, top-new, count-new, count-other, rest-new, rows-own, rows-other, sound-new}
 use Rattle.table.proofs.Held.{held-same}
@@ -56,7 +57,7 @@ unfolding fault
 fault-some s [] n = absurd (n refl)
 fault-some s (t ∷ l) n = refl
 
-fault-none : (s : State) (r : List ℕ) → r ≡ [] → 3 ≡ fault s r
+pub fault-none : (s : State) (r : List ℕ) → r ≡ [] → 3 ≡ fault s r
 unfolding fault
 fault-none s r e = rw e refl
 
@@ -67,22 +68,20 @@ past-uses b b′ e = sym (drop-drop 9088 (USES + 1024) b′) ∙ ap (drop 9088) 
 
 -- ---- limits
 
+-- but for shapes the greatest numbers are those of the table
+most-else : allBelow (λ (k : ℕ). leb (getD (greatest empty) k 0) (limit k)) noKey ≡ true
+unfolding limit limits
+most-else = refl
+
 most-low : (s : State) (k : ℕ) → k < noKey → count s KIND ≤ 32 → getD (greatest s) k 0 ≤ limit k
 unfolding limit limits
-most-low s zero h c = omega arith
-most-low s (suc zero) h c = omega arith
-most-low s (suc (suc zero)) h c = omega arith
-most-low s (suc (suc (suc zero))) h c = omega arith
-most-low s (suc (suc (suc (suc zero)))) h c = c
-most-low s (suc (suc (suc (suc (suc zero))))) h c = omega arith
-most-low s (suc (suc (suc (suc (suc (suc zero)))))) h c = omega arith
-most-low s (suc (suc (suc (suc (suc (suc (suc zero))))))) h c = omega arith
-most-low s (suc (suc (suc (suc (suc (suc (suc (suc zero)))))))) h c = omega arith
-most-low s (suc (suc (suc (suc (suc (suc (suc (suc (suc zero))))))))) h c = omega arith
-most-low s (suc (suc (suc (suc (suc (suc (suc (suc (suc (suc zero)))))))))) h c = omega arith
-most-low s (suc (suc (suc (suc (suc (suc (suc (suc (suc (suc (suc zero))))))))))) h c = omega arith
-most-low s (suc (suc (suc (suc (suc (suc (suc (suc (suc (suc (suc (suc zero)))))))))))) h c = omega arith
-most-low s (suc (suc (suc (suc (suc (suc (suc (suc (suc (suc (suc (suc (suc k))))))))))))) h c = absurd (omega arith)
+most-low s k h c = go (ℕ-discrete k SHAPE)
+  where
+    go : Dec (k ≡ SHAPE) → getD (greatest s) k 0 ≤ limit k
+    go (yes e) = rw e c
+    go (no n) =
+        subst (λ (x : ℕ). x ≤ limit k) (sym (getD-set-other (greatest empty) SHAPE k (count s KIND) 0 n))
+        (leb-true (getD (greatest empty) k 0) (limit k) (all-below (λ (i : ℕ). leb (getD (greatest empty) i 0) (limit i)) noKey k most-else h))
 
 kinds : limit KIND ≡ 32
 unfolding limit limits
@@ -103,7 +102,7 @@ settled-rows sheet a b r = settled-held sheet a b (record { closes = reached-set
 
 -- ---- `take_line`
 
-module _ (sheet row a b : List ℕ) (bytes : ℕ) (m : Mode) (ready : Ready a b) (reached : Reached m (held sheet a b)) (fits : 2 * getD a TOP 0 + bytes ≤ 24400)
+module _ (sheet row a b : List ℕ) (bytes : ℕ) (m : Mode) (ready : Ready a b) (reached : Reached m (held sheet a b)) (fits : 2 * getD a TOP 0 + bytes ≤ 2 * heap + 16400)
     (top : ℕ) (ht : top ≡ getD a TOP 0) (a₁ : List ℕ) (n : ℕ) (l : Line sheet row a a₁ top n (bytes)) (long₁ : length a₁ ≡ length a) where
   below : take (getD a TOP 0) a₁ ≡ take (getD a TOP 0) a
   below = subst (λ (x : ℕ). take x a₁ ≡ take x a) ht (l .kept .below)
@@ -133,6 +132,7 @@ module _ (sheet row a b : List ℕ) (bytes : ℕ) (m : Mode) (ready : Ready a b)
         state = λ q. absurd (omega arith);
         ready = λ q. absurd (omega arith);
         room = λ q. absurd (omega arith);
+        day = λ e q. absurd (omega arith);
         rest-a = l .kept .rest;
         rest-b = refl;
       }
@@ -176,6 +176,7 @@ module _ (sheet row a b : List ℕ) (bytes : ℕ) (m : Mode) (ready : Ready a b)
             state = λ q. absurd (z q);
             ready = λ q. absurd (z q);
             room = λ q. absurd (z q);
+            day = λ e q. absurd (z q);
             rest-a = l .kept .rest;
             rest-b = rest-b₁;
           }
@@ -205,12 +206,19 @@ module _ (sheet row a b : List ℕ) (bytes : ℕ) (m : Mode) (ready : Ready a b)
         made₁ : getD a₁ MADE 0 ≡ 0
         made₁ = word-as MADE (omega arith) ∙ ready .made
 
+        none₁ : getD a₁ RUN 0 ≡ 0
+        none₁ = word-as RUN (omega arith) ∙ ready .none
+
         last₁ : Last a₁ k
         last₁ = record { last = λ i h t. go i h (decLt i noKey) t }
           where
             go : (i : ℕ) → k < i → Dec (i < noKey) → i < TOP → getD a₁ i 0 ≡ 0
             go i h (yes t) u = sym (count-held sheet a₁ b i t) ∙ ap length (later-empty (held sheet a₁ b) k i (pass .order) h)
-            go i h (no t) u = let e : i ≡ MADE = omega arith in rw e made₁
+            go i h (no t) u = past (ℕ-discrete i MADE)
+              where
+                past : Dec (i ≡ MADE) → getD a₁ i 0 ≡ 0
+                past (yes e) = rw e made₁
+                past (no e) = let q : i ≡ RUN = omega arith in rw q none₁
 
         pub commit-room : getD a₁ k 0 < 4294967295
         commit-room = omega (arith, room₁, limit-small k)
@@ -289,6 +297,13 @@ module _ (sheet row a b : List ℕ) (bytes : ℕ) (m : Mode) (ready : Ready a b)
               let c : getD a₂ NODE 0 ≡ getD a₁ NODE 0 = other₂ NODE (omega arith) (λ q. e (sym q)) in
               omega (arith, t, c, l .tight, word-as NODE (omega arith))
 
+          day₂ : keyOf row ≡ DAY → taken a₂ ≤ taken a + bytes
+          day₂ e =
+              let q : k ≡ DAY = key-row ∙ sym key-is ∙ e in
+              let t : getD a₂ TOP 0 ≡ end = rw pa (top-new a₁ sound₁ k end in-range room₁ last₁ lo) in
+              let c : getD a₂ NODE 0 ≡ getD a₁ NODE 0 = other₂ NODE (omega arith) (λ x. absurd (omega (arith, q, x))) in
+              omega (arith, t, c, l .short (λ x. absurd (omega (arith, e, x))), word-as NODE (omega arith))
+
           pub line-added : Taken sheet row a b a₂ b₂ bytes 0
           line-added =
               record {
@@ -296,12 +311,14 @@ module _ (sheet row a b : List ℕ) (bytes : ℕ) (m : Mode) (ready : Ready a b)
                 state = λ q. state₂;
                 ready = λ q. record {
                   sound = rw pa (sound-new a₁ sound₁ k end in-range room₁ last₁ lo);
+                  none = other₂ RUN (omega arith) (λ x. absurd (omega (arith, low, x))) ∙ none₁;
                   made = other₂ MADE (omega arith) (λ x. absurd (omega (arith, low, x))) ∙ made₁;
                   known = known₂ (decLt k ENTITY);
                   blank = blank₂ (decLt k ENTITY);
                   long = omega (arith, ready .long);
                 };
                 room = λ q. room₂ (ℕ-discrete k NODE);
+                day = λ e q. day₂ e;
                 rest-a = rw pa (rest-new a₁ sound₁ k end in-range room₁ last₁ lo) ∙ l .kept .rest;
                 rest-b = past-uses b₁ b₂ (words₂ .1) ∙ rest-b₁;
               }

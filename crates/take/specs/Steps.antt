@@ -5,10 +5,10 @@ use mathlib.Core.List.{List}
 use Prim.Native.Nat.{ℕ, _+_, _*_, _≤_, _<_}
 use lib.Dec.{eqb}
 use lib.ListN.{length, getD, drop, set}
-use Rattle.sheet.specs.Forms.{Mode, rowOf, TYPE, VALUE, NODE}
+use Rattle.sheet.specs.Forms.{Mode, rowOf, keyOf, TYPE, VALUE, DAY, NODE}
 use Rattle.sheet.specs.State.{State, empty}
 use Rattle.sheet.specs.Sheet.{fault, more}
-use Rattle.table.specs.Layout.{MADE, TOP, TYPEDEPTHS, VALUEDEPTHS, NODEDEPTHS, USES, Last, Sound, held}
+use Rattle.table.specs.Layout.{RUN, MADE, TOP, TYPEDEPTHS, VALUEDEPTHS, NODEDEPTHS, USES, Last, Sound, held}
 use Rattle.fits.specs.Fit.{Known}
 
 -- a line's depth, where lines of its key have one; a node is not yet used
@@ -23,9 +23,10 @@ pub data Reached (m : Mode) : State → Type 0 where
   before-any : Reached m empty
   after-line : {s : State} (l : List ℕ) → Reached m s → fault s (rowOf m l) ≡ 0 → Reached m (more s (rowOf m l))
 
--- between two lines: the rows are sound, nothing was made, what is remembered of pairs is true and is nothing before the entities
+-- between two lines: the rows are sound, no policy runs and nothing was made, what is remembered of pairs is true and is nothing before the entities
 pub record Ready (a b : List ℕ) : Type 0 where
   pub sound : Sound a
+  pub none : getD a RUN 0 ≡ 0
   pub made : getD a MADE 0 ≡ 0
   pub known : Known a b
   pub blank : Last a VALUE → (i : ℕ) → i < TYPEDEPTHS → getD b i 0 ≡ 0
@@ -35,11 +36,13 @@ pub record Ready (a b : List ℕ) : Type 0 where
 abbrev pub taken : List ℕ → ℕ
 taken a = 2 * getD a TOP 0 + 6 * getD a NODE 0
 
--- a line of this row and so many bytes read: number f, and where it is 0 the state with the line
+-- a line of this row and so many bytes read: number f, and where it is 0 the state with the line; `day` has a letter less than the other keys, and its
+-- row takes that much less
 pub record Taken (sheet row a b a′ b′ : List ℕ) (bytes f : ℕ) : Type 0 where
   pub number : f ≡ fault (held sheet a b) row
   pub state : f ≡ 0 → held sheet a′ b′ ≡ more (held sheet a b) row
   pub ready : f ≡ 0 → Ready a′ b′
   pub room : f ≡ 0 → taken a′ ≤ taken a + bytes + 1
+  pub day : keyOf row ≡ DAY → f ≡ 0 → taken a′ ≤ taken a + bytes
   pub rest-a : drop 16384 a′ ≡ drop 16384 a
   pub rest-b : drop 16384 b′ ≡ drop 16384 b

@@ -20,7 +20,7 @@ ghost use Prim.Native.Nat.{_+_, _-_, _*_, _≤_, _<_};
 ghost use lib.ListN.{length, getD};
 ghost use Rattle.words.specs.Log.{part};
 ghost use Rattle.sheet.specs.Forms.{rowOfValue};
-ghost use Rattle.table.specs.Layout.{TOP, withRow, held};
+ghost use Rattle.table.specs.Layout.{TOP, heap, withRow, held};
 ghost use Rattle.line.specs.Codes.{modeOf};
 ghost use Rattle.take.specs.Steps.{withDepth, Reached, Ready, Taken};
 
@@ -63,7 +63,7 @@ pub fn take_line(
     rows: &mut [u32],
     work: &mut [u32],
 ) -> u32
-    requires { ⌜ Ready (now rows) (now work) × Reached (modeOf partial) (held (now sheet) (now rows) (now work)) × (equals .at < end) × (end ≤ length (now sheet)) × (length (now sheet) ≤ 16384) × (2 * getD (now rows) TOP 0 + (end + 4 - equals .at) ≤ 24400) ⌝ }
+    requires { ⌜ Ready (now rows) (now work) × Reached (modeOf partial) (held (now sheet) (now rows) (now work)) × (equals .at < end) × (end ≤ length (now sheet)) × (length (now sheet) ≤ 16384) × (2 * getD (now rows) TOP 0 + (end + 4 - equals .at) ≤ 2 * heap + 16400) ⌝ }
     ensures { λ f. ⌜ Taken (now (sheet .entry)) (rowOfValue (modeOf partial) key (part (now (sheet .entry)) (equals .at + 1) end)) (now (rows .entry)) (now (work .entry)) (now (rows .exit)) (now (work .exit)) (end + 4 - equals .at) f ⌝ }
 {
     let rows = &mut rows[..ROOM];

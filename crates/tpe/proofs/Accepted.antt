@@ -1,9 +1,10 @@
--- THE RUN OVER WORDS IS THE NUMBERED RUN, for every accepted partial sheet that the words hold, if they have room for what is made.
+-- THE RUN OVER WORDS IS THE NUMBERED RUN, for every accepted partial sheet that the words hold with its policies on term as those that run, if they have
+-- room for what is made.
 use mathlib.Core.Path.{_≡_, refl, sym, _∙_, ap, ap₂, subst}
 use mathlib.Core.Bool.{false, cond}
 use mathlib.Core.Option.{Option, some}
-use mathlib.Core.List.{List, [], _∷_, _++_, append-assoc, append-nil}
-use Prim.Native.Nat.{ℕ, zero, suc, _+_, _-_, _*_, _≤_, _<_}
+use mathlib.Core.List.{List, [], _∷_, _++_, append-nil}
+use Prim.Native.Nat.{ℕ, zero, suc, _+_, _*_, _≤_, _<_}
 use native.Mathlib.Omega.{arith}
 use borrow.Author.Tests.{ltb-true}
 use lib.ListN.{length, getD}
@@ -17,31 +18,33 @@ use Rattle.forms.specs.Tags.{POLICY-LINE}
 use Rattle.sheet.specs.Forms.{partial, forms, formOf, slotAt, tag, at, keyOf, TYPE, VALUE, NODE, POLICY, ENTITY}
 use Rattle.sheet.specs.State.{State, linesOf, count, depthsOf, valueRow}
 use Rattle.sheet.specs.Sheet.{read}
-use Rattle.sheet.specs.Content.{types, rowsIn, valueRows, schema, nEnv, given, requestTy, entityLine, lineGiven, trees, numberedPolicies, nPolicies}
+use Rattle.sheet.specs.Content.{types, rowsIn, valueRows, schema, nEnv, given, requestTy, entityLine, lineGiven, trees, numberedPolicies, nPolicies, onTerm}
 use Rattle.sheet.specs.Answer.{run}
 use Rattle.sheet.proofs.Lines.{Was, accepted-history}
 use Rattle.sheet.proofs.Parsed.{tags-between}
 use Rattle.sheet.proofs.NodeRows.{row-read}
 use Rattle.sheet.proofs.MadeCount.{policySizes}
 use Rattle.sheet.proofs.PoliciesRead.{item-there, policy-tags}
-use Rattle.sheet.proofs.Environment.{Facts, thirteen}
+use Rattle.sheet.proofs.Environment.{Facts, all-keys}
 use Rattle.sheet.proofs.TypeNumbers.{Listed, TypesIn, bool-listed}
 use Rattle.sheet.proofs.Depths.{Reached, read-reached, reached-depths, Depths}
 use Rattle.sheet.proofs.Depths as D
 use Rattle.sheet.proofs.Uses.{policies-small}
-use Rattle.table.specs.Layout.{base, rowsAt, rowsOf, linesHeld, held, MADE, TOP, heap, limits, limit, Sound}
+use Rattle.sheet.proofs.OnTerm.{Each, on-term}
+use Rattle.table.specs.Layout.{base, rowsAt, rowsOf, linesHeld, held, RUN, MADE, TOP, limits, limit, Sound}
 use Rattle.table.proofs.Rows.{count-held, count-rows}
 use Rattle.value.specs.Lines.{valueLines, placeOf}
 use Rattle.value.proofs.Interned.{Formeds}
 use Rattle.strict.specs.Gives.{envIn}
 use Rattle.strict.proofs.Links.{env-link}
 use Rattle.tpe.specs.Run.{interpOf, ranFrom, runOf}
+use Rattle.tpe.specs.Fits.{Fits}
 use Rattle.tpe.proofs.Reach.{reach-start}
 use Rattle.tpe.proofs.Stands.{Hold, values, Room, tys, nodes, ty}
 use Rattle.tpe.proofs.Operations.{sch, env}
 use Rattle.tpe.proofs.Depth.{childrenOf, Proper, Deep, interp-is}
 use Rattle.tpe.proofs.Nodes.{node-fact}
-use Rattle.tpe.proofs.Policies.{RunIs, AllWork, ran-is}
+use Rattle.tpe.proofs.Policies.{RunIs, PolicyWorks, ran-is}
 use Rattle.tpe.proofs.Readings.{Tabled, own-tabled, keeps-tabled, lists-types}
 use Rattle.tpe.proofs.KindLines.{kind-found, rows-formed}
 
@@ -107,15 +110,17 @@ module _ (sheet a₀ : List ℕ) (f : Facts partial (held sheet a₀ [])) where
         let lt = ltb-true (at r 2) (count (w .was) NODE) (item-there partial s (w .was) POLICY r POLICY-LINE rd (w .pass .refers) 2 (ltb-true 2 3 refl)) in
         subst (λ z. at r 2 < length z) same lt
 
-    all-work : (pre rest : List (List ℕ)) → linesOf s POLICY ≡ pre ++ rest → AllWork partial sheet a₀ (trees s) (Tabled s) 64 (omega arith) (interpOf partial sheet 64) rest
-    all-work pre [] e = tt
-    all-work pre (r ∷ rest) e =
-        let w = f .history POLICY pre r rest e in
+    abbrev Working : List ℕ → Type 0
+    Working = PolicyWorks partial sheet a₀ (trees s) (Tabled s) 64 (omega arith) (interpOf partial sheet 64)
+
+    policy-works : (pre : List (List ℕ)) (r : List ℕ) (rest : List (List ℕ)) → linesOf s POLICY ≡ pre ++ (r ∷ rest) → Working r
+    policy-works pre r rest e =
         let b = bool-listed partial s (f .history) pre r rest e in
-        let lt = policy-node pre r w in (
-          (interp-is partial sheet a₀ kinds (trees s) (Tabled s) keeps (lists b) 64 (at r 2) (omega arith) (deep-of 64 (at r 2) lt (levels .low (at r 2))), keeps (at r 2) lt),
-          all-work (pre ++ (r ∷ [])) rest (e ∙ sym (append-assoc pre (r ∷ []) rest)),
-        )
+        let lt = policy-node pre r (f .history POLICY pre r rest e) in
+        (interp-is partial sheet a₀ kinds (trees s) (Tabled s) keeps (lists b) 64 (at r 2) (omega arith) (deep-of 64 (at r 2) lt (levels .low (at r 2))), keeps (at r 2) lt)
+
+    all-work : Each Working (onTerm s)
+    all-work = on-term Working s policy-works
 
 -- ---- at the start
 
@@ -159,8 +164,12 @@ module _ (l : List (List (List ℕ))) (d e : List (List ℕ)) (u v : List ℕ) w
   unfolding nEnv
   env-lines = λ i. record { request = λ x. given-lines x i; line = λ k t. lineGiven partial (entity-lines (rent k t) (getD l ENTITY []) i) }
 
+  term-lines : onTerm one ≡ onTerm two
+  unfolding onTerm
+  term-lines = refl
+
   policies-lines : nPolicies one ≡ nPolicies two
-  unfolding nPolicies trees types
+  unfolding nPolicies trees types onTerm
   policies-lines = refl
 
   rows-lines : valueRows one ≡ valueRows two
@@ -175,20 +184,26 @@ run-same : (sheet a b : List ℕ) → run partial (held sheet a []) ≡ run part
 unfolding held
 run-same sheet a b = run-lines (linesHeld sheet a) _ _ _ _
 
+term-same : (sheet a b : List ℕ) → onTerm (held sheet a []) ≡ onTerm (held sheet a b)
+unfolding held
+term-same sheet a b = term-lines (linesHeld sheet a) _ _ _ _
+
 policies-same : (sheet a b : List ℕ) → nPolicies (held sheet a []) ≡ nPolicies (held sheet a b)
 unfolding held
 policies-same sheet a b = policies-lines (linesHeld sheet a) _ _ _ _
 
-own-policies : (sheet a : List ℕ) → nPolicies (held sheet a []) ≡ numberedPolicies (trees (held sheet a [])) (rowsOf a POLICY)
-unfolding nPolicies held linesHeld
-own-policies sheet a = refl
+module _ (sheet a b : List ℕ) (f : Facts partial (held sheet a b)) (d : Depths (held sheet a b)) (sound : Sound a) (none : getD a MADE 0 ≡ 0) (runs : rowsOf a RUN ≡ onTerm (held sheet a b)) where
+  own-runs : rowsOf a RUN ≡ onTerm (held sheet a [])
+  own-runs = runs ∙ sym (term-same sheet a b)
 
-as-run : (sheet a : List ℕ)
-    → nRun (schema (held sheet a [])) (nEnv partial (held sheet a [])) (numberedPolicies (trees (held sheet a [])) (rowsOf a POLICY)) (valueRows (held sheet a [])) ≡ run partial (held sheet a [])
-unfolding run
-as-run sheet a = ap (λ ps. nRun (schema (held sheet a [])) (nEnv partial (held sheet a [])) ps (valueRows (held sheet a []))) (sym (own-policies sheet a))
+  own-policies : nPolicies (held sheet a []) ≡ numberedPolicies (trees (held sheet a [])) (rowsOf a RUN)
+  unfolding nPolicies
+  own-policies = ap (numberedPolicies (trees (held sheet a []))) (sym own-runs)
 
-module _ (sheet a b : List ℕ) (f : Facts partial (held sheet a b)) (d : Depths (held sheet a b)) (sound : Sound a) (none : getD a MADE 0 ≡ 0) where
+  as-run : nRun (schema (held sheet a [])) (nEnv partial (held sheet a [])) (numberedPolicies (trees (held sheet a [])) (rowsOf a RUN)) (valueRows (held sheet a [])) ≡ run partial (held sheet a [])
+  unfolding run
+  as-run = ap (λ ps. nRun (schema (held sheet a [])) (nEnv partial (held sheet a [])) ps (valueRows (held sheet a []))) (sym own-policies)
+
   abbrev f₀ : Facts partial (held sheet a [])
   f₀ = facts-same sheet a b f
 
@@ -204,40 +219,39 @@ module _ (sheet a b : List ℕ) (f : Facts partial (held sheet a b)) (d : Depths
   unfolding held linesHeld
   levels = d .deep NODE
 
-  run-from : Room (policySizes (numberedPolicies (trees (held sheet a [])) (rowsOf a POLICY))) a []
-      → RunIs partial sheet a 64 [] (nRun (sch partial sheet a) (env partial sheet a) (numberedPolicies (trees (held sheet a [])) (rowsOf a POLICY)) (values a)) (ranFrom (interpOf partial sheet 64) 0 (getD a POLICY 0) a [])
-  unfolding held linesHeld
+  run-from : Room (policySizes (numberedPolicies (trees (held sheet a [])) (rowsOf a RUN))) a []
+      → RunIs partial sheet a 64 [] (nRun (sch partial sheet a) (env partial sheet a) (numberedPolicies (trees (held sheet a [])) (rowsOf a RUN)) (values a)) (ranFrom (interpOf partial sheet 64) 0 (getD a RUN 0) a [])
   run-from room =
-      rw (← count-rows a POLICY)
-      (ran-is partial sheet a (trees (held sheet a [])) (Tabled (held sheet a [])) 64 (omega arith) (interpOf partial sheet 64) (rowsOf a POLICY)
-      (all-work sheet a f₀ (depthsOf (held sheet a b) NODE) levels [] (rowsOf a POLICY) refl) 0 refl a [] start-hold
+      rw (← count-rows a RUN)
+      (ran-is partial sheet a (trees (held sheet a [])) (Tabled (held sheet a [])) 64 (omega arith) (interpOf partial sheet 64) (rowsOf a RUN)
+      (subst (Each (Working sheet a f₀ (depthsOf (held sheet a b) NODE) levels)) (sym own-runs) (all-work sheet a f₀ (depthsOf (held sheet a b) NODE) levels)) 0 refl a [] start-hold
       (subst (Tabled (held sheet a [])) (sym start-rows) (own-tabled (held sheet a []) (f₀ .history))) room)
 
   -- what is run is the sheet's run
-  same-run : nRun (sch partial sheet a) (env partial sheet a) (numberedPolicies (trees (held sheet a [])) (rowsOf a POLICY)) (values a) ≡ run partial (held sheet a b)
-  same-run = ap₂ (λ (N : NEnv) (R : List Row). nRun (sch partial sheet a) N (numberedPolicies (trees (held sheet a [])) (rowsOf a POLICY)) R) (env-same sheet a) start-rows ∙ as-run sheet a ∙ run-same sheet a b
+  same-run : nRun (sch partial sheet a) (env partial sheet a) (numberedPolicies (trees (held sheet a [])) (rowsOf a RUN)) (values a) ≡ run partial (held sheet a b)
+  same-run = ap₂ (λ (N : NEnv) (R : List Row). nRun (sch partial sheet a) N (numberedPolicies (trees (held sheet a [])) (rowsOf a RUN)) R) (env-same sheet a) start-rows ∙ as-run ∙ run-same sheet a b
 
   run-held : policySizes (nPolicies (held sheet a b)) ≤ getD a NODE 0 → getD a TOP 0 + 12 + 3 * getD a NODE 0 ≤ 16384 → RunIs partial sheet a 64 [] (run partial (held sheet a b)) (runOf partial sheet a [])
   unfolding runOf limit limits
   run-held few top =
-      let z : policySizes (nPolicies (held sheet a b)) ≡ policySizes (numberedPolicies (trees (held sheet a [])) (rowsOf a POLICY)) = ap policySizes (sym (policies-same sheet a b) ∙ own-policies sheet a) in
+      let z : policySizes (nPolicies (held sheet a b)) ≡ policySizes (numberedPolicies (trees (held sheet a [])) (rowsOf a RUN)) = ap policySizes (sym (policies-same sheet a b) ∙ own-policies) in
       let n = sound .few NODE (omega arith) in
-      subst (λ (x : Run). RunIs partial sheet a 64 [] x (ranFrom (interpOf partial sheet 64) 0 (getD a POLICY 0) a [])) same-run
+      subst (λ (x : Run). RunIs partial sheet a 64 [] x (ranFrom (interpOf partial sheet 64) 0 (getD a RUN 0) a [])) same-run
       (run-from (record { top = omega (arith, z, few, top, reach-start a); few = omega (arith, z, few, none, n); log = omega (arith, z, few, n) }))
 
 -- THE THEOREM
-pub run-is : (sheet a b : List ℕ) → read partial sheet .number ≡ 0 → read partial sheet .state ≡ held sheet a b → Sound a → getD a MADE 0 ≡ 0 → getD a TOP 0 + 12 + 3 * getD a NODE 0 ≤ 16384
+pub run-is : (sheet a b : List ℕ) → read partial sheet .number ≡ 0 → read partial sheet .state ≡ held sheet a b → Sound a → getD a MADE 0 ≡ 0 → rowsOf a RUN ≡ onTerm (held sheet a b) → getD a TOP 0 + 12 + 3 * getD a NODE 0 ≤ 16384
     → RunIs partial sheet a 64 [] (run partial (read partial sheet .state)) (runOf partial sheet a [])
-run-is sheet a b e h sound none top =
+run-is sheet a b e h sound none runs top =
     let (hi, fu) = accepted-history partial sheet e in
-    let f : Facts partial (held sheet a b) = subst (Facts partial) h (record { history = hi; full = fu; keys = thirteen partial sheet e }) in
+    let f : Facts partial (held sheet a b) = subst (Facts partial) h (record { history = hi; full = fu; keys = all-keys partial sheet e }) in
     let d : Depths (held sheet a b) = reached-depths (subst (Reached partial) h (read-reached partial sheet)) in
     let c : policySizes (nPolicies (held sheet a b)) ≤ count (held sheet a b) NODE = subst (λ (s : State). policySizes (nPolicies s) ≤ count s NODE) h (policies-small partial sheet e) in
     let n : count (held sheet a b) NODE ≡ getD a NODE 0 = count-held sheet a b NODE (omega arith) in
-    subst (λ (s : State). RunIs partial sheet a 64 [] (run partial s) (runOf partial sheet a [])) (sym h) (run-held sheet a b f d sound none (omega (arith, c, n)) top)
+    subst (λ (s : State). RunIs partial sheet a 64 [] (run partial s) (runOf partial sheet a [])) (sym h) (run-held sheet a b f d sound none runs (omega (arith, c, n)) top)
 
--- there is room where a sheet's rows take so many words: an item has two bytes at least, and a node's line six more
-pub run-fits : (sheet a b : List ℕ) → read partial sheet .number ≡ 0 → read partial sheet .state ≡ held sheet a b → Sound a → getD a MADE 0 ≡ 0 → 2 * (getD a TOP 0 - heap) + 6 * getD a NODE 0 ≤ 16384
+-- there is room where the rows fit
+pub run-fits : (sheet a b : List ℕ) → read partial sheet .number ≡ 0 → read partial sheet .state ≡ held sheet a b → Sound a → getD a MADE 0 ≡ 0 → rowsOf a RUN ≡ onTerm (held sheet a b) → Fits a
     → RunIs partial sheet a 64 [] (run partial (read partial sheet .state)) (runOf partial sheet a [])
 unfolding limit limits
-run-fits sheet a b e h sound none fits = let n = sound .few NODE (omega arith) in run-is sheet a b e h sound none (omega (arith, fits, n))
+run-fits sheet a b e h sound none runs fits = let n = sound .few NODE (omega arith) in run-is sheet a b e h sound none runs (omega (arith, fits, n))

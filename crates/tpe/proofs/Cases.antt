@@ -8,23 +8,23 @@ use lib.Seq.{sets}
 use Rattle.words.specs.Log.{appended}
 use Rattle.cedar.specs.Residual.{cfalse}
 use Rattle.forms.specs.Tags.{KIND-LINE, BOOL-TYPE, ENTITY-TYPE, RECORD-TYPE, SHAPE-LINE, BOOL-VALUE, PRINCIPAL-LINE, CONTEXT-LINE, LIT, VAR, AND, EQ, GET, HASPATH, NOT, POLICY-LINE, PART-P, PART-C, PERMIT}
-use Rattle.sheet.specs.Forms.{partial, TYPE, VALUE, NODE, POLICY, PRINCIPAL, CONTEXT, KIND, SHAPE, mark}
+use Rattle.sheet.specs.Forms.{partial, TYPE, VALUE, NODE, PRINCIPAL, CONTEXT, KIND, SHAPE, mark}
 use Rattle.sheet.specs.Content.{types, schema, nEnv}
-use Rattle.table.specs.Layout.{bases, base, rowAt, rowsAt, rowsOf, linesHeld, held, withRow, TOP, heap}
+use Rattle.table.specs.Layout.{bases, base, rowAt, rowsAt, rowsOf, linesHeld, held, withRow, RUN, TOP, heap}
 use Rattle.value.specs.Lines.{valueLines, placeOf}
 use Rattle.value.specs.Made.{roomFor, narrow, numberOf, withMade, withValue}
 use Rattle.residual.specs.Rows.{wordAt, stageAt, startAt}
 use Rattle.residual.specs.Errs.{opErrs, blocksBy, blocksErr, rowErrs, errsBy, errs}
-use Rattle.tpe.specs.Run.{O, litOf, errOf, leftOf, madeOf, giveOf, settleOf, ruledOf, worked1, worked2, oneOf, twoOf, classBy, classOf, decidedBy, secondBy, secondOf, firstBy, firstOf, schemaIn, tyIn, envIn, varFor, unOf, binOf, litStep, varStep, lazyStep, binStep, unStep, stepWith, stepOf, interpOf, ranFrom, runOf, Ran, Line, getOf, getStep, walkFrom, entityType, stuckOf, walkedOf, pathBy, pathOf, pathStep}
+use Rattle.tpe.specs.Run.{litOf, errOf, leftOf, madeOf, giveOf, settleOf, ruledOf, worked1, worked2, oneOf, twoOf, classBy, classOf, decidedBy, secondBy, secondOf, firstBy, firstOf, schemaIn, tyIn, envIn, varFor, unOf, binOf, litStep, varStep, lazyStep, binStep, unStep, stepWith, stepOf, interpOf, ranFrom, runOf, Line, getOf, getStep, walkFrom, entityType, stuckOf, walkedOf, pathBy, pathOf, pathStep}
 
 -- a row more of key k
 with : ℕ → List ℕ → List ℕ → List ℕ
 with k r w = withRow (sets w (getD w TOP 0) r) k (getD w TOP 0 + length r)
 
--- types `bool`, `entity,0`; value `bool,1`; principal `0,?`; nodes `var p` twice, `eq`, `lit` true, `not`, `and`; one policy
+-- types `bool`, `entity,0`; value `bool,1`; principal `0,?`; nodes `var p` twice, `eq`, `lit` true, `not`, `and`; one policy that runs
 words : List ℕ
 words =
-    with POLICY (POLICY-LINE ∷ 0 ∷ PERMIT ∷ 5 ∷ [])
+    with RUN (POLICY-LINE ∷ 0 ∷ PERMIT ∷ 5 ∷ [])
     (with NODE (AND ∷ 0 ∷ 2 ∷ 4 ∷ [])
     (with NODE (NOT ∷ 0 ∷ 3 ∷ [])
     (with NODE (LIT ∷ 0 ∷ 0 ∷ [])
@@ -34,12 +34,12 @@ words =
     (with PRINCIPAL (PRINCIPAL-LINE ∷ 0 ∷ mark ∷ [])
     (with VALUE (BOOL-VALUE ∷ 1 ∷ [])
     (with TYPE (ENTITY-TYPE ∷ 0 ∷ [])
-    (with TYPE (BOOL-TYPE ∷ []) (set (replicate 4064 0) TOP heap)))))))))))
+    (with TYPE (BOOL-TYPE ∷ []) (set (replicate (heap + 64) 0) TOP heap)))))))))))
 
 -- the same over `get` of the unknown context, which can err
 risky : List ℕ
 risky =
-    with POLICY (POLICY-LINE ∷ 0 ∷ PERMIT ∷ 4 ∷ [])
+    with RUN (POLICY-LINE ∷ 0 ∷ PERMIT ∷ 4 ∷ [])
     (with NODE (AND ∷ 0 ∷ 1 ∷ 3 ∷ [])
     (with NODE (NOT ∷ 0 ∷ 2 ∷ [])
     (with NODE (LIT ∷ 0 ∷ 0 ∷ [])
@@ -48,12 +48,12 @@ risky =
     (with CONTEXT (CONTEXT-LINE ∷ 1 ∷ mark ∷ [])
     (with VALUE (BOOL-VALUE ∷ 1 ∷ [])
     (with TYPE (RECORD-TYPE ∷ 0 ∷ 0 ∷ 0 ∷ [])
-    (with TYPE (BOOL-TYPE ∷ []) (set (replicate 4064 0) TOP heap))))))))))
+    (with TYPE (BOOL-TYPE ∷ []) (set (replicate (heap + 64) 0) TOP heap))))))))))
 
 -- a path from the known principal, an entity that is not listed
 path : List ℕ
 path =
-    with POLICY (POLICY-LINE ∷ 0 ∷ PERMIT ∷ 1 ∷ [])
+    with RUN (POLICY-LINE ∷ 0 ∷ PERMIT ∷ 1 ∷ [])
     (with NODE (HASPATH ∷ 0 ∷ 0 ∷ 0 ∷ 0 ∷ [])
     (with NODE (VAR ∷ 1 ∷ PART-P ∷ [])
     (with PRINCIPAL (PRINCIPAL-LINE ∷ 0 ∷ 0 ∷ [])
@@ -61,7 +61,7 @@ path =
     (with TYPE (RECORD-TYPE ∷ 0 ∷ 0 ∷ 1 ∷ [])
     (with TYPE (ENTITY-TYPE ∷ 0 ∷ [])
     (with TYPE (BOOL-TYPE ∷ [])
-    (with KIND (KIND-LINE ∷ 0 ∷ 0 ∷ []) (set (replicate 4064 0) TOP heap)))))))))
+    (with KIND (KIND-LINE ∷ 0 ∷ 0 ∷ []) (set (replicate (heap + 64) 0) TOP heap)))))))))
 
 -- what a run shows
 abbrev shown : List ℕ → List ℕ × List Line

@@ -23,13 +23,12 @@ use Rattle.sheet.specs.Answer.{size, sizes, sizeArgs}
 use Rattle.sheet.proofs.MadeCount.{size-least}
 use Rattle.sheet.proofs.TypeNumbers.{Listed, TypesIn}
 use Rattle.table.specs.Layout.{rowsOf, held}
-use Rattle.table.proofs.Held.{held-same}
 use Rattle.value.specs.Lines.{placeOf}
 use Rattle.residual.specs.Trees.{rnil, flats, nodesOf, argsOf, leftFor, leftTree, suitsFor, suits, treesOf, Res, Whole, whole-none}
 use Rattle.tpe.specs.Run.{O, Rec, giveOf, varFor, others, litStep, errStep, varStep, lazyStep, ifStep, binStep, relStep, unStep, getStep, hasStep, pathStep, setStep, recStep, pathOf, steps}
 use Rattle.tpe.proofs.Outcomes.{RowFine, GiveFine, words-row, words-formed, words-short}
 use Rattle.tpe.proofs.Reach.{asks}
-use Rattle.tpe.proofs.Stands.{Hold, values, env-is, Room, tys, nodes, ty, Is, is-as, lit-is, err-is, left-is, drop-here, make-asked}
+use Rattle.tpe.proofs.Stands.{Hold, values, same-sheet, env-is, Room, tys, nodes, ty, Is, is-as, lit-is, err-is, left-is, drop-here, make-asked}
 use Rattle.tpe.proofs.Operations.{sch, env, un-is, get-is, has-is, bin-is, rel-is}
 use Rattle.tpe.proofs.Logic.{Works, then-more, and-is, or-is}
 use Rattle.tpe.proofs.Branches.{if-is}
@@ -144,7 +143,7 @@ module _ (m : Mode) (sheet a₀ : List ℕ) (kinds : (k : ℕ) → Listed (tys s
   module _ (e : tag r - firstNode ≡ VAR - firstNode) (room : Room 1 a l) where
     asked-as : (g : Give) → env m sheet a₀ .request (varOf (at r 1)) ≡ some g → asks a .request (varOf (at r 1)) ≡ some g
     unfolding nEnv
-    asked-as g q = ap (λ (s : State). given s (varOf (at r 1))) (held-same [] a₀ a [] [] (h .same) refl) ∙ q
+    asked-as g q = ap (λ (s : State). given s (varOf (at r 1))) (same-sheet [] a₀ a h) ∙ q
 
     var-by : (o : Option Give) → env m sheet a₀ .request (varOf (at r 1)) ≡ o → ((g : Give) → o ≡ some g → GiveFine g)
         → Is sheet a₀ (suc d) 1 a l (nVar (sch m sheet a₀) (env m sheet a₀) T (var T (varOf (at r 1))) o (values a)) (varFor m sheet a l c (at r 0) o)

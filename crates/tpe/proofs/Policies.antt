@@ -10,11 +10,12 @@ use Rattle.cedar.specs.Response.{Effect}
 use Rattle.cedar.specs.Rows.{Row}
 use Rattle.cedar.specs.Numbered.{Out, nInterpret}
 use Rattle.cedar.specs.Runs.{NVerdict, Run, nRun, thenRun}
-use Rattle.sheet.specs.Forms.{Mode, at, POLICY}
+use Rattle.sheet.specs.Forms.{Mode, at}
 use Rattle.sheet.specs.Content.{numberedPolicies, effectOf}
 use Rattle.sheet.specs.Answer.{size}
 use Rattle.sheet.proofs.MadeCount.{policySizes}
-use Rattle.table.specs.Layout.{rowsOf}
+use Rattle.sheet.proofs.OnTerm.{Each, none, more}
+use Rattle.table.specs.Layout.{RUN, rowsOf}
 use Rattle.residual.specs.Trees.{Ress, rnil, rcons, flat, flats, treesOf, Wholes, whole-none, whole-more}
 use Rattle.residual.proofs.Meaning.{rows-are}
 use Rattle.tpe.specs.Run.{O, Rec, Line, Ran, thenRan, ranFrom}
@@ -66,34 +67,32 @@ module _ (m : Mode) (sheet a₀ : List ℕ) where
     }
 
   module _ (trs : List (Node ℕ)) (P : List Row → Type 0) (d : ℕ) (deep : d ≤ 64) (f : Rec) where
-    -- the nodes of the policies work, and keep P
-    abbrev pub AllWork : List (List ℕ) → Type 0
-    AllWork [] = Unit {0}
-    AllWork (r ∷ rs) =
-        (Works m sheet a₀ P d (size (getD trs (at r 2) (err tbool))) f (at r 2) (nInterpret (sch m sheet a₀) (env m sheet a₀) (getD trs (at r 2) (err tbool)))
-        × ((R : List Row) → P R → P (nInterpret (sch m sheet a₀) (env m sheet a₀) (getD trs (at r 2) (err tbool)) R .rows)))
-        × AllWork rs
+    -- the node of a policy works, and keeps P
+    abbrev pub PolicyWorks : List ℕ → Type 0
+    PolicyWorks r =
+        Works m sheet a₀ P d (size (getD trs (at r 2) (err tbool))) f (at r 2) (nInterpret (sch m sheet a₀) (env m sheet a₀) (getD trs (at r 2) (err tbool)))
+        × ((R : List Row) → P R → P (nInterpret (sch m sheet a₀) (env m sheet a₀) (getD trs (at r 2) (err tbool)) R .rows))
 
     abbrev outAt : List ℕ → List ℕ → Out
     outAt r a = nInterpret (sch m sheet a₀) (env m sheet a₀) (getD trs (at r 2) (err tbool)) (values a)
 
-    -- the policies rs, of which the first is number i
-    pub ran-is : (rs : List (List ℕ)) → AllWork rs → (i : ℕ) → drop i (rowsOf a₀ POLICY) ≡ rs → (a l : List ℕ) → Hold a₀ a → P (values a) → Room (policySizes (numberedPolicies trs rs)) a l
+    -- the policies rs, of which the first is number i of those that run
+    pub ran-is : (rs : List (List ℕ)) → Each PolicyWorks rs → (i : ℕ) → drop i (rowsOf a₀ RUN) ≡ rs → (a l : List ℕ) → Hold a₀ a → P (values a) → Room (policySizes (numberedPolicies trs rs)) a l
         → RunIs d l (nRun (sch m sheet a₀) (env m sheet a₀) (numberedPolicies trs rs) (values a)) (ranFrom f i (length rs) a l)
     unfolding ranFrom flats treesOf
-    ran-is [] w i z a l h good room = record { ress = rnil; log = sym (append-nil l); trees = refl; wholes = whole-none; rows = refl; hold = h; lines = refl }
-    ran-is (r ∷ rs) w i z a l h good room =
-        let e : getD (rowsOf a POLICY) i [] ≡ r = ap (λ (q : List (List ℕ)). getD q i []) (h .same POLICY (omega arith)) ∙ drop-here [] (rowsOf a₀ POLICY) i r rs z .0 in
+    ran-is [] none i z a l h good room = record { ress = rnil; log = sym (append-nil l); trees = refl; wholes = whole-none; rows = refl; hold = h; lines = refl }
+    ran-is (r ∷ rs) (more w ws) i z a l h good room =
+        let e : getD (rowsOf a RUN) i [] ≡ r = ap (λ (q : List (List ℕ)). getD q i []) (h .same RUN (omega arith)) ∙ drop-here [] (rowsOf a₀ RUN) i r rs z .0 in
         subst (λ (q : List ℕ). RunIs d l (nRun (sch m sheet a₀) (env m sheet a₀) (numberedPolicies trs (r ∷ rs)) (values a)) (thenRan (f a l (at q 2)) (ranFrom f (suc i) (length rs)))) (sym e)
-        (go (w .0 .0 a l h good (record { top = omega (arith, room .top); few = omega (arith, room .few); log = omega (arith, room .log) }))
-        (λ b j k p e. ran-is rs (w .1) (suc i) (drop-here [] (rowsOf a₀ POLICY) i r rs z .1) b j k p e))
+        (go (w .0 a l h good (record { top = omega (arith, room .top); few = omega (arith, room .few); log = omega (arith, room .log) }))
+        (λ b j k p e. ran-is rs ws (suc i) (drop-here [] (rowsOf a₀ RUN) i r rs z .1) b j k p e))
       where
         go : Is sheet a₀ d (size (getD trs (at r 2) (err tbool))) a l (outAt r a) (f a l (at r 2))
             → ((b j : List ℕ) → Hold a₀ b → P (values b) → Room (policySizes (numberedPolicies trs rs)) b j → RunIs d j (nRun (sch m sheet a₀) (env m sheet a₀) (numberedPolicies trs rs) (values b)) (ranFrom f (suc i) (length rs) b j))
             → RunIs d l (thenRun (sch m sheet a₀) (env m sheet a₀) (effectOf (at r 1)) (outAt r a) (nRun (sch m sheet a₀) (env m sheet a₀) (numberedPolicies trs rs))) (thenRan (f a l (at r 2)) (ranFrom f (suc i) (length rs)))
         go x ih = then-run deep x (effectOf (at r 1)) (nRun (sch m sheet a₀) (env m sheet a₀) (numberedPolicies trs rs)) (ranFrom f (suc i) (length rs))
             (subst (λ (R : List Row). RunIs d (f a l (at r 2) .log) (nRun (sch m sheet a₀) (env m sheet a₀) (numberedPolicies trs rs) R) (ranFrom f (suc i) (length rs) (f a l (at r 2) .words) (f a l (at r 2) .log))) (x .rows)
-            (ih (f a l (at r 2) .words) (f a l (at r 2) .log) (x .hold) (subst P (sym (x .rows)) (w .0 .1 (values a) good))
+            (ih (f a l (at r 2) .words) (f a l (at r 2) .log) (x .hold) (subst P (sym (x .rows)) (w .1 (values a) good))
             (record {
               top = omega (arith, room .top, x .top);
               few = omega (arith, room .few, x .few);

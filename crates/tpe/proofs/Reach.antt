@@ -31,7 +31,7 @@ reach-start a = let m = missing-most (asks a) (rowsIn (valueLines a)) in omega (
 
 module _ (a q : List ℕ) (i : Interning a q) where
   asks-kept : asks (withValue a q) ≡ asks a
-  asks-kept = ap (nEnv partial) (held-same [] a (withValue a q) [] [] (i .kept .others) refl)
+  asks-kept = ap (nEnv partial) (held-same [] a (withValue a q) [] [] (λ k lt. i .kept .others k (omega (arith, lt))) refl)
 
   missing-now : missing (asks (withValue a q)) (rowsIn (valueLines (withValue a q))) ≡ missing (asks a) (intern (rowsIn (valueLines a)) (valueRow q) .rows)
   missing-now = ap₂ missing asks-kept (i .rows)

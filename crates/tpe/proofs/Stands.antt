@@ -15,7 +15,7 @@ use Rattle.cedar.specs.Types.{Ty, Var}
 use Rattle.cedar.specs.Residual.{Node, lit, err, tyOf, canErr, view}
 use Rattle.cedar.specs.Rows.{Row}
 use Rattle.cedar.specs.Numbered.{Out, out, make, made as mk}
-use Rattle.sheet.specs.Forms.{Mode, NODE, noKey}
+use Rattle.sheet.specs.Forms.{Mode, NODE}
 use Rattle.sheet.specs.State.{State, valueRow}
 use Rattle.sheet.specs.Content.{types, rowsIn, schema, nEnv}
 use Rattle.table.specs.Layout.{rowsOf, held, MADE, TOP, heap, Sound}
@@ -39,27 +39,31 @@ drop-here d (y ∷ l) (suc i) x q e = drop-here d l i x q e
 
 -- ---- the words
 
--- the sheet's rows are those of a₀, and the values are as they should be
+-- the rows of the sheet and of the policies that run are those of a₀, and the values are as they should be
 pub record Hold (a₀ a : List ℕ) : Type 0 where
   pub sound : Sound a
   pub formed : Formeds (valueLines a)
-  pub same : (k : ℕ) → k < noKey → rowsOf a k ≡ rowsOf a₀ k
+  pub same : (k : ℕ) → k < MADE → rowsOf a k ≡ rowsOf a₀ k
 
 abbrev pub values : List ℕ → List Row
 values a = rowsIn (valueLines a)
 
+-- the words hold the same sheet
+pub same-sheet : (sheet a₀ a : List ℕ) → Hold a₀ a → held sheet a [] ≡ held sheet a₀ []
+same-sheet sheet a₀ a h = held-same sheet a₀ a [] [] (λ k lt. h .same k (omega (arith, lt))) refl
+
 module _ (m : Mode) (sheet a₀ a : List ℕ) (h : Hold a₀ a) where
   pub schema-is : schemaIn m sheet a ≡ schema (held sheet a₀ [])
   unfolding schemaIn
-  schema-is = ap schema (held-same sheet a₀ a [] [] (h .same) refl)
+  schema-is = ap schema (same-sheet sheet a₀ a h)
 
   pub types-are : (y : ℕ) → tyIn m sheet a y ≡ tyAt (types (held sheet a₀ [])) (rowsOf a₀ NODE) y
   unfolding tyIn
-  types-are y = ap (λ (s : State). tyAt (types s) (rowsOf a₀ NODE) y) (held-same sheet a₀ a [] [] (h .same) refl)
+  types-are y = ap (λ (s : State). tyAt (types s) (rowsOf a₀ NODE) y) (same-sheet sheet a₀ a h)
 
   pub env-is : envIn m sheet a ≡ nEnv m (held [] a₀ [])
   unfolding envIn
-  env-is = ap (nEnv m) (held-same [] a₀ a [] [] (h .same) refl)
+  env-is = ap (nEnv m) (same-sheet [] a₀ a h)
 
 -- ---- room
 

@@ -1,4 +1,5 @@
 pub mod Run
+pub mod Fits
 pub mod Classes
 pub mod Leaves
 pub mod Steps

@@ -16,9 +16,9 @@ use Rattle.cedar.specs.Rows.{Entries, stop, entry, Row, rbool, rlong, rtext, re
 use Rattle.cedar.specs.Numbered.{Give, made, old, NEnv, rowAt, rBool, NOut, give, fails, stays, isSome, entryOf, nUn, nBin, nRel, onEntries, nGet, nHas}
 use Rattle.forms.specs.Tags.{ENTITY-TYPE, LONG-VALUE, TEXT-VALUE, SET-VALUE, RECORD-VALUE}
 use Rattle.sheet.specs.Bytes.{half}
-use Rattle.sheet.specs.Forms.{Mode, tag, items, at, firstNode, TYPE, NODE, POLICY}
+use Rattle.sheet.specs.Forms.{Mode, tag, items, at, firstNode, TYPE, NODE}
 use Rattle.sheet.specs.Content.{types, rowsIn, schema, nEnv, varOf, patternOf}
-use Rattle.table.specs.Layout.{rowsOf, held}
+use Rattle.table.specs.Layout.{RUN, rowsOf, held}
 use Rattle.value.specs.Lines.{valueLines, placeOf}
 use Rattle.value.specs.Made.{boolRow, entityRow, numberOf, withValue, setRow, recordRow, written}
 use Rattle.residual.specs.Rows.{litRow, errRow, leftRow, wordAt, stageAt}
@@ -400,7 +400,7 @@ thenRan o k = let t = k (o .words) (o .log) in record { words = t .words; log = 
 -- k policies, from number i on
 unfoldable pub ranFrom : Rec → ℕ → ℕ → List ℕ → List ℕ → Ran
 ranFrom f i zero a l = record { words = a; log = l; lines = [] }
-ranFrom f i (suc k) a l = thenRan (f a l (at (getD (rowsOf a POLICY) i []) 2)) (ranFrom f (suc i) k)
+ranFrom f i (suc k) a l = thenRan (f a l (at (getD (rowsOf a RUN) i []) 2)) (ranFrom f (suc i) k)
 
 unfoldable pub runOf : Mode → List ℕ → List ℕ → List ℕ → Ran
-runOf m sheet a l = ranFrom (interpOf m sheet 64) 0 (getD a POLICY 0) a l
+runOf m sheet a l = ranFrom (interpOf m sheet 64) 0 (getD a RUN 0) a l

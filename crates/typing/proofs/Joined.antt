@@ -357,8 +357,10 @@ module _ (sheet a c r : List ℕ) where
       ∷ actionAt a own
       ∷ not (actionAt a own)
       ∷ context-as i
+      ∷ true
       ∷ getD (rules-as i) (tag r - firstNode) false
       ∷ sort-bool (T (K 3)) i
+      ∷ true
       ∷ []) k false
 
 pub typed-is : (a m n r : List ℕ) (k : ℕ) (b : Bool) → Answered a m n (typedRule a r k) b → Typed a m n r k b

@@ -5,10 +5,10 @@ use mathlib.Core.List.{List, [], _∷_}
 use mathlib.Core.Option.{none, some}
 use Prim.Native.Nat.{ℕ, zero, suc, _+_, _-_, _≤_, _<_}
 use native.Mathlib.Omega.{arith}
-use borrow.Author.Tests.{eq-eqb, ne-eqb, not-true, not-false, lt-leb, le-ltb}
-use lib.Dec.{eqb, ltb, leb}
+use borrow.Author.Tests.{eq-eqb, ne-eqb, not-true, not-false, le-ltb}
+use lib.Dec.{eqb, ltb}
 use lib.ListN.{length, getD, drop, drop-of-length-le}
-use Rattle.sheet.specs.Forms.{tag, mark, firstNode, SHAPE, VALUE, ENTITY, PRINCIPAL, ACTION, RESOURCE, CONTEXT, NODE, POLICY}
+use Rattle.sheet.specs.Forms.{tag, mark, firstNode, SHAPE, VALUE, ENTITY, PRINCIPAL, ACTION, RESOURCE, CONTEXT, NODE, POLICY, noKey}
 use Rattle.forms.specs.Tags.{LONG-VALUE, ENTITY-VALUE, SET-VALUE, RECORD-VALUE}
 use Rattle.sheet.specs.State.{entriesOf, valueRow}
 use Rattle.sheet.specs.Typing.{allIn, allEntries, isStop}
@@ -246,7 +246,7 @@ module _ (a r : List ℕ) (k : ℕ) where
     line-node h q = rw h q
 
 -- the keys whose lines need no typing, and numbers that are no key
-pub key-free : (a r : List ℕ) (k : ℕ) → (k ≡ ENTITY → ⊥) × (k ≡ CONTEXT → ⊥) × (k ≡ NODE → ⊥) → (k ≡ SHAPE → ⊥) → (k ≡ PRINCIPAL → ⊥) → (k ≡ ACTION → ⊥) → (k ≡ RESOURCE → ⊥) → (k ≡ POLICY → ⊥) → leb k POLICY ≡ typedRule a r k
+pub key-free : (a r : List ℕ) (k : ℕ) → (k ≡ ENTITY → ⊥) × (k ≡ CONTEXT → ⊥) × (k ≡ NODE → ⊥) → (k ≡ SHAPE → ⊥) → (k ≡ PRINCIPAL → ⊥) → (k ≡ ACTION → ⊥) → (k ≡ RESOURCE → ⊥) → (k ≡ POLICY → ⊥) → ltb k noKey ≡ typedRule a r k
 unfolding typedRule
 key-free a r zero n n-shape n-principal n-action n-resource n-policy = refl
 key-free a r (suc zero) n n-shape n-principal n-action n-resource n-policy = refl
@@ -259,6 +259,8 @@ key-free a r (suc (suc (suc (suc (suc (suc (suc zero))))))) n n-shape n-principa
 key-free a r (suc (suc (suc (suc (suc (suc (suc (suc zero)))))))) n n-shape n-principal n-action n-resource n-policy = absurd (n-action refl)
 key-free a r (suc (suc (suc (suc (suc (suc (suc (suc (suc zero))))))))) n n-shape n-principal n-action n-resource n-policy = absurd (n-resource refl)
 key-free a r (suc (suc (suc (suc (suc (suc (suc (suc (suc (suc zero)))))))))) n n-shape n-principal n-action n-resource n-policy = absurd (n .1 refl)
-key-free a r (suc (suc (suc (suc (suc (suc (suc (suc (suc (suc (suc zero))))))))))) n n-shape n-principal n-action n-resource n-policy = absurd (n .2 refl)
-key-free a r (suc (suc (suc (suc (suc (suc (suc (suc (suc (suc (suc (suc zero)))))))))))) n n-shape n-principal n-action n-resource n-policy = absurd (n-policy refl)
-key-free a r (suc (suc (suc (suc (suc (suc (suc (suc (suc (suc (suc (suc (suc k))))))))))))) n n-shape n-principal n-action n-resource n-policy = lt-leb (suc (suc (suc (suc (suc (suc (suc (suc (suc (suc (suc (suc (suc k))))))))))))) POLICY (omega arith)
+key-free a r (suc (suc (suc (suc (suc (suc (suc (suc (suc (suc (suc zero))))))))))) n n-shape n-principal n-action n-resource n-policy = refl
+key-free a r (suc (suc (suc (suc (suc (suc (suc (suc (suc (suc (suc (suc zero)))))))))))) n n-shape n-principal n-action n-resource n-policy = absurd (n .2 refl)
+key-free a r (suc (suc (suc (suc (suc (suc (suc (suc (suc (suc (suc (suc (suc zero))))))))))))) n n-shape n-principal n-action n-resource n-policy = absurd (n-policy refl)
+key-free a r (suc (suc (suc (suc (suc (suc (suc (suc (suc (suc (suc (suc (suc (suc zero)))))))))))))) n n-shape n-principal n-action n-resource n-policy = refl
+key-free a r (suc (suc (suc (suc (suc (suc (suc (suc (suc (suc (suc (suc (suc (suc (suc k))))))))))))))) n n-shape n-principal n-action n-resource n-policy = le-ltb (suc (suc (suc (suc (suc (suc (suc (suc (suc (suc (suc (suc (suc (suc (suc k))))))))))))))) noKey (omega arith)

@@ -247,8 +247,10 @@ module _ (a : List ℕ) where
       ∷ actionAt a (getD r 1 0)  -- action
       ∷ not (actionAt a (getD r 1 0))  -- resource
       ∷ contextRule a r  -- context
+      ∷ true  -- day
       ∷ nodeRule a r (tag r - firstNode)  -- node
       ∷ policyRule a r  -- policy
+      ∷ true  -- term
       ∷ []) k false
 
 -- ---- the promise

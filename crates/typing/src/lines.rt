@@ -17,6 +17,7 @@ use forms::CONTEXT;
 use forms::ENTITY;
 use forms::ENTITY_VALUE;
 use forms::MARK;
+use forms::NO_KEY;
 use forms::NODE;
 use forms::POLICY;
 use forms::PRINCIPAL;
@@ -186,7 +187,7 @@ fn key_typed(rows: &[u32], line: &[u32], key: usize) -> bool
         ACTION => is_action(rows, item(line, 1)),
         RESOURCE => !is_action(rows, item(line, 1)),
         POLICY => policy_typed(rows, line),
-        _ => key <= POLICY,
+        _ => key < NO_KEY,
     }
 }
 

@@ -1,5 +1,5 @@
 -- `authorizer::answered` meets its contract. Assumes nothing.
-use Rattle.authorizer.proofs.Answering.{too-long, refused, partial-when, complete-when}
+use Rattle.authorizer.proofs.Answering.{too-long, refused, choosable, partial-when, complete-when}
 use borrow.Author.Needs.{needs}
 use Rattle.authorizer.proofs.answered.Statement.{statement}
 use Rattle.authorizer.proofs.answered.Tie as tie
@@ -16,6 +16,9 @@ returns-3 c = search (partial-when, needs)
 returns-4 : tie.Need-returns-4
 returns-4 c = search (complete-when, needs)
 
+choose-requires : tie.Need-choose-requires
+choose-requires c = search (choosable, needs)
+
 pub answered-spec : {M : Type 1} → statement M
 answered-spec =
     tie.close
@@ -25,6 +28,7 @@ answered-spec =
     (λ c. search needs)
     (λ c. search needs)
     returns-2
+    choose-requires
     (λ c κs. search needs)
     (λ c. search needs)
     (λ c. search needs)

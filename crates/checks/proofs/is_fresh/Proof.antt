@@ -1,6 +1,6 @@
 -- `checks::is_fresh` meets its contract. Assumes nothing.
 use native.Mathlib.Omega.{arith}
-use Rattle.checks.proofs.FoundLaws.{fresh-type, fresh-value, fresh-kind, fresh-policy, fresh-entity, fresh-other, fresh-node}
+use Rattle.checks.proofs.FoundLaws.{fresh-type, fresh-value, fresh-kind, fresh-policy, fresh-entity, fresh-term, fresh-other, fresh-node}
 use Rattle.checks.proofs.SearchLaws.{keyed-row}
 use borrow.Author.Needs.{needs}
 use Rattle.checks.proofs.is_fresh.Statement.{statement}
@@ -25,7 +25,10 @@ returns-6 : tie.Need-returns-6
 returns-6 c = search (fresh-entity, needs)
 
 returns-7 : tie.Need-returns-7
-returns-7 c = search (fresh-other, needs)
+returns-7 c = search (fresh-term, needs)
+
+returns-8 : tie.Need-returns-8
+returns-8 c = search (fresh-other, needs)
 
 is-row-requires : tie.Need-is-row-requires
 is-row-requires c κs = let s = c .before .before .before .before in keyed-row (s .args .line .now) (s .args .key) (s .pre .1) (omega arith)
@@ -48,6 +51,8 @@ is-fresh-spec =
     (λ c κs. search needs)
     (λ c κs. search needs)
     returns-5
-    (λ c κs. search needs)
+    (λ c κs. (λ q. absurd (omega arith), omega arith))
     returns-6
-    returns-7)
+    (λ c κs. search needs)
+    returns-7
+    returns-8)

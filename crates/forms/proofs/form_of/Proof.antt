@@ -8,9 +8,9 @@ use borrow.Author.Needs.{needs}
 use Rattle.forms.proofs.form_of.Statement.{statement}
 use Rattle.forms.proofs.form_of.Tie as tie
 
-returns-51 : tie.Need-returns-51
+returns-53 : tie.Need-returns-53
 unfolding code coded below
-returns-51 c = c .plain43 .ensures ∙ row-out (c .before .before .args .tag) (c .before .match .rest)
+returns-53 c = c .plain45 .ensures ∙ row-out (c .before .before .args .tag) (c .before .match .rest)
 
 pub form-of-spec : {M : Type 1} → statement M
 unfolding forms formOf code coded
@@ -68,6 +68,8 @@ form-of-spec =
     (λ c κs. search needs)
     (λ c κs. search needs)
     (λ c κs. search needs)
+    (λ c κs. search needs)
+    (λ c κs. search needs)
     (λ c. search (of-row rowAt, needs))
     (λ c. search (of-row rowAt, needs))
     (λ c. search (of-row rowAt, needs))
@@ -118,4 +120,6 @@ form-of-spec =
     (λ c. search (of-row rowAt, needs))
     (λ c. search (of-row rowAt, needs))
     (λ c. search (of-row rowAt, needs))
-    returns-51)
+    (λ c. search (of-row rowAt, needs))
+    (λ c. search (of-row rowAt, needs))
+    returns-53)

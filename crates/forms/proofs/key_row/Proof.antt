@@ -8,9 +8,9 @@ use borrow.Author.Needs.{needs}
 use Rattle.forms.proofs.key_row.Statement.{statement}
 use Rattle.forms.proofs.key_row.Tie as tie
 
-returns-15 : tie.Need-returns-15
+returns-18 : tie.Need-returns-18
 unfolding below
-returns-15 c = c .of-key15 .ensures ∙ key-out (c .before .before .args .key) (c .before .match .rest)
+returns-18 c = c .of-key18 .ensures ∙ key-out (c .before .before .args .key) (c .before .match .rest)
 
 pub key-row-spec : {M : Type 1} → statement M
 unfolding keyed base bases limit tagOf forms
@@ -32,6 +32,9 @@ key-row-spec =
     (λ c κs. search needs)
     (λ c κs. search needs)
     (λ c κs. search needs)
+    (λ c κs. search needs)
+    (λ c κs. search needs)
+    (λ c κs. search needs)
     (λ c. search (of-row keyed, needs))
     (λ c. search (of-row keyed, needs))
     (λ c. search (of-row keyed, needs))
@@ -46,4 +49,7 @@ key-row-spec =
     (λ c. search (of-row keyed, needs))
     (λ c. search (of-row keyed, needs))
     (λ c. search (of-row keyed, needs))
-    returns-15)
+    (λ c. search (of-row keyed, needs))
+    (λ c. search (of-row keyed, needs))
+    (λ c. search (of-row keyed, needs))
+    returns-18)

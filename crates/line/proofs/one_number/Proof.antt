@@ -1,5 +1,5 @@
 -- `line::one_number` meets its contract. Assumes nothing.
-use Rattle.line.proofs.LawsItem.{star-or, dash-or, unknown-partial, unknown-complete, line-index, slot-entry, slot-kind, slot-field, slot-bit, slot-part, slot-effect, slot-none}
+use Rattle.line.proofs.LawsItem.{star-or, dash-or, unknown-partial, unknown-complete, line-index, slot-entry, slot-kind, slot-field, slot-bit, slot-part, slot-effect, slot-date, slot-none}
 use borrow.Author.Needs.{needs}
 use Rattle.line.proofs.one_number.Statement.{statement}
 use Rattle.line.proofs.one_number.Tie as tie
@@ -38,7 +38,10 @@ returns-11 : tie.Need-returns-11
 returns-11 c = search (slot-effect, needs)
 
 returns-12 : tie.Need-returns-12
-returns-12 c = search (slot-none, needs)
+returns-12 c = search (slot-date, needs)
+
+returns-13 : tie.Need-returns-13
+returns-13 c = search (slot-none, needs)
 
 pub one-number-spec : {M : Type 1} → statement M
 one-number-spec =
@@ -66,10 +69,12 @@ one-number-spec =
     (λ c κs. search needs)
     (λ c κs. search needs)
     (λ c κs. search needs)
+    (λ c κs. search needs)
     returns-6
     returns-7
     returns-8
     returns-9
     returns-10
     returns-11
-    returns-12)
+    returns-12
+    returns-13)

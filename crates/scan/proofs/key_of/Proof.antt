@@ -46,11 +46,19 @@ returns-9 c = ap (λ (w : List ℕ). wordNumber w keys) (c .before .word-of .ens
 
 returns-10 : tie.Need-returns-10
 unfolding keys
-returns-10 c = ap (λ (w : List ℕ). wordNumber w keys) (c .before .word-of .ensures .only (ascii "node") refl (c .match .keys10))
+returns-10 c = ap (λ (w : List ℕ). wordNumber w keys) (c .before .word-of .ensures .only (ascii "day") refl (c .match .keys10))
 
 returns-11 : tie.Need-returns-11
 unfolding keys
-returns-11 c = ap (λ (w : List ℕ). wordNumber w keys) (c .before .word-of .ensures .only (ascii "policy") refl (c .match .keys11))
+returns-11 c = ap (λ (w : List ℕ). wordNumber w keys) (c .before .word-of .ensures .only (ascii "node") refl (c .match .keys11))
+
+returns-12 : tie.Need-returns-12
+unfolding keys
+returns-12 c = ap (λ (w : List ℕ). wordNumber w keys) (c .before .word-of .ensures .only (ascii "policy") refl (c .match .keys12))
+
+returns-13 : tie.Need-returns-13
+unfolding keys
+returns-13 c = ap (λ (w : List ℕ). wordNumber w keys) (c .before .word-of .ensures .only (ascii "term") refl (c .match .keys13))
 
 pub key-of-spec : {M : Type 1} → statement M
 key-of-spec =
@@ -69,4 +77,6 @@ key-of-spec =
     returns-9
     returns-10
     returns-11
+    returns-12
+    returns-13
     (λ c. search needs))

@@ -1,6 +1,6 @@
 -- `response::runs::send_complete` meets its contract. Assumes nothing.
+use Rattle.table.specs.Layout.{RUN}
 use Rattle.response.proofs.Sending.{send-short, send-whole}
-use Rattle.sheet.specs.Forms.{POLICY}
 use Rattle.response.specs.Printed.{completeBytes}
 use Rattle.response.proofs.Lengths.{complete-counted}
 use borrow.Author.Needs.{needs}
@@ -13,7 +13,7 @@ returns c =
     let a = s .args .rows .now in
     let cs = s .args .classes .now in
     let w = c .before .before .before .complete in
-    send-short (completeBytes a cs) (s .args .out .now) (w .last .0) (w .result) (w .ensures) (complete-counted a cs (c .before .before .before .before .before .before .shared-slice-known .given POLICY .fits)) (c .if1 .taken)
+    send-short (completeBytes a cs) (s .args .out .now) (w .last .0) (w .result) (w .ensures) (complete-counted a cs (c .before .before .before .before .before .before .shared-slice-known .given RUN .fits)) (c .if1 .taken)
 
 returns-2 : tie.Need-returns-2
 returns-2 c =
@@ -22,7 +22,7 @@ returns-2 c =
     let cs = s .args .classes .now in
     let w = c .before .before .before .before .before .before .before .complete in
     let v = c .before .before .complete2 in
-    send-whole (completeBytes a cs) (s .args .out .now) (w .last .0) (w .result) (w .ensures) (complete-counted a cs (c .before .before .before .before .before .before .before .before .before .before .shared-slice-known .given POLICY .fits)) (v .last .0) (v .result) (c .before .before .before .before .if1 .left) (v .ensures)
+    send-whole (completeBytes a cs) (s .args .out .now) (w .last .0) (w .result) (w .ensures) (complete-counted a cs (c .before .before .before .before .before .before .before .before .before .before .shared-slice-known .given RUN .fits)) (v .last .0) (v .result) (c .before .before .before .before .if1 .left) (v .ensures)
 
 pub send-complete-spec : {M : Type 1} → statement M
 send-complete-spec =

@@ -1,6 +1,5 @@
 -- `response::runs::send_partial` meets its contract. Assumes nothing.
-use Rattle.sheet.specs.Forms.{POLICY}
-use Rattle.table.specs.Layout.{MADE}
+use Rattle.table.specs.Layout.{RUN, MADE}
 use Rattle.response.specs.Printed.{partialBytes}
 use Rattle.response.proofs.Lengths.{partial-counted}
 use Rattle.response.proofs.Sending.{send-short, send-whole}
@@ -17,7 +16,7 @@ returns c =
     let es = s .args .roots .now in
     let w = c .before .before .before .partial in
     let g = c .before .before .before .before .before .before .before .before .shared-slice-known in
-    send-short (partialBytes a l cs es) (s .args .out .now) (w .last .0) (w .result) (w .ensures) (partial-counted a l cs es (s .pre .0) (s .pre .1) (g .given POLICY .fits) (g .given MADE .fits)) (c .if1 .taken)
+    send-short (partialBytes a l cs es) (s .args .out .now) (w .last .0) (w .result) (w .ensures) (partial-counted a l cs es (s .pre .0) (s .pre .1) (g .given RUN .fits) (g .given MADE .fits)) (c .if1 .taken)
 
 returns-2 : tie.Need-returns-2
 returns-2 c =
@@ -29,7 +28,7 @@ returns-2 c =
     let w = c .before .before .before .before .before .before .before .partial in
     let g = c .before .before .before .before .before .before .before .before .before .before .before .before .shared-slice-known in
     let v = c .before .before .partial2 in
-    send-whole (partialBytes a l cs es) (s .args .out .now) (w .last .0) (w .result) (w .ensures) (partial-counted a l cs es (s .pre .0) (s .pre .1) (g .given POLICY .fits) (g .given MADE .fits)) (v .last .0) (v .result) (c .before .before .before .before .if1 .left) (v .ensures)
+    send-whole (partialBytes a l cs es) (s .args .out .now) (w .last .0) (w .result) (w .ensures) (partial-counted a l cs es (s .pre .0) (s .pre .1) (g .given RUN .fits) (g .given MADE .fits)) (v .last .0) (v .result) (c .before .before .before .before .if1 .left) (v .ensures)
 
 pub send-partial-spec : {M : Type 1} → statement M
 send-partial-spec =

@@ -1,0 +1,29 @@
+-- `running::run_row` meets its contract. Assumes nothing.
+use Rattle.running.proofs.Runs.{run-few, run-is}
+use borrow.Author.Needs.{needs}
+use Rattle.running.proofs.run_row.Statement.{statement}
+use Rattle.running.proofs.run_row.Tie as tie
+
+add-row-requires : tie.Need-add-row-requires
+add-row-requires c κs = search (run-few, needs)
+
+returns : tie.Need-returns
+returns c = search (run-is, needs)
+
+pub run-row-spec : {M : Type 1} → statement M
+run-row-spec =
+    tie.close
+    (tie.spec
+    (λ c κs. search needs)
+    (λ c κs. search needs)
+    (λ c κs. search needs)
+    (λ c κs. search needs)
+    (λ c κs. search needs)
+    (λ c κs. search needs)
+    (λ c. search needs)
+    (λ c. search needs)
+    (λ c κs. search needs)
+    (λ c. search needs)
+    add-row-requires
+    (λ c. search needs)
+    returns)
