@@ -1,9 +1,9 @@
 -- The known sheets of document 01 and some others, from bytes to bytes, as theorems by computation. As there, `/` is a line end.
 use mathlib.Core.Path.{_≡_, refl}
-use mathlib.Core.Bool.{cond}
+use mathlib.Core.Bool.{Bool, true, cond, _&&_}
 use mathlib.Core.Option.{none, some}
 use mathlib.Core.List.{List, [], _∷_, _++_}
-use Prim.Native.Nat.{ℕ, zero, suc, _+_}
+use Prim.Native.Nat.{ℕ, zero, suc, _+_, _*_}
 use Prim.Native.String.{String}
 use lib.Dec.{eqb}
 use lib.ListN.{replicate}
@@ -15,7 +15,7 @@ use Rattle.sheet.specs.Content.{types, valueRows, contents, schema, tree
 use Rattle.sheet.specs.Answer.{run, results, answer, printed, numbers}
 use Rattle.sheet.specs.Call.{Returned, returned}
 use Rattle.cedar.specs.Canonical.{order, same, place, insert, ascending, makeSet}
-use Rattle.sheet.specs.Bytes.{date, daysIn}
+use Rattle.sheet.specs.Bytes.{date, daysIn, isDate}
 use Rattle.sheet.specs.State.{sum}
 
 abbrev pub lineEnds : List ℕ → List ℕ
@@ -137,6 +137,22 @@ daysFrom y (suc n) = sum (daysIn y 1 ∷ daysIn y 2 ∷ daysIn y 3 ∷ daysIn y 
 
 days-in-range : daysFrom 1900 300 ≡ 109573
 days-in-range = refl
+
+-- each of them is a date: the days of a month from the first to the last, the months of a year, the years
+abbrev allDays : ℕ → ℕ → Bool
+allDays n zero = true
+allDays n (suc d) = isDate (n + suc d) && allDays n d
+
+abbrev allMonths : ℕ → ℕ → Bool
+allMonths y zero = true
+allMonths y (suc m) = allDays (y * 10000 + suc m * 100) (daysIn y (suc m)) && allMonths y m
+
+abbrev allYears : ℕ → ℕ → Bool
+allYears y zero = true
+allYears y (suc n) = allMonths y 12 && allYears (suc y) n
+
+all-dates : allYears 1900 300 ≡ true
+all-dates = refl
 
 -- 32 kinds are taken, and a 33rd is one too many
 kinds : List ℕ
