@@ -1,5 +1,5 @@
 -- How long the answer of an accepted sheet can be: 1,048,576 bytes at most.
-use mathlib.Core.Path.{_≡_, refl, sym, _∙_, ap}
+use mathlib.Core.Path.{_≡_, refl, sym, _∙_, ap, subst}
 use mathlib.Core.Bool.{Bool, true, false, cond, not, _&&_, _||_}
 use mathlib.Core.Option.{Option, none, some}
 use mathlib.Core.List.{List, [], _∷_, _++_}
@@ -28,6 +28,7 @@ use Rattle.sheet.specs.Content.{types, valueRows, schema, nEnv, known, o
 use Rattle.sheet.specs.Call.{Accepted, room, returns, afterReading, readAs, returned}
 use Rattle.sheet.specs.Answer.{printed, concat, numbers, decisionWord, effectWord, classWord, countsOf, headLines, entryItems, valueItems, valueLines, size, sizes, sizeArgs, root, roots, argRoots, op, unTag, unItems, binTag, relTag, varNumber, patternItems, typeNumber, rowWith, treeRows, allRows, argRows, residualRows, itemOut, itemsOut, nodeItems, nodeLines, policyItems, partialLines, completeLines, ids, run, results, answer}
 use Rattle.sheet.proofs.Lines.{zero-not-suc, accepted-history}
+use Rattle.sheet.proofs.Refusals.{read-small}
 use Rattle.sheet.proofs.Limits.{most-lines}
 use Rattle.sheet.proofs.OnTerm.{on-term-few}
 use Rattle.sheet.proofs.MadeCount.{policySizes, residualSizes}
@@ -534,3 +535,20 @@ pub answer-most : (m : Mode) (sheet : List ℕ) → length sheet ≤ room → re
 answer-most m sheet h e =
     let a = answer-length m sheet (record { work₁ = room; work₂ = room; out = length (answer m (read m sheet .state)); zero-number = roomy m sheet h e }) in
     omega (arith, a)
+
+-- A BUFFER OF 1,048,576 BYTES NEVER MEETS 10: every number returned there is one of 0 to 8
+pub never-ten : (m : Mode) (work₁ work₂ out : ℕ) (sheet : List ℕ) → mostAnswer ≤ out → returned m work₁ work₂ out sheet .number ≤ 8
+unfolding returned
+never-ten m work₁ work₂ out sheet b = go (ltb work₁ room || ltb work₂ room) (ltb room (length sheet)) refl
+  where
+    after : (x k : ℕ) → read m sheet .number ≡ x → x ≤ 8 → length sheet ≤ room → afterReading m out (read m sheet .state) x k .number ≤ 8
+    after zero k q h s =
+        let a = answer-most m sheet s q in
+        let z : 0 ≤ 8 = omega arith in
+        subst (λ (c : Bool). cond c (returns 10 0 (length (answer m (read m sheet .state)))) (returns 0 0 (length (answer m (read m sheet .state)))) .number ≤ 8) (sym (le-ltb out (length (answer m (read m sheet .state))) (omega (arith, a, b)))) z
+    after (suc x) k q h s = h
+
+    go : (x y : Bool) → ltb room (length sheet) ≡ y → cond x (returns 1 0 0) (cond y (returns 2 0 0) (readAs m out (read m sheet))) .number ≤ 8
+    go true y q = omega arith
+    go false true q = omega arith
+    go false false q = after (read m sheet .number) (read m sheet .line) refl (read-small m sheet) (ltb-false room (length sheet) q)
