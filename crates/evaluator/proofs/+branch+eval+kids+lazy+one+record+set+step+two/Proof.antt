@@ -20,6 +20,7 @@ use Rattle.evaluator.proofs.+branch+eval+kids+lazy+one+record+set+step+
 use Rattle.evaluator.proofs.one.Reads as one
 use Rattle.evaluator.proofs.one.Kinds as one-kinds
 use Rattle.evaluator.proofs.+branch+eval+kids+lazy+one+record+set+step+two.Lts-one as one-lts
+use Rattle.evaluator.proofs.record.Reads as «record»
 use Rattle.evaluator.proofs.record.Kinds as record-kinds
 use Rattle.evaluator.proofs.+branch+eval+kids+lazy+one+record+set+step+two.Lts-record as record-lts
 use Rattle.evaluator.proofs.set.Reads as set
