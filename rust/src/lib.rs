@@ -50,13 +50,10 @@ use std::fmt;
 /// The words that each work slice must have.
 pub const WORDS: usize = 16384;
 
-/// The bytes of the answer buffer that an [`Evaluator`] lends.
-pub const ANSWER: usize = 1048576;
-
 /// The bytes that a sheet may have.
 pub const SHEET: usize = 16384;
 
-/// The bytes of an answer buffer that is long enough for every sheet: no answer is longer.
+/// The bytes of an answer buffer that is long enough for every sheet: no answer is longer. An [`Evaluator`] lends so many.
 pub const ANSWER: usize = 1048576;
 
 extern "C" {
