@@ -8,9 +8,10 @@
  *   1, 0, 0           a work slice has under OPENRULES_WORDS words
  *   2, 0, 0           the sheet has over OPENRULES_SHEET bytes
  *   3 to 8, line, 0   the sheet is faulty, first at that line
- *   10, 0, needed     the answer buffer is shorter than the answer
+ *   10, 0, needed     the answer buffer is shorter than the answer; one of OPENRULES_ANSWER bytes never is
  *
- * Every sheet has a line `day=yyyy-mm-dd`; the answer has nothing of a policy whose `term` line does not hold that day.
+ * Every sheet has a line `day=yyyy-mm-dd`; the answer has nothing of a policy whose `term` line does not hold that day. Where policies
+ * share a root or have slots that `link` lines fill, the answer has what is left of each policy by itself, so it may be longer than the sheet.
  *
  * After 1 the work slices are untouched, otherwise their first 16,384 words are 0 and the rest untouched. The answer
  * buffer changes only in the bytes written. Nothing is kept between calls, so calls in slices of their own may run at the same time.
@@ -36,6 +37,9 @@ extern "C" {
 
 /* The bytes that a sheet may have. */
 #define OPENRULES_SHEET 16384
+
+/* The bytes of an answer buffer that is long enough for every sheet. */
+#define OPENRULES_ANSWER 1048576
 
 /* The answer to a sheet that begins with the line `sheet=partial`. */
 uint32_t openrules_partial(const uint8_t *sheet, size_t sheet_len,

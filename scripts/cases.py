@@ -4,7 +4,7 @@
     python3 scripts/cases.py [PATTERN] [--each] [--wrong]
 
 For each sheet, or each whose name PATTERN is found in, one theorem by computation is written to target/cases/: what the definitions make of the
-sheet's bytes is the known text. One check computes all short sheets, and one each long sheet; with --each,
+sheet's bytes is the known text. One check computes all short sheets with short answers, and one each other sheet; with --each,
 one check each sheet. Three sheets are over the prover's own limit of steps: they have no verdict, which says neither that they agree nor
 that they do not. With --wrong every known text is replaced by a wrong one: each check must then fail. Nothing outside target/ is written.
 """
@@ -19,7 +19,7 @@ from sheets import HERE, known, printed
 
 TREE = os.path.join(HERE, "target", "cases")
 UNFOLD = (
-    "printedOf keys forms formOf slotAt counted tagOf rowOf keyOf refs ascendings fitsIn typed found depth fault "
+    "printedOf keys forms formOf slotAt counted tagOf rowOf keyOf refs ascendings nodesUnder fitsIn typed found depth fault "
     "more read types valueRows contents schema trees exprs onTerm nPolicies policies nEnv env run results answer returned "
     "order sameV place insert ascending makeSet"
 )
@@ -32,7 +32,7 @@ use Prim.Native.String.{String}
 use Rattle.cedar.specs.Canonical.{order, same as sameV, place, insert, ascending, makeSet}
 use Rattle.sheet.specs.Ascii.{ascii}
 use Rattle.sheet.specs.Forms.{Mode, partial, complete, keys, forms, formOf, slotAt, counted, tagOf, rowOf, keyOf, refs, ascendings}
-use Rattle.sheet.specs.Typing.{fitsIn, typed}
+use Rattle.sheet.specs.Typing.{nodesUnder, fitsIn, typed}
 use Rattle.sheet.specs.Sheet.{found, depth, fault, more, read}
 use Rattle.sheet.specs.Content.{types, valueRows, contents, schema, trees, exprs, onTerm, nPolicies, policies, nEnv, env}
 use Rattle.sheet.specs.Answer.{run, results, answer, printed, numbers}
@@ -105,10 +105,14 @@ def main(args):
         print(__doc__)
         return 2
     wrong = "--wrong" in args
-    chosen = [(i, (s, b"refused=3,77,0\n" if wrong else printed(r))) for i, (s, r) in enumerate(known()) if not words or re.search(words[0], s.name)]
-    each = "--each" in args
-    long = [[x] for x in chosen if each or len(x[1][0].bytes) > 4000]
-    short = [x for x in chosen if [x] not in long]
+    chosen, long, short = [], [], []
+    for i, (s, r) in enumerate(known()):
+        if not words or re.search(words[0], s.name):
+            chosen.append((i, (s, b"refused=3,77,0\n" if wrong else printed(r))))
+            if "--each" in args or max(len(s.bytes), r.length) > 4000:
+                long.append(chosen[-1:])
+            else:
+                short.append(chosen[-1])
     begin = time.time()
     failed = unknown = 0
     for group in ([short] if short else []) + long:

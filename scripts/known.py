@@ -9,8 +9,8 @@ each NAME.MODE.sheet of FOLDER, and those that are there already. To crates/know
 promise kept, and beside each sheet of examples/ its answer.
 
 With --host each answer must also be that of the original: HOST is the program that `cargo build --release` makes in host/. With --have,
-a list as 2.3,2.5,2.9 of the requests of document 02 that have landed, the reading is asked with these; the cases of its `cases02.py` that hold
-then are added, and from 2.9 on each sheet of `cases.py` and each probe gets a `day` line. Where an expected text, the reading and the original
+a list as 2.3,2.5,2.9,2.4 of the requests of document 02 that have landed, the reading is asked with these; the cases of its `cases02.py` that hold
+then are added, from 2.9 on each sheet of `cases.py` and each probe gets a `day` line, and from 2.4 on there are sheets whose answers are long. Where an expected text, the reading and the original
 differ, nothing is written. With --check nothing is written either: the files must be what would be written.
 """
 import os
@@ -84,6 +84,22 @@ def lent(cases, answer_length, landed):
     yield Sheet("complete, no buffer", "complete", complete, WORDS, WORDS, 0)
 
 
+def shared(cases02, landed):
+    """64 policies over one root of 16 nodes, each with its link, 1,024 uses; and answers far longer than their sheets."""
+    def sheet(nodes, root, links, **more):
+        policies = "".join("policy=%d,permit,%d/" % (10 + n, root) for n in range(64))
+        return bytes_of(cases02.world(nodes, policies, links, texts=cases02.MANY_IDS, **more))
+    if "2.4" not in landed:
+        return
+    nots = cases02.SLOT + "".join("node=0,not,%d/" % n for n in range(2, 15))
+    links = "".join("link=%d,%d,-/" % (n, 5 + n % 2) for n in range(64))
+    yield Sheet("1,024 uses", "partial", sheet(nots, 15, links, values=cases02.PEOPLE), WORDS, WORDS, LARGE)
+    request = "principal=0,?/action=1,3/resource=2,4/context=9,?/"
+    for stars in (460, 1500):
+        like = "node=9,var,c/node=6,get,0,7/node=0,like,1" + ",*" * stars + "/"
+        yield Sheet("a pattern of %d items for 64 policies" % stars, "partial", sheet(like, 2, "", types="type=record,7,r,6/", request=request), WORDS, WORDS, LARGE)
+
+
 def of_requests(cases02, landed):
     """Sheets with expected texts: the cases of document 02 that hold when these requests have landed and no more."""
     others = 0
@@ -110,6 +126,8 @@ def chosen(cases, cases02, folder, answer_length, landed):
     for sheet in lent(cases, answer_length, landed):
         yield sheet, None
     for sheet in probes(folder, landed):
+        yield sheet, None
+    for sheet in shared(cases02, landed):
         yield sheet, None
     yield from of_requests(cases02, landed)
 

@@ -9,7 +9,7 @@ use std::hint::black_box;
 use crate::compare::Call;
 use crate::heavy;
 use crate::run;
-use crate::sheet::{self, Mode, WORK_WORDS};
+use crate::sheet::{self, Mode, ANSWER_BYTES, WORK_WORDS};
 
 extern "C" {
     /// C's `clock`: the processor time of the process, on Unix in millionths of a second.
@@ -45,16 +45,26 @@ struct Times {
     reading: f64,
     library: Option<f64>,
     bytes: usize,
+    answers: usize,
     sheets: usize,
 }
 
+impl Times {
+    /// The library's time for each byte of sheet and answer.
+    fn per_byte(&self) -> Option<f64> {
+        self.library.map(|library| library / (self.bytes + self.answers) as f64)
+    }
+}
+
 fn measure(sheets: &[(Mode, Vec<u8>)], library: Option<Call>, rounds: usize) -> Times {
-    let mut out = vec![0u8; 65536];
+    let mut out = vec![0u8; ANSWER_BYTES];
     let (mut a, mut b) = (vec![0u32; WORK_WORDS], vec![0u32; WORK_WORDS]);
-    let mut times = Times { original: 0.0, reading: 0.0, library: None, bytes: 0, sheets: sheets.len() };
+    let mut times = Times { original: 0.0, reading: 0.0, library: None, bytes: 0, answers: 0, sheets: sheets.len() };
     for (mode, sheet) in sheets {
-        assert_eq!(run::call(*mode, sheet, &mut a, &mut b, &mut out)[0], 0, "a sheet of the benchmark is accepted");
+        let [number, _, length] = run::call(*mode, sheet, &mut a, &mut b, &mut out);
+        assert_eq!(number, 0, "a sheet of the benchmark is accepted");
         times.bytes += sheet.len();
+        times.answers += length as usize;
         times.original += time(rounds, || {
             black_box(run::call(*mode, black_box(sheet), &mut a, &mut b, &mut out));
         });
@@ -104,9 +114,9 @@ pub fn bench(library: Option<Call>, rounds: usize) {
     }
     let whole = whole.expect("the largest ordinary sheet");
     println!();
-    println!("| heavy accepted sheet | bytes | original, ns | times the ordinary one of 16,384 bytes | library, ns | times the ordinary one | ratio |");
-    println!("|---|---|---|---|---|---|---|");
-    let mut greatest = 0.0f64;
+    println!("| heavy accepted sheet | bytes | answer, bytes | original, ns | times the ordinary one of 16,384 bytes | library, ns | times the ordinary one | library, ns a byte of sheet and answer | ratio |");
+    println!("|---|---|---|---|---|---|---|---|---|");
+    let (mut greatest, mut greatest_a_byte) = (0.0f64, 0.0f64);
     for (name, mode, sheet) in heavy::all() {
         let times = measure(&[(mode, sheet)], library, rounds);
         let (time, share, ratio) = match (times.library, whole.library) {
@@ -116,15 +126,25 @@ pub fn bench(library: Option<Call>, rounds: usize) {
             }
             _ => ("-".into(), "-".into(), "-".into()),
         };
+        let a_byte = match (times.per_byte(), whole.per_byte()) {
+            (Some(library), Some(ordinary)) => {
+                greatest_a_byte = greatest_a_byte.max(library / ordinary);
+                format!("{library:.2}")
+            }
+            _ => "-".into(),
+        };
         println!(
-            "| {name} | {} | {:.0} | {:.1} | {time} | {share} | {ratio} |",
+            "| {name} | {} | {} | {:.0} | {:.1} | {time} | {share} | {a_byte} | {ratio} |",
             times.bytes,
+            times.answers,
             times.original,
             times.original / whole.original
         );
     }
     match library {
-        Some(_) => println!("\nthe heaviest takes the library {greatest:.1} times an ordinary sheet of 16,384 bytes"),
+        Some(_) => println!(
+            "\nthe heaviest takes the library {greatest:.1} times an ordinary sheet of 16,384 bytes, for each byte of sheet and answer {greatest_a_byte:.1} times"
+        ),
         None => println!("\nthe library is not linked: the original alone was measured"),
     }
 }

@@ -116,7 +116,11 @@ fn triple(call: Call, sheets: &[Vec<u8>; 3], random: &mut Random) -> Option<Stri
         let mode = if n == 0 { Mode::Partial } else { Mode::Complete };
         let case = Case { mode, bytes: sheet.clone() };
         let mut lent = Lent::of(WORK_WORDS, WORK_WORDS + random.below(3), 65536, random);
-        let [number, line, length] = lent.call(call, &case);
+        let [mut number, mut line, mut length] = lent.call(call, &case);
+        if number == 10 {
+            lent = Lent::of(WORK_WORDS, WORK_WORDS, length as usize, random);
+            [number, line, length] = lent.call(call, &case);
+        }
         if number != 0 {
             return Some(format!("sheet {n} of a triple is refused: {number},{line},{length}"));
         }

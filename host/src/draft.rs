@@ -4,7 +4,8 @@ use std::collections::HashMap;
 use std::fmt::Write;
 
 use crate::sheet::{
-    declaration, Day, EntityRow, Mode, NodeRow, One, Operation, PolicyRow, ShapeRow, TermRow, TypeRow, ValueRow, Variable, TWO,
+    declaration, Day, EntityRow, LinkRow, Mode, NodeRow, One, Operation, PolicyRow, ShapeRow, TermRow, TypeRow, ValueRow,
+    Variable, SLOTS, TWO,
 };
 
 #[derive(Clone)]
@@ -23,7 +24,10 @@ pub struct Draft {
     pub day: Day,
     pub nodes: Vec<NodeRow>,
     pub policies: Vec<PolicyRow>,
+    pub links: Vec<LinkRow>,
     pub terms: Vec<TermRow>,
+    /// While the tree of a template is made: the types of its slots so far, `p` and `r`.
+    pub slots: Option<[Option<u32>; 2]>,
     places: HashMap<ValueRow, u32>,
 }
 
@@ -44,7 +48,9 @@ impl Draft {
             day: (2000, 1, 1),
             nodes: Vec::new(),
             policies: Vec::new(),
+            links: Vec::new(),
             terms: Vec::new(),
+            slots: None,
             places: HashMap::new(),
         }
     }
@@ -89,6 +95,16 @@ impl Draft {
 
     pub fn policy(&mut self, id: u32, permit: bool, node: u32) {
         self.policies.push(PolicyRow { id, permit, node });
+    }
+
+    /// The number of nodes of the tree under a node, its own one counted.
+    pub fn size(&self, root: u32) -> usize {
+        1 + self.nodes[root as usize].operation.children().into_iter().map(|n| self.size(n)).sum::<usize>()
+    }
+
+    /// The node uses of all policies.
+    pub fn uses(&self) -> usize {
+        self.policies.iter().map(|row| self.size(row.node)).sum()
     }
 
     /// The declared attributes of a record or entity type.
@@ -150,6 +166,10 @@ impl Draft {
         }
         for row in &self.policies {
             line(format!("policy={},{},{}", row.id, if row.permit { "permit" } else { "forbid" }, row.node));
+        }
+        let given = |n: Option<u32>| n.map_or("-".to_string(), |n| n.to_string());
+        for row in &self.links {
+            line(format!("link={},{},{}", row.policy, given(row.principal), given(row.resource)));
         }
         for row in &self.terms {
             line(format!("term={},{},{}", row.policy, day_text(row.first), day_text(row.last)));
@@ -218,6 +238,10 @@ fn node_line(row: &NodeRow) -> String {
     match &row.operation {
         Operation::Lit(v) => format!("node={ty},lit,{v}"),
         Operation::Err => format!("node={ty},err"),
+        Operation::Slot(slot) => {
+            let letter = SLOTS.iter().find(|(_, other)| other == slot).expect("a letter").0;
+            format!("node={ty},slot,{letter}")
+        }
         Operation::Var(variable) => {
             let letter = match variable {
                 Variable::Principal => "p",

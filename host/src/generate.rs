@@ -2,7 +2,9 @@
 
 use crate::draft::{bytes_of, day_text, Draft};
 use crate::random::Random;
-use crate::sheet::{days_in, Day, EntityRow, Mode, One, Operation, ShapeRow, TermRow, Two, TypeRow, ValueRow, Variable};
+use crate::sheet::{
+    days_in, Day, EntityRow, LinkRow, Mode, One, Operation, ShapeRow, TermRow, Two, TypeRow, ValueRow, Variable, SLOTS,
+};
 
 /// A sheet and the entry that it is handed to.
 pub struct Case {
@@ -260,12 +262,39 @@ fn random_policies(draft: &mut Draft, random: &mut Random, size: usize) {
     random.shuffle(&mut ids);
     let count = random.from(0, 7.min(ids.len()));
     let bool_type = draft.ty(TypeRow::Bool);
+    let (templates, shared) = ([0, 30, 80][random.below(3)], [0, 25, 60][random.below(3)]);
+    // The roots so far, each with the types of its slots.
+    let mut roots: Vec<(u32, [Option<u32>; 2])> = Vec::new();
     for id in ids.into_iter().take(count) {
-        let depth = random.from(1, 6);
-        let left = size.saturating_sub(draft.nodes.len());
-        let node = tree(draft, random, bool_type, if left == 0 { 0 } else { depth });
+        let again = if roots.is_empty() || !random.chance(shared) { None } else { Some(random.pick(&roots)) };
+        let (node, slots) = match again {
+            Some((root, slots)) if draft.uses() + draft.size(root) <= 1024 => (root, slots),
+            _ => {
+                let depth = random.from(1, 6);
+                let left = size.saturating_sub(draft.nodes.len());
+                draft.slots = if random.chance(templates) { Some([None; 2]) } else { None };
+                let node = tree(draft, random, bool_type, if left == 0 { 0 } else { depth });
+                roots.push((node, draft.slots.take().unwrap_or([None; 2])));
+                roots[roots.len() - 1]
+            }
+        };
+        if slots != [None; 2] || random.chance(10) {
+            let [principal, resource] = slots.map(|ty| ty.map(|ty| value_for(draft, random, ty)));
+            draft.links.push(LinkRow { policy: draft.policies.len() as u32, principal, resource });
+        }
         draft.policy(id, random.chance(60), node);
     }
+}
+
+/// A slot of an entity type, where a template's tree is made and one of its slots has that type or none yet.
+fn slot(draft: &mut Draft, random: &mut Random, ty: u32) -> Option<u32> {
+    let slots = draft.slots?;
+    let which = random.below(2);
+    if !matches!(draft.types[ty as usize], TypeRow::Entity(_)) || slots[which].is_some_and(|other| other != ty) {
+        return None;
+    }
+    draft.slots.as_mut()?[which] = Some(ty);
+    Some(draft.node(ty, Operation::Slot(SLOTS[which].1)))
 }
 
 const FIRST_DAY: Day = (1900, 1, 1);
@@ -425,6 +454,11 @@ fn trees<const N: usize>(draft: &mut Draft, random: &mut Random, types: [u32; N]
 fn leaf(draft: &mut Draft, random: &mut Random, ty: u32) -> u32 {
     if random.chance(3) {
         return draft.node(ty, Operation::Err);
+    }
+    if random.chance(60) {
+        if let Some(node) = slot(draft, random, ty) {
+            return node;
+        }
     }
     let context = draft.context.0;
     if random.chance(45) {
@@ -792,7 +826,7 @@ fn damage(lines: &mut Vec<Vec<u8>>, random: &mut Random) {
         return;
     }
     let at = random.below(lines.len());
-    match random.below(23) {
+    match random.below(26) {
         0 => {
             lines.remove(at);
         }
@@ -817,6 +851,10 @@ fn damage(lines: &mut Vec<Vec<u8>>, random: &mut Random) {
                 b"type=long",
                 b"principal=0,0",
                 b"day=2000-01-01",
+                b"node=0,slot,p",
+                b"node=0,slot,a",
+                b"link=0,-,-",
+                b"link=0,0,-",
                 b"term=0,2000-01-01,2000-01-01",
             ]);
             lines.insert(at, line.to_vec());
@@ -870,6 +908,19 @@ fn damage(lines: &mut Vec<Vec<u8>>, random: &mut Random) {
                 });
             }
         }
+        22..=24 => {
+            // Another item on the line of a link or of a slot.
+            let linked: Vec<usize> = (0..lines.len())
+                .filter(|at| lines[*at].starts_with(b"link=") || lines[*at].windows(6).any(|part| part == b",slot,"))
+                .collect();
+            if !linked.is_empty() {
+                replace_item(&mut lines[random.pick(&linked)], random, |random, _| match random.below(3) {
+                    0 => random.pick(&[&b"-"[..], b"?", b"p", b"r", b"slot"]).to_vec(),
+                    1 => random.below(12).to_string().into_bytes(),
+                    _ => random.pick(&ITEMS).to_vec(),
+                });
+            }
+        }
         _ => {
             // The last lines are missing.
             let keep = random.below(lines.len() + 1);
@@ -917,7 +968,7 @@ fn damaged_draft(mut draft: Draft, random: &mut Random) -> Case {
     if random.chance(30) {
         draft = completion(&draft, random);
     }
-    match random.below(11) {
+    match random.below(17) {
         0 | 1 if !draft.nodes.is_empty() => {
             let n = random.below(draft.nodes.len());
             draft.nodes[n].ty = random.below(draft.types.len()) as u32;
@@ -955,6 +1006,7 @@ fn damaged_draft(mut draft: Draft, random: &mut Random) -> Case {
             }
         }
         8 | 9 if !draft.policies.is_empty() => damage_terms(&mut draft, random),
+        10..=15 if !draft.policies.is_empty() => damage_links(&mut draft, random),
         _ => {
             // A node whose second child is another one.
             for row in &mut draft.nodes {
@@ -990,6 +1042,53 @@ fn damage_terms(draft: &mut Draft, random: &mut Random) {
     }
 }
 
+/// Links that lack a value or have one too many, an unfit value, a repeat, another order, a policy that is not there; a
+/// policy without its link, slots of one letter with two types, a root that a node uses.
+fn damage_links(draft: &mut Draft, random: &mut Random) {
+    let policies = draft.policies.len() as u32;
+    if draft.links.is_empty() {
+        let policy = random.below(policies as usize) as u32;
+        draft.links.push(LinkRow { policy, principal: None, resource: None });
+    }
+    // More often a link that fills a slot.
+    let filling: Vec<usize> =
+        (0..draft.links.len()).filter(|at| draft.links[*at].principal.is_some() || draft.links[*at].resource.is_some()).collect();
+    let at = if filling.is_empty() || random.chance(20) { random.below(draft.links.len()) } else { random.pick(&filling) };
+    let value = Some(random.below(draft.values.len() + 1) as u32);
+    let link = &mut draft.links[at];
+    match random.below(12) {
+        0 => std::mem::swap(&mut link.principal, &mut link.resource),
+        1 => link.principal = None,
+        2 => link.resource = None,
+        3 => (link.principal, link.resource) = (link.principal.and(value), link.resource.and(value)),
+        4 => (link.principal, link.resource) = (value, value),
+        5 => {
+            let again = draft.links[at].clone();
+            draft.links.insert(at, again);
+        }
+        6 => draft.links.reverse(),
+        7 => draft.links.push(LinkRow { policy: policies, principal: None, resource: None }),
+        8 | 9 => {
+            draft.links.remove(at);
+        }
+        10 => {
+            let entities = types_where(draft, |row| matches!(row, TypeRow::Entity(_)));
+            for row in &mut draft.nodes {
+                if matches!(row.operation, Operation::Slot(_)) && random.chance(40) {
+                    row.ty = random.pick(&entities);
+                    break;
+                }
+            }
+        }
+        _ => {
+            let below = draft.nodes[draft.policies[0].node as usize].operation.children();
+            if !below.is_empty() {
+                draft.policies.last_mut().expect("a policy").node = random.pick(&below);
+            }
+        }
+    }
+}
+
 // Limits -----------------------------------------------------------------------------------------------------------------
 
 /// A small sheet without policies; types 0 to 3 are bool, the empty record, entity and long.
@@ -1008,13 +1107,40 @@ pub fn small() -> Draft {
     draft
 }
 
+/// A root over so many slots, `p` and `r` in turn, each compared with the principal.
+fn template(draft: &mut Draft, slots: usize) -> u32 {
+    let mut root = None;
+    for n in 0..slots {
+        let var = draft.node(2, Operation::Var(Variable::Principal));
+        let slot = draft.node(2, Operation::Slot(SLOTS[n % 2].1));
+        let equal = draft.node(0, Operation::Two(Two::Eq, var, slot));
+        root = Some(root.map_or(equal, |before| draft.node(0, Operation::Two(Two::Or, before, equal))));
+    }
+    root.expect("a slot")
+}
+
+/// A tree of so many nodes: an error, open comparisons of the principal joined to it, and `not` for what is left over.
+fn chain(draft: &mut Draft, nodes: usize) -> u32 {
+    let first = draft.nodes.len();
+    let mut root = draft.node(0, Operation::Err);
+    while draft.nodes.len() + 4 - first <= nodes {
+        let [x, y] = [(); 2].map(|_| draft.node(2, Operation::Var(Variable::Principal)));
+        let equal = draft.node(0, Operation::Two(Two::Eq, x, y));
+        root = draft.node(0, Operation::Two(Two::And, equal, root));
+    }
+    while draft.nodes.len() - first < nodes {
+        root = draft.node(0, Operation::One(One::Not, root));
+    }
+    root
+}
+
 /// Sheets at the limits of the table and one step over them.
 pub fn at_limit(random: &mut Random) -> Case {
     let over = random.below(2);
     limit(random.below(LIMITS), over, random)
 }
 
-pub const LIMITS: usize = 22;
+pub const LIMITS: usize = 27;
 
 /// The limit of a number, met (`over` 0) or exceeded by one.
 pub fn limit(which: usize, over: usize, random: &mut Random) -> Case {
@@ -1201,6 +1327,66 @@ pub fn limit(which: usize, over: usize, random: &mut Random) -> Case {
             let last = if over == 0 { draft.day } else { day_before(draft.day) };
             draft.terms.push(TermRow { policy: 0, first: draft.day, last });
         }
+        21 => {
+            // 64 policies over one root with both slots and as many links, and perhaps a link more, which repeats one.
+            let values: Vec<u32> = (0..4).map(|n| draft.value(ValueRow::Entity(0, n))).collect();
+            let root = template(&mut draft, 2);
+            for n in 0..64 {
+                let id = draft.text(format!("p{n}").as_bytes());
+                draft.policy(id, n % 2 == 0, root);
+                let [principal, resource] = [(); 2].map(|_| Some(random.pick(&values)));
+                draft.links.push(LinkRow { policy: n, principal, resource });
+            }
+            let last = draft.links[63].clone();
+            draft.links.extend(vec![last; over]);
+        }
+        22 => {
+            // 64 policies over one root of 16 nodes, or of 17, which the 61st uses too often.
+            let root = chain(&mut draft, 16 + over);
+            for n in 0..64 {
+                let id = draft.text(format!("p{n}").as_bytes());
+                draft.policy(id, n % 2 == 0, root);
+            }
+        }
+        23 => {
+            // 1,024 or 1,025 uses: a root of some nodes as often as it goes, and one policy for the rest.
+            let size = random.from(17, 40);
+            let (root, count) = (chain(&mut draft, size), 1023 / size);
+            let rest = chain(&mut draft, 1024 + over - count * size);
+            let roots = [vec![root; count - count / 2], vec![rest], vec![root; count / 2]].concat();
+            for (n, root) in roots.into_iter().enumerate() {
+                let id = draft.text(format!("p{n}").as_bytes());
+                draft.policy(id, n % 2 == 0, root);
+            }
+        }
+        24 => {
+            // Two slots of one letter, of one type or of two.
+            let v = draft.value(ValueRow::Entity(0, 3));
+            let root = template(&mut draft, 2);
+            for row in draft.nodes.iter_mut().filter(|row| matches!(row.operation, Operation::Slot(_))) {
+                row.operation = Operation::Slot(SLOTS[0].1);
+            }
+            if over == 1 {
+                let tariff = draft.ty(TypeRow::Entity(2));
+                draft.nodes[1].ty = tariff;
+            }
+            draft.policy(3, true, root);
+            draft.links.push(LinkRow { policy: 0, principal: Some(v), resource: None });
+        }
+        25 => {
+            // A long answer: some policies over one root with a long pattern, or all 64.
+            let a = draft.text(b"a");
+            let string = draft.ty(TypeRow::String);
+            let record = draft.ty(TypeRow::Record(vec![(a, true, string)]));
+            draft.context = (record, None);
+            let var = draft.node(record, Operation::Var(Variable::Context));
+            let get = draft.node(string, Operation::Get(var, a));
+            let root = draft.node(0, Operation::Like(get, vec![None; 1200 + random.below(200)]));
+            for n in 0..[24, 64][over] {
+                let id = draft.text(format!("p{n}").as_bytes());
+                draft.policy(id, n % 2 == 0, root);
+            }
+        }
         _ => {
             // A pattern with many stars on a text that almost matches.
             let t = draft.text(&[&vec![b'a'; 127 - over][..], b"b"].concat());
@@ -1221,6 +1407,21 @@ pub fn limit(which: usize, over: usize, random: &mut Random) -> Case {
 #[cfg(test)]
 mod tests {
     use super::*;
+
+    /// The number that the limit `which` gets, met or exceeded.
+    fn limited(which: usize, over: usize, seed: u64) -> u32 {
+        let Case { mode, bytes } = limit(which, over, &mut Random::of(seed, 0));
+        crate::sheet::read(mode, &bytes).map_or_else(|refusal| refusal.number, |_| 0)
+    }
+
+    #[test]
+    fn links_and_uses_at_their_limits() {
+        for seed in 0..50 {
+            for (which, exceeded) in [(21, 4), (22, 4), (23, 4), (24, 7), (25, 0)] {
+                assert_eq!((limited(which, 0, seed), limited(which, 1, seed)), (0, exceeded), "limit {which}, seed {seed}");
+            }
+        }
+    }
 
     #[test]
     fn days_in_a_row() {

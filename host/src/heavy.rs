@@ -3,7 +3,7 @@
 use crate::draft::Draft;
 use crate::generate::{small, valid};
 use crate::random::Random;
-use crate::sheet::{EntityRow, Mode, One, Operation, ShapeRow, Two, TypeRow, ValueRow, Variable, SHEET_BYTES};
+use crate::sheet::{EntityRow, LinkRow, Mode, One, Operation, ShapeRow, Slot, Two, TypeRow, ValueRow, Variable, SHEET_BYTES};
 
 /// Heavy sheets stay this much below the greatest size, so that a complete form of them fits too.
 const SPARE: usize = 150;
@@ -147,6 +147,18 @@ pub fn all() -> Vec<(&'static str, Mode, Vec<u8>)> {
     add("64 policies, all open", open());
     add("many sets with a common start", common_starts());
     add("literals of many types", many_fits());
+    add("64 policies over one root with long patterns", shared_root(Long::Patterns, false));
+    add("64 policies over one root with long paths", shared_root(Long::Paths, false));
+    add("64 policies over one root of 16 nodes, both slots linked", linked());
+    add("64 policies over one root, made values among many", shared_made());
+    add("64 policies over one root, any on long sets", shared_sets());
+    add("64 policies over one root, get in a long record", shared_gets());
+    add("complete: 64 policies over one root with long patterns", completed(shared_root(Long::Patterns, true)));
+    add("complete: 64 policies over one root with long paths", completed(shared_root(Long::Paths, true)));
+    add("complete: 64 policies over one root of 16 nodes, both slots linked", completed(linked()));
+    add("complete: 64 policies over one root, made values among many", completed(shared_made()));
+    add("complete: 64 policies over one root, any on long sets", completed(shared_sets()));
+    add("complete: 64 policies over one root, get in a long record", completed(shared_gets()));
     add("complete: shared rows", completed(shared(62)));
     add("complete: one pattern, almost matching often", completed(almost()));
     add("complete: all on long sets", completed(long_sets(Two::All)));
@@ -564,4 +576,182 @@ fn open() -> Draft {
         }
         draft.policy(id, true, roots[0]);
     })
+}
+
+/// What makes the nodes of a shared root long.
+#[derive(Clone, Copy)]
+enum Long {
+    Patterns,
+    Paths,
+}
+
+/// 64 policies over one root of 16 nodes, 1,024 uses. With an unknown context all are open: the answer has that root's lines 64
+/// times, some 900,000 bytes.
+fn shared_root(long: Long, known: bool) -> Draft {
+    let mut draft = small();
+    let a = draft.text(b"a");
+    let string = draft.ty(TypeRow::String);
+    let inner = draft.ty(TypeRow::Record(vec![(a, true, string)]));
+    let record = draft.ty(TypeRow::Record(vec![(a, true, inner)]));
+    draft.context = (record, None);
+    if known {
+        let t = draft.text(&[b'a'; 128]);
+        let text = draft.value(ValueRow::Text(t));
+        let held = draft.value(ValueRow::Record(vec![(a, text)]));
+        draft.context.1 = Some(draft.value(ValueRow::Record(vec![(a, held)])));
+    }
+    greatest(|steps| {
+        let mut next = draft.clone();
+        let leaves: Vec<u32> = match long {
+            // context.a.a like .., three times.
+            Long::Patterns => (0..3)
+                .map(|_| {
+                    let var = next.node(record, Operation::Var(Variable::Context));
+                    let outer = next.node(inner, Operation::Get(var, a));
+                    let get = next.node(string, Operation::Get(outer, a));
+                    next.node(0, Operation::Like(get, (0..steps).map(|n| if n % 2 == 0 { None } else { Some(a) }).collect()))
+                })
+                .collect(),
+            // context has a.Broker.a.., five times: every step after the first is undeclared and free.
+            Long::Paths => (0..5)
+                .map(|_| {
+                    let var = next.node(record, Operation::Var(Variable::Context));
+                    let path = [vec![a, 0], vec![a; steps]].concat();
+                    next.node(0, Operation::HasPath(var, path))
+                })
+                .collect(),
+        };
+        sixteen(&mut next, leaves);
+        next
+    })
+}
+
+/// The greatest sheet of those that `build` makes, which are longer and longer.
+fn greatest(build: impl Fn(usize) -> Draft) -> Draft {
+    let fits =
+        |draft: &Draft| draft.bytes().len() <= SHEET_BYTES - SPARE && draft.values.len() <= 1022 && draft.texts.len() <= 512;
+    (1..).map(build).take_while(fits).last().expect("the first fits")
+}
+
+/// 64 policies over one root: leaves joined by `and`, and `not` up to 16 nodes.
+fn sixteen(draft: &mut Draft, leaves: Vec<u32>) {
+    let mut leaves = leaves.into_iter();
+    let first = leaves.next().expect("a leaf");
+    let mut root = leaves.fold(first, |left, right| draft.node(0, Operation::Two(Two::And, left, right)));
+    while draft.nodes.len() < 16 {
+        root = draft.node(0, Operation::One(One::Not, root));
+    }
+    for n in 0..64 {
+        let id = draft.text(format!("{n}").as_bytes());
+        draft.policy(id, true, root);
+    }
+}
+
+/// Twelve values made or found again for each policy, each looked for among as many values as fit.
+fn shared_made() -> Draft {
+    greatest(|count| {
+        let mut draft = small();
+        let last = (0..count).map(|n| draft.value(ValueRow::Long(n as i64))).last().expect("a value");
+        let mut node = draft.node(3, Operation::Lit(last));
+        for _ in 0..12 {
+            node = draft.node(3, Operation::One(One::Neg, node));
+        }
+        let other = draft.node(3, Operation::Lit(last));
+        let less = draft.node(0, Operation::Two(Two::Le, node, other));
+        sixteen(&mut draft, vec![less]);
+        draft
+    })
+}
+
+fn shared_sets() -> Draft {
+    greatest(|count| {
+        let mut draft = small();
+        let longs = draft.ty(TypeRow::Set(3));
+        let count = 2 * count as u32;
+        for n in 0..count {
+            draft.value(ValueRow::Long(n as i64));
+        }
+        let [even, odd] = [0, 1].map(|rest| draft.value(ValueRow::Set((0..count).filter(|n| n % 2 == rest).collect())));
+        let leaves = (0..3)
+            .map(|_| {
+                let [x, y] = [even, odd].map(|v| draft.node(longs, Operation::Lit(v)));
+                let any = draft.node(0, Operation::Two(Two::Any, x, y));
+                draft.node(0, Operation::One(One::Not, any))
+            })
+            .collect();
+        sixteen(&mut draft, leaves);
+        draft
+    })
+}
+
+fn shared_gets() -> Draft {
+    greatest(|count| {
+        let mut draft = small();
+        let texts: Vec<u32> = (0..count).map(|n| draft.text(format!("{n}").as_bytes())).collect();
+        let record = draft.ty(TypeRow::Record(texts.iter().map(|t| (*t, true, 0)).collect()));
+        let yes = draft.value(ValueRow::Bool(true));
+        let v = draft.value(ValueRow::Record(texts.iter().map(|t| (*t, yes)).collect()));
+        draft.context = (record, Some(v));
+        let last = *texts.last().expect("texts");
+        let leaves = (0..5)
+            .map(|_| {
+                let var = draft.node(record, Operation::Var(Variable::Context));
+                draft.node(0, Operation::Get(var, last))
+            })
+            .collect();
+        sixteen(&mut draft, leaves);
+        draft
+    })
+}
+
+/// 64 policies over one root of 16 nodes with slots of both letters, each policy with a link of its own.
+fn linked() -> Draft {
+    let mut draft = small();
+    let tariff = draft.ty(TypeRow::Entity(2));
+    let mut equal = |ty: u32, variable: Variable, slot: Slot| {
+        let var = draft.node(ty, Operation::Var(variable));
+        let slot = draft.node(ty, Operation::Slot(slot));
+        draft.node(0, Operation::Two(Two::Eq, var, slot))
+    };
+    let mut leaves = vec![equal(2, Variable::Principal, Slot::Principal), equal(tariff, Variable::Resource, Slot::Resource)];
+    leaves.extend([equal(2, Variable::Principal, Slot::Principal), equal(tariff, Variable::Resource, Slot::Resource)]);
+    let [a, b, c, d] = leaves[..] else { unreachable!() };
+    let left = draft.node(0, Operation::Two(Two::And, a, b));
+    let right = draft.node(0, Operation::Two(Two::And, c, d));
+    let both = draft.node(0, Operation::Two(Two::Or, left, right));
+    let root = draft.node(0, Operation::One(One::Not, both));
+    for n in 0..64 {
+        let id = draft.text(format!("{n}").as_bytes());
+        draft.policy(id, true, root);
+        let principal = Some(draft.value(ValueRow::Entity(0, id)));
+        let resource = Some(draft.value(ValueRow::Entity(2, id)));
+        draft.links.push(LinkRow { policy: n, principal, resource });
+    }
+    draft
+}
+
+#[cfg(test)]
+mod tests {
+    use super::*;
+    use crate::run;
+
+    #[test]
+    fn an_answer_far_longer_than_its_sheet() {
+        for draft in [linked(), shared_made(), shared_sets(), shared_gets()] {
+            assert_eq!((draft.policies.len(), draft.uses()), (64, 1024));
+        }
+        for long in [Long::Patterns, Long::Paths] {
+            let draft = shared_root(long, false);
+            assert_eq!((draft.policies.len(), draft.uses()), (64, 1024));
+            let answer = run::answer(draft.mode, &draft.bytes()).expect("the sheet is accepted");
+            assert!(answer.len() > 900_000);
+        }
+    }
+
+    #[test]
+    fn all_are_accepted() {
+        for (name, mode, sheet) in all() {
+            assert!(run::answer(mode, &sheet).is_ok(), "{name}");
+        }
+    }
 }

@@ -20,7 +20,9 @@ use original::validator::types::{Lub, Type};
 use original::validator::{Attributes, KindRow, ValidatorSchema};
 use original::{NonEmpty, SmolStr};
 
-use crate::sheet::{self, Mode, One, Operation, Refusal, Sheet, Two, TypeRow, ValueRow, Variable, WORK_WORDS};
+use crate::sheet::{
+    self, LinkRow, Mode, One, Operation, Refusal, Rule, Sheet, Two, TypeRow, ValueRow, Variable, ANSWER_BYTES, WORK_WORDS,
+};
 
 /// A value whose leaves are more than this, counted along every path, is not walked by the original's search for
 /// extension values: the walk would not end in any useful time.
@@ -45,6 +47,7 @@ pub fn answer(mode: Mode, bytes: &[u8]) -> Result<Vec<u8>, Refusal> {
         Mode::Complete => complete_answer(&sheet, &ground),
     };
     assert!(rows::count() <= rows::GREATEST_VALUES, "1,024 given and 1,024 made always fit");
+    assert!(text.len() <= ANSWER_BYTES, "no answer is longer");
     Ok(text.into_bytes())
 }
 
@@ -160,15 +163,24 @@ impl Ground {
         }
     }
 
-    /// The tree of a node, from rows whose `lit` numbers `place` reads.
-    fn tree(&self, nodes: &[sheet::NodeRow], root: u32, place: &dyn Fn(u32) -> u32) -> Residual {
+    /// The tree of a policy of the sheet: "Linking replaces each slot by a `lit` of its type", so the original sees none.
+    fn linked(&self, sheet: &Sheet, rule: Rule) -> Residual {
+        self.tree(&sheet.nodes, rule.row.node, rule.link, &|n| n)
+    }
+
+    /// The tree of a node under a link, from rows whose `lit` numbers `place` reads.
+    fn tree(&self, nodes: &[sheet::NodeRow], root: u32, link: Option<&LinkRow>, place: &dyn Fn(u32) -> u32) -> Residual {
         let node = &nodes[root as usize];
         let ty = self.types[node.ty as usize].clone();
-        let child = |n: &u32| Arc::new(self.tree(nodes, *n, place));
+        let child = |n: &u32| Arc::new(self.tree(nodes, *n, link, place));
         let text = |t: &u32| self.texts[*t as usize].clone();
         let kind = match &node.operation {
             Operation::Lit(v) => return Residual::Concrete { value: rows::value(place(*v)), ty },
             Operation::Err => return Residual::Error(ty),
+            Operation::Slot(slot) => {
+                let value = link.and_then(|link| link.value(*slot)).expect("every slot has a value");
+                return Residual::Concrete { value: rows::value(place(value)), ty };
+            }
             Operation::Var(variable) => ResidualKind::Var(match variable {
                 Variable::Principal => Var::Principal,
                 Variable::Action => Var::Action,
@@ -198,9 +210,11 @@ impl Ground {
                 let attrs = NonEmpty { head: text(&path[0]), tail: path[1..].iter().map(text).collect() };
                 ResidualKind::ExtHasAttr { expr: child(a), attrs }
             }
-            Operation::Set(items) => ResidualKind::Set(Arc::new(items.iter().map(|n| self.tree(nodes, *n, place)).collect())),
+            Operation::Set(items) => {
+                ResidualKind::Set(Arc::new(items.iter().map(|n| self.tree(nodes, *n, link, place)).collect()))
+            }
             Operation::Record(fields) => {
-                let field = |(t, n): &(u32, u32)| (text(t), self.tree(nodes, *n, place));
+                let field = |(t, n): &(u32, u32)| (text(t), self.tree(nodes, *n, link, place));
                 ResidualKind::Record(Arc::new(fields.iter().map(field).collect()))
             }
         };
@@ -289,12 +303,12 @@ fn partial_entities(sheet: &Sheet, ground: &Ground) -> PartialEntities {
     entities
 }
 
-/// The residuals of the policies on term, by the original's `interpret`, which never sees the others.
+/// The residuals of the policies on term, linked, by the original's `interpret`, which never sees the others.
 fn residuals(sheet: &Sheet, ground: &Ground, request: &PartialRequest, entities: &PartialEntities) -> Vec<ResidualPolicy> {
-    let one = |row: &sheet::PolicyRow| {
-        let tree = ground.tree(&sheet.nodes, row.node, &|n| n);
+    let one = |rule: Rule| {
+        let tree = ground.linked(sheet, rule);
         let residual = original::tpe::interpret(request, entities, &ground.schema, ground.heavy, &tree);
-        ResidualPolicy::new(Arc::new(residual), Arc::new(policy_of(row, Expr::val(true))))
+        ResidualPolicy::new(Arc::new(residual), Arc::new(policy_of(rule.row, Expr::val(true))))
     };
     sheet.on_term().into_iter().map(one).collect()
 }
@@ -328,7 +342,7 @@ fn partial_answer(sheet: &Sheet, ground: &Ground) -> String {
     }
     let mut nodes = 0;
     let mut policies = String::new();
-    for (row, residual) in sheet.on_term().into_iter().zip(&residuals) {
+    for (Rule { row, .. }, residual) in sheet.on_term().into_iter().zip(&residuals) {
         let root = push_tree(&mut text, ground, residual.as_residual(), &mut nodes);
         policies.push_str(&format!("policy={},{},{},{root}\n", row.id, effect_word(row.permit), classes[&row.id]));
     }
@@ -401,8 +415,8 @@ fn complete_answer(sheet: &Sheet, ground: &Ground) -> String {
     let complete = Complete::of(sheet, ground);
     let mut counts = [0; 8];
     let mut policies = String::new();
-    for row in sheet.on_term() {
-        let class = class_of(complete.yields(ground.tree(&sheet.nodes, row.node, &|n| n)));
+    for rule in sheet.on_term() {
+        let (row, class) = (rule.row, class_of(complete.yields(ground.linked(sheet, rule))));
         let place = ["true", "false", "error"].iter().position(|word| *word == class).expect("a class");
         counts[if row.permit { place } else { 4 + place }] += 1;
         policies.push_str(&format!("policy={},{},{class}\n", row.id, effect_word(row.permit)));
@@ -531,7 +545,11 @@ fn said(mode: Mode, answer: &[u8]) -> Option<Said> {
         } else if let Some(items) = items("node=", line) {
             let items: Vec<&[u8]> = items.iter().map(|item| item.as_bytes()).collect();
             let ty = std::str::from_utf8(items[0]).ok()?.parse().ok()?;
-            said.nodes.push(sheet::NodeRow { ty, operation: sheet::form_operation(items[1], &items[2..])? });
+            let operation = sheet::form_operation(items[1], &items[2..])?;
+            if matches!(operation, Operation::Slot(_)) {
+                return None;
+            }
+            said.nodes.push(sheet::NodeRow { ty, operation });
         } else {
             let items = items("policy=", line)?;
             let root = items.get(3).map(|root| root.parse().ok()).unwrap_or(None);
@@ -560,8 +578,8 @@ pub fn demand3(sheets: [&[u8]; 3], answers: [&[u8]; 3]) -> Result<(), String> {
         if ["allow", "deny"].contains(&partial.decision.as_str()) && partial.decision != complete.decision {
             return Err(format!("decision {} became {}", partial.decision, complete.decision));
         }
-        if (first.day, &first.terms) != (sheet.day, &sheet.terms) {
-            return Err("the sheets do not agree: another day or term".into());
+        if (first.day, &first.links, &first.terms) != (sheet.day, &sheet.links, &sheet.terms) {
+            return Err("the sheets do not agree: another day, link or term".into());
         }
         let policies = sheet.on_term();
         if partial.policies.len() != complete.policies.len() || partial.policies.len() != policies.len() {
@@ -575,19 +593,19 @@ pub fn demand3(sheets: [&[u8]; 3], answers: [&[u8]; 3]) -> Result<(), String> {
             let value = ground.value(row, |n| places[n as usize]);
             places.push(rows::number(&value));
         }
-        for (n, row) in policies.into_iter().enumerate() {
+        for (n, rule) in policies.into_iter().enumerate() {
             let (old, new) = (&partial.policies[n], &complete.policies[n]);
-            if (old.0, &old.1) != (new.0, &new.1) || old.0 != row.id {
+            if (old.0, &old.1) != (new.0, &new.1) || old.0 != rule.row.id {
                 return Err(format!("policy line {n} names another policy"));
             }
             if old.2 != "open" && old.2 != new.2 {
                 return Err(format!("policy {} was {} and became {}", old.0, old.2, new.2));
             }
-            let yielded = run.yields(ground.tree(&sheet.nodes, row.node, &|n| n));
+            let yielded = run.yields(ground.linked(&sheet, rule));
             if class_of(yielded) != new.2 {
                 return Err(format!("policy {} is called {} and yields {}", old.0, new.2, class_of(yielded)));
             }
-            let residual = ground.tree(&partial.nodes, old.3.expect("a root"), &|n| places[n as usize]);
+            let residual = ground.tree(&partial.nodes, old.3.expect("a root"), None, &|n| places[n as usize]);
             if run.yields(residual) != yielded {
                 return Err(format!("the residual of policy {} does not yield what the policy yields", old.0));
             }

@@ -7,7 +7,10 @@ use std::collections::{HashMap, HashSet};
 
 pub const SHEET_BYTES: usize = 16384;
 pub const WORK_WORDS: usize = 16384;
+/// No answer is longer.
+pub const ANSWER_BYTES: usize = 64 * SHEET_BYTES;
 const TEXT_BYTES: usize = 128;
+const GREATEST_USES: u32 = 1024;
 const GREATEST_DEPTH: u32 = 64;
 
 /// Which of the two entries a sheet is for.
@@ -50,10 +53,11 @@ pub enum Key {
     Day,
     Node,
     Policy,
+    Link,
     Term,
 }
 
-const KEYS: [(&[u8], Key); 15] = [
+const KEYS: [(&[u8], Key); 16] = [
     (b"sheet", Key::Sheet),
     (b"text", Key::Text),
     (b"kind", Key::Kind),
@@ -68,6 +72,7 @@ const KEYS: [(&[u8], Key); 15] = [
     (b"day", Key::Day),
     (b"node", Key::Node),
     (b"policy", Key::Policy),
+    (b"link", Key::Link),
     (b"term", Key::Term),
 ];
 
@@ -115,6 +120,15 @@ pub enum Variable {
     Resource,
     Context,
 }
+
+/// What a slot stands for, `p` or `r`.
+#[derive(Clone, Copy, Debug, PartialEq, Eq)]
+pub enum Slot {
+    Principal,
+    Resource,
+}
+
+pub const SLOTS: [(&str, Slot); 2] = [("p", Slot::Principal), ("r", Slot::Resource)];
 
 #[derive(Clone, Copy, Debug, PartialEq, Eq)]
 pub enum One {
@@ -175,12 +189,13 @@ pub enum Operation {
     HasPath(u32, Vec<u32>),
     Set(Vec<u32>),
     Record(Vec<(u32, u32)>),
+    Slot(Slot),
 }
 
 impl Operation {
     pub fn children(&self) -> Vec<u32> {
         match self {
-            Operation::Lit(_) | Operation::Err | Operation::Var(_) => Vec::new(),
+            Operation::Lit(_) | Operation::Err | Operation::Var(_) | Operation::Slot(_) => Vec::new(),
             Operation::Two(_, a, b) => vec![*a, *b],
             Operation::If(a, b, c) => vec![*a, *b, *c],
             Operation::One(_, a)
@@ -208,6 +223,23 @@ pub struct PolicyRow {
     pub node: u32,
 }
 
+/// A link line; None is `-`.
+#[derive(Clone, Debug, PartialEq, Eq)]
+pub struct LinkRow {
+    pub policy: u32,
+    pub principal: Option<u32>,
+    pub resource: Option<u32>,
+}
+
+impl LinkRow {
+    pub fn value(&self, slot: Slot) -> Option<u32> {
+        match slot {
+            Slot::Principal => self.principal,
+            Slot::Resource => self.resource,
+        }
+    }
+}
+
 /// Year, month and day; later days are greater.
 pub type Day = (u32, u32, u32);
 
@@ -233,6 +265,7 @@ enum Row<'a> {
     Day(Day),
     Node(NodeRow),
     Policy(PolicyRow),
+    Link(LinkRow),
     Term(TermRow),
 }
 
@@ -253,7 +286,23 @@ pub struct Sheet<'a> {
     pub day: Day,
     pub nodes: Vec<NodeRow>,
     pub policies: Vec<PolicyRow>,
+    pub links: Vec<LinkRow>,
     pub terms: Vec<TermRow>,
+}
+
+/// A policy that runs, and the line that links it, if there is one.
+#[derive(Clone, Copy)]
+pub struct Rule<'s> {
+    pub row: &'s PolicyRow,
+    pub link: Option<&'s LinkRow>,
+}
+
+/// What uses a node so far.
+#[derive(Clone, Copy, PartialEq, Eq)]
+enum Use {
+    Nothing,
+    Node,
+    Policies,
 }
 
 /// A sheet while it is read.
@@ -270,7 +319,11 @@ struct Reader<'a> {
     value_depths: Vec<u32>,
     node_depths: Vec<u32>,
     node_lines: Vec<u32>,
-    used: Vec<bool>,
+    policy_lines: Vec<u32>,
+    /// The nodes of the tree under each node, its own one counted, and of those under the policies read so far.
+    sizes: Vec<u32>,
+    total: u32,
+    used: Vec<Use>,
     /// Pairs of value and type that were asked already, with the answer. Without it a sheet of shared rows would take 2^62 steps.
     fits: HashMap<(u32, u32), bool>,
 }
@@ -293,6 +346,9 @@ pub fn read(mode: Mode, bytes: &[u8]) -> Result<Sheet<'_>, Refusal> {
         value_depths: Vec::new(),
         node_depths: Vec::new(),
         node_lines: Vec::new(),
+        policy_lines: Vec::new(),
+        sizes: Vec::new(),
+        total: 0,
         used: Vec::new(),
         fits: HashMap::new(),
     };
@@ -312,7 +368,10 @@ pub fn read(mode: Mode, bytes: &[u8]) -> Result<Sheet<'_>, Refusal> {
     if !reader.seen.contains(&Key::Day) {
         return refuse(3, line + 1);
     }
-    if let Some(unused) = reader.used.iter().position(|used| !used) {
+    if let Some(unlinked) = reader.sheet.first_unlinked() {
+        return refuse(5, reader.policy_lines[unlinked]);
+    }
+    if let Some(unused) = reader.used.iter().position(|used| *used == Use::Nothing) {
         return refuse(8, reader.node_lines[unused]);
     }
     Ok(reader.sheet)
@@ -448,6 +507,10 @@ pub fn form_operation(word: &[u8], rest: &[&[u8]]) -> Option<Operation> {
             b"c" => Some(Operation::Var(Variable::Context)),
             _ => None,
         },
+        (b"slot", 1) => {
+            let (_, slot) = SLOTS.iter().find(|(letter, _)| letter.as_bytes() == rest[0])?;
+            Some(Operation::Slot(*slot))
+        }
         (b"not", 1) => index(rest[0]).map(|n| Operation::One(One::Not, n)),
         (b"neg", 1) => index(rest[0]).map(|n| Operation::One(One::Neg, n)),
         (b"empty", 1) => index(rest[0]).map(|n| Operation::One(One::Empty, n)),
@@ -475,7 +538,7 @@ impl<'a> Reader<'a> {
         if !self.in_order(key) {
             return 3;
         }
-        if self.too_many(key) {
+        if self.too_many(key, &row) {
             return 4;
         }
         if !self.refers(key, &row) {
@@ -488,15 +551,17 @@ impl<'a> Reader<'a> {
         if !self.typed(key, &row) {
             return 7;
         }
-        let uses = match &row {
-            Row::Node(node) => node.operation.children(),
-            Row::Policy(policy) => vec![policy.node],
-            _ => Vec::new(),
+        let (uses, by) = match &row {
+            Row::Node(node) => (node.operation.children(), Use::Node),
+            Row::Policy(policy) => (vec![policy.node], Use::Policies),
+            _ => (Vec::new(), Use::Nothing),
         };
         for n in uses {
-            if std::mem::replace(&mut self.used[n as usize], true) {
+            // "A policy root may now serve several policies; other nodes keep their single use."
+            if self.used[n as usize] == Use::Node {
                 return 8;
             }
+            self.used[n as usize] = by;
         }
         self.keep(key, row, depth, number);
         0
@@ -563,6 +628,11 @@ impl<'a> Reader<'a> {
                 };
                 Some(Row::Policy(PolicyRow { id: index(items[0])?, permit, node: index(items[2])? }))
             }
+            (Key::Link, 3) => Some(Row::Link(LinkRow {
+                policy: index(items[0])?,
+                principal: index_or(items[1], b"-")?,
+                resource: index_or(items[2], b"-")?,
+            })),
             (Key::Term, 3) => Some(Row::Term(TermRow { policy: index(items[0])?, first: day(items[1])?, last: day(items[2])? })),
             _ => None,
         }
@@ -578,7 +648,7 @@ impl<'a> Reader<'a> {
 
     // Too many (4) -------------------------------------------------------------------------------------------------------
 
-    fn too_many(&self, key: Key) -> bool {
+    fn too_many(&self, key: Key, row: &Row) -> bool {
         let sheet = &self.sheet;
         let (count, greatest) = match key {
             Key::Text => (sheet.texts.len(), 512),
@@ -589,10 +659,19 @@ impl<'a> Reader<'a> {
             Key::Entity => (sheet.entities.len(), 128),
             Key::Node => (sheet.nodes.len(), 1024),
             Key::Policy => (sheet.policies.len(), 64),
+            Key::Link => (sheet.links.len(), 64),
             Key::Term => (sheet.terms.len(), 64),
             one => (self.seen.contains(&one) as usize, 1),
         };
-        count >= greatest
+        count >= greatest || self.total + self.more_uses(row) > GREATEST_USES
+    }
+
+    /// The node uses that a line adds: those of a policy whose root is there.
+    fn more_uses(&self, row: &Row) -> u32 {
+        match row {
+            Row::Policy(policy) => self.sizes.get(policy.node as usize).copied().unwrap_or(0),
+            _ => 0,
+        }
     }
 
     // References, repeats and order (5) ----------------------------------------------------------------------------------
@@ -665,6 +744,17 @@ impl<'a> Reader<'a> {
                     }
             }
             Row::Policy(row) => text(row.id) && node(row.node) && sheet.policies.iter().all(|other| other.id != row.id),
+            Row::Link(row) => {
+                below(sheet.policies.len(), row.policy)
+                    && sheet.links.last().is_none_or(|before| before.policy < row.policy)
+                    && row.principal.is_none_or(value)
+                    && row.resource.is_none_or(value)
+                    && {
+                        let there = sheet.slots(sheet.policies[row.policy as usize].node);
+                        let given = |slot: Slot| row.value(slot).is_some() == there.iter().any(|(other, _)| *other == slot);
+                        given(Slot::Principal) && given(Slot::Resource)
+                    }
+            }
             Row::Term(row) => {
                 below(sheet.policies.len(), row.policy)
                     && sheet.terms.last().is_none_or(|before| before.policy < row.policy)
@@ -730,6 +820,10 @@ impl<'a> Reader<'a> {
                 let ty = self.sheet.nodes[policy.node as usize].ty;
                 self.sheet.types[ty as usize] == TypeRow::Bool
             }
+            Row::Link(link) => {
+                let there = self.sheet.slots(self.sheet.policies[link.policy as usize].node);
+                there.iter().all(|(slot, ty)| link.value(*slot).is_some_and(|v| self.fits(v, *ty)))
+            }
             _ => true,
         }
     }
@@ -777,6 +871,7 @@ impl<'a> Reader<'a> {
         let is_bool = *own == TypeRow::Bool;
         match &node.operation {
             Operation::Lit(_) | Operation::Err => true,
+            Operation::Slot(_) => kind_of(own).is_some(),
             Operation::Var(variable) => match variable {
                 Variable::Principal => *own == TypeRow::Entity(sheet.principal.0),
                 Variable::Action => *own == TypeRow::Entity(sheet.action.0),
@@ -856,10 +951,17 @@ impl<'a> Reader<'a> {
             Row::Node(row) => {
                 self.node_depths.push(depth);
                 self.node_lines.push(line);
-                self.used.push(false);
+                let below: u32 = row.operation.children().iter().map(|n| self.sizes[*n as usize]).sum();
+                self.sizes.push(1 + below);
+                self.used.push(Use::Nothing);
                 sheet.nodes.push(row);
             }
-            Row::Policy(row) => sheet.policies.push(row),
+            Row::Policy(row) => {
+                self.policy_lines.push(line);
+                self.total += self.sizes[row.node as usize];
+                sheet.policies.push(row);
+            }
+            Row::Link(row) => sheet.links.push(row),
             Row::Term(row) => sheet.terms.push(row),
         }
     }
@@ -883,12 +985,31 @@ fn required_there(declared: &[(u32, bool, u32)], fields: &[(u32, u32)]) -> bool 
 
 impl Sheet<'_> {
     /// The policies that run on the sheet's day: "Both edge days belong to the term", "Without a term it always runs."
-    pub fn on_term(&self) -> Vec<&PolicyRow> {
+    pub fn on_term(&self) -> Vec<Rule<'_>> {
         let runs = |n: u32| {
             let term = self.terms.iter().find(|term| term.policy == n);
             term.is_none_or(|term| (term.first..=term.last).contains(&self.day))
         };
-        (0..).zip(&self.policies).filter(|(n, _)| runs(*n)).map(|(_, row)| row).collect()
+        (0..).zip(&self.policies).filter(|(n, _)| runs(*n)).map(|(n, row)| Rule { row, link: self.link_of(n) }).collect()
+    }
+
+    fn link_of(&self, policy: u32) -> Option<&LinkRow> {
+        self.links.iter().find(|link| link.policy == policy)
+    }
+
+    /// The slots of the tree under a node, each with its type.
+    fn slots(&self, root: u32) -> Vec<(Slot, u32)> {
+        let node = &self.nodes[root as usize];
+        match node.operation {
+            Operation::Slot(slot) => vec![(slot, node.ty)],
+            _ => node.operation.children().into_iter().flat_map(|n| self.slots(n)).collect(),
+        }
+    }
+
+    /// The lowest policy with a slot and without a link line.
+    fn first_unlinked(&self) -> Option<usize> {
+        let unlinked = |(n, row): (u32, &PolicyRow)| self.link_of(n).is_none() && !self.slots(row.node).is_empty();
+        (0..).zip(&self.policies).position(unlinked)
     }
 
     /// The declared attributes of a record or entity type.
@@ -932,6 +1053,55 @@ impl Sheet<'_> {
 #[cfg(test)]
 mod tests {
     use super::*;
+
+    /// What a sheet with some nodes and the lines after them gets; `/` is a line end. Kinds and types 0 and 2 are the principal's
+    /// and the resource's, type 4 is bool; values 0 and 1 are a principal and a resource, 2 is true. Lines are counted from the first node.
+    fn refused(lines: &str) -> (u32, u32) {
+        let head = "sheet=partial/text=Broker/text=Action/text=Tariff/text=q/kind=0,e/kind=1,a/kind=2,e/type=entity,0/type=entity,1/\
+                    type=entity,2/type=record/type=bool/shape=3,-/shape=3,-/shape=3,-/value=entity,0,3/value=entity,2,3/value=bool,1/\
+                    principal=0,?/action=1,3/resource=2,?/context=3,?/day=2000-01-01/";
+        let bytes = format!("{head}{lines}").replace('/', "\n").into_bytes();
+        let before = head.matches('/').count() as u32;
+        read(Mode::Partial, &bytes).map_or_else(|refusal| (refusal.number, refusal.line - before), |_| (0, 0))
+    }
+
+    #[test]
+    fn links() {
+        let both = "node=0,slot,p/node=2,slot,r/node=4,eq,0,1/policy=0,permit,2/";
+        for (lines, wanted) in [
+            ("link=0,0,1/", (0, 0)),
+            ("link=0,0,1/term=0,2000-01-01,2000-01-01/", (0, 0)),
+            ("link=0,0/", (3, 5)),
+            ("link=0,0,?/", (3, 5)),
+            ("term=0,2000-01-01,2000-01-01/link=0,0,1/", (3, 6)),
+            ("link=1,0,1/", (5, 5)),
+            ("link=0,0,1/link=0,0,1/", (5, 6)),
+            ("link=0,0,3/", (5, 5)),
+            ("link=0,0,-/", (5, 5)),
+            ("link=0,-,1/", (5, 5)),
+            ("link=0,1,0/", (7, 5)),
+            ("link=0,0,2/", (7, 5)),
+            ("", (5, 4)),
+            ("policy=1,forbid,2/link=0,0,1/", (5, 5)),
+            ("policy=1,forbid,2/link=0,0,1/link=1,0,1/", (0, 0)),
+            ("term=1,2000-01-01,2000-01-01/", (5, 5)),
+        ] {
+            assert_eq!(refused(&format!("{both}{lines}")), wanted, "{lines}");
+        }
+        for (lines, wanted) in [
+            ("node=4,slot,p/", (7, 1)),
+            ("node=0,slot,a/", (3, 1)),
+            ("node=0,slot,p/node=0,slot,p/node=4,eq,0,1/policy=0,permit,2/link=0,0,-/", (0, 0)),
+            ("node=0,slot,p/node=2,slot,p/node=4,eq,0,1/policy=0,permit,2/link=0,0,-/", (7, 5)),
+            ("node=0,slot,p/node=4,lit,2/policy=0,permit,1/", (8, 1)),
+            ("node=4,lit,2/policy=0,permit,0/policy=1,permit,0/link=0,-,-/", (0, 0)),
+            ("node=4,lit,2/policy=0,permit,0/link=0,0,-/", (5, 3)),
+            ("node=4,lit,2/node=4,not,0/policy=0,permit,1/policy=1,permit,0/", (8, 4)),
+            ("node=4,lit,2/node=4,not,0/node=4,not,0/", (8, 3)),
+        ] {
+            assert_eq!(refused(lines), wanted, "{lines}");
+        }
+    }
 
     #[test]
     fn days() {

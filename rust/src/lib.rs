@@ -1,8 +1,8 @@
 //! A partial evaluator for Cedar policies, proved: a safe crate over its static library.
 //!
-//! A *sheet* is a text of `key=value` lines with a schema, known values and entities, a request, its day, policies and their terms. The
-//! answer says for each policy on term that day whether it is true, false, in error or open, what is left of it, and the decision. The library is written
-//! in Rattle, and every function of it is proved to meet its contract; the repository's README.md says what is proved and what is assumed.
+//! A *sheet* is a text of `key=value` lines with a schema, known values and entities, a request, its day, policies, the links that fill
+//! their slots, and their terms. The answer says for each policy on term that day whether it is true, false, in error or open, what
+//! is left of it, and the decision. The library is written in Rattle, and every function of it is proved to meet its contract; the repository's README.md says what is proved and what is assumed.
 //!
 //! [`Evaluator`] keeps the slices that a call works in and gives an [`Outcome`]:
 //!
@@ -52,6 +52,9 @@ pub const WORDS: usize = 16384;
 
 /// The bytes that a sheet may have.
 pub const SHEET: usize = 16384;
+
+/// The bytes of an answer buffer that is long enough for every sheet: no answer is longer. An [`Evaluator`] lends so many.
+pub const ANSWER: usize = 1048576;
 
 extern "C" {
     fn openrules_partial(
@@ -107,10 +110,10 @@ impl Refusal {
             1 => "a work slice has under 16,384 words",
             2 => "the sheet has over 16,384 bytes",
             3 => "form, length, range, key, key order or item count wrong, no such day, `?` misplaced, or a line missing",
-            4 => "one line too many of a key",
-            5 => "a reference is absent, or a repeat, or wrong order, or a term's last day before its first",
+            4 => "one line too many of a key, or over 1,024 node uses",
+            5 => "a reference is absent, or a repeat, or wrong order, or a term's last day before its first, or a slot without its value",
             6 => "depth over 64",
-            7 => "typing, request kind or shape",
+            7 => "typing, request kind or shape, or a link's value that does not fit its slot",
             8 => "a node is used twice or never",
             10 => "the answer buffer is shorter than the answer",
             _ => "no refusal",
@@ -213,9 +216,9 @@ pub struct Evaluator {
 }
 
 impl Evaluator {
-    /// Two work slices of 16,384 words, so that number 1 is never met, and an answer buffer of 65,536 bytes.
+    /// Two work slices of [`WORDS`] words and an answer buffer of [`ANSWER`] bytes, so that the numbers 1 and 10 are never met.
     pub fn new() -> Evaluator {
-        Evaluator { first: vec![0; WORDS], second: vec![0; WORDS], out: vec![0; 65536] }
+        Evaluator { first: vec![0; WORDS], second: vec![0; WORDS], out: vec![0; ANSWER] }
     }
 
     /// The answer to a partial sheet.

@@ -1,7 +1,7 @@
 //! Known sheets through the safe crate: the worked input of the program, every form of refusal that it can meet, and what the
 //! calls leave in the slices that they are lent.
 
-use openrules::{complete, partial, Evaluator, Outcome, Refusal, WORDS};
+use openrules::{complete, partial, Evaluator, Outcome, Refusal, ANSWER as LONGEST, SHEET as GREATEST, WORDS};
 
 /// The worked input, one principal unknown, and its answer.
 const SHEET: &str = include_str!("../../crates/openrules/stdin");
@@ -73,6 +73,59 @@ fn days_and_terms() {
     assert_eq!(evaluator.partial(term(2, "1900-01-01", "2199-12-31").as_bytes()), refused(5, 32, 0));
     assert_eq!(evaluator.partial(term(1, "2000-02-29", "2000-02-28").as_bytes()), refused(5, 32, 0));
     assert_eq!(evaluator.partial(term(1, "2000-02-30", "2000-02-29").as_bytes()), refused(3, 32, 0));
+}
+
+#[test]
+fn templates() {
+    let mut evaluator = Evaluator::new();
+    // the same rule, with a slot where its broker stood
+    let template = SHEET.replace("node=2,lit,0", "node=2,slot,p");
+    let with = |link: &str| format!("{template}{link}\n");
+    assert_eq!(evaluator.partial(with("link=0,0,-").as_bytes()), Outcome::Answer(ANSWER));
+    assert_eq!(evaluator.partial(template.as_bytes()), refused(5, 30, 0));
+    for (link, number) in
+        [("link=0,?,-", 3), ("link=0,-,-", 5), ("link=0,0,0", 5), ("link=1,0,-", 5), ("link=2,0,-", 5), ("link=0,1,-", 7)]
+    {
+        assert_eq!(evaluator.partial(with(link).as_bytes()), refused(number, 32, 0), "{link}");
+    }
+    // one root, two policies, each with its own link
+    let shared = template.replace("node=0,lit,1\n", "").replace("policy=6,permit,3", "policy=6,permit,2");
+    assert_eq!(evaluator.partial(format!("{shared}link=0,0,-\n").as_bytes()), refused(5, 30, 0));
+    let both = "decision=open\ncounts=0,0,0,2,0,0,0,0\nnode=2,var,p\nnode=2,lit,0\nnode=0,eq,0,1\nnode=2,var,p\nnode=2,lit,0\n\
+                node=0,eq,3,4\npolicy=5,permit,open,2\npolicy=6,permit,open,5\n";
+    assert_eq!(evaluator.partial(format!("{shared}link=0,0,-\nlink=1,0,-\n").as_bytes()), Outcome::Answer(both));
+    // a root that a node uses
+    let used =
+        SHEET.replace("policy=6,permit,3", "policy=6,permit,4").replace("node=0,lit,1\n", "node=0,lit,1\nnode=0,and,2,3\n");
+    assert_eq!(evaluator.partial(used.as_bytes()), refused(8, 31, 0));
+}
+
+/// 64 policies over one root of so many nodes: a comparison of the broker's name with a pattern of so many `*`, and `not`.
+fn many(nodes: usize, stars: usize) -> String {
+    let ids: String = (0..64).map(|n| format!("text=p{n}\n")).collect();
+    let nots: String = (2..nodes - 1).map(|n| format!("node=0,not,{n}\n")).collect();
+    let policies: String = (0..64).map(|n| format!("policy={},permit,{}\n", 8 + n, nodes - 1)).collect();
+    let head = SHEET[..SHEET.find("node=").expect("nodes")]
+        .replace("kind=0,e", &format!("{ids}kind=0,e"))
+        .replace("shape=1,-\nshape=1,-\nshape=1,-", "type=string\ntype=record,7,r,3\nshape=1,-\nshape=1,-\nshape=1,-")
+        .replace("context=1,?", "context=4,?");
+    format!("{head}node=4,var,c\nnode=3,get,0,7\nnode=0,like,1{}\n{nots}{policies}", ",*".repeat(stars))
+}
+
+#[test]
+fn uses_and_long_answers() {
+    let mut evaluator = Evaluator::new();
+    // 1,024 uses, and as long an answer as can be: nothing is refused for its length
+    let stars = (GREATEST - many(16, 0).len()) / 2;
+    let longest = many(16, stars);
+    let Outcome::Answer(answer) = evaluator.partial(longest.as_bytes()) else { panic!("1,024 uses were refused") };
+    assert!(answer.len() > 880_000 && answer.len() <= LONGEST);
+    let needed = answer.len();
+    let (mut first, mut second, mut out) = (vec![7; WORDS], vec![7; WORDS], vec![7; 65536]);
+    assert_eq!(partial(longest.as_bytes(), &mut first, &mut second, &mut out), refused(10, 0, needed));
+    // the 61st policy has the 1,025th use: 60 * 17 are 1,020
+    let line = many(17, 1).lines().position(|line| line.starts_with("policy=")).expect("policies") + 61;
+    assert_eq!(evaluator.partial(many(17, 1).as_bytes()), refused(4, line, 0));
 }
 
 #[test]

@@ -5,7 +5,7 @@ use mathlib.Core.List.{List}
 use Prim.Native.Nat.{ℕ, zero, suc, _≤_, _<_}
 use native.Mathlib.Omega.{arith}
 use borrow.Author.Tests.{lt-ltb, le-ltb, ne-eqb}
-use lib.ListN.{length, getD}
+use lib.ListN.{length}
 use Rattle.sheet.specs.Forms.{Mode, partial, complete, NODE, POLICY}
 use Rattle.sheet.specs.Sheet.{read}
 use Rattle.sheet.specs.Answer.{answer}

@@ -1,5 +1,5 @@
 -- "Type rule for `has` or `hastag` on an action kind: not applied."
-use mathlib.Core.Path.{_≡_, refl, ap}
+use mathlib.Core.Path.{_≡_, ap}
 use mathlib.Core.Bool.{true, not, _&&_}
 use mathlib.Core.Option.{none}
 use Prim.Native.Nat.{ℕ}

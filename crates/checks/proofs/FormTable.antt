@@ -5,14 +5,14 @@ use mathlib.Core.List.{List, [], _∷_}
 use Prim.Native.Nat.{ℕ, zero, suc, _+_, _-_, _*_, _/_, _%_, _^_, _≤_, _<_}
 use native.Mathlib.Omega.{arith}
 use native.Mathlib.Decide.{decLt}
-use borrow.Author.Tests.{leb-true, eqb-true, eq-eqb, ne-eqb, le-ltb}
+use borrow.Author.Tests.{leb-true, eqb-true, eq-eqb, ne-eqb, le-ltb, not-true}
 use lib.Dec.{leb, eqb}
 use lib.ListN.{length, getD}
 use Rattle.sheet.specs.Forms.{Slot, line, nothing, Form, forms, formOf, noForm, slotIn, slotAt, noTag, TYPE, POLICY}
 use Rattle.sheet.proofs.Parsed.{allBelow, all-below}
 use Rattle.forms.specs.declared.Form as F
 use Rattle.forms.specs.Rows.{LINE, EFFECT, OF-TYPE, OF-VALUE, OF-NODE, code as codeOf, coded, Packed}
-use Rattle.forms.specs.Tags.{LIT, ERR, AND, IS, RECORD-OF}
+use Rattle.forms.specs.Tags.{LIT, ERR, AND, IS, SET-OF, RECORD-OF, POLICY-LINE}
 use Rattle.forms.proofs.Tests.{ranged}
 use Rattle.forms.proofs.Table.{no-form, group-small, both-small, group-are, rises-are, node-slot}
 use Rattle.checks.specs.Codes.{keyIn, packed, packedFrom, formCode, againCode, codesAfter, codesAt}
@@ -169,17 +169,36 @@ code-at t j w c hw hc = go (decLt t noTag)
         let m : keyIn (slotAt t j) ≡ 0 = ap keyIn s in
         (q, omega (arith, m))
 
--- the forms before those that work on nodes refer to none
+-- the forms before those that work on nodes refer to none, nor do those after a policy's
 isOther : ℕ → Slot → Bool
 isOther w s = not (eqb (codeOf s) OF-NODE)
 
 pub no-node : (t j : ℕ) → t < AND → eqb (codeOf (slotAt t j)) OF-NODE ≡ false
 unfolding isOther codesAt formCode againCode coded forms formOf slotAt codeOf
-no-node t j h = go (eqb (codeOf (slotAt t j)) OF-NODE) (every-place isOther 0 AND refl t j (omega arith) h)
+no-node t j h = not-true (eqb (codeOf (slotAt t j)) OF-NODE) (every-place isOther 0 AND refl t j (omega arith) h)
+
+after-some : (t j : ℕ) → POLICY-LINE < t → t < noTag → eqb (codeOf (slotAt t j)) OF-NODE ≡ false
+unfolding isOther codesAt formCode againCode coded forms formOf slotAt codeOf
+after-some t j l h = not-true (eqb (codeOf (slotAt t j)) OF-NODE) (every-place isOther (POLICY-LINE + 1) (noTag - (POLICY-LINE + 1)) refl t j l h)
+
+after-none : (t j : ℕ) → noTag ≤ t → eqb (codeOf (slotAt t j)) OF-NODE ≡ false
+unfolding codeOf
+after-none t j h = ap (λ (s : Slot). eqb (codeOf s) OF-NODE) (slot-none t j h)
+
+pub no-node-after : (t j : ℕ) → POLICY-LINE < t → eqb (codeOf (slotAt t j)) OF-NODE ≡ false
+no-node-after t j h = go (decLt t noTag)
   where
-    go : (b : Bool) → not b ≡ true → b ≡ false
-    go true e = sym e
-    go false e = refl
+    go : Dec (t < noTag) → eqb (codeOf (slotAt t j)) OF-NODE ≡ false
+    go (yes l) = after-some t j h l
+    go (no l) = after-none t j (omega arith)
+
+-- of the items of a node that is neither a set nor a record none must ascend
+isFlat : ℕ → Bool
+isFlat t = not (formOf t .ascends)
+
+pub flat-node : (t : ℕ) → LIT ≤ t → t < SET-OF → formOf t .ascends ≡ false
+unfolding isFlat forms formOf
+flat-node t l h = not-true (formOf t .ascends) (ranged isFlat LIT (SET-OF - LIT) refl t l h)
 
 -- ---- the first places of nodes
 

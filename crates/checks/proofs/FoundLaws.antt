@@ -14,37 +14,38 @@ use lib.ListN.{length, getD, drop, drop-of-length-le, length-drop}
 use lib.Seq.{drop-cons, getD-drop}
 use Rattle.cedar.specs.Numbered.{memN}
 use Rattle.sheet.specs.Bytes.{same}
-use Rattle.sheet.specs.Forms.{Slot, entry, line, lineOr, lineUnknown, word, number, day, nothing, dash, Form, forms, formOf, noForm, slotAt, tag, items, at, mark, everyFrom, refs, ascendings, TEXT, KIND, TYPE, VALUE, ENTITY, NODE, POLICY, TERM, noKey}
+use Rattle.sheet.specs.Forms.{Slot, entry, line, lineOr, lineUnknown, word, number, day, nothing, dash, Form, forms, formOf, noForm, slotAt, tag, items, at, mark, everyFrom, refs, ascendings, TEXT, KIND, TYPE, VALUE, ENTITY, NODE, POLICY, LINK, TERM, noKey}
 use Rattle.sheet.specs.State.{lineAt, count}
-use Rattle.sheet.specs.Sheet.{thereIs, allThere, ascend, among, firsts, above, termGoes, fresh, found, deepest, depth}
+use Rattle.sheet.specs.Sheet.{thereIs, allThere, ascend, among, firsts, above, slotGiven, termGoes, fresh, found, deepest, depth}
 use Rattle.table.specs.Layout.{held, part, rowsOf, textRow}
 use Rattle.table.proofs.Rows.{count-held, count-rows, lines-held}
 use Rattle.cedar.proofs.Tools.{no-true}
 use Rattle.forms.specs.declared.Form as F
-use Rattle.forms.specs.Rows.{KIND-LETTER, FIELD-LETTER, BIT, PART-LETTER, EFFECT, LINE, UNKNOWN, DASH, STAR, wordCode, coded, code as codeOf}
-use Rattle.forms.specs.Tags.{TEXT-LINE}
+use Rattle.forms.specs.Rows.{KIND-LETTER, FIELD-LETTER, BIT, PART-LETTER, EFFECT, SLOT-LETTER, LINE, UNKNOWN, DASH, STAR, wordCode, coded, code as codeOf}
+use Rattle.forms.specs.Tags.{TEXT-LINE, LIT, SET-OF}
 use Rattle.forms.proofs.Table.{items-are, rises-are}
 use Rattle.checks.specs.Codes.{keyIn}
 use Rattle.checks.specs.Depths.{ThereAs, thereDepth}
-use Rattle.checks.proofs.FormTable.{stepIn, step-some, step-none}
+use Rattle.checks.proofs.FormTable.{stepIn, step-some, step-none, flat-node}
 use Rattle.checks.proofs.OrderLaws.{rowsHeld}
 
 -- ---- what an item refers to
 
-word-low : (w : String) → wordCode w ≤ EFFECT
-word-low w = go (same (ascii w) (ascii "e")) (same (ascii w) (ascii "o")) (same (ascii w) (ascii "0")) (same (ascii w) (ascii "p"))
+word-low : (w : String) (ws : List String) → wordCode w ws ≤ SLOT-LETTER
+word-low w ws = go (same (ascii w) (ascii "e")) (same (ascii w) (ascii "o")) (same (ascii w) (ascii "0")) (same (ascii w) (ascii "p")) (eqb (length ws) 1)
   where
-    go : (a b c d : Bool) → cond a KIND-LETTER (cond b FIELD-LETTER (cond c BIT (cond d PART-LETTER EFFECT))) ≤ EFFECT
-    go true b c d = omega arith
-    go false true c d = omega arith
-    go false false true d = omega arith
-    go false false false true = omega arith
-    go false false false false = omega arith
+    go : (a b c d e : Bool) → cond a KIND-LETTER (cond b FIELD-LETTER (cond c BIT (cond d (cond e SLOT-LETTER PART-LETTER) EFFECT))) ≤ SLOT-LETTER
+    go true b c d e = omega arith
+    go false true c d e = omega arith
+    go false false true d e = omega arith
+    go false false false true true = omega arith
+    go false false false true false = omega arith
+    go false false false false e = omega arith
 
-pub words-low : (ws : List String) → codeOf (word ws) ≤ EFFECT
+pub words-low : (ws : List String) → codeOf (word ws) ≤ SLOT-LETTER
 unfolding codeOf
 words-low [] = omega arith
-words-low (w ∷ ws) = word-low w
+words-low (w ∷ ws) = word-low w ws
 
 -- a line of key k, or a mark, has the number of a mark and k
 pub marks-high : (b k : ℕ) → (codeOf (lineOr b k) ≡ DASH + k) ⊎ (codeOf (lineOr b k) ≡ STAR + k)
@@ -250,6 +251,10 @@ rising-start r t m n ht hm z hn =
       near = omega (arith, hn .1);
     }
 
+pub rises-node : (r : List ℕ) (t : ℕ) → t ≡ tag r → LIT ≤ t → t < SET-OF → true ≡ ascend 0 (ascendings r)
+unfolding ascendings
+rises-node r t ht l h = sym (rw (← ht, flat-node t l h) refl)
+
 -- by the row of the table
 module _ (r : List ℕ) (t : ℕ) (q : F.Form) (ht : t ≡ tag r) (e : q ≡ coded (formOf t)) where
   pub rises-flat : not (q .rises) ≡ true → true ≡ ascend 0 (ascendings r)
@@ -332,7 +337,7 @@ module _ (x : ℕ) (a : List ℕ) (k n i : ℕ) (s : Named x a k i) (hn : n ≡ 
   pub named-end : n ≤ i → false ≡ memN x (firsts (rowsOf a k))
   named-end h = sym (s .left ∙ ap (λ (l : List (List ℕ)). memN x (firsts l)) (rows-end a k n i hn h))
 
--- ---- order of entities and terms
+-- ---- order of entities, links and terms
 
 module _ (a : List ℕ) (k : ℕ) (r : List ℕ) (hk : (k ≡ TEXT → ⊥) × (k < noKey)) (n : ℕ) (e : n ≡ getD a k 0) where
   count-is : count (rowsHeld a) k ≡ n
@@ -383,9 +388,12 @@ module _ (a : List ℕ) (k : ℕ) (r : List ℕ) where
   pub fresh-term : (b : Bool) → b ≡ (above (rowsHeld a) TERM r && termGoes r) → k ≡ TERM → b ≡ fresh (rowsHeld a) k r
   fresh-term b hb e = hb ∙ sym (rw e refl)
 
-  pub fresh-other : (k ≡ TEXT → ⊥) → (k ≡ TYPE → ⊥) → (k ≡ VALUE → ⊥) → (k ≡ KIND → ⊥) → (k ≡ POLICY → ⊥) → (k ≡ ENTITY → ⊥) → (k ≡ TERM → ⊥) → true ≡ fresh (rowsHeld a) k r
-  fresh-other text type value kind policy entity term =
-      sym (rw (ne-eqb k TEXT text, ne-eqb k TYPE type, ne-eqb k VALUE value, ne-eqb k KIND kind, ne-eqb k POLICY policy, ne-eqb k ENTITY entity, ne-eqb k TERM term) refl)
+  pub fresh-link : (b : Bool) → b ≡ (above (rowsHeld a) LINK r && (slotGiven (rowsHeld a) r 0 && slotGiven (rowsHeld a) r 1)) → k ≡ LINK → b ≡ fresh (rowsHeld a) k r
+  fresh-link b hb e = hb ∙ sym (rw e refl)
+
+  pub fresh-other : (k ≡ TEXT → ⊥) → (k ≡ TYPE → ⊥) → (k ≡ VALUE → ⊥) → (k ≡ KIND → ⊥) → (k ≡ POLICY → ⊥) → (k ≡ ENTITY → ⊥) → (k ≡ LINK → ⊥) → (k ≡ TERM → ⊥) → true ≡ fresh (rowsHeld a) k r
+  fresh-other text type value kind policy entity link term =
+      sym (rw (ne-eqb k TEXT text, ne-eqb k TYPE type, ne-eqb k VALUE value, ne-eqb k KIND kind, ne-eqb k POLICY policy, ne-eqb k ENTITY entity, ne-eqb k LINK link, ne-eqb k TERM term) refl)
 
   -- ---- all of 5, with the depth of 6
 

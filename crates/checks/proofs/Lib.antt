@@ -4,3 +4,6 @@ pub mod FoundLaws
 pub mod SearchLaws
 pub mod DepthLaws
 pub mod UseLaws
+pub mod UnderLaws
+pub mod NotedLaws
+pub mod LinkLaws

@@ -11,7 +11,7 @@ use borrow.Author.Tests.{eqb-true, eq-eqb, ne-eqb, lt-leb, le-leb}
 use lib.Dec.{leb, eqb}
 use lib.ListN.{length, getD, take, drop, set, drop-of-length-le, List·getD-eq-default}
 use lib.Seq.{drop-cons, getD-set-other, getD-take}
-use Rattle.sheet.specs.Forms.{noKey, SHEET, TEXT, KIND, SHAPE, PRINCIPAL, ACTION, RESOURCE, CONTEXT, DAY, NODE, POLICY, TERM}
+use Rattle.sheet.specs.Forms.{noKey, SHEET, TEXT, KIND, SHAPE, PRINCIPAL, ACTION, RESOURCE, CONTEXT, DAY, NODE, POLICY, LINK, TERM}
 use Rattle.sheet.specs.State.{State, count}
 use Rattle.sheet.specs.Sheet.{least, greatest, reach, enough, allZero, inOrder}
 use Rattle.sheet.proofs.Parsed.{allBelow}
@@ -34,7 +34,7 @@ counts-long a = length-tab (λ (k : ℕ). getD a k 0) 0 noKey
 -- ---- tables
 
 unfoldable leastTable : List ℕ
-leastTable = 1 ∷ 0 ∷ 0 ∷ 0 ∷ 0 ∷ 0 ∷ 0 ∷ 1 ∷ 1 ∷ 1 ∷ 1 ∷ 1 ∷ 0 ∷ 0 ∷ 0 ∷ []
+leastTable = 1 ∷ 0 ∷ 0 ∷ 0 ∷ 0 ∷ 0 ∷ 0 ∷ 1 ∷ 1 ∷ 1 ∷ 1 ∷ 1 ∷ 0 ∷ 0 ∷ 0 ∷ 0 ∷ []
 
 module _ (s : State) where
   least-set : least s ≡ set leastTable SHAPE (count s KIND)
@@ -119,19 +119,26 @@ module _ (a : List ℕ) (k i : ℕ) (z : Zeros a k i) where
   pub zeros-end : (r : Bool) → noKey ≤ i → r ≡ enough (rowsHeld a) k → r ≡ inOrder (rowsHeld a) k
   zeros-end r h e = e ∙ sym (order-is ∙ ap (λ (l : List ℕ). allZero l && enough (rowsHeld a) k) (drop-of-length-le (countsIn a) {i = i} (rw (counts-long a) h)))
 
--- after the nodes' key there are two keys
+-- after the nodes' key there are three keys
 pub nodes-off : (a : List ℕ) (k n : ℕ) → k ≡ NODE → n ≡ getD a POLICY 0 → (n ≡ 0 → ⊥) → false ≡ inOrder (rowsHeld a) k
 nodes-off a k n d e z = rw d (zeros-off a NODE POLICY (zeros-start a NODE) n (omega arith) e z)
 
-module _ (a : List ℕ) (k n m : ℕ) (d : k ≡ NODE) (e : n ≡ getD a POLICY 0) (z : n ≡ 0) (f : m ≡ getD a TERM 0) where
-  no-policies : Zeros a NODE TERM
+module _ (a : List ℕ) (k n m : ℕ) (d : k ≡ NODE) (e : n ≡ getD a POLICY 0) (z : n ≡ 0) (f : m ≡ getD a LINK 0) where
+  no-policies : Zeros a NODE LINK
   no-policies = zeros-on a NODE POLICY (zeros-start a NODE) n (omega arith) e z
 
-  pub terms-off : (m ≡ 0 → ⊥) → false ≡ inOrder (rowsHeld a) k
-  terms-off y = rw d (zeros-off a NODE TERM no-policies m (omega arith) f y)
+  pub links-off : (m ≡ 0 → ⊥) → false ≡ inOrder (rowsHeld a) k
+  links-off y = rw d (zeros-off a NODE LINK no-policies m (omega arith) f y)
 
-  pub nodes-on : (r : Bool) → m ≡ 0 → r ≡ enough (rowsHeld a) NODE → r ≡ inOrder (rowsHeld a) k
-  nodes-on r y h = rw d (zeros-end a NODE noKey (zeros-on a NODE TERM no-policies m (omega arith) f y) r (omega arith) h)
+  module _ (y : m ≡ 0) (l : ℕ) (g : l ≡ getD a TERM 0) where
+    no-links : Zeros a NODE TERM
+    no-links = zeros-on a NODE LINK no-policies m (omega arith) f y
+
+    pub terms-off : (l ≡ 0 → ⊥) → false ≡ inOrder (rowsHeld a) k
+    terms-off x = rw d (zeros-off a NODE TERM no-links l (omega arith) g x)
+
+    pub nodes-on : (r : Bool) → l ≡ 0 → r ≡ enough (rowsHeld a) NODE → r ≡ inOrder (rowsHeld a) k
+    nodes-on r x h = rw d (zeros-end a NODE noKey (zeros-on a NODE TERM no-links l (omega arith) g x) r (omega arith) h)
 
 -- ---- 3: keys before k
 

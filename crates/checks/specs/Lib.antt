@@ -1,4 +1,5 @@
 pub mod Codes
 pub mod Depths
 pub mod Ends
+pub mod Under
 pub mod Uses

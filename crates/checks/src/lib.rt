@@ -8,16 +8,21 @@ use forms::Form;
 use forms::IF;
 use forms::KIND;
 use forms::LINE;
+use forms::LINK;
 use forms::LIT;
 use forms::MARK;
 use forms::NO_KEY;
 use forms::NODE;
 use forms::OF_NODE;
 use forms::POLICY;
+use forms::POLICY_LINE;
 use forms::PRINCIPAL;
 use forms::RESOURCE;
+use forms::SET_OF;
 use forms::SHAPE;
 use forms::SHEET;
+use forms::SLOT;
+use forms::SLOT_P;
 use forms::TERM;
 use forms::TEXT;
 use forms::TEXT_LINE;
@@ -30,6 +35,9 @@ use forms::slots_of;
 use scan::same_bytes;
 use scan::same_words;
 use table::NODEDEPTHS;
+use table::SIZES;
+use table::SLOTS;
+use table::SPENT;
 use table::TYPEDEPTHS;
 use table::USES;
 use table::VALUEDEPTHS;
@@ -44,22 +52,23 @@ use words::put;
 use words::read;
 ghost use mathlib.Core.Path.{_≡_};
 ghost use mathlib.Core.List.{List, [], _∷_};
-ghost use mathlib.Core.Bool.{true, cond, _&&_};
+ghost use mathlib.Core.Bool.{true, cond, _&&_, not};
 ghost use Prim.Native.Nat.{ℕ, _+_, _-_, _*_, _≤_, _<_, max};
 ghost use lib.Dec.{leb, eqb};
 ghost use lib.ListN.{length, getD, drop};
 ghost use Rattle.cedar.specs.Numbered.{memN};
 ghost use Rattle.sheet.specs.Bytes.{same};
-ghost use Rattle.sheet.specs.Forms.{tag, keyOf, formOf, keep, refs, ascendings, noKey, TEXT, NODE, TERM};
+ghost use Rattle.sheet.specs.Forms.{tag, keyOf, formOf, keep, refs, ascendings, mark, noKey, TEXT, NODE, POLICY, LINK, TERM};
 ghost use Rattle.sheet.specs.State.{count};
-ghost use Rattle.sheet.specs.Sheet.{greatest, enough, inOrder, ascend, among, firsts, above, termGoes, fresh, found, depth};
+ghost use Rattle.sheet.specs.Sheet.{greatest, enough, inOrder, tooMany, ascend, among, firsts, above, slotGiven, termGoes, fresh, found, depth};
 ghost use Rattle.table.specs.Layout.{depthsIn, rowAt, rowsOf, textRow, textRows, held};
 ghost use Rattle.forms.specs.Rows.{LINE, OF-NODE};
 ghost use Rattle.forms.specs.Tags.{TEXT-LINE};
 ghost use Rattle.checks.specs.Codes.{packed, packedFrom, codesAfter};
 ghost use Rattle.checks.specs.Depths.{ThereAs, thereDepth, OnTwo, OnNone};
 ghost use Rattle.checks.specs.Ends.{RowEnds, endsOf, TextEnds};
-ghost use Rattle.checks.specs.Uses.{Marked};
+ghost use Rattle.checks.specs.Uses.{BY-NODE, BY-POLICY, markOf, Marked};
+ghost use Rattle.checks.specs.Under.{capped, bothOf, ownSlot, sizeAt, slotsAt, gatheredOn, underRow, spentOn, Noted};
 
 // ---- the table of forms
 
@@ -139,6 +148,9 @@ pub fn in_order(rows: &[u32], key: usize) -> bool
         if count(rows, POLICY) != 0 {
             return false;
         }
+        if count(rows, LINK) != 0 {
+            return false;
+        }
         if count(rows, TERM) != 0 {
             return false;
         }
@@ -155,7 +167,154 @@ pub fn in_order(rows: &[u32], key: usize) -> bool
     enough_before(rows, key)
 }
 
-// ---- 4: one line too many
+// ---- the nodes under a node
+
+// Whether a node is a slot, and which: that of the principal, that of the resource. Both where nodes under one have both.
+pub const NO_SLOT: u32 = 0;
+
+pub const FOR_PRINCIPAL: u32 = 1;
+
+pub const FOR_RESOURCE: u32 = 2;
+
+pub const FOR_BOTH: u32 = 3;
+
+// One node more than policies may use.
+pub const MANY: u32 = 1025;
+
+// How many nodes are under a node, itself too, `MANY` for as many or more, and which slots are among them.
+pub struct Under {
+    pub size: u32,
+    pub slots: u32,
+}
+
+// The sum, or `MANY`.
+fn sum_of(x: u32, y: u32) -> u32
+    ensures { λ r. ⌜ r ≡ capped (x + y) ⌝ }
+{
+    let n = x as usize + y as usize;
+    if n < MANY as usize {
+        return n as u32;
+    }
+    MANY
+}
+
+// The slots of both.
+fn both_of(x: u32, y: u32) -> u32
+    ensures { λ r. ⌜ r ≡ bothOf x y ⌝ }
+{
+    if x == y {
+        return x;
+    }
+    if x == NO_SLOT {
+        return y;
+    }
+    if y == NO_SLOT {
+        return x;
+    }
+    FOR_BOTH
+}
+
+// The slot that a node is.
+fn slot_of(line: &[u32]) -> u32
+    ensures { λ r. ⌜ r ≡ ownSlot (now (line .entry)) ⌝ }
+{
+    let t = tag(line);
+    if t != SLOT {
+        return NO_SLOT;
+    }
+    if item(line, 2) == SLOT_P {
+        return FOR_PRINCIPAL;
+    }
+    FOR_RESOURCE
+}
+
+// The nodes under node `x`.
+fn size_at(rows: &[u32], work: &[u32], x: u32) -> u32
+    ensures { λ r. ⌜ r ≡ sizeAt (now (rows .entry)) (now (work .entry)) x ⌝ }
+{
+    let n = count(rows, NODE);
+    if x >= n {
+        return 0;
+    }
+    read(work, SIZES + x as usize)
+}
+
+// The slots under node `x`.
+pub fn slots_at(rows: &[u32], work: &[u32], x: u32) -> u32
+    ensures { λ r. ⌜ r ≡ slotsAt (now (rows .entry)) (now (work .entry)) x ⌝ }
+{
+    let n = count(rows, NODE);
+    if x >= n {
+        return NO_SLOT;
+    }
+    read(work, SLOTS + x as usize)
+}
+
+// With the nodes under node `x`, if its slot refers to one.
+fn with_node(rows: &[u32], work: &[u32], slot: u8, x: u32, under: Under) -> Under
+    ensures { λ r. ⌜ r ≡ gatheredOn (now (rows .entry)) (now (work .entry)) (keep (eqb slot OF-NODE) x []) under ⌝ }
+{
+    if slot != OF_NODE {
+        return under;
+    }
+    let size = sum_of(under.size, size_at(rows, work, x));
+    let slots = both_of(under.slots, slots_at(rows, work, x));
+    Under { size, slots }
+}
+
+// What is under a row of a node.
+fn under_listed(rows: &[u32], work: &[u32], line: &[u32]) -> Under
+    ensures { λ r. ⌜ r ≡ underRow (now (rows .entry)) (now (work .entry)) (now (line .entry)) ⌝ }
+{
+    let t = tag(line);
+    let f = form_of(t);
+    let again = again_of(f);
+    let mut slots = slots_of(f);
+    let mut under = Under {
+        size: 1,
+        slots: slot_of(line),
+    };
+    let mut j = 0;
+    while j + 1 < line.len() {
+        let slot = (slots % 256) as u8;
+        let x = item(line, j + 1);
+        under = with_node(rows, work, slot, x, under);
+        slots = codes_after(slots, again);
+        j += 1;
+    }
+    under
+}
+
+// The same of a node that works on two.
+fn under_two(rows: &[u32], work: &[u32], line: &[u32]) -> Under
+    requires { ⌜ OnTwo (now line) ⌝ }
+    ensures { λ r. ⌜ r ≡ underRow (now (rows .entry)) (now (work .entry)) (now (line .entry)) ⌝ }
+{
+    let x = item(line, 2);
+    let y = item(line, 3);
+    let size = sum_of(sum_of(1, size_at(rows, work, x)), size_at(rows, work, y));
+    let slots = both_of(slots_at(rows, work, x), slots_at(rows, work, y));
+    Under { size, slots }
+}
+
+// The same of every node's row; those of the forms before the operations refer to no node.
+pub fn under_of(rows: &[u32], work: &[u32], line: &[u32]) -> Under
+    ensures { λ r. ⌜ r ≡ underRow (now (rows .entry)) (now (work .entry)) (now (line .entry)) ⌝ }
+{
+    let t = tag(line);
+    if t < AND {
+        return Under {
+            size: 1,
+            slots: NO_SLOT,
+        };
+    }
+    if is_on_two(line) {
+        return under_two(rows, work, line);
+    }
+    under_listed(rows, work, line)
+}
+
+// ---- 4: one line too many, or too many uses of nodes
 
 // The greatest number of lines of a key; there are as many shapes as kinds.
 fn most_of(rows: &[u32], key: usize) -> u32
@@ -170,7 +329,7 @@ fn most_of(rows: &[u32], key: usize) -> u32
     0
 }
 
-pub fn is_full(rows: &[u32], key: usize) -> bool
+fn is_full(rows: &[u32], key: usize) -> bool
     ensures { λ r. ⌜ r ≡ leb (getD (greatest (held [] (now (rows .entry)) [])) key 0) (count (held [] (now (rows .entry)) []) key) ⌝ }
 {
     let m = most_of(rows, key);
@@ -179,6 +338,27 @@ pub fn is_full(rows: &[u32], key: usize) -> bool
     }
     let n = count(rows, key);
     m <= n
+}
+
+// The uses of nodes by the policies and one more, of this row; `MANY` for as many or more.
+pub fn uses_with(rows: &[u32], work: &[u32], line: &[u32]) -> u32
+    ensures { λ r. ⌜ r ≡ spentOn (now (rows .entry)) (now (work .entry)) (now (line .entry)) ⌝ }
+{
+    sum_of(read(work, SPENT), size_at(rows, work, item(line, 3)))
+}
+
+// Whether a row of a key is one too many, or its policy uses too many nodes.
+pub fn too_many(rows: &[u32], work: &[u32], key: usize, line: &[u32]) -> bool
+    requires { ⌜ Noted (now rows) (now work) ⌝ }
+    ensures { λ b. ⌜ b ≡ tooMany (held [] (now (rows .entry)) []) key (now (line .entry)) ⌝ }
+{
+    if is_full(rows, key) {
+        return true;
+    }
+    if key == POLICY {
+        return uses_with(rows, work, line) == MANY;
+    }
+    false
 }
 
 // ---- 5: references, repeats, order
@@ -200,10 +380,16 @@ fn is_there(rows: &[u32], slot: u8, x: u32) -> bool
     x == MARK
 }
 
+// Whether the items of a row that must ascend do. Of a node's none must, before sets and records.
 fn ascends(line: &[u32]) -> bool
     ensures { λ b. ⌜ b ≡ ascend 0 (ascendings (now (line .entry))) ⌝ }
 {
     let t = tag(line);
+    if t >= LIT {
+        if t < SET_OF {
+            return true;
+        }
+    }
     let f = form_of(t);
     if !f.rises {
         return true;
@@ -336,7 +522,7 @@ pub fn is_text(sheet: &[u8], rows: &[u32], text: &[u8]) -> bool
 }
 
 // Whether `x` is the first item of a row of a key.
-fn is_first(rows: &[u32], key: usize, x: u32) -> bool
+pub fn is_first(rows: &[u32], key: usize, x: u32) -> bool
     ensures { λ b. ⌜ b ≡ memN x (firsts (rowsOf (now (rows .entry)) key)) ⌝ }
 {
     let n = count(rows, key);
@@ -363,6 +549,63 @@ fn is_above(rows: &[u32], key: usize, line: &[u32]) -> bool
     x < item(line, 1)
 }
 
+// Whether a value is given where there is a slot for it, and none where there is not.
+fn is_given(there: bool, value: u32) -> bool
+    ensures { λ b. ⌜ b ≡ cond there (not (eqb value mark)) (eqb value mark) ⌝ }
+{
+    if there {
+        return value != MARK;
+    }
+    value == MARK
+}
+
+// Whether a link line gives a value to each slot of its policy, and no other.
+fn slots_given(rows: &[u32], work: &[u32], line: &[u32]) -> bool
+    requires { ⌜ Noted (now rows) (now work) ⌝ }
+    ensures { λ b. ⌜ b ≡ slotGiven (held [] (now (rows .entry)) []) (now (line .entry)) 0 && slotGiven (held [] (now (rows .entry)) []) (now (line .entry)) 1 ⌝ }
+{
+    let root = item(row(rows, POLICY, item(line, 1)), 3);
+    let p = item(line, 2);
+    let q = item(line, 3);
+    match slots_at(rows, work, root) {
+        NO_SLOT => {
+            if !is_given(false, p) {
+                return false;
+            }
+            is_given(false, q)
+        }
+        FOR_PRINCIPAL => {
+            if !is_given(true, p) {
+                return false;
+            }
+            is_given(false, q)
+        }
+        FOR_RESOURCE => {
+            if !is_given(false, p) {
+                return false;
+            }
+            is_given(true, q)
+        }
+        _ => {
+            if !is_given(true, p) {
+                return false;
+            }
+            is_given(true, q)
+        }
+    }
+}
+
+// Whether a link line comes after the last one and gives its policy's slots their values.
+fn is_link(rows: &[u32], work: &[u32], line: &[u32]) -> bool
+    requires { ⌜ Noted (now rows) (now work) ⌝ }
+    ensures { λ b. ⌜ b ≡ above (held [] (now (rows .entry)) []) LINK (now (line .entry)) && (slotGiven (held [] (now (rows .entry)) []) (now (line .entry)) 0 && slotGiven (held [] (now (rows .entry)) []) (now (line .entry)) 1) ⌝ }
+{
+    if !is_above(rows, LINK, line) {
+        return false;
+    }
+    slots_given(rows, work, line)
+}
+
 // Whether the last day of a term is not before its first.
 fn term_goes(line: &[u32]) -> bool
     ensures { λ b. ⌜ b ≡ termGoes (now (line .entry)) ⌝ }
@@ -381,8 +624,9 @@ fn is_term(rows: &[u32], line: &[u32]) -> bool
 }
 
 // Whether a row of a key, which is not that of a text, repeats no other and keeps their order.
-fn is_fresh(rows: &[u32], key: usize, line: &[u32]) -> bool
+fn is_fresh(rows: &[u32], work: &[u32], key: usize, line: &[u32]) -> bool
     requires { ⌜ (key ≡ TEXT → ⊥) × (key ≡ keyOf (now line)) ⌝ }
+    requires { ⌜ Noted (now rows) (now work) ⌝ }
     ensures { λ b. ⌜ b ≡ fresh (held [] (now (rows .entry)) []) key (now (line .entry)) ⌝ }
 {
     if key == NODE {
@@ -402,6 +646,9 @@ fn is_fresh(rows: &[u32], key: usize, line: &[u32]) -> bool
     }
     if key == ENTITY {
         return is_above(rows, ENTITY, line);
+    }
+    if key == LINK {
+        return is_link(rows, work, line);
     }
     if key == TERM {
         return is_term(rows, line);
@@ -568,6 +815,7 @@ fn depth_there(rows: &[u32], work: &[u32], key: usize, line: &[u32]) -> usize
 // The depth of a row of a key, which is not that of a text; 0 where it refers to a line that is not there or is not new.
 pub fn new_depth(rows: &[u32], work: &[u32], key: usize, line: &[u32]) -> usize
     requires { ⌜ (key ≡ TEXT → ⊥) × (key ≡ keyOf (now line)) × (key < noKey) ⌝ }
+    requires { ⌜ Noted (now rows) (now work) ⌝ }
     ensures { λ d. ⌜ d ≡ cond (found (held [] (now (rows .entry)) []) key (now (line .entry))) (depth (held [] (now (rows .entry)) (now (work .entry))) key (now (line .entry))) 0 ⌝ }
 {
     let d = depth_there(rows, work, key, line);
@@ -577,7 +825,7 @@ pub fn new_depth(rows: &[u32], work: &[u32], key: usize, line: &[u32]) -> usize
     if !ascends(line) {
         return 0;
     }
-    if !is_fresh(rows, key, line) {
+    if !is_fresh(rows, work, key, line) {
         return 0;
     }
     d
@@ -585,9 +833,14 @@ pub fn new_depth(rows: &[u32], work: &[u32], key: usize, line: &[u32]) -> usize
 
 // ---- 8: uses of nodes
 
-// Marks node `x` as used, if its slot refers to one. Returns whether it was used before.
-fn use_node(rows: &[u32], work: &mut [u32], slot: u8, x: u32) -> bool
-    ensures { λ r. ⌜ Marked (now (rows .entry)) (now (work .entry)) (keep (eqb slot OF-NODE) x []) (now (work .exit)) r ⌝ }
+// What a used node is marked with: by a node, which uses it alone, or by a policy.
+const BY_NODE: u32 = 1;
+
+const BY_POLICY: u32 = 2;
+
+// Marks node `x` as used, if its slot refers to one. Returns whether a node used it before.
+fn use_node(rows: &[u32], work: &mut [u32], slot: u8, x: u32, mark: u32) -> bool
+    ensures { λ r. ⌜ Marked mark (now (rows .entry)) (now (work .entry)) (keep (eqb slot OF-NODE) x []) (now (work .exit)) r ⌝ }
 {
     if slot != OF_NODE {
         return false;
@@ -598,16 +851,16 @@ fn use_node(rows: &[u32], work: &mut [u32], slot: u8, x: u32) -> bool
     }
     let i = USES + x as usize;
     let u = read(work, i);
-    if u == 1 {
+    if u == BY_NODE {
         return true;
     }
-    put(work, i, 1);
+    put(work, i, mark);
     false
 }
 
-// Marks the nodes that a row uses, in turn. Returns whether one was used before.
+// Marks the nodes that a node's row uses, in turn. Returns whether one was used before.
 fn use_listed(rows: &[u32], work: &mut [u32], line: &[u32]) -> bool
-    ensures { λ d. ⌜ Marked (now (rows .entry)) (now (work .entry)) (refs NODE (now (line .entry))) (now (work .exit)) d ⌝ }
+    ensures { λ d. ⌜ Marked BY-NODE (now (rows .entry)) (now (work .entry)) (refs NODE (now (line .entry))) (now (work .exit)) d ⌝ }
 {
     let t = tag(line);
     let f = form_of(t);
@@ -617,7 +870,7 @@ fn use_listed(rows: &[u32], work: &mut [u32], line: &[u32]) -> bool
     while j + 1 < line.len() {
         let slot = (slots % 256) as u8;
         let x = item(line, j + 1);
-        if use_node(rows, work, slot, x) {
+        if use_node(rows, work, slot, x, BY_NODE) {
             return true;
         }
         slots = codes_after(slots, again);
@@ -626,29 +879,46 @@ fn use_listed(rows: &[u32], work: &mut [u32], line: &[u32]) -> bool
     false
 }
 
+// Marks the root that a policy's row uses. Returns whether a node used it before.
+fn use_root(rows: &[u32], work: &mut [u32], line: &[u32]) -> bool
+    requires { ⌜ keyOf (now line) ≡ POLICY ⌝ }
+    ensures { λ d. ⌜ Marked BY-POLICY (now (rows .entry)) (now (work .entry)) (refs NODE (now (line .entry))) (now (work .exit)) d ⌝ }
+{
+    if line.len() < 4 {
+        return false;
+    }
+    use_node(rows, work, OF_NODE, item(line, 3), BY_POLICY)
+}
+
 // The same of a node that works on two.
 fn use_two(rows: &[u32], work: &mut [u32], line: &[u32]) -> bool
     requires { ⌜ OnTwo (now line) ⌝ }
-    ensures { λ d. ⌜ Marked (now (rows .entry)) (now (work .entry)) (refs NODE (now (line .entry))) (now (work .exit)) d ⌝ }
+    ensures { λ d. ⌜ Marked BY-NODE (now (rows .entry)) (now (work .entry)) (refs NODE (now (line .entry))) (now (work .exit)) d ⌝ }
 {
     let y = item(line, 2);
-    if use_node(rows, work, OF_NODE, y) {
+    if use_node(rows, work, OF_NODE, y, BY_NODE) {
         return true;
     }
     let z = item(line, 3);
-    use_node(rows, work, OF_NODE, z)
+    use_node(rows, work, OF_NODE, z, BY_NODE)
 }
 
-// The same of every row; those of the forms before the operations use no node.
+// The same of every row of a key; those of the forms before the operations, and of those after a policy's, use no node.
 pub fn use_nodes(rows: &[u32], work: &mut [u32], line: &[u32]) -> bool
-    ensures { λ d. ⌜ Marked (now (rows .entry)) (now (work .entry)) (refs NODE (now (line .entry))) (now (work .exit)) d ⌝ }
+    ensures { λ d. ⌜ Marked (markOf (keyOf (now (line .entry)))) (now (rows .entry)) (now (work .entry)) (refs NODE (now (line .entry))) (now (work .exit)) d ⌝ }
 {
     let t = tag(line);
     if t < AND {
         return false;
     }
-    if is_on_two(line) {
-        return use_two(rows, work, line);
+    if t < POLICY_LINE {
+        if is_on_two(line) {
+            return use_two(rows, work, line);
+        }
+        return use_listed(rows, work, line);
     }
-    use_listed(rows, work, line)
+    if t == POLICY_LINE {
+        return use_root(rows, work, line);
+    }
+    false
 }

@@ -1,4 +1,4 @@
--- For every accepted complete sheet, the run over the words that hold it leaves the class that the Cedar specification gives each policy on term.
+-- For every accepted complete sheet, the run over the words that hold it leaves the class that the Cedar specification gives each policy on term, under its link.
 use mathlib.Core.Path.{_≡_, refl, sym, _∙_, ap, ap₂, subst}
 use mathlib.Core.Bool.{cond}
 use mathlib.Core.Option.{Option, some}
@@ -14,7 +14,7 @@ use Rattle.cedar.specs.Runs.{NPolicy, completeAnswer}
 use Rattle.cedar.specs.Table.{Table}
 use Rattle.cedar.specs.Numbered.{NEnv}
 use Rattle.sheet.specs.Forms.{complete, at, VALUE, ENTITY, NODE}
-use Rattle.sheet.specs.State.{State, linesOf, count, valueRow}
+use Rattle.sheet.specs.State.{State, linesOf, valueRow}
 use Rattle.sheet.specs.Content.{types, rowsIn, valueRows, contents, schema, requestTy, given, entityLine, lineGiven, nEnv, env, nPolicies, policies, onTerm}
 use Rattle.sheet.specs.Sheet.{read}
 use Rattle.sheet.specs.Answer.{results}
@@ -24,7 +24,7 @@ use Rattle.sheet.proofs.OwnPolicies.{read-own}
 use Rattle.sheet.proofs.Environment.{Facts, all-keys}
 use Rattle.sheet.proofs.CompleteRun.{whole-read}
 use Rattle.sheet.proofs.MadeCount.{policySizes}
-use Rattle.sheet.proofs.Uses.{policies-small}
+use Rattle.sheet.proofs.NeverNine.{policy-sizes}
 use Rattle.sheet.proofs.Depths.{Depths, Reached, read-reached, reached-depths}
 use Rattle.table.specs.Layout.{rowsOf, rowsAt, base, held, linesHeld, RUN, MADE, limit, limits, Sound}
 use Rattle.table.proofs.Rows.{count-rows}
@@ -33,7 +33,8 @@ use Rattle.value.proofs.Interned.{Formeds, none-formed, one-formed}
 use Rattle.tpe.specs.Fits.{Fits}
 use Rattle.tpe.proofs.Reach.{reach-start}
 use Rattle.tpe.proofs.Stands.{Hold, Room}
-use Rattle.evaluator.specs.Run.{values, classNumbers, runOf, ranFrom, evalOf}
+use Rattle.evaluator.specs.Run.{values, classNumbers, runOf, ranFrom}
+use Rattle.evaluator.proofs.Ways.{under}
 use Rattle.evaluator.proofs.Gives.{Stand}
 use Rattle.evaluator.proofs.Evaluates.{policiesAt, Runs, run-is}
 use Rattle.evaluator.proofs.Depth.{policies-whole}
@@ -123,20 +124,16 @@ module _ (sheet a b : List ℕ) where
         let t = run-is sheet a (env (held sheet a b)) (rowsOf a RUN) 0 a [] (contents (held sheet a b)) refl start
         (subst (λ (ps : List NPolicy). Room (policySizes ps) a []) (sym all-policies) room)
         (omega (arith, fits, ap policySizes all-policies))
-        (subst (λ (ps : List NPolicy). ReadPolicies (contents (held sheet a b)) ps (policies (held sheet a b))) (sym all-policies) (read-own complete (held sheet a b) (f .history))) in
-        subst (λ (k : ℕ). Runs sheet a (env (held sheet a b)) [] (classNumbers (results (held sheet a b))) (ranFrom (evalOf sheet 64) k 0 a [])) (count-rows a RUN)
-        (subst (λ (S : Schema). Runs sheet a (env (held sheet a b)) [] (classNumbers (completeAnswer S (env (held sheet a b)) (policies (held sheet a b)))) (ranFrom (evalOf sheet 64) (length (rowsOf a RUN)) 0 a [])) schema-same t)
+        (subst (λ (ps : List NPolicy). ReadPolicies (contents (held sheet a b)) ps (policies (held sheet a b))) (sym all-policies) (read-own complete (held sheet a b) (f .history) (f .ends))) in
+        subst (λ (k : ℕ). Runs sheet a (env (held sheet a b)) [] (classNumbers (results (held sheet a b))) (ranFrom (under sheet) k 0 a [])) (count-rows a RUN)
+        (subst (λ (S : Schema). Runs sheet a (env (held sheet a b)) [] (classNumbers (completeAnswer S (env (held sheet a b)) (policies (held sheet a b)))) (ranFrom (under sheet) (length (rowsOf a RUN)) 0 a [])) schema-same t)
 
-    pub run-few : policySizes (nPolicies (held sheet a b)) ≤ getD a NODE 0 → Fits a → Runs sheet a (env (held sheet a b)) [] (classNumbers (results (held sheet a b))) (runOf sheet a)
+    pub run-few : policySizes (nPolicies (held sheet a b)) ≤ 1024 → Fits a → Runs sheet a (env (held sheet a b)) [] (classNumbers (results (held sheet a b))) (runOf sheet a)
     unfolding limit limits
     run-few few fits =
-        let n = sound .few NODE (omega arith) in
         let p = sound .few RUN (omega arith) in
         let q = count-rows a RUN in
-        run-held (record { top = omega (arith, few, fits, n, reach-start a); few = omega (arith, few, none, n); log = omega (arith, few, n) }) (omega (arith, few, n, p, q))
-
-  nodes-count : count (held sheet a b) NODE ≡ getD a NODE 0
-  nodes-count = ap length nodes-held ∙ count-rows a NODE
+        run-held (record { top = omega (arith, few, fits, reach-start a); few = omega (arith, few, none); log = omega (arith, few) }) (omega (arith, few, p, q))
 
 -- of an accepted complete sheet that the words hold, as reading leaves it
 module _ (sheet a b : List ℕ) (e : read complete sheet .number ≡ 0) (h : read complete sheet .state ≡ held sheet a b) (sound : Sound a) (none : getD a MADE 0 ≡ 0)
@@ -144,13 +141,12 @@ module _ (sheet a b : List ℕ) (e : read complete sheet .number ≡ 0) (h : rea
   the-run : Runs sheet a (env (held sheet a b)) [] (classNumbers (results (held sheet a b))) (runOf sheet a)
   the-run =
       let (hi, fu) = accepted-history complete sheet e in
-      let f : Facts complete (held sheet a b) = subst (Facts complete) h (record { history = hi; full = fu; keys = all-keys complete sheet e }) in
+      let f : Facts complete (held sheet a b) = subst (Facts complete) h (record { history = hi; ends = fu; keys = all-keys complete sheet e }) in
       let d : Depths (held sheet a b) = reached-depths (subst (Reached complete) h (read-reached complete sheet)) in
-      let c : policySizes (nPolicies (held sheet a b)) ≤ count (held sheet a b) NODE = subst (λ (s : State). policySizes (nPolicies s) ≤ count s NODE) h (policies-small complete sheet e) in
-      let n = nodes-count sheet a b in
-      run-few sheet a b f d sound none runs (omega (arith, c, n)) fits
+      let c : policySizes (nPolicies (held sheet a b)) ≤ 1024 = subst (λ (s : State). policySizes (nPolicies s) ≤ 1024) h (policy-sizes complete sheet e) in
+      run-few sheet a b f d sound none runs c fits
 
-  -- THE THEOREM: the run's log is the list of the numbers of the classes that the Cedar specification gives the policies on term
+  -- THE THEOREM: the run's log is the list of the numbers of the classes that the Cedar specification gives the policies on term, each under its link
   pub complete-run : runOf sheet a .log ≡ classNumbers (results (read complete sheet .state))
   complete-run = subst (λ (s : State). runOf sheet a .log ≡ classNumbers (results s)) (sym h) (the-run .log)
 

@@ -11,9 +11,9 @@ use Rattle.cedar.specs.Residual.{Node, Nodes, NodeArgs, econs, gcons, err, and,
 use Rattle.cedar.specs.Runs.{NPolicy}
 use Rattle.cedar.proofs.TableLaws.{InN, now′}
 use Rattle.sheet.specs.Forms.{Mode, line, nothing, forms, formOf, slotAt, isLine, refsFrom, refs, tag, items, at, keyOf, firstNode, noTag, NODE, POLICY}
-use Rattle.forms.specs.Tags.{AND, OR, EQ, LT, LE, ADD, SUB, MUL, IN, GETTAG, HASTAG, CONTAINS, ALL, ANY, IF, IS, LIKE, GET, HAS, HASPATH, NOT, NEG, EMPTY, SET-OF, RECORD-OF, POLICY-LINE}
+use Rattle.forms.specs.Tags.{AND, OR, EQ, LT, LE, ADD, SUB, MUL, IN, GETTAG, HASTAG, CONTAINS, ALL, ANY, IF, IS, LIKE, GET, HAS, HASPATH, NOT, NEG, EMPTY, SET-OF, RECORD-OF, SLOT, POLICY-LINE}
 use Rattle.sheet.specs.State.{State, linesOf, count, depthsOf}
-use Rattle.sheet.specs.Content.{types, patternOf, childrenOver, argsOver, treeOver, treesFrom, trees, effectOf, numberedPolicies, nPolicies, onTerm}
+use Rattle.sheet.specs.Content.{types, patternOf, childrenOver, argsOver, treeOver, treesFrom, trees, linked, effectOf, numberedPolicies, nPolicies, onTerm}
 use Rattle.sheet.proofs.Lines.{History}
 use Rattle.sheet.proofs.Parsed.{tags-between}
 use Rattle.sheet.proofs.NodeRows.{row-read}
@@ -27,9 +27,9 @@ use Rattle.sheet.proofs.OnTerm.{Each, on-term}
 use Rattle.evaluator.proofs.Many.{kidsWith, argsWith}
 use Rattle.evaluator.proofs.Evaluates.{treesOf, treesWith, treeWith, treeAt, policiesAt}
 
--- ---- trees of a row over t and over u, which agree at its references
+-- ---- trees of a row over t and over u, which agree at its references; sl is what stands for a slot
 
-module _ (t u : ℕ → Node ℕ) where
+module _ (sl : Ty → ℕ → Node ℕ) (t u : ℕ → Node ℕ) where
   abbrev Agree : List ℕ → Type 0
   Agree l = (y : ℕ) → InN y l → t y ≡ u y
 
@@ -84,9 +84,9 @@ module _ (t u : ℕ → Node ℕ) where
   record-same (x ∷ l) h = args-same 0 l (λ y i. h y (in-keep (isLine NODE (slotAt RECORD-OF 0)) x y (refsFrom NODE RECORD-OF 1 l) i))
 
   Same : ℕ → Type 0
-  Same g = (l : List ℕ) → length (formOf g .items) ≤ length l → (T : Ty) → Agree (refsFrom NODE g 0 l) → getD (treesWith t (g ∷ l) T) (g - firstNode) (err tbool) ≡ getD (treesWith u (g ∷ l) T) (g - firstNode) (err tbool)
+  Same g = (l : List ℕ) → length (formOf g .items) ≤ length l → (T : Ty) → Agree (refsFrom NODE g 0 l) → getD (treesWith sl t (g ∷ l) T) (g - firstNode) (err tbool) ≡ getD (treesWith sl u (g ∷ l) T) (g - firstNode) (err tbool)
 
-  rule-for : (d : ℕ) → firstNode + d ≤ RECORD-OF → Same (firstNode + d)
+  rule-for : (d : ℕ) → firstNode + d ≤ SLOT → Same (firstNode + d)
   unfolding Same slotAt formOf forms
   rule-for zero b l c T h = refl
   rule-for (suc zero) b l c T h = refl
@@ -116,9 +116,10 @@ module _ (t u : ℕ → Node ℕ) where
   rule-for (suc (suc (suc (suc (suc (suc (suc (suc (suc (suc (suc (suc (suc (suc (suc (suc (suc (suc (suc (suc (suc (suc (suc (suc (suc zero))))))))))))))))))))))))) b l c T h = ap (un T uempty) (one EMPTY l c refl h)
   rule-for (suc (suc (suc (suc (suc (suc (suc (suc (suc (suc (suc (suc (suc (suc (suc (suc (suc (suc (suc (suc (suc (suc (suc (suc (suc (suc zero)))))))))))))))))))))))))) b l c T h = ap (set T) (set-same l h)
   rule-for (suc (suc (suc (suc (suc (suc (suc (suc (suc (suc (suc (suc (suc (suc (suc (suc (suc (suc (suc (suc (suc (suc (suc (suc (suc (suc (suc zero))))))))))))))))))))))))))) b l c T h = ap (rec T) (record-same l h)
-  rule-for (suc (suc (suc (suc (suc (suc (suc (suc (suc (suc (suc (suc (suc (suc (suc (suc (suc (suc (suc (suc (suc (suc (suc (suc (suc (suc (suc (suc d)))))))))))))))))))))))))))) b l c T h = absurd (omega arith)
+  rule-for (suc (suc (suc (suc (suc (suc (suc (suc (suc (suc (suc (suc (suc (suc (suc (suc (suc (suc (suc (suc (suc (suc (suc (suc (suc (suc (suc (suc zero)))))))))))))))))))))))))))) b l c T h = refl
+  rule-for (suc (suc (suc (suc (suc (suc (suc (suc (suc (suc (suc (suc (suc (suc (suc (suc (suc (suc (suc (suc (suc (suc (suc (suc (suc (suc (suc (suc (suc d))))))))))))))))))))))))))))) b l c T h = absurd (omega arith)
 
-  pub tree-same : (ts : List Ty) (g : ℕ) (l : List ℕ) → firstNode ≤ g → g ≤ RECORD-OF → length (formOf g .items) ≤ length l → Agree (refsFrom NODE g 0 l) → treeWith ts t (g ∷ l) ≡ treeWith ts u (g ∷ l)
+  pub tree-same : (ts : List Ty) (g : ℕ) (l : List ℕ) → firstNode ≤ g → g ≤ SLOT → length (formOf g .items) ≤ length l → Agree (refsFrom NODE g 0 l) → treeWith ts sl t (g ∷ l) ≡ treeWith ts sl u (g ∷ l)
   unfolding Same
   tree-same ts g l lo hi c h =
       let rule : Same g = subst Same (omega (arith, lo)) (rule-for (g - firstNode) (omega (arith, lo, hi))) in
@@ -126,7 +127,7 @@ module _ (t u : ℕ → Node ℕ) where
 
 -- ---- the trees read line by line
 
-module _ (ts : List Ty) (ns : List (Node ℕ)) where
+module _ (ts : List Ty) (sl : Ty → ℕ → Node ℕ) (ns : List (Node ℕ)) where
   kids-over : (l : List ℕ) → kidsWith (λ x. getD ns x (err tbool)) l ≡ childrenOver ts (λ n. n) ns l
   kids-over [] = refl
   kids-over (n ∷ l) = ap (econs (getD ns n (err tbool))) (kids-over l)
@@ -136,8 +137,8 @@ module _ (ts : List Ty) (ns : List (Node ℕ)) where
   args-over (x ∷ []) = refl
   args-over (x ∷ n ∷ l) = ap (gcons x (getD ns n (err tbool))) (args-over l)
 
-  tree-over : (r : List ℕ) → treeWith ts (λ x. getD ns x (err tbool)) r ≡ treeOver ts (λ n. n) ns r
-  tree-over r = ap₂ (λ (ks : Nodes ℕ) (gs : NodeArgs ℕ). getD (treesOf (λ x. getD ns x (err tbool)) r (getD ts (at r 0) tbool) ks gs) (tag r - firstNode) (err tbool)) (kids-over (drop 1 (items r))) (args-over (drop 1 (items r)))
+  tree-over : (r : List ℕ) → treeWith ts sl (λ x. getD ns x (err tbool)) r ≡ treeOver ts (λ n. n) sl ns r
+  tree-over r = ap₂ (λ (ks : Nodes ℕ) (gs : NodeArgs ℕ). getD (treesOf sl (λ x. getD ns x (err tbool)) r (getD ts (at r 0) tbool) ks gs) (tag r - firstNode) (err tbool)) (kids-over (drop 1 (items r))) (args-over (drop 1 (items r)))
 
 getD-end : {A : Type 0} (l : List A) (a d : A) (rest : List A) → getD (l ++ (a ∷ rest)) (length l) d ≡ a
 getD-end [] a d rest = refl
@@ -150,9 +151,6 @@ module _ (m : Mode) (s : State) (h : History m s) (dp : Deep NODE (linesOf s NOD
   abbrev depthOf : ℕ → ℕ
   depthOf n = getD (depthsOf s NODE) n 0
 
-  abbrev Claim : List (Node ℕ) → ℕ → Type 0
-  Claim ns n = (d : ℕ) → depthOf n ≤ d → treeAt (types s) rows d n ≡ getD ns n (err tbool)
-
   -- a row's references are above it and less deep
   parts : (pre rest : List (List ℕ)) (r : List ℕ) → rows ≡ pre ++ (r ∷ rest) → (y : ℕ) → InN y (refs NODE r) → (y < length pre) × (depthOf y < depthOf (length pre))
   unfolding refs
@@ -164,48 +162,52 @@ module _ (m : Mode) (s : State) (h : History m s) (dp : Deep NODE (linesOf s NOD
       let b = dp .falls (length pre) y (subst (λ (l : List ℕ). InN y (refs NODE l)) (sym q) i) .1 in
       (omega (arith, a, z), b)
 
-  row-same : (pre rest : List (List ℕ)) (r : List ℕ) (e : rows ≡ pre ++ (r ∷ rest)) (t u : ℕ → Node ℕ) → ((y : ℕ) → InN y (refs NODE r) → t y ≡ u y) → treeWith (types s) t r ≡ treeWith (types s) u r
-  unfolding keyOf refs
-  row-same pre rest [] e t u f = let (lo, hi) = tags-between NODE firstNode RECORD-OF noTag (omega arith) node-tags (h NODE pre [] rest e .key) in absurd (omega (arith, hi))
-  row-same pre rest (g ∷ l) e t u f =
-      let w = h NODE pre (g ∷ l) rest e in
-      let (lo, hi) = tags-between NODE firstNode RECORD-OF g (omega arith) node-tags (w .key) in
-      let rd = row-read m (g ∷ l) (w .line) g (w .row) refl (omega (arith, lo)) (omega (arith, hi)) (λ z. absurd (omega (arith, z, lo))) in
-      tree-same t u (types s) g l lo hi (rd .least) f
+  -- what stands for a slot
+  module _ (sl : Ty → ℕ → Node ℕ) where
+    abbrev Claim : List (Node ℕ) → ℕ → Type 0
+    Claim ns n = (d : ℕ) → depthOf n ≤ d → treeAt (types s) sl rows d n ≡ getD ns n (err tbool)
 
-  new-claim : (pre rest : List (List ℕ)) (r : List ℕ) → rows ≡ pre ++ (r ∷ rest) → (ns : List (Node ℕ)) → ((n : ℕ) → n < length pre → Claim ns n) → (d : ℕ) → depthOf (length pre) ≤ d
-      → treeAt (types s) rows d (length pre) ≡ treeOver (types s) (λ n. n) ns r
-  unfolding treeAt
-  new-claim pre rest r e ns k zero c =
-      let z = ap length e in
-      let y = length-append pre (r ∷ rest) in
-      let a = dp .least (length pre) (omega (arith, z, y)) in
-      absurd (omega (arith, a, c))
-  new-claim pre rest r e ns k (suc d) c =
-      let q : getD rows (length pre) [] ≡ r = ap (λ (l : List (List ℕ)). getD l (length pre) []) e ∙ getD-end pre r [] rest in
-      ap (treeWith (types s) (treeAt (types s) rows d)) q
-      ∙ row-same pre rest r e (treeAt (types s) rows d) (λ x. getD ns x (err tbool)) (λ y i. let (a, b) = parts pre rest r e y i in k y a d (omega (arith, b, c)))
-      ∙ tree-over (types s) ns r
+    row-same : (pre rest : List (List ℕ)) (r : List ℕ) (e : rows ≡ pre ++ (r ∷ rest)) (t u : ℕ → Node ℕ) → ((y : ℕ) → InN y (refs NODE r) → t y ≡ u y) → treeWith (types s) sl t r ≡ treeWith (types s) sl u r
+    unfolding keyOf refs
+    row-same pre rest [] e t u f = let (lo, hi) = tags-between NODE firstNode SLOT noTag (omega arith) node-tags (h NODE pre [] rest e .key) in absurd (omega (arith, hi))
+    row-same pre rest (g ∷ l) e t u f =
+        let w = h NODE pre (g ∷ l) rest e in
+        let (lo, hi) = tags-between NODE firstNode SLOT g (omega arith) node-tags (w .key) in
+        let rd = row-read m (g ∷ l) (w .line) g (w .row) refl (omega (arith, lo)) (omega (arith, hi)) (λ z. absurd (omega (arith, z, lo))) in
+        tree-same sl t u (types s) g l lo hi (rd .least) f
 
-  claims-from : (pre rest : List (List ℕ)) (ns : List (Node ℕ)) → rows ≡ pre ++ rest → length ns ≡ length pre → ((n : ℕ) → n < length pre → Claim ns n) → (n : ℕ) → n < length rows → Claim (treesFrom (types s) (λ n. n) ns rest) n
-  claims-from pre [] ns e q k n lt = let z = ap length e in let y = length-append pre [] in k n (omega (arith, z, y, lt))
-  claims-from pre (r ∷ rest) ns e q k n lt =
-      let a : Node ℕ = treeOver (types s) (λ n. n) ns r in
-      let x = length-append ns (a ∷ []) in
-      let y = length-append pre (r ∷ []) in
-      claims-from (pre ++ (r ∷ [])) rest (ns ++ (a ∷ [])) (e ∙ sym (append-assoc pre (r ∷ []) rest)) (omega (arith, x, y, q)) (λ j c. more j (decLt j (length pre)) (omega (arith, y, c))) n lt
-    where
-      more : (j : ℕ) → Dec (j < length pre) → j ≤ length pre → Claim (ns ++ (treeOver (types s) (λ n. n) ns r ∷ [])) j
-      more j (yes c) b = λ d z. k j c d z ∙ sym (List·getD-append ns (treeOver (types s) (λ n. n) ns r ∷ []) (err tbool) j (omega (arith, c, q)))
-      more j (no c) b =
-          let p : length ns ≡ j = omega (arith, q) in
-          let o : length pre ≡ j = omega arith in
-          subst (Claim (ns ++ (treeOver (types s) (λ n. n) ns r ∷ []))) o
-          (λ d z. new-claim pre rest r e ns k d z ∙ sym (getD-end ns (treeOver (types s) (λ n. n) ns r) (err tbool) []) ∙ ap (λ (i : ℕ). getD (ns ++ (treeOver (types s) (λ n. n) ns r ∷ [])) i (err tbool)) q)
+    new-claim : (pre rest : List (List ℕ)) (r : List ℕ) → rows ≡ pre ++ (r ∷ rest) → (ns : List (Node ℕ)) → ((n : ℕ) → n < length pre → Claim ns n) → (d : ℕ) → depthOf (length pre) ≤ d
+        → treeAt (types s) sl rows d (length pre) ≡ treeOver (types s) (λ n. n) sl ns r
+    unfolding treeAt
+    new-claim pre rest r e ns k zero c =
+        let z = ap length e in
+        let y = length-append pre (r ∷ rest) in
+        let a = dp .least (length pre) (omega (arith, z, y)) in
+        absurd (omega (arith, a, c))
+    new-claim pre rest r e ns k (suc d) c =
+        let q : getD rows (length pre) [] ≡ r = ap (λ (l : List (List ℕ)). getD l (length pre) []) e ∙ getD-end pre r [] rest in
+        ap (treeWith (types s) sl (treeAt (types s) sl rows d)) q
+        ∙ row-same pre rest r e (treeAt (types s) sl rows d) (λ x. getD ns x (err tbool)) (λ y i. let (a, b) = parts pre rest r e y i in k y a d (omega (arith, b, c)))
+        ∙ tree-over (types s) sl ns r
 
-  pub whole-tree : (n : ℕ) → n < length rows → treeAt (types s) rows 64 n ≡ getD (trees s) n (err tbool)
-  unfolding trees
-  whole-tree n lt = claims-from [] rows [] refl refl (λ j c. absurd (omega arith)) n lt 64 (dp .low n)
+    claims-from : (pre rest : List (List ℕ)) (ns : List (Node ℕ)) → rows ≡ pre ++ rest → length ns ≡ length pre → ((n : ℕ) → n < length pre → Claim ns n) → (n : ℕ) → n < length rows → Claim (treesFrom (types s) (λ n. n) sl ns rest) n
+    claims-from pre [] ns e q k n lt = let z = ap length e in let y = length-append pre [] in k n (omega (arith, z, y, lt))
+    claims-from pre (r ∷ rest) ns e q k n lt =
+        let a : Node ℕ = treeOver (types s) (λ n. n) sl ns r in
+        let x = length-append ns (a ∷ []) in
+        let y = length-append pre (r ∷ []) in
+        claims-from (pre ++ (r ∷ [])) rest (ns ++ (a ∷ [])) (e ∙ sym (append-assoc pre (r ∷ []) rest)) (omega (arith, x, y, q)) (λ j c. more j (decLt j (length pre)) (omega (arith, y, c))) n lt
+      where
+        more : (j : ℕ) → Dec (j < length pre) → j ≤ length pre → Claim (ns ++ (treeOver (types s) (λ n. n) sl ns r ∷ [])) j
+        more j (yes c) b = λ d z. k j c d z ∙ sym (List·getD-append ns (treeOver (types s) (λ n. n) sl ns r ∷ []) (err tbool) j (omega (arith, c, q)))
+        more j (no c) b =
+            let p : length ns ≡ j = omega (arith, q) in
+            let o : length pre ≡ j = omega arith in
+            subst (Claim (ns ++ (treeOver (types s) (λ n. n) sl ns r ∷ []))) o
+            (λ d z. new-claim pre rest r e ns k d z ∙ sym (getD-end ns (treeOver (types s) (λ n. n) sl ns r) (err tbool) []) ∙ ap (λ (i : ℕ). getD (ns ++ (treeOver (types s) (λ n. n) sl ns r ∷ [])) i (err tbool)) q)
+
+    pub whole-tree : (n : ℕ) → n < length rows → treeAt (types s) sl rows 64 n ≡ getD (treesFrom (types s) (λ n. n) sl [] rows) n (err tbool)
+    whole-tree n lt = claims-from [] rows [] refl refl (λ j c. absurd (omega arith)) n lt 64 (dp .low n)
 
   -- ---- the policies
 
@@ -230,8 +232,9 @@ module _ (m : Mode) (s : State) (h : History m s) (dp : Deep NODE (linesOf s NOD
       omega (arith, a, z)
 
   policies-each : {rs : List (List ℕ)} → Each (λ r. at r 2 < length rows) rs → policiesAt (types s) rows rs ≡ numberedPolicies (trees s) rs
+  unfolding trees
   policies-each T.none = refl
-  policies-each (T.more {r = r} lt lts) = ap₂ (λ (t : Node ℕ) (ps : List NPolicy). record { effect = effectOf (at r 1); tree = t } ∷ ps) (whole-tree (at r 2) lt) (policies-each lts)
+  policies-each (T.more {r = r} lt lts) = ap₂ (λ (t : Node ℕ) (ps : List NPolicy). record { effect = effectOf (at r 1); tree = t } ∷ ps) (whole-tree (linked (λ n. n) (at r 3) (at r 4)) (at r 2) lt) (policies-each lts)
 
   pub policies-whole : policiesAt (types s) rows (onTerm s) ≡ nPolicies s
   unfolding nPolicies

@@ -23,6 +23,7 @@ use Rattle.cedar.proofs.ReadsOps.{un-reads, bin-reads}
 use Rattle.cedar.proofs.Outcomes.{made-un, made-bin, made-rel, made-get, made-has}
 use Rattle.sheet.specs.Forms.{complete, items, at, PRINCIPAL, ACTION, RESOURCE, CONTEXT, NODE, mark}
 use Rattle.sheet.specs.State.{State, lineAt}
+use Rattle.sheet.specs.Typing.{slotValue}
 use Rattle.sheet.specs.Content.{schema, nEnv, given, varOf}
 use Rattle.sheet.specs.Answer.{size}
 use Rattle.table.specs.Layout.{held}
@@ -30,7 +31,7 @@ use Rattle.tpe.specs.Run.{wordsOf}
 use Rattle.tpe.proofs.Outcomes.{GiveFine, Fine, words-row, words-formed, words-short, row-fine}
 use Rattle.tpe.proofs.Stands.{Hold, Room, Spent, same-sheet, schema-is, env-is}
 use lib.Dec.{eqb}
-use Rattle.evaluator.specs.Run.{E, Rec, yields, values, giveOf, settleOf, optOf, next, nodeIn, sideOf, branchOf, pathOut, litStep, errStep, varStep, lazyStep, ifStep, oneStep, twoStep, unOut, binOut, relOut, getOut, hasOut, walkOut, schemaOf, envOf}
+use Rattle.evaluator.specs.Run.{E, Rec, yields, values, giveOf, settleOf, optOf, next, nodeIn, sideOf, branchOf, pathOut, litStep, errStep, varStep, lazyStep, ifStep, oneStep, twoStep, slotStep, unOut, binOut, relOut, getOut, hasOut, walkOut, schemaOf, envOf}
 use Rattle.evaluator.specs.declared.Yield.the-variants.{Value, Error}
 use Rattle.evaluator.proofs.Gives.{Stand, Gives, is-value, is-error, after, rest-room, some-room, then-bool, then-settles, nexts, bools, bool-only, rel-gives, get-gives, has-gives, path-gives, fine-path, is-asked}
 
@@ -102,6 +103,10 @@ module _ (sheet a₀ : List ℕ) (G : Env) where
     pub lit-meets : (T : Ty) → Meets (λ a l. litStep f a l m r) (lit T (at r 1))
     unfolding litStep
     lit-meets T = record { run = λ a l C X s room h. lit-gives a l C s room T (at r 1) X h }
+
+    pub slot-meets : (p q : ℕ) (T : Ty) → Meets (λ a l. slotStep p q f a l m r) (lit T (slotValue p q (at r 1)))
+    unfolding slotStep
+    slot-meets p q T = record { run = λ a l C X s room h. lit-gives a l C s room T (slotValue p q (at r 1)) X h }
 
     pub err-meets : (T : Ty) → Meets (λ a l. errStep f a l m r) (err T)
     unfolding errStep

@@ -15,6 +15,7 @@ use Rattle.cedar.specs.Response.{Verdict}
 use Rattle.cedar.specs.Rows.{Row}
 use Rattle.cedar.specs.Numbered.{Give, made, old, NEnv, rowAt, rBool, NOut, give, fails, stays, truly, isSome, entryOf, nUn, nBin, nRel, onEntries, nGet, nHas}
 use Rattle.sheet.specs.Forms.{complete, tag, items, at, firstNode, NODE}
+use Rattle.sheet.specs.Typing.{slotValue}
 use Rattle.sheet.specs.Content.{rowsIn, varOf, patternOf}
 use Rattle.forms.specs.Tags.{EQ, IS}
 use Rattle.table.specs.Layout.{RUN, rowsOf}
@@ -170,6 +171,10 @@ setStep f a l n r = let k = kidsOf f n 1 most 2 a l in manyOf (setRow (drop (len
 unfoldable pub recStep : Step
 recStep f a l n r = let k = kidsOf f n 2 most 3 a l in manyOf (recordRow (nodeIn (k .words) n) (drop (length l) (k .log))) k
 
+-- of a link's two values that for the slot
+unfoldable pub slotStep : ℕ → ℕ → Step
+slotStep p q f a l n r = yields a (Value (slotValue p q (at r 1)))
+
 -- ---- what an operation gives over two operands, and over one beside the node's row
 
 unfoldable pub binOut : Bin → List ℕ → ℕ → ℕ → NOut
@@ -217,21 +222,23 @@ module _ (sheet : List ℕ) where
   unfoldable pub oneOut : ℕ → List ℕ → List ℕ → ℕ → NOut
   oneOut t = getD ones (t - IS) (unOut (λ r. uempty))
 
-  -- in the table's order
-  abbrev pub steps : List Step
-  steps = litStep ∷ errStep ∷ varStep ∷ lazyStep false ∷ lazyStep true ∷ each twoStep twos (ifStep ∷ each oneStep ones (setStep ∷ recStep ∷ []))
+  -- under a link with the principal's value p and the resource's q
+  module _ (p q : ℕ) where
+    -- in the table's order
+    abbrev pub steps : List Step
+    steps = litStep ∷ errStep ∷ varStep ∷ lazyStep false ∷ lazyStep true ∷ each twoStep twos (ifStep ∷ each oneStep ones (setStep ∷ recStep ∷ slotStep p q ∷ []))
 
-  -- by the tag
-  unfoldable pub stepAt : ℕ → Step
-  stepAt t = getD steps (t - firstNode) errStep
+    -- by the tag
+    unfoldable pub stepAt : ℕ → Step
+    stepAt t = getD steps (t - firstNode) errStep
 
-  unfoldable pub stepOf : Rec → Rec
-  stepOf f a l n = stepAt (tag (nodeIn a n)) f a l n (nodeIn a n)
+    unfoldable pub stepOf : Rec → Rec
+    stepOf f a l n = stepAt (tag (nodeIn a n)) f a l n (nodeIn a n)
 
-  -- d levels of nodes
-  unfoldable pub evalOf : ℕ → Rec
-  evalOf zero = λ a l n. yields a Error
-  evalOf (suc d) = stepOf (evalOf d)
+    -- d levels of nodes
+    unfoldable pub evalOf : ℕ → Rec
+    evalOf zero = λ a l n. yields a Error
+    evalOf (suc d) = stepOf (evalOf d)
 
 -- ---- the policies in order, each over the values that the ones before it left
 
@@ -250,11 +257,11 @@ pub record Ran : Type 0 where
   pub words : List ℕ
   pub log : List ℕ
 
--- k policies from number i on
-unfoldable pub ranFrom : Rec → ℕ → ℕ → List ℕ → List ℕ → Ran
+-- k policies from number i on: f by the two values of a policy's link
+unfoldable pub ranFrom : (ℕ → ℕ → Rec) → ℕ → ℕ → List ℕ → List ℕ → Ran
 ranFrom f zero i a l = record { words = a; log = l }
-ranFrom f (suc k) i a l = let o = f a l (at (policyIn a i) 2) in ranFrom f k (suc i) (o .words) (pushed l (classNumber (classOf (o .words) (o .yield))))
+ranFrom f (suc k) i a l = let o = f (at (policyIn a i) 3) (at (policyIn a i) 4) a l (at (policyIn a i) 2) in ranFrom f k (suc i) (o .words) (pushed l (classNumber (classOf (o .words) (o .yield))))
 
 -- "a tree is never deeper than 64"
 unfoldable pub runOf : List ℕ → List ℕ → Ran
-runOf sheet a = ranFrom (evalOf sheet 64) (getD a RUN 0) 0 a []
+runOf sheet a = ranFrom (λ p q. evalOf sheet p q 64) (getD a RUN 0) 0 a []

@@ -20,6 +20,7 @@ use forms::PRINCIPAL;
 use forms::RECORD_OF;
 use forms::RESOURCE;
 use forms::SET_OF;
+use forms::SLOT;
 use forms::VAR;
 use residual::CLASS_ERROR;
 use residual::CLASS_FALSE;
@@ -32,6 +33,7 @@ use table::count;
 use table::item;
 use table::row;
 use table::tag;
+use typing::links::slot_value;
 use value::Shape;
 use value::making::make_bool;
 use value::making::make_entity;
@@ -178,21 +180,32 @@ fn same(x: bool, y: bool) -> bool
     !y
 }
 
-// The node, of which `depth` levels are seen, beside the log that ends at `top`.
-fn eval(sheet: &[u8], rows: &mut [u32], log: &mut [u32], top: usize, node: u32, depth: u32) -> Yield
+// The node, of which `depth` levels are seen, beside the log that ends at `top`, under a link with the principal's value `p` and the resource's `q`.
+fn eval(
+    sheet: &[u8],
+    p: u32,
+    q: u32,
+    rows: &mut [u32],
+    log: &mut [u32],
+    top: usize,
+    node: u32,
+    depth: u32,
+) -> Yield
     requires { ⌜ Room (now log) top ⌝ }
-    ensures { λ y. ⌜ GaveBeside (evalOf (now (sheet .entry)) depth (now (rows .entry)) (take top (now (log .entry))) node) (now (rows .exit)) y top (now (log .entry)) (now (log .exit)) ⌝ }
+    ensures { λ y. ⌜ GaveBeside (evalOf (now (sheet .entry)) p q depth (now (rows .entry)) (take top (now (log .entry))) node) (now (rows .exit)) y top (now (log .entry)) (now (log .exit)) ⌝ }
 {
     if depth == 0 {
         return Yield::Error;
     }
     let tag = tag(row(rows, NODE, node));
-    step(sheet, rows, log, top, node, tag, depth - 1)
+    step(sheet, p, q, rows, log, top, node, tag, depth - 1)
 }
 
 // The same by the node's tag; its operands are seen to `depth` levels.
 fn step(
     sheet: &[u8],
+    p: u32,
+    q: u32,
     rows: &mut [u32],
     log: &mut [u32],
     top: usize,
@@ -201,25 +214,26 @@ fn step(
     depth: u32,
 ) -> Yield
     requires { ⌜ Room (now log) top ⌝ }
-    ensures { λ y. ⌜ GaveBeside (stepAt (now (sheet .entry)) tag (evalOf (now (sheet .entry)) depth) (now (rows .entry)) (take top (now (log .entry))) node (nodeIn (now (rows .entry)) node)) (now (rows .exit)) y top (now (log .entry)) (now (log .exit)) ⌝ }
+    ensures { λ y. ⌜ GaveBeside (stepAt (now (sheet .entry)) p q tag (evalOf (now (sheet .entry)) p q depth) (now (rows .entry)) (take top (now (log .entry))) node (nodeIn (now (rows .entry)) node)) (now (rows .exit)) y top (now (log .entry)) (now (log .exit)) ⌝ }
 {
     match tag {
         ERR => Yield::Error,
         VAR => request(rows, word_of(rows, node, 2)),
-        AND => lazy(sheet, rows, log, top, node, false, depth),
-        OR => lazy(sheet, rows, log, top, node, true, depth),
-        IF => branch(sheet, rows, log, top, node, depth),
-        SET_OF => set(sheet, rows, log, top, node, depth),
-        RECORD_OF => record(sheet, rows, log, top, node, depth),
+        AND => lazy(sheet, p, q, rows, log, top, node, false, depth),
+        OR => lazy(sheet, p, q, rows, log, top, node, true, depth),
+        IF => branch(sheet, p, q, rows, log, top, node, depth),
+        SET_OF => set(sheet, p, q, rows, log, top, node, depth),
+        RECORD_OF => record(sheet, p, q, rows, log, top, node, depth),
+        SLOT => Yield::Value(slot_value(p, q, word_of(rows, node, 2))),
         _ => {
             if tag < ERR {
                 return Yield::Value(word_of(rows, node, 2));
             }
             if tag < IF {
-                return two(sheet, rows, log, top, node, tag, depth);
+                return two(sheet, p, q, rows, log, top, node, tag, depth);
             }
             if tag < SET_OF {
-                return one(sheet, rows, log, top, node, tag, depth);
+                return one(sheet, p, q, rows, log, top, node, tag, depth);
             }
             Yield::Error
         }
@@ -229,6 +243,8 @@ fn step(
 // `and` or `or`: `stop` is the bool that decides. The right side is worked where the left one does not decide.
 fn lazy(
     sheet: &[u8],
+    p: u32,
+    q: u32,
     rows: &mut [u32],
     log: &mut [u32],
     top: usize,
@@ -237,23 +253,25 @@ fn lazy(
     depth: u32,
 ) -> Yield
     requires { ⌜ Room (now log) top ⌝ }
-    ensures { λ y. ⌜ GaveBeside (lazyStep stop (evalOf (now (sheet .entry)) depth) (now (rows .entry)) (take top (now (log .entry))) node (nodeIn (now (rows .entry)) node)) (now (rows .exit)) y top (now (log .entry)) (now (log .exit)) ⌝ }
+    ensures { λ y. ⌜ GaveBeside (lazyStep stop (evalOf (now (sheet .entry)) p q depth) (now (rows .entry)) (take top (now (log .entry))) node (nodeIn (now (rows .entry)) node)) (now (rows .exit)) y top (now (log .entry)) (now (log .exit)) ⌝ }
 {
     let right = word_of(rows, node, 3);
-    let left = eval(sheet, rows, log, top, word_of(rows, node, 2), depth);
+    let left = eval(sheet, p, q, rows, log, top, word_of(rows, node, 2), depth);
     let Truth::Is(x) = truth_of(rows, left) else {
         return Yield::Error;
     };
     if same(x, stop) {
         return Yield::Value(make_bool(rows, stop));
     }
-    let r = eval(sheet, rows, log, top, right, depth);
+    let r = eval(sheet, p, q, rows, log, top, right, depth);
     only_bool(rows, r)
 }
 
 // `if`: one branch is worked.
 fn branch(
     sheet: &[u8],
+    p: u32,
+    q: u32,
     rows: &mut [u32],
     log: &mut [u32],
     top: usize,
@@ -261,23 +279,25 @@ fn branch(
     depth: u32,
 ) -> Yield
     requires { ⌜ Room (now log) top ⌝ }
-    ensures { λ y. ⌜ GaveBeside (ifStep (evalOf (now (sheet .entry)) depth) (now (rows .entry)) (take top (now (log .entry))) node (nodeIn (now (rows .entry)) node)) (now (rows .exit)) y top (now (log .entry)) (now (log .exit)) ⌝ }
+    ensures { λ y. ⌜ GaveBeside (ifStep (evalOf (now (sheet .entry)) p q depth) (now (rows .entry)) (take top (now (log .entry))) node (nodeIn (now (rows .entry)) node)) (now (rows .exit)) y top (now (log .entry)) (now (log .exit)) ⌝ }
 {
     let then = word_of(rows, node, 3);
     let other = word_of(rows, node, 4);
-    let test = eval(sheet, rows, log, top, word_of(rows, node, 2), depth);
+    let test = eval(sheet, p, q, rows, log, top, word_of(rows, node, 2), depth);
     let Truth::Is(x) = truth_of(rows, test) else {
         return Yield::Error;
     };
     if x {
-        return eval(sheet, rows, log, top, then, depth);
+        return eval(sheet, p, q, rows, log, top, then, depth);
     }
-    eval(sheet, rows, log, top, other, depth)
+    eval(sheet, p, q, rows, log, top, other, depth)
 }
 
 // An operation with one operand.
 fn one(
     sheet: &[u8],
+    p: u32,
+    q: u32,
     rows: &mut [u32],
     log: &mut [u32],
     top: usize,
@@ -287,9 +307,10 @@ fn one(
 ) -> Yield
     requires { ⌜ Room (now log) top ⌝ }
     requires { ⌜ (IS ≤ tag) × (tag < SET-OF) ⌝ }
-    ensures { λ y. ⌜ GaveBeside (oneStep (oneOut (now (sheet .entry)) tag) (evalOf (now (sheet .entry)) depth) (now (rows .entry)) (take top (now (log .entry))) node (nodeIn (now (rows .entry)) node)) (now (rows .exit)) y top (now (log .entry)) (now (log .exit)) ⌝ }
+    ensures { λ y. ⌜ GaveBeside (oneStep (oneOut (now (sheet .entry)) tag) (evalOf (now (sheet .entry)) p q depth) (now (rows .entry)) (take top (now (log .entry))) node (nodeIn (now (rows .entry)) node)) (now (rows .exit)) y top (now (log .entry)) (now (log .exit)) ⌝ }
 {
-    let Yield::Value(value) = eval(sheet, rows, log, top, word_of(rows, node, 2), depth) else {
+    let Yield::Value(value) = eval(sheet, p, q, rows, log, top, word_of(rows, node, 2), depth)
+    else {
         return Yield::Error;
     };
     apply_one(sheet, rows, node, tag, value)
@@ -298,6 +319,8 @@ fn one(
 // An operation with two operands: the right one is worked where the left one is a value.
 fn two(
     sheet: &[u8],
+    p: u32,
+    q: u32,
     rows: &mut [u32],
     log: &mut [u32],
     top: usize,
@@ -307,13 +330,14 @@ fn two(
 ) -> Yield
     requires { ⌜ Room (now log) top ⌝ }
     requires { ⌜ (EQ ≤ tag) × (tag < IF) ⌝ }
-    ensures { λ y. ⌜ GaveBeside (twoStep (twoOut tag) (evalOf (now (sheet .entry)) depth) (now (rows .entry)) (take top (now (log .entry))) node (nodeIn (now (rows .entry)) node)) (now (rows .exit)) y top (now (log .entry)) (now (log .exit)) ⌝ }
+    ensures { λ y. ⌜ GaveBeside (twoStep (twoOut tag) (evalOf (now (sheet .entry)) p q depth) (now (rows .entry)) (take top (now (log .entry))) node (nodeIn (now (rows .entry)) node)) (now (rows .exit)) y top (now (log .entry)) (now (log .exit)) ⌝ }
 {
     let right = word_of(rows, node, 3);
-    let Yield::Value(first) = eval(sheet, rows, log, top, word_of(rows, node, 2), depth) else {
+    let Yield::Value(first) = eval(sheet, p, q, rows, log, top, word_of(rows, node, 2), depth)
+    else {
         return Yield::Error;
     };
-    let Yield::Value(second) = eval(sheet, rows, log, top, right, depth) else {
+    let Yield::Value(second) = eval(sheet, p, q, rows, log, top, right, depth) else {
         return Yield::Error;
     };
     apply_two(rows, tag, first, second)
@@ -322,6 +346,8 @@ fn two(
 // The children of the node from word `i` of its row on, every `step`-th word of it, `most` of them at most: a row for each value.
 fn kids(
     sheet: &[u8],
+    p: u32,
+    q: u32,
     rows: &mut [u32],
     log: &mut [u32],
     top: usize,
@@ -333,7 +359,7 @@ fn kids(
 ) -> Children
     requires { ⌜ Room (now log) top ⌝ }
     requires { ⌜ (step ≤ 2) × (i + 2 * most ≤ 65536) ⌝ }
-    ensures { λ o. ⌜ Left (kidsOf (evalOf (now (sheet .entry)) depth) node step most i (now (rows .entry)) (take top (now (log .entry)))) (now (rows .exit)) o top (now (log .entry)) (now (log .exit)) ⌝ }
+    ensures { λ o. ⌜ Left (kidsOf (evalOf (now (sheet .entry)) p q depth) node step most i (now (rows .entry)) (take top (now (log .entry)))) (now (rows .exit)) o top (now (log .entry)) (now (log .exit)) ⌝ }
 {
     if most == 0 {
         return Children {
@@ -347,22 +373,44 @@ fn kids(
             end: top,
         };
     }
-    let Yield::Value(value) = eval(sheet, rows, log, top, word_of(rows, node, i), depth) else {
+    let Yield::Value(value) = eval(sheet, p, q, rows, log, top, word_of(rows, node, i), depth)
+    else {
         return Children {
             all: false,
             end: top,
         };
     };
     let end = push_value(log, top, value, 0);
-    kids(sheet, rows, log, end, node, step, i + step, most - 1, depth)
+    kids(
+        sheet,
+        p,
+        q,
+        rows,
+        log,
+        end,
+        node,
+        step,
+        i + step,
+        most - 1,
+        depth,
+    )
 }
 
 // A set is made of its children, where all are values.
-fn set(sheet: &[u8], rows: &mut [u32], log: &mut [u32], top: usize, node: u32, depth: u32) -> Yield
+fn set(
+    sheet: &[u8],
+    p: u32,
+    q: u32,
+    rows: &mut [u32],
+    log: &mut [u32],
+    top: usize,
+    node: u32,
+    depth: u32,
+) -> Yield
     requires { ⌜ Room (now log) top ⌝ }
-    ensures { λ y. ⌜ GaveBeside (setStep (evalOf (now (sheet .entry)) depth) (now (rows .entry)) (take top (now (log .entry))) node (nodeIn (now (rows .entry)) node)) (now (rows .exit)) y top (now (log .entry)) (now (log .exit)) ⌝ }
+    ensures { λ y. ⌜ GaveBeside (setStep (evalOf (now (sheet .entry)) p q depth) (now (rows .entry)) (take top (now (log .entry))) node (nodeIn (now (rows .entry)) node)) (now (rows .exit)) y top (now (log .entry)) (now (log .exit)) ⌝ }
 {
-    let children = kids(sheet, rows, log, top, node, 1, 2, 16384, depth);
+    let children = kids(sheet, p, q, rows, log, top, node, 1, 2, 16384, depth);
     if children.all {
         return Yield::Value(make_set(rows, log, top, children.end));
     }
@@ -372,6 +420,8 @@ fn set(sheet: &[u8], rows: &mut [u32], log: &mut [u32], top: usize, node: u32, d
 // A record likewise.
 fn record(
     sheet: &[u8],
+    p: u32,
+    q: u32,
     rows: &mut [u32],
     log: &mut [u32],
     top: usize,
@@ -379,9 +429,9 @@ fn record(
     depth: u32,
 ) -> Yield
     requires { ⌜ Room (now log) top ⌝ }
-    ensures { λ y. ⌜ GaveBeside (recStep (evalOf (now (sheet .entry)) depth) (now (rows .entry)) (take top (now (log .entry))) node (nodeIn (now (rows .entry)) node)) (now (rows .exit)) y top (now (log .entry)) (now (log .exit)) ⌝ }
+    ensures { λ y. ⌜ GaveBeside (recStep (evalOf (now (sheet .entry)) p q depth) (now (rows .entry)) (take top (now (log .entry))) node (nodeIn (now (rows .entry)) node)) (now (rows .exit)) y top (now (log .entry)) (now (log .exit)) ⌝ }
 {
-    let children = kids(sheet, rows, log, top, node, 2, 3, 16384, depth);
+    let children = kids(sheet, p, q, rows, log, top, node, 2, 3, 16384, depth);
     if children.all {
         return Yield::Value(make_record(rows, log, top, children.end, node));
     }
@@ -413,7 +463,11 @@ pub fn run(sheet: &[u8], rows: &mut [u32], log: &mut [u32]) -> usize
     let mut end: usize = 0;
     let mut i: u32 = 0;
     while i < most {
-        let yielded = eval(sheet, rows, log, end, item(row(rows, RUN, i), 3), 64);
+        let policy = row(rows, RUN, i);
+        let root = item(policy, 3);
+        let p = item(policy, 4);
+        let q = item(policy, 5);
+        let yielded = eval(sheet, p, q, rows, log, end, root, 64);
         end = push(log, end, class_of(rows, yielded));
         i += 1;
     }

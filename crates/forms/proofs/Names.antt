@@ -4,8 +4,8 @@ use mathlib.Core.List.{List, [], _∷_, map}
 use Prim.Native.Nat.{ℕ, zero, suc, _+_}
 use Prim.Native.String.{String}
 use Rattle.sheet.specs.Ascii.{ascii}
-use Rattle.sheet.specs.Forms.{Slot, entry, line, lineOr, lineUnknown, word, number, day, nothing, forms, formOf, slotAt, placeIn, noTag, firstType, firstValue, firstNode, SHEET, TEXT, KIND, TYPE, SHAPE, VALUE, ENTITY, PRINCIPAL, ACTION, RESOURCE, CONTEXT, DAY, NODE, POLICY, TERM}
-use Rattle.forms.specs.Tags.{SHEET-LINE, TEXT-LINE, KIND-LINE, BOOL-TYPE, LONG-TYPE, STRING-TYPE, ENTITY-TYPE, SET-TYPE, RECORD-TYPE, SHAPE-LINE, BOOL-VALUE, LONG-VALUE, TEXT-VALUE, ENTITY-VALUE, SET-VALUE, RECORD-VALUE, ENTITY-LINE, PRINCIPAL-LINE, ACTION-LINE, RESOURCE-LINE, CONTEXT-LINE, LIT, ERR, VAR, AND, OR, EQ, LT, LE, ADD, SUB, MUL, IN, GETTAG, HASTAG, CONTAINS, ALL, ANY, IF, IS, LIKE, GET, HAS, HASPATH, NOT, NEG, EMPTY, SET-OF, RECORD-OF, POLICY-LINE, DAY-LINE, TERM-LINE, ORDINARY, OF-ACTIONS, OPTIONAL, REQUIRED, PART-P, PART-A, PART-R, PART-C, PERMIT, FORBID}
+use Rattle.sheet.specs.Forms.{Slot, entry, line, lineOr, lineUnknown, word, number, day, nothing, forms, formOf, slotAt, placeIn, noTag, firstType, firstValue, firstNode, SHEET, TEXT, KIND, TYPE, SHAPE, VALUE, ENTITY, PRINCIPAL, ACTION, RESOURCE, CONTEXT, DAY, NODE, POLICY, LINK, TERM}
+use Rattle.forms.specs.Tags.{SHEET-LINE, TEXT-LINE, KIND-LINE, BOOL-TYPE, LONG-TYPE, STRING-TYPE, ENTITY-TYPE, SET-TYPE, RECORD-TYPE, SHAPE-LINE, BOOL-VALUE, LONG-VALUE, TEXT-VALUE, ENTITY-VALUE, SET-VALUE, RECORD-VALUE, ENTITY-LINE, PRINCIPAL-LINE, ACTION-LINE, RESOURCE-LINE, CONTEXT-LINE, LIT, ERR, VAR, AND, OR, EQ, LT, LE, ADD, SUB, MUL, IN, GETTAG, HASTAG, CONTAINS, ALL, ANY, IF, IS, LIKE, GET, HAS, HASPATH, NOT, NEG, EMPTY, SET-OF, RECORD-OF, SLOT, POLICY-LINE, DAY-LINE, LINK-LINE, TERM-LINE, ORDINARY, OF-ACTIONS, OPTIONAL, REQUIRED, PART-P, PART-A, PART-R, PART-C, SLOT-P, SLOT-R, PERMIT, FORBID}
 
 -- ---- tags
 
@@ -69,8 +69,10 @@ tags =
     ∷ named EMPTY NODE "empty"
     ∷ named SET-OF NODE "set"
     ∷ named RECORD-OF NODE "record"
+    ∷ named SLOT NODE "slot"
     ∷ named POLICY-LINE POLICY ""
     ∷ named DAY-LINE DAY ""
+    ∷ named LINK-LINE LINK ""
     ∷ named TERM-LINE TERM ""
     ∷ []
 
@@ -104,8 +106,8 @@ wordsIn nothing = []
 abbrev placed : ℕ → ℕ → String → ℕ
 placed t j w = placeIn (ascii w) (wordsIn (slotAt t j))
 
-pub words-are : (ORDINARY ∷ OF-ACTIONS ∷ OPTIONAL ∷ REQUIRED ∷ PART-P ∷ PART-A ∷ PART-R ∷ PART-C ∷ PERMIT ∷ FORBID ∷ [])
+pub words-are : (ORDINARY ∷ OF-ACTIONS ∷ OPTIONAL ∷ REQUIRED ∷ PART-P ∷ PART-A ∷ PART-R ∷ PART-C ∷ SLOT-P ∷ SLOT-R ∷ PERMIT ∷ FORBID ∷ [])
     ≡ (placed KIND-LINE 1 "e" ∷ placed KIND-LINE 1 "a" ∷ placed RECORD-TYPE 1 "o" ∷ placed RECORD-TYPE 1 "r" ∷ placed VAR 1 "p" ∷ placed VAR 1 "a" ∷ placed VAR 1 "r"
-    ∷ placed VAR 1 "c" ∷ placed POLICY-LINE 1 "permit" ∷ placed POLICY-LINE 1 "forbid" ∷ [])
+    ∷ placed VAR 1 "c" ∷ placed SLOT 1 "p" ∷ placed SLOT 1 "r" ∷ placed POLICY-LINE 1 "permit" ∷ placed POLICY-LINE 1 "forbid" ∷ [])
 unfolding slotAt formOf forms
 words-are = refl

@@ -5,14 +5,14 @@ use mathlib.Core.List.{List, map}
 use Prim.Native.Nat.{ℕ, _+_, _-_, _≤_}
 use native.Mathlib.Omega.{arith}
 use borrow.Author.Tests.{leb-true, eqb-true}
-use lib.Dec.{leb}
+use lib.Dec.{leb, eqb}
 use lib.ListN.{length, getD, List·getD-map, List·getD-eq-default}
 use Rattle.cedar.proofs.Tools.{no-true}
-use Rattle.sheet.specs.Forms.{Slot, entry, line, lineOr, lineUnknown, word, number, day, nothing, Form, forms, formOf, noForm, noKey, noTag, slotAt, isLine, firstNode, TYPE}
+use Rattle.sheet.specs.Forms.{Slot, entry, line, lineOr, lineUnknown, word, number, day, nothing, Form, forms, formOf, noForm, noKey, noTag, slotAt, isLine, firstNode, TYPE, NODE}
 use Rattle.sheet.proofs.Parsed.{allBelow}
 use Rattle.forms.specs.declared.Form as D
 use Rattle.forms.specs.Rows.{Shape, shape, read, code, coded, slotOf}
-use Rattle.forms.specs.Tags.{RECORD-OF, POLICY-LINE}
+use Rattle.forms.specs.Tags.{SLOT, POLICY-LINE}
 use Rattle.forms.proofs.Tests.{ranged, small, entry-small, NoneOf, below, past}
 
 abbrev pub rowAt : ℕ → D.Form
@@ -76,7 +76,18 @@ module _ (t : ℕ) (r : D.Form) (e : r ≡ rowAt t) where
   unfolding coded
   rises-are = ap (λ (f : D.Form). f .rises) e
 
--- ---- nodes: a type stands first
+-- ---- nodes: their key; a type stands first
+
+keyed-so : ℕ → Bool
+keyed-so t = eqb (formOf t .key) NODE
+
+all-keyed : allBelow (λ (i : ℕ). keyed-so (firstNode + i)) (POLICY-LINE - firstNode) ≡ true
+unfolding forms formOf keyed-so
+all-keyed = refl
+
+pub node-key : (t : ℕ) → firstNode ≤ t → t ≤ SLOT → NODE ≡ formOf t .key
+unfolding keyed-so
+node-key t l h = sym (eqb-true (formOf t .key) NODE (ranged keyed-so firstNode (POLICY-LINE - firstNode) all-keyed t l (omega arith)))
 
 abbrev typed : ℕ → Bool
 typed t = isLine TYPE (slotAt t 0) && leb 1 (length (formOf t .items))
@@ -95,7 +106,7 @@ is-line k number e = no-true e
 is-line k day e = no-true e
 is-line k nothing e = no-true e
 
-module _ (t : ℕ) (l : firstNode ≤ t) (h : t ≤ RECORD-OF) where
+module _ (t : ℕ) (l : firstNode ≤ t) (h : t ≤ SLOT) where
   node-typed : typed t ≡ true
   node-typed = ranged typed firstNode (POLICY-LINE - firstNode) all-typed t l (omega arith)
 

@@ -14,7 +14,7 @@ MADE = RUN + 1
 
 -- the greatest number of rows of each key, of policies that run and of made values
 abbrev pub limits : List ℕ
-limits = 1 ∷ 512 ∷ 32 ∷ 128 ∷ 32 ∷ 1024 ∷ 128 ∷ 1 ∷ 1 ∷ 1 ∷ 1 ∷ 1 ∷ 1024 ∷ 64 ∷ 64 ∷ 64 ∷ 1024 ∷ []
+limits = 1 ∷ 512 ∷ 32 ∷ 128 ∷ 32 ∷ 1024 ∷ 128 ∷ 1 ∷ 1 ∷ 1 ∷ 1 ∷ 1 ∷ 1024 ∷ 64 ∷ 64 ∷ 64 ∷ 64 ∷ 1024 ∷ []
 
 unfoldable pub limit : ℕ → ℕ
 limit k = getD limits k 0

@@ -45,6 +45,9 @@ EFFECT = 7
 abbrev pub DATE : ℕ
 DATE = 8
 
+abbrev pub SLOT-LETTER : ℕ
+SLOT-LETTER = 9
+
 -- this and a key: a line of it; each of the next and a key: the same or `?`, `-`, `*`
 abbrev pub LINE : ℕ
 LINE = 16
@@ -67,11 +70,13 @@ OF-VALUE = LINE + VALUE
 abbrev pub OF-NODE : ℕ
 OF-NODE = LINE + NODE
 
--- the words that may stand at a place are told apart by the first
-abbrev pub wordCode : String → ℕ
-wordCode w =
+-- the words that may stand at a place are told apart by the first, those of a variable and of a slot by how many follow it
+abbrev pub wordCode : String → List String → ℕ
+wordCode w ws =
     cond (same (ascii w) (ascii "e")) KIND-LETTER
-    (cond (same (ascii w) (ascii "o")) FIELD-LETTER (cond (same (ascii w) (ascii "0")) BIT (cond (same (ascii w) (ascii "p")) PART-LETTER EFFECT)))
+    (cond (same (ascii w) (ascii "o")) FIELD-LETTER
+    (cond (same (ascii w) (ascii "0")) BIT
+    (cond (same (ascii w) (ascii "p")) (cond (eqb (length ws) 1) SLOT-LETTER PART-LETTER) EFFECT)))
 
 unfoldable pub code : Slot → ℕ
 code nothing = NONE
@@ -79,7 +84,7 @@ code number = NUMBER
 code day = DATE
 code entry = ENTRY
 code (word []) = NONE
-code (word (w ∷ ws)) = wordCode w
+code (word (w ∷ ws)) = wordCode w ws
 code (line k) = LINE + k
 code (lineUnknown k) = UNKNOWN + k
 code (lineOr b k) = cond (eqb b dash) DASH STAR + k
@@ -99,7 +104,7 @@ coded f =
 abbrev pub specials : List Slot
 specials =
     nothing ∷ number ∷ entry ∷ word ("e" ∷ "a" ∷ []) ∷ word ("o" ∷ "r" ∷ []) ∷ word ("0" ∷ "1" ∷ []) ∷ word ("p" ∷ "a" ∷ "r" ∷ "c" ∷ [])
-    ∷ word ("permit" ∷ "forbid" ∷ []) ∷ day ∷ []
+    ∷ word ("permit" ∷ "forbid" ∷ []) ∷ day ∷ word ("p" ∷ "r" ∷ []) ∷ []
 
 unfoldable pub slotOf : ℕ → Slot
 slotOf c =
@@ -134,6 +139,13 @@ read r =
       ascends = r .rises;
       slots = slotOf (r .first) ∷ slotOf (r .second) ∷ slotOf (r .third) ∷ slotOf (r .fourth) ∷ [];
     }
+
+-- the place of a form that place j of a line is, 4 for none, and what may stand there
+abbrev pub placeIn : D.Form → ℕ → ℕ
+placeIn r j = cond (ltb j (r .items)) j (cond (eqb (r .group) 0) 4 (r .items + (j - r .items) % r .group))
+
+unfoldable pub codeIn : D.Form → ℕ → ℕ
+codeIn r j = getD (r .first ∷ r .second ∷ r .third ∷ r .fourth ∷ []) (placeIn r j) NONE
 
 -- the four places of a row in one word
 pub record Packed (r : D.Form) (w : ℕ) : Type 0 where

@@ -148,14 +148,20 @@ SET-OF = EMPTY + 1
 abbrev pub RECORD-OF : ℕ
 RECORD-OF = SET-OF + 1
 
+abbrev pub SLOT : ℕ
+SLOT = RECORD-OF + 1
+
 abbrev pub POLICY-LINE : ℕ
-POLICY-LINE = RECORD-OF + 1
+POLICY-LINE = SLOT + 1
 
 abbrev pub DAY-LINE : ℕ
 DAY-LINE = POLICY-LINE + 1
 
+abbrev pub LINK-LINE : ℕ
+LINK-LINE = DAY-LINE + 1
+
 abbrev pub TERM-LINE : ℕ
-TERM-LINE = DAY-LINE + 1
+TERM-LINE = LINK-LINE + 1
 
 -- ---- words at a place: what each is in a row
 
@@ -185,6 +191,13 @@ PART-R = 2
 
 abbrev pub PART-C : ℕ
 PART-C = 3
+
+-- `p` and `r` of a slot
+abbrev pub SLOT-P : ℕ
+SLOT-P = 0
+
+abbrev pub SLOT-R : ℕ
+SLOT-R = 1
 
 -- the effects of a policy
 abbrev pub PERMIT : ℕ

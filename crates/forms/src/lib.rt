@@ -2,7 +2,7 @@
 ghost use mathlib.Core.Path.{_≡_};
 ghost use mathlib.Core.Bool.{true, false};
 ghost use Rattle.sheet.specs.Forms.{formOf};
-ghost use Rattle.forms.specs.Rows.{row, coded, Packed};
+ghost use Rattle.forms.specs.Rows.{row, coded, Packed, placeIn, codeIn};
 ghost use Rattle.forms.specs.Keys.{keyRow, keyed};
 
 // ---- keys
@@ -35,10 +35,12 @@ pub const NODE: usize = 12;
 
 pub const POLICY: usize = 13;
 
-pub const TERM: usize = 14;
+pub const LINK: usize = 14;
+
+pub const TERM: usize = 15;
 
 // What no form has as its key.
-pub const NO_KEY: usize = 15;
+pub const NO_KEY: usize = 16;
 
 // Rows that stand in words only, after those of the keys: the policies that run, and made values.
 pub const RUN: usize = NO_KEY;
@@ -67,6 +69,8 @@ pub const EFFECT: u8 = 7;
 
 pub const DATE: u8 = 8;
 
+pub const SLOT_LETTER: u8 = 9;
+
 pub const LINE: u8 = 16;
 
 pub const UNKNOWN: u8 = 32;
@@ -93,6 +97,8 @@ pub const VALUE_OR_UNKNOWN: u8 = UNKNOWN + VALUE as u8;
 
 pub const TYPE_OR_DASH: u8 = DASH + TYPE as u8;
 
+pub const VALUE_OR_DASH: u8 = DASH + VALUE as u8;
+
 pub const TEXT_OR_STAR: u8 = STAR + TEXT as u8;
 
 // What a mark is in a row.
@@ -118,6 +124,11 @@ pub const PART_A: u32 = 1;
 pub const PART_R: u32 = 2;
 
 pub const PART_C: u32 = 3;
+
+// `p` and `r` of a slot.
+pub const SLOT_P: u32 = 0;
+
+pub const SLOT_R: u32 = 1;
 
 // The effects of a policy.
 pub const PERMIT: u32 = 0;
@@ -224,11 +235,15 @@ pub const SET_OF: u32 = EMPTY + 1;
 
 pub const RECORD_OF: u32 = SET_OF + 1;
 
-pub const POLICY_LINE: u32 = RECORD_OF + 1;
+pub const SLOT: u32 = RECORD_OF + 1;
+
+pub const POLICY_LINE: u32 = SLOT + 1;
 
 pub const DAY_LINE: u32 = POLICY_LINE + 1;
 
-pub const TERM_LINE: u32 = DAY_LINE + 1;
+pub const LINK_LINE: u32 = DAY_LINE + 1;
+
+pub const TERM_LINE: u32 = LINK_LINE + 1;
 
 // How many forms there are; a tag that no form has.
 pub const NO_TAG: u32 = TERM_LINE + 1;
@@ -364,8 +379,10 @@ pub fn form_of(tag: u32) -> Form
         EMPTY => plain(NODE, 2, OF_TYPE, OF_NODE, NONE, NONE),
         SET_OF => with(NODE, 1, 1, OF_TYPE, OF_NODE, NONE, NONE),
         RECORD_OF => rising(NODE, 1, 2, OF_TYPE, OF_TEXT, OF_NODE, NONE),
+        SLOT => plain(NODE, 2, OF_TYPE, SLOT_LETTER, NONE, NONE),
         POLICY_LINE => plain(POLICY, 3, OF_TEXT, EFFECT, OF_NODE, NONE),
         DAY_LINE => plain(DAY, 1, DATE, NONE, NONE, NONE),
+        LINK_LINE => plain(LINK, 3, OF_POLICY, VALUE_OR_DASH, VALUE_OR_DASH, NONE),
         TERM_LINE => plain(TERM, 3, OF_POLICY, DATE, DATE, NONE),
         _ => plain(NO_KEY, 1, NONE, NONE, NONE, NONE),
     }
@@ -379,6 +396,32 @@ pub fn slots_of(f: Form) -> u32
         + 0x100 * f.second as u32
         + 0x1_0000 * f.third as u32
         + 0x100_0000 * f.fourth as u32
+}
+
+// The place of a form that place `j` of a line is: past its items those of its group come again and again. A form has at most four.
+fn place_of(f: Form, j: usize) -> usize
+    ensures { λ r. ⌜ r ≡ placeIn f j ⌝ }
+{
+    if j < f.items {
+        return j;
+    }
+    if f.group == 0 {
+        return 4;
+    }
+    f.items + (j - f.items) % f.group
+}
+
+// What may stand at place `j` of a line.
+pub fn code_at(f: Form, j: usize) -> u8
+    ensures { λ c. ⌜ c ≡ codeIn f j ⌝ }
+{
+    match place_of(f, j) {
+        0 => f.first,
+        1 => f.second,
+        2 => f.third,
+        3 => f.fourth,
+        _ => NONE,
+    }
 }
 
 // ---- the keys' table
@@ -428,7 +471,9 @@ const NODE_ROWS: usize = DAY_ROWS + 2;
 
 const POLICY_ROWS: usize = NODE_ROWS + NODES as usize + 1;
 
-const TERM_ROWS: usize = POLICY_ROWS + POLICIES as usize + 1;
+const LINK_ROWS: usize = POLICY_ROWS + POLICIES as usize + 1;
+
+const TERM_ROWS: usize = LINK_ROWS + POLICIES as usize + 1;
 
 const RUN_ROWS: usize = TERM_ROWS + POLICIES as usize + 1;
 
@@ -469,6 +514,7 @@ pub fn key_row(key: usize) -> Key
         DAY => of_key(DAY_ROWS, 1, DAY_LINE),
         NODE => of_key(NODE_ROWS, NODES, NO_TAG),
         POLICY => of_key(POLICY_ROWS, POLICIES, POLICY_LINE),
+        LINK => of_key(LINK_ROWS, POLICIES, LINK_LINE),
         TERM => of_key(TERM_ROWS, POLICIES, TERM_LINE),
         RUN => of_key(RUN_ROWS, POLICIES, NO_TAG),
         MADE => of_key(MADE_ROWS, VALUES, NO_TAG),

@@ -65,12 +65,12 @@ module _ (S : Schema) (M : NEnv) (P : PEnv) {D : List Value} {rows : List Row} (
 run-stays : (s : State) → Facts partial s → Stays (run partial s .rows) (run partial s .lines)
 unfolding run
 run-stays s f =
-    let r = run-reads (schema s) (nEnv partial s) (pEnv s) (nPolicies s) (values-table partial s (f .history)) (env-read s f) (read-own partial s (f .history)) in
+    let r = run-reads (schema s) (nEnv partial s) (pEnv s) (nPolicies s) (values-table partial s (f .history)) (env-read s f) (read-own partial s (f .history) (f .ends)) in
     stay (schema s) (nEnv partial s) (pEnv s) (r .table) (r .residuals) (r .classes)
 
 -- ---- as many lines as policies
 
-ran-long : (f : Rec) (i k : ℕ) (a l : List ℕ) → length (ranFrom f i k a l .lines) ≡ k
+ran-long : (f : ℕ → ℕ → Rec) (i k : ℕ) (a l : List ℕ) → length (ranFrom f i k a l .lines) ≡ k
 unfolding ranFrom
 ran-long f i zero a l = refl
 ran-long f i (suc k) a l = ap suc (ran-long f (suc i) k _ _)
@@ -100,7 +100,7 @@ module _ (sheet a b : List ℕ) (accepted : read partial sheet .number ≡ 0) (s
   ran = run-fits sheet a b accepted state sound none runs fits
 
   stays : Stays (x .rows) (x .lines)
-  stays = let (h, g) = accepted-history partial sheet accepted in run-stays (read partial sheet .state) (record { history = h; full = g; keys = all-keys partial sheet accepted })
+  stays = let (h, g) = accepted-history partial sheet accepted in run-stays (read partial sheet .state) (record { history = h; ends = g; keys = all-keys partial sheet accepted })
 
   -- a line for each policy that runs
   pub policies : length (x .lines) ≡ getD a RUN 0

@@ -14,6 +14,7 @@ use Rattle.words.proofs.Logs.{append-holds, holds-as, holds-from, log-cut, log-
 use Rattle.cedar.specs.Residual.{Class, ctrue, cfalse, cerror, copen}
 use Rattle.sheet.specs.Forms.{partial, at, firstNode, NODE}
 use Rattle.forms.specs.Tags.{ERR, VAR}
+use Rattle.sheet.specs.Typing.{slotValue}
 use Rattle.sheet.specs.Content.{varOf}
 use Rattle.table.specs.Layout.{rowsOf}
 use Rattle.value.specs.Made.{boolRow}
@@ -21,7 +22,7 @@ use Rattle.residual.specs.Rows.{litRow, errRow, leftRow, stageAt}
 use Rattle.residual.specs.Errs.{errs}
 use Rattle.residual.specs.declared.Stage.{Stage}
 use Rattle.residual.specs.declared.Stage.the-variants.{Value, Error, Open}
-use Rattle.tpe.specs.Run.{O, Rec, left, litOf, errOf, leftOf, madeOf, joinOf, nodeIn, Side, stops, goes, wrong, unsure, sideOf, classBy, classOf, decidedBy, secondBy, secondOf, firstBy, firstOf, splitOf, branchBy, branchOf, varFor, envIn, litStep, errStep, varStep}
+use Rattle.tpe.specs.Run.{O, Rec, left, litOf, errOf, leftOf, madeOf, joinOf, nodeIn, Side, stops, goes, wrong, unsure, sideOf, classBy, classOf, decidedBy, secondBy, secondOf, firstBy, firstOf, splitOf, branchBy, branchOf, varFor, envIn, litStep, errStep, varStep, slotStep}
 use Rattle.tpe.specs.Steps.{twoAt}
 use Rattle.tpe.specs.Classes.{classIn}
 use Rattle.tpe.specs.Leaves.{Leaves}
@@ -30,7 +31,7 @@ use Rattle.tpe.specs.declared.Class.the-variants.{True, False, Error as Error�
 use Rattle.tpe.proofs.Slices.{stage-log}
 use Rattle.tpe.proofs.Worked.{two-sheet}
 use Rattle.interpret.specs.Sides.{sideIn}
-use Rattle.interpret.specs.Nodes.{leafOf, firstIn, branchIn, pairBy, pairIn}
+use Rattle.interpret.specs.Nodes.{slotOf, leafOf, firstIn, branchIn, pairBy, pairIn}
 use Rattle.interpret.specs.declared.Side.{Side as Sideᶜ}
 use Rattle.interpret.specs.declared.Side.the-variants.{Stops, Goes, Wrong, Unsure}
 
@@ -150,6 +151,13 @@ module _ (a b : List ℕ) (bt n t : ℕ) (room : Room b bt) (r : List ℕ) (er :
       go (suc zero) q z = z
       go (suc (suc zero)) q z = absurd (k (omega (arith, q, h)))
       go (suc (suc (suc j))) q z = z
+
+-- ---- `slot`
+
+pub slot-is : (a b b′ : List ℕ) (bt n u w e : ℕ) → Room b bt → (r : List ℕ) → r ≡ getD (rowsOf a NODE) n [] → (x y v : ℕ) → x ≡ getD r 2 0 → v ≡ slotValue u w x → y ≡ getD r 1 0 → Appended b bt (litRow v y) b′ e
+    → Leaves bt a b′ e (slotOf partial [] u w a (take bt b) n)
+unfolding slotOf slotStep litOf
+slot-is a b b′ bt n u w e room r er x y v ex ev ey p = rw (← er, ← ey, ← ex, ← ev) (record { words = refl; log = append-holds room p })
 
 -- ---- `beside`
 

@@ -4,7 +4,7 @@ use mathlib.Core.List.{List, [], _∷_}
 use Prim.Native.Nat.{ℕ, _-_, _/_}
 use lib.ListN.{length, getD}
 use Rattle.sheet.specs.Forms.{Mode, at, firstNode}
-use Rattle.tpe.specs.Run.{O, Rec, Ran, left, litStep, errStep, varStep, steps, nodeIn, kidsOf, firstOf, branchOf}
+use Rattle.tpe.specs.Run.{O, Rec, Ran, left, litStep, errStep, varStep, slotStep, steps, nodeIn, kidsOf, firstOf, branchOf}
 use Rattle.tpe.specs.Steps.{twoAt, manyAt}
 
 -- its first operand is worked: its operands begin at start, and the other ones are read now
@@ -15,9 +15,13 @@ unfoldable pub branchIn : Rec → ℕ → ℕ → O → O
 branchIn f start n o = branchOf f start n (at (nodeIn (o .words) n) 0) (at (nodeIn (o .words) n) 2) (at (nodeIn (o .words) n) 3) o
 
 module _ (m : Mode) (sheet : List ℕ) where
-  -- the step by any tag
-  unfoldable pub stepBy : ℕ → Rec → List ℕ → List ℕ → ℕ → O
-  stepBy t f a l n = getD (steps m sheet) (t - firstNode) (errStep m sheet) f a l n (nodeIn a n)
+  -- the step by any tag, under a link with the values p and q
+  unfoldable pub stepBy : ℕ → ℕ → ℕ → Rec → List ℕ → List ℕ → ℕ → O
+  stepBy p q t f a l n = getD (steps m sheet p q) (t - firstNode) (errStep m sheet) f a l n (nodeIn a n)
+
+  -- a slot
+  unfoldable pub slotOf : ℕ → ℕ → List ℕ → List ℕ → ℕ → O
+  slotOf p q a l n = slotStep m sheet p q (λ a l n. left a l) a l n (nodeIn a n)
 
   -- without operands
   unfoldable pub leafOf : ℕ → List ℕ → List ℕ → ℕ → O

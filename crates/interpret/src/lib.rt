@@ -9,6 +9,7 @@ use forms::NODE;
 use forms::OR;
 use forms::RECORD_OF;
 use forms::SET_OF;
+use forms::SLOT;
 use forms::VAR;
 use residual::CLASS_ERROR;
 use residual::CLASS_FALSE;
@@ -37,6 +38,7 @@ use tpe::steps::many;
 use tpe::steps::one;
 use tpe::steps::two;
 use tpe::steps::var;
+use typing::links::slot_value;
 use words::ROOM;
 use words::put;
 ghost use mathlib.Core.Path.{_≡_};
@@ -53,7 +55,7 @@ ghost use Rattle.tpe.specs.Run.{left, sideOf, classOf, joinOf, secondOf, splitO
 ghost use Rattle.tpe.specs.Leaves.{Leaves};
 ghost use Rattle.tpe.specs.Classes.{classIn};
 ghost use Rattle.interpret.specs.Sides.{sideIn};
-ghost use Rattle.interpret.specs.Nodes.{stepBy, leafOf, firstIn, branchIn, pairIn, groupOf, ended};
+ghost use Rattle.interpret.specs.Nodes.{stepBy, slotOf, leafOf, firstIn, branchIn, pairIn, groupOf, ended};
 ghost use Rattle.interpret.specs.Lines.{linesOf};
 
 // The levels of a tree.
@@ -139,6 +141,16 @@ fn leaf(rows: &mut [u32], log: &mut [u32], top: usize, node: u32, tag: u32) -> u
     push_error(log, top, ty)
 }
 
+// A slot: of the principal's value `p` and the resource's `q` the one that stands for it.
+fn slot(rows: &[u32], log: &mut [u32], top: usize, node: u32, p: u32, q: u32) -> usize
+    requires { ⌜ Room (now log) top ⌝ }
+    ensures { λ e. ⌜ Leaves top (now (rows .entry)) (now (log .exit)) e (slotOf partial [] p q (now (rows .entry)) (take top (now (log .entry))) node) ⌝ }
+{
+    let line = row(rows, NODE, node);
+    let value = slot_value(p, q, item(line, 2));
+    push_value(log, top, value, item(line, 1))
+}
+
 // Beside an open left side, which ends at `mid`, the right side of the node is worked.
 fn beside(
     rows: &mut [u32],
@@ -164,9 +176,11 @@ fn beside(
 
 // ---- the cycle of calls
 
-// The node, to `depth` levels.
+// The node, to `depth` levels, under a link with the principal's value `p` and the resource's `q`.
 pub fn interpret(
     sheet: &[u8],
+    p: u32,
+    q: u32,
     rows: &mut [u32],
     log: &mut [u32],
     top: usize,
@@ -174,7 +188,7 @@ pub fn interpret(
     depth: u32,
 ) -> usize
     requires { ⌜ Room (now log) top ⌝ }
-    ensures { λ e. ⌜ Leaves top (now (rows .exit)) (now (log .exit)) e (interpOf partial (now (sheet .entry)) depth (now (rows .entry)) (take top (now (log .entry))) node) ⌝ }
+    ensures { λ e. ⌜ Leaves top (now (rows .exit)) (now (log .exit)) e (interpOf partial (now (sheet .entry)) p q depth (now (rows .entry)) (take top (now (log .entry))) node) ⌝ }
 {
     if depth == 0 {
         return push_error(log, top, 0);
@@ -184,11 +198,12 @@ pub fn interpret(
         return leaf(rows, log, top, node, tag);
     }
     if tag < SET_OF {
-        return operation(sheet, rows, log, top, node, tag, depth - 1);
+        return operation(sheet, p, q, rows, log, top, node, tag, depth - 1);
     }
     match tag {
-        SET_OF => group(sheet, rows, log, top, node, tag, 1, depth - 1),
-        RECORD_OF => group(sheet, rows, log, top, node, tag, 2, depth - 1),
+        SET_OF => group(sheet, p, q, rows, log, top, node, tag, 1, depth - 1),
+        RECORD_OF => group(sheet, p, q, rows, log, top, node, tag, 2, depth - 1),
+        SLOT => slot(rows, log, top, node, p, q),
         _ => leaf(rows, log, top, node, tag),
     }
 }
@@ -196,6 +211,8 @@ pub fn interpret(
 // An operation of which one operand is always worked, its first.
 fn operation(
     sheet: &[u8],
+    p: u32,
+    q: u32,
     rows: &mut [u32],
     log: &mut [u32],
     top: usize,
@@ -205,18 +222,18 @@ fn operation(
 ) -> usize
     requires { ⌜ Room (now log) top ⌝ }
     requires { ⌜ (AND ≤ tag) × (tag < SET-OF) ⌝ }
-    ensures { λ e. ⌜ Leaves top (now (rows .exit)) (now (log .exit)) e (stepBy partial (now (sheet .entry)) tag (interpOf partial (now (sheet .entry)) depth) (now (rows .entry)) (take top (now (log .entry))) node) ⌝ }
+    ensures { λ e. ⌜ Leaves top (now (rows .exit)) (now (log .exit)) e (stepBy partial (now (sheet .entry)) p q tag (interpOf partial (now (sheet .entry)) p q depth) (now (rows .entry)) (take top (now (log .entry))) node) ⌝ }
 {
     let left = item(row(rows, NODE, node), 2);
-    let end = interpret(sheet, rows, log, top, left, depth);
+    let end = interpret(sheet, p, q, rows, log, top, left, depth);
     if tag < EQ {
-        return first(sheet, rows, log, top, end, node, tag == OR, depth);
+        return first(sheet, p, q, rows, log, top, end, node, tag == OR, depth);
     }
     if tag < IF {
-        return pair(sheet, rows, log, top, end, node, tag, depth);
+        return pair(sheet, p, q, rows, log, top, end, node, tag, depth);
     }
     if tag < IS {
-        return branch(sheet, rows, log, top, end, node, depth);
+        return branch(sheet, p, q, rows, log, top, end, node, depth);
     }
     one(sheet, rows, log, top, end, node, tag)
 }
@@ -224,6 +241,8 @@ fn operation(
 // `and` and `or`, where the bool `stop` decides: the left side is worked.
 fn first(
     sheet: &[u8],
+    p: u32,
+    q: u32,
     rows: &mut [u32],
     log: &mut [u32],
     start: usize,
@@ -234,22 +253,37 @@ fn first(
 ) -> usize
     requires { ⌜ Room (now log) top ⌝ }
     requires { ⌜ start ≤ top ⌝ }
-    ensures { λ e. ⌜ Leaves start (now (rows .exit)) (now (log .exit)) e (firstIn stop (interpOf partial (now (sheet .entry)) depth) start node (left (now (rows .entry)) (take top (now (log .entry))))) ⌝ }
+    ensures { λ e. ⌜ Leaves start (now (rows .exit)) (now (log .exit)) e (firstIn stop (interpOf partial (now (sheet .entry)) p q depth) start node (left (now (rows .entry)) (take top (now (log .entry))))) ⌝ }
 {
     let line = row(rows, NODE, node);
     let ty = item(line, 1);
     let right = item(line, 3);
     match side_at(rows, log, top, stop) {
         Side::Stops => give_bool(rows, log, start, stop, ty),
-        Side::Goes => interpret(sheet, rows, log, start, right, depth),
+        Side::Goes => interpret(sheet, p, q, rows, log, start, right, depth),
         Side::Wrong => push_error(log, start, ty),
-        Side::Unsure => second(sheet, rows, log, start, top, node, stop, ty, right, depth),
+        Side::Unsure => second(
+            sheet,
+            p,
+            q,
+            rows,
+            log,
+            start,
+            top,
+            node,
+            stop,
+            ty,
+            right,
+            depth,
+        ),
     }
 }
 
 // The same where the left side is open: it ends at `mid`, and the `right` one is worked after it.
 fn second(
     sheet: &[u8],
+    p: u32,
+    q: u32,
     rows: &mut [u32],
     log: &mut [u32],
     start: usize,
@@ -262,15 +296,17 @@ fn second(
 ) -> usize
     requires { ⌜ Room (now log) mid ⌝ }
     requires { ⌜ start ≤ mid ⌝ }
-    ensures { λ e. ⌜ Leaves start (now (rows .exit)) (now (log .exit)) e (secondOf stop start node ty mid (interpOf partial (now (sheet .entry)) depth (now (rows .entry)) (take mid (now (log .entry))) right)) ⌝ }
+    ensures { λ e. ⌜ Leaves start (now (rows .exit)) (now (log .exit)) e (secondOf stop start node ty mid (interpOf partial (now (sheet .entry)) p q depth (now (rows .entry)) (take mid (now (log .entry))) right)) ⌝ }
 {
-    let end = interpret(sheet, rows, log, mid, right, depth);
+    let end = interpret(sheet, p, q, rows, log, mid, right, depth);
     beside(rows, log, start, mid, end, node, stop, ty)
 }
 
 // An operation on two operands: the left one is worked and ends at `mid`.
 fn pair(
     sheet: &[u8],
+    p: u32,
+    q: u32,
     rows: &mut [u32],
     log: &mut [u32],
     start: usize,
@@ -281,16 +317,18 @@ fn pair(
 ) -> usize
     requires { ⌜ Room (now log) mid ⌝ }
     requires { ⌜ start ≤ mid ⌝ }
-    ensures { λ e. ⌜ Leaves start (now (rows .exit)) (now (log .exit)) e (pairIn partial (now (sheet .entry)) tag (interpOf partial (now (sheet .entry)) depth) start node (left (now (rows .entry)) (take mid (now (log .entry))))) ⌝ }
+    ensures { λ e. ⌜ Leaves start (now (rows .exit)) (now (log .exit)) e (pairIn partial (now (sheet .entry)) tag (interpOf partial (now (sheet .entry)) p q depth) start node (left (now (rows .entry)) (take mid (now (log .entry))))) ⌝ }
 {
     let right = item(row(rows, NODE, node), 3);
-    let end = interpret(sheet, rows, log, mid, right, depth);
+    let end = interpret(sheet, p, q, rows, log, mid, right, depth);
     two(rows, log, start, mid, end, node, tag)
 }
 
 // `if`, whose test is worked.
 fn branch(
     sheet: &[u8],
+    p: u32,
+    q: u32,
     rows: &mut [u32],
     log: &mut [u32],
     start: usize,
@@ -300,23 +338,38 @@ fn branch(
 ) -> usize
     requires { ⌜ Room (now log) top ⌝ }
     requires { ⌜ start ≤ top ⌝ }
-    ensures { λ e. ⌜ Leaves start (now (rows .exit)) (now (log .exit)) e (branchIn (interpOf partial (now (sheet .entry)) depth) start node (left (now (rows .entry)) (take top (now (log .entry))))) ⌝ }
+    ensures { λ e. ⌜ Leaves start (now (rows .exit)) (now (log .exit)) e (branchIn (interpOf partial (now (sheet .entry)) p q depth) start node (left (now (rows .entry)) (take top (now (log .entry))))) ⌝ }
 {
     let line = row(rows, NODE, node);
     let ty = item(line, 1);
     let then = item(line, 3);
     let other = item(line, 4);
     match class_at(rows, log, top) {
-        Class::True => interpret(sheet, rows, log, start, then, depth),
-        Class::False => interpret(sheet, rows, log, start, other, depth),
+        Class::True => interpret(sheet, p, q, rows, log, start, then, depth),
+        Class::False => interpret(sheet, p, q, rows, log, start, other, depth),
         Class::Error => push_error(log, start, ty),
-        Class::Open => split(sheet, rows, log, start, top, node, ty, then, other, depth),
+        Class::Open => split(
+            sheet,
+            p,
+            q,
+            rows,
+            log,
+            start,
+            top,
+            node,
+            ty,
+            then,
+            other,
+            depth,
+        ),
     }
 }
 
 // The same where the test is open: both branches, `then` and `other`, are worked after it.
 fn split(
     sheet: &[u8],
+    p: u32,
+    q: u32,
     rows: &mut [u32],
     log: &mut [u32],
     start: usize,
@@ -329,16 +382,18 @@ fn split(
 ) -> usize
     requires { ⌜ Room (now log) top ⌝ }
     requires { ⌜ start ≤ top ⌝ }
-    ensures { λ e. ⌜ Leaves start (now (rows .exit)) (now (log .exit)) e (splitOf (interpOf partial (now (sheet .entry)) depth) start node ty other (interpOf partial (now (sheet .entry)) depth (now (rows .entry)) (take top (now (log .entry))) then)) ⌝ }
+    ensures { λ e. ⌜ Leaves start (now (rows .exit)) (now (log .exit)) e (splitOf (interpOf partial (now (sheet .entry)) p q depth) start node ty other (interpOf partial (now (sheet .entry)) p q depth (now (rows .entry)) (take top (now (log .entry))) then)) ⌝ }
 {
-    let mid = interpret(sheet, rows, log, top, then, depth);
-    let end = interpret(sheet, rows, log, mid, other, depth);
+    let mid = interpret(sheet, p, q, rows, log, top, then, depth);
+    let end = interpret(sheet, p, q, rows, log, mid, other, depth);
     push_left(log, start, end, node, 0, ty)
 }
 
 // A set or record: each child is the last of `step` words of its row.
 fn group(
     sheet: &[u8],
+    p: u32,
+    q: u32,
     rows: &mut [u32],
     log: &mut [u32],
     top: usize,
@@ -349,7 +404,7 @@ fn group(
 ) -> usize
     requires { ⌜ Room (now log) top ⌝ }
     requires { ⌜ 0 < step ⌝ }
-    ensures { λ e. ⌜ Leaves top (now (rows .exit)) (now (log .exit)) e (groupOf partial (now (sheet .entry)) tag step (interpOf partial (now (sheet .entry)) depth) (now (rows .entry)) (take top (now (log .entry))) node) ⌝ }
+    ensures { λ e. ⌜ Leaves top (now (rows .exit)) (now (log .exit)) e (groupOf partial (now (sheet .entry)) tag step (interpOf partial (now (sheet .entry)) p q depth) (now (rows .entry)) (take top (now (log .entry))) node) ⌝ }
 {
     let len = row(rows, NODE, node).len();
     let mut end = top;
@@ -357,7 +412,7 @@ fn group(
     let mut i = 2;
     while has_more(len, i, step) {
         let child = item(row(rows, NODE, node), i + step - 1);
-        end = interpret(sheet, rows, log, end, child, depth);
+        end = interpret(sheet, p, q, rows, log, end, child, depth);
         joined = join(log, end, joined);
         i += step;
     }
@@ -375,8 +430,11 @@ pub fn run(sheet: &[u8], rows: &mut [u32], log: &mut [u32]) -> usize
     let mut end = 0;
     let mut i = 0;
     while i < most {
-        let root = item(row(rows, RUN, i), 3);
-        end = interpret(sheet, rows, log, end, root, DEPTH);
+        let policy = row(rows, RUN, i);
+        let root = item(policy, 3);
+        let p = item(policy, 4);
+        let q = item(policy, 5);
+        end = interpret(sheet, p, q, rows, log, end, root, DEPTH);
         i += 1;
     }
     end

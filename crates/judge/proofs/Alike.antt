@@ -9,14 +9,16 @@ use borrow.Author.Tests.{eq-eqb, ne-eqb, le-ltb}
 use lib.Dec.{leb, ltb, eqb}
 use lib.ListN.{length, getD, take, drop, set, List·getD-eq-default}
 use Rattle.cedar.specs.Numbered.{memN}
-use Rattle.sheet.specs.Forms.{Slot, entry, line, lineOr, lineUnknown, word, number, day, nothing, forms, formOf, slotAt, tag, items, at, keyOf, refsFrom, refs, ascendings, mark, TEXT, KIND, TYPE, SHAPE, VALUE, ENTITY, POLICY, TERM, noKey}
+use Rattle.sheet.specs.Forms.{Slot, entry, line, lineOr, lineUnknown, word, number, day, nothing, forms, formOf, slotAt, tag, items, at, keyOf, refsFrom, refs, ascendings, mark, TEXT, KIND, TYPE, SHAPE, VALUE, ENTITY, POLICY, LINK, TERM, noKey}
 use Rattle.sheet.specs.State.{State, empty, linesOf, count, depthsOf}
-use Rattle.sheet.specs.Sheet.{least, greatest, reach, allZero, inOrder, thereIs, allThere, ascend, among, firsts, termGoes, fresh, found, deepest, depth}
+use Rattle.sheet.specs.Typing.{nodesUnder}
+use Rattle.sheet.specs.Sheet.{least, greatest, reach, allZero, inOrder, uses, tooMany, hasSlot, slotGiven, thereIs, allThere, ascend, among, firsts, termGoes, fresh, found, deepest, depth}
 use Rattle.sheet.proofs.Parsed.{tags-between}
 use Rattle.forms.specs.Tags.{TEXT-LINE}
 use Rattle.table.specs.Layout.{part, rowsOf, textRows, linesHeld, held, rowIn}
 use Rattle.table.proofs.Rows.{count-held, lines-held, texts-held}
 use Rattle.table.proofs.Held.{counts-held}
+use Rattle.checks.proofs.NotedLaws.{under-held, uses-same}
 use Rattle.judge.specs.Verdicts.{NewDepth}
 
 module _ (a sheet b : List ℕ) where
@@ -45,8 +47,28 @@ module _ (a sheet b : List ℕ) where
       ap₂ (λ (c : List ℕ) (n : ℕ). allZero (drop (suc k) c) && reach (take k c) (set (least empty) SHAPE n))
       (counts-held [] a [] ∙ sym (counts-held sheet a b)) (count-alike KIND)
 
-  pub full-alike : (k : ℕ) → leb (getD (greatest (held [] a [])) k 0) (count (held [] a []) k) ≡ leb (getD (greatest (held sheet a b)) k 0) (count (held sheet a b) k)
+  full-alike : (k : ℕ) → leb (getD (greatest (held [] a [])) k 0) (count (held [] a []) k) ≡ leb (getD (greatest (held sheet a b)) k 0) (count (held sheet a b) k)
   full-alike k = ap₂ (λ (n m : ℕ). leb (getD (set (greatest empty) SHAPE n) k 0) m) (count-alike KIND) (count-alike k)
+
+  under-alike : (n : ℕ) → nodesUnder (held [] a []) n ≡ nodesUnder (held sheet a b) n
+  under-alike n = under-held [] a [] n ∙ sym (under-held sheet a b n)
+
+  uses-alike : (r : List ℕ) → uses (held [] a []) (r ∷ linesOf (held [] a []) POLICY) ≡ uses (held sheet a b) (r ∷ linesOf (held sheet a b) POLICY)
+  uses-alike r =
+      ap (λ (l : List (List ℕ)). uses (held [] a []) (r ∷ l)) (lines-alike POLICY (λ q. absurd (omega arith)))
+      ∙ uses-same (held sheet a b) (held [] a []) (r ∷ linesOf (held sheet a b) POLICY) under-alike
+
+  pub many-alike : (k : ℕ) (r : List ℕ) → tooMany (held [] a []) k r ≡ tooMany (held sheet a b) k (rowIn sheet k r)
+  many-alike k r = ap₂ (λ (x : Bool) (n : ℕ). x || (eqb k POLICY && ltb 1024 n)) (full-alike k) (uses-alike r) ∙ go (ℕ-discrete k TEXT)
+    where
+      go : Dec (k ≡ TEXT) → tooMany (held sheet a b) k r ≡ tooMany (held sheet a b) k (rowIn sheet k r)
+      go (yes d) = rw d refl
+      go (no d) = rw (ne-eqb k TEXT d) refl
+
+  given-alike : (r : List ℕ) (x : ℕ) → slotGiven (held [] a []) r x ≡ slotGiven (held sheet a b) r x
+  given-alike r x =
+      ap (λ (rs : List (List ℕ)). cond (hasSlot x rs) (not (eqb (at r (suc x)) mark)) (eqb (at r (suc x)) mark))
+      (ap (λ (l : List (List ℕ)). nodesUnder (held [] a []) (at (getD l (at r 0) []) 2)) (lines-alike POLICY (λ q. absurd (omega arith))) ∙ under-alike (at (getD (linesOf (held sheet a b) POLICY) (at r 0) []) 2))
 
   slot-alike : (s : Slot) (x : ℕ) → thereIs (held [] a []) s x ≡ thereIs (held sheet a b) s x
   slot-alike entry x = refl
@@ -64,9 +86,9 @@ module _ (a sheet b : List ℕ) where
 
   fresh-alike : (k : ℕ) (r : List ℕ) → (k ≡ TEXT → ⊥) → fresh (held [] a []) k r ≡ fresh (held sheet a b) k r
   fresh-alike k r n =
-      ap (λ (l : List (List ℕ)). cond (eqb k TEXT || eqb k TYPE || eqb k VALUE) (not (among r l)) (cond (eqb k KIND || eqb k POLICY) (not (memN (at r 0) (firsts l)))
-      (cond (eqb k ENTITY) (last-below l) (cond (eqb k TERM) (last-below l && termGoes r) true))))
-      (lines-alike k n)
+      ap₂ (λ (l : List (List ℕ)) (g : Bool). cond (eqb k TEXT || eqb k TYPE || eqb k VALUE) (not (among r l)) (cond (eqb k KIND || eqb k POLICY) (not (memN (at r 0) (firsts l)))
+      (cond (eqb k ENTITY) (last-below l) (cond (eqb k LINK) (last-below l && g) (cond (eqb k TERM) (last-below l && termGoes r) true)))))
+      (lines-alike k n) (ap₂ _&&_ (given-alike r 0) (given-alike r 1))
     where
       last-below : List (List ℕ) → Bool
       last-below l = eqb (length l) 0 || ltb (at (getD l (length l - 1) []) 0) (at r 0)

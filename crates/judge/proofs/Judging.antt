@@ -1,6 +1,6 @@
 -- The refusals of a row in number order, and what is left of the words. Assumes nothing.
 use mathlib.Core.Path.{_≡_, refl, sym, ap, ap₂, subst, _∙_}
-use mathlib.Core.Bool.{Bool, true, false, cond, not}
+use mathlib.Core.Bool.{Bool, true, false, cond, not, _||_}
 use mathlib.Core.List.{List, [], _∷_, _++_}
 use Prim.Native.Nat.{ℕ, suc, _+_, _-_, _≤_, _<_}
 use native.Mathlib.Omega.{arith}
@@ -13,16 +13,17 @@ use Rattle.words.proofs.Stores.{getD-below, part-below}
 use Rattle.sheet.specs.Forms.{formOf, tag, keyOf, refs, TEXT, ENTITY, NODE, noKey}
 use Rattle.sheet.specs.State.{State, count}
 use Rattle.sheet.specs.Typing.{typed}
-use Rattle.sheet.specs.Sheet.{greatest, inOrder, found, deepest, depth, usedTwice, marked, faultOf}
+use Rattle.sheet.specs.Sheet.{greatest, overused, inOrder, tooMany, found, deepest, depth, usedTwice, marked, faultOf}
 use Rattle.table.specs.Layout.{TYPEDEPTHS, USES, depthsAt, held, rowIn}
 use Rattle.table.proofs.Rows.{key-low}
 use Rattle.table.proofs.Held.{used-of, depths-kept}
 use Rattle.fits.specs.Fit.{SettledIn, Known}
 use Rattle.fits.proofs.Remembered.{cleared, known-words}
-use Rattle.checks.specs.Uses.{usesIn, Marked}
+use Rattle.checks.specs.Uses.{usesIn, markOf, Marked}
+use Rattle.typing.specs.Links.{Shown}
 use Rattle.typing.specs.Rules.{Typed}
 use Rattle.judge.specs.Verdicts.{NewDepth, TypedLine, Judged}
-use Rattle.judge.proofs.Alike.{order-alike, full-alike, refs-alike}
+use Rattle.judge.proofs.Alike.{order-alike, many-alike, refs-alike}
 
 -- ---- the chain of refusals
 
@@ -31,10 +32,10 @@ module _ (s : State) (k : ℕ) (r : List ℕ) where
   fault-order e = rw e refl
 
   module _ (o : inOrder s k ≡ true) where
-    fault-full : leb (getD (greatest s) k 0) (count s k) ≡ true → faultOf s k r ≡ 4
-    fault-full e = rw (o, e) refl
+    fault-many : tooMany s k r ≡ true → faultOf s k r ≡ 4
+    fault-many e = rw (o, e) refl
 
-    module _ (u : leb (getD (greatest s) k 0) (count s k) ≡ false) where
+    module _ (u : tooMany s k r ≡ false) where
       fault-found : found s k r ≡ false → faultOf s k r ≡ 5
       fault-found e = rw (o, u, e) refl
 
@@ -112,8 +113,12 @@ line-key s k e = go (decLt k noKey)
     go (yes h) = h
     go (no h) = absurd (omega (arith, leb-false (getD (greatest s) k 0) (count s k) e, List·getD-eq-default (greatest s) 0 {n = k} (omega arith)))
 
-pub key-of-line : (a : List ℕ) (k : ℕ) (u : Bool) → u ≡ leb (getD (greatest (held [] a [])) k 0) (count (held [] a []) k) → u ≡ false → k < noKey
-key-of-line a k u e f = line-key (held [] a []) k (sym e ∙ f)
+pub key-of-line : (a : List ℕ) (k : ℕ) (r : List ℕ) (u : Bool) → u ≡ tooMany (held [] a []) k r → u ≡ false → k < noKey
+key-of-line a k r u e f = line-key (held [] a []) k (neither (leb (getD (greatest (held [] a [])) k 0) (count (held [] a []) k)) (overused (held [] a []) k r) (sym e ∙ f))
+  where
+    neither : (x y : Bool) → (x || y) ≡ false → x ≡ false
+    neither true y h = h
+    neither false y h = refl
 
 -- ---- `judge`
 
@@ -125,7 +130,7 @@ module _ (sheet a b r : List ℕ) (known : Known a b) (t k : ℕ) (ht : t ≡ ta
   stop : (f n d : ℕ) → (f ≡ 0 → ⊥) → faultOf (held sheet a b) (keyOf r) (rowIn sheet (keyOf r) r) ≡ f → Judged sheet a b r b f n d
   stop f n d z e =
       record {
-        number = λ s. sym e;
+        number = λ s w. sym e;
         key = λ q. absurd (z q);
         deep = λ q. absurd (z q);
         uses = λ q. absurd (z q);
@@ -142,15 +147,15 @@ module _ (sheet a b r : List ℕ) (known : Known a b) (t k : ℕ) (ht : t ≡ ta
     pub judged-3 : not o ≡ true → (f n d : ℕ) → f ≡ 3 → Judged sheet a b r b f n d
     judged-3 h f n d e = stop f n d (λ q. absurd (omega arith)) (fault-order (held sheet a b) (keyOf r) (rowIn sheet (keyOf r) r) (sym order-is ∙ not-true o h) ∙ sym e)
 
-    module _ (po : not o ≡ false) (u : Bool) (hu : u ≡ leb (getD (greatest (held [] a [])) k 0) (count (held [] a []) k)) where
-      full-is : u ≡ leb (getD (greatest (held sheet a b)) (keyOf r) 0) (count (held sheet a b) (keyOf r))
-      full-is = hu ∙ full-alike a sheet b k ∙ ap (λ (x : ℕ). leb (getD (greatest (held sheet a b)) x 0) (count (held sheet a b) x)) key-is
+    module _ (po : not o ≡ false) (u : Bool) (hu : u ≡ tooMany (held [] a []) k r) where
+      many-is : u ≡ tooMany (held sheet a b) (keyOf r) (rowIn sheet (keyOf r) r)
+      many-is = hu ∙ many-alike a sheet b k r ∙ ap (λ (x : ℕ). tooMany (held sheet a b) x (rowIn sheet x r)) key-is
 
       ordered : inOrder (held sheet a b) (keyOf r) ≡ true
       ordered = sym order-is ∙ not-false o po
 
       pub judged-4 : u ≡ true → (f n d : ℕ) → f ≡ 4 → Judged sheet a b r b f n d
-      judged-4 h f n d e = stop f n d (λ q. absurd (omega arith)) (fault-full (held sheet a b) (keyOf r) (rowIn sheet (keyOf r) r) ordered (sym full-is ∙ h) ∙ sym e)
+      judged-4 h f n d e = stop f n d (λ q. absurd (omega arith)) (fault-many (held sheet a b) (keyOf r) (rowIn sheet (keyOf r) r) ordered (sym many-is ∙ h) ∙ sym e)
 
       module _ (pu : u ≡ false) (g : ℕ) (hg : NewDepth sheet a b r k g) where
         depth-is : g ≡ cond (found (held sheet a b) (keyOf r) (rowIn sheet (keyOf r) r)) (depth (held sheet a b) (keyOf r) (rowIn sheet (keyOf r) r)) 0
@@ -159,7 +164,7 @@ module _ (sheet a b r : List ℕ) (known : Known a b) (t k : ℕ) (ht : t ≡ ta
         pub judged-5 : g ≡ 0 → (f n d : ℕ) → f ≡ 5 → Judged sheet a b r b f n d
         judged-5 h f n d e =
             stop f n d (λ q. absurd (omega arith))
-            (fault-found (held sheet a b) (keyOf r) (rowIn sheet (keyOf r) r) ordered (sym full-is ∙ pu) (none-found (held sheet a b) (keyOf r) (rowIn sheet (keyOf r) r) (sym h ∙ depth-is)) ∙ sym e)
+            (fault-found (held sheet a b) (keyOf r) (rowIn sheet (keyOf r) r) ordered (sym many-is ∙ pu) (none-found (held sheet a b) (keyOf r) (rowIn sheet (keyOf r) r) (sym h ∙ depth-is)) ∙ sym e)
 
         module _ (pw : g ≡ 0 → ⊥) where
           found-is : found (held sheet a b) (keyOf r) (rowIn sheet (keyOf r) r) ≡ true
@@ -175,7 +180,7 @@ module _ (sheet a b r : List ℕ) (known : Known a b) (t k : ℕ) (ht : t ≡ ta
           pub judged-6 : 64 < g → (f n d : ℕ) → f ≡ 6 → Judged sheet a b r b f n d
           judged-6 h f n d e =
               stop f n d (λ q. absurd (omega arith))
-              (fault-deep (held sheet a b) (keyOf r) (rowIn sheet (keyOf r) r) ordered (sym full-is ∙ pu) found-is (lt-ltb 64 (depth (held sheet a b) (keyOf r) (rowIn sheet (keyOf r) r)) (omega (arith, deep-is))) ∙ sym e)
+              (fault-deep (held sheet a b) (keyOf r) (rowIn sheet (keyOf r) r) ordered (sym many-is ∙ pu) found-is (lt-ltb 64 (depth (held sheet a b) (keyOf r) (rowIn sheet (keyOf r) r)) (omega (arith, deep-is))) ∙ sym e)
 
           module _ (pg : g ≤ 64) (b₁ : List ℕ) (y : Bool) (hy : TypedLine a b b₁ r k y) where
             shallow : ltb 64 (depth (held sheet a b) (keyOf r) (rowIn sheet (keyOf r) r)) ≡ false
@@ -189,8 +194,8 @@ module _ (sheet a b r : List ℕ) (known : Known a b) (t k : ℕ) (ht : t ≡ ta
                 go (yes d) = rw d refl
                 go (no d) = rw (ne-eqb j TEXT d) refl
 
-            typed-is : SettledIn a → y ≡ typed (held sheet a b) (rowIn sheet (keyOf r) r) (keyOf r)
-            typed-is s = hy .is sheet b s ∙ typed-row k ∙ ap (λ (x : ℕ). typed (held sheet a b) (rowIn sheet x r) x) key-is
+            typed-is : SettledIn a → Shown a → y ≡ typed (held sheet a b) (rowIn sheet (keyOf r) r) (keyOf r)
+            typed-is s w = hy .is sheet b s w ∙ typed-row k ∙ ap (λ (x : ℕ). typed (held sheet a b) (rowIn sheet x r) x) key-is
 
             early₁ : keyOf r < ENTITY → b₁ ≡ b
             early₁ h = hy .early (rw key-is h)
@@ -198,7 +203,7 @@ module _ (sheet a b r : List ℕ) (known : Known a b) (t k : ℕ) (ht : t ≡ ta
             pub judged-7 : not y ≡ true → (f n d : ℕ) → f ≡ 7 → Judged sheet a b r b₁ f n d
             judged-7 h f n d e =
                 record {
-                  number = λ s. e ∙ sym (fault-typed (held sheet a b) (keyOf r) (rowIn sheet (keyOf r) r) ordered (sym full-is ∙ pu) found-is shallow (sym (typed-is s) ∙ not-true y h));
+                  number = λ s w. e ∙ sym (fault-typed (held sheet a b) (keyOf r) (rowIn sheet (keyOf r) r) ordered (sym many-is ∙ pu) found-is shallow (sym (typed-is s w) ∙ not-true y h));
                   key = λ q. absurd (omega arith);
                   deep = λ q. absurd (omega arith);
                   uses = λ q. absurd (omega arith);
@@ -208,7 +213,7 @@ module _ (sheet a b r : List ℕ) (known : Known a b) (t k : ℕ) (ht : t ≡ ta
                   rest = λ h. later b b₁ (hy .rest);
                 }
 
-            module _ (py : not y ≡ false) (b₂ : List ℕ) (x : Bool) (hx : Marked a b₁ (refs NODE r) b₂ x) where
+            module _ (py : not y ≡ false) (b₂ : List ℕ) (x : Bool) (hx : Marked (markOf (keyOf r)) a b₁ (refs NODE r) b₂ x) where
               uses-same : usesIn a b₁ ≡ usesIn a b
               uses-same = depths-kept b b₁ USES (getD a NODE 0) (omega arith) (hy .rest)
 
@@ -232,7 +237,7 @@ module _ (sheet a b r : List ℕ) (known : Known a b) (t k : ℕ) (ht : t ≡ ta
               pub judged-8 : x ≡ true → (f n d : ℕ) → f ≡ 8 → Judged sheet a b r b₂ f n d
               judged-8 h f n d e =
                   record {
-                    number = λ s. e ∙ sym (fault-used (held sheet a b) (keyOf r) (rowIn sheet (keyOf r) r) ordered (sym full-is ∙ pu) found-is shallow (sym (typed-is s) ∙ not-false y py) (sym twice-is ∙ h));
+                    number = λ s w. e ∙ sym (fault-used (held sheet a b) (keyOf r) (rowIn sheet (keyOf r) r) ordered (sym many-is ∙ pu) found-is shallow (sym (typed-is s w) ∙ not-false y py) (sym twice-is ∙ h));
                     key = λ q. absurd (omega arith);
                     deep = λ q. absurd (omega arith);
                     uses = λ q. absurd (omega arith);
@@ -245,10 +250,10 @@ module _ (sheet a b r : List ℕ) (known : Known a b) (t k : ℕ) (ht : t ≡ ta
               pub judged-0 : x ≡ false → Judged sheet a b r b₂ 0 k g
               judged-0 h =
                   record {
-                    number = λ s. sym (fault-none (held sheet a b) (keyOf r) (rowIn sheet (keyOf r) r) ordered (sym full-is ∙ pu) found-is shallow (sym (typed-is s) ∙ not-false y py) (sym twice-is ∙ h));
+                    number = λ s w. sym (fault-none (held sheet a b) (keyOf r) (rowIn sheet (keyOf r) r) ordered (sym many-is ∙ pu) found-is shallow (sym (typed-is s w) ∙ not-false y py) (sym twice-is ∙ h));
                     key = λ q. key-is;
                     deep = λ q. deep-is;
-                    uses = λ q. hx .uses h ∙ ap₂ marked uses-same refs-same;
+                    uses = λ q. hx .uses h ∙ ap₂ (marked (markOf (keyOf r))) uses-same refs-same;
                     known = known-below a b₁ b₂ (hx .below) (hy .known);
                     early = early₂;
                     depths = kept-part;

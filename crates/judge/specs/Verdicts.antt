@@ -9,7 +9,8 @@ use Rattle.sheet.specs.Typing.{typed}
 use Rattle.sheet.specs.Sheet.{found, depth, faultOf, marked}
 use Rattle.table.specs.Layout.{TYPEDEPTHS, USES, depthsAt, rowIn, held}
 use Rattle.fits.specs.Fit.{SettledIn, Known}
-use Rattle.checks.specs.Uses.{usesIn}
+use Rattle.typing.specs.Links.{Shown}
+use Rattle.checks.specs.Uses.{markOf, usesIn}
 
 -- the depth of a row of key k; 0 where what it refers to is not there, or the row is not new
 pub record NewDepth (sheet a b r : List ℕ) (k d : ℕ) : Type 0 where
@@ -17,17 +18,17 @@ pub record NewDepth (sheet a b r : List ℕ) (k d : ℕ) : Type 0 where
 
 -- whether a row of key k is typed; what is remembered of pairs is used from key entity on
 pub record TypedLine (a b b′ r : List ℕ) (k : ℕ) (v : Bool) : Type 0 where
-  pub is : (sheet c : List ℕ) → SettledIn a → v ≡ typed (held sheet a c) r k
+  pub is : (sheet c : List ℕ) → SettledIn a → Shown a → v ≡ typed (held sheet a c) r k
   pub known : Known a b′
   pub early : k < ENTITY → b′ ≡ b
   pub rest : drop TYPEDEPTHS b′ ≡ drop TYPEDEPTHS b
 
 -- number f of the row that words r hold, of key k; where it is 0 the row's depth d, and the nodes that it uses are marked
 pub record Judged (sheet a b r b′ : List ℕ) (f k d : ℕ) : Type 0 where
-  pub number : SettledIn a → f ≡ faultOf (held sheet a b) (keyOf r) (rowIn sheet (keyOf r) r)
+  pub number : SettledIn a → Shown a → f ≡ faultOf (held sheet a b) (keyOf r) (rowIn sheet (keyOf r) r)
   pub key : f ≡ 0 → k ≡ keyOf r
   pub deep : f ≡ 0 → d ≡ depth (held sheet a b) (keyOf r) (rowIn sheet (keyOf r) r)
-  pub uses : f ≡ 0 → usesIn a b′ ≡ marked (usesIn a b) (refs NODE (rowIn sheet (keyOf r) r))
+  pub uses : f ≡ 0 → usesIn a b′ ≡ marked (markOf (keyOf r)) (usesIn a b) (refs NODE (rowIn sheet (keyOf r) r))
   pub known : Known a b′
   pub early : keyOf r < ENTITY → (i : ℕ) → i < TYPEDEPTHS → getD b′ i 0 ≡ getD b i 0
   pub depths : (i n : ℕ) → TYPEDEPTHS ≤ i → i + n ≤ USES → depthsAt b′ i n ≡ depthsAt b i n

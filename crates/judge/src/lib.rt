@@ -1,8 +1,8 @@
 // The refusal of a row, 3 to 8 in number order, against the rows that the words hold.
 use checks::in_order;
-use checks::is_full;
 use checks::is_text;
 use checks::new_depth;
+use checks::too_many;
 use checks::use_nodes;
 use forms::ENTITY;
 use forms::NO_KEY;
@@ -17,6 +17,7 @@ ghost use mathlib.Core.Path.{_≡_};
 ghost use Prim.Native.Nat.{_<_};
 ghost use Rattle.words.specs.Log.{part};
 ghost use Rattle.sheet.specs.Forms.{keyOf, noKey};
+ghost use Rattle.checks.specs.Under.{Noted};
 ghost use Rattle.fits.specs.Fit.{Known};
 ghost use Rattle.judge.specs.Verdicts.{NewDepth, TypedLine, Judged};
 
@@ -51,6 +52,7 @@ fn typed_line(rows: &[u32], work: &mut [u32], line: &[u32], key: usize) -> bool
 // The depth of a row of this key; 0 where a line that it refers to is not there, or the row is not new.
 fn depth_of(sheet: &[u8], rows: &[u32], work: &[u32], key: usize, line: &[u32]) -> usize
     requires { ⌜ (key ≡ keyOf (now line)) × (key < noKey) ⌝ }
+    requires { ⌜ Noted (now rows) (now work) ⌝ }
     ensures { λ d. ⌜ NewDepth (now (sheet .entry)) (now (rows .entry)) (now (work .entry)) (now (line .entry)) key d ⌝ }
 {
     if key == TEXT {
@@ -66,14 +68,14 @@ fn depth_of(sheet: &[u8], rows: &[u32], work: &[u32], key: usize, line: &[u32]) 
 
 // The refusal of a row of words, and where there is none its key and depth; the nodes that it uses are then marked.
 pub fn judge(sheet: &[u8], rows: &[u32], work: &mut [u32], line: &[u32]) -> Verdict
-    requires { ⌜ Known (now rows) (now work) ⌝ }
+    requires { ⌜ Known (now rows) (now work) × Noted (now rows) (now work) ⌝ }
     ensures { λ v. ⌜ Judged (now (sheet .entry)) (now (rows .entry)) (now (work .entry)) (now (line .entry)) (now (work .exit)) (v .number) (v .key) (v .depth) ⌝ }
 {
     let k = key_of(tag(line));
     if !in_order(rows, k) {
         return refused(3);
     }
-    if is_full(rows, k) {
+    if too_many(rows, work, k, line) {
         return refused(4);
     }
     let d = depth_of(sheet, rows, work, k, line);
@@ -98,7 +100,7 @@ pub fn judge(sheet: &[u8], rows: &[u32], work: &mut [u32], line: &[u32]) -> Verd
 
 // The same of the row that lies from word `top` to word `end`.
 pub fn judge_at(sheet: &[u8], rows: &[u32], work: &mut [u32], top: usize, end: usize) -> Verdict
-    requires { ⌜ Known (now rows) (now work) ⌝ }
+    requires { ⌜ Known (now rows) (now work) × Noted (now rows) (now work) ⌝ }
     ensures { λ v. ⌜ Judged (now (sheet .entry)) (now (rows .entry)) (now (work .entry)) (part (now (rows .entry)) top end) (now (work .exit)) (v .number) (v .key) (v .depth) ⌝ }
 {
     let r = cut(rows, top, end);

@@ -1,27 +1,29 @@
 -- The items of a line, by the tests that lead to each. Assumes nothing.
 use mathlib.Core.Path.{_≡_, refl, sym, ap, _∙_}
-use mathlib.Core.Bool.{Bool, true, false, cond, _&&_}
+use mathlib.Core.Bool.{Bool, true, false, cond, _&&_, _||_}
 use mathlib.Core.Option.{Option, none, some}
 use mathlib.Core.List.{List, [], _∷_, map}
-use Prim.Native.Nat.{ℕ, zero, suc, _+_, _-_, _/_, _%_, _≤_, _<_}
+use Prim.Native.Nat.{ℕ, suc, _+_, _-_, _/_, _%_, _≤_, _<_}
 use Prim.Native.String.{String}
 use native.Mathlib.Omega.{arith}
 use native.Mathlib.Numerals.{add-one}
-use native.Mathlib.Decide.{decLt}
-use borrow.Author.Tests.{ltb-true, lt-ltb, le-ltb}
-use lib.Dec.{ltb}
-use lib.ListN.{length, getD, take, drop, set}
+use native.Mathlib.Decide.{ℕ-discrete, decLt}
+use borrow.Author.Tests.{leb-true, ltb-true, ne-eqb, lt-ltb, le-ltb}
+use lib.Dec.{leb, ltb, eqb}
+use lib.ListN.{length, getD, take, drop, set, List·getD-eq-default}
 use lib.Seq.{lt-length-set, take-set-le, drop-set-lt, drop-cons, getD-set-same, getD-set-other}
 use Rattle.sheet.specs.Ascii.{ascii}
 use Rattle.words.specs.Log.{part, room}
 use Rattle.sheet.specs.Bytes.{same, split, index, long, date}
-use Rattle.sheet.specs.Forms.{partial, complete, entry, line, lineOr, lineUnknown, number, nothing, dash, asterisk, mark, placeIn, wordNumber, one, markOr, isPartial, item}
+use Rattle.sheet.specs.Forms.{Slot, partial, complete, word, day, entry, line, lineOr, lineUnknown, number, nothing, dash, asterisk, mark, placeIn, wordNumber, one, markOr, isPartial, item}
 use Rattle.scan.specs.declared.Number as N
 use Rattle.scan.specs.declared.Cursor.{Cursor}
 use Rattle.scan.specs.declared.Item as I
 use Rattle.scan.specs.declared.Counted as C
 use Rattle.scan.specs.Numbers.{numberOf, placed}
 use Rattle.scan.specs.Places.{itemEnd, itemsBy, ItemRead, NumberRead}
+use Rattle.cedar.proofs.Tools.{no-true}
+use Rattle.sheet.proofs.Parsed.{allBelow, all-below}
 use Rattle.sheet.proofs.TwoSheets.{same-is}
 use Rattle.scan.proofs.Scans.{same-last, comparing-never}
 use Rattle.scan.proofs.Decimals.{index-small}
@@ -29,8 +31,8 @@ use Rattle.scan.proofs.Wordlists.{words-are}
 use Rattle.scan.proofs.Readings.{items-first, items-part, numbered}
 use Rattle.dates.proofs.Calendar.{pastDates, date-small}
 use Rattle.forms.specs.Tags.{PERMIT, FORBID}
-use Rattle.forms.proofs.Tests.{NoneOf}
-use Rattle.forms.specs.Rows.{NUMBER, ENTRY, KIND-LETTER, FIELD-LETTER, BIT, PART-LETTER, EFFECT, DATE, LINE, UNKNOWN, DASH, STAR, slotOf, specials}
+use Rattle.forms.proofs.Tests.{other, NoneOf, below, past}
+use Rattle.forms.specs.Rows.{NONE, NUMBER, ENTRY, KIND-LETTER, FIELD-LETTER, BIT, PART-LETTER, EFFECT, DATE, SLOT-LETTER, LINE, UNKNOWN, DASH, STAR, slotOf, specials}
 use Rattle.line.specs.Codes.{modeOf}
 use Rattle.line.specs.Written.{Item, After}
 
@@ -148,18 +150,18 @@ module _ (p : Bool) (s : ℕ) (f : List ℕ) (r : N.Number) where
   unfolding slotOf
   slot-date e q = rw e (ap one q)
 
-pub slot-none : (p : Bool) (s : ℕ) (f : List ℕ) → (s ≡ NUMBER → ⊥) → s < LINE → (s ≡ ENTRY → ⊥) → (s ≡ KIND-LETTER → ⊥) → (s ≡ FIELD-LETTER → ⊥) → (s ≡ BIT → ⊥) → (s ≡ PART-LETTER → ⊥) → (s ≡ EFFECT → ⊥) → (s ≡ DATE → ⊥) → one (numberOf N.the-variants.Refused) ≡ item (modeOf p) (slotOf s) f
-unfolding slotOf
-slot-none p zero f z h a b c d e g i = refl
-slot-none p (suc zero) f z h a b c d e g i = absurd (z refl)
-slot-none p (suc (suc zero)) f z h a b c d e g i = absurd (a refl)
-slot-none p (suc (suc (suc zero))) f z h a b c d e g i = absurd (b refl)
-slot-none p (suc (suc (suc (suc zero)))) f z h a b c d e g i = absurd (c refl)
-slot-none p (suc (suc (suc (suc (suc zero))))) f z h a b c d e g i = absurd (d refl)
-slot-none p (suc (suc (suc (suc (suc (suc zero)))))) f z h a b c d e g i = absurd (e refl)
-slot-none p (suc (suc (suc (suc (suc (suc (suc zero))))))) f z h a b c d e g i = absurd (g refl)
-slot-none p (suc (suc (suc (suc (suc (suc (suc (suc zero)))))))) f z h a b c d e g i = absurd (i refl)
-slot-none p (suc (suc (suc (suc (suc (suc (suc (suc (suc n))))))))) f z h a b c d e g i = rw (lt-ltb (suc (suc (suc (suc (suc (suc (suc (suc (suc n))))))))) LINE h) refl
+  pub slot-letter : s ≡ SLOT-LETTER → numberOf r ≡ placed f (split 44 (ascii "p,r")) → one (numberOf r) ≡ item (modeOf p) (slotOf s) f
+  unfolding slotOf
+  slot-letter e q = rw e (word-is f ("p" ∷ "r" ∷ []) (ascii "p,r") r refl q)
+
+pub slot-none : (p : Bool) (s : ℕ) (f : List ℕ) → (s ≡ NUMBER → ⊥) → s < LINE → (s ≡ ENTRY → ⊥) → (s ≡ KIND-LETTER → ⊥) → (s ≡ FIELD-LETTER → ⊥) → (s ≡ BIT → ⊥)
+    → (s ≡ PART-LETTER → ⊥) → (s ≡ EFFECT → ⊥) → (s ≡ DATE → ⊥) → (s ≡ SLOT-LETTER → ⊥) → one (numberOf N.the-variants.Refused) ≡ item (modeOf p) (slotOf s) f
+unfolding slotOf below
+slot-none p s f z h a b c d e g i j = rw (lt-ltb s LINE h) (ap (λ (v : Slot). item (modeOf p) v f) (sym (go (ℕ-discrete s NONE))))
+  where
+    go : Dec (s ≡ NONE) → getD specials s nothing ≡ nothing
+    go (yes k) = rw k refl
+    go (no k) = List·getD-eq-default specials nothing (past (length specials) s ((((((((((Prim.tt {0}, k), z), a), b), c), d), e), g), i), j))
 
 no-some : {A X : Type 0} {a : A} → none ≡ some a → X
 no-some e = let z : _≡_ {A = ℕ} 0 1 = cc in absurd (omega arith)
@@ -190,29 +192,56 @@ low-one : (o : Option ℕ) → Low o → (x : ℕ) → one o ≡ some (x ∷ [])
 low-one none h x e = no-some e
 low-one (some n) h x e = let z : n ≡ x = cc in omega (arith, h n refl)
 
-special-low : (p : Bool) (s : ℕ) (f : List ℕ) (x : ℕ) → (s ≡ NUMBER → ⊥) → item (modeOf p) (getD specials s nothing) f ≡ some (x ∷ []) → x < pastDates
-special-low p zero f x z e = no-some e
-special-low p (suc zero) f x z e = absurd (z refl)
-special-low true (suc (suc zero)) f x z e = low-one (wordNumber f ("partial" ∷ [])) (low-word f ("partial" ∷ []) (omega arith)) x e
-special-low false (suc (suc zero)) f x z e = low-one (wordNumber f ("complete" ∷ [])) (low-word f ("complete" ∷ []) (omega arith)) x e
-special-low p (suc (suc (suc zero))) f x z e = low-one (wordNumber f ("e" ∷ "a" ∷ [])) (low-word f ("e" ∷ "a" ∷ []) (omega arith)) x e
-special-low p (suc (suc (suc (suc zero)))) f x z e = low-one (wordNumber f ("o" ∷ "r" ∷ [])) (low-word f ("o" ∷ "r" ∷ []) (omega arith)) x e
-special-low p (suc (suc (suc (suc (suc zero))))) f x z e = low-one (wordNumber f ("0" ∷ "1" ∷ [])) (low-word f ("0" ∷ "1" ∷ []) (omega arith)) x e
-special-low p (suc (suc (suc (suc (suc (suc zero)))))) f x z e = low-one (wordNumber f ("p" ∷ "a" ∷ "r" ∷ "c" ∷ [])) (low-word f ("p" ∷ "a" ∷ "r" ∷ "c" ∷ []) (omega arith)) x e
-special-low p (suc (suc (suc (suc (suc (suc (suc zero))))))) f x z e = low-one (wordNumber f ("permit" ∷ "forbid" ∷ [])) (low-word f ("permit" ∷ "forbid" ∷ []) (omega arith)) x e
-special-low p (suc (suc (suc (suc (suc (suc (suc (suc zero)))))))) f x z e = low-one (date f) (date-small f) x e
-special-low p (suc (suc (suc (suc (suc (suc (suc (suc (suc n))))))))) f x z e = no-some e
+-- a place at which one number below that may stand
+low : Slot → Bool
+low entry = true
+low (line k) = true
+low (lineOr b k) = true
+low (lineUnknown k) = true
+low (word ws) = leb (length ws) mark
+low number = false
+low day = true
+low nothing = true
+
+item-low : (p : Bool) (v : Slot) (f : List ℕ) (x : ℕ) → low v ≡ true → item (modeOf p) v f ≡ some (x ∷ []) → x < pastDates
+unfolding low
+item-low true entry f x h e = low-one (wordNumber f ("partial" ∷ [])) (low-word f ("partial" ∷ []) (omega arith)) x e
+item-low false entry f x h e = low-one (wordNumber f ("complete" ∷ [])) (low-word f ("complete" ∷ []) (omega arith)) x e
+item-low p (line k) f x h e = low-one (index f) (low-index f) x e
+item-low p (lineOr b k) f x h e = low-one (markOr (same f (b ∷ [])) (index f)) (low-mark (same f (b ∷ [])) f) x e
+item-low p (lineUnknown k) f x h e = low-one (markOr (isPartial (modeOf p) && same f (question ∷ [])) (index f)) (low-mark (isPartial (modeOf p) && same f (question ∷ [])) f) x e
+item-low p (word ws) f x h e = low-one (wordNumber f ws) (low-word f ws (leb-true (length ws) mark h)) x e
+item-low p number f x h e = no-true h
+item-low p day f x h e = low-one (date f) (date-small f) x e
+item-low p nothing f x h e = no-some e
+
+-- what holds of all that stands for a number below LINE, and of a line of each kind, holds of what stands for any
+slot-each : (t : Slot → Bool) (s : ℕ) → (s < LINE → t (getD specials s nothing) ≡ true) → ((k : ℕ) → t (line k) ≡ true) → ((k : ℕ) → t (lineUnknown k) ≡ true)
+    → ((b k : ℕ) → t (lineOr b k) ≡ true) → t (slotOf s) ≡ true
+unfolding slotOf
+slot-each t s special l u o = go (ltb s LINE) (ltb s UNKNOWN) (ltb s DASH) (ltb s STAR) refl
+  where
+    go : (a b c d : Bool) → ltb s LINE ≡ a
+        → t (cond a (getD specials s nothing) (cond b (line (s - LINE)) (cond c (lineUnknown (s - UNKNOWN)) (cond d (lineOr dash (s - DASH)) (lineOr asterisk (s - STAR)))))) ≡ true
+    go true b c d e = special (ltb-true s LINE e)
+    go false true c d e = l (s - LINE)
+    go false false true d e = u (s - UNKNOWN)
+    go false false false true e = o dash (s - DASH)
+    go false false false false e = o asterisk (s - STAR)
+
+lowAt : ℕ → Bool
+lowAt s = eqb s NUMBER || low (getD specials s nothing)
+
+specials-low : allBelow lowAt LINE ≡ true
+unfolding low lowAt
+specials-low = refl
 
 slot-low : (p : Bool) (s : ℕ) (f : List ℕ) (x : ℕ) → (s ≡ NUMBER → ⊥) → item (modeOf p) (slotOf s) f ≡ some (x ∷ []) → x < pastDates
-unfolding slotOf
-slot-low p s f x z e = go p (ltb s LINE) (ltb s UNKNOWN) (ltb s DASH) (ltb s STAR) e
-  where
-    go : (p t u v y : Bool) → item (modeOf p) (cond t (getD specials s nothing) (cond u (line (s - LINE)) (cond v (lineUnknown (s - UNKNOWN)) (cond y (lineOr dash (s - DASH)) (lineOr asterisk (s - STAR)))))) f ≡ some (x ∷ []) → x < pastDates
-    go p true u v y q = special-low p s f x z q
-    go p false true v y q = low-one (index f) (low-index f) x q
-    go p false false true y q = low-one (markOr (isPartial (modeOf p) && same f (question ∷ [])) (index f)) (low-mark (isPartial (modeOf p) && same f (question ∷ [])) f) x q
-    go p false false false true q = low-one (markOr (same f (dash ∷ [])) (index f)) (low-mark (same f (dash ∷ [])) f) x q
-    go p false false false false q = low-one (markOr (same f (asterisk ∷ [])) (index f)) (low-mark (same f (asterisk ∷ [])) f) x q
+unfolding low lowAt
+slot-low p s f x z e =
+    item-low p (slotOf s) f x
+    (slot-each low s (λ l. other (eqb s NUMBER) (low (getD specials s nothing)) (ne-eqb s NUMBER z) (all-below lowAt LINE s specials-low l)) (λ k. refl) (λ k. refl) (λ b k. refl))
+    e
 
 -- ---- an index, where a line may stand
 
@@ -261,30 +290,40 @@ pub index-wide : (f : List ℕ) (n : ℕ) → index f ≡ some n → 1 ≤ lengt
 index-wide [] n e = no-some e
 index-wide (x ∷ f) n e = omega arith
 
-special-empty : (p : Bool) (s : ℕ) → item (modeOf p) (getD specials s nothing) [] ≡ none
-special-empty p zero = refl
-special-empty p (suc zero) = refl
-special-empty true (suc (suc zero)) = refl
-special-empty false (suc (suc zero)) = refl
-special-empty p (suc (suc (suc zero))) = refl
-special-empty p (suc (suc (suc (suc zero)))) = refl
-special-empty p (suc (suc (suc (suc (suc zero))))) = refl
-special-empty p (suc (suc (suc (suc (suc (suc zero)))))) = refl
-special-empty p (suc (suc (suc (suc (suc (suc (suc zero))))))) = refl
-special-empty p (suc (suc (suc (suc (suc (suc (suc (suc zero)))))))) = refl
-special-empty p (suc (suc (suc (suc (suc (suc (suc (suc (suc n))))))))) = refl
+-- a place whose words have a byte each
+filled : Slot → Bool
+filled entry = true
+filled (line k) = true
+filled (lineOr b k) = true
+filled (lineUnknown k) = true
+filled (word ws) = leb (length ws) (placeIn [] ws)
+filled number = true
+filled day = true
+filled nothing = true
+
+item-empty : (p : Bool) (v : Slot) → filled v ≡ true → item (modeOf p) v [] ≡ none
+unfolding filled
+item-empty true entry h = refl
+item-empty false entry h = refl
+item-empty p (line k) h = refl
+item-empty p (lineOr b k) h = refl
+item-empty true (lineUnknown k) h = refl
+item-empty false (lineUnknown k) h = refl
+item-empty p (word ws) h = rw (le-ltb (placeIn [] ws) (length ws) (leb-true (length ws) (placeIn [] ws) h)) refl
+item-empty p number h = refl
+item-empty p day h = refl
+item-empty p nothing h = refl
+
+filledAt : ℕ → Bool
+filledAt s = filled (getD specials s nothing)
+
+specials-filled : allBelow filledAt LINE ≡ true
+unfolding filled filledAt
+specials-filled = refl
 
 slot-empty : (p : Bool) (s : ℕ) → item (modeOf p) (slotOf s) [] ≡ none
-unfolding slotOf
-slot-empty p s = go p (ltb s LINE) (ltb s UNKNOWN) (ltb s DASH) (ltb s STAR)
-  where
-    go : (p t u v y : Bool) → item (modeOf p) (cond t (getD specials s nothing) (cond u (line (s - LINE)) (cond v (lineUnknown (s - UNKNOWN)) (cond y (lineOr dash (s - DASH)) (lineOr asterisk (s - STAR)))))) [] ≡ none
-    go p true u v y = special-empty p s
-    go p false true v y = refl
-    go true false false true y = refl
-    go false false false true y = refl
-    go p false false false true = refl
-    go p false false false false = refl
+unfolding filled filledAt
+slot-empty p s = item-empty p (slotOf s) (slot-each filled s (all-below filledAt LINE s specials-filled) (λ k. refl) (λ k. refl) (λ b k. refl))
 
 item-wide : (p : Bool) (s : ℕ) (f l : List ℕ) → item (modeOf p) (slotOf s) f ≡ some l → 1 ≤ length f
 item-wide p s [] l e = no-some (sym (slot-empty p s) ∙ e)

@@ -12,7 +12,7 @@ use lib.Seq.{length-take-le, take-set-le, drop-set-lt, drop-cons, lt-length-set,
 use Rattle.sheet.specs.Bytes.{index}
 use Rattle.sheet.specs.Forms.{Mode, Slot, nothing, slotAt, item, one, joined, itemsFrom, counted, orEmpty, tagOf, rowFor, noTag, firstNode, NODE}
 use Rattle.words.specs.Log.{room}
-use Rattle.forms.specs.Tags.{RECORD-OF}
+use Rattle.forms.specs.Tags.{SLOT}
 use Rattle.line.specs.Codes.{modeOf}
 use Rattle.line.specs.Written.{countedFrom, Kept, Items, Row}
 use Rattle.forms.proofs.Table.{no-form, node-slot}
@@ -106,7 +106,7 @@ module _ (t j top e v : ℕ) (o : Option (List ℕ)) (w : List ℕ) (long : room
 
 -- ---- a node's row: its type stands before its constructor
 
-pub typed : (m : Mode) (t : ℕ) (f : List ℕ) (fs : List (List ℕ)) (o : Option ℕ) → firstNode ≤ t → t ≤ RECORD-OF → index f ≡ o → rowFor m t (f ∷ fs) ≡ orEmpty t (joined (one o) (countedFrom m t 1 fs))
+pub typed : (m : Mode) (t : ℕ) (f : List ℕ) (fs : List (List ℕ)) (o : Option ℕ) → firstNode ≤ t → t ≤ SLOT → index f ≡ o → rowFor m t (f ∷ fs) ≡ orEmpty t (joined (one o) (countedFrom m t 1 fs))
 typed m t f fs o l h e =
     row-is m t (f ∷ fs) ∙ ap (orEmpty t) (counted-cons m t 0 f fs)
     ∙ ap (λ (i : Option (List ℕ)). orEmpty t (joined i (countedFrom m t 1 fs))) (ap (λ (s : Slot). item m s f) (node-slot t l h) ∙ ap one e)

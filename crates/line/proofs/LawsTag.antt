@@ -12,9 +12,9 @@ use lib.ListN.{length, getD}
 use Rattle.sheet.specs.Ascii.{ascii}
 use Rattle.sheet.specs.Bytes.{same}
 use Rattle.sheet.specs.Forms.{Form, forms, formOf, noForm, formIn, tagOf, noKey, noTag, firstNode, NODE}
-use Rattle.sheet.proofs.Parsed.{allBelow, all-below, between, tags-between}
+use Rattle.sheet.proofs.Parsed.{allBelow, all-below, tags-between, node-tags}
 use Rattle.scan.specs.Numbers.{following, placed}
-use Rattle.forms.specs.Tags.{RECORD-OF}
+use Rattle.forms.specs.Tags.{SLOT}
 use Rattle.forms.proofs.Table.{no-form}
 
 -- ---- a word of a list has as many bytes as the one at its place
@@ -72,10 +72,6 @@ tag-key k j w h e = go (decLt (tagOf k w) noTag)
 
 -- ---- nodes: their tags, and names of at least two letters
 
-node-tags : allBelow (between NODE firstNode RECORD-OF) noTag ≡ true
-unfolding formOf forms
-node-tags = refl
-
 named : ℕ → Bool
 named t = not (eqb (formOf t .key) NODE) || leb 2 (length (ascii (formOf t .name)))
 
@@ -87,18 +83,18 @@ node-names = refl
 pub record NodeTag (name : List ℕ) (t : ℕ) : Type 0 where
   pub is : t ≡ tagOf NODE name
   pub low : firstNode ≤ t
-  pub high : t < noTag → t ≤ RECORD-OF
+  pub high : t < noTag → t ≤ SLOT
   pub wide : t < noTag → 2 ≤ length name
 
 pub node-tag : (name : List ℕ) (t : ℕ) → t ≡ tagOf NODE name → NodeTag name t
 unfolding named
-node-tag name t e = record { is = e; low = low (decLt t noTag); high = λ h. tags-between NODE firstNode RECORD-OF t (omega arith) node-tags (key h) .1; wide = wide }
+node-tag name t e = record { is = e; low = low (decLt t noTag); high = λ h. tags-between NODE firstNode SLOT t (omega arith) node-tags (key h) .1; wide = wide }
   where
     key : t < noTag → formOf t .key ≡ NODE
     key h = rw e (found NODE name (omega (arith, e)) .0)
 
     low : Dec (t < noTag) → firstNode ≤ t
-    low (yes h) = tags-between NODE firstNode RECORD-OF t (omega arith) node-tags (key h) .0
+    low (yes h) = tags-between NODE firstNode SLOT t (omega arith) node-tags (key h) .0
     low (no h) = omega arith
 
     pick : (a b : Bool) → a ≡ true → (not a || b) ≡ true → b ≡ true

@@ -16,6 +16,7 @@ use forms::PART_LETTER;
 use forms::PART_P;
 use forms::PART_R;
 use forms::PERMIT;
+use forms::SLOT_LETTER;
 use forms::STAR;
 use forms::TEXT_LINE;
 use forms::UNKNOWN;
@@ -146,6 +147,7 @@ fn one_number(partial: bool, slot: u8, bytes: &[u8]) -> Number
         PART_LETTER => variable(bytes),
         EFFECT => effect(bytes),
         DATE => date_of(bytes),
+        SLOT_LETTER => place(bytes, b"p,r"),
         _ => Number::Refused,
     }
 }

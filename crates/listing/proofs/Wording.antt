@@ -1,18 +1,20 @@
 -- Words of eight bytes without their blanks, and the names of operations. Assumes nothing.
 use mathlib.Core.Path.{_≡_, refl, sym, ap, _∙_}
+use mathlib.Core.Bool.{Bool, true, _||_}
 use mathlib.Core.List.{List, [], _∷_}
-use Prim.Native.Nat.{ℕ, zero, suc, _+_, _-_, _≤_, _<_}
+use Prim.Native.Nat.{ℕ, zero, suc, _+_, _≤_, _<_}
 use native.Mathlib.Omega.{arith}
 use native.Mathlib.Decide.{decLt}
-use borrow.Author.Tests.{eq-eqb, ne-eqb, lt-ltb, le-ltb}
+use borrow.Author.Tests.{eq-eqb, ne-eqb, le-ltb}
 use lib.ListN.{length, getD, drop}
-use lib.Seq.{getD-drop}
 use Rattle.cedar.specs.Numbered.{memN}
-use Rattle.cedar.proofs.Tools.{no-true}
 use Rattle.sheet.specs.Ascii.{ascii}
-use Rattle.sheet.specs.Forms.{Form, forms, formOf, noForm, firstNode}
-use Rattle.forms.specs.Tags.{LIT, ERR, VAR, AND, OR, EQ, LT, LE, ADD, SUB, MUL, IN, GETTAG, HASTAG, CONTAINS, ALL, ANY, IF, IS, LIKE, GET, HAS, HASPATH, NOT, NEG, EMPTY, SET-OF, RECORD-OF, POLICY-LINE, PART-P, PART-A, PART-R}
-use Rattle.table.proofs.Counts.{ranged, NoneOf, none-of}
+use Rattle.sheet.specs.Bytes.{same}
+use Rattle.sheet.specs.Forms.{forms, formOf, noTag, firstNode}
+use Rattle.forms.specs.Tags.{LIT, ERR, VAR, AND, OR, EQ, LT, LE, ADD, SUB, MUL, IN, GETTAG, HASTAG, CONTAINS, ALL, ANY, IF, IS, LIKE, GET, HAS, HASPATH, NOT, NEG, EMPTY, SET-OF, RECORD-OF, SLOT, PART-P, PART-A, PART-R}
+use Rattle.sheet.proofs.Parsed.{allBelow, all-below, past-table}
+use Rattle.sheet.proofs.TwoSheets.{same-is}
+use Rattle.forms.proofs.Tests.{other, NoneOf, none-of}
 use Rattle.value.proofs.Lists.{uncons, spent}
 use Rattle.print.specs.Written.{Written}
 use Rattle.print.proofs.Writing.{written-as}
@@ -43,37 +45,26 @@ module _ (q was is : List ℕ) (at next i : ℕ) (p : Along (unpadded q) (unpadd
 
 -- ---- names of operations
 
-name-less : (t : ℕ) → t < firstNode → [] ≡ ascii (opName t)
-unfolding opName
-name-less t h = rw (lt-ltb t firstNode h)
-
--- the forms after those of nodes
-name-after : (j : ℕ) → [] ≡ ascii (getD (drop POLICY-LINE forms) j noForm .name)
-unfolding forms
-name-after zero = refl
-name-after (suc zero) = refl
-name-after (suc (suc zero)) = refl
-name-after (suc (suc (suc j))) = refl
-
-name-over : (t : ℕ) → RECORD-OF < t → [] ≡ ascii (opName t)
-unfolding opName formOf
-name-over t h =
-    let e : POLICY-LINE + (t - POLICY-LINE) ≡ t = omega arith in
-    rw (le-ltb t firstNode (omega arith))
-    (name-after (t - POLICY-LINE) ∙ ap (λ (f : Form). ascii (f .name)) (getD-drop POLICY-LINE forms (t - POLICY-LINE) noForm ∙ ap (λ (i : ℕ). getD forms i noForm) e))
-
 -- the forms of nodes, the last first
 abbrev pub opNumbers : List ℕ
 opNumbers =
-    RECORD-OF ∷ SET-OF ∷ EMPTY ∷ NEG ∷ NOT ∷ HASPATH ∷ HAS ∷ GET ∷ LIKE ∷ IS ∷ IF ∷ ANY ∷ ALL ∷ CONTAINS ∷ HASTAG ∷ GETTAG ∷ IN ∷ MUL ∷ SUB ∷ ADD ∷ LE ∷ LT ∷ EQ ∷ OR ∷ AND ∷ VAR ∷ ERR ∷ LIT ∷ []
+    SLOT ∷ RECORD-OF ∷ SET-OF ∷ EMPTY ∷ NEG ∷ NOT ∷ HASPATH ∷ HAS ∷ GET ∷ LIKE ∷ IS ∷ IF ∷ ANY ∷ ALL ∷ CONTAINS ∷ HASTAG ∷ GETTAG ∷ IN ∷ MUL ∷ SUB ∷ ADD ∷ LE ∷ LT ∷ EQ ∷ OR ∷ AND ∷ VAR ∷ ERR ∷ LIT ∷ []
+
+-- no other form has a name here
+nameless : ℕ → Bool
+nameless t = memN t opNumbers || same [] (ascii (opName t))
+
+names : allBelow nameless noTag ≡ true
+unfolding nameless opName formOf forms
+names = refl
 
 pub no-name : (t : ℕ) → NoneOf opNumbers t → [] ≡ ascii (opName t)
-no-name t d = go (decLt t firstNode) (decLt RECORD-OF t)
+unfolding nameless opName
+no-name t d = go (decLt t noTag)
   where
-    go : Dec (t < firstNode) → Dec (RECORD-OF < t) → [] ≡ ascii (opName t)
-    go (yes h) e = name-less t h
-    go (no g) (yes h) = name-over t h
-    go (no g) (no h) = no-true (sym (none-of opNumbers t d) ∙ ranged (λ (i : ℕ). memN i opNumbers) firstNode (length opNumbers) refl t (omega arith) (omega arith))
+    go : Dec (t < noTag) → [] ≡ ascii (opName t)
+    go (yes h) = same-is [] (ascii (opName t)) (other (memN t opNumbers) (same [] (ascii (opName t))) (none-of opNumbers t d) (all-below nameless noTag t names h))
+    go (no h) = rw (le-ltb t firstNode (omega arith), past-table t (omega arith)) refl
 
 -- a name that the code knows, by its number
 pub named : (t n : ℕ) (q : List ℕ) → t ≡ n → q ≡ ascii (opName n) → q ≡ ascii (opName t)

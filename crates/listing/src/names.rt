@@ -28,6 +28,7 @@ use forms::PART_P;
 use forms::PART_R;
 use forms::RECORD_OF;
 use forms::SET_OF;
+use forms::SLOT;
 use forms::SUB;
 use forms::VAR;
 use print::byte;
@@ -101,6 +102,8 @@ const NAME_SET: [u8; 8] = *b"set     ";
 
 const NAME_RECORD: [u8; 8] = *b"record  ";
 
+const NAME_SLOT: [u8; 8] = *b"slot    ";
+
 const NO_NAME: [u8; 8] = *b"        ";
 
 const NAME_BOOL: [u8; 8] = *b"bool    ";
@@ -169,6 +172,7 @@ pub fn op_name(tag: u32) -> [u8; 8]
         EMPTY => NAME_EMPTY,
         SET_OF => NAME_SET,
         RECORD_OF => NAME_RECORD,
+        SLOT => NAME_SLOT,
         _ => NO_NAME,
     }
 }

@@ -2,7 +2,7 @@
 use mathlib.Core.Path.{_≡_, refl, sym, ap, ap₂, subst, _∙_}
 use mathlib.Core.Bool.{Bool, true, false, cond}
 use mathlib.Core.Option.{Option, none, some}
-use mathlib.Core.List.{List, [], _∷_}
+use mathlib.Core.List.{List, []}
 use Prim.Native.Nat.{ℕ, zero, suc, _+_, _-_, _*_, _≤_, _<_}
 use native.Mathlib.Omega.{arith}
 use native.Mathlib.Decide.{ℕ-discrete}
@@ -16,19 +16,22 @@ use Rattle.scan.specs.declared.Line as L
 use Rattle.scan.specs.Places.{readingBy, LineRead}
 use Rattle.scan.proofs.Readings.{Entered, line-entered}
 use Rattle.sheet.specs.Bytes.{split}
-use Rattle.sheet.specs.Forms.{Mode, forms, formOf, tagOf, keyOf, itemsFrom, counted, orEmpty, rowFor, rowOf, rowOfValue, TEXT, KIND, SHAPE, DAY, NODE, noKey}
+use Rattle.sheet.specs.Forms.{Mode, forms, formOf, tagOf, keyOf, itemsFrom, counted, orEmpty, rowOf, rowOfValue, TEXT, KIND, SHAPE, DAY, NODE, POLICY, LINK, noKey}
 use Rattle.forms.specs.Tags.{DAY-LINE}
-use Rattle.sheet.specs.State.{State, empty, count, before, sum}
-use Rattle.sheet.specs.Sheet.{Reading, least, enough, reach, firstUnused, reads, ending, fault, more, goOn, reading, read}
-use Rattle.table.specs.Layout.{part, RUN, MADE, TOP, TYPEDEPTHS, USES, heap, rowsAt, rowsOf, linesHeld, depthsHeld, depthsAt, held, depthBase, depthsIn}
-use Rattle.table.proofs.Rows.{limit-small}
+use Rattle.sheet.specs.State.{State, empty, linesOf, count, before, sum}
+use Rattle.sheet.specs.Sheet.{Reading, least, enough, reach, firstUnused, firstUnlinked, reads, ending, fault, more, goOn, reading, read}
+use Rattle.table.specs.Layout.{part, RUN, MADE, TOP, TYPEDEPTHS, USES, SPENT, heap, rowsAt, rowsOf, linesHeld, depthsHeld, depthsAt, held, depthBase, depthsIn}
+use Rattle.table.proofs.Rows.{limit-small, lines-held}
 use Rattle.table.proofs.Held.{tab-same, linesIn, lines-tab, depths-tab, counts-held}
 use Rattle.fits.proofs.Remembered as R
+use Rattle.checks.specs.Under.{Noted}
+use Rattle.checks.proofs.NotedLaws.{noted-blank}
 use Rattle.judge.proofs.Alike.{count-alike}
 use Rattle.line.proofs.LawsLine.{entry-wide, entry-wider}
 use Rattle.take.proofs.Taking.{fault-none}
 use Rattle.take.specs.Steps.{Reached, before-any, after-line, Ready, taken, Taken}
 use Rattle.load.specs.Result.{Read}
+use Rattle.load.proofs.Finishing.{unlinked-same}
 
 -- ---- the definition after a line
 
@@ -56,29 +59,36 @@ day-key m k v e = subst (λ (x : ℕ). (rowOfValue m x v ≡ [] → ⊥) → key
 
 -- ---- the end
 
-end-number : (s : State) (k : ℕ) → ending s k .number ≡ cond (enough s noKey) (cond (ltb (firstUnused (s .used)) (count s NODE)) 8 0) 3
-end-number s k = go (enough s noKey) (ltb (firstUnused (s .used)) (count s NODE))
-  where
-    go : (x y : Bool) → cond x (cond y (reads s 8 (suc (before s NODE + firstUnused (s .used)))) (reads s 0 0)) (reads s 3 k) .number ≡ cond x (cond y 8 0) 3
-    go true true = refl
-    go true false = refl
-    go false y = refl
+-- its number and line, by what is looked at: all lines there, the lowest policy without a link and how many there are, the lowest node never used likewise
+endNumber : Bool → Bool → Bool → ℕ
+endNumber x y z = cond x (cond y 5 (cond z 8 0)) 3
 
-end-line : (s : State) (k : ℕ) → ending s k .line ≡ cond (enough s noKey) (cond (ltb (firstUnused (s .used)) (count s NODE)) (suc (before s NODE + firstUnused (s .used))) 0) k
-end-line s k = go (enough s noKey) (ltb (firstUnused (s .used)) (count s NODE))
-  where
-    go : (x y : Bool) → cond x (cond y (reads s 8 (suc (before s NODE + firstUnused (s .used)))) (reads s 0 0)) (reads s 3 k) .line ≡ cond x (cond y (suc (before s NODE + firstUnused (s .used))) 0) k
-    go true true = refl
-    go true false = refl
-    go false y = refl
+endLine : Bool → Bool → Bool → ℕ → ℕ → ℕ → ℕ
+endLine x y z p n k = cond x (cond y (suc p) (cond z (suc n) 0)) k
 
-end-state : (s : State) (k : ℕ) → ending s k .state ≡ s
-end-state s k = go (enough s noKey) (ltb (firstUnused (s .used)) (count s NODE))
-  where
-    go : (x y : Bool) → cond x (cond y (reads s 8 (suc (before s NODE + firstUnused (s .used)))) (reads s 0 0)) (reads s 3 k) .state ≡ s
-    go true true = refl
-    go true false = refl
-    go false y = refl
+module _ (s : State) (k : ℕ) where
+  abbrev p : ℕ
+  p = firstUnlinked s 0 (linesOf s POLICY)
+
+  abbrev u : ℕ
+  u = firstUnused (s .used)
+
+  end-is : (x y z : Bool) → let e = cond x (cond y (reads s 5 (suc (before s POLICY + p))) (cond z (reads s 8 (suc (before s NODE + u))) (reads s 0 0))) (reads s 3 k) in
+      (e .number ≡ endNumber x y z) × (e .line ≡ endLine x y z (before s POLICY + p) (before s NODE + u) k) × (e .state ≡ s)
+  unfolding endNumber endLine
+  end-is true true z = (refl, refl, refl)
+  end-is true false true = (refl, refl, refl)
+  end-is true false false = (refl, refl, refl)
+  end-is false y z = (refl, refl, refl)
+
+  end-number : ending s k .number ≡ endNumber (enough s noKey) (ltb p (count s POLICY)) (ltb u (count s NODE))
+  end-number = end-is (enough s noKey) (ltb p (count s POLICY)) (ltb u (count s NODE)) .0
+
+  end-line : ending s k .line ≡ endLine (enough s noKey) (ltb p (count s POLICY)) (ltb u (count s NODE)) (before s POLICY + p) (before s NODE + u) k
+  end-line = end-is (enough s noKey) (ltb p (count s POLICY)) (ltb u (count s NODE)) .1
+
+  end-state : ending s k .state ≡ s
+  end-state = end-is (enough s noKey) (ltb p (count s POLICY)) (ltb u (count s NODE)) .2
 
 module _ (sheet a b : List ℕ) where
   pub counts-same : (k : ℕ) → count (held [] a b) k ≡ count (held sheet a b) k
@@ -89,21 +99,32 @@ module _ (sheet a b : List ℕ) where
       ap₂ (λ (c : List ℕ) (n : ℕ). reach (take noKey c) (set (least empty) SHAPE n))
       (counts-held [] a b ∙ sym (counts-held sheet a b)) (counts-same KIND)
 
-  before-same : before (held [] a b) NODE ≡ before (held sheet a b) NODE
-  before-same = ap (λ (c : List ℕ). sum (take NODE c)) (counts-held [] a b ∙ sym (counts-held sheet a b))
+  before-same : (k : ℕ) → before (held [] a b) k ≡ before (held sheet a b) k
+  before-same k = ap (λ (c : List ℕ). sum (take k c)) (counts-held [] a b ∙ sym (counts-held sheet a b))
 
   used-same : held [] a b .used ≡ held sheet a b .used
   unfolding held
   used-same = refl
 
+  lines-same : (k : ℕ) → k < noKey → (k ≡ TEXT → ⊥) → linesOf (held [] a b) k ≡ linesOf (held sheet a b) k
+  lines-same k h n = lines-held [] a b k h n ∙ sym (lines-held sheet a b k h n)
+
+  policy-same : firstUnlinked (held [] a b) 0 (linesOf (held [] a b) POLICY) ≡ firstUnlinked (held sheet a b) 0 (linesOf (held sheet a b) POLICY)
+  policy-same =
+      unlinked-same (held [] a b) (held sheet a b) (lines-same NODE (omega arith) (λ q. absurd (omega arith))) (lines-same LINK (omega arith) (λ q. absurd (omega arith))) 0 (linesOf (held [] a b) POLICY)
+      ∙ ap (firstUnlinked (held sheet a b) 0) (lines-same POLICY (omega arith) (λ q. absurd (omega arith)))
+
   end-same : (k : ℕ) → (ending (held [] a b) k .number ≡ ending (held sheet a b) k .number) × (ending (held [] a b) k .line ≡ ending (held sheet a b) k .line)
   end-same k =
-      let t : ltb (firstUnused (held [] a b .used)) (count (held [] a b) NODE) ≡ ltb (firstUnused (held sheet a b .used)) (count (held sheet a b) NODE) =
-      ap₂ (λ (u : List ℕ) (n : ℕ). ltb (firstUnused u) n) used-same (counts-same NODE) in (
-        end-number (held [] a b) k ∙ ap₂ (λ (x y : Bool). cond x (cond y 8 0) 3) enough-same t ∙ sym (end-number (held sheet a b) k),
-        end-line (held [] a b) k ∙ ap₂ (λ (x y : Bool). cond x (cond y (suc (before (held [] a b) NODE + firstUnused (held [] a b .used))) 0) k) enough-same t
-            ∙ ap₂ (λ (p : ℕ) (u : List ℕ). cond (enough (held sheet a b) noKey) (cond (ltb (firstUnused (held sheet a b .used)) (count (held sheet a b) NODE)) (suc (p + firstUnused u)) 0) k) before-same used-same
-            ∙ sym (end-line (held sheet a b) k),
+      let y : ltb (firstUnlinked (held [] a b) 0 (linesOf (held [] a b) POLICY)) (count (held [] a b) POLICY) ≡ ltb (firstUnlinked (held sheet a b) 0 (linesOf (held sheet a b) POLICY)) (count (held sheet a b) POLICY) =
+      ap₂ ltb policy-same (counts-same POLICY) in
+      let z : ltb (firstUnused (held [] a b .used)) (count (held [] a b) NODE) ≡ ltb (firstUnused (held sheet a b .used)) (count (held sheet a b) NODE) =
+      ap₂ (λ (u : List ℕ) (n : ℕ). ltb (firstUnused u) n) used-same (counts-same NODE) in
+      let p : before (held [] a b) POLICY + firstUnlinked (held [] a b) 0 (linesOf (held [] a b) POLICY) ≡ before (held sheet a b) POLICY + firstUnlinked (held sheet a b) 0 (linesOf (held sheet a b) POLICY) =
+      ap₂ _+_ (before-same POLICY) policy-same in
+      let n : before (held [] a b) NODE + firstUnused (held [] a b .used) ≡ before (held sheet a b) NODE + firstUnused (held sheet a b .used) = ap₂ _+_ (before-same NODE) (ap firstUnused used-same) in (
+        end-number (held [] a b) k ∙ (λ i. endNumber (enough-same i) (y i) (z i)) ∙ sym (end-number (held sheet a b) k),
+        end-line (held [] a b) k ∙ (λ i. endLine (enough-same i) (y i) (z i) (p i) (n i) k) ∙ sym (end-line (held sheet a b) k),
       )
 
 -- ---- before the first line
@@ -129,12 +150,15 @@ module _ (w₀ : List ℕ) (n : ℕ) (w : List ℕ) (i : ℕ) (c : Zeroing w₀ 
 drop-past : (n m : ℕ) (w : List ℕ) → drop (n + m) (zeros n w) ≡ drop (n + m) w
 drop-past n m w = sym (drop-drop m n (zeros n w)) ∙ ap (drop m) (drop-zeros n w) ∙ drop-drop m n w
 
-module _ (sheet a b a₁ b₁ a₂ : List ℕ) (la : 16384 ≤ length a) (lb : 16384 ≤ length b) (ha : a₁ ≡ zeros TOP a) (hb : b₁ ≡ zeros TYPEDEPTHS b) (h₂ : a₂ ≡ set a₁ TOP heap) where
+module _ (sheet a b a₁ b₁ b₂ a₂ : List ℕ) (la : 16384 ≤ length a) (lb : 16384 ≤ length b) (ha : a₁ ≡ zeros TOP a) (hb : b₁ ≡ zeros TYPEDEPTHS b) (hs : b₂ ≡ set b₁ SPENT 0) (h₂ : a₂ ≡ set a₁ TOP heap) where
   long-a₁ : length a₁ ≡ length a
   long-a₁ = ap length ha ∙ length-zeros TOP a (omega arith)
 
   long-b₁ : length b₁ ≡ length b
   long-b₁ = ap length hb ∙ length-zeros TYPEDEPTHS b (omega arith)
+
+  long-b₂ : length b₂ ≡ length b
+  long-b₂ = ap length hs ∙ length-set b₁ SPENT 0 ∙ long-b₁
 
   none-yet : (k : ℕ) → k < TOP → getD a₂ k 0 ≡ 0
   none-yet k h = ap (λ (x : List ℕ). getD x k 0) h₂ ∙ getD-set-other a₁ TOP k heap 0 (omega arith) ∙ ap (λ (x : List ℕ). getD x k 0) ha ∙ getD-zeros TOP a k h
@@ -149,12 +173,12 @@ module _ (sheet a b a₁ b₁ a₂ : List ℕ) (la : 16384 ≤ length a) (lb : 1
   unfolding rowsOf rowsAt
   no-rows k h = rw (none-yet k h) refl
 
-  state-empty : held sheet a₂ b₁ ≡ empty
+  state-empty : held sheet a₂ b₂ ≡ empty
   unfolding held
   state-empty =
       let l : linesHeld sheet a₂ ≡ replicate noKey [] = lines-tab sheet a₂ ∙ tab-same (linesIn sheet a₂) (λ (k : ℕ). []) 0 noKey (λ k x h. no-lines k h) in
-      let d : depthsHeld a₂ b₁ ≡ replicate noKey [] = depths-tab a₂ b₁ ∙ tab-same (depthsIn a₂ b₁) (λ (k : ℕ). []) 0 noKey (λ k x h. no-depths k h) in
-      let u : depthsAt b₁ USES (getD a₂ NODE 0) ≡ [] = rw (none-yet NODE (omega arith)) refl in
+      let d : depthsHeld a₂ b₂ ≡ replicate noKey [] = depths-tab a₂ b₂ ∙ tab-same (depthsIn a₂ b₂) (λ (k : ℕ). []) 0 noKey (λ k x h. no-depths k h) in
+      let u : depthsAt b₂ USES (getD a₂ NODE 0) ≡ [] = rw (none-yet NODE (omega arith)) refl in
       λ i. record { lines = l i; depths = d i; used = u i }
     where
       no-lines : (k : ℕ) → k < noKey → linesIn sheet a₂ k ≡ []
@@ -164,17 +188,20 @@ module _ (sheet a b a₁ b₁ a₂ : List ℕ) (la : 16384 ≤ length a) (lb : 1
           go true = refl
           go false = refl
 
-      no-depths : (k : ℕ) → k < noKey → depthsIn a₂ b₁ k ≡ []
+      no-depths : (k : ℕ) → k < noKey → depthsIn a₂ b₂ k ≡ []
       no-depths k h = rw (none-yet k (omega arith)) (go (eqb (depthBase k) 0))
         where
           go : (t : Bool) → _≡_ {A = List ℕ} (cond t [] []) []
           go true = refl
           go false = refl
 
-  blank : (i : ℕ) → i < TYPEDEPTHS → getD b₁ i 0 ≡ 0
-  blank i h = ap (λ (x : List ℕ). getD x i 0) hb ∙ getD-zeros TYPEDEPTHS b i h
+  blank : (i : ℕ) → i < TYPEDEPTHS → getD b₂ i 0 ≡ 0
+  blank i h = ap (λ (x : List ℕ). getD x i 0) hs ∙ getD-set-other b₁ SPENT i 0 0 (omega arith) ∙ ap (λ (x : List ℕ). getD x i 0) hb ∙ getD-zeros TYPEDEPTHS b i h
 
-  ready-first : Ready a₂ b₁
+  none-spent : getD b₂ SPENT 0 ≡ 0
+  none-spent = ap (λ (x : List ℕ). getD x SPENT 0) hs ∙ getD-set-same b₁ SPENT 0 0 (omega (arith, long-b₁))
+
+  ready-first : Ready a₂ b₂
   ready-first =
       record {
         sound = record {
@@ -187,15 +214,16 @@ module _ (sheet a b a₁ b₁ a₂ : List ℕ) (la : 16384 ≤ length a) (lb : 1
         };
         none = none-yet RUN (omega arith);
         made = none-yet MADE (omega arith);
-        known = R.cleared a₂ b₁ blank;
+        known = R.cleared a₂ b₂ blank;
+        noted = noted-blank a₂ b₂ (none-yet NODE (omega arith)) (none-yet POLICY (omega arith)) none-spent;
         blank = λ l. blank;
-        long = omega (arith, long-b₁);
+        long = omega (arith, long-b₂);
       }
 
-  rest-first : (drop 16384 a₂ ≡ drop 16384 a) × (drop 16384 b₁ ≡ drop 16384 b)
+  rest-first : (drop 16384 a₂ ≡ drop 16384 a) × (drop 16384 b₂ ≡ drop 16384 b)
   rest-first = (
     ap (drop 16384) h₂ ∙ drop-set-lt 16384 a₁ TOP heap (omega arith) ∙ ap (drop 16384) ha ∙ drop-past TOP (16384 - TOP) a,
-    ap (drop 16384) hb ∙ drop-past TYPEDEPTHS 12288 b,
+    ap (drop 16384) hs ∙ drop-set-lt 16384 b₁ SPENT 0 (omega arith) ∙ ap (drop 16384) hb ∙ drop-past TYPEDEPTHS 12288 b,
   )
 
 -- ---- the lines
@@ -213,15 +241,15 @@ pub record Progress (m : Mode) (sheet a₀ b₀ a b : List ℕ) (at k : ℕ) : T
   pub rest-a : drop 16384 a ≡ drop 16384 a₀
   pub rest-b : drop 16384 b ≡ drop 16384 b₀
 
-progress-start : (m : Mode) (sheet a b a₁ b₁ a₂ : List ℕ) → 16384 ≤ length a → 16384 ≤ length b → a₁ ≡ zeros TOP a → b₁ ≡ zeros TYPEDEPTHS b → a₂ ≡ set a₁ TOP heap → Progress m sheet a₂ b₁ a₂ b₁ 0 1
+progress-start : (m : Mode) (sheet a b a₁ b₁ b₂ a₂ : List ℕ) → 16384 ≤ length a → 16384 ≤ length b → a₁ ≡ zeros TOP a → b₁ ≡ zeros TYPEDEPTHS b → b₂ ≡ set b₁ SPENT 0 → a₂ ≡ set a₁ TOP heap → Progress m sheet a₂ b₂ a₂ b₂ 0 1
 unfolding read
-progress-start m sheet a b a₁ b₁ a₂ la lb ha hb h₂ =
+progress-start m sheet a b a₁ b₁ b₂ a₂ la lb ha hb hs h₂ =
     record {
-      left = ap (λ (s : State). reading m (split 10 sheet) s 1) (sym (state-empty sheet a b a₁ b₁ a₂ la lb ha hb h₂));
+      left = ap (λ (s : State). reading m (split 10 sheet) s 1) (sym (state-empty sheet a b a₁ b₁ b₂ a₂ la lb ha hb hs h₂));
       in-sheet = omega arith;
-      ready = ready-first sheet a b a₁ b₁ a₂ la lb ha hb h₂;
-      reached = subst (Reached m) (sym (state-empty sheet a b a₁ b₁ a₂ la lb ha hb h₂)) before-any;
-      room = omega (arith, top-first sheet a b a₁ b₁ a₂ la lb ha hb h₂, none-yet sheet a b a₁ b₁ a₂ la lb ha hb h₂ NODE (omega arith));
+      ready = ready-first sheet a b a₁ b₁ b₂ a₂ la lb ha hb hs h₂;
+      reached = subst (Reached m) (sym (state-empty sheet a b a₁ b₁ b₂ a₂ la lb ha hb hs h₂)) before-any;
+      room = omega (arith, top-first sheet a b a₁ b₁ b₂ a₂ la lb ha hb hs h₂, none-yet sheet a b a₁ b₁ b₂ a₂ la lb ha hb hs h₂ NODE (omega arith));
       near = omega arith;
       long-a = refl;
       long-b = refl;
@@ -230,22 +258,22 @@ progress-start m sheet a b a₁ b₁ a₂ la lb ha hb h₂ =
     }
 
 -- the same at the sheet's first cursor
-pub progress-first : (m : Mode) (sheet a b a₁ b₁ a₂ : List ℕ) (c : Cursor) → c .line ≡ 1 → c .at ≡ 0 → 16384 ≤ length a → 16384 ≤ length b → a₁ ≡ zeros TOP a → b₁ ≡ zeros TYPEDEPTHS b → a₂ ≡ set a₁ TOP heap
-    → Progress m sheet a₂ b₁ a₂ b₁ (c .at) (c .line)
-progress-first m sheet a b a₁ b₁ a₂ c hl hc la lb ha hb h₂ =
-    subst (λ (x : ℕ). Progress m sheet a₂ b₁ a₂ b₁ x (c .line)) (sym hc)
-    (subst (Progress m sheet a₂ b₁ a₂ b₁ 0) (sym hl) (progress-start m sheet a b a₁ b₁ a₂ la lb ha hb h₂))
+pub progress-first : (m : Mode) (sheet a b a₁ b₁ b₂ a₂ : List ℕ) (c : Cursor) → c .line ≡ 1 → c .at ≡ 0 → 16384 ≤ length a → 16384 ≤ length b → a₁ ≡ zeros TOP a → b₁ ≡ zeros TYPEDEPTHS b → b₂ ≡ set b₁ SPENT 0 → a₂ ≡ set a₁ TOP heap
+    → Progress m sheet a₂ b₂ a₂ b₂ (c .at) (c .line)
+progress-first m sheet a b a₁ b₁ b₂ a₂ c hl hc la lb ha hb hs h₂ =
+    subst (λ (x : ℕ). Progress m sheet a₂ b₂ a₂ b₂ x (c .line)) (sym hc)
+    (subst (Progress m sheet a₂ b₂ a₂ b₂ 0) (sym hl) (progress-start m sheet a b a₁ b₁ b₂ a₂ la lb ha hb hs h₂))
 
 -- what the words at entry, the loop's first words and its last ones leave
-pub from-entry : (x : Reading) (sheet a b a₁ b₁ a₂ a₃ b₃ : List ℕ) (n l : ℕ) → 16384 ≤ length a → 16384 ≤ length b → a₁ ≡ zeros TOP a → b₁ ≡ zeros TYPEDEPTHS b → a₂ ≡ set a₁ TOP heap
-    → Read x sheet a₂ b₁ a₃ b₃ n l → Read x sheet a b a₃ b₃ n l
-from-entry x sheet a b a₁ b₁ a₂ a₃ b₃ n l la lb ha hb h₂ r =
-    let q = rest-first sheet a b a₁ b₁ a₂ la lb ha hb h₂ in
+pub from-entry : (x : Reading) (sheet a b a₁ b₁ b₂ a₂ a₃ b₃ : List ℕ) (n l : ℕ) → 16384 ≤ length a → 16384 ≤ length b → a₁ ≡ zeros TOP a → b₁ ≡ zeros TYPEDEPTHS b → b₂ ≡ set b₁ SPENT 0 → a₂ ≡ set a₁ TOP heap
+    → Read x sheet a₂ b₂ a₃ b₃ n l → Read x sheet a b a₃ b₃ n l
+from-entry x sheet a b a₁ b₁ b₂ a₂ a₃ b₃ n l la lb ha hb hs h₂ r =
+    let q = rest-first sheet a b a₁ b₁ b₂ a₂ la lb ha hb hs h₂ in
     record { number-is = r .number-is; line-is = r .line-is; state-is = r .state-is; ready = r .ready; room = r .room; rest-a = r .rest-a ∙ q .0; rest-b = r .rest-b ∙ q .1 }
 
 module _ (m : Mode) (sheet a₀ b₀ a b : List ℕ) (c : Cursor) (i : Progress m sheet a₀ b₀ a b (c .at) (c .line)) where
-  pub finish-room : USES + getD a NODE 0 ≤ length b
-  finish-room = omega (arith, i .ready .long, i .ready .sound .few NODE (omega arith), limit-small NODE)
+  pub finish-needs : (USES + getD a NODE 0 ≤ length b) × Noted a b
+  finish-needs = (omega (arith, i .ready .long, i .ready .sound .few NODE (omega arith), limit-small NODE), i .ready .noted)
 
   module _ (r : L.Line) (q : LineRead sheet c r) where
     by-line : (o : L.Line) → r ≡ o → read m sheet ≡ readingBy m (held sheet a b) (c .line) sheet o

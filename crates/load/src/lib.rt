@@ -1,28 +1,40 @@
 // The reading of a sheet into the lent words: lines in turn, the first faulty line ends it.
+use checks::NO_SLOT;
 use checks::enough_before;
+use checks::is_first;
+use checks::slots_at;
+use forms::LINK;
 use forms::NO_KEY;
 use forms::NODE;
+use forms::POLICY;
 use scan::Cursor;
 use scan::Line;
 use table::HEAP;
+use table::SPENT;
 use table::TOP;
 use table::TYPEDEPTHS;
 use table::USES;
 use table::count;
+use table::item;
+use table::row;
 use take::take_line;
 use words::put;
 use words::read;
 ghost use mathlib.Core.Path.{_≡_};
+ghost use mathlib.Core.Bool.{_&&_, not};
 ghost use mathlib.Core.List.{[]};
 ghost use Prim.Native.Nat.{_+_, _≤_};
 ghost use lib.ListN.{length, getD};
 ghost use Rattle.words.specs.Log.{zeros};
-ghost use Rattle.sheet.specs.Forms.{NODE};
+ghost use Rattle.cedar.specs.Numbered.{memN};
+ghost use Rattle.sheet.specs.Forms.{at, NODE, POLICY, LINK};
 ghost use Rattle.sheet.specs.State.{before};
-ghost use Rattle.sheet.specs.Sheet.{read, firstUnused, ending};
-ghost use Rattle.table.specs.Layout.{USES, held};
+ghost use Rattle.sheet.specs.Typing.{nodesUnder};
+ghost use Rattle.sheet.specs.Sheet.{read, firsts, anySlot, firstUnlinked, firstUnused, ending};
+ghost use Rattle.table.specs.Layout.{USES, rowsOf, held};
 ghost use Rattle.line.specs.Codes.{modeOf};
 ghost use Rattle.checks.specs.Uses.{usesIn};
+ghost use Rattle.checks.specs.Under.{Noted};
 ghost use Rattle.load.specs.Result.{Read};
 
 // A refusal and its line; 0 and 0 where the sheet is accepted.
@@ -50,22 +62,51 @@ fn first_unused(rows: &[u32], work: &[u32]) -> usize
     i
 }
 
-// How many lines stand before the nodes.
-fn before_nodes(rows: &[u32]) -> usize
-    ensures { λ r. ⌜ (r ≡ before (held [] (now (rows .entry)) []) NODE) × (r ≤ 51539607540) ⌝ }
+// Whether a policy has a slot and no link line.
+fn is_unlinked(rows: &[u32], work: &[u32], policy: u32) -> bool
+    requires { ⌜ Noted (now rows) (now work) ⌝ }
+    ensures { λ b. ⌜ b ≡ anySlot (nodesUnder (held [] (now (rows .entry)) []) (at (getD (rowsOf (now (rows .entry)) POLICY) policy []) 2)) && not (memN policy (firsts (rowsOf (now (rows .entry)) LINK))) ⌝ }
+{
+    let root = item(row(rows, POLICY, policy), 3);
+    if slots_at(rows, work, root) == NO_SLOT {
+        return false;
+    }
+    !is_first(rows, LINK, policy)
+}
+
+// The lowest policy that has a slot and no link line, their number where none has.
+fn first_unlinked(rows: &[u32], work: &[u32]) -> u32
+    requires { ⌜ Noted (now rows) (now work) ⌝ }
+    ensures { λ r. ⌜ r ≡ firstUnlinked (held [] (now (rows .entry)) []) 0 (rowsOf (now (rows .entry)) POLICY) ⌝ }
+{
+    let n = count(rows, POLICY);
+    let mut i = 0;
+    while i < n {
+        if is_unlinked(rows, work, i) {
+            return i;
+        }
+        i += 1;
+    }
+    i
+}
+
+// How many lines stand before those of a key.
+fn lines_before(rows: &[u32], key: usize) -> usize
+    requires { ⌜ key ≤ POLICY ⌝ }
+    ensures { λ r. ⌜ (r ≡ before (held [] (now (rows .entry)) []) key) × (r ≤ 55834574835) ⌝ }
 {
     let mut s: usize = 0;
     let mut i = 0;
-    while i < NODE {
+    while i < key {
         s += count(rows, i) as usize;
         i += 1;
     }
     s
 }
 
-// After the last line, with the number of the next: a line missing, a node never used, or accepted.
+// After the last line, with the number of the next: a line missing, a slot whose policy has no link line, a node never used, or accepted.
 fn finish(rows: &[u32], work: &[u32], next: usize) -> Loaded
-    requires { ⌜ USES + getD (now rows) NODE 0 ≤ length (now work) ⌝ }
+    requires { ⌜ (USES + getD (now rows) NODE 0 ≤ length (now work)) × Noted (now rows) (now work) ⌝ }
     ensures number { λ r. ⌜ r .number ≡ ending (held [] (now (rows .entry)) (now (work .entry))) next .number ⌝ }
     ensures line { λ r. ⌜ r .line ≡ ending (held [] (now (rows .entry)) (now (work .entry))) next .line ⌝ }
 {
@@ -75,10 +116,18 @@ fn finish(rows: &[u32], work: &[u32], next: usize) -> Loaded
             line: next,
         };
     }
+    let p = first_unlinked(rows, work);
+    if p < count(rows, POLICY) {
+        let m = lines_before(rows, POLICY);
+        return Loaded {
+            number: 5,
+            line: m + p as usize + 1,
+        };
+    }
     let u = first_unused(rows, work);
     let n = count(rows, NODE) as usize;
     if u < n {
-        let m = before_nodes(rows);
+        let m = lines_before(rows, NODE);
         return Loaded {
             number: 8,
             line: m + u + 1,
@@ -101,13 +150,14 @@ fn zero(words: &mut [u32], end: usize)
     }
 }
 
-// Reads the sheet; before the first line there are no rows, and no pairs are remembered. The answer is the refusal of the first faulty line, or of the end; where it is accepted the words hold its rows.
+// Reads the sheet; before the first line there are no rows, no pairs are remembered, and no nodes are used. The answer is the refusal of the first faulty line, or of the end; where it is accepted the words hold its rows.
 pub fn load(sheet: &[u8], partial: bool, rows: &mut [u32], work: &mut [u32]) -> Loaded
     requires { ⌜ (length (now sheet) ≤ 16384) × (16384 ≤ length (now rows)) × (16384 ≤ length (now work)) ⌝ }
     ensures { λ r. ⌜ Read (read (modeOf partial) (now (sheet .entry))) (now (sheet .entry)) (now (rows .entry)) (now (work .entry)) (now (rows .exit)) (now (work .exit)) (r .number) (r .line) ⌝ }
 {
     zero(rows, TOP);
     zero(work, TYPEDEPTHS);
+    put(work, SPENT, 0);
     put(rows, TOP, HEAP as u32);
     let mut c = Cursor::new();
     loop {

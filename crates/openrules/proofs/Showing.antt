@@ -17,7 +17,7 @@ use Rattle.sheet.proofs.Buffers.{refusal-leaves, accepted-whole, accepted-writt
 use Rattle.print.specs.Written.{Written}
 use Rattle.print.proofs.Writing.{written-append, written-as, written-over, digits-few}
 use Rattle.authorizer.specs.Called.{Called}
-use Rattle.openrules.specs.Shown.{saysComplete, entryOf, back, refusal, shown, Shows}
+use Rattle.openrules.specs.Shown.{space, saysComplete, entryOf, back, refusal, shown, Shows}
 
 -- ---- the entry
 
@@ -63,7 +63,7 @@ bytes s = answer (entryOf s) (read (entryOf s) s .state)
 counts-front : (bytes rest : List ℕ) → Counts (length bytes) (bytes ++ rest)
 counts-front bytes rest = (omega (arith, length-append bytes rest), sym (ap length (take-append-seam bytes rest)))
 
-module _ (s a b out a′ b′ out′ : List ℕ) (number line len : ℕ) (la : 16384 ≡ length a) (lb : 16384 ≡ length b) (lo : length out ≡ 65536) (c : Called (entryOf s) s a b out number line len out′ a′ b′) where
+module _ (s a b out a′ b′ out′ : List ℕ) (number line len : ℕ) (la : 16384 ≡ length a) (lb : 16384 ≡ length b) (lo : length out ≡ space) (c : Called (entryOf s) s a b out number line len out′ a′ b′) where
   here : returned (entryOf s) (length a) (length b) (length out) s ≡ back s
   here = rw (← la, ← lb, lo)
 

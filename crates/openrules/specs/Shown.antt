@@ -23,7 +23,7 @@ entryOf sheet = cond (saysComplete sheet) complete partial
 
 -- the bytes of the answer buffer; the work slices have 16,384 words each
 abbrev pub space : ℕ
-space = 65536
+space = 1048576
 
 abbrev pub back : List ℕ → Returned
 back sheet = returned (entryOf sheet) room room space sheet

@@ -14,7 +14,7 @@ ghost use mathlib.Core.Path.{_≡_};
 ghost use lib.ListN.{length};
 ghost use Rattle.print.specs.Written.{Written};
 ghost use Rattle.authorizer.specs.Called.{Called};
-ghost use Rattle.openrules.specs.Shown.{saysComplete, entryOf, refusal, Shows};
+ghost use Rattle.openrules.specs.Shown.{saysComplete, entryOf, space, refusal, Shows};
 
 // Whether the first line is exactly `sheet=complete`.
 fn says_complete(sheet: &[u8]) -> bool
@@ -48,6 +48,9 @@ fn refused(out: &mut [u8], n: u32, line: usize, length: usize) -> usize
     byte(out, f, b'\n')
 }
 
+// The bytes of the answer buffer.
+const SPACE: usize = 1048576;
+
 // The words of a work slice.
 fn words() -> [u32; 16384]
     ensures { λ r. ⌜ 16384 ≡ length r ⌝ }
@@ -56,8 +59,7 @@ fn words() -> [u32; 16384]
 }
 
 // What is printed for a sheet, at the start of the buffer, and its length.
-fn answer(sheet: &[u8], out: &mut [u8]) -> usize
-    requires { ⌜ length (now out) ≡ 65536 ⌝ }
+fn answer(sheet: &[u8], out: &mut [u8; SPACE]) -> usize
     ensures { λ r. ⌜ Shows (now (sheet .entry)) (now (out .exit)) r ⌝ }
 {
     let mut a = words();
@@ -72,7 +74,7 @@ fn answer(sheet: &[u8], out: &mut [u8]) -> usize
 fn main() {
     let mut input = [0u8; 16385];
     let n = io::read_full(0, &mut input);
-    let mut out = io::large_buffer();
+    let mut out = [0u8; SPACE];
     let k = answer(&input[..n], &mut out);
     io::write_all(1, &out[..k]);
 }

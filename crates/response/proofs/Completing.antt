@@ -27,7 +27,7 @@ use Rattle.response.proofs.Printing.{complete-held}
 
 -- ---- classes by their numbers
 
-verdicts-back : (S : Schema) (G : Env) (ns : List Expr) (rs : List (List ℕ)) → verdictsOf rs (classNumbers (completeAnswer S G (contentPolicies ns rs))) ≡ completeAnswer S G (contentPolicies ns rs)
+verdicts-back : (S : Schema) (G : Env) (ns : ℕ → ℕ → List Expr) (rs : List (List ℕ)) → verdictsOf rs (classNumbers (completeAnswer S G (contentPolicies ns rs))) ≡ completeAnswer S G (contentPolicies ns rs)
 verdicts-back S G ns [] = refl
 verdicts-back S G ns (r ∷ rs) =
     ap₂ (λ (c : Class) (vs : List Verdict). record { effect = effectOf (at r 1); class = c } ∷ vs) (class-back _) (verdicts-back S G ns rs)

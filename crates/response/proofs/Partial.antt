@@ -80,7 +80,7 @@ classesIn [] = []
 classesIn (v ∷ vs) = v .class ∷ classesIn vs
 
 -- policies of these rows have the run's classes where the words cs begin with them: their effects are those of the rows
-module _ (S : Schema) (M : NEnv) (ns : List (Node ℕ)) where
+module _ (S : Schema) (M : NEnv) (ns : ℕ → ℕ → List (Node ℕ)) where
   abbrev linesOver : List (List ℕ) → List Row → List NVerdict
   linesOver rs R = nRun S M (numberedPolicies ns rs) R .lines
 
@@ -88,7 +88,7 @@ module _ (S : Schema) (M : NEnv) (ns : List (Node ℕ)) where
       → verdictsOf rs cs ≡ verdicts (linesOver rs R)
   verdicts-from [] cs R f = refl
   verdicts-from (r ∷ rs) cs R f =
-      let R₁ : List Row = nInterpret S M (getD ns (at r 2) (Node.err tbool)) R .rows in
+      let R₁ : List Row = nInterpret S M (getD (ns (at r 3) (at r 4)) (at r 2) (Node.err tbool)) R .rows in
       ap₂ (λ (c : Class) (l : List Verdict). record { effect = effectIn r; class = c } ∷ l) (f 0 (omega arith))
       (verdicts-from rs (drop 1 cs) R₁ (λ i h. ap classIn (second-of cs i) ∙ f (suc i) (omega arith)))
 

@@ -1,2 +1,4 @@
+pub mod Looking
 pub mod Terms
+pub mod Links
 pub mod Runs

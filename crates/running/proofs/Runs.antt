@@ -9,11 +9,12 @@ use lib.ListN.{length, getD, take, drop, drop-of-length-le}
 use lib.Seq.{sets, length-sets, drop-cons}
 use Rattle.words.specs.Log.{room}
 use Rattle.words.proofs.Stores.{take-sets, drop-sets, part-sets}
-use Rattle.sheet.specs.Forms.{at, keep, noKey, DAY, POLICY, TERM}
-use Rattle.sheet.specs.Content.{runsOn, running, onTerm}
-use Rattle.table.specs.Layout.{part, limits, limit, RUN, MADE, TOP, RUN-WORDS, rowsAt, rowsOf, held, withRow, Last, Sound}
+use Rattle.sheet.specs.Forms.{at, keep, noKey, DAY, POLICY, LINK, TERM}
+use Rattle.sheet.specs.Content.{runsOn, linkOf, withLink, running, onTerm}
+use Rattle.table.specs.Layout.{part, limits, limit, RUN, MADE, TOP, POLICY-WORDS, RUN-WORDS, rowsAt, rowsOf, held, withRow, Last, Sound}
 use Rattle.table.proofs.Rows.{count-rows, limit-small, lines-held}
 use Rattle.table.proofs.Frame.{word-kept, rows-kept, sound-kept, length-new, top-new, count-new, count-other, rest-new, rows-other, rows-own, sound-new}
+use Rattle.running.proofs.Links.{link-two}
 use Rattle.running.specs.Chosen.{Choosable, Chosen, Runnable, withRun}
 
 -- ---- one row more
@@ -84,33 +85,35 @@ module _ (a : List ℕ) (s : Sound a) (r : List ℕ) where
 
 -- ---- the row of a policy once more
 
-four-words : (r : List ℕ) (x y z u : ℕ) → length r ≡ RUN-WORDS → x ≡ getD r 0 0 → y ≡ getD r 1 0 → z ≡ getD r 2 0 → u ≡ getD r 3 0 → x ∷ y ∷ z ∷ u ∷ [] ≡ r
-four-words [] x y z u h ex ey ez eu = absurd (omega arith)
-four-words (a ∷ []) x y z u h ex ey ez eu = absurd (omega arith)
-four-words (a ∷ b ∷ []) x y z u h ex ey ez eu = absurd (omega arith)
-four-words (a ∷ b ∷ c ∷ []) x y z u h ex ey ez eu = absurd (omega arith)
-four-words (a ∷ b ∷ c ∷ d ∷ []) x y z u h ex ey ez eu = rw (ex, ey, ez, eu)
-four-words (a ∷ b ∷ c ∷ d ∷ e ∷ r) x y z u h ex ey ez eu = absurd (omega arith)
+linked-words : (r l : List ℕ) (x y z u v w : ℕ) → length r ≡ POLICY-WORDS → x ≡ getD r 0 0 → y ≡ getD r 1 0 → z ≡ getD r 2 0 → u ≡ getD r 3 0
+    → v ∷ w ∷ [] ≡ l → x ∷ y ∷ z ∷ u ∷ v ∷ w ∷ [] ≡ withLink r l
+linked-words [] l x y z u v w h ex ey ez eu el = absurd (omega arith)
+linked-words (a ∷ r) l x y z u v w h ex ey ez eu el = rw (ex, ey, ez, eu, ← el)
 
 module _ (a : List ℕ) (p : ℕ) (f : Runnable a p) (top : ℕ) (et : top ≡ getD a TOP 0) where
-  pub run-few : (w r : List ℕ) → w ≡ sets a top r → getD w RUN 0 < 4294967295
-  run-few w r e = rw (e, et) (few-stored a (f .sound) r)
+  abbrev linkedRow : List ℕ
+  linkedRow = withLink (getD (rowsOf a POLICY) p []) (linkOf (rowsOf a LINK) p)
 
-  pub run-is : (line : List ℕ) (x y z u : ℕ) (w w′ : List ℕ) → line ≡ getD (rowsOf a POLICY) p []
-      → x ≡ getD line 0 0 → y ≡ getD line 1 0 → z ≡ getD line 2 0 → u ≡ getD line 3 0
-      → w ≡ sets a top (x ∷ y ∷ z ∷ u ∷ []) → w′ ≡ withRow w RUN (top + RUN-WORDS) → w′ ≡ withRun a (getD (rowsOf a POLICY) p [])
+  pub run-few : (x y z u v v′ : ℕ) (w : List ℕ) → w ≡ sets a top (x ∷ y ∷ z ∷ u ∷ v ∷ v′ ∷ []) → getD w RUN 0 < 4294967295
+  run-few x y z u v v′ w e = rw (e, et) (few-stored a (f .sound) (x ∷ y ∷ z ∷ u ∷ v ∷ v′ ∷ []))
+
+  pub run-is : (line : List ℕ) (x y z u v v′ : ℕ) (w w′ : List ℕ) → line ≡ getD (rowsOf a POLICY) p []
+      → x ≡ getD line 0 0 → y ≡ getD line 1 0 → z ≡ getD line 2 0 → u ≡ getD line 3 0 → v ∷ v′ ∷ [] ≡ linkOf (rowsOf a LINK) p
+      → w ≡ sets a top (x ∷ y ∷ z ∷ u ∷ v ∷ v′ ∷ []) → w′ ≡ withRow w RUN (top + RUN-WORDS) → w′ ≡ withRun a linkedRow
   unfolding withRun
-  run-is line x y z u w w′ el ex ey ez eu e e′ =
-      let four : x ∷ y ∷ z ∷ u ∷ [] ≡ getD (rowsOf a POLICY) p [] = four-words line x y z u (ap length el ∙ f .row) ex ey ez eu ∙ el in
-      let m : top + RUN-WORDS ≡ getD a TOP 0 + length (getD (rowsOf a POLICY) p []) = omega (arith, f .row) in
-      e′ ∙ ap₂ (λ (v : List ℕ) (t : ℕ). withRow v RUN t) (e ∙ ap₂ (sets a) et four) m
+  run-is line x y z u v v′ w w′ el ex ey ez eu ev e e′ =
+      let six : x ∷ y ∷ z ∷ u ∷ v ∷ v′ ∷ [] ≡ linkedRow
+      = linked-words line (linkOf (rowsOf a LINK) p) x y z u v v′ (ap length el ∙ f .row) ex ey ez eu ev
+      ∙ ap (λ (r : List ℕ). withLink r (linkOf (rowsOf a LINK) p)) el in
+      let m : top + RUN-WORDS ≡ getD a TOP 0 + length linkedRow = omega (arith, ap length six) in
+      e′ ∙ ap₂ (λ (v : List ℕ) (t : ℕ). withRow v RUN t) (e ∙ ap₂ (sets a) et six) m
 
 -- ---- what is left to choose
 
 -- policy i is next: the rows so far, which words w hold, and those of what is left, are the rows of all that run of what words a held
 pub record Choosing (a w : List ℕ) (day i : ℕ) : Type 0 where
   pub near : i ≤ getD a POLICY 0
-  pub left : rowsOf w RUN ++ running (runsOn day (rowsOf a TERM)) i (drop i (rowsOf a POLICY)) ≡ onTerm (held [] a [])
+  pub left : rowsOf w RUN ++ running (runsOn day (rowsOf a TERM)) (linkOf (rowsOf a LINK)) i (drop i (rowsOf a POLICY)) ≡ onTerm (held [] a [])
   pub same : (k : ℕ) → k < noKey → rowsOf w k ≡ rowsOf a k
   pub sound : Sound w
   pub made : getD w MADE 0 ≡ 0
@@ -123,13 +126,14 @@ no-rows : (a : List ℕ) (k : ℕ) → getD a k 0 ≡ 0 → rowsOf a k ≡ []
 unfolding rowsOf rowsAt
 no-rows a k e = rw e
 
-on-term-held : (a : List ℕ) → running (runsOn (at (getD (rowsOf a DAY) 0 []) 0) (rowsOf a TERM)) 0 (rowsOf a POLICY) ≡ onTerm (held [] a [])
+on-term-held : (a : List ℕ) → running (runsOn (at (getD (rowsOf a DAY) 0 []) 0) (rowsOf a TERM)) (linkOf (rowsOf a LINK)) 0 (rowsOf a POLICY) ≡ onTerm (held [] a [])
 unfolding onTerm
 on-term-held a =
     let d = lines-held [] a [] DAY (omega arith) (omega arith) in
     let t = lines-held [] a [] TERM (omega arith) (omega arith) in
+    let l = lines-held [] a [] LINK (omega arith) (omega arith) in
     let p = lines-held [] a [] POLICY (omega arith) (omega arith) in
-    sym (λ i. running (runsOn (at (getD (d i) 0 []) 0) (t i)) 0 (p i))
+    sym (λ i. running (runsOn (at (getD (d i) 0 []) 0) (t i)) (linkOf (l i)) 0 (p i))
 
 -- there is room for as many policies that run as for policies
 run-limit : limit POLICY ≡ limit RUN
@@ -177,13 +181,16 @@ module _ {a : List ℕ} (f : Choosable a) {n : ℕ} (en : n ≡ getD a POLICY 0)
 
       module _ {b : Bool} (eb : b ≡ runsOn day (rowsOf w TERM) i) where
         abbrev row : List ℕ
-        row = getD (rowsOf a POLICY) i []
+        row = withLink (getD (rowsOf a POLICY) i []) (linkOf (rowsOf a LINK) i)
+
+        row-words : length row ≡ RUN-WORDS
+        row-words = omega (arith, link-two (rowsOf a LINK) i)
 
         -- the rows of those that run after it
         abbrev others : List (List ℕ)
-        others = running (runsOn day (rowsOf a TERM)) (i + 1) (drop (i + 1) (rowsOf a POLICY))
+        others = running (runsOn day (rowsOf a TERM)) (linkOf (rowsOf a LINK)) (i + 1) (drop (i + 1) (rowsOf a POLICY))
 
-        next : running (runsOn day (rowsOf a TERM)) i (drop i (rowsOf a POLICY)) ≡ keep b row others
+        next : running (runsOn day (rowsOf a TERM)) (linkOf (rowsOf a LINK)) i (drop i (rowsOf a POLICY)) ≡ keep b row others
         next =
             let l : i < length (rowsOf a POLICY) = omega (arith, count-rows a POLICY) in
             rw (eb, g .same TERM (omega arith), add-one, drop-cons (rowsOf a POLICY) i [])
@@ -203,14 +210,14 @@ module _ {a : List ℕ} (f : Choosable a) {n : ℕ} (en : n ≡ getD a POLICY 0)
               rest = g .rest;
             }
 
-        pub choose-run : {w′ : List ℕ} → b ≡ true → w′ ≡ withRun w (getD (rowsOf w POLICY) i []) → Choosing a w′ day (i + 1)
-        choose-run e ew = rw (ew, g .same POLICY (omega arith)) more
+        pub choose-run : {w′ : List ℕ} → b ≡ true → w′ ≡ withRun w (withLink (getD (rowsOf w POLICY) i []) (linkOf (rowsOf w LINK) i)) → Choosing a w′ day (i + 1)
+        choose-run e ew = rw (ew, g .same POLICY (omega arith), g .same LINK (omega arith)) more
           where
             free : getD w RUN 0 < limit RUN
             free = omega (arith, g .few, f .sound .few POLICY (omega arith), run-limit)
 
             fits : getD w TOP 0 + length row ≤ room
-            fits = omega (arith, g .top, f .rows i (omega arith), f .space)
+            fits = omega (arith, g .top, row-words, f .space)
 
             more : Choosing a (withRun w row) day (i + 1)
             more =
@@ -223,7 +230,7 @@ module _ {a : List ℕ} (f : Choosable a) {n : ℕ} (en : n ≡ getD a POLICY 0)
                   sound = m .sound;
                   made = m .made;
                   few = omega (arith, m .count, g .few);
-                  top = omega (arith, m .top, f .rows i (omega arith), g .top);
+                  top = omega (arith, m .top, row-words, g .top);
                   long = m .long ∙ g .long;
                   rest = m .rest ∙ g .rest;
                 }

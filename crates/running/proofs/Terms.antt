@@ -1,18 +1,16 @@
 -- Whether a policy runs on a day: what is left of the terms decides. Assumes nothing.
-use mathlib.Core.Path.{_≡_, refl, sym, _∙_}
+use mathlib.Core.Path.{_≡_, sym, _∙_}
 use mathlib.Core.Bool.{Bool, true, false, _&&_}
-use mathlib.Core.List.{List, [], _∷_}
+use mathlib.Core.List.{List, []}
 use Prim.Native.Nat.{ℕ, _+_, _≤_, _<_}
-use native.Mathlib.Numerals.{add-one}
-use native.Mathlib.Omega.{arith}
 use borrow.Author.Tests.{eq-eqb, ne-eqb, le-leb, lt-leb}
 use lib.Dec.{leb}
-use lib.ListN.{length, getD, drop, drop-of-length-le}
-use lib.Seq.{drop-cons}
+use lib.ListN.{getD}
 use Rattle.sheet.specs.Forms.{at, TERM}
 use Rattle.sheet.specs.Content.{runsOn}
 use Rattle.table.specs.Layout.{rowsOf}
 use Rattle.table.proofs.Rows.{count-rows}
+use Rattle.running.proofs.Looking.{Looking, look-start, look-end, look-here, look-on}
 
 -- whether day d is one of term r's
 abbrev pub within : List ℕ → ℕ → Bool
@@ -26,24 +24,19 @@ module _ (r : List ℕ) (d first : ℕ) (ef : first ≡ getD r 2 0) where
   not-early last h el = rw (← ef, ← el, le-leb first d h)
 
 -- term i of n is looked at next, and no term before it is the policy's
-pub record Asking (a : List ℕ) (d p n i : ℕ) : Type 0 where
-  pub all : n ≡ length (rowsOf a TERM)
-  pub near : i ≤ n
-  pub left : runsOn d (rowsOf a TERM) p ≡ runsOn d (drop i (rowsOf a TERM)) p
+abbrev pub Asking : List ℕ → ℕ → ℕ → ℕ → ℕ → Type 0
+Asking a d p n i = Looking (λ rs. runsOn d rs p) (rowsOf a TERM) n i
 
 pub ask-start : (a : List ℕ) (d p n : ℕ) → n ≡ getD a TERM 0 → Asking a d p n 0
-ask-start a d p n e = record { all = e ∙ sym (count-rows a TERM); near = omega arith; left = refl }
+ask-start a d p n e = look-start (λ rs. runsOn d rs p) (rowsOf a TERM) n (e ∙ sym (count-rows a TERM))
 
 module _ (a : List ℕ) (d p n i : ℕ) (g : Asking a d p n i) where
   pub ask-end : n ≤ i → true ≡ runsOn d (rowsOf a TERM) p
-  ask-end h = let l : length (rowsOf a TERM) ≤ i = omega (arith, g .all) in sym (g .left ∙ rw (drop-of-length-le (rowsOf a TERM) l))
+  ask-end h = sym (look-end (λ rs. runsOn d rs p) (rowsOf a TERM) n i g h)
 
   module _ (h : i < n) (r : List ℕ) (er : r ≡ getD (rowsOf a TERM) i []) (q : ℕ) (eq : q ≡ getD r 1 0) where
-    here : drop i (rowsOf a TERM) ≡ r ∷ drop (i + 1) (rowsOf a TERM)
-    here = let l : i < length (rowsOf a TERM) = omega (arith, g .all) in rw (er, add-one, drop-cons (rowsOf a TERM) i [])
-
     pub ask-own : (b : Bool) → q ≡ p → b ≡ within r d → b ≡ runsOn d (rowsOf a TERM) p
-    ask-own b e eb = eb ∙ sym (g .left ∙ rw (here, ← eq, eq-eqb q p e))
+    ask-own b e eb = eb ∙ sym (look-here (λ rs. runsOn d rs p) (rowsOf a TERM) n i g h r er ∙ rw (← eq, eq-eqb q p e))
 
     pub ask-on : (q ≡ p → ⊥) → Asking a d p n (i + 1)
-    ask-on e = record { all = g .all; near = omega arith; left = g .left ∙ rw (here, ← eq, ne-eqb q p e) }
+    ask-on e = look-on (λ rs. runsOn d rs p) (rowsOf a TERM) n i g h r er (rw (← eq, ne-eqb q p e))

@@ -1,5 +1,7 @@
 // The policies that run: the rows of those on term, written after the sheet's rows as the rows of a key that stands in words only.
 use forms::DAY;
+use forms::LINK;
+use forms::MARK;
 use forms::POLICY;
 use forms::TERM;
 use table::RUN;
@@ -13,11 +15,11 @@ use words::read;
 use words::store;
 ghost use mathlib.Core.Path.{_≡_};
 ghost use mathlib.Core.Bool.{_&&_};
-ghost use mathlib.Core.List.{[]};
+ghost use mathlib.Core.List.{[], _∷_};
 ghost use lib.Dec.{leb};
 ghost use lib.ListN.{getD};
-ghost use Rattle.sheet.specs.Forms.{at, POLICY, TERM};
-ghost use Rattle.sheet.specs.Content.{runsOn};
+ghost use Rattle.sheet.specs.Forms.{at, POLICY, LINK, TERM};
+ghost use Rattle.sheet.specs.Content.{runsOn, linkOf, withLink};
 ghost use Rattle.table.specs.Layout.{rowsOf};
 ghost use Rattle.running.specs.Chosen.{Choosable, Chosen, Runnable, withRun};
 
@@ -47,13 +49,49 @@ fn runs_on(rows: &[u32], day: u32, policy: u32) -> bool
     true
 }
 
-// The row of a policy once more, as that of one that runs.
+// The two values of a link, marks where there is none.
+struct Link {
+    principal: u32,
+    resource: u32,
+}
+
+// The link of a policy.
+fn link_of(rows: &[u32], policy: u32) -> Link
+    ensures { λ l. ⌜ l .principal ∷ l .resource ∷ [] ≡ linkOf (rowsOf (now (rows .entry)) LINK) policy ⌝ }
+{
+    let n = count(rows, LINK);
+    let mut i = 0;
+    while i < n {
+        let line = row(rows, LINK, i);
+        if policy == item(line, 1) {
+            return Link {
+                principal: item(line, 2),
+                resource: item(line, 3),
+            };
+        }
+        i += 1;
+    }
+    Link {
+        principal: MARK,
+        resource: MARK,
+    }
+}
+
+// The row of a policy once more, with its link's values after it, as that of one that runs.
 fn run_row(rows: &mut [u32], policy: u32)
     requires { ⌜ Runnable (now rows) policy ⌝ }
-    ensures { λ _. ⌜ now (rows .exit) ≡ withRun (now (rows .entry)) (getD (rowsOf (now (rows .entry)) POLICY) policy []) ⌝ }
+    ensures { λ _. ⌜ now (rows .exit) ≡ withRun (now (rows .entry)) (withLink (getD (rowsOf (now (rows .entry)) POLICY) policy []) (linkOf (rowsOf (now (rows .entry)) LINK) policy)) ⌝ }
 {
+    let link = link_of(rows, policy);
     let line = row(rows, POLICY, policy);
-    let words = [item(line, 0), item(line, 1), item(line, 2), item(line, 3)];
+    let words = [
+        item(line, 0),
+        item(line, 1),
+        item(line, 2),
+        item(line, 3),
+        link.principal,
+        link.resource,
+    ];
     let top = read(rows, TOP);
     store(rows, top as usize, &words);
     add_row(rows, RUN, top + RUN_WORDS);

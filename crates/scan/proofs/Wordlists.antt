@@ -102,7 +102,7 @@ placed-below w (x ∷ l) n e = go (same w x) (placed w l) (placed-below w l) e
 -- ---- the keys
 
 abbrev pub keyBytes : List ℕ
-keyBytes = ascii "sheet,text,kind,type,shape,value,entity,principal,action,resource,context,day,node,policy,term"
+keyBytes = ascii "sheet,text,kind,type,shape,value,entity,principal,action,resource,context,day,node,policy,link,term"
 
 keys-are : map ascii keys ≡ split 44 keyBytes
 unfolding keys
@@ -203,10 +203,10 @@ value-form w r t h e = form-is w valueNames valueBytes r firstValue (after first
 nodeNames : List String
 nodeNames =
     "lit" ∷ "err" ∷ "var" ∷ "and" ∷ "or" ∷ "eq" ∷ "lt" ∷ "le" ∷ "add" ∷ "sub" ∷ "mul" ∷ "in" ∷ "gettag" ∷ "hastag" ∷ "contains" ∷ "all" ∷ "any"
-    ∷ "if" ∷ "is" ∷ "like" ∷ "get" ∷ "has" ∷ "haspath" ∷ "not" ∷ "neg" ∷ "empty" ∷ "set" ∷ "record" ∷ []
+    ∷ "if" ∷ "is" ∷ "like" ∷ "get" ∷ "has" ∷ "haspath" ∷ "not" ∷ "neg" ∷ "empty" ∷ "set" ∷ "record" ∷ "slot" ∷ []
 
 abbrev pub nodeBytes : List ℕ
-nodeBytes = ascii "lit,err,var,and,or,eq,lt,le,add,sub,mul,in,gettag,hastag,contains,all,any,if,is,like,get,has,haspath,not,neg,empty,set,record"
+nodeBytes = ascii "lit,err,var,and,or,eq,lt,le,add,sub,mul,in,gettag,hastag,contains,all,any,if,is,like,get,has,haspath,not,neg,empty,set,record,slot"
 
 node-tag : (w : List ℕ) → tagOf NODE w ≡ sucs firstNode (run w nodeNames (after firstNode nodeNames))
 unfolding tagOf forms nodeNames

@@ -26,6 +26,7 @@ use forms::IS;
 use forms::KIND;
 use forms::LE;
 use forms::LIKE;
+use forms::LINK;
 use forms::LIT;
 use forms::LONG_TYPE;
 use forms::LONG_VALUE;
@@ -47,6 +48,7 @@ use forms::SET_TYPE;
 use forms::SET_VALUE;
 use forms::SHAPE;
 use forms::SHEET;
+use forms::SLOT;
 use forms::STRING_TYPE;
 use forms::SUB;
 use forms::TERM;
@@ -292,7 +294,7 @@ fn listed_key(name: &[u8]) -> Number
 {
     place(
         name,
-        b"sheet,text,kind,type,shape,value,entity,principal,action,resource,context,day,node,policy,term",
+        b"sheet,text,kind,type,shape,value,entity,principal,action,resource,context,day,node,policy,link,term",
     )
 }
 
@@ -326,6 +328,7 @@ pub fn key_of(name: &[u8]) -> Number
         0x0179_6164 => Number::Value(DAY as u64), // day
         0x01_6564_6f6e => Number::Value(NODE as u64), // node
         0x01_7963_696c_6f70 => Number::Value(POLICY as u64), // policy
+        0x01_6b6e_696c => Number::Value(LINK as u64), // link
         0x01_6d72_6574 => Number::Value(TERM as u64), // term
         _ => long_key(name),
     }
@@ -407,7 +410,7 @@ fn listed_form(name: &[u8]) -> u64
         FIRST_NODE,
         place(
             name,
-            b"lit,err,var,and,or,eq,lt,le,add,sub,mul,in,gettag,hastag,contains,all,any,if,is,like,get,has,haspath,not,neg,empty,set,record",
+            b"lit,err,var,and,or,eq,lt,le,add,sub,mul,in,gettag,hastag,contains,all,any,if,is,like,get,has,haspath,not,neg,empty,set,record,slot",
         ),
     )
 }
@@ -465,6 +468,7 @@ fn long_form(name: &[u8]) -> u64
         0x0168_7461_7073_6168 => HASPATH as u64, // haspath
         0x0179_7470_6d65 => EMPTY as u64, // empty
         0x01_6472_6f63_6572 => RECORD_OF as u64, // record
+        0x01_746f_6c73 => SLOT as u64, // slot
         _ => listed_form(name),
     }
 }

@@ -10,7 +10,7 @@ use lib.ListN.{length, getD, drop, getElem?, length-append}
 use lib.Seq.{drop-at}
 use Rattle.cedar.specs.Value.{Value, vbool, Values, Fields}
 use Rattle.cedar.specs.Types.{Ty}
-use Rattle.cedar.specs.Residual.{Node, Nodes, NodeArgs, Expr, Exprs, Args, lit, and, or, ite, un, bin, rel, get, has, haspath, set, rec, econs, gcons}
+use Rattle.cedar.specs.Residual.{Node, Nodes, NodeArgs, Expr, Exprs, Args, lit, and, or, ite, un, bin, rel, get, has, haspath, set, rec, econs, gcons, err}
 use Rattle.cedar.specs.Response.{decision}
 use Rattle.cedar.specs.Rows.{Entries, Row}
 use Rattle.cedar.specs.Table.{At, Elems, elem0, elem1, Named, name0, name1, Denotes, dbool, dlong, dtext, dent, dset, drec, Table, start, grow}
@@ -19,7 +19,7 @@ use Rattle.cedar.specs.Runs.{Policy, NPolicy, NVerdict, verdicts}
 use Rattle.cedar.proofs.MakingLaws.{content-of}
 use Rattle.cedar.proofs.TableLaws.{at-last, at-append, same-length}
 use Rattle.cedar.proofs.SettledByNumber.{Residuals, RunReads, run-reads}
-use Rattle.sheet.specs.Forms.{partial, complete, VALUE, POLICY}
+use Rattle.sheet.specs.Forms.{partial, complete, VALUE}
 use Rattle.sheet.specs.State.{State, count, linesOf, sum}
 use Rattle.sheet.specs.Sheet.{firsts, read}
 use Rattle.sheet.specs.Content.{types, rowsIn, valueRows, contents, valueOver, valuesFrom, schema, pEnv, nEnv, exprs, nPolicies, policies, treesFrom, onTerm}
@@ -166,7 +166,7 @@ module _ {L : Type 0} (ts : List Ty) (value : ℕ → L) where
   posts [] = []
   posts (l ∷ ls) = post (valued value (l .root)) ++ posts ls
 
-  residuals-built : (ls : List NVerdict) (ns : List (Node L)) (n : ℕ) → length ns ≡ n → ResidualsSmall ls → LinesIn ts ls → treesFrom ts value ns (residualRows ts n ls) ≡ ns ++ posts ls
+  residuals-built : (ls : List NVerdict) (ns : List (Node L)) (n : ℕ) → length ns ≡ n → ResidualsSmall ls → LinesIn ts ls → treesFrom ts value (λ A x. err A) ns (residualRows ts n ls) ≡ ns ++ posts ls
   residuals-built [] ns n len h q = sym (append-nil ns)
   residuals-built (l ∷ ls) ns n len h q = then-rows ts value ns (post (valued value (l .root))) (posts ls) (treeRows ts n (l .root)) (residualRows ts (n + size (l .root)) ls)
       (tree-back ts value (λ v. v ≤ 9999) (l .root) ns n len (h .0) (q .0))
@@ -208,7 +208,7 @@ module _ (sheet : List ℕ) (acc : Accepted partial sheet) where
 
   reads : RunReads (schema s) (nEnv partial s) (pEnv s) (contents s) (run partial s) (policies s)
   unfolding run
-  reads = run-reads (schema s) (nEnv partial s) (pEnv s) (nPolicies s) (values-table partial s h) (env-read s f) (read-own partial s h)
+  reads = run-reads (schema s) (nEnv partial s) (pEnv s) (nPolicies s) (values-table partial s h) (env-read s f) (read-own partial s h (f .ends))
 
   leaves : RunLeaves (nPolicies s) (valueRows s) (run partial s)
   unfolding run
@@ -225,20 +225,20 @@ module _ (sheet : List ℕ) (acc : Accepted partial sheet) where
   pub rows-are : run partial s .rows ≡ valueRows s ++ drop (count s VALUE) (run partial s .rows)
   rows-are = leaves .rows .grew ∙ ap (λ z. valueRows s ++ z) (sym made-is)
 
-  made-values : GoodValues (drop (count s VALUE) (run partial s .rows))
+  pub made-values : GoodValues (drop (count s VALUE) (run partial s .rows))
   made-values = subst GoodValues (sym made-is) (made-goods few-values (valueRows s) (leaves .rows .more) (λ n r a. content-of (reads .table) (subst (λ z. At z n r) (sym (leaves .rows .grew)) a)) (leaves .rows .good))
 
   lines-small : {ps : List NPolicy} {ls : List NVerdict} {qs : List Policy} → LeftLines ps ls → PoliciesSmall ps → Residuals (schema s) (nEnv partial s) (pEnv s) (reads .contents) ls qs → ResidualsSmall ls
   lines-small no-lines k R.none = tt
   lines-small (one-line l ls) k (R.more r rs) = (reads-small few-values r (left-small l (k .0)), lines-small ls (k .1) rs)
 
-  residuals-small : ResidualsSmall (run partial s .lines)
+  pub residuals-small : ResidualsSmall (run partial s .lines)
   residuals-small = lines-small (leaves .lines) (policies-small partial s h) (reads .residuals)
 
   sizes-small : residualSizes (run partial s .lines) ≤ 10000
   sizes-small = let a = policy-sizes partial sheet e in let b = residual-sizes partial sheet e in omega (arith, a, b)
 
-  few-types : length (types s) ≤ 9999
+  pub few-types : length (types s) ≤ 9999
   few-types = let a = types-length partial s h in let b = most-lines partial s h .types in omega (arith, a, b)
 
   counts-small : AllSmall (countsOf (verdicts (run partial s .lines)))
@@ -259,13 +259,13 @@ module _ (sheet : List ℕ) (acc : Accepted partial sheet) where
   as-many = firsts-length (onTerm s) ∙ sym (lines-length (reads .residuals) ∙ content-length (exprs s) (onTerm s))
 
   -- under each root stands its residual, its literals read by whatever reads value numbers
-  pub roots-stand : {L : Type 0} (value : ℕ → L) → Standing (treesFrom (types s) value [] (residualRows (types s) 0 (run partial s .lines))) (λ l. valued value (l .root)) (partialPolicies 0 (ids s) (run partial s .lines)) (run partial s .lines)
+  pub roots-stand : {L : Type 0} (value : ℕ → L) → Standing (treesFrom (types s) value (λ A x. err A) [] (residualRows (types s) 0 (run partial s .lines))) (λ l. valued value (l .root)) (partialPolicies 0 (ids s) (run partial s .lines)) (run partial s .lines)
   roots-stand value = subst (λ z. Standing z (λ l. valued value (l .root)) (partialPolicies 0 (ids s) (run partial s .lines)) (run partial s .lines))
       (sym (residuals-built (types s) value (run partial s .lines) [] 0 refl residuals-small (residual-types s f)))
       (standing (types s) value (run partial s .lines) (ids s) [] 0 refl as-many)
 
   -- UNDER EACH PRINTED ROOT STANDS THE RUN'S RESIDUAL
-  pub residuals-back : Standing (treesFrom (types s) (λ n. n) [] (partialSaid s .nodes)) (λ l. l .root) (partialSaid s .policies) (run partial s .lines)
+  pub residuals-back : Standing (treesFrom (types s) (λ n. n) (λ A x. err A) [] (partialSaid s .nodes)) (λ l. l .root) (partialSaid s .policies) (run partial s .lines)
   residuals-back = stand-as (λ l. valued-same (l .root)) (roots-stand (λ n. n))
 
   -- the contents of the sheet's values and of the made ones

@@ -5,15 +5,15 @@ use mathlib.Core.List.{List, [], _∷_, _++_}
 use Prim.Native.Nat.{ℕ, zero, suc, _≤_}
 use native.Mathlib.Omega.{arith}
 use borrow.Author.Tests.{eq-eqb, ne-eqb, ltb-false}
-use lib.Dec.{leb, ltb}
-use lib.ListN.{length, getD, take, drop, replicate, length-append, length-drop, length-replicate}
+use lib.Dec.{ltb}
+use lib.ListN.{length, take, drop, replicate, length-append, length-drop, length-replicate}
 use lib.Seq.{take-append-seam, drop-append-seam}
 use Rattle.cedar.proofs.Tools.{neither}
 use Rattle.sheet.specs.Bytes.{same, split}
-use Rattle.sheet.specs.Forms.{Mode, rowOf, keyOf, refs, NODE, noKey}
-use Rattle.sheet.specs.State.{State, empty, count}
+use Rattle.sheet.specs.Forms.{Mode, rowOf, keyOf, refs, NODE, noKey, POLICY}
+use Rattle.sheet.specs.State.{State, empty, count, linesOf}
 use Rattle.sheet.specs.Typing.{typed}
-use Rattle.sheet.specs.Sheet.{greatest, inOrder, found, depth, usedTwice, fault, more, reads, enough, firstUnused, ending, goOn, reading, read}
+use Rattle.sheet.specs.Sheet.{inOrder, found, depth, usedTwice, fault, more, reads, enough, firstUnused, ending, goOn, reading, read, firstUnlinked, tooMany}
 use Rattle.sheet.specs.Answer.{answer}
 use Rattle.sheet.specs.Call.{Returned, returns, room, afterReading, readAs, returned, over, written, zeros, worked}
 use Rattle.sheet.specs.Demand3.{Answered, bytesOf}
@@ -81,7 +81,7 @@ Other n = n ≡ 1 → ⊥
 fault-other : (s : State) (r : List ℕ) → Other (fault s r)
 unfolding fault
 fault-other s [] = λ z. omega (arith, z)
-fault-other s (t ∷ l) = go (not (inOrder s (keyOf (t ∷ l)))) (leb (getD (greatest s) (keyOf (t ∷ l)) 0) (count s (keyOf (t ∷ l)))) (not (found s (keyOf (t ∷ l)) (t ∷ l)))
+fault-other s (t ∷ l) = go (not (inOrder s (keyOf (t ∷ l)))) (tooMany s (keyOf (t ∷ l)) (t ∷ l)) (not (found s (keyOf (t ∷ l)) (t ∷ l)))
     (ltb 64 (depth s (keyOf (t ∷ l)) (t ∷ l))) (not (typed s (t ∷ l) (keyOf (t ∷ l)))) (usedTwice (s .used) (refs NODE (t ∷ l)))
   where
     go : (a b c d e f : Bool) → Other (cond a 3 (cond b 4 (cond c 5 (cond d 6 (cond e 7 (cond f 8 0))))))
@@ -94,12 +94,13 @@ fault-other s (t ∷ l) = go (not (inOrder s (keyOf (t ∷ l)))) (leb (getD (gre
     go false false false false false false = λ z. omega (arith, z)
 
 ending-other : (s : State) (k : ℕ) → Other (ending s k .number)
-ending-other s k = go (enough s noKey) (ltb (firstUnused (s .used)) (count s NODE)) _
+ending-other s k = go (enough s noKey) (ltb (firstUnlinked s 0 (linesOf s POLICY)) (count s POLICY)) (ltb (firstUnused (s .used)) (count s NODE)) _ _
   where
-    go : (a b : Bool) (n : ℕ) → Other (cond a (cond b (reads s 8 n) (reads s 0 0)) (reads s 3 k) .number)
-    go true true n = λ z. omega (arith, z)
-    go true false n = λ z. omega (arith, z)
-    go false b n = λ z. omega (arith, z)
+    go : (a b c : Bool) (n i : ℕ) → Other (cond a (cond b (reads s 5 i) (cond c (reads s 8 n) (reads s 0 0))) (reads s 3 k) .number)
+    go true true c n i = λ z. omega (arith, z)
+    go true false true n i = λ z. omega (arith, z)
+    go true false false n i = λ z. omega (arith, z)
+    go false b c n i = λ z. omega (arith, z)
 
 reading-other : (m : Mode) (ls : List (List ℕ)) (s : State) (k : ℕ) → Other (reading m ls s k .number)
 reading-other m [] s k = ending-other s k

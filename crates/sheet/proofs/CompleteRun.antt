@@ -98,7 +98,7 @@ module _ (s : State) (f : Facts complete s) where
 
   pub one-interpreter : verdicts (run complete s .lines) ≡ results s
   unfolding run results
-  one-interpreter = complete-classes (schema s) (env s) (env-fits s f) (nEnv complete s) (values-table complete s (f .history)) whole-read (read-own complete s (f .history)) (policies-typed complete s (f .history))
+  one-interpreter = complete-classes (schema s) (env s) (env-fits s f) (nEnv complete s) (values-table complete s (f .history)) whole-read (read-own complete s (f .history) (f .ends)) (policies-typed complete s (f .history) (f .ends))
 
 -- for every accepted complete sheet
 pub complete-by-number : (sheet : List ℕ) → Accepted complete sheet → verdicts (run complete (read complete sheet .state) .lines) ≡ results (read complete sheet .state)

@@ -38,7 +38,7 @@ as-many : (S : Schema) (M : NEnv) (ps : List NPolicy) (R : List Row) → length 
 as-many S M [] R = refl
 as-many S M (p ∷ ps) R = ap suc (as-many S M ps (nInterpret S M (p .tree) R .rows))
 
-numbered-length : (ns : List (Node ℕ)) (rs : List (List ℕ)) → length (numberedPolicies ns rs) ≡ length rs
+numbered-length : (ns : ℕ → ℕ → List (Node ℕ)) (rs : List (List ℕ)) → length (numberedPolicies ns rs) ≡ length rs
 numbered-length ns [] = refl
 numbered-length ns (r ∷ rs) = ap suc (numbered-length ns rs)
 
@@ -46,7 +46,7 @@ complete-length : (S : Schema) (C : Env) (ps : List Policy) → length (complete
 complete-length S C [] = refl
 complete-length S C (p ∷ ps) = ap suc (complete-length S C ps)
 
-pub content-length : (ns : List (Node Value)) (rs : List (List ℕ)) → length (contentPolicies ns rs) ≡ length rs
+pub content-length : (ns : ℕ → ℕ → List (Node Value)) (rs : List (List ℕ)) → length (contentPolicies ns rs) ≡ length rs
 content-length ns [] = refl
 content-length ns (r ∷ rs) = ap suc (content-length ns rs)
 

@@ -1,13 +1,14 @@
 -- DEMAND 3 ON THE BYTES OF ANSWERS: for every partial sheet accepted and every two complete sheets accepted that agree with it.
 use mathlib.Core.Path.{_≡_, refl, _∙_, ap, subst}
-use mathlib.Core.Bool.{true, false}
+use mathlib.Core.Bool.{true, false, cond}
+use mathlib.Core.Option.{none}
 use mathlib.Core.List.{List, [], _∷_}
 use Prim.Native.Nat.{ℕ, _+_}
 use native.Mathlib.Omega.{arith}
-use lib.ListN.{length, getD}
+use lib.ListN.{length, getD, getElem?}
 use Rattle.cedar.proofs.Tools.{no-true}
 use Rattle.cedar.specs.Value.{Value, vbool}
-use Rattle.cedar.specs.Residual.{Node, Expr}
+use Rattle.cedar.specs.Residual.{Node, Expr, err}
 use Rattle.cedar.specs.Evaluate.{eval}
 use Rattle.cedar.specs.Response.{Verdict, Decision, allow, deny, undecided, decision, Choice, Choices, also}
 use Rattle.cedar.specs.Reads.{Reads}
@@ -17,14 +18,14 @@ use Rattle.sheet.specs.Forms.{Mode, partial, complete}
 use Rattle.sheet.specs.State.{State}
 use Rattle.sheet.specs.Sheet.{firsts, read}
 use Rattle.sheet.specs.Content.{types, schema, env, nEnv, pEnv, policies, treesFrom}
-use Rattle.sheet.specs.Answer.{size, ids, residualRows, run, results}
+use Rattle.sheet.specs.Answer.{size, root, ids, residualRows, run, results}
 use Rattle.sheet.specs.Call.{Accepted}
 use Rattle.sheet.specs.Agreement.{agrees}
 use Rattle.sheet.specs.ReadAnswer.{Said, PolicyLine, readAnswer, treeUnder}
-use Rattle.sheet.specs.Demand3.{isSettled, valueIn, LinesConfirmed, none, more, Confirmed, LinesAlike, Alike, Answered, bytesOf, Demand3}
+use Rattle.sheet.specs.Demand3.{isSettled, valueIn, LinesConfirmed, Confirmed, LinesAlike, Alike, Answered, bytesOf, Demand3}
 use Rattle.sheet.proofs.TwoSheets.{common}
 use Rattle.sheet.proofs.Demand3Bytes.{Settles, demand-3, choice-closed, decision-closed}
-use Rattle.sheet.proofs.TreesBack.{valued}
+use Rattle.sheet.proofs.TreesBack.{valued, no-slot-left}
 use Rattle.sheet.proofs.AnswerBack.{partialPolicies, completePolicies}
 use Rattle.sheet.proofs.AnswerRead.{values-of, reads-valued, Standing, partialSaid, completeSaid, partial-answer-back, as-many, roots-stand, complete-answer-back}
 use Rattle.sheet.proofs.Buffers.{bytes-are}
@@ -50,7 +51,7 @@ module _ (p c : List ℕ) (ap′ : Accepted partial p) (ac : Accepted complete c
   as-content {a} r = ap (λ (l : List Value). valued (λ n. getD l n (vbool false)) a) (values-of p ap′ (s .table)) ∙ reads-valued (s .values) r
 
   abbrev trees : List Expr
-  trees = treesFrom (types P) (valueIn P (partialSaid P)) [] (residualRows (types P) 0 (run partial P .lines))
+  trees = treesFrom (types P) (valueIn P (partialSaid P)) (λ A x. err A) [] (residualRows (types P) 0 (run partial P .lines))
 
   lines-from : (n : ℕ) (is : List ℕ) {ls : List NVerdict} {qs : List Policy} → Residuals (schema C) (nEnv partial P) (pEnv P) (s .values) ls qs → Yielding (schema C) (nEnv partial P) (pEnv P) (s .values) (env C) ls qs
       → Choices (verdicts ls) (completeAnswer (schema C) (env C) qs) → Standing trees (λ l. valued (valueIn P (partialSaid P)) (l .root)) (partialPolicies n is ls) ls → length is ≡ length ls
@@ -68,7 +69,7 @@ module _ (p c : List ℕ) (ap′ : Accepted partial p) (ac : Accepted complete c
         not-open = choice-closed k;
         settled = choice-settled k;
         residual = valued (valueIn P (partialSaid P)) (l .root);
-        under-root = u;
+        under-root = ap (λ b. cond b none (getElem? trees (root n (l .root)))) (no-slot-left (types P) (run partial P .lines) 0) ∙ u;
         yields = ap (eval (schema C) (env C)) (as-content r) ∙ y _ r;
       }) (lines-from (n + size (l .root)) is rs ys hs st (omega (arith, e)))
 

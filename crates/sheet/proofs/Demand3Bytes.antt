@@ -17,11 +17,11 @@ use Rattle.cedar.specs.Rows.{rbool, rlong, rtext, rent, rset, rrec}
 use Rattle.cedar.specs.Table.{At, Table}
 use Rattle.cedar.specs.Numbered.{Give, made, old}
 use Rattle.cedar.proofs.SettledByNumber.{Yielding, Residuals, run-reads, n-lines, n-allow, n-deny, n-residuals}
-use Rattle.sheet.specs.Forms.{Mode, partial, complete, line, forms, formOf, slotAt, tag, items, at, mark, keyOf, TEXT, VALUE, NODE, POLICY, PRINCIPAL, ACTION, RESOURCE, CONTEXT}
+use Rattle.sheet.specs.Forms.{Mode, partial, complete, line, forms, formOf, slotAt, tag, items, at, mark, keyOf, TEXT, VALUE, NODE, PRINCIPAL, ACTION, RESOURCE, CONTEXT}
 use Rattle.sheet.specs.State.{State, linesOf, count, lineAt, entriesOf, valueRow}
 use Rattle.sheet.specs.Bytes.{longAt}
 use Rattle.sheet.specs.Sheet.{allThere, thereIs, read}
-use Rattle.sheet.specs.Content.{types, rowsIn, valueRows, contents, schema, patternOf, childrenOver, argsOver, treeFor, treeOver, treesFrom, trees, numberedPolicies, nPolicies, policies, known, nEnv, pEnv, env, onTerm}
+use Rattle.sheet.specs.Content.{types, rowsIn, valueRows, contents, schema, patternOf, childrenOver, argsOver, treeFor, treeOver, treesFrom, trees, numberedPolicies, nPolicies, policies, known, nEnv, pEnv, env, onTerm, linked}
 use Rattle.sheet.specs.Answer.{run, results}
 use Rattle.sheet.specs.Call.{returns, afterReading, readAs, returned, room, Accepted}
 use Rattle.sheet.specs.Agreement.{agrees}
@@ -79,7 +79,7 @@ module _ (m : Mode) (s : State) (h : History m s) where
   abbrev AllOk : List (Node ℕ) → Type 0
   AllOk ns = (n : ℕ) → Texts texts (getD ns n (err tbool))
 
-  module _ (ts : List Ty) where
+  module _ (ts : List Ty) (p q : ℕ) where
     module _ (ns : List (Node ℕ)) (k : AllOk ns) where
       all-texts : (l : List ℕ) → AllTexts texts (childrenOver ts (λ n. n) ns l)
       all-texts [] = xnil
@@ -90,40 +90,41 @@ module _ (m : Mode) (s : State) (h : History m s) where
       arg-texts (t ∷ []) = xstop
       arg-texts (t ∷ n ∷ l) = xarg (k n) (arg-texts l)
 
-      tree-texts : (r : List ℕ) → (tag r - 21 ≡ 19 → Pieces texts (patternOf (drop 2 (items r)))) → (d : ℕ) → tag r - 21 ≡ d → Texts texts (getD (treeFor ts (λ n. n) ns r (getD ts (at r 0) tbool) (λ j. getD ns (at r j) (err tbool))) d (err tbool))
-      tree-texts r f zero q = xlit
-      tree-texts r f (suc zero) q = xerr
-      tree-texts r f (suc (suc zero)) q = xvar
-      tree-texts r f (suc (suc (suc zero))) q = xand (k (at r 1)) (k (at r 2))
-      tree-texts r f (suc (suc (suc (suc zero)))) q = xor (k (at r 1)) (k (at r 2))
-      tree-texts r f (suc (suc (suc (suc (suc zero))))) q = xbin (k (at r 1)) (k (at r 2))
-      tree-texts r f (suc (suc (suc (suc (suc (suc zero)))))) q = xbin (k (at r 1)) (k (at r 2))
-      tree-texts r f (suc (suc (suc (suc (suc (suc (suc zero))))))) q = xbin (k (at r 1)) (k (at r 2))
-      tree-texts r f (suc (suc (suc (suc (suc (suc (suc (suc zero)))))))) q = xbin (k (at r 1)) (k (at r 2))
-      tree-texts r f (suc (suc (suc (suc (suc (suc (suc (suc (suc zero))))))))) q = xbin (k (at r 1)) (k (at r 2))
-      tree-texts r f (suc (suc (suc (suc (suc (suc (suc (suc (suc (suc zero)))))))))) q = xbin (k (at r 1)) (k (at r 2))
-      tree-texts r f (suc (suc (suc (suc (suc (suc (suc (suc (suc (suc (suc zero))))))))))) q = xrel (k (at r 1)) (k (at r 2))
-      tree-texts r f (suc (suc (suc (suc (suc (suc (suc (suc (suc (suc (suc (suc zero)))))))))))) q = xrel (k (at r 1)) (k (at r 2))
-      tree-texts r f (suc (suc (suc (suc (suc (suc (suc (suc (suc (suc (suc (suc (suc zero))))))))))))) q = xrel (k (at r 1)) (k (at r 2))
-      tree-texts r f (suc (suc (suc (suc (suc (suc (suc (suc (suc (suc (suc (suc (suc (suc zero)))))))))))))) q = xbin (k (at r 1)) (k (at r 2))
-      tree-texts r f (suc (suc (suc (suc (suc (suc (suc (suc (suc (suc (suc (suc (suc (suc (suc zero))))))))))))))) q = xbin (k (at r 1)) (k (at r 2))
-      tree-texts r f (suc (suc (suc (suc (suc (suc (suc (suc (suc (suc (suc (suc (suc (suc (suc (suc zero)))))))))))))))) q = xbin (k (at r 1)) (k (at r 2))
-      tree-texts r f (suc (suc (suc (suc (suc (suc (suc (suc (suc (suc (suc (suc (suc (suc (suc (suc (suc zero))))))))))))))))) q = xite (k (at r 1)) (k (at r 2)) (k (at r 3))
-      tree-texts r f (suc (suc (suc (suc (suc (suc (suc (suc (suc (suc (suc (suc (suc (suc (suc (suc (suc (suc zero)))))))))))))))))) q = xun tt (k (at r 1))
-      tree-texts r f (suc (suc (suc (suc (suc (suc (suc (suc (suc (suc (suc (suc (suc (suc (suc (suc (suc (suc (suc zero))))))))))))))))))) q = xun (f q) (k (at r 1))
-      tree-texts r f (suc (suc (suc (suc (suc (suc (suc (suc (suc (suc (suc (suc (suc (suc (suc (suc (suc (suc (suc (suc zero)))))))))))))))))))) q = xget (k (at r 1))
-      tree-texts r f (suc (suc (suc (suc (suc (suc (suc (suc (suc (suc (suc (suc (suc (suc (suc (suc (suc (suc (suc (suc (suc zero))))))))))))))))))))) q = xhas (k (at r 1))
-      tree-texts r f (suc (suc (suc (suc (suc (suc (suc (suc (suc (suc (suc (suc (suc (suc (suc (suc (suc (suc (suc (suc (suc (suc zero)))))))))))))))))))))) q = xpath (k (at r 1))
-      tree-texts r f (suc (suc (suc (suc (suc (suc (suc (suc (suc (suc (suc (suc (suc (suc (suc (suc (suc (suc (suc (suc (suc (suc (suc zero))))))))))))))))))))))) q = xun tt (k (at r 1))
-      tree-texts r f (suc (suc (suc (suc (suc (suc (suc (suc (suc (suc (suc (suc (suc (suc (suc (suc (suc (suc (suc (suc (suc (suc (suc (suc zero)))))))))))))))))))))))) q = xun tt (k (at r 1))
-      tree-texts r f (suc (suc (suc (suc (suc (suc (suc (suc (suc (suc (suc (suc (suc (suc (suc (suc (suc (suc (suc (suc (suc (suc (suc (suc (suc zero))))))))))))))))))))))))) q = xun tt (k (at r 1))
-      tree-texts r f (suc (suc (suc (suc (suc (suc (suc (suc (suc (suc (suc (suc (suc (suc (suc (suc (suc (suc (suc (suc (suc (suc (suc (suc (suc (suc zero)))))))))))))))))))))))))) q = xset (all-texts (drop 1 (items r)))
-      tree-texts r f (suc (suc (suc (suc (suc (suc (suc (suc (suc (suc (suc (suc (suc (suc (suc (suc (suc (suc (suc (suc (suc (suc (suc (suc (suc (suc (suc zero))))))))))))))))))))))))))) q = xrec (arg-texts (drop 1 (items r)))
-      tree-texts r f (suc (suc (suc (suc (suc (suc (suc (suc (suc (suc (suc (suc (suc (suc (suc (suc (suc (suc (suc (suc (suc (suc (suc (suc (suc (suc (suc (suc d)))))))))))))))))))))))))))) q = xerr
+      tree-texts : (r : List ℕ) → (tag r - 21 ≡ 19 → Pieces texts (patternOf (drop 2 (items r)))) → (d : ℕ) → tag r - 21 ≡ d → Texts texts (getD (treeFor ts (λ n. n) (linked (λ n. n) p q) ns r (getD ts (at r 0) tbool) (λ j. getD ns (at r j) (err tbool))) d (err tbool))
+      tree-texts r f zero u = xlit
+      tree-texts r f (suc zero) u = xerr
+      tree-texts r f (suc (suc zero)) u = xvar
+      tree-texts r f (suc (suc (suc zero))) u = xand (k (at r 1)) (k (at r 2))
+      tree-texts r f (suc (suc (suc (suc zero)))) u = xor (k (at r 1)) (k (at r 2))
+      tree-texts r f (suc (suc (suc (suc (suc zero))))) u = xbin (k (at r 1)) (k (at r 2))
+      tree-texts r f (suc (suc (suc (suc (suc (suc zero)))))) u = xbin (k (at r 1)) (k (at r 2))
+      tree-texts r f (suc (suc (suc (suc (suc (suc (suc zero))))))) u = xbin (k (at r 1)) (k (at r 2))
+      tree-texts r f (suc (suc (suc (suc (suc (suc (suc (suc zero)))))))) u = xbin (k (at r 1)) (k (at r 2))
+      tree-texts r f (suc (suc (suc (suc (suc (suc (suc (suc (suc zero))))))))) u = xbin (k (at r 1)) (k (at r 2))
+      tree-texts r f (suc (suc (suc (suc (suc (suc (suc (suc (suc (suc zero)))))))))) u = xbin (k (at r 1)) (k (at r 2))
+      tree-texts r f (suc (suc (suc (suc (suc (suc (suc (suc (suc (suc (suc zero))))))))))) u = xrel (k (at r 1)) (k (at r 2))
+      tree-texts r f (suc (suc (suc (suc (suc (suc (suc (suc (suc (suc (suc (suc zero)))))))))))) u = xrel (k (at r 1)) (k (at r 2))
+      tree-texts r f (suc (suc (suc (suc (suc (suc (suc (suc (suc (suc (suc (suc (suc zero))))))))))))) u = xrel (k (at r 1)) (k (at r 2))
+      tree-texts r f (suc (suc (suc (suc (suc (suc (suc (suc (suc (suc (suc (suc (suc (suc zero)))))))))))))) u = xbin (k (at r 1)) (k (at r 2))
+      tree-texts r f (suc (suc (suc (suc (suc (suc (suc (suc (suc (suc (suc (suc (suc (suc (suc zero))))))))))))))) u = xbin (k (at r 1)) (k (at r 2))
+      tree-texts r f (suc (suc (suc (suc (suc (suc (suc (suc (suc (suc (suc (suc (suc (suc (suc (suc zero)))))))))))))))) u = xbin (k (at r 1)) (k (at r 2))
+      tree-texts r f (suc (suc (suc (suc (suc (suc (suc (suc (suc (suc (suc (suc (suc (suc (suc (suc (suc zero))))))))))))))))) u = xite (k (at r 1)) (k (at r 2)) (k (at r 3))
+      tree-texts r f (suc (suc (suc (suc (suc (suc (suc (suc (suc (suc (suc (suc (suc (suc (suc (suc (suc (suc zero)))))))))))))))))) u = xun tt (k (at r 1))
+      tree-texts r f (suc (suc (suc (suc (suc (suc (suc (suc (suc (suc (suc (suc (suc (suc (suc (suc (suc (suc (suc zero))))))))))))))))))) u = xun (f u) (k (at r 1))
+      tree-texts r f (suc (suc (suc (suc (suc (suc (suc (suc (suc (suc (suc (suc (suc (suc (suc (suc (suc (suc (suc (suc zero)))))))))))))))))))) u = xget (k (at r 1))
+      tree-texts r f (suc (suc (suc (suc (suc (suc (suc (suc (suc (suc (suc (suc (suc (suc (suc (suc (suc (suc (suc (suc (suc zero))))))))))))))))))))) u = xhas (k (at r 1))
+      tree-texts r f (suc (suc (suc (suc (suc (suc (suc (suc (suc (suc (suc (suc (suc (suc (suc (suc (suc (suc (suc (suc (suc (suc zero)))))))))))))))))))))) u = xpath (k (at r 1))
+      tree-texts r f (suc (suc (suc (suc (suc (suc (suc (suc (suc (suc (suc (suc (suc (suc (suc (suc (suc (suc (suc (suc (suc (suc (suc zero))))))))))))))))))))))) u = xun tt (k (at r 1))
+      tree-texts r f (suc (suc (suc (suc (suc (suc (suc (suc (suc (suc (suc (suc (suc (suc (suc (suc (suc (suc (suc (suc (suc (suc (suc (suc zero)))))))))))))))))))))))) u = xun tt (k (at r 1))
+      tree-texts r f (suc (suc (suc (suc (suc (suc (suc (suc (suc (suc (suc (suc (suc (suc (suc (suc (suc (suc (suc (suc (suc (suc (suc (suc (suc zero))))))))))))))))))))))))) u = xun tt (k (at r 1))
+      tree-texts r f (suc (suc (suc (suc (suc (suc (suc (suc (suc (suc (suc (suc (suc (suc (suc (suc (suc (suc (suc (suc (suc (suc (suc (suc (suc (suc zero)))))))))))))))))))))))))) u = xset (all-texts (drop 1 (items r)))
+      tree-texts r f (suc (suc (suc (suc (suc (suc (suc (suc (suc (suc (suc (suc (suc (suc (suc (suc (suc (suc (suc (suc (suc (suc (suc (suc (suc (suc (suc zero))))))))))))))))))))))))))) u = xrec (arg-texts (drop 1 (items r)))
+      tree-texts r f (suc (suc (suc (suc (suc (suc (suc (suc (suc (suc (suc (suc (suc (suc (suc (suc (suc (suc (suc (suc (suc (suc (suc (suc (suc (suc (suc (suc zero)))))))))))))))))))))))))))) u = xlit
+      tree-texts r f (suc (suc (suc (suc (suc (suc (suc (suc (suc (suc (suc (suc (suc (suc (suc (suc (suc (suc (suc (suc (suc (suc (suc (suc (suc (suc (suc (suc (suc d))))))))))))))))))))))))))))) u = xerr
 
-    texts-from : (rows : List (List ℕ)) → ((pre : List (List ℕ)) (r : List ℕ) (rest : List (List ℕ)) → rows ≡ pre ++ (r ∷ rest) → tag r - 21 ≡ 19 → Pieces texts (patternOf (drop 2 (items r)))) → (ns : List (Node ℕ)) → AllOk ns → AllOk (treesFrom ts (λ n. n) ns rows)
+    texts-from : (rows : List (List ℕ)) → ((pre : List (List ℕ)) (r : List ℕ) (rest : List (List ℕ)) → rows ≡ pre ++ (r ∷ rest) → tag r - 21 ≡ 19 → Pieces texts (patternOf (drop 2 (items r)))) → (ns : List (Node ℕ)) → AllOk ns → AllOk (treesFrom ts (λ n. n) (linked (λ n. n) p q) ns rows)
     texts-from [] f ns k = k
-    texts-from (r ∷ rows) f ns k = texts-from rows (λ pre x rest e. f (r ∷ pre) x rest (ap (λ z. r ∷ z) e)) (ns ++ (treeOver ts (λ n. n) ns r ∷ [])) (all-snoc (Texts texts) (err tbool) xerr ns (treeOver ts (λ n. n) ns r) k (tree-texts ns k r (f [] r rows refl) (tag r - 21) refl))
+    texts-from (r ∷ rows) f ns k = texts-from rows (λ pre x rest e. f (r ∷ pre) x rest (ap (λ z. r ∷ z) e)) (ns ++ (treeOver ts (λ n. n) (linked (λ n. n) p q) ns r ∷ [])) (all-snoc (Texts texts) (err tbool) xerr ns (treeOver ts (λ n. n) (linked (λ n. n) p q) ns r) k (tree-texts ns k r (f [] r rows refl) (tag r - 21) refl))
 
   pattern-ok : (pre : List (List ℕ)) (r : List ℕ) (rest : List (List ℕ)) → linesOf s NODE ≡ pre ++ (r ∷ rest) → tag r - 21 ≡ 19 → Pieces texts (patternOf (drop 2 (items r)))
   unfolding texts
@@ -200,7 +201,7 @@ module _ (p c : State) (fp : Facts partial p) (fc : Facts complete c) (k : Commo
   policy-texts : (rs : List (List ℕ)) → PolicyTexts (count p TEXT) (schema c) (schema p .bytes) bytes-agree (nEnv partial p) asked (numberedPolicies (trees p) rs)
   unfolding trees texts
   policy-texts [] = none-left
-  policy-texts (r ∷ rs) = one-more (texts-from partial p (fp .history) (types p) (linesOf p NODE) (pattern-ok partial p (fp .history)) [] (λ n. xerr) (at r 2)) (policy-texts rs)
+  policy-texts (r ∷ rs) = one-more (texts-from partial p (fp .history) (types p) (at r 3) (at r 4) (linesOf p NODE) (pattern-ok partial p (fp .history)) [] (λ n. xerr) (at r 2)) (policy-texts rs)
 
   -- the run with the complete sheet's texts is the same
   run-same : run partial p ≡ nRun (schema c) (nEnv partial p) (nPolicies p) (valueRows p)
@@ -214,7 +215,7 @@ module _ (p c : State) (fp : Facts partial p) (fc : Facts complete c) (k : Commo
   lines-choices : Choices (verdicts (run partial p .lines)) (results c)
   unfolding results
   lines-choices = subst (λ r. Choices (verdicts (r .lines)) (results c)) (sym run-same)
-      (n-lines (schema c) (nEnv partial p) (pEnv p) t (env-read p fp) (read-as p c fp fc k) (policies-typed complete c (fc .history)) (env c) (env-fits c fc) (env-agrees p c fp fc k))
+      (n-lines (schema c) (nEnv partial p) (pEnv p) t (env-read p fp) (read-as p c fp fc k) (policies-typed complete c (fc .history) (fc .ends)) (env c) (env-fits c fc) (env-agrees p c fp fc k))
 
   pub settles : Settles p c
   unfolding results
@@ -222,14 +223,14 @@ module _ (p c : State) (fp : Facts partial p) (fc : Facts complete c) (k : Commo
       let reads = run-reads (schema c) (nEnv partial p) (pEnv p) (nPolicies p) t (env-read p fp) (read-as p c fp fc k) in
       record {
         lines = lines-choices;
-        allowed = λ e. decision-closed lines-choices ∙ n-allow (schema c) (nEnv partial p) (pEnv p) t (env-read p fp) (read-as p c fp fc k) (policies-typed complete c (fc .history)) (env c) (env-fits c fc) (env-agrees p c fp fc k) (subst (λ r. decision (verdicts (r .lines)) ≡ allow) run-same e);
-        denied = λ e. decision-closed lines-choices ∙ n-deny (schema c) (nEnv partial p) (pEnv p) t (env-read p fp) (read-as p c fp fc k) (policies-typed complete c (fc .history)) (env c) (env-fits c fc) (env-agrees p c fp fc k) (subst (λ r. decision (verdicts (r .lines)) ≡ deny) run-same e);
+        allowed = λ e. decision-closed lines-choices ∙ n-allow (schema c) (nEnv partial p) (pEnv p) t (env-read p fp) (read-as p c fp fc k) (policies-typed complete c (fc .history) (fc .ends)) (env c) (env-fits c fc) (env-agrees p c fp fc k) (subst (λ r. decision (verdicts (r .lines)) ≡ allow) run-same e);
+        denied = λ e. decision-closed lines-choices ∙ n-deny (schema c) (nEnv partial p) (pEnv p) t (env-read p fp) (read-as p c fp fc k) (policies-typed complete c (fc .history) (fc .ends)) (env c) (env-fits c fc) (env-agrees p c fp fc k) (subst (λ r. decision (verdicts (r .lines)) ≡ deny) run-same e);
         values = reads .contents;
         table = subst (λ r. Table (r .rows) (reads .contents)) (sym run-same) (reads .table);
         begin = reads .keeps;
         readable = subst (λ r. Residuals (schema c) (nEnv partial p) (pEnv p) (reads .contents) (r .lines) (policies c)) (sym run-same) (reads .residuals);
         residuals = subst (λ r. Yielding (schema c) (nEnv partial p) (pEnv p) (reads .contents) (env c) (r .lines) (policies c)) (sym run-same)
-            (n-residuals (schema c) (nEnv partial p) (pEnv p) t (env-read p fp) (read-as p c fp fc k) (policies-typed complete c (fc .history)) (env c) (env-fits c fc) (env-agrees p c fp fc k));
+            (n-residuals (schema c) (nEnv partial p) (pEnv p) t (env-read p fp) (read-as p c fp fc k) (policies-typed complete c (fc .history) (fc .ends)) (env c) (env-fits c fc) (env-agrees p c fp fc k));
       }
 
 -- ---- from bytes
@@ -248,7 +249,7 @@ accepted-read m sheet a = go (ltb (a .work₁) room || ltb (a .work₂) room) (l
     go false false e = after (read m sheet .state) (read m sheet .number) (read m sheet .line) e
 
 pub facts : (m : Mode) (sheet : List ℕ) → Accepted m sheet → Facts m (read m sheet .state)
-facts m sheet a = let e = accepted-read m sheet a in let (h, f) = accepted-history m sheet e in record { history = h; full = f; keys = all-keys m sheet e }
+facts m sheet a = let e = accepted-read m sheet a in let (h, f) = accepted-history m sheet e in record { history = h; ends = f; keys = all-keys m sheet e }
 
 -- THE THEOREM, for one complete sheet, and for two
 pub demand-3 : (p c : List ℕ) → Accepted partial p → Accepted complete c → agrees (read partial p .state) (read complete c .state) ≡ true → Settles (read partial p .state) (read complete c .state)

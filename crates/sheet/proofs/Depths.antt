@@ -12,9 +12,9 @@ use lib.ListN.{length, getD, replicate, length-set, length-append}
 use lib.Seq.{getD-set-same, getD-set-other}
 use Rattle.cedar.proofs.TableLaws.{InN, now′, later′}
 use Rattle.sheet.specs.Bytes.{same, split}
-use Rattle.sheet.specs.Forms.{Mode, tag, items, keyOf, refs, rowOf, NODE, noKey}
+use Rattle.sheet.specs.Forms.{Mode, tag, items, keyOf, refs, rowOf, NODE, noKey, POLICY}
 use Rattle.sheet.specs.State.{State, empty, linesOf, count, depthsOf}
-use Rattle.sheet.specs.Sheet.{deepest, depth, fault, more, reads, ending, enough, firstUnused, goOn, reading, read}
+use Rattle.sheet.specs.Sheet.{deepest, depth, fault, more, reads, ending, enough, firstUnused, goOn, reading, read, firstUnlinked}
 use Rattle.sheet.proofs.Lines.{Passed, passed, History, history-more, no-lines, not-empty}
 use Rattle.sheet.proofs.PoliciesRead.{all-there}
 use Rattle.sheet.proofs.Uses.{AllBelow, refs-below, lines-other, lines-own, key-below}
@@ -27,12 +27,13 @@ pub data Reached (m : Mode) : State → Type 0 where
 
 module _ (m : Mode) where
   ends : (s : State) (k : ℕ) → Reached m s → Reached m (ending s k .state)
-  ends s k h = go (enough s noKey) (ltb (firstUnused (s .used)) (count s NODE)) _
+  ends s k h = go (enough s noKey) (ltb (firstUnlinked s 0 (linesOf s POLICY)) (count s POLICY)) (ltb (firstUnused (s .used)) (count s NODE)) _ _
     where
-      go : (a b : Bool) (n : ℕ) → Reached m (cond a (cond b (reads s 8 n) (reads s 0 0)) (reads s 3 k) .state)
-      go true true n = h
-      go true false n = h
-      go false b n = h
+      go : (a b c : Bool) (n i : ℕ) → Reached m (cond a (cond b (reads s 5 i) (cond c (reads s 8 n) (reads s 0 0))) (reads s 3 k) .state)
+      go true true c n i = h
+      go true false true n i = h
+      go true false false n i = h
+      go false b c n i = h
 
   reaches : (ls : List (List ℕ)) (s : State) (k : ℕ) → Reached m s → Reached m (reading m ls s k .state)
   reaches [] s k h = ends s k h

@@ -21,9 +21,9 @@ use Rattle.cedar.proofs.ReadsOps.{EnvRead, LineRead, GiveRead, give-unknown, gi
 use Rattle.sheet.specs.Forms.{Mode, partial, forms, formOf, slotAt, tag, at, mark, keyOf, rowOf, PRINCIPAL, ACTION, RESOURCE, CONTEXT, ENTITY, VALUE, noKey, noTag}
 use Rattle.sheet.specs.State.{State, linesOf, count, lineAt, counts, lengths, valueRow, valueAt}
 use Rattle.sheet.specs.Typing.{fits, attributesOf, tagsOf, unknownOr, allIn, tagsFit, ancestorFits, typed}
-use Rattle.sheet.specs.Sheet.{enough, reach, least, more, read}
+use Rattle.sheet.specs.Sheet.{reach, least, more, read}
 use Rattle.sheet.specs.Content.{types, contents, valueOver, known, entityGiven, entityKnown, given, requestKnown, partsGiven, partsIn, partsFound, lineGiven, entityLine, lookUp, nEnv, pEnv, contentIn, fieldsIn, membersIn}
-use Rattle.sheet.proofs.Lines.{and-both, Was, History, holds-read}
+use Rattle.sheet.proofs.Lines.{and-both, Was, History, holds-read, Ended}
 use Rattle.sheet.proofs.Parsed.{allBelow, between, tags-between}
 use Rattle.sheet.proofs.ValueRows.{at-getD}
 use Rattle.sheet.proofs.RowTests.{on-ent, on-set, on-rec}
@@ -70,12 +70,12 @@ first-of (r ∷ rest) h f = f rest refl
 -- what is known of the lines of a sheet that was read
 pub record Facts (m : Mode) (s : State) : Type 0 where
   pub history : History m s
-  pub full : enough s noKey ≡ true
+  pub ends : Ended s
   pub keys : length (s .lines) ≡ noKey
 
 pub the-line : (m : Mode) (s : State) → Facts m s → (k : ℕ) → k < noKey → 1 ≤ getD (least s) k 0 → Was m s k [] (lineAt s k 0)
 the-line m s f k lt one =
-    let a : reach (counts s) (least s) ≡ true = subst (λ z. reach z (least s) ≡ true) (take-all noKey (counts s) (lengths-length (s .lines) ∙ f .keys)) (f .full) in
+    let a : reach (counts s) (least s) ≡ true = subst (λ z. reach z (least s) ≡ true) (take-all noKey (counts s) (lengths-length (s .lines) ∙ f .keys)) (f .ends .full) in
     let b = reach-at (counts s) (least s) a k (let z = lengths-length (s .lines) ∙ f .keys in omega (arith, z, lt)) (omega (arith, lt)) in
     let c = lengths-at (s .lines) k in
     first-of (linesOf s k) (omega (arith, b, c, one)) (λ rest e. f .history k [] (lineAt s k 0) rest e)

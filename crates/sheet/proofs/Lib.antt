@@ -1,4 +1,5 @@
 pub mod AnswerBack
+pub mod AnswerLength
 pub mod AnswerRead
 pub mod Buffers
 pub mod CompleteRun
@@ -11,12 +12,16 @@ pub mod EnvFit
 pub mod Environment
 pub mod ExampleBytes
 pub mod ExampleEntities
+pub mod ExampleLinks
 pub mod ExampleTerms
 pub mod FitsSound
 pub mod Fitting
+pub mod ItemBytes
 pub mod KnownSheets
 pub mod LeftOver
 pub mod Limits
+pub mod LinkEdges
+pub mod Linked
 pub mod Lines
 pub mod LinesBack
 pub mod MadeCount
@@ -35,8 +40,10 @@ pub mod RowsBack
 pub mod RowsGood
 pub mod SheetSmall
 pub mod Slots
+pub mod TreeBytes
 pub mod TreesBack
 pub mod TwoSheets
 pub mod TypeNumbers
+pub mod Under
 pub mod Uses
 pub mod ValueRows

@@ -5,13 +5,13 @@ use Prim.Native.Nat.{ℕ, zero, suc, _<_, _≤_}
 use native.Mathlib.Omega.{arith}
 use borrow.Author.Tests.{leb-false}
 use lib.ListN.{length, getD, length-append}
-use Rattle.sheet.specs.Forms.{Mode, TEXT, KIND, TYPE, SHAPE, VALUE, ENTITY, NODE, POLICY}
+use Rattle.sheet.specs.Forms.{Mode, TEXT, KIND, TYPE, SHAPE, VALUE, ENTITY, NODE, POLICY, LINK, TERM}
 use Rattle.sheet.specs.State.{State, linesOf, count}
 use Rattle.sheet.specs.Sheet.{greatest, more}
 use Rattle.sheet.specs.Call.{room}
 use Rattle.sheet.proofs.Lines.{History}
 
-last-of : {X : Type 0} (l : List (List ℕ)) → (l ≡ [] → X) → ((pre : List (List ℕ)) (r : List ℕ) → l ≡ pre ++ (r ∷ []) → X) → X
+pub last-of : {X : Type 0} (l : List (List ℕ)) → (l ≡ [] → X) → ((pre : List (List ℕ)) (r : List ℕ) → l ≡ pre ++ (r ∷ []) → X) → X
 last-of [] f g = f refl
 last-of (x ∷ l) f g = last-of l (λ e. g [] x (ap (λ z. x ∷ z) e)) (λ pre r e. g (x ∷ pre) r (ap (λ z. x ∷ z) e))
 
@@ -46,6 +46,8 @@ pub record Most (s : State) : Type 0 where
   pub entities : count s ENTITY ≤ 128
   pub nodes : count s NODE ≤ 1024
   pub policies : count s POLICY ≤ 64
+  pub links : count s LINK ≤ 64
+  pub terms : count s TERM ≤ 64
 
 pub most-lines : (m : Mode) (s : State) → History m s → Most s
 most-lines m s h = record {
@@ -57,4 +59,6 @@ most-lines m s h = record {
   entities = lines-at-most m s h ENTITY;
   nodes = lines-at-most m s h NODE;
   policies = lines-at-most m s h POLICY;
+  links = lines-at-most m s h LINK;
+  terms = lines-at-most m s h TERM;
 }

@@ -7,14 +7,14 @@ use native.Mathlib.Nat.{le-of-suc-le-suc}
 use native.Mathlib.Omega.{arith}
 use lib.Dec.{leb, ltb, eqb}
 use lib.ListN.{length, getD, drop, set, replicate}
-use Rattle.cedar.proofs.Tools.{eqb-true}
+use Rattle.cedar.proofs.Tools.{eqb-true, neither}
 pub use Rattle.cedar.proofs.Tools.{and-both}
 use Rattle.sheet.specs.Bytes.{same, split}
-use Rattle.sheet.specs.Forms.{Mode, rowOf, keyOf, refs, NODE, noKey}
+use Rattle.sheet.specs.Forms.{Mode, rowOf, keyOf, refs, NODE, noKey, POLICY}
 use Rattle.sheet.specs.State.{State, empty, linesOf, count, counts, lengths}
 use Rattle.sheet.specs.Typing.{typed}
 use Rattle.sheet.proofs.Refusals.{in-number-order}
-use Rattle.sheet.specs.Sheet.{fault, faultOf, found, inOrder, allZero, enough, greatest, depth, usedTwice, more, Reading, reads, ending, firstUnused, goOn, reading, read}
+use Rattle.sheet.specs.Sheet.{fault, faultOf, found, inOrder, allZero, enough, greatest, depth, usedTwice, more, Reading, reads, ending, firstUnused, goOn, reading, read, overused, firstUnlinked}
 
 -- ---- tests
 
@@ -25,6 +25,7 @@ zero-not-suc {n = n} e = absurd (omega (arith, e))
 pub record Passed (s : State) (k : ℕ) (r : List ℕ) : Type 0 where
   pub order : inOrder s k ≡ true
   pub room : leb (getD (greatest s) k 0) (count s k) ≡ false
+  pub within : overused s k r ≡ false
   pub refers : found s k r ≡ true
   pub shallow : ltb 64 (depth s k r) ≡ false
   pub types : typed s r k ≡ true
@@ -32,9 +33,11 @@ pub record Passed (s : State) (k : ℕ) (r : List ℕ) : Type 0 where
 
 passed-of : (s : State) (k : ℕ) (r : List ℕ) → faultOf s k r ≡ 0 → Passed s k r
 passed-of s k r e = let o = in-number-order s k r in
+    let (few, used) = neither (leb (getD (greatest s) k 0) (count s k)) (overused s k r) (o .room (λ h. absurd (h e))) in
     record {
       order = o .order (λ h. absurd (h e));
-      room = o .room (λ h. absurd (h e));
+      room = few;
+      within = used;
       refers = o .refers (λ h. absurd (h e));
       shallow = o .shallow (λ h. absurd (h e));
       types = o .types (λ h. absurd (h e));
@@ -48,19 +51,25 @@ passed s (t ∷ l) e = passed-of s (keyOf (t ∷ l)) (t ∷ l) e
 
 -- ---- an accepted reading, by induction over its lines
 
-end-with : (s : State) (k n : ℕ) (a b : Bool) → cond a (cond b (reads s 8 n) (reads s 0 0)) (reads s 3 k) .number ≡ 0
-    → (cond a (cond b (reads s 8 n) (reads s 0 0)) (reads s 3 k) .state ≡ s) × (a ≡ true)
-end-with s k n true true q = zero-not-suc q
-end-with s k n true false q = (refl, refl)
-end-with s k n false b q = zero-not-suc q
+-- no line missing, and no policy has a slot and no link line
+pub record Ended (s : State) : Type 0 where
+  pub full : enough s noKey ≡ true
+  pub linked : ltb (firstUnlinked s 0 (linesOf s POLICY)) (count s POLICY) ≡ false
 
-pub ended : (s : State) (k : ℕ) → ending s k .number ≡ 0 → (ending s k .state ≡ s) × (enough s noKey ≡ true)
-ended s k e = end-with s k _ (enough s noKey) (ltb (firstUnused (s .used)) (count s NODE)) e
+end-with : (s : State) (k n i : ℕ) (a b c : Bool) → cond a (cond b (reads s 5 i) (cond c (reads s 8 n) (reads s 0 0))) (reads s 3 k) .number ≡ 0
+    → (cond a (cond b (reads s 5 i) (cond c (reads s 8 n) (reads s 0 0))) (reads s 3 k) .state ≡ s) × (a ≡ true) × (b ≡ false)
+end-with s k n i true true c q = zero-not-suc q
+end-with s k n i true false true q = zero-not-suc q
+end-with s k n i true false false q = (refl, refl, refl)
+end-with s k n i false b c q = zero-not-suc q
+
+pub ended : (s : State) (k : ℕ) → ending s k .number ≡ 0 → (ending s k .state ≡ s) × Ended s
+ended s k e = let (p, a, b) = end-with s k _ _ (enough s noKey) (ltb (firstUnlinked s 0 (linesOf s POLICY)) (count s POLICY)) (ltb (firstUnused (s .used)) (count s NODE)) e in (p, record { full = a; linked = b })
 
 module _ (m : Mode) (Holds : State → Type 0) (step : (s : State) (l : List ℕ) → Holds s → fault s (rowOf m l) ≡ 0 → Holds (more s (rowOf m l))) where
   -- at the end: it holds, and no line is missing
   Final : Reading → Type 0
-  Final x = Holds (x .state) × (enough (x .state) noKey ≡ true)
+  Final x = Holds (x .state) × Ended (x .state)
 
   at-end : (s : State) (k : ℕ) → Holds s → ending s k .number ≡ 0 → Final (ending s k)
   unfolding Final
@@ -81,7 +90,7 @@ module _ (m : Mode) (Holds : State → Type 0) (step : (s : State) (l : List ℕ
   holds-after (l ∷ []) s k h e = last-part s k (same l []) h e
   holds-after (l ∷ n ∷ ls) s k h e = go-on s k l (fault s (rowOf m l)) (reading m (n ∷ ls)) refl h (λ h e. holds-after (n ∷ ls) (more s (rowOf m l)) (suc k) h e) e
 
-  pub holds-read : (sheet : List ℕ) → Holds empty → read m sheet .number ≡ 0 → Holds (read m sheet .state) × (enough (read m sheet .state) noKey ≡ true)
+  pub holds-read : (sheet : List ℕ) → Holds empty → read m sheet .number ≡ 0 → Holds (read m sheet .state) × Ended (read m sheet .state)
   unfolding read Final
   holds-read sheet h e = holds-after (split 10 sheet) empty 1 h e
 
@@ -99,10 +108,10 @@ unfolding more
 lines-more s r j f g = set-cases (s .lines) (keyOf r) j (linesOf s (keyOf r) ++ (r ∷ [])) [] f (λ e q. g e (q ∙ ap (λ i. linesOf s i ++ (r ∷ [])) (sym e)))
 
 -- a list with one more at its end, split at an item
-cons-tail : {A : Type 0} {x y : A} {k l : List A} → x ∷ k ≡ y ∷ l → k ≡ l
+pub cons-tail : {A : Type 0} {x y : A} {k l : List A} → x ∷ k ≡ y ∷ l → k ≡ l
 cons-tail e = ap (drop 1) e
 
-cons-head : {A : Type 0} {x y : A} {k l : List A} → x ∷ k ≡ y ∷ l → x ≡ y
+pub cons-head : {A : Type 0} {x y : A} {k l : List A} → x ∷ k ≡ y ∷ l → x ≡ y
 cons-head {x = x} e = ap (λ z. getD z 0 x) e
 
 pub not-empty : {A X : Type 0} (pre : List A) (r : A) (rest : List A) → [] ≡ pre ++ (r ∷ rest) → X
@@ -186,5 +195,5 @@ no-lines k = go noKey k
     go (suc n) (suc k) = go n k
 
 -- every line of an accepted sheet was read without fault, over the lines before it; and no line is missing
-pub accepted-history : (m : Mode) (sheet : List ℕ) → read m sheet .number ≡ 0 → History m (read m sheet .state) × (enough (read m sheet .state) noKey ≡ true)
+pub accepted-history : (m : Mode) (sheet : List ℕ) → read m sheet .number ≡ 0 → History m (read m sheet .state) × Ended (read m sheet .state)
 accepted-history m sheet e = holds-read m (History m) (λ s l h f. history-more m s l h f) sheet (λ k pre r rest q. not-empty pre r rest (sym (no-lines k) ∙ q)) e

@@ -9,7 +9,7 @@ use borrow.Author.Tests.{le-leb}
 use lib.Dec.{ltb, leb, eqb}
 use lib.ListN.{length}
 use Rattle.cedar.proofs.Tools.{no-true, or-left}
-use Rattle.sheet.specs.Forms.{Mode, VALUE, NODE}
+use Rattle.sheet.specs.Forms.{Mode, VALUE}
 use Rattle.sheet.specs.State.{linesOf, count}
 use Rattle.sheet.specs.Sheet.{read}
 use Rattle.sheet.specs.Content.{rowsIn, valueRows, nPolicies, schema, nEnv}
@@ -19,7 +19,7 @@ use Rattle.sheet.proofs.Lines.{accepted-history}
 use Rattle.sheet.proofs.MadeCount.{policySizes, residualSizes, run-rows, run-nodes}
 use Rattle.sheet.proofs.Limits.{lines-at-most}
 use Rattle.sheet.proofs.Refusals.{read-small}
-use Rattle.sheet.proofs.Uses.{policies-small}
+use Rattle.sheet.proofs.Uses.{policies-fit, uses-most}
 use Rattle.sheet.proofs.ValueRows.{rows-length}
 
 -- ---- sizes
@@ -29,8 +29,8 @@ module _ (m : Mode) (sheet : List ℕ) (e : read m sheet .number ≡ 0) where
   pub policy-sizes : policySizes (nPolicies (read m sheet .state)) ≤ 1024
   policy-sizes =
       let (h, g) = accepted-history m sheet e in
-      let a = policies-small m sheet e in
-      let b = lines-at-most m (read m sheet .state) h NODE in
+      let a = policies-fit m (read m sheet .state) h in
+      let b = uses-most m (read m sheet .state) h in
       omega (arith, a, b)
 
   pub residual-sizes : residualSizes (run m (read m sheet .state) .lines) ≤ policySizes (nPolicies (read m sheet .state))

@@ -184,7 +184,8 @@ module _ (m : Mode) (s : State) (h : History m s) (u : State) (same : (j : ℕ) 
   abbrev pub V′ : ℕ → Value
   V′ n = getD (contents s) n (vbool false)
 
-  module _ (es : List Expr) (kids : (n : ℕ) → n < count u NODE → Typed (schema s) (getD es n (err tbool)) (T (typeOfNode u n))) where
+  -- sl: what stands for a slot
+  module _ (sl : Ty → ℕ → Expr) (slots : (A : Ty) (x : ℕ) → Typed (schema s) (sl A x) A) (es : List Expr) (kids : (n : ℕ) → n < count u NODE → Typed (schema s) (getD es n (err tbool)) (T (typeOfNode u n))) where
     there-kid : (sl : Slot) (n : ℕ) → sl ≡ line NODE → thereIs u sl n ≡ true → Typed (schema s) (getD es n (err tbool)) (T (typeOfNode u n))
     there-kid sl n e p = kids n (ltb-true n (count u NODE) (sym (ap (λ z. thereIs u z n) e) ∙ p))
 
@@ -221,7 +222,7 @@ module _ (m : Mode) (s : State) (h : History m s) (u : State) (same : (j : ℕ) 
     drop-three (a ∷ b ∷ c ∷ l) n = refl
 
     Rule : ℕ → Type 0
-    Rule t = (l : List ℕ) → Read m (t ∷ l) t → allThere u t 0 l ≡ true → getD (rules u (t ∷ l)) (t - 21) false ≡ true → Typed (schema s) (treeOver (types s) V′ es (t ∷ l)) (T (getD l 0 0))
+    Rule t = (l : List ℕ) → Read m (t ∷ l) t → allThere u t 0 l ≡ true → getD (rules u (t ∷ l)) (t - 21) false ≡ true → Typed (schema s) (treeOver (types s) V′ sl es (t ∷ l)) (T (getD l 0 0))
 
     kid-at : (t : ℕ) (l : List ℕ) → Read m (t ∷ l) t → allThere u t 0 l ≡ true → (j : ℕ) → j < length (formOf t .items) → slotAt t j ≡ line NODE → Typed (schema s) (getD es (getD l j 0) (err tbool)) (T (typeOfNode u (getD l j 0)))
     kid-at t l rd a j lt e = let z = rd .least in there-kid (slotAt t (0 + j)) (getD l j 0) (ap (slotAt t) (omega arith) ∙ e) (there-at u t 0 l a j (omega (arith, z, lt)))
@@ -347,7 +348,11 @@ module _ (m : Mode) (s : State) (h : History m s) (u : State) (same : (j : ℕ) 
     rule48 [] rd a e = args-of (48 ∷ []) 0 [] refl e
     rule48 (y ∷ l) rd a e = and-both (thereIs u (slotAt 48 0) y) (allThere u 48 1 l) a (λ p q. args-of (48 ∷ y ∷ l) y l q e)
 
-    rule-for : (d : ℕ) → d ≤ 27 → Rule (21 + d)
+    rule49 : Rule 49
+    unfolding Rule
+    rule49 l rd a e = slots (T (getD l 0 0)) (getD l 1 0)
+
+    rule-for : (d : ℕ) → d ≤ 28 → Rule (21 + d)
     rule-for zero h = rule21
     rule-for (suc zero) h = rule22
     rule-for (suc (suc zero)) h = rule23
@@ -376,8 +381,9 @@ module _ (m : Mode) (s : State) (h : History m s) (u : State) (same : (j : ℕ) 
     rule-for (suc (suc (suc (suc (suc (suc (suc (suc (suc (suc (suc (suc (suc (suc (suc (suc (suc (suc (suc (suc (suc (suc (suc (suc (suc zero))))))))))))))))))))))))) h = rule46
     rule-for (suc (suc (suc (suc (suc (suc (suc (suc (suc (suc (suc (suc (suc (suc (suc (suc (suc (suc (suc (suc (suc (suc (suc (suc (suc (suc zero)))))))))))))))))))))))))) h = rule47
     rule-for (suc (suc (suc (suc (suc (suc (suc (suc (suc (suc (suc (suc (suc (suc (suc (suc (suc (suc (suc (suc (suc (suc (suc (suc (suc (suc (suc zero))))))))))))))))))))))))))) h = rule48
-    rule-for (suc (suc (suc (suc (suc (suc (suc (suc (suc (suc (suc (suc (suc (suc (suc (suc (suc (suc (suc (suc (suc (suc (suc (suc (suc (suc (suc (suc d)))))))))))))))))))))))))))) h = absurd (omega arith)
+    rule-for (suc (suc (suc (suc (suc (suc (suc (suc (suc (suc (suc (suc (suc (suc (suc (suc (suc (suc (suc (suc (suc (suc (suc (suc (suc (suc (suc (suc zero)))))))))))))))))))))))))))) h = rule49
+    rule-for (suc (suc (suc (suc (suc (suc (suc (suc (suc (suc (suc (suc (suc (suc (suc (suc (suc (suc (suc (suc (suc (suc (suc (suc (suc (suc (suc (suc (suc d))))))))))))))))))))))))))))) h = absurd (omega arith)
 
-    pub node-typed : (t : ℕ) → 21 ≤ t → t ≤ 48 → (l : List ℕ) → Read m (t ∷ l) t → allThere u t 0 l ≡ true → getD (rules u (t ∷ l)) (t - 21) false ≡ true → Typed (schema s) (treeOver (types s) V′ es (t ∷ l)) (T (getD l 0 0))
+    pub node-typed : (t : ℕ) → 21 ≤ t → t ≤ 49 → (l : List ℕ) → Read m (t ∷ l) t → allThere u t 0 l ≡ true → getD (rules u (t ∷ l)) (t - 21) false ≡ true → Typed (schema s) (treeOver (types s) V′ sl es (t ∷ l)) (T (getD l 0 0))
     unfolding Rule
     node-typed t lo hi = subst Rule (omega arith) (rule-for (t - 21) (omega arith))

@@ -11,7 +11,7 @@ use lib.Dec.{leb, ltb, eqb}
 use lib.ListN.{length, take, drop, List·getD-eq-default}
 use Rattle.cedar.proofs.Tools.{no-true, eqb-true}
 use Rattle.sheet.specs.Bytes.{upTo, split, printable}
-use Rattle.sheet.specs.Forms.{Mode, Form, forms, formOf, countedIn, noForm, counted, itemsFrom, orEmpty, rowHeaded, rowOfText, rowOfValue, rowOf, heading, tagOf, placeIn, keys, TEXT, noKey, noTag}
+use Rattle.sheet.specs.Forms.{Mode, Form, forms, formOf, countedIn, noForm, counted, itemsFrom, orEmpty, rowHeaded, rowOfText, rowOfValue, rowOf, heading, tagOf, placeIn, keys, TEXT, noKey, noTag, NODE, POLICY}
 use Rattle.sheet.proofs.Lines.{and-both}
 
 module _ {X : Type 0} (m : Mode) (r : List ℕ) (empty : r ≡ [] → X) (text : (v : List ℕ) → r ≡ 1 ∷ v → X)
@@ -42,7 +42,7 @@ module _ {X : Type 0} (m : Mode) (r : List ℕ) (empty : r ≡ [] → X) (text :
 
 -- the form of `policy=`
 abbrev pub policyTag : ℕ
-policyTag = 49
+policyTag = 50
 
 -- a test of all numbers below n
 abbrev pub allBelow : (ℕ → Bool) → ℕ → Bool
@@ -77,6 +77,19 @@ tags-between k a b t lt e q = go (decLt t noTag)
     go : Dec (t < noTag) → (a ≤ t) × (t ≤ b)
     go (yes d) = and-both (leb a t) (leb t b) (inside (eqb (formOf t .key) k) (leb a t && leb t b) (eq-eqb (formOf t .key) k q) (all-below (between k a b) noTag t e d)) (λ x y. (leb-true a t x, leb-true t b y))
     go (no d) = let z : noKey ≡ k = sym (ap (λ f. f .key) (past-table t (omega arith))) ∙ q in absurd (omega (arith, z))
+
+-- the tags of nodes, policies and requests
+pub node-tags : allBelow (between NODE 21 49) noTag ≡ true
+unfolding formOf forms
+node-tags = refl
+
+pub policy-tags : allBelow (between POLICY policyTag policyTag) noTag ≡ true
+unfolding formOf forms
+policy-tags = refl
+
+pub request-tags : (allBelow (between 7 17 17) noTag ≡ true) × (allBelow (between 8 18 18) noTag ≡ true) × (allBelow (between 9 19 19) noTag ≡ true)
+unfolding formOf forms
+request-tags = (refl, refl, refl)
 
 -- a form without groups has just its items
 pub counted-plain : (f : Form) (n : ℕ) → f .group ≡ [] → countedIn f n ≡ true → n ≡ length (f .items)

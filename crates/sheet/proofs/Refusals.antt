@@ -4,13 +4,12 @@ use mathlib.Core.Bool.{Bool, true, false, cond, not}
 use mathlib.Core.List.{List, [], _∷_}
 use Prim.Native.Nat.{ℕ, zero, suc, _<_, _≤_}
 use native.Mathlib.Omega.{arith}
-use lib.Dec.{leb, ltb}
-use lib.ListN.{getD}
+use lib.Dec.{ltb}
 use Rattle.sheet.specs.Bytes.{same, split}
-use Rattle.sheet.specs.Forms.{Mode, rowOf, keyOf, refs, NODE, noKey}
-use Rattle.sheet.specs.State.{State, empty, count}
+use Rattle.sheet.specs.Forms.{Mode, rowOf, keyOf, refs, NODE, noKey, POLICY}
+use Rattle.sheet.specs.State.{State, empty, count, linesOf}
 use Rattle.sheet.specs.Typing.{typed}
-use Rattle.sheet.specs.Sheet.{greatest, inOrder, found, depth, usedTwice, faultOf, fault, more, reads, enough, firstUnused, ending, goOn, reading, read}
+use Rattle.sheet.specs.Sheet.{inOrder, found, depth, usedTwice, faultOf, fault, more, reads, enough, firstUnused, ending, goOn, reading, read, tooMany, firstUnlinked}
 
 -- refused for a later reason than m, or not at all
 abbrev pub Past : ℕ → ℕ → Type 0
@@ -23,19 +22,19 @@ not-past m n le z h = let lt = h z in absurd (omega (arith, lt))
 pub record Ordered (s : State) (k : ℕ) (r : List ℕ) (n : ℕ) : Type 0 where
   pub small : n ≤ 8
   pub order : Past 3 n → inOrder s k ≡ true
-  pub room : Past 4 n → leb (getD (greatest s) k 0) (count s k) ≡ false
+  pub room : Past 4 n → tooMany s k r ≡ false
   pub refers : Past 5 n → found s k r ≡ true
   pub shallow : Past 6 n → ltb 64 (depth s k r) ≡ false
   pub types : Past 7 n → typed s r k ≡ true
   pub unused : Past 8 n → usedTwice (s .used) (refs NODE r) ≡ false
 
 pub in-number-order : (s : State) (k : ℕ) (r : List ℕ) → Ordered s k r (faultOf s k r)
-in-number-order s k r = go (inOrder s k) (leb (getD (greatest s) k 0) (count s k)) (found s k r) (ltb 64 (depth s k r)) (typed s r k) (usedTwice (s .used) (refs NODE r)) refl refl refl refl refl refl
+in-number-order s k r = go (inOrder s k) (tooMany s k r) (found s k r) (ltb 64 (depth s k r)) (typed s r k) (usedTwice (s .used) (refs NODE r)) refl refl refl refl refl refl
   where
     stop : {X : Type 0} (m n : ℕ) → suc n ≤ m → Past m (suc n) → X
     stop m n le h = not-past m (suc n) le (λ e. absurd (omega (arith, e))) h
 
-    go : (a b c d e f : Bool) → inOrder s k ≡ a → leb (getD (greatest s) k 0) (count s k) ≡ b → found s k r ≡ c → ltb 64 (depth s k r) ≡ d → typed s r k ≡ e → usedTwice (s .used) (refs NODE r) ≡ f
+    go : (a b c d e f : Bool) → inOrder s k ≡ a → tooMany s k r ≡ b → found s k r ≡ c → ltb 64 (depth s k r) ≡ d → typed s r k ≡ e → usedTwice (s .used) (refs NODE r) ≡ f
         → Ordered s k r (cond (not a) 3 (cond b 4 (cond (not c) 5 (cond d 6 (cond (not e) 7 (cond f 8 0))))))
     go false b c d e f p q u v w x = record { small = omega arith; order = λ h. stop 3 2 (omega arith) h; room = λ h. stop 4 2 (omega arith) h; refers = λ h. stop 5 2 (omega arith) h; shallow = λ h. stop 6 2 (omega arith) h; types = λ h. stop 7 2 (omega arith) h; unused = λ h. stop 8 2 (omega arith) h }
     go true true c d e f p q u v w x = record { small = omega arith; order = λ h. p; room = λ h. stop 4 3 (omega arith) h; refers = λ h. stop 5 3 (omega arith) h; shallow = λ h. stop 6 3 (omega arith) h; types = λ h. stop 7 3 (omega arith) h; unused = λ h. stop 8 3 (omega arith) h }
@@ -51,12 +50,13 @@ fault-small s [] = omega arith
 fault-small s (t ∷ l) = in-number-order s (keyOf (t ∷ l)) (t ∷ l) .small
 
 ending-small : (s : State) (k : ℕ) → ending s k .number ≤ 8
-ending-small s k = go (enough s noKey) (ltb (firstUnused (s .used)) (count s NODE)) _
+ending-small s k = go (enough s noKey) (ltb (firstUnlinked s 0 (linesOf s POLICY)) (count s POLICY)) (ltb (firstUnused (s .used)) (count s NODE)) _ _
   where
-    go : (a b : Bool) (n : ℕ) → cond a (cond b (reads s 8 n) (reads s 0 0)) (reads s 3 k) .number ≤ 8
-    go true true n = omega arith
-    go true false n = omega arith
-    go false b n = omega arith
+    go : (a b c : Bool) (n i : ℕ) → cond a (cond b (reads s 5 i) (cond c (reads s 8 n) (reads s 0 0))) (reads s 3 k) .number ≤ 8
+    go true true c n i = omega arith
+    go true false true n i = omega arith
+    go true false false n i = omega arith
+    go false b c n i = omega arith
 
 reading-small : (m : Mode) (ls : List (List ℕ)) (s : State) (k : ℕ) → reading m ls s k .number ≤ 8
 reading-small m [] s k = ending-small s k

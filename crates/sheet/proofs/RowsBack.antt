@@ -129,7 +129,7 @@ goodRow (t ∷ []) = false
 goodRow (t ∷ y ∷ l) = nodeTag t && counted t (suc (length l)) && allCome t 0 (y ∷ l)
 
 module _ (t y : ℕ) (l : List ℕ) where
-  good-parts : {X : Type 0} → goodRow (t ∷ y ∷ l) ≡ true
+  pub good-parts : {X : Type 0} → goodRow (t ∷ y ∷ l) ≡ true
       → (tagOf NODE (ascii (formOf t .name)) ≡ t → formOf t .key ≡ NODE → plainBytes (ascii (formOf t .name)) ≡ true → slotAt t 0 ≡ line 3 → counted t (suc (length l)) ≡ true → allCome t 0 (y ∷ l) ≡ true → X) → X
   good-parts e f = and-both (nodeTag t && counted t (suc (length l))) (allCome t 0 (y ∷ l)) e (λ e a. and-both (nodeTag t) (counted t (suc (length l))) e (λ e b.
       and-both ((eqb (tagOf NODE (ascii (formOf t .name))) t && eqb (formOf t .key) NODE) && plainBytes (ascii (formOf t .name))) (isType (slotAt t 0)) e (λ e c.

@@ -12,7 +12,7 @@ use Rattle.cedar.specs.Value.{onSome}
 use Rattle.cedar.specs.Rows.{Entries, stop, entry, Row, rbool, rlong, rtext, rent, rset, rrec}
 use Rattle.cedar.specs.Numbered.{entryOf, isSome, pickN}
 use Rattle.cedar.proofs.Tools.{no-true, no-some, iff}
-use Rattle.cedar.proofs.TableLaws.{InN, now′, later′}
+use Rattle.cedar.proofs.TableLaws.{InN, now′}
 use Rattle.sheet.specs.Forms.{Mode, line, forms, formOf, slotAt, isLine, keep, refsFrom, refs, tag, items, TYPE, VALUE, noTag}
 use Rattle.sheet.specs.State.{State, linesOf, count, depthsOf, Declared, TypeRow, bool, long, string, entity, set′, record′, declareds, typeRow, valueRow}
 use Rattle.sheet.specs.Typing.{declaredIn, requiredThere, allIn, allEntries, rowFits, fitsBy, fitsIn}
@@ -21,6 +21,7 @@ use Rattle.sheet.proofs.Lines.{and-both}
 use Rattle.sheet.proofs.ValueRows.{some-is}
 use Rattle.sheet.proofs.Fitting.{attr-slots, set-size}
 use Rattle.sheet.proofs.TypeNumbers.{split-at}
+pub use Rattle.sheet.proofs.Linked.{in-keep, this-kept}
 use Rattle.sheet.proofs.Depths.{Reached, read-reached, reached-history, reached-depths}
 
 -- ---- the parts of a type
@@ -91,13 +92,6 @@ module _ (values types : List (List ℕ)) (depth : ℕ → ℕ) (s : Shallow typ
   settled = record { closes = λ v t e. enough 65 64 v t (s .low t) e }
 
 -- ---- the parts of a type are among its row's references
-
-pub in-keep : (b : Bool) (x y : ℕ) (l : List ℕ) → InN y l → InN y (keep b x l)
-in-keep true x y l i = later′ i
-in-keep false x y l i = i
-
-pub this-kept : (b : Bool) (x : ℕ) (l : List ℕ) → b ≡ true → InN x (keep b x l)
-this-kept b x l e = subst (λ z. InN x (keep z x l)) (sym e) now′
 
 set-ref : (l : List ℕ) → length l ≡ 1 → InN (getD l 0 0) (refsFrom 3 7 0 l)
 unfolding slotAt formOf forms

@@ -19,7 +19,7 @@ use Rattle.sheet.specs.Bytes.{same, index, decimal, atMost}
 use Rattle.sheet.specs.Forms.{Mode, partial, Slot, line, lineOr, lineUnknown, word, number, nothing, forms, formOf, slotAt, item, itemsFrom, joined, one, markOr, isPartial, mark, tag, items, at, keyOf, rowOf, PRINCIPAL, ACTION, RESOURCE, CONTEXT, NODE, POLICY, noKey, noTag, day}
 use Rattle.sheet.specs.State.{State, linesOf, lineAt}
 use Rattle.sheet.specs.Sheet.{firsts}
-use Rattle.sheet.specs.Content.{types, patternOf, childrenOver, argsOver, treeFor, treeOver, treesFrom, trees, numberedPolicies, nPolicies, known, nEnv, onTerm}
+use Rattle.sheet.specs.Content.{types, patternOf, childrenOver, argsOver, treeFor, treeOver, treesFrom, trees, numberedPolicies, nPolicies, known, nEnv, onTerm, linked}
 use Rattle.sheet.specs.Answer.{ids}
 use Rattle.sheet.proofs.Lines.{and-both, Was, History}
 use Rattle.sheet.proofs.Parsed.{parsed, allBelow, between, tags-between, policyTag}
@@ -137,7 +137,7 @@ fit-drop t (suc n) j (x ∷ l) e = and-both (fitsSlot (slotAt t j) x) (allFit t 
 abbrev AllTrees : List (Node ℕ) → Type 0
 AllTrees ns = (n : ℕ) → Small Any (getD ns n (err tbool))
 
-module _ (ts : List Ty) (ns : List (Node ℕ)) (k : AllTrees ns) where
+module _ (ts : List Ty) (p q : ℕ) (ns : List (Node ℕ)) (k : AllTrees ns) where
   children-small : (l : List ℕ) → SmallAll Any (childrenOver ts (λ n. n) ns l)
   children-small [] = tt
   children-small (n ∷ l) = (k n, children-small l)
@@ -161,59 +161,60 @@ module _ (ts : List Ty) (ns : List (Node ℕ)) (k : AllTrees ns) where
     args-of : tag r ≡ 48 → SmallArgs Any (argsOver ts (λ n. n) ns (drop 1 (items r)))
     args-of e = args-small 0 (drop 1 (items r)) (fit-drop 48 1 0 (items r) (fit-as 48 e))
 
-    tree-small : 21 ≤ tag r → (d : ℕ) → tag r - 21 ≡ d → Small Any (getD (treeFor ts (λ n. n) ns r (getD ts (at r 0) tbool) (λ j. getD ns (at r j) (err tbool))) d (err tbool))
+    tree-small : 21 ≤ tag r → (d : ℕ) → tag r - 21 ≡ d → Small Any (getD (treeFor ts (λ n. n) (linked (λ n. n) p q) ns r (getD ts (at r 0) tbool) (λ j. getD ns (at r j) (err tbool))) d (err tbool))
     unfolding slotAt formOf forms
-    tree-small lo zero q = tt
-    tree-small lo (suc zero) q = tt
-    tree-small lo (suc (suc zero)) q = tt
-    tree-small lo (suc (suc (suc zero))) q = (k (at r 1), k (at r 2))
-    tree-small lo (suc (suc (suc (suc zero)))) q = (k (at r 1), k (at r 2))
-    tree-small lo (suc (suc (suc (suc (suc zero))))) q = (k (at r 1), k (at r 2))
-    tree-small lo (suc (suc (suc (suc (suc (suc zero)))))) q = (k (at r 1), k (at r 2))
-    tree-small lo (suc (suc (suc (suc (suc (suc (suc zero))))))) q = (k (at r 1), k (at r 2))
-    tree-small lo (suc (suc (suc (suc (suc (suc (suc (suc zero)))))))) q = (k (at r 1), k (at r 2))
-    tree-small lo (suc (suc (suc (suc (suc (suc (suc (suc (suc zero))))))))) q = (k (at r 1), k (at r 2))
-    tree-small lo (suc (suc (suc (suc (suc (suc (suc (suc (suc (suc zero)))))))))) q = (k (at r 1), k (at r 2))
-    tree-small lo (suc (suc (suc (suc (suc (suc (suc (suc (suc (suc (suc zero))))))))))) q = (k (at r 1), k (at r 2))
-    tree-small lo (suc (suc (suc (suc (suc (suc (suc (suc (suc (suc (suc (suc zero)))))))))))) q = (k (at r 1), k (at r 2))
-    tree-small lo (suc (suc (suc (suc (suc (suc (suc (suc (suc (suc (suc (suc (suc zero))))))))))))) q = (k (at r 1), k (at r 2))
-    tree-small lo (suc (suc (suc (suc (suc (suc (suc (suc (suc (suc (suc (suc (suc (suc zero)))))))))))))) q = (k (at r 1), k (at r 2))
-    tree-small lo (suc (suc (suc (suc (suc (suc (suc (suc (suc (suc (suc (suc (suc (suc (suc zero))))))))))))))) q = (k (at r 1), k (at r 2))
-    tree-small lo (suc (suc (suc (suc (suc (suc (suc (suc (suc (suc (suc (suc (suc (suc (suc (suc zero)))))))))))))))) q = (k (at r 1), k (at r 2))
-    tree-small lo (suc (suc (suc (suc (suc (suc (suc (suc (suc (suc (suc (suc (suc (suc (suc (suc (suc zero))))))))))))))))) q = (k (at r 1), k (at r 2), k (at r 3))
-    tree-small lo (suc (suc (suc (suc (suc (suc (suc (suc (suc (suc (suc (suc (suc (suc (suc (suc (suc (suc zero)))))))))))))))))) q = (at-small r 39 2 2 (omega (arith, q, lo)) refl f, k (at r 1))
-    tree-small lo (suc (suc (suc (suc (suc (suc (suc (suc (suc (suc (suc (suc (suc (suc (suc (suc (suc (suc (suc zero))))))))))))))))))) q = (pattern-of (omega (arith, q, lo)), k (at r 1))
-    tree-small lo (suc (suc (suc (suc (suc (suc (suc (suc (suc (suc (suc (suc (suc (suc (suc (suc (suc (suc (suc (suc zero)))))))))))))))))))) q = (at-small r 41 2 1 (omega (arith, q, lo)) refl f, k (at r 1))
-    tree-small lo (suc (suc (suc (suc (suc (suc (suc (suc (suc (suc (suc (suc (suc (suc (suc (suc (suc (suc (suc (suc (suc zero))))))))))))))))))))) q = (at-small r 42 2 1 (omega (arith, q, lo)) refl f, k (at r 1))
-    tree-small lo (suc (suc (suc (suc (suc (suc (suc (suc (suc (suc (suc (suc (suc (suc (suc (suc (suc (suc (suc (suc (suc (suc zero)))))))))))))))))))))) q = ((at-small r 43 2 1 (omega (arith, q, lo)) refl f, path-of (omega (arith, q, lo))), k (at r 1))
-    tree-small lo (suc (suc (suc (suc (suc (suc (suc (suc (suc (suc (suc (suc (suc (suc (suc (suc (suc (suc (suc (suc (suc (suc (suc zero))))))))))))))))))))))) q = (tt, k (at r 1))
-    tree-small lo (suc (suc (suc (suc (suc (suc (suc (suc (suc (suc (suc (suc (suc (suc (suc (suc (suc (suc (suc (suc (suc (suc (suc (suc zero)))))))))))))))))))))))) q = (tt, k (at r 1))
-    tree-small lo (suc (suc (suc (suc (suc (suc (suc (suc (suc (suc (suc (suc (suc (suc (suc (suc (suc (suc (suc (suc (suc (suc (suc (suc (suc zero))))))))))))))))))))))))) q = (tt, k (at r 1))
-    tree-small lo (suc (suc (suc (suc (suc (suc (suc (suc (suc (suc (suc (suc (suc (suc (suc (suc (suc (suc (suc (suc (suc (suc (suc (suc (suc (suc zero)))))))))))))))))))))))))) q = children-small (drop 1 (items r))
-    tree-small lo (suc (suc (suc (suc (suc (suc (suc (suc (suc (suc (suc (suc (suc (suc (suc (suc (suc (suc (suc (suc (suc (suc (suc (suc (suc (suc (suc zero))))))))))))))))))))))))))) q = args-of (omega (arith, q, lo))
-    tree-small lo (suc (suc (suc (suc (suc (suc (suc (suc (suc (suc (suc (suc (suc (suc (suc (suc (suc (suc (suc (suc (suc (suc (suc (suc (suc (suc (suc (suc d)))))))))))))))))))))))))))) q = tt
+    tree-small lo zero u = tt
+    tree-small lo (suc zero) u = tt
+    tree-small lo (suc (suc zero)) u = tt
+    tree-small lo (suc (suc (suc zero))) u = (k (at r 1), k (at r 2))
+    tree-small lo (suc (suc (suc (suc zero)))) u = (k (at r 1), k (at r 2))
+    tree-small lo (suc (suc (suc (suc (suc zero))))) u = (k (at r 1), k (at r 2))
+    tree-small lo (suc (suc (suc (suc (suc (suc zero)))))) u = (k (at r 1), k (at r 2))
+    tree-small lo (suc (suc (suc (suc (suc (suc (suc zero))))))) u = (k (at r 1), k (at r 2))
+    tree-small lo (suc (suc (suc (suc (suc (suc (suc (suc zero)))))))) u = (k (at r 1), k (at r 2))
+    tree-small lo (suc (suc (suc (suc (suc (suc (suc (suc (suc zero))))))))) u = (k (at r 1), k (at r 2))
+    tree-small lo (suc (suc (suc (suc (suc (suc (suc (suc (suc (suc zero)))))))))) u = (k (at r 1), k (at r 2))
+    tree-small lo (suc (suc (suc (suc (suc (suc (suc (suc (suc (suc (suc zero))))))))))) u = (k (at r 1), k (at r 2))
+    tree-small lo (suc (suc (suc (suc (suc (suc (suc (suc (suc (suc (suc (suc zero)))))))))))) u = (k (at r 1), k (at r 2))
+    tree-small lo (suc (suc (suc (suc (suc (suc (suc (suc (suc (suc (suc (suc (suc zero))))))))))))) u = (k (at r 1), k (at r 2))
+    tree-small lo (suc (suc (suc (suc (suc (suc (suc (suc (suc (suc (suc (suc (suc (suc zero)))))))))))))) u = (k (at r 1), k (at r 2))
+    tree-small lo (suc (suc (suc (suc (suc (suc (suc (suc (suc (suc (suc (suc (suc (suc (suc zero))))))))))))))) u = (k (at r 1), k (at r 2))
+    tree-small lo (suc (suc (suc (suc (suc (suc (suc (suc (suc (suc (suc (suc (suc (suc (suc (suc zero)))))))))))))))) u = (k (at r 1), k (at r 2))
+    tree-small lo (suc (suc (suc (suc (suc (suc (suc (suc (suc (suc (suc (suc (suc (suc (suc (suc (suc zero))))))))))))))))) u = (k (at r 1), k (at r 2), k (at r 3))
+    tree-small lo (suc (suc (suc (suc (suc (suc (suc (suc (suc (suc (suc (suc (suc (suc (suc (suc (suc (suc zero)))))))))))))))))) u = (at-small r 39 2 2 (omega (arith, u, lo)) refl f, k (at r 1))
+    tree-small lo (suc (suc (suc (suc (suc (suc (suc (suc (suc (suc (suc (suc (suc (suc (suc (suc (suc (suc (suc zero))))))))))))))))))) u = (pattern-of (omega (arith, u, lo)), k (at r 1))
+    tree-small lo (suc (suc (suc (suc (suc (suc (suc (suc (suc (suc (suc (suc (suc (suc (suc (suc (suc (suc (suc (suc zero)))))))))))))))))))) u = (at-small r 41 2 1 (omega (arith, u, lo)) refl f, k (at r 1))
+    tree-small lo (suc (suc (suc (suc (suc (suc (suc (suc (suc (suc (suc (suc (suc (suc (suc (suc (suc (suc (suc (suc (suc zero))))))))))))))))))))) u = (at-small r 42 2 1 (omega (arith, u, lo)) refl f, k (at r 1))
+    tree-small lo (suc (suc (suc (suc (suc (suc (suc (suc (suc (suc (suc (suc (suc (suc (suc (suc (suc (suc (suc (suc (suc (suc zero)))))))))))))))))))))) u = ((at-small r 43 2 1 (omega (arith, u, lo)) refl f, path-of (omega (arith, u, lo))), k (at r 1))
+    tree-small lo (suc (suc (suc (suc (suc (suc (suc (suc (suc (suc (suc (suc (suc (suc (suc (suc (suc (suc (suc (suc (suc (suc (suc zero))))))))))))))))))))))) u = (tt, k (at r 1))
+    tree-small lo (suc (suc (suc (suc (suc (suc (suc (suc (suc (suc (suc (suc (suc (suc (suc (suc (suc (suc (suc (suc (suc (suc (suc (suc zero)))))))))))))))))))))))) u = (tt, k (at r 1))
+    tree-small lo (suc (suc (suc (suc (suc (suc (suc (suc (suc (suc (suc (suc (suc (suc (suc (suc (suc (suc (suc (suc (suc (suc (suc (suc (suc zero))))))))))))))))))))))))) u = (tt, k (at r 1))
+    tree-small lo (suc (suc (suc (suc (suc (suc (suc (suc (suc (suc (suc (suc (suc (suc (suc (suc (suc (suc (suc (suc (suc (suc (suc (suc (suc (suc zero)))))))))))))))))))))))))) u = children-small (drop 1 (items r))
+    tree-small lo (suc (suc (suc (suc (suc (suc (suc (suc (suc (suc (suc (suc (suc (suc (suc (suc (suc (suc (suc (suc (suc (suc (suc (suc (suc (suc (suc zero))))))))))))))))))))))))))) u = args-of (omega (arith, u, lo))
+    tree-small lo (suc (suc (suc (suc (suc (suc (suc (suc (suc (suc (suc (suc (suc (suc (suc (suc (suc (suc (suc (suc (suc (suc (suc (suc (suc (suc (suc (suc zero)))))))))))))))))))))))))))) u = tt
+    tree-small lo (suc (suc (suc (suc (suc (suc (suc (suc (suc (suc (suc (suc (suc (suc (suc (suc (suc (suc (suc (suc (suc (suc (suc (suc (suc (suc (suc (suc (suc d))))))))))))))))))))))))))))) u = tt
 
-  pub node-small : (r : List ℕ) → allFit (tag r) 0 (items r) ≡ true → 21 ≤ tag r → Small Any (treeOver ts (λ n. n) ns r)
+  pub node-small : (r : List ℕ) → allFit (tag r) 0 (items r) ≡ true → 21 ≤ tag r → Small Any (treeOver ts (λ n. n) (linked (λ n. n) p q) ns r)
   node-small r f lo = tree-small r f lo (tag r - 21) refl
 
 module _ (m : Mode) (s : State) (h : History m s) where
-  trees-from : (pre rest : List (List ℕ)) → linesOf s NODE ≡ pre ++ rest → (ns : List (Node ℕ)) → AllTrees ns → AllTrees (treesFrom (types s) (λ n. n) ns rest)
+  trees-from : (p q : ℕ) (pre rest : List (List ℕ)) → linesOf s NODE ≡ pre ++ rest → (ns : List (Node ℕ)) → AllTrees ns → AllTrees (treesFrom (types s) (λ n. n) (linked (λ n. n) p q) ns rest)
   unfolding keyOf
-  trees-from pre [] e ns k = k
-  trees-from pre (r ∷ rest) e ns k =
+  trees-from p q pre [] e ns k = k
+  trees-from p q pre (r ∷ rest) e ns k =
       let w = h NODE pre r rest e in
-      let (lo, hi) = tags-between NODE 21 48 (tag r) (omega arith) node-tags (w .key) in
-      trees-from (pre ++ (r ∷ [])) rest (e ∙ sym (append-assoc pre (r ∷ []) rest)) (ns ++ (treeOver (types s) (λ n. n) ns r ∷ []))
-      (all-snoc (Small Any) (err tbool) tt ns (treeOver (types s) (λ n. n) ns r) k (node-small (types s) ns k r (row-fits m r (w .line) (w .row) (omega (arith, lo)) (omega (arith, hi)) (λ z. absurd (omega (arith, z, lo)))) lo))
+      let (lo, hi) = tags-between NODE 21 49 (tag r) (omega arith) node-tags (w .key) in
+      trees-from p q (pre ++ (r ∷ [])) rest (e ∙ sym (append-assoc pre (r ∷ []) rest)) (ns ++ (treeOver (types s) (λ n. n) (linked (λ n. n) p q) ns r ∷ []))
+      (all-snoc (Small Any) (err tbool) tt ns (treeOver (types s) (λ n. n) (linked (λ n. n) p q) ns r) k (node-small (types s) p q ns k r (row-fits m r (w .line) (w .row) (omega (arith, lo)) (omega (arith, hi)) (λ z. absurd (omega (arith, z, lo)))) lo))
 
-  policies-from : (S : List (List ℕ)) → AllTrees (trees s) → PoliciesSmall (numberedPolicies (trees s) S)
+  policies-from : (S : List (List ℕ)) → ((p q : ℕ) → AllTrees (trees s p q)) → PoliciesSmall (numberedPolicies (trees s) S)
   policies-from [] k = tt
-  policies-from (r ∷ rs) k = (k (at r 2), policies-from rs k)
+  policies-from (r ∷ rs) k = (k (at r 3) (at r 4) (at r 2), policies-from rs k)
 
   -- THE SHEET'S OWN TREES
   pub policies-small : PoliciesSmall (nPolicies s)
   unfolding nPolicies trees
-  policies-small = policies-from (onTerm s) (trees-from [] (linesOf s NODE) refl [] (λ n. tt))
+  policies-small = policies-from (onTerm s) (λ p q. trees-from p q [] (linesOf s NODE) refl [] (λ n. tt))
 
   -- ---- the policies' ids
   id-small : (pre : List (List ℕ)) (r : List ℕ) (rest : List (List ℕ)) → linesOf s POLICY ≡ pre ++ (r ∷ rest) → at r 0 ≤ 9999

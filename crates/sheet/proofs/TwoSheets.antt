@@ -19,10 +19,10 @@ use Rattle.cedar.proofs.SettledByNumber.{ReadPolicies}
 use Rattle.cedar.proofs.TypingTest.{some-test}
 use Rattle.cedar.proofs.ReadsLaws.{at-is}
 use Rattle.sheet.specs.Bytes.{same}
-use Rattle.sheet.specs.Forms.{partial, complete, forms, formOf, slotAt, items, at, tag, mark, keyOf, TEXT, KIND, TYPE, SHAPE, VALUE, ENTITY, PRINCIPAL, ACTION, RESOURCE, CONTEXT, NODE, POLICY, DAY, TERM}
+use Rattle.sheet.specs.Forms.{partial, complete, forms, formOf, slotAt, items, at, tag, mark, keyOf, TEXT, KIND, TYPE, SHAPE, VALUE, ENTITY, PRINCIPAL, ACTION, RESOURCE, CONTEXT, NODE, POLICY, DAY, TERM, LINK}
 use Rattle.sheet.specs.State.{State, linesOf, count, lineAt, valueRow, valueAt}
 use Rattle.sheet.specs.Typing.{unknownOr}
-use Rattle.sheet.specs.Content.{tysFrom, types, valueOver, valuesFrom, rowsIn, valueRows, contents, attrsIn, tagTy, requestTy, schema, treesFrom, trees, exprs, contentPolicies, nPolicies, policies, known, entityKnown, requestKnown, requested, contentIn, fieldsIn, membersIn, partsIn, partsFound, lineIn, lineFound, entityLine, lookUp, env, pEnv, onTerm}
+use Rattle.sheet.specs.Content.{tysFrom, types, valueOver, valuesFrom, rowsIn, valueRows, contents, attrsIn, tagTy, requestTy, schema, treesFrom, trees, exprs, contentPolicies, nPolicies, policies, known, entityKnown, requestKnown, requested, contentIn, fieldsIn, membersIn, partsIn, partsFound, lineIn, lineFound, entityLine, lookUp, env, pEnv, onTerm, linked, contentOf}
 use Rattle.sheet.specs.Agreement.{begins, sameLines, partSame, requestSame, lineFor, entitySame, listed, allListed, agrees}
 use Rattle.sheet.proofs.Lines.{and-both, Was}
 use Rattle.sheet.proofs.Parsed.{tags-between}
@@ -70,10 +70,10 @@ pub common : (p c : State) → agrees p c ≡ true → Common p c
 unfolding agrees
 common p c e = and-both _ (allListed (linesOf p ENTITY) (linesOf c ENTITY)) e (λ e x12. and-both _ (requestSame (lineAt p CONTEXT 0) (lineAt c CONTEXT 0)) e (λ e x11. and-both _ (requestSame (lineAt p RESOURCE 0) (lineAt c RESOURCE 0)) e (λ e x10.
     and-both _ (requestSame (lineAt p ACTION 0) (lineAt c ACTION 0)) e (λ e x9. and-both _ (requestSame (lineAt p PRINCIPAL 0) (lineAt c PRINCIPAL 0)) e (λ e x8.
-    and-both _ (sameLines (linesOf p TERM) (linesOf c TERM)) e (λ e t. and-both _ (sameLines (linesOf p DAY) (linesOf c DAY)) e (λ e d. and-both _ (sameLines (linesOf p POLICY) (linesOf c POLICY)) e (λ e x7.
+    and-both _ (sameLines (linesOf p LINK) (linesOf c LINK)) e (λ e l. and-both _ (sameLines (linesOf p TERM) (linesOf c TERM)) e (λ e t. and-both _ (sameLines (linesOf p DAY) (linesOf c DAY)) e (λ e d. and-both _ (sameLines (linesOf p POLICY) (linesOf c POLICY)) e (λ e x7.
     and-both _ (sameLines (linesOf p NODE) (linesOf c NODE)) e (λ e x6. and-both _ (sameLines (linesOf p SHAPE) (linesOf c SHAPE)) e (λ e x5. and-both _ (sameLines (linesOf p TYPE) (linesOf c TYPE)) e (λ e x4.
     and-both _ (sameLines (linesOf p KIND) (linesOf c KIND)) e (λ e x3. and-both (begins (linesOf p TEXT) (linesOf c TEXT)) (begins (linesOf p VALUE) (linesOf c VALUE)) e (λ x1 x2.
-    record { texts = x1; values = x2; kinds = lines-same _ _ x3; types-same = lines-same _ _ x4; shapes = lines-same _ _ x5; nodes = lines-same _ _ x6; rules = same-term p c (lines-same _ _ d) (lines-same _ _ t) (lines-same _ _ x7); who = x8; does = x9; whom = x10; where′ = x11; entities = x12 })))))))))))))
+    record { texts = x1; values = x2; kinds = lines-same _ _ x3; types-same = lines-same _ _ x4; shapes = lines-same _ _ x5; nodes = lines-same _ _ x6; rules = same-term p c (lines-same _ _ d) (lines-same _ _ t) (lines-same _ _ l) (lines-same _ _ x7); who = x8; does = x9; whom = x10; where′ = x11; entities = x12 }))))))))))))))
 
 -- ---- contents
 
@@ -134,7 +134,7 @@ module _ (p c : State) (fp : Facts partial p) (fc : Facts complete c) (k : Commo
   unfolding keyOf slotAt formOf forms
   lit-there pre r rest e z =
       let w = fp .history NODE pre r rest e in
-      let (lo, hi) = tags-between NODE 21 48 (tag r) (omega arith) node-tags (w .key) in
+      let (lo, hi) = tags-between NODE 21 49 (tag r) (omega arith) node-tags (w .key) in
       let rd = row-read partial r (w .line) 21 (w .row) (omega (arith, lo, z)) (omega arith) (omega arith) (λ z. absurd (omega (arith, z))) in
       let lt = ltb-true (at r 1) (count (w .was) 5) (item-there partial p (w .was) NODE r 21 rd (w .pass .refers) 1 (ltb-true 1 2 refl)) in
       let lt′ : at r 1 < count p 5 = subst (λ l. at r 1 < length l) (w .earlier 5 (omega arith)) lt in
@@ -142,10 +142,11 @@ module _ (p c : State) (fp : Facts partial p) (fc : Facts complete c) (k : Commo
 
   pub read-as : ReadPolicies (contents p) (nPolicies p) (policies c)
   unfolding nPolicies policies trees exprs
-  read-as = subst (λ z. ReadPolicies (contents p) (nPolicies p) (contentPolicies (treesFrom (types c) (λ n. getD (contents c) n (vbool false)) [] (linesOf c NODE)) z)) (k .rules)
-      (subst (λ z. ReadPolicies (contents p) (nPolicies p) (contentPolicies (treesFrom (types c) (λ n. getD (contents c) n (vbool false)) [] z) (onTerm p))) (k .nodes)
-      (subst (λ z. ReadPolicies (contents p) (nPolicies p) (contentPolicies (treesFrom z (λ n. getD (contents c) n (vbool false)) [] (linesOf p NODE)) (onTerm p))) types-eq
-      (read-policies (contents p) (types p) (λ n. getD (contents c) n (vbool false)) (linesOf p NODE) (onTerm p) lit-there)))
+  read-as =
+      subst (λ z. ReadPolicies (contents p) (nPolicies p) (contentPolicies (λ x y. treesFrom (types c) (contentOf c) (linked (contentOf c) x y) [] (linesOf c NODE)) z)) (k .rules)
+      (subst (λ z. ReadPolicies (contents p) (nPolicies p) (contentPolicies (λ x y. treesFrom (types c) (contentOf c) (linked (contentOf c) x y) [] z) (onTerm p))) (k .nodes)
+      (subst (λ z. ReadPolicies (contents p) (nPolicies p) (contentPolicies (λ x y. treesFrom z (contentOf c) (linked (contentOf c) x y) [] (linesOf p NODE)) (onTerm p))) types-eq
+      (read-policies partial p (fp .history) (contents p) (types p) (contentOf c) (λ n lt. subst (At (contents p) n) (sym (val-same n lt)) (there-value partial p (fp .history) n lt)) lit-there (fp .ends))))
 
   -- ---- agreement of the known parts
 

@@ -31,7 +31,7 @@ use Rattle.sheet.specs.Forms.{Mode, partial, Slot, entry, line, lineOr, 
 use Rattle.sheet.specs.State.{State, linesOf, count, lineAt, Declared, TypeRow, bool, long, string, entity, set′, record′, declareds, typeRow, typeAt}
 use Rattle.sheet.specs.Typing.{attributesOf, typed}
 use Rattle.sheet.specs.Sheet.{found, allThere, thereIs, ascend, among, fresh}
-use Rattle.sheet.specs.Content.{tyOver, tysFrom, types, contents, attrsIn, schema, childrenOver, argsOver, treeFor, treeOver, treesFrom, contentPolicies, numberedPolicies, trees, exprs, nPolicies, policies, nEnv, pEnv, onTerm}
+use Rattle.sheet.specs.Content.{tyOver, tysFrom, types, contents, attrsIn, schema, childrenOver, argsOver, treeFor, treeOver, treesFrom, contentPolicies, numberedPolicies, trees, exprs, nPolicies, policies, nEnv, pEnv, onTerm, linked}
 use Rattle.sheet.specs.Answer.{typeNumber, run}
 use Rattle.sheet.proofs.Lines.{and-both, Was, History}
 use Rattle.sheet.proofs.Parsed.{parsed, allBelow, all-below, between, tags-between, counted-plain, policyTag}
@@ -328,7 +328,7 @@ module _ (m : Mode) (s : State) (h : History m s) where
 
 -- ---- the sheet's own trees
 
-module _ (Q : Ty → Type 0) (b : Q tbool) {L : Type 0} (ts : List Ty) (value : ℕ → L) where
+module _ (Q : Ty → Type 0) (b : Q tbool) {L : Type 0} (ts : List Ty) (value : ℕ → L) (p q : ℕ) where
   module _ (ns : List (Node L)) (k : (n : ℕ) → TypesHold Q (getD ns n (err tbool))) where
     all-hold : (l : List ℕ) → AllHold Q (childrenOver ts value ns l)
     all-hold [] = tt
@@ -339,40 +339,41 @@ module _ (Q : Ty → Type 0) (b : Q tbool) {L : Type 0} (ts : List Ty) (value : 
     args-hold (t ∷ []) = tt
     args-hold (t ∷ n ∷ l) = (k n, args-hold l)
 
-    tree-holds : (r : List ℕ) → Q (getD ts (at r 0) tbool) → (d : ℕ) → TypesHold Q (getD (treeFor ts value ns r (getD ts (at r 0) tbool) (λ j. getD ns (at r j) (err tbool))) d (err tbool))
-    tree-holds r q zero = q
-    tree-holds r q (suc zero) = q
-    tree-holds r q (suc (suc zero)) = q
-    tree-holds r q (suc (suc (suc zero))) = (q, k (at r 1), k (at r 2))
-    tree-holds r q (suc (suc (suc (suc zero)))) = (q, k (at r 1), k (at r 2))
-    tree-holds r q (suc (suc (suc (suc (suc zero))))) = (q, k (at r 1), k (at r 2))
-    tree-holds r q (suc (suc (suc (suc (suc (suc zero)))))) = (q, k (at r 1), k (at r 2))
-    tree-holds r q (suc (suc (suc (suc (suc (suc (suc zero))))))) = (q, k (at r 1), k (at r 2))
-    tree-holds r q (suc (suc (suc (suc (suc (suc (suc (suc zero)))))))) = (q, k (at r 1), k (at r 2))
-    tree-holds r q (suc (suc (suc (suc (suc (suc (suc (suc (suc zero))))))))) = (q, k (at r 1), k (at r 2))
-    tree-holds r q (suc (suc (suc (suc (suc (suc (suc (suc (suc (suc zero)))))))))) = (q, k (at r 1), k (at r 2))
-    tree-holds r q (suc (suc (suc (suc (suc (suc (suc (suc (suc (suc (suc zero))))))))))) = (q, k (at r 1), k (at r 2))
-    tree-holds r q (suc (suc (suc (suc (suc (suc (suc (suc (suc (suc (suc (suc zero)))))))))))) = (q, k (at r 1), k (at r 2))
-    tree-holds r q (suc (suc (suc (suc (suc (suc (suc (suc (suc (suc (suc (suc (suc zero))))))))))))) = (q, k (at r 1), k (at r 2))
-    tree-holds r q (suc (suc (suc (suc (suc (suc (suc (suc (suc (suc (suc (suc (suc (suc zero)))))))))))))) = (q, k (at r 1), k (at r 2))
-    tree-holds r q (suc (suc (suc (suc (suc (suc (suc (suc (suc (suc (suc (suc (suc (suc (suc zero))))))))))))))) = (q, k (at r 1), k (at r 2))
-    tree-holds r q (suc (suc (suc (suc (suc (suc (suc (suc (suc (suc (suc (suc (suc (suc (suc (suc zero)))))))))))))))) = (q, k (at r 1), k (at r 2))
-    tree-holds r q (suc (suc (suc (suc (suc (suc (suc (suc (suc (suc (suc (suc (suc (suc (suc (suc (suc zero))))))))))))))))) = (q, k (at r 1), k (at r 2), k (at r 3))
-    tree-holds r q (suc (suc (suc (suc (suc (suc (suc (suc (suc (suc (suc (suc (suc (suc (suc (suc (suc (suc zero)))))))))))))))))) = (q, k (at r 1))
-    tree-holds r q (suc (suc (suc (suc (suc (suc (suc (suc (suc (suc (suc (suc (suc (suc (suc (suc (suc (suc (suc zero))))))))))))))))))) = (q, k (at r 1))
-    tree-holds r q (suc (suc (suc (suc (suc (suc (suc (suc (suc (suc (suc (suc (suc (suc (suc (suc (suc (suc (suc (suc zero)))))))))))))))))))) = (q, k (at r 1))
-    tree-holds r q (suc (suc (suc (suc (suc (suc (suc (suc (suc (suc (suc (suc (suc (suc (suc (suc (suc (suc (suc (suc (suc zero))))))))))))))))))))) = (q, k (at r 1))
-    tree-holds r q (suc (suc (suc (suc (suc (suc (suc (suc (suc (suc (suc (suc (suc (suc (suc (suc (suc (suc (suc (suc (suc (suc zero)))))))))))))))))))))) = (q, k (at r 1))
-    tree-holds r q (suc (suc (suc (suc (suc (suc (suc (suc (suc (suc (suc (suc (suc (suc (suc (suc (suc (suc (suc (suc (suc (suc (suc zero))))))))))))))))))))))) = (q, k (at r 1))
-    tree-holds r q (suc (suc (suc (suc (suc (suc (suc (suc (suc (suc (suc (suc (suc (suc (suc (suc (suc (suc (suc (suc (suc (suc (suc (suc zero)))))))))))))))))))))))) = (q, k (at r 1))
-    tree-holds r q (suc (suc (suc (suc (suc (suc (suc (suc (suc (suc (suc (suc (suc (suc (suc (suc (suc (suc (suc (suc (suc (suc (suc (suc (suc zero))))))))))))))))))))))))) = (q, k (at r 1))
-    tree-holds r q (suc (suc (suc (suc (suc (suc (suc (suc (suc (suc (suc (suc (suc (suc (suc (suc (suc (suc (suc (suc (suc (suc (suc (suc (suc (suc zero)))))))))))))))))))))))))) = (q, all-hold (drop 1 (items r)))
-    tree-holds r q (suc (suc (suc (suc (suc (suc (suc (suc (suc (suc (suc (suc (suc (suc (suc (suc (suc (suc (suc (suc (suc (suc (suc (suc (suc (suc (suc zero))))))))))))))))))))))))))) = (q, args-hold (drop 1 (items r)))
-    tree-holds r q (suc (suc (suc (suc (suc (suc (suc (suc (suc (suc (suc (suc (suc (suc (suc (suc (suc (suc (suc (suc (suc (suc (suc (suc (suc (suc (suc (suc d)))))))))))))))))))))))))))) = b
+    tree-holds : (r : List ℕ) → Q (getD ts (at r 0) tbool) → (d : ℕ) → TypesHold Q (getD (treeFor ts value (linked value p q) ns r (getD ts (at r 0) tbool) (λ j. getD ns (at r j) (err tbool))) d (err tbool))
+    tree-holds r o zero = o
+    tree-holds r o (suc zero) = o
+    tree-holds r o (suc (suc zero)) = o
+    tree-holds r o (suc (suc (suc zero))) = (o, k (at r 1), k (at r 2))
+    tree-holds r o (suc (suc (suc (suc zero)))) = (o, k (at r 1), k (at r 2))
+    tree-holds r o (suc (suc (suc (suc (suc zero))))) = (o, k (at r 1), k (at r 2))
+    tree-holds r o (suc (suc (suc (suc (suc (suc zero)))))) = (o, k (at r 1), k (at r 2))
+    tree-holds r o (suc (suc (suc (suc (suc (suc (suc zero))))))) = (o, k (at r 1), k (at r 2))
+    tree-holds r o (suc (suc (suc (suc (suc (suc (suc (suc zero)))))))) = (o, k (at r 1), k (at r 2))
+    tree-holds r o (suc (suc (suc (suc (suc (suc (suc (suc (suc zero))))))))) = (o, k (at r 1), k (at r 2))
+    tree-holds r o (suc (suc (suc (suc (suc (suc (suc (suc (suc (suc zero)))))))))) = (o, k (at r 1), k (at r 2))
+    tree-holds r o (suc (suc (suc (suc (suc (suc (suc (suc (suc (suc (suc zero))))))))))) = (o, k (at r 1), k (at r 2))
+    tree-holds r o (suc (suc (suc (suc (suc (suc (suc (suc (suc (suc (suc (suc zero)))))))))))) = (o, k (at r 1), k (at r 2))
+    tree-holds r o (suc (suc (suc (suc (suc (suc (suc (suc (suc (suc (suc (suc (suc zero))))))))))))) = (o, k (at r 1), k (at r 2))
+    tree-holds r o (suc (suc (suc (suc (suc (suc (suc (suc (suc (suc (suc (suc (suc (suc zero)))))))))))))) = (o, k (at r 1), k (at r 2))
+    tree-holds r o (suc (suc (suc (suc (suc (suc (suc (suc (suc (suc (suc (suc (suc (suc (suc zero))))))))))))))) = (o, k (at r 1), k (at r 2))
+    tree-holds r o (suc (suc (suc (suc (suc (suc (suc (suc (suc (suc (suc (suc (suc (suc (suc (suc zero)))))))))))))))) = (o, k (at r 1), k (at r 2))
+    tree-holds r o (suc (suc (suc (suc (suc (suc (suc (suc (suc (suc (suc (suc (suc (suc (suc (suc (suc zero))))))))))))))))) = (o, k (at r 1), k (at r 2), k (at r 3))
+    tree-holds r o (suc (suc (suc (suc (suc (suc (suc (suc (suc (suc (suc (suc (suc (suc (suc (suc (suc (suc zero)))))))))))))))))) = (o, k (at r 1))
+    tree-holds r o (suc (suc (suc (suc (suc (suc (suc (suc (suc (suc (suc (suc (suc (suc (suc (suc (suc (suc (suc zero))))))))))))))))))) = (o, k (at r 1))
+    tree-holds r o (suc (suc (suc (suc (suc (suc (suc (suc (suc (suc (suc (suc (suc (suc (suc (suc (suc (suc (suc (suc zero)))))))))))))))))))) = (o, k (at r 1))
+    tree-holds r o (suc (suc (suc (suc (suc (suc (suc (suc (suc (suc (suc (suc (suc (suc (suc (suc (suc (suc (suc (suc (suc zero))))))))))))))))))))) = (o, k (at r 1))
+    tree-holds r o (suc (suc (suc (suc (suc (suc (suc (suc (suc (suc (suc (suc (suc (suc (suc (suc (suc (suc (suc (suc (suc (suc zero)))))))))))))))))))))) = (o, k (at r 1))
+    tree-holds r o (suc (suc (suc (suc (suc (suc (suc (suc (suc (suc (suc (suc (suc (suc (suc (suc (suc (suc (suc (suc (suc (suc (suc zero))))))))))))))))))))))) = (o, k (at r 1))
+    tree-holds r o (suc (suc (suc (suc (suc (suc (suc (suc (suc (suc (suc (suc (suc (suc (suc (suc (suc (suc (suc (suc (suc (suc (suc (suc zero)))))))))))))))))))))))) = (o, k (at r 1))
+    tree-holds r o (suc (suc (suc (suc (suc (suc (suc (suc (suc (suc (suc (suc (suc (suc (suc (suc (suc (suc (suc (suc (suc (suc (suc (suc (suc zero))))))))))))))))))))))))) = (o, k (at r 1))
+    tree-holds r o (suc (suc (suc (suc (suc (suc (suc (suc (suc (suc (suc (suc (suc (suc (suc (suc (suc (suc (suc (suc (suc (suc (suc (suc (suc (suc zero)))))))))))))))))))))))))) = (o, all-hold (drop 1 (items r)))
+    tree-holds r o (suc (suc (suc (suc (suc (suc (suc (suc (suc (suc (suc (suc (suc (suc (suc (suc (suc (suc (suc (suc (suc (suc (suc (suc (suc (suc (suc zero))))))))))))))))))))))))))) = (o, args-hold (drop 1 (items r)))
+    tree-holds r o (suc (suc (suc (suc (suc (suc (suc (suc (suc (suc (suc (suc (suc (suc (suc (suc (suc (suc (suc (suc (suc (suc (suc (suc (suc (suc (suc (suc zero)))))))))))))))))))))))))))) = o
+    tree-holds r o (suc (suc (suc (suc (suc (suc (suc (suc (suc (suc (suc (suc (suc (suc (suc (suc (suc (suc (suc (suc (suc (suc (suc (suc (suc (suc (suc (suc (suc d))))))))))))))))))))))))))))) = b
 
-  pub hold-from : ((y : ℕ) → Q (getD ts y tbool)) → (rows : List (List ℕ)) (ns : List (Node L)) → ((n : ℕ) → TypesHold Q (getD ns n (err tbool))) → (n : ℕ) → TypesHold Q (getD (treesFrom ts value ns rows) n (err tbool))
-  hold-from q [] ns k = k
-  hold-from q (r ∷ rows) ns k = hold-from q rows (ns ++ (treeOver ts value ns r ∷ [])) (all-snoc (TypesHold Q) (err tbool) b ns (treeOver ts value ns r) k (tree-holds ns k r (q (at r 0)) (tag r - 21)))
+  pub hold-from : ((y : ℕ) → Q (getD ts y tbool)) → (rows : List (List ℕ)) (ns : List (Node L)) → ((n : ℕ) → TypesHold Q (getD ns n (err tbool))) → (n : ℕ) → TypesHold Q (getD (treesFrom ts value (linked value p q) ns rows) n (err tbool))
+  hold-from o [] ns k = k
+  hold-from o (r ∷ rows) ns k = hold-from o rows (ns ++ (treeOver ts value (linked value p q) ns r ∷ [])) (all-snoc (TypesHold Q) (err tbool) b ns (treeOver ts value (linked value p q) ns r) k (tree-holds ns k r (o (at r 0)) (tag r - 21)))
 
 -- item n of a list, with what stands before it and after it
 pub split-at : {X : Type 0} (l : List (List ℕ)) (n : ℕ) → n < length l → ((pre rest : List (List ℕ)) → l ≡ pre ++ (getD l n [] ∷ rest) → X) → X
@@ -382,7 +383,7 @@ split-at (x ∷ l) (suc n) lt f = split-at l n (le-of-suc-le-suc lt) (λ pre res
 
 -- a node's first item is its type
 type-first : ℕ → Bool
-type-first t = ltb t 21 || ltb 48 t || (isLine 3 (slotAt t 0) && ltb 0 (length (formOf t .items)))
+type-first t = ltb t 21 || ltb 49 t || (isLine 3 (slotAt t 0) && ltb 0 (length (formOf t .items)))
 
 types-first : allBelow type-first noTag ≡ true
 unfolding type-first slotAt formOf forms
@@ -398,9 +399,9 @@ is-line k number e = no-true e
 is-line k day e = no-true e
 is-line k nothing e = no-true e
 
-first-is : (t : ℕ) → 21 ≤ t → t ≤ 48 → (slotAt t 0 ≡ line 3) × (0 < length (formOf t .items))
+first-is : (t : ℕ) → 21 ≤ t → t ≤ 49 → (slotAt t 0 ≡ line 3) × (0 < length (formOf t .items))
 unfolding type-first
-first-is t lo hi = go (ltb t 21) (ltb 48 t) (le-ltb t 21 lo) (le-ltb 48 t hi) (all-below type-first noTag t types-first (omega arith))
+first-is t lo hi = go (ltb t 21) (ltb 49 t) (le-ltb t 21 lo) (le-ltb 49 t hi) (all-below type-first noTag t types-first (omega arith))
   where
     go : (a b : Bool) → a ≡ false → b ≡ false → (a || b || (isLine 3 (slotAt t 0) && ltb 0 (length (formOf t .items)))) ≡ true → (slotAt t 0 ≡ line 3) × (0 < length (formOf t .items))
     go true b p q e = no-true (sym p)
@@ -426,7 +427,7 @@ module _ (m : Mode) (s : State) (h : History m s) where
   node-type n lt = split-at (linesOf s NODE) n lt (λ pre rest e.
       let r = lineAt s NODE n in
       let w = h NODE pre (lineAt s NODE n) rest e in
-      let (lo, hi) = tags-between NODE 21 48 (tag r) (omega arith) node-tags (w .key) in
+      let (lo, hi) = tags-between NODE 21 49 (tag r) (omega arith) node-tags (w .key) in
       let (sl, le) = first-is (tag r) lo hi in
       let rd = row-read m r (w .line) (tag r) (w .row) refl (omega (arith, lo)) (omega (arith, hi)) (λ z. absurd (omega (arith, z, lo))) in
       let there = item-there m s (w .was) NODE r (tag r) rd (w .pass .refers) 0 le in
@@ -461,12 +462,12 @@ module _ (m : Mode) (s : State) (h : History m s) where
   policies-each : {rs : List (List ℕ)} → Each (λ r. Listed (types s) tbool) rs → PoliciesIn (types s) (numberedPolicies (trees s) rs)
   unfolding trees
   policies-each O.none = tt
-  policies-each (O.more {r = r} b bs) = (hold-from (Listed (types s)) b (types s) (λ n. n) (any-listed b) (linesOf s NODE) [] (λ n. b) (at r 2), policies-each bs)
+  policies-each (O.more {r = r} b bs) = (hold-from (Listed (types s)) b (types s) (λ n. n) (at r 3) (at r 4) (any-listed b) (linesOf s NODE) [] (λ n. b) (at r 2), policies-each bs)
 
   contents-each : {rs : List (List ℕ)} → Each (λ r. Listed (types s) tbool) rs → ContentsIn (types s) (contentPolicies (exprs s) rs)
   unfolding exprs
   contents-each O.none = tt
-  contents-each (O.more {r = r} b bs) = (hold-from (Listed (types s)) b (types s) (λ n. getD (contents s) n (vbool false)) (any-listed b) (linesOf s NODE) [] (λ n. b) (at r 2), contents-each bs)
+  contents-each (O.more {r = r} b bs) = (hold-from (Listed (types s)) b (types s) (λ n. getD (contents s) n (vbool false)) (at r 3) (at r 4) (any-listed b) (linesOf s NODE) [] (λ n. b) (at r 2), contents-each bs)
 
   -- THE SHEET'S OWN TREES: each type of each policy's tree has a type line
   pub sheet-types : PoliciesIn (types s) (nPolicies s)
@@ -482,5 +483,5 @@ module _ (s : State) (f : Facts partial s) where
   -- THE RESIDUALS: each type of each residual has a type line, of what is left over of a path too
   pub residual-types : LinesIn (types s) (run partial s .lines)
   unfolding run policies
-  residual-types = lines-in (run-reads (schema s) (nEnv partial s) (pEnv s) (nPolicies s) (values-table partial s (f .history)) (env-read s f) (read-own partial s (f .history)) .residuals)
-      (policies-typed partial s (f .history)) (contents-each partial s (f .history) (all-listed partial s (f .history)))
+  residual-types = lines-in (run-reads (schema s) (nEnv partial s) (pEnv s) (nPolicies s) (values-table partial s (f .history)) (env-read s f) (read-own partial s (f .history) (f .ends)) .residuals)
+      (policies-typed partial s (f .history) (f .ends)) (contents-each partial s (f .history) (all-listed partial s (f .history)))

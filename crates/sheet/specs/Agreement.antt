@@ -1,6 +1,6 @@
 -- Document 01: "Two sheets agree if the complete one's `text` and `value` lines begin with the partial one's, its `kind`, `type`, `shape`,
 -- `node`, `policy` lines are the same, and every known request or entity part is the same. Each entity listed on the partial sheet is
--- listed on the complete one; more may be." Document 02: "Agreeing sheets have equal days and terms."
+-- listed on the complete one; more may be." Document 02: "Agreeing sheets have equal days and terms", "equal link lines".
 use mathlib.Core.Bool.{Bool, true, false, cond, _&&_}
 use mathlib.Core.Option.{Option, none, some}
 use mathlib.Core.List.{List, [], _∷_}
@@ -9,7 +9,7 @@ use lib.Dec.{eqb}
 use Rattle.cedar.specs.Value.{onSome}
 use Rattle.sheet.specs.Bytes.{same}
 use Rattle.sheet.specs.Typing.{unknownOr}
-use Rattle.sheet.specs.Forms.{at, TEXT, KIND, TYPE, SHAPE, VALUE, ENTITY, PRINCIPAL, ACTION, RESOURCE, CONTEXT, DAY, NODE, POLICY, TERM}
+use Rattle.sheet.specs.Forms.{at, TEXT, KIND, TYPE, SHAPE, VALUE, ENTITY, PRINCIPAL, ACTION, RESOURCE, CONTEXT, DAY, NODE, POLICY, LINK, TERM}
 use Rattle.sheet.specs.State.{State, lineAt, linesOf}
 
 -- p's lines are the first of c's
@@ -54,7 +54,7 @@ agrees p c =
     begins (linesOf p TEXT) (linesOf c TEXT) && begins (linesOf p VALUE) (linesOf c VALUE)
     && sameLines (linesOf p KIND) (linesOf c KIND) && sameLines (linesOf p TYPE) (linesOf c TYPE) && sameLines (linesOf p SHAPE) (linesOf c SHAPE)
     && sameLines (linesOf p NODE) (linesOf c NODE) && sameLines (linesOf p POLICY) (linesOf c POLICY)
-    && sameLines (linesOf p DAY) (linesOf c DAY) && sameLines (linesOf p TERM) (linesOf c TERM)
+    && sameLines (linesOf p DAY) (linesOf c DAY) && sameLines (linesOf p TERM) (linesOf c TERM) && sameLines (linesOf p LINK) (linesOf c LINK)
     && requestSame (lineAt p PRINCIPAL 0) (lineAt c PRINCIPAL 0) && requestSame (lineAt p ACTION 0) (lineAt c ACTION 0)
     && requestSame (lineAt p RESOURCE 0) (lineAt c RESOURCE 0) && requestSame (lineAt p CONTEXT 0) (lineAt c CONTEXT 0)
     && allListed (linesOf p ENTITY) (linesOf c ENTITY)

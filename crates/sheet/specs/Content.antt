@@ -14,9 +14,9 @@ use Rattle.cedar.specs.Entities.{Env, Line, PEnv, PLine}
 use Rattle.cedar.specs.Response.{Effect, permit, forbid}
 use Rattle.cedar.specs.Rows.{Entries, stop, entry, Row, rbool, rlong, rtext, rent, rset, rrec, sameRow}
 use Rattle.cedar.specs.Numbered.{Give, made, old, NLine, NEnv}
-use Rattle.sheet.specs.Forms.{Mode, partial, complete, tag, items, at, keep, mark, firstNode, TEXT, TYPE, VALUE, ENTITY, PRINCIPAL, ACTION, RESOURCE, CONTEXT, DAY, NODE, POLICY, TERM}
+use Rattle.sheet.specs.Forms.{Mode, partial, complete, tag, items, at, keep, mark, firstNode, TEXT, TYPE, VALUE, ENTITY, PRINCIPAL, ACTION, RESOURCE, CONTEXT, DAY, NODE, POLICY, LINK, TERM}
 use Rattle.sheet.specs.State.{State, lineAt, linesOf, Declared, TypeRow, bool, long, string, entity, set′, record′, typeRow, valueRow, valueAt}
-use Rattle.sheet.specs.Typing.{isAction, attributesOf, tagsOf, aboveOf}
+use Rattle.sheet.specs.Typing.{isAction, attributesOf, tagsOf, aboveOf, slotValue}
 use Rattle.cedar.specs.Runs.{Policy, NPolicy}
 
 -- ---- types
@@ -124,45 +124,48 @@ module _ {L : Type 0} (ts : List Ty) (value : ℕ → L) where
   argsOver ns (t ∷ []) = gnil
   argsOver ns (t ∷ n ∷ l) = gcons t (child ns n) (argsOver ns l)
 
-  -- one tree for each operation, in the table's order: T the type, r the row, c its children
-  abbrev pub treeFor : List (Node L) → List ℕ → Ty → (ℕ → Node L) → List (Node L)
-  treeFor ns r T c =
-      lit T (value (at r 1))
-      ∷ err T
-      ∷ var T (varOf (at r 1))
-      ∷ and T (c 1) (c 2)
-      ∷ or T (c 1) (c 2)
-      ∷ bin T beq (c 1) (c 2)
-      ∷ bin T blt (c 1) (c 2)
-      ∷ bin T ble (c 1) (c 2)
-      ∷ bin T badd (c 1) (c 2)
-      ∷ bin T bsub (c 1) (c 2)
-      ∷ bin T bmul (c 1) (c 2)
-      ∷ rel T rin (c 1) (c 2)
-      ∷ rel T rgettag (c 1) (c 2)
-      ∷ rel T rhastag (c 1) (c 2)
-      ∷ bin T bcontains (c 1) (c 2)
-      ∷ bin T ball (c 1) (c 2)
-      ∷ bin T bany (c 1) (c 2)
-      ∷ ite T (c 1) (c 2) (c 3)
-      ∷ un T (uis (at r 2)) (c 1)
-      ∷ un T (ulike (patternOf (drop 2 (items r)))) (c 1)
-      ∷ get T (c 1) (at r 2)
-      ∷ has T (c 1) (at r 2)
-      ∷ haspath T (c 1) (at r 2) (drop 3 (items r))
-      ∷ un T unot (c 1)
-      ∷ un T uneg (c 1)
-      ∷ un T uempty (c 1)
-      ∷ set T (childrenOver ns (drop 1 (items r)))
-      ∷ rec T (argsOver ns (drop 1 (items r)))
-      ∷ []
+  -- what stands for a slot of this type: 0 the principal's, 1 the resource's
+  module _ (slot : Ty → ℕ → Node L) where
+    -- one tree for each operation, in the table's order: T the type, r the row, c its children
+    abbrev pub treeFor : List (Node L) → List ℕ → Ty → (ℕ → Node L) → List (Node L)
+    treeFor ns r T c =
+        lit T (value (at r 1))
+        ∷ err T
+        ∷ var T (varOf (at r 1))
+        ∷ and T (c 1) (c 2)
+        ∷ or T (c 1) (c 2)
+        ∷ bin T beq (c 1) (c 2)
+        ∷ bin T blt (c 1) (c 2)
+        ∷ bin T ble (c 1) (c 2)
+        ∷ bin T badd (c 1) (c 2)
+        ∷ bin T bsub (c 1) (c 2)
+        ∷ bin T bmul (c 1) (c 2)
+        ∷ rel T rin (c 1) (c 2)
+        ∷ rel T rgettag (c 1) (c 2)
+        ∷ rel T rhastag (c 1) (c 2)
+        ∷ bin T bcontains (c 1) (c 2)
+        ∷ bin T ball (c 1) (c 2)
+        ∷ bin T bany (c 1) (c 2)
+        ∷ ite T (c 1) (c 2) (c 3)
+        ∷ un T (uis (at r 2)) (c 1)
+        ∷ un T (ulike (patternOf (drop 2 (items r)))) (c 1)
+        ∷ get T (c 1) (at r 2)
+        ∷ has T (c 1) (at r 2)
+        ∷ haspath T (c 1) (at r 2) (drop 3 (items r))
+        ∷ un T unot (c 1)
+        ∷ un T uneg (c 1)
+        ∷ un T uempty (c 1)
+        ∷ set T (childrenOver ns (drop 1 (items r)))
+        ∷ rec T (argsOver ns (drop 1 (items r)))
+        ∷ slot T (at r 1)
+        ∷ []
 
-  abbrev pub treeOver : List (Node L) → List ℕ → Node L
-  treeOver ns r = getD (treeFor ns r (getD ts (at r 0) tbool) (λ j. child ns (at r j))) (tag r - firstNode) (err tbool)
+    abbrev pub treeOver : List (Node L) → List ℕ → Node L
+    treeOver ns r = getD (treeFor ns r (getD ts (at r 0) tbool) (λ j. child ns (at r j))) (tag r - firstNode) (err tbool)
 
-  abbrev pub treesFrom : List (Node L) → List (List ℕ) → List (Node L)
-  treesFrom ns [] = ns
-  treesFrom ns (r ∷ rs) = treesFrom (ns ++ (treeOver ns r ∷ [])) rs
+    abbrev pub treesFrom : List (Node L) → List (List ℕ) → List (Node L)
+    treesFrom ns [] = ns
+    treesFrom ns (r ∷ rs) = treesFrom (ns ++ (treeOver ns r ∷ [])) rs
 
 -- ---- policies
 
@@ -171,30 +174,48 @@ abbrev pub runsOn : ℕ → List (List ℕ) → ℕ → Bool
 runsOn d [] n = true
 runsOn d (r ∷ rs) n = cond (eqb (at r 0) n) (leb (at r 1) d && leb d (at r 2)) (runsOn d rs n)
 
--- of policy lines, numbered from n, those that run: "A policy off term is skipped"
-abbrev pub running : (ℕ → Bool) → ℕ → List (List ℕ) → List (List ℕ)
-running runs n [] = []
-running runs n (r ∷ rs) = keep (runs n) r (running runs (suc n) rs)
+-- the two values of policy n's link line, marks where it has none
+abbrev pub linkOf : List (List ℕ) → ℕ → List ℕ
+linkOf [] n = mark ∷ mark ∷ []
+linkOf (r ∷ rs) n = cond (eqb n (at r 0)) (at r 1 ∷ at r 2 ∷ []) (linkOf rs n)
+
+-- a policy's row, and after it its link's values: id, effect, node, principal's value, resource's value
+abbrev pub withLink : List ℕ → List ℕ → List ℕ
+withLink r l = tag r ∷ at r 0 ∷ at r 1 ∷ at r 2 ∷ l
+
+-- of policy lines, numbered from n, those that run, with their links: "A policy off term is skipped"
+abbrev pub running : (ℕ → Bool) → (ℕ → List ℕ) → ℕ → List (List ℕ) → List (List ℕ)
+running runs link n [] = []
+running runs link n (r ∷ rs) = keep (runs n) (withLink r (link n)) (running runs link (suc n) rs)
 
 unfoldable pub onTerm : State → List (List ℕ)
-onTerm s = running (runsOn (at (lineAt s DAY 0) 0) (linesOf s TERM)) 0 (linesOf s POLICY)
+onTerm s = running (runsOn (at (lineAt s DAY 0) 0) (linesOf s TERM)) (linkOf (linesOf s LINK)) 0 (linesOf s POLICY)
 
 abbrev pub effectOf : ℕ → Effect
 effectOf x = getD (permit ∷ forbid ∷ []) x permit
 
-abbrev pub numberedPolicies : List (Node ℕ) → List (List ℕ) → List NPolicy
+-- ns: all trees, by a link's two values
+abbrev pub numberedPolicies : (ℕ → ℕ → List (Node ℕ)) → List (List ℕ) → List NPolicy
 numberedPolicies ns [] = []
-numberedPolicies ns (r ∷ rs) = record { effect = effectOf (at r 1); tree = getD ns (at r 2) (err tbool) } ∷ numberedPolicies ns rs
+numberedPolicies ns (r ∷ rs) = record { effect = effectOf (at r 1); tree = getD (ns (at r 3) (at r 4)) (at r 2) (err tbool) } ∷ numberedPolicies ns rs
 
-abbrev pub contentPolicies : List (Node Value) → List (List ℕ) → List Policy
+abbrev pub contentPolicies : (ℕ → ℕ → List (Node Value)) → List (List ℕ) → List Policy
 contentPolicies ns [] = []
-contentPolicies ns (r ∷ rs) = record { effect = effectOf (at r 1); tree = getD ns (at r 2) (err tbool) } ∷ contentPolicies ns rs
+contentPolicies ns (r ∷ rs) = record { effect = effectOf (at r 1); tree = getD (ns (at r 3) (at r 4)) (at r 2) (err tbool) } ∷ contentPolicies ns rs
 
-unfoldable pub trees : State → List (Node ℕ)
-trees s = treesFrom (types s) (λ n. n) [] (linesOf s NODE)
+-- "Linking replaces each slot by a `lit` of its type"
+abbrev pub linked : {L : Type 0} → (ℕ → L) → ℕ → ℕ → Ty → ℕ → Node L
+linked value p q T x = lit T (value (slotValue p q x))
 
-unfoldable pub exprs : State → List (Node Value)
-exprs s = treesFrom (types s) (λ n. getD (contents s) n (vbool false)) [] (linesOf s NODE)
+unfoldable pub trees : State → ℕ → ℕ → List (Node ℕ)
+trees s p q = treesFrom (types s) (λ n. n) (linked (λ n. n) p q) [] (linesOf s NODE)
+
+-- the content that a value number stands for
+abbrev pub contentOf : State → ℕ → Value
+contentOf s n = getD (contents s) n (vbool false)
+
+unfoldable pub exprs : State → ℕ → ℕ → List (Node Value)
+exprs s p q = treesFrom (types s) (contentOf s) (linked (contentOf s) p q) [] (linesOf s NODE)
 
 unfoldable pub nPolicies : State → List NPolicy
 nPolicies s = numberedPolicies (trees s) (onTerm s)

@@ -17,7 +17,7 @@ pub data Mode : Type 0 where
 -- ---- keys, in their order
 
 unfoldable pub keys : List String
-keys = "sheet" ∷ "text" ∷ "kind" ∷ "type" ∷ "shape" ∷ "value" ∷ "entity" ∷ "principal" ∷ "action" ∷ "resource" ∷ "context" ∷ "day" ∷ "node" ∷ "policy" ∷ "term" ∷ []
+keys = "sheet" ∷ "text" ∷ "kind" ∷ "type" ∷ "shape" ∷ "value" ∷ "entity" ∷ "principal" ∷ "action" ∷ "resource" ∷ "context" ∷ "day" ∷ "node" ∷ "policy" ∷ "link" ∷ "term" ∷ []
 
 abbrev pub SHEET : ℕ
 SHEET = 0
@@ -61,15 +61,18 @@ NODE = 12
 abbrev pub POLICY : ℕ
 POLICY = 13
 
+abbrev pub LINK : ℕ
+LINK = 14
+
 abbrev pub TERM : ℕ
-TERM = 14
+TERM = 15
 
 -- past the keys, and past the table of forms below: what stands for a key or a form that there is not
 abbrev pub noKey : ℕ
-noKey = 15
+noKey = 16
 
 abbrev pub noTag : ℕ
-noTag = 52
+noTag = 54
 
 -- the place of a word in a list; past its end where it is not there
 abbrev pub placeIn : List ℕ → List String → ℕ
@@ -174,12 +177,14 @@ forms =
     ∷ node1 "empty"
     ∷ nodeWith "set" [] (line NODE ∷ [])
     ∷ rising NODE "record" (line TYPE ∷ []) (line TEXT ∷ line NODE ∷ [])
+    ∷ nodeWith "slot" (word ("p" ∷ "r" ∷ []) ∷ []) []
     ∷ plain POLICY "" (line TEXT ∷ word ("permit" ∷ "forbid" ∷ []) ∷ line NODE ∷ [])
     ∷ plain DAY "" (day ∷ [])
+    ∷ plain LINK "" (line POLICY ∷ lineOr dash VALUE ∷ lineOr dash VALUE ∷ [])
     ∷ plain TERM "" (line POLICY ∷ day ∷ day ∷ [])
     ∷ []
 
--- the tags of `type=bool`, `value=bool` and `node=..,lit` in the table; the other constructors of these keys follow in its order
+-- the tags of `type=bool`, `value=bool`, `node=..,lit` and `node=..,slot` in the table; the other constructors of these keys follow in its order
 abbrev pub firstType : ℕ
 firstType = 3
 
@@ -188,6 +193,9 @@ firstValue = 10
 
 abbrev pub firstNode : ℕ
 firstNode = 21
+
+abbrev pub slotNode : ℕ
+slotNode = 49
 
 -- no line has this form
 abbrev pub noForm : Form

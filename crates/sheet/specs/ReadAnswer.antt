@@ -9,12 +9,13 @@ use lib.Dec.{eqb}
 use lib.ListN.{length, getD, take, drop, replicate, getElem?}
 use Rattle.cedar.specs.Value.{onSome}
 use Rattle.cedar.specs.Types.{Ty}
-use Rattle.cedar.specs.Residual.{Node, Class, ctrue, cfalse, cerror, copen}
+use Rattle.cedar.specs.Residual.{Node, err, Class, ctrue, cfalse, cerror, copen}
 use Rattle.cedar.specs.Response.{Effect, Decision, allow, deny, undecided}
 use Rattle.cedar.specs.Rows.{Row}
 use Rattle.sheet.specs.Ascii.{ascii}
 use Rattle.sheet.specs.Bytes.{upTo, split, same}
 use Rattle.sheet.specs.Forms.{Mode, partial, complete, Slot, line, word, item, joined, rowOf, keyOf, TEXT, VALUE, NODE, POLICY}
+use Rattle.sheet.specs.Sheet.{anySlot}
 use Rattle.sheet.specs.Content.{rowsIn, treesFrom, effectOf}
 
 -- `policy=id,effect,true|false|error|open,root`; in a complete answer, "policies without root", the root is 0
@@ -101,6 +102,7 @@ linesSay m (d ∷ c ∷ ls) = onSome none (decisionLine d) (λ x. onSome none (c
 unfoldable pub readAnswer : Mode → List ℕ → Option Said
 readAnswer m bytes = linesSay m (split 10 bytes)
 
--- the tree under a policy's root, if there is one: ts are the sheet's types, and a `lit` holds what its number stands for
+-- the tree under a policy's root, if there is one: ts are the sheet's types, and a `lit` holds what its number stands for. Residuals are
+-- those of linked policies: an answer with a slot has no trees
 unfoldable pub treeUnder : {L : Type 0} → List Ty → (ℕ → L) → Said → PolicyLine → Option (Node L)
-treeUnder ts value a l = getElem? (treesFrom ts value [] (a .nodes)) (l .root)
+treeUnder ts value a l = cond (anySlot (a .nodes)) none (getElem? (treesFrom ts value (λ T x. err T) [] (a .nodes)) (l .root))

@@ -3,21 +3,21 @@ use mathlib.Core.Bool.{Bool, true, false, cond, _&&_, _||_, not}
 use mathlib.Core.List.{List, [], _∷_, _++_}
 use Prim.Native.Nat.{ℕ, zero, suc, _+_, _-_, max}
 use lib.Dec.{leb, ltb, eqb}
-use lib.ListN.{getD, take, drop, set}
+use lib.ListN.{length, getD, take, drop, set}
 use Rattle.sheet.specs.Bytes.{same, split}
-use Rattle.sheet.specs.Forms.{Mode, Slot, entry, line, lineOr, lineUnknown, word, number, day, nothing, slotAt, mark, rowOf, tag, items, at, keyOf, refs, ascendings, TEXT, KIND, TYPE, VALUE, ENTITY, NODE, POLICY, TERM, noKey}
+use Rattle.sheet.specs.Forms.{Mode, Slot, entry, line, lineOr, lineUnknown, word, number, day, nothing, slotAt, mark, rowOf, tag, items, at, keyOf, refs, ascendings, TEXT, KIND, TYPE, VALUE, ENTITY, NODE, POLICY, LINK, TERM, noKey}
 use Rattle.cedar.specs.Numbered.{memN}
 use Rattle.sheet.specs.State.{State, empty, linesOf, count, lineAt, depthsOf, counts, before}
-use Rattle.sheet.specs.Typing.{typed}
+use Rattle.sheet.specs.Typing.{nodesUnder, nodesOf, isSlot, slotValue, typed}
 
 -- ---- 3: key order, line missing
 
 -- the least and the greatest number of lines of each key; "shape .. one per kind"
 abbrev pub least : State → List ℕ
-least s = 1 ∷ 0 ∷ 0 ∷ 0 ∷ count s KIND ∷ 0 ∷ 0 ∷ 1 ∷ 1 ∷ 1 ∷ 1 ∷ 1 ∷ 0 ∷ 0 ∷ 0 ∷ []
+least s = 1 ∷ 0 ∷ 0 ∷ 0 ∷ count s KIND ∷ 0 ∷ 0 ∷ 1 ∷ 1 ∷ 1 ∷ 1 ∷ 1 ∷ 0 ∷ 0 ∷ 0 ∷ 0 ∷ []
 
 abbrev pub greatest : State → List ℕ
-greatest s = 1 ∷ 512 ∷ 32 ∷ 128 ∷ count s KIND ∷ 1024 ∷ 128 ∷ 1 ∷ 1 ∷ 1 ∷ 1 ∷ 1 ∷ 1024 ∷ 64 ∷ 64 ∷ []
+greatest s = 1 ∷ 512 ∷ 32 ∷ 128 ∷ count s KIND ∷ 1024 ∷ 128 ∷ 1 ∷ 1 ∷ 1 ∷ 1 ∷ 1 ∷ 1024 ∷ 64 ∷ 64 ∷ 64 ∷ []
 
 -- each of the first at least that of the second
 abbrev pub reach : List ℕ → List ℕ → Bool
@@ -36,6 +36,20 @@ allZero (x ∷ l) = eqb x 0 && allZero l
 -- "Keys in this order"
 abbrev pub inOrder : State → ℕ → Bool
 inOrder s k = allZero (drop (suc k) (counts s)) && enough s k
+
+-- ---- 4: one line too many, or too many node uses
+
+-- the node uses of policy lines: each has the nodes under its root
+abbrev pub uses : State → List (List ℕ) → ℕ
+uses s [] = 0
+uses s (r ∷ rs) = length (nodesUnder s (at r 2)) + uses s rs
+
+-- "Node uses summed over all policies may reach 1,024"
+abbrev pub overused : State → ℕ → List ℕ → Bool
+overused s k r = eqb k POLICY && ltb 1024 (uses s (r ∷ linesOf s POLICY))
+
+abbrev pub tooMany : State → ℕ → List ℕ → Bool
+tooMany s k r = leb (getD (greatest s) k 0) (count s k) || overused s k r
 
 -- ---- 5: references, repeats, order
 
@@ -75,16 +89,29 @@ newRow s k r = not (among r (linesOf s k))
 abbrev pub newName : State → ℕ → List ℕ → Bool
 newName s k r = not (memN (at r 0) (firsts (linesOf s k)))
 
--- entities, terms: "ascending"
+-- entities, links, terms: "ascending"
 abbrev pub above : State → ℕ → List ℕ → Bool
 above s k r = eqb (count s k) 0 || ltb (at (lineAt s k (count s k - 1)) 0) (at r 0)
+
+-- whether slot x is among these nodes: 0 the principal's, `p`, and 1 the resource's, `r`
+abbrev pub hasSlot : ℕ → List (List ℕ) → Bool
+hasSlot x [] = false
+hasSlot x (r ∷ rs) = (isSlot r && eqb (slotValue 0 1 (at r 1)) x) || hasSlot x rs
+
+abbrev pub anySlot : List (List ℕ) → Bool
+anySlot [] = false
+anySlot (r ∷ rs) = isSlot r || anySlot rs
+
+-- links: "A slot without a value gets 5", "a value for a slot that the policy lacks gets 5 there too"; slot x has its value at place x + 1
+abbrev pub slotGiven : State → List ℕ → ℕ → Bool
+slotGiven s r x = cond (hasSlot x (nodesOf s (at r 0))) (not (eqb (at r (suc x)) mark)) (eqb (at r (suc x)) mark)
 
 -- terms: "A last day before the first gets 5"
 abbrev pub termGoes : List ℕ → Bool
 termGoes r = leb (at r 1) (at r 2)
 
 abbrev pub fresh : State → ℕ → List ℕ → Bool
-fresh s k r = cond (eqb k TEXT || eqb k TYPE || eqb k VALUE) (newRow s k r) (cond (eqb k KIND || eqb k POLICY) (newName s k r) (cond (eqb k ENTITY) (above s k r) (cond (eqb k TERM) (above s k r && termGoes r) true)))
+fresh s k r = cond (eqb k TEXT || eqb k TYPE || eqb k VALUE) (newRow s k r) (cond (eqb k KIND || eqb k POLICY) (newName s k r) (cond (eqb k ENTITY) (above s k r) (cond (eqb k LINK) (above s k r && (slotGiven s r 0 && slotGiven s r 1)) (cond (eqb k TERM) (above s k r && termGoes r) true))))
 
 unfoldable pub found : State → ℕ → List ℕ → Bool
 found s k r = allThere s (tag r) 0 (items r) && ascend 0 (ascendings r) && fresh s k r
@@ -101,11 +128,12 @@ depth s k r = suc (deepest s k (refs k r))
 
 -- ---- 8: uses
 
--- nodes used in turn
-abbrev pub marked : List ℕ → List ℕ → List ℕ
-marked u [] = u
-marked u (n ∷ l) = marked (set u n 1) l
+-- nodes used in turn, each marked with x: 1 where a node uses it, 2 where a policy does
+abbrev pub marked : ℕ → List ℕ → List ℕ → List ℕ
+marked x u [] = u
+marked x u (n ∷ l) = marked x (set u n x) l
 
+-- "A policy root may now serve several policies; other nodes keep their single use"
 abbrev pub usedTwice : List ℕ → List ℕ → Bool
 usedTwice u [] = false
 usedTwice u (n ∷ l) = eqb (getD u n 0) 1 || usedTwice (set u n 1) l
@@ -115,7 +143,7 @@ usedTwice u (n ∷ l) = eqb (getD u n 0) 1 || usedTwice (set u n 1) l
 abbrev pub faultOf : State → ℕ → List ℕ → ℕ
 faultOf s k r =
     cond (not (inOrder s k)) 3
-    (cond (leb (getD (greatest s) k 0) (count s k)) 4
+    (cond (tooMany s k r) 4
     (cond (not (found s k r)) 5
     (cond (ltb 64 (depth s k r)) 6
     (cond (not (typed s r k)) 7
@@ -130,7 +158,7 @@ abbrev pub added : State → ℕ → List ℕ → State
 added s k r = record {
   lines = set (s .lines) k (linesOf s k ++ (r ∷ []));
   depths = set (s .depths) k (depthsOf s k ++ (depth s k r ∷ []));
-  used = cond (eqb k NODE) (marked (s .used) (refs NODE r) ++ (0 ∷ [])) (marked (s .used) (refs NODE r));
+  used = cond (eqb k NODE) (marked 1 (s .used) (refs NODE r) ++ (0 ∷ [])) (marked 2 (s .used) (refs NODE r));
 }
 
 unfoldable pub more : State → List ℕ → State
@@ -155,9 +183,18 @@ firstUnused (x ∷ l) = cond (eqb x 0) 0 (suc (firstUnused l))
 abbrev pub allUsed : State → ℕ → Reading
 allUsed s n = cond (ltb n (count s NODE)) (reads s 8 (suc (before s NODE + n))) (reads s 0 0)
 
+-- the first of policy lines, numbered from n, that has a slot and no link line
+abbrev pub firstUnlinked : State → ℕ → List (List ℕ) → ℕ
+firstUnlinked s n [] = n
+firstUnlinked s n (r ∷ rs) = cond (anySlot (nodesUnder s (at r 2)) && not (memN n (firsts (linesOf s LINK)))) n (firstUnlinked s (suc n) rs)
+
+-- "A slot whose policy has no link line gets 5 at the lowest such policy line, after the last line and before unused nodes"
+abbrev pub allLinked : State → ℕ → Reading
+allLinked s n = cond (ltb n (count s POLICY)) (reads s 5 (suc (before s POLICY + n))) (allUsed s (firstUnused (s .used)))
+
 -- after the last line: "a line missing at the end has the number after the last"
 abbrev pub ending : State → ℕ → Reading
-ending s k = cond (enough s noKey) (allUsed s (firstUnused (s .used))) (reads s 3 k)
+ending s k = cond (enough s noKey) (allLinked s (firstUnlinked s 0 (linesOf s POLICY))) (reads s 3 k)
 
 -- "lines in turn, the first faulty line ending the reading", from number k; what follows the last line end must be empty
 abbrev pub goOn : State → ℕ → List ℕ → ℕ → (State → ℕ → Reading) → Reading

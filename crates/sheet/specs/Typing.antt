@@ -1,11 +1,11 @@
 -- Document 01, "Typing", over the numbers of types, values and nodes. Types are distinct, so one type is one number.
 use mathlib.Core.Bool.{Bool, true, false, cond, _&&_, _||_, not}
 use mathlib.Core.Option.{Option, none, some}
-use mathlib.Core.List.{List, [], _∷_}
+use mathlib.Core.List.{List, [], _∷_, _++_}
 use Prim.Native.Nat.{ℕ, zero, suc, _-_}
 use lib.Dec.{eqb}
 use lib.ListN.{getD, drop}
-use Rattle.sheet.specs.Forms.{tag, items, at, mark, firstNode, KIND, TYPE, SHAPE, VALUE, PRINCIPAL, ACTION, RESOURCE, CONTEXT, NODE}
+use Rattle.sheet.specs.Forms.{tag, items, at, mark, refs, firstNode, slotNode, KIND, TYPE, SHAPE, VALUE, PRINCIPAL, ACTION, RESOURCE, CONTEXT, NODE, POLICY}
 use Rattle.sheet.specs.State.{State, count, lineAt, linesOf, typeRow, valueRow, Declared, TypeRow, bool, long, string, entity, set′, record′, typeAt, valueAt}
 use Rattle.cedar.specs.Rows.{Entries, stop, entry, Row}
 use Rattle.cedar.specs.Numbered.{rBool, rLong, rText, rEnt, rSet, rRec, memN, pickN, entryOf, isSome}
@@ -184,6 +184,40 @@ contextIs s y = eqb y (at (lineAt s CONTEXT 0) 0)
 abbrev pub varTyped : State → ℕ → ℕ → Bool
 varTyped s y x = getD (entityIs s y PRINCIPAL ∷ entityIs s y ACTION ∷ entityIs s y RESOURCE ∷ contextIs s y ∷ []) x (contextIs s y)
 
+-- ---- templates
+
+-- the tree under each node, as the rows of its nodes, its own first; built line by line over those before
+abbrev pub gathered : List (List (List ℕ)) → List ℕ → List (List ℕ)
+gathered us [] = []
+gathered us (n ∷ l) = getD us n [] ++ gathered us l
+
+abbrev pub underFrom : List (List (List ℕ)) → List (List ℕ) → List (List (List ℕ))
+underFrom us [] = us
+underFrom us (r ∷ rs) = underFrom (us ++ ((r ∷ gathered us (refs NODE r)) ∷ [])) rs
+
+unfoldable pub nodesUnder : State → ℕ → List (List ℕ)
+nodesUnder s n = getD (underFrom [] (linesOf s NODE)) n []
+
+-- the nodes of policy n
+abbrev pub nodesOf : State → ℕ → List (List ℕ)
+nodesOf s n = nodesUnder s (at (lineAt s POLICY n) 2)
+
+abbrev pub isSlot : List ℕ → Bool
+isSlot r = eqb (tag r) slotNode
+
+-- of a principal's and a resource's value, that for slot x: `p` is 0 and `r` is 1
+abbrev pub slotValue : ℕ → ℕ → ℕ → ℕ
+slotValue p q x = cond (eqb x 0) p q
+
+-- each slot among these nodes has a value that fits its type
+abbrev pub slotsFit : State → ℕ → ℕ → List (List ℕ) → Bool
+slotsFit s p q [] = true
+slotsFit s p q (r ∷ rs) = (not (isSlot r) || fits s (slotValue p q (at r 1)) (at r 0)) && slotsFit s p q rs
+
+-- "a value that does not fit the slot's type 7"
+abbrev pub linkTyped : State → List ℕ → Bool
+linkTyped s r = slotsFit s (at r 1) (at r 2) (nodesOf s (at r 0))
+
 module _ (s : State) (r : List ℕ) where
   -- the node's type, and those of its children
   abbrev pub own : ℕ
@@ -256,6 +290,7 @@ module _ (s : State) (r : List ℕ) where
       ∷ (boolAt own && setAt (kid 1))  -- empty
       ∷ onSetOf false (typeAt s own) (λ e. allIn (λ n. eqb (typeOfNode s n) e) (drop 1 (items r)))  -- set
       ∷ onRecord false (typeAt s own) (λ ds. entriesFit eqb ds (argTypes (drop 1 (items r))))  -- record
+      ∷ entityAt own  -- slot
       ∷ []
 
   abbrev pub nodeTyped : Bool
@@ -282,5 +317,6 @@ module _ (s : State) (r : List ℕ) where
       ∷ true  -- day
       ∷ nodeTyped  -- node
       ∷ policyTyped  -- policy
+      ∷ linkTyped s r  -- link
       ∷ true  -- term
       ∷ []) k false

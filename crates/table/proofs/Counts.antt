@@ -6,7 +6,6 @@ use native.Mathlib.Omega.{arith}
 use lib.ListN.{getD}
 use Rattle.sheet.specs.Forms.{noKey}
 use Rattle.table.proofs.Held.{getD-tab, countsIn}
-pub use Rattle.forms.proofs.Tests.{ranged, NoneOf, none-of}
 
 pub count-at : (a : List ℕ) (i : ℕ) → i < noKey → getD (countsIn a) i 0 ≡ getD a i 0
 count-at a i h = let z : 0 + i ≡ i = omega arith in getD-tab (λ (k : ℕ). getD a k 0) 0 noKey i 0 h ∙ ap (λ (k : ℕ). getD a k 0) z

@@ -13,7 +13,7 @@ use Rattle.sheet.specs.Forms.{noKey, NODE, TEXT}
 use Rattle.sheet.specs.State.{linesOf, depthsOf, counts, lengths}
 use Rattle.sheet.proofs.Parsed.{allBelow, all-below}
 use Rattle.forms.proofs.Tests.{other}
-use Rattle.table.specs.Layout.{TYPEDEPTHS, VALUEDEPTHS, NODEDEPTHS, USES, rowsOf, rowIn, textRow, textRows, linesHeld, ones, depthsAt, depthBases, depthBase, depthsIn, depthsHeld, held}
+use Rattle.table.specs.Layout.{TYPEDEPTHS, USES, rowsOf, rowIn, textRow, textRows, linesHeld, depthsAt, depthBases, depthBase, depthsIn, depthsHeld, held}
 use Rattle.table.proofs.Rows.{count-rows, set-tab, zero-plus, lines-of, length-lines}
 pub use Rattle.table.proofs.Rows.{tab, length-tab, getD-tab, tab-same, linesIn, lines-tab}
 

@@ -6,7 +6,7 @@ use mathlib.Core.Path.{_≡_}
 use Prim.Native.Nat.{ℕ, zero, suc, _+_, _-_, _≤_, _<_}
 use lib.Dec.{eqb}
 use lib.ListN.{length, getD, take, drop, set, replicate}
-use Rattle.sheet.specs.Forms.{tag, items, at, SHEET, TEXT, KIND, TYPE, SHAPE, VALUE, ENTITY, PRINCIPAL, ACTION, RESOURCE, CONTEXT, DAY, NODE, POLICY, TERM}
+use Rattle.sheet.specs.Forms.{tag, items, at, SHEET, TEXT, KIND, TYPE, SHAPE, VALUE, ENTITY, PRINCIPAL, ACTION, RESOURCE, CONTEXT, DAY, NODE, POLICY, LINK, TERM}
 use Rattle.sheet.specs.State.{State}
 use Rattle.words.specs.Log.{room}
 use Rattle.forms.specs.Keys as K
@@ -23,9 +23,12 @@ part w s e = take (e - s) (drop s w)
 abbrev pub TOP : ℕ
 TOP = MADE + 1
 
--- the words of the row of a policy that runs: tag, id, effect and node
+-- the words of a policy's row, tag, id, effect and node, and of that of one that runs: its link's two values after them
+abbrev pub POLICY-WORDS : ℕ
+POLICY-WORDS = 4
+
 abbrev pub RUN-WORDS : ℕ
-RUN-WORDS = 4
+RUN-WORDS = POLICY-WORDS + 2
 
 -- the greatest number of rows of each key, of policies that run and of made values
 unfoldable pub limits : List ℕ
@@ -59,11 +62,12 @@ rowIn sheet k r = cond (eqb k TEXT) (textRow sheet r) r
 unfoldable pub linesHeld : List ℕ → List ℕ → List (List (List ℕ))
 linesHeld sheet w =
     rowsOf w SHEET ∷ textRows sheet (rowsOf w TEXT) ∷ rowsOf w KIND ∷ rowsOf w TYPE ∷ rowsOf w SHAPE ∷ rowsOf w VALUE ∷ rowsOf w ENTITY
-    ∷ rowsOf w PRINCIPAL ∷ rowsOf w ACTION ∷ rowsOf w RESOURCE ∷ rowsOf w CONTEXT ∷ rowsOf w DAY ∷ rowsOf w NODE ∷ rowsOf w POLICY ∷ rowsOf w TERM ∷ []
+    ∷ rowsOf w PRINCIPAL ∷ rowsOf w ACTION ∷ rowsOf w RESOURCE ∷ rowsOf w CONTEXT ∷ rowsOf w DAY ∷ rowsOf w NODE ∷ rowsOf w POLICY ∷ rowsOf w LINK ∷ rowsOf w TERM ∷ []
 
 -- ---- work
 
--- words 0 to 4,095 remember pairs of a value and a type that fit, one bit each; then the depths of types, values and nodes; then uses of nodes
+-- words 0 to 4,095 remember pairs of a value and a type that fit, one bit each; then the depths of types, values and nodes; then uses of nodes;
+-- then how many nodes are under each node, and which slots; then how many uses of nodes the policies have
 abbrev pub TYPEDEPTHS : ℕ
 TYPEDEPTHS = 4096
 
@@ -76,6 +80,15 @@ NODEDEPTHS = 5248
 abbrev pub USES : ℕ
 USES = 6272
 
+abbrev pub SIZES : ℕ
+SIZES = 7296
+
+abbrev pub SLOTS : ℕ
+SLOTS = 8320
+
+abbrev pub SPENT : ℕ
+SPENT = 9344
+
 -- lines of the other keys refer to none of their own key: depth 1
 abbrev pub ones : List ℕ → ℕ → List ℕ
 ones w k = replicate (getD w k 0) 1
@@ -85,7 +98,7 @@ depthsAt b i n = take n (drop i b)
 
 -- where the depths of a key's lines stand, 0 where they are all 1
 unfoldable pub depthBases : List ℕ
-depthBases = 0 ∷ 0 ∷ 0 ∷ TYPEDEPTHS ∷ 0 ∷ VALUEDEPTHS ∷ 0 ∷ 0 ∷ 0 ∷ 0 ∷ 0 ∷ 0 ∷ NODEDEPTHS ∷ 0 ∷ 0 ∷ []
+depthBases = 0 ∷ 0 ∷ 0 ∷ TYPEDEPTHS ∷ 0 ∷ VALUEDEPTHS ∷ 0 ∷ 0 ∷ 0 ∷ 0 ∷ 0 ∷ 0 ∷ NODEDEPTHS ∷ 0 ∷ 0 ∷ 0 ∷ []
 
 unfoldable pub depthBase : ℕ → ℕ
 depthBase k = getD depthBases k 0
@@ -96,7 +109,7 @@ depthsIn w b k = cond (eqb (depthBase k) 0) (ones w k) (depthsAt b (depthBase k)
 unfoldable pub depthsHeld : List ℕ → List ℕ → List (List ℕ)
 depthsHeld w b =
     ones w SHEET ∷ ones w TEXT ∷ ones w KIND ∷ depthsAt b TYPEDEPTHS (getD w TYPE 0) ∷ ones w SHAPE ∷ depthsAt b VALUEDEPTHS (getD w VALUE 0) ∷ ones w ENTITY
-    ∷ ones w PRINCIPAL ∷ ones w ACTION ∷ ones w RESOURCE ∷ ones w CONTEXT ∷ ones w DAY ∷ depthsAt b NODEDEPTHS (getD w NODE 0) ∷ ones w POLICY ∷ ones w TERM ∷ []
+    ∷ ones w PRINCIPAL ∷ ones w ACTION ∷ ones w RESOURCE ∷ ones w CONTEXT ∷ ones w DAY ∷ depthsAt b NODEDEPTHS (getD w NODE 0) ∷ ones w POLICY ∷ ones w LINK ∷ ones w TERM ∷ []
 
 -- the state that the words hold
 unfoldable pub held : List ℕ → List ℕ → List ℕ → State

@@ -1,5 +1,8 @@
 // The rows of a sheet in the lent words: every row of every key by its number, in constant time, and a row more at the heap's end.
+use forms::LIT;
 use forms::NO_TAG;
+use forms::NODE;
+use forms::SLOT;
 use forms::TEXT;
 use forms::form_of;
 use forms::key_row;
@@ -21,13 +24,14 @@ pub const MADE: usize = forms::MADE;
 
 pub const TOP: usize = MADE + 1;
 
-// The words of the row of a policy that runs: tag, id, effect and node.
-pub const RUN_WORDS: u32 = 4;
+// The words of the row of a policy that runs: tag, id, effect and node, and its link's two values.
+pub const RUN_WORDS: u32 = 6;
 
 // Where the first row begins.
 pub const HEAP: usize = forms::HEAP;
 
-// Where the depths of types, values and nodes stand in the second slice, and the uses of nodes.
+// Where the depths of types, values and nodes stand in the second slice, the uses of nodes, how many nodes are under a node, and which slots;
+// and the word that says how many uses of nodes the policies have.
 pub const TYPEDEPTHS: usize = 4096;
 
 pub const VALUEDEPTHS: usize = 4224;
@@ -35,6 +39,12 @@ pub const VALUEDEPTHS: usize = 4224;
 pub const NODEDEPTHS: usize = 5248;
 
 pub const USES: usize = 6272;
+
+pub const SIZES: usize = 7296;
+
+pub const SLOTS: usize = 8320;
+
+pub const SPENT: usize = 9344;
 
 // The word that says where a key's first row begins.
 pub fn base_of(key: usize) -> usize
@@ -89,10 +99,15 @@ pub fn tag(line: &[u32]) -> u32
     line[0]
 }
 
-// The key of a form.
+// The key of a form; most are nodes.
 pub fn key_of(tag: u32) -> usize
     ensures { λ k. ⌜ k ≡ formOf tag .key ⌝ }
 {
+    if tag >= LIT {
+        if tag <= SLOT {
+            return NODE;
+        }
+    }
     form_of(tag).key
 }
 

@@ -16,7 +16,7 @@ use Rattle.sheet.specs.Sheet.{deepest, depth, marked, more}
 use Rattle.table.specs.Layout.{TYPEDEPTHS, VALUEDEPTHS, NODEDEPTHS, USES, depthsAt, rowsOf, held, limits, limit, depthBase, depthBases, depthsIn, rowIn}
 use Rattle.table.proofs.Held.{used-of, held-more}
 use Rattle.checks.proofs.DepthLaws.{no-base}
-use Rattle.checks.specs.Uses.{usesIn}
+use Rattle.checks.specs.Uses.{BY-NODE, BY-POLICY, markOf, usesIn}
 use Rattle.take.specs.Steps.{withDepth}
 
 -- ---- stores in regions
@@ -99,15 +99,31 @@ leaf-depth s r n₃ n₅ n₁₁ = ap (λ (l : List ℕ). suc (deepest s (formOf
 
 -- ---- the state with the line
 
+-- a line marks the nodes that it uses by its key
+marks-are : (t : Bool) (u l : List ℕ)
+    → cond t (marked (cond t BY-NODE BY-POLICY) u l ++ (0 ∷ [])) (marked (cond t BY-NODE BY-POLICY) u l) ≡ cond t (marked BY-NODE u l ++ (0 ∷ [])) (marked BY-POLICY u l)
+marks-are true u l = refl
+marks-are false u l = refl
+
 -- over any state, so that no state is written out
+more-as : (s : State) (k d : ℕ) (r u : List ℕ) → keyOf r ≡ k → d ≡ depth s k r → s .used ≡ u
+    → record {
+      lines = set (s .lines) k (linesOf s k ++ (r ∷ []));
+      depths = set (s .depths) k (depthsOf s k ++ (d ∷ []));
+      used = cond (eqb k NODE) (marked BY-NODE u (refs NODE r) ++ (0 ∷ [])) (marked BY-POLICY u (refs NODE r));
+    } ≡ more s r
+unfolding more
+more-as s k d r u key deep e = rw (key, deep, e) refl
+
 more-is : (s : State) (k d : ℕ) (r u : List ℕ) → keyOf r ≡ k → d ≡ depth s k r → s .used ≡ u
     → record {
       lines = set (s .lines) k (linesOf s k ++ (r ∷ []));
       depths = set (s .depths) k (depthsOf s k ++ (d ∷ []));
-      used = cond (eqb k NODE) (marked u (refs NODE r) ++ (0 ∷ [])) (marked u (refs NODE r));
+      used = cond (eqb k NODE) (marked (markOf k) u (refs NODE r) ++ (0 ∷ [])) (marked (markOf k) u (refs NODE r));
     } ≡ more s r
-unfolding more
-more-is s k d r u key deep e = rw (key, deep, e) refl
+more-is s k d r u key deep e =
+    ap (λ (v : List ℕ). record { lines = set (s .lines) k (linesOf s k ++ (r ∷ [])); depths = set (s .depths) k (depthsOf s k ++ (d ∷ [])); used = v }) (marks-are (eqb k NODE) u (refs NODE r))
+    ∙ more-as s k d r u key deep e
 
 -- what the stores leave, for each key
 pub data Put (b b′ : List ℕ) (k n d : ℕ) : Type 0 where
@@ -275,7 +291,7 @@ module _ (a a′ b b₁ b′ : List ℕ) (k d : ℕ) (low : k < noKey)
   used-new u e (leaf x y z p) = used-same z u e (leaf x y z p)
 
   module _ (sheet r : List ℕ) (rows-own : rowsOf a′ k ≡ rowsOf a k ++ (r ∷ [])) (rows-other : (j : ℕ) → j < noKey → (j ≡ k → ⊥) → rowsOf a′ j ≡ rowsOf a j)
-      (key : keyOf (rowIn sheet k r) ≡ k) (deep : d ≡ depth (held sheet a b) k (rowIn sheet k r)) (uses : usesIn a b₁ ≡ marked (usesIn a b) (refs NODE (rowIn sheet k r))) where
+      (key : keyOf (rowIn sheet k r) ≡ k) (deep : d ≡ depth (held sheet a b) k (rowIn sheet k r)) (uses : usesIn a b₁ ≡ marked (markOf k) (usesIn a b) (refs NODE (rowIn sheet k r))) where
     one-deep : (k ≡ TYPE → ⊥) → (k ≡ VALUE → ⊥) → (k ≡ NODE → ⊥) → d ≡ 1
     one-deep x y z =
         deep ∙ ap (λ (j : ℕ). depth (held sheet a b) j (rowIn sheet k r)) (sym key)
@@ -286,11 +302,11 @@ module _ (a a′ b b₁ b′ : List ℕ) (k d : ℕ) (low : k < noKey)
 
     pub state-more : held sheet a′ b′ ≡ more (held sheet a b) (rowIn sheet k r)
     state-more =
-        held-more sheet a a′ b b′ k d r (cond (eqb k NODE) (marked (usesIn a b) (refs NODE (rowIn sheet k r)) ++ (0 ∷ [])) (marked (usesIn a b) (refs NODE (rowIn sheet k r)))) low
-        rows-own rows-other (depth-own one-deep stores) (depth-other stores) (used-new (marked (usesIn a b) (refs NODE (rowIn sheet k r))) uses stores)
+        held-more sheet a a′ b b′ k d r (cond (eqb k NODE) (marked (markOf k) (usesIn a b) (refs NODE (rowIn sheet k r)) ++ (0 ∷ [])) (marked (markOf k) (usesIn a b) (refs NODE (rowIn sheet k r)))) low
+        rows-own rows-other (depth-own one-deep stores) (depth-other stores) (used-new (marked (markOf k) (usesIn a b) (refs NODE (rowIn sheet k r))) uses stores)
         ∙ more-is (held sheet a b) k d (rowIn sheet k r) (usesIn a b) key deep (used-of sheet a b)
 
--- ---- `put_depth` and `commit`
+-- ---- `put_depth`
 
 module _ (b : List ℕ) (k n d : ℕ) (b₁ : List ℕ) where
   pub put-type : k ≡ TYPE → b₁ ≡ set b (TYPEDEPTHS + n) d → b₁ ≡ withDepth b k n d
@@ -308,6 +324,3 @@ module _ (b : List ℕ) (k n d : ℕ) (b₁ : List ℕ) where
 pub put-leaf : (b : List ℕ) (k n d : ℕ) → (k ≡ TYPE → ⊥) → (k ≡ VALUE → ⊥) → (k ≡ NODE → ⊥) → b ≡ withDepth b k n d
 unfolding withDepth
 put-leaf b k n d u v w = sym (rw (ne-eqb k TYPE u, ne-eqb k VALUE v, ne-eqb k NODE w) refl)
-
-pub commit-depth : (a b b₁ : List ℕ) (k n d : ℕ) → n ≡ getD a k 0 → b₁ ≡ withDepth b k n d → b₁ ≡ withDepth b k (getD a k 0) d
-commit-depth a b b₁ k n d e p = p ∙ ap (λ (x : ℕ). withDepth b k x d) e

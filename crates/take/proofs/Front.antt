@@ -6,7 +6,7 @@ use native.Mathlib.Nat.{le-refl}
 use native.Mathlib.Omega.{arith}
 use lib.ListN.{length, getD, take, drop, length-append}
 use lib.Seq.{length-take-le, take-take, take-append-le, drop-append-seam}
-use Rattle.sheet.specs.Forms.{Mode, keyOf, TYPE, VALUE, DAY, NODE}
+use Rattle.sheet.specs.Forms.{Mode, keyOf, TYPE, VALUE, DAY, NODE, POLICY}
 use Rattle.sheet.specs.State.{State}
 use Rattle.sheet.specs.Sheet.{fault, more}
 use Rattle.words.specs.Log.{room}
@@ -15,7 +15,10 @@ use Rattle.table.specs.Layout.{TOP, heap, TYPEDEPTHS, VALUEDEPTHS, NODEDEPTHS, 
 use Rattle.table.proofs.Frame.{rows-kept, word-kept, last-was, sound-kept}
 use Rattle.table.proofs.Held.{held-same}
 use Rattle.fits.proofs.Remembered.{known-kept, known-words}
+use Rattle.checks.specs.Under.{Noted}
+use Rattle.checks.proofs.NotedLaws.{noted-other}
 use Rattle.take.specs.Steps.{Reached, Ready, taken, Taken}
+use Rattle.take.proofs.Noting.{noted-near}
 
 most : (limit TYPE ≡ 128) × (limit VALUE ≡ 1024) × (limit NODE ≡ 1024)
 unfolding limit limits
@@ -54,6 +57,12 @@ module _ (sheet a b a′ b′ : List ℕ) (ea : take room a′ ≡ take room a) 
   taken-alike : taken a′ ≡ taken a
   taken-alike = rw (word-alike TOP (omega arith), word-alike NODE (omega arith)) refl
 
+  noted-alike : Noted a′ b′
+  noted-alike =
+      let few : getD a NODE 0 ≤ 1024 = omega (arith, ready .sound .few NODE (omega arith), most .2) in
+      noted-near a′ b b′ (noted-other a b a′ b (ready .noted) (rows-alike NODE (omega arith)) (rows-alike POLICY (omega arith)) few (λ j h. refl)) (omega (arith, few, word-alike NODE (omega arith)))
+      (λ j l h. getD-below room b b′ eb j (omega arith))
+
   ready-alike : room ≤ length a′ → room ≤ length b′ → Ready a′ b′
   ready-alike la lb =
       record {
@@ -61,6 +70,7 @@ module _ (sheet a b a′ b′ : List ℕ) (ea : take room a′ ≡ take room a) 
         none = word-alike _ (omega arith) ∙ ready .none;
         made = word-alike _ (omega arith) ∙ ready .made;
         known = known-words a′ b b′ (λ i h. getD-below room b b′ eb i (omega arith)) (known-kept a a′ b (rows-alike VALUE (omega arith)) (rows-alike TYPE (omega arith)) (ready .known));
+        noted = noted-alike;
         blank = λ q i h. getD-below room b b′ eb i (omega arith) ∙ ready .blank (last-was a (ready .sound) a′ below VALUE q) i h;
         long = lb;
       }

@@ -1,3 +1,4 @@
 pub mod Committing
 pub mod Front
+pub mod Noting
 pub mod Taking

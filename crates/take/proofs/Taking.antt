@@ -2,14 +2,14 @@
 use mathlib.Core.Path.{_≡_, refl, sym, ap, ap₂, subst, _∙_}
 use mathlib.Core.Bool.{Bool, true, false, cond}
 use mathlib.Core.List.{List, [], _∷_, _++_}
-use Prim.Native.Nat.{ℕ, zero, suc, _+_, _-_, _*_, _≤_, _<_}
+use Prim.Native.Nat.{ℕ, suc, _+_, _-_, _*_, _≤_, _<_}
 use native.Mathlib.Omega.{arith}
 use native.Mathlib.Decide.{ℕ-discrete, decLt}
 use borrow.Author.Tests.{eq-eqb, ne-eqb, leb-true, leb-false}
 use lib.Dec.{leb, eqb}
 use lib.ListN.{length, getD, take, drop}
 use lib.Seq.{drop-drop, getD-set-other}
-use Rattle.sheet.specs.Forms.{Mode, forms, formOf, tag, keyOf, refs, TEXT, KIND, TYPE, SHAPE, VALUE, ENTITY, DAY, NODE, noKey}
+use Rattle.sheet.specs.Forms.{Mode, forms, formOf, tag, keyOf, refs, TEXT, KIND, TYPE, SHAPE, VALUE, ENTITY, DAY, NODE, POLICY, noKey}
 use Rattle.sheet.specs.State.{State, empty, count}
 use Rattle.sheet.specs.Sheet.{greatest, fault, faultOf, more, depth, marked}
 use Rattle.sheet.proofs.Parsed.{allBelow, all-below}
@@ -17,19 +17,25 @@ use Rattle.sheet.proofs.Lines.{Passed, passed, later-empty}
 use Rattle.sheet.proofs.Shallow.{reached-settled}
 use Rattle.sheet.proofs.Depths as D
 use Rattle.forms.specs.Tags.{TEXT-LINE}
-use Rattle.table.specs.Layout.{part, heap, RUN, MADE, TOP, TYPEDEPTHS, USES, rowsOf, textRow, held, withRow, limits, limit, Last, Sound, rowIn}
+use Rattle.words.proofs.Stores.{getD-below, part-below}
+use Rattle.table.specs.Layout.{part, heap, RUN, MADE, TOP, TYPEDEPTHS, USES, SIZES, depthsAt, rowsOf, textRow, held, withRow, limits, limit, Last, Sound, rowIn}
 use Rattle.table.proofs.Rows.{count-held, limit-small}
 use Rattle.table.proofs.Frame.{rows-kept, word-kept, sound-kept, top-new, count-new, count-other, rest-new, rows-own, rows-other, sound-new}
 use Rattle.table.proofs.Held.{held-same}
 use Rattle.fits.specs.Fit.{SettledIn, Known}
 use Rattle.fits.proofs.Remembered.{cleared, settled-held, known-kept, known-words}
-use Rattle.checks.specs.Uses.{usesIn}
+use Rattle.checks.specs.Uses.{markOf, usesIn}
+use Rattle.checks.specs.Under.{Noted}
+use Rattle.checks.proofs.NotedLaws.{noted-other}
+use Rattle.typing.specs.Links.{Shown}
+use Rattle.typing.proofs.Levels.{shown-reached}
 use Rattle.judge.specs.Verdicts.{Judged}
 use Rattle.judge.proofs.Alike.{text-tag}
 use Rattle.judge.proofs.Judging.{line-key}
 use Rattle.line.specs.Written.{rowFrom, Line}
-use Rattle.take.specs.Steps.{withDepth, Reached, before-any, after-line, Ready, taken, Taken}
+use Rattle.take.specs.Steps.{withDepth, notesOf, withNotes, Reached, before-any, after-line, Ready, taken, Taken}
 use Rattle.take.proofs.Committing.{line-words, state-more}
+use Rattle.take.proofs.Noting.{past-same, notes-below, notes-rest, notes-long, notes-depth, noted-line}
 
 -- ---- rows of words and rows of the definition
 
@@ -116,7 +122,7 @@ module _ (sheet row a b : List ℕ) (bytes : ℕ) (m : Mode) (ready : Ready a b)
   sound₁ : Sound a₁
   sound₁ = sound-kept a (ready .sound) a₁ below (omega (arith, ready .sound .long))
 
-  pub known₁ : Known a₁ b
+  known₁ : Known a₁ b
   known₁ = known-kept a a₁ b (rows-as VALUE (omega arith)) (rows-as TYPE (omega arith)) (ready .known)
 
   word-as : (i : ℕ) → i < TOP + 1 → getD a₁ i 0 ≡ getD a i 0
@@ -124,6 +130,15 @@ module _ (sheet row a b : List ℕ) (bytes : ℕ) (m : Mode) (ready : Ready a b)
 
   few-nodes : getD a₁ NODE 0 ≤ 1024
   few-nodes = omega (arith, sound₁ .few NODE (omega arith), nodes)
+
+  few-before : getD a NODE 0 ≤ 1024
+  few-before = omega (arith, ready .sound .few NODE (omega arith), nodes)
+
+  noted₁ : Noted a₁ b
+  noted₁ = noted-other a b a₁ b (ready .noted) (rows-as NODE (omega arith)) (rows-as POLICY (omega arith)) few-before (λ i h. refl)
+
+  pub judge-needs : Known a₁ b × Noted a₁ b
+  judge-needs = (known₁, noted₁)
 
   pub line-malformed : n ≡ 0 → Taken sheet row a b a₁ b bytes 3
   line-malformed z =
@@ -160,10 +175,13 @@ module _ (sheet row a b : List ℕ) (bytes : ℕ) (m : Mode) (ready : Ready a b)
     settled₁ : SettledIn a₁
     settled₁ = settled-rows sheet a₁ b (subst (Reached m) (sym state-as) reached)
 
+    shown₁ : Shown a₁
+    shown₁ = shown-reached sheet a₁ b (reached-as (subst (Reached m) (sym state-as) reached))
+
     module _ (b₁ : List ℕ) (f k d : ℕ) (j : Judged sheet a₁ b (part a₁ top end) b₁ f k d) (long-b₁ : length b₁ ≡ length b) where
       number-is : f ≡ fault (held sheet a b) row
       unfolding r₁
-      number-is = j .number settled₁ ∙ ap₂ (λ (s : State) (x : List ℕ). faultOf s (keyOf r₁) x) state-as row-is
+      number-is = j .number settled₁ shown₁ ∙ ap₂ (λ (s : State) (x : List ℕ). faultOf s (keyOf r₁) x) state-as row-is
           ∙ ap (λ (x : ℕ). faultOf (held sheet a b) x row) (sym key-is) ∙ sym (fault-some (held sheet a b) row some-row)
 
       rest-b₁ : drop 16384 b₁ ≡ drop 16384 b
@@ -223,7 +241,29 @@ module _ (sheet row a b : List ℕ) (bytes : ℕ) (m : Mode) (ready : Ready a b)
         pub commit-room : getD a₁ k 0 < 4294967295
         commit-room = omega (arith, room₁, limit-small k)
 
-        module _ (a₂ b₂ : List ℕ) (pa : a₂ ≡ withRow a₁ k end) (pb : b₂ ≡ withDepth b₁ k (getD a₁ k 0) d) (long-b₂ : length b₂ ≡ length b₁) where
+        module _ (a₂ b₂ : List ℕ) (pa : a₂ ≡ withRow a₁ k end) (pb : b₂ ≡ withNotes a₁ b₁ k end d) (long-b₂ : length b₂ ≡ length b₁) where
+          -- the work words with what is noted of the line, before its depth
+          c : List ℕ
+          c = notesOf a₁ b₁ k end
+
+          depth-put : b₂ ≡ withDepth c k (getD a₁ k 0) d
+          unfolding c
+          depth-put = notes-depth a₁ b₁ b₂ k end d pb
+
+          long-c : length c ≡ length b₁
+          unfolding c
+          long-c = notes-long a₁ b₁ k end
+
+          depths-c : (i m : ℕ) → i + m ≤ SIZES → depthsAt c i m ≡ depthsAt b₁ i m
+          unfolding c
+          depths-c i m h =
+              let z : i + m - i ≡ m = omega arith in
+              subst (λ (x : ℕ). take x (drop i (notesOf a₁ b₁ k end)) ≡ take x (drop i b₁)) z (part-below SIZES b₁ (notesOf a₁ b₁ k end) (notes-below a₁ b₁ k end) i (i + m) (omega arith) h)
+
+          words-c : (i : ℕ) → i < SIZES → getD c i 0 ≡ getD b₁ i 0
+          unfolding c
+          words-c i h = getD-below SIZES b₁ (notesOf a₁ b₁ k end) (notes-below a₁ b₁ k end) i h
+
           top₁ : getD a₁ TOP 0 ≡ top
           top₁ = word-as TOP (omega arith) ∙ sym ht
 
@@ -252,35 +292,52 @@ module _ (sheet row a b : List ℕ) (bytes : ℕ) (m : Mode) (ready : Ready a b)
           long-b : 16384 ≤ length b₁
           long-b = omega (arith, ready .long)
 
+          noted-b₁ : Noted a₁ b₁
+          noted-b₁ = noted-other a₁ b a₁ b₁ noted₁ refl refl few-nodes (λ i h. past-same b b₁ (USES + 1024) (j .rest few-nodes) i h)
+
           state₂ : held sheet a₂ b₂ ≡ more (held sheet a b) row
           unfolding r₁
           state₂ =
-              state-more a₁ a₂ b b₁ b₂ k d low room₁ (λ i h. sound₁ .few i (omega arith)) own₂ (λ i h ne. other₂ i (omega arith) ne) long-b (j .depths) pb
+              state-more a₁ a₂ b c b₂ k d low room₁ (λ i h. sound₁ .few i (omega arith)) own₂ (λ i h ne. other₂ i (omega arith) ne) (omega (arith, long-c, long-b))
+              (λ i n l h. depths-c i n (omega arith) ∙ j .depths i n l h) depth-put
               sheet r₁ rows₂ (λ i h ne. rows-same₂ i (omega arith) ne)
               (ap keyOf row-k ∙ key-is ∙ sym key-row)
               (j .deep z ∙ ap (λ (x : ℕ). depthOf x) (sym key-row))
-              (j .uses z ∙ ap (λ (x : ℕ). markedOf x) (sym key-row))
+              (depths-c USES (getD a₁ NODE 0) (omega (arith, few-nodes)) ∙ j .uses z ∙ ap (λ (x : ℕ). markedOf x) (sym key-row))
               ∙ ap₂ more state-as row-k
             where
               depthOf : ℕ → ℕ
               depthOf x = depth (held sheet a₁ b) x (rowIn sheet x (part a₁ top end))
 
               markedOf : ℕ → List ℕ
-              markedOf x = marked (usesIn a₁ b) (refs NODE (rowIn sheet x (part a₁ top end)))
+              markedOf x = marked (markOf x) (usesIn a₁ b) (refs NODE (rowIn sheet x (part a₁ top end)))
 
-          words₂ : ((i : ℕ) → i < TYPEDEPTHS → getD b₂ i 0 ≡ getD b₁ i 0) × (drop (USES + 1024) b₂ ≡ drop (USES + 1024) b₁)
-          words₂ = line-words b₁ b₂ k (getD a₁ k 0) d room₁ pb
+          put₂ : ((i : ℕ) → i < TYPEDEPTHS → getD b₂ i 0 ≡ getD c i 0) × (drop (USES + 1024) b₂ ≡ drop (USES + 1024) c)
+          put₂ = line-words c b₂ k (getD a₁ k 0) d room₁ depth-put
+
+          words₂ : (i : ℕ) → i < TYPEDEPTHS → getD b₂ i 0 ≡ getD b₁ i 0
+          words₂ i h = put₂ .0 i h ∙ words-c i (omega arith)
+
+          rest₂ : drop 16384 b₂ ≡ drop 16384 b₁
+          unfolding c
+          rest₂ = past-uses (notesOf a₁ b₁ k end) b₂ (put₂ .1) ∙ notes-rest a₁ b₁ k end few-nodes
+
+          noted₂ : Noted a₂ b₂
+          noted₂ =
+              noted-line a₁ b₁ a₂ b₂ k end d noted-b₁ few-nodes long-b room₁ (rw pa (rows-own a₁ sound₁ k end in-range room₁ last₁ lo)) rows-same₂
+              (λ q. let p : getD a₁ POLICY 0 ≡ 0 = last₁ .last POLICY (omega (arith, q)) (omega arith) in
+              (other₂ POLICY (omega arith) (λ x. absurd (omega (arith, q, x))) ∙ p, p)) pb
 
           -- before the entities nothing is remembered
           blank₁ : k < ENTITY → (i : ℕ) → i < TYPEDEPTHS → getD b₂ i 0 ≡ 0
           unfolding r₁
           blank₁ h i t =
               let q : Last a VALUE = record { last = λ x y w. sym (word-as x (omega arith)) ∙ last₁ .last x (omega arith) w } in
-              words₂ .0 i t ∙ j .early (subst (λ (x : ℕ). x < ENTITY) key-row h) i t ∙ ready .blank q i t
+              words₂ i t ∙ j .early (subst (λ (x : ℕ). x < ENTITY) key-row h) i t ∙ ready .blank q i t
 
           known₂ : Dec (k < ENTITY) → Known a₂ b₂
           known₂ (yes h) = cleared a₂ b₂ (blank₁ h)
-          known₂ (no h) = known-words a₂ b₁ b₂ (words₂ .0) (known-kept a₁ a₂ b₁ (rows-same₂ VALUE (omega arith) (λ q. h (omega arith))) (rows-same₂ TYPE (omega arith) (λ q. h (omega arith))) (j .known))
+          known₂ (no h) = known-words a₂ b₁ b₂ words₂ (known-kept a₁ a₂ b₁ (rows-same₂ VALUE (omega arith) (λ q. h (omega arith))) (rows-same₂ TYPE (omega arith) (λ q. h (omega arith))) (j .known))
 
           blank₂ : Dec (k < ENTITY) → Last a₂ VALUE → (i : ℕ) → i < TYPEDEPTHS → getD b₂ i 0 ≡ 0
           blank₂ (yes h) q i t = blank₁ h i t
@@ -314,11 +371,12 @@ module _ (sheet row a b : List ℕ) (bytes : ℕ) (m : Mode) (ready : Ready a b)
                   none = other₂ RUN (omega arith) (λ x. absurd (omega (arith, low, x))) ∙ none₁;
                   made = other₂ MADE (omega arith) (λ x. absurd (omega (arith, low, x))) ∙ made₁;
                   known = known₂ (decLt k ENTITY);
+                  noted = noted₂;
                   blank = blank₂ (decLt k ENTITY);
                   long = omega (arith, ready .long);
                 };
                 room = λ q. room₂ (ℕ-discrete k NODE);
                 day = λ e q. day₂ e;
                 rest-a = rw pa (rest-new a₁ sound₁ k end in-range room₁ last₁ lo) ∙ l .kept .rest;
-                rest-b = past-uses b₁ b₂ (words₂ .1) ∙ rest-b₁;
+                rest-b = rest₂ ∙ rest-b₁;
               }

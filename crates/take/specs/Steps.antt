@@ -5,11 +5,13 @@ use mathlib.Core.List.{List}
 use Prim.Native.Nat.{ℕ, _+_, _*_, _≤_, _<_}
 use lib.Dec.{eqb}
 use lib.ListN.{length, getD, drop, set}
-use Rattle.sheet.specs.Forms.{Mode, rowOf, keyOf, TYPE, VALUE, DAY, NODE}
+use Rattle.sheet.specs.Forms.{Mode, rowOf, keyOf, TYPE, VALUE, DAY, NODE, POLICY}
 use Rattle.sheet.specs.State.{State, empty}
 use Rattle.sheet.specs.Sheet.{fault, more}
-use Rattle.table.specs.Layout.{RUN, MADE, TOP, TYPEDEPTHS, VALUEDEPTHS, NODEDEPTHS, USES, Last, Sound, held}
+use Rattle.table.specs.Layout.{RUN, MADE, TOP, TYPEDEPTHS, VALUEDEPTHS, NODEDEPTHS, USES, SIZES, SLOTS, SPENT, part, Last, Sound, held}
 use Rattle.fits.specs.Fit.{Known}
+use Rattle.checks.specs.declared.Under as U
+use Rattle.checks.specs.Under.{underRow, spentOn, Noted}
 
 -- a line's depth, where lines of its key have one; a node is not yet used
 unfoldable pub withDepth : List ℕ → ℕ → ℕ → ℕ → List ℕ
@@ -18,17 +20,33 @@ withDepth b k n d =
     (cond (eqb k VALUE) (set b (VALUEDEPTHS + n) d)
     (cond (eqb k NODE) (set (set b (NODEDEPTHS + n) d) (USES + n) 0) b))
 
+-- what is under a node, where it is noted
+unfoldable pub withUnder : List ℕ → ℕ → U.Under → List ℕ
+withUnder b n u = set (set b (SIZES + n) (u .size)) (SLOTS + n) (u .slots)
+
+-- what is noted of the line of key k that the words from the heap's end up to e are: what is under a node, the uses with a policy
+unfoldable pub notesOf : List ℕ → List ℕ → ℕ → ℕ → List ℕ
+notesOf a b k e =
+    cond (eqb k NODE) (withUnder b (getD a NODE 0) (underRow a b (part a (getD a TOP 0) e)))
+    (cond (eqb k POLICY) (set b SPENT (spentOn a b (part a (getD a TOP 0) e))) b)
+
+-- and its depth d
+unfoldable pub withNotes : List ℕ → List ℕ → ℕ → ℕ → ℕ → List ℕ
+withNotes a b k e d = withDepth (notesOf a b k e) k (getD a k 0) d
+
 -- a state that lines without fault lead to
 pub data Reached (m : Mode) : State → Type 0 where
   before-any : Reached m empty
   after-line : {s : State} (l : List ℕ) → Reached m s → fault s (rowOf m l) ≡ 0 → Reached m (more s (rowOf m l))
 
--- between two lines: the rows are sound, no policy runs and nothing was made, what is remembered of pairs is true and is nothing before the entities
+-- between two lines: the rows are sound, no policy runs and nothing was made, what is remembered of pairs is true and is nothing before the entities, and
+-- what is noted of nodes is so
 pub record Ready (a b : List ℕ) : Type 0 where
   pub sound : Sound a
   pub none : getD a RUN 0 ≡ 0
   pub made : getD a MADE 0 ≡ 0
   pub known : Known a b
+  pub noted : Noted a b
   pub blank : Last a VALUE → (i : ℕ) → i < TYPEDEPTHS → getD b i 0 ≡ 0
   pub long : 16384 ≤ length b
 

@@ -1,24 +1,26 @@
 -- THE RUN OVER WORDS IS THE NUMBERED RUN, for every accepted partial sheet that the words hold with its policies on term as those that run, if they have
 -- room for what is made.
 use mathlib.Core.Path.{_≡_, refl, sym, _∙_, ap, ap₂, subst}
-use mathlib.Core.Bool.{false, cond}
+use mathlib.Core.Bool.{false, cond, _&&_, not}
 use mathlib.Core.Option.{Option, some}
 use mathlib.Core.List.{List, [], _∷_, _++_, append-nil}
 use Prim.Native.Nat.{ℕ, zero, suc, _+_, _*_, _≤_, _<_}
 use native.Mathlib.Omega.{arith}
 use borrow.Author.Tests.{ltb-true}
+use lib.Dec.{ltb}
 use lib.ListN.{length, getD}
 use Rattle.cedar.specs.Types.{Ty, tbool, tent, Var, principal, action, resource, context}
 use Rattle.cedar.specs.Residual.{err}
 use Rattle.cedar.specs.Rows.{Row, rent, sameRow}
-use Rattle.cedar.specs.Numbered.{NEnv, nInterpret}
+use Rattle.cedar.specs.Numbered.{NEnv, memN, nInterpret}
 use Rattle.cedar.specs.Runs.{Run, nRun}
 use Rattle.cedar.proofs.TableLaws.{InN}
 use Rattle.forms.specs.Tags.{POLICY-LINE}
-use Rattle.sheet.specs.Forms.{partial, forms, formOf, slotAt, tag, at, keyOf, TYPE, VALUE, NODE, POLICY, ENTITY}
+use Rattle.sheet.specs.Forms.{partial, forms, formOf, slotAt, tag, at, keyOf, TYPE, VALUE, NODE, POLICY, LINK, ENTITY}
 use Rattle.sheet.specs.State.{State, linesOf, count, depthsOf, valueRow}
-use Rattle.sheet.specs.Sheet.{read}
-use Rattle.sheet.specs.Content.{types, rowsIn, valueRows, schema, nEnv, given, requestTy, entityLine, lineGiven, trees, numberedPolicies, nPolicies, onTerm}
+use Rattle.sheet.specs.Typing.{nodesUnder}
+use Rattle.sheet.specs.Sheet.{read, anySlot, firsts, firstUnlinked}
+use Rattle.sheet.specs.Content.{types, rowsIn, valueRows, schema, nEnv, given, requestTy, entityLine, lineGiven, trees, numberedPolicies, nPolicies, linkOf, withLink, onTerm}
 use Rattle.sheet.specs.Answer.{run}
 use Rattle.sheet.proofs.Lines.{Was, accepted-history}
 use Rattle.sheet.proofs.Parsed.{tags-between}
@@ -29,10 +31,12 @@ use Rattle.sheet.proofs.Environment.{Facts, all-keys}
 use Rattle.sheet.proofs.TypeNumbers.{Listed, TypesIn, bool-listed}
 use Rattle.sheet.proofs.Depths.{Reached, read-reached, reached-depths, Depths}
 use Rattle.sheet.proofs.Depths as D
-use Rattle.sheet.proofs.Uses.{policies-small}
+use Rattle.sheet.proofs.Under.{fit-child}
+use Rattle.sheet.proofs.Linked.{link-fits}
+use Rattle.sheet.proofs.NeverNine.{policy-sizes}
 use Rattle.sheet.proofs.OnTerm.{Each, on-term}
 use Rattle.table.specs.Layout.{base, rowsAt, rowsOf, linesHeld, held, RUN, MADE, TOP, limits, limit, Sound}
-use Rattle.table.proofs.Rows.{count-held, count-rows}
+use Rattle.table.proofs.Rows.{count-rows}
 use Rattle.value.specs.Lines.{valueLines, placeOf}
 use Rattle.value.proofs.Interned.{Formeds}
 use Rattle.strict.specs.Gives.{envIn}
@@ -45,7 +49,7 @@ use Rattle.tpe.proofs.Operations.{sch, env}
 use Rattle.tpe.proofs.Depth.{childrenOf, Proper, Deep, interp-is}
 use Rattle.tpe.proofs.Nodes.{node-fact}
 use Rattle.tpe.proofs.Policies.{RunIs, PolicyWorks, ran-is}
-use Rattle.tpe.proofs.Readings.{Tabled, own-tabled, keeps-tabled, lists-types}
+use Rattle.tpe.proofs.Readings.{Tabled, own-tabled, Linked, keeps-tabled, lists-types}
 use Rattle.tpe.proofs.KindLines.{kind-found, rows-formed}
 
 -- texts do not matter for the known parts
@@ -54,10 +58,15 @@ unfolding envIn
 env-same sheet a = env-link false a sheet []
 
 -- nor depths for what was read
+unlinked-lines : (l : List (List (List ℕ))) (d e : List (List ℕ)) (u v : List ℕ) (n : ℕ) (rs : List (List ℕ)) → firstUnlinked (record { lines = l; depths = d; used = u }) n rs ≡ firstUnlinked (record { lines = l; depths = e; used = v }) n rs
+unfolding nodesUnder
+unlinked-lines l d e u v n [] = refl
+unlinked-lines l d e u v n (r ∷ rs) = ap (cond (anySlot (nodesUnder (record { lines = l; depths = d; used = u }) (at r 2)) && not (memN n (firsts (getD l LINK [])))) n) (unlinked-lines l d e u v (suc n) rs)
+
 facts-lines : (l : List (List (List ℕ))) (d e : List (List ℕ)) (u v : List ℕ) → Facts partial (record { lines = l; depths = d; used = u }) → Facts partial (record { lines = l; depths = e; used = v })
 facts-lines l d e u v f = record {
   history = λ k pre r rest q. let w = f .history k pre r rest q in record { was = w .was; line = w .line; row = w .row; key = w .key; pass = w .pass; mine = w .mine; earlier = w .earlier };
-  full = f .full;
+  ends = record { full = f .ends .full; linked = sym (ap (λ (i : ℕ). ltb i (length (getD l POLICY []))) (unlinked-lines l d e u v 0 (getD l POLICY []))) ∙ f .ends .linked };
   keys = f .keys;
 }
 
@@ -73,51 +82,59 @@ module _ (sheet a₀ : List ℕ) (f : Facts partial (held sheet a₀ [])) where
   unfolding held linesHeld
   kinds k e = kind-found partial s (f .history) k e
 
-  keeps : (c : ℕ) → c < length (nodes sheet a₀) → (R : List Row) → Tabled s R → Tabled s (nInterpret (sch partial sheet a₀) (env partial sheet a₀) (getD (trees s) c (err tbool)) R .rows)
-  keeps c lt R t = subst (λ (N : NEnv). Tabled s (nInterpret (schema s) N (getD (trees s) c (err tbool)) R .rows)) (sym (env-same sheet a₀)) (keeps-tabled s f c R t)
-
   node-count : count s NODE ≡ length (nodes sheet a₀)
   unfolding held linesHeld
   node-count = refl
 
-  lists : Listed (types s) tbool → (c : ℕ) → c < length (nodes sheet a₀) → (R : List Row) → Tabled s R → TypesIn (tys sheet a₀) (nInterpret (sch partial sheet a₀) (env partial sheet a₀) (getD (trees s) c (err tbool)) R .tree)
-  lists b c lt R t = subst (λ (N : NEnv). TypesIn (tys sheet a₀) (nInterpret (schema s) N (getD (trees s) c (err tbool)) R .tree)) (sym (env-same sheet a₀)) (lists-types s f b c (subst (λ (n : ℕ). c < n) (sym node-count) lt) R t)
+  -- under a link with the values p and q
+  module _ (p q : ℕ) where
+    keeps : (c : ℕ) → Linked s p q c → (R : List Row) → Tabled s R → Tabled s (nInterpret (sch partial sheet a₀) (env partial sheet a₀) (getD (trees s p q) c (err tbool)) R .rows)
+    keeps c k R t = subst (λ (N : NEnv). Tabled s (nInterpret (schema s) N (getD (trees s p q) c (err tbool)) R .rows)) (sym (env-same sheet a₀)) (keeps-tabled s f p q c k R t)
 
-  -- ---- depths
+    lists : Listed (types s) tbool → (c : ℕ) → Linked s p q c → (R : List Row) → Tabled s R → TypesIn (tys sheet a₀) (nInterpret (sch partial sheet a₀) (env partial sheet a₀) (getD (trees s p q) c (err tbool)) R .tree)
+    lists b c k R t = subst (λ (N : NEnv). TypesIn (tys sheet a₀) (nInterpret (schema s) N (getD (trees s p q) c (err tbool)) R .tree)) (sym (env-same sheet a₀)) (lists-types s f p q b c k R t)
 
-  proper : (c : ℕ) → c < length (nodes sheet a₀) → Proper sheet a₀ (trees s) c
-  unfolding held linesHeld
-  proper c lt = let k = node-fact partial s (f .history) c lt in record { there = lt; low = k .low; high = k .high; even = k .even; tree = k .tree }
+    -- ---- depths
+
+    proper : (c : ℕ) → Linked s p q c → Proper sheet a₀ p q (trees s p q) (Linked s p q) c
+    unfolding held linesHeld
+    proper c l = let k = node-fact partial s (f .history) p q c (l .there) in record { known = l; low = k .low; high = k .high; even = k .even; tree = k .tree }
+
+    module _ (ds : List ℕ) (levels : D.Deep NODE (rowsOf a₀ NODE) ds) where
+      kid-falls : (c : ℕ) → Linked s p q c → (j : ℕ) → InN j (childrenOf (getD (nodes sheet a₀) c [])) → Linked s p q j × (getD ds j 0 < getD ds c 0)
+      unfolding held linesHeld
+      kid-falls c l j i =
+          let r = node-fact partial s (f .history) p q c (l .there) .kids j i in
+          let (there, falls) = levels .falls c j r in
+          (record { there = there; fits = fit-child partial s (f .history) p q c j (l .there) (l .fits) r }, falls)
+
+      deep-of : (d c : ℕ) → Linked s p q c → getD ds c 0 ≤ d → Deep sheet a₀ p q (trees s p q) (Linked s p q) d c
+      deep-of zero c l e = let z = levels .least c (subst (λ (n : ℕ). c < n) node-count (l .there)) in absurd (omega (arith, z, e))
+      deep-of (suc d) c l e = (proper c l, λ j i. let (k, b) = kid-falls c l j i in deep-of d j k (omega (arith, b, e)))
 
   module _ (ds : List ℕ) (levels : D.Deep NODE (rowsOf a₀ NODE) ds) where
-    kid-falls : (c : ℕ) → c < length (nodes sheet a₀) → (j : ℕ) → InN j (childrenOf (getD (nodes sheet a₀) c [])) → (j < length (nodes sheet a₀)) × (getD ds j 0 < getD ds c 0)
-    unfolding held linesHeld
-    kid-falls c lt j i = levels .falls c j (node-fact partial s (f .history) c lt .kids j i)
-
-    deep-of : (d c : ℕ) → c < length (nodes sheet a₀) → getD ds c 0 ≤ d → Deep sheet a₀ (trees s) d c
-    deep-of zero c lt e = let z = levels .least c lt in absurd (omega (arith, z, e))
-    deep-of (suc d) c lt e = (proper c lt, λ j i. let (a, b) = kid-falls c lt j i in deep-of d j a (omega (arith, b, e)))
-
     -- ---- policies
 
-    policy-node : (pre : List (List ℕ)) (r : List ℕ) → Was partial s POLICY pre r → at r 2 < length (nodes sheet a₀)
-    unfolding held linesHeld keyOf slotAt formOf forms
+    policy-node : (pre : List (List ℕ)) (r : List ℕ) → Was partial s POLICY pre r → at r 2 < count s NODE
+    unfolding keyOf slotAt formOf forms
     policy-node pre r w =
         let (lo, hi) = tags-between POLICY POLICY-LINE POLICY-LINE (tag r) (omega arith) policy-tags (w .key) in
-        let q : tag r ≡ POLICY-LINE = omega (arith, lo, hi) in
-        let rd = row-read partial r (w .line) POLICY-LINE (w .row) q (omega arith) (omega arith) (λ z. absurd (omega (arith, z))) in
+        let t : tag r ≡ POLICY-LINE = omega (arith, lo, hi) in
+        let rd = row-read partial r (w .line) POLICY-LINE (w .row) t (omega arith) (omega arith) (λ z. absurd (omega (arith, z))) in
         let same : linesOf (w .was) NODE ≡ linesOf s NODE = w .earlier NODE (omega arith) in
         let lt = ltb-true (at r 2) (count (w .was) NODE) (item-there partial s (w .was) POLICY r POLICY-LINE rd (w .pass .refers) 2 (ltb-true 2 3 refl)) in
         subst (λ z. at r 2 < length z) same lt
 
     abbrev Working : List ℕ → Type 0
-    Working = PolicyWorks partial sheet a₀ (trees s) (Tabled s) 64 (omega arith) (interpOf partial sheet 64)
+    Working = PolicyWorks partial sheet a₀ (trees s) (Tabled s) 64 (omega arith) (λ p q. interpOf partial sheet p q 64)
 
-    policy-works : (pre : List (List ℕ)) (r : List ℕ) (rest : List (List ℕ)) → linesOf s POLICY ≡ pre ++ (r ∷ rest) → Working r
+    policy-works : (pre : List (List ℕ)) (r : List ℕ) (rest : List (List ℕ)) → linesOf s POLICY ≡ pre ++ (r ∷ rest) → Working (withLink r (linkOf (linesOf s LINK) (length pre)))
     policy-works pre r rest e =
         let b = bool-listed partial s (f .history) pre r rest e in
-        let lt = policy-node pre r (f .history POLICY pre r rest e) in
-        (interp-is partial sheet a₀ kinds (trees s) (Tabled s) keeps (lists b) 64 (at r 2) (omega arith) (deep-of 64 (at r 2) lt (levels .low (at r 2))), keeps (at r 2) lt)
+        let p = getD (linkOf (linesOf s LINK) (length pre)) 0 0 in
+        let q = getD (linkOf (linesOf s LINK) (length pre)) 1 0 in
+        let l : Linked s p q (at r 2) = record { there = policy-node pre r (f .history POLICY pre r rest e); fits = link-fits partial s (f .history) (f .ends) pre r rest e } in
+        (interp-is partial sheet a₀ kinds p q (trees s p q) (Linked s p q) (Tabled s) (keeps p q) (lists p q b) 64 (at r 2) (omega arith) (deep-of p q ds levels 64 (at r 2) l (levels .low (at r 2))), keeps p q (at r 2) l)
 
     all-work : Each Working (onTerm s)
     all-work = on-term Working s policy-works
@@ -220,10 +237,10 @@ module _ (sheet a b : List ℕ) (f : Facts partial (held sheet a b)) (d : Depths
   levels = d .deep NODE
 
   run-from : Room (policySizes (numberedPolicies (trees (held sheet a [])) (rowsOf a RUN))) a []
-      → RunIs partial sheet a 64 [] (nRun (sch partial sheet a) (env partial sheet a) (numberedPolicies (trees (held sheet a [])) (rowsOf a RUN)) (values a)) (ranFrom (interpOf partial sheet 64) 0 (getD a RUN 0) a [])
+      → RunIs partial sheet a 64 [] (nRun (sch partial sheet a) (env partial sheet a) (numberedPolicies (trees (held sheet a [])) (rowsOf a RUN)) (values a)) (ranFrom (λ p q. interpOf partial sheet p q 64) 0 (getD a RUN 0) a [])
   run-from room =
       rw (← count-rows a RUN)
-      (ran-is partial sheet a (trees (held sheet a [])) (Tabled (held sheet a [])) 64 (omega arith) (interpOf partial sheet 64) (rowsOf a RUN)
+      (ran-is partial sheet a (trees (held sheet a [])) (Tabled (held sheet a [])) 64 (omega arith) (λ p q. interpOf partial sheet p q 64) (rowsOf a RUN)
       (subst (Each (Working sheet a f₀ (depthsOf (held sheet a b) NODE) levels)) (sym own-runs) (all-work sheet a f₀ (depthsOf (held sheet a b) NODE) levels)) 0 refl a [] start-hold
       (subst (Tabled (held sheet a [])) (sym start-rows) (own-tabled (held sheet a []) (f₀ .history))) room)
 
@@ -231,27 +248,25 @@ module _ (sheet a b : List ℕ) (f : Facts partial (held sheet a b)) (d : Depths
   same-run : nRun (sch partial sheet a) (env partial sheet a) (numberedPolicies (trees (held sheet a [])) (rowsOf a RUN)) (values a) ≡ run partial (held sheet a b)
   same-run = ap₂ (λ (N : NEnv) (R : List Row). nRun (sch partial sheet a) N (numberedPolicies (trees (held sheet a [])) (rowsOf a RUN)) R) (env-same sheet a) start-rows ∙ as-run ∙ run-same sheet a b
 
-  run-held : policySizes (nPolicies (held sheet a b)) ≤ getD a NODE 0 → getD a TOP 0 + 12 + 3 * getD a NODE 0 ≤ 16384 → RunIs partial sheet a 64 [] (run partial (held sheet a b)) (runOf partial sheet a [])
-  unfolding runOf limit limits
+  run-held : policySizes (nPolicies (held sheet a b)) ≤ 1024 → getD a TOP 0 + 12 + 3 * 1024 ≤ 16384 → RunIs partial sheet a 64 [] (run partial (held sheet a b)) (runOf partial sheet a [])
+  unfolding runOf
   run-held few top =
       let z : policySizes (nPolicies (held sheet a b)) ≡ policySizes (numberedPolicies (trees (held sheet a [])) (rowsOf a RUN)) = ap policySizes (sym (policies-same sheet a b) ∙ own-policies) in
-      let n = sound .few NODE (omega arith) in
-      subst (λ (x : Run). RunIs partial sheet a 64 [] x (ranFrom (interpOf partial sheet 64) 0 (getD a RUN 0) a [])) same-run
-      (run-from (record { top = omega (arith, z, few, top, reach-start a); few = omega (arith, z, few, none, n); log = omega (arith, z, few, n) }))
+      subst (λ (x : Run). RunIs partial sheet a 64 [] x (ranFrom (λ p q. interpOf partial sheet p q 64) 0 (getD a RUN 0) a [])) same-run
+      (run-from (record { top = omega (arith, z, few, top, reach-start a); few = omega (arith, z, few, none); log = omega (arith, z, few) }))
 
 -- THE THEOREM
-pub run-is : (sheet a b : List ℕ) → read partial sheet .number ≡ 0 → read partial sheet .state ≡ held sheet a b → Sound a → getD a MADE 0 ≡ 0 → rowsOf a RUN ≡ onTerm (held sheet a b) → getD a TOP 0 + 12 + 3 * getD a NODE 0 ≤ 16384
+pub run-is : (sheet a b : List ℕ) → read partial sheet .number ≡ 0 → read partial sheet .state ≡ held sheet a b → Sound a → getD a MADE 0 ≡ 0 → rowsOf a RUN ≡ onTerm (held sheet a b) → getD a TOP 0 + 12 + 3 * 1024 ≤ 16384
     → RunIs partial sheet a 64 [] (run partial (read partial sheet .state)) (runOf partial sheet a [])
 run-is sheet a b e h sound none runs top =
-    let (hi, fu) = accepted-history partial sheet e in
-    let f : Facts partial (held sheet a b) = subst (Facts partial) h (record { history = hi; full = fu; keys = all-keys partial sheet e }) in
+    let (hi, en) = accepted-history partial sheet e in
+    let f : Facts partial (held sheet a b) = subst (Facts partial) h (record { history = hi; ends = en; keys = all-keys partial sheet e }) in
     let d : Depths (held sheet a b) = reached-depths (subst (Reached partial) h (read-reached partial sheet)) in
-    let c : policySizes (nPolicies (held sheet a b)) ≤ count (held sheet a b) NODE = subst (λ (s : State). policySizes (nPolicies s) ≤ count s NODE) h (policies-small partial sheet e) in
-    let n : count (held sheet a b) NODE ≡ getD a NODE 0 = count-held sheet a b NODE (omega arith) in
-    subst (λ (s : State). RunIs partial sheet a 64 [] (run partial s) (runOf partial sheet a [])) (sym h) (run-held sheet a b f d sound none runs (omega (arith, c, n)) top)
+    let few : policySizes (nPolicies (held sheet a b)) ≤ 1024 = subst (λ (s : State). policySizes (nPolicies s) ≤ 1024) h (policy-sizes partial sheet e) in
+    subst (λ (s : State). RunIs partial sheet a 64 [] (run partial s) (runOf partial sheet a [])) (sym h) (run-held sheet a b f d sound none runs few top)
 
 -- there is room where the rows fit
 pub run-fits : (sheet a b : List ℕ) → read partial sheet .number ≡ 0 → read partial sheet .state ≡ held sheet a b → Sound a → getD a MADE 0 ≡ 0 → rowsOf a RUN ≡ onTerm (held sheet a b) → Fits a
     → RunIs partial sheet a 64 [] (run partial (read partial sheet .state)) (runOf partial sheet a [])
 unfolding limit limits
-run-fits sheet a b e h sound none runs fits = let n = sound .few NODE (omega arith) in run-is sheet a b e h sound none runs (omega (arith, fits, n))
+run-fits sheet a b e h sound none runs fits = run-is sheet a b e h sound none runs (omega (arith, fits))

@@ -1,19 +1,18 @@
 -- `if` over words is the numbered one. Assumes nothing.
-use mathlib.Core.Path.{_≡_, refl, sym, _∙_, ap, ap₂, subst}
+use mathlib.Core.Path.{_≡_, sym, _∙_, ap, ap₂}
 use mathlib.Core.Bool.{true}
 use mathlib.Core.List.{List, [], _∷_, _++_, append-assoc, append-nil}
-use Prim.Native.Nat.{ℕ, zero, suc, _+_, _-_, _*_, _≤_, _<_}
+use Prim.Native.Nat.{ℕ, suc, _+_, _*_, _≤_}
 use native.Mathlib.Omega.{arith}
-use lib.ListN.{length, getD, take, length-append}
-use Rattle.cedar.specs.Types.{Ty, Schema}
+use lib.ListN.{length, getD, length-append}
+use Rattle.cedar.specs.Types.{Schema}
 use Rattle.cedar.specs.Residual.{Node, ite, Class, ctrue, cfalse, cerror, copen}
 use Rattle.cedar.specs.Rows.{Row}
 use Rattle.cedar.specs.Numbered.{NEnv, Out, out, nClass, nIf, thenIf}
 use Rattle.sheet.specs.Forms.{Mode, at}
-use Rattle.table.specs.Layout.{MADE, TOP}
 use Rattle.residual.specs.Trees.{rnil, rcons, flat, flats, leftTree, suits, treesOf, whole-none, whole-more}
 use Rattle.tpe.specs.Run.{O, Rec, leftOf, splitOf, branchBy, branchOf}
-use Rattle.tpe.proofs.Stands.{Hold, values, Room, tys, nodes, ty, Is, is-as, left-is}
+use Rattle.tpe.proofs.Stands.{Room, nodes, ty, Is, is-as, left-is}
 use Rattle.tpe.proofs.Logic.{class-is, Works, works-on, then-err, then-on, then-more}
 
 module _ (m : Mode) (sheet a₀ : List ℕ) where

@@ -15,17 +15,18 @@ use Rattle.cedar.specs.Rows.{Row}
 use Rattle.cedar.specs.Numbered.{Give, made, old, NEnv, Out, out, Outs, OutArgs, nVar, giveLit, nStepUn, nStepGet, nStepHas, nStepPath, nStepSet, nStepRec, thenAnd, thenOr, thenIf, thenBin, thenRel, nInterpret, nInterprets, nInterpretArgs}
 use Rattle.cedar.proofs.Tools.{no-some}
 use Rattle.cedar.proofs.TableLaws.{InN, now′, later′}
-use Rattle.forms.specs.Tags.{ENTITY-TYPE, VAR, SET-OF, RECORD-OF}
+use Rattle.forms.specs.Tags.{ENTITY-TYPE, VAR, SET-OF, RECORD-OF, SLOT}
 use Rattle.sheet.specs.Forms.{Mode, tag, items, at, mark, TYPE, NODE, PRINCIPAL, ACTION, RESOURCE, CONTEXT, firstNode}
 use Rattle.sheet.specs.State.{State, lineAt}
-use Rattle.sheet.specs.Content.{varOf, known, given, nEnv, child, childrenOver, argsOver, treeFor, patternOf}
+use Rattle.sheet.specs.Typing.{slotValue}
+use Rattle.sheet.specs.Content.{varOf, known, given, nEnv, child, childrenOver, argsOver, treeFor, linked, patternOf}
 use Rattle.sheet.specs.Answer.{size, sizes, sizeArgs}
 use Rattle.sheet.proofs.MadeCount.{size-least}
 use Rattle.sheet.proofs.TypeNumbers.{Listed, TypesIn}
 use Rattle.table.specs.Layout.{rowsOf, held}
 use Rattle.value.specs.Lines.{placeOf}
 use Rattle.residual.specs.Trees.{rnil, flats, nodesOf, argsOf, leftFor, leftTree, suitsFor, suits, treesOf, Res, Whole, whole-none}
-use Rattle.tpe.specs.Run.{O, Rec, giveOf, varFor, others, litStep, errStep, varStep, lazyStep, ifStep, binStep, relStep, unStep, getStep, hasStep, pathStep, setStep, recStep, pathOf, steps}
+use Rattle.tpe.specs.Run.{O, Rec, giveOf, varFor, others, litStep, errStep, varStep, lazyStep, ifStep, binStep, relStep, unStep, getStep, hasStep, pathStep, setStep, recStep, slotStep, pathOf, steps}
 use Rattle.tpe.proofs.Outcomes.{RowFine, GiveFine, words-row, words-formed, words-short}
 use Rattle.tpe.proofs.Reach.{asks}
 use Rattle.tpe.proofs.Stands.{Hold, values, same-sheet, env-is, Room, tys, nodes, ty, Is, is-as, lit-is, err-is, left-is, drop-here, make-asked}
@@ -81,7 +82,7 @@ kidsFor r =
     let one : List ℕ = at r 1 ∷ [] in
     let two : List ℕ = at r 1 ∷ at r 2 ∷ [] in
     [] ∷ [] ∷ [] ∷ two ∷ two ∷ two ∷ two ∷ two ∷ two ∷ two ∷ two ∷ two ∷ two ∷ two ∷ two ∷ two ∷ two
-    ∷ (at r 1 ∷ at r 2 ∷ at r 3 ∷ []) ∷ one ∷ one ∷ one ∷ one ∷ one ∷ one ∷ one ∷ one ∷ drop 1 (items r) ∷ others (drop 1 (items r)) ∷ []
+    ∷ (at r 1 ∷ at r 2 ∷ at r 3 ∷ []) ∷ one ∷ one ∷ one ∷ one ∷ one ∷ one ∷ one ∷ one ∷ drop 1 (items r) ∷ others (drop 1 (items r)) ∷ [] ∷ []
 
 pub left-at : (r : List ℕ) (x : ℕ) → tag r - firstNode ≡ x → (k : ℕ) (T : Ty) (cs : List (Node ℕ)) → leftTree r k T cs ≡ getD (leftFor r k T cs (λ j. getD cs j (err tbool))) x (err tbool)
 unfolding leftTree
@@ -139,6 +140,11 @@ module _ (m : Mode) (sheet a₀ : List ℕ) (kinds : (k : ℕ) → Listed (tys s
   pub err-step : Room 1 a l → Is sheet a₀ (suc d) 1 a l (out (values a) (err T)) (errStep m sheet f a l c r)
   unfolding errStep
   err-step room = err-is sheet a₀ d 1 (omega arith) a l a room h (record { top = omega arith; few = omega arith }) (at r 0)
+
+  -- under a link with the values v and w
+  pub slot-step : (v w : ℕ) → Room 1 a l → Is sheet a₀ (suc d) 1 a l (out (values a) (linked (λ n. n) v w T (at r 1))) (slotStep m sheet v w f a l c r)
+  unfolding slotStep
+  slot-step v w room = lit-is sheet a₀ d 1 (omega arith) a l a room h (record { top = omega arith; few = omega arith }) (at r 0) (slotValue v w (at r 1))
 
   module _ (e : tag r - firstNode ≡ VAR - firstNode) (room : Room 1 a l) where
     asked-as : (g : Give) → env m sheet a₀ .request (varOf (at r 1)) ≡ some g → asks a .request (varOf (at r 1)) ≡ some g
@@ -297,15 +303,15 @@ module _ (m : Mode) (sheet a₀ : List ℕ) (kinds : (k : ℕ) → Listed (tys s
       let i = first (at r 1) (suc (size (tr (at r 1)))) b room (omega arith) in
       rw (same-row (f a l (at r 1) .words) (i .hold)) (path-any m sheet a₀ kinds d deep i c r room su k lists)
 
-  -- the tree of the row for operation x
-  abbrev pub treeAt : ℕ → Node ℕ
-  treeAt x = getD (treeFor (tys sheet a₀) (λ n. n) trs r T (λ j. tr (at r j))) x (err tbool)
+  -- the tree of the row for operation x, under a link with the values v and w
+  abbrev pub treeAt : ℕ → ℕ → ℕ → Node ℕ
+  treeAt v w x = getD (treeFor (tys sheet a₀) (λ n. n) (linked (λ n. n) v w) trs r T (λ j. tr (at r j))) x (err tbool)
 
   -- EVERY OPERATION
-  module _ (even : tag r ≡ RECORD-OF → length (drop 1 (items r)) ≡ 2 * length (others (drop 1 (items r)))) where
-    pub step-is : (x : ℕ) → tag r - firstNode ≡ x → x ≤ RECORD-OF - firstNode → ((j : ℕ) → InN j (getD (kidsFor r) x []) → Below j) → Room (size (treeAt x)) a l
-        → TypesIn (tys sheet a₀) (nInterpret (sch m sheet a₀) (env m sheet a₀) (treeAt x) (values a) .tree)
-        → Is sheet a₀ (suc d) (size (treeAt x)) a l (nInterpret (sch m sheet a₀) (env m sheet a₀) (treeAt x) (values a)) (getD (steps m sheet) x (errStep m sheet) f a l c r)
+  module _ (v w : ℕ) (even : tag r ≡ RECORD-OF → length (drop 1 (items r)) ≡ 2 * length (others (drop 1 (items r)))) where
+    pub step-is : (x : ℕ) → tag r - firstNode ≡ x → x ≤ SLOT - firstNode → ((j : ℕ) → InN j (getD (kidsFor r) x []) → Below j) → Room (size (treeAt v w x)) a l
+        → TypesIn (tys sheet a₀) (nInterpret (sch m sheet a₀) (env m sheet a₀) (treeAt v w x) (values a) .tree)
+        → Is sheet a₀ (suc d) (size (treeAt v w x)) a l (nInterpret (sch m sheet a₀) (env m sheet a₀) (treeAt v w x) (values a)) (getD (steps m sheet v w) x (errStep m sheet) f a l c r)
     step-is zero e small below room lists = lit-step room
     step-is (suc zero) e small below room lists = err-step room
     step-is (suc (suc zero)) e small below room lists = var-step e room
@@ -334,4 +340,5 @@ module _ (m : Mode) (sheet a₀ : List ℕ) (kinds : (k : ℕ) → Listed (tys s
     step-is (suc (suc (suc (suc (suc (suc (suc (suc (suc (suc (suc (suc (suc (suc (suc (suc (suc (suc (suc (suc (suc (suc (suc (suc (suc zero))))))))))))))))))))))))) e small below room lists = un-step (below (at r 1) now′) room (suits-at r _ low e 1) (λ r. uempty) (λ t. left-at r _ e 0 T (t ∷ []))
     step-is (suc (suc (suc (suc (suc (suc (suc (suc (suc (suc (suc (suc (suc (suc (suc (suc (suc (suc (suc (suc (suc (suc (suc (suc (suc (suc zero)))))))))))))))))))))))))) e small below room lists = set-step below room e
     step-is (suc (suc (suc (suc (suc (suc (suc (suc (suc (suc (suc (suc (suc (suc (suc (suc (suc (suc (suc (suc (suc (suc (suc (suc (suc (suc (suc zero))))))))))))))))))))))))))) e small below room lists = rec-step below room e (even (omega (arith, e, low)))
-    step-is (suc (suc (suc (suc (suc (suc (suc (suc (suc (suc (suc (suc (suc (suc (suc (suc (suc (suc (suc (suc (suc (suc (suc (suc (suc (suc (suc (suc y)))))))))))))))))))))))))))) e small below room lists = absurd (omega (arith, small))
+    step-is (suc (suc (suc (suc (suc (suc (suc (suc (suc (suc (suc (suc (suc (suc (suc (suc (suc (suc (suc (suc (suc (suc (suc (suc (suc (suc (suc (suc zero)))))))))))))))))))))))))))) e small below room lists = slot-step v w room
+    step-is (suc (suc (suc (suc (suc (suc (suc (suc (suc (suc (suc (suc (suc (suc (suc (suc (suc (suc (suc (suc (suc (suc (suc (suc (suc (suc (suc (suc (suc y))))))))))))))))))))))))))))) e small below room lists = absurd (omega (arith, small))

@@ -12,16 +12,15 @@ use Rattle.cedar.proofs.Tools.{no-true, eqb-true}
 use Rattle.cedar.proofs.TableLaws.{InN, now′, later′, nowhere}
 use Rattle.cedar.specs.Types.{Ty, tbool}
 use Rattle.cedar.specs.Residual.{Node, err, and, or, ite, un, bin, rel, get, has, haspath, set, rec, econs, gcons, unot, uneg, uempty, uis, ulike, beq, blt, ble, badd, bsub, bmul, bcontains, ball, bany, rin, rgettag, rhastag}
-use Rattle.forms.specs.Tags.{TEXT-LINE, SET-OF, RECORD-OF}
+use Rattle.forms.specs.Tags.{TEXT-LINE, SET-OF, RECORD-OF, SLOT}
 use Rattle.sheet.specs.Forms.{Mode, line, forms, formOf, slotAt, isLine, refsFrom, refs, counted, itemsFrom, tag, items, at, keyOf, rowOf, NODE, noTag, firstNode}
 use Rattle.sheet.specs.State.{State, linesOf, count}
-use Rattle.sheet.specs.Content.{types, childrenOver, argsOver, treeFor, treeOver, treesFrom, trees, patternOf}
+use Rattle.sheet.specs.Content.{types, childrenOver, argsOver, treeFor, treeOver, treesFrom, linked, trees, patternOf}
 use Rattle.sheet.proofs.Lines.{Was, History}
 use Rattle.sheet.proofs.Parsed.{parsed, tags-between}
 use Rattle.sheet.proofs.NodeRows.{row-read, plain-slots}
 use Rattle.sheet.proofs.ValueRows.{items-length}
 use Rattle.sheet.proofs.PoliciesRead.{all-there, node-tags}
-use Rattle.sheet.proofs.TreesBack.{from-append}
 use Rattle.sheet.proofs.Slots.{set-slot, field-slot}
 use Rattle.sheet.proofs.Uses.{refs-below}
 use Rattle.sheet.proofs.Depths.{in-below}
@@ -36,7 +35,8 @@ in-cons (later′ i) f g = g i
 
 -- ---- a tree depends on the trees of its row's children alone
 
-module _ (ts : List Ty) (ns ms : List (Node ℕ)) where
+-- sl: what stands for a slot
+module _ (ts : List Ty) (sl : Ty → ℕ → Node ℕ) (ns ms : List (Node ℕ)) where
   abbrev Alike : List ℕ → Type 0
   Alike l = (j : ℕ) → InN j l → getD ns j (err tbool) ≡ getD ms j (err tbool)
 
@@ -54,7 +54,7 @@ module _ (ts : List Ty) (ns ms : List (Node ℕ)) where
     T = getD ts (at r 0) tbool
 
     tree-same : (x : ℕ) → Alike (getD (kidsFor r) x [])
-        → getD (treeFor ts (λ n. n) ns r T (λ j. getD ns (at r j) (err tbool))) x (err tbool) ≡ getD (treeFor ts (λ n. n) ms r T (λ j. getD ms (at r j) (err tbool))) x (err tbool)
+        → getD (treeFor ts (λ n. n) sl ns r T (λ j. getD ns (at r j) (err tbool))) x (err tbool) ≡ getD (treeFor ts (λ n. n) sl ms r T (λ j. getD ms (at r j) (err tbool))) x (err tbool)
     tree-same zero h = refl
     tree-same (suc zero) h = refl
     tree-same (suc (suc zero)) h = refl
@@ -83,7 +83,8 @@ module _ (ts : List Ty) (ns ms : List (Node ℕ)) where
     tree-same (suc (suc (suc (suc (suc (suc (suc (suc (suc (suc (suc (suc (suc (suc (suc (suc (suc (suc (suc (suc (suc (suc (suc (suc (suc zero))))))))))))))))))))))))) h = ap (un T uempty) (h (at r 1) now′)
     tree-same (suc (suc (suc (suc (suc (suc (suc (suc (suc (suc (suc (suc (suc (suc (suc (suc (suc (suc (suc (suc (suc (suc (suc (suc (suc (suc zero)))))))))))))))))))))))))) h = ap (set T) (children-same (drop 1 (items r)) h)
     tree-same (suc (suc (suc (suc (suc (suc (suc (suc (suc (suc (suc (suc (suc (suc (suc (suc (suc (suc (suc (suc (suc (suc (suc (suc (suc (suc (suc zero))))))))))))))))))))))))))) h = ap (rec T) (args-same (drop 1 (items r)) h)
-    tree-same (suc (suc (suc (suc (suc (suc (suc (suc (suc (suc (suc (suc (suc (suc (suc (suc (suc (suc (suc (suc (suc (suc (suc (suc (suc (suc (suc (suc y)))))))))))))))))))))))))))) h = refl
+    tree-same (suc (suc (suc (suc (suc (suc (suc (suc (suc (suc (suc (suc (suc (suc (suc (suc (suc (suc (suc (suc (suc (suc (suc (suc (suc (suc (suc (suc zero)))))))))))))))))))))))))))) h = refl
+    tree-same (suc (suc (suc (suc (suc (suc (suc (suc (suc (suc (suc (suc (suc (suc (suc (suc (suc (suc (suc (suc (suc (suc (suc (suc (suc (suc (suc (suc (suc y))))))))))))))))))))))))))))) h = refl
 
 -- ---- the children of a row are its references
 
@@ -128,7 +129,7 @@ unfolding refs
 record-refs [] j i = nowhere i
 record-refs (x ∷ l) j i = in-keep (isLine NODE (slotAt RECORD-OF 0)) x j (refsFrom NODE RECORD-OF 1 l) (record-from 0 l j i)
 
-kid-refs : (x : ℕ) → x ≤ RECORD-OF - firstNode → (l : List ℕ) → length (formOf (firstNode + x) .items) ≤ length l → (j : ℕ) → InN j (getD (kidsFor ((firstNode + x) ∷ l)) x []) → InN j (refs NODE ((firstNode + x) ∷ l))
+kid-refs : (x : ℕ) → x ≤ SLOT - firstNode → (l : List ℕ) → length (formOf (firstNode + x) .items) ≤ length l → (j : ℕ) → InN j (getD (kidsFor ((firstNode + x) ∷ l)) x []) → InN j (refs NODE ((firstNode + x) ∷ l))
 unfolding slotAt formOf forms
 kid-refs zero small l h j i = nowhere i
 kid-refs (suc zero) small l h j i = nowhere i
@@ -158,7 +159,8 @@ kid-refs (suc (suc (suc (suc (suc (suc (suc (suc (suc (suc (suc (suc (suc (suc (
 kid-refs (suc (suc (suc (suc (suc (suc (suc (suc (suc (suc (suc (suc (suc (suc (suc (suc (suc (suc (suc (suc (suc (suc (suc (suc (suc zero))))))))))))))))))))))))) small l h j i = one-refs _ l h refl j i
 kid-refs (suc (suc (suc (suc (suc (suc (suc (suc (suc (suc (suc (suc (suc (suc (suc (suc (suc (suc (suc (suc (suc (suc (suc (suc (suc (suc zero)))))))))))))))))))))))))) small l h j i = set-refs l j i
 kid-refs (suc (suc (suc (suc (suc (suc (suc (suc (suc (suc (suc (suc (suc (suc (suc (suc (suc (suc (suc (suc (suc (suc (suc (suc (suc (suc (suc zero))))))))))))))))))))))))))) small l h j i = record-refs l j i
-kid-refs (suc (suc (suc (suc (suc (suc (suc (suc (suc (suc (suc (suc (suc (suc (suc (suc (suc (suc (suc (suc (suc (suc (suc (suc (suc (suc (suc (suc y)))))))))))))))))))))))))))) small l h j i = absurd (omega (arith, small))
+kid-refs (suc (suc (suc (suc (suc (suc (suc (suc (suc (suc (suc (suc (suc (suc (suc (suc (suc (suc (suc (suc (suc (suc (suc (suc (suc (suc (suc (suc zero)))))))))))))))))))))))))))) small l h j i = nowhere i
+kid-refs (suc (suc (suc (suc (suc (suc (suc (suc (suc (suc (suc (suc (suc (suc (suc (suc (suc (suc (suc (suc (suc (suc (suc (suc (suc (suc (suc (suc (suc y))))))))))))))))))))))))))))) small l h j i = absurd (omega (arith, small))
 
 -- ---- a record's row has a node for each text
 
@@ -197,19 +199,23 @@ even-row m r l e k = parsed m r (λ q. let z : noTag ≡ RECORD-OF = sym (ap tag
 
 -- ---- the trees of a list of rows
 
-module _ (ts : List Ty) where
+module _ (ts : List Ty) (sl : Ty → ℕ → Node ℕ) where
   abbrev from : List (Node ℕ) → List (List ℕ) → List (Node ℕ)
-  from ns rows = treesFrom ts (λ n. n) ns rows
+  from ns rows = treesFrom ts (λ n. n) sl ns rows
+
+  from-append : (ns : List (Node ℕ)) (a b : List (List ℕ)) → from ns (a ++ b) ≡ from (from ns a) b
+  from-append ns [] b = refl
+  from-append ns (r ∷ a) b = from-append (ns ++ (treeOver ts (λ n. n) sl ns r ∷ [])) a b
 
   from-length : (ns : List (Node ℕ)) (rows : List (List ℕ)) → length (from ns rows) ≡ length ns + length rows
   from-length ns [] = omega arith
-  from-length ns (r ∷ rows) = let a = from-length (ns ++ (treeOver ts (λ n. n) ns r ∷ [])) rows in let b = length-append ns (treeOver ts (λ n. n) ns r ∷ []) in omega (arith, a, b)
+  from-length ns (r ∷ rows) = let a = from-length (ns ++ (treeOver ts (λ n. n) sl ns r ∷ [])) rows in let b = length-append ns (treeOver ts (λ n. n) sl ns r ∷ []) in omega (arith, a, b)
 
   -- those before stay
   from-before : (ns : List (Node ℕ)) (rows : List (List ℕ)) (j : ℕ) → j < length ns → getD (from ns rows) j (err tbool) ≡ getD ns j (err tbool)
   from-before ns [] j lt = refl
-  from-before ns (r ∷ rows) j lt = let z = length-append ns (treeOver ts (λ n. n) ns r ∷ []) in
-      from-before (ns ++ (treeOver ts (λ n. n) ns r ∷ [])) rows j (omega (arith, z, lt)) ∙ List·getD-append ns (treeOver ts (λ n. n) ns r ∷ []) (err tbool) j lt
+  from-before ns (r ∷ rows) j lt = let z = length-append ns (treeOver ts (λ n. n) sl ns r ∷ []) in
+      from-before (ns ++ (treeOver ts (λ n. n) sl ns r ∷ [])) rows j (omega (arith, z, lt)) ∙ List·getD-append ns (treeOver ts (λ n. n) sl ns r ∷ []) (err tbool) j lt
 
   last-at : (ns : List (Node ℕ)) (a : Node ℕ) (n : ℕ) → n ≡ length ns → getD (ns ++ (a ∷ [])) n (err tbool) ≡ a
   last-at [] a n e = ap (λ (i : ℕ). getD (a ∷ []) i (err tbool)) e
@@ -217,38 +223,39 @@ module _ (ts : List Ty) where
 
   -- the tree of the row after pre, if its children come before it
   pub tree-of : (pre : List (List ℕ)) (r : List ℕ) (rest : List (List ℕ)) → ((j : ℕ) → InN j (childrenOf r) → j < length pre)
-      → getD (from [] (pre ++ (r ∷ rest))) (length pre) (err tbool) ≡ treeOver ts (λ n. n) (from [] (pre ++ (r ∷ rest))) r
+      → getD (from [] (pre ++ (r ∷ rest))) (length pre) (err tbool) ≡ treeOver ts (λ n. n) sl (from [] (pre ++ (r ∷ rest))) r
   tree-of pre r rest below =
       let ns = from [] pre in
-      let a = treeOver ts (λ n. n) ns r in
-      let e : from [] (pre ++ (r ∷ rest)) ≡ from (ns ++ (a ∷ [])) rest = from-append ts (λ n. n) [] pre (r ∷ rest) in
+      let a = treeOver ts (λ n. n) sl ns r in
+      let e : from [] (pre ++ (r ∷ rest)) ≡ from (ns ++ (a ∷ [])) rest = from-append [] pre (r ∷ rest) in
       let n = from-length [] pre in
       let z = length-append ns (a ∷ []) in
       ap (λ (x : List (Node ℕ)). getD x (length pre) (err tbool)) e ∙ from-before (ns ++ (a ∷ [])) rest (length pre) (omega (arith, n, z)) ∙ last-at ns a (length pre) (omega (arith, n))
-      ∙ tree-same ts ns (from [] (pre ++ (r ∷ rest))) r (tag r - firstNode)
+      ∙ tree-same ts sl ns (from [] (pre ++ (r ∷ rest))) r (tag r - firstNode)
       (λ j i. let lt = below j i in sym (ap (λ (x : List (Node ℕ)). getD x j (err tbool)) e ∙ from-before (ns ++ (a ∷ [])) rest j (omega (arith, n, z, lt)) ∙ List·getD-append ns (a ∷ []) (err tbool) j (omega (arith, n, lt))))
 
 -- ---- a node's row as it was read
 
-pub record Fact (s : State) (c : ℕ) : Type 0 where
+-- under a link with the values p and q
+pub record Fact (s : State) (p q c : ℕ) : Type 0 where
   pub low : firstNode ≤ tag (getD (linesOf s NODE) c [])
-  pub high : tag (getD (linesOf s NODE) c []) ≤ RECORD-OF
+  pub high : tag (getD (linesOf s NODE) c []) ≤ SLOT
   pub even : tag (getD (linesOf s NODE) c []) ≡ RECORD-OF → length (drop 1 (items (getD (linesOf s NODE) c []))) ≡ 2 * length (others (drop 1 (items (getD (linesOf s NODE) c []))))
   pub kids : (j : ℕ) → InN j (childrenOf (getD (linesOf s NODE) c [])) → InN j (refs NODE (getD (linesOf s NODE) c []))
-  pub tree : getD (trees s) c (err tbool) ≡ treeOver (types s) (λ n. n) (trees s) (getD (linesOf s NODE) c [])
+  pub tree : getD (trees s p q) c (err tbool) ≡ treeOver (types s) (λ n. n) (linked (λ n. n) p q) (trees s p q) (getD (linesOf s NODE) c [])
 
 split-here : {X : Type 0} (l : List (List ℕ)) (c : ℕ) → c < length l → ((pre rest : List (List ℕ)) → length pre ≡ c → l ≡ pre ++ (getD l c [] ∷ rest) → X) → X
 split-here [] c lt f = absurd (omega arith)
 split-here (x ∷ l) zero lt f = f [] l refl refl
 split-here (x ∷ l) (suc c) lt f = split-here l c (le-of-suc-le-suc lt) (λ pre rest n e. f (x ∷ pre) rest (ap suc n) (ap (λ z. x ∷ z) e))
 
-kids-of : (t : ℕ) (l : List ℕ) → firstNode ≤ t → t ≤ RECORD-OF → length (formOf t .items) ≤ length l → (j : ℕ) → InN j (getD (kidsFor (t ∷ l)) (t - firstNode) []) → InN j (refs NODE (t ∷ l))
+kids-of : (t : ℕ) (l : List ℕ) → firstNode ≤ t → t ≤ SLOT → length (formOf t .items) ≤ length l → (j : ℕ) → InN j (getD (kidsFor (t ∷ l)) (t - firstNode) []) → InN j (refs NODE (t ∷ l))
 kids-of t l lo hi =
     let e : firstNode + (t - firstNode) ≡ t = omega (arith, lo) in
     subst (λ z. length (formOf z .items) ≤ length l → (j : ℕ) → InN j (getD (kidsFor (z ∷ l)) (t - firstNode) []) → InN j (refs NODE (z ∷ l))) e (kid-refs (t - firstNode) (omega (arith, hi)) l)
 
 module _ (m : Mode) (s : State) where
-  row-kids : (pre : List (List ℕ)) (r : List ℕ) → Was m s NODE pre r → firstNode ≤ tag r → tag r ≤ RECORD-OF → (j : ℕ) → InN j (childrenOf r) → InN j (refs NODE r)
+  row-kids : (pre : List (List ℕ)) (r : List ℕ) → Was m s NODE pre r → firstNode ≤ tag r → tag r ≤ SLOT → (j : ℕ) → InN j (childrenOf r) → InN j (refs NODE r)
   row-kids pre [] w lo hi = absurd (omega (arith, hi))
   row-kids pre (t ∷ l) w lo hi = kids-of t l lo hi (row-read m (t ∷ l) (w .line) t (w .row) refl (omega (arith, lo)) (omega (arith, hi)) (λ z. absurd (omega (arith, z, lo))) .least)
 
@@ -256,24 +263,24 @@ module _ (m : Mode) (s : State) where
   unfolding refs
   row-below pre r w j i = subst (λ z. j < length z) (w .mine) (in-below (count (w .was) NODE) (refsFrom NODE (tag r) 0 (items r)) j (refs-below (w .was) NODE (tag r) 0 (items r) (all-there (w .was) NODE r (w .pass .refers))) i)
 
-  pub node-fact : History m s → (c : ℕ) → c < count s NODE → Fact s c
+  pub node-fact : History m s → (p q c : ℕ) → c < count s NODE → Fact s p q c
   unfolding keyOf trees
-  node-fact h c lt = split-here (linesOf s NODE) c lt (λ pre rest n e. go pre (getD (linesOf s NODE) c []) rest n e (h NODE pre (getD (linesOf s NODE) c []) rest e) refl)
+  node-fact h p q c lt = split-here (linesOf s NODE) c lt (λ pre rest n e. go pre (getD (linesOf s NODE) c []) rest n e (h NODE pre (getD (linesOf s NODE) c []) rest e) refl)
     where
       tree-here : (pre : List (List ℕ)) (r : List ℕ) (rest : List (List ℕ)) → length pre ≡ c → linesOf s NODE ≡ pre ++ (r ∷ rest) → ((j : ℕ) → InN j (childrenOf r) → j < length pre)
-          → getD (treesFrom (types s) (λ n. n) [] (linesOf s NODE)) c (err tbool) ≡ treeOver (types s) (λ n. n) (treesFrom (types s) (λ n. n) [] (linesOf s NODE)) r
+          → getD (treesFrom (types s) (λ n. n) (linked (λ n. n) p q) [] (linesOf s NODE)) c (err tbool) ≡ treeOver (types s) (λ n. n) (linked (λ n. n) p q) (treesFrom (types s) (λ n. n) (linked (λ n. n) p q) [] (linesOf s NODE)) r
       tree-here pre r rest n e below =
-          subst (λ (l : List (List ℕ)). getD (treesFrom (types s) (λ n. n) [] l) c (err tbool) ≡ treeOver (types s) (λ n. n) (treesFrom (types s) (λ n. n) [] l) r) (sym e)
-          (subst (λ (k : ℕ). getD (treesFrom (types s) (λ n. n) [] (pre ++ (r ∷ rest))) k (err tbool) ≡ treeOver (types s) (λ n. n) (treesFrom (types s) (λ n. n) [] (pre ++ (r ∷ rest))) r) n (tree-of (types s) pre r rest below))
+          subst (λ (l : List (List ℕ)). getD (treesFrom (types s) (λ n. n) (linked (λ n. n) p q) [] l) c (err tbool) ≡ treeOver (types s) (λ n. n) (linked (λ n. n) p q) (treesFrom (types s) (λ n. n) (linked (λ n. n) p q) [] l) r) (sym e)
+          (subst (λ (k : ℕ). getD (treesFrom (types s) (λ n. n) (linked (λ n. n) p q) [] (pre ++ (r ∷ rest))) k (err tbool) ≡ treeOver (types s) (λ n. n) (linked (λ n. n) p q) (treesFrom (types s) (λ n. n) (linked (λ n. n) p q) [] (pre ++ (r ∷ rest))) r) n (tree-of (types s) (linked (λ n. n) p q) pre r rest below))
 
-      go : (pre : List (List ℕ)) (r : List ℕ) (rest : List (List ℕ)) → length pre ≡ c → linesOf s NODE ≡ pre ++ (r ∷ rest) → Was m s NODE pre r → getD (linesOf s NODE) c [] ≡ r → Fact s c
-      go pre r rest n e w q =
-          let (lo, hi) = tags-between NODE firstNode RECORD-OF (tag r) (omega arith) node-tags (w .key) in
+      go : (pre : List (List ℕ)) (r : List ℕ) (rest : List (List ℕ)) → length pre ≡ c → linesOf s NODE ≡ pre ++ (r ∷ rest) → Was m s NODE pre r → getD (linesOf s NODE) c [] ≡ r → Fact s p q c
+      go pre r rest n e w x =
+          let (lo, hi) = tags-between NODE firstNode SLOT (tag r) (omega arith) node-tags (w .key) in
           record {
-            low = subst (λ z. firstNode ≤ tag z) (sym q) lo;
-            high = subst (λ z. tag z ≤ RECORD-OF) (sym q) hi;
-            even = subst (λ z. tag z ≡ RECORD-OF → length (drop 1 (items z)) ≡ 2 * length (others (drop 1 (items z)))) (sym q) (even-row m r (w .line) (w .row));
-            kids = subst (λ z. (j : ℕ) → InN j (childrenOf z) → InN j (refs NODE z)) (sym q) (row-kids pre r w lo hi);
-            tree = subst (λ z. getD (treesFrom (types s) (λ n. n) [] (linesOf s NODE)) c (err tbool) ≡ treeOver (types s) (λ n. n) (treesFrom (types s) (λ n. n) [] (linesOf s NODE)) z) (sym q)
+            low = subst (λ z. firstNode ≤ tag z) (sym x) lo;
+            high = subst (λ z. tag z ≤ SLOT) (sym x) hi;
+            even = subst (λ z. tag z ≡ RECORD-OF → length (drop 1 (items z)) ≡ 2 * length (others (drop 1 (items z)))) (sym x) (even-row m r (w .line) (w .row));
+            kids = subst (λ z. (j : ℕ) → InN j (childrenOf z) → InN j (refs NODE z)) (sym x) (row-kids pre r w lo hi);
+            tree = subst (λ z. getD (treesFrom (types s) (λ n. n) (linked (λ n. n) p q) [] (linesOf s NODE)) c (err tbool) ≡ treeOver (types s) (λ n. n) (linked (λ n. n) p q) (treesFrom (types s) (λ n. n) (linked (λ n. n) p q) [] (linesOf s NODE)) z) (sym x)
                 (tree-here pre r rest n e (λ j i. row-below pre r w j (row-kids pre r w lo hi j i)));
           }

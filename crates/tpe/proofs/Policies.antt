@@ -66,15 +66,23 @@ module _ (m : Mode) (sheet a₀ : List ℕ) where
           (t .lines ∙ ap (λ (z : ℕ). linesFor z (K (X .rows) .lines)) end-is);
     }
 
-  module _ (trs : List (Node ℕ)) (P : List Row → Type 0) (d : ℕ) (deep : d ≤ 64) (f : Rec) where
+  -- trs and f by the two values of a policy's link
+  module _ (trs : ℕ → ℕ → List (Node ℕ)) (P : List Row → Type 0) (d : ℕ) (deep : d ≤ 64) (f : ℕ → ℕ → Rec) where
+    -- the tree of a policy's row, and what works its node
+    abbrev policyTree : List ℕ → Node ℕ
+    policyTree r = getD (trs (at r 3) (at r 4)) (at r 2) (err tbool)
+
+    abbrev worked : List ℕ → List ℕ → List ℕ → O
+    worked r a l = f (at r 3) (at r 4) a l (at r 2)
+
     -- the node of a policy works, and keeps P
     abbrev pub PolicyWorks : List ℕ → Type 0
     PolicyWorks r =
-        Works m sheet a₀ P d (size (getD trs (at r 2) (err tbool))) f (at r 2) (nInterpret (sch m sheet a₀) (env m sheet a₀) (getD trs (at r 2) (err tbool)))
-        × ((R : List Row) → P R → P (nInterpret (sch m sheet a₀) (env m sheet a₀) (getD trs (at r 2) (err tbool)) R .rows))
+        Works m sheet a₀ P d (size (policyTree r)) (f (at r 3) (at r 4)) (at r 2) (nInterpret (sch m sheet a₀) (env m sheet a₀) (policyTree r))
+        × ((R : List Row) → P R → P (nInterpret (sch m sheet a₀) (env m sheet a₀) (policyTree r) R .rows))
 
     abbrev outAt : List ℕ → List ℕ → Out
-    outAt r a = nInterpret (sch m sheet a₀) (env m sheet a₀) (getD trs (at r 2) (err tbool)) (values a)
+    outAt r a = nInterpret (sch m sheet a₀) (env m sheet a₀) (policyTree r) (values a)
 
     -- the policies rs, of which the first is number i of those that run
     pub ran-is : (rs : List (List ℕ)) → Each PolicyWorks rs → (i : ℕ) → drop i (rowsOf a₀ RUN) ≡ rs → (a l : List ℕ) → Hold a₀ a → P (values a) → Room (policySizes (numberedPolicies trs rs)) a l
@@ -83,16 +91,16 @@ module _ (m : Mode) (sheet a₀ : List ℕ) where
     ran-is [] none i z a l h good room = record { ress = rnil; log = sym (append-nil l); trees = refl; wholes = whole-none; rows = refl; hold = h; lines = refl }
     ran-is (r ∷ rs) (more w ws) i z a l h good room =
         let e : getD (rowsOf a RUN) i [] ≡ r = ap (λ (q : List (List ℕ)). getD q i []) (h .same RUN (omega arith)) ∙ drop-here [] (rowsOf a₀ RUN) i r rs z .0 in
-        subst (λ (q : List ℕ). RunIs d l (nRun (sch m sheet a₀) (env m sheet a₀) (numberedPolicies trs (r ∷ rs)) (values a)) (thenRan (f a l (at q 2)) (ranFrom f (suc i) (length rs)))) (sym e)
+        subst (λ (q : List ℕ). RunIs d l (nRun (sch m sheet a₀) (env m sheet a₀) (numberedPolicies trs (r ∷ rs)) (values a)) (thenRan (worked q a l) (ranFrom f (suc i) (length rs)))) (sym e)
         (go (w .0 a l h good (record { top = omega (arith, room .top); few = omega (arith, room .few); log = omega (arith, room .log) }))
         (λ b j k p e. ran-is rs ws (suc i) (drop-here [] (rowsOf a₀ RUN) i r rs z .1) b j k p e))
       where
-        go : Is sheet a₀ d (size (getD trs (at r 2) (err tbool))) a l (outAt r a) (f a l (at r 2))
+        go : Is sheet a₀ d (size (policyTree r)) a l (outAt r a) (worked r a l)
             → ((b j : List ℕ) → Hold a₀ b → P (values b) → Room (policySizes (numberedPolicies trs rs)) b j → RunIs d j (nRun (sch m sheet a₀) (env m sheet a₀) (numberedPolicies trs rs) (values b)) (ranFrom f (suc i) (length rs) b j))
-            → RunIs d l (thenRun (sch m sheet a₀) (env m sheet a₀) (effectOf (at r 1)) (outAt r a) (nRun (sch m sheet a₀) (env m sheet a₀) (numberedPolicies trs rs))) (thenRan (f a l (at r 2)) (ranFrom f (suc i) (length rs)))
+            → RunIs d l (thenRun (sch m sheet a₀) (env m sheet a₀) (effectOf (at r 1)) (outAt r a) (nRun (sch m sheet a₀) (env m sheet a₀) (numberedPolicies trs rs))) (thenRan (worked r a l) (ranFrom f (suc i) (length rs)))
         go x ih = then-run deep x (effectOf (at r 1)) (nRun (sch m sheet a₀) (env m sheet a₀) (numberedPolicies trs rs)) (ranFrom f (suc i) (length rs))
-            (subst (λ (R : List Row). RunIs d (f a l (at r 2) .log) (nRun (sch m sheet a₀) (env m sheet a₀) (numberedPolicies trs rs) R) (ranFrom f (suc i) (length rs) (f a l (at r 2) .words) (f a l (at r 2) .log))) (x .rows)
-            (ih (f a l (at r 2) .words) (f a l (at r 2) .log) (x .hold) (subst P (sym (x .rows)) (w .1 (values a) good))
+            (subst (λ (R : List Row). RunIs d (worked r a l .log) (nRun (sch m sheet a₀) (env m sheet a₀) (numberedPolicies trs rs) R) (ranFrom f (suc i) (length rs) (worked r a l .words) (worked r a l .log))) (x .rows)
+            (ih (worked r a l .words) (worked r a l .log) (x .hold) (subst P (sym (x .rows)) (w .1 (values a) good))
             (record {
               top = omega (arith, room .top, x .top);
               few = omega (arith, room .few, x .few);

@@ -17,6 +17,7 @@ use Rattle.cedar.specs.Numbered.{Give, made, old, NEnv, rowAt, rBool, NOut, giv
 use Rattle.forms.specs.Tags.{ENTITY-TYPE, LONG-VALUE, TEXT-VALUE, SET-VALUE, RECORD-VALUE}
 use Rattle.sheet.specs.Bytes.{half}
 use Rattle.sheet.specs.Forms.{Mode, tag, items, at, firstNode, TYPE, NODE}
+use Rattle.sheet.specs.Typing.{slotValue}
 use Rattle.sheet.specs.Content.{types, rowsIn, schema, nEnv, varOf, patternOf}
 use Rattle.table.specs.Layout.{RUN, rowsOf, held}
 use Rattle.value.specs.Lines.{valueLines, placeOf}
@@ -358,29 +359,35 @@ module _ (m : Mode) (sheet : List ℕ) where
   unfoldable pub recStep : Step
   recStep f a l n r = let k = kidsOf f n 2 2 a l allValues ((length r - 2) / 2) in recOf (length l) n (nodeIn (k .words) n) k
 
-  -- in the table's order
-  abbrev pub steps : List Step
-  steps =
-      litStep ∷ errStep ∷ varStep ∷ lazyStep false ∷ lazyStep true
-      ∷ binStep beq ∷ binStep blt ∷ binStep ble ∷ binStep badd ∷ binStep bsub ∷ binStep bmul
-      ∷ relStep rin ∷ relStep rgettag ∷ relStep rhastag
-      ∷ binStep bcontains ∷ binStep ball ∷ binStep bany
-      ∷ ifStep
-      ∷ unStep (λ r. uis (at r 2)) ∷ unStep (λ r. ulike (patternOf (drop 2 (items r))))
-      ∷ getStep ∷ hasStep ∷ pathStep
-      ∷ unStep (λ r. unot) ∷ unStep (λ r. uneg) ∷ unStep (λ r. uempty)
-      ∷ setStep ∷ recStep ∷ []
+  -- of a link's two values that for the slot
+  unfoldable pub slotStep : ℕ → ℕ → Step
+  slotStep p q f a l n r = litOf a l (at r 0) (slotValue p q (at r 1))
 
-  unfoldable pub stepWith : Rec → List ℕ → List ℕ → ℕ → List ℕ → O
-  stepWith f a l n r = getD steps (tag r - firstNode) errStep f a l n r
+  -- under a link with the principal's value p and the resource's q
+  module _ (p q : ℕ) where
+    -- in the table's order
+    abbrev pub steps : List Step
+    steps =
+        litStep ∷ errStep ∷ varStep ∷ lazyStep false ∷ lazyStep true
+        ∷ binStep beq ∷ binStep blt ∷ binStep ble ∷ binStep badd ∷ binStep bsub ∷ binStep bmul
+        ∷ relStep rin ∷ relStep rgettag ∷ relStep rhastag
+        ∷ binStep bcontains ∷ binStep ball ∷ binStep bany
+        ∷ ifStep
+        ∷ unStep (λ r. uis (at r 2)) ∷ unStep (λ r. ulike (patternOf (drop 2 (items r))))
+        ∷ getStep ∷ hasStep ∷ pathStep
+        ∷ unStep (λ r. unot) ∷ unStep (λ r. uneg) ∷ unStep (λ r. uempty)
+        ∷ setStep ∷ recStep ∷ slotStep p q ∷ []
 
-  unfoldable pub stepOf : Rec → Rec
-  stepOf f a l n = stepWith f a l n (getD (rowsOf a NODE) n [])
+    unfoldable pub stepWith : Rec → List ℕ → List ℕ → ℕ → List ℕ → O
+    stepWith f a l n r = getD steps (tag r - firstNode) errStep f a l n r
 
-  -- d levels of nodes
-  unfoldable pub interpOf : ℕ → Rec
-  interpOf zero = λ a l n. errOf a l 0
-  interpOf (suc d) = stepOf (interpOf d)
+    unfoldable pub stepOf : Rec → Rec
+    stepOf f a l n = stepWith f a l n (getD (rowsOf a NODE) n [])
+
+    -- d levels of nodes
+    unfoldable pub interpOf : ℕ → Rec
+    interpOf zero = λ a l n. errOf a l 0
+    interpOf (suc d) = stepOf (interpOf d)
 
 -- ---- the policies in order, each over what the ones before it left
 
@@ -397,10 +404,10 @@ pub record Ran : Type 0 where
 abbrev pub thenRan : O → (List ℕ → List ℕ → Ran) → Ran
 thenRan o k = let t = k (o .words) (o .log) in record { words = t .words; log = t .log; lines = record { class = classOf (o .words) (o .log); end = length (o .log) } ∷ t .lines }
 
--- k policies, from number i on
-unfoldable pub ranFrom : Rec → ℕ → ℕ → List ℕ → List ℕ → Ran
+-- k policies, from number i on: f by the two values of a policy's link
+unfoldable pub ranFrom : (ℕ → ℕ → Rec) → ℕ → ℕ → List ℕ → List ℕ → Ran
 ranFrom f i zero a l = record { words = a; log = l; lines = [] }
-ranFrom f i (suc k) a l = thenRan (f a l (at (getD (rowsOf a RUN) i []) 2)) (ranFrom f (suc i) k)
+ranFrom f i (suc k) a l = let r = getD (rowsOf a RUN) i [] in thenRan (f (at r 3) (at r 4) a l (at r 2)) (ranFrom f (suc i) k)
 
 unfoldable pub runOf : Mode → List ℕ → List ℕ → List ℕ → Ran
-runOf m sheet a l = ranFrom (interpOf m sheet 64) 0 (getD a RUN 0) a l
+runOf m sheet a l = ranFrom (λ p q. interpOf m sheet p q 64) 0 (getD a RUN 0) a l

@@ -1,5 +1,5 @@
 -- The rules over the rows in the lent words are those of the state that the words hold.
-use mathlib.Core.Path.{_≡_, refl, sym, _∙_}
+use mathlib.Core.Path.{_≡_, refl, sym, ap, _∙_}
 use mathlib.Core.Bool.{Bool, true, false, not, _&&_, _||_}
 use mathlib.Core.List.{List, [], _∷_}
 use mathlib.Core.Option.{Option, none, some}
@@ -10,12 +10,13 @@ use Rattle.cedar.specs.Value.{onSome}
 use Rattle.cedar.specs.Numbered.{rEnt, rSet, memN, pickN, entryOf, isSome}
 use Rattle.sheet.specs.Forms.{tag, items, mark, firstType, firstNode, TYPE, SHAPE, VALUE, PRINCIPAL, ACTION, RESOURCE, NODE}
 use Rattle.sheet.specs.State.{State, count, Declared, TypeRow, bool, long, string, entity, set′, record′, declareds, typeRow, entriesOf, valueRow}
-use Rattle.sheet.specs.Typing.{onEntity, onSetOf, onRecord, isBool, isLong, isString, declaredIn, requiredThere, allIn, allEntries, entriesFit, attributes, targetKind, pathTyped, typeOfNode, tagsOf, isAction, noneDeclared, argTypes, shapeTyped, contextTyped, entityTyped, varTyped, boolAt, longIn, stringAt, entityAt, setAt, twoBools, compared, arithmetic, twoSets, rules, typed, fitsIn}
+use Rattle.sheet.specs.Typing.{onEntity, onSetOf, onRecord, isBool, isLong, isString, declaredIn, requiredThere, allIn, allEntries, entriesFit, attributes, targetKind, pathTyped, typeOfNode, tagsOf, isAction, noneDeclared, argTypes, shapeTyped, contextTyped, entityTyped, varTyped, boolAt, longIn, stringAt, entityAt, setAt, twoBools, compared, arithmetic, twoSets, rules, typed, fitsIn, nodesUnder, slotsFit, linkTyped}
 use Rattle.table.specs.Layout.{rowsOf, held, linesHeld}
 use Rattle.table.proofs.Rows.{count-rows}
 use Rattle.fits.specs.Fit.{full, hasIn, completeIn, declaredBy, Answered}
 use Rattle.fits.proofs.Sorts.{typeTable}
-use Rattle.typing.specs.Rules.{BOOL-SORT, LONG-SORT, STRING-SORT, ENTITY-SORT, SET-SORT, sortNumber, sortAt, kindAt, elementAt, recordAt, attributeAt, bareAt, attributeTypeAt, tagTypeAt, isAboveAt, actionAt, attributesAt, targetAt, requestAt, nodeTypeAt, pathFrom, allOf, argsFit, childAt, twoSorts, threeSorts, requestIs, contextIsAt, varRule, eqRule, inRule, gettagRule, containsRule, twoSetsRule, ifRule, getRule, hasRule, haspathRule, setRule, recordRule, nodeRules, nodeRule, shapeRule, contextRule, policyRule, attributesRule, tagsRule, ancestorRule, ancestorsRule, entityRule, typedRule, Typed}
+use Rattle.typing.specs.Links.{Shown, slotFits, slotsFitIn, rootAt, linkRule}
+use Rattle.typing.specs.Rules.{BOOL-SORT, LONG-SORT, STRING-SORT, ENTITY-SORT, SET-SORT, sortNumber, sortAt, kindAt, elementAt, recordAt, attributeAt, bareAt, attributeTypeAt, tagTypeAt, isAboveAt, actionAt, attributesAt, targetAt, requestAt, nodeTypeAt, pathFrom, allOf, argsFit, childAt, twoSorts, threeSorts, requestIs, contextIsAt, varRule, eqRule, inRule, gettagRule, containsRule, twoSetsRule, ifRule, getRule, hasRule, haspathRule, setRule, recordRule, slotRule, nodeRules, nodeRule, shapeRule, contextRule, policyRule, attributesRule, tagsRule, ancestorRule, ancestorsRule, entityRule, typedRule, Typed}
 
 -- ---- tests on a type are tests on its sort
 
@@ -290,6 +291,10 @@ module _ (sheet a c r : List ℕ) where
       ∙ (λ i. onSome false (recordAt a own) (λ y. requiredThere (D y) (λ t. arg-there t (drop 1 (drop 1 r)) i) && args-as (λ t x. onSome false (declaredIn t (D y)) (eqb x)) (drop 1 (drop 1 r)) i))
       ∙ (λ i. onSome false (recordAt a own) (λ y. requiredThere (D y) (λ t. isSome (entryOf t (entriesOf (drop 1 (drop 1 r))))) && allEntries (λ t n. onSome false (declaredIn t (D y)) (eqb (nodeTypeAt a n))) (entriesOf (drop-two r i))))
 
+  slot-as : entityAt s r own ≡ slotRule a r
+  unfolding held linesHeld slotRule sortAt
+  slot-as = sort-entity (T own)
+
   rules-as : rules s r ≡ nodeRules a r
   unfolding held linesHeld nodeRules full
   rules-as = λ i.
@@ -321,6 +326,7 @@ module _ (sheet a c r : List ℕ) where
       ∷ empty-as i
       ∷ set-as i
       ∷ record-rule-as i
+      ∷ slot-as i
       ∷ []
 
   -- ---- the other keys
@@ -343,9 +349,20 @@ module _ (sheet a c r : List ℕ) where
       attributesRule a (getD r 2 0) k && tagsRule a (getD r 3 0) k
       && (eqb (getD r 4 0) mark || rSet false (valueRow (getD (rowsOf a VALUE) (getD r 4 0) [])) (allIn (λ v. rEnt false (valueRow (getD (rowsOf a VALUE) v [])) (λ l u. memN l (drop-three (getD (rowsOf a SHAPE) k []) i))))))
 
-  pub typed-as : (k : ℕ) → typed s r k ≡ typedRule a r k
+  slots-as : (p q : ℕ) (l : List (List ℕ)) → slotsFit s p q l ≡ slotsFitIn a p q l
+  unfolding held linesHeld slotsFitIn slotFits full
+  slots-as p q [] = refl
+  slots-as p q (n ∷ l) = λ i. slotFits a p q n && slots-as p q l i
+
+  link-as : Shown a → linkTyped s r ≡ linkRule a r
+  unfolding held linesHeld nodesUnder linkRule
+  link-as h =
+      let p = getD r 2 0 in let q = getD r 3 0 in let n = rootAt a (getD r 1 0) in
+      slots-as p q (nodesUnder s n) ∙ ap (slotsFitIn a p q) (sym (h .all n))
+
+  pub typed-as : Shown a → (k : ℕ) → typed s r k ≡ typedRule a r k
   unfolding held linesHeld typed typedRule nodeRule policyRule actionAt sortAt childAt nodeTypeAt
-  typed-as k = λ i. getD (
+  typed-as h k = λ i. getD (
       true
       ∷ true
       ∷ true
@@ -360,8 +377,9 @@ module _ (sheet a c r : List ℕ) where
       ∷ true
       ∷ getD (rules-as i) (tag r - firstNode) false
       ∷ sort-bool (T (K 3)) i
+      ∷ link-as h i
       ∷ true
       ∷ []) k false
 
 pub typed-is : (a m n r : List ℕ) (k : ℕ) (b : Bool) → Answered a m n (typedRule a r k) b → Typed a m n r k b
-typed-is a m n r k b q = record { is = λ sheet c h. q .is h ∙ sym (typed-as sheet a c r k); known = q .known; rest = q .rest }
+typed-is a m n r k b q = record { is = λ sheet c h w. q .is h ∙ sym (typed-as sheet a c r w k); known = q .known; rest = q .rest }

@@ -5,10 +5,12 @@ use mathlib.Core.List.{List, [], _∷_}
 use mathlib.Core.Option.{none, some}
 use Prim.Native.Nat.{ℕ, zero, suc, _+_, _-_, _≤_, _<_}
 use native.Mathlib.Omega.{arith}
-use borrow.Author.Tests.{eq-eqb, ne-eqb, not-true, not-false, le-ltb}
+use native.Mathlib.Decide.{decLt}
+use borrow.Author.Tests.{eq-eqb, ne-eqb, not-true, not-false, lt-ltb, le-ltb}
 use lib.Dec.{eqb, ltb}
-use lib.ListN.{length, getD, drop, drop-of-length-le}
-use Rattle.sheet.specs.Forms.{tag, mark, firstNode, SHAPE, VALUE, ENTITY, PRINCIPAL, ACTION, RESOURCE, CONTEXT, NODE, POLICY, noKey}
+use lib.ListN.{length, getD, drop, set, replicate, drop-of-length-le}
+use lib.Seq.{getD-set-other}
+use Rattle.sheet.specs.Forms.{tag, mark, firstNode, SHAPE, VALUE, ENTITY, PRINCIPAL, ACTION, RESOURCE, CONTEXT, NODE, POLICY, LINK, noKey}
 use Rattle.forms.specs.Tags.{LONG-VALUE, ENTITY-VALUE, SET-VALUE, RECORD-VALUE}
 use Rattle.sheet.specs.State.{entriesOf, valueRow}
 use Rattle.sheet.specs.Typing.{allIn, allEntries, isStop}
@@ -17,6 +19,7 @@ use Rattle.fits.specs.Fit.{full, foundIn, tagsFitBy, Known, Answered}
 use Rattle.fits.specs.declared.Found as F
 use Rattle.fits.proofs.Walks.{next}
 use Rattle.fits.proofs.Sorts.{sort-tag, no-entity, no-set, no-record}
+use Rattle.typing.specs.Links.{linkRule}
 use Rattle.typing.specs.Rules.{BOOL-SORT, sortAt, recordAt, bareAt, attributeTypeAt, tagTypeAt, isAboveAt, actionAt, childAt, nodeRule, shapeRule, contextRule, policyRule, attributesRule, tagsRule, ancestorRule, ancestorsRule, entityRule, typedRule}
 
 -- an answer that asks for no pair
@@ -245,22 +248,46 @@ module _ (a r : List ℕ) (k : ℕ) where
     unfolding typedRule
     line-node h q = rw h q
 
--- the keys whose lines need no typing, and numbers that are no key
-pub key-free : (a r : List ℕ) (k : ℕ) → (k ≡ ENTITY → ⊥) × (k ≡ CONTEXT → ⊥) × (k ≡ NODE → ⊥) → (k ≡ SHAPE → ⊥) → (k ≡ PRINCIPAL → ⊥) → (k ≡ ACTION → ⊥) → (k ≡ RESOURCE → ⊥) → (k ≡ POLICY → ⊥) → ltb k noKey ≡ typedRule a r k
-unfolding typedRule
-key-free a r zero n n-shape n-principal n-action n-resource n-policy = refl
-key-free a r (suc zero) n n-shape n-principal n-action n-resource n-policy = refl
-key-free a r (suc (suc zero)) n n-shape n-principal n-action n-resource n-policy = refl
-key-free a r (suc (suc (suc zero))) n n-shape n-principal n-action n-resource n-policy = refl
-key-free a r (suc (suc (suc (suc zero)))) n n-shape n-principal n-action n-resource n-policy = absurd (n-shape refl)
-key-free a r (suc (suc (suc (suc (suc zero))))) n n-shape n-principal n-action n-resource n-policy = refl
-key-free a r (suc (suc (suc (suc (suc (suc zero)))))) n n-shape n-principal n-action n-resource n-policy = absurd (n .0 refl)
-key-free a r (suc (suc (suc (suc (suc (suc (suc zero))))))) n n-shape n-principal n-action n-resource n-policy = absurd (n-principal refl)
-key-free a r (suc (suc (suc (suc (suc (suc (suc (suc zero)))))))) n n-shape n-principal n-action n-resource n-policy = absurd (n-action refl)
-key-free a r (suc (suc (suc (suc (suc (suc (suc (suc (suc zero))))))))) n n-shape n-principal n-action n-resource n-policy = absurd (n-resource refl)
-key-free a r (suc (suc (suc (suc (suc (suc (suc (suc (suc (suc zero)))))))))) n n-shape n-principal n-action n-resource n-policy = absurd (n .1 refl)
-key-free a r (suc (suc (suc (suc (suc (suc (suc (suc (suc (suc (suc zero))))))))))) n n-shape n-principal n-action n-resource n-policy = refl
-key-free a r (suc (suc (suc (suc (suc (suc (suc (suc (suc (suc (suc (suc zero)))))))))))) n n-shape n-principal n-action n-resource n-policy = absurd (n .2 refl)
-key-free a r (suc (suc (suc (suc (suc (suc (suc (suc (suc (suc (suc (suc (suc zero))))))))))))) n n-shape n-principal n-action n-resource n-policy = absurd (n-policy refl)
-key-free a r (suc (suc (suc (suc (suc (suc (suc (suc (suc (suc (suc (suc (suc (suc zero)))))))))))))) n n-shape n-principal n-action n-resource n-policy = refl
-key-free a r (suc (suc (suc (suc (suc (suc (suc (suc (suc (suc (suc (suc (suc (suc (suc k))))))))))))))) n n-shape n-principal n-action n-resource n-policy = le-ltb (suc (suc (suc (suc (suc (suc (suc (suc (suc (suc (suc (suc (suc (suc (suc k))))))))))))))) noKey (omega arith)
+    pub line-link : k ≡ LINK → Answered a m n (linkRule a r) b → Answered a m n (typedRule a r k) b
+    unfolding typedRule
+    line-link h q = rw h q
+
+-- ---- the keys whose lines need no typing, and numbers that are no key
+
+-- true for each key, but for these
+butFor : List (ℕ × Bool) → List Bool
+butFor [] = replicate noKey true
+butFor ((i, b) ∷ l) = set (butFor l) i b
+
+NoneAt : List (ℕ × Bool) → ℕ → Type 0
+NoneAt [] k = Unit {0}
+NoneAt ((i, b) ∷ l) k = NoneAt l k × (k ≡ i → ⊥)
+
+all-true : (n k : ℕ) → ltb k n ≡ getD (replicate n true) k false
+all-true zero k = le-ltb k zero (omega arith)
+all-true (suc n) zero = lt-ltb zero (suc n) (omega arith)
+all-true (suc n) (suc k) = go (decLt k n) ∙ all-true n k
+  where
+    go : Dec (k < n) → ltb (suc k) (suc n) ≡ ltb k n
+    go (yes h) = lt-ltb (suc k) (suc n) (omega (arith, h)) ∙ sym (lt-ltb k n h)
+    go (no h) = le-ltb (suc k) (suc n) (omega (arith, h)) ∙ sym (le-ltb k n (omega (arith, h)))
+
+but-for : (l : List (ℕ × Bool)) (k : ℕ) → NoneAt l k → ltb k noKey ≡ getD (butFor l) k false
+unfolding butFor NoneAt
+but-for [] k n = all-true noKey k
+but-for ((i, b) ∷ l) k n = but-for l k (n .0) ∙ sym (getD-set-other (butFor l) i k b false (n .1))
+
+pub key-free : (a r : List ℕ) (k : ℕ) → (k ≡ ENTITY → ⊥) × (k ≡ CONTEXT → ⊥) × (k ≡ NODE → ⊥) × (k ≡ LINK → ⊥) → (k ≡ SHAPE → ⊥) → (k ≡ PRINCIPAL → ⊥) → (k ≡ ACTION → ⊥) → (k ≡ RESOURCE → ⊥) → (k ≡ POLICY → ⊥) → ltb k noKey ≡ typedRule a r k
+unfolding typedRule butFor NoneAt
+key-free a r k n n-shape n-principal n-action n-resource n-policy =
+    but-for (
+    (SHAPE, shapeRule a r)
+    ∷ (ENTITY, entityRule a r)
+    ∷ (PRINCIPAL, not (actionAt a (getD r 1 0)))
+    ∷ (ACTION, actionAt a (getD r 1 0))
+    ∷ (RESOURCE, not (actionAt a (getD r 1 0)))
+    ∷ (CONTEXT, contextRule a r)
+    ∷ (NODE, nodeRule a r (tag r - firstNode))
+    ∷ (POLICY, policyRule a r)
+    ∷ (LINK, linkRule a r)
+    ∷ []) k (((((((((tt, n .3), n-policy), n .2), n .1), n-resource), n-action), n-principal), n .0), n-shape)

@@ -17,7 +17,7 @@ use Rattle.table.specs.Layout.{rowsOf}
 use Rattle.fits.specs.Fit.{foundIn, completeIn}
 use Rattle.fits.specs.declared.Found as F
 use Rattle.fits.proofs.Walks.{next, entries-end, entries-one, entries-on}
-use Rattle.typing.specs.Rules.{BOOL-SORT, STRING-SORT, ENTITY-SORT, SET-SORT, sortAt, kindAt, elementAt, recordAt, attributeAt, tagTypeAt, attributesAt, targetAt, requestAt, pathFrom, allOf, argsFit, childAt, twoSorts, threeSorts, requestIs, contextIsAt, varRule, eqRule, inRule, gettagRule, containsRule, twoSetsRule, ifRule, getRule, hasRule, haspathRule, setRule, recordRule}
+use Rattle.typing.specs.Rules.{BOOL-SORT, STRING-SORT, ENTITY-SORT, SET-SORT, sortAt, kindAt, elementAt, recordAt, attributeAt, tagTypeAt, attributesAt, targetAt, requestAt, pathFrom, allOf, argsFit, childAt, twoSorts, threeSorts, requestIs, contextIsAt, varRule, eqRule, inRule, gettagRule, containsRule, twoSetsRule, ifRule, getRule, hasRule, haspathRule, setRule, recordRule, slotRule}
 
 -- ---- sorts
 
@@ -354,3 +354,9 @@ module _ (a r : List ℕ) where
           args-on k =
               let e : attributeAt a y t ≡ some z = sym ef ∙ ap foundIn h in
               record { left = w .left ∙ args-step x ex ∙ rw (e, eq-eqb x z k) }
+
+-- ---- slots
+
+pub slot-is : (a r : List ℕ) (o s : ℕ) → o ≡ getD r 1 0 → s ≡ sortAt a o → eqb s ENTITY-SORT ≡ slotRule a r
+unfolding slotRule
+slot-is a r o s eo es = rw (← eo, ← es)

@@ -15,6 +15,7 @@ use Rattle.sheet.specs.Typing.{onEntity, onSetOf, onRecord, allIn, allEntries, 
 use Rattle.forms.specs.Tags.{LONG-TYPE, STRING-TYPE, ENTITY-TYPE, SET-TYPE, RECORD-TYPE, OF-ACTIONS}
 use Rattle.table.specs.Layout.{rowsOf, held, TYPEDEPTHS}
 use Rattle.fits.specs.Fit.{SettledIn, Known, full, completeIn, declaredBy}
+use Rattle.typing.specs.Links.{Shown, linkRule}
 
 -- ---- types, by their numbers
 
@@ -167,6 +168,9 @@ module _ (a r : List ℕ) where
   unfoldable pub recordRule : Bool
   recordRule = onSome false (recordAt a (getD r 1 0)) (λ y. completeIn (drop 1 r) (getD (rowsOf a TYPE) y []) && argsFit a (drop 2 r) y)
 
+  unfoldable pub slotRule : Bool
+  slotRule = eqb (sortAt a (getD r 1 0)) ENTITY-SORT
+
   -- one rule for each operation, in the table's order
   unfoldable pub nodeRules : List Bool
   nodeRules =
@@ -198,6 +202,7 @@ module _ (a r : List ℕ) where
       ∷ twoSorts BOOL-SORT SET-SORT  -- empty
       ∷ setRule  -- set
       ∷ recordRule  -- record
+      ∷ slotRule  -- slot
       ∷ []
 
   unfoldable pub nodeRule : ℕ → Bool
@@ -250,13 +255,15 @@ module _ (a : List ℕ) where
       ∷ true  -- day
       ∷ nodeRule a r (tag r - firstNode)  -- node
       ∷ policyRule a r  -- policy
+      ∷ linkRule a r  -- link
       ∷ true  -- term
       ∷ []) k false
 
 -- ---- the promise
 
--- the answer is that of the state that the words hold, whatever the sheet's bytes, depths and uses are, wherever the whole depth is enough
+-- the answer is that of the state that the words hold, whatever the sheet's bytes, depths and uses are, wherever the whole depth is enough, for values
+-- and for the nodes under a node
 pub record Typed (a m n r : List ℕ) (k : ℕ) (b : Bool) : Type 0 where
-  pub is : (sheet c : List ℕ) → SettledIn a → b ≡ typed (held sheet a c) r k
+  pub is : (sheet c : List ℕ) → SettledIn a → Shown a → b ≡ typed (held sheet a c) r k
   pub known : Known a n
   pub rest : drop TYPEDEPTHS n ≡ drop TYPEDEPTHS m

@@ -1,4 +1,5 @@
 // The typing of lines: one rule for each key.
+use crate::links::link_typed;
 use crate::nodes::child;
 use crate::nodes::node_typed;
 use crate::types::BOOL_SORT;
@@ -16,6 +17,7 @@ use forms::ACTION;
 use forms::CONTEXT;
 use forms::ENTITY;
 use forms::ENTITY_VALUE;
+use forms::LINK;
 use forms::MARK;
 use forms::NO_KEY;
 use forms::NODE;
@@ -31,7 +33,7 @@ use table::item;
 use table::row;
 use table::tag;
 ghost use mathlib.Core.Path.{_≡_};
-ghost use Rattle.sheet.specs.Forms.{ENTITY, CONTEXT, NODE};
+ghost use Rattle.sheet.specs.Forms.{ENTITY, CONTEXT, NODE, LINK};
 ghost use Rattle.fits.specs.Fit.{Known, Answered};
 ghost use Rattle.typing.specs.Rules.{
   shapeRule,
@@ -178,7 +180,7 @@ fn policy_typed(rows: &[u32], line: &[u32]) -> bool
 
 // The rules that ask for no value.
 fn key_typed(rows: &[u32], line: &[u32], key: usize) -> bool
-    requires { ⌜ (key ≡ ENTITY → ⊥) × (key ≡ CONTEXT → ⊥) × (key ≡ NODE → ⊥) ⌝ }
+    requires { ⌜ (key ≡ ENTITY → ⊥) × (key ≡ CONTEXT → ⊥) × (key ≡ NODE → ⊥) × (key ≡ LINK → ⊥) ⌝ }
     ensures { λ b. ⌜ b ≡ typedRule (now (rows .entry)) (now (line .entry)) key ⌝ }
 {
     match key {
@@ -199,6 +201,7 @@ fn line_typed(rows: &[u32], work: &mut [u32], line: &[u32], key: usize) -> bool
         ENTITY => entity_typed(rows, work, line),
         CONTEXT => context_typed(rows, work, line),
         NODE => node_typed(rows, work, line),
+        LINK => link_typed(rows, work, line),
         _ => key_typed(rows, line, key),
     }
 }

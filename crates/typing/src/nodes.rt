@@ -50,6 +50,7 @@ use forms::PRINCIPAL;
 use forms::RECORD_OF;
 use forms::RESOURCE;
 use forms::SET_OF;
+use forms::SLOT;
 use forms::SUB;
 use forms::TYPE;
 use forms::VAR;
@@ -61,7 +62,7 @@ ghost use mathlib.Core.Path.{_≡_};
 ghost use Prim.Native.Nat.{_-_, _≤_};
 ghost use lib.ListN.{drop};
 ghost use Rattle.sheet.specs.Forms.{tag, firstNode};
-ghost use Rattle.forms.specs.Tags.{ERR, CONTAINS, ALL, RECORD-OF};
+ghost use Rattle.forms.specs.Tags.{ERR, CONTAINS, ALL, SLOT};
 ghost use Rattle.fits.specs.Fit.{Known, Answered};
 ghost use Rattle.typing.specs.Rules.{
   nodeTypeAt,
@@ -84,6 +85,7 @@ ghost use Rattle.typing.specs.Rules.{
   haspathRule,
   setRule,
   recordRule,
+  slotRule,
   nodeRule,
 };
 
@@ -357,6 +359,14 @@ fn record_typed(rows: &[u32], line: &[u32]) -> bool
     args_fit(rows, line, y)
 }
 
+// ---- slots
+
+fn slot_typed(rows: &[u32], line: &[u32]) -> bool
+    ensures { λ b. ⌜ b ≡ slotRule (now (rows .entry)) (now (line .entry)) ⌝ }
+{
+    sort(rows, item(line, 1)) == ENTITY_SORT
+}
+
 // ---- the rule of each operation
 
 fn first_rules(rows: &[u32], line: &[u32], tag: u32) -> bool
@@ -382,7 +392,7 @@ fn first_rules(rows: &[u32], line: &[u32], tag: u32) -> bool
 }
 
 fn last_rules(rows: &[u32], line: &[u32], tag: u32) -> bool
-    requires { ⌜ (ALL ≤ tag) × (tag ≤ RECORD-OF) ⌝ }
+    requires { ⌜ (ALL ≤ tag) × (tag ≤ SLOT) ⌝ }
     ensures { λ b. ⌜ b ≡ nodeRule (now (rows .entry)) (now (line .entry)) (tag - firstNode) ⌝ }
 {
     match tag {
@@ -398,7 +408,8 @@ fn last_rules(rows: &[u32], line: &[u32], tag: u32) -> bool
         NEG => two_sorts(rows, line, LONG_SORT, LONG_SORT),
         EMPTY => two_sorts(rows, line, BOOL_SORT, SET_SORT),
         SET_OF => set_typed(rows, line),
-        _ => record_typed(rows, line),
+        RECORD_OF => record_typed(rows, line),
+        _ => slot_typed(rows, line),
     }
 }
 
@@ -414,7 +425,7 @@ pub fn node_typed(rows: &[u32], work: &mut [u32], line: &[u32]) -> bool
     if op <= CONTAINS {
         return first_rules(rows, line, op);
     }
-    if op <= RECORD_OF {
+    if op <= SLOT {
         return last_rules(rows, line, op);
     }
     false

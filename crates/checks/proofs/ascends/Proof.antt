@@ -1,5 +1,5 @@
 -- `checks::ascends` meets its contract. Assumes nothing.
-use Rattle.checks.proofs.FoundLaws.{rises-flat, Rising, rising-first, rising-off, rising-on, rising-end}
+use Rattle.checks.proofs.FoundLaws.{rises-node, rises-flat, Rising, rising-first, rising-off, rising-on, rising-end}
 use Prim.Native.Nat.{_-_}
 use lib.ListN.{length}
 use borrow.Author.Needs.{needs}
@@ -13,19 +13,22 @@ abbrev μ-loop : tie.MeasureT-loop
 μ-loop line t m lo₀ j₀ lo j = length line - j
 
 returns : tie.Need-returns Inv-loop μ-loop
-returns c = search (rises-flat, needs)
+returns c = search (rises-node, needs)
+
+returns-2 : tie.Need-returns-2 Inv-loop μ-loop
+returns-2 c = search (rises-flat, needs)
 
 loop-holds : tie.Need-loop-holds Inv-loop μ-loop
 loop-holds c = search (rising-first, needs)
 
-returns-2 : tie.Need-returns-2 Inv-loop μ-loop
-returns-2 c = search (rising-off, needs)
+returns-3 : tie.Need-returns-3 Inv-loop μ-loop
+returns-3 c = search (rising-off, needs)
 
 loop-again : tie.Need-loop-again Inv-loop μ-loop
 loop-again c = search (rising-on, needs)
 
-returns-3 : tie.Need-returns-3 Inv-loop μ-loop
-returns-3 c = search (rising-end, needs)
+returns-4 : tie.Need-returns-4 Inv-loop μ-loop
+returns-4 c = search (rising-end, needs)
 
 pub ascends-spec : {M : Type 1} → statement M
 ascends-spec =
@@ -34,16 +37,17 @@ ascends-spec =
     Inv-loop
     μ-loop
     (λ c κs. search needs)
-    (λ c κs. search needs)
     returns
+    (λ c κs. search needs)
+    returns-2
     loop-holds
     (λ c. search needs)
     (λ c. search needs)
     (λ c κs. search needs)
     (λ c. search needs)
-    returns-2
+    returns-3
     (λ c. search needs)
     (λ c. search needs)
     (λ c. search needs)
     loop-again
-    returns-3)
+    returns-4)

@@ -1,5 +1,5 @@
 -- `checks::in_order` meets its contract. Assumes nothing.
-use Rattle.checks.proofs.OrderLaws.{Zeros, zeros-start, zeros-off, zeros-on, zeros-end, nodes-off, terms-off, nodes-on}
+use Rattle.checks.proofs.OrderLaws.{Zeros, zeros-start, zeros-off, zeros-on, zeros-end, nodes-off, links-off, terms-off, nodes-on}
 use Prim.Native.Nat.{_-_}
 use Rattle.sheet.specs.Forms.{noKey}
 use borrow.Author.Needs.{needs}
@@ -19,19 +19,22 @@ returns : tie.Need-returns Inv-loop μ-loop
 returns c = search (nodes-off, needs)
 
 returns-2 : tie.Need-returns-2 Inv-loop μ-loop
-returns-2 c = search (terms-off, needs)
+returns-2 c = search (links-off, needs)
 
 returns-3 : tie.Need-returns-3 Inv-loop μ-loop
-returns-3 c = search (nodes-on, needs)
+returns-3 c = search (terms-off, needs)
 
 returns-4 : tie.Need-returns-4 Inv-loop μ-loop
-returns-4 c = search (zeros-off, needs)
+returns-4 c = search (nodes-on, needs)
+
+returns-5 : tie.Need-returns-5 Inv-loop μ-loop
+returns-5 c = search (zeros-off, needs)
 
 loop-again : tie.Need-loop-again Inv-loop μ-loop
 loop-again c = search (zeros-on, needs)
 
-returns-5 : tie.Need-returns-5 Inv-loop μ-loop
-returns-5 c = search (zeros-end, needs)
+returns-6 : tie.Need-returns-6 Inv-loop μ-loop
+returns-6 c = search (zeros-end, needs)
 
 pub in-order-spec : {M : Type 1} → statement M
 in-order-spec =
@@ -45,12 +48,14 @@ in-order-spec =
     returns-2
     (λ c κs. search needs)
     returns-3
+    (λ c κs. search needs)
+    returns-4
     (λ c. search needs)
     loop-holds
     (λ c κs. search needs)
-    returns-4
+    returns-5
     (λ c. search needs)
     (λ c. search needs)
     loop-again
     (λ c κs. search needs)
-    returns-5)
+    returns-6)

@@ -1,6 +1,6 @@
 -- `checks::is_fresh` meets its contract. Assumes nothing.
 use native.Mathlib.Omega.{arith}
-use Rattle.checks.proofs.FoundLaws.{fresh-type, fresh-value, fresh-kind, fresh-policy, fresh-entity, fresh-term, fresh-other, fresh-node}
+use Rattle.checks.proofs.FoundLaws.{fresh-type, fresh-value, fresh-kind, fresh-policy, fresh-entity, fresh-link, fresh-term, fresh-other, fresh-node}
 use Rattle.checks.proofs.SearchLaws.{keyed-row}
 use borrow.Author.Needs.{needs}
 use Rattle.checks.proofs.is_fresh.Statement.{statement}
@@ -25,16 +25,19 @@ returns-6 : tie.Need-returns-6
 returns-6 c = search (fresh-entity, needs)
 
 returns-7 : tie.Need-returns-7
-returns-7 c = search (fresh-term, needs)
+returns-7 c = search (fresh-link, needs)
 
 returns-8 : tie.Need-returns-8
-returns-8 c = search (fresh-other, needs)
+returns-8 c = search (fresh-term, needs)
+
+returns-9 : tie.Need-returns-9
+returns-9 c = search (fresh-other, needs)
 
 is-row-requires : tie.Need-is-row-requires
-is-row-requires c κs = let s = c .before .before .before .before in keyed-row (s .args .line .now) (s .args .key) (s .pre .1) (omega arith)
+is-row-requires c κs = let s = c .before .before .before .before .before in keyed-row (s .args .line .now) (s .args .key) (s .pre .0 .1) (omega arith)
 
 is-row-requires-2 : tie.Need-is-row-requires-2
-is-row-requires-2 c κs = let s = c .before .before .before .before .before in keyed-row (s .args .line .now) (s .args .key) (s .pre .1) (omega arith)
+is-row-requires-2 c κs = let s = c .before .before .before .before .before .before in keyed-row (s .args .line .now) (s .args .key) (s .pre .0 .1) (omega arith)
 
 pub is-fresh-spec : {M : Type 1} → statement M
 is-fresh-spec =
@@ -55,4 +58,6 @@ is-fresh-spec =
     returns-6
     (λ c κs. search needs)
     returns-7
-    returns-8)
+    (λ c κs. search needs)
+    returns-8
+    returns-9)

@@ -1,5 +1,5 @@
 -- The evaluator's cycle of calls meets its contracts: the depth falls with each node. Assumes nothing.
-use Rattle.evaluator.proofs.Ways.{eval-none, eval-step, if-false, if-other, if-true, kids-end, kids-error, kids-more, kids-none, lazy-made, lazy-other, lazy-right, many-grows, many-room, more-room, one-error, one-low, one-on, record-error, record-made, set-error, set-made, step-and, step-err, step-if, step-lit, step-one, step-or, step-past, step-record, step-set, step-two, step-var, two-error, two-low, two-on, two-right}
+use Rattle.evaluator.proofs.Ways.{eval-none, eval-step, if-false, if-other, if-true, kids-end, kids-error, kids-more, kids-none, lazy-made, lazy-other, lazy-right, many-grows, many-room, more-room, one-error, one-low, one-on, record-error, record-made, set-error, set-made, step-and, step-err, step-if, step-lit, step-one, step-or, step-past, step-record, step-set, step-slot, step-two, step-var, two-error, two-low, two-on, two-right}
 use borrow.Author.Needs.{needs}
 use native.Mathlib.Omega.{arith}
 use Prim.Native.Nat.{ℕ, _<_, _+_, _*_}
@@ -42,6 +42,7 @@ use Rattle.evaluator.proofs.truth_of.Reads as truth-of-reads
 use Rattle.residual.proofs.push_value.Reads as push-value-reads
 use Rattle.table.proofs.row.Reads as row-reads
 use Rattle.table.proofs.tag.Reads as tag-reads
+use Rattle.typing.proofs.links.slot_value.Reads as slot-value-reads
 use Rattle.value.proofs.making.make_bool.Reads as make-bool-reads
 use Rattle.value.proofs.making.make_record.Reads as make-record-reads
 use Rattle.value.proofs.making.make_set.Reads as make-set-reads
@@ -49,31 +50,31 @@ use Rattle.evaluator.proofs.+branch+eval+kids+lazy+one+record+set+step+
 use Rattle.evaluator.proofs.+branch+eval+kids+lazy+one+record+set+step+two.Tie.{close}
 
 abbrev μ-branch : Measures 3 branch-kinds.ps ℕ
-μ-branch κs a = a .1 .1 .1 .1 .1 .0 * 65536 + 1
+μ-branch κs a = a .1 .1 .1 .1 .1 .1 .1 .0 * 65536 + 1
 
 abbrev μ-eval : Measures 3 eval-kinds.ps ℕ
-μ-eval κs a = a .1 .1 .1 .1 .1 .0 * 65536
+μ-eval κs a = a .1 .1 .1 .1 .1 .1 .1 .0 * 65536
 
 abbrev μ-kids : Measures 3 kids-kinds.ps ℕ
-μ-kids κs a = a .1 .1 .1 .1 .1 .1 .1 .1 .0 * 65536 + a .1 .1 .1 .1 .1 .1 .1 .0 + 1
+μ-kids κs a = a .1 .1 .1 .1 .1 .1 .1 .1 .1 .1 .0 * 65536 + a .1 .1 .1 .1 .1 .1 .1 .1 .1 .0 + 1
 
 abbrev μ-lazy : Measures 3 lazy-kinds.ps ℕ
-μ-lazy κs a = a .1 .1 .1 .1 .1 .1 .0 * 65536 + 1
+μ-lazy κs a = a .1 .1 .1 .1 .1 .1 .1 .1 .0 * 65536 + 1
 
 abbrev μ-one : Measures 3 one-kinds.ps ℕ
-μ-one κs a = a .1 .1 .1 .1 .1 .1 .0 * 65536 + 1
+μ-one κs a = a .1 .1 .1 .1 .1 .1 .1 .1 .0 * 65536 + 1
 
 abbrev μ-record : Measures 3 record-kinds.ps ℕ
-μ-record κs a = a .1 .1 .1 .1 .1 .0 * 65536 + 16386
+μ-record κs a = a .1 .1 .1 .1 .1 .1 .1 .0 * 65536 + 16386
 
 abbrev μ-set : Measures 3 set-kinds.ps ℕ
-μ-set κs a = a .1 .1 .1 .1 .1 .0 * 65536 + 16386
+μ-set κs a = a .1 .1 .1 .1 .1 .1 .1 .0 * 65536 + 16386
 
 abbrev μ-step : Measures 3 step-kinds.ps ℕ
-μ-step κs a = a .1 .1 .1 .1 .1 .1 .0 * 65536 + 16387
+μ-step κs a = a .1 .1 .1 .1 .1 .1 .1 .1 .0 * 65536 + 16387
 
 abbrev μ-two : Measures 3 two-kinds.ps ℕ
-μ-two κs a = a .1 .1 .1 .1 .1 .1 .0 * 65536 + 1
+μ-two κs a = a .1 .1 .1 .1 .1 .1 .1 .1 .0 * 65536 + 1
 
 abbrev branch-at : ℕ → In 3 branch-kinds.ps
 branch-at t = and 3 branch-kinds.ps (is 3 branch-kinds.ps μ-branch t) branch.Pre
@@ -155,7 +156,7 @@ branch-returns-2 t c =
     let c₅ = c₄ .before .before .before .before .before .before in
     let c₆ = c₅ .before in
     let c₇ = c₆ .before .before .before .before .before .before in
-    if-true _ _ _ _ _ _ _ (c₆ .word-of3 .ensures) _ _ _ (c₅ .eval .ensures) _ (c₄ .truth-of .ensures) _ (c₃ .x .given .1) _ _ _ _ (c₁ .eval2 .ensures) (c₂ .if1 .taken) (c₇ .word-of .ensures)
+    if-true _ _ _ _ _ _ _ _ _ (c₆ .word-of3 .ensures) _ _ _ (c₅ .eval .ensures) _ (c₄ .truth-of .ensures) _ (c₃ .x .given .1) _ _ _ _ (c₁ .eval2 .ensures) (c₂ .if1 .taken) (c₇ .word-of .ensures)
 
 branch-returns-3 : (t : ℕ) → branch-lts.Need-returns-3 (
   word-of-reads.Asked,
@@ -173,7 +174,7 @@ branch-returns-3 t c =
     let c₅ = c₄ .before .before .before .before .before .before in
     let c₆ = c₅ .before in
     let c₇ = c₆ .before .before .before .before in
-    if-false _ _ _ _ _ _ _ (c₆ .word-of3 .ensures) _ _ _ (c₅ .eval .ensures) _ (c₄ .truth-of .ensures) _ (c₃ .x .given .1) _ _ _ _ (c₁ .eval3 .ensures) (c₂ .if1 .left) (c₇ .word-of2 .ensures)
+    if-false _ _ _ _ _ _ _ _ _ (c₆ .word-of3 .ensures) _ _ _ (c₅ .eval .ensures) _ (c₄ .truth-of .ensures) _ (c₃ .x .given .1) _ _ _ _ (c₁ .eval3 .ensures) (c₂ .if1 .left) (c₇ .word-of2 .ensures)
 
 eval-returns : (t : ℕ) → eval-lts.Need-returns (
   row-reads.Asked,
@@ -237,6 +238,20 @@ kids-returns-3 : (t : ℕ) → kids-lts.Need-returns-3 (
 ) (kids-at t) kids.Post
 kids-returns-3 t c = search kids-error
 
+kids-add-kids : (t : ℕ) → kids-lts.Need-add-kids (
+  row-reads.Asked,
+  row-reads.Learnt,
+  word-of-reads.Asked,
+  word-of-reads.Learnt,
+  eval-below t,
+  eval.Post,
+  push-value-reads.Asked,
+  push-value-reads.Learnt,
+  kids-below t,
+  kids.Post,
+) (kids-at t) kids.Post
+kids-add-kids t c = omega (arith, c .before .before .before .before .before .before .before .before .before .before .before .before .before .before .before .before .before .before .before .before .before .before .before .before .before .pre .1 .1)
+
 kids-kids-requires : (t : ℕ) → kids-lts.Need-kids-requires (
   row-reads.Asked,
   row-reads.Learnt,
@@ -254,7 +269,7 @@ kids-kids-requires t c κs =
     let c₂ = c₁ .before .before .before .before .before .before .before .before .before in
     let c₃ = c₂ .before .before .before .before .before .before .before .before in
     let c₄ = c₃ .before .before .before .before in
-    (omega (arith, c₄ .pre .0, c₃ .if1 .left), (more-room _ _ _ _ _ _ (c₄ .pre .1 .0) (c₂ .eval .kept .1 .1 .0) (c₁ .push-value .ensures), omega (arith, c₄ .pre .1 .1, c₃ .if1 .left)))
+    (omega (arith, c₄ .pre .0, c₃ .if1 .left), (more-room _ _ _ _ _ _ (c₄ .pre .1 .0) (c₂ .eval .kept .1 .1 .1 .1 .0) (c₁ .push-value .ensures), omega (arith, c₄ .pre .1 .1, c₃ .if1 .left)))
 
 kids-returns-4 : (t : ℕ) → kids-lts.Need-returns-4 (
   row-reads.Asked,
@@ -278,7 +293,7 @@ kids-returns-4 t c =
     let c₇ = c₆ .before in
     let c₈ = c₇ .before .before in
     let c₉ = c₈ .before .before .before .before in
-    kids-more _ _ _ _ _ _ _ _ _ (c₉ .pre .1 .0) (c₈ .if1 .left) _ (c₇ .row .ensures) (c₆ .if2 .left) _ (c₅ .word-of .ensures) _ _ _ (c₄ .eval .ensures) (c₄ .eval .kept .1 .1 .0) _ _ _ (c₃ .value .given .1) (c₂ .push-value .ensures) _ _ _ (c₁ .kids .ensures)
+    kids-more _ _ _ _ _ _ _ _ _ _ _ (c₉ .pre .1 .0) (c₈ .if1 .left) _ (c₇ .row .ensures) (c₆ .if2 .left) _ (c₅ .word-of .ensures) _ _ _ (c₄ .eval .ensures) (c₄ .eval .kept .1 .1 .1 .1 .0) _ _ _ (c₃ .value .given .1) (c₂ .push-value .ensures) _ _ _ (c₁ .kids .ensures)
 
 lazy-returns : (t : ℕ) → lazy-lts.Need-returns (
   word-of-reads.Asked,
@@ -335,7 +350,7 @@ lazy-returns-3 t c =
     let c₆ = c₅ .before .before .before .before .before .before in
     let c₇ = c₆ .before in
     let c₈ = c₇ .before .before .before .before in
-    lazy-right _ _ _ _ _ _ _ (c₇ .word-of2 .ensures) _ _ _ (c₆ .eval .ensures) _ (c₅ .truth-of .ensures) _ (c₄ .x .given .1) _ _ _ _ _ _ _ (c₃ .same .ensures) (c₂ .if1 .left) (c₈ .word-of .ensures) (c₁ .eval2 .ensures) (c .only-bool .ensures)
+    lazy-right _ _ _ _ _ _ _ _ _ (c₇ .word-of2 .ensures) _ _ _ (c₆ .eval .ensures) _ (c₅ .truth-of .ensures) _ (c₄ .x .given .1) _ _ _ _ _ _ _ (c₃ .same .ensures) (c₂ .if1 .left) (c₈ .word-of .ensures) (c₁ .eval2 .ensures) (c .only-bool .ensures)
 
 one-returns : (t : ℕ) → one-lts.Need-returns (
   word-of-reads.Asked,
@@ -418,6 +433,8 @@ step-returns : (t : ℕ) → step-lts.Need-returns (
   set.Post,
   record-below t,
   record.Post,
+  slot-value-reads.Asked,
+  slot-value-reads.Learnt,
   two-below t,
   two.Post,
   one-below t,
@@ -438,6 +455,8 @@ step-returns-2 : (t : ℕ) → step-lts.Need-returns-2 (
   set.Post,
   record-below t,
   record.Post,
+  slot-value-reads.Asked,
+  slot-value-reads.Learnt,
   two-below t,
   two.Post,
   one-below t,
@@ -458,6 +477,8 @@ step-returns-3 : (t : ℕ) → step-lts.Need-returns-3 (
   set.Post,
   record-below t,
   record.Post,
+  slot-value-reads.Asked,
+  slot-value-reads.Learnt,
   two-below t,
   two.Post,
   one-below t,
@@ -478,6 +499,8 @@ step-returns-4 : (t : ℕ) → step-lts.Need-returns-4 (
   set.Post,
   record-below t,
   record.Post,
+  slot-value-reads.Asked,
+  slot-value-reads.Learnt,
   two-below t,
   two.Post,
   one-below t,
@@ -498,6 +521,8 @@ step-returns-5 : (t : ℕ) → step-lts.Need-returns-5 (
   set.Post,
   record-below t,
   record.Post,
+  slot-value-reads.Asked,
+  slot-value-reads.Learnt,
   two-below t,
   two.Post,
   one-below t,
@@ -518,6 +543,8 @@ step-returns-6 : (t : ℕ) → step-lts.Need-returns-6 (
   set.Post,
   record-below t,
   record.Post,
+  slot-value-reads.Asked,
+  slot-value-reads.Learnt,
   two-below t,
   two.Post,
   one-below t,
@@ -538,6 +565,8 @@ step-returns-7 : (t : ℕ) → step-lts.Need-returns-7 (
   set.Post,
   record-below t,
   record.Post,
+  slot-value-reads.Asked,
+  slot-value-reads.Learnt,
   two-below t,
   two.Post,
   one-below t,
@@ -558,6 +587,8 @@ step-returns-8 : (t : ℕ) → step-lts.Need-returns-8 (
   set.Post,
   record-below t,
   record.Post,
+  slot-value-reads.Asked,
+  slot-value-reads.Learnt,
   two-below t,
   two.Post,
   one-below t,
@@ -578,6 +609,8 @@ step-returns-9 : (t : ℕ) → step-lts.Need-returns-9 (
   set.Post,
   record-below t,
   record.Post,
+  slot-value-reads.Asked,
+  slot-value-reads.Learnt,
   two-below t,
   two.Post,
   one-below t,
@@ -598,6 +631,8 @@ step-returns-10 : (t : ℕ) → step-lts.Need-returns-10 (
   set.Post,
   record-below t,
   record.Post,
+  slot-value-reads.Asked,
+  slot-value-reads.Learnt,
   two-below t,
   two.Post,
   one-below t,
@@ -618,12 +653,36 @@ step-returns-11 : (t : ℕ) → step-lts.Need-returns-11 (
   set.Post,
   record-below t,
   record.Post,
+  slot-value-reads.Asked,
+  slot-value-reads.Learnt,
   two-below t,
   two.Post,
   one-below t,
   one.Post,
 ) (step-at t) step.Post
-step-returns-11 t c = search step-past
+step-returns-11 t c = search step-slot
+
+step-returns-12 : (t : ℕ) → step-lts.Need-returns-12 (
+  word-of-reads.Asked,
+  word-of-reads.Learnt,
+  request-reads.Asked,
+  request-reads.Learnt,
+  lazy-below t,
+  lazy.Post,
+  branch-below t,
+  branch.Post,
+  set-below t,
+  set.Post,
+  record-below t,
+  record.Post,
+  slot-value-reads.Asked,
+  slot-value-reads.Learnt,
+  two-below t,
+  two.Post,
+  one-below t,
+  one.Post,
+) (step-at t) step.Post
+step-returns-12 t c = search step-past
 
 two-returns : (t : ℕ) → two-lts.Need-returns (
   word-of-reads.Asked,
@@ -743,7 +802,7 @@ pub +branch+eval+kids+lazy+one+record+set+step+two-spec : {M : Type 1} → state
     (λ c. search needs)
     (kids-returns-3 t)
     (λ c κs. search needs)
-    (λ c. search needs)
+    (kids-add-kids t)
     (λ c. search needs)
     (kids-kids-requires t)
     (λ c. search needs)
@@ -846,6 +905,8 @@ pub +branch+eval+kids+lazy+one+record+set+step+two-spec : {M : Type 1} → state
       set.Post,
       record-below t,
       record.Post,
+      slot-value-reads.Asked,
+      slot-value-reads.Learnt,
       two-below t,
       two.Post,
       one-below t,
@@ -853,6 +914,8 @@ pub +branch+eval+kids+lazy+one+record+set+step+two-spec : {M : Type 1} → state
     )
     (step-at t)
     step.Post
+    (λ c κs. search needs)
+    (λ c κs. search needs)
     (λ c κs. search needs)
     (λ c κs. search needs)
     (λ c κs. search needs)
@@ -889,7 +952,9 @@ pub +branch+eval+kids+lazy+one+record+set+step+two-spec : {M : Type 1} → state
     (λ c. search needs)
     (λ c. search needs)
     (step-returns-10 t)
-    (step-returns-11 t))
+    (λ c. search needs)
+    (step-returns-11 t)
+    (step-returns-12 t))
     λ t. two-lts.spec (
       word-of-reads.Asked,
       word-of-reads.Learnt,

@@ -21,11 +21,16 @@ loop-again c =
     let c₁ = c .before .before in
     let c₂ = c₁ .before in
     let c₃ = c₂ .before .before .before .before .before .before .before in
-    let c₄ = c₃ .before in
+    let c₄ = c₃ .before .before .before in
     let c₅ = c₄ .before in
-    let c₆ = c₅ .before .before .before .before in
+    let c₆ = c₅ .before in
     let c₇ = c₆ .before in
-    (run-more _ _ _ _ _ _ _ (c₇ .loop .inv .0) _ _ _ _ _ _ _ _ (c₆ .loop-test .taken) (c₅ .row .ensures) (c₄ .item .ensures) (c₃ .eval .ensures) (c₃ .eval .kept .1 .1 .0) (c₂ .class-of .ensures) (c₁ .push .ensures), search needs, c₁ .push .kept .0 ∙ c₃ .eval .kept .1 .1 .0 ∙ c₇ .loop .inv .2)
+    let c₈ = c₇ .before .before in
+    let c₉ = c₈ .before in (
+      run-more _ _ _ _ _ _ _ (c₉ .loop .inv .0) _ _ _ _ _ _ _ _ _ _ (c₈ .loop-test .taken) (c₇ .row .ensures) (c₆ .item .ensures) (c₅ .item2 .ensures) (c₄ .item3 .ensures) (c₃ .eval .ensures) (c₃ .eval .kept .1 .1 .1 .1 .0) (c₂ .class-of .ensures) (c₁ .push .ensures),
+      c₃ .eval .kept .1 .1 .1 .0 ∙ c₉ .loop .inv .1,
+      c₁ .push .kept .0 ∙ c₃ .eval .kept .1 .1 .1 .1 .0 ∙ c₉ .loop .inv .2,
+    )
 
 returns : tie.Need-returns Inv-loop μ-loop
 returns c = search run-end
@@ -38,6 +43,8 @@ run-spec =
     μ-loop
     (λ c κs. search needs)
     loop-holds
+    (λ c κs. search needs)
+    (λ c κs. search needs)
     (λ c κs. search needs)
     (λ c κs. search needs)
     (λ c κs. search needs)

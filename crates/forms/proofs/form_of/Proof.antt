@@ -8,9 +8,9 @@ use borrow.Author.Needs.{needs}
 use Rattle.forms.proofs.form_of.Statement.{statement}
 use Rattle.forms.proofs.form_of.Tie as tie
 
-returns-53 : tie.Need-returns-53
+returns-55 : tie.Need-returns-55
 unfolding code coded below
-returns-53 c = c .plain45 .ensures ∙ row-out (c .before .before .args .tag) (c .before .match .rest)
+returns-55 c = c .plain47 .ensures ∙ row-out (c .before .before .args .tag) (c .before .match .rest)
 
 pub form-of-spec : {M : Type 1} → statement M
 unfolding forms formOf code coded
@@ -70,6 +70,8 @@ form-of-spec =
     (λ c κs. search needs)
     (λ c κs. search needs)
     (λ c κs. search needs)
+    (λ c κs. search needs)
+    (λ c κs. search needs)
     (λ c. search (of-row rowAt, needs))
     (λ c. search (of-row rowAt, needs))
     (λ c. search (of-row rowAt, needs))
@@ -122,4 +124,6 @@ form-of-spec =
     (λ c. search (of-row rowAt, needs))
     (λ c. search (of-row rowAt, needs))
     (λ c. search (of-row rowAt, needs))
-    returns-53)
+    (λ c. search (of-row rowAt, needs))
+    (λ c. search (of-row rowAt, needs))
+    returns-55)

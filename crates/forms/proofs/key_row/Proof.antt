@@ -8,9 +8,9 @@ use borrow.Author.Needs.{needs}
 use Rattle.forms.proofs.key_row.Statement.{statement}
 use Rattle.forms.proofs.key_row.Tie as tie
 
-returns-18 : tie.Need-returns-18
+returns-19 : tie.Need-returns-19
 unfolding below
-returns-18 c = c .of-key18 .ensures ∙ key-out (c .before .before .args .key) (c .before .match .rest)
+returns-19 c = c .of-key19 .ensures ∙ key-out (c .before .before .args .key) (c .before .match .rest)
 
 pub key-row-spec : {M : Type 1} → statement M
 unfolding keyed base bases limit tagOf forms
@@ -35,6 +35,7 @@ key-row-spec =
     (λ c κs. search needs)
     (λ c κs. search needs)
     (λ c κs. search needs)
+    (λ c κs. search needs)
     (λ c. search (of-row keyed, needs))
     (λ c. search (of-row keyed, needs))
     (λ c. search (of-row keyed, needs))
@@ -52,4 +53,5 @@ key-row-spec =
     (λ c. search (of-row keyed, needs))
     (λ c. search (of-row keyed, needs))
     (λ c. search (of-row keyed, needs))
-    returns-18)
+    (λ c. search (of-row keyed, needs))
+    returns-19)

@@ -6,7 +6,7 @@ use lib.ListN.{length}
 use Rattle.sheet.specs.Forms.{partial}
 use Rattle.tpe.specs.Run.{interpOf}
 use Rattle.interpret.proofs.Laws.{branch-true, branch-false, branch-error, branch-open, first-stops, first-goes, first-wrong, first-unsure, pair-is, second-is, split-is}
-use Rattle.interpret.proofs.Turns.{Turning, turn-start, turn-on, turn-end, interpret-deep, interpret-leaf, interpret-operation, interpret-set, interpret-record, interpret-other, on-first, on-pair, on-branch, on-one}
+use Rattle.interpret.proofs.Turns.{Turning, turn-start, turn-on, turn-end, interpret-deep, interpret-leaf, interpret-operation, interpret-set, interpret-record, interpret-slot, interpret-other, on-first, on-pair, on-branch, on-one}
 use borrow.Author.Needs.{needs}
 use Prim.Native.Nat.{ℕ, _<_, _+_, _*_, _-_}
 use borrow.Fn.Kinds.{In}
@@ -40,6 +40,7 @@ use Rattle.interpret.proofs.has_more.Reads as has-more-reads
 use Rattle.interpret.proofs.join.Reads as join-reads
 use Rattle.interpret.proofs.leaf.Reads as leaf-reads
 use Rattle.interpret.proofs.side_at.Reads as side-at-reads
+use Rattle.interpret.proofs.slot.Reads as slot-reads
 use Rattle.tpe.proofs.steps.many.Reads as many-reads
 use Rattle.tpe.proofs.steps.one.Reads as one-reads
 use Rattle.tpe.proofs.steps.two.Reads as two-reads
@@ -58,28 +59,28 @@ use Rattle.interpret.proofs.+branch+first+group+interpret+operation+pai
 }
 
 abbrev μ-branch : Measures 3 branch-kinds.ps ℕ
-μ-branch κs a = a .1 .1 .1 .1 .1 .1 .0 * 8 + 2
+μ-branch κs a = a .1 .1 .1 .1 .1 .1 .1 .1 .0 * 8 + 2
 
 abbrev μ-first : Measures 3 first-kinds.ps ℕ
-μ-first κs a = a .1 .1 .1 .1 .1 .1 .1 .0 * 8 + 2
+μ-first κs a = a .1 .1 .1 .1 .1 .1 .1 .1 .1 .0 * 8 + 2
 
 abbrev μ-group : Measures 3 group-kinds.ps ℕ
-μ-group κs a = a .1 .1 .1 .1 .1 .1 .1 .0 * 8 + 1
+μ-group κs a = a .1 .1 .1 .1 .1 .1 .1 .1 .1 .0 * 8 + 1
 
 abbrev μ-interpret : Measures 3 interpret-kinds.ps ℕ
-μ-interpret κs a = a .1 .1 .1 .1 .1 .0 * 8
+μ-interpret κs a = a .1 .1 .1 .1 .1 .1 .1 .0 * 8
 
 abbrev μ-operation : Measures 3 operation-kinds.ps ℕ
-μ-operation κs a = a .1 .1 .1 .1 .1 .1 .0 * 8 + 3
+μ-operation κs a = a .1 .1 .1 .1 .1 .1 .1 .1 .0 * 8 + 3
 
 abbrev μ-pair : Measures 3 pair-kinds.ps ℕ
-μ-pair κs a = a .1 .1 .1 .1 .1 .1 .1 .0 * 8 + 1
+μ-pair κs a = a .1 .1 .1 .1 .1 .1 .1 .1 .1 .0 * 8 + 1
 
 abbrev μ-second : Measures 3 second-kinds.ps ℕ
-μ-second κs a = a .1 .1 .1 .1 .1 .1 .1 .1 .1 .0 * 8 + 1
+μ-second κs a = a .1 .1 .1 .1 .1 .1 .1 .1 .1 .1 .1 .0 * 8 + 1
 
 abbrev μ-split : Measures 3 split-kinds.ps ℕ
-μ-split κs a = a .1 .1 .1 .1 .1 .1 .1 .1 .1 .0 * 8 + 1
+μ-split κs a = a .1 .1 .1 .1 .1 .1 .1 .1 .1 .1 .1 .0 * 8 + 1
 
 abbrev branch-at : ℕ → In 3 branch-kinds.ps
 branch-at t = and 3 branch-kinds.ps (is 3 branch-kinds.ps μ-branch t) branch.Pre
@@ -268,11 +269,11 @@ first-returns-4 : (t : ℕ) → first-lts.Need-returns-4 (
 first-returns-4 t c = search first-unsure
 
 abbrev group-Inv-loop : group-lts.InvT-loop
-group-Inv-loop sheet rows₀ log₀ top node tag step depth len end₀ joined₀ i₀ rows log end joined i =
-    Turning (interpOf partial sheet depth) node step top len rows₀ log₀ rows log end joined i × ((length rows ≡ length rows₀) × (length log ≡ length log₀))
+group-Inv-loop sheet p q rows₀ log₀ top node tag step depth len end₀ joined₀ i₀ rows log end joined i =
+    Turning (interpOf partial sheet p q depth) node step top len rows₀ log₀ rows log end joined i × ((length rows ≡ length rows₀) × (length log ≡ length log₀))
 
 abbrev group-μ-loop : group-lts.MeasureT-loop
-group-μ-loop sheet rows₀ log₀ top node tag step depth len end₀ joined₀ i₀ rows log end joined i = len - i
+group-μ-loop sheet p q rows₀ log₀ top node tag step depth len end₀ joined₀ i₀ rows log end joined i = len - i
 
 group-loop-holds : (t : ℕ) → group-lts.Need-loop-holds (
   row-reads.Asked,
@@ -383,6 +384,8 @@ interpret-returns : (t : ℕ) → interpret-lts.Need-returns (
   operation.Post,
   group-below t,
   group.Post,
+  slot-reads.Asked,
+  slot-reads.Learnt,
 ) (interpret-at t) interpret.Post
 interpret-returns t c = search interpret-deep
 
@@ -399,6 +402,8 @@ interpret-returns-2 : (t : ℕ) → interpret-lts.Need-returns-2 (
   operation.Post,
   group-below t,
   group.Post,
+  slot-reads.Asked,
+  slot-reads.Learnt,
 ) (interpret-at t) interpret.Post
 interpret-returns-2 t c = search interpret-leaf
 
@@ -415,6 +420,8 @@ interpret-returns-3 : (t : ℕ) → interpret-lts.Need-returns-3 (
   operation.Post,
   group-below t,
   group.Post,
+  slot-reads.Asked,
+  slot-reads.Learnt,
 ) (interpret-at t) interpret.Post
 interpret-returns-3 t c = search interpret-operation
 
@@ -431,6 +438,8 @@ interpret-returns-4 : (t : ℕ) → interpret-lts.Need-returns-4 (
   operation.Post,
   group-below t,
   group.Post,
+  slot-reads.Asked,
+  slot-reads.Learnt,
 ) (interpret-at t) interpret.Post
 interpret-returns-4 t c = search interpret-set
 
@@ -447,6 +456,8 @@ interpret-returns-5 : (t : ℕ) → interpret-lts.Need-returns-5 (
   operation.Post,
   group-below t,
   group.Post,
+  slot-reads.Asked,
+  slot-reads.Learnt,
 ) (interpret-at t) interpret.Post
 interpret-returns-5 t c = search interpret-record
 
@@ -463,8 +474,28 @@ interpret-returns-6 : (t : ℕ) → interpret-lts.Need-returns-6 (
   operation.Post,
   group-below t,
   group.Post,
+  slot-reads.Asked,
+  slot-reads.Learnt,
 ) (interpret-at t) interpret.Post
-interpret-returns-6 t c = search interpret-other
+interpret-returns-6 t c = search interpret-slot
+
+interpret-returns-7 : (t : ℕ) → interpret-lts.Need-returns-7 (
+  push-error-reads.Asked,
+  push-error-reads.Learnt,
+  row-reads.Asked,
+  row-reads.Learnt,
+  tag-reads.Asked,
+  tag-reads.Learnt,
+  leaf-reads.Asked,
+  leaf-reads.Learnt,
+  operation-below t,
+  operation.Post,
+  group-below t,
+  group.Post,
+  slot-reads.Asked,
+  slot-reads.Learnt,
+) (interpret-at t) interpret.Post
+interpret-returns-7 t c = search interpret-other
 
 operation-returns : (t : ℕ) → operation-lts.Need-returns (
   row-reads.Asked,
@@ -707,6 +738,8 @@ pub +branch+first+group+interpret+operation+pair+second+split-spec : {M : Type 1
       operation.Post,
       group-below t,
       group.Post,
+      slot-reads.Asked,
+      slot-reads.Learnt,
     )
     (interpret-at t)
     interpret.Post
@@ -729,6 +762,7 @@ pub +branch+first+group+interpret+operation+pair+second+split-spec : {M : Type 1
     (λ c. search needs)
     (λ c κs. search needs)
     (λ c κs. search needs)
+    (λ c κs. search needs)
     (λ c. search needs)
     (λ c. search needs)
     (interpret-returns-4 t)
@@ -737,7 +771,10 @@ pub +branch+first+group+interpret+operation+pair+second+split-spec : {M : Type 1
     (interpret-returns-5 t)
     (λ c. search needs)
     (λ c. search needs)
-    (interpret-returns-6 t))
+    (interpret-returns-6 t)
+    (λ c. search needs)
+    (λ c. search needs)
+    (interpret-returns-7 t))
     (λ t. operation-lts.spec (
       row-reads.Asked,
       row-reads.Learnt,

@@ -2,15 +2,13 @@
 use mathlib.Core.Path.{_≡_}
 use Prim.Native.Nat.{_-_}
 use lib.ListN.{length}
-use Rattle.sheet.specs.Forms.{partial}
-use Rattle.tpe.specs.Run.{interpOf}
 use Rattle.interpret.proofs.Turns.{Running, run-start, run-on, run-end}
 use borrow.Author.Needs.{needs}
 use Rattle.interpret.proofs.run.Statement.{statement}
 use Rattle.interpret.proofs.run.Tie as tie
 
 abbrev Inv-loop : tie.InvT-loop
-Inv-loop sheet rows₀ log₀ most end₀ i₀ rows log end i = Running (interpOf partial sheet 64) most rows₀ rows log end i × ((length rows ≡ length rows₀) × (length log ≡ length log₀))
+Inv-loop sheet rows₀ log₀ most end₀ i₀ rows log end i = Running sheet most rows₀ rows log end i × ((length rows ≡ length rows₀) × (length log ≡ length log₀))
 
 abbrev μ-loop : tie.MeasureT-loop
 μ-loop sheet rows₀ log₀ most end₀ i₀ rows log end i = most - i
@@ -32,6 +30,8 @@ run-spec =
     μ-loop
     (λ c κs. search needs)
     loop-holds
+    (λ c κs. search needs)
+    (λ c κs. search needs)
     (λ c κs. search needs)
     (λ c κs. search needs)
     (λ c κs. search needs)

@@ -15,10 +15,11 @@ returns-2 c = search (judged-4, needs)
 
 depth-of-requires : tie.Need-depth-of-requires
 depth-of-requires c κs =
-    let z = c .before .before .before .before .before .before .before .before .before .before .before .args in
-    let k = c .before .before .before .before .before .key-of in
-    let u = c .before .before .is-full in
-    (key-of-row (z .line .now) (c .before .before .before .before .before .before .tag .result) (k .result) (c .before .before .before .before .before .before .tag .ensures) (k .ensures), key-of-line (z .rows .now) (k .result) (u .result) (u .ensures) (c .before .if2 .left))
+    let s = c .before .before .before .before .before .before .before .before .before .before .before .before in
+    let g = c .before .before .before .before .before .before .before .tag in
+    let k = c .before .before .before .before .before .before .key-of in
+    let u = c .before .before .too-many in
+    ((key-of-row (s .args .line .now) (g .result) (k .result) (g .ensures) (k .ensures), key-of-line (s .args .rows .now) (k .result) (s .args .line .now) (u .result) (u .ensures) (c .before .if2 .left)), s .pre .1)
 
 returns-3 : tie.Need-returns-3
 returns-3 c = search (judged-5, needs)
@@ -30,20 +31,32 @@ returns-5 : tie.Need-returns-5
 returns-5 c = search (judged-7, needs)
 
 returns-6 : tie.Need-returns-6
-returns-6 c = search (judged-8, needs)
+returns-6 c =
+    let s = c .before .before .before .before .before .before .before .before .before .before .before .before .before .before .before .before .before .before .before .before .before .before .before .before .before .before in
+    let g = c .before .before .before .before .before .before .before .before .before .before .before .before .before .before .before .before .before .before .before .before .before .tag in
+    let k = c .before .before .before .before .before .before .before .before .before .before .before .before .before .before .before .before .before .before .before .before .key-of in
+    let o = c .before .before .before .before .before .before .before .before .before .before .before .before .before .before .before .before .before .before .before .in-order in
+    let u = c .before .before .before .before .before .before .before .before .before .before .before .before .before .before .before .before .too-many in
+    let d = c .before .before .before .before .before .before .before .before .before .before .before .before .before .depth-of in
+    let y = c .before .before .before .before .before .before .before .before .before .typed-line in
+    let x = c .before .before .before .before .use-nodes in
+    let v = c .refused6 in
+    judged-8 (s .args .sheet .now) (s .args .rows .now) (s .args .work .now) (s .args .line .now) (s .pre .0) (g .result) (k .result) (g .ensures) (k .ensures)
+    (o .result) (o .ensures) (c .before .before .before .before .before .before .before .before .before .before .before .before .before .before .before .before .before .before .if1 .left) (u .result) (u .ensures) (c .before .before .before .before .before .before .before .before .before .before .before .before .before .before .before .if2 .left) (d .result) (d .ensures) (c .before .before .before .before .before .before .before .before .before .before .before .before .if3 .left)
+    (c .before .before .before .before .before .before .before .before .before .before .before .if4 .left) (y .last .1 .0) (y .result) (y .ensures) (c .before .before .before .before .before .before .if5 .left) (x .last .1 .0) (x .result) (x .ensures) (c .before .if6 .taken) (v .result .number) (v .result .key) (v .result .depth) (v .ensures)
 
 returns-7 : tie.Need-returns-7
 returns-7 c =
-    let s = c .before .before .before .before .before .before .before .before .before .before .before .before .before .before .before .before .before .before .before .before .before .before .before .before in
-    let g = c .before .before .before .before .before .before .before .before .before .before .before .before .before .before .before .before .before .before .before .tag in
-    let k = c .before .before .before .before .before .before .before .before .before .before .before .before .before .before .before .before .before .before .key-of in
-    let o = c .before .before .before .before .before .before .before .before .before .before .before .before .before .before .before .before .before .in-order in
-    let u = c .before .before .before .before .before .before .before .before .before .before .before .before .before .before .before .is-full in
+    let s = c .before .before .before .before .before .before .before .before .before .before .before .before .before .before .before .before .before .before .before .before .before .before .before .before .before in
+    let g = c .before .before .before .before .before .before .before .before .before .before .before .before .before .before .before .before .before .before .before .before .tag in
+    let k = c .before .before .before .before .before .before .before .before .before .before .before .before .before .before .before .before .before .before .before .key-of in
+    let o = c .before .before .before .before .before .before .before .before .before .before .before .before .before .before .before .before .before .before .in-order in
+    let u = c .before .before .before .before .before .before .before .before .before .before .before .before .before .before .before .too-many in
     let d = c .before .before .before .before .before .before .before .before .before .before .before .before .depth-of in
     let y = c .before .before .before .before .before .before .before .before .typed-line in
     let x = c .before .before .before .use-nodes in
-    judged-0 (s .args .sheet .now) (s .args .rows .now) (s .args .work .now) (s .args .line .now) (s .pre) (g .result) (k .result) (g .ensures) (k .ensures)
-    (o .result) (o .ensures) (c .before .before .before .before .before .before .before .before .before .before .before .before .before .before .before .before .if1 .left) (u .result) (u .ensures) (c .before .before .before .before .before .before .before .before .before .before .before .before .before .before .if2 .left) (d .result) (d .ensures) (c .before .before .before .before .before .before .before .before .before .before .before .if3 .left)
+    judged-0 (s .args .sheet .now) (s .args .rows .now) (s .args .work .now) (s .args .line .now) (s .pre .0) (g .result) (k .result) (g .ensures) (k .ensures)
+    (o .result) (o .ensures) (c .before .before .before .before .before .before .before .before .before .before .before .before .before .before .before .before .before .if1 .left) (u .result) (u .ensures) (c .before .before .before .before .before .before .before .before .before .before .before .before .before .before .if2 .left) (d .result) (d .ensures) (c .before .before .before .before .before .before .before .before .before .before .before .if3 .left)
     (c .before .before .before .before .before .before .before .before .before .before .if4 .left) (y .last .1 .0) (y .result) (y .ensures) (c .before .before .before .before .before .if5 .left) (x .last .1 .0) (x .result) (x .ensures) (c .if6 .left)
 
 pub judge-spec : {M : Type 1} → statement M
@@ -57,6 +70,7 @@ judge-spec =
     returns
     (λ c κs. search needs)
     (λ c κs. search needs)
+    (λ c. search needs)
     returns-2
     depth-of-requires
     (λ c κs. search needs)

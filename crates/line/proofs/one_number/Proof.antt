@@ -1,5 +1,5 @@
 -- `line::one_number` meets its contract. Assumes nothing.
-use Rattle.line.proofs.LawsItem.{star-or, dash-or, unknown-partial, unknown-complete, line-index, slot-entry, slot-kind, slot-field, slot-bit, slot-part, slot-effect, slot-date, slot-none}
+use Rattle.line.proofs.LawsItem.{star-or, dash-or, unknown-partial, unknown-complete, line-index, slot-entry, slot-kind, slot-field, slot-bit, slot-part, slot-effect, slot-date, slot-letter, slot-none}
 use borrow.Author.Needs.{needs}
 use Rattle.line.proofs.one_number.Statement.{statement}
 use Rattle.line.proofs.one_number.Tie as tie
@@ -41,7 +41,10 @@ returns-12 : tie.Need-returns-12
 returns-12 c = search (slot-date, needs)
 
 returns-13 : tie.Need-returns-13
-returns-13 c = search (slot-none, needs)
+returns-13 c = search (slot-letter, needs)
+
+returns-14 : tie.Need-returns-14
+returns-14 c = search (slot-none, needs)
 
 pub one-number-spec : {M : Type 1} → statement M
 one-number-spec =
@@ -70,6 +73,8 @@ one-number-spec =
     (λ c κs. search needs)
     (λ c κs. search needs)
     (λ c κs. search needs)
+    (λ c. search needs)
+    (λ c κs. search needs)
     returns-6
     returns-7
     returns-8
@@ -77,4 +82,5 @@ one-number-spec =
     returns-10
     returns-11
     returns-12
-    returns-13)
+    returns-13
+    returns-14)

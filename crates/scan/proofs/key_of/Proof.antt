@@ -58,7 +58,11 @@ returns-12 c = ap (λ (w : List ℕ). wordNumber w keys) (c .before .word-of .en
 
 returns-13 : tie.Need-returns-13
 unfolding keys
-returns-13 c = ap (λ (w : List ℕ). wordNumber w keys) (c .before .word-of .ensures .only (ascii "term") refl (c .match .keys13))
+returns-13 c = ap (λ (w : List ℕ). wordNumber w keys) (c .before .word-of .ensures .only (ascii "link") refl (c .match .keys13))
+
+returns-14 : tie.Need-returns-14
+unfolding keys
+returns-14 c = ap (λ (w : List ℕ). wordNumber w keys) (c .before .word-of .ensures .only (ascii "term") refl (c .match .keys14))
 
 pub key-of-spec : {M : Type 1} → statement M
 key-of-spec =
@@ -79,4 +83,5 @@ key-of-spec =
     returns-11
     returns-12
     returns-13
+    returns-14
     (λ c. search needs))

@@ -35,6 +35,10 @@ returns-7 : tie.Need-returns-7
 unfolding tagOf forms
 returns-7 c = ap (tagOf NODE) (c .before .word-of .ensures .only (ascii "record") refl (c .match .keys6))
 
+returns-8 : tie.Need-returns-8
+unfolding tagOf forms
+returns-8 c = ap (tagOf NODE) (c .before .word-of .ensures .only (ascii "slot") refl (c .match .keys7))
+
 pub long-form-spec : {M : Type 1} → statement M
 long-form-spec =
     tie.close
@@ -50,6 +54,7 @@ long-form-spec =
     (λ c. search needs)
     (λ c. search needs)
     (λ c. search needs)
+    (λ c. search needs)
     (λ c κs. search needs)
     returns-2
     returns-3
@@ -57,4 +62,5 @@ long-form-spec =
     returns-5
     returns-6
     returns-7
+    returns-8
     (λ c. search needs))

@@ -9,7 +9,7 @@ use Rattle.sheet.specs.Forms.{rowOfValue}
 use Rattle.line.specs.Codes.{modeOf}
 use Rattle.line.proofs.LawsLine.{value-long, entered-line}
 use Rattle.take.proofs.Front.{fronts, taken-back}
-use Rattle.take.proofs.Taking.{known₁, line-malformed, line-refused, commit-room, line-added}
+use Rattle.take.proofs.Taking.{judge-needs, line-malformed, line-refused, commit-room, line-added}
 use borrow.Author.Needs.{needs}
 use Rattle.take.proofs.take_line.Statement.{statement}
 use Rattle.take.proofs.take_line.Tie as tie
@@ -77,7 +77,7 @@ judge-at-requires c κs =
     let a = take room (e .rows .now) in
     let g = fronts (e .sheet .now) (e .rows .now) (e .work .now) bytes (s .pre .0) (s .pre .5) (modeOf (e .partial)) (s .pre .1) in
     let l = entered-line (e .sheet .now) (r .before .before .value .result .now) (e .equals .at) (e .end) (r .before .before .value .ensures) (s .pre .2) (s .pre .3) (e .partial) (e .key) (t .read .result) (r .row-entry .result) a (r .row-entry .last .1 .1 .1 .1 .0) (r .row-entry .ensures) in
-    known₁ (e .sheet .now) row a (take room (e .work .now)) bytes (modeOf (e .partial)) (g .ready) (g .reached) (g .fits)
+    judge-needs (e .sheet .now) row a (take room (e .work .now)) bytes (modeOf (e .partial)) (g .ready) (g .reached) (g .fits)
     (t .read .result) (t .read .ensures) (r .row-entry .last .1 .1 .1 .1 .0) (r .row-entry .result) l (r .row-entry .kept .1 .1 .1 .1 .0)
 
 same-length-3 : tie.Need-same-length-3

@@ -6,9 +6,9 @@ use borrow.Author.Needs.{needs}
 use Rattle.listing.proofs.names.op_name.Statement.{statement}
 use Rattle.listing.proofs.names.op_name.Tie as tie
 
-returns-29 : tie.Need-returns-29
+returns-30 : tie.Need-returns-30
 unfolding unpadded
-returns-29 c = no-name (c .before .args .tag) (c .match .rest)
+returns-30 c = no-name (c .before .args .tag) (c .match .rest)
 
 pub op-name-spec : {M : Type 1} → statement M
 unfolding unpadded opName formOf forms
@@ -43,4 +43,5 @@ op-name-spec =
     (λ c. search (named, needs))
     (λ c. search (named, needs))
     (λ c. search (named, needs))
-    returns-29)
+    (λ c. search (named, needs))
+    returns-30)

@@ -1,5 +1,5 @@
 -- `line_typed`: one law for each key.
-use Rattle.typing.proofs.KeyRules.{line-context, line-entity, line-node, plain}
+use Rattle.typing.proofs.KeyRules.{line-context, line-entity, line-link, line-node, plain}
 use borrow.Author.Needs.{needs}
 use Rattle.typing.proofs.lines.line_typed.Statement.{statement}
 use Rattle.typing.proofs.lines.line_typed.Tie as tie
@@ -14,12 +14,16 @@ returns-3 : tie.Need-returns-3
 returns-3 c = search line-node
 
 returns-4 : tie.Need-returns-4
-returns-4 c = search plain
+returns-4 c = search line-link
+
+returns-5 : tie.Need-returns-5
+returns-5 c = search plain
 
 pub line-typed-spec : {M : Type 1} → statement M
 line-typed-spec =
     tie.close
     (tie.spec
+    (λ c κs. search needs)
     (λ c κs. search needs)
     (λ c κs. search needs)
     (λ c κs. search needs)
@@ -30,4 +34,6 @@ line-typed-spec =
     returns-2
     (λ c. search needs)
     returns-3
-    returns-4)
+    (λ c. search needs)
+    returns-4
+    returns-5)

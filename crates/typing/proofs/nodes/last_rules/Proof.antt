@@ -1,7 +1,7 @@
 -- `last_rules`: the operation by its number.
-use Rattle.typing.proofs.Operations.{op-at, op-record}
+use Rattle.typing.proofs.Operations.{op-at, op-slot}
 use Rattle.typing.specs.Rules.{nodeRule, nodeRules}
-use Rattle.forms.specs.Tags.{ALL, ANY, IF, IS, LIKE, GET, HAS, HASPATH, NOT, NEG, EMPTY, SET-OF}
+use Rattle.forms.specs.Tags.{ALL, ANY, IF, IS, LIKE, GET, HAS, HASPATH, NOT, NEG, EMPTY, SET-OF, RECORD-OF}
 use borrow.Author.Needs.{needs}
 use Rattle.typing.proofs.nodes.last_rules.Statement.{statement}
 use Rattle.typing.proofs.nodes.last_rules.Tie as tie
@@ -55,12 +55,17 @@ unfolding nodeRule nodeRules
 returns-12 c = search (op-at SET-OF, needs)
 
 returns-13 : tie.Need-returns-13
-returns-13 c = search op-record
+unfolding nodeRule nodeRules
+returns-13 c = search (op-at RECORD-OF, needs)
+
+returns-14 : tie.Need-returns-14
+returns-14 c = search op-slot
 
 pub last-rules-spec : {M : Type 1} → statement M
 last-rules-spec =
     tie.close
     (tie.spec
+    (λ c κs. search needs)
     (λ c κs. search needs)
     (λ c κs. search needs)
     (λ c κs. search needs)
@@ -86,4 +91,5 @@ last-rules-spec =
     returns-10
     returns-11
     returns-12
-    returns-13)
+    returns-13
+    returns-14)
