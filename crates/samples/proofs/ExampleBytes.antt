@@ -7,23 +7,23 @@ use mathlib.Core.List.{List, [], _∷_}
 use Prim.Native.Nat.{ℕ}
 use lib.IntN.{pos}
 use lib.ListN.{replicate}
 use Rattle.sheet.specs.Ascii.{ascii}
 use Rattle.sheet.specs.Forms.{keys, partial, complete, forms, formOf, slotAt, counted, tagOf, rowOf, keyOf, refs, ascendings}
 use Rattle.sheet.specs.Typing.{fitsIn, nodesUnder, typed}
 use Rattle.sheet.specs.Sheet.{found, depth, fault, more, read}
 use Rattle.sheet.specs.Content.{types, valueRows, contents, schema, trees, exprs, onTerm, nPolicies, policies, nEnv, env}
 use Rattle.sheet.specs.Answer.{run, results, answer}
 use Rattle.sheet.specs.Call.{returned, written, Accepted}
 use Rattle.cedar.specs.Canonical.{order, same, place, insert, ascending, makeSet}
 use Rattle.cedar.specs.Residual.{Class, ctrue, cfalse, copen}
 use Rattle.cedar.specs.Response.{permit, allow, deny, undecided, decision}
 use Rattle.cedar.specs.Rows.{rlong}
 use Rattle.sheet.specs.Agreement.{agrees}
 use Rattle.sheet.specs.ReadAnswer.{PolicyLine, readAnswer}
 use Rattle.sheet.specs.Demand3.{Answered, bytesOf, Demand3}
 use Rattle.sheet.proofs.Demand3Bytes.{demand-3}
 use Rattle.sheet.proofs.Demand3Answers.{demand-3-bytes}
-use Rattle.sheet.proofs.KnownSheets.{lineEnds}
+use Rattle.sheet.proofs.Shown.{lineEnds}
 
 p : List ℕ
 p = lineEnds (ascii "sheet=partial/text=Broker/text=Action/text=Tariff/text=quote/text=T1/text=low/text=high/text=b7/kind=0,e/kind=1,a/kind=2,e/type=bool/type=record/type=entity,0/shape=1,-/shape=1,-/shape=1,-/value=entity,0,7/value=bool,1/principal=0,?/action=1,3/resource=2,4/context=1,?/day=2000-01-01/node=2,var,p/node=2,lit,0/node=0,eq,0,1/node=0,lit,1/policy=5,permit,2/policy=6,permit,3/")

@@ -1,40 +1,20 @@
 -- The known sheets of document 01 and some others, from bytes to bytes, as theorems by computation. As there, `/` is a line end.
 use mathlib.Core.Path.{_≡_, refl}
-use mathlib.Core.Bool.{Bool, true, cond, _&&_}
+use mathlib.Core.Bool.{Bool, true, _&&_}
 use mathlib.Core.Option.{none, some}
 use mathlib.Core.List.{List, [], _∷_, _++_}
 use Prim.Native.Nat.{ℕ, zero, suc, _+_, _*_}
-use Prim.Native.String.{String}
-use lib.Dec.{eqb}
-use lib.ListN.{replicate}
-use Rattle.sheet.specs.Ascii.{ascii}
-use Rattle.sheet.specs.Forms.{keys, partial, forms, formOf, slotAt, counted, tagOf, rowOf, keyOf, refs, ascendings, firstType, firstValue, firstNode, TYPE, VALUE, NODE, slotNode}
+use Rattle.sheet.specs.Forms.{keys, partial, forms, formOf, slotAt, counted, tagOf, rowOf, keyOf, refs, ascendings}
 use Rattle.sheet.specs.Typing.{fitsIn, nodesUnder, typed}
 use Rattle.sheet.specs.Sheet.{found, depth, fault, more, read}
 use Rattle.sheet.specs.Content.{types, valueRows, contents, schema, trees, exprs, onTerm, nPolicies, policies, nEnv, env}
-use Rattle.sheet.specs.Answer.{run, results, answer, printed, numbers}
-use Rattle.sheet.specs.Call.{Returned, returned}
+use Rattle.sheet.specs.Answer.{run, results, answer}
+use Rattle.sheet.specs.Call.{returned}
 use Rattle.cedar.specs.Canonical.{order, same, place, insert, ascending, makeSet}
 use Rattle.sheet.specs.Bytes.{date, daysIn, isDate}
 use Rattle.sheet.specs.State.{sum}
-
-abbrev pub lineEnds : List ℕ → List ℕ
-lineEnds [] = []
-lineEnds (x ∷ l) = cond (eqb x 47) 10 x ∷ lineEnds l
-
-abbrev pub bytes : String → List ℕ
-bytes s = lineEnds (ascii s)
-
--- what a call with enough room leaves in an empty buffer's stead, or `refused=number,line,length`
-abbrev shownAs : List ℕ → ℕ → Returned → List ℕ
-shownAs a zero r = a
-shownAs a (suc n) r = printed "refused" (numbers (r .number ∷ r .line ∷ r .length ∷ []))
-
-abbrev shownFor : List ℕ → Returned → List ℕ
-shownFor a r = shownAs a (r .number) r
-
-unfoldable pub shown : List ℕ → List ℕ
-shown sheet = shownFor (answer partial (read partial sheet .state)) (returned partial 16384 16384 16384 sheet)
+use Rattle.sheet.proofs.Shown.{bytes, shown, Case, case, shownAll, saysAll}
+use Rattle.sheet.proofs.KnownLines.{head, kindLines}
 
 -- "Input, whole", and "Output"
 known-sheet : shown (bytes "sheet=partial/text=Broker/text=Action/text=Tariff/text=quote/text=T1/text=low/text=high/text=b7/kind=0,e/kind=1,a/kind=2,e/type=bool/type=record/type=entity,0/shape=1,-/shape=1,-/shape=1,-/value=entity,0,7/value=bool,1/principal=0,?/action=1,3/resource=2,4/context=1,?/day=2000-01-01/node=2,var,p/node=2,lit,0/node=0,eq,0,1/node=0,lit,1/policy=5,permit,2/policy=6,permit,3/")
@@ -43,16 +23,6 @@ unfolding shown keys forms formOf slotAt counted tagOf rowOf keyOf refs ascendin
 known-sheet = refl
 
 -- ---- K1 to K10, over one head: texts, kinds, types and shapes
-
-head : List ℕ
-head = bytes "sheet=partial/text=Broker/text=Action/text=Tariff/text=quote/text=T1/text=p0/text=p1/text=a/text=/text=x/kind=0,e/kind=1,a/kind=2,e/type=bool/type=record/type=entity,0/type=long/type=string/type=set,2/type=record,7,r,0,9,o,3/type=entity,1/type=entity,2/type=record,7,o,2,9,o,8/shape=1,-,0/shape=1,-/shape=9,4,0/"
-
-pub record Case : Type 0 where
-  pub rest : String
-  pub says : String
-
-abbrev case : String → String → Case
-case r a = record { rest = r; says = a }
 
 known : List Case
 known =
@@ -67,15 +37,6 @@ known =
     ∷ case "principal=0,?/action=1,3/resource=2,4/context=6,?/day=2000-01-01/node=6,var,c/node=0,get,0,7/policy=5,forbid,1/" "decision=deny/counts=0,0,0,0,0,0,0,1/node=6,var,c/node=0,get,0,7/policy=5,forbid,open,1/"  -- K9 open forbid only: deny
     ∷ case "value=text,8/value=text,7/principal=0,?/action=1,3/resource=2,4/context=6,?/day=2000-01-01/node=4,lit,0/node=0,like,0/node=4,lit,1/node=0,like,2/policy=5,permit,1/policy=6,permit,3/" "decision=allow/counts=1,1,0,0,0,0,0,0/value=bool,1/value=bool,0/node=0,lit,2/node=0,lit,3/policy=5,permit,true,0/policy=6,permit,false,1/"  -- K10 `like` without items: true on the empty text, false on `a`
     ∷ []
-
--- after a head
-abbrev shownAll : List ℕ → List Case → List (List ℕ)
-shownAll h [] = []
-shownAll h (c ∷ cs) = shown (h ++ bytes (c .rest)) ∷ shownAll h cs
-
-abbrev saysAll : List Case → List (List ℕ)
-saysAll [] = []
-saysAll (c ∷ cs) = bytes (c .says) ∷ saysAll cs
 
 K1-to-K10 : shownAll head known ≡ saysAll known
 unfolding head known shown keys forms formOf slotAt counted tagOf rowOf keyOf refs ascendings fitsIn nodesUnder typed found depth fault more read types valueRows contents schema trees exprs onTerm nPolicies policies nEnv env run results answer returned order same place insert ascending makeSet
@@ -99,55 +60,6 @@ other-sheets : shownAll head others ≡ saysAll others
 unfolding head others shown keys forms formOf slotAt counted tagOf rowOf keyOf refs ascendings fitsIn nodesUnder typed found depth fault more read types valueRows contents schema trees exprs onTerm nPolicies policies nEnv env run results answer returned order same place insert ascending makeSet
 other-sheets = refl
 
--- ---- document 02, "Terms of validity", over the same head
-
-terms : List Case
-terms =
-    case "value=bool,1/principal=0,?/action=1,3/resource=2,4/context=6,?/day=2000-02-29/node=0,lit,0/node=0,lit,0/policy=5,permit,0/policy=6,forbid,1/term=0,2000-02-29,2000-02-29/term=1,1900-01-01,2000-02-28/" "decision=allow/counts=1,0,0,0,0,0,0,0/node=0,lit,0/policy=5,permit,true,0/"  -- "Both edge days belong to the term"; a forbid off term is skipped
-    ∷ case "value=long,1/principal=0,?/action=1,3/resource=2,4/context=6,?/day=2000-03-01/node=3,lit,0/node=3,lit,0/node=3,add,0,1/node=3,lit,0/node=0,lt,2,3/node=3,lit,0/node=3,lit,0/node=0,lt,5,6/policy=5,permit,4/policy=6,permit,7/term=0,2000-03-02,2199-12-31/" "decision=deny/counts=0,1,0,0,0,0,0,0/value=bool,0/node=0,lit,1/policy=6,permit,false,0/"  -- a policy off term "has no made values, nodes, count or policy line in the answer, though its nodes count as used"; "Without a term it always runs"
-    ∷ case "value=bool,1/principal=0,?/action=1,3/resource=2,4/context=6,?/day=2000-01-01/node=0,lit,0/policy=5,permit,0/term=0,1900-01-01,1999-12-31/" "decision=deny/counts=0,0,0,0,0,0,0,0/"  -- none on term
-    ∷ case "value=bool,1/principal=0,?/action=1,3/resource=2,4/context=6,?/node=0,lit,0/" "refused=3,33,0/"  -- "Every sheet has one line"
-    ∷ case "value=bool,1/principal=0,?/action=1,3/resource=2,4/context=6,?/day=2100-02-29/" "refused=3,33,0/"  -- "2100-02-29 gets 3"
-    ∷ case "value=bool,1/principal=0,?/action=1,3/resource=2,4/context=6,?/day=2000-01-01/day=2000-01-02/" "refused=4,34,0/"
-    ∷ case "value=bool,1/principal=0,?/action=1,3/resource=2,4/context=6,?/day=2000-01-01/node=0,lit,0/policy=5,permit,0/term=1,2000-01-01,2000-01-01/" "refused=5,36,0/"  -- no such policy
-    ∷ case "value=bool,1/principal=0,?/action=1,3/resource=2,4/context=6,?/day=2000-01-01/node=0,lit,0/policy=5,permit,0/term=0,2000-01-02,2000-01-01/" "refused=5,36,0/"  -- "A last day before the first gets 5"
-    ∷ case "value=bool,1/principal=0,?/action=1,3/resource=2,4/context=6,?/day=2000-01-01/node=0,lit,0/policy=5,permit,0/term=9,2000-01-02,2100-02-29/" "refused=3,36,0/"  -- form before reference
-    ∷ case "value=bool,1/principal=0,?/action=1,3/resource=2,4/context=6,?/day=2000-01-01/node=0,lit,0/policy=5,permit,0/term=0,2000-01-01,2000-01-01/term=0,2001-01-01,2001-01-01/" "refused=5,37,0/"  -- "at most one each"
-    ∷ case "value=bool,1/principal=0,?/action=1,3/resource=2,4/context=6,?/day=2000-01-01/node=0,lit,0/node=0,lit,0/policy=5,permit,0/policy=6,permit,1/term=1,2000-01-01,2000-01-01/term=0,2000-01-01,2000-01-01/" "refused=5,39,0/"  -- "ascending"
-    ∷ case "value=bool,1/principal=0,?/action=1,3/resource=2,4/context=6,?/day=2000-01-01/node=0,lit,0/policy=5,permit,0/term=0,2000-01-01,2000-01-01/policy=6,permit,0/" "refused=3,37,0/"  -- a policy after the terms
-    ∷ []
-
-term-sheets : shownAll head terms ≡ saysAll terms
-unfolding head terms shown keys forms formOf slotAt counted tagOf rowOf keyOf refs ascendings fitsIn nodesUnder typed found depth fault more read types valueRows contents schema trees exprs onTerm nPolicies policies nEnv env run results answer returned order same place insert ascending makeSet
-term-sheets = refl
-
--- ---- document 02, "Carrier templates", over the same head
-
-templates : List Case
-templates =
-    case "value=entity,0,7/value=entity,0,9/principal=0,9/action=1,3/resource=2,4/context=6,?/day=2000-01-01/node=2,var,p/node=2,slot,p/node=0,eq,0,1/policy=5,permit,2/policy=6,permit,2/link=0,0,-/link=1,1,-/" "decision=allow/counts=1,1,0,0,0,0,0,0/value=bool,0/value=bool,1/node=0,lit,2/node=0,lit,3/policy=5,permit,false,0/policy=6,permit,true,1/"  -- one rule and two brokers: "A policy root may now serve several policies"; each use makes its own value
-    ∷ case "value=entity,0,7/principal=0,?/action=1,3/resource=2,4/context=6,?/day=2000-01-01/node=2,var,p/node=2,slot,p/node=0,eq,0,1/policy=5,permit,2/link=0,0,-/" "decision=open/counts=0,0,0,1,0,0,0,0/node=2,var,p/node=2,lit,0/node=0,eq,0,1/policy=5,permit,open,2/"  -- the residual is that of the linked policy
-    ∷ case "value=entity,0,7/value=entity,2,9/principal=0,?/action=1,3/resource=2,4/context=6,?/day=2000-01-01/node=2,slot,p/node=8,slot,r/node=0,in,0,1/policy=5,permit,2/link=0,0,1/" "decision=deny/counts=0,1,0,0,0,0,0,0/value=bool,0/node=0,lit,2/policy=5,permit,false,0/"  -- both slots; a slot "can't err", so the type rule of in speaks
-    ∷ case "value=bool,1/principal=0,?/action=1,3/resource=2,4/context=6,?/day=2000-01-01/node=0,lit,0/policy=5,permit,0/link=0,-,-/" "decision=allow/counts=1,0,0,0,0,0,0,0/node=0,lit,0/policy=5,permit,true,0/"  -- a link that gives nothing to a policy that has no slot
-    ∷ case "value=entity,0,7/principal=0,?/action=1,3/resource=2,4/context=6,?/day=2000-01-01/node=2,var,p/node=2,slot,p/node=0,eq,0,1/policy=5,permit,2/policy=6,permit,2/link=0,0,-/link=1,0,-/term=0,1900-01-01,1999-12-31/" "decision=open/counts=0,0,0,1,0,0,0,0/node=2,var,p/node=2,lit,0/node=0,eq,0,1/policy=6,permit,open,2/"  -- links stand between policies and terms
-    ∷ case "value=entity,0,7/principal=0,?/action=1,3/resource=2,4/context=6,?/day=2000-01-01/node=2,var,p/node=2,slot,p/node=0,eq,0,1/policy=5,permit,2/link=0,-,-/" "refused=5,38,0/"  -- "A slot without a value gets 5"
-    ∷ case "value=entity,0,7/principal=0,?/action=1,3/resource=2,4/context=6,?/day=2000-01-01/node=2,var,p/node=2,slot,p/node=0,eq,0,1/policy=5,permit,2/link=0,0,0/" "refused=5,38,0/"  -- "a value for a slot that the policy lacks gets 5 there too"
-    ∷ case "value=entity,0,7/principal=0,?/action=1,3/resource=2,4/context=6,?/day=2000-01-01/node=2,var,p/node=2,slot,p/node=0,eq,0,1/policy=5,permit,2/link=0,1,-/" "refused=5,38,0/"  -- no such value
-    ∷ case "value=entity,0,7/principal=0,?/action=1,3/resource=2,4/context=6,?/day=2000-01-01/node=2,var,p/node=2,slot,p/node=0,eq,0,1/policy=5,permit,2/link=1,0,-/" "refused=5,38,0/"  -- no such policy
-    ∷ case "value=entity,0,7/principal=0,?/action=1,3/resource=2,4/context=6,?/day=2000-01-01/node=2,var,p/node=2,slot,p/node=0,eq,0,1/policy=5,permit,2/link=0,0,-/link=0,0,-/" "refused=5,39,0/"  -- "at most one each"
-    ∷ case "value=entity,2,9/principal=0,?/action=1,3/resource=2,4/context=6,?/day=2000-01-01/node=2,var,p/node=2,slot,p/node=0,eq,0,1/policy=5,permit,2/link=0,0,-/" "refused=7,38,0/"  -- "a value that does not fit the slot's type 7"
-    ∷ case "value=entity,0,7/principal=0,?/action=1,3/resource=2,4/context=6,?/day=2000-01-01/node=2,var,p/node=2,slot,p/node=0,eq,0,1/node=2,var,p/policy=5,permit,2/" "refused=5,38,0/"  -- "A slot whose policy has no link line gets 5 .. before unused nodes"
-    ∷ case "value=entity,0,7/principal=0,?/action=1,3/resource=2,4/context=6,?/day=2000-01-01/node=2,var,p/node=2,slot,p/node=0,eq,0,1/node=2,var,p/policy=5,permit,2/link=0,0,-/" "refused=8,37,0/"  -- then unused nodes
-    ∷ case "value=entity,0,7/principal=0,?/action=1,3/resource=2,4/context=6,?/day=2000-01-01/node=2,var,p/node=2,slot,p/node=0,eq,0,1/node=0,not,2/policy=5,permit,3/policy=6,permit,2/" "refused=8,39,0/"  -- "other nodes keep their single use"
-    ∷ case "value=entity,0,7/principal=0,?/action=1,3/resource=2,4/context=6,?/day=2000-01-01/node=0,slot,p/" "refused=7,34,0/"  -- "have an entity type"
-    ∷ case "value=entity,0,7/principal=0,?/action=1,3/resource=2,4/context=6,?/day=2000-01-01/node=2,slot,a/" "refused=3,34,0/"  -- `slot,p` and `slot,r` only
-    ∷ case "value=entity,0,7/principal=0,?/action=1,3/resource=2,4/context=6,?/day=2000-01-01/node=2,var,p/node=2,slot,p/node=0,eq,0,1/policy=5,permit,2/term=0,2000-01-01,2000-01-01/link=0,0,-/" "refused=3,39,0/"  -- a link after the terms
-    ∷ []
-
-template-sheets : shownAll head templates ≡ saysAll templates
-unfolding head templates shown keys forms formOf slotAt counted tagOf rowOf keyOf refs ascendings fitsIn nodesUnder typed found depth fault more read types valueRows contents schema trees exprs onTerm nPolicies policies nEnv env run results answer returned order same place insert ascending makeSet
-template-sheets = refl
-
 -- "Node uses summed over all policies may reach 1,024; the policy line that exceeds this gets 4": 64 policies over one root of 16 nodes, and of 17
 room-for : List ℕ
 room-for = bytes "sheet=partial/text=Aa/text=Ab/text=Ac/text=Ad/text=Ae/text=Af/text=Ag/text=Ah/text=Ai/text=Aj/text=Ak/text=Al/text=Am/text=An/text=Ao/text=Ap/text=Aq/text=Ar/text=As/text=At/text=Au/text=Av/text=Aw/text=Ax/text=Ay/text=Az/text=Ba/text=Bb/text=Bc/text=Bd/text=Be/text=Bf/text=Bg/text=Bh/text=Bi/text=Bj/text=Bk/text=Bl/text=Bm/text=Bn/text=Bo/text=Bp/text=Bq/text=Br/text=Bs/text=Bt/text=Bu/text=Bv/text=Bw/text=Bx/text=By/text=Bz/text=Ca/text=Cb/text=Cc/text=Cd/text=Ce/text=Cf/text=Cg/text=Ch/text=Ci/text=Cj/text=Ck/text=Cl/kind=0,e/kind=1,a/kind=2,e/type=bool/type=record/shape=1,-/shape=1,-/shape=1,-/value=bool,1/principal=0,?/action=1,0/resource=2,0/context=1,?/day=2000-01-01/"
@@ -159,15 +71,6 @@ full = refl
 over : returned partial 16384 16384 16384 (room-for ++ bytes "node=0,lit,0/node=0,not,0/node=0,not,1/node=0,not,2/node=0,not,3/node=0,not,4/node=0,not,5/node=0,not,6/node=0,not,7/node=0,not,8/node=0,not,9/node=0,not,10/node=0,not,11/node=0,not,12/node=0,not,13/node=0,not,14/node=0,not,15/policy=0,permit,16/policy=1,permit,16/policy=2,permit,16/policy=3,permit,16/policy=4,permit,16/policy=5,permit,16/policy=6,permit,16/policy=7,permit,16/policy=8,permit,16/policy=9,permit,16/policy=10,permit,16/policy=11,permit,16/policy=12,permit,16/policy=13,permit,16/policy=14,permit,16/policy=15,permit,16/policy=16,permit,16/policy=17,permit,16/policy=18,permit,16/policy=19,permit,16/policy=20,permit,16/policy=21,permit,16/policy=22,permit,16/policy=23,permit,16/policy=24,permit,16/policy=25,permit,16/policy=26,permit,16/policy=27,permit,16/policy=28,permit,16/policy=29,permit,16/policy=30,permit,16/policy=31,permit,16/policy=32,permit,16/policy=33,permit,16/policy=34,permit,16/policy=35,permit,16/policy=36,permit,16/policy=37,permit,16/policy=38,permit,16/policy=39,permit,16/policy=40,permit,16/policy=41,permit,16/policy=42,permit,16/policy=43,permit,16/policy=44,permit,16/policy=45,permit,16/policy=46,permit,16/policy=47,permit,16/policy=48,permit,16/policy=49,permit,16/policy=50,permit,16/policy=51,permit,16/policy=52,permit,16/policy=53,permit,16/policy=54,permit,16/policy=55,permit,16/policy=56,permit,16/policy=57,permit,16/policy=58,permit,16/policy=59,permit,16/policy=60,permit,16/policy=61,permit,16/policy=62,permit,16/policy=63,permit,16/") ≡ record { number = 4; line = 157; length = 0 }
 unfolding room-for shown keys forms formOf slotAt counted tagOf rowOf keyOf refs ascendings fitsIn nodesUnder typed found depth fault more read types valueRows contents schema trees exprs onTerm nPolicies policies nEnv env run results answer returned order same place insert ascending makeSet
 over = refl
-
--- "2000-02-29 is one, 2100-02-29 gets 3": dates, and what is none
-dates : date (ascii "1900-01-01") ∷ date (ascii "2199-12-31") ∷ date (ascii "2000-02-29") ∷ date (ascii "2024-02-29") ∷ [] ≡ some 19000101 ∷ some 21991231 ∷ some 20000229 ∷ some 20240229 ∷ []
-dates = refl
-
-no-dates : date (ascii "2100-02-29") ∷ date (ascii "1900-02-29") ∷ date (ascii "2001-02-29") ∷ date (ascii "1899-12-31") ∷ date (ascii "2200-01-01") ∷ date (ascii "2000-00-01") ∷ date (ascii "2000-13-01") ∷ date (ascii "2000-01-00")
-    ∷ date (ascii "2000-04-31") ∷ date (ascii "2000-1-010") ∷ date (ascii "02000-1-01") ∷ date (ascii "2000-01-1") ∷ date (ascii "2000-01-011") ∷ date (ascii "2000/01/01") ∷ date (ascii "20000101") ∷ date (ascii "?") ∷ date [] ∷ []
-    ≡ replicate 17 none
-no-dates = refl
 
 -- the days of the years from y on, n of them; the range has 300 years, 73 of them leap years
 abbrev daysFrom : ℕ → ℕ → ℕ
@@ -207,7 +110,47 @@ kind-limit : shownAll kinds limits ≡ saysAll limits
 unfolding kinds limits shown keys forms formOf slotAt counted tagOf rowOf keyOf refs ascendings fitsIn nodesUnder typed found depth fault more read types valueRows contents schema trees exprs onTerm nPolicies policies nEnv env run results answer returned order same place insert ascending makeSet
 kind-limit = refl
 
--- the named tags are where the table has them
-first-tags : tagOf TYPE (ascii "bool") ∷ tagOf VALUE (ascii "bool") ∷ tagOf NODE (ascii "lit") ∷ tagOf NODE (ascii "slot") ∷ [] ≡ firstType ∷ firstValue ∷ firstNode ∷ slotNode ∷ []
-unfolding tagOf keys forms
-first-tags = refl
+groups : List ℕ
+groups = kindLines ++ bytes "type=bool/type=long/type=string/type=record/type=entity,0/type=entity,2/type=entity,3/type=entity,1/type=entity,0,2/type=entity,0,3/type=set,8/type=entity,2,3/type=record,8,r,2,9,o,8/type=record,8,r,2,9,o,5,10,o,1/type=record,9,o,8/type=entity,0,1/shape=12,2,2/shape=3,-/shape=13,-/shape=3,-/"
+
+groupCases : List Case
+groupCases =
+    case "value=entity,0,11/value=entity,2,11/principal=0,?/action=1,4/resource=3,5/context=14,?/day=2000-01-01/node=4,var,p/node=4,lit,0/node=0,eq,0,1/node=8,lit,0/node=8,lit,1/node=8,if,2,3,4/node=0,is,5,3/policy=6,permit,6/" "decision=deny/counts=0,1,0,0,0,0,0,0/value=bool,0/node=0,lit,2/policy=6,permit,false,0/"  -- is: the kind is absent
+    ∷ case "value=entity,0,11/value=entity,2,11/principal=0,?/action=1,4/resource=3,5/context=14,?/day=2000-01-01/node=4,var,p/node=4,lit,0/node=0,eq,0,1/node=8,lit,0/node=8,lit,1/node=8,if,2,3,4/node=0,is,5,0/policy=6,permit,6/" "decision=open/counts=0,0,0,1,0,0,0,0/node=4,var,p/node=4,lit,0/node=0,eq,0,1/node=8,lit,0/node=8,lit,1/node=8,if,2,3,4/node=0,is,5,0/policy=6,permit,open,6/"  -- is: present, not the sole one
+    ∷ case "value=entity,0,11/value=entity,2,11/principal=0,?/action=1,4/resource=3,5/context=14,?/day=2000-01-01/node=4,var,p/node=0,is,0,0/policy=6,permit,1/" "decision=allow/counts=1,0,0,0,0,0,0,0/value=bool,1/node=0,lit,2/policy=6,permit,true,0/"  -- is: the sole one
+    ∷ case "value=entity,0,11/value=entity,2,11/principal=0,?/action=1,4/resource=3,5/context=14,?/day=2000-01-01/node=8,lit,0/node=0,is,0,0/policy=6,permit,1/" "decision=allow/counts=1,0,0,0,0,0,0,0/value=bool,1/node=0,lit,2/policy=6,permit,true,0/"  -- is: concrete in a group
+    ∷ case "value=entity,0,11/value=entity,2,11/value=entity,3,11/principal=0,?/action=1,4/resource=3,5/context=14,?/day=2000-01-01/node=4,var,p/node=4,lit,0/node=0,eq,0,1/node=8,lit,0/node=8,lit,1/node=8,if,2,3,4/node=6,lit,2/node=0,eq,5,6/policy=6,permit,7/" "decision=deny/counts=0,1,0,0,0,0,0,0/value=bool,0/node=0,lit,3/policy=6,permit,false,0/"  -- eq: no common kind
+    ∷ case "value=entity,0,11/value=entity,2,11/principal=0,?/action=1,4/resource=3,5/context=14,?/day=2000-01-01/node=4,var,p/node=4,lit,0/node=0,eq,0,1/node=8,lit,0/node=8,lit,1/node=8,if,2,3,4/node=9,lit,0/node=0,eq,5,6/policy=6,permit,7/" "decision=open/counts=0,0,0,1,0,0,0,0/node=4,var,p/node=4,lit,0/node=0,eq,0,1/node=8,lit,0/node=8,lit,1/node=8,if,2,3,4/node=9,lit,0/node=0,eq,5,6/policy=6,permit,open,7/"  -- eq: a common kind
+    ∷ case "value=entity,0,11/value=entity,2,11/value=entity,3,11/principal=0,?/action=1,4/resource=3,5/context=14,?/day=2000-01-01/node=4,var,p/node=4,lit,0/node=0,eq,0,1/node=8,lit,0/node=8,lit,1/node=8,if,2,3,4/node=6,lit,2/node=0,in,5,6/policy=6,permit,7/" "decision=deny/counts=0,1,0,0,0,0,0,0/value=bool,0/node=0,lit,3/policy=6,permit,false,0/"  -- in: no pair allows it
+    ∷ case "value=entity,0,11/value=entity,2,11/principal=0,?/action=1,4/resource=3,5/context=14,?/day=2000-01-01/node=4,var,p/node=4,lit,0/node=0,eq,0,1/node=8,lit,0/node=8,lit,1/node=8,if,2,3,4/node=5,lit,1/node=0,in,5,6/policy=6,permit,7/" "decision=open/counts=0,0,0,1,0,0,0,0/node=4,var,p/node=4,lit,0/node=0,eq,0,1/node=8,lit,0/node=8,lit,1/node=8,if,2,3,4/node=5,lit,1/node=0,in,5,6/policy=6,permit,open,7/"  -- in: a pair allows it
+    ∷ case "value=entity,0,11/value=entity,2,11/value=set,0,1/principal=0,?/action=1,4/resource=3,5/context=14,?/day=2000-01-01/node=4,var,p/node=4,lit,0/node=0,eq,0,1/node=8,lit,0/node=8,lit,1/node=8,if,2,3,4/node=10,lit,2/node=0,in,5,6/policy=6,permit,7/" "decision=open/counts=0,0,0,1,0,0,0,0/node=4,var,p/node=4,lit,0/node=0,eq,0,1/node=8,lit,0/node=8,lit,1/node=8,if,2,3,4/node=10,lit,2/node=0,in,5,6/policy=6,permit,open,7/"  -- in: the kinds of a set's elements
+    ∷ case "value=entity,0,11/value=entity,2,11/value=text,8/principal=0,?/action=1,4/resource=3,5/context=14,?/day=2000-01-01/node=4,var,p/node=4,lit,0/node=0,eq,0,1/node=8,lit,0/node=8,lit,1/node=8,if,2,3,4/node=2,lit,2/node=0,hastag,5,6/policy=6,permit,7/" "decision=open/counts=0,0,0,1,0,0,0,0/node=4,var,p/node=4,lit,0/node=0,eq,0,1/node=8,lit,0/node=8,lit,1/node=8,if,2,3,4/node=2,lit,2/node=0,hastag,5,6/policy=6,permit,open,7/"  -- hastag: one kind declares tags
+    ∷ case "value=entity,2,11/value=text,8/principal=0,?/action=1,4/resource=3,5/context=14,?/day=2000-01-01/node=11,lit,0/node=2,lit,1/node=0,hastag,0,1/policy=6,permit,2/" "decision=deny/counts=0,1,0,0,0,0,0,0/value=bool,0/node=0,lit,2/policy=6,permit,false,0/"  -- hastag: none does
+    ∷ case "value=entity,0,11/value=entity,2,11/principal=0,?/action=1,4/resource=3,5/context=14,?/day=2000-01-01/node=4,var,p/node=4,lit,0/node=0,eq,0,1/node=8,lit,0/node=8,lit,1/node=8,if,2,3,4/node=0,has,5,10/policy=6,permit,6/" "decision=open/counts=0,0,0,1,0,0,0,0/node=4,var,p/node=4,lit,0/node=0,eq,0,1/node=8,lit,0/node=8,lit,1/node=8,if,2,3,4/node=0,has,5,10/policy=6,permit,open,6/"  -- has: one kind declares it
+    ∷ case "value=entity,0,11/value=entity,2,11/principal=0,?/action=1,4/resource=3,5/context=14,?/day=2000-01-01/node=4,var,p/node=4,lit,0/node=0,eq,0,1/node=8,lit,0/node=8,lit,1/node=8,if,2,3,4/node=0,has,5,11/policy=6,permit,6/" "decision=deny/counts=0,1,0,0,0,0,0,0/value=bool,0/node=0,lit,2/policy=6,permit,false,0/"  -- has: none does
+    ∷ case "value=entity,0,11/principal=0,?/action=1,4/resource=3,5/context=14,?/day=2000-01-01/node=15,lit,0/node=0,has,0,11/policy=6,permit,1/" "decision=open/counts=0,0,0,1,0,0,0,0/node=15,lit,0/node=0,has,0,11/policy=6,permit,open,1/"  -- has: an action kind in the group
+    ∷ case "value=entity,0,11/value=entity,2,11/value=text,8/principal=0,?/action=1,4/resource=3,5/context=14,?/day=2000-01-01/node=4,var,p/node=4,lit,0/node=0,eq,0,1/node=8,lit,0/node=8,lit,1/node=8,if,2,3,4/node=2,get,5,8/node=2,lit,2/node=0,eq,6,7/policy=6,permit,8/" "decision=open/counts=0,0,0,1,0,0,0,0/node=4,var,p/node=4,lit,0/node=0,eq,0,1/node=8,lit,0/node=8,lit,1/node=8,if,2,3,4/node=2,get,5,8/node=2,lit,2/node=0,eq,6,7/policy=6,permit,open,8/"  -- get: the same type in every kind
+    ∷ case "value=entity,0,11/value=entity,2,11/principal=0,?/action=1,4/resource=3,5/context=14,?/day=2000-01-01/node=4,var,p/node=4,lit,0/node=0,eq,0,1/node=8,lit,0/node=8,lit,1/node=8,if,2,3,4/node=1,get,5,10/node=0,lt,6,6/policy=6,permit,7/" "refused=7,51,0/"  -- get: one kind does not declare it
+    ∷ case "value=entity,0,11/value=entity,2,11/principal=0,?/action=1,4/resource=3,5/context=14,?/day=2000-01-01/node=4,var,p/node=4,lit,0/node=0,eq,0,1/node=8,lit,0/node=8,lit,1/node=8,if,2,3,4/node=8,get,5,9/node=0,has,6,8/policy=6,permit,7/" "refused=7,51,0/"  -- get: two types
+    ∷ case "value=entity,0,11/value=entity,2,11/value=text,8/principal=0,?/action=1,4/resource=3,5/context=14,?/day=2000-01-01/node=4,var,p/node=4,lit,0/node=0,eq,0,1/node=8,lit,0/node=8,lit,1/node=8,if,2,3,4/node=2,lit,2/node=2,gettag,5,6/node=0,like,7/policy=6,permit,8/" "refused=7,53,0/"  -- gettag: one kind has none
+    ∷ case "value=entity,0,11/value=entity,2,11/principal=0,?/action=1,4/resource=3,5/context=14,?/day=2000-01-01/node=4,var,p/node=4,lit,0/node=0,eq,0,1/node=8,lit,0/node=8,lit,1/node=8,if,2,3,4/node=0,haspath,5,9,8/policy=6,permit,6/" "decision=open/counts=0,0,0,1,0,0,0,0/node=4,var,p/node=4,lit,0/node=0,eq,0,1/node=8,lit,0/node=8,lit,1/node=8,if,2,3,4/node=0,haspath,5,9,8/policy=6,permit,open,6/"  -- haspath: each step is an entity
+    ∷ case "value=entity,0,11/value=entity,2,11/principal=0,?/action=1,4/resource=3,5/context=14,?/day=2000-01-01/node=4,var,p/node=4,lit,0/node=0,eq,0,1/node=8,lit,0/node=8,lit,1/node=8,if,2,3,4/node=0,haspath,5,10,8/policy=6,permit,6/" "refused=7,51,0/"  -- haspath: one kind reached declares no entity
+    ∷ case "value=entity,0,11/value=entity,2,11/principal=0,?/action=1,4/resource=3,5/context=14,?/day=2000-01-01/node=4,var,p/node=4,lit,0/node=0,eq,0,1/node=8,lit,0/node=8,lit,1/node=8,if,2,3,4/node=0,haspath,5,9,10,8/policy=6,permit,6/" "refused=7,51,0/"  -- haspath: a kind reached by a step declares no entity
+    ∷ case "value=entity,0,11/value=entity,2,11/principal=0,?/action=1,4/resource=3,5/context=14,?/day=2000-01-01/node=4,var,p/node=4,lit,0/node=0,eq,0,1/node=8,lit,0/node=8,lit,1/node=8,if,2,3,4/node=0,haspath,5,9,10/policy=6,permit,6/" "decision=open/counts=0,0,0,1,0,0,0,0/node=4,var,p/node=4,lit,0/node=0,eq,0,1/node=8,lit,0/node=8,lit,1/node=8,if,2,3,4/node=0,haspath,5,9,10/policy=6,permit,open,6/"  -- haspath: the last step is free
+    ∷ case "value=entity,0,11/value=entity,2,11/principal=0,?/action=1,4/resource=3,5/context=14,?/day=2000-01-01/node=4,var,p/node=4,lit,0/node=0,eq,0,1/node=8,lit,0/node=8,lit,1/node=8,if,2,3,4/node=0,haspath,5,11,8/policy=6,permit,6/" "decision=deny/counts=0,1,0,0,0,0,0,0/value=bool,0/node=0,lit,2/policy=6,permit,false,0/"  -- haspath: free after an undeclared step, and ruled out
+    ∷ case "value=entity,0,11/value=entity,2,11/value=text,8/value=record,8,2,9,1/entity=0,3,?,?/principal=0,?/action=1,4/resource=3,5/context=14,?/day=2000-01-01/node=8,lit,0/node=0,haspath,0,9,10/policy=6,permit,1/" "decision=open/counts=0,0,0,1,0,0,0,0/node=5,lit,1/node=0,haspath,0,10/policy=6,permit,open,1/"  -- left over after a step: the single kind's type
+    ∷ case "value=entity,0,11/value=entity,2,11/value=text,8/value=record,8,2,9,1/entity=0,3,?,?/principal=0,?/action=1,4/resource=3,5/context=14,?/day=2000-01-01/node=8,lit,0/node=0,haspath,0,9,11/policy=6,permit,1/" "decision=deny/counts=0,1,0,0,0,0,0,0/value=bool,0/node=0,lit,4/policy=6,permit,false,0/"  -- left over after a step: ruled out by the single kind
+    ∷ case "value=entity,0,11/principal=0,?/action=1,4/resource=3,5/context=14,?/day=2000-01-01/node=8,lit,0/node=0,haspath,0,10/policy=6,permit,1/" "decision=open/counts=0,0,0,1,0,0,0,0/node=8,lit,0/node=0,haspath,0,10/policy=6,permit,open,1/"  -- left over after no step: the child's own type
+    ∷ case "value=entity,0,11/principal=0,?/action=1,4/resource=3,5/context=14,?/day=2000-01-01/node=4,lit,0/node=0,haspath,0,10/policy=6,permit,1/" "decision=deny/counts=0,1,0,0,0,0,0,0/value=bool,0/node=0,lit,1/policy=6,permit,false,0/"  -- the same over the single kind
+    ∷ case "value=entity,3,11/principal=0,?/action=1,4/resource=3,5/context=14,?/day=2000-01-01/node=8,lit,0/node=0,is,0,3/policy=6,permit,1/" "refused=7,44,0/"  -- lit: its kind is not in the group
+    ∷ case "principal=0,?/action=1,4/resource=3,5/context=14,?/day=2000-01-01/node=8,var,p/" "refused=7,43,0/"  -- var: its type is that of its kind alone
+    ∷ case "value=entity,0,11/value=entity,2,11/value=set,0,1/principal=0,?/action=1,4/resource=3,5/context=14,?/day=2000-01-01/node=4,var,p/node=4,lit,0/node=0,eq,0,1/node=8,lit,0/node=8,lit,1/node=8,if,2,3,4/node=4,lit,0/node=10,lit,2/node=0,contains,7,6/policy=6,permit,8/" "refused=7,54,0/"  -- contains: the element has the element type
+    ∷ case "value=entity,0,11/value=entity,2,11/value=set,0,1/principal=0,?/action=1,4/resource=3,5/context=14,?/day=2000-01-01/node=4,var,p/node=4,lit,0/node=0,eq,0,1/node=8,lit,0/node=8,lit,1/node=8,if,2,3,4/node=10,lit,2/node=0,contains,6,5/policy=6,permit,7/" "decision=open/counts=0,0,0,1,0,0,0,0/node=10,lit,2/node=4,var,p/node=4,lit,0/node=0,eq,1,2/node=8,lit,0/node=8,lit,1/node=8,if,3,4,5/node=0,contains,0,6/policy=6,permit,open,7/"  -- contains: of a group
+    ∷ case "value=entity,0,11/value=entity,2,11/principal=0,?/action=1,4/resource=3,5/context=14,?/day=2000-01-01/node=8,slot,p/node=0,has,0,10/policy=6,permit,1/policy=7,permit,1/link=0,0,-/link=1,1,-/" "decision=open/counts=0,0,0,2,0,0,0,0/node=8,lit,0/node=0,has,0,10/node=8,lit,1/node=0,has,2,10/policy=6,permit,open,1/policy=7,permit,open,3/"  -- a slot of a group: its `lit` keeps the group
+    ∷ case "value=entity,3,11/principal=0,?/action=1,4/resource=3,5/context=14,?/day=2000-01-01/node=8,slot,p/node=0,has,0,10/policy=6,permit,1/link=0,0,-/" "refused=7,47,0/"  -- a slot of a group: the kind of its value is not in it
+    ∷ case "value=entity,0,11/value=entity,2,11/value=text,8/value=record,8,2,9,1/entity=0,3,?,?/principal=0,?/action=1,4/resource=3,5/context=14,?/day=2000-01-01/node=8,slot,r/node=0,haspath,0,9,10/policy=6,permit,1/policy=7,permit,1/link=0,-,0/link=1,-,1/term=0,2000-01-01,2000-01-01/" "decision=open/counts=0,0,0,2,0,0,0,0/node=5,lit,1/node=0,haspath,0,10/node=8,lit,1/node=0,haspath,2,9,10/policy=6,permit,open,1/policy=7,permit,open,3/"  -- a slot of a group, on term: with no step taken its `lit` keeps the group, after a step it has the single kind
+    ∷ []
+
+group-sheets : shownAll groups groupCases ≡ saysAll groupCases
+unfolding kindLines groups groupCases shown keys forms formOf slotAt counted tagOf rowOf keyOf refs ascendings fitsIn nodesUnder typed found depth fault more read types valueRows contents schema trees exprs onTerm nPolicies policies nEnv env run results answer returned order same place insert ascending makeSet
+group-sheets = refl
