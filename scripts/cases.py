@@ -5,7 +5,7 @@
 
 For each sheet, or each whose name PATTERN is found in, one theorem by computation is written to target/cases/: what the definitions make of the
 sheet's bytes is the known text. One check computes all short sheets with short answers, and one each other sheet; with --each,
-one check each sheet. Three sheets are over the prover's own limit of steps: they have no verdict, which says neither that they agree nor
+one check each sheet. Four sheets are over the prover's own limit of steps: they have no verdict, which says neither that they agree nor
 that they do not. With --wrong every known text is replaced by a wrong one: each check must then fail. Nothing outside target/ is written.
 """
 import os
@@ -23,8 +23,9 @@ UNFOLD = (
     "more read types valueRows contents schema trees exprs onTerm nPolicies policies nEnv env run results answer returned "
     "order sameV place insert ascending makeSet"
 )
-# sheets of 1,024 and 1,025 values, given or made, which the prover does not compute within its limit; any other sheet without verdict is a failure
-UNDECIDED = ("value-1024", "value-1025", "2.9 many-made-2.9")
+# sheets of 1,024 and 1,025 values, given or made, and a path with 32 ways at each of its 2,000 steps, all of which the definition follows: the prover does not
+# compute them within its limit; any other sheet without verdict is a failure
+UNDECIDED = ("value-1024", "value-1025", "2.9 many-made-2.9", "2,000 steps in a group of 32 kinds")
 HEAD = """use mathlib.Core.Path.{_≡_, refl}
 use mathlib.Core.List.{List, [], _∷_, _++_}
 use Prim.Native.Nat.{ℕ, zero, suc}

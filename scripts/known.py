@@ -8,18 +8,21 @@ crates/known/stdin, the sheets of `cases.py`, those of examples/, some with slic
 each NAME.MODE.sheet of FOLDER, and those that are there already. To crates/known/stdout goes what that reading makes of them, with every
 promise kept, and beside each sheet of examples/ its answer.
 
-With --host each answer must also be that of the original: HOST is the program that `cargo build --release` makes in host/. With --have,
-a list as 2.3,2.5,2.9,2.4 of the requests of document 02 that have landed, the reading is asked with these; the cases of its `cases02.py` that hold
-then are added, from 2.9 on each sheet of `cases.py` and each probe gets a `day` line, and from 2.4 on there are sheets whose answers are long. Where an expected text, the reading and the original
+With --host each answer must also be that of the original: HOST is the program that `cargo build --release` makes in host/. Of an accepted sheet with
+groups of kinds the original is not asked; there the host must accept it, and the expected text, where there is one, must be the reading's. With --have,
+a list as 2.3,2.5,2.9,2.4,2.7 of the requests of document 02 that have landed, the reading is asked with these; the cases of its `cases02.py` that hold
+then are added, from 2.9 on each sheet of `cases.py` and each probe gets a `day` line, from 2.4 on there are sheets whose answers are long, and from 2.7 on
+sheets with larger groups and some random ones with groups, of its `gen02.py`. Where an expected text, the reading and the original
 differ, nothing is written. With --check nothing is written either: the files must be what would be written.
 """
 import os
 import subprocess
 import sys
 
-from sheets import CRATE, ENTRIES, HERE, WORDS, Result, Sheet, head, printed, sheets, shown, whole
+from sheets import CRATE, ENTRIES, HERE, NOT_ASKED, WORDS, Result, Sheet, head, printed, sheets, shown, whole
 
 BUFFER, LARGE = 4096, 65536
+SEED, PARTIAL, COMPLETE = 27, 40, 10  # of the random sheets with groups
 PROBE = "probe: "
 DAY = b"day=2026-06-15\n"
 
@@ -100,6 +103,69 @@ def shared(cases02, landed):
         yield Sheet("a pattern of %d items for 64 policies" % stars, "partial", sheet(like, 2, "", types="type=record,7,r,6/", request=request), WORDS, WORDS, LARGE)
 
 
+def numbered(key, items, sheet):
+    """The numbers of the lines of a key whose items hold."""
+    lines = [line[len(key) + 1:].split(b",") for line in sheet.split(b"\n") if line.startswith(key + b"=")]
+    return [n for n, line in enumerate(lines) if items(line)]
+
+
+def between_groups():
+    """Rules between groups of two and three of the kinds A to E, decided by the types and open."""
+    head = ("sheet=partial/text=A/text=B/text=C/text=D/text=E/text=Action/text=x/" + "".join("text=p%d/" % n for n in range(14))
+            + "".join("kind=%d,%s/" % (n, "eeeeea"[n]) for n in range(6)) + "type=bool/type=record/" + "".join("type=entity,%d/" % n for n in range(6))
+            + "type=string/type=record,6,r,0/type=entity,0,1/type=entity,2,3/type=entity,1,2,4/type=entity,2,4/type=entity,0,5/type=set,11/"
+            + "shape=1,-,4/shape=1,-,0/shape=9,8/shape=1,-,3/shape=1,-/shape=1,-/" + "".join("value=entity,%d,6/" % n for n in range(6))
+            + "value=set,2/value=set/value=text,6/principal=0,?/action=5,6/resource=1,?/context=1,?/day=2026-06-15/")
+    nodes, policies = [], []
+
+    def node(*items):
+        nodes.append("node=%s/" % ",".join(str(item) for item in items))
+        return len(nodes) - 1
+
+    def either(ty, *values):
+        """One of two values, open, which cannot err."""
+        test = node(0, "eq", node(2, "var", "p"), node(2, "lit", 0))
+        return node(ty, "if", test, *[node(ty, "lit", value) for value in values])
+
+    def rule(root):
+        policies.append("policy=%d,%s,%d/" % (7 + len(policies), "permit" if len(policies) % 2 else "forbid", root))
+
+    group = {10: (0, 1), 11: (2, 3), 12: (1, 4), 13: (2, 4), 14: (0, 5), 15: (6, 7)}
+    for word, left, right in [("eq", 10, 11), ("eq", 10, 12), ("eq", 12, 13), ("in", 10, 11), ("in", 10, 13), ("in", 10, 12), ("in", 11, 10), ("in", 10, 15)]:
+        rule(node(0, word, either(left, *group[left]), either(right, *group[right])))
+    for kind in (3, 4):
+        rule(node(0, "is", either(12, *group[12]), kind))
+    for ty in (10, 11, 14):
+        rule(node(0, "has", either(ty, *group[ty]), 6))
+    rule(node(0, "hastag", either(10, *group[10]), node(8, "lit", 8)))
+    return head + "".join(nodes + policies)
+
+
+def many_steps(count):
+    """A path of so many steps through the group of 32 kinds, all but the action's declaring the step as that group."""
+    return ("sheet=partial/" + "".join("text=k%d/" % n for n in range(32)) + "".join("kind=%d,%s/" % (n, "ea"[n == 1]) for n in range(32)) + "type=bool/type=record/"
+            + "".join("type=entity,%d/" % n for n in range(32)) + "type=entity" + "".join(",%d" % n for n in range(32)) + "/type=record,0,o,34/"
+            + "".join("shape=%d,-/" % (1 if n == 1 else 35) for n in range(32)) + "value=entity,0,0/principal=0,?/action=1,0/resource=2,?/context=1,?/day=2026-06-15/"
+            + "node=34,lit,0/node=0,haspath,0" + ",0" * count + "/policy=0,permit,1/")
+
+
+def grouped(gen02, landed):
+    """Larger groups, and random sheets with policies on term, some of whose nodes have the type of a group."""
+    if "2.7" not in landed:
+        return
+    yield Sheet("rules between groups", "partial", bytes_of(between_groups()), WORDS, WORDS, BUFFER)
+    yield Sheet("2,000 steps in a group of 32 kinds", "partial", bytes_of(many_steps(2000)), WORDS, WORDS, LARGE)
+    left = dict(zip(ENTRIES, (PARTIAL, COMPLETE)))
+    for number in range(10000):
+        if not any(left.values()):
+            break
+        entry, sheet = gen02.input_of(SEED, number)
+        groups = numbered(b"type", lambda items: items[0] == b"entity" and len(items) > 2, sheet)
+        if left.get(entry) and "policy=" in gen02.refsheet.run_entry(entry, sheet)[3] and numbered(b"node", lambda items: int(items[0]) in groups, sheet):
+            left[entry] -= 1
+            yield Sheet("random sheet %d with groups" % number, entry, sheet, WORDS, WORDS, LARGE)
+
+
 def of_requests(cases02, landed):
     """Sheets with expected texts: the cases of document 02 that hold when these requests have landed and no more."""
     others = 0
@@ -116,7 +182,7 @@ def of_requests(cases02, landed):
         print("%d cases are of calls that program `known` does not run" % others)
 
 
-def chosen(cases, cases02, folder, answer_length, landed):
+def chosen(cases, cases02, gen02, folder, answer_length, landed):
     """Sheets, each with the expected text or none."""
     for name, entry, text, expected in cases.CASES:
         sheet = Sheet(titled(name, entry), entry, with_day(bytes_of(text), landed), WORDS, WORDS + 16, BUFFER)
@@ -129,14 +195,21 @@ def chosen(cases, cases02, folder, answer_length, landed):
         yield sheet, None
     for sheet in shared(cases02, landed):
         yield sheet, None
+    for sheet in grouped(gen02, landed):
+        yield sheet, None
     yield from of_requests(cases02, landed)
 
 
-def differs(sheet, result, want, host):
-    """Whether the result is not the expected one, or not the original's."""
-    texts = [] if want is None else [want]
-    if host and whole(sheet, result):
-        texts.append(subprocess.run([host, "answer", sheet.entry], input=sheet.bytes, capture_output=True, check=True).stdout)
+def original(sheet, result, host):
+    """What the original makes of a sheet, where it is asked; else what the host says of it, or none."""
+    if not host or not whole(sheet, result):
+        return None
+    return subprocess.run([host, "answer", sheet.entry], input=sheet.bytes, capture_output=True, check=True).stdout
+
+
+def differs(sheet, result, want, said):
+    """Whether the result is not the expected one, or not the original's; where that is not asked, the sheet must be accepted."""
+    texts = [text for text in (want, said) if text is not None and not (text == NOT_ASKED and result.number == 0)]
     for text in texts:
         if text != printed(result):
             print("%s: %r is wanted, the reading gives %r" % (sheet.name, text[:200], printed(result)[:200]))
@@ -176,6 +249,7 @@ def main(args):
     sys.dont_write_bytecode = True
     import cases
     import cases02
+    import gen02
     import refsheet
     landed = have.split(",") if have else []
     refsheet.set_have(landed)
@@ -187,14 +261,15 @@ def main(args):
     def answer_length(sheet):
         return refsheet.run_entry("partial", sheet)[2]
     folder = words[1] if len(words) == 2 else None
-    found = [(sheet, result_of(sheet), want) for sheet, want in chosen(cases, cases02, folder, answer_length, landed)]
-    faults = sum(differs(sheet, result, want, host) for sheet, result, want in found)
+    found = [(sheet, result_of(sheet), want) for sheet, want in chosen(cases, cases02, gen02, folder, answer_length, landed)]
+    said = [original(sheet, result, host) for sheet, result, _ in found]
+    faults = sum(differs(*one, text) for one, text in zip(found, said))
     if not faults:
         made = [(os.path.join(CRATE, "stdin"), b"%d\n" % len(found) + b"".join(head(s) + s.name.encode() + s.bytes for s, _, _ in found)),
                 (os.path.join(CRATE, "stdout"), b"".join(shown(s, r) for s, r, _ in found))]
         made += [(os.path.join(HERE, "examples", s.name[:-6] + ".answer"), printed(r)) for s, r, _ in found if s.name.endswith(".sheet")]
         faults = settle(made, "--check" in args)
-    print("%d known sheets, %d faults" % (len(found), faults))
+    print("%d known sheets, %d faults; %d of them accepted with groups, where the original is not asked" % (len(found), faults, said.count(NOT_ASKED)))
     return 1 if faults else 0
 
 

@@ -7,6 +7,8 @@ HERE = os.path.dirname(os.path.dirname(os.path.abspath(__file__)))
 CRATE = os.path.join(HERE, "crates", "known")
 WORDS = 16384
 ENTRIES = ["partial", "complete"]
+# what the host says of an accepted sheet with groups of kinds, in the place of the original's answer
+NOT_ASKED = b"accepted with groups: the original is not asked\n"
 # a sheet with its entry and what is lent: words of each work slice, bytes of the answer buffer
 Sheet = namedtuple("Sheet", "name entry bytes first second buffer")
 # what a call with it returns and writes

@@ -2,7 +2,8 @@
 //!
 //! A time is the least of several rounds, each of as many calls as take some hundredths of a second, by the processor's
 //! clock of this process, so that other processes disturb it little. What is timed of the original is all that a call does: reading the sheet (the host's reader, since the original has none), the
-//! original's own text, and printing. The column "reading" says how much of it is the host's reader.
+//! original's own text, and printing. The column "reading" says how much of it is the host's reader. Sheets with groups of kinds are
+//! not handed to the original: only the library's time is measured.
 
 use std::hint::black_box;
 
@@ -41,7 +42,8 @@ fn time(rounds: usize, mut work: impl FnMut()) -> f64 {
 }
 
 struct Times {
-    original: f64,
+    /// None where a sheet has groups.
+    original: Option<f64>,
     reading: f64,
     library: Option<f64>,
     bytes: usize,
@@ -54,51 +56,65 @@ impl Times {
     fn per_byte(&self) -> Option<f64> {
         self.library.map(|library| library / (self.bytes + self.answers) as f64)
     }
+
+    /// How many times as long the original takes.
+    fn ratio(&self) -> Option<f64> {
+        Some(self.original? / self.library?)
+    }
+}
+
+/// A number with so many places after the point; `-` where there is none.
+fn shown(number: Option<f64>, places: usize) -> String {
+    number.map_or("-".into(), |number| format!("{number:.places$}"))
 }
 
 fn measure(sheets: &[(Mode, Vec<u8>)], library: Option<Call>, rounds: usize) -> Times {
     let mut out = vec![0u8; ANSWER_BYTES];
     let (mut a, mut b) = (vec![0u32; WORK_WORDS], vec![0u32; WORK_WORDS]);
-    let mut times = Times { original: 0.0, reading: 0.0, library: None, bytes: 0, answers: 0, sheets: sheets.len() };
+    let mut times = Times { original: Some(0.0), reading: 0.0, library: None, bytes: 0, answers: 0, sheets: sheets.len() };
     for (mode, sheet) in sheets {
-        let [number, _, length] = run::call(*mode, sheet, &mut a, &mut b, &mut out);
-        assert_eq!(number, 0, "a sheet of the benchmark is accepted");
+        let answer = run::answer(*mode, sheet).expect("a sheet of the benchmark is accepted");
         times.bytes += sheet.len();
-        times.answers += length as usize;
-        times.original += time(rounds, || {
-            black_box(run::call(*mode, black_box(sheet), &mut a, &mut b, &mut out));
+        times.original = times.original.filter(|_| answer.is_some()).map(|sum| {
+            sum + time(rounds, || {
+                black_box(run::call(*mode, black_box(sheet), &mut a, &mut b, &mut out));
+            })
         });
         times.reading += time(rounds, || {
             let _ = black_box(sheet::read(*mode, black_box(sheet)));
         });
+        let mut length = answer.map_or(0, |answer| answer.len());
         if let Some(call) = library {
-            assert_eq!(call(*mode, sheet, &mut a, &mut b, &mut out)[0], 0, "a sheet of the benchmark is accepted");
+            let [number, _, written] = call(*mode, sheet, &mut a, &mut b, &mut out);
+            assert_eq!(number, 0, "a sheet of the benchmark is accepted");
+            length = written as usize;
             let one = time(rounds, || {
                 black_box(call(*mode, black_box(sheet), &mut a, &mut b, &mut out));
             });
             times.library = Some(times.library.unwrap_or(0.0) + one);
         }
+        times.answers += length;
     }
     times
 }
 
 fn row(name: &str, times: &Times) {
-    let sheets = times.sheets as f64;
-    let (library, per_byte, ratio) = match times.library {
-        Some(library) => (
-            format!("{:.0}", library / sheets),
-            format!("{:.2}", library / times.bytes as f64),
-            format!("{:.1}", times.original / library),
-        ),
-        None => ("-".into(), "-".into(), "-".into()),
-    };
+    let (sheets, bytes) = (times.sheets as f64, times.bytes as f64);
     println!(
-        "| {name} | {:.0} | {:.0} | {:.1} | {:.0} | {library} | {per_byte} | {ratio} |",
-        times.bytes as f64 / sheets,
-        times.original / sheets,
-        times.original / times.bytes as f64,
+        "| {name} | {:.0} | {} | {} | {:.0} | {} | {} | {} |",
+        bytes / sheets,
+        shown(times.original.map(|original| original / sheets), 0),
+        shown(times.original.map(|original| original / bytes), 1),
         times.reading / sheets,
+        shown(times.library.map(|library| library / sheets), 0),
+        shown(times.library.map(|library| library / bytes), 2),
+        shown(times.ratio(), 1),
     );
+}
+
+/// How many times as large; None where one of them is.
+fn times_as(number: Option<f64>, ordinary: Option<f64>) -> Option<f64> {
+    Some(number? / ordinary?)
 }
 
 pub fn bench(library: Option<Call>, rounds: usize) {
@@ -119,26 +135,19 @@ pub fn bench(library: Option<Call>, rounds: usize) {
     let (mut greatest, mut greatest_a_byte) = (0.0f64, 0.0f64);
     for (name, mode, sheet) in heavy::all() {
         let times = measure(&[(mode, sheet)], library, rounds);
-        let (time, share, ratio) = match (times.library, whole.library) {
-            (Some(library), Some(ordinary)) => {
-                greatest = greatest.max(library / ordinary);
-                (format!("{library:.0}"), format!("{:.1}", library / ordinary), format!("{:.1}", times.original / library))
-            }
-            _ => ("-".into(), "-".into(), "-".into()),
-        };
-        let a_byte = match (times.per_byte(), whole.per_byte()) {
-            (Some(library), Some(ordinary)) => {
-                greatest_a_byte = greatest_a_byte.max(library / ordinary);
-                format!("{library:.2}")
-            }
-            _ => "-".into(),
-        };
+        let share = times_as(times.library, whole.library);
+        greatest = greatest.max(share.unwrap_or(0.0));
+        greatest_a_byte = greatest_a_byte.max(times_as(times.per_byte(), whole.per_byte()).unwrap_or(0.0));
         println!(
-            "| {name} | {} | {} | {:.0} | {:.1} | {time} | {share} | {a_byte} | {ratio} |",
+            "| {name} | {} | {} | {} | {} | {} | {} | {} | {} |",
             times.bytes,
             times.answers,
-            times.original,
-            times.original / whole.original
+            shown(times.original, 0),
+            shown(times_as(times.original, whole.original), 1),
+            shown(times.library, 0),
+            shown(share, 1),
+            shown(times.per_byte(), 2),
+            shown(times.ratio(), 1),
         );
     }
     match library {

@@ -2,13 +2,14 @@
 //!
 //! For each sheet both are lent buffers of the same lengths with the same contents, longer and shorter ones among them,
 //! inside larger buffers. After the calls all of it must be equal: number, line, length, bytes written and not written,
-//! words cleared and not touched, and what lies beside the lent parts. On triples of a partial sheet and two complete
-//! ones that agree with it, demand 3 is run from the bytes of the three answers.
+//! words cleared and not touched, and what lies beside the lent parts. Of an accepted sheet with groups of kinds the original is not
+//! asked: the library's answer in a long buffer stands for the original's, and all else is compared. On triples of a partial sheet and
+//! two complete ones that agree with it, none with groups, demand 3 is run from the bytes of the three answers.
 
 use crate::generate::{self, Case};
 use crate::random::Random;
 use crate::run;
-use crate::sheet::{Mode, WORK_WORDS};
+use crate::sheet::{Mode, Refusal, WORK_WORDS};
 
 pub type Call = fn(Mode, &[u8], &mut [u32], &mut [u32], &mut [u8]) -> [u32; 3];
 
@@ -34,6 +35,12 @@ impl Lent {
         let (a, b, out) = (self.a.len() - MARGIN, self.b.len() - MARGIN, self.out.len() - MARGIN);
         call(case.mode, &case.bytes, &mut self.a[MARGIN..a], &mut self.b[MARGIN..b], &mut self.out[MARGIN..out])
     }
+
+    /// What a call with an answer or refusal leaves here.
+    fn left(&mut self, answer: Result<Vec<u8>, Refusal>) -> [u32; 3] {
+        let (a, b, out) = (self.a.len() - MARGIN, self.b.len() - MARGIN, self.out.len() - MARGIN);
+        run::left(|| answer, &mut self.a[MARGIN..a], &mut self.b[MARGIN..b], &mut self.out[MARGIN..out])
+    }
 }
 
 /// Counts of a comparison.
@@ -42,6 +49,8 @@ pub struct Counts {
     pub sheets: usize,
     pub triples: usize,
     pub differences: usize,
+    /// Accepted sheets with groups, whose answers are the library's alone.
+    pub grouped: usize,
     pub numbers: [usize; 11],
 }
 
@@ -54,11 +63,12 @@ pub fn by_number(numbers: &[usize; 11]) -> String {
 impl Counts {
     pub fn line(&self) -> String {
         format!(
-            "{} sheets, {} triples, {} differences; numbers {}",
+            "{} sheets, {} triples, {} differences; numbers {}; {} accepted with groups, their answers not compared",
             self.sheets,
             self.triples,
             self.differences,
-            by_number(&self.numbers)
+            by_number(&self.numbers),
+            self.grouped
         )
     }
 }
@@ -85,14 +95,39 @@ fn buffer_length(needed: usize, random: &mut Random) -> usize {
     }
 }
 
+/// The answer to a sheet in a buffer that is long enough.
+fn whole_answer(call: Call, case: &Case, random: &mut Random) -> Result<Vec<u8>, String> {
+    let mut lent = Lent::of(WORK_WORDS, WORK_WORDS + random.below(3), 65536, random);
+    let [mut number, mut line, mut length] = lent.call(call, case);
+    if number == 10 {
+        lent = Lent::of(WORK_WORDS, WORK_WORDS, length as usize, random);
+        [number, line, length] = lent.call(call, case);
+    }
+    match number {
+        0 => Ok(lent.out[MARGIN..MARGIN + length as usize].to_vec()),
+        _ => Err(format!("is refused: {number},{line},{length}")),
+    }
+}
+
 /// Runs both on one sheet and says what differs.
 fn one(call: Call, case: &Case, random: &mut Random, counts: &mut Counts) -> Option<String> {
-    let needed = run::answer(case.mode, &case.bytes).map_or(40, |answer| answer.len());
+    counts.sheets += 1;
+    let answer = match run::answer(case.mode, &case.bytes) {
+        Ok(Some(answer)) => Ok(answer),
+        Ok(None) => {
+            counts.grouped += 1;
+            match whole_answer(call, case, random) {
+                Ok(answer) => Ok(answer),
+                Err(text) => return Some(format!("an accepted sheet with groups {text}")),
+            }
+        }
+        Err(refusal) => Err(refusal),
+    };
+    let needed = answer.as_ref().map_or(40, Vec::len);
     let mut expected = Lent::of(work_length(random), work_length(random), buffer_length(needed, random), random);
     let mut found = expected.clone();
-    let wanted = expected.call(run::call, case);
+    let wanted = expected.left(answer);
     let got = found.call(call, case);
-    counts.sheets += 1;
     counts.numbers[wanted[0] as usize] += 1;
     if got != wanted {
         return Some(format!("returned {got:?}, expected {wanted:?}"));
@@ -114,17 +149,10 @@ fn triple(call: Call, sheets: &[Vec<u8>; 3], random: &mut Random) -> Option<Stri
     let mut answers: Vec<Vec<u8>> = Vec::new();
     for (n, sheet) in sheets.iter().enumerate() {
         let mode = if n == 0 { Mode::Partial } else { Mode::Complete };
-        let case = Case { mode, bytes: sheet.clone() };
-        let mut lent = Lent::of(WORK_WORDS, WORK_WORDS + random.below(3), 65536, random);
-        let [mut number, mut line, mut length] = lent.call(call, &case);
-        if number == 10 {
-            lent = Lent::of(WORK_WORDS, WORK_WORDS, length as usize, random);
-            [number, line, length] = lent.call(call, &case);
+        match whole_answer(call, &Case { mode, bytes: sheet.clone() }, random) {
+            Ok(answer) => answers.push(answer),
+            Err(text) => return Some(format!("sheet {n} of a triple {text}")),
         }
-        if number != 0 {
-            return Some(format!("sheet {n} of a triple is refused: {number},{line},{length}"));
-        }
-        answers.push(lent.out[MARGIN..MARGIN + length as usize].to_vec());
     }
     run::demand3([&sheets[0], &sheets[1], &sheets[2]], [&answers[0], &answers[1], &answers[2]]).err()
 }
@@ -200,6 +228,19 @@ mod tests {
                 let result = run::call(mode, sheet, a, b, out);
                 if let Some(byte) = out.get_mut(result[2] as usize) {
                     *byte = b'x';
+                }
+                result
+            }) > 0
+        );
+    }
+
+    #[test]
+    fn a_sheet_with_groups_refused_is_found() {
+        assert!(
+            differences(|mode, sheet, a, b, out| {
+                let result = run::call(mode, sheet, a, b, out);
+                if result[0] != 1 && run::answer(mode, sheet) == Ok(None) {
+                    return [3, 1, 0];
                 }
                 result
             }) > 0

@@ -26,8 +26,8 @@ pub struct Draft {
     pub policies: Vec<PolicyRow>,
     pub links: Vec<LinkRow>,
     pub terms: Vec<TermRow>,
-    /// While the tree of a template is made: the types of its slots so far, `p` and `r`.
-    pub slots: Option<[Option<u32>; 2]>,
+    /// While the tree of a template is made: the kinds that a value for its slots so far may have, `p` and `r`.
+    pub slots: Option<[Option<Vec<u32>>; 2]>,
     places: HashMap<ValueRow, u32>,
 }
 
@@ -77,6 +77,24 @@ impl Draft {
         }
     }
 
+    /// The number of the type of a kind alone, which is added if absent.
+    pub fn alone(&mut self, kind: u32) -> u32 {
+        self.ty(TypeRow::Entity(vec![kind]))
+    }
+
+    /// The kinds of an entity type; nothing for other types.
+    pub fn kinds_of(&self, ty: u32) -> &[u32] {
+        match &self.types[ty as usize] {
+            TypeRow::Entity(kinds) => kinds,
+            _ => &[],
+        }
+    }
+
+    /// The type lines with two kinds or more.
+    pub fn groups(&self) -> Vec<u32> {
+        (0..self.types.len() as u32).filter(|ty| self.kinds_of(*ty).len() > 1).collect()
+    }
+
     /// The number of a value, which is added if absent.
     pub fn value(&mut self, row: ValueRow) -> u32 {
         if let Some(n) = self.places.get(&row) {
@@ -107,16 +125,24 @@ impl Draft {
         self.policies.iter().map(|row| self.size(row.node)).sum()
     }
 
-    /// The declared attributes of a record or entity type.
-    pub fn attributes(&self, ty: u32) -> Option<&Vec<(u32, bool, u32)>> {
-        let row = match self.types[ty as usize] {
-            TypeRow::Entity(kind) => self.shapes[kind as usize].attributes,
-            _ => ty,
-        };
-        match &self.types[row as usize] {
-            TypeRow::Record(fields) => Some(fields),
+    /// The declared attributes of a record type, or of each kind of an entity type; nothing for other types.
+    pub fn holders(&self, ty: u32) -> Vec<&[(u32, bool, u32)]> {
+        let fields = |ty: u32| match &self.types[ty as usize] {
+            TypeRow::Record(fields) => Some(&fields[..]),
             _ => None,
+        };
+        match &self.types[ty as usize] {
+            TypeRow::Entity(kinds) => kinds.iter().filter_map(|kind| fields(self.shapes[*kind as usize].attributes)).collect(),
+            _ => fields(ty).into_iter().collect(),
         }
+    }
+
+    /// The attributes that have the same declared type wherever the type declares any: text and type.
+    pub fn attributes(&self, ty: u32) -> Vec<(u32, u32)> {
+        let holders = self.holders(ty);
+        let first = holders.first().copied().unwrap_or_default();
+        let same = |t: u32, ty: u32| holders.iter().all(|fields| declaration(fields, t) == Some(ty));
+        first.iter().filter(|(t, _, ty)| same(*t, *ty)).map(|(t, _, ty)| (*t, *ty)).collect()
     }
 
     pub fn fits(&self, value: u32, ty: u32) -> bool {
@@ -124,7 +150,7 @@ impl Draft {
             (ValueRow::Bool(_), TypeRow::Bool) | (ValueRow::Long(_), TypeRow::Long) | (ValueRow::Text(_), TypeRow::String) => {
                 true
             }
-            (ValueRow::Entity(kind, _), TypeRow::Entity(wanted)) => kind == wanted,
+            (ValueRow::Entity(kind, _), TypeRow::Entity(kinds)) => kinds.contains(kind),
             (ValueRow::Set(items), TypeRow::Set(element)) => items.iter().all(|v| self.fits(*v, *element)),
             (ValueRow::Record(fields), TypeRow::Record(declared)) => {
                 fields.iter().all(|(t, v)| declaration(declared, *t).is_some_and(|ty| self.fits(*v, ty)))
@@ -213,7 +239,7 @@ fn type_line(row: &TypeRow) -> String {
         TypeRow::Bool => "type=bool".into(),
         TypeRow::Long => "type=long".into(),
         TypeRow::String => "type=string".into(),
-        TypeRow::Entity(kind) => format!("type=entity,{kind}"),
+        TypeRow::Entity(kinds) => format!("type=entity{}", joined(kinds)),
         TypeRow::Set(element) => format!("type=set,{element}"),
         TypeRow::Record(fields) => fields.iter().fold("type=record".into(), |mut text, (t, required, ty)| {
             let _ = write!(text, ",{t},{},{ty}", if *required { "r" } else { "o" });

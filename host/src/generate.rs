@@ -3,7 +3,8 @@
 use crate::draft::{bytes_of, day_text, Draft};
 use crate::random::Random;
 use crate::sheet::{
-    days_in, Day, EntityRow, LinkRow, Mode, One, Operation, ShapeRow, TermRow, Two, TypeRow, ValueRow, Variable, SLOTS,
+    days_in, declaration, Day, EntityRow, LinkRow, Mode, One, Operation, ShapeRow, TermRow, Two, TypeRow, ValueRow, Variable,
+    SLOTS,
 };
 
 /// A sheet and the entry that it is handed to.
@@ -15,7 +16,8 @@ pub struct Case {
 /// The sheet of place `n` under a seed: valid or damaged.
 pub fn sheet(seed: u64, n: u64) -> Case {
     let random = &mut Random::of(seed, n);
-    let draft = valid(random);
+    let grouped = random.chance(20);
+    let draft = valid(random, grouped);
     match random.below(100) {
         0 => Case { mode: Mode::Partial, bytes: garbage(random) },
         1..=39 => case(&draft),
@@ -37,10 +39,10 @@ pub fn sheet(seed: u64, n: u64) -> Case {
     }
 }
 
-/// A partial sheet and two complete ones that agree with it.
+/// A partial sheet and two complete ones that agree with it, without groups.
 pub fn triple(seed: u64, n: u64) -> [Vec<u8>; 3] {
     let random = &mut Random::of(seed, n);
-    let partial = valid(random);
+    let partial = valid(random, false);
     let second = completion(&partial, random);
     let third = completion(&partial, random);
     [partial.bytes(), second.bytes(), third.bytes()]
@@ -83,15 +85,15 @@ fn some(random: &mut Random, count: usize, most: usize) -> Vec<u32> {
     numbers
 }
 
-/// A partial sheet without fault.
-pub fn valid(random: &mut Random) -> Draft {
+/// A partial sheet without fault, perhaps with groups of kinds.
+pub fn valid(random: &mut Random, grouped: bool) -> Draft {
     let mut draft = Draft::new();
     let texts = random.from(5, 14);
     while draft.texts.len() < texts {
         let text = random_text(random);
         draft.text(&text);
     }
-    random_schema(&mut draft, random);
+    random_schema(&mut draft, random, grouped);
     for _ in 0..random.from(0, 6) {
         let ty = random.below(draft.types.len()) as u32;
         value_for(&mut draft, random, ty);
@@ -109,25 +111,25 @@ pub fn valid(random: &mut Random) -> Draft {
     draft
 }
 
-fn random_schema(draft: &mut Draft, random: &mut Random) {
-    let mut letters = vec![false; random.from(1, 3)];
+fn random_schema(draft: &mut Draft, random: &mut Random, grouped: bool) {
+    let mut letters = vec![false; if grouped { random.from(2, 4) } else { random.from(1, 3) }];
     letters.extend(vec![true; random.from(1, 2)]);
     random.shuffle(&mut letters);
     let mut names: Vec<u32> = (0..draft.texts.len() as u32).collect();
     random.shuffle(&mut names);
     draft.kinds = names.into_iter().zip(letters).collect();
     let mut types = vec![TypeRow::Bool, TypeRow::Long, TypeRow::String, TypeRow::Record(Vec::new())];
-    types.extend((0..draft.kinds.len() as u32).map(TypeRow::Entity));
+    types.extend((0..draft.kinds.len() as u32).map(|kind| TypeRow::Entity(vec![kind])));
     random.shuffle(&mut types);
     draft.types = types;
+    if grouped {
+        random_groups(draft, random);
+    }
     for _ in 0..random.from(2, 8) {
         let any = |random: &mut Random, draft: &Draft| random.below(draft.types.len()) as u32;
         let row = match random.below(5) {
             0 => TypeRow::Set(any(random, draft)),
-            1 => {
-                let kind = random.below(draft.kinds.len()) as u32;
-                TypeRow::Set(draft.ty(TypeRow::Entity(kind)))
-            }
+            1 => TypeRow::Set(random.pick(&types_where(draft, |row| matches!(row, TypeRow::Entity(_))))),
             _ => {
                 let texts = some(random, draft.texts.len(), 5);
                 TypeRow::Record(texts.into_iter().map(|t| (t, random.chance(60), any(random, draft))).collect())
@@ -148,16 +150,46 @@ fn random_schema(draft: &mut Draft, random: &mut Random) {
     }
     let records = types_where(draft, |row| matches!(row, TypeRow::Record(_)));
     let empty = draft.ty(TypeRow::Record(Vec::new()));
+    // Kinds of a group that declare the same.
+    let shared = (random.pick(&records), random.below(draft.types.len()) as u32);
     for kind in 0..draft.kinds.len() {
         let above = some(random, draft.kinds.len(), 3);
         let shape = if draft.kinds[kind].1 {
             ShapeRow { attributes: empty, tags: None, above }
         } else {
-            let tags = if random.chance(55) { Some(random.below(draft.types.len()) as u32) } else { None };
-            ShapeRow { attributes: random.pick(&records), tags, above }
+            let as_others = grouped && random.chance(60);
+            let tag = if as_others { shared.1 } else { random.below(draft.types.len()) as u32 };
+            let tags = if random.chance(if as_others { 75 } else { 55 }) { Some(tag) } else { None };
+            ShapeRow { attributes: if as_others { shared.0 } else { random.pick(&records) }, tags, above }
         };
         draft.shapes.push(shape);
     }
+}
+
+/// Types of two kinds or more, each of which has its type alone already; mostly without action kinds.
+fn random_groups(draft: &mut Draft, random: &mut Random) {
+    for _ in 0..random.from(1, 3) {
+        let mut kinds: Vec<u32> = (0..draft.kinds.len() as u32).collect();
+        if random.chance(65) {
+            kinds = kinds_of(draft, false);
+        }
+        random.shuffle(&mut kinds);
+        kinds.truncate(random.from(2, kinds.len()));
+        kinds.sort();
+        draft.ty(TypeRow::Entity(kinds));
+    }
+}
+
+/// The number of an entity of one of some kinds: one that is there, or a new one.
+fn entity_of(draft: &mut Draft, random: &mut Random, kinds: &[u32]) -> u32 {
+    let there: Vec<u32> = (0..draft.values.len() as u32)
+        .filter(|v| matches!(draft.values[*v as usize], ValueRow::Entity(kind, _) if kinds.contains(&kind)))
+        .collect();
+    if !there.is_empty() && random.chance(50) {
+        return random.pick(&there);
+    }
+    let kind = random.pick(kinds);
+    draft.value(ValueRow::Entity(kind, random.below(draft.texts.len()) as u32))
 }
 
 /// The number of a value that fits a type: one that is there, or a new one.
@@ -172,7 +204,7 @@ fn value_for(draft: &mut Draft, random: &mut Random, ty: u32) -> u32 {
         TypeRow::Bool => ValueRow::Bool(random.chance(50)),
         TypeRow::Long => ValueRow::Long(if random.chance(5) { random.next() as i64 } else { random.pick(&LONGS) }),
         TypeRow::String => ValueRow::Text(random.below(draft.texts.len()) as u32),
-        TypeRow::Entity(kind) => ValueRow::Entity(kind, random.below(draft.texts.len()) as u32),
+        TypeRow::Entity(kinds) => ValueRow::Entity(random.pick(&kinds), random.below(draft.texts.len()) as u32),
         TypeRow::Set(element) => {
             let mut items: Vec<u32> = (0..random.from(0, 3)).map(|_| value_for(draft, random, element)).collect();
             items.sort();
@@ -246,9 +278,7 @@ fn fill_entity(draft: &mut Draft, random: &mut Random, kind: u32, row: &mut Enti
         let mut items = Vec::new();
         if !shape.above.is_empty() {
             for _ in 0..random.from(0, 3) {
-                let kind = random.pick(&shape.above);
-                let ty = draft.types.iter().position(|ty| *ty == TypeRow::Entity(kind)).expect("every kind has its type") as u32;
-                items.push(value_for(draft, random, ty));
+                items.push(entity_of(draft, random, &shape.above));
             }
         }
         items.sort();
@@ -263,8 +293,8 @@ fn random_policies(draft: &mut Draft, random: &mut Random, size: usize) {
     let count = random.from(0, 7.min(ids.len()));
     let bool_type = draft.ty(TypeRow::Bool);
     let (templates, shared) = ([0, 30, 80][random.below(3)], [0, 25, 60][random.below(3)]);
-    // The roots so far, each with the types of its slots.
-    let mut roots: Vec<(u32, [Option<u32>; 2])> = Vec::new();
+    // The roots so far, each with the kinds that a value for its slots may have.
+    let mut roots: Vec<(u32, [Option<Vec<u32>>; 2])> = Vec::new();
     for id in ids.into_iter().take(count) {
         let again = if roots.is_empty() || !random.chance(shared) { None } else { Some(random.pick(&roots)) };
         let (node, slots) = match again {
@@ -272,28 +302,33 @@ fn random_policies(draft: &mut Draft, random: &mut Random, size: usize) {
             _ => {
                 let depth = random.from(1, 6);
                 let left = size.saturating_sub(draft.nodes.len());
-                draft.slots = if random.chance(templates) { Some([None; 2]) } else { None };
+                draft.slots = if random.chance(templates) { Some([None, None]) } else { None };
                 let node = tree(draft, random, bool_type, if left == 0 { 0 } else { depth });
-                roots.push((node, draft.slots.take().unwrap_or([None; 2])));
-                roots[roots.len() - 1]
+                roots.push((node, draft.slots.take().unwrap_or([None, None])));
+                roots[roots.len() - 1].clone()
             }
         };
-        if slots != [None; 2] || random.chance(10) {
-            let [principal, resource] = slots.map(|ty| ty.map(|ty| value_for(draft, random, ty)));
+        if slots.iter().any(Option::is_some) || random.chance(10) {
+            let [principal, resource] = slots.map(|kinds| kinds.map(|kinds| entity_of(draft, random, &kinds)));
             draft.links.push(LinkRow { policy: draft.policies.len() as u32, principal, resource });
         }
         draft.policy(id, random.chance(60), node);
     }
 }
 
-/// A slot of an entity type, where a template's tree is made and one of its slots has that type or none yet.
+/// A slot of an entity type, where a template's tree is made and some value fits it beside the slots of its letter so far.
 fn slot(draft: &mut Draft, random: &mut Random, ty: u32) -> Option<u32> {
-    let slots = draft.slots?;
+    draft.slots.as_ref()?;
     let which = random.below(2);
-    if !matches!(draft.types[ty as usize], TypeRow::Entity(_)) || slots[which].is_some_and(|other| other != ty) {
+    let mut kinds = draft.kinds_of(ty).to_vec();
+    let slots = draft.slots.as_mut()?;
+    if let Some(others) = &slots[which] {
+        kinds.retain(|kind| others.contains(kind));
+    }
+    if kinds.is_empty() {
         return None;
     }
-    draft.slots.as_mut()?[which] = Some(ty);
+    slots[which] = Some(kinds);
     Some(draft.node(ty, Operation::Slot(SLOTS[which].1)))
 }
 
@@ -462,27 +497,21 @@ fn leaf(draft: &mut Draft, random: &mut Random, ty: u32) -> u32 {
     }
     let context = draft.context.0;
     if random.chance(45) {
-        let fields = draft.attributes(context).expect("a context is a record");
-        if let Some((t, _, _)) = fields.iter().find(|field| field.2 == ty).copied() {
+        if let Some((t, _)) = draft.attributes(context).into_iter().find(|field| field.1 == ty) {
             let var = draft.node(context, Operation::Var(Variable::Context));
             return draft.node(ty, Operation::Get(var, t));
         }
     }
     let mut variables = Vec::new();
-    match draft.types[ty as usize] {
-        TypeRow::Entity(kind) => {
-            for (variable, other) in [
-                (Variable::Principal, draft.principal.0),
-                (Variable::Action, draft.action.0),
-                (Variable::Resource, draft.resource.0),
-            ] {
-                if kind == other {
-                    variables.push(variable);
-                }
-            }
+    if ty == draft.context.0 {
+        variables.push(Variable::Context);
+    }
+    for (variable, kind) in
+        [(Variable::Principal, draft.principal.0), (Variable::Action, draft.action.0), (Variable::Resource, draft.resource.0)]
+    {
+        if draft.kinds_of(ty) == [kind] {
+            variables.push(variable);
         }
-        _ if ty == draft.context.0 => variables.push(Variable::Context),
-        _ => (),
     }
     if !variables.is_empty() && random.chance(75) {
         let variable = random.pick(&variables);
@@ -496,13 +525,10 @@ fn leaf(draft: &mut Draft, random: &mut Random, ty: u32) -> u32 {
 fn part(draft: &mut Draft, random: &mut Random, ty: u32, depth: usize) -> Option<u32> {
     let mut places: Vec<(u32, Option<u32>)> = Vec::new();
     for holder in 0..draft.types.len() as u32 {
-        if let Some(fields) = draft.attributes(holder) {
-            places.extend(fields.iter().filter(|field| field.2 == ty).map(|field| (holder, Some(field.0))));
-        }
-        if let TypeRow::Entity(kind) = draft.types[holder as usize] {
-            if draft.shapes[kind as usize].tags == Some(ty) {
-                places.push((holder, None));
-            }
+        places.extend(draft.attributes(holder).into_iter().filter(|field| field.1 == ty).map(|field| (holder, Some(field.0))));
+        let kinds = draft.kinds_of(holder);
+        if !kinds.is_empty() && kinds.iter().all(|kind| draft.shapes[*kind as usize].tags == Some(ty)) {
+            places.push((holder, None));
         }
     }
     if places.is_empty() {
@@ -534,9 +560,7 @@ fn near_type(draft: &Draft, random: &mut Random, types: &[u32]) -> u32 {
     let near: Vec<u32> = types
         .iter()
         .copied()
-        .filter(|ty| {
-            *ty == draft.context.0 || matches!(draft.types[*ty as usize], TypeRow::Entity(kind) if request.contains(&kind))
-        })
+        .filter(|ty| *ty == draft.context.0 || draft.kinds_of(*ty).iter().any(|kind| request.contains(kind)))
         .collect();
     if !near.is_empty() && random.chance(70) {
         random.pick(&near)
@@ -545,12 +569,11 @@ fn near_type(draft: &Draft, random: &mut Random, types: &[u32]) -> u32 {
     }
 }
 
-/// A text, more often one that the type declares.
-fn near_text(draft: &Draft, random: &mut Random, ty: Option<u32>) -> u32 {
-    if let Some(fields) = ty.and_then(|ty| draft.attributes(ty)) {
-        if !fields.is_empty() && random.chance(75) {
-            return random.pick(fields).0;
-        }
+/// A text, more often one that one of the types declares.
+fn near_text(draft: &Draft, random: &mut Random, types: &[u32]) -> u32 {
+    let fields: Vec<&(u32, bool, u32)> = types.iter().flat_map(|ty| draft.holders(*ty)).flatten().collect();
+    if !fields.is_empty() && random.chance(75) {
+        return random.pick(&fields).0;
     }
     random.below(draft.texts.len()) as u32
 }
@@ -616,7 +639,7 @@ fn bool_tree(draft: &mut Draft, random: &mut Random, ty: u32, depth: usize) -> u
             let holder = near_type(draft, random, &holders);
             let a = tree(draft, random, holder, below);
             if random.chance(40) {
-                Operation::Has(a, near_text(draft, random, Some(holder)))
+                Operation::Has(a, near_text(draft, random, &[holder]))
             } else {
                 Operation::HasPath(a, random_path(draft, random, holder))
             }
@@ -649,24 +672,24 @@ fn bool_tree(draft: &mut Draft, random: &mut Random, ty: u32, depth: usize) -> u
     draft.node(ty, operation)
 }
 
-/// A path whose steps but the last are typed.
+/// A path whose steps but the last are typed, along all types reached at once.
 fn random_path(draft: &Draft, random: &mut Random, start: u32) -> Vec<u32> {
     let mut path = Vec::new();
-    let mut ty = Some(start);
+    let mut reached = vec![start];
     loop {
-        let text = near_text(draft, random, ty);
+        let text = near_text(draft, random, &reached);
         path.push(text);
         if path.len() == 5 || random.chance(30) {
             return path;
         }
-        if let Some(holder) = ty {
-            let next =
-                draft.attributes(holder).and_then(|fields| fields.iter().find(|field| field.0 == text)).map(|field| field.2);
-            match next {
-                Some(next) if draft.attributes(next).is_none() => return path,
-                next => ty = next,
-            }
+        let fields = reached.iter().flat_map(|ty| draft.holders(*ty));
+        let mut next: Vec<u32> = fields.filter_map(|fields| declaration(fields, text)).collect();
+        if next.iter().any(|ty| draft.holders(*ty).is_empty()) {
+            return path;
         }
+        next.sort();
+        next.dedup();
+        reached = next;
     }
 }
 
@@ -731,7 +754,7 @@ fn garbage(random: &mut Random) -> Vec<u8> {
         let length = if random.chance(5) { random.from(16000, 70000) } else { random.below(300) };
         return (0..length).map(|_| random.next() as u8).collect();
     }
-    let lines: [&[u8]; 15] = [
+    let lines: [&[u8]; 18] = [
         b"sheet=partial",
         b"text=a",
         b"text=b",
@@ -739,6 +762,9 @@ fn garbage(random: &mut Random) -> Vec<u8> {
         b"kind=1,a",
         b"type=bool",
         b"type=record",
+        b"type=entity,0",
+        b"type=entity,1",
+        b"type=entity,0,1",
         b"shape=1,-",
         b"value=bool,0",
         b"principal=0,?",
@@ -826,7 +852,7 @@ fn damage(lines: &mut Vec<Vec<u8>>, random: &mut Random) {
         return;
     }
     let at = random.below(lines.len());
-    match random.below(26) {
+    match random.below(30) {
         0 => {
             lines.remove(at);
         }
@@ -849,6 +875,9 @@ fn damage(lines: &mut Vec<Vec<u8>>, random: &mut Random) {
                 b"node=0,err",
                 b"value=bool,0",
                 b"type=long",
+                b"type=entity",
+                b"type=entity,0,1",
+                b"type=entity,1,0",
                 b"principal=0,0",
                 b"day=2000-01-01",
                 b"node=0,slot,p",
@@ -921,6 +950,22 @@ fn damage(lines: &mut Vec<Vec<u8>>, random: &mut Random) {
                 });
             }
         }
+        25..=28 => {
+            // Another kind on the line of an entity type, one more or one fewer.
+            let entities: Vec<usize> = (0..lines.len()).filter(|at| lines[*at].starts_with(b"type=entity")).collect();
+            if !entities.is_empty() {
+                let line = &mut lines[random.pick(&entities)];
+                match random.below(5) {
+                    0 => replace_item(line, random, |random, _| random.pick(&ITEMS).to_vec()),
+                    1 => {
+                        let end = line.iter().rposition(|byte| *byte == b',').unwrap_or(line.len());
+                        line.truncate(end);
+                    }
+                    2 => line.extend_from_slice(b","),
+                    _ => line.extend_from_slice(format!(",{}", random.below(6)).as_bytes()),
+                }
+            }
+        }
         _ => {
             // The last lines are missing.
             let keep = random.below(lines.len() + 1);
@@ -968,7 +1013,7 @@ fn damaged_draft(mut draft: Draft, random: &mut Random) -> Case {
     if random.chance(30) {
         draft = completion(&draft, random);
     }
-    match random.below(17) {
+    match random.below(22) {
         0 | 1 if !draft.nodes.is_empty() => {
             let n = random.below(draft.nodes.len());
             draft.nodes[n].ty = random.below(draft.types.len()) as u32;
@@ -1007,6 +1052,7 @@ fn damaged_draft(mut draft: Draft, random: &mut Random) -> Case {
         }
         8 | 9 if !draft.policies.is_empty() => damage_terms(&mut draft, random),
         10..=15 if !draft.policies.is_empty() => damage_links(&mut draft, random),
+        16..=20 if !draft.groups().is_empty() => damage_groups(&mut draft, random),
         _ => {
             // A node whose second child is another one.
             for row in &mut draft.nodes {
@@ -1089,6 +1135,42 @@ fn damage_links(draft: &mut Draft, random: &mut Random) {
     }
 }
 
+/// A group in another order, with a repeat, with a kind that is absent or has its line alone later, a group twice; a group of
+/// other kinds, or a node of another entity type.
+fn damage_groups(draft: &mut Draft, random: &mut Random) {
+    let at = random.pick(&draft.groups()) as usize;
+    let mut kinds = draft.kinds_of(at as u32).to_vec();
+    let which = random.below(kinds.len());
+    match random.below(10) {
+        0 => kinds.reverse(),
+        1 => kinds.insert(which, kinds[which]),
+        2 => kinds.push(draft.kinds.len() as u32),
+        3 => {
+            let alone = draft.alone(kinds[which]) as usize;
+            draft.types.swap(alone, at);
+            return;
+        }
+        4 => {
+            draft.types.push(TypeRow::Entity(kinds));
+            return;
+        }
+        5 => {
+            kinds.remove(which);
+        }
+        6 => kinds[which] = random.below(draft.kinds.len()) as u32,
+        _ => {
+            let entities = types_where(draft, |row| matches!(row, TypeRow::Entity(_)));
+            let nodes: Vec<usize> =
+                (0..draft.nodes.len()).filter(|node| !draft.kinds_of(draft.nodes[*node].ty).is_empty()).collect();
+            if !nodes.is_empty() {
+                draft.nodes[random.pick(&nodes)].ty = random.pick(&entities);
+            }
+            return;
+        }
+    }
+    draft.types[at] = TypeRow::Entity(kinds);
+}
+
 // Limits -----------------------------------------------------------------------------------------------------------------
 
 /// A small sheet without policies; types 0 to 3 are bool, the empty record, entity and long.
@@ -1098,7 +1180,7 @@ pub fn small() -> Draft {
         draft.text(text);
     }
     draft.kinds = vec![(0, false), (1, true), (2, false)];
-    draft.types = vec![TypeRow::Bool, TypeRow::Record(Vec::new()), TypeRow::Entity(0), TypeRow::Long];
+    draft.types = vec![TypeRow::Bool, TypeRow::Record(Vec::new()), TypeRow::Entity(vec![0]), TypeRow::Long];
     draft.shapes = vec![ShapeRow { attributes: 1, tags: None, above: vec![0] }; 3];
     draft.principal = (0, None);
     draft.action = (1, 3);
@@ -1134,13 +1216,22 @@ fn chain(draft: &mut Draft, nodes: usize) -> u32 {
     root
 }
 
+/// The type of a principal or resource, whose kinds declare text 3 with these types.
+fn people(draft: &mut Draft, types: [u32; 2]) -> u32 {
+    draft.alone(2);
+    for (kind, ty) in [0, 2].into_iter().zip(types) {
+        draft.shapes[kind].attributes = draft.ty(TypeRow::Record(vec![(3, true, ty)]));
+    }
+    draft.ty(TypeRow::Entity(vec![0, 2]))
+}
+
 /// Sheets at the limits of the table and one step over them.
 pub fn at_limit(random: &mut Random) -> Case {
     let over = random.below(2);
     limit(random.below(LIMITS), over, random)
 }
 
-pub const LIMITS: usize = 27;
+pub const LIMITS: usize = 33;
 
 /// The limit of a number, met (`over` 0) or exceeded by one.
 pub fn limit(which: usize, over: usize, random: &mut Random) -> Case {
@@ -1367,7 +1458,7 @@ pub fn limit(which: usize, over: usize, random: &mut Random) -> Case {
                 row.operation = Operation::Slot(SLOTS[0].1);
             }
             if over == 1 {
-                let tariff = draft.ty(TypeRow::Entity(2));
+                let tariff = draft.alone(2);
                 draft.nodes[1].ty = tariff;
             }
             draft.policy(3, true, root);
@@ -1386,6 +1477,54 @@ pub fn limit(which: usize, over: usize, random: &mut Random) -> Case {
                 let id = draft.text(format!("p{n}").as_bytes());
                 draft.policy(id, n % 2 == 0, root);
             }
+        }
+        26 => {
+            // A group of all 32 kinds, or one of whose kinds has no line alone.
+            while draft.kinds.len() < 32 {
+                let name = draft.text(format!("k{}", draft.kinds.len()).as_bytes());
+                draft.kinds.push((name, false));
+                draft.shapes.push(ShapeRow { attributes: 1, tags: None, above: Vec::new() });
+            }
+            let lacking = if over == 1 { Some(random.from(1, 31) as u32) } else { None };
+            for kind in (0..32).filter(|kind| Some(*kind) != lacking) {
+                draft.alone(kind);
+            }
+            draft.ty(TypeRow::Entity((0..32).collect()));
+        }
+        27 => {
+            // A group in its order, or with a kind twice.
+            draft.alone(2);
+            draft.types.push(TypeRow::Entity(if over == 0 { vec![0, 2] } else { vec![0, 2, 2] }));
+        }
+        28 => {
+            // One group, or the same once more.
+            draft.alone(2);
+            draft.types.extend(vec![TypeRow::Entity(vec![0, 2]); 1 + over]);
+        }
+        29 => {
+            // A literal of a group: of one of its kinds, or of another.
+            let group = people(&mut draft, [0, 0]);
+            let kind = if over == 0 { random.pick(&[0, 2]) } else { 1 };
+            let v = draft.value(ValueRow::Entity(kind, 3));
+            let lit = draft.node(group, Operation::Lit(v));
+            let root = draft.node(0, Operation::Is(lit, 0));
+            draft.policy(3, true, root);
+        }
+        30 => {
+            // An attribute that each kind of a group declares with one type, or with two.
+            let group = people(&mut draft, [0, 3 * over as u32]);
+            let v = draft.value(ValueRow::Entity(0, 3));
+            let lit = draft.node(group, Operation::Lit(v));
+            let root = draft.node(0, Operation::Get(lit, 3));
+            draft.policy(3, true, root);
+        }
+        31 => {
+            // Steps through a group, or where one of its kinds declares the first step as a bool.
+            let group = people(&mut draft, [2, if over == 0 { 1 } else { 0 }]);
+            let v = draft.value(ValueRow::Entity(2, 3));
+            let lit = draft.node(group, Operation::Lit(v));
+            let root = draft.node(0, Operation::HasPath(lit, vec![3, 3]));
+            draft.policy(3, true, root);
         }
         _ => {
             // A pattern with many stars on a text that almost matches.
@@ -1419,6 +1558,29 @@ mod tests {
         for seed in 0..50 {
             for (which, exceeded) in [(21, 4), (22, 4), (23, 4), (24, 7), (25, 0)] {
                 assert_eq!((limited(which, 0, seed), limited(which, 1, seed)), (0, exceeded), "limit {which}, seed {seed}");
+            }
+        }
+    }
+
+    #[test]
+    fn groups_at_their_limits() {
+        for seed in 0..50 {
+            for (which, exceeded) in [(26, 5), (27, 5), (28, 5), (29, 7), (30, 7), (31, 7)] {
+                assert_eq!((limited(which, 0, seed), limited(which, 1, seed)), (0, exceeded), "limit {which}, seed {seed}");
+            }
+        }
+    }
+
+    #[test]
+    fn valid_sheets_with_groups() {
+        for n in 0..2000 {
+            let random = &mut Random::of(3, n);
+            let draft = valid(random, true);
+            assert!(!draft.groups().is_empty());
+            for draft in [completion(&draft, random), draft] {
+                let bytes = draft.bytes();
+                let grouped = crate::sheet::read(draft.mode, &bytes).map(|sheet| sheet.has_groups());
+                assert_eq!(grouped, Ok(true), "sheet {n}");
             }
         }
     }

@@ -35,10 +35,10 @@ fn rules(count: usize) -> Vec<u8> {
     let long = draft.ty(TypeRow::Long);
     let string = draft.ty(TypeRow::String);
     let empty = draft.ty(TypeRow::Record(Vec::new()));
-    let broker = draft.ty(TypeRow::Entity(0));
-    draft.ty(TypeRow::Entity(1));
-    let tariff = draft.ty(TypeRow::Entity(2));
-    let region = draft.ty(TypeRow::Entity(3));
+    let broker = draft.alone(0);
+    draft.alone(1);
+    let tariff = draft.alone(2);
+    let region = draft.alone(3);
     let regions = draft.ty(TypeRow::Set(region));
     let longs = draft.ty(TypeRow::Set(long));
     let person = draft.ty(TypeRow::Record(vec![(t[8], true, long), (t[9], false, region), (t[11], true, string)]));
@@ -119,7 +119,7 @@ fn rules(count: usize) -> Vec<u8> {
 
 /// Random valid sheets, as in the comparison.
 pub fn mixed(seed: u64, n: u64) -> Vec<u8> {
-    valid(&mut Random::of(seed, n)).bytes()
+    valid(&mut Random::of(seed, n), false).bytes()
 }
 
 /// The heavy sheets, each with its name.
@@ -153,6 +153,10 @@ pub fn all() -> Vec<(&'static str, Mode, Vec<u8>)> {
     add("64 policies over one root, made values among many", shared_made());
     add("64 policies over one root, any on long sets", shared_sets());
     add("64 policies over one root, get in a long record", shared_gets());
+    add("haspath of 2,000 steps, 32 kinds that declare the group of all", steps_in_one_group());
+    add("haspath over many steps, each kind declares a group of its own", steps_in_groups());
+    add("in of two groups, no pair allowed", pairs_of_kinds());
+    add("get in a group of 31 kinds with a long record", get_in_group());
     add("complete: 64 policies over one root with long patterns", completed(shared_root(Long::Patterns, true)));
     add("complete: 64 policies over one root with long paths", completed(shared_root(Long::Paths, true)));
     add("complete: 64 policies over one root of 16 nodes, both slots linked", completed(linked()));
@@ -467,7 +471,7 @@ fn long_sets(two: Two) -> Draft {
 
 fn ancestors() -> Draft {
     let mut draft = small();
-    draft.ty(TypeRow::Entity(0));
+    draft.alone(0);
     let set = draft.ty(TypeRow::Set(2));
     let count = 220u32;
     let entities: Vec<u32> = (0..count)
@@ -707,7 +711,7 @@ fn shared_gets() -> Draft {
 /// 64 policies over one root of 16 nodes with slots of both letters, each policy with a link of its own.
 fn linked() -> Draft {
     let mut draft = small();
-    let tariff = draft.ty(TypeRow::Entity(2));
+    let tariff = draft.alone(2);
     let mut equal = |ty: u32, variable: Variable, slot: Slot| {
         let var = draft.node(ty, Operation::Var(variable));
         let slot = draft.node(ty, Operation::Slot(slot));
@@ -730,6 +734,92 @@ fn linked() -> Draft {
     draft
 }
 
+/// 32 kinds, each with its type alone, all but the action's ordinary.
+fn many_kinds() -> Draft {
+    let mut draft = small();
+    for n in 3..32 {
+        let name = draft.text(format!("k{n}").as_bytes());
+        draft.kinds.push((name, false));
+        draft.shapes.push(ShapeRow { attributes: 1, tags: None, above: Vec::new() });
+    }
+    for kind in 0..32 {
+        draft.alone(kind);
+        draft.shapes[kind as usize].above.clear();
+    }
+    draft
+}
+
+/// The kinds that may declare attributes.
+fn ordinary_kinds() -> impl Iterator<Item = u32> {
+    (0..32).filter(|kind| *kind != 1)
+}
+
+/// One haspath of so many steps of text 3 over an entity of a type.
+fn steps(draft: &mut Draft, ty: u32, count: usize) {
+    let v = draft.value(ValueRow::Entity(0, 3));
+    let lit = draft.node(ty, Operation::Lit(v));
+    let root = draft.node(0, Operation::HasPath(lit, vec![3; count]));
+    draft.policy(3, true, root);
+}
+
+fn steps_in_one_group() -> Draft {
+    let mut draft = many_kinds();
+    let all = draft.ty(TypeRow::Entity((0..32).collect()));
+    let record = draft.ty(TypeRow::Record(vec![(3, false, all)]));
+    for kind in ordinary_kinds() {
+        draft.shapes[kind as usize].attributes = record;
+    }
+    steps(&mut draft, all, 2000);
+    draft
+}
+
+/// Each kind declares the group of all kinds but its own, so that 31 groups of 31 kinds are reached at each step.
+fn steps_in_groups() -> Draft {
+    let mut draft = many_kinds();
+    let mut last = 0;
+    for kind in ordinary_kinds() {
+        last = draft.ty(TypeRow::Entity((0..32).filter(|other| *other != kind).collect()));
+        draft.shapes[kind as usize].attributes = draft.ty(TypeRow::Record(vec![(3, false, last)]));
+    }
+    greatest(|count| {
+        let mut next = draft.clone();
+        steps(&mut next, last, 40 * count);
+        next
+    })
+}
+
+/// The kinds of the left group stand above each other, and none of the right group above any of them.
+fn pairs_of_kinds() -> Draft {
+    let mut draft = many_kinds();
+    let (left, right): (Vec<u32>, Vec<u32>) = (0..32).partition(|kind| *kind < 21);
+    for kind in &left {
+        draft.shapes[*kind as usize].above = left.clone();
+    }
+    let [low, high] = [left[0], right[0]].map(|kind| draft.value(ValueRow::Entity(kind, 3)));
+    let [left, right] = [left, right].map(|kinds| draft.ty(TypeRow::Entity(kinds)));
+    repeated(draft, Two::Or, |draft, _| {
+        let x = draft.node(left, Operation::Lit(low));
+        let y = draft.node(right, Operation::Lit(high));
+        draft.node(0, Operation::Two(Two::In, x, y))
+    })
+}
+
+fn get_in_group() -> Draft {
+    let mut draft = many_kinds();
+    let texts: Vec<u32> = (0..350).map(|n| draft.text(format!("{n}").as_bytes())).collect();
+    let record = draft.ty(TypeRow::Record(texts.iter().map(|t| (*t, false, 0)).collect()));
+    for kind in ordinary_kinds() {
+        draft.shapes[kind as usize].attributes = record;
+    }
+    let group = draft.ty(TypeRow::Entity(ordinary_kinds().collect()));
+    let v = draft.value(ValueRow::Entity(0, 3));
+    let last = *texts.last().expect("texts");
+    repeated(draft, Two::And, |draft, _| {
+        let lit = draft.node(group, Operation::Lit(v));
+        draft.node(0, Operation::Get(lit, last))
+    })
+}
+
 #[cfg(test)]
 mod tests {
     use super::*;
@@ -744,7 +834,7 @@ mod tests {
             let draft = shared_root(long, false);
             assert_eq!((draft.policies.len(), draft.uses()), (64, 1024));
             let answer = run::answer(draft.mode, &draft.bytes()).expect("the sheet is accepted");
-            assert!(answer.len() > 900_000);
+            assert!(answer.is_some_and(|answer| answer.len() > 900_000));
         }
     }
 

@@ -1,4 +1,5 @@
-//! The fixed list: some hundreds of sheets with the original's answers, for a program that replays them without Rust.
+//! The fixed list: some hundreds of sheets with the original's answers, for a program that replays them without Rust. Sheets with
+//! groups of kinds are among those that are refused; the original is not asked for their answers.
 //!
 //! The first line holds the number of records. A record is a line of six decimal numbers,
 //!
@@ -22,8 +23,17 @@ const LONGEST: usize = 2500;
 
 struct List {
     records: usize,
+    grouped: usize,
     numbers: [usize; 11],
     bytes: Vec<u8>,
+}
+
+/// Whether a line lists two kinds or more.
+fn has_group(sheet: &[u8]) -> bool {
+    sheet.split(|byte| *byte == b'\n').any(|line| {
+        let kinds = line.strip_prefix(b"type=entity,").unwrap_or_default();
+        kinds.contains(&b',')
+    })
 }
 
 impl List {
@@ -39,18 +49,21 @@ impl List {
             self.bytes.extend_from_slice(&out[..length as usize]);
         }
         self.records += 1;
+        self.grouped += usize::from(has_group(&case.bytes));
         self.numbers[number as usize] += 1;
     }
 }
 
 /// The bytes of the list, and a line about it.
 pub fn list() -> (Vec<u8>, String) {
-    let mut list = List { records: 0, numbers: [0; 11], bytes: Vec::new() };
+    let mut list = List { records: 0, grouped: 0, numbers: [0; 11], bytes: Vec::new() };
     // The limits, each met and exceeded.
     for which in 0..generate::LIMITS {
         for over in 0..2 {
             let case = generate::limit(which, over, &mut Random::of(SEED, which as u64));
-            list.add(&case, 65536);
+            if run::answer(case.mode, &case.bytes) != Ok(None) {
+                list.add(&case, 65536);
+            }
         }
     }
     let mut taken = [0; 11];
@@ -59,10 +72,10 @@ pub fn list() -> (Vec<u8>, String) {
         let case = generate::sheet(SEED, n);
         let random = &mut Random::of(!SEED, n);
         n += 1;
-        let answer = run::answer(case.mode, &case.bytes);
-        let (number, buffer) = match &answer {
-            Ok(answer) if random.chance(20) => (10, random.pick(&[0, answer.len() - 1, answer.len() / 2])),
-            Ok(answer) => (0, random.pick(&[answer.len(), answer.len() + 1, 65536])),
+        let (number, buffer) = match run::answer(case.mode, &case.bytes) {
+            Ok(None) => continue,
+            Ok(Some(answer)) if random.chance(20) => (10, random.pick(&[0, answer.len() - 1, answer.len() / 2])),
+            Ok(Some(answer)) => (0, random.pick(&[answer.len(), answer.len() + 1, 65536])),
             Err(refusal) => (refusal.number as usize, random.pick(&[0, 1, 4096])),
         };
         if taken[number] < WANTED[number] && (number == 2 || case.bytes.len() <= LONGEST) {
@@ -73,7 +86,8 @@ pub fn list() -> (Vec<u8>, String) {
     let about: Vec<String> = list.numbers.iter().enumerate().map(|(n, count)| format!("{n}:{count}")).collect();
     let mut bytes = format!("{}\n", list.records).into_bytes();
     bytes.extend_from_slice(&list.bytes);
-    let line = format!("{} records, {} bytes; numbers {}", list.records, bytes.len(), about.join(" "));
+    let line =
+        format!("{} records, {} bytes; numbers {}; {} with groups", list.records, bytes.len(), about.join(" "), list.grouped);
     (bytes, line)
 }
 

@@ -38,9 +38,13 @@ pub struct Ground {
     heavy: bool,
 }
 
-/// The answer of a call that is lent long enough slices and buffers, or its refusal.
-pub fn answer(mode: Mode, bytes: &[u8]) -> Result<Vec<u8>, Refusal> {
+/// The answer of a call that is lent long enough slices and buffers, or its refusal. None where the sheet is accepted and has
+/// groups of kinds: "Equality with the Rust keeps to sheets without groups", and the original is not asked.
+pub fn answer(mode: Mode, bytes: &[u8]) -> Result<Option<Vec<u8>>, Refusal> {
     let sheet = sheet::read(mode, bytes)?;
+    if sheet.has_groups() {
+        return Ok(None);
+    }
     let ground = Ground::of(&sheet);
     let text = match mode {
         Mode::Partial => partial_answer(&sheet, &ground),
@@ -48,17 +52,28 @@ pub fn answer(mode: Mode, bytes: &[u8]) -> Result<Vec<u8>, Refusal> {
     };
     assert!(rows::count() <= rows::GREATEST_VALUES, "1,024 given and 1,024 made always fit");
     assert!(text.len() <= ANSWER_BYTES, "no answer is longer");
-    Ok(text.into_bytes())
+    Ok(Some(text.into_bytes()))
 }
 
-/// A whole call, as document 01 says of what is lent: returns number, line and length.
+/// A whole call, as document 01 says of what is lent: returns number, line and length. Where the original is not asked, the answer
+/// is empty.
 pub fn call(mode: Mode, bytes: &[u8], work_a: &mut [u32], work_b: &mut [u32], out: &mut [u8]) -> [u32; 3] {
+    left(|| answer(mode, bytes).map(Option::unwrap_or_default), work_a, work_b, out)
+}
+
+/// What a call with an answer or refusal leaves in what it is lent, and what it returns.
+pub fn left(
+    answer: impl FnOnce() -> Result<Vec<u8>, Refusal>,
+    work_a: &mut [u32],
+    work_b: &mut [u32],
+    out: &mut [u8],
+) -> [u32; 3] {
     if work_a.len() < WORK_WORDS || work_b.len() < WORK_WORDS {
         return [1, 0, 0];
     }
     work_a[..WORK_WORDS].fill(0);
     work_b[..WORK_WORDS].fill(0);
-    match answer(mode, bytes) {
+    match answer() {
         Err(refusal) => [refusal.number, refusal.line, refusal.length],
         Ok(text) if text.len() > out.len() => [10, 0, text.len() as u32],
         Ok(text) => {
@@ -86,7 +101,10 @@ impl Ground {
                 TypeRow::Bool => Type::Bool,
                 TypeRow::Long => Type::Long,
                 TypeRow::String => Type::String,
-                TypeRow::Entity(kind) => Type::Entity(Lub(EntityType(*kind))),
+                TypeRow::Entity(kinds) => match kinds[..] {
+                    [kind] => Type::Entity(Lub(EntityType(kind))),
+                    _ => unreachable!("a sheet with groups is not handed to the original"),
+                },
                 TypeRow::Set(element) => Type::Set { row, element: Arc::new(types[*element as usize].clone()) },
                 TypeRow::Record(fields) => Type::Record { row, attributes: names(fields) },
             });

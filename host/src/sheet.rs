@@ -3,7 +3,7 @@
 //! Each line goes through the checks in the order of their numbers: form (3), too many (4), references (5), depth (6),
 //! typing (7), uses (8). The first faulty line ends the reading.
 
-use std::collections::{HashMap, HashSet};
+use std::collections::{BTreeSet, HashMap, HashSet};
 
 pub const SHEET_BYTES: usize = 16384;
 pub const WORK_WORDS: usize = 16384;
@@ -81,7 +81,8 @@ pub enum TypeRow {
     Bool,
     Long,
     String,
-    Entity(u32),
+    /// The kinds of a group, ascending; mostly one.
+    Entity(Vec<u32>),
     Set(u32),
     /// Attributes: text, whether required, type.
     Record(Vec<(u32, bool, u32)>),
@@ -459,7 +460,7 @@ fn form_type(items: &[&[u8]]) -> Option<TypeRow> {
         (b"bool", 0) => Some(TypeRow::Bool),
         (b"long", 0) => Some(TypeRow::Long),
         (b"string", 0) => Some(TypeRow::String),
-        (b"entity", 1) => index(rest[0]).map(TypeRow::Entity),
+        (b"entity", n) if n >= 1 => indices(rest).map(TypeRow::Entity),
         (b"set", 1) => index(rest[0]).map(TypeRow::Set),
         (b"record", n) if n % 3 == 0 => {
             let field = |group: &[&[u8]]| {
@@ -689,7 +690,13 @@ impl<'a> Reader<'a> {
             Row::Kind(name, _) => text(*name) && sheet.kinds.iter().all(|(other, _)| other != name),
             Row::Type(row) => {
                 let there = match row {
-                    TypeRow::Entity(n) => kind(*n),
+                    TypeRow::Entity(kinds) => {
+                        // "Each kind so grouped needs a type line alone, earlier"
+                        let alone = |n: &u32| self.type_places.contains(&TypeRow::Entity(vec![*n]));
+                        kinds.iter().all(|n| kind(*n))
+                            && ascending(kinds.iter().copied())
+                            && (kinds.len() == 1 || kinds.iter().all(alone))
+                    }
                     TypeRow::Set(n) => ty(*n),
                     TypeRow::Record(fields) => {
                         fields.iter().all(|(t, _, n)| text(*t) && ty(*n)) && ascending(fields.iter().map(|field| field.0))
@@ -789,7 +796,7 @@ impl<'a> Reader<'a> {
             (ValueRow::Bool(_), TypeRow::Bool) => true,
             (ValueRow::Long(_), TypeRow::Long) => true,
             (ValueRow::Text(_), TypeRow::String) => true,
-            (ValueRow::Entity(kind, _), TypeRow::Entity(wanted)) => kind == wanted,
+            (ValueRow::Entity(kind, _), TypeRow::Entity(kinds)) => kinds.contains(&kind),
             (ValueRow::Set(items), TypeRow::Set(element)) => items.iter().all(|v| self.fits(*v, element)),
             (ValueRow::Record(fields), TypeRow::Record(declared)) => {
                 required_there(&declared, &fields)
@@ -871,11 +878,11 @@ impl<'a> Reader<'a> {
         let is_bool = *own == TypeRow::Bool;
         match &node.operation {
             Operation::Lit(_) | Operation::Err => true,
-            Operation::Slot(_) => kind_of(own).is_some(),
+            Operation::Slot(_) => kinds_of(own).is_some(),
             Operation::Var(variable) => match variable {
-                Variable::Principal => *own == TypeRow::Entity(sheet.principal.0),
-                Variable::Action => *own == TypeRow::Entity(sheet.action.0),
-                Variable::Resource => *own == TypeRow::Entity(sheet.resource.0),
+                Variable::Principal => *own == TypeRow::Entity(vec![sheet.principal.0]),
+                Variable::Action => *own == TypeRow::Entity(vec![sheet.action.0]),
+                Variable::Resource => *own == TypeRow::Entity(vec![sheet.resource.0]),
                 Variable::Context => node.ty == sheet.context.0,
             },
             Operation::Two(two, a, b) => {
@@ -884,12 +891,16 @@ impl<'a> Reader<'a> {
                 let string = *right == TypeRow::String;
                 match two {
                     Two::And | Two::Or => is_bool && *left == TypeRow::Bool && *right == TypeRow::Bool,
-                    Two::Eq => is_bool && (left == right || (kind_of(left).is_some() && kind_of(right).is_some())),
+                    Two::Eq => is_bool && (left == right || (kinds_of(left).is_some() && kinds_of(right).is_some())),
                     Two::Lt | Two::Le => is_bool && longs,
                     Two::Add | Two::Sub | Two::Mul => *own == TypeRow::Long && longs,
-                    Two::In => is_bool && kind_of(left).is_some() && sheet.entities_kind(right).is_some(),
-                    Two::GetTag => string && kind_of(left).is_some_and(|kind| sheet.shapes[kind as usize].tags == Some(node.ty)),
-                    Two::HasTag => is_bool && string && kind_of(left).is_some(),
+                    Two::In => is_bool && kinds_of(left).is_some() && sheet.entities_kinds(right).is_some(),
+                    // "`get` and `gettag` need the same declared type in every kind."
+                    Two::GetTag => {
+                        let same = |kind: &u32| sheet.shapes[*kind as usize].tags == Some(node.ty);
+                        string && kinds_of(left).is_some_and(|kinds| kinds.iter().all(same))
+                    }
+                    Two::HasTag => is_bool && string && kinds_of(left).is_some(),
                     Two::Contains => is_bool && *left == TypeRow::Set(number(*b)),
                     Two::All | Two::Any => is_bool && matches!(left, TypeRow::Set(_)) && left == right,
                 }
@@ -900,11 +911,14 @@ impl<'a> Reader<'a> {
             Operation::If(test, then, other) => {
                 *of(*test) == TypeRow::Bool && number(*then) == node.ty && number(*other) == node.ty
             }
-            Operation::Is(a, _) => is_bool && kind_of(of(*a)).is_some(),
+            Operation::Is(a, _) => is_bool && kinds_of(of(*a)).is_some(),
             Operation::Like(a, _) => is_bool && *of(*a) == TypeRow::String,
-            Operation::Get(a, t) => sheet.attributes(of(*a)).is_some_and(|fields| declaration(fields, *t) == Some(node.ty)),
-            Operation::Has(a, _) => is_bool && sheet.attributes(of(*a)).is_some(),
-            Operation::HasPath(a, path) => is_bool && sheet.path_typed(of(*a), path),
+            Operation::Get(a, t) => {
+                let same = |fields: &&[(u32, bool, u32)]| declaration(fields, *t) == Some(node.ty);
+                sheet.holders(of(*a)).is_some_and(|holders| holders.iter().all(same))
+            }
+            Operation::Has(a, _) => is_bool && sheet.holders(of(*a)).is_some(),
+            Operation::HasPath(a, path) => is_bool && sheet.path_typed(number(*a), path),
             Operation::Set(items) => match own {
                 TypeRow::Set(element) => items.iter().all(|n| number(*n) == *element),
                 _ => false,
@@ -967,9 +981,9 @@ impl<'a> Reader<'a> {
     }
 }
 
-fn kind_of(row: &TypeRow) -> Option<u32> {
+fn kinds_of(row: &TypeRow) -> Option<&[u32]> {
     match row {
-        TypeRow::Entity(kind) => Some(*kind),
+        TypeRow::Entity(kinds) => Some(kinds),
         _ => None,
     }
 }
@@ -1012,41 +1026,47 @@ impl Sheet<'_> {
         (0..).zip(&self.policies).position(unlinked)
     }
 
-    /// The declared attributes of a record or entity type.
-    pub fn attributes<'s>(&'s self, row: &'s TypeRow) -> Option<&'s [(u32, bool, u32)]> {
-        match row {
-            TypeRow::Record(fields) => Some(fields),
-            TypeRow::Entity(kind) => match &self.types[self.shapes[*kind as usize].attributes as usize] {
-                TypeRow::Record(fields) => Some(fields),
-                _ => None,
-            },
+    /// Whether a type line lists two kinds or more.
+    pub fn has_groups(&self) -> bool {
+        self.types.iter().any(|row| kinds_of(row).is_some_and(|kinds| kinds.len() > 1))
+    }
+
+    /// The declared attributes of a record type, or of each kind of an entity type.
+    fn holders<'s>(&'s self, row: &'s TypeRow) -> Option<Vec<&'s [(u32, bool, u32)]>> {
+        let fields = |row: &'s TypeRow| match row {
+            TypeRow::Record(fields) => Some(&fields[..]),
             _ => None,
-        }
-    }
-
-    /// The kind of an entity type or of a set of entities.
-    fn entities_kind(&self, row: &TypeRow) -> Option<u32> {
-        match row {
-            TypeRow::Set(element) => kind_of(&self.types[*element as usize]),
-            _ => kind_of(row),
-        }
-    }
-
-    /// "each step but the last being one while declared, and free after an undeclared step"
-    fn path_typed(&self, start: &TypeRow, path: &[u32]) -> bool {
-        let Some(mut fields) = self.attributes(start) else {
-            return false;
         };
-        for text in &path[..path.len() - 1] {
-            let Some(ty) = declaration(fields, *text) else {
-                return true;
-            };
-            match self.attributes(&self.types[ty as usize]) {
-                Some(next) => fields = next,
-                None => return false,
-            }
+        let of_kind = |kind: &u32| fields(&self.types[self.shapes[*kind as usize].attributes as usize]);
+        match row {
+            TypeRow::Entity(kinds) => kinds.iter().map(of_kind).collect(),
+            _ => fields(row).map(|fields| vec![fields]),
         }
-        true
+    }
+
+    /// The kinds of an entity type or of a set of entities.
+    fn entities_kinds<'s>(&'s self, row: &'s TypeRow) -> Option<&'s [u32]> {
+        match row {
+            TypeRow::Set(element) => kinds_of(&self.types[*element as usize]),
+            _ => kinds_of(row),
+        }
+    }
+
+    /// "A `haspath` step before the last must be an entity or record in each kind or record reached that declares it." What is
+    /// reached is a set of types, so that no way is followed twice.
+    fn path_typed(&self, start: u32, path: &[u32]) -> bool {
+        let mut reached = BTreeSet::from([start]);
+        for text in &path[..path.len() - 1] {
+            let mut next = BTreeSet::new();
+            for ty in reached {
+                let Some(holders) = self.holders(&self.types[ty as usize]) else {
+                    return false;
+                };
+                next.extend(holders.into_iter().filter_map(|fields| declaration(fields, *text)));
+            }
+            reached = next;
+        }
+        reached.into_iter().all(|ty| self.holders(&self.types[ty as usize]).is_some())
     }
 }
 
@@ -1054,15 +1074,104 @@ impl Sheet<'_> {
 mod tests {
     use super::*;
 
-    /// What a sheet with some nodes and the lines after them gets; `/` is a line end. Kinds and types 0 and 2 are the principal's
-    /// and the resource's, type 4 is bool; values 0 and 1 are a principal and a resource, 2 is true. Lines are counted from the first node.
-    fn refused(lines: &str) -> (u32, u32) {
-        let head = "sheet=partial/text=Broker/text=Action/text=Tariff/text=q/kind=0,e/kind=1,a/kind=2,e/type=entity,0/type=entity,1/\
-                    type=entity,2/type=record/type=bool/shape=3,-/shape=3,-/shape=3,-/value=entity,0,3/value=entity,2,3/value=bool,1/\
-                    principal=0,?/action=1,3/resource=2,?/context=3,?/day=2000-01-01/";
+    /// The first lines of a sheet, `/` is a line end. Kinds and types 0 and 2 are the principal's and the resource's, type 4 is bool.
+    const TYPES: &str = "sheet=partial/text=Broker/text=Action/text=Tariff/text=q/kind=0,e/kind=1,a/kind=2,e/type=entity,0/\
+                         type=entity,1/type=entity,2/type=record/type=bool/";
+
+    /// Values 0 and 1 are a principal and a resource, 2 is true.
+    const REQUEST: &str = "value=entity,0,3/value=entity,2,3/value=bool,1/principal=0,?/action=1,3/resource=2,?/context=3,?/\
+                           day=2000-01-01/";
+
+    /// What a sheet with these lines after its first gets; lines are counted from there.
+    fn refused_after(head: &str, lines: &str) -> (u32, u32) {
         let bytes = format!("{head}{lines}").replace('/', "\n").into_bytes();
         let before = head.matches('/').count() as u32;
         read(Mode::Partial, &bytes).map_or_else(|refusal| (refusal.number, refusal.line - before), |_| (0, 0))
+    }
+
+    /// The same of some nodes and the lines after them.
+    fn refused(lines: &str) -> (u32, u32) {
+        refused_after(&format!("{TYPES}shape=3,-/shape=3,-/shape=3,-/{REQUEST}"), lines)
+    }
+
+    #[test]
+    fn groups() {
+        let rest = format!("shape=3,-/shape=3,-/shape=3,-/{REQUEST}");
+        for (types, wanted) in [
+            ("type=entity,0,2/", (0, 0)),
+            ("type=entity,0,1,2/", (0, 0)),
+            ("type=entity/", (3, 1)),
+            ("type=entity,/", (3, 1)),
+            ("type=entity,0,,2/", (3, 1)),
+            ("type=entity,0,2,/", (3, 1)),
+            ("type=entity,0,?/", (3, 1)),
+            ("type=entity,2,0/", (5, 1)),
+            ("type=entity,0,0/", (5, 1)),
+            ("type=entity,0,2,2/", (5, 1)),
+            ("type=entity,0,3/", (5, 1)),
+            ("type=entity,0,2/type=entity,0,1/type=entity,0,2/", (5, 3)),
+            ("type=entity,0/", (5, 1)),
+        ] {
+            assert_eq!(refused_after(TYPES, &format!("{types}{rest}")), wanted, "{types}");
+        }
+        // The line alone of a kind comes after the group, or not at all.
+        let head = TYPES.replace("type=entity,2/", "");
+        assert_eq!(refused_after(&head, "type=entity,0,2/type=entity,2/"), (5, 1));
+        assert_eq!(refused_after(&head, "type=entity,2/type=entity,0,2/shape=0,-/"), (7, 3));
+    }
+
+    #[test]
+    fn typing_over_groups() {
+        // Types 5 and 6 are a principal or resource and a resource or action; 7 to 9 are records of text 0: bool, the principal or
+        // resource, the resource. A principal declares it as 8 and has tags of type 5, a resource as 9 and none; an action as nothing.
+        let types =
+            "type=entity,0,2/type=entity,1,2/type=record,0,r,4/type=record,0,r,5/type=record,0,r,2/type=string/type=set,5/";
+        let with = |first: &str, second: &str| format!("{TYPES}{types}shape={first}/shape=3,-/shape={second}/{REQUEST}");
+        let head = with("8,5", "9,-");
+        for (lines, wanted) in [
+            ("node=5,lit,0/node=5,lit,1/node=4,eq,0,1/policy=0,permit,2/", (0, 0)),
+            ("node=5,lit,2/", (7, 1)),
+            ("node=6,lit,0/", (7, 1)),
+            ("node=6,lit,1/node=2,lit,1/node=4,eq,0,1/policy=0,permit,2/", (0, 0)),
+            ("node=5,var,p/", (7, 1)),
+            ("node=5,slot,p/node=0,slot,p/node=4,eq,0,1/policy=0,permit,2/link=0,0,-/", (0, 0)),
+            ("node=5,slot,p/node=0,slot,p/node=4,eq,0,1/policy=0,permit,2/link=0,1,-/", (7, 5)),
+            ("node=4,err/node=5,lit,0/node=0,lit,0/node=5,if,0,1,2/", (7, 4)),
+            ("node=5,lit,0/node=0,lit,0/node=11,set,0,1/", (7, 3)),
+            ("node=5,lit,0/node=11,err/node=4,in,0,1/policy=0,permit,2/", (0, 0)),
+            ("node=11,err/node=0,lit,0/node=4,contains,0,1/", (7, 3)),
+            ("node=5,lit,0/node=4,is,0,1/policy=0,permit,1/", (0, 0)),
+            ("node=5,lit,0/node=4,has,0,3/policy=0,permit,1/", (0, 0)),
+            ("node=5,lit,0/node=5,get,0,0/", (7, 2)),
+            ("node=0,lit,0/node=5,get,0,0/node=4,is,1,0/policy=0,permit,2/", (0, 0)),
+            ("node=5,lit,0/node=10,err/node=4,hastag,0,1/policy=0,permit,2/", (0, 0)),
+            ("node=5,lit,0/node=10,err/node=5,gettag,0,1/", (7, 3)),
+            ("node=0,lit,0/node=10,err/node=5,gettag,0,1/node=4,is,2,0/policy=0,permit,3/", (0, 0)),
+            ("node=5,lit,0/node=4,haspath,0,0,0,0,3,0/policy=0,permit,1/", (0, 0)),
+            ("node=4,err/node=4,haspath,0,0/", (7, 2)),
+        ] {
+            assert_eq!(refused_after(&head, lines), wanted, "{lines}");
+        }
+        // Where a resource declares text 0 as a bool, no step goes on from there.
+        let head = with("8,5", "7,-");
+        for (lines, wanted) in [
+            ("node=5,lit,0/node=4,haspath,0,0/policy=0,permit,1/", (0, 0)),
+            ("node=5,lit,0/node=4,haspath,0,0,0/", (7, 2)),
+            ("node=0,lit,0/node=4,haspath,0,0,0/policy=0,permit,1/", (0, 0)),
+            ("node=0,lit,0/node=4,haspath,0,0,0,0/", (7, 2)),
+            ("node=6,lit,1/node=4,haspath,0,3,0,0/policy=0,permit,1/", (0, 0)),
+        ] {
+            assert_eq!(refused_after(&head, lines), wanted, "{lines}");
+        }
+        // The same declared type in every kind, in one required and in the other not, and the same tags.
+        let types = "type=entity,0,2/type=record,0,r,5/type=record,0,o,5/type=string/";
+        let head = format!("{TYPES}{types}shape=6,5/shape=3,-/shape=7,5/{REQUEST}");
+        for lines in [
+            "node=5,lit,0/node=5,get,0,0/node=4,is,1,0/policy=0,permit,2/",
+            "node=5,lit,0/node=8,err/node=5,gettag,0,1/node=4,is,2,0/policy=0,permit,3/",
+        ] {
+            assert_eq!(refused_after(&head, lines), (0, 0), "{lines}");
+        }
     }
 
     #[test]

@@ -111,7 +111,7 @@ impl Refusal {
             2 => "the sheet has over 16,384 bytes",
             3 => "form, length, range, key, key order or item count wrong, no such day, `?` misplaced, or a line missing",
             4 => "one line too many of a key, or over 1,024 node uses",
-            5 => "a reference is absent, or a repeat, or wrong order, or a term's last day before its first, or a slot without its value",
+            5 => "a reference is absent, or a repeat, or wrong order, or a grouped kind without its type line, or a term's last day before its first, or a slot without its value",
             6 => "depth over 64",
             7 => "typing, request kind or shape, or a link's value that does not fit its slot",
             8 => "a node is used twice or never",

@@ -100,6 +100,38 @@ fn templates() {
     assert_eq!(evaluator.partial(used.as_bytes()), refused(8, 31, 0));
 }
 
+#[test]
+fn groups() {
+    let mut evaluator = Evaluator::new();
+    let with = |lines: &str| SHEET.replace("type=entity,0\n", &format!("type=entity,0\n{lines}"));
+    for (line, number) in [
+        ("type=entity\n", 3),
+        ("type=entity,\n", 3),
+        ("type=entity,0\n", 5),
+        ("type=entity,0,0\n", 5),
+        ("type=entity,0,3\n", 5),
+        ("type=entity,0,2\n", 5),
+    ] {
+        assert_eq!(evaluator.partial(with(line).as_bytes()), refused(number, 16, 0), "{line}");
+    }
+    // type 4 is a broker or a tariff; each kind has its line alone before
+    let grouped = with("type=entity,2\ntype=entity,0,2\n");
+    assert_eq!(evaluator.partial(grouped.as_bytes()), Outcome::Answer(ANSWER));
+    assert_eq!(evaluator.partial(with("type=entity,2\ntype=entity,2,0\n").as_bytes()), refused(5, 17, 0));
+    assert_eq!(evaluator.partial(grouped.replace("node=2,var,p", "node=4,var,p").as_bytes()), refused(7, 28, 0));
+    // an entity fits a group that its kind is in, and keeps the group's type; of which kind it is, it says itself
+    let other = grouped.replace("node=2,lit,0", "node=4,lit,0");
+    let open = ANSWER.replace("node=2,lit,0", "node=4,lit,0");
+    assert_eq!(evaluator.partial(other.as_bytes()), Outcome::Answer(&open));
+    let head = &grouped[..grouped.find("node=").expect("nodes")];
+    let is = |kind: usize| format!("{head}node=4,lit,0\nnode=0,is,0,{kind}\npolicy=5,permit,1\n");
+    let yes = "decision=allow\ncounts=1,0,0,0,0,0,0,0\nnode=0,lit,1\npolicy=5,permit,true,0\n";
+    let no = "decision=deny\ncounts=0,1,0,0,0,0,0,0\nvalue=bool,0\nnode=0,lit,2\npolicy=5,permit,false,0\n";
+    for (kind, answer) in [(0, yes), (1, no), (2, no)] {
+        assert_eq!(evaluator.partial(is(kind).as_bytes()), Outcome::Answer(answer), "{kind}");
+    }
+}
+
 /// 64 policies over one root of so many nodes: a comparison of the broker's name with a pattern of so many `*`, and `not`.
 fn many(nodes: usize, stars: usize) -> String {
     let ids: String = (0..64).map(|n| format!("text=p{n}\n")).collect();

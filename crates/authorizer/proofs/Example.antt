@@ -12,7 +12,7 @@ use Rattle.sheet.specs.Content.{types, valueRows, contents, schema, trees, expr
 use Rattle.sheet.specs.Answer.{run, results, answer}
 use Rattle.sheet.specs.Call.{returned, written, worked}
 use Rattle.sheet.specs.Demand3.{Demand3}
-use Rattle.sheet.proofs.ExampleBytes.{open-sheet, low, high, low-agrees, high-agrees}
+use Rattle.samples.proofs.ExampleBytes.{open-sheet, low, high, low-agrees, high-agrees}
 use Rattle.authorizer.specs.Calls.{Run, bytesIn}
 use Rattle.authorizer.proofs.Demand3.{demand-3-calls}
 

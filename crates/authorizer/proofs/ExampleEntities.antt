@@ -12,7 +12,7 @@ use Rattle.sheet.specs.Content.{types, valueRows, contents, schema, trees, expr
 use Rattle.sheet.specs.Answer.{run, results, answer}
 use Rattle.sheet.specs.Call.{returned}
 use Rattle.sheet.specs.Demand3.{Demand3}
-use Rattle.sheet.proofs.ExampleEntities.{part-known, without, with-more, without-agrees, with-more-agrees}
+use Rattle.samples.proofs.ExampleEntities.{part-known, without, with-more, without-agrees, with-more-agrees}
 use Rattle.authorizer.specs.Calls.{bytesIn}
 use Rattle.authorizer.proofs.Demand3.{demand-3-calls}
 use Rattle.authorizer.proofs.Example.{runOf, at-lengths}

@@ -6,11 +6,11 @@ use mathlib.Core.List.{List, [], _∷_}
 use Prim.Native.Nat.{ℕ}
 use Rattle.cedar.specs.Value.{Value, vbool, vlong, vtext, vent, vset, vrec, Fields, ok, fail, find, found, onSome}
 use Rattle.cedar.specs.Canonical.{makeSet}
-use Rattle.cedar.specs.Types.{Ty, tent, Schema, Var}
+use Rattle.cedar.specs.Types.{Ty, Schema, Var}
 use Rattle.cedar.specs.Residual.{Expr, lit, err, var, and, or, ite, un, bin, rel, get, has, haspath, set, rec, Exprs, enil, econs, Args, gnil, gcons, tyOf, canErr, value, error, open′, view, Class, ctrue, cfalse, cerror, copen, anyError, anyErrorArg}
 use Rattle.cedar.specs.Entities.{PEnv, pentity}
 use Rattle.cedar.specs.Evaluate.{applyUn, applyBin}
-use Rattle.cedar.specs.Interpret.{leftPath, View, class, Outcome, gives, stays, settle, strict1, strict2, byRule, simpAnd, simpOr, simpIf, relKnown, getKnown, hasKnown, walk, simpPath, values, fields, stepVar, stepAnd, stepOr, stepIf, stepUn, stepBin, stepRel, stepGet, stepHas, stepPath, stepSet, stepRec, interpret, interprets, interpretArgs}
+use Rattle.cedar.specs.Interpret.{alone, leftPath, View, class, Outcome, gives, stays, settle, strict1, strict2, byRule, simpAnd, simpOr, simpIf, relKnown, getKnown, hasKnown, walk, simpPath, values, fields, stepVar, stepAnd, stepOr, stepIf, stepUn, stepBin, stepRel, stepGet, stepHas, stepPath, stepSet, stepRec, interpret, interprets, interpretArgs}
 use Rattle.cedar.specs.Runs.{Policy}
 use Rattle.cedar.specs.ContentRun.{partialAnswer, handedBack}
 use Rattle.cedar.specs.TypeRules.{unRule, binRule, relRule, hasRule}
@@ -95,49 +95,49 @@ module _ (S : Schema) (P : PEnv) where
     l-if copen = node
 
   -- haspath: what is left over is left over again
-  left : (T : Ty) (k i t : ℕ) (ts : List ℕ) → pentity P k i .attrs ≡ none → interpret S P (leftPath S T (lit (tent k) (vent k i)) t ts) ≡ leftPath S T (lit (tent k) (vent k i)) t ts
-  left T k i t ts e = go (hasRule S t (tent k)) refl
+  left : (T U : Ty) (k i t : ℕ) (ts : List ℕ) → pentity P k i .attrs ≡ none → interpret S P (leftPath S T (lit U (vent k i)) t ts) ≡ leftPath S T (lit U (vent k i)) t ts
+  left T U k i t ts e = go (hasRule S t U) refl
     where
-      again : (us : List ℕ) → walk P S T us t (vent k i) ≡ leftPath S T (lit (tent k) (vent k i)) t us
+      again : (us : List ℕ) → walk P S T (λ l. U) us t (vent k i) ≡ leftPath S T (lit U (vent k i)) t us
       again [] = rw e
       again (u ∷ us) = rw e
 
-      go : (o : Option Bool) → hasRule S t (tent k) ≡ o → interpret S P (byRule T false o (haspath T (lit (tent k) (vent k i)) t ts)) ≡ byRule T false o (haspath T (lit (tent k) (vent k i)) t ts)
+      go : (o : Option Bool) → hasRule S t U ≡ o → interpret S P (byRule T false o (haspath T (lit U (vent k i)) t ts)) ≡ byRule T false o (haspath T (lit U (vent k i)) t ts)
       go none q = again ts ∙ rw q
       go (some b) q = refl
 
-  walk-ent : (T : Ty) (k i t : ℕ) (ts : List ℕ) (on : Fields → Expr) → ((fs : Fields) → interpret S P (on fs) ≡ on fs) → (o : Option Fields) → pentity P k i .attrs ≡ o
-      → interpret S P (onSome (leftPath S T (lit (tent k) (vent k i)) t ts) o on) ≡ onSome (leftPath S T (lit (tent k) (vent k i)) t ts) o on
-  walk-ent T k i t ts on h none e = left T k i t ts e
-  walk-ent T k i t ts on h (some fs) e = h fs
+  walk-ent : (T U : Ty) (k i t : ℕ) (ts : List ℕ) (on : Fields → Expr) → ((fs : Fields) → interpret S P (on fs) ≡ on fs) → (o : Option Fields) → pentity P k i .attrs ≡ o
+      → interpret S P (onSome (leftPath S T (lit U (vent k i)) t ts) o on) ≡ onSome (leftPath S T (lit U (vent k i)) t ts) o on
+  walk-ent T U k i t ts on h none e = left T U k i t ts e
+  walk-ent T U k i t ts on h (some fs) e = h fs
 
-  walk-end : (T : Ty) (t : ℕ) (v : Value) → interpret S P (walk P S T [] t v) ≡ walk P S T [] t v
-  walk-end T t (vbool b) = refl
-  walk-end T t (vlong n) = refl
-  walk-end T t (vtext u) = refl
-  walk-end T t (vent k i) = walk-ent T k i t [] (λ fs. lit T (vbool (found (find t fs)))) (λ fs. refl) (pentity P k i .attrs) refl
-  walk-end T t (vset vs) = refl
-  walk-end T t (vrec fs) = refl
+  walk-end : (T : Ty) (U : ℕ → Ty) (t : ℕ) (v : Value) → interpret S P (walk P S T U [] t v) ≡ walk P S T U [] t v
+  walk-end T U t (vbool b) = refl
+  walk-end T U t (vlong n) = refl
+  walk-end T U t (vtext u) = refl
+  walk-end T U t (vent k i) = walk-ent T (U k) k i t [] (λ fs. lit T (vbool (found (find t fs)))) (λ fs. refl) (pentity P k i .attrs) refl
+  walk-end T U t (vset vs) = refl
+  walk-end T U t (vrec fs) = refl
 
-  module _ (T : Ty) (u : ℕ) (us : List ℕ) (ih : (v : Value) → interpret S P (walk P S T us u v) ≡ walk P S T us u v) where
-    step : (o : Option Value) → interpret S P (onSome (lit T (vbool false)) o (walk P S T us u)) ≡ onSome (lit T (vbool false)) o (walk P S T us u)
+  module _ (T : Ty) (u : ℕ) (us : List ℕ) (ih : (v : Value) → interpret S P (walk P S T alone us u v) ≡ walk P S T alone us u v) where
+    step : (o : Option Value) → interpret S P (onSome (lit T (vbool false)) o (walk P S T alone us u)) ≡ onSome (lit T (vbool false)) o (walk P S T alone us u)
     step none = refl
     step (some v) = ih v
 
-    walk-on : (t : ℕ) (v : Value) → interpret S P (walk P S T (u ∷ us) t v) ≡ walk P S T (u ∷ us) t v
-    walk-on t (vbool b) = refl
-    walk-on t (vlong n) = refl
-    walk-on t (vtext x) = refl
-    walk-on t (vent k i) = walk-ent T k i t (u ∷ us) (λ fs. onSome (lit T (vbool false)) (find t fs) (walk P S T us u)) (λ fs. step (find t fs)) (pentity P k i .attrs) refl
-    walk-on t (vset vs) = refl
-    walk-on t (vrec fs) = step (find t fs)
+    walk-on : (U : ℕ → Ty) (t : ℕ) (v : Value) → interpret S P (walk P S T U (u ∷ us) t v) ≡ walk P S T U (u ∷ us) t v
+    walk-on U t (vbool b) = refl
+    walk-on U t (vlong n) = refl
+    walk-on U t (vtext x) = refl
+    walk-on U t (vent k i) = walk-ent T (U k) k i t (u ∷ us) (λ fs. onSome (lit T (vbool false)) (find t fs) (walk P S T alone us u)) (λ fs. step (find t fs)) (pentity P k i .attrs) refl
+    walk-on U t (vset vs) = refl
+    walk-on U t (vrec fs) = step (find t fs)
 
-  walked : (T : Ty) (ts : List ℕ) (t : ℕ) (v : Value) → interpret S P (walk P S T ts t v) ≡ walk P S T ts t v
-  walked T [] t v = walk-end T t v
-  walked T (u ∷ us) t v = walk-on T u us (walked T us u) t v
+  walked : (T : Ty) (ts : List ℕ) (U : ℕ → Ty) (t : ℕ) (v : Value) → interpret S P (walk P S T U ts t v) ≡ walk P S T U ts t v
+  walked T [] U t v = walk-end T U t v
+  walked T (u ∷ us) U t v = walk-on T u us (walked T us alone u) U t v
 
   l-path : (T : Ty) (a : Expr) (t : ℕ) (ts : List ℕ) (w : View) → Leaves (haspath T a t ts) (simpPath S P T a t ts w)
-  l-path T a t ts (value v) = fixed (walked T ts t v)
+  l-path T a t ts (value v) = fixed (walked T ts (λ k. tyOf a) t v)
   l-path T a t ts error = fixed refl
   l-path T a t ts open′ = l-decide T (canErr a) (hasRule S t (tyOf a)) node
 

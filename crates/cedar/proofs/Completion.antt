@@ -6,9 +6,9 @@ use Prim.Native.Nat.{ℕ}
 use lib.Dec.{eqb}
 use lib.IntN.{pos}
 use borrow.Author.Tests.{eq-eqb}
-use Rattle.cedar.proofs.Tools.{no-some}
+use Rattle.cedar.proofs.Tools.{no-some, or-left, eqb-self}
 use Rattle.cedar.specs.Value.{Value, vbool, vlong, vtext, vent, vset, vrec, Values, vnil, Fields, fnil, fcons, find, found, pick}
-use Rattle.cedar.specs.Types.{Ty, tbool, tlong, tstr, tent, tset, trec, Attrs, anil, acons, declared, pickTy, Schema, Var, Needed, Complete, Fits, fbool, flong, ftext, fent, fset, frec, nilFit, FieldsFit, noField, oneField}
+use Rattle.cedar.specs.Types.{Ty, tbool, tlong, tstr, tent, tset, trec, Attrs, anil, acons, among, declared, pickTy, Schema, Var, Needed, Complete, Fits, fbool, flong, ftext, fent, fset, frec, nilFit, FieldsFit, noField, oneField}
 use Rattle.cedar.specs.Entities.{Env, Line, PEnv, PLine, Agree, LineAgrees, EnvFits, LineFits, TagsFit, noTag, KindsIn, noKind}
 
 -- ---- every type has a value
@@ -49,7 +49,7 @@ mutual
   some-value tbool = (vbool false, fbool)
   some-value tlong = (vlong (pos 0), flong)
   some-value tstr = (vtext 0, ftext)
-  some-value (tent k) = (vent k 0, fent)
+  some-value (tent k ks) = (vent k 0, fent (or-left (eqb k k) (among k ks) (eqb-self k)))
   some-value (tset A) = (vset vnil, fset nilFit)
   some-value (trec R) = let (fs, h, c) = some-fields R in (vrec fs, frec h c)
 

@@ -5,10 +5,10 @@ use mathlib.Core.Option.{Option, none, some, Option·some-injective}
 use mathlib.Core.List.{List, [], _∷_}
 use Prim.Native.Nat.{ℕ}
 use lib.Dec.{eqb}
-use Rattle.cedar.proofs.Tools.{no-some}
+use Rattle.cedar.proofs.Tools.{no-some, one-kind}
 use Rattle.cedar.specs.Value.{Value, vbool, vent, vset, vrec, vnil, vcons, Fields, fnil, fcons, ok, fail}
 use Rattle.cedar.specs.Canonical.{order, same, insert, ascending, makeSet}
-use Rattle.cedar.specs.Types.{Ty, tbool, tlong, tent, trec, anil, acons, Shape, Schema, Var, principal, action, resource, context, Fits, fbool, fent, frec, noField, oneField}
+use Rattle.cedar.specs.Types.{Ty, tbool, tlong, tent, trec, anil, acons, declared, Shape, Schema, Var, principal, action, resource, context, Fits, fbool, fent, frec, noField, oneField}
 use Rattle.cedar.specs.Residual.{Expr, Node, lit, var, and, bin, rel, get, beq, rin, ctrue}
 use Rattle.cedar.specs.Typing.{Typed, tlit, tvar, tand, tbin, trel, tget, eqOk, inOk}
 use Rattle.cedar.specs.TypingTest.{check}
@@ -33,9 +33,9 @@ shape (ℕ.suc ℕ.zero) = record { isAction = true; attrs = anil; tags = none; 
 shape (ℕ.suc (ℕ.suc k)) = record { isAction = false; attrs = anil; tags = none; above = [] }
 
 abbrev request : Var → Ty
-request principal = tent 0
-request action = tent 1
-request resource = tent 2
+request principal = tent 0 []
+request action = tent 1 []
+request resource = tent 2 []
 request context = trec anil
 
 abbrev S : Schema
@@ -91,9 +91,9 @@ abbrev C : Env
 C = record { request = filled; line = clines }
 
 filled-fits : (x : Var) → Fits (filled x) (request x)
-filled-fits principal = fent
-filled-fits action = fent
-filled-fits resource = fent
+filled-fits principal = fent refl
+filled-fits action = fent refl
+filled-fits resource = fent refl
 filled-fits context = frec noField tt
 
 seven-fits : LineFits S 0 seven
@@ -137,13 +137,13 @@ agrees = record { request = filled-agrees; line = lines-agree }
 -- Trees: an open test; a known attribute; unknown ancestors beside it, of which only the right side is left over.
 module _ {L : Type 0} (v7 v8 : L) where
   abbrev openEq : Node L
-  openEq = bin tbool beq (var (tent 0) principal) (lit (tent 0) v7)
+  openEq = bin tbool beq (var (tent 0 []) principal) (lit (tent 0 []) v7)
 
   abbrev attribute : Node L
-  attribute = get tbool (lit (tent 0) v7) 2
+  attribute = get tbool (lit (tent 0 []) v7) 2
 
   abbrev within : Node L
-  within = rel tbool rin (lit (tent 0) v7) (lit (tent 0) v8)
+  within = rel tbool rin (lit (tent 0 []) v7) (lit (tent 0 []) v8)
 
   abbrev both : Node L
   both = and tbool attribute within
@@ -152,13 +152,13 @@ abbrev E : Expr
 E = both (vent 0 7) (vent 0 8)
 
 eq-typed : Typed S (openEq (vent 0 7) (vent 0 8)) tbool
-eq-typed = tbin eqOk (tvar {x = principal} refl) (tlit fent)
+eq-typed = tbin eqOk (tvar {x = principal} refl) (tlit (fent refl))
 
 attribute-typed : Typed S (attribute (vent 0 7) (vent 0 8)) tbool
-attribute-typed = tget {A = tent 0} refl refl (tlit fent)
+attribute-typed = tget {A = tent 0 []} (one-kind (λ k. declared 2 (S .shape k .attrs) ≡ some tbool) 0 refl) (tlit (fent refl))
 
 both-typed : Typed S E tbool
-both-typed = tand attribute-typed (trel inOk (tlit fent) (tlit fent))
+both-typed = tand attribute-typed (trel inOk (tlit (fent refl)) (tlit (fent refl)))
 
 -- Three lists of policies: one is allowed, one denied, one open.
 abbrev one : Effect → Expr → Policy
@@ -237,11 +237,11 @@ left-over-yields = T.interpretation-sound S C env-fits P agrees E tbool both-typ
 
 -- a tree that errs, and what is left of it
 missing : Expr
-missing = get tbool (lit (tent 0) (vent 0 8)) 2
+missing = get tbool (lit (tent 0 []) (vent 0 8)) 2
 
 missing-typed : Typed S missing tbool
 unfolding missing
-missing-typed = tget {A = tent 0} refl refl (tlit fent)
+missing-typed = tget {A = tent 0 []} (one-kind (λ k. declared 2 (S .shape k .attrs) ≡ some tbool) 0 refl) (tlit (fent refl))
 
 errs : eval S C (interpret S P missing) ≡ fail
 unfolding missing

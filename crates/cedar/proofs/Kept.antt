@@ -24,9 +24,9 @@ ty-of (tite c a b) = refl
 ty-of (tun o a) = refl
 ty-of (tbin o a b) = refl
 ty-of (trel o a b) = refl
-ty-of (tget e d a) = refl
+ty-of (tget e a) = refl
 ty-of (thas e a) = refl
-ty-of (tpath e p a) = refl
+ty-of (tpath p a) = refl
 ty-of (tset′ h) = refl
 ty-of (trec′ h c) = refl
 

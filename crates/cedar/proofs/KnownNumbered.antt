@@ -17,9 +17,9 @@ shape : ℕ → Shape
 shape k = record { isAction = false; attrs = anil; tags = none; above = [] }
 
 request : Var → Ty
-request principal = tent 0
-request action = tent 1
-request resource = tent 2
+request principal = tent 0 []
+request action = tent 1 []
+request resource = tent 2 []
 request context = trec anil
 
 schema : Schema
@@ -39,7 +39,7 @@ sheet : List Row
 sheet = rent 0 7 ∷ rbool true ∷ []
 
 eq-node : Node ℕ
-eq-node = bin tbool beq (var (tent 0) principal) (lit (tent 0) 0)
+eq-node = bin tbool beq (var (tent 0 []) principal) (lit (tent 0 []) 0)
 
 policies : List NPolicy
 policies = record { effect = permit; tree = eq-node } ∷ record { effect = permit; tree = lit tbool 1 } ∷ []

@@ -20,6 +20,7 @@ pub mod Completion
 pub mod TypingTest
 pub mod Decisions
 pub mod Settled
+pub mod SingleKinds
 pub mod Again
 pub mod Total
 pub mod TypingTestComplete

@@ -6,10 +6,10 @@ use mathlib.Core.List.{List, [], _∷_}
 use Prim.Native.Nat.{ℕ}
 use Rattle.cedar.specs.Value.{Value, vbool, vent, vrec, Values, Fields, found, onSome}
 use Rattle.cedar.specs.Canonical.{makeSet}
-use Rattle.cedar.specs.Types.{Ty, tent, Schema}
+use Rattle.cedar.specs.Types.{Ty, Schema}
 use Rattle.cedar.specs.Residual.{Node, Nodes, NodeArgs, Expr, Exprs, Args, lit, err, var, and, or, ite, un, bin, rel, get, has, haspath, set, rec, enil, econs, gnil, gcons, Un, Bin, Rel, tyOf, canErr, Stage, Class, ctrue, cfalse, cerror, copen, truth, isError, anyError, anyErrorArg}
 use Rattle.cedar.specs.Entities.{PEnv}
-use Rattle.cedar.specs.Interpret.{leftPath, View, class, classOf, simpAnd, simpOr, simpIf, walk, simpPath, values, fields, stepVar, stepUn, stepBin, stepRel, stepGet, stepHas, stepSet, stepRec, interpret, interprets, interpretArgs}
+use Rattle.cedar.specs.Interpret.{alone, leftPath, View, class, classOf, simpAnd, simpOr, simpIf, walk, simpPath, values, fields, stepVar, stepUn, stepBin, stepRel, stepGet, stepHas, stepSet, stepRec, interpret, interprets, interpretArgs}
 use Rattle.cedar.specs.TypeRules.{unRule, binRule, relRule, hasRule}
 use Rattle.cedar.specs.Rows.{Row, rbool, rset, rrec, Entries}
 use Rattle.cedar.specs.Table.{At, Elems, elem0, elem1, Named, name0, name1, dbool, drec, Table}
@@ -185,14 +185,14 @@ module _ (S : Schema) (M : NEnv) (P : PEnv) where
     step-reads h absent = makes t T dbool
     step-reads h (there-at {n = n} {v = v} a) = h n v a
 
-    walk-reads : (is : List ℕ) (i n : ℕ) (v : Value) → At C n v → Refines C (nWalk S M T R is i n) (walk P S T is i v)
-    walk-reads [] i n v a = on-fields t env (Refines C) (as-is t xerr) (λ k j. nLeft S M T (lit (tent k) n) i [] R) (λ k j. leftPath S T (lit (tent k) (vent k j)) i [])
-        (λ e fs h. found-reads (entry-at i h)) (row-denotes t a) (λ k j q. left-reads i [] (xlit {T = tent k} (subst (At C n) q a)))
-    walk-reads (u ∷ us) i n v a = on-fields t env (Refines C) (as-is t xerr) (λ k j. nLeft S M T (lit (tent k) n) i (u ∷ us) R) (λ k j. leftPath S T (lit (tent k) (vent k j)) i (u ∷ us))
-        (λ e fs h. step-reads (walk-reads us u) (entry-at i h)) (row-denotes t a) (λ k j q. left-reads i (u ∷ us) (xlit {T = tent k} (subst (At C n) q a)))
+    walk-reads : (U : ℕ → Ty) (is : List ℕ) (i n : ℕ) (v : Value) → At C n v → Refines C (nWalk S M T R U is i n) (walk P S T U is i v)
+    walk-reads U [] i n v a = on-fields t env (Refines C) (as-is t xerr) (λ k j. nLeft S M T (lit (U k) n) i [] R) (λ k j. leftPath S T (lit (U k) (vent k j)) i [])
+        (λ e fs h. found-reads (entry-at i h)) (row-denotes t a) (λ k j q. left-reads i [] (xlit {T = U k} (subst (At C n) q a)))
+    walk-reads U (u ∷ us) i n v a = on-fields t env (Refines C) (as-is t xerr) (λ k j. nLeft S M T (lit (U k) n) i (u ∷ us) R) (λ k j. leftPath S T (lit (U k) (vent k j)) i (u ∷ us))
+        (λ e fs h. step-reads (walk-reads alone us u) (entry-at i h)) (row-denotes t a) (λ k j q. left-reads i (u ∷ us) (xlit {T = U k} (subst (At C n) q a)))
 
     path-reads : {a : Node ℕ} {A : Expr} (i : ℕ) (is : List ℕ) {s : Stage ℕ} {w : View} → Reads C a A → StageReads C s w → Refines C (nPath S M T a i is s R) (simpPath S P T A i is w)
-    path-reads i is h (svalue {n = n} {v = v} a) = walk-reads is i n v a
+    path-reads {A = A} i is h (svalue {n = n} {v = v} a) = rw (same-ty h) (walk-reads (λ k. tyOf A) is i n v a)
     path-reads i is h serror = as-is t xerr
     path-reads i is h sopen = left-reads i is h
 

@@ -52,9 +52,9 @@ module _ (S : Schema) (P : PEnv) (C : Env) (ft : EnvFits S C) (ag : Knows P C) w
     sound (tun {u = u} o ta) = let k = sound ta in after (sound-un S P C ft o (k .typed)) (λ i. bind (k .same i) (applyUn S u))
     sound (tbin {o = o} h ta tb) = let k = sound ta in let l = sound tb in after (sound-bin S P C ft h (k .typed) (l .typed)) (λ i. bind2 (k .same i) (l .same i) (applyBin o))
     sound (trel {o = o} h ta tb) = let k = sound ta in let l = sound tb in after (sound-rel S C ft P ag h (k .typed) (l .typed)) (λ i. bind2 (k .same i) (l .same i) (applyRel C o))
-    sound (tget {t = t} e d ta) = let k = sound ta in after (sound-get S C ft P ag e d (k .typed)) (λ i. bind (k .same i) (applyGet C t))
+    sound (tget {t = t} e ta) = let k = sound ta in after (sound-get S C ft P ag e (k .typed)) (λ i. bind (k .same i) (applyGet C t))
     sound (thas {t = t} e ta) = let k = sound ta in after (sound-has S C ft P ag t e (k .typed)) (λ i. bind (k .same i) (applyHas C t))
-    sound (tpath {t = t} {ts = ts} e p ta) = let k = sound ta in after (sound-path S C ft P ag e p (k .typed)) (λ i. bind (k .same i) (applyPath C ts t))
+    sound (tpath {t = t} {ts = ts} p ta) = let k = sound ta in after (sound-path S C ft P ag t ts p (k .typed)) (λ i. bind (k .same i) (applyPath C ts t))
     sound (tset′ h) = let k = sound-all h in after (sound-set S C ft P (k .typed)) (λ i. onSome fail (k .same i) (λ vs. ok (makeSet vs)))
     sound (trec′ {R = R} h c) = let k = sound-args h in
         after (sound-rec S C ft P (k .typed) (subst (Complete R) (fun-ext (λ t. sym (k .names t))) c)) (λ i. onSome fail (k .same i) (λ fs. ok (vrec fs)))

@@ -6,12 +6,13 @@ use mathlib.Core.List.{List, [], _∷_}
 use Prim.Native.Nat.{ℕ, _<_}
 use lib.ListN.{getD}
 use Rattle.cedar.specs.Value.{onSome}
-use Rattle.cedar.specs.Types.{Ty, tent, Schema, Var}
+use Rattle.cedar.specs.Types.{Ty, Schema, Var}
 use Rattle.cedar.specs.Residual.{Item, star, piece, Node, Nodes, NodeArgs, lit, err, var, and, or, ite, un, bin, rel, get, has, haspath, set, rec, enil, econs, gnil, gcons, Un, unot, uneg, uempty, uis, ulike, Bin, Rel, tyOf, canErr, Stage, value, error, open′, view, Class, ctrue, cfalse, cerror, copen, anyError, anyErrorArg}
 use Rattle.cedar.specs.Evaluate.{matches, matchPiece, anySuffix}
 use Rattle.cedar.specs.TypeRules.{unRule, binRule, relRule, hasRule}
 use Rattle.cedar.specs.Rows.{Entries, Row, rbool, rlong, rtext, rent, rset, rrec}
 use Rattle.cedar.specs.Making.{intern, orAdd, findRow, sortN}
+use Rattle.cedar.specs.Interpret.{alone}
 use Rattle.cedar.specs.Numbered.{Give, made, old, NEnv, nentity, rowAt, giveRow, rRec, NOut, give, fails, stays, truly, entryOf, isSome, nUn, nBin, nRel, onEntries, nGet, nHas, Out, out, make, giveLit, nSettle, nStrict1, nStrict2, nByRule, nClass, nAndOpen, nAnd, nOrOpen, nOr, nIfOpen, nIf, numbers, entries, Outs, OutArgs, nLeft, nWalk, nPath, nVar, nStepUn, nStepBin, nStepRel, nStepGet, nStepHas, nStepSet, nStepRec, thenAnd, thenOr, thenIf, thenBin, thenRel, nStepPath, joinAll, thenAll, joinArgs, thenArgs, nInterpret, nInterprets, nInterpretArgs}
 use Rattle.cedar.specs.Runs.{NPolicy, joinRun, thenRun, nRun}
 use Rattle.cedar.proofs.Outcomes.{Basic, GiveIs, OutIs, made-un, made-bin, made-rel, made-get, made-has}
@@ -185,22 +186,22 @@ module _ (N : ℕ) where
     found-ok T R h none f k = intern-ok R (rbool false) h tt
     found-ok T R h (some n) f k = k n
 
-    walk-ok : (T : Ty) (R : List Row) → RowsOk R → (us : List ℕ) (t n : ℕ) → RowsOk (nWalk S M T R us t n .rows)
-    walk-ok T R h [] t n = entries-ok M R (out R (err T)) (λ k i. nLeft S M T (lit (tent k) n) t [] R) (λ e. make T (rbool (isSome (entryOf t e))) R) h (λ k i. left-ok T (lit (tent k) n) t [] R h) (λ e. intern-ok R (rbool (isSome (entryOf t e))) h tt) (rowAt R n)
-    walk-ok T R h (u ∷ us) t n = entries-ok M R (out R (err T)) (λ k i. nLeft S M T (lit (tent k) n) t (u ∷ us) R) (λ e. onSome (make T (rbool false) R) (entryOf t e) (nWalk S M T R us u)) h
-        (λ k i. left-ok T (lit (tent k) n) t (u ∷ us) R h) (λ e. found-ok T R h (entryOf t e) (nWalk S M T R us u) (λ x. walk-ok T R h us u x)) (rowAt R n)
+    walk-ok : (T : Ty) (R : List Row) → RowsOk R → (U : ℕ → Ty) (us : List ℕ) (t n : ℕ) → RowsOk (nWalk S M T R U us t n .rows)
+    walk-ok T R h U [] t n = entries-ok M R (out R (err T)) (λ k i. nLeft S M T (lit (U k) n) t [] R) (λ e. make T (rbool (isSome (entryOf t e))) R) h (λ k i. left-ok T (lit (U k) n) t [] R h) (λ e. intern-ok R (rbool (isSome (entryOf t e))) h tt) (rowAt R n)
+    walk-ok T R h U (u ∷ us) t n = entries-ok M R (out R (err T)) (λ k i. nLeft S M T (lit (U k) n) t (u ∷ us) R) (λ e. onSome (make T (rbool false) R) (entryOf t e) (nWalk S M T R alone us u)) h
+        (λ k i. left-ok T (lit (U k) n) t (u ∷ us) R h) (λ e. found-ok T R h (entryOf t e) (nWalk S M T R alone us u) (λ x. walk-ok T R h alone us u x)) (rowAt R n)
 
     path-ok : (T : Ty) (a : Node ℕ) (t : ℕ) (ts : List ℕ) (x : Stage ℕ) (R : List Row) → RowsOk R → RowsOk (nPath S M T a t ts x R .rows)
-    path-ok T a t ts (value n) R h = walk-ok T R h ts t n
+    path-ok T a t ts (value n) R h = walk-ok T R h (λ k. tyOf a) ts t n
     path-ok T a t ts error R h = h
     path-ok T a t ts open′ R h = left-ok T a t ts R h
 
-    same-walk : (T : Ty) (R : List Row) (us : List ℕ) (t n : ℕ) → nWalk S′ M T R us t n ≡ nWalk S M T R us t n
-    same-walk T R [] t n = refl
-    same-walk T R (u ∷ us) t n = λ i. onEntries M R (out R (err T)) (λ k j. nLeft S M T (lit (tent k) n) t (u ∷ us) R) (rowAt R n) (λ e. onSome (make T (rbool false) R) (entryOf t e) (λ x. same-walk T R us u x i))
+    same-walk : (T : Ty) (R : List Row) (U : ℕ → Ty) (us : List ℕ) (t n : ℕ) → nWalk S′ M T R U us t n ≡ nWalk S M T R U us t n
+    same-walk T R U [] t n = refl
+    same-walk T R U (u ∷ us) t n = λ i. onEntries M R (out R (err T)) (λ k j. nLeft S M T (lit (U k) n) t (u ∷ us) R) (rowAt R n) (λ e. onSome (make T (rbool false) R) (entryOf t e) (λ x. same-walk T R alone us u x i))
 
     same-path : (T : Ty) (a : Node ℕ) (t : ℕ) (ts : List ℕ) (x : Stage ℕ) (R : List Row) → nPath S′ M T a t ts x R ≡ nPath S M T a t ts x R
-    same-path T a t ts (value n) R = same-walk T R ts t n
+    same-path T a t ts (value n) R = same-walk T R (λ k. tyOf a) ts t n
     same-path T a t ts error R = refl
     same-path T a t ts open′ R = refl
 

@@ -7,7 +7,7 @@ use Prim.Native.Nat.{ℕ}
 use Rattle.cedar.proofs.Tools.{the-same}
 use Rattle.cedar.specs.Value.{Value, vbool, vlong, vtext, vent, vset, vrec, Values, Fields, Result, ok, fail, find, onSome}
 use Rattle.cedar.specs.Canonical.{makeSet}
-use Rattle.cedar.specs.Types.{Ty, tbool, tent, tset, trec, Attrs, Schema, Var, fbool}
+use Rattle.cedar.specs.Types.{Ty, tbool, tset, trec, Attrs, Schema, Var, fbool}
 use Rattle.cedar.specs.Residual.{isError, Expr, lit, err, var, Exprs, Args, Rel, rin, rgettag, rhastag, tyOf, canErr, view, Class, ctrue, cfalse, cerror, anyError, anyErrorArg}
 use Rattle.cedar.specs.Typing.{Typed, tlit, terr, tvar, tand, tor, tite, tun, tbin, trel, tget, thas, tpath, tset′, trec′, AllTyped, nilTyped, consTyped, ArgsTyped, noArg, oneArg}
 use Rattle.cedar.specs.Entities.{Env, PEnv, EnvFits, entity, pentity}
@@ -135,12 +135,12 @@ module _ {P : PEnv} {C : Env} (all : Total P C) where
     d-some none h = is-lit
     d-some (some v) h = h v
 
-    d-walk : (ts : List ℕ) (t : ℕ) (v : Value) → Decided (walk P S T ts t v)
-    d-walk [] t v = on-total Decided (λ k i. I.leftPath S T (lit (tent k) (vent k i)) t []) is-err (λ fs. is-lit) v
-    d-walk (u ∷ us) t v = on-total Decided (λ k i. I.leftPath S T (lit (tent k) (vent k i)) t (u ∷ us)) is-err (λ fs. d-some (find t fs) (d-walk us u)) v
+    d-walk : (U : ℕ → Ty) (ts : List ℕ) (t : ℕ) (v : Value) → Decided (walk P S T U ts t v)
+    d-walk U [] t v = on-total Decided (λ k i. I.leftPath S T (lit (U k) (vent k i)) t []) is-err (λ fs. is-lit) v
+    d-walk U (u ∷ us) t v = on-total Decided (λ k i. I.leftPath S T (lit (U k) (vent k i)) t (u ∷ us)) is-err (λ fs. d-some (find t fs) (d-walk I.alone us u)) v
 
     d-path : {a : Expr} (t : ℕ) (ts : List ℕ) → Decided a → Decided (simpPath S P T a t ts (view a))
-    d-path t ts (is-lit {v = v}) = d-walk ts t v
+    d-path {a = a} t ts (is-lit {v = v}) = d-walk (λ k. tyOf a) ts t v
     d-path t ts is-err = is-err
 
   d-var : (S : Schema) (T : Ty) (x : Var) → Decided (I.stepVar S P T (var T x) (P .request x))
@@ -181,9 +181,9 @@ module _ (S : Schema) (P : PEnv) (C : Env) (ft : EnvFits S C) (all : Total P C) 
     decided (tun {u = u} {a = a} {T = T} o ta) = d-decide T (canErr (interpret S P a)) (unRule S u (tyOf (interpret S P a))) (d-strict1 T _ (λ v. gives (applyUn S u v)) (decided ta) (λ v. given))
     decided (tbin {o = o} {a = a} {b = b} {T = T} h ta tb) = d-decide T (canErr (interpret S P a) || canErr (interpret S P b)) (binRule S o (tyOf (interpret S P a)) (tyOf (interpret S P b))) (d-strict2 T _ (λ v w. gives (applyBin o v w)) (decided ta) (decided tb) (λ v w. given))
     decided (trel {o = o} {a = a} {b = b} {T = T} h ta tb) = d-decide T (canErr (interpret S P a) || canErr (interpret S P b)) (relRule S o (tyOf (interpret S P a)) (tyOf (interpret S P b))) (d-strict2 T _ (relKnown P o) (decided ta) (decided tb) (g-rel all o))
-    decided (tget {a = a} {T = T} {t = t} e d ta) = d-strict1 T _ (getKnown P t) (decided ta) (on-total all Given (λ k i. stays) given (λ fs. given))
+    decided (tget {a = a} {T = T} {t = t} e ta) = d-strict1 T _ (getKnown P t) (decided ta) (on-total all Given (λ k i. stays) given (λ fs. given))
     decided (thas {a = a} {t = t} e ta) = d-decide tbool (canErr (interpret S P a)) (hasRule S t (tyOf (interpret S P a))) (d-strict1 tbool _ (hasKnown P t) (decided ta) (on-total all Given (λ k i. stays) given (λ fs. given)))
-    decided (tpath {t = t} {ts = ts} e p ta) = d-path all S tbool t ts (decided ta)
+    decided (tpath {t = t} {ts = ts} p ta) = d-path all S tbool t ts (decided ta)
     decided (tset′ {A = A} h) = d-make (tset A) _ makeSet (decided-all h)
     decided (trec′ {R = R} h c) = d-make (trec R) _ vrec (decided-args h)
 

@@ -79,9 +79,9 @@ module _ (S : Schema) (C : Env) (ft : EnvFits S C) where
     yields (tun o a) = y-un S o (yields a)
     yields (tbin o a b) = y-bin S o (yields a) (yields b)
     yields (trel o a b) = y-rel S C ft o (yields a) (yields b)
-    yields (tget {t = t} e d a) = y-get S C ft t e d (yields a)
+    yields (tget {t = t} e a) = y-get S C ft t e (yields a)
     yields (thas {t = t} e a) = y-has S C ft t e (yields a)
-    yields (tpath e p a) = y-path S C ft e p (yields a)
+    yields (tpath {t = t} {ts = ts} p a) = y-path S C ft t ts p (yields a)
     yields (tset′ h) = y-set (yields-all h)
     yields (trec′ h c) = y-rec c (yields-args h)
 

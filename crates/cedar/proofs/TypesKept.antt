@@ -1,25 +1,25 @@
 -- What holds of every type in a tree holds of every type in what is left of it, a path's left-over part too:
--- there the type is that of the child, or was declared for the attribute by which the entity was reached.
-use mathlib.Core.Path.{_≡_, refl, subst, sym, _∙_}
+-- there the type is that of the child, or that of the single kind of an entity reached, which is in a declared group.
+use mathlib.Core.Path.{_≡_, refl, subst, sym}
 use mathlib.Core.Bool.{Bool, true, false, cond, _||_}
-use mathlib.Core.Option.{Option, none, some, Option·some-injective}
+use mathlib.Core.Option.{Option, none, some}
 use mathlib.Core.List.{List, [], _∷_}
 use Prim.Native.Nat.{ℕ}
-use Rattle.cedar.proofs.Tools.{no-some}
 use Rattle.cedar.specs.Value.{Value, vbool, vent, vrec, Values, Fields, ok, fail, find, found, onSome}
 use Rattle.cedar.specs.Canonical.{makeSet}
-use Rattle.cedar.specs.Types.{Ty, tent, Attrs, declared, Schema, Fits, fbool, flong, ftext, fent, fset, frec, FieldsFit}
+use Rattle.cedar.specs.Types.{Ty, tbool, tlong, tstr, tent, tset, trec, Attrs, among, declared, Schema, Fits, fbool, flong, ftext, fent, fset, frec, FieldsFit}
 use Rattle.cedar.specs.Residual.{Node, Nodes, NodeArgs, Expr, Exprs, Args, lit, err, var, and, or, ite, un, bin, rel, get, has, haspath, set, rec, enil, econs, gnil, gcons, tyOf, canErr, value, error, open′, view, Class, ctrue, cfalse, cerror, copen, anyError, anyErrorArg}
-use Rattle.cedar.specs.Typing.{attrsOf, PathOk, freeOk, stepOk, Typed, tlit, terr, tvar, tand, tor, tite, tun, tbin, trel, tget, thas, tpath, tset′, trec′, AllTyped, nilTyped, consTyped, ArgsTyped, noArg, oneArg}
+use Rattle.cedar.specs.Typing.{IfDeclared, PathOk, Typed, tlit, terr, tvar, tand, tor, tite, tun, tbin, trel, tget, thas, tpath, tset′, trec′, AllTyped, nilTyped, consTyped, ArgsTyped, noArg, oneArg}
 use Rattle.cedar.specs.Entities.{Env, PEnv, EnvFits, pentity}
 use Rattle.cedar.specs.TypeRules.{unRule, binRule, relRule, hasRule}
-use Rattle.cedar.specs.Interpret.{View, Outcome, gives, stays, class, simpAnd, simpOr, simpIf, settle, strict1, strict2, byRule, leftPath, walk, simpPath, values, fields, stepVar, relKnown, getKnown, hasKnown, interpret, interprets, interpretArgs}
+use Rattle.cedar.specs.Interpret.{alone, View, Outcome, gives, stays, class, simpAnd, simpOr, simpIf, settle, strict1, strict2, byRule, leftPath, walk, simpPath, values, fields, stepVar, relKnown, getKnown, hasKnown, interpret, interprets, interpretArgs}
 use Rattle.cedar.specs.Evaluate.{eval, applyUn, applyBin}
 use Rattle.cedar.specs.Reads.{Reads, xlit, xerr, xvar, xand, xor, xite, xun, xbin, xrel, xget, xhas, xpath, xset, xrec, ReadsAll, xnil, xcons, ReadsArgs, xstop, xarg}
 use Rattle.cedar.proofs.Agrees.{Knows, agree-knows}
-use Rattle.cedar.proofs.Yields.{entity-fits, find-none, y-find, found-fits}
+use Rattle.cedar.proofs.Yields.{entity-fits, step-fits}
 use Rattle.cedar.proofs.TypeSound.{yields}
 use Rattle.cedar.proofs.Kept.{Means, fitting, ty-of, view-means}
+use Rattle.cedar.proofs.SoundAttr.{OfKind}
 use Rattle.cedar.proofs.Sound.{sound}
 use Rattle.cedar.proofs.Completion.{KnownFits, completed}
 
@@ -175,51 +175,83 @@ module _ (Q : Ty → Type 0) {T : Ty} (q : Q T) where
 
 -- ---- the walk along a path
 
-module _ (S : Schema) (P : PEnv) (C : Env) (ft : EnvFits S C) (ag : Knows P C) (Q : Ty → Type 0)
-    (below : (A : Ty) (R : Attrs) → Q A → attrsOf S A ≡ some R → (t : ℕ) (B : Ty) → declared t R ≡ some B → Q B) where
+-- R is what a kind of an entity type declares, or a record type
+abbrev pub Declares : Schema → Ty → Attrs → Type 0
+Declares S tbool R = ⊥
+Declares S tlong R = ⊥
+Declares S tstr R = ⊥
+Declares S (tent l ls) R = (k : ℕ) × (among k (l ∷ ls) ≡ true) × (S .shape k .attrs ≡ R)
+Declares S (tset A) R = ⊥
+Declares S (trec R′) R = R′ ≡ R
+
+-- Q passes from an entity or record type to the types of its attributes, and from a group to each kind alone
+pub record Passes (S : Schema) (Q : Ty → Type 0) : Type 0 where
+  pub below : (A : Ty) (R : Attrs) → Q A → Declares S A R → (t : ℕ) (B : Ty) → declared t R ≡ some B → Q B
+  pub single : (k l : ℕ) (ls : List ℕ) → Q (tent l ls) → among k (l ∷ ls) ≡ true → Q (alone k)
+
+module _ (S : Schema) (P : PEnv) (C : Env) (ft : EnvFits S C) (ag : Knows P C) (Q : Ty → Type 0) (pass : Passes S Q) where
   h-left : (T : Ty) (a : Expr) (t : ℕ) (ts : List ℕ) → Q T → TypesHold Q a → TypesHold Q (leftPath S T a t ts)
   h-left T a t ts q h = h-decide Q q (haspath T a t ts) (canErr a) (hasRule S t (tyOf a)) (q, h)
 
   -- from an entity: left over where its attributes are unknown
-  h-ent : (T : Ty) (k i t : ℕ) (ts : List ℕ) (on : Fields → Expr) → Q T → Q (tent k) → ((fs : Fields) → FieldsFit fs (S .shape k .attrs) → TypesHold Q (on fs))
-      → (o : Option Fields) → pentity P k i .attrs ≡ o → TypesHold Q (onSome (leftPath S T (lit (tent k) (vent k i)) t ts) o on)
-  h-ent T k i t ts on q p f none e = h-left T (lit (tent k) (vent k i)) t ts q p
-  h-ent T k i t ts on q p f (some fs) e = f fs (subst (λ x. FieldsFit x (S .shape k .attrs)) (ag .line k i .attrs fs e) (entity-fits S C ft k i .attrs))
+  h-ent : (T U : Ty) (k i t : ℕ) (ts : List ℕ) (on : Fields → Expr) → Q T → Q U → ((fs : Fields) → FieldsFit fs (S .shape k .attrs) → TypesHold Q (on fs))
+      → (o : Option Fields) → pentity P k i .attrs ≡ o → TypesHold Q (onSome (leftPath S T (lit U (vent k i)) t ts) o on)
+  h-ent T U k i t ts on q p f none e = h-left T (lit U (vent k i)) t ts q p
+  h-ent T U k i t ts on q p f (some fs) e = f fs (subst (λ x. FieldsFit x (S .shape k .attrs)) (ag .line k i .attrs fs e) (entity-fits S C ft k i .attrs))
 
-  h-step : (T : Ty) {R : Attrs} {t u : ℕ} {us : List ℕ} {fs : Fields} → Q T → ((B : Ty) → declared t R ≡ some B → Q B) → FieldsFit fs R
-      → ((w : Value) (B : Ty) (R′ : Attrs) → attrsOf S B ≡ some R′ → PathOk S R′ u us → Fits w B → Q B → TypesHold Q (walk P S T us u w))
-      → PathOk S R t (u ∷ us) → (o : Option Value) → find t fs ≡ o → TypesHold Q (onSome (lit T (vbool false)) o (walk P S T us u))
-  h-step T q d h on p none e = q
-  h-step T {t = t} q d h on (freeOk n) (some w) e = no-some (sym (find-none t n h) ∙ e)
-  h-step T {t = t} q d h on (stepOk {R′ = R′} {A = A} n a p) (some w) e = on w A R′ a p (found-fits S C ft e (y-find t n h)) (d A n)
+  h-step : (T : Ty) {R : Attrs} (t u : ℕ) (us : List ℕ) {fs : Fields} → Q T → ((B : Ty) → declared t R ≡ some B → Q B) → FieldsFit fs R
+      → ((w : Value) (B : Ty) → PathOk S us u B → Fits w B → Q B → TypesHold Q (walk P S T alone us u w))
+      → IfDeclared S (declared t R) (λ B. PathOk S us u B) → (o : Option Value) → find t fs ≡ o → TypesHold Q (onSome (lit T (vbool false)) o (walk P S T alone us u))
+  h-step T t u us q d h on p none e = q
+  h-step T t u us q d h on p (some w) e = let (B, n, g, f) = step-fits S C ft t (λ B. PathOk S us u B) h e p in on w B g f (d B n)
+
+  -- Q of the single kind
+  of-single : {v : Value} {A : Ty} → Fits v A → Q A → OfKind v (λ k. Q (alone k))
+  of-single fbool q = tt
+  of-single flong q = tt
+  of-single ftext q = tt
+  of-single (fent {k = k} {l = l} {ls = ls} m) q = pass .single k l ls q m
+  of-single (fset h) q = tt
+  of-single (frec h c) q = tt
+
+  of-own : {v : Value} {A : Ty} → Fits v A → Q A → OfKind v (λ k. Q A)
+  of-own fbool q = tt
+  of-own flong q = tt
+  of-own ftext q = tt
+  of-own (fent m) q = q
+  of-own (fset h) q = tt
+  of-own (frec h c) q = tt
 
   module _ (T : Ty) (q : Q T) where
-    h-end : {v : Value} {A : Ty} {R : Attrs} (t : ℕ) → attrsOf S A ≡ some R → Fits v A → Q A → TypesHold Q (walk P S T [] t v)
-    h-end t e fbool p = no-some e
-    h-end t e flong p = no-some e
-    h-end t e ftext p = no-some e
-    h-end t e (fset h) p = no-some e
-    h-end t e (frec h c) p = q
-    h-end t e (fent {k = k} {t = i}) p = h-ent T k i t [] (λ fs. lit T (vbool (found (find t fs)))) q p (λ fs f. q) (pentity P k i .attrs) refl
+    h-end : (U : ℕ → Ty) {v : Value} {A : Ty} (t : ℕ) → PathOk S [] t A → Fits v A → OfKind v (λ k. Q (U k)) → TypesHold Q (walk P S T U [] t v)
+    h-end U t e fbool p = absurd e
+    h-end U t e flong p = absurd e
+    h-end U t e ftext p = absurd e
+    h-end U t e (fset h) p = absurd e
+    h-end U t e (frec h c) p = q
+    h-end U t e (fent {k = k} {t = i} m) p = h-ent T (U k) k i t [] (λ fs. lit T (vbool (found (find t fs)))) q p (λ fs f. q) (pentity P k i .attrs) refl
 
-    h-on : {u : ℕ} {us : List ℕ} → ((w : Value) (B : Ty) (R′ : Attrs) → attrsOf S B ≡ some R′ → PathOk S R′ u us → Fits w B → Q B → TypesHold Q (walk P S T us u w))
-        → {v : Value} {A : Ty} {R : Attrs} (t : ℕ) → attrsOf S A ≡ some R → PathOk S R t (u ∷ us) → Fits v A → Q A → TypesHold Q (walk P S T (u ∷ us) t v)
-    h-on on t e p fbool a = no-some e
-    h-on on t e p flong a = no-some e
-    h-on on t e p ftext a = no-some e
-    h-on on t e p (fset h) a = no-some e
-    h-on on {A = A} {R = R} t e p (frec {fs = fs} h c) a = h-step T q (below A R a e t) (subst (FieldsFit fs) (Option·some-injective _ _ e) h) on p (find t fs) refl
-    h-on {u = u} {us = us} on {A = A} {R = R} t e p (fent {k = k} {t = i}) a = h-ent T k i t (u ∷ us) (λ fs. onSome (lit T (vbool false)) (find t fs) (walk P S T us u)) q a
-        (λ fs f. h-step T q (below A R a e t) (subst (FieldsFit fs) (Option·some-injective _ _ e) f) on p (find t fs) refl) (pentity P k i .attrs) refl
+    h-on : (u : ℕ) (us : List ℕ) → ((w : Value) (B : Ty) → PathOk S us u B → Fits w B → Q B → TypesHold Q (walk P S T alone us u w))
+        → (U : ℕ → Ty) {v : Value} {A : Ty} (t : ℕ) → PathOk S (u ∷ us) t A → Fits v A → Q A → OfKind v (λ k. Q (U k)) → TypesHold Q (walk P S T U (u ∷ us) t v)
+    h-on u us on U t p fbool a x = absurd p
+    h-on u us on U t p flong a x = absurd p
+    h-on u us on U t p ftext a x = absurd p
+    h-on u us on U t p (fset h) a x = absurd p
+    h-on u us on U {A = A} t p (frec {fs = fs} {R = R} h c) a x = h-step T t u us q (pass .below A R a refl t) h on p (find t fs) refl
+    h-on u us on U {A = A} t p (fent {k = k} {t = i} m) a x = h-ent T (U k) k i t (u ∷ us) (λ fs. onSome (lit T (vbool false)) (find t fs) (walk P S T alone us u)) q x
+        (λ fs f. h-step T t u us q (pass .below A (S .shape k .attrs) a (k, m, refl) t) f on (p k m) (find t fs) refl) (pentity P k i .attrs) refl
 
-    h-walk : (ts : List ℕ) {v : Value} {A : Ty} {R : Attrs} (t : ℕ) → attrsOf S A ≡ some R → PathOk S R t ts → Fits v A → Q A → TypesHold Q (walk P S T ts t v)
-    h-walk [] t e p f a = h-end t e f a
-    h-walk (u ∷ us) t e p f a = h-on (λ w B R′ d k g b. h-walk us u d k g b) t e p f a
+    h-walk : (ts : List ℕ) (U : ℕ → Ty) {v : Value} {A : Ty} (t : ℕ) → PathOk S ts t A → Fits v A → Q A → OfKind v (λ k. Q (U k)) → TypesHold Q (walk P S T U ts t v)
+    h-walk [] U t p f a x = h-end U t p f x
+    h-walk (u ∷ us) U t p f a x = h-on u us (λ w B k g b. h-walk us alone u k g b (of-single g b)) U t p f a x
 
-    h-path : {a : Expr} {A : Ty} {R : Attrs} {t : ℕ} {ts : List ℕ} → attrsOf S A ≡ some R → PathOk S R t ts → Typed S a A → TypesHold Q a → (w : View) → Means w (eval S C a) → TypesHold Q (simpPath S P T a t ts w)
-    h-path {a = a} {t = t} {ts = ts} e p ta h (value v) m = h-walk ts t e p (fitting (yields S C ft ta) m) (subst Q (ty-of ta) (root-holds Q a h))
-    h-path e p ta h error m = q
-    h-path {a = a} {t = t} {ts = ts} e p ta h open′ m = h-left T a t ts q h
+    h-path : {a : Expr} {A : Ty} (t : ℕ) (ts : List ℕ) → PathOk S ts t A → Typed S a A → TypesHold Q a → (w : View) → Means w (eval S C a) → TypesHold Q (simpPath S P T a t ts w)
+    h-path {a = a} t ts p ta h (value v) m =
+        let f = fitting (yields S C ft ta) m in
+        let b = root-holds Q a h in
+        h-walk ts (λ k. tyOf a) t p f (subst Q (ty-of ta) b) (subst (λ B. OfKind v (λ k. Q B)) (sym (ty-of ta)) (of-own f (subst Q (ty-of ta) b)))
+    h-path t ts p ta h error m = q
+    h-path {a = a} t ts p ta h open′ m = h-left T a t ts q h
 
   mutual
     interpret-hold : {e : Expr} {T : Ty} → Typed S e T → TypesHold Q e → TypesHold Q (interpret S P e)
@@ -234,9 +266,9 @@ module _ (S : Schema) (P : PEnv) (C : Env) (ft : EnvFits S C) (ag : Knows P C) (
         (h-strict2 Q q _ (λ v w. gives (applyBin o v w)) (view (interpret S P a)) (view (interpret S P b)) (q, interpret-hold ta h, interpret-hold tb i))
     interpret-hold (trel {o = o} {a = a} {b = b} k ta tb) (q, h, i) = h-decide Q q _ (canErr (interpret S P a) || canErr (interpret S P b)) (relRule S o (tyOf (interpret S P a)) (tyOf (interpret S P b)))
         (h-strict2 Q q _ (relKnown P o) (view (interpret S P a)) (view (interpret S P b)) (q, interpret-hold ta h, interpret-hold tb i))
-    interpret-hold (tget {a = a} {t = t} e d ta) (q, h) = h-strict1 Q q _ (getKnown P t) (view (interpret S P a)) (q, interpret-hold ta h)
+    interpret-hold (tget {a = a} {t = t} e ta) (q, h) = h-strict1 Q q _ (getKnown P t) (view (interpret S P a)) (q, interpret-hold ta h)
     interpret-hold (thas {a = a} {t = t} e ta) (q, h) = h-decide Q q _ (canErr (interpret S P a)) (hasRule S t (tyOf (interpret S P a))) (h-strict1 Q q _ (hasKnown P t) (view (interpret S P a)) (q, interpret-hold ta h))
-    interpret-hold (tpath {a = a} e p ta) (q, h) = h-path _ q e p (sound S P C ft ag ta .typed) (interpret-hold ta h) (view (interpret S P a)) (view-means S C (interpret S P a))
+    interpret-hold (tpath {a = a} {t = t} {ts = ts} p ta) (q, h) = h-path _ q t ts p (sound S P C ft ag ta .typed) (interpret-hold ta h) (view (interpret S P a)) (view-means S C (interpret S P a))
     interpret-hold (tset′ {es = es} k) (q, h) = h-set Q q (interprets S P es) (values (interprets S P es)) (all-hold k h)
     interpret-hold (trec′ {gs = gs} k c) (q, h) = h-rec Q q (interpretArgs S P gs) (fields (interpretArgs S P gs)) (args-hold k h)
 
@@ -248,8 +280,7 @@ module _ (S : Schema) (P : PEnv) (C : Env) (ft : EnvFits S C) (ag : Knows P C) (
     args-hold noArg h = tt
     args-hold (oneArg d k ks) (h, hs) = (interpret-hold k h, args-hold ks hs)
 
--- THE THEOREM: over known parts that fit, where Q passes from an entity or record type to the types of its attributes
-pub types-kept : (S : Schema) (P : PEnv) → KnownFits S P → (Q : Ty → Type 0)
-    → ((A : Ty) (R : Attrs) → Q A → attrsOf S A ≡ some R → (t : ℕ) (B : Ty) → declared t R ≡ some B → Q B)
+-- THE THEOREM: over known parts that fit, where Q passes from an entity or record type to the types of its attributes and to a single kind's
+pub types-kept : (S : Schema) (P : PEnv) → KnownFits S P → (Q : Ty → Type 0) → Passes S Q
     → {e : Expr} {T : Ty} → Typed S e T → TypesHold Q e → TypesHold Q (interpret S P e)
-types-kept S P k Q below ty h = let (C, ft, ag) = completed S P k in interpret-hold S P C ft (agree-knows ag) Q below ty h
+types-kept S P k Q pass ty h = let (C, ft, ag) = completed S P k in interpret-hold S P C ft (agree-knows ag) Q pass ty h

@@ -5,15 +5,15 @@ use mathlib.Core.Option.{Option, none, some}
 use mathlib.Core.List.{List, [], _∷_}
 use Prim.Native.Nat.{ℕ}
 use lib.Dec.{eqb}
-use Rattle.cedar.proofs.Tools.{no-true, and-both, either}
+use Rattle.cedar.proofs.Tools.{no-true, and-both, either, each-at}
 use Rattle.cedar.specs.Order.{Tree, leaf, node, cmp}
 use Rattle.cedar.proofs.OrderLaws.{cmp-eq}
 use Rattle.cedar.proofs.CanonicalLaws.{isEq-eq}
 use Rattle.cedar.specs.Value.{Value, vbool, vlong, vtext, vent, vset, vrec, Values, vnil, vcons, Fields, fnil, fcons, find, found, onSome}
-use Rattle.cedar.specs.Types.{Ty, tbool, tlong, tstr, tent, tset, trec, Attrs, anil, acons, declared, Schema, Needed, Complete, Fits, fbool, flong, ftext, fent, fset, frec, AllFit, nilFit, consFit, FieldsFit, noField, oneField, tyCode, attrsCode, tySame}
+use Rattle.cedar.specs.Types.{Ty, tbool, tlong, tstr, tent, tset, trec, Attrs, anil, acons, among, eachKind, declared, Schema, Needed, Complete, Fits, fbool, flong, ftext, fent, fset, frec, AllFit, nilFit, consFit, FieldsFit, noField, oneField, kindsCode, tyCode, attrsCode, tySame}
 use Rattle.cedar.specs.Residual.{Expr, lit, err, var, and, or, ite, un, bin, rel, get, has, haspath, set, rec, Exprs, enil, econs, Args, gnil, gcons, tyOf, Un, unot, uneg, uempty, uis, ulike, Bin, beq, blt, ble, badd, bsub, bmul, bcontains, ball, bany, Rel, rin, rgettag, rhastag}
-use Rattle.cedar.specs.TypingTest.{onEntTy, onSetTy, onRecTy, need, completed, fits, allFit, fieldsFit, unOk, three, binOk, relOk, pathOk, check, checkAll, checkArgs}
-use Rattle.cedar.specs.Typing.{named, attrsOf, UnOk, notOk, negOk, emptyOk, isOk, likeOk, BinOk, eqOk, eqEntOk, ltOk, leOk, addOk, subOk, mulOk, containsOk, allOk, anyOk, RelOk, inOk, inSetOk, getTagOk, hasTagOk, PathOk, lastOk, freeOk, stepOk, Typed, tlit, terr, tvar, tand, tor, tite, tun, tbin, trel, tget, thas, tpath, tset′, trec′, AllTyped, nilTyped, consTyped, ArgsTyped, noArg, oneArg}
+use Rattle.cedar.specs.TypingTest.{onEntTy, onSetTy, onRecTy, need, completed, fits, allFit, fieldsFit, unOk, three, binOk, relOk, each, pathOk, check, checkAll, checkArgs}
+use Rattle.cedar.specs.Typing.{named, UnOk, notOk, negOk, emptyOk, isOk, likeOk, BinOk, eqOk, eqEntOk, ltOk, leOk, addOk, subOk, mulOk, containsOk, allOk, anyOk, RelOk, inOk, inSetOk, getTagOk, hasTagOk, Each, IfDeclared, PathOk, Typed, tlit, terr, tvar, tand, tor, tite, tun, tbin, trel, tget, thas, tpath, tset′, trec′, AllTyped, nilTyped, consTyped, ArgsTyped, noArg, oneArg}
 
 -- equality of types, by codes as for values
 
@@ -21,10 +21,23 @@ num : Tree → ℕ
 num (leaf n) = n
 num (node a b) = 0
 
+kindsOfCode : Tree → List ℕ
+kindsOfCode (leaf n) = []
+kindsOfCode (node a b) = num a ∷ kindsOfCode b
+
+kinds-back : (ks : List ℕ) → kindsOfCode (kindsCode ks) ≡ ks
+unfolding kindsOfCode num
+kinds-back [] = refl
+kinds-back (k ∷ ks) = ap (λ l. k ∷ l) (kinds-back ks)
+
+entOfCode : Tree → Ty
+entOfCode (leaf n) = tbool
+entOfCode (node a b) = tent (num a) (kindsOfCode b)
+
 mutual
   tyOfCode : Tree → Ty
   tyOfCode (leaf n) = cond (eqb n 0) tbool (cond (eqb n 1) tlong tstr)
-  tyOfCode (node t b) = cond (eqb (num t) 0) (tent (num b)) (cond (eqb (num t) 1) (tset (tyOfCode b)) (trec (attrsOfCode b)))
+  tyOfCode (node t b) = cond (eqb (num t) 0) (entOfCode b) (cond (eqb (num t) 1) (tset (tyOfCode b)) (trec (attrsOfCode b)))
 
   attrsOfCode : Tree → Attrs
   attrsOfCode (leaf n) = anil
@@ -33,13 +46,13 @@ mutual
   attrsOfCode (node t (node r (node a b))) = acons (num t) (eqb (num r) 1) (tyOfCode a) (attrsOfCode b)
 
 mutual
-  unfolding tyOfCode num
+  unfolding tyOfCode entOfCode num
 
   ty-back : (A : Ty) → tyOfCode (tyCode A) ≡ A
   ty-back tbool = refl
   ty-back tlong = refl
   ty-back tstr = refl
-  ty-back (tent k) = refl
+  ty-back (tent k ks) = ap (tent k) (kinds-back ks)
   ty-back (tset A) = ap tset (ty-back A)
   ty-back (trec R) = ap trec (attrs-back R)
 
@@ -55,11 +68,11 @@ tySame-true A B e = sym (ty-back A) ∙ ap tyOfCode (cmp-eq (tyCode A) (tyCode B
 is-ty : (X : Ty → Type 0) (A B : Ty) → tySame A B ≡ true → X B → X A
 is-ty X A B e h = subst X (sym (tySame-true A B e)) h
 
-ent-ty : (X : Ty → Type 0) (A : Ty) (f : ℕ → Bool) → onEntTy false A f ≡ true → ((k : ℕ) → f k ≡ true → X (tent k)) → X A
+ent-ty : (X : Ty → Type 0) (A : Ty) (f : List ℕ → Bool) → onEntTy false A f ≡ true → ((k : ℕ) (ks : List ℕ) → f (k ∷ ks) ≡ true → X (tent k ks)) → X A
 ent-ty X tbool f e h = no-true e
 ent-ty X tlong f e h = no-true e
 ent-ty X tstr f e h = no-true e
-ent-ty X (tent k) f e h = h k e
+ent-ty X (tent k ks) f e h = h k ks e
 ent-ty X (tset A) f e h = no-true e
 ent-ty X (trec R) f e h = no-true e
 
@@ -67,7 +80,7 @@ set-ty : (X : Ty → Type 0) (A : Ty) (f : Ty → Bool) → onSetTy false A f �
 set-ty X tbool f e h = no-true e
 set-ty X tlong f e h = no-true e
 set-ty X tstr f e h = no-true e
-set-ty X (tent k) f e h = no-true e
+set-ty X (tent k ks) f e h = no-true e
 set-ty X (tset A) f e h = h A e
 set-ty X (trec R) f e h = no-true e
 
@@ -75,7 +88,7 @@ rec-ty : (X : Ty → Type 0) (A : Ty) (f : Attrs → Bool) → onRecTy false A f
 rec-ty X tbool f e h = no-true e
 rec-ty X tlong f e h = no-true e
 rec-ty X tstr f e h = no-true e
-rec-ty X (tent k) f e h = no-true e
+rec-ty X (tent k ks) f e h = no-true e
 rec-ty X (tset A) f e h = no-true e
 rec-ty X (trec R) f e h = h R e
 
@@ -98,7 +111,7 @@ mutual
   fits-sound (vbool b) A e = is-ty (Fits (vbool b)) A tbool e fbool
   fits-sound (vlong n) A e = is-ty (Fits (vlong n)) A tlong e flong
   fits-sound (vtext t) A e = is-ty (Fits (vtext t)) A tstr e ftext
-  fits-sound (vent k t) A e = is-ty (Fits (vent k t)) A (tent k) e fent
+  fits-sound (vent k t) A e = ent-ty (Fits (vent k t)) A (among k) e (λ l ls m. fent m)
   fits-sound (vset vs) A e = set-ty (Fits (vset vs)) A (λ B. allFit vs B) e (λ B q. fset (allFit-sound vs B q))
   fits-sound (vrec fs) A e = rec-ty (Fits (vrec fs)) A (λ R. fieldsFit fs R && completed R (λ t. found (find t fs))) e
       (λ R q. and-both (fieldsFit fs R) (completed R (λ t. found (find t fs))) q (λ f c. frec (fieldsFit-sound fs R f) (complete-sound R (λ t. found (find t fs)) c)))
@@ -119,7 +132,7 @@ module _ (S : Schema) where
   un-ok unot A U e = and-both (tySame A tbool) (tySame U tbool) e (λ p q. is-ty (λ Z. UnOk S unot A Z) U tbool q (is-ty (λ Z. UnOk S unot Z tbool) A tbool p notOk))
   un-ok uneg A U e = and-both (tySame A tlong) (tySame U tlong) e (λ p q. is-ty (λ Z. UnOk S uneg A Z) U tlong q (is-ty (λ Z. UnOk S uneg Z tlong) A tlong p negOk))
   un-ok uempty A U e = and-both (onSetTy false A (λ B. true)) (tySame U tbool) e (λ p q. is-ty (λ Z. UnOk S uempty A Z) U tbool q (set-ty (λ Z. UnOk S uempty Z tbool) A (λ B. true) p (λ B r. emptyOk)))
-  un-ok (uis k) A U e = and-both (onEntTy false A (λ l. true)) (tySame U tbool) e (λ p q. is-ty (λ Z. UnOk S (uis k) A Z) U tbool q (ent-ty (λ Z. UnOk S (uis k) Z tbool) A (λ l. true) p (λ l r. isOk)))
+  un-ok (uis k) A U e = and-both (onEntTy false A (λ l. true)) (tySame U tbool) e (λ p q. is-ty (λ Z. UnOk S (uis k) A Z) U tbool q (ent-ty (λ Z. UnOk S (uis k) Z tbool) A (λ l. true) p (λ l ls r. isOk)))
   un-ok (ulike i) A U e = and-both (tySame A tstr) (tySame U tbool) e (λ p q. is-ty (λ Z. UnOk S (ulike i) A Z) U tbool q (is-ty (λ Z. UnOk S (ulike i) Z tbool) A tstr p likeOk))
 
   three-ok : (A B U X Y Z : Ty) (Q : Ty → Ty → Ty → Type 0) → three S A B U X Y Z ≡ true → Q X Y Z → Q A B U
@@ -129,7 +142,7 @@ module _ (S : Schema) where
   eq-ok : (A B : Ty) → (tySame A B || onEntTy false A (λ k. onEntTy false B (λ l. true))) ≡ true → BinOk S beq A B tbool
   eq-ok A B e = either (tySame A B) (onEntTy false A (λ k. onEntTy false B (λ l. true))) e
       (λ p. is-ty (λ a. BinOk S beq a B tbool) A B p eqOk)
-      (λ p. ent-ty (λ a. BinOk S beq a B tbool) A (λ k. onEntTy false B (λ l. true)) p (λ k r. ent-ty (λ b. BinOk S beq (tent k) b tbool) B (λ l. true) r (λ l s. eqEntOk)))
+      (λ p. ent-ty (λ a. BinOk S beq a B tbool) A (λ k. onEntTy false B (λ l. true)) p (λ k ks r. ent-ty (λ b. BinOk S beq (tent k ks) b tbool) B (λ l. true) r (λ l ls s. eqEntOk)))
 
   sets-ok : (o : Bin) (A B : Ty) → ((E : Ty) → BinOk S o (tset E) (tset E) tbool) → onSetTy false A (λ E. tySame B (tset E)) ≡ true → BinOk S o A B tbool
   sets-ok o A B h e = set-ty (λ a. BinOk S o a B tbool) A (λ E. tySame B (tset E)) e (λ E q. is-ty (λ b. BinOk S o (tset E) b tbool) B (tset E) q (h E))
@@ -148,30 +161,38 @@ module _ (S : Schema) where
   bin-ok ball A B U e = to-bool ball A B U (onSetTy false A (λ E. tySame B (tset E))) e (sets-ok ball A B (λ E. allOk))
   bin-ok bany A B U e = to-bool bany A B U (onSetTy false A (λ E. tySame B (tset E))) e (sets-ok bany A B (λ E. anyOk))
 
-  target-ok : (k : ℕ) (B : Ty) → onEntTy (onSetTy false B (λ E. onEntTy false E (λ l. true))) B (λ l. true) ≡ true → RelOk S rin (tent k) B tbool
-  target-ok k tbool e = no-true e
-  target-ok k tlong e = no-true e
-  target-ok k tstr e = no-true e
-  target-ok k (tent l) e = inOk
-  target-ok k (tset E) e = ent-ty (λ z. RelOk S rin (tent k) (tset z) tbool) E (λ l. true) e (λ l q. inSetOk)
-  target-ok k (trec R) e = no-true e
+  target-ok : (k : ℕ) (ks : List ℕ) (B : Ty) → onEntTy (onSetTy false B (λ E. onEntTy false E (λ l. true))) B (λ l. true) ≡ true → RelOk S rin (tent k ks) B tbool
+  target-ok k ks tbool e = no-true e
+  target-ok k ks tlong e = no-true e
+  target-ok k ks tstr e = no-true e
+  target-ok k ks (tent l ls) e = inOk
+  target-ok k ks (tset E) e = ent-ty (λ z. RelOk S rin (tent k ks) (tset z) tbool) E (λ l. true) e (λ l ls q. inSetOk)
+  target-ok k ks (trec R) e = no-true e
 
   rel-ok : (o : Rel) (A B U : Ty) → relOk S o A B U ≡ true → RelOk S o A B U
   rel-ok rin A B U e = and-both (onEntTy false A (λ k. onEntTy (onSetTy false B (λ E. onEntTy false E (λ l. true))) B (λ l. true))) (tySame U tbool) e
-      (λ p q. is-ty (RelOk S rin A B) U tbool q (ent-ty (λ a. RelOk S rin a B tbool) A (λ k. onEntTy (onSetTy false B (λ E. onEntTy false E (λ l. true))) B (λ l. true)) p (λ k s. target-ok k B s)))
-  rel-ok rgettag A B U e = and-both (onEntTy false A (λ k. onSome false (S .shape k .tags) (λ E. tySame E U))) (tySame B tstr) e
-      (λ p q. is-ty (λ b. RelOk S rgettag A b U) B tstr q (ent-ty (λ a. RelOk S rgettag a tstr U) A (λ k. onSome false (S .shape k .tags) (λ E. tySame E U)) p
-      (λ k s. some-test (S .shape k .tags) (λ E. tySame E U) s (λ E t u. getTagOk (t ∙ ap some (tySame-true E U u))))))
+      (λ p q. is-ty (RelOk S rin A B) U tbool q (ent-ty (λ a. RelOk S rin a B tbool) A (λ k. onEntTy (onSetTy false B (λ E. onEntTy false E (λ l. true))) B (λ l. true)) p (λ k ks s. target-ok k ks B s)))
+  rel-ok rgettag A B U e = and-both (onEntTy false A (eachKind (λ k. onSome false (S .shape k .tags) (λ E. tySame E U)))) (tySame B tstr) e
+      (λ p q. is-ty (λ b. RelOk S rgettag A b U) B tstr q (ent-ty (λ a. RelOk S rgettag a tstr U) A (eachKind (λ k. onSome false (S .shape k .tags) (λ E. tySame E U))) p
+      (λ l ls s. getTagOk (λ k m. some-test (S .shape k .tags) (λ E. tySame E U) (each-at (λ k. onSome false (S .shape k .tags) (λ E. tySame E U)) (l ∷ ls) s k m) (λ E t u. t ∙ ap some (tySame-true E U u))))))
   rel-ok rhastag A B U e = and-both (onEntTy false A (λ k. true) && tySame B tstr) (tySame U tbool) e (λ p q. and-both (onEntTy false A (λ k. true)) (tySame B tstr) p
-      (λ r s. is-ty (RelOk S rhastag A B) U tbool q (is-ty (λ b. RelOk S rhastag A b tbool) B tstr s (ent-ty (λ a. RelOk S rhastag a tstr tbool) A (λ k. true) r (λ k t. hasTagOk)))))
+      (λ r s. is-ty (RelOk S rhastag A B) U tbool q (is-ty (λ b. RelOk S rhastag A b tbool) B tstr s (ent-ty (λ a. RelOk S rhastag a tstr tbool) A (λ k. true) r (λ k ks t. hasTagOk)))))
 
-  path-ok : (ts : List ℕ) (t : ℕ) (R : Attrs) → pathOk S ts t R ≡ true → PathOk S R t ts
-  path-ok [] t R e = lastOk
-  path-ok (u ∷ us) t R e = go (declared t R) refl (λ Q q. path-ok us u Q q) e
+  each-ok : (A : Ty) (f : Attrs → Bool) (P : Attrs → Type 0) → ((R : Attrs) → f R ≡ true → P R) → each S A f ≡ true → Each S A P
+  each-ok tbool f P h e = no-true e
+  each-ok tlong f P h e = no-true e
+  each-ok tstr f P h e = no-true e
+  each-ok (tent l ls) f P h e = λ k m. h (S .shape k .attrs) (each-at (λ k. f (S .shape k .attrs)) (l ∷ ls) e k m)
+  each-ok (tset A) f P h e = no-true e
+  each-ok (trec R) f P h e = h R e
+
+  path-ok : (ts : List ℕ) (t : ℕ) (A : Ty) → pathOk S ts t A ≡ true → PathOk S ts t A
+  path-ok [] t A e = each-ok A (λ R. true) (λ R. Unit {0}) (λ R q. tt) e
+  path-ok (u ∷ us) t A e = each-ok A (λ R. onSome true (declared t R) (pathOk S us u)) (λ R. IfDeclared S (declared t R) (λ B. PathOk S us u B)) (λ R q. go (declared t R) (λ B r. path-ok us u B r) q) e
     where
-      go : (o : Option Ty) → declared t R ≡ o → ((Q : Attrs) → pathOk S us u Q ≡ true → PathOk S Q u us) → onSome true o (λ A. onSome false (attrsOf S A) (pathOk S us u)) ≡ true → PathOk S R t (u ∷ us)
-      go none d ih q = freeOk d
-      go (some A) d ih q = some-test (attrsOf S A) (pathOk S us u) q (λ Q p r. stepOk d p (ih Q r))
+      go : (o : Option Ty) → ((B : Ty) → pathOk S us u B ≡ true → PathOk S us u B) → onSome true o (pathOk S us u) ≡ true → IfDeclared S o (λ B. PathOk S us u B)
+      go none ih q = tt
+      go (some B) ih q = ih B q
 
   -- two bool operands
   logic : {a b : Expr} (U : Ty) (Q : Ty → Type 0) → three S (tyOf a) (tyOf b) U tbool tbool tbool ≡ true → Typed S a (tyOf a) → Typed S b (tyOf b) → (Typed S a tbool → Typed S b tbool → Q tbool) → Q U
@@ -196,12 +217,13 @@ module _ (S : Schema) where
     check-sound (un U u a) e = and-both (unOk S u (tyOf a) U) (check S a) e (λ p q. tun (un-ok u (tyOf a) U p) (check-sound a q))
     check-sound (bin U o a b) e = and-both (binOk S o (tyOf a) (tyOf b) U) (check S a && check S b) e (λ p q. and-both (check S a) (check S b) q (λ r s. tbin (bin-ok o (tyOf a) (tyOf b) U p) (check-sound a r) (check-sound b s)))
     check-sound (rel U o a b) e = and-both (relOk S o (tyOf a) (tyOf b) U) (check S a && check S b) e (λ p q. and-both (check S a) (check S b) q (λ r s. trel (rel-ok o (tyOf a) (tyOf b) U p) (check-sound a r) (check-sound b s)))
-    check-sound (get U a t) e = and-both (onSome false (attrsOf S (tyOf a)) (λ R. onSome false (declared t R) (λ A. tySame A U))) (check S a) e
-        (λ p q. some-test (attrsOf S (tyOf a)) (λ R. onSome false (declared t R) (λ A. tySame A U)) p (λ R r s. some-test (declared t R) (λ A. tySame A U) s (λ A d u. tget r (d ∙ ap some (tySame-true A U u)) (check-sound a q))))
-    check-sound (has U a t) e = and-both (onSome false (attrsOf S (tyOf a)) (λ R. tySame U tbool)) (check S a) e
-        (λ p q. some-test (attrsOf S (tyOf a)) (λ R. tySame U tbool) p (λ R r s. is-ty (λ z. Typed S (has z a t) z) U tbool s (thas r (check-sound a q))))
-    check-sound (haspath U a t ts) e = and-both (onSome false (attrsOf S (tyOf a)) (pathOk S ts t) && tySame U tbool) (check S a) e (λ p q. and-both (onSome false (attrsOf S (tyOf a)) (pathOk S ts t)) (tySame U tbool) p
-        (λ r s. some-test (attrsOf S (tyOf a)) (pathOk S ts t) r (λ R u w. is-ty (λ z. Typed S (haspath z a t ts) z) U tbool s (tpath u (path-ok ts t R w) (check-sound a q)))))
+    check-sound (get U a t) e = and-both (each S (tyOf a) (λ R. onSome false (declared t R) (λ A. tySame A U))) (check S a) e
+        (λ p q. tget (each-ok (tyOf a) (λ R. onSome false (declared t R) (λ A. tySame A U)) (λ R. declared t R ≡ some U)
+        (λ R r. some-test (declared t R) (λ A. tySame A U) r (λ A d u. d ∙ ap some (tySame-true A U u))) p) (check-sound a q))
+    check-sound (has U a t) e = and-both (each S (tyOf a) (λ R. true) && tySame U tbool) (check S a) e (λ p q. and-both (each S (tyOf a) (λ R. true)) (tySame U tbool) p
+        (λ r s. is-ty (λ z. Typed S (has z a t) z) U tbool s (thas (each-ok (tyOf a) (λ R. true) (λ R. Unit {0}) (λ R x. tt) r) (check-sound a q))))
+    check-sound (haspath U a t ts) e = and-both (pathOk S ts t (tyOf a) && tySame U tbool) (check S a) e (λ p q. and-both (pathOk S ts t (tyOf a)) (tySame U tbool) p
+        (λ r s. is-ty (λ z. Typed S (haspath z a t ts) z) U tbool s (tpath (path-ok ts t (tyOf a) r) (check-sound a q))))
     check-sound (set U es) e = set-ty (λ z. Typed S (set z es) z) U (λ A. checkAll S es A) e (λ A q. tset′ (all-sound es A q))
     check-sound (rec U gs) e = rec-ty (λ z. Typed S (rec z gs) z) U (λ R. checkArgs S gs R && completed R (λ t. named t gs)) e
         (λ R q. and-both (checkArgs S gs R) (completed R (λ t. named t gs)) q (λ r s. trec′ (args-sound gs R r) (complete-sound R (λ t. named t gs) s)))

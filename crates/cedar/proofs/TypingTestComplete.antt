@@ -1,18 +1,18 @@
 -- The other way round: what is typed passes the typing test, and what fits passes the test of fitting.
 use mathlib.Core.Path.{_≡_, refl, _∙_, ap, subst}
 use mathlib.Core.Bool.{Bool, true, false}
-use mathlib.Core.Option.{Option, some}
+use mathlib.Core.Option.{Option, none, some}
 use mathlib.Core.List.{List, [], _∷_}
 use Prim.Native.Nat.{ℕ}
 use lib.Dec.{isEq}
-use Rattle.cedar.proofs.Tools.{both, or-left, or-right}
+use Rattle.cedar.proofs.Tools.{both, or-left, or-right, each-of}
 use Rattle.cedar.proofs.OrderLaws.{cmp-refl}
 use Rattle.cedar.proofs.Kept.{ty-of}
 use Rattle.cedar.specs.Value.{Value, Values, Fields, find, found, onSome}
-use Rattle.cedar.specs.Types.{Ty, tbool, tent, tset, trec, Attrs, anil, acons, declared, Schema, Needed, Complete, Fits, fbool, flong, ftext, fent, fset, frec, AllFit, nilFit, consFit, FieldsFit, noField, oneField, tyCode, tySame}
+use Rattle.cedar.specs.Types.{Ty, tbool, tlong, tstr, tent, tset, trec, Attrs, anil, acons, among, eachKind, declared, Schema, Needed, Complete, Fits, fbool, flong, ftext, fent, fset, frec, AllFit, nilFit, consFit, FieldsFit, noField, oneField, tyCode, tySame}
 use Rattle.cedar.specs.Residual.{Expr, Exprs, Args, tyOf, Un, Bin, Rel}
-use Rattle.cedar.specs.Typing.{named, attrsOf, UnOk, notOk, negOk, emptyOk, isOk, likeOk, BinOk, eqOk, eqEntOk, ltOk, leOk, addOk, subOk, mulOk, containsOk, allOk, anyOk, RelOk, inOk, inSetOk, getTagOk, hasTagOk, PathOk, lastOk, freeOk, stepOk, Typed, tlit, terr, tvar, tand, tor, tite, tun, tbin, trel, tget, thas, tpath, tset′, trec′, AllTyped, nilTyped, consTyped, ArgsTyped, noArg, oneArg}
-use Rattle.cedar.specs.TypingTest.{need, completed, fits, allFit, fieldsFit, unOk, three, binOk, relOk, pathOk, check, checkAll, checkArgs}
+use Rattle.cedar.specs.Typing.{named, UnOk, notOk, negOk, emptyOk, isOk, likeOk, BinOk, eqOk, eqEntOk, ltOk, leOk, addOk, subOk, mulOk, containsOk, allOk, anyOk, RelOk, inOk, inSetOk, getTagOk, hasTagOk, Each, IfDeclared, PathOk, Typed, tlit, terr, tvar, tand, tor, tite, tun, tbin, trel, tget, thas, tpath, tset′, trec′, AllTyped, nilTyped, consTyped, ArgsTyped, noArg, oneArg}
+use Rattle.cedar.specs.TypingTest.{need, completed, fits, allFit, fieldsFit, unOk, three, binOk, relOk, each, pathOk, check, checkAll, checkArgs}
 
 pub tySame-refl : (A : Ty) → tySame A A ≡ true
 tySame-refl A = ap isEq (cmp-refl (tyCode A))
@@ -38,7 +38,7 @@ mutual
   fits-complete fbool = refl
   fits-complete flong = refl
   fits-complete ftext = refl
-  fits-complete (fent {k = k}) = tySame-refl (tent k)
+  fits-complete (fent m) = m
   fits-complete (fset h) = all-fit h
   fits-complete (frec {fs = fs} {R = R} h c) = both (fields-fit h) (completed-complete R (λ t. found (find t fs)) c)
 
@@ -62,7 +62,7 @@ module _ (S : Schema) where
 
   bin-complete : {o : Bin} {A B U : Ty} → BinOk S o A B U → binOk S o A B U ≡ true
   bin-complete (eqOk {A = A}) = both (or-left (tySame A A) _ (tySame-refl A)) refl
-  bin-complete (eqEntOk {k = k} {l = l}) = both (or-right (tySame (tent k) (tent l)) true refl) refl
+  bin-complete (eqEntOk {k = k} {l = l} {ks = ks} {ls = ls}) = both (or-right (tySame (tent k ks) (tent l ls)) true refl) refl
   bin-complete ltOk = refl
   bin-complete leOk = refl
   bin-complete addOk = refl
@@ -75,21 +75,27 @@ module _ (S : Schema) where
   rel-complete : {o : Rel} {A B U : Ty} → RelOk S o A B U → relOk S o A B U ≡ true
   rel-complete inOk = refl
   rel-complete inSetOk = refl
-  rel-complete (getTagOk {T = T} e) = both (on-some (λ E. tySame E T) e (tySame-refl T)) refl
+  rel-complete (getTagOk {l = l} {ls = ls} {T = T} e) = both (each-of (λ k. onSome false (S .shape k .tags) (λ E. tySame E T)) (l ∷ ls) (λ k m. on-some (λ E. tySame E T) (e k m) (tySame-refl T))) refl
   rel-complete hasTagOk = refl
 
-  path-complete : {R : Attrs} {t : ℕ} {ts : List ℕ} → PathOk S R t ts → pathOk S ts t R ≡ true
-  path-complete lastOk = refl
-  path-complete {ts = []} (freeOk d) = refl
-  path-complete {ts = u ∷ us} (freeOk d) = rw d refl
-  path-complete (stepOk {u = u} {us = us} d a p) = rw d (on-some (pathOk S us u) a (path-complete p))
+  each-complete : (A : Ty) (f : Attrs → Bool) (P : Attrs → Type 0) → ((R : Attrs) → P R → f R ≡ true) → Each S A P → each S A f ≡ true
+  each-complete tbool f P h e = absurd e
+  each-complete tlong f P h e = absurd e
+  each-complete tstr f P h e = absurd e
+  each-complete (tent l ls) f P h e = each-of (λ k. f (S .shape k .attrs)) (l ∷ ls) (λ k m. h (S .shape k .attrs) (e k m))
+  each-complete (tset A) f P h e = absurd e
+  each-complete (trec R) f P h e = h R e
+
+  path-complete : (ts : List ℕ) (t : ℕ) (A : Ty) → PathOk S ts t A → pathOk S ts t A ≡ true
+  path-complete [] t A p = each-complete A (λ R. true) (λ R. Unit {0}) (λ R x. refl) p
+  path-complete (u ∷ us) t A p = each-complete A (λ R. onSome true (declared t R) (pathOk S us u)) (λ R. IfDeclared S (declared t R) (λ B. PathOk S us u B)) (λ R x. go (declared t R) (λ B r. path-complete us u B r) x) p
+    where
+      go : (o : Option Ty) → ((B : Ty) → PathOk S us u B → pathOk S us u B ≡ true) → IfDeclared S o (λ B. PathOk S us u B) → onSome true o (pathOk S us u) ≡ true
+      go none ih x = refl
+      go (some B) ih x = ih B x
 
   three-complete : {A B U X Y Z : Ty} → A ≡ X → B ≡ Y → U ≡ Z → three S A B U X Y Z ≡ true
   three-complete a b u = both (both (is-same a) (is-same b)) (is-same u)
-
-  -- the attributes of what a node carries as its type
-  attrs-at : {a : Expr} {A : Ty} {R : Attrs} → Typed S a A → attrsOf S A ≡ some R → attrsOf S (tyOf a) ≡ some R
-  attrs-at h e = ap (attrsOf S) (ty-of h) ∙ e
 
   mutual
     pub check-complete : {e : Expr} {T : Ty} → Typed S e T → check S e ≡ true
@@ -102,9 +108,10 @@ module _ (S : Schema) where
     check-complete (tun {u = u} {T = T} o a) = both (ap (λ A. unOk S u A T) (ty-of a) ∙ un-complete o) (check-complete a)
     check-complete (tbin {o = o} {T = T} h a b) = both ((λ i. binOk S o (ty-of a i) (ty-of b i) T) ∙ bin-complete h) (both (check-complete a) (check-complete b))
     check-complete (trel {o = o} {T = T} h a b) = both ((λ i. relOk S o (ty-of a i) (ty-of b i) T) ∙ rel-complete h) (both (check-complete a) (check-complete b))
-    check-complete (tget {T = T} {t = t} e d a) = both (on-some (λ R. onSome false (declared t R) (λ A. tySame A T)) (attrs-at a e) (on-some (λ A. tySame A T) d (tySame-refl T))) (check-complete a)
-    check-complete (thas e a) = both (on-some (λ R. tySame tbool tbool) (attrs-at a e) refl) (check-complete a)
-    check-complete (tpath {t = t} {ts = ts} e p a) = both (both (on-some (pathOk S ts t) (attrs-at a e) (path-complete p)) refl) (check-complete a)
+    check-complete (tget {a = a} {A = A} {T = T} {t = t} e h) = both (ap (λ B. each S B (λ R. onSome false (declared t R) (λ A. tySame A T))) (ty-of h)
+        ∙ each-complete A (λ R. onSome false (declared t R) (λ A. tySame A T)) (λ R. declared t R ≡ some T) (λ R d. on-some (λ A. tySame A T) d (tySame-refl T)) e) (check-complete h)
+    check-complete (thas {A = A} e h) = both (both (ap (λ B. each S B (λ R. true)) (ty-of h) ∙ each-complete A (λ R. true) (λ R. Unit {0}) (λ R x. refl) e) refl) (check-complete h)
+    check-complete (tpath {A = A} {t = t} {ts = ts} p h) = both (both (ap (pathOk S ts t) (ty-of h) ∙ path-complete ts t A p) refl) (check-complete h)
     check-complete (tset′ h) = all-complete h
     check-complete (trec′ {gs = gs} {R = R} h c) = both (args-complete h) (completed-complete R (λ t. named t gs) c)
 

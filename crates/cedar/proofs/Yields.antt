@@ -9,9 +9,9 @@ use lib.IntN.{ℤ, negℤ, _+ℤ_, _-ℤ_, _*ℤ_}
 use lib.Dec.{eqb}
 use Rattle.cedar.proofs.Tools.{no-some, the-same, eqb-true}
 use Rattle.cedar.specs.Value.{Value, vlong, Values, Fields, fnil, Result, ok, fail, bind, find, pick, onSome}
-use Rattle.cedar.specs.Types.{Ty, tbool, tlong, tent, Attrs, declared, Schema, Fits, fbool, flong, ftext, fent, fset, frec, AllFit, nilFit, consFit, FieldsFit, noField, oneField}
+use Rattle.cedar.specs.Types.{Ty, tbool, tlong, tent, Attrs, among, declared, Schema, Fits, fbool, flong, ftext, fent, fset, frec, AllFit, nilFit, consFit, FieldsFit, noField, oneField}
 use Rattle.cedar.specs.Residual.{Un, Bin, Rel, unErrs, binErrs, relErrs}
-use Rattle.cedar.specs.Typing.{UnOk, notOk, negOk, emptyOk, isOk, likeOk, BinOk, eqOk, eqEntOk, ltOk, leOk, addOk, subOk, mulOk, containsOk, allOk, anyOk, RelOk, inOk, inSetOk, getTagOk, hasTagOk, PathOk, lastOk, freeOk, stepOk, attrsOf}
+use Rattle.cedar.specs.Typing.{UnOk, notOk, negOk, emptyOk, isOk, likeOk, BinOk, eqOk, eqEntOk, ltOk, leOk, addOk, subOk, mulOk, containsOk, allOk, anyOk, RelOk, inOk, inSetOk, getTagOk, hasTagOk, Each, IfDeclared, PathOk}
 use Rattle.cedar.specs.Entities.{Env, Line, entity, lineOr, EnvFits, LineFits, noKind, TagsFit, noTag, oneTag}
 use Rattle.cedar.specs.Evaluate.{applyUn, applyBin, applyRel, applyGet, applyHas, applyPath, inRange, okLong, fieldsOf, allEnt, evalAnd, evalOr, evalIf, bind2}
 
@@ -65,7 +65,7 @@ module _ (S : Schema) where
   y-un notOk (value fbool) = value fbool
   y-un negOk (value (flong {n = n})) = y-long (negℤ n)
   y-un emptyOk (value (fset h)) = value fbool
-  y-un isOk (value fent) = value fbool
+  y-un isOk (value (fent m)) = value fbool
   y-un likeOk (value ftext) = value fbool
   y-un {u = u} o error = orr (unErrs u) error
 
@@ -111,9 +111,9 @@ pub no-tag : {o : Option Ty} {fs : Fields} → o ≡ none → TagsFit o fs → f
 no-tag e noTag = refl
 no-tag e (oneTag f h) = no-some (sym e)
 
-pub ent-all : {vs : Values} {l : ℕ} → AllFit vs (tent l) → allEnt vs ≡ true
+pub ent-all : {vs : Values} {l : ℕ} {ls : List ℕ} → AllFit vs (tent l ls) → allEnt vs ≡ true
 ent-all nilFit = refl
-ent-all (consFit fent h) = ent-all h
+ent-all (consFit (fent m) h) = ent-all h
 
 module _ (S : Schema) (C : Env) (ft : EnvFits S C) where
   pub entity-fits : (k t : ℕ) → LineFits S k (entity C k t)
@@ -123,29 +123,29 @@ module _ (S : Schema) (C : Env) (ft : EnvFits S C) where
       go none e = record { attrs = noField; tags = noTag; ancestors = noKind }
       go (some l) e = ft .line k t l e
 
-  -- the fields of what fits an entity or record type
-  pub fields-fit : {v : Value} {A : Ty} {R : Attrs} → attrsOf S A ≡ some R → Fits v A → (fs : Fields) × (fieldsOf C v ≡ some fs) × FieldsFit fs R
-  fields-fit e fbool = no-some e
-  fields-fit e flong = no-some e
-  fields-fit e ftext = no-some e
-  fields-fit e (fent {k = k} {t = t}) = (entity C k t .attrs, refl, subst (FieldsFit (entity C k t .attrs)) (Option·some-injective _ _ e) (entity-fits k t .attrs))
-  fields-fit e (fset h) = no-some e
-  fields-fit e (frec {fs = fs} h c) = (fs, refl, subst (FieldsFit fs) (Option·some-injective _ _ e) h)
+  -- the fields of what fits an entity or record type, with what is said of the attributes of its kind
+  pub fields-fit : {v : Value} {A : Ty} (P : Attrs → Type 0) → Each S A P → Fits v A → (R : Attrs) × P R × (fs : Fields) × (fieldsOf C v ≡ some fs) × FieldsFit fs R
+  fields-fit P e fbool = absurd e
+  fields-fit P e flong = absurd e
+  fields-fit P e ftext = absurd e
+  fields-fit P e (fent {k = k} {t = t} m) = (S .shape k .attrs, e k m, entity C k t .attrs, refl, entity-fits k t .attrs)
+  fields-fit P e (fset h) = absurd e
+  fields-fit P e (frec {fs = fs} {R = R} h c) = (R, e, fs, refl, h)
 
   pub y-rel : {o : Rel} {A B T : Ty} {p q : Bool} {r s : Result} → RelOk S o A B T → Yields A p r → Yields B q s → Yields T (relErrs o || p || q) (bind2 r s (applyRel C o))
-  y-rel inOk (value fent) (value fent) = value fbool
-  y-rel inSetOk (value fent) (value (fset h)) = rw (ent-all h) (value fbool)
-  y-rel (getTagOk e) (value (fent {k = k} {t = t})) (value (ftext {t = u})) = y-tag u e (entity-fits k t .tags)
-  y-rel hasTagOk (value fent) (value ftext) = value fbool
+  y-rel inOk (value (fent m)) (value (fent n)) = value fbool
+  y-rel inSetOk (value (fent m)) (value (fset h)) = rw (ent-all h) (value fbool)
+  y-rel (getTagOk e) (value (fent {k = k} {t = t} m)) (value (ftext {t = u})) = y-tag u (e k m) (entity-fits k t .tags)
+  y-rel hasTagOk (value (fent m)) (value ftext) = value fbool
   y-rel {o = o} {p = p} h (value f) error = orr (relErrs o || p) error
   y-rel {o = o} {q = q} h error y = orl q (orr (relErrs o) error)
 
-  pub y-get : {A T : Ty} {R : Attrs} (t : ℕ) {p : Bool} {r : Result} → attrsOf S A ≡ some R → declared t R ≡ some T → Yields A p r → Yields T true (bind r (applyGet C t))
-  y-get t e d (value f) = let (fs, q, h) = fields-fit e f in rw q (y-find t d h)
-  y-get t e d error = error
+  pub y-get : {A T : Ty} (t : ℕ) {p : Bool} {r : Result} → Each S A (λ R. declared t R ≡ some T) → Yields A p r → Yields T true (bind r (applyGet C t))
+  y-get {T = T} t e (value f) = let (R, d, fs, q, h) = fields-fit (λ R. declared t R ≡ some T) e f in rw q (y-find t d h)
+  y-get t e error = error
 
-  pub y-has : {A : Ty} {R : Attrs} (t : ℕ) {p : Bool} {r : Result} → attrsOf S A ≡ some R → Yields A p r → Yields tbool p (bind r (applyHas C t))
-  y-has t e (value f) = let (fs, q, h) = fields-fit e f in rw q (value fbool)
+  pub y-has : {A : Ty} (t : ℕ) {p : Bool} {r : Result} → Each S A (λ R. Unit {0}) → Yields A p r → Yields tbool p (bind r (applyHas C t))
+  y-has t e (value f) = let (R, d, fs, q, h) = fields-fit (λ R. Unit {0}) e f in rw q (value fbool)
   y-has t e error = error
 
   y-some : {T : Ty} {b : Bool} {d : Result} {f : Value → Result} (o : Option Value) → Yields T b d → ((w : Value) → o ≡ some w → Yields T b (f w)) → Yields T b (onSome d o f)
@@ -158,12 +158,20 @@ module _ (S : Schema) (C : Env) (ft : EnvFits S C) where
       go : {v : Value} → Yields A true (ok v) → Fits v A
       go (value f) = f
 
-  walk-fits : {v : Value} {A : Ty} {R : Attrs} {t : ℕ} {ts : List ℕ} {b : Bool} → attrsOf S A ≡ some R → PathOk S R t ts → Fits v A → Yields tbool b (applyPath C ts t v)
-  walk-fits e lastOk f = let (fs, q, h) = fields-fit e f in rw q (value fbool)
-  walk-fits {t = t} {ts = []} e (freeOk d) f = let (fs, q, h) = fields-fit e f in rw q (value fbool)
-  walk-fits {t = t} {ts = u ∷ us} e (freeOk d) f = let (fs, q, h) = fields-fit e f in rw (q, find-none t d h) (value fbool)
-  walk-fits {t = t} e (stepOk {u = u} {us = us} d a p) f = let (fs, q, h) = fields-fit e f in rw q (y-some (find t fs) (value fbool) (λ w x. walk-fits a p (found-fits x (y-find t d h))))
+  -- a field that is there is declared, fits, and is what is said of a declared type
+  pub step-fits : {fs : Fields} {R : Attrs} {w : Value} (t : ℕ) (P : Ty → Type 0) → FieldsFit fs R → find t fs ≡ some w → IfDeclared S (declared t R) P → (B : Ty) × (declared t R ≡ some B) × P B × Fits w B
+  step-fits {fs} {R} {w} t P h e p = go (declared t R) refl p
+    where
+      go : (o : Option Ty) → declared t R ≡ o → IfDeclared S o P → (B : Ty) × (declared t R ≡ some B) × P B × Fits w B
+      go none d p = no-some (sym (find-none t d h) ∙ e)
+      go (some B) d p = (B, d, p, found-fits e (y-find t d h))
 
-  pub y-path : {A : Ty} {R : Attrs} {t : ℕ} {ts : List ℕ} {p : Bool} {r : Result} → attrsOf S A ≡ some R → PathOk S R t ts → Yields A p r → Yields tbool p (bind r (applyPath C ts t))
-  y-path e h (value f) = walk-fits e h f
-  y-path e h error = error
+  walk-fits : (ts : List ℕ) (t : ℕ) {v : Value} {A : Ty} {b : Bool} → PathOk S ts t A → Fits v A → Yields tbool b (applyPath C ts t v)
+  walk-fits [] t p f = let (R, d, fs, q, h) = fields-fit (λ R. Unit {0}) p f in rw q (value fbool)
+  walk-fits (u ∷ us) t p f =
+      let (R, d, fs, q, h) = fields-fit (λ R. IfDeclared S (declared t R) (λ B. PathOk S us u B)) p f in
+      rw q (y-some (find t fs) (value fbool) (λ w x. let (B, n, g, k) = step-fits t (λ B. PathOk S us u B) h x d in walk-fits us u g k))
+
+  pub y-path : {A : Ty} (t : ℕ) (ts : List ℕ) {p : Bool} {r : Result} → PathOk S ts t A → Yields A p r → Yields tbool p (bind r (applyPath C ts t))
+  y-path t ts h (value f) = walk-fits ts t h f
+  y-path t ts h error = error

@@ -1,12 +1,11 @@
 -- Requests and entities, known in part or whole: look-ups, what fits the schema, and when a complete sheet agrees with a partial one.
 use mathlib.Core.Path.{_≡_}
-use mathlib.Core.Bool.{Bool, true, false, _||_}
+use mathlib.Core.Bool.{true}
 use mathlib.Core.Option.{Option, none, some}
-use mathlib.Core.List.{List, [], _∷_}
+use mathlib.Core.List.{List}
 use Prim.Native.Nat.{ℕ}
-use lib.Dec.{eqb}
 use Rattle.cedar.specs.Value.{Value, vent, Values, vnil, vcons, Fields, fnil, fcons}
-use Rattle.cedar.specs.Types.{Ty, Schema, Var, Fits, FieldsFit}
+use Rattle.cedar.specs.Types.{Ty, Schema, Var, among, Fits, FieldsFit}
 
 -- A complete sheet: each entity's line, by kind and text, and the request. "A look-up of an entity finds its line or finds none."
 pub record Line : Type 0 where
@@ -50,11 +49,6 @@ whole C = record {
   request = λ x. some (C .request x);
   line = λ k t. some (record { attrs = some (entity C k t .attrs); tags = some (entity C k t .tags); ancestors = some (entity C k t .ancestors) });
 }
-
--- Whether a kind is in a list.
-abbrev pub among : ℕ → List ℕ → Bool
-among k [] = false
-among k (l ∷ ls) = eqb k l || among k ls
 
 -- "each ancestor's kind among those above"
 pub data KindsIn (ls : List ℕ) : Values → Type 0 where

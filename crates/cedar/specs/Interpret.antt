@@ -88,6 +88,10 @@ byRule T true o r = r
 byRule T false none r = r
 byRule T false (some b) r = lit T (vbool b)
 
+-- The type of a single kind.
+abbrev pub alone : ℕ → Ty
+alone k = tent k []
+
 -- What is left over of a path: its first step is asked of the rule, "has, and the first step of a haspath left over".
 abbrev pub leftPath : Schema → Ty → Expr → ℕ → List ℕ → Expr
 leftPath S T a t ts = byRule T (canErr a) (hasRule S t (tyOf a)) (haspath T a t ts)
@@ -120,12 +124,14 @@ module _ (P : PEnv) where
   hasKnown t v = onFields (gives fail) (λ k u. stays) v (λ fs. gives (ok (vbool (found (find t fs)))))
 
   -- The walk along a path: to the end, to a missing step, or to an entity whose attributes are unknown; from there the rest is left over.
-  abbrev pub walk : Schema → Ty → List ℕ → ℕ → Value → Expr
-  walk S T [] t v = onFields (err T) (λ k u. leftPath S T (lit (tent k) (vent k u)) t []) v (λ fs. lit T (vbool (found (find t fs))))
-  walk S T (u ∷ us) t v = onFields (err T) (λ k i. leftPath S T (lit (tent k) (vent k i)) t (u ∷ us)) v (λ fs. onSome (lit T (vbool false)) (find t fs) (walk S T us u))
+  -- U is the type of an entity reached, by its kind: "What is left over after a step has the single kind's type".
+  abbrev pub walk : Schema → Ty → (ℕ → Ty) → List ℕ → ℕ → Value → Expr
+  walk S T U [] t v = onFields (err T) (λ k i. leftPath S T (lit (U k) (vent k i)) t []) v (λ fs. lit T (vbool (found (find t fs))))
+  walk S T U (u ∷ us) t v = onFields (err T) (λ k i. leftPath S T (lit (U k) (vent k i)) t (u ∷ us)) v (λ fs. onSome (lit T (vbool false)) (find t fs) (walk S T alone us u))
 
+-- "with no step taken, the child keeps its own" type
 abbrev pub simpPath : Schema → PEnv → Ty → Expr → ℕ → List ℕ → View → Expr
-simpPath S P T a t ts (value v) = walk P S T ts t v
+simpPath S P T a t ts (value v) = walk P S T (λ k. tyOf a) ts t v
 simpPath S P T a t ts error = err T
 simpPath S P T a t ts open′ = leftPath S T a t ts
 

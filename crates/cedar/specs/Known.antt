@@ -24,9 +24,9 @@ bytes ℕ.zero = []
 bytes (ℕ.suc n) = 97 ∷ []
 
 abbrev pub request : Var → Ty
-request principal = tent 0
-request action = tent 1
-request resource = tent 0
+request principal = tent 0 []
+request action = tent 1 []
+request resource = tent 0 []
 request context = trec (acons 2 true tbool anil)
 
 abbrev pub schema : Schema
@@ -80,7 +80,7 @@ module _ {L : Type 0} (l : Literals L) where
 
   -- An open test that cannot err, and an open one that can.
   abbrev pub openTest : Node L
-  openTest = bin tbool beq (var (tent 0) principal) (lit (tent 0) (l .entity))
+  openTest = bin tbool beq (var (tent 0 []) principal) (lit (tent 0 []) (l .entity))
 
   abbrev pub openGet : Node L
   openGet = get tbool (var (request context) context) 2
@@ -105,9 +105,9 @@ module _ {L : Type 0} (l : Literals L) where
       -- "K4 9223372036854775807 + 1: err."
       ∷ leftOf (bin tlong badd (long (l .most)) (long (l .one))) (err tlong)
       -- "K5 entity in an empty set, ancestors unknown: false."
-      ∷ leftOf (rel tbool rin (lit (tent 0) (l .entity)) (lit (tset (tent 0)) (l .emptySet))) nay
+      ∷ leftOf (rel tbool rin (lit (tent 0 []) (l .entity)) (lit (tset (tent 0 [])) (l .emptySet))) nay
       -- "K6 entity in itself, ancestors unknown: true."
-      ∷ leftOf (rel tbool rin (lit (tent 0) (l .entity)) (lit (tent 0) (l .entity))) yea
+      ∷ leftOf (rel tbool rin (lit (tent 0 []) (l .entity)) (lit (tent 0 []) (l .entity))) yea
       -- "K7 no policies: deny."
       ∷ decisionOf [] deny
       -- "K8 true permit, open forbid: open."
@@ -122,13 +122,13 @@ module _ {L : Type 0} (l : Literals L) where
   abbrev pub students : List (Case L)
   students =
       -- "Unlisted entity on a partial sheet: "has no attributes". It is unknown." The listed one is known to have none.
-      leftOf (has tbool (lit (tent 0) (l .unlisted)) 2) (has tbool (lit (tent 0) (l .unlisted)) 2)
-      ∷ leftOf (has tbool (lit (tent 0) (l .entity)) 2) nay
+      leftOf (has tbool (lit (tent 0 []) (l .unlisted)) 2) (has tbool (lit (tent 0 []) (l .unlisted)) 2)
+      ∷ leftOf (has tbool (lit (tent 0 []) (l .entity)) 2) nay
       -- "Type rule for `has` or `hastag` on an action kind: not applied." On an `e` kind it is.
-      ∷ leftOf (has tbool (lit (tent 1) (l .act)) 3) (has tbool (lit (tent 1) (l .act)) 3)
-      ∷ leftOf (has tbool (lit (tent 0) (l .unlisted)) 3) nay
-      ∷ leftOf (rel tbool rhastag (lit (tent 1) (l .act)) (lit tstr (l .textA))) (rel tbool rhastag (lit (tent 1) (l .act)) (lit tstr (l .textA)))
-      ∷ leftOf (rel tbool rhastag (lit (tent 0) (l .unlisted)) (lit tstr (l .textA))) nay
+      ∷ leftOf (has tbool (lit (tent 1 []) (l .act)) 3) (has tbool (lit (tent 1 []) (l .act)) 3)
+      ∷ leftOf (has tbool (lit (tent 0 []) (l .unlisted)) 3) nay
+      ∷ leftOf (rel tbool rhastag (lit (tent 1 []) (l .act)) (lit tstr (l .textA))) (rel tbool rhastag (lit (tent 1 []) (l .act)) (lit tstr (l .textA)))
+      ∷ leftOf (rel tbool rhastag (lit (tent 0 []) (l .unlisted)) (lit tstr (l .textA))) nay
       -- "Dropping an error operand because the other side is open: only and, or and if keep it."
       ∷ leftOf (bin tbool beq openTest (err tbool)) (err tbool)
       ∷ leftOf (and tbool openTest (err tbool)) (and tbool openTest (err tbool))

@@ -9,9 +9,10 @@ use lib.ListN.{getD}
 use lib.IntN.{ℤ, negℤ, _+ℤ_, _-ℤ_, _*ℤ_}
 use lib.Signed.{ltZ, leZ}
 use Rattle.cedar.specs.Value.{onSome}
-use Rattle.cedar.specs.Types.{Ty, tent, Schema, Var}
+use Rattle.cedar.specs.Types.{Ty, Schema, Var}
 use Rattle.cedar.specs.Residual.{Node, Nodes, NodeArgs, lit, err, var, and, or, ite, un, bin, rel, get, has, haspath, set, rec, enil, econs, gnil, gcons, Un, unot, uneg, uempty, uis, ulike, Bin, beq, blt, ble, badd, bsub, bmul, bcontains, ball, bany, Rel, rin, rgettag, rhastag, tyOf, canErr, Stage, value, error, open′, view, Class, ctrue, cfalse, cerror, copen, truth, anyError, anyErrorArg}
 use Rattle.cedar.specs.Evaluate.{matches, isNil, inRange}
+use Rattle.cedar.specs.Interpret.{alone}
 use Rattle.cedar.specs.TypeRules.{unRule, binRule, relRule, hasRule}
 use Rattle.cedar.specs.Rows.{Entries, stop, entry, Row, rbool, rlong, rtext, rent, rset, rrec}
 use Rattle.cedar.specs.Making.{intern, sortN}
@@ -320,12 +321,12 @@ module _ (S : Schema) (N : NEnv) where
   abbrev pub nLeft : Ty → Node ℕ → ℕ → List ℕ → List Row → Out
   nLeft T a t ts R = nByRule T (canErr a) (hasRule S t (tyOf a)) (out R (haspath T a t ts)) R
 
-  abbrev pub nWalk : Ty → List Row → List ℕ → ℕ → ℕ → Out
-  nWalk T R [] t n = onEntries N R (out R (err T)) (λ k i. nLeft T (lit (tent k) n) t [] R) (rowAt R n) (λ e. make T (rbool (isSome (entryOf t e))) R)
-  nWalk T R (u ∷ us) t n = onEntries N R (out R (err T)) (λ k i. nLeft T (lit (tent k) n) t (u ∷ us) R) (rowAt R n) (λ e. onSome (make T (rbool false) R) (entryOf t e) (nWalk T R us u))
+  abbrev pub nWalk : Ty → List Row → (ℕ → Ty) → List ℕ → ℕ → ℕ → Out
+  nWalk T R U [] t n = onEntries N R (out R (err T)) (λ k i. nLeft T (lit (U k) n) t [] R) (rowAt R n) (λ e. make T (rbool (isSome (entryOf t e))) R)
+  nWalk T R U (u ∷ us) t n = onEntries N R (out R (err T)) (λ k i. nLeft T (lit (U k) n) t (u ∷ us) R) (rowAt R n) (λ e. onSome (make T (rbool false) R) (entryOf t e) (nWalk T R alone us u))
 
   abbrev pub nPath : Ty → Node ℕ → ℕ → List ℕ → Stage ℕ → List Row → Out
-  nPath T a t ts (value n) R = nWalk T R ts t n
+  nPath T a t ts (value n) R = nWalk T R (λ k. tyOf a) ts t n
   nPath T a t ts error R = out R (err T)
   nPath T a t ts open′ R = nLeft T a t ts R
 

@@ -1,8 +1,8 @@
 -- Types, shapes, the schema, and when a value fits a type.
 use mathlib.Core.Path.{_≡_}
-use mathlib.Core.Bool.{Bool, true, false}
+use mathlib.Core.Bool.{Bool, true, false, _||_, _&&_}
 use mathlib.Core.Option.{Option, none, some}
-use mathlib.Core.List.{List}
+use mathlib.Core.List.{List, [], _∷_}
 use Prim.Native.Nat.{ℕ}
 use lib.Dec.{isEq, eqb}
 use lib.IntN.{ℤ}
@@ -10,11 +10,12 @@ use Rattle.cedar.specs.Order.{Tree, leaf, node, cmp}
 use Rattle.cedar.specs.Canonical.{bit}
 use Rattle.cedar.specs.Value.{Value, vbool, vlong, vtext, vent, vset, vrec, Values, vnil, vcons, Fields, fnil, fcons, find, found}
 
--- "`bool`, `long`, `string`, `entity,kind`, `set,type`, `record,text,r|o,type,..`"
+-- "`bool`, `long`, `string`, `set,type`, `record,text,r|o,type,..`", and "`type=entity` lists one or more ascending kinds":
+-- a group has a first kind and perhaps more.
 mutual
   pub data Ty : Type 0 where
     tbool tlong tstr : Ty
-    tent : ℕ → Ty
+    tent : ℕ → List ℕ → Ty
     tset : Ty → Ty
     trec : Attrs → Ty
 
@@ -22,6 +23,20 @@ mutual
   pub data Attrs : Type 0 where
     anil : Attrs
     acons : ℕ → Bool → Ty → Attrs → Attrs
+
+-- Whether a kind is in a list.
+abbrev pub among : ℕ → List ℕ → Bool
+among k [] = false
+among k (l ∷ ls) = eqb k l || among k ls
+
+-- Whether some kind of a list passes a test, and whether each one does.
+abbrev pub someKind : (ℕ → Bool) → List ℕ → Bool
+someKind f [] = false
+someKind f (k ∷ ks) = f k || someKind f ks
+
+abbrev pub eachKind : (ℕ → Bool) → List ℕ → Bool
+eachKind f [] = true
+eachKind f (k ∷ ks) = f k && eachKind f ks
 
 abbrev pub pickTy : Bool → Ty → Option Ty → Option Ty
 pickTy true A r = some A
@@ -58,12 +73,13 @@ Complete anil has = Unit {0}
 Complete (acons t r A bs) has = Needed r (has t) × Complete bs has
 
 -- "A value fits a record type if all required attributes are there and each one present is declared and fits; the empty set fits every set type."
+-- "An entity fits if its kind is in the group."
 mutual
   pub data Fits : Value → Ty → Type 0 where
     fbool : {b : Bool} → Fits (vbool b) tbool
     flong : {n : ℤ} → Fits (vlong n) tlong
     ftext : {t : ℕ} → Fits (vtext t) tstr
-    fent : {k t : ℕ} → Fits (vent k t) (tent k)
+    fent : {k t l : ℕ} {ls : List ℕ} → among k (l ∷ ls) ≡ true → Fits (vent k t) (tent l ls)
     fset : {vs : Values} {A : Ty} → AllFit vs A → Fits (vset vs) (tset A)
     frec : {fs : Fields} {R : Attrs} → FieldsFit fs R → Complete R (λ t. found (find t fs)) → Fits (vrec fs) (trec R)
 
@@ -76,12 +92,16 @@ mutual
     oneField : {t : ℕ} {v : Value} {fs : Fields} {R : Attrs} {A : Ty} → declared t R ≡ some A → Fits v A → FieldsFit fs R → FieldsFit (fcons t v fs) R
 
 -- Equality of types, by trees of numbers as for values.
+abbrev pub kindsCode : List ℕ → Tree
+kindsCode [] = leaf 0
+kindsCode (k ∷ ks) = node (leaf k) (kindsCode ks)
+
 abbrev mutual
   pub tyCode : Ty → Tree
   tyCode tbool = leaf 0
   tyCode tlong = leaf 1
   tyCode tstr = leaf 2
-  tyCode (tent k) = node (leaf 0) (leaf k)
+  tyCode (tent k ks) = node (leaf 0) (node (leaf k) (kindsCode ks))
   tyCode (tset A) = node (leaf 1) (tyCode A)
   tyCode (trec R) = node (leaf 2) (attrsCode R)
 

@@ -1,12 +1,12 @@
 -- Document 01, "Typing": which trees are typed. The rule of each operation stands in the document's words above its family.
 use mathlib.Core.Path.{_≡_}
-use mathlib.Core.Bool.{Bool, false, _||_}
+use mathlib.Core.Bool.{Bool, true, false, _||_}
 use mathlib.Core.Option.{Option, none, some}
 use mathlib.Core.List.{List, [], _∷_}
 use Prim.Native.Nat.{ℕ}
 use lib.Dec.{eqb}
 use Rattle.cedar.specs.Value.{Value}
-use Rattle.cedar.specs.Types.{Ty, tbool, tlong, tstr, tent, tset, trec, Attrs, declared, Schema, Var, Fits, Complete}
+use Rattle.cedar.specs.Types.{Ty, tbool, tlong, tstr, tent, tset, trec, Attrs, among, declared, Schema, Var, Fits, Complete}
 use Rattle.cedar.specs.Residual.{Item, uneg, uis, ulike, uempty, Un, unot, bmul, bany, beq, bsub, ble, blt, ball, bcontains, Bin, badd, rin, Rel, rgettag, rhastag, bin, gnil, rel, get, lit, err, set, var, and, un, or, has, haspath, econs, enil, rec, ite, gcons, Expr, Exprs, Args}
 
 -- Whether a record node has a child of this text.
@@ -15,14 +15,14 @@ named t gnil = false
 named t (gcons u e gs) = eqb t u || named t gs
 
 module _ (S : Schema) where
-  -- "entity or record": the attributes that such a type declares; the others have none.
-  abbrev pub attrsOf : Ty → Option Attrs
-  attrsOf tbool = none
-  attrsOf tlong = none
-  attrsOf tstr = none
-  attrsOf (tent k) = some (S .shape k .attrs)
-  attrsOf (tset A) = none
-  attrsOf (trec R) = some R
+  -- "entity or record": P of what each kind of the group declares, or the record; of no other type.
+  abbrev pub Each : Ty → (Attrs → Type 0) → Type 0
+  Each tbool P = ⊥
+  Each tlong P = ⊥
+  Each tstr P = ⊥
+  Each (tent l ls) P = (k : ℕ) → among k (l ∷ ls) ≡ true → P (S .shape k .attrs)
+  Each (tset A) P = ⊥
+  Each (trec R) P = P R
 
   -- Child and result: "bool for .. not", "long for .. neg", "string for like", "is .. take an entity", "empty a set".
   -- "The other results are bool, or long for arithmetic."
@@ -30,14 +30,14 @@ module _ (S : Schema) where
     notOk : UnOk unot tbool tbool
     negOk : UnOk uneg tlong tlong
     emptyOk : {A : Ty} → UnOk uempty (tset A) tbool
-    isOk : {k l : ℕ} → UnOk (uis k) (tent l) tbool
+    isOk : {k l : ℕ} {ls : List ℕ} → UnOk (uis k) (tent l ls) tbool
     likeOk : {p : List Item} → UnOk (ulike p) tstr tbool
 
   -- Children and result: "eq takes one type twice or two entity types", "long for lt, le, add, sub, mul",
   -- "contains a set and its element; all, any two equal set types".
   pub data BinOk : Bin → Ty → Ty → Ty → Type 0 where
     eqOk : {A : Ty} → BinOk beq A A tbool
-    eqEntOk : {k l : ℕ} → BinOk beq (tent k) (tent l) tbool
+    eqEntOk : {k l : ℕ} {ks ls : List ℕ} → BinOk beq (tent k ks) (tent l ls) tbool
     ltOk : BinOk blt tlong tlong tbool
     leOk : BinOk ble tlong tlong tbool
     addOk : BinOk badd tlong tlong tlong
@@ -48,21 +48,26 @@ module _ (S : Schema) where
     anyOk : {A : Ty} → BinOk bany (tset A) (tset A) tbool
 
   -- "in takes an entity and an entity or set of entities", "gettag and hastag take an entity",
-  -- "string for .. the second of gettag, hastag", "gettag the tag type".
+  -- "string for .. the second of gettag, hastag", "`get` and `gettag` need the same declared type in every kind".
   pub data RelOk : Rel → Ty → Ty → Ty → Type 0 where
-    inOk : {k l : ℕ} → RelOk rin (tent k) (tent l) tbool
-    inSetOk : {k l : ℕ} → RelOk rin (tent k) (tset (tent l)) tbool
-    getTagOk : {k : ℕ} {T : Ty} → S .shape k .tags ≡ some T → RelOk rgettag (tent k) tstr T
-    hasTagOk : {k : ℕ} → RelOk rhastag (tent k) tstr tbool
+    inOk : {k l : ℕ} {ks ls : List ℕ} → RelOk rin (tent k ks) (tent l ls) tbool
+    inSetOk : {k l : ℕ} {ks ls : List ℕ} → RelOk rin (tent k ks) (tset (tent l ls)) tbool
+    getTagOk : {l : ℕ} {ls : List ℕ} {T : Ty} → ((k : ℕ) → among k (l ∷ ls) ≡ true → S .shape k .tags ≡ some T) → RelOk rgettag (tent l ls) tstr T
+    hasTagOk : {k : ℕ} {ks : List ℕ} → RelOk rhastag (tent k ks) tstr tbool
 
-  -- "haspath too, each step but the last being one while declared, and free after an undeclared step"
-  pub data PathOk : Attrs → ℕ → List ℕ → Type 0 where
-    lastOk : {R : Attrs} {t : ℕ} → PathOk R t []
-    freeOk : {R : Attrs} {t : ℕ} {ts : List ℕ} → declared t R ≡ none → PathOk R t ts
-    stepOk : {R R′ : Attrs} {A : Ty} {t u : ℕ} {us : List ℕ} → declared t R ≡ some A → attrsOf A ≡ some R′ → PathOk R′ u us → PathOk R t (u ∷ us)
+  -- P of the declared type; "free after an undeclared step"
+  abbrev pub IfDeclared : Option Ty → (Ty → Type 0) → Type 0
+  IfDeclared none P = Unit {0}
+  IfDeclared (some A) P = P A
+
+  -- "A `haspath` step before the last must be an entity or record in each kind or record reached that declares it."
+  abbrev pub PathOk : List ℕ → ℕ → Ty → Type 0
+  PathOk [] t A = Each A (λ R. Unit {0})
+  PathOk (u ∷ us) t A = Each A (λ R. IfDeclared (declared t R) (λ B. PathOk us u B))
 
   -- "A lit's value fits the node's type; var has its request type; err any." "bool for and, or, .. the test of if",
-  -- "branches have the node's type", "get a declared attribute (entity or record) of the node's type", "has an entity or record".
+  -- "branches have the node's type", "get a declared attribute (entity or record) of the node's type", "has an entity or record";
+  -- "`get` and `gettag` need the same declared type in every kind".
   mutual
     pub data Typed : Expr → Ty → Type 0 where
       tlit : {T : Ty} {v : Value} → Fits v T → Typed (lit T v) T
@@ -74,9 +79,9 @@ module _ (S : Schema) where
       tun : {u : Un} {a : Expr} {A T : Ty} → UnOk u A T → Typed a A → Typed (un T u a) T
       tbin : {o : Bin} {a b : Expr} {A B T : Ty} → BinOk o A B T → Typed a A → Typed b B → Typed (bin T o a b) T
       trel : {o : Rel} {a b : Expr} {A B T : Ty} → RelOk o A B T → Typed a A → Typed b B → Typed (rel T o a b) T
-      tget : {a : Expr} {A T : Ty} {R : Attrs} {t : ℕ} → attrsOf A ≡ some R → declared t R ≡ some T → Typed a A → Typed (get T a t) T
-      thas : {a : Expr} {A : Ty} {R : Attrs} {t : ℕ} → attrsOf A ≡ some R → Typed a A → Typed (has tbool a t) tbool
-      tpath : {a : Expr} {A : Ty} {R : Attrs} {t : ℕ} {ts : List ℕ} → attrsOf A ≡ some R → PathOk R t ts → Typed a A → Typed (haspath tbool a t ts) tbool
+      tget : {a : Expr} {A T : Ty} {t : ℕ} → Each A (λ R. declared t R ≡ some T) → Typed a A → Typed (get T a t) T
+      thas : {a : Expr} {A : Ty} {t : ℕ} → Each A (λ R. Unit {0}) → Typed a A → Typed (has tbool a t) tbool
+      tpath : {a : Expr} {A : Ty} {t : ℕ} {ts : List ℕ} → PathOk ts t A → Typed a A → Typed (haspath tbool a t ts) tbool
       tset′ : {es : Exprs} {A : Ty} → AllTyped es A → Typed (set (tset A) es) (tset A)
       trec′ : {gs : Args} {R : Attrs} → ArgsTyped gs R → Complete R (λ t. named t gs) → Typed (rec (trec R) gs) (trec R)
 

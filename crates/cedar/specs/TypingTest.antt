@@ -3,17 +3,17 @@ use mathlib.Core.Bool.{Bool, true, false, _||_, _&&_}
 use mathlib.Core.List.{List, [], _∷_}
 use Prim.Native.Nat.{ℕ}
 use Rattle.cedar.specs.Value.{Value, vbool, vlong, vtext, vent, vset, vrec, Values, vnil, vcons, Fields, fnil, fcons, find, found, onSome}
-use Rattle.cedar.specs.Types.{Ty, tbool, tlong, tstr, tent, tset, trec, Attrs, anil, acons, declared, Schema, tySame}
+use Rattle.cedar.specs.Types.{Ty, tbool, tlong, tstr, tent, tset, trec, Attrs, anil, acons, among, eachKind, declared, Schema, tySame}
 use Rattle.cedar.specs.Residual.{Expr, lit, err, var, and, or, ite, un, bin, rel, get, has, haspath, set, rec, Exprs, enil, econs, Args, gnil, gcons, tyOf, Un, unot, uneg, uempty, uis, ulike, Bin, beq, blt, ble, badd, bsub, bmul, bcontains, ball, bany, Rel, rin, rgettag, rhastag}
-use Rattle.cedar.specs.Typing.{named, attrsOf}
+use Rattle.cedar.specs.Typing.{named}
 
 -- Taking a type apart; `d` where it is of another sort.
 module _ {X : Type 0} (d : X) where
-  abbrev pub onEntTy : Ty → (ℕ → X) → X
+  abbrev pub onEntTy : Ty → (List ℕ → X) → X
   onEntTy tbool f = d
   onEntTy tlong f = d
   onEntTy tstr f = d
-  onEntTy (tent k) f = f k
+  onEntTy (tent k ks) f = f (k ∷ ks)
   onEntTy (tset A) f = d
   onEntTy (trec R) f = d
 
@@ -21,7 +21,7 @@ module _ {X : Type 0} (d : X) where
   onSetTy tbool f = d
   onSetTy tlong f = d
   onSetTy tstr f = d
-  onSetTy (tent k) f = d
+  onSetTy (tent k ks) f = d
   onSetTy (tset A) f = f A
   onSetTy (trec R) f = d
 
@@ -29,7 +29,7 @@ module _ {X : Type 0} (d : X) where
   onRecTy tbool f = d
   onRecTy tlong f = d
   onRecTy tstr f = d
-  onRecTy (tent k) f = d
+  onRecTy (tent k ks) f = d
   onRecTy (tset A) f = d
   onRecTy (trec R) f = f R
 
@@ -48,7 +48,7 @@ abbrev mutual
   fits (vbool b) A = tySame A tbool
   fits (vlong n) A = tySame A tlong
   fits (vtext t) A = tySame A tstr
-  fits (vent k t) A = tySame A (tent k)
+  fits (vent k t) A = onEntTy false A (among k)
   fits (vset vs) A = onSetTy false A (λ B. allFit vs B)
   fits (vrec fs) A = onRecTy false A (λ R. fieldsFit fs R && completed R (λ t. found (find t fs)))
 
@@ -86,12 +86,16 @@ module _ (S : Schema) where
 
   abbrev pub relOk : Rel → Ty → Ty → Ty → Bool
   relOk rin A B U = onEntTy false A (λ k. onEntTy (onSetTy false B (λ E. onEntTy false E (λ l. true))) B (λ l. true)) && tySame U tbool
-  relOk rgettag A B U = onEntTy false A (λ k. onSome false (S .shape k .tags) (λ E. tySame E U)) && tySame B tstr
+  relOk rgettag A B U = onEntTy false A (eachKind (λ k. onSome false (S .shape k .tags) (λ E. tySame E U))) && tySame B tstr
   relOk rhastag A B U = onEntTy false A (λ k. true) && tySame B tstr && tySame U tbool
 
-  abbrev pub pathOk : List ℕ → ℕ → Attrs → Bool
-  pathOk [] t R = true
-  pathOk (u ∷ us) t R = onSome true (declared t R) (λ A. onSome false (attrsOf S A) (pathOk us u))
+  -- f of what each kind of an entity type declares, or a record type; false of other types.
+  abbrev pub each : Ty → (Attrs → Bool) → Bool
+  each A f = onEntTy (onRecTy false A f) A (eachKind (λ k. f (S .shape k .attrs)))
+
+  abbrev pub pathOk : List ℕ → ℕ → Ty → Bool
+  pathOk [] t A = each A (λ R. true)
+  pathOk (u ∷ us) t A = each A (λ R. onSome true (declared t R) (pathOk us u))
 
   -- A tree has the types that its nodes say.
   abbrev mutual
@@ -105,9 +109,9 @@ module _ (S : Schema) where
     check (un U u a) = unOk u (tyOf a) U && check a
     check (bin U o a b) = binOk o (tyOf a) (tyOf b) U && (check a && check b)
     check (rel U o a b) = relOk o (tyOf a) (tyOf b) U && (check a && check b)
-    check (get U a t) = onSome false (attrsOf S (tyOf a)) (λ R. onSome false (declared t R) (λ A. tySame A U)) && check a
-    check (has U a t) = onSome false (attrsOf S (tyOf a)) (λ R. tySame U tbool) && check a
-    check (haspath U a t ts) = onSome false (attrsOf S (tyOf a)) (pathOk ts t) && tySame U tbool && check a
+    check (get U a t) = each (tyOf a) (λ R. onSome false (declared t R) (λ A. tySame A U)) && check a
+    check (has U a t) = each (tyOf a) (λ R. true) && tySame U tbool && check a
+    check (haspath U a t ts) = pathOk ts t (tyOf a) && tySame U tbool && check a
     check (set U es) = onSetTy false U (λ A. checkAll es A)
     check (rec U gs) = onRecTy false U (λ R. checkArgs gs R && completed R (λ t. named t gs))
 

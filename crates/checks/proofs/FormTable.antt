@@ -1,6 +1,6 @@
 -- The code's table of forms is the definition's. Assumes nothing.
 use mathlib.Core.Path.{_≡_, refl, sym, ap, _∙_}
-use mathlib.Core.Bool.{Bool, true, false, cond, not, _&&_, and-eq-true-iff}
+use mathlib.Core.Bool.{Bool, true, false, not, _&&_, and-eq-true-iff}
 use mathlib.Core.List.{List, [], _∷_}
 use Prim.Native.Nat.{ℕ, zero, suc, _+_, _-_, _*_, _/_, _%_, _^_, _≤_, _<_}
 use native.Mathlib.Omega.{arith}
@@ -14,13 +14,10 @@ use Rattle.forms.specs.declared.Form as F
 use Rattle.forms.specs.Rows.{LINE, EFFECT, OF-TYPE, OF-VALUE, OF-NODE, code as codeOf, coded, Packed}
 use Rattle.forms.specs.Tags.{LIT, ERR, AND, IS, SET-OF, RECORD-OF, POLICY-LINE}
 use Rattle.forms.proofs.Tests.{ranged}
-use Rattle.forms.proofs.Table.{no-form, group-small, both-small, group-are, rises-are, node-slot}
+use Rattle.forms.proofs.Table.{no-form, group-small, both-small, node-slot}
 use Rattle.checks.specs.Codes.{keyIn, packed, packedFrom, formCode, againCode, codesAfter, codesAt}
 
--- ---- how many lie between items that ascend
-
-abbrev pub stepIn : Form → ℕ
-stepIn f = cond (f .ascends) (length (f .group)) 0
+-- ---- what items refer to, four to a word
 
 word-packed : (r : F.Form) (w : ℕ) → Packed r w → w < 4294967296 → w ≡ packed r
 word-packed r w p h =
@@ -31,14 +28,6 @@ word-packed r w p h =
     omega (arith, g, p .one)
 
 module _ (t : ℕ) (r : F.Form) (e : r ≡ coded (formOf t)) where
-  pub step-some : r .rises ≡ true → (r .group ≡ stepIn (formOf t)) × (r .group ≤ 3)
-  step-some h = (sym (rw (← rises-are t r e, h) (sym (group-are t r e .0))), group-are t r e .1)
-
-  pub step-none : r .rises ≡ false → (0 ≡ stepIn (formOf t)) × (0 ≤ 3)
-  step-none h = (sym (rw (← rises-are t r e, h) refl), omega arith)
-
-  -- ---- what items refer to, four to a word
-
   pub codes-are : (w : ℕ) → Packed r w → w < 4294967296 → w ≡ formCode t
   unfolding formCode
   codes-are w p h = word-packed r w p h ∙ ap packed e

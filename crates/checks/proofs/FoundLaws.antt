@@ -16,17 +16,16 @@ use Rattle.cedar.specs.Numbered.{memN}
 use Rattle.sheet.specs.Bytes.{same}
 use Rattle.sheet.specs.Forms.{Slot, entry, line, lineOr, lineUnknown, word, number, day, nothing, dash, Form, forms, formOf, noForm, slotAt, tag, items, at, mark, everyFrom, refs, ascendings, TEXT, KIND, TYPE, VALUE, ENTITY, NODE, POLICY, LINK, TERM, noKey}
 use Rattle.sheet.specs.State.{lineAt, count}
-use Rattle.sheet.specs.Sheet.{thereIs, allThere, ascend, among, firsts, above, slotGiven, termGoes, fresh, found, deepest, depth}
+use Rattle.sheet.specs.Sheet.{thereIs, allThere, ascend, among, firsts, above, newType, slotGiven, termGoes, fresh, found, deepest, depth}
 use Rattle.table.specs.Layout.{held, part, rowsOf, textRow}
 use Rattle.table.proofs.Rows.{count-held, count-rows, lines-held}
-use Rattle.cedar.proofs.Tools.{no-true}
 use Rattle.forms.specs.declared.Form as F
-use Rattle.forms.specs.Rows.{KIND-LETTER, FIELD-LETTER, BIT, PART-LETTER, EFFECT, SLOT-LETTER, LINE, UNKNOWN, DASH, STAR, wordCode, coded, code as codeOf}
+use Rattle.forms.specs.Rows.{KIND-LETTER, FIELD-LETTER, BIT, PART-LETTER, EFFECT, SLOT-LETTER, LINE, UNKNOWN, DASH, STAR, FLAT, wordCode, coded, code as codeOf}
 use Rattle.forms.specs.Tags.{TEXT-LINE, LIT, SET-OF}
-use Rattle.forms.proofs.Table.{items-are, rises-are}
+use Rattle.forms.proofs.Table.{group-are, flat-are, rising-are}
 use Rattle.checks.specs.Codes.{keyIn}
 use Rattle.checks.specs.Depths.{ThereAs, thereDepth}
-use Rattle.checks.proofs.FormTable.{stepIn, step-some, step-none, flat-node}
+use Rattle.checks.proofs.FormTable.{flat-node}
 use Rattle.checks.proofs.OrderLaws.{rowsHeld}
 
 -- ---- what an item refers to
@@ -211,26 +210,9 @@ all-grouped : (t : ℕ) → grouped (formOf t) ≡ true
 unfolding formOf forms grouped allForms
 all-grouped t = form-has grouped forms t refl refl
 
-none-rise : (f : Form) → grouped f ≡ true → stepIn f ≡ 0 → f .ascends ≡ false
+has-group : (t : ℕ) → formOf t .ascends ≡ true → 1 ≤ length (formOf t .group)
 unfolding grouped
-none-rise f g e = go (f .ascends) g e
-  where
-    go : (b : Bool) → cond b (leb 1 (length (f .group))) true ≡ true → cond b (length (f .group)) 0 ≡ 0 → b ≡ false
-    go true g e = absurd (omega (arith, leb-true 1 (length (f .group)) g, e))
-    go false g e = refl
-
-some-rise : (f : Form) → (stepIn f ≡ 0 → ⊥) → (f .ascends ≡ true) × (stepIn f ≡ length (f .group))
-some-rise f n = go (f .ascends) n
-  where
-    go : (b : Bool) → (cond b (length (f .group)) 0 ≡ 0 → ⊥) → (b ≡ true) × (cond b (length (f .group)) 0 ≡ length (f .group))
-    go true n = (refl, refl)
-    go false n = absurd (n refl)
-
-pub rises-none : (r : List ℕ) (t m : ℕ) → t ≡ tag r → (m ≡ stepIn (formOf t)) × (m ≤ 3) → m ≡ 0 → true ≡ ascend 0 (ascendings r)
-unfolding ascendings
-rises-none r t m ht hm z =
-    let e : formOf (tag r) .ascends ≡ false = ap (λ (x : ℕ). formOf x .ascends) (sym ht) ∙ none-rise (formOf t) (all-grouped t) (sym (hm .0) ∙ z) in
-    sym (rw e refl)
+has-group t e = leb-true 1 (length (formOf t .group)) (ap (λ (b : Bool). cond b (leb 1 (length (formOf t .group))) true) (sym e) ∙ all-grouped t)
 
 pub record Rising (r : List ℕ) (m lo j : ℕ) : Type 0 where
   pub left : ascend 0 (ascendings r) ≡ ascend lo (everyFrom m j (items r))
@@ -239,43 +221,30 @@ pub record Rising (r : List ℕ) (m lo j : ℕ) : Type 0 where
   pub low : lo ≤ 4294967296
   pub near : j ≤ length r + 4
 
-pub rising-start : (r : List ℕ) (t m n : ℕ) → t ≡ tag r → (m ≡ stepIn (formOf t)) × (m ≤ 3) → (m ≡ 0 → ⊥) → (n ≡ length (formOf t .items)) × (n ≤ 4) → Rising r m 0 n
+rises-none : (r : List ℕ) (t : ℕ) → t ≡ tag r → formOf t .ascends ≡ false → true ≡ ascend 0 (ascendings r)
 unfolding ascendings
-rising-start r t m n ht hm z hn =
-    let s = some-rise (formOf t) (λ q. z (hm .0 ∙ q)) in
-    record {
-      left = rw (← ht, s .0, ← (s .1), ← (hm .0), ← (hn .0)) refl;
-      step = omega arith;
-      short = hm .1;
-      low = omega arith;
-      near = omega (arith, hn .1);
-    }
+rises-none r t ht e = sym (rw (← ht, e) refl)
 
 pub rises-node : (r : List ℕ) (t : ℕ) → t ≡ tag r → LIT ≤ t → t < SET-OF → true ≡ ascend 0 (ascendings r)
-unfolding ascendings
-rises-node r t ht l h = sym (rw (← ht, flat-node t l h) refl)
+rises-node r t ht l h = rises-none r t ht (flat-node t l h)
 
 -- by the row of the table
 module _ (r : List ℕ) (t : ℕ) (q : F.Form) (ht : t ≡ tag r) (e : q ≡ coded (formOf t)) where
-  pub rises-flat : not (q .rises) ≡ true → true ≡ ascend 0 (ascendings r)
-  rises-flat h = rises-none r t 0 ht (step-none t q e (flat (q .rises) h)) refl
-    where
-      flat : (b : Bool) → not b ≡ true → b ≡ false
-      flat true h = sym h
-      flat false h = refl
+  pub rises-flat : q .from ≡ FLAT → true ≡ ascend 0 (ascendings r)
+  rises-flat h = rises-none r t ht (flat-are t q e h)
 
-  pub rising-first : not (q .rises) ≡ false → Rising r (q .group) 0 (q .items)
-  rising-first h = rising-start r t (q .group) (q .items) ht s (λ z. never z) (items-are t q e)
-    where
-      up : (b : Bool) → not b ≡ false → b ≡ true
-      up true h = refl
-      up false h = sym h
-
-      s : (q .group ≡ stepIn (formOf t)) × (q .group ≤ 3)
-      s = step-some t q e (up (q .rises) h)
-
-      never : q .group ≡ 0 → ⊥
-      never z = no-true (sym (none-rise (formOf t) (all-grouped t) (sym (s .0) ∙ z)) ∙ sym (rises-are t q e) ∙ up (q .rises) h)
+  pub rising-start : (q .from ≡ FLAT → ⊥) → Rising r (q .group) 0 (q .from)
+  unfolding ascendings
+  rising-start h =
+      let s = rising-are t q e h in
+      let g = group-are t q e in
+      record {
+        left = rw (← ht, s .0, ← (g .0), ← (s .1)) refl;
+        step = omega (arith, g .0, has-group t (s .0));
+        short = g .1;
+        low = omega arith;
+        near = omega (arith, s .2);
+      }
 
 items-at : (r : List ℕ) (j : ℕ) → getD (items r) j 0 ≡ getD r (j + 1) 0
 items-at r j = let e : 1 + j ≡ j + 1 = omega arith in getD-drop 1 r j 0 ∙ ap (λ (i : ℕ). getD r i 0) e
@@ -365,10 +334,10 @@ module _ (a r : List ℕ) (b : Bool) (hb : b ≡ above (rowsHeld a) TERM r) wher
 -- ---- new lines
 
 module _ (a : List ℕ) (k : ℕ) (r : List ℕ) where
-  module _ (b : Bool) (hb : b ≡ among r (rowsOf a k)) where
-    pub fresh-type : k ≡ TYPE → not b ≡ fresh (rowsHeld a) k r
-    fresh-type e = sym (rw e (ap (λ (l : List (List ℕ)). not (among r l)) (lines-held [] a [] TYPE (omega arith) (λ q. absurd (omega arith)) ∙ ap (rowsOf a) (sym e)) ∙ ap not (sym hb)))
+  pub fresh-type : (b : Bool) → b ≡ newType (rowsHeld a) r → k ≡ TYPE → b ≡ fresh (rowsHeld a) k r
+  fresh-type b hb e = hb ∙ sym (rw e refl)
 
+  module _ (b : Bool) (hb : b ≡ among r (rowsOf a k)) where
     pub fresh-value : k ≡ VALUE → not b ≡ fresh (rowsHeld a) k r
     fresh-value e = sym (rw e (ap (λ (l : List (List ℕ)). not (among r l)) (lines-held [] a [] VALUE (omega arith) (λ q. absurd (omega arith)) ∙ ap (rowsOf a) (sym e)) ∙ ap not (sym hb)))
 
@@ -393,7 +362,7 @@ module _ (a : List ℕ) (k : ℕ) (r : List ℕ) where
 
   pub fresh-other : (k ≡ TEXT → ⊥) → (k ≡ TYPE → ⊥) → (k ≡ VALUE → ⊥) → (k ≡ KIND → ⊥) → (k ≡ POLICY → ⊥) → (k ≡ ENTITY → ⊥) → (k ≡ LINK → ⊥) → (k ≡ TERM → ⊥) → true ≡ fresh (rowsHeld a) k r
   fresh-other text type value kind policy entity link term =
-      sym (rw (ne-eqb k TEXT text, ne-eqb k TYPE type, ne-eqb k VALUE value, ne-eqb k KIND kind, ne-eqb k POLICY policy, ne-eqb k ENTITY entity, ne-eqb k LINK link, ne-eqb k TERM term) refl)
+      sym (rw (ne-eqb k TYPE type, ne-eqb k TEXT text, ne-eqb k VALUE value, ne-eqb k KIND kind, ne-eqb k POLICY policy, ne-eqb k ENTITY entity, ne-eqb k LINK link, ne-eqb k TERM term) refl)
 
   -- ---- all of 5, with the depth of 6
 

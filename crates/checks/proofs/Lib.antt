@@ -7,3 +7,4 @@ pub mod UseLaws
 pub mod UnderLaws
 pub mod NotedLaws
 pub mod LinkLaws
+pub mod KindLaws

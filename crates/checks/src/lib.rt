@@ -4,6 +4,8 @@ use forms::AND;
 use forms::CONTEXT;
 use forms::DAY;
 use forms::ENTITY;
+use forms::ENTITY_TYPE;
+use forms::FLAT;
 use forms::Form;
 use forms::IF;
 use forms::KIND;
@@ -58,9 +60,10 @@ ghost use lib.Dec.{leb, eqb};
 ghost use lib.ListN.{length, getD, drop};
 ghost use Rattle.cedar.specs.Numbered.{memN};
 ghost use Rattle.sheet.specs.Bytes.{same};
-ghost use Rattle.sheet.specs.Forms.{tag, keyOf, formOf, keep, refs, ascendings, mark, noKey, TEXT, NODE, POLICY, LINK, TERM};
-ghost use Rattle.sheet.specs.State.{count};
-ghost use Rattle.sheet.specs.Sheet.{greatest, enough, inOrder, tooMany, ascend, among, firsts, above, slotGiven, termGoes, fresh, found, depth};
+ghost use Rattle.sheet.specs.Forms.{tag, keyOf, formOf, keep, refs, ascendings, mark, noKey, TEXT, TYPE, NODE, POLICY, LINK, TERM};
+ghost use Rattle.sheet.specs.State.{count, typeRow};
+ghost use Rattle.sheet.specs.Typing.{onEntity};
+ghost use Rattle.sheet.specs.Sheet.{greatest, enough, inOrder, tooMany, ascend, among, firsts, above, eachAlone, newType, slotGiven, termGoes, fresh, found, depth};
 ghost use Rattle.table.specs.Layout.{depthsIn, rowAt, rowsOf, textRow, textRows, held};
 ghost use Rattle.forms.specs.Rows.{LINE, OF-NODE};
 ghost use Rattle.forms.specs.Tags.{TEXT-LINE};
@@ -391,12 +394,12 @@ fn ascends(line: &[u32]) -> bool
         }
     }
     let f = form_of(t);
-    if !f.rises {
+    if f.from == FLAT {
         return true;
     }
     let m = f.group;
     let mut lo: usize = 0;
-    let mut j = f.items;
+    let mut j = f.from;
     while j + 1 < line.len() {
         let x = item(line, j + 1) as usize;
         if x < lo {
@@ -549,6 +552,39 @@ fn is_above(rows: &[u32], key: usize, line: &[u32]) -> bool
     x < item(line, 1)
 }
 
+// Whether each kind of a group, of two or more, has a type line alone.
+fn kinds_alone(rows: &[u32], line: &[u32]) -> bool
+    ensures { λ b. ⌜ b ≡ onEntity true (typeRow (now (line .entry))) (eachAlone (rowsOf (now (rows .entry)) TYPE)) ⌝ }
+{
+    let t = tag(line);
+    if t != ENTITY_TYPE {
+        return true;
+    }
+    if line.len() < 3 {
+        return true;
+    }
+    let mut i: usize = 1;
+    while i < line.len() {
+        let kind = item(line, i);
+        if !is_row(rows, TYPE, &[ENTITY_TYPE, kind]) {
+            return false;
+        }
+        i += 1;
+    }
+    true
+}
+
+// Whether a type line repeats no other and the kinds that it groups have lines alone.
+fn is_type(rows: &[u32], line: &[u32]) -> bool
+    requires { ⌜ 1 ≤ length (now line) ⌝ }
+    ensures { λ b. ⌜ b ≡ newType (held [] (now (rows .entry)) []) (now (line .entry)) ⌝ }
+{
+    if is_row(rows, TYPE, line) {
+        return false;
+    }
+    kinds_alone(rows, line)
+}
+
 // Whether a value is given where there is a slot for it, and none where there is not.
 fn is_given(there: bool, value: u32) -> bool
     ensures { λ b. ⌜ b ≡ cond there (not (eqb value mark)) (eqb value mark) ⌝ }
@@ -633,7 +669,7 @@ fn is_fresh(rows: &[u32], work: &[u32], key: usize, line: &[u32]) -> bool
         return true;
     }
     if key == TYPE {
-        return !is_row(rows, key, line);
+        return is_type(rows, line);
     }
     if key == VALUE {
         return !is_row(rows, key, line);

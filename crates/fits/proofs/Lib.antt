@@ -1,3 +1,4 @@
+pub mod KindLaws
 pub mod Walks
 pub mod Sorts
 pub mod Search

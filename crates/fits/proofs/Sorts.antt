@@ -6,15 +6,16 @@ use Prim.Native.Nat.{ℕ, zero, suc, _+_, _-_, _*_, _≤_, _<_}
 use native.Mathlib.Omega.{arith}
 use borrow.Author.Tests.{eqb-true, eqb-false}
 use lib.Dec.{eqb}
-use lib.ListN.{getD}
+use lib.ListN.{getD, drop}
 use Rattle.cedar.specs.Rows.{Entries, Row, rbool, rlong, rtext, rent, rset, rrec}
-use Rattle.cedar.specs.Numbered.{rBool, rLong, rText, rEnt, rSet, rRec}
+use Rattle.cedar.specs.Numbered.{rBool, rLong, rText, rEnt, rSet, rRec, memN}
 use Rattle.sheet.specs.Bytes.{longAt}
 use Rattle.sheet.specs.Forms.{tag, items, at, firstType, firstValue}
 use Rattle.sheet.specs.State.{TypeRow, bool, long, string, entity, set′, record′, declareds, typeRow, entriesOf, valueRow}
 use Rattle.sheet.specs.Typing.{allIn, entriesFit}
 use Rattle.forms.specs.Tags.{LONG-TYPE, STRING-TYPE, ENTITY-TYPE, SET-TYPE, RECORD-TYPE, LONG-VALUE, TEXT-VALUE, ENTITY-VALUE, SET-VALUE, RECORD-VALUE}
-use Rattle.fits.specs.Fit.{hasIn, completeIn, setFits, recordFits, rowsFit, isBoolRow, Leaf}
+use Rattle.fits.proofs.KindLaws.{items-two}
+use Rattle.fits.specs.Fit.{kindIn, hasIn, completeIn, setFits, recordFits, rowsFit, isBoolRow, Leaf}
 
 -- ---- the number of a row's sort
 
@@ -80,7 +81,7 @@ abbrev valueTable : List ℕ → List Row
 valueTable r = rbool (eqb (at r 0) 1) ∷ rlong (longAt (at r 0 * 4294967296 + at r 1)) ∷ rtext (at r 0) ∷ rent (at r 0) (at r 1) ∷ rset (items r) ∷ rrec (entriesOf (items r)) ∷ []
 
 abbrev pub typeTable : List ℕ → List TypeRow
-typeTable r = bool ∷ long ∷ string ∷ entity (at r 0) ∷ set′ (at r 0) ∷ record′ (declareds (items r)) ∷ []
+typeTable r = bool ∷ long ∷ string ∷ entity (at r 0) (drop 1 (items r)) ∷ set′ (at r 0) ∷ record′ (declareds (items r)) ∷ []
 
 pub sort-tag : (r : List ℕ) (n : ℕ) → sort (valueRow r) ≡ suc n → tag r ≡ LONG-VALUE + n
 sort-tag r n h = go (tag r - firstValue) refl h
@@ -157,13 +158,13 @@ module _ (r y : List ℕ) (k z : ℕ) (ek : k ≡ tag r) (ez : z ≡ tag y) wher
       go true e = rw (← ek, eqb-true k TEXT-VALUE e)
       go false e = sym (no-text false (valueRow r) (λ n. true) (λ h. eqb-false k TEXT-VALUE e (ek ∙ sort-tag r 1 h)))
 
-  pub leaf-entity : (i j : ℕ) → z ≡ ENTITY-TYPE → k ≡ ENTITY-VALUE → i ≡ getD r 1 0 → j ≡ getD y 1 0 → Leaf r y (eqb i j)
-  unfolding rowsFit
-  leaf-entity i j e h ei ej = record { is = λ f _ _. rw (← ez, e, ← ek, h, ei, ej) }
+  pub leaf-entity : (i : ℕ) (b : Bool) → z ≡ ENTITY-TYPE → k ≡ ENTITY-VALUE → i ≡ getD r 1 0 → b ≡ kindIn y i → Leaf r y b
+  unfolding rowsFit kindIn
+  leaf-entity i b e h ei eb = record { is = λ f _ _. rw (← ez, e, ← ek, h, eb, ei, items-two y) }
 
   pub leaf-no-entity : z ≡ ENTITY-TYPE → (k ≡ ENTITY-VALUE → ⊥) → Leaf r y false
   unfolding rowsFit
-  leaf-no-entity e h = record { is = λ f _ _. rw (← ez, e) (sym (no-entity false (valueRow r) (λ l t. eqb l (getD y 1 0)) (λ q. h (ek ∙ sort-tag r 2 q)))) }
+  leaf-no-entity e h = record { is = λ f _ _. rw (← ez, e) (sym (no-entity false (valueRow r) (λ l t. memN l (getD y 1 0 ∷ drop 1 (items y))) (λ q. h (ek ∙ sort-tag r 2 q)))) }
 
   pub leaf-bool : (b : Bool) → (z ≡ LONG-TYPE → ⊥) → (z ≡ STRING-TYPE → ⊥) → (z ≡ ENTITY-TYPE → ⊥) → b ≡ isBoolRow r → Leaf r y b
   unfolding rowsFit isBoolRow

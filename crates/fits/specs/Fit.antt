@@ -1,13 +1,13 @@
 -- A value fits a type, over the rows in the lent words: what the search promises, and what it remembers.
 use mathlib.Core.Path.{_≡_}
 use mathlib.Core.Bool.{Bool, true, false, cond, _&&_, _||_, not}
-use mathlib.Core.List.{List, []}
+use mathlib.Core.List.{List, [], _∷_}
 use mathlib.Core.Option.{Option, none, some}
-use Prim.Native.Nat.{ℕ, _+_, _*_}
+use Prim.Native.Nat.{ℕ, _+_, _-_, _*_, max}
 use lib.Dec.{ltb, eqb}
-use lib.ListN.{getD, drop}
+use lib.ListN.{length, getD, drop}
 use Rattle.cedar.specs.Value.{onSome}
-use Rattle.cedar.specs.Numbered.{rBool, entryOf, isSome}
+use Rattle.cedar.specs.Numbered.{rBool, memN, entryOf, isSome}
 use Rattle.sheet.specs.Forms.{tag, items, VALUE, TYPE}
 use Rattle.sheet.specs.State.{declareds, entriesOf, typeRow, valueRow}
 use Rattle.sheet.specs.Typing.{declaredIn, requiredThere, allIn, allEntries, rowFits, fitsBy, fitsIn}
@@ -15,6 +15,23 @@ use Rattle.words.specs.Bits.{member, added}
 use Rattle.forms.specs.Tags.{SET-TYPE, RECORD-TYPE, REQUIRED}
 use Rattle.table.specs.Layout.{rowsOf, TYPEDEPTHS}
 use Rattle.fits.specs.declared.Found as F
+
+-- ---- the kinds of an entity type's row
+
+-- the first, and perhaps more
+abbrev pub kindsIn : List ℕ → List ℕ
+kindsIn y = getD y 1 0 ∷ drop 2 y
+
+-- those from word i on, and the word where they end
+unfoldable pub kindsFrom : List ℕ → ℕ → List ℕ
+kindsFrom y i = drop (i - 1) (kindsIn y)
+
+abbrev pub kindsEnd : List ℕ → ℕ
+kindsEnd y = max 2 (length y)
+
+-- k is among them
+unfoldable pub kindIn : List ℕ → ℕ → Bool
+kindIn y k = memN k (kindsIn y)
 
 -- ---- parts of `rowFits` over rows of numbers
 

@@ -22,6 +22,8 @@ ghost use mathlib.Core.Path.{_≡_};
 ghost use Prim.Native.Nat.{_+_, _<_};
 ghost use lib.ListN.{length};
 ghost use Rattle.fits.specs.Fit.{
+  kindsEnd,
+  kindIn,
   hasIn,
   completeIn,
   metAt,
@@ -116,6 +118,33 @@ pub fn complete(value_row: &[u32], type_row: &[u32]) -> bool
     true
 }
 
+// ---- the kinds of an entity type
+
+// Where the kinds of a row end that begin at word 1: a row has one at least.
+pub fn kinds_end(type_row: &[u32]) -> usize
+    ensures { λ n. ⌜ n ≡ kindsEnd (now («type_row» .entry)) ⌝ }
+{
+    if type_row.len() < 2 {
+        return 2;
+    }
+    type_row.len()
+}
+
+// Whether a kind is among those of an entity type.
+pub fn has_kind(type_row: &[u32], kind: u32) -> bool
+    ensures { λ b. ⌜ b ≡ kindIn (now («type_row» .entry)) kind ⌝ }
+{
+    let end = kinds_end(type_row);
+    let mut i: usize = 1;
+    while i < end {
+        if kind == item(type_row, i) {
+            return true;
+        }
+        i += 1;
+    }
+    false
+}
+
 // ---- values without parts
 
 // A row of no other form counts as a bool.
@@ -140,7 +169,7 @@ fn leaf_fits(value_row: &[u32], type_row: &[u32]) -> bool
         LONG_TYPE => k == LONG_VALUE,
         STRING_TYPE => k == TEXT_VALUE,
         ENTITY_TYPE => match k {
-            ENTITY_VALUE => item(value_row, 1) == item(type_row, 1),
+            ENTITY_VALUE => has_kind(type_row, item(value_row, 1)),
             _ => false,
         },
         _ => bool_fits(value_row),

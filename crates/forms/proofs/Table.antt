@@ -1,8 +1,8 @@
 -- The code's table of forms is the definition's, and what is in it. Assumes nothing.
 use mathlib.Core.Path.{_≡_, refl, sym, ap, _∙_}
-use mathlib.Core.Bool.{Bool, true, _&&_, and-eq-true-iff}
+use mathlib.Core.Bool.{Bool, true, false, cond, _&&_, and-eq-true-iff}
 use mathlib.Core.List.{List, map}
-use Prim.Native.Nat.{ℕ, _+_, _-_, _≤_}
+use Prim.Native.Nat.{ℕ, _+_, _-_, _≤_, _<_}
 use native.Mathlib.Omega.{arith}
 use borrow.Author.Tests.{leb-true, eqb-true}
 use lib.Dec.{leb, eqb}
@@ -11,7 +11,7 @@ use Rattle.cedar.proofs.Tools.{no-true}
 use Rattle.sheet.specs.Forms.{Slot, entry, line, lineOr, lineUnknown, word, number, day, nothing, Form, forms, formOf, noForm, noKey, noTag, slotAt, isLine, firstNode, TYPE, NODE}
 use Rattle.sheet.proofs.Parsed.{allBelow}
 use Rattle.forms.specs.declared.Form as D
-use Rattle.forms.specs.Rows.{Shape, shape, read, code, coded, slotOf}
+use Rattle.forms.specs.Rows.{Shape, shape, read, code, coded, slotOf, FLAT, risesFrom}
 use Rattle.forms.specs.Tags.{SLOT, POLICY-LINE}
 use Rattle.forms.proofs.Tests.{ranged, small, entry-small, NoneOf, below, past}
 
@@ -45,6 +45,10 @@ pub both-small : (t : ℕ) → length (formOf t .items) + length (formOf t .grou
 unfolding forms small
 both-small = form-small (λ f. length (f .items) + length (f .group)) 4 (omega arith) refl
 
+from-small : (t : ℕ) → formOf t .from < FLAT
+unfolding forms small
+from-small t = omega (arith, form-small (λ f. f .from) 4 (omega arith) refl t)
+
 -- no key is past the last but that of no form
 pub key-low : (t : ℕ) → formOf t .key ≤ noKey
 unfolding forms small
@@ -72,9 +76,23 @@ module _ (t : ℕ) (r : D.Form) (e : r ≡ rowAt t) where
   pub few-are : r .items + r .group ≤ 4
   few-are = omega (arith, items-are .0, group-are .0, both-small t)
 
-  pub rises-are : r .rises ≡ formOf t .ascends
+  from-is : r .from ≡ risesFrom (formOf t)
   unfolding coded
-  rises-are = ap (λ (f : D.Form). f .rises) e
+  from-is = ap (λ (f : D.Form). f .from) e
+
+  pub flat-are : r .from ≡ FLAT → formOf t .ascends ≡ false
+  flat-are h = go (formOf t .ascends) from-is
+    where
+      go : (b : Bool) → r .from ≡ cond b (formOf t .from) FLAT → b ≡ false
+      go true p = absurd (omega (arith, p, h, from-small t))
+      go false p = refl
+
+  pub rising-are : (r .from ≡ FLAT → ⊥) → (formOf t .ascends ≡ true) × (r .from ≡ formOf t .from) × (r .from < FLAT)
+  rising-are h = go (formOf t .ascends) from-is
+    where
+      go : (b : Bool) → r .from ≡ cond b (formOf t .from) FLAT → (b ≡ true) × (r .from ≡ formOf t .from) × (r .from < FLAT)
+      go true p = (refl, p, omega (arith, p, from-small t))
+      go false p = absurd (h p)
 
 -- ---- nodes: their key; a type stands first
 

@@ -3,7 +3,7 @@ use mathlib.Core.Path.{_≡_}
 use Prim.Native.String.{String}
 use Rattle.sheet.specs.Ascii.{ascii}
 use Rattle.sheet.specs.Bytes.{same}
-use mathlib.Core.Bool.{Bool, cond}
+use mathlib.Core.Bool.{cond}
 use mathlib.Core.List.{List, [], _∷_, _++_}
 use Prim.Native.Nat.{ℕ, _+_, _-_, _/_, _%_}
 use lib.Dec.{ltb, eqb}
@@ -11,9 +11,9 @@ use lib.ListN.{length, getD}
 use Rattle.sheet.specs.Forms.{Slot, entry, line, lineOr, lineUnknown, word, number, day, nothing, dash, asterisk, Form, TYPE, VALUE, NODE}
 use Rattle.forms.specs.declared.Form as D
 
-abbrev pub row : ℕ → ℕ → ℕ → Bool → ℕ → ℕ → ℕ → ℕ → D.Form
-row k n g s a b c d =
-    record { key = k; items = n; group = g; rises = s; first = a; second = b; third = c; fourth = d }
+abbrev pub row : ℕ → ℕ → ℕ → ℕ → ℕ → ℕ → ℕ → ℕ → D.Form
+row k n g m a b c d =
+    record { key = k; items = n; group = g; from = m; first = a; second = b; third = c; fourth = d }
 
 -- ---- what may stand at a place, as a number; the code's constants have the same names
 
@@ -92,10 +92,17 @@ code (lineOr b k) = cond (eqb b dash) DASH STAR + k
 abbrev pub places : Form → List Slot
 places f = f .items ++ f .group
 
+-- from which place on the first of each group ascend, past all places where they need not
+abbrev pub FLAT : ℕ
+FLAT = 5
+
+abbrev pub risesFrom : Form → ℕ
+risesFrom f = cond (f .ascends) (f .from) FLAT
+
 -- a form as a row of the code's table
 unfoldable pub coded : Form → D.Form
 coded f =
-    row (f .key) (length (f .items)) (length (f .group)) (f .ascends) (code (getD (places f) 0 nothing)) (code (getD (places f) 1 nothing))
+    row (f .key) (length (f .items)) (length (f .group)) (risesFrom f) (code (getD (places f) 0 nothing)) (code (getD (places f) 1 nothing))
     (code (getD (places f) 2 nothing)) (code (getD (places f) 3 nothing))
 
 -- ---- the same read back
@@ -112,12 +119,12 @@ slotOf c =
     (cond (ltb c UNKNOWN) (line (c - LINE))
     (cond (ltb c DASH) (lineUnknown (c - UNKNOWN)) (cond (ltb c STAR) (lineOr dash (c - DASH)) (lineOr asterisk (c - STAR)))))
 
--- a form's key, how many items it has, how many in its group, whether these ascend, and what may stand at its first four places
+-- a form's key, how many items it has, how many in its group, from which place on these ascend, and what may stand at its first four places
 pub record Shape : Type 0 where
   pub key : ℕ
   pub items : ℕ
   pub group : ℕ
-  pub ascends : Bool
+  pub from : ℕ
   pub slots : List Slot
 
 abbrev pub shape : Form → Shape
@@ -126,7 +133,7 @@ shape f =
       key = f .key;
       items = length (f .items);
       group = length (f .group);
-      ascends = f .ascends;
+      from = risesFrom f;
       slots = getD (places f) 0 nothing ∷ getD (places f) 1 nothing ∷ getD (places f) 2 nothing ∷ getD (places f) 3 nothing ∷ [];
     }
 
@@ -136,7 +143,7 @@ read r =
       key = r .key;
       items = r .items;
       group = r .group;
-      ascends = r .rises;
+      from = r .from;
       slots = slotOf (r .first) ∷ slotOf (r .second) ∷ slotOf (r .third) ∷ slotOf (r .fourth) ∷ [];
     }
 

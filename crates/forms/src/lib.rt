@@ -2,7 +2,7 @@
 ghost use mathlib.Core.Path.{_≡_};
 ghost use mathlib.Core.Bool.{true, false};
 ghost use Rattle.sheet.specs.Forms.{formOf};
-ghost use Rattle.forms.specs.Rows.{row, coded, Packed, placeIn, codeIn};
+ghost use Rattle.forms.specs.Rows.{row, coded, Packed, placeIn, codeIn, NONE, FLAT};
 ghost use Rattle.forms.specs.Keys.{keyRow, keyed};
 
 // ---- keys
@@ -250,13 +250,16 @@ pub const NO_TAG: u32 = TERM_LINE + 1;
 
 // ---- the table
 
-// A form: its key, how many items it has and how many may follow in a group, any number of times, whether the first of these ascend, and what
-// may stand at its places, those of the group after the others.
+// The place from which on the items of a form ascend that has none which must: past its places.
+pub const FLAT: usize = 5;
+
+// A form: its key, how many items it has and how many may follow in a group, any number of times, the place from which on the first of each
+// group ascend, and what may stand at its places, those of the group after the others.
 pub struct Form {
     pub key: usize,
     pub items: usize,
     pub group: usize,
-    pub rises: bool,
+    pub from: usize,
     pub first: u8,
     pub second: u8,
     pub third: u8,
@@ -265,7 +268,7 @@ pub struct Form {
 
 // A form without a group.
 fn plain(key: usize, items: usize, first: u8, second: u8, third: u8, fourth: u8) -> Form
-    ensures { λ r. ⌜ r ≡ row key items 0 false first second third fourth ⌝ }
+    ensures { λ r. ⌜ r ≡ row key items 0 FLAT first second third fourth ⌝ }
 {
     with(key, items, 0, first, second, third, fourth)
 }
@@ -280,13 +283,13 @@ fn with(
     third: u8,
     fourth: u8,
 ) -> Form
-    ensures { λ r. ⌜ r ≡ row key items group false first second third fourth ⌝ }
+    ensures { λ r. ⌜ r ≡ row key items group FLAT first second third fourth ⌝ }
 {
     Form {
         key,
         items,
         group,
-        rises: false,
+        from: FLAT,
         first,
         second,
         third,
@@ -304,17 +307,33 @@ fn rising(
     third: u8,
     fourth: u8,
 ) -> Form
-    ensures { λ r. ⌜ r ≡ row key items group true first second third fourth ⌝ }
+    ensures { λ r. ⌜ r ≡ row key items group items first second third fourth ⌝ }
 {
     Form {
         key,
         items,
         group,
-        rises: true,
+        from: items,
         first,
         second,
         third,
         fourth,
+    }
+}
+
+// One item or more, all alike, which ascend.
+fn rising_all(key: usize, slot: u8) -> Form
+    ensures { λ r. ⌜ r ≡ row key 1 1 0 slot slot NONE NONE ⌝ }
+{
+    Form {
+        key,
+        items: 1,
+        group: 1,
+        from: 0,
+        first: slot,
+        second: slot,
+        third: NONE,
+        fourth: NONE,
     }
 }
 
@@ -329,7 +348,7 @@ pub fn form_of(tag: u32) -> Form
         BOOL_TYPE => plain(TYPE, 0, NONE, NONE, NONE, NONE),
         LONG_TYPE => plain(TYPE, 0, NONE, NONE, NONE, NONE),
         STRING_TYPE => plain(TYPE, 0, NONE, NONE, NONE, NONE),
-        ENTITY_TYPE => plain(TYPE, 1, OF_KIND, NONE, NONE, NONE),
+        ENTITY_TYPE => rising_all(TYPE, OF_KIND),
         SET_TYPE => plain(TYPE, 1, OF_TYPE, NONE, NONE, NONE),
         RECORD_TYPE => rising(TYPE, 0, 3, OF_TEXT, FIELD_LETTER, OF_TYPE, NONE),
         SHAPE_LINE => rising(SHAPE, 2, 1, OF_TYPE, TYPE_OR_DASH, OF_KIND, NONE),

@@ -10,9 +10,9 @@ use lib.Dec.{leb, ltb, eqb}
 use lib.ListN.{length, getD, take, drop, set, List·getD-eq-default}
 use Rattle.cedar.specs.Numbered.{memN}
 use Rattle.sheet.specs.Forms.{Slot, entry, line, lineOr, lineUnknown, word, number, day, nothing, forms, formOf, slotAt, tag, items, at, keyOf, refsFrom, refs, ascendings, mark, TEXT, KIND, TYPE, SHAPE, VALUE, ENTITY, POLICY, LINK, TERM, noKey}
-use Rattle.sheet.specs.State.{State, empty, linesOf, count, depthsOf}
-use Rattle.sheet.specs.Typing.{nodesUnder}
-use Rattle.sheet.specs.Sheet.{least, greatest, reach, allZero, inOrder, uses, tooMany, hasSlot, slotGiven, thereIs, allThere, ascend, among, firsts, termGoes, fresh, found, deepest, depth}
+use Rattle.sheet.specs.State.{State, empty, linesOf, count, depthsOf, typeRow}
+use Rattle.sheet.specs.Typing.{nodesUnder, onEntity}
+use Rattle.sheet.specs.Sheet.{least, greatest, reach, allZero, inOrder, uses, tooMany, hasSlot, slotGiven, thereIs, allThere, ascend, among, firsts, eachAlone, newType, termGoes, fresh, found, deepest, depth}
 use Rattle.sheet.proofs.Parsed.{tags-between}
 use Rattle.forms.specs.Tags.{TEXT-LINE}
 use Rattle.table.specs.Layout.{part, rowsOf, textRows, linesHeld, held, rowIn}
@@ -86,12 +86,20 @@ module _ (a sheet b : List ℕ) where
 
   fresh-alike : (k : ℕ) (r : List ℕ) → (k ≡ TEXT → ⊥) → fresh (held [] a []) k r ≡ fresh (held sheet a b) k r
   fresh-alike k r n =
-      ap₂ (λ (l : List (List ℕ)) (g : Bool). cond (eqb k TEXT || eqb k TYPE || eqb k VALUE) (not (among r l)) (cond (eqb k KIND || eqb k POLICY) (not (memN (at r 0) (firsts l)))
-      (cond (eqb k ENTITY) (last-below l) (cond (eqb k LINK) (last-below l && g) (cond (eqb k TERM) (last-below l && termGoes r) true)))))
-      (lines-alike k n) (ap₂ _&&_ (given-alike r 0) (given-alike r 1))
+      let type : newType (held [] a []) r ≡ newType (held sheet a b) r =
+      ap (λ (l : List (List ℕ)). not (among r l) && onEntity true (typeRow r) (eachAlone l)) (lines-alike TYPE (λ q. absurd (omega arith))) in
+      let rest : fresh-else (linesOf (held [] a []) k) (slotGiven (held [] a []) r 0 && slotGiven (held [] a []) r 1) ≡ fresh-else (linesOf (held sheet a b) k) (slotGiven (held sheet a b) r 0 && slotGiven (held sheet a b) r 1) =
+      ap₂ fresh-else (lines-alike k n) (ap₂ _&&_ (given-alike r 0) (given-alike r 1)) in
+      ap₂ (λ (x y : Bool). cond (eqb k TYPE) x y) type rest
     where
       last-below : List (List ℕ) → Bool
       last-below l = eqb (length l) 0 || ltb (at (getD l (length l - 1) []) 0) (at r 0)
+
+      -- of keys that are not that of types, by the lines of the key and whether slots are given
+      fresh-else : List (List ℕ) → Bool → Bool
+      fresh-else l g =
+          cond (eqb k TEXT || eqb k VALUE) (not (among r l)) (cond (eqb k KIND || eqb k POLICY) (not (memN (at r 0) (firsts l)))
+          (cond (eqb k ENTITY) (last-below l) (cond (eqb k LINK) (last-below l && g) (cond (eqb k TERM) (last-below l && termGoes r) true))))
 
   pub found-alike : (k : ℕ) (r : List ℕ) → (k ≡ TEXT → ⊥) → found (held [] a []) k r ≡ found (held sheet a b) k r
   unfolding found

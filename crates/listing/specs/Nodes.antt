@@ -83,7 +83,7 @@ abbrev pub saysBool : TypeRow → Bool
 saysBool bool = true
 saysBool long = false
 saysBool string = false
-saysBool (entity k) = false
+saysBool (entity k ks) = false
 saysBool (set′ y) = false
 saysBool (record′ ds) = false
 

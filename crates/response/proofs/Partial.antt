@@ -106,7 +106,7 @@ bool-said : (ts : List Ty) (y : TypeRow) → tySame (tyOver ts y) tbool ≡ says
 bool-said ts bool = refl
 bool-said ts long = refl
 bool-said ts string = refl
-bool-said ts (entity k) = refl
+bool-said ts (entity k ks) = refl
 bool-said ts (set′ y) = refl
 bool-said ts (record′ ds) = refl
 

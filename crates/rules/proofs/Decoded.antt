@@ -1,26 +1,30 @@
 -- The types that words hold, row by row: each is read over the types before it, whatever the words are.
 use mathlib.Core.Path.{_≡_, refl, sym, ap, _∙_}
-use mathlib.Core.Bool.{Bool, true, false}
+use mathlib.Core.Bool.{Bool, true, false, cond, _&&_}
 use mathlib.Core.List.{List, [], _∷_, _++_, append-nil, append-assoc}
 use mathlib.Core.Option.{Option, none, some}
 use Prim.Native.Nat.{ℕ, zero, suc, _+_, _-_, _≤_, _<_}
 use native.Mathlib.Omega.{arith}
-use lib.Dec.{eqb}
+use native.Mathlib.Decide.{ℕ-discrete, decLt}
+use borrow.Author.Tests.{eq-eqb, ne-eqb, lt-ltb, le-ltb}
+use lib.Dec.{eqb, ltb}
 use lib.ListN.{length, getD, take, length-append, List·getD-eq-default}
 use lib.Seq.{getD-take, take-append-seam}
 use Rattle.cedar.specs.Value.{onSome}
-use Rattle.cedar.specs.Types.{Ty, tbool, tent, declared, pickTy, Schema}
-use Rattle.cedar.specs.TypeRules.{onKind, onTarget, undeclared, falseIf, hasRule}
+use Rattle.cedar.specs.Types.{Ty, tbool, eachKind, declared, pickTy, Schema}
+use Rattle.cedar.specs.TypeRules.{onKinds, onTargets, ordinary, undeclared, falseIf, hasRule}
 use Rattle.cedar.specs.Numbered.{pickN}
-use Rattle.sheet.specs.Forms.{items, tag, TYPE}
+use Rattle.forms.specs.Tags.{ENTITY-TYPE, SET-TYPE}
+use Rattle.sheet.specs.Forms.{items, tag, firstType, TYPE}
 use Rattle.sheet.specs.State.{Declared, TypeRow, bool, long, string, entity, set′, record′, declareds, typeRow}
-use Rattle.sheet.specs.Typing.{onEntity, onSetOf, onRecord, declaredIn}
+use Rattle.sheet.specs.Typing.{onEntity, onRecord, declaredIn}
 use Rattle.sheet.specs.Content.{attrsOver, tyOver, tysFrom, types, attrsIn}
 use Rattle.table.specs.Layout.{rowsOf, held, linesHeld}
-use Rattle.fits.specs.Fit.{declaredBy}
+use Rattle.fits.specs.Fit.{declaredBy, kindsIn}
 use Rattle.fits.proofs.Sorts.{typeTable}
-use Rattle.typing.specs.Rules.{kindAt, elementAt, recordAt, attributeAt}
-use Rattle.rules.specs.Rules.{tyAt, targetIn, recordRule}
+use Rattle.fits.proofs.KindLaws.{items-two}
+use Rattle.typing.specs.Rules.{recordAt, attributeAt}
+use Rattle.rules.specs.Rules.{schemaAt, tyAt, typeLine, targetRow, lacking, recordRule}
 
 -- ---- each type over those before it
 
@@ -72,32 +76,81 @@ module _ (a : List ℕ) where
   unfolding earlier
   earlier-out y e h = past-take y (tysFrom [] (rowsOf a TYPE)) e h
 
--- ---- parts of a type, by its row
+-- ---- the kinds of a type, by its row
 
-module _ {A : Type 0} (d : A) (f : ℕ → A) where
-  kind-over : (ts : List Ty) (T : TypeRow) → onKind d (tyOver ts T) f ≡ onSome d (onEntity none T some) f
-  kind-over ts bool = refl
-  kind-over ts long = refl
-  kind-over ts string = refl
-  kind-over ts (entity k) = refl
-  kind-over ts (set′ t) = refl
-  kind-over ts (record′ ds) = refl
+module _ {A : Type 0} (d : A) (f : List ℕ → A) where
+  -- of an entity type's row, and of another
+  row-kinds : (q : List ℕ) → tag q ≡ ENTITY-TYPE → onEntity d (typeRow q) f ≡ f (kindsIn q)
+  row-kinds q e = rw e (ap (λ (l : List ℕ). f (getD q 1 0 ∷ l)) (items-two q))
 
-  pub kind-read : (a : List ℕ) (y : ℕ) → onKind d (tyAt a y) f ≡ onSome d (kindAt a y) f
-  unfolding kindAt
-  kind-read a y = ap (λ (T : Ty). onKind d T f) (type-read a y) ∙ kind-over (earlier a y) (typeRow (getD (rowsOf a TYPE) y []))
+  row-other : (q : List ℕ) → (tag q ≡ ENTITY-TYPE → ⊥) → onEntity d (typeRow q) f ≡ d
+  row-other q h = go (tag q - firstType) refl
+    where
+      go : (j : ℕ) → tag q - firstType ≡ j → onEntity d (getD (typeTable q) j bool) f ≡ d
+      go zero e = refl
+      go (suc zero) e = refl
+      go (suc (suc zero)) e = refl
+      go (suc (suc (suc zero))) e = absurd (h (omega (arith, e)))
+      go (suc (suc (suc (suc zero)))) e = refl
+      go (suc (suc (suc (suc (suc zero))))) e = refl
+      go (suc (suc (suc (suc (suc (suc j)))))) e = refl
 
-target-over : (ts : List Ty) (T : TypeRow) → onTarget none (tyOver ts T) some ≡ onSome (onEntity none T some) (onSetOf none T some) (λ e. onKind none (getD ts e tbool) some)
-target-over ts bool = refl
-target-over ts long = refl
-target-over ts string = refl
-target-over ts (entity k) = refl
-target-over ts (set′ t) = refl
-target-over ts (record′ ds) = refl
+  kinds-over : (ts : List Ty) (T : TypeRow) → onKinds d (tyOver ts T) f ≡ onEntity d T f
+  kinds-over ts bool = refl
+  kinds-over ts long = refl
+  kinds-over ts string = refl
+  kinds-over ts (entity k ks) = refl
+  kinds-over ts (set′ t) = refl
+  kinds-over ts (record′ ds) = refl
 
-pub target-read : (a : List ℕ) (y : ℕ) → targetIn a y ≡ onSome (kindAt a y) (elementAt a y) (λ e. onKind none (getD (earlier a y) e tbool) some)
-unfolding targetIn kindAt elementAt
-target-read a y = ap (λ (T : Ty). onTarget none T some) (type-read a y) ∙ target-over (earlier a y) (typeRow (getD (rowsOf a TYPE) y []))
+  kinds-read : (a : List ℕ) (y : ℕ) → onKinds d (tyAt a y) f ≡ onEntity d (typeRow (typeLine a y)) f
+  kinds-read a y = ap (λ (T : Ty). onKinds d T f) (type-read a y) ∙ kinds-over (earlier a y) (typeRow (typeLine a y))
+
+  pub kinds-of : (a : List ℕ) (y : ℕ) → tag (typeLine a y) ≡ ENTITY-TYPE → onKinds d (tyAt a y) f ≡ f (kindsIn (typeLine a y))
+  kinds-of a y e = kinds-read a y ∙ row-kinds (typeLine a y) e
+
+  pub kinds-none : (a : List ℕ) (y : ℕ) → (tag (typeLine a y) ≡ ENTITY-TYPE → ⊥) → onKinds d (tyAt a y) f ≡ d
+  kinds-none a y h = kinds-read a y ∙ row-other (typeLine a y) h
+
+  -- ---- and of the elements of a set
+
+  target-set : (ts : List Ty) (q : List ℕ) → tag q ≡ SET-TYPE → onTargets d (tyOver ts (typeRow q)) f ≡ onKinds d (getD ts (getD q 1 0) tbool) f
+  target-set ts q e = rw e refl
+
+  target-own : (ts : List Ty) (q : List ℕ) → (tag q ≡ SET-TYPE → ⊥) → onTargets d (tyOver ts (typeRow q)) f ≡ onEntity d (typeRow q) f
+  target-own ts q h = go (tag q - firstType) refl
+    where
+      go : (j : ℕ) → tag q - firstType ≡ j → onTargets d (tyOver ts (getD (typeTable q) j bool)) f ≡ onEntity d (getD (typeTable q) j bool) f
+      go zero e = refl
+      go (suc zero) e = refl
+      go (suc (suc zero)) e = refl
+      go (suc (suc (suc zero))) e = refl
+      go (suc (suc (suc (suc zero)))) e = absurd (h (omega (arith, e)))
+      go (suc (suc (suc (suc (suc zero))))) e = refl
+      go (suc (suc (suc (suc (suc (suc j)))))) e = refl
+
+  module _ (a : List ℕ) (y : ℕ) where
+    -- of elements of type e
+    element-read : (e : ℕ) → onKinds d (getD (earlier a y) e tbool) f ≡ onEntity d (typeRow (cond (ltb e y) (typeLine a e) [])) f
+    element-read e = go (decLt e y)
+      where
+        go : Dec (e < y) → onKinds d (getD (earlier a y) e tbool) f ≡ onEntity d (typeRow (cond (ltb e y) (typeLine a e) [])) f
+        go (yes h) = rw (lt-ltb e y h, earlier-in a y e h) (kinds-read a e)
+        go (no h) = rw (le-ltb e y (omega (arith, h)), earlier-out a y e (omega (arith, h))) refl
+
+    target-read : onTargets d (tyAt a y) f ≡ onEntity d (typeRow (targetRow a y)) f
+    unfolding targetRow
+    target-read = ap (λ (T : Ty). onTargets d T f) (type-read a y) ∙ go (ℕ-discrete (tag (typeLine a y)) SET-TYPE)
+      where
+        go : Dec (tag (typeLine a y) ≡ SET-TYPE) → onTargets d (tyOver (earlier a y) (typeRow (typeLine a y))) f ≡ onEntity d (typeRow (targetRow a y)) f
+        go (yes e) = target-set (earlier a y) (typeLine a y) e ∙ rw (eq-eqb (tag (typeLine a y)) SET-TYPE e) (element-read (getD (typeLine a y) 1 0))
+        go (no h) = rw (ne-eqb (tag (typeLine a y)) SET-TYPE h) (target-own (earlier a y) (typeLine a y) h)
+
+    pub targets-of : tag (targetRow a y) ≡ ENTITY-TYPE → onTargets d (tyAt a y) f ≡ f (kindsIn (targetRow a y))
+    targets-of e = target-read ∙ row-kinds (targetRow a y) e
+
+    pub targets-none : (tag (targetRow a y) ≡ ENTITY-TYPE → ⊥) → onTargets d (tyAt a y) f ≡ d
+    targets-none h = target-read ∙ row-other (targetRow a y) h
 
 -- ---- declared attributes
 
@@ -112,7 +165,7 @@ declared-over ts t (d ∷ ds) = pick-over (eqb t (d .text)) (getD ts (d .type) t
 -- over a type's row q, which is that of type y; G: what is undeclared, by a type's number
 module _ (ts : List Ty) (t y : ℕ) (q : List ℕ) (G : ℕ → Bool) (e : undeclared (declaredIn t (declareds (items q))) ≡ G y) where
   attrs-over : undeclared (declared t (attrsIn (tyOver ts (typeRow q)))) ≡ onSome true (onRecord none (typeRow q) (λ ds. some y)) G
-  attrs-over = go (tag q - 3)
+  attrs-over = go (tag q - firstType)
     where
       go : (j : ℕ) → undeclared (declared t (attrsIn (tyOver ts (getD (typeTable q) j bool)))) ≡ onSome true (onRecord none (getD (typeTable q) j bool) (λ ds. some y)) G
       go zero = refl
@@ -123,24 +176,30 @@ module _ (ts : List Ty) (t y : ℕ) (q : List ℕ) (G : ℕ → Bool) (e : undec
       go (suc (suc (suc (suc (suc zero))))) = declared-over ts t (declareds (items q)) ∙ e
       go (suc (suc (suc (suc (suc (suc j)))))) = refl
 
-  has-over : (S : Schema) → hasRule S t (tyOver ts (typeRow q)) ≡ onSome (onSome none (onRecord none (typeRow q) (λ ds. some y)) (λ z. falseIf (G z))) (onEntity none (typeRow q) some) (λ k. hasRule S t (tent k))
-  has-over S = go (tag q - 3)
+  has-over : (S : Schema) → (tag q ≡ ENTITY-TYPE → ⊥) → hasRule S t (tyOver ts (typeRow q)) ≡ onSome none (onRecord none (typeRow q) (λ ds. some y)) (λ z. falseIf (G z))
+  has-over S h = go (tag q - firstType) refl
     where
-      go : (j : ℕ) → hasRule S t (tyOver ts (getD (typeTable q) j bool))
-          ≡ onSome (onSome none (onRecord none (getD (typeTable q) j bool) (λ ds. some y)) (λ z. falseIf (G z))) (onEntity none (getD (typeTable q) j bool) some) (λ k. hasRule S t (tent k))
-      go zero = refl
-      go (suc zero) = refl
-      go (suc (suc zero)) = refl
-      go (suc (suc (suc zero))) = refl
-      go (suc (suc (suc (suc zero)))) = refl
-      go (suc (suc (suc (suc (suc zero))))) = ap falseIf (declared-over ts t (declareds (items q)) ∙ e)
-      go (suc (suc (suc (suc (suc (suc j)))))) = refl
+      go : (j : ℕ) → tag q - firstType ≡ j → hasRule S t (tyOver ts (getD (typeTable q) j bool)) ≡ onSome none (onRecord none (getD (typeTable q) j bool) (λ ds. some y)) (λ z. falseIf (G z))
+      go zero i = refl
+      go (suc zero) i = refl
+      go (suc (suc zero)) i = refl
+      go (suc (suc (suc zero))) i = absurd (h (omega (arith, i)))
+      go (suc (suc (suc (suc zero)))) i = refl
+      go (suc (suc (suc (suc (suc zero))))) i = ap falseIf (declared-over ts t (declareds (items q)) ∙ e)
+      go (suc (suc (suc (suc (suc (suc j)))))) i = refl
+
+  has-group : (S : Schema) → tag q ≡ ENTITY-TYPE → hasRule S t (tyOver ts (typeRow q)) ≡ falseIf (eachKind (λ l. ordinary (S .shape l) && undeclared (declared t (S .shape l .attrs))) (kindsIn q))
+  has-group S h = rw h (ap (λ (l : List ℕ). falseIf (eachKind (λ k. ordinary (S .shape k) && undeclared (declared t (S .shape k .attrs))) (getD q 1 0 ∷ l))) (items-two q))
 
 module _ (a : List ℕ) (t y : ℕ) where
   pub attrs-read : undeclared (declared t (attrsIn (tyAt a y))) ≡ onSome true (recordAt a y) (λ z. undeclared (attributeAt a z t))
   unfolding recordAt attributeAt declaredBy
-  attrs-read = ap (λ (T : Ty). undeclared (declared t (attrsIn T))) (type-read a y) ∙ attrs-over (earlier a y) t y (getD (rowsOf a TYPE) y []) (λ z. undeclared (attributeAt a z t)) refl
+  attrs-read = ap (λ (T : Ty). undeclared (declared t (attrsIn T))) (type-read a y) ∙ attrs-over (earlier a y) t y (typeLine a y) (λ z. undeclared (attributeAt a z t)) refl
 
-  pub has-read : (S : Schema) → hasRule S t (tyAt a y) ≡ onSome (onSome none (recordAt a y) (recordRule a t)) (kindAt a y) (λ k. hasRule S t (tent k))
-  unfolding recordAt kindAt recordRule attributeAt declaredBy
-  has-read S = ap (hasRule S t) (type-read a y) ∙ has-over (earlier a y) t y (getD (rowsOf a TYPE) y []) (λ z. undeclared (attributeAt a z t)) refl S
+  pub has-read : tag (typeLine a y) ≡ ENTITY-TYPE → hasRule (schemaAt a) t (tyAt a y) ≡ falseIf (eachKind (lacking a t) (kindsIn (typeLine a y)))
+  unfolding lacking attributeAt declaredBy
+  has-read h = ap (hasRule (schemaAt a) t) (type-read a y) ∙ has-group (earlier a y) t y (typeLine a y) (λ z. undeclared (attributeAt a z t)) refl (schemaAt a) h
+
+  pub has-other-read : (tag (typeLine a y) ≡ ENTITY-TYPE → ⊥) → hasRule (schemaAt a) t (tyAt a y) ≡ onSome none (recordAt a y) (recordRule a t)
+  unfolding recordAt recordRule attributeAt declaredBy
+  has-other-read h = ap (hasRule (schemaAt a) t) (type-read a y) ∙ has-over (earlier a y) t y (typeLine a y) (λ z. undeclared (attributeAt a z t)) refl (schemaAt a) h

@@ -3,134 +3,204 @@ use mathlib.Core.Path.{_≡_, refl, sym, ap, _∙_}
 use mathlib.Core.Bool.{Bool, true, false, cond, not, _&&_, _||_}
 use mathlib.Core.List.{List, [], _∷_}
 use mathlib.Core.Option.{Option, none, some}
-use Prim.Native.Nat.{ℕ, _≤_, _<_}
-use borrow.Author.Tests.{eq-eqb, ne-eqb}
+use Prim.Native.Nat.{ℕ, _+_, _≤_, _<_}
+use native.Mathlib.Omega.{arith}
+use borrow.Author.Tests.{eq-eqb, ne-eqb, lt-ltb, le-ltb, not-true, not-false}
 use lib.Dec.{eqb}
-use lib.ListN.{getD, drop}
+use lib.ListN.{getD, drop, length, drop-of-length-le}
+use lib.Seq.{drop-drop, drop-cons}
 use Rattle.cedar.specs.Value.{onSome}
-use Rattle.cedar.specs.Types.{Ty, tbool, tlong, tstr, tent, tset, trec, declared}
+use Rattle.cedar.specs.Types.{tbool, tstr, among, someKind, eachKind, declared}
 use Rattle.cedar.specs.Residual.{uis, beq, rin, rhastag}
-use Rattle.cedar.specs.Entities.{among}
-use Rattle.cedar.specs.TypeRules.{onKind, onTarget, undeclared, ordinary, falseIf, unRule, binRule, relRule, hasRule}
+use Rattle.cedar.specs.Interpret.{alone}
+use Rattle.cedar.specs.TypeRules.{onKinds, onTargets, undeclared, ordinary, falseIf, isRule, allows, unRule, binRule, relRule, hasRule}
 use Rattle.cedar.specs.Numbered.{memN}
-use Rattle.sheet.specs.Forms.{mark, SHAPE}
+use Rattle.cedar.proofs.SingleKinds.{has-alone}
+use Rattle.forms.specs.Tags.{ENTITY-TYPE, SET-TYPE}
+use Rattle.sheet.specs.Forms.{tag, mark, SHAPE}
 use Rattle.sheet.specs.Content.{types, schema}
 use Rattle.table.specs.Layout.{rowsOf, held, linesHeld}
-use Rattle.fits.specs.Fit.{foundIn}
+use Rattle.fits.specs.Fit.{foundIn, kindsIn, kindsFrom, kindsEnd, kindIn}
 use Rattle.fits.specs.declared.Found as F
-use Rattle.typing.specs.Rules.{kindAt, elementAt, recordAt, attributeAt, attributeTypeAt, tagTypeAt, isAboveAt, actionAt}
-use Rattle.rules.specs.Rules.{ruleIn, schemaAt, tyAt, targetIn, recordRule}
+use Rattle.fits.proofs.KindLaws.{kinds-first, kinds-next, kinds-end}
+use Rattle.typing.specs.Rules.{recordAt, attributeAt, attributeTypeAt, tagTypeAt, isAboveAt, actionAt}
+use Rattle.rules.specs.Rules.{ruleIn, schemaAt, tyAt, typeLine, targetRow, pairWith, untagged, lacking, recordRule}
 use Rattle.rules.specs.declared.Rule.{Rule}
 use Rattle.rules.specs.declared.Rule.the-variants.{Says, Silent}
-use Rattle.rules.proofs.Decoded.{earlier, earlier-in, earlier-out, kind-read, target-read, attrs-read, has-read}
-use Rattle.typing.proofs.Joined.{drop-three}
+use Rattle.rules.proofs.Decoded.{kinds-of, kinds-none, targets-of, targets-none, attrs-read, has-read, has-other-read}
 
--- ---- what a search found
+-- ---- the kinds of a row one after another: what is left from word i on
 
-module _ (a : List ℕ) (y : ℕ) (f : F.Found) where
-  kind-none : {A : Type 0} (d : A) (g : ℕ → A) → foundIn f ≡ kindAt a y → f ≡ F.the-variants.Undeclared → onKind d (tyAt a y) g ≡ d
-  kind-none d g ef e = let q : kindAt a y ≡ none = sym ef ∙ ap foundIn e in kind-read d g a y ∙ rw q
+-- whether some kind of row q passes f
+pub record Some (f : ℕ → Bool) (q : List ℕ) (i : ℕ) : Type 0 where
+  pub left : someKind f (kindsIn q) ≡ someKind f (kindsFrom q i)
+  pub low : 1 ≤ i
 
-  kind-some : {A : Type 0} (d : A) (g : ℕ → A) (k : ℕ) → foundIn f ≡ kindAt a y → f ≡ F.the-variants.As k → onKind d (tyAt a y) g ≡ g k
-  kind-some d g k ef e = let q : kindAt a y ≡ some k = sym ef ∙ ap foundIn e in kind-read d g a y ∙ rw q
+-- whether each one does
+pub record Each (f : ℕ → Bool) (q : List ℕ) (i : ℕ) : Type 0 where
+  pub left : eachKind f (kindsIn q) ≡ eachKind f (kindsFrom q i)
+  pub low : 1 ≤ i
 
-on-target : {A : Type 0} (d : A) (g : ℕ → A) (T : Ty) → onTarget d T g ≡ onSome d (onTarget none T some) g
-on-target d g tbool = refl
-on-target d g tlong = refl
-on-target d g tstr = refl
-on-target d g (tent k) = refl
-on-target d g (tset tbool) = refl
-on-target d g (tset tlong) = refl
-on-target d g (tset tstr) = refl
-on-target d g (tset (tent k)) = refl
-on-target d g (tset (tset B)) = refl
-on-target d g (tset (trec R)) = refl
-on-target d g (trec R) = refl
+module _ (f : ℕ → Bool) (q : List ℕ) where
+  pub some-start : Some f q 1
+  some-start = record { left = rw (kinds-first q) refl; low = omega arith }
 
-module _ (a : List ℕ) (y : ℕ) (f : F.Found) where
-  to-none : {A : Type 0} (d : A) (g : ℕ → A) → foundIn f ≡ targetIn a y → f ≡ F.the-variants.Undeclared → onTarget d (tyAt a y) g ≡ d
-  unfolding targetIn
-  to-none d g ef e = let q : onTarget none (tyAt a y) some ≡ none = sym ef ∙ ap foundIn e in on-target d g (tyAt a y) ∙ rw q
+  pub each-start : Each f q 1
+  each-start = record { left = rw (kinds-first q) refl; low = omega arith }
 
-  to-some : {A : Type 0} (d : A) (g : ℕ → A) (k : ℕ) → foundIn f ≡ targetIn a y → f ≡ F.the-variants.As k → onTarget d (tyAt a y) g ≡ g k
-  unfolding targetIn
-  to-some d g k ef e = let q : onTarget none (tyAt a y) some ≡ some k = sym ef ∙ ap foundIn e in on-target d g (tyAt a y) ∙ rw q
+  module _ (i n : ℕ) (en : n ≡ kindsEnd q) where
+    pub some-over : Some f q i → n ≤ i → false ≡ someKind f (kindsIn q)
+    some-over g h = sym (g .left ∙ rw (kinds-end q i (omega arith)))
 
-  pub target-none : (g : F.Found) → foundIn f ≡ elementAt a y → f ≡ F.the-variants.Undeclared → foundIn g ≡ kindAt a y → foundIn g ≡ targetIn a y
-  target-none g ef e eg = let q : elementAt a y ≡ none = sym ef ∙ ap foundIn e in rw (target-read a y, q) eg
+    pub each-over : Each f q i → n ≤ i → true ≡ eachKind f (kindsIn q)
+    each-over g h = sym (g .left ∙ rw (kinds-end q i (omega arith)))
 
-  module _ (z : ℕ) (ef : foundIn f ≡ elementAt a y) (e : f ≡ F.the-variants.As z) where
-    through : targetIn a y ≡ onKind none (getD (earlier a y) z tbool) some
-    through = let q : elementAt a y ≡ some z = sym ef ∙ ap foundIn e in target-read a y ∙ rw q
+    module _ (x : ℕ) (b : Bool) (h : i < n) (ex : x ≡ getD q i 0) (eb : b ≡ f x) where
+      pub some-hit : Some f q i → b ≡ true → true ≡ someKind f (kindsIn q)
+      some-hit g t = sym (g .left ∙ rw (kinds-next q i (g .low) (omega arith), ← ex, ← eb, t))
 
-    some-self : (o : Option ℕ) → onSome none o some ≡ o
-    some-self none = refl
-    some-self (some x) = refl
+      pub some-on : Some f q i → b ≡ false → Some f q (i + 1)
+      some-on g t = record { left = g .left ∙ rw (kinds-next q i (g .low) (omega arith), ← ex, ← eb, t); low = omega (arith, g .low) }
 
-    pub target-some : (g : F.Found) → z < y → foundIn g ≡ kindAt a z → foundIn g ≡ targetIn a y
-    target-some g h eg = eg ∙ sym (through ∙ ap (λ (T : Ty). onKind none T some) (earlier-in a y z h) ∙ kind-read none some a z ∙ some-self (kindAt a z))
+      pub each-miss : Each f q i → not b ≡ true → false ≡ eachKind f (kindsIn q)
+      each-miss g t = sym (g .left ∙ rw (kinds-next q i (g .low) (omega arith), ← ex, ← eb, not-true b t))
 
-    pub target-late : y ≤ z → foundIn F.the-variants.Undeclared ≡ targetIn a y
-    target-late h = sym (through ∙ ap (λ (T : Ty). onKind none T some) (earlier-out a y z h))
+      pub each-on : Each f q i → not b ≡ false → Each f q (i + 1)
+      each-on g t = record { left = g .left ∙ rw (kinds-next q i (g .low) (omega arith), ← ex, ← eb, not-false b t); low = omega (arith, g .low) }
 
--- ---- `is`, `eq`
-
-module _ (a : List ℕ) (y : ℕ) (f : F.Found) where
-  pub is-silent : (k : ℕ) → foundIn f ≡ kindAt a y → f ≡ F.the-variants.Undeclared → ruleIn Silent ≡ unRule (schemaAt a) (uis k) (tyAt a y)
-  is-silent k ef e = sym (kind-none a y f none (λ l. some (eqb k l)) ef e)
-
-  pub is-says : (k l : ℕ) → foundIn f ≡ kindAt a y → f ≡ F.the-variants.As l → ruleIn (Says (eqb k l)) ≡ unRule (schemaAt a) (uis k) (tyAt a y)
-  is-says k l ef e = sym (kind-some a y f none (λ l. some (eqb k l)) l ef e)
-
-module _ (a : List ℕ) (y z : ℕ) (f : F.Found) where
-  pub eq-left : foundIn f ≡ kindAt a y → f ≡ F.the-variants.Undeclared → ruleIn Silent ≡ binRule (schemaAt a) beq (tyAt a y) (tyAt a z)
-  eq-left ef e = sym (kind-none a y f none (λ k. onKind none (tyAt a z) (λ l. falseIf (not (eqb k l)))) ef e)
-
-  module _ (k : ℕ) (g : F.Found) (ef : foundIn f ≡ kindAt a y) (e : f ≡ F.the-variants.As k) (eg : foundIn g ≡ kindAt a z) where
-    first : binRule (schemaAt a) beq (tyAt a y) (tyAt a z) ≡ onKind none (tyAt a z) (λ l. falseIf (not (eqb k l)))
-    first = kind-some a y f none (λ k. onKind none (tyAt a z) (λ l. falseIf (not (eqb k l)))) k ef e
-
-    pub eq-right : g ≡ F.the-variants.Undeclared → ruleIn Silent ≡ binRule (schemaAt a) beq (tyAt a y) (tyAt a z)
-    eq-right h = sym (first ∙ kind-none a z g none (λ l. falseIf (not (eqb k l))) eg h)
-
-    pub eq-same : (l : ℕ) → g ≡ F.the-variants.As l → k ≡ l → ruleIn Silent ≡ binRule (schemaAt a) beq (tyAt a y) (tyAt a z)
-    eq-same l h q = sym (first ∙ kind-some a z g none (λ l. falseIf (not (eqb k l))) l eg h ∙ rw (eq-eqb k l q))
-
-    pub eq-differs : (l : ℕ) → g ≡ F.the-variants.As l → (k ≡ l → ⊥) → ruleIn (Says false) ≡ binRule (schemaAt a) beq (tyAt a y) (tyAt a z)
-    eq-differs l h q = sym (first ∙ kind-some a z g none (λ l. falseIf (not (eqb k l))) l eg h ∙ rw (ne-eqb k l q))
-
--- ---- `in`, `hastag`
+-- two tests of kinds that are the same
+some-as : (f g : ℕ → Bool) (ks : List ℕ) → ((k : ℕ) → f k ≡ g k) → someKind f ks ≡ someKind g ks
+some-as f g [] e = refl
+some-as f g (k ∷ ks) e = rw (e k, some-as f g ks e) refl
 
 among-mem : (l : ℕ) (ks : List ℕ) → among l ks ≡ memN l ks
 among-mem l [] = refl
 among-mem l (k ∷ ks) = ap (λ (b : Bool). eqb l k || b) (among-mem l ks)
 
+-- ---- `is`
+
+module _ (a : List ℕ) (y k t : ℕ) (q : List ℕ) (eq : q ≡ typeLine a y) (et : t ≡ tag q) where
+  abbrev Is : Rule → Type 0
+  Is r = ruleIn r ≡ unRule (schemaAt a) (uis k) (tyAt a y)
+
+  pub is-other : (t ≡ ENTITY-TYPE → ⊥) → Is Silent
+  is-other h = sym (kinds-none none (isRule k) a y (λ e. h (et ∙ ap tag eq ∙ e)))
+
+  is-kinds : t ≡ ENTITY-TYPE → unRule (schemaAt a) (uis k) (tyAt a y) ≡ isRule k (kindsIn q)
+  is-kinds h = rw eq (kinds-of none (isRule k) a y (ap tag (sym eq) ∙ sym et ∙ h))
+
+  pub is-sole : (x : ℕ) → t ≡ ENTITY-TYPE → length q < 3 → x ≡ getD q 1 0 → Is (Says (eqb k x))
+  is-sole x h l ex = sym (is-kinds h ∙ rw (drop-of-length-le q {i = 2} (omega arith), ← ex))
+
+  more : t ≡ ENTITY-TYPE → 3 ≤ length q → unRule (schemaAt a) (uis k) (tyAt a y) ≡ falseIf (not (kindIn q k))
+  unfolding kindIn
+  more h l = is-kinds h ∙ rw (drop-cons q 2 0 (omega arith), ← among-mem k (getD q 1 0 ∷ getD q 2 0 ∷ drop 3 q))
+
+  pub is-among : (b : Bool) → t ≡ ENTITY-TYPE → 3 ≤ length q → b ≡ kindIn q k → b ≡ true → Is Silent
+  is-among b h l eb z = sym (more h l ∙ rw (← eb, z))
+
+  pub is-absent : (b : Bool) → t ≡ ENTITY-TYPE → 3 ≤ length q → b ≡ kindIn q k → b ≡ false → Is (Says false)
+  is-absent b h l eb z = sym (more h l ∙ rw (← eb, z))
+
+-- ---- `eq`
+
+module _ (a : List ℕ) (y z t : ℕ) (q : List ℕ) (eq : q ≡ typeLine a y) (et : t ≡ tag q) where
+  abbrev Eq : Rule → Type 0
+  Eq r = ruleIn r ≡ binRule (schemaAt a) beq (tyAt a y) (tyAt a z)
+
+  abbrev sharing : List ℕ → List ℕ → Option Bool
+  sharing ks ls = falseIf (not (someKind (λ k. among k ls) ks))
+
+  pub eq-left : (t ≡ ENTITY-TYPE → ⊥) → Eq Silent
+  eq-left h = sym (kinds-none none (λ ks. onKinds none (tyAt a z) (sharing ks)) a y (λ e. h (et ∙ ap tag eq ∙ e)))
+
+  module _ (u : ℕ) (p : List ℕ) (ep : p ≡ typeLine a z) (eu : u ≡ tag p) (h : t ≡ ENTITY-TYPE) where
+    first : binRule (schemaAt a) beq (tyAt a y) (tyAt a z) ≡ onKinds none (tyAt a z) (sharing (kindsIn q))
+    first = rw eq (kinds-of none (λ ks. onKinds none (tyAt a z) (sharing ks)) a y (ap tag (sym eq) ∙ sym et ∙ h))
+
+    pub eq-right : (u ≡ ENTITY-TYPE → ⊥) → Eq Silent
+    eq-right g = sym (first ∙ kinds-none none (sharing (kindsIn q)) a z (λ e. g (eu ∙ ap tag ep ∙ e)))
+
+    both : u ≡ ENTITY-TYPE → binRule (schemaAt a) beq (tyAt a y) (tyAt a z) ≡ falseIf (not (someKind (kindIn p) (kindsIn q)))
+    unfolding kindIn
+    both g =
+        first ∙ kinds-of none (sharing (kindsIn q)) a z (ap tag (sym ep) ∙ sym eu ∙ g)
+        ∙ rw (← ep, some-as (λ k. among k (kindsIn p)) (kindIn p) (kindsIn q) (λ k. among-mem k (kindsIn p))) refl
+
+    pub eq-shared : (b : Bool) → u ≡ ENTITY-TYPE → b ≡ someKind (kindIn p) (kindsIn q) → b ≡ true → Eq Silent
+    eq-shared b g eb s = sym (both g ∙ rw (← eb, s))
+
+    pub eq-apart : (b : Bool) → u ≡ ENTITY-TYPE → b ≡ someKind (kindIn p) (kindsIn q) → b ≡ false → Eq (Says false)
+    eq-apart b g eb s = sym (both g ∙ rw (← eb, s))
+
+-- ---- `in`
+
+module _ (a : List ℕ) (y t : ℕ) (q : List ℕ) (eq : q ≡ typeLine a y) (et : t ≡ tag q) where
+  pub target-own : (t ≡ SET-TYPE → ⊥) → q ≡ targetRow a y
+  unfolding targetRow
+  target-own h = rw (← eq, ← et, ne-eqb t SET-TYPE h) refl
+
+  module _ (x : ℕ) (h : t ≡ SET-TYPE) (ex : x ≡ getD q 1 0) where
+    pub target-earlier : (p : List ℕ) → x < y → p ≡ typeLine a x → p ≡ targetRow a y
+    unfolding targetRow
+    target-earlier p l ep = rw (← eq, ← et, eq-eqb t SET-TYPE h, ← ex, lt-ltb x y l) ep
+
+    pub target-later : y ≤ x → [] ≡ targetRow a y
+    unfolding targetRow
+    target-later l = rw (← eq, ← et, eq-eqb t SET-TYPE h, ← ex, le-ltb x y l) refl
+
 above-as : (a : List ℕ) (k l : ℕ) → among l (schemaAt a .shape k .above) ≡ isAboveAt a k l
 unfolding schemaAt schema held linesHeld isAboveAt
-above-as a k l = ap (among l) (drop-three (getD (rowsOf a SHAPE) k [])) ∙ among-mem l (drop 3 (getD (rowsOf a SHAPE) k []))
+above-as a k l = ap (among l) (drop-drop 2 1 (getD (rowsOf a SHAPE) k [])) ∙ among-mem l (drop 3 (getD (rowsOf a SHAPE) k []))
 
-module _ (a : List ℕ) (y z : ℕ) (f : F.Found) where
-  abbrev G : ℕ → ℕ → Option Bool
-  G k l = falseIf (not (eqb k l || among l (schemaAt a .shape k .above)))
+module _ (a : List ℕ) (k l : ℕ) where
+  pub in-same : k ≡ l → true ≡ allows (schemaAt a) k l
+  in-same e = rw (eq-eqb k l e) refl
 
-  pub in-left : foundIn f ≡ kindAt a y → f ≡ F.the-variants.Undeclared → ruleIn Silent ≡ relRule (schemaAt a) rin (tyAt a y) (tyAt a z)
-  in-left ef e = sym (kind-none a y f none (λ k. onTarget none (tyAt a z) (G k)) ef e)
+  pub in-above : (b : Bool) → (k ≡ l → ⊥) → b ≡ isAboveAt a k l → b ≡ allows (schemaAt a) k l
+  in-above b h e = rw (ne-eqb k l h, above-as a k l) e
 
-  module _ (k : ℕ) (g : F.Found) (ef : foundIn f ≡ kindAt a y) (e : f ≡ F.the-variants.As k) (eg : foundIn g ≡ targetIn a z) where
-    in-first : relRule (schemaAt a) rin (tyAt a y) (tyAt a z) ≡ onTarget none (tyAt a z) (G k)
-    in-first = kind-some a y f none (λ k. onTarget none (tyAt a z) (G k)) k ef e
+-- a pair of a kind and one of row q
+abbrev pub Pairing : List ℕ → List ℕ → ℕ → ℕ → Type 0
+Pairing a q k i = Some (allows (schemaAt a) k) q i
 
-    pub in-right : g ≡ F.the-variants.Undeclared → ruleIn Silent ≡ relRule (schemaAt a) rin (tyAt a y) (tyAt a z)
-    in-right h = sym (in-first ∙ to-none a z g none (G k) eg h)
+module _ (a q : List ℕ) (k i n : ℕ) (en : n ≡ kindsEnd q) (g : Pairing a q k i) where
+  pub pair-over : n ≤ i → false ≡ pairWith a q k
+  unfolding pairWith
+  pair-over h = some-over (allows (schemaAt a) k) q i n en g h
 
-    pub in-same : (l : ℕ) → g ≡ F.the-variants.As l → k ≡ l → ruleIn Silent ≡ relRule (schemaAt a) rin (tyAt a y) (tyAt a z)
-    in-same l h q = sym (in-first ∙ to-some a z g none (G k) l eg h ∙ rw (eq-eqb k l q))
+  pub pair-hit : (x : ℕ) (b : Bool) → i < n → x ≡ getD q i 0 → b ≡ allows (schemaAt a) k x → b ≡ true → true ≡ pairWith a q k
+  unfolding pairWith
+  pair-hit x b h ex eb t = some-hit (allows (schemaAt a) k) q i n en x b h ex eb g t
 
-    pub in-above : (l : ℕ) (b : Bool) → g ≡ F.the-variants.As l → (k ≡ l → ⊥) → b ≡ isAboveAt a k l → b ≡ true → ruleIn Silent ≡ relRule (schemaAt a) rin (tyAt a y) (tyAt a z)
-    in-above l b h q eb t = sym (in-first ∙ to-some a z g none (G k) l eg h ∙ rw (ne-eqb k l q, above-as a k l, ← eb, t))
+module _ (a : List ℕ) (y z t : ℕ) (q : List ℕ) (eq : q ≡ typeLine a y) (et : t ≡ tag q) where
+  abbrev In : Rule → Type 0
+  In r = ruleIn r ≡ relRule (schemaAt a) rin (tyAt a y) (tyAt a z)
 
-    pub in-apart : (l : ℕ) (b : Bool) → g ≡ F.the-variants.As l → (k ≡ l → ⊥) → b ≡ isAboveAt a k l → b ≡ false → ruleIn (Says false) ≡ relRule (schemaAt a) rin (tyAt a y) (tyAt a z)
-    in-apart l b h q eb t = sym (in-first ∙ to-some a z g none (G k) l eg h ∙ rw (ne-eqb k l q, above-as a k l, ← eb, t))
+  abbrev pairing : List ℕ → List ℕ → Option Bool
+  pairing ks ls = falseIf (not (someKind (λ k. someKind (allows (schemaAt a) k) ls) ks))
+
+  pub in-left : (t ≡ ENTITY-TYPE → ⊥) → In Silent
+  in-left h = sym (kinds-none none (λ ks. onTargets none (tyAt a z) (pairing ks)) a y (λ e. h (et ∙ ap tag eq ∙ e)))
+
+  module _ (u : ℕ) (p : List ℕ) (ep : p ≡ targetRow a z) (eu : u ≡ tag p) (h : t ≡ ENTITY-TYPE) where
+    in-first : relRule (schemaAt a) rin (tyAt a y) (tyAt a z) ≡ onTargets none (tyAt a z) (pairing (kindsIn q))
+    in-first = rw eq (kinds-of none (λ ks. onTargets none (tyAt a z) (pairing ks)) a y (ap tag (sym eq) ∙ sym et ∙ h))
+
+    pub in-right : (u ≡ ENTITY-TYPE → ⊥) → In Silent
+    in-right g = sym (in-first ∙ targets-none none (pairing (kindsIn q)) a z (λ e. g (eu ∙ ap tag ep ∙ e)))
+
+    in-both : u ≡ ENTITY-TYPE → relRule (schemaAt a) rin (tyAt a y) (tyAt a z) ≡ falseIf (not (someKind (pairWith a p) (kindsIn q)))
+    unfolding pairWith
+    in-both g = in-first ∙ rw ep (targets-of none (pairing (kindsIn q)) a z (ap tag (sym ep) ∙ sym eu ∙ g))
+
+    pub in-pair : (b : Bool) → u ≡ ENTITY-TYPE → b ≡ someKind (pairWith a p) (kindsIn q) → b ≡ true → In Silent
+    in-pair b g eb s = sym (in-both g ∙ rw (← eb, s))
+
+    pub in-apart : (b : Bool) → u ≡ ENTITY-TYPE → b ≡ someKind (pairWith a p) (kindsIn q) → b ≡ false → In (Says false)
+    in-apart b g eb s = sym (in-both g ∙ rw (← eb, s))
+
+-- ---- `hastag`
 
 action-as : (a : List ℕ) (k : ℕ) → schemaAt a .shape k .isAction ≡ actionAt a k
 unfolding schemaAt schema held linesHeld actionAt
@@ -144,25 +214,74 @@ tags-as a k = go (eqb (getD (getD (rowsOf a SHAPE) k []) 2 0) mark)
     go true = refl
     go false = refl
 
-module _ (a : List ℕ) (y : ℕ) (f : F.Found) (ef : foundIn f ≡ kindAt a y) where
-  abbrev H : ℕ → Option Bool
-  H k = falseIf (ordinary (schemaAt a .shape k) && undeclared (schemaAt a .shape k .tags))
+module _ (a : List ℕ) (k : ℕ) (b : Bool) (eb : b ≡ actionAt a k) where
+  pub tags-action : b ≡ true → false ≡ untagged a k
+  unfolding untagged
+  tags-action t = rw (action-as a k, ← eb, t)
 
-  pub tag-other : f ≡ F.the-variants.Undeclared → ruleIn Silent ≡ relRule (schemaAt a) rhastag (tyAt a y) tstr
-  tag-other e = sym (kind-none a y f none H ef e)
+  pub tags-own : (x : ℕ) → b ≡ false → x ≡ tagTypeAt a k → eqb x mark ≡ untagged a k
+  unfolding untagged
+  tags-own x t ex = rw (action-as a k, ← eb, t, tags-as a k, ← ex)
 
-  module _ (k : ℕ) (b : Bool) (e : f ≡ F.the-variants.As k) (eb : b ≡ actionAt a k) where
-    pub tag-action : b ≡ true → ruleIn Silent ≡ relRule (schemaAt a) rhastag (tyAt a y) tstr
-    tag-action t = sym (kind-some a y f none H k ef e ∙ rw (action-as a k, ← eb, t))
+module _ (a : List ℕ) (y t : ℕ) (q : List ℕ) (eq : q ≡ typeLine a y) (et : t ≡ tag q) where
+  abbrev Tags : Rule → Type 0
+  Tags r = ruleIn r ≡ relRule (schemaAt a) rhastag (tyAt a y) tstr
 
-    module _ (x : ℕ) (t : b ≡ false) (ex : x ≡ tagTypeAt a k) where
-      pub tag-none : x ≡ mark → ruleIn (Says false) ≡ relRule (schemaAt a) rhastag (tyAt a y) tstr
-      tag-none m = sym (kind-some a y f none H k ef e ∙ rw (action-as a k, ← eb, t, tags-as a k, ← ex, eq-eqb x mark m))
+  pub tags-other : (t ≡ ENTITY-TYPE → ⊥) → Tags Silent
+  tags-other h = sym (kinds-none none (λ ks. falseIf (eachKind (λ k. ordinary (schemaAt a .shape k) && undeclared (schemaAt a .shape k .tags)) ks)) a y (λ e. h (et ∙ ap tag eq ∙ e)))
 
-      pub tag-some : (x ≡ mark → ⊥) → ruleIn Silent ≡ relRule (schemaAt a) rhastag (tyAt a y) tstr
-      tag-some m = sym (kind-some a y f none H k ef e ∙ rw (action-as a k, ← eb, t, tags-as a k, ← ex, ne-eqb x mark m))
+  module _ (h : t ≡ ENTITY-TYPE) (i n : ℕ) (en : n ≡ kindsEnd q) (g : Each (untagged a) q i) where
+    tags-kinds : relRule (schemaAt a) rhastag (tyAt a y) tstr ≡ falseIf (eachKind (untagged a) (kindsIn q))
+    unfolding untagged
+    tags-kinds = rw eq (kinds-of none (λ ks. falseIf (eachKind (λ k. ordinary (schemaAt a .shape k) && undeclared (schemaAt a .shape k .tags)) ks)) a y (ap tag (sym eq) ∙ sym et ∙ h))
+
+    pub tags-silent : (x : ℕ) (b : Bool) → i < n → x ≡ getD q i 0 → b ≡ untagged a x → not b ≡ true → Tags Silent
+    tags-silent x b l ex eb z = sym (tags-kinds ∙ rw (← each-miss (untagged a) q i n en x b l ex eb g z))
+
+    pub tags-false : n ≤ i → Tags (Says false)
+    tags-false l = sym (tags-kinds ∙ rw (← each-over (untagged a) q i n en g l))
 
 -- ---- `has`
+
+attrs-as : (a : List ℕ) (t k : ℕ) → undeclared (declared t (schemaAt a .shape k .attrs)) ≡ onSome true (recordAt a (attributeTypeAt a k)) (λ z. undeclared (attributeAt a z t))
+unfolding schemaAt schema tyAt held linesHeld attributeTypeAt
+attrs-as a t k = attrs-read a t (attributeTypeAt a k)
+
+module _ (a : List ℕ) (t k : ℕ) (b : Bool) (eb : b ≡ actionAt a k) where
+  pub lacks-action : b ≡ true → false ≡ lacking a t k
+  unfolding lacking
+  lacks-action h = rw (action-as a k, ← eb, h)
+
+  module _ (y : ℕ) (f : F.Found) (h : b ≡ false) (ey : y ≡ attributeTypeAt a k) (ef : foundIn f ≡ recordAt a y) where
+    pub lacks-no-record : f ≡ F.the-variants.Undeclared → true ≡ lacking a t k
+    unfolding lacking
+    lacks-no-record e = let q : recordAt a y ≡ none = sym ef ∙ ap foundIn e in rw (action-as a k, ← eb, h, attrs-as a t k, ← ey, q)
+
+    module _ (z : ℕ) (g : F.Found) (e : f ≡ F.the-variants.As z) (eg : foundIn g ≡ attributeAt a z t) where
+      pub lacks-it : g ≡ F.the-variants.Undeclared → true ≡ lacking a t k
+      unfolding lacking
+      lacks-it d =
+          let p : recordAt a y ≡ some z = sym ef ∙ ap foundIn e in
+          let q : attributeAt a z t ≡ none = sym eg ∙ ap foundIn d in
+          rw (action-as a k, ← eb, h, attrs-as a t k, ← ey, p, q)
+
+      pub lacks-not : (x : ℕ) → g ≡ F.the-variants.As x → false ≡ lacking a t k
+      unfolding lacking
+      lacks-not x d =
+          let p : recordAt a y ≡ some z = sym ef ∙ ap foundIn e in
+          let q : attributeAt a z t ≡ some x = sym eg ∙ ap foundIn d in
+          rw (action-as a k, ← eb, h, attrs-as a t k, ← ey, p, q)
+
+module _ (a : List ℕ) (t k : ℕ) (b : Bool) (eb : b ≡ lacking a t k) where
+  alone-as : hasRule (schemaAt a) t (alone k) ≡ falseIf b
+  unfolding lacking
+  alone-as = rw eb (has-alone (schemaAt a) t k)
+
+  pub alone-false : b ≡ true → ruleIn (Says false) ≡ hasRule (schemaAt a) t (alone k)
+  alone-false h = sym (alone-as ∙ rw h)
+
+  pub alone-silent : b ≡ false → ruleIn Silent ≡ hasRule (schemaAt a) t (alone k)
+  alone-silent h = sym (alone-as ∙ rw h)
 
 module _ (a : List ℕ) (t y : ℕ) (f : F.Found) (ef : foundIn f ≡ attributeAt a y t) where
   pub record-says : f ≡ F.the-variants.Undeclared → ruleIn (Says false) ≡ recordRule a t y
@@ -173,35 +292,26 @@ module _ (a : List ℕ) (t y : ℕ) (f : F.Found) (ef : foundIn f ≡ attributeA
   unfolding recordRule
   record-silent z e = let q : attributeAt a y t ≡ some z = sym ef ∙ ap foundIn e in rw q
 
-attrs-as : (a : List ℕ) (t k : ℕ) → undeclared (declared t (schemaAt a .shape k .attrs)) ≡ onSome true (recordAt a (attributeTypeAt a k)) (λ z. undeclared (attributeAt a z t))
-unfolding schemaAt schema tyAt held linesHeld attributeTypeAt
-attrs-as a t k = attrs-read a t (attributeTypeAt a k)
+module _ (a : List ℕ) (t y k : ℕ) (q : List ℕ) (eq : q ≡ typeLine a y) (ek : k ≡ tag q) where
+  abbrev Has : Rule → Type 0
+  Has r = ruleIn r ≡ hasRule (schemaAt a) t (tyAt a y)
 
-module _ (a : List ℕ) (t k : ℕ) (b : Bool) (eb : b ≡ actionAt a k) where
-  pub has-action : b ≡ true → ruleIn Silent ≡ hasRule (schemaAt a) t (tent k)
-  has-action h = rw (action-as a k, ← eb, h)
+  module _ (h : k ≡ ENTITY-TYPE) (b : Bool) (eb : b ≡ eachKind (lacking a t) (kindsIn q)) where
+    has-kinds : hasRule (schemaAt a) t (tyAt a y) ≡ falseIf b
+    has-kinds = rw (eb, eq) (has-read a t y (ap tag (sym eq) ∙ sym ek ∙ h))
 
-  module _ (y : ℕ) (f : F.Found) (h : b ≡ false) (ey : y ≡ attributeTypeAt a k) (ef : foundIn f ≡ recordAt a y) where
-    pub has-no-record : f ≡ F.the-variants.Undeclared → ruleIn (Says false) ≡ hasRule (schemaAt a) t (tent k)
-    has-no-record e = let q : recordAt a y ≡ none = sym ef ∙ ap foundIn e in rw (action-as a k, ← eb, h, attrs-as a t k, ← ey, q)
+    pub has-false : b ≡ true → Has (Says false)
+    has-false z = sym (has-kinds ∙ rw z)
 
-    pub has-shape : (z : ℕ) (r : Rule) → f ≡ F.the-variants.As z → ruleIn r ≡ recordRule a t z → ruleIn r ≡ hasRule (schemaAt a) t (tent k)
-    unfolding recordRule
-    has-shape z r e q = let p : recordAt a y ≡ some z = sym ef ∙ ap foundIn e in rw (action-as a k, ← eb, h, attrs-as a t k, ← ey, p) q
+    pub has-silent : b ≡ false → Has Silent
+    has-silent z = sym (has-kinds ∙ rw z)
 
-module _ (a : List ℕ) (t y : ℕ) (f : F.Found) (ef : foundIn f ≡ kindAt a y) where
-  pub has-entity : (k : ℕ) (r : Rule) → f ≡ F.the-variants.As k → ruleIn r ≡ hasRule (schemaAt a) t (tent k) → ruleIn r ≡ hasRule (schemaAt a) t (tyAt a y)
-  has-entity k r e q = let p : kindAt a y ≡ some k = sym ef ∙ ap foundIn e in rw (has-read a t y (schemaAt a), p) q
+  module _ (h : k ≡ ENTITY-TYPE → ⊥) (f : F.Found) (ef : foundIn f ≡ recordAt a y) where
+    has-as : hasRule (schemaAt a) t (tyAt a y) ≡ onSome none (recordAt a y) (recordRule a t)
+    has-as = has-other-read a t y (λ e. h (ek ∙ ap tag eq ∙ e))
 
-  module _ (g : F.Found) (e : f ≡ F.the-variants.Undeclared) (eg : foundIn g ≡ recordAt a y) where
-    pub has-other : g ≡ F.the-variants.Undeclared → ruleIn Silent ≡ hasRule (schemaAt a) t (tyAt a y)
-    has-other h =
-        let p : kindAt a y ≡ none = sym ef ∙ ap foundIn e in
-        let q : recordAt a y ≡ none = sym eg ∙ ap foundIn h in
-        rw (has-read a t y (schemaAt a), p, q)
+    pub has-other : f ≡ F.the-variants.Undeclared → Has Silent
+    has-other e = let p : recordAt a y ≡ none = sym ef ∙ ap foundIn e in rw (has-as, p)
 
-    pub has-record : (z : ℕ) (r : Rule) → g ≡ F.the-variants.As z → ruleIn r ≡ recordRule a t z → ruleIn r ≡ hasRule (schemaAt a) t (tyAt a y)
-    has-record z r h er =
-        let p : kindAt a y ≡ none = sym ef ∙ ap foundIn e in
-        let q : recordAt a y ≡ some z = sym eg ∙ ap foundIn h in
-        rw (has-read a t y (schemaAt a), p, q) er
+    pub has-record : (z : ℕ) (r : Rule) → f ≡ F.the-variants.As z → ruleIn r ≡ recordRule a t z → Has r
+    has-record z r e er = let p : recordAt a y ≡ some z = sym ef ∙ ap foundIn e in rw (has-as, p) er

@@ -5,6 +5,7 @@ use Prim.Native.Nat.{ℕ}
 use lib.ListN.{getD}
 use Rattle.cedar.specs.Types.{Ty, tbool, tlong, tstr, tent, tset, trec}
 use Rattle.cedar.specs.Residual.{Un, unot, uneg, uempty, uis, ulike, Bin, beq, blt, ble, badd, bsub, bmul, bcontains, ball, bany, Rel, rin, rgettag, rhastag}
+use Rattle.cedar.specs.Interpret.{alone}
 use Rattle.cedar.specs.TypeRules.{unRule, binRule, relRule, hasRule}
 use Rattle.sheet.specs.Content.{types, schema}
 use Rattle.table.specs.Layout.{held, linesHeld}
@@ -44,15 +45,18 @@ module _ (sheet a : List ℕ) where
   rel-of rgettag A B = refl
   rel-of rhastag A B = refl
 
-  pub has-kind-same : (t k : ℕ) → hasRule (schema (held sheet a [])) t (tent k) ≡ hasRule (schemaAt a) t (tent k)
+  has-kinds-same : (t k : ℕ) (ks : List ℕ) → hasRule (schema (held sheet a [])) t (tent k ks) ≡ hasRule (schemaAt a) t (tent k ks)
   unfolding schemaAt schema types held linesHeld
-  has-kind-same t k = refl
+  has-kinds-same t k ks = refl
+
+  pub has-kind-same : (t k : ℕ) → hasRule (schema (held sheet a [])) t (alone k) ≡ hasRule (schemaAt a) t (alone k)
+  has-kind-same t k = has-kinds-same t k []
 
   has-of : (t : ℕ) (A : Ty) → hasRule (schema (held sheet a [])) t A ≡ hasRule (schemaAt a) t A
   has-of t tbool = refl
   has-of t tlong = refl
   has-of t tstr = refl
-  has-of t (tent k) = has-kind-same t k
+  has-of t (tent k ks) = has-kinds-same t k ks
   has-of t (tset A) = refl
   has-of t (trec R) = refl
 

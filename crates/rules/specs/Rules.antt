@@ -1,14 +1,18 @@
 -- The type rules over the rows in the lent words: the schema and the types that the words hold. No rule asks for a text's bytes, so the
 -- sheet is left out.
-use mathlib.Core.Bool.{Bool}
+use mathlib.Core.Bool.{Bool, cond, _&&_}
 use mathlib.Core.Option.{Option, none, some}
 use mathlib.Core.List.{List, []}
 use Prim.Native.Nat.{ℕ}
+use lib.Dec.{eqb, ltb}
 use lib.ListN.{getD}
-use Rattle.cedar.specs.Types.{Ty, tbool, Schema}
-use Rattle.cedar.specs.TypeRules.{onTarget, undeclared, falseIf}
+use Rattle.cedar.specs.Types.{Ty, tbool, someKind, declared, Schema}
+use Rattle.cedar.specs.TypeRules.{undeclared, ordinary, falseIf, allows}
+use Rattle.forms.specs.Tags.{SET-TYPE}
+use Rattle.sheet.specs.Forms.{tag, TYPE}
 use Rattle.sheet.specs.Content.{types, schema}
-use Rattle.table.specs.Layout.{held}
+use Rattle.table.specs.Layout.{rowsOf, held}
+use Rattle.fits.specs.Fit.{kindsIn}
 use Rattle.typing.specs.Rules.{attributeAt}
 use Rattle.rules.specs.declared.Rule.{Rule}
 use Rattle.rules.specs.declared.Rule.the-variants.{Says, Silent}
@@ -25,9 +29,23 @@ module _ (a : List ℕ) where
   unfoldable pub tyAt : ℕ → Ty
   tyAt y = getD (types (held [] a [])) y tbool
 
-  -- the kind of an entity type or of a set of entities
-  unfoldable pub targetIn : ℕ → Option ℕ
-  targetIn y = onTarget none (tyAt y) some
+  abbrev pub typeLine : ℕ → List ℕ
+  typeLine y = getD (rowsOf a TYPE) y []
+
+  -- the row whose kinds `in` asks for: that of type y, or of the elements of a set; none where they are of a later type
+  unfoldable pub targetRow : ℕ → List ℕ
+  targetRow y = cond (eqb (tag (typeLine y)) SET-TYPE) (cond (ltb (getD (typeLine y) 1 0) y) (typeLine (getD (typeLine y) 1 0)) []) (typeLine y)
+
+  -- an entity of kind k may be in one of the kinds of row q
+  unfoldable pub pairWith : List ℕ → ℕ → Bool
+  pairWith q k = someKind (allows schemaAt k) (kindsIn q)
+
+  -- no entity of kind k has tags, or attribute t
+  unfoldable pub untagged : ℕ → Bool
+  untagged k = ordinary (schemaAt .shape k) && undeclared (schemaAt .shape k .tags)
+
+  unfoldable pub lacking : ℕ → ℕ → Bool
+  lacking t k = ordinary (schemaAt .shape k) && undeclared (declared t (schemaAt .shape k .attrs))
 
   -- `has` on record type y
   unfoldable pub recordRule : ℕ → ℕ → Option Bool

@@ -1,20 +1,27 @@
 // The type rules, which decide a node by the types of its operands alone, over the rows in the lent words.
 use fits::Found;
+use fits::has_kind;
+use fits::kinds_end;
+use forms::ENTITY_TYPE;
 use forms::MARK;
+use forms::SET_TYPE;
+use forms::TYPE;
+use table::item;
+use table::row;
+use table::tag;
 use typing::types::attribute;
 use typing::types::attribute_type;
-use typing::types::element_of;
 use typing::types::is_above;
 use typing::types::is_action;
-use typing::types::kind_of;
 use typing::types::record_of;
 use typing::types::tag_type;
 ghost use mathlib.Core.Path.{_≡_};
-ghost use Rattle.cedar.specs.Types.{tstr, tent};
+ghost use Rattle.cedar.specs.Types.{tstr, someKind, eachKind};
 ghost use Rattle.cedar.specs.Residual.{uis, beq, rin, rhastag};
-ghost use Rattle.cedar.specs.TypeRules.{unRule, binRule, relRule, hasRule};
-ghost use Rattle.fits.specs.Fit.{foundIn};
-ghost use Rattle.rules.specs.Rules.{ruleIn, schemaAt, tyAt, targetIn, recordRule};
+ghost use Rattle.cedar.specs.Interpret.{alone};
+ghost use Rattle.cedar.specs.TypeRules.{allows, unRule, binRule, relRule, hasRule};
+ghost use Rattle.fits.specs.Fit.{kindsIn, kindIn};
+ghost use Rattle.rules.specs.Rules.{ruleIn, schemaAt, tyAt, targetRow, pairWith, untagged, lacking, recordRule};
 
 // What a rule says of a node, where it decides.
 pub enum Rule {
@@ -24,65 +31,124 @@ pub enum Rule {
 
 // ---- kinds
 
-// `is` of a kind on a type.
+// `is` of a kind on a type: a sole kind decides it, more kinds only where it is none of them.
 pub fn is_rule(rows: &[u32], kind: u32, ty: u32) -> Rule
     ensures { λ r. ⌜ ruleIn r ≡ unRule (schemaAt (now (rows .entry))) (uis kind) (tyAt (now (rows .entry)) ty) ⌝ }
 {
-    let f = kind_of(rows, ty);
-    let Found::As(l) = f else {
+    let q = row(rows, TYPE, ty);
+    if tag(q) != ENTITY_TYPE {
         return Rule::Silent;
-    };
-    Rule::Says(kind == l)
+    }
+    if q.len() < 3 {
+        return Rule::Says(kind == item(q, 1));
+    }
+    if has_kind(q, kind) {
+        return Rule::Silent;
+    }
+    Rule::Says(false)
+}
+
+// Whether two entity types have a kind in common.
+fn share_kind(type_row: &[u32], other_row: &[u32]) -> bool
+    ensures { λ b. ⌜ b ≡ someKind (kindIn (now («other_row» .entry))) (kindsIn (now («type_row» .entry))) ⌝ }
+{
+    let end = kinds_end(type_row);
+    let mut i: usize = 1;
+    while i < end {
+        if has_kind(other_row, item(type_row, i)) {
+            return true;
+        }
+        i += 1;
+    }
+    false
 }
 
 // `eq` on two types.
 pub fn eq_rule(rows: &[u32], ty: u32, other: u32) -> Rule
     ensures { λ r. ⌜ ruleIn r ≡ binRule (schemaAt (now (rows .entry))) beq (tyAt (now (rows .entry)) ty) (tyAt (now (rows .entry)) other) ⌝ }
 {
-    let f = kind_of(rows, ty);
-    let Found::As(k) = f else {
+    let q = row(rows, TYPE, ty);
+    if tag(q) != ENTITY_TYPE {
         return Rule::Silent;
-    };
-    let g = kind_of(rows, other);
-    let Found::As(l) = g else {
-        return Rule::Silent;
-    };
-    if k != l {
-        return Rule::Says(false);
     }
-    Rule::Silent
+    let p = row(rows, TYPE, other);
+    if tag(p) != ENTITY_TYPE {
+        return Rule::Silent;
+    }
+    if share_kind(q, p) {
+        return Rule::Silent;
+    }
+    Rule::Says(false)
 }
 
-// The kind of an entity type or of a set of entities. A type refers to earlier ones: a row that names a later one is read as a set of bools.
-fn target_of(rows: &[u32], ty: u32) -> Found
-    ensures { λ f. ⌜ foundIn f ≡ targetIn (now (rows .entry)) ty ⌝ }
+// The row of a type, or of the elements of a set. A type refers to earlier ones: a row that names a later one is read as a set of bools.
+fn target_row(rows: &[u32], ty: u32) -> &[u32]
+    ensures { λ q. ⌜ now q ≡ targetRow (now (rows .entry)) ty ⌝ }
 {
-    let f = element_of(rows, ty);
-    let Found::As(e) = f else {
-        return kind_of(rows, ty);
-    };
-    if e < ty {
-        return kind_of(rows, e);
+    let q = row(rows, TYPE, ty);
+    if tag(q) != SET_TYPE {
+        return q;
     }
-    Found::Undeclared
+    let e = item(q, 1);
+    if e < ty {
+        return row(rows, TYPE, e);
+    }
+    &rows[0..0]
+}
+
+// Whether an entity of one kind may be in one of another.
+fn may_be_in(rows: &[u32], kind: u32, above: u32) -> bool
+    ensures { λ b. ⌜ b ≡ allows (schemaAt (now (rows .entry))) kind above ⌝ }
+{
+    if kind == above {
+        return true;
+    }
+    is_above(rows, kind, above)
+}
+
+// Whether an entity of a kind may be in one of an entity type.
+fn pair_with(rows: &[u32], type_row: &[u32], kind: u32) -> bool
+    ensures { λ b. ⌜ b ≡ pairWith (now (rows .entry)) (now («type_row» .entry)) kind ⌝ }
+{
+    let end = kinds_end(type_row);
+    let mut i: usize = 1;
+    while i < end {
+        if may_be_in(rows, kind, item(type_row, i)) {
+            return true;
+        }
+        i += 1;
+    }
+    false
+}
+
+// Whether an entity of one entity type may be in one of another.
+fn some_pair(rows: &[u32], type_row: &[u32], other_row: &[u32]) -> bool
+    ensures { λ b. ⌜ b ≡ someKind (pairWith (now (rows .entry)) (now («other_row» .entry))) (kindsIn (now («type_row» .entry))) ⌝ }
+{
+    let end = kinds_end(type_row);
+    let mut i: usize = 1;
+    while i < end {
+        if pair_with(rows, other_row, item(type_row, i)) {
+            return true;
+        }
+        i += 1;
+    }
+    false
 }
 
 // `in` on two types.
 pub fn in_rule(rows: &[u32], ty: u32, other: u32) -> Rule
     ensures { λ r. ⌜ ruleIn r ≡ relRule (schemaAt (now (rows .entry))) rin (tyAt (now (rows .entry)) ty) (tyAt (now (rows .entry)) other) ⌝ }
 {
-    let f = kind_of(rows, ty);
-    let Found::As(k) = f else {
-        return Rule::Silent;
-    };
-    let g = target_of(rows, other);
-    let Found::As(l) = g else {
-        return Rule::Silent;
-    };
-    if k == l {
+    let q = row(rows, TYPE, ty);
+    if tag(q) != ENTITY_TYPE {
         return Rule::Silent;
     }
-    if is_above(rows, k, l) {
+    let p = target_row(rows, other);
+    if tag(p) != ENTITY_TYPE {
+        return Rule::Silent;
+    }
+    if some_pair(rows, q, p) {
         return Rule::Silent;
     }
     Rule::Says(false)
@@ -90,21 +156,77 @@ pub fn in_rule(rows: &[u32], ty: u32, other: u32) -> Rule
 
 // ---- tags and attributes
 
+// Whether no entity of a kind has tags. Nothing is ruled out for an action kind.
+fn lacks_tags(rows: &[u32], kind: u32) -> bool
+    ensures { λ b. ⌜ b ≡ untagged (now (rows .entry)) kind ⌝ }
+{
+    if is_action(rows, kind) {
+        return false;
+    }
+    tag_type(rows, kind) == MARK
+}
+
 // `hastag` on a type; the second operand is a string, and no rule asks for it.
 pub fn hastag_rule(rows: &[u32], ty: u32) -> Rule
     ensures { λ r. ⌜ ruleIn r ≡ relRule (schemaAt (now (rows .entry))) rhastag (tyAt (now (rows .entry)) ty) tstr ⌝ }
 {
-    let f = kind_of(rows, ty);
-    let Found::As(k) = f else {
-        return Rule::Silent;
-    };
-    if is_action(rows, k) {
+    let q = row(rows, TYPE, ty);
+    if tag(q) != ENTITY_TYPE {
         return Rule::Silent;
     }
-    if tag_type(rows, k) == MARK {
+    let end = kinds_end(q);
+    let mut i: usize = 1;
+    while i < end {
+        if !lacks_tags(rows, item(q, i)) {
+            return Rule::Silent;
+        }
+        i += 1;
+    }
+    Rule::Says(false)
+}
+
+// Whether no entity of a kind has this attribute. Nothing is ruled out for an action kind.
+fn lacks(rows: &[u32], text: u32, kind: u32) -> bool
+    ensures { λ b. ⌜ b ≡ lacking (now (rows .entry)) text kind ⌝ }
+{
+    let action = is_action(rows, kind);
+    if action {
+        return false;
+    }
+    let f = record_of(rows, attribute_type(rows, kind));
+    let Found::As(y) = f else {
+        return true;
+    };
+    let g = attribute(rows, y, text);
+    let Found::As(_) = g else {
+        return true;
+    };
+    false
+}
+
+// `has` of an attribute on an entity of a kind.
+pub fn has_kind_rule(rows: &[u32], text: u32, kind: u32) -> Rule
+    ensures { λ r. ⌜ ruleIn r ≡ hasRule (schemaAt (now (rows .entry))) text (alone kind) ⌝ }
+{
+    if lacks(rows, text, kind) {
         return Rule::Says(false);
     }
     Rule::Silent
+}
+
+// Whether no entity of an entity type has this attribute.
+fn each_lacks(rows: &[u32], text: u32, type_row: &[u32]) -> bool
+    ensures { λ b. ⌜ b ≡ eachKind (lacking (now (rows .entry)) text) (kindsIn (now («type_row» .entry))) ⌝ }
+{
+    let end = kinds_end(type_row);
+    let mut i: usize = 1;
+    while i < end {
+        if !lacks(rows, text, item(type_row, i)) {
+            return false;
+        }
+        i += 1;
+    }
+    true
 }
 
 // `has` of an attribute on a record type.
@@ -118,32 +240,20 @@ fn record_rule(rows: &[u32], text: u32, ty: u32) -> Rule
     Rule::Silent
 }
 
-// `has` of an attribute on an entity of a kind.
-pub fn has_kind_rule(rows: &[u32], text: u32, kind: u32) -> Rule
-    ensures { λ r. ⌜ ruleIn r ≡ hasRule (schemaAt (now (rows .entry))) text (tent kind) ⌝ }
-{
-    let action = is_action(rows, kind);
-    if action {
-        return Rule::Silent;
-    }
-    let f = record_of(rows, attribute_type(rows, kind));
-    let Found::As(y) = f else {
-        return Rule::Says(false);
-    };
-    record_rule(rows, text, y)
-}
-
 // `has` of an attribute on a type.
 pub fn has_rule(rows: &[u32], text: u32, ty: u32) -> Rule
     ensures { λ r. ⌜ ruleIn r ≡ hasRule (schemaAt (now (rows .entry))) text (tyAt (now (rows .entry)) ty) ⌝ }
 {
-    let f = kind_of(rows, ty);
-    if let Found::As(k) = f {
-        return has_kind_rule(rows, text, k);
+    let q = row(rows, TYPE, ty);
+    if tag(q) == ENTITY_TYPE {
+        if each_lacks(rows, text, q) {
+            return Rule::Says(false);
+        }
+        return Rule::Silent;
     }
-    let g = record_of(rows, ty);
-    let Found::As(z) = g else {
+    let f = record_of(rows, ty);
+    let Found::As(y) = f else {
         return Rule::Silent;
     };
-    record_rule(rows, text, z)
+    record_rule(rows, text, y)
 }

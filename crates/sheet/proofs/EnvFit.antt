@@ -8,11 +8,11 @@ use native.Mathlib.Omega.{arith}
 use borrow.Author.Tests.{ltb-true, ne-eqb}
 use lib.Dec.{eqb}
 use lib.ListN.{getD, drop}
-use Rattle.cedar.proofs.Tools.{no-true, no-some}
+use Rattle.cedar.proofs.Tools.{no-true, no-some, in-alone}
 use Rattle.cedar.specs.Value.{Value, vent, Values, vcons}
 use Rattle.cedar.specs.Canonical.{place, insert, ascending, makeSet, order}
-use Rattle.cedar.specs.Types.{Ty, tbool, tent, Var, principal, action, resource, context, Fits, fbool, flong, ftext, fent, fset, frec, FieldsFit, noField}
-use Rattle.cedar.specs.Entities.{Line, PLine, EnvFits, LineFits, KindsIn, noKind, oneKind, TagsFit, noTag, oneTag, among}
+use Rattle.cedar.specs.Types.{Ty, tbool, tent, among, Var, principal, action, resource, context, Fits, fbool, flong, ftext, fent, fset, frec, FieldsFit, noField}
+use Rattle.cedar.specs.Entities.{Line, PLine, EnvFits, LineFits, KindsIn, noKind, oneKind, TagsFit, noTag, oneTag}
 use Rattle.cedar.specs.Rows.{Entries, stop, entry, Row, rent, rset, rrec}
 use Rattle.cedar.specs.Numbered.{memN, rEnt, rRec, rSet}
 use Rattle.cedar.proofs.Completion.{PartsFit, KnownFits}
@@ -21,7 +21,7 @@ use Rattle.sheet.specs.State.{State, linesOf, lineAt, typeRow, typeAt, v
 use Rattle.sheet.specs.Typing.{rowFits, fitsBy, fits, fitsIn, attributesOf, tagsOf, aboveOf, unknownOr, allIn, allEntries, isStop, tagsFit, ancestorFits, typed}
 use Rattle.sheet.specs.Content.{types, contents, membersOver, fieldsOver, attrsIn, tagTy, schema, known, entityKnown, requestKnown, requested, lineIn, lineFound, partsIn, partsFound, pEnv, contentIn, fieldsIn, membersIn, lookUp, env}
 use Rattle.sheet.proofs.Lines.{and-both, Was}
-use Rattle.sheet.proofs.RowTests.{on-ent, on-set, on-rec, on-record}
+use Rattle.sheet.proofs.RowTests.{mem-among, on-ent, on-set, on-rec, on-record}
 use Rattle.sheet.proofs.FitsSound.{fits-sound}
 use Rattle.sheet.proofs.NodeRows.{known-small}
 use Rattle.sheet.proofs.Environment.{Facts, the-line, entity-found, entity-read, context-read, entity-ok, value-is}
@@ -39,15 +39,11 @@ fields-of : {v : Value} {A : Ty} → Fits v A → FieldsFit (fieldsIn v) (attrsI
 fields-of fbool = noField
 fields-of flong = noField
 fields-of ftext = noField
-fields-of fent = noField
+fields-of (fent m) = noField
 fields-of (fset h) = noField
 fields-of (frec h c) = h
 
 -- kinds of a set's members
-mem-among : (k : ℕ) (l : List ℕ) → memN k l ≡ among k l
-mem-among k [] = refl
-mem-among k (x ∷ l) = ap (λ b. eqb k x || b) (mem-among k l)
-
 kinds-place : (ls : List ℕ) (o : Ordering) (k t : ℕ) {w : Value} {ws : Values} (r : Values) → among k ls ≡ true → KindsIn ls (vcons w ws) → KindsIn ls r → KindsIn ls (place o (vent k t) w ws r)
 unfolding place
 kinds-place ls Ordering·lt k t r a h g = oneKind a h
@@ -137,8 +133,8 @@ module _ (m : Mode) (s : State) (f : Facts m s) where
       of-known (λ v. Fits v (getD (types s) y tbool)) n (contentIn (contents s) n) (fits (w .was) n y) g
       (λ p. fits-sound m s (f .history) n y (sym (fits-over (w .was) s (w .earlier 3 (omega arith)) (w .earlier 5 (omega arith)) n y) ∙ p)) v e)
 
-  entity-known : (r : List ℕ) (v : Value) → entityKnown r ≡ some v → Fits v (tent (at r 0))
-  entity-known r v e = of-known (λ v. Fits v (tent (at r 0))) (at r 1) (vent (at r 0) (at r 1)) true (or-true (eqb (at r 1) mark)) (λ q. fent) v e
+  entity-known : (r : List ℕ) (v : Value) → entityKnown r ≡ some v → Fits v (tent (at r 0) [])
+  entity-known r v e = of-known (λ v. Fits v (tent (at r 0) [])) (at r 1) (vent (at r 0) (at r 1)) true (or-true (eqb (at r 1) mark)) (λ q. fent (in-alone (at r 0))) v e
     where
       or-true : (b : Bool) → (b || true) ≡ true
       or-true true = refl
@@ -183,9 +179,9 @@ module _ (s : State) (f : Facts complete s) where
 
   request-fits : (x : Var) → Fits (requested s (contents s) x) (schema s .request x)
   unfolding schema
-  request-fits principal = fent
-  request-fits action = fent
-  request-fits resource = fent
+  request-fits principal = fent (in-alone (at (lineAt s PRINCIPAL 0) 0))
+  request-fits action = fent (in-alone (at (lineAt s ACTION 0) 0))
+  request-fits resource = fent (in-alone (at (lineAt s RESOURCE 0) 0))
   request-fits context = context-fits
 
   -- IT FITS

@@ -6,20 +6,20 @@ use mathlib.Core.List.{List, [], _∷_}
 use Prim.Native.Nat.{ℕ, zero, suc}
 use lib.Dec.{eqb}
 use lib.ListN.{getD}
-use Rattle.cedar.proofs.Tools.{no-true, eqb-true}
+use Rattle.cedar.proofs.Tools.{no-true}
 use Rattle.cedar.specs.Value.{Value, vbool, find, found, pick, onSome}
 use Rattle.cedar.specs.Canonical.{makeSet}
 use Rattle.cedar.specs.Types.{Ty, tbool, declared, pickTy, Needed, Complete, Fits, fbool, flong, ftext, fent, fset, frec, AllFit, nilFit, consFit, FieldsFit, noField, oneField}
 use Rattle.cedar.proofs.TypeSound.{fit-ascending}
 use Rattle.cedar.proofs.TypingTest.{some-test}
 use Rattle.cedar.specs.Rows.{Entries, stop, entry, Row}
-use Rattle.cedar.specs.Numbered.{pickN, entryOf, isSome}
+use Rattle.cedar.specs.Numbered.{memN, pickN, entryOf, isSome}
 use Rattle.sheet.specs.Forms.{Mode}
 use Rattle.sheet.specs.State.{linesOf, State, Declared, TypeRow, bool, long, string, entity, set′, record′, typeAt, valueAt}
 use Rattle.sheet.specs.Typing.{declaredIn, requiredThere, allIn, allEntries, entriesFit, rowFits, fitsBy, fits, fitsIn}
 use Rattle.sheet.specs.Content.{attrsOver, tyOver, types, membersOver, fieldsOver, valueOver, contents}
 use Rattle.sheet.proofs.Lines.{and-both, History}
-use Rattle.sheet.proofs.RowTests.{on-bool, on-long, on-text, on-ent, on-set, on-rec}
+use Rattle.sheet.proofs.RowTests.{mem-among, on-bool, on-long, on-text, on-ent, on-set, on-rec}
 use Rattle.sheet.proofs.Fitting.{val, val-eq, ty, ty-eq}
 
 abbrev pub mapTy : (ℕ → Ty) → Option ℕ → Option Ty
@@ -70,7 +70,7 @@ module _ (m : Mode) (s : State) (h : History m s) (f : ℕ → ℕ → Bool) (ih
   at-row r bool e = on-bool r (λ b. true) e (λ b q g. rw q fbool)
   at-row r long e = on-long r (λ n. true) e (λ n q g. rw q flong)
   at-row r string e = on-text r (λ t. true) e (λ t q g. rw q ftext)
-  at-row r (entity k) e = on-ent r (λ l t. eqb l k) e (λ l t q g. rw (q, eqb-true l k g) fent)
+  at-row r (entity k ks) e = on-ent r (λ l t. memN l (k ∷ ks)) e (λ l t q g. rw q (fent (sym (mem-among l (k ∷ ks)) ∙ g)))
   at-row r (set′ y) e = on-set r (allIn (λ x. f x y)) e (λ l q g. rw q (fset (fit-ascending (members-fit y l g))))
   at-row r (record′ ds) e = on-rec r (entriesFit f ds) e (λ es q g. and-both (requiredThere ds (λ t. isSome (entryOf t es))) (allEntries (λ t x. onSome false (declaredIn t ds) (f x)) es) g (λ a b.
       rw q (frec (fields-fit ds es b) (complete-over (types s) ds (λ t. isSome (entryOf t es)) (λ t. found (find t (fieldsOver (contents s) es))) (λ t. sym (find-over (contents s) t es)) a))))

@@ -8,7 +8,7 @@ use native.Mathlib.Omega.{arith}
 use native.Mathlib.Decide.{decLt}
 use borrow.Author.Tests.{ltb-true, le-ltb}
 use lib.Dec.{eqb}
-use lib.ListN.{length, getD, length-append, List·getD-eq-default, List·getD-append}
+use lib.ListN.{length, getD, length-append, List·getD-eq-default, List·getD-append, drop}
 use Rattle.cedar.specs.Value.{Value, vbool, vset, vrec, Values, vcons, Fields, fcons}
 use Rattle.cedar.specs.Canonical.{ascending, makeSet}
 use Rattle.cedar.specs.Types.{Ty, tbool, tlong, tstr, tent, tset, trec, Attrs, anil, acons}
@@ -79,7 +79,7 @@ pub data TyAt (ts : List Ty) : TypeRow → Ty → Type 0 where
   abool : TyAt ts bool tbool
   along : TyAt ts long tlong
   astr : TyAt ts string tstr
-  aent : {k : ℕ} → TyAt ts (entity k) (tent k)
+  aent : {k : ℕ} {ks : List ℕ} → TyAt ts (entity k ks) (tent k ks)
   aset : {t : ℕ} {A : Ty} → At ts t A → TyAt ts (set′ t) (tset A)
   arec : {ds : List Declared} {R : Attrs} → AttrsAt ts ds R → TyAt ts (record′ ds) (trec R)
 
@@ -141,8 +141,8 @@ module _ (s : State) (ts : List Ty) (size : length ts ≡ count s TYPE) where
   ty-row [] n e = abool
   ty-row (t ∷ l) n e = and-both (allThere s t 0 l && ascend 0 (ascendings (t ∷ l))) (fresh s 3 (t ∷ l)) e (λ p q. and-both (allThere s t 0 l) (ascend 0 (ascendings (t ∷ l))) p (λ a b. go a (t - 3) refl))
     where
-      go : allThere s t 0 l ≡ true → (d : ℕ) → t - 3 ≡ d → TyAt ts (getD (bool ∷ long ∷ string ∷ entity (getD l 0 0) ∷ set′ (getD l 0 0) ∷ record′ (declareds l) ∷ []) d bool)
-          (tyOver ts (getD (bool ∷ long ∷ string ∷ entity (getD l 0 0) ∷ set′ (getD l 0 0) ∷ record′ (declareds l) ∷ []) d bool))
+      go : allThere s t 0 l ≡ true → (d : ℕ) → t - 3 ≡ d → TyAt ts (getD (bool ∷ long ∷ string ∷ entity (getD l 0 0) (drop 1 l) ∷ set′ (getD l 0 0) ∷ record′ (declareds l) ∷ []) d bool)
+          (tyOver ts (getD (bool ∷ long ∷ string ∷ entity (getD l 0 0) (drop 1 l) ∷ set′ (getD l 0 0) ∷ record′ (declareds l) ∷ []) d bool))
       go a zero q = abool
       go a (suc zero) q = along
       go a (suc (suc zero)) q = astr

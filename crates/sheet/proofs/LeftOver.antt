@@ -6,11 +6,12 @@ use mathlib.Core.List.{List, [], _∷_, _++_, append-assoc, append-nil}
 use Prim.Native.Nat.{ℕ, _≤_}
 use Rattle.cedar.proofs.Tools.{no-some}
 use Rattle.cedar.specs.Value.{onSome}
-use Rattle.cedar.specs.Types.{Ty, tent, Schema, Var}
+use Rattle.cedar.specs.Types.{Ty, Schema, Var}
 use Rattle.cedar.specs.Residual.{Node, Nodes, NodeArgs, lit, err, var, and, or, ite, un, bin, rel, get, has, haspath, set, rec, enil, econs, gnil, gcons, Un, Bin, Rel, tyOf, canErr, Stage, value, error, open′, view, Class, ctrue, cfalse, cerror, copen, anyError, anyErrorArg}
 use Rattle.cedar.specs.TypeRules.{unRule, binRule, relRule, hasRule}
 use Rattle.cedar.specs.Rows.{Entries, stop, entry, Row, rbool, rlong, rtext, rent, rset, rrec}
 use Rattle.cedar.specs.Making.{intern, orAdd, findRow, sortN}
+use Rattle.cedar.specs.Interpret.{alone}
 use Rattle.cedar.specs.Numbered.{Give, made, old, NEnv, rowAt, NOut, give, fails, stays, entryOf, isSome, nUn, nBin, nRel, nGet, nHas, Out, out, make, giveLit, nSettle, nStrict1, nStrict2, nByRule, nClass, nAndOpen, nAnd, nOrOpen, nOr, nIf, entryN, numbers, entries, Outs, OutArgs, nLeft, nWalk, nPath, nVar, nStepUn, nStepBin, nStepRel, nStepGet, nStepHas, nStepSet, nStepRec, nInterpret, nInterprets, nInterpretArgs}
 use Rattle.cedar.specs.Runs.{NPolicy, NVerdict, Run, nRun}
 use Rattle.sheet.proofs.DigitsBack.{IsLong, in-range}
@@ -276,14 +277,14 @@ module _ (S : Schema) (M : NEnv) (asked : (x : Var) (g : Give) → M .request x 
     leaves-left : (a : Node ℕ) (t : ℕ) (ts : List ℕ) → Left e (haspath T a t ts) → Leaves e R (nLeft S M T a t ts R)
     leaves-left a t ts l = decides R T (canErr a) (hasRule S t (tyOf a)) (out R (haspath T a t ts)) (stay R (haspath T a t ts) l)
 
-    leaves-walk : (us : List ℕ) (t : ℕ) → ((A : Ty) (m v : ℕ) (vs : List ℕ) → Along t us v vs → Left e (haspath T (lit A m) v vs)) → (n : ℕ) → Leaves e R (nWalk S M T R us t n)
-    leaves-walk [] t f n = e-entries (Leaves e R) (out R (err T)) (stay R (err T) as-err) M R (λ k i. nLeft S M T (lit (tent k) n) t [] R) (λ k i. leaves-left (lit (tent k) n) t [] (f (tent k) n t [] here))
+    leaves-walk : (U : ℕ → Ty) (us : List ℕ) (t : ℕ) → ((A : Ty) (m v : ℕ) (vs : List ℕ) → Along t us v vs → Left e (haspath T (lit A m) v vs)) → (n : ℕ) → Leaves e R (nWalk S M T R U us t n)
+    leaves-walk U [] t f n = e-entries (Leaves e R) (out R (err T)) (stay R (err T) as-err) M R (λ k i. nLeft S M T (lit (U k) n) t [] R) (λ k i. leaves-left (lit (U k) n) t [] (f (U k) n t [] here))
         (λ d. make T (rbool (isSome (entryOf t d))) R) (λ d. makes R T (rbool (isSome (entryOf t d))) tt) (rowAt R n)
-    leaves-walk (u ∷ us) t f n = e-entries (Leaves e R) (out R (err T)) (stay R (err T) as-err) M R (λ k i. nLeft S M T (lit (tent k) n) t (u ∷ us) R) (λ k i. leaves-left (lit (tent k) n) t (u ∷ us) (f (tent k) n t (u ∷ us) here))
-        (λ d. onSome (make T (rbool false) R) (entryOf t d) (nWalk S M T R us u)) (λ d. e-some (Leaves e R) (make T (rbool false) R) (makes R T (rbool false) tt) (entryOf t d) (nWalk S M T R us u) (λ x. leaves-walk us u (λ A m v vs p. f A m v vs (on p)) x)) (rowAt R n)
+    leaves-walk U (u ∷ us) t f n = e-entries (Leaves e R) (out R (err T)) (stay R (err T) as-err) M R (λ k i. nLeft S M T (lit (U k) n) t (u ∷ us) R) (λ k i. leaves-left (lit (U k) n) t (u ∷ us) (f (U k) n t (u ∷ us) here))
+        (λ d. onSome (make T (rbool false) R) (entryOf t d) (nWalk S M T R alone us u)) (λ d. e-some (Leaves e R) (make T (rbool false) R) (makes R T (rbool false) tt) (entryOf t d) (nWalk S M T R alone us u) (λ x. leaves-walk alone us u (λ A m v vs p. f A m v vs (on p)) x)) (rowAt R n)
 
   leaves-path : (T : Ty) (a : Node ℕ) (t : ℕ) (ts : List ℕ) {R : List Row} (o : Out) → Leaves a R o → (x : Stage ℕ) → Leaves (haspath T a t ts) R (nPath S M T (o .tree) t ts x (o .rows))
-  leaves-path T a t ts o h (value n) = after (nWalk S M T (o .rows) ts t n) (h .grown) (leaves-walk T (o .rows) ts t (λ A m v vs p. on-path p) n)
+  leaves-path T a t ts o h (value n) = after (nWalk S M T (o .rows) (λ k. tyOf (o .tree)) ts t n) (h .grown) (leaves-walk T (o .rows) (λ k. tyOf (o .tree)) ts t (λ A m v vs p. on-path p) n)
   leaves-path T a t ts o h error = record { left = as-err; grown = h .grown }
   leaves-path T a t ts o h open′ = after (nLeft S M T (o .tree) t ts (o .rows)) (h .grown) (leaves-left T (o .rows) (o .tree) t ts (in-path (h .left)))
 

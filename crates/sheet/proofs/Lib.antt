@@ -10,17 +10,12 @@ pub mod Depths
 pub mod DigitsBack
 pub mod EnvFit
 pub mod Environment
-pub mod ExampleBytes
-pub mod ExampleEntities
-pub mod ExampleLinks
-pub mod ExampleTerms
 pub mod FitsSound
 pub mod Fitting
 pub mod ItemBytes
-pub mod KnownSheets
+pub mod KnownLines
 pub mod LeftOver
 pub mod Limits
-pub mod LinkEdges
 pub mod Linked
 pub mod Lines
 pub mod LinesBack
@@ -32,6 +27,7 @@ pub mod NodeTyped
 pub mod OnTerm
 pub mod OwnPolicies
 pub mod Parsed
+pub mod PathSteps
 pub mod PoliciesRead
 pub mod Refusals
 pub mod RowTests
@@ -39,6 +35,7 @@ pub mod Shallow
 pub mod RowsBack
 pub mod RowsGood
 pub mod SheetSmall
+pub mod Shown
 pub mod Slots
 pub mod TreeBytes
 pub mod TreesBack

@@ -7,11 +7,12 @@ use Prim.Native.Nat.{ℕ, suc, _≤_, _+_}
 use native.Mathlib.Omega.{arith}
 use lib.ListN.{length, length-append}
 use Rattle.cedar.specs.Value.{onSome}
-use Rattle.cedar.specs.Types.{Ty, tent, Schema, Var}
+use Rattle.cedar.specs.Types.{Ty, Schema, Var}
 use Rattle.cedar.specs.Residual.{Node, Nodes, NodeArgs, lit, err, var, and, or, ite, un, bin, rel, get, has, haspath, set, rec, enil, econs, gnil, gcons, tyOf, canErr, Stage, value, error, open′, view, Class, ctrue, cfalse, cerror, copen, anyError, anyErrorArg}
 use Rattle.cedar.specs.TypeRules.{unRule, binRule, relRule, hasRule}
 use Rattle.cedar.specs.Rows.{Entries, Row, rbool, rlong, rtext, rent, rset, rrec}
 use Rattle.cedar.specs.Making.{findRow, orAdd, intern, sortN}
+use Rattle.cedar.specs.Interpret.{alone}
 use Rattle.cedar.specs.Numbered.{NEnv, Give, made, old, NOut, give, fails, stays, rRec, giveRow, nentity, onEntries, isSome, entryOf, rowAt, Out, out, make, giveLit, nSettle, nStrict1, nStrict2, nByRule, nClass, nAndOpen, nAnd, nOrOpen, nOr, nIf, numbers, entries, Outs, OutArgs, nUn, nBin, nRel, nGet, nHas, nLeft, nWalk, nPath, nVar, nInterpret, nInterprets, nInterpretArgs}
 use Rattle.cedar.specs.Runs.{NPolicy, NVerdict, nRun}
 use Rattle.sheet.specs.Answer.{size, sizes, sizeArgs}
@@ -110,18 +111,18 @@ module _ (S : Schema) (N : NEnv) where
   s-left : (n : ℕ) (R : List Row) (T : Ty) (a : Node ℕ) (t : ℕ) (ts : List ℕ) → suc (size a) ≤ n → Step n R (nLeft S N T a t ts R)
   s-left n R T a t ts h = s-decide n R T (canErr a) (hasRule S t (tyOf a)) (out R (haspath T a t ts)) (omega arith) (s-out n R T (haspath T a t ts) h)
 
-  s-walk : (n : ℕ) → 2 ≤ n → (R : List Row) (T : Ty) (ts : List ℕ) (t m : ℕ) → Step n R (nWalk S N T R ts t m)
-  s-walk n h R T [] t m = on-entries (Step n R) R (out R (err T)) (λ k i. nLeft S N T (lit (tent k) m) t [] R) (rowAt R m) (λ e. make T (rbool (isSome (entryOf t e))) R)
-      (s-out n R T (err T) (omega arith)) (λ k i. s-left n R T (lit (tent k) m) t [] h) (λ e. s-make n R T (rbool (isSome (entryOf t e))) (omega arith))
-  s-walk n h R T (u ∷ us) t m = on-entries (Step n R) R (out R (err T)) (λ k i. nLeft S N T (lit (tent k) m) t (u ∷ us) R) (rowAt R m) (λ e. onSome (make T (rbool false) R) (entryOf t e) (nWalk S N T R us u))
-      (s-out n R T (err T) (omega arith)) (λ k i. s-left n R T (lit (tent k) m) t (u ∷ us) h) (λ e. go (entryOf t e) (λ x. s-walk n h R T us u x))
+  s-walk : (n : ℕ) → 2 ≤ n → (R : List Row) (T : Ty) (U : ℕ → Ty) (ts : List ℕ) (t m : ℕ) → Step n R (nWalk S N T R U ts t m)
+  s-walk n h R T U [] t m = on-entries (Step n R) R (out R (err T)) (λ k i. nLeft S N T (lit (U k) m) t [] R) (rowAt R m) (λ e. make T (rbool (isSome (entryOf t e))) R)
+      (s-out n R T (err T) (omega arith)) (λ k i. s-left n R T (lit (U k) m) t [] h) (λ e. s-make n R T (rbool (isSome (entryOf t e))) (omega arith))
+  s-walk n h R T U (u ∷ us) t m = on-entries (Step n R) R (out R (err T)) (λ k i. nLeft S N T (lit (U k) m) t (u ∷ us) R) (rowAt R m) (λ e. onSome (make T (rbool false) R) (entryOf t e) (nWalk S N T R alone us u))
+      (s-out n R T (err T) (omega arith)) (λ k i. s-left n R T (lit (U k) m) t (u ∷ us) h) (λ e. go (entryOf t e) (λ x. s-walk n h R T alone us u x))
     where
-      go : (o : Option ℕ) → ((x : ℕ) → Step n R (nWalk S N T R us u x)) → Step n R (onSome (make T (rbool false) R) o (nWalk S N T R us u))
+      go : (o : Option ℕ) → ((x : ℕ) → Step n R (nWalk S N T R alone us u x)) → Step n R (onSome (make T (rbool false) R) o (nWalk S N T R alone us u))
       go none ih = s-make n R T (rbool false) (omega arith)
       go (some x) ih = ih x
 
   s-path : (n : ℕ) (R : List Row) (T : Ty) (a : Node ℕ) (t : ℕ) (ts : List ℕ) (s : Stage ℕ) → suc (size a) ≤ n → Step n R (nPath S N T a t ts s R)
-  s-path n R T a t ts (value m) h = let z = size-least a in s-walk n (omega (arith, z)) R T ts t m
+  s-path n R T a t ts (value m) h = let z = size-least a in s-walk n (omega (arith, z)) R T (λ k. tyOf a) ts t m
   s-path n R T a t ts error h = s-out n R T (err T) (omega arith)
   s-path n R T a t ts open′ h = s-left n R T a t ts h
 

@@ -10,11 +10,12 @@ use lib.ListN.{length}
 use Rattle.cedar.proofs.Tools.{no-some}
 use Rattle.cedar.proofs.TableLaws.{sameRow-refl}
 use Rattle.cedar.specs.Value.{onSome}
-use Rattle.cedar.specs.Types.{Ty, tent, Schema, Var, principal, action, resource, context}
+use Rattle.cedar.specs.Types.{Ty, Schema, Var, principal, action, resource, context}
 use Rattle.cedar.specs.Residual.{Node, Nodes, NodeArgs, lit, err, var, and, or, ite, un, bin, rel, get, has, haspath, set, rec, enil, econs, gnil, gcons, tyOf, canErr, Stage, value, error, open′, view, Class, ctrue, cfalse, cerror, copen, anyError, anyErrorArg}
 use Rattle.cedar.specs.TypeRules.{unRule, binRule, relRule, hasRule}
 use Rattle.cedar.specs.Rows.{Entries, stop, entry, Row, rbool, rlong, rtext, rent, rset, rrec, sameRow}
 use Rattle.cedar.specs.Making.{findRow, pickRow, orAdd, intern, placeN, insertN, sortN}
+use Rattle.cedar.specs.Interpret.{alone}
 use Rattle.cedar.specs.Numbered.{NEnv, Give, made, old, NOut, give, fails, stays, isSome, entryOf, rowAt, Out, out, make, giveLit, nSettle, nStrict1, nStrict2, nByRule, nClass, nAndOpen, nAnd, nOrOpen, nOr, nIf, consN, numbers, entryN, entries, Outs, OutArgs, nUn, nBin, nRel, nGet, nHas, nLeft, nWalk, nPath, nVar, nInterpret, nInterprets, nInterpretArgs}
 use Rattle.cedar.specs.Runs.{NPolicy, nRun}
 use Rattle.cedar.proofs.Outcomes.{Basic, GiveIs, OutIs, e-some, e-entries, made-un, made-bin, made-rel, made-get, made-has}
@@ -141,14 +142,14 @@ module _ (S : Schema) (N : NEnv) (μ : List Row → ℕ) (mu : Measure N μ) whe
     s-left : (a : Node ℕ) (t : ℕ) (ts : List ℕ) → Step R (nLeft S N T a t ts R)
     s-left a t ts = s-decide (canErr a) (hasRule S t (tyOf a)) (out R (haspath T a t ts)) (s-out (haspath T a t ts))
 
-    s-walk : (ts : List ℕ) (t m : ℕ) → Step R (nWalk S N T R ts t m)
-    s-walk [] t m = e-entries (Step R) (out R (err T)) (s-out (err T)) N R (λ k i. nLeft S N T (lit (tent k) m) t [] R) (λ k i. s-left (lit (tent k) m) t [])
+    s-walk : (U : ℕ → Ty) (ts : List ℕ) (t m : ℕ) → Step R (nWalk S N T R U ts t m)
+    s-walk U [] t m = e-entries (Step R) (out R (err T)) (s-out (err T)) N R (λ k i. nLeft S N T (lit (U k) m) t [] R) (λ k i. s-left (lit (U k) m) t [])
         (λ d. make T (rbool (isSome (entryOf t d))) R) (λ d. s-make (rbool (isSome (entryOf t d))) (omega arith)) (rowAt R m)
-    s-walk (u ∷ us) t m = e-entries (Step R) (out R (err T)) (s-out (err T)) N R (λ k i. nLeft S N T (lit (tent k) m) t (u ∷ us) R) (λ k i. s-left (lit (tent k) m) t (u ∷ us))
-        (λ d. onSome (make T (rbool false) R) (entryOf t d) (nWalk S N T R us u)) (λ d. e-some (Step R) (make T (rbool false) R) (s-make (rbool false) (omega arith)) (entryOf t d) (nWalk S N T R us u) (λ x. s-walk us u x)) (rowAt R m)
+    s-walk U (u ∷ us) t m = e-entries (Step R) (out R (err T)) (s-out (err T)) N R (λ k i. nLeft S N T (lit (U k) m) t (u ∷ us) R) (λ k i. s-left (lit (U k) m) t (u ∷ us))
+        (λ d. onSome (make T (rbool false) R) (entryOf t d) (nWalk S N T R alone us u)) (λ d. e-some (Step R) (make T (rbool false) R) (s-make (rbool false) (omega arith)) (entryOf t d) (nWalk S N T R alone us u) (λ x. s-walk alone us u x)) (rowAt R m)
 
     s-path : (a : Node ℕ) (t : ℕ) (ts : List ℕ) (s : Stage ℕ) → Step R (nPath S N T a t ts s R)
-    s-path a t ts (value m) = s-walk ts t m
+    s-path a t ts (value m) = s-walk (λ k. tyOf a) ts t m
     s-path a t ts error = s-out (err T)
     s-path a t ts open′ = s-left a t ts
 

@@ -11,18 +11,19 @@ use lib.ListN.{length, getD, drop}
 use Rattle.cedar.proofs.Tools.{no-true, no-some, eqb-true, either}
 use Rattle.cedar.proofs.TypingTest.{some-test}
 use Rattle.cedar.specs.Value.{Value, vbool, onSome}
-use Rattle.cedar.specs.Types.{Ty, tbool, tlong, tstr, tent, tset, declared, Var, principal, action, resource, context}
+use Rattle.cedar.specs.Types.{Ty, tbool, tlong, tstr, tent, tset, Attrs, declared, Var, principal, action, resource, context}
 use Rattle.cedar.specs.Residual.{Expr, lit, err, var, and, or, has, haspath, set, rec, enil, Item, unot, uneg, uempty, uis, ulike, beq, blt, ble, badd, bsub, bmul, bcontains, ball, bany, rin, rgettag, rhastag}
-use Rattle.cedar.specs.Typing.{named, attrsOf, UnOk, notOk, negOk, emptyOk, isOk, likeOk, BinOk, eqOk, eqEntOk, ltOk, leOk, addOk, subOk, mulOk, containsOk, allOk, anyOk, RelOk, inOk, inSetOk, getTagOk, hasTagOk, PathOk, lastOk, freeOk, stepOk, Typed, tlit, terr, tvar, tand, tor, tite, tun, tbin, trel, tget, thas, tpath, tset′, trec′, AllTyped, nilTyped, consTyped, ArgsTyped, noArg, oneArg}
+use Rattle.cedar.specs.Typing.{named, UnOk, notOk, negOk, emptyOk, isOk, likeOk, BinOk, eqOk, eqEntOk, ltOk, leOk, addOk, subOk, mulOk, containsOk, allOk, anyOk, RelOk, inOk, inSetOk, getTagOk, hasTagOk, Each, IfDeclared, PathOk, Typed, tlit, terr, tvar, tand, tor, tite, tun, tbin, trel, tget, thas, tpath, tset′, trec′, AllTyped, nilTyped, consTyped, ArgsTyped, noArg, oneArg}
 use Rattle.cedar.specs.Numbered.{entryOf, isSome, pickN}
 use Rattle.sheet.specs.Forms.{Mode, Slot, line, forms, formOf, slotAt, items, at, mark, NODE}
+use Rattle.sheet.specs.Bytes.{same as sameList}
 use Rattle.sheet.specs.State.{State, linesOf, count, lineAt, Declared, TypeRow, bool, long, string, entity, set′, record′, typeRow, typeAt, valueRow}
-use Rattle.sheet.specs.Typing.{onEntity, onSetOf, onRecord, isBool, isLong, isString, declaredIn, requiredThere, allIn, allEntries, entriesFit, rowFits, fitsBy, fits, fitsIn, attributesOf, tagsOf, attributes, targetKind, pathTyped, typeOfNode, entityIs, contextIs, varTyped, argTypes, rules}
+use Rattle.sheet.specs.Typing.{onEntity, onSetOf, onRecord, isBool, isLong, isString, declaredIn, requiredThere, allIn, allEntries, entriesFit, rowFits, fitsBy, fits, fitsIn, attributesOf, tagsOf, eachOf, isTarget, pathTyped, typeOfNode, entityIs, contextIs, varTyped, argTypes, rules}
 use Rattle.sheet.specs.Sheet.{allThere, thereIs}
 use Rattle.sheet.specs.Content.{attrsOver, tyOver, types, contents, attrsIn, tagTy, schema, varOf, patternOf, childrenOver, argsOver, treeOver}
 use Rattle.sheet.proofs.Lines.{and-both, History}
 use Rattle.sheet.proofs.NodeRows.{Read, line-small, there-at}
-use Rattle.sheet.proofs.RowTests.{on-entity, on-set-of, on-record, is-bool, is-long, is-string}
+use Rattle.sheet.proofs.RowTests.{all-at, same-is, on-entity, on-set-of, on-record, is-bool, is-long, is-string}
 use Rattle.sheet.proofs.Fitting.{ty-eq}
 use Rattle.sheet.proofs.FitsSound.{fits-sound, declared-over, mapTy, complete-over}
 use Rattle.sheet.proofs.Slots.{set-slot, field-slot}
@@ -50,10 +51,15 @@ module _ (m : Mode) (s : State) (h : History m s) (u : State) (same : (j : ℕ) 
   unfolding fitsIn
   lit-typed v y e = tlit (fits-sound m s h v y (sym (fits-same 64 v y) ∙ e))
 
+  -- the type of a list of kinds
+  abbrev groupOf : List ℕ → Ty
+  groupOf [] = tbool
+  groupOf (k ∷ ks) = tent k ks
+
   -- variables
-  entity-var : (x : Var) (k y : ℕ) → k < NODE → schema s .request x ≡ tent (at (lineAt s k 0) 0) → entityIs u y k ≡ true → Typed (schema s) (var (T y) x) (T y)
-  entity-var x k y lt q e = on-entity (typeAt u y) (λ e. eqb e (at (lineAt u k 0) 0)) e (λ l p g.
-      tvar (q ∙ ap (λ r. tent (at (getD r 0 []) 0)) (sym (same k lt)) ∙ ap tent (sym (eqb-true l (at (lineAt u k 0) 0) g)) ∙ sym (row-ty y p)))
+  entity-var : (x : Var) (k y : ℕ) → k < NODE → schema s .request x ≡ tent (at (lineAt s k 0) 0) [] → entityIs u y k ≡ true → Typed (schema s) (var (T y) x) (T y)
+  entity-var x k y lt q e = on-entity (typeAt u y) (λ ks. sameList ks (at (lineAt u k 0) 0 ∷ [])) e (λ l ls p g.
+      tvar (q ∙ ap (λ r. tent (at (getD r 0 []) 0) []) (sym (same k lt)) ∙ ap groupOf (sym (same-is (l ∷ ls) (at (lineAt u k 0) 0 ∷ []) g)) ∙ sym (row-ty y p)))
 
   context-var : (y : ℕ) → contextIs u y ≡ true → Typed (schema s) (var (T y) context) (T y)
   unfolding schema
@@ -89,8 +95,8 @@ module _ (m : Mode) (s : State) (h : History m s) (u : State) (same : (j : ℕ) 
     eq-ok e = and-both (isBool (typeAt u y)) (eqb p q || (onEntity false (typeAt u p) (λ k. true) && onEntity false (typeAt u q) (λ k. true))) e (λ a o. is-ty (BinOk (schema s) beq (T p) (T q)) y (is-bool _ a)
         (either (eqb p q) (onEntity false (typeAt u p) (λ k. true) && onEntity false (typeAt u q) (λ k. true)) o
         (λ g. subst (λ z. BinOk (schema s) beq (T p) (T z) tbool) (eqb-true p q g) eqOk)
-        (λ g. and-both (onEntity false (typeAt u p) (λ k. true)) (onEntity false (typeAt u q) (λ k. true)) g (λ i j. on-entity (typeAt u p) (λ k. true) i (λ k k′ g. on-entity (typeAt u q) (λ k. true) j (λ l l′ g.
-        is-ty (λ A. BinOk (schema s) beq A (T q) tbool) p k′ (is-ty (λ B. BinOk (schema s) beq (tent k) B tbool) q l′ eqEntOk)))))))
+        (λ g. and-both (onEntity false (typeAt u p) (λ k. true)) (onEntity false (typeAt u q) (λ k. true)) g (λ i j. on-entity (typeAt u p) (λ k. true) i (λ k ks k′ g. on-entity (typeAt u q) (λ k. true) j (λ l ls l′ g.
+        is-ty (λ A. BinOk (schema s) beq A (T q) tbool) p k′ (is-ty (λ B. BinOk (schema s) beq (tent k ks) B tbool) q l′ eqEntOk)))))))
 
     contains-ok : (isBool (typeAt u y) && onSetOf false (typeAt u p) (λ e. eqb e q)) ≡ true → BinOk (schema s) bcontains (T p) (T q) (T y)
     contains-ok e = and-both (isBool (typeAt u y)) (onSetOf false (typeAt u p) (λ e. eqb e q)) e (λ a b. on-set-of (typeAt u p) (λ e. eqb e q) b (λ k r g.
@@ -98,38 +104,38 @@ module _ (m : Mode) (s : State) (h : History m s) (u : State) (same : (j : ℕ) 
 
     hastag-ok : (isBool (typeAt u y) && onEntity false (typeAt u p) (λ k. true) && isString (typeAt u q)) ≡ true → RelOk (schema s) rhastag (T p) (T q) (T y)
     hastag-ok e = and-both (isBool (typeAt u y) && onEntity false (typeAt u p) (λ k. true)) (isString (typeAt u q)) e (λ a c. and-both (isBool (typeAt u y)) (onEntity false (typeAt u p) (λ k. true)) a (λ a b.
-        on-entity (typeAt u p) (λ k. true) b (λ k r g. is-ty (λ A. RelOk (schema s) rhastag A (T q) (T y)) p r (is-ty (λ B. RelOk (schema s) rhastag (tent k) B (T y)) q (is-string _ c) (is-ty (λ C. RelOk (schema s) rhastag (tent k) tstr C) y (is-bool _ a) hasTagOk)))))
+        on-entity (typeAt u p) (λ k. true) b (λ k ks r g. is-ty (λ A. RelOk (schema s) rhastag A (T q) (T y)) p r (is-ty (λ B. RelOk (schema s) rhastag (tent k ks) B (T y)) q (is-string _ c) (is-ty (λ C. RelOk (schema s) rhastag (tent k ks) tstr C) y (is-bool _ a) hasTagOk)))))
 
-    gettag-ok : y ≤ 9999 → (isString (typeAt u q) && onEntity false (typeAt u p) (λ k. eqb (tagsOf u k) y)) ≡ true → RelOk (schema s) rgettag (T p) (T q) (T y)
+    gettag-ok : y ≤ 9999 → (isString (typeAt u q) && onEntity false (typeAt u p) (allIn (λ k. eqb (tagsOf u k) y))) ≡ true → RelOk (schema s) rgettag (T p) (T q) (T y)
     unfolding schema
-    gettag-ok small e = and-both (isString (typeAt u q)) (onEntity false (typeAt u p) (λ k. eqb (tagsOf u k) y)) e (λ a b. on-entity (typeAt u p) (λ k. eqb (tagsOf u k) y) b (λ k r g.
-        is-ty (λ A. RelOk (schema s) rgettag A (T q) (T y)) p r (is-ty (λ B. RelOk (schema s) rgettag (tent k) B (T y)) q (is-string _ a)
-        (getTagOk (ap (λ l. tagTy (types s) (at (getD l k []) 1)) (sym (same 4 (omega arith))) ∙ ap (tagTy (types s)) (eqb-true (tagsOf u k) y g) ∙ ap (λ b. cond b none (some (T y))) (ne-eqb y mark (λ z. absurd (omega (arith, z, small)))))))))
+    gettag-ok small e = and-both (isString (typeAt u q)) (onEntity false (typeAt u p) (allIn (λ k. eqb (tagsOf u k) y))) e (λ a b. on-entity (typeAt u p) (allIn (λ k. eqb (tagsOf u k) y)) b (λ k ks r g.
+        is-ty (λ A. RelOk (schema s) rgettag A (T q) (T y)) p r (is-ty (λ B. RelOk (schema s) rgettag (tent k ks) B (T y)) q (is-string _ a)
+        (getTagOk (λ j m. ap (λ l. tagTy (types s) (at (getD l j []) 1)) (sym (same 4 (omega arith))) ∙ ap (tagTy (types s)) (eqb-true (tagsOf u j) y (all-at (λ k. eqb (tagsOf u k) y) (k ∷ ks) g j m)) ∙ ap (λ b. cond b none (some (T y))) (ne-eqb y mark (λ z. absurd (omega (arith, z, small)))))))))
 
-    target : {X : Type 0} → isSome (targetKind u q) ≡ true → ((l : ℕ) → typeAt u q ≡ entity l → X) → ((k l : ℕ) → typeAt u q ≡ set′ k → typeAt u k ≡ entity l → X) → X
+    target : {X : Type 0} → isTarget u q ≡ true → ((l : ℕ) (ls : List ℕ) → typeAt u q ≡ entity l ls → X) → ((k l : ℕ) (ls : List ℕ) → typeAt u q ≡ set′ k → typeAt u k ≡ entity l ls → X) → X
     target {X} e f g = go (typeAt u q) refl e
       where
-        inner : (k : ℕ) (row : TypeRow) → typeAt u q ≡ set′ k → typeAt u k ≡ row → isSome (onEntity none row some) ≡ true → X
+        inner : (k : ℕ) (row : TypeRow) → typeAt u q ≡ set′ k → typeAt u k ≡ row → onEntity false row (λ ks. true) ≡ true → X
         inner k bool a b e = no-true e
         inner k long a b e = no-true e
         inner k string a b e = no-true e
-        inner k (entity l) a b e = g k l a b
+        inner k (entity l ls) a b e = g k l ls a b
         inner k (set′ t) a b e = no-true e
         inner k (record′ ds) a b e = no-true e
 
-        go : (row : TypeRow) → typeAt u q ≡ row → isSome (onEntity (onSetOf none row (λ e. onEntity none (typeAt u e) some)) row some) ≡ true → X
+        go : (row : TypeRow) → typeAt u q ≡ row → onEntity (onSetOf false row (λ e. onEntity false (typeAt u e) (λ ks. true))) row (λ ks. true) ≡ true → X
         go bool a e = no-true e
         go long a e = no-true e
         go string a e = no-true e
-        go (entity l) a e = f l a
+        go (entity l ls) a e = f l ls a
         go (set′ k) a e = inner k (typeAt u k) a refl e
         go (record′ ds) a e = no-true e
 
-    in-ok : (isBool (typeAt u y) && onEntity false (typeAt u p) (λ k. true) && isSome (targetKind u q)) ≡ true → RelOk (schema s) rin (T p) (T q) (T y)
-    in-ok e = and-both (isBool (typeAt u y) && onEntity false (typeAt u p) (λ k. true)) (isSome (targetKind u q)) e (λ a c. and-both (isBool (typeAt u y)) (onEntity false (typeAt u p) (λ k. true)) a (λ a b.
-        on-entity (typeAt u p) (λ k. true) b (λ k r g. is-ty (λ A. RelOk (schema s) rin A (T q) (T y)) p r (is-ty (λ C. RelOk (schema s) rin (tent k) (T q) C) y (is-bool _ a)
-        (target c (λ l t. is-ty (λ B. RelOk (schema s) rin (tent k) B tbool) q t inOk)
-        (λ i l t v. is-ty (λ B. RelOk (schema s) rin (tent k) B tbool) q t (is-ty (λ B. RelOk (schema s) rin (tent k) (tset B) tbool) i v inSetOk)))))))
+    in-ok : (isBool (typeAt u y) && onEntity false (typeAt u p) (λ k. true) && isTarget u q) ≡ true → RelOk (schema s) rin (T p) (T q) (T y)
+    in-ok e = and-both (isBool (typeAt u y) && onEntity false (typeAt u p) (λ k. true)) (isTarget u q) e (λ a c. and-both (isBool (typeAt u y)) (onEntity false (typeAt u p) (λ k. true)) a (λ a b.
+        on-entity (typeAt u p) (λ k. true) b (λ k ks r g. is-ty (λ A. RelOk (schema s) rin A (T q) (T y)) p r (is-ty (λ C. RelOk (schema s) rin (tent k ks) (T q) C) y (is-bool _ a)
+        (target c (λ l ls t. is-ty (λ B. RelOk (schema s) rin (tent k ks) B tbool) q t inOk)
+        (λ i l ls t v. is-ty (λ B. RelOk (schema s) rin (tent k ks) B tbool) q t (is-ty (λ B. RelOk (schema s) rin (tent k ks) (tset B) tbool) i v inSetOk)))))))
 
   module _ (y p : ℕ) where
     not-ok : (isBool (typeAt u y) && isBool (typeAt u p)) ≡ true → UnOk (schema s) unot (T p) (T y)
@@ -142,43 +148,40 @@ module _ (m : Mode) (s : State) (h : History m s) (u : State) (same : (j : ℕ) 
     empty-ok e = and-both (isBool (typeAt u y)) (onSetOf false (typeAt u p) (λ e. true)) e (λ a b. on-set-of (typeAt u p) (λ e. true) b (λ k r g. is-ty (λ A. UnOk (schema s) uempty A (T y)) p r (is-ty (UnOk (schema s) uempty (tset (T k))) y (is-bool _ a) emptyOk)))
 
     is-ok : (k : ℕ) → (isBool (typeAt u y) && onEntity false (typeAt u p) (λ k. true)) ≡ true → UnOk (schema s) (uis k) (T p) (T y)
-    is-ok k e = and-both (isBool (typeAt u y)) (onEntity false (typeAt u p) (λ k. true)) e (λ a b. on-entity (typeAt u p) (λ k. true) b (λ l r g. is-ty (λ A. UnOk (schema s) (uis k) A (T y)) p r (is-ty (UnOk (schema s) (uis k) (tent l)) y (is-bool _ a) isOk)))
+    is-ok k e = and-both (isBool (typeAt u y)) (onEntity false (typeAt u p) (λ k. true)) e (λ a b. on-entity (typeAt u p) (λ k. true) b (λ l ls r g. is-ty (λ A. UnOk (schema s) (uis k) A (T y)) p r (is-ty (UnOk (schema s) (uis k) (tent l ls)) y (is-bool _ a) isOk)))
 
     like-ok : (i : List Item) → (isBool (typeAt u y) && isString (typeAt u p)) ≡ true → UnOk (schema s) (ulike i) (T p) (T y)
     like-ok i e = and-both (isBool (typeAt u y)) (isString (typeAt u p)) e (λ a b. is-ty (λ A. UnOk (schema s) (ulike i) A (T y)) p (is-string _ b) (is-ty (UnOk (schema s) (ulike i) tstr) y (is-bool _ a) likeOk))
 
   -- attributes
-  attributes-of : (y : ℕ) (ds : List Declared) → attributes u y ≡ some ds → attrsOf (schema s) (T y) ≡ some (attrsOver (types s) ds)
+  of-kind : (k : ℕ) (ds : List Declared) → typeAt u (attributesOf u k) ≡ record′ ds → schema s .shape k .attrs ≡ attrsOver (types s) ds
   unfolding schema
-  attributes-of y ds e = go (typeAt u y) refl e
-    where
-      of-kind : (k : ℕ) (row : TypeRow) → typeAt u (attributesOf u k) ≡ row → onRecord none row some ≡ some ds → attrsIn (T (attributesOf s k)) ≡ attrsOver (types s) ds
-      of-kind k bool a e = no-some e
-      of-kind k long a e = no-some e
-      of-kind k string a e = no-some e
-      of-kind k (entity l) a e = no-some e
-      of-kind k (set′ t) a e = no-some e
-      of-kind k (record′ es) a e = ap (λ l. attrsIn (T (at (getD l k []) 0))) (sym (same 4 (omega arith))) ∙ ap attrsIn (row-ty (attributesOf u k) a) ∙ ap (attrsOver (types s)) (some-is e)
+  of-kind k ds a = ap (λ l. attrsIn (T (at (getD l k []) 0))) (sym (same 4 (omega arith))) ∙ ap attrsIn (row-ty (attributesOf u k) a)
 
-      go : (row : TypeRow) → typeAt u y ≡ row → onEntity (onRecord none row some) row (λ k. onRecord none (typeAt u (attributesOf u k)) some) ≡ some ds → attrsOf (schema s) (T y) ≡ some (attrsOver (types s) ds)
-      go bool a e = no-some e
-      go long a e = no-some e
-      go string a e = no-some e
-      go (entity k) a e = ap (attrsOf (schema s)) (row-ty y a) ∙ ap some (of-kind k (typeAt u (attributesOf u k)) refl e)
-      go (set′ t) a e = no-some e
-      go (record′ es) a e = ap (attrsOf (schema s)) (row-ty y a) ∙ ap (λ z. some (attrsOver (types s) z)) (some-is e)
+  each-of : (y : ℕ) (f : List Declared → Bool) (P : Attrs → Type 0) → ((ds : List Declared) → f ds ≡ true → P (attrsOver (types s) ds)) → eachOf u y f ≡ true → Each (schema s) (T y) P
+  each-of y f P h e = go (typeAt u y) refl e
+    where
+      go : (row : TypeRow) → typeAt u y ≡ row → onEntity (onRecord false row f) row (allIn (λ k. onRecord false (typeAt u (attributesOf u k)) f)) ≡ true → Each (schema s) (T y) P
+      go bool a e = no-true e
+      go long a e = no-true e
+      go string a e = no-true e
+      go (entity k ks) a e = is-ty (λ A. Each (schema s) A P) y a (λ j m. on-record (typeAt u (attributesOf u j)) f
+          (all-at (λ k. onRecord false (typeAt u (attributesOf u k)) f) (k ∷ ks) e j m) (λ ds q g. subst P (sym (of-kind j ds q)) (h ds g)))
+      go (set′ t) a e = no-true e
+      go (record′ ds) a e = is-ty (λ A. Each (schema s) A P) y a (h ds e)
 
   declared-in : (t : ℕ) (ds : List Declared) (o : Option ℕ) → declaredIn t ds ≡ o → declared t (attrsOver (types s) ds) ≡ mapTy T o
   declared-in t ds o e = declared-over (types s) t ds ∙ ap (mapTy T) e
 
-  path-ok : (us : List ℕ) (t : ℕ) (ds : List Declared) → pathTyped u (t ∷ us) ds ≡ true → PathOk (schema s) (attrsOver (types s) ds) t us
-  path-ok [] t ds e = lastOk
-  path-ok (v ∷ us) t ds e = go (declaredIn t ds) refl (λ es q. path-ok us v es q) e
+  path-ok : (us : List ℕ) (t y : ℕ) → pathTyped u us t y ≡ true → PathOk (schema s) us t (T y)
+  path-ok [] t y e = each-of y (λ ds. true) (λ R. Unit {0}) (λ ds q. tt) e
+  path-ok (v ∷ us) t y e =
+      each-of y (λ ds. onSome true (declaredIn t ds) (pathTyped u us v)) (λ R. IfDeclared (schema s) (declared t R) (λ B. PathOk (schema s) us v B)) (λ ds q. go ds (declaredIn t ds) refl (λ z p. path-ok us v z p) q) e
     where
-      go : (o : Option ℕ) → declaredIn t ds ≡ o → ((es : List Declared) → pathTyped u (v ∷ us) es ≡ true → PathOk (schema s) (attrsOver (types s) es) v us) → onSome true o (λ y. onSome false (attributes u y) (pathTyped u (v ∷ us))) ≡ true
-          → PathOk (schema s) (attrsOver (types s) ds) t (v ∷ us)
-      go none d ih q = freeOk (declared-in t ds none d)
-      go (some y) d ih q = some-test (attributes u y) (pathTyped u (v ∷ us)) q (λ es a g. stepOk (declared-in t ds (some y) d) (attributes-of y es a) (ih es g))
+      go : (ds : List Declared) (o : Option ℕ) → declaredIn t ds ≡ o → ((z : ℕ) → pathTyped u us v z ≡ true → PathOk (schema s) us v (T z)) → onSome true o (pathTyped u us v) ≡ true
+          → IfDeclared (schema s) (declared t (attrsOver (types s) ds)) (λ B. PathOk (schema s) us v B)
+      go ds none d ih q = subst (λ x. IfDeclared (schema s) x (λ B. PathOk (schema s) us v B)) (sym (declared-in t ds none d)) tt
+      go ds (some z) d ih q = subst (λ x. IfDeclared (schema s) x (λ B. PathOk (schema s) us v B)) (sym (declared-in t ds (some z) d)) (ih z q)
 
   -- children
   abbrev pub V′ : ℕ → Value
@@ -214,12 +217,6 @@ module _ (m : Mode) (s : State) (h : History m s) (u : State) (same : (j : ℕ) 
     named-args r t [] = refl
     named-args r t (x ∷ []) = refl
     named-args r t (x ∷ n ∷ l) = pick-named (eqb t x) (named t (argsOver (types s) V′ es l)) (typeOfNode u n) (entryOf t (argTypes u r l)) (named-args r t l)
-
-    drop-three : (l : List ℕ) → 3 ≤ length l → drop 2 l ≡ getD l 2 0 ∷ drop 3 l
-    drop-three [] n = absurd (omega arith)
-    drop-three (a ∷ []) n = absurd (omega arith)
-    drop-three (a ∷ b ∷ []) n = absurd (omega arith)
-    drop-three (a ∷ b ∷ c ∷ l) n = refl
 
     Rule : ℕ → Type 0
     Rule t = (l : List ℕ) → Read m (t ∷ l) t → allThere u t 0 l ≡ true → getD (rules u (t ∷ l)) (t - 21) false ≡ true → Typed (schema s) (treeOver (types s) V′ sl es (t ∷ l)) (T (getD l 0 0))
@@ -309,15 +306,19 @@ module _ (m : Mode) (s : State) (h : History m s) (u : State) (same : (j : ℕ) 
 
     rule41 : Rule 41
     unfolding Rule slotAt formOf forms
-    rule41 l rd a e = some-test (attributes u (typeOfNode u (getD l 1 0))) (λ ds. onSome false (declaredIn (getD l 2 0) ds) (eqb (getD l 0 0))) e (λ ds x g. some-test (declaredIn (getD l 2 0) ds) (eqb (getD l 0 0)) g (λ y d f. tget (attributes-of (typeOfNode u (getD l 1 0)) ds x) (declared-in (getD l 2 0) ds (some y) d ∙ ap (λ k. some (T k)) (sym (eqb-true (getD l 0 0) y f))) (kid-at 41 l rd a 1 (ltb-true 1 (length (formOf 41 .items)) refl) refl)))
+    rule41 l rd a e = tget (each-of (typeOfNode u (getD l 1 0)) (λ ds. onSome false (declaredIn (getD l 2 0) ds) (eqb (getD l 0 0))) (λ R. declared (getD l 2 0) R ≡ some (T (getD l 0 0)))
+        (λ ds g. some-test (declaredIn (getD l 2 0) ds) (eqb (getD l 0 0)) g (λ y d f. declared-in (getD l 2 0) ds (some y) d ∙ ap (λ k. some (T k)) (sym (eqb-true (getD l 0 0) y f)))) e)
+        (kid-at 41 l rd a 1 (ltb-true 1 (length (formOf 41 .items)) refl) refl)
 
     rule42 : Rule 42
     unfolding Rule slotAt formOf forms
-    rule42 l rd a e = and-both (isBool (typeAt u (getD l 0 0))) (onSome false (attributes u (typeOfNode u (getD l 1 0))) (λ ds. true)) e (λ x z. some-test (attributes u (typeOfNode u (getD l 1 0))) (λ ds. true) z (λ ds w g. is-ty (λ C. Typed (schema s) (has C (getD es (getD l 1 0) (err tbool)) (getD l 2 0)) C) (getD l 0 0) (is-bool _ x) (thas (attributes-of (typeOfNode u (getD l 1 0)) ds w) (kid-at 42 l rd a 1 (ltb-true 1 (length (formOf 42 .items)) refl) refl))))
+    rule42 l rd a e = and-both (isBool (typeAt u (getD l 0 0))) (eachOf u (typeOfNode u (getD l 1 0)) (λ ds. true)) e (λ x z. is-ty (λ C. Typed (schema s) (has C (getD es (getD l 1 0) (err tbool)) (getD l 2 0)) C) (getD l 0 0) (is-bool _ x)
+        (thas (each-of (typeOfNode u (getD l 1 0)) (λ ds. true) (λ R. Unit {0}) (λ ds g. tt) z) (kid-at 42 l rd a 1 (ltb-true 1 (length (formOf 42 .items)) refl) refl)))
 
     rule43 : Rule 43
     unfolding Rule slotAt formOf forms
-    rule43 l rd a e = and-both (isBool (typeAt u (getD l 0 0))) (onSome false (attributes u (typeOfNode u (getD l 1 0))) (pathTyped u (drop 2 l))) e (λ x z. some-test (attributes u (typeOfNode u (getD l 1 0))) (pathTyped u (drop 2 l)) z (λ ds w g. is-ty (λ C. Typed (schema s) (haspath C (getD es (getD l 1 0) (err tbool)) (getD l 2 0) (drop 3 l)) C) (getD l 0 0) (is-bool _ x) (tpath (attributes-of (typeOfNode u (getD l 1 0)) ds w) (path-ok (drop 3 l) (getD l 2 0) ds (subst (λ k. pathTyped u k ds ≡ true) (drop-three l (rd .least)) g)) (kid-at 43 l rd a 1 (ltb-true 1 (length (formOf 43 .items)) refl) refl))))
+    rule43 l rd a e = and-both (isBool (typeAt u (getD l 0 0))) (pathTyped u (drop 3 l) (getD l 2 0) (typeOfNode u (getD l 1 0))) e (λ x z. is-ty (λ C. Typed (schema s) (haspath C (getD es (getD l 1 0) (err tbool)) (getD l 2 0) (drop 3 l)) C) (getD l 0 0) (is-bool _ x)
+        (tpath (path-ok (drop 3 l) (getD l 2 0) (typeOfNode u (getD l 1 0)) z) (kid-at 43 l rd a 1 (ltb-true 1 (length (formOf 43 .items)) refl) refl)))
 
     rule44 : Rule 44
     unfolding Rule slotAt formOf forms

@@ -234,7 +234,7 @@ fits-there s v y e f = go (decLt v (count s VALUE))
   where
     go : Dec (v < count s VALUE) → v < count s VALUE
     go (yes d) = d
-    go (no d) = on-entity (typeAt s y) (λ k. true) e (λ k p g. no-true (sym (ap₂ (λ r t. rowFits (fitsBy (linesOf s 5) (linesOf s 3) 63) (valueRow r) t) (List·getD-eq-default (linesOf s 5) [] {n = v} (omega arith)) p) ∙ f))
+    go (no d) = on-entity (typeAt s y) (λ k. true) e (λ k ks p g. no-true (sym (ap₂ (λ r t. rowFits (fitsBy (linesOf s 5) (linesOf s 3) 63) (valueRow r) t) (List·getD-eq-default (linesOf s 5) [] {n = v} (omega arith)) p) ∙ f))
 
 module _ (m : Mode) (s : State) (h : History m s) where
   -- "Operations `slot,p` and `slot,r` have an entity type"

@@ -7,7 +7,7 @@ use Prim.Native.Nat.{ℕ, zero, suc, _<_, _≤_, _+_, _-_}
 use native.Mathlib.Omega.{arith}
 use native.Mathlib.Decide.{decLt}
 use lib.Dec.{eqb}
-use lib.ListN.{length, getD, List·getD-eq-default}
+use lib.ListN.{length, getD, drop, List·getD-eq-default}
 use Rattle.cedar.specs.Value.{onSome}
 use Rattle.cedar.specs.Rows.{Entries, stop, entry, Row, rbool, rlong, rtext, rent, rset, rrec}
 use Rattle.cedar.specs.Numbered.{entryOf, isSome, pickN}
@@ -60,7 +60,7 @@ module _ (f g : ℕ → ℕ → Bool) where
   row-more r bool h e = e
   row-more r long h e = e
   row-more r string h e = e
-  row-more r (entity k) h e = e
+  row-more r (entity k ks) h e = e
   row-more (rbool b) (set′ y) h e = e
   row-more (rlong n) (set′ y) h e = e
   row-more (rtext t) (set′ y) h e = e
@@ -122,7 +122,7 @@ unfolding refs
 part-in [] y n p = elim p [ ]
 part-in (t ∷ l) y n p = go (t - 3) refl p
   where
-    go : (d : ℕ) → t - 3 ≡ d → Part (getD (bool ∷ long ∷ string ∷ entity (getD l 0 0) ∷ set′ (getD l 0 0) ∷ record′ (declareds l) ∷ []) d bool) y → InN y (refsFrom 3 t 0 l)
+    go : (d : ℕ) → t - 3 ≡ d → Part (getD (bool ∷ long ∷ string ∷ entity (getD l 0 0) (drop 1 l) ∷ set′ (getD l 0 0) ∷ record′ (declareds l) ∷ []) d bool) y → InN y (refsFrom 3 t 0 l)
     go zero q p = elim p [ ]
     go (suc zero) q p = elim p [ ]
     go (suc (suc zero)) q p = elim p [ ]

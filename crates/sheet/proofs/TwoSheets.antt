@@ -24,6 +24,7 @@ use Rattle.sheet.specs.State.{State, linesOf, count, lineAt, valueRow, v
 use Rattle.sheet.specs.Typing.{unknownOr}
 use Rattle.sheet.specs.Content.{tysFrom, types, valueOver, valuesFrom, rowsIn, valueRows, contents, attrsIn, tagTy, requestTy, schema, treesFrom, trees, exprs, contentPolicies, nPolicies, policies, known, entityKnown, requestKnown, requested, contentIn, fieldsIn, membersIn, partsIn, partsFound, lineIn, lineFound, entityLine, lookUp, env, pEnv, onTerm, linked, contentOf}
 use Rattle.sheet.specs.Agreement.{begins, sameLines, partSame, requestSame, lineFor, entitySame, listed, allListed, agrees}
+pub use Rattle.sheet.proofs.RowTests.{same-is}
 use Rattle.sheet.proofs.Lines.{and-both, Was}
 use Rattle.sheet.proofs.Parsed.{tags-between}
 use Rattle.sheet.proofs.ValueRows.{values-table}
@@ -34,12 +35,6 @@ use Rattle.sheet.proofs.Environment.{Facts, the-line, there-value, enti
 use Rattle.sheet.proofs.OnTerm.{same-term}
 
 -- ---- equal lines
-
-pub same-is : (k l : List ℕ) → same k l ≡ true → k ≡ l
-same-is [] [] e = refl
-same-is [] (y ∷ l) e = no-true e
-same-is (x ∷ k) [] e = no-true e
-same-is (x ∷ k) (y ∷ l) e = and-both (eqb x y) (same k l) e (λ p q. ap₂ _∷_ (eqb-true x y p) (same-is k l q))
 
 lines-same : (p c : List (List ℕ)) → sameLines p c ≡ true → p ≡ c
 lines-same [] [] e = refl
@@ -115,9 +110,9 @@ module _ (p c : State) (fp : Facts partial p) (fc : Facts complete c) (k : Commo
   first-same r q e = and-both (eqb (at r 0) (at q 0)) (partSame r q 1) e (λ a b. eqb-true (at r 0) (at q 0) a)
 
   request-eq : (x : Var) → requestTy p (types p) x ≡ requestTy c (types c) x
-  request-eq principal = ap tent (first-same (lineAt p PRINCIPAL 0) (lineAt c PRINCIPAL 0) (k .who))
-  request-eq action = ap tent (first-same (lineAt p ACTION 0) (lineAt c ACTION 0) (k .does))
-  request-eq resource = ap tent (first-same (lineAt p RESOURCE 0) (lineAt c RESOURCE 0) (k .whom))
+  request-eq principal = ap (λ k. tent k []) (first-same (lineAt p PRINCIPAL 0) (lineAt c PRINCIPAL 0) (k .who))
+  request-eq action = ap (λ k. tent k []) (first-same (lineAt p ACTION 0) (lineAt c ACTION 0) (k .does))
+  request-eq resource = ap (λ k. tent k []) (first-same (lineAt p RESOURCE 0) (lineAt c RESOURCE 0) (k .whom))
   request-eq context = λ i. getD (types-eq i) (first-same (lineAt p CONTEXT 0) (lineAt c CONTEXT 0) (k .where′) i) tbool
 
   -- one schema, but for the bytes of texts

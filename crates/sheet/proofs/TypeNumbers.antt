@@ -9,33 +9,32 @@ use native.Mathlib.Omega.{arith}
 use native.Mathlib.Decide.{decLt}
 use borrow.Author.Tests.{ltb-true, le-ltb, not-true}
 use lib.Dec.{ltb, eqb}
-use lib.ListN.{length, getD, drop, List·getD-eq-default}
-use Rattle.cedar.proofs.Tools.{no-true, no-some, eqb-true, neither, all-snoc}
+use lib.ListN.{length, getD, drop, length-append, List·getD-eq-default, List·getD-append}
+use Rattle.cedar.proofs.Tools.{no-true, no-some, eqb-true, neither, either, only-kind, all-snoc}
 use Rattle.cedar.specs.Value.{Value, vbool}
 use Rattle.cedar.specs.Canonical.{bit}
-use Rattle.cedar.specs.Types.{Ty, tbool, tlong, tstr, tent, tset, trec, Attrs, anil, acons, declared, pickTy, tySame}
+use Rattle.cedar.specs.Types.{Ty, tbool, tlong, tstr, tent, tset, trec, among as amongKinds, Attrs, anil, acons, declared, pickTy, tySame}
 use Rattle.cedar.specs.Residual.{Node, err}
-use Rattle.cedar.specs.Typing.{attrsOf}
 use Rattle.cedar.specs.Table.{At, now, later}
 use Rattle.cedar.specs.Runs.{Policy, NPolicy, NVerdict}
 use Rattle.cedar.proofs.TableLaws.{at-snoc}
 use Rattle.cedar.proofs.TypingTest.{tySame-true}
-use Rattle.cedar.proofs.TypesKept.{TypesHold, AllHold, ArgsHold, reads-hold, types-kept}
+use Rattle.cedar.proofs.TypesKept.{TypesHold, AllHold, ArgsHold, reads-hold, Declares, Passes, types-kept}
 use Rattle.cedar.proofs.Settled.{Policies, onePolicy}
 use Rattle.cedar.proofs.SettledByNumber.{Residuals, run-reads}
 use Rattle.cedar.proofs.SettledByNumber as R
 use Rattle.cedar.proofs.ReadsLaws.{at-is}
 use Rattle.cedar.proofs.TypingTestComplete.{tySame-refl}
 use Rattle.sheet.specs.Bytes.{same, index}
-use Rattle.sheet.specs.Forms.{Mode, partial, Slot, entry, line, lineOr, lineUnknown, word, number, nothing, isLine, forms, formOf, slotAt, counted, item, itemsFrom, one, joined, placeIn, tag, items, at, keyOf, rowOf, ascendings, TYPE, NODE, POLICY, noKey, noTag, day}
+use Rattle.sheet.specs.Forms.{Mode, partial, Slot, entry, line, lineOr, lineUnknown, word, number, nothing, isLine, forms, formOf, slotAt, counted, item, itemsFrom, one, joined, placeIn, tag, items, at, keyOf, rowOf, ascendings, TYPE, NODE, POLICY, noKey, noTag, day, aloneRow}
 use Rattle.sheet.specs.State.{State, linesOf, count, lineAt, Declared, TypeRow, bool, long, string, entity, set′, record′, declareds, typeRow, typeAt}
-use Rattle.sheet.specs.Typing.{attributesOf, typed}
-use Rattle.sheet.specs.Sheet.{found, allThere, thereIs, ascend, among, fresh}
+use Rattle.sheet.specs.Typing.{attributesOf, typed, onEntity}
+use Rattle.sheet.specs.Sheet.{found, allThere, thereIs, ascend, among, fresh, newRow, eachAlone}
 use Rattle.sheet.specs.Content.{tyOver, tysFrom, types, contents, attrsIn, schema, childrenOver, argsOver, treeFor, treeOver, treesFrom, contentPolicies, numberedPolicies, trees, exprs, nPolicies, policies, nEnv, pEnv, onTerm, linked}
 use Rattle.sheet.specs.Answer.{typeNumber, run}
 use Rattle.sheet.proofs.Lines.{and-both, Was, History}
 use Rattle.sheet.proofs.Parsed.{parsed, allBelow, all-below, between, tags-between, counted-plain, policyTag}
-use Rattle.sheet.proofs.RowTests.{is-bool}
+use Rattle.sheet.proofs.RowTests.{is-bool, all-at, same-is}
 use Rattle.sheet.proofs.ValueRows.{at-getD, some-is, same-refl, values-table}
 use Rattle.sheet.proofs.Fitting.{at-less, AttrsAt, noA, oneA, TyAt, abool, along, astr, aent, aset, arec, attr-slots, ty-row, set-size, Known, one-known, all-known, ty-eq}
 use Rattle.sheet.proofs.NodeRows.{row-read}
@@ -56,7 +55,7 @@ abbrev back : TypeRow → List ℕ
 back bool = 3 ∷ []
 back long = 4 ∷ []
 back string = 5 ∷ []
-back (entity k) = 6 ∷ k ∷ []
+back (entity k ks) = 6 ∷ k ∷ ks
 back (set′ y) = 7 ∷ y ∷ []
 back (record′ ds) = 8 ∷ flat ds
 
@@ -111,8 +110,12 @@ module _ (m : Mode) where
   back6 : Back 6
   unfolding Back counted slotAt formOf forms
   back6 [] l c e = no-true c
-  back6 (f ∷ []) l c e = one-back 6 (index f) l (λ x. refl) e
-  back6 (f ∷ g ∷ fs) l c e = let z : suc (suc (length fs)) ≡ 1 = counted-plain (formOf 6) (suc (suc (length fs))) refl c in absurd (omega (arith, z))
+  back6 (f ∷ fs) l c e = kinds-back (index f) (itemsFrom m 6 1 fs) l e
+    where
+      kinds-back : (o : Option ℕ) (p : Option (List ℕ)) (l : List ℕ) → joined (one o) p ≡ some l → back (typeRow (6 ∷ l)) ≡ 6 ∷ l
+      kinds-back none p l e = no-some e
+      kinds-back (some x) none l e = no-some e
+      kinds-back (some x) (some n) l e = subst (λ k. back (typeRow (6 ∷ k)) ≡ 6 ∷ k) (some-is e) refl
 
   back7 : Back 7
   unfolding Back counted slotAt formOf forms
@@ -209,7 +212,15 @@ module _ (m : Mode) (s : State) (h : History m s) where
   new-type : (pre : List (List ℕ)) (r : List ℕ) → Was m s TYPE pre r → among r pre ≡ false
   unfolding found
   new-type pre r w = and-both (allThere (w .was) (tag r) 0 (items r) && ascend 0 (ascendings r)) (fresh (w .was) TYPE r) (w .pass .refers)
-      (λ p q. subst (λ z. among r z ≡ false) (w .mine) (not-true (among r (linesOf (w .was) TYPE)) q))
+      (λ p q. and-both (newRow (w .was) TYPE r) (onEntity true (typeRow r) (eachAlone (linesOf (w .was) TYPE))) q
+      (λ a b. subst (λ z. among r z ≡ false) (w .mine) (not-true (among r (linesOf (w .was) TYPE)) a)))
+
+  -- "Each kind so grouped needs a type line alone, earlier"
+  kinds-alone : (pre : List (List ℕ)) (r : List ℕ) → Was m s TYPE pre r → onEntity true (typeRow r) (eachAlone pre) ≡ true
+  unfolding found
+  kinds-alone pre r w = and-both (allThere (w .was) (tag r) 0 (items r) && ascend 0 (ascendings r)) (fresh (w .was) TYPE r) (w .pass .refers)
+      (λ p q. and-both (newRow (w .was) TYPE r) (onEntity true (typeRow r) (eachAlone (linesOf (w .was) TYPE))) q
+      (λ a b. subst (λ z. onEntity true (typeRow r) (eachAlone z) ≡ true) (w .mine) b))
 
   -- one line more
   module _ (pre : List (List ℕ)) (r : List ℕ) (ts : List Ty) (w : Was m s TYPE pre r) (f : Faithful pre) (k : Known m s h pre ts) (apart : Distinct ts) where
@@ -245,6 +256,12 @@ module _ (m : Mode) (s : State) (h : History m s) where
   pub types-distinct : Distinct (types s)
   unfolding types Faithful Known
   types-distinct = apart-from [] (linesOf s TYPE) [] refl (λ n lt. absurd (omega arith)) (refl, λ n T a. elim a [ ]) (λ i j T a b. elim a [ ])
+
+-- item n of a list, with what stands before it and after it
+pub split-at : {X : Type 0} (l : List (List ℕ)) (n : ℕ) → n < length l → ((pre rest : List (List ℕ)) → l ≡ pre ++ (getD l n [] ∷ rest) → X) → X
+split-at [] n lt f = absurd (omega arith)
+split-at (x ∷ l) zero lt f = f [] l refl
+split-at (x ∷ l) (suc n) lt f = split-at l n (le-of-suc-le-suc lt) (λ pre rest e. f (x ∷ pre) rest (ap (λ z. x ∷ z) e))
 
 -- ---- the number of a type
 
@@ -305,7 +322,7 @@ module _ (m : Mode) (s : State) (h : History m s) where
   attrs-in tbool t B a e = no-some e
   attrs-in tlong t B a e = no-some e
   attrs-in tstr t B a e = no-some e
-  attrs-in (tent k) t B a e = no-some e
+  attrs-in (tent k ks) t B a e = no-some e
   attrs-in (tset A) t B a e = no-some e
   attrs-in (trec R) t B a e = record-at t B a e
 
@@ -316,15 +333,48 @@ module _ (m : Mode) (s : State) (h : History m s) where
       go (yes d) = attrs-in (getD (types s) y tbool) t B (at-getD (types s) y tbool d) e
       go (no d) = no-some (ap (λ T. declared t (attrsIn T)) (sym (List·getD-eq-default (types s) tbool (omega arith))) ∙ e)
 
+  -- a row that is among those before another is there, with its content
+  among-at : (r : List ℕ) (pre : List (List ℕ)) → among r pre ≡ true → (n : ℕ) × (n < length pre) × (getD pre n [] ≡ r)
+  among-at r [] e = no-true e
+  among-at r (x ∷ pre) e = either (same r x) (among r pre) e (λ p. (0, omega arith, sym (same-is r x p))) (λ p. let (n, lt, q) = among-at r pre p in (suc n, omega (arith, lt), q))
+
+  row-listed : (r : List ℕ) (n : ℕ) → n < count s TYPE → lineAt s TYPE n ≡ r → Listed (types s) (tyOver (types s) (typeRow r))
+  row-listed r n lt e = let z = types-length in subst (Listed (types s)) (ty-eq m s h n ∙ ap (λ x. tyOver (types s) (typeRow x)) e) (listed (at-getD (types s) n tbool (omega (arith, z, lt))))
+
+  group-row : {ts : List Ty} {y : TypeRow} {l : ℕ} {ls : List ℕ} → TyAt ts y (tent l ls) → y ≡ entity l ls
+  group-row aent = refl
+
+  -- a kind of a group has a type line alone
+  single-listed : (k l : ℕ) (ls : List ℕ) → Listed (types s) (tent l ls) → amongKinds k (l ∷ ls) ≡ true → Listed (types s) (tent k [])
+  unfolding Known
+  single-listed k l [] d m = subst (λ z. Listed (types s) (tent z [])) (sym (only-kind k l m)) d
+  single-listed k l (n ∷ ns) d i = split-at (linesOf s TYPE) y there (λ pre rest e.
+      let alone : among (aloneRow k) pre ≡ true = all-at (λ j. among (aloneRow j) pre) (l ∷ n ∷ ns) (ap (λ z. onEntity true z (eachAlone pre)) (sym row) ∙ kinds-alone m s h pre (lineAt s TYPE y) (h TYPE pre (lineAt s TYPE y) rest e)) k i in
+      let (x, lt, q) = among-at (aloneRow k) pre alone in
+      let long : length (linesOf s TYPE) ≡ length pre + suc (length rest) = ap length e ∙ length-append pre (lineAt s TYPE y ∷ rest) in
+      row-listed (aloneRow k) x (omega (arith, lt, long)) (ap (λ z. getD z x []) e ∙ List·getD-append pre (lineAt s TYPE y ∷ rest) [] x lt ∙ q))
+    where
+      y : ℕ
+      y = typeNumber (types s) (tent l (n ∷ ns))
+
+      there : y < count s TYPE
+      there = let z = types-length in let b = d .below in omega (arith, z, b)
+
+      row : typeRow (lineAt s TYPE y) ≡ entity l (n ∷ ns)
+      row = group-row (all-known m s h .1 y (tent l (n ∷ ns)) (listed-at d))
+
   -- "the attribute was declared with it"
-  pub below-listed : (A : Ty) (R : Attrs) → Listed (types s) A → attrsOf (schema s) A ≡ some R → (t : ℕ) (B : Ty) → declared t R ≡ some B → Listed (types s) B
+  pub below-listed : Passes (schema s) (Listed (types s))
   unfolding schema
-  below-listed tbool R l e t B d = no-some e
-  below-listed tlong R l e t B d = no-some e
-  below-listed tstr R l e t B d = no-some e
-  below-listed (tent k) R l e t B d = shape-at (attributesOf s k) t B (ap (declared t) (Option·some-injective _ _ e) ∙ d)
-  below-listed (tset A) R l e t B d = no-some e
-  below-listed (trec R′) R l e t B d = record-at t B (listed-at l) (ap (declared t) (Option·some-injective _ _ e) ∙ d)
+  below-listed = record { below = down; single = single-listed }
+    where
+      down : (A : Ty) (R : Attrs) → Listed (types s) A → Declares (schema s) A R → (t : ℕ) (B : Ty) → declared t R ≡ some B → Listed (types s) B
+      down tbool R l e t B d = absurd e
+      down tlong R l e t B d = absurd e
+      down tstr R l e t B d = absurd e
+      down (tent i is) R l e t B d = shape-at (attributesOf s (e .0)) t B (ap (declared t) (e .2) ∙ d)
+      down (tset A) R l e t B d = absurd e
+      down (trec R′) R l e t B d = record-at t B (listed-at l) (ap (declared t) e ∙ d)
 
 -- ---- the sheet's own trees
 
@@ -374,12 +424,6 @@ module _ (Q : Ty → Type 0) (b : Q tbool) {L : Type 0} (ts : List Ty) (value : 
   pub hold-from : ((y : ℕ) → Q (getD ts y tbool)) → (rows : List (List ℕ)) (ns : List (Node L)) → ((n : ℕ) → TypesHold Q (getD ns n (err tbool))) → (n : ℕ) → TypesHold Q (getD (treesFrom ts value (linked value p q) ns rows) n (err tbool))
   hold-from o [] ns k = k
   hold-from o (r ∷ rows) ns k = hold-from o rows (ns ++ (treeOver ts value (linked value p q) ns r ∷ [])) (all-snoc (TypesHold Q) (err tbool) b ns (treeOver ts value (linked value p q) ns r) k (tree-holds ns k r (o (at r 0)) (tag r - 21)))
-
--- item n of a list, with what stands before it and after it
-pub split-at : {X : Type 0} (l : List (List ℕ)) (n : ℕ) → n < length l → ((pre rest : List (List ℕ)) → l ≡ pre ++ (getD l n [] ∷ rest) → X) → X
-split-at [] n lt f = absurd (omega arith)
-split-at (x ∷ l) zero lt f = f [] l refl
-split-at (x ∷ l) (suc n) lt f = split-at l n (le-of-suc-le-suc lt) (λ pre rest e. f (x ∷ pre) rest (ap (λ z. x ∷ z) e))
 
 -- a node's first item is its type
 type-first : ℕ → Bool

@@ -29,7 +29,7 @@ abbrev pub tyOver : List Ty → TypeRow → Ty
 tyOver ts bool = tbool
 tyOver ts long = tlong
 tyOver ts string = tstr
-tyOver ts (entity k) = tent k
+tyOver ts (entity k ks) = tent k ks
 tyOver ts (set′ t) = tset (getD ts t tbool)
 tyOver ts (record′ ds) = trec (attrsOver ts ds)
 
@@ -79,7 +79,7 @@ abbrev pub attrsIn : Ty → Attrs
 attrsIn tbool = anil
 attrsIn tlong = anil
 attrsIn tstr = anil
-attrsIn (tent k) = anil
+attrsIn (tent k ks) = anil
 attrsIn (tset A) = anil
 attrsIn (trec R) = R
 
@@ -87,9 +87,9 @@ abbrev pub tagTy : List Ty → ℕ → Option Ty
 tagTy ts y = cond (eqb y mark) none (some (getD ts y tbool))
 
 abbrev pub requestTy : State → List Ty → Var → Ty
-requestTy s ts principal = tent (at (lineAt s PRINCIPAL 0) 0)
-requestTy s ts action = tent (at (lineAt s ACTION 0) 0)
-requestTy s ts resource = tent (at (lineAt s RESOURCE 0) 0)
+requestTy s ts principal = tent (at (lineAt s PRINCIPAL 0) 0) []
+requestTy s ts action = tent (at (lineAt s ACTION 0) 0) []
+requestTy s ts resource = tent (at (lineAt s RESOURCE 0) 0) []
 requestTy s ts context = getD ts (at (lineAt s CONTEXT 0) 0) tbool
 
 abbrev pub schemaOver : State → List Ty → Schema

@@ -98,22 +98,28 @@ dash = 45
 abbrev pub asterisk : ℕ
 asterisk = 42
 
--- a form: its key and constructor, its items, and those that may follow any number of times; whether the first of these ascend
+-- a form: its key and constructor, its items, and those that may follow any number of times; whether the first of these ascend, and
+-- from which place on
 pub record Form : Type 0 where
   pub key : ℕ
   pub name : String
   pub items : List Slot
   pub group : List Slot
   pub ascends : Bool
+  pub from : ℕ
 
 abbrev pub plain : ℕ → String → List Slot → Form
-plain k w is = record { key = k; name = w; items = is; group = []; ascends = false }
+plain k w is = record { key = k; name = w; items = is; group = []; ascends = false; from = length is }
 
 abbrev pub with : ℕ → String → List Slot → List Slot → Form
-with k w is g = record { key = k; name = w; items = is; group = g; ascends = false }
+with k w is g = record { key = k; name = w; items = is; group = g; ascends = false; from = length is }
 
 abbrev pub rising : ℕ → String → List Slot → List Slot → Form
-rising k w is g = record { key = k; name = w; items = is; group = g; ascends = true }
+rising k w is g = record { key = k; name = w; items = is; group = g; ascends = true; from = length is }
+
+-- "one or more ascending": an item, and any number more; all ascend
+abbrev pub risingAll : ℕ → String → Slot → Form
+risingAll k w i = record { key = k; name = w; items = i ∷ []; group = i ∷ []; ascends = true; from = 0 }
 
 -- a node's first item is its type
 abbrev pub nodeWith : String → List Slot → List Slot → Form
@@ -134,7 +140,7 @@ forms =
     ∷ plain TYPE "bool" []
     ∷ plain TYPE "long" []
     ∷ plain TYPE "string" []
-    ∷ plain TYPE "entity" (line KIND ∷ [])
+    ∷ risingAll TYPE "entity" (line KIND)
     ∷ plain TYPE "set" (line TYPE ∷ [])
     ∷ rising TYPE "record" [] (line TEXT ∷ word ("o" ∷ "r" ∷ []) ∷ line TYPE ∷ [])
     ∷ rising SHAPE "" (line TYPE ∷ lineOr dash TYPE ∷ []) (line KIND ∷ [])
@@ -187,6 +193,10 @@ forms =
 -- the tags of `type=bool`, `value=bool`, `node=..,lit` and `node=..,slot` in the table; the other constructors of these keys follow in its order
 abbrev pub firstType : ℕ
 firstType = 3
+
+-- the row of `type=entity,kind`
+abbrev pub aloneRow : ℕ → List ℕ
+aloneRow k = 6 ∷ k ∷ []
 
 abbrev pub firstValue : ℕ
 firstValue = 10
@@ -361,14 +371,14 @@ refsFrom k t j (x ∷ l) = keep (isLine k (slotAt t j)) x (refsFrom k t (suc j) 
 unfoldable pub refs : ℕ → List ℕ → List ℕ
 refs k r = refsFrom k (tag r) 0 (items r)
 
--- the items that must ascend: the first of each group, where groups of m items begin at place c
+-- the items that must ascend: the first of each group of m items, from place c on
 abbrev pub everyFrom : ℕ → ℕ → List ℕ → List ℕ
 everyFrom m c [] = []
 everyFrom m ℕ.zero (x ∷ l) = x ∷ everyFrom m (m - 1) l
 everyFrom m (ℕ.suc c) (x ∷ l) = everyFrom m c l
 
 abbrev pub risingIn : Form → List ℕ → List ℕ
-risingIn f l = cond (f .ascends) (everyFrom (length (f .group)) (length (f .items)) l) []
+risingIn f l = cond (f .ascends) (everyFrom (length (f .group)) (f .from) l) []
 
 unfoldable pub ascendings : List ℕ → List ℕ
 ascendings r = risingIn (formOf (tag r)) (items r)

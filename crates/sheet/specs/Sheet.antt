@@ -5,10 +5,10 @@ use Prim.Native.Nat.{ℕ, zero, suc, _+_, _-_, max}
 use lib.Dec.{leb, ltb, eqb}
 use lib.ListN.{length, getD, take, drop, set}
 use Rattle.sheet.specs.Bytes.{same, split}
-use Rattle.sheet.specs.Forms.{Mode, Slot, entry, line, lineOr, lineUnknown, word, number, day, nothing, slotAt, mark, rowOf, tag, items, at, keyOf, refs, ascendings, TEXT, KIND, TYPE, VALUE, ENTITY, NODE, POLICY, LINK, TERM, noKey}
+use Rattle.sheet.specs.Forms.{Mode, Slot, entry, line, lineOr, lineUnknown, word, number, day, nothing, slotAt, mark, rowOf, tag, items, at, keyOf, refs, ascendings, TEXT, KIND, TYPE, VALUE, ENTITY, NODE, POLICY, LINK, TERM, noKey, aloneRow}
 use Rattle.cedar.specs.Numbered.{memN}
-use Rattle.sheet.specs.State.{State, empty, linesOf, count, lineAt, depthsOf, counts, before}
-use Rattle.sheet.specs.Typing.{nodesUnder, nodesOf, isSlot, slotValue, typed}
+use Rattle.sheet.specs.State.{State, empty, linesOf, count, lineAt, depthsOf, counts, before, typeRow}
+use Rattle.sheet.specs.Typing.{nodesUnder, nodesOf, isSlot, slotValue, typed, onEntity, allIn}
 
 -- ---- 3: key order, line missing
 
@@ -93,6 +93,15 @@ newName s k r = not (memN (at r 0) (firsts (linesOf s k)))
 abbrev pub above : State → ℕ → List ℕ → Bool
 above s k r = eqb (count s k) 0 || ltb (at (lineAt s k (count s k - 1)) 0) (at r 0)
 
+-- "Each kind so grouped needs a type line alone, earlier": of the type lines and the kinds of a new one, two or more
+abbrev pub eachAlone : List (List ℕ) → List ℕ → Bool
+eachAlone ts [] = true
+eachAlone ts (k ∷ []) = true
+eachAlone ts (k ∷ l ∷ ls) = allIn (λ m. among (aloneRow m) ts) (k ∷ l ∷ ls)
+
+abbrev pub newType : State → List ℕ → Bool
+newType s r = newRow s TYPE r && onEntity true (typeRow r) (eachAlone (linesOf s TYPE))
+
 -- whether slot x is among these nodes: 0 the principal's, `p`, and 1 the resource's, `r`
 abbrev pub hasSlot : ℕ → List (List ℕ) → Bool
 hasSlot x [] = false
@@ -111,7 +120,7 @@ abbrev pub termGoes : List ℕ → Bool
 termGoes r = leb (at r 1) (at r 2)
 
 abbrev pub fresh : State → ℕ → List ℕ → Bool
-fresh s k r = cond (eqb k TEXT || eqb k TYPE || eqb k VALUE) (newRow s k r) (cond (eqb k KIND || eqb k POLICY) (newName s k r) (cond (eqb k ENTITY) (above s k r) (cond (eqb k LINK) (above s k r && (slotGiven s r 0 && slotGiven s r 1)) (cond (eqb k TERM) (above s k r && termGoes r) true))))
+fresh s k r = cond (eqb k TYPE) (newType s r) (cond (eqb k TEXT || eqb k VALUE) (newRow s k r) (cond (eqb k KIND || eqb k POLICY) (newName s k r) (cond (eqb k ENTITY) (above s k r) (cond (eqb k LINK) (above s k r && (slotGiven s r 0 && slotGiven s r 1)) (cond (eqb k TERM) (above s k r && termGoes r) true)))))
 
 unfoldable pub found : State → ℕ → List ℕ → Bool
 found s k r = allThere s (tag r) 0 (items r) && ascend 0 (ascendings r) && fresh s k r

@@ -3,7 +3,7 @@ use mathlib.Core.Bool.{Bool, false}
 use mathlib.Core.List.{List, [], _∷_}
 use Prim.Native.Nat.{ℕ, _+_, _-_, _*_}
 use lib.Dec.{eqb}
-use lib.ListN.{length, getD, take, replicate}
+use lib.ListN.{length, getD, take, drop, replicate}
 use Rattle.sheet.specs.Bytes.{longAt}
 use Rattle.sheet.specs.Forms.{noKey, tag, items, at, firstType, firstValue, TYPE, VALUE}
 use Rattle.cedar.specs.Rows.{Entries, stop, entry, Row, rbool, rlong, rtext, rent, rset, rrec}
@@ -55,7 +55,7 @@ pub record Declared : Type 0 where
 
 pub data TypeRow : Type 0 where
   bool long string : TypeRow
-  entity : ℕ → TypeRow
+  entity : ℕ → List ℕ → TypeRow
   set′ : ℕ → TypeRow
   record′ : List Declared → TypeRow
 
@@ -66,7 +66,7 @@ declareds (t ∷ r ∷ []) = []
 declareds (t ∷ r ∷ y ∷ l) = record { text = t; required = eqb r 1; type = y } ∷ declareds l
 
 abbrev pub typeRow : List ℕ → TypeRow
-typeRow r = getD (bool ∷ long ∷ string ∷ entity (at r 0) ∷ set′ (at r 0) ∷ record′ (declareds (items r)) ∷ []) (tag r - firstType) bool
+typeRow r = getD (bool ∷ long ∷ string ∷ entity (at r 0) (drop 1 (items r)) ∷ set′ (at r 0) ∷ record′ (declareds (items r)) ∷ []) (tag r - firstType) bool
 
 abbrev pub entriesOf : List ℕ → Entries
 entriesOf [] = stop

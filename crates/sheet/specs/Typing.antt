@@ -1,4 +1,4 @@
--- Document 01, "Typing", over the numbers of types, values and nodes. Types are distinct, so one type is one number.
+-- Document 01, "Typing", with groups of kinds (request 2.7), over the numbers of types, values and nodes. Types are distinct, so one type is one number.
 use mathlib.Core.Bool.{Bool, true, false, cond, _&&_, _||_, not}
 use mathlib.Core.Option.{Option, none, some}
 use mathlib.Core.List.{List, [], _∷_, _++_}
@@ -6,6 +6,7 @@ use Prim.Native.Nat.{ℕ, zero, suc, _-_}
 use lib.Dec.{eqb}
 use lib.ListN.{getD, drop}
 use Rattle.sheet.specs.Forms.{tag, items, at, mark, refs, firstNode, slotNode, KIND, TYPE, SHAPE, VALUE, PRINCIPAL, ACTION, RESOURCE, CONTEXT, NODE, POLICY}
+use Rattle.sheet.specs.Bytes.{same}
 use Rattle.sheet.specs.State.{State, count, lineAt, linesOf, typeRow, valueRow, Declared, TypeRow, bool, long, string, entity, set′, record′, typeAt, valueAt}
 use Rattle.cedar.specs.Rows.{Entries, stop, entry, Row}
 use Rattle.cedar.specs.Numbered.{rBool, rLong, rText, rEnt, rSet, rRec, memN, pickN, entryOf, isSome}
@@ -13,11 +14,11 @@ use Rattle.cedar.specs.Value.{onSome}
 
 -- taking a type apart; `d` where it is of another sort
 module _ {A : Type 0} (d : A) where
-  abbrev pub onEntity : TypeRow → (ℕ → A) → A
+  abbrev pub onEntity : TypeRow → (List ℕ → A) → A
   onEntity bool f = d
   onEntity long f = d
   onEntity string f = d
-  onEntity (entity k) f = f k
+  onEntity (entity k ks) f = f (k ∷ ks)
   onEntity (set′ t) f = d
   onEntity (record′ ds) f = d
 
@@ -25,7 +26,7 @@ module _ {A : Type 0} (d : A) where
   onSetOf bool f = d
   onSetOf long f = d
   onSetOf string f = d
-  onSetOf (entity k) f = d
+  onSetOf (entity k ks) f = d
   onSetOf (set′ t) f = f t
   onSetOf (record′ ds) f = d
 
@@ -33,7 +34,7 @@ module _ {A : Type 0} (d : A) where
   onRecord bool f = d
   onRecord long f = d
   onRecord string f = d
-  onRecord (entity k) f = d
+  onRecord (entity k ks) f = d
   onRecord (set′ t) f = d
   onRecord (record′ ds) f = f ds
 
@@ -41,7 +42,7 @@ abbrev pub isBool : TypeRow → Bool
 isBool bool = true
 isBool long = false
 isBool string = false
-isBool (entity k) = false
+isBool (entity k ks) = false
 isBool (set′ t) = false
 isBool (record′ ds) = false
 
@@ -49,7 +50,7 @@ abbrev pub isLong : TypeRow → Bool
 isLong bool = false
 isLong long = true
 isLong string = false
-isLong (entity k) = false
+isLong (entity k ks) = false
 isLong (set′ t) = false
 isLong (record′ ds) = false
 
@@ -57,7 +58,7 @@ abbrev pub isString : TypeRow → Bool
 isString bool = false
 isString long = false
 isString string = true
-isString (entity k) = false
+isString (entity k ks) = false
 isString (set′ t) = false
 isString (record′ ds) = false
 
@@ -84,12 +85,12 @@ allEntries f (entry t x e) = f t x && allEntries f e
 abbrev pub entriesFit : (ℕ → ℕ → Bool) → List Declared → Entries → Bool
 entriesFit f ds e = requiredThere ds (λ t. isSome (entryOf t e)) && allEntries (λ t x. onSome false (declaredIn t ds) (f x)) e
 
--- a value's row against a type's
+-- a value's row against a type's; "An entity fits if its kind is in the group."
 abbrev pub rowFits : (ℕ → ℕ → Bool) → Row → TypeRow → Bool
 rowFits f r bool = rBool false r (λ b. true)
 rowFits f r long = rLong false r (λ n. true)
 rowFits f r string = rText false r (λ t. true)
-rowFits f r (entity k) = rEnt false r (λ l t. eqb l k)
+rowFits f r (entity k ks) = rEnt false r (λ l t. memN l (k ∷ ks))
 rowFits f r (set′ y) = rSet false r (allIn (λ x. f x y))
 rowFits f r (record′ ds) = rRec false r (entriesFit f ds)
 
@@ -156,19 +157,18 @@ contextTyped s r = onRecord false (typeAt s (at r 0)) (λ ds. unknownOr (at r 1)
 
 -- ---- nodes
 
--- the attributes of an entity or record type
-abbrev pub attributes : State → ℕ → Option (List Declared)
-attributes s y = onEntity (onRecord none (typeAt s y) some) (typeAt s y) (λ k. onRecord none (typeAt s (attributesOf s k)) some)
+-- f of what each kind of entity type y declares, or record type y; false of other types
+abbrev pub eachOf : State → ℕ → (List Declared → Bool) → Bool
+eachOf s y f = onEntity (onRecord false (typeAt s y) f) (typeAt s y) (allIn (λ k. onRecord false (typeAt s (attributesOf s k)) f))
 
--- the kind of an entity or set of entities
-abbrev pub targetKind : State → ℕ → Option ℕ
-targetKind s y = onEntity (onSetOf none (typeAt s y) (λ e. onEntity none (typeAt s e) some)) (typeAt s y) some
+-- an entity or set of entities
+abbrev pub isTarget : State → ℕ → Bool
+isTarget s y = onEntity (onSetOf false (typeAt s y) (λ e. onEntity false (typeAt s e) (λ ks. true))) (typeAt s y) (λ ks. true)
 
--- "each step but the last being one while declared, and free after an undeclared step"
-abbrev pub pathTyped : State → List ℕ → List Declared → Bool
-pathTyped s [] ds = true
-pathTyped s (t ∷ []) ds = true
-pathTyped s (t ∷ u ∷ us) ds = onSome true (declaredIn t ds) (λ y. onSome false (attributes s y) (pathTyped s (u ∷ us)))
+-- "A `haspath` step before the last must be an entity or record in each kind or record reached that declares it."
+abbrev pub pathTyped : State → List ℕ → ℕ → ℕ → Bool
+pathTyped s [] t y = eachOf s y (λ ds. true)
+pathTyped s (u ∷ us) t y = eachOf s y (λ ds. onSome true (declaredIn t ds) (pathTyped s us u))
 
 -- the type of node n
 abbrev pub typeOfNode : State → ℕ → ℕ
@@ -176,7 +176,7 @@ typeOfNode s n = at (lineAt s NODE n) 0
 
 -- "var has its request type": principal, action, resource, context
 abbrev pub entityIs : State → ℕ → ℕ → Bool
-entityIs s y k = onEntity false (typeAt s y) (λ e. eqb e (at (lineAt s k 0) 0))
+entityIs s y k = onEntity false (typeAt s y) (λ ks. same ks (at (lineAt s k 0) 0 ∷ []))
 
 abbrev pub contextIs : State → ℕ → Bool
 contextIs s y = eqb y (at (lineAt s CONTEXT 0) 0)
@@ -259,7 +259,7 @@ module _ (s : State) (r : List ℕ) where
   argTypes (t ∷ []) = stop
   argTypes (t ∷ n ∷ l) = entry t (typeOfNode s n) (argTypes l)
 
-  -- one rule for each operation, in the table's order
+  -- one rule for each operation, in the table's order; "`get` and `gettag` need the same declared type in every kind"
   abbrev pub rules : List Bool
   rules =
       fits s (at r 1) own  -- lit
@@ -273,8 +273,8 @@ module _ (s : State) (r : List ℕ) where
       ∷ arithmetic  -- add
       ∷ arithmetic  -- sub
       ∷ arithmetic  -- mul
-      ∷ (boolAt own && entityAt (kid 1) && isSome (targetKind s (kid 2)))  -- in
-      ∷ (stringAt (kid 2) && onEntity false (typeAt s (kid 1)) (λ k. eqb (tagsOf s k) own))  -- gettag
+      ∷ (boolAt own && entityAt (kid 1) && isTarget s (kid 2))  -- in
+      ∷ (stringAt (kid 2) && onEntity false (typeAt s (kid 1)) (allIn (λ k. eqb (tagsOf s k) own)))  -- gettag
       ∷ (boolAt own && entityAt (kid 1) && stringAt (kid 2))  -- hastag
       ∷ (boolAt own && onSetOf false (typeAt s (kid 1)) (λ e. eqb e (kid 2)))  -- contains
       ∷ twoSets  -- all
@@ -282,9 +282,9 @@ module _ (s : State) (r : List ℕ) where
       ∷ (boolAt (kid 1) && eqb (kid 2) own && eqb (kid 3) own)  -- if
       ∷ (boolAt own && entityAt (kid 1))  -- is
       ∷ (boolAt own && stringAt (kid 1))  -- like
-      ∷ onSome false (attributes s (kid 1)) (λ ds. onSome false (declaredIn (at r 2) ds) (eqb own))  -- get
-      ∷ (boolAt own && onSome false (attributes s (kid 1)) (λ ds. true))  -- has
-      ∷ (boolAt own && onSome false (attributes s (kid 1)) (pathTyped s (drop 2 (items r))))  -- haspath
+      ∷ eachOf s (kid 1) (λ ds. onSome false (declaredIn (at r 2) ds) (eqb own))  -- get
+      ∷ (boolAt own && eachOf s (kid 1) (λ ds. true))  -- has
+      ∷ (boolAt own && pathTyped s (drop 3 (items r)) (at r 2) (kid 1))  -- haspath
       ∷ (boolAt own && boolAt (kid 1))  -- not
       ∷ (longIn own && longIn (kid 1))  -- neg
       ∷ (boolAt own && setAt (kid 1))  -- empty

@@ -9,14 +9,15 @@ use native.Mathlib.Omega.{arith}
 use borrow.Author.Tests.{ltb-true}
 use lib.Dec.{ltb}
 use lib.ListN.{length, getD}
-use Rattle.cedar.specs.Types.{Ty, tbool, tent, Var, principal, action, resource, context}
+use Rattle.cedar.specs.Types.{Ty, tbool, Var, principal, action, resource, context}
 use Rattle.cedar.specs.Residual.{err}
+use Rattle.cedar.specs.Interpret.{alone}
 use Rattle.cedar.specs.Rows.{Row, rent, sameRow}
 use Rattle.cedar.specs.Numbered.{NEnv, memN, nInterpret}
 use Rattle.cedar.specs.Runs.{Run, nRun}
 use Rattle.cedar.proofs.TableLaws.{InN}
 use Rattle.forms.specs.Tags.{POLICY-LINE}
-use Rattle.sheet.specs.Forms.{partial, forms, formOf, slotAt, tag, at, keyOf, TYPE, VALUE, NODE, POLICY, LINK, ENTITY}
+use Rattle.sheet.specs.Forms.{partial, forms, formOf, slotAt, tag, at, keyOf, TYPE, VALUE, NODE, POLICY, LINK, ENTITY, aloneRow}
 use Rattle.sheet.specs.State.{State, linesOf, count, depthsOf, valueRow}
 use Rattle.sheet.specs.Typing.{nodesUnder}
 use Rattle.sheet.specs.Sheet.{read, anySlot, firsts, firstUnlinked}
@@ -78,7 +79,7 @@ module _ (sheet a₀ : List ℕ) (f : Facts partial (held sheet a₀ [])) where
   abbrev s : State
   s = held sheet a₀ []
 
-  kinds : (k : ℕ) → Listed (tys sheet a₀) (tent k) → ty sheet a₀ (placeOf (6 ∷ k ∷ []) (rowsOf a₀ TYPE)) ≡ tent k
+  kinds : (k : ℕ) → Listed (tys sheet a₀) (alone k) → ty sheet a₀ (placeOf (aloneRow k) (rowsOf a₀ TYPE)) ≡ alone k
   unfolding held linesHeld
   kinds k e = kind-found partial s (f .history) k e
 

@@ -15,7 +15,7 @@ use Rattle.value.specs.Lines.{valueLines, placeOf}
 use Rattle.value.specs.Made.{roomFor, narrow, numberOf, withMade, withValue}
 use Rattle.residual.specs.Rows.{wordAt, stageAt, startAt}
 use Rattle.residual.specs.Errs.{opErrs, blocksBy, blocksErr, rowErrs, errsBy, errs}
-use Rattle.tpe.specs.Run.{litOf, errOf, leftOf, madeOf, giveOf, settleOf, ruledOf, worked1, worked2, oneOf, twoOf, classBy, classOf, decidedBy, secondBy, secondOf, firstBy, firstOf, schemaIn, tyIn, envIn, varFor, unOf, binOf, litStep, varStep, lazyStep, binStep, unStep, stepWith, stepOf, interpOf, ranFrom, runOf, Line, getOf, getStep, walkFrom, entityType, stuckOf, walkedOf, pathBy, pathOf, pathStep, slotStep}
+use Rattle.tpe.specs.Run.{litOf, errOf, leftOf, madeOf, giveOf, settleOf, ruledOf, worked1, worked2, oneOf, twoOf, classBy, classOf, decidedBy, secondBy, secondOf, firstBy, firstOf, schemaIn, tyIn, envIn, varFor, unOf, binOf, litStep, varStep, lazyStep, binStep, unStep, stepWith, stepOf, interpOf, ranFrom, runOf, Line, getOf, getStep, walkFrom, unmovedOf, walkedOf, pathBy, pathOf, pathStep, slotStep}
 
 -- a row more of key k
 with : ℕ → List ℕ → List ℕ → List ℕ
@@ -63,6 +63,23 @@ path =
     (with TYPE (BOOL-TYPE ∷ [])
     (with KIND (KIND-LINE ∷ 0 ∷ 0 ∷ []) (set (replicate (heap + 64) 0) TOP heap)))))))))
 
+-- the same over a group of kinds, one of which declares the step
+group : List ℕ
+group =
+    with RUN (POLICY-LINE ∷ 0 ∷ PERMIT ∷ 1 ∷ mark ∷ mark ∷ [])
+    (with NODE (HASPATH ∷ 0 ∷ 0 ∷ 0 ∷ 0 ∷ [])
+    (with NODE (VAR ∷ 4 ∷ PART-P ∷ [])
+    (with PRINCIPAL (PRINCIPAL-LINE ∷ 0 ∷ 0 ∷ [])
+    (with SHAPE (SHAPE-LINE ∷ 2 ∷ mark ∷ [])
+    (with SHAPE (SHAPE-LINE ∷ 2 ∷ mark ∷ [])
+    (with TYPE (ENTITY-TYPE ∷ 0 ∷ 1 ∷ [])
+    (with TYPE (ENTITY-TYPE ∷ 1 ∷ [])
+    (with TYPE (RECORD-TYPE ∷ 0 ∷ 0 ∷ 1 ∷ [])
+    (with TYPE (ENTITY-TYPE ∷ 0 ∷ [])
+    (with TYPE (BOOL-TYPE ∷ [])
+    (with KIND (KIND-LINE ∷ 0 ∷ 0 ∷ [])
+    (with KIND (KIND-LINE ∷ 0 ∷ 0 ∷ []) (set (replicate (heap + 64) 0) TOP heap)))))))))))))
+
 -- one root under two links, and one with the other slot
 slots : List ℕ
 slots =
@@ -77,11 +94,12 @@ abbrev shown : List ℕ → List ℕ × List Line
 shown a = let r = runOf partial [] a [] in (r .log, r .lines)
 
 -- The left side stays open and cannot err, the right side makes false: the policy is false. Over a left side that can err the node
--- stays, with a literal false. Of a path what is left over begins at the entity made, with its type. A slot is the
+-- stays, with a literal false. Of a path what is left over begins at the entity made, with the operand's own type. A slot is the
 -- value of its policy's link.
 cases : (shown words ≡ (0 ∷ 1 ∷ 4 ∷ 0 ∷ [], record { class = cfalse; end = 4 } ∷ []))
     × (shown risky .0 ≡ 2 ∷ 0 ∷ 4 ∷ 1 ∷ 2 ∷ 1 ∷ 8 ∷ 0 ∷ 0 ∷ 1 ∷ 4 ∷ 0 ∷ 2 ∷ 4 ∷ 16 ∷ 0 ∷ [])
     × (shown path .0 ≡ 0 ∷ 0 ∷ 4 ∷ 1 ∷ 2 ∷ 1 ∷ 8 ∷ 0 ∷ [])
+    × (shown group .0 ≡ 0 ∷ 0 ∷ 4 ∷ 4 ∷ 2 ∷ 1 ∷ 8 ∷ 0 ∷ [])
     × (shown slots .0 ≡ 0 ∷ 6 ∷ 4 ∷ 1 ∷ 0 ∷ 8 ∷ 4 ∷ 1 ∷ 0 ∷ 7 ∷ 4 ∷ 1 ∷ [])
-unfolding with words bases base rowAt rowsAt rowsOf linesHeld held withRow valueLines placeOf roomFor narrow numberOf withMade withValue wordAt stageAt startAt opErrs blocksBy blocksErr rowErrs errsBy errs litOf errOf leftOf madeOf giveOf settleOf ruledOf worked1 worked2 oneOf twoOf classBy classOf decidedBy secondBy secondOf firstBy firstOf schemaIn tyIn envIn varFor unOf binOf litStep varStep lazyStep binStep unStep stepWith stepOf interpOf ranFrom runOf appended types schema nEnv risky getOf getStep path walkFrom entityType stuckOf walkedOf pathBy pathOf pathStep slots slotStep
-cases = (refl, refl, refl, refl)
+unfolding with words bases base rowAt rowsAt rowsOf linesHeld held withRow valueLines placeOf roomFor narrow numberOf withMade withValue wordAt stageAt startAt opErrs blocksBy blocksErr rowErrs errsBy errs litOf errOf leftOf madeOf giveOf settleOf ruledOf worked1 worked2 oneOf twoOf classBy classOf decidedBy secondBy secondOf firstBy firstOf schemaIn tyIn envIn varFor unOf binOf litStep varStep lazyStep binStep unStep stepWith stepOf interpOf ranFrom runOf appended types schema nEnv risky getOf getStep path group walkFrom unmovedOf walkedOf pathBy pathOf pathStep slots slotStep
+cases = (refl, refl, refl, refl, refl)

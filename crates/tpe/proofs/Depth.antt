@@ -1,16 +1,17 @@
 -- Interpretation over words, at the depth of a node, is the numbered interpretation of its tree. Assumes nothing.
 use mathlib.Core.Path.{_≡_, refl, sym, subst}
-use mathlib.Core.List.{List, [], _∷_}
+use mathlib.Core.List.{List, []}
 use Prim.Native.Nat.{ℕ, zero, suc, _-_, _*_, _≤_}
 use native.Mathlib.Omega.{arith}
 use lib.ListN.{length, getD, drop}
-use Rattle.cedar.specs.Types.{tbool, tent}
+use Rattle.cedar.specs.Types.{tbool}
+use Rattle.cedar.specs.Interpret.{alone}
 use Rattle.cedar.specs.Residual.{Node, err}
 use Rattle.cedar.specs.Rows.{Row}
 use Rattle.cedar.specs.Numbered.{nInterpret}
 use Rattle.cedar.proofs.TableLaws.{InN}
-use Rattle.forms.specs.Tags.{ENTITY-TYPE, RECORD-OF, SLOT}
-use Rattle.sheet.specs.Forms.{Mode, tag, items, TYPE, NODE, firstNode}
+use Rattle.forms.specs.Tags.{RECORD-OF, SLOT}
+use Rattle.sheet.specs.Forms.{Mode, tag, items, TYPE, NODE, firstNode, aloneRow}
 use Rattle.sheet.specs.Content.{treeOver, linked}
 use Rattle.sheet.specs.Answer.{size}
 use Rattle.sheet.proofs.TypeNumbers.{Listed, TypesIn}
@@ -45,7 +46,7 @@ module _ (sheet a₀ : List ℕ) (p q : ℕ) (trs : List (Node ℕ)) (F : ℕ �
   deep-known zero c e = absurd e
   deep-known (suc d) c e = e .0 .known
 
-module _ (m : Mode) (sheet a₀ : List ℕ) (kinds : (k : ℕ) → Listed (tys sheet a₀) (tent k) → ty sheet a₀ (placeOf (ENTITY-TYPE ∷ k ∷ []) (rowsOf a₀ TYPE)) ≡ tent k)
+module _ (m : Mode) (sheet a₀ : List ℕ) (kinds : (k : ℕ) → Listed (tys sheet a₀) (alone k) → ty sheet a₀ (placeOf (aloneRow k) (rowsOf a₀ TYPE)) ≡ alone k)
     (p q : ℕ) (trs : List (Node ℕ)) (F : ℕ → Type 0) (P : List Row → Type 0)
     (keeps : (c : ℕ) → F c → (R : List Row) → P R → P (nInterpret (sch m sheet a₀) (env m sheet a₀) (getD trs c (err tbool)) R .rows))
     (lists : (c : ℕ) → F c → (R : List Row) → P R → TypesIn (tys sheet a₀) (nInterpret (sch m sheet a₀) (env m sheet a₀) (getD trs c (err tbool)) R .tree)) where

@@ -9,14 +9,15 @@ use native.Mathlib.Omega.{arith}
 use borrow.Author.Tests.{le-leb, eq-eqb}
 use lib.Dec.{eqb}
 use lib.ListN.{length, getD, drop, length-drop}
-use Rattle.cedar.specs.Types.{Ty, tbool, tent, Schema, Var, principal, action, resource, context}
+use Rattle.cedar.specs.Types.{Ty, tbool, Schema, Var, principal, action, resource, context}
 use Rattle.cedar.specs.Residual.{Node, lit, err, var, and, or, ite, un, bin, rel, get, has, haspath, econs, gcons, Un, unot, uneg, uempty, uis, ulike, Bin, beq, blt, ble, badd, bsub, bmul, bcontains, ball, bany, Rel, rin, rgettag, rhastag}
+use Rattle.cedar.specs.Interpret.{alone}
 use Rattle.cedar.specs.Rows.{Row}
 use Rattle.cedar.specs.Numbered.{Give, made, old, NEnv, Out, out, Outs, OutArgs, nVar, giveLit, nStepUn, nStepGet, nStepHas, nStepPath, nStepSet, nStepRec, thenAnd, thenOr, thenIf, thenBin, thenRel, nInterpret, nInterprets, nInterpretArgs}
 use Rattle.cedar.proofs.Tools.{no-some}
 use Rattle.cedar.proofs.TableLaws.{InN, now′, later′}
-use Rattle.forms.specs.Tags.{ENTITY-TYPE, VAR, SET-OF, RECORD-OF, SLOT}
-use Rattle.sheet.specs.Forms.{Mode, tag, items, at, mark, TYPE, NODE, PRINCIPAL, ACTION, RESOURCE, CONTEXT, firstNode}
+use Rattle.forms.specs.Tags.{VAR, SET-OF, RECORD-OF, SLOT}
+use Rattle.sheet.specs.Forms.{Mode, tag, items, at, mark, TYPE, NODE, PRINCIPAL, ACTION, RESOURCE, CONTEXT, firstNode, aloneRow}
 use Rattle.sheet.specs.State.{State, lineAt}
 use Rattle.sheet.specs.Typing.{slotValue}
 use Rattle.sheet.specs.Content.{varOf, known, given, nEnv, child, childrenOver, argsOver, treeFor, linked, patternOf}
@@ -93,7 +94,7 @@ unfolding suits
 suits-at r x h e n = rw (le-leb firstNode (tag r) h, e)
 
 -- a path over a child of any depth: none is of depth 0
-path-any : (m : Mode) (sheet a₀ : List ℕ) (kinds : (k : ℕ) → Listed (tys sheet a₀) (tent k) → ty sheet a₀ (placeOf (ENTITY-TYPE ∷ k ∷ []) (rowsOf a₀ TYPE)) ≡ tent k)
+path-any : (m : Mode) (sheet a₀ : List ℕ) (kinds : (k : ℕ) → Listed (tys sheet a₀) (alone k) → ty sheet a₀ (placeOf (aloneRow k) (rowsOf a₀ TYPE)) ≡ alone k)
     (d : ℕ) {n : ℕ} {a l : List ℕ} {X : Out} {o : O} → d ≤ 64 → Is sheet a₀ d n a l X o → (c : ℕ) (r : List ℕ) → Room (suc n) a l → suits (getD (nodes sheet a₀) c []) 1 ≡ true
     → ((j : ℕ) (t : Node ℕ) → leftTree (getD (nodes sheet a₀) c []) j (ty sheet a₀ (at r 0)) (t ∷ []) ≡ haspath (ty sheet a₀ (at r 0)) t (at r (2 + j)) (drop (3 + j) (items r)))
     → TypesIn (tys sheet a₀) (nStepPath (sch m sheet a₀) (env m sheet a₀) (ty sheet a₀ (at r 0)) X (at r 2) (drop 3 (items r)) .tree)
@@ -106,7 +107,7 @@ path-any m sheet a₀ kinds (suc d) deep i c r room su keep lists = path-is m sh
 
 -- ---- one step: node c has row r, and the nodes below work
 
-module _ (m : Mode) (sheet a₀ : List ℕ) (kinds : (k : ℕ) → Listed (tys sheet a₀) (tent k) → ty sheet a₀ (placeOf (ENTITY-TYPE ∷ k ∷ []) (rowsOf a₀ TYPE)) ≡ tent k)
+module _ (m : Mode) (sheet a₀ : List ℕ) (kinds : (k : ℕ) → Listed (tys sheet a₀) (alone k) → ty sheet a₀ (placeOf (aloneRow k) (rowsOf a₀ TYPE)) ≡ alone k)
     (trs : List (Node ℕ)) (P : List Row → Type 0) (d : ℕ) (deep : d ≤ 64) (f : Rec) (c : ℕ) (low : firstNode ≤ tag (getD (nodes sheet a₀) c []))
     (a l : List ℕ) (h : Hold a₀ a) (good : P (values a)) where
   abbrev r : List ℕ

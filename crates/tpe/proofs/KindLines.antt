@@ -1,5 +1,5 @@
--- The type line `entity,k` is found by its row, if there is one; and the value rows of a sheet that was read are formed.
-use mathlib.Core.Path.{_≡_, refl, sym, _∙_, ap, subst}
+-- The type line `entity,k`, of kind k alone, is found by its row, if there is one; and the value rows of a sheet that was read are formed.
+use mathlib.Core.Path.{_≡_, refl, sym, _∙_, ap, ap₂, subst}
 use mathlib.Core.Bool.{Bool, true, false, cond}
 use mathlib.Core.List.{List, [], _∷_, _++_, append-assoc}
 use Prim.Native.Nat.{ℕ, zero, suc, _<_}
@@ -7,9 +7,9 @@ use native.Mathlib.Nat.{le-of-suc-le-suc}
 use native.Mathlib.Omega.{arith}
 use lib.ListN.{length, getD}
 use Rattle.cedar.specs.Types.{Ty, tbool, tlong, tstr, tent, tset, trec}
-use Rattle.forms.specs.Tags.{ENTITY-TYPE}
+use Rattle.cedar.specs.Interpret.{alone}
 use Rattle.sheet.specs.Bytes.{same}
-use Rattle.sheet.specs.Forms.{Mode, TYPE, VALUE}
+use Rattle.sheet.specs.Forms.{Mode, TYPE, VALUE, aloneRow}
 use Rattle.sheet.specs.State.{State, linesOf, count, TypeRow, bool, long, string, entity, set′, record′, typeRow}
 use Rattle.sheet.specs.Answer.{typeNumber}
 use Rattle.sheet.specs.Content.{types, tyOver}
@@ -37,29 +37,29 @@ abbrev IsEnt : ℕ → Ty → Type 0
 IsEnt k tbool = ⊥
 IsEnt k tlong = ⊥
 IsEnt k tstr = ⊥
-IsEnt k (tent l) = l ≡ k
+IsEnt k (tent l ls) = (l ≡ k) × (ls ≡ [])
 IsEnt k (tset A) = ⊥
 IsEnt k (trec R) = ⊥
 
-entity-of : (ts : List Ty) (k : ℕ) (r : TypeRow) → IsEnt k (tyOver ts r) → r ≡ entity k
+entity-of : (ts : List Ty) (k : ℕ) (r : TypeRow) → IsEnt k (tyOver ts r) → r ≡ entity k []
 entity-of ts k bool e = absurd e
 entity-of ts k long e = absurd e
 entity-of ts k string e = absurd e
-entity-of ts k (entity l) e = ap entity e
+entity-of ts k (entity l ls) e = ap₂ entity (e .0) (e .1)
 entity-of ts k (set′ y) e = absurd e
 entity-of ts k (record′ ds) e = absurd e
 
 module _ (m : Mode) (s : State) (h : History m s) where
-  pub kind-found : (k : ℕ) → Listed (types s) (tent k) → getD (types s) (placeOf (ENTITY-TYPE ∷ k ∷ []) (linesOf s TYPE)) tbool ≡ tent k
+  pub kind-found : (k : ℕ) → Listed (types s) (alone k) → getD (types s) (placeOf (aloneRow k) (linesOf s TYPE)) tbool ≡ alone k
   kind-found k e =
-      let y = typeNumber (types s) (tent k) in
+      let y = typeNumber (types s) (alone k) in
       let n = types-length m s h in
       let lt : y < count s TYPE = let b = e .below in omega (arith, b, n) in
-      let q : tent k ≡ tyOver (types s) (typeRow (getD (linesOf s TYPE) y [])) = sym (e .found) ∙ ty-eq m s h y in
-      let r : typeRow (getD (linesOf s TYPE) y []) ≡ entity k = entity-of (types s) k (typeRow (getD (linesOf s TYPE) y [])) (subst (IsEnt k) q refl) in
-      let row : getD (linesOf s TYPE) y [] ≡ ENTITY-TYPE ∷ k ∷ [] = split-at (linesOf s TYPE) y lt (λ pre rest z. let w = h TYPE pre (getD (linesOf s TYPE) y []) rest z in let b = type-back m (w .line) (getD (linesOf s TYPE) y []) (w .row) (w .key) in sym (rw r at b)) in
-      let p = place-found (ENTITY-TYPE ∷ k ∷ []) (linesOf s TYPE) y lt row in
-      ty-eq m s h (placeOf (ENTITY-TYPE ∷ k ∷ []) (linesOf s TYPE)) ∙ ap (λ x. tyOver (types s) (typeRow x)) (p .1)
+      let q : alone k ≡ tyOver (types s) (typeRow (getD (linesOf s TYPE) y [])) = sym (e .found) ∙ ty-eq m s h y in
+      let r : typeRow (getD (linesOf s TYPE) y []) ≡ entity k [] = entity-of (types s) k (typeRow (getD (linesOf s TYPE) y [])) (subst (IsEnt k) q (refl, refl)) in
+      let row : getD (linesOf s TYPE) y [] ≡ aloneRow k = split-at (linesOf s TYPE) y lt (λ pre rest z. let w = h TYPE pre (getD (linesOf s TYPE) y []) rest z in let b = type-back m (w .line) (getD (linesOf s TYPE) y []) (w .row) (w .key) in sym (rw r at b)) in
+      let p = place-found (aloneRow k) (linesOf s TYPE) y lt row in
+      ty-eq m s h (placeOf (aloneRow k) (linesOf s TYPE)) ∙ ap (λ x. tyOver (types s) (typeRow x)) (p .1)
 
   formeds-from : (pre rest : List (List ℕ)) → linesOf s VALUE ≡ pre ++ rest → Formeds rest
   formeds-from pre [] e = none-formed

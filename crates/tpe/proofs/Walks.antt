@@ -3,7 +3,7 @@ use mathlib.Core.Path.{_≡_, refl, sym, ap, _∙_, subst}
 use mathlib.Core.Bool.{Bool, true, false}
 use mathlib.Core.Option.{Option, none, some}
 use mathlib.Core.List.{List, [], _∷_}
-use Prim.Native.Nat.{ℕ, suc, _+_, _-_, _≤_, _<_}
+use Prim.Native.Nat.{ℕ, zero, suc, _+_, _-_, _≤_, _<_}
 use native.Mathlib.Nat.{le-refl}
 use native.Mathlib.Numerals.{add-one}
 use native.Mathlib.Omega.{arith}
@@ -13,13 +13,13 @@ use types.Run.{OneOf}
 use denote.Enum.Declared.{tagOf}
 use Rattle.rules.proofs.Rule.{the-type}
 use Rattle.cedar.specs.Value.{onSome}
-use Rattle.cedar.specs.Types.{tent}
+use Rattle.cedar.specs.Interpret.{alone}
 use Rattle.cedar.specs.TypeRules.{hasRule}
 use Rattle.cedar.specs.Rows.{Entries, Row, rbool, rlong, rtext, rent, rset, rrec}
 use Rattle.cedar.specs.Numbered.{Give, NEnv, nentity, giveRow, rRec, entryOf, isSome, onEntries, stays}
-use Rattle.forms.specs.Tags.{ENTITY-TYPE, HAS}
+use Rattle.forms.specs.Tags.{HAS}
 use Rattle.sheet.specs.Bytes.{same}
-use Rattle.sheet.specs.Forms.{partial, items, at, TYPE, NODE}
+use Rattle.sheet.specs.Forms.{partial, items, at, TYPE, NODE, aloneRow}
 use Rattle.sheet.specs.Content.{rowsIn}
 use Rattle.words.specs.Log.{appended, Appended, Room}
 use Rattle.words.proofs.Logs.{append-holds, append-room, log-cut, log-length}
@@ -46,7 +46,7 @@ use Rattle.strict.specs.declared.entity.Look.{Look}
 use Rattle.strict.specs.declared.entity.Look.the-variants.{At, Missing, Unknown as Unknownˡ, Bad}
 use Rattle.strict.specs.declared.entity.Walked.{Walked}
 use Rattle.strict.specs.declared.entity.Walked.the-variants.{Holds, Fails, Left}
-use Rattle.tpe.specs.Run.{left, errOf, leftOf, madeOf, ruledOf, Walk, lost, says, stuck, walkFrom, entityType, schemaIn, tyIn, envIn, stuckOf, walkedOf, pathBy, pathOf, settleOf}
+use Rattle.tpe.specs.Run.{left, leftOf, madeOf, Walk, lost, says, stuck, walkFrom, entityType, schemaIn, tyIn, envIn, unmovedOf, stuckOf, walkedOf, pathBy, pathOf, settleOf}
 use Rattle.tpe.specs.Leaves.{Leaves}
 use Rattle.tpe.specs.Gives.{oneRule, unlessErr, walkIn, Taken, ruleOr}
 use Rattle.tpe.proofs.Slices.{word-log, stage-log, errs-log}
@@ -56,27 +56,27 @@ use Rattle.tpe.proofs.Worked.{silent, ruled-settles}
 -- ---- the type line of a kind
 
 abbrev pub Seeking : List ℕ → ℕ → ℕ → ℕ → Type 0
-Seeking a k n i = Finding (ENTITY-TYPE ∷ k ∷ []) (rowsOf a TYPE) n i
+Seeking a k n i = Finding (aloneRow k) (rowsOf a TYPE) n i
 
 module _ (a : List ℕ) (k n : ℕ) where
   pub seek-start : n ≡ getD a TYPE 0 → Seeking a k n 0
-  seek-start e = find-start (ENTITY-TYPE ∷ k ∷ []) (rowsOf a TYPE) n (e ∙ sym (count-rows a TYPE))
+  seek-start e = find-start (aloneRow k) (rowsOf a TYPE) n (e ∙ sym (count-rows a TYPE))
 
   module _ (i : ℕ) (g : Seeking a k n i) where
     pub seek-end : n ≤ i → n ≡ entityType a k
     unfolding entityType
-    seek-end h = find-end (ENTITY-TYPE ∷ k ∷ []) (rowsOf a TYPE) n i g h
+    seek-end h = find-end (aloneRow k) (rowsOf a TYPE) n i g h
 
-    module _ (h : i < n) (q l : List ℕ) (el : l ≡ ENTITY-TYPE ∷ k ∷ []) (eq : q ≡ getD (rowsOf a TYPE) i []) (b : Bool) (eb : b ≡ same q l) where
-      is-same : b ≡ same q (ENTITY-TYPE ∷ k ∷ [])
+    module _ (h : i < n) (q l : List ℕ) (el : l ≡ aloneRow k) (eq : q ≡ getD (rowsOf a TYPE) i []) (b : Bool) (eb : b ≡ same q l) where
+      is-same : b ≡ same q (aloneRow k)
       is-same = eb ∙ ap (same q) el
 
       pub seek-hit : b ≡ true → i ≡ entityType a k
       unfolding entityType
-      seek-hit e = find-hit (ENTITY-TYPE ∷ k ∷ []) (rowsOf a TYPE) n i g h q eq b is-same e
+      seek-hit e = find-hit (aloneRow k) (rowsOf a TYPE) n i g h q eq b is-same e
 
       pub seek-on : b ≡ false → Seeking a k n (i + 1)
-      seek-on e = find-on (ENTITY-TYPE ∷ k ∷ []) (rowsOf a TYPE) n i g h q eq b is-same e
+      seek-on e = find-on (aloneRow k) (rowsOf a TYPE) n i g h q eq b is-same e
 
 -- ---- the walk
 
@@ -204,52 +204,73 @@ pub rest-put : (a b b₁ b₂ : List ℕ) (start p e n y j v k T : ℕ) → Room
 rest-put a b b₁ b₂ start p e n y j v k T room et w u =
     rw (← et, ← append-holds room w .is, log-length b start room) (left-put a b₁ b₂ start p e y (append-room room w) (append-holds room w .grows) n j u)
 
-module _ (a b b′ : List ℕ) (start n j v k e y u : ℕ) (r : List ℕ) (q : Rule) (er : r ≡ getD (rowsOf a NODE) n []) (ey : y ≡ getD r 1 0) (eu : u ≡ getD r (3 + j) 0) (eq : ruleIn q ≡ hasRule (schemaAt a) u (tent k)) where
-  next-text : hasRule (schemaAt a) (at r (2 + j)) (tent k) ≡ ruleIn q
+module _ (a b b′ : List ℕ) (start n j v k e y u : ℕ) (r : List ℕ) (q : Rule) (er : r ≡ getD (rowsOf a NODE) n []) (ey : y ≡ getD r 1 0) (eu : u ≡ getD r (3 + j) 0) (eq : ruleIn q ≡ hasRule (schemaAt a) u (alone k)) where
+  next-text : hasRule (schemaAt a) (at r (2 + j)) (alone k) ≡ ruleIn q
   next-text = let z : suc (2 + j) ≡ 3 + j = omega arith in rw (z, ← eu) (sym eq)
 
   pub stuck-left : OneOf (1 ∷ []) (tagOf the-type q) → Leaves start a b′ e (leftOf a (appended (take start b) (litRow v (entityType a k))) (length (take start b)) n j y)
-      → Leaves start a b′ e (stuckOf partial [] a (take start b) n (getD (rowsOf a NODE) n []) j v k (hasRule (schemaAt a) (at (getD (rowsOf a NODE) n []) (2 + j)) (tent k)))
+      → Leaves start a b′ e (stuckOf partial [] a (take start b) n (getD (rowsOf a NODE) n []) j v k (hasRule (schemaAt a) (at (getD (rowsOf a NODE) n []) (2 + j)) (alone k)))
   unfolding stuckOf
   stuck-left s h = rw (← er, next-text, silent q s, ← ey) h
 
   pub stuck-said : (a′ : List ℕ) (x : Bool) → q ≡ Says x → Leaves start a′ b′ e (madeOf a (take start b) y (boolRow x))
-      → Leaves start a′ b′ e (stuckOf partial [] a (take start b) n (getD (rowsOf a NODE) n []) j v k (hasRule (schemaAt a) (at (getD (rowsOf a NODE) n []) (2 + j)) (tent k)))
+      → Leaves start a′ b′ e (stuckOf partial [] a (take start b) n (getD (rowsOf a NODE) n []) j v k (hasRule (schemaAt a) (at (getD (rowsOf a NODE) n []) (2 + j)) (alone k)))
   unfolding stuckOf
   stuck-said a′ x s h = rw (← er, next-text, s, ← ey) h
 
 -- ---- from a value
 
-module _ (a b b′ : List ℕ) (start n v e y : ℕ) (w : Walked) (ey : y ≡ at (getD (rowsOf a NODE) n []) 0)
+module _ (a b b′ : List ℕ) (start bt n v e y : ℕ) (w : Walked) (le : start ≤ bt) (ey : y ≡ at (getD (rowsOf a NODE) n []) 0)
     (ew : walkIn w ≡ walkFrom (envIn partial [] a) (rowsIn (valueLines a)) (drop 3 (items (getD (rowsOf a NODE) n []))) (at (getD (rowsOf a NODE) n []) 2) v 0) where
   abbrev From : List ℕ → Type 0
-  From a₁ = Leaves start a₁ b′ e (walkedOf partial [] a (take start b) n (getD (rowsOf a NODE) n [])
+  From a₁ = Leaves start a₁ b′ e (walkedOf partial [] a (take bt b) start n (getD (rowsOf a NODE) n [])
       (walkFrom (envIn partial [] a) (rowsIn (valueLines a)) (drop 3 (items (getD (rowsOf a NODE) n []))) (at (getD (rowsOf a NODE) n []) 2) v 0))
 
   pub from-holds : (a′ : List ℕ) (x : Bool) → w ≡ Holds x → Leaves start a′ b′ e (madeOf a (take start b) y (boolRow x)) → From a′
   unfolding walkedOf
-  from-holds a′ x q h = rw (← ew, q, ← ey) h
+  from-holds a′ x q h = rw (← ew, q, log-cut b bt start le, ← ey) h
 
-  pub from-left : (a′ : List ℕ) (x k j i : ℕ) → w ≡ Left x k j → Taken (length (getD (rowsOf a NODE) n [])) j i
-      → Leaves start a′ b′ e (stuckOf partial [] a (take start b) n (getD (rowsOf a NODE) n []) i x k (hasRule (schemaAt a) (at (getD (rowsOf a NODE) n []) (2 + i)) (tent k))) → From a′
-  unfolding walkedOf schemaIn
-  from-left a′ x k j i q t h =
-      let z : i ≡ j = t .is (few-steps a (getD (rowsOf a NODE) n []) v x k j (sym ew ∙ ap walkIn q)) in
-      rw (← ew, q, has-kind-same [] a (at (getD (rowsOf a NODE) n []) (2 + j)) k, ← z) h
+  pub from-fails : Room b bt → w ≡ Fails → Appended b start (errRow y) b′ e → From a
+  unfolding walkedOf
+  from-fails room q p = rw (← ew, q, ← ey) (error-put a b b′ start bt e y room le p)
 
-  pub from-fails : Room b start → w ≡ Fails → Appended b start (errRow y) b′ e → From a
-  unfolding walkedOf errOf
-  from-fails room q p = rw (← ew, q, ← ey) (record { words = refl; log = append-holds room p })
+  module _ (a′ : List ℕ) (x k j : ℕ) (q : w ≡ Left x k j) where
+    pub from-here : j ≡ 0 → Leaves start a′ b′ e (unmovedOf partial [] a (take bt b) start n (getD (rowsOf a NODE) n [])) → From a′
+    unfolding walkedOf
+    from-here z h = rw (← ew, q, z) h
 
--- ---- from an open operand
+    -- what is left after some steps
+    abbrev Rest : ℕ → Type 0
+    Rest i = Leaves start a′ b′ e (stuckOf partial [] a (take start b) n (getD (rowsOf a NODE) n []) i x k (hasRule (schemaAt a) (at (getD (rowsOf a NODE) n []) (2 + i)) (alone k)))
 
-pub open-settled : (a b a′ b′ : List ℕ) (start bt n e y : ℕ) (q : Rule) (g : Given) → y ≡ at (getD (rowsOf a NODE) n []) 0
+    after : (i : ℕ) → (i ≡ 0 → ⊥) → Rest i → Leaves start a′ b′ e (walkedOf partial [] a (take bt b) start n (getD (rowsOf a NODE) n []) (stuck i x k))
+    unfolding walkedOf schemaIn
+    after zero z h = absurd (z refl)
+    after (suc i) z h = rw (log-cut b bt start le, has-kind-same [] a (at (getD (rowsOf a NODE) n []) (2 + suc i)) k) h
+
+    pub from-left : (i : ℕ) → (j ≡ 0 → ⊥) → Taken (length (getD (rowsOf a NODE) n [])) j i → Rest i → From a′
+    from-left i z t h =
+        let s : i ≡ j = t .is (few-steps a (getD (rowsOf a NODE) n []) v x k j (sym ew ∙ ap walkIn q)) in
+        rw (← ew, q) (after j z (subst Rest s h))
+
+-- ---- with no step taken
+
+pub unmoved-settled : (a b a′ b′ : List ℕ) (start bt n e y : ℕ) (q : Rule) (g : Given) → Room b bt → y ≡ at (getD (rowsOf a NODE) n []) 0
     → ruleIn q ≡ unlessErr (errs (rowsOf a NODE) b bt) (oneRule HAS a (getD (rowsOf a NODE) n []) (wordAt b bt 3)) → outOf g ≡ ruleOr (ruleIn q) stays
     → Leaves start a′ b′ e (settleOf a (take bt b) start n y (outOf g))
-    → Leaves start a′ b′ e (ruledOf a (take bt b) start (at (getD (rowsOf a NODE) n []) 0) (errs (rowsOf a NODE) b bt) (oneRule HAS a (getD (rowsOf a NODE) n []) (wordAt b bt 3)) (leftOf a (take bt b) start n 0 (at (getD (rowsOf a NODE) n []) 0)))
-unfolding settleOf
-open-settled a b a′ b′ start bt n e y q g ey eq eg z =
-    rw (← ey, ruled-settles a (take bt b) start n y (errs (rowsOf a NODE) b bt) (oneRule HAS a (getD (rowsOf a NODE) n []) (wordAt b bt 3)) stays, ← eq, ← eg) z
+    → Leaves start a′ b′ e (unmovedOf partial [] a (take bt b) start n (getD (rowsOf a NODE) n []))
+unfolding settleOf unmovedOf schemaIn tyIn oneRule
+unmoved-settled a b a′ b′ start bt n e y q g room ey eq eg z =
+    rw (
+      log-length b bt room,
+      ← errs-log b bt (rowsOf a NODE) bt (le-refl bt),
+      ← word-log b bt bt 3 (le-refl bt) (omega arith),
+      has-same [] a (at (getD (rowsOf a NODE) n []) 2) (wordAt b bt 3),
+      ← ey,
+      ruled-settles a (take bt b) start n y (errs (rowsOf a NODE) b bt) (oneRule HAS a (getD (rowsOf a NODE) n []) (wordAt b bt 3)) stays,
+      ← eq,
+      ← eg,
+    ) z
 
 -- ---- `path`
 
@@ -262,19 +283,15 @@ module _ (a b b′ : List ℕ) (start bt n e : ℕ) (s : Stage) (room : Room b b
   as-path a′ h = rw (log-length b bt room, ← stage-log b bt bt (le-refl bt), ← es) h
 
   pub path-value : (a′ : List ℕ) (v : ℕ) → s ≡ Value v
-      → Leaves start a′ b′ e (walkedOf partial [] a (take start b) n (getD (rowsOf a NODE) n []) (walkFrom (envIn partial [] a) (rowsIn (valueLines a)) (drop 3 (items (getD (rowsOf a NODE) n []))) (at (getD (rowsOf a NODE) n []) 2) v 0))
+      → Leaves start a′ b′ e (walkedOf partial [] a (take bt b) start n (getD (rowsOf a NODE) n []) (walkFrom (envIn partial [] a) (rowsIn (valueLines a)) (drop 3 (items (getD (rowsOf a NODE) n []))) (at (getD (rowsOf a NODE) n []) 2) v 0))
       → OnPath a′
   unfolding pathBy
-  path-value a′ v q h = as-path a′ (rw (q, log-cut b bt start le) h)
+  path-value a′ v q h = as-path a′ (rw q h)
 
   pub path-error : (y : ℕ) → s ≡ Error → y ≡ at (getD (rowsOf a NODE) n []) 0 → Appended b start (errRow y) b′ e → OnPath a
   unfolding pathBy
   path-error y q ey p = as-path a (rw (q, ← ey) (error-put a b b′ start bt e y room le p))
 
-  pub path-open : (a′ : List ℕ) → s ≡ Open
-      → Leaves start a′ b′ e (ruledOf a (take bt b) start (at (getD (rowsOf a NODE) n []) 0) (errs (rowsOf a NODE) b bt) (oneRule HAS a (getD (rowsOf a NODE) n []) (wordAt b bt 3)) (leftOf a (take bt b) start n 0 (at (getD (rowsOf a NODE) n []) 0)))
-      → OnPath a′
-  unfolding pathBy schemaIn tyIn oneRule
-  path-open a′ q h =
-      as-path a′
-      (rw (q, log-length b bt room, ← errs-log b bt (rowsOf a NODE) bt (le-refl bt), ← word-log b bt bt 3 (le-refl bt) (omega arith), has-same [] a (at (getD (rowsOf a NODE) n []) 2) (wordAt b bt 3)) h)
+  pub path-open : (a′ : List ℕ) → s ≡ Open → Leaves start a′ b′ e (unmovedOf partial [] a (take bt b) start n (getD (rowsOf a NODE) n [])) → OnPath a′
+  unfolding pathBy
+  path-open a′ q h = as-path a′ (rw q h)

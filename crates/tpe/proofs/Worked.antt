@@ -31,7 +31,7 @@ use Rattle.rules.proofs.Same.{un-same, bin-same, rel-same, has-same, has-kind-s
 use Rattle.strict.specs.Gives.{outOf}
 use Rattle.strict.specs.declared.Given.{Given}
 use Rattle.strict.specs.declared.Given.the-variants.{Bool as Boolᵍ, Fails, Stays}
-use Rattle.tpe.specs.Run.{left, leftOf, settleOf, ruledOf, worked1, worked2, oneOf, twoOf, schemaIn, tyIn, envIn, valueIn, unOf, binOf, relOf, getOf, hasOf, Walk, lost, says, stuck, walkFrom, stuckOf, walkedOf, pathBy, pathOf, giveOf}
+use Rattle.tpe.specs.Run.{left, leftOf, settleOf, ruledOf, worked1, worked2, oneOf, twoOf, schemaIn, tyIn, envIn, valueIn, unOf, binOf, relOf, getOf, hasOf, Walk, lost, says, stuck, walkFrom, unmovedOf, stuckOf, walkedOf, pathBy, pathOf, giveOf}
 use Rattle.tpe.specs.Leaves.{Leaves}
 use Rattle.tpe.specs.Steps.{oneSteps, oneAt, twoSteps, twoAt}
 use Rattle.tpe.specs.Gives.{oneGives, oneGive, oneRule, twoGives, twoGive, twoRule, unlessErr, outOne, outTwo, pairOut, Tells, ruleOr}
@@ -131,18 +131,23 @@ one-settles g a l start n y Open = refl
 
 -- a path asks no text's bytes
 module _ (sheet a l : List ℕ) (start n : ℕ) (r : List ℕ) where
-  walked-sheet : (k : List ℕ) (w : Walk) → walkedOf partial [] a k n r w ≡ walkedOf partial sheet a k n r w
+  unmoved-sheet : unmovedOf partial [] a l start n r ≡ unmovedOf partial sheet a l start n r
+  unfolding unmovedOf schemaIn tyIn
+  unmoved-sheet = ap (λ (q : Option Bool). ruledOf a l start (at r 0) (errs (rowsOf a NODE) l (length l)) q (leftOf a l start n 0 (at r 0)))
+      (has-same [] a (at r 2) (wordAt l (length l) 3) ∙ sym (has-same sheet a (at r 2) (wordAt l (length l) 3)))
+
+  walked-sheet : (w : Walk) → walkedOf partial [] a l start n r w ≡ walkedOf partial sheet a l start n r w
   unfolding walkedOf stuckOf schemaIn
-  walked-sheet k lost = refl
-  walked-sheet k (says b) = refl
-  walked-sheet k (stuck j v i) = ap (stuckOf partial [] a k n r j v i) (has-kind-same [] a (at r (2 + j)) i ∙ sym (has-kind-same sheet a (at r (2 + j)) i))
+  walked-sheet lost = refl
+  walked-sheet (says b) = refl
+  walked-sheet (stuck zero v i) = unmoved-sheet
+  walked-sheet (stuck (suc j) v i) = ap (stuckOf partial [] a (take start l) n r (suc j) v i) (has-kind-same [] a (at r (2 + suc j)) i ∙ sym (has-kind-same sheet a (at r (2 + suc j)) i))
 
   path-by : (s : Stage) → pathBy partial [] a l start n r s ≡ pathBy partial sheet a l start n r s
-  unfolding pathBy schemaIn tyIn envIn
-  path-by (Value v) = walked-sheet (take start l) (walkFrom (envIn partial [] a) (rowsIn (valueLines a)) (drop 3 (items r)) (at r 2) v 0)
+  unfolding pathBy envIn
+  path-by (Value v) = walked-sheet (walkFrom (envIn partial [] a) (rowsIn (valueLines a)) (drop 3 (items r)) (at r 2) v 0)
   path-by Error = refl
-  path-by Open = ap (λ (q : Option Bool). ruledOf a l start (at r 0) (errs (rowsOf a NODE) l (length l)) q (leftOf a l start n 0 (at r 0)))
-      (has-same [] a (at r 2) (wordAt l (length l) 3) ∙ sym (has-same sheet a (at r 2) (wordAt l (length l) 3)))
+  path-by Open = unmoved-sheet
 
   path-sheet : pathOf partial [] start n r (left a l) ≡ pathOf partial sheet start n r (left a l)
   unfolding pathOf

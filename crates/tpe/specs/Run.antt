@@ -9,14 +9,15 @@ use lib.ListN.{length, getD, take, drop}
 use lib.IntN.{ℤ, pos, negsuc}
 use Rattle.words.specs.Log.{appended}
 use Rattle.cedar.specs.Value.{onSome}
-use Rattle.cedar.specs.Types.{Ty, tbool, tent, Schema}
+use Rattle.cedar.specs.Types.{Ty, tbool, Schema}
 use Rattle.cedar.specs.Residual.{Un, unot, uneg, uempty, uis, ulike, Bin, beq, blt, ble, badd, bsub, bmul, bcontains, ball, bany, Rel, rin, rgettag, rhastag, Class, ctrue, cfalse, cerror, copen, truth}
+use Rattle.cedar.specs.Interpret.{alone}
 use Rattle.cedar.specs.TypeRules.{unRule, binRule, relRule, hasRule}
 use Rattle.cedar.specs.Rows.{Entries, stop, entry, Row, rbool, rlong, rtext, rent, rset, rrec}
 use Rattle.cedar.specs.Numbered.{Give, made, old, NEnv, rowAt, rBool, NOut, give, fails, stays, isSome, entryOf, nUn, nBin, nRel, onEntries, nGet, nHas}
-use Rattle.forms.specs.Tags.{ENTITY-TYPE, LONG-VALUE, TEXT-VALUE, SET-VALUE, RECORD-VALUE}
+use Rattle.forms.specs.Tags.{LONG-VALUE, TEXT-VALUE, SET-VALUE, RECORD-VALUE}
 use Rattle.sheet.specs.Bytes.{half}
-use Rattle.sheet.specs.Forms.{Mode, tag, items, at, firstNode, TYPE, NODE}
+use Rattle.sheet.specs.Forms.{Mode, tag, items, at, firstNode, TYPE, NODE, aloneRow}
 use Rattle.sheet.specs.Typing.{slotValue}
 use Rattle.sheet.specs.Content.{types, rowsIn, schema, nEnv, varOf, patternOf}
 use Rattle.table.specs.Layout.{RUN, rowsOf, held}
@@ -124,9 +125,9 @@ unfoldable pub walkFrom : NEnv → List Row → List ℕ → ℕ → ℕ → ℕ
 walkFrom N R [] t v j = onEntries N R lost (λ k i. stuck j v k) (rowAt R v) (λ e. says (isSome (entryOf t e)))
 walkFrom N R (u ∷ us) t v j = onEntries N R lost (λ k i. stuck j v k) (rowAt R v) (λ e. onSome (says false) (entryOf t e) (λ w. walkFrom N R us u w (suc j)))
 
--- the number of the type line `entity,k`
+-- the number of the type line `entity,k`, of kind k alone
 unfoldable pub entityType : List ℕ → ℕ → ℕ
-entityType a k = placeOf (ENTITY-TYPE ∷ k ∷ []) (rowsOf a TYPE)
+entityType a k = placeOf (aloneRow k) (rowsOf a TYPE)
 
 -- ---- children of sets and records
 
@@ -282,20 +283,26 @@ module _ (m : Mode) (sheet : List ℕ) where
       oneOf (hasRule (schemaIn (o .words)) (at r 2) (typeAt (o .words) (o .log) (length (o .log)))) (λ v. nHas (envIn (o .words)) (rowsIn (valueLines (o .words))) (at r 2) (valueIn (o .words) v))
       (o .words) (o .log) start n (at r 0)
 
+  -- a path left over with no step taken: the rule of its first step is asked of its operand's type, and the operand, the last block, stays
+  unfoldable pub unmovedOf : List ℕ → List ℕ → ℕ → ℕ → List ℕ → O
+  unmovedOf a l start n r = ruledOf a l start (at r 0) (errs (rowsOf a NODE) l (length l)) (hasRule (schemaIn a) (at r 2) (typeAt a l (length l))) (leftOf a l start n 0 (at r 0))
+
   -- a path stuck at value v, an entity of kind k, after j steps
   unfoldable pub stuckOf : List ℕ → List ℕ → ℕ → List ℕ → ℕ → ℕ → ℕ → Option Bool → O
   stuckOf a l n r j v k (some b) = madeOf a l (at r 0) (boolRow b)
   stuckOf a l n r j v k none = leftOf a (appended l (litRow v (entityType a k))) (length l) n j (at r 0)
 
-  unfoldable pub walkedOf : List ℕ → List ℕ → ℕ → List ℕ → Walk → O
-  walkedOf a l n r lost = errOf a l (at r 0)
-  walkedOf a l n r (says b) = madeOf a l (at r 0) (boolRow b)
-  walkedOf a l n r (stuck j v k) = stuckOf a l n r j v k (hasRule (schemaIn a) (at r (2 + j)) (tent k))
+  -- "with no step taken, the child keeps its own" type; "What is left over after a step has the single kind's type"
+  unfoldable pub walkedOf : List ℕ → List ℕ → ℕ → ℕ → List ℕ → Walk → O
+  walkedOf a l start n r lost = errOf a (take start l) (at r 0)
+  walkedOf a l start n r (says b) = madeOf a (take start l) (at r 0) (boolRow b)
+  walkedOf a l start n r (stuck zero v k) = unmovedOf a l start n r
+  walkedOf a l start n r (stuck (suc j) v k) = stuckOf a (take start l) n r (suc j) v k (hasRule (schemaIn a) (at r (2 + suc j)) (alone k))
 
   unfoldable pub pathBy : List ℕ → List ℕ → ℕ → ℕ → List ℕ → Stage → O
-  pathBy a l start n r (Value v) = walkedOf a (take start l) n r (walkFrom (envIn a) (rowsIn (valueLines a)) (drop 3 (items r)) (at r 2) v 0)
+  pathBy a l start n r (Value v) = walkedOf a l start n r (walkFrom (envIn a) (rowsIn (valueLines a)) (drop 3 (items r)) (at r 2) v 0)
   pathBy a l start n r Error = errOf a (take start l) (at r 0)
-  pathBy a l start n r Open = ruledOf a l start (at r 0) (errs (rowsOf a NODE) l (length l)) (hasRule (schemaIn a) (at r 2) (typeAt a l (length l))) (leftOf a l start n 0 (at r 0))
+  pathBy a l start n r Open = unmovedOf a l start n r
 
   unfoldable pub pathOf : ℕ → ℕ → List ℕ → O → O
   pathOf start n r o = pathBy (o .words) (o .log) start n r (stageAt (o .log) (length (o .log)))

@@ -76,10 +76,9 @@ ghost use mathlib.Core.List.{[]};
 ghost use Prim.Native.Nat.{_+_, _≤_, _<_};
 ghost use lib.ListN.{getD, take, drop, length};
 ghost use Rattle.words.specs.Log.{part, appended, Room};
-ghost use Rattle.forms.specs.Tags.{HAS};
 ghost use Rattle.sheet.specs.Forms.{partial, items, at, CONTEXT, NODE};
 ghost use Rattle.cedar.specs.Numbered.{stays};
-ghost use Rattle.cedar.specs.Types.{tent};
+ghost use Rattle.cedar.specs.Interpret.{alone};
 ghost use Rattle.cedar.specs.TypeRules.{hasRule};
 ghost use Rattle.sheet.specs.Content.{varOf, entityGiven, rowsIn};
 ghost use Rattle.table.specs.Layout.{rowsOf};
@@ -89,7 +88,7 @@ ghost use Rattle.residual.specs.Rows.{litRow, stageAt, wordAt};
 ghost use Rattle.residual.specs.Errs.{errs};
 ghost use Rattle.rules.specs.Rules.{ruleIn, schemaAt};
 ghost use Rattle.strict.specs.Gives.{outOf};
-ghost use Rattle.tpe.specs.Run.{left, leftOf, madeOf, settleOf, ruledOf, walkFrom, entityType, varFor, envIn, stuckOf, walkedOf, pathOf};
+ghost use Rattle.tpe.specs.Run.{left, leftOf, madeOf, settleOf, walkFrom, entityType, varFor, envIn, unmovedOf, stuckOf, walkedOf, pathOf};
 ghost use Rattle.tpe.specs.Leaves.{Leaves};
 ghost use Rattle.tpe.specs.Steps.{oneAt, twoAt, manyAt};
 ghost use Rattle.tpe.specs.Gives.{contextGiven, manyRow, oneGive, oneRule, twoGive, twoRule, outOne, outTwo, Tells, unlessErr, ruleOr, walkIn, Taken};
@@ -321,7 +320,7 @@ fn asked_one(sheet: &[u8], rows: &[u32], log: &[u32], top: usize, node: u32, tag
 
 // ---- a path
 
-// The number of the type line `entity,k`, or of all types where there is none.
+// The number of the type line of a kind alone, or of all types where there is none.
 fn entity_type(rows: &[u32], kind: u32) -> u32
     ensures { λ y. ⌜ y ≡ entityType (now (rows .entry)) kind ⌝ }
 {
@@ -395,7 +394,7 @@ fn stuck(
 ) -> usize
     requires { ⌜ Room (now log) start ⌝ }
     requires { ⌜ steps < 4294967294 ⌝ }
-    ensures { λ e. ⌜ Leaves start (now (rows .exit)) (now (log .exit)) e (stuckOf partial [] (now (rows .entry)) (take start (now (log .entry))) node (getD (rowsOf (now (rows .entry)) NODE) node []) steps value kind (hasRule (schemaAt (now (rows .entry))) (at (getD (rowsOf (now (rows .entry)) NODE) node []) (2 + steps)) (tent kind))) ⌝ }
+    ensures { λ e. ⌜ Leaves start (now (rows .exit)) (now (log .exit)) e (stuckOf partial [] (now (rows .entry)) (take start (now (log .entry))) node (getD (rowsOf (now (rows .entry)) NODE) node []) steps value kind (hasRule (schemaAt (now (rows .entry))) (at (getD (rowsOf (now (rows .entry)) NODE) node []) (2 + steps)) (alone kind))) ⌝ }
 {
     let r = row(rows, NODE, node);
     let ty = item(r, 1);
@@ -404,22 +403,6 @@ fn stuck(
         return push_rest(rows, log, start, node, ty, steps, value, kind);
     };
     give_bool(rows, log, start, x, ty)
-}
-
-// A path from a value on.
-fn path_from(rows: &mut [u32], log: &mut [u32], start: usize, node: u32, value: u32) -> usize
-    requires { ⌜ Room (now log) start ⌝ }
-    ensures { λ e. ⌜ Leaves start (now (rows .exit)) (now (log .exit)) e (walkedOf partial [] (now (rows .entry)) (take start (now (log .entry))) node (getD (rowsOf (now (rows .entry)) NODE) node []) (walkFrom (envIn partial [] (now (rows .entry))) (rowsIn (valueLines (now (rows .entry)))) (drop 3 (items (getD (rowsOf (now (rows .entry)) NODE) node []))) (at (getD (rowsOf (now (rows .entry)) NODE) node []) 2) value 0)) ⌝ }
-{
-    let ty = type_of(rows, node);
-    match walked(rows, node, value) {
-        Walked::Holds(x) => give_bool(rows, log, start, x, ty),
-        Walked::Fails => push_error(log, start, ty),
-        Walked::Left(w, k, j) => {
-            let i = taken(rows, node, j);
-            stuck(rows, log, start, node, i, w, k)
-        }
-    }
 }
 
 // What a rule says; a node stays where it says nothing.
@@ -432,15 +415,42 @@ fn said(rule: Rule) -> Given
     Given::Bool(x)
 }
 
-// A path from an open operand. The type rule of its first step decides where the operand cannot err.
-fn path_open(rows: &mut [u32], log: &mut [u32], start: usize, top: usize, node: u32) -> usize
+// A path of which no step is taken: its operand stays. The type rule of its first step decides where the operand cannot err.
+fn unmoved(rows: &mut [u32], log: &mut [u32], start: usize, top: usize, node: u32) -> usize
     requires { ⌜ Room (now log) top ⌝ }
     requires { ⌜ start ≤ top ⌝ }
-    ensures { λ e. ⌜ Leaves start (now (rows .exit)) (now (log .exit)) e (ruledOf (now (rows .entry)) (take top (now (log .entry))) start (at (getD (rowsOf (now (rows .entry)) NODE) node []) 0) (errs (rowsOf (now (rows .entry)) NODE) (now (log .entry)) top) (oneRule HAS (now (rows .entry)) (getD (rowsOf (now (rows .entry)) NODE) node []) (wordAt (now (log .entry)) top 3)) (leftOf (now (rows .entry)) (take top (now (log .entry))) start node 0 (at (getD (rowsOf (now (rows .entry)) NODE) node []) 0))) ⌝ }
+    ensures { λ e. ⌜ Leaves start (now (rows .exit)) (now (log .exit)) e (unmovedOf partial [] (now (rows .entry)) (take top (now (log .entry))) start node (getD (rowsOf (now (rows .entry)) NODE) node [])) ⌝ }
 {
     let given = said(ruled_one(rows, log, top, node, HAS));
     let ty = type_of(rows, node);
     settle(rows, log, start, top, node, ty, given)
+}
+
+// A path from a value on, its operand. With no step taken the operand keeps its own type.
+fn path_from(
+    rows: &mut [u32],
+    log: &mut [u32],
+    start: usize,
+    top: usize,
+    node: u32,
+    value: u32,
+) -> usize
+    requires { ⌜ Room (now log) top ⌝ }
+    requires { ⌜ start ≤ top ⌝ }
+    ensures { λ e. ⌜ Leaves start (now (rows .exit)) (now (log .exit)) e (walkedOf partial [] (now (rows .entry)) (take top (now (log .entry))) start node (getD (rowsOf (now (rows .entry)) NODE) node []) (walkFrom (envIn partial [] (now (rows .entry))) (rowsIn (valueLines (now (rows .entry)))) (drop 3 (items (getD (rowsOf (now (rows .entry)) NODE) node []))) (at (getD (rowsOf (now (rows .entry)) NODE) node []) 2) value 0)) ⌝ }
+{
+    let ty = type_of(rows, node);
+    match walked(rows, node, value) {
+        Walked::Holds(x) => give_bool(rows, log, start, x, ty),
+        Walked::Fails => push_error(log, start, ty),
+        Walked::Left(w, k, j) => {
+            if j == 0 {
+                return unmoved(rows, log, start, top, node);
+            }
+            let i = taken(rows, node, j);
+            stuck(rows, log, start, node, i, w, k)
+        }
+    }
 }
 
 // Whether a node has its path from its operand on.
@@ -450,9 +460,9 @@ fn path(rows: &mut [u32], log: &mut [u32], start: usize, top: usize, node: u32) 
     ensures { λ e. ⌜ Leaves start (now (rows .exit)) (now (log .exit)) e (pathOf partial [] start node (getD (rowsOf (now (rows .entry)) NODE) node []) (left (now (rows .entry)) (take top (now (log .entry))))) ⌝ }
 {
     match stage_at(log, top) {
-        Stage::Value(v) => path_from(rows, log, start, node, v),
+        Stage::Value(v) => path_from(rows, log, start, top, node, v),
         Stage::Error => push_error(log, start, type_of(rows, node)),
-        Stage::Open => path_open(rows, log, start, top, node),
+        Stage::Open => unmoved(rows, log, start, top, node),
     }
 }
 

@@ -4,19 +4,21 @@ use mathlib.Core.Bool.{Bool, true, false, not, _&&_, _||_}
 use mathlib.Core.List.{List, [], _∷_}
 use mathlib.Core.Option.{Option, none, some}
 use Prim.Native.Nat.{ℕ, zero, suc, _-_}
-use lib.Dec.{eqb}
+use borrow.Author.Tests.{le-leb}
+use lib.Dec.{leb, eqb}
 use lib.ListN.{getD, drop}
 use Rattle.cedar.specs.Value.{onSome}
 use Rattle.cedar.specs.Numbered.{rEnt, rSet, memN, pickN, entryOf, isSome}
+use Rattle.sheet.specs.Bytes.{same}
 use Rattle.sheet.specs.Forms.{tag, items, mark, firstType, firstNode, TYPE, SHAPE, VALUE, PRINCIPAL, ACTION, RESOURCE, NODE}
 use Rattle.sheet.specs.State.{State, count, Declared, TypeRow, bool, long, string, entity, set′, record′, declareds, typeRow, entriesOf, valueRow}
-use Rattle.sheet.specs.Typing.{onEntity, onSetOf, onRecord, isBool, isLong, isString, declaredIn, requiredThere, allIn, allEntries, entriesFit, attributes, targetKind, pathTyped, typeOfNode, tagsOf, isAction, noneDeclared, argTypes, shapeTyped, contextTyped, entityTyped, varTyped, boolAt, longIn, stringAt, entityAt, setAt, twoBools, compared, arithmetic, twoSets, rules, typed, fitsIn, nodesUnder, slotsFit, linkTyped}
+use Rattle.sheet.specs.Typing.{onEntity, onSetOf, onRecord, isBool, isLong, isString, declaredIn, requiredThere, allIn, allEntries, entriesFit, eachOf, isTarget, pathTyped, typeOfNode, tagsOf, isAction, noneDeclared, argTypes, shapeTyped, contextTyped, entityTyped, varTyped, boolAt, longIn, stringAt, entityAt, setAt, twoBools, compared, arithmetic, twoSets, rules, typed, fitsIn, nodesUnder, slotsFit, linkTyped}
 use Rattle.table.specs.Layout.{rowsOf, held, linesHeld}
 use Rattle.table.proofs.Rows.{count-rows}
 use Rattle.fits.specs.Fit.{full, hasIn, completeIn, declaredBy, Answered}
 use Rattle.fits.proofs.Sorts.{typeTable}
-use Rattle.typing.specs.Links.{Shown, slotFits, slotsFitIn, rootAt, linkRule}
-use Rattle.typing.specs.Rules.{BOOL-SORT, LONG-SORT, STRING-SORT, ENTITY-SORT, SET-SORT, sortNumber, sortAt, kindAt, elementAt, recordAt, attributeAt, bareAt, attributeTypeAt, tagTypeAt, isAboveAt, actionAt, attributesAt, targetAt, requestAt, nodeTypeAt, pathFrom, allOf, argsFit, childAt, twoSorts, threeSorts, requestIs, contextIsAt, varRule, eqRule, inRule, gettagRule, containsRule, twoSetsRule, ifRule, getRule, hasRule, haspathRule, setRule, recordRule, slotRule, nodeRules, nodeRule, shapeRule, contextRule, policyRule, attributesRule, tagsRule, ancestorRule, ancestorsRule, entityRule, typedRule, Typed}
+use Rattle.typing.specs.Links.{TYPES, Shown, slotFits, slotsFitIn, rootAt, linkRule}
+use Rattle.typing.specs.Rules.{BOOL-SORT, LONG-SORT, STRING-SORT, ENTITY-SORT, SET-SORT, sortNumber, sortAt, kindsAt, elementAt, recordAt, attributeAt, bareAt, attributeTypeAt, tagTypeAt, isAboveAt, actionAt, ofRecord, ofKind, eachAt, declaresAs, tagsAre, targetAt, requestAt, nodeTypeAt, pathFrom, pathAt, allOf, argsFit, childAt, twoSorts, threeSorts, requestIs, contextIsAt, varRule, eqRule, inRule, gettagRule, containsRule, twoSetsRule, ifRule, getRule, hasRule, haspathRule, setRule, recordRule, slotRule, nodeRules, nodeRule, shapeRule, contextRule, policyRule, attributesRule, tagsRule, ancestorRule, ancestorsRule, entityRule, typedRule, Typed}
 
 -- ---- tests on a type are tests on its sort
 
@@ -24,7 +26,7 @@ sort-bool : (T : TypeRow) → isBool T ≡ eqb (sortNumber T) BOOL-SORT
 sort-bool bool = refl
 sort-bool long = refl
 sort-bool string = refl
-sort-bool (entity k) = refl
+sort-bool (entity k ks) = refl
 sort-bool (set′ t) = refl
 sort-bool (record′ ds) = refl
 
@@ -32,7 +34,7 @@ sort-long : (T : TypeRow) → isLong T ≡ eqb (sortNumber T) LONG-SORT
 sort-long bool = refl
 sort-long long = refl
 sort-long string = refl
-sort-long (entity k) = refl
+sort-long (entity k ks) = refl
 sort-long (set′ t) = refl
 sort-long (record′ ds) = refl
 
@@ -40,7 +42,7 @@ sort-string : (T : TypeRow) → isString T ≡ eqb (sortNumber T) STRING-SORT
 sort-string bool = refl
 sort-string long = refl
 sort-string string = refl
-sort-string (entity k) = refl
+sort-string (entity k ks) = refl
 sort-string (set′ t) = refl
 sort-string (record′ ds) = refl
 
@@ -48,7 +50,7 @@ sort-entity : (T : TypeRow) → onEntity false T (λ k. true) ≡ eqb (sortNumbe
 sort-entity bool = refl
 sort-entity long = refl
 sort-entity string = refl
-sort-entity (entity k) = refl
+sort-entity (entity k ks) = refl
 sort-entity (set′ t) = refl
 sort-entity (record′ ds) = refl
 
@@ -56,54 +58,48 @@ sort-set : (T : TypeRow) → onSetOf false T (λ e. true) ≡ eqb (sortNumber T)
 sort-set bool = refl
 sort-set long = refl
 sort-set string = refl
-sort-set (entity k) = refl
+sort-set (entity k ks) = refl
 sort-set (set′ t) = refl
 sort-set (record′ ds) = refl
 
 -- ---- taking a type apart by its parts, if it has any
 
-on-kind : (T : TypeRow) (f : ℕ → Bool) → onEntity false T f ≡ onSome false (onEntity none T some) f
-on-kind bool f = refl
-on-kind long f = refl
-on-kind string f = refl
-on-kind (entity k) f = refl
-on-kind (set′ t) f = refl
-on-kind (record′ ds) f = refl
+on-kinds : (T : TypeRow) (f : List ℕ → Bool) → onEntity false T f ≡ onSome false (onEntity none T some) f
+on-kinds bool f = refl
+on-kinds long f = refl
+on-kinds string f = refl
+on-kinds (entity k ks) f = refl
+on-kinds (set′ t) f = refl
+on-kinds (record′ ds) f = refl
 
 on-element : (T : TypeRow) (f : ℕ → Bool) → onSetOf false T f ≡ onSome false (onSetOf none T some) f
 on-element bool f = refl
 on-element long f = refl
 on-element string f = refl
-on-element (entity k) f = refl
+on-element (entity k ks) f = refl
 on-element (set′ t) f = refl
 on-element (record′ ds) f = refl
 
-on-target : (T : TypeRow) (g : ℕ → Option ℕ) → onEntity (onSetOf none T g) T some ≡ onSome (onEntity none T some) (onSetOf none T some) g
+on-target : (T : TypeRow) (g : ℕ → Bool) → onEntity (onSetOf false T g) T (λ ks. true) ≡ onSome (eqb (sortNumber T) ENTITY-SORT) (onSetOf none T some) g
 on-target bool g = refl
 on-target long g = refl
 on-target string g = refl
-on-target (entity k) g = refl
+on-target (entity k ks) g = refl
 on-target (set′ t) g = refl
 on-target (record′ ds) g = refl
-
-some-true : (o : Option ℕ) → onSome false o (λ w. true) ≡ isSome o
-some-true none = refl
-some-true (some x) = refl
 
 some-const : (o : Option ℕ) (b : Bool) → onSome false o (λ w. b) ≡ (isSome o && b)
 some-const none b = refl
 some-const (some x) b = refl
 
--- attributes of an entity or record type, as far as a test sees them
-on-attributes : (T : TypeRow) (p : Option (List Declared)) (q : Option ℕ) (g : ℕ → Option (List Declared)) (h : ℕ → Option ℕ) (f : List Declared → Bool) (F : ℕ → Bool)
-    → onSome false p f ≡ onSome false q F → ((k : ℕ) → onSome false (g k) f ≡ onSome false (h k) F)
-    → onSome false (onEntity p T g) f ≡ onSome false (onSome q (onEntity none T some) h) F
-on-attributes bool p q g h f F e u = e
-on-attributes long p q g h f F e u = e
-on-attributes string p q g h f F e u = e
-on-attributes (entity k) p q g h f F e u = u k
-on-attributes (set′ t) p q g h f F e u = e
-on-attributes (record′ ds) p q g h f F e u = e
+-- a test of each kind of an entity type, or of a record type
+on-each : (T : TypeRow) {p q : Bool} {g h : ℕ → Bool} → p ≡ q → ((k : ℕ) → g k ≡ h k) → onEntity p T (allIn g) ≡ onSome q (onEntity none T some) (allIn h)
+on-each bool e u = e
+on-each long e u = e
+on-each string e u = e
+on-each (entity k ks) e u = λ i. allIn (λ l. u l i) (k ∷ ks)
+on-each (set′ t) e u = e
+on-each (record′ ds) e u = e
 
 -- a record type has the attributes of its row q; F: a test on the type's number, f: on its attributes
 module _ (q : List ℕ) (z : ℕ) (f : List Declared → Bool) (F : ℕ → Bool) (e : F z ≡ f (declareds (items q))) where
@@ -111,18 +107,6 @@ module _ (q : List ℕ) (z : ℕ) (f : List Declared → Bool) (F : ℕ → Bool
   on-record = go (tag q - firstType)
     where
       go : (j : ℕ) → onRecord false (getD (typeTable q) j bool) f ≡ onSome false (onRecord none (getD (typeTable q) j bool) (λ ds. some z)) F
-      go zero = refl
-      go (suc zero) = refl
-      go (suc (suc zero)) = refl
-      go (suc (suc (suc zero))) = refl
-      go (suc (suc (suc (suc zero)))) = refl
-      go (suc (suc (suc (suc (suc zero))))) = sym e
-      go (suc (suc (suc (suc (suc (suc j)))))) = refl
-
-  on-records : onSome false (onRecord none (typeRow q) some) f ≡ onSome false (onRecord none (typeRow q) (λ ds. some z)) F
-  on-records = go (tag q - firstType)
-    where
-      go : (j : ℕ) → onSome false (onRecord none (getD (typeTable q) j bool) some) f ≡ onSome false (onRecord none (getD (typeTable q) j bool) (λ ds. some z)) F
       go zero = refl
       go (suc zero) = refl
       go (suc (suc zero)) = refl
@@ -140,6 +124,10 @@ drop-two (x ∷ r) = refl
 pub drop-three : (r : List ℕ) → drop 2 (drop 1 r) ≡ drop 3 r
 drop-three [] = refl
 drop-three (x ∷ r) = refl
+
+drop-four : (r : List ℕ) → drop 3 (drop 1 r) ≡ drop 4 r
+drop-four [] = refl
+drop-four (x ∷ r) = refl
 
 pick-some : (b : Bool) (x y : ℕ) (o p : Option ℕ) → isSome o ≡ isSome p → isSome (pickN b x o) ≡ isSome (pickN b y p)
 pick-some true x y o p e = refl
@@ -165,24 +153,19 @@ module _ (sheet a c r : List ℕ) where
   abbrev D : ℕ → List Declared
   D y = declareds (items (getD (rowsOf a TYPE) y []))
 
-  attributes-as : (y : ℕ) (f : List Declared → Bool) → onSome false (attributes s y) f ≡ onSome false (attributesAt a y) (λ z. f (D z))
-  unfolding held linesHeld attributesAt recordAt kindAt attributeTypeAt
-  attributes-as y f = on-attributes (T y) (onRecord none (T y) some) (recordAt a y) (λ k. onRecord none (T (attributeTypeAt a k)) some) (λ k. recordAt a (attributeTypeAt a k)) f (λ z. f (D z))
-      (on-records (getD (rowsOf a TYPE) y []) y f (λ z. f (D z)) refl)
-      (λ k. on-records (getD (rowsOf a TYPE) (attributeTypeAt a k) []) (attributeTypeAt a k) f (λ z. f (D z)) refl)
+  each-as : (y : ℕ) (f : List Declared → Bool) → eachOf s y f ≡ eachAt a y (λ z. f (D z))
+  unfolding held linesHeld eachAt ofRecord ofKind recordAt kindsAt attributeTypeAt
+  each-as y f = on-each (T y) (on-record (getD (rowsOf a TYPE) y []) y f (λ z. f (D z)) refl)
+      (λ k. on-record (getD (rowsOf a TYPE) (attributeTypeAt a k) []) (attributeTypeAt a k) f (λ z. f (D z)) refl)
 
   record-as : (y : ℕ) (f : List Declared → Bool) → onRecord false (T y) f ≡ onSome false (recordAt a y) (λ z. f (D z))
   unfolding recordAt
   record-as y f = on-record (getD (rowsOf a TYPE) y []) y f (λ z. f (D z)) refl
 
-  path-as : (ts : List ℕ) (y : ℕ) → pathTyped s ts (D y) ≡ pathFrom a ts y
+  path-as : (us : List ℕ) (t y : ℕ) → pathTyped s us t y ≡ pathFrom a us t y
   unfolding pathFrom attributeAt declaredBy
-  path-as [] y = refl
-  path-as (t ∷ []) y = refl
-  path-as (t ∷ u ∷ us) y =
-      let e : (z : ℕ) → onSome false (attributes s z) (pathTyped s (u ∷ us)) ≡ onSome false (attributesAt a z) (pathFrom a (u ∷ us))
-      = λ z. attributes-as z (pathTyped s (u ∷ us)) ∙ (λ i. onSome false (attributesAt a z) (λ w. path-as (u ∷ us) w i)) in
-      λ i. onSome true (declaredIn t (D y)) (λ z. e z i)
+  path-as [] t y = each-as y (λ ds. true)
+  path-as (u ∷ us) t y = each-as y (λ ds. onSome true (declaredIn t ds) (pathTyped s us u)) ∙ (λ i. eachAt a y (λ z. onSome true (declaredIn t (D z)) (λ w. path-as us u w i)))
 
   arg-there : (t : ℕ) (l : List ℕ) → isSome (entryOf t (argTypes s r l)) ≡ isSome (entryOf t (entriesOf l))
   arg-there t [] = refl
@@ -213,23 +196,25 @@ module _ (sheet a c r : List ℕ) where
   sets-as = λ i. sort-bool (T own) i && sort-set (T (K 2)) i && eqb (K 2) (K 3)
 
   var-as : varTyped s own (getD r 2 0) ≡ varRule a r
-  unfolding held linesHeld varRule requestIs contextIsAt kindAt requestAt
+  unfolding held linesHeld varRule requestIs contextIsAt kindsAt requestAt
   var-as = λ i. getD (is PRINCIPAL i ∷ is ACTION i ∷ is RESOURCE i ∷ contextIsAt a r ∷ []) (getD r 2 0) (contextIsAt a r)
     where
-      is : (k : ℕ) → onEntity false (T own) (λ e. eqb e (getD (getD (rowsOf a k) 0 []) 1 0)) ≡ requestIs a r k
-      is k = on-kind (T own) (λ e. eqb e (getD (getD (rowsOf a k) 0 []) 1 0))
+      is : (k : ℕ) → onEntity false (T own) (λ ks. same ks (getD (getD (rowsOf a k) 0 []) 1 0 ∷ [])) ≡ requestIs a r k
+      is k = on-kinds (T own) (λ ks. same ks (getD (getD (rowsOf a k) 0 []) 1 0 ∷ []))
 
   eq-as : (boolAt s r own && (eqb (K 2) (K 3) || (entityAt s r (K 2) && entityAt s r (K 3)))) ≡ eqRule a r
   unfolding held linesHeld eqRule sortAt childAt nodeTypeAt
   eq-as = λ i. sort-bool (T own) i && (eqb (K 2) (K 3) || (sort-entity (T (K 2)) i && sort-entity (T (K 3)) i))
 
-  in-as : (boolAt s r own && entityAt s r (K 2) && isSome (targetKind s (K 3))) ≡ inRule a r
-  unfolding held linesHeld inRule twoSorts sortAt childAt nodeTypeAt targetAt kindAt elementAt
-  in-as = λ i. sort-bool (T own) i && sort-entity (T (K 2)) i && isSome (on-target (T (K 3)) (λ e. onEntity none (T e) some) i)
+  in-as : (boolAt s r own && entityAt s r (K 2) && isTarget s (K 3)) ≡ inRule a r
+  unfolding held linesHeld inRule twoSorts sortAt childAt nodeTypeAt targetAt elementAt
+  in-as =
+      let target : isTarget s (K 3) ≡ targetAt a (K 3) = on-target (T (K 3)) (λ e. onEntity false (T e) (λ ks. true)) ∙ (λ i. onSome (eqb (sortNumber (T (K 3))) ENTITY-SORT) (onSetOf none (T (K 3)) some) (λ e. sort-entity (T e) i)) in
+      λ i. sort-bool (T own) i && sort-entity (T (K 2)) i && target i
 
-  gettag-as : (stringAt s r (K 3) && onEntity false (T (K 2)) (λ k. eqb (tagsOf s k) own)) ≡ gettagRule a r
-  unfolding held linesHeld gettagRule sortAt childAt nodeTypeAt kindAt tagTypeAt
-  gettag-as = λ i. sort-string (T (K 3)) i && on-kind (T (K 2)) (λ k. eqb (tagTypeAt a k) own) i
+  gettag-as : (stringAt s r (K 3) && onEntity false (T (K 2)) (allIn (λ k. eqb (tagsOf s k) own))) ≡ gettagRule a r
+  unfolding held linesHeld gettagRule sortAt childAt nodeTypeAt kindsAt tagTypeAt tagsAre
+  gettag-as = λ i. sort-string (T (K 3)) i && on-kinds (T (K 2)) (allIn (λ k. eqb (tagTypeAt a k) own)) i
 
   hastag-as : (boolAt s r own && entityAt s r (K 2) && stringAt s r (K 3)) ≡ threeSorts a r BOOL-SORT ENTITY-SORT STRING-SORT
   unfolding held linesHeld threeSorts twoSorts sortAt childAt nodeTypeAt
@@ -263,22 +248,20 @@ module _ (sheet a c r : List ℕ) where
   unfolding held linesHeld twoSorts sortAt childAt nodeTypeAt
   empty-as = λ i. sort-bool (T own) i && sort-set (T (K 2)) i
 
-  get-as : onSome false (attributes s (K 2)) (λ ds. onSome false (declaredIn (getD r 3 0) ds) (eqb own)) ≡ getRule a r
-  unfolding getRule childAt nodeTypeAt attributeAt declaredBy
-  get-as = attributes-as (K 2) (λ ds. onSome false (declaredIn (getD r 3 0) ds) (eqb own))
+  get-as : eachOf s (K 2) (λ ds. onSome false (declaredIn (getD r 3 0) ds) (eqb own)) ≡ getRule a r
+  unfolding getRule childAt nodeTypeAt declaresAs attributeAt declaredBy
+  get-as = each-as (K 2) (λ ds. onSome false (declaredIn (getD r 3 0) ds) (eqb own))
 
-  has-as : (boolAt s r own && onSome false (attributes s (K 2)) (λ ds. true)) ≡ hasRule a r
+  has-as : (boolAt s r own && eachOf s (K 2) (λ ds. true)) ≡ hasRule a r
   unfolding held linesHeld hasRule sortAt childAt nodeTypeAt
-  has-as =
-      let e : onSome false (attributes s (K 2)) (λ ds. true) ≡ isSome (attributesAt a (K 2)) = attributes-as (K 2) (λ ds. true) ∙ some-true (attributesAt a (K 2)) in
-      λ i. sort-bool (T own) i && e i
+  has-as = λ i. sort-bool (T own) i && each-as (K 2) (λ ds. true) i
 
-  haspath-as : (boolAt s r own && onSome false (attributes s (K 2)) (pathTyped s (drop 2 (drop 1 r)))) ≡ haspathRule a r
-  unfolding held linesHeld haspathRule sortAt childAt nodeTypeAt
-  haspath-as =
-      let e : onSome false (attributes s (K 2)) (pathTyped s (drop 2 (drop 1 r))) ≡ onSome false (attributesAt a (K 2)) (pathFrom a (drop 3 r))
-      = attributes-as (K 2) (pathTyped s (drop 2 (drop 1 r))) ∙ (λ i. onSome false (attributesAt a (K 2)) (λ z. path-as (drop 2 (drop 1 r)) z i)) ∙ (λ i. onSome false (attributesAt a (K 2)) (pathFrom a (drop-three r i))) in
-      λ i. sort-bool (T own) i && e i
+  haspath-as : Shown a → (boolAt s r own && pathTyped s (drop 3 (drop 1 r)) (getD r 3 0) (K 2)) ≡ haspathRule a r
+  unfolding held linesHeld haspathRule pathAt sortAt childAt nodeTypeAt
+  haspath-as h =
+      let few : true ≡ leb (getD a TYPE 0) TYPES = sym (le-leb (getD a TYPE 0) TYPES (h .few)) in
+      let e : pathTyped s (drop 3 (drop 1 r)) (getD r 3 0) (K 2) ≡ pathFrom a (drop 4 r) (getD r 3 0) (K 2) = path-as (drop 3 (drop 1 r)) (getD r 3 0) (K 2) ∙ (λ i. pathFrom a (drop-four r i) (getD r 3 0) (K 2)) in
+      λ i. sort-bool (T own) i && (few i && e i)
 
   set-as : onSetOf false (T own) (λ e. allIn (λ n. eqb (typeOfNode s n) e) (drop 1 (drop 1 r))) ≡ setRule a r
   unfolding held linesHeld setRule allOf nodeTypeAt elementAt
@@ -295,9 +278,9 @@ module _ (sheet a c r : List ℕ) where
   unfolding held linesHeld slotRule sortAt
   slot-as = sort-entity (T own)
 
-  rules-as : rules s r ≡ nodeRules a r
+  rules-as : Shown a → rules s r ≡ nodeRules a r
   unfolding held linesHeld nodeRules full
-  rules-as = λ i.
+  rules-as h = λ i.
       fitsIn (rowsOf a VALUE) (rowsOf a TYPE) (getD r 2 0) own
       ∷ true
       ∷ var-as i
@@ -320,7 +303,7 @@ module _ (sheet a c r : List ℕ) where
       ∷ like-as i
       ∷ get-as i
       ∷ has-as i
-      ∷ haspath-as i
+      ∷ haspath-as h i
       ∷ not-as i
       ∷ neg-as i
       ∷ empty-as i
@@ -375,7 +358,7 @@ module _ (sheet a c r : List ℕ) where
       ∷ not (actionAt a own)
       ∷ context-as i
       ∷ true
-      ∷ getD (rules-as i) (tag r - firstNode) false
+      ∷ getD (rules-as h i) (tag r - firstNode) false
       ∷ sort-bool (T (K 3)) i
       ∷ link-as h i
       ∷ true

@@ -1,5 +1,5 @@
--- 64 levels show all nodes under a node, in every state that a reading reaches. Assumes nothing.
-use mathlib.Core.Path.{_≡_, refl, sym, ap, ap₂, _∙_}
+-- 64 levels show all nodes under a node, in every state that a reading reaches, and there are no more types than a sheet may have. Assumes nothing.
+use mathlib.Core.Path.{_≡_, refl, sym, ap, ap₂, subst, _∙_}
 use mathlib.Core.Bool.{Bool, cond}
 use mathlib.Core.List.{List, [], _∷_, _++_}
 use Prim.Native.Nat.{ℕ, zero, suc, _≤_, _<_}
@@ -10,13 +10,15 @@ use lib.Dec.{ltb}
 use lib.ListN.{getD}
 use lib.Seq.{take-length}
 use Rattle.cedar.proofs.TableLaws.{InN, now′, later′}
-use Rattle.sheet.specs.Forms.{Mode, refs, NODE}
+use Rattle.sheet.specs.Forms.{Mode, refs, TYPE, NODE}
 use Rattle.sheet.specs.State.{State, linesOf, lineAt, count, depthsOf}
 use Rattle.sheet.specs.Typing.{gathered, underFrom, nodesUnder}
 use Rattle.sheet.proofs.Under.{lower, under-lower, lower-is, lower-none}
-use Rattle.sheet.proofs.Depths.{Reached, Deep, Depths, reached-depths}
+use Rattle.sheet.proofs.Depths.{Reached, Deep, Depths, reached-depths, reached-history}
+use Rattle.sheet.proofs.Limits.{lines-at-most}
 use Rattle.table.specs.Layout.{linesHeld, held}
-use Rattle.typing.specs.Links.{seenBelow, seenFrom, Shown}
+use Rattle.table.proofs.Rows.{count-rows}
+use Rattle.typing.specs.Links.{TYPES, seenBelow, seenFrom, Shown}
 
 module _ (s : State) where
   -- nothing is under a node that is not there, and nothing is shown of it
@@ -58,10 +60,13 @@ module _ (s : State) where
         go (no a) ih = none-seen (suc d) n (omega (arith, a)) ∙ sym (none-under n (omega (arith, a)))
 
 -- so it is of the rows in words, where it is of the state that they hold
-pub shown-held : (sheet a b : List ℕ) → Depths (held sheet a b) → Shown a
+pub shown-held : (sheet a b : List ℕ) → count (held sheet a b) TYPE ≤ TYPES → Depths (held sheet a b) → Shown a
 unfolding held linesHeld
-shown-held sheet a b h = record { all = λ n. seen-all (held [] a []) (depthsOf (held sheet a b) NODE) (h .deep NODE) 64 n (h .deep NODE .low n) }
+shown-held sheet a b l h = record {
+  few = subst (λ (n : ℕ). n ≤ TYPES) (count-rows a TYPE) l;
+  all = λ n. seen-all (held [] a []) (depthsOf (held sheet a b) NODE) (h .deep NODE) 64 n (h .deep NODE .low n);
+}
 
 -- EVERY STATE REACHED
 pub shown-reached : {m : Mode} (sheet a b : List ℕ) → Reached m (held sheet a b) → Shown a
-shown-reached sheet a b r = shown-held sheet a b (reached-depths r)
+shown-reached {m} sheet a b r = shown-held sheet a b (lines-at-most m (held sheet a b) (reached-history r) TYPE) (reached-depths r)

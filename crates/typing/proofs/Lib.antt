@@ -1,4 +1,10 @@
 pub mod Typings
+pub mod KindWalks
+pub mod FirstBit
+pub mod PathSets
+pub mod KnownSets
+pub mod PlaceLaws
+pub mod PathLaws
 pub mod Rulings
 pub mod Operations
 pub mod KeyRules

@@ -10,14 +10,18 @@ use lib.Dec.{eqb}
 use lib.ListN.{length, getD, drop, drop-of-length-le, length-drop}
 use lib.Seq.{take-all}
 use Rattle.cedar.specs.Value.{onSome}
-use Rattle.sheet.specs.Forms.{TYPE, PRINCIPAL, ACTION, RESOURCE, CONTEXT}
-use Rattle.forms.specs.Tags.{PART-P, PART-A, PART-R}
+use Rattle.sheet.specs.Bytes.{same}
+use Rattle.sheet.specs.Forms.{tag, TYPE, PRINCIPAL, ACTION, RESOURCE, CONTEXT}
+use Rattle.sheet.specs.Typing.{allIn}
+use Rattle.forms.specs.Tags.{ENTITY-TYPE, PART-P, PART-A, PART-R}
 use Rattle.words.specs.Log.{part}
 use Rattle.table.specs.Layout.{rowsOf}
-use Rattle.fits.specs.Fit.{foundIn, completeIn}
+use Rattle.fits.specs.Fit.{kindsIn, foundIn, completeIn}
 use Rattle.fits.specs.declared.Found as F
 use Rattle.fits.proofs.Walks.{next, entries-end, entries-one, entries-on}
-use Rattle.typing.specs.Rules.{BOOL-SORT, STRING-SORT, ENTITY-SORT, SET-SORT, sortAt, kindAt, elementAt, recordAt, attributeAt, tagTypeAt, attributesAt, targetAt, requestAt, pathFrom, allOf, argsFit, childAt, twoSorts, threeSorts, requestIs, contextIsAt, varRule, eqRule, inRule, gettagRule, containsRule, twoSetsRule, ifRule, getRule, hasRule, haspathRule, setRule, recordRule, slotRule}
+use Rattle.typing.proofs.Typings.{kinds-is, kinds-not}
+use Rattle.typing.proofs.KindWalks.{each-kinds, each-record}
+use Rattle.typing.specs.Rules.{always, BOOL-SORT, STRING-SORT, ENTITY-SORT, SET-SORT, sortAt, elementAt, recordAt, attributeAt, targetAt, requestAt, ofRecord, ofKind, declaresAs, tagsAre, pathAt, allOf, argsFit, childAt, twoSorts, threeSorts, requestIs, contextIsAt, varRule, eqRule, inRule, gettagRule, containsRule, twoSetsRule, ifRule, getRule, hasRule, haspathRule, setRule, recordRule, slotRule}
 
 -- ---- sorts
 
@@ -41,13 +45,33 @@ module _ (a r : List ℕ) (i j : ℕ) where
 -- ---- variables
 
 module _ (a r : List ℕ) where
-  pub request-no : (k o : ℕ) (f : F.Found) → o ≡ getD r 1 0 → foundIn f ≡ kindAt a o → f ≡ F.the-variants.Undeclared → false ≡ requestIs a r k
-  unfolding requestIs
-  request-no k o f eo ef h = let e : kindAt a o ≡ none = sym ef ∙ ap foundIn h in rw (← eo, e)
+  module _ (k o t : ℕ) (q : List ℕ) (eo : o ≡ getD r 1 0) (eq : q ≡ getD (rowsOf a TYPE) o []) (et : t ≡ tag q) where
+    pub request-no : (t ≡ ENTITY-TYPE → ⊥) → false ≡ requestIs a r k
+    unfolding requestIs
+    request-no h = rw (← eo, kinds-not a q o t eq et h)
 
-  pub request-yes : (k o e q : ℕ) (f : F.Found) → o ≡ getD r 1 0 → foundIn f ≡ kindAt a o → f ≡ F.the-variants.As e → q ≡ requestAt a k → eqb e q ≡ requestIs a r k
-  unfolding requestIs
-  request-yes k o e q f eo ef h eq = let s : kindAt a o ≡ some e = sym ef ∙ ap foundIn h in rw (← eo, s, ← eq)
+    module _ (h : t ≡ ENTITY-TYPE) where
+      pub request-group : 2 < length q → false ≡ requestIs a r k
+      unfolding requestIs
+      request-group l = rw (← eo, kinds-is a q o t eq et h) (more (getD q 1 0) (requestAt a k) q l)
+        where
+          more : (x y : ℕ) (q : List ℕ) → 2 < length q → false ≡ (eqb x y && same (drop 2 q) [])
+          more x y [] l = absurd (omega arith)
+          more x y (u ∷ []) l = absurd (omega arith)
+          more x y (u ∷ v ∷ []) l = absurd (omega arith)
+          more x y (u ∷ v ∷ z ∷ q) l = no (eqb x y)
+            where
+              no : (b : Bool) → false ≡ (b && false)
+              no true = refl
+              no false = refl
+
+      pub request-yes : (e x : ℕ) → length q ≤ 2 → e ≡ getD q 1 0 → x ≡ requestAt a k → eqb e x ≡ requestIs a r k
+      unfolding requestIs
+      request-yes e x l ee ex = rw (← eo, kinds-is a q o t eq et h, drop-of-length-le q l, ← ee, ← ex) (one (eqb e x))
+        where
+          one : (b : Bool) → b ≡ (b && true)
+          one true = refl
+          one false = refl
 
   pub var-principal : (x : ℕ) (b : Bool) → x ≡ getD r 2 0 → x ≡ PART-P → b ≡ requestIs a r PRINCIPAL → b ≡ varRule a r
   unfolding varRule
@@ -100,14 +124,9 @@ module _ (a r : List ℕ) where
     unfolding inRule
     in-no h = rw (← eb, not-true b h)
 
-    module _ (c : ℕ) (f : F.Found) (h : not b ≡ false) (ec : c ≡ childAt a r 3) (ef : foundIn f ≡ targetAt a c) where
-      pub in-none : f ≡ F.the-variants.Undeclared → false ≡ inRule a r
-      unfolding inRule
-      in-none g = let e : targetAt a c ≡ none = sym ef ∙ ap foundIn g in rw (← eb, not-false b h, ← ec, e)
-
-      pub in-some : (k : ℕ) → f ≡ F.the-variants.As k → true ≡ inRule a r
-      unfolding inRule
-      in-some k g = let e : targetAt a c ≡ some k = sym ef ∙ ap foundIn g in rw (← eb, not-false b h, ← ec, e)
+    pub in-yes : (c : ℕ) (d : Bool) → not b ≡ false → c ≡ childAt a r 3 → d ≡ targetAt a c → d ≡ inRule a r
+    unfolding inRule
+    in-yes c d h ec ed = rw (← eb, not-false b h, ← ec) ed
 
   -- ---- `gettag`
 
@@ -116,14 +135,14 @@ module _ (a r : List ℕ) where
     unfolding gettagRule
     gettag-no h = rw (← ec, ← es, ne-eqb s STRING-SORT h)
 
-    module _ (x : ℕ) (f : F.Found) (h : s ≡ STRING-SORT) (ex : x ≡ childAt a r 2) (ef : foundIn f ≡ kindAt a x) where
-      pub gettag-none : f ≡ F.the-variants.Undeclared → false ≡ gettagRule a r
+    module _ (x t : ℕ) (q : List ℕ) (h : s ≡ STRING-SORT) (ex : x ≡ childAt a r 2) (eq : q ≡ getD (rowsOf a TYPE) x []) (et : t ≡ tag q) where
+      pub gettag-none : (t ≡ ENTITY-TYPE → ⊥) → false ≡ gettagRule a r
       unfolding gettagRule
-      gettag-none g = let e : kindAt a x ≡ none = sym ef ∙ ap foundIn g in rw (← ec, ← es, eq-eqb s STRING-SORT h, ← ex, e)
+      gettag-none n = rw (← ec, ← es, eq-eqb s STRING-SORT h, ← ex, kinds-not a q x t eq et n)
 
-      pub gettag-some : (k t o : ℕ) → f ≡ F.the-variants.As k → t ≡ tagTypeAt a k → o ≡ getD r 1 0 → eqb t o ≡ gettagRule a r
+      pub gettag-some : (o : ℕ) (b : Bool) → t ≡ ENTITY-TYPE → o ≡ getD r 1 0 → b ≡ allIn (tagsAre a o) (kindsIn q) → b ≡ gettagRule a r
       unfolding gettagRule
-      gettag-some k t o g et eo = let e : kindAt a x ≡ some k = sym ef ∙ ap foundIn g in rw (← ec, ← es, eq-eqb s STRING-SORT h, ← ex, e, ← et, ← eo)
+      gettag-some o b n eo eb = rw (← ec, ← es, eq-eqb s STRING-SORT h, ← ex, kinds-is a q x t eq et n, ← eo) eb
 
   -- ---- `contains`
 
@@ -167,25 +186,14 @@ module _ (a r : List ℕ) where
 
   -- ---- `get`
 
-  module _ (x : ℕ) (f : F.Found) (ex : x ≡ childAt a r 2) (ef : foundIn f ≡ attributesAt a x) where
-    pub get-none : f ≡ F.the-variants.Undeclared → false ≡ getRule a r
+  module _ (x t : ℕ) (q : List ℕ) (ex : x ≡ childAt a r 2) (eq : q ≡ getD (rowsOf a TYPE) x []) (et : t ≡ tag q) (u o : ℕ) (b : Bool) (eu : u ≡ getD r 3 0) (eo : o ≡ getD r 1 0) where
+    pub get-kinds : t ≡ ENTITY-TYPE → b ≡ allIn (ofKind a (declaresAs a u o)) (kindsIn q) → b ≡ getRule a r
     unfolding getRule
-    get-none g = let e : attributesAt a x ≡ none = sym ef ∙ ap foundIn g in rw (← ex, e)
+    get-kinds h eb = rw (← ex, ← eu, ← eo, each-kinds a q x t eq et (declaresAs a u o) h) eb
 
-    module _ (y t : ℕ) (d : F.Found) (g : f ≡ F.the-variants.As y) (et : t ≡ getD r 3 0) (ed : foundIn d ≡ attributeAt a y t) where
-      pub get-undeclared : d ≡ F.the-variants.Undeclared → false ≡ getRule a r
-      unfolding getRule
-      get-undeclared h =
-          let e : attributesAt a x ≡ some y = sym ef ∙ ap foundIn g in
-          let q : attributeAt a y t ≡ none = sym ed ∙ ap foundIn h in
-          rw (← ex, e, ← et, q)
-
-      pub get-declared : (z o : ℕ) → d ≡ F.the-variants.As z → o ≡ getD r 1 0 → eqb o z ≡ getRule a r
-      unfolding getRule
-      get-declared z o h eo =
-          let e : attributesAt a x ≡ some y = sym ef ∙ ap foundIn g in
-          let q : attributeAt a y t ≡ some z = sym ed ∙ ap foundIn h in
-          rw (← ex, e, ← et, q, ← eo)
+    pub get-record : (t ≡ ENTITY-TYPE → ⊥) → b ≡ ofRecord a (declaresAs a u o) x → b ≡ getRule a r
+    unfolding getRule
+    get-record h eb = rw (← ex, ← eu, ← eo, each-record a q x t eq et (declaresAs a u o) h) eb
 
   -- ---- `has`, `haspath`
 
@@ -198,66 +206,40 @@ module _ (a r : List ℕ) where
     unfolding haspathRule
     haspath-no h = rw (← eo, ← es, ne-eqb s BOOL-SORT h)
 
-    module _ (x : ℕ) (f : F.Found) (h : s ≡ BOOL-SORT) (ex : x ≡ childAt a r 2) (ef : foundIn f ≡ attributesAt a x) where
-      pub has-none : f ≡ F.the-variants.Undeclared → false ≡ hasRule a r
+    module _ (x t : ℕ) (q : List ℕ) (b : Bool) (h : s ≡ BOOL-SORT) (ex : x ≡ childAt a r 2) (eq : q ≡ getD (rowsOf a TYPE) x []) (et : t ≡ tag q) where
+      pub has-kinds : t ≡ ENTITY-TYPE → b ≡ allIn (ofKind a always) (kindsIn q) → b ≡ hasRule a r
       unfolding hasRule
-      has-none g = let e : attributesAt a x ≡ none = sym ef ∙ ap foundIn g in rw (← eo, ← es, eq-eqb s BOOL-SORT h, ← ex, e)
+      has-kinds n eb = rw (← eo, ← es, eq-eqb s BOOL-SORT h, ← ex, each-kinds a q x t eq et always n) eb
 
-      pub has-some : (y : ℕ) → f ≡ F.the-variants.As y → true ≡ hasRule a r
+      pub has-record : (t ≡ ENTITY-TYPE → ⊥) → b ≡ ofRecord a always x → b ≡ hasRule a r
       unfolding hasRule
-      has-some y g = let e : attributesAt a x ≡ some y = sym ef ∙ ap foundIn g in rw (← eo, ← es, eq-eqb s BOOL-SORT h, ← ex, e)
+      has-record n eb = rw (← eo, ← es, eq-eqb s BOOL-SORT h, ← ex, each-record a q x t eq et always n) eb
 
-      pub haspath-none : f ≡ F.the-variants.Undeclared → false ≡ haspathRule a r
-      unfolding haspathRule
-      haspath-none g = let e : attributesAt a x ≡ none = sym ef ∙ ap foundIn g in rw (← eo, ← es, eq-eqb s BOOL-SORT h, ← ex, e)
+    pub haspath-is : (x : ℕ) (b : Bool) → s ≡ BOOL-SORT → x ≡ childAt a r 2 → b ≡ pathAt a r x → b ≡ haspathRule a r
+    unfolding haspathRule
+    haspath-is x b h ex eb = rw (← eo, ← es, eq-eqb s BOOL-SORT h, ← ex) eb
 
-      pub haspath-some : (y : ℕ) (b : Bool) → f ≡ F.the-variants.As y → b ≡ pathFrom a (drop 3 r) y → b ≡ haspathRule a r
-      unfolding haspathRule
-      haspath-some y b g eb = let e : attributesAt a x ≡ some y = sym ef ∙ ap foundIn g in rw (← eo, ← es, eq-eqb s BOOL-SORT h, ← ex, e) eb
+-- ---- what a record type declares
 
--- ---- the walk of a path
+module _ (a : List ℕ) (z t o : ℕ) (f : F.Found) (ef : foundIn f ≡ recordAt a z) where
+  pub declares-none : f ≡ F.the-variants.Undeclared → false ≡ ofRecord a (declaresAs a t o) z
+  unfolding ofRecord
+  declares-none h = let e : recordAt a z ≡ none = sym ef ∙ ap foundIn h in rw e
 
--- what is left of the path, from word i and record type z on, decides the whole
-pub record Path (a r : List ℕ) (y z i : ℕ) : Type 0 where
-  pub left : pathFrom a (drop 3 r) y ≡ pathFrom a (drop i r) z
+  module _ (y : ℕ) (g : F.Found) (h : f ≡ F.the-variants.As y) (eg : foundIn g ≡ attributeAt a y t) where
+    pub declares-not : g ≡ F.the-variants.Undeclared → false ≡ ofRecord a (declaresAs a t o) z
+    unfolding ofRecord declaresAs
+    declares-not k =
+        let e : recordAt a z ≡ some y = sym ef ∙ ap foundIn h in
+        let d : attributeAt a y t ≡ none = sym eg ∙ ap foundIn k in
+        rw (e, d)
 
-pub path-start : (a r : List ℕ) (y : ℕ) → Path a r y y 3
-path-start a r y = record { left = refl }
-
-module _ (a r : List ℕ) (y z i : ℕ) (w : Path a r y z i) where
-  pub path-end : length r ≤ i → true ≡ pathFrom a (drop 3 r) y
-  unfolding pathFrom
-  path-end h = sym (w .left ∙ rw (drop-of-length-le r h))
-
-  module _ (l : i < length r) where
-    pub path-last : i + 1 ≡ length r → true ≡ pathFrom a (drop 3 r) y
-    unfolding pathFrom
-    path-last e =
-        let h : length r ≤ i + 1 = omega arith in
-        sym (w .left ∙ rw (next r i l, drop-of-length-le r h))
-
-    module _ (n : i + 1 ≡ length r → ⊥) (t : ℕ) (f : F.Found) (et : t ≡ getD r i 0) (ef : foundIn f ≡ attributeAt a z t) where
-      path-step : pathFrom a (drop i r) z ≡ onSome true (attributeAt a z t) (λ x. onSome false (attributesAt a x) (pathFrom a (drop (i + 1) r)))
-      unfolding pathFrom
-      path-step =
-          let k : i + 1 < length r = omega arith in
-          rw (next r i l, next r (i + 1) k, ← et)
-
-      pub path-free : f ≡ F.the-variants.Undeclared → true ≡ pathFrom a (drop 3 r) y
-      path-free h = let e : attributeAt a z t ≡ none = sym ef ∙ ap foundIn h in sym (w .left ∙ path-step ∙ rw e)
-
-      module _ (x : ℕ) (g : F.Found) (h : f ≡ F.the-variants.As x) (eg : foundIn g ≡ attributesAt a x) where
-        pub path-off : g ≡ F.the-variants.Undeclared → false ≡ pathFrom a (drop 3 r) y
-        path-off k =
-            let e : attributeAt a z t ≡ some x = sym ef ∙ ap foundIn h in
-            let q : attributesAt a x ≡ none = sym eg ∙ ap foundIn k in
-            sym (w .left ∙ path-step ∙ rw (e, q))
-
-        pub path-on : (v : ℕ) → g ≡ F.the-variants.As v → Path a r y v (i + 1)
-        path-on v k =
-            let e : attributeAt a z t ≡ some x = sym ef ∙ ap foundIn h in
-            let q : attributesAt a x ≡ some v = sym eg ∙ ap foundIn k in
-            record { left = w .left ∙ path-step ∙ rw (e, q) }
+    pub declares-some : (x : ℕ) → g ≡ F.the-variants.As x → eqb o x ≡ ofRecord a (declaresAs a t o) z
+    unfolding ofRecord declaresAs
+    declares-some x k =
+        let e : recordAt a z ≡ some y = sym ef ∙ ap foundIn h in
+        let d : attributeAt a y t ≡ some x = sym eg ∙ ap foundIn k in
+        rw (e, d)
 
 -- ---- sets
 

@@ -1,24 +1,26 @@
 -- Types, shapes, kinds and the request by their numbers: one law for each answer.
 use mathlib.Core.Path.{_≡_, refl, sym, ap, _∙_}
-use mathlib.Core.Bool.{true, false}
+use mathlib.Core.Bool.{Bool, true, false}
 use mathlib.Core.List.{List, [], _∷_}
 use mathlib.Core.Option.{none, some}
 use Prim.Native.Nat.{ℕ, zero, suc, _+_, _-_, _≤_, _<_}
 use native.Mathlib.Omega.{arith}
-use borrow.Author.Tests.{eq-eqb, ne-eqb, le-ltb}
+use borrow.Author.Tests.{eq-eqb, ne-eqb, eqb-true, eqb-false, le-ltb}
 use lib.Dec.{eqb, ltb}
 use lib.ListN.{length, getD, drop, drop-of-length-le}
+use Rattle.cedar.specs.Value.{onSome}
 use Rattle.cedar.specs.Numbered.{memN}
 use Rattle.sheet.specs.Forms.{tag, firstType, KIND, TYPE, SHAPE, NODE}
 use Rattle.forms.specs.Tags.{LONG-TYPE, ENTITY-TYPE, SET-TYPE, RECORD-TYPE, OF-ACTIONS}
 use Rattle.sheet.specs.State.{Declared, TypeRow, bool, long, string, entity, set′, record′, declareds, typeRow}
 use Rattle.sheet.specs.Typing.{onEntity, onSetOf, onRecord, noneDeclared}
 use Rattle.table.specs.Layout.{rowsOf}
-use Rattle.fits.specs.Fit.{declaredBy, foundIn}
+use Rattle.fits.specs.Fit.{kindsIn, declaredBy, foundIn}
 use Rattle.fits.specs.declared.Found as F
+use Rattle.fits.proofs.KindLaws.{items-two}
 use Rattle.fits.proofs.Walks.{next}
 use Rattle.fits.proofs.Sorts.{typeTable}
-use Rattle.typing.specs.Rules.{BOOL-SORT, ENTITY-SORT, SET-SORT, RECORD-SORT, sortNumber, sortAt, kindAt, elementAt, recordAt, attributeAt, bareAt, attributeTypeAt, tagTypeAt, isAboveAt, actionAt, attributesAt, targetAt, requestAt, nodeTypeAt, childAt}
+use Rattle.typing.specs.Rules.{always, BOOL-SORT, ENTITY-SORT, SET-SORT, RECORD-SORT, sortNumber, sortAt, kindsAt, elementAt, recordAt, attributeAt, bareAt, attributeTypeAt, tagTypeAt, isAboveAt, actionAt, ofRecord, targetAt, requestAt, nodeTypeAt, childAt}
 
 -- ---- the sort of a type's row
 
@@ -67,11 +69,11 @@ tag-sort q n h = go (tag q - firstType) refl h
     go (suc (suc (suc (suc (suc (suc j)))))) e h = absurd (omega arith)
 
 module _ {A : Type 0} (d : A) where
-  not-entity : (T : TypeRow) (f : ℕ → A) → (sortNumber T ≡ ENTITY-SORT → ⊥) → onEntity d T f ≡ d
+  not-entity : (T : TypeRow) (f : List ℕ → A) → (sortNumber T ≡ ENTITY-SORT → ⊥) → onEntity d T f ≡ d
   not-entity bool f h = refl
   not-entity long f h = refl
   not-entity string f h = refl
-  not-entity (entity k) f h = absurd (h refl)
+  not-entity (entity k ks) f h = absurd (h refl)
   not-entity (set′ t) f h = refl
   not-entity (record′ ds) f h = refl
 
@@ -79,7 +81,7 @@ module _ {A : Type 0} (d : A) where
   not-set bool f h = refl
   not-set long f h = refl
   not-set string f h = refl
-  not-set (entity k) f h = refl
+  not-set (entity k ks) f h = refl
   not-set (set′ t) f h = absurd (h refl)
   not-set (record′ ds) f h = refl
 
@@ -87,18 +89,18 @@ module _ {A : Type 0} (d : A) where
   not-record bool f h = refl
   not-record long f h = refl
   not-record string f h = refl
-  not-record (entity k) f h = refl
+  not-record (entity k ks) f h = refl
   not-record (set′ t) f h = refl
   not-record (record′ ds) f h = absurd (h refl)
 
 module _ (a q : List ℕ) (y k : ℕ) (eq : q ≡ getD (rowsOf a TYPE) y []) (ek : k ≡ tag q) where
-  pub kind-is : (x : ℕ) → k ≡ ENTITY-TYPE → x ≡ getD q 1 0 → foundIn (F.the-variants.As x) ≡ kindAt a y
-  unfolding kindAt
-  kind-is x h ex = let e : tag q ≡ ENTITY-TYPE = sym ek ∙ h in rw (← eq, e, ex)
+  pub kinds-is : k ≡ ENTITY-TYPE → kindsAt a y ≡ some (kindsIn q)
+  unfolding kindsAt
+  kinds-is h = let e : tag q ≡ ENTITY-TYPE = sym ek ∙ h in rw (← eq, e, items-two q)
 
-  pub kind-not : (k ≡ ENTITY-TYPE → ⊥) → foundIn F.the-variants.Undeclared ≡ kindAt a y
-  unfolding kindAt
-  kind-not h = let e : onEntity none (typeRow q) some ≡ none = not-entity none (typeRow q) some (λ s. h (ek ∙ tag-sort q (ENTITY-TYPE - LONG-TYPE) s)) in rw (← eq, e)
+  pub kinds-not : (k ≡ ENTITY-TYPE → ⊥) → kindsAt a y ≡ none
+  unfolding kindsAt
+  kinds-not h = rw (← eq) (not-entity none (typeRow q) some (λ s. h (ek ∙ tag-sort q (ENTITY-TYPE - LONG-TYPE) s)))
 
   pub element-is : (x : ℕ) → k ≡ SET-TYPE → x ≡ getD q 1 0 → foundIn (F.the-variants.As x) ≡ elementAt a y
   unfolding elementAt
@@ -115,6 +117,14 @@ module _ (a q : List ℕ) (y k : ℕ) (eq : q ≡ getD (rowsOf a TYPE) y []) (ek
   pub record-not : (k ≡ RECORD-TYPE → ⊥) → foundIn F.the-variants.Undeclared ≡ recordAt a y
   unfolding recordAt
   record-not h = let e : onRecord none (typeRow q) (λ ds. some y) ≡ none = not-record none (typeRow q) (λ ds. some y) (λ s. h (ek ∙ tag-sort q (RECORD-TYPE - LONG-TYPE) s)) in rw (← eq, e)
+
+  pub record-test : eqb k RECORD-TYPE ≡ ofRecord a always y
+  unfolding ofRecord
+  record-test = go (eqb k RECORD-TYPE) refl
+    where
+      go : (t : Bool) → eqb k RECORD-TYPE ≡ t → t ≡ onSome false (recordAt a y) always
+      go true e = rw (← record-is (eqb-true k RECORD-TYPE e))
+      go false e = rw (← record-not (eqb-false k RECORD-TYPE e))
 
 -- ---- parts of a row
 
@@ -178,21 +188,13 @@ module _ (a q : List ℕ) (k l i : ℕ) (w : Above a q k l i) where
     pub above-on : (x ≡ l → ⊥) → Above a q k l (i + 1)
     above-on e = record { left = w .left ∙ rw (next q i h, ← ex, ne-eqb l x (λ z. e (sym z))) }
 
--- ---- attributes, targets
+-- ---- targets
 
-module _ (a : List ℕ) (y : ℕ) (f : F.Found) where
-  pub attributes-none : (g : F.Found) → foundIn f ≡ kindAt a y → f ≡ F.the-variants.Undeclared → foundIn g ≡ recordAt a y → foundIn g ≡ attributesAt a y
-  unfolding attributesAt
-  attributes-none g ef h eg = let e : kindAt a y ≡ none = sym ef ∙ ap foundIn h in rw e eg
-
-  pub attributes-some : (g : F.Found) (k z : ℕ) → foundIn f ≡ kindAt a y → f ≡ F.the-variants.As k → z ≡ attributeTypeAt a k → foundIn g ≡ recordAt a z → foundIn g ≡ attributesAt a y
-  unfolding attributesAt
-  attributes-some g k z ef h ez eg = let e : kindAt a y ≡ some k = sym ef ∙ ap foundIn h in rw (e, ← ez) eg
-
-  pub target-none : (g : F.Found) → foundIn f ≡ elementAt a y → f ≡ F.the-variants.Undeclared → foundIn g ≡ kindAt a y → foundIn g ≡ targetAt a y
+module _ (a : List ℕ) (y : ℕ) (f : F.Found) (ef : foundIn f ≡ elementAt a y) where
+  pub target-none : (s : ℕ) → f ≡ F.the-variants.Undeclared → s ≡ sortAt a y → eqb s ENTITY-SORT ≡ targetAt a y
   unfolding targetAt
-  target-none g ef h eg = let e : elementAt a y ≡ none = sym ef ∙ ap foundIn h in rw e eg
+  target-none s h es = let e : elementAt a y ≡ none = sym ef ∙ ap foundIn h in rw (e, es)
 
-  pub target-some : (g : F.Found) (z : ℕ) → foundIn f ≡ elementAt a y → f ≡ F.the-variants.As z → foundIn g ≡ kindAt a z → foundIn g ≡ targetAt a y
+  pub target-some : (s z : ℕ) → f ≡ F.the-variants.As z → s ≡ sortAt a z → eqb s ENTITY-SORT ≡ targetAt a y
   unfolding targetAt
-  target-some g z ef h eg = let e : elementAt a y ≡ some z = sym ef ∙ ap foundIn h in rw e eg
+  target-some s z h es = let e : elementAt a y ≡ some z = sym ef ∙ ap foundIn h in rw (e, es)

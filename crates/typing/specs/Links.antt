@@ -3,14 +3,18 @@
 use mathlib.Core.Path.{_≡_}
 use mathlib.Core.Bool.{Bool, true, cond, _&&_, _||_, not}
 use mathlib.Core.List.{List, [], _∷_, _++_}
-use Prim.Native.Nat.{ℕ, zero, suc}
+use Prim.Native.Nat.{ℕ, zero, suc, _≤_}
 use lib.Dec.{eqb, ltb}
 use lib.ListN.{length, getD}
-use Rattle.sheet.specs.Forms.{at, keep, refs, NODE, POLICY}
+use Rattle.sheet.specs.Forms.{at, keep, refs, TYPE, NODE, POLICY}
 use Rattle.sheet.specs.Typing.{nodesUnder, isSlot, slotValue}
 use Rattle.forms.specs.Rows.{OF-NODE}
 use Rattle.table.specs.Layout.{rowsOf, held}
 use Rattle.fits.specs.Fit.{full}
+
+-- a sheet has no more types
+abbrev pub TYPES : ℕ
+TYPES = 128
 
 -- what f shows of the nodes l that stand before node n
 unfoldable pub seenBelow : (ℕ → List (List ℕ)) → ℕ → List ℕ → List (List ℕ)
@@ -26,8 +30,9 @@ unfoldable pub seenFrom : List (List ℕ) → ℕ → ℕ → List (List ℕ)
 seenFrom rows zero n = []
 seenFrom rows (suc d) n = cond (ltb n (length rows)) (getD rows n [] ∷ seenBelow (seenFrom rows d) n (refs NODE (getD rows n []))) []
 
--- 64 levels show all
+-- 64 levels show all, and there are no more types than a sheet may have
 pub record Shown (a : List ℕ) : Type 0 where
+  pub few : getD a TYPE 0 ≤ TYPES
   pub all : (n : ℕ) → seenFrom (rowsOf a NODE) 64 n ≡ nodesUnder (held [] a []) n
 
 module _ (a : List ℕ) (p q : ℕ) where

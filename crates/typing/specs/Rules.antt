@@ -5,17 +5,22 @@ use mathlib.Core.Bool.{Bool, true, false, cond, _&&_, _||_, not}
 use mathlib.Core.Option.{Option, none, some}
 use mathlib.Core.List.{List, [], _∷_}
 use Prim.Native.Nat.{ℕ, _-_}
-use lib.Dec.{eqb}
+use lib.Dec.{leb, eqb}
 use lib.ListN.{getD, drop}
 use Rattle.cedar.specs.Value.{onSome}
 use Rattle.cedar.specs.Numbered.{rEnt, rSet, rRec, memN, isSome}
+use Rattle.sheet.specs.Bytes.{same}
 use Rattle.sheet.specs.Forms.{tag, items, mark, firstType, firstNode, KIND, TYPE, SHAPE, VALUE, PRINCIPAL, ACTION, RESOURCE, CONTEXT, NODE}
 use Rattle.sheet.specs.State.{TypeRow, bool, long, string, entity, set′, record′, declareds, typeRow, entriesOf, valueRow}
 use Rattle.sheet.specs.Typing.{onEntity, onSetOf, onRecord, allIn, allEntries, noneDeclared, isStop, typed}
 use Rattle.forms.specs.Tags.{LONG-TYPE, STRING-TYPE, ENTITY-TYPE, SET-TYPE, RECORD-TYPE, OF-ACTIONS}
 use Rattle.table.specs.Layout.{rowsOf, held, TYPEDEPTHS}
 use Rattle.fits.specs.Fit.{SettledIn, Known, full, completeIn, declaredBy}
-use Rattle.typing.specs.Links.{Shown, linkRule}
+use Rattle.typing.specs.Links.{TYPES, Shown, linkRule}
+
+-- a test that everything passes
+abbrev pub always : ℕ → Bool
+always x = true
 
 -- ---- types, by their numbers
 
@@ -42,7 +47,7 @@ abbrev pub sortNumber : TypeRow → ℕ
 sortNumber bool = BOOL-SORT
 sortNumber long = LONG-SORT
 sortNumber string = STRING-SORT
-sortNumber (entity k) = ENTITY-SORT
+sortNumber (entity k ks) = ENTITY-SORT
 sortNumber (set′ t) = SET-SORT
 sortNumber (record′ ds) = RECORD-SORT
 
@@ -50,9 +55,9 @@ module _ (a : List ℕ) where
   unfoldable pub sortAt : ℕ → ℕ
   sortAt y = sortNumber (typeRow (getD (rowsOf a TYPE) y []))
 
-  -- the kind of an entity type, the type of a set's elements, and a record type itself
-  unfoldable pub kindAt : ℕ → Option ℕ
-  kindAt y = onEntity none (typeRow (getD (rowsOf a TYPE) y [])) some
+  -- the kinds of an entity type, the type of a set's elements, and a record type itself
+  unfoldable pub kindsAt : ℕ → Option (List ℕ)
+  kindsAt y = onEntity none (typeRow (getD (rowsOf a TYPE) y [])) some
 
   unfoldable pub elementAt : ℕ → Option ℕ
   elementAt y = onSetOf none (typeRow (getD (rowsOf a TYPE) y [])) some
@@ -81,13 +86,27 @@ module _ (a : List ℕ) where
   unfoldable pub actionAt : ℕ → Bool
   actionAt k = eqb (getD (getD (rowsOf a KIND) k []) 2 0) OF-ACTIONS
 
-  -- the record type of the attributes of an entity or record type
-  unfoldable pub attributesAt : ℕ → Option ℕ
-  attributesAt y = onSome (recordAt y) (kindAt y) (λ k. recordAt (attributeTypeAt k))
+  -- f of record type y, and of the record type of kind k's attributes; false where that is no record type
+  unfoldable pub ofRecord : (ℕ → Bool) → ℕ → Bool
+  ofRecord f y = onSome false (recordAt y) f
 
-  -- the kind of an entity or set of entities
-  unfoldable pub targetAt : ℕ → Option ℕ
-  targetAt y = onSome (kindAt y) (elementAt y) kindAt
+  unfoldable pub ofKind : (ℕ → Bool) → ℕ → Bool
+  ofKind f k = ofRecord f (attributeTypeAt k)
+
+  -- f of the record type of each kind of entity type y, or of record type y; false of other types
+  unfoldable pub eachAt : ℕ → (ℕ → Bool) → Bool
+  eachAt y f = onSome (ofRecord f y) (kindsAt y) (allIn (ofKind f))
+
+  -- record type y declares type o for attribute t; the type of kind k's tags is o
+  unfoldable pub declaresAs : ℕ → ℕ → ℕ → Bool
+  declaresAs t o y = onSome false (attributeAt y t) (eqb o)
+
+  unfoldable pub tagsAre : ℕ → ℕ → Bool
+  tagsAre o k = eqb (tagTypeAt k) o
+
+  -- an entity or set of entities
+  unfoldable pub targetAt : ℕ → Bool
+  targetAt y = onSome (eqb (sortAt y) ENTITY-SORT) (elementAt y) (λ e. eqb (sortAt e) ENTITY-SORT)
 
   -- the kind or type that a line of the request names
   unfoldable pub requestAt : ℕ → ℕ
@@ -98,11 +117,14 @@ module _ (a : List ℕ) where
 
   -- ---- walks
 
-  -- "each step but the last being one while declared, and free after an undeclared step", from record type y
-  unfoldable pub pathFrom : List ℕ → ℕ → Bool
-  pathFrom [] y = true
-  pathFrom (t ∷ []) y = true
-  pathFrom (t ∷ u ∷ us) y = onSome true (attributeAt y t) (λ z. onSome false (attributesAt z) (pathFrom (u ∷ us)))
+  -- "A `haspath` step before the last must be an entity or record in each kind or record reached that declares it", from type y
+  unfoldable pub pathFrom : List ℕ → ℕ → ℕ → Bool
+  pathFrom [] t y = eachAt y always
+  pathFrom (u ∷ us) t y = eachAt y (λ z. onSome true (attributeAt z t) (pathFrom us u))
+
+  -- the same for a row's steps, where no more types are there than a sheet may have
+  unfoldable pub pathAt : List ℕ → ℕ → Bool
+  pathAt r y = leb (getD a TYPE 0) TYPES && pathFrom (drop 4 r) (getD r 3 0) y
 
   -- the nodes l have type e
   unfoldable pub allOf : List ℕ → ℕ → Bool
@@ -127,7 +149,7 @@ module _ (a r : List ℕ) where
   threeSorts i j k = twoSorts i j && eqb (sortAt a (childAt 3)) k
 
   unfoldable pub requestIs : ℕ → Bool
-  requestIs k = onSome false (kindAt a (getD r 1 0)) (λ e. eqb e (requestAt a k))
+  requestIs k = onSome false (kindsAt a (getD r 1 0)) (λ ks. same ks (requestAt a k ∷ []))
 
   unfoldable pub contextIsAt : Bool
   contextIsAt = eqb (getD r 1 0) (requestAt a CONTEXT)
@@ -139,10 +161,10 @@ module _ (a r : List ℕ) where
   eqRule = eqb (sortAt a (getD r 1 0)) BOOL-SORT && (eqb (childAt 2) (childAt 3) || (eqb (sortAt a (childAt 2)) ENTITY-SORT && eqb (sortAt a (childAt 3)) ENTITY-SORT))
 
   unfoldable pub inRule : Bool
-  inRule = twoSorts BOOL-SORT ENTITY-SORT && isSome (targetAt a (childAt 3))
+  inRule = twoSorts BOOL-SORT ENTITY-SORT && targetAt a (childAt 3)
 
   unfoldable pub gettagRule : Bool
-  gettagRule = eqb (sortAt a (childAt 3)) STRING-SORT && onSome false (kindAt a (childAt 2)) (λ k. eqb (tagTypeAt a k) (getD r 1 0))
+  gettagRule = eqb (sortAt a (childAt 3)) STRING-SORT && onSome false (kindsAt a (childAt 2)) (allIn (tagsAre a (getD r 1 0)))
 
   unfoldable pub containsRule : Bool
   containsRule = eqb (sortAt a (getD r 1 0)) BOOL-SORT && onSome false (elementAt a (childAt 2)) (λ e. eqb e (childAt 3))
@@ -154,13 +176,13 @@ module _ (a r : List ℕ) where
   ifRule = eqb (sortAt a (childAt 2)) BOOL-SORT && eqb (childAt 3) (getD r 1 0) && eqb (childAt 4) (getD r 1 0)
 
   unfoldable pub getRule : Bool
-  getRule = onSome false (attributesAt a (childAt 2)) (λ y. onSome false (attributeAt a y (getD r 3 0)) (eqb (getD r 1 0)))
+  getRule = eachAt a (childAt 2) (declaresAs a (getD r 3 0) (getD r 1 0))
 
   unfoldable pub hasRule : Bool
-  hasRule = eqb (sortAt a (getD r 1 0)) BOOL-SORT && isSome (attributesAt a (childAt 2))
+  hasRule = eqb (sortAt a (getD r 1 0)) BOOL-SORT && eachAt a (childAt 2) always
 
   unfoldable pub haspathRule : Bool
-  haspathRule = eqb (sortAt a (getD r 1 0)) BOOL-SORT && onSome false (attributesAt a (childAt 2)) (pathFrom a (drop 3 r))
+  haspathRule = eqb (sortAt a (getD r 1 0)) BOOL-SORT && pathAt a r (childAt 2)
 
   unfoldable pub setRule : Bool
   setRule = onSome false (elementAt a (getD r 1 0)) (allOf a (drop 2 r))
@@ -262,7 +284,7 @@ module _ (a : List ℕ) where
 -- ---- the promise
 
 -- the answer is that of the state that the words hold, whatever the sheet's bytes, depths and uses are, wherever the whole depth is enough, for values
--- and for the nodes under a node
+-- and for the nodes under a node, and there are no more types than a sheet may have
 pub record Typed (a m n r : List ℕ) (k : ℕ) (b : Bool) : Type 0 where
   pub is : (sheet c : List ℕ) → SettledIn a → Shown a → b ≡ typed (held sheet a c) r k
   pub known : Known a n

@@ -2,4 +2,5 @@
 pub mod lines;
 pub mod links;
 pub mod nodes;
+pub mod paths;
 pub mod types;

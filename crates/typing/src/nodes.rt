@@ -1,20 +1,22 @@
 // The typing of nodes: one rule for each operation.
+use crate::paths::path_typed;
 use crate::types::BOOL_SORT;
 use crate::types::ENTITY_SORT;
 use crate::types::LONG_SORT;
 use crate::types::SET_SORT;
 use crate::types::STRING_SORT;
 use crate::types::attribute;
-use crate::types::attributes;
+use crate::types::attribute_type;
 use crate::types::element_of;
-use crate::types::kind_of;
+use crate::types::is_record;
+use crate::types::is_target;
 use crate::types::record_of;
 use crate::types::request;
 use crate::types::sort;
 use crate::types::tag_type;
-use crate::types::target;
 use fits::Found;
 use fits::complete;
+use fits::kinds_end;
 use fits::value_fits;
 use forms::ACTION;
 use forms::ADD;
@@ -24,6 +26,7 @@ use forms::ANY;
 use forms::CONTAINS;
 use forms::CONTEXT;
 use forms::EMPTY;
+use forms::ENTITY_TYPE;
 use forms::EQ;
 use forms::ERR;
 use forms::GET;
@@ -63,10 +66,15 @@ ghost use Prim.Native.Nat.{_-_, _≤_};
 ghost use lib.ListN.{drop};
 ghost use Rattle.sheet.specs.Forms.{tag, firstNode};
 ghost use Rattle.forms.specs.Tags.{ERR, CONTAINS, ALL, SLOT};
-ghost use Rattle.fits.specs.Fit.{Known, Answered};
+ghost use Rattle.sheet.specs.Typing.{allIn};
+ghost use Rattle.fits.specs.Fit.{kindsIn, Known, Answered};
 ghost use Rattle.typing.specs.Rules.{
+  always,
   nodeTypeAt,
-  pathFrom,
+  ofRecord,
+  ofKind,
+  declaresAs,
+  tagsAre,
   allOf,
   argsFit,
   childAt,
@@ -127,15 +135,18 @@ fn three_sorts(rows: &[u32], line: &[u32], own: u32, first: u32, second: u32) ->
 
 // ---- variables
 
-// Whether the node's type is an entity of the kind that a line of the request names.
+// Whether the node's type is that of the one kind that a line of the request names.
 fn request_is(rows: &[u32], line: &[u32], key: usize) -> bool
     ensures { λ b. ⌜ b ≡ requestIs (now (rows .entry)) (now (line .entry)) key ⌝ }
 {
-    let f = kind_of(rows, item(line, 1));
-    let Found::As(e) = f else {
+    let q = row(rows, TYPE, item(line, 1));
+    if tag(q) != ENTITY_TYPE {
         return false;
-    };
-    e == request(rows, key)
+    }
+    if q.len() > 2 {
+        return false;
+    }
+    item(q, 1) == request(rows, key)
 }
 
 fn var_typed(rows: &[u32], line: &[u32]) -> bool
@@ -174,10 +185,21 @@ fn in_typed(rows: &[u32], line: &[u32]) -> bool
     if !two_sorts(rows, line, BOOL_SORT, ENTITY_SORT) {
         return false;
     }
-    let f = target(rows, child(rows, line, 3));
-    let Found::As(_) = f else {
-        return false;
-    };
+    is_target(rows, child(rows, line, 3))
+}
+
+// Whether the tags of each kind of an entity type's row have this type.
+fn kinds_tags_are(rows: &[u32], type_row: &[u32], ty: u32) -> bool
+    ensures { λ b. ⌜ b ≡ allIn (tagsAre (now (rows .entry)) ty) (kindsIn (now («type_row» .entry))) ⌝ }
+{
+    let end = kinds_end(type_row);
+    let mut i: usize = 1;
+    while i < end {
+        if tag_type(rows, item(type_row, i)) != ty {
+            return false;
+        }
+        i += 1;
+    }
     true
 }
 
@@ -187,11 +209,11 @@ fn gettag_typed(rows: &[u32], line: &[u32]) -> bool
     if sort(rows, child(rows, line, 3)) != STRING_SORT {
         return false;
     }
-    let f = kind_of(rows, child(rows, line, 2));
-    let Found::As(k) = f else {
+    let q = row(rows, TYPE, child(rows, line, 2));
+    if tag(q) != ENTITY_TYPE {
         return false;
-    };
-    tag_type(rows, k) == item(line, 1)
+    }
+    kinds_tags_are(rows, q, item(line, 1))
 }
 
 fn contains_typed(rows: &[u32], line: &[u32]) -> bool
@@ -231,18 +253,60 @@ fn if_typed(rows: &[u32], line: &[u32]) -> bool
 
 // ---- attributes
 
-fn get_typed(rows: &[u32], line: &[u32]) -> bool
-    ensures { λ b. ⌜ b ≡ getRule (now (rows .entry)) (now (line .entry)) ⌝ }
+// Whether a type is a record type that declares type `own` for an attribute.
+fn declares(rows: &[u32], ty: u32, text: u32, own: u32) -> bool
+    ensures { λ b. ⌜ b ≡ ofRecord (now (rows .entry)) (declaresAs (now (rows .entry)) text own) ty ⌝ }
 {
-    let f = attributes(rows, child(rows, line, 2));
+    let f = record_of(rows, ty);
     let Found::As(y) = f else {
         return false;
     };
-    let g = attribute(rows, y, item(line, 3));
+    let g = attribute(rows, y, text);
     let Found::As(z) = g else {
         return false;
     };
-    item(line, 1) == z
+    own == z
+}
+
+// The same of each kind of an entity type's row.
+fn kinds_declare(rows: &[u32], type_row: &[u32], text: u32, own: u32) -> bool
+    ensures { λ b. ⌜ b ≡ allIn (ofKind (now (rows .entry)) (declaresAs (now (rows .entry)) text own)) (kindsIn (now («type_row» .entry))) ⌝ }
+{
+    let end = kinds_end(type_row);
+    let mut i: usize = 1;
+    while i < end {
+        if !declares(rows, attribute_type(rows, item(type_row, i)), text, own) {
+            return false;
+        }
+        i += 1;
+    }
+    true
+}
+
+fn get_typed(rows: &[u32], line: &[u32]) -> bool
+    ensures { λ b. ⌜ b ≡ getRule (now (rows .entry)) (now (line .entry)) ⌝ }
+{
+    let y = child(rows, line, 2);
+    let q = row(rows, TYPE, y);
+    if tag(q) == ENTITY_TYPE {
+        return kinds_declare(rows, q, item(line, 3), item(line, 1));
+    }
+    declares(rows, y, item(line, 3), item(line, 1))
+}
+
+// Whether the attributes of each kind of an entity type's row have a record type.
+fn kinds_have(rows: &[u32], type_row: &[u32]) -> bool
+    ensures { λ b. ⌜ b ≡ allIn (ofKind (now (rows .entry)) always) (kindsIn (now («type_row» .entry))) ⌝ }
+{
+    let end = kinds_end(type_row);
+    let mut i: usize = 1;
+    while i < end {
+        if !is_record(rows, attribute_type(rows, item(type_row, i))) {
+            return false;
+        }
+        i += 1;
+    }
+    true
 }
 
 fn has_typed(rows: &[u32], line: &[u32]) -> bool
@@ -251,37 +315,12 @@ fn has_typed(rows: &[u32], line: &[u32]) -> bool
     if sort(rows, item(line, 1)) != BOOL_SORT {
         return false;
     }
-    let f = attributes(rows, child(rows, line, 2));
-    let Found::As(_) = f else {
-        return false;
-    };
-    true
-}
-
-// The steps of a path, from a record type on: an undeclared one leaves the rest free.
-fn path_typed(rows: &[u32], line: &[u32], ty: u32) -> bool
-    ensures { λ b. ⌜ b ≡ pathFrom (now (rows .entry)) (drop 3 (now (line .entry))) ty ⌝ }
-{
-    let mut z = ty;
-    let mut i: usize = 3;
-    loop {
-        if i >= line.len() {
-            break true;
-        }
-        if i + 1 == line.len() {
-            break true;
-        }
-        let f = attribute(rows, z, item(line, i));
-        let Found::As(t) = f else {
-            break true;
-        };
-        let g = attributes(rows, t);
-        let Found::As(next) = g else {
-            break false;
-        };
-        z = next;
-        i += 1;
+    let y = child(rows, line, 2);
+    let q = row(rows, TYPE, y);
+    if tag(q) == ENTITY_TYPE {
+        return kinds_have(rows, q);
     }
+    is_record(rows, y)
 }
 
 fn haspath_typed(rows: &[u32], line: &[u32]) -> bool
@@ -290,11 +329,7 @@ fn haspath_typed(rows: &[u32], line: &[u32]) -> bool
     if sort(rows, item(line, 1)) != BOOL_SORT {
         return false;
     }
-    let f = attributes(rows, child(rows, line, 2));
-    let Found::As(y) = f else {
-        return false;
-    };
-    path_typed(rows, line, y)
+    path_typed(rows, line, child(rows, line, 2))
 }
 
 // ---- sets and records

@@ -17,8 +17,8 @@ use table::tag;
 ghost use mathlib.Core.Path.{_≡_};
 ghost use Rattle.fits.specs.Fit.{foundIn};
 ghost use Rattle.typing.specs.Rules.{
+  always,
   sortAt,
-  kindAt,
   elementAt,
   recordAt,
   attributeAt,
@@ -27,7 +27,7 @@ ghost use Rattle.typing.specs.Rules.{
   tagTypeAt,
   isAboveAt,
   actionAt,
-  attributesAt,
+  ofRecord,
   targetAt,
   requestAt,
 };
@@ -58,17 +58,6 @@ pub fn sort(rows: &[u32], ty: u32) -> u32
     k - BOOL_TYPE
 }
 
-// The kind of an entity type.
-pub fn kind_of(rows: &[u32], ty: u32) -> Found
-    ensures { λ f. ⌜ foundIn f ≡ kindAt (now (rows .entry)) ty ⌝ }
-{
-    let q = row(rows, TYPE, ty);
-    if tag(q) == ENTITY_TYPE {
-        return Found::As(item(q, 1));
-    }
-    Found::Undeclared
-}
-
 // The type of a set's elements.
 pub fn element_of(rows: &[u32], ty: u32) -> Found
     ensures { λ f. ⌜ foundIn f ≡ elementAt (now (rows .entry)) ty ⌝ }
@@ -89,6 +78,14 @@ pub fn record_of(rows: &[u32], ty: u32) -> Found
         return Found::As(ty);
     }
     Found::Undeclared
+}
+
+// Whether a type is a record type.
+pub fn is_record(rows: &[u32], ty: u32) -> bool
+    ensures { λ b. ⌜ b ≡ ofRecord (now (rows .entry)) always ty ⌝ }
+{
+    let q = row(rows, TYPE, ty);
+    tag(q) == RECORD_TYPE
 }
 
 // The type that a record type declares for an attribute.
@@ -145,26 +142,15 @@ pub fn is_action(rows: &[u32], kind: u32) -> bool
     item(q, 2) == OF_ACTIONS
 }
 
-// The record type of the attributes of an entity or record type.
-pub fn attributes(rows: &[u32], ty: u32) -> Found
-    ensures { λ f. ⌜ foundIn f ≡ attributesAt (now (rows .entry)) ty ⌝ }
-{
-    let f = kind_of(rows, ty);
-    let Found::As(k) = f else {
-        return record_of(rows, ty);
-    };
-    record_of(rows, attribute_type(rows, k))
-}
-
-// The kind of an entity or set of entities.
-pub fn target(rows: &[u32], ty: u32) -> Found
-    ensures { λ f. ⌜ foundIn f ≡ targetAt (now (rows .entry)) ty ⌝ }
+// Whether a type is an entity or set of entities.
+pub fn is_target(rows: &[u32], ty: u32) -> bool
+    ensures { λ b. ⌜ b ≡ targetAt (now (rows .entry)) ty ⌝ }
 {
     let f = element_of(rows, ty);
     let Found::As(e) = f else {
-        return kind_of(rows, ty);
+        return sort(rows, ty) == ENTITY_SORT;
     };
-    kind_of(rows, e)
+    sort(rows, e) == ENTITY_SORT
 }
 
 // The kind or type that a line of the request names.

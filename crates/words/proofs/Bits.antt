@@ -1,18 +1,20 @@
 -- The bits of a word, and a set of numbers in words. Assumes nothing.
 use mathlib.Core.Path.{_≡_, refl, sym, ap, _∙_}
-use mathlib.Core.Bool.{Bool, true, false, cond}
+use mathlib.Core.Bool.{Bool, true, false, cond, _||_}
 use mathlib.Core.Logic.{_⊎_, inl, inr, ⊎-elim}
-use mathlib.Core.List.{List}
+use mathlib.Core.List.{List, [], _∷_, _++_, append-assoc, append-nil}
 use Prim.Native.Nat.{ℕ, zero, suc, _+_, _*_, _/_, _%_, _^_, _≤_, _<_}
 use native.Mathlib.Nat.{div-div-eq-div-mul, mul-comm, pow-suc, one-mul}
+use native.Mathlib.Numerals.{add-one}
 use native.Mathlib.Omega.{arith}
 use native.Mathlib.Decide.{decLt}
 use borrow.Author.Tests.{eqb-true, eqb-false, eq-eqb}
+use lib.Bits.{bitOr, or-shr, or-mod}
 use lib.Dec.{eqb}
-use lib.ListN.{length, getD, set, length-set}
-use lib.Seq.{set-out, getD-set-same, getD-set-other}
+use lib.ListN.{length, getD, take, drop, set, length-set, drop-of-length-le, take-append-drop}
+use lib.Seq.{set-out, getD-set-same, getD-set-other, drop-cons, take-all, take-suc-set, drop-set-lt}
 use lib.Pow.{shl-exact}
-use Rattle.words.specs.Bits.{bit, member, added, Added}
+use Rattle.words.specs.Bits.{bit, member, added, Added, joined}
 
 -- ---- bits
 
@@ -171,3 +173,68 @@ length-added w p = go (member w p)
     go : (t : Bool) → length (cond t w (set w (p / 32) (getD w (p / 32) 0 + 2 ^ (p % 32)))) ≡ length w
     go true = refl
     go false = length-set w (p / 32) (getD w (p / 32) 0 + 2 ^ (p % 32))
+
+-- ---- the union of two sets
+
+odd-or : (m n : ℕ) → m < 2 → n < 2 → eqb (bitOr m n) 1 ≡ (eqb m 1 || eqb n 1)
+odd-or zero n l h = refl
+odd-or (suc zero) zero l h = refl
+odd-or (suc zero) (suc zero) l h = refl
+odd-or (suc zero) (suc (suc n)) l h = absurd (omega arith)
+odd-or (suc (suc m)) n l h = absurd (omega arith)
+
+bit-or : (s x y : ℕ) → bit s (bitOr x y) ≡ (bit s x || bit s y)
+unfolding bit
+bit-or s x y =
+    ap (λ (m : ℕ). eqb (m % 2) 1) (or-shr x y s)
+    ∙ ap (λ (m : ℕ). eqb m 1) (or-mod (x / 2 ^ s) (y / 2 ^ s) 1)
+    ∙ odd-or (x / 2 ^ s % 2) (y / 2 ^ s % 2) (omega arith) (omega arith)
+
+joined-at : (w v : List ℕ) (i : ℕ) → length w ≡ length v → getD (joined w v) i 0 ≡ bitOr (getD w i 0) (getD v i 0)
+unfolding joined
+joined-at [] [] i e = refl
+joined-at [] (y ∷ v) i e = absurd (omega arith)
+joined-at (x ∷ w) [] i e = absurd (omega arith)
+joined-at (x ∷ w) (y ∷ v) zero e = refl
+joined-at (x ∷ w) (y ∷ v) (suc i) e = joined-at w v i (omega arith)
+
+pub member-joined : (w v : List ℕ) (p : ℕ) → length w ≡ length v → member (joined w v) p ≡ (member w p || member v p)
+unfolding member
+member-joined w v p e = ap (bit (p % 32)) (joined-at w v (p / 32) e) ∙ bit-or (p % 32) (getD w (p / 32) 0) (getD v (p / 32) 0)
+
+pub length-joined : (w v : List ℕ) → length (joined w v) ≡ length w
+unfolding joined
+length-joined [] v = refl
+length-joined (x ∷ w) [] = refl
+length-joined (x ∷ w) (y ∷ v) = ap suc (length-joined w v)
+
+joined-none : (w : List ℕ) → joined w [] ≡ w
+unfolding joined
+joined-none [] = refl
+joined-none (x ∷ w) = refl
+
+-- where joining stands: the words of w below i are done, the others are left
+pub record Joining (w₀ v w : List ℕ) (i : ℕ) : Type 0 where
+  pub long : length w ≡ length w₀
+  pub left : joined w₀ v ≡ take i w ++ joined (drop i w) (drop i v)
+
+pub joining-start : (w v : List ℕ) → Joining w v w 0
+joining-start w v = record { long = refl; left = refl }
+
+module _ (w₀ v w : List ℕ) (i : ℕ) (s : Joining w₀ v w i) where
+  pub joining-on : i < length w → i < length v → Joining w₀ v (set w i (bitOr (getD w i 0) (getD v i 0))) (i + 1)
+  unfolding joined
+  joining-on h l =
+      record {
+        long = length-set w i (bitOr (getD w i 0) (getD v i 0)) ∙ s .long;
+        left = s .left
+            ∙ rw (drop-cons w i 0 h, drop-cons v i 0 l, add-one i, take-suc-set w i (bitOr (getD w i 0) (getD v i 0)) h, drop-set-lt (suc i) w i (bitOr (getD w i 0) (getD v i 0)) (omega arith))
+            (sym (append-assoc (take i w) (bitOr (getD w i 0) (getD v i 0) ∷ []) (joined (drop (suc i) w) (drop (suc i) v))));
+      }
+
+  pub joining-full : length v ≤ i → w ≡ joined w₀ v
+  joining-full h = sym (s .left ∙ rw (drop-of-length-le v h, joined-none (drop i w)) (take-append-drop i w))
+
+  pub joining-end : length w ≤ i → w ≡ joined w₀ v
+  unfolding joined
+  joining-end h = sym (s .left ∙ rw (drop-of-length-le w h, append-nil) (take-all i w h))

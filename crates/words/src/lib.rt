@@ -8,7 +8,7 @@ ghost use Prim.Native.Nat.{_%_, _^_};
 ghost use lib.ListN.{getD, take, set};
 ghost use lib.Seq.{sets};
 ghost use Rattle.words.specs.Log.{part, hasRoom, Appended, cleared};
-ghost use Rattle.words.specs.Bits.{member, added, digitOf, byteOf};
+ghost use Rattle.words.specs.Bits.{member, added, joined, digitOf, byteOf};
 
 // The words of a slice that a log may take.
 pub const ROOM: usize = 16384;
@@ -150,6 +150,20 @@ pub fn add(words: &mut [u32], number: usize)
         let x = words[i];
         let q = power(number);
         words[i] = x + q;
+    }
+}
+
+// The members of another set join the set, as far as the slice has words for them.
+pub fn join(words: &mut [u32], other: &[u32])
+    ensures { λ _. ⌜ now (words .exit) ≡ joined (now (words .entry)) (now (other .entry)) ⌝ }
+{
+    let mut i = 0;
+    while i < words.len() {
+        if i >= other.len() {
+            return;
+        }
+        words[i] = words[i] | other[i];
+        i += 1;
     }
 }
 

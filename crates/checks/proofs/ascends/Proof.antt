@@ -1,5 +1,5 @@
 -- `checks::ascends` meets its contract. Assumes nothing.
-use Rattle.checks.proofs.FoundLaws.{rises-node, rises-flat, Rising, rising-first, rising-off, rising-on, rising-end}
+use Rattle.checks.proofs.FoundLaws.{rises-node, rises-flat, Rising, rising-start, rising-off, rising-on, rising-end}
 use Prim.Native.Nat.{_-_}
 use lib.ListN.{length}
 use borrow.Author.Needs.{needs}
@@ -19,7 +19,7 @@ returns-2 : tie.Need-returns-2 Inv-loop μ-loop
 returns-2 c = search (rises-flat, needs)
 
 loop-holds : tie.Need-loop-holds Inv-loop μ-loop
-loop-holds c = search (rising-first, needs)
+loop-holds c = search (rising-start, needs)
 
 returns-3 : tie.Need-returns-3 Inv-loop μ-loop
 returns-3 c = search (rising-off, needs)

@@ -33,20 +33,20 @@ returns-8 c = search (fresh-term, needs)
 returns-9 : tie.Need-returns-9
 returns-9 c = search (fresh-other, needs)
 
-is-row-requires : tie.Need-is-row-requires
-is-row-requires c κs = let s = c .before .before .before .before .before in keyed-row (s .args .line .now) (s .args .key) (s .pre .0 .1) (omega arith)
+is-type-requires : tie.Need-is-type-requires
+is-type-requires c κs = let s = c .before .before .before .before .before in keyed-row (s .args .line .now) (s .args .key) (s .pre .0 .1) (omega arith)
 
-is-row-requires-2 : tie.Need-is-row-requires-2
-is-row-requires-2 c κs = let s = c .before .before .before .before .before .before in keyed-row (s .args .line .now) (s .args .key) (s .pre .0 .1) (omega arith)
+is-row-requires : tie.Need-is-row-requires
+is-row-requires c κs = let s = c .before .before .before .before .before .before in keyed-row (s .args .line .now) (s .args .key) (s .pre .0 .1) (omega arith)
 
 pub is-fresh-spec : {M : Type 1} → statement M
 is-fresh-spec =
     tie.close
     (tie.spec
     returns
-    is-row-requires
+    is-type-requires
     returns-2
-    is-row-requires-2
+    is-row-requires
     returns-3
     (λ c κs. search needs)
     (λ c κs. search needs)

@@ -10,7 +10,7 @@ use Rattle.forms.proofs.form_of.Tie as tie
 
 returns-55 : tie.Need-returns-55
 unfolding code coded below
-returns-55 c = c .plain47 .ensures ∙ row-out (c .before .before .args .tag) (c .before .match .rest)
+returns-55 c = c .plain46 .ensures ∙ row-out (c .before .before .args .tag) (c .before .match .rest)
 
 pub form-of-spec : {M : Type 1} → statement M
 unfolding forms formOf code coded

@@ -1,31 +1,47 @@
--- `hastag_rule`: one law for each answer.
-use Rattle.rules.proofs.Rulings.{tag-action, tag-none, tag-other, tag-some}
+-- `hastag_rule`: what is left of the kinds decides.
+use Rattle.rules.specs.Rules.{untagged}
+use Prim.Native.Nat.{_-_}
+use Rattle.rules.proofs.Rulings.{Each, tags-other, each-start, tags-silent, each-on, tags-false}
 use borrow.Author.Needs.{needs}
 use Rattle.rules.proofs.hastag_rule.Statement.{statement}
 use Rattle.rules.proofs.hastag_rule.Tie as tie
 
-returns : tie.Need-returns
-returns c = search tag-other
+abbrev Inv-loop : tie.InvT-loop
+Inv-loop rows ty q end i₀ i = Each (untagged rows) q i
 
-returns-2 : tie.Need-returns-2
-returns-2 c = search tag-action
+abbrev μ-loop : tie.MeasureT-loop
+μ-loop rows ty q end i₀ i = end - i
 
-returns-3 : tie.Need-returns-3
-returns-3 c = search tag-none
+returns : tie.Need-returns Inv-loop μ-loop
+returns c = search tags-other
 
-returns-4 : tie.Need-returns-4
-returns-4 c = search tag-some
+loop-holds : tie.Need-loop-holds Inv-loop μ-loop
+loop-holds c = search each-start
+
+returns-2 : tie.Need-returns-2 Inv-loop μ-loop
+returns-2 c = search tags-silent
+
+loop-again : tie.Need-loop-again Inv-loop μ-loop
+loop-again c = search each-on
+
+returns-3 : tie.Need-returns-3 Inv-loop μ-loop
+returns-3 c = search tags-false
 
 pub hastag-rule-spec : {M : Type 1} → statement M
 hastag-rule-spec =
     tie.close
     (tie.spec
+    Inv-loop
+    μ-loop
     (λ c κs. search needs)
-    (λ c. search needs)
-    (λ c. search needs)
+    (λ c κs. search needs)
     returns
     (λ c κs. search needs)
-    returns-2
+    loop-holds
     (λ c κs. search needs)
-    returns-3
-    returns-4)
+    (λ c κs. search needs)
+    returns-2
+    (λ c. search needs)
+    (λ c. search needs)
+    loop-again
+    returns-3)

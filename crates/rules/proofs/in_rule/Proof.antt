@@ -1,5 +1,5 @@
 -- `in_rule`: one law for each answer.
-use Rattle.rules.proofs.Rulings.{in-above, in-apart, in-left, in-right, in-same}
+use Rattle.rules.proofs.Rulings.{in-left, in-right, in-pair, in-apart}
 use borrow.Author.Needs.{needs}
 use Rattle.rules.proofs.in_rule.Statement.{statement}
 use Rattle.rules.proofs.in_rule.Tie as tie
@@ -11,27 +11,21 @@ returns-2 : tie.Need-returns-2
 returns-2 c = search in-right
 
 returns-3 : tie.Need-returns-3
-returns-3 c = search in-same
+returns-3 c = search in-pair
 
 returns-4 : tie.Need-returns-4
-returns-4 c = search in-above
-
-returns-5 : tie.Need-returns-5
-returns-5 c = search in-apart
+returns-4 c = search in-apart
 
 pub in-rule-spec : {M : Type 1} → statement M
 in-rule-spec =
     tie.close
     (tie.spec
     (λ c κs. search needs)
-    (λ c. search needs)
-    (λ c. search needs)
+    (λ c κs. search needs)
     returns
     (λ c κs. search needs)
-    (λ c. search needs)
-    (λ c. search needs)
-    returns-2
-    returns-3
     (λ c κs. search needs)
-    returns-4
-    returns-5)
+    returns-2
+    (λ c κs. search needs)
+    returns-3
+    returns-4)

@@ -1,5 +1,5 @@
 -- `haspath_typed`: one law for each answer.
-use Rattle.typing.proofs.Rulings.{haspath-no, haspath-none, haspath-some}
+use Rattle.typing.proofs.Rulings.{haspath-no, haspath-is}
 use borrow.Author.Needs.{needs}
 use Rattle.typing.proofs.nodes.haspath_typed.Statement.{statement}
 use Rattle.typing.proofs.nodes.haspath_typed.Tie as tie
@@ -8,10 +8,7 @@ returns : tie.Need-returns
 returns c = search haspath-no
 
 returns-2 : tie.Need-returns-2
-returns-2 c = search haspath-none
-
-returns-3 : tie.Need-returns-3
-returns-3 c = search haspath-some
+returns-2 c = search haspath-is
 
 pub haspath-typed-spec : {M : Type 1} → statement M
 haspath-typed-spec =
@@ -22,8 +19,4 @@ haspath-typed-spec =
     returns
     (λ c κs. search needs)
     (λ c κs. search needs)
-    (λ c. search needs)
-    (λ c. search needs)
-    returns-2
-    (λ c κs. search needs)
-    returns-3)
+    returns-2)

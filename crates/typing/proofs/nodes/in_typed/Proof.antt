@@ -1,5 +1,5 @@
 -- `in_typed`: one law for each answer.
-use Rattle.typing.proofs.Rulings.{in-no, in-none, in-some}
+use Rattle.typing.proofs.Rulings.{in-no, in-yes}
 use borrow.Author.Needs.{needs}
 use Rattle.typing.proofs.nodes.in_typed.Statement.{statement}
 use Rattle.typing.proofs.nodes.in_typed.Tie as tie
@@ -8,10 +8,7 @@ returns : tie.Need-returns
 returns c = search in-no
 
 returns-2 : tie.Need-returns-2
-returns-2 c = search in-none
-
-returns-3 : tie.Need-returns-3
-returns-3 c = search in-some
+returns-2 c = search in-yes
 
 pub in-typed-spec : {M : Type 1} → statement M
 in-typed-spec =
@@ -21,7 +18,4 @@ in-typed-spec =
     returns
     (λ c κs. search needs)
     (λ c κs. search needs)
-    (λ c. search needs)
-    (λ c. search needs)
-    returns-2
-    returns-3)
+    returns-2)

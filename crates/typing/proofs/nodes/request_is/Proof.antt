@@ -1,5 +1,5 @@
 -- `request_is`: one law for each answer.
-use Rattle.typing.proofs.Rulings.{request-no, request-yes}
+use Rattle.typing.proofs.Rulings.{request-no, request-group, request-yes}
 use borrow.Author.Needs.{needs}
 use Rattle.typing.proofs.nodes.request_is.Statement.{statement}
 use Rattle.typing.proofs.nodes.request_is.Tie as tie
@@ -8,7 +8,10 @@ returns : tie.Need-returns
 returns c = search request-no
 
 returns-2 : tie.Need-returns-2
-returns-2 c = search request-yes
+returns-2 c = search request-group
+
+returns-3 : tie.Need-returns-3
+returns-3 c = search request-yes
 
 pub request-is-spec : {M : Type 1} → statement M
 request-is-spec =
@@ -16,8 +19,9 @@ request-is-spec =
     (tie.spec
     (λ c κs. search needs)
     (λ c κs. search needs)
-    (λ c. search needs)
-    (λ c. search needs)
-    returns
     (λ c κs. search needs)
-    returns-2)
+    returns
+    returns-2
+    (λ c κs. search needs)
+    (λ c κs. search needs)
+    returns-3)

@@ -1,0 +1,41 @@
+-- `share_kind`: what is left of the kinds decides.
+use Rattle.fits.specs.Fit.{kindIn}
+use Prim.Native.Nat.{_-_}
+use Rattle.rules.proofs.Rulings.{Some, some-start, some-hit, some-on, some-over}
+use borrow.Author.Needs.{needs}
+use Rattle.rules.proofs.share_kind.Statement.{statement}
+use Rattle.rules.proofs.share_kind.Tie as tie
+
+abbrev Inv-loop : tie.InvT-loop
+Inv-loop type-row other-row end i₀ i = Some (kindIn other-row) type-row i
+
+abbrev μ-loop : tie.MeasureT-loop
+μ-loop type-row other-row end i₀ i = end - i
+
+loop-holds : tie.Need-loop-holds Inv-loop μ-loop
+loop-holds c = search some-start
+
+returns : tie.Need-returns Inv-loop μ-loop
+returns c = search some-hit
+
+loop-again : tie.Need-loop-again Inv-loop μ-loop
+loop-again c = search some-on
+
+returns-2 : tie.Need-returns-2 Inv-loop μ-loop
+returns-2 c = search some-over
+
+pub share-kind-spec : {M : Type 1} → statement M
+share-kind-spec =
+    tie.close
+    (tie.spec
+    Inv-loop
+    μ-loop
+    (λ c κs. search needs)
+    loop-holds
+    (λ c κs. search needs)
+    (λ c κs. search needs)
+    returns
+    (λ c. search needs)
+    (λ c. search needs)
+    loop-again
+    returns-2)

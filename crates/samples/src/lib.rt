@@ -1,0 +1,1 @@
+// No code: the definitions of `sheet` computed on sheets, and the hypotheses of its theorems met.

@@ -1,0 +1,241 @@
+-- A path is typed step by step over the set of types reached.
+use mathlib.Core.Path.{_≡_, refl, sym, ap, subst, _∙_}
+use mathlib.Core.Bool.{Bool, true, false, not, _&&_}
+use mathlib.Core.List.{List, [], _∷_}
+use mathlib.Core.Option.{Option, none, some}
+use mathlib.Core.Logic.{_⊎_, inl, inr}
+use Prim.Native.Nat.{ℕ, zero, suc, _+_, _-_, _≤_, _<_}
+use native.Mathlib.Omega.{arith}
+use borrow.Author.Tests.{lt-ltb, le-leb, lt-leb, not-true, not-false}
+use lib.Dec.{ltb}
+use lib.ListN.{length, getD, drop, replicate, length-replicate, drop-of-length-le}
+use Rattle.cedar.proofs.Tools.{no-true, and-both, iff}
+use Rattle.sheet.specs.Bytes.{same}
+use Rattle.sheet.proofs.RowTests.{same-is}
+use Rattle.words.proofs.Bits.{added-is}
+use Rattle.fits.specs.Fit.{foundIn}
+use Rattle.fits.specs.declared.Found as F
+use Rattle.typing.specs.declared.paths.Place as P
+use Rattle.cedar.specs.Value.{onSome}
+use Rattle.sheet.specs.Forms.{TYPE}
+use Rattle.words.specs.Bits.{member, added}
+use Rattle.fits.proofs.Walks.{next}
+use Rattle.typing.specs.Links.{TYPES}
+use Rattle.typing.specs.Rules.{attributeAt, eachAt, pathFrom, pathAt}
+use Rattle.typing.specs.Paths.{Each, Skipped, Gathered, Placed, declaredThere, ofAll, ofStep}
+use Rattle.typing.proofs.PathSets.{member-zeros, each-none, each-new, each-added, each-there}
+
+-- what a path asks of each record type that its first type has
+abbrev stepTest : List ℕ → List ℕ → ℕ → ℕ → Bool
+stepTest a [] t z = true
+stepTest a (u ∷ us) t z = onSome true (attributeAt a z t) (pathFrom a us u)
+
+path-each : (a us : List ℕ) (t y : ℕ) → pathFrom a us t y ≡ eachAt a y (stepTest a us t)
+unfolding pathFrom
+path-each a [] t y = refl
+path-each a (u ∷ us) t y = refl
+
+-- a path begins at a type that is there
+path-there : (a us : List ℕ) (t y : ℕ) → pathFrom a us t y ≡ true → y < getD a TYPE 0
+path-there a us t y e = each-there a y (stepTest a us t) (sym (path-each a us t y) ∙ e)
+
+-- so a type that is declared is there, where the path from it is typed
+declared-path : (a us : List ℕ) (t u z : ℕ) → declaredThere a t (pathFrom a us u) z ≡ stepTest a (u ∷ us) t z
+declared-path a us t u z = go (attributeAt a z t)
+  where
+    one : (x : ℕ) → (ltb x (getD a TYPE 0) && pathFrom a us u x) ≡ pathFrom a us u x
+    one x = iff (ltb x (getD a TYPE 0) && pathFrom a us u x) (pathFrom a us u x)
+        (λ e. and-both (ltb x (getD a TYPE 0)) (pathFrom a us u x) e (λ p q. q))
+        (λ e. ap (λ (b : Bool). b && pathFrom a us u x) (lt-ltb x (getD a TYPE 0) (path-there a us u x e)) ∙ e)
+
+    go : (o : Option ℕ) → onSome true o (λ x. ltb x (getD a TYPE 0) && pathFrom a us u x) ≡ onSome true o (pathFrom a us u)
+    go none = refl
+    go (some x) = one x
+
+path-declared : (a us : List ℕ) (t u z : ℕ) → stepTest a (u ∷ us) t z ≡ declaredThere a t (pathFrom a us u) z
+path-declared a us t u z = sym (declared-path a us t u z)
+
+-- what is left from word i on, its first step the word before it; after that step; and what that step asks of a record type
+abbrev leftAt : List ℕ → List ℕ → ℕ → ℕ → Bool
+leftAt a r i = pathFrom a (drop i r) (getD r (i - 1) 0)
+
+abbrev restAt : List ℕ → List ℕ → ℕ → ℕ → Bool
+restAt a r i = pathFrom a (drop (i + 1) r) (getD r i 0)
+
+abbrev stepAt : List ℕ → List ℕ → ℕ → ℕ → Bool
+stepAt a r i = stepTest a (drop i r) (getD r (i - 1) 0)
+
+-- ---- a step from all types of a set
+
+-- to ask the types, by what their record types declare for text t, is to ask the types of the other set
+pub record Steps (a types : List ℕ) (t : ℕ) (reached : List ℕ) : Type 0 where
+  pub to : (f : ℕ → Bool) → ofAll a types (declaredThere a t f) → Each reached f
+  pub back : (f : ℕ → Bool) → Each reached f → ofAll a types (declaredThere a t f)
+
+no-member : (n : ℕ) (z : List ℕ) (f : ℕ → Bool) → z ≡ replicate n 0 → Each z f
+no-member n z f e = each-none z f (λ x. ap (λ (s : List ℕ). member s x) e ∙ member-zeros n x)
+
+module _ (a types z records : List ℕ) (b : Bool) (ez : z ≡ replicate 4 0) (g : Gathered z records (ofAll a types) b) (h : not b ≡ false) where
+  steps-is : (t : ℕ) (s reached : List ℕ) (d : Bool) → s ≡ replicate 4 0 → Gathered s reached (ofStep a records t) d → not d ≡ false → Steps a types t reached
+  steps-is t s reached d es k c = record {
+    to = λ f e. k .joins (not-false d c) f (no-member 4 s f es) (g .joins (not-false b h) (declaredThere a t f) (no-member 4 z (declaredThere a t f) ez) e);
+    back = λ f e. g .asks (not-false b h) (declaredThere a t f) (k .asks (not-false d c) f e .1) .1;
+  }
+
+-- the texts whose step leaves the set as it is
+pub record Kept (a types texts : List ℕ) : Type 0 where
+  pub by : (t : ℕ) → member texts t ≡ true → Steps a types t types
+
+kept-none : (a types z : List ℕ) → z ≡ replicate 16 0 → Kept a types z
+kept-none a types z e = record { by = λ t m. no-true (sym (ap (λ (s : List ℕ). member s t) e ∙ member-zeros 16 t) ∙ m) }
+
+kept-more : (a types texts : List ℕ) (t : ℕ) → Kept a types texts → Steps a types t types → Kept a types (added texts t)
+kept-more a types texts t k s = record { by = λ x m. go x (added-is texts t .joined x m) }
+  where
+    go : (x : ℕ) → (member texts x ≡ true) ⊎ (x ≡ t) → Steps a types x types
+    go x (inl m) = k .by x m
+    go x (inr e) = subst (λ (u : ℕ). Steps a types u types) (sym e) s
+
+-- ---- from a group on
+
+-- what is left of row r's path, from word i on, is asked of all types reached, and decides the path from word s and type y on
+pub record Path (a r : List ℕ) (s y : ℕ) (types : List ℕ) (i : ℕ) : Type 0 where
+  pub asks : leftAt a r s y ≡ true → Each types (leftAt a r i)
+  pub says : Each types (leftAt a r i) → leftAt a r s y ≡ true
+  pub low : 1 ≤ i
+
+-- a step more
+path-step : (a r : List ℕ) (s y : ℕ) (types reached : List ℕ) (i : ℕ) → Path a r s y types i → i < length r → Steps a types (getD r (i - 1) 0) reached → Path a r s y reached (i + 1)
+path-step a r s y types reached i w l k = record {
+  asks = λ e. rw j (k .to (restAt a r i) (record { at = λ x o m. sym (one x) ∙ w .asks e .at x o m }));
+  says = λ e. w .says (record { at = λ x o m. one x ∙ k .back (restAt a r i) (subst (λ (n : ℕ). Each reached (pathFrom a (drop (i + 1) r) (getD r n 0))) j e) .at x o m });
+  low = omega (arith, w .low);
+}
+  where
+    j : i + 1 - 1 ≡ i
+    j = omega arith
+
+    one : (x : ℕ) → leftAt a r i x ≡ eachAt a x (declaredThere a (getD r (i - 1) 0) (restAt a r i))
+    one x = rw (next r i l) (path-each a (getD r i 0 ∷ drop (i + 1) r) (getD r (i - 1) 0) x ∙ (λ n. eachAt a x (λ z. path-declared a (drop (i + 1) r) (getD r (i - 1) 0) (getD r i 0) z n)))
+
+-- steps that leave the set as it is
+path-skip : (a r : List ℕ) (s y : ℕ) (types texts : List ℕ) (i j : ℕ) → Path a r s y types i → Kept a types texts → Skipped r texts i j → Path a r s y types j
+path-skip a r s y types texts i j w k d = let l = d .low in subst (λ (n : ℕ). Path a r s y types n) (omega (arith, l)) (go (j - i) (omega (arith, l)))
+  where
+    go : (n : ℕ) → i + n ≤ j → Path a r s y types (i + n)
+    go zero h = subst (λ (m : ℕ). Path a r s y types m) (omega arith) w
+    go (suc n) h =
+        let (l, m) = d .each (i + n) (omega arith) (omega arith) in
+        subst (λ (m : ℕ). Path a r s y types m) (omega arith) (path-step a r s y types types (i + n) (go n (omega arith)) l (k .by (getD r (i + n - 1) 0) m))
+
+false-is : (b : Bool) → (b ≡ true → ⊥) → false ≡ b
+false-is true h = absurd (h refl)
+false-is false h = refl
+
+module _ (a r : List ℕ) (s y : ℕ) where
+  pub path-start : (z v : List ℕ) → z ≡ replicate 4 0 → v ≡ added z y → y < getD a TYPE 0 → getD a TYPE 0 ≤ TYPES → 1 ≤ s → Path a r s y v s
+  path-start z v ez ev h n l = subst (λ (u : List ℕ). Path a r s y u s) (sym ev) (record {
+    asks = λ e. each-added z (leftAt a r s) y (no-member 4 z (leftAt a r s) ez) e;
+    says = λ e. each-new z (leftAt a r s) y (rw (ez, length-replicate {A = ℕ} 4 0) (omega arith)) e;
+    low = l;
+  })
+
+  pub kept-start : (types z : List ℕ) → z ≡ replicate 16 0 → Kept a types z
+  kept-start = kept-none a
+
+  module _ (types texts : List ℕ) (i : ℕ) (w : Path a r s y types i) (k : Kept a types texts) (z records : List ℕ) (b : Bool) (ez : z ≡ replicate 4 0) (g : Gathered z records (ofAll a types) b) where
+    pub path-off : not b ≡ true → false ≡ leftAt a r s y
+    path-off h = false-is (leftAt a r s y) (λ e. g .fails (not-true b h) (stepAt a r i) (no-member 4 z (stepAt a r i) ez) (record { at = λ x l m. sym (path-each a (drop i r) (getD r (i - 1) 0) x) ∙ w .asks e .at x l m }))
+
+    module _ (j : ℕ) (h : not b ≡ false) (d : Skipped r texts i j) where
+      here : Path a r s y types j
+      here = path-skip a r s y types texts i j w k d
+
+      pub path-end : length r ≤ j → true ≡ leftAt a r s y
+      path-end l = sym (here .says (record { at = λ x o m. path-each a (drop j r) (getD r (j - 1) 0) x ∙ all .at x o m }))
+        where
+          free : (x : ℕ) → stepAt a r j x ≡ true
+          free x = ap (λ (us : List ℕ). stepTest a us (getD r (j - 1) 0) x) (drop-of-length-le r {i = j} l)
+
+          all : ofAll a types (stepAt a r j)
+          all = g .asks (not-false b h) (stepAt a r j) (record { at = λ x _ _. free x }) .1
+
+      module _ (t : ℕ) (u reached : List ℕ) (c : Bool) (l : j < length r) (et : t ≡ getD r (j - 1) 0) (eu : u ≡ replicate 4 0) (q : Gathered u reached (ofStep a records t) c) where
+        -- what is left asks the record types
+        of-records : Each types (leftAt a r j) → ofStep a records t (restAt a r j)
+        of-records e = g .joins (not-false b h) (declaredThere a t (restAt a r j)) (no-member 4 z (declaredThere a t (restAt a r j)) ez) (record { at = λ x o m. sym (one x) ∙ e .at x o m })
+          where
+            one : (x : ℕ) → leftAt a r j x ≡ eachAt a x (declaredThere a t (restAt a r j))
+            one x = rw (next r j l, ← et) (path-each a (getD r j 0 ∷ drop (j + 1) r) t x ∙ (λ n. eachAt a x (λ z. path-declared a (drop (j + 1) r) t (getD r j 0) z n)))
+
+        pub path-lost : not c ≡ true → false ≡ leftAt a r s y
+        path-lost e = false-is (leftAt a r s y) (λ p. q .fails (not-true c e) (restAt a r j) (no-member 4 u (restAt a r j) eu) (of-records (here .asks p)))
+
+        module _ (e : not c ≡ false) where
+          steps : Steps a types (getD r (j - 1) 0) reached
+          steps = subst (λ (n : ℕ). Steps a types n reached) et (steps-is a types z records b ez g h t u reached c eu q e)
+
+          pub path-on : Path a r s y reached (j + 1)
+          path-on = path-step a r s y types reached j here l steps
+
+          -- the set is as it was
+          module _ (v : Bool) (ev : v ≡ same types reached) (o : v ≡ true) where
+            as-was : reached ≡ types
+            as-was = sym (same-is types reached (sym ev ∙ o))
+
+            pub path-same : Path a r s y types (j + 1)
+            path-same = subst (λ (n : List ℕ). Path a r s y n (j + 1)) as-was path-on
+
+            pub kept-same : (more : List ℕ) → more ≡ added texts t → Kept a types more
+            kept-same more em = subst (Kept a types) (sym em) (kept-more a types texts t k (subst (λ (n : List ℕ). Steps a types t n) as-was (subst (λ (n : ℕ). Steps a types n reached) (sym et) steps)))
+
+-- ---- any path
+
+-- what is left of row r's path, from word i and type z on, decides the path from type y
+pub record Single (a r : List ℕ) (y z i : ℕ) : Type 0 where
+  pub left : pathFrom a (drop 4 r) (getD r 3 0) y ≡ leftAt a r i z
+  pub low : 4 ≤ i
+
+module _ (a r : List ℕ) (y n : ℕ) (en : n ≡ getD a TYPE 0) where
+  pub path-many : TYPES < n → false ≡ pathAt a r y
+  unfolding pathAt
+  path-many h = ap (λ (b : Bool). b && pathFrom a (drop 4 r) (getD r 3 0) y) (sym (lt-leb (getD a TYPE 0) TYPES (omega arith)))
+
+  pub single-start : Single a r y y 4
+  single-start = record { left = refl; low = omega arith }
+
+  module _ (few : n ≤ TYPES) (z i : ℕ) (w : Single a r y z i) (p : P.Place) (q : Placed a z p) where
+    path-few : pathAt a r y ≡ leftAt a r i z
+    unfolding pathAt
+    path-few = ap (λ (b : Bool). b && pathFrom a (drop 4 r) (getD r 3 0) y) (le-leb (getD a TYPE 0) TYPES (omega arith)) ∙ w .left
+
+    pub single-nowhere : p ≡ P.the-variants.Nowhere → false ≡ pathAt a r y
+    single-nowhere e = false-is (pathAt a r y) (λ h. q .place .nowhere e (stepAt a r i) (sym (path-each a (drop i r) (getD r (i - 1) 0) z) ∙ sym path-few ∙ h))
+
+    pub single-group : (b : Bool) → p ≡ P.the-variants.Group → b ≡ leftAt a r i z → b ≡ pathAt a r y
+    single-group b e eb = eb ∙ sym path-few
+
+    module _ (x : ℕ) (e : p ≡ P.the-variants.Alone x) where
+      one-record : leftAt a r i z ≡ stepAt a r i x
+      one-record =
+          let test = stepAt a r i in
+          let (to, back) = q .place .alone x e test in
+          path-each a (drop i r) (getD r (i - 1) 0) z ∙ iff (eachAt a z test) (test x) to back
+
+      pub single-end : length r ≤ i → true ≡ pathAt a r y
+      single-end l = sym (path-few ∙ one-record ∙ ap (λ (us : List ℕ). stepTest a us (getD r (i - 1) 0) x) (drop-of-length-le r {i = i} l))
+
+      module _ (l : i < length r) (t : ℕ) (f : F.Found) (et : t ≡ getD r (i - 1) 0) (ef : foundIn f ≡ attributeAt a x t) where
+        single-step : leftAt a r i z ≡ onSome true (attributeAt a x t) (restAt a r i)
+        single-step = one-record ∙ rw (next r i l, ← et)
+
+        pub single-free : f ≡ F.the-variants.Undeclared → true ≡ pathAt a r y
+        single-free h = sym (path-few ∙ single-step ∙ ap (λ (o : Option ℕ). onSome true o (restAt a r i)) (sym ef ∙ ap foundIn h))
+
+        pub single-on : (v : ℕ) → f ≡ F.the-variants.As v → Single a r y v (i + 1)
+        single-on v h =
+            let j : i + 1 - 1 ≡ i = omega arith in
+            record {
+              left = w .left ∙ single-step ∙ ap (λ (o : Option ℕ). onSome true o (restAt a r i)) (sym ef ∙ ap foundIn h) ∙ ap (λ (k : ℕ). pathFrom a (drop (i + 1) r) (getD r k 0) v) (sym j);
+              low = omega (arith, w .low);
+            }

@@ -1,0 +1,100 @@
+-- Sets of types and what is asked of their members: the types that the steps of a path reach.
+use mathlib.Core.Path.{_≡_}
+use mathlib.Core.Bool.{Bool, true, false, _&&_}
+use mathlib.Core.List.{List}
+use Prim.Native.Nat.{ℕ, _+_, _-_, _*_, _≤_, _<_}
+use lib.Dec.{ltb}
+use lib.ListN.{length, getD, replicate}
+use Rattle.cedar.specs.Value.{onSome}
+use Rattle.sheet.specs.Forms.{TYPE}
+use Rattle.sheet.specs.Typing.{allIn}
+use Rattle.words.specs.Bits.{member}
+use Rattle.words.specs.Log.{part}
+use Rattle.fits.specs.Fit.{kindsIn}
+use Rattle.typing.specs.declared.paths.Place as P
+use Rattle.typing.specs.Links.{TYPES}
+use Rattle.typing.specs.Rules.{ofRecord, ofKind, eachAt, attributeAt}
+
+-- each member of a set from n on passes test f
+pub record From (set : List ℕ) (n : ℕ) (f : ℕ → Bool) : Type 0 where
+  pub at : (x : ℕ) → n ≤ x → member set x ≡ true → f x ≡ true
+
+abbrev pub Each : List ℕ → (ℕ → Bool) → Type 0
+Each set f = From set 0 f
+
+-- y is the first member from n on, or there is none below the number of types
+pub record Next (set : List ℕ) (n y : ℕ) : Type 0 where
+  pub low : n ≤ y
+  pub none : (x : ℕ) → n ≤ x → x < y → member set x ≡ false
+  pub here : y < TYPES → member set y ≡ true
+
+-- each step of row r from word i up to word j, the word before it, is one of the texts
+pub record Skipped (r texts : List ℕ) (i j : ℕ) : Type 0 where
+  pub low : i ≤ j
+  pub each : (k : ℕ) → i ≤ k → k < j → (k < length r) × (member texts (getD r (k - 1) 0) ≡ true)
+
+-- what is asked of a test
+abbrev pub Asked : Type 1
+Asked = (ℕ → Bool) → Type 0
+
+-- members have joined set w, which is now v: to ask them is to ask q, and the members of w as before; where the answer is no, no test passes q
+pub record Gathered (w v : List ℕ) (q : Asked) (b : Bool) : Type 0 where
+  pub asks : b ≡ true → (f : ℕ → Bool) → Each v f → Each w f × q f
+  pub joins : b ≡ true → (f : ℕ → Bool) → Each w f → q f → Each v f
+  pub fails : b ≡ false → (f : ℕ → Bool) → Each w f → q f → ⊥
+
+module _ (a : List ℕ) where
+  -- of record type y; of each kind of row r; of each kind of type y, or of record type y; of all types of a set
+  abbrev pub ofType : ℕ → Asked
+  ofType y f = ofRecord a f y ≡ true
+
+  abbrev pub ofRow : List ℕ → Asked
+  ofRow r f = allIn (ofKind a f) (kindsIn r) ≡ true
+
+  abbrev pub ofEach : ℕ → Asked
+  ofEach y f = eachAt a y f ≡ true
+
+  abbrev pub ofAll : List ℕ → Asked
+  ofAll types f = Each types (λ y. eachAt a y f)
+
+  -- of the type that record type y declares for attribute t, if it declares one: that it is there, and passes
+  abbrev pub declaredThere : ℕ → (ℕ → Bool) → ℕ → Bool
+  declaredThere t f y = onSome true (attributeAt a y t) (λ z. ltb z (getD a TYPE 0) && f z)
+
+  abbrev pub ofDeclared : ℕ → ℕ → Asked
+  ofDeclared t y f = declaredThere t f y ≡ true
+
+  -- of what all record types of a set declare for it
+  abbrev pub ofStep : List ℕ → ℕ → Asked
+  ofStep records t f = Each records (declaredThere t f)
+
+-- the one record type that is asked, or that nothing passes
+pub record PlaceOf (q : Asked) (p : P.Place) : Type 0 where
+  pub alone : (z : ℕ) → p ≡ P.the-variants.Alone z → (f : ℕ → Bool) → (q f → f z ≡ true) × (f z ≡ true → q f)
+  pub nowhere : p ≡ P.the-variants.Nowhere → (f : ℕ → Bool) → q f → ⊥
+
+-- so it is of type y, which is there if it has more kinds than one
+pub record Placed (a : List ℕ) (y : ℕ) (p : P.Place) : Type 0 where
+  pub place : PlaceOf (ofEach a y) p
+  pub there : p ≡ P.the-variants.Group → y < getD a TYPE 0
+
+-- ---- the record types of a type, worked out once
+
+-- the words of a set of types; those of a set for each type
+abbrev pub WORDS : ℕ
+WORDS = 4
+
+abbrev pub SETS : ℕ
+SETS = TYPES * WORDS
+
+-- the set of type y
+abbrev pub setAt : List ℕ → ℕ → List ℕ
+setAt sets y = part sets (y * WORDS) (y * WORDS + WORDS)
+
+-- set v has the record types of type y, and nothing else; where the answer is no, no test passes what is asked of y
+abbrev pub RecordsOf : List ℕ → List ℕ → ℕ → Bool → Type 0
+RecordsOf a v y b = Gathered (replicate WORDS 0) v (ofEach a y) b
+
+-- of each type in `known` the set is worked out
+pub record Learned (a known sets : List ℕ) : Type 0 where
+  pub at : (y : ℕ) → member known y ≡ true → RecordsOf a (setAt sets y) y true
