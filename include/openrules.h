@@ -11,6 +11,7 @@
  *   10, 0, needed     the answer buffer is shorter than the answer; one of OPENRULES_ANSWER bytes never is
  *
  * A type line `entity` lists one or more kinds, ascending; where it lists several, each has a type line of its own before it.
+ * The last item of an `entity` line is the set of its direct parents; its ancestors are all that is reached through parents.
  * Every sheet has a line `day=yyyy-mm-dd`; the answer has nothing of a policy whose `term` line does not hold that day. Where policies
  * share a root or have slots that `link` lines fill, the answer has what is left of each policy by itself, so it may be longer than the sheet.
  *

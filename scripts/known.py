@@ -10,10 +10,10 @@ promise kept, and beside each sheet of examples/ its answer.
 
 With --host each answer must also be that of the original: HOST is the program that `cargo build --release` makes in host/. Of an accepted sheet with
 groups of kinds the original is not asked; there the host must accept it, and the expected text, where there is one, must be the reading's. With --have,
-a list as 2.3,2.5,2.9,2.4,2.7 of the requests of document 02 that have landed, the reading is asked with these; the cases of its `cases02.py` that hold
-then are added, from 2.9 on each sheet of `cases.py` and each probe gets a `day` line, from 2.4 on there are sheets whose answers are long, and from 2.7 on
-sheets with larger groups and some random ones with groups, of its `gen02.py`. Where an expected text, the reading and the original
-differ, nothing is written. With --check nothing is written either: the files must be what would be written.
+a list as 2.3,2.5,2.9,2.4,2.7,2.6 of the requests of document 02 that have landed, the reading is asked with these; the cases of its `cases02.py` that hold
+then are added, from 2.9 on each sheet of `cases.py` and each probe gets a `day` line, from 2.4 on there are sheets whose answers are long, from 2.7 on
+sheets with larger groups and some random ones with groups, of its `gen02.py`, and from 2.6 on sheets with long rows and circles of parents and some random
+ones that parents matter to. Where an expected text, the reading and the original differ, nothing is written. With --check nothing is written either: the files must be what would be written.
 """
 import os
 import subprocess
@@ -22,7 +22,9 @@ import sys
 from sheets import CRATE, ENTRIES, HERE, NOT_ASKED, WORDS, Result, Sheet, head, printed, sheets, shown, whole
 
 BUFFER, LARGE = 4096, 65536
-SEED, PARTIAL, COMPLETE = 27, 40, 10  # of the random sheets with groups
+# of random sheets the seed, and how many of each sort are taken: with groups, by entry, and those that parents matter to, by entry and whether they are refused
+GROUPS = 27, {"partial": 40, "complete": 10}
+PARENTS = 26, {("partial", False): 14, ("complete", False): 3, ("partial", True): 6, ("complete", True): 2}
 PROBE = "probe: "
 DAY = b"day=2026-06-15\n"
 
@@ -155,15 +157,79 @@ def grouped(gen02, landed):
         return
     yield Sheet("rules between groups", "partial", bytes_of(between_groups()), WORDS, WORDS, BUFFER)
     yield Sheet("2,000 steps in a group of 32 kinds", "partial", bytes_of(many_steps(2000)), WORDS, WORDS, LARGE)
-    left = dict(zip(ENTRIES, (PARTIAL, COMPLETE)))
+
+    def sort(entry, sheet):
+        groups = numbered(b"type", lambda items: items[0] == b"entity" and len(items) > 2, sheet)
+        taken = "policy=" in gen02.refsheet.run_entry(entry, sheet)[3] and numbered(b"node", lambda items: int(items[0]) in groups, sheet)
+        return entry if taken else None
+    yield from of_random(gen02, GROUPS, sort, "with groups")
+
+
+def of_random(gen02, chosen, sort, what):
+    """The first random sheets of a seed, so many of each sort."""
+    seed, left = chosen[0], dict(chosen[1])
     for number in range(10000):
         if not any(left.values()):
             break
-        entry, sheet = gen02.input_of(SEED, number)
-        groups = numbered(b"type", lambda items: items[0] == b"entity" and len(items) > 2, sheet)
-        if left.get(entry) and "policy=" in gen02.refsheet.run_entry(entry, sheet)[3] and numbered(b"node", lambda items: int(items[0]) in groups, sheet):
-            left[entry] -= 1
-            yield Sheet("random sheet %d with groups" % number, entry, sheet, WORDS, WORDS, LARGE)
+        entry, sheet = gen02.input_of(seed, number)
+        one = sort(entry, sheet) if entry in ENTRIES else None
+        if left.get(one):
+            left[one] -= 1
+            yield Sheet("random sheet %d %s" % (number, what), entry, sheet, WORDS, WORDS, LARGE)
+
+
+def related(entry, parents, asked, kinds="", above=("0", "", "0")):
+    """Entities of kinds 0 and 2, as the letters `o` and `r` say, the first of them listed with these parents, None for `?`; for each pair asked a rule that the first
+    is in the second. Above each kind are those of `above`."""
+    count = max([len(parents)] + [1 + n for line in parents + list(asked) for n in line or []])
+    kind = [2 if letter == "r" else 0 for letter in kinds.ljust(count, "o")]
+    sets = sorted(set(tuple(line) for line in parents if line is not None))
+    known = entry == "complete"
+    lines = ["sheet=" + entry] + ["text=" + text for text in ["Office", "Action", "Region", "quote"] + ["e%d" % n for n in range(count)]]
+    lines += ["kind=0,e", "kind=1,a", "kind=2,e", "type=bool", "type=record", "type=entity,0", "type=entity,2"]
+    lines += ["shape=1,-" + (kinds and "," + kinds) for kinds in above]
+    lines += ["value=entity,%d,%d" % (kind[n], 4 + n) for n in range(count)] + ["value=record"] + ["value=set" + "".join(",%d" % n for n in one) for one in sets]
+    lines += ["entity=%d,%d,%d,%s" % (n, count, count, "?" if line is None else count + 1 + sets.index(tuple(line))) for n, line in enumerate(parents)]
+    lines += ["principal=0,%s" % ("4" if known else "?"), "action=1,3", "resource=0,4", "context=1,%s" % (count if known else "?"), "day=2026-06-15"]
+    for place, pair in enumerate(asked):
+        lines += ["node=%d,lit,%d" % (2 if kind[n] == 0 else 3, n) for n in pair] + ["node=0,in,%d,%d" % (3 * place, 3 * place + 1)]
+    lines += ["policy=%d,permit,%d" % (4 + place, 3 * place + 2) for place in range(len(asked))]
+    return "".join(line + "\n" for line in lines).encode()
+
+
+def reaching(gen02, landed):
+    """Rows and circles of as many entities as can be listed, kinds reached at their end, and random sheets whose answer is another where parents are taken for
+    ancestors."""
+    def sheet(name, entry, *rest, **more):
+        return Sheet(name, entry, related(entry, *rest, **more), WORDS, WORDS, BUFFER)
+
+    def sort(entry, sheet):
+        found = gen02.refsheet.run_entry(entry, sheet)
+        gen02.refsheet.set_have([request for request in landed if request != "2.6"])
+        other = gen02.refsheet.run_entry(entry, sheet)
+        gen02.refsheet.set_have(landed)
+        return (entry, found[0] != 0) if found != other else None
+    if "2.6" not in landed:
+        return
+    row = [[n + 1] for n in range(127)]
+    asked = [(0, 1), (0, 127), (127, 0), (64, 63), (63, 64), (5, 5), (0, 128)]
+    yield sheet("a row of 128 entities", "partial", row + [[]], asked)
+    yield sheet("a row of 128 entities, the last unknown", "partial", row + [None], asked)
+    yield sheet("a row of 127 entities to an unlisted one", "partial", row, asked)
+    yield sheet("a circle of 128 entities", "partial", row + [[0]], asked)
+    yield sheet("a circle of 128 entities, complete", "complete", row + [[0]], asked)
+    yield sheet("a row of 127 entities to an unlisted one, complete", "complete", row, asked)
+    everyone = list(range(300))
+    yield sheet("128 entities with one set of 300 parents", "partial", [everyone] * 128, asked)
+    yield sheet("128 entities with one set of 300 parents, complete", "complete", [everyone] * 128, asked + [(0, 299), (299, 0)])
+    yield sheet("128 entities that are all each other's parents", "partial", [everyone[:128]] * 128, asked)
+    yield sheet("a region at the end of 127 offices", "partial", row + [[]], [(0, 127), (126, 127), (127, 0)], kinds="o" * 127 + "r", above=("0,2", "", ""))
+    # an office may be in a region and a region in an office, but no office in an office
+    through = dict(kinds="o" + "r" * 126 + "o", above=("2", "", "0,2"))
+    yield sheet("an office reached from another through 126 regions", "partial", row + [[]], [(0, 1)], **through)
+    yield sheet("an office not reached, as the region before it is unknown", "partial", row[:126] + [None, []], [(0, 1), (126, 127)], **through)
+    yield sheet("an office reached from the second line on", "partial", [[]] + row[1:] + [[]], [(0, 1)], kinds="oo" + "r" * 125 + "o", above=("2", "", "0,2"))
+    yield from of_random(gen02, PARENTS, sort, "with parents")
 
 
 def of_requests(cases02, landed):
@@ -196,6 +262,8 @@ def chosen(cases, cases02, gen02, folder, answer_length, landed):
     for sheet in shared(cases02, landed):
         yield sheet, None
     for sheet in grouped(gen02, landed):
+        yield sheet, None
+    for sheet in reaching(gen02, landed):
         yield sheet, None
     yield from of_requests(cases02, landed)
 

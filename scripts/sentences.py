@@ -1,5 +1,5 @@
 #!/usr/bin/env python3
-"""Writes docs/DEFINITIONS.md: each definition of `cedar` and `sheet` whose comment quotes document 01, with that comment."""
+"""Writes docs/DEFINITIONS.md: each definition of `cedar` and `sheet` whose comment, or the heading right before it, quotes document 01 or 02, with that."""
 import glob
 import os
 import re
@@ -25,7 +25,8 @@ def main():
                     continue
                 m = re.match(r"^(?:(?:abbrev|unfoldable|mutual) )*pub (?:(?:data|record) )?([^\s:({]+)", s)
                 if m and any('"' in c for c in comment):
-                    text = " ".join(c for c in comment if not c.startswith("----")).replace("|", "\\|")
+                    parts = [c.lstrip("- ") for c in comment if c.startswith("----") and '"' in c] + [" ".join(c for c in comment if not c.startswith("----"))]
+                    text = "; ".join(part for part in parts if part).replace("|", "\\|")
                     out.append("| %s | `%s` | %s |" % (os.path.basename(path)[:-5], m.group(1), text))
                 if s:
                     comment = []

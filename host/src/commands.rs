@@ -7,8 +7,9 @@ use std::process::ExitCode;
 
 use crate::compare::{self, Call};
 use crate::generate;
+use crate::parents::Shown;
 use crate::run;
-use crate::sheet::Mode;
+use crate::sheet::{self, Mode};
 use crate::{bench, heavy, replay};
 
 const HELP: &str = "host answer partial|complete < SHEET   the original's answer, or refused=number,line,length, or what says that it was not asked
@@ -232,6 +233,7 @@ fn random(count: u64, seed: u64, folder: Option<&Path>) -> ExitCode {
         fs::create_dir_all(folder).expect("the folder is made");
     }
     let mut numbers = [0; 11];
+    let mut shown = Shown::default();
     let put = |name: String, mode: Mode, sheet: &[u8]| {
         if let Some(folder) = folder {
             let base = folder.join(format!("{name}.{}", mode.word()));
@@ -241,7 +243,8 @@ fn random(count: u64, seed: u64, folder: Option<&Path>) -> ExitCode {
     };
     for n in 0..count {
         let case = generate::sheet(seed, n);
-        let number = run::answer(case.mode, &case.bytes).map_or_else(|refusal| refusal.number, |_| 0);
+        let number = sheet::read(case.mode, &case.bytes).map_or_else(|refusal| refusal.number, |_| 0);
+        shown.see(case.mode, &case.bytes);
         numbers[number as usize] += 1;
         put(format!("s{seed}-{n}"), case.mode, &case.bytes);
     }
@@ -263,6 +266,7 @@ fn random(count: u64, seed: u64, folder: Option<&Path>) -> ExitCode {
         }
     }
     println!("{count} sheets, numbers {}; {} triples, {faults} against demand 3", compare::by_number(&numbers), count / 4);
+    println!("{}", shown.line());
     if faults == 0 {
         ExitCode::SUCCESS
     } else {

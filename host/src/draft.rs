@@ -180,7 +180,7 @@ impl Draft {
         }
         let part = |n: Option<u32>| n.map_or("?".to_string(), |n| n.to_string());
         for row in &self.entities {
-            line(format!("entity={},{},{},{}", row.entity, part(row.attributes), part(row.tags), part(row.ancestors)));
+            line(format!("entity={},{},{},{}", row.entity, part(row.attributes), part(row.tags), part(row.parents)));
         }
         line(format!("principal={},{}", self.principal.0, part(self.principal.1)));
         line(format!("action={},{}", self.action.0, self.action.1));

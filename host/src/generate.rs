@@ -1,6 +1,7 @@
 //! Random sheets: valid ones with every operation, complete ones that agree with a partial one, and damaged ones.
 
 use crate::draft::{bytes_of, day_text, Draft};
+use crate::parents::Parents;
 use crate::random::Random;
 use crate::sheet::{
     days_in, declaration, Day, EntityRow, LinkRow, Mode, One, Operation, ShapeRow, TermRow, Two, TypeRow, ValueRow, Variable,
@@ -106,7 +107,9 @@ pub fn valid(random: &mut Random, grouped: bool) -> Draft {
     random_request(&mut draft, random);
     let size = [20, 60, 150][random.below(3)];
     random_policies(&mut draft, random, size);
-    random_entities(&mut draft, random, 60);
+    let (listed, known) = (random.pick(&[60, 95]), random.pick(&[65, 95]));
+    list_entities(&mut draft, random, listed);
+    fill_entities(&mut draft, random, known);
     random_terms(&mut draft, random);
     draft
 }
@@ -163,6 +166,27 @@ fn random_schema(draft: &mut Draft, random: &mut Random, grouped: bool) {
             ShapeRow { attributes: if as_others { shared.0 } else { random.pick(&records) }, tags, above }
         };
         draft.shapes.push(shape);
+    }
+    if random.chance(60) {
+        close_above(draft);
+    }
+}
+
+/// Kinds above those above a kind are above it too, so that rows and circles of parents stay among them.
+fn close_above(draft: &mut Draft) {
+    loop {
+        let mut grown = false;
+        for kind in 0..draft.shapes.len() {
+            let mut above = draft.shapes[kind].above.clone();
+            above.extend(draft.shapes[kind].above.iter().flat_map(|k| &draft.shapes[*k as usize].above));
+            above.sort();
+            above.dedup();
+            grown |= above.len() > draft.shapes[kind].above.len();
+            draft.shapes[kind].above = above;
+        }
+        if !grown {
+            return;
+        }
     }
 }
 
@@ -240,28 +264,34 @@ fn random_request(draft: &mut Draft, random: &mut Random) {
     draft.context = (ty, if random.chance(60) { None } else { Some(value_for(draft, random, ty)) });
 }
 
-/// Lists entities: some of the entity values that are there, with known and unknown parts.
-fn random_entities(draft: &mut Draft, random: &mut Random, listed: usize) {
-    for round in 0..2 {
-        for v in 0..draft.values.len() as u32 {
-            let ValueRow::Entity(kind, _) = draft.values[v as usize] else {
-                continue;
-            };
-            let there = draft.entities.iter().any(|row| row.entity == v);
-            if there || draft.entities.len() >= 40 || !random.chance(if round == 0 { listed } else { listed / 4 }) {
-                continue;
-            }
-            let mut row = EntityRow { entity: v, attributes: None, tags: None, ancestors: None };
-            fill_entity(draft, random, kind, &mut row, 65);
-            draft.entities.push(row);
+/// Lists entities: some of the entity values that are there, nothing known of them.
+fn list_entities(draft: &mut Draft, random: &mut Random, listed: usize) {
+    for v in 0..draft.values.len() as u32 {
+        let there = draft.entities.iter().any(|row| row.entity == v) || draft.entities.len() >= 40;
+        if matches!(draft.values[v as usize], ValueRow::Entity(..)) && !there && random.chance(listed) {
+            draft.entities.push(EntityRow { entity: v, attributes: None, tags: None, parents: None });
         }
     }
     draft.entities.sort_by_key(|row| row.entity);
 }
 
-/// Makes unknown parts of an entity line known, each in so many of a hundred cases.
-fn fill_entity(draft: &mut Draft, random: &mut Random, kind: u32, row: &mut EntityRow, known: usize) {
-    let shape = draft.shapes[kind as usize].clone();
+/// Makes unknown parts of the entity lines known, each in so many of a hundred cases, and lists some of the entities that this adds.
+fn fill_entities(draft: &mut Draft, random: &mut Random, known: usize) {
+    for place in 0..draft.entities.len() {
+        fill_entity(draft, random, place, known);
+    }
+    let before: Vec<u32> = draft.entities.iter().map(|row| row.entity).collect();
+    list_entities(draft, random, 15);
+    for place in 0..draft.entities.len() {
+        if !before.contains(&draft.entities[place].entity) {
+            fill_entity(draft, random, place, known);
+        }
+    }
+}
+
+fn fill_entity(draft: &mut Draft, random: &mut Random, place: usize, known: usize) {
+    let mut row = draft.entities[place].clone();
+    let shape = draft.shapes[kind_of(draft, row.entity) as usize].clone();
     if row.attributes.is_none() && random.chance(known) {
         row.attributes = Some(value_for(draft, random, shape.attributes));
     }
@@ -274,17 +304,45 @@ fn fill_entity(draft: &mut Draft, random: &mut Random, kind: u32, row: &mut Enti
         }
         row.tags = Some(draft.value(ValueRow::Record(fields)));
     }
-    if row.ancestors.is_none() && random.chance(known) {
-        let mut items = Vec::new();
-        if !shape.above.is_empty() {
-            for _ in 0..random.from(0, 3) {
-                items.push(entity_of(draft, random, &shape.above));
-            }
+    if row.parents.is_none() && random.chance(known) {
+        // Of those wanted as many as keep what every line reaches among the kinds above it.
+        let mut wanted = random_parents(draft, random, &shape.above);
+        while !fit_with(draft, place, &wanted) {
+            wanted.pop();
         }
-        items.sort();
-        items.dedup();
-        row.ancestors = Some(draft.value(ValueRow::Set(items)));
+        row.parents = Some(draft.value(ValueRow::Set(wanted)));
     }
+    draft.entities[place] = row;
+}
+
+fn kind_of(draft: &Draft, entity: u32) -> u32 {
+    match draft.values[entity as usize] {
+        ValueRow::Entity(kind, _) => kind,
+        _ => unreachable!("an entity is listed"),
+    }
+}
+
+/// Up to three entities of some kinds, more often listed ones, which make rows and circles.
+fn random_parents(draft: &mut Draft, random: &mut Random, above: &[u32]) -> Vec<u32> {
+    let listed: Vec<u32> = draft.entities.iter().map(|row| row.entity).filter(|v| above.contains(&kind_of(draft, *v))).collect();
+    let count = if above.is_empty() { 0 } else { random.from(0, 3) };
+    let mut parents: Vec<u32> = (0..count)
+        .map(|_| match listed.is_empty() || random.chance(30) {
+            true => entity_of(draft, random, above),
+            false => random.pick(&listed),
+        })
+        .collect();
+    parents.sort();
+    parents.dedup();
+    parents
+}
+
+/// Whether all that entities reach fits where a line has these parents.
+fn fit_with(draft: &Draft, place: usize, parents: &[u32]) -> bool {
+    let (mut values, mut entities) = (draft.values.clone(), draft.entities.clone());
+    entities[place].parents = Some(values.len() as u32);
+    values.push(ValueRow::Set(parents.to_vec()));
+    Parents::of(&values, &entities).first_unfit(&entities, &draft.shapes).is_none()
 }
 
 fn random_policies(draft: &mut Draft, random: &mut Random, size: usize) {
@@ -736,15 +794,8 @@ pub fn completion(partial: &Draft, random: &mut Random) -> Draft {
         }
     }
     let listed = [0, 30, 80][random.below(3)];
-    if listed > 0 {
-        random_entities(&mut draft, random, listed);
-    }
-    let mut rows = std::mem::take(&mut draft.entities);
-    for row in &mut rows {
-        let ValueRow::Entity(kind, _) = draft.values[row.entity as usize] else { unreachable!() };
-        fill_entity(&mut draft, random, kind, row, 100);
-    }
-    draft.entities = rows;
+    list_entities(&mut draft, random, listed);
+    fill_entities(&mut draft, random, 100);
     draft
 }
 
@@ -1013,7 +1064,7 @@ fn damaged_draft(mut draft: Draft, random: &mut Random) -> Case {
     if random.chance(30) {
         draft = completion(&draft, random);
     }
-    match random.below(22) {
+    match random.below(30) {
         0 | 1 if !draft.nodes.is_empty() => {
             let n = random.below(draft.nodes.len());
             draft.nodes[n].ty = random.below(draft.types.len()) as u32;
@@ -1037,7 +1088,7 @@ fn damaged_draft(mut draft: Draft, random: &mut Random) -> Case {
             *match random.below(3) {
                 0 => &mut row.attributes,
                 1 => &mut row.tags,
-                _ => &mut row.ancestors,
+                _ => &mut row.parents,
             } = Some(v);
         }
         6 => draft.context.0 = random.below(draft.types.len()) as u32,
@@ -1053,6 +1104,7 @@ fn damaged_draft(mut draft: Draft, random: &mut Random) -> Case {
         8 | 9 if !draft.policies.is_empty() => damage_terms(&mut draft, random),
         10..=15 if !draft.policies.is_empty() => damage_links(&mut draft, random),
         16..=20 if !draft.groups().is_empty() => damage_groups(&mut draft, random),
+        21..=28 if !draft.entities.is_empty() => return damage_parents(draft, random),
         _ => {
             // A node whose second child is another one.
             for row in &mut draft.nodes {
@@ -1171,6 +1223,58 @@ fn damage_groups(draft: &mut Draft, random: &mut Random) {
     draft.types[at] = TypeRow::Entity(kinds);
 }
 
+/// Unended bytes after the entity lines.
+const UNENDED: [&[u8]; 6] = [b"entity", b"entity=", b"entity=9999,?,?,?", b"principal=0,?", b"\x7f", b"e"];
+
+/// Lines after the entity lines that do not belong there; the first ones do not begin with `entity=`.
+const STRANGE: [&[u8]; 13] = [
+    b"",
+    b"entity",
+    b"Entity=0,?,?,?",
+    b" entity=0,?,?,?",
+    b"\x7f",
+    b"text=a",
+    b"policy=0,permit,0",
+    b"entity=",
+    b"entity=0,?,?",
+    b"entity=0,?,?,?",
+    b"entity=?,?,?,?",
+    b"entity=9999,?,?,?",
+    b"entity=99999,1,1,1",
+];
+
+/// Entities that reach a kind which is not above: other kinds above, and parents that each line may have by itself. Then what
+/// follows the entity lines: as it was, a strange line, nothing more, or an unended rest.
+fn damage_parents(mut draft: Draft, random: &mut Random) -> Case {
+    if random.chance(80) {
+        for kind in 0..draft.kinds.len() {
+            draft.shapes[kind].above = some(random, draft.kinds.len(), 3);
+        }
+        for place in 0..draft.entities.len() {
+            let above = draft.shapes[kind_of(&draft, draft.entities[place].entity) as usize].above.clone();
+            let parents = random_parents(&mut draft, random, &above);
+            let known = draft.mode == Mode::Complete || random.chance(80);
+            draft.entities[place].parents = known.then(|| draft.value(ValueRow::Set(parents)));
+        }
+    } else {
+        let above = &mut draft.shapes[random.below(draft.kinds.len())].above;
+        above.truncate(above.len().saturating_sub(1));
+    }
+    let mut lines = draft.lines();
+    let end = lines.iter().rposition(|line| line.starts_with(b"entity=")).expect("an entity line") + 1;
+    let mut rest: &[u8] = b"";
+    match random.below(10) {
+        0 => lines.truncate(end),
+        1 | 2 => {
+            lines.truncate(end);
+            rest = random.pick(&UNENDED);
+        }
+        3..=5 => lines.insert(end, random.pick(&STRANGE).to_vec()),
+        _ => (),
+    }
+    Case { mode: draft.mode, bytes: [&bytes_of(&lines), rest].concat() }
+}
+
 // Limits -----------------------------------------------------------------------------------------------------------------
 
 /// A small sheet without policies; types 0 to 3 are bool, the empty record, entity and long.
@@ -1225,13 +1329,39 @@ fn people(draft: &mut Draft, types: [u32; 2]) -> u32 {
     draft.ty(TypeRow::Entity(vec![0, 2]))
 }
 
+/// Listed entities of these kinds in a row, each the parent of the one before; the last has none, or the first where they are a circle.
+fn kin(draft: &mut Draft, kinds: &[u32], circle: bool) -> Vec<u32> {
+    let mut entity = |(n, kind): (usize, &u32)| {
+        let text = draft.text(format!("e{n}").as_bytes());
+        draft.value(ValueRow::Entity(*kind, text))
+    };
+    let row: Vec<u32> = kinds.iter().enumerate().map(&mut entity).collect();
+    for (n, entity) in row.iter().enumerate() {
+        let parents = match n + 1 < row.len() {
+            true => vec![row[n + 1]],
+            false if circle => vec![row[0]],
+            false => Vec::new(),
+        };
+        let parents = Some(draft.value(ValueRow::Set(parents)));
+        draft.entities.push(EntityRow { entity: *entity, attributes: None, tags: None, parents });
+    }
+    row
+}
+
+/// A policy that asks whether one entity of kind 0 is in another.
+fn within(draft: &mut Draft, low: u32, high: u32) {
+    let [low, high] = [low, high].map(|v| draft.node(2, Operation::Lit(v)));
+    let root = draft.node(0, Operation::Two(Two::In, low, high));
+    draft.policy(3, true, root);
+}
+
 /// Sheets at the limits of the table and one step over them.
 pub fn at_limit(random: &mut Random) -> Case {
     let over = random.below(2);
     limit(random.below(LIMITS), over, random)
 }
 
-pub const LIMITS: usize = 33;
+pub const LIMITS: usize = 38;
 
 /// The limit of a number, met (`over` 0) or exceeded by one.
 pub fn limit(which: usize, over: usize, random: &mut Random) -> Case {
@@ -1275,7 +1405,7 @@ pub fn limit(which: usize, over: usize, random: &mut Random) -> Case {
             for n in 0..128 + over {
                 let t = draft.text(format!("t{n}").as_bytes());
                 let entity = draft.value(ValueRow::Entity(0, t));
-                draft.entities.push(EntityRow { entity, attributes: None, tags: None, ancestors: None });
+                draft.entities.push(EntityRow { entity, attributes: None, tags: None, parents: None });
             }
         }
         6 => {
@@ -1526,6 +1656,41 @@ pub fn limit(which: usize, over: usize, random: &mut Random) -> Case {
             let root = draft.node(0, Operation::HasPath(lit, vec![3, 3]));
             draft.policy(3, true, root);
         }
+        32 => {
+            // A parent's parent of a kind that is above, or that is not.
+            draft.shapes[0].above = if over == 0 { vec![0, 2] } else { vec![2] };
+            kin(&mut draft, &[0, 2, 0], false);
+        }
+        33 => {
+            // A circle of two entities, whose own kinds are above themselves too, or are not.
+            draft.shapes[0].above = if over == 0 { vec![0, 2] } else { vec![2] };
+            draft.shapes[2].above = if over == 0 { vec![0, 2] } else { vec![0] };
+            kin(&mut draft, &[0, 2], true);
+        }
+        34 => {
+            // A row of 128 entities, the last two of other kinds, of which the last is above all, or not above the first ones.
+            draft.shapes[0].above = if over == 0 { vec![0, 1, 2] } else { vec![0, 2] };
+            draft.shapes[2].above = vec![1];
+            let row = kin(&mut draft, &[vec![0; 126], vec![2, 1]].concat(), false);
+            within(&mut draft, row[0], row[125]);
+        }
+        35 => {
+            // A circle of 128 entities, or a row whose last one has unknown parents: what the first reaches is known, or is not.
+            let row = kin(&mut draft, &[0; 128], true);
+            if over == 1 {
+                draft.entities[127].parents = None;
+            }
+            within(&mut draft, row[0], row[64]);
+        }
+        36 => {
+            // A kind reached that is not above, at the sheet's end or before an entity line that is not ended.
+            draft.shapes[0].above = vec![2];
+            kin(&mut draft, &[0, 2, 0], false);
+            let lines = draft.lines();
+            let end = lines.iter().rposition(|line| line.starts_with(b"entity=")).expect("an entity line") + 1;
+            let rest: &[u8] = [&b""[..], b"entity=0,?,?,?"][over];
+            return Case { mode: Mode::Partial, bytes: [&bytes_of(&lines[..end]), rest].concat() };
+        }
         _ => {
             // A pattern with many stars on a text that almost matches.
             let t = draft.text(&[&vec![b'a'; 127 - over][..], b"b"].concat());
@@ -1546,6 +1711,7 @@ pub fn limit(which: usize, over: usize, random: &mut Random) -> Case {
 #[cfg(test)]
 mod tests {
     use super::*;
+    use crate::parents::Shown;
 
     /// The number that the limit `which` gets, met or exceeded.
     fn limited(which: usize, over: usize, seed: u64) -> u32 {
@@ -1569,6 +1735,40 @@ mod tests {
                 assert_eq!((limited(which, 0, seed), limited(which, 1, seed)), (0, exceeded), "limit {which}, seed {seed}");
             }
         }
+    }
+
+    #[test]
+    fn parents_at_their_limits() {
+        for seed in 0..5 {
+            for (which, met, exceeded) in [(32, 0, 7), (33, 0, 7), (34, 0, 7), (35, 0, 0), (36, 7, 3)] {
+                assert_eq!((limited(which, 0, seed), limited(which, 1, seed)), (met, exceeded), "limit {which}, seed {seed}");
+            }
+        }
+    }
+
+    #[test]
+    fn valid_sheets_with_parents() {
+        let mut shown = Shown::default();
+        for n in 0..2000 {
+            let random = &mut Random::of(6, n);
+            let draft = valid(random, false);
+            for draft in [completion(&draft, random), draft] {
+                let bytes = draft.bytes();
+                assert!(crate::sheet::read(draft.mode, &bytes).is_ok(), "sheet {n}");
+                shown.see(draft.mode, &bytes);
+            }
+        }
+        assert!(shown.circles > 200 && shown.rows > 400 && shown.unknown > 400, "{shown:?}");
+    }
+
+    #[test]
+    fn sheets_that_reach_what_is_not_above() {
+        let mut shown = Shown::default();
+        for n in 0..5000 {
+            let Case { mode, bytes } = sheet(6, n);
+            shown.see(mode, &bytes);
+        }
+        assert!(shown.refused > 20, "{shown:?}");
     }
 
     #[test]

@@ -68,10 +68,10 @@ fn rules(count: usize) -> Vec<u8> {
         let score = draft.value(ValueRow::Long(30 + i64::from(kind)));
         let attributes = draft.value(ValueRow::Record(vec![(t[8], score), (t[9], places[0]), (t[11], name)]));
         let above = draft.value(ValueRow::Set(places.iter().copied().step_by(2).collect()));
-        draft.entities.push(EntityRow { entity, attributes: Some(attributes), tags: Some(none), ancestors: Some(above) });
+        draft.entities.push(EntityRow { entity, attributes: Some(attributes), tags: Some(none), parents: Some(above) });
     }
     for place in &places {
-        draft.entities.push(EntityRow { entity: *place, attributes: Some(none), tags: None, ancestors: Some(lone) });
+        draft.entities.push(EntityRow { entity: *place, attributes: Some(none), tags: None, parents: Some(lone) });
     }
     draft.entities.sort_by_key(|row| row.entity);
     for n in 0..count {
@@ -140,6 +140,11 @@ pub fn all() -> Vec<(&'static str, Mode, Vec<u8>)> {
     add("any on long sets without a common member", long_sets(Two::Any));
     add("all on long sets", long_sets(Two::All));
     add("in long sets, long ancestors", ancestors());
+    add("in, through a row of 128 entities", many_in(|draft| row_of(draft, false), 1));
+    add("in, through a circle of 128 entities", many_in(|draft| row_of(draft, true), 1));
+    add("in, 128 entities that are all each other's parents", many_in(|draft| all_of(draft, 128), 1));
+    add("in long sets, 128 entities that are all each other's parents", many_in(|draft| all_of(draft, 128), 120));
+    add("128 entities, each with a long set of parents of its own", greatest(own_sets));
     add("128 entities, many look-ups", look_ups());
     add("get in a long record", long_records());
     add("haspath over many steps", paths());
@@ -153,6 +158,13 @@ pub fn all() -> Vec<(&'static str, Mode, Vec<u8>)> {
     add("64 policies over one root, made values among many", shared_made());
     add("64 policies over one root, any on long sets", shared_sets());
     add("64 policies over one root, get in a long record", shared_gets());
+    add("16 policies over one root of 20 in, through a row of 128 entities", shared_in(|draft| row_of(draft, false), 1));
+    add(
+        "16 policies over one root of 20 in, 128 entities that are all each other's parents",
+        shared_in(|draft| all_of(draft, 128), 1),
+    );
+    add("16 policies over one root of 20 in, 72 entities with long sets of parents", shared_own_sets(1));
+    add("16 policies over one root of 20 in long sets, 72 entities with long sets of parents", shared_own_sets(100));
     add("haspath of 2,000 steps, 32 kinds that declare the group of all", steps_in_one_group());
     add("haspath over many steps, each kind declares a group of its own", steps_in_groups());
     add("in of two groups, no pair allowed", pairs_of_kinds());
@@ -168,6 +180,12 @@ pub fn all() -> Vec<(&'static str, Mode, Vec<u8>)> {
     add("complete: all on long sets", completed(long_sets(Two::All)));
     add("complete: in long sets, long ancestors", completed(ancestors()));
     add("complete: 128 entities, many look-ups", completed(look_ups()));
+    add("complete: in, 128 entities with one set of 300 parents", completed(many_in(|draft| all_of(draft, 300), 1)));
+    add("complete: 16 policies over one root of 20 in, 72 entities with long sets of parents", completed(shared_own_sets(1)));
+    add(
+        "complete: 16 policies over one root of 20 in long sets, 72 entities with long sets of parents",
+        completed(shared_own_sets(100)),
+    );
     add("complete: many made sets", completed(made_sets()));
     list
 }
@@ -183,7 +201,7 @@ fn completed(mut draft: Draft) -> Draft {
     for row in &mut draft.entities {
         row.attributes = row.attributes.or(Some(none));
         row.tags = row.tags.or(Some(none));
-        row.ancestors = row.ancestors.or(Some(lone));
+        row.parents = row.parents.or(Some(lone));
     }
     draft
 }
@@ -470,26 +488,121 @@ fn long_sets(two: Two) -> Draft {
 }
 
 fn ancestors() -> Draft {
-    let mut draft = small();
-    draft.alone(0);
+    let mut draft = kinless();
     let set = draft.ty(TypeRow::Set(2));
-    let count = 220u32;
-    let entities: Vec<u32> = (0..count)
+    let entities = brokers(&mut draft, 220);
+    let [even, odd] = [0, 1].map(|rest| entities.iter().copied().filter(|v| v % 2 == rest).collect::<Vec<u32>>());
+    kin(&mut draft, &even, |_| Vec::new());
+    let t = draft.text(b"low");
+    let low = draft.value(ValueRow::Entity(0, t));
+    kin(&mut draft, &[low], |_| even.clone());
+    let odd = draft.value(ValueRow::Set(odd));
+    repeated(draft, Two::Or, |draft, _| is_in(draft, low, set, odd))
+}
+
+/// A small sheet whose value 0 is the empty record, so that entity lines with known parts are short.
+fn kinless() -> Draft {
+    let mut draft = small();
+    draft.value(ValueRow::Record(Vec::new()));
+    draft
+}
+
+/// So many entities of kind 0.
+fn brokers(draft: &mut Draft, count: usize) -> Vec<u32> {
+    (0..count)
         .map(|n| {
             let t = draft.text(format!("{n}").as_bytes());
             draft.value(ValueRow::Entity(0, t))
         })
-        .collect();
-    let even = draft.value(ValueRow::Set(entities.iter().copied().filter(|v| v % 2 == 0).collect()));
-    let odd = draft.value(ValueRow::Set(entities.iter().copied().filter(|v| v % 2 == 1).collect()));
-    let t = draft.text(b"low");
-    let low = draft.value(ValueRow::Entity(0, t));
-    draft.entities.push(EntityRow { entity: low, attributes: None, tags: None, ancestors: Some(even) });
-    repeated(draft, Two::Or, |draft, _| {
-        let x = draft.node(2, Operation::Lit(low));
-        let y = draft.node(set, Operation::Lit(odd));
-        draft.node(0, Operation::Two(Two::In, x, y))
+        .collect()
+}
+
+/// Lists the entities of a row, with the parents that `parents` gives for the place of each, and gives the first.
+fn kin(draft: &mut Draft, row: &[u32], parents: impl Fn(usize) -> Vec<u32>) -> u32 {
+    let none = Some(draft.value(ValueRow::Record(Vec::new())));
+    for (n, entity) in row.iter().enumerate() {
+        let mut set = parents(n);
+        set.sort();
+        let parents = Some(draft.value(ValueRow::Set(set)));
+        draft.entities.push(EntityRow { entity: *entity, attributes: none, tags: none, parents });
+    }
+    row[0]
+}
+
+/// 128 entities, each the parent of the one before; the first one. The last has no parents, or the first where they are a circle.
+fn row_of(draft: &mut Draft, circle: bool) -> u32 {
+    let row = brokers(draft, 128);
+    kin(draft, &row, |n| match n + 1 < row.len() {
+        true => vec![row[n + 1]],
+        false => row[..usize::from(circle)].to_vec(),
     })
+}
+
+/// 128 entities which have these and more, so many together, as parents.
+fn all_of(draft: &mut Draft, parents: usize) -> u32 {
+    let row = brokers(draft, parents);
+    kin(draft, &row[..128], |_| row.clone())
+}
+
+/// So many entities, of which each has as its parents so many that follow it in a circle, a set that no other has; the first one.
+fn own_sets_of(draft: &mut Draft, lines: usize, parents: usize) -> u32 {
+    let row = brokers(draft, lines);
+    kin(draft, &row, |n| (1..=parents).map(|step| row[(n + step) % lines]).collect())
+}
+
+fn own_sets(parents: usize) -> Draft {
+    let mut draft = kinless();
+    own_sets_of(&mut draft, 128, parents);
+    draft
+}
+
+/// What nothing reaches: an entity, or a set of so many, with its type.
+fn unreached(draft: &mut Draft, count: usize) -> (u32, u32) {
+    let others: Vec<u32> = (0..count as u32)
+        .map(|n| {
+            let t = draft.text(format!("x{n}").as_bytes());
+            draft.value(ValueRow::Entity(0, t))
+        })
+        .collect();
+    match others[..] {
+        [one] => (2, one),
+        _ => (draft.ty(TypeRow::Set(2)), draft.value(ValueRow::Set(others))),
+    }
+}
+
+/// Asks as often as fits whether an entity is in what it does not reach.
+fn many_in(low: impl Fn(&mut Draft) -> u32, targets: usize) -> Draft {
+    let mut draft = kinless();
+    let low = low(&mut draft);
+    let (ty, high) = unreached(&mut draft, targets);
+    repeated(draft, Two::Or, |draft, _| is_in(draft, low, ty, high))
+}
+
+fn is_in(draft: &mut Draft, low: u32, ty: u32, high: u32) -> u32 {
+    let x = draft.node(2, Operation::Lit(low));
+    let y = draft.node(ty, Operation::Lit(high));
+    draft.node(0, Operation::Two(Two::In, x, y))
+}
+
+/// 16 policies over one root that asks twenty times and makes a set of the answers: 320 times together, in 992 uses.
+fn shared_in(low: impl Fn(&mut Draft) -> u32, targets: usize) -> Draft {
+    let mut draft = kinless();
+    let low = low(&mut draft);
+    let (ty, high) = unreached(&mut draft, targets);
+    let answers = draft.ty(TypeRow::Set(0));
+    let leaves = (0..20).map(|_| is_in(&mut draft, low, ty, high)).collect();
+    let set = draft.node(answers, Operation::Set(leaves));
+    let root = draft.node(0, Operation::One(One::Empty, set));
+    for n in 0..16 {
+        let id = draft.text(format!("{n}").as_bytes());
+        draft.policy(id, true, root);
+    }
+    draft
+}
+
+/// The same over as many parents as fit: fewer entities leave more room for them.
+fn shared_own_sets(targets: usize) -> Draft {
+    greatest(|parents| shared_in(|draft| own_sets_of(draft, 72, parents), targets))
 }
 
 fn look_ups() -> Draft {
@@ -500,17 +613,12 @@ fn look_ups() -> Draft {
     let yes = draft.value(ValueRow::Bool(true));
     let attributes = draft.value(ValueRow::Record(vec![(a, yes)]));
     let tags = draft.value(ValueRow::Record(Vec::new()));
-    let ancestors = draft.value(ValueRow::Set(Vec::new()));
+    let parents = draft.value(ValueRow::Set(Vec::new()));
     let mut last = 0;
     for n in 0..128 {
         let t = draft.text(format!("{n}").as_bytes());
         last = draft.value(ValueRow::Entity(0, t));
-        draft.entities.push(EntityRow {
-            entity: last,
-            attributes: Some(attributes),
-            tags: Some(tags),
-            ancestors: Some(ancestors),
-        });
+        draft.entities.push(EntityRow { entity: last, attributes: Some(attributes), tags: Some(tags), parents: Some(parents) });
     }
     repeated(draft, Two::And, |draft, _| {
         let lit = draft.node(2, Operation::Lit(last));
@@ -835,6 +943,13 @@ mod tests {
             assert_eq!((draft.policies.len(), draft.uses()), (64, 1024));
             let answer = run::answer(draft.mode, &draft.bytes()).expect("the sheet is accepted");
             assert!(answer.is_some_and(|answer| answer.len() > 900_000));
+        }
+    }
+
+    #[test]
+    fn as_many_in_as_can_be() {
+        for draft in [shared_own_sets(1), shared_own_sets(100)] {
+            assert_eq!((draft.policies.len(), draft.uses(), draft.entities.len()), (16, 992, 72));
         }
     }
 

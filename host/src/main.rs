@@ -13,6 +13,8 @@ mod heavy;
 #[cfg(all(original, feature = "library"))]
 mod library;
 #[cfg(original)]
+mod parents;
+#[cfg(original)]
 mod random;
 #[cfg(original)]
 mod replay;

@@ -9,6 +9,7 @@
 //! then the bytes of the sheet, then, if the number is 0, as many bytes of the answer as the length says.
 
 use crate::generate::{self, Case};
+use crate::parents::Shown;
 use crate::random::Random;
 use crate::run;
 use crate::sheet::Mode;
@@ -24,6 +25,7 @@ const LONGEST: usize = 2500;
 struct List {
     records: usize,
     grouped: usize,
+    shown: Shown,
     numbers: [usize; 11],
     bytes: Vec<u8>,
 }
@@ -50,13 +52,14 @@ impl List {
         }
         self.records += 1;
         self.grouped += usize::from(has_group(&case.bytes));
+        self.shown.see(case.mode, &case.bytes);
         self.numbers[number as usize] += 1;
     }
 }
 
 /// The bytes of the list, and a line about it.
 pub fn list() -> (Vec<u8>, String) {
-    let mut list = List { records: 0, grouped: 0, numbers: [0; 11], bytes: Vec::new() };
+    let mut list = List { records: 0, grouped: 0, shown: Shown::default(), numbers: [0; 11], bytes: Vec::new() };
     // The limits, each met and exceeded.
     for which in 0..generate::LIMITS {
         for over in 0..2 {
@@ -86,8 +89,14 @@ pub fn list() -> (Vec<u8>, String) {
     let about: Vec<String> = list.numbers.iter().enumerate().map(|(n, count)| format!("{n}:{count}")).collect();
     let mut bytes = format!("{}\n", list.records).into_bytes();
     bytes.extend_from_slice(&list.bytes);
-    let line =
-        format!("{} records, {} bytes; numbers {}; {} with groups", list.records, bytes.len(), about.join(" "), list.grouped);
+    let line = format!(
+        "{} records, {} bytes; numbers {}; {} with groups; {}",
+        list.records,
+        bytes.len(),
+        about.join(" "),
+        list.grouped,
+        list.shown.line()
+    );
     (bytes, line)
 }
 

@@ -21,7 +21,8 @@ use original::validator::{Attributes, KindRow, ValidatorSchema};
 use original::{NonEmpty, SmolStr};
 
 use crate::sheet::{
-    self, LinkRow, Mode, One, Operation, Refusal, Rule, Sheet, Two, TypeRow, ValueRow, Variable, ANSWER_BYTES, WORK_WORDS,
+    self, EntityRow, LinkRow, Mode, One, Operation, Refusal, Rule, Sheet, Two, TypeRow, ValueRow, Variable, ANSWER_BYTES,
+    WORK_WORDS,
 };
 
 /// A value whose leaves are more than this, counted along every path, is not walked by the original's search for
@@ -157,7 +158,10 @@ impl Ground {
     }
 
     fn uid_of(&self, value: u32) -> EntityUID {
-        rows::value(value).get_as_entity_row()
+        match rows::value(value).value {
+            ValueKind::Lit(original::ast::Literal::EntityUID(uid)) => uid.as_ref().clone(),
+            _ => unreachable!("typing wants an entity"),
+        }
     }
 
     fn record_of(&self, value: u32) -> Arc<BTreeMap<SmolStr, Value>> {
@@ -167,11 +171,8 @@ impl Ground {
         }
     }
 
-    fn uids_of(&self, value: u32) -> HashSet<EntityUID> {
-        match rows::value(value).value {
-            ValueKind::Set(set) => set.iter().map(EntityRowOf::get_as_entity_row).collect(),
-            _ => unreachable!("typing wants a set"),
-        }
+    fn uids_of(&self, values: &[u32]) -> HashSet<EntityUID> {
+        values.iter().map(|v| self.uid_of(*v)).collect()
     }
 
     pub fn type_number(&self, ty: &Type) -> u32 {
@@ -240,20 +241,6 @@ impl Ground {
     }
 }
 
-/// The entity of an entity value.
-trait EntityRowOf {
-    fn get_as_entity_row(&self) -> EntityUID;
-}
-
-impl EntityRowOf for Value {
-    fn get_as_entity_row(&self) -> EntityUID {
-        match &self.value {
-            ValueKind::Lit(original::ast::Literal::EntityUID(uid)) => uid.as_ref().clone(),
-            _ => unreachable!("typing wants an entity"),
-        }
-    }
-}
-
 fn binary_op(two: Two) -> BinaryOp {
     match two {
         Two::Eq => BinaryOp::Eq,
@@ -310,11 +297,12 @@ fn partial_request(sheet: &Sheet, ground: &Ground) -> PartialRequest {
 
 fn partial_entities(sheet: &Sheet, ground: &Ground) -> PartialEntities {
     let mut entities = PartialEntities::new();
+    let parents = sheet.parents();
     for row in &sheet.entities {
         entities.add(
             ground.uid_of(row.entity),
             row.attributes.map(|v| ground.record_of(v).as_ref().clone()),
-            row.ancestors.map(|v| ground.uids_of(v)),
+            parents.known(row.entity).map(|above| ground.uids_of(&above)),
             row.tags.map(|v| ground.record_of(v).as_ref().clone()),
         );
     }
@@ -401,11 +389,12 @@ impl Complete {
             resource: known(sheet.resource.0, sheet.resource.1.expect(given)),
             context: Some(Context(ground.record_of(sheet.context.1.expect(given)))),
         };
+        let parents = sheet.parents();
         let entities = Entities::of(sheet.entities.iter().map(|row| {
             Entity::of(
                 ground.uid_of(row.entity),
                 &ground.record_of(row.attributes.expect(given)),
-                ground.uids_of(row.ancestors.expect(given)),
+                ground.uids_of(&parents.reached(row.entity).entities),
                 &ground.record_of(row.tags.expect(given)),
             )
         }));
@@ -580,6 +569,16 @@ fn said(mode: Mode, answer: &[u8]) -> Option<Said> {
     Some(said)
 }
 
+/// Whether the line of an entity agrees with the partial sheet's: "every known .. entity part is the same". "Two sheets agree on
+/// parents", so these are compared as they stand, not what is reached through them.
+fn agrees(partial: &EntityRow, complete: &EntityRow) -> bool {
+    let same = |known: Option<u32>, other: Option<u32>| known.is_none() || known == other;
+    partial.entity == complete.entity
+        && same(partial.attributes, complete.attributes)
+        && same(partial.tags, complete.tags)
+        && same(partial.parents, complete.parents)
+}
+
 /// Demand 3 by running, from the bytes of three sheets and their three answers: all that is settled is the same, and
 /// every residual yields what its policy yields. Gives the first thing that is not so.
 pub fn demand3(sheets: [&[u8]; 3], answers: [&[u8]; 3]) -> Result<(), String> {
@@ -598,6 +597,9 @@ pub fn demand3(sheets: [&[u8]; 3], answers: [&[u8]; 3]) -> Result<(), String> {
         }
         if (first.day, &first.links, &first.terms) != (sheet.day, &sheet.links, &sheet.terms) {
             return Err("the sheets do not agree: another day, link or term".into());
+        }
+        if !first.entities.iter().all(|row| sheet.entities.iter().any(|other| agrees(row, other))) {
+            return Err("the sheets do not agree: an entity is not listed, or a known part of it is another".into());
         }
         let policies = sheet.on_term();
         if partial.policies.len() != complete.policies.len() || partial.policies.len() != policies.len() {

@@ -1,9 +1,12 @@
 //! The sheet, read from its bytes, with refusals 2 to 8. Written from documents 01 and 02, apart from the proved code.
 //!
 //! Each line goes through the checks in the order of their numbers: form (3), too many (4), references (5), depth (6),
-//! typing (7), uses (8). The first faulty line ends the reading.
+//! typing (7), uses (8). The first faulty line ends the reading. Where the entity lines end, before what follows is looked at, the
+//! kinds of all that entities reach are checked (7).
 
 use std::collections::{BTreeSet, HashMap, HashSet};
+
+use crate::parents::Parents;
 
 pub const SHEET_BYTES: usize = 16384;
 pub const WORK_WORDS: usize = 16384;
@@ -111,7 +114,7 @@ pub struct EntityRow {
     pub entity: u32,
     pub attributes: Option<u32>,
     pub tags: Option<u32>,
-    pub ancestors: Option<u32>,
+    pub parents: Option<u32>,
 }
 
 #[derive(Clone, Copy, Debug, PartialEq, Eq)]
@@ -319,6 +322,7 @@ struct Reader<'a> {
     type_depths: Vec<u32>,
     value_depths: Vec<u32>,
     node_depths: Vec<u32>,
+    entity_lines: Vec<u32>,
     node_lines: Vec<u32>,
     policy_lines: Vec<u32>,
     /// The nodes of the tree under each node, its own one counted, and of those under the policies read so far.
@@ -346,6 +350,7 @@ pub fn read(mode: Mode, bytes: &[u8]) -> Result<Sheet<'_>, Refusal> {
         type_depths: Vec::new(),
         value_depths: Vec::new(),
         node_depths: Vec::new(),
+        entity_lines: Vec::new(),
         node_lines: Vec::new(),
         policy_lines: Vec::new(),
         sizes: Vec::new(),
@@ -355,7 +360,13 @@ pub fn read(mode: Mode, bytes: &[u8]) -> Result<Sheet<'_>, Refusal> {
     };
     let mut rest = bytes;
     let mut line = 0;
-    while !rest.is_empty() {
+    loop {
+        if let Some(unfit) = reader.unfit_before(rest) {
+            return refuse(7, unfit);
+        }
+        if rest.is_empty() {
+            break;
+        }
         line += 1;
         let Some(end) = rest.iter().position(|b| *b == b'\n') else {
             return refuse(3, line);
@@ -611,7 +622,7 @@ impl<'a> Reader<'a> {
                 entity: index(items[0])?,
                 attributes: self.known_or_not(items[1])?,
                 tags: self.known_or_not(items[2])?,
-                ancestors: self.known_or_not(items[3])?,
+                parents: self.known_or_not(items[3])?,
             })),
             (Key::Principal | Key::Resource, 2) => Some(Row::Request(index(items[0])?, self.known_or_not(items[1])?)),
             (Key::Action, 2) => Some(Row::Request(index(items[0])?, Some(index(items[1])?))),
@@ -727,7 +738,7 @@ impl<'a> Reader<'a> {
                 value(row.entity)
                     && row.attributes.is_none_or(value)
                     && row.tags.is_none_or(value)
-                    && row.ancestors.is_none_or(value)
+                    && row.parents.is_none_or(value)
                     && sheet.entities.last().is_none_or(|before| before.entity < row.entity)
             }
             Row::Request(k, n) => {
@@ -842,7 +853,7 @@ impl<'a> Reader<'a> {
         let shape = self.sheet.shapes[kind as usize].clone();
         row.attributes.is_none_or(|v| self.fits(v, shape.attributes))
             && row.tags.is_none_or(|v| self.tags_fit(v, shape.tags))
-            && row.ancestors.is_none_or(|v| self.ancestors_fit(v, &shape.above))
+            && row.parents.is_none_or(|v| self.parents_fit(v, &shape.above))
     }
 
     /// "no tags where it says `-`, else tags of the tag type"
@@ -856,15 +867,25 @@ impl<'a> Reader<'a> {
         }
     }
 
-    /// "each ancestor's kind among those above"
-    fn ancestors_fit(&self, ancestors: u32, above: &[u32]) -> bool {
-        let ValueRow::Set(items) = &self.sheet.values[ancestors as usize] else {
+    /// "Each ancestor's kind must be among those above .. checked for its parents when it is read"
+    fn parents_fit(&self, parents: u32, above: &[u32]) -> bool {
+        let ValueRow::Set(items) = &self.sheet.values[parents as usize] else {
             return false;
         };
         items.iter().all(|v| match self.sheet.values[*v as usize] {
             ValueRow::Entity(kind, _) => above.contains(&kind),
             _ => false,
         })
+    }
+
+    /// ".. and for all reached when a line that does not begin with `entity=`, or the sheet's end, follows, before that line's own
+    /// checks, the lowest such entity line first": its number, where the last line read is an entity line and `rest` follows.
+    fn unfit_before(&self, rest: &[u8]) -> Option<u32> {
+        if self.last != Key::Entity || rest.starts_with(b"entity=") {
+            return None;
+        }
+        let unfit = self.sheet.parents().first_unfit(&self.sheet.entities, &self.sheet.shapes);
+        unfit.map(|place| self.entity_lines[place])
     }
 
     fn typed_node(&mut self, node: &NodeRow) -> bool {
@@ -954,7 +975,10 @@ impl<'a> Reader<'a> {
                 self.value_depths.push(depth);
                 sheet.values.push(row);
             }
-            Row::Entity(row) => sheet.entities.push(row),
+            Row::Entity(row) => {
+                self.entity_lines.push(line);
+                sheet.entities.push(row);
+            }
             Row::Request(kind, text) => match key {
                 Key::Principal => sheet.principal = (kind, text),
                 Key::Action => sheet.action = (kind, text.expect("an action is known")),
@@ -998,6 +1022,10 @@ fn required_there(declared: &[(u32, bool, u32)], fields: &[(u32, u32)]) -> bool 
 }
 
 impl Sheet<'_> {
+    pub fn parents(&self) -> Parents<'_> {
+        Parents::of(&self.values, &self.entities)
+    }
+
     /// The policies that run on the sheet's day: "Both edge days belong to the term", "Without a term it always runs."
     pub fn on_term(&self) -> Vec<Rule<'_>> {
         let runs = |n: u32| {
@@ -1171,6 +1199,51 @@ mod tests {
             "node=5,lit,0/node=8,err/node=5,gettag,0,1/node=4,is,2,0/policy=0,permit,3/",
         ] {
             assert_eq!(refused_after(&head, lines), (0, 0), "{lines}");
+        }
+    }
+
+    #[test]
+    fn parents() {
+        // A tariff is above a broker, and a broker above a tariff. Values 0 and 1 are brokers, 2 and 3 tariffs; 4 to 7 are the sets of
+        // each of them, 8 the empty set, 9 a record.
+        let values = "value=entity,0,3/value=entity,0,2/value=entity,2,3/value=entity,2,2/value=set,0/value=set,1/value=set,2/value=set,3/\
+                      value=set/value=record/";
+        let head = format!("{TYPES}shape=3,-,2/shape=3,-/shape=3,-,0/{values}");
+        let rest = REQUEST.split_once("principal").map(|(_, rest)| format!("principal{rest}")).expect("a principal");
+        for (lines, wanted) in [
+            ("entity=0,?,?,6/entity=2,?,?,8/", (0, 0)),
+            ("entity=0,?,?,6/entity=2,?,?,?/", (0, 0)),
+            ("entity=0,?,?,6/entity=1,?,?,7/entity=3,?,?,8/", (0, 0)),
+            // At its own line: parents that are no set, or of a kind that is not above.
+            ("entity=0,?,?,9/", (7, 1)),
+            ("entity=0,?,?,5/", (7, 1)),
+            ("entity=0,?,?,10/", (5, 1)),
+            // A broker reached through a tariff, of another line or of its own.
+            ("entity=0,?,?,6/entity=2,?,?,5/", (7, 1)),
+            ("entity=0,?,?,?/entity=1,?,?,6/entity=2,?,?,5/", (7, 2)),
+            ("entity=0,?,?,6/entity=2,?,?,4/", (7, 1)),
+        ] {
+            assert_eq!(refused_after(&head, &format!("{lines}{rest}")), wanted, "{lines}");
+        }
+        // What follows the entity lines, where the first of them reaches a kind that is not above it.
+        let lines = "entity=0,?,?,6/entity=2,?,?,5/";
+        for (rest, wanted) in [
+            ("", (7, 1)),
+            ("/", (7, 1)),
+            ("x/", (7, 1)),
+            ("\x7f/", (7, 1)),
+            ("entity/", (7, 1)),
+            ("entity", (7, 1)),
+            ("principal=x/", (7, 1)),
+            ("principal=0,?", (7, 1)),
+            ("entity=3,?,?,?", (3, 3)),
+            ("entity=3,?,?/", (3, 3)),
+            ("entity=/", (3, 3)),
+            ("entity=1,?,?,?/", (5, 3)),
+            ("entity=3,?,?,6/", (7, 3)),
+            ("entity=3,?,?,?/", (7, 1)),
+        ] {
+            assert_eq!(refused_after(&head, &format!("{lines}{rest}")), wanted, "{rest}");
         }
     }
 

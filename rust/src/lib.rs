@@ -1,7 +1,7 @@
 //! A partial evaluator for Cedar policies, proved: a safe crate over its static library.
 //!
-//! A *sheet* is a text of `key=value` lines with a schema, known values and entities, a request, its day, policies, the links that fill
-//! their slots, and their terms. The answer says for each policy on term that day whether it is true, false, in error or open, what
+//! A *sheet* is a text of `key=value` lines with a schema, known values, entities with their parents, a request, its day, policies, the links
+//! that fill their slots, and their terms. The answer says for each policy on term that day whether it is true, false, in error or open, what
 //! is left of it, and the decision. The library is written in Rattle, and every function of it is proved to meet its contract; the repository's README.md says what is proved and what is assumed.
 //!
 //! [`Evaluator`] keeps the slices that a call works in and gives an [`Outcome`]:
@@ -113,7 +113,7 @@ impl Refusal {
             4 => "one line too many of a key, or over 1,024 node uses",
             5 => "a reference is absent, or a repeat, or wrong order, or a grouped kind without its type line, or a term's last day before its first, or a slot without its value",
             6 => "depth over 64",
-            7 => "typing, request kind or shape, or a link's value that does not fit its slot",
+            7 => "typing, request kind or shape, or a link's value that does not fit its slot, or a kind reached through parents that is not above",
             8 => "a node is used twice or never",
             10 => "the answer buffer is shorter than the answer",
             _ => "no refusal",

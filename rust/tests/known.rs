@@ -132,6 +132,45 @@ fn groups() {
     }
 }
 
+#[test]
+fn parents() {
+    let mut evaluator = Evaluator::new();
+    let (head, rest) = SHEET.split_at(SHEET.find("principal=").expect("a principal"));
+    let request = &rest[..rest.find("node=").expect("nodes")];
+    let values = "value=entity,0,4\nvalue=entity,0,5\nvalue=set,2\nvalue=set,3\nvalue=set,0\nvalue=set\n";
+    // brokers 0, 2 and 3, their sets 6, 4 and 5, the empty set 7; a broker may be in a broker; is 0 in 3?
+    let with = |entities: &str| {
+        let head = head.replacen("shape=1,-\n", "shape=1,-,0\n", 1);
+        format!("{head}{values}{entities}{request}node=2,lit,0\nnode=2,lit,3\nnode=0,in,0,1\npolicy=5,permit,2\n")
+    };
+    let yes = "decision=allow\ncounts=1,0,0,0,0,0,0,0\nnode=0,lit,1\npolicy=5,permit,true,0\n";
+    let no = "decision=deny\ncounts=0,1,0,0,0,0,0,0\nvalue=bool,0\nnode=0,lit,8\npolicy=5,permit,false,0\n";
+    let open = "decision=open\ncounts=0,0,0,1,0,0,0,0\nnode=2,lit,0\nnode=2,lit,3\nnode=0,in,0,1\npolicy=5,permit,open,2\n";
+    for (entities, answer) in [
+        ("entity=0,?,?,4\nentity=2,?,?,5\nentity=3,?,?,7\n", yes),
+        ("entity=0,?,?,4\nentity=2,?,?,5\nentity=3,?,?,6\n", yes),
+        ("entity=0,?,?,4\nentity=2,?,?,6\n", no),
+        ("entity=0,?,?,7\n", no),
+        // what is reached is not listed, or has unknown parents
+        ("entity=0,?,?,4\nentity=2,?,?,5\n", open),
+        ("entity=0,?,?,4\nentity=2,?,?,?\n", open),
+        ("", open),
+    ] {
+        assert_eq!(evaluator.partial(with(entities).as_bytes()), Outcome::Answer(answer), "{entities}");
+    }
+    // a tariff may be in a broker, and a broker in a tariff only: broker 2 is reached from broker 0 through tariff 3
+    let unfit = |following: &str| {
+        let shapes = head.replacen("shape=1,-\nshape=1,-\nshape=1,-\n", "shape=1,-,2\nshape=1,-\nshape=1,-,0\n", 1);
+        let values = values.replace("value=entity,0,5", "value=entity,2,5");
+        format!("{shapes}{values}entity=0,?,?,5\nentity=3,?,?,4\n{following}")
+    };
+    let line = unfit("").lines().position(|line| line.starts_with("entity=")).expect("entity lines") + 1;
+    for following in [request, "", "x\n", "entity\n"] {
+        assert_eq!(evaluator.partial(unfit(following).as_bytes()), refused(7, line, 0), "{following}");
+    }
+    assert_eq!(evaluator.partial(unfit("entity=3,?,?,7\n").as_bytes()), refused(5, line + 2, 0));
+}
+
 /// 64 policies over one root of so many nodes: a comparison of the broker's name with a pattern of so many `*`, and `not`.
 fn many(nodes: usize, stars: usize) -> String {
     let ids: String = (0..64).map(|n| format!("text=p{n}\n")).collect();

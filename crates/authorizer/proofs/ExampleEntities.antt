@@ -6,6 +6,7 @@ use Prim.Native.Nat.{ℕ}
 use lib.ListN.{length}
 use Rattle.cedar.specs.Canonical.{order, same, place, insert, ascending, makeSet}
 use Rattle.sheet.specs.Forms.{keys, partial, complete, forms, formOf, slotAt, counted, tagOf, rowOf, keyOf, refs, ascendings}
+use Rattle.sheet.specs.Parents.{ancestors, unknownAbove}
 use Rattle.sheet.specs.Typing.{fitsIn, nodesUnder, typed}
 use Rattle.sheet.specs.Sheet.{found, depth, fault, more, read}
 use Rattle.sheet.specs.Content.{types, valueRows, contents, schema, trees, exprs, onTerm, nPolicies, policies, nEnv, env}
@@ -18,15 +19,15 @@ use Rattle.authorizer.proofs.Demand3.{demand-3-calls}
 use Rattle.authorizer.proofs.Example.{runOf, at-lengths}
 
 part-known-accepted : returned partial 16384 20000 300 part-known .number ≡ 0
-unfolding part-known keys forms formOf slotAt counted tagOf rowOf keyOf refs ascendings fitsIn nodesUnder typed found depth fault more read types valueRows contents schema trees exprs onTerm nPolicies policies nEnv env run results answer returned order same place insert ascending makeSet
+unfolding part-known keys forms formOf slotAt counted tagOf rowOf keyOf refs ascendings fitsIn nodesUnder typed found depth fault more read types valueRows contents schema trees exprs onTerm nPolicies policies nEnv env run results answer returned ancestors unknownAbove order same place insert ascending makeSet
 part-known-accepted = refl
 
 without-accepted : returned complete 20000 16384 300 without .number ≡ 0
-unfolding without keys forms formOf slotAt counted tagOf rowOf keyOf refs ascendings fitsIn nodesUnder typed found depth fault more read types valueRows contents schema trees exprs onTerm nPolicies policies nEnv env run results answer returned order same place insert ascending makeSet
+unfolding without keys forms formOf slotAt counted tagOf rowOf keyOf refs ascendings fitsIn nodesUnder typed found depth fault more read types valueRows contents schema trees exprs onTerm nPolicies policies nEnv env run results answer returned ancestors unknownAbove order same place insert ascending makeSet
 without-accepted = refl
 
 with-more-accepted : returned complete 16384 16384 300 with-more .number ≡ 0
-unfolding with-more keys forms formOf slotAt counted tagOf rowOf keyOf refs ascendings fitsIn nodesUnder typed found depth fault more read types valueRows contents schema trees exprs onTerm nPolicies policies nEnv env run results answer returned order same place insert ascending makeSet
+unfolding with-more keys forms formOf slotAt counted tagOf rowOf keyOf refs ascendings fitsIn nodesUnder typed found depth fault more read types valueRows contents schema trees exprs onTerm nPolicies policies nEnv env run results answer returned ancestors unknownAbove order same place insert ascending makeSet
 with-more-accepted = refl
 
 three : (w v o : List ℕ) → length w ≡ 16384 → length v ≡ 20000 → length o ≡ 300

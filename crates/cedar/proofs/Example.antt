@@ -20,7 +20,8 @@ use Rattle.cedar.specs.Rows.{Row, rbool, rent, rset, rrec, stop, entry}
 use Rattle.cedar.specs.Table.{At, now, later, end, up, elem0, elem1, name0, name1, Denotes, Table, start, grow, dbool, dent, dset, drec}
 use Rattle.cedar.specs.Making.{intern, sortN}
 use Rattle.cedar.specs.Numbered.{NLine, NEnv, Give, made, old, nlineOr, nInterpret}
-use Rattle.cedar.specs.Reads.{Reads, xlit, xvar, xand, xbin, xrel, xget, ReadPolicies, done, also, EnvRead, LineRead, GiveRead, give-unknown, give-made, rec-unknown, rec-known, rec-empty, set-unknown, set-known, set-empty}
+use Rattle.cedar.specs.Reads.{Reads, xlit, xvar, xand, xbin, xrel, xget, ReadPolicies, done, also, EnvRead, LineRead, GiveRead, give-unknown, give-made, rec-unknown, rec-known, rec-empty, set-unknown, set-known}
+use Rattle.cedar.proofs.ReadsOps.{set-empty}
 use Rattle.cedar.specs.Runs.{Policy, completeAnswer, NPolicy, NVerdict, nRun, verdicts}
 use Rattle.cedar.specs.ContentRun.{Policies, noPolicy, onePolicy, partialAnswer}
 use Rattle.cedar.specs.Response as R

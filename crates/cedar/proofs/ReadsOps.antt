@@ -9,7 +9,7 @@ use lib.IntN.{ℤ, negℤ, _+ℤ_, _-ℤ_, _*ℤ_}
 use lib.Signed.{ltZ, leZ}
 use Rattle.cedar.proofs.Tools.{no-true, eqb-true, or-right, either, both, and-left, and-right, iff}
 use Rattle.cedar.specs.Value.{Value, vbool, vlong, vent, vset, vrec, Values, vnil, vcons, Fields, fnil, Result, ok, fail, okBool, find, found, pick, onSome, onLong, onSet}
-use Rattle.cedar.specs.Canonical.{same, member}
+use Rattle.cedar.specs.Canonical.{same, member, ascending}
 use Rattle.cedar.proofs.CanonicalLaws.{same-true, same-refl, Mem, here, there, member-mem, mem-member, ascending-in, ascending-out}
 use Rattle.cedar.specs.Types.{Schema}
 use Rattle.cedar.specs.Residual.{Un, unot, uneg, uempty, uis, ulike, Bin, beq, blt, ble, badd, bsub, bmul, bcontains, ball, bany, Rel, rin, rgettag, rhastag}
@@ -20,9 +20,14 @@ use Rattle.cedar.specs.Rows.{Entries, stop, Row, rlong, rset, rrec}
 use Rattle.cedar.specs.Table.{At, Elems, elem0, elem1, Named, name0, name1, Denotes, dbool, dlong, dtext, dent, dset, drec, Table}
 use Rattle.cedar.proofs.TableLaws.{InN, now′, later′, Apart, number-inj, at-fun, elem-in, in-elem}
 use Rattle.cedar.specs.Numbered.{NOut, give, fails, made, NEnv, rowAt, giveRow, rLong, rSet, rRec, truly, nlong, memN, allN, anyN, entryOf, pickN, isSome, orFail, nUn, nBin, nRel, isRent, allRent, nTargets, nIn, onEntries, nGet, nHas}
-pub use Rattle.cedar.specs.Reads.{RecRead, rec-unknown, rec-known, rec-empty, SetRead, set-unknown, set-known, set-empty, GiveRead, give-unknown, give-made, give-old, LineRead, EnvRead}
+pub use Rattle.cedar.specs.Reads.{RecRead, rec-unknown, rec-known, rec-empty, SetRead, set-unknown, set-known, set-found, GiveRead, give-unknown, give-made, give-old, LineRead, EnvRead}
 use Rattle.cedar.proofs.ReadsLaws.{OutReads, omade, oold, ofail, ostay, Keeps, row-denotes, on-bool, on-long, on-text, on-ent, on-set}
 use Rattle.cedar.specs.Numbered as N
+
+-- no ancestors
+pub set-empty : {C : List Value} → SetRead C (some (made (rset []))) (some vnil)
+unfolding ascending
+set-empty = set-found elem0 refl
 
 -- numbers and contents with the same members
 record SetRel (C : List Value) (l : List ℕ) (vs : Values) : Type 0 where
@@ -83,11 +88,14 @@ anyIn-from vs here e = rw e
 anyIn-from vs (there {w = w} i) e = or-right (member w vs) _ (anyIn-from vs i e)
 
 module _ {C : List Value} (inj : Apart C) where
-  set-rel : {l : List ℕ} {vs : Values} → Denotes C (rset l) (vset vs) → SetRel C l vs
-  set-rel (dset {xs = xs} a e p) = record {
+  elems-rel : {l : List ℕ} {xs vs : Values} → Elems C l xs → ascending xs ≡ vs → SetRel C l vs
+  elems-rel {xs = xs} e p = record {
     to = λ n i. let (v, b, m) = elem-in inj e i in (v, b, subst (Mem v) p (ascending-in m));
     from = λ v m. in-elem inj e (ascending-out xs (subst (Mem v) (sym p) m));
   }
+
+  set-rel : {l : List ℕ} {vs : Values} → Denotes C (rset l) (vset vs) → SetRel C l vs
+  set-rel (dset a e p) = elems-rel e p
 
   same-eq : {m n : ℕ} {v w : Value} → At C m v → At C n w → eqb m n ≡ same v w
   same-eq {m} {n} {v} {w} a b = iff (eqb m n) (same v w)
@@ -196,7 +204,7 @@ module _ {C D : List Value} (k : Keeps C D) where
   keep-set : {o : Option N.Give} {p : Option Values} → SetRead C o p → SetRead D o p
   keep-set set-unknown = set-unknown
   keep-set (set-known {a = a} {vs = vs} h) = set-known (k a (vset vs) h)
-  keep-set set-empty = set-empty
+  keep-set (set-found e p) = set-found (keep-elems e) p
 
   keep-give : {o : Option N.Give} {p : Option Value} → GiveRead C o p → GiveRead D o p
   keep-give give-unknown = give-unknown
@@ -300,9 +308,6 @@ module _ {C : List Value} {R : List Row} (t : Table R C) {M : NEnv} {P : PEnv} (
       from vnil f = refl
       from (vcons w ws) f = both (f w here) (from ws (λ v m. f v (there m)))
 
-  none-rel : SetRel C [] vnil
-  none-rel = record { to = λ n i. elim i [ ]; from = λ v m. elim m [ ] }
-
   data TargetRead : Option (List ℕ) → Option Values → Type 0 where
     no-target : TargetRead none none
     target : {l : List ℕ} {vs : Values} → SetRel C l vs → TargetRead (some l) (some vs)
@@ -340,7 +345,7 @@ module _ {C : List Value} {R : List Row} (t : Table R C) {M : NEnv} {P : PEnv} (
   in-reads a (set-known {vs = vs} b) h =
       let (k, p, d) = set-row (row-denotes t b) in
       rw (p, same-mem (number-inj t) h a, same-any (number-inj t) h (set-rel (number-inj t) d)) (omade dbool)
-  in-reads a set-empty h = rw (same-mem (number-inj t) h a, same-any (number-inj t) h none-rel) (omade dbool)
+  in-reads a (set-found e p) h = rw (same-mem (number-inj t) h a, same-any (number-inj t) h (elems-rel (number-inj t) e p)) (omade dbool)
 
   among-reads : {m : ℕ} {v : Value} {o : Option N.Give} {p : Option Values} {x : Option (List ℕ)} {y : Option Values} → At C m v → SetRead C o p → TargetRead x y → OutReads C (onSome fails x (nIn R m o)) (onSome (gives fail) y (inKnown P v p))
   among-reads a b no-target = ofail

@@ -1,14 +1,16 @@
 -- What numbers stand for: a numbered tree, policy, request or entity line read as one by content, over the contents of the value rows.
+use mathlib.Core.Path.{_≡_}
 use mathlib.Core.Option.{Option, none, some}
 use mathlib.Core.List.{List, [], _∷_}
 use Prim.Native.Nat.{ℕ}
-use Rattle.cedar.specs.Value.{Value, vset, vrec, Values, vnil, Fields, fnil}
+use Rattle.cedar.specs.Value.{Value, vset, vrec, Values, Fields, fnil}
+use Rattle.cedar.specs.Canonical.{ascending}
 use Rattle.cedar.specs.Types.{Ty, Var}
 use Rattle.cedar.specs.Residual.{Node, Nodes, NodeArgs, Expr, Exprs, Args, lit, err, var, and, or, ite, un, bin, rel, get, has, haspath, set, rec, enil, econs, gnil, gcons, Un, Bin, Rel}
 use Rattle.cedar.specs.Entities.{PEnv, PLine, pentity}
 use Rattle.cedar.specs.Response.{Effect}
 use Rattle.cedar.specs.Rows.{Row, stop, rset, rrec}
-use Rattle.cedar.specs.Table.{At, Denotes}
+use Rattle.cedar.specs.Table.{At, Elems, Denotes}
 use Rattle.cedar.specs.Numbered.{Give, made, old, NLine, NEnv, nentity}
 use Rattle.cedar.specs.Runs.{Policy, NPolicy}
 
@@ -44,7 +46,8 @@ pub data ReadPolicies (C : List Value) : List NPolicy → List Policy → Type 0
   done : ReadPolicies C [] []
   also : {e : Effect} {a : Node ℕ} {A : Expr} {ns : List NPolicy} {ps : List Policy} → Reads C a A → ReadPolicies C ns ps → ReadPolicies C (record { effect = e; tree = a } ∷ ns) (record { effect = e; tree = A } ∷ ps)
 
--- Attributes and tags, ancestors, parts of the request: unknown on both sides, or one value on both.
+-- Attributes and tags, ancestors, parts of the request: unknown on both sides, or one value on both. Ancestors that are found through parents
+-- are a row that has no number: their numbers in any order, by content the set of what these stand for.
 pub data RecRead (C : List Value) : Option Give → Option Fields → Type 0 where
   rec-unknown : RecRead C none none
   rec-known : {a : ℕ} {fs : Fields} → At C a (vrec fs) → RecRead C (some (old a)) (some fs)
@@ -53,7 +56,7 @@ pub data RecRead (C : List Value) : Option Give → Option Fields → Type 0 whe
 pub data SetRead (C : List Value) : Option Give → Option Values → Type 0 where
   set-unknown : SetRead C none none
   set-known : {a : ℕ} {vs : Values} → At C a (vset vs) → SetRead C (some (old a)) (some vs)
-  set-empty : SetRead C (some (made (rset []))) (some vnil)
+  set-found : {l : List ℕ} {xs vs : Values} → Elems C l xs → ascending xs ≡ vs → SetRead C (some (made (rset l))) (some vs)
 
 pub data GiveRead (C : List Value) : Option Give → Option Value → Type 0 where
   give-unknown : GiveRead C none none

@@ -1,24 +1,23 @@
 -- For every accepted complete sheet, the run over the words that hold it leaves the class that the Cedar specification gives each policy on term, under its link.
 use mathlib.Core.Path.{_≡_, refl, sym, _∙_, ap, ap₂, subst}
-use mathlib.Core.Bool.{cond}
-use mathlib.Core.Option.{Option, some}
+use mathlib.Core.Bool.{true}
 use mathlib.Core.List.{List, [], _∷_, _++_, append-assoc, append-nil}
 use Prim.Native.Nat.{ℕ, _+_, _*_, _≤_}
 use native.Mathlib.Omega.{arith}
 use lib.ListN.{length, getD}
 use Rattle.cedar.specs.Types.{Ty, Schema, Var, principal, action, resource, context}
 use Rattle.cedar.specs.Entities.{whole}
-use Rattle.cedar.specs.Rows.{Row, rent, sameRow}
+use Rattle.cedar.specs.Rows.{Row}
 use Rattle.cedar.specs.Reads.{ReadPolicies, EnvRead}
 use Rattle.cedar.specs.Runs.{NPolicy, completeAnswer}
 use Rattle.cedar.specs.Table.{Table}
 use Rattle.cedar.specs.Numbered.{NEnv}
-use Rattle.sheet.specs.Forms.{complete, at, VALUE, ENTITY, NODE}
-use Rattle.sheet.specs.State.{State, linesOf, valueRow}
-use Rattle.sheet.specs.Content.{types, rowsIn, valueRows, contents, schema, requestTy, given, entityLine, lineGiven, nEnv, env, nPolicies, policies, onTerm}
+use Rattle.sheet.specs.Forms.{complete, VALUE, NODE}
+use Rattle.sheet.specs.State.{State, linesOf}
+use Rattle.sheet.specs.Content.{types, rowsIn, valueRows, contents, schema, requestTy, nEnv, env, nPolicies, policies, onTerm}
 use Rattle.sheet.specs.Sheet.{read}
 use Rattle.sheet.specs.Answer.{results}
-use Rattle.sheet.proofs.Lines.{accepted-history}
+use Rattle.sheet.proofs.Lines.{accepted-history, accepted-fit}
 use Rattle.sheet.proofs.ValueRows.{values-table, value-back}
 use Rattle.sheet.proofs.OwnPolicies.{read-own}
 use Rattle.sheet.proofs.Environment.{Facts, all-keys}
@@ -30,6 +29,8 @@ use Rattle.table.specs.Layout.{rowsOf, rowsAt, base, held, linesHeld, RUN, MADE
 use Rattle.table.proofs.Rows.{count-rows}
 use Rattle.value.specs.Lines.{valueLines}
 use Rattle.value.proofs.Interned.{Formeds, none-formed, one-formed}
+use Rattle.strict.specs.Gives.{envIn}
+use Rattle.strict.proofs.Links.{env-link}
 use Rattle.tpe.specs.Fits.{Fits}
 use Rattle.tpe.proofs.Reach.{reach-start}
 use Rattle.tpe.proofs.Stands.{Hold, Room}
@@ -42,28 +43,9 @@ use Rattle.evaluator.proofs.Depth.{policies-whole}
 -- ---- texts and depths do not matter to the request and the entities, nor depths to the schema
 
 module _ (sheet a b : List ℕ) where
-  given-same : (x : Var) → given (held sheet a b) x ≡ given (held [] a []) x
-  unfolding held linesHeld
-  given-same principal = refl
-  given-same action = refl
-  given-same resource = refl
-  given-same context = refl
-
-  entity-same : (q : Row) (rows : List (List ℕ)) → entityLine (held sheet a b) q rows ≡ entityLine (held [] a []) q rows
-  unfolding held linesHeld
-  entity-same q [] = refl
-  entity-same q (r ∷ rows) = ap (λ (o : Option (List ℕ)). cond (sameRow (valueRow (getD (rowsOf a VALUE) (at r 0) [])) q) (some r) o) (entity-same q rows)
-
-  entities-same : linesOf (held sheet a b) ENTITY ≡ linesOf (held [] a []) ENTITY
-  unfolding held linesHeld
-  entities-same = refl
-
   env-same : nEnv complete (held sheet a b) ≡ nEnv complete (held [] a [])
-  unfolding nEnv
-  env-same = λ i. record {
-    request = λ x. given-same x i;
-    line = λ k t. lineGiven complete ((entity-same (rent k t) (linesOf (held sheet a b) ENTITY) ∙ ap (entityLine (held [] a []) (rent k t)) entities-same) i);
-  }
+  unfolding envIn
+  env-same = sym (env-link true a sheet b)
 
   types-same : types (held sheet a b) ≡ types (held sheet a [])
   unfolding types held
@@ -141,7 +123,7 @@ module _ (sheet a b : List ℕ) (e : read complete sheet .number ≡ 0) (h : rea
   the-run : Runs sheet a (env (held sheet a b)) [] (classNumbers (results (held sheet a b))) (runOf sheet a)
   the-run =
       let (hi, fu) = accepted-history complete sheet e in
-      let f : Facts complete (held sheet a b) = subst (Facts complete) h (record { history = hi; ends = fu; keys = all-keys complete sheet e }) in
+      let f : Facts complete (held sheet a b) = subst (Facts complete) h (record { history = hi; ends = fu; keys = all-keys complete sheet e; fit = accepted-fit complete sheet e }) in
       let d : Depths (held sheet a b) = reached-depths (subst (Reached complete) h (read-reached complete sheet)) in
       let c : policySizes (nPolicies (held sheet a b)) ≤ 1024 = subst (λ (s : State). policySizes (nPolicies s) ≤ 1024) h (policy-sizes complete sheet e) in
       run-few sheet a b f d sound none runs c fits

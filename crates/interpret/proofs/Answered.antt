@@ -27,7 +27,7 @@ use Rattle.sheet.specs.State.{State}
 use Rattle.sheet.specs.Sheet.{read}
 use Rattle.sheet.specs.Content.{schema, nEnv, pEnv, nPolicies, onTerm}
 use Rattle.sheet.specs.Answer.{run}
-use Rattle.sheet.proofs.Lines.{accepted-history}
+use Rattle.sheet.proofs.Lines.{accepted-history, accepted-fit}
 use Rattle.sheet.proofs.Environment.{Facts, env-read, all-keys}
 use Rattle.sheet.proofs.ValueRows.{values-table}
 use Rattle.sheet.proofs.OwnPolicies.{read-own}
@@ -100,7 +100,7 @@ module _ (sheet a b : List ℕ) (accepted : read partial sheet .number ≡ 0) (s
   ran = run-fits sheet a b accepted state sound none runs fits
 
   stays : Stays (x .rows) (x .lines)
-  stays = let (h, g) = accepted-history partial sheet accepted in run-stays (read partial sheet .state) (record { history = h; ends = g; keys = all-keys partial sheet accepted })
+  stays = let (h, g) = accepted-history partial sheet accepted in run-stays (read partial sheet .state) (record { history = h; ends = g; keys = all-keys partial sheet accepted; fit = accepted-fit partial sheet accepted })
 
   -- a line for each policy that runs
   pub policies : length (x .lines) ≡ getD a RUN 0

@@ -1,2 +1,3 @@
 pub mod Finishing
+pub mod Entities
 pub mod Loading

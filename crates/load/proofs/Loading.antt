@@ -15,13 +15,16 @@ use Rattle.scan.specs.declared.Cursor.{Cursor}
 use Rattle.scan.specs.declared.Line as L
 use Rattle.scan.specs.Places.{readingBy, LineRead}
 use Rattle.scan.proofs.Readings.{Entered, line-entered}
-use Rattle.sheet.specs.Bytes.{split}
-use Rattle.sheet.specs.Forms.{Mode, forms, formOf, tagOf, keyOf, itemsFrom, counted, orEmpty, rowOf, rowOfValue, TEXT, KIND, SHAPE, DAY, NODE, POLICY, LINK, noKey}
+use Rattle.sheet.specs.Ascii.{ascii}
+use Rattle.sheet.specs.Bytes.{starts, split}
+use Rattle.sheet.specs.Forms.{Mode, forms, formOf, tagOf, keyOf, itemsFrom, counted, orEmpty, rowOf, rowOfValue, TEXT, KIND, SHAPE, PRINCIPAL, DAY, NODE, POLICY, LINK, noKey}
 use Rattle.forms.specs.Tags.{DAY-LINE}
 use Rattle.sheet.specs.State.{State, empty, linesOf, count, before, sum}
-use Rattle.sheet.specs.Sheet.{Reading, least, enough, reach, firstUnused, firstUnlinked, reads, ending, fault, more, goOn, reading, read}
+use Rattle.sheet.specs.Sheet.{Reading, least, enough, reach, firstUnused, firstUnlinked, reads, ending, fault, more, goOn, beforeLine, reading, readingOn, read}
+use Rattle.sheet.proofs.Lines.{AllFit}
+use Rattle.sheet.proofs.EntitiesEnd.{firstPart, reading-before, starts-entity}
 use Rattle.table.specs.Layout.{part, RUN, MADE, TOP, TYPEDEPTHS, USES, SPENT, heap, rowsAt, rowsOf, linesHeld, depthsHeld, depthsAt, held, depthBase, depthsIn}
-use Rattle.table.proofs.Rows.{limit-small, lines-held}
+use Rattle.table.proofs.Rows.{limit-small, lines-held, count-held}
 use Rattle.table.proofs.Held.{tab-same, linesIn, lines-tab, depths-tab, counts-held}
 use Rattle.fits.proofs.Remembered as R
 use Rattle.checks.specs.Under.{Noted}
@@ -31,6 +34,8 @@ use Rattle.line.proofs.LawsLine.{entry-wide, entry-wider}
 use Rattle.take.proofs.Taking.{fault-none}
 use Rattle.take.specs.Steps.{Reached, before-any, after-line, Ready, taken, Taken}
 use Rattle.load.specs.Result.{Read}
+use Rattle.load.specs.Unfit.{unfitLine}
+use Rattle.load.proofs.Entities.{line-passes, line-unfit, closed-after}
 use Rattle.load.proofs.Finishing.{unlinked-same}
 
 -- ---- the definition after a line
@@ -234,6 +239,7 @@ pub record Progress (m : Mode) (sheet a₀ b₀ a b : List ℕ) (at k : ℕ) : T
   pub in-sheet : at ≤ length sheet
   pub ready : Ready a b
   pub reached : Reached m (held sheet a b)
+  pub closed : 1 ≤ getD a PRINCIPAL 0 → AllFit (held sheet a b)
   pub room : taken a ≤ 2 * heap + at
   pub near : k ≤ at + 1
   pub long-a : length a ≡ length a₀
@@ -249,6 +255,7 @@ progress-start m sheet a b a₁ b₁ b₂ a₂ la lb ha hb hs h₂ =
       in-sheet = omega arith;
       ready = ready-first sheet a b a₁ b₁ b₂ a₂ la lb ha hb hs h₂;
       reached = subst (Reached m) (sym (state-empty sheet a b a₁ b₁ b₂ a₂ la lb ha hb hs h₂)) before-any;
+      closed = λ h. absurd (omega (arith, none-yet sheet a b a₁ b₁ b₂ a₂ la lb ha hb hs h₂ PRINCIPAL (omega arith)));
       room = omega (arith, top-first sheet a b a₁ b₁ b₂ a₂ la lb ha hb hs h₂, none-yet sheet a b a₁ b₁ b₂ a₂ la lb ha hb hs h₂ NODE (omega arith));
       near = omega arith;
       long-a = refl;
@@ -275,9 +282,36 @@ module _ (m : Mode) (sheet a₀ b₀ a b : List ℕ) (c : Cursor) (i : Progress 
   pub finish-needs : (USES + getD a NODE 0 ≤ length b) × Noted a b
   finish-needs = (omega (arith, i .ready .long, i .ready .sound .few NODE (omega arith), limit-small NODE), i .ready .noted)
 
-  module _ (r : L.Line) (q : LineRead sheet c r) where
+  -- what is left of the sheet
+  abbrev bytes : List ℕ
+  bytes = drop (c .at) sheet
+
+  asked : read m sheet ≡ beforeLine (firstPart (split 10 bytes)) (held sheet a b) (readingOn m (split 10 bytes) (held sheet a b) (c .line))
+  asked = i .left ∙ reading-before m (split 10 bytes) (held sheet a b) (c .line)
+
+  -- an entity line reaches a kind that is not above its own
+  pub line-unfits : (u : ℕ) → u ≡ unfitLine a (drop (c .at) sheet) → (u ≡ 0 → ⊥) → (n l : ℕ) → n ≡ 7 → l ≡ u → Read (read m sheet) sheet a₀ b₀ a b n l
+  line-unfits u hu z n l hn hl =
+      let x : read m sheet ≡ reads (held sheet a b) 7 (unfitLine a bytes) =
+      asked ∙ line-unfit sheet a b (i .closed) bytes (firstPart (split 10 bytes)) (starts-entity bytes) (readingOn m (split 10 bytes) (held sheet a b) (c .line)) (λ y. z (hu ∙ y)) in
+      record {
+        number-is = hn ∙ sym (ap (λ (z : Reading). z .number) x);
+        line-is = hl ∙ hu ∙ sym (ap (λ (z : Reading). z .line) x);
+        state-is = λ z. absurd (omega arith);
+        ready = λ z. i .ready;
+        room = λ z. absurd (omega arith);
+        rest-a = i .rest-a;
+        rest-b = i .rest-b;
+      }
+
+  -- none does
+  module _ (none-unfit : unfitLine a (drop (c .at) sheet) ≡ 0) (r : L.Line) (q : LineRead sheet c r) where
     by-line : (o : L.Line) → r ≡ o → read m sheet ≡ readingBy m (held sheet a b) (c .line) sheet o
-    by-line o e = i .left ∙ q .reads-on m (held sheet a b) (c .line) ∙ ap (readingBy m (held sheet a b) (c .line) sheet) e
+    by-line o e =
+        asked
+        ∙ line-passes sheet a b (i .closed) bytes (firstPart (split 10 bytes)) (starts-entity bytes) (readingOn m (split 10 bytes) (held sheet a b) (c .line)) none-unfit
+        ∙ q .reads-on m (held sheet a b) (c .line)
+        ∙ ap (readingBy m (held sheet a b) (c .line) sheet) e
 
     pub all-read : r ≡ L.the-variants.End → (n l : ℕ) → n ≡ ending (held [] a b) (c .line) .number → l ≡ ending (held [] a b) (c .line) .line → Read (read m sheet) sheet a₀ b₀ a b n l
     all-read e n l hn hl =
@@ -355,6 +389,14 @@ module _ (m : Mode) (sheet a₀ b₀ a b : List ℕ) (c : Cursor) (i : Progress 
             let w : rowOf m (part sheet (c .at) e) ≡ rowOfValue m j (part sheet (equals .at + 1) e) = entry .row m in
             subst (λ (x : List ℕ). Reached m (more (held sheet a b) x)) w (after-line (part sheet (c .at) e) (i .reached) (ap (fault (held sheet a b)) w ∙ sym (t .number) ∙ z))
 
+        line-closed : n ≡ 0 → 1 ≤ getD a′ PRINCIPAL 0 → AllFit (held sheet a′ b′)
+        line-closed z h =
+            let w : rowOf m (part sheet (c .at) e) ≡ rowOfValue m j (part sheet (equals .at + 1) e) = entry .row m in
+            let y : starts (ascii "entity=") (part sheet (c .at) e) ≡ starts (ascii "entity=") bytes = ap (λ (ls : List (List ℕ)). starts (ascii "entity=") (firstPart ls)) (sym (entry .lines)) ∙ starts-entity bytes in
+            let f = closed-after sheet a b (i .closed) bytes m (part sheet (c .at) e) y none-unfit (ap (fault (held sheet a b)) w ∙ sym (t .number) ∙ z) in
+            let g : held sheet a′ b′ ≡ more (held sheet a b) (rowOf m (part sheet (c .at) e)) = t .state z ∙ ap (more (held sheet a b)) (sym w) in
+            subst AllFit (sym g) (f (omega (arith, h, count-held sheet a′ b′ PRINCIPAL (omega arith), ap (λ (x : State). count x PRINCIPAL) g)))
+
         line-room : n ≡ 0 → Dec (j ≡ DAY) → taken a′ ≤ 2 * heap + next .at
         line-room z (yes d) =
             let v = part sheet (equals .at + 1) e in
@@ -373,6 +415,7 @@ module _ (m : Mode) (sheet a₀ b₀ a b : List ℕ) (c : Cursor) (i : Progress 
               in-sheet = omega (arith, line-long .1, line-long .2);
               ready = t .ready z;
               reached = subst (Reached m) (sym (t .state z)) (line-reached z);
+              closed = line-closed z;
               room = line-room z (ℕ-discrete j DAY);
               near = omega (arith, i .near, line-long .0, line-long .2);
               long-a = la ∙ i .long-a;

@@ -1,14 +1,20 @@
 // The reading of a sheet into the lent words: lines in turn, the first faulty line ends it.
+use above::first_unfit;
 use checks::NO_SLOT;
 use checks::enough_before;
 use checks::is_first;
 use checks::slots_at;
+use forms::ENTITY;
 use forms::LINK;
 use forms::NO_KEY;
 use forms::NODE;
 use forms::POLICY;
+use forms::PRINCIPAL;
 use scan::Cursor;
 use scan::Line;
+use scan::front;
+use scan::rest;
+use scan::same_bytes;
 use table::HEAP;
 use table::SPENT;
 use table::TOP;
@@ -24,9 +30,11 @@ ghost use mathlib.Core.Path.{_≡_};
 ghost use mathlib.Core.Bool.{_&&_, not};
 ghost use mathlib.Core.List.{[]};
 ghost use Prim.Native.Nat.{_+_, _≤_};
-ghost use lib.ListN.{length, getD};
+ghost use lib.ListN.{length, getD, drop};
 ghost use Rattle.words.specs.Log.{zeros};
 ghost use Rattle.cedar.specs.Numbered.{memN};
+ghost use Rattle.sheet.specs.Ascii.{ascii};
+ghost use Rattle.sheet.specs.Bytes.{starts};
 ghost use Rattle.sheet.specs.Forms.{at, NODE, POLICY, LINK};
 ghost use Rattle.sheet.specs.State.{before};
 ghost use Rattle.sheet.specs.Typing.{nodesUnder};
@@ -36,11 +44,53 @@ ghost use Rattle.line.specs.Codes.{modeOf};
 ghost use Rattle.checks.specs.Uses.{usesIn};
 ghost use Rattle.checks.specs.Under.{Noted};
 ghost use Rattle.load.specs.Result.{Read};
+ghost use Rattle.load.specs.Unfit.{unfitLine};
 
 // A refusal and its line; 0 and 0 where the sheet is accepted.
 pub struct Loaded {
     pub number: u32,
     pub line: usize,
+}
+
+// How many lines stand before those of a key.
+fn lines_before(rows: &[u32], key: usize) -> usize
+    requires { ⌜ key ≤ POLICY ⌝ }
+    ensures { λ r. ⌜ (r ≡ before (held [] (now (rows .entry)) []) key) × (r ≤ 55834574835) ⌝ }
+{
+    let mut s: usize = 0;
+    let mut i = 0;
+    while i < key {
+        s += count(rows, i) as usize;
+        i += 1;
+    }
+    s
+}
+
+// ---- before a line
+
+// Whether the line at byte `at` begins with `entity=`.
+fn begins_entity(sheet: &[u8], at: usize) -> bool
+    ensures { λ b. ⌜ b ≡ starts (ascii "entity=") (drop at (now (sheet .entry))) ⌝ }
+{
+    same_bytes(b"entity=", front(rest(sheet, at), 7))
+}
+
+// Where the line at byte `at` ends the entity lines: the number of the first of these that reaches a kind which is not above its own, 0 where none
+// does. A principal line was there only if none did.
+fn unfit_line(sheet: &[u8], rows: &[u32], at: usize) -> usize
+    ensures { λ r. ⌜ r ≡ unfitLine (now (rows .entry)) (drop at (now (sheet .entry))) ⌝ }
+{
+    if count(rows, PRINCIPAL) != 0 {
+        return 0;
+    }
+    if begins_entity(sheet, at) {
+        return 0;
+    }
+    let u = first_unfit(rows);
+    if u >= count(rows, ENTITY) {
+        return 0;
+    }
+    lines_before(rows, ENTITY) + u as usize + 1
 }
 
 // ---- after the last line
@@ -88,20 +138,6 @@ fn first_unlinked(rows: &[u32], work: &[u32]) -> u32
         i += 1;
     }
     i
-}
-
-// How many lines stand before those of a key.
-fn lines_before(rows: &[u32], key: usize) -> usize
-    requires { ⌜ key ≤ POLICY ⌝ }
-    ensures { λ r. ⌜ (r ≡ before (held [] (now (rows .entry)) []) key) × (r ≤ 55834574835) ⌝ }
-{
-    let mut s: usize = 0;
-    let mut i = 0;
-    while i < key {
-        s += count(rows, i) as usize;
-        i += 1;
-    }
-    s
 }
 
 // After the last line, with the number of the next: a line missing, a slot whose policy has no link line, a node never used, or accepted.
@@ -162,6 +198,10 @@ pub fn load(sheet: &[u8], partial: bool, rows: &mut [u32], work: &mut [u32]) -> 
     let mut c = Cursor::new();
     loop {
         let k = c.line;
+        let u = unfit_line(sheet, rows, c.at);
+        if u != 0 {
+            return Loaded { number: 7, line: u };
+        }
         let l = c.next_line(sheet);
         match l {
             Line::Entry {

@@ -6,6 +6,7 @@ use mathlib.Core.List.{List, [], _∷_, _++_}
 use Prim.Native.Nat.{ℕ, zero, suc, _+_, _*_}
 use Rattle.sheet.specs.Forms.{keys, partial, forms, formOf, slotAt, counted, tagOf, rowOf, keyOf, refs, ascendings}
 use Rattle.sheet.specs.Typing.{fitsIn, nodesUnder, typed}
+use Rattle.sheet.specs.Parents.{ancestors, unknownAbove}
 use Rattle.sheet.specs.Sheet.{found, depth, fault, more, read}
 use Rattle.sheet.specs.Content.{types, valueRows, contents, schema, trees, exprs, onTerm, nPolicies, policies, nEnv, env}
 use Rattle.sheet.specs.Answer.{run, results, answer}
@@ -19,7 +20,7 @@ use Rattle.sheet.proofs.KnownLines.{head, kindLines}
 -- "Input, whole", and "Output"
 known-sheet : shown (bytes "sheet=partial/text=Broker/text=Action/text=Tariff/text=quote/text=T1/text=low/text=high/text=b7/kind=0,e/kind=1,a/kind=2,e/type=bool/type=record/type=entity,0/shape=1,-/shape=1,-/shape=1,-/value=entity,0,7/value=bool,1/principal=0,?/action=1,3/resource=2,4/context=1,?/day=2000-01-01/node=2,var,p/node=2,lit,0/node=0,eq,0,1/node=0,lit,1/policy=5,permit,2/policy=6,permit,3/")
     ≡ bytes "decision=allow/counts=1,0,0,1,0,0,0,0/node=2,var,p/node=2,lit,0/node=0,eq,0,1/node=0,lit,1/policy=5,permit,open,2/policy=6,permit,true,3/"
-unfolding shown keys forms formOf slotAt counted tagOf rowOf keyOf refs ascendings fitsIn nodesUnder typed found depth fault more read types valueRows contents schema trees exprs onTerm nPolicies policies nEnv env run results answer returned order same place insert ascending makeSet
+unfolding shown keys forms formOf slotAt counted tagOf rowOf keyOf refs ascendings fitsIn nodesUnder typed found depth fault more read types valueRows contents schema trees exprs onTerm nPolicies policies nEnv env run results answer returned ancestors unknownAbove order same place insert ascending makeSet
 known-sheet = refl
 
 -- ---- K1 to K10, over one head: texts, kinds, types and shapes
@@ -39,7 +40,7 @@ known =
     ∷ []
 
 K1-to-K10 : shownAll head known ≡ saysAll known
-unfolding head known shown keys forms formOf slotAt counted tagOf rowOf keyOf refs ascendings fitsIn nodesUnder typed found depth fault more read types valueRows contents schema trees exprs onTerm nPolicies policies nEnv env run results answer returned order same place insert ascending makeSet
+unfolding head known shown keys forms formOf slotAt counted tagOf rowOf keyOf refs ascendings fitsIn nodesUnder typed found depth fault more read types valueRows contents schema trees exprs onTerm nPolicies policies nEnv env run results answer returned ancestors unknownAbove order same place insert ascending makeSet
 K1-to-K10 = refl
 
 -- ---- other sheets, over the same head: "What students would write", and refusals
@@ -57,7 +58,7 @@ others =
     ∷ []
 
 other-sheets : shownAll head others ≡ saysAll others
-unfolding head others shown keys forms formOf slotAt counted tagOf rowOf keyOf refs ascendings fitsIn nodesUnder typed found depth fault more read types valueRows contents schema trees exprs onTerm nPolicies policies nEnv env run results answer returned order same place insert ascending makeSet
+unfolding head others shown keys forms formOf slotAt counted tagOf rowOf keyOf refs ascendings fitsIn nodesUnder typed found depth fault more read types valueRows contents schema trees exprs onTerm nPolicies policies nEnv env run results answer returned ancestors unknownAbove order same place insert ascending makeSet
 other-sheets = refl
 
 -- "Node uses summed over all policies may reach 1,024; the policy line that exceeds this gets 4": 64 policies over one root of 16 nodes, and of 17
@@ -65,11 +66,11 @@ room-for : List ℕ
 room-for = bytes "sheet=partial/text=Aa/text=Ab/text=Ac/text=Ad/text=Ae/text=Af/text=Ag/text=Ah/text=Ai/text=Aj/text=Ak/text=Al/text=Am/text=An/text=Ao/text=Ap/text=Aq/text=Ar/text=As/text=At/text=Au/text=Av/text=Aw/text=Ax/text=Ay/text=Az/text=Ba/text=Bb/text=Bc/text=Bd/text=Be/text=Bf/text=Bg/text=Bh/text=Bi/text=Bj/text=Bk/text=Bl/text=Bm/text=Bn/text=Bo/text=Bp/text=Bq/text=Br/text=Bs/text=Bt/text=Bu/text=Bv/text=Bw/text=Bx/text=By/text=Bz/text=Ca/text=Cb/text=Cc/text=Cd/text=Ce/text=Cf/text=Cg/text=Ch/text=Ci/text=Cj/text=Ck/text=Cl/kind=0,e/kind=1,a/kind=2,e/type=bool/type=record/shape=1,-/shape=1,-/shape=1,-/value=bool,1/principal=0,?/action=1,0/resource=2,0/context=1,?/day=2000-01-01/"
 
 full : read partial (room-for ++ bytes "node=0,lit,0/node=0,not,0/node=0,not,1/node=0,not,2/node=0,not,3/node=0,not,4/node=0,not,5/node=0,not,6/node=0,not,7/node=0,not,8/node=0,not,9/node=0,not,10/node=0,not,11/node=0,not,12/node=0,not,13/node=0,not,14/policy=0,permit,15/policy=1,permit,15/policy=2,permit,15/policy=3,permit,15/policy=4,permit,15/policy=5,permit,15/policy=6,permit,15/policy=7,permit,15/policy=8,permit,15/policy=9,permit,15/policy=10,permit,15/policy=11,permit,15/policy=12,permit,15/policy=13,permit,15/policy=14,permit,15/policy=15,permit,15/policy=16,permit,15/policy=17,permit,15/policy=18,permit,15/policy=19,permit,15/policy=20,permit,15/policy=21,permit,15/policy=22,permit,15/policy=23,permit,15/policy=24,permit,15/policy=25,permit,15/policy=26,permit,15/policy=27,permit,15/policy=28,permit,15/policy=29,permit,15/policy=30,permit,15/policy=31,permit,15/policy=32,permit,15/policy=33,permit,15/policy=34,permit,15/policy=35,permit,15/policy=36,permit,15/policy=37,permit,15/policy=38,permit,15/policy=39,permit,15/policy=40,permit,15/policy=41,permit,15/policy=42,permit,15/policy=43,permit,15/policy=44,permit,15/policy=45,permit,15/policy=46,permit,15/policy=47,permit,15/policy=48,permit,15/policy=49,permit,15/policy=50,permit,15/policy=51,permit,15/policy=52,permit,15/policy=53,permit,15/policy=54,permit,15/policy=55,permit,15/policy=56,permit,15/policy=57,permit,15/policy=58,permit,15/policy=59,permit,15/policy=60,permit,15/policy=61,permit,15/policy=62,permit,15/policy=63,permit,15/") .number ≡ 0
-unfolding room-for shown keys forms formOf slotAt counted tagOf rowOf keyOf refs ascendings fitsIn nodesUnder typed found depth fault more read types valueRows contents schema trees exprs onTerm nPolicies policies nEnv env run results answer returned order same place insert ascending makeSet
+unfolding room-for shown keys forms formOf slotAt counted tagOf rowOf keyOf refs ascendings fitsIn nodesUnder typed found depth fault more read types valueRows contents schema trees exprs onTerm nPolicies policies nEnv env run results answer returned ancestors unknownAbove order same place insert ascending makeSet
 full = refl
 
 over : returned partial 16384 16384 16384 (room-for ++ bytes "node=0,lit,0/node=0,not,0/node=0,not,1/node=0,not,2/node=0,not,3/node=0,not,4/node=0,not,5/node=0,not,6/node=0,not,7/node=0,not,8/node=0,not,9/node=0,not,10/node=0,not,11/node=0,not,12/node=0,not,13/node=0,not,14/node=0,not,15/policy=0,permit,16/policy=1,permit,16/policy=2,permit,16/policy=3,permit,16/policy=4,permit,16/policy=5,permit,16/policy=6,permit,16/policy=7,permit,16/policy=8,permit,16/policy=9,permit,16/policy=10,permit,16/policy=11,permit,16/policy=12,permit,16/policy=13,permit,16/policy=14,permit,16/policy=15,permit,16/policy=16,permit,16/policy=17,permit,16/policy=18,permit,16/policy=19,permit,16/policy=20,permit,16/policy=21,permit,16/policy=22,permit,16/policy=23,permit,16/policy=24,permit,16/policy=25,permit,16/policy=26,permit,16/policy=27,permit,16/policy=28,permit,16/policy=29,permit,16/policy=30,permit,16/policy=31,permit,16/policy=32,permit,16/policy=33,permit,16/policy=34,permit,16/policy=35,permit,16/policy=36,permit,16/policy=37,permit,16/policy=38,permit,16/policy=39,permit,16/policy=40,permit,16/policy=41,permit,16/policy=42,permit,16/policy=43,permit,16/policy=44,permit,16/policy=45,permit,16/policy=46,permit,16/policy=47,permit,16/policy=48,permit,16/policy=49,permit,16/policy=50,permit,16/policy=51,permit,16/policy=52,permit,16/policy=53,permit,16/policy=54,permit,16/policy=55,permit,16/policy=56,permit,16/policy=57,permit,16/policy=58,permit,16/policy=59,permit,16/policy=60,permit,16/policy=61,permit,16/policy=62,permit,16/policy=63,permit,16/") ≡ record { number = 4; line = 157; length = 0 }
-unfolding room-for shown keys forms formOf slotAt counted tagOf rowOf keyOf refs ascendings fitsIn nodesUnder typed found depth fault more read types valueRows contents schema trees exprs onTerm nPolicies policies nEnv env run results answer returned order same place insert ascending makeSet
+unfolding room-for shown keys forms formOf slotAt counted tagOf rowOf keyOf refs ascendings fitsIn nodesUnder typed found depth fault more read types valueRows contents schema trees exprs onTerm nPolicies policies nEnv env run results answer returned ancestors unknownAbove order same place insert ascending makeSet
 over = refl
 
 -- the days of the years from y on, n of them; the range has 300 years, 73 of them leap years
@@ -107,7 +108,7 @@ limits =
     ∷ []
 
 kind-limit : shownAll kinds limits ≡ saysAll limits
-unfolding kinds limits shown keys forms formOf slotAt counted tagOf rowOf keyOf refs ascendings fitsIn nodesUnder typed found depth fault more read types valueRows contents schema trees exprs onTerm nPolicies policies nEnv env run results answer returned order same place insert ascending makeSet
+unfolding kinds limits shown keys forms formOf slotAt counted tagOf rowOf keyOf refs ascendings fitsIn nodesUnder typed found depth fault more read types valueRows contents schema trees exprs onTerm nPolicies policies nEnv env run results answer returned ancestors unknownAbove order same place insert ascending makeSet
 kind-limit = refl
 
 groups : List ℕ
@@ -152,5 +153,5 @@ groupCases =
     ∷ []
 
 group-sheets : shownAll groups groupCases ≡ saysAll groupCases
-unfolding kindLines groups groupCases shown keys forms formOf slotAt counted tagOf rowOf keyOf refs ascendings fitsIn nodesUnder typed found depth fault more read types valueRows contents schema trees exprs onTerm nPolicies policies nEnv env run results answer returned order same place insert ascending makeSet
+unfolding kindLines groups groupCases shown keys forms formOf slotAt counted tagOf rowOf keyOf refs ascendings fitsIn nodesUnder typed found depth fault more read types valueRows contents schema trees exprs onTerm nPolicies policies nEnv env run results answer returned ancestors unknownAbove order same place insert ascending makeSet
 group-sheets = refl

@@ -4,5 +4,6 @@ pub mod ExampleGroups
 pub mod ExampleLinks
 pub mod ExampleTerms
 pub mod GroupEdges
+pub mod KnownParents
 pub mod KnownSheets
 pub mod LinkEdges

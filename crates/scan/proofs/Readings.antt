@@ -18,7 +18,7 @@ use Rattle.sheet.specs.Ascii.{ascii}
 use Rattle.sheet.specs.Bytes.{upTo, split, same, printable, index}
 use Rattle.sheet.specs.Forms.{Mode, Slot, keys, forms, noForm, formOf, slotAt, counted, item, itemsFrom, joined, orEmpty, placeIn, wordNumber, tagOf, rowFor, rowOfValue, rowOf, noKey, noTag}
 use Rattle.sheet.specs.State.{State}
-use Rattle.sheet.specs.Sheet.{fault, reads, ending, lineRead, reading}
+use Rattle.sheet.specs.Sheet.{fault, reads, ending, lineRead, reading, readingOn}
 use Rattle.scan.specs.declared.Cursor.{Cursor}
 use Rattle.scan.specs.declared.Heading as H
 use Rattle.scan.specs.declared.Line as L
@@ -279,30 +279,30 @@ unfolding fault
 unrowed st i m ls = refl
 
 -- a line that another part follows
-reading-on : (m : Mode) (st : State) (i : ℕ) (l : List ℕ) (ls : List (List ℕ)) → 1 ≤ length ls → reading m (l ∷ ls) st i ≡ lineRead st i (rowOf m l) (reading m ls)
+reading-on : (m : Mode) (st : State) (i : ℕ) (l : List ℕ) (ls : List (List ℕ)) → 1 ≤ length ls → readingOn m (l ∷ ls) st i ≡ lineRead st i (rowOf m l) (reading m ls)
 reading-on m st i l [] h = absurd (omega arith)
 reading-on m st i l (n ∷ ls) h = refl
 
 -- a part that no line end follows
-reading-last : (m : Mode) (st : State) (i : ℕ) (l : List ℕ) → 1 ≤ length l → reading m (l ∷ []) st i ≡ reads st 3 i
+reading-last : (m : Mode) (st : State) (i : ℕ) (l : List ℕ) → 1 ≤ length l → readingOn m (l ∷ []) st i ≡ reads st 3 i
 reading-last m st i [] h = absurd (omega arith)
 reading-last m st i (x ∷ l) h = refl
 
 module _ (s : List ℕ) (c : Cursor) (m : Mode) (st : State) (i : ℕ) where
   pub reading-entry : (k : ℕ) (equals : Cursor) (e : ℕ) (next : Cursor) → L.the-variants.Entry k equals e next ≡ lineAt s c
-      → reading m (split 10 (drop (c .at) s)) st i ≡ lineRead st i (rowOfValue m k (part s (equals .at + 1) e)) (reading m (split 10 (drop (next .at) s)))
+      → readingOn m (split 10 (drop (c .at) s)) st i ≡ lineRead st i (rowOfValue m k (part s (equals .at + 1) e)) (reading m (split 10 (drop (next .at) s)))
   reading-entry k equals e next q =
       let w = line-entered s c k equals e next q in
       let ls = split 10 (drop (next .at) s) in
       rw (w .lines) (reading-on m st i (part s (c .at) e) ls (omega (arith, ap length (split-parts 10 (drop (next .at) s))))
       ∙ ap (λ (r : List ℕ). lineRead st i r (reading m ls)) (w .row m))
 
-  pub reading-end : L.the-variants.End ≡ lineAt s c → reading m (split 10 (drop (c .at) s)) st i ≡ ending st i
+  pub reading-end : L.the-variants.End ≡ lineAt s c → readingOn m (split 10 (drop (c .at) s)) st i ≡ ending st i
   unfolding lineTo stop
   reading-end q = go (ltb (stop s c) (length s)) (ltb (c .at) (length s)) refl (headingOf (part s (c .at) (stop s c))) q
     where
       Goal : Type 0
-      Goal = reading m (split 10 (drop (c .at) s)) st i ≡ ending st i
+      Goal = readingOn m (split 10 (drop (c .at) s)) st i ≡ ending st i
 
       other : L.the-variants.End ≡ L.the-variants.Faulty → Goal
       other y = let z : _≡_ {A = ℕ} 0 1 = cc in absurd (omega arith)
@@ -313,12 +313,12 @@ module _ (s : List ℕ) (c : Cursor) (m : Mode) (st : State) (i : ℕ) where
       go false true d h y = other y
       go false false d h y = rw (drop-of-length-le s (ltb-false (c .at) (length s) d)) refl
 
-  pub reading-faulty : L.the-variants.Faulty ≡ lineAt s c → reading m (split 10 (drop (c .at) s)) st i ≡ reads st 3 i
+  pub reading-faulty : L.the-variants.Faulty ≡ lineAt s c → readingOn m (split 10 (drop (c .at) s)) st i ≡ reads st 3 i
   unfolding lineTo stop
   reading-faulty q = go (ltb (stop s c) (length s)) (ltb (c .at) (length s)) refl refl (headingOf (part s (c .at) (stop s c))) refl q
     where
       Goal : Type 0
-      Goal = reading m (split 10 (drop (c .at) s)) st i ≡ reads st 3 i
+      Goal = readingOn m (split 10 (drop (c .at) s)) st i ≡ reads st 3 i
 
       go : (t u : Bool) → ltb (stop s c) (length s) ≡ t → ltb (c .at) (length s) ≡ u → (h : H.Heading) → headingOf (part s (c .at) (stop s c)) ≡ h
           → L.the-variants.Faulty ≡ cond t (entered c (stop s c) h) (cond u L.the-variants.Faulty L.the-variants.End) → Goal

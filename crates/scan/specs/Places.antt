@@ -10,7 +10,7 @@ use Rattle.words.specs.Log.{part}
 use Rattle.sheet.specs.Bytes.{upTo, split, printable, index}
 use Rattle.sheet.specs.Forms.{Mode, keys, wordNumber, rowOfValue, rowOf}
 use Rattle.sheet.specs.State.{State}
-use Rattle.sheet.specs.Sheet.{Reading, reads, ending, lineRead, reading}
+use Rattle.sheet.specs.Sheet.{Reading, reads, ending, lineRead, reading, readingOn}
 use Rattle.scan.specs.declared.Cursor.{Cursor}
 use Rattle.scan.specs.declared.Heading as H
 use Rattle.scan.specs.declared.Line as L
@@ -141,7 +141,7 @@ pub record HeadingRead (s : List ℕ) (r : H.Heading) : Type 0 where
 
 pub record LineRead (s : List ℕ) (c : Cursor) (r : L.Line) : Type 0 where
   pub is : r ≡ lineAt s c
-  pub reads-on : (m : Mode) (st : State) (i : ℕ) → reading m (split 10 (drop (c .at) s)) st i ≡ readingBy m st i s r
+  pub reads-on : (m : Mode) (st : State) (i : ℕ) → readingOn m (split 10 (drop (c .at) s)) st i ≡ readingBy m st i s r
 
 pub record ItemRead (s : List ℕ) (c : Cursor) (r : I.Item) : Type 0 where
   pub is : r ≡ itemAt s c

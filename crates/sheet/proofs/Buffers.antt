@@ -13,7 +13,8 @@ use Rattle.sheet.specs.Bytes.{same, split}
 use Rattle.sheet.specs.Forms.{Mode, rowOf, keyOf, refs, NODE, noKey, POLICY}
 use Rattle.sheet.specs.State.{State, empty, count, linesOf}
 use Rattle.sheet.specs.Typing.{typed}
-use Rattle.sheet.specs.Sheet.{inOrder, found, depth, usedTwice, fault, more, reads, enough, firstUnused, ending, goOn, reading, read, firstUnlinked, tooMany}
+use Rattle.sheet.specs.Sheet.{inOrder, found, depth, usedTwice, fault, more, reads, enough, firstUnused, ending, goOn, reading, read, firstUnlinked, tooMany, Reading, lineRead}
+use Rattle.sheet.proofs.Refusals.{entities-then, line-then}
 use Rattle.sheet.specs.Answer.{answer}
 use Rattle.sheet.specs.Call.{Returned, returns, room, afterReading, readAs, returned, over, written, zeros, worked}
 use Rattle.sheet.specs.Demand3.{Answered, bytesOf}
@@ -102,14 +103,17 @@ ending-other s k = go (enough s noKey) (ltb (firstUnlinked s 0 (linesOf s POLICY
     go true false false n i = λ z. omega (arith, z)
     go false b c n i = λ z. omega (arith, z)
 
+abbrev OtherNumber : Reading → Type 0
+OtherNumber x = Other (x .number)
+
 reading-other : (m : Mode) (ls : List (List ℕ)) (s : State) (k : ℕ) → Other (reading m ls s k .number)
-reading-other m [] s k = ending-other s k
-reading-other m (l ∷ []) s k = go (same l [])
+reading-other m [] s k = entities-then OtherNumber s (ending s k) (λ k z. omega (arith, z)) (ending-other s k)
+reading-other m (l ∷ []) s k = line-then OtherNumber l s (cond (same l []) (ending s k) (reads s 3 k)) (λ k z. omega (arith, z)) (go (same l []))
   where
     go : (b : Bool) → Other (cond b (ending s k) (reads s 3 k) .number)
     go true = ending-other s k
     go false = λ z. omega (arith, z)
-reading-other m (l ∷ n ∷ ls) s k = go (fault s (rowOf m l)) (fault-other s (rowOf m l)) (reading-other m (n ∷ ls) (more s (rowOf m l)) (suc k))
+reading-other m (l ∷ n ∷ ls) s k = line-then OtherNumber l s (lineRead s k (rowOf m l) (reading m (n ∷ ls))) (λ k z. omega (arith, z)) (go (fault s (rowOf m l)) (fault-other s (rowOf m l)) (reading-other m (n ∷ ls) (more s (rowOf m l)) (suc k)))
   where
     go : (f : ℕ) → Other f → Other (reading m (n ∷ ls) (more s (rowOf m l)) (suc k) .number) → Other (goOn s k (rowOf m l) f (reading m (n ∷ ls)) .number)
     go zero h ih = ih

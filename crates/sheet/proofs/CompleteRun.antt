@@ -2,7 +2,7 @@
 use mathlib.Core.Path.{_≡_, refl, sym, subst}
 use mathlib.Core.Bool.{true, _||_}
 use mathlib.Core.Option.{Option, none, some}
-use mathlib.Core.List.{List, []}
+use mathlib.Core.List.{List, [], _∷_, _++_}
 use Prim.Native.Nat.{ℕ, _<_, _≤_}
 use native.Mathlib.Omega.{arith}
 use borrow.Author.Tests.{ltb-true, ne-eqb}
@@ -19,7 +19,7 @@ use Rattle.cedar.proofs.BothRuns.{whole, complete-classes}
 use Rattle.sheet.specs.Forms.{complete, forms, formOf, slotAt, tag, at, mark, keyOf, PRINCIPAL, ACTION, RESOURCE, CONTEXT, ENTITY, noKey, noTag}
 use Rattle.sheet.specs.State.{State, linesOf, count, lineAt}
 use Rattle.sheet.specs.Sheet.{read}
-use Rattle.sheet.specs.Content.{contents, schema, known, given, requested, contentIn, fieldsIn, membersIn, partsGiven, lineFound, lineGiven, lookUp, nEnv, env}
+use Rattle.sheet.specs.Content.{contents, schema, known, given, requested, contentIn, fieldsIn, setOver, above, partsGiven, lineFound, lineGiven, lookUp, nEnv, env}
 use Rattle.sheet.specs.Answer.{run, results}
 use Rattle.sheet.specs.Call.{Accepted}
 use Rattle.sheet.proofs.Lines.{Was}
@@ -73,28 +73,27 @@ module _ (s : State) (f : Facts complete s) where
       (give-old (there-value complete s (f .history) (at (lineAt s CONTEXT 0) 1) context-there))
 
   whole-line : List ℕ → PLine
-  whole-line r = record { attrs = some (fieldsIn (contentIn (contents s) (at r 1))); tags = some (fieldsIn (contentIn (contents s) (at r 2))); ancestors = some (membersIn (contentIn (contents s) (at r 3))) }
+  whole-line r = record { attrs = some (fieldsIn (contentIn (contents s) (at r 1))); tags = some (fieldsIn (contentIn (contents s) (at r 2))); ancestors = some (setOver (contents s) (above s (at r 0))) }
 
-  line-whole : (pre : List (List ℕ)) (r : List ℕ) → Was complete s ENTITY pre r → LineRead (contents s) (partsGiven r) (whole-line r)
+  line-whole : (pre : List (List ℕ)) (r : List ℕ) (rest : List (List ℕ)) → linesOf s ENTITY ≡ pre ++ (r ∷ rest) → LineRead (contents s) (partsGiven complete s r) (whole-line r)
   unfolding whole-line slotAt formOf forms
-  line-whole pre r w =
-      let rd = entity-read complete s pre r w in
+  line-whole pre r rest a =
+      let rd = entity-read complete s pre r (f .history ENTITY pre r rest a) in
       let n1 = known-small (slotAt 16 1) 5 (rd .field 1) (at r 1) refl (rd .reads 1 (ltb-true 1 4 refl)) in
       let n2 = known-small (slotAt 16 2) 5 (rd .field 2) (at r 2) refl (rd .reads 2 (ltb-true 2 4 refl)) in
-      let n3 = known-small (slotAt 16 3) 5 (rd .field 3) (at r 3) refl (rd .reads 3 (ltb-true 3 4 refl)) in
-      subst (LineRead (contents s) (partsGiven r)) (λ i. record {
+      subst (LineRead (contents s) (partsGiven complete s r)) (λ i. record {
         attrs = known-some (at r 1) (fieldsIn (contentIn (contents s) (at r 1))) n1 i;
         tags = known-some (at r 2) (fieldsIn (contentIn (contents s) (at r 2))) n2 i;
-        ancestors = known-some (at r 3) (membersIn (contentIn (contents s) (at r 3))) n3 i;
-      }) (parts-read complete s f pre r w)
+        ancestors = some (setOver (contents s) (above s (at r 0)));
+      }) (parts-read complete s f pre r rest a)
 
   pub whole-read : EnvRead (contents s) (nEnv complete s) (whole (env s))
   unfolding nEnv env whole-line
   whole-read = record { request = all-asked; line = λ k t. go k t (lookUp s k t) refl }
     where
-      go : (k t : ℕ) (o : Option (List ℕ)) → lookUp s k t ≡ o → LineRead (contents s) (N.nlineOr (lineGiven complete o)) (record { attrs = some (lineOr (lineFound (contents s) o) .attrs); tags = some (lineOr (lineFound (contents s) o) .tags); ancestors = some (lineOr (lineFound (contents s) o) .ancestors) })
+      go : (k t : ℕ) (o : Option (List ℕ)) → lookUp s k t ≡ o → LineRead (contents s) (N.nlineOr (lineGiven complete s o)) (record { attrs = some (lineOr (lineFound s (contents s) o) .attrs); tags = some (lineOr (lineFound s (contents s) o) .tags); ancestors = some (lineOr (lineFound s (contents s) o) .ancestors) })
       go k t none q = record { attrs = rec-empty; tags = rec-empty; ancestors = set-empty }
-      go k t (some r) q = entity-found s (rent k t) (linesOf s ENTITY) r q (λ pre rest a b. line-whole pre r (f .history ENTITY pre r rest a))
+      go k t (some r) q = entity-found s (rent k t) (linesOf s ENTITY) r q (λ pre rest a b. line-whole pre r rest a)
 
   pub one-interpreter : verdicts (run complete s .lines) ≡ results s
   unfolding run results

@@ -25,7 +25,7 @@ use Rattle.sheet.specs.Content.{types, rowsIn, valueRows, contents, sche
 use Rattle.sheet.specs.Answer.{run, results}
 use Rattle.sheet.specs.Call.{returns, afterReading, readAs, returned, room, Accepted}
 use Rattle.sheet.specs.Agreement.{agrees}
-use Rattle.sheet.proofs.Lines.{and-both, zero-not-suc, Was, History, accepted-history}
+use Rattle.sheet.proofs.Lines.{and-both, zero-not-suc, Was, History, accepted-history, accepted-fit}
 use Rattle.sheet.proofs.ValueRows.{values-table}
 use Rattle.sheet.proofs.NodeRows.{row-read}
 use Rattle.sheet.proofs.Slots.{like-slot}
@@ -249,7 +249,7 @@ accepted-read m sheet a = go (ltb (a .work₁) room || ltb (a .work₂) room) (l
     go false false e = after (read m sheet .state) (read m sheet .number) (read m sheet .line) e
 
 pub facts : (m : Mode) (sheet : List ℕ) → Accepted m sheet → Facts m (read m sheet .state)
-facts m sheet a = let e = accepted-read m sheet a in let (h, f) = accepted-history m sheet e in record { history = h; ends = f; keys = all-keys m sheet e }
+facts m sheet a = let e = accepted-read m sheet a in let (h, f) = accepted-history m sheet e in record { history = h; ends = f; keys = all-keys m sheet e; fit = accepted-fit m sheet e }
 
 -- THE THEOREM, for one complete sheet, and for two
 pub demand-3 : (p c : List ℕ) → Accepted partial p → Accepted complete c → agrees (read partial p .state) (read complete c .state) ≡ true → Settles (read partial p .state) (read complete c .state)

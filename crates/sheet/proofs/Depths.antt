@@ -14,7 +14,8 @@ use Rattle.cedar.proofs.TableLaws.{InN, now′, later′}
 use Rattle.sheet.specs.Bytes.{same, split}
 use Rattle.sheet.specs.Forms.{Mode, tag, items, keyOf, refs, rowOf, NODE, noKey, POLICY}
 use Rattle.sheet.specs.State.{State, empty, linesOf, count, depthsOf}
-use Rattle.sheet.specs.Sheet.{deepest, depth, fault, more, reads, ending, enough, firstUnused, goOn, reading, read, firstUnlinked}
+use Rattle.sheet.specs.Sheet.{deepest, depth, fault, more, reads, ending, enough, firstUnused, goOn, reading, read, firstUnlinked, lineRead}
+use Rattle.sheet.proofs.Refusals.{entities-then, line-then}
 use Rattle.sheet.proofs.Lines.{Passed, passed, History, history-more, no-lines, not-empty}
 use Rattle.sheet.proofs.PoliciesRead.{all-there}
 use Rattle.sheet.proofs.Uses.{AllBelow, refs-below, lines-other, lines-own, key-below}
@@ -36,13 +37,13 @@ module _ (m : Mode) where
       go false b c n i = h
 
   reaches : (ls : List (List ℕ)) (s : State) (k : ℕ) → Reached m s → Reached m (reading m ls s k .state)
-  reaches [] s k h = ends s k h
-  reaches (l ∷ []) s k h = go (same l [])
+  reaches [] s k h = entities-then (λ x. Reached m (x .state)) s (ending s k) (λ k. h) (ends s k h)
+  reaches (l ∷ []) s k h = line-then (λ x. Reached m (x .state)) l s (cond (same l []) (ending s k) (reads s 3 k)) (λ k. h) (go (same l []))
     where
       go : (b : Bool) → Reached m (cond b (ending s k) (reads s 3 k) .state)
       go true = ends s k h
       go false = h
-  reaches (l ∷ n ∷ ls) s k h = go (fault s (rowOf m l)) refl (λ h. reaches (n ∷ ls) (more s (rowOf m l)) (suc k) h)
+  reaches (l ∷ n ∷ ls) s k h = line-then (λ x. Reached m (x .state)) l s (lineRead s k (rowOf m l) (reading m (n ∷ ls))) (λ k. h) (go (fault s (rowOf m l)) refl (λ h. reaches (n ∷ ls) (more s (rowOf m l)) (suc k) h))
     where
       go : (f : ℕ) → fault s (rowOf m l) ≡ f → (Reached m (more s (rowOf m l)) → Reached m (reading m (n ∷ ls) (more s (rowOf m l)) (suc k) .state)) → Reached m (goOn s k (rowOf m l) f (reading m (n ∷ ls)) .state)
       go zero e ih = ih (next l h e)

@@ -2,7 +2,7 @@
 use mathlib.Core.Path.{_≡_, refl, sym, _∙_, ap, subst}
 use mathlib.Core.Bool.{Bool, true, false, cond, _||_}
 use mathlib.Core.Option.{Option, none, some, Option·some-injective}
-use mathlib.Core.List.{List, [], _∷_}
+use mathlib.Core.List.{List, [], _∷_, _++_}
 use Prim.Native.Nat.{ℕ, zero, suc, _≤_, Ordering, Ordering·lt, Ordering·eq, Ordering·gt}
 use native.Mathlib.Omega.{arith}
 use borrow.Author.Tests.{ltb-true, ne-eqb}
@@ -10,18 +10,19 @@ use lib.Dec.{eqb}
 use lib.ListN.{getD, drop}
 use Rattle.cedar.proofs.Tools.{no-true, no-some, in-alone}
 use Rattle.cedar.specs.Value.{Value, vent, Values, vcons}
-use Rattle.cedar.specs.Canonical.{place, insert, ascending, makeSet, order}
+use Rattle.cedar.specs.Canonical.{place, insert, ascending, order}
 use Rattle.cedar.specs.Types.{Ty, tbool, tent, among, Var, principal, action, resource, context, Fits, fbool, flong, ftext, fent, fset, frec, FieldsFit, noField}
 use Rattle.cedar.specs.Entities.{Line, PLine, EnvFits, LineFits, KindsIn, noKind, oneKind, TagsFit, noTag, oneTag}
-use Rattle.cedar.specs.Rows.{Entries, stop, entry, Row, rent, rset, rrec}
-use Rattle.cedar.specs.Numbered.{memN, rEnt, rRec, rSet}
+use Rattle.cedar.specs.Rows.{Entries, stop, entry, Row, rent, rrec}
+use Rattle.cedar.specs.Numbered.{memN, rEnt, rRec}
 use Rattle.cedar.proofs.Completion.{PartsFit, KnownFits}
-use Rattle.sheet.specs.Forms.{Mode, complete, forms, formOf, slotAt, items, at, mark, PRINCIPAL, ACTION, RESOURCE, CONTEXT, ENTITY}
+use Rattle.sheet.specs.Forms.{Mode, partial, complete, forms, formOf, slotAt, items, at, mark, PRINCIPAL, ACTION, RESOURCE, CONTEXT, ENTITY}
 use Rattle.sheet.specs.State.{State, linesOf, lineAt, typeRow, typeAt, valueRow, valueAt}
 use Rattle.sheet.specs.Typing.{rowFits, fitsBy, fits, fitsIn, attributesOf, tagsOf, aboveOf, unknownOr, allIn, allEntries, isStop, tagsFit, ancestorFits, typed}
-use Rattle.sheet.specs.Content.{types, contents, membersOver, fieldsOver, attrsIn, tagTy, schema, known, entityKnown, requestKnown, requested, lineIn, lineFound, partsIn, partsFound, pEnv, contentIn, fieldsIn, membersIn, lookUp, env}
-use Rattle.sheet.proofs.Lines.{and-both, Was}
-use Rattle.sheet.proofs.RowTests.{mem-among, on-ent, on-set, on-rec, on-record}
+use Rattle.sheet.specs.Content.{types, contents, membersOver, fieldsOver, attrsIn, tagTy, schema, known, entityKnown, requestKnown, requested, lineIn, lineFound, partsIn, partsFound, pEnv, contentIn, fieldsIn, setOver, above, knownAbove, mapSome, lookUp, env}
+use Rattle.sheet.proofs.Ancestors.{above-fit, known-above}
+use Rattle.sheet.proofs.Lines.{and-both}
+use Rattle.sheet.proofs.RowTests.{mem-among, on-ent, on-rec, on-record}
 use Rattle.sheet.proofs.FitsSound.{fits-sound}
 use Rattle.sheet.proofs.NodeRows.{known-small}
 use Rattle.sheet.proofs.Environment.{Facts, the-line, entity-found, entity-read, context-read, entity-ok, value-is}
@@ -97,10 +98,16 @@ module _ (m : Mode) (s : State) (f : Facts m s) where
       subst (λ z. KindsIn (aboveOf s k) (vcons z (membersOver (contents s) l))) (sym (value-is m s f u b v (rent i t) r))
       (oneKind (sym (mem-among i (aboveOf s k)) ∙ subst (λ z. memN i (drop 2 (items (getD z k []))) ≡ true) a g) (kinds-of u a b k l q))))
 
+  -- ancestors that are known
+  ancestors-fit : (n : Mode) (pre : List (List ℕ)) (r : List ℕ) (rest : List (List ℕ)) (k t : ℕ) → linesOf s ENTITY ≡ pre ++ (r ∷ rest) → valueAt s (at r 0) ≡ rent k t → (vs : Values) (o : Option (List ℕ)) → knownAbove n s (at r 0) ≡ o → mapSome (setOver (contents s)) o ≡ some vs → KindsIn (aboveOf s k) vs
+  ancestors-fit n pre r rest k t a v vs none q e = no-some e
+  ancestors-fit n pre r rest k t a v vs (some l) q e = subst (KindsIn (aboveOf s k)) (Option·some-injective _ _ e) (kinds-ascending (aboveOf s k) (kinds-of s refl refl k l (subst (λ x. allIn (ancestorFits s k) x ≡ true) (known-above n s (at r 0) l q) (above-fit s (f .fit) pre r rest a k t v))))
+
   -- an entity's line
-  pub parts-fit : (pre : List (List ℕ)) (r : List ℕ) (k t : ℕ) → Was m s ENTITY pre r → valueAt s (at r 0) ≡ rent k t → PartsFit (schema s) k (partsIn (contents s) r)
-  unfolding schema makeSet kind-in
-  parts-fit pre r k t w v =
+  pub parts-fit : (n : Mode) (pre : List (List ℕ)) (r : List ℕ) (rest : List (List ℕ)) (k t : ℕ) → linesOf s ENTITY ≡ pre ++ (r ∷ rest) → valueAt s (at r 0) ≡ rent k t → PartsFit (schema s) k (partsIn n s (contents s) r)
+  unfolding schema kind-in
+  parts-fit n pre r rest k t split v =
+      let w = f .history ENTITY pre r rest split in
       let u = w .was in
       let e3 : linesOf u 3 ≡ linesOf s 3 = w .earlier 3 (omega arith) in
       let e4 : linesOf u 4 ≡ linesOf s 4 = w .earlier 4 (omega arith) in
@@ -117,10 +124,7 @@ module _ (m : Mode) (s : State) (f : Facts m s) where
             on-rec (valueAt u (at r 2)) (tagsFit u (tagsOf u i)) b (λ es q g.
             subst (λ z. TagsFit (tagTy (types s) z) (fieldsIn (contentIn (contents s) (at r 2)))) (ap (λ l. at (getD l i []) 1) e4 ∙ ap (tagsOf s) kk)
             (subst (λ z. TagsFit (tagTy (types s) (tagsOf u i)) (fieldsIn z)) (sym (value-is m s f u e5 (at r 2) (rrec es) q)) (tags-fit u e3 e5 (tagsOf u i) es g))));
-        ancestors = of-known (λ vs. KindsIn (aboveOf s k) vs) (at r 3) (membersIn (contentIn (contents s) (at r 3))) (rSet false (valueAt u (at r 3)) (allIn (ancestorFits u i))) (ok .ancestors-ok) (λ c.
-            on-set (valueAt u (at r 3)) (allIn (ancestorFits u i)) c (λ l q g.
-            subst (λ z. KindsIn (aboveOf s z) (membersIn (contentIn (contents s) (at r 3)))) kk
-            (subst (λ z. KindsIn (aboveOf s i) (membersIn z)) (sym (value-is m s f u e5 (at r 3) (rset l) q)) (kinds-ascending (aboveOf s i) (kinds-of u e4 e5 i l g)))));
+        ancestors = λ vs e. ancestors-fit n pre r rest k t split v vs (knownAbove n s (at r 0)) refl e;
       })
 
   context-known : (v : Value) → requestKnown s (contents s) context ≡ some v → Fits v (getD (types s) (at (lineAt s CONTEXT 0) 0) tbool)
@@ -152,22 +156,22 @@ module _ (m : Mode) (s : State) (f : Facts m s) where
   unfolding pEnv
   known-fits = record { request = request-known; line = λ k t p e. go k t p (lookUp s k t) refl e }
     where
-      go : (k t : ℕ) (p : PLine) (o : Option (List ℕ)) → lookUp s k t ≡ o → partsFound (contents s) o ≡ some p → PartsFit (schema s) k p
+      go : (k t : ℕ) (p : PLine) (o : Option (List ℕ)) → lookUp s k t ≡ o → partsFound s (contents s) o ≡ some p → PartsFit (schema s) k p
       go k t p none q e = no-some e
       go k t p (some r) q e = entity-found s (rent k t) (linesOf s ENTITY) r q (λ pre rest a b.
-          subst (PartsFit (schema s) k) (Option·some-injective _ _ e) (parts-fit pre r k t (f .history ENTITY pre r rest a) b))
+          subst (PartsFit (schema s) k) (Option·some-injective _ _ e) (parts-fit partial pre r rest k t a b))
 
 module _ (s : State) (f : Facts complete s) where
   -- on a complete sheet every part is known
-  line-fits : (pre : List (List ℕ)) (r : List ℕ) (k t : ℕ) → Was complete s ENTITY pre r → valueAt s (at r 0) ≡ rent k t → LineFits (schema s) k (lineIn (contents s) r)
+  line-fits : (pre : List (List ℕ)) (r : List ℕ) (rest : List (List ℕ)) (k t : ℕ) → linesOf s ENTITY ≡ pre ++ (r ∷ rest) → valueAt s (at r 0) ≡ rent k t → LineFits (schema s) k (lineIn s (contents s) r)
   unfolding slotAt formOf forms
-  line-fits pre r k t w v =
-      let rd = entity-read complete s pre r w in
-      let h = parts-fit complete s f pre r k t w v in
+  line-fits pre r rest k t a v =
+      let rd = entity-read complete s pre r (f .history ENTITY pre r rest a) in
+      let h = parts-fit complete s f complete pre r rest k t a v in
       record {
         attrs = h .attrs (fieldsIn (contentIn (contents s) (at r 1))) (known-some (at r 1) (fieldsIn (contentIn (contents s) (at r 1))) (known-small (slotAt 16 1) 5 (rd .field 1) (at r 1) refl (rd .reads 1 (ltb-true 1 4 refl))));
         tags = h .tags (fieldsIn (contentIn (contents s) (at r 2))) (known-some (at r 2) (fieldsIn (contentIn (contents s) (at r 2))) (known-small (slotAt 16 2) 5 (rd .field 2) (at r 2) refl (rd .reads 2 (ltb-true 2 4 refl))));
-        ancestors = h .ancestors (membersIn (contentIn (contents s) (at r 3))) (known-some (at r 3) (membersIn (contentIn (contents s) (at r 3))) (known-small (slotAt 16 3) 5 (rd .field 3) (at r 3) refl (rd .reads 3 (ltb-true 3 4 refl))));
+        ancestors = h .ancestors (setOver (contents s) (above s (at r 0))) refl;
       }
 
   context-fits : Fits (contentIn (contents s) (at (lineAt s CONTEXT 0) 1)) (getD (types s) (at (lineAt s CONTEXT 0) 0) tbool)
@@ -189,7 +193,7 @@ module _ (s : State) (f : Facts complete s) where
   unfolding env
   env-fits = record { request = request-fits; line = λ k t l e. go k t l (lookUp s k t) refl e }
     where
-      go : (k t : ℕ) (l : Line) (o : Option (List ℕ)) → lookUp s k t ≡ o → lineFound (contents s) o ≡ some l → LineFits (schema s) k l
+      go : (k t : ℕ) (l : Line) (o : Option (List ℕ)) → lookUp s k t ≡ o → lineFound s (contents s) o ≡ some l → LineFits (schema s) k l
       go k t l none q e = no-some e
       go k t l (some r) q e = entity-found s (rent k t) (linesOf s ENTITY) r q (λ pre rest a b.
-          subst (LineFits (schema s) k) (Option·some-injective _ _ e) (line-fits pre r k t (f .history ENTITY pre r rest a) b))
+          subst (LineFits (schema s) k) (Option·some-injective _ _ e) (line-fits pre r rest k t a b))

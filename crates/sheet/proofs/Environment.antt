@@ -11,22 +11,22 @@ use lib.Dec.{leb, ltb, eqb}
 use lib.ListN.{length, getD, take, set, length-set}
 use Rattle.cedar.proofs.Tools.{no-some}
 use Rattle.cedar.specs.Value.{Value, vbool, vent}
-use Rattle.cedar.specs.Canonical.{makeSet}
 use Rattle.cedar.specs.Types.{Var, principal, action, resource, context}
 use Rattle.cedar.specs.Rows.{Entries, Row, rent, rset, rrec, sameRow}
 use Rattle.cedar.specs.Table.{At, dent}
 use Rattle.cedar.proofs.TableLaws.{sameRow-true}
-use Rattle.cedar.specs.Numbered.{rRec, rSet}
-use Rattle.cedar.proofs.ReadsOps.{EnvRead, LineRead, GiveRead, give-unknown, give-made, give-old, RecRead, rec-unknown, rec-known, SetRead, set-unknown, set-known}
+use Rattle.cedar.specs.Numbered.{rRec, rSet, memN}
+use Rattle.cedar.proofs.ReadsOps.{EnvRead, LineRead, GiveRead, give-unknown, give-made, give-old, RecRead, rec-unknown, rec-known, SetRead, set-unknown, set-found}
 use Rattle.sheet.specs.Forms.{Mode, partial, forms, formOf, slotAt, tag, at, mark, keyOf, rowOf, PRINCIPAL, ACTION, RESOURCE, CONTEXT, ENTITY, VALUE, noKey, noTag}
 use Rattle.sheet.specs.State.{State, linesOf, count, lineAt, counts, lengths, valueRow, valueAt}
 use Rattle.sheet.specs.Typing.{fits, attributesOf, tagsOf, unknownOr, allIn, tagsFit, ancestorFits, typed}
 use Rattle.sheet.specs.Sheet.{reach, least, more, read}
-use Rattle.sheet.specs.Content.{types, contents, valueOver, known, entityGiven, entityKnown, given, requestKnown, partsGiven, partsIn, partsFound, lineGiven, entityLine, lookUp, nEnv, pEnv, contentIn, fieldsIn, membersIn}
-use Rattle.sheet.proofs.Lines.{and-both, Was, History, holds-read, Ended}
+use Rattle.sheet.specs.Content.{types, contents, valueOver, known, entityGiven, entityKnown, given, requestKnown, partsGiven, partsIn, partsFound, lineGiven, entityLine, lookUp, nEnv, pEnv, contentIn, fieldsIn, knownAbove, mapSome, setOver}
+use Rattle.sheet.proofs.Lines.{and-both, Was, History, holds-read, Ended, AllFit}
+use Rattle.sheet.proofs.Ancestors.{above-small, elems-over, known-above}
 use Rattle.sheet.proofs.Parsed.{allBelow, between, tags-between}
 use Rattle.sheet.proofs.ValueRows.{at-getD}
-use Rattle.sheet.proofs.RowTests.{on-ent, on-set, on-rec}
+use Rattle.sheet.proofs.RowTests.{on-ent, on-rec}
 use Rattle.sheet.proofs.Fitting.{val, val-eq, contents-length}
 use Rattle.sheet.proofs.NodeRows.{Read, row-read}
 use Rattle.sheet.proofs.PoliciesRead.{item-there}
@@ -72,6 +72,7 @@ pub record Facts (m : Mode) (s : State) : Type 0 where
   pub history : History m s
   pub ends : Ended s
   pub keys : length (s .lines) ≡ noKey
+  pub fit : AllFit s
 
 pub the-line : (m : Mode) (s : State) → Facts m s → (k : ℕ) → k < noKey → 1 ≤ getD (least s) k 0 → Was m s k [] (lineAt s k 0)
 the-line m s f k lt one =
@@ -156,25 +157,22 @@ module _ (m : Mode) (s : State) (f : Facts m s) where
       go false p a b = on-rec (valueAt u n) g b (λ es q r. let z = value-is u e n (rrec es) q in
           subst (λ y. RecRead (contents s) (some (N.old n)) (some (fieldsIn y))) (sym z) (rec-known (subst (At (contents s) n) z (known-there m s h u e n p (subst (λ y. (y || ltb n (count u 5)) ≡ true) (sym p) a)))))
 
-  set-part : (u : State) → linesOf u 5 ≡ linesOf s 5 → (n : ℕ) (g : List ℕ → Bool) → (eqb n mark || ltb n (count u 5)) ≡ true → unknownOr n (rSet false (valueAt u n) g) ≡ true
-      → SetRead (contents s) (known n (N.old n)) (known n (membersIn (contentIn (contents s) n)))
-  unfolding makeSet
-  set-part u e n g a b = go (eqb n mark) refl a b
-    where
-      go : (x : Bool) → eqb n mark ≡ x → (x || ltb n (count u 5)) ≡ true → (x || rSet false (valueAt u n) g) ≡ true → SetRead (contents s) (cond x none (some (N.old n))) (cond x none (some (membersIn (contentIn (contents s) n))))
-      go true p a b = set-unknown
-      go false p a b = on-set (valueAt u n) g b (λ l q r. let z = value-is u e n (rset l) q in
-          subst (λ y. SetRead (contents s) (some (N.old n)) (some (membersIn y))) (sym z) (set-known (subst (At (contents s) n) z (known-there m s h u e n p (subst (λ y. (y || ltb n (count u 5)) ≡ true) (sym p) a)))))
+  -- ancestors, known or not: what their numbers stand for
+  ancestors-read : (pre : List (List ℕ)) (r : List ℕ) (rest : List (List ℕ)) → linesOf s ENTITY ≡ pre ++ (r ∷ rest) → (o : Option (List ℕ)) → knownAbove m s (at r 0) ≡ o
+      → SetRead (contents s) (mapSome (λ l. N.made (rset l)) o) (mapSome (setOver (contents s)) o)
+  ancestors-read pre r rest e none q = set-unknown
+  ancestors-read pre r rest e (some l) q = set-found (elems-over (contents s) l (λ y i. let z = contents-length m s h in let a = above-small s (f .fit) pre r rest e y (subst (λ k. memN y k ≡ true) (sym (known-above m s (at r 0) l q)) i) in omega (arith, z, a))) refl
 
-  pub parts-read : (pre : List (List ℕ)) (r : List ℕ) → Was m s ENTITY pre r → LineRead (contents s) (partsGiven r) (partsIn (contents s) r)
+  pub parts-read : (pre : List (List ℕ)) (r : List ℕ) (rest : List (List ℕ)) → linesOf s ENTITY ≡ pre ++ (r ∷ rest) → LineRead (contents s) (partsGiven m s r) (partsIn m s (contents s) r)
   unfolding slotAt formOf forms
-  parts-read pre r w =
+  parts-read pre r rest q =
+      let w = h ENTITY pre r rest q in
       let rd = entity-read m s pre r w in
       let e : linesOf (w .was) 5 ≡ linesOf s 5 = w .earlier 5 (omega arith) in
       entity-ok (w .was) r (w .pass .types) (λ k t ok. record {
         attrs = rec-part (w .was) e (at r 1) (λ e. fits (w .was) (at r 1) (attributesOf (w .was) k)) (item-there m s (w .was) ENTITY r 16 rd (w .pass .refers) 1 (ltb-true 1 4 refl)) (ok .attrs-ok);
         tags = rec-part (w .was) e (at r 2) (tagsFit (w .was) (tagsOf (w .was) k)) (item-there m s (w .was) ENTITY r 16 rd (w .pass .refers) 2 (ltb-true 2 4 refl)) (ok .tags-ok);
-        ancestors = set-part (w .was) e (at r 3) (allIn (ancestorFits (w .was) k)) (item-there m s (w .was) ENTITY r 16 rd (w .pass .refers) 3 (ltb-true 3 4 refl)) (ok .ancestors-ok);
+        ancestors = ancestors-read pre r rest q (knownAbove m s (at r 0)) refl;
       })
 
   context-given : GiveRead (contents s) (given s context) (requestKnown s (contents s) context)
@@ -200,6 +198,6 @@ pub env-read : (s : State) → Facts partial s → EnvRead (contents s) (nEnv pa
 unfolding nEnv pEnv
 env-read s f = record { request = all-given partial s f; line = λ k t. go k t (lookUp s k t) refl }
   where
-    go : (k t : ℕ) (o : Option (List ℕ)) → lookUp s k t ≡ o → LineRead (contents s) (N.nlineOr (lineGiven partial o)) (E.plineOr (partsFound (contents s) o))
+    go : (k t : ℕ) (o : Option (List ℕ)) → lookUp s k t ≡ o → LineRead (contents s) (N.nlineOr (lineGiven partial s o)) (E.plineOr (partsFound s (contents s) o))
     go k t none q = record { attrs = rec-unknown; tags = rec-unknown; ancestors = set-unknown }
-    go k t (some r) q = entity-found s (rent k t) (linesOf s ENTITY) r q (λ pre rest a b. parts-read partial s f pre r (f .history ENTITY pre r rest a))
+    go k t (some r) q = entity-found s (rent k t) (linesOf s ENTITY) r q (λ pre rest a b. parts-read partial s f pre r rest a)

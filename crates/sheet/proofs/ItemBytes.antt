@@ -18,7 +18,8 @@ use Rattle.sheet.specs.Bytes.{upTo, ahead, split, same, printable, isDig
 use Rattle.sheet.specs.Forms.{Mode, Slot, line, lineOr, lineUnknown, word, number, day, nothing, Form, forms, formOf, noForm, slotAt, counted, wordNumber, item, itemsFrom, joined, one, markOr, mark, tag, items, rowOf, orEmpty, rowHeaded, rowOfText, rowOfValue, heading, nameFirst, nameSecond, headed, formIn, tagOf, keyOf, placeIn, keys, TEXT, TYPE, VALUE, NODE, POLICY}
 use Rattle.sheet.specs.Forms as F
 use Rattle.sheet.specs.State.{State, empty, linesOf, count}
-use Rattle.sheet.specs.Sheet.{fault, more, Reading, reads, ending, goOn, reading, read}
+use Rattle.sheet.specs.Sheet.{fault, more, Reading, reads, ending, goOn, lineRead, reading, read}
+use Rattle.sheet.proofs.Refusals.{line-then}
 use Rattle.sheet.specs.Answer.{itemOut, itemsOut}
 use Rattle.sheet.proofs.Lines.{ended, zero-not-suc, lines-more}
 use Rattle.sheet.proofs.Parsed.{policyTag, counted-plain, tags-between, policy-tags}
@@ -389,12 +390,12 @@ module _ (m : Mode) where
 
   reading-cost : (l : List ℕ) (ls : List (List ℕ)) (s : State) (k : ℕ) → Within s (length l + weigh ls) (reading m (l ∷ ls) s k)
   unfolding Within
-  reading-cost l [] s k e = go (same l []) e
+  reading-cost l [] s k = line-then (Within s (length l + 0)) l s (cond (same l []) (ending s k) (reads s 3 k)) (λ k e. zero-not-suc e) (go (same l []))
     where
       go : (b : Bool) → cond b (ending s k) (reads s 3 k) .number ≡ 0 → costOf (cond b (ending s k) (reads s 3 k) .state) ≤ costOf s + (length l + 0)
       go true e = end-cost s k (length l + 0) e
       go false e = zero-not-suc e
-  reading-cost l (n ∷ ls) s k e = go (fault s (rowOf m l)) (λ q. reading-cost n ls (more s (rowOf m l)) (suc k) q) e
+  reading-cost l (n ∷ ls) s k = line-then (Within s (length l + (length n + 1 + weigh ls))) l s (lineRead s k (rowOf m l) (reading m (n ∷ ls))) (λ k e. zero-not-suc e) (go (fault s (rowOf m l)) (λ q. reading-cost n ls (more s (rowOf m l)) (suc k) q))
     where
       go : (f : ℕ) → (reading m (n ∷ ls) (more s (rowOf m l)) (suc k) .number ≡ 0 → costOf (reading m (n ∷ ls) (more s (rowOf m l)) (suc k) .state) ≤ costOf (more s (rowOf m l)) + (length n + weigh ls))
           → goOn s k (rowOf m l) f (reading m (n ∷ ls)) .number ≡ 0 → costOf (goOn s k (rowOf m l) f (reading m (n ∷ ls)) .state) ≤ costOf s + (length l + (length n + 1 + weigh ls))

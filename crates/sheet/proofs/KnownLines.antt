@@ -8,6 +8,7 @@ use lib.ListN.{replicate}
 use Rattle.sheet.specs.Ascii.{ascii}
 use Rattle.sheet.specs.Forms.{keys, partial, forms, formOf, slotAt, counted, tagOf, rowOf, keyOf, refs, ascendings, firstType, firstValue, firstNode, TYPE, VALUE, NODE, slotNode, aloneRow}
 use Rattle.sheet.specs.Typing.{fitsIn, nodesUnder, typed}
+use Rattle.sheet.specs.Parents.{ancestors, unknownAbove}
 use Rattle.sheet.specs.Sheet.{found, depth, fault, more, read}
 use Rattle.sheet.specs.Content.{types, valueRows, contents, schema, trees, exprs, onTerm, nPolicies, policies, nEnv, env}
 use Rattle.sheet.specs.Answer.{run, results, answer}
@@ -40,7 +41,7 @@ terms =
     ∷ []
 
 term-sheets : shownAll head terms ≡ saysAll terms
-unfolding head terms shown keys forms formOf slotAt counted tagOf rowOf keyOf refs ascendings fitsIn nodesUnder typed found depth fault more read types valueRows contents schema trees exprs onTerm nPolicies policies nEnv env run results answer returned order same place insert ascending makeSet
+unfolding head terms shown keys forms formOf slotAt counted tagOf rowOf keyOf refs ascendings fitsIn nodesUnder typed found depth fault more read types valueRows contents schema trees exprs onTerm nPolicies policies nEnv env run results answer returned ancestors unknownAbove order same place insert ascending makeSet
 term-sheets = refl
 
 -- ---- document 02, "Carrier templates", over the same head
@@ -67,7 +68,7 @@ templates =
     ∷ []
 
 template-sheets : shownAll head templates ≡ saysAll templates
-unfolding head templates shown keys forms formOf slotAt counted tagOf rowOf keyOf refs ascendings fitsIn nodesUnder typed found depth fault more read types valueRows contents schema trees exprs onTerm nPolicies policies nEnv env run results answer returned order same place insert ascending makeSet
+unfolding head templates shown keys forms formOf slotAt counted tagOf rowOf keyOf refs ascendings fitsIn nodesUnder typed found depth fault more read types valueRows contents schema trees exprs onTerm nPolicies policies nEnv env run results answer returned ancestors unknownAbove order same place insert ascending makeSet
 template-sheets = refl
 
 -- "2000-02-29 is one, 2100-02-29 gets 3": dates, and what is none
@@ -106,7 +107,7 @@ groupLines =
     ∷ []
 
 group-lines : shownAll kindLines groupLines ≡ saysAll groupLines
-unfolding kindLines groupLines shown keys forms formOf slotAt counted tagOf rowOf keyOf refs ascendings fitsIn nodesUnder typed found depth fault more read types valueRows contents schema trees exprs onTerm nPolicies policies nEnv env run results answer returned order same place insert ascending makeSet
+unfolding kindLines groupLines shown keys forms formOf slotAt counted tagOf rowOf keyOf refs ascendings fitsIn nodesUnder typed found depth fault more read types valueRows contents schema trees exprs onTerm nPolicies policies nEnv env run results answer returned ancestors unknownAbove order same place insert ascending makeSet
 group-lines = refl
 
 -- the row of a kind's type line alone

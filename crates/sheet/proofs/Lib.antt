@@ -1,3 +1,4 @@
+pub mod Ancestors
 pub mod AnswerBack
 pub mod AnswerLength
 pub mod AnswerRead
@@ -8,6 +9,7 @@ pub mod Demand3Answers
 pub mod Demand3Bytes
 pub mod Depths
 pub mod DigitsBack
+pub mod EntitiesEnd
 pub mod EnvFit
 pub mod Environment
 pub mod FitsSound
@@ -29,6 +31,7 @@ pub mod OwnPolicies
 pub mod Parsed
 pub mod PathSteps
 pub mod PoliciesRead
+pub mod Reaching
 pub mod Refusals
 pub mod RowTests
 pub mod Shallow

@@ -9,12 +9,13 @@ use lib.Dec.{leb, ltb, eqb}
 use lib.ListN.{length, getD, drop, set, replicate}
 use Rattle.cedar.proofs.Tools.{eqb-true, neither}
 pub use Rattle.cedar.proofs.Tools.{and-both}
-use Rattle.sheet.specs.Bytes.{same, split}
-use Rattle.sheet.specs.Forms.{Mode, rowOf, keyOf, refs, NODE, noKey, POLICY}
+use Rattle.sheet.specs.Bytes.{split, starts}
+use Rattle.sheet.specs.Forms.{Mode, rowOf, keyOf, refs, NODE, noKey, POLICY, ENTITY}
 use Rattle.sheet.specs.State.{State, empty, linesOf, count, counts, lengths}
 use Rattle.sheet.specs.Typing.{typed}
 use Rattle.sheet.proofs.Refusals.{in-number-order}
-use Rattle.sheet.specs.Sheet.{fault, faultOf, found, inOrder, allZero, enough, greatest, depth, usedTwice, more, Reading, reads, ending, firstUnused, goOn, reading, read, overused, firstUnlinked}
+use Rattle.sheet.specs.Sheet.{fault, faultOf, found, inOrder, allZero, enough, greatest, depth, usedTwice, more, Reading, reads, ending, firstUnused, goOn, reading, read, overused, firstUnlinked, firstUnfit, entitiesFit, beforeLine, lineRead}
+use Rattle.sheet.specs.Ascii.{ascii}
 
 -- ---- tests
 
@@ -66,14 +67,32 @@ end-with s k n i false b c q = zero-not-suc q
 pub ended : (s : State) (k : ℕ) → ending s k .number ≡ 0 → (ending s k .state ≡ s) × Ended s
 ended s k e = let (p, a, b) = end-with s k _ _ (enough s noKey) (ltb (firstUnlinked s 0 (linesOf s POLICY)) (count s POLICY)) (ltb (firstUnused (s .used)) (count s NODE)) e in (p, record { full = a; linked = b })
 
-module _ (m : Mode) (Holds : State → Type 0) (step : (s : State) (l : List ℕ) → Holds s → fault s (rowOf m l) ≡ 0 → Holds (more s (rowOf m l))) where
-  -- at the end: it holds, and no line is missing
-  Final : Reading → Type 0
-  Final x = Holds (x .state) × Ended (x .state)
+-- the kinds that each entity line reaches are above it
+abbrev pub AllFit : State → Type 0
+AllFit s = ltb (firstUnfit s (linesOf s ENTITY)) (count s ENTITY) ≡ false
 
-  at-end : (s : State) (k : ℕ) → Holds s → ending s k .number ≡ 0 → Final (ending s k)
+entities-passed : (s : State) (x : Reading) → entitiesFit s x .number ≡ 0 → (entitiesFit s x ≡ x) × AllFit s
+entities-passed s x e = go (ltb (firstUnfit s (linesOf s ENTITY)) (count s ENTITY)) _ e
+  where
+    go : (b : Bool) (k : ℕ) → cond b (reads s 7 k) x .number ≡ 0 → (cond b (reads s 7 k) x ≡ x) × (b ≡ false)
+    go true k q = zero-not-suc q
+    go false k q = (refl, refl)
+
+line-passed : (l : List ℕ) (s : State) (x : Reading) → beforeLine l s x .number ≡ 0 → beforeLine l s x ≡ x
+line-passed l s x e = go (starts (ascii "entity=") l) e
+  where
+    go : (b : Bool) → cond b x (entitiesFit s x) .number ≡ 0 → cond b x (entitiesFit s x) ≡ x
+    go true q = refl
+    go false q = entities-passed s x q .0
+
+module _ (m : Mode) (Holds : State → Type 0) (step : (s : State) (l : List ℕ) → Holds s → fault s (rowOf m l) ≡ 0 → Holds (more s (rowOf m l))) where
+  -- at the end: it holds, no line is missing, and what entities reach is above them
+  Final : Reading → Type 0
+  Final x = Holds (x .state) × Ended (x .state) × AllFit (x .state)
+
+  at-end : (s : State) (k : ℕ) → Holds s → entitiesFit s (ending s k) .number ≡ 0 → Final (entitiesFit s (ending s k))
   unfolding Final
-  at-end s k h e = let (p, q) = ended s k e in rw p (h, q)
+  at-end s k h e = let (a, b) = entities-passed s (ending s k) e in let (p, q) = ended s k (sym (ap (λ x. x .number) a) ∙ e) in rw (a, p) (h, q, b)
 
   go-on : (s : State) (k : ℕ) (l : List ℕ) (n : ℕ) (rest : State → ℕ → Reading) → fault s (rowOf m l) ≡ n → Holds s
       → (Holds (more s (rowOf m l)) → rest (more s (rowOf m l)) (suc k) .number ≡ 0 → Final (rest (more s (rowOf m l)) (suc k)))
@@ -81,18 +100,23 @@ module _ (m : Mode) (Holds : State → Type 0) (step : (s : State) (l : List ℕ
   go-on s k l zero rest f h next e = next (step s l h f) e
   go-on s k l (suc n) rest f h next e = zero-not-suc e
 
-  last-part : (s : State) (k : ℕ) (b : Bool) → Holds s → cond b (ending s k) (reads s 3 k) .number ≡ 0 → Final (cond b (ending s k) (reads s 3 k))
-  last-part s k true h e = at-end s k h e
-  last-part s k false h e = zero-not-suc e
+  last-part : (l : List ℕ) (s : State) (k : ℕ) → Holds s → reading m (l ∷ []) s k .number ≡ 0 → Final (reading m (l ∷ []) s k)
+  last-part [] s k h e = at-end s k h e
+  last-part (x ∷ l) s k h e = zero-not-suc (sym (ap (λ y. y .number) (line-passed (x ∷ l) s (reads s 3 k) e)) ∙ e)
 
   holds-after : (ls : List (List ℕ)) (s : State) (k : ℕ) → Holds s → reading m ls s k .number ≡ 0 → Final (reading m ls s k)
   holds-after [] s k h e = at-end s k h e
-  holds-after (l ∷ []) s k h e = last-part s k (same l []) h e
-  holds-after (l ∷ n ∷ ls) s k h e = go-on s k l (fault s (rowOf m l)) (reading m (n ∷ ls)) refl h (λ h e. holds-after (n ∷ ls) (more s (rowOf m l)) (suc k) h e) e
+  holds-after (l ∷ []) s k h e = last-part l s k h e
+  holds-after (l ∷ n ∷ ls) s k h e = let p = line-passed l s (lineRead s k (rowOf m l) (reading m (n ∷ ls))) e in
+      subst Final (sym p) (go-on s k l (fault s (rowOf m l)) (reading m (n ∷ ls)) refl h (λ h e. holds-after (n ∷ ls) (more s (rowOf m l)) (suc k) h e) (sym (ap (λ x. x .number) p) ∙ e))
 
   pub holds-read : (sheet : List ℕ) → Holds empty → read m sheet .number ≡ 0 → Holds (read m sheet .state) × Ended (read m sheet .state)
   unfolding read Final
-  holds-read sheet h e = holds-after (split 10 sheet) empty 1 h e
+  holds-read sheet h e = let (a, b, c) = holds-after (split 10 sheet) empty 1 h e in (a, b)
+
+  fit-read : (sheet : List ℕ) → Holds empty → read m sheet .number ≡ 0 → AllFit (read m sheet .state)
+  unfolding read Final
+  fit-read sheet h e = let (a, b, c) = holds-after (split 10 sheet) empty 1 h e in c
 
 -- ---- the lines of a state with one more
 
@@ -197,3 +221,7 @@ no-lines k = go noKey k
 -- every line of an accepted sheet was read without fault, over the lines before it; and no line is missing
 pub accepted-history : (m : Mode) (sheet : List ℕ) → read m sheet .number ≡ 0 → History m (read m sheet .state) × Ended (read m sheet .state)
 accepted-history m sheet e = holds-read m (History m) (λ s l h f. history-more m s l h f) sheet (λ k pre r rest q. not-empty pre r rest (sym (no-lines k) ∙ q)) e
+
+-- 2.6: each entity line of an accepted sheet reaches only kinds above it
+pub accepted-fit : (m : Mode) (sheet : List ℕ) → read m sheet .number ≡ 0 → AllFit (read m sheet .state)
+accepted-fit m sheet e = fit-read m (λ s. Unit {0}) (λ s l h f. tt) sheet tt e

@@ -5,11 +5,12 @@ use mathlib.Core.List.{List, [], _∷_}
 use Prim.Native.Nat.{ℕ, zero, suc, _<_, _≤_}
 use native.Mathlib.Omega.{arith}
 use lib.Dec.{ltb}
-use Rattle.sheet.specs.Bytes.{same, split}
-use Rattle.sheet.specs.Forms.{Mode, rowOf, keyOf, refs, NODE, noKey, POLICY}
+use Rattle.sheet.specs.Bytes.{same, split, starts}
+use Rattle.sheet.specs.Forms.{Mode, rowOf, keyOf, refs, NODE, noKey, POLICY, ENTITY}
 use Rattle.sheet.specs.State.{State, empty, count, linesOf}
 use Rattle.sheet.specs.Typing.{typed}
-use Rattle.sheet.specs.Sheet.{inOrder, found, depth, usedTwice, faultOf, fault, more, reads, enough, firstUnused, ending, goOn, reading, read, tooMany, firstUnlinked}
+use Rattle.sheet.specs.Sheet.{inOrder, found, depth, usedTwice, faultOf, fault, more, reads, enough, firstUnused, ending, goOn, reading, read, tooMany, firstUnlinked, Reading, firstUnfit, entitiesFit, beforeLine, lineRead}
+use Rattle.sheet.specs.Ascii.{ascii}
 
 -- refused for a later reason than m, or not at all
 abbrev pub Past : ℕ → ℕ → Type 0
@@ -58,14 +59,32 @@ ending-small s k = go (enough s noKey) (ltb (firstUnlinked s 0 (linesOf s POLICY
     go true false false n i = omega arith
     go false b c n i = omega arith
 
+-- what is asked before a line and at the end: 7, or what follows
+pub entities-then : (P : Reading → Type 0) (s : State) (x : Reading) → ((k : ℕ) → P (reads s 7 k)) → P x → P (entitiesFit s x)
+entities-then P s x seven p = go (ltb (firstUnfit s (linesOf s ENTITY)) (count s ENTITY)) _
+  where
+    go : (b : Bool) (k : ℕ) → P (cond b (reads s 7 k) x)
+    go true k = seven k
+    go false k = p
+
+pub line-then : (P : Reading → Type 0) (l : List ℕ) (s : State) (x : Reading) → ((k : ℕ) → P (reads s 7 k)) → P x → P (beforeLine l s x)
+line-then P l s x seven p = go (starts (ascii "entity=") l)
+  where
+    go : (b : Bool) → P (cond b x (entitiesFit s x))
+    go true = p
+    go false = entities-then P s x seven p
+
+abbrev Small : Reading → Type 0
+Small x = x .number ≤ 8
+
 reading-small : (m : Mode) (ls : List (List ℕ)) (s : State) (k : ℕ) → reading m ls s k .number ≤ 8
-reading-small m [] s k = ending-small s k
-reading-small m (l ∷ []) s k = go (same l [])
+reading-small m [] s k = entities-then Small s (ending s k) (λ k. omega arith) (ending-small s k)
+reading-small m (l ∷ []) s k = line-then Small l s (cond (same l []) (ending s k) (reads s 3 k)) (λ k. omega arith) (go (same l []))
   where
     go : (b : Bool) → cond b (ending s k) (reads s 3 k) .number ≤ 8
     go true = ending-small s k
     go false = omega arith
-reading-small m (l ∷ n ∷ ls) s k = go (fault s (rowOf m l)) (fault-small s (rowOf m l)) (reading-small m (n ∷ ls) (more s (rowOf m l)) (suc k))
+reading-small m (l ∷ n ∷ ls) s k = line-then Small l s (lineRead s k (rowOf m l) (reading m (n ∷ ls))) (λ k. omega arith) (go (fault s (rowOf m l)) (fault-small s (rowOf m l)) (reading-small m (n ∷ ls) (more s (rowOf m l)) (suc k)))
   where
     go : (f : ℕ) → f ≤ 8 → reading m (n ∷ ls) (more s (rowOf m l)) (suc k) .number ≤ 8 → goOn s k (rowOf m l) f (reading m (n ∷ ls)) .number ≤ 8
     go zero h ih = ih

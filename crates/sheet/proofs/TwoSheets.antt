@@ -9,7 +9,8 @@ use borrow.Author.Tests.{ltb-true, eq-eqb}
 use lib.Dec.{ltb, eqb}
 use lib.ListN.{length, getD, drop, length-append, List·getD-append}
 use Rattle.cedar.proofs.Tools.{no-true, no-some, eqb-true, iff}
-use Rattle.cedar.specs.Value.{Value, vbool, vent}
+use Rattle.cedar.specs.Value.{Value, Values, vbool, vent, onSome}
+use Rattle.cedar.specs.Numbered.{rSet}
 use Rattle.cedar.specs.Types.{tbool, tent, Var, principal, action, resource, context}
 use Rattle.cedar.specs.Entities.{Line, PLine, Agree, LineAgrees}
 use Rattle.cedar.specs.Rows.{Row, rent, sameRow}
@@ -20,11 +21,14 @@ use Rattle.cedar.proofs.TypingTest.{some-test}
 use Rattle.cedar.proofs.ReadsLaws.{at-is}
 use Rattle.sheet.specs.Bytes.{same}
 use Rattle.sheet.specs.Forms.{partial, complete, forms, formOf, slotAt, items, at, tag, mark, keyOf, TEXT, KIND, TYPE, SHAPE, VALUE, ENTITY, PRINCIPAL, ACTION, RESOURCE, CONTEXT, NODE, POLICY, DAY, TERM, LINK}
-use Rattle.sheet.specs.State.{State, linesOf, count, lineAt, valueRow, valueAt}
+use Rattle.sheet.specs.State.{State, linesOf, count, lineAt, valueRow, valueAt, entityLines}
 use Rattle.sheet.specs.Typing.{unknownOr}
-use Rattle.sheet.specs.Content.{tysFrom, types, valueOver, valuesFrom, rowsIn, valueRows, contents, attrsIn, tagTy, requestTy, schema, treesFrom, trees, exprs, contentPolicies, nPolicies, policies, known, entityKnown, requestKnown, requested, contentIn, fieldsIn, membersIn, partsIn, partsFound, lineIn, lineFound, entityLine, lookUp, env, pEnv, onTerm, linked, contentOf}
-use Rattle.sheet.specs.Agreement.{begins, sameLines, partSame, requestSame, lineFor, entitySame, listed, allListed, agrees}
+use Rattle.sheet.specs.Content.{tysFrom, types, valueOver, valuesFrom, rowsIn, valueRows, contents, attrsIn, tagTy, requestTy, schema, treesFrom, trees, exprs, contentPolicies, nPolicies, policies, known, entityKnown, requestKnown, requested, contentIn, fieldsIn, partsIn, partsFound, lineIn, lineFound, entityLine, lookUp, env, pEnv, onTerm, linked, contentOf, setOver, above, knownAbove, mapSome}
+use Rattle.sheet.specs.Agreement.{begins, sameLines, partSame, requestSame, entitySame, listed, allListed, agrees}
 pub use Rattle.sheet.proofs.RowTests.{same-is}
+use Rattle.sheet.specs.Parents.{lineFor, parentsIn, parents, isOpen, unknownAbove}
+use Rattle.sheet.proofs.Reaching.{same-above}
+use Rattle.sheet.proofs.Ancestors.{above-small, same-set, line-found, all-lines}
 use Rattle.sheet.proofs.Lines.{and-both, Was}
 use Rattle.sheet.proofs.Parsed.{tags-between}
 use Rattle.sheet.proofs.ValueRows.{values-table}
@@ -198,9 +202,42 @@ module _ (p c : State) (fp : Facts partial p) (fc : Facts complete c) (k : Commo
   one-listed [] r rest l e = and-both (listed r l) (allListed rest l) e (λ a b. a)
   one-listed (x ∷ pre) r rest l e = and-both (listed x l) (allListed (pre ++ (r ∷ rest)) l) e (λ a b. one-listed pre r rest l b)
 
-  parts-agree : (pre : List (List ℕ)) (r q : List ℕ) → Was partial p ENTITY pre r → entitySame r q ≡ true → LineAgrees (partsIn (contents p) r) (lineIn (contents c) q)
+  -- an entity that is listed on the partial sheet and has known parents there has these on the complete one too
+  parents-same : (x : ℕ) → isOpen (linesOf p VALUE) (linesOf p ENTITY) x ≡ false → parents (linesOf c VALUE) (linesOf c ENTITY) x ≡ parents (linesOf p VALUE) (linesOf p ENTITY) x
   unfolding slotAt formOf forms
-  parts-agree pre r q w g =
+  parents-same x q = go (lineFor x (linesOf p ENTITY)) refl q
+    where
+      known-parts : (r y : List ℕ) → eqb (at r 3) mark ≡ false → at r 3 ≡ at y 3 → at r 3 < count p VALUE → parentsIn (linesOf c VALUE) (linesOf c ENTITY) y ≡ parentsIn (linesOf p VALUE) (linesOf p ENTITY) r
+      known-parts r y a e lt = ap (λ n. cond (eqb n mark) [] (rSet [] (valueAt c n) (λ l. l))) (sym e) ∙ ap (λ b. cond b [] (rSet [] (valueAt c (at r 3)) (λ l. l))) a ∙ ap (λ v. rSet [] v (λ l. l)) (value-row-same (at r 3) lt) ∙ sym (ap (λ b. cond b [] (rSet [] (valueAt p (at r 3)) (λ l. l))) a)
+
+      go : (o : Option (List ℕ)) → lineFor x (linesOf p ENTITY) ≡ o → onSome true o (λ r. eqb (at r 3) mark) ≡ false → parents (linesOf c VALUE) (linesOf c ENTITY) x ≡ onSome [] o (parentsIn (linesOf p VALUE) (linesOf p ENTITY))
+      go none e q = no-true (sym q)
+      go (some r) e q = line-found x (linesOf p ENTITY) r e (λ pre rest a b.
+          let w = fp .history ENTITY pre r rest a in
+          let lt = known-value (w .was) (w .earlier 5 (omega arith)) (at r 3) (item-there partial p (w .was) ENTITY r 16 (entity-read partial p pre r w) (w .pass .refers) 3 (ltb-true 3 4 refl)) q in
+          some-test (lineFor (at r 0) (linesOf c ENTITY)) (entitySame r) (one-listed pre r rest (linesOf c ENTITY) (subst (λ l. allListed l (linesOf c ENTITY) ≡ true) a (k .entities))) (λ y d g.
+          and-both (partSame r y 1 && partSame r y 2) (partSame r y 3) g (λ g g3.
+          ap (λ z. onSome [] z (parentsIn (linesOf c VALUE) (linesOf c ENTITY))) (ap (λ z. lineFor z (linesOf c ENTITY)) (sym b) ∙ d)
+          ∙ known-parts r y q (eqb-true (at r 3) (at y 3) (subst (λ z. (z || eqb (at r 3) (at y 3)) ≡ true) q g3)) lt)))
+
+  parents-cut : (x : ℕ) → isOpen (linesOf p VALUE) (entityLines p) x ≡ false → parents (linesOf c VALUE) (entityLines c) x ≡ parents (linesOf p VALUE) (entityLines p) x
+  parents-cut x = subst (λ F. isOpen (linesOf p VALUE) (entityLines p) x ≡ false → parents (linesOf c VALUE) F x ≡ parents (linesOf p VALUE) (entityLines p) x) (sym (all-lines complete c (fc .history)))
+      (subst (λ E. isOpen (linesOf p VALUE) E x ≡ false → parents (linesOf c VALUE) (linesOf c ENTITY) x ≡ parents (linesOf p VALUE) E x) (sym (all-lines partial p (fp .history))) (parents-same x))
+
+  -- known ancestors are the same
+  ancestors-agree : (pre : List (List ℕ)) (r : List ℕ) (rest : List (List ℕ)) → linesOf p ENTITY ≡ pre ++ (r ∷ rest) → (q : List ℕ) → at q 0 ≡ at r 0 → (vs : Values) → mapSome (setOver (contents p)) (knownAbove partial p (at r 0)) ≡ some vs → setOver (contents c) (above c (at q 0)) ≡ vs
+  ancestors-agree pre r rest a q n vs e = go (unknownAbove (linesOf p VALUE) (entityLines p) (at r 0)) refl e
+    where
+      go : (b : Bool) → unknownAbove (linesOf p VALUE) (entityLines p) (at r 0) ≡ b → mapSome (setOver (contents p)) (cond b none (some (above p (at r 0)))) ≡ some vs → setOver (contents c) (above c (at q 0)) ≡ vs
+      go true u e = no-some e
+      go false u e = ap (λ x. setOver (contents c) (above c x)) n
+          ∙ same-set (contents c) (contents p) (above c (at r 0)) (above p (at r 0)) (same-above (linesOf p VALUE) (entityLines p) (linesOf c VALUE) (entityLines c) parents-cut (at r 0) u) (λ y i. val-same y (above-small p (fp .fit) pre r rest a y i))
+          ∙ Option·some-injective _ _ e
+
+  parts-agree : (pre : List (List ℕ)) (r : List ℕ) (rest : List (List ℕ)) → linesOf p ENTITY ≡ pre ++ (r ∷ rest) → (q : List ℕ) → at q 0 ≡ at r 0 → entitySame r q ≡ true → LineAgrees (partsIn partial p (contents p) r) (lineIn c (contents c) q)
+  unfolding slotAt formOf forms
+  parts-agree pre r rest a q n g =
+      let w = fp .history ENTITY pre r rest a in
       let rd = entity-read partial p pre r w in
       let e5 : linesOf (w .was) 5 ≡ linesOf p 5 = w .earlier 5 (omega arith) in
       and-both (partSame r q 1 && partSame r q 2) (partSame r q 3) g (λ g g3. and-both (partSame r q 1) (partSame r q 2) g (λ g1 g2. record {
@@ -208,11 +245,10 @@ module _ (p c : State) (fp : Facts partial p) (fc : Facts complete c) (k : Commo
             (λ z n. ap fieldsIn (ap (contentIn (contents c)) (sym n) ∙ val-same (at r 1) (known-value (w .was) e5 (at r 1) (item-there partial p (w .was) ENTITY r 16 rd (w .pass .refers) 1 (ltb-true 1 4 refl)) z)));
         tags = λ fs e. known-is (at r 2) (at q 2) (fieldsIn (contentIn (contents p) (at r 2))) (fieldsIn (contentIn (contents c) (at q 2))) fs e g2
             (λ z n. ap fieldsIn (ap (contentIn (contents c)) (sym n) ∙ val-same (at r 2) (known-value (w .was) e5 (at r 2) (item-there partial p (w .was) ENTITY r 16 rd (w .pass .refers) 2 (ltb-true 2 4 refl)) z)));
-        ancestors = λ vs e. known-is (at r 3) (at q 3) (membersIn (contentIn (contents p) (at r 3))) (membersIn (contentIn (contents c) (at q 3))) vs e g3
-            (λ z n. ap membersIn (ap (contentIn (contents c)) (sym n) ∙ val-same (at r 3) (known-value (w .was) e5 (at r 3) (item-there partial p (w .was) ENTITY r 16 rd (w .pass .refers) 3 (ltb-true 3 4 refl)) z)));
+        ancestors = λ vs e. ancestors-agree pre r rest a q n vs e;
       }))
 
-  line-agrees : (i t : ℕ) (x : PLine) (o : Option (List ℕ)) → lookUp p i t ≡ o → partsFound (contents p) o ≡ some x → (l : Line) × (lineFound (contents c) (lookUp c i t) ≡ some l) × LineAgrees x l
+  line-agrees : (i t : ℕ) (x : PLine) (o : Option (List ℕ)) → lookUp p i t ≡ o → partsFound p (contents p) o ≡ some x → (l : Line) × (lineFound c (contents c) (lookUp c i t) ≡ some l) × LineAgrees x l
   unfolding slotAt formOf forms
   line-agrees i t x none q e = no-some e
   line-agrees i t x (some r) q e = entity-found p (rent i t) (linesOf p ENTITY) r q (λ pre rest a b.
@@ -221,9 +257,9 @@ module _ (p c : State) (fp : Facts partial p) (fc : Facts complete c) (k : Commo
       let lr′ : at r 0 < count p 5 = subst (λ l. at r 0 < length l) (w .earlier 5 (omega arith)) lr in
       let mv = more-values in
       some-test (lineFor (at r 0) (linesOf c ENTITY)) (entitySame r) (one-listed pre r rest (linesOf c ENTITY) (subst (λ l. allListed l (linesOf c ENTITY) ≡ true) a (k .entities))) (λ y d g. (
-        lineIn (contents c) y,
-        ap (lineFound (contents c)) (found-same (at r 0) i t (omega (arith, lr′, mv)) (value-row-same (at r 0) lr′ ∙ b) [] (linesOf c ENTITY) refl ∙ d),
-        subst (λ z. LineAgrees z (lineIn (contents c) y)) (Option·some-injective _ _ e) (parts-agree pre r y w g),
+        lineIn c (contents c) y,
+        ap (lineFound c (contents c)) (found-same (at r 0) i t (omega (arith, lr′, mv)) (value-row-same (at r 0) lr′ ∙ b) [] (linesOf c ENTITY) refl ∙ d),
+        subst (λ z. LineAgrees z (lineIn c (contents c) y)) (Option·some-injective _ _ e) (parts-agree pre r rest a y (line-found (at r 0) (linesOf c ENTITY) y d (λ before after s n. n)) g),
       )))
 
   -- THEY AGREE by content

@@ -1,8 +1,7 @@
 -- Document 01: "Two sheets agree if the complete one's `text` and `value` lines begin with the partial one's, its `kind`, `type`, `shape`,
 -- `node`, `policy` lines are the same, and every known request or entity part is the same. Each entity listed on the partial sheet is
 -- listed on the complete one; more may be." Document 02: "Agreeing sheets have equal days and terms", "equal link lines".
-use mathlib.Core.Bool.{Bool, true, false, cond, _&&_}
-use mathlib.Core.Option.{Option, none, some}
+use mathlib.Core.Bool.{Bool, true, false, _&&_}
 use mathlib.Core.List.{List, [], _∷_}
 use Prim.Native.Nat.{ℕ}
 use lib.Dec.{eqb}
@@ -11,6 +10,7 @@ use Rattle.sheet.specs.Bytes.{same}
 use Rattle.sheet.specs.Typing.{unknownOr}
 use Rattle.sheet.specs.Forms.{at, TEXT, KIND, TYPE, SHAPE, VALUE, ENTITY, PRINCIPAL, ACTION, RESOURCE, CONTEXT, DAY, NODE, POLICY, LINK, TERM}
 use Rattle.sheet.specs.State.{State, lineAt, linesOf}
+use Rattle.sheet.specs.Parents.{lineFor}
 
 -- p's lines are the first of c's
 abbrev pub begins : List (List ℕ) → List (List ℕ) → Bool
@@ -32,12 +32,7 @@ partSame p c j = unknownOr (at p j) (eqb (at p j) (at c j))
 abbrev pub requestSame : List ℕ → List ℕ → Bool
 requestSame p c = eqb (at p 0) (at c 0) && partSame p c 1
 
--- the line of the entity with value number n
-abbrev pub lineFor : ℕ → List (List ℕ) → Option (List ℕ)
-lineFor n [] = none
-lineFor n (q ∷ c) = cond (eqb (at q 0) n) (some q) (lineFor n c)
-
--- the three parts of an entity
+-- the three parts of an entity; document 02, 2.6: "Two sheets agree on parents"
 abbrev pub entitySame : List ℕ → List ℕ → Bool
 entitySame p c = partSame p c 1 && partSame p c 2 && partSame p c 3
 

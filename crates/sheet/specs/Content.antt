@@ -7,7 +7,7 @@ use Prim.Native.Nat.{ℕ, suc, _-_}
 use lib.Dec.{leb, eqb}
 use lib.ListN.{getD, drop}
 use Rattle.cedar.specs.Value.{Value, vbool, vlong, vtext, vent, vset, vrec, Values, vnil, vcons, Fields, fnil, fcons}
-use Rattle.cedar.specs.Canonical.{makeSet}
+use Rattle.cedar.specs.Canonical.{ascending, makeSet}
 use Rattle.cedar.specs.Types.{Ty, tbool, tlong, tstr, tent, tset, trec, Attrs, anil, acons, Schema, Var, principal, action, resource, context}
 use Rattle.cedar.specs.Residual.{Item, star, piece, Node, Nodes, NodeArgs, lit, err, var, and, or, ite, un, bin, rel, get, has, haspath, set, rec, enil, econs, gnil, gcons, unot, uneg, uempty, uis, ulike, beq, blt, ble, badd, bsub, bmul, bcontains, ball, bany, rin, rgettag, rhastag}
 use Rattle.cedar.specs.Entities.{Env, Line, PEnv, PLine}
@@ -15,8 +15,9 @@ use Rattle.cedar.specs.Response.{Effect, permit, forbid}
 use Rattle.cedar.specs.Rows.{Entries, stop, entry, Row, rbool, rlong, rtext, rent, rset, rrec, sameRow}
 use Rattle.cedar.specs.Numbered.{Give, made, old, NLine, NEnv}
 use Rattle.sheet.specs.Forms.{Mode, partial, complete, tag, items, at, keep, mark, firstNode, TEXT, TYPE, VALUE, ENTITY, PRINCIPAL, ACTION, RESOURCE, CONTEXT, DAY, NODE, POLICY, LINK, TERM}
-use Rattle.sheet.specs.State.{State, lineAt, linesOf, Declared, TypeRow, bool, long, string, entity, set′, record′, typeRow, valueRow, valueAt}
+use Rattle.sheet.specs.State.{State, lineAt, linesOf, Declared, TypeRow, bool, long, string, entity, set′, record′, typeRow, valueRow, valueAt, entityLines}
 use Rattle.sheet.specs.Typing.{isAction, attributesOf, tagsOf, aboveOf, slotValue}
+use Rattle.sheet.specs.Parents.{ancestors, unknownAbove}
 use Rattle.cedar.specs.Runs.{Policy, NPolicy}
 
 -- ---- types
@@ -246,20 +247,33 @@ given s action = entityGiven (lineAt s ACTION 0)
 given s resource = entityGiven (lineAt s RESOURCE 0)
 given s context = known (at (lineAt s CONTEXT 0) 1) (old (at (lineAt s CONTEXT 0) 1))
 
-abbrev pub partsGiven : List ℕ → NLine
-partsGiven r = record { attrs = known (at r 1) (old (at r 1)); tags = known (at r 2) (old (at r 2)); ancestors = known (at r 3) (old (at r 3)) }
+-- the numbers of the ancestors of the entity with value number n
+abbrev pub above : State → ℕ → List ℕ
+above s n = ancestors (linesOf s VALUE) (entityLines s) n
 
--- "Unlisted entity on a partial sheet .. is unknown"; "In a complete run an unlisted entity has no attributes, tags or ancestors"
+-- where they are known
+abbrev pub knownAbove : Mode → State → ℕ → Option (List ℕ)
+knownAbove partial s n = cond (unknownAbove (linesOf s VALUE) (entityLines s) n) none (some (above s n))
+knownAbove complete s n = some (above s n)
+
+abbrev pub mapSome : {A B : Type 0} → (A → B) → Option A → Option B
+mapSome f none = none
+mapSome f (some a) = some (f a)
+
+abbrev pub partsGiven : Mode → State → List ℕ → NLine
+partsGiven m s r = record { attrs = known (at r 1) (old (at r 1)); tags = known (at r 2) (old (at r 2)); ancestors = mapSome (λ l. made (rset l)) (knownAbove m s (at r 0)) }
+
+-- "Unlisted entity on a partial sheet .. is unknown"; "In a complete run an unlisted entity has no attributes, tags or ancestors", as it has no parents
 abbrev pub unlisted : Mode → Option NLine
 unlisted partial = none
 unlisted complete = some (record { attrs = some (made (rrec stop)); tags = some (made (rrec stop)); ancestors = some (made (rset [])) })
 
-abbrev pub lineGiven : Mode → Option (List ℕ) → Option NLine
-lineGiven m none = unlisted m
-lineGiven m (some r) = some (partsGiven r)
+abbrev pub lineGiven : Mode → State → Option (List ℕ) → Option NLine
+lineGiven m s none = unlisted m
+lineGiven m s (some r) = some (partsGiven m s r)
 
 unfoldable pub nEnv : Mode → State → NEnv
-nEnv m s = record { request = given s; line = λ k t. lineGiven m (lookUp s k t) }
+nEnv m s = record { request = given s; line = λ k t. lineGiven m s (lookUp s k t) }
 
 -- and by content
 abbrev pub fieldsIn : Value → Fields
@@ -270,13 +284,9 @@ fieldsIn (vent k t) = fnil
 fieldsIn (vset vs) = fnil
 fieldsIn (vrec fs) = fs
 
-abbrev pub membersIn : Value → Values
-membersIn (vbool b) = vnil
-membersIn (vlong n) = vnil
-membersIn (vtext t) = vnil
-membersIn (vent k t) = vnil
-membersIn (vset vs) = vs
-membersIn (vrec fs) = vnil
+-- the set that these numbers stand for
+abbrev pub setOver : List Value → List ℕ → Values
+setOver vs l = ascending (membersOver vs l)
 
 abbrev pub contentIn : List Value → ℕ → Value
 contentIn vs n = getD vs n (vbool false)
@@ -287,16 +297,16 @@ requested s vs action = vent (at (lineAt s ACTION 0) 0) (at (lineAt s ACTION 0) 
 requested s vs resource = vent (at (lineAt s RESOURCE 0) 0) (at (lineAt s RESOURCE 0) 1)
 requested s vs context = contentIn vs (at (lineAt s CONTEXT 0) 1)
 
-abbrev pub lineIn : List Value → List ℕ → Line
-lineIn vs r = record { attrs = fieldsIn (contentIn vs (at r 1)); tags = fieldsIn (contentIn vs (at r 2)); ancestors = membersIn (contentIn vs (at r 3)) }
+abbrev pub lineIn : State → List Value → List ℕ → Line
+lineIn s vs r = record { attrs = fieldsIn (contentIn vs (at r 1)); tags = fieldsIn (contentIn vs (at r 2)); ancestors = setOver vs (above s (at r 0)) }
 
-abbrev pub lineFound : List Value → Option (List ℕ) → Option Line
-lineFound vs none = none
-lineFound vs (some r) = some (lineIn vs r)
+abbrev pub lineFound : State → List Value → Option (List ℕ) → Option Line
+lineFound s vs none = none
+lineFound s vs (some r) = some (lineIn s vs r)
 
 -- of a complete sheet
 unfoldable pub env : State → Env
-env s = record { request = requested s (contents s); line = λ k t. lineFound (contents s) (lookUp s k t) }
+env s = record { request = requested s (contents s); line = λ k t. lineFound s (contents s) (lookUp s k t) }
 
 abbrev pub entityKnown : List ℕ → Option Value
 entityKnown r = known (at r 1) (vent (at r 0) (at r 1))
@@ -307,17 +317,17 @@ requestKnown s vs action = entityKnown (lineAt s ACTION 0)
 requestKnown s vs resource = entityKnown (lineAt s RESOURCE 0)
 requestKnown s vs context = known (at (lineAt s CONTEXT 0) 1) (contentIn vs (at (lineAt s CONTEXT 0) 1))
 
-abbrev pub partsIn : List Value → List ℕ → PLine
-partsIn vs r = record {
+abbrev pub partsIn : Mode → State → List Value → List ℕ → PLine
+partsIn m s vs r = record {
   attrs = known (at r 1) (fieldsIn (contentIn vs (at r 1)));
   tags = known (at r 2) (fieldsIn (contentIn vs (at r 2)));
-  ancestors = known (at r 3) (membersIn (contentIn vs (at r 3)));
+  ancestors = mapSome (setOver vs) (knownAbove m s (at r 0));
 }
 
-abbrev pub partsFound : List Value → Option (List ℕ) → Option PLine
-partsFound vs none = none
-partsFound vs (some r) = some (partsIn vs r)
+abbrev pub partsFound : State → List Value → Option (List ℕ) → Option PLine
+partsFound s vs none = none
+partsFound s vs (some r) = some (partsIn partial s vs r)
 
 -- of a partial sheet
 unfoldable pub pEnv : State → PEnv
-pEnv s = record { request = requestKnown s (contents s); line = λ k t. partsFound (contents s) (lookUp s k t) }
+pEnv s = record { request = requestKnown s (contents s); line = λ k t. partsFound s (contents s) (lookUp s k t) }

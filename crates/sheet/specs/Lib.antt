@@ -9,4 +9,5 @@ pub mod Forms
 pub mod ReadAnswer
 pub mod Sheet
 pub mod State
+pub mod Parents
 pub mod Typing

@@ -4,11 +4,13 @@ use mathlib.Core.List.{List, [], _∷_, _++_}
 use Prim.Native.Nat.{ℕ, zero, suc, _+_, _-_, max}
 use lib.Dec.{leb, ltb, eqb}
 use lib.ListN.{length, getD, take, drop, set}
-use Rattle.sheet.specs.Bytes.{same, split}
+use Rattle.sheet.specs.Bytes.{same, split, starts}
 use Rattle.sheet.specs.Forms.{Mode, Slot, entry, line, lineOr, lineUnknown, word, number, day, nothing, slotAt, mark, rowOf, tag, items, at, keyOf, refs, ascendings, TEXT, KIND, TYPE, VALUE, ENTITY, NODE, POLICY, LINK, TERM, noKey, aloneRow}
-use Rattle.cedar.specs.Numbered.{memN}
-use Rattle.sheet.specs.State.{State, empty, linesOf, count, lineAt, depthsOf, counts, before, typeRow}
-use Rattle.sheet.specs.Typing.{nodesUnder, nodesOf, isSlot, slotValue, typed, onEntity, allIn}
+use Rattle.cedar.specs.Numbered.{memN, rEnt}
+use Rattle.sheet.specs.State.{State, empty, linesOf, count, lineAt, depthsOf, counts, before, typeRow, entityLines, valueAt}
+use Rattle.sheet.specs.Typing.{nodesUnder, nodesOf, isSlot, slotValue, typed, onEntity, allIn, ancestorFits}
+use Rattle.sheet.specs.Ascii.{ascii}
+use Rattle.sheet.specs.Parents.{ancestors}
 
 -- ---- 3: key order, line missing
 
@@ -183,6 +185,29 @@ pub record Reading : Type 0 where
 abbrev pub reads : State → ℕ → ℕ → Reading
 reads s n k = record { number = n; line = k; state = s }
 
+-- ---- 7 after the entity lines. Document 02, 2.6: "Each ancestor's kind must be among those above: .. for all reached"
+
+abbrev pub reachedFit : State → List ℕ → Bool
+reachedFit s r = rEnt false (valueAt s (at r 0)) (λ k t. allIn (ancestorFits s k) (ancestors (linesOf s VALUE) (entityLines s) (at r 0)))
+
+-- the place of the first entity line that reaches a kind which is not above; as many as there are lines where none does
+abbrev pub firstUnfit : State → List (List ℕ) → ℕ
+firstUnfit s [] = 0
+firstUnfit s (r ∷ rs) = cond (reachedFit s r) (suc (firstUnfit s rs)) 0
+
+-- "7 at the entity line .. the lowest such entity line first", else what follows
+abbrev pub fitOr : State → ℕ → Reading → Reading
+fitOr s n rest = cond (ltb n (count s ENTITY)) (reads s 7 (suc (before s ENTITY + n))) rest
+
+abbrev pub entitiesFit : State → Reading → Reading
+entitiesFit s rest = fitOr s (firstUnfit s (linesOf s ENTITY)) rest
+
+-- "when a line that does not begin with `entity=` .. follows, before that line's own checks"
+abbrev pub beforeLine : List ℕ → State → Reading → Reading
+beforeLine l s rest = cond (starts (ascii "entity=") l) rest (entitiesFit s rest)
+
+-- ---- the end
+
 -- the place of the first 0
 abbrev pub firstUnused : List ℕ → ℕ
 firstUnused [] = 0
@@ -205,7 +230,7 @@ allLinked s n = cond (ltb n (count s POLICY)) (reads s 5 (suc (before s POLICY +
 abbrev pub ending : State → ℕ → Reading
 ending s k = cond (enough s noKey) (allLinked s (firstUnlinked s 0 (linesOf s POLICY))) (reads s 3 k)
 
--- "lines in turn, the first faulty line ending the reading", from number k; what follows the last line end must be empty
+-- "lines in turn, the first faulty line ending the reading", from number k; what follows the last line end must be empty, and is the sheet's end
 abbrev pub goOn : State → ℕ → List ℕ → ℕ → (State → ℕ → Reading) → Reading
 goOn s k r zero rest = rest (more s r) (suc k)
 goOn s k r (suc n) rest = reads s (suc n) k
@@ -214,9 +239,15 @@ abbrev pub lineRead : State → ℕ → List ℕ → (State → ℕ → Reading)
 lineRead s k r rest = goOn s k r (fault s r) rest
 
 abbrev pub reading : Mode → List (List ℕ) → State → ℕ → Reading
-reading m [] s k = ending s k
-reading m (l ∷ []) s k = cond (same l []) (ending s k) (reads s 3 k)
-reading m (l ∷ n ∷ ls) s k = lineRead s k (rowOf m l) (reading m (n ∷ ls))
+reading m [] s k = entitiesFit s (ending s k)
+reading m (l ∷ []) s k = beforeLine l s (cond (same l []) (ending s k) (reads s 3 k))
+reading m (l ∷ n ∷ ls) s k = beforeLine l s (lineRead s k (rowOf m l) (reading m (n ∷ ls)))
+
+-- the same where nothing is refused before the first of the lines (for the code that reads a line)
+abbrev pub readingOn : Mode → List (List ℕ) → State → ℕ → Reading
+readingOn m [] s k = ending s k
+readingOn m (l ∷ []) s k = cond (same l []) (ending s k) (reads s 3 k)
+readingOn m (l ∷ n ∷ ls) s k = lineRead s k (rowOf m l) (reading m (n ∷ ls))
 
 unfoldable pub read : Mode → List ℕ → Reading
 read m sheet = reading m (split 10 sheet) empty 1

@@ -5,7 +5,7 @@ use Prim.Native.Nat.{ℕ, _+_, _-_, _*_}
 use lib.Dec.{eqb}
 use lib.ListN.{length, getD, take, drop, replicate}
 use Rattle.sheet.specs.Bytes.{longAt}
-use Rattle.sheet.specs.Forms.{noKey, tag, items, at, firstType, firstValue, TYPE, VALUE}
+use Rattle.sheet.specs.Forms.{noKey, tag, items, at, firstType, firstValue, TYPE, VALUE, ENTITY}
 use Rattle.cedar.specs.Rows.{Entries, stop, entry, Row, rbool, rlong, rtext, rent, rset, rrec}
 
 -- the lines of each key, in the keys' order, as rows; their depths; and for each node 1 where it is used, else 0
@@ -26,6 +26,10 @@ count s k = length (linesOf s k)
 
 abbrev pub lineAt : State → ℕ → ℕ → List ℕ
 lineAt s k n = getD (linesOf s k) n []
+
+-- the entity lines: "`entity=` .. 128"; no reading reaches a state with more (proofs/Ancestors, `all-lines`), so nothing is cut
+abbrev pub entityLines : State → List (List ℕ)
+entityLines s = take 128 (linesOf s ENTITY)
 
 abbrev pub depthsOf : State → ℕ → List ℕ
 depthsOf s k = getD (s .depths) k []

@@ -137,14 +137,14 @@ isStop (entry t v e) = false
 abbrev pub tagsFit : State → ℕ → Entries → Bool
 tagsFit s y e = cond (eqb y mark) (isStop e) (allEntries (λ t v. fits s v y) e)
 
--- "each ancestor's kind among those above"
+-- "each ancestor's kind among those above": of an entity of kind k, and the value number v of an ancestor
 abbrev pub ancestorFits : State → ℕ → ℕ → Bool
 ancestorFits s k v = rEnt false (valueAt s v) (λ l t. memN l (aboveOf s k))
 
 abbrev pub unknownOr : ℕ → Bool → Bool
 unknownOr x b = eqb x mark || b
 
--- "record, record, set of entity values; each of the three may be `?`"
+-- "record, record, set of entity values; each of the three may be `?`"; the last holds parents, whose kinds are "checked .. when it is read"
 abbrev pub entityTyped : State → List ℕ → Bool
 entityTyped s r = rEnt false (valueAt s (at r 0)) (λ k t.
     unknownOr (at r 1) (rRec false (valueAt s (at r 1)) (λ e. fits s (at r 1) (attributesOf s k)))

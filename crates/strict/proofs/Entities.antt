@@ -1,6 +1,6 @@
 -- Operations on entities: what the look-ups give is what the numbered definitions give. Assumes nothing.
 use mathlib.Core.Path.{_≡_, refl, sym, ap, _∙_}
-use mathlib.Core.Bool.{Bool, true, false, not, cond, _&&_, _||_}
+use mathlib.Core.Bool.{Bool, true, false, not, cond, _&&_}
 use mathlib.Core.Option.{Option, none, some}
 use mathlib.Core.List.{List, [], _∷_}
 use Prim.Native.Nat.{ℕ, suc, _+_, _≤_, _<_}
@@ -14,7 +14,7 @@ use denote.Enum.Declared.{tagOf}
 use Rattle.value.proofs.Shape.{the-type}
 use Rattle.cedar.specs.Evaluate.{isNil}
 use Rattle.cedar.specs.Rows.{stop, Row, rbool, rlong, rtext, rent, rset, rrec}
-use Rattle.cedar.specs.Numbered.{Give, made, old, NOut, give, fails, stays, truly, rEnt, rText, rRec, giveRow, memN, anyN, entryOf, isSome, orFail, allRent, nentity, nIn, nTargets, onEntries}
+use Rattle.cedar.specs.Numbered.{Give, made, old, NOut, give, fails, stays, truly, rEnt, rText, rRec, giveRow, memN, entryOf, isSome, orFail, allRent, nentity, nIn, nTargets, onEntries}
 use Rattle.cedar.specs.Value.{onSome}
 use Rattle.cedar.specs.Numbered.{nlineOr}
 use Rattle.sheet.specs.Forms.{items, at, mark}
@@ -26,15 +26,14 @@ use Rattle.value.specs.declared.Shape.{Shape}
 use Rattle.value.specs.declared.Shape.the-variants.{Bool as Boolˢ, Long, Text, Entity, Set, Record}
 use Rattle.value.proofs.Lists.{Going, uncons, spent}
 use Rattle.strict.specs.Gives.{outOf, values, valueIn, modeOf, envIn}
-use Rattle.strict.specs.Lookups.{ATTRIBUTES, TAGS, ANCESTORS, stateIn, lineIn, partOf, partOfLine, partIn, lookFound, lookRow, lookIn, lookValue, lookAttr, takenOf, presentOf, getOut, hasOut, tagLook, gettagOut, hastagOut, isRentAt, inKnownOut, inUnknownOut, inListOut, inOut, walkStep, walkFrom}
+use Rattle.strict.specs.Lookups.{ATTRIBUTES, TAGS, stateIn, lineIn, partOf, partOfLine, partIn, lookFound, lookRow, lookIn, lookValue, lookAttr, takenOf, presentOf, getOut, hasOut, tagLook, gettagOut, hastagOut, isRentAt, inUnknownOut, inListOut, inOut, walkStep, walkFrom}
 use Rattle.strict.specs.declared.Given.{Given}
 use Rattle.strict.specs.declared.Given.the-variants.{Bool as Boolᵍ, Fails, Stays}
 use Rattle.strict.specs.declared.entity.Part.{Part}
-use Rattle.strict.specs.declared.entity.Part.the-variants.{Known, Empty, Unknown}
 use Rattle.strict.specs.declared.entity.Look.{Look}
 use Rattle.strict.specs.declared.entity.Look.the-variants.{At as Atˡ, Missing, Unknown as Unknownˡ, Bad}
 use Rattle.strict.specs.declared.entity.Walked.the-variants.{Holds, Fails as Failsʷ, Left}
-use Rattle.strict.proofs.Shapes.{value-shape, other-text, other-entity, other-set}
+use Rattle.strict.proofs.Shapes.{value-shape, other-text, other-entity}
 
 -- ---- known parts: what stands for one, where e does for nothing at all
 
@@ -52,7 +51,7 @@ module _ (c : Bool) (a : List ℕ) (k t : ℕ) where
   unfolding envIn nEnv partIn lineIn stateIn
   attrs-is = go c (lookUp (held [] a []) k t)
     where
-      go : (b : Bool) (o : Option (List ℕ)) → nlineOr (lineGiven (modeOf b) o) .attrs ≡ partGive (made (rrec stop)) (partOfLine b o ATTRIBUTES)
+      go : (b : Bool) (o : Option (List ℕ)) → nlineOr (lineGiven (modeOf b) (held [] a []) o) .attrs ≡ partGive (made (rrec stop)) (partOfLine b o ATTRIBUTES)
       go true none = refl
       go false none = refl
       go b (some r) = given-or (made (rrec stop)) (at r ATTRIBUTES) (eqb (at r ATTRIBUTES) mark)
@@ -61,19 +60,10 @@ module _ (c : Bool) (a : List ℕ) (k t : ℕ) where
   unfolding envIn nEnv partIn lineIn stateIn
   tags-is = go c (lookUp (held [] a []) k t)
     where
-      go : (b : Bool) (o : Option (List ℕ)) → nlineOr (lineGiven (modeOf b) o) .tags ≡ partGive (made (rrec stop)) (partOfLine b o TAGS)
+      go : (b : Bool) (o : Option (List ℕ)) → nlineOr (lineGiven (modeOf b) (held [] a []) o) .tags ≡ partGive (made (rrec stop)) (partOfLine b o TAGS)
       go true none = refl
       go false none = refl
       go b (some r) = given-or (made (rrec stop)) (at r TAGS) (eqb (at r TAGS) mark)
-
-  ancestors-is : nentity (envIn c a) k t .ancestors ≡ partGive (made (rset [])) (partIn c a k t ANCESTORS)
-  unfolding envIn nEnv partIn lineIn stateIn
-  ancestors-is = go c (lookUp (held [] a []) k t)
-    where
-      go : (b : Bool) (o : Option (List ℕ)) → nlineOr (lineGiven (modeOf b) o) .ancestors ≡ partGive (made (rset [])) (partOfLine b o ANCESTORS)
-      go true none = refl
-      go false none = refl
-      go b (some r) = given-or (made (rset [])) (at r ANCESTORS) (eqb (at r ANCESTORS) mark)
 
 -- ---- fields
 
@@ -184,20 +174,6 @@ module _ (a : List ℕ) (v : ℕ) (q : List ℕ) (s : Shape) (eq : q ≡ getD (v
   unfolding isRentAt
   one-other h = rw (value-shape a v q s eq es) (sym (other-entity false (items q) s (λ k t. true) h))
 
-  module _ (m : ℕ) (l : List ℕ) where
-    pub known-bad : OneOf (0 ∷ 1 ∷ 2 ∷ 3 ∷ 5 ∷ []) (tagOf the-type s) → outOf Fails ≡ inKnownOut a m v l
-    unfolding inKnownOut
-    known-bad h = rw (value-shape a v q s eq es) (sym (other-set fails (items q) s (λ k. truly (memN m l || anyN l k)) h))
-
-    module _ (z : s ≡ Set) (b : Bool) (eb : b ≡ memN m l) where
-      pub known-here : b ≡ true → outOf (Boolᵍ true) ≡ inKnownOut a m v l
-      unfolding inKnownOut
-      known-here h = rw (value-shape a v q s eq es, z, ← eb, h)
-
-      pub known-there : (k : List ℕ) (d : Bool) → b ≡ false → k ≡ items q → d ≡ anyN l k → outOf (Boolᵍ d) ≡ inKnownOut a m v l
-      unfolding inKnownOut
-      known-there k d h ek e = rw (value-shape a v q s eq es, z, ← eb, h, e, ek)
-
 module _ (m : ℕ) (l : List ℕ) (b : Bool) (eb : b ≡ memN m l) where
   pub unknown-here : b ≡ true → outOf (Boolᵍ true) ≡ inUnknownOut m l
   unfolding inUnknownOut
@@ -218,31 +194,6 @@ module _ (m : ℕ) (l : List ℕ) (b : Bool) (eb : b ≡ memN m l) where
       go : (k : List ℕ) → (length k ≡ 0 → ⊥) → stays ≡ cond (isNil k) (truly false) stays
       go [] y = absurd (y refl)
       go (x ∷ k) y = refl
-
-any-nil : (l : List ℕ) → anyN l [] ≡ false
-any-nil [] = refl
-any-nil (x ∷ l) = any-nil l
-
-or-end : (b : Bool) → (b || false) ≡ b
-or-end true = refl
-or-end false = refl
-
-module _ (c : Bool) (a : List ℕ) (m k t : ℕ) (l : List ℕ) (p : Part) (ep : partOf p ≡ partIn c a k t ANCESTORS) where
-  the-ancestors : (q : Part) → p ≡ q → nentity (envIn c a) k t .ancestors ≡ partGive (made (rset [])) (partOf q)
-  the-ancestors q z = ancestors-is c a k t ∙ ap (partGive (made (rset []))) (sym ep ∙ ap partOf z)
-
-  pub list-known : (v : ℕ) (g : Given) → p ≡ Known v → outOf g ≡ inKnownOut a m v l → outOf g ≡ inListOut c a m k t l
-  unfolding inListOut inKnownOut valueIn
-  list-known v g z e = e ∙ sym (ap (λ (o : Option Give). nIn (values a) m o l) (the-ancestors (Known v) z))
-
-  pub list-empty : (b : Bool) → p ≡ Empty → b ≡ memN m l → outOf (Boolᵍ b) ≡ inListOut c a m k t l
-  unfolding inListOut
-  list-empty b z e =
-      sym (ap (λ (o : Option Give). nIn (values a) m o l) (the-ancestors Empty z) ∙ ap truly (ap (λ (x : Bool). memN m l || x) (any-nil l) ∙ or-end (memN m l) ∙ sym e))
-
-  pub list-unknown : (g : Given) → p ≡ Unknown → outOf g ≡ inUnknownOut m l → outOf g ≡ inListOut c a m k t l
-  unfolding inListOut inUnknownOut
-  list-unknown g z e = e ∙ sym (ap (λ (o : Option Give). nIn (values a) m o l) (the-ancestors Unknown z))
 
 module _ (a l : List ℕ) (i : ℕ) (g : Going (allRent (values a) l) (allRent (values a) (drop i l)) i (length l)) where
   pub ents-end : length l ≤ i → true ≡ allRent (values a) l

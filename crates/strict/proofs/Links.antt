@@ -1,7 +1,7 @@
 -- What the contracts name is what the numbered definitions give: operation by operation, and over the state of a sheet. Assumes nothing.
-use mathlib.Core.Path.{_≡_, refl, sym, ap}
+use mathlib.Core.Path.{_≡_, refl, sym, ap, _∙_}
 use mathlib.Core.Bool.{Bool, cond}
-use mathlib.Core.Option.{Option, some}
+use mathlib.Core.Option.{Option, none, some}
 use mathlib.Core.List.{List, [], _∷_}
 use Prim.Native.Nat.{ℕ}
 use lib.Dec.{eqb}
@@ -12,7 +12,7 @@ use Rattle.cedar.specs.Rows.{Row, rent, sameRow}
 use Rattle.cedar.specs.Numbered.{rowAt, truly, nUn, nBin, nRel, nGet, nHas}
 use Rattle.forms.specs.Tags.{LT, LE, ADD, SUB, MUL}
 use Rattle.sheet.specs.Content.{patternOf, schema, given, entityLine, lookUp, lineGiven, nEnv}
-use Rattle.sheet.specs.Forms.{at, VALUE, ENTITY}
+use Rattle.sheet.specs.Forms.{Mode, partial, complete, at, VALUE, ENTITY}
 use Rattle.sheet.specs.State.{valueRow}
 use Rattle.table.specs.Layout.{rowsOf, textAt, held, linesHeld}
 use Rattle.table.proofs.Rows.{text-held}
@@ -121,9 +121,17 @@ module _ (c : Bool) (a : List ℕ) where
     same-lines e [] = refl
     same-lines e (r ∷ rs) = ap (λ (o : Option (List ℕ)). cond (sameRow (valueRow (getD (rowsOf a VALUE) (at r 0) [])) e) (some r) o) (same-lines e rs)
 
-    same-line : (k t : ℕ) → lineGiven (modeOf c) (lookUp (held [] a []) k t) ≡ lineGiven (modeOf c) (lookUp (held sheet a b) k t)
+    -- the ancestors of a line look only at the rows of values and entities
+    given-alike : (m : Mode) (o : Option (List ℕ)) → lineGiven m (held [] a []) o ≡ lineGiven m (held sheet a b) o
     unfolding held linesHeld
-    same-line k t = ap (lineGiven (modeOf c)) (same-lines (rent k t) (rowsOf a ENTITY))
+    given-alike partial none = refl
+    given-alike partial (some r) = refl
+    given-alike complete none = refl
+    given-alike complete (some r) = refl
+
+    same-line : (k t : ℕ) → lineGiven (modeOf c) (held [] a []) (lookUp (held [] a []) k t) ≡ lineGiven (modeOf c) (held sheet a b) (lookUp (held sheet a b) k t)
+    unfolding held linesHeld
+    same-line k t = given-alike (modeOf c) (lookUp (held [] a []) k t) ∙ ap (lineGiven (modeOf c) (held sheet a b)) (same-lines (rent k t) (rowsOf a ENTITY))
 
     pub env-link : envIn c a ≡ nEnv (modeOf c) (held sheet a b)
     unfolding envIn nEnv

@@ -1,5 +1,6 @@
 -- Look-ups of entities and of the fields of records, by number.
-use mathlib.Core.Bool.{Bool, true, false, cond, _||_}
+use mathlib.Core.Path.{_≡_}
+use mathlib.Core.Bool.{Bool, true, false, cond, not, _&&_, _||_}
 use mathlib.Core.Option.{Option, none, some}
 use mathlib.Core.List.{List, [], _∷_}
 use Prim.Native.Nat.{ℕ, suc, _+_}
@@ -8,14 +9,16 @@ use lib.ListN.{getD}
 use Rattle.cedar.specs.Residual.{rin, rgettag, rhastag}
 use Rattle.cedar.specs.Evaluate.{isNil}
 use Rattle.cedar.specs.Rows.{Row, rbool, rlong, rtext, rent, rset, rrec, sameRow}
-use Rattle.cedar.specs.Numbered.{NOut, fails, stays, truly, rEnt, rText, rSet, rRec, memN, anyN, entryOf, isRent, nentity, nIn, nRel, nGet, nHas}
+use Rattle.cedar.specs.Numbered.{Give, made, NOut, stays, truly, rEnt, rText, rRec, memN, entryOf, isRent, nentity, nIn, nRel, nGet, nHas}
 use Rattle.sheet.specs.Forms.{at, mark, VALUE}
 use Rattle.sheet.specs.State.{State, valueRow}
-use Rattle.sheet.specs.Content.{lookUp}
+use Rattle.sheet.specs.Content.{lookUp, knownAbove, mapSome}
+use Rattle.sheet.specs.Parents.{unknownAbove}
 use Rattle.table.specs.Layout.{base, held, rowsOf}
+use Rattle.reach.specs.Marks.{lineRows, Reached}
 use Rattle.value.specs.declared.Entry.{Entry}
 use Rattle.value.specs.declared.Entry.the-variants.{At, Nothing}
-use Rattle.strict.specs.Gives.{values, valueIn, envIn}
+use Rattle.strict.specs.Gives.{values, valueIn, envIn, modeOf, outOf}
 use Rattle.strict.specs.declared.Given.{Given}
 use Rattle.strict.specs.declared.Given.the-variants.{Bool as Boolᵍ, Old, Fails, Stays}
 use Rattle.strict.specs.declared.entity.Part.{Part}
@@ -45,15 +48,12 @@ abbrev pub lineAt : List (List ℕ) → Entry → Option (List ℕ)
 lineAt rows (At i) = some (getD rows i [])
 lineAt rows Nothing = none
 
--- where the parts of an entity stand in its line
+-- where an entity's attributes and tags stand in its line
 abbrev pub ATTRIBUTES : ℕ
 ATTRIBUTES = 1
 
 abbrev pub TAGS : ℕ
 TAGS = 2
-
-abbrev pub ANCESTORS : ℕ
-ANCESTORS = 3
 
 -- what is known of a part of an entity: none where it is unknown, else nothing at all or a value; as the code answers it
 abbrev pub partOf : Part → Option (Option ℕ)
@@ -127,11 +127,26 @@ hastagOut c a m n = nRel (envIn c a) (values a) rhastag m n (valueIn a m) (value
 unfoldable pub isRentAt : List ℕ → ℕ → Bool
 isRentAt a v = isRent (valueIn a v)
 
-unfoldable pub inKnownOut : List ℕ → ℕ → ℕ → List ℕ → NOut
-inKnownOut a m v l = rSet fails (valueIn a v) (λ k. truly (memN m l || anyN l k))
-
 unfoldable pub inUnknownOut : ℕ → List ℕ → NOut
 inUnknownOut m l = cond (memN m l) (truly true) (cond (isNil l) (truly false) stays)
+
+-- the ancestors of the entity with value number v, as a look-up of its line gives them
+abbrev pub aboveIn : Bool → List ℕ → ℕ → Option Give
+aboveIn c a v = mapSome (λ l. made (rset l)) (knownAbove (modeOf c) (stateIn a) v)
+
+-- where the marks say what v reaches
+pub record Unknowns (c : Bool) (a : List ℕ) (v : ℕ) (marks : List ℕ) (r : Bool) : Type 0 where
+  pub is : Reached (rowsOf a VALUE) (lineRows a) v marks → r ≡ (not c && unknownAbove (rowsOf a VALUE) (lineRows a) v)
+
+unfoldable pub inLineOut : Bool → List ℕ → ℕ → ℕ → List ℕ → NOut
+inLineOut c a m v l = nIn (values a) m (aboveIn c a v) l
+
+-- where m is not among the targets, and there is one
+pub record Above (c : Bool) (a : List ℕ) (m v : ℕ) (l : List ℕ) (r : Given) : Type 0 where
+  pub is : memN m l ≡ false → isNil l ≡ false → outOf r ≡ inLineOut c a m v l
+
+unfoldable pub inUnlistedOut : Bool → ℕ → List ℕ → NOut
+inUnlistedOut c m l = cond c (truly (memN m l)) (inUnknownOut m l)
 
 unfoldable pub inListOut : Bool → List ℕ → ℕ → ℕ → ℕ → List ℕ → NOut
 inListOut c a m k t l = nIn (values a) m (nentity (envIn c a) k t .ancestors) l

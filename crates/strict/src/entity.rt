@@ -1,8 +1,15 @@
 // Operations on entities: their lines, attributes, tags and ancestors, known in part. On a complete sheet an unlisted entity has none.
+// Ancestors are found through parents at each `in`, by marks on the stack.
 use crate::Given;
 use forms::ENTITY;
 use forms::MARK;
 use forms::VALUE;
+use reach::LINES;
+use reach::lines;
+use reach::meets_above;
+use reach::open_above;
+use reach::place_of;
+use reach::reach;
 use table::base_of;
 use table::count;
 use table::item;
@@ -11,7 +18,6 @@ use value::Entry;
 use value::Shape;
 use value::contains;
 use value::entry_of;
-use value::meets;
 use value::members;
 use value::row_of;
 use value::shape_of;
@@ -24,14 +30,12 @@ ghost use Rattle.sheet.specs.Forms.{ENTITY};
 ghost use Rattle.table.specs.Layout.{rowsOf};
 ghost use Rattle.cedar.specs.Numbered.{allRent};
 ghost use Rattle.strict.specs.Gives.{outOf, values, valueIn};
-ghost use Rattle.strict.specs.Lookups.{ANCESTORS, textThere, isEntityAt, lineAt, lineIn, partOf, partIn, lookRow, lookIn, lookAttr, takenOf, presentOf, getOut, hasOut, tagLook, gettagOut, hastagOut, isRentAt, inKnownOut, inUnknownOut, inListOut, inOut, walkFrom};
+ghost use Rattle.strict.specs.Lookups.{TAGS, textThere, isEntityAt, lineAt, lineIn, partOf, partIn, lookRow, lookIn, lookAttr, takenOf, presentOf, getOut, hasOut, tagLook, gettagOut, hastagOut, isRentAt, inUnknownOut, Unknowns, Above, inLineOut, inUnlistedOut, inListOut, inOut, walkFrom};
 
-// Where the parts of an entity stand in its line.
+// Where an entity's attributes and tags stand in its line.
 const ATTRIBUTES: usize = 1;
 
 const TAGS: usize = 2;
-
-const ANCESTORS: usize = 3;
 
 // A part of an entity's line: a value, nothing at all, or unknown.
 pub enum Part {
@@ -110,9 +114,9 @@ pub fn find_entity(rows: &[u32], kind: u32, text: u32) -> Entry
     }
 }
 
-// The item at `place` of an entity's line.
+// The item at `place` of an entity's line, its attributes or its tags.
 pub fn part_of(rows: &[u32], complete: bool, kind: u32, text: u32, place: usize) -> Part
-    requires { ⌜ place ≤ ANCESTORS ⌝ }
+    requires { ⌜ place ≤ TAGS ⌝ }
     ensures { λ r. ⌜ partOf r ≡ partIn complete (now (rows .entry)) kind text place ⌝ }
 {
     let Entry::At(i) = find_entity(rows, kind, text) else {
@@ -260,21 +264,6 @@ fn all_entities(rows: &[u32], list: &[u32]) -> bool
     }
 }
 
-// Whether an entity or one of its known `ancestors` is among these.
-fn in_known(rows: &[u32], value: u32, ancestors: u32, list: &[u32]) -> Given
-    ensures { λ r. ⌜ outOf r ≡ inKnownOut (now (rows .entry)) value ancestors (now (list .entry)) ⌝ }
-{
-    let r = row_of(rows, ancestors as usize);
-    let s = shape_of(r);
-    let Shape::Set = s else {
-        return Given::Fails;
-    };
-    if contains(list, value) {
-        return Given::Bool(true);
-    }
-    Given::Bool(meets(list, members(r)))
-}
-
 // Whether an entity whose ancestors are unknown is among these.
 fn in_unknown(value: u32, list: &[u32]) -> Given
     ensures { λ r. ⌜ outOf r ≡ inUnknownOut value (now (list .entry)) ⌝ }
@@ -288,16 +277,62 @@ fn in_unknown(value: u32, list: &[u32]) -> Given
     Given::Stays
 }
 
+// Whether the ancestors of entity `listed`, whose marks these are, are unknown.
+fn is_unknown(rows: &[u32], complete: bool, listed: u32, marks: &[u32]) -> bool
+    ensures { λ r. ⌜ Unknowns complete (now (rows .entry)) listed (now (marks .entry)) r ⌝ }
+{
+    if complete {
+        return false;
+    }
+    if place_of(rows, listed) >= lines(rows) {
+        return true;
+    }
+    open_above(rows, marks)
+}
+
+// Whether an ancestor of entity `value`, whose line names it `listed`, is among these; itself it is not.
+fn in_above(rows: &[u32], complete: bool, value: u32, listed: u32, list: &[u32]) -> Given
+    ensures { λ r. ⌜ Above complete (now (rows .entry)) value listed (now (list .entry)) r ⌝ }
+{
+    let mut marks: [u32; LINES] = [0; LINES];
+    reach(rows, listed, &mut marks[..]);
+    if is_unknown(rows, complete, listed, &marks[..]) {
+        return Given::Stays;
+    }
+    Given::Bool(meets_above(rows, list, &marks[..]))
+}
+
+// Whether entity `value`, whose line names it `listed`, or one of its ancestors is among these.
+fn in_line(rows: &[u32], complete: bool, value: u32, listed: u32, list: &[u32]) -> Given
+    ensures { λ r. ⌜ outOf r ≡ inLineOut complete (now (rows .entry)) value listed (now (list .entry)) ⌝ }
+{
+    if contains(list, value) {
+        return Given::Bool(true);
+    }
+    if list.len() == 0 {
+        return Given::Bool(false);
+    }
+    in_above(rows, complete, value, listed, list)
+}
+
+// Whether an entity that is not listed is among these.
+fn in_unlisted(complete: bool, value: u32, list: &[u32]) -> Given
+    ensures { λ r. ⌜ outOf r ≡ inUnlistedOut complete value (now (list .entry)) ⌝ }
+{
+    if complete {
+        return Given::Bool(contains(list, value));
+    }
+    in_unknown(value, list)
+}
+
 // Whether an entity, of this kind and text, or one of its ancestors is among these.
 fn in_list(rows: &[u32], complete: bool, value: u32, kind: u32, text: u32, list: &[u32]) -> Given
     ensures { λ r. ⌜ outOf r ≡ inListOut complete (now (rows .entry)) value kind text (now (list .entry)) ⌝ }
 {
-    let p = part_of(rows, complete, kind, text, ANCESTORS);
-    match p {
-        Part::Known(v) => in_known(rows, value, v, list),
-        Part::Empty => Given::Bool(contains(list, value)),
-        Part::Unknown => in_unknown(value, list),
-    }
+    let Entry::At(i) = find_entity(rows, kind, text) else {
+        return in_unlisted(complete, value, list);
+    };
+    in_line(rows, complete, value, item(row(rows, ENTITY, i), 1), list)
 }
 
 // Whether an entity is in another or in one of a set.

@@ -20,10 +20,10 @@ use Rattle.forms.specs.Tags.{POLICY-LINE}
 use Rattle.sheet.specs.Forms.{partial, forms, formOf, slotAt, tag, at, keyOf, TYPE, VALUE, NODE, POLICY, LINK, ENTITY, aloneRow}
 use Rattle.sheet.specs.State.{State, linesOf, count, depthsOf, valueRow}
 use Rattle.sheet.specs.Typing.{nodesUnder}
-use Rattle.sheet.specs.Sheet.{read, anySlot, firsts, firstUnlinked}
-use Rattle.sheet.specs.Content.{types, rowsIn, valueRows, schema, nEnv, given, requestTy, entityLine, lineGiven, trees, numberedPolicies, nPolicies, linkOf, withLink, onTerm}
+use Rattle.sheet.specs.Sheet.{read, anySlot, firsts, firstUnlinked, reachedFit, firstUnfit}
+use Rattle.sheet.specs.Content.{types, rowsIn, valueRows, schema, nEnv, given, requestTy, entityLine, lookUp, lineGiven, trees, numberedPolicies, nPolicies, linkOf, withLink, onTerm}
 use Rattle.sheet.specs.Answer.{run}
-use Rattle.sheet.proofs.Lines.{Was, accepted-history}
+use Rattle.sheet.proofs.Lines.{Was, accepted-history, accepted-fit}
 use Rattle.sheet.proofs.Parsed.{tags-between}
 use Rattle.sheet.proofs.NodeRows.{row-read}
 use Rattle.sheet.proofs.MadeCount.{policySizes}
@@ -64,11 +64,16 @@ unfolding nodesUnder
 unlinked-lines l d e u v n [] = refl
 unlinked-lines l d e u v n (r ∷ rs) = ap (cond (anySlot (nodesUnder (record { lines = l; depths = d; used = u }) (at r 2)) && not (memN n (firsts (getD l LINK [])))) n) (unlinked-lines l d e u v (suc n) rs)
 
+unfit-lines : (l : List (List (List ℕ))) (d e : List (List ℕ)) (u v : List ℕ) (rs : List (List ℕ)) → firstUnfit (record { lines = l; depths = d; used = u }) rs ≡ firstUnfit (record { lines = l; depths = e; used = v }) rs
+unfit-lines l d e u v [] = refl
+unfit-lines l d e u v (r ∷ rs) = ap (λ (n : ℕ). cond (reachedFit (record { lines = l; depths = d; used = u }) r) (suc n) 0) (unfit-lines l d e u v rs)
+
 facts-lines : (l : List (List (List ℕ))) (d e : List (List ℕ)) (u v : List ℕ) → Facts partial (record { lines = l; depths = d; used = u }) → Facts partial (record { lines = l; depths = e; used = v })
 facts-lines l d e u v f = record {
   history = λ k pre r rest q. let w = f .history k pre r rest q in record { was = w .was; line = w .line; row = w .row; key = w .key; pass = w .pass; mine = w .mine; earlier = w .earlier };
   ends = record { full = f .ends .full; linked = sym (ap (λ (i : ℕ). ltb i (length (getD l POLICY []))) (unlinked-lines l d e u v 0 (getD l POLICY []))) ∙ f .ends .linked };
   keys = f .keys;
+  fit = ap (λ (n : ℕ). ltb n (length (getD l ENTITY []))) (sym (unfit-lines l d e u v (getD l ENTITY []))) ∙ f .fit;
 }
 
 facts-same : (sheet a b : List ℕ) → Facts partial (held sheet a b) → Facts partial (held sheet a [])
@@ -178,9 +183,13 @@ module _ (l : List (List (List ℕ))) (d e : List (List ℕ)) (u v : List ℕ) w
   entity-lines q [] = refl
   entity-lines q (r ∷ rows) = ap (λ (o : Option (List ℕ)). cond (sameRow (valueRow (getD (getD l VALUE []) (at r 0) [])) q) (some r) o) (entity-lines q rows)
 
+  line-lines : (o : Option (List ℕ)) → lineGiven partial one o ≡ lineGiven partial two o
+  line-lines Option.none = refl
+  line-lines (some r) = refl
+
   env-lines : nEnv partial one ≡ nEnv partial two
   unfolding nEnv
-  env-lines = λ i. record { request = λ x. given-lines x i; line = λ k t. lineGiven partial (entity-lines (rent k t) (getD l ENTITY []) i) }
+  env-lines = λ i. record { request = λ x. given-lines x i; line = λ k t. (line-lines (lookUp one k t) ∙ ap (lineGiven partial two) (entity-lines (rent k t) (getD l ENTITY []))) i }
 
   term-lines : onTerm one ≡ onTerm two
   unfolding onTerm
@@ -261,7 +270,7 @@ pub run-is : (sheet a b : List ℕ) → read partial sheet .number ≡ 0 → rea
     → RunIs partial sheet a 64 [] (run partial (read partial sheet .state)) (runOf partial sheet a [])
 run-is sheet a b e h sound none runs top =
     let (hi, en) = accepted-history partial sheet e in
-    let f : Facts partial (held sheet a b) = subst (Facts partial) h (record { history = hi; ends = en; keys = all-keys partial sheet e }) in
+    let f : Facts partial (held sheet a b) = subst (Facts partial) h (record { history = hi; ends = en; keys = all-keys partial sheet e; fit = accepted-fit partial sheet e }) in
     let d : Depths (held sheet a b) = reached-depths (subst (Reached partial) h (read-reached partial sheet)) in
     let few : policySizes (nPolicies (held sheet a b)) ≤ 1024 = subst (λ (s : State). policySizes (nPolicies s) ≤ 1024) h (policy-sizes partial sheet e) in
     subst (λ (s : State). RunIs partial sheet a 64 [] (run partial s) (runOf partial sheet a [])) (sym h) (run-held sheet a b f d sound none runs few top)

@@ -103,7 +103,7 @@ fn tags_typed(rows: &[u32], work: &mut [u32], value: u32, kind: u32) -> bool
 }
 
 // Whether a value is an entity whose kind is above this one.
-fn is_ancestor(rows: &[u32], value: u32, kind: u32) -> bool
+pub fn is_ancestor(rows: &[u32], value: u32, kind: u32) -> bool
     ensures { λ b. ⌜ b ≡ ancestorRule (now (rows .entry)) value kind ⌝ }
 {
     let q = row(rows, VALUE, value);

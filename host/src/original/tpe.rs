@@ -55,7 +55,7 @@ pub mod entities {
     include!(concat!(env!("OUT_DIR"), "/entities.rs"));
 
     impl PartialEntities {
-        /// Adds an entity line that the reader of the sheet has checked already; "ancestors are taken as given".
+        /// Adds an entity line that the reader of the sheet has checked already, with the ancestors that it reaches.
         pub fn add(
             &mut self,
             uid: EntityUID,

@@ -1,0 +1,40 @@
+-- `above::first_unfit` meets its contract. Assumes nothing.
+use Prim.Native.Nat.{_-_}
+use Rattle.above.proofs.Fits.{Firsts, firsts-end, firsts-hit, firsts-on, firsts-start}
+use borrow.Author.Needs.{needs}
+use Rattle.above.proofs.first_unfit.Statement.{statement}
+use Rattle.above.proofs.first_unfit.Tie as tie
+
+abbrev Inv-loop : tie.InvT-loop
+Inv-loop rows n i₀ i = Firsts rows n i
+
+abbrev μ-loop : tie.MeasureT-loop
+μ-loop rows n i₀ i = n - i
+
+loop-holds : tie.Need-loop-holds Inv-loop μ-loop
+loop-holds c = search (firsts-start, needs)
+
+returns : tie.Need-returns Inv-loop μ-loop
+returns c = search (firsts-hit, needs)
+
+loop-again : tie.Need-loop-again Inv-loop μ-loop
+loop-again c = search (firsts-on, needs)
+
+returns-2 : tie.Need-returns-2 Inv-loop μ-loop
+returns-2 c = search (firsts-end, needs)
+
+pub first-unfit-spec : {M : Type 1} → statement M
+first-unfit-spec =
+    tie.close
+    (tie.spec
+    Inv-loop
+    μ-loop
+    (λ c κs. search needs)
+    loop-holds
+    (λ c κs. search needs)
+    (λ c κs. search needs)
+    returns
+    (λ c. search needs)
+    (λ c. search needs)
+    loop-again
+    returns-2)

@@ -1,0 +1,29 @@
+-- `reach::expand` meets its contract. Assumes nothing.
+use Rattle.reach.proofs.Steps.{expand-new, expand-old}
+use borrow.Author.Needs.{needs}
+use Rattle.reach.proofs.expand.Statement.{statement}
+use Rattle.reach.proofs.expand.Tie as tie
+
+returns : tie.Need-returns
+returns c = search (expand-old, needs)
+
+returns-2 : tie.Need-returns-2
+returns-2 c = search (expand-new, needs)
+
+pub expand-spec : {M : Type 1} → statement M
+expand-spec =
+    tie.close
+    (tie.spec
+    (λ c κs. search needs)
+    (λ c κs. search needs)
+    (λ c. search needs)
+    (λ c κs. search needs)
+    (λ c. search needs)
+    returns
+    (λ c κs. search needs)
+    (λ c κs. search needs)
+    (λ c κs. search needs)
+    (λ c. search needs)
+    (λ c. search needs)
+    (λ c. search needs)
+    returns-2)

@@ -1,0 +1,12 @@
+-- `reach::place` meets its contract. Assumes nothing.
+use Rattle.reach.proofs.Steps.{place-in}
+use borrow.Author.Needs.{needs}
+use Rattle.reach.proofs.place.Statement.{statement}
+use Rattle.reach.proofs.place.Tie as tie
+
+returns : tie.Need-returns
+returns c = search (place-in, needs)
+
+pub place-spec : {M : Type 1} → statement M
+place-spec =
+    tie.close (tie.spec (λ c. search needs) (λ c. search needs) returns (λ c κs. search needs) (λ c. search needs))

@@ -1,0 +1,65 @@
+-- `reach::reach` meets its contract. Assumes nothing.
+use Prim.Native.Nat.{_-_}
+use lib.ListN.{length}
+use Rattle.reach.specs.Marks.{lineRows}
+use Rattle.reach.proofs.Steps.{Going, going-end, going-less, going-on, going-start, reach-queue}
+use borrow.Author.Needs.{needs}
+use Rattle.reach.proofs.reach.Statement.{statement}
+use Rattle.reach.proofs.reach.Tie as tie
+
+abbrev Inv-loop : tie.InvT-loop
+Inv-loop rows value marks₀ places asked₀ queue₀ end₀ i₀ marks asked queue end i = Going rows value places marks₀ asked marks queue end i
+
+abbrev μ-loop : tie.MeasureT-loop
+μ-loop rows value marks₀ places asked₀ queue₀ end₀ i₀ marks asked queue end i = length (lineRows rows) - i
+
+see-at-requires : tie.Need-see-at-requires Inv-loop μ-loop
+see-at-requires c κs =
+    let x = c .before .before .before .before .before .before .before in
+    let f = x .before .before .before .before in
+    (x .index .ensures, reach-queue _ 0 _ _ _ (f .before .before .before .before .pre) (f .fill .ensures) (search needs))
+
+loop-holds : tie.Need-loop-holds Inv-loop μ-loop
+loop-holds c =
+    let s = c .before .before .before in
+    let a = s .before .before .before .before .before in
+    let x = a .before .before .before in
+    let f = x .before .before .before .before in
+    going-start _ _ _ _ _ _ _ _ _ _ _ (f .before .before .before .before .pre) (f .fill .ensures) (search needs) (search needs) (search needs) (a .fill2 .ensures) (x .index .ensures) (s .see-at .ensures)
+
+loop-less : tie.Need-loop-less Inv-loop μ-loop
+loop-less c = search (going-less, needs)
+
+loop-again : tie.Need-loop-again Inv-loop μ-loop
+loop-again c = search (going-on, needs)
+
+returns : tie.Need-returns Inv-loop μ-loop
+returns c = search (going-end, needs)
+
+pub reach-spec : {M : Type 1} → statement M
+reach-spec =
+    tie.close
+    (tie.spec
+    Inv-loop
+    μ-loop
+    (λ c κs. search needs)
+    (λ c. search needs)
+    (λ c κs. search needs)
+    (λ c. search needs)
+    (λ c κs. search needs)
+    (λ c. search needs)
+    (λ c. search needs)
+    see-at-requires
+    loop-holds
+    (λ c. search needs)
+    (λ c. search needs)
+    (λ c. search needs)
+    (λ c κs. search needs)
+    (λ c. search needs)
+    (λ c. search needs)
+    (λ c κs. search needs)
+    (λ c. search needs)
+    loop-less
+    loop-again
+    (λ c. search needs)
+    returns)
