@@ -116,7 +116,7 @@ fn cut_all(source: &Path, out: &Path) {
         .concat(),
     );
 
-    // tpe/response.rs: classes, counts and the decision.
+    // tpe/response.rs: classes, counts, the decision and its reasons.
     let response = read("tpe/response.rs");
     write(
         "response.rs",
@@ -140,6 +140,7 @@ fn cut_all(source: &Path, out: &Path) {
                     "residual_permits",
                     "residual_forbids",
                     "decision",
+                    "reason",
                 ],
             ),
         ]

@@ -2,9 +2,11 @@
 //!
 //! For each sheet both are lent buffers of the same lengths with the same contents, longer and shorter ones among them,
 //! inside larger buffers. After the calls all of it must be equal: number, line, length, bytes written and not written,
-//! words cleared and not touched, and what lies beside the lent parts. Of an accepted sheet with groups of kinds the original is not
-//! asked: the library's answer in a long buffer stands for the original's, and all else is compared. On triples of a partial sheet and
-//! two complete ones that agree with it, none with groups, demand 3 is run from the bytes of the three answers.
+//! words cleared and not touched, and what lies beside the lent parts. The answer may name any policy that the original gives as a
+//! reason of its decision: what a call leaves must be what one with some such name leaves. Of an accepted sheet with groups of kinds
+//! the original is not asked: the library's answer in a long buffer, whose name its own lines must explain, stands for the original's,
+//! and all else is compared. On triples of a partial sheet and two complete ones that agree with it, none with groups, demand 3 is run
+//! from the bytes of the three answers.
 
 use crate::generate::{self, Case};
 use crate::random::Random;
@@ -51,6 +53,10 @@ pub struct Counts {
     pub differences: usize,
     /// Accepted sheets with groups, whose answers are the library's alone.
     pub grouped: usize,
+    /// Accepted sheets with a policy that may be named, and with several.
+    pub named: usize,
+    pub chosen: usize,
+    /// Sheets without difference, by number.
     pub numbers: [usize; 11],
 }
 
@@ -63,12 +69,14 @@ pub fn by_number(numbers: &[usize; 11]) -> String {
 impl Counts {
     pub fn line(&self) -> String {
         format!(
-            "{} sheets, {} triples, {} differences; numbers {}; {} accepted with groups, their answers not compared",
+            "{} sheets, {} triples, {} differences; numbers {}; {} accepted with groups, their answers not compared; {} with a policy to name, {} of them with several",
             self.sheets,
             self.triples,
             self.differences,
             by_number(&self.numbers),
-            self.grouped
+            self.grouped,
+            self.named,
+            self.chosen
         )
     }
 }
@@ -105,30 +113,14 @@ fn whole_answer(call: Call, case: &Case, random: &mut Random) -> Result<Vec<u8>,
     }
     match number {
         0 => Ok(lent.out[MARGIN..MARGIN + length as usize].to_vec()),
-        _ => Err(format!("is refused: {number},{line},{length}")),
+        _ => Err(format!("it is refused: {number},{line},{length}")),
     }
 }
 
-/// Runs both on one sheet and says what differs.
-fn one(call: Call, case: &Case, random: &mut Random, counts: &mut Counts) -> Option<String> {
-    counts.sheets += 1;
-    let answer = match run::answer(case.mode, &case.bytes) {
-        Ok(Some(answer)) => Ok(answer),
-        Ok(None) => {
-            counts.grouped += 1;
-            match whole_answer(call, case, random) {
-                Ok(answer) => Ok(answer),
-                Err(text) => return Some(format!("an accepted sheet with groups {text}")),
-            }
-        }
-        Err(refusal) => Err(refusal),
-    };
-    let needed = answer.as_ref().map_or(40, Vec::len);
-    let mut expected = Lent::of(work_length(random), work_length(random), buffer_length(needed, random), random);
-    let mut found = expected.clone();
+/// What of a call is not what one with this answer or refusal returns and leaves, in what both were lent.
+fn difference(lent: &Lent, answer: Result<Vec<u8>, Refusal>, got: [u32; 3], found: &Lent) -> Option<String> {
+    let mut expected = lent.clone();
     let wanted = expected.left(answer);
-    let got = found.call(call, case);
-    counts.numbers[wanted[0] as usize] += 1;
     if got != wanted {
         return Some(format!("returned {got:?}, expected {wanted:?}"));
     }
@@ -144,6 +136,40 @@ fn one(call: Call, case: &Case, random: &mut Random, counts: &mut Counts) -> Opt
     None
 }
 
+/// Runs both on one sheet and says what differs, whichever policy of those that gave the decision is named.
+fn one(call: Call, case: &Case, random: &mut Random, counts: &mut Counts) -> Option<String> {
+    counts.sheets += 1;
+    let answer = match run::answer(case.mode, &case.bytes) {
+        Ok(Some(answer)) => Ok(answer),
+        Ok(None) => {
+            counts.grouped += 1;
+            match whole_answer(call, case, random).and_then(|answer| run::explained(case.mode, &answer)) {
+                Ok(answer) => Ok(answer),
+                Err(text) => return Some(format!("an accepted sheet with groups: {text}")),
+            }
+        }
+        Err(refusal) => Err(refusal),
+    };
+    let needed = answer.as_ref().map_or(40, |answer| answer.first().len());
+    let lent = Lent::of(work_length(random), work_length(random), buffer_length(needed, random), random);
+    let mut found = lent.clone();
+    let got = found.call(call, case);
+    let differs = match answer {
+        Err(refusal) => difference(&lent, Err(refusal), got, &found),
+        Ok(answer) => {
+            counts.named += usize::from(answer.choices() > 0);
+            counts.chosen += usize::from(answer.choices() > 1);
+            let mut differences = answer.texts().map(|text| difference(&lent, Ok(text), got, &found));
+            let first = differences.next().expect("a text");
+            first.filter(|_| differences.all(|other| other.is_some()))
+        }
+    };
+    if differs.is_none() {
+        counts.numbers[got[0] as usize] += 1;
+    }
+    differs
+}
+
 /// The three answers of a triple, and demand 3 over them.
 fn triple(call: Call, sheets: &[Vec<u8>; 3], random: &mut Random) -> Option<String> {
     let mut answers: Vec<Vec<u8>> = Vec::new();
@@ -151,7 +177,7 @@ fn triple(call: Call, sheets: &[Vec<u8>; 3], random: &mut Random) -> Option<Stri
         let mode = if n == 0 { Mode::Partial } else { Mode::Complete };
         match whole_answer(call, &Case { mode, bytes: sheet.clone() }, random) {
             Ok(answer) => answers.push(answer),
-            Err(text) => return Some(format!("sheet {n} of a triple {text}")),
+            Err(text) => return Some(format!("sheet {n} of a triple: {text}")),
         }
     }
     run::demand3([&sheets[0], &sheets[1], &sheets[2]], [&answers[0], &answers[1], &answers[2]]).err()
@@ -245,6 +271,47 @@ mod tests {
                 result
             }) > 0
         );
+    }
+
+    /// A call whose answer is chosen among the texts that the original allows, or made of them.
+    fn chosen(
+        choose: fn(&[Vec<u8>]) -> Vec<u8>,
+        mode: Mode,
+        sheet: &[u8],
+        a: &mut [u32],
+        b: &mut [u32],
+        out: &mut [u8],
+    ) -> [u32; 3] {
+        match run::answer(mode, sheet) {
+            Ok(Some(answer)) => run::left(|| Ok(choose(&answer.texts().collect::<Vec<_>>())), a, b, out),
+            _ => run::call(mode, sheet, a, b, out),
+        }
+    }
+
+    /// The first text with another name.
+    fn named(name: &str, texts: &[Vec<u8>]) -> Vec<u8> {
+        let text = String::from_utf8(texts[0].clone()).expect("answers are ASCII");
+        let line = format!("why={name}\n");
+        let lines = text.split_inclusive('\n').enumerate();
+        lines.map(|(n, other)| if n == 2 { line.as_str() } else { other }).collect::<String>().into_bytes()
+    }
+
+    #[test]
+    fn any_reason_may_be_named() {
+        let last: Call = |mode, sheet, a, b, out| chosen(|texts| texts[texts.len() - 1].clone(), mode, sheet, a, b, out);
+        let counts = compare(last, 600, 5);
+        assert_eq!(counts.differences, 0);
+        assert!(counts.chosen > 20);
+    }
+
+    #[test]
+    fn a_name_left_out_is_found() {
+        assert!(differences(|mode, sheet, a, b, out| chosen(|texts| named("none", texts), mode, sheet, a, b, out)) > 0);
+    }
+
+    #[test]
+    fn another_name_is_found() {
+        assert!(differences(|mode, sheet, a, b, out| chosen(|texts| named("0", texts), mode, sheet, a, b, out)) > 0);
     }
 
     #[test]

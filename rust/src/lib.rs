@@ -2,7 +2,9 @@
 //!
 //! A *sheet* is a text of `key=value` lines with a schema, known values, entities with their parents, a request, its day, policies, the links
 //! that fill their slots, and their terms. The answer says for each policy on term that day whether it is true, false, in error or open, what
-//! is left of it, and the decision. The library is written in Rattle, and every function of it is proved to meet its contract; the repository's README.md says what is proved and what is assumed.
+//! is left of it, the decision, and beside it a policy that gave it: `why=` has the text number of the id of a true forbid for a deny, of a true
+//! permit for an allow, and `none` for open and for a deny without a true forbid. Where several policies gave it, any of them is named.
+//! The library is written in Rattle, and every function of it is proved to meet its contract; the repository's README.md says what is proved and what is assumed.
 //!
 //! [`Evaluator`] keeps the slices that a call works in and gives an [`Outcome`]:
 //!
@@ -27,7 +29,7 @@
 //! ";
 //! let mut evaluator = Evaluator::new();
 //! match evaluator.partial(sheet.as_bytes()) {
-//!     Outcome::Answer(text) => assert_eq!(text, "decision=deny\ncounts=0,0,0,0,0,0,0,0\n"),
+//!     Outcome::Answer(text) => assert_eq!(text, "decision=deny\ncounts=0,0,0,0,0,0,0,0\nwhy=none\n"),
 //!     Outcome::Refused(refusal) => panic!("{refusal}"),
 //! }
 //! ```

@@ -31,10 +31,53 @@ fn worked_input() {
 #[test]
 fn complete_sheets() {
     let mut evaluator = Evaluator::default();
-    let low = "decision=allow\ncounts=2,0,0,0,0,0,0,0\npolicy=5,permit,true\npolicy=6,permit,true\n";
-    assert_eq!(evaluator.complete(known(7).as_bytes()), Outcome::Answer(low));
-    let other = "decision=allow\ncounts=1,1,0,0,0,0,0,0\npolicy=5,permit,false\npolicy=6,permit,true\n";
+    // both rules gave it, and either may be named
+    let both = ["5", "6"]
+        .map(|name| format!("decision=allow\ncounts=2,0,0,0,0,0,0,0\nwhy={name}\npolicy=5,permit,true\npolicy=6,permit,true\n"));
+    assert!(both.iter().any(|answer| evaluator.complete(known(7).as_bytes()) == Outcome::Answer(answer)));
+    let other = "decision=allow\ncounts=1,1,0,0,0,0,0,0\nwhy=6\npolicy=5,permit,false\npolicy=6,permit,true\n";
     assert_eq!(evaluator.complete(known(4).as_bytes()), Outcome::Answer(other));
+}
+
+/// Decision and name of a sheet of either sort.
+fn named(evaluator: &mut Evaluator, sheet: &str) -> (String, String) {
+    let outcome = if sheet.starts_with("sheet=complete") {
+        evaluator.complete(sheet.as_bytes())
+    } else {
+        evaluator.partial(sheet.as_bytes())
+    };
+    let answer = outcome.result().expect("the sheet is accepted");
+    let mut items = answer.lines().map(|line| line.split_once('=').expect("a line has an `=`").1.to_string());
+    (items.next().expect("a decision"), items.nth(1).expect("a name"))
+}
+
+#[test]
+fn which_rule_gave_it() {
+    let mut evaluator = Evaluator::new();
+    let first = |sheet: &str| sheet.replace("policy=5,permit", "policy=5,forbid");
+    let second = |sheet: &str| sheet.replace("policy=6,permit", "policy=6,forbid");
+    let off = |sheet: &str| format!("{sheet}term=1,2199-12-30,2199-12-31\n");
+    for (sheet, decision, names) in [
+        (SHEET.to_string(), "allow", &["6"][..]),
+        // a true forbid, not the permit
+        (second(SHEET), "deny", &["6"]),
+        // a permit is true, but a forbid open
+        (first(SHEET), "open", &["none"]),
+        // nothing permits, whatever the open forbid is
+        (first(&off(SHEET)), "deny", &["none"]),
+        (off(SHEET), "open", &["none"]),
+        (known(4), "allow", &["6"]),
+        (off(&known(4)), "deny", &["none"]),
+        (off(&known(7)), "allow", &["5"]),
+        (first(&known(7)), "deny", &["5"]),
+        // both gave it, and either may be named
+        (known(7), "allow", &["5", "6"]),
+        (first(&second(&known(7))), "deny", &["5", "6"]),
+    ] {
+        let (found, name) = named(&mut evaluator, &sheet);
+        assert_eq!(found, decision, "{sheet}");
+        assert!(names.contains(&name.as_str()), "{name}: {sheet}");
+    }
 }
 
 #[test]
@@ -68,7 +111,8 @@ fn days_and_terms() {
         assert_eq!(evaluator.partial(term(1, first, last).as_bytes()), Outcome::Answer(ANSWER));
     }
     // off term, the rule that was true has no part in the answer
-    let open = "decision=open\ncounts=0,0,0,1,0,0,0,0\nnode=2,var,p\nnode=2,lit,0\nnode=0,eq,0,1\npolicy=5,permit,open,2\n";
+    let open =
+        "decision=open\ncounts=0,0,0,1,0,0,0,0\nwhy=none\nnode=2,var,p\nnode=2,lit,0\nnode=0,eq,0,1\npolicy=5,permit,open,2\n";
     assert_eq!(evaluator.partial(term(1, "2199-12-30", "2199-12-31").as_bytes()), Outcome::Answer(open));
     assert_eq!(evaluator.partial(term(2, "1900-01-01", "2199-12-31").as_bytes()), refused(5, 32, 0));
     assert_eq!(evaluator.partial(term(1, "2000-02-29", "2000-02-28").as_bytes()), refused(5, 32, 0));
@@ -91,7 +135,7 @@ fn templates() {
     // one root, two policies, each with its own link
     let shared = template.replace("node=0,lit,1\n", "").replace("policy=6,permit,3", "policy=6,permit,2");
     assert_eq!(evaluator.partial(format!("{shared}link=0,0,-\n").as_bytes()), refused(5, 30, 0));
-    let both = "decision=open\ncounts=0,0,0,2,0,0,0,0\nnode=2,var,p\nnode=2,lit,0\nnode=0,eq,0,1\nnode=2,var,p\nnode=2,lit,0\n\
+    let both = "decision=open\ncounts=0,0,0,2,0,0,0,0\nwhy=none\nnode=2,var,p\nnode=2,lit,0\nnode=0,eq,0,1\nnode=2,var,p\nnode=2,lit,0\n\
                 node=0,eq,3,4\npolicy=5,permit,open,2\npolicy=6,permit,open,5\n";
     assert_eq!(evaluator.partial(format!("{shared}link=0,0,-\nlink=1,0,-\n").as_bytes()), Outcome::Answer(both));
     // a root that a node uses
@@ -125,8 +169,8 @@ fn groups() {
     assert_eq!(evaluator.partial(other.as_bytes()), Outcome::Answer(&open));
     let head = &grouped[..grouped.find("node=").expect("nodes")];
     let is = |kind: usize| format!("{head}node=4,lit,0\nnode=0,is,0,{kind}\npolicy=5,permit,1\n");
-    let yes = "decision=allow\ncounts=1,0,0,0,0,0,0,0\nnode=0,lit,1\npolicy=5,permit,true,0\n";
-    let no = "decision=deny\ncounts=0,1,0,0,0,0,0,0\nvalue=bool,0\nnode=0,lit,2\npolicy=5,permit,false,0\n";
+    let yes = "decision=allow\ncounts=1,0,0,0,0,0,0,0\nwhy=5\nnode=0,lit,1\npolicy=5,permit,true,0\n";
+    let no = "decision=deny\ncounts=0,1,0,0,0,0,0,0\nwhy=none\nvalue=bool,0\nnode=0,lit,2\npolicy=5,permit,false,0\n";
     for (kind, answer) in [(0, yes), (1, no), (2, no)] {
         assert_eq!(evaluator.partial(is(kind).as_bytes()), Outcome::Answer(answer), "{kind}");
     }
@@ -143,9 +187,10 @@ fn parents() {
         let head = head.replacen("shape=1,-\n", "shape=1,-,0\n", 1);
         format!("{head}{values}{entities}{request}node=2,lit,0\nnode=2,lit,3\nnode=0,in,0,1\npolicy=5,permit,2\n")
     };
-    let yes = "decision=allow\ncounts=1,0,0,0,0,0,0,0\nnode=0,lit,1\npolicy=5,permit,true,0\n";
-    let no = "decision=deny\ncounts=0,1,0,0,0,0,0,0\nvalue=bool,0\nnode=0,lit,8\npolicy=5,permit,false,0\n";
-    let open = "decision=open\ncounts=0,0,0,1,0,0,0,0\nnode=2,lit,0\nnode=2,lit,3\nnode=0,in,0,1\npolicy=5,permit,open,2\n";
+    let yes = "decision=allow\ncounts=1,0,0,0,0,0,0,0\nwhy=5\nnode=0,lit,1\npolicy=5,permit,true,0\n";
+    let no = "decision=deny\ncounts=0,1,0,0,0,0,0,0\nwhy=none\nvalue=bool,0\nnode=0,lit,8\npolicy=5,permit,false,0\n";
+    let open =
+        "decision=open\ncounts=0,0,0,1,0,0,0,0\nwhy=none\nnode=2,lit,0\nnode=2,lit,3\nnode=0,in,0,1\npolicy=5,permit,open,2\n";
     for (entities, answer) in [
         ("entity=0,?,?,4\nentity=2,?,?,5\nentity=3,?,?,7\n", yes),
         ("entity=0,?,?,4\nentity=2,?,?,5\nentity=3,?,?,6\n", yes),

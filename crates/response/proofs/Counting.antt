@@ -174,15 +174,15 @@ any-same f f′ g g′ p q [] = refl
 any-same f f′ g g′ p q (l ∷ ls) =
     ap₂ _||_ (ap₂ _&&_ (p (l .effect)) (q (l .class))) (any-same f f′ g g′ p q ls)
 
-is-permit : (e : Effect) → effectIs PERMIT e ≡ isPermit e
+pub is-permit : (e : Effect) → effectIs PERMIT e ≡ isPermit e
 is-permit permit = refl
 is-permit forbid = refl
 
-is-forbid : (e : Effect) → effectIs FORBID e ≡ isForbid e
+pub is-forbid : (e : Effect) → effectIs FORBID e ≡ isForbid e
 is-forbid permit = refl
 is-forbid forbid = refl
 
-is-true : (c : Class) → classIs CLASS-TRUE c ≡ isTrue c
+pub is-true : (c : Class) → classIs CLASS-TRUE c ≡ isTrue c
 is-true ctrue = refl
 is-true cfalse = refl
 is-true cerror = refl

@@ -1,5 +1,6 @@
 -- How long an answer can be: all of it can be counted, so that a call returns its length. Assumes nothing.
 use mathlib.Core.Path.{_≡_, _∙_, ap}
+use mathlib.Core.Option.{none, some}
 use mathlib.Core.List.{List, [], _∷_, _++_}
 use Prim.Native.Nat.{ℕ, _+_, _*_, _≤_, _<_}
 use native.Mathlib.Omega.{arith}
@@ -10,7 +11,8 @@ use Rattle.sheet.specs.Ascii.{ascii}
 use Rattle.sheet.specs.Bytes.{digits}
 use Rattle.sheet.specs.Forms.{at, TYPE, NODE}
 use Rattle.sheet.specs.Sheet.{firsts}
-use Rattle.sheet.specs.Answer.{printed, concat, numbers, decisionWord, effectWord, classWord, countsOf, headLines, policyItems, completeLines}
+use Rattle.sheet.specs.Answer.{printed, concat, numbers, decisionWord, effectWord, classWord, countsOf, policyItems, completeLines, headLines}
+use Rattle.sheet.specs.Why.{Name, whyItem}
 use Rattle.sheet.proofs.AnswerRead.{firsts-length}
 use Rattle.table.specs.Layout.{RUN, rowsOf, MADE}
 use Rattle.table.proofs.Rows.{count-rows}
@@ -30,14 +32,22 @@ decision-most allow = omega arith
 decision-most deny = omega arith
 decision-most undecided = omega arith
 
-head-most : (ls : List Verdict) → length (concat (headLines ls)) ≤ 200
-head-most ls =
+name-most : (name : Name) → length (whyItem name) ≤ 20
+name-most none = omega arith
+name-most (some i) = digits-few i
+
+head-most : (name : Name) (ls : List Verdict) → length (concat (headLines name ls)) ≤ 230
+head-most name ls =
     let d : List (List ℕ) = ascii (decisionWord (decision ls)) ∷ [] in
+    let n : List (List ℕ) = numbers (countsOf ls) in
+    let w : List (List ℕ) = whyItem name ∷ [] in
     let a : length (printed "decision" d) ≤ 8 + weigh d + 2 = printed-most "decision" d in
-    let b : length (printed "counts" (numbers (countsOf ls))) ≤ 6 + weigh (numbers (countsOf ls)) + 2 = printed-most "counts" (numbers (countsOf ls)) in
-    let c : weigh (numbers (countsOf ls)) ≤ 21 * 8 = numbers-most (countsOf ls) in
+    let b : length (printed "counts" n) ≤ 6 + weigh n + 2 = printed-most "counts" n in
+    let c : weigh n ≤ 21 * 8 = numbers-most (countsOf ls) in
     let e = decision-most (decision ls) in
-    omega (arith, a, b, c, e, length-append (printed "decision" d) (printed "counts" (numbers (countsOf ls)) ++ []), length-append (printed "counts" (numbers (countsOf ls))) [])
+    let f : length (printed "why" w) ≤ 3 + weigh w + 2 = printed-most "why" w in
+    let g = name-most name in
+    omega (arith, a, b, c, e, f, g, length-append (printed "decision" d) (printed "counts" n ++ (printed "why" w ++ [])), length-append (printed "counts" n) (printed "why" w ++ []), length-append (printed "why" w) [])
 
 -- ---- policies
 
@@ -65,13 +75,13 @@ complete-most (i ∷ is) (l ∷ ls) =
     omega (arith, a, h, length-append (printed "policy" (policyItems i (l .effect) (l .class) [])) (concat (completeLines is ls)))
 
 -- A COMPLETE ANSWER CAN BE COUNTED: the word that says how many policies there are has 32 bits
-pub complete-counted : (a cs : List ℕ) → getD a RUN 0 < 4294967296 → length (completeBytes a cs) ≤ greatest
+pub complete-counted : (name : Name) (a cs : List ℕ) → getD a RUN 0 < 4294967296 → length (completeBytes name a cs) ≤ greatest
 unfolding completeBytes policyLines
-complete-counted a cs h =
+complete-counted name a cs h =
     let p : length (firsts (rowsOf a RUN)) ≡ getD a RUN 0 = firsts-length (rowsOf a RUN) ∙ count-rows a RUN in
-    let b = head-most (verdictsIn a cs) in
+    let b = head-most name (verdictsIn a cs) in
     let d = complete-most (firsts (rowsOf a RUN)) (verdictsIn a cs) in
-    omega (arith, p, b, d, ap length (concat-append (headLines (verdictsIn a cs)) (completeLines (firsts (rowsOf a RUN)) (verdictsIn a cs))), length-append (concat (headLines (verdictsIn a cs))) (concat (completeLines (firsts (rowsOf a RUN)) (verdictsIn a cs))))
+    omega (arith, p, b, d, ap length (concat-append (headLines name (verdictsIn a cs)) (completeLines (firsts (rowsOf a RUN)) (verdictsIn a cs))), length-append (concat (headLines name (verdictsIn a cs))) (concat (completeLines (firsts (rowsOf a RUN)) (verdictsIn a cs))))
 
 -- ---- policies with roots
 
@@ -84,13 +94,13 @@ rooted-most (r ∷ rs) cs es =
     omega (arith, p, i, digits-few (getD es 0 0), length-append (printed "policy" (policyItems (at r 0) (effectIn r) (classIn (getD cs 0 0)) d)) (concat (rootedOf rs (drop 1 cs) (drop 1 es))))
 
 -- A PARTIAL ANSWER CAN BE COUNTED: a slice of 16,384 words at most, a log of as many, and words of 32 bits that say how many values and policies there are
-pub partial-counted : (a l cs es : List ℕ) → length a ≤ 16384 → length l ≤ 16384 → getD a RUN 0 < 4294967296 → getD a MADE 0 < 4294967296 → length (partialBytes a l cs es) ≤ greatest
+pub partial-counted : (name : Name) (a l cs es : List ℕ) → length a ≤ 16384 → length l ≤ 16384 → getD a RUN 0 < 4294967296 → getD a MADE 0 < 4294967296 → length (partialBytes name a l cs es) ≤ greatest
 unfolding partialBytes rootedLines
-partial-counted a l cs es h k p q =
+partial-counted name a l cs es h k p q =
     let n : List ℕ = concat (logLines (rowsOf a TYPE) (rowsOf a NODE) l) in
     let o : List ℕ = concat (rootedLines a cs es) in
-    let b = head-most (verdictsIn a cs) in
+    let b = head-most name (verdictsIn a cs) in
     let d = made-most a h in
     let e = log-most a h l k in
     let f = rooted-most (rowsOf a RUN) cs es in
-    omega (arith, b, d, e, f, k, count-rows a RUN, length-append (concat (headLines (verdictsIn a cs))) (madeLines a ++ (n ++ o)), length-append (madeLines a) (n ++ o), length-append n o)
+    omega (arith, b, d, e, f, k, count-rows a RUN, length-append (concat (headLines name (verdictsIn a cs))) (madeLines a ++ (n ++ o)), length-append (madeLines a) (n ++ o), length-append n o)

@@ -1,4 +1,5 @@
 pub mod Counting
+pub mod Naming
 pub mod Printing
 pub mod Wording
 pub mod Rooted

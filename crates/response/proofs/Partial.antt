@@ -18,7 +18,8 @@ use Rattle.sheet.specs.Forms.{Mode, partial, at, TYPE, VALUE, NODE, noKey}
 use Rattle.sheet.specs.State.{State, linesOf, count, TypeRow, bool, long, string, entity, set′, record′, typeRow}
 use Rattle.sheet.specs.Content.{tyOver, tysFrom, types, rowsIn, numberedPolicies, onTerm, nPolicies, schema, nEnv, trees, valueRows}
 use Rattle.sheet.specs.Sheet.{firsts}
-use Rattle.sheet.specs.Answer.{printed, concat, policyItems, headLines, partialLines, valueLines, root, size, typeNumber, residualRows, nodeLines, ids, run, partialOf, answer}
+use Rattle.sheet.specs.Answer.{printed, concat, policyItems, partialLines, valueLines, root, size, typeNumber, residualRows, nodeLines, ids, run, headLines, partialOf, answer}
+use Rattle.sheet.specs.Why.{Name, reasons, Named}
 use Rattle.sheet.proofs.Lines.{History}
 use Rattle.sheet.proofs.TypeNumbers.{types-length, number-again}
 use Rattle.table.specs.Layout.{RUN, rowsOf, linesHeld, held, MADE}
@@ -32,6 +33,7 @@ use Rattle.listing.proofs.Printing.{concat-append}
 use Rattle.listing.proofs.TreeRows.{rowsAll}
 use Rattle.listing.proofs.LogTrees.{treesIn, residual-rows, log-lines}
 use Rattle.response.specs.Verdicts.{classIn, effectIn, verdictsOf, verdictsIn}
+use Rattle.response.specs.Naming.{idsIn}
 use Rattle.response.specs.Printed.{rootedOf, rootedLines, partialBytes}
 
 -- ---- values: the rows after the sheet's
@@ -187,21 +189,29 @@ module _ (sheet a₀ b₀ : List ℕ) (h : History partial (held sheet a₀ b₀
       rooted-words 0 (rowsOf a RUN) cs es (x .lines) (w .verdicts) (w .roots)
       ∙ ap (λ (rs : List (List ℕ)). partialLines 0 (firsts rs) (x .lines)) (w .same RUN (omega arith) ∙ runs)
 
+  ids-are : idsIn a ≡ ids s
+  unfolding idsIn
+  ids-are = ap firsts (w .same RUN (omega arith) ∙ runs)
+
+  -- what may be named
+  pub names-held : (name : Name) → Named (reasons (idsIn a) (verdictsIn a cs)) name → Named (reasons (ids s) (verdicts (x .lines))) name
+  names-held name n = subst (λ (is : List ℕ). Named (reasons is (verdicts (x .lines))) name) ids-are (subst (λ (ls : List Verdict). Named (reasons (idsIn a) ls) name) (w .verdicts) n)
+
   -- THE BYTES ARE THOSE OF THE DEFINITION
-  pub partial-held : partialBytes a l cs es ≡ partialOf s x
+  pub partial-held : (name : Name) → partialBytes name a l cs es ≡ partialOf name s x
   unfolding partialBytes
-  partial-held =
-      let H : List (List ℕ) = headLines (verdicts (x .lines)) in
+  partial-held name =
+      let H : List (List ℕ) = headLines name (verdicts (x .lines)) in
       let M : List (List ℕ) = valueLines (drop (count s VALUE) (x .rows)) in
       let N : List (List ℕ) = nodeLines (residualRows (types s) 0 (x .lines)) in
       let P : List (List ℕ) = partialLines 0 (ids s) (x .lines) in
-      ap₂ (λ (k m : List ℕ). k ++ (m ++ (concat (logLines (rowsOf a TYPE) (rowsOf a NODE) l) ++ concat (rootedLines a cs es)))) (ap (λ (v : List Verdict). concat (headLines v)) (w .verdicts)) made-are
+      ap₂ (λ (k m : List ℕ). k ++ (m ++ (concat (logLines (rowsOf a TYPE) (rowsOf a NODE) l) ++ concat (rootedLines a cs es)))) (ap (λ (v : List Verdict). concat (headLines name v)) (w .verdicts)) made-are
       ∙ ap₂ (λ (k m : List (List ℕ)). concat H ++ (concat M ++ (concat k ++ concat m))) nodes-are policies-are
       ∙ sym (concat-append (H ++ M ++ N) P ∙ ap (λ (k : List ℕ). k ++ concat P) (concat-append (H ++ M) N ∙ ap (λ (k : List ℕ). k ++ concat N) (concat-append H M))
       ∙ append-assoc (concat H ++ concat M) (concat N) (concat P) ∙ append-assoc (concat H) (concat M) (concat N ++ concat P))
 
 -- of the sheet's own run they are the answer
-pub partial-answer : (sheet a₀ b₀ : List ℕ) → History partial (held sheet a₀ b₀) → rowsOf a₀ RUN ≡ onTerm (held sheet a₀ b₀) → (a l cs es : List ℕ) → RunWords sheet a₀ (run partial (held sheet a₀ b₀)) a l cs es
-    → partialBytes a l cs es ≡ answer partial (held sheet a₀ b₀)
+pub partial-answer : (name : Name) (sheet a₀ b₀ : List ℕ) → History partial (held sheet a₀ b₀) → rowsOf a₀ RUN ≡ onTerm (held sheet a₀ b₀) → (a l cs es : List ℕ) → RunWords sheet a₀ (run partial (held sheet a₀ b₀)) a l cs es
+    → partialBytes name a l cs es ≡ answer name partial (held sheet a₀ b₀)
 unfolding answer
-partial-answer sheet a₀ b₀ h runs a l cs es w = partial-held sheet a₀ b₀ h runs (run partial (held sheet a₀ b₀)) a l cs es w
+partial-answer name sheet a₀ b₀ h runs a l cs es w = partial-held sheet a₀ b₀ h runs (run partial (held sheet a₀ b₀)) a l cs es w name

@@ -11,7 +11,8 @@ use Rattle.sheet.specs.Bytes.{digits, commas}
 use Rattle.sheet.specs.Forms.{at}
 use Rattle.sheet.specs.Sheet.{firsts}
 use Rattle.sheet.specs.Content.{onTerm}
-use Rattle.sheet.specs.Answer.{printed, concat, numbers, countsOf, headLines, effectWord, classWord, completeLines, completeOf}
+use Rattle.sheet.specs.Answer.{printed, concat, numbers, countsOf, effectWord, classWord, completeLines, headLines, completeOf}
+use Rattle.sheet.specs.Why.{Name, whyItem}
 use Rattle.forms.specs.Tags.{PERMIT, FORBID}
 use Rattle.table.specs.Layout.{RUN, rowsOf, held}
 use Rattle.table.proofs.Rows.{count-rows}
@@ -69,11 +70,11 @@ module _ (was is : List ℕ) (at next : ℕ) (ls : List Verdict) where
       → Written w₂ k₂ (listed 44 (fourOf FORBID ls)) w₃ k₃ → Written w₃ k₃ (10 ∷ []) is next → Written was at (printed "counts" (numbers (countsOf ls))) is next
   counts-line w₁ w₂ w₃ k₁ k₂ k₃ a b c d = written-as (written-append a (written-append b (written-append c d))) (counts-text ls)
 
-  pub head-lines : (d : D.Decision) (mid : List ℕ) (m : ℕ) → decisionOf d ≡ decision ls → Written was at (decisionBytes (decisionOf d)) mid m
-      → Written mid m (printed "counts" (numbers (countsOf ls))) is next → Written was at (concat (headLines ls)) is next
-  head-lines d mid m e v w =
-      written-as (written-append v w)
-      (ap₂ (λ (k l : List ℕ). k ++ l) (ap decisionBytes e) (sym (append-nil (printed "counts" (numbers (countsOf ls))))))
+  pub head-lines : (name : Name) (d : D.Decision) (w₁ w₂ : List ℕ) (k₁ k₂ : ℕ) → decisionOf d ≡ decision ls → Written was at (decisionBytes (decisionOf d)) w₁ k₁
+      → Written w₁ k₁ (printed "counts" (numbers (countsOf ls))) w₂ k₂ → Written w₂ k₂ (printed "why" (whyItem name ∷ [])) is next → Written was at (concat (headLines name ls)) is next
+  head-lines name d w₁ w₂ k₁ k₂ e u v w =
+      written-as (written-append u (written-append v w))
+      (ap₂ (λ (k l : List ℕ). k ++ (printed "counts" (numbers (countsOf ls)) ++ l)) (ap decisionBytes e) (sym (append-nil (printed "why" (whyItem name ∷ [])))))
 
 -- ---- a policy
 
@@ -124,12 +125,12 @@ module _ (a cs : List ℕ) (n : ℕ) (en : n ≡ getD a RUN 0) where
     pub policies-end : n ≤ i → Written was at (concat (policyLines a cs)) is next
     policies-end h = printing-end p (rw (spent (rowsOf a RUN) i (omega (arith, many))))
 
-pub complete-is : (was mid is : List ℕ) (at m next : ℕ) (a cs : List ℕ) → Written was at (concat (headLines (verdictsIn a cs))) mid m → Written mid m (concat (policyLines a cs)) is next
-    → Written was at (completeBytes a cs) is next
+pub complete-is : (name : Name) (was mid is : List ℕ) (at m next : ℕ) (a cs : List ℕ) → Written was at (concat (headLines name (verdictsIn a cs))) mid m → Written mid m (concat (policyLines a cs)) is next
+    → Written was at (completeBytes name a cs) is next
 unfolding completeBytes
-complete-is was mid is at m next a cs v w = written-as (written-append v w) (sym (concat-append (headLines (verdictsIn a cs)) (policyLines a cs)))
+complete-is name was mid is at m next a cs v w = written-as (written-append v w) (sym (concat-append (headLines name (verdictsIn a cs)) (policyLines a cs)))
 
 -- the bytes are those of the definition, over the state that the words hold
-pub complete-held : (sheet a b : List ℕ) → rowsOf a RUN ≡ onTerm (held sheet a b) → (cs : List ℕ) → completeBytes a cs ≡ completeOf (held sheet a b) (verdictsIn a cs)
+pub complete-held : (name : Name) (sheet a b : List ℕ) → rowsOf a RUN ≡ onTerm (held sheet a b) → (cs : List ℕ) → completeBytes name a cs ≡ completeOf name (held sheet a b) (verdictsIn a cs)
 unfolding completeBytes policyLines
-complete-held sheet a b runs cs = ap (λ (l : List (List ℕ)). concat (headLines (verdictsIn a cs) ++ completeLines (firsts l) (verdictsIn a cs))) runs
+complete-held name sheet a b runs cs = ap (λ (l : List (List ℕ)). concat (headLines name (verdictsIn a cs) ++ completeLines (firsts l) (verdictsIn a cs))) runs

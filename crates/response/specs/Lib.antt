@@ -1,3 +1,4 @@
 pub mod Verdicts
+pub mod Naming
 pub mod Printed
 pub mod Runs

@@ -7,7 +7,8 @@ use Rattle.sheet.specs.Ascii.{ascii}
 use Rattle.sheet.specs.Bytes.{digits, commas}
 use Rattle.sheet.specs.Forms.{at, TYPE, NODE}
 use Rattle.sheet.specs.Sheet.{firsts}
-use Rattle.sheet.specs.Answer.{howMany, decisionWord, printed, concat, headLines, policyItems, completeLines}
+use Rattle.sheet.specs.Answer.{howMany, decisionWord, printed, concat, policyItems, completeLines, headLines}
+use Rattle.sheet.specs.Why.{Name}
 use Rattle.residual.specs.Classes.{CLASS-TRUE, CLASS-FALSE, CLASS-ERROR, CLASS-OPEN}
 use Rattle.table.specs.Layout.{RUN, rowsOf}
 use Rattle.listing.specs.Values.{madeLines}
@@ -48,9 +49,9 @@ policyAt a cs i = policyOf (getD (rowsOf a RUN) i []) (getD cs i 0)
 unfoldable pub policyLines : List ℕ → List ℕ → List (List ℕ)
 policyLines a cs = completeLines (firsts (rowsOf a RUN)) (verdictsIn a cs)
 
--- a complete answer
-unfoldable pub completeBytes : List ℕ → List ℕ → List ℕ
-completeBytes a cs = concat (headLines (verdictsIn a cs) ++ policyLines a cs)
+-- a complete answer that carries this name
+unfoldable pub completeBytes : Name → List ℕ → List ℕ → List ℕ
+completeBytes name a cs = concat (headLines name (verdictsIn a cs) ++ policyLines a cs)
 
 -- the policies of a partial answer: rows, and a word of class and the number of the root for each
 abbrev pub rootedOf : List (List ℕ) → List ℕ → List ℕ → List (List ℕ)
@@ -60,7 +61,7 @@ rootedOf (r ∷ rs) cs es = printed "policy" (policyItems (at r 0) (effectIn r) 
 unfoldable pub rootedLines : List ℕ → List ℕ → List ℕ → List (List ℕ)
 rootedLines a cs es = rootedOf (rowsOf a RUN) cs es
 
--- a partial answer: the words of the sheet and of what was made, the log, a class and the number of a root for each policy
-unfoldable pub partialBytes : List ℕ → List ℕ → List ℕ → List ℕ → List ℕ
-partialBytes a l cs es =
-    concat (headLines (verdictsIn a cs)) ++ (madeLines a ++ (concat (logLines (rowsOf a TYPE) (rowsOf a NODE) l) ++ concat (rootedLines a cs es)))
+-- a partial answer that carries this name: the words of the sheet and of what was made, the log, a class and the number of a root for each policy
+unfoldable pub partialBytes : Name → List ℕ → List ℕ → List ℕ → List ℕ → List ℕ
+partialBytes name a l cs es =
+    concat (headLines name (verdictsIn a cs)) ++ (madeLines a ++ (concat (logLines (rowsOf a TYPE) (rowsOf a NODE) l) ++ concat (rootedLines a cs es)))

@@ -1,4 +1,4 @@
-// The decision, the counts and the policies printed from a place of the lent buffer on. Each call gives the place after its bytes.
+// The decision, the counts, the name and the policies printed from a place of the lent buffer on. Each call gives the place after its bytes.
 use crate::Decision;
 use crate::class_of;
 use crate::counts_in;
@@ -23,8 +23,10 @@ ghost use lib.ListN.{getD};
 ghost use Rattle.table.specs.Layout.{RUN, rowsOf};
 ghost use Rattle.print.specs.Written.{Written};
 ghost use Rattle.sheet.specs.Bytes.{digits};
-ghost use Rattle.sheet.specs.Answer.{printed, numbers, countsOf, headLines, concat};
+ghost use Rattle.sheet.specs.Answer.{printed, numbers, countsOf, concat, headLines};
+ghost use Rattle.sheet.specs.Why.{whyItem};
 ghost use Rattle.response.specs.Verdicts.{verdictsIn, decisionOf};
+ghost use Rattle.response.specs.Naming.{nameAt};
 ghost use Rattle.response.specs.Printed.{idBytes, decisionBytes, effectBytes, classBytes, listed, fourOf, policyAt, policyLines, completeBytes, rootedLines, partialBytes};
 
 // The line of the decision.
@@ -65,13 +67,27 @@ pub fn counts_line(out: &mut [u8], at: usize, rows: &[u32], classes: &[u32]) -> 
     byte(out, m, b'\n')
 }
 
+// The line of the name: the id of the policy, or `none` where there is no such policy.
+pub fn why_line(out: &mut [u8], at: usize, rows: &[u32], policy: u32) -> usize
+    ensures { λ r. ⌜ Written (now (out .entry)) at (printed "why" (whyItem (nameAt (now (rows .entry)) policy) ∷ [])) (now (out .exit)) r ⌝ }
+{
+    if policy < count(rows, RUN) {
+        let x = item(row(rows, RUN, policy), 1) as u64;
+        let k = bytes(out, at, b"why");
+        let l = number_after(out, k, b'=', x);
+        return byte(out, l, b'\n');
+    }
+    bytes(out, at, b"why=none\n")
+}
+
 // The lines that every answer begins with.
-pub fn head(out: &mut [u8], at: usize, rows: &[u32], classes: &[u32]) -> usize
-    ensures { λ r. ⌜ Written (now (out .entry)) at (concat (headLines (verdictsIn (now (rows .entry)) (now (classes .entry))))) (now (out .exit)) r ⌝ }
+pub fn head(out: &mut [u8], at: usize, rows: &[u32], classes: &[u32], policy: u32) -> usize
+    ensures { λ r. ⌜ Written (now (out .entry)) at (concat (headLines (nameAt (now (rows .entry)) policy) (verdictsIn (now (rows .entry)) (now (classes .entry))))) (now (out .exit)) r ⌝ }
 {
     let d = decision_of(rows, classes);
     let k = decision_line(out, at, d);
-    counts_line(out, k, rows, classes)
+    let l = counts_line(out, k, rows, classes);
+    why_line(out, l, rows, policy)
 }
 
 // An effect after a comma.
@@ -127,11 +143,11 @@ pub fn policies(out: &mut [u8], at: usize, rows: &[u32], classes: &[u32]) -> usi
     k
 }
 
-// A complete answer.
-pub fn complete(out: &mut [u8], at: usize, rows: &[u32], classes: &[u32]) -> usize
-    ensures { λ r. ⌜ Written (now (out .entry)) at (completeBytes (now (rows .entry)) (now (classes .entry))) (now (out .exit)) r ⌝ }
+// A complete answer that names this policy.
+pub fn complete(out: &mut [u8], at: usize, rows: &[u32], classes: &[u32], policy: u32) -> usize
+    ensures { λ r. ⌜ Written (now (out .entry)) at (completeBytes (nameAt (now (rows .entry)) policy) (now (rows .entry)) (now (classes .entry))) (now (out .exit)) r ⌝ }
 {
-    let k = head(out, at, rows, classes);
+    let k = head(out, at, rows, classes, policy);
     policies(out, k, rows, classes)
 }
 
@@ -165,7 +181,7 @@ pub fn rooted_policies(
     k
 }
 
-// A partial answer: `log` holds the residuals, `classes` and `roots` a word for each policy.
+// A partial answer that names this policy: `log` holds the residuals, `classes` and `roots` a word for each policy.
 pub fn partial(
     out: &mut [u8],
     at: usize,
@@ -173,10 +189,11 @@ pub fn partial(
     log: &[u32],
     classes: &[u32],
     roots: &[u32],
+    policy: u32,
 ) -> usize
-    ensures { λ r. ⌜ Written (now (out .entry)) at (partialBytes (now (rows .entry)) (now (log .entry)) (now (classes .entry)) (now (roots .entry))) (now (out .exit)) r ⌝ }
+    ensures { λ r. ⌜ Written (now (out .entry)) at (partialBytes (nameAt (now (rows .entry)) policy) (now (rows .entry)) (now (log .entry)) (now (classes .entry)) (now (roots .entry))) (now (out .exit)) r ⌝ }
 {
-    let k = head(out, at, rows, classes);
+    let k = head(out, at, rows, classes, policy);
     let l = made_values(out, k, rows);
     let m = node_lines(out, l, rows, log);
     rooted_policies(out, m, rows, classes, roots)

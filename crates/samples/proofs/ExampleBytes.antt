@@ -2,7 +2,7 @@
 -- partial sheet that makes a value and leaves a policy open, which two complete sheets that agree with it settle in different ways.
 use mathlib.Core.Path.{_≡_, refl}
 use mathlib.Core.Bool.{true}
-use mathlib.Core.Option.{some}
+use mathlib.Core.Option.{none, some}
 use mathlib.Core.List.{List, [], _∷_}
 use Prim.Native.Nat.{ℕ}
 use lib.IntN.{pos}
@@ -13,6 +13,7 @@ use Rattle.sheet.specs.Parents.{ancestors, unknownAbove}
 use Rattle.sheet.specs.Typing.{fitsIn, nodesUnder, typed}
 use Rattle.sheet.specs.Sheet.{found, depth, fault, more, read}
 use Rattle.sheet.specs.Content.{types, valueRows, contents, schema, trees, exprs, onTerm, nPolicies, policies, nEnv, env}
+use Rattle.sheet.specs.Why.{first, nobody, some-one}
 use Rattle.sheet.specs.Answer.{run, results, answer}
 use Rattle.sheet.specs.Call.{returned, written, Accepted}
 use Rattle.cedar.specs.Canonical.{order, same, place, insert, ascending, makeSet}
@@ -34,11 +35,11 @@ c = lineEnds (ascii "sheet=complete/text=Broker/text=Action/text=Tariff/text=quo
 
 p-accepted : Accepted partial p
 unfolding p keys forms formOf slotAt counted tagOf rowOf keyOf refs ascendings fitsIn nodesUnder typed found depth fault more read types valueRows contents schema trees exprs onTerm nPolicies policies nEnv env run results answer returned ancestors unknownAbove order same place insert ascending makeSet
-p-accepted = record { work₁ = 16384; work₂ = 20000; out = 16384; zero-number = refl }
+p-accepted = record { work₁ = 16384; work₂ = 20000; out = 16384; name = some 6; zero-number = refl }
 
 c-accepted : Accepted complete c
 unfolding c keys forms formOf slotAt counted tagOf rowOf keyOf refs ascendings fitsIn nodesUnder typed found depth fault more read types valueRows contents schema trees exprs onTerm nPolicies policies nEnv env run results answer returned ancestors unknownAbove order same place insert ascending makeSet
-c-accepted = record { work₁ = 16384; work₂ = 16384; out = 500; zero-number = refl }
+c-accepted = record { work₁ = 16384; work₂ = 16384; out = 500; name = some 6; zero-number = refl }
 
 they-agree : agrees (read partial p .state) (read complete c .state) ≡ true
 unfolding p c agrees keys forms formOf slotAt counted tagOf rowOf keyOf refs ascendings fitsIn nodesUnder typed found depth fault more read types valueRows contents schema trees exprs onTerm nPolicies policies nEnv env run results answer returned ancestors unknownAbove order same place insert ascending makeSet
@@ -64,15 +65,15 @@ high = lineEnds (ascii "sheet=complete/text=Broker/text=Action/text=Tariff/text=
 
 open-call : Answered partial open-sheet
 unfolding open-sheet keys forms formOf slotAt counted tagOf rowOf keyOf refs ascendings fitsIn nodesUnder typed found depth fault more read types valueRows contents schema trees exprs onTerm nPolicies policies nEnv env run results answer returned ancestors unknownAbove order same place insert ascending makeSet
-open-call = record { work₁ = 16384; work₂ = 20000; buffer = replicate 200 33; zero-number = refl }
+open-call = record { work₁ = 16384; work₂ = 20000; buffer = replicate 200 33; name = none; named = nobody; zero-number = refl }
 
 low-call : Answered complete low
 unfolding low keys forms formOf slotAt counted tagOf rowOf keyOf refs ascendings fitsIn nodesUnder typed found depth fault more read types valueRows contents schema trees exprs onTerm nPolicies policies nEnv env run results answer returned ancestors unknownAbove order same place insert ascending makeSet
-low-call = record { work₁ = 20000; work₂ = 16384; buffer = replicate 100 7; zero-number = refl }
+low-call = record { work₁ = 20000; work₂ = 16384; buffer = replicate 100 7; name = some 5; named = some-one first; zero-number = refl }
 
 high-call : Answered complete high
 unfolding high keys forms formOf slotAt counted tagOf rowOf keyOf refs ascendings fitsIn nodesUnder typed found depth fault more read types valueRows contents schema trees exprs onTerm nPolicies policies nEnv env run results answer returned ancestors unknownAbove order same place insert ascending makeSet
-high-call = record { work₁ = 16384; work₂ = 16384; buffer = replicate 300 0; zero-number = refl }
+high-call = record { work₁ = 16384; work₂ = 16384; buffer = replicate 300 0; name = none; named = nobody; zero-number = refl }
 
 pub low-agrees : agrees (read partial open-sheet .state) (read complete low .state) ≡ true
 unfolding open-sheet low agrees keys forms formOf slotAt counted tagOf rowOf keyOf refs ascendings fitsIn nodesUnder typed found depth fault more read types valueRows contents schema trees exprs onTerm nPolicies policies nEnv env run results answer returned ancestors unknownAbove order same place insert ascending makeSet
@@ -92,6 +93,7 @@ line i c n = record { id = i; effect = permit; class = c; root = n }
 open-says : readAnswer partial (bytesOf open-call) ≡ some (record {
   decision = undecided;
   counts = 0 ∷ 0 ∷ 0 ∷ 1 ∷ 0 ∷ 0 ∷ 0 ∷ 0 ∷ [];
+  why = none;
   made = rlong (pos 3) ∷ [];
   nodes = (23 ∷ 3 ∷ 3 ∷ []) ∷ (41 ∷ 2 ∷ 0 ∷ 6 ∷ []) ∷ (21 ∷ 2 ∷ 2 ∷ []) ∷ (27 ∷ 0 ∷ 1 ∷ 2 ∷ []) ∷ [];
   policies = line 5 copen 3 ∷ [];
@@ -99,10 +101,10 @@ open-says : readAnswer partial (bytesOf open-call) ≡ some (record {
 unfolding open-sheet open-call readAnswer written keys forms formOf slotAt counted tagOf rowOf keyOf refs ascendings fitsIn nodesUnder typed found depth fault more read types valueRows contents schema trees exprs onTerm nPolicies policies nEnv env run results answer returned ancestors unknownAbove order same place insert ascending makeSet
 open-says = refl
 
-low-says : readAnswer complete (bytesOf low-call) ≡ some (record { decision = allow; counts = 1 ∷ 0 ∷ 0 ∷ 0 ∷ 0 ∷ 0 ∷ 0 ∷ 0 ∷ []; made = []; nodes = []; policies = line 5 ctrue 0 ∷ [] })
+low-says : readAnswer complete (bytesOf low-call) ≡ some (record { decision = allow; counts = 1 ∷ 0 ∷ 0 ∷ 0 ∷ 0 ∷ 0 ∷ 0 ∷ 0 ∷ []; why = some 5; made = []; nodes = []; policies = line 5 ctrue 0 ∷ [] })
 unfolding low low-call readAnswer written keys forms formOf slotAt counted tagOf rowOf keyOf refs ascendings fitsIn nodesUnder typed found depth fault more read types valueRows contents schema trees exprs onTerm nPolicies policies nEnv env run results answer returned ancestors unknownAbove order same place insert ascending makeSet
 low-says = refl
 
-high-says : readAnswer complete (bytesOf high-call) ≡ some (record { decision = deny; counts = 0 ∷ 1 ∷ 0 ∷ 0 ∷ 0 ∷ 0 ∷ 0 ∷ 0 ∷ []; made = []; nodes = []; policies = line 5 cfalse 0 ∷ [] })
+high-says : readAnswer complete (bytesOf high-call) ≡ some (record { decision = deny; counts = 0 ∷ 1 ∷ 0 ∷ 0 ∷ 0 ∷ 0 ∷ 0 ∷ 0 ∷ []; why = none; made = []; nodes = []; policies = line 5 cfalse 0 ∷ [] })
 unfolding high high-call readAnswer written keys forms formOf slotAt counted tagOf rowOf keyOf refs ascendings fitsIn nodesUnder typed found depth fault more read types valueRows contents schema trees exprs onTerm nPolicies policies nEnv env run results answer returned ancestors unknownAbove order same place insert ascending makeSet
 high-says = refl

@@ -2,6 +2,7 @@
 -- the firm's type, 5, and not the client's, 8. On the one complete sheet the firm has a size, on the other it has none. Assumes nothing.
 use mathlib.Core.Path.{_≡_, refl}
 use mathlib.Core.Bool.{true}
+use mathlib.Core.Option.{none, some}
 use mathlib.Core.List.{List}
 use Prim.Native.Nat.{ℕ}
 use lib.ListN.{replicate}
@@ -11,6 +12,7 @@ use Rattle.sheet.specs.Parents.{ancestors, unknownAbove}
 use Rattle.sheet.specs.Typing.{fitsIn, nodesUnder, typed}
 use Rattle.sheet.specs.Sheet.{found, depth, fault, more, read}
 use Rattle.sheet.specs.Content.{types, valueRows, contents, schema, trees, exprs, onTerm, nPolicies, policies, nEnv, env}
+use Rattle.sheet.specs.Why.{first, nobody, some-one}
 use Rattle.sheet.specs.Answer.{run, results, answer}
 use Rattle.sheet.specs.Call.{returned, written}
 use Rattle.cedar.specs.Canonical.{order, same, place, insert, ascending, makeSet}
@@ -30,15 +32,15 @@ unsized = lineEnds (ascii "sheet=complete/text=Person/text=Action/text=Firm/text
 
 client-call : Answered partial client
 unfolding client keys forms formOf slotAt counted tagOf rowOf keyOf refs ascendings fitsIn nodesUnder typed found depth fault more read types valueRows contents schema trees exprs onTerm nPolicies policies nEnv env run results answer returned ancestors unknownAbove order same place insert ascending makeSet
-client-call = record { work₁ = 16384; work₂ = 16384; buffer = replicate 200 0; zero-number = refl }
+client-call = record { work₁ = 16384; work₂ = 16384; buffer = replicate 200 0; name = none; named = nobody; zero-number = refl }
 
 sized-call : Answered complete sized
 unfolding sized keys forms formOf slotAt counted tagOf rowOf keyOf refs ascendings fitsIn nodesUnder typed found depth fault more read types valueRows contents schema trees exprs onTerm nPolicies policies nEnv env run results answer returned ancestors unknownAbove order same place insert ascending makeSet
-sized-call = record { work₁ = 16384; work₂ = 16384; buffer = replicate 100 0; zero-number = refl }
+sized-call = record { work₁ = 16384; work₂ = 16384; buffer = replicate 100 0; name = some 6; named = some-one first; zero-number = refl }
 
 unsized-call : Answered complete unsized
 unfolding unsized keys forms formOf slotAt counted tagOf rowOf keyOf refs ascendings fitsIn nodesUnder typed found depth fault more read types valueRows contents schema trees exprs onTerm nPolicies policies nEnv env run results answer returned ancestors unknownAbove order same place insert ascending makeSet
-unsized-call = record { work₁ = 16384; work₂ = 16384; buffer = replicate 100 0; zero-number = refl }
+unsized-call = record { work₁ = 16384; work₂ = 16384; buffer = replicate 100 0; name = none; named = nobody; zero-number = refl }
 
 pub sized-agrees : agrees (read partial client .state) (read complete sized .state) ≡ true
 unfolding client sized agrees keys forms formOf slotAt counted tagOf rowOf keyOf refs ascendings fitsIn nodesUnder typed found depth fault more read types valueRows contents schema trees exprs onTerm nPolicies policies nEnv env run results answer returned ancestors unknownAbove order same place insert ascending makeSet
@@ -52,14 +54,14 @@ three-in-groups : Demand3 client sized unsized (bytesOf client-call) (bytesOf si
 three-in-groups = demand-3-bytes client sized unsized client-call sized-call unsized-call sized-agrees unsized-agrees
 
 -- the three answers
-client-says : bytesOf client-call ≡ lineEnds (ascii "decision=open/counts=0,0,0,1,0,0,0,0/node=5,lit,1/node=0,haspath,0,10/policy=6,permit,open,1/")
+client-says : bytesOf client-call ≡ lineEnds (ascii "decision=open/counts=0,0,0,1,0,0,0,0/why=none/node=5,lit,1/node=0,haspath,0,10/policy=6,permit,open,1/")
 unfolding client client-call written keys forms formOf slotAt counted tagOf rowOf keyOf refs ascendings fitsIn nodesUnder typed found depth fault more read types valueRows contents schema trees exprs onTerm nPolicies policies nEnv env run results answer returned ancestors unknownAbove order same place insert ascending makeSet
 client-says = refl
 
-sized-says : bytesOf sized-call ≡ lineEnds (ascii "decision=allow/counts=1,0,0,0,0,0,0,0/policy=6,permit,true/")
+sized-says : bytesOf sized-call ≡ lineEnds (ascii "decision=allow/counts=1,0,0,0,0,0,0,0/why=6/policy=6,permit,true/")
 unfolding sized sized-call written keys forms formOf slotAt counted tagOf rowOf keyOf refs ascendings fitsIn nodesUnder typed found depth fault more read types valueRows contents schema trees exprs onTerm nPolicies policies nEnv env run results answer returned ancestors unknownAbove order same place insert ascending makeSet
 sized-says = refl
 
-unsized-says : bytesOf unsized-call ≡ lineEnds (ascii "decision=deny/counts=0,1,0,0,0,0,0,0/policy=6,permit,false/")
+unsized-says : bytesOf unsized-call ≡ lineEnds (ascii "decision=deny/counts=0,1,0,0,0,0,0,0/why=none/policy=6,permit,false/")
 unfolding unsized unsized-call written keys forms formOf slotAt counted tagOf rowOf keyOf refs ascendings fitsIn nodesUnder typed found depth fault more read types valueRows contents schema trees exprs onTerm nPolicies policies nEnv env run results answer returned ancestors unknownAbove order same place insert ascending makeSet
 unsized-says = refl

@@ -2,6 +2,7 @@
 -- policy is open with its broker in the slot's place, the second false as it is linked to another tariff, the third has no line on any answer. Assumes nothing.
 use mathlib.Core.Path.{_≡_, refl}
 use mathlib.Core.Bool.{true}
+use mathlib.Core.Option.{none, some}
 use mathlib.Core.List.{List}
 use Prim.Native.Nat.{ℕ}
 use lib.ListN.{replicate}
@@ -11,6 +12,7 @@ use Rattle.sheet.specs.Parents.{ancestors, unknownAbove}
 use Rattle.sheet.specs.Typing.{fitsIn, nodesUnder, typed}
 use Rattle.sheet.specs.Sheet.{found, depth, fault, more, read}
 use Rattle.sheet.specs.Content.{types, valueRows, contents, schema, trees, exprs, onTerm, nPolicies, policies, nEnv, env}
+use Rattle.sheet.specs.Why.{first, nobody, some-one}
 use Rattle.sheet.specs.Answer.{run, results, answer}
 use Rattle.sheet.specs.Call.{returned, written}
 use Rattle.cedar.specs.Canonical.{order, same, place, insert, ascending, makeSet}
@@ -33,15 +35,15 @@ second-broker = lineEnds (ascii "sheet=complete/text=Broker/text=Action/text=Tar
 
 one-rule-call : Answered partial one-rule
 unfolding one-rule keys forms formOf slotAt counted tagOf rowOf keyOf refs ascendings fitsIn nodesUnder typed found depth fault more read types valueRows contents schema trees exprs onTerm nPolicies policies nEnv env run results answer returned ancestors unknownAbove order same place insert ascending makeSet
-one-rule-call = record { work₁ = 16384; work₂ = 20000; buffer = replicate 200 33; zero-number = refl }
+one-rule-call = record { work₁ = 16384; work₂ = 20000; buffer = replicate 200 33; name = none; named = nobody; zero-number = refl }
 
 first-broker-call : Answered complete first-broker
 unfolding first-broker keys forms formOf slotAt counted tagOf rowOf keyOf refs ascendings fitsIn nodesUnder typed found depth fault more read types valueRows contents schema trees exprs onTerm nPolicies policies nEnv env run results answer returned ancestors unknownAbove order same place insert ascending makeSet
-first-broker-call = record { work₁ = 20000; work₂ = 16384; buffer = replicate 100 7; zero-number = refl }
+first-broker-call = record { work₁ = 20000; work₂ = 16384; buffer = replicate 100 7; name = some 5; named = some-one first; zero-number = refl }
 
 second-broker-call : Answered complete second-broker
 unfolding second-broker keys forms formOf slotAt counted tagOf rowOf keyOf refs ascendings fitsIn nodesUnder typed found depth fault more read types valueRows contents schema trees exprs onTerm nPolicies policies nEnv env run results answer returned ancestors unknownAbove order same place insert ascending makeSet
-second-broker-call = record { work₁ = 16384; work₂ = 16384; buffer = replicate 300 0; zero-number = refl }
+second-broker-call = record { work₁ = 16384; work₂ = 16384; buffer = replicate 300 0; name = none; named = nobody; zero-number = refl }
 
 pub first-broker-agrees : agrees (read partial one-rule .state) (read complete first-broker .state) ≡ true
 unfolding one-rule first-broker agrees keys forms formOf slotAt counted tagOf rowOf keyOf refs ascendings fitsIn nodesUnder typed found depth fault more read types valueRows contents schema trees exprs onTerm nPolicies policies nEnv env run results answer returned ancestors unknownAbove order same place insert ascending makeSet
@@ -55,14 +57,14 @@ three : Demand3 one-rule first-broker second-broker (bytesOf one-rule-call) (byt
 three = demand-3-bytes one-rule first-broker second-broker one-rule-call first-broker-call second-broker-call first-broker-agrees second-broker-agrees
 
 -- the three answers: two policies are left of three
-one-rule-says : bytesOf one-rule-call ≡ lineEnds (ascii "decision=open/counts=0,1,0,1,0,0,0,0/value=bool,1/value=bool,0/node=2,var,p/node=2,lit,0/node=0,eq,0,1/node=0,lit,6/policy=5,permit,open,2/policy=6,permit,false,3/")
+one-rule-says : bytesOf one-rule-call ≡ lineEnds (ascii "decision=open/counts=0,1,0,1,0,0,0,0/why=none/value=bool,1/value=bool,0/node=2,var,p/node=2,lit,0/node=0,eq,0,1/node=0,lit,6/policy=5,permit,open,2/policy=6,permit,false,3/")
 unfolding one-rule one-rule-call written keys forms formOf slotAt counted tagOf rowOf keyOf refs ascendings fitsIn nodesUnder typed found depth fault more read types valueRows contents schema trees exprs onTerm nPolicies policies nEnv env run results answer returned ancestors unknownAbove order same place insert ascending makeSet
 one-rule-says = refl
 
-first-broker-says : bytesOf first-broker-call ≡ lineEnds (ascii "decision=allow/counts=1,1,0,0,0,0,0,0/policy=5,permit,true/policy=6,permit,false/")
+first-broker-says : bytesOf first-broker-call ≡ lineEnds (ascii "decision=allow/counts=1,1,0,0,0,0,0,0/why=5/policy=5,permit,true/policy=6,permit,false/")
 unfolding first-broker first-broker-call written keys forms formOf slotAt counted tagOf rowOf keyOf refs ascendings fitsIn nodesUnder typed found depth fault more read types valueRows contents schema trees exprs onTerm nPolicies policies nEnv env run results answer returned ancestors unknownAbove order same place insert ascending makeSet
 first-broker-says = refl
 
-second-broker-says : bytesOf second-broker-call ≡ lineEnds (ascii "decision=deny/counts=0,2,0,0,0,0,0,0/policy=5,permit,false/policy=6,permit,false/")
+second-broker-says : bytesOf second-broker-call ≡ lineEnds (ascii "decision=deny/counts=0,2,0,0,0,0,0,0/why=none/policy=5,permit,false/policy=6,permit,false/")
 unfolding second-broker second-broker-call written keys forms formOf slotAt counted tagOf rowOf keyOf refs ascendings fitsIn nodesUnder typed found depth fault more read types valueRows contents schema trees exprs onTerm nPolicies policies nEnv env run results answer returned ancestors unknownAbove order same place insert ascending makeSet
 second-broker-says = refl

@@ -1,6 +1,7 @@
 -- Document 02, 2.6, on sheets small enough for a pencil, from bytes to bytes, by computation. `/` is a line end.
 use mathlib.Core.Path.{_≡_, refl}
 use mathlib.Core.Bool.{true}
+use mathlib.Core.Option.{none, some}
 use mathlib.Core.List.{List, [], _∷_, _++_}
 use Prim.Native.Nat.{ℕ, zero, suc}
 use Prim.Native.String.{String}
@@ -14,10 +15,11 @@ use Rattle.sheet.specs.Content.{types, valueRows, contents, schema, trees, expr
 use Rattle.sheet.specs.Answer.{run, results, answer, printed, numbers}
 use Rattle.sheet.specs.Call.{Returned, returned}
 use Rattle.sheet.specs.Agreement.{agrees}
+use Rattle.sheet.specs.Why.{first, nobody, some-one}
 use Rattle.sheet.specs.Demand3.{Answered, bytesOf, Demand3}
 use Rattle.cedar.specs.Canonical.{order, same, place, insert, ascending, makeSet}
 use Rattle.sheet.proofs.Demand3Answers.{demand-3-bytes}
-use Rattle.sheet.proofs.Shown.{lineEnds}
+use Rattle.sheet.proofs.Shown.{lineEnds, nameFor}
 
 abbrev bytes : String → List ℕ
 bytes s = lineEnds (ascii s)
@@ -30,7 +32,7 @@ abbrev shownFor : List ℕ → Returned → List ℕ
 shownFor a r = shownAs a (r .number) r
 
 unfoldable shown : Mode → List ℕ → List ℕ
-shown m sheet = shownFor (answer m (read m sheet .state)) (returned m 16384 16384 16384 sheet)
+shown m sheet = shownFor (answer (nameFor m (read m sheet .state)) m (read m sheet .state)) (returned (nameFor m (read m sheet .state)) m 16384 16384 16384 sheet)
 
 pub record Case : Type 0 where
   pub rest : String
@@ -69,18 +71,18 @@ turned = bytes "sheet=partial/" ++ texts ++ bytes "shape=1,-,2/shape=1,-/shape=1
 known : List Case
 known =
     -- a circle A, B, A: A in B, also B in A; A in C is known to be false
-    case "entity=0,5,5,8/entity=1,5,5,7/principal=0,?/action=1,3/resource=2,4/context=1,?/day=2000-01-01/node=2,lit,0/node=2,lit,1/node=0,in,0,1/policy=5,permit,2/" "decision=allow/counts=1,0,0,0,0,0,0,0/value=bool,1/node=0,lit,12/policy=5,permit,true,0/"
-    ∷ case "entity=0,5,5,8/entity=1,5,5,7/principal=0,?/action=1,3/resource=2,4/context=1,?/day=2000-01-01/node=2,lit,0/node=2,lit,2/node=0,in,0,1/policy=5,permit,2/" "decision=deny/counts=0,1,0,0,0,0,0,0/value=bool,0/node=0,lit,12/policy=5,permit,false,0/"
+    case "entity=0,5,5,8/entity=1,5,5,7/principal=0,?/action=1,3/resource=2,4/context=1,?/day=2000-01-01/node=2,lit,0/node=2,lit,1/node=0,in,0,1/policy=5,permit,2/" "decision=allow/counts=1,0,0,0,0,0,0,0/why=5/value=bool,1/node=0,lit,12/policy=5,permit,true,0/"
+    ∷ case "entity=0,5,5,8/entity=1,5,5,7/principal=0,?/action=1,3/resource=2,4/context=1,?/day=2000-01-01/node=2,lit,0/node=2,lit,2/node=0,in,0,1/policy=5,permit,2/" "decision=deny/counts=0,1,0,0,0,0,0,0/why=none/value=bool,0/node=0,lit,12/policy=5,permit,false,0/"
     -- A, B, C in a row, C without parents: A in C
-    ∷ case "entity=0,5,5,8/entity=1,5,5,9/entity=2,5,5,6/principal=0,?/action=1,3/resource=2,4/context=1,?/day=2000-01-01/node=2,lit,0/node=2,lit,2/node=0,in,0,1/policy=5,permit,2/" "decision=allow/counts=1,0,0,0,0,0,0,0/value=bool,1/node=0,lit,12/policy=5,permit,true,0/"
+    ∷ case "entity=0,5,5,8/entity=1,5,5,9/entity=2,5,5,6/principal=0,?/action=1,3/resource=2,4/context=1,?/day=2000-01-01/node=2,lit,0/node=2,lit,2/node=0,in,0,1/policy=5,permit,2/" "decision=allow/counts=1,0,0,0,0,0,0,0/why=5/value=bool,1/node=0,lit,12/policy=5,permit,true,0/"
     -- C unlisted, or its parents `?`: A has unknown ancestors, though it reaches C
-    ∷ case "entity=0,5,5,8/entity=1,5,5,9/principal=0,?/action=1,3/resource=2,4/context=1,?/day=2000-01-01/node=2,lit,0/node=2,lit,2/node=0,in,0,1/policy=5,permit,2/" "decision=open/counts=0,0,0,1,0,0,0,0/node=2,lit,0/node=2,lit,2/node=0,in,0,1/policy=5,permit,open,2/"
-    ∷ case "entity=0,5,5,8/entity=1,5,5,9/entity=2,5,5,?/principal=0,?/action=1,3/resource=2,4/context=1,?/day=2000-01-01/node=2,lit,0/node=2,lit,3/node=0,in,0,1/policy=5,permit,2/" "decision=open/counts=0,0,0,1,0,0,0,0/node=2,lit,0/node=2,lit,3/node=0,in,0,1/policy=5,permit,open,2/"
+    ∷ case "entity=0,5,5,8/entity=1,5,5,9/principal=0,?/action=1,3/resource=2,4/context=1,?/day=2000-01-01/node=2,lit,0/node=2,lit,2/node=0,in,0,1/policy=5,permit,2/" "decision=open/counts=0,0,0,1,0,0,0,0/why=none/node=2,lit,0/node=2,lit,2/node=0,in,0,1/policy=5,permit,open,2/"
+    ∷ case "entity=0,5,5,8/entity=1,5,5,9/entity=2,5,5,?/principal=0,?/action=1,3/resource=2,4/context=1,?/day=2000-01-01/node=2,lit,0/node=2,lit,3/node=0,in,0,1/policy=5,permit,2/" "decision=open/counts=0,0,0,1,0,0,0,0/why=none/node=2,lit,0/node=2,lit,3/node=0,in,0,1/policy=5,permit,open,2/"
     -- one parent known, the other unlisted: unknown; a circle of A alone: known
-    ∷ case "entity=0,5,5,11/entity=1,5,5,6/principal=0,?/action=1,3/resource=2,4/context=1,?/day=2000-01-01/node=2,lit,0/node=2,lit,3/node=0,in,0,1/policy=5,permit,2/" "decision=open/counts=0,0,0,1,0,0,0,0/node=2,lit,0/node=2,lit,3/node=0,in,0,1/policy=5,permit,open,2/"
-    ∷ case "entity=0,5,5,7/principal=0,?/action=1,3/resource=2,4/context=1,?/day=2000-01-01/node=2,lit,0/node=2,lit,3/node=0,in,0,1/policy=5,permit,2/" "decision=deny/counts=0,1,0,0,0,0,0,0/value=bool,0/node=0,lit,12/policy=5,permit,false,0/"
+    ∷ case "entity=0,5,5,11/entity=1,5,5,6/principal=0,?/action=1,3/resource=2,4/context=1,?/day=2000-01-01/node=2,lit,0/node=2,lit,3/node=0,in,0,1/policy=5,permit,2/" "decision=open/counts=0,0,0,1,0,0,0,0/why=none/node=2,lit,0/node=2,lit,3/node=0,in,0,1/policy=5,permit,open,2/"
+    ∷ case "entity=0,5,5,7/principal=0,?/action=1,3/resource=2,4/context=1,?/day=2000-01-01/node=2,lit,0/node=2,lit,3/node=0,in,0,1/policy=5,permit,2/" "decision=deny/counts=0,1,0,0,0,0,0,0/why=none/value=bool,0/node=0,lit,12/policy=5,permit,false,0/"
     -- the same row for a slot: A through its parents, D unlisted; the third is off term
-    ∷ case "entity=0,5,5,8/entity=1,5,5,9/entity=2,5,5,6/principal=0,?/action=1,3/resource=2,4/context=1,?/day=2000-01-01/node=2,slot,p/node=2,lit,2/node=0,in,0,1/policy=5,permit,2/policy=6,permit,2/policy=7,permit,2/link=0,0,-/link=1,3,-/link=2,2,-/term=2,1999-01-01,1999-12-31/" "decision=allow/counts=1,0,0,1,0,0,0,0/value=bool,1/node=0,lit,12/node=2,lit,3/node=2,lit,2/node=0,in,1,2/policy=5,permit,true,0/policy=6,permit,open,3/"
+    ∷ case "entity=0,5,5,8/entity=1,5,5,9/entity=2,5,5,6/principal=0,?/action=1,3/resource=2,4/context=1,?/day=2000-01-01/node=2,slot,p/node=2,lit,2/node=0,in,0,1/policy=5,permit,2/policy=6,permit,2/policy=7,permit,2/link=0,0,-/link=1,3,-/link=2,2,-/term=2,1999-01-01,1999-12-31/" "decision=allow/counts=1,0,0,1,0,0,0,0/why=5/value=bool,1/node=0,lit,12/node=2,lit,3/node=2,lit,2/node=0,in,1,2/policy=5,permit,true,0/policy=6,permit,open,3/"
     ∷ []
 
 known-parents : shownAll partial plain known ≡ saysAll known
@@ -90,9 +92,9 @@ known-parents = refl
 -- "On a complete sheet an unlisted one has no parents": A in B, A in C where B is unlisted, A in D at the end of a row with a circle
 settled : List Case
 settled =
-    case "entity=0,5,5,8/principal=0,4/action=1,3/resource=2,4/context=1,5/day=2000-01-01/node=2,lit,0/node=2,lit,1/node=0,in,0,1/policy=5,permit,2/" "decision=allow/counts=1,0,0,0,0,0,0,0/policy=5,permit,true/"
-    ∷ case "entity=0,5,5,8/principal=0,4/action=1,3/resource=2,4/context=1,5/day=2000-01-01/node=2,lit,0/node=2,lit,2/node=0,in,0,1/policy=5,permit,2/" "decision=deny/counts=0,1,0,0,0,0,0,0/policy=5,permit,false/"
-    ∷ case "value=set,0,3/entity=0,5,5,8/entity=1,5,5,9/entity=2,5,5,12/principal=0,4/action=1,3/resource=2,4/context=1,5/day=2000-01-01/node=2,lit,0/node=2,lit,3/node=0,in,0,1/policy=5,permit,2/" "decision=allow/counts=1,0,0,0,0,0,0,0/policy=5,permit,true/"
+    case "entity=0,5,5,8/principal=0,4/action=1,3/resource=2,4/context=1,5/day=2000-01-01/node=2,lit,0/node=2,lit,1/node=0,in,0,1/policy=5,permit,2/" "decision=allow/counts=1,0,0,0,0,0,0,0/why=5/policy=5,permit,true/"
+    ∷ case "entity=0,5,5,8/principal=0,4/action=1,3/resource=2,4/context=1,5/day=2000-01-01/node=2,lit,0/node=2,lit,2/node=0,in,0,1/policy=5,permit,2/" "decision=deny/counts=0,1,0,0,0,0,0,0/why=none/policy=5,permit,false/"
+    ∷ case "value=set,0,3/entity=0,5,5,8/entity=1,5,5,9/entity=2,5,5,12/principal=0,4/action=1,3/resource=2,4/context=1,5/day=2000-01-01/node=2,lit,0/node=2,lit,3/node=0,in,0,1/policy=5,permit,2/" "decision=allow/counts=1,0,0,0,0,0,0,0/why=5/policy=5,permit,true/"
     ∷ []
 
 settled-parents : shownAll complete whole settled ≡ saysAll settled
@@ -140,15 +142,15 @@ apart = whole ++ bytes "entity=0,5,5,8/entity=1,5,5,7/entity=2,5,5,6/entity=3,5,
 
 open-call : Answered partial open-sheet
 unfolding open-sheet plain texts values keys forms formOf slotAt counted tagOf rowOf keyOf refs ascendings fitsIn nodesUnder typed found depth fault more read types valueRows contents schema trees exprs onTerm nPolicies policies nEnv env run results answer returned ancestors unknownAbove order same place insert ascending makeSet
-open-call = record { work₁ = 16384; work₂ = 20000; buffer = replicate 300 33; zero-number = refl }
+open-call = record { work₁ = 16384; work₂ = 20000; buffer = replicate 300 33; name = none; named = nobody; zero-number = refl }
 
 below-call : Answered complete below
 unfolding below whole texts values keys forms formOf slotAt counted tagOf rowOf keyOf refs ascendings fitsIn nodesUnder typed found depth fault more read types valueRows contents schema trees exprs onTerm nPolicies policies nEnv env run results answer returned ancestors unknownAbove order same place insert ascending makeSet
-below-call = record { work₁ = 16384; work₂ = 16384; buffer = replicate 300 33; zero-number = refl }
+below-call = record { work₁ = 16384; work₂ = 16384; buffer = replicate 300 33; name = some 6; named = some-one first; zero-number = refl }
 
 apart-call : Answered complete apart
 unfolding apart whole texts values keys forms formOf slotAt counted tagOf rowOf keyOf refs ascendings fitsIn nodesUnder typed found depth fault more read types valueRows contents schema trees exprs onTerm nPolicies policies nEnv env run results answer returned ancestors unknownAbove order same place insert ascending makeSet
-apart-call = record { work₁ = 16384; work₂ = 16384; buffer = replicate 300 33; zero-number = refl }
+apart-call = record { work₁ = 16384; work₂ = 16384; buffer = replicate 300 33; name = some 5; named = some-one first; zero-number = refl }
 
 below-agrees : agrees (read partial open-sheet .state) (read complete below .state) ≡ true
 unfolding open-sheet below plain whole texts values agrees keys forms formOf slotAt counted tagOf rowOf keyOf refs ascendings fitsIn nodesUnder typed found depth fault more read ancestors unknownAbove

@@ -43,7 +43,7 @@ unfolding head two shown keys forms formOf slotAt counted tagOf rowOf keyOf refs
 links-repeat = refl
 
 -- "Up to 64 lines"
-links-most : shown (head ++ all ++ links) ≡ bytes "decision=allow/counts=64,0,0,0,0,0,0,0/node=0,lit,0/node=0,lit,0/node=0,lit,0/node=0,lit,0/node=0,lit,0/node=0,lit,0/node=0,lit,0/node=0,lit,0/node=0,lit,0/node=0,lit,0/node=0,lit,0/node=0,lit,0/node=0,lit,0/node=0,lit,0/node=0,lit,0/node=0,lit,0/node=0,lit,0/node=0,lit,0/node=0,lit,0/node=0,lit,0/node=0,lit,0/node=0,lit,0/node=0,lit,0/node=0,lit,0/node=0,lit,0/node=0,lit,0/node=0,lit,0/node=0,lit,0/node=0,lit,0/node=0,lit,0/node=0,lit,0/node=0,lit,0/node=0,lit,0/node=0,lit,0/node=0,lit,0/node=0,lit,0/node=0,lit,0/node=0,lit,0/node=0,lit,0/node=0,lit,0/node=0,lit,0/node=0,lit,0/node=0,lit,0/node=0,lit,0/node=0,lit,0/node=0,lit,0/node=0,lit,0/node=0,lit,0/node=0,lit,0/node=0,lit,0/node=0,lit,0/node=0,lit,0/node=0,lit,0/node=0,lit,0/node=0,lit,0/node=0,lit,0/node=0,lit,0/node=0,lit,0/node=0,lit,0/node=0,lit,0/node=0,lit,0/node=0,lit,0/node=0,lit,0/node=0,lit,0/policy=2,permit,true,0/policy=3,permit,true,1/policy=4,permit,true,2/policy=5,permit,true,3/policy=6,permit,true,4/policy=7,permit,true,5/policy=8,permit,true,6/policy=9,permit,true,7/policy=10,permit,true,8/policy=11,permit,true,9/policy=12,permit,true,10/policy=13,permit,true,11/policy=14,permit,true,12/policy=15,permit,true,13/policy=16,permit,true,14/policy=17,permit,true,15/policy=18,permit,true,16/policy=19,permit,true,17/policy=20,permit,true,18/policy=21,permit,true,19/policy=22,permit,true,20/policy=23,permit,true,21/policy=24,permit,true,22/policy=25,permit,true,23/policy=26,permit,true,24/policy=27,permit,true,25/policy=28,permit,true,26/policy=29,permit,true,27/policy=30,permit,true,28/policy=31,permit,true,29/policy=32,permit,true,30/policy=33,permit,true,31/policy=34,permit,true,32/policy=35,permit,true,33/policy=36,permit,true,34/policy=37,permit,true,35/policy=38,permit,true,36/policy=39,permit,true,37/policy=40,permit,true,38/policy=41,permit,true,39/policy=42,permit,true,40/policy=43,permit,true,41/policy=44,permit,true,42/policy=45,permit,true,43/policy=46,permit,true,44/policy=47,permit,true,45/policy=48,permit,true,46/policy=49,permit,true,47/policy=50,permit,true,48/policy=51,permit,true,49/policy=52,permit,true,50/policy=53,permit,true,51/policy=54,permit,true,52/policy=55,permit,true,53/policy=56,permit,true,54/policy=57,permit,true,55/policy=58,permit,true,56/policy=59,permit,true,57/policy=60,permit,true,58/policy=61,permit,true,59/policy=62,permit,true,60/policy=63,permit,true,61/policy=64,permit,true,62/policy=65,permit,true,63/"
+links-most : shown (head ++ all ++ links) ≡ bytes "decision=allow/counts=64,0,0,0,0,0,0,0/why=2/node=0,lit,0/node=0,lit,0/node=0,lit,0/node=0,lit,0/node=0,lit,0/node=0,lit,0/node=0,lit,0/node=0,lit,0/node=0,lit,0/node=0,lit,0/node=0,lit,0/node=0,lit,0/node=0,lit,0/node=0,lit,0/node=0,lit,0/node=0,lit,0/node=0,lit,0/node=0,lit,0/node=0,lit,0/node=0,lit,0/node=0,lit,0/node=0,lit,0/node=0,lit,0/node=0,lit,0/node=0,lit,0/node=0,lit,0/node=0,lit,0/node=0,lit,0/node=0,lit,0/node=0,lit,0/node=0,lit,0/node=0,lit,0/node=0,lit,0/node=0,lit,0/node=0,lit,0/node=0,lit,0/node=0,lit,0/node=0,lit,0/node=0,lit,0/node=0,lit,0/node=0,lit,0/node=0,lit,0/node=0,lit,0/node=0,lit,0/node=0,lit,0/node=0,lit,0/node=0,lit,0/node=0,lit,0/node=0,lit,0/node=0,lit,0/node=0,lit,0/node=0,lit,0/node=0,lit,0/node=0,lit,0/node=0,lit,0/node=0,lit,0/node=0,lit,0/node=0,lit,0/node=0,lit,0/node=0,lit,0/node=0,lit,0/node=0,lit,0/node=0,lit,0/node=0,lit,0/policy=2,permit,true,0/policy=3,permit,true,1/policy=4,permit,true,2/policy=5,permit,true,3/policy=6,permit,true,4/policy=7,permit,true,5/policy=8,permit,true,6/policy=9,permit,true,7/policy=10,permit,true,8/policy=11,permit,true,9/policy=12,permit,true,10/policy=13,permit,true,11/policy=14,permit,true,12/policy=15,permit,true,13/policy=16,permit,true,14/policy=17,permit,true,15/policy=18,permit,true,16/policy=19,permit,true,17/policy=20,permit,true,18/policy=21,permit,true,19/policy=22,permit,true,20/policy=23,permit,true,21/policy=24,permit,true,22/policy=25,permit,true,23/policy=26,permit,true,24/policy=27,permit,true,25/policy=28,permit,true,26/policy=29,permit,true,27/policy=30,permit,true,28/policy=31,permit,true,29/policy=32,permit,true,30/policy=33,permit,true,31/policy=34,permit,true,32/policy=35,permit,true,33/policy=36,permit,true,34/policy=37,permit,true,35/policy=38,permit,true,36/policy=39,permit,true,37/policy=40,permit,true,38/policy=41,permit,true,39/policy=42,permit,true,40/policy=43,permit,true,41/policy=44,permit,true,42/policy=45,permit,true,43/policy=46,permit,true,44/policy=47,permit,true,45/policy=48,permit,true,46/policy=49,permit,true,47/policy=50,permit,true,48/policy=51,permit,true,49/policy=52,permit,true,50/policy=53,permit,true,51/policy=54,permit,true,52/policy=55,permit,true,53/policy=56,permit,true,54/policy=57,permit,true,55/policy=58,permit,true,56/policy=59,permit,true,57/policy=60,permit,true,58/policy=61,permit,true,59/policy=62,permit,true,60/policy=63,permit,true,61/policy=64,permit,true,62/policy=65,permit,true,63/"
 unfolding head all links shown keys forms formOf slotAt counted tagOf rowOf keyOf refs ascendings fitsIn nodesUnder typed found depth fault more read types valueRows contents schema trees exprs onTerm nPolicies policies nEnv env run results answer returned ancestors unknownAbove order same place insert ascending makeSet
 links-most = refl
 
@@ -61,7 +61,7 @@ terms-repeat : shown (head ++ two ++ bytes "link=0,1,-/link=1,1,-/term=0,2000-01
 unfolding head two shown keys forms formOf slotAt counted tagOf rowOf keyOf refs ascendings fitsIn nodesUnder typed found depth fault more read types valueRows contents schema trees exprs onTerm nPolicies policies nEnv env run results answer returned ancestors unknownAbove order same place insert ascending makeSet
 terms-repeat = refl
 
-terms-most : shown (head ++ all ++ links ++ terms) ≡ bytes "decision=allow/counts=64,0,0,0,0,0,0,0/node=0,lit,0/node=0,lit,0/node=0,lit,0/node=0,lit,0/node=0,lit,0/node=0,lit,0/node=0,lit,0/node=0,lit,0/node=0,lit,0/node=0,lit,0/node=0,lit,0/node=0,lit,0/node=0,lit,0/node=0,lit,0/node=0,lit,0/node=0,lit,0/node=0,lit,0/node=0,lit,0/node=0,lit,0/node=0,lit,0/node=0,lit,0/node=0,lit,0/node=0,lit,0/node=0,lit,0/node=0,lit,0/node=0,lit,0/node=0,lit,0/node=0,lit,0/node=0,lit,0/node=0,lit,0/node=0,lit,0/node=0,lit,0/node=0,lit,0/node=0,lit,0/node=0,lit,0/node=0,lit,0/node=0,lit,0/node=0,lit,0/node=0,lit,0/node=0,lit,0/node=0,lit,0/node=0,lit,0/node=0,lit,0/node=0,lit,0/node=0,lit,0/node=0,lit,0/node=0,lit,0/node=0,lit,0/node=0,lit,0/node=0,lit,0/node=0,lit,0/node=0,lit,0/node=0,lit,0/node=0,lit,0/node=0,lit,0/node=0,lit,0/node=0,lit,0/node=0,lit,0/node=0,lit,0/node=0,lit,0/node=0,lit,0/node=0,lit,0/node=0,lit,0/node=0,lit,0/policy=2,permit,true,0/policy=3,permit,true,1/policy=4,permit,true,2/policy=5,permit,true,3/policy=6,permit,true,4/policy=7,permit,true,5/policy=8,permit,true,6/policy=9,permit,true,7/policy=10,permit,true,8/policy=11,permit,true,9/policy=12,permit,true,10/policy=13,permit,true,11/policy=14,permit,true,12/policy=15,permit,true,13/policy=16,permit,true,14/policy=17,permit,true,15/policy=18,permit,true,16/policy=19,permit,true,17/policy=20,permit,true,18/policy=21,permit,true,19/policy=22,permit,true,20/policy=23,permit,true,21/policy=24,permit,true,22/policy=25,permit,true,23/policy=26,permit,true,24/policy=27,permit,true,25/policy=28,permit,true,26/policy=29,permit,true,27/policy=30,permit,true,28/policy=31,permit,true,29/policy=32,permit,true,30/policy=33,permit,true,31/policy=34,permit,true,32/policy=35,permit,true,33/policy=36,permit,true,34/policy=37,permit,true,35/policy=38,permit,true,36/policy=39,permit,true,37/policy=40,permit,true,38/policy=41,permit,true,39/policy=42,permit,true,40/policy=43,permit,true,41/policy=44,permit,true,42/policy=45,permit,true,43/policy=46,permit,true,44/policy=47,permit,true,45/policy=48,permit,true,46/policy=49,permit,true,47/policy=50,permit,true,48/policy=51,permit,true,49/policy=52,permit,true,50/policy=53,permit,true,51/policy=54,permit,true,52/policy=55,permit,true,53/policy=56,permit,true,54/policy=57,permit,true,55/policy=58,permit,true,56/policy=59,permit,true,57/policy=60,permit,true,58/policy=61,permit,true,59/policy=62,permit,true,60/policy=63,permit,true,61/policy=64,permit,true,62/policy=65,permit,true,63/"
+terms-most : shown (head ++ all ++ links ++ terms) ≡ bytes "decision=allow/counts=64,0,0,0,0,0,0,0/why=2/node=0,lit,0/node=0,lit,0/node=0,lit,0/node=0,lit,0/node=0,lit,0/node=0,lit,0/node=0,lit,0/node=0,lit,0/node=0,lit,0/node=0,lit,0/node=0,lit,0/node=0,lit,0/node=0,lit,0/node=0,lit,0/node=0,lit,0/node=0,lit,0/node=0,lit,0/node=0,lit,0/node=0,lit,0/node=0,lit,0/node=0,lit,0/node=0,lit,0/node=0,lit,0/node=0,lit,0/node=0,lit,0/node=0,lit,0/node=0,lit,0/node=0,lit,0/node=0,lit,0/node=0,lit,0/node=0,lit,0/node=0,lit,0/node=0,lit,0/node=0,lit,0/node=0,lit,0/node=0,lit,0/node=0,lit,0/node=0,lit,0/node=0,lit,0/node=0,lit,0/node=0,lit,0/node=0,lit,0/node=0,lit,0/node=0,lit,0/node=0,lit,0/node=0,lit,0/node=0,lit,0/node=0,lit,0/node=0,lit,0/node=0,lit,0/node=0,lit,0/node=0,lit,0/node=0,lit,0/node=0,lit,0/node=0,lit,0/node=0,lit,0/node=0,lit,0/node=0,lit,0/node=0,lit,0/node=0,lit,0/node=0,lit,0/node=0,lit,0/node=0,lit,0/node=0,lit,0/policy=2,permit,true,0/policy=3,permit,true,1/policy=4,permit,true,2/policy=5,permit,true,3/policy=6,permit,true,4/policy=7,permit,true,5/policy=8,permit,true,6/policy=9,permit,true,7/policy=10,permit,true,8/policy=11,permit,true,9/policy=12,permit,true,10/policy=13,permit,true,11/policy=14,permit,true,12/policy=15,permit,true,13/policy=16,permit,true,14/policy=17,permit,true,15/policy=18,permit,true,16/policy=19,permit,true,17/policy=20,permit,true,18/policy=21,permit,true,19/policy=22,permit,true,20/policy=23,permit,true,21/policy=24,permit,true,22/policy=25,permit,true,23/policy=26,permit,true,24/policy=27,permit,true,25/policy=28,permit,true,26/policy=29,permit,true,27/policy=30,permit,true,28/policy=31,permit,true,29/policy=32,permit,true,30/policy=33,permit,true,31/policy=34,permit,true,32/policy=35,permit,true,33/policy=36,permit,true,34/policy=37,permit,true,35/policy=38,permit,true,36/policy=39,permit,true,37/policy=40,permit,true,38/policy=41,permit,true,39/policy=42,permit,true,40/policy=43,permit,true,41/policy=44,permit,true,42/policy=45,permit,true,43/policy=46,permit,true,44/policy=47,permit,true,45/policy=48,permit,true,46/policy=49,permit,true,47/policy=50,permit,true,48/policy=51,permit,true,49/policy=52,permit,true,50/policy=53,permit,true,51/policy=54,permit,true,52/policy=55,permit,true,53/policy=56,permit,true,54/policy=57,permit,true,55/policy=58,permit,true,56/policy=59,permit,true,57/policy=60,permit,true,58/policy=61,permit,true,59/policy=62,permit,true,60/policy=63,permit,true,61/policy=64,permit,true,62/policy=65,permit,true,63/"
 unfolding head all links terms shown keys forms formOf slotAt counted tagOf rowOf keyOf refs ascendings fitsIn nodesUnder typed found depth fault more read types valueRows contents schema trees exprs onTerm nPolicies policies nEnv env run results answer returned ancestors unknownAbove order same place insert ascending makeSet
 terms-most = refl
 

@@ -16,15 +16,16 @@ use Rattle.cedar.specs.Response.{Effect, permit, forbid, Verdict, Decision, all
 use Rattle.cedar.specs.Rows.{Row}
 use Rattle.cedar.specs.Runs.{NVerdict, verdicts}
 use Rattle.sheet.specs.Ascii.{ascii}
-use Rattle.sheet.specs.Bytes.{split, digits}
+use Rattle.sheet.specs.Bytes.{split, digits, same}
 use Rattle.sheet.specs.Forms.{Mode, partial, complete, Slot, line, word, joined, one, keys, forms, formOf, tagOf, counted, rowOf, rowHeaded, heading, keyOf, TEXT, VALUE, NODE, POLICY, noKey}
 use Rattle.sheet.specs.Content.{rowsIn}
-use Rattle.sheet.specs.Answer.{printed, concat, numbers, decisionWord, effectWord, classWord, isFalse, isError, howMany, countsOf, headLines, valueItems, valueLines, size, root, nodeItems, nodeLines, policyItems, partialLines, completeLines}
-use Rattle.sheet.specs.ReadAnswer.{PolicyLine, Said, itemsBy, decisionLine, decisionOf, countsLine, policyLine, policyOf, policyLines, rowsFirst, saidWith, restOf, linesSay, readAnswer}
+use Rattle.sheet.specs.Answer.{concat, numbers, decisionWord, effectWord, classWord, isFalse, isError, howMany, countsOf, headLines, valueItems, valueLines, size, root, nodeItems, nodeLines, policyItems, partialLines, completeLines}
+use Rattle.sheet.specs.Why.{Name, whyItem}
+use Rattle.sheet.specs.ReadAnswer.{PolicyLine, Said, itemsBy, decisionLine, decisionOf, countsLine, whyLine, policyLine, policyOf, policyLines, rowsFirst, saidWith, restOf, linesSay, readAnswer}
 use Rattle.sheet.proofs.Lines.{and-both}
 use Rattle.sheet.proofs.ValueRows.{back}
 use Rattle.sheet.proofs.DigitsBack.{index-back}
-use Rattle.sheet.proofs.LinesBack.{allPlain, unended, endAll, printed-ends, end-append, allLack, lack-append, lines-back, line-lacks, items-back, items-show, decision-line, counts-line, policy-line}
+use Rattle.sheet.proofs.LinesBack.{allPlain, unended, endAll, printed-ends, end-append, allLack, lack-append, lines-back, line-lacks, items-back, items-show, decision-line, counts-line, why-line, policy-line}
 use Rattle.sheet.proofs.RowsBack.{AllSmall, GoodValue, goodRow, small-plain, numbers-plain, value-plain, value-row-back, row-back, value-key, node-back, node-plain, node-key}
 use Rattle.sheet.proofs.RowsGood.{allGood}
 use Rattle.sheet.proofs.MadeCount.{residualSizes}
@@ -58,6 +59,20 @@ indices-back k (n ∷ l) h = ap₂ (λ o p. joined (one o) p) (index-back n (h .
 counts-reads : (a b c d e f g h : ℕ) → AllSmall (a ∷ b ∷ c ∷ d ∷ e ∷ f ∷ g ∷ h ∷ []) → countsLine (unended "counts" (numbers (a ∷ b ∷ c ∷ d ∷ e ∷ f ∷ g ∷ h ∷ []))) ≡ some (a ∷ b ∷ c ∷ d ∷ e ∷ f ∷ g ∷ h ∷ [])
 counts-reads a b c d e f g h s = let l = b ∷ c ∷ d ∷ e ∷ f ∷ g ∷ h ∷ [] in
     counts-line (replicate 8 (line POLICY)) (digits a) (numbers l) (numbers-plain (a ∷ l) s) ∙ indices-back POLICY (a ∷ l) s
+
+-- a name whose number has at most four digits
+abbrev pub SmallName : Name → Type 0
+SmallName none = Unit {0}
+SmallName (some i) = i ≤ 9999
+
+why-plain : (w : Name) → SmallName w → allPlain (whyItem w ∷ []) ≡ true
+why-plain none h = refl
+why-plain (some i) h = rw (small-plain i h)
+
+why-reads : (w : Name) → SmallName w → whyLine (unended "why" (whyItem w ∷ [])) ≡ some w
+why-reads none h = refl
+why-reads (some i) h = ap (λ o. onSome (cond (same (unended "why" (digits i ∷ [])) (ascii "why=none")) (some none) none) o (λ r. some (some (getD r 0 0))))
+    (why-line (line TEXT ∷ []) (digits i) [] (why-plain (some i) h) ∙ ap (λ o. joined (one o) (some [])) (index-back i h))
 
 -- ---- policy lines
 
@@ -122,8 +137,8 @@ no-row f g h i e = λ j. cond (items-show (f ∷ g ∷ h ∷ i ∷ []) e j && lt
 
 -- ---- lines without their ends
 
-abbrev headTexts : List Verdict → List (List ℕ)
-headTexts vs = unended "decision" (ascii (decisionWord (decision vs)) ∷ []) ∷ unended "counts" (numbers (countsOf vs)) ∷ []
+abbrev headTexts : Name → List Verdict → List (List ℕ)
+headTexts w vs = unended "decision" (ascii (decisionWord (decision vs)) ∷ []) ∷ unended "counts" (numbers (countsOf vs)) ∷ unended "why" (whyItem w ∷ []) ∷ []
 
 abbrev valueTexts : List Row → List (List ℕ)
 valueTexts [] = []
@@ -143,8 +158,8 @@ completeTexts [] ls = []
 completeTexts (i ∷ is) [] = []
 completeTexts (i ∷ is) (l ∷ ls) = unended "policy" (policyItems i (l .effect) (l .class) []) ∷ completeTexts is ls
 
-head-ends : (vs : List Verdict) → headLines vs ≡ endAll (headTexts vs)
-head-ends vs = ap₂ (λ x y. x ∷ y ∷ []) (printed-ends "decision" (ascii (decisionWord (decision vs)) ∷ [])) (printed-ends "counts" (numbers (countsOf vs)))
+head-ends : (w : Name) (vs : List Verdict) → headLines w vs ≡ endAll (headTexts w vs)
+head-ends w vs = λ i. printed-ends "decision" (ascii (decisionWord (decision vs)) ∷ []) i ∷ printed-ends "counts" (numbers (countsOf vs)) i ∷ printed-ends "why" (whyItem w ∷ []) i ∷ []
 
 value-ends : (rs : List Row) → valueLines rs ≡ endAll (valueTexts rs)
 value-ends [] = refl
@@ -166,8 +181,8 @@ complete-ends (i ∷ is) (l ∷ ls) = ap₂ _∷_ (printed-ends "policy" (policy
 
 -- no line holds a line end
 
-head-lack : (vs : List Verdict) → AllSmall (countsOf vs) → allLack (headTexts vs) ≡ true
-head-lack vs h = rw (line-lacks "decision" (ascii (decisionWord (decision vs)) ∷ []) refl (decision-plain (decision vs)), line-lacks "counts" (numbers (countsOf vs)) refl (numbers-plain (countsOf vs) h))
+head-lack : (w : Name) (vs : List Verdict) → SmallName w → AllSmall (countsOf vs) → allLack (headTexts w vs) ≡ true
+head-lack w vs g h = rw (line-lacks "why" (whyItem w ∷ []) refl (why-plain w g), line-lacks "decision" (ascii (decisionWord (decision vs)) ∷ []) refl (decision-plain (decision vs)), line-lacks "counts" (numbers (countsOf vs)) refl (numbers-plain (countsOf vs) h))
 
 abbrev pub GoodValues : List Row → Type 0
 GoodValues [] = Unit {0}
@@ -283,18 +298,19 @@ complete-back (i ∷ is) (l ∷ ls) h = let t = unended "policy" (policyItems i 
 
 -- ---- the whole
 
-head-says : (m : Mode) (vs : List Verdict) (rest : List (List ℕ)) → AllSmall (countsOf vs) → linesSay m (headTexts vs ++ rest) ≡ restOf m (decisionRow (decision vs)) (countsOf vs) rest
-head-says m vs rest h = ap₂ (λ o p. onSome none o (λ x. onSome none p (λ y. restOf m x y rest))) (decision-reads (decision vs))
+head-says : (m : Mode) (w : Name) (vs : List Verdict) (rest : List (List ℕ)) → SmallName w → AllSmall (countsOf vs) → linesSay m (headTexts w vs ++ rest) ≡ restOf m (decisionRow (decision vs)) (countsOf vs) w rest
+head-says m w vs rest g h = ap (λ o. onSome none (decisionLine (unended "decision" (ascii (decisionWord (decision vs)) ∷ []))) (λ x. onSome none (countsLine (unended "counts" (numbers (countsOf vs)))) (λ y. onSome none o (λ z. restOf m x y z rest)))) (why-reads w g)
+    ∙ ap₂ (λ o p. onSome none o (λ x. onSome none p (λ y. restOf m x y w rest))) (decision-reads (decision vs))
     (counts-reads (howMany isPermit isTrue vs) (howMany isPermit isFalse vs) (howMany isPermit isError vs) (howMany isPermit isOpen vs) (howMany isForbid isTrue vs) (howMany isForbid isFalse vs) (howMany isForbid isError vs) (howMany isForbid isOpen vs) h)
 
 -- what is printed: made values, residual nodes, ids and lines
-module _ (made : List Row) (nodes : List (List ℕ)) (is : List ℕ) (ls : List NVerdict)
-    (good : GoodValues made) (rows : allGood nodes ≡ true) (small : AllSmall is) (few : AllSmall (countsOf (verdicts ls))) (sizes : residualSizes ls ≤ 10000) where
+module _ (w : Name) (made : List Row) (nodes : List (List ℕ)) (is : List ℕ) (ls : List NVerdict)
+    (name : SmallName w) (good : GoodValues made) (rows : allGood nodes ≡ true) (small : AllSmall is) (few : AllSmall (countsOf (verdicts ls))) (sizes : residualSizes ls ≤ 10000) where
   abbrev partialBytes : List ℕ
-  partialBytes = concat (headLines (verdicts ls) ++ valueLines made ++ nodeLines nodes ++ partialLines 0 is ls)
+  partialBytes = concat (headLines w (verdicts ls) ++ valueLines made ++ nodeLines nodes ++ partialLines 0 is ls)
 
   abbrev partialSaid : Said
-  partialSaid = record { decision = decision (verdicts ls); counts = countsOf (verdicts ls); made = made; nodes = nodes; policies = partialPolicies 0 is ls }
+  partialSaid = record { decision = decision (verdicts ls); counts = countsOf (verdicts ls); why = w; made = made; nodes = nodes; policies = partialPolicies 0 is ls }
 
   abbrev counts : List ℕ
   counts = countsOf (verdicts ls)
@@ -302,52 +318,52 @@ module _ (made : List Row) (nodes : List (List ℕ)) (is : List ℕ) (ls : List 
   abbrev P : List (List ℕ)
   P = partialTexts 0 is ls ++ theEnd
 
-  bytes-are : headLines (verdicts ls) ++ valueLines made ++ nodeLines nodes ++ partialLines 0 is ls ≡ endAll (headTexts (verdicts ls) ++ valueTexts made ++ nodeTexts nodes ++ partialTexts 0 is ls)
-  bytes-are = (λ j. head-ends (verdicts ls) j ++ value-ends made j ++ node-ends nodes j ++ partial-ends 0 is ls j)
-      ∙ ap (λ z. z ++ endAll (nodeTexts nodes) ++ endAll (partialTexts 0 is ls)) (sym (end-append (headTexts (verdicts ls)) (valueTexts made)))
-      ∙ ap (λ z. z ++ endAll (partialTexts 0 is ls)) (sym (end-append (headTexts (verdicts ls) ++ valueTexts made) (nodeTexts nodes)))
-      ∙ sym (end-append (headTexts (verdicts ls) ++ valueTexts made ++ nodeTexts nodes) (partialTexts 0 is ls))
+  bytes-are : headLines w (verdicts ls) ++ valueLines made ++ nodeLines nodes ++ partialLines 0 is ls ≡ endAll (headTexts w (verdicts ls) ++ valueTexts made ++ nodeTexts nodes ++ partialTexts 0 is ls)
+  bytes-are = (λ j. head-ends w (verdicts ls) j ++ value-ends made j ++ node-ends nodes j ++ partial-ends 0 is ls j)
+      ∙ ap (λ z. z ++ endAll (nodeTexts nodes) ++ endAll (partialTexts 0 is ls)) (sym (end-append (headTexts w (verdicts ls)) (valueTexts made)))
+      ∙ ap (λ z. z ++ endAll (partialTexts 0 is ls)) (sym (end-append (headTexts w (verdicts ls) ++ valueTexts made) (nodeTexts nodes)))
+      ∙ sym (end-append (headTexts w (verdicts ls) ++ valueTexts made ++ nodeTexts nodes) (partialTexts 0 is ls))
 
-  none-ends : allLack (headTexts (verdicts ls) ++ valueTexts made ++ nodeTexts nodes ++ partialTexts 0 is ls) ≡ true
-  none-ends = lack-append (headTexts (verdicts ls) ++ valueTexts made ++ nodeTexts nodes) (partialTexts 0 is ls)
-      (lack-append (headTexts (verdicts ls) ++ valueTexts made) (nodeTexts nodes) (lack-append (headTexts (verdicts ls)) (valueTexts made) (head-lack (verdicts ls) few) (value-lack made good)) (node-lack nodes rows))
+  none-ends : allLack (headTexts w (verdicts ls) ++ valueTexts made ++ nodeTexts nodes ++ partialTexts 0 is ls) ≡ true
+  none-ends = lack-append (headTexts w (verdicts ls) ++ valueTexts made ++ nodeTexts nodes) (partialTexts 0 is ls)
+      (lack-append (headTexts w (verdicts ls) ++ valueTexts made) (nodeTexts nodes) (lack-append (headTexts w (verdicts ls)) (valueTexts made) (head-lack w (verdicts ls) name few) (value-lack made good)) (node-lack nodes rows))
       (partial-lack 0 is ls small (omega arith))
 
-  parts : headTexts (verdicts ls) ++ valueTexts made ++ nodeTexts nodes ++ partialTexts 0 is ls ++ theEnd ≡ headTexts (verdicts ls) ++ (valueTexts made ++ (nodeTexts nodes ++ P))
-  parts = append-assoc (headTexts (verdicts ls) ++ valueTexts made ++ nodeTexts nodes) (partialTexts 0 is ls) theEnd
-      ∙ append-assoc (headTexts (verdicts ls) ++ valueTexts made) (nodeTexts nodes) P ∙ append-assoc (headTexts (verdicts ls)) (valueTexts made) (nodeTexts nodes ++ P)
+  parts : headTexts w (verdicts ls) ++ valueTexts made ++ nodeTexts nodes ++ partialTexts 0 is ls ++ theEnd ≡ headTexts w (verdicts ls) ++ (valueTexts made ++ (nodeTexts nodes ++ P))
+  parts = append-assoc (headTexts w (verdicts ls) ++ valueTexts made ++ nodeTexts nodes) (partialTexts 0 is ls) theEnd
+      ∙ append-assoc (headTexts w (verdicts ls) ++ valueTexts made) (nodeTexts nodes) P ∙ append-assoc (headTexts w (verdicts ls)) (valueTexts made) (nodeTexts nodes ++ P)
 
   drop-counted : (k l : List (List ℕ)) (n : ℕ) → length k ≡ n → drop n (k ++ l) ≡ l
   drop-counted k l n e = ap (λ z. drop z (k ++ l)) (sym e) ∙ drop-append-seam k l
 
-  rest-says : (d : List ℕ) → restOf partial d counts (valueTexts made ++ (nodeTexts nodes ++ P)) ≡ some (record { decision = decisionOf d; counts = counts; made = made; nodes = nodes; policies = partialPolicies 0 is ls })
+  rest-says : (d : List ℕ) → restOf partial d counts w (valueTexts made ++ (nodeTexts nodes ++ P)) ≡ some (record { decision = decisionOf d; counts = counts; why = w; made = made; nodes = nodes; policies = partialPolicies 0 is ls })
   rest-says d =
-      ap (λ vs. let after = drop (length vs) (valueTexts made ++ (nodeTexts nodes ++ P)) in saidWith d counts vs (rowsFirst NODE after) (policyLines partial (drop (length (rowsFirst NODE after)) after)))
+      ap (λ vs. let after = drop (length vs) (valueTexts made ++ (nodeTexts nodes ++ P)) in saidWith d counts w vs (rowsFirst NODE after) (policyLines partial (drop (length (rowsFirst NODE after)) after)))
       (values-first made (nodeTexts nodes ++ P) good (nodes-stop nodes P rows (policies-stop VALUE 0 refl is ls small (omega arith))))
-      ∙ ap (λ after. saidWith d counts (backs made) (rowsFirst NODE after) (policyLines partial (drop (length (rowsFirst NODE after)) after))) (drop-counted (valueTexts made) (nodeTexts nodes ++ P) (length (backs made)) (values-count made))
-      ∙ ap (λ ns. saidWith d counts (backs made) ns (policyLines partial (drop (length ns) (nodeTexts nodes ++ P)))) (nodes-first nodes P rows (policies-stop NODE 0 refl is ls small (omega arith)))
-      ∙ ap (λ z. saidWith d counts (backs made) nodes (policyLines partial z)) (drop-counted (nodeTexts nodes) P (length nodes) (nodes-count nodes))
-      ∙ ap₂ (λ o r. onSome none o (λ ps. some (record { decision = decisionOf d; counts = counts; made = r; nodes = nodes; policies = ps }))) (policies-back 0 is ls small (omega arith)) (backs-back made good)
+      ∙ ap (λ after. saidWith d counts w (backs made) (rowsFirst NODE after) (policyLines partial (drop (length (rowsFirst NODE after)) after))) (drop-counted (valueTexts made) (nodeTexts nodes ++ P) (length (backs made)) (values-count made))
+      ∙ ap (λ ns. saidWith d counts w (backs made) ns (policyLines partial (drop (length ns) (nodeTexts nodes ++ P)))) (nodes-first nodes P rows (policies-stop NODE 0 refl is ls small (omega arith)))
+      ∙ ap (λ z. saidWith d counts w (backs made) nodes (policyLines partial z)) (drop-counted (nodeTexts nodes) P (length nodes) (nodes-count nodes))
+      ∙ ap₂ (λ o r. onSome none o (λ ps. some (record { decision = decisionOf d; counts = counts; why = w; made = r; nodes = nodes; policies = ps }))) (policies-back 0 is ls small (omega arith)) (backs-back made good)
 
   pub partial-reads : readAnswer partial partialBytes ≡ some partialSaid
   unfolding readAnswer
   partial-reads = ap (λ z. linesSay partial (split 10 (concat z))) bytes-are
-      ∙ ap (linesSay partial) (lines-back (headTexts (verdicts ls) ++ valueTexts made ++ nodeTexts nodes ++ partialTexts 0 is ls) none-ends ∙ parts)
-      ∙ head-says partial (verdicts ls) (valueTexts made ++ (nodeTexts nodes ++ P)) few
+      ∙ ap (linesSay partial) (lines-back (headTexts w (verdicts ls) ++ valueTexts made ++ nodeTexts nodes ++ partialTexts 0 is ls) none-ends ∙ parts)
+      ∙ head-says partial w (verdicts ls) (valueTexts made ++ (nodeTexts nodes ++ P)) name few
       ∙ rest-says (decisionRow (decision (verdicts ls)))
-      ∙ ap (λ d. some (record { decision = d; counts = countsOf (verdicts ls); made = made; nodes = nodes; policies = partialPolicies 0 is ls })) (decision-is (decision (verdicts ls)))
+      ∙ ap (λ d. some (record { decision = d; counts = countsOf (verdicts ls); why = w; made = made; nodes = nodes; policies = partialPolicies 0 is ls })) (decision-is (decision (verdicts ls)))
 
-module _ (is : List ℕ) (vs : List Verdict) (small : AllSmall is) (few : AllSmall (countsOf vs)) where
+module _ (w : Name) (is : List ℕ) (vs : List Verdict) (name : SmallName w) (small : AllSmall is) (few : AllSmall (countsOf vs)) where
   abbrev completeBytes : List ℕ
-  completeBytes = concat (headLines vs ++ completeLines is vs)
+  completeBytes = concat (headLines w vs ++ completeLines is vs)
 
   abbrev completeSaid : Said
-  completeSaid = record { decision = decision vs; counts = countsOf vs; made = []; nodes = []; policies = completePolicies is vs }
+  completeSaid = record { decision = decision vs; counts = countsOf vs; why = w; made = []; nodes = []; policies = completePolicies is vs }
 
   pub complete-reads : readAnswer complete completeBytes ≡ some completeSaid
   unfolding readAnswer
-  complete-reads = ap (λ z. linesSay complete (split 10 (concat z))) ((λ j. head-ends vs j ++ complete-ends is vs j) ∙ sym (end-append (headTexts vs) (completeTexts is vs)))
-      ∙ ap (linesSay complete) (lines-back (headTexts vs ++ completeTexts is vs) (lack-append (headTexts vs) (completeTexts is vs) (head-lack vs few) (complete-lack is vs small)) ∙ append-assoc (headTexts vs) (completeTexts is vs) theEnd)
-      ∙ head-says complete vs (completeTexts is vs ++ theEnd) few
-      ∙ ap (saidWith (decisionRow (decision vs)) (countsOf vs) [] []) (complete-back is vs small)
-      ∙ ap (λ d. some (record { decision = d; counts = countsOf vs; made = []; nodes = []; policies = completePolicies is vs })) (decision-is (decision vs))
+  complete-reads = ap (λ z. linesSay complete (split 10 (concat z))) ((λ j. head-ends w vs j ++ complete-ends is vs j) ∙ sym (end-append (headTexts w vs) (completeTexts is vs)))
+      ∙ ap (linesSay complete) (lines-back (headTexts w vs ++ completeTexts is vs) (lack-append (headTexts w vs) (completeTexts is vs) (head-lack w vs name few) (complete-lack is vs small)) ∙ append-assoc (headTexts w vs) (completeTexts is vs) theEnd)
+      ∙ head-says complete w vs (completeTexts is vs ++ theEnd) name few
+      ∙ ap (saidWith (decisionRow (decision vs)) (countsOf vs) w [] []) (complete-back is vs small)
+      ∙ ap (λ d. some (record { decision = d; counts = countsOf vs; why = w; made = []; nodes = []; policies = completePolicies is vs })) (decision-is (decision vs))

@@ -25,6 +25,7 @@ use Rattle.sheet.specs.Forms as F
 use Rattle.sheet.specs.State.{State, lineAt, count}
 use Rattle.sheet.specs.Sheet.{read}
 use Rattle.sheet.specs.Content.{types, valueRows, schema, nEnv, known, onTerm, nPolicies}
+use Rattle.sheet.specs.Why.{Name, whyItem}
 use Rattle.sheet.specs.Call.{Accepted, room, returns, afterReading, readAs, returned}
 use Rattle.sheet.specs.Answer.{printed, concat, numbers, decisionWord, effectWord, classWord, countsOf, headLines, entryItems, valueItems, valueLines, size, sizes, sizeArgs, root, roots, argRoots, op, unTag, unItems, binTag, relTag, varNumber, patternItems, typeNumber, rowWith, treeRows, allRows, argRows, residualRows, itemOut, itemsOut, nodeItems, nodeLines, policyItems, partialLines, completeLines, ids, run, results, answer}
 use Rattle.sheet.proofs.Lines.{zero-not-suc, accepted-history}
@@ -92,17 +93,26 @@ decision-most allow = omega arith
 decision-most deny = omega arith
 decision-most undecided = omega arith
 
-head-most : (ls : List Verdict) → length (concat (headLines ls)) ≤ 190
-head-most ls =
+-- whatever the name is
+name-short : (name : Name) → length (whyItem name) ≤ 20
+name-short none = omega arith
+name-short (some i) = digits-few i
+
+head-most : (name : Name) (ls : List Verdict) → length (concat (headLines name ls)) ≤ 215
+head-most name ls =
     let d : List (List ℕ) = ascii (decisionWord (decision ls)) ∷ [] in
     let c : List (List ℕ) = numbers (countsOf ls) in
+    let w : List (List ℕ) = whyItem name ∷ [] in
     let x : length (printed "decision" d) ≤ 8 + 2 + (weigh d - 1) = printed-most "decision" d in
     let y : length (printed "counts" c) ≤ 6 + 2 + (weigh c - 1) = printed-most "counts" c in
     let z : weigh c ≤ 21 * 8 = numbers-most (countsOf ls) in
     let e = decision-most (decision ls) in
-    let f = length-append (printed "decision" d) (printed "counts" c ++ []) in
-    let g = length-append (printed "counts" c) [] in
-    omega (arith, x, y, z, e, f, g)
+    let f = length-append (printed "decision" d) (printed "counts" c ++ (printed "why" w ++ [])) in
+    let g = length-append (printed "counts" c) (printed "why" w ++ []) in
+    let h = length-append (printed "why" w) [] in
+    let i : length (printed "why" w) ≤ 3 + 2 + (weigh w - 1) = printed-most "why" w in
+    let j = name-short name in
+    omega (arith, x, y, z, e, f, g, h, i, j)
 
 -- ---- policies
 
@@ -433,14 +443,14 @@ accepted-short : (m : Mode) (sheet : List ℕ) → Accepted m sheet → length s
 unfolding returned
 accepted-short m sheet a = go (ltb (a .work₁) room || ltb (a .work₂) room) (ltb room (length sheet)) refl (a .zero-number)
   where
-    go : (x y : Bool) → ltb room (length sheet) ≡ y → cond x (returns 1 0 0) (cond y (returns 2 0 0) (readAs m (a .out) (read m sheet))) .number ≡ 0 → length sheet ≤ room
+    go : (x y : Bool) → ltb room (length sheet) ≡ y → cond x (returns 1 0 0) (cond y (returns 2 0 0) (readAs (a .name) m (a .out) (read m sheet))) .number ≡ 0 → length sheet ≤ room
     go true y q e = zero-not-suc e
     go false true q e = zero-not-suc e
     go false false q e = ltb-false room (length sheet) q
 
--- 64 policies of one pattern as long as the sheet without its policy lines, 34 bytes for each of 1,024 nodes, 1,024 made values of 3,084 words, 62 bytes for each policy, and 190 for the head
+-- 64 policies of one pattern as long as the sheet without its policy lines, 34 bytes for each of 1,024 nodes, 1,024 made values of 3,084 words, 62 bytes for each policy, and 215 for the head
 abbrev pub longest : ℕ
-longest = 1046650
+longest = 1046675
 
 abbrev pub mostAnswer : ℕ
 mostAnswer = 1048576
@@ -480,16 +490,16 @@ module _ (sheet : List ℕ) (acc : Accepted partial sheet) where
       let b = residual-sizes partial sheet e in
       residuals-good (types s) (few-types sheet acc) (run partial s .lines) 0 (residuals-small sheet acc) (omega (arith, a, b))
 
-  partial-length : length (answer partial s) ≤ longest
+  partial-length : (name : Name) → length (answer name partial s) ≤ longest
   unfolding answer
-  partial-length =
+  partial-length name =
       let e = accepted-read partial sheet acc in
       let r = run partial s in
-      let hs : List (List ℕ) = headLines (verdicts (r .lines)) in
+      let hs : List (List ℕ) = headLines name (verdicts (r .lines)) in
       let vs : List (List ℕ) = valueLines (drop (count s VALUE) (r .rows)) in
       let ns : List (List ℕ) = nodeLines (residualRows (types s) 0 (r .lines)) in
       let ps : List (List ℕ) = partialLines 0 (ids s) (r .lines) in
-      let a = head-most (verdicts (r .lines)) in
+      let a = head-most name (verdicts (r .lines)) in
       let b = values-most (drop (count s VALUE) (r .rows)) (made-values sheet acc) in
       let c = made-words in
       let q = few-made in
@@ -506,49 +516,49 @@ module _ (sheet : List ℕ) (acc : Accepted partial sheet) where
       let z = concat-length hs vs in
       omega (arith, a, b, c, d, f, g, i, j, k, l, n, q, x, y, z)
 
-complete-length : (sheet : List ℕ) → Accepted complete sheet → length (answer complete (read complete sheet .state)) ≤ longest
+complete-length : (sheet : List ℕ) → Accepted complete sheet → (name : Name) → length (answer name complete (read complete sheet .state)) ≤ longest
 unfolding answer
-complete-length sheet acc =
+complete-length sheet acc name =
     let s = read complete sheet .state in
-    let a = head-most (results s) in
+    let a = head-most name (results s) in
     let b = complete-most (ids s) (results s) in
     let n = ids-few complete sheet (accepted-read complete sheet acc) in
-    let x = concat-length (headLines (results s)) (completeLines (ids s) (results s)) in
+    let x = concat-length (headLines name (results s)) (completeLines (ids s) (results s)) in
     omega (arith, a, b, n, x)
 
--- no answer of an accepted sheet is longer
-pub answer-length : (m : Mode) (sheet : List ℕ) → Accepted m sheet → length (answer m (read m sheet .state)) ≤ longest
-answer-length partial sheet acc = partial-length sheet acc
-answer-length complete sheet acc = complete-length sheet acc
+-- no answer of an accepted sheet is longer, whatever name it carries
+pub answer-length : (m : Mode) (sheet : List ℕ) → Accepted m sheet → (name : Name) → length (answer name m (read m sheet .state)) ≤ longest
+answer-length partial sheet acc name = partial-length sheet acc name
+answer-length complete sheet acc name = complete-length sheet acc name
 
 -- a sheet that is short enough and read without fault is accepted where there is room
-after-reading : (m : Mode) (s : State) (x k : ℕ) → x ≡ 0 → afterReading m (length (answer m s)) s x k .number ≡ 0
-after-reading m s zero k q = rw (le-ltb (length (answer m s)) (length (answer m s)) (omega arith))
-after-reading m s (suc x) k q = zero-not-suc q
+after-reading : (name : Name) (m : Mode) (s : State) (x k : ℕ) → x ≡ 0 → afterReading name m (length (answer name m s)) s x k .number ≡ 0
+after-reading name m s zero k q = rw (le-ltb (length (answer name m s)) (length (answer name m s)) (omega arith))
+after-reading name m s (suc x) k q = zero-not-suc q
 
-roomy : (m : Mode) (sheet : List ℕ) → length sheet ≤ room → read m sheet .number ≡ 0 → returned m room room (length (answer m (read m sheet .state))) sheet .number ≡ 0
+roomy : (name : Name) (m : Mode) (sheet : List ℕ) → length sheet ≤ room → read m sheet .number ≡ 0 → returned name m room room (length (answer name m (read m sheet .state))) sheet .number ≡ 0
 unfolding returned
-roomy m sheet h e = rw (le-ltb room (length sheet) h) (after-reading m (read m sheet .state) (read m sheet .number) (read m sheet .line) e)
+roomy name m sheet h e = rw (le-ltb room (length sheet) h) (after-reading name m (read m sheet .state) (read m sheet .number) (read m sheet .line) e)
 
--- NO ANSWER HAS MORE THAN 1,048,576 BYTES, whatever short sheet is read without fault
-pub answer-most : (m : Mode) (sheet : List ℕ) → length sheet ≤ room → read m sheet .number ≡ 0 → length (answer m (read m sheet .state)) ≤ mostAnswer
-answer-most m sheet h e =
-    let a = answer-length m sheet (record { work₁ = room; work₂ = room; out = length (answer m (read m sheet .state)); zero-number = roomy m sheet h e }) in
+-- NO ANSWER HAS MORE THAN 1,048,576 BYTES, whatever short sheet is read without fault and whatever name the answer carries
+pub answer-most : (name : Name) (m : Mode) (sheet : List ℕ) → length sheet ≤ room → read m sheet .number ≡ 0 → length (answer name m (read m sheet .state)) ≤ mostAnswer
+answer-most name m sheet h e =
+    let a = answer-length m sheet (record { work₁ = room; work₂ = room; out = length (answer name m (read m sheet .state)); name = name; zero-number = roomy name m sheet h e }) name in
     omega (arith, a)
 
 -- A BUFFER OF 1,048,576 BYTES NEVER MEETS 10: every number returned there is one of 0 to 8
-pub never-ten : (m : Mode) (work₁ work₂ out : ℕ) (sheet : List ℕ) → mostAnswer ≤ out → returned m work₁ work₂ out sheet .number ≤ 8
+pub never-ten : (name : Name) (m : Mode) (work₁ work₂ out : ℕ) (sheet : List ℕ) → mostAnswer ≤ out → returned name m work₁ work₂ out sheet .number ≤ 8
 unfolding returned
-never-ten m work₁ work₂ out sheet b = go (ltb work₁ room || ltb work₂ room) (ltb room (length sheet)) refl
+never-ten name m work₁ work₂ out sheet b = go (ltb work₁ room || ltb work₂ room) (ltb room (length sheet)) refl
   where
-    after : (x k : ℕ) → read m sheet .number ≡ x → x ≤ 8 → length sheet ≤ room → afterReading m out (read m sheet .state) x k .number ≤ 8
+    after : (x k : ℕ) → read m sheet .number ≡ x → x ≤ 8 → length sheet ≤ room → afterReading name m out (read m sheet .state) x k .number ≤ 8
     after zero k q h s =
-        let a = answer-most m sheet s q in
+        let a = answer-most name m sheet s q in
         let z : 0 ≤ 8 = omega arith in
-        subst (λ (c : Bool). cond c (returns 10 0 (length (answer m (read m sheet .state)))) (returns 0 0 (length (answer m (read m sheet .state)))) .number ≤ 8) (sym (le-ltb out (length (answer m (read m sheet .state))) (omega (arith, a, b)))) z
+        subst (λ (c : Bool). cond c (returns 10 0 (length (answer name m (read m sheet .state)))) (returns 0 0 (length (answer name m (read m sheet .state)))) .number ≤ 8) (sym (le-ltb out (length (answer name m (read m sheet .state))) (omega (arith, a, b)))) z
     after (suc x) k q h s = h
 
-    go : (x y : Bool) → ltb room (length sheet) ≡ y → cond x (returns 1 0 0) (cond y (returns 2 0 0) (readAs m out (read m sheet))) .number ≤ 8
+    go : (x y : Bool) → ltb room (length sheet) ≡ y → cond x (returns 1 0 0) (cond y (returns 2 0 0) (readAs name m out (read m sheet))) .number ≤ 8
     go true y q = omega arith
     go false true q = omega arith
     go false false q = after (read m sheet .number) (read m sheet .line) refl (read-small m sheet) (ltb-false room (length sheet) q)

@@ -239,11 +239,11 @@ pub accepted-read : (m : Mode) (sheet : List ℕ) → Accepted m sheet → read 
 unfolding returned
 accepted-read m sheet a = go (ltb (a .work₁) room || ltb (a .work₂) room) (ltb room (length sheet)) (a .zero-number)
   where
-    after : (s : State) (n l : ℕ) → afterReading m (a .out) s n l .number ≡ 0 → n ≡ 0
+    after : (s : State) (n l : ℕ) → afterReading (a .name) m (a .out) s n l .number ≡ 0 → n ≡ 0
     after s zero l e = refl
     after s (suc n) l e = zero-not-suc e
 
-    go : (x y : Bool) → cond x (returns 1 0 0) (cond y (returns 2 0 0) (readAs m (a .out) (read m sheet))) .number ≡ 0 → read m sheet .number ≡ 0
+    go : (x y : Bool) → cond x (returns 1 0 0) (cond y (returns 2 0 0) (readAs (a .name) m (a .out) (read m sheet))) .number ≡ 0 → read m sheet .number ≡ 0
     go true y e = zero-not-suc e
     go false true e = zero-not-suc e
     go false false e = after (read m sheet .state) (read m sheet .number) (read m sheet .line) e

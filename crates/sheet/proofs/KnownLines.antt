@@ -26,9 +26,9 @@ head = bytes "sheet=partial/text=Broker/text=Action/text=Tariff/text=quote/text=
 
 terms : List Case
 terms =
-    case "value=bool,1/principal=0,?/action=1,3/resource=2,4/context=6,?/day=2000-02-29/node=0,lit,0/node=0,lit,0/policy=5,permit,0/policy=6,forbid,1/term=0,2000-02-29,2000-02-29/term=1,1900-01-01,2000-02-28/" "decision=allow/counts=1,0,0,0,0,0,0,0/node=0,lit,0/policy=5,permit,true,0/"  -- "Both edge days belong to the term"; a forbid off term is skipped
-    ∷ case "value=long,1/principal=0,?/action=1,3/resource=2,4/context=6,?/day=2000-03-01/node=3,lit,0/node=3,lit,0/node=3,add,0,1/node=3,lit,0/node=0,lt,2,3/node=3,lit,0/node=3,lit,0/node=0,lt,5,6/policy=5,permit,4/policy=6,permit,7/term=0,2000-03-02,2199-12-31/" "decision=deny/counts=0,1,0,0,0,0,0,0/value=bool,0/node=0,lit,1/policy=6,permit,false,0/"  -- a policy off term "has no made values, nodes, count or policy line in the answer, though its nodes count as used"; "Without a term it always runs"
-    ∷ case "value=bool,1/principal=0,?/action=1,3/resource=2,4/context=6,?/day=2000-01-01/node=0,lit,0/policy=5,permit,0/term=0,1900-01-01,1999-12-31/" "decision=deny/counts=0,0,0,0,0,0,0,0/"  -- none on term
+    case "value=bool,1/principal=0,?/action=1,3/resource=2,4/context=6,?/day=2000-02-29/node=0,lit,0/node=0,lit,0/policy=5,permit,0/policy=6,forbid,1/term=0,2000-02-29,2000-02-29/term=1,1900-01-01,2000-02-28/" "decision=allow/counts=1,0,0,0,0,0,0,0/why=5/node=0,lit,0/policy=5,permit,true,0/"  -- "Both edge days belong to the term"; a forbid off term is skipped
+    ∷ case "value=long,1/principal=0,?/action=1,3/resource=2,4/context=6,?/day=2000-03-01/node=3,lit,0/node=3,lit,0/node=3,add,0,1/node=3,lit,0/node=0,lt,2,3/node=3,lit,0/node=3,lit,0/node=0,lt,5,6/policy=5,permit,4/policy=6,permit,7/term=0,2000-03-02,2199-12-31/" "decision=deny/counts=0,1,0,0,0,0,0,0/why=none/value=bool,0/node=0,lit,1/policy=6,permit,false,0/"  -- a policy off term "has no made values, nodes, count or policy line in the answer, though its nodes count as used"; "Without a term it always runs"
+    ∷ case "value=bool,1/principal=0,?/action=1,3/resource=2,4/context=6,?/day=2000-01-01/node=0,lit,0/policy=5,permit,0/term=0,1900-01-01,1999-12-31/" "decision=deny/counts=0,0,0,0,0,0,0,0/why=none/"  -- none on term
     ∷ case "value=bool,1/principal=0,?/action=1,3/resource=2,4/context=6,?/node=0,lit,0/" "refused=3,33,0/"  -- "Every sheet has one line"
     ∷ case "value=bool,1/principal=0,?/action=1,3/resource=2,4/context=6,?/day=2100-02-29/" "refused=3,33,0/"  -- "2100-02-29 gets 3"
     ∷ case "value=bool,1/principal=0,?/action=1,3/resource=2,4/context=6,?/day=2000-01-01/day=2000-01-02/" "refused=4,34,0/"
@@ -48,11 +48,11 @@ term-sheets = refl
 
 templates : List Case
 templates =
-    case "value=entity,0,7/value=entity,0,9/principal=0,9/action=1,3/resource=2,4/context=6,?/day=2000-01-01/node=2,var,p/node=2,slot,p/node=0,eq,0,1/policy=5,permit,2/policy=6,permit,2/link=0,0,-/link=1,1,-/" "decision=allow/counts=1,1,0,0,0,0,0,0/value=bool,0/value=bool,1/node=0,lit,2/node=0,lit,3/policy=5,permit,false,0/policy=6,permit,true,1/"  -- one rule and two brokers: "A policy root may now serve several policies"; each use makes its own value
-    ∷ case "value=entity,0,7/principal=0,?/action=1,3/resource=2,4/context=6,?/day=2000-01-01/node=2,var,p/node=2,slot,p/node=0,eq,0,1/policy=5,permit,2/link=0,0,-/" "decision=open/counts=0,0,0,1,0,0,0,0/node=2,var,p/node=2,lit,0/node=0,eq,0,1/policy=5,permit,open,2/"  -- the residual is that of the linked policy
-    ∷ case "value=entity,0,7/value=entity,2,9/principal=0,?/action=1,3/resource=2,4/context=6,?/day=2000-01-01/node=2,slot,p/node=8,slot,r/node=0,in,0,1/policy=5,permit,2/link=0,0,1/" "decision=deny/counts=0,1,0,0,0,0,0,0/value=bool,0/node=0,lit,2/policy=5,permit,false,0/"  -- both slots; a slot "can't err", so the type rule of in speaks
-    ∷ case "value=bool,1/principal=0,?/action=1,3/resource=2,4/context=6,?/day=2000-01-01/node=0,lit,0/policy=5,permit,0/link=0,-,-/" "decision=allow/counts=1,0,0,0,0,0,0,0/node=0,lit,0/policy=5,permit,true,0/"  -- a link that gives nothing to a policy that has no slot
-    ∷ case "value=entity,0,7/principal=0,?/action=1,3/resource=2,4/context=6,?/day=2000-01-01/node=2,var,p/node=2,slot,p/node=0,eq,0,1/policy=5,permit,2/policy=6,permit,2/link=0,0,-/link=1,0,-/term=0,1900-01-01,1999-12-31/" "decision=open/counts=0,0,0,1,0,0,0,0/node=2,var,p/node=2,lit,0/node=0,eq,0,1/policy=6,permit,open,2/"  -- links stand between policies and terms
+    case "value=entity,0,7/value=entity,0,9/principal=0,9/action=1,3/resource=2,4/context=6,?/day=2000-01-01/node=2,var,p/node=2,slot,p/node=0,eq,0,1/policy=5,permit,2/policy=6,permit,2/link=0,0,-/link=1,1,-/" "decision=allow/counts=1,1,0,0,0,0,0,0/why=6/value=bool,0/value=bool,1/node=0,lit,2/node=0,lit,3/policy=5,permit,false,0/policy=6,permit,true,1/"  -- one rule and two brokers: "A policy root may now serve several policies"; each use makes its own value
+    ∷ case "value=entity,0,7/principal=0,?/action=1,3/resource=2,4/context=6,?/day=2000-01-01/node=2,var,p/node=2,slot,p/node=0,eq,0,1/policy=5,permit,2/link=0,0,-/" "decision=open/counts=0,0,0,1,0,0,0,0/why=none/node=2,var,p/node=2,lit,0/node=0,eq,0,1/policy=5,permit,open,2/"  -- the residual is that of the linked policy
+    ∷ case "value=entity,0,7/value=entity,2,9/principal=0,?/action=1,3/resource=2,4/context=6,?/day=2000-01-01/node=2,slot,p/node=8,slot,r/node=0,in,0,1/policy=5,permit,2/link=0,0,1/" "decision=deny/counts=0,1,0,0,0,0,0,0/why=none/value=bool,0/node=0,lit,2/policy=5,permit,false,0/"  -- both slots; a slot "can't err", so the type rule of in speaks
+    ∷ case "value=bool,1/principal=0,?/action=1,3/resource=2,4/context=6,?/day=2000-01-01/node=0,lit,0/policy=5,permit,0/link=0,-,-/" "decision=allow/counts=1,0,0,0,0,0,0,0/why=5/node=0,lit,0/policy=5,permit,true,0/"  -- a link that gives nothing to a policy that has no slot
+    ∷ case "value=entity,0,7/principal=0,?/action=1,3/resource=2,4/context=6,?/day=2000-01-01/node=2,var,p/node=2,slot,p/node=0,eq,0,1/policy=5,permit,2/policy=6,permit,2/link=0,0,-/link=1,0,-/term=0,1900-01-01,1999-12-31/" "decision=open/counts=0,0,0,1,0,0,0,0/why=none/node=2,var,p/node=2,lit,0/node=0,eq,0,1/policy=6,permit,open,2/"  -- links stand between policies and terms
     ∷ case "value=entity,0,7/principal=0,?/action=1,3/resource=2,4/context=6,?/day=2000-01-01/node=2,var,p/node=2,slot,p/node=0,eq,0,1/policy=5,permit,2/link=0,-,-/" "refused=5,38,0/"  -- "A slot without a value gets 5"
     ∷ case "value=entity,0,7/principal=0,?/action=1,3/resource=2,4/context=6,?/day=2000-01-01/node=2,var,p/node=2,slot,p/node=0,eq,0,1/policy=5,permit,2/link=0,0,0/" "refused=5,38,0/"  -- "a value for a slot that the policy lacks gets 5 there too"
     ∷ case "value=entity,0,7/principal=0,?/action=1,3/resource=2,4/context=6,?/day=2000-01-01/node=2,var,p/node=2,slot,p/node=0,eq,0,1/policy=5,permit,2/link=0,1,-/" "refused=5,38,0/"  -- no such value
@@ -103,7 +103,7 @@ groupLines =
     ∷ case "type=entity,0/type=entity,0,2/" "refused=5,19,0/"  -- no line alone of the second kind
     ∷ case "type=entity,2/type=entity,0,2/" "refused=5,19,0/"  -- no line alone of the first kind
     ∷ case "type=entity,0/type=entity,2/type=entity,0,2/type=entity,0,2,3/" "refused=5,21,0/"  -- another group is no line alone
-    ∷ case "type=entity,3/type=entity,2/type=entity,0/type=entity,0,2,3/type=record/shape=4,-/shape=4,-/shape=4,-/shape=4,-/principal=0,?/action=1,4/resource=3,5/context=4,?/day=2000-01-01/" "decision=deny/counts=0,0,0,0,0,0,0,0/"  -- three kinds
+    ∷ case "type=entity,3/type=entity,2/type=entity,0/type=entity,0,2,3/type=record/shape=4,-/shape=4,-/shape=4,-/shape=4,-/principal=0,?/action=1,4/resource=3,5/context=4,?/day=2000-01-01/" "decision=deny/counts=0,0,0,0,0,0,0,0/why=none/"  -- three kinds
     ∷ []
 
 group-lines : shownAll kindLines groupLines ≡ saysAll groupLines

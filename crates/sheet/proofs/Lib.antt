@@ -47,3 +47,6 @@ pub mod TypeNumbers
 pub mod Under
 pub mod Uses
 pub mod ValueRows
+pub mod WhyLaws
+pub mod WhyNamed
+pub mod WhyRead

@@ -122,6 +122,9 @@ node-line m f fs e = λ i. cond (items-show (f ∷ fs) e i && lt-ltb 4 (length (
 pub decision-line : (ss : List Slot) (f : List ℕ) (fs : List (List ℕ)) → allPlain (f ∷ fs) ≡ true → lineBy "decision" ss (unended "decision" (f ∷ fs)) ≡ itemsBy ss (f ∷ fs)
 decision-line ss f fs e = ap (itemsBy ss) (items-back f fs e)
 
+pub why-line : (ss : List Slot) (f : List ℕ) (fs : List (List ℕ)) → allPlain (f ∷ fs) ≡ true → lineBy "why" ss (unended "why" (f ∷ fs)) ≡ itemsBy ss (f ∷ fs)
+why-line ss f fs e = ap (itemsBy ss) (items-back f fs e)
+
 pub counts-line : (ss : List Slot) (f : List ℕ) (fs : List (List ℕ)) → allPlain (f ∷ fs) ≡ true → lineBy "counts" ss (unended "counts" (f ∷ fs)) ≡ itemsBy ss (f ∷ fs)
 counts-line ss f fs e = ap (itemsBy ss) (items-back f fs e)
 

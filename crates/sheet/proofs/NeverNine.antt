@@ -13,6 +13,7 @@ use Rattle.sheet.specs.Forms.{Mode, VALUE}
 use Rattle.sheet.specs.State.{linesOf, count}
 use Rattle.sheet.specs.Sheet.{read}
 use Rattle.sheet.specs.Content.{rowsIn, valueRows, nPolicies, schema, nEnv}
+use Rattle.sheet.specs.Why.{Name}
 use Rattle.sheet.specs.Answer.{run, answer}
 use Rattle.sheet.specs.Call.{room, returns, afterReading, readAs, returned}
 use Rattle.sheet.proofs.Lines.{accepted-history}
@@ -60,23 +61,23 @@ abbrev pub tabled : ℕ → Bool
 tabled n = leb n 8 || eqb n 10
 
 -- EVERY NUMBER RETURNED IS ONE OF THE TABLE'S
-pub number-tabled : (m : Mode) (work₁ work₂ out : ℕ) (sheet : List ℕ) → tabled (returned m work₁ work₂ out sheet .number) ≡ true
+pub number-tabled : (name : Name) (m : Mode) (work₁ work₂ out : ℕ) (sheet : List ℕ) → tabled (returned name m work₁ work₂ out sheet .number) ≡ true
 unfolding returned
-number-tabled m work₁ work₂ out sheet = go (ltb work₁ room || ltb work₂ room) (ltb room (length sheet))
+number-tabled name m work₁ work₂ out sheet = go (ltb work₁ room || ltb work₂ room) (ltb room (length sheet))
   where
     fits : (n : ℕ) (c : Bool) → tabled (cond c (returns 10 0 n) (returns 0 0 n) .number) ≡ true
     fits n true = refl
     fits n false = refl
 
-    after : (x k : ℕ) → x ≤ 8 → tabled (afterReading m out (read m sheet .state) x k .number) ≡ true
-    after zero k h = fits (length (answer m (read m sheet .state))) (ltb out (length (answer m (read m sheet .state))))
+    after : (x k : ℕ) → x ≤ 8 → tabled (afterReading name m out (read m sheet .state) x k .number) ≡ true
+    after zero k h = fits (length (answer name m (read m sheet .state))) (ltb out (length (answer name m (read m sheet .state))))
     after (suc x) k h = or-left (leb (suc x) 8) (eqb (suc x) 10) (le-leb (suc x) 8 h)
 
-    go : (x y : Bool) → tabled (cond x (returns 1 0 0) (cond y (returns 2 0 0) (readAs m out (read m sheet))) .number) ≡ true
+    go : (x y : Bool) → tabled (cond x (returns 1 0 0) (cond y (returns 2 0 0) (readAs name m out (read m sheet))) .number) ≡ true
     go true y = refl
     go false true = refl
     go false false = after (read m sheet .number) (read m sheet .line) (read-small m sheet)
 
 -- NUMBER 9 IS NEVER RETURNED
-pub never-nine : (m : Mode) (work₁ work₂ out : ℕ) (sheet : List ℕ) → returned m work₁ work₂ out sheet .number ≡ 9 → ⊥
-never-nine m work₁ work₂ out sheet e = no-true (ap tabled (sym e) ∙ number-tabled m work₁ work₂ out sheet)
+pub never-nine : (name : Name) (m : Mode) (work₁ work₂ out : ℕ) (sheet : List ℕ) → returned name m work₁ work₂ out sheet .number ≡ 9 → ⊥
+never-nine name m work₁ work₂ out sheet e = no-true (ap tabled (sym e) ∙ number-tabled name m work₁ work₂ out sheet)

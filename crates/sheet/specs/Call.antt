@@ -8,6 +8,7 @@ use lib.ListN.{length, drop, replicate}
 use Rattle.sheet.specs.Forms.{Mode}
 use Rattle.sheet.specs.State.{State}
 use Rattle.sheet.specs.Sheet.{Reading, read}
+use Rattle.sheet.specs.Why.{Name}
 use Rattle.sheet.specs.Answer.{answer}
 
 pub record Returned : Type 0 where
@@ -27,26 +28,26 @@ abbrev pub fitted : ℕ → ℕ → Returned
 fitted out n = cond (ltb out n) (returns 10 0 n) (returns 0 0 n)
 
 -- after the reading: 3 to 8, then 10. Number 9 has left the table (a value too many, which cannot be made), and is not given again.
-abbrev pub afterReading : Mode → ℕ → State → ℕ → ℕ → Returned
-afterReading m out s zero k = fitted out (length (answer m s))
-afterReading m out s (suc n) k = returns (suc n) k 0
+abbrev pub afterReading : Name → Mode → ℕ → State → ℕ → ℕ → Returned
+afterReading name m out s zero k = fitted out (length (answer name m s))
+afterReading name m out s (suc n) k = returns (suc n) k 0
 
-abbrev pub readAs : Mode → ℕ → Reading → Returned
-readAs m out x = afterReading m out (x .state) (x .number) (x .line)
+abbrev pub readAs : Name → Mode → ℕ → Reading → Returned
+readAs name m out x = afterReading name m out (x .state) (x .number) (x .line)
 
--- what is returned, for work slices of so many words and an answer buffer of so many bytes
-unfoldable pub returned : Mode → ℕ → ℕ → ℕ → List ℕ → Returned
-returned m work₁ work₂ out sheet =
+-- what is returned where the answer carries this name, for work slices of so many words and an answer buffer of so many bytes
+unfoldable pub returned : Name → Mode → ℕ → ℕ → ℕ → List ℕ → Returned
+returned name m work₁ work₂ out sheet =
     cond (ltb work₁ room || ltb work₂ room) (returns 1 0 0)
     (cond (ltb room (length sheet)) (returns 2 0 0)
-    (readAs m out (read m sheet)))
+    (readAs name m out (read m sheet)))
 
 -- "The answer buffer changes only in the bytes written"
 abbrev pub over : List ℕ → List ℕ → List ℕ
 over bytes buffer = bytes ++ drop (length bytes) buffer
 
-unfoldable pub written : Mode → ℕ → ℕ → List ℕ → List ℕ → List ℕ
-written m work₁ work₂ buffer sheet = cond (eqb (returned m work₁ work₂ (length buffer) sheet .number) 0) (over (answer m (read m sheet .state)) buffer) buffer
+unfoldable pub written : Name → Mode → ℕ → ℕ → List ℕ → List ℕ → List ℕ
+written name m work₁ work₂ buffer sheet = cond (eqb (returned name m work₁ work₂ (length buffer) sheet .number) 0) (over (answer name m (read m sheet .state)) buffer) buffer
 
 -- the first n words 0, the rest untouched
 abbrev pub zeros : ℕ → List ℕ → List ℕ
@@ -56,9 +57,10 @@ zeros n w = replicate n 0 ++ drop n w
 unfoldable pub worked : List ℕ → ℕ → List ℕ
 worked w other = cond (ltb (length w) room || ltb other room) w (zeros room w)
 
--- "A sheet is accepted when its run returns number 0", "in whatever work slices and answer buffer it was lent"
+-- "A sheet is accepted when its run returns number 0", "in whatever work slices and answer buffer it was lent", and whatever name its answer carries
 pub record Accepted (m : Mode) (sheet : List ℕ) : Type 0 where
   pub work₁ : ℕ
   pub work₂ : ℕ
   pub out : ℕ
-  pub zero-number : returned m work₁ work₂ out sheet .number ≡ 0
+  pub name : Name
+  pub zero-number : returned name m work₁ work₂ out sheet .number ≡ 0

@@ -11,3 +11,5 @@ pub mod Sheet
 pub mod State
 pub mod Parents
 pub mod Typing
+pub mod Why
+pub mod WhySaid

@@ -1,4 +1,4 @@
--- Document 01, "The answer", read back: from the bytes of an answer to its decision, counts, made values, residual nodes and policy lines.
+-- Document 01, "The answer", read back: from the bytes of an answer to its decision, counts, name, made values, residual nodes and policy lines.
 -- Its `value=` and `node=` lines have the forms of a sheet's and are read by the sheet's table. A text of another form reads as none.
 use mathlib.Core.Bool.{cond}
 use mathlib.Core.Option.{Option, none, some}
@@ -15,6 +15,7 @@ use Rattle.cedar.specs.Rows.{Row}
 use Rattle.sheet.specs.Ascii.{ascii}
 use Rattle.sheet.specs.Bytes.{upTo, split, same}
 use Rattle.sheet.specs.Forms.{Mode, partial, complete, Slot, line, word, item, joined, rowOf, keyOf, TEXT, VALUE, NODE, POLICY}
+use Rattle.sheet.specs.Why.{Name}
 use Rattle.sheet.specs.Sheet.{anySlot}
 use Rattle.sheet.specs.Content.{rowsIn, treesFrom, effectOf}
 
@@ -29,6 +30,7 @@ pub record PolicyLine : Type 0 where
 pub record Said : Type 0 where
   pub decision : Decision
   pub counts : List ℕ
+  pub why : Name
   pub made : List Row
   pub nodes : List (List ℕ)
   pub policies : List PolicyLine
@@ -59,6 +61,10 @@ decisionOf r = getD (allow ∷ deny ∷ undecided ∷ []) (getD r 0 0) undecided
 abbrev pub countsLine : List ℕ → Option (List ℕ)
 countsLine l = lineBy "counts" (replicate 8 (line POLICY)) l
 
+-- `none` or the number of a text
+abbrev pub whyLine : List ℕ → Option Name
+whyLine l = onSome (cond (same l (ascii "why=none")) (some none) none) (lineBy "why" (line TEXT ∷ []) l) (λ r. some (some (getD r 0 0)))
+
 abbrev pub rootSlots : Mode → List Slot
 rootSlots partial = line NODE ∷ []
 rootSlots complete = []
@@ -82,22 +88,23 @@ rowsFirst k (l ∷ ls) = cond (eqb (keyOf (rowOf partial l)) k) (rowOf partial l
 
 -- ---- the answer
 
-abbrev pub saidWith : List ℕ → List ℕ → List (List ℕ) → List (List ℕ) → Option (List PolicyLine) → Option Said
-saidWith d c vs ns o = onSome none o (λ ps. some (record { decision = decisionOf d; counts = c; made = rowsIn vs; nodes = ns; policies = ps }))
+abbrev pub saidWith : List ℕ → List ℕ → Name → List (List ℕ) → List (List ℕ) → Option (List PolicyLine) → Option Said
+saidWith d c w vs ns o = onSome none o (λ ps. some (record { decision = decisionOf d; counts = c; why = w; made = rowsIn vs; nodes = ns; policies = ps }))
 
--- what follows decision and counts: made values, residual nodes, policies
-abbrev pub restOf : Mode → List ℕ → List ℕ → List (List ℕ) → Option Said
-restOf partial d c ls =
+-- what follows decision, counts and name: made values, residual nodes, policies
+abbrev pub restOf : Mode → List ℕ → List ℕ → Name → List (List ℕ) → Option Said
+restOf partial d c w ls =
     let vs = rowsFirst VALUE ls in
     let after = drop (length vs) ls in
     let ns = rowsFirst NODE after in
-    saidWith d c vs ns (policyLines partial (drop (length ns) after))
-restOf complete d c ls = saidWith d c [] [] (policyLines complete ls)
+    saidWith d c w vs ns (policyLines partial (drop (length ns) after))
+restOf complete d c w ls = saidWith d c w [] [] (policyLines complete ls)
 
 abbrev pub linesSay : Mode → List (List ℕ) → Option Said
 linesSay m [] = none
 linesSay m (d ∷ []) = none
-linesSay m (d ∷ c ∷ ls) = onSome none (decisionLine d) (λ x. onSome none (countsLine c) (λ y. restOf m x y ls))
+linesSay m (d ∷ c ∷ []) = none
+linesSay m (d ∷ c ∷ w ∷ ls) = onSome none (decisionLine d) (λ x. onSome none (countsLine c) (λ y. onSome none (whyLine w) (λ z. restOf m x y z ls)))
 
 unfoldable pub readAnswer : Mode → List ℕ → Option Said
 readAnswer m bytes = linesSay m (split 10 bytes)

@@ -1,6 +1,7 @@
 -- `response::runs::send_complete` meets its contract. Assumes nothing.
 use Rattle.table.specs.Layout.{RUN}
 use Rattle.response.proofs.Sending.{send-short, send-whole}
+use Rattle.response.specs.Naming.{nameAt}
 use Rattle.response.specs.Printed.{completeBytes}
 use Rattle.response.proofs.Lengths.{complete-counted}
 use borrow.Author.Needs.{needs}
@@ -9,25 +10,30 @@ use Rattle.response.proofs.runs.send_complete.Tie as tie
 
 returns : tie.Need-returns
 returns c =
-    let s = c .before .before .before .before .before .before .before .before in
+    let s = c .before .before .before .before .before .before .before .before .before in
     let a = s .args .rows .now in
     let cs = s .args .classes .now in
+    let y = c .before .before .before .before .before .why-of in
+    let name = nameAt a (y .result) in
     let w = c .before .before .before .complete in
-    send-short (completeBytes a cs) (s .args .out .now) (w .last .0) (w .result) (w .ensures) (complete-counted a cs (c .before .before .before .before .before .before .shared-slice-known .given RUN .fits)) (c .if1 .taken)
+    record { name = name; named = y .ensures; sends = send-short (completeBytes name a cs) (s .args .out .now) (w .last .0) (w .result) (w .ensures) (complete-counted name a cs (c .before .before .before .before .before .before .before .shared-slice-known .given RUN .fits)) (c .if1 .taken) }
 
 returns-2 : tie.Need-returns-2
 returns-2 c =
-    let s = c .before .before .before .before .before .before .before .before .before .before .before .before in
+    let s = c .before .before .before .before .before .before .before .before .before .before .before .before .before in
     let a = s .args .rows .now in
     let cs = s .args .classes .now in
+    let y = c .before .before .before .before .before .before .before .before .before .why-of in
+    let name = nameAt a (y .result) in
     let w = c .before .before .before .before .before .before .before .complete in
     let v = c .before .before .complete2 in
-    send-whole (completeBytes a cs) (s .args .out .now) (w .last .0) (w .result) (w .ensures) (complete-counted a cs (c .before .before .before .before .before .before .before .before .before .before .shared-slice-known .given RUN .fits)) (v .last .0) (v .result) (c .before .before .before .before .if1 .left) (v .ensures)
+    record { name = name; named = y .ensures; sends = send-whole (completeBytes name a cs) (s .args .out .now) (w .last .0) (w .result) (w .ensures) (complete-counted name a cs (c .before .before .before .before .before .before .before .before .before .before .before .shared-slice-known .given RUN .fits)) (v .last .0) (v .result) (c .before .before .before .before .if1 .left) (v .ensures) }
 
 pub send-complete-spec : {M : Type 1} → statement M
 send-complete-spec =
     tie.close
     (tie.spec
+    (λ c κs. search needs)
     (λ c. search needs)
     (λ c. search needs)
     (λ c κs. search needs)

@@ -1,5 +1,6 @@
 -- `response::runs::send_partial` meets its contract. Assumes nothing.
 use Rattle.table.specs.Layout.{RUN, MADE}
+use Rattle.response.specs.Naming.{nameAt}
 use Rattle.response.specs.Printed.{partialBytes}
 use Rattle.response.proofs.Lengths.{partial-counted}
 use Rattle.response.proofs.Sending.{send-short, send-whole}
@@ -9,31 +10,36 @@ use Rattle.response.proofs.runs.send_partial.Tie as tie
 
 returns : tie.Need-returns
 returns c =
-    let s = c .before .before .before .before .before .before .before .before .before .before in
+    let s = c .before .before .before .before .before .before .before .before .before .before .before in
     let a = s .args .rows .now in
     let l = s .args .log .now in
     let cs = s .args .classes .now in
     let es = s .args .roots .now in
     let w = c .before .before .before .partial in
-    let g = c .before .before .before .before .before .before .before .before .shared-slice-known in
-    send-short (partialBytes a l cs es) (s .args .out .now) (w .last .0) (w .result) (w .ensures) (partial-counted a l cs es (s .pre .0) (s .pre .1) (g .given RUN .fits) (g .given MADE .fits)) (c .if1 .taken)
+    let g = c .before .before .before .before .before .before .before .before .before .shared-slice-known in
+    let y = c .before .before .before .before .before .why-of in
+    let name = nameAt a (y .result) in
+    record { name = name; named = y .ensures; sends = send-short (partialBytes name a l cs es) (s .args .out .now) (w .last .0) (w .result) (w .ensures) (partial-counted name a l cs es (s .pre .0) (s .pre .1) (g .given RUN .fits) (g .given MADE .fits)) (c .if1 .taken) }
 
 returns-2 : tie.Need-returns-2
 returns-2 c =
-    let s = c .before .before .before .before .before .before .before .before .before .before .before .before .before .before in
+    let s = c .before .before .before .before .before .before .before .before .before .before .before .before .before .before .before in
     let a = s .args .rows .now in
     let l = s .args .log .now in
     let cs = s .args .classes .now in
     let es = s .args .roots .now in
     let w = c .before .before .before .before .before .before .before .partial in
-    let g = c .before .before .before .before .before .before .before .before .before .before .before .before .shared-slice-known in
+    let g = c .before .before .before .before .before .before .before .before .before .before .before .before .before .shared-slice-known in
+    let y = c .before .before .before .before .before .before .before .before .before .why-of in
+    let name = nameAt a (y .result) in
     let v = c .before .before .partial2 in
-    send-whole (partialBytes a l cs es) (s .args .out .now) (w .last .0) (w .result) (w .ensures) (partial-counted a l cs es (s .pre .0) (s .pre .1) (g .given RUN .fits) (g .given MADE .fits)) (v .last .0) (v .result) (c .before .before .before .before .if1 .left) (v .ensures)
+    record { name = name; named = y .ensures; sends = send-whole (partialBytes name a l cs es) (s .args .out .now) (w .last .0) (w .result) (w .ensures) (partial-counted name a l cs es (s .pre .0) (s .pre .1) (g .given RUN .fits) (g .given MADE .fits)) (v .last .0) (v .result) (c .before .before .before .before .if1 .left) (v .ensures) }
 
 pub send-partial-spec : {M : Type 1} → statement M
 send-partial-spec =
     tie.close
     (tie.spec
+    (λ c κs. search needs)
     (λ c. search needs)
     (λ c. search needs)
     (λ c κs. search needs)
