@@ -10,8 +10,9 @@
  *   3 to 8, line, 0   the sheet is faulty, first at that line
  *   10, 0, needed     the answer buffer is shorter than the answer; one of OPENRULES_ANSWER bytes never is
  *
- * An answer begins with its decision, eight counts and `why=`: the text number of the id of a policy that gave the decision, a true forbid for a
- * deny, a true permit for an allow; `none` for open and for a deny without a true forbid. Of several such policies any one may be named.
+ * An answer begins with its decision, eight counts and `why=`: the text number of the id of the first policy, in the sheet's order, that gave the
+ * decision, a true forbid for a deny, a true permit for an allow; `none` for open and for a deny without a true forbid. A partial sheet does not
+ * settle the name: an open policy of the same effect that stands before it may still turn true.
  *
  * A type line `entity` lists one or more kinds, ascending; where it lists several, each has a type line of its own before it.
  * The last item of an `entity` line is the set of its direct parents; its ancestors are all that is reached through parents.

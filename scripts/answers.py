@@ -2,8 +2,8 @@
 """Runs the program on the known sheets: python3 scripts/answers.py [PATTERN] [--wrong]
 
 Each known sheet (scripts/sheets.py) that the program sends to the entry that it is known for goes to target/bin/openrules (`rt check openrules` makes
-it; OPENRULES names another), and what it prints must be the known text to the byte, but for the name, of which any that the policy lines allow will do; where
-the known call was lent too short a buffer, the program, which lends a longer one, must print an answer of the length that was needed. With PATTERN only the sheets whose name it is
+it; OPENRULES names another), and what it prints must be the known text to the byte; where the known call was lent too short a buffer, the program, which
+lends a longer one, must print an answer of the length that was needed. With PATTERN only the sheets whose name it is
 found in. With --wrong every known text is replaced by a wrong one: every sheet must then fail.
 """
 import os
@@ -11,7 +11,7 @@ import re
 import subprocess
 import sys
 
-from sheets import HERE, WORDS, allowed, known, printed, whole
+from sheets import HERE, WORDS, known, printed, whole
 
 PROGRAM = os.environ.get("OPENRULES", os.path.join(HERE, "target", "bin", "openrules"))
 
@@ -48,8 +48,8 @@ def main(args):
         want = b"refused=3,77,0\n" if "--wrong" in args else want
         run = subprocess.run([PROGRAM], input=sheet, capture_output=True)
         tried += 1
-        same = len(run.stdout) == want if isinstance(want, int) else allowed(run.stdout, want)
-        if run.returncode != 0 or not same or run.stderr:
+        got = len(run.stdout) if isinstance(want, int) else run.stdout
+        if run.returncode != 0 or got != want or run.stderr:
             failed += 1
             print("%s: status %d, printed %r, wanted %r" % (name, run.returncode, run.stdout[:200], want if isinstance(want, int) else want[:200]))
     print("%d sheets, %d differ; %d are about the other entry" % (tried, failed, other))

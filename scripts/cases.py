@@ -4,7 +4,7 @@
     python3 scripts/cases.py [PATTERN] [--each] [--wrong]
 
 For each sheet, or each whose name PATTERN is found in, one theorem by computation is written to target/cases/: what the definitions make of the
-sheet's bytes, with the first of the names that the answer may carry, is the known text. One check computes all short sheets with short answers, and one each other sheet; with --each,
+sheet's bytes is the known text. One check computes all short sheets with short answers, and one each other sheet; with --each,
 one check each sheet. Four sheets are over the prover's own limit of steps: they have no verdict, which says neither that they agree nor
 that they do not. Sheets with over 60 entity lines of known parents are left out and counted: the definition finds what each of them reaches before every later line. With --wrong every known text is replaced by a wrong one: each check must then fail. Nothing outside target/ is written.
 """
@@ -27,7 +27,6 @@ UNFOLD = (
 # compute them within its limit; any other sheet without verdict is a failure
 UNDECIDED = ("value-1024", "value-1025", "2.9 many-made-2.9", "2,000 steps in a group of 32 kinds")
 HEAD = """use mathlib.Core.Path.{_≡_, refl}
-use mathlib.Core.Option.{none, some}
 use mathlib.Core.List.{List, [], _∷_, _++_}
 use Prim.Native.Nat.{ℕ, zero, suc}
 use Prim.Native.String.{String}
@@ -36,11 +35,9 @@ use Rattle.sheet.specs.Ascii.{ascii}
 use Rattle.sheet.specs.Forms.{Mode, partial, complete, keys, forms, formOf, slotAt, counted, tagOf, rowOf, keyOf, refs, ascendings}
 use Rattle.sheet.specs.Typing.{nodesUnder, fitsIn, typed}
 use Rattle.sheet.specs.Parents.{ancestors, unknownAbove}
-use Rattle.sheet.specs.State.{State}
 use Rattle.sheet.specs.Sheet.{found, depth, fault, more, read}
 use Rattle.sheet.specs.Content.{types, valueRows, contents, schema, trees, exprs, onTerm, nPolicies, policies, nEnv, env}
-use Rattle.sheet.specs.Why.{Name, reasons}
-use Rattle.sheet.specs.Answer.{run, results, answer, printed, numbers, ids, verdictsOf}
+use Rattle.sheet.specs.Answer.{run, results, answer, printed, numbers}
 use Rattle.sheet.specs.Call.{Returned, returned}
 
 -- what the program prints
@@ -51,17 +48,8 @@ shown a (suc n) r = printed "refused" (numbers (r .number ∷ r .line ∷ r .len
 abbrev shownOf : List ℕ → Returned → List ℕ
 shownOf a r = shown a (r .number) r
 
--- of the names that an answer may carry, the first
-abbrev firstName : List ℕ → Name
-firstName [] = none
-firstName (i ∷ l) = some i
-
-abbrev nameFor : Mode → State → Name
-nameFor m s = firstName (reasons (ids s) (verdictsOf m s))
-
 unfoldable printedOf : Mode → ℕ → ℕ → ℕ → List ℕ → List ℕ
-printedOf m work₁ work₂ out sheet =
-    shownOf (answer (nameFor m (read m sheet .state)) m (read m sheet .state)) (returned (nameFor m (read m sheet .state)) m work₁ work₂ out sheet)
+printedOf m work₁ work₂ out sheet = shownOf (answer m (read m sheet .state)) (returned m work₁ work₂ out sheet)
 """
 
 

@@ -10,17 +10,16 @@ promise kept, and beside each sheet of examples/ its answer.
 
 With --host each answer must also be that of the original: HOST is the program that `cargo build --release` makes in host/. Of an accepted sheet with
 groups of kinds the original is not asked; there the host must accept it, and the expected text, where there is one, must be the reading's. With --have,
-a list as 2.3,2.5,2.9,2.4,2.7,2.6,2.2 of the requests of document 02 that have landed, the reading is asked with these; the cases of its `cases02.py` that hold
+a list as 2.3,2.5,2.9,2.4,2.7,2.6,2.2,2.8 of the requests of document 02 that have landed, the reading is asked with these; the cases of its `cases02.py` that hold
 then are added, from 2.9 on each sheet of `cases.py` and each probe gets a `day` line, from 2.4 on there are sheets whose answers are long, from 2.7 on
 sheets with larger groups and some random ones with groups, of its `gen02.py`, and from 2.6 on sheets with long rows and circles of parents and some random
-ones that parents matter to. From 2.2 on answers have a name: of several that will do each of the three may give another, and what is written has the
-reading's, the first. Where an expected text, the reading and the original differ otherwise, nothing is written. With --check nothing is written either: the files must be what would be written.
+ones that parents matter to. Where an expected text, the reading and the original differ, nothing is written. With --check nothing is written either: the files must be what would be written.
 """
 import os
 import subprocess
 import sys
 
-from sheets import CRATE, ENTRIES, HERE, NOT_ASKED, WORDS, Result, Sheet, allowed, head, printed, sheets, shown, whole
+from sheets import CRATE, ENTRIES, HERE, NOT_ASKED, WORDS, Result, Sheet, head, printed, sheets, shown, whole
 
 BUFFER, LARGE = 4096, 65536
 # of random sheets the seed, and how many of each sort are taken: with groups, by entry, and those that parents matter to, by entry and whether they are refused
@@ -279,10 +278,10 @@ def original(sheet, result, host):
 def differs(sheet, result, want, said):
     """Whether the result is not the expected one, or not the original's; where that is not asked, the sheet must be accepted."""
     texts = [text for text in (want, said) if text is not None and not (text == NOT_ASKED and result.number == 0)]
-    others = [text for text in texts if not allowed(text, printed(result))]
-    for text in others:
-        print("%s: %r is wanted, the reading gives %r" % (sheet.name, text[:200], printed(result)[:200]))
-    return bool(others)
+    for text in texts:
+        if text != printed(result):
+            print("%s: %r is wanted, the reading gives %r" % (sheet.name, text[:200], printed(result)[:200]))
+    return any(text != printed(result) for text in texts)
 
 
 def option(args, name):

@@ -6,7 +6,7 @@
 REFERENCE is a folder with `refsheet.py` and `gen02.py`, a reading of documents 01 and 02 apart from the proved code and from the host; with --have it is
 asked with these requests alone. For each seed so many sheets of `gen02.py` are made, and with --host as many of the host's own (`host random`). With
 --program what target/bin/openrules prints (`rt check openrules` makes it; OPENRULES names another), with --host what the host says, must be what the
-reading gives, to the byte, but for the name, of which any that the policy lines allow will do. The host does not ask the original for the answers of sheets with groups of kinds: there it must accept what the reading
+reading gives, to the byte. The host does not ask the original for the answers of sheets with groups of kinds: there it must accept what the reading
 accepts, and the program is compared with the reading alone. A sheet that the program sends to the other entry is left out for it. Nothing outside
 target/ is written.
 """
@@ -17,7 +17,7 @@ import sys
 
 from answers import PROGRAM, entry_of
 from known import option
-from sheets import ENTRIES, HERE, NOT_ASKED, allowed
+from sheets import ENTRIES, HERE, NOT_ASKED
 
 FOLDER = os.path.join(HERE, "target", "reading")
 
@@ -68,7 +68,7 @@ def main(args):
             tried += 1
             grouped += not_asked
             for who, text in texts:
-                if not allowed(text, want):
+                if text != want:
                     faults += 1
                     print("%s, %s: the %s says %r, the reading %r" % (name, entry, who, text[:200], want[:200]))
     print("%d sheets, %d differ; of %d, accepted with groups, the original was not asked" % (tried, faults, grouped))

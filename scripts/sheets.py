@@ -56,19 +56,3 @@ def known():
 def whole(sheet, result):
     """Whether the call was lent enough, so that its result is that of the sheet alone."""
     return min(sheet.first, sheet.second) >= WORDS and result.number != 10
-
-
-def names(answer):
-    """What the `why` line of an answer may say, by its own policy lines: a true forbid for a deny, a true permit for an allow."""
-    lines = answer.split(b"\n")
-    effect = {b"decision=allow": b"permit", b"decision=deny": b"forbid"}.get(lines[0])
-    policies = [line[len(b"policy="):].split(b",") for line in lines if line.startswith(b"policy=")]
-    return [items[0] for items in policies if items[1:3] == [effect, b"true"]] or [b"none"]
-
-
-def allowed(text, want):
-    """Whether a text is the wanted one but for the name, of which any one will do (document 02, 2.2)."""
-    lines = want.split(b"\n")
-    if not lines[2:] or not lines[2].startswith(b"why="):
-        return text == want
-    return text in [b"\n".join(lines[:2] + [b"why=" + name] + lines[3:]) for name in names(want)]

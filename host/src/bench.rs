@@ -83,7 +83,7 @@ fn measure(sheets: &[(Mode, Vec<u8>)], library: Option<Call>, rounds: usize) -> 
         times.reading += time(rounds, || {
             let _ = black_box(sheet::read(*mode, black_box(sheet)));
         });
-        let mut length = answer.map_or(0, |answer| answer.first().len());
+        let mut length = answer.map_or(0, |answer| answer.len());
         if let Some(call) = library {
             let [number, _, written] = call(*mode, sheet, &mut a, &mut b, &mut out);
             assert_eq!(number, 0, "a sheet of the benchmark is accepted");

@@ -113,18 +113,12 @@ fn number(text: &str) -> u64 {
 /// What is said of an accepted sheet with groups, in the place of an answer.
 const GROUPED: &[u8] = b"accepted with groups: the original is not asked\n";
 
-/// What the program may print for a sheet, as far as the original is asked: a text for each name.
-fn texts(mode: Mode, sheet: &[u8]) -> Vec<Vec<u8>> {
-    match run::answer(mode, sheet) {
-        Ok(Some(answer)) => answer.texts().collect(),
-        Ok(None) => vec![GROUPED.to_vec()],
-        Err(refusal) => vec![format!("refused={},{},{}\n", refusal.number, refusal.line, refusal.length).into_bytes()],
-    }
-}
-
-/// The same with the first name.
+/// What the program prints for a sheet, as far as the original is asked.
 fn printed(mode: Mode, sheet: &[u8]) -> Vec<u8> {
-    texts(mode, sheet).swap_remove(0)
+    match run::answer(mode, sheet) {
+        Ok(answer) => answer.unwrap_or(GROUPED.to_vec()),
+        Err(refusal) => format!("refused={},{},{}\n", refusal.number, refusal.line, refusal.length).into_bytes(),
+    }
 }
 
 fn write(bytes: &[u8]) {
@@ -194,11 +188,11 @@ fn cases(folder: &Path) -> ExitCode {
         };
         let sheet = fs::read(&name).expect("the sheet is read");
         count += 1;
-        let texts = texts(mode, &sheet);
+        let text = printed(mode, &sheet);
         let accepted = !expected.starts_with(b"refused=");
-        if texts[0] == GROUPED && accepted {
+        if text == GROUPED && accepted {
             grouped += 1;
-        } else if !texts.contains(&expected) {
+        } else if text != expected {
             differences += 1;
             println!("{name} differs");
         }

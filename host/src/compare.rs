@@ -2,11 +2,10 @@
 //!
 //! For each sheet both are lent buffers of the same lengths with the same contents, longer and shorter ones among them,
 //! inside larger buffers. After the calls all of it must be equal: number, line, length, bytes written and not written,
-//! words cleared and not touched, and what lies beside the lent parts. The answer may name any policy that the original gives as a
-//! reason of its decision: what a call leaves must be what one with some such name leaves. Of an accepted sheet with groups of kinds
-//! the original is not asked: the library's answer in a long buffer, whose name its own lines must explain, stands for the original's,
-//! and all else is compared. On triples of a partial sheet and two complete ones that agree with it, none with groups, demand 3 is run
-//! from the bytes of the three answers.
+//! words cleared and not touched, and what lies beside the lent parts. Of an accepted sheet with groups of kinds the original is not
+//! asked: the library's answer in a long buffer, whose name its own lines must explain, stands for the original's, and all else is
+//! compared. On triples of a partial sheet and two complete ones that agree with it, none with groups, demand 3 is run from the bytes
+//! of the three answers.
 
 use crate::generate::{self, Case};
 use crate::random::Random;
@@ -53,10 +52,9 @@ pub struct Counts {
     pub differences: usize,
     /// Accepted sheets with groups, whose answers are the library's alone.
     pub grouped: usize,
-    /// Accepted sheets with a policy that may be named, and with several.
+    /// Accepted sheets with a policy that gave the decision, and with several.
     pub named: usize,
-    pub chosen: usize,
-    /// Sheets without difference, by number.
+    pub several: usize,
     pub numbers: [usize; 11],
 }
 
@@ -76,7 +74,7 @@ impl Counts {
             by_number(&self.numbers),
             self.grouped,
             self.named,
-            self.chosen
+            self.several
         )
     }
 }
@@ -117,10 +115,35 @@ fn whole_answer(call: Call, case: &Case, random: &mut Random) -> Result<Vec<u8>,
     }
 }
 
-/// What of a call is not what one with this answer or refusal returns and leaves, in what both were lent.
-fn difference(lent: &Lent, answer: Result<Vec<u8>, Refusal>, got: [u32; 3], found: &Lent) -> Option<String> {
-    let mut expected = lent.clone();
+/// Runs both on one sheet and says what differs.
+fn one(call: Call, case: &Case, random: &mut Random, counts: &mut Counts) -> Option<String> {
+    counts.sheets += 1;
+    let answer = match run::answer(case.mode, &case.bytes) {
+        Ok(Some(answer)) => Ok(answer),
+        Ok(None) => {
+            counts.grouped += 1;
+            match whole_answer(call, case, random) {
+                Ok(answer) => Ok(answer),
+                Err(text) => return Some(format!("an accepted sheet with groups: {text}")),
+            }
+        }
+        Err(refusal) => Err(refusal),
+    };
+    if let Ok(answer) = &answer {
+        match run::explained(case.mode, answer) {
+            Ok(reasons) => {
+                counts.named += usize::from(reasons > 0);
+                counts.several += usize::from(reasons > 1);
+            }
+            Err(text) => return Some(text),
+        }
+    }
+    let needed = answer.as_ref().map_or(40, Vec::len);
+    let mut expected = Lent::of(work_length(random), work_length(random), buffer_length(needed, random), random);
+    let mut found = expected.clone();
     let wanted = expected.left(answer);
+    let got = found.call(call, case);
+    counts.numbers[wanted[0] as usize] += 1;
     if got != wanted {
         return Some(format!("returned {got:?}, expected {wanted:?}"));
     }
@@ -134,40 +157,6 @@ fn difference(lent: &Lent, answer: Result<Vec<u8>, Refusal>, got: [u32; 3], foun
         }
     }
     None
-}
-
-/// Runs both on one sheet and says what differs, whichever policy of those that gave the decision is named.
-fn one(call: Call, case: &Case, random: &mut Random, counts: &mut Counts) -> Option<String> {
-    counts.sheets += 1;
-    let answer = match run::answer(case.mode, &case.bytes) {
-        Ok(Some(answer)) => Ok(answer),
-        Ok(None) => {
-            counts.grouped += 1;
-            match whole_answer(call, case, random).and_then(|answer| run::explained(case.mode, &answer)) {
-                Ok(answer) => Ok(answer),
-                Err(text) => return Some(format!("an accepted sheet with groups: {text}")),
-            }
-        }
-        Err(refusal) => Err(refusal),
-    };
-    let needed = answer.as_ref().map_or(40, |answer| answer.first().len());
-    let lent = Lent::of(work_length(random), work_length(random), buffer_length(needed, random), random);
-    let mut found = lent.clone();
-    let got = found.call(call, case);
-    let differs = match answer {
-        Err(refusal) => difference(&lent, Err(refusal), got, &found),
-        Ok(answer) => {
-            counts.named += usize::from(answer.choices() > 0);
-            counts.chosen += usize::from(answer.choices() > 1);
-            let mut differences = answer.texts().map(|text| difference(&lent, Ok(text), got, &found));
-            let first = differences.next().expect("a text");
-            first.filter(|_| differences.all(|other| other.is_some()))
-        }
-    };
-    if differs.is_none() {
-        counts.numbers[got[0] as usize] += 1;
-    }
-    differs
 }
 
 /// The three answers of a triple, and demand 3 over them.
@@ -273,45 +262,57 @@ mod tests {
         );
     }
 
-    /// A call whose answer is chosen among the texts that the original allows, or made of them.
-    fn chosen(
-        choose: fn(&[Vec<u8>]) -> Vec<u8>,
+    /// A call whose answer has another name, made of its own one and the policies that gave the decision.
+    fn renamed(
+        rename: fn(&str, &[&str]) -> String,
         mode: Mode,
         sheet: &[u8],
         a: &mut [u32],
         b: &mut [u32],
         out: &mut [u8],
     ) -> [u32; 3] {
-        match run::answer(mode, sheet) {
-            Ok(Some(answer)) => run::left(|| Ok(choose(&answer.texts().collect::<Vec<_>>())), a, b, out),
-            _ => run::call(mode, sheet, a, b, out),
-        }
-    }
-
-    /// The first text with another name.
-    fn named(name: &str, texts: &[Vec<u8>]) -> Vec<u8> {
-        let text = String::from_utf8(texts[0].clone()).expect("answers are ASCII");
-        let line = format!("why={name}\n");
-        let lines = text.split_inclusive('\n').enumerate();
-        lines.map(|(n, other)| if n == 2 { line.as_str() } else { other }).collect::<String>().into_bytes()
+        let Ok(Some(answer)) = run::answer(mode, sheet) else {
+            return run::call(mode, sheet, a, b, out);
+        };
+        let text = String::from_utf8(answer).expect("answers are ASCII");
+        let lines: Vec<&str> = text.split_inclusive('\n').collect();
+        let reason = if lines[0] == "decision=allow\n" { ",permit,true" } else { ",forbid,true" };
+        let reasons: Vec<&str> =
+            lines.iter().filter(|line| line.contains(reason)).map(|line| &line[7..line.find(',').unwrap()]).collect();
+        let name = rename(lines[2]["why=".len()..].trim_end(), &reasons);
+        let other = [&lines[..2].concat(), "why=", &name, "\n", &lines[3..].concat()].concat();
+        run::left(|| Ok(other.into_bytes()), a, b, out)
     }
 
     #[test]
-    fn any_reason_may_be_named() {
-        let last: Call = |mode, sheet, a, b, out| chosen(|texts| texts[texts.len() - 1].clone(), mode, sheet, a, b, out);
+    fn the_same_name_is_no_difference() {
+        assert_eq!(differences(|mode, sheet, a, b, out| renamed(|name, _| name.into(), mode, sheet, a, b, out)), 0);
+    }
+
+    #[test]
+    fn another_policy_that_gave_the_decision_is_found() {
+        let last: Call = |mode, sheet, a, b, out| {
+            let rename = |name: &str, reasons: &[&str]| {
+                if reasons.len() > 1 && name != "none" {
+                    reasons[reasons.len() - 1].into()
+                } else {
+                    name.into()
+                }
+            };
+            renamed(rename, mode, sheet, a, b, out)
+        };
         let counts = compare(last, 600, 5);
-        assert_eq!(counts.differences, 0);
-        assert!(counts.chosen > 20);
+        assert!(counts.several > 20 && counts.differences > 20);
     }
 
     #[test]
     fn a_name_left_out_is_found() {
-        assert!(differences(|mode, sheet, a, b, out| chosen(|texts| named("none", texts), mode, sheet, a, b, out)) > 0);
+        assert!(differences(|mode, sheet, a, b, out| renamed(|_, _| "none".into(), mode, sheet, a, b, out)) > 0);
     }
 
     #[test]
     fn another_name_is_found() {
-        assert!(differences(|mode, sheet, a, b, out| chosen(|texts| named("0", texts), mode, sheet, a, b, out)) > 0);
+        assert!(differences(|mode, sheet, a, b, out| renamed(|_, _| "0".into(), mode, sheet, a, b, out)) > 0);
     }
 
     #[test]

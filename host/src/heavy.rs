@@ -942,7 +942,7 @@ mod tests {
             let draft = shared_root(long, false);
             assert_eq!((draft.policies.len(), draft.uses()), (64, 1024));
             let answer = run::answer(draft.mode, &draft.bytes()).expect("the sheet is accepted");
-            assert!(answer.is_some_and(|answer| answer.first().len() > 900_000));
+            assert!(answer.is_some_and(|answer| answer.len() > 900_000));
         }
     }
 

@@ -1,6 +1,5 @@
 //! The fixed list: some hundreds of sheets with the original's answers, for a program that replays them without Rust. Sheets with
-//! groups of kinds are among those that are refused; the original is not asked for their answers. Of the policies that an answer
-//! may name the list has the first.
+//! groups of kinds are among those that are refused; the original is not asked for their answers.
 //!
 //! The first line holds the number of records. A record is a line of six decimal numbers,
 //!
@@ -78,14 +77,8 @@ pub fn list() -> (Vec<u8>, String) {
         n += 1;
         let (number, buffer) = match run::answer(case.mode, &case.bytes) {
             Ok(None) => continue,
-            Ok(Some(answer)) => {
-                let length = answer.first().len();
-                if random.chance(20) {
-                    (10, random.pick(&[0, length - 1, length / 2]))
-                } else {
-                    (0, random.pick(&[length, length + 1, 65536]))
-                }
-            }
+            Ok(Some(answer)) if random.chance(20) => (10, random.pick(&[0, answer.len() - 1, answer.len() / 2])),
+            Ok(Some(answer)) => (0, random.pick(&[answer.len(), answer.len() + 1, 65536])),
             Err(refusal) => (refusal.number as usize, random.pick(&[0, 1, 4096])),
         };
         if taken[number] < WANTED[number] && (number == 2 || case.bytes.len() <= LONGEST) {

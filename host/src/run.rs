@@ -39,66 +39,30 @@ pub struct Ground {
     heavy: bool,
 }
 
-/// The original's answer but for its name: "It names some such policy; any one will do for now".
-#[derive(Clone, Debug, PartialEq)]
-pub struct Answer {
-    /// The lines before the name and those after it.
-    head: String,
-    rest: String,
-    /// The ids of the policies that gave the decision, in the sheet's order: any of them may be named.
-    names: Vec<u32>,
-}
-
-impl Answer {
-    /// An answer without policies, in the place of one that the original is not asked for.
-    fn none() -> Answer {
-        Answer { head: "decision=deny\ncounts=0,0,0,0,0,0,0,0\n".into(), rest: String::new(), names: Vec::new() }
-    }
-
-    fn with(&self, name: Option<u32>) -> Vec<u8> {
-        let name = name.map_or("none".into(), |id| id.to_string());
-        let text = [&self.head, "why=", &name, "\n", &self.rest].concat();
-        assert!(text.len() <= ANSWER_BYTES, "no answer is longer");
-        text.into_bytes()
-    }
-
-    /// How many policies may be named.
-    pub fn choices(&self) -> usize {
-        self.names.len()
-    }
-
-    /// The texts that a call may give, one for each name, that with the first name first.
-    pub fn texts(&self) -> impl Iterator<Item = Vec<u8>> + '_ {
-        let nobody = self.names.is_empty().then_some(None);
-        self.names.iter().copied().map(Some).chain(nobody).map(|name| self.with(name))
-    }
-
-    /// The text with the first name.
-    pub fn first(&self) -> Vec<u8> {
-        self.texts().next().expect("a text")
-    }
-}
-
 /// The answer of a call that is lent long enough slices and buffers, or its refusal. None where the sheet is accepted and has
 /// groups of kinds: "Equality with the Rust keeps to sheets without groups", and the original is not asked.
-pub fn answer(mode: Mode, bytes: &[u8]) -> Result<Option<Answer>, Refusal> {
+pub fn answer(mode: Mode, bytes: &[u8]) -> Result<Option<Vec<u8>>, Refusal> {
     let sheet = sheet::read(mode, bytes)?;
     if sheet.has_groups() {
         return Ok(None);
     }
     let ground = Ground::of(&sheet);
-    let answer = match mode {
+    let text = match mode {
         Mode::Partial => partial_answer(&sheet, &ground),
         Mode::Complete => complete_answer(&sheet, &ground),
     };
     assert!(rows::count() <= rows::GREATEST_VALUES, "1,024 given and 1,024 made always fit");
-    Ok(Some(answer))
+    assert!(text.len() <= ANSWER_BYTES, "no answer is longer");
+    Ok(Some(text.into_bytes()))
 }
 
-/// A whole call with the first name, as document 01 says of what is lent: returns number, line and length. Where the original is not
-/// asked, the answer is one without policies.
+/// An answer without policies, in the place of one that the original is not asked for.
+const NO_POLICIES: &[u8] = b"decision=deny\ncounts=0,0,0,0,0,0,0,0\nwhy=none\n";
+
+/// A whole call, as document 01 says of what is lent: returns number, line and length. Where the original is not asked, the answer
+/// is one without policies.
 pub fn call(mode: Mode, bytes: &[u8], work_a: &mut [u32], work_b: &mut [u32], out: &mut [u8]) -> [u32; 3] {
-    left(|| Ok(answer(mode, bytes)?.unwrap_or_else(Answer::none).first()), work_a, work_b, out)
+    left(|| Ok(answer(mode, bytes)?.unwrap_or(NO_POLICIES.to_vec())), work_a, work_b, out)
 }
 
 /// What a call with an answer or refusal leaves in what it is lent, and what it returns.
@@ -358,9 +322,9 @@ fn residuals(sheet: &Sheet, ground: &Ground, request: &PartialRequest, entities:
     sheet.on_term().into_iter().map(one).collect()
 }
 
-/// What the original's response says of policies and what is left of them: decision, counts and the policies that may be named, and
-/// the class of each policy.
-fn responded(sheet: &Sheet, response: &Response<'_>) -> (Answer, HashMap<u32, &'static str>) {
+/// What the original's response says of policies and what is left of them: decision, counts and name, and the class of each policy. The
+/// name is "the first such policy in the sheet's order" of those that the original gives as reasons.
+fn responded(sheet: &Sheet, response: &Response<'_>) -> (String, HashMap<u32, &'static str>) {
     let sets: [Vec<&ResidualPolicy>; 8] = [
         response.true_permits().collect(),
         response.false_permits().collect(),
@@ -377,31 +341,31 @@ fn responded(sheet: &Sheet, response: &Response<'_>) -> (Answer, HashMap<u32, &'
             classes.insert(policy.get_policy_id().0, ["true", "false", "error", "open"][place % 4]);
         }
     }
-    let mut head = format!("decision={}\n", decision_word(response.decision()));
-    push_counts(&mut head, &sets.map(|set| set.len()));
+    let mut text = format!("decision={}\n", decision_word(response.decision()));
+    push_counts(&mut text, &sets.map(|set| set.len()));
     let reasons: HashSet<u32> = response.reason().into_iter().flatten().map(|id| id.0).collect();
-    let names = sheet.on_term().iter().map(|rule| rule.row.id).filter(|id| reasons.contains(id)).collect();
-    (Answer { head, rest: String::new(), names }, classes)
+    let first = sheet.on_term().into_iter().map(|rule| rule.row.id).find(|id| reasons.contains(id));
+    text.push_str(&format!("why={}\n", first.map_or("none".into(), |id| id.to_string())));
+    (text, classes)
 }
 
-fn partial_answer(sheet: &Sheet, ground: &Ground) -> Answer {
+fn partial_answer(sheet: &Sheet, ground: &Ground) -> String {
     let request = partial_request(sheet, ground);
     let entities = partial_entities(sheet, ground);
     let residuals = residuals(sheet, ground, &request, &entities);
     let response = Response::new(residuals.iter().cloned(), &request, &entities, &ground.schema);
     assert_eq!(response.decision(), second_decision(&residuals), "both decisions of the original agree on typed sheets");
-    let (mut answer, classes) = responded(sheet, &response);
+    let (mut text, classes) = responded(sheet, &response);
     for n in ground.values..rows::count() {
-        push_value(&mut answer.rest, &rows::row(n as u32));
+        push_value(&mut text, &rows::row(n as u32));
     }
     let mut nodes = 0;
     let mut policies = String::new();
     for (Rule { row, .. }, residual) in sheet.on_term().into_iter().zip(&residuals) {
-        let root = push_tree(&mut answer.rest, ground, residual.as_residual(), &mut nodes);
+        let root = push_tree(&mut text, ground, residual.as_residual(), &mut nodes);
         policies.push_str(&format!("policy={},{},{},{root}\n", row.id, effect_word(row.permit), classes[&row.id]));
     }
-    answer.rest.push_str(&policies);
-    answer
+    text + &policies
 }
 
 fn decision_word(decision: Option<Decision>) -> &'static str {
@@ -482,14 +446,14 @@ fn results(sheet: &Sheet, ground: &Ground) -> Vec<ResidualPolicy> {
     sheet.on_term().into_iter().map(one).collect()
 }
 
-fn complete_answer(sheet: &Sheet, ground: &Ground) -> Answer {
+fn complete_answer(sheet: &Sheet, ground: &Ground) -> String {
     let (request, entities) = (partial_request(sheet, ground), PartialEntities::new());
     let response = Response::new(results(sheet, ground).into_iter(), &request, &entities, &ground.schema);
-    let (mut answer, classes) = responded(sheet, &response);
+    let (mut text, classes) = responded(sheet, &response);
     for Rule { row, .. } in sheet.on_term() {
-        answer.rest.push_str(&format!("policy={},{},{}\n", row.id, effect_word(row.permit), classes[&row.id]));
+        text.push_str(&format!("policy={},{},{}\n", row.id, effect_word(row.permit), classes[&row.id]));
     }
-    answer
+    text
 }
 
 // Printing ---------------------------------------------------------------------------------------------------------------
@@ -632,8 +596,8 @@ fn said(mode: Mode, answer: &[u8]) -> Option<Said> {
 }
 
 impl Said {
-    /// The ids of the policies that may be named, by the answer's own lines: "a true forbid for a deny, a true permit for an allow".
-    fn names(&self) -> Vec<u32> {
+    /// The ids of the policies that gave the decision, by the answer's own lines: "a true forbid for a deny, a true permit for an allow".
+    fn reasons(&self) -> Vec<u32> {
         let effect = match self.decision.as_str() {
             "allow" => "permit",
             "deny" => "forbid",
@@ -643,15 +607,14 @@ impl Said {
     }
 }
 
-/// An answer whose name its own lines explain, or what is wrong with it.
-pub fn explained(mode: Mode, answer: &[u8]) -> Result<Answer, String> {
+/// How many of an answer's own lines gave its decision, where its name is that of the first of them; else what is wrong with it.
+pub fn explained(mode: Mode, answer: &[u8]) -> Result<usize, String> {
     let said = said(mode, answer).ok_or("an answer does not read back")?;
-    let names = said.names();
-    if !said.why.map_or(names.is_empty(), |name| names.contains(&name)) {
-        return Err(format!("an answer names {:?}, its lines allow {names:?}", said.why));
+    let reasons = said.reasons();
+    if said.why != reasons.first().copied() {
+        return Err(format!("an answer names {:?}, its lines that gave the decision are {reasons:?}", said.why));
     }
-    let lines: Vec<&str> = std::str::from_utf8(answer).expect("it reads back").split_inclusive('\n').collect();
-    Ok(Answer { head: lines[..2].concat(), rest: lines[3..].concat(), names })
+    Ok(reasons.len())
 }
 
 /// Whether the line of an entity agrees with the partial sheet's: "every known .. entity part is the same". "Two sheets agree on
@@ -665,8 +628,8 @@ fn agrees(partial: &EntityRow, complete: &EntityRow) -> bool {
 }
 
 /// Demand 3 by running, from the bytes of three sheets and their three answers: all that is settled is the same, and
-/// every residual yields what its policy yields. The name is not settled, but each answer's own lines explain it. Gives the first
-/// thing that is not so.
+/// every residual yields what its policy yields. A partial sheet does not settle the name, but each answer's own lines explain it. Gives
+/// the first thing that is not so.
 pub fn demand3(sheets: [&[u8]; 3], answers: [&[u8]; 3]) -> Result<(), String> {
     for (mode, answer) in [Mode::Partial, Mode::Complete, Mode::Complete].into_iter().zip(answers) {
         explained(mode, answer)?;
@@ -727,46 +690,48 @@ pub fn demand3(sheets: [&[u8]; 3], answers: [&[u8]; 3]) -> Result<(), String> {
 mod tests {
     use super::*;
 
-    /// The decision and the policies that may be named, of a partial sheet with an open, a true and a false node to choose from.
-    fn named(policies: &str) -> (String, Vec<u32>) {
-        let head = "sheet=partial/text=Broker/text=Action/text=quote/text=a/text=b/text=c/kind=0,e/kind=1,a/type=bool/type=record/\
+    /// Decision and name of a partial sheet whose policies have an open, a true and a false node to choose from.
+    fn named(policies: &str) -> (String, String) {
+        let head = "sheet=partial/text=Broker/text=Action/text=quote/text=a/text=b/text=c/text=d/kind=0,e/kind=1,a/type=bool/type=record/\
                     type=entity,0/shape=1,-/shape=1,-/value=bool,1/value=bool,0/value=entity,0,2/principal=0,?/action=1,2/resource=0,2/\
                     context=1,?/day=2024-02-29/node=2,var,p/node=2,lit,2/node=0,eq,0,1/node=0,lit,0/node=0,lit,1/";
         let roots = policies.replace("open", "2").replace("true", "3").replace("false", "4");
-        // Every root is used: the last policies, off term, have them all.
-        let idle = "policy=0,permit,2/policy=1,permit,3/policy=2,permit,4/";
-        let count = policies.matches("policy=").count();
-        let terms: String = (count..count + 3).map(|n| format!("term={n},2024-03-01,2024-03-01/")).collect();
-        let answer = answer(Mode::Partial, format!("{head}{roots}{idle}{terms}").replace('/', "\n").as_bytes());
-        let answer = answer.expect("the sheet is accepted").expect("it has no groups");
-        (answer.head["decision=".len()..].split('\n').next().expect("a word").to_string(), answer.names)
+        // Every root is used: the first policies, off term, have them all.
+        let idle = "policy=0,permit,2/policy=1,permit,3/policy=2,forbid,3/policy=6,permit,4/";
+        let terms: String = (0..4).map(|n| format!("term={n},2024-03-01,2024-03-01/")).collect();
+        let sheet = format!("{head}{idle}{roots}{terms}").replace('/', "\n");
+        let answer = answer(Mode::Partial, sheet.as_bytes()).expect("the sheet is accepted").expect("it has no groups");
+        let text = String::from_utf8(answer).expect("answers are ASCII");
+        let mut items = text.lines().map(|line| line.split_once('=').expect("a line has an `=`").1.to_string());
+        (items.next().expect("a decision"), items.nth(1).expect("a name"))
     }
 
     #[test]
-    fn policies_that_may_be_named() {
-        for (policies, decision, names) in [
-            ("", "deny", &[][..]),
-            ("policy=3,permit,false/", "deny", &[]),
-            ("policy=3,forbid,open/", "deny", &[]),
-            ("policy=3,permit,open/", "open", &[]),
-            ("policy=3,permit,true/policy=4,forbid,open/", "open", &[]),
-            ("policy=3,permit,open/policy=4,permit,true/", "allow", &[4]),
-            ("policy=5,permit,true/policy=4,permit,false/policy=3,permit,true/", "allow", &[5, 3]),
-            ("policy=5,permit,true/policy=4,forbid,true/policy=3,forbid,true/", "deny", &[4, 3]),
+    fn the_first_in_order_is_named() {
+        for (policies, decision, name) in [
+            ("", "deny", "none"),
+            ("policy=3,permit,false/", "deny", "none"),
+            ("policy=3,forbid,open/", "deny", "none"),
+            ("policy=3,permit,open/", "open", "none"),
+            ("policy=3,permit,true/policy=4,forbid,open/", "open", "none"),
+            ("policy=3,permit,open/policy=4,permit,true/", "allow", "4"),
+            // not the lowest id, and none off term
+            ("policy=5,permit,true/policy=4,permit,false/policy=3,permit,true/", "allow", "5"),
+            ("policy=5,permit,true/policy=4,forbid,true/policy=3,forbid,true/", "deny", "4"),
         ] {
-            assert_eq!(named(policies), (decision.to_string(), names.to_vec()), "{policies}");
+            assert_eq!(named(policies), (decision.to_string(), name.to_string()), "{policies}");
         }
     }
 
     #[test]
     fn names_that_lines_explain() {
         let explains =
-            |head: &str, lines: &str| explained(Mode::Complete, format!("{head}{lines}").replace('/', "\n").as_bytes()).is_ok();
-        let lines = "policy=3,permit,true/policy=4,forbid,true/policy=5,forbid,false/policy=6,forbid,true/";
-        for (name, right) in [("4", true), ("6", true), ("3", false), ("5", false), ("7", false), ("none", false)] {
-            assert_eq!(explains(&format!("decision=deny/counts=1,0,0,0,2,1,0,0/why={name}/"), lines), right, "{name}");
+            |head: &str, lines: &str| explained(Mode::Complete, format!("{head}{lines}").replace('/', "\n").as_bytes()).ok();
+        let lines = "policy=3,permit,true/policy=4,forbid,true/policy=5,forbid,false/policy=2,forbid,true/";
+        for (name, reasons) in [("4", Some(2)), ("2", None), ("3", None), ("5", None), ("7", None), ("none", None)] {
+            assert_eq!(explains(&format!("decision=deny/counts=1,0,0,0,2,1,0,0/why={name}/"), lines), reasons, "{name}");
         }
-        assert!(explains("decision=deny/counts=0,0,0,0,0,0,0,0/why=none/", ""));
-        assert!(!explains("decision=deny/counts=0,0,0,0,0,0,0,0/", ""));
+        assert_eq!(explains("decision=deny/counts=0,0,0,0,0,0,0,0/why=none/", ""), Some(0));
+        assert_eq!(explains("decision=deny/counts=0,0,0,0,0,0,0,0/", ""), None);
     }
 }

@@ -3,7 +3,8 @@
 //! A *sheet* is a text of `key=value` lines with a schema, known values, entities with their parents, a request, its day, policies, the links
 //! that fill their slots, and their terms. The answer says for each policy on term that day whether it is true, false, in error or open, what
 //! is left of it, the decision, and beside it a policy that gave it: `why=` has the text number of the id of a true forbid for a deny, of a true
-//! permit for an allow, and `none` for open and for a deny without a true forbid. Where several policies gave it, any of them is named.
+//! permit for an allow, and `none` for open and for a deny without a true forbid. Where several policies gave it, the first in the sheet's
+//! order is named. A partial sheet does not settle the name: an open policy of the same effect that stands before it may still turn true.
 //! The library is written in Rattle, and every function of it is proved to meet its contract; the repository's README.md says what is proved and what is assumed.
 //!
 //! [`Evaluator`] keeps the slices that a call works in and gives an [`Outcome`]:

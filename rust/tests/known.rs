@@ -31,10 +31,8 @@ fn worked_input() {
 #[test]
 fn complete_sheets() {
     let mut evaluator = Evaluator::default();
-    // both rules gave it, and either may be named
-    let both = ["5", "6"]
-        .map(|name| format!("decision=allow\ncounts=2,0,0,0,0,0,0,0\nwhy={name}\npolicy=5,permit,true\npolicy=6,permit,true\n"));
-    assert!(both.iter().any(|answer| evaluator.complete(known(7).as_bytes()) == Outcome::Answer(answer)));
+    let low = "decision=allow\ncounts=2,0,0,0,0,0,0,0\nwhy=5\npolicy=5,permit,true\npolicy=6,permit,true\n";
+    assert_eq!(evaluator.complete(known(7).as_bytes()), Outcome::Answer(low));
     let other = "decision=allow\ncounts=1,1,0,0,0,0,0,0\nwhy=6\npolicy=5,permit,false\npolicy=6,permit,true\n";
     assert_eq!(evaluator.complete(known(4).as_bytes()), Outcome::Answer(other));
 }
@@ -57,26 +55,46 @@ fn which_rule_gave_it() {
     let first = |sheet: &str| sheet.replace("policy=5,permit", "policy=5,forbid");
     let second = |sheet: &str| sheet.replace("policy=6,permit", "policy=6,forbid");
     let off = |sheet: &str| format!("{sheet}term=1,2199-12-30,2199-12-31\n");
-    for (sheet, decision, names) in [
-        (SHEET.to_string(), "allow", &["6"][..]),
+    let turned = |sheet: &str| sheet.replace("policy=5,permit,2\npolicy=6,permit,3\n", "policy=6,permit,3\npolicy=5,permit,2\n");
+    for (sheet, decision, name) in [
+        (SHEET.to_string(), "allow", "6"),
         // a true forbid, not the permit
-        (second(SHEET), "deny", &["6"]),
+        (second(SHEET), "deny", "6"),
         // a permit is true, but a forbid open
-        (first(SHEET), "open", &["none"]),
+        (first(SHEET), "open", "none"),
         // nothing permits, whatever the open forbid is
-        (first(&off(SHEET)), "deny", &["none"]),
-        (off(SHEET), "open", &["none"]),
-        (known(4), "allow", &["6"]),
-        (off(&known(4)), "deny", &["none"]),
-        (off(&known(7)), "allow", &["5"]),
-        (first(&known(7)), "deny", &["5"]),
-        // both gave it, and either may be named
-        (known(7), "allow", &["5", "6"]),
-        (first(&second(&known(7))), "deny", &["5", "6"]),
+        (first(&off(SHEET)), "deny", "none"),
+        (off(SHEET), "open", "none"),
+        (known(4), "allow", "6"),
+        (off(&known(4)), "deny", "none"),
+        (first(&known(7)), "deny", "5"),
+        // both gave it: the first in the sheet's order, not the lowest id
+        (known(7), "allow", "5"),
+        (turned(&known(7)), "allow", "6"),
+        (first(&second(&known(7))), "deny", "5"),
+        (first(&second(&turned(&known(7)))), "deny", "6"),
+        // a policy off term gave nothing
+        (off(&known(7)), "allow", "5"),
+        (off(&turned(&known(7))), "allow", "6"),
     ] {
-        let (found, name) = named(&mut evaluator, &sheet);
-        assert_eq!(found, decision, "{sheet}");
-        assert!(names.contains(&name.as_str()), "{name}: {sheet}");
+        assert_eq!(named(&mut evaluator, &sheet), (decision.to_string(), name.to_string()), "{sheet}");
+    }
+}
+
+#[test]
+fn a_partial_sheet_does_not_settle_the_name() {
+    let mut evaluator = Evaluator::new();
+    // rule 5, which stands first, is open and may still turn true; the decision stays
+    for (sheet, name) in [(SHEET.to_string(), "6"), (known(7), "5"), (known(4), "6")] {
+        assert_eq!(named(&mut evaluator, &sheet), ("allow".to_string(), name.to_string()));
+    }
+    // the same with the form of examples/
+    for (sheet, name) in [
+        (include_str!("../../examples/name-not-settled.sheet"), "5"),
+        (include_str!("../../examples/name-not-settled-insured.sheet"), "6"),
+        (include_str!("../../examples/name-not-settled-uninsured.sheet"), "5"),
+    ] {
+        assert_eq!(named(&mut evaluator, sheet), ("allow".to_string(), name.to_string()));
     }
 }
 

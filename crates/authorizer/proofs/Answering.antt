@@ -8,10 +8,8 @@ use borrow.Author.Tests.{lt-ltb, le-ltb, ne-eqb}
 use lib.ListN.{length}
 use Rattle.sheet.specs.Forms.{Mode, partial, complete, NODE, POLICY}
 use Rattle.sheet.specs.Sheet.{read}
-use Rattle.sheet.specs.Answer.{ids, verdictsOf, NameOf, answer}
-use Rattle.sheet.specs.Call.{returns, fitted, over, afterReading, readAs}
-use Rattle.sheet.specs.Why.{Name, reasons}
-use Rattle.sheet.proofs.WhyNamed.{firstName, first-named}
+use Rattle.sheet.specs.Answer.{answer}
+use Rattle.sheet.specs.Call.{returns, refusedThen, readThen, over}
 use Rattle.sheet.specs.Content.{onTerm}
 use Rattle.table.specs.Layout.{RUN, held, limits, limit}
 use Rattle.table.proofs.Rows.{count-rows}
@@ -21,7 +19,7 @@ use Rattle.load.specs.Result.{Read}
 use Rattle.running.specs.Chosen.{Choosable, Chosen}
 use Rattle.response.specs.Runs.{Holding, Runs}
 use Rattle.response.proofs.Sending.{gives-as}
-use Rattle.authorizer.specs.Parts.{afterLengths, Answers}
+use Rattle.authorizer.specs.Parts.{afterReading, afterLengths, Answers}
 use Rattle.authorizer.proofs.Choosing.{policy-rows, term-alike}
 
 -- there are at most 64 policies, and as many that run
@@ -29,40 +27,27 @@ policies : (limit POLICY ≡ 64) × (limit RUN ≡ 64)
 unfolding limit limits
 policies = (refl, refl)
 
--- a name that the answer may carry: there is one, also where no answer is sent
-abbrev pub aName : Mode → List ℕ → Name
-aName m sheet = firstName (reasons (ids (read m sheet .state)) (verdictsOf m (read m sheet .state)))
-
-pub a-name : (m : Mode) (sheet : List ℕ) → NameOf m (read m sheet .state) (aName m sheet)
-a-name m sheet = first-named (reasons (ids (read m sheet .state)) (verdictsOf m (read m sheet .state)))
-
 -- 2
 pub too-long : (m : Mode) (sheet out : List ℕ) → 16384 < length sheet → Answers m sheet out 2 0 0 out
-too-long m sheet out h = record {
-  name = aName m sheet;
-  named = a-name m sheet;
-  gives = gives-as (sym (ap (λ (t : Bool). cond t (returns 2 0 0) (readAs (aName m sheet) m (length out) (read m sheet))) (lt-ltb 16384 (length sheet) h)))
-      (record { number-is = refl; line-is = refl; length-is = refl; buffer = refl });
-}
+too-long m sheet out h =
+    gives-as (sym (ap (λ (t : Bool). cond t (returns 2 0 0) (readThen m sheet (afterReading m (length out) sheet))) (lt-ltb 16384 (length sheet) h)))
+    (record { number-is = refl; line-is = refl; length-is = refl; buffer = refl })
 
 module _ (m : Mode) (sheet : List ℕ) (short : length sheet ≤ 16384) (a b a′ b′ : List ℕ) (number line : ℕ) (x : Read (read m sheet) sheet a b a′ b′ number line) (out : List ℕ) where
-  is-read : (name : Name) → readAs name m (length out) (read m sheet) ≡ afterLengths name m (length out) sheet
-  is-read name = sym (ap (λ (t : Bool). cond t (returns 2 0 0) (readAs name m (length out) (read m sheet))) (le-ltb 16384 (length sheet) short))
+  is-read : readThen m sheet (afterReading m (length out) sheet) ≡ afterLengths m (length out) sheet
+  is-read = sym (ap (λ (t : Bool). cond t (returns 2 0 0) (readThen m sheet (afterReading m (length out) sheet))) (le-ltb 16384 (length sheet) short))
 
   -- 3 to 8
   pub refused : (number ≡ 0 → ⊥) → Answers m sheet out number line 0 out
-  refused f = record {
-    name = aName m sheet;
-    named = a-name m sheet;
-    gives = gives-as (go (read m sheet .number) (x .number-is) ∙ is-read (aName m sheet)) (record {
-      number-is = refl;
-      line-is = x .line-is;
-      length-is = refl;
-      buffer = sym (ap (λ (t : Bool). cond t (over (answer (aName m sheet) m (read m sheet .state)) out) out) (ne-eqb number 0 f));
-    });
-  }
+  refused f =
+      gives-as (go (read m sheet .number) (x .number-is) ∙ is-read) (record {
+        number-is = refl;
+        line-is = x .line-is;
+        length-is = refl;
+        buffer = sym (ap (λ (t : Bool). cond t (over (answer m (read m sheet .state)) out) out) (ne-eqb number 0 f));
+      })
     where
-      go : (n : ℕ) → number ≡ n → returns number (read m sheet .line) 0 ≡ afterReading (aName m sheet) m (length out) (read m sheet .state) n (read m sheet .line)
+      go : (n : ℕ) → number ≡ n → returns number (read m sheet .line) 0 ≡ refusedThen n (read m sheet .line) (afterReading m (length out) sheet)
       go zero e = absurd (f e)
       go (suc n) e = ap (λ (t : ℕ). returns t (read m sheet .line) 0) e
 
@@ -96,14 +81,12 @@ module _ (m : Mode) (sheet : List ℕ) (short : length sheet ≤ 16384) (a b a�
         fits = omega (arith, x .room z, short, c .top, x .ready z .sound .few POLICY (omega arith), policies .0, policies .1, ap length (c .same NODE (omega arith)), count-rows a′ NODE, count-rows a″ NODE);
       }
 
-    accepted-is : (name : Name) → fitted (length out) (length (answer name m (read m sheet .state))) ≡ readAs name m (length out) (read m sheet)
-    accepted-is name = ap (λ (n : ℕ). afterReading name m (length out) (read m sheet .state) n (read m sheet .line)) (sym zero-read)
+    accepted-is : afterReading m (length out) sheet ≡ readThen m sheet (afterReading m (length out) sheet)
+    accepted-is = ap (λ (n : ℕ). refusedThen n (read m sheet .line) (afterReading m (length out) sheet)) (sym zero-read)
 
     -- 10, or accepted
     pub accepted : (a″ : List ℕ) → Chosen a′ a″ → (n len : ℕ) (out′ : List ℕ) → Runs m sheet a″ b′ out n len out′ → Answers m sheet out n 0 len out′
-    accepted a″ c n len out′ s =
-        let r = s (holding a″ c) in
-        record { name = r .name; named = r .named; gives = gives-as (accepted-is (r .name) ∙ is-read (r .name)) (r .sends) }
+    accepted a″ c n len out′ s = gives-as (accepted-is ∙ is-read) (s (holding a″ c))
 
 -- by the test of the code
 module _ (p : Bool) (sheet : List ℕ) (short : length sheet ≤ 16384) (a b a′ b′ : List ℕ) (number line : ℕ) (x : Read (read (modeOf p) sheet) sheet a b a′ b′ number line) (z : number ≡ 0)

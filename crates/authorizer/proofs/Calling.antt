@@ -12,12 +12,10 @@ use Rattle.words.specs.Log.{cleared}
 use Rattle.words.proofs.Stores.{cleared-long}
 use Rattle.sheet.specs.Forms.{Mode}
 use Rattle.sheet.specs.Sheet.{read}
-use Rattle.sheet.specs.Call.{Returned, returns, room, over, zeros, worked, returned, written}
-use Rattle.sheet.specs.Why.{Name}
 use Rattle.sheet.specs.Answer.{answer}
+use Rattle.sheet.specs.Call.{Returned, returns, room, returned, over, written, zeros, worked}
 use Rattle.authorizer.specs.Called.{Called}
 use Rattle.authorizer.specs.Parts.{afterLengths, Answers}
-use Rattle.authorizer.proofs.Answering.{aName, a-name}
 use Rattle.words.specs.Log as L
 
 -- ---- the tests of lengths
@@ -66,52 +64,48 @@ module _ (w : List ℕ) (other : ℕ) where
 -- ---- what is returned and written
 
 module _ (m : Mode) (sheet w₁ w₂ out : List ℕ) where
-  abbrev back : Name → Returned
-  back name = returned name m (length w₁) (length w₂) (length out) sheet
+  abbrev back : Returned
+  back = returned m (length w₁) (length w₂) (length out) sheet
 
   -- the answer buffer, by the number that is returned
-  written-by : (name : Name) (r : Returned) → back name ≡ r → cond (eqb (r .number) 0) (over (answer name m (read m sheet .state)) out) out ≡ written name m (length w₁) (length w₂) out sheet
+  written-by : (r : Returned) → back ≡ r → cond (eqb (r .number) 0) (over (answer m (read m sheet .state)) out) out ≡ written m (length w₁) (length w₂) out sheet
   unfolding written
-  written-by name r e = sym (ap (λ (x : Returned). cond (eqb (x .number) 0) (over (answer name m (read m sheet .state)) out) out) e)
+  written-by r e = sym (ap (λ (x : Returned). cond (eqb (x .number) 0) (over (answer m (read m sheet .state)) out) out) e)
 
   -- a refusal leaves the buffer
-  refuses : (n : ℕ) (v₁ v₂ : List ℕ) → back (aName m sheet) ≡ returns n 0 0 → eqb n 0 ≡ false → v₁ ≡ worked w₁ (length w₂) → v₂ ≡ worked w₂ (length w₁) → Called m sheet w₁ w₂ out n 0 0 out v₁ v₂
+  refuses : (n : ℕ) (v₁ v₂ : List ℕ) → back ≡ returns n 0 0 → eqb n 0 ≡ false → v₁ ≡ worked w₁ (length w₂) → v₂ ≡ worked w₂ (length w₁) → Called m sheet w₁ w₂ out n 0 0 out v₁ v₂
   refuses n v₁ v₂ e z p q = record {
-    name = aName m sheet;
-    named = a-name m sheet;
     number-is = sym (ap (λ (x : Returned). x .number) e);
     line-is = sym (ap (λ (x : Returned). x .line) e);
     length-is = sym (ap (λ (x : Returned). x .length) e);
-    buffer = ap (λ (x : Bool). cond x (over (answer (aName m sheet) m (read m sheet .state)) out) out) (sym z) ∙ written-by (aName m sheet) (returns n 0 0) e;
+    buffer = ap (λ (x : Bool). cond x (over (answer m (read m sheet .state)) out) out) (sym z) ∙ written-by (returns n 0 0) e;
     first = p;
     second = q;
   }
 
   pub call-first : length w₁ < 16384 → Called m sheet w₁ w₂ out 1 0 0 out w₁ w₂
   unfolding returned
-  call-first h = refuses 1 w₁ w₂ (ap (λ (x : Bool). cond (x || ltb (length w₂) room) (returns 1 0 0) (afterLengths (aName m sheet) m (length out) sheet)) (lt-ltb (length w₁) 16384 h)) refl (worked-short w₁ (length w₂) h) (worked-other w₂ (length w₁) h)
+  call-first h = refuses 1 w₁ w₂ (ap (λ (x : Bool). cond (x || ltb (length w₂) room) (returns 1 0 0) (afterLengths m (length out) sheet)) (lt-ltb (length w₁) 16384 h)) refl (worked-short w₁ (length w₂) h) (worked-other w₂ (length w₁) h)
 
   pub call-second : length w₂ < 16384 → Called m sheet w₁ w₂ out 1 0 0 out w₁ w₂
   unfolding returned
   call-second h =
-      refuses 1 w₁ w₂ (ap (λ (x : Bool). cond x (returns 1 0 0) (afterLengths (aName m sheet) m (length out) sheet)) (ap (λ (x : Bool). ltb (length w₁) room || x) (lt-ltb (length w₂) 16384 h) ∙ or-true (ltb (length w₁) room)))
+      refuses 1 w₁ w₂ (ap (λ (x : Bool). cond x (returns 1 0 0) (afterLengths m (length out) sheet)) (ap (λ (x : Bool). ltb (length w₁) room || x) (lt-ltb (length w₂) 16384 h) ∙ or-true (ltb (length w₁) room)))
       refl (worked-other w₁ (length w₂) h) (worked-short w₂ (length w₁) h)
 
   module _ (h₁ : 16384 ≤ length w₁) (h₂ : 16384 ≤ length w₂) where
-    long-both : (name : Name) → back name ≡ afterLengths name m (length out) sheet
+    long-both : back ≡ afterLengths m (length out) sheet
     unfolding returned
-    long-both name = ap₂ (λ (x y : Bool). cond (x || y) (returns 1 0 0) (afterLengths name m (length out) sheet)) (le-ltb (length w₁) 16384 h₁) (le-ltb (length w₂) 16384 h₂)
+    long-both = ap₂ (λ (x y : Bool). cond (x || y) (returns 1 0 0) (afterLengths m (length out) sheet)) (le-ltb (length w₁) 16384 h₁) (le-ltb (length w₂) 16384 h₂)
 
     pub call-answered : (number line len : ℕ) (out′ p₁ p₂ v₁ v₂ : List ℕ) → Answers m sheet out number line len out′
         → length p₁ ≡ length (take 16384 w₁) → length p₂ ≡ length (take 16384 w₂) → v₁ ≡ cleared (p₁ ++ drop 16384 w₁) → v₂ ≡ cleared (p₂ ++ drop 16384 w₂)
         → Called m sheet w₁ w₂ out number line len out′ v₁ v₂
     call-answered number line len out′ p₁ p₂ v₁ v₂ g l₁ l₂ e f = record {
-      name = g .name;
-      named = g .named;
-      number-is = g .gives .number-is ∙ sym (ap (λ (x : Returned). x .number) (long-both (g .name)));
-      line-is = g .gives .line-is ∙ sym (ap (λ (x : Returned). x .line) (long-both (g .name)));
-      length-is = g .gives .length-is ∙ sym (ap (λ (x : Returned). x .length) (long-both (g .name)));
-      buffer = g .gives .buffer ∙ ap (λ (x : ℕ). cond (eqb x 0) (over (answer (g .name) m (read m sheet .state)) out) out) (g .gives .number-is) ∙ written-by (g .name) (afterLengths (g .name) m (length out) sheet) (long-both (g .name));
+      number-is = g .number-is ∙ sym (ap (λ (x : Returned). x .number) long-both);
+      line-is = g .line-is ∙ sym (ap (λ (x : Returned). x .line) long-both);
+      length-is = g .length-is ∙ sym (ap (λ (x : Returned). x .length) long-both);
+      buffer = g .buffer ∙ ap (λ (x : ℕ). cond (eqb x 0) (over (answer m (read m sheet .state)) out) out) (g .number-is) ∙ written-by (afterLengths m (length out) sheet) long-both;
       first = worked-part w₁ (length w₂) h₁ h₂ p₁ v₁ l₁ e;
       second = worked-part w₂ (length w₁) h₂ h₁ p₂ v₂ l₂ f;
     }

@@ -13,7 +13,7 @@ use Rattle.authorizer.specs.Calls.{Run, bytesIn}
 
 module _ {m : Mode} {sheet : List ℕ} (x : Run m sheet) (e : x .number ≡ 0) where
   abbrev answered : Answered m sheet
-  answered = record { work₁ = length (x .work₁); work₂ = length (x .work₂); buffer = x .buffer; name = x .called .name; named = x .called .named; zero-number = sym (x .called .number-is) ∙ e }
+  answered = record { work₁ = length (x .work₁); work₂ = length (x .work₂); buffer = x .buffer; zero-number = sym (x .called .number-is) ∙ e }
 
   same-bytes : bytesOf answered ≡ bytesIn x
   same-bytes = ap₂ take (sym (x .called .length-is)) (sym (x .called .buffer))

@@ -15,7 +15,6 @@ use Rattle.sheet.specs.Call.{returned, written, worked}
 use Rattle.sheet.specs.Demand3.{Demand3}
 use Rattle.samples.proofs.ExampleBytes.{open-sheet, low, high, low-agrees, high-agrees}
 use Rattle.authorizer.specs.Calls.{Run, bytesIn}
-use Rattle.authorizer.proofs.Answering.{aName, a-name}
 use Rattle.authorizer.proofs.Demand3.{demand-3-calls}
 
 -- what a call leaves of what it is lent
@@ -24,34 +23,34 @@ runOf m sheet work₁ work₂ buffer = record {
   work₁ = work₁;
   work₂ = work₂;
   buffer = buffer;
-  number = returned (aName m sheet) m (length work₁) (length work₂) (length buffer) sheet .number;
-  line = returned (aName m sheet) m (length work₁) (length work₂) (length buffer) sheet .line;
-  len = returned (aName m sheet) m (length work₁) (length work₂) (length buffer) sheet .length;
-  buffer′ = written (aName m sheet) m (length work₁) (length work₂) buffer sheet;
+  number = returned m (length work₁) (length work₂) (length buffer) sheet .number;
+  line = returned m (length work₁) (length work₂) (length buffer) sheet .line;
+  len = returned m (length work₁) (length work₂) (length buffer) sheet .length;
+  buffer′ = written m (length work₁) (length work₂) buffer sheet;
   work₁′ = worked work₁ (length work₂);
   work₂′ = worked work₂ (length work₁);
-  called = record { name = aName m sheet; named = a-name m sheet; number-is = refl; line-is = refl; length-is = refl; buffer = refl; first = refl; second = refl };
+  called = record { number-is = refl; line-is = refl; length-is = refl; buffer = refl; first = refl; second = refl };
 }
 
 -- the sheets of the sheet's example, in lengths of their own
-open-accepted : returned (aName partial open-sheet) partial 16384 20000 300 open-sheet .number ≡ 0
+open-accepted : returned partial 16384 20000 300 open-sheet .number ≡ 0
 unfolding open-sheet keys forms formOf slotAt counted tagOf rowOf keyOf refs ascendings fitsIn nodesUnder typed found depth fault more read types valueRows contents schema trees exprs onTerm nPolicies policies nEnv env run results answer returned ancestors unknownAbove order same place insert ascending makeSet
 open-accepted = refl
 
-low-accepted : returned (aName complete low) complete 20000 16384 300 low .number ≡ 0
+low-accepted : returned complete 20000 16384 300 low .number ≡ 0
 unfolding low keys forms formOf slotAt counted tagOf rowOf keyOf refs ascendings fitsIn nodesUnder typed found depth fault more read types valueRows contents schema trees exprs onTerm nPolicies policies nEnv env run results answer returned ancestors unknownAbove order same place insert ascending makeSet
 low-accepted = refl
 
-high-accepted : returned (aName complete high) complete 16384 16384 300 high .number ≡ 0
+high-accepted : returned complete 16384 16384 300 high .number ≡ 0
 unfolding high keys forms formOf slotAt counted tagOf rowOf keyOf refs ascendings fitsIn nodesUnder typed found depth fault more read types valueRows contents schema trees exprs onTerm nPolicies policies nEnv env run results answer returned ancestors unknownAbove order same place insert ascending makeSet
 high-accepted = refl
 
 -- whatever the lent words and bytes are
-pub at-lengths : (m : Mode) (sheet : List ℕ) (i j k : ℕ) → returned (aName m sheet) m i j k sheet .number ≡ 0 → (w v o : List ℕ) → length w ≡ i → length v ≡ j → length o ≡ k → returned (aName m sheet) m (length w) (length v) (length o) sheet .number ≡ 0
+pub at-lengths : (m : Mode) (sheet : List ℕ) (i j k : ℕ) → returned m i j k sheet .number ≡ 0 → (w v o : List ℕ) → length w ≡ i → length v ≡ j → length o ≡ k → returned m (length w) (length v) (length o) sheet .number ≡ 0
 at-lengths m sheet i j k e w v o hw hv ho =
-    ap (λ (n : ℕ). returned (aName m sheet) m n (length v) (length o) sheet .number) hw
-    ∙ ap (λ (n : ℕ). returned (aName m sheet) m i n (length o) sheet .number) hv
-    ∙ ap (λ (n : ℕ). returned (aName m sheet) m i j n sheet .number) ho ∙ e
+    ap (λ (n : ℕ). returned m n (length v) (length o) sheet .number) hw
+    ∙ ap (λ (n : ℕ). returned m i n (length o) sheet .number) hv
+    ∙ ap (λ (n : ℕ). returned m i j n sheet .number) ho ∙ e
 
 three : (w v o : List ℕ) → length w ≡ 16384 → length v ≡ 20000 → length o ≡ 300
     → Demand3 open-sheet low high (bytesIn (runOf partial open-sheet w v o)) (bytesIn (runOf complete low v w o)) (bytesIn (runOf complete high w w o))

@@ -15,19 +15,18 @@ use Rattle.sheet.specs.Call.{returned}
 use Rattle.sheet.specs.Demand3.{Demand3}
 use Rattle.samples.proofs.ExampleEntities.{part-known, without, with-more, without-agrees, with-more-agrees}
 use Rattle.authorizer.specs.Calls.{bytesIn}
-use Rattle.authorizer.proofs.Answering.{aName}
 use Rattle.authorizer.proofs.Demand3.{demand-3-calls}
 use Rattle.authorizer.proofs.Example.{runOf, at-lengths}
 
-part-known-accepted : returned (aName partial part-known) partial 16384 20000 300 part-known .number ≡ 0
+part-known-accepted : returned partial 16384 20000 300 part-known .number ≡ 0
 unfolding part-known keys forms formOf slotAt counted tagOf rowOf keyOf refs ascendings fitsIn nodesUnder typed found depth fault more read types valueRows contents schema trees exprs onTerm nPolicies policies nEnv env run results answer returned ancestors unknownAbove order same place insert ascending makeSet
 part-known-accepted = refl
 
-without-accepted : returned (aName complete without) complete 20000 16384 300 without .number ≡ 0
+without-accepted : returned complete 20000 16384 300 without .number ≡ 0
 unfolding without keys forms formOf slotAt counted tagOf rowOf keyOf refs ascendings fitsIn nodesUnder typed found depth fault more read types valueRows contents schema trees exprs onTerm nPolicies policies nEnv env run results answer returned ancestors unknownAbove order same place insert ascending makeSet
 without-accepted = refl
 
-with-more-accepted : returned (aName complete with-more) complete 16384 16384 300 with-more .number ≡ 0
+with-more-accepted : returned complete 16384 16384 300 with-more .number ≡ 0
 unfolding with-more keys forms formOf slotAt counted tagOf rowOf keyOf refs ascendings fitsIn nodesUnder typed found depth fault more read types valueRows contents schema trees exprs onTerm nPolicies policies nEnv env run results answer returned ancestors unknownAbove order same place insert ascending makeSet
 with-more-accepted = refl
 

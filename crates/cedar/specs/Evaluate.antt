@@ -90,7 +90,7 @@ targets (vent k t) = some (vcons (vent k t) vnil)
 targets (vset vs) = cond (allEnt vs) (some vs) none
 targets (vrec fs) = none
 
--- The entity or one of its ancestors is among the targets. "Ancestors are taken as given."
+-- The entity or one of its ancestors is among the targets. Which ancestors it has is for the environment to say.
 abbrev pub within : Value → Values → Values → Bool
 within v ancestors ts = member v ts || anyIn ts ancestors
 

@@ -4,7 +4,6 @@ use mathlib.Core.List.{List, [], _∷_, _++_, append-nil, append-assoc}
 use Prim.Native.Nat.{ℕ, _≤_}
 use lib.ListN.{length}
 use Rattle.sheet.specs.Bytes.{digits}
-use Rattle.sheet.specs.Answer.{concat}
 use Rattle.print.specs.Written.{Written}
 use Rattle.print.proofs.Writing.{written-none, written-append, written-as}
 
@@ -29,10 +28,6 @@ printing-on {whole} {left} {was} {is} {at} {next} p xs rest out then e w =
 pub printing-end : {whole left was is : List ℕ} {at next : ℕ} → Printing whole left was at is next → left ≡ [] → Written was at whole is next
 printing-end {whole} {left} {was} {is} {at} {next} p e =
     written-as (p .written) (sym (p .joins ∙ ap (λ (l : List ℕ). p .done ++ l) e ∙ append-nil (p .done)))
-
-pub concat-append : (k l : List (List ℕ)) → concat (k ++ l) ≡ concat k ++ concat l
-concat-append [] l = refl
-concat-append (x ∷ k) l = ap (λ (m : List ℕ). x ++ m) (concat-append k l) ∙ sym (append-assoc x (concat k) (concat l))
 
 pub number-after : (was is : List ℕ) (at next b n : ℕ) (mid : List ℕ) (m : ℕ) → Written was at (b ∷ []) mid m → Written mid m (digits n) is next → Written was at (b ∷ digits n) is next
 number-after was is at next b n mid m v w = written-append v w

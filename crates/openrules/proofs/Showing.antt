@@ -11,7 +11,6 @@ use Rattle.io.specs.Counts.{Counts}
 use Rattle.sheet.specs.Bytes.{upTo, same, digits}
 use Rattle.sheet.specs.Forms.{partial, complete}
 use Rattle.sheet.specs.Sheet.{read}
-use Rattle.sheet.specs.Why.{Name}
 use Rattle.sheet.specs.Answer.{answer}
 use Rattle.sheet.specs.Call.{returned}
 use Rattle.sheet.proofs.Buffers.{refusal-leaves, accepted-whole, accepted-written}
@@ -58,42 +57,38 @@ refusal-short n line len =
 
 -- ---- what is shown
 
-abbrev bytes : Name → List ℕ → List ℕ
-bytes name s = answer name (entryOf s) (read (entryOf s) s .state)
+abbrev bytes : List ℕ → List ℕ
+bytes s = answer (entryOf s) (read (entryOf s) s .state)
 
 counts-front : (bytes rest : List ℕ) → Counts (length bytes) (bytes ++ rest)
 counts-front bytes rest = (omega (arith, length-append bytes rest), sym (ap length (take-append-seam bytes rest)))
 
 module _ (s a b out a′ b′ out′ : List ℕ) (number line len : ℕ) (la : 16384 ≡ length a) (lb : 16384 ≡ length b) (lo : length out ≡ space) (c : Called (entryOf s) s a b out number line len out′ a′ b′) where
-  here : returned (c .name) (entryOf s) (length a) (length b) (length out) s ≡ back (c .name) s
+  here : returned (entryOf s) (length a) (length b) (length out) s ≡ back s
   here = rw (← la, ← lb, lo)
 
   pub shows-answer : number ≡ 0 → Shows s out′ len
   unfolding shown
   shows-answer h =
-      let z : returned (c .name) (entryOf s) (length a) (length b) (length out) s .number ≡ 0 = sym (c .number-is) ∙ h in
-      let n : len ≡ length (bytes (c .name) s) = c .length-is ∙ accepted-whole (c .name) (entryOf s) (length a) (length b) out s z .1 in
-      let w : out′ ≡ bytes (c .name) s ++ drop (length (bytes (c .name) s)) out = c .buffer ∙ accepted-written (c .name) (entryOf s) (length a) (length b) out s z in
-      let k : back (c .name) s .number ≡ 0 = ap (λ r. r .number) (sym here) ∙ z in
-      let t : take len out′ ≡ bytes (c .name) s = rw (n, w) (take-append-seam (bytes (c .name) s) (drop (length (bytes (c .name) s)) out)) in
+      let z : returned (entryOf s) (length a) (length b) (length out) s .number ≡ 0 = sym (c .number-is) ∙ h in
+      let n : len ≡ length (bytes s) = c .length-is ∙ accepted-whole (entryOf s) (length a) (length b) out s z .1 in
+      let w : out′ ≡ bytes s ++ drop (length (bytes s)) out = c .buffer ∙ accepted-written (entryOf s) (length a) (length b) out s z in
+      let k : back s .number ≡ 0 = ap (λ r. r .number) (sym here) ∙ z in
+      let t : take len out′ ≡ bytes s = rw (n, w) (take-append-seam (bytes s) (drop (length (bytes s)) out)) in
       record {
-        name = c .name;
-        named = c .named;
-        text = t ∙ rw (eq-eqb (back (c .name) s .number) 0 k);
-        within = rw (n, w) (counts-front (bytes (c .name) s) (drop (length (bytes (c .name) s)) out));
+        text = t ∙ rw (eq-eqb (back s .number) 0 k);
+        within = rw (n, w) (counts-front (bytes s) (drop (length (bytes s)) out));
       }
 
   pub shows-refusal : (number ≡ 0 → ⊥) → (is : List ℕ) (next : ℕ) → Written out′ 0 (refusal number line len) is next → Shows s is next
   unfolding shown
   shows-refusal h is next w =
-      let f : returned (c .name) (entryOf s) (length a) (length b) (length out) s .number ≡ 0 → ⊥ = λ e. h (c .number-is ∙ e) in
-      let o : out′ ≡ out = c .buffer ∙ refusal-leaves (c .name) (entryOf s) (length a) (length b) out s f in
+      let f : returned (entryOf s) (length a) (length b) (length out) s .number ≡ 0 → ⊥ = λ e. h (c .number-is ∙ e) in
+      let o : out′ ≡ out = c .buffer ∙ refusal-leaves (entryOf s) (length a) (length b) out s f in
       let d = refusal-short number line len in
       let (e, k) = written-over out′ (refusal number line len) is next w (omega (arith, ap length o)) in
       let t : take next is ≡ refusal number line len = rw (k, e) (take-append-seam (refusal number line len) (drop (length (refusal number line len)) out′)) in
       record {
-        name = c .name;
-        named = c .named;
-        text = t ∙ rw (ne-eqb (back (c .name) s .number) 0 (λ q. f (ap (λ r. r .number) here ∙ q)), c .number-is, c .line-is, c .length-is, here);
+        text = t ∙ rw (ne-eqb (back s .number) 0 (λ q. f (ap (λ r. r .number) here ∙ q)), c .number-is, c .line-is, c .length-is, here);
         within = rw (k, e) (counts-front (refusal number line len) (drop (length (refusal number line len)) out′));
       }

@@ -10,8 +10,7 @@ use Rattle.sheet.specs.Ascii.{ascii}
 use Rattle.sheet.specs.Bytes.{upTo, same}
 use Rattle.sheet.specs.Forms.{Mode, partial, complete}
 use Rattle.sheet.specs.Sheet.{read}
-use Rattle.sheet.specs.Why.{Name}
-use Rattle.sheet.specs.Answer.{printed, numbers, NameOf, answer}
+use Rattle.sheet.specs.Answer.{printed, numbers, answer}
 use Rattle.sheet.specs.Call.{Returned, room, returned}
 
 -- the first line is exactly `sheet=complete`
@@ -26,21 +25,19 @@ entryOf sheet = cond (saysComplete sheet) complete partial
 abbrev pub space : ℕ
 space = 1048576
 
-abbrev pub back : Name → List ℕ → Returned
-back name sheet = returned name (entryOf sheet) room room space sheet
+abbrev pub back : List ℕ → Returned
+back sheet = returned (entryOf sheet) room room space sheet
 
 -- "If refused it prints `refused=number,line,length`", with a line end
 unfoldable pub refusal : ℕ → ℕ → ℕ → List ℕ
 refusal number line len = printed "refused" (numbers (number ∷ line ∷ len ∷ []))
 
--- the answer that carries this name, or the refusal
-unfoldable pub shown : Name → List ℕ → List ℕ
-shown name sheet =
-    cond (eqb (back name sheet .number) 0) (answer name (entryOf sheet) (read (entryOf sheet) sheet .state)) (refusal (back name sheet .number) (back name sheet .line) (back name sheet .length))
+-- the answer, or the refusal
+unfoldable pub shown : List ℕ → List ℕ
+shown sheet =
+    cond (eqb (back sheet .number) 0) (answer (entryOf sheet) (read (entryOf sheet) sheet .state)) (refusal (back sheet .number) (back sheet .line) (back sheet .length))
 
--- the first n bytes of a buffer are what is printed for the sheet, with one of the names that its answer may carry
+-- the first n bytes of a buffer are what is printed for the sheet
 pub record Shows (sheet buffer : List ℕ) (n : ℕ) : Type 0 where
-  pub name : Name
-  pub named : NameOf (entryOf sheet) (read (entryOf sheet) sheet .state) name
-  pub text : take n buffer ≡ shown name sheet
+  pub text : take n buffer ≡ shown sheet
   pub within : Counts n buffer

@@ -20,7 +20,7 @@ use Rattle.print.specs.Written.{greatest}
 use Rattle.print.proofs.Writing.{digits-few}
 use Rattle.listing.specs.Values.{madeLines}
 use Rattle.listing.specs.Nodes.{logLines}
-use Rattle.listing.proofs.Printing.{concat-append}
+use Rattle.sheet.proofs.LinesBack.{concat-append}
 use Rattle.listing.proofs.Lengths.{weigh, printed-most, numbers-most, made-most, log-most}
 use Rattle.response.specs.Verdicts.{classIn, effectIn, verdictsIn}
 use Rattle.response.specs.Printed.{policyLines, completeBytes, rootedOf, rootedLines, partialBytes}

@@ -1,5 +1,5 @@
--- The walk over the policies for one that an answer may name, and the line of its name. Assumes nothing.
-use mathlib.Core.Path.{_≡_, refl, sym, ap, ap₂, _∙_, subst}
+-- The walk over the policies for the one that an answer names, and the line of its name. Assumes nothing.
+use mathlib.Core.Path.{_≡_, refl, sym, ap, ap₂, _∙_}
 use mathlib.Core.Bool.{Bool, true, false, cond, _&&_}
 use mathlib.Core.Option.{none, some}
 use mathlib.Core.List.{List, [], _∷_}
@@ -14,7 +14,7 @@ use Rattle.sheet.specs.Bytes.{digits}
 use Rattle.sheet.specs.Forms.{at}
 use Rattle.sheet.specs.Sheet.{firsts}
 use Rattle.sheet.specs.Answer.{printed}
-use Rattle.sheet.specs.Why.{trueOnes, reasonsFor, reasons, first, Named, nobody, some-one, whyItem}
+use Rattle.sheet.specs.Why.{trueOnes, reasonsFor, firstName, whyItem}
 use Rattle.forms.specs.Tags.{PERMIT, FORBID}
 use Rattle.table.specs.Layout.{RUN, rowsOf}
 use Rattle.table.proofs.Rows.{count-rows}
@@ -23,7 +23,7 @@ use Rattle.print.specs.Written.{Written}
 use Rattle.print.proofs.Writing.{written-append, written-as}
 use Rattle.residual.specs.Classes.{classNumber, CLASS-TRUE}
 use Rattle.response.specs.Verdicts.{classIn, effectIn, effectNumber, effectIs, verdictsIn, decisionOf}
-use Rattle.response.specs.Naming.{nameAt, idsIn, trueIn}
+use Rattle.response.specs.Naming.{nameAt, idsIn, trueIn, whyIn}
 use Rattle.response.specs.declared.Decision as D
 use Rattle.response.proofs.Counting.{verdictsFrom, verdicts-on, is-permit, is-forbid, is-true}
 
@@ -75,17 +75,17 @@ module _ (a cs : List ℕ) (effect n : ℕ) (en : n ≡ getD a RUN 0) (i : ℕ) 
         go true q = absurd (f (ek ∙ ap bit q))
         go false q = record { near = omega arith; left = stepped false q }
 
-    pub walk-found : k ≡ 1 → Named (trueIn a cs effect) (nameAt a i)
+    pub walk-found : k ≡ 1 → nameAt a i ≡ firstName (trueIn a cs effect)
     walk-found f = go (eqb e effect && eqb c CLASS-TRUE) refl
       where
-        go : (b : Bool) → (eqb e effect && eqb c CLASS-TRUE) ≡ b → Named (trueIn a cs effect) (nameAt a i)
-        go true q = rw (named-here a i (omega (arith, en)), stepped true q) (some-one first)
+        go : (b : Bool) → (eqb e effect && eqb c CLASS-TRUE) ≡ b → nameAt a i ≡ firstName (trueIn a cs effect)
+        go true q = named-here a i (omega (arith, en)) ∙ sym (ap firstName (stepped true q))
         go false q = let z : k ≡ 0 = ek ∙ ap bit q in absurd (omega arith)
 
-  pub walk-end : n ≤ i → Named (trueIn a cs effect) (nameAt a n)
+  pub walk-end : n ≤ i → nameAt a n ≡ firstName (trueIn a cs effect)
   walk-end h =
       let z : trueIn a cs effect ≡ [] = w .left ∙ ap (λ (rs : List (List ℕ)). trueOnes (effectIs effect) (firsts rs) (verdictsFrom a cs i)) (spent (rowsOf a RUN) i (omega (arith, many))) in
-      rw (named-nobody a n (omega (arith, en)), z) nobody
+      named-nobody a n (omega (arith, en)) ∙ sym (ap firstName z)
 
 -- ---- by the decision
 
@@ -95,19 +95,20 @@ true-same f g p (i ∷ is) [] = refl
 true-same f g p (i ∷ is) (l ∷ ls) = ap₂ (λ (b : Bool) (r : List ℕ). cond (b && isTrue (l .class)) (i ∷ r) r) (p (l .effect)) (true-same f g p is ls)
 
 module _ (a cs : List ℕ) (d : D.Decision) (ed : decisionOf d ≡ decision (verdictsIn a cs)) (r : ℕ) where
-  by-decision : (x : D.Decision) → d ≡ x → Named (reasonsFor (decisionOf x) (idsIn a) (verdictsIn a cs)) (nameAt a r) → Named (reasons (idsIn a) (verdictsIn a cs)) (nameAt a r)
-  by-decision x e n = subst (λ (y : Decision). Named (reasonsFor y (idsIn a) (verdictsIn a cs)) (nameAt a r)) (sym (ap decisionOf e) ∙ ed) n
+  by-decision : (x : D.Decision) → d ≡ x → nameAt a r ≡ firstName (reasonsFor (decisionOf x) (idsIn a) (verdictsIn a cs)) → nameAt a r ≡ whyIn a cs
+  unfolding whyIn
+  by-decision x e n = n ∙ ap (λ (y : Decision). firstName (reasonsFor y (idsIn a) (verdictsIn a cs))) (sym (ap decisionOf e) ∙ ed)
 
-  pub why-allow : d ≡ D.the-variants.Allow → Named (trueIn a cs PERMIT) (nameAt a r) → Named (reasons (idsIn a) (verdictsIn a cs)) (nameAt a r)
+  pub why-allow : d ≡ D.the-variants.Allow → nameAt a r ≡ firstName (trueIn a cs PERMIT) → nameAt a r ≡ whyIn a cs
   unfolding trueIn
-  why-allow e n = by-decision D.the-variants.Allow e (subst (λ (l : List ℕ). Named l (nameAt a r)) (true-same (effectIs PERMIT) isPermit is-permit (idsIn a) (verdictsIn a cs)) n)
+  why-allow e n = by-decision D.the-variants.Allow e (n ∙ ap firstName (true-same (effectIs PERMIT) isPermit is-permit (idsIn a) (verdictsIn a cs)))
 
-  pub why-deny : d ≡ D.the-variants.Deny → Named (trueIn a cs FORBID) (nameAt a r) → Named (reasons (idsIn a) (verdictsIn a cs)) (nameAt a r)
+  pub why-deny : d ≡ D.the-variants.Deny → nameAt a r ≡ firstName (trueIn a cs FORBID) → nameAt a r ≡ whyIn a cs
   unfolding trueIn
-  why-deny e n = by-decision D.the-variants.Deny e (subst (λ (l : List ℕ). Named l (nameAt a r)) (true-same (effectIs FORBID) isForbid is-forbid (idsIn a) (verdictsIn a cs)) n)
+  why-deny e n = by-decision D.the-variants.Deny e (n ∙ ap firstName (true-same (effectIs FORBID) isForbid is-forbid (idsIn a) (verdictsIn a cs)))
 
-  pub why-open : d ≡ D.the-variants.Open → r ≡ getD a RUN 0 → Named (reasons (idsIn a) (verdictsIn a cs)) (nameAt a r)
-  why-open e q = by-decision D.the-variants.Open e (rw (named-nobody a r (omega arith)) nobody)
+  pub why-open : d ≡ D.the-variants.Open → r ≡ getD a RUN 0 → nameAt a r ≡ whyIn a cs
+  why-open e q = by-decision D.the-variants.Open e (named-nobody a r (omega arith))
 
 -- ---- the line
 

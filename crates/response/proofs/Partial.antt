@@ -19,7 +19,7 @@ use Rattle.sheet.specs.State.{State, linesOf, count, TypeRow, bool, long, strin
 use Rattle.sheet.specs.Content.{tyOver, tysFrom, types, rowsIn, numberedPolicies, onTerm, nPolicies, schema, nEnv, trees, valueRows}
 use Rattle.sheet.specs.Sheet.{firsts}
 use Rattle.sheet.specs.Answer.{printed, concat, policyItems, partialLines, valueLines, root, size, typeNumber, residualRows, nodeLines, ids, run, headLines, partialOf, answer}
-use Rattle.sheet.specs.Why.{Name, reasons, Named}
+use Rattle.sheet.specs.Why.{why}
 use Rattle.sheet.proofs.Lines.{History}
 use Rattle.sheet.proofs.TypeNumbers.{types-length, number-again}
 use Rattle.table.specs.Layout.{RUN, rowsOf, linesHeld, held, MADE}
@@ -29,11 +29,11 @@ use Rattle.residual.specs.Trees.{Ress, flats, treesOf, Wholes}
 use Rattle.value.specs.Lines.{valueLines as allRows}
 use Rattle.listing.specs.Values.{madeLines}
 use Rattle.listing.specs.Nodes.{saysBool, boolLine, typeIn, logLines}
-use Rattle.listing.proofs.Printing.{concat-append}
+use Rattle.sheet.proofs.LinesBack.{concat-append}
 use Rattle.listing.proofs.TreeRows.{rowsAll}
 use Rattle.listing.proofs.LogTrees.{treesIn, residual-rows, log-lines}
 use Rattle.response.specs.Verdicts.{classIn, effectIn, verdictsOf, verdictsIn}
-use Rattle.response.specs.Naming.{idsIn}
+use Rattle.response.specs.Naming.{idsIn, whyIn}
 use Rattle.response.specs.Printed.{rootedOf, rootedLines, partialBytes}
 
 -- ---- values: the rows after the sheet's
@@ -193,25 +193,21 @@ module _ (sheet a₀ b₀ : List ℕ) (h : History partial (held sheet a₀ b₀
   unfolding idsIn
   ids-are = ap firsts (w .same RUN (omega arith) ∙ runs)
 
-  -- what may be named
-  pub names-held : (name : Name) → Named (reasons (idsIn a) (verdictsIn a cs)) name → Named (reasons (ids s) (verdicts (x .lines))) name
-  names-held name n = subst (λ (is : List ℕ). Named (reasons is (verdicts (x .lines))) name) ids-are (subst (λ (ls : List Verdict). Named (reasons (idsIn a) ls) name) (w .verdicts) n)
-
   -- THE BYTES ARE THOSE OF THE DEFINITION
-  pub partial-held : (name : Name) → partialBytes name a l cs es ≡ partialOf name s x
-  unfolding partialBytes
-  partial-held name =
-      let H : List (List ℕ) = headLines name (verdicts (x .lines)) in
+  pub partial-held : partialBytes (whyIn a cs) a l cs es ≡ partialOf s x
+  unfolding partialBytes whyIn
+  partial-held =
+      let H : List (List ℕ) = headLines (why (ids s) (verdicts (x .lines))) (verdicts (x .lines)) in
       let M : List (List ℕ) = valueLines (drop (count s VALUE) (x .rows)) in
       let N : List (List ℕ) = nodeLines (residualRows (types s) 0 (x .lines)) in
       let P : List (List ℕ) = partialLines 0 (ids s) (x .lines) in
-      ap₂ (λ (k m : List ℕ). k ++ (m ++ (concat (logLines (rowsOf a TYPE) (rowsOf a NODE) l) ++ concat (rootedLines a cs es)))) (ap (λ (v : List Verdict). concat (headLines name v)) (w .verdicts)) made-are
+      ap₂ (λ (k m : List ℕ). k ++ (m ++ (concat (logLines (rowsOf a TYPE) (rowsOf a NODE) l) ++ concat (rootedLines a cs es)))) (ap₂ (λ (is : List ℕ) (v : List Verdict). concat (headLines (why is v) v)) ids-are (w .verdicts)) made-are
       ∙ ap₂ (λ (k m : List (List ℕ)). concat H ++ (concat M ++ (concat k ++ concat m))) nodes-are policies-are
       ∙ sym (concat-append (H ++ M ++ N) P ∙ ap (λ (k : List ℕ). k ++ concat P) (concat-append (H ++ M) N ∙ ap (λ (k : List ℕ). k ++ concat N) (concat-append H M))
       ∙ append-assoc (concat H ++ concat M) (concat N) (concat P) ∙ append-assoc (concat H) (concat M) (concat N ++ concat P))
 
 -- of the sheet's own run they are the answer
-pub partial-answer : (name : Name) (sheet a₀ b₀ : List ℕ) → History partial (held sheet a₀ b₀) → rowsOf a₀ RUN ≡ onTerm (held sheet a₀ b₀) → (a l cs es : List ℕ) → RunWords sheet a₀ (run partial (held sheet a₀ b₀)) a l cs es
-    → partialBytes name a l cs es ≡ answer name partial (held sheet a₀ b₀)
+pub partial-answer : (sheet a₀ b₀ : List ℕ) → History partial (held sheet a₀ b₀) → rowsOf a₀ RUN ≡ onTerm (held sheet a₀ b₀) → (a l cs es : List ℕ) → RunWords sheet a₀ (run partial (held sheet a₀ b₀)) a l cs es
+    → partialBytes (whyIn a cs) a l cs es ≡ answer partial (held sheet a₀ b₀)
 unfolding answer
-partial-answer name sheet a₀ b₀ h runs a l cs es w = partial-held sheet a₀ b₀ h runs (run partial (held sheet a₀ b₀)) a l cs es w name
+partial-answer sheet a₀ b₀ h runs a l cs es w = partial-held sheet a₀ b₀ h runs (run partial (held sheet a₀ b₀)) a l cs es w

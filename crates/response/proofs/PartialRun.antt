@@ -12,8 +12,7 @@ use Rattle.sheet.specs.Forms.{partial}
 use Rattle.sheet.specs.State.{State}
 use Rattle.table.specs.Layout.{RUN}
 use Rattle.sheet.specs.Sheet.{read}
-use Rattle.sheet.specs.Answer.{run, ids, NameOf, partialOf, answer}
-use Rattle.sheet.specs.Why.{Name, reasons, Named}
+use Rattle.sheet.specs.Answer.{run, partialOf, answer}
 use Rattle.sheet.specs.Call.{room}
 use Rattle.sheet.proofs.Lines.{History, accepted-history}
 use Rattle.residual.specs.Classes.{rootsOf}
@@ -25,11 +24,11 @@ use Rattle.interpret.specs.Nodes.{ended}
 use Rattle.interpret.proofs.Answered.{Lined, ran, lined, log-stays, few}
 use Rattle.interpret.specs.Lines.{CLASSES, ROOTS, classesOf, linesOf}
 use Rattle.response.specs.Verdicts.{classIn, verdictsIn}
-use Rattle.response.specs.Naming.{idsIn}
+use Rattle.response.specs.Naming.{whyIn}
 use Rattle.response.specs.Printed.{partialBytes}
 use Rattle.response.proofs.Counting.{class-back}
-use Rattle.response.proofs.Partial.{classesIn, verdicts-run, RunWords, names-held, partial-held}
-use Rattle.response.specs.Runs.{Holding, Sends, SendsNamed, Runs}
+use Rattle.response.proofs.Partial.{classesIn, verdicts-run, RunWords, partial-held}
+use Rattle.response.specs.Runs.{Holding, Sends, Runs}
 use Rattle.response.proofs.Completing.{part-front}
 use Rattle.tpe.proofs.Policies as P
 
@@ -90,19 +89,12 @@ module _ (sheet a b : List ℕ) (h : Holding partial sheet a b) where
       roots = root-at;
     }
 
-    module _ (name : Name) where
-      run-bytes : partialBytes name (r .words) (r .log) (part w CLASSES room) (part w ROOTS room) ≡ answer name partial (read partial sheet .state)
-      unfolding answer
-      run-bytes =
-          let (k, g) = accepted-history partial sheet (h .accepted) in
-          partial-held sheet a b (subst (History partial) (h .state) k) (h .runs) x (r .words) (r .log) (part w CLASSES room) (part w ROOTS room) words name
-          ∙ ap (λ (s : State). partialOf name s x) (sym (h .state))
-
-      run-names : Named (reasons (idsIn (r .words)) (verdictsIn (r .words) (part w CLASSES room))) name → NameOf partial (read partial sheet .state) name
-      run-names n =
-          let (k, g) = accepted-history partial sheet (h .accepted) in
-          subst (λ (s : State). Named (reasons (ids s) (verdicts (x .lines))) name) (sym (h .state))
-          (names-held sheet a b (subst (History partial) (h .state) k) (h .runs) x (r .words) (r .log) (part w CLASSES room) (part w ROOTS room) words name n)
+    run-bytes : partialBytes (whyIn (r .words) (part w CLASSES room)) (r .words) (r .log) (part w CLASSES room) (part w ROOTS room) ≡ answer partial (read partial sheet .state)
+    unfolding answer
+    run-bytes =
+        let (k, g) = accepted-history partial sheet (h .accepted) in
+        partial-held sheet a b (subst (History partial) (h .state) k) (h .runs) x (r .words) (r .log) (part w CLASSES room) (part w ROOTS room) words
+        ∙ ap (λ (s : State). partialOf s x) (sym (h .state))
 
 -- ---- the run, the lines, then the printing
 
@@ -110,21 +102,15 @@ pub log-fits : (l b : List ℕ) (e : ℕ) → l ≡ part b 0 e → length b ≡ 
 log-fits l b e el h = omega (arith, ap length (el ∙ part-front b e), length-take e b)
 
 pub partial-runs : (sheet a b a′ b′ b″ l cs es out : List ℕ) (e number len : ℕ) (out′ : List ℕ) → Leaves 0 a′ b′ e (ended (runOf partial sheet a [])) → length b ≡ room → length b′ ≡ length b
-    → b″ ≡ linesOf a′ b′ e → l ≡ part b″ 0 e → cs ≡ part b″ CLASSES room → es ≡ part b″ ROOTS room
-    → SendsNamed (Named (reasons (idsIn a′) (verdictsIn a′ cs))) (λ name. partialBytes name a′ l cs es) out number len out′
+    → b″ ≡ linesOf a′ b′ e → l ≡ part b″ 0 e → cs ≡ part b″ CLASSES room → es ≡ part b″ ROOTS room → Sends (partialBytes (whyIn a′ cs) a′ l cs es) out number len out′
     → Runs partial sheet a b out number len out′
 partial-runs sheet a b a′ b′ b″ l cs es out e number len out′ q lb lb′ eb el ec ee s h =
-    let name : Name = s .name in
     let t : Ran = runOf partial sheet a [] in
     let k : room ≤ length b′ = omega (arith, lb, lb′) in
     let w : b″ ≡ linesOf (t .words) b′ e = eb ∙ ap (λ (y : List ℕ). linesOf y b′ e) (q .words) in
     let n : Lined (run partial (read partial sheet .state) .lines) b′ b″ =
     subst (Lined (run partial (read partial sheet .state) .lines) b′) (sym w) (lined sheet a b (h .accepted) (h .state) (h .sound) (h .none) (h .runs) (h .fits) b′ e (q .log) k) in
     let g : l ≡ t .log = el ∙ part-front b″ e ∙ ap (take e) w ∙ log-stays sheet a b (h .accepted) (h .state) (h .sound) (h .none) (h .runs) (h .fits) b′ e (q .log) k in
-    let i : partialBytes name a′ l cs es ≡ partialBytes name (t .words) (t .log) (part b″ CLASSES room) (part b″ ROOTS room) =
-    ap₂ (λ (y z : List ℕ). partialBytes name y z cs es) (q .words) g ∙ ap₂ (λ (y z : List ℕ). partialBytes name (t .words) (t .log) y z) ec ee in
-    record {
-      name = name;
-      named = run-names sheet a b h b′ b″ n name (subst (λ (y : List ℕ). Named (reasons (idsIn (t .words)) (verdictsIn (t .words) y)) name) ec (subst (λ (y : List ℕ). Named (reasons (idsIn y) (verdictsIn y cs)) name) (q .words) (s .named)));
-      sends = subst (λ (y : List ℕ). Sends y out number len out′) (i ∙ run-bytes sheet a b h b′ b″ n name) (s .sends);
-    }
+    let i : partialBytes (whyIn a′ cs) a′ l cs es ≡ partialBytes (whyIn (t .words) (part b″ CLASSES room)) (t .words) (t .log) (part b″ CLASSES room) (part b″ ROOTS room) =
+    ap₂ (λ (y z : List ℕ). partialBytes (whyIn y cs) y z cs es) (q .words) g ∙ ap₂ (λ (y z : List ℕ). partialBytes (whyIn (t .words) y) (t .words) (t .log) y z) ec ee in
+    subst (λ (y : List ℕ). Sends y out number len out′) (i ∙ run-bytes sheet a b h b′ b″ n) s

@@ -12,7 +12,7 @@ use Rattle.sheet.specs.Forms.{at}
 use Rattle.sheet.specs.Sheet.{firsts}
 use Rattle.sheet.specs.Content.{onTerm}
 use Rattle.sheet.specs.Answer.{printed, concat, numbers, countsOf, effectWord, classWord, completeLines, headLines, completeOf}
-use Rattle.sheet.specs.Why.{Name, whyItem}
+use Rattle.sheet.specs.Why.{Name, why, whyItem}
 use Rattle.forms.specs.Tags.{PERMIT, FORBID}
 use Rattle.table.specs.Layout.{RUN, rowsOf, held}
 use Rattle.table.proofs.Rows.{count-rows}
@@ -20,8 +20,10 @@ use Rattle.value.proofs.Lists.{uncons, spent}
 use Rattle.print.specs.Written.{Written}
 use Rattle.print.proofs.Writing.{written-append, written-as}
 use Rattle.residual.specs.Classes.{classNumber}
-use Rattle.listing.proofs.Printing.{Printing, printing-on, printing-end, concat-append}
+use Rattle.sheet.proofs.LinesBack.{concat-append}
+use Rattle.listing.proofs.Printing.{Printing, printing-on, printing-end}
 use Rattle.response.specs.Verdicts.{classIn, effectIn, effectNumber, verdictsIn, decisionOf}
+use Rattle.response.specs.Naming.{idsIn, whyIn}
 use Rattle.response.specs.Printed.{idBytes, decisionBytes, effectBytes, classBytes, listed, fourOf, policyAt, policyLines, completeBytes}
 use Rattle.response.specs.declared.Decision as D
 use Rattle.response.proofs.Counting.{counts-are, verdictsFrom, verdicts-on}
@@ -131,6 +133,6 @@ unfolding completeBytes
 complete-is name was mid is at m next a cs v w = written-as (written-append v w) (sym (concat-append (headLines name (verdictsIn a cs)) (policyLines a cs)))
 
 -- the bytes are those of the definition, over the state that the words hold
-pub complete-held : (name : Name) (sheet a b : List ℕ) → rowsOf a RUN ≡ onTerm (held sheet a b) → (cs : List ℕ) → completeBytes name a cs ≡ completeOf name (held sheet a b) (verdictsIn a cs)
-unfolding completeBytes policyLines
-complete-held name sheet a b runs cs = ap (λ (l : List (List ℕ)). concat (headLines name (verdictsIn a cs) ++ completeLines (firsts l) (verdictsIn a cs))) runs
+pub complete-held : (sheet a b : List ℕ) → rowsOf a RUN ≡ onTerm (held sheet a b) → (cs : List ℕ) → completeBytes (whyIn a cs) a cs ≡ completeOf (held sheet a b) (verdictsIn a cs)
+unfolding completeBytes policyLines whyIn idsIn
+complete-held sheet a b runs cs = ap (λ (l : List (List ℕ)). concat (headLines (why (firsts l) (verdictsIn a cs)) (verdictsIn a cs) ++ completeLines (firsts l) (verdictsIn a cs))) runs

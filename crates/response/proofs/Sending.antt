@@ -14,6 +14,10 @@ use Rattle.response.specs.Runs.{Gives, Sends}
 pub gives-as : {r s : Returned} {bytes out out′ : List ℕ} {number line len : ℕ} → r ≡ s → Gives r bytes out number line len out′ → Gives s bytes out number line len out′
 gives-as {bytes = bytes} {out = out} {out′ = out′} {number = number} {line = line} {len = len} e g = subst (λ (r : Returned). Gives r bytes out number line len out′) e g
 
+-- an answer of the same bytes
+pub sends-as : {bytes bytes′ out out′ : List ℕ} {number len : ℕ} → bytes ≡ bytes′ → Sends bytes out number len out′ → Sends bytes′ out number len out′
+sends-as {out = out} {out′ = out′} {number = number} {len = len} e s = subst (λ (l : List ℕ). Sends l out number len out′) e s
+
 -- counted in a part without room, w, which comes back in front of the buffer
 module _ (bytes out w : List ℕ) (n : ℕ) (p : Written [] 0 bytes w n) (l : length bytes ≤ greatest) where
   pub send-short : length (w ++ out) < n → Sends bytes out 10 n (w ++ out)

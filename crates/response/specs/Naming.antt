@@ -7,7 +7,7 @@ use lib.Dec.{ltb}
 use lib.ListN.{getD}
 use Rattle.sheet.specs.Forms.{at}
 use Rattle.sheet.specs.Sheet.{firsts}
-use Rattle.sheet.specs.Why.{Name, trueOnes}
+use Rattle.sheet.specs.Why.{Name, trueOnes, why}
 use Rattle.table.specs.Layout.{RUN, rowsOf}
 use Rattle.response.specs.Verdicts.{effectIs, verdictsIn}
 
@@ -22,3 +22,7 @@ idsIn a = firsts (rowsOf a RUN)
 -- the ids of those of an effect that are called true
 unfoldable pub trueIn : List ℕ → List ℕ → ℕ → List ℕ
 trueIn a cs e = trueOnes (effectIs e) (idsIn a) (verdictsIn a cs)
+
+-- the name of their answer
+unfoldable pub whyIn : List ℕ → List ℕ → Name
+whyIn a cs = why (idsIn a) (verdictsIn a cs)

@@ -8,9 +8,8 @@ use lib.ListN.{length, getD}
 use Rattle.sheet.specs.Forms.{Mode}
 use Rattle.sheet.specs.Sheet.{read}
 use Rattle.sheet.specs.Content.{onTerm}
+use Rattle.sheet.specs.Answer.{answer}
 use Rattle.sheet.specs.Call.{Returned, fitted, over}
-use Rattle.sheet.specs.Why.{Name}
-use Rattle.sheet.specs.Answer.{NameOf, answer}
 use Rattle.table.specs.Layout.{rowsOf, held, Sound, RUN, MADE}
 use Rattle.tpe.specs.Fits.{Fits}
 
@@ -25,12 +24,6 @@ pub record Gives (r : Returned) (bytes out : List ℕ) (number line len : ℕ) (
 abbrev pub Sends : List ℕ → List ℕ → ℕ → ℕ → List ℕ → Type 0
 Sends bytes out number len out′ = Gives (fitted (length out) (length bytes)) bytes out number 0 len out′
 
--- an answer with one of the names that it may carry
-pub record SendsNamed (may : Name → Type 0) (bytes : Name → List ℕ) (out : List ℕ) (number len : ℕ) (out′ : List ℕ) : Type 0 where
-  pub name : Name
-  pub named : may name
-  pub sends : Sends (bytes name) out number len out′
-
 -- the words hold an accepted sheet, as reading leaves it, with its policies on term as those that run
 pub record Holding (m : Mode) (sheet a b : List ℕ) : Type 0 where
   pub accepted : read m sheet .number ≡ 0
@@ -42,4 +35,4 @@ pub record Holding (m : Mode) (sheet a b : List ℕ) : Type 0 where
 
 -- where they do, its answer is sent
 abbrev pub Runs : Mode → List ℕ → List ℕ → List ℕ → List ℕ → ℕ → ℕ → List ℕ → Type 0
-Runs m sheet a b out number len out′ = Holding m sheet a b → SendsNamed (NameOf m (read m sheet .state)) (λ name. answer name m (read m sheet .state)) out number len out′
+Runs m sheet a b out number len out′ = Holding m sheet a b → Sends (answer m (read m sheet .state)) out number len out′

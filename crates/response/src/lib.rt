@@ -25,10 +25,10 @@ ghost use Rattle.cedar.specs.Canonical.{bit};
 ghost use Rattle.cedar.specs.Response.{decision};
 ghost use Rattle.cedar.specs.Response as Cedar;
 ghost use Rattle.sheet.specs.Answer.{howMany};
-ghost use Rattle.sheet.specs.Why.{Named, reasons};
+ghost use Rattle.sheet.specs.Why.{firstName};
 ghost use Rattle.residual.specs.Classes.{classNumber, CLASS-TRUE, CLASS-FALSE, CLASS-ERROR, CLASS-OPEN};
 ghost use Rattle.response.specs.Verdicts.{effectNumber, effectIn, classIn, effectIs, classIs, verdictsIn, decisionOf};
-ghost use Rattle.response.specs.Naming.{nameAt, idsIn, trueIn};
+ghost use Rattle.response.specs.Naming.{nameAt, trueIn, whyIn};
 
 // What the policies decide.
 pub enum Decision {
@@ -151,9 +151,9 @@ pub fn decision_of(rows: &[u32], classes: &[u32]) -> Decision
     )
 }
 
-// A policy of an effect that is called true, or the number of policies where there is none.
-fn true_one(rows: &[u32], classes: &[u32], effect: u32) -> u32
-    ensures { λ r. ⌜ Named (trueIn (now (rows .entry)) (now (classes .entry)) effect) (nameAt (now (rows .entry)) r) ⌝ }
+// The first policy of an effect that is called true, or the number of policies where there is none.
+fn first_true(rows: &[u32], classes: &[u32], effect: u32) -> u32
+    ensures { λ r. ⌜ nameAt (now (rows .entry)) r ≡ firstName (trueIn (now (rows .entry)) (now (classes .entry)) effect) ⌝ }
 {
     let n = count(rows, RUN);
     let mut i = 0;
@@ -168,13 +168,13 @@ fn true_one(rows: &[u32], classes: &[u32], effect: u32) -> u32
     n
 }
 
-// The policy that the answer names: a true forbid for a deny, a true permit for an allow; the number of policies where there is none.
+// The policy that the answer names: the first true forbid for a deny, the first true permit for an allow; the number of policies where there is none.
 pub fn why_of(rows: &[u32], classes: &[u32]) -> u32
-    ensures { λ r. ⌜ Named (reasons (idsIn (now (rows .entry))) (verdictsIn (now (rows .entry)) (now (classes .entry)))) (nameAt (now (rows .entry)) r) ⌝ }
+    ensures { λ r. ⌜ nameAt (now (rows .entry)) r ≡ whyIn (now (rows .entry)) (now (classes .entry)) ⌝ }
 {
     match decision_of(rows, classes) {
-        Decision::Allow => true_one(rows, classes, PERMIT),
-        Decision::Deny => true_one(rows, classes, FORBID),
+        Decision::Allow => first_true(rows, classes, PERMIT),
+        Decision::Deny => first_true(rows, classes, FORBID),
         Decision::Open => count(rows, RUN),
     }
 }

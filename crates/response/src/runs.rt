@@ -10,11 +10,9 @@ ghost use mathlib.Core.Path.{_≡_};
 ghost use Prim.Native.Nat.{_≤_};
 ghost use lib.ListN.{length};
 ghost use Rattle.sheet.specs.Forms.{partial, complete};
-ghost use Rattle.sheet.specs.Why.{Named, reasons};
-ghost use Rattle.response.specs.Verdicts.{verdictsIn};
-ghost use Rattle.response.specs.Naming.{idsIn};
+ghost use Rattle.response.specs.Naming.{whyIn};
 ghost use Rattle.response.specs.Printed.{completeBytes, partialBytes};
-ghost use Rattle.response.specs.Runs.{SendsNamed, Runs};
+ghost use Rattle.response.specs.Runs.{Sends, Runs};
 
 // An answer printed, 0, or a buffer too short for it, 10; the bytes of the answer in both cases.
 pub struct Sent {
@@ -22,9 +20,9 @@ pub struct Sent {
     pub length: usize,
 }
 
-// A complete answer printed, where the buffer has room for it. Its name is chosen once, for the counting and for the printing.
+// A complete answer printed, where the buffer has room for it. Its name is found once, for the counting and for the printing.
 fn send_complete(out: &mut [u8], rows: &[u32], classes: &[u32]) -> Sent
-    ensures { λ r. ⌜ SendsNamed (Named (reasons (idsIn (now (rows .entry))) (verdictsIn (now (rows .entry)) (now (classes .entry))))) (λ name. completeBytes name (now (rows .entry)) (now (classes .entry))) (now (out .entry)) (r .number) (r .length) (now (out .exit)) ⌝ }
+    ensures { λ r. ⌜ Sends (completeBytes (whyIn (now (rows .entry)) (now (classes .entry))) (now (rows .entry)) (now (classes .entry))) (now (out .entry)) (r .number) (r .length) (now (out .exit)) ⌝ }
 {
     let policy = why_of(rows, classes);
     let k = answer::complete(&mut out[..0], 0, rows, classes, policy);
@@ -44,7 +42,7 @@ fn send_complete(out: &mut [u8], rows: &[u32], classes: &[u32]) -> Sent
 // A partial answer printed, where the buffer has room for it.
 fn send_partial(out: &mut [u8], rows: &[u32], log: &[u32], classes: &[u32], roots: &[u32]) -> Sent
     requires { ⌜ (length (now rows) ≤ 16384) × (length (now log) ≤ 16384) ⌝ }
-    ensures { λ r. ⌜ SendsNamed (Named (reasons (idsIn (now (rows .entry))) (verdictsIn (now (rows .entry)) (now (classes .entry))))) (λ name. partialBytes name (now (rows .entry)) (now (log .entry)) (now (classes .entry)) (now (roots .entry))) (now (out .entry)) (r .number) (r .length) (now (out .exit)) ⌝ }
+    ensures { λ r. ⌜ Sends (partialBytes (whyIn (now (rows .entry)) (now (classes .entry))) (now (rows .entry)) (now (log .entry)) (now (classes .entry)) (now (roots .entry))) (now (out .entry)) (r .number) (r .length) (now (out .exit)) ⌝ }
 {
     let policy = why_of(rows, classes);
     let n = answer::partial(&mut out[..0], 0, rows, log, classes, roots, policy);

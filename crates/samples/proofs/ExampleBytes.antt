@@ -13,7 +13,6 @@ use Rattle.sheet.specs.Parents.{ancestors, unknownAbove}
 use Rattle.sheet.specs.Typing.{fitsIn, nodesUnder, typed}
 use Rattle.sheet.specs.Sheet.{found, depth, fault, more, read}
 use Rattle.sheet.specs.Content.{types, valueRows, contents, schema, trees, exprs, onTerm, nPolicies, policies, nEnv, env}
-use Rattle.sheet.specs.Why.{first, nobody, some-one}
 use Rattle.sheet.specs.Answer.{run, results, answer}
 use Rattle.sheet.specs.Call.{returned, written, Accepted}
 use Rattle.cedar.specs.Canonical.{order, same, place, insert, ascending, makeSet}
@@ -35,11 +34,11 @@ c = lineEnds (ascii "sheet=complete/text=Broker/text=Action/text=Tariff/text=quo
 
 p-accepted : Accepted partial p
 unfolding p keys forms formOf slotAt counted tagOf rowOf keyOf refs ascendings fitsIn nodesUnder typed found depth fault more read types valueRows contents schema trees exprs onTerm nPolicies policies nEnv env run results answer returned ancestors unknownAbove order same place insert ascending makeSet
-p-accepted = record { work₁ = 16384; work₂ = 20000; out = 16384; name = some 6; zero-number = refl }
+p-accepted = record { work₁ = 16384; work₂ = 20000; out = 16384; zero-number = refl }
 
 c-accepted : Accepted complete c
 unfolding c keys forms formOf slotAt counted tagOf rowOf keyOf refs ascendings fitsIn nodesUnder typed found depth fault more read types valueRows contents schema trees exprs onTerm nPolicies policies nEnv env run results answer returned ancestors unknownAbove order same place insert ascending makeSet
-c-accepted = record { work₁ = 16384; work₂ = 16384; out = 500; name = some 6; zero-number = refl }
+c-accepted = record { work₁ = 16384; work₂ = 16384; out = 500; zero-number = refl }
 
 they-agree : agrees (read partial p .state) (read complete c .state) ≡ true
 unfolding p c agrees keys forms formOf slotAt counted tagOf rowOf keyOf refs ascendings fitsIn nodesUnder typed found depth fault more read types valueRows contents schema trees exprs onTerm nPolicies policies nEnv env run results answer returned ancestors unknownAbove order same place insert ascending makeSet
@@ -65,15 +64,15 @@ high = lineEnds (ascii "sheet=complete/text=Broker/text=Action/text=Tariff/text=
 
 open-call : Answered partial open-sheet
 unfolding open-sheet keys forms formOf slotAt counted tagOf rowOf keyOf refs ascendings fitsIn nodesUnder typed found depth fault more read types valueRows contents schema trees exprs onTerm nPolicies policies nEnv env run results answer returned ancestors unknownAbove order same place insert ascending makeSet
-open-call = record { work₁ = 16384; work₂ = 20000; buffer = replicate 200 33; name = none; named = nobody; zero-number = refl }
+open-call = record { work₁ = 16384; work₂ = 20000; buffer = replicate 200 33; zero-number = refl }
 
 low-call : Answered complete low
 unfolding low keys forms formOf slotAt counted tagOf rowOf keyOf refs ascendings fitsIn nodesUnder typed found depth fault more read types valueRows contents schema trees exprs onTerm nPolicies policies nEnv env run results answer returned ancestors unknownAbove order same place insert ascending makeSet
-low-call = record { work₁ = 20000; work₂ = 16384; buffer = replicate 100 7; name = some 5; named = some-one first; zero-number = refl }
+low-call = record { work₁ = 20000; work₂ = 16384; buffer = replicate 100 7; zero-number = refl }
 
 high-call : Answered complete high
 unfolding high keys forms formOf slotAt counted tagOf rowOf keyOf refs ascendings fitsIn nodesUnder typed found depth fault more read types valueRows contents schema trees exprs onTerm nPolicies policies nEnv env run results answer returned ancestors unknownAbove order same place insert ascending makeSet
-high-call = record { work₁ = 16384; work₂ = 16384; buffer = replicate 300 0; name = none; named = nobody; zero-number = refl }
+high-call = record { work₁ = 16384; work₂ = 16384; buffer = replicate 300 0; zero-number = refl }
 
 pub low-agrees : agrees (read partial open-sheet .state) (read complete low .state) ≡ true
 unfolding open-sheet low agrees keys forms formOf slotAt counted tagOf rowOf keyOf refs ascendings fitsIn nodesUnder typed found depth fault more read types valueRows contents schema trees exprs onTerm nPolicies policies nEnv env run results answer returned ancestors unknownAbove order same place insert ascending makeSet

@@ -3,7 +3,6 @@
 -- entity more. The one denies, the other allows.
 use mathlib.Core.Path.{_≡_, refl}
 use mathlib.Core.Bool.{true}
-use mathlib.Core.Option.{none, some}
 use mathlib.Core.List.{List}
 use Prim.Native.Nat.{ℕ}
 use lib.ListN.{replicate}
@@ -13,7 +12,6 @@ use Rattle.sheet.specs.Parents.{ancestors, unknownAbove}
 use Rattle.sheet.specs.Typing.{fitsIn, nodesUnder, typed}
 use Rattle.sheet.specs.Sheet.{found, depth, fault, more, read}
 use Rattle.sheet.specs.Content.{types, valueRows, contents, schema, trees, exprs, onTerm, nPolicies, policies, nEnv, env}
-use Rattle.sheet.specs.Why.{first, nobody, some-one}
 use Rattle.sheet.specs.Answer.{run, results, answer}
 use Rattle.sheet.specs.Call.{returned, written}
 use Rattle.cedar.specs.Canonical.{order, same, place, insert, ascending, makeSet}
@@ -36,15 +34,15 @@ with-more = lineEnds (ascii "sheet=complete/text=Broker/text=Action/text=Tariff/
 
 part-known-call : Answered partial part-known
 unfolding part-known keys forms formOf slotAt counted tagOf rowOf keyOf refs ascendings fitsIn nodesUnder typed found depth fault more read types valueRows contents schema trees exprs onTerm nPolicies policies nEnv env run results answer returned ancestors unknownAbove order same place insert ascending makeSet
-part-known-call = record { work₁ = 16384; work₂ = 20000; buffer = replicate 200 33; name = none; named = nobody; zero-number = refl }
+part-known-call = record { work₁ = 16384; work₂ = 20000; buffer = replicate 200 33; zero-number = refl }
 
 without-call : Answered complete without
 unfolding without keys forms formOf slotAt counted tagOf rowOf keyOf refs ascendings fitsIn nodesUnder typed found depth fault more read types valueRows contents schema trees exprs onTerm nPolicies policies nEnv env run results answer returned ancestors unknownAbove order same place insert ascending makeSet
-without-call = record { work₁ = 20000; work₂ = 16384; buffer = replicate 100 7; name = none; named = nobody; zero-number = refl }
+without-call = record { work₁ = 20000; work₂ = 16384; buffer = replicate 100 7; zero-number = refl }
 
 with-more-call : Answered complete with-more
 unfolding with-more keys forms formOf slotAt counted tagOf rowOf keyOf refs ascendings fitsIn nodesUnder typed found depth fault more read types valueRows contents schema trees exprs onTerm nPolicies policies nEnv env run results answer returned ancestors unknownAbove order same place insert ascending makeSet
-with-more-call = record { work₁ = 16384; work₂ = 16384; buffer = replicate 300 0; name = some 5; named = some-one first; zero-number = refl }
+with-more-call = record { work₁ = 16384; work₂ = 16384; buffer = replicate 300 0; zero-number = refl }
 
 pub without-agrees : agrees (read partial part-known .state) (read complete without .state) ≡ true
 unfolding part-known without agrees keys forms formOf slotAt counted tagOf rowOf keyOf refs ascendings fitsIn nodesUnder typed found depth fault more read types valueRows contents schema trees exprs onTerm nPolicies policies nEnv env run results answer returned ancestors unknownAbove order same place insert ascending makeSet

@@ -2,7 +2,6 @@
 -- the firm's type, 5, and not the client's, 8. On the one complete sheet the firm has a size, on the other it has none. Assumes nothing.
 use mathlib.Core.Path.{_≡_, refl}
 use mathlib.Core.Bool.{true}
-use mathlib.Core.Option.{none, some}
 use mathlib.Core.List.{List}
 use Prim.Native.Nat.{ℕ}
 use lib.ListN.{replicate}
@@ -12,7 +11,6 @@ use Rattle.sheet.specs.Parents.{ancestors, unknownAbove}
 use Rattle.sheet.specs.Typing.{fitsIn, nodesUnder, typed}
 use Rattle.sheet.specs.Sheet.{found, depth, fault, more, read}
 use Rattle.sheet.specs.Content.{types, valueRows, contents, schema, trees, exprs, onTerm, nPolicies, policies, nEnv, env}
-use Rattle.sheet.specs.Why.{first, nobody, some-one}
 use Rattle.sheet.specs.Answer.{run, results, answer}
 use Rattle.sheet.specs.Call.{returned, written}
 use Rattle.cedar.specs.Canonical.{order, same, place, insert, ascending, makeSet}
@@ -32,15 +30,15 @@ unsized = lineEnds (ascii "sheet=complete/text=Person/text=Action/text=Firm/text
 
 client-call : Answered partial client
 unfolding client keys forms formOf slotAt counted tagOf rowOf keyOf refs ascendings fitsIn nodesUnder typed found depth fault more read types valueRows contents schema trees exprs onTerm nPolicies policies nEnv env run results answer returned ancestors unknownAbove order same place insert ascending makeSet
-client-call = record { work₁ = 16384; work₂ = 16384; buffer = replicate 200 0; name = none; named = nobody; zero-number = refl }
+client-call = record { work₁ = 16384; work₂ = 16384; buffer = replicate 200 0; zero-number = refl }
 
 sized-call : Answered complete sized
 unfolding sized keys forms formOf slotAt counted tagOf rowOf keyOf refs ascendings fitsIn nodesUnder typed found depth fault more read types valueRows contents schema trees exprs onTerm nPolicies policies nEnv env run results answer returned ancestors unknownAbove order same place insert ascending makeSet
-sized-call = record { work₁ = 16384; work₂ = 16384; buffer = replicate 100 0; name = some 6; named = some-one first; zero-number = refl }
+sized-call = record { work₁ = 16384; work₂ = 16384; buffer = replicate 100 0; zero-number = refl }
 
 unsized-call : Answered complete unsized
 unfolding unsized keys forms formOf slotAt counted tagOf rowOf keyOf refs ascendings fitsIn nodesUnder typed found depth fault more read types valueRows contents schema trees exprs onTerm nPolicies policies nEnv env run results answer returned ancestors unknownAbove order same place insert ascending makeSet
-unsized-call = record { work₁ = 16384; work₂ = 16384; buffer = replicate 100 0; name = none; named = nobody; zero-number = refl }
+unsized-call = record { work₁ = 16384; work₂ = 16384; buffer = replicate 100 0; zero-number = refl }
 
 pub sized-agrees : agrees (read partial client .state) (read complete sized .state) ≡ true
 unfolding client sized agrees keys forms formOf slotAt counted tagOf rowOf keyOf refs ascendings fitsIn nodesUnder typed found depth fault more read types valueRows contents schema trees exprs onTerm nPolicies policies nEnv env run results answer returned ancestors unknownAbove order same place insert ascending makeSet

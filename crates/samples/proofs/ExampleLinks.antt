@@ -2,7 +2,6 @@
 -- policy is open with its broker in the slot's place, the second false as it is linked to another tariff, the third has no line on any answer. Assumes nothing.
 use mathlib.Core.Path.{_≡_, refl}
 use mathlib.Core.Bool.{true}
-use mathlib.Core.Option.{none, some}
 use mathlib.Core.List.{List}
 use Prim.Native.Nat.{ℕ}
 use lib.ListN.{replicate}
@@ -12,7 +11,6 @@ use Rattle.sheet.specs.Parents.{ancestors, unknownAbove}
 use Rattle.sheet.specs.Typing.{fitsIn, nodesUnder, typed}
 use Rattle.sheet.specs.Sheet.{found, depth, fault, more, read}
 use Rattle.sheet.specs.Content.{types, valueRows, contents, schema, trees, exprs, onTerm, nPolicies, policies, nEnv, env}
-use Rattle.sheet.specs.Why.{first, nobody, some-one}
 use Rattle.sheet.specs.Answer.{run, results, answer}
 use Rattle.sheet.specs.Call.{returned, written}
 use Rattle.cedar.specs.Canonical.{order, same, place, insert, ascending, makeSet}
@@ -35,15 +33,15 @@ second-broker = lineEnds (ascii "sheet=complete/text=Broker/text=Action/text=Tar
 
 one-rule-call : Answered partial one-rule
 unfolding one-rule keys forms formOf slotAt counted tagOf rowOf keyOf refs ascendings fitsIn nodesUnder typed found depth fault more read types valueRows contents schema trees exprs onTerm nPolicies policies nEnv env run results answer returned ancestors unknownAbove order same place insert ascending makeSet
-one-rule-call = record { work₁ = 16384; work₂ = 20000; buffer = replicate 200 33; name = none; named = nobody; zero-number = refl }
+one-rule-call = record { work₁ = 16384; work₂ = 20000; buffer = replicate 200 33; zero-number = refl }
 
 first-broker-call : Answered complete first-broker
 unfolding first-broker keys forms formOf slotAt counted tagOf rowOf keyOf refs ascendings fitsIn nodesUnder typed found depth fault more read types valueRows contents schema trees exprs onTerm nPolicies policies nEnv env run results answer returned ancestors unknownAbove order same place insert ascending makeSet
-first-broker-call = record { work₁ = 20000; work₂ = 16384; buffer = replicate 100 7; name = some 5; named = some-one first; zero-number = refl }
+first-broker-call = record { work₁ = 20000; work₂ = 16384; buffer = replicate 100 7; zero-number = refl }
 
 second-broker-call : Answered complete second-broker
 unfolding second-broker keys forms formOf slotAt counted tagOf rowOf keyOf refs ascendings fitsIn nodesUnder typed found depth fault more read types valueRows contents schema trees exprs onTerm nPolicies policies nEnv env run results answer returned ancestors unknownAbove order same place insert ascending makeSet
-second-broker-call = record { work₁ = 16384; work₂ = 16384; buffer = replicate 300 0; name = none; named = nobody; zero-number = refl }
+second-broker-call = record { work₁ = 16384; work₂ = 16384; buffer = replicate 300 0; zero-number = refl }
 
 pub first-broker-agrees : agrees (read partial one-rule .state) (read complete first-broker .state) ≡ true
 unfolding one-rule first-broker agrees keys forms formOf slotAt counted tagOf rowOf keyOf refs ascendings fitsIn nodesUnder typed found depth fault more read types valueRows contents schema trees exprs onTerm nPolicies policies nEnv env run results answer returned ancestors unknownAbove order same place insert ascending makeSet

@@ -2,7 +2,6 @@
 -- term begins on the next day. Two complete sheets settle the first in different ways; the second has no line on any answer. Assumes nothing.
 use mathlib.Core.Path.{_≡_, refl}
 use mathlib.Core.Bool.{true}
-use mathlib.Core.Option.{none, some}
 use mathlib.Core.List.{List}
 use Prim.Native.Nat.{ℕ}
 use lib.ListN.{replicate}
@@ -12,7 +11,6 @@ use Rattle.sheet.specs.Parents.{ancestors, unknownAbove}
 use Rattle.sheet.specs.Typing.{fitsIn, nodesUnder, typed}
 use Rattle.sheet.specs.Sheet.{found, depth, fault, more, read}
 use Rattle.sheet.specs.Content.{types, valueRows, contents, schema, trees, exprs, onTerm, nPolicies, policies, nEnv, env}
-use Rattle.sheet.specs.Why.{first, nobody, some-one}
 use Rattle.sheet.specs.Answer.{run, results, answer}
 use Rattle.sheet.specs.Call.{returned, written}
 use Rattle.cedar.specs.Canonical.{order, same, place, insert, ascending, makeSet}
@@ -35,15 +33,15 @@ another = lineEnds (ascii "sheet=complete/text=Broker/text=Action/text=Tariff/te
 
 last-day-call : Answered partial last-day
 unfolding last-day keys forms formOf slotAt counted tagOf rowOf keyOf refs ascendings fitsIn nodesUnder typed found depth fault more read types valueRows contents schema trees exprs onTerm nPolicies policies nEnv env run results answer returned ancestors unknownAbove order same place insert ascending makeSet
-last-day-call = record { work₁ = 16384; work₂ = 20000; buffer = replicate 200 33; name = none; named = nobody; zero-number = refl }
+last-day-call = record { work₁ = 16384; work₂ = 20000; buffer = replicate 200 33; zero-number = refl }
 
 the-broker-call : Answered complete the-broker
 unfolding the-broker keys forms formOf slotAt counted tagOf rowOf keyOf refs ascendings fitsIn nodesUnder typed found depth fault more read types valueRows contents schema trees exprs onTerm nPolicies policies nEnv env run results answer returned ancestors unknownAbove order same place insert ascending makeSet
-the-broker-call = record { work₁ = 20000; work₂ = 16384; buffer = replicate 100 7; name = some 5; named = some-one first; zero-number = refl }
+the-broker-call = record { work₁ = 20000; work₂ = 16384; buffer = replicate 100 7; zero-number = refl }
 
 another-call : Answered complete another
 unfolding another keys forms formOf slotAt counted tagOf rowOf keyOf refs ascendings fitsIn nodesUnder typed found depth fault more read types valueRows contents schema trees exprs onTerm nPolicies policies nEnv env run results answer returned ancestors unknownAbove order same place insert ascending makeSet
-another-call = record { work₁ = 16384; work₂ = 16384; buffer = replicate 300 0; name = none; named = nobody; zero-number = refl }
+another-call = record { work₁ = 16384; work₂ = 16384; buffer = replicate 300 0; zero-number = refl }
 
 pub the-broker-agrees : agrees (read partial last-day .state) (read complete the-broker .state) ≡ true
 unfolding last-day the-broker agrees keys forms formOf slotAt counted tagOf rowOf keyOf refs ascendings fitsIn nodesUnder typed found depth fault more read types valueRows contents schema trees exprs onTerm nPolicies policies nEnv env run results answer returned ancestors unknownAbove order same place insert ascending makeSet

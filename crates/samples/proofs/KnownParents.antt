@@ -1,7 +1,6 @@
 -- Document 02, 2.6, on sheets small enough for a pencil, from bytes to bytes, by computation. `/` is a line end.
 use mathlib.Core.Path.{_≡_, refl}
 use mathlib.Core.Bool.{true}
-use mathlib.Core.Option.{none, some}
 use mathlib.Core.List.{List, [], _∷_, _++_}
 use Prim.Native.Nat.{ℕ, zero, suc}
 use Prim.Native.String.{String}
@@ -15,11 +14,10 @@ use Rattle.sheet.specs.Content.{types, valueRows, contents, schema, trees, expr
 use Rattle.sheet.specs.Answer.{run, results, answer, printed, numbers}
 use Rattle.sheet.specs.Call.{Returned, returned}
 use Rattle.sheet.specs.Agreement.{agrees}
-use Rattle.sheet.specs.Why.{first, nobody, some-one}
 use Rattle.sheet.specs.Demand3.{Answered, bytesOf, Demand3}
 use Rattle.cedar.specs.Canonical.{order, same, place, insert, ascending, makeSet}
 use Rattle.sheet.proofs.Demand3Answers.{demand-3-bytes}
-use Rattle.sheet.proofs.Shown.{lineEnds, nameFor}
+use Rattle.sheet.proofs.Shown.{lineEnds}
 
 abbrev bytes : String → List ℕ
 bytes s = lineEnds (ascii s)
@@ -32,7 +30,7 @@ abbrev shownFor : List ℕ → Returned → List ℕ
 shownFor a r = shownAs a (r .number) r
 
 unfoldable shown : Mode → List ℕ → List ℕ
-shown m sheet = shownFor (answer (nameFor m (read m sheet .state)) m (read m sheet .state)) (returned (nameFor m (read m sheet .state)) m 16384 16384 16384 sheet)
+shown m sheet = shownFor (answer m (read m sheet .state)) (returned m 16384 16384 16384 sheet)
 
 pub record Case : Type 0 where
   pub rest : String
@@ -142,15 +140,15 @@ apart = whole ++ bytes "entity=0,5,5,8/entity=1,5,5,7/entity=2,5,5,6/entity=3,5,
 
 open-call : Answered partial open-sheet
 unfolding open-sheet plain texts values keys forms formOf slotAt counted tagOf rowOf keyOf refs ascendings fitsIn nodesUnder typed found depth fault more read types valueRows contents schema trees exprs onTerm nPolicies policies nEnv env run results answer returned ancestors unknownAbove order same place insert ascending makeSet
-open-call = record { work₁ = 16384; work₂ = 20000; buffer = replicate 300 33; name = none; named = nobody; zero-number = refl }
+open-call = record { work₁ = 16384; work₂ = 20000; buffer = replicate 300 33; zero-number = refl }
 
 below-call : Answered complete below
 unfolding below whole texts values keys forms formOf slotAt counted tagOf rowOf keyOf refs ascendings fitsIn nodesUnder typed found depth fault more read types valueRows contents schema trees exprs onTerm nPolicies policies nEnv env run results answer returned ancestors unknownAbove order same place insert ascending makeSet
-below-call = record { work₁ = 16384; work₂ = 16384; buffer = replicate 300 33; name = some 6; named = some-one first; zero-number = refl }
+below-call = record { work₁ = 16384; work₂ = 16384; buffer = replicate 300 33; zero-number = refl }
 
 apart-call : Answered complete apart
 unfolding apart whole texts values keys forms formOf slotAt counted tagOf rowOf keyOf refs ascendings fitsIn nodesUnder typed found depth fault more read types valueRows contents schema trees exprs onTerm nPolicies policies nEnv env run results answer returned ancestors unknownAbove order same place insert ascending makeSet
-apart-call = record { work₁ = 16384; work₂ = 16384; buffer = replicate 300 33; name = some 5; named = some-one first; zero-number = refl }
+apart-call = record { work₁ = 16384; work₂ = 16384; buffer = replicate 300 33; zero-number = refl }
 
 below-agrees : agrees (read partial open-sheet .state) (read complete below .state) ≡ true
 unfolding open-sheet below plain whole texts values agrees keys forms formOf slotAt counted tagOf rowOf keyOf refs ascendings fitsIn nodesUnder typed found depth fault more read ancestors unknownAbove

@@ -61,13 +61,17 @@ other-sheets : shownAll head others ≡ saysAll others
 unfolding head others shown keys forms formOf slotAt counted tagOf rowOf keyOf refs ascendings fitsIn nodesUnder typed found depth fault more read types valueRows contents schema trees exprs onTerm nPolicies policies nEnv env run results answer returned ancestors unknownAbove order same place insert ascending makeSet
 other-sheets = refl
 
--- ---- document 02, "Which rule gave it", over the same head
+-- ---- document 02, "Which rule gave it" and "Always the same rule", over the same head
 
 names : List Case
 names =
     -- a deny names its true forbid: not the true permit, not the false forbid, not the one that is off term
     case "value=entity,0,7/value=entity,0,9/principal=0,9/action=1,3/resource=2,4/context=6,?/day=2000-01-01/node=2,var,p/node=2,slot,p/node=0,eq,0,1/policy=8,forbid,2/policy=5,permit,2/policy=6,forbid,2/policy=7,forbid,2/link=0,1,-/link=1,1,-/link=2,0,-/link=3,1,-/term=0,1900-01-01,1999-12-31/" "decision=deny/counts=1,0,0,0,1,1,0,0/why=7/value=bool,1/value=bool,0/node=0,lit,2/node=0,lit,3/node=0,lit,2/policy=5,permit,true,0/policy=6,forbid,false,1/policy=7,forbid,true,2/"
-    -- an allow names its true permit, not an open one
+    -- the first true permit of four linked ones: the first is off term, the second false
+    ∷ case "value=entity,0,7/value=entity,0,9/principal=0,9/action=1,3/resource=2,4/context=6,?/day=2000-01-01/node=2,var,p/node=2,slot,p/node=0,eq,0,1/policy=5,permit,2/policy=6,permit,2/policy=7,permit,2/policy=8,permit,2/link=0,1,-/link=1,0,-/link=2,1,-/link=3,1,-/term=0,1900-01-01,1999-12-31/" "decision=allow/counts=2,1,0,0,0,0,0,0/why=7/value=bool,0/value=bool,1/node=0,lit,2/node=0,lit,3/node=0,lit,3/policy=6,permit,false,0/policy=7,permit,true,1/policy=8,permit,true,2/"
+    -- the first true forbid in the sheet's order, not the one of the lowest id, and not the one that is off term
+    ∷ case "value=entity,0,7/value=entity,0,9/principal=0,9/action=1,3/resource=2,4/context=6,?/day=2000-01-01/node=2,var,p/node=2,slot,p/node=0,eq,0,1/policy=8,forbid,2/policy=5,permit,2/policy=7,forbid,2/policy=6,forbid,2/link=0,1,-/link=1,1,-/link=2,1,-/link=3,1,-/term=0,1900-01-01,1999-12-31/" "decision=deny/counts=1,0,0,0,2,0,0,0/why=7/value=bool,1/node=0,lit,2/node=0,lit,2/node=0,lit,2/policy=5,permit,true,0/policy=7,forbid,true,1/policy=6,forbid,true,2/"
+    -- "A partial sheet doesn't settle the name: an open policy of its effect before it may still turn true"
     ∷ case "value=bool,1/principal=0,?/action=1,3/resource=2,4/context=6,?/day=2000-01-01/node=6,var,c/node=0,get,0,7/node=0,lit,0/policy=5,permit,1/policy=6,permit,2/" "decision=allow/counts=1,0,0,1,0,0,0,0/why=6/node=6,var,c/node=0,get,0,7/node=0,lit,0/policy=5,permit,open,1/policy=6,permit,true,2/"
     ∷ []
 
@@ -83,7 +87,7 @@ full : read partial (room-for ++ bytes "node=0,lit,0/node=0,not,0/node=0,not,1/n
 unfolding room-for shown keys forms formOf slotAt counted tagOf rowOf keyOf refs ascendings fitsIn nodesUnder typed found depth fault more read types valueRows contents schema trees exprs onTerm nPolicies policies nEnv env run results answer returned ancestors unknownAbove order same place insert ascending makeSet
 full = refl
 
-over : returned none partial 16384 16384 16384 (room-for ++ bytes "node=0,lit,0/node=0,not,0/node=0,not,1/node=0,not,2/node=0,not,3/node=0,not,4/node=0,not,5/node=0,not,6/node=0,not,7/node=0,not,8/node=0,not,9/node=0,not,10/node=0,not,11/node=0,not,12/node=0,not,13/node=0,not,14/node=0,not,15/policy=0,permit,16/policy=1,permit,16/policy=2,permit,16/policy=3,permit,16/policy=4,permit,16/policy=5,permit,16/policy=6,permit,16/policy=7,permit,16/policy=8,permit,16/policy=9,permit,16/policy=10,permit,16/policy=11,permit,16/policy=12,permit,16/policy=13,permit,16/policy=14,permit,16/policy=15,permit,16/policy=16,permit,16/policy=17,permit,16/policy=18,permit,16/policy=19,permit,16/policy=20,permit,16/policy=21,permit,16/policy=22,permit,16/policy=23,permit,16/policy=24,permit,16/policy=25,permit,16/policy=26,permit,16/policy=27,permit,16/policy=28,permit,16/policy=29,permit,16/policy=30,permit,16/policy=31,permit,16/policy=32,permit,16/policy=33,permit,16/policy=34,permit,16/policy=35,permit,16/policy=36,permit,16/policy=37,permit,16/policy=38,permit,16/policy=39,permit,16/policy=40,permit,16/policy=41,permit,16/policy=42,permit,16/policy=43,permit,16/policy=44,permit,16/policy=45,permit,16/policy=46,permit,16/policy=47,permit,16/policy=48,permit,16/policy=49,permit,16/policy=50,permit,16/policy=51,permit,16/policy=52,permit,16/policy=53,permit,16/policy=54,permit,16/policy=55,permit,16/policy=56,permit,16/policy=57,permit,16/policy=58,permit,16/policy=59,permit,16/policy=60,permit,16/policy=61,permit,16/policy=62,permit,16/policy=63,permit,16/") ≡ record { number = 4; line = 157; length = 0 }
+over : returned partial 16384 16384 16384 (room-for ++ bytes "node=0,lit,0/node=0,not,0/node=0,not,1/node=0,not,2/node=0,not,3/node=0,not,4/node=0,not,5/node=0,not,6/node=0,not,7/node=0,not,8/node=0,not,9/node=0,not,10/node=0,not,11/node=0,not,12/node=0,not,13/node=0,not,14/node=0,not,15/policy=0,permit,16/policy=1,permit,16/policy=2,permit,16/policy=3,permit,16/policy=4,permit,16/policy=5,permit,16/policy=6,permit,16/policy=7,permit,16/policy=8,permit,16/policy=9,permit,16/policy=10,permit,16/policy=11,permit,16/policy=12,permit,16/policy=13,permit,16/policy=14,permit,16/policy=15,permit,16/policy=16,permit,16/policy=17,permit,16/policy=18,permit,16/policy=19,permit,16/policy=20,permit,16/policy=21,permit,16/policy=22,permit,16/policy=23,permit,16/policy=24,permit,16/policy=25,permit,16/policy=26,permit,16/policy=27,permit,16/policy=28,permit,16/policy=29,permit,16/policy=30,permit,16/policy=31,permit,16/policy=32,permit,16/policy=33,permit,16/policy=34,permit,16/policy=35,permit,16/policy=36,permit,16/policy=37,permit,16/policy=38,permit,16/policy=39,permit,16/policy=40,permit,16/policy=41,permit,16/policy=42,permit,16/policy=43,permit,16/policy=44,permit,16/policy=45,permit,16/policy=46,permit,16/policy=47,permit,16/policy=48,permit,16/policy=49,permit,16/policy=50,permit,16/policy=51,permit,16/policy=52,permit,16/policy=53,permit,16/policy=54,permit,16/policy=55,permit,16/policy=56,permit,16/policy=57,permit,16/policy=58,permit,16/policy=59,permit,16/policy=60,permit,16/policy=61,permit,16/policy=62,permit,16/policy=63,permit,16/") ≡ record { number = 4; line = 157; length = 0 }
 unfolding room-for shown keys forms formOf slotAt counted tagOf rowOf keyOf refs ascendings fitsIn nodesUnder typed found depth fault more read types valueRows contents schema trees exprs onTerm nPolicies policies nEnv env run results answer returned ancestors unknownAbove order same place insert ascending makeSet
 over = refl
 

@@ -2,6 +2,7 @@ pub mod ExampleBytes
 pub mod ExampleEntities
 pub mod ExampleGroups
 pub mod ExampleLinks
+pub mod ExampleName
 pub mod ExampleTerms
 pub mod GroupEdges
 pub mod KnownParents

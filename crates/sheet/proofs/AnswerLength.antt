@@ -1,12 +1,12 @@
 -- How long the answer of an accepted sheet can be: 1,048,576 bytes at most.
-use mathlib.Core.Path.{_≡_, refl, sym, _∙_, ap, subst}
+use mathlib.Core.Path.{_≡_, refl, sym, _∙_, ap}
 use mathlib.Core.Bool.{Bool, true, false, cond, not, _&&_, _||_}
 use mathlib.Core.Option.{Option, none, some}
 use mathlib.Core.List.{List, [], _∷_, _++_}
 use Prim.Native.Nat.{ℕ, zero, suc, _≤_, _+_, _-_, _*_, _/_, _%_}
 use Prim.Native.String.{String}
 use native.Mathlib.Omega.{arith}
-use borrow.Author.Tests.{eq-eqb, leb-true, ltb-false, le-ltb}
+use borrow.Author.Tests.{eq-eqb, leb-true, le-ltb}
 use lib.Dec.{leb, ltb, eqb}
 use lib.IntN.{ℤ, pos, negsuc}
 use lib.ListN.{length, getD, drop, length-append, length-drop}
@@ -25,10 +25,11 @@ use Rattle.sheet.specs.Forms as F
 use Rattle.sheet.specs.State.{State, lineAt, count}
 use Rattle.sheet.specs.Sheet.{read}
 use Rattle.sheet.specs.Content.{types, valueRows, schema, nEnv, known, onTerm, nPolicies}
-use Rattle.sheet.specs.Why.{Name, whyItem}
-use Rattle.sheet.specs.Call.{Accepted, room, returns, afterReading, readAs, returned}
+use Rattle.sheet.specs.Why.{Name, why, whyItem}
+use Rattle.sheet.specs.Call.{Accepted, Returned, room, returns, checkedThen, fitted, returned}
 use Rattle.sheet.specs.Answer.{printed, concat, numbers, decisionWord, effectWord, classWord, countsOf, headLines, entryItems, valueItems, valueLines, size, sizes, sizeArgs, root, roots, argRoots, op, unTag, unItems, binTag, relTag, varNumber, patternItems, typeNumber, rowWith, treeRows, allRows, argRows, residualRows, itemOut, itemsOut, nodeItems, nodeLines, policyItems, partialLines, completeLines, ids, run, results, answer}
 use Rattle.sheet.proofs.Lines.{zero-not-suc, accepted-history}
+use Rattle.sheet.proofs.Checked.{lent-by, checked-by}
 use Rattle.sheet.proofs.Refusals.{read-small}
 use Rattle.sheet.proofs.Limits.{most-lines}
 use Rattle.sheet.proofs.OnTerm.{on-term-few}
@@ -48,7 +49,7 @@ use Rattle.sheet.proofs.TreeBytes.{unBytes, treeBytes, treesBytes, args
 
 -- ---- items and lines
 
-digits-few : (n : ℕ) → length (digits n) ≤ 20
+pub digits-few : (n : ℕ) → length (digits n) ≤ 20
 digits-few n = by-fuel 19 n
   where
     by-fuel : (k n : ℕ) → length (digitsBy k n) ≤ suc k
@@ -67,7 +68,7 @@ commas-most [] = omega arith
 commas-most (x ∷ []) = omega arith
 commas-most (x ∷ y ∷ l) = let h = commas-most (y ∷ l) in let z = length-append x (44 ∷ commas (y ∷ l)) in omega (arith, h, z)
 
-printed-most : (key : String) (l : List (List ℕ)) → length (printed key l) ≤ length (ascii key) + 2 + (weigh l - 1)
+pub printed-most : (key : String) (l : List (List ℕ)) → length (printed key l) ≤ length (ascii key) + 2 + (weigh l - 1)
 printed-most key l =
     let h = commas-most l in
     let a = length-append (ascii key) (61 ∷ commas l ++ (10 ∷ [])) in
@@ -82,7 +83,7 @@ small-numbers : (l : List ℕ) → AllSmall l → weigh (numbers l) ≤ 5 * leng
 small-numbers [] s = omega arith
 small-numbers (n ∷ l) s = let h = small-numbers l (s .1) in let d = small-digits n (s .0) in omega (arith, h, d)
 
-concat-length : (k l : List (List ℕ)) → length (concat (k ++ l)) ≡ length (concat k) + length (concat l)
+pub concat-length : (k l : List (List ℕ)) → length (concat (k ++ l)) ≡ length (concat k) + length (concat l)
 concat-length [] l = omega arith
 concat-length (x ∷ k) l = let h = concat-length k l in let a = length-append x (concat (k ++ l)) in let b = length-append x (concat k) in omega (arith, h, a, b)
 
@@ -98,7 +99,7 @@ name-short : (name : Name) → length (whyItem name) ≤ 20
 name-short none = omega arith
 name-short (some i) = digits-few i
 
-head-most : (name : Name) (ls : List Verdict) → length (concat (headLines name ls)) ≤ 215
+pub head-most : (name : Name) (ls : List Verdict) → length (concat (headLines name ls)) ≤ 215
 head-most name ls =
     let d : List (List ℕ) = ascii (decisionWord (decision ls)) ∷ [] in
     let c : List (List ℕ) = numbers (countsOf ls) in
@@ -141,7 +142,7 @@ complete-most (i ∷ is) (l ∷ ls) =
     let z = length-append (printed "policy" (policyItems i (l .effect) (l .class) [])) (concat (completeLines is ls)) in
     omega (arith, a, h, z)
 
-partial-most : (n : ℕ) (is : List ℕ) (ls : List NVerdict) → length (concat (partialLines n is ls)) ≤ 62 * length is
+pub partial-most : (n : ℕ) (is : List ℕ) (ls : List NVerdict) → length (concat (partialLines n is ls)) ≤ 62 * length is
 partial-most n [] ls = omega arith
 partial-most n (i ∷ is) [] = omega arith
 partial-most n (i ∷ is) (l ∷ ls) =
@@ -441,12 +442,12 @@ module _ (ts : List Ty) where
 
 accepted-short : (m : Mode) (sheet : List ℕ) → Accepted m sheet → length sheet ≤ room
 unfolding returned
-accepted-short m sheet a = go (ltb (a .work₁) room || ltb (a .work₂) room) (ltb room (length sheet)) refl (a .zero-number)
+accepted-short m sheet a =
+    let r = fitted (a .out) (length (answer m (read m sheet .state))) in
+    lent-by Short (a .work₁) (a .work₂) (checkedThen m sheet r) (λ t e. zero-not-suc e) (λ t. checked-by Short m sheet r (λ e. zero-not-suc e) (λ n q e. zero-not-suc e) (λ h q e. h)) (a .zero-number)
   where
-    go : (x y : Bool) → ltb room (length sheet) ≡ y → cond x (returns 1 0 0) (cond y (returns 2 0 0) (readAs (a .name) m (a .out) (read m sheet))) .number ≡ 0 → length sheet ≤ room
-    go true y q e = zero-not-suc e
-    go false true q e = zero-not-suc e
-    go false false q e = ltb-false room (length sheet) q
+    Short : Returned → Type 0
+    Short r = r .number ≡ 0 → length sheet ≤ room
 
 -- 64 policies of one pattern as long as the sheet without its policy lines, 34 bytes for each of 1,024 nodes, 1,024 made values of 3,084 words, 62 bytes for each policy, and 215 for the head
 abbrev pub longest : ℕ
@@ -490,16 +491,16 @@ module _ (sheet : List ℕ) (acc : Accepted partial sheet) where
       let b = residual-sizes partial sheet e in
       residuals-good (types s) (few-types sheet acc) (run partial s .lines) 0 (residuals-small sheet acc) (omega (arith, a, b))
 
-  partial-length : (name : Name) → length (answer name partial s) ≤ longest
+  partial-length : length (answer partial s) ≤ longest
   unfolding answer
-  partial-length name =
+  partial-length =
       let e = accepted-read partial sheet acc in
       let r = run partial s in
-      let hs : List (List ℕ) = headLines name (verdicts (r .lines)) in
+      let hs : List (List ℕ) = headLines (why (ids s) (verdicts (r .lines))) (verdicts (r .lines)) in
       let vs : List (List ℕ) = valueLines (drop (count s VALUE) (r .rows)) in
       let ns : List (List ℕ) = nodeLines (residualRows (types s) 0 (r .lines)) in
       let ps : List (List ℕ) = partialLines 0 (ids s) (r .lines) in
-      let a = head-most name (verdicts (r .lines)) in
+      let a = head-most (why (ids s) (verdicts (r .lines))) (verdicts (r .lines)) in
       let b = values-most (drop (count s VALUE) (r .rows)) (made-values sheet acc) in
       let c = made-words in
       let q = few-made in
@@ -516,49 +517,45 @@ module _ (sheet : List ℕ) (acc : Accepted partial sheet) where
       let z = concat-length hs vs in
       omega (arith, a, b, c, d, f, g, i, j, k, l, n, q, x, y, z)
 
-complete-length : (sheet : List ℕ) → Accepted complete sheet → (name : Name) → length (answer name complete (read complete sheet .state)) ≤ longest
+complete-length : (sheet : List ℕ) → Accepted complete sheet → length (answer complete (read complete sheet .state)) ≤ longest
 unfolding answer
-complete-length sheet acc name =
+complete-length sheet acc =
     let s = read complete sheet .state in
-    let a = head-most name (results s) in
+    let a = head-most (why (ids s) (results s)) (results s) in
     let b = complete-most (ids s) (results s) in
     let n = ids-few complete sheet (accepted-read complete sheet acc) in
-    let x = concat-length (headLines name (results s)) (completeLines (ids s) (results s)) in
+    let x = concat-length (headLines (why (ids s) (results s)) (results s)) (completeLines (ids s) (results s)) in
     omega (arith, a, b, n, x)
 
--- no answer of an accepted sheet is longer, whatever name it carries
-pub answer-length : (m : Mode) (sheet : List ℕ) → Accepted m sheet → (name : Name) → length (answer name m (read m sheet .state)) ≤ longest
-answer-length partial sheet acc name = partial-length sheet acc name
-answer-length complete sheet acc name = complete-length sheet acc name
+-- no answer of an accepted sheet is longer
+pub answer-length : (m : Mode) (sheet : List ℕ) → Accepted m sheet → length (answer m (read m sheet .state)) ≤ longest
+answer-length partial sheet acc = partial-length sheet acc
+answer-length complete sheet acc = complete-length sheet acc
 
 -- a sheet that is short enough and read without fault is accepted where there is room
-after-reading : (name : Name) (m : Mode) (s : State) (x k : ℕ) → x ≡ 0 → afterReading name m (length (answer name m s)) s x k .number ≡ 0
-after-reading name m s zero k q = rw (le-ltb (length (answer name m s)) (length (answer name m s)) (omega arith))
-after-reading name m s (suc x) k q = zero-not-suc q
-
-roomy : (name : Name) (m : Mode) (sheet : List ℕ) → length sheet ≤ room → read m sheet .number ≡ 0 → returned name m room room (length (answer name m (read m sheet .state))) sheet .number ≡ 0
+roomy : (m : Mode) (sheet : List ℕ) → length sheet ≤ room → read m sheet .number ≡ 0 → returned m room room (length (answer m (read m sheet .state))) sheet .number ≡ 0
 unfolding returned
-roomy name m sheet h e = rw (le-ltb room (length sheet) h) (after-reading name m (read m sheet .state) (read m sheet .number) (read m sheet .line) e)
+roomy m sheet h e = rw (le-ltb room (length sheet) h) (rw e (rw (le-ltb (length (answer m (read m sheet .state))) (length (answer m (read m sheet .state))) (omega arith))))
 
--- NO ANSWER HAS MORE THAN 1,048,576 BYTES, whatever short sheet is read without fault and whatever name the answer carries
-pub answer-most : (name : Name) (m : Mode) (sheet : List ℕ) → length sheet ≤ room → read m sheet .number ≡ 0 → length (answer name m (read m sheet .state)) ≤ mostAnswer
-answer-most name m sheet h e =
-    let a = answer-length m sheet (record { work₁ = room; work₂ = room; out = length (answer name m (read m sheet .state)); name = name; zero-number = roomy name m sheet h e }) name in
+-- NO ANSWER HAS MORE THAN 1,048,576 BYTES, whatever short sheet is read without fault
+pub answer-most : (m : Mode) (sheet : List ℕ) → length sheet ≤ room → read m sheet .number ≡ 0 → length (answer m (read m sheet .state)) ≤ mostAnswer
+answer-most m sheet h e =
+    let a = answer-length m sheet (record { work₁ = room; work₂ = room; out = length (answer m (read m sheet .state)); zero-number = roomy m sheet h e }) in
     omega (arith, a)
 
 -- A BUFFER OF 1,048,576 BYTES NEVER MEETS 10: every number returned there is one of 0 to 8
-pub never-ten : (name : Name) (m : Mode) (work₁ work₂ out : ℕ) (sheet : List ℕ) → mostAnswer ≤ out → returned name m work₁ work₂ out sheet .number ≤ 8
+pub never-ten : (m : Mode) (work₁ work₂ out : ℕ) (sheet : List ℕ) → mostAnswer ≤ out → returned m work₁ work₂ out sheet .number ≤ 8
 unfolding returned
-never-ten name m work₁ work₂ out sheet b = go (ltb work₁ room || ltb work₂ room) (ltb room (length sheet)) refl
+never-ten m work₁ work₂ out sheet b =
+    lent-by Small work₁ work₂ (checkedThen m sheet (fitted out n)) (λ t. omega arith)
+    (λ t. checked-by Small m sheet (fitted out n) (omega arith) (λ i q. let s = read-small m sheet in omega (arith, q, s)) (λ h q. let a = answer-most m sheet h q in fits (ltb out n) (le-ltb out n (omega (arith, a, b)))))
   where
-    after : (x k : ℕ) → read m sheet .number ≡ x → x ≤ 8 → length sheet ≤ room → afterReading name m out (read m sheet .state) x k .number ≤ 8
-    after zero k q h s =
-        let a = answer-most name m sheet s q in
-        let z : 0 ≤ 8 = omega arith in
-        subst (λ (c : Bool). cond c (returns 10 0 (length (answer name m (read m sheet .state)))) (returns 0 0 (length (answer name m (read m sheet .state)))) .number ≤ 8) (sym (le-ltb out (length (answer name m (read m sheet .state))) (omega (arith, a, b)))) z
-    after (suc x) k q h s = h
+    n : ℕ
+    n = length (answer m (read m sheet .state))
 
-    go : (x y : Bool) → ltb room (length sheet) ≡ y → cond x (returns 1 0 0) (cond y (returns 2 0 0) (readAs name m out (read m sheet))) .number ≤ 8
-    go true y q = omega arith
-    go false true q = omega arith
-    go false false q = after (read m sheet .number) (read m sheet .line) refl (read-small m sheet) (ltb-false room (length sheet) q)
+    Small : Returned → Type 0
+    Small r = r .number ≤ 8
+
+    fits : (c : Bool) → c ≡ false → Small (cond c (returns 10 0 n) (returns 0 0 n))
+    fits true e = no-true (sym e)
+    fits false e = omega arith

@@ -23,8 +23,8 @@ use Rattle.sheet.specs.Forms.{partial, complete, VALUE}
 use Rattle.sheet.specs.State.{State, count, linesOf, sum}
 use Rattle.sheet.specs.Sheet.{firsts, read}
 use Rattle.sheet.specs.Content.{types, rowsIn, valueRows, contents, valueOver, valuesFrom, schema, pEnv, nEnv, exprs, nPolicies, policies, treesFrom, onTerm}
-use Rattle.sheet.specs.Answer.{size, root, treeRows, residualRows, countsOf, ids, run, results, answer, NameOf}
-use Rattle.sheet.specs.Why.{Name}
+use Rattle.sheet.specs.Why.{why}
+use Rattle.sheet.specs.Answer.{size, root, treeRows, residualRows, countsOf, ids, run, results, answer}
 use Rattle.sheet.specs.Call.{Accepted}
 use Rattle.sheet.specs.ReadAnswer.{PolicyLine, Said, readAnswer}
 use Rattle.sheet.proofs.Lines.{History}
@@ -185,11 +185,11 @@ module _ {L : Type 0} (ts : List Ty) (value : ℕ → L) where
 -- ---- a partial sheet
 
 -- what the run says
-abbrev pub partialSaid : Name → State → Said
-partialSaid w s = record { decision = decision (verdicts (run partial s .lines)); counts = countsOf (verdicts (run partial s .lines)); why = w; made = drop (count s VALUE) (run partial s .rows); nodes = residualRows (types s) 0 (run partial s .lines); policies = partialPolicies 0 (ids s) (run partial s .lines) }
+abbrev pub partialSaid : State → Said
+partialSaid s = record { decision = decision (verdicts (run partial s .lines)); counts = countsOf (verdicts (run partial s .lines)); why = why (ids s) (verdicts (run partial s .lines)); made = drop (count s VALUE) (run partial s .rows); nodes = residualRows (types s) 0 (run partial s .lines); policies = partialPolicies 0 (ids s) (run partial s .lines) }
 
-abbrev pub completeSaid : Name → State → Said
-completeSaid w s = record { decision = decision (results s); counts = countsOf (results s); why = w; made = []; nodes = []; policies = completePolicies (ids s) (results s) }
+abbrev pub completeSaid : State → Said
+completeSaid s = record { decision = decision (results s); counts = countsOf (results s); why = why (ids s) (results s); made = []; nodes = []; policies = completePolicies (ids s) (results s) }
 
 pub firsts-length : (rs : List (List ℕ)) → length (firsts rs) ≡ length rs
 firsts-length [] = refl
@@ -247,9 +247,9 @@ module _ (sheet : List ℕ) (acc : Accepted partial sheet) where
   counts-small = let a = partial-counts partial s in let b = most-lines partial s h .policies in let c = on-term-few s in parts-small (countsOf (verdicts (run partial s .lines))) (omega (arith, a, b, c))
 
   -- A PARTIAL ANSWER READS BACK
-  pub partial-answer-back : (w : Name) → NameOf partial s w → readAnswer partial (answer w partial s) ≡ some (partialSaid w s)
+  pub partial-answer-back : readAnswer partial (answer partial s) ≡ some (partialSaid s)
   unfolding answer
-  partial-answer-back w n = partial-reads w (drop (count s VALUE) (run partial s .rows)) (residualRows (types s) 0 (run partial s .lines)) (ids s) (run partial s .lines) (why-small (ids s) (verdicts (run partial s .lines)) w (ids-small partial s h) n) made-values
+  partial-answer-back = partial-reads (why (ids s) (verdicts (run partial s .lines))) (drop (count s VALUE) (run partial s .rows)) (residualRows (types s) 0 (run partial s .lines)) (ids s) (run partial s .lines) (why-small (ids s) (verdicts (run partial s .lines)) (ids-small partial s h)) made-values
       (residuals-good (types s) few-types (run partial s .lines) 0 residuals-small (omega (arith, sizes-small))) (ids-small partial s h) counts-small sizes-small
 
   lines-length : {D : List Value} {ls : List NVerdict} {qs : List Policy} → Residuals (schema s) (nEnv partial s) (pEnv s) D ls qs → length ls ≡ length qs
@@ -267,8 +267,8 @@ module _ (sheet : List ℕ) (acc : Accepted partial sheet) where
       (standing (types s) value (run partial s .lines) (ids s) [] 0 refl as-many)
 
   -- UNDER EACH PRINTED ROOT STANDS THE RUN'S RESIDUAL
-  pub residuals-back : (w : Name) → Standing (treesFrom (types s) (λ n. n) (λ A x. err A) [] (partialSaid w s .nodes)) (λ l. l .root) (partialSaid w s .policies) (run partial s .lines)
-  residuals-back w = stand-as (λ l. valued-same (l .root)) (roots-stand (λ n. n))
+  pub residuals-back : Standing (treesFrom (types s) (λ n. n) (λ A x. err A) [] (partialSaid s .nodes)) (λ l. l .root) (partialSaid s .policies) (run partial s .lines)
+  residuals-back = stand-as (λ l. valued-same (l .root)) (roots-stand (λ n. n))
 
   -- the contents of the sheet's values and of the made ones
   pub values-of : {C : List Value} → Table (run partial s .rows) C → valuesFrom (contents s) (drop (count s VALUE) (run partial s .rows)) ≡ C
@@ -280,19 +280,19 @@ module _ (sheet : List ℕ) (acc : Accepted partial sheet) where
   all-there {C} (R.more {l = l} r rs) = (subst (Reads C (l .root)) (sym (reads-valued C r)) r, all-there rs)
 
   -- EACH LITERAL'S NUMBER IS AMONG THE SHEET'S VALUES AND THE MADE ONES
-  pub literals-there : (w : Name) → AllRead (valuesFrom (contents s) (partialSaid w s .made)) (run partial s .lines)
-  literals-there w = subst (λ C. AllRead C (run partial s .lines)) (sym (values-of (reads .table))) (all-there (reads .residuals))
+  pub literals-there : AllRead (valuesFrom (contents s) (partialSaid s .made)) (run partial s .lines)
+  literals-there = subst (λ C. AllRead C (run partial s .lines)) (sym (values-of (reads .table))) (all-there (reads .residuals))
 
 module _ (sheet : List ℕ) (acc : Accepted complete sheet) where
   abbrev c : State
   c = read complete sheet .state
 
   -- A COMPLETE ANSWER READS BACK
-  pub complete-answer-back : (w : Name) → NameOf complete c w → readAnswer complete (answer w complete c) ≡ some (completeSaid w c)
+  pub complete-answer-back : readAnswer complete (answer complete c) ≡ some (completeSaid c)
   unfolding answer
-  complete-answer-back w n =
+  complete-answer-back =
       let k = facts complete sheet acc .history in
       let a = complete-counts c in
       let b = most-lines complete c k .policies in
       let d = on-term-few c in
-      complete-reads w (ids c) (results c) (why-small (ids c) (results c) w (ids-small complete c k) n) (ids-small complete c k) (parts-small (countsOf (results c)) (omega (arith, a, b, d)))
+      complete-reads (why (ids c) (results c)) (ids c) (results c) (why-small (ids c) (results c) (ids-small complete c k)) (ids-small complete c k) (parts-small (countsOf (results c)) (omega (arith, a, b, d)))

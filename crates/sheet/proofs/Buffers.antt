@@ -15,23 +15,23 @@ use Rattle.sheet.specs.State.{State, empty, count, linesOf}
 use Rattle.sheet.specs.Typing.{typed}
 use Rattle.sheet.specs.Sheet.{inOrder, found, depth, usedTwice, fault, more, reads, enough, firstUnused, ending, goOn, reading, read, firstUnlinked, tooMany, Reading, lineRead}
 use Rattle.sheet.proofs.Refusals.{entities-then, line-then}
-use Rattle.sheet.specs.Why.{Name}
 use Rattle.sheet.specs.Answer.{answer}
-use Rattle.sheet.specs.Call.{Returned, returns, room, afterReading, readAs, returned, over, written, zeros, worked}
+use Rattle.sheet.specs.Call.{Returned, returns, room, checkedThen, fitted, returned, over, written, zeros, worked}
 use Rattle.sheet.specs.Demand3.{Answered, bytesOf}
 use Rattle.sheet.proofs.Lines.{zero-not-suc}
+use Rattle.sheet.proofs.Checked.{lent-by, checked-by}
 
 -- ---- the answer buffer
 
-module _ (name : Name) (m : Mode) (work₁ work₂ : ℕ) (buffer sheet : List ℕ) where
+module _ (m : Mode) (work₁ work₂ : ℕ) (buffer sheet : List ℕ) where
   abbrev back : Returned
-  back = returned name m work₁ work₂ (length buffer) sheet
+  back = returned m work₁ work₂ (length buffer) sheet
 
   abbrev bytes : List ℕ
-  bytes = answer name m (read m sheet .state)
+  bytes = answer m (read m sheet .state)
 
   -- EVERY REFUSAL LEAVES THE ANSWER BUFFER AS IT WAS
-  pub refusal-leaves : (back .number ≡ 0 → ⊥) → written name m work₁ work₂ buffer sheet ≡ buffer
+  pub refusal-leaves : (back .number ≡ 0 → ⊥) → written m work₁ work₂ buffer sheet ≡ buffer
   unfolding written
   refusal-leaves f = ap (λ b. cond b (over bytes buffer) buffer) (ne-eqb (back .number) 0 f)
 
@@ -39,41 +39,37 @@ module _ (name : Name) (m : Mode) (work₁ work₂ : ℕ) (buffer sheet : List �
   abbrev Whole : Returned → Type 0
   Whole r = (r .line ≡ 0) × (r .length ≡ length bytes) × (length bytes ≤ length buffer)
 
+  abbrev Shows : Returned → Type 0
+  Shows r = r .number ≡ 0 → Whole r
+
   pub accepted-whole : back .number ≡ 0 → Whole back
   unfolding returned
-  accepted-whole e = go (ltb work₁ room || ltb work₂ room) (ltb room (length sheet)) e
+  accepted-whole =
+      lent-by Shows work₁ work₂ (checkedThen m sheet (fitted (length buffer) (length bytes))) (λ t e. zero-not-suc e)
+      (λ t. checked-by Shows m sheet (fitted (length buffer) (length bytes)) (λ e. zero-not-suc e) (λ n q e. zero-not-suc e) (λ h q. fits (ltb (length buffer) (length bytes)) refl))
     where
-      fits : (c : Bool) → ltb (length buffer) (length bytes) ≡ c → cond c (returns 10 0 (length bytes)) (returns 0 0 (length bytes)) .number ≡ 0 → Whole (cond c (returns 10 0 (length bytes)) (returns 0 0 (length bytes)))
+      fits : (c : Bool) → ltb (length buffer) (length bytes) ≡ c → Shows (cond c (returns 10 0 (length bytes)) (returns 0 0 (length bytes)))
       fits true q e = zero-not-suc e
       fits false q e = (refl, refl, ltb-false (length buffer) (length bytes) q)
 
-      after : (n k : ℕ) → afterReading name m (length buffer) (read m sheet .state) n k .number ≡ 0 → Whole (afterReading name m (length buffer) (read m sheet .state) n k)
-      after zero k e = fits (ltb (length buffer) (length bytes)) refl e
-      after (suc n) k e = zero-not-suc e
-
-      go : (x y : Bool) → cond x (returns 1 0 0) (cond y (returns 2 0 0) (readAs name m (length buffer) (read m sheet))) .number ≡ 0 → Whole (cond x (returns 1 0 0) (cond y (returns 2 0 0) (readAs name m (length buffer) (read m sheet))))
-      go true y e = zero-not-suc e
-      go false true e = zero-not-suc e
-      go false false e = after (read m sheet .number) (read m sheet .line) e
-
   -- an accepted call writes the answer and nothing else
-  pub accepted-written : back .number ≡ 0 → written name m work₁ work₂ buffer sheet ≡ bytes ++ drop (length bytes) buffer
+  pub accepted-written : back .number ≡ 0 → written m work₁ work₂ buffer sheet ≡ bytes ++ drop (length bytes) buffer
   unfolding written
   accepted-written e = ap (λ b. cond b (over bytes buffer) buffer) (eq-eqb (back .number) 0 e)
 
-  pub answer-written : back .number ≡ 0 → take (back .length) (written name m work₁ work₂ buffer sheet) ≡ bytes
+  pub answer-written : back .number ≡ 0 → take (back .length) (written m work₁ work₂ buffer sheet) ≡ bytes
   answer-written e = ap₂ take (accepted-whole e .1) (accepted-written e) ∙ take-append-seam bytes (drop (length bytes) buffer)
 
   -- THE ANSWER BUFFER CHANGES ONLY IN THE BYTES WRITTEN
-  pub rest-unchanged : back .number ≡ 0 → drop (back .length) (written name m work₁ work₂ buffer sheet) ≡ drop (back .length) buffer
+  pub rest-unchanged : back .number ≡ 0 → drop (back .length) (written m work₁ work₂ buffer sheet) ≡ drop (back .length) buffer
   rest-unchanged e = ap₂ drop (accepted-whole e .1) (accepted-written e) ∙ drop-append-seam bytes (drop (length bytes) buffer) ∙ ap (λ n. drop n buffer) (sym (accepted-whole e .1))
 
-  pub length-unchanged : back .number ≡ 0 → length (written name m work₁ work₂ buffer sheet) ≡ length buffer
+  pub length-unchanged : back .number ≡ 0 → length (written m work₁ work₂ buffer sheet) ≡ length buffer
   length-unchanged e = let h = accepted-whole e .2 in let k = length-drop (length bytes) buffer in ap length (accepted-written e) ∙ length-append bytes (drop (length bytes) buffer) ∙ omega (arith, h, k)
 
 -- the bytes of an answer are the answer
-pub bytes-are : {m : Mode} {sheet : List ℕ} (x : Answered m sheet) → bytesOf x ≡ answer (x .name) m (read m sheet .state)
-bytes-are {m} {sheet} x = answer-written (x .name) m (x .work₁) (x .work₂) (x .buffer) sheet (x .zero-number)
+pub bytes-are : {m : Mode} {sheet : List ℕ} (x : Answered m sheet) → bytesOf x ≡ answer m (read m sheet .state)
+bytes-are {m} {sheet} x = answer-written m (x .work₁) (x .work₂) (x .buffer) sheet (x .zero-number)
 
 -- ---- the work slices: only a short one gives number 1
 
@@ -124,28 +120,27 @@ read-other : (m : Mode) (sheet : List ℕ) → Other (read m sheet .number)
 unfolding read
 read-other m sheet = reading-other m (split 10 sheet) empty 1
 
-module _ (name : Name) (m : Mode) (work₁ work₂ out : ℕ) (sheet : List ℕ) where
+module _ (m : Mode) (work₁ work₂ out : ℕ) (sheet : List ℕ) where
   -- "1, 0, 0 | either lent work slice has under 16,384 u32 words"
-  pub short-one : (ltb work₁ room || ltb work₂ room) ≡ true → returned name m work₁ work₂ out sheet ≡ returns 1 0 0
+  pub short-one : (ltb work₁ room || ltb work₂ room) ≡ true → returned m work₁ work₂ out sheet ≡ returns 1 0 0
   unfolding returned
-  short-one e = ap (λ b. cond b (returns 1 0 0) (cond (ltb room (length sheet)) (returns 2 0 0) (readAs name m out (read m sheet)))) e
+  short-one e = ap (λ b. cond b (returns 1 0 0) (checkedThen m sheet (fitted out (length (answer m (read m sheet .state)))))) e
 
-  pub one-short : returned name m work₁ work₂ out sheet .number ≡ 1 → (ltb work₁ room || ltb work₂ room) ≡ true
+  abbrev Short : Returned → Type 0
+  Short r = r .number ≡ 1 → (ltb work₁ room || ltb work₂ room) ≡ true
+
+  pub one-short : returned m work₁ work₂ out sheet .number ≡ 1 → (ltb work₁ room || ltb work₂ room) ≡ true
   unfolding returned
-  one-short e = go (ltb work₁ room || ltb work₂ room) (ltb room (length sheet)) e
+  one-short =
+      lent-by Short work₁ work₂ (checkedThen m sheet (fitted out n)) (λ t e. t)
+      (λ t. checked-by Short m sheet (fitted out n) (λ e. absurd (omega (arith, e))) (λ i q e. absurd (read-other m sheet (q ∙ e))) (λ h q. fits (ltb out n)))
     where
-      after : (n k : ℕ) → Other n → Other (afterReading name m out (read m sheet .state) n k .number)
-      after zero k h = fits (ltb out (length (answer name m (read m sheet .state))))
-        where
-          fits : (c : Bool) → Other (cond c (returns 10 0 (length (answer name m (read m sheet .state)))) (returns 0 0 (length (answer name m (read m sheet .state)))) .number)
-          fits true = λ z. omega (arith, z)
-          fits false = λ z. omega (arith, z)
-      after (suc n) k h = h
+      n : ℕ
+      n = length (answer m (read m sheet .state))
 
-      go : (x y : Bool) → cond x (returns 1 0 0) (cond y (returns 2 0 0) (readAs name m out (read m sheet))) .number ≡ 1 → x ≡ true
-      go true y e = refl
-      go false true e = absurd (omega (arith, e))
-      go false false e = absurd (after (read m sheet .number) (read m sheet .line) (read-other m sheet) e)
+      fits : (c : Bool) → Short (cond c (returns 10 0 n) (returns 0 0 n))
+      fits true e = absurd (omega (arith, e))
+      fits false e = absurd (omega (arith, e))
 
 or-swap : (p q : Bool) → (p || q) ≡ (q || p)
 or-swap true true = refl
@@ -157,25 +152,25 @@ not-or : (b : Bool) → (b ≡ true → ⊥) → b ≡ false
 not-or true f = absurd (f refl)
 not-or false f = refl
 
-module _ (name : Name) (m : Mode) (w₁ w₂ : List ℕ) (out : ℕ) (sheet : List ℕ) where
+module _ (m : Mode) (w₁ w₂ : List ℕ) (out : ℕ) (sheet : List ℕ) where
   abbrev number : ℕ
-  number = returned name m (length w₁) (length w₂) out sheet .number
+  number = returned m (length w₁) (length w₂) out sheet .number
 
   -- AFTER 1 THE WORK SLICES ARE UNTOUCHED
   pub untouched : number ≡ 1 → (worked w₁ (length w₂) ≡ w₁) × (worked w₂ (length w₁) ≡ w₂)
   unfolding worked
-  untouched e = let q = one-short name m (length w₁) (length w₂) out sheet e in
+  untouched e = let q = one-short m (length w₁) (length w₂) out sheet e in
       (ap (λ b. cond b w₁ (zeros room w₁)) q, ap (λ b. cond b w₂ (zeros room w₂)) (or-swap (ltb (length w₂) room) (ltb (length w₁) room) ∙ q))
 
   -- OTHERWISE THEIR FIRST 16,384 WORDS ARE 0 AND THE REST UNTOUCHED
   pub zeroed : (number ≡ 1 → ⊥) → (worked w₁ (length w₂) ≡ replicate 16384 0 ++ drop 16384 w₁) × (worked w₂ (length w₁) ≡ replicate 16384 0 ++ drop 16384 w₂)
   unfolding worked
-  zeroed f = let q : (ltb (length w₁) room || ltb (length w₂) room) ≡ false = not-or _ (λ t. f (ap (λ r. r .number) (short-one name m (length w₁) (length w₂) out sheet t))) in
+  zeroed f = let q : (ltb (length w₁) room || ltb (length w₂) room) ≡ false = not-or _ (λ t. f (ap (λ r. r .number) (short-one m (length w₁) (length w₂) out sheet t))) in
       (ap (λ b. cond b w₁ (zeros room w₁)) q, ap (λ b. cond b w₂ (zeros room w₂)) (or-swap (ltb (length w₂) room) (ltb (length w₁) room) ∙ q))
 
   pub lengths-kept : (number ≡ 1 → ⊥) → (length (worked w₁ (length w₂)) ≡ length w₁) × (length (worked w₂ (length w₁)) ≡ length w₂)
   lengths-kept f = let (p, q) = zeroed f in
-      let t : (ltb (length w₁) room || ltb (length w₂) room) ≡ false = not-or _ (λ t. f (ap (λ r. r .number) (short-one name m (length w₁) (length w₂) out sheet t))) in
+      let t : (ltb (length w₁) room || ltb (length w₂) room) ≡ false = not-or _ (λ t. f (ap (λ r. r .number) (short-one m (length w₁) (length w₂) out sheet t))) in
       let (a, b) = neither (ltb (length w₁) room) (ltb (length w₂) room) t in
       (whole w₁ (ltb-false (length w₁) room a) (worked w₁ (length w₂)) p, whole w₂ (ltb-false (length w₂) room b) (worked w₂ (length w₁)) q)
     where

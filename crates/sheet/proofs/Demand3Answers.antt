@@ -18,7 +18,6 @@ use Rattle.sheet.specs.Forms.{Mode, partial, complete}
 use Rattle.sheet.specs.State.{State}
 use Rattle.sheet.specs.Sheet.{firsts, read}
 use Rattle.sheet.specs.Content.{types, schema, env, nEnv, pEnv, policies, treesFrom}
-use Rattle.sheet.specs.Why.{Name}
 use Rattle.sheet.specs.Answer.{size, root, ids, residualRows, run, results}
 use Rattle.sheet.specs.Call.{Accepted}
 use Rattle.sheet.specs.Agreement.{agrees}
@@ -38,8 +37,7 @@ use Rattle.sheet.specs.Demand3 as D
 choices-parts : {u w : Verdict} {us ws : List Verdict} → Choices (u ∷ us) (w ∷ ws) → (w .effect ≡ u .effect) × Choice (u .class) (w .class) × Choices us ws
 choices-parts (also h hs) = (refl, h, hs)
 
--- the name v in the partial answer, w in the complete one
-module _ (p c : List ℕ) (v w : Name) (ap′ : Accepted partial p) (ac : Accepted complete c) (ag : agrees (read partial p .state) (read complete c .state) ≡ true) where
+module _ (p c : List ℕ) (ap′ : Accepted partial p) (ac : Accepted complete c) (ag : agrees (read partial p .state) (read complete c .state) ≡ true) where
   abbrev P : State
   P = read partial p .state
 
@@ -49,15 +47,15 @@ module _ (p c : List ℕ) (v w : Name) (ap′ : Accepted partial p) (ac : Accept
   s : Settles P C
   s = demand-3 p c ap′ ac ag
 
-  as-content : {a : Node ℕ} {d : Expr} → Reads (s .values) a d → valued (valueIn P (partialSaid v P)) a ≡ d
+  as-content : {a : Node ℕ} {d : Expr} → Reads (s .values) a d → valued (valueIn P (partialSaid P)) a ≡ d
   as-content {a} r = ap (λ (l : List Value). valued (λ n. getD l n (vbool false)) a) (values-of p ap′ (s .table)) ∙ reads-valued (s .values) r
 
   abbrev trees : List Expr
-  trees = treesFrom (types P) (valueIn P (partialSaid v P)) (λ A x. err A) [] (residualRows (types P) 0 (run partial P .lines))
+  trees = treesFrom (types P) (valueIn P (partialSaid P)) (λ A x. err A) [] (residualRows (types P) 0 (run partial P .lines))
 
   lines-from : (n : ℕ) (is : List ℕ) {ls : List NVerdict} {qs : List Policy} → Residuals (schema C) (nEnv partial P) (pEnv P) (s .values) ls qs → Yielding (schema C) (nEnv partial P) (pEnv P) (s .values) (env C) ls qs
-      → Choices (verdicts ls) (completeAnswer (schema C) (env C) qs) → Standing trees (λ l. valued (valueIn P (partialSaid v P)) (l .root)) (partialPolicies n is ls) ls → length is ≡ length ls
-      → LinesConfirmed P C (partialSaid v P) (partialPolicies n is ls) (completePolicies is (completeAnswer (schema C) (env C) qs)) qs
+      → Choices (verdicts ls) (completeAnswer (schema C) (env C) qs) → Standing trees (λ l. valued (valueIn P (partialSaid P)) (l .root)) (partialPolicies n is ls) ls → length is ≡ length ls
+      → LinesConfirmed P C (partialSaid P) (partialPolicies n is ls) (completePolicies is (completeAnswer (schema C) (env C) qs)) qs
   unfolding treeUnder
   lines-from n [] R.none R.none h st e = D.none
   lines-from n (i ∷ is) R.none R.none h st e = absurd (omega (arith, e))
@@ -70,7 +68,7 @@ module _ (p c : List ℕ) (v w : Name) (ap′ : Accepted partial p) (ac : Accept
         specified = refl;
         not-open = choice-closed k;
         settled = choice-settled k;
-        residual = valued (valueIn P (partialSaid v P)) (l .root);
+        residual = valued (valueIn P (partialSaid P)) (l .root);
         under-root = ap (λ b. cond b none (getElem? trees (root n (l .root)))) (no-slot-left (types P) (run partial P .lines) 0) ∙ u;
         yields = ap (eval (schema C) (env C)) (as-content r) ∙ y _ r;
       }) (lines-from (n + size (l .root)) is rs ys hs st (omega (arith, e)))
@@ -81,13 +79,13 @@ module _ (p c : List ℕ) (v w : Name) (ap′ : Accepted partial p) (ac : Accept
   settled-decision undecided f g e = no-true e
 
   -- for one complete sheet
-  pub confirmed : Confirmed P C (partialSaid v P) (completeSaid w C)
+  pub confirmed : Confirmed P C (partialSaid P) (completeSaid C)
   unfolding results
   confirmed = record {
     specified = decision-closed (s .lines);
     settled = settled-decision (decision (verdicts (run partial P .lines))) (s .allowed) (s .denied);
-    lines = subst (λ (r : List (List ℕ)). LinesConfirmed P C (partialSaid v P) (partialPolicies 0 (ids P) (run partial P .lines)) (completePolicies (firsts r) (results C)) (policies C)) (common P C ag .rules)
-        (lines-from 0 (ids P) (s .readable) (s .residuals) (s .lines) (roots-stand p ap′ (valueIn P (partialSaid v P))) (as-many p ap′));
+    lines = subst (λ (r : List (List ℕ)). LinesConfirmed P C (partialSaid P) (partialPolicies 0 (ids P) (run partial P .lines)) (completePolicies (firsts r) (results C)) (policies C)) (common P C ag .rules)
+        (lines-from 0 (ids P) (s .readable) (s .residuals) (s .lines) (roots-stand p ap′ (valueIn P (partialSaid P))) (as-many p ap′));
   }
 
 -- ---- three answers
@@ -101,21 +99,21 @@ module _ {p c d : State} {a : Said} where
   alike h k = record { decisions = λ t. (h .settled t, k .settled t); lines = lines-alike (h .lines) (k .lines) }
 
 pub accepted : {m : Mode} {sheet : List ℕ} → Answered m sheet → Accepted m sheet
-accepted x = record { work₁ = x .work₁; work₂ = x .work₂; out = length (x .buffer); name = x .name; zero-number = x .zero-number }
+accepted x = record { work₁ = x .work₁; work₂ = x .work₂; out = length (x .buffer); zero-number = x .zero-number }
 
 -- THE THEOREM
 pub demand-3-bytes : (p c d : List ℕ) (x : Answered partial p) (y : Answered complete c) (z : Answered complete d)
     → agrees (read partial p .state) (read complete c .state) ≡ true → agrees (read partial p .state) (read complete d .state) ≡ true → Demand3 p c d (bytesOf x) (bytesOf y) (bytesOf z)
 demand-3-bytes p c d x y z e f =
-    let h = confirmed p c (x .name) (y .name) (accepted x) (accepted y) e in
-    let k = confirmed p d (x .name) (z .name) (accepted x) (accepted z) f in
+    let h = confirmed p c (accepted x) (accepted y) e in
+    let k = confirmed p d (accepted x) (accepted z) f in
     record {
-      first = partialSaid (x .name) (read partial p .state);
-      second = completeSaid (y .name) (read complete c .state);
-      third = completeSaid (z .name) (read complete d .state);
-      first-reads = ap (readAnswer partial) (bytes-are x) ∙ partial-answer-back p (accepted x) (x .name) (x .named);
-      second-reads = ap (readAnswer complete) (bytes-are y) ∙ complete-answer-back c (accepted y) (y .name) (y .named);
-      third-reads = ap (readAnswer complete) (bytes-are z) ∙ complete-answer-back d (accepted z) (z .name) (z .named);
+      first = partialSaid (read partial p .state);
+      second = completeSaid (read complete c .state);
+      third = completeSaid (read complete d .state);
+      first-reads = ap (readAnswer partial) (bytes-are x) ∙ partial-answer-back p (accepted x);
+      second-reads = ap (readAnswer complete) (bytes-are y) ∙ complete-answer-back c (accepted y);
+      third-reads = ap (readAnswer complete) (bytes-are z) ∙ complete-answer-back d (accepted z);
       second-confirms = h;
       third-confirms = k;
       alike = alike h k;

@@ -22,10 +22,11 @@ use Rattle.sheet.specs.State.{State, linesOf, count, lineAt, entriesOf, 
 use Rattle.sheet.specs.Bytes.{longAt}
 use Rattle.sheet.specs.Sheet.{allThere, thereIs, read}
 use Rattle.sheet.specs.Content.{types, rowsIn, valueRows, contents, schema, patternOf, childrenOver, argsOver, treeFor, treeOver, treesFrom, trees, numberedPolicies, nPolicies, policies, known, nEnv, pEnv, env, onTerm, linked}
-use Rattle.sheet.specs.Answer.{run, results}
-use Rattle.sheet.specs.Call.{returns, afterReading, readAs, returned, room, Accepted}
+use Rattle.sheet.specs.Answer.{run, results, answer}
+use Rattle.sheet.specs.Call.{Returned, checkedThen, fitted, returned, Accepted}
 use Rattle.sheet.specs.Agreement.{agrees}
 use Rattle.sheet.proofs.Lines.{and-both, zero-not-suc, Was, History, accepted-history, accepted-fit}
+use Rattle.sheet.proofs.Checked.{lent-by, checked-by}
 use Rattle.sheet.proofs.ValueRows.{values-table}
 use Rattle.sheet.proofs.NodeRows.{row-read}
 use Rattle.sheet.proofs.Slots.{like-slot}
@@ -237,16 +238,12 @@ module _ (p c : State) (fp : Facts partial p) (fc : Facts complete c) (k : Commo
 
 pub accepted-read : (m : Mode) (sheet : List ℕ) → Accepted m sheet → read m sheet .number ≡ 0
 unfolding returned
-accepted-read m sheet a = go (ltb (a .work₁) room || ltb (a .work₂) room) (ltb room (length sheet)) (a .zero-number)
+accepted-read m sheet a =
+    let r = fitted (a .out) (length (answer m (read m sheet .state))) in
+    lent-by Read (a .work₁) (a .work₂) (checkedThen m sheet r) (λ t e. zero-not-suc e) (λ t. checked-by Read m sheet r (λ e. zero-not-suc e) (λ n q e. zero-not-suc e) (λ h q e. q)) (a .zero-number)
   where
-    after : (s : State) (n l : ℕ) → afterReading (a .name) m (a .out) s n l .number ≡ 0 → n ≡ 0
-    after s zero l e = refl
-    after s (suc n) l e = zero-not-suc e
-
-    go : (x y : Bool) → cond x (returns 1 0 0) (cond y (returns 2 0 0) (readAs (a .name) m (a .out) (read m sheet))) .number ≡ 0 → read m sheet .number ≡ 0
-    go true y e = zero-not-suc e
-    go false true e = zero-not-suc e
-    go false false e = after (read m sheet .state) (read m sheet .number) (read m sheet .line) e
+    Read : Returned → Type 0
+    Read r = r .number ≡ 0 → read m sheet .number ≡ 0
 
 pub facts : (m : Mode) (sheet : List ℕ) → Accepted m sheet → Facts m (read m sheet .state)
 facts m sheet a = let e = accepted-read m sheet a in let (h, f) = accepted-history m sheet e in record { history = h; ends = f; keys = all-keys m sheet e; fit = accepted-fit m sheet e }

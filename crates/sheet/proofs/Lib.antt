@@ -3,6 +3,7 @@ pub mod AnswerBack
 pub mod AnswerLength
 pub mod AnswerRead
 pub mod Buffers
+pub mod Checked
 pub mod CompleteRun
 pub mod Counts
 pub mod Demand3Answers

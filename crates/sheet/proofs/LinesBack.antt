@@ -93,6 +93,10 @@ pub end-append : (k l : List (List ℕ)) → endAll (k ++ l) ≡ endAll k ++ end
 end-append [] l = refl
 end-append (x ∷ k) l = ap (λ z. (x ++ (10 ∷ [])) ∷ z) (end-append k l)
 
+pub concat-append : (k l : List (List ℕ)) → concat (k ++ l) ≡ concat k ++ concat l
+concat-append [] l = refl
+concat-append (x ∷ k) l = ap (λ z. x ++ z) (concat-append k l) ∙ sym (append-assoc x (concat k) (concat l))
+
 abbrev pub allLack : List (List ℕ) → Bool
 allLack [] = true
 allLack (l ∷ ls) = lacks 10 l && allLack ls

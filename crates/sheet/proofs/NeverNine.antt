@@ -3,7 +3,7 @@
 use mathlib.Core.Path.{_≡_, refl, sym, _∙_, ap}
 use mathlib.Core.Bool.{Bool, true, false, cond, _||_}
 use mathlib.Core.List.{List}
-use Prim.Native.Nat.{ℕ, zero, suc, _≤_, _+_}
+use Prim.Native.Nat.{ℕ, suc, _≤_, _+_}
 use native.Mathlib.Omega.{arith}
 use borrow.Author.Tests.{le-leb}
 use lib.Dec.{ltb, leb, eqb}
@@ -13,10 +13,10 @@ use Rattle.sheet.specs.Forms.{Mode, VALUE}
 use Rattle.sheet.specs.State.{linesOf, count}
 use Rattle.sheet.specs.Sheet.{read}
 use Rattle.sheet.specs.Content.{rowsIn, valueRows, nPolicies, schema, nEnv}
-use Rattle.sheet.specs.Why.{Name}
 use Rattle.sheet.specs.Answer.{run, answer}
-use Rattle.sheet.specs.Call.{room, returns, afterReading, readAs, returned}
+use Rattle.sheet.specs.Call.{Returned, returns, checkedThen, fitted, returned}
 use Rattle.sheet.proofs.Lines.{accepted-history}
+use Rattle.sheet.proofs.Checked.{lent-by, checked-by}
 use Rattle.sheet.proofs.MadeCount.{policySizes, residualSizes, run-rows, run-nodes}
 use Rattle.sheet.proofs.Limits.{lines-at-most}
 use Rattle.sheet.proofs.Refusals.{read-small}
@@ -61,23 +61,22 @@ abbrev pub tabled : ℕ → Bool
 tabled n = leb n 8 || eqb n 10
 
 -- EVERY NUMBER RETURNED IS ONE OF THE TABLE'S
-pub number-tabled : (name : Name) (m : Mode) (work₁ work₂ out : ℕ) (sheet : List ℕ) → tabled (returned name m work₁ work₂ out sheet .number) ≡ true
+pub number-tabled : (m : Mode) (work₁ work₂ out : ℕ) (sheet : List ℕ) → tabled (returned m work₁ work₂ out sheet .number) ≡ true
 unfolding returned
-number-tabled name m work₁ work₂ out sheet = go (ltb work₁ room || ltb work₂ room) (ltb room (length sheet))
+number-tabled m work₁ work₂ out sheet =
+    lent-by Tabled work₁ work₂ (checkedThen m sheet (fitted out n)) (λ t. refl)
+    (λ t. checked-by Tabled m sheet (fitted out n) refl (λ i q. let s = read-small m sheet in or-left (leb (suc i) 8) (eqb (suc i) 10) (le-leb (suc i) 8 (omega (arith, q, s)))) (λ h q. fits (ltb out n)))
   where
-    fits : (n : ℕ) (c : Bool) → tabled (cond c (returns 10 0 n) (returns 0 0 n) .number) ≡ true
-    fits n true = refl
-    fits n false = refl
+    n : ℕ
+    n = length (answer m (read m sheet .state))
 
-    after : (x k : ℕ) → x ≤ 8 → tabled (afterReading name m out (read m sheet .state) x k .number) ≡ true
-    after zero k h = fits (length (answer name m (read m sheet .state))) (ltb out (length (answer name m (read m sheet .state))))
-    after (suc x) k h = or-left (leb (suc x) 8) (eqb (suc x) 10) (le-leb (suc x) 8 h)
+    Tabled : Returned → Type 0
+    Tabled r = tabled (r .number) ≡ true
 
-    go : (x y : Bool) → tabled (cond x (returns 1 0 0) (cond y (returns 2 0 0) (readAs name m out (read m sheet))) .number) ≡ true
-    go true y = refl
-    go false true = refl
-    go false false = after (read m sheet .number) (read m sheet .line) (read-small m sheet)
+    fits : (c : Bool) → Tabled (cond c (returns 10 0 n) (returns 0 0 n))
+    fits true = refl
+    fits false = refl
 
 -- NUMBER 9 IS NEVER RETURNED
-pub never-nine : (name : Name) (m : Mode) (work₁ work₂ out : ℕ) (sheet : List ℕ) → returned name m work₁ work₂ out sheet .number ≡ 9 → ⊥
-never-nine name m work₁ work₂ out sheet e = no-true (ap tabled (sym e) ∙ number-tabled name m work₁ work₂ out sheet)
+pub never-nine : (m : Mode) (work₁ work₂ out : ℕ) (sheet : List ℕ) → returned m work₁ work₂ out sheet .number ≡ 9 → ⊥
+never-nine m work₁ work₂ out sheet e = no-true (ap tabled (sym e) ∙ number-tabled m work₁ work₂ out sheet)

@@ -5,13 +5,10 @@ use Prim.Native.Nat.{ℕ, zero, suc}
 use Prim.Native.String.{String}
 use lib.Dec.{eqb}
 use Rattle.sheet.specs.Ascii.{ascii}
-use Rattle.sheet.specs.Forms.{Mode, partial}
+use Rattle.sheet.specs.Forms.{partial}
 use Rattle.sheet.specs.Sheet.{read}
-use Rattle.sheet.specs.Why.{Name, reasons}
-use Rattle.sheet.specs.Answer.{answer, printed, numbers, ids, verdictsOf}
+use Rattle.sheet.specs.Answer.{answer, printed, numbers}
 use Rattle.sheet.specs.Call.{Returned, returned}
-use Rattle.sheet.specs.State.{State}
-use Rattle.sheet.proofs.WhyNamed.{firstName}
 
 abbrev pub lineEnds : List ℕ → List ℕ
 lineEnds [] = []
@@ -28,12 +25,8 @@ shownAs a (suc n) r = printed "refused" (numbers (r .number ∷ r .line ∷ r .l
 abbrev pub shownFor : List ℕ → Returned → List ℕ
 shownFor a r = shownAs a (r .number) r
 
--- of the names that an answer may carry, the first
-abbrev pub nameFor : Mode → State → Name
-nameFor m s = firstName (reasons (ids s) (verdictsOf m s))
-
 unfoldable pub shown : List ℕ → List ℕ
-shown sheet = shownFor (answer (nameFor partial (read partial sheet .state)) partial (read partial sheet .state)) (returned (nameFor partial (read partial sheet .state)) partial 16384 16384 16384 sheet)
+shown sheet = shownFor (answer partial (read partial sheet .state)) (returned partial 16384 16384 16384 sheet)
 
 pub record Case : Type 0 where
   pub rest : String

@@ -16,6 +16,7 @@ use Rattle.sheet.specs.Forms.{forms, tagOf, mark}
 use Rattle.sheet.specs.Sheet.{anySlot}
 use Rattle.sheet.specs.Content.{varOf, patternOf, childrenOver, argsOver, treeOver, treesFrom}
 use Rattle.sheet.proofs.TypeNumbers.{Listed, TypesIn}
+pub use Rattle.sheet.specs.Literals.{valued, valuedAll, valuedArgs}
 use Rattle.sheet.proofs.Under.{any-append}
 use Rattle.sheet.specs.Answer.{size, sizes, sizeArgs, root, roots, argRoots, op, patternItems, unTag, unItems, binTag, relTag, varNumber, typeNumber, treeRows, allRows, argRows, residualRows}
 
@@ -63,32 +64,6 @@ abbrev mutual
   SmallArgs Q (gcons t e gs) = (t ≤ 9999) × Small Q e × SmallArgs Q gs
 
 -- ---- a tree with its literals read
-
-module _ {L : Type 0} (value : ℕ → L) where
-  abbrev mutual
-    pub valued : Node ℕ → Node L
-    valued (lit T n) = lit T (value n)
-    valued (err T) = err T
-    valued (var T x) = var T x
-    valued (and T a b) = and T (valued a) (valued b)
-    valued (or T a b) = or T (valued a) (valued b)
-    valued (ite T c a b) = ite T (valued c) (valued a) (valued b)
-    valued (un T u a) = un T u (valued a)
-    valued (bin T o a b) = bin T o (valued a) (valued b)
-    valued (rel T o a b) = rel T o (valued a) (valued b)
-    valued (get T a t) = get T (valued a) t
-    valued (has T a t) = has T (valued a) t
-    valued (haspath T a t ts) = haspath T (valued a) t ts
-    valued (set T es) = set T (valuedAll es)
-    valued (rec T gs) = rec T (valuedArgs gs)
-
-    pub valuedAll : Nodes ℕ → Nodes L
-    valuedAll enil = enil
-    valuedAll (econs e es) = econs (valued e) (valuedAll es)
-
-    pub valuedArgs : NodeArgs ℕ → NodeArgs L
-    valuedArgs gnil = gnil
-    valuedArgs (gcons t e gs) = gcons t (valued e) (valuedArgs gs)
 
 mutual
   pub valued-same : (e : Node ℕ) → valued (λ n. n) e ≡ e

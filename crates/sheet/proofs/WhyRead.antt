@@ -1,4 +1,4 @@
--- THE NAME IN AN ANSWER'S BYTES is the id of one of its own lines, called true and of the effect that decides; none where there is none. Assumes nothing.
+-- THE NAME IN AN ANSWER'S BYTES is the id of the first of its own lines that is called true and has the effect that decides; none where there is none. Assumes nothing.
 use mathlib.Core.Path.{_≡_, refl, sym, ap, subst}
 use mathlib.Core.Bool.{Bool, cond, _&&_}
 use mathlib.Core.List.{List, [], _∷_}
@@ -7,9 +7,9 @@ use Rattle.cedar.specs.Response.{Effect, isPermit, isForbid, isTrue, Verdict, D
 use Rattle.cedar.specs.Runs.{NVerdict, verdicts}
 use Rattle.sheet.specs.Forms.{Mode, partial, complete}
 use Rattle.sheet.specs.Sheet.{read}
-use Rattle.sheet.specs.Why.{Name, trueOnes, reasonsFor, Named}
+use Rattle.sheet.specs.Why.{trueOnes, reasonsFor, firstName}
 use Rattle.sheet.specs.WhySaid.{trueLines, printedFor, Explained}
-use Rattle.sheet.specs.Answer.{size, ids, run, results, answer, NameOf}
+use Rattle.sheet.specs.Answer.{size, ids, run, results, answer}
 use Rattle.sheet.specs.Call.{Accepted}
 use Rattle.sheet.specs.Demand3.{Answered, bytesOf}
 use Rattle.sheet.proofs.AnswerBack.{partialPolicies, completePolicies}
@@ -37,18 +37,18 @@ of-results allow is ls = true-results isPermit is ls
 of-results deny is ls = true-results isForbid is ls
 of-results undecided is ls = refl
 
-explained : (m : Mode) (sheet : List ℕ) → Accepted m sheet → (name : Name) → NameOf m (read m sheet .state) name → Explained m (answer name m (read m sheet .state))
-explained partial sheet acc name n = let s = read partial sheet .state in record {
-  said = partialSaid name s;
-  reads = partial-answer-back sheet acc name n;
-  explains = subst (λ l. Named l name) (of-lines (decision (verdicts (run partial s .lines))) (ids s) (run partial s .lines)) n;
+explained : (m : Mode) (sheet : List ℕ) → Accepted m sheet → Explained m (answer m (read m sheet .state))
+explained partial sheet acc = let s = read partial sheet .state in record {
+  said = partialSaid s;
+  reads = partial-answer-back sheet acc;
+  explains = ap firstName (of-lines (decision (verdicts (run partial s .lines))) (ids s) (run partial s .lines));
 }
-explained complete sheet acc name n = let s = read complete sheet .state in record {
-  said = completeSaid name s;
-  reads = complete-answer-back sheet acc name n;
-  explains = subst (λ l. Named l name) (of-results (decision (results s)) (ids s) (results s)) n;
+explained complete sheet acc = let s = read complete sheet .state in record {
+  said = completeSaid s;
+  reads = complete-answer-back sheet acc;
+  explains = ap firstName (of-results (decision (results s)) (ids s) (results s));
 }
 
 -- THE THEOREM
 pub name-explained : (m : Mode) (sheet : List ℕ) (x : Answered m sheet) → Explained m (bytesOf x)
-name-explained m sheet x = subst (Explained m) (sym (bytes-are x)) (explained m sheet (accepted x) (x .name) (x .named))
+name-explained m sheet x = subst (Explained m) (sym (bytes-are x)) (explained m sheet (accepted x))

@@ -17,7 +17,7 @@ use Rattle.sheet.specs.State.{State, count}
 use Rattle.sheet.specs.Sheet.{firsts}
 use Rattle.sheet.specs.Content.{types, valueRows, schema, nEnv, env, onTerm, nPolicies, policies}
 use Rattle.cedar.specs.Runs.{completeAnswer, NVerdict, Run, nRun, verdicts}
-use Rattle.sheet.specs.Why.{Name, reasons, Named, whyItem}
+use Rattle.sheet.specs.Why.{Name, why, whyItem}
 use Rattle.sheet.specs.Forms as F
 
 -- a line: key, `=`, items with commas, byte 10
@@ -267,22 +267,12 @@ run m s = nRun (schema s) (nEnv m s) (nPolicies s) (valueRows s)
 unfoldable pub results : State → List Verdict
 results s = completeAnswer (schema s) (env s) (policies s)
 
-abbrev pub partialOf : Name → State → Run → List ℕ
-partialOf name s r = concat (headLines name (verdicts (r .lines)) ++ valueLines (drop (count s VALUE) (r .rows)) ++ nodeLines (residualRows (types s) 0 (r .lines)) ++ partialLines 0 (ids s) (r .lines))
+abbrev pub partialOf : State → Run → List ℕ
+partialOf s r = concat (headLines (why (ids s) (verdicts (r .lines))) (verdicts (r .lines)) ++ valueLines (drop (count s VALUE) (r .rows)) ++ nodeLines (residualRows (types s) 0 (r .lines)) ++ partialLines 0 (ids s) (r .lines))
 
-abbrev pub completeOf : Name → State → List Verdict → List ℕ
-completeOf name s ls = concat (headLines name ls ++ completeLines (ids s) ls)
+abbrev pub completeOf : State → List Verdict → List ℕ
+completeOf s ls = concat (headLines (why (ids s) ls) ls ++ completeLines (ids s) ls)
 
--- what the policies are called in either answer
-abbrev pub verdictsOf : Mode → State → List Verdict
-verdictsOf partial s = verdicts (run partial s .lines)
-verdictsOf complete s = results s
-
--- the names that an answer may carry: any one of a policy that gave the decision
-abbrev pub NameOf : Mode → State → Name → Type 0
-NameOf m s name = Named (reasons (ids s) (verdictsOf m s)) name
-
--- the answer that carries this name
-unfoldable pub answer : Name → Mode → State → List ℕ
-answer name partial s = partialOf name s (run partial s)
-answer name complete s = completeOf name s (results s)
+unfoldable pub answer : Mode → State → List ℕ
+answer partial s = partialOf s (run partial s)
+answer complete s = completeOf s (results s)

@@ -15,8 +15,7 @@ use Rattle.sheet.specs.Forms.{Mode, partial, complete}
 use Rattle.sheet.specs.State.{State}
 use Rattle.sheet.specs.Sheet.{read}
 use Rattle.sheet.specs.Content.{types, contents, valuesFrom, schema, env, policies}
-use Rattle.sheet.specs.Why.{Name}
-use Rattle.sheet.specs.Answer.{results, NameOf}
+use Rattle.sheet.specs.Answer.{results}
 use Rattle.sheet.specs.Call.{returned, written}
 use Rattle.sheet.specs.ReadAnswer.{Said, PolicyLine, readAnswer, treeUnder}
 
@@ -69,17 +68,14 @@ pub record Answered (m : Mode) (sheet : List ℕ) : Type 0 where
   pub work₁ : ℕ
   pub work₂ : ℕ
   pub buffer : List ℕ
-  -- the name that the answer carries: any one that the rules allow
-  pub name : Name
-  pub named : NameOf m (read m sheet .state) name
-  pub zero-number : returned name m work₁ work₂ (length buffer) sheet .number ≡ 0
+  pub zero-number : returned m work₁ work₂ (length buffer) sheet .number ≡ 0
 
 -- the bytes of the answer: so many as the returned length says, of the buffer after the call
 abbrev pub bytesOf : {m : Mode} {sheet : List ℕ} → Answered m sheet → List ℕ
-bytesOf {m} {sheet} x = take (returned (x .name) m (x .work₁) (x .work₂) (length (x .buffer)) sheet .length) (written (x .name) m (x .work₁) (x .work₂) (x .buffer) sheet)
+bytesOf {m} {sheet} x = take (returned m (x .work₁) (x .work₂) (length (x .buffer)) sheet .length) (written m (x .work₁) (x .work₂) (x .buffer) sheet)
 
--- of a partial sheet and two complete ones, and of the bytes of their three answers. Nothing is said of the names that these carry: a partial
--- sheet does not settle the name
+-- of a partial sheet and two complete ones, and of the bytes of their three answers. Nothing is said of the names in these: a partial sheet
+-- does not settle the name
 pub record Demand3 (p c d : List ℕ) (answer₁ answer₂ answer₃ : List ℕ) : Type 0 where
   pub first : Said
   pub second : Said

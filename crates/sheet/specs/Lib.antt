@@ -6,6 +6,7 @@ pub mod Call
 pub mod Content
 pub mod Demand3
 pub mod Forms
+pub mod Literals
 pub mod ReadAnswer
 pub mod Sheet
 pub mod State

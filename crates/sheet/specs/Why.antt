@@ -1,8 +1,5 @@
 -- Document 02, 2.2: "After `counts` comes `why=` with the text number of a policy's id: a true forbid for a deny, a true permit for an
--- allow. It is `why=none` for open and for a deny without a true forbid."
---
--- THE NAME IS NOT SETTLED: "It names some such policy; any one will do for now, and the promise says so and holds the name to a true forbid
--- or a true permit as above." What holds it is the relation `Named` below. All else of an answer is settled once its name is given.
+-- allow. It is `why=none` for open and for a deny without a true forbid." 2.8: "`why` is the first such policy in the sheet's order."
 use mathlib.Core.Bool.{Bool, cond, _&&_}
 use mathlib.Core.Option.{Option, none, some}
 use mathlib.Core.List.{List, [], _∷_}
@@ -30,15 +27,15 @@ reasonsFor undecided is ls = []
 abbrev pub reasons : List ℕ → List Verdict → List ℕ
 reasons is ls = reasonsFor (decision ls) is ls
 
--- a number stands in a list
-pub data Among (i : ℕ) : List ℕ → Type 0 where
-  first : {l : List ℕ} → Among i (i ∷ l)
-  later : {j : ℕ} {l : List ℕ} → Among i l → Among i (j ∷ l)
+-- "the first such policy"; none where there is none
+abbrev pub firstName : List ℕ → Name
+firstName [] = none
+firstName (i ∷ l) = some i
 
--- "It names some such policy; any one will do for now": any of the list, and `none` only where the list is empty
-pub data Named : List ℕ → Name → Type 0 where
-  nobody : Named [] none
-  some-one : {i : ℕ} {l : List ℕ} → Among i l → Named l (some i)
+-- the name of an answer whose policies, of these ids, are called so. A partial sheet does not settle it: "an open policy of its effect before
+-- it may still turn true."
+abbrev pub why : List ℕ → List Verdict → Name
+why is ls = firstName (reasons is ls)
 
 -- the item of the line
 abbrev pub whyItem : Name → List ℕ

@@ -1,4 +1,4 @@
--- Document 02, 2.2, over what the bytes of an answer say: the policy lines that its name may stand for.
+-- Document 02, 2.2 and 2.8, over what the bytes of an answer say: the policy line that its name stands for.
 use mathlib.Core.Path.{_≡_}
 use mathlib.Core.Bool.{Bool, cond, _&&_}
 use mathlib.Core.Option.{some}
@@ -6,7 +6,7 @@ use mathlib.Core.List.{List, [], _∷_}
 use Prim.Native.Nat.{ℕ}
 use Rattle.cedar.specs.Response.{Effect, isPermit, isForbid, isTrue, Decision, allow, deny, undecided}
 use Rattle.sheet.specs.Forms.{Mode}
-use Rattle.sheet.specs.Why.{Named}
+use Rattle.sheet.specs.Why.{firstName}
 use Rattle.sheet.specs.ReadAnswer.{PolicyLine, Said, readAnswer}
 
 -- the ids of the lines of an effect that are called true, in their order
@@ -20,8 +20,8 @@ printedFor allow ps = trueLines isPermit ps
 printedFor deny ps = trueLines isForbid ps
 printedFor undecided ps = []
 
--- an answer's bytes read back, and its name is that of such a line, none only where there is none
+-- an answer's bytes read back, and its name is that of the first such line, none where there is none
 pub record Explained (m : Mode) (answer : List ℕ) : Type 0 where
   pub said : Said
   pub reads : readAnswer m answer ≡ some said
-  pub explains : Named (printedFor (said .decision) (said .policies)) (said .why)
+  pub explains : said .why ≡ firstName (printedFor (said .decision) (said .policies))

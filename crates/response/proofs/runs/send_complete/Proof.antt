@@ -1,6 +1,8 @@
 -- `response::runs::send_complete` meets its contract. Assumes nothing.
+use mathlib.Core.Path.{ap}
+use Rattle.sheet.specs.Why.{Name}
 use Rattle.table.specs.Layout.{RUN}
-use Rattle.response.proofs.Sending.{send-short, send-whole}
+use Rattle.response.proofs.Sending.{sends-as, send-short, send-whole}
 use Rattle.response.specs.Naming.{nameAt}
 use Rattle.response.specs.Printed.{completeBytes}
 use Rattle.response.proofs.Lengths.{complete-counted}
@@ -16,7 +18,7 @@ returns c =
     let y = c .before .before .before .before .before .why-of in
     let name = nameAt a (y .result) in
     let w = c .before .before .before .complete in
-    record { name = name; named = y .ensures; sends = send-short (completeBytes name a cs) (s .args .out .now) (w .last .0) (w .result) (w .ensures) (complete-counted name a cs (c .before .before .before .before .before .before .before .shared-slice-known .given RUN .fits)) (c .if1 .taken) }
+    sends-as (ap (λ (n : Name). completeBytes n a cs) (y .ensures)) (send-short (completeBytes name a cs) (s .args .out .now) (w .last .0) (w .result) (w .ensures) (complete-counted name a cs (c .before .before .before .before .before .before .before .shared-slice-known .given RUN .fits)) (c .if1 .taken))
 
 returns-2 : tie.Need-returns-2
 returns-2 c =
@@ -27,7 +29,7 @@ returns-2 c =
     let name = nameAt a (y .result) in
     let w = c .before .before .before .before .before .before .before .complete in
     let v = c .before .before .complete2 in
-    record { name = name; named = y .ensures; sends = send-whole (completeBytes name a cs) (s .args .out .now) (w .last .0) (w .result) (w .ensures) (complete-counted name a cs (c .before .before .before .before .before .before .before .before .before .before .before .shared-slice-known .given RUN .fits)) (v .last .0) (v .result) (c .before .before .before .before .if1 .left) (v .ensures) }
+    sends-as (ap (λ (n : Name). completeBytes n a cs) (y .ensures)) (send-whole (completeBytes name a cs) (s .args .out .now) (w .last .0) (w .result) (w .ensures) (complete-counted name a cs (c .before .before .before .before .before .before .before .before .before .before .before .shared-slice-known .given RUN .fits)) (v .last .0) (v .result) (c .before .before .before .before .if1 .left) (v .ensures))
 
 pub send-complete-spec : {M : Type 1} → statement M
 send-complete-spec =

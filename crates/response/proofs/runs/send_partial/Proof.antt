@@ -1,9 +1,11 @@
 -- `response::runs::send_partial` meets its contract. Assumes nothing.
+use mathlib.Core.Path.{ap}
+use Rattle.sheet.specs.Why.{Name}
 use Rattle.table.specs.Layout.{RUN, MADE}
 use Rattle.response.specs.Naming.{nameAt}
 use Rattle.response.specs.Printed.{partialBytes}
 use Rattle.response.proofs.Lengths.{partial-counted}
-use Rattle.response.proofs.Sending.{send-short, send-whole}
+use Rattle.response.proofs.Sending.{sends-as, send-short, send-whole}
 use borrow.Author.Needs.{needs}
 use Rattle.response.proofs.runs.send_partial.Statement.{statement}
 use Rattle.response.proofs.runs.send_partial.Tie as tie
@@ -19,7 +21,7 @@ returns c =
     let g = c .before .before .before .before .before .before .before .before .before .shared-slice-known in
     let y = c .before .before .before .before .before .why-of in
     let name = nameAt a (y .result) in
-    record { name = name; named = y .ensures; sends = send-short (partialBytes name a l cs es) (s .args .out .now) (w .last .0) (w .result) (w .ensures) (partial-counted name a l cs es (s .pre .0) (s .pre .1) (g .given RUN .fits) (g .given MADE .fits)) (c .if1 .taken) }
+    sends-as (ap (λ (n : Name). partialBytes n a l cs es) (y .ensures)) (send-short (partialBytes name a l cs es) (s .args .out .now) (w .last .0) (w .result) (w .ensures) (partial-counted name a l cs es (s .pre .0) (s .pre .1) (g .given RUN .fits) (g .given MADE .fits)) (c .if1 .taken))
 
 returns-2 : tie.Need-returns-2
 returns-2 c =
@@ -33,7 +35,7 @@ returns-2 c =
     let y = c .before .before .before .before .before .before .before .before .before .why-of in
     let name = nameAt a (y .result) in
     let v = c .before .before .partial2 in
-    record { name = name; named = y .ensures; sends = send-whole (partialBytes name a l cs es) (s .args .out .now) (w .last .0) (w .result) (w .ensures) (partial-counted name a l cs es (s .pre .0) (s .pre .1) (g .given RUN .fits) (g .given MADE .fits)) (v .last .0) (v .result) (c .before .before .before .before .if1 .left) (v .ensures) }
+    sends-as (ap (λ (n : Name). partialBytes n a l cs es) (y .ensures)) (send-whole (partialBytes name a l cs es) (s .args .out .now) (w .last .0) (w .result) (w .ensures) (partial-counted name a l cs es (s .pre .0) (s .pre .1) (g .given RUN .fits) (g .given MADE .fits)) (v .last .0) (v .result) (c .before .before .before .before .if1 .left) (v .ensures))
 
 pub send-partial-spec : {M : Type 1} → statement M
 send-partial-spec =

@@ -1,9 +1,9 @@
--- `response::true_one` meets its contract. Assumes nothing.
+-- `response::first_true` meets its contract. Assumes nothing.
 use Prim.Native.Nat.{_-_}
 use Rattle.response.proofs.Naming.{Walked, walk-start, walk-on, walk-found, walk-end}
 use borrow.Author.Needs.{needs}
-use Rattle.response.proofs.true_one.Statement.{statement}
-use Rattle.response.proofs.true_one.Tie as tie
+use Rattle.response.proofs.first_true.Statement.{statement}
+use Rattle.response.proofs.first_true.Tie as tie
 
 abbrev Inv-loop : tie.InvT-loop
 Inv-loop rows classes effect n i₀ i = Walked rows classes effect n i
@@ -23,8 +23,8 @@ loop-again c = search (walk-on, needs)
 returns-2 : tie.Need-returns-2 Inv-loop μ-loop
 returns-2 c = search (walk-end, needs)
 
-pub true-one-spec : {M : Type 1} → statement M
-true-one-spec =
+pub first-true-spec : {M : Type 1} → statement M
+first-true-spec =
     tie.close
     (tie.spec
     Inv-loop
