@@ -5,11 +5,11 @@ use mathlib.Core.Path.{_≡_, refl}
 use mathlib.Core.Bool.{true, false}
 use mathlib.Core.Option.{some}
 use mathlib.Core.List.{List, [], _∷_}
-use Prim.Native.Nat.{ℕ}
-use lib.ListN.{replicate}
+use Prim.Native.Nat.{ℕ, suc}
+use lib.ListN.{length, replicate}
 use Rattle.cedar.specs.Canonical.{order, same, place, insert, ascending, makeSet}
 use Rattle.cedar.specs.Types.{Ty, tbool, tent, trec, anil, acons, principal, context}
-use Rattle.cedar.specs.Residual.{Node, lit, var, and, bin, get, haspath, beq, Class, ctrue, copen}
+use Rattle.cedar.specs.Residual.{Node, lit, err, var, and, or, ite, un, bin, rel, get, has, haspath, set, rec, enil, econs, gnil, gcons, unot, beq, rin, Class, ctrue, copen}
 use Rattle.cedar.specs.Response.{permit, allow, decision}
 use Rattle.cedar.specs.Rows.{rbool}
 use Rattle.cedar.specs.Runs.{NPolicy, verdicts}
@@ -95,6 +95,22 @@ decision-is : decision (verdicts (runAgain (read partial any-broker .state) said
 unfolding any-broker keys forms formOf slotAt counted tagOf rowOf keyOf refs ascendings fitsIn nodesUnder typed found depth fault more read types valueRows contents schema trees exprs onTerm nPolicies policies nEnv env run results answer returned ancestors unknownAbove order same place insert ascending makeSet
 decision-is = refl
 
--- a leaf has depth 1, and each node is one deeper than its deepest child
+-- "A leaf has depth 1", and each operation is one deeper than its deepest child, wherever that stands
 depths-are : (treeDepth linked-one ≡ 2) × (treeDepth left-may-err ≡ 3) × (treeDepth after-a-step ≡ 2) × (treeDepth (lit tbool 6) ≡ 1)
 depths-are = (refl, refl, refl, refl)
+
+abbrev x : Node ℕ
+x = lit tbool 0
+
+abbrev one-more : List (Node ℕ → Node ℕ)
+one-more =
+    (λ a. and tbool a x) ∷ (λ a. and tbool x a) ∷ (λ a. or tbool a x) ∷ (λ a. or tbool x a) ∷ (λ a. ite tbool a x x) ∷ (λ a. ite tbool x a x) ∷ (λ a. ite tbool x x a)
+    ∷ (λ a. un tbool unot a) ∷ (λ a. bin tbool beq a x) ∷ (λ a. bin tbool beq x a) ∷ (λ a. rel tbool rin a x) ∷ (λ a. rel tbool rin x a) ∷ (λ a. get tbool a 0) ∷ (λ a. has tbool a 0) ∷ (λ a. haspath tbool a 0 [])
+    ∷ (λ a. set tbool (econs a (econs x enil))) ∷ (λ a. set tbool (econs x (econs a enil))) ∷ (λ a. rec tbool (gcons 0 a (gcons 1 x gnil))) ∷ (λ a. rec tbool (gcons 0 x (gcons 1 a gnil))) ∷ []
+
+abbrev all-in : List (Node ℕ → Node ℕ) → Node ℕ
+all-in [] = err tbool
+all-in (f ∷ fs) = f (all-in fs)
+
+all-deep : treeDepth (all-in one-more) ≡ suc (length one-more)
+all-deep = refl
