@@ -31,9 +31,12 @@ use Rattle.again.proofs.AnswerAgain.{answer-again}
 unfoldable pub any-broker : List ℕ
 any-broker = lineEnds (ascii "sheet=partial/text=Broker/text=Action/text=Tariff/text=quote/text=T1/text=p0/text=p1/text=p2/text=p3/text=p4/text=b7/text=Firm/text=F1/text=owner/text=fast/text=T2/kind=0,e/kind=1,a/kind=2,e/kind=11,e/type=bool/type=record/type=entity,0/type=entity,3/type=entity,0,3/type=entity,2/type=record,13,r,4/type=record,14,o,0/type=record,14,r,0/shape=1,-/shape=1,-/shape=6,-/shape=7,-/value=entity,0,10/value=entity,2,4/value=entity,2,15/value=entity,3,12/value=record,13,3/entity=1,4,?,?/principal=0,?/action=1,3/resource=2,4/context=8,?/day=2024-02-29/node=2,var,p/node=4,slot,p/node=0,eq,0,1/node=8,var,c/node=0,get,3,14/node=5,var,r/node=5,lit,2/node=0,eq,5,6/node=0,and,4,7/node=5,var,r/node=0,haspath,9,13,14/node=2,var,p/node=0,is,11,0/policy=5,permit,2/policy=6,permit,8/policy=7,permit,10/policy=8,forbid,2/policy=9,permit,12/link=0,0,-/link=3,3,-/term=1,1999-12-31,2024-02-29/term=3,2024-03-01,2199-12-31/")
 
-any-broker-call : Answered partial any-broker
+pub any-broker-accepted : returned partial 16384 20000 400 any-broker .number ≡ 0
 unfolding any-broker keys forms formOf slotAt counted tagOf rowOf keyOf refs ascendings fitsIn nodesUnder typed found depth fault more read types valueRows contents schema trees exprs onTerm nPolicies policies nEnv env run results answer returned ancestors unknownAbove order same place insert ascending makeSet
-any-broker-call = record { work₁ = 16384; work₂ = 20000; buffer = replicate 400 33; zero-number = refl }
+any-broker-accepted = refl
+
+any-broker-call : Answered partial any-broker
+any-broker-call = record { work₁ = 16384; work₂ = 20000; buffer = replicate 400 33; zero-number = any-broker-accepted }
 
 any-broker-says : bytesOf any-broker-call ≡ lineEnds (ascii "decision=allow/counts=1,0,0,3,0,0,0,0/why=9/value=bool,0/value=bool,1/node=2,var,p/node=4,lit,0/node=0,eq,0,1/node=8,var,c/node=0,get,3,14/node=0,lit,5/node=0,and,4,5/node=3,lit,3/node=0,haspath,7,14/node=0,lit,6/policy=5,permit,open,2/policy=6,permit,open,6/policy=7,permit,open,8/policy=9,permit,true,9/")
 unfolding any-broker any-broker-call written keys forms formOf slotAt counted tagOf rowOf keyOf refs ascendings fitsIn nodesUnder typed found depth fault more read types valueRows contents schema trees exprs onTerm nPolicies policies nEnv env run results answer returned ancestors unknownAbove order same place insert ascending makeSet
