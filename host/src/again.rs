@@ -21,7 +21,6 @@ pub struct Counts {
     pub fit: usize,
     pub too_long: usize,
     pub too_many: usize,
-    pub too_deep: usize,
     pub differences: usize,
     /// Of those that fit: with links, with groups of kinds, with policies off term, with made values, with open policies.
     pub linked: usize,
@@ -34,14 +33,13 @@ pub struct Counts {
 impl Counts {
     pub fn line(&self) -> String {
         format!(
-            "{} handed back, {} differences ({} sheets made, {} partial ones accepted; not within the limits: {} too long, {} with too many lines, {} too deep); of those handed back {} with links, {} with groups, {} with policies off term, {} with made values, {} with open policies",
+            "{} handed back, {} differences ({} sheets made, {} partial ones accepted; not within the limits: {} too long, {} with too many values); of those handed back {} with links, {} with groups, {} with policies off term, {} with made values, {} with open policies",
             self.fit,
             self.differences,
             self.made,
             self.accepted,
             self.too_long,
             self.too_many,
-            self.too_deep,
             self.linked,
             self.grouped,
             self.off_term,
@@ -117,11 +115,13 @@ fn one(call: Call, bytes: &[u8], sheet: &Sheet, counts: &mut Counts) -> Option<S
     };
     let back = handed_back(std::str::from_utf8(bytes).expect("bytes 32 to 126 and 10"), &answer);
     if let Err(refusal) = sheet::read(Mode::Partial, back.as_bytes()) {
-        match refusal.number {
-            2 => counts.too_long += 1,
-            4 => counts.too_many += 1,
-            6 => counts.too_deep += 1,
-            number => return Some(format!("what is handed back is no sheet: {number},{}", refusal.line)),
+        // Made values may be too many. Nothing else may be: a value is no deeper than the type that it fits, and what is left of a tree
+        // is no deeper than the tree.
+        let at = back.split('\n').nth((refusal.line as usize).saturating_sub(1)).unwrap_or_default();
+        match (refusal.number, cut(at).0) {
+            (2, _) => counts.too_long += 1,
+            (4, "value") => counts.too_many += 1,
+            (number, _) => return Some(format!("what is handed back is no sheet: {number},{}", refusal.line)),
         }
         return None;
     }
@@ -178,6 +178,31 @@ mod tests {
         let rest =
             "decision=deny\ncounts=0,0,0,1,1,0,0,0\nnode=0,lit,1\nnode=0,lit,0\npolicy=7,forbid,true,0\npolicy=5,permit,open,1\n";
         assert_eq!(without_made(answer), rest);
+    }
+
+    /// What is counted of one sheet.
+    fn of(sheet: &str) -> Counts {
+        let mut counts = Counts::default();
+        let rows = sheet::read(Mode::Partial, sheet.as_bytes()).unwrap_or_else(|refusal| panic!("{refusal:?}"));
+        assert_eq!(one(run::call, sheet.as_bytes(), &rows, &mut counts), None);
+        counts
+    }
+
+    /// A sheet with so many longs and a policy that makes a set.
+    fn with_longs(count: usize) -> String {
+        let longs: String = (0..count).map(|n| format!("value=long,{n}\n")).collect();
+        format!(
+            "sheet=partial\ntext=E\ntext=A\nkind=0,e\nkind=1,a\ntype=bool\ntype=record\ntype=long\ntype=set,2\nshape=1,-\nshape=1,-\n{longs}\
+             principal=0,?\naction=1,0\nresource=0,?\ncontext=1,?\nday=2000-01-01\nnode=2,lit,0\nnode=3,set,0\nnode=3,err\nnode=0,eq,1,2\npolicy=0,permit,3\n"
+        )
+    }
+
+    #[test]
+    fn one_value_too_many() {
+        let last = of(&with_longs(1023));
+        assert_eq!((last.fit, last.with_made, last.too_many), (1, 1, 0));
+        let past = of(&with_longs(1024));
+        assert_eq!((past.fit, past.too_many), (0, 1));
     }
 
     #[test]
