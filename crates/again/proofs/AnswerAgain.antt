@@ -3,7 +3,7 @@ use mathlib.Core.Path.{_≡_, refl, sym, _∙_, ap, subst}
 use mathlib.Core.Bool.{cond}
 use mathlib.Core.Option.{none, some}
 use mathlib.Core.List.{List, [], _∷_}
-use Prim.Native.Nat.{ℕ, _+_}
+use Prim.Native.Nat.{ℕ, suc, _+_}
 use native.Mathlib.Omega.{arith}
 use lib.ListN.{length, getElem?}
 use Rattle.cedar.specs.Value.{Value}
@@ -42,6 +42,11 @@ use Rattle.again.proofs.RunAgain.{handedBack, first-called, rest-called
 use Rattle.cedar.proofs.SettledByNumber as R
 use Rattle.sheet.proofs.AnswerRead as A
 use Rattle.again.specs.Again as G
+
+-- nothing is said of fewer lines than there are policies, nor of more
+pub as-many-lines : {s : State} {a : Said} {ps : List NPolicy} {xs : List PolicyLine} → LinesAgain s a ps xs → length ps ≡ length xs
+as-many-lines G.end = refl
+as-many-lines (G.also h hs) = ap suc (as-many-lines hs)
 
 -- the policies that an answer hands back are its run's lines
 module _ (s : State) where

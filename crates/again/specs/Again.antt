@@ -62,14 +62,15 @@ policiesIn s a (x ∷ xs) = onSome none (residualOf s a x) (λ t. onSome none (p
 abbrev pub runAgain : State → Said → List NPolicy → Run
 runAgain s a ps = nRun (schema s) (nEnv partial s) ps (allValues s a)
 
--- of a partial sheet and the bytes of its answer
+-- of a partial sheet and the bytes of its answer: "interpreting a residual again .. gives the same residual, class and decision"
 pub record Again (sheet answer : List ℕ) : Type 0 where
   pub said : Said
   pub reads : readAnswer partial answer ≡ some said
   pub lines : LinesAgain (read partial sheet .state) said (nPolicies (read partial sheet .state)) (said .policies)
-  -- the run over all of them decides the same "decision", and prints the same residuals, classes, counts, name and made values: the answer,
-  -- byte for byte
+  -- all of them handed back
   pub residuals : List NPolicy
   pub handed-back : policiesIn (read partial sheet .state) said (said .policies) ≡ some residuals
+  -- the same "decision"
   pub same-decision : decision (verdicts (runAgain (read partial sheet .state) said residuals .lines)) ≡ said .decision
+  -- what is printed of that run is the answer, byte for byte: the same counts, name and made values too
   pub same-answer : partialOf (read partial sheet .state) (runAgain (read partial sheet .state) said residuals) ≡ answer
