@@ -1,5 +1,6 @@
 #!/usr/bin/env bash
-# Compares the proved library with the original on random sheets, as many for each seed: scripts/compare.sh [SHEETS [SEED..]]
+# Compares the proved library with the original on random sheets, as many for each seed, and hands as many answers of partial sheets back
+# to it: scripts/compare.sh [SHEETS [SEED..]]
 # It needs cargo and the original's source, in OPENRULES_CEDAR_SRC or ../shared/docs/src. Status 0: no difference; 1: one;
 # 3: something that it needs is not there, and nothing was compared.
 set -eu
@@ -23,4 +24,5 @@ sheets=${1:-4000}
 shift
 for seed; do
     target/release/host compare "$sheets" "$seed"
+    target/release/host again "$sheets" "$seed"
 done

@@ -1,10 +1,11 @@
 #!/usr/bin/env python3
-"""Writes docs/DEFINITIONS.md: each definition of `cedar` and `sheet` whose comment, or the heading right before it, quotes document 01 or 02, with that."""
+"""Writes docs/DEFINITIONS.md: each definition of the crates without code whose comment, or the heading right before it, quotes document 01 or 02, with that."""
 import glob
 import os
 import re
 
-HERE = os.path.dirname(os.path.dirname(os.path.abspath(__file__)))
+from believed import HERE, without_code
+
 HEAD = """# Definitions and the sentences they quote
 
 Written by `python3 scripts/sentences.py` from the comments of specs/. A definition that is not listed is a part of one that is, or of
@@ -14,7 +15,7 @@ what its file states (docs/ARCHITECTURE.md, section 2).
 
 def main():
     out = [HEAD]
-    for crate in ("cedar", "sheet"):
+    for crate in without_code():
         out.append("\n## `%s`\n\n| File | Definition | Its comment |\n|---|---|---|" % crate)
         for path in sorted(glob.glob(os.path.join(HERE, "crates", crate, "specs", "*.antt"))):
             comment = []

@@ -10,7 +10,7 @@ use crate::generate;
 use crate::parents::Shown;
 use crate::run;
 use crate::sheet::{self, Mode};
-use crate::{bench, heavy, replay};
+use crate::{again, bench, heavy, replay};
 
 const HELP: &str = "host answer partial|complete < SHEET   the original's answer, or refused=number,line,length, or what says that it was not asked
 host cases DIR                         each NAME.MODE.sheet of DIR against NAME.MODE.expect or NAME.MODE.sheet.out
@@ -19,6 +19,7 @@ host show SEED N                       the N-th sheet of a seed, and its answer
 host show-triple SEED N                the N-th triple of a seed, and its answers
 host compare N SEED                    the library against the original on N sheets and N/4 triples
 host self N SEED                       the same with the original on both sides: a check of the comparison itself
+host again N SEED                      N answers of partial sheets handed back to the library as sheets
 host replay FILE                       writes the fixed list of sheets and answers
 host replay-check FILE                 runs a written list, with the library where it is linked
 host bench [ROUNDS]                    times, in two tables
@@ -56,12 +57,13 @@ pub fn run(args: &[&str]) -> ExitCode {
         }
         ["compare", count, seed] => match library() {
             Some(call) => compared("the library", call, number(count), number(seed)),
-            None => {
-                println!("The library is not linked: build with --features library (README.md).");
-                ExitCode::from(3)
-            }
+            None => not_linked(),
         },
         ["self", count, seed] => compared("the original", run::call, number(count), number(seed)),
+        ["again", count, seed] => match library() {
+            Some(call) => handed_back(call, number(count) as usize, number(seed)),
+            None => not_linked(),
+        },
         ["replay", file] => {
             let (bytes, line) = replay::list();
             fs::write(file, bytes).expect("the list is written");
@@ -159,6 +161,22 @@ fn heavy_sheets(folder: &Path) -> ExitCode {
 fn compared(name: &str, call: Call, count: u64, seed: u64) -> ExitCode {
     let counts = compare::compare(call, count, seed);
     println!("{name} against the original, seed {seed}: {}", counts.line());
+    if counts.differences == 0 {
+        ExitCode::SUCCESS
+    } else {
+        ExitCode::FAILURE
+    }
+}
+
+fn not_linked() -> ExitCode {
+    println!("The library is not linked: build with --features library (README.md).");
+    ExitCode::from(3)
+}
+
+/// Answers handed back to the library.
+fn handed_back(call: Call, count: usize, seed: u64) -> ExitCode {
+    let counts = again::again(call, count, seed);
+    println!("answers of partial sheets, seed {seed}: {}", counts.line());
     if counts.differences == 0 {
         ExitCode::SUCCESS
     } else {

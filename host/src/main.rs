@@ -1,6 +1,8 @@
 //! The host: the original Rust text beside the proved library. README.md says how to run each command.
 
 #[cfg(original)]
+mod again;
+#[cfg(original)]
 mod bench;
 #[cfg(original)]
 mod compare;

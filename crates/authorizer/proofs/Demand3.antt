@@ -12,10 +12,10 @@ use Rattle.sheet.proofs.Demand3Answers.{demand-3-bytes}
 use Rattle.authorizer.specs.Calls.{Run, bytesIn}
 
 module _ {m : Mode} {sheet : List ℕ} (x : Run m sheet) (e : x .number ≡ 0) where
-  abbrev answered : Answered m sheet
+  abbrev pub answered : Answered m sheet
   answered = record { work₁ = length (x .work₁); work₂ = length (x .work₂); buffer = x .buffer; zero-number = sym (x .called .number-is) ∙ e }
 
-  same-bytes : bytesOf answered ≡ bytesIn x
+  pub same-bytes : bytesOf answered ≡ bytesIn x
   same-bytes = ap₂ take (sym (x .called .length-is)) (sym (x .called .buffer))
 
 pub demand-3-calls : (p c d : List ℕ) (x : Run partial p) (y : Run complete c) (z : Run complete d) → x .number ≡ 0 → y .number ≡ 0 → z .number ≡ 0

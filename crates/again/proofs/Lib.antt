@@ -1,0 +1,7 @@
+pub mod AnswerAgain
+pub mod DepthKept
+pub mod DepthLimit
+pub mod ExampleAgain
+pub mod Quiet
+pub mod ReadsInjective
+pub mod RunAgain

@@ -1,0 +1,1 @@
+// No code: an answer handed back. The definition stands in specs/, the theorem in proofs/.
