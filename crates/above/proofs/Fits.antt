@@ -1,12 +1,12 @@
 -- What is asked of the marked lines is asked of all that is reached, and of the state that the words hold. Assumes nothing.
-use mathlib.Core.Path.{_≡_, refl, sym, _∙_, ap, ap₂, subst}
+use mathlib.Core.Path.{_≡_, refl, sym, _∙_, ap, ap₂}
 use mathlib.Core.Bool.{Bool, true, false, cond, not, _&&_}
 use mathlib.Core.List.{List, [], _∷_}
-use Prim.Native.Nat.{ℕ, suc, _+_, _-_, _<_, _≤_}
+use Prim.Native.Nat.{ℕ, zero, suc, _+_, _-_, _<_, _≤_}
 use native.Mathlib.Omega.{arith}
-use borrow.Author.Tests.{eq-eqb, not-true, not-false}
-use lib.Dec.{eqb}
-use lib.ListN.{length, getD, take, drop, set, length-set}
+use borrow.Author.Tests.{eq-eqb, ltb-true, ltb-false, not-true, not-false}
+use lib.Dec.{ltb, eqb}
+use lib.ListN.{length, getD, take, drop}
 use Rattle.cedar.proofs.Tools.{no-true, or-left, or-right, both, iff}
 use Rattle.cedar.specs.Numbered.{memN, rEnt}
 use Rattle.sheet.specs.Forms.{tag, at, SHAPE, VALUE, ENTITY}
@@ -14,7 +14,6 @@ use Rattle.sheet.specs.State.{valueRow}
 use Rattle.sheet.specs.Typing.{allIn}
 use Rattle.sheet.specs.Parents.{parentsIn, ancestors}
 use Rattle.sheet.specs.Sheet.{firstUnfit, reachedFit}
-use Rattle.sheet.proofs.Lines.{set-cases}
 use Rattle.sheet.proofs.Ancestors.{all-in-at}
 use Rattle.forms.specs.Tags.{LONG-VALUE, ENTITY-VALUE}
 use Rattle.table.specs.Layout.{rowsOf, held, linesHeld}
@@ -23,102 +22,45 @@ use Rattle.value.proofs.Lists.{uncons, spent}
 use Rattle.fits.proofs.Sorts.{no-entity, sort-tag}
 use Rattle.typing.specs.Rules.{ancestorRule, isAboveAt}
 use Rattle.typing.proofs.Joined.{drop-three}
-use Rattle.reach.specs.Marks.{LINES, VALUES, lineRows, Reached, anyMarked, Filled, Tried}
-use Rattle.reach.proofs.Steps.{not-none, parents-by, trial-none, trial-old, trial-new, Trying, trying-start, tried-yes, tried-no, tried-end, none-there}
+use Rattle.reach.specs.Marks.{LINES, VALUES, FAR, lineRows, Found, markedAt, anyMarked}
+use Rattle.reach.proofs.Steps.{mark-some}
 use Rattle.reach.proofs.Asking.{marked-in, marked-out, line-of, on-line}
-use Rattle.above.specs.Fitting.{allAbove, unfitAt, unfitSet, unfitValue, Judged, Twice, Unfit, reachedRule, unfitFrom}
-
--- ---- is_fit
-
-module _ (a : List ℕ) (d v : ℕ) (t : List ℕ) (c : Tried (unfitValue a d) t) where
-  pub fit-old : (x : ℕ) → x ≡ getD t v 0 → (x ≡ 0 → ⊥) → Judged (unfitValue a d) (ancestorRule a v d) t t true
-  unfolding unfitValue
-  fit-old x ex e = record { long = refl; is = sym (not-false (ancestorRule a v d) (c .is v (subst (λ (y : ℕ). 1 ≤ y) ex (not-none x e)))); tried = λ z. c }
-
-  module _ (b : Bool) (eb : b ≡ ancestorRule a v d) where
-    pub fit-off : not b ≡ true → Judged (unfitValue a d) (ancestorRule a v d) t t false
-    fit-off e = record { long = refl; is = sym (sym eb ∙ not-true b e); tried = λ z. no-true z }
-
-    pub fit-new : not b ≡ false → (t′ : List ℕ) → t′ ≡ set t v 1 → Judged (unfitValue a d) (ancestorRule a v d) t t′ true
-    unfolding unfitValue
-    fit-new e t′ et = record {
-      long = ap length et ∙ length-set t v 1;
-      is = sym (sym eb ∙ not-false b e);
-      tried = λ z. subst (Tried (unfitValue a d)) (sym et) (record { is = λ w h. set-cases t v w 1 0 (λ q. c .is w (omega (arith, h, q))) (λ q u. ap (λ (y : ℕ). not (ancestorRule a y d)) q ∙ ap not (sym eb) ∙ e) });
-    }
+use Rattle.above.specs.Fitting.{allAbove, unfitAt, unfitValue, Unfit, reachedRule, unfitFrom}
 
 -- ---- all_above
 
-pub record Kinds (a : List ℕ) (d : ℕ) (q t₀ t : List ℕ) (j : ℕ) : Type 0 where
+pub record Kinds (a : List ℕ) (d : ℕ) (q : List ℕ) (j : ℕ) : Type 0 where
   pub near : j ≤ length q
-  pub long : length t ≡ length t₀
-  pub tried : Tried (unfitValue a d) t
   pub rest : allAbove a d q ≡ allAbove a d (drop j q)
 
-pub kinds-start : (a : List ℕ) (d : ℕ) (q t : List ℕ) → Tried (unfitValue a d) t → Kinds a d q t t 0
-kinds-start a d q t c = record { near = omega arith; long = refl; tried = c; rest = refl }
+pub kinds-start : (a : List ℕ) (d : ℕ) (q : List ℕ) → Kinds a d q 0
+kinds-start a d q = record { near = omega arith; rest = refl }
 
-module _ (a : List ℕ) (d : ℕ) (q t₀ t : List ℕ) (j : ℕ) (c : Kinds a d q t₀ t j) where
-  module _ (h : j < length q) (b : Bool) (t′ : List ℕ) (g : Judged (unfitValue a d) (ancestorRule a (getD q j 0) d) t t′ b) where
+module _ (a : List ℕ) (d : ℕ) (q : List ℕ) (j : ℕ) (c : Kinds a d q j) where
+  module _ (h : j < length q) (b : Bool) (eb : b ≡ ancestorRule a (getD q j 0) d) where
     turn : allAbove a d q ≡ (b && allAbove a d (drop (j + 1) q))
     unfolding allAbove
-    turn = c .rest ∙ ap (allIn (λ v. ancestorRule a v d)) (uncons q 0 j h) ∙ ap (λ (x : Bool). x && allIn (λ v. ancestorRule a v d) (drop (j + 1) q)) (sym (g .is))
+    turn = c .rest ∙ ap (allIn (λ v. ancestorRule a v d)) (uncons q 0 j h) ∙ ap (λ (x : Bool). x && allIn (λ v. ancestorRule a v d) (drop (j + 1) q)) (sym eb)
 
-    pub kinds-off : not b ≡ true → Judged (unfitValue a d) (allAbove a d q) t₀ t′ false
-    kinds-off e = record { long = g .long ∙ c .long; is = sym (turn ∙ ap (λ (x : Bool). x && allAbove a d (drop (j + 1) q)) (not-true b e)); tried = λ z. no-true z }
+    pub kinds-off : not b ≡ true → false ≡ allAbove a d q
+    kinds-off e = sym (turn ∙ ap (λ (x : Bool). x && allAbove a d (drop (j + 1) q)) (not-true b e))
 
-    pub kinds-on : not b ≡ false → Kinds a d q t₀ t′ (j + 1)
-    kinds-on e = record { near = omega (arith, h); long = g .long ∙ c .long; tried = g .tried (not-false b e); rest = turn ∙ ap (λ (x : Bool). x && allAbove a d (drop (j + 1) q)) (not-false b e) }
+    pub kinds-on : not b ≡ false → Kinds a d q (j + 1)
+    kinds-on e = record { near = omega (arith, h); rest = turn ∙ ap (λ (x : Bool). x && allAbove a d (drop (j + 1) q)) (not-false b e) }
 
-  pub kinds-end : length q ≤ j → Judged (unfitValue a d) (allAbove a d q) t₀ t true
+  pub kinds-end : length q ≤ j → true ≡ allAbove a d q
   unfolding allAbove
-  kinds-end h = record { long = c .long; is = sym (c .rest ∙ ap (allIn (λ v. ancestorRule a v d)) (spent q j h)); tried = λ z. c .tried }
+  kinds-end h = sym (c .rest ∙ ap (allIn (λ v. ancestorRule a v d)) (spent q j h))
 
--- ---- unfit_at
+-- ---- unfit_at, unfit_value
 
-pub unfit-none : (a : List ℕ) (d : ℕ) (m : List ℕ) (k x : ℕ) (s t : List ℕ) → x ≡ getD m k 0 → x ≡ 0 → Tried (unfitSet a d) s → Tried (unfitValue a d) t → Twice (unfitSet a d) (unfitAt a d) (unfitValue a d) m k s s t t false
-unfit-none a d m k x s t ex e c f = record { long = refl; trial = trial-none (unfitSet a d) (unfitAt a d) m k x s ex e c; tried = λ z. f }
+pub unfit-some : (a : List ℕ) (d : ℕ) (m : List ℕ) (k x : ℕ) → x ≡ getD m k 0 → (x ≡ 0 → ⊥) → (q : List ℕ) → q ≡ parentsIn (rowsOf a VALUE) (lineRows a) (getD (lineRows a) k []) → (b : Bool) → b ≡ allAbove a d q → not b ≡ markedAt (unfitAt a d) m k
+unfolding unfitAt
+unfit-some a d m k x ex e q eq b eb = mark-some (unfitAt a d) m k x ex e (not b) (ap not (eb ∙ ap (allAbove a d) eq))
 
-module _ (a : List ℕ) (d : ℕ) (m : List ℕ) (k y : ℕ) (ey : y ≡ getD m k 0) (ny : y ≡ 0 → ⊥) (r : List ℕ) (x : ℕ) (er : r ≡ getD (lineRows a) k []) (ex : x ≡ getD r 4 0) (s t : List ℕ) (c : Tried (unfitSet a d) s) (f : Tried (unfitValue a d) t) (z : ℕ) (ez : z ≡ getD s x 0) where
-  unfit-set : unfitAt a d k ≡ unfitSet a d x
-  unfolding unfitAt unfitSet
-  unfit-set = ap (λ (q : List ℕ). not (allAbove a d q)) (parents-by a k r x er ex x refl)
-
-  pub unfit-old : (z ≡ 0 → ⊥) → Twice (unfitSet a d) (unfitAt a d) (unfitValue a d) m k s s t t false
-  unfit-old nz = record { long = refl; trial = trial-old (unfitSet a d) (unfitAt a d) m k y ey ny x unfit-set s c z ez nz; tried = λ e. f }
-
-  pub unfit-new : (s′ q t′ : List ℕ) (b : Bool) → s′ ≡ set s x 1 → q ≡ parentsIn (rowsOf a VALUE) (lineRows a) (getD (lineRows a) k []) → Judged (unfitValue a d) (allAbove a d q) t t′ b → Twice (unfitSet a d) (unfitAt a d) (unfitValue a d) m k s s′ t t′ (not b)
-  unfolding unfitAt
-  unfit-new s′ q t′ b es eq g = record {
-    long = g .long;
-    trial = trial-new (unfitSet a d) (unfitAt a d) m k y ey ny x unfit-set s c s′ (not b) es (ap not (g .is ∙ ap (allAbove a d) eq));
-    tried = λ e. g .tried (not-false b e);
-  }
-
--- ---- any_unfit
-
-pub record Fitting (a : List ℕ) (d : ℕ) (m : List ℕ) (n k : ℕ) (s t : List ℕ) : Type 0 where
-  pub longs : length s ≡ VALUES
-  pub longt : length t ≡ VALUES
-  pub sets : Tried (unfitSet a d) s
-  pub tried : Tried (unfitValue a d) t
-  pub trying : Trying a (unfitSet a d) (unfitAt a d) m n k s
-
-module _ (a : List ℕ) (d : ℕ) (m : List ℕ) (n : ℕ) where
-  pub fitting-start : (s s′ t t′ : List ℕ) → length s ≡ VALUES → length t ≡ VALUES → n ≡ length (lineRows a) → Filled 0 s s′ → Filled 0 t t′ → Fitting a d m n 0 s′ t′
-  fitting-start s s′ t t′ l lt e c f = let x = trying-start a (unfitSet a d) (unfitAt a d) m n s s′ l e c in
-      record { longs = x .long; longt = f .long ∙ lt; sets = x .tried; tried = record { is = λ v h. let z = none-there t t′ f v in absurd (omega (arith, z, h)) }; trying = x }
-
-  module _ (k : ℕ) (s t : List ℕ) (c : Fitting a d m n k s t) where
-    module _ (h : k < n) (b : Bool) (s′ t′ : List ℕ) (g : Twice (unfitSet a d) (unfitAt a d) (unfitValue a d) m k s s′ t t′ b) where
-      pub fitting-yes : b ≡ true → true ≡ anyMarked (unfitAt a d) m 0 (length (lineRows a))
-      fitting-yes e = tried-yes a (unfitSet a d) (unfitAt a d) m n k s (c .trying) h b s′ (g .trial) e
-
-      pub fitting-no : b ≡ false → Fitting a d m n (k + 1) s′ t′
-      fitting-no e = let x = tried-no a (unfitSet a d) (unfitAt a d) m n k s (c .trying) h b s′ (g .trial) e in record { longs = x .long; longt = g .long ∙ c .longt; sets = x .tried; tried = g .tried e; trying = x }
-
-    pub fitting-end : n ≤ k → false ≡ anyMarked (unfitAt a d) m 0 (length (lineRows a))
-    fitting-end h = tried-end a (unfitSet a d) (unfitAt a d) m n k s (c .trying) h
+pub value-some : (a : List ℕ) (d : ℕ) (w : List ℕ) (v x : ℕ) → x ≡ getD w v 0 → (x ≡ 0 → ⊥) → (b : Bool) → b ≡ ancestorRule a v d → not b ≡ markedAt (unfitValue a d) w v
+unfolding unfitValue
+value-some a d w v x ex e b eb = mark-some (unfitValue a d) w v x ex e (not b) (ap not eb)
 
 -- ---- all that is reached
 
@@ -141,13 +83,36 @@ not-in f l y i z = go (allIn f l) refl
     go true e = no-true (sym z ∙ all-in-at f l y e i)
     go false e = refl
 
-pub unfit-is : (a : List ℕ) (d v : ℕ) (m : List ℕ) (r : Bool) → Reached (rowsOf a VALUE) (lineRows a) v m → r ≡ anyMarked (unfitAt a d) m 0 (length (lineRows a)) → Unfit a d v r
+pub unfit-is : (a : List ℕ) (d v : ℕ) (w m : List ℕ) (r : Bool) → Found (rowsOf a VALUE) (lineRows a) v w m → r ≡ anyMarked (unfitAt a d) m 0 (length (lineRows a)) → Unfit a d v r
 unfolding unfitAt allAbove
-unfit-is a d v m r h er = record {
+unfit-is a d v w m r h er = record {
   is = er ∙ iff (anyMarked (unfitAt a d) m 0 (length (lineRows a))) (not (allIn (λ y. ancestorRule a y d) (ancestors (rowsOf a VALUE) (lineRows a) v)))
-      (λ e. marked-out (unfitAt a d) m 0 (length (lineRows a)) e (λ k p q c z. not-all (λ y. ancestorRule a y d) (parentsIn (rowsOf a VALUE) (lineRows a) (getD (lineRows a) k [])) z (λ y i w. not-in (λ y. ancestorRule a y d) (ancestors (rowsOf a VALUE) (lineRows a) v) y (on-line (rowsOf a VALUE) (lineRows a) v m h k y (omega (arith, q)) c i) w)))
-      (λ e. not-all (λ y. ancestorRule a y d) (ancestors (rowsOf a VALUE) (lineRows a) v) e (λ y i w. line-of (rowsOf a VALUE) (lineRows a) v m h y i (λ k p q c. marked-in (unfitAt a d) m 0 (length (lineRows a)) k (omega arith) (omega (arith, p)) q (not-in (λ y. ancestorRule a y d) (parentsIn (rowsOf a VALUE) (lineRows a) (getD (lineRows a) k [])) y c w))));
+      (λ e. marked-out (unfitAt a d) m 0 (length (lineRows a)) e (λ k p q c z. not-all (λ y. ancestorRule a y d) (parentsIn (rowsOf a VALUE) (lineRows a) (getD (lineRows a) k [])) z (λ y i w. not-in (λ y. ancestorRule a y d) (ancestors (rowsOf a VALUE) (lineRows a) v) y (on-line (rowsOf a VALUE) (lineRows a) v m (h .reached) k y (omega (arith, q)) c i) w)))
+      (λ e. not-all (λ y. ancestorRule a y d) (ancestors (rowsOf a VALUE) (lineRows a) v) e (λ y i w. line-of (rowsOf a VALUE) (lineRows a) v m (h .reached) y i (λ k p q c. marked-in (unfitAt a d) m 0 (length (lineRows a)) k (omega arith) (omega (arith, p)) q (not-in (λ y. ancestorRule a y d) (parentsIn (rowsOf a VALUE) (lineRows a) (getD (lineRows a) k [])) y c w))));
 }
+
+-- by the table of those met, where none is past its end
+pub value-is : (a : List ℕ) (d v : ℕ) (w m : List ℕ) (r : Bool) → Found (rowsOf a VALUE) (lineRows a) v w m → (x : ℕ) → x ≡ getD m FAR 0 → x ≡ 0 → r ≡ anyMarked (unfitValue a d) w 0 (length w) → Unfit a d v r
+unfolding unfitValue allAbove
+value-is a d v w m r h x ex e er = record {
+  is = er ∙ iff (anyMarked (unfitValue a d) w 0 (length w)) (not (allIn (λ y. ancestorRule a y d) (ancestors (rowsOf a VALUE) (lineRows a) v)))
+      (λ e. marked-out (unfitValue a d) w 0 (length w) e (λ y p q c z. not-in (λ y. ancestorRule a y d) (ancestors (rowsOf a VALUE) (lineRows a) v) y (h .only y c) (not-true (ancestorRule a y d) z)))
+      (λ e. not-all (λ y. ancestorRule a y d) (ancestors (rowsOf a VALUE) (lineRows a) v) e (λ y i z. go y i z (ltb y (length w)) refl));
+}
+  where
+    go : (y : ℕ) → memN y (ancestors (rowsOf a VALUE) (lineRows a) v) ≡ true → ancestorRule a y d ≡ false → (b : Bool) → ltb y (length w) ≡ b → anyMarked (unfitValue a d) w 0 (length w) ≡ true
+    go y i z true q = let l = ltb-true y (length w) q in marked-in (unfitValue a d) w 0 (length w) y (omega arith) (omega (arith, l)) (h .all y i l) (ap not z)
+    go y i z false q = let l = h .far y i (ltb-false y (length w) q) in absurd (omega (arith, l, ex, e))
+
+-- ---- reaches_unfit
+
+pub cut-most : (n : ℕ) (l : List ℕ) → n ≤ VALUES → length (take n l) ≤ VALUES
+cut-most n l h = let z = go n l in omega (arith, z, h)
+  where
+    go : (n : ℕ) (l : List ℕ) → length (take n l) ≤ n
+    go zero l = omega arith
+    go (suc n) [] = omega arith
+    go (suc n) (x ∷ l) = let z = go n l in omega (arith, z)
 
 -- ---- reached_fit
 

@@ -1,9 +1,9 @@
 -- The check of all that entities reach, over words: as `firstUnfit` of the sheet has it (proofs/Fits).
 use mathlib.Core.Path.{_≡_}
-use mathlib.Core.Bool.{Bool, true, false, cond, not}
+use mathlib.Core.Bool.{Bool, false, cond, not}
 use mathlib.Core.List.{List, [], _∷_}
 use Prim.Native.Nat.{ℕ, suc}
-use lib.ListN.{length, getD}
+use lib.ListN.{getD}
 use Rattle.cedar.specs.Numbered.{rEnt}
 use Rattle.sheet.specs.Forms.{at, VALUE}
 use Rattle.sheet.specs.State.{valueRow}
@@ -11,7 +11,7 @@ use Rattle.sheet.specs.Typing.{allIn}
 use Rattle.sheet.specs.Parents.{parentsIn, ancestors}
 use Rattle.table.specs.Layout.{rowsOf}
 use Rattle.typing.specs.Rules.{ancestorRule}
-use Rattle.reach.specs.Marks.{lineRows, named, Tried, Trial}
+use Rattle.reach.specs.Marks.{lineRows}
 
 -- the kinds of these are all above kind d
 unfoldable pub allAbove : List ℕ → ℕ → List ℕ → Bool
@@ -21,25 +21,9 @@ allAbove a d q = allIn (λ v. ancestorRule a v d) q
 unfoldable pub unfitAt : List ℕ → ℕ → ℕ → Bool
 unfitAt a d k = not (allAbove a d (parentsIn (rowsOf a VALUE) (lineRows a) (getD (lineRows a) k [])))
 
--- a member of set value x is of another kind
-unfoldable pub unfitSet : List ℕ → ℕ → ℕ → Bool
-unfitSet a d x = not (allAbove a d (named (rowsOf a VALUE) x))
-
 -- a value is not an entity of a kind above
 unfoldable pub unfitValue : List ℕ → ℕ → ℕ → Bool
 unfitValue a d v = not (ancestorRule a v d)
-
--- r is b, and where it holds what was asked is known to fit
-pub record Judged (f : ℕ → Bool) (b : Bool) (t t′ : List ℕ) (r : Bool) : Type 0 where
-  pub long : length t′ ≡ length t
-  pub is : r ≡ b
-  pub tried : r ≡ true → Tried f t′
-
--- set values and values tried
-pub record Twice (g f e : ℕ → Bool) (m : List ℕ) (k : ℕ) (s s′ t t′ : List ℕ) (r : Bool) : Type 0 where
-  pub long : length t′ ≡ length t
-  pub trial : Trial g f m k s s′ r
-  pub tried : r ≡ false → Tried e t′
 
 pub record Unfit (a : List ℕ) (d v : ℕ) (r : Bool) : Type 0 where
   pub is : r ≡ not (allAbove a d (ancestors (rowsOf a VALUE) (lineRows a) v))

@@ -2,52 +2,35 @@
 use forms::ENTITY;
 use forms::ENTITY_VALUE;
 use forms::VALUE;
-use reach::LINES;
+use reach::FAR;
+use reach::MARKS;
 use reach::VALUES;
-use reach::fill;
-use reach::line_at;
+use reach::byte;
 use reach::lines;
 use reach::parents_of;
 use reach::reach;
+use reach::values;
 use table::count;
 use table::item;
 use table::row;
 use table::tag;
 use typing::lines::is_ancestor;
-use words::put;
 use words::read;
 ghost use mathlib.Core.Path.{_≡_};
+ghost use Prim.Native.Nat.{_≤_, _<_};
 ghost use lib.ListN.{length};
 ghost use Rattle.sheet.specs.Forms.{ENTITY};
 ghost use Rattle.table.specs.Layout.{rowsOf};
-ghost use Rattle.typing.specs.Rules.{ancestorRule};
-ghost use Rattle.reach.specs.Marks.{lineRows, anyMarked, Tried};
-ghost use Rattle.above.specs.Fitting.{allAbove, unfitAt, unfitSet, unfitValue, Judged, Twice, Unfit, reachedRule, unfitFrom};
-
-// Whether `value` is an entity of a kind above this one, asked once of each.
-fn is_fit(rows: &[u32], kind: u32, value: u32, fits: &mut [u32]) -> bool
-    requires { ⌜ Tried (unfitValue (now rows) kind) (now fits) ⌝ }
-    ensures { λ r. ⌜ Judged (unfitValue (now (rows .entry)) kind) (ancestorRule (now (rows .entry)) value kind) (now (fits .entry)) (now (fits .exit)) r ⌝ }
-{
-    let i = value as usize;
-    if read(fits, i) != 0 {
-        return true;
-    }
-    if !is_ancestor(rows, value, kind) {
-        return false;
-    }
-    put(fits, i, 1);
-    true
-}
+ghost use Rattle.reach.specs.Marks.{VALUES, FAR, lineRows, markedAt, anyMarked};
+ghost use Rattle.above.specs.Fitting.{allAbove, unfitAt, unfitValue, Unfit, reachedRule, unfitFrom};
 
 // Whether the values of a list are all entities of kinds above this one.
-fn all_above(rows: &[u32], kind: u32, list: &[u32], fits: &mut [u32]) -> bool
-    requires { ⌜ Tried (unfitValue (now rows) kind) (now fits) ⌝ }
-    ensures { λ r. ⌜ Judged (unfitValue (now (rows .entry)) kind) (allAbove (now (rows .entry)) kind (now (list .entry))) (now (fits .entry)) (now (fits .exit)) r ⌝ }
+fn all_above(rows: &[u32], kind: u32, list: &[u32]) -> bool
+    ensures { λ r. ⌜ r ≡ allAbove (now (rows .entry)) kind (now (list .entry)) ⌝ }
 {
     let mut i = 0;
     while i < list.len() {
-        if !is_fit(rows, kind, list[i], fits) {
+        if !is_ancestor(rows, list[i], kind) {
             return false;
         }
         i += 1;
@@ -55,42 +38,24 @@ fn all_above(rows: &[u32], kind: u32, list: &[u32], fits: &mut [u32]) -> bool
     true
 }
 
-// Whether line `number` is marked and names a parent of a kind that is not above, in a set of parents that was not asked before.
-fn unfit_at(
-    rows: &[u32],
-    kind: u32,
-    marks: &[u32],
-    number: u32,
-    asked: &mut [u32],
-    fits: &mut [u32],
-) -> bool
-    requires { ⌜ Tried (unfitSet (now rows) kind) (now asked) ⌝ }
-    requires { ⌜ Tried (unfitValue (now rows) kind) (now fits) ⌝ }
-    ensures { λ r. ⌜ Twice (unfitSet (now (rows .entry)) kind) (unfitAt (now (rows .entry)) kind) (unfitValue (now (rows .entry)) kind) (now (marks .entry)) number (now (asked .entry)) (now (asked .exit)) (now (fits .entry)) (now (fits .exit)) r ⌝ }
+// Whether line `number` is marked and names a parent of a kind that is not above.
+fn unfit_at(rows: &[u32], kind: u32, marks: &[u32], number: u32) -> bool
+    ensures { λ r. ⌜ r ≡ markedAt (unfitAt (now (rows .entry)) kind) (now (marks .entry)) number ⌝ }
 {
     if read(marks, number as usize) == 0 {
         return false;
     }
-    let x = item(line_at(rows, number), 4) as usize;
-    if read(asked, x) != 0 {
-        return false;
-    }
-    put(asked, x, 1);
-    !all_above(rows, kind, parents_of(rows, number), fits)
+    !all_above(rows, kind, parents_of(rows, number))
 }
 
-// Whether a marked line names a parent of a kind that is not above.
+// Whether a marked line names a parent of a kind that is not above: asked where a parent was met that a table by value does not have.
 fn any_unfit(rows: &[u32], kind: u32, marks: &[u32]) -> bool
     ensures { λ r. ⌜ r ≡ anyMarked (unfitAt (now (rows .entry)) kind) (now (marks .entry)) 0 (length (lineRows (now (rows .entry)))) ⌝ }
 {
     let n = lines(rows);
-    let mut asked: [u32; VALUES] = [0; VALUES];
-    fill(&mut asked[..], 0);
-    let mut fits: [u32; VALUES] = [0; VALUES];
-    fill(&mut fits[..], 0);
     let mut i = 0;
     while i < n {
-        if unfit_at(rows, kind, marks, i, &mut asked[..], &mut fits[..]) {
+        if unfit_at(rows, kind, marks, i) {
             return true;
         }
         i += 1;
@@ -98,13 +63,52 @@ fn any_unfit(rows: &[u32], kind: u32, marks: &[u32]) -> bool
     false
 }
 
+// Whether `value` was met and is not an entity of a kind above this one.
+fn unfit_value(rows: &[u32], kind: u32, met: &[u8], value: u32) -> bool
+    ensures { λ r. ⌜ r ≡ markedAt (unfitValue (now (rows .entry)) kind) (now (met .entry)) value ⌝ }
+{
+    if byte(met, value as usize) == 0 {
+        return false;
+    }
+    !is_ancestor(rows, value, kind)
+}
+
+// Whether a value was met that is not an entity of a kind above this one.
+fn any_value(rows: &[u32], kind: u32, met: &[u8]) -> bool
+    requires { ⌜ length (now met) ≤ VALUES ⌝ }
+    ensures { λ r. ⌜ r ≡ anyMarked (unfitValue (now (rows .entry)) kind) (now (met .entry)) 0 (length (now (met .entry))) ⌝ }
+{
+    let n = met.len() as u32;
+    let mut i = 0;
+    while i < n {
+        if unfit_value(rows, kind, met, i) {
+            return true;
+        }
+        i += 1;
+    }
+    false
+}
+
+// Whether entity `value` reaches an entity of a kind that is not above this one, with tables for what is met and marked.
+fn found_unfit(rows: &[u32], kind: u32, value: u32, met: &mut [u8], marks: &mut [u32]) -> bool
+    requires { ⌜ (length (now met) ≤ VALUES) × (FAR < length (now marks)) ⌝ }
+    ensures { λ r. ⌜ Unfit (now (rows .entry)) kind value r ⌝ }
+{
+    reach(rows, value, met, marks);
+    if read(marks, FAR) != 0 {
+        return any_unfit(rows, kind, marks);
+    }
+    any_value(rows, kind, met)
+}
+
 // Whether entity `value` reaches an entity of a kind that is not above this one.
 fn reaches_unfit(rows: &[u32], kind: u32, value: u32) -> bool
     ensures { λ r. ⌜ Unfit (now (rows .entry)) kind value r ⌝ }
 {
-    let mut marks: [u32; LINES] = [0; LINES];
-    reach(rows, value, &mut marks[..]);
-    any_unfit(rows, kind, &marks[..])
+    let mut marks: [u32; MARKS] = [0; MARKS];
+    let mut met: [u8; VALUES] = [0; VALUES];
+    let n = values(rows);
+    found_unfit(rows, kind, value, &mut met[..n], &mut marks[..])
 }
 
 // Whether the kinds that the entity of a line reaches are all above its own.

@@ -1,13 +1,13 @@
 -- What is asked of the marked lines is asked of the ancestors. Assumes nothing.
-use mathlib.Core.Path.{_≡_, refl, sym, _∙_, ap, subst}
-use mathlib.Core.Bool.{Bool, true, false, not, _&&_, _||_}
+use mathlib.Core.Path.{_≡_, refl, sym, _∙_, ap, ap₂, subst}
+use mathlib.Core.Bool.{Bool, true, false, cond, not, _&&_, _||_}
 use mathlib.Core.Option.{some}
 use mathlib.Core.List.{List, [], _∷_}
 use mathlib.Core.Logic.{_⊎_, inl, inr}
 use Prim.Native.Nat.{ℕ, zero, suc, _+_, _<_, _≤_}
 use native.Mathlib.Omega.{arith}
-use borrow.Author.Tests.{ltb-true, ltb-false, leb-true, le-leb, eqb-true, eqb-false, eq-eqb, ne-eqb}
-use lib.Dec.{leb, ltb, eqb}
+use borrow.Author.Tests.{ltb-true, ltb-false, eqb-true, eqb-false, eq-eqb, ne-eqb}
+use lib.Dec.{ltb, eqb}
 use lib.ListN.{length, getD}
 use Rattle.cedar.proofs.Tools.{no-true, or-left, or-right, either, both, and-both, iff}
 use Rattle.cedar.specs.Value.{onSome}
@@ -15,8 +15,8 @@ use Rattle.cedar.specs.Numbered.{memN, anyN}
 use Rattle.sheet.specs.Forms.{at, mark}
 use Rattle.sheet.specs.Parents.{Reaches, parent, beyond, parentsIn, parents, ancestors, isOpen, anyOpen, unknownAbove}
 use Rattle.sheet.proofs.Reaching.{parents-are, closed-above, are-reached, reached-are}
-use Rattle.reach.specs.Marks.{placeOf, Self, Reached, anyMarked, meetsAt, anyUnlisted, openAt, markedAt}
-use Rattle.reach.proofs.Marking.{parents-at, with-parents, line-there, line-not}
+use Rattle.reach.specs.Marks.{FAR, placeOf, Self, Reached, Found, anyMarked, namesAt, unknownAt, isMet, anyMet, markedAt}
+use Rattle.reach.proofs.Marking.{place-most, parents-at, with-parents, line-there, line-not}
 
 -- ---- one of some places
 
@@ -44,26 +44,6 @@ marked-out f m i (suc n) e g = either (not (eqb (getD m i 0) 0) && f i) (anyMark
     (λ z. and-both (not (eqb (getD m i 0) 0)) (f i) z (λ p q. g i (omega arith) (omega arith) (not-zero (getD m i 0) p) q))
     (λ z. marked-out f m (suc i) n z (λ k a b h q. g k (omega (arith, a)) (omega (arith, b)) h q))
 
--- ---- members
-
-pub any-in : (l k : List ℕ) (t : ℕ) → memN t l ≡ true → memN t k ≡ true → anyN l k ≡ true
-any-in [] k t i j = no-true i
-any-in (x ∷ l) k t i j = either (eqb t x) (memN t l) i (λ z. or-left (memN x k) (anyN l k) (subst (λ y. memN y k ≡ true) (eqb-true t x z) j)) (λ z. or-right (memN x k) (anyN l k) (any-in l k t z j))
-
-pub any-out : {X : Type 0} (l k : List ℕ) → anyN l k ≡ true → ((t : ℕ) → memN t l ≡ true → memN t k ≡ true → X) → X
-any-out [] k e f = no-true e
-any-out (x ∷ l) k e f = either (memN x k) (anyN l k) e (λ z. f x (or-left (eqb x x) (memN x l) (eq-eqb x x refl)) z) (λ z. any-out l k z (λ t i j. f t (or-right (eqb t x) (memN t l) i) j))
-
-unlisted-in : (E : List (List ℕ)) (q : List ℕ) (y : ℕ) → memN y q ≡ true → length E ≤ placeOf y E → anyUnlisted E q ≡ true
-unfolding anyUnlisted
-unlisted-in E [] y i h = no-true i
-unlisted-in E (x ∷ q) y i h = either (eqb y x) (memN y q) i (λ z. or-left (leb (length E) (placeOf x E)) (anyUnlisted E q) (subst (λ w. leb (length E) (placeOf w E) ≡ true) (eqb-true y x z) (le-leb (length E) (placeOf y E) h))) (λ z. or-right (leb (length E) (placeOf x E)) (anyUnlisted E q) (unlisted-in E q y z h))
-
-unlisted-out : {X : Type 0} (E : List (List ℕ)) (q : List ℕ) → anyUnlisted E q ≡ true → ((y : ℕ) → memN y q ≡ true → length E ≤ placeOf y E → X) → X
-unfolding anyUnlisted
-unlisted-out E [] e f = no-true e
-unlisted-out E (x ∷ q) e f = either (leb (length E) (placeOf x E)) (anyUnlisted E q) e (λ z. f x (or-left (eqb x x) (memN x q) (eq-eqb x x refl)) (leb-true (length E) (placeOf x E) z)) (λ z. unlisted-out E q z (λ y i h. f y (or-right (eqb y x) (memN y q) i) h))
-
 open-in : (U E : List (List ℕ)) (l : List ℕ) (y : ℕ) → memN y l ≡ true → isOpen U E y ≡ true → anyOpen U E l ≡ true
 open-in U E [] y i h = no-true i
 open-in U E (x ∷ l) y i h = either (eqb y x) (memN y l) i (λ z. or-left (isOpen U E x) (anyOpen U E l) (subst (λ w. isOpen U E w ≡ true) (eqb-true y x z) h)) (λ z. or-right (isOpen U E x) (anyOpen U E l) (open-in U E l y z h))
@@ -89,23 +69,23 @@ module _ (U E : List (List ℕ)) (v : ℕ) (m : List ℕ) (h : Reached U E v m) 
 
   -- a line on which t is a parent
   pub line-of : {X : Type 0} (t : ℕ) → memN t (ancestors U E v) ≡ true → ((k : ℕ) → k < length E → 1 ≤ getD m k 0 → memN t (parentsIn U E (getD E k [])) ≡ true → X) → X
-  line-of t i f = last-step t i (λ x s j. let l = with-parents U E x t j in f (placeOf x E) l (h .all x s l) (subst (λ q. memN t q ≡ true) (parents-at U E x l) j))
+  line-of t i f = last-step t i (λ x s j. let l = with-parents U E x t j in f (placeOf x E) l (h .all x s) (subst (λ q. memN t q ≡ true) (parents-at U E x l) j))
 
   pub on-line : (k t : ℕ) → k < length E → 1 ≤ getD m k 0 → memN t (parentsIn U E (getD E k [])) ≡ true → memN t (ancestors U E v) ≡ true
-  on-line k t l a i = let (x, p, s) = h .only k l a in go x s (subst (λ q. memN t q ≡ true) (sym (parents-at U E x (omega (arith, p, l)) ∙ ap (λ n. parentsIn U E (getD E n [])) p)) i)
+  on-line k t l a i = let (x, p, s) = h .only k (omega (arith, l)) a in go x s (subst (λ q. memN t q ≡ true) (sym (parents-at U E x (omega (arith, p, l)) ∙ ap (λ n. parentsIn U E (getD E n [])) p)) i)
     where
       go : (x : ℕ) → Self U E v x → memN t (parents U E x) ≡ true → memN t (ancestors U E v) ≡ true
       go x (inl e) j = parents-are U E v t (subst (λ z. memN t (parents U E z) ≡ true) e j)
       go x (inr e) j = closed-above U E v x t e j
 
-  -- ONE OF THESE IS AN ANCESTOR
-  pub meets-is : (l : List ℕ) → anyMarked (meetsAt U E l) m 0 (length E) ≡ anyN l (ancestors U E v)
-  unfolding meetsAt
-  meets-is l = iff (anyMarked (meetsAt U E l) m 0 (length E)) (anyN l (ancestors U E v))
-      (λ e. marked-out (meetsAt U E l) m 0 (length E) e (λ k a b c d. any-out l (parentsIn U E (getD E k [])) d (λ t i j. any-in l (ancestors U E v) t i (on-line k t (omega (arith, b)) c j))))
-      (λ e. any-out l (ancestors U E v) e (λ t i j. line-of t j (λ k a b c. marked-in (meetsAt U E l) m 0 (length E) k (omega arith) (omega (arith, a)) b (any-in l (parentsIn U E (getD E k [])) t i c))))
+  -- a parent on a marked line is an ancestor
+  names-is : (t : ℕ) → anyMarked (namesAt U E t) m 0 (length E) ≡ memN t (ancestors U E v)
+  unfolding namesAt
+  names-is t = iff (anyMarked (namesAt U E t) m 0 (length E)) (memN t (ancestors U E v))
+      (λ e. marked-out (namesAt U E t) m 0 (length E) e (λ k a b c d. on-line k t (omega (arith, b)) c d))
+      (λ e. line-of t e (λ k a b c. marked-in (namesAt U E t) m 0 (length E) k (omega arith) (omega (arith, a)) b c))
 
-  -- ---- THEY ARE UNKNOWN, for an entity that is listed
+  -- ---- THEY ARE UNKNOWN
 
   is-open : (x : ℕ) → placeOf x E < length E → isOpen U E x ≡ eqb (at (getD E (placeOf x E) []) 3) mark
   is-open x l = ap (λ o. onSome true o (λ r. eqb (at r 3) mark)) (line-there x E l)
@@ -113,28 +93,45 @@ module _ (U E : List (List ℕ)) (v : ℕ) (m : List ℕ) (h : Reached U E v m) 
   is-unlisted : (x : ℕ) → length E ≤ placeOf x E → isOpen U E x ≡ true
   is-unlisted x l = ap (λ o. onSome true o (λ r. eqb (at r 3) mark)) (line-not x E l)
 
-  pub open-is : placeOf v E < length E → anyMarked (openAt U E) m 0 (length E) ≡ unknownAbove U E v
-  unfolding openAt unknownAbove
-  open-is lv = iff (anyMarked (openAt U E) m 0 (length E)) (isOpen U E v || anyOpen U E (ancestors U E v))
-      (λ e. marked-out (openAt U E) m 0 (length E) e (λ k a b c d. either (eqb (at (getD E k []) 3) mark) (anyUnlisted E (parentsIn U E (getD E k []))) d
-      (λ z. let (x, p, s) = h .only k (omega (arith, b)) c in self x s (is-open x (omega (arith, p, b)) ∙ ap (λ n. eqb (at (getD E n []) 3) mark) p ∙ z))
-      (λ z. unlisted-out E (parentsIn U E (getD E k [])) z (λ y i j. or-right (isOpen U E v) (anyOpen U E (ancestors U E v)) (open-in U E (ancestors U E v) y (on-line k y (omega (arith, b)) c i) (is-unlisted y j))))))
+  pub open-is : (not (eqb (getD m (length E) 0) 0) || anyMarked (unknownAt E) m 0 (length E)) ≡ unknownAbove U E v
+  unfolding unknownAt unknownAbove
+  open-is = iff (not (eqb (getD m (length E) 0) 0) || anyMarked (unknownAt E) m 0 (length E)) (isOpen U E v || anyOpen U E (ancestors U E v))
+      (λ e. either (not (eqb (getD m (length E) 0) 0)) (anyMarked (unknownAt E) m 0 (length E)) e
+      (λ z. let (x, p, s) = h .only (length E) (omega arith) (not-zero (getD m (length E) 0) z) in self x s (is-unlisted x (omega (arith, p))))
+      (λ z. marked-out (unknownAt E) m 0 (length E) z (λ k a b c d. let (x, p, s) = h .only k (omega (arith, b)) c in self x s (is-open x (omega (arith, p, b)) ∙ ap (λ n. eqb (at (getD E n []) 3) mark) p ∙ d))))
       (λ e. either (isOpen U E v) (anyOpen U E (ancestors U E v)) e
-      (λ z. listed-open v (inl refl) lv z)
-      (λ z. open-out U E (ancestors U E v) z (λ y i j. known-or y i j (ltb (placeOf y E) (length E)) refl)))
+      (λ z. opens v (inl refl) z (ltb (placeOf v E) (length E)) refl)
+      (λ z. open-out U E (ancestors U E v) z (λ y i j. opens y (inr i) j (ltb (placeOf y E) (length E)) refl)))
     where
       self : (x : ℕ) → Self U E v x → isOpen U E x ≡ true → (isOpen U E v || anyOpen U E (ancestors U E v)) ≡ true
       self x (inl e) o = or-left (isOpen U E v) (anyOpen U E (ancestors U E v)) (subst (λ z. isOpen U E z ≡ true) e o)
       self x (inr i) o = or-right (isOpen U E v) (anyOpen U E (ancestors U E v)) (open-in U E (ancestors U E v) x i o)
 
-      listed-open : (x : ℕ) → Self U E v x → placeOf x E < length E → isOpen U E x ≡ true → anyMarked (openAt U E) m 0 (length E) ≡ true
-      listed-open x s l o = marked-in (openAt U E) m 0 (length E) (placeOf x E) (omega arith) (omega (arith, l)) (h .all x s l) (or-left (eqb (at (getD E (placeOf x E) []) 3) mark) (anyUnlisted E (parentsIn U E (getD E (placeOf x E) []))) (sym (is-open x l) ∙ o))
+      opens : (x : ℕ) → Self U E v x → isOpen U E x ≡ true → (b : Bool) → ltb (placeOf x E) (length E) ≡ b → (not (eqb (getD m (length E) 0) 0) || anyMarked (unknownAt E) m 0 (length E)) ≡ true
+      opens x s o true q = let l = ltb-true (placeOf x E) (length E) q in or-right (not (eqb (getD m (length E) 0) 0)) (anyMarked (unknownAt E) m 0 (length E)) (marked-in (unknownAt E) m 0 (length E) (placeOf x E) (omega arith) (omega (arith, l)) (h .all x s) (sym (is-open x l) ∙ o))
+      opens x s o false q = let a = place-most x E in let b = ltb-false (placeOf x E) (length E) q in let e : placeOf x E ≡ length E = omega (arith, a, b) in
+          or-left (not (eqb (getD m (length E) 0) 0)) (anyMarked (unknownAt E) m 0 (length E)) (nonzero (getD m (length E) 0) (subst (λ k. 1 ≤ getD m k 0) e (h .all x s)))
 
-      known-or : (y : ℕ) → memN y (ancestors U E v) ≡ true → isOpen U E y ≡ true → (b : Bool) → ltb (placeOf y E) (length E) ≡ b → anyMarked (openAt U E) m 0 (length E) ≡ true
-      known-or y i o true z = listed-open y (inr i) (ltb-true (placeOf y E) (length E) z) o
-      known-or y i o false z = line-of y i (λ k a b c. marked-in (openAt U E) m 0 (length E) k (omega arith) (omega (arith, a)) b (or-right (eqb (at (getD E k []) 3) mark) (anyUnlisted E (parentsIn U E (getD E k []))) (unlisted-in E (parentsIn U E (getD E k [])) y c (ltb-false (placeOf y E) (length E) z))))
+-- ---- WHAT WAS MET ARE THE ANCESTORS
 
--- of one that is not listed
-pub unlisted-is : (U E : List (List ℕ)) (v : ℕ) → length E ≤ placeOf v E → unknownAbove U E v ≡ true
-unfolding unknownAbove
-unlisted-is U E v h = or-left (isOpen U E v) (anyOpen U E (ancestors U E v)) (ap (λ o. onSome true o (λ r. eqb (at r 3) mark)) (line-not v E h))
+module _ (U E : List (List ℕ)) (v : ℕ) (w m : List ℕ) (h : Found U E v w m) where
+  noted-is : (t : ℕ) → t < length w → not (eqb (getD w t 0) 0) ≡ memN t (ancestors U E v)
+  noted-is t l = iff (not (eqb (getD w t 0) 0)) (memN t (ancestors U E v)) (λ e. h .only t (not-zero (getD w t 0) e)) (λ e. nonzero (getD w t 0) (h .all t e l))
+
+  past-is : (t : ℕ) → length w ≤ t → (not (eqb (getD m FAR 0) 0) && anyMarked (namesAt U E t) m 0 (length E)) ≡ memN t (ancestors U E v)
+  past-is t l = iff (not (eqb (getD m FAR 0) 0) && anyMarked (namesAt U E t) m 0 (length E)) (memN t (ancestors U E v))
+      (λ e. and-both (not (eqb (getD m FAR 0) 0)) (anyMarked (namesAt U E t) m 0 (length E)) e (λ a b. sym (names-is U E v m (h .reached) t) ∙ b))
+      (λ e. both (nonzero (getD m FAR 0) (h .far t e l)) (names-is U E v m (h .reached) t ∙ e))
+
+  met-is : (t : ℕ) → isMet U E w m t ≡ memN t (ancestors U E v)
+  unfolding isMet
+  met-is t = go (ltb t (length w)) refl
+    where
+      go : (b : Bool) → ltb t (length w) ≡ b → cond b (not (eqb (getD w t 0) 0)) (not (eqb (getD m FAR 0) 0) && anyMarked (namesAt U E t) m 0 (length E)) ≡ memN t (ancestors U E v)
+      go true e = noted-is t (ltb-true t (length w) e)
+      go false e = past-is t (ltb-false t (length w) e)
+
+  pub meets-is : (l : List ℕ) → anyMet U E w m l ≡ anyN l (ancestors U E v)
+  unfolding anyMet
+  meets-is [] = refl
+  meets-is (t ∷ l) = ap₂ (λ a b. a || b) (met-is t) (meets-is l)

@@ -4,13 +4,12 @@ use mathlib.Core.Bool.{Bool, true, false, cond, not, _&&_, _||_}
 use mathlib.Core.List.{List, [], _∷_}
 use Prim.Native.Nat.{ℕ, zero, suc, _+_, _-_, _*_, _<_, _≤_}
 use native.Mathlib.Omega.{arith}
-use borrow.Author.Tests.{le-leb, lt-leb, eq-eqb, ne-eqb, eqb-true, eqb-false, ltb-true, ltb-false}
-use lib.Dec.{leb, ltb, eqb}
+use borrow.Author.Tests.{lt-ltb, le-ltb, eq-eqb, ne-eqb, eqb-true, eqb-false, ltb-true, ltb-false}
+use lib.Dec.{ltb, eqb}
 use lib.ListN.{length, getD, take, drop, set, length-set, List·getD-eq-default}
 use lib.Seq.{take-all, length-take-le, getD-take, getD-set-same}
 use Rattle.cedar.specs.Rows.{Row, rbool, rlong, rtext, rent, rset, rrec}
 use Rattle.cedar.specs.Numbered.{anyN, memN, rSet}
-use Rattle.cedar.proofs.Tools.{no-true, iff, either, or-left, or-right}
 use Rattle.sheet.specs.Forms.{tag, items, at, mark, firstValue, VALUE, ENTITY}
 use Rattle.sheet.specs.State.{valueRow, entriesOf}
 use Rattle.sheet.specs.Bytes.{longAt}
@@ -20,9 +19,8 @@ use Rattle.forms.specs.Tags.{SET-VALUE}
 use Rattle.table.specs.Layout.{rowsOf}
 use Rattle.table.proofs.Rows.{count-rows}
 use Rattle.value.proofs.Lists.{uncons, spent}
-use Rattle.reach.specs.Marks.{LINES, VALUES, lineRows, placeOf, named, Aimed, Filled, Indexed, Queue, Grown, Spread, Expanded, Reached, markedAt, anyMarked, meetsAt, anyUnlisted, openAt, Tried, Trial, meetsSet, openSet}
-use Rattle.reach.proofs.Asking.{any-in, any-out}
-use Rattle.reach.proofs.Marking.{Marks, grown-none, grown-one, grown-more, room-left, marks-on, marks-end, marks-start, queue-start}
+use Rattle.reach.specs.Marks.{LINES, VALUES, FAR, lineRows, placeOf, named, Filled, Indexed, Queue, Grown, Noted, Taken, Spot, Seen, Spread, Expanded, Found, markedAt, anyMarked, namesAt, unknownAt, isMet, anyMet}
+use Rattle.reach.proofs.Marking.{Marks, grown-old, grown-beside, grown-one, room-left, taken-on, seen-none, seen-old, seen-more, marks-on, marks-end, marks-start, queue-start}
 
 -- ---- lines, line_at
 
@@ -135,6 +133,9 @@ index-step a p₀ p j c r x er ex = record {
     go v h false e = let y : placeOf v (drop j (lineRows a)) ≡ suc (placeOf v (drop (j + 1) (lineRows a))) = front v ∙ ap (λ (b : Bool). cond b 0 (suc (placeOf v (drop (j + 1) (lineRows a))))) e in
         let z = c .is v h in let w = eqb-false x v e in set-cases p x v j 0 (λ q. omega (arith, y, z, q)) (λ q u. absurd (w (sym q)))
 
+pub index-byte : (a p₀ p : List ℕ) (i : ℕ) → Indexing a p₀ p i → 0 < i → i - 1 < 256
+index-byte a p₀ p i c h = let z = c .near in let y = lines-most a in omega (arith, z, y)
+
 pub index-on : (a p₀ p : List ℕ) (i : ℕ) → Indexing a p₀ p i → 0 < i → (r : List ℕ) (x : ℕ) (p′ : List ℕ) → r ≡ getD (lineRows a) (i - 1) [] → x ≡ getD r 1 0 → p′ ≡ set p x (i - 1) → Indexing a p₀ p′ (i - 1)
 index-on a p₀ p i c h r x p′ er ex ep = subst (λ (w : List ℕ). Indexing a p₀ w (i - 1)) (sym ep) (index-step a p₀ p (i - 1) (subst (Indexing a p₀ p) (let z : i ≡ i - 1 + 1 = omega (arith, h) in z) c) r x er ex)
 
@@ -179,87 +180,92 @@ module _ (a : List ℕ) (i : ℕ) (r : List ℕ) (x : ℕ) (er : r ≡ getD (lin
     pub parents-set : t ≡ SET-VALUE → (q : List ℕ) → q ≡ items s → q ≡ parentsIn (rowsOf a VALUE) (lineRows a) (getD (lineRows a) i [])
     parents-set e q eq = eq ∙ sym (known ∙ ap (λ (n : ℕ). rSet [] (getD (rowsFor s) (n - firstValue) (rbool false)) (λ l. l)) (sym et ∙ e))
 
--- ---- see_at, see, expand
+-- ---- see_at, note, meet, see, expand
 
-module _ (a : List ℕ) (v : ℕ) (m q : List ℕ) (t : ℕ) (c : Queue (lineRows a) m q t) (k n : ℕ) (ek : k ≡ placeOf v (lineRows a)) (en : n ≡ length (lineRows a)) where
-  pub see-past : n ≤ k → Grown (lineRows a) (v ∷ []) 1 m q t m q t
-  see-past h = grown-none (lineRows a) (v ∷ []) 1 m q t c go
-    where
-      go : (i : ℕ) → i < 1 → placeOf (getD (v ∷ []) i 0) (lineRows a) < length (lineRows a) → 1 ≤ getD m (placeOf (getD (v ∷ []) i 0) (lineRows a)) 0
-      go zero l g = absurd (omega (arith, g, h, ek, en))
-      go (suc i) l g = absurd (omega (arith, l))
+module _ (a : List ℕ) (v : ℕ) (m q : List ℕ) (t : ℕ) (c : Queue (lineRows a) m q t) (k : ℕ) (ek : k ≡ placeOf v (lineRows a)) (x : ℕ) (ex : x ≡ getD m k 0) where
+  pub see-old : (x ≡ 0 → ⊥) → Grown (lineRows a) v m q t m q t
+  see-old e = grown-old (lineRows a) v m q t c (subst (λ (i : ℕ). 1 ≤ getD m i 0) ek (subst (λ (y : ℕ). 1 ≤ y) ex (not-none x e)))
 
-  module _ (h : k < n) (x : ℕ) (ex : x ≡ getD m k 0) where
-    pub see-old : (x ≡ 0 → ⊥) → Grown (lineRows a) (v ∷ []) 1 m q t m q t
-    see-old e = grown-none (lineRows a) (v ∷ []) 1 m q t c go
-      where
-        go : (i : ℕ) → i < 1 → placeOf (getD (v ∷ []) i 0) (lineRows a) < length (lineRows a) → 1 ≤ getD m (placeOf (getD (v ∷ []) i 0) (lineRows a)) 0
-        go zero l g = subst (λ (i : ℕ). 1 ≤ getD m i 0) ek (subst (λ (y : ℕ). 1 ≤ y) ex (not-none x e))
-        go (suc i) l g = absurd (omega (arith, l))
+  module _ (e : x ≡ 0) (m′ : List ℕ) (em : m′ ≡ set m k 1) (n : ℕ) (en : (n ≡ length (lineRows a)) × (n ≤ LINES)) where
+    pub see-past : n ≤ k → Grown (lineRows a) v m q t m′ q t
+    see-past h = subst (λ (w : List ℕ). Grown (lineRows a) v m q t w q t) (sym em) (grown-beside (lineRows a) v m q t c k ek (let z = en .0 in omega (arith, z, h)))
 
-    pub see-room : x ≡ 0 → t < LINES
-    see-room e = let z = room-left (lineRows a) m q t k c (omega (arith, h, en)) (sym ex ∙ e) in let w = lines-most a in omega (arith, z, w)
+    pub see-room : k < n → t < LINES
+    see-room h = let y = en .0 in let z = room-left (lineRows a) m q t k c (omega (arith, h, y)) (sym ex ∙ e) in let w = lines-most a in omega (arith, z, w)
 
-    pub see-new : x ≡ 0 → (m′ q′ : List ℕ) → m′ ≡ set m k 1 → q′ ≡ set q t k → Grown (lineRows a) (v ∷ []) 1 m q t m′ q′ (t + 1)
-    see-new e m′ q′ em eq = subst (λ (w : List ℕ). Grown (lineRows a) (v ∷ []) 1 m q t w q′ (t + 1)) (sym em) (subst (λ (w : List ℕ). Grown (lineRows a) (v ∷ []) 1 m q t (set m k 1) w (t + 1)) (sym eq) (grown-one (lineRows a) v m q t c k ek (omega (arith, h, en)) (sym ex ∙ e)))
+    pub see-new : k < n → (q′ : List ℕ) → q′ ≡ set q t k → Grown (lineRows a) v m q t m′ q′ (t + 1)
+    see-new h q′ eq = subst (λ (w : List ℕ). Grown (lineRows a) v m q t w q′ (t + 1)) (sym em) (subst (λ (w : List ℕ). Grown (lineRows a) v m q t (set m k 1) w (t + 1)) (sym eq) (grown-one (lineRows a) v m q t c k ek (let y = en .0 in omega (arith, h, y)) (sym ex ∙ e)))
 
-pub record Seeing (a p l m₀ q₀ : List ℕ) (t : ℕ) (m q : List ℕ) (u j : ℕ) : Type 0 where
+pub note-far : (n v : ℕ) (m m′ : List ℕ) → n ≤ v → m′ ≡ set m FAR 1 → Noted n v m m′
+note-far n v m m′ h e = record { near = λ l. absurd (omega (arith, h, l)); far = λ l. e }
+
+pub note-near : (n v : ℕ) (m : List ℕ) → v < n → Noted n v m m
+note-near n v m h = record { near = λ l. refl; far = λ l. absurd (omega (arith, h, l)) }
+
+pub meet-old : (E : List (List ℕ)) (v : ℕ) (w m q : List ℕ) (t x : ℕ) → Queue E m q t → Spot E w m → x ≡ getD w v 0 → (x ≡ 0 → ⊥) → Seen E (v ∷ []) 1 w m q t w m q t
+meet-old E v w m q t x c d ex e = seen-old E v w m q t c d (subst (λ (y : ℕ). 1 ≤ y) ex (not-none x e))
+
+pub record Seeing (a p l w₀ m₀ q₀ : List ℕ) (t : ℕ) (w m q : List ℕ) (u j : ℕ) : Type 0 where
   pub near : j ≤ length l
+  pub longw : length w ≡ length w₀
   pub long : length m ≡ length m₀
   pub longq : length q ≡ length q₀
   pub indexed : Indexed (lineRows a) p
   pub queue : Queue (lineRows a) m q u
-  pub grown : Grown (lineRows a) l j m₀ q₀ t m q u
+  pub spot : Spot (lineRows a) w m
+  pub seen : Seen (lineRows a) l j w₀ m₀ q₀ t w m q u
 
-pub seeing-start : (a p l m q : List ℕ) (t : ℕ) → Indexed (lineRows a) p → Queue (lineRows a) m q t → Seeing a p l m q t m q t 0
-seeing-start a p l m q t c d = record { near = omega arith; long = refl; longq = refl; indexed = c; queue = d; grown = grown-none (lineRows a) l 0 m q t d (λ i h. absurd (omega arith)) }
+pub seeing-start : (a p l w m q : List ℕ) (t : ℕ) → Indexed (lineRows a) p → Queue (lineRows a) m q t → Spot (lineRows a) w m → Seeing a p l w m q t w m q t 0
+seeing-start a p l w m q t c d s = record { near = omega arith; longw = refl; long = refl; longq = refl; indexed = c; queue = d; spot = s; seen = seen-none (lineRows a) l 0 w m q t d s (λ i h. absurd (omega arith)) }
 
-module _ (a p l m₀ q₀ : List ℕ) (t : ℕ) (m q : List ℕ) (u j : ℕ) (c : Seeing a p l m₀ q₀ t m q u j) where
-  pub seeing-on : j < length l → (m′ q′ : List ℕ) (u′ : ℕ) → Grown (lineRows a) (getD l j 0 ∷ []) 1 m q u m′ q′ u′ → Seeing a p l m₀ q₀ t m′ q′ u′ (j + 1)
-  seeing-on h m′ q′ u′ g = record { near = omega (arith, h); long = g .long ∙ c .long; longq = g .longq ∙ c .longq; indexed = c .indexed; queue = g .queue; grown = grown-more (lineRows a) l j m₀ q₀ t m q u m′ q′ u′ (c .grown) g }
+module _ (a p l w₀ m₀ q₀ : List ℕ) (t : ℕ) (w m q : List ℕ) (u j : ℕ) (c : Seeing a p l w₀ m₀ q₀ t w m q u j) where
+  pub seeing-on : j < length l → (w′ m′ q′ : List ℕ) (u′ : ℕ) → Seen (lineRows a) (getD l j 0 ∷ []) 1 w m q u w′ m′ q′ u′ → Seeing a p l w₀ m₀ q₀ t w′ m′ q′ u′ (j + 1)
+  seeing-on h w′ m′ q′ u′ g = record { near = omega (arith, h); longw = g .longw ∙ c .longw; long = g .long ∙ c .long; longq = g .longq ∙ c .longq; indexed = c .indexed; queue = g .queue; spot = g .spot; seen = seen-more (lineRows a) l j w₀ m₀ q₀ t w m q u w′ m′ q′ u′ (c .seen) g }
 
-  pub seeing-end : length l ≤ j → Grown (lineRows a) l (length l) m₀ q₀ t m q u
-  seeing-end h = subst (λ (n : ℕ). Grown (lineRows a) l n m₀ q₀ t m q u) (let z = c .near in let w : j ≡ length l = omega (arith, z, h) in w) (c .grown)
+  pub seeing-end : length l ≤ j → Seen (lineRows a) l (length l) w₀ m₀ q₀ t w m q u
+  seeing-end h = subst (λ (n : ℕ). Seen (lineRows a) l n w₀ m₀ q₀ t w m q u) (let z = c .near in let x : j ≡ length l = omega (arith, z, h) in x) (c .seen)
 
-module _ (a : List ℕ) (i : ℕ) (s m q : List ℕ) (t : ℕ) (c : Queue (lineRows a) m q t) (d : Spread (rowsOf a VALUE) (lineRows a) s m) (r : List ℕ) (x : ℕ) (er : r ≡ getD (lineRows a) i []) (ex : x ≡ getD r 4 0) where
-  Full : List ℕ → List ℕ → Type 0
-  Full m l = (i : ℕ) → i < length l → placeOf (getD l i 0) (lineRows a) < length (lineRows a) → 1 ≤ getD m (placeOf (getD l i 0) (lineRows a)) 0
+module _ (a : List ℕ) (i : ℕ) (s w m q : List ℕ) (t : ℕ) (c : Queue (lineRows a) m q t) (o : Spot (lineRows a) w m) (d : Spread (rowsOf a VALUE) (lineRows a) s w m) (r : List ℕ) (x : ℕ) (er : r ≡ getD (lineRows a) i []) (ex : x ≡ getD r 4 0) where
+  Full : List ℕ → List ℕ → List ℕ → Type 0
+  Full w m l = (i : ℕ) → i < length l → Taken (lineRows a) w m (getD l i 0)
 
   on-it : named (rowsOf a VALUE) x ≡ parentsIn (rowsOf a VALUE) (lineRows a) (getD (lineRows a) i [])
   on-it = sym (parents-by a i r x er ex x refl)
 
   module _ (y : ℕ) (ey : y ≡ getD s x 0) where
-    pub expand-old : (y ≡ 0 → ⊥) → Expanded (rowsOf a VALUE) (lineRows a) i s m q t s m q t
+    pub expand-old : (y ≡ 0 → ⊥) → Expanded (rowsOf a VALUE) (lineRows a) i s w m q t s w m q t
     unfolding Full
     expand-old e = record {
       long = refl;
-      grown = grown-none (lineRows a) (parentsIn (rowsOf a VALUE) (lineRows a) (getD (lineRows a) i [])) (length (parentsIn (rowsOf a VALUE) (lineRows a) (getD (lineRows a) i []))) m q t c (subst (Full m) on-it (d .is x (subst (λ (z : ℕ). 1 ≤ z) ey (not-none y e))));
+      seen = seen-none (lineRows a) (parentsIn (rowsOf a VALUE) (lineRows a) (getD (lineRows a) i [])) (length (parentsIn (rowsOf a VALUE) (lineRows a) (getD (lineRows a) i []))) w m q t c o (subst (Full w m) on-it (d .is x (subst (λ (z : ℕ). 1 ≤ z) ey (not-none y e))));
       spread = d;
     }
 
-    pub expand-new : (s′ l m′ q′ : List ℕ) (t′ : ℕ) → s′ ≡ set s x 1 → l ≡ parentsIn (rowsOf a VALUE) (lineRows a) (getD (lineRows a) i []) → Grown (lineRows a) l (length l) m q t m′ q′ t′ → Expanded (rowsOf a VALUE) (lineRows a) i s m q t s′ m′ q′ t′
+    pub expand-new : (s′ l w′ m′ q′ : List ℕ) (t′ : ℕ) → s′ ≡ set s x 1 → l ≡ parentsIn (rowsOf a VALUE) (lineRows a) (getD (lineRows a) i []) → Seen (lineRows a) l (length l) w m q t w′ m′ q′ t′ → Expanded (rowsOf a VALUE) (lineRows a) i s w m q t s′ w′ m′ q′ t′
     unfolding Full
-    expand-new s′ l m′ q′ t′ es el g = record {
+    expand-new s′ l w′ m′ q′ t′ es el g = record {
       long = ap length es ∙ length-set s x 1;
-      grown = subst (λ (k : List ℕ). Grown (lineRows a) k (length k) m q t m′ q′ t′) el g;
-      spread = subst (λ (w : List ℕ). Spread (rowsOf a VALUE) (lineRows a) w m′) (sym es) (record {
+      seen = subst (λ (k : List ℕ). Seen (lineRows a) k (length k) w m q t w′ m′ q′ t′) el g;
+      spread = subst (λ (u : List ℕ). Spread (rowsOf a VALUE) (lineRows a) u w′ m′) (sym es) (record {
         is = λ z h. set-cases s x z 1 0
-            (λ e i′ b p. g .kept (placeOf (getD (named (rowsOf a VALUE) z) i′ 0) (lineRows a)) (d .is z (omega (arith, h, e)) i′ b p))
-            (λ e w. subst (λ (n : ℕ). Full m′ (named (rowsOf a VALUE) n)) (sym e) (subst (Full m′) (el ∙ sym on-it) (g .full)));
+            (λ e i′ b. taken-on (lineRows a) w m w′ m′ (getD (named (rowsOf a VALUE) z) i′ 0) (g .longw) (g .kept) (g .keptw) (d .is z (omega (arith, h, e)) i′ b))
+            (λ e u. subst (λ (n : ℕ). Full w′ m′ (named (rowsOf a VALUE) n)) (sym e) (subst (Full w′ m′) (el ∙ sym on-it) (g .full)));
       });
     }
 
 -- ---- reach
 
-pub record Going (a : List ℕ) (v : ℕ) (p m₀ s m q : List ℕ) (t h : ℕ) : Type 0 where
+pub record Going (a : List ℕ) (v : ℕ) (p w₀ m₀ s w m q : List ℕ) (t h : ℕ) : Type 0 where
+  pub longw : length w ≡ length w₀
   pub long : length m ≡ length m₀
   pub longp : length p ≡ VALUES
   pub longs : length s ≡ VALUES
   pub longq : length q ≡ LINES
   pub indexed : Indexed (lineRows a) p
   pub queue : Queue (lineRows a) m q t
-  pub spread : Spread (rowsOf a VALUE) (lineRows a) s m
-  pub marks : Marks (rowsOf a VALUE) (lineRows a) v s m q t h
+  pub spot : Spot (lineRows a) w m
+  pub spread : Spread (rowsOf a VALUE) (lineRows a) s w m
+  pub marks : Marks (rowsOf a VALUE) (lineRows a) v s w m q t h
 
 pub none-there : (s s′ : List ℕ) → Filled 0 s s′ → (x : ℕ) → getD s′ x 0 ≡ 0
 none-there s s′ c x = go (ltb x (length s′)) refl
@@ -269,137 +275,53 @@ none-there s s′ c x = go (ltb x (length s′)) refl
     go false e = List·getD-eq-default s′ 0 (ltb-false x (length s′) e)
 
 module _ (a : List ℕ) (v : ℕ) where
-  pub reach-queue : (m m₁ q : List ℕ) → length (lineRows a) ≤ length m → Filled 0 m m₁ → length q ≡ LINES → Queue (lineRows a) m₁ q 0
-  reach-queue m m₁ q h c e = queue-start (rowsOf a VALUE) (lineRows a) v m₁ q (let z = c .long in omega (arith, z, h)) (let z = lines-most a in omega (arith, z, e)) (c .is)
+  few : length (lineRows a) < FAR
+  few = let z = lines-most a in omega (arith, z)
 
-  pub going-start : (m m₁ m₂ p s s₁ q q₂ : List ℕ) (t : ℕ) → length (lineRows a) ≤ length m → Filled 0 m m₁ → length p ≡ VALUES → length s ≡ VALUES → length q ≡ LINES → Filled 0 s s₁ → Indexed (lineRows a) p → Grown (lineRows a) (v ∷ []) 1 m₁ q 0 m₂ q₂ t → Going a v p m₂ s₁ m₂ q₂ t 0
-  going-start m m₁ m₂ p s s₁ q q₂ t h c np ns nq d i g = let x = marks-start (rowsOf a VALUE) (lineRows a) v s₁ m₁ q m₂ q₂ t (let z = c .long in omega (arith, z, h)) (c .is) (none-there s s₁ d) g in
-      record { long = refl; longp = np; longs = d .long ∙ ns; longq = g .longq ∙ nq; indexed = i; queue = x .queue; spread = x .spread; marks = x }
+  pub reach-queue : (m m₁ q : List ℕ) → FAR < length m → Filled 0 m m₁ → length q ≡ LINES → Queue (lineRows a) m₁ q 0
+  reach-queue m m₁ q h c e = queue-start (rowsOf a VALUE) (lineRows a) v m₁ q few (let z = c .long in omega (arith, z, h)) (let z = lines-most a in omega (arith, z, e)) (c .is)
 
-  module _ (p m₀ s m q : List ℕ) (t h : ℕ) (c : Going a v p m₀ s m q t h) where
-    pub going-on : h < t → (k : ℕ) → k ≡ getD q h 0 → (s′ m′ q′ : List ℕ) (t′ : ℕ) → Expanded (rowsOf a VALUE) (lineRows a) k s m q t s′ m′ q′ t′ → Going a v p m₀ s′ m′ q′ t′ (h + 1)
-    going-on l k ek s′ m′ q′ t′ g = record { long = g .grown .long ∙ c .long; longp = c .longp; longs = g .long ∙ c .longs; longq = g .grown .longq ∙ c .longq; indexed = c .indexed; queue = g .grown .queue; spread = g .spread; marks = marks-on (rowsOf a VALUE) (lineRows a) v s m q t h (c .marks) l k ek s′ m′ q′ t′ g }
+  pub going-start : (m m₁ m₂ w w₁ p s s₁ q q₂ : List ℕ) (t : ℕ) → FAR < length m → Filled 0 m m₁ → Filled 0 w w₁ → length p ≡ VALUES → length s ≡ VALUES → length q ≡ LINES → Filled 0 s s₁ → Indexed (lineRows a) p → Grown (lineRows a) v m₁ q 0 m₂ q₂ t → Going a v p w₁ m₂ s₁ w₁ m₂ q₂ t 0
+  going-start m m₁ m₂ w w₁ p s s₁ q q₂ t h c cw np ns nq d i g = let x = marks-start (rowsOf a VALUE) (lineRows a) v s₁ w₁ m₁ q m₂ q₂ t few (let z = c .long in omega (arith, z, h)) (c .is) (none-there s s₁ d) (none-there w w₁ cw) g in
+      record { longw = refl; long = refl; longp = np; longs = d .long ∙ ns; longq = g .longq ∙ nq; indexed = i; queue = x .queue; spot = x .spot; spread = x .spread; marks = x }
+
+  module _ (p w₀ m₀ s w m q : List ℕ) (t h : ℕ) (c : Going a v p w₀ m₀ s w m q t h) where
+    pub going-on : h < t → (k : ℕ) → k ≡ getD q h 0 → (s′ w′ m′ q′ : List ℕ) (t′ : ℕ) → Expanded (rowsOf a VALUE) (lineRows a) k s w m q t s′ w′ m′ q′ t′ → Going a v p w₀ m₀ s′ w′ m′ q′ t′ (h + 1)
+    going-on l k ek s′ w′ m′ q′ t′ g = record { longw = g .seen .longw ∙ c .longw; long = g .seen .long ∙ c .long; longp = c .longp; longs = g .long ∙ c .longs; longq = g .seen .longq ∙ c .longq; indexed = c .indexed; queue = g .seen .queue; spot = g .seen .spot; spread = g .spread; marks = marks-on (rowsOf a VALUE) (lineRows a) v s w m q t h (c .marks) l k ek s′ w′ m′ q′ t′ g }
 
     pub going-less : h < t → length (lineRows a) - (h + 1) < length (lineRows a) - h
     going-less l = let z = c .queue .few in omega (arith, z, l)
 
-    pub going-end : t ≤ h → Reached (rowsOf a VALUE) (lineRows a) v m
-    going-end l = marks-end (rowsOf a VALUE) (lineRows a) v s m q t h (c .marks) l
+    pub going-end : t ≤ h → Found (rowsOf a VALUE) (lineRows a) v w m
+    going-end l = marks-end (rowsOf a VALUE) (lineRows a) v s w m q t h (c .marks) l
 
--- ---- marked lines asked in turn
+-- ---- marked places asked in turn
 
-pub record Asking (a : List ℕ) (f : ℕ → Bool) (m : List ℕ) (n k : ℕ) : Type 0 where
-  pub all : n ≡ length (lineRows a)
+pub record Asking (f : ℕ → Bool) (m : List ℕ) (d n k : ℕ) : Type 0 where
+  pub all : n ≡ d
   pub near : k ≤ n
-  pub rest : anyMarked f m 0 (length (lineRows a)) ≡ anyMarked f m k (n - k)
+  pub rest : anyMarked f m 0 d ≡ anyMarked f m k (n - k)
 
-module _ (a : List ℕ) (f : ℕ → Bool) (m : List ℕ) (n : ℕ) where
-  pub asking-start : n ≡ length (lineRows a) → Asking a f m n 0
-  asking-start e = record { all = e; near = omega arith; rest = ap (anyMarked f m 0) (let y : length (lineRows a) ≡ n - 0 = omega (arith, e) in y) }
+module _ (f : ℕ → Bool) (m : List ℕ) (d n : ℕ) where
+  pub asking-start : n ≡ d → Asking f m d n 0
+  asking-start e = record { all = e; near = omega arith; rest = ap (anyMarked f m 0) (let y : d ≡ n - 0 = omega (arith, e) in y) }
 
-  module _ (k : ℕ) (c : Asking a f m n k) where
+  module _ (k : ℕ) (c : Asking f m d n k) where
     module _ (h : k < n) (b : Bool) (eb : b ≡ markedAt f m k) where
-      turn : anyMarked f m 0 (length (lineRows a)) ≡ (b || anyMarked f m (k + 1) (n - (k + 1)))
+      turn : anyMarked f m 0 d ≡ (b || anyMarked f m (k + 1) (n - (k + 1)))
       unfolding anyMarked
       turn = c .rest ∙ ap (anyMarked f m k) (let z : n - k ≡ suc (n - (k + 1)) = omega (arith, h) in z)
           ∙ ap₂ (λ (y : Bool) (i : ℕ). y || anyMarked f m i (n - (k + 1))) (sym eb) (let z : suc k ≡ k + 1 = omega arith in z)
 
-      pub asked-yes : b ≡ true → true ≡ anyMarked f m 0 (length (lineRows a))
+      pub asked-yes : b ≡ true → true ≡ anyMarked f m 0 d
       asked-yes e = sym (turn ∙ ap (λ (y : Bool). y || anyMarked f m (k + 1) (n - (k + 1))) e)
 
-      pub asked-no : b ≡ false → Asking a f m n (k + 1)
+      pub asked-no : b ≡ false → Asking f m d n (k + 1)
       asked-no e = record { all = c .all; near = omega (arith, h); rest = turn ∙ ap (λ (y : Bool). y || anyMarked f m (k + 1) (n - (k + 1))) e }
 
-    pub asked-end : n ≤ k → false ≡ anyMarked f m 0 (length (lineRows a))
+    pub asked-end : n ≤ k → false ≡ anyMarked f m 0 d
     unfolding anyMarked
     asked-end h = sym (c .rest ∙ ap (anyMarked f m k) (let z : n - k ≡ 0 = omega (arith, h) in z))
-
--- marked lines asked in turn, each set value once
-pub record Trying (a : List ℕ) (g f : ℕ → Bool) (m : List ℕ) (n k : ℕ) (s : List ℕ) : Type 0 where
-  pub long : length s ≡ VALUES
-  pub asking : Asking a f m n k
-  pub tried : Tried g s
-
-module _ (a : List ℕ) (g f : ℕ → Bool) (m : List ℕ) (n : ℕ) where
-  pub trying-start : (s s′ : List ℕ) → length s ≡ VALUES → n ≡ length (lineRows a) → Filled 0 s s′ → Trying a g f m n 0 s′
-  trying-start s s′ l e c = record { long = c .long ∙ l; asking = asking-start a f m n e; tried = record { is = λ x h. let z = none-there s s′ c x in absurd (omega (arith, z, h)) } }
-
-  module _ (k : ℕ) (s : List ℕ) (c : Trying a g f m n k s) where
-    module _ (h : k < n) (b : Bool) (s′ : List ℕ) (t : Trial g f m k s s′ b) where
-      pub tried-yes : b ≡ true → true ≡ anyMarked f m 0 (length (lineRows a))
-      tried-yes e = asked-yes a f m n k (c .asking) h b (t .is) e
-
-      pub tried-no : b ≡ false → Trying a g f m n (k + 1) s′
-      tried-no e = record { long = t .long ∙ c .long; asking = asked-no a f m n k (c .asking) h b (t .is) e; tried = t .tried e }
-
-    pub tried-end : n ≤ k → false ≡ anyMarked f m 0 (length (lineRows a))
-    tried-end h = asked-end a f m n k (c .asking) h
-
--- ---- aim, is_aim, any_aim
-
-pub record Aiming (l t₀ t : List ℕ) (j : ℕ) : Type 0 where
-  pub long : length t ≡ length t₀
-  pub near : j ≤ length l
-  pub is : (y : ℕ) → y < length t → memN y (drop j l) ≡ not (eqb (getD t y 0) 0)
-
-pub aiming-start : (l t t′ : List ℕ) → Filled 0 t t′ → Aiming l t′ t′ (length l)
-aiming-start l t t′ c = record { long = refl; near = omega arith; is = λ y h. ap (memN y) (spent l (length l) (omega arith)) ∙ sym (ap (λ (n : ℕ). not (eqb n 0)) (c .is y h)) }
-
-aim-step : (l t₀ t : List ℕ) (j : ℕ) → Aiming l t₀ t (j + 1) → (x : ℕ) → x ≡ getD l j 0 → Aiming l t₀ (set t x 1) j
-aim-step l t₀ t j c x ex = record {
-  long = length-set t x 1 ∙ c .long;
-  near = let z = c .near in omega (arith, z);
-  is = λ y h. front y ∙ go y (let z = length-set t x 1 in omega (arith, z, h)) (eqb y x) refl;
-}
-  where
-    front : (y : ℕ) → memN y (drop j l) ≡ (eqb y x || memN y (drop (j + 1) l))
-    front y = ap (memN y) (uncons l 0 j (let z = c .near in omega (arith, z))) ∙ ap (λ (n : ℕ). eqb y n || memN y (drop (j + 1) l)) (sym ex)
-
-    go : (y : ℕ) → y < length t → (b : Bool) → eqb y x ≡ b → (eqb y x || memN y (drop (j + 1) l)) ≡ not (eqb (getD (set t x 1) y 0) 0)
-    go y h true e = let z = eqb-true y x e in let w : getD (set t x 1) y 0 ≡ 1 = subst (λ (u : ℕ). getD (set t x 1) u 0 ≡ 1) (sym z) (getD-set-same t x 1 0 (omega (arith, z, h))) in
-        ap (λ (b : Bool). b || memN y (drop (j + 1) l)) e ∙ sym (ap (λ (n : ℕ). not (eqb n 0)) w)
-    go y h false e = let z = eqb-false y x e in ap (λ (b : Bool). b || memN y (drop (j + 1) l)) e ∙ c .is y h ∙ sym (set-cases t x y 1 0 (λ q. ap (λ (n : ℕ). not (eqb n 0)) q) (λ q u. absurd (z q)))
-
-pub aiming-on : (l t₀ t : List ℕ) (j : ℕ) → Aiming l t₀ t j → 0 < j → (x : ℕ) (t′ : List ℕ) → x ≡ getD l (j - 1) 0 → t′ ≡ set t x 1 → Aiming l t₀ t′ (j - 1)
-aiming-on l t₀ t j c h x t′ ex e = subst (λ (w : List ℕ). Aiming l t₀ w (j - 1)) (sym e) (aim-step l t₀ t (j - 1) (subst (Aiming l t₀ t) (let z : j ≡ j - 1 + 1 = omega (arith, h) in z) c) x ex)
-
-pub aiming-end : (l t₀ t : List ℕ) (j : ℕ) → Aiming l t₀ t j → j ≤ 0 → Aimed l t
-aiming-end l t₀ t j c h = record { is = λ y g. let z : j ≡ 0 = omega (arith, h) in ap (λ (n : ℕ). memN y (drop n l)) (sym z) ∙ c .is y g }
-
-pub aimed-in : (l t : List ℕ) (y : ℕ) → Aimed l t → y < length t → not (eqb (getD t y 0) 0) ≡ memN y l
-aimed-in l t y c h = sym (c .is y h)
-
-any-front : (l : List ℕ) (y : ℕ) (q : List ℕ) → anyN l (y ∷ q) ≡ (memN y l || anyN l q)
-any-front l y q = iff (anyN l (y ∷ q)) (memN y l || anyN l q)
-    (λ e. any-out l (y ∷ q) e (λ t i j. either (eqb t y) (memN t q) j (λ z. or-left (memN y l) (anyN l q) (subst (λ (w : ℕ). memN w l ≡ true) (eqb-true t y z) i)) (λ z. or-right (memN y l) (anyN l q) (any-in l q t i z))))
-    (λ e. either (memN y l) (anyN l q) e (λ z. any-in l (y ∷ q) y z (or-left (eqb y y) (memN y q) (eq-eqb y y refl))) (λ z. any-out l q z (λ t i j. any-in l (y ∷ q) t i (or-right (eqb t y) (memN t q) j))))
-
-pub any-none : (l : List ℕ) → anyN l [] ≡ false
-any-none [] = refl
-any-none (x ∷ l) = any-none l
-
-pub record Hitting (l q : List ℕ) (j : ℕ) : Type 0 where
-  pub near : j ≤ length q
-  pub rest : anyN l q ≡ anyN l (drop j q)
-
-pub hitting-start : (l q : List ℕ) → Hitting l q 0
-hitting-start l q = record { near = omega arith; rest = refl }
-
-module _ (l q : List ℕ) (j : ℕ) (c : Hitting l q j) where
-  module _ (h : j < length q) (b : Bool) (eb : b ≡ memN (getD q j 0) l) where
-    hit-turn : anyN l q ≡ (b || anyN l (drop (j + 1) q))
-    hit-turn = c .rest ∙ ap (anyN l) (uncons q 0 j h) ∙ any-front l (getD q j 0) (drop (j + 1) q) ∙ ap (λ (x : Bool). x || anyN l (drop (j + 1) q)) (sym eb)
-
-    pub hitting-yes : b ≡ true → true ≡ anyN l q
-    hitting-yes e = sym (hit-turn ∙ ap (λ (x : Bool). x || anyN l (drop (j + 1) q)) e)
-
-    pub hitting-no : b ≡ false → Hitting l q (j + 1)
-    hitting-no e = record { near = omega (arith, h); rest = hit-turn ∙ ap (λ (x : Bool). x || anyN l (drop (j + 1) q)) e }
-
-  pub hitting-end : length q ≤ j → false ≡ anyN l q
-  hitting-end h = sym (c .rest ∙ ap (anyN l) (spent q j h) ∙ any-none l)
-
--- ---- meets_at
 
 module _ (f : ℕ → Bool) (m : List ℕ) (k x : ℕ) (ex : x ≡ getD m k 0) where
   pub mark-none : x ≡ 0 → false ≡ markedAt f m k
@@ -410,125 +332,85 @@ module _ (f : ℕ → Bool) (m : List ℕ) (k x : ℕ) (ex : x ≡ getD m k 0) w
   unfolding markedAt
   mark-some e b eb = eb ∙ sym (ap (λ (y : ℕ). not (eqb y 0) && f k) (sym ex) ∙ ap (λ (b : Bool). not b && f k) (ne-eqb x 0 e))
 
-pub trial-none : (g f : ℕ → Bool) (m : List ℕ) (k x : ℕ) (s : List ℕ) → x ≡ getD m k 0 → x ≡ 0 → Tried g s → Trial g f m k s s false
-trial-none g f m k x s ex e c = record { long = refl; is = mark-none f m k x ex e; tried = λ z. c }
+-- ---- names_at, is_met, meets_above
 
-module _ (g f : ℕ → Bool) (m : List ℕ) (k y : ℕ) (ey : y ≡ getD m k 0) (ny : y ≡ 0 → ⊥) (x : ℕ) (fg : f k ≡ g x) (s : List ℕ) (c : Tried g s) where
-  pub trial-old : (z : ℕ) → z ≡ getD s x 0 → (z ≡ 0 → ⊥) → Trial g f m k s s false
-  trial-old z ez nz = record { long = refl; is = mark-some f m k y ey ny false (sym (fg ∙ c .is x (subst (λ (w : ℕ). 1 ≤ w) ez (not-none z nz)))); tried = λ e. c }
+pub names-some : (a m : List ℕ) (k v x : ℕ) → x ≡ getD m k 0 → (x ≡ 0 → ⊥) → (l : List ℕ) → l ≡ parentsIn (rowsOf a VALUE) (lineRows a) (getD (lineRows a) k []) → (b : Bool) → b ≡ memN v l → b ≡ markedAt (namesAt (rowsOf a VALUE) (lineRows a) v) m k
+unfolding namesAt
+names-some a m k v x ex e l el b eb = mark-some (namesAt (rowsOf a VALUE) (lineRows a) v) m k x ex e b (eb ∙ ap (memN v) el)
 
-  pub trial-new : (s′ : List ℕ) (b : Bool) → s′ ≡ set s x 1 → b ≡ f k → Trial g f m k s s′ b
-  trial-new s′ b es eb = record {
-    long = ap length es ∙ length-set s x 1;
-    is = mark-some f m k y ey ny b eb;
-    tried = λ e. subst (Tried g) (sym es) (record { is = λ w h. set-cases s x w 1 0 (λ q. c .is w (omega (arith, h, q))) (λ q u. ap g q ∙ sym fg ∙ sym eb ∙ e) });
-  }
+module _ (a w m : List ℕ) (v : ℕ) where
+  pub met-near : v < length w → not (eqb (getD w v 0) 0) ≡ isMet (rowsOf a VALUE) (lineRows a) w m v
+  unfolding isMet
+  met-near h = sym (ap (λ (b : Bool). cond b (not (eqb (getD w v 0) 0)) (not (eqb (getD m FAR 0) 0) && anyMarked (namesAt (rowsOf a VALUE) (lineRows a) v) m 0 (length (lineRows a)))) (lt-ltb v (length w) h))
 
-module _ (a l m : List ℕ) (k y : ℕ) (ey : y ≡ getD m k 0) (ny : y ≡ 0 → ⊥) (r : List ℕ) (x : ℕ) (er : r ≡ getD (lineRows a) k []) (ex : x ≡ getD r 4 0) (s : List ℕ) (c : Tried (meetsSet (rowsOf a VALUE) l) s) (z : ℕ) (ez : z ≡ getD s x 0) where
-  meets-set : meetsAt (rowsOf a VALUE) (lineRows a) l k ≡ meetsSet (rowsOf a VALUE) l x
-  unfolding meetsAt meetsSet
-  meets-set = ap (anyN l) (parents-by a k r x er ex x refl)
+  module _ (h : length w ≤ v) (x : ℕ) (ex : x ≡ getD m FAR 0) where
+    past : isMet (rowsOf a VALUE) (lineRows a) w m v ≡ (not (eqb x 0) && anyMarked (namesAt (rowsOf a VALUE) (lineRows a) v) m 0 (length (lineRows a)))
+    unfolding isMet
+    past = ap (λ (b : Bool). cond b (not (eqb (getD w v 0) 0)) (not (eqb (getD m FAR 0) 0) && anyMarked (namesAt (rowsOf a VALUE) (lineRows a) v) m 0 (length (lineRows a)))) (le-ltb v (length w) h) ∙ ap (λ (y : ℕ). not (eqb y 0) && anyMarked (namesAt (rowsOf a VALUE) (lineRows a) v) m 0 (length (lineRows a))) (sym ex)
 
-  pub meets-old : (z ≡ 0 → ⊥) → Trial (meetsSet (rowsOf a VALUE) l) (meetsAt (rowsOf a VALUE) (lineRows a) l) m k s s false
-  meets-old nz = trial-old (meetsSet (rowsOf a VALUE) l) (meetsAt (rowsOf a VALUE) (lineRows a) l) m k y ey ny x meets-set s c z ez nz
+    pub met-none : x ≡ 0 → false ≡ isMet (rowsOf a VALUE) (lineRows a) w m v
+    met-none e = sym (past ∙ ap (λ (b : Bool). not b && anyMarked (namesAt (rowsOf a VALUE) (lineRows a) v) m 0 (length (lineRows a))) (eq-eqb x 0 e))
 
-  pub meets-new : (s′ q : List ℕ) (b : Bool) → s′ ≡ set s x 1 → q ≡ parentsIn (rowsOf a VALUE) (lineRows a) (getD (lineRows a) k []) → b ≡ anyN l q → Trial (meetsSet (rowsOf a VALUE) l) (meetsAt (rowsOf a VALUE) (lineRows a) l) m k s s′ b
-  unfolding meetsAt
-  meets-new s′ q b es eq eb = trial-new (meetsSet (rowsOf a VALUE) l) (meetsAt (rowsOf a VALUE) (lineRows a) l) m k y ey ny x meets-set s c s′ b es (eb ∙ ap (anyN l) eq)
+    pub met-far : (x ≡ 0 → ⊥) → (b : Bool) → b ≡ anyMarked (namesAt (rowsOf a VALUE) (lineRows a) v) m 0 (length (lineRows a)) → b ≡ isMet (rowsOf a VALUE) (lineRows a) w m v
+    met-far e b eb = eb ∙ sym (past ∙ ap (λ (b : Bool). not b && anyMarked (namesAt (rowsOf a VALUE) (lineRows a) v) m 0 (length (lineRows a))) (ne-eqb x 0 e))
 
--- ---- any_unlisted, open_at
+pub record Meeting (a w m l : List ℕ) (j : ℕ) : Type 0 where
+  pub near : j ≤ length l
+  pub rest : anyMet (rowsOf a VALUE) (lineRows a) w m l ≡ anyMet (rowsOf a VALUE) (lineRows a) w m (drop j l)
 
-pub record Listing (a q : List ℕ) (n j : ℕ) : Type 0 where
-  pub all : n ≡ length (lineRows a)
-  pub near : j ≤ length q
-  pub rest : anyUnlisted (lineRows a) q ≡ anyUnlisted (lineRows a) (drop j q)
+module _ (a w m l : List ℕ) where
+  pub meeting-start : Meeting a w m l 0
+  meeting-start = record { near = omega arith; rest = refl }
 
-module _ (a q : List ℕ) (n : ℕ) where
-  pub listing-start : n ≡ length (lineRows a) → Listing a q n 0
-  listing-start e = record { all = e; near = omega arith; rest = refl }
+  module _ (j : ℕ) (c : Meeting a w m l j) where
+    module _ (h : j < length l) (b : Bool) (eb : b ≡ isMet (rowsOf a VALUE) (lineRows a) w m (getD l j 0)) where
+      meet-turn : anyMet (rowsOf a VALUE) (lineRows a) w m l ≡ (b || anyMet (rowsOf a VALUE) (lineRows a) w m (drop (j + 1) l))
+      unfolding anyMet
+      meet-turn = c .rest ∙ ap (anyMet (rowsOf a VALUE) (lineRows a) w m) (uncons l 0 j h) ∙ ap (λ (x : Bool). x || anyMet (rowsOf a VALUE) (lineRows a) w m (drop (j + 1) l)) (sym eb)
 
-  module _ (j : ℕ) (c : Listing a q n j) where
-    module _ (h : j < length q) (k : ℕ) (ek : k ≡ placeOf (getD q j 0) (lineRows a)) where
-      list-turn : anyUnlisted (lineRows a) q ≡ (leb n k || anyUnlisted (lineRows a) (drop (j + 1) q))
-      unfolding anyUnlisted
-      list-turn = c .rest ∙ ap (anyUnlisted (lineRows a)) (uncons q 0 j h) ∙ ap₂ (λ (x y : ℕ). leb x y || anyUnlisted (lineRows a) (drop (j + 1) q)) (sym (c .all)) (sym ek)
+      pub meeting-yes : b ≡ true → true ≡ anyMet (rowsOf a VALUE) (lineRows a) w m l
+      meeting-yes e = sym (meet-turn ∙ ap (λ (x : Bool). x || anyMet (rowsOf a VALUE) (lineRows a) w m (drop (j + 1) l)) e)
 
-      pub list-hit : n ≤ k → true ≡ anyUnlisted (lineRows a) q
-      list-hit l = sym (list-turn ∙ ap (λ (b : Bool). b || anyUnlisted (lineRows a) (drop (j + 1) q)) (le-leb n k l))
+      pub meeting-no : b ≡ false → Meeting a w m l (j + 1)
+      meeting-no e = record { near = omega (arith, h); rest = meet-turn ∙ ap (λ (x : Bool). x || anyMet (rowsOf a VALUE) (lineRows a) w m (drop (j + 1) l)) e }
 
-      pub list-on : k < n → Listing a q n (j + 1)
-      list-on l = record { all = c .all; near = omega (arith, h); rest = list-turn ∙ ap (λ (b : Bool). b || anyUnlisted (lineRows a) (drop (j + 1) q)) (lt-leb n k l) }
+    pub meeting-end : length l ≤ j → false ≡ anyMet (rowsOf a VALUE) (lineRows a) w m l
+    unfolding anyMet
+    meeting-end h = sym (c .rest ∙ ap (anyMet (rowsOf a VALUE) (lineRows a) w m) (spent l j h))
 
-    pub list-end : length q ≤ j → false ≡ anyUnlisted (lineRows a) q
-    unfolding anyUnlisted
-    list-end l = sym (c .rest ∙ ap (anyUnlisted (lineRows a)) (spent q j l))
+-- ---- unknown_at, open_above
 
-module _ (a : List ℕ) (k : ℕ) (r : List ℕ) (x : ℕ) (er : r ≡ getD (lineRows a) k []) (ex : x ≡ getD r 4 0) (m : List ℕ) (y : ℕ) (ey : y ≡ getD m k 0) (ny : y ≡ 0 → ⊥) (s : List ℕ) (c : Tried (openSet (rowsOf a VALUE) (lineRows a)) s) where
-  open-set : openAt (rowsOf a VALUE) (lineRows a) k ≡ openSet (rowsOf a VALUE) (lineRows a) x
-  unfolding openAt openSet
-  open-set = ap₂ (λ (n : ℕ) (q : List ℕ). eqb n mark || anyUnlisted (lineRows a) q) (sym (item-is a k r x er ex)) (parents-by a k r x er ex x refl)
+pub unknown-some : (a m : List ℕ) (k x : ℕ) → x ≡ getD m k 0 → (x ≡ 0 → ⊥) → (r : List ℕ) (y : ℕ) → r ≡ getD (lineRows a) k [] → y ≡ getD r 4 0 → eqb y mark ≡ markedAt (unknownAt (lineRows a)) m k
+unfolding unknownAt
+unknown-some a m k x ex e r y er ey = mark-some (unknownAt (lineRows a)) m k x ex e (eqb y mark) (ap (λ (z : ℕ). eqb z mark) (ey ∙ ap (λ (q : List ℕ). getD q 4 0) er))
 
-  pub open-unknown : x ≡ mark → Trial (openSet (rowsOf a VALUE) (lineRows a)) (openAt (rowsOf a VALUE) (lineRows a)) m k s s true
-  unfolding openSet
-  open-unknown e = record {
-    long = refl;
-    is = mark-some (openAt (rowsOf a VALUE) (lineRows a)) m k y ey ny true (sym (open-set ∙ ap (λ (b : Bool). b || anyUnlisted (lineRows a) (named (rowsOf a VALUE) x)) (eq-eqb x mark e)));
-    tried = λ z. no-true (sym z);
-  }
+pub record Opening (a m : List ℕ) (n k : ℕ) : Type 0 where
+  pub none : getD m (length (lineRows a)) 0 ≡ 0
+  pub asking : Asking (unknownAt (lineRows a)) m (length (lineRows a)) n k
 
-  module _ (ne : x ≡ mark → ⊥) (z : ℕ) (ez : z ≡ getD s x 0) where
-    pub open-old : (z ≡ 0 → ⊥) → Trial (openSet (rowsOf a VALUE) (lineRows a)) (openAt (rowsOf a VALUE) (lineRows a)) m k s s false
-    open-old nz = trial-old (openSet (rowsOf a VALUE) (lineRows a)) (openAt (rowsOf a VALUE) (lineRows a)) m k y ey ny x open-set s c z ez nz
+module _ (a m : List ℕ) (n x : ℕ) (en : (n ≡ length (lineRows a)) × (n ≤ LINES)) (ex : x ≡ getD m n 0) where
+  pub open-met : (x ≡ 0 → ⊥) → true ≡ (not (eqb (getD m (length (lineRows a)) 0) 0) || anyMarked (unknownAt (lineRows a)) m 0 (length (lineRows a)))
+  open-met e = sym (ap (λ (y : ℕ). not (eqb y 0) || anyMarked (unknownAt (lineRows a)) m 0 (length (lineRows a))) (sym (ex ∙ ap (λ (i : ℕ). getD m i 0) (en .0))) ∙ ap (λ (b : Bool). not b || anyMarked (unknownAt (lineRows a)) m 0 (length (lineRows a))) (ne-eqb x 0 e))
 
-    pub open-new : (s′ q : List ℕ) (b : Bool) → s′ ≡ set s x 1 → q ≡ parentsIn (rowsOf a VALUE) (lineRows a) (getD (lineRows a) k []) → b ≡ anyUnlisted (lineRows a) q → Trial (openSet (rowsOf a VALUE) (lineRows a)) (openAt (rowsOf a VALUE) (lineRows a)) m k s s′ b
-    unfolding openSet
-    open-new s′ q b es eq eb = trial-new (openSet (rowsOf a VALUE) (lineRows a)) (openAt (rowsOf a VALUE) (lineRows a)) m k y ey ny x open-set s c s′ b es
-        (eb ∙ ap (anyUnlisted (lineRows a)) (eq ∙ parents-by a k r x er ex x refl) ∙ sym (open-set ∙ ap (λ (w : Bool). w || anyUnlisted (lineRows a) (named (rowsOf a VALUE) x)) (ne-eqb x mark ne)))
+  pub open-start : x ≡ 0 → Opening a m n 0
+  open-start e = record { none = ap (λ (i : ℕ). getD m i 0) (sym (en .0)) ∙ sym ex ∙ e; asking = asking-start (unknownAt (lineRows a)) m (length (lineRows a)) n (en .0) }
 
--- ---- open_above
+module _ (a m : List ℕ) (n k : ℕ) (c : Opening a m n k) where
+  open-by : (b : Bool) → b ≡ anyMarked (unknownAt (lineRows a)) m 0 (length (lineRows a)) → b ≡ (not (eqb (getD m (length (lineRows a)) 0) 0) || anyMarked (unknownAt (lineRows a)) m 0 (length (lineRows a)))
+  open-by b eb = eb ∙ sym (ap (λ (b : Bool). not b || anyMarked (unknownAt (lineRows a)) m 0 (length (lineRows a))) (eq-eqb (getD m (length (lineRows a)) 0) 0 (c .none)))
 
-pub record Opening (a p m : List ℕ) (n k : ℕ) (s : List ℕ) : Type 0 where
-  pub longp : length p ≡ VALUES
-  pub long : length s ≡ VALUES
-  pub indexed : Indexed (lineRows a) p
-  pub tried : Tried (openSet (rowsOf a VALUE) (lineRows a)) s
-  pub trying : Trying a (openSet (rowsOf a VALUE) (lineRows a)) (openAt (rowsOf a VALUE) (lineRows a)) m n k s
+  module _ (h : k < n) (b : Bool) (eb : b ≡ markedAt (unknownAt (lineRows a)) m k) where
+    pub open-yes : b ≡ true → true ≡ (not (eqb (getD m (length (lineRows a)) 0) 0) || anyMarked (unknownAt (lineRows a)) m 0 (length (lineRows a)))
+    open-yes e = open-by true (asked-yes (unknownAt (lineRows a)) m (length (lineRows a)) n k (c .asking) h b eb e)
 
-module _ (a p m : List ℕ) (n : ℕ) where
-  pub opening-start : (s s′ : List ℕ) → length p ≡ VALUES → length s ≡ VALUES → n ≡ length (lineRows a) → Indexed (lineRows a) p → Filled 0 s s′ → Opening a p m n 0 s′
-  opening-start s s′ lp l e i c = let x = trying-start a (openSet (rowsOf a VALUE) (lineRows a)) (openAt (rowsOf a VALUE) (lineRows a)) m n s s′ l e c in record { longp = lp; long = x .long; indexed = i; tried = x .tried; trying = x }
+    pub open-no : b ≡ false → Opening a m n (k + 1)
+    open-no e = record { none = c .none; asking = asked-no (unknownAt (lineRows a)) m (length (lineRows a)) n k (c .asking) h b eb e }
 
-  module _ (k : ℕ) (s : List ℕ) (c : Opening a p m n k s) where
-    module _ (h : k < n) (b : Bool) (s′ : List ℕ) (t : Trial (openSet (rowsOf a VALUE) (lineRows a)) (openAt (rowsOf a VALUE) (lineRows a)) m k s s′ b) where
-      pub opened-yes : b ≡ true → true ≡ anyMarked (openAt (rowsOf a VALUE) (lineRows a)) m 0 (length (lineRows a))
-      opened-yes e = tried-yes a (openSet (rowsOf a VALUE) (lineRows a)) (openAt (rowsOf a VALUE) (lineRows a)) m n k s (c .trying) h b s′ t e
+  pub open-end : n ≤ k → false ≡ (not (eqb (getD m (length (lineRows a)) 0) 0) || anyMarked (unknownAt (lineRows a)) m 0 (length (lineRows a)))
+  open-end h = open-by false (asked-end (unknownAt (lineRows a)) m (length (lineRows a)) n k (c .asking) h)
 
-      pub opened-no : b ≡ false → Opening a p m n (k + 1) s′
-      opened-no e = let x = tried-no a (openSet (rowsOf a VALUE) (lineRows a)) (openAt (rowsOf a VALUE) (lineRows a)) m n k s (c .trying) h b s′ t e in record { longp = c .longp; long = x .long; indexed = c .indexed; tried = x .tried; trying = x }
+-- ---- none of these
 
-    pub opened-end : n ≤ k → false ≡ anyMarked (openAt (rowsOf a VALUE) (lineRows a)) m 0 (length (lineRows a))
-    opened-end h = tried-end a (openSet (rowsOf a VALUE) (lineRows a)) (openAt (rowsOf a VALUE) (lineRows a)) m n k s (c .trying) h
-
--- ---- meets_above
-
-pub record Meeting (a l t m : List ℕ) (n k : ℕ) (s : List ℕ) : Type 0 where
-  pub longt : length t ≡ VALUES
-  pub long : length s ≡ VALUES
-  pub aimed : Aimed l t
-  pub tried : Tried (meetsSet (rowsOf a VALUE) l) s
-  pub trying : Trying a (meetsSet (rowsOf a VALUE) l) (meetsAt (rowsOf a VALUE) (lineRows a) l) m n k s
-
-module _ (a l t m : List ℕ) (n : ℕ) where
-  pub meeting-start : (s s′ : List ℕ) → length t ≡ VALUES → length s ≡ VALUES → n ≡ length (lineRows a) → Aimed l t → Filled 0 s s′ → Meeting a l t m n 0 s′
-  meeting-start s s′ lt ls e i c = let x = trying-start a (meetsSet (rowsOf a VALUE) l) (meetsAt (rowsOf a VALUE) (lineRows a) l) m n s s′ ls e c in record { longt = lt; long = x .long; aimed = i; tried = x .tried; trying = x }
-
-  module _ (k : ℕ) (s : List ℕ) (c : Meeting a l t m n k s) where
-    module _ (h : k < n) (b : Bool) (s′ : List ℕ) (g : Trial (meetsSet (rowsOf a VALUE) l) (meetsAt (rowsOf a VALUE) (lineRows a) l) m k s s′ b) where
-      pub meeting-yes : b ≡ true → true ≡ anyMarked (meetsAt (rowsOf a VALUE) (lineRows a) l) m 0 (length (lineRows a))
-      meeting-yes e = tried-yes a (meetsSet (rowsOf a VALUE) l) (meetsAt (rowsOf a VALUE) (lineRows a) l) m n k s (c .trying) h b s′ g e
-
-      pub meeting-no : b ≡ false → Meeting a l t m n (k + 1) s′
-      meeting-no e = let x = tried-no a (meetsSet (rowsOf a VALUE) l) (meetsAt (rowsOf a VALUE) (lineRows a) l) m n k s (c .trying) h b s′ g e in record { longt = c .longt; long = x .long; aimed = c .aimed; tried = x .tried; trying = x }
-
-    pub meeting-end : n ≤ k → false ≡ anyMarked (meetsAt (rowsOf a VALUE) (lineRows a) l) m 0 (length (lineRows a))
-    meeting-end h = tried-end a (meetsSet (rowsOf a VALUE) l) (meetsAt (rowsOf a VALUE) (lineRows a) l) m n k s (c .trying) h
+pub any-none : (l : List ℕ) → anyN l [] ≡ false
+any-none [] = refl
+any-none (x ∷ l) = any-none l

@@ -1,12 +1,12 @@
--- Lines of entities marked as they are reached, and queued until their parents are marked too.
+-- Parents noted as they are met, and lines of entities marked as they are reached, and queued until their parents are met too.
 use mathlib.Core.Path.{_≡_}
 use mathlib.Core.Bool.{Bool, true, false, cond, not, _&&_, _||_}
 use mathlib.Core.List.{List, [], _∷_}
 use mathlib.Core.Logic.{_⊎_}
 use Prim.Native.Nat.{ℕ, zero, suc, _+_, _-_, _<_, _≤_}
-use lib.Dec.{leb, eqb}
-use lib.ListN.{length, take, getD}
-use Rattle.cedar.specs.Numbered.{memN, anyN, rSet}
+use lib.Dec.{ltb, eqb}
+use lib.ListN.{length, take, getD, set}
+use Rattle.cedar.specs.Numbered.{memN, rSet}
 use Rattle.sheet.specs.Forms.{at, mark, ENTITY}
 use Rattle.sheet.specs.State.{valueRow}
 use Rattle.sheet.specs.Parents.{parentsIn, ancestors}
@@ -18,6 +18,10 @@ LINES = 128
 
 abbrev pub VALUES : ℕ
 VALUES = 1024
+
+-- marks: one for each line, then one for all entities that are not listed; here, for parents whose numbers are past the table of those met
+abbrev pub FAR : ℕ
+FAR = 129
 
 -- the entity lines that the words hold
 unfoldable pub lineRows : List ℕ → List (List ℕ)
@@ -48,83 +52,102 @@ left (suc n) m = (1 - getD m n 0) + left n m
 
 -- the first t words of q are the places of the marked lines
 pub record Queue (E : List (List ℕ)) (m q : List ℕ) (t : ℕ) : Type 0 where
-  pub marks : length E ≤ length m
+  pub lines : length E < FAR
+  pub marks : FAR < length m
   pub room : length E ≤ length q
   pub few : t + left (length E) m ≤ length E
   pub queued : (k : ℕ) → k < length E → 1 ≤ getD m k 0 → (j : ℕ) × (j < t) × (getD q j 0 ≡ k)
   pub back : (j : ℕ) → j < t → (getD q j 0 < length E) × (1 ≤ getD m (getD q j 0) 0)
 
--- the lines of the first n of l are marked too, no others, and those that were not marked are queued behind the others
-pub record Grown (E : List (List ℕ)) (l : List ℕ) (n : ℕ) (m q : List ℕ) (t : ℕ) (m′ q′ : List ℕ) (t′ : ℕ) : Type 0 where
+-- the place of v is marked too, no other, and its line, if it was not marked, is queued behind the others
+pub record Grown (E : List (List ℕ)) (v : ℕ) (m q : List ℕ) (t : ℕ) (m′ q′ : List ℕ) (t′ : ℕ) : Type 0 where
   pub queue : Queue E m′ q′ t′
   pub long : length m′ ≡ length m
   pub longq : length q′ ≡ length q
   pub more : t ≤ t′
   pub same : (j : ℕ) → j < t → getD q′ j 0 ≡ getD q j 0
   pub kept : (k : ℕ) → 1 ≤ getD m k 0 → 1 ≤ getD m′ k 0
-  pub full : (i : ℕ) → i < n → placeOf (getD l i 0) E < length E → 1 ≤ getD m′ (placeOf (getD l i 0) E) 0
-  pub only : (k : ℕ) → k < length E → 1 ≤ getD m′ k 0 → (1 ≤ getD m k 0) ⊎ ((i : ℕ) × (i < n) × (placeOf (getD l i 0) E ≡ k))
+  pub full : 1 ≤ getD m′ (placeOf v E) 0
+  pub only : (k : ℕ) → k ≤ length E → 1 ≤ getD m′ k 0 → (1 ≤ getD m k 0) ⊎ (placeOf v E ≡ k)
 
--- of a set value x whose word is not 0 the lines of the members are marked
-pub record Spread (U E : List (List ℕ)) (s m : List ℕ) : Type 0 where
-  pub is : (x : ℕ) → 1 ≤ getD s x 0 → (i : ℕ) → i < length (named U x) → placeOf (getD (named U x) i 0) E < length E → 1 ≤ getD m (placeOf (getD (named U x) i 0) E) 0
+-- where v is past a table of length n this is marked
+pub record Noted (n v : ℕ) (m m′ : List ℕ) : Type 0 where
+  pub near : v < n → m′ ≡ m
+  pub far : n ≤ v → m′ ≡ set m FAR 1
 
--- the lines of the parents on line i are marked too
-pub record Expanded (U E : List (List ℕ)) (i : ℕ) (s m q : List ℕ) (t : ℕ) (s′ m′ q′ : List ℕ) (t′ : ℕ) : Type 0 where
+-- parent y is met: its place is marked, and it is noted, by the table of those met or as past its end
+abbrev pub Taken : List (List ℕ) → List ℕ → List ℕ → ℕ → Type 0
+Taken E w m y = (1 ≤ getD m (placeOf y E) 0) × (y < length w → 1 ≤ getD w y 0) × (length w ≤ y → 1 ≤ getD m FAR 0)
+
+-- what the table notes is met
+pub record Spot (E : List (List ℕ)) (w m : List ℕ) : Type 0 where
+  pub is : (y : ℕ) → 1 ≤ getD w y 0 → Taken E w m y
+
+-- the first n of l are met too, no others, and the lines that were not marked are queued behind the others
+pub record Seen (E : List (List ℕ)) (l : List ℕ) (n : ℕ) (w m q : List ℕ) (t : ℕ) (w′ m′ q′ : List ℕ) (t′ : ℕ) : Type 0 where
+  pub queue : Queue E m′ q′ t′
+  pub spot : Spot E w′ m′
+  pub longw : length w′ ≡ length w
+  pub long : length m′ ≡ length m
+  pub longq : length q′ ≡ length q
+  pub more : t ≤ t′
+  pub same : (j : ℕ) → j < t → getD q′ j 0 ≡ getD q j 0
+  pub kept : (k : ℕ) → 1 ≤ getD m k 0 → 1 ≤ getD m′ k 0
+  pub keptw : (y : ℕ) → 1 ≤ getD w y 0 → 1 ≤ getD w′ y 0
+  pub full : (i : ℕ) → i < n → Taken E w′ m′ (getD l i 0)
+  pub only : (k : ℕ) → k ≤ length E → 1 ≤ getD m′ k 0 → (1 ≤ getD m k 0) ⊎ ((i : ℕ) × (i < n) × (placeOf (getD l i 0) E ≡ k))
+  pub onlyw : (y : ℕ) → 1 ≤ getD w′ y 0 → (1 ≤ getD w y 0) ⊎ ((i : ℕ) × (i < n) × (getD l i 0 ≡ y))
+
+-- of a set value x whose byte is not 0 the members are met
+pub record Spread (U E : List (List ℕ)) (s w m : List ℕ) : Type 0 where
+  pub is : (x : ℕ) → 1 ≤ getD s x 0 → (i : ℕ) → i < length (named U x) → Taken E w m (getD (named U x) i 0)
+
+-- the parents on line i are met too
+pub record Expanded (U E : List (List ℕ)) (i : ℕ) (s w m q : List ℕ) (t : ℕ) (s′ w′ m′ q′ : List ℕ) (t′ : ℕ) : Type 0 where
   pub long : length s′ ≡ length s
-  pub grown : Grown E (parentsIn U E (getD E i [])) (length (parentsIn U E (getD E i []))) m q t m′ q′ t′
-  pub spread : Spread U E s′ m′
+  pub seen : Seen E (parentsIn U E (getD E i [])) (length (parentsIn U E (getD E i []))) w m q t w′ m′ q′ t′
+  pub spread : Spread U E s′ w′ m′
 
 -- v itself or one of its ancestors
 abbrev pub Self : List (List ℕ) → List (List ℕ) → ℕ → ℕ → Type 0
 Self U E v x = (x ≡ v) ⊎ (memN x (ancestors U E v) ≡ true)
 
--- the marks say which lines v reaches, its own among them
+-- the marks say which lines v reaches, its own among them, and whether one that is not listed
 pub record Reached (U E : List (List ℕ)) (v : ℕ) (m : List ℕ) : Type 0 where
-  pub only : (k : ℕ) → k < length E → 1 ≤ getD m k 0 → (x : ℕ) × (placeOf x E ≡ k) × Self U E v x
-  pub all : (x : ℕ) → Self U E v x → placeOf x E < length E → 1 ≤ getD m (placeOf x E) 0
+  pub only : (k : ℕ) → k ≤ length E → 1 ≤ getD m k 0 → (x : ℕ) × (placeOf x E ≡ k) × Self U E v x
+  pub all : (x : ℕ) → Self U E v x → 1 ≤ getD m (placeOf x E) 0
 
--- ---- what is asked of the marked lines
+-- the table says which values are ancestors of v; of one past its end there is a mark
+pub record Found (U E : List (List ℕ)) (v : ℕ) (w m : List ℕ) : Type 0 where
+  pub reached : Reached U E v m
+  pub only : (y : ℕ) → 1 ≤ getD w y 0 → memN y (ancestors U E v) ≡ true
+  pub all : (y : ℕ) → memN y (ancestors U E v) ≡ true → y < length w → 1 ≤ getD w y 0
+  pub far : (y : ℕ) → memN y (ancestors U E v) ≡ true → length w ≤ y → 1 ≤ getD m FAR 0
 
--- line i is marked, and f holds of it
+-- ---- what is asked of what was found
+
+-- place i is marked, and f holds of it
 unfoldable pub markedAt : (ℕ → Bool) → List ℕ → ℕ → Bool
 markedAt f m i = not (eqb (getD m i 0) 0) && f i
 
--- f holds of one of the marked lines from place i on, n of them
+-- f holds of one of the marked places from i on, n of them
 unfoldable pub anyMarked : (ℕ → Bool) → List ℕ → ℕ → ℕ → Bool
 anyMarked f m i zero = false
 anyMarked f m i (suc n) = markedAt f m i || anyMarked f m (suc i) n
 
--- one of these is a parent on line k
-unfoldable pub meetsAt : List (List ℕ) → List (List ℕ) → List ℕ → ℕ → Bool
-meetsAt U E l k = anyN l (parentsIn U E (getD E k []))
+-- t is a parent on line k
+unfoldable pub namesAt : List (List ℕ) → List (List ℕ) → ℕ → ℕ → Bool
+namesAt U E t k = memN t (parentsIn U E (getD E k []))
 
--- one of these is not listed
-unfoldable pub anyUnlisted : List (List ℕ) → List ℕ → Bool
-anyUnlisted E [] = false
-anyUnlisted E (y ∷ q) = leb (length E) (placeOf y E) || anyUnlisted E q
+-- the parents on line k are `?`
+unfoldable pub unknownAt : List (List ℕ) → ℕ → Bool
+unknownAt E k = eqb (at (getD E k []) 3) mark
 
--- the parents on line k are `?`, or one of them is not listed
-unfoldable pub openAt : List (List ℕ) → List (List ℕ) → ℕ → Bool
-openAt U E k = eqb (at (getD E k []) 3) mark || anyUnlisted E (parentsIn U E (getD E k []))
+-- t was met
+unfoldable pub isMet : List (List ℕ) → List (List ℕ) → List ℕ → List ℕ → ℕ → Bool
+isMet U E w m t = cond (ltb t (length w)) (not (eqb (getD w t 0) 0)) (not (eqb (getD m FAR 0) 0) && anyMarked (namesAt U E t) m 0 (length E))
 
--- f does not hold of a set value whose word is not 0
-pub record Tried (f : ℕ → Bool) (s : List ℕ) : Type 0 where
-  pub is : (x : ℕ) → 1 ≤ getD s x 0 → f x ≡ false
-
--- b says whether f holds of a marked line, g of the set value on it; where not, its set value was tried
-pub record Trial (g f : ℕ → Bool) (m : List ℕ) (k : ℕ) (s s′ : List ℕ) (b : Bool) : Type 0 where
-  pub long : length s′ ≡ length s
-  pub is : b ≡ markedAt f m k
-  pub tried : b ≡ false → Tried g s′
-
--- of set values: one of these is a member; it is `?` or a member is not listed
-unfoldable pub meetsSet : List (List ℕ) → List ℕ → ℕ → Bool
-meetsSet U l x = anyN l (named U x)
-
-unfoldable pub openSet : List (List ℕ) → List (List ℕ) → ℕ → Bool
-openSet U E x = eqb x mark || anyUnlisted E (named U x)
-
--- word y is not 0 exactly where y is one of these
-pub record Aimed (l t : List ℕ) : Type 0 where
-  pub is : (y : ℕ) → y < length t → memN y l ≡ not (eqb (getD t y 0) 0)
+-- one of these was
+unfoldable pub anyMet : List (List ℕ) → List (List ℕ) → List ℕ → List ℕ → List ℕ → Bool
+anyMet U E w m [] = false
+anyMet U E w m (t ∷ l) = isMet U E w m t || anyMet U E w m l

@@ -1,5 +1,5 @@
-// Entities reached through parents, over the rows in the lent words: the lines of entities are marked as they are reached and queued until
-// their parents are marked too. No line is expanded twice, and no set of parents.
+// Entities reached through parents, over the rows in the lent words: a parent is noted where it is first met, and its line is marked and queued
+// until its own parents are met too. No line is expanded twice, and no set of parents.
 use forms::ENTITY;
 use forms::MARK;
 use forms::SET_VALUE;
@@ -13,19 +13,25 @@ use value::members;
 use words::put;
 use words::read;
 ghost use mathlib.Core.Path.{_≡_};
+ghost use mathlib.Core.Bool.{not, _||_};
 ghost use mathlib.Core.List.{[], _∷_};
-ghost use Prim.Native.Nat.{_≤_};
-ghost use lib.ListN.{length, getD};
-ghost use Rattle.cedar.specs.Numbered.{memN, anyN};
+ghost use Prim.Native.Nat.{_≤_, _<_};
+ghost use lib.Dec.{eqb};
+ghost use lib.ListN.{length, getD, set};
 ghost use Rattle.sheet.specs.Forms.{VALUE};
 ghost use Rattle.sheet.specs.Parents.{parentsIn};
 ghost use Rattle.table.specs.Layout.{rowsOf};
-ghost use Rattle.reach.specs.Marks.{LINES, Aimed, lineRows, placeOf, Filled, Indexed, Queue, Grown, Spread, Expanded, Reached, anyMarked, meetsAt, anyUnlisted, openAt, Tried, Trial, meetsSet, openSet};
+ghost use Rattle.reach.specs.Marks.{LINES, VALUES, FAR, lineRows, placeOf, Filled, Indexed, Queue, Noted, Grown, Spot, Seen, Spread, Expanded, Found, markedAt, anyMarked, namesAt, unknownAt, isMet, anyMet};
 
-// The most entity lines, and the most values of a sheet: so many marks, and so many words of a table by value.
+// The most entity lines, and the most values of a sheet: so many bytes has a table by value.
 pub const LINES: usize = 128;
 
 pub const VALUES: usize = 1024;
+
+// After the marks of the lines comes the one of all entities that are not listed, then, here, that of parents whose numbers a table does not have.
+pub const FAR: usize = 129;
+
+pub const MARKS: usize = 130;
 
 // How many entity lines there are, none past the most.
 pub fn lines(rows: &[u32]) -> u32
@@ -63,8 +69,51 @@ pub fn place_of(rows: &[u32], value: u32) -> u32
     i
 }
 
+// How many values there are, none past the most.
+pub fn values(rows: &[u32]) -> usize
+    ensures { λ n. ⌜ n ≤ VALUES ⌝ }
+{
+    let n = count(rows, VALUE) as usize;
+    if n > VALUES {
+        return VALUES;
+    }
+    n
+}
+
+// ---- tables by value: bytes, so that little is cleared for each question
+
+// A byte of a table, 0 past its end.
+pub fn byte(bytes: &[u8], i: usize) -> u8
+    ensures { λ r. ⌜ r ≡ getD (now (bytes .entry)) i 0 ⌝ }
+{
+    if i < bytes.len() {
+        return bytes[i];
+    }
+    0
+}
+
+// Another byte in the place of one; nothing is stored past the end.
+fn put_byte(bytes: &mut [u8], i: usize, byte: u8)
+    ensures { λ _. ⌜ now (bytes .exit) ≡ set (now (bytes .entry)) i byte ⌝ }
+{
+    if i < bytes.len() {
+        bytes[i] = byte;
+    }
+}
+
+// All bytes become `byte`.
+fn fill_bytes(bytes: &mut [u8], byte: u8)
+    ensures { λ _. ⌜ Filled byte (now (bytes .entry)) (now (bytes .exit)) ⌝ }
+{
+    let mut i = 0;
+    while i < bytes.len() {
+        bytes[i] = byte;
+        i += 1;
+    }
+}
+
 // All words become `word`.
-pub fn fill(words: &mut [u32], word: u32)
+fn fill(words: &mut [u32], word: u32)
     ensures { λ _. ⌜ Filled word (now (words .entry)) (now (words .exit)) ⌝ }
 {
     let mut i = 0;
@@ -74,26 +123,26 @@ pub fn fill(words: &mut [u32], word: u32)
     }
 }
 
-// The word of each entity becomes the place of its line: from the last line to the first, so that the first one stays.
-fn index(rows: &[u32], places: &mut [u32])
+// The byte of each entity becomes the place of its line: from the last line to the first, so that the first one stays.
+fn index(rows: &[u32], places: &mut [u8])
     ensures { λ _. ⌜ Indexed (lineRows (now (rows .entry))) (now (places .exit)) ⌝ }
 {
     let mut i = lines(rows);
-    fill(places, i);
+    fill_bytes(places, i as u8);
     while i > 0 {
         i -= 1;
-        put(places, item(line_at(rows, i), 1) as usize, i);
+        put_byte(places, item(line_at(rows, i), 1) as usize, i as u8);
     }
 }
 
-// The place of the line of entity `value` by these words; a number past their end is looked for.
-fn place(rows: &[u32], places: &[u32], value: u32) -> u32
+// The place of the line of entity `value` by these bytes; a number past their end is looked for.
+fn place(rows: &[u32], places: &[u8], value: u32) -> u32
     requires { ⌜ Indexed (lineRows (now rows)) (now places) ⌝ }
     ensures { λ k. ⌜ k ≡ placeOf value (lineRows (now (rows .entry))) ⌝ }
 {
     let i = value as usize;
     if i < places.len() {
-        return places[i];
+        return places[i] as u32;
     }
     place_of(rows, value)
 }
@@ -113,10 +162,12 @@ pub fn parents_of(rows: &[u32], number: u32) -> &[u32]
     members(q)
 }
 
-// The line of entity `value` is reached; where it was not before it is queued. Back comes where the queue ends.
+// ---- the search
+
+// The line of entity `value` is marked; where it was not before it is queued. All that are not listed have one mark. Back comes where the queue ends.
 fn see_at(
     rows: &[u32],
-    places: &[u32],
+    places: &[u8],
     value: u32,
     marks: &mut [u32],
     queue: &mut [u32],
@@ -124,76 +175,122 @@ fn see_at(
 ) -> u32
     requires { ⌜ Indexed (lineRows (now rows)) (now places) ⌝ }
     requires { ⌜ Queue (lineRows (now rows)) (now marks) (now queue) end ⌝ }
-    ensures { λ e. ⌜ Grown (lineRows (now (rows .entry))) (value ∷ []) 1 (now (marks .entry)) (now (queue .entry)) end (now (marks .exit)) (now (queue .exit)) e ⌝ }
+    ensures { λ e. ⌜ Grown (lineRows (now (rows .entry))) value (now (marks .entry)) (now (queue .entry)) end (now (marks .exit)) (now (queue .exit)) e ⌝ }
 {
     let k = place(rows, places, value);
-    if k >= lines(rows) {
-        return end;
-    }
     let i = k as usize;
     if read(marks, i) != 0 {
         return end;
     }
     put(marks, i, 1);
+    if k >= lines(rows) {
+        return end;
+    }
     put(queue, end as usize, k);
     end + 1
 }
 
-// The lines of the entities of a list are reached.
-fn see(
+// A number that a table of this length does not have is marked as one.
+fn note(marks: &mut [u32], length: usize, value: u32)
+    ensures { λ _. ⌜ Noted length value (now (marks .entry)) (now (marks .exit)) ⌝ }
+{
+    if value as usize >= length {
+        put(marks, FAR, 1);
+    }
+}
+
+// Parent `value` is met; where it was not before its line is marked.
+fn meet(
     rows: &[u32],
-    places: &[u32],
-    list: &[u32],
+    places: &[u8],
+    value: u32,
+    met: &mut [u8],
     marks: &mut [u32],
     queue: &mut [u32],
     end: u32,
 ) -> u32
     requires { ⌜ Indexed (lineRows (now rows)) (now places) ⌝ }
     requires { ⌜ Queue (lineRows (now rows)) (now marks) (now queue) end ⌝ }
-    ensures { λ e. ⌜ Grown (lineRows (now (rows .entry))) (now (list .entry)) (length (now (list .entry))) (now (marks .entry)) (now (queue .entry)) end (now (marks .exit)) (now (queue .exit)) e ⌝ }
+    requires { ⌜ Spot (lineRows (now rows)) (now met) (now marks) ⌝ }
+    ensures { λ e. ⌜ Seen (lineRows (now (rows .entry))) (value ∷ []) 1 (now (met .entry)) (now (marks .entry)) (now (queue .entry)) end (now (met .exit)) (now (marks .exit)) (now (queue .exit)) e ⌝ }
+{
+    let i = value as usize;
+    if byte(met, i) != 0 {
+        return end;
+    }
+    put_byte(met, i, 1);
+    note(marks, met.len(), value);
+    see_at(rows, places, value, marks, queue, end)
+}
+
+// The parents of a list are met.
+fn see(
+    rows: &[u32],
+    places: &[u8],
+    list: &[u32],
+    met: &mut [u8],
+    marks: &mut [u32],
+    queue: &mut [u32],
+    end: u32,
+) -> u32
+    requires { ⌜ Indexed (lineRows (now rows)) (now places) ⌝ }
+    requires { ⌜ Queue (lineRows (now rows)) (now marks) (now queue) end ⌝ }
+    requires { ⌜ Spot (lineRows (now rows)) (now met) (now marks) ⌝ }
+    ensures { λ e. ⌜ Seen (lineRows (now (rows .entry))) (now (list .entry)) (length (now (list .entry))) (now (met .entry)) (now (marks .entry)) (now (queue .entry)) end (now (met .exit)) (now (marks .exit)) (now (queue .exit)) e ⌝ }
 {
     let mut e = end;
     let mut i = 0;
     while i < list.len() {
-        e = see_at(rows, places, list[i], marks, queue, e);
+        e = meet(rows, places, list[i], met, marks, queue, e);
         i += 1;
     }
     e
 }
 
-// The lines of the parents of line `number` are reached, once for each set of parents.
+// The parents of line `number` are met, once for each set of parents.
 fn expand(
     rows: &[u32],
-    places: &[u32],
+    places: &[u8],
     number: u32,
-    asked: &mut [u32],
+    asked: &mut [u8],
+    met: &mut [u8],
     marks: &mut [u32],
     queue: &mut [u32],
     end: u32,
 ) -> u32
     requires { ⌜ Indexed (lineRows (now rows)) (now places) ⌝ }
     requires { ⌜ Queue (lineRows (now rows)) (now marks) (now queue) end ⌝ }
-    requires { ⌜ Spread (rowsOf (now rows) VALUE) (lineRows (now rows)) (now asked) (now marks) ⌝ }
-    ensures { λ e. ⌜ Expanded (rowsOf (now (rows .entry)) VALUE) (lineRows (now (rows .entry))) number (now (asked .entry)) (now (marks .entry)) (now (queue .entry)) end (now (asked .exit)) (now (marks .exit)) (now (queue .exit)) e ⌝ }
+    requires { ⌜ Spot (lineRows (now rows)) (now met) (now marks) ⌝ }
+    requires { ⌜ Spread (rowsOf (now rows) VALUE) (lineRows (now rows)) (now asked) (now met) (now marks) ⌝ }
+    ensures { λ e. ⌜ Expanded (rowsOf (now (rows .entry)) VALUE) (lineRows (now (rows .entry))) number (now (asked .entry)) (now (met .entry)) (now (marks .entry)) (now (queue .entry)) end (now (asked .exit)) (now (met .exit)) (now (marks .exit)) (now (queue .exit)) e ⌝ }
 {
     let x = item(line_at(rows, number), 4) as usize;
-    if read(asked, x) != 0 {
+    if byte(asked, x) != 0 {
         return end;
     }
-    put(asked, x, 1);
-    see(rows, places, parents_of(rows, number), marks, queue, end)
+    put_byte(asked, x, 1);
+    see(
+        rows,
+        places,
+        parents_of(rows, number),
+        met,
+        marks,
+        queue,
+        end,
+    )
 }
 
-// Marks the lines that entity `value` reaches, its own among them.
-pub fn reach(rows: &[u32], value: u32, marks: &mut [u32])
-    requires { ⌜ length (lineRows (now rows)) ≤ length (now marks) ⌝ }
-    ensures { λ _. ⌜ Reached (rowsOf (now (rows .entry)) VALUE) (lineRows (now (rows .entry))) value (now (marks .exit)) ⌝ }
+// Marks the lines that entity `value` reaches, its own among them, and notes the ancestors met.
+pub fn reach(rows: &[u32], value: u32, met: &mut [u8], marks: &mut [u32])
+    requires { ⌜ FAR < length (now marks) ⌝ }
+    ensures { λ _. ⌜ Found (rowsOf (now (rows .entry)) VALUE) (lineRows (now (rows .entry))) value (now (met .exit)) (now (marks .exit)) ⌝ }
 {
     fill(marks, 0);
-    let mut places: [u32; VALUES] = [0; VALUES];
+    fill_bytes(met, 0);
+    let mut places: [u8; VALUES] = [0; VALUES];
     index(rows, &mut places[..]);
-    let mut asked: [u32; VALUES] = [0; VALUES];
-    fill(&mut asked[..], 0);
+    let mut asked: [u8; VALUES] = [0; VALUES];
+    fill_bytes(&mut asked[..], 0);
     let mut queue: [u32; LINES] = [0; LINES];
     let mut end = see_at(rows, &places[..], value, marks, &mut queue[..], 0);
     let mut i = 0;
@@ -203,6 +300,7 @@ pub fn reach(rows: &[u32], value: u32, marks: &mut [u32])
             &places[..],
             read(&queue[..], i as usize),
             &mut asked[..],
+            met,
             marks,
             &mut queue[..],
             end,
@@ -211,40 +309,54 @@ pub fn reach(rows: &[u32], value: u32, marks: &mut [u32])
     }
 }
 
-// ---- what is asked of the lines that are marked
+// ---- what is asked of what was found
 
-// The word of each target becomes 1, the others 0.
-fn aim(targets: &[u32], aims: &mut [u32])
-    ensures { λ _. ⌜ Aimed (now (targets .entry)) (now (aims .exit)) ⌝ }
+// Whether line `number` is marked and names parent `value`.
+fn names_at(rows: &[u32], marks: &[u32], number: u32, value: u32) -> bool
+    ensures { λ r. ⌜ r ≡ markedAt (namesAt (rowsOf (now (rows .entry)) VALUE) (lineRows (now (rows .entry))) value) (now (marks .entry)) number ⌝ }
 {
-    fill(aims, 0);
-    let mut i = targets.len();
-    while i > 0 {
-        i -= 1;
-        put(aims, read(targets, i) as usize, 1);
+    if read(marks, number as usize) == 0 {
+        return false;
     }
+    contains(parents_of(rows, number), value)
 }
 
-// Whether `value` is a target, by these words; a number past their end is looked for.
-fn is_aim(targets: &[u32], aims: &[u32], value: u32) -> bool
-    requires { ⌜ Aimed (now targets) (now aims) ⌝ }
-    ensures { λ r. ⌜ r ≡ memN value (now (targets .entry)) ⌝ }
+// Whether a marked line names parent `value`.
+fn names(rows: &[u32], marks: &[u32], value: u32) -> bool
+    ensures { λ r. ⌜ r ≡ anyMarked (namesAt (rowsOf (now (rows .entry)) VALUE) (lineRows (now (rows .entry))) value) (now (marks .entry)) 0 (length (lineRows (now (rows .entry)))) ⌝ }
+{
+    let n = lines(rows);
+    let mut i = 0;
+    while i < n {
+        if names_at(rows, marks, i, value) {
+            return true;
+        }
+        i += 1;
+    }
+    false
+}
+
+// Whether parent `value` was met; a number past the table is looked for on the marked lines, if there was such a one.
+fn is_met(rows: &[u32], met: &[u8], marks: &[u32], value: u32) -> bool
+    ensures { λ r. ⌜ r ≡ isMet (rowsOf (now (rows .entry)) VALUE) (lineRows (now (rows .entry))) (now (met .entry)) (now (marks .entry)) value ⌝ }
 {
     let i = value as usize;
-    if i < aims.len() {
-        return aims[i] != 0;
+    if i < met.len() {
+        return met[i] != 0;
     }
-    contains(targets, value)
+    if read(marks, FAR) == 0 {
+        return false;
+    }
+    names(rows, marks, value)
 }
 
-// Whether a target is in a list.
-fn any_aim(targets: &[u32], aims: &[u32], list: &[u32]) -> bool
-    requires { ⌜ Aimed (now targets) (now aims) ⌝ }
-    ensures { λ r. ⌜ r ≡ anyN (now (targets .entry)) (now (list .entry)) ⌝ }
+// Whether one of these was met.
+pub fn meets_above(rows: &[u32], targets: &[u32], met: &[u8], marks: &[u32]) -> bool
+    ensures { λ r. ⌜ r ≡ anyMet (rowsOf (now (rows .entry)) VALUE) (lineRows (now (rows .entry))) (now (met .entry)) (now (marks .entry)) (now (targets .entry)) ⌝ }
 {
     let mut i = 0;
-    while i < list.len() {
-        if is_aim(targets, aims, list[i]) {
+    while i < targets.len() {
+        if is_met(rows, met, marks, targets[i]) {
             return true;
         }
         i += 1;
@@ -252,98 +364,27 @@ fn any_aim(targets: &[u32], aims: &[u32], list: &[u32]) -> bool
     false
 }
 
-// Whether line `number` is marked and a target is a parent on it, in a set of parents that was not asked before.
-fn meets_at(
-    rows: &[u32],
-    targets: &[u32],
-    aims: &[u32],
-    marks: &[u32],
-    number: u32,
-    asked: &mut [u32],
-) -> bool
-    requires { ⌜ Aimed (now targets) (now aims) ⌝ }
-    requires { ⌜ Tried (meetsSet (rowsOf (now rows) VALUE) (now targets)) (now asked) ⌝ }
-    ensures { λ r. ⌜ Trial (meetsSet (rowsOf (now (rows .entry)) VALUE) (now (targets .entry))) (meetsAt (rowsOf (now (rows .entry)) VALUE) (lineRows (now (rows .entry))) (now (targets .entry))) (now (marks .entry)) number (now (asked .entry)) (now (asked .exit)) r ⌝ }
+// Whether line `number` is marked and the parents on it are unknown.
+fn unknown_at(rows: &[u32], marks: &[u32], number: u32) -> bool
+    ensures { λ r. ⌜ r ≡ markedAt (unknownAt (lineRows (now (rows .entry)))) (now (marks .entry)) number ⌝ }
 {
     if read(marks, number as usize) == 0 {
         return false;
     }
-    let x = item(line_at(rows, number), 4) as usize;
-    if read(asked, x) != 0 {
-        return false;
-    }
-    put(asked, x, 1);
-    any_aim(targets, aims, parents_of(rows, number))
+    item(line_at(rows, number), 4) == MARK
 }
 
-// Whether a target is a parent on a marked line.
-pub fn meets_above(rows: &[u32], targets: &[u32], marks: &[u32]) -> bool
-    ensures { λ r. ⌜ r ≡ anyMarked (meetsAt (rowsOf (now (rows .entry)) VALUE) (lineRows (now (rows .entry))) (now (targets .entry))) (now (marks .entry)) 0 (length (lineRows (now (rows .entry)))) ⌝ }
+// Whether one that is not listed was met, or the parents on a marked line are unknown.
+pub fn open_above(rows: &[u32], marks: &[u32]) -> bool
+    ensures { λ r. ⌜ r ≡ (not (eqb (getD (now (marks .entry)) (length (lineRows (now (rows .entry)))) 0) 0) || anyMarked (unknownAt (lineRows (now (rows .entry)))) (now (marks .entry)) 0 (length (lineRows (now (rows .entry))))) ⌝ }
 {
     let n = lines(rows);
-    let mut aims: [u32; VALUES] = [0; VALUES];
-    aim(targets, &mut aims[..]);
-    let mut asked: [u32; VALUES] = [0; VALUES];
-    fill(&mut asked[..], 0);
-    let mut i = 0;
-    while i < n {
-        if meets_at(rows, targets, &aims[..], marks, i, &mut asked[..]) {
-            return true;
-        }
-        i += 1;
-    }
-    false
-}
-
-// Whether an entity of a list is not listed.
-fn any_unlisted(rows: &[u32], places: &[u32], list: &[u32]) -> bool
-    requires { ⌜ Indexed (lineRows (now rows)) (now places) ⌝ }
-    ensures { λ r. ⌜ r ≡ anyUnlisted (lineRows (now (rows .entry))) (now (list .entry)) ⌝ }
-{
-    let n = lines(rows);
-    let mut i = 0;
-    while i < list.len() {
-        if place(rows, places, list[i]) >= n {
-            return true;
-        }
-        i += 1;
-    }
-    false
-}
-
-// Whether line `number` is marked, and the parents on it are unknown or one of them is not listed.
-fn open_at(rows: &[u32], places: &[u32], marks: &[u32], number: u32, asked: &mut [u32]) -> bool
-    requires { ⌜ Indexed (lineRows (now rows)) (now places) ⌝ }
-    requires { ⌜ Tried (openSet (rowsOf (now rows) VALUE) (lineRows (now rows))) (now asked) ⌝ }
-    ensures { λ r. ⌜ Trial (openSet (rowsOf (now (rows .entry)) VALUE) (lineRows (now (rows .entry)))) (openAt (rowsOf (now (rows .entry)) VALUE) (lineRows (now (rows .entry)))) (now (marks .entry)) number (now (asked .entry)) (now (asked .exit)) r ⌝ }
-{
-    if read(marks, number as usize) == 0 {
-        return false;
-    }
-    let x = item(line_at(rows, number), 4);
-    if x == MARK {
+    if read(marks, n as usize) != 0 {
         return true;
     }
-    let i = x as usize;
-    if read(asked, i) != 0 {
-        return false;
-    }
-    put(asked, i, 1);
-    any_unlisted(rows, places, parents_of(rows, number))
-}
-
-// Whether a marked line is open in this way.
-pub fn open_above(rows: &[u32], marks: &[u32]) -> bool
-    ensures { λ r. ⌜ r ≡ anyMarked (openAt (rowsOf (now (rows .entry)) VALUE) (lineRows (now (rows .entry)))) (now (marks .entry)) 0 (length (lineRows (now (rows .entry)))) ⌝ }
-{
-    let n = lines(rows);
-    let mut places: [u32; VALUES] = [0; VALUES];
-    index(rows, &mut places[..]);
-    let mut asked: [u32; VALUES] = [0; VALUES];
-    fill(&mut asked[..], 0);
     let mut i = 0;
     while i < n {
-        if open_at(rows, &places[..], marks, i, &mut asked[..]) {
+        if unknown_at(rows, marks, i) {
             return true;
         }
         i += 1;

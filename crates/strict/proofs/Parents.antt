@@ -3,8 +3,9 @@ use mathlib.Core.Path.{_≡_, refl, sym, ap, _∙_}
 use mathlib.Core.Bool.{Bool, true, false, not, cond, _&&_, _||_}
 use mathlib.Core.Option.{Option, none, some}
 use mathlib.Core.List.{List, [], _∷_}
-use Prim.Native.Nat.{ℕ, _≤_, _<_}
+use Prim.Native.Nat.{ℕ}
 use native.Mathlib.Omega.{arith}
+use lib.Dec.{eqb}
 use lib.ListN.{getD, length, take}
 use Rattle.cedar.specs.Evaluate.{isNil}
 use Rattle.cedar.specs.Rows.{rset}
@@ -15,8 +16,8 @@ use Rattle.sheet.specs.Parents.{ancestors, unknownAbove}
 use Rattle.table.specs.Layout.{held, linesHeld, rowsOf}
 use Rattle.value.specs.declared.Entry.{Entry}
 use Rattle.value.specs.declared.Entry.the-variants.{At, Nothing}
-use Rattle.reach.specs.Marks.{LINES, lineRows, placeOf, Reached, anyMarked, meetsAt, openAt}
-use Rattle.reach.proofs.Asking.{meets-is, open-is, unlisted-is}
+use Rattle.reach.specs.Marks.{LINES, lineRows, Found, anyMarked, anyMet, unknownAt}
+use Rattle.reach.proofs.Asking.{meets-is, open-is}
 use Rattle.reach.proofs.Steps.{any-none}
 use Rattle.strict.specs.Gives.{outOf, values, modeOf, envIn}
 use Rattle.strict.specs.Lookups.{stateIn, lineIn, lineAt, aboveIn, Unknowns, Above, inLineOut, inUnlistedOut, inUnknownOut, inListOut}
@@ -51,25 +52,21 @@ module _ (c : Bool) (a : List ℕ) (v : ℕ) where
     pub unknown-complete : c ≡ true → Unknowns c a v marks false
     unknown-complete e = record { is = λ h. sym (ap (λ (b : Bool). not b && unknownAbove (rowsOf a VALUE) (lineRows a) v) e) }
 
-    module _ (e : c ≡ false) (k n : ℕ) (ek : k ≡ placeOf v (lineRows a)) (en : (n ≡ length (lineRows a)) × (n ≤ LINES)) where
-      pub unknown-far : n ≤ k → Unknowns c a v marks true
-      unknown-far l = record { is = λ h. sym (ap (λ (b : Bool). not b && unknownAbove (rowsOf a VALUE) (lineRows a) v) e ∙ unlisted-is (rowsOf a VALUE) (lineRows a) v (let z = en .0 in omega (arith, z, ek, l))) }
+    pub unknown-open : c ≡ false → (r : Bool) → r ≡ (not (eqb (getD marks (length (lineRows a)) 0) 0) || anyMarked (unknownAt (lineRows a)) marks 0 (length (lineRows a))) → Unknowns c a v marks r
+    unknown-open e r er = record { is = λ h. er ∙ open-is (rowsOf a VALUE) (lineRows a) v marks h ∙ sym (ap (λ (b : Bool). not b && unknownAbove (rowsOf a VALUE) (lineRows a) v) e) }
 
-      pub unknown-near : k < n → (r : Bool) → r ≡ anyMarked (openAt (rowsOf a VALUE) (lineRows a)) marks 0 (length (lineRows a)) → Unknowns c a v marks r
-      unknown-near l r er = record { is = λ h. er ∙ open-is (rowsOf a VALUE) (lineRows a) v marks h (let z = en .0 in omega (arith, z, ek, l)) ∙ sym (ap (λ (b : Bool). not b && unknownAbove (rowsOf a VALUE) (lineRows a) v) e) }
-
-    module _ (h : Reached (rowsOf a VALUE) (lineRows a) v marks) (u : Bool) (eu : Unknowns c a v marks u) (m : ℕ) (l : List ℕ) where
+    module _ (met : List ℕ) (h : Found (rowsOf a VALUE) (lineRows a) v met marks) (u : Bool) (eu : Unknowns c a v marks u) (m : ℕ) (l : List ℕ) where
       out-by : inLineOut c a m v l ≡ nIn (values a) m (cond u none (some (made (rset (ancestors (rowsOf a VALUE) (lineRows a) v))))) l
       unfolding inLineOut
-      out-by = ap (λ (o : Option Give). nIn (values a) m o l) (above-is ∙ ap (λ (b : Bool). cond b none (some (made (rset (ancestors (rowsOf a VALUE) (lineRows a) v))))) (sym (eu .is h)))
+      out-by = ap (λ (o : Option Give). nIn (values a) m o l) (above-is ∙ ap (λ (b : Bool). cond b none (some (made (rset (ancestors (rowsOf a VALUE) (lineRows a) v))))) (sym (eu .is (h .reached))))
 
       pub above-unknown : u ≡ true → Above c a m v l Stays
       above-unknown e = record { is = λ n k. sym (out-by ∙ ap (λ (b : Bool). nIn (values a) m (cond b none (some (made (rset (ancestors (rowsOf a VALUE) (lineRows a) v))))) l) e ∙ rw (n, k)) }
 
-      pub above-known : u ≡ false → (d : Bool) → d ≡ anyMarked (meetsAt (rowsOf a VALUE) (lineRows a) l) marks 0 (length (lineRows a)) → Above c a m v l (Boolᵍ d)
+      pub above-known : u ≡ false → (d : Bool) → d ≡ anyMet (rowsOf a VALUE) (lineRows a) met marks l → Above c a m v l (Boolᵍ d)
       above-known e d ed = record {
         is = λ n k. sym (out-by ∙ ap (λ (b : Bool). nIn (values a) m (cond b none (some (made (rset (ancestors (rowsOf a VALUE) (lineRows a) v))))) l) e
-            ∙ ap (λ (b : Bool). truly (b || anyN l (ancestors (rowsOf a VALUE) (lineRows a) v))) n ∙ ap truly (sym (ed ∙ meets-is (rowsOf a VALUE) (lineRows a) v marks h l)));
+            ∙ ap (λ (b : Bool). truly (b || anyN l (ancestors (rowsOf a VALUE) (lineRows a) v))) n ∙ ap truly (sym (ed ∙ meets-is (rowsOf a VALUE) (lineRows a) v met marks h l)));
       }
 
   module _ (m : ℕ) (l : List ℕ) (b : Bool) (eb : b ≡ memN m l) where

@@ -4,12 +4,12 @@ use crate::Given;
 use forms::ENTITY;
 use forms::MARK;
 use forms::VALUE;
-use reach::LINES;
-use reach::lines;
+use reach::MARKS;
+use reach::VALUES;
 use reach::meets_above;
 use reach::open_above;
-use reach::place_of;
 use reach::reach;
+use reach::values;
 use table::base_of;
 use table::count;
 use table::item;
@@ -23,12 +23,13 @@ use value::row_of;
 use value::shape_of;
 use words::read;
 ghost use mathlib.Core.Path.{_≡_};
-ghost use Prim.Native.Nat.{_≤_};
-ghost use lib.ListN.{getD};
+ghost use Prim.Native.Nat.{_≤_, _<_};
+ghost use lib.ListN.{getD, length};
 ghost use Rattle.words.specs.Log.{part};
 ghost use Rattle.sheet.specs.Forms.{ENTITY};
 ghost use Rattle.table.specs.Layout.{rowsOf};
 ghost use Rattle.cedar.specs.Numbered.{allRent};
+ghost use Rattle.reach.specs.Marks.{FAR};
 ghost use Rattle.strict.specs.Gives.{outOf, values, valueIn};
 ghost use Rattle.strict.specs.Lookups.{TAGS, textThere, isEntityAt, lineAt, lineIn, partOf, partIn, lookRow, lookIn, lookAttr, takenOf, presentOf, getOut, hasOut, tagLook, gettagOut, hastagOut, isRentAt, inUnknownOut, Unknowns, Above, inLineOut, inUnlistedOut, inListOut, inOut, walkFrom};
 
@@ -284,22 +285,45 @@ fn is_unknown(rows: &[u32], complete: bool, listed: u32, marks: &[u32]) -> bool
     if complete {
         return false;
     }
-    if place_of(rows, listed) >= lines(rows) {
-        return true;
-    }
     open_above(rows, marks)
+}
+
+// The same of one of these, with tables for what is met and marked.
+fn in_found(
+    rows: &[u32],
+    complete: bool,
+    value: u32,
+    listed: u32,
+    list: &[u32],
+    met: &mut [u8],
+    marks: &mut [u32],
+) -> Given
+    requires { ⌜ FAR < length (now marks) ⌝ }
+    ensures { λ r. ⌜ Above complete (now (rows .entry)) value listed (now (list .entry)) r ⌝ }
+{
+    reach(rows, listed, met, marks);
+    if is_unknown(rows, complete, listed, marks) {
+        return Given::Stays;
+    }
+    Given::Bool(meets_above(rows, list, met, marks))
 }
 
 // Whether an ancestor of entity `value`, whose line names it `listed`, is among these; itself it is not.
 fn in_above(rows: &[u32], complete: bool, value: u32, listed: u32, list: &[u32]) -> Given
     ensures { λ r. ⌜ Above complete (now (rows .entry)) value listed (now (list .entry)) r ⌝ }
 {
-    let mut marks: [u32; LINES] = [0; LINES];
-    reach(rows, listed, &mut marks[..]);
-    if is_unknown(rows, complete, listed, &marks[..]) {
-        return Given::Stays;
-    }
-    Given::Bool(meets_above(rows, list, &marks[..]))
+    let mut marks: [u32; MARKS] = [0; MARKS];
+    let mut met: [u8; VALUES] = [0; VALUES];
+    let n = values(rows);
+    in_found(
+        rows,
+        complete,
+        value,
+        listed,
+        list,
+        &mut met[..n],
+        &mut marks[..],
+    )
 }
 
 // Whether entity `value`, whose line names it `listed`, or one of its ancestors is among these.

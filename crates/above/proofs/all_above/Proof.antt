@@ -7,10 +7,10 @@ use Rattle.above.proofs.all_above.Statement.{statement}
 use Rattle.above.proofs.all_above.Tie as tie
 
 abbrev Inv-loop : tie.InvT-loop
-Inv-loop rows kind list fits₀ i₀ fits i = Kinds rows kind list fits₀ fits i
+Inv-loop rows kind list i₀ i = Kinds rows kind list i
 
 abbrev μ-loop : tie.MeasureT-loop
-μ-loop rows kind list fits₀ i₀ fits i = length list - i
+μ-loop rows kind list i₀ i = length list - i
 
 loop-holds : tie.Need-loop-holds Inv-loop μ-loop
 loop-holds c = search (kinds-start, needs)
@@ -34,10 +34,8 @@ all-above-spec =
     (λ c. search needs)
     (λ c. search needs)
     (λ c κs. search needs)
-    (λ c. search needs)
     returns
     (λ c. search needs)
     (λ c. search needs)
     loop-again
-    (λ c. search needs)
     returns-2)

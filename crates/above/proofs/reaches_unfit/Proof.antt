@@ -1,22 +1,24 @@
 -- `above::reaches_unfit` meets its contract. Assumes nothing.
-use Rattle.reach.proofs.Steps.{lines-most}
-use Rattle.above.proofs.Fits.{unfit-is}
+use mathlib.Core.Path.{sym}
+use lib.Seq.{length-take-le}
+use Rattle.above.proofs.Fits.{cut-most}
 use borrow.Author.Needs.{needs}
 use Rattle.above.proofs.reaches_unfit.Statement.{statement}
 use Rattle.above.proofs.reaches_unfit.Tie as tie
 
-reach-requires : tie.Need-reach-requires
-reach-requires c κs = lines-most _
+slice-aggregate-found-unfit : tie.Need-slice-aggregate-found-unfit
+slice-aggregate-found-unfit c = sym (length-take-le _ _ (search needs))
 
-returns : tie.Need-returns
-returns c = search (unfit-is, needs)
+found-unfit-requires : tie.Need-found-unfit-requires
+found-unfit-requires c κs = let v = c .before .before .values in (cut-most (v .result) _ (v .ensures), search needs)
 
 pub reaches-unfit-spec : {M : Type 1} → statement M
 reaches-unfit-spec =
     tie.close
     (tie.spec
-    (λ c. search needs)
-    reach-requires
-    (λ c. search needs)
     (λ c κs. search needs)
-    returns)
+    (λ c. search needs)
+    slice-aggregate-found-unfit
+    (λ c. search needs)
+    found-unfit-requires
+    (λ c. search needs))

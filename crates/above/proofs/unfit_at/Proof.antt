@@ -1,17 +1,15 @@
 -- `above::unfit_at` meets its contract. Assumes nothing.
-use Rattle.above.proofs.Fits.{unfit-new, unfit-none, unfit-old}
+use Rattle.reach.proofs.Steps.{mark-none}
+use Rattle.above.proofs.Fits.{unfit-some}
 use borrow.Author.Needs.{needs}
 use Rattle.above.proofs.unfit_at.Statement.{statement}
 use Rattle.above.proofs.unfit_at.Tie as tie
 
 returns : tie.Need-returns
-returns c = search (unfit-none, needs)
+returns c = search (mark-none, needs)
 
 returns-2 : tie.Need-returns-2
-returns-2 c = search (unfit-old, needs)
-
-returns-3 : tie.Need-returns-3
-returns-3 c = search (unfit-new, needs)
+returns-2 c = search (unfit-some, needs)
 
 pub unfit-at-spec : {M : Type 1} → statement M
 unfit-at-spec =
@@ -21,13 +19,4 @@ unfit-at-spec =
     returns
     (λ c κs. search needs)
     (λ c κs. search needs)
-    (λ c. search needs)
-    (λ c κs. search needs)
-    (λ c. search needs)
-    returns-2
-    (λ c κs. search needs)
-    (λ c κs. search needs)
-    (λ c κs. search needs)
-    (λ c. search needs)
-    (λ c. search needs)
-    returns-3)
+    returns-2)

@@ -1,5 +1,5 @@
 -- `reach::index` meets its contract. Assumes nothing.
-use Rattle.reach.proofs.Steps.{Indexing, index-end, index-on, index-start}
+use Rattle.reach.proofs.Steps.{Indexing, index-byte, index-end, index-on, index-start}
 use borrow.Author.Needs.{needs}
 use Rattle.reach.proofs.index.Statement.{statement}
 use Rattle.reach.proofs.index.Tie as tie
@@ -12,6 +12,9 @@ abbrev μ-loop : tie.MeasureT-loop
 
 loop-holds : tie.Need-loop-holds Inv-loop μ-loop
 loop-holds c = search (index-start, needs)
+
+cast-put-byte-2 : tie.Need-cast-put-byte-2 Inv-loop μ-loop
+cast-put-byte-2 c = search (index-byte, needs)
 
 loop-again : tie.Need-loop-again Inv-loop μ-loop
 loop-again c = search (index-on, needs)
@@ -26,12 +29,14 @@ index-spec =
     Inv-loop
     μ-loop
     (λ c κs. search needs)
+    (λ c. search needs)
     (λ c κs. search needs)
     loop-holds
     (λ c. search needs)
     (λ c κs. search needs)
     (λ c κs. search needs)
     (λ c. search needs)
+    cast-put-byte-2
     (λ c κs. search needs)
     (λ c. search needs)
     loop-again

@@ -1,15 +1,16 @@
 -- `reach::meets_above` meets its contract. Assumes nothing.
 use Prim.Native.Nat.{_-_}
+use lib.ListN.{length}
 use Rattle.reach.proofs.Steps.{Meeting, meeting-end, meeting-no, meeting-start, meeting-yes}
 use borrow.Author.Needs.{needs}
 use Rattle.reach.proofs.meets_above.Statement.{statement}
 use Rattle.reach.proofs.meets_above.Tie as tie
 
 abbrev Inv-loop : tie.InvT-loop
-Inv-loop rows targets marks n aims asked₀ i₀ asked i = Meeting rows targets aims marks n i asked
+Inv-loop rows targets met marks i₀ i = Meeting rows met marks targets i
 
 abbrev μ-loop : tie.MeasureT-loop
-μ-loop rows targets marks n aims asked₀ i₀ asked i = n - i
+μ-loop rows targets met marks i₀ i = length targets - i
 
 loop-holds : tie.Need-loop-holds Inv-loop μ-loop
 loop-holds c = search (meeting-start, needs)
@@ -29,11 +30,6 @@ meets-above-spec =
     (tie.spec
     Inv-loop
     μ-loop
-    (λ c κs. search needs)
-    (λ c. search needs)
-    (λ c κs. search needs)
-    (λ c. search needs)
-    (λ c κs. search needs)
     loop-holds
     (λ c. search needs)
     (λ c. search needs)

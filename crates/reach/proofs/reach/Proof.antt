@@ -8,24 +8,27 @@ use Rattle.reach.proofs.reach.Statement.{statement}
 use Rattle.reach.proofs.reach.Tie as tie
 
 abbrev Inv-loop : tie.InvT-loop
-Inv-loop rows value marks₀ places asked₀ queue₀ end₀ i₀ marks asked queue end i = Going rows value places marks₀ asked marks queue end i
+Inv-loop rows value met₀ marks₀ places asked₀ queue₀ end₀ i₀ met marks asked queue end i = Going rows value places met₀ marks₀ asked met marks queue end i
 
 abbrev μ-loop : tie.MeasureT-loop
-μ-loop rows value marks₀ places asked₀ queue₀ end₀ i₀ marks asked queue end i = length (lineRows rows) - i
+μ-loop rows value met₀ marks₀ places asked₀ queue₀ end₀ i₀ met marks asked queue end i = length (lineRows rows) - i
 
 see-at-requires : tie.Need-see-at-requires Inv-loop μ-loop
 see-at-requires c κs =
     let x = c .before .before .before .before .before .before .before in
-    let f = x .before .before .before .before in
-    (x .index .ensures, reach-queue _ 0 _ _ _ (f .before .before .before .before .pre) (f .fill .ensures) (search needs))
+    let f = x .before .before .before .before .before .before .before .before in
+    (x .index .ensures, reach-queue _ 0 _ _ _ (f .before .before .before .before .before .pre) (f .fill .ensures) (search needs))
 
 loop-holds : tie.Need-loop-holds Inv-loop μ-loop
 loop-holds c =
     let s = c .before .before .before in
     let a = s .before .before .before .before .before in
     let x = a .before .before .before in
-    let f = x .before .before .before .before in
-    going-start _ _ _ _ _ _ _ _ _ _ _ (f .before .before .before .before .pre) (f .fill .ensures) (search needs) (search needs) (search needs) (a .fill2 .ensures) (x .index .ensures) (s .see-at .ensures)
+    let f = x .before .before .before .before .before .before .before .before in
+    going-start _ _ _ _ _ _ _ _ _ _ _ _ _ (f .before .before .before .before .before .pre) (f .fill .ensures) (x .before .before .before .before .fill-bytes .ensures) (search needs) (search needs) (search needs) (a .fill-bytes2 .ensures) (x .index .ensures) (s .see-at .ensures)
+
+expand-requires : tie.Need-expand-requires Inv-loop μ-loop
+expand-requires c κs = let w = c .before .before .before .before .before .before .before .before .loop .inv in (w .indexed, (w .queue, (w .spot, w .spread)))
 
 loop-less : tie.Need-loop-less Inv-loop μ-loop
 loop-less c = search (going-less, needs)
@@ -43,6 +46,7 @@ reach-spec =
     Inv-loop
     μ-loop
     (λ c κs. search needs)
+    (λ c κs. search needs)
     (λ c. search needs)
     (λ c κs. search needs)
     (λ c. search needs)
@@ -57,9 +61,10 @@ reach-spec =
     (λ c κs. search needs)
     (λ c. search needs)
     (λ c. search needs)
-    (λ c κs. search needs)
+    expand-requires
     (λ c. search needs)
     loop-less
     loop-again
+    (λ c. search needs)
     (λ c. search needs)
     returns)

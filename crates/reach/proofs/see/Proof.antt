@@ -7,10 +7,10 @@ use Rattle.reach.proofs.see.Statement.{statement}
 use Rattle.reach.proofs.see.Tie as tie
 
 abbrev Inv-loop : tie.InvT-loop
-Inv-loop rows places list marks₀ queue₀ end e₀ i₀ marks queue e i = Seeing rows places list marks₀ queue₀ end marks queue e i
+Inv-loop rows places list met₀ marks₀ queue₀ end e₀ i₀ met marks queue e i = Seeing rows places list met₀ marks₀ queue₀ end met marks queue e i
 
 abbrev μ-loop : tie.MeasureT-loop
-μ-loop rows places list marks₀ queue₀ end e₀ i₀ marks queue e i = length list - i
+μ-loop rows places list met₀ marks₀ queue₀ end e₀ i₀ met marks queue e i = length list - i
 
 loop-holds : tie.Need-loop-holds Inv-loop μ-loop
 loop-holds c = search (seeing-start, needs)
@@ -34,6 +34,7 @@ see-spec =
     (λ c. search needs)
     (λ c. search needs)
     loop-again
+    (λ c. search needs)
     (λ c. search needs)
     (λ c. search needs)
     returns)

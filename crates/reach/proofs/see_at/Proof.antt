@@ -5,10 +5,10 @@ use Rattle.reach.proofs.see_at.Statement.{statement}
 use Rattle.reach.proofs.see_at.Tie as tie
 
 returns : tie.Need-returns
-returns c = search (see-past, needs)
+returns c = search (see-old, needs)
 
 returns-2 : tie.Need-returns-2
-returns-2 c = search (see-old, needs)
+returns-2 c = search (see-past, needs)
 
 add-result : tie.Need-add-result
 add-result c = search (see-room, needs)
@@ -21,13 +21,14 @@ see-at-spec =
     tie.close
     (tie.spec
     (λ c κs. search needs)
-    (λ c κs. search needs)
-    returns
     (λ c. search needs)
+    (λ c κs. search needs)
+    (λ c. search needs)
+    returns
+    (λ c κs. search needs)
     (λ c κs. search needs)
     (λ c. search needs)
     returns-2
-    (λ c κs. search needs)
     (λ c κs. search needs)
     add-result
     (λ c. search needs)

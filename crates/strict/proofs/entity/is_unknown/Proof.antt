@@ -1,5 +1,5 @@
 -- `strict::entity::is_unknown` meets its contract. Assumes nothing.
-use Rattle.strict.proofs.Parents.{unknown-complete, unknown-far, unknown-near}
+use Rattle.strict.proofs.Parents.{unknown-complete, unknown-open}
 use borrow.Author.Needs.{needs}
 use Rattle.strict.proofs.entity.is_unknown.Statement.{statement}
 use Rattle.strict.proofs.entity.is_unknown.Tie as tie
@@ -8,10 +8,7 @@ returns : tie.Need-returns
 returns c = search (unknown-complete, needs)
 
 returns-2 : tie.Need-returns-2
-returns-2 c = search (unknown-far, needs)
-
-returns-3 : tie.Need-returns-3
-returns-3 c = search (unknown-near, needs)
+returns-2 c = search (unknown-open, needs)
 
 pub is-unknown-spec : {M : Type 1} → statement M
-is-unknown-spec = tie.close (tie.spec returns (λ c κs. search needs) (λ c κs. search needs) returns-2 (λ c κs. search needs) returns-3)
+is-unknown-spec = tie.close (tie.spec returns (λ c κs. search needs) returns-2)
