@@ -37,7 +37,10 @@ fn link_library() {
     let place = env::var("OPENRULES_LIB").map(PathBuf::from).unwrap_or(here.join("../target/staticlib"));
     let folder = if place.is_file() { place.parent().unwrap().to_path_buf() } else { place };
     if !folder.join("libopenrules_c.a").is_file() {
-        panic!("The feature `library` needs libopenrules_c.a in {} (set OPENRULES_LIB, or run `rt staticlib openrules_c`).", folder.display());
+        panic!(
+            "The feature `library` needs libopenrules_c.a in {} (set OPENRULES_LIB, or run `rt staticlib openrules_c`).",
+            folder.display()
+        );
     }
     println!("cargo:rerun-if-changed={}", folder.join("libopenrules_c.a").display());
     println!("cargo:rustc-link-search=native={}", folder.display());

@@ -1,7 +1,7 @@
 /*
  * openrules: a partial evaluator for Cedar policies, proved.
  *
- * Each call takes a sheet, two work slices and an answer buffer, each as a pointer and a length, and returns a number; the line
+ * Each call takes a sheet or two, two work slices and an answer buffer, each as a pointer and a length, and returns a number; the line
  * and the length go where the last two pointers say. README.md has the table of numbers:
  *
  *   0, 0, written     accepted: the first `*length` bytes of `out` are the answer
@@ -9,6 +9,8 @@
  *   2, 0, 0           the sheet has over OPENRULES_SHEET bytes
  *   3 to 8, line, 0   the sheet is faulty, first at that line
  *   10, 0, needed     the answer buffer is shorter than the answer; one of OPENRULES_ANSWER bytes never is
+ *   11, line, 0       openrules_finish alone: the complete sheet does not agree with the partial one, first at that line of it, or at the
+ *                     line after its last where one is lacking
  *
  * An answer begins with its decision, eight counts and `why=`: the text number of the id of the first policy, in the sheet's order, that gave the
  * decision, a true forbid for a deny, a true permit for an allow; `none` for open and for a deny without a true forbid. A partial sheet does not
@@ -60,6 +62,18 @@ uint32_t openrules_complete(const uint8_t *sheet, size_t sheet_len,
                             uint32_t *second, size_t second_len,
                             uint8_t *out, size_t out_len,
                             size_t *line, size_t *length);
+
+/*
+ * The answer that what the partial sheet's run left gives on the complete sheet: that of openrules_complete on it, byte for byte. Both sheets
+ * pass their own checks first, the partial one before the other; 2 to 8 and their line are those of the sheet at fault. It takes some 84 KB of
+ * stack beside what the other calls take.
+ */
+uint32_t openrules_finish(const uint8_t *partial, size_t partial_len,
+                          const uint8_t *complete, size_t complete_len,
+                          uint32_t *first, size_t first_len,
+                          uint32_t *second, size_t second_len,
+                          uint8_t *out, size_t out_len,
+                          size_t *line, size_t *length);
 
 #ifdef __cplusplus
 }

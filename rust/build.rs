@@ -11,7 +11,10 @@ fn main() {
     let folder = if place.is_file() { place.parent().unwrap().to_path_buf() } else { place };
     let library = folder.join("libopenrules_c.a");
     if !library.is_file() {
-        panic!("libopenrules_c.a is not in {}: run `rt staticlib openrules_c` in the repository, or set OPENRULES_LIB.", folder.display());
+        panic!(
+            "libopenrules_c.a is not in {}: run `rt staticlib openrules_c` in the repository, or set OPENRULES_LIB.",
+            folder.display()
+        );
     }
     println!("cargo:rerun-if-changed={}", library.display());
     println!("cargo:rustc-link-search=native={}", folder.display());

@@ -8,6 +8,8 @@
 use std::hint::black_box;
 
 use crate::compare::Call;
+use crate::finish::Finish;
+use crate::generate;
 use crate::heavy;
 use crate::run;
 use crate::sheet::{self, Mode, ANSWER_BYTES, WORK_WORDS};
@@ -115,6 +117,57 @@ fn row(name: &str, times: &Times) {
 /// How many times as large; None where one of them is.
 fn times_as(number: Option<f64>, ordinary: Option<f64>) -> Option<f64> {
     Some(number? / ordinary?)
+}
+
+/// The library's times for the sheets of pairs, each by itself, and for finishing them; the bytes of all.
+struct Finishing {
+    partial: f64,
+    complete: f64,
+    finish: f64,
+    bytes: usize,
+}
+
+fn finishing(pairs: &[[Vec<u8>; 2]], library: Call, finish: Finish, rounds: usize) -> Finishing {
+    let mut out = vec![0u8; ANSWER_BYTES];
+    let (mut a, mut b) = (vec![0u32; WORK_WORDS], vec![0u32; WORK_WORDS]);
+    let mut sum = Finishing { partial: 0.0, complete: 0.0, finish: 0.0, bytes: 0 };
+    for [partial, complete] in pairs {
+        assert_eq!(finish(partial, complete, &mut a, &mut b, &mut out)[0], 0, "a pair of the benchmark agrees");
+        sum.bytes += partial.len() + complete.len();
+        sum.partial += time(rounds, || {
+            black_box(library(Mode::Partial, black_box(partial), &mut a, &mut b, &mut out));
+        });
+        sum.complete += time(rounds, || {
+            black_box(library(Mode::Complete, black_box(complete), &mut a, &mut b, &mut out));
+        });
+        sum.finish += time(rounds, || {
+            black_box(finish(black_box(partial), complete, &mut a, &mut b, &mut out));
+        });
+    }
+    sum
+}
+
+/// The third table: finishing beside the two sheets' own runs.
+pub fn finish_bench(library: Call, finish: Finish, rounds: usize) {
+    println!(
+        "\n| pair | bytes of both sheets | its partial run, ns | its complete run, ns | finish, ns | finish, times both runs |"
+    );
+    println!("|---|---|---|---|---|---|");
+    let random = (0..60).map(|n| generate::triple(4, n)).map(|[partial, complete, _]| [partial, complete]).collect();
+    let mut rows: Vec<(String, Vec<[Vec<u8>; 2]>)> = vec![("60 random ones".into(), random)];
+    rows.extend(heavy::pairs().into_iter().map(|(name, pair)| (name, vec![pair])));
+    for (name, pairs) in rows {
+        let times = finishing(&pairs, library, finish, rounds);
+        let count = pairs.len() as f64;
+        println!(
+            "| {name} | {:.0} | {:.0} | {:.0} | {:.0} | {:.2} |",
+            times.bytes as f64 / count,
+            times.partial / count,
+            times.complete / count,
+            times.finish / count,
+            times.finish / (times.partial + times.complete)
+        );
+    }
 }
 
 pub fn bench(library: Option<Call>, rounds: usize) {

@@ -6,10 +6,11 @@ use std::path::Path;
 use std::process::ExitCode;
 
 use crate::compare::{self, Call};
+use crate::finish::{self, Finish};
 use crate::generate;
 use crate::parents::Shown;
 use crate::run;
-use crate::sheet::{self, Mode};
+use crate::sheet::{self, Mode, Refusal};
 use crate::{again, bench, heavy, replay};
 
 const HELP: &str = "host answer partial|complete < SHEET   the original's answer, or refused=number,line,length, or what says that it was not asked
@@ -20,9 +21,12 @@ host show-triple SEED N                the N-th triple of a seed, and its answer
 host compare N SEED                    the library against the original on N sheets and N/4 triples
 host self N SEED                       the same with the original on both sides: a check of the comparison itself
 host again N SEED                      N answers of partial sheets handed back to the library as sheets
+host finish N SEED                     the library's finish on N pairs of sheets that agree or nearly do, against the complete sheet's own run
+host show-pair SEED N                  the N-th pair of a seed, and what finishing gives
 host replay FILE                       writes the fixed list of sheets and answers
 host replay-check FILE                 runs a written list, with the library where it is linked
-host bench [ROUNDS]                    times, in two tables
+host bench [ROUNDS]                    times, in three tables
+host bench-finish ROUNDS               the third of them: finish beside its two sheets' own runs
 host heavy DIR                         writes the sheets of the benchmark
 host about                             what the host was built with";
 
@@ -34,6 +38,21 @@ fn library() -> Option<Call> {
 #[cfg(not(feature = "library"))]
 fn library() -> Option<Call> {
     None
+}
+
+#[cfg(feature = "library")]
+fn library_finish() -> Option<Finish> {
+    Some(crate::library::finish)
+}
+
+#[cfg(not(feature = "library"))]
+fn library_finish() -> Option<Finish> {
+    None
+}
+
+fn not_linked() -> ExitCode {
+    println!("The library is not linked: build with --features library (README.md).");
+    ExitCode::from(3)
 }
 
 pub fn run(args: &[&str]) -> ExitCode {
@@ -59,6 +78,19 @@ pub fn run(args: &[&str]) -> ExitCode {
             Some(call) => compared("the library", call, number(count), number(seed)),
             None => not_linked(),
         },
+        ["finish", count, seed] => match library_finish() {
+            Some(call) => finished(call, number(count), number(seed)),
+            None => not_linked(),
+        },
+        ["show-pair", seed, n] => {
+            let [partial, complete] = finish::pair(number(seed), number(n));
+            write(&partial);
+            println!("---");
+            write(&complete);
+            println!("---");
+            write(&text_of(finish::answer(&partial, &complete)));
+            ExitCode::SUCCESS
+        }
         ["self", count, seed] => compared("the original", run::call, number(count), number(seed)),
         ["again", count, seed] => match library() {
             Some(call) => handed_back(call, number(count) as usize, number(seed)),
@@ -87,14 +119,15 @@ pub fn run(args: &[&str]) -> ExitCode {
                 }
             }
         }
-        ["bench"] => {
-            bench::bench(library(), 5);
-            ExitCode::SUCCESS
-        }
-        ["bench", rounds] => {
-            bench::bench(library(), number(rounds) as usize);
-            ExitCode::SUCCESS
-        }
+        ["bench"] => benched(5),
+        ["bench", rounds] => benched(number(rounds) as usize),
+        ["bench-finish", rounds] => match (library(), library_finish()) {
+            (Some(call), Some(finish)) => {
+                bench::finish_bench(call, finish, number(rounds) as usize);
+                ExitCode::SUCCESS
+            }
+            _ => not_linked(),
+        },
         ["heavy", folder] => heavy_sheets(Path::new(folder)),
         ["about"] => {
             println!("the original text: {}", original::SOURCE);
@@ -117,10 +150,12 @@ const GROUPED: &[u8] = b"accepted with groups: the original is not asked\n";
 
 /// What the program prints for a sheet, as far as the original is asked.
 fn printed(mode: Mode, sheet: &[u8]) -> Vec<u8> {
-    match run::answer(mode, sheet) {
-        Ok(answer) => answer.unwrap_or(GROUPED.to_vec()),
-        Err(refusal) => format!("refused={},{},{}\n", refusal.number, refusal.line, refusal.length).into_bytes(),
-    }
+    text_of(run::answer(mode, sheet).map(|answer| answer.unwrap_or(GROUPED.to_vec())))
+}
+
+/// An answer, or the line of a refusal.
+fn text_of(answer: Result<Vec<u8>, Refusal>) -> Vec<u8> {
+    answer.unwrap_or_else(|refusal| format!("refused={},{},{}\n", refusal.number, refusal.line, refusal.length).into_bytes())
 }
 
 fn write(bytes: &[u8]) {
@@ -158,6 +193,24 @@ fn heavy_sheets(folder: &Path) -> ExitCode {
     ExitCode::SUCCESS
 }
 
+fn benched(rounds: usize) -> ExitCode {
+    bench::bench(library(), rounds);
+    if let (Some(call), Some(finish)) = (library(), library_finish()) {
+        bench::finish_bench(call, finish, rounds);
+    }
+    ExitCode::SUCCESS
+}
+
+fn finished(call: Finish, count: u64, seed: u64) -> ExitCode {
+    let counts = finish::compare(call, count, seed);
+    println!("finish of the library against the complete sheet's own run, seed {seed}: {}", counts.line());
+    if counts.differences == 0 {
+        ExitCode::SUCCESS
+    } else {
+        ExitCode::FAILURE
+    }
+}
+
 fn compared(name: &str, call: Call, count: u64, seed: u64) -> ExitCode {
     let counts = compare::compare(call, count, seed);
     println!("{name} against the original, seed {seed}: {}", counts.line());
@@ -166,11 +219,6 @@ fn compared(name: &str, call: Call, count: u64, seed: u64) -> ExitCode {
     } else {
         ExitCode::FAILURE
     }
-}
-
-fn not_linked() -> ExitCode {
-    println!("The library is not linked: build with --features library (README.md).");
-    ExitCode::from(3)
 }
 
 /// Answers handed back to the library.

@@ -19,28 +19,56 @@ const MARGIN: usize = 16;
 
 /// Buffers as they are lent to one call: each with a margin before and after it.
 #[derive(Clone, PartialEq)]
-struct Lent {
+pub struct Lent {
     a: Vec<u32>,
     b: Vec<u32>,
     out: Vec<u8>,
 }
 
 impl Lent {
-    fn of(a: usize, b: usize, out: usize, random: &mut Random) -> Lent {
+    pub fn of(a: usize, b: usize, out: usize, random: &mut Random) -> Lent {
         let (word, byte) = (random.next() as u32 | 1, random.next() as u8 | 128);
         let words = |len: usize, word: u32| (0..len + 2 * MARGIN).map(|i| word.wrapping_add(i as u32) | 1).collect();
         Lent { a: words(a, word), b: words(b, !word), out: vec![byte; out + 2 * MARGIN] }
     }
 
-    fn call(&mut self, call: Call, case: &Case) -> [u32; 3] {
+    /// The parts that are lent.
+    pub fn parts(&mut self) -> (&mut [u32], &mut [u32], &mut [u8]) {
         let (a, b, out) = (self.a.len() - MARGIN, self.b.len() - MARGIN, self.out.len() - MARGIN);
-        call(case.mode, &case.bytes, &mut self.a[MARGIN..a], &mut self.b[MARGIN..b], &mut self.out[MARGIN..out])
+        (&mut self.a[MARGIN..a], &mut self.b[MARGIN..b], &mut self.out[MARGIN..out])
+    }
+
+    fn call(&mut self, call: Call, case: &Case) -> [u32; 3] {
+        let (a, b, out) = self.parts();
+        call(case.mode, &case.bytes, a, b, out)
     }
 
     /// What a call with an answer or refusal leaves here.
-    fn left(&mut self, answer: Result<Vec<u8>, Refusal>) -> [u32; 3] {
-        let (a, b, out) = (self.a.len() - MARGIN, self.b.len() - MARGIN, self.out.len() - MARGIN);
-        run::left(|| answer, &mut self.a[MARGIN..a], &mut self.b[MARGIN..b], &mut self.out[MARGIN..out])
+    pub fn left(&mut self, answer: Result<Vec<u8>, Refusal>) -> [u32; 3] {
+        let (a, b, out) = self.parts();
+        run::left(|| answer, a, b, out)
+    }
+
+    /// Where a call left something else than expected.
+    pub fn differs(&self, expected: &Lent) -> Option<String> {
+        if self.out != expected.out {
+            let at = self.out.iter().zip(&expected.out).position(|(x, y)| x != y).expect("a place");
+            return Some(format!(
+                "answer buffer differs at byte {} of {}",
+                at as i64 - MARGIN as i64,
+                self.out.len() - 2 * MARGIN
+            ));
+        }
+        for (name, x, y) in [("first", &self.a, &expected.a), ("second", &self.b, &expected.b)] {
+            if let Some(at) = x.iter().zip(y).position(|(x, y)| x != y) {
+                return Some(format!(
+                    "{name} work slice differs at word {} of {}",
+                    at as i64 - MARGIN as i64,
+                    x.len() - 2 * MARGIN
+                ));
+            }
+        }
+        None
     }
 }
 
@@ -59,7 +87,7 @@ pub struct Counts {
 }
 
 /// How often each number of the table was met; the table has no 9.
-pub fn by_number(numbers: &[usize; 11]) -> String {
+pub fn by_number(numbers: &[usize]) -> String {
     let met = numbers.iter().enumerate().filter(|(n, count)| *n != 9 || **count > 0);
     met.map(|(n, count)| format!("{n}:{count}")).collect::<Vec<String>>().join(" ")
 }
@@ -80,7 +108,7 @@ impl Counts {
 }
 
 /// The length of a work slice: mostly as long as needed or longer, at times too short.
-fn work_length(random: &mut Random) -> usize {
+pub fn work_length(random: &mut Random) -> usize {
     match random.below(100) {
         0..=69 => WORK_WORDS,
         70..=97 => WORK_WORDS + random.from(1, 80),
@@ -90,7 +118,7 @@ fn work_length(random: &mut Random) -> usize {
 }
 
 /// The length of an answer buffer, around the length of the answer.
-fn buffer_length(needed: usize, random: &mut Random) -> usize {
+pub fn buffer_length(needed: usize, random: &mut Random) -> usize {
     match random.below(100) {
         0..=39 => needed,
         40..=74 => needed + random.from(1, 100),
@@ -147,16 +175,7 @@ fn one(call: Call, case: &Case, random: &mut Random, counts: &mut Counts) -> Opt
     if got != wanted {
         return Some(format!("returned {got:?}, expected {wanted:?}"));
     }
-    if found.out != expected.out {
-        let at = found.out.iter().zip(&expected.out).position(|(x, y)| x != y).expect("a place");
-        return Some(format!("answer buffer differs at byte {} of {}", at as i64 - MARGIN as i64, found.out.len() - 2 * MARGIN));
-    }
-    for (name, x, y) in [("first", &found.a, &expected.a), ("second", &found.b, &expected.b)] {
-        if let Some(at) = x.iter().zip(y).position(|(x, y)| x != y) {
-            return Some(format!("{name} work slice differs at word {} of {}", at as i64 - MARGIN as i64, x.len() - 2 * MARGIN));
-        }
-    }
-    None
+    found.differs(&expected)
 }
 
 /// The three answers of a triple, and demand 3 over them.

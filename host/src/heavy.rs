@@ -11,8 +11,18 @@ const SPARE: usize = 150;
 /// An ordinary partial sheet of about so many bytes, never more: rules on context, principal and resource, as a carrier
 /// writes them, with lines in the same proportions at every size; texts fill what is left.
 pub fn ordinary(bytes: usize) -> Vec<u8> {
-    let count = (0..=64).take_while(|count| rules(*count).len() <= bytes).last().expect("a small sheet fits");
-    let sheet = rules(count);
+    let count = (0..=64).take_while(|count| rules(*count).bytes().len() <= bytes).last().expect("a small sheet fits");
+    filled(rules(count).bytes(), bytes)
+}
+
+/// An ordinary partial sheet and a complete one that agrees with it, the longer one of about so many bytes.
+fn ordinary_pair(bytes: usize) -> [Vec<u8>; 2] {
+    let count = (0..=64).take_while(|count| known_rules(*count).bytes().len() <= bytes).last().expect("a small sheet fits");
+    [rules(count), known_rules(count)].map(|draft| draft.bytes())
+}
+
+/// Texts more, up to so many bytes.
+fn filled(sheet: Vec<u8>, bytes: usize) -> Vec<u8> {
     let at = sheet.windows(6).position(|part| part == b"\nkind=").expect("kinds") + 1;
     let mut texts: Vec<u8> = Vec::new();
     let mut n = 0;
@@ -23,7 +33,17 @@ pub fn ordinary(bytes: usize) -> Vec<u8> {
     [&sheet[..at], &texts, &sheet[at..]].concat()
 }
 
-fn rules(count: usize) -> Vec<u8> {
+/// The ordinary rules with a known context.
+fn known_rules(count: usize) -> Draft {
+    let mut draft = rules(count);
+    let score = draft.value(ValueRow::Long(40));
+    let mail = draft.text(b"a@b");
+    let mail = draft.value(ValueRow::Text(mail));
+    draft.context.1 = Some(draft.value(ValueRow::Record(vec![(8, score), (12, score), (14, mail)])));
+    completed(draft)
+}
+
+fn rules(count: usize) -> Draft {
     let mut draft = Draft::new();
     let names = [
         "Broker", "Action", "Tariff", "Region", "quote", "T1", "b7", "north", "score", "region", "tags", "name", "limit", "vip",
@@ -114,7 +134,7 @@ fn rules(count: usize) -> Vec<u8> {
         };
         draft.policy(id, n % 4 != 0, root);
     }
-    draft.bytes()
+    draft
 }
 
 /// Random valid sheets, as in the comparison.
@@ -190,13 +210,32 @@ pub fn all() -> Vec<(&'static str, Mode, Vec<u8>)> {
     list
 }
 
+/// Pairs of a partial sheet and a complete one that agrees with it, each with its name.
+pub fn pairs() -> Vec<(String, [Vec<u8>; 2])> {
+    let mut list: Vec<(String, [Vec<u8>; 2])> =
+        [1024, 4096, 16384].map(|size| (format!("ordinary, {size} bytes"), ordinary_pair(size))).to_vec();
+    let mut add = |name: &str, draft: Draft| list.push((name.to_string(), [draft.bytes(), completed(draft).bytes()]));
+    add("64 policies over one root of 16 nodes, both slots linked", linked());
+    add("64 policies over one root with long patterns", shared_root(Long::Patterns, true));
+    add("64 policies over one root, made values among many", shared_made());
+    add("64 policies over one root, any on long sets", shared_sets());
+    add("64 policies over one root, get in a long record", shared_gets());
+    add("one pattern, almost matching often", almost());
+    add("many made sets", made_sets());
+    add("shared rows, 62 levels", shared(62));
+    add("all on long sets", long_sets(Two::All));
+    add("in long sets, long ancestors", ancestors());
+    add("128 entities, many look-ups", look_ups());
+    list
+}
+
 /// The complete sheet that knows the rest.
 fn completed(mut draft: Draft) -> Draft {
     draft.mode = Mode::Complete;
     let none = draft.value(ValueRow::Record(Vec::new()));
     let lone = draft.value(ValueRow::Set(Vec::new()));
-    draft.principal.1 = Some(3);
-    draft.resource.1 = Some(3);
+    draft.principal.1 = draft.principal.1.or(Some(3));
+    draft.resource.1 = draft.resource.1.or(Some(3));
     draft.context.1 = draft.context.1.or(Some(none));
     for row in &mut draft.entities {
         row.attributes = row.attributes.or(Some(none));

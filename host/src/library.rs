@@ -27,6 +27,25 @@ extern "C" {
         line: *mut usize,
         length: *mut usize,
     ) -> u32;
+    fn openrules_finish(
+        partial: *const u8,
+        partial_len: usize,
+        complete: *const u8,
+        complete_len: usize,
+        first: *mut u32,
+        first_len: usize,
+        second: *mut u32,
+        second_len: usize,
+        out: *mut u8,
+        out_len: usize,
+        line: *mut usize,
+        length: *mut usize,
+    ) -> u32;
+}
+
+/// Number, line and length of a call. A number too large for the comparison becomes one that no call returns.
+fn returned(number: u32, line: usize, length: usize) -> [u32; 3] {
+    [number, u32::try_from(line).unwrap_or(u32::MAX), u32::try_from(length).unwrap_or(u32::MAX)]
 }
 
 /// One call; returns number, line and length.
@@ -51,6 +70,28 @@ pub fn call(mode: Mode, sheet: &[u8], work_a: &mut [u32], work_b: &mut [u32], ou
             &mut length,
         )
     };
-    // A number too large for the comparison becomes one that no call returns.
-    [number, u32::try_from(line).unwrap_or(u32::MAX), u32::try_from(length).unwrap_or(u32::MAX)]
+    returned(number, line, length)
+}
+
+/// One call over two sheets.
+pub fn finish(partial: &[u8], complete: &[u8], work_a: &mut [u32], work_b: &mut [u32], out: &mut [u8]) -> [u32; 3] {
+    let (mut line, mut length) = (usize::MAX, usize::MAX);
+    // As above.
+    let number = unsafe {
+        openrules_finish(
+            partial.as_ptr(),
+            partial.len(),
+            complete.as_ptr(),
+            complete.len(),
+            work_a.as_mut_ptr(),
+            work_a.len(),
+            work_b.as_mut_ptr(),
+            work_b.len(),
+            out.as_mut_ptr(),
+            out.len(),
+            &mut line,
+            &mut length,
+        )
+    };
+    returned(number, line, length)
 }

@@ -9,6 +9,8 @@ mod compare;
 #[cfg(original)]
 mod draft;
 #[cfg(original)]
+mod finish;
+#[cfg(original)]
 mod generate;
 #[cfg(original)]
 mod heavy;

@@ -45,7 +45,10 @@
 //! assert_eq!(outcome, Outcome::Refused(Refusal { number: 5, line: 3, length: 0 }));
 //! ```
 //!
-//! [`partial`] and [`complete`] are the calls themselves, in slices of the caller's own; they allocate nothing.
+//! Where a partial sheet was filled in, [`Evaluator::finish`] takes both sheets and evaluates what the partial run left on the complete one. The
+//! answer is that of the complete sheet itself; sheets that do not agree are refused with number 11 and the line that breaks agreement.
+//!
+//! [`partial`], [`complete`] and [`finish`] are the calls themselves, in slices of the caller's own; they allocate nothing.
 
 use std::error::Error;
 use std::fmt;
@@ -84,6 +87,20 @@ extern "C" {
         line: *mut usize,
         length: *mut usize,
     ) -> u32;
+    fn openrules_finish(
+        partial: *const u8,
+        partial_len: usize,
+        complete: *const u8,
+        complete_len: usize,
+        first: *mut u32,
+        first_len: usize,
+        second: *mut u32,
+        second_len: usize,
+        out: *mut u8,
+        out_len: usize,
+        line: *mut usize,
+        length: *mut usize,
+    ) -> u32;
 }
 
 /// Why there is no answer: number, line and length, by the table of refusals.
@@ -94,9 +111,10 @@ extern "C" {
 /// ```
 #[derive(Clone, Copy, Debug, PartialEq, Eq)]
 pub struct Refusal {
-    /// 1 to 8, or 10.
+    /// 1 to 8, 10 or 11; [`finish`] alone gives 11.
     pub number: u32,
-    /// The line of the first fault, counted from 1, for the numbers 3 to 8; else 0.
+    /// The line of the first fault, counted from 1, for the numbers 3 to 8; the line of the complete sheet that breaks agreement, or the
+    /// line after its last, for the number 11; else 0.
     pub line: usize,
     /// The bytes that the answer needs, for the number 10; else 0.
     pub length: usize,
@@ -119,6 +137,7 @@ impl Refusal {
             7 => "typing, request kind or shape, or a link's value that does not fit its slot, or a kind reached through parents that is not above",
             8 => "a node is used twice or never",
             10 => "the answer buffer is shorter than the answer",
+            11 => "the complete sheet does not agree with the partial one",
             _ => "no refusal",
         }
     }
@@ -183,6 +202,11 @@ fn call<'a>(entry: Entry, sheet: &[u8], first: &mut [u32], second: &mut [u32], o
             &mut length,
         )
     };
+    outcome(number, line, length, out)
+}
+
+/// What a call gave, by its number, line and length and the buffer that it was lent.
+fn outcome(number: u32, line: usize, length: usize, out: &[u8]) -> Outcome<'_> {
     if number != 0 {
         return Outcome::Refused(Refusal { number, line, length });
     }
@@ -211,6 +235,50 @@ pub fn complete<'a>(sheet: &[u8], first: &mut [u32], second: &mut [u32], out: &'
     call(openrules_complete, sheet, first, second, out)
 }
 
+/// The answer that what a partial sheet's run left gives on a complete sheet, in slices of the caller's own, as [`partial`] has them.
+///
+/// Both sheets pass their own checks first, the partial one before the other: the numbers 2 to 8 and their line are those of the sheet at fault,
+/// and do not say which one it is. Then comes 11, with the first line of the complete sheet that breaks agreement, or the line after its last if
+/// none does and one is lacking. The answer is the one that [`complete`] gives for the complete sheet, byte for byte. The call takes some 84 KB of
+/// stack beside what the other calls take.
+///
+/// ```
+/// use openrules::{finish, Outcome, Refusal, WORDS};
+///
+/// let rest = "text=Broker\ntext=Action\ntext=quote\nkind=0,e\nkind=1,a\ntype=record\nshape=0,-\nshape=0,-\nvalue=record\n";
+/// let partial = format!("sheet=partial\n{rest}principal=0,?\naction=1,2\nresource=0,0\ncontext=0,?\nday=2026-06-30\n");
+/// let complete = format!("sheet=complete\n{rest}principal=0,2\naction=1,2\nresource=0,0\ncontext=0,0\nday=2026-06-30\n");
+/// let (mut first, mut second, mut out) = ([0; WORDS], [0; WORDS], [0; 100]);
+/// let outcome = finish(partial.as_bytes(), complete.as_bytes(), &mut first, &mut second, &mut out);
+/// assert_eq!(outcome, Outcome::Answer("decision=deny\ncounts=0,0,0,0,0,0,0,0\nwhy=none\n"));
+///
+/// // The resource was known, and is another one now: line 13.
+/// let other = complete.replace("resource=0,0", "resource=0,1");
+/// let outcome = finish(partial.as_bytes(), other.as_bytes(), &mut first, &mut second, &mut out);
+/// assert_eq!(outcome, Outcome::Refused(Refusal { number: 11, line: 13, length: 0 }));
+/// ```
+pub fn finish<'a>(partial: &[u8], complete: &[u8], first: &mut [u32], second: &mut [u32], out: &'a mut [u8]) -> Outcome<'a> {
+    let (mut line, mut length) = (0, 0);
+    // SAFETY: as for the other calls.
+    let number = unsafe {
+        openrules_finish(
+            partial.as_ptr(),
+            partial.len(),
+            complete.as_ptr(),
+            complete.len(),
+            first.as_mut_ptr(),
+            first.len(),
+            second.as_mut_ptr(),
+            second.len(),
+            out.as_mut_ptr(),
+            out.len(),
+            &mut line,
+            &mut length,
+        )
+    };
+    outcome(number, line, length, out)
+}
+
 /// The slices that calls work in, kept from call to call.
 pub struct Evaluator {
     first: Vec<u32>,
@@ -232,6 +300,11 @@ impl Evaluator {
     /// The answer to a complete sheet.
     pub fn complete(&mut self, sheet: &[u8]) -> Outcome<'_> {
         complete(sheet, &mut self.first, &mut self.second, &mut self.out)
+    }
+
+    /// The answer that what a partial sheet's run left gives on a complete sheet.
+    pub fn finish(&mut self, partial: &[u8], complete: &[u8]) -> Outcome<'_> {
+        finish(partial, complete, &mut self.first, &mut self.second, &mut self.out)
     }
 }
 

@@ -1,7 +1,7 @@
 //! Known sheets through the safe crate: the worked input of the program, every form of refusal that it can meet, and what the
 //! calls leave in the slices that they are lent.
 
-use openrules::{complete, partial, Evaluator, Outcome, Refusal, ANSWER as LONGEST, SHEET as GREATEST, WORDS};
+use openrules::{complete, finish, partial, Evaluator, Outcome, Refusal, ANSWER as LONGEST, SHEET as GREATEST, WORDS};
 
 /// The worked input, one principal unknown, and its answer.
 const SHEET: &str = include_str!("../../crates/openrules/stdin");
@@ -232,6 +232,64 @@ fn parents() {
         assert_eq!(evaluator.partial(unfit(following).as_bytes()), refused(7, line, 0), "{following}");
     }
     assert_eq!(evaluator.partial(unfit("entity=3,?,?,7\n").as_bytes()), refused(5, line + 2, 0));
+}
+
+#[test]
+fn finished() {
+    let mut evaluator = Evaluator::new();
+    for broker in [7, 4] {
+        let sheet = known(broker);
+        let own = evaluator.complete(sheet.as_bytes()).result().expect("the sheet is accepted").to_string();
+        assert_eq!(evaluator.finish(SHEET.as_bytes(), sheet.as_bytes()), Outcome::Answer(&own));
+    }
+    // what was known differs: the day, the resource, a rule; the first such line is named
+    let line = |sheet: &str, text: &str| sheet.lines().position(|line| line == text).expect("the line is there") + 1;
+    for (old, new) in
+        [("day=2026-11-16", "day=2026-11-17"), ("resource=2,4", "resource=2,5"), ("policy=6,permit,3", "policy=6,forbid,3")]
+    {
+        let sheet = known(7).replace(old, new);
+        assert_eq!(evaluator.finish(SHEET.as_bytes(), sheet.as_bytes()), refused(11, line(&sheet, new), 0));
+        let both = sheet.replace("text=b7", "text=b8");
+        assert_eq!(evaluator.finish(SHEET.as_bytes(), both.as_bytes()), refused(11, line(&both, "text=b8"), 0));
+    }
+    // a text, a value or a listed entity more breaks nothing, a rule more does
+    let more = known(7)
+        .replace("kind=0,e", "text=more\nkind=0,e")
+        .replace("value=record\n", "value=record\nvalue=entity,0,8\nvalue=set\n");
+    let more = more.replace("principal=", "entity=3,2,-,4\nprincipal=");
+    let own = evaluator.complete(more.as_bytes()).result().map(str::to_string);
+    assert_eq!(evaluator.finish(SHEET.as_bytes(), more.as_bytes()).result().map(str::to_string), own);
+    let rule = format!("{}policy=7,permit,3\n", known(7));
+    assert_eq!(evaluator.finish(SHEET.as_bytes(), rule.as_bytes()), refused(11, line(&rule, "policy=7,permit,3"), 0));
+    // a value that the partial sheet has is lacking: the line after the last
+    let with = SHEET.replace("value=bool,1\n", "value=bool,1\nvalue=record\nvalue=bool,0\n");
+    assert_eq!(evaluator.finish(with.as_bytes(), known(7).as_bytes()), refused(11, known(7).lines().count() + 1, 0));
+    // each sheet passes its own checks, the partial one first
+    assert_eq!(evaluator.finish(b"x\n", &[b'x'; 16385]), refused(3, 1, 0));
+    assert_eq!(evaluator.finish(SHEET.as_bytes(), &[b'x'; 16385]), refused(2, 0, 0));
+    assert_eq!(evaluator.finish(known(7).as_bytes(), SHEET.as_bytes()), refused(3, 1, 0));
+    assert_eq!(evaluator.finish(SHEET.as_bytes(), SHEET.as_bytes()), refused(3, 1, 0));
+}
+
+#[test]
+fn finished_in_what_is_lent() {
+    let sheet = known(7);
+    let own = Evaluator::new().complete(sheet.as_bytes()).result().expect("the sheet is accepted").to_string();
+    let (mut first, mut second, mut out) = (vec![7; WORDS + 2], vec![7; WORDS], vec![7; own.len() + 3]);
+    assert_eq!(finish(SHEET.as_bytes(), sheet.as_bytes(), &mut first, &mut second, &mut out), Outcome::Answer(&own));
+    assert!(first[..WORDS].iter().chain(&second).all(|word| *word == 0));
+    assert_eq!((&first[WORDS..], &out[own.len()..]), (&[7, 7][..], &[7, 7, 7][..]));
+    out.fill(9);
+    let short = &mut out[..own.len() - 1];
+    assert_eq!(finish(SHEET.as_bytes(), sheet.as_bytes(), &mut first, &mut second, short), refused(10, 0, own.len()));
+    assert_eq!(
+        finish(SHEET.as_bytes(), sheet.replace("day=2026-11-16", "day=2026-11-17").as_bytes(), &mut first, &mut second, short),
+        refused(11, 26, 0)
+    );
+    assert!(out.iter().all(|byte| *byte == 9));
+    second.fill(5);
+    assert_eq!(finish(b"", b"", &mut first, &mut second[1..], &mut []), refused(1, 0, 0));
+    assert!(second.iter().all(|word| *word == 5));
 }
 
 /// 64 policies over one root of so many nodes: a comparison of the broker's name with a pattern of so many `*`, and `not`.

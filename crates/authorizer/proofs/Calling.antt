@@ -1,111 +1,38 @@
 -- The call by its tests: a work slice too short, or the answer and the clearing. Assumes nothing.
-use mathlib.Core.Path.{_≡_, refl, sym, _∙_, ap, ap₂}
-use mathlib.Core.Bool.{Bool, true, false, cond, _||_}
+use mathlib.Core.Path.{_≡_}
 use mathlib.Core.List.{List, _++_}
 use Prim.Native.Nat.{ℕ, _≤_, _<_}
-use native.Mathlib.Omega.{arith}
-use borrow.Author.Tests.{lt-ltb, le-ltb}
-use lib.Dec.{ltb, eqb}
-use lib.ListN.{length, take, drop, replicate, length-append, length-drop}
-use lib.Seq.{drop-at, length-take-le}
+use lib.ListN.{length, take, drop}
 use Rattle.words.specs.Log.{cleared}
-use Rattle.words.proofs.Stores.{cleared-long}
 use Rattle.sheet.specs.Forms.{Mode}
 use Rattle.sheet.specs.Sheet.{read}
 use Rattle.sheet.specs.Answer.{answer}
-use Rattle.sheet.specs.Call.{Returned, returns, room, returned, over, written, zeros, worked}
+use Rattle.sheet.specs.Call.{Returned, returned, written}
+use Rattle.opening.specs.Promised.{Promised}
+use Rattle.opening.proofs.Lent.{short-first, short-second, long-enough}
 use Rattle.authorizer.specs.Called.{Called}
 use Rattle.authorizer.specs.Parts.{afterLengths, Answers}
-use Rattle.words.specs.Log as L
-
--- ---- the tests of lengths
-
-or-true : (p : Bool) → (p || true) ≡ true
-or-true true = refl
-or-true false = refl
-
--- ---- work slices; their number of zeros is a variable: at a numeral they would be written out
-
-zeros-is : (n : ℕ) (w : List ℕ) → L.zeros n w ≡ replicate n 0 ++ drop n w
-unfolding L.zeros
-zeros-is n w = refl
-
--- a part of n words was lent, and came back as p
-zeros-part : (n : ℕ) (p w : List ℕ) → length p ≡ n → L.zeros n (p ++ drop n w) ≡ replicate n 0 ++ drop n w
-zeros-part n p w e = zeros-is n (p ++ drop n w) ∙ ap (λ (t : List ℕ). replicate n 0 ++ t) (drop-at p (drop n w) n e)
-
--- a part of 16,384 words
-module _ (w : List ℕ) (h : 16384 ≤ length w) where
-  pub part-long : length (take 16384 w) ≡ 16384
-  part-long = length-take-le 16384 w h
-
-  pub part-same : (p v : List ℕ) → length p ≡ length (take 16384 w) → length v ≡ length (p ++ drop 16384 w) → length v ≡ length w
-  part-same p v e f = omega (arith, part-long, length-append p (drop 16384 w), length-drop 16384 w)
-
-module _ (w : List ℕ) (other : ℕ) where
-  pub worked-short : length w < 16384 → w ≡ worked w other
-  unfolding worked
-  worked-short h = sym (ap (λ (x : Bool). cond (x || ltb other room) w (zeros room w)) (lt-ltb (length w) 16384 h))
-
-  pub worked-other : other < 16384 → w ≡ worked w other
-  unfolding worked
-  worked-other h = sym (ap (λ (x : Bool). cond x w (zeros room w)) (ap (λ (x : Bool). ltb (length w) room || x) (lt-ltb other 16384 h) ∙ or-true (ltb (length w) room)))
-
-  module _ (h : 16384 ≤ length w) (k : 16384 ≤ other) where
-    worked-long : worked w other ≡ zeros 16384 w
-    unfolding worked
-    worked-long = ap₂ (λ (x y : Bool). cond (x || y) w (zeros room w)) (le-ltb (length w) 16384 h) (le-ltb other 16384 k)
-
-    pub worked-part : (p v : List ℕ) → length p ≡ length (take 16384 w) → v ≡ cleared (p ++ drop 16384 w) → v ≡ worked w other
-    worked-part p v l e =
-        let i : length p ≡ 16384 = l ∙ part-long w h in
-        e ∙ sym (cleared-long (p ++ drop 16384 w) (omega (arith, i, length-append p (drop 16384 w)))) ∙ zeros-part 16384 p w i ∙ sym worked-long
-
--- ---- what is returned and written
 
 module _ (m : Mode) (sheet w₁ w₂ out : List ℕ) where
-  abbrev back : Returned
-  back = returned m (length w₁) (length w₂) (length out) sheet
+  abbrev bytes : List ℕ
+  bytes = answer m (read m sheet .state)
 
-  -- the answer buffer, by the number that is returned
-  written-by : (r : Returned) → back ≡ r → cond (eqb (r .number) 0) (over (answer m (read m sheet .state)) out) out ≡ written m (length w₁) (length w₂) out sheet
+  -- what a call promises, of this definition
+  called : (number line len : ℕ) (out′ v₁ v₂ : List ℕ) → Promised (returned m (length w₁) (length w₂) (length out) sheet) bytes w₁ w₂ out number line len out′ v₁ v₂ → Called m sheet w₁ w₂ out number line len out′ v₁ v₂
   unfolding written
-  written-by r e = sym (ap (λ (x : Returned). cond (eqb (x .number) 0) (over (answer m (read m sheet .state)) out) out) e)
-
-  -- a refusal leaves the buffer
-  refuses : (n : ℕ) (v₁ v₂ : List ℕ) → back ≡ returns n 0 0 → eqb n 0 ≡ false → v₁ ≡ worked w₁ (length w₂) → v₂ ≡ worked w₂ (length w₁) → Called m sheet w₁ w₂ out n 0 0 out v₁ v₂
-  refuses n v₁ v₂ e z p q = record {
-    number-is = sym (ap (λ (x : Returned). x .number) e);
-    line-is = sym (ap (λ (x : Returned). x .line) e);
-    length-is = sym (ap (λ (x : Returned). x .length) e);
-    buffer = ap (λ (x : Bool). cond x (over (answer m (read m sheet .state)) out) out) (sym z) ∙ written-by (returns n 0 0) e;
-    first = p;
-    second = q;
-  }
+  called number line len out′ v₁ v₂ p = record { number-is = p .number-is; line-is = p .line-is; length-is = p .length-is; buffer = p .buffer; first = p .first; second = p .second }
 
   pub call-first : length w₁ < 16384 → Called m sheet w₁ w₂ out 1 0 0 out w₁ w₂
   unfolding returned
-  call-first h = refuses 1 w₁ w₂ (ap (λ (x : Bool). cond (x || ltb (length w₂) room) (returns 1 0 0) (afterLengths m (length out) sheet)) (lt-ltb (length w₁) 16384 h)) refl (worked-short w₁ (length w₂) h) (worked-other w₂ (length w₁) h)
+  call-first h = called 1 0 0 out w₁ w₂ (short-first (afterLengths m (length out) sheet) bytes w₁ w₂ out h)
 
   pub call-second : length w₂ < 16384 → Called m sheet w₁ w₂ out 1 0 0 out w₁ w₂
   unfolding returned
-  call-second h =
-      refuses 1 w₁ w₂ (ap (λ (x : Bool). cond x (returns 1 0 0) (afterLengths m (length out) sheet)) (ap (λ (x : Bool). ltb (length w₁) room || x) (lt-ltb (length w₂) 16384 h) ∙ or-true (ltb (length w₁) room)))
-      refl (worked-other w₁ (length w₂) h) (worked-short w₂ (length w₁) h)
+  call-second h = called 1 0 0 out w₁ w₂ (short-second (afterLengths m (length out) sheet) bytes w₁ w₂ out h)
 
-  module _ (h₁ : 16384 ≤ length w₁) (h₂ : 16384 ≤ length w₂) where
-    long-both : back ≡ afterLengths m (length out) sheet
-    unfolding returned
-    long-both = ap₂ (λ (x y : Bool). cond (x || y) (returns 1 0 0) (afterLengths m (length out) sheet)) (le-ltb (length w₁) 16384 h₁) (le-ltb (length w₂) 16384 h₂)
-
-    pub call-answered : (number line len : ℕ) (out′ p₁ p₂ v₁ v₂ : List ℕ) → Answers m sheet out number line len out′
-        → length p₁ ≡ length (take 16384 w₁) → length p₂ ≡ length (take 16384 w₂) → v₁ ≡ cleared (p₁ ++ drop 16384 w₁) → v₂ ≡ cleared (p₂ ++ drop 16384 w₂)
-        → Called m sheet w₁ w₂ out number line len out′ v₁ v₂
-    call-answered number line len out′ p₁ p₂ v₁ v₂ g l₁ l₂ e f = record {
-      number-is = g .number-is ∙ sym (ap (λ (x : Returned). x .number) long-both);
-      line-is = g .line-is ∙ sym (ap (λ (x : Returned). x .line) long-both);
-      length-is = g .length-is ∙ sym (ap (λ (x : Returned). x .length) long-both);
-      buffer = g .buffer ∙ ap (λ (x : ℕ). cond (eqb x 0) (over (answer m (read m sheet .state)) out) out) (g .number-is) ∙ written-by (afterLengths m (length out) sheet) long-both;
-      first = worked-part w₁ (length w₂) h₁ h₂ p₁ v₁ l₁ e;
-      second = worked-part w₂ (length w₁) h₂ h₁ p₂ v₂ l₂ f;
-    }
+  pub call-answered : 16384 ≤ length w₁ → 16384 ≤ length w₂ → (number line len : ℕ) (out′ p₁ p₂ v₁ v₂ : List ℕ) → Answers m sheet out number line len out′
+      → length p₁ ≡ length (take 16384 w₁) → length p₂ ≡ length (take 16384 w₂) → v₁ ≡ cleared (p₁ ++ drop 16384 w₁) → v₂ ≡ cleared (p₂ ++ drop 16384 w₂)
+      → Called m sheet w₁ w₂ out number line len out′ v₁ v₂
+  unfolding returned
+  call-answered h₁ h₂ number line len out′ p₁ p₂ v₁ v₂ g l₁ l₂ e f =
+      called number line len out′ v₁ v₂ (long-enough (afterLengths m (length out) sheet) bytes w₁ w₂ out h₁ h₂ number line len out′ p₁ p₂ v₁ v₂ g l₁ l₂ e f)

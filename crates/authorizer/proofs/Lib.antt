@@ -1,5 +1,4 @@
 pub mod Calling
-pub mod Choosing
 pub mod Answering
 pub mod Demand3
 pub mod Example

@@ -1,9 +1,8 @@
 // The calls. Each reads a sheet, runs it and prints the answer, in two work slices and a buffer that the caller lends, and asks nothing
 // of them: what is too short is refused.
-use load::load;
+use opening::open;
 use response::runs::answer_complete;
 use response::runs::answer_partial;
-use running::choose;
 use words::ROOM;
 use words::clear;
 ghost use mathlib.Core.Path.{_≡_};
@@ -31,23 +30,15 @@ fn answered(
     requires { ⌜ (length (now rows) ≡ 16384) × (length (now work) ≡ 16384) ⌝ }
     ensures { λ r. ⌜ Answers (modeOf partial) (now (sheet .entry)) (now (out .entry)) (r .number) (r .line) (r .length) (now (out .exit)) ⌝ }
 {
-    if sheet.len() > ROOM {
-        return Returned {
-            number: 2,
-            line: 0,
-            length: 0,
-        };
-    }
-    let l = load(sheet, partial, rows, work);
-    let number = l.number;
+    let o = open(sheet, partial, rows, work);
+    let number = o.number;
     if number != 0 {
         return Returned {
             number,
-            line: l.line,
+            line: o.line,
             length: 0,
         };
     }
-    choose(rows);
     if partial {
         let s = answer_partial(sheet, rows, work, out);
         return Returned {

@@ -58,7 +58,7 @@ module _ (sheet a b : List ℕ) where
   request-same ts resource = refl
   request-same ts context = refl
 
-  schema-same : schema (held sheet a []) ≡ schema (held sheet a b)
+  pub schema-same : schema (held sheet a []) ≡ schema (held sheet a b)
   unfolding schema types held
   schema-same = λ i. record { shape = λ k. schema (held sheet a []) .shape k; bytes = λ t. schema (held sheet a []) .bytes t; request = λ x. request-same (types (held sheet a [])) x i }
 
@@ -120,13 +120,22 @@ module _ (sheet a b : List ℕ) where
 -- of an accepted complete sheet that the words hold, as reading leaves it
 module _ (sheet a b : List ℕ) (e : read complete sheet .number ≡ 0) (h : read complete sheet .state ≡ held sheet a b) (sound : Sound a) (none : getD a MADE 0 ≡ 0)
     (runs : rowsOf a RUN ≡ onTerm (held sheet a b)) (fits : Fits a) where
+  held-facts : Facts complete (held sheet a b)
+  held-facts =
+      let (hi, fu) = accepted-history complete sheet e in
+      subst (Facts complete) h (record { history = hi; ends = fu; keys = all-keys complete sheet e; fit = accepted-fit complete sheet e })
+
+  held-depths : Depths (held sheet a b)
+  held-depths = reached-depths (subst (Reached complete) h (read-reached complete sheet))
+
+  -- before a run its words hold the values and the request
+  pub complete-stand : Stand sheet a (env (read complete sheet .state)) (contents (read complete sheet .state)) a
+  complete-stand = subst (λ (s : State). Stand sheet a (env s) (contents s) a) (sym h) (start sheet a b held-facts held-depths sound none runs)
+
   the-run : Runs sheet a (env (held sheet a b)) [] (classNumbers (results (held sheet a b))) (runOf sheet a)
   the-run =
-      let (hi, fu) = accepted-history complete sheet e in
-      let f : Facts complete (held sheet a b) = subst (Facts complete) h (record { history = hi; ends = fu; keys = all-keys complete sheet e; fit = accepted-fit complete sheet e }) in
-      let d : Depths (held sheet a b) = reached-depths (subst (Reached complete) h (read-reached complete sheet)) in
       let c : policySizes (nPolicies (held sheet a b)) ≤ 1024 = subst (λ (s : State). policySizes (nPolicies s) ≤ 1024) h (policy-sizes complete sheet e) in
-      run-few sheet a b f d sound none runs c fits
+      run-few sheet a b held-facts held-depths sound none runs c fits
 
   -- THE THEOREM: the run's log is the list of the numbers of the classes that the Cedar specification gives the policies on term, each under its link
   pub complete-run : runOf sheet a .log ≡ classNumbers (results (read complete sheet .state))

@@ -33,14 +33,18 @@ use Rattle.evaluator.specs.Run.{nodeIn, pathOut, binOut, relOut, getOut,
 
 -- ---- words of a node
 
+-- a part up to the end
+pub to-end : (i : ℕ) (r : List ℕ) → part r i (length r) ≡ drop i r
+to-end i r =
+    let h : length r - i ≡ length (drop i r) = sym (length-drop i r) in
+    ap (λ (m : ℕ). take m (drop i r)) h ∙ take-length (drop i r)
+
 module _ (a : List ℕ) (n : ℕ) (r : List ℕ) (er : r ≡ getD (rowsOf a NODE) n []) where
   pub word-is : (j x : ℕ) → x ≡ getD r j 0 → x ≡ getD (nodeIn a n) j 0
   word-is j x e = e ∙ ap (λ (l : List ℕ). getD l j 0) er
 
   pub rest-is : (q : List ℕ) → q ≡ part r 3 (length r) → q ≡ drop 3 (nodeIn a n)
-  rest-is q e =
-      let h : length r - 3 ≡ length (drop 3 r) = sym (length-drop 3 r) in
-      e ∙ ap (λ (m : ℕ). take m (drop 3 r)) h ∙ take-length (drop 3 r) ∙ ap (drop 3) er
+  rest-is q e = e ∙ to-end 3 r ∙ ap (drop 3) er
 
 pub like-is : (sheet a r p : List ℕ) (v : ℕ) (g : Given) → p ≡ r → outOf g ≡ likeOut (textAt sheet a) p (valueIn a v) → outOf g ≡ likeOut (textAt sheet a) r (valueIn a v)
 like-is sheet a r p v g ep e = e ∙ ap (λ (q : List ℕ). likeOut (textAt sheet a) q (valueIn a v)) ep
@@ -72,7 +76,10 @@ module _ (a : List ℕ) where
       go (Unknownˡ k) ih = refl
       go Bad ih = refl
 
-  module _ (r : List ℕ) (v : ℕ) (p : List ℕ) (ep : p ≡ drop 3 r) where
+  module _ (r : List ℕ) (v : ℕ) (p : List ℕ) (cut : p ≡ part r 3 (length r)) where
+    ep : p ≡ drop 3 r
+    ep = cut ∙ to-end 3 r
+
     -- a row without texts
     pub path-none : (g : Given) → length p < 1 → outOf g ≡ L.hasOut true a v 0 → outOf g ≡ walkOut a r v
     unfolding walkOut pathOut L.hasOut envIn S.envIn values valueIn
@@ -134,9 +141,9 @@ module _ (sheet a r : List ℕ) (t v : ℕ) (g : Given) where
   unfolding oneOut hasOut L.hasOut values valueIn envIn S.envIn
   one-has x e ex h = h ∙ ap (λ (k : ℕ). L.hasOut true a v k) ex ∙ ap (λ (s : ℕ). oneOut sheet s a r v) (sym e)
 
-  pub one-path : t ≡ HASPATH → outOf g ≡ walkOut a r v → outOf g ≡ oneOut sheet t a r v
+  pub one-path : (q : List ℕ) → t ≡ HASPATH → q ≡ r → outOf g ≡ walkOut a q v → outOf g ≡ oneOut sheet t a r v
   unfolding oneOut
-  one-path e h = h ∙ ap (λ (s : ℕ). oneOut sheet s a r v) (sym e)
+  one-path q e er h = h ∙ ap (λ (x : List ℕ). walkOut a x v) er ∙ ap (λ (s : ℕ). oneOut sheet s a r v) (sym e)
 
   pub one-not : t ≡ NOT → outOf g ≡ notOut (valueIn a v) → outOf g ≡ oneOut sheet t a r v
   unfolding oneOut unOut notOut values valueIn

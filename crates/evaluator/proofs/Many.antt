@@ -176,16 +176,16 @@ module _ (sheet a₀ : List ℕ) (G : Env) where
   resultsArgs gnil = []
   resultsArgs (gcons t e gs) = eval sc G e ∷ resultsArgs gs
 
-  set-oks : {D : List Content} (fs : Exprs) {ns : List ℕ} → Oks D (resultsOf fs) ns → (vs : Values) × (evals sc G fs ≡ some vs) × Elems D ns vs
+  pub set-oks : {D : List Content} (fs : Exprs) {ns : List ℕ} → Oks D (resultsOf fs) ns → (vs : Values) × (evals sc G fs ≡ some vs) × Elems D ns vs
   set-oks enil oks-none = (vnil, refl, elem0)
   set-oks (econs e es) (oks-more {v = v} p h b) = let (vs, q, m) = set-oks es b in (vcons v vs, ap₂ consR p q, elem1 h m)
 
-  set-bad : (fs : Exprs) → Bad (resultsOf fs) → evals sc G fs ≡ none
+  pub set-bad : (fs : Exprs) → Bad (resultsOf fs) → evals sc G fs ≡ none
   set-bad enil b = elim b [ ]
   set-bad (econs e es) (bad-here p) = ap (λ (r : Result). consR r (evals sc G es)) p
   set-bad (econs e es) (bad-later p b) = ap₂ consR p (set-bad es b)
 
-  rec-bad : (hs : Args) → Bad (resultsArgs hs) → evalArgs sc G hs ≡ none
+  pub rec-bad : (hs : Args) → Bad (resultsArgs hs) → evalArgs sc G hs ≡ none
   rec-bad gnil b = elim b [ ]
   rec-bad (gcons t e gs) (bad-here p) = ap (λ (r : Result). fieldR t r (evalArgs sc G gs)) p
   rec-bad (gcons t e gs) (bad-later p b) = ap₂ (fieldR t) p (rec-bad gs b)

@@ -36,7 +36,7 @@ use Rattle.evaluator.specs.declared.Yield.the-variants.{Value, Error}
 use Rattle.evaluator.proofs.Gives.{Stand, Gives, is-value, is-error, after, rest-room, some-room, then-bool, then-settles, nexts, bools, bool-only, rel-gives, get-gives, has-gives, path-gives, fine-path, is-asked}
 
 -- what is asked is an entity or has a number
-abbrev OptFine : Option Give → Type 0
+abbrev pub OptFine : Option Give → Type 0
 OptFine none = Unit {0}
 OptFine (some g) = GiveFine g
 
@@ -62,7 +62,7 @@ given-fine s context = go (eqb (at (lineAt s CONTEXT 0) 1) mark)
     go true = tt
     go false = tt
 
-request-fine : (s : State) (x : Var) → OptFine (nEnv complete s .request x)
+pub request-fine : (s : State) (x : Var) → OptFine (nEnv complete s .request x)
 unfolding nEnv
 request-fine s x = given-fine s x
 

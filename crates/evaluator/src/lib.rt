@@ -86,7 +86,7 @@ pub fn as_bool(rows: &[u32], value: u32) -> Truth
 }
 
 // What a yield says as a bool.
-fn truth_of(rows: &[u32], yielded: Yield) -> Truth
+pub fn truth_of(rows: &[u32], yielded: Yield) -> Truth
     ensures { λ t. ⌜ truthOf t ≡ yieldBool (now (rows .entry)) yielded ⌝ }
 {
     let Yield::Value(value) = yielded else {
@@ -96,7 +96,7 @@ fn truth_of(rows: &[u32], yielded: Yield) -> Truth
 }
 
 // A bool as it is; any other value is an error.
-fn only_bool(rows: &[u32], yielded: Yield) -> Yield
+pub fn only_bool(rows: &[u32], yielded: Yield) -> Yield
     ensures { λ r. ⌜ Gave (boolOnly (yields (now (rows .entry)) yielded)) (now (rows .entry)) r ⌝ }
 {
     let Yield::Value(value) = yielded else {
@@ -135,7 +135,7 @@ fn entity_of(rows: &mut [u32], key: usize) -> Yield
 }
 
 // A part of the request, by its letter.
-fn request(rows: &mut [u32], letter: u32) -> Yield
+pub fn request(rows: &mut [u32], letter: u32) -> Yield
     ensures { λ y. ⌜ Gave (optOf (now (rows .entry)) (envOf (now (rows .entry)) .request (varOf letter))) (now (rows .exit)) y ⌝ }
 {
     match letter {
@@ -153,7 +153,7 @@ fn request(rows: &mut [u32], letter: u32) -> Yield
 }
 
 // What the operation of the node, by its tag, yields over the value.
-fn apply_one(sheet: &[u8], rows: &mut [u32], node: u32, tag: u32, value: u32) -> Yield
+pub fn apply_one(sheet: &[u8], rows: &mut [u32], node: u32, tag: u32, value: u32) -> Yield
     requires { ⌜ (IS ≤ tag) × (tag < SET-OF) ⌝ }
     ensures { λ y. ⌜ Gave (settleOf (now (rows .entry)) (oneOut (now (sheet .entry)) tag (now (rows .entry)) (nodeIn (now (rows .entry)) node) value)) (now (rows .exit)) y ⌝ }
 {
@@ -162,7 +162,7 @@ fn apply_one(sheet: &[u8], rows: &mut [u32], node: u32, tag: u32, value: u32) ->
 }
 
 // What the operation by the tag yields over two values.
-fn apply_two(rows: &mut [u32], tag: u32, left: u32, right: u32) -> Yield
+pub fn apply_two(rows: &mut [u32], tag: u32, left: u32, right: u32) -> Yield
     requires { ⌜ (EQ ≤ tag) × (tag < IF) ⌝ }
     ensures { λ y. ⌜ Gave (settleOf (now (rows .entry)) (twoOut tag (now (rows .entry)) left right)) (now (rows .exit)) y ⌝ }
 {
@@ -171,7 +171,7 @@ fn apply_two(rows: &mut [u32], tag: u32, left: u32, right: u32) -> Yield
 }
 
 // Whether two bools are the same.
-fn same(x: bool, y: bool) -> bool
+pub fn same(x: bool, y: bool) -> bool
     ensures { λ r. ⌜ r ≡ sameBool x y ⌝ }
 {
     if x {
@@ -439,7 +439,7 @@ fn record(
 }
 
 // The number of a policy's class; a value that is no bool leaves it open.
-fn class_of(rows: &[u32], yielded: Yield) -> u32
+pub fn class_of(rows: &[u32], yielded: Yield) -> u32
     ensures { λ c. ⌜ c ≡ classNumber (classOf (now (rows .entry)) yielded) ⌝ }
 {
     let Yield::Value(value) = yielded else {

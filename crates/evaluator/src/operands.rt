@@ -50,7 +50,7 @@ pub fn word_of(rows: &[u32], node: u32, j: usize) -> u32
     item(row(rows, NODE, node), j)
 }
 
-// The words of the node from its fourth on: the pattern of a `like`, the texts of a path.
+// The words of the node from its fourth on: the pattern of a `like`.
 fn rest_of(rows: &[u32], node: u32) -> &[u32]
     ensures { λ l. ⌜ now l ≡ drop 3 (nodeIn (now (rows .entry)) node) ⌝ }
 {
@@ -65,11 +65,11 @@ fn like_at(sheet: &[u8], rows: &[u32], node: u32, value: u32) -> Given
     like_of(sheet, rows, value, rest_of(rows, node))
 }
 
-// Whether the path of the node is there from the value on.
-fn path_at(rows: &[u32], node: u32, value: u32) -> Given
-    ensures { λ g. ⌜ outOf g ≡ walkOut (now (rows .entry)) (nodeIn (now (rows .entry)) node) value ⌝ }
+// Whether the path of the row, a node's or one with the texts of such from a later one on, is there from the value on.
+pub fn path_at(rows: &[u32], line: &[u32], value: u32) -> Given
+    ensures { λ g. ⌜ outOf g ≡ walkOut (now (rows .entry)) (now (line .entry)) value ⌝ }
 {
-    let path = rest_of(rows, node);
+    let path = cut(line, 3, line.len());
     if path.len() < 1 {
         return has_of(rows, true, value, 0);
     }
@@ -90,7 +90,7 @@ pub fn one_given(sheet: &[u8], rows: &[u32], node: u32, tag: u32, value: u32) ->
         LIKE => like_at(sheet, rows, node, value),
         GET => get_of(rows, true, value, word_of(rows, node, 3)),
         HAS => has_of(rows, true, value, word_of(rows, node, 3)),
-        HASPATH => path_at(rows, node, value),
+        HASPATH => path_at(rows, row(rows, NODE, node), value),
         NOT => not_of(rows, value),
         NEG => neg_of(rows, value),
         _ => empty_of(rows, value),

@@ -1,15 +1,20 @@
 -- Of what is read the first 16,385 bytes matter: a longer input is refused as those are. Assumes nothing.
 use mathlib.Core.Path.{_≡_, sym, ap, _∙_}
+use mathlib.Core.Bool.{Bool, cond}
 use mathlib.Core.List.{List}
 use Prim.Native.Nat.{ℕ, _≤_, _<_}
 use native.Mathlib.Omega.{arith}
 use native.Mathlib.Decide.{decLe}
-use borrow.Author.Tests.{lt-ltb}
+use borrow.Author.Tests.{lt-ltb, ne-eqb}
 use lib.ListN.{length, take, length-take}
 use lib.Seq.{take-all}
-use Rattle.sheet.specs.Forms.{Mode}
-use Rattle.sheet.specs.Call.{returns, room, returned}
-use Rattle.openrules.specs.Shown.{entryOf, space, refusal, shown}
+use Rattle.sheet.specs.Forms.{Mode, partial, complete}
+use Rattle.sheet.specs.Sheet.{read}
+use Rattle.sheet.specs.Call.{Returned, returns, room, lentThen, readThen, checkedThen, returned}
+use Rattle.sheet.proofs.Lines.{zero-not-suc}
+use Rattle.sheet.proofs.Checked.{lent-by, checked-by}
+use Rattle.finished.specs.Finish.{breakingLine, finishedAnswer, atLine, finishReturned}
+use Rattle.openrules.specs.Shown.{entryOf, space, refusal, textOf, shown, finishBack, shownFinished}
 
 too-long : (m : Mode) (s : List ℕ) → 16384 < length s → returned m room room space s ≡ returns 2 0 0
 unfolding returned
@@ -19,9 +24,58 @@ shown-long : (s : List ℕ) → 16384 < length s → shown s ≡ refusal 2 0 0
 unfolding shown
 shown-long s h = rw (too-long (entryOf s) s h)
 
+-- a sheet alone
 pub first-bytes : (input : List ℕ) → shown (take 16385 input) ≡ shown input
 first-bytes input = go (decLe (length input) 16385)
   where
     go : Dec (length input ≤ 16385) → shown (take 16385 input) ≡ shown input
     go (yes h) = ap shown (take-all 16385 input h)
     go (no h) = shown-long (take 16385 input) (omega (arith, length-take 16385 input)) ∙ sym (shown-long input (omega arith))
+
+-- ---- both sheets
+
+shown-first : (p c : List ℕ) → 16384 < length p → shownFinished p c ≡ refusal 2 0 0
+unfolding shownFinished finishReturned
+shown-first p c h = rw (lt-ltb room (length p) h)
+
+-- a complete sheet too long: the refusal of the partial one, or 2
+abbrev secondLong : List ℕ → Returned
+secondLong p = lentThen room room (checkedThen partial p (returns 2 0 0))
+
+second-long : (p c : List ℕ) → 16384 < length c → finishBack p c ≡ secondLong p
+unfolding finishReturned
+second-long p c h =
+    let r = atLine (read partial p .state) (read complete c .state) space (breakingLine (read partial p .state) (read complete c .state)) in
+    ap (λ (b : Bool). lentThen room room (checkedThen partial p (cond b (returns 2 0 0) (readThen complete c r)))) (lt-ltb room (length c) h)
+
+long-refused : (p : List ℕ) → secondLong p .number ≡ 0 → ⊥
+long-refused p =
+    lent-by Refused room room (checkedThen partial p (returns 2 0 0)) (λ h e. zero-not-suc e)
+    (λ h. checked-by Refused partial p (returns 2 0 0) (λ e. zero-not-suc e) (λ n q e. zero-not-suc e) (λ h′ q e. zero-not-suc e))
+  where
+    Refused : Returned → Type 0
+    Refused r = r .number ≡ 0 → ⊥
+
+-- a refusal's text has no bytes of an answer
+refused-text : (r : Returned) (bytes bytes′ : List ℕ) → (r .number ≡ 0 → ⊥) → textOf r bytes ≡ textOf r bytes′
+refused-text r bytes bytes′ f =
+    let e = ne-eqb (r .number) 0 f in
+    ap (λ (b : Bool). cond b bytes (refusal (r .number) (r .line) (r .length))) e ∙ sym (ap (λ (b : Bool). cond b bytes′ (refusal (r .number) (r .line) (r .length))) e)
+
+shown-second : (p c d : List ℕ) → 16384 < length c → 16384 < length d → shownFinished p c ≡ shownFinished p d
+unfolding shownFinished
+shown-second p c d h k =
+    let x = finishedAnswer (read partial p .state) (read complete c .state) in
+    let y = finishedAnswer (read partial p .state) (read complete d .state) in
+    ap (λ (r : Returned). textOf r x) (second-long p c h) ∙ refused-text (secondLong p) x y (long-refused p) ∙ sym (ap (λ (r : Returned). textOf r y) (second-long p d k))
+
+pub first-bytes-of-both : (p c : List ℕ) → shownFinished (take 16385 p) (take 16385 c) ≡ shownFinished p c
+first-bytes-of-both p c = first (decLe (length p) 16385) ∙ second (decLe (length c) 16385)
+  where
+    first : Dec (length p ≤ 16385) → shownFinished (take 16385 p) (take 16385 c) ≡ shownFinished p (take 16385 c)
+    first (yes h) = ap (λ (l : List ℕ). shownFinished l (take 16385 c)) (take-all 16385 p h)
+    first (no h) = shown-first (take 16385 p) (take 16385 c) (omega (arith, length-take 16385 p)) ∙ sym (shown-first p (take 16385 c) (omega arith))
+
+    second : Dec (length c ≤ 16385) → shownFinished p (take 16385 c) ≡ shownFinished p c
+    second (yes h) = ap (shownFinished p) (take-all 16385 c h)
+    second (no h) = shown-second p (take 16385 c) c (omega (arith, length-take 16385 c)) (omega arith)

@@ -1,23 +1,29 @@
 -- What the program's functions give, from what their calls promise. Assumes nothing.
-use mathlib.Core.Path.{_≡_, sym, ap, _∙_, subst}
-use mathlib.Core.Bool.{Bool, true, false}
+use mathlib.Core.Path.{_≡_, refl, sym, ap, _∙_, subst}
+use mathlib.Core.Bool.{Bool, true, false, cond}
 use mathlib.Core.List.{List, [], _∷_, _++_, append-assoc}
-use Prim.Native.Nat.{ℕ, _+_, _≤_}
+use Prim.Native.Nat.{ℕ, zero, suc, _+_, _≤_}
 use native.Mathlib.Omega.{arith}
 use borrow.Author.Tests.{eq-eqb, ne-eqb}
+use lib.Dec.{ltb}
 use lib.ListN.{length, take, drop, length-append}
 use lib.Seq.{take-append-seam}
 use Rattle.io.specs.Counts.{Counts}
 use Rattle.sheet.specs.Bytes.{upTo, same, digits}
 use Rattle.sheet.specs.Forms.{partial, complete}
+use Rattle.sheet.specs.State.{State}
 use Rattle.sheet.specs.Sheet.{read}
 use Rattle.sheet.specs.Answer.{answer}
-use Rattle.sheet.specs.Call.{returned}
-use Rattle.sheet.proofs.Buffers.{refusal-leaves, accepted-whole, accepted-written}
+use Rattle.sheet.specs.Call.{Returned, returns, room, checkedThen, returned, over, outputs, written}
+use Rattle.sheet.proofs.Lines.{zero-not-suc}
+use Rattle.sheet.proofs.Checked.{lent-by, checked-by}
+use Rattle.sheet.proofs.Buffers.{accepted-whole}
 use Rattle.print.specs.Written.{Written}
 use Rattle.print.proofs.Writing.{written-append, written-as, written-over, digits-few}
 use Rattle.authorizer.specs.Called.{Called}
-use Rattle.openrules.specs.Shown.{space, saysComplete, entryOf, back, refusal, shown, Shows}
+use Rattle.finished.specs.Finish.{breakingLine, finishedAnswer, atLine, finishReturned, finishWritten}
+use Rattle.finished.specs.Promise.{Finished}
+use Rattle.openrules.specs.Shown.{space, saysComplete, entryOf, refusal, textOf, back, shown, finishBack, shownFinished, Shows}
 
 -- ---- the entry
 
@@ -57,38 +63,105 @@ refusal-short n line len =
 
 -- ---- what is shown
 
-abbrev bytes : List ℕ → List ℕ
-bytes s = answer (entryOf s) (read (entryOf s) s .state)
-
 counts-front : (bytes rest : List ℕ) → Counts (length bytes) (bytes ++ rest)
 counts-front bytes rest = (omega (arith, length-append bytes rest), sym (ap length (take-append-seam bytes rest)))
 
-module _ (s a b out a′ b′ out′ : List ℕ) (number line len : ℕ) (la : 16384 ≡ length a) (lb : 16384 ≡ length b) (lo : length out ≡ space) (c : Called (entryOf s) s a b out number line len out′ a′ b′) where
-  here : returned (entryOf s) (length a) (length b) (length out) s ≡ back s
-  here = rw (← la, ← lb, lo)
-
-  pub shows-answer : number ≡ 0 → Shows s out′ len
-  unfolding shown
-  shows-answer h =
-      let z : returned (entryOf s) (length a) (length b) (length out) s .number ≡ 0 = sym (c .number-is) ∙ h in
-      let n : len ≡ length (bytes s) = c .length-is ∙ accepted-whole (entryOf s) (length a) (length b) out s z .1 in
-      let w : out′ ≡ bytes s ++ drop (length (bytes s)) out = c .buffer ∙ accepted-written (entryOf s) (length a) (length b) out s z in
-      let k : back s .number ≡ 0 = ap (λ r. r .number) (sym here) ∙ z in
-      let t : take len out′ ≡ bytes s = rw (n, w) (take-append-seam (bytes s) (drop (length (bytes s)) out)) in
+-- a call that returned r, whose answer has these bytes
+module _ (r : Returned) (bytes out out′ : List ℕ) (number line len : ℕ) (lo : length out ≡ space) (number-is : number ≡ r .number) (line-is : line ≡ r .line) (length-is : len ≡ r .length)
+    (buffer : out′ ≡ outputs (r .number) bytes out) (whole : r .number ≡ 0 → r .length ≡ length bytes) where
+  shows-text : number ≡ 0 → Shows (textOf r bytes) out′ len
+  shows-text h =
+      let z : r .number ≡ 0 = sym number-is ∙ h in
+      let n : len ≡ length bytes = length-is ∙ whole z in
+      let w : out′ ≡ bytes ++ drop (length bytes) out = buffer ∙ ap (λ (b : Bool). cond b (over bytes out) out) (eq-eqb (r .number) 0 z) in
+      let t : take len out′ ≡ bytes = rw (n, w) (take-append-seam bytes (drop (length bytes) out)) in
       record {
-        text = t ∙ rw (eq-eqb (back s .number) 0 k);
-        within = rw (n, w) (counts-front (bytes s) (drop (length (bytes s)) out));
+        front = t ∙ rw (eq-eqb (r .number) 0 z);
+        within = rw (n, w) (counts-front bytes (drop (length bytes) out));
       }
 
-  pub shows-refusal : (number ≡ 0 → ⊥) → (is : List ℕ) (next : ℕ) → Written out′ 0 (refusal number line len) is next → Shows s is next
-  unfolding shown
-  shows-refusal h is next w =
-      let f : returned (entryOf s) (length a) (length b) (length out) s .number ≡ 0 → ⊥ = λ e. h (c .number-is ∙ e) in
-      let o : out′ ≡ out = c .buffer ∙ refusal-leaves (entryOf s) (length a) (length b) out s f in
+  shows-line : (number ≡ 0 → ⊥) → (is : List ℕ) (next : ℕ) → Written out′ 0 (refusal number line len) is next → Shows (textOf r bytes) is next
+  shows-line h is next w =
+      let f : r .number ≡ 0 → ⊥ = λ e. h (number-is ∙ e) in
+      let o : out′ ≡ out = buffer ∙ ap (λ (b : Bool). cond b (over bytes out) out) (ne-eqb (r .number) 0 f) in
       let d = refusal-short number line len in
       let (e, k) = written-over out′ (refusal number line len) is next w (omega (arith, ap length o)) in
       let t : take next is ≡ refusal number line len = rw (k, e) (take-append-seam (refusal number line len) (drop (length (refusal number line len)) out′)) in
       record {
-        text = t ∙ rw (ne-eqb (back s .number) 0 (λ q. f (ap (λ r. r .number) here ∙ q)), c .number-is, c .line-is, c .length-is, here);
+        front = t ∙ rw (ne-eqb (r .number) 0 f, number-is, line-is, length-is);
         within = rw (k, e) (counts-front (refusal number line len) (drop (length (refusal number line len)) out′));
       }
+
+-- ---- a sheet
+
+module _ (s a b out a′ b′ out′ : List ℕ) (number line len : ℕ) (la : 16384 ≡ length a) (lb : 16384 ≡ length b) (lo : length out ≡ space) (c : Called (entryOf s) s a b out number line len out′ a′ b′) where
+  abbrev bytes : List ℕ
+  bytes = answer (entryOf s) (read (entryOf s) s .state)
+
+  here : returned (entryOf s) (length a) (length b) (length out) s ≡ back s
+  here = rw (← la, ← lb, lo)
+
+  whole : back s .number ≡ 0 → back s .length ≡ length bytes
+  whole z =
+      ap (λ (r : Returned). r .length) (sym here) ∙ accepted-whole (entryOf s) (length a) (length b) out s (ap (λ (r : Returned). r .number) here ∙ z) .1
+
+  went : out′ ≡ outputs (back s .number) bytes out
+  unfolding written
+  went = c .buffer ∙ ap (λ (r : Returned). outputs (r .number) bytes out) here
+
+  pub shows-answer : number ≡ 0 → Shows (shown s) out′ len
+  unfolding shown
+  shows-answer h =
+      shows-text (back s) bytes out out′ number line len lo (c .number-is ∙ ap (λ (r : Returned). r .number) here) (c .line-is ∙ ap (λ (r : Returned). r .line) here) (c .length-is ∙ ap (λ (r : Returned). r .length) here) went whole h
+
+  pub shows-refusal : (number ≡ 0 → ⊥) → (is : List ℕ) (next : ℕ) → Written out′ 0 (refusal number line len) is next → Shows (shown s) is next
+  unfolding shown
+  shows-refusal h is next w =
+      shows-line (back s) bytes out out′ number line len lo (c .number-is ∙ ap (λ (r : Returned). r .number) here) (c .line-is ∙ ap (λ (r : Returned). r .line) here) (c .length-is ∙ ap (λ (r : Returned). r .length) here) went whole h is next w
+
+-- ---- a partial and a complete sheet
+
+abbrev Whole : ℕ → Returned → Type 0
+Whole n r = r .number ≡ 0 → r .length ≡ n
+
+line-whole : (s t : State) (out l : ℕ) → Whole (length (finishedAnswer s t)) (atLine s t out l)
+line-whole s t out zero = go (ltb out (length (finishedAnswer s t)))
+  where
+    go : (b : Bool) → Whole (length (finishedAnswer s t)) (cond b (returns 10 0 (length (finishedAnswer s t))) (returns 0 0 (length (finishedAnswer s t))))
+    go true e = zero-not-suc e
+    go false e = refl
+line-whole s t out (suc l) = λ e. zero-not-suc e
+
+finish-whole : (p c : List ℕ) → Whole (length (finishedAnswer (read partial p .state) (read complete c .state))) (finishBack p c)
+unfolding finishReturned
+finish-whole p c =
+    let s = read partial p .state in
+    let t = read complete c .state in
+    let r = atLine s t space (breakingLine s t) in
+    let W = Whole (length (finishedAnswer s t)) in
+    lent-by W room room (checkedThen partial p (checkedThen complete c r)) (λ h e. zero-not-suc e)
+    (λ h. checked-by W partial p (checkedThen complete c r) (λ e. zero-not-suc e) (λ n q e. zero-not-suc e)
+    (λ h′ q. checked-by W complete c r (λ e. zero-not-suc e) (λ n q′ e. zero-not-suc e) (λ h″ q′. line-whole s t space (breakingLine s t))))
+
+module _ (p c a b out a′ b′ out′ : List ℕ) (number line len : ℕ) (la : 16384 ≡ length a) (lb : 16384 ≡ length b) (lo : length out ≡ space) (x : Finished p c a b out number line len out′ a′ b′) where
+  abbrev finish-bytes : List ℕ
+  finish-bytes = finishedAnswer (read partial p .state) (read complete c .state)
+
+  finish-here : finishReturned (length a) (length b) (length out) p c ≡ finishBack p c
+  finish-here = rw (← la, ← lb, lo)
+
+  finish-went : out′ ≡ outputs (finishBack p c .number) finish-bytes out
+  unfolding finishWritten
+  finish-went = x .buffer ∙ ap (λ (r : Returned). outputs (r .number) finish-bytes out) finish-here
+
+  pub finish-answer : number ≡ 0 → Shows (shownFinished p c) out′ len
+  unfolding shownFinished
+  finish-answer h =
+      shows-text (finishBack p c) finish-bytes out out′ number line len lo (x .number-is ∙ ap (λ (r : Returned). r .number) finish-here) (x .line-is ∙ ap (λ (r : Returned). r .line) finish-here)
+      (x .length-is ∙ ap (λ (r : Returned). r .length) finish-here) finish-went (finish-whole p c) h
+
+  pub finish-refusal : (number ≡ 0 → ⊥) → (is : List ℕ) (next : ℕ) → Written out′ 0 (refusal number line len) is next → Shows (shownFinished p c) is next
+  unfolding shownFinished
+  finish-refusal h is next w =
+      shows-line (finishBack p c) finish-bytes out out′ number line len lo (x .number-is ∙ ap (λ (r : Returned). r .number) finish-here) (x .line-is ∙ ap (λ (r : Returned). r .line) finish-here)
+      (x .length-is ∙ ap (λ (r : Returned). r .length) finish-here) finish-went (finish-whole p c) h is next w

@@ -1,4 +1,5 @@
--- What the program prints for the bytes that it reads. Document 01, "Known sheets": "Program `openrules` reads standard input."
+-- What the program prints for the bytes that it reads. Document 01, "Known sheets": "Program `openrules` reads standard input." With the word
+-- `finish` it also reads the partial sheet from a file.
 use mathlib.Core.Path.{_≡_}
 use mathlib.Core.Bool.{Bool, cond}
 use mathlib.Core.List.{List, [], _∷_}
@@ -12,6 +13,7 @@ use Rattle.sheet.specs.Forms.{Mode, partial, complete}
 use Rattle.sheet.specs.Sheet.{read}
 use Rattle.sheet.specs.Answer.{printed, numbers, answer}
 use Rattle.sheet.specs.Call.{Returned, room, returned}
+use Rattle.finished.specs.Finish.{finishedAnswer, finishReturned}
 
 -- the first line is exactly `sheet=complete`
 unfoldable pub saysComplete : List ℕ → Bool
@@ -25,19 +27,29 @@ entryOf sheet = cond (saysComplete sheet) complete partial
 abbrev pub space : ℕ
 space = 1048576
 
-abbrev pub back : List ℕ → Returned
-back sheet = returned (entryOf sheet) room room space sheet
-
 -- "If refused it prints `refused=number,line,length`", with a line end
 unfoldable pub refusal : ℕ → ℕ → ℕ → List ℕ
 refusal number line len = printed "refused" (numbers (number ∷ line ∷ len ∷ []))
 
--- the answer, or the refusal
-unfoldable pub shown : List ℕ → List ℕ
-shown sheet =
-    cond (eqb (back sheet .number) 0) (answer (entryOf sheet) (read (entryOf sheet) sheet .state)) (refusal (back sheet .number) (back sheet .line) (back sheet .length))
+-- what a call returned, as text: the bytes of its answer, or the refusal
+abbrev pub textOf : Returned → List ℕ → List ℕ
+textOf r bytes = cond (eqb (r .number) 0) bytes (refusal (r .number) (r .line) (r .length))
 
--- the first n bytes of a buffer are what is printed for the sheet
-pub record Shows (sheet buffer : List ℕ) (n : ℕ) : Type 0 where
-  pub text : take n buffer ≡ shown sheet
+-- a sheet
+abbrev pub back : List ℕ → Returned
+back sheet = returned (entryOf sheet) room room space sheet
+
+unfoldable pub shown : List ℕ → List ℕ
+shown sheet = textOf (back sheet) (answer (entryOf sheet) (read (entryOf sheet) sheet .state))
+
+-- a partial and a complete sheet (document 02, 2.1)
+abbrev pub finishBack : List ℕ → List ℕ → Returned
+finishBack p c = finishReturned room room space p c
+
+unfoldable pub shownFinished : List ℕ → List ℕ → List ℕ
+shownFinished p c = textOf (finishBack p c) (finishedAnswer (read partial p .state) (read complete c .state))
+
+-- the first n bytes of a buffer are this text
+pub record Shows (text buffer : List ℕ) (n : ℕ) : Type 0 where
+  pub front : take n buffer ≡ text
   pub within : Counts n buffer

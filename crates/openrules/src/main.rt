@@ -1,9 +1,14 @@
-// The program: a sheet on standard input, the answer or its refusal on standard output. Of what is read the first 16,385 bytes
-// matter (proofs/Input.antt). What is proved of `main`: it is safe, it ends, and the bytes that it hands to `io::write_all` are
-// those that `answer` promises for the bytes that `io::read_full` gave. No contract can speak of what C's read and write move.
+// The program: without a word, a sheet on standard input, the answer or its refusal on standard output; with a word, what `help` lists. Of
+// what is read the first 16,385 bytes of each sheet matter (proofs/Input.antt). What is proved of it: it is safe, it ends, and the bytes that
+// it hands to `io::write_all` for the bytes that `io::read_full` gave are those that `answer` and `finished` promise. No contract can speak of
+// what C's read and write move. A program has no status to end with: what cannot be done is said on standard error.
 use authorizer::Returned;
 use authorizer::complete;
 use authorizer::partial;
+use finish::finish;
+use libc::STDERR_FILENO;
+use libc::STDIN_FILENO;
+use libc::STDOUT_FILENO;
 use print::byte;
 use print::bytes;
 use print::number;
@@ -14,7 +19,7 @@ ghost use mathlib.Core.Path.{_≡_};
 ghost use lib.ListN.{length};
 ghost use Rattle.print.specs.Written.{Written};
 ghost use Rattle.authorizer.specs.Called.{Called};
-ghost use Rattle.openrules.specs.Shown.{saysComplete, entryOf, space, refusal, Shows};
+ghost use Rattle.openrules.specs.Shown.{saysComplete, entryOf, space, refusal, shown, shownFinished, Shows};
 
 // Whether the first line is exactly `sheet=complete`.
 fn says_complete(sheet: &[u8]) -> bool
@@ -60,7 +65,7 @@ fn words() -> [u32; 16384]
 
 // What is printed for a sheet, at the start of the buffer, and its length.
 fn answer(sheet: &[u8], out: &mut [u8; SPACE]) -> usize
-    ensures { λ r. ⌜ Shows (now (sheet .entry)) (now (out .exit)) r ⌝ }
+    ensures { λ r. ⌜ Shows (shown (now (sheet .entry))) (now (out .exit)) r ⌝ }
 {
     let mut a = words();
     let mut b = words();
@@ -71,10 +76,93 @@ fn answer(sheet: &[u8], out: &mut [u8; SPACE]) -> usize
     refused(out, r.number, r.line, r.length)
 }
 
-fn main() {
+// What is printed for a partial and a complete sheet, likewise.
+fn finished(partial: &[u8], complete: &[u8], out: &mut [u8; SPACE]) -> usize
+    ensures { λ r. ⌜ Shows (shownFinished (now (partial .entry)) (now (complete .entry))) (now (out .exit)) r ⌝ }
+{
+    let mut a = words();
+    let mut b = words();
+    let f = finish(partial, complete, &mut a, &mut b, out);
+    if f.number == 0 {
+        return f.length;
+    }
+    refused(out, f.number, f.line, f.length)
+}
+
+// ---- the words
+
+// The words, on standard output or standard error.
+fn help(to: i32) {
+    io::write_all(
+        to,
+        b"openrules < SHEET                    the answer to a sheet\n",
+    );
+    io::write_all(
+        to,
+        b"openrules finish PARTIAL < COMPLETE  what the partial sheet's residuals give on the complete sheet\n",
+    );
+    io::write_all(to, b"openrules help                       these words\n");
+}
+
+// No word: a sheet.
+fn print_answer() {
     let mut input = [0u8; 16385];
-    let n = io::read_full(0, &mut input);
+    let n = io::read_full(STDIN_FILENO, &mut input);
     let mut out = [0u8; SPACE];
     let k = answer(&input[..n], &mut out);
-    io::write_all(1, &out[..k]);
+    io::write_all(STDOUT_FILENO, &out[..k]);
+}
+
+// The partial sheet from an open file, the complete one from standard input.
+fn print_finished(file: i32) {
+    let mut first = [0u8; 16385];
+    let n = io::read_full(file, &mut first);
+    let mut second = [0u8; 16385];
+    let m = io::read_full(STDIN_FILENO, &mut second);
+    let mut out = [0u8; SPACE];
+    let k = finished(&first[..n], &second[..m], &mut out);
+    io::write_all(STDOUT_FILENO, &out[..k]);
+}
+
+// `finish PARTIAL`
+fn finish_word() {
+    let mut path = io::buffer();
+    let n = os::arg(2, &mut path);
+    let file = os::open_read(&path[..n]);
+    if file < 0 {
+        os::fail(&path[..n]);
+        return;
+    }
+    print_finished(file);
+    libc::close(file);
+}
+
+// One word alone.
+fn lone_word(word: &[u8]) {
+    if same_bytes(word, b"help") {
+        help(STDOUT_FILENO);
+        return;
+    }
+    help(STDERR_FILENO);
+}
+
+// A word and a name.
+fn named_word(word: &[u8]) {
+    if same_bytes(word, b"finish") {
+        finish_word();
+        return;
+    }
+    help(STDERR_FILENO);
+}
+
+fn main() {
+    let mut word = [0u8; 16];
+    let n = os::arg(1, &mut word);
+    match os::arg_count() {
+        0 => print_answer(),
+        1 => print_answer(),
+        2 => lone_word(&word[..n]),
+        3 => named_word(&word[..n]),
+        _ => help(STDERR_FILENO),
+    }
 }

@@ -1,9 +1,11 @@
-// The two calls for C and for Rust. A slice is passed as a pointer and then a length; the number is returned, line and length
+// The calls for C and for Rust. A slice is passed as a pointer and then a length; the number is returned, line and length
 // are written where the last two pointers say. include/openrules.h declares the functions and says what a caller owes.
 use authorizer::complete;
 use authorizer::partial;
+use finish::finish;
 ghost use Rattle.sheet.specs.Forms.{partial, complete};
 ghost use Rattle.authorizer.specs.Called.{Called};
+ghost use Rattle.finished.specs.Promise.{Finished};
 
 #[no_mangle]
 pub extern "C" fn openrules_partial(
@@ -34,6 +36,24 @@ pub extern "C" fn openrules_complete(
     ensures { λ r. ⌜ Called complete (now (sheet .entry)) (now (first .entry)) (now (second .entry)) (now (out .entry)) r (now (line .exit)) (now (length .exit)) (now (out .exit)) (now (first .exit)) (now (second .exit)) ⌝ }
 {
     let r = complete(sheet, first, second, out);
+    *line = r.line;
+    *length = r.length;
+    r.number
+}
+
+#[no_mangle]
+pub extern "C" fn openrules_finish(
+    partial: &[u8],
+    complete: &[u8],
+    first: &mut [u32],
+    second: &mut [u32],
+    out: &mut [u8],
+    line: &mut usize,
+    length: &mut usize,
+) -> u32
+    ensures { λ r. ⌜ Finished (now (partial .entry)) (now (complete .entry)) (now (first .entry)) (now (second .entry)) (now (out .entry)) r (now (line .exit)) (now (length .exit)) (now (out .exit)) (now (first .exit)) (now (second .exit)) ⌝ }
+{
+    let r = finish(partial, complete, first, second, out);
     *line = r.line;
     *length = r.length;
     r.number

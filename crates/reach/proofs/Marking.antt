@@ -17,7 +17,7 @@ use Rattle.sheet.specs.Forms.{at}
 use Rattle.sheet.specs.Parents.{lineFor, parentsIn, parents, ancestors}
 use Rattle.sheet.proofs.Reaching.{parents-are, closed-above, all-above}
 use Rattle.sheet.proofs.Lines.{set-cases}
-use Rattle.reach.specs.Marks.{FAR, placeOf, left, Queue, Grown, Noted, Taken, Spot, Seen, Spread, Expanded, Self, Found}
+use Rattle.reach.specs.Marks.{FAR, placeOf, left, Queue, Grown, Noted, Taken, Spot, Skipped, Seen, Spread, Expanded, Self, Found}
 
 -- ---- the place of a line
 
@@ -304,6 +304,31 @@ seen-more E l n w m q t w₁ m₁ q₁ t₁ w₂ m₂ q₂ t₂ a b = record {
     otherw : (y : ℕ) → (1 ≤ getD w₁ y 0) ⊎ ((i : ℕ) × (i < 1) × (getD (getD l n 0 ∷ []) i 0 ≡ y)) → (1 ≤ getD w y 0) ⊎ ((i : ℕ) × (i < n + 1) × (getD l i 0 ≡ y))
     otherw y (inl x) = widen (λ z. z) (1 ≤ getD w y 0) y (a .onlyw y x)
     otherw y (inr (i, g, e)) = inr (n, omega arith, last (λ z. z) y i g e)
+
+-- by those that were met before
+pub seen-skip : (E : List (List ℕ)) (l : List ℕ) (n j : ℕ) (w m q : List ℕ) (t : ℕ) (w′ m′ q′ : List ℕ) (t′ : ℕ) → Seen E l n w m q t w′ m′ q′ t′ → Skipped w′ l n j → Seen E l j w m q t w′ m′ q′ t′
+seen-skip E l n j w m q t w′ m′ q′ t′ a b = record {
+  queue = a .queue;
+  spot = a .spot;
+  longw = a .longw;
+  long = a .long;
+  longq = a .longq;
+  more = a .more;
+  same = a .same;
+  kept = a .kept;
+  keptw = a .keptw;
+  full = λ i h. each i h (ltb i n) refl;
+  only = λ k h g. widen (λ y. placeOf y E) (1 ≤ getD m k 0) k (a .only k h g);
+  onlyw = λ y g. widen (λ z. z) (1 ≤ getD w y 0) y (a .onlyw y g);
+}
+  where
+    each : (i : ℕ) → i < j → (x : Bool) → ltb i n ≡ x → Taken E w′ m′ (getD l i 0)
+    each i h true e = a .full i (ltb-true i n e)
+    each i h false e = a .spot .is (getD l i 0) (b .is i (ltb-false i n e) h)
+
+    widen : (f : ℕ → ℕ) (X : Type 0) (k : ℕ) → X ⊎ ((i : ℕ) × (i < n) × (f (getD l i 0) ≡ k)) → X ⊎ ((i : ℕ) × (i < j) × (f (getD l i 0) ≡ k))
+    widen f X k (inl x) = inl x
+    widen f X k (inr (i, h, e)) = inr (i, let z = b .more in omega (arith, h, z), e)
 
 -- ---- the search from v
 

@@ -4,12 +4,13 @@ use mathlib.Core.Bool.{Bool, true, false, cond, not, _&&_, _||_}
 use mathlib.Core.List.{List, [], _∷_}
 use Prim.Native.Nat.{ℕ, zero, suc, _+_, _-_, _*_, _<_, _≤_}
 use native.Mathlib.Omega.{arith}
-use borrow.Author.Tests.{lt-ltb, le-ltb, eq-eqb, ne-eqb, eqb-true, eqb-false, ltb-true, ltb-false}
+use borrow.Author.Tests.{lt-ltb, le-ltb, eq-eqb, ne-eqb, eqb-true, eqb-false, ltb-true, ltb-false, not-false}
 use lib.Dec.{ltb, eqb}
 use lib.ListN.{length, getD, take, drop, set, length-set, List·getD-eq-default}
 use lib.Seq.{take-all, length-take-le, getD-take, getD-set-same}
 use Rattle.cedar.specs.Rows.{Row, rbool, rlong, rtext, rent, rset, rrec}
 use Rattle.cedar.specs.Numbered.{anyN, memN, rSet}
+use Rattle.cedar.proofs.Tools.{no-true, and-both}
 use Rattle.sheet.specs.Forms.{tag, items, at, mark, firstValue, VALUE, ENTITY}
 use Rattle.sheet.specs.State.{valueRow, entriesOf}
 use Rattle.sheet.specs.Bytes.{longAt}
@@ -19,8 +20,8 @@ use Rattle.forms.specs.Tags.{SET-VALUE}
 use Rattle.table.specs.Layout.{rowsOf}
 use Rattle.table.proofs.Rows.{count-rows}
 use Rattle.value.proofs.Lists.{uncons, spent}
-use Rattle.reach.specs.Marks.{LINES, VALUES, FAR, lineRows, placeOf, named, Filled, Indexed, Queue, Grown, Noted, Taken, Spot, Seen, Spread, Expanded, Found, markedAt, anyMarked, namesAt, unknownAt, isMet, anyMet}
-use Rattle.reach.proofs.Marking.{Marks, grown-old, grown-beside, grown-one, room-left, taken-on, seen-none, seen-old, seen-more, marks-on, marks-end, marks-start, queue-start}
+use Rattle.reach.specs.Marks.{LINES, VALUES, FAR, lineRows, placeOf, named, Filled, Indexed, Queue, Grown, Noted, Taken, Spot, Skipped, Seen, Spread, Expanded, Found, markedAt, anyMarked, namesAt, unknownAt, isMet, anyMet}
+use Rattle.reach.proofs.Marking.{Marks, grown-old, grown-beside, grown-one, room-left, taken-on, seen-none, seen-old, seen-more, seen-skip, marks-on, marks-end, marks-start, queue-start}
 
 -- ---- lines, line_at
 
@@ -205,6 +206,33 @@ note-near n v m h = record { near = λ l. refl; far = λ l. absurd (omega (arith
 pub meet-old : (E : List (List ℕ)) (v : ℕ) (w m q : List ℕ) (t x : ℕ) → Queue E m q t → Spot E w m → x ≡ getD w v 0 → (x ≡ 0 → ⊥) → Seen E (v ∷ []) 1 w m q t w m q t
 meet-old E v w m q t x c d ex e = seen-old E v w m q t c d (subst (λ (y : ℕ). 1 ≤ y) ex (not-none x e))
 
+module _ (w : List ℕ) (u v x : ℕ) (ex : x ≡ getD w u 0) where
+  pub both-none : x ≡ 0 → false ≡ (not (eqb (getD w u 0) 0) && not (eqb (getD w v 0) 0))
+  both-none e = sym (ap (λ (b : Bool). not b && not (eqb (getD w v 0) 0)) (eq-eqb (getD w u 0) 0 (sym ex ∙ e)))
+
+  pub both-by : (x ≡ 0 → ⊥) → (y : ℕ) → y ≡ getD w v 0 → not (eqb y 0) ≡ (not (eqb (getD w u 0) 0) && not (eqb (getD w v 0) 0))
+  both-by e y ey = ap (λ (z : ℕ). not (eqb z 0)) ey ∙ sym (ap (λ (b : Bool). not b && not (eqb (getD w v 0) 0)) (ne-eqb (getD w u 0) 0 (λ z. e (ex ∙ z))))
+
+pub skip-start : (w l : List ℕ) (i : ℕ) → i ≤ length l → Skipped w l i i
+skip-start w l i h = record { more = omega arith; near = h; is = λ k a b. absurd (omega (arith, a, b)) }
+
+pub skip-on : (w l : List ℕ) (i j : ℕ) → Skipped w l i j → j + 1 < length l → (b : Bool) → b ≡ (not (eqb (getD w (getD l j 0) 0) 0) && not (eqb (getD w (getD l (j + 1) 0) 0) 0)) → not b ≡ false → Skipped w l i (j + 2)
+skip-on w l i j c h b eb e = record { more = let z = c .more in omega (arith, z); near = omega (arith, h); is = λ k a g. each k a g (ltb k j) refl }
+  where
+    nonzero : (x : ℕ) → not (eqb x 0) ≡ true → 1 ≤ x
+    nonzero x q = not-none x (λ z. no-true (sym (ap not (eq-eqb x 0 z)) ∙ q))
+
+    two : (1 ≤ getD w (getD l j 0) 0) × (1 ≤ getD w (getD l (j + 1) 0) 0)
+    two = and-both (not (eqb (getD w (getD l j 0) 0) 0)) (not (eqb (getD w (getD l (j + 1) 0) 0) 0)) (sym eb ∙ not-false b e) (λ p q. (nonzero (getD w (getD l j 0) 0) p, nonzero (getD w (getD l (j + 1) 0) 0) q))
+
+    last : (k : ℕ) → (d : Bool) → eqb k j ≡ d → j ≤ k → k < j + 2 → 1 ≤ getD w (getD l k 0) 0
+    last k true q a g = subst (λ (n : ℕ). 1 ≤ getD w (getD l n 0) 0) (sym (eqb-true k j q)) (two .0)
+    last k false q a g = let z = eqb-false k j q in subst (λ (n : ℕ). 1 ≤ getD w (getD l n 0) 0) (let y : j + 1 ≡ k = omega (arith, z, a, g) in y) (two .1)
+
+    each : (k : ℕ) → i ≤ k → k < j + 2 → (d : Bool) → ltb k j ≡ d → 1 ≤ getD w (getD l k 0) 0
+    each k a g true q = c .is k a (ltb-true k j q)
+    each k a g false q = last k (eqb k j) refl (ltb-false k j q) g
+
 pub record Seeing (a p l w₀ m₀ q₀ : List ℕ) (t : ℕ) (w m q : List ℕ) (u j : ℕ) : Type 0 where
   pub near : j ≤ length l
   pub longw : length w ≡ length w₀
@@ -215,12 +243,15 @@ pub record Seeing (a p l w₀ m₀ q₀ : List ℕ) (t : ℕ) (w m q : List ℕ)
   pub spot : Spot (lineRows a) w m
   pub seen : Seen (lineRows a) l j w₀ m₀ q₀ t w m q u
 
-pub seeing-start : (a p l w m q : List ℕ) (t : ℕ) → Indexed (lineRows a) p → Queue (lineRows a) m q t → Spot (lineRows a) w m → Seeing a p l w m q t w m q t 0
-seeing-start a p l w m q t c d s = record { near = omega arith; longw = refl; long = refl; longq = refl; indexed = c; queue = d; spot = s; seen = seen-none (lineRows a) l 0 w m q t d s (λ i h. absurd (omega arith)) }
+pub seeing-start : (a p l w m q : List ℕ) (t j : ℕ) → Indexed (lineRows a) p → Queue (lineRows a) m q t → Spot (lineRows a) w m → Skipped w l 0 j → Seeing a p l w m q t w m q t j
+seeing-start a p l w m q t j c d s k = record { near = k .near; longw = refl; long = refl; longq = refl; indexed = c; queue = d; spot = s; seen = seen-skip (lineRows a) l 0 j w m q t w m q t (seen-none (lineRows a) l 0 w m q t d s (λ i h. absurd (omega arith))) k }
 
 module _ (a p l w₀ m₀ q₀ : List ℕ) (t : ℕ) (w m q : List ℕ) (u j : ℕ) (c : Seeing a p l w₀ m₀ q₀ t w m q u j) where
-  pub seeing-on : j < length l → (w′ m′ q′ : List ℕ) (u′ : ℕ) → Seen (lineRows a) (getD l j 0 ∷ []) 1 w m q u w′ m′ q′ u′ → Seeing a p l w₀ m₀ q₀ t w′ m′ q′ u′ (j + 1)
-  seeing-on h w′ m′ q′ u′ g = record { near = omega (arith, h); longw = g .longw ∙ c .longw; long = g .long ∙ c .long; longq = g .longq ∙ c .longq; indexed = c .indexed; queue = g .queue; spot = g .spot; seen = seen-more (lineRows a) l j w₀ m₀ q₀ t w m q u w′ m′ q′ u′ (c .seen) g }
+  pub seeing-on : j < length l → (w′ m′ q′ : List ℕ) (u′ : ℕ) → Seen (lineRows a) (getD l j 0 ∷ []) 1 w m q u w′ m′ q′ u′ → (i : ℕ) → Skipped w′ l (j + 1) i → Seeing a p l w₀ m₀ q₀ t w′ m′ q′ u′ i
+  seeing-on h w′ m′ q′ u′ g i k = record { near = k .near; longw = g .longw ∙ c .longw; long = g .long ∙ c .long; longq = g .longq ∙ c .longq; indexed = c .indexed; queue = g .queue; spot = g .spot; seen = seen-skip (lineRows a) l (j + 1) i w₀ m₀ q₀ t w′ m′ q′ u′ (seen-more (lineRows a) l j w₀ m₀ q₀ t w m q u w′ m′ q′ u′ (c .seen) g) k }
+
+  pub seeing-less : j < length l → (w′ : List ℕ) (i : ℕ) → Skipped w′ l (j + 1) i → length l - i < length l - j
+  seeing-less h w′ i k = let z = k .more in omega (arith, h, z)
 
   pub seeing-end : length l ≤ j → Seen (lineRows a) l (length l) w₀ m₀ q₀ t w m q u
   seeing-end h = subst (λ (n : ℕ). Seen (lineRows a) l n w₀ m₀ q₀ t w m q u) (let z = c .near in let x : j ≡ length l = omega (arith, z, h) in x) (c .seen)

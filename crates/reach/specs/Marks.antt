@@ -83,6 +83,12 @@ Taken E w m y = (1 ≤ getD m (placeOf y E) 0) × (y < length w → 1 ≤ getD w
 pub record Spot (E : List (List ℕ)) (w m : List ℕ) : Type 0 where
   pub is : (y : ℕ) → 1 ≤ getD w y 0 → Taken E w m y
 
+-- of l those from place i to j were met
+pub record Skipped (w l : List ℕ) (i j : ℕ) : Type 0 where
+  pub more : i ≤ j
+  pub near : j ≤ length l
+  pub is : (k : ℕ) → i ≤ k → k < j → 1 ≤ getD w (getD l k 0) 0
+
 -- the first n of l are met too, no others, and the lines that were not marked are queued behind the others
 pub record Seen (E : List (List ℕ)) (l : List ℕ) (n : ℕ) (w m q : List ℕ) (t : ℕ) (w′ m′ q′ : List ℕ) (t′ : ℕ) : Type 0 where
   pub queue : Queue E m′ q′ t′

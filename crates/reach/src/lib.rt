@@ -13,7 +13,7 @@ use value::members;
 use words::put;
 use words::read;
 ghost use mathlib.Core.Path.{_≡_};
-ghost use mathlib.Core.Bool.{not, _||_};
+ghost use mathlib.Core.Bool.{not, _&&_, _||_};
 ghost use mathlib.Core.List.{[], _∷_};
 ghost use Prim.Native.Nat.{_≤_, _<_};
 ghost use lib.Dec.{eqb};
@@ -21,7 +21,7 @@ ghost use lib.ListN.{length, getD, set};
 ghost use Rattle.sheet.specs.Forms.{VALUE};
 ghost use Rattle.sheet.specs.Parents.{parentsIn};
 ghost use Rattle.table.specs.Layout.{rowsOf};
-ghost use Rattle.reach.specs.Marks.{LINES, VALUES, FAR, lineRows, placeOf, Filled, Indexed, Queue, Noted, Grown, Spot, Seen, Spread, Expanded, Found, markedAt, anyMarked, namesAt, unknownAt, isMet, anyMet};
+ghost use Rattle.reach.specs.Marks.{LINES, VALUES, FAR, lineRows, placeOf, Filled, Indexed, Queue, Noted, Grown, Spot, Skipped, Seen, Spread, Expanded, Found, markedAt, anyMarked, namesAt, unknownAt, isMet, anyMet};
 
 // The most entity lines, and the most values of a sheet: so many bytes has a table by value.
 pub const LINES: usize = 128;
@@ -223,6 +223,31 @@ fn meet(
     see_at(rows, places, value, marks, queue, end)
 }
 
+// Whether two parents were both met.
+fn both_met(met: &[u8], first: u32, second: u32) -> bool
+    ensures { λ r. ⌜ r ≡ (not (eqb (getD (now (met .entry)) first 0) 0) && not (eqb (getD (now (met .entry)) second 0) 0)) ⌝ }
+{
+    if byte(met, first as usize) == 0 {
+        return false;
+    }
+    byte(met, second as usize) != 0
+}
+
+// The place in a list, from this one on, before which all parents were met: two are asked at a time, as most were met before.
+fn unmet(met: &[u8], list: &[u32], from: usize) -> usize
+    requires { ⌜ from ≤ length (now list) ⌝ }
+    ensures { λ i. ⌜ Skipped (now (met .entry)) (now (list .entry)) from i ⌝ }
+{
+    let mut i = from;
+    while i + 1 < list.len() {
+        if !both_met(met, list[i], list[i + 1]) {
+            return i;
+        }
+        i += 2;
+    }
+    i
+}
+
 // The parents of a list are met.
 fn see(
     rows: &[u32],
@@ -239,10 +264,10 @@ fn see(
     ensures { λ e. ⌜ Seen (lineRows (now (rows .entry))) (now (list .entry)) (length (now (list .entry))) (now (met .entry)) (now (marks .entry)) (now (queue .entry)) end (now (met .exit)) (now (marks .exit)) (now (queue .exit)) e ⌝ }
 {
     let mut e = end;
-    let mut i = 0;
+    let mut i = unmet(met, list, 0);
     while i < list.len() {
         e = meet(rows, places, list[i], met, marks, queue, e);
-        i += 1;
+        i = unmet(met, list, i + 1);
     }
     e
 }

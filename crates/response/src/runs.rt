@@ -21,7 +21,7 @@ pub struct Sent {
 }
 
 // A complete answer printed, where the buffer has room for it. Its name is found once, for the counting and for the printing.
-fn send_complete(out: &mut [u8], rows: &[u32], classes: &[u32]) -> Sent
+pub fn send_complete(out: &mut [u8], rows: &[u32], classes: &[u32]) -> Sent
     ensures { λ r. ⌜ Sends (completeBytes (whyIn (now (rows .entry)) (now (classes .entry))) (now (rows .entry)) (now (classes .entry))) (now (out .entry)) (r .number) (r .length) (now (out .exit)) ⌝ }
 {
     let policy = why_of(rows, classes);

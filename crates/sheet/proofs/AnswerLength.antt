@@ -28,15 +28,15 @@ use Rattle.sheet.specs.Content.{types, valueRows, schema, nEnv, known, o
 use Rattle.sheet.specs.Why.{Name, why, whyItem}
 use Rattle.sheet.specs.Call.{Accepted, Returned, room, returns, checkedThen, fitted, returned}
 use Rattle.sheet.specs.Answer.{printed, concat, numbers, decisionWord, effectWord, classWord, countsOf, headLines, entryItems, valueItems, valueLines, size, sizes, sizeArgs, root, roots, argRoots, op, unTag, unItems, binTag, relTag, varNumber, patternItems, typeNumber, rowWith, treeRows, allRows, argRows, residualRows, itemOut, itemsOut, nodeItems, nodeLines, policyItems, partialLines, completeLines, ids, run, results, answer}
-use Rattle.sheet.proofs.Lines.{zero-not-suc, accepted-history}
-use Rattle.sheet.proofs.Checked.{lent-by, checked-by}
+use Rattle.sheet.proofs.Lines.{accepted-history}
+use Rattle.sheet.proofs.Checked.{lent-by, checked-by, accepted-read, accepted-short, accepted-from}
 use Rattle.sheet.proofs.Refusals.{read-small}
 use Rattle.sheet.proofs.Limits.{most-lines}
 use Rattle.sheet.proofs.OnTerm.{on-term-few}
 use Rattle.sheet.proofs.MadeCount.{policySizes, residualSizes}
 use Rattle.sheet.proofs.MadeWords.{fieldsIn, rowWords, wordsOf, run-words}
 use Rattle.sheet.proofs.NeverNine.{policy-sizes, residual-sizes, made-at-most}
-use Rattle.sheet.proofs.Demand3Bytes.{facts, accepted-read}
+use Rattle.sheet.proofs.Demand3Bytes.{facts}
 use Rattle.sheet.proofs.LeftOver.{LeftLines, run-leaves}
 use Rattle.sheet.proofs.SheetSmall.{policies-small, asked-made}
 use Rattle.sheet.proofs.AnswerRead.{firsts-length, rows-are, made-values, residuals-small, few-types}
@@ -440,15 +440,6 @@ module _ (ts : List Ty) where
 
 -- ---- an accepted sheet
 
-accepted-short : (m : Mode) (sheet : List ℕ) → Accepted m sheet → length sheet ≤ room
-unfolding returned
-accepted-short m sheet a =
-    let r = fitted (a .out) (length (answer m (read m sheet .state))) in
-    lent-by Short (a .work₁) (a .work₂) (checkedThen m sheet r) (λ t e. zero-not-suc e) (λ t. checked-by Short m sheet r (λ e. zero-not-suc e) (λ n q e. zero-not-suc e) (λ h q e. h)) (a .zero-number)
-  where
-    Short : Returned → Type 0
-    Short r = r .number ≡ 0 → length sheet ≤ room
-
 -- 64 policies of one pattern as long as the sheet without its policy lines, 34 bytes for each of 1,024 nodes, 1,024 made values of 3,084 words, 62 bytes for each policy, and 215 for the head
 abbrev pub longest : ℕ
 longest = 1046675
@@ -532,15 +523,10 @@ pub answer-length : (m : Mode) (sheet : List ℕ) → Accepted m sheet → lengt
 answer-length partial sheet acc = partial-length sheet acc
 answer-length complete sheet acc = complete-length sheet acc
 
--- a sheet that is short enough and read without fault is accepted where there is room
-roomy : (m : Mode) (sheet : List ℕ) → length sheet ≤ room → read m sheet .number ≡ 0 → returned m room room (length (answer m (read m sheet .state))) sheet .number ≡ 0
-unfolding returned
-roomy m sheet h e = rw (le-ltb room (length sheet) h) (rw e (rw (le-ltb (length (answer m (read m sheet .state))) (length (answer m (read m sheet .state))) (omega arith))))
-
 -- NO ANSWER HAS MORE THAN 1,048,576 BYTES, whatever short sheet is read without fault
 pub answer-most : (m : Mode) (sheet : List ℕ) → length sheet ≤ room → read m sheet .number ≡ 0 → length (answer m (read m sheet .state)) ≤ mostAnswer
 answer-most m sheet h e =
-    let a = answer-length m sheet (record { work₁ = room; work₂ = room; out = length (answer m (read m sheet .state)); zero-number = roomy m sheet h e }) in
+    let a = answer-length m sheet (accepted-from m sheet h e) in
     omega (arith, a)
 
 -- A BUFFER OF 1,048,576 BYTES NEVER MEETS 10: every number returned there is one of 0 to 8

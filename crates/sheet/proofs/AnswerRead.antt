@@ -33,7 +33,8 @@ use Rattle.sheet.proofs.Environment.{Facts, env-read}
 use Rattle.sheet.proofs.TwoSheets.{values-append}
 use Rattle.sheet.proofs.OwnPolicies.{read-own}
 use Rattle.sheet.proofs.Counts.{content-length, partial-counts, complete-counts}
-use Rattle.sheet.proofs.Demand3Bytes.{facts, accepted-read}
+use Rattle.sheet.proofs.Checked.{accepted-read}
+use Rattle.sheet.proofs.Demand3Bytes.{facts}
 use Rattle.sheet.proofs.TypeNumbers.{types-length, LinesIn, residual-types}
 use Rattle.sheet.proofs.Limits.{most-lines}
 use Rattle.sheet.proofs.MadeCount.{residualSizes}

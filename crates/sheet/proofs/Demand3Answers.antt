@@ -34,7 +34,7 @@ use Rattle.cedar.proofs.Settled.{choice-settled}
 use Rattle.sheet.proofs.AnswerRead as A
 use Rattle.sheet.specs.Demand3 as D
 
-choices-parts : {u w : Verdict} {us ws : List Verdict} → Choices (u ∷ us) (w ∷ ws) → (w .effect ≡ u .effect) × Choice (u .class) (w .class) × Choices us ws
+pub choices-parts : {u w : Verdict} {us ws : List Verdict} → Choices (u ∷ us) (w ∷ ws) → (w .effect ≡ u .effect) × Choice (u .class) (w .class) × Choices us ws
 choices-parts (also h hs) = (refl, h, hs)
 
 module _ (p c : List ℕ) (ap′ : Accepted partial p) (ac : Accepted complete c) (ag : agrees (read partial p .state) (read complete c .state) ≡ true) where

@@ -22,11 +22,11 @@ use Rattle.sheet.specs.State.{State, linesOf, count, lineAt, entriesOf, 
 use Rattle.sheet.specs.Bytes.{longAt}
 use Rattle.sheet.specs.Sheet.{allThere, thereIs, read}
 use Rattle.sheet.specs.Content.{types, rowsIn, valueRows, contents, schema, patternOf, childrenOver, argsOver, treeFor, treeOver, treesFrom, trees, numberedPolicies, nPolicies, policies, known, nEnv, pEnv, env, onTerm, linked}
-use Rattle.sheet.specs.Answer.{run, results, answer}
-use Rattle.sheet.specs.Call.{Returned, checkedThen, fitted, returned, Accepted}
+use Rattle.sheet.specs.Answer.{run, results}
+use Rattle.sheet.specs.Call.{Accepted}
 use Rattle.sheet.specs.Agreement.{agrees}
-use Rattle.sheet.proofs.Lines.{and-both, zero-not-suc, Was, History, accepted-history, accepted-fit}
-use Rattle.sheet.proofs.Checked.{lent-by, checked-by}
+use Rattle.sheet.proofs.Lines.{and-both, Was, History, accepted-history, accepted-fit}
+use Rattle.sheet.proofs.Checked.{accepted-read}
 use Rattle.sheet.proofs.ValueRows.{values-table}
 use Rattle.sheet.proofs.NodeRows.{row-read}
 use Rattle.sheet.proofs.Slots.{like-slot}
@@ -235,15 +235,6 @@ module _ (p c : State) (fp : Facts partial p) (fc : Facts complete c) (k : Commo
       }
 
 -- ---- from bytes
-
-pub accepted-read : (m : Mode) (sheet : List ℕ) → Accepted m sheet → read m sheet .number ≡ 0
-unfolding returned
-accepted-read m sheet a =
-    let r = fitted (a .out) (length (answer m (read m sheet .state))) in
-    lent-by Read (a .work₁) (a .work₂) (checkedThen m sheet r) (λ t e. zero-not-suc e) (λ t. checked-by Read m sheet r (λ e. zero-not-suc e) (λ n q e. zero-not-suc e) (λ h q e. q)) (a .zero-number)
-  where
-    Read : Returned → Type 0
-    Read r = r .number ≡ 0 → read m sheet .number ≡ 0
 
 pub facts : (m : Mode) (sheet : List ℕ) → Accepted m sheet → Facts m (read m sheet .state)
 facts m sheet a = let e = accepted-read m sheet a in let (h, f) = accepted-history m sheet e in record { history = h; ends = f; keys = all-keys m sheet e; fit = accepted-fit m sheet e }

@@ -74,12 +74,16 @@ pub record Facts (m : Mode) (s : State) : Type 0 where
   pub keys : length (s .lines) ≡ noKey
   pub fit : AllFit s
 
-pub the-line : (m : Mode) (s : State) → Facts m s → (k : ℕ) → k < noKey → 1 ≤ getD (least s) k 0 → Was m s k [] (lineAt s k 0)
-the-line m s f k lt one =
+-- there is a line of a key that must have one
+pub a-line : (m : Mode) (s : State) → Facts m s → (k : ℕ) → k < noKey → 1 ≤ getD (least s) k 0 → 1 ≤ count s k
+a-line m s f k lt one =
     let a : reach (counts s) (least s) ≡ true = subst (λ z. reach z (least s) ≡ true) (take-all noKey (counts s) (lengths-length (s .lines) ∙ f .keys)) (f .ends .full) in
     let b = reach-at (counts s) (least s) a k (let z = lengths-length (s .lines) ∙ f .keys in omega (arith, z, lt)) (omega (arith, lt)) in
     let c = lengths-at (s .lines) k in
-    first-of (linesOf s k) (omega (arith, b, c, one)) (λ rest e. f .history k [] (lineAt s k 0) rest e)
+    omega (arith, b, c, one)
+
+pub the-line : (m : Mode) (s : State) → Facts m s → (k : ℕ) → k < noKey → 1 ≤ getD (least s) k 0 → Was m s k [] (lineAt s k 0)
+the-line m s f k lt one = first-of (linesOf s k) (a-line m s f k lt one) (λ rest e. f .history k [] (lineAt s k 0) rest e)
 
 -- ---- a known part
 

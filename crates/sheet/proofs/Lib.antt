@@ -19,6 +19,7 @@ pub mod ItemBytes
 pub mod KnownLines
 pub mod LeftOver
 pub mod Limits
+pub mod LinePlaces
 pub mod Linked
 pub mod Lines
 pub mod LinesBack

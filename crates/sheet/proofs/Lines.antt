@@ -71,14 +71,14 @@ ended s k e = let (p, a, b) = end-with s k _ _ (enough s noKey) (ltb (firstUnlin
 abbrev pub AllFit : State → Type 0
 AllFit s = ltb (firstUnfit s (linesOf s ENTITY)) (count s ENTITY) ≡ false
 
-entities-passed : (s : State) (x : Reading) → entitiesFit s x .number ≡ 0 → (entitiesFit s x ≡ x) × AllFit s
+pub entities-passed : (s : State) (x : Reading) → entitiesFit s x .number ≡ 0 → (entitiesFit s x ≡ x) × AllFit s
 entities-passed s x e = go (ltb (firstUnfit s (linesOf s ENTITY)) (count s ENTITY)) _ e
   where
     go : (b : Bool) (k : ℕ) → cond b (reads s 7 k) x .number ≡ 0 → (cond b (reads s 7 k) x ≡ x) × (b ≡ false)
     go true k q = zero-not-suc q
     go false k q = (refl, refl)
 
-line-passed : (l : List ℕ) (s : State) (x : Reading) → beforeLine l s x .number ≡ 0 → beforeLine l s x ≡ x
+pub line-passed : (l : List ℕ) (s : State) (x : Reading) → beforeLine l s x .number ≡ 0 → beforeLine l s x ≡ x
 line-passed l s x e = go (starts (ascii "entity=") l) e
   where
     go : (b : Bool) → cond b x (entitiesFit s x) .number ≡ 0 → cond b x (entitiesFit s x) ≡ x

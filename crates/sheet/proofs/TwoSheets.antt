@@ -59,6 +59,10 @@ pub record Common (p c : State) : Type 0 where
   pub shapes : linesOf p SHAPE ≡ linesOf c SHAPE
   pub nodes : linesOf p NODE ≡ linesOf c NODE
   pub rules : onTerm p ≡ onTerm c
+  pub policy-lines : linesOf p POLICY ≡ linesOf c POLICY
+  pub days : linesOf p DAY ≡ linesOf c DAY
+  pub links : linesOf p LINK ≡ linesOf c LINK
+  pub terms : linesOf p TERM ≡ linesOf c TERM
   pub who : requestSame (lineAt p PRINCIPAL 0) (lineAt c PRINCIPAL 0) ≡ true
   pub does : requestSame (lineAt p ACTION 0) (lineAt c ACTION 0) ≡ true
   pub whom : requestSame (lineAt p RESOURCE 0) (lineAt c RESOURCE 0) ≡ true
@@ -72,7 +76,7 @@ common p c e = and-both _ (allListed (linesOf p ENTITY) (linesOf c ENTITY)) e (�
     and-both _ (sameLines (linesOf p LINK) (linesOf c LINK)) e (λ e l. and-both _ (sameLines (linesOf p TERM) (linesOf c TERM)) e (λ e t. and-both _ (sameLines (linesOf p DAY) (linesOf c DAY)) e (λ e d. and-both _ (sameLines (linesOf p POLICY) (linesOf c POLICY)) e (λ e x7.
     and-both _ (sameLines (linesOf p NODE) (linesOf c NODE)) e (λ e x6. and-both _ (sameLines (linesOf p SHAPE) (linesOf c SHAPE)) e (λ e x5. and-both _ (sameLines (linesOf p TYPE) (linesOf c TYPE)) e (λ e x4.
     and-both _ (sameLines (linesOf p KIND) (linesOf c KIND)) e (λ e x3. and-both (begins (linesOf p TEXT) (linesOf c TEXT)) (begins (linesOf p VALUE) (linesOf c VALUE)) e (λ x1 x2.
-    record { texts = x1; values = x2; kinds = lines-same _ _ x3; types-same = lines-same _ _ x4; shapes = lines-same _ _ x5; nodes = lines-same _ _ x6; rules = same-term p c (lines-same _ _ d) (lines-same _ _ t) (lines-same _ _ l) (lines-same _ _ x7); who = x8; does = x9; whom = x10; where′ = x11; entities = x12 }))))))))))))))
+    record { texts = x1; values = x2; kinds = lines-same _ _ x3; types-same = lines-same _ _ x4; shapes = lines-same _ _ x5; nodes = lines-same _ _ x6; rules = same-term p c (lines-same _ _ d) (lines-same _ _ t) (lines-same _ _ l) (lines-same _ _ x7); policy-lines = lines-same _ _ x7; days = lines-same _ _ d; links = lines-same _ _ l; terms = lines-same _ _ t; who = x8; does = x9; whom = x10; where′ = x11; entities = x12 }))))))))))))))
 
 -- ---- contents
 

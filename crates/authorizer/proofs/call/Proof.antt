@@ -1,6 +1,7 @@
 -- `authorizer::call` meets its contract. Assumes nothing.
 use Rattle.line.specs.Codes.{modeOf}
-use Rattle.authorizer.proofs.Calling.{part-long, part-same, call-first, call-second, call-answered}
+use Rattle.opening.proofs.Lent.{part-long, part-same}
+use Rattle.authorizer.proofs.Calling.{call-first, call-second, call-answered}
 use borrow.Author.Needs.{needs}
 use Rattle.authorizer.proofs.call.Statement.{statement}
 use Rattle.authorizer.proofs.call.Tie as tie

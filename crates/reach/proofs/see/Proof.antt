@@ -1,7 +1,7 @@
 -- `reach::see` meets its contract. Assumes nothing.
 use Prim.Native.Nat.{_-_}
 use lib.ListN.{length}
-use Rattle.reach.proofs.Steps.{Seeing, seeing-end, seeing-on, seeing-start}
+use Rattle.reach.proofs.Steps.{Seeing, seeing-end, seeing-less, seeing-on, seeing-start}
 use borrow.Author.Needs.{needs}
 use Rattle.reach.proofs.see.Statement.{statement}
 use Rattle.reach.proofs.see.Tie as tie
@@ -15,6 +15,9 @@ abbrev μ-loop : tie.MeasureT-loop
 loop-holds : tie.Need-loop-holds Inv-loop μ-loop
 loop-holds c = search (seeing-start, needs)
 
+loop-less : tie.Need-loop-less Inv-loop μ-loop
+loop-less c = search (seeing-less, needs)
+
 loop-again : tie.Need-loop-again Inv-loop μ-loop
 loop-again c = search (seeing-on, needs)
 
@@ -27,12 +30,14 @@ see-spec =
     (tie.spec
     Inv-loop
     μ-loop
+    (λ c κs. search needs)
     loop-holds
     (λ c. search needs)
     (λ c. search needs)
     (λ c κs. search needs)
     (λ c. search needs)
-    (λ c. search needs)
+    (λ c κs. search needs)
+    loop-less
     loop-again
     (λ c. search needs)
     (λ c. search needs)

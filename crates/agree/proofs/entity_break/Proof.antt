@@ -1,0 +1,43 @@
+-- `agree::entity_break` meets its contract. Assumes nothing.
+use Prim.Native.Nat.{_-_}
+use Rattle.agree.proofs.Merging.{Breaking, break-start, break-off, break-on, break-end}
+use borrow.Author.Needs.{needs}
+use Rattle.agree.proofs.entity_break.Statement.{statement}
+use Rattle.agree.proofs.entity_break.Tie as tie
+
+abbrev Inv-loop : tie.InvT-loop
+Inv-loop rows others n i₀ j₀ i j = Breaking rows others n i j
+
+abbrev μ-loop : tie.MeasureT-loop
+μ-loop rows others n i₀ j₀ i j = n - i
+
+loop-holds : tie.Need-loop-holds Inv-loop μ-loop
+loop-holds c = search (break-start, needs)
+
+returns : tie.Need-returns Inv-loop μ-loop
+returns c = search (break-off, needs)
+
+loop-again : tie.Need-loop-again Inv-loop μ-loop
+loop-again c = search (break-on, needs)
+
+returns-2 : tie.Need-returns-2 Inv-loop μ-loop
+returns-2 c = search (break-end, needs)
+
+pub entity-break-spec : {M : Type 1} → statement M
+entity-break-spec =
+    tie.close
+    (tie.spec
+    Inv-loop
+    μ-loop
+    (λ c κs. search needs)
+    loop-holds
+    (λ c κs. search needs)
+    (λ c κs. search needs)
+    (λ c κs. search needs)
+    (λ c κs. search needs)
+    (λ c. search needs)
+    returns
+    (λ c. search needs)
+    (λ c. search needs)
+    loop-again
+    returns-2)

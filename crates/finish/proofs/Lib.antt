@@ -1,0 +1,3 @@
+pub mod Yields
+pub mod Finishing
+pub mod Calling

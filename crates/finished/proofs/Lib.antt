@@ -1,0 +1,7 @@
+pub mod BreakingLine
+pub mod FinishAgrees
+pub mod FinishCall
+pub mod FinishEdges
+pub mod FinishEqual
+pub mod FinishExample
+pub mod FinishLines

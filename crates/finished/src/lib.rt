@@ -1,0 +1,1 @@
+// No code: what `finish` answers, and the theorems on it.

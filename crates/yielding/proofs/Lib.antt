@@ -1,0 +1,7 @@
+pub mod Turning
+pub mod Accounts
+pub mod Getting
+pub mod Working
+pub mod Stacking
+pub mod Bringing
+pub mod Finishing
