@@ -91,6 +91,26 @@ fn finished(partial: &[u8], complete: &[u8], out: &mut [u8; SPACE]) -> usize
 
 // ---- the words
 
+// The bytes of a sheet that are read: one more than it may have, so that a longer one is seen.
+const INPUT: usize = 16385;
+
+// The place on the command line of the word that says what to do, and of the name that may follow it; the program's own name is before them.
+const WORD: usize = 1;
+
+const NAME: usize = 2;
+
+// What stands on the command line, by how many there are: nothing, the program's name, a word after it, a name after that.
+const NOTHING: usize = 0;
+
+const PROGRAM: usize = 1;
+
+const LONE_WORD: usize = 2;
+
+const NAMED_WORD: usize = 3;
+
+// The bytes of a word; a longer one is none of the words.
+const LETTERS: usize = 16;
+
 // The words, on standard output or standard error.
 fn help(to: i32) {
     io::write_all(
@@ -106,7 +126,7 @@ fn help(to: i32) {
 
 // No word: a sheet.
 fn print_answer() {
-    let mut input = [0u8; 16385];
+    let mut input = [0u8; INPUT];
     let n = io::read_full(STDIN_FILENO, &mut input);
     let mut out = [0u8; SPACE];
     let k = answer(&input[..n], &mut out);
@@ -115,9 +135,9 @@ fn print_answer() {
 
 // The partial sheet from an open file, the complete one from standard input.
 fn print_finished(file: i32) {
-    let mut first = [0u8; 16385];
+    let mut first = [0u8; INPUT];
     let n = io::read_full(file, &mut first);
-    let mut second = [0u8; 16385];
+    let mut second = [0u8; INPUT];
     let m = io::read_full(STDIN_FILENO, &mut second);
     let mut out = [0u8; SPACE];
     let k = finished(&first[..n], &second[..m], &mut out);
@@ -127,7 +147,7 @@ fn print_finished(file: i32) {
 // `finish PARTIAL`
 fn finish_word() {
     let mut path = io::buffer();
-    let n = os::arg(2, &mut path);
+    let n = os::arg(NAME, &mut path);
     let file = os::open_read(&path[..n]);
     if file < 0 {
         os::fail(&path[..n]);
@@ -156,13 +176,13 @@ fn named_word(word: &[u8]) {
 }
 
 fn main() {
-    let mut word = [0u8; 16];
-    let n = os::arg(1, &mut word);
+    let mut word = [0u8; LETTERS];
+    let n = os::arg(WORD, &mut word);
     match os::arg_count() {
-        0 => print_answer(),
-        1 => print_answer(),
-        2 => lone_word(&word[..n]),
-        3 => named_word(&word[..n]),
+        NOTHING => print_answer(),
+        PROGRAM => print_answer(),
+        LONE_WORD => lone_word(&word[..n]),
+        NAMED_WORD => named_word(&word[..n]),
         _ => help(STDERR_FILENO),
     }
 }
