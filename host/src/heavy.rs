@@ -183,8 +183,13 @@ pub fn all() -> Vec<(&'static str, Mode, Vec<u8>)> {
         "16 policies over one root of 20 in, 128 entities that are all each other's parents",
         shared_in(|draft| all_of(draft, 128), 1),
     );
-    add("16 policies over one root of 20 in, 72 entities with long sets of parents", shared_own_sets(1));
-    add("16 policies over one root of 20 in long sets, 72 entities with long sets of parents", shared_own_sets(100));
+    add("16 policies over one root of 20 in, 72 entities with long sets of parents", shared_own_sets(72, 1));
+    add("16 policies over one root of 20 in long sets, 72 entities with long sets of parents", shared_own_sets(72, 100));
+    add("16 policies over one root of 20 in, 128 entities with long sets of parents", shared_own_sets(128, 1));
+    add(
+        "16 policies over one root of 20 in, 128 entities with earlier ones as their parents",
+        greatest(|parents| shared_in(|draft| earlier_of(draft, parents), 1)),
+    );
     add("haspath of 2,000 steps, 32 kinds that declare the group of all", steps_in_one_group());
     add("haspath over many steps, each kind declares a group of its own", steps_in_groups());
     add("in of two groups, no pair allowed", pairs_of_kinds());
@@ -201,10 +206,10 @@ pub fn all() -> Vec<(&'static str, Mode, Vec<u8>)> {
     add("complete: in long sets, long ancestors", completed(ancestors()));
     add("complete: 128 entities, many look-ups", completed(look_ups()));
     add("complete: in, 128 entities with one set of 300 parents", completed(many_in(|draft| all_of(draft, 300), 1)));
-    add("complete: 16 policies over one root of 20 in, 72 entities with long sets of parents", completed(shared_own_sets(1)));
+    add("complete: 16 policies over one root of 20 in, 72 entities with long sets of parents", completed(shared_own_sets(72, 1)));
     add(
         "complete: 16 policies over one root of 20 in long sets, 72 entities with long sets of parents",
-        completed(shared_own_sets(100)),
+        completed(shared_own_sets(72, 100)),
     );
     add("complete: many made sets", completed(made_sets()));
     list
@@ -589,6 +594,13 @@ fn own_sets_of(draft: &mut Draft, lines: usize, parents: usize) -> u32 {
     kin(draft, &row, |n| (1..=parents).map(|step| row[(n + step) % lines]).collect())
 }
 
+/// 128 entities, of which each has as its parents the so many before it; the last one, which reaches all others.
+fn earlier_of(draft: &mut Draft, parents: usize) -> u32 {
+    let row = brokers(draft, 128);
+    kin(draft, &row, |n| row[n.saturating_sub(parents)..n].to_vec());
+    row[127]
+}
+
 fn own_sets(parents: usize) -> Draft {
     let mut draft = kinless();
     own_sets_of(&mut draft, 128, parents);
@@ -640,8 +652,8 @@ fn shared_in(low: impl Fn(&mut Draft) -> u32, targets: usize) -> Draft {
 }
 
 /// The same over as many parents as fit: fewer entities leave more room for them.
-fn shared_own_sets(targets: usize) -> Draft {
-    greatest(|parents| shared_in(|draft| own_sets_of(draft, 72, parents), targets))
+fn shared_own_sets(lines: usize, targets: usize) -> Draft {
+    greatest(|parents| shared_in(|draft| own_sets_of(draft, lines, parents), targets))
 }
 
 fn look_ups() -> Draft {
@@ -987,7 +999,7 @@ mod tests {
 
     #[test]
     fn as_many_in_as_can_be() {
-        for draft in [shared_own_sets(1), shared_own_sets(100)] {
+        for draft in [shared_own_sets(72, 1), shared_own_sets(72, 100)] {
             assert_eq!((draft.policies.len(), draft.uses(), draft.entities.len()), (16, 992, 72));
         }
     }

@@ -3,9 +3,11 @@ use forms::ENTITY;
 use forms::ENTITY_VALUE;
 use forms::VALUE;
 use reach::FAR;
+use reach::LINES;
 use reach::MARKS;
 use reach::VALUES;
 use reach::byte;
+use reach::line_at;
 use reach::lines;
 use reach::parents_of;
 use reach::reach;
@@ -15,6 +17,7 @@ use table::item;
 use table::row;
 use table::tag;
 use typing::lines::is_ancestor;
+use words::put;
 use words::read;
 ghost use mathlib.Core.Path.{_≡_};
 ghost use Prim.Native.Nat.{_≤_, _<_};
@@ -22,7 +25,7 @@ ghost use lib.ListN.{length};
 ghost use Rattle.sheet.specs.Forms.{ENTITY};
 ghost use Rattle.table.specs.Layout.{rowsOf};
 ghost use Rattle.reach.specs.Marks.{VALUES, FAR, lineRows, markedAt, anyMarked};
-ghost use Rattle.above.specs.Fitting.{allAbove, unfitAt, unfitValue, Unfit, reachedRule, unfitFrom};
+ghost use Rattle.above.specs.Fitting.{allAbove, unfitAt, unfitValue, Unfit, Passed, Passes, Fit, Fitted, unfitFrom};
 
 // Whether the values of a list are all entities of kinds above this one.
 fn all_above(rows: &[u32], kind: u32, list: &[u32]) -> bool
@@ -89,48 +92,109 @@ fn any_value(rows: &[u32], kind: u32, met: &[u8]) -> bool
     false
 }
 
-// Whether entity `value` reaches an entity of a kind that is not above this one, with tables for what is met and marked.
-fn found_unfit(rows: &[u32], kind: u32, value: u32, met: &mut [u8], marks: &mut [u32]) -> bool
+// Where line `number` is marked and its entity is of this kind, it is noted as fit.
+fn pass_at(rows: &[u32], kind: u32, marks: &[u32], number: u32, fit: &mut [u32])
+    ensures { λ _. ⌜ Passed (now (rows .entry)) kind (now (marks .entry)) number (now (fit .entry)) (now (fit .exit)) ⌝ }
+{
+    if read(marks, number as usize) == 0 {
+        return;
+    }
+    let q = row(rows, VALUE, item(line_at(rows, number), 1));
+    if tag(q) != ENTITY_VALUE {
+        return;
+    }
+    if item(q, 1) != kind {
+        return;
+    }
+    put(fit, number as usize, 1);
+}
+
+// The marked lines whose entities are of this kind are noted as fit: what they reach is reached from where the marks come from.
+fn pass(rows: &[u32], kind: u32, marks: &[u32], fit: &mut [u32])
+    ensures { λ _. ⌜ Passes (now (rows .entry)) kind (now (marks .entry)) (length (lineRows (now (rows .entry)))) (now (fit .entry)) (now (fit .exit)) ⌝ }
+{
+    let n = lines(rows);
+    let mut i = 0;
+    while i < n {
+        pass_at(rows, kind, marks, i, fit);
+        i += 1;
+    }
+}
+
+// Whether entity `value` reaches an entity of a kind that is not above this one, with tables for what is met and marked; where not, lines that it
+// reaches are noted as fit.
+fn found_unfit(
+    rows: &[u32],
+    kind: u32,
+    value: u32,
+    met: &mut [u8],
+    marks: &mut [u32],
+    fit: &mut [u32],
+) -> bool
     requires { ⌜ (length (now met) ≤ VALUES) × (FAR < length (now marks)) ⌝ }
-    ensures { λ r. ⌜ Unfit (now (rows .entry)) kind value r ⌝ }
+    requires { ⌜ Fit (now rows) (now fit) ⌝ }
+    ensures { λ r. ⌜ Unfit (now (rows .entry)) kind value (now (fit .exit)) r ⌝ }
 {
     reach(rows, value, met, marks);
     if read(marks, FAR) != 0 {
         return any_unfit(rows, kind, marks);
     }
-    any_value(rows, kind, met)
+    if any_value(rows, kind, met) {
+        return true;
+    }
+    pass(rows, kind, marks, fit);
+    false
 }
 
 // Whether entity `value` reaches an entity of a kind that is not above this one.
-fn reaches_unfit(rows: &[u32], kind: u32, value: u32) -> bool
-    ensures { λ r. ⌜ Unfit (now (rows .entry)) kind value r ⌝ }
+fn reaches_unfit(rows: &[u32], kind: u32, value: u32, fit: &mut [u32]) -> bool
+    requires { ⌜ Fit (now rows) (now fit) ⌝ }
+    ensures { λ r. ⌜ Unfit (now (rows .entry)) kind value (now (fit .exit)) r ⌝ }
 {
     let mut marks: [u32; MARKS] = [0; MARKS];
     let mut met: [u8; VALUES] = [0; VALUES];
     let n = values(rows);
-    found_unfit(rows, kind, value, &mut met[..n], &mut marks[..])
+    found_unfit(rows, kind, value, &mut met[..n], &mut marks[..], fit)
 }
 
-// Whether the kinds that the entity of a line reaches are all above its own.
-fn reached_fit(rows: &[u32], line: &[u32]) -> bool
-    ensures { λ b. ⌜ b ≡ reachedRule (now (rows .entry)) (now (line .entry)) ⌝ }
+// Whether the kinds that the entity of line `number` reaches are all above its own, unless the line is noted as fit.
+fn reached_fit(rows: &[u32], number: u32, fit: &mut [u32]) -> bool
+    requires { ⌜ Fit (now rows) (now fit) ⌝ }
+    ensures { λ b. ⌜ Fitted (now (rows .entry)) number (now (fit .exit)) b ⌝ }
 {
-    let v = item(line, 1);
+    if read(fit, number as usize) != 0 {
+        return true;
+    }
+    let v = item(row(rows, ENTITY, number), 1);
     let q = row(rows, VALUE, v);
     if tag(q) != ENTITY_VALUE {
         return false;
     }
-    !reaches_unfit(rows, item(q, 1), v)
+    !reaches_unfit(rows, item(q, 1), v, fit)
 }
 
-// The place of the first entity line that reaches a kind which is not above; as many as there are lines where none does.
+// Asks the last line: where it is fit, so are the lines of its kind that it reaches.
+fn ask_last(rows: &[u32], fit: &mut [u32])
+    requires { ⌜ Fit (now rows) (now fit) ⌝ }
+    ensures { λ _. ⌜ Fit (now (rows .entry)) (now (fit .exit)) ⌝ }
+{
+    let n = count(rows, ENTITY);
+    if n > 0 {
+        reached_fit(rows, n - 1, fit);
+    }
+}
+
+// The place of the first entity line that reaches a kind which is not above; as many as there are lines where none does. The last one is asked
+// before, as lines may reach earlier or later ones.
 pub fn first_unfit(rows: &[u32]) -> u32
     ensures { λ i. ⌜ i ≡ unfitFrom (now (rows .entry)) (rowsOf (now (rows .entry)) ENTITY) ⌝ }
 {
     let n = count(rows, ENTITY);
+    let mut fit: [u32; LINES] = [0; LINES];
+    ask_last(rows, &mut fit[..]);
     let mut i = 0;
     while i < n {
-        if !reached_fit(rows, row(rows, ENTITY, i)) {
+        if !reached_fit(rows, i, &mut fit[..]) {
             return i;
         }
         i += 1;

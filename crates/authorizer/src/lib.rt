@@ -1,6 +1,7 @@
 // The calls. Each reads a sheet, runs it and prints the answer, in two work slices and a buffer that the caller lends, and asks nothing
 // of them: what is too short is refused.
 use opening::open;
+pub use print::Returned;
 use response::runs::answer_complete;
 use response::runs::answer_partial;
 use words::ROOM;
@@ -11,13 +12,6 @@ ghost use Rattle.sheet.specs.Forms.{partial, complete};
 ghost use Rattle.line.specs.Codes.{modeOf};
 ghost use Rattle.authorizer.specs.Called.{Called};
 ghost use Rattle.authorizer.specs.Parts.{Answers};
-
-// Number and line of a refusal, or 0 and 0; the bytes of the answer, also where the buffer is too short for them.
-pub struct Returned {
-    pub number: u32,
-    pub line: usize,
-    pub length: usize,
-}
 
 // A sheet read, run and answered, in work slices that are long enough.
 fn answered(

@@ -126,7 +126,7 @@ module _ (sheet a₀ : List ℕ) (G : Env) where
 
   -- ---- the policies in order
 
-  class-is : {C : List Content} {a : List ℕ} {y : Yield} {r : Result} → Stand sheet a₀ G C a → Says C y r → classOf a y ≡ resultClass r
+  pub class-is : {C : List Content} {a : List ℕ} {y : Yield} {r : Result} → Stand sheet a₀ G C a → Says C y r → classOf a y ≡ resultClass r
   unfolding classOf
   class-is s (says-value h) = on-bool _≡_ refl truth truth (row-denotes (s .table) h) (λ b. refl)
   class-is s says-error = refl

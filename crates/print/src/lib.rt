@@ -4,6 +4,14 @@ ghost use mathlib.Core.List.{[], _∷_};
 ghost use Rattle.sheet.specs.Bytes.{longAt, digits, signed};
 ghost use Rattle.print.specs.Written.{Written};
 
+// What a call over a lent buffer returns: number and line of a refusal, or 0 and 0; the bytes of the answer, also where the buffer is too short
+// for them.
+pub struct Returned {
+    pub number: u32,
+    pub line: usize,
+    pub length: usize,
+}
+
 const GREATEST: usize = 18446744073709551615;
 
 // One byte.

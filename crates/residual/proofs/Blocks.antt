@@ -126,7 +126,7 @@ module _ (r : List ℕ) (k : ℕ) (T : Ty) (cs : List (Node ℕ)) where
   abbrev c : ℕ → Node ℕ
   c j = getD cs j (err tbool)
 
-  at-operation : {Q : ℕ → Node ℕ → Type 0} → Each Q firstNode (suitsFor r (length cs)) (leftFor r k T cs c) → suits r (length cs) ≡ true → Q (tag r) (leftTree r k T cs)
+  pub at-operation : {Q : ℕ → Node ℕ → Type 0} → Each Q firstNode (suitsFor r (length cs)) (leftFor r k T cs c) → suits r (length cs) ≡ true → Q (tag r) (leftTree r k T cs)
   unfolding suits leftTree
   at-operation {Q} e s =
       let p = and-eq-true-iff (leb firstNode (tag r)) (getD (suitsFor r (length cs)) (tag r - firstNode) false) .0 s in

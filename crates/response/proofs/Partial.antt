@@ -50,11 +50,11 @@ made-held sheet a b =
 
 -- ---- policies
 
-abbrev effectFirst : List Verdict → Effect
+abbrev pub effectFirst : List Verdict → Effect
 effectFirst [] = permit
 effectFirst (v ∷ vs) = v .effect
 
-abbrev classFirst : List Verdict → Class
+abbrev pub classFirst : List Verdict → Class
 classFirst [] = copen
 classFirst (v ∷ vs) = v .class
 

@@ -101,16 +101,34 @@ module _ (sheet a b : List ℕ) (h : Holding partial sheet a b) where
 pub log-fits : (l b : List ℕ) (e : ℕ) → l ≡ part b 0 e → length b ≡ room → length l ≤ room
 log-fits l b e el h = omega (arith, ap length (el ∙ part-front b e), length-take e b)
 
+-- the run's words a′ and b′, and its lines noted in b″
+module _ (sheet a b : List ℕ) (h : Holding partial sheet a b) (a′ b′ b″ : List ℕ) (e : ℕ) (q : Leaves 0 a′ b′ e (ended (runOf partial sheet a []))) (lb : length b ≡ room)
+    (lb′ : length b′ ≡ length b) (eb : b″ ≡ linesOf a′ b′ e) where
+  abbrev t : Ran
+  t = runOf partial sheet a []
+
+  long : room ≤ length b′
+  long = omega (arith, lb, lb′)
+
+  lines-in : b″ ≡ linesOf (t .words) b′ e
+  lines-in = eb ∙ ap (λ (y : List ℕ). linesOf y b′ e) (q .words)
+
+  noted : Lined (run partial (read partial sheet .state) .lines) b′ b″
+  noted = subst (Lined (run partial (read partial sheet .state) .lines) b′) (sym lines-in) (lined sheet a b (h .accepted) (h .state) (h .sound) (h .none) (h .runs) (h .fits) b′ e (q .log) long)
+
+  log-kept : take e b″ ≡ t .log
+  log-kept = ap (take e) lines-in ∙ log-stays sheet a b (h .accepted) (h .state) (h .sound) (h .none) (h .runs) (h .fits) b′ e (q .log) long
+
+  -- WHAT THE RUN LEAVES IN WORDS
+  pub run-words : RunWords sheet a (run partial (read partial sheet .state)) a′ (t .log) (part b″ CLASSES room) (part b″ ROOTS room)
+  run-words = subst (λ (y : List ℕ). RunWords sheet a (run partial (read partial sheet .state)) y (t .log) (part b″ CLASSES room) (part b″ ROOTS room)) (sym (q .words)) (words sheet a b h b′ b″ noted)
+
 pub partial-runs : (sheet a b a′ b′ b″ l cs es out : List ℕ) (e number len : ℕ) (out′ : List ℕ) → Leaves 0 a′ b′ e (ended (runOf partial sheet a [])) → length b ≡ room → length b′ ≡ length b
     → b″ ≡ linesOf a′ b′ e → l ≡ part b″ 0 e → cs ≡ part b″ CLASSES room → es ≡ part b″ ROOTS room → Sends (partialBytes (whyIn a′ cs) a′ l cs es) out number len out′
     → Runs partial sheet a b out number len out′
 partial-runs sheet a b a′ b′ b″ l cs es out e number len out′ q lb lb′ eb el ec ee s h =
-    let t : Ran = runOf partial sheet a [] in
-    let k : room ≤ length b′ = omega (arith, lb, lb′) in
-    let w : b″ ≡ linesOf (t .words) b′ e = eb ∙ ap (λ (y : List ℕ). linesOf y b′ e) (q .words) in
-    let n : Lined (run partial (read partial sheet .state) .lines) b′ b″ =
-    subst (Lined (run partial (read partial sheet .state) .lines) b′) (sym w) (lined sheet a b (h .accepted) (h .state) (h .sound) (h .none) (h .runs) (h .fits) b′ e (q .log) k) in
-    let g : l ≡ t .log = el ∙ part-front b″ e ∙ ap (take e) w ∙ log-stays sheet a b (h .accepted) (h .state) (h .sound) (h .none) (h .runs) (h .fits) b′ e (q .log) k in
-    let i : partialBytes (whyIn a′ cs) a′ l cs es ≡ partialBytes (whyIn (t .words) (part b″ CLASSES room)) (t .words) (t .log) (part b″ CLASSES room) (part b″ ROOTS room) =
-    ap₂ (λ (y z : List ℕ). partialBytes (whyIn y cs) y z cs es) (q .words) g ∙ ap₂ (λ (y z : List ℕ). partialBytes (whyIn (t .words) y) (t .words) (t .log) y z) ec ee in
-    subst (λ (y : List ℕ). Sends y out number len out′) (i ∙ run-bytes sheet a b h b′ b″ n) s
+    let r : Ran = runOf partial sheet a [] in
+    let g : l ≡ r .log = el ∙ part-front b″ e ∙ log-kept sheet a b h a′ b′ b″ e q lb lb′ eb in
+    let i : partialBytes (whyIn a′ cs) a′ l cs es ≡ partialBytes (whyIn (r .words) (part b″ CLASSES room)) (r .words) (r .log) (part b″ CLASSES room) (part b″ ROOTS room) =
+    ap₂ (λ (y z : List ℕ). partialBytes (whyIn y cs) y z cs es) (q .words) g ∙ ap₂ (λ (y z : List ℕ). partialBytes (whyIn (r .words) y) (r .words) (r .log) y z) ec ee in
+    subst (λ (y : List ℕ). Sends y out number len out′) (i ∙ run-bytes sheet a b h b′ b″ (noted sheet a b h a′ b′ b″ e q lb lb′ eb)) s

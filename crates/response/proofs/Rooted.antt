@@ -36,7 +36,7 @@ rooted-text r c x =
 abbrev pub rootedFrom : List ℕ → List ℕ → List ℕ → ℕ → List ℕ
 rootedFrom a cs es i = concat (rootedOf (drop i (rowsOf a RUN)) (drop i cs) (drop i es))
 
-next : (l : List ℕ) (i : ℕ) → drop 1 (drop i l) ≡ drop (i + 1) l
+pub next : (l : List ℕ) (i : ℕ) → drop 1 (drop i l) ≡ drop (i + 1) l
 next l i = next-of l i ∙ ap (λ (j : ℕ). drop j l) (sym (add-one i))
 
 rooted-step : (a cs es : List ℕ) (i : ℕ) → i < length (rowsOf a RUN) → rootedFrom a cs es i ≡ (policyAt a cs i ++ ((44 ∷ digits (getD es i 0)) ++ (10 ∷ []))) ++ rootedFrom a cs es (i + 1)

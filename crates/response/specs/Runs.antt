@@ -1,28 +1,15 @@
 -- A run of a sheet that the words hold, and its answer sent into a buffer that may be too short for it. A name with a prime is what is left.
 use mathlib.Core.Path.{_≡_}
-use mathlib.Core.Bool.{cond}
 use mathlib.Core.List.{List}
 use Prim.Native.Nat.{ℕ}
-use lib.Dec.{eqb}
-use lib.ListN.{length, getD}
+use lib.ListN.{getD}
 use Rattle.sheet.specs.Forms.{Mode}
 use Rattle.sheet.specs.Sheet.{read}
 use Rattle.sheet.specs.Content.{onTerm}
 use Rattle.sheet.specs.Answer.{answer}
-use Rattle.sheet.specs.Call.{Returned, fitted, over}
 use Rattle.table.specs.Layout.{rowsOf, held, Sound, RUN, MADE}
 use Rattle.tpe.specs.Fits.{Fits}
-
--- where r is to be returned, and these bytes are the answer
-pub record Gives (r : Returned) (bytes out : List ℕ) (number line len : ℕ) (out′ : List ℕ) : Type 0 where
-  pub number-is : number ≡ r .number
-  pub line-is : line ≡ r .line
-  pub length-is : len ≡ r .length
-  pub buffer : out′ ≡ cond (eqb number 0) (over bytes out) out
-
--- an answer into a buffer: 10 where it is too short, else 0, at no line
-abbrev pub Sends : List ℕ → List ℕ → ℕ → ℕ → List ℕ → Type 0
-Sends bytes out number len out′ = Gives (fitted (length out) (length bytes)) bytes out number 0 len out′
+pub use Rattle.print.specs.Sent.{Gives, Sends}
 
 -- the words hold an accepted sheet, as reading leaves it, with its policies on term as those that run
 pub record Holding (m : Mode) (sheet a b : List ℕ) : Type 0 where

@@ -204,7 +204,7 @@ known-words n g r e = go (eqb n mark) e
         words-in none = 0
         words-in (some x) = givenWords x
 
-asked-words : (m : Mode) (s : State) (x : Var) (r : Row) → nEnv m s .request x ≡ some (made r) → rowWords r ≤ 3
+pub asked-words : (m : Mode) (s : State) (x : Var) (r : Row) → nEnv m s .request x ≡ some (made r) → rowWords r ≤ 3
 unfolding nEnv
 asked-words m s principal r e = let l = lineAt s PRINCIPAL 0 in let a = known-words (at l 1) (made (rent (at l 0) (at l 1))) r e in omega (arith, a)
 asked-words m s action r e = let l = lineAt s ACTION 0 in let a = known-words (at l 1) (made (rent (at l 0) (at l 1))) r e in omega (arith, a)

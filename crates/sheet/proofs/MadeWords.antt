@@ -40,7 +40,7 @@ abbrev pub wordsOf : List Row → ℕ
 wordsOf [] = 0
 wordsOf (r ∷ R) = rowWords r + wordsOf R
 
-words-append : (R : List Row) (r : Row) → wordsOf (R ++ (r ∷ [])) ≡ wordsOf R + rowWords r
+pub words-append : (R : List Row) (r : Row) → wordsOf (R ++ (r ∷ [])) ≡ wordsOf R + rowWords r
 words-append [] r = omega arith
 words-append (q ∷ R) r = let a = words-append R r in omega (arith, a)
 
@@ -60,15 +60,15 @@ sort-most (n ∷ l) = let a = insert-most n (sortN l) in let b = sort-most l in 
 
 -- ---- children
 
-abbrev howMany : Nodes ℕ → ℕ
+abbrev pub howMany : Nodes ℕ → ℕ
 howMany enil = 0
 howMany (econs e es) = suc (howMany es)
 
-abbrev howManyArgs : NodeArgs ℕ → ℕ
+abbrev pub howManyArgs : NodeArgs ℕ → ℕ
 howManyArgs gnil = 0
 howManyArgs (gcons t e gs) = suc (howManyArgs gs)
 
-numbers-are : (es : Nodes ℕ) (l : List ℕ) → numbers es ≡ some l → length l ≡ howMany es
+pub numbers-are : (es : Nodes ℕ) (l : List ℕ) → numbers es ≡ some l → length l ≡ howMany es
 numbers-are enil l q = ap length (sym (Option·some-injective _ _ q))
 numbers-are (econs e es) l q = go (view e) (numbers es) refl (λ k p. numbers-are es k p) q
   where
@@ -78,7 +78,7 @@ numbers-are (econs e es) l q = go (view e) (numbers es) refl (λ k p. numbers-ar
     go error o p f r = no-some r
     go open′ o p f r = no-some r
 
-entries-are : (gs : NodeArgs ℕ) (d : Entries) → entries gs ≡ some d → fieldsIn d ≡ howManyArgs gs
+pub entries-are : (gs : NodeArgs ℕ) (d : Entries) → entries gs ≡ some d → fieldsIn d ≡ howManyArgs gs
 entries-are gnil d q = ap fieldsIn (sym (Option·some-injective _ _ q))
 entries-are (gcons t e gs) d q = go (view e) (entries gs) refl (λ k p. entries-are gs k p) q
   where
@@ -94,10 +94,10 @@ pub record Measure (N : NEnv) (μ : List Row → ℕ) : Type 0 where
   pub any : (R : List Row) (r : Row) → μ (intern R r .rows) ≤ μ R + rowWords r
   pub asked : (x : Var) (r : Row) → N .request x ≡ some (made r) → (R : List Row) → μ (intern R r .rows) ≤ μ R
 
-abbrev Cheap : Row → Type 0
+abbrev pub Cheap : Row → Type 0
 Cheap r = rowWords r ≤ 3
 
-cheap : Basic Cheap
+pub cheap : Basic Cheap
 cheap = record { bools = λ b. omega arith; longs = λ z e. omega arith }
 
 module _ (S : Schema) (N : NEnv) (μ : List Row → ℕ) (mu : Measure N μ) where
@@ -365,14 +365,14 @@ module _ (N : NEnv) (small : (x : Var) (r : Row) → N .request x ≡ some (made
   abbrev pub budget : List Row → ℕ
   budget R = wordsOf R + 3 * missing N R
 
-  budget-any : (R : List Row) (r : Row) → budget (intern R r .rows) ≤ budget R + rowWords r
+  pub budget-any : (R : List Row) (r : Row) → budget (intern R r .rows) ≤ budget R + rowWords r
   budget-any R r = go (findRow r R)
     where
       go : (o : Option ℕ) → budget (orAdd o R r .rows) ≤ budget R + rowWords r
       go none = let a = words-append R r in let b = missing-falls N R r in omega (arith, a, b)
       go (some n) = omega arith
 
-  budget-asked : (x : Var) (r : Row) → N .request x ≡ some (made r) → (R : List Row) → budget (intern R r .rows) ≤ budget R
+  pub budget-asked : (x : Var) (r : Row) → N .request x ≡ some (made r) → (R : List Row) → budget (intern R r .rows) ≤ budget R
   budget-asked x r e R = go (findRow r R) refl
     where
       go : (o : Option ℕ) → findRow r R ≡ o → budget (orAdd o R r .rows) ≤ budget R

@@ -1,15 +1,19 @@
 -- `above::first_unfit` meets its contract. Assumes nothing.
 use Prim.Native.Nat.{_-_}
-use Rattle.above.proofs.Fits.{Firsts, firsts-end, firsts-hit, firsts-on, firsts-start}
+use Rattle.reach.specs.Marks.{LINES}
+use Rattle.above.proofs.Fits.{Firsts, blank, firsts-end, firsts-hit, firsts-on, firsts-start, none-fit}
 use borrow.Author.Needs.{needs}
 use Rattle.above.proofs.first_unfit.Statement.{statement}
 use Rattle.above.proofs.first_unfit.Tie as tie
 
 abbrev Inv-loop : tie.InvT-loop
-Inv-loop rows n i₀ i = Firsts rows n i
+Inv-loop rows n fit₀ i₀ fit i = Firsts rows n fit i
 
 abbrev μ-loop : tie.MeasureT-loop
-μ-loop rows n i₀ i = n - i
+μ-loop rows n fit₀ i₀ fit i = n - i
+
+ask-last-requires : tie.Need-ask-last-requires Inv-loop μ-loop
+ask-last-requires c κs = none-fit _ _ (blank LINES)
 
 loop-holds : tie.Need-loop-holds Inv-loop μ-loop
 loop-holds c = search (firsts-start, needs)
@@ -30,8 +34,10 @@ first-unfit-spec =
     Inv-loop
     μ-loop
     (λ c κs. search needs)
+    (λ c. search needs)
+    ask-last-requires
     loop-holds
-    (λ c κs. search needs)
+    (λ c. search needs)
     (λ c κs. search needs)
     returns
     (λ c. search needs)

@@ -10,7 +10,7 @@ slice-aggregate-found-unfit : tie.Need-slice-aggregate-found-unfit
 slice-aggregate-found-unfit c = sym (length-take-le _ _ (search needs))
 
 found-unfit-requires : tie.Need-found-unfit-requires
-found-unfit-requires c κs = let v = c .before .before .values in (cut-most (v .result) _ (v .ensures), search needs)
+found-unfit-requires c κs = let v = c .before .before .before .values in ((cut-most (v .result) _ (v .ensures), search needs), search needs)
 
 pub reaches-unfit-spec : {M : Type 1} → statement M
 reaches-unfit-spec =
@@ -21,4 +21,5 @@ reaches-unfit-spec =
     slice-aggregate-found-unfit
     (λ c. search needs)
     found-unfit-requires
+    (λ c. search needs)
     (λ c. search needs))
