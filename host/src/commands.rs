@@ -107,11 +107,7 @@ pub fn run(args: &[&str]) -> ExitCode {
             match replay::check(&bytes, library().unwrap_or(run::call)) {
                 Some((records, differences)) => {
                     println!("{records} records, {differences} differences");
-                    if differences == 0 {
-                        ExitCode::SUCCESS
-                    } else {
-                        ExitCode::FAILURE
-                    }
+                    verdict(differences)
                 }
                 None => {
                     println!("the list does not read back");
@@ -201,35 +197,32 @@ fn benched(rounds: usize) -> ExitCode {
     ExitCode::SUCCESS
 }
 
-fn finished(call: Finish, count: u64, seed: u64) -> ExitCode {
-    let counts = finish::compare(call, count, seed);
-    println!("finish of the library against the complete sheet's own run, seed {seed}: {}", counts.line());
-    if counts.differences == 0 {
+/// Success where nothing differed.
+fn verdict(differences: usize) -> ExitCode {
+    if differences == 0 {
         ExitCode::SUCCESS
     } else {
         ExitCode::FAILURE
     }
 }
 
+fn finished(call: Finish, count: u64, seed: u64) -> ExitCode {
+    let counts = finish::compare(call, count, seed);
+    println!("finish of the library against the complete sheet's own run, seed {seed}: {}", counts.line());
+    verdict(counts.differences)
+}
+
 fn compared(name: &str, call: Call, count: u64, seed: u64) -> ExitCode {
     let counts = compare::compare(call, count, seed);
     println!("{name} against the original, seed {seed}: {}", counts.line());
-    if counts.differences == 0 {
-        ExitCode::SUCCESS
-    } else {
-        ExitCode::FAILURE
-    }
+    verdict(counts.differences)
 }
 
 /// Answers handed back to the library.
 fn handed_back(call: Call, count: usize, seed: u64) -> ExitCode {
     let counts = again::again(call, count, seed);
     println!("answers of partial sheets, seed {seed}: {}", counts.line());
-    if counts.differences == 0 {
-        ExitCode::SUCCESS
-    } else {
-        ExitCode::FAILURE
-    }
+    verdict(counts.differences)
 }
 
 /// Known sheets, each with its expected text, and one of them in several buffers.
@@ -269,11 +262,7 @@ fn cases(folder: &Path) -> ExitCode {
         }
     }
     println!("{count} cases, {differences} differences; {grouped} accepted with groups, their answers not compared");
-    if differences == 0 {
-        ExitCode::SUCCESS
-    } else {
-        ExitCode::FAILURE
-    }
+    verdict(differences)
 }
 
 /// The known sheet with an exact, a short and no buffer, and with a short work slice.

@@ -191,25 +191,27 @@ fn triple(call: Call, sheets: &[Vec<u8>; 3], random: &mut Random) -> Option<Stri
     run::demand3([&sheets[0], &sheets[1], &sheets[2]], [&answers[0], &answers[1], &answers[2]]).err()
 }
 
+/// One difference more; the first twenty are printed.
+pub fn report(differences: &mut usize, text: String) {
+    *differences += 1;
+    if *differences <= 20 {
+        println!("{text}");
+    }
+}
+
 /// Compares on so many sheets of a seed, and on a triple for every fourth.
 pub fn compare(call: Call, count: u64, seed: u64) -> Counts {
     let mut counts = Counts::default();
-    let report = |counts: &mut Counts, text: String| {
-        counts.differences += 1;
-        if counts.differences <= 20 {
-            println!("{text}");
-        }
-    };
     for n in 0..count {
         let case = generate::sheet(seed, n);
         let random = &mut Random::of(!seed, n);
         if let Some(text) = one(call, &case, random, &mut counts) {
-            report(&mut counts, format!("seed {seed}, sheet {n}: {text} (host show {seed} {n})"));
+            report(&mut counts.differences, format!("seed {seed}, sheet {n}: {text} (host show {seed} {n})"));
         }
         if n % 4 == 0 {
             counts.triples += 1;
             if let Some(text) = triple(call, &generate::triple(seed, n), random) {
-                report(&mut counts, format!("seed {seed}, triple {n}: {text} (host show-triple {seed} {n})"));
+                report(&mut counts.differences, format!("seed {seed}, triple {n}: {text} (host show-triple {seed} {n})"));
             }
         }
     }

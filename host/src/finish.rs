@@ -1,7 +1,7 @@
 //! Document 02, 2.1: the library's `finish` beside the complete sheet's own run by the original, on pairs that agree and pairs that
 //! nearly do. Where they do not, the line of number 11 is found here from the lines of both sheets as they stand.
 
-use crate::compare::{buffer_length, by_number, work_length, Lent};
+use crate::compare::{buffer_length, by_number, report, work_length, Lent};
 use crate::draft::bytes_of;
 use crate::generate;
 use crate::random::Random;
@@ -244,10 +244,7 @@ pub fn compare(finish: Finish, count: u64, seed: u64) -> Counts {
     for n in 0..count {
         let random = &mut Random::of(!seed, n);
         if let Some(text) = one(finish, &pair(seed, n), random, &mut counts) {
-            counts.differences += 1;
-            if counts.differences <= 20 {
-                println!("seed {seed}, pair {n}: {text} (host show-pair {seed} {n})");
-            }
+            report(&mut counts.differences, format!("seed {seed}, pair {n}: {text} (host show-pair {seed} {n})"));
         }
     }
     counts

@@ -234,6 +234,20 @@ fn parents() {
     assert_eq!(evaluator.partial(unfit("entity=3,?,?,7\n").as_bytes()), refused(5, line + 2, 0));
 }
 
+/// The complete forms of examples/ that are to finish `excluded-goods`, each with what is printed.
+#[test]
+fn forms_finished() {
+    let mut evaluator = Evaluator::new();
+    let read = |file: &str| std::fs::read_to_string(format!("../examples/excluded-goods{file}")).expect("the example is there");
+    for form in ["-timber", "-fireworks", "-heavier"] {
+        let text = match evaluator.finish(read(".sheet").as_bytes(), read(&format!("{form}.sheet")).as_bytes()) {
+            Outcome::Answer(text) => text.to_string(),
+            Outcome::Refused(refusal) => format!("{refusal}\n"),
+        };
+        assert_eq!(text, read(&format!("{form}.finished")));
+    }
+}
+
 #[test]
 fn finished() {
     let mut evaluator = Evaluator::new();
