@@ -127,7 +127,10 @@ mod tests {
         let lines: Vec<&[u8]> = made.split(|byte| *byte == b'\n').collect();
         assert_eq!(lines[0], format!("{:72}", "decision=deny").as_bytes());
         assert_eq!(lines[1], format!("{:40}permit  open    {:>16}", "first", 3).as_bytes());
-        assert_eq!(lines[2], format!("{:.40}forbid  true    {:>16}", "an id of more than forty bytes is cut off here", 1).as_bytes());
+        assert_eq!(
+            lines[2],
+            format!("{:.40}forbid  true    {:>16}", "an id of more than forty bytes is cut off here", 1).as_bytes()
+        );
         assert!(lines[3..60].iter().all(|line| *line == [b' '; 72]));
     }
 

@@ -1,7 +1,9 @@
 //! Known sheets through the safe crate: the worked input of the program, every form of refusal that it can meet, and what the
 //! calls leave in the slices that they are lent.
 
-use openrules::{complete, finish, page, partial, Evaluator, Outcome, Refusal, ANSWER as LONGEST, PAGE, SHEET as GREATEST, WORDS};
+use openrules::{
+    complete, finish, page, partial, Evaluator, Outcome, Refusal, ANSWER as LONGEST, PAGE, SHEET as GREATEST, WORDS,
+};
 
 /// The worked input, one principal unknown, and its answer.
 const SHEET: &str = include_str!("../../crates/openrules/stdin");
@@ -304,7 +306,10 @@ fn counter_pages() {
     // 64 policies: the first 58 are shown, and that 6 are left off
     let text = evaluator.page(many(3, 1).as_bytes()).result().expect("the sheet is accepted");
     let lines: Vec<&str> = text.lines().collect();
-    assert_eq!((lines.len(), lines[58], lines[59]), (60, &*format!("{:40}permit  open    {:>16}", "p57", 3), &*format!("{:72}", "+6")));
+    assert_eq!(
+        (lines.len(), lines[58], lines[59]),
+        (60, &*format!("{:40}permit  open    {:>16}", "p57", 3), &*format!("{:72}", "+6"))
+    );
     // a page needs 4,380 bytes, and changes no other
     let (mut first, mut second, mut out) = (vec![7; WORDS], vec![7; WORDS], vec![7; PAGE + 1]);
     assert_eq!(page(sheet.as_bytes(), &mut first, &mut second, &mut out[..PAGE - 1]), refused(10, 0, PAGE));
