@@ -8,7 +8,7 @@
  *   1, 0, 0           a work slice has under OPENRULES_WORDS words
  *   2, 0, 0           the sheet has over OPENRULES_SHEET bytes
  *   3 to 8, line, 0   the sheet is faulty, first at that line
- *   10, 0, needed     the answer buffer is shorter than the answer; one of OPENRULES_ANSWER bytes never is
+ *   10, 0, needed     the answer buffer is shorter than the answer; one of OPENRULES_ANSWER bytes never is; a page needs OPENRULES_PAGE
  *   11, line, 0       openrules_finish alone: the complete sheet does not agree with the partial one, first at that line of it, or at the
  *                     line after its last where one is lacking
  *
@@ -49,6 +49,9 @@ extern "C" {
 /* The bytes of an answer buffer that is long enough for every sheet. */
 #define OPENRULES_ANSWER 1048576
 
+/* The bytes of a counter page. */
+#define OPENRULES_PAGE 4380
+
 /* The answer to a sheet that begins with the line `sheet=partial`. */
 uint32_t openrules_partial(const uint8_t *sheet, size_t sheet_len,
                            uint32_t *first, size_t first_len,
@@ -62,6 +65,16 @@ uint32_t openrules_complete(const uint8_t *sheet, size_t sheet_len,
                             uint32_t *second, size_t second_len,
                             uint8_t *out, size_t out_len,
                             size_t *line, size_t *length);
+
+/*
+ * The counter page of a sheet that begins with the line `sheet=partial`: 60 lines of 72 columns, each ending in byte 10, in the answer's place.
+ * Line 1 has the decision; then each policy on term has a line: the text of its id, its effect, its class and the number of its residual nodes.
+ */
+uint32_t openrules_page(const uint8_t *sheet, size_t sheet_len,
+                        uint32_t *first, size_t first_len,
+                        uint32_t *second, size_t second_len,
+                        uint8_t *out, size_t out_len,
+                        size_t *line, size_t *length);
 
 /*
  * The answer that what the partial sheet's run left gives on the complete sheet: that of openrules_complete on it, byte for byte. Both sheets

@@ -8,6 +8,7 @@ use std::process::ExitCode;
 use crate::compare::{self, Call};
 use crate::finish::{self, Finish};
 use crate::generate;
+use crate::pages::{self, Page};
 use crate::parents::Shown;
 use crate::run;
 use crate::sheet::{self, Mode, Refusal};
@@ -22,6 +23,7 @@ host compare N SEED                    the library against the original on N she
 host self N SEED                       the same with the original on both sides: a check of the comparison itself
 host again N SEED                      N answers of partial sheets handed back to the library as sheets
 host finish N SEED                     the library's finish on N pairs of sheets that agree or nearly do, against the complete sheet's own run
+host pages N SEED                      the library's counter pages of N sheets, against those that the original's answers make
 host show-pair SEED N                  the N-th pair of a seed, and what finishing gives
 host replay FILE                       writes the fixed list of sheets and answers
 host replay-check FILE                 runs a written list, with the library where it is linked
@@ -47,6 +49,16 @@ fn library_finish() -> Option<Finish> {
 
 #[cfg(not(feature = "library"))]
 fn library_finish() -> Option<Finish> {
+    None
+}
+
+#[cfg(feature = "library")]
+fn library_page() -> Option<Page> {
+    Some(crate::library::page)
+}
+
+#[cfg(not(feature = "library"))]
+fn library_page() -> Option<Page> {
     None
 }
 
@@ -81,6 +93,10 @@ pub fn run(args: &[&str]) -> ExitCode {
         ["finish", count, seed] => match library_finish() {
             Some(call) => finished(call, number(count), number(seed)),
             None => not_linked(),
+        },
+        ["pages", count, seed] => match (library(), library_page()) {
+            (Some(call), Some(page)) => paged(call, page, number(count), number(seed)),
+            _ => not_linked(),
         },
         ["show-pair", seed, n] => {
             let [partial, complete] = finish::pair(number(seed), number(n));
@@ -209,6 +225,12 @@ fn verdict(differences: usize) -> ExitCode {
 fn finished(call: Finish, count: u64, seed: u64) -> ExitCode {
     let counts = finish::compare(call, count, seed);
     println!("finish of the library against the complete sheet's own run, seed {seed}: {}", counts.line());
+    verdict(counts.differences)
+}
+
+fn paged(call: Call, page: Page, count: u64, seed: u64) -> ExitCode {
+    let counts = pages::compare(call, page, count, seed);
+    println!("pages of the library against those of the original's answers, seed {seed}: {}", counts.line());
     verdict(counts.differences)
 }
 

@@ -1,7 +1,7 @@
 //! Document 02, 2.1: the library's `finish` beside the complete sheet's own run by the original, on pairs that agree and pairs that
 //! nearly do. Where they do not, the line of number 11 is found here from the lines of both sheets as they stand.
 
-use crate::compare::{buffer_length, by_number, report, work_length, Lent};
+use crate::compare::{beside, by_number, report};
 use crate::draft::bytes_of;
 use crate::generate;
 use crate::random::Random;
@@ -225,17 +225,9 @@ fn one(finish: Finish, [partial, complete]: &[Vec<u8>; 2], random: &mut Random, 
     if let Err(Refusal { number: 11, line, .. }) = &answer {
         counts.lacking += usize::from(*line as usize > complete.iter().filter(|byte| **byte == b'\n').count());
     }
-    let needed = answer.as_ref().map_or(40, Vec::len);
-    let mut expected = Lent::of(work_length(random), work_length(random), buffer_length(needed, random), random);
-    let mut found = expected.clone();
-    let wanted = expected.left(answer);
-    let (a, b, out) = found.parts();
-    let got = finish(partial, complete, a, b, out);
-    counts.numbers[wanted[0] as usize] += 1;
-    if got != wanted {
-        return Some(format!("returned {got:?}, expected {wanted:?}"));
-    }
-    found.differs(&expected)
+    let (number, differs) = beside(answer, random, |a, b, out| finish(partial, complete, a, b, out));
+    counts.numbers[number] += 1;
+    differs
 }
 
 /// Compares on so many pairs of a seed.

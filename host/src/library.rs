@@ -27,6 +27,18 @@ extern "C" {
         line: *mut usize,
         length: *mut usize,
     ) -> u32;
+    fn openrules_page(
+        sheet: *const u8,
+        sheet_len: usize,
+        first: *mut u32,
+        first_len: usize,
+        second: *mut u32,
+        second_len: usize,
+        out: *mut u8,
+        out_len: usize,
+        line: *mut usize,
+        length: *mut usize,
+    ) -> u32;
     fn openrules_finish(
         partial: *const u8,
         partial_len: usize,
@@ -48,12 +60,26 @@ fn returned(number: u32, line: usize, length: usize) -> [u32; 3] {
     [number, u32::try_from(line).unwrap_or(u32::MAX), u32::try_from(length).unwrap_or(u32::MAX)]
 }
 
-/// One call; returns number, line and length.
+/// A C function over one sheet.
+type Entry =
+    unsafe extern "C" fn(*const u8, usize, *mut u32, usize, *mut u32, usize, *mut u8, usize, *mut usize, *mut usize) -> u32;
+
+/// The answer to a sheet; returns number, line and length.
 pub fn call(mode: Mode, sheet: &[u8], work_a: &mut [u32], work_b: &mut [u32], out: &mut [u8]) -> [u32; 3] {
-    let entry = match mode {
+    let entry: Entry = match mode {
         Mode::Partial => openrules_partial,
         Mode::Complete => openrules_complete,
     };
+    lend(entry, sheet, work_a, work_b, out)
+}
+
+/// The counter page of a partial sheet.
+pub fn page(sheet: &[u8], work_a: &mut [u32], work_b: &mut [u32], out: &mut [u8]) -> [u32; 3] {
+    lend(openrules_page, sheet, work_a, work_b, out)
+}
+
+/// One call over one sheet.
+fn lend(entry: Entry, sheet: &[u8], work_a: &mut [u32], work_b: &mut [u32], out: &mut [u8]) -> [u32; 3] {
     let (mut line, mut length) = (usize::MAX, usize::MAX);
     // Every pointer is that of a slice of the length beside it or of a number, and no two of them overlap.
     let number = unsafe {

@@ -48,7 +48,9 @@
 //! Where a partial sheet was filled in, [`Evaluator::finish`] takes both sheets and evaluates what the partial run left on the complete one. The
 //! answer is that of the complete sheet itself; sheets that do not agree are refused with number 11 and the line that breaks agreement.
 //!
-//! [`partial`], [`complete`] and [`finish`] are the calls themselves, in slices of the caller's own; they allocate nothing.
+//! [`Evaluator::page`] gives the counter page of a partial sheet: 60 lines of 72 columns, with the decision and a line for each policy on term.
+//!
+//! [`partial`], [`complete`], [`finish`] and [`page`] are the calls themselves, in slices of the caller's own; they allocate nothing.
 
 use std::error::Error;
 use std::fmt;
@@ -61,6 +63,9 @@ pub const SHEET: usize = 16384;
 
 /// The bytes of an answer buffer that is long enough for every sheet: no answer is longer. An [`Evaluator`] lends so many.
 pub const ANSWER: usize = 1048576;
+
+/// The bytes of a counter page: 60 lines of 72 columns, each ending in byte 10.
+pub const PAGE: usize = 4380;
 
 extern "C" {
     fn openrules_partial(
@@ -76,6 +81,18 @@ extern "C" {
         length: *mut usize,
     ) -> u32;
     fn openrules_complete(
+        sheet: *const u8,
+        sheet_len: usize,
+        first: *mut u32,
+        first_len: usize,
+        second: *mut u32,
+        second_len: usize,
+        out: *mut u8,
+        out_len: usize,
+        line: *mut usize,
+        length: *mut usize,
+    ) -> u32;
+    fn openrules_page(
         sheet: *const u8,
         sheet_len: usize,
         first: *mut u32,
@@ -235,6 +252,25 @@ pub fn complete<'a>(sheet: &[u8], first: &mut [u32], second: &mut [u32], out: &'
     call(openrules_complete, sheet, first, second, out)
 }
 
+/// The counter page of a partial sheet, in slices of the caller's own, as [`partial`] has them: [`PAGE`] bytes in the answer's place.
+///
+/// It is refused as [`partial`] refuses, but for the number 10, which a buffer of under [`PAGE`] bytes gets, with that length.
+///
+/// ```
+/// use openrules::{page, Outcome, Refusal, PAGE, WORDS};
+///
+/// let sheet = "sheet=partial\ntext=Broker\ntext=Action\ntext=quote\nkind=0,e\nkind=1,a\ntype=record\nshape=0,-\nshape=0,-\n\
+///     principal=0,?\naction=1,2\nresource=0,?\ncontext=0,?\nday=2026-06-30\n";
+/// let (mut first, mut second, mut out) = ([0; WORDS], [0; WORDS], [0; PAGE]);
+/// let outcome = page(sheet.as_bytes(), &mut first, &mut second, &mut out[1..]);
+/// assert_eq!(outcome, Outcome::Refused(Refusal { number: 10, line: 0, length: PAGE }));
+/// let text = page(sheet.as_bytes(), &mut first, &mut second, &mut out).result().unwrap();
+/// assert_eq!(text, format!("{:72}\n", "decision=deny") + &format!("{:72}\n", "").repeat(59));
+/// ```
+pub fn page<'a>(sheet: &[u8], first: &mut [u32], second: &mut [u32], out: &'a mut [u8]) -> Outcome<'a> {
+    call(openrules_page, sheet, first, second, out)
+}
+
 /// The answer that what a partial sheet's run left gives on a complete sheet, in slices of the caller's own, as [`partial`] has them.
 ///
 /// Both sheets pass their own checks first, the partial one before the other: the numbers 2 to 8 and their line are those of the sheet at fault,
@@ -300,6 +336,11 @@ impl Evaluator {
     /// The answer to a complete sheet.
     pub fn complete(&mut self, sheet: &[u8]) -> Outcome<'_> {
         complete(sheet, &mut self.first, &mut self.second, &mut self.out)
+    }
+
+    /// The counter page of a partial sheet.
+    pub fn page(&mut self, sheet: &[u8]) -> Outcome<'_> {
+        page(sheet, &mut self.first, &mut self.second, &mut self.out)
     }
 
     /// The answer that what a partial sheet's run left gives on a complete sheet.

@@ -1,7 +1,9 @@
 //! Known sheets through the safe crate: the worked input of the program, every form of refusal that it can meet, and what the
 //! calls leave in the slices that they are lent.
 
-use openrules::{complete, finish, partial, Evaluator, Outcome, Refusal, ANSWER as LONGEST, SHEET as GREATEST, WORDS};
+use openrules::{
+    complete, finish, page, partial, Evaluator, Outcome, Refusal, ANSWER as LONGEST, PAGE, SHEET as GREATEST, WORDS,
+};
 
 /// The worked input, one principal unknown, and its answer.
 const SHEET: &str = include_str!("../../crates/openrules/stdin");
@@ -304,6 +306,32 @@ fn finished_in_what_is_lent() {
     second.fill(5);
     assert_eq!(finish(b"", b"", &mut first, &mut second[1..], &mut []), refused(1, 0, 0));
     assert!(second.iter().all(|word| *word == 5));
+}
+
+#[test]
+fn counter_pages() {
+    let mut evaluator = Evaluator::new();
+    let sheet = include_str!("../../examples/office-region-firm.sheet");
+    assert_eq!(evaluator.page(sheet.as_bytes()), Outcome::Answer(include_str!("../../examples/office-region-firm.page")));
+    // refused as an answer is
+    assert_eq!(evaluator.page(b"x\n"), refused(3, 1, 0));
+    assert_eq!(evaluator.page(&[b'x'; 16385]), refused(2, 0, 0));
+    assert_eq!(evaluator.page(known(7).as_bytes()), refused(3, 1, 0));
+    // 64 policies: the first 58 are shown, and that 6 are left off
+    let text = evaluator.page(many(3, 1).as_bytes()).result().expect("the sheet is accepted");
+    let lines: Vec<&str> = text.lines().collect();
+    assert_eq!(
+        (lines.len(), lines[58], lines[59]),
+        (60, &*format!("{:40}permit  open    {:>16}", "p57", 3), &*format!("{:72}", "+6"))
+    );
+    // a page needs 4,380 bytes, and changes no other
+    let (mut first, mut second, mut out) = (vec![7; WORDS], vec![7; WORDS], vec![7; PAGE + 1]);
+    assert_eq!(page(sheet.as_bytes(), &mut first, &mut second, &mut out[..PAGE - 1]), refused(10, 0, PAGE));
+    assert_eq!(out, vec![7; PAGE + 1]);
+    assert!(matches!(page(sheet.as_bytes(), &mut first, &mut second, &mut out[..PAGE]), Outcome::Answer(_)));
+    assert_eq!((out[PAGE - 1], out[PAGE]), (b'\n', 7));
+    assert!(first.iter().chain(&second).all(|word| *word == 0));
+    assert_eq!(page(b"", &mut first, &mut second[1..], &mut []), refused(1, 0, 0));
 }
 
 /// 64 policies over one root of so many nodes: a comparison of the broker's name with a pattern of so many `*`, and `not`.

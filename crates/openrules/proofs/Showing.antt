@@ -23,7 +23,11 @@ use Rattle.print.proofs.Writing.{written-append, written-as, written-over, digi
 use Rattle.authorizer.specs.Called.{Called}
 use Rattle.finished.specs.Finish.{breakingLine, finishedAnswer, atLine, finishReturned, finishWritten}
 use Rattle.finished.specs.Promise.{Finished}
-use Rattle.openrules.specs.Shown.{space, saysComplete, entryOf, refusal, textOf, back, shown, finishBack, shownFinished, Shows}
+use Rattle.paged.specs.Page.{page, pageReturned, pageWritten}
+use Rattle.paged.specs.Promise.{Paged}
+use Rattle.paged.proofs.PageLength.{page-length}
+use Rattle.paged.proofs.PageGoesOut.{goes-out, page-out}
+use Rattle.openrules.specs.Shown.{space, saysComplete, entryOf, refusal, textOf, back, shown, finishBack, shownFinished, pageBack, shownPage, Shows}
 
 -- ---- the entry
 
@@ -165,3 +169,31 @@ module _ (p c a b out a′ b′ out′ : List ℕ) (number line len : ℕ) (la :
   finish-refusal h is next w =
       shows-line (finishBack p c) finish-bytes out out′ number line len lo (x .number-is ∙ ap (λ (r : Returned). r .number) finish-here) (x .line-is ∙ ap (λ (r : Returned). r .line) finish-here)
       (x .length-is ∙ ap (λ (r : Returned). r .length) finish-here) finish-went (finish-whole p c) h is next w
+
+-- ---- the page of a partial sheet
+
+page-whole : (s : List ℕ) → Whole (length (page (read partial s .state))) (pageBack s)
+page-whole s z = ap (λ (r : Returned). r .length) (page-out room room space s (goes-out room room space s z)) ∙ sym (page-length (read partial s .state))
+
+module _ (s a b out a′ b′ out′ : List ℕ) (number line len : ℕ) (la : 16384 ≡ length a) (lb : 16384 ≡ length b) (lo : length out ≡ space) (x : Paged s a b out number line len out′ a′ b′) where
+  abbrev page-bytes : List ℕ
+  page-bytes = page (read partial s .state)
+
+  page-here : pageReturned (length a) (length b) (length out) s ≡ pageBack s
+  page-here = rw (← la, ← lb, lo)
+
+  page-went : out′ ≡ outputs (pageBack s .number) page-bytes out
+  unfolding pageWritten
+  page-went = x .buffer ∙ ap (λ (r : Returned). outputs (r .number) page-bytes out) page-here
+
+  pub page-answer : number ≡ 0 → Shows (shownPage s) out′ len
+  unfolding shownPage
+  page-answer h =
+      shows-text (pageBack s) page-bytes out out′ number line len lo (x .number-is ∙ ap (λ (r : Returned). r .number) page-here) (x .line-is ∙ ap (λ (r : Returned). r .line) page-here)
+      (x .length-is ∙ ap (λ (r : Returned). r .length) page-here) page-went (page-whole s) h
+
+  pub page-refusal : (number ≡ 0 → ⊥) → (is : List ℕ) (next : ℕ) → Written out′ 0 (refusal number line len) is next → Shows (shownPage s) is next
+  unfolding shownPage
+  page-refusal h is next w =
+      shows-line (pageBack s) page-bytes out out′ number line len lo (x .number-is ∙ ap (λ (r : Returned). r .number) page-here) (x .line-is ∙ ap (λ (r : Returned). r .line) page-here)
+      (x .length-is ∙ ap (λ (r : Returned). r .length) page-here) page-went (page-whole s) h is next w

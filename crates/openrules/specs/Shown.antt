@@ -14,6 +14,7 @@ use Rattle.sheet.specs.Sheet.{read}
 use Rattle.sheet.specs.Answer.{printed, numbers, answer}
 use Rattle.sheet.specs.Call.{Returned, room, returned}
 use Rattle.finished.specs.Finish.{finishedAnswer, finishReturned}
+use Rattle.paged.specs.Page.{page, pageReturned}
 
 -- the first line is exactly `sheet=complete`
 unfoldable pub saysComplete : List ℕ → Bool
@@ -48,6 +49,13 @@ finishBack p c = finishReturned room room space p c
 
 unfoldable pub shownFinished : List ℕ → List ℕ → List ℕ
 shownFinished p c = textOf (finishBack p c) (finishedAnswer (read partial p .state) (read complete c .state))
+
+-- the page of a partial sheet (document 02, 2.10)
+abbrev pub pageBack : List ℕ → Returned
+pageBack sheet = pageReturned room room space sheet
+
+unfoldable pub shownPage : List ℕ → List ℕ
+shownPage sheet = textOf (pageBack sheet) (page (read partial sheet .state))
 
 -- the first n bytes of a buffer are this text
 pub record Shows (text buffer : List ℕ) (n : ℕ) : Type 0 where

@@ -1,7 +1,7 @@
 // The program: without a word, a sheet on standard input, the answer or its refusal on standard output; with a word, what `help` lists. Of
 // what is read the first 16,385 bytes of each sheet matter (proofs/Input.antt). What is proved of it: it is safe, it ends, and the bytes that
-// it hands to `io::write_all` for the bytes that `io::read_full` gave are those that `answer` and `finished` promise. No contract can speak of
-// what C's read and write move. A program has no status to end with: what cannot be done is said on standard error.
+// it hands to `io::write_all` for the bytes that `io::read_full` gave are those that `answer`, `finished` and `paged` promise. No contract can
+// speak of what C's read and write move. A program has no status to end with: what cannot be done is said on standard error.
 use authorizer::Returned;
 use authorizer::complete;
 use authorizer::partial;
@@ -9,6 +9,7 @@ use finish::finish;
 use libc::STDERR_FILENO;
 use libc::STDIN_FILENO;
 use libc::STDOUT_FILENO;
+use page::page;
 use print::byte;
 use print::bytes;
 use print::number;
@@ -19,7 +20,7 @@ ghost use mathlib.Core.Path.{_≡_};
 ghost use lib.ListN.{length};
 ghost use Rattle.print.specs.Written.{Written};
 ghost use Rattle.authorizer.specs.Called.{Called};
-ghost use Rattle.openrules.specs.Shown.{saysComplete, entryOf, space, refusal, shown, shownFinished, Shows};
+ghost use Rattle.openrules.specs.Shown.{saysComplete, entryOf, refusal, shown, shownFinished, shownPage, Shows};
 
 // Whether the first line is exactly `sheet=complete`.
 fn says_complete(sheet: &[u8]) -> bool
@@ -89,6 +90,19 @@ fn finished(partial: &[u8], complete: &[u8], out: &mut [u8; SPACE]) -> usize
     refused(out, f.number, f.line, f.length)
 }
 
+// What is printed for the page of a partial sheet, likewise.
+fn paged(sheet: &[u8], out: &mut [u8; SPACE]) -> usize
+    ensures { λ r. ⌜ Shows (shownPage (now (sheet .entry))) (now (out .exit)) r ⌝ }
+{
+    let mut a = words();
+    let mut b = words();
+    let p = page(sheet, &mut a, &mut b, out);
+    if p.number == 0 {
+        return p.length;
+    }
+    refused(out, p.number, p.line, p.length)
+}
+
 // ---- the words
 
 // The bytes of a sheet that are read: one more than it may have, so that a longer one is seen.
@@ -121,6 +135,10 @@ fn help(to: i32) {
         to,
         b"openrules finish PARTIAL < COMPLETE  what the partial sheet's residuals give on the complete sheet\n",
     );
+    io::write_all(
+        to,
+        b"openrules page < SHEET               the counter page of a partial sheet\n",
+    );
     io::write_all(to, b"openrules help                       these words\n");
 }
 
@@ -130,6 +148,15 @@ fn print_answer() {
     let n = io::read_full(STDIN_FILENO, &mut input);
     let mut out = [0u8; SPACE];
     let k = answer(&input[..n], &mut out);
+    io::write_all(STDOUT_FILENO, &out[..k]);
+}
+
+// `page`
+fn print_page() {
+    let mut input = [0u8; INPUT];
+    let n = io::read_full(STDIN_FILENO, &mut input);
+    let mut out = [0u8; SPACE];
+    let k = paged(&input[..n], &mut out);
     io::write_all(STDOUT_FILENO, &out[..k]);
 }
 
@@ -161,6 +188,10 @@ fn finish_word() {
 fn lone_word(word: &[u8]) {
     if same_bytes(word, b"help") {
         help(STDOUT_FILENO);
+        return;
+    }
+    if same_bytes(word, b"page") {
+        print_page();
         return;
     }
     help(STDERR_FILENO);

@@ -3,9 +3,11 @@
 use authorizer::complete;
 use authorizer::partial;
 use finish::finish;
+use page::page;
 ghost use Rattle.sheet.specs.Forms.{partial, complete};
 ghost use Rattle.authorizer.specs.Called.{Called};
 ghost use Rattle.finished.specs.Promise.{Finished};
+ghost use Rattle.paged.specs.Promise.{Paged};
 
 #[no_mangle]
 pub extern "C" fn openrules_partial(
@@ -54,6 +56,23 @@ pub extern "C" fn openrules_finish(
     ensures { λ r. ⌜ Finished (now (partial .entry)) (now (complete .entry)) (now (first .entry)) (now (second .entry)) (now (out .entry)) r (now (line .exit)) (now (length .exit)) (now (out .exit)) (now (first .exit)) (now (second .exit)) ⌝ }
 {
     let r = finish(partial, complete, first, second, out);
+    *line = r.line;
+    *length = r.length;
+    r.number
+}
+
+#[no_mangle]
+pub extern "C" fn openrules_page(
+    sheet: &[u8],
+    first: &mut [u32],
+    second: &mut [u32],
+    out: &mut [u8],
+    line: &mut usize,
+    length: &mut usize,
+) -> u32
+    ensures { λ r. ⌜ Paged (now (sheet .entry)) (now (first .entry)) (now (second .entry)) (now (out .entry)) r (now (line .exit)) (now (length .exit)) (now (out .exit)) (now (first .exit)) (now (second .exit)) ⌝ }
+{
+    let r = page(sheet, first, second, out);
     *line = r.line;
     *length = r.length;
     r.number
