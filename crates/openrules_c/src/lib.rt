@@ -3,9 +3,11 @@
 use authorizer::complete;
 use authorizer::partial;
 use finish::finish;
+use testload::load;
 ghost use Rattle.sheet.specs.Forms.{partial, complete};
 ghost use Rattle.authorizer.specs.Called.{Called};
 ghost use Rattle.finished.specs.Promise.{Finished};
+ghost use Rattle.testload.specs.Loaded.{Loaded};
 
 #[no_mangle]
 pub extern "C" fn openrules_partial(
@@ -54,6 +56,23 @@ pub extern "C" fn openrules_finish(
     ensures { λ r. ⌜ Finished (now (partial .entry)) (now (complete .entry)) (now (first .entry)) (now (second .entry)) (now (out .entry)) r (now (line .exit)) (now (length .exit)) (now (out .exit)) (now (first .exit)) (now (second .exit)) ⌝ }
 {
     let r = finish(partial, complete, first, second, out);
+    *line = r.line;
+    *length = r.length;
+    r.number
+}
+
+// No work slices are lent.
+#[no_mangle]
+pub extern "C" fn openrules_test_load(
+    seed: u64,
+    policies: u32,
+    out: &mut [u8],
+    line: &mut usize,
+    length: &mut usize,
+) -> u32
+    ensures { λ r. ⌜ Loaded seed policies (now (out .entry)) r (now (line .exit)) (now (length .exit)) (now (out .exit)) ⌝ }
+{
+    let r = load(seed, policies, out);
     *line = r.line;
     *length = r.length;
     r.number

@@ -15,7 +15,7 @@ use Rattle.drawn.proofs.Accepted.{load-accepts}
 use Rattle.testload.specs.Loaded.{Loaded}
 
 -- number 0: so many policies, and the sheet's length
-zero-says : (seed n out : ℕ) → loadReturned seed n out .number ≡ 0 → (n ≤ 64) × (loadReturned seed n out .length ≡ length (load seed n))
+pub zero-says : (seed n out : ℕ) → loadReturned seed n out .number ≡ 0 → (n ≤ 64) × (loadReturned seed n out .length ≡ length (load seed n))
 unfolding loadReturned
 zero-says seed n out e = go (ltb n 1) (ltb 64 n) (ltb out (length (load seed n))) refl e
   where
