@@ -8,6 +8,7 @@ use std::process::ExitCode;
 use crate::compare::{self, Call};
 use crate::finish::{self, Finish};
 use crate::generate;
+use crate::loads::{self, Load};
 use crate::parents::Shown;
 use crate::run;
 use crate::sheet::{self, Mode, Refusal};
@@ -23,9 +24,11 @@ host self N SEED                       the same with the original on both sides:
 host again N SEED                      N answers of partial sheets handed back to the library as sheets
 host finish N SEED                     the library's finish on N pairs of sheets that agree or nearly do, against the complete sheet's own run
 host show-pair SEED N                  the N-th pair of a seed, and what finishing gives
+host loads N SEED                      the library's test loads of N seeds, with 1 to 64 policies, against the document's words
 host replay FILE                       writes the fixed list of sheets and answers
 host replay-check FILE                 runs a written list, with the library where it is linked
 host bench [ROUNDS]                    times, in three tables
+host bench-loads ROUNDS                the row of test loads of the first
 host bench-finish ROUNDS               the third of them: finish beside its two sheets' own runs
 host heavy DIR                         writes the sheets of the benchmark
 host about                             what the host was built with";
@@ -47,6 +50,16 @@ fn library_finish() -> Option<Finish> {
 
 #[cfg(not(feature = "library"))]
 fn library_finish() -> Option<Finish> {
+    None
+}
+
+#[cfg(feature = "library")]
+fn library_load() -> Option<Load> {
+    Some(crate::library::test_load)
+}
+
+#[cfg(not(feature = "library"))]
+fn library_load() -> Option<Load> {
     None
 }
 
@@ -81,6 +94,10 @@ pub fn run(args: &[&str]) -> ExitCode {
         ["finish", count, seed] => match library_finish() {
             Some(call) => finished(call, number(count), number(seed)),
             None => not_linked(),
+        },
+        ["loads", count, seed] => match (library_load(), library()) {
+            (Some(load), Some(call)) => loaded(load, call, number(count), number(seed)),
+            _ => not_linked(),
         },
         ["show-pair", seed, n] => {
             let [partial, complete] = finish::pair(number(seed), number(n));
@@ -121,6 +138,10 @@ pub fn run(args: &[&str]) -> ExitCode {
         }
         ["bench"] => benched(5),
         ["bench", rounds] => benched(number(rounds) as usize),
+        ["bench-loads", rounds] => {
+            bench::load_bench(library(), library_load(), number(rounds) as usize);
+            ExitCode::SUCCESS
+        }
         ["bench-finish", rounds] => match (library(), library_finish()) {
             (Some(call), Some(finish)) => {
                 bench::finish_bench(call, finish, number(rounds) as usize);
@@ -194,7 +215,7 @@ fn heavy_sheets(folder: &Path) -> ExitCode {
 }
 
 fn benched(rounds: usize) -> ExitCode {
-    bench::bench(library(), rounds);
+    bench::bench(library(), library_load(), rounds);
     if let (Some(call), Some(finish)) = (library(), library_finish()) {
         bench::finish_bench(call, finish, rounds);
     }
@@ -204,6 +225,16 @@ fn benched(rounds: usize) -> ExitCode {
 fn finished(call: Finish, count: u64, seed: u64) -> ExitCode {
     let counts = finish::compare(call, count, seed);
     println!("finish of the library against the complete sheet's own run, seed {seed}: {}", counts.line());
+    if counts.differences == 0 {
+        ExitCode::SUCCESS
+    } else {
+        ExitCode::FAILURE
+    }
+}
+
+fn loaded(load: Load, call: Call, count: u64, seed: u64) -> ExitCode {
+    let counts = loads::compare(load, call, count, seed);
+    println!("test loads of the library against the document's words, seed {seed}: {}", counts.line());
     if counts.differences == 0 {
         ExitCode::SUCCESS
     } else {
