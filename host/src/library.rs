@@ -41,14 +41,7 @@ extern "C" {
         line: *mut usize,
         length: *mut usize,
     ) -> u32;
-    fn openrules_test_load(
-        seed: u64,
-        policies: u32,
-        out: *mut u8,
-        out_len: usize,
-        line: *mut usize,
-        length: *mut usize,
-    ) -> u32;
+    fn openrules_test_load(seed: u64, policies: u32, out: *mut u8, out_len: usize, line: *mut usize, length: *mut usize) -> u32;
 }
 
 /// Number, line and length of a call. A number too large for the comparison becomes one that no call returns.

@@ -35,7 +35,9 @@ pub fn sheet(seed: u64, policies: u32) -> Vec<u8> {
         match draw(&mut state, 3) {
             0 => nodes.push("node=0,lit,1/".to_string()),
             1 => nodes.push("node=0,lit,0/".to_string()),
-            _ => nodes.extend(["node=3,var,c/".into(), format!("node=1,get,{first},4/"), format!("node=0,like,{},*/", first + 1)]),
+            _ => {
+                nodes.extend(["node=3,var,c/".into(), format!("node=1,get,{first},4/"), format!("node=0,like,{},*/", first + 1)])
+            }
         }
         ids += &format!("text=p{place}/");
         rules += &format!("policy={},{effect},{}/", 5 + place, nodes.len() - 1);

@@ -106,14 +106,7 @@ extern "C" {
         line: *mut usize,
         length: *mut usize,
     ) -> u32;
-    fn openrules_test_load(
-        seed: u64,
-        policies: u32,
-        out: *mut u8,
-        out_len: usize,
-        line: *mut usize,
-        length: *mut usize,
-    ) -> u32;
+    fn openrules_test_load(seed: u64, policies: u32, out: *mut u8, out_len: usize, line: *mut usize, length: *mut usize) -> u32;
 }
 
 /// Why there is no answer: number, line and length, by the table of refusals.

@@ -1,7 +1,9 @@
 //! Known sheets through the safe crate: the worked input of the program, every form of refusal that it can meet, and what the
 //! calls leave in the slices that they are lent.
 
-use openrules::{complete, finish, partial, test_load, Evaluator, Outcome, Refusal, ANSWER as LONGEST, POLICIES, SHEET as GREATEST, WORDS};
+use openrules::{
+    complete, finish, partial, test_load, Evaluator, Outcome, Refusal, ANSWER as LONGEST, POLICIES, SHEET as GREATEST, WORDS,
+};
 
 /// The worked input, one principal unknown, and its answer.
 const SHEET: &str = include_str!("../../crates/openrules/stdin");
