@@ -94,7 +94,7 @@ fn finished(partial: &[u8], complete: &[u8], out: &mut [u8; SPACE]) -> usize
     refused(out, f.number, f.line, f.length)
 }
 
-// The greatest number of policies that a call can be asked for; it and all greater ones are refused alike.
+// The number of policies that the call is asked for: the greatest that it can be where there are more, as both are refused alike.
 fn at_most(policies: u64) -> u32
     ensures { λ r. ⌜ r ≡ min policies 4294967295 ⌝ }
 {
