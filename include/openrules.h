@@ -2,7 +2,8 @@
  * openrules: a partial evaluator for Cedar policies, proved.
  *
  * Each call takes a sheet or two, two work slices and an answer buffer, each as a pointer and a length, and returns a number; the line
- * and the length go where the last two pointers say. README.md has the table of numbers:
+ * and the length go where the last two pointers say. openrules_test_load takes two numbers in the place of sheets and work slices.
+ * README.md has the table of numbers:
  *
  *   0, 0, written     accepted: the first `*length` bytes of `out` are the answer
  *   1, 0, 0           a work slice has under OPENRULES_WORDS words
@@ -11,6 +12,7 @@
  *   10, 0, needed     the answer buffer is shorter than the answer; one of OPENRULES_ANSWER bytes never is; a page needs OPENRULES_PAGE
  *   11, line, 0       openrules_finish alone: the complete sheet does not agree with the partial one, first at that line of it, or at the
  *                     line after its last where one is lacking
+ *   13, 0, 0          openrules_test_load alone: under 1 or over OPENRULES_POLICIES policies
  *
  * An answer begins with its decision, eight counts and `why=`: the text number of the id of the first policy, in the sheet's order, that gave the
  * decision, a true forbid for a deny, a true permit for an allow; `none` for open and for a deny without a true forbid. A partial sheet does not
@@ -52,6 +54,9 @@ extern "C" {
 /* The bytes of a counter page. */
 #define OPENRULES_PAGE 4380
 
+/* The policies that a test load may have. */
+#define OPENRULES_POLICIES 64
+
 /* The answer to a sheet that begins with the line `sheet=partial`. */
 uint32_t openrules_partial(const uint8_t *sheet, size_t sheet_len,
                            uint32_t *first, size_t first_len,
@@ -87,6 +92,15 @@ uint32_t openrules_finish(const uint8_t *partial, size_t partial_len,
                           uint32_t *second, size_t second_len,
                           uint8_t *out, size_t out_len,
                           size_t *line, size_t *length);
+
+/*
+ * The test load that a seed and a number of policies name: a partial sheet. It returns 0, 10 or 13, and 13 comes before 10. With 0 the first
+ * `*length` bytes of `out` are the sheet, with 10 `*length` is the sheet's length; `*line` is always 0. A buffer of OPENRULES_SHEET bytes is
+ * long enough for every seed. openrules_partial accepts every such sheet, and its answer has at most OPENRULES_SHEET bytes.
+ */
+uint32_t openrules_test_load(uint64_t seed, uint32_t policies,
+                             uint8_t *out, size_t out_len,
+                             size_t *line, size_t *length);
 
 #ifdef __cplusplus
 }

@@ -8,6 +8,7 @@ use std::process::ExitCode;
 use crate::compare::{self, Call};
 use crate::finish::{self, Finish};
 use crate::generate;
+use crate::loads::{self, Load};
 use crate::pages::{self, Page};
 use crate::parents::Shown;
 use crate::run;
@@ -25,9 +26,11 @@ host again N SEED                      N answers of partial sheets handed back t
 host finish N SEED                     the library's finish on N pairs of sheets that agree or nearly do, against the complete sheet's own run
 host pages N SEED                      the library's counter pages of N sheets, against those that the original's answers make
 host show-pair SEED N                  the N-th pair of a seed, and what finishing gives
+host loads N SEED                      the library's test loads of N seeds, with 1 to 64 policies, against the document's words
 host replay FILE                       writes the fixed list of sheets and answers
 host replay-check FILE                 runs a written list, with the library where it is linked
 host bench [ROUNDS]                    times, in three tables
+host bench-loads ROUNDS                the row of test loads of the first
 host bench-finish ROUNDS               the third of them: finish beside its two sheets' own runs
 host heavy DIR                         writes the sheets of the benchmark
 host about                             what the host was built with";
@@ -59,6 +62,16 @@ fn library_page() -> Option<Page> {
 
 #[cfg(not(feature = "library"))]
 fn library_page() -> Option<Page> {
+    None
+}
+
+#[cfg(feature = "library")]
+fn library_load() -> Option<Load> {
+    Some(crate::library::test_load)
+}
+
+#[cfg(not(feature = "library"))]
+fn library_load() -> Option<Load> {
     None
 }
 
@@ -98,6 +111,10 @@ pub fn run(args: &[&str]) -> ExitCode {
             (Some(call), Some(page)) => paged(call, page, number(count), number(seed)),
             _ => not_linked(),
         },
+        ["loads", count, seed] => match (library_load(), library()) {
+            (Some(load), Some(call)) => loaded(load, call, number(count), number(seed)),
+            _ => not_linked(),
+        },
         ["show-pair", seed, n] => {
             let [partial, complete] = finish::pair(number(seed), number(n));
             write(&partial);
@@ -133,6 +150,10 @@ pub fn run(args: &[&str]) -> ExitCode {
         }
         ["bench"] => benched(5),
         ["bench", rounds] => benched(number(rounds) as usize),
+        ["bench-loads", rounds] => {
+            bench::load_bench(library(), library_load(), number(rounds) as usize);
+            ExitCode::SUCCESS
+        }
         ["bench-finish", rounds] => match (library(), library_finish()) {
             (Some(call), Some(finish)) => {
                 bench::finish_bench(call, finish, number(rounds) as usize);
@@ -206,7 +227,7 @@ fn heavy_sheets(folder: &Path) -> ExitCode {
 }
 
 fn benched(rounds: usize) -> ExitCode {
-    bench::bench(library(), rounds);
+    bench::bench(library(), library_load(), rounds);
     if let (Some(call), Some(finish)) = (library(), library_finish()) {
         bench::finish_bench(call, finish, rounds);
     }
@@ -231,6 +252,12 @@ fn finished(call: Finish, count: u64, seed: u64) -> ExitCode {
 fn paged(call: Call, page: Page, count: u64, seed: u64) -> ExitCode {
     let counts = pages::compare(call, page, count, seed);
     println!("pages of the library against those of the original's answers, seed {seed}: {}", counts.line());
+    verdict(counts.differences)
+}
+
+fn loaded(load: Load, call: Call, count: u64, seed: u64) -> ExitCode {
+    let counts = loads::compare(load, call, count, seed);
+    println!("test loads of the library against the document's words, seed {seed}: {}", counts.line());
     verdict(counts.differences)
 }
 

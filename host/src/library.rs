@@ -53,6 +53,7 @@ extern "C" {
         line: *mut usize,
         length: *mut usize,
     ) -> u32;
+    fn openrules_test_load(seed: u64, policies: u32, out: *mut u8, out_len: usize, line: *mut usize, length: *mut usize) -> u32;
 }
 
 /// Number, line and length of a call. A number too large for the comparison becomes one that no call returns.
@@ -119,5 +120,13 @@ pub fn finish(partial: &[u8], complete: &[u8], work_a: &mut [u32], work_b: &mut 
             &mut length,
         )
     };
+    returned(number, line, length)
+}
+
+/// A test load.
+pub fn test_load(seed: u64, policies: u32, out: &mut [u8]) -> [u32; 3] {
+    let (mut line, mut length) = (usize::MAX, usize::MAX);
+    // As above.
+    let number = unsafe { openrules_test_load(seed, policies, out.as_mut_ptr(), out.len(), &mut line, &mut length) };
     returned(number, line, length)
 }

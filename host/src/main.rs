@@ -17,6 +17,8 @@ mod heavy;
 #[cfg(all(original, feature = "library"))]
 mod library;
 #[cfg(original)]
+mod loads;
+#[cfg(original)]
 mod pages;
 #[cfg(original)]
 mod parents;

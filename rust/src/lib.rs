@@ -50,7 +50,9 @@
 //!
 //! [`Evaluator::page`] gives the counter page of a partial sheet: 60 lines of 72 columns, with the decision and a line for each policy on term.
 //!
-//! [`partial`], [`complete`], [`finish`] and [`page`] are the calls themselves, in slices of the caller's own; they allocate nothing.
+//! [`test_load`] gives a partial sheet that a seed and a number of policies name, so that all can measure and compare on the same sheets.
+//!
+//! [`partial`], [`complete`], [`finish`], [`page`] and [`test_load`] are the calls themselves, in slices of the caller's own; they allocate nothing.
 
 use std::error::Error;
 use std::fmt;
@@ -66,6 +68,9 @@ pub const ANSWER: usize = 1048576;
 
 /// The bytes of a counter page: 60 lines of 72 columns, each ending in byte 10.
 pub const PAGE: usize = 4380;
+
+/// The policies that a test load may have.
+pub const POLICIES: u32 = 64;
 
 extern "C" {
     fn openrules_partial(
@@ -118,6 +123,7 @@ extern "C" {
         line: *mut usize,
         length: *mut usize,
     ) -> u32;
+    fn openrules_test_load(seed: u64, policies: u32, out: *mut u8, out_len: usize, line: *mut usize, length: *mut usize) -> u32;
 }
 
 /// Why there is no answer: number, line and length, by the table of refusals.
@@ -128,12 +134,12 @@ extern "C" {
 /// ```
 #[derive(Clone, Copy, Debug, PartialEq, Eq)]
 pub struct Refusal {
-    /// 1 to 8, 10 or 11; [`finish`] alone gives 11.
+    /// 1 to 8, 10, 11 or 13; [`finish`] alone gives 11, and [`test_load`] gives 10 and 13 alone.
     pub number: u32,
     /// The line of the first fault, counted from 1, for the numbers 3 to 8; the line of the complete sheet that breaks agreement, or the
     /// line after its last, for the number 11; else 0.
     pub line: usize,
-    /// The bytes that the answer needs, for the number 10; else 0.
+    /// The bytes that the answer, or the test load, needs, for the number 10; else 0.
     pub length: usize,
 }
 
@@ -155,6 +161,7 @@ impl Refusal {
             8 => "a node is used twice or never",
             10 => "the answer buffer is shorter than the answer",
             11 => "the complete sheet does not agree with the partial one",
+            13 => "under 1 or over 64 policies",
             _ => "no refusal",
         }
     }
@@ -227,7 +234,7 @@ fn outcome(number: u32, line: usize, length: usize, out: &[u8]) -> Outcome<'_> {
     if number != 0 {
         return Outcome::Refused(Refusal { number, line, length });
     }
-    Outcome::Answer(std::str::from_utf8(&out[..length]).expect("an answer has bytes 10 and 32 to 126 alone"))
+    Outcome::Answer(std::str::from_utf8(&out[..length]).expect("answers and sheets have bytes 10 and 32 to 126 alone"))
 }
 
 /// The answer to a partial sheet, in slices of the caller's own.
@@ -312,6 +319,27 @@ pub fn finish<'a>(partial: &[u8], complete: &[u8], first: &mut [u32], second: &m
             &mut length,
         )
     };
+    outcome(number, line, length, out)
+}
+
+/// The test load that a seed and a number of policies name: a partial sheet, which [`partial`] accepts with an answer of at most [`SHEET`]
+/// bytes. The number of policies is 1 to [`POLICIES`]; another one gets 13, before 10. A buffer of [`SHEET`] bytes is long enough for every seed. Of
+/// `out` only the bytes of the sheet change.
+///
+/// ```
+/// use openrules::{test_load, Evaluator, Outcome, Refusal, SHEET};
+///
+/// let mut out = [0; SHEET];
+/// assert_eq!(test_load(0, 65, &mut out), Outcome::Refused(Refusal { number: 13, line: 0, length: 0 }));
+/// assert_eq!(test_load(0, 1, &mut out[..340]), Outcome::Refused(Refusal { number: 10, line: 0, length: 341 }));
+/// let sheet = test_load(0, 1, &mut out).result().unwrap();
+/// assert!(sheet.ends_with("node=3,var,c\nnode=1,get,0,4\nnode=0,like,1,*\npolicy=5,forbid,2\n"));
+/// assert!(Evaluator::new().partial(sheet.as_bytes()).result().is_ok());
+/// ```
+pub fn test_load(seed: u64, policies: u32, out: &mut [u8]) -> Outcome<'_> {
+    let (mut line, mut length) = (0, 0);
+    // SAFETY: as for the other calls.
+    let number = unsafe { openrules_test_load(seed, policies, out.as_mut_ptr(), out.len(), &mut line, &mut length) };
     outcome(number, line, length, out)
 }
 

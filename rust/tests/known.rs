@@ -2,7 +2,8 @@
 //! calls leave in the slices that they are lent.
 
 use openrules::{
-    complete, finish, page, partial, Evaluator, Outcome, Refusal, ANSWER as LONGEST, PAGE, SHEET as GREATEST, WORDS,
+    complete, finish, page, partial, test_load, Evaluator, Outcome, Refusal, ANSWER as LONGEST, PAGE, POLICIES,
+    SHEET as GREATEST, WORDS,
 };
 
 /// The worked input, one principal unknown, and its answer.
@@ -386,4 +387,39 @@ fn refusal_as_text() {
     let Outcome::Refused(refusal) = Evaluator::new().partial(b"sheet=partial") else { panic!("an unended line was accepted") };
     assert_eq!(refusal.to_string(), "refused=3,1,0");
     assert!(refusal.meaning().starts_with("form"));
+}
+
+/// Test loads: the numbers at their edges, what is left of the buffer, and that each load is accepted.
+#[test]
+fn test_loads() {
+    let mut buffer = [7; GREATEST];
+    for policies in [0, POLICIES + 1, u32::MAX] {
+        assert_eq!(test_load(0, policies, &mut buffer[..0]), refused(13, 0, 0));
+        assert_eq!(test_load(0, policies, &mut buffer), refused(13, 0, 0));
+    }
+    assert_eq!(test_load(0, 1, &mut buffer[..340]), refused(10, 0, 341));
+    assert!(buffer.iter().all(|&byte| byte == 7));
+    assert!(test_load(0, 1, &mut buffer[..341]).result().is_ok());
+    assert!(buffer[..341].ends_with(b"\npolicy=5,forbid,2\n") && buffer[341..].iter().all(|&byte| byte == 7));
+
+    let mut evaluator = Evaluator::new();
+    for seed in [0, 1, 7046029258681320426, 7046029258681320427, u64::MAX] {
+        for policies in 1..=POLICIES {
+            let sheet = test_load(seed, policies, &mut buffer).result().expect("the buffer is long enough");
+            let answer = evaluator.partial(sheet.as_bytes()).result().expect("a test load is accepted");
+            assert!(answer.len() <= GREATEST);
+        }
+    }
+}
+
+/// Only the upper 32 bits of a state decide a draw, so near seeds may name one sheet.
+#[test]
+fn near_seeds() {
+    let load = |seed, policies| {
+        let mut buffer = [0; GREATEST];
+        test_load(seed, policies, &mut buffer).result().expect("the buffer is long enough").to_string()
+    };
+    assert_eq!(load(0, 64), load(1, 64));
+    assert_eq!(load(0, 64), load(u64::MAX, 64));
+    assert_ne!(load(7046029258681320426, 2), load(7046029258681320427, 2));
 }

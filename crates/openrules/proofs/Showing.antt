@@ -73,7 +73,7 @@ counts-front bytes rest = (omega (arith, length-append bytes rest), sym (ap leng
 -- a call that returned r, whose answer has these bytes
 module _ (r : Returned) (bytes out out′ : List ℕ) (number line len : ℕ) (lo : length out ≡ space) (number-is : number ≡ r .number) (line-is : line ≡ r .line) (length-is : len ≡ r .length)
     (buffer : out′ ≡ outputs (r .number) bytes out) (whole : r .number ≡ 0 → r .length ≡ length bytes) where
-  shows-text : number ≡ 0 → Shows (textOf r bytes) out′ len
+  pub shows-text : number ≡ 0 → Shows (textOf r bytes) out′ len
   shows-text h =
       let z : r .number ≡ 0 = sym number-is ∙ h in
       let n : len ≡ length bytes = length-is ∙ whole z in
@@ -84,7 +84,7 @@ module _ (r : Returned) (bytes out out′ : List ℕ) (number line len : ℕ) (l
         within = rw (n, w) (counts-front bytes (drop (length bytes) out));
       }
 
-  shows-line : (number ≡ 0 → ⊥) → (is : List ℕ) (next : ℕ) → Written out′ 0 (refusal number line len) is next → Shows (textOf r bytes) is next
+  pub shows-line : (number ≡ 0 → ⊥) → (is : List ℕ) (next : ℕ) → Written out′ 0 (refusal number line len) is next → Shows (textOf r bytes) is next
   shows-line h is next w =
       let f : r .number ≡ 0 → ⊥ = λ e. h (number-is ∙ e) in
       let o : out′ ≡ out = buffer ∙ ap (λ (b : Bool). cond b (over bytes out) out) (ne-eqb (r .number) 0 f) in

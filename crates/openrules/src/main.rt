@@ -1,6 +1,6 @@
 // The program: without a word, a sheet on standard input, the answer or its refusal on standard output; with a word, what `help` lists. Of
 // what is read the first 16,385 bytes of each sheet matter (proofs/Input.antt). What is proved of it: it is safe, it ends, and the bytes that
-// it hands to `io::write_all` for the bytes that `io::read_full` gave are those that `answer`, `finished` and `paged` promise. No contract can
+// it hands to `io::write_all` for the bytes that `io::read_full` gave are those that `answer`, `finished`, `paged` and `loaded` promise. No contract can
 // speak of what C's read and write move. A program has no status to end with: what cannot be done is said on standard error.
 use authorizer::Returned;
 use authorizer::complete;
@@ -13,14 +13,19 @@ use page::page;
 use print::byte;
 use print::bytes;
 use print::number;
+use scan::Number;
 use scan::find;
 use scan::front;
 use scan::same_bytes;
+use testload::load;
 ghost use mathlib.Core.Path.{_≡_};
+ghost use Prim.Native.Nat.{min};
 ghost use lib.ListN.{length};
-ghost use Rattle.print.specs.Written.{Written};
+ghost use Rattle.print.specs.Written.{greatest, Written};
+ghost use Rattle.sheet.specs.Bytes.{digitsFrom, atMost};
+ghost use Rattle.scan.specs.Numbers.{numberOf};
 ghost use Rattle.authorizer.specs.Called.{Called};
-ghost use Rattle.openrules.specs.Shown.{saysComplete, entryOf, refusal, shown, shownFinished, shownPage, Shows};
+ghost use Rattle.openrules.specs.Shown.{saysComplete, entryOf, refusal, shown, shownFinished, shownPage, shownLoad, numberIn, Shows};
 
 // Whether the first line is exactly `sheet=complete`.
 fn says_complete(sheet: &[u8]) -> bool
@@ -103,6 +108,77 @@ fn paged(sheet: &[u8], out: &mut [u8; SPACE]) -> usize
     refused(out, p.number, p.line, p.length)
 }
 
+// The number of policies that the call is asked for: the greatest that it can be where there are more, as both are refused alike.
+fn at_most(policies: u64) -> u32
+    ensures { λ r. ⌜ r ≡ min policies 4294967295 ⌝ }
+{
+    if policies > 4294967295 {
+        return 4294967295;
+    }
+    policies as u32
+}
+
+// What is printed for a seed and a number of policies, likewise.
+fn loaded(seed: u64, policies: u64, out: &mut [u8; SPACE]) -> usize
+    ensures { λ r. ⌜ Shows (shownLoad seed policies) (now (out .exit)) r ⌝ }
+{
+    let n = at_most(policies);
+    let r = load(seed, n, out);
+    if r.number == 0 {
+        return r.length;
+    }
+    refused(out, r.number, r.line, r.length)
+}
+
+// ---- numbers on the command line
+
+// The greatest number of 64 bits.
+const MOST: u64 = 18446744073709551615;
+
+// The number that digits write, leading zeros or not: nothing wraps.
+fn digits_of(word: &[u8]) -> Number
+    ensures { λ r. ⌜ numberOf r ≡ atMost greatest (digitsFrom 0 (now (word .entry))) ⌝ }
+{
+    let mut n: u64 = 0;
+    let mut i = 0;
+    while i < word.len() {
+        let x = word[i];
+        if x < b'0' {
+            return Number::Refused;
+        }
+        if x > b'9' {
+            return Number::Refused;
+        }
+        if n > MOST / 10 {
+            return Number::Refused;
+        }
+        let tens = n * 10;
+        let digit = (x - b'0') as u64;
+        if digit > MOST - tens {
+            return Number::Refused;
+        }
+        n = tens + digit;
+        i += 1;
+    }
+    Number::Value(n)
+}
+
+// A decimal number.
+fn number_of(word: &[u8]) -> Number
+    ensures { λ r. ⌜ numberOf r ≡ numberIn (now (word .entry)) ⌝ }
+{
+    if word.len() == 0 {
+        return Number::Refused;
+    }
+    if word.len() == 1 {
+        return digits_of(word);
+    }
+    if word[0] == b'0' {
+        return Number::Refused;
+    }
+    digits_of(word)
+}
+
 // ---- the words
 
 // The bytes of a sheet that are read: one more than it may have, so that a longer one is seen.
@@ -113,7 +189,12 @@ const WORD: usize = 1;
 
 const NAME: usize = 2;
 
-// What stands on the command line, by how many there are: nothing, the program's name, a word after it, a name after that.
+// The places of the two numbers that may follow the word instead.
+const SEED: usize = 2;
+
+const POLICIES: usize = 3;
+
+// What stands on the command line, by how many there are: nothing, the program's name, a word after it, a name after that, two numbers instead.
 const NOTHING: usize = 0;
 
 const PROGRAM: usize = 1;
@@ -122,8 +203,13 @@ const LONE_WORD: usize = 2;
 
 const NAMED_WORD: usize = 3;
 
+const COUNTED_WORD: usize = 4;
+
 // The bytes of a word; a longer one is none of the words.
 const LETTERS: usize = 16;
+
+// The digits of a number of 64 bits; a longer word is no such number (proofs/Numbers.antt).
+const DIGITS: usize = 20;
 
 // The words, on standard output or standard error.
 fn help(to: i32) {
@@ -138,6 +224,10 @@ fn help(to: i32) {
     io::write_all(
         to,
         b"openrules page < SHEET               the counter page of a partial sheet\n",
+    );
+    io::write_all(
+        to,
+        b"openrules load SEED POLICIES         the test load that a seed and 1 to 64 policies name, a sheet\n",
     );
     io::write_all(to, b"openrules help                       these words\n");
 }
@@ -184,6 +274,33 @@ fn finish_word() {
     libc::close(file);
 }
 
+// The test load of two numbers.
+fn print_load(seed: u64, policies: u64) {
+    let mut out = [0u8; SPACE];
+    let k = loaded(seed, policies, &mut out);
+    io::write_all(STDOUT_FILENO, &out[..k]);
+}
+
+// Number `i` on the command line.
+fn number_at(i: usize) -> Number {
+    let mut word = [0u8; DIGITS];
+    let n = os::arg(i, &mut word);
+    number_of(&word[..n])
+}
+
+// `load SEED POLICIES`
+fn load_word() {
+    let Number::Value(seed) = number_at(SEED) else {
+        help(STDERR_FILENO);
+        return;
+    };
+    let Number::Value(policies) = number_at(POLICIES) else {
+        help(STDERR_FILENO);
+        return;
+    };
+    print_load(seed, policies);
+}
+
 // One word alone.
 fn lone_word(word: &[u8]) {
     if same_bytes(word, b"help") {
@@ -206,6 +323,15 @@ fn named_word(word: &[u8]) {
     help(STDERR_FILENO);
 }
 
+// A word and two numbers.
+fn counted_word(word: &[u8]) {
+    if same_bytes(word, b"load") {
+        load_word();
+        return;
+    }
+    help(STDERR_FILENO);
+}
+
 fn main() {
     let mut word = [0u8; LETTERS];
     let n = os::arg(WORD, &mut word);
@@ -214,6 +340,7 @@ fn main() {
         PROGRAM => print_answer(),
         LONE_WORD => lone_word(&word[..n]),
         NAMED_WORD => named_word(&word[..n]),
+        COUNTED_WORD => counted_word(&word[..n]),
         _ => help(STDERR_FILENO),
     }
 }

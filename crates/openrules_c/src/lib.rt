@@ -4,10 +4,12 @@ use authorizer::complete;
 use authorizer::partial;
 use finish::finish;
 use page::page;
+use testload::load;
 ghost use Rattle.sheet.specs.Forms.{partial, complete};
 ghost use Rattle.authorizer.specs.Called.{Called};
 ghost use Rattle.finished.specs.Promise.{Finished};
 ghost use Rattle.paged.specs.Promise.{Paged};
+ghost use Rattle.testload.specs.Loaded.{Loaded};
 
 #[no_mangle]
 pub extern "C" fn openrules_partial(
@@ -73,6 +75,23 @@ pub extern "C" fn openrules_page(
     ensures { λ r. ⌜ Paged (now (sheet .entry)) (now (first .entry)) (now (second .entry)) (now (out .entry)) r (now (line .exit)) (now (length .exit)) (now (out .exit)) (now (first .exit)) (now (second .exit)) ⌝ }
 {
     let r = page(sheet, first, second, out);
+    *line = r.line;
+    *length = r.length;
+    r.number
+}
+
+// No work slices are lent.
+#[no_mangle]
+pub extern "C" fn openrules_test_load(
+    seed: u64,
+    policies: u32,
+    out: &mut [u8],
+    line: &mut usize,
+    length: &mut usize,
+) -> u32
+    ensures { λ r. ⌜ Loaded seed policies (now (out .entry)) r (now (line .exit)) (now (length .exit)) (now (out .exit)) ⌝ }
+{
+    let r = load(seed, policies, out);
     *line = r.line;
     *length = r.length;
     r.number
