@@ -3,6 +3,7 @@
 use authorizer::complete;
 use authorizer::partial;
 use finish::finish;
+use preview::preview;
 ghost use Rattle.sheet.specs.Forms.{partial, complete};
 ghost use Rattle.authorizer.specs.Called.{Called};
 ghost use Rattle.finished.specs.Promise.{Finished};
@@ -54,6 +55,24 @@ pub extern "C" fn openrules_finish(
     ensures { λ r. ⌜ Finished (now (partial .entry)) (now (complete .entry)) (now (first .entry)) (now (second .entry)) (now (out .entry)) r (now (line .exit)) (now (length .exit)) (now (out .exit)) (now (first .exit)) (now (second .exit)) ⌝ }
 {
     let r = finish(partial, complete, first, second, out);
+    *line = r.line;
+    *length = r.length;
+    r.number
+}
+
+#[no_mangle]
+pub extern "C" fn openrules_preview(
+    sheet: &[u8],
+    of: usize,
+    replacement: &[u8],
+    first: &mut [u32],
+    second: &mut [u32],
+    out: &mut [u8],
+    line: &mut usize,
+    length: &mut usize,
+) -> u32
+{
+    let r = preview(sheet, of, replacement, first, second, out);
     *line = r.line;
     *length = r.length;
     r.number

@@ -1,0 +1,58 @@
+-- `edit::begin` meets its contract. Assumes nothing.
+use Rattle.edit.proofs.Lines.{Seeking, seeking-none, seeking-start, seeking-past, seeking-on, seeking-end}
+use borrow.Author.Needs.{needs}
+use Rattle.edit.proofs.begin.Statement.{statement}
+use Rattle.edit.proofs.begin.Tie as tie
+
+abbrev Inv-loop : tie.InvT-loop
+Inv-loop sheet line before₀ at₀ before at = Seeking sheet line before at
+
+abbrev μ-loop : tie.MeasureT-loop
+μ-loop sheet line before₀ at₀ before at = before
+
+returns : tie.Need-returns Inv-loop μ-loop
+returns c = search (seeking-none, needs)
+
+sub-before : tie.Need-sub-before Inv-loop μ-loop
+sub-before c = search needs
+
+loop-holds : tie.Need-loop-holds Inv-loop μ-loop
+loop-holds c = search (seeking-start, needs)
+
+find-requires : tie.Need-find-requires Inv-loop μ-loop
+find-requires c κs = search needs
+
+returns-2 : tie.Need-returns-2 Inv-loop μ-loop
+returns-2 c = search (seeking-past, needs)
+
+add-at : tie.Need-add-at Inv-loop μ-loop
+add-at c = search needs
+
+sub-before-2 : tie.Need-sub-before-2 Inv-loop μ-loop
+sub-before-2 c = search needs
+
+loop-less : tie.Need-loop-less Inv-loop μ-loop
+loop-less c = search needs
+
+loop-again : tie.Need-loop-again Inv-loop μ-loop
+loop-again c = search (seeking-on, needs)
+
+returns-3 : tie.Need-returns-3 Inv-loop μ-loop
+returns-3 c = search (seeking-end, needs)
+
+pub begin-spec : {M : Type 1} → statement M
+begin-spec =
+    tie.close
+    (tie.spec
+    Inv-loop
+    μ-loop
+    returns
+    sub-before
+    loop-holds
+    find-requires
+    returns-2
+    add-at
+    sub-before-2
+    loop-less
+    loop-again
+    returns-3)

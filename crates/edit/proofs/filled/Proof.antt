@@ -1,0 +1,64 @@
+use borrow.Author.Needs.{needs}
+use Rattle.edit.proofs.filled.Statement.{statement}
+use Rattle.edit.proofs.filled.Tie as tie
+
+same-bytes-requires : tie.Need-same-bytes-requires
+same-bytes-requires c κs = search needs
+
+returns : tie.Need-returns
+returns c = search needs
+
+find-requires : tie.Need-find-requires
+find-requires c κs = search needs
+
+find-requires-2 : tie.Need-find-requires-2
+find-requires-2 c κs = search needs
+
+front-requires : tie.Need-front-requires
+front-requires c κs = search needs
+
+front-requires-2 : tie.Need-front-requires-2
+front-requires-2 c κs = search needs
+
+same-bytes-requires-2 : tie.Need-same-bytes-requires-2
+same-bytes-requires-2 c κs = search needs
+
+returns-2 : tie.Need-returns-2
+returns-2 c = search needs
+
+add-rest : tie.Need-add-rest
+add-rest c = search needs
+
+rest-requires : tie.Need-rest-requires
+rest-requires c κs = search needs
+
+add-rest-2 : tie.Need-add-rest-2
+add-rest-2 c = search needs
+
+rest-requires-2 : tie.Need-rest-requires-2
+rest-requires-2 c κs = search needs
+
+items-filled-requires : tie.Need-items-filled-requires
+items-filled-requires c κs = search needs
+
+returns-3 : tie.Need-returns-3
+returns-3 c = search needs
+
+pub filled-spec : {M : Type 1} → statement M
+filled-spec =
+    tie.close
+    (tie.spec
+    same-bytes-requires
+    returns
+    find-requires
+    find-requires-2
+    front-requires
+    front-requires-2
+    same-bytes-requires-2
+    returns-2
+    add-rest
+    rest-requires
+    add-rest-2
+    rest-requires-2
+    items-filled-requires
+    returns-3)
