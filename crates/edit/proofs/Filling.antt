@@ -9,7 +9,7 @@ use native.Mathlib.Omega.{arith}
 use native.Mathlib.Decide.{decLe}
 use borrow.Author.Tests.{lt-ltb, le-ltb, le-leb, lt-leb, not-true, not-false, eq-eqb, ne-eqb, eqb-true, eqb-false}
 use lib.Dec.{ltb, leb, eqb, leb·suc-suc}
-use lib.ListN.{length, take, drop}
+use lib.ListN.{length, take, drop, drop-of-length-le}
 use Rattle.words.specs.Log.{part}
 use Rattle.cedar.specs.Types.{among}
 use Rattle.sheet.specs.Ascii.{ascii}
@@ -126,6 +126,9 @@ module _ (old new : List ℕ) (i j e f : ℕ) (k : Filling old new i j) (p : e �
     }
 
 -- ---- the whole line
+
+pub after-none : (l r : List ℕ) (a : ℕ) → length l ≤ a → r ≡ drop a l → r ≡ drop (a + 1) l
+after-none l r a h p = p ∙ drop-of-length-le l h ∙ sym (drop-of-length-le l {i = a + 1} (omega arith))
 
 -- the key is the same, and some items are filled
 abbrev Filled : List ℕ → List ℕ → Bool

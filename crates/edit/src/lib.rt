@@ -9,6 +9,8 @@ use scan::rest;
 use scan::same_bytes;
 ghost use mathlib.Core.Path.{_≡_};
 ghost use mathlib.Core.Bool.{_&&_, _||_, not};
+ghost use Prim.Native.Nat.{_+_};
+ghost use lib.ListN.{drop};
 ghost use Rattle.sheet.specs.Ascii.{ascii};
 ghost use Rattle.sheet.specs.Bytes.{split, same};
 ghost use Rattle.previewed.specs.Preview.{keyIn, itemsIn, mayFill, fillsOnly, fills};
@@ -63,6 +65,16 @@ fn items_filled(old: &[u8], new: &[u8]) -> bool
     }
 }
 
+// What stands after byte `at`; nothing where there is no such byte.
+fn after(bytes: &[u8], at: usize) -> &[u8]
+    ensures { λ r. ⌜ now r ≡ drop (at + 1) (now (bytes .entry)) ⌝ }
+{
+    if at < bytes.len() {
+        return rest(bytes, at + 1);
+    }
+    rest(bytes, at)
+}
+
 // Whether another line has the key of the old one and its items, some of them filled.
 fn filled(old: &[u8], new: &[u8]) -> bool
     ensures { λ r. ⌜ r ≡ (same (keyIn (now (old .entry))) (keyIn (now (new .entry))) && (fillsOnly (itemsIn (now (old .entry))) (itemsIn (now (new .entry))) && not (same (now (old .entry)) (now (new .entry))))) ⌝ }
@@ -75,7 +87,7 @@ fn filled(old: &[u8], new: &[u8]) -> bool
     if !same_bytes(front(old, was), front(new, is)) {
         return false;
     }
-    items_filled(rest(old, was + 1), rest(new, is + 1))
+    items_filled(after(old, was), after(new, is))
 }
 
 // Whether a new line may stand for the old one.

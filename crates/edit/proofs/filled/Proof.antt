@@ -1,3 +1,4 @@
+use Rattle.edit.proofs.Filling.{filled-nothing, filled-key, filled-items}
 use borrow.Author.Needs.{needs}
 use Rattle.edit.proofs.filled.Statement.{statement}
 use Rattle.edit.proofs.filled.Tie as tie
@@ -6,7 +7,7 @@ same-bytes-requires : tie.Need-same-bytes-requires
 same-bytes-requires c κs = search needs
 
 returns : tie.Need-returns
-returns c = search needs
+returns c = search (filled-nothing, needs)
 
 find-requires : tie.Need-find-requires
 find-requires c κs = search needs
@@ -24,25 +25,19 @@ same-bytes-requires-2 : tie.Need-same-bytes-requires-2
 same-bytes-requires-2 c κs = search needs
 
 returns-2 : tie.Need-returns-2
-returns-2 c = search needs
+returns-2 c = search (filled-key, needs)
 
-add-rest : tie.Need-add-rest
-add-rest c = search needs
+after-requires : tie.Need-after-requires
+after-requires c κs = search needs
 
-rest-requires : tie.Need-rest-requires
-rest-requires c κs = search needs
-
-add-rest-2 : tie.Need-add-rest-2
-add-rest-2 c = search needs
-
-rest-requires-2 : tie.Need-rest-requires-2
-rest-requires-2 c κs = search needs
+after-requires-2 : tie.Need-after-requires-2
+after-requires-2 c κs = search needs
 
 items-filled-requires : tie.Need-items-filled-requires
 items-filled-requires c κs = search needs
 
 returns-3 : tie.Need-returns-3
-returns-3 c = search needs
+returns-3 c = search (filled-items, needs)
 
 pub filled-spec : {M : Type 1} → statement M
 filled-spec =
@@ -56,9 +51,7 @@ filled-spec =
     front-requires-2
     same-bytes-requires-2
     returns-2
-    add-rest
-    rest-requires
-    add-rest-2
-    rest-requires-2
+    after-requires
+    after-requires-2
     items-filled-requires
     returns-3)
