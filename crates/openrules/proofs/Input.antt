@@ -14,7 +14,8 @@ use Rattle.sheet.specs.Call.{Returned, returns, room, lentThen, readThen, check
 use Rattle.sheet.proofs.Lines.{zero-not-suc}
 use Rattle.sheet.proofs.Checked.{lent-by, checked-by}
 use Rattle.finished.specs.Finish.{breakingLine, finishedAnswer, atLine, finishReturned}
-use Rattle.openrules.specs.Shown.{entryOf, space, refusal, textOf, shown, finishBack, shownFinished}
+use Rattle.previewed.specs.Preview.{previewReturned}
+use Rattle.openrules.specs.Shown.{entryOf, space, refusal, textOf, shown, finishBack, shownFinished, shownPreview}
 
 too-long : (m : Mode) (s : List ℕ) → 16384 < length s → returned m room room space s ≡ returns 2 0 0
 unfolding returned
@@ -79,3 +80,16 @@ first-bytes-of-both p c = first (decLe (length p) 16385) ∙ second (decLe (leng
     second : Dec (length c ≤ 16385) → shownFinished p (take 16385 c) ≡ shownFinished p c
     second (yes h) = ap (shownFinished p) (take-all 16385 c h)
     second (no h) = shown-second p (take 16385 c) c (omega (arith, length-take 16385 c)) (omega arith)
+
+-- ---- a line replaced
+
+shown-kept : (s : List ℕ) (n : ℕ) (new : List ℕ) → 16384 < length s → shownPreview s n new ≡ refusal 2 0 0
+unfolding shownPreview previewReturned
+shown-kept s n new h = rw (lt-ltb room (length s) h)
+
+pub first-bytes-of-kept : (s : List ℕ) (n : ℕ) (new : List ℕ) → shownPreview (take 16385 s) n new ≡ shownPreview s n new
+first-bytes-of-kept s n new = go (decLe (length s) 16385)
+  where
+    go : Dec (length s ≤ 16385) → shownPreview (take 16385 s) n new ≡ shownPreview s n new
+    go (yes h) = ap (λ (l : List ℕ). shownPreview l n new) (take-all 16385 s h)
+    go (no h) = shown-kept (take 16385 s) n new (omega (arith, length-take 16385 s)) ∙ sym (shown-kept s n new (omega arith))

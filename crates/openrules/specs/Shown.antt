@@ -1,5 +1,5 @@
 -- What the program prints for the bytes that it reads. Document 01, "Known sheets": "Program `openrules` reads standard input." With the word
--- `finish` it also reads the partial sheet from a file.
+-- `finish` it also reads the partial sheet from a file; after the word `preview` the command line has the number of a line and a line.
 use mathlib.Core.Path.{_≡_}
 use mathlib.Core.Bool.{Bool, cond}
 use mathlib.Core.List.{List, [], _∷_}
@@ -14,6 +14,7 @@ use Rattle.sheet.specs.Sheet.{read}
 use Rattle.sheet.specs.Answer.{printed, numbers, answer}
 use Rattle.sheet.specs.Call.{Returned, room, returned}
 use Rattle.finished.specs.Finish.{finishedAnswer, finishReturned}
+use Rattle.previewed.specs.Preview.{edited, previewReturned}
 
 -- the first line is exactly `sheet=complete`
 unfoldable pub saysComplete : List ℕ → Bool
@@ -48,6 +49,13 @@ finishBack p c = finishReturned room room space p c
 
 unfoldable pub shownFinished : List ℕ → List ℕ → List ℕ
 shownFinished p c = textOf (finishBack p c) (finishedAnswer (read partial p .state) (read complete c .state))
+
+-- a partial sheet with line n replaced (document 02, 2.11)
+abbrev pub previewBack : List ℕ → ℕ → List ℕ → Returned
+previewBack sheet n new = previewReturned room room space sheet n new
+
+unfoldable pub shownPreview : List ℕ → ℕ → List ℕ → List ℕ
+shownPreview sheet n new = textOf (previewBack sheet n new) (answer partial (read partial (edited sheet n new) .state))
 
 -- the first n bytes of a buffer are this text
 pub record Shows (text buffer : List ℕ) (n : ℕ) : Type 0 where

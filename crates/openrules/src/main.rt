@@ -1,7 +1,7 @@
 // The program: without a word, a sheet on standard input, the answer or its refusal on standard output; with a word, what `help` lists. Of
 // what is read the first 16,385 bytes of each sheet matter (proofs/Input.antt). What is proved of it: it is safe, it ends, and the bytes that
-// it hands to `io::write_all` for the bytes that `io::read_full` gave are those that `answer` and `finished` promise. No contract can speak of
-// what C's read and write move. A program has no status to end with: what cannot be done is said on standard error.
+// it hands to `io::write_all` for the bytes that `io::read_full` gave are those that `answer`, `finished` and `previewed` promise. No contract can
+// speak of what C's read and write move. A program has no status to end with: what cannot be done is said on standard error.
 use authorizer::Returned;
 use authorizer::complete;
 use authorizer::partial;
@@ -9,9 +9,12 @@ use finish::finish;
 use libc::STDERR_FILENO;
 use libc::STDIN_FILENO;
 use libc::STDOUT_FILENO;
+use preview::preview;
 use print::byte;
 use print::bytes;
 use print::number;
+use scan::Number;
+use scan::digits;
 use scan::find;
 use scan::front;
 use scan::same_bytes;
@@ -19,7 +22,7 @@ ghost use mathlib.Core.Path.{_≡_};
 ghost use lib.ListN.{length};
 ghost use Rattle.print.specs.Written.{Written};
 ghost use Rattle.authorizer.specs.Called.{Called};
-ghost use Rattle.openrules.specs.Shown.{saysComplete, entryOf, space, refusal, shown, shownFinished, Shows};
+ghost use Rattle.openrules.specs.Shown.{saysComplete, entryOf, space, refusal, shown, shownFinished, shownPreview, Shows};
 
 // Whether the first line is exactly `sheet=complete`.
 fn says_complete(sheet: &[u8]) -> bool
@@ -89,6 +92,19 @@ fn finished(partial: &[u8], complete: &[u8], out: &mut [u8; SPACE]) -> usize
     refused(out, f.number, f.line, f.length)
 }
 
+// What is printed for a partial sheet with one line replaced, likewise.
+fn previewed(sheet: &[u8], line: usize, new: &[u8], out: &mut [u8; SPACE]) -> usize
+    ensures { λ r. ⌜ Shows (shownPreview (now (sheet .entry)) line (now (new .entry))) (now (out .exit)) r ⌝ }
+{
+    let mut a = words();
+    let mut b = words();
+    let p = preview(sheet, line, new, &mut a, &mut b, out);
+    if p.number == 0 {
+        return p.length;
+    }
+    refused(out, p.number, p.line, p.length)
+}
+
 // ---- the words
 
 // The bytes of a sheet that are read: one more than it may have, so that a longer one is seen.
@@ -99,7 +115,12 @@ const WORD: usize = 1;
 
 const NAME: usize = 2;
 
-// What stands on the command line, by how many there are: nothing, the program's name, a word after it, a name after that.
+// The places of the number of a line and of the line for it, which may follow the word instead.
+const LINE: usize = 2;
+
+const REPLACEMENT: usize = 3;
+
+// What stands on the command line, by how many there are: nothing, the program's name, a word after it, a name after that, a number and a line instead.
 const NOTHING: usize = 0;
 
 const PROGRAM: usize = 1;
@@ -108,8 +129,16 @@ const LONE_WORD: usize = 2;
 
 const NAMED_WORD: usize = 3;
 
+const COUNTED_WORD: usize = 4;
+
 // The bytes of a word; a longer one is none of the words.
 const LETTERS: usize = 16;
+
+// The digits of a number that may be written.
+const DIGITS: usize = 20;
+
+// The bytes of what may stand at one place on a command line.
+const ARGUMENT: usize = 131072;
 
 // The words, on standard output or standard error.
 fn help(to: i32) {
@@ -120,6 +149,10 @@ fn help(to: i32) {
     io::write_all(
         to,
         b"openrules finish PARTIAL < COMPLETE  what the partial sheet's residuals give on the complete sheet\n",
+    );
+    io::write_all(
+        to,
+        b"openrules preview LINE NEW < SHEET   the answer to a partial sheet with the line NEW in the place of line LINE\n",
     );
     io::write_all(to, b"openrules help                       these words\n");
 }
@@ -157,6 +190,33 @@ fn finish_word() {
     libc::close(file);
 }
 
+// Number `i` on the command line.
+fn number_at(i: usize) -> Number {
+    let mut word = [0u8; DIGITS];
+    let n = os::arg(i, &mut word);
+    digits(&word[..n])
+}
+
+// The partial sheet from standard input, with one line replaced.
+fn print_preview(line: usize, new: &[u8]) {
+    let mut input = [0u8; INPUT];
+    let n = io::read_full(STDIN_FILENO, &mut input);
+    let mut out = [0u8; SPACE];
+    let k = previewed(&input[..n], line, new, &mut out);
+    io::write_all(STDOUT_FILENO, &out[..k]);
+}
+
+// `preview LINE REPLACEMENT`
+fn preview_word() {
+    let Number::Value(line) = number_at(LINE) else {
+        help(STDERR_FILENO);
+        return;
+    };
+    let mut new = [0u8; ARGUMENT];
+    let n = os::arg(REPLACEMENT, &mut new);
+    print_preview(line as usize, &new[..n]);
+}
+
 // One word alone.
 fn lone_word(word: &[u8]) {
     if same_bytes(word, b"help") {
@@ -175,6 +235,15 @@ fn named_word(word: &[u8]) {
     help(STDERR_FILENO);
 }
 
+// A word, a number and a line.
+fn counted_word(word: &[u8]) {
+    if same_bytes(word, b"preview") {
+        preview_word();
+        return;
+    }
+    help(STDERR_FILENO);
+}
+
 fn main() {
     let mut word = [0u8; LETTERS];
     let n = os::arg(WORD, &mut word);
@@ -183,6 +252,7 @@ fn main() {
         PROGRAM => print_answer(),
         LONE_WORD => lone_word(&word[..n]),
         NAMED_WORD => named_word(&word[..n]),
+        COUNTED_WORD => counted_word(&word[..n]),
         _ => help(STDERR_FILENO),
     }
 }

@@ -7,6 +7,7 @@ use preview::preview;
 ghost use Rattle.sheet.specs.Forms.{partial, complete};
 ghost use Rattle.authorizer.specs.Called.{Called};
 ghost use Rattle.finished.specs.Promise.{Finished};
+ghost use Rattle.previewed.specs.Promise.{Previewed};
 
 #[no_mangle]
 pub extern "C" fn openrules_partial(
@@ -63,7 +64,7 @@ pub extern "C" fn openrules_finish(
 #[no_mangle]
 pub extern "C" fn openrules_preview(
     sheet: &[u8],
-    of: usize,
+    of_line: usize,
     replacement: &[u8],
     first: &mut [u32],
     second: &mut [u32],
@@ -71,8 +72,9 @@ pub extern "C" fn openrules_preview(
     line: &mut usize,
     length: &mut usize,
 ) -> u32
+    ensures { λ r. ⌜ Previewed (now (sheet .entry)) of_line (now (replacement .entry)) (now (first .entry)) (now (second .entry)) (now (out .entry)) r (now (line .exit)) (now (length .exit)) (now (out .exit)) (now (first .exit)) (now (second .exit)) ⌝ }
 {
-    let r = preview(sheet, of, replacement, first, second, out);
+    let r = preview(sheet, of_line, replacement, first, second, out);
     *line = r.line;
     *length = r.length;
     r.number

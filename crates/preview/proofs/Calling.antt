@@ -1,20 +1,18 @@
 -- The call by its tests: a work slice too short, or what was tried and the clearing. Assumes nothing.
-use mathlib.Core.Path.{_≡_, sym, ap, ap₂}
-use mathlib.Core.Bool.{Bool, cond, _||_}
+use mathlib.Core.Path.{_≡_, sym, ap}
 use mathlib.Core.List.{List, _++_}
 use Prim.Native.Nat.{ℕ, _≤_, _<_}
-use borrow.Author.Tests.{le-ltb}
 use lib.ListN.{length, take, drop}
 use Rattle.words.specs.Log.{cleared}
 use Rattle.sheet.specs.Forms.{partial}
-use Rattle.sheet.specs.Call.{Returned, returns, shortThen, returned}
+use Rattle.sheet.specs.Call.{Returned, shortThen, returned}
 use Rattle.print.proofs.Sending.{gives-as}
 use Rattle.opening.specs.Promised.{Promised}
 use Rattle.opening.proofs.Lent.{short-first, short-second, long-enough}
-use Rattle.authorizer.specs.Parts as A
 use Rattle.previewed.specs.Preview.{edited, editThen, previewReturned, previewWritten}
 use Rattle.previewed.specs.Promise.{Previewed}
-use Rattle.preview.specs.Parts.{answerOf, afterLengths, Tries}
+use Rattle.preview.specs.Parts.{answerOf, Tries}
+use Rattle.preview.proofs.Trying.{lent}
 
 module _ (sheet : List ℕ) (n : ℕ) (new w₁ w₂ out : List ℕ) where
   -- what is returned where both work slices are long enough
@@ -36,15 +34,10 @@ module _ (sheet : List ℕ) (n : ℕ) (new w₁ w₂ out : List ℕ) where
   preview-second h = previewed 1 0 0 out w₁ w₂ (short-second next (answerOf sheet n new) w₁ w₂ out h)
 
   module _ (h₁ : 16384 ≤ length w₁) (h₂ : 16384 ≤ length w₂) where
-    -- the run on the copy passes 1 too
-    lent : (copy : List ℕ) → A.afterLengths partial (length out) copy ≡ returned partial (length w₁) (length w₂) (length out) copy
-    unfolding returned
-    lent copy = sym (ap₂ (λ (x y : Bool). cond (x || y) (returns 1 0 0) (A.afterLengths partial (length out) copy)) (le-ltb (length w₁) 16384 h₁) (le-ltb (length w₂) 16384 h₂))
-
     pub preview-tried : (number line len : ℕ) (out′ p₁ p₂ v₁ v₂ : List ℕ) → Tries sheet n new out number line len out′
         → length p₁ ≡ length (take 16384 w₁) → length p₂ ≡ length (take 16384 w₂) → v₁ ≡ cleared (p₁ ++ drop 16384 w₁) → v₂ ≡ cleared (p₂ ++ drop 16384 w₂)
         → Previewed sheet n new w₁ w₂ out number line len out′ v₁ v₂
     unfolding previewReturned
     preview-tried number line len out′ p₁ p₂ v₁ v₂ g l₁ l₂ e f =
         previewed number line len out′ v₁ v₂ (long-enough next (answerOf sheet n new) w₁ w₂ out h₁ h₂ number line len out′ p₁ p₂ v₁ v₂
-        (gives-as (ap (λ (r : Returned). shortThen sheet (editThen sheet n new r)) (lent (edited sheet n new))) g) l₁ l₂ e f)
+        (gives-as (ap (λ (r : Returned). shortThen sheet (editThen sheet n new r)) (sym (lent (length w₁) (length w₂) (length out) (edited sheet n new) h₁ h₂))) g) l₁ l₂ e f)

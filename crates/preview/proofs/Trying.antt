@@ -2,7 +2,7 @@
 use mathlib.Core.Path.{_≡_, refl, sym, _∙_, ap, ap₂, subst}
 use mathlib.Core.Bool.{Bool, true, false, cond, _&&_, _||_, not}
 use mathlib.Core.List.{List, [], _++_}
-use Prim.Native.Nat.{ℕ, _+_, _≤_, _<_}
+use Prim.Native.Nat.{ℕ, _+_, _-_, _≤_, _<_}
 use native.Mathlib.Omega.{arith}
 use native.Mathlib.Decide.{decLe}
 use borrow.Author.Tests.{lt-ltb, le-ltb, not-true, not-false}
@@ -35,6 +35,21 @@ refuses bytes out number line e o = gives-as (sym e) (record { number-is = refl;
 too-long : (sheet bytes out : List ℕ) (r : Returned) → 16384 < length sheet → Gives (shortThen sheet r) bytes out 2 0 0 out
 too-long sheet bytes out r h = refuses bytes out 2 0 (ap (λ (b : Bool). cond b (returns 2 0 0) r) (lt-ltb 16384 (length sheet) h)) refl
 
+-- the run on a copy passes 1 too
+pub lent : (w₁ w₂ out : ℕ) (copy : List ℕ) → 16384 ≤ w₁ → 16384 ≤ w₂ → returned partial w₁ w₂ out copy ≡ A.afterLengths partial out copy
+unfolding returned
+lent w₁ w₂ out copy h₁ h₂ = ap₂ (λ (x y : Bool). cond (x || y) (returns 1 0 0) (A.afterLengths partial out copy)) (le-ltb w₁ 16384 h₁) (le-ltb w₂ 16384 h₂)
+
+called : (copy w₁ w₂ out : List ℕ) (number line len : ℕ) (out′ v₁ v₂ : List ℕ) → Called partial copy w₁ w₂ out number line len out′ v₁ v₂
+    → Gives (returned partial (length w₁) (length w₂) (length out) copy) (answer partial (read partial copy .state)) out number line len out′
+unfolding written
+called copy w₁ w₂ out number line len out′ v₁ v₂ g = record {
+  number-is = g .number-is;
+  line-is = g .line-is;
+  length-is = g .length-is;
+  buffer = g .buffer ∙ ap (λ (k : ℕ). outputs k (answer partial (read partial copy .state)) out) (sym (g .number-is));
+}
+
 -- ---- the copy, written in three parts
 
 module _ (sheet new out : List ℕ) (start end : ℕ) (c₀ c₁ c₂ c₃ x y : List ℕ) (a b c : ℕ) (room : 16384 ≡ length c₀) (xp : x ≡ take start sheet) (yp : y ≡ drop end sheet)
@@ -57,11 +72,9 @@ module _ (sheet new out : List ℕ) (start end : ℕ) (c₀ c₁ c₂ c₃ x y :
 
     pub copy-ran : (w₁ w₂ : List ℕ) → length w₁ ≡ 16384 → length w₂ ≡ 16384 → (number line len : ℕ) (out′ v₁ v₂ : List ℕ) → Called partial (take c c₃) w₁ w₂ out number line len out′ v₁ v₂
         → A.Answers partial copy out number line len out′
-    copy-ran w₁ w₂ l₁ l₂ number line len out′ v₁ v₂ g = subst (λ (k : List ℕ). A.Answers partial k out number line len out′) copy-held (called (take c c₃) w₁ w₂ l₁ l₂ number line len out′ v₁ v₂ g)
-      where
-        called : (k w₁ w₂ : List ℕ) → length w₁ ≡ 16384 → length w₂ ≡ 16384 → (number line len : ℕ) (out′ v₁ v₂ : List ℕ) → Called partial k w₁ w₂ out number line len out′ v₁ v₂
-            → A.Answers partial k out number line len out′
-        called k w₁ w₂ l₁ l₂ number line len out′ v₁ v₂ g = ?
+    copy-ran w₁ w₂ l₁ l₂ number line len out′ v₁ v₂ g =
+        subst (λ (k : List ℕ). A.Answers partial k out number line len out′) copy-held
+        (gives-as (lent (length w₁) (length w₂) (length out) (take c c₃) (omega (arith, l₁)) (omega (arith, l₂))) (called (take c c₃) w₁ w₂ out number line len out′ v₁ v₂ g))
 
 -- ---- 2, 12, or the run
 

@@ -1,9 +1,11 @@
+-- `preview::tried` meets its contract. Assumes nothing.
+use Rattle.preview.proofs.Trying.{kept-too-long, not-filled, copy-tried}
 use borrow.Author.Needs.{needs}
 use Rattle.preview.proofs.tried.Statement.{statement}
 use Rattle.preview.proofs.tried.Tie as tie
 
 returns : tie.Need-returns
-returns c = search needs
+returns c = search (kept-too-long, needs)
 
 begin-requires : tie.Need-begin-requires
 begin-requires c κs = search needs
@@ -18,7 +20,7 @@ fills-requires : tie.Need-fills-requires
 fills-requires c κs = search needs
 
 returns-2 : tie.Need-returns-2
-returns-2 c = search needs
+returns-2 c = search (not-filled, needs)
 
 run-requires : tie.Need-run-requires
 run-requires c κs = search needs
@@ -33,7 +35,7 @@ same-length-3 : tie.Need-same-length-3
 same-length-3 c = search needs
 
 returns-3 : tie.Need-returns-3
-returns-3 c = search needs
+returns-3 c = search (copy-tried, needs)
 
 pub tried-spec : {M : Type 1} → statement M
 tried-spec =
