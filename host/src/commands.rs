@@ -9,6 +9,7 @@ use crate::compare::{self, Call};
 use crate::finish::{self, Finish};
 use crate::generate;
 use crate::parents::Shown;
+use crate::preview::{self, Preview};
 use crate::run;
 use crate::sheet::{self, Mode, Refusal};
 use crate::{again, bench, heavy, replay};
@@ -23,6 +24,8 @@ host self N SEED                       the same with the original on both sides:
 host again N SEED                      N answers of partial sheets handed back to the library as sheets
 host finish N SEED                     the library's finish on N pairs of sheets that agree or nearly do, against the complete sheet's own run
 host show-pair SEED N                  the N-th pair of a seed, and what finishing gives
+host preview N SEED                    the library's preview on N sheets with a line filled or changed, against the original's run on a copy
+host show-preview SEED N               the N-th of these, and what it gives
 host replay FILE                       writes the fixed list of sheets and answers
 host replay-check FILE                 runs a written list, with the library where it is linked
 host bench [ROUNDS]                    times, in three tables
@@ -47,6 +50,16 @@ fn library_finish() -> Option<Finish> {
 
 #[cfg(not(feature = "library"))]
 fn library_finish() -> Option<Finish> {
+    None
+}
+
+#[cfg(feature = "library")]
+fn library_preview() -> Option<Preview> {
+    Some(crate::library::preview)
+}
+
+#[cfg(not(feature = "library"))]
+fn library_preview() -> Option<Preview> {
     None
 }
 
@@ -89,6 +102,19 @@ pub fn run(args: &[&str]) -> ExitCode {
             write(&complete);
             println!("---");
             write(&text_of(finish::answer(&partial, &complete)));
+            ExitCode::SUCCESS
+        }
+        ["preview", count, seed] => match library_preview() {
+            Some(call) => previewed(call, number(count), number(seed)),
+            None => not_linked(),
+        },
+        ["show-preview", seed, n] => {
+            let trial = preview::trial(number(seed), number(n));
+            write(&trial.sheet);
+            println!("--- line {}", trial.of_line);
+            write(&trial.replacement);
+            println!("---");
+            write(&text_of(preview::answer(&trial)));
             ExitCode::SUCCESS
         }
         ["self", count, seed] => compared("the original", run::call, number(count), number(seed)),
@@ -204,6 +230,16 @@ fn benched(rounds: usize) -> ExitCode {
 fn finished(call: Finish, count: u64, seed: u64) -> ExitCode {
     let counts = finish::compare(call, count, seed);
     println!("finish of the library against the complete sheet's own run, seed {seed}: {}", counts.line());
+    if counts.differences == 0 {
+        ExitCode::SUCCESS
+    } else {
+        ExitCode::FAILURE
+    }
+}
+
+fn previewed(call: Preview, count: u64, seed: u64) -> ExitCode {
+    let counts = preview::compare(call, count, seed);
+    println!("preview of the library against the original's run on a copy, seed {seed}: {}", counts.line());
     if counts.differences == 0 {
         ExitCode::SUCCESS
     } else {

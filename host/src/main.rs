@@ -19,6 +19,8 @@ mod library;
 #[cfg(original)]
 mod parents;
 #[cfg(original)]
+mod preview;
+#[cfg(original)]
 mod random;
 #[cfg(original)]
 mod replay;

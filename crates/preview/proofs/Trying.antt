@@ -1,7 +1,7 @@
 -- The run on the copy, and what comes before it. Assumes nothing.
 use mathlib.Core.Path.{_≡_, refl, sym, _∙_, ap, ap₂, subst}
 use mathlib.Core.Bool.{Bool, true, false, cond, _&&_, _||_, not}
-use mathlib.Core.List.{List, [], _++_}
+use mathlib.Core.List.{List, []}
 use Prim.Native.Nat.{ℕ, _+_, _-_, _≤_, _<_}
 use native.Mathlib.Omega.{arith}
 use native.Mathlib.Decide.{decLe}
@@ -11,11 +11,11 @@ use lib.Seq.{take-append-seam, take-nil}
 use Rattle.words.specs.Log.{part}
 use Rattle.cedar.specs.Types.{among}
 use Rattle.cedar.proofs.Tools.{no-true}
-use Rattle.sheet.specs.Bytes.{upTo, same}
+use Rattle.sheet.specs.Bytes.{upTo}
 use Rattle.sheet.specs.Forms.{partial}
 use Rattle.sheet.specs.Sheet.{read}
 use Rattle.sheet.specs.Answer.{answer}
-use Rattle.sheet.specs.Call.{Returned, returns, over, outputs, shortThen, readThen, returned, written}
+use Rattle.sheet.specs.Call.{Returned, returns, outputs, shortThen, readThen, returned, written}
 use Rattle.print.specs.Written.{Written}
 use Rattle.print.proofs.Writing.{written-append, written-as, written-over}
 use Rattle.print.proofs.Sending.{gives-as}

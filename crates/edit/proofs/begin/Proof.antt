@@ -13,26 +13,11 @@ abbrev μ-loop : tie.MeasureT-loop
 returns : tie.Need-returns Inv-loop μ-loop
 returns c = search (seeking-none, needs)
 
-sub-before : tie.Need-sub-before Inv-loop μ-loop
-sub-before c = search needs
-
 loop-holds : tie.Need-loop-holds Inv-loop μ-loop
 loop-holds c = search (seeking-start, needs)
 
-find-requires : tie.Need-find-requires Inv-loop μ-loop
-find-requires c κs = search needs
-
 returns-2 : tie.Need-returns-2 Inv-loop μ-loop
 returns-2 c = search (seeking-past, needs)
-
-add-at : tie.Need-add-at Inv-loop μ-loop
-add-at c = search needs
-
-sub-before-2 : tie.Need-sub-before-2 Inv-loop μ-loop
-sub-before-2 c = search needs
-
-loop-less : tie.Need-loop-less Inv-loop μ-loop
-loop-less c = search needs
 
 loop-again : tie.Need-loop-again Inv-loop μ-loop
 loop-again c = search (seeking-on, needs)
@@ -47,12 +32,12 @@ begin-spec =
     Inv-loop
     μ-loop
     returns
-    sub-before
+    (λ c. search needs)
     loop-holds
-    find-requires
+    (λ c κs. search needs)
     returns-2
-    add-at
-    sub-before-2
-    loop-less
+    (λ c. search needs)
+    (λ c. search needs)
+    (λ c. search needs)
     loop-again
     returns-3)

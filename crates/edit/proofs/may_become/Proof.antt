@@ -4,17 +4,8 @@ use borrow.Author.Needs.{needs}
 use Rattle.edit.proofs.may_become.Statement.{statement}
 use Rattle.edit.proofs.may_become.Tie as tie
 
-same-bytes-requires : tie.Need-same-bytes-requires
-same-bytes-requires c κs = search needs
-
 returns : tie.Need-returns
 returns c = search (stays, needs)
-
-slice-aggregate-same-bytes : tie.Need-slice-aggregate-same-bytes
-slice-aggregate-same-bytes c = search needs
-
-same-bytes-requires-2 : tie.Need-same-bytes-requires-2
-same-bytes-requires-2 c κs = search needs
 
 returns-2 : tie.Need-returns-2
 returns-2 c = search (was-unknown, needs)
@@ -23,8 +14,8 @@ pub may-become-spec : {M : Type 1} → statement M
 may-become-spec =
     tie.close
     (tie.spec
-    same-bytes-requires
+    (λ c κs. search needs)
     returns
-    slice-aggregate-same-bytes
-    same-bytes-requires-2
+    (λ c. search needs)
+    (λ c κs. search needs)
     returns-2)

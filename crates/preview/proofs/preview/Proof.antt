@@ -11,26 +11,14 @@ returns c = search (preview-first, needs)
 returns-2 : tie.Need-returns-2
 returns-2 c = search (preview-second, needs)
 
-slice-relend-prefix-tried : tie.Need-slice-relend-prefix-tried
-slice-relend-prefix-tried c = search needs
-
 slice-aggregate-tried : tie.Need-slice-aggregate-tried
 slice-aggregate-tried c = search (part-long, needs)
-
-slice-relend-prefix-tried-2 : tie.Need-slice-relend-prefix-tried-2
-slice-relend-prefix-tried-2 c = search needs
 
 slice-aggregate-tried-2 : tie.Need-slice-aggregate-tried-2
 slice-aggregate-tried-2 c = search (part-long, needs)
 
 tried-requires : tie.Need-tried-requires
 tried-requires c κs = let s = c .before .before .before .before .before .before .before .before .before .before in (part-long (s .args .work1 .now) (c .before .before .before .before .if1 .left), part-long (s .args .work2 .now) (c .before .before .before .if2 .left))
-
-clear-requires : tie.Need-clear-requires
-clear-requires c κs = search needs
-
-clear-requires-2 : tie.Need-clear-requires-2
-clear-requires-2 c κs = search needs
 
 same-length : tie.Need-same-length
 same-length c =
@@ -45,9 +33,6 @@ same-length-2 c =
     let a = c .before .before .before .before .before .before .before .before .before .before .before .before .before .before .tried in
     let y = c .before .before .clear2 in
     part-same (s .args .work2 .now) (c .before .before .before .before .before .before .before .before .before .before .before .before .before .before .before .before .before .before .if2 .left) (a .last .1 .1 .1 .1 .0) (y .last .0) (a .kept .1 .1 .1 .1 .0) (y .kept .0)
-
-same-length-3 : tie.Need-same-length-3
-same-length-3 c = search needs
 
 returns-3 : tie.Need-returns-3
 returns-3 c =
@@ -65,14 +50,14 @@ preview-spec =
     (tie.spec
     returns
     returns-2
-    slice-relend-prefix-tried
+    (λ c. search needs)
     slice-aggregate-tried
-    slice-relend-prefix-tried-2
+    (λ c. search needs)
     slice-aggregate-tried-2
     tried-requires
-    clear-requires
-    clear-requires-2
+    (λ c κs. search needs)
+    (λ c κs. search needs)
     same-length
     same-length-2
-    same-length-3
+    (λ c. search needs)
     returns-3)
