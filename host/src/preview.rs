@@ -188,10 +188,11 @@ mod tests {
     #[test]
     fn a_known_item_that_changes_is_found() {
         let loose: Preview = |sheet, of_line, replacement, a, b, out| {
-            let lines: Vec<&[u8]> = sheet.split(|byte| *byte == b'\n').collect();
-            let mut copy = lines.clone();
+            let mut copy: Vec<&[u8]> = sheet.split(|byte| *byte == b'\n').collect();
             match of_line.checked_sub(1).and_then(|place| copy.get_mut(place)) {
-                Some(line) if parted(line).is_some_and(|(key, _)| may_be_filled(key)) && *line != replacement => *line = replacement,
+                Some(line) if parted(line).is_some_and(|(key, _)| may_be_filled(key)) && *line != replacement => {
+                    *line = replacement
+                }
                 _ => return call(sheet, of_line, replacement, a, b, out),
             }
             let copy = copy.join(&b'\n');
@@ -218,7 +219,16 @@ mod tests {
         assert!(may("principal=0,?", "principal=0,7"));
         assert!(may("entity=7,?,?,?", "entity=7,?,2,?"));
         assert!(may("principal=0,?", "principal=0,=") && may("principal=0,?", "principal=0,"));
-        for new in ["principal=0,?", "principal=1,7", "resource=0,7", "principal=0,7,7", "principal=0", "principal=0,7\n", "", "principal0,7"] {
+        for new in [
+            "principal=0,?",
+            "principal=1,7",
+            "resource=0,7",
+            "principal=0,7,7",
+            "principal=0",
+            "principal=0,7\n",
+            "",
+            "principal0,7",
+        ] {
             assert!(!may("principal=0,?", new), "{new}");
         }
         assert!(!may("resource=2,4", "resource=2,5") && !may("text=?", "text=a") && !may("principal=0,??", "principal=0,7"));

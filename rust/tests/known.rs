@@ -349,7 +349,9 @@ fn previewed_in_what_is_lent() {
     assert!(first.iter().chain(&second).all(|word| *word == 7) && out.iter().all(|byte| *byte == 7));
     second.push(7);
     assert_eq!(preview(SHEET.as_bytes(), BROKER, b"", &mut first, &mut second, &mut out), refused(12, BROKER, 0));
-    assert!(first[..WORDS].iter().chain(&second).all(|word| *word == 0) && first[WORDS] == 7 && out.iter().all(|byte| *byte == 7));
+    assert!(
+        first[..WORDS].iter().chain(&second).all(|word| *word == 0) && first[WORDS] == 7 && out.iter().all(|byte| *byte == 7)
+    );
     let length = match preview(SHEET.as_bytes(), BROKER, line, &mut first, &mut second, &mut []) {
         Outcome::Refused(Refusal { number: 10, line: 0, length }) => length,
         other => panic!("{other:?}"),
