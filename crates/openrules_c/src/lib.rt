@@ -72,7 +72,7 @@ pub extern "C" fn openrules_preview(
     line: &mut usize,
     length: &mut usize,
 ) -> u32
-    ensures { λ r. ⌜ Previewed (now (sheet .entry)) of_line (now (replacement .entry)) (now (first .entry)) (now (second .entry)) (now (out .entry)) r (now (line .exit)) (now (length .exit)) (now (out .exit)) (now (first .exit)) (now (second .exit)) ⌝ }
+    ensures { λ r. ⌜ Previewed (now (sheet .entry)) «of_line» (now (replacement .entry)) (now (first .entry)) (now (second .entry)) (now (out .entry)) r (now (line .exit)) (now (length .exit)) (now (out .exit)) (now (first .exit)) (now (second .exit)) ⌝ }
 {
     let r = preview(sheet, of_line, replacement, first, second, out);
     *line = r.line;
