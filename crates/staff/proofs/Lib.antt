@@ -1,3 +1,0 @@
-pub mod FirmBytes
-pub mod FirmRead
-pub mod FirmState
