@@ -12,6 +12,8 @@
  *   10, 0, needed     the answer buffer is shorter than the answer; one of OPENRULES_ANSWER bytes never is; a page needs OPENRULES_PAGE
  *   11, line, 0       openrules_finish alone: the complete sheet does not agree with the partial one, first at that line of it, or at the
  *                     line after its last where one is lacking
+ *   12, line, 0       openrules_preview alone, before the run on the copy: the sheet lacks the line of this number, which is returned, or the
+ *                     replacement breaks a rule or fills nothing
  *   13, 0, 0          openrules_test_load alone: under 1 or over OPENRULES_POLICIES policies
  *
  * An answer begins with its decision, eight counts and `why=`: the text number of the id of the first policy, in the sheet's order, that gave the
@@ -92,6 +94,20 @@ uint32_t openrules_finish(const uint8_t *partial, size_t partial_len,
                           uint32_t *second, size_t second_len,
                           uint8_t *out, size_t out_len,
                           size_t *line, size_t *length);
+
+/*
+ * What a run on a copy of a partial sheet returns that has the replacement in the place of line `of_line`, counted from 1. The kept sheet is only
+ * read: 1 and 2 are asked of it, then 12; the rest, also 2, is that of the run on the copy. A replacement has no byte 10 and no other key, keeps
+ * the number of items after the first `=` and differs only in items that were a lone `?`, on a line `principal`, `resource`, `context` or `entity`.
+ * It takes some 16 KB of stack beside what the other calls take.
+ */
+uint32_t openrules_preview(const uint8_t *sheet, size_t sheet_len,
+                           size_t of_line,
+                           const uint8_t *replacement, size_t replacement_len,
+                           uint32_t *first, size_t first_len,
+                           uint32_t *second, size_t second_len,
+                           uint8_t *out, size_t out_len,
+                           size_t *line, size_t *length);
 
 /*
  * The test load that a seed and a number of policies name: a partial sheet. It returns 0, 10 or 13, and 13 comes before 10. With 0 the first

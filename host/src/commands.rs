@@ -11,6 +11,7 @@ use crate::generate;
 use crate::loads::{self, Load};
 use crate::pages::{self, Page};
 use crate::parents::Shown;
+use crate::preview::{self, Preview};
 use crate::run;
 use crate::sheet::{self, Mode, Refusal};
 use crate::{again, bench, heavy, replay};
@@ -26,6 +27,8 @@ host again N SEED                      N answers of partial sheets handed back t
 host finish N SEED                     the library's finish on N pairs of sheets that agree or nearly do, against the complete sheet's own run
 host pages N SEED                      the library's counter pages of N sheets, against those that the original's answers make
 host show-pair SEED N                  the N-th pair of a seed, and what finishing gives
+host preview N SEED                    the library's preview on N sheets with a line filled or changed, against the original's run on a copy
+host show-preview SEED N               the N-th of these, and what it gives
 host loads N SEED                      the library's test loads of N seeds, with 1 to 64 policies, against the document's words
 host replay FILE                       writes the fixed list of sheets and answers
 host replay-check FILE                 runs a written list, with the library where it is linked
@@ -72,6 +75,16 @@ fn library_load() -> Option<Load> {
 
 #[cfg(not(feature = "library"))]
 fn library_load() -> Option<Load> {
+    None
+}
+
+#[cfg(feature = "library")]
+fn library_preview() -> Option<Preview> {
+    Some(crate::library::preview)
+}
+
+#[cfg(not(feature = "library"))]
+fn library_preview() -> Option<Preview> {
     None
 }
 
@@ -122,6 +135,19 @@ pub fn run(args: &[&str]) -> ExitCode {
             write(&complete);
             println!("---");
             write(&text_of(finish::answer(&partial, &complete)));
+            ExitCode::SUCCESS
+        }
+        ["preview", count, seed] => match library_preview() {
+            Some(call) => previewed(call, number(count), number(seed)),
+            None => not_linked(),
+        },
+        ["show-preview", seed, n] => {
+            let trial = preview::trial(number(seed), number(n));
+            write(&trial.sheet);
+            println!("--- line {}", trial.of_line);
+            write(&trial.replacement);
+            println!("---");
+            write(&text_of(preview::answer(&trial)));
             ExitCode::SUCCESS
         }
         ["self", count, seed] => compared("the original", run::call, number(count), number(seed)),
@@ -258,6 +284,12 @@ fn paged(call: Call, page: Page, count: u64, seed: u64) -> ExitCode {
 fn loaded(load: Load, call: Call, count: u64, seed: u64) -> ExitCode {
     let counts = loads::compare(load, call, count, seed);
     println!("test loads of the library against the document's words, seed {seed}: {}", counts.line());
+    verdict(counts.differences)
+}
+
+fn previewed(call: Preview, count: u64, seed: u64) -> ExitCode {
+    let counts = preview::compare(call, count, seed);
+    println!("preview of the library against the original's run on a copy, seed {seed}: {}", counts.line());
     verdict(counts.differences)
 }
 

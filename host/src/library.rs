@@ -53,6 +53,21 @@ extern "C" {
         line: *mut usize,
         length: *mut usize,
     ) -> u32;
+    fn openrules_preview(
+        sheet: *const u8,
+        sheet_len: usize,
+        of_line: usize,
+        replacement: *const u8,
+        replacement_len: usize,
+        first: *mut u32,
+        first_len: usize,
+        second: *mut u32,
+        second_len: usize,
+        out: *mut u8,
+        out_len: usize,
+        line: *mut usize,
+        length: *mut usize,
+    ) -> u32;
     fn openrules_test_load(seed: u64, policies: u32, out: *mut u8, out_len: usize, line: *mut usize, length: *mut usize) -> u32;
 }
 
@@ -110,6 +125,37 @@ pub fn finish(partial: &[u8], complete: &[u8], work_a: &mut [u32], work_b: &mut 
             partial.len(),
             complete.as_ptr(),
             complete.len(),
+            work_a.as_mut_ptr(),
+            work_a.len(),
+            work_b.as_mut_ptr(),
+            work_b.len(),
+            out.as_mut_ptr(),
+            out.len(),
+            &mut line,
+            &mut length,
+        )
+    };
+    returned(number, line, length)
+}
+
+/// One call over a sheet, the number of a line and a line for it.
+pub fn preview(
+    sheet: &[u8],
+    of_line: usize,
+    replacement: &[u8],
+    work_a: &mut [u32],
+    work_b: &mut [u32],
+    out: &mut [u8],
+) -> [u32; 3] {
+    let (mut line, mut length) = (usize::MAX, usize::MAX);
+    // As above.
+    let number = unsafe {
+        openrules_preview(
+            sheet.as_ptr(),
+            sheet.len(),
+            of_line,
+            replacement.as_ptr(),
+            replacement.len(),
             work_a.as_mut_ptr(),
             work_a.len(),
             work_b.as_mut_ptr(),

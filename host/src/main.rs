@@ -23,6 +23,8 @@ mod pages;
 #[cfg(original)]
 mod parents;
 #[cfg(original)]
+mod preview;
+#[cfg(original)]
 mod random;
 #[cfg(original)]
 mod replay;

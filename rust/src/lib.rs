@@ -50,9 +50,12 @@
 //!
 //! [`Evaluator::page`] gives the counter page of a partial sheet: 60 lines of 72 columns, with the decision and a line for each policy on term.
 //!
+//! [`Evaluator::preview`] says what one more answer would do: what a run on a copy of a partial sheet returns that has another line in the place
+//! of one of its own. The sheet itself is only read.
+//!
 //! [`test_load`] gives a partial sheet that a seed and a number of policies name, so that all can measure and compare on the same sheets.
 //!
-//! [`partial`], [`complete`], [`finish`], [`page`] and [`test_load`] are the calls themselves, in slices of the caller's own; they allocate nothing.
+//! [`partial`], [`complete`], [`finish`], [`page`], [`preview`] and [`test_load`] are the calls themselves, in slices of the caller's own; they allocate nothing.
 
 use std::error::Error;
 use std::fmt;
@@ -123,6 +126,21 @@ extern "C" {
         line: *mut usize,
         length: *mut usize,
     ) -> u32;
+    fn openrules_preview(
+        sheet: *const u8,
+        sheet_len: usize,
+        of_line: usize,
+        replacement: *const u8,
+        replacement_len: usize,
+        first: *mut u32,
+        first_len: usize,
+        second: *mut u32,
+        second_len: usize,
+        out: *mut u8,
+        out_len: usize,
+        line: *mut usize,
+        length: *mut usize,
+    ) -> u32;
     fn openrules_test_load(seed: u64, policies: u32, out: *mut u8, out_len: usize, line: *mut usize, length: *mut usize) -> u32;
 }
 
@@ -134,10 +152,10 @@ extern "C" {
 /// ```
 #[derive(Clone, Copy, Debug, PartialEq, Eq)]
 pub struct Refusal {
-    /// 1 to 8, 10, 11 or 13; [`finish`] alone gives 11, and [`test_load`] gives 10 and 13 alone.
+    /// 1 to 8 or 10 to 13; [`finish`] alone gives 11, [`preview`] alone 12, and [`test_load`] gives 10 and 13 alone.
     pub number: u32,
     /// The line of the first fault, counted from 1, for the numbers 3 to 8; the line of the complete sheet that breaks agreement, or the
-    /// line after its last, for the number 11; else 0.
+    /// line after its last, for the number 11; the line that was to be replaced, for the number 12; else 0.
     pub line: usize,
     /// The bytes that the answer, or the test load, needs, for the number 10; else 0.
     pub length: usize,
@@ -161,6 +179,7 @@ impl Refusal {
             8 => "a node is used twice or never",
             10 => "the answer buffer is shorter than the answer",
             11 => "the complete sheet does not agree with the partial one",
+            12 => "the sheet lacks the line, or the replacement breaks a rule or fills nothing",
             13 => "under 1 or over 64 policies",
             _ => "no refusal",
         }
@@ -322,6 +341,62 @@ pub fn finish<'a>(partial: &[u8], complete: &[u8], first: &mut [u32], second: &m
     outcome(number, line, length, out)
 }
 
+/// What a run on a copy of a partial sheet gives that has `replacement` in the place of line `of_line`, counted from 1, in slices of the caller's
+/// own, as [`partial`] has them. The sheet itself is only read.
+///
+/// 1 comes first, then 2 for the kept sheet. Then comes 12, with `of_line`, where the sheet has no such line or the replacement may not stand for
+/// it: it has no byte 10, the same key, one of `principal`, `resource`, `context` and `entity`, as many items after the first `=`, and differs
+/// from the line, only in items that were a lone `?`. The rest is what [`partial`] gives for the copy; the kept sheet is not asked for it. The call
+/// takes some 16 KB of stack beside what the other calls take.
+///
+/// ```
+/// use openrules::{partial, preview, Outcome, Refusal, WORDS};
+///
+/// let sheet = "sheet=partial\ntext=Broker\ntext=Action\ntext=quote\ntext=b7\nkind=0,e\nkind=1,a\ntype=bool\ntype=record\ntype=entity,0\n\
+///     shape=1,-\nshape=1,-\nvalue=entity,0,3\nprincipal=0,?\naction=1,2\nresource=0,?\ncontext=1,?\nday=2026-06-30\n\
+///     node=2,var,p\nnode=2,lit,0\nnode=0,eq,0,1\npolicy=3,permit,2\n";
+/// let (mut first, mut second, mut out) = ([0; WORDS], [0; WORDS], [0; 200]);
+/// let open = partial(sheet.as_bytes(), &mut first, &mut second, &mut out).result().unwrap();
+/// assert!(open.starts_with("decision=open\n"));
+///
+/// // Were the broker b7, the rule would permit.
+/// let allow = preview(sheet.as_bytes(), 14, b"principal=0,3", &mut first, &mut second, &mut out).result().unwrap();
+/// assert!(allow.starts_with("decision=allow\n"));
+///
+/// // A known item stays as it is.
+/// let outcome = preview(sheet.as_bytes(), 14, b"principal=1,3", &mut first, &mut second, &mut out);
+/// assert_eq!(outcome, Outcome::Refused(Refusal { number: 12, line: 14, length: 0 }));
+/// ```
+pub fn preview<'a>(
+    sheet: &[u8],
+    of_line: usize,
+    replacement: &[u8],
+    first: &mut [u32],
+    second: &mut [u32],
+    out: &'a mut [u8],
+) -> Outcome<'a> {
+    let (mut line, mut length) = (0, 0);
+    // SAFETY: as for the other calls.
+    let number = unsafe {
+        openrules_preview(
+            sheet.as_ptr(),
+            sheet.len(),
+            of_line,
+            replacement.as_ptr(),
+            replacement.len(),
+            first.as_mut_ptr(),
+            first.len(),
+            second.as_mut_ptr(),
+            second.len(),
+            out.as_mut_ptr(),
+            out.len(),
+            &mut line,
+            &mut length,
+        )
+    };
+    outcome(number, line, length, out)
+}
+
 /// The test load that a seed and a number of policies name: a partial sheet, which [`partial`] accepts with an answer of at most [`SHEET`]
 /// bytes. The number of policies is 1 to [`POLICIES`]; another one gets 13, before 10. A buffer of [`SHEET`] bytes is long enough for every seed. Of
 /// `out` only the bytes of the sheet change.
@@ -374,6 +449,11 @@ impl Evaluator {
     /// The answer that what a partial sheet's run left gives on a complete sheet.
     pub fn finish(&mut self, partial: &[u8], complete: &[u8]) -> Outcome<'_> {
         finish(partial, complete, &mut self.first, &mut self.second, &mut self.out)
+    }
+
+    /// What a partial sheet gives with `replacement` in the place of line `of_line`.
+    pub fn preview(&mut self, sheet: &[u8], of_line: usize, replacement: &[u8]) -> Outcome<'_> {
+        preview(sheet, of_line, replacement, &mut self.first, &mut self.second, &mut self.out)
     }
 }
 

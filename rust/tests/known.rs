@@ -2,7 +2,7 @@
 //! calls leave in the slices that they are lent.
 
 use openrules::{
-    complete, finish, page, partial, test_load, Evaluator, Outcome, Refusal, ANSWER as LONGEST, PAGE, POLICIES,
+    complete, finish, page, partial, preview, test_load, Evaluator, Outcome, Refusal, ANSWER as LONGEST, PAGE, POLICIES,
     SHEET as GREATEST, WORDS,
 };
 
@@ -333,6 +333,77 @@ fn counter_pages() {
     assert_eq!((out[PAGE - 1], out[PAGE]), (b'\n', 7));
     assert!(first.iter().chain(&second).all(|word| *word == 0));
     assert_eq!(page(b"", &mut first, &mut second[1..], &mut []), refused(1, 0, 0));
+}
+
+/// The line of the unknown broker.
+const BROKER: usize = 21;
+
+#[test]
+fn previewed() {
+    let mut evaluator = Evaluator::new();
+    // what a run on the sheet with that line gives, and the sheet stays
+    for broker in [7, 4] {
+        let line = format!("principal=0,{broker}");
+        let edited = SHEET.replace("principal=0,?", &line);
+        let expected = Evaluator::new().partial(edited.as_bytes()).result().map(str::to_string);
+        let found = evaluator.preview(SHEET.as_bytes(), BROKER, line.as_bytes()).result().map(str::to_string);
+        assert!(found.is_ok());
+        assert_eq!(found, expected);
+    }
+    let form = include_bytes!("../../examples/one-rule-three-brokers.sheet");
+    let shown = include_str!("../../examples/one-rule-three-brokers.preview");
+    assert_eq!(evaluator.preview(form, 38, b"principal=0,11"), Outcome::Answer(shown));
+    // a line that the sheet lacks, and what breaks a rule or fills nothing
+    for (line, replacement) in [
+        (0, "principal=0,7"),
+        (32, "principal=0,7"),
+        (BROKER, "principal=0,?"),
+        (BROKER, "principal=2,7"),
+        (BROKER, "resource=0,7"),
+        (BROKER, "principal=0,7,7"),
+        (BROKER, "principal=0"),
+        (BROKER, "principal=0,7\n"),
+        (BROKER, "principal0,7"),
+        (BROKER, ""),
+        (22, "action=1,4"),
+        (23, "resource=2,5"),
+    ] {
+        assert_eq!(evaluator.preview(SHEET.as_bytes(), line, replacement.as_bytes()), refused(12, line, 0), "{replacement}");
+    }
+    // what is filled in is the run's to judge
+    assert_eq!(evaluator.preview(SHEET.as_bytes(), BROKER, b"principal=0,x"), refused(3, BROKER, 0));
+    assert_eq!(evaluator.preview(SHEET.as_bytes(), BROKER, b"principal=0,99"), refused(5, BROKER, 0));
+    assert_eq!(evaluator.preview(SHEET.as_bytes(), 24, b"context=1,1"), refused(7, 24, 0));
+    // 2 for the kept sheet, then 12, then 2 for the copy
+    let mut long = b"principal=0,?\n".to_vec();
+    long.resize(GREATEST, b'x');
+    assert_eq!(evaluator.preview(&long, 1, b"principal=0,7"), refused(3, 1, 0));
+    assert_eq!(evaluator.preview(&long, 1, b"principal=0,77"), refused(2, 0, 0));
+    assert_eq!(evaluator.preview(&long, 1, b"principal=1,77"), refused(12, 1, 0));
+    long.push(b'x');
+    assert_eq!(evaluator.preview(&long, 1, b"principal=1,77"), refused(2, 0, 0));
+}
+
+#[test]
+fn previewed_in_what_is_lent() {
+    let (mut first, mut second, mut out) = (vec![7; WORDS + 1], vec![7; WORDS - 1], vec![7; 300]);
+    let line = b"principal=0,7";
+    assert_eq!(preview(SHEET.as_bytes(), BROKER, line, &mut first, &mut second, &mut out), refused(1, 0, 0));
+    assert!(first.iter().chain(&second).all(|word| *word == 7) && out.iter().all(|byte| *byte == 7));
+    second.push(7);
+    assert_eq!(preview(SHEET.as_bytes(), BROKER, b"", &mut first, &mut second, &mut out), refused(12, BROKER, 0));
+    assert!(
+        first[..WORDS].iter().chain(&second).all(|word| *word == 0) && first[WORDS] == 7 && out.iter().all(|byte| *byte == 7)
+    );
+    let length = match preview(SHEET.as_bytes(), BROKER, line, &mut first, &mut second, &mut []) {
+        Outcome::Refused(Refusal { number: 10, line: 0, length }) => length,
+        other => panic!("{other:?}"),
+    };
+    match preview(SHEET.as_bytes(), BROKER, line, &mut first, &mut second, &mut out) {
+        Outcome::Answer(text) => assert_eq!(text.len(), length),
+        other => panic!("{other:?}"),
+    }
+    assert!(out[length..].iter().all(|byte| *byte == 7));
 }
 
 /// 64 policies over one root of so many nodes: a comparison of the broker's name with a pattern of so many `*`, and `not`.

@@ -15,7 +15,8 @@ use Rattle.sheet.proofs.Lines.{zero-not-suc}
 use Rattle.sheet.proofs.Checked.{lent-by, checked-by}
 use Rattle.finished.specs.Finish.{breakingLine, finishedAnswer, atLine, finishReturned}
 use Rattle.paged.specs.Page.{pageReturned}
-use Rattle.openrules.specs.Shown.{entryOf, space, refusal, textOf, shown, finishBack, shownFinished, shownPage}
+use Rattle.previewed.specs.Preview.{previewReturned}
+use Rattle.openrules.specs.Shown.{entryOf, space, refusal, textOf, shown, finishBack, shownFinished, shownPage, shownPreview}
 
 -- what is printed is the same for all inputs that are too long
 module _ (f : List ℕ → List ℕ) (alike : (s t : List ℕ) → 16384 < length s → 16384 < length t → f s ≡ f t) where
@@ -89,3 +90,12 @@ pub first-bytes-of-both : (p c : List ℕ) → shownFinished (take 16385 p) (tak
 first-bytes-of-both p c =
     front (λ (l : List ℕ). shownFinished l (take 16385 c)) (λ s t h k. shown-first s (take 16385 c) h ∙ sym (shown-first t (take 16385 c) k)) p
     ∙ front (shownFinished p) (shown-second p) c
+
+-- ---- a line replaced
+
+shown-kept : (s : List ℕ) (n : ℕ) (new : List ℕ) → 16384 < length s → shownPreview s n new ≡ refusal 2 0 0
+unfolding shownPreview previewReturned
+shown-kept s n new h = rw (lt-ltb room (length s) h)
+
+pub first-bytes-of-kept : (s : List ℕ) (n : ℕ) (new : List ℕ) → shownPreview (take 16385 s) n new ≡ shownPreview s n new
+first-bytes-of-kept s n new = front (λ (l : List ℕ). shownPreview l n new) (λ q r h k. shown-kept q n new h ∙ sym (shown-kept r n new k)) s

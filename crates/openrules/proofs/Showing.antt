@@ -14,9 +14,9 @@ use Rattle.sheet.specs.Forms.{partial, complete}
 use Rattle.sheet.specs.State.{State}
 use Rattle.sheet.specs.Sheet.{read}
 use Rattle.sheet.specs.Answer.{answer}
-use Rattle.sheet.specs.Call.{Returned, returns, room, checkedThen, returned, over, outputs, written}
+use Rattle.sheet.specs.Call.{Returned, returns, room, shortThen, checkedThen, returned, over, outputs, written}
 use Rattle.sheet.proofs.Lines.{zero-not-suc}
-use Rattle.sheet.proofs.Checked.{lent-by, checked-by}
+use Rattle.sheet.proofs.Checked.{lent-by, short-by, checked-by}
 use Rattle.sheet.proofs.Buffers.{accepted-whole}
 use Rattle.print.specs.Written.{Written}
 use Rattle.print.proofs.Writing.{written-append, written-as, written-over, digits-few}
@@ -27,7 +27,9 @@ use Rattle.paged.specs.Page.{page, pageReturned, pageWritten}
 use Rattle.paged.specs.Promise.{Paged}
 use Rattle.paged.proofs.PageLength.{page-length}
 use Rattle.paged.proofs.PageGoesOut.{goes-out, page-out}
-use Rattle.openrules.specs.Shown.{space, saysComplete, entryOf, refusal, textOf, back, shown, finishBack, shownFinished, pageBack, shownPage, Shows}
+use Rattle.previewed.specs.Preview.{edited, mayEdit, editThen, previewReturned, previewWritten}
+use Rattle.previewed.specs.Promise.{Previewed}
+use Rattle.openrules.specs.Shown.{space, saysComplete, entryOf, refusal, textOf, back, shown, finishBack, shownFinished, pageBack, shownPage, previewBack, shownPreview, Shows}
 
 -- ---- the entry
 
@@ -197,3 +199,43 @@ module _ (s a b out a′ b′ out′ : List ℕ) (number line len : ℕ) (la : 1
   page-refusal h is next w =
       shows-line (pageBack s) page-bytes out out′ number line len lo (x .number-is ∙ ap (λ (r : Returned). r .number) page-here) (x .line-is ∙ ap (λ (r : Returned). r .line) page-here)
       (x .length-is ∙ ap (λ (r : Returned). r .length) page-here) page-went (page-whole s) h is next w
+
+-- ---- a partial sheet with one line replaced
+
+module _ (s : List ℕ) (n : ℕ) (new a b out a′ b′ out′ : List ℕ) (number line len : ℕ) (la : 16384 ≡ length a) (lb : 16384 ≡ length b) (lo : length out ≡ space)
+    (x : Previewed s n new a b out number line len out′ a′ b′) where
+  abbrev copy : List ℕ
+  copy = edited s n new
+
+  abbrev preview-bytes : List ℕ
+  preview-bytes = answer partial (read partial copy .state)
+
+  preview-here : previewReturned (length a) (length b) (length out) s n new ≡ previewBack s n new
+  preview-here = rw (← la, ← lb, lo)
+
+  preview-whole : Whole (length preview-bytes) (previewReturned (length a) (length b) (length out) s n new)
+  unfolding previewReturned
+  preview-whole =
+      let r = returned partial (length a) (length b) (length out) copy in
+      lent-by (Whole (length preview-bytes)) (length a) (length b) (shortThen s (editThen s n new r)) (λ h e. zero-not-suc e)
+      (λ h. short-by (Whole (length preview-bytes)) s (editThen s n new r) (λ e. zero-not-suc e) (λ h′. go (mayEdit s n new)))
+    where
+      go : (t : Bool) → Whole (length preview-bytes) (cond t (returned partial (length a) (length b) (length out) copy) (returns 12 n 0))
+      go true = λ z. accepted-whole partial (length a) (length b) out copy z .1
+      go false = λ e. zero-not-suc e
+
+  preview-went : out′ ≡ outputs (previewBack s n new .number) preview-bytes out
+  unfolding previewWritten
+  preview-went = x .buffer ∙ ap (λ (r : Returned). outputs (r .number) preview-bytes out) preview-here
+
+  pub preview-answer : number ≡ 0 → Shows (shownPreview s n new) out′ len
+  unfolding shownPreview
+  preview-answer h =
+      shows-text (previewBack s n new) preview-bytes out out′ number line len lo (x .number-is ∙ ap (λ (r : Returned). r .number) preview-here) (x .line-is ∙ ap (λ (r : Returned). r .line) preview-here)
+      (x .length-is ∙ ap (λ (r : Returned). r .length) preview-here) preview-went (subst (Whole (length preview-bytes)) preview-here preview-whole) h
+
+  pub preview-refusal : (number ≡ 0 → ⊥) → (is : List ℕ) (next : ℕ) → Written out′ 0 (refusal number line len) is next → Shows (shownPreview s n new) is next
+  unfolding shownPreview
+  preview-refusal h is next w =
+      shows-line (previewBack s n new) preview-bytes out out′ number line len lo (x .number-is ∙ ap (λ (r : Returned). r .number) preview-here) (x .line-is ∙ ap (λ (r : Returned). r .line) preview-here)
+      (x .length-is ∙ ap (λ (r : Returned). r .length) preview-here) preview-went (subst (Whole (length preview-bytes)) preview-here preview-whole) h is next w

@@ -1,5 +1,6 @@
 -- What the program prints for the bytes that it reads. Document 01, "Known sheets": "Program `openrules` reads standard input." With the word
--- `finish` it also reads the partial sheet from a file; with the word `load` it reads nothing but the two numbers after it.
+-- `finish` it also reads the partial sheet from a file; after the word `preview` the command line has the number of a line and a line; with the word
+-- `load` it reads nothing but the two numbers after it.
 use mathlib.Core.Path.{_≡_}
 use mathlib.Core.Bool.{Bool, cond}
 use mathlib.Core.List.{List, [], _∷_}
@@ -17,6 +18,7 @@ use Rattle.sheet.specs.Answer.{printed, numbers, answer}
 use Rattle.sheet.specs.Call.{Returned, room, returned}
 use Rattle.finished.specs.Finish.{finishedAnswer, finishReturned}
 use Rattle.paged.specs.Page.{page, pageReturned}
+use Rattle.previewed.specs.Preview.{edited, previewReturned}
 use Rattle.drawn.specs.TestLoad.{load, loadReturned}
 
 -- the first line is exactly `sheet=complete`
@@ -59,6 +61,13 @@ pageBack sheet = pageReturned room room space sheet
 
 unfoldable pub shownPage : List ℕ → List ℕ
 shownPage sheet = textOf (pageBack sheet) (page (read partial sheet .state))
+
+-- a partial sheet with line n replaced (document 02, 2.11)
+abbrev pub previewBack : List ℕ → ℕ → List ℕ → Returned
+previewBack sheet n new = previewReturned room room space sheet n new
+
+unfoldable pub shownPreview : List ℕ → ℕ → List ℕ → List ℕ
+shownPreview sheet n new = textOf (previewBack sheet n new) (answer partial (read partial (edited sheet n new) .state))
 
 -- a test load (document 02, 2.12)
 abbrev pub loadBack : ℕ → ℕ → Returned

@@ -1,7 +1,8 @@
 // The program: without a word, a sheet on standard input, the answer or its refusal on standard output; with a word, what `help` lists. Of
 // what is read the first 16,385 bytes of each sheet matter (proofs/Input.antt). What is proved of it: it is safe, it ends, and the bytes that
-// it hands to `io::write_all` for the bytes that `io::read_full` gave are those that `answer`, `finished`, `paged` and `loaded` promise. No contract can
-// speak of what C's read and write move. A program has no status to end with: what cannot be done is said on standard error.
+// it hands to `io::write_all` for the bytes that `io::read_full` gave are those that `answer`, `finished`, `paged`, `previewed` and `loaded`
+// promise. No contract can speak of what C's read and write move. A program has no status to end with: what cannot be done is said on standard
+// error.
 use authorizer::Returned;
 use authorizer::complete;
 use authorizer::partial;
@@ -10,6 +11,7 @@ use libc::STDERR_FILENO;
 use libc::STDIN_FILENO;
 use libc::STDOUT_FILENO;
 use page::page;
+use preview::preview;
 use print::byte;
 use print::bytes;
 use print::number;
@@ -25,7 +27,7 @@ ghost use Rattle.print.specs.Written.{greatest, Written};
 ghost use Rattle.sheet.specs.Bytes.{digitsFrom, atMost};
 ghost use Rattle.scan.specs.Numbers.{numberOf};
 ghost use Rattle.authorizer.specs.Called.{Called};
-ghost use Rattle.openrules.specs.Shown.{saysComplete, entryOf, refusal, shown, shownFinished, shownPage, shownLoad, numberIn, Shows};
+ghost use Rattle.openrules.specs.Shown.{saysComplete, entryOf, refusal, shown, shownFinished, shownPage, shownPreview, shownLoad, numberIn, Shows};
 
 // Whether the first line is exactly `sheet=complete`.
 fn says_complete(sheet: &[u8]) -> bool
@@ -108,6 +110,19 @@ fn paged(sheet: &[u8], out: &mut [u8; SPACE]) -> usize
     refused(out, p.number, p.line, p.length)
 }
 
+// What is printed for a partial sheet with one line replaced, likewise.
+fn previewed(sheet: &[u8], line: usize, new: &[u8], out: &mut [u8; SPACE]) -> usize
+    ensures { λ r. ⌜ Shows (shownPreview (now (sheet .entry)) line (now (new .entry))) (now (out .exit)) r ⌝ }
+{
+    let mut a = words();
+    let mut b = words();
+    let p = preview(sheet, line, new, &mut a, &mut b, out);
+    if p.number == 0 {
+        return p.length;
+    }
+    refused(out, p.number, p.line, p.length)
+}
+
 // The number of policies that the call is asked for: the greatest that it can be where there are more, as both are refused alike.
 fn at_most(policies: u64) -> u32
     ensures { λ r. ⌜ r ≡ min policies 4294967295 ⌝ }
@@ -123,11 +138,11 @@ fn loaded(seed: u64, policies: u64, out: &mut [u8; SPACE]) -> usize
     ensures { λ r. ⌜ Shows (shownLoad seed policies) (now (out .exit)) r ⌝ }
 {
     let n = at_most(policies);
-    let r = load(seed, n, out);
-    if r.number == 0 {
-        return r.length;
+    let l = load(seed, n, out);
+    if l.number == 0 {
+        return l.length;
     }
-    refused(out, r.number, r.line, r.length)
+    refused(out, l.number, l.line, l.length)
 }
 
 // ---- numbers on the command line
@@ -189,12 +204,18 @@ const WORD: usize = 1;
 
 const NAME: usize = 2;
 
+// The places of the number of a line and of the line for it, which may follow the word instead.
+const LINE: usize = 2;
+
+const REPLACEMENT: usize = 3;
+
 // The places of the two numbers that may follow the word instead.
 const SEED: usize = 2;
 
 const POLICIES: usize = 3;
 
-// What stands on the command line, by how many there are: nothing, the program's name, a word after it, a name after that, two numbers instead.
+// What stands on the command line, by how many there are: nothing, the program's name, a word after it, a name after that, a number and one thing
+// more instead.
 const NOTHING: usize = 0;
 
 const PROGRAM: usize = 1;
@@ -211,6 +232,9 @@ const LETTERS: usize = 16;
 // The digits of a number of 64 bits; a longer word is no such number (proofs/Numbers.antt).
 const DIGITS: usize = 20;
 
+// The bytes of what may stand at one place on a command line.
+const ARGUMENT: usize = 131072;
+
 // The words, on standard output or standard error.
 fn help(to: i32) {
     io::write_all(
@@ -224,6 +248,10 @@ fn help(to: i32) {
     io::write_all(
         to,
         b"openrules page < SHEET               the counter page of a partial sheet\n",
+    );
+    io::write_all(
+        to,
+        b"openrules preview LINE NEW < SHEET   the answer to a partial sheet with the line NEW in the place of line LINE\n",
     );
     io::write_all(
         to,
@@ -288,6 +316,26 @@ fn number_at(i: usize) -> Number {
     number_of(&word[..n])
 }
 
+// The partial sheet from standard input, with one line replaced.
+fn print_preview(line: usize, new: &[u8]) {
+    let mut input = [0u8; INPUT];
+    let n = io::read_full(STDIN_FILENO, &mut input);
+    let mut out = [0u8; SPACE];
+    let k = previewed(&input[..n], line, new, &mut out);
+    io::write_all(STDOUT_FILENO, &out[..k]);
+}
+
+// `preview LINE REPLACEMENT`
+fn preview_word() {
+    let Number::Value(line) = number_at(LINE) else {
+        help(STDERR_FILENO);
+        return;
+    };
+    let mut new = [0u8; ARGUMENT];
+    let n = os::arg(REPLACEMENT, &mut new);
+    print_preview(line as usize, &new[..n]);
+}
+
 // `load SEED POLICIES`
 fn load_word() {
     let Number::Value(seed) = number_at(SEED) else {
@@ -323,8 +371,12 @@ fn named_word(word: &[u8]) {
     help(STDERR_FILENO);
 }
 
-// A word and two numbers.
+// A word, a number and one thing more.
 fn counted_word(word: &[u8]) {
+    if same_bytes(word, b"preview") {
+        preview_word();
+        return;
+    }
     if same_bytes(word, b"load") {
         load_word();
         return;
