@@ -1,0 +1,1 @@
+// No code: what a preview answers, and the theorems on it.
