@@ -1,0 +1,5 @@
+pub mod Copying
+pub mod Laying
+pub mod Texts
+pub mod Standing
+pub mod Calling
