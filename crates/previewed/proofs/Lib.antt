@@ -1,0 +1,4 @@
+pub mod PreviewCall
+pub mod PreviewDecision
+pub mod PreviewRows
+pub mod PreviewSheets

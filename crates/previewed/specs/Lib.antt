@@ -1,2 +1,3 @@
 pub mod Preview
 pub mod Promise
+pub mod Tried
