@@ -1,4 +1,6 @@
 pub mod PreviewCall
 pub mod PreviewDecision
+pub mod PreviewEdges
+pub mod PreviewExample
 pub mod PreviewRows
 pub mod PreviewSheets
