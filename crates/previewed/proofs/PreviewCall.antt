@@ -31,11 +31,12 @@ module _ (sheet : List ℕ) (n : ℕ) (new : List ℕ) where
     -- WHAT IS RETURNED IS WHAT A RUN ON THE COPY RETURNS, 1 and 2 and all
     pub preview-runs : (work₁ work₂ out : ℕ) → previewReturned work₁ work₂ out sheet n new ≡ returned partial work₁ work₂ out copy
     unfolding previewReturned returned
-    preview-runs work₁ work₂ out = go (ltb work₁ room || ltb work₂ room) (checkedThen partial copy (fitted out (length (answer partial (read partial copy .state)))))
+    preview-runs work₁ work₂ out = rw (le-ltb room (length sheet) short, may) (twice (ltb work₁ room || ltb work₂ room) (checkedThen partial copy (fitted out (length (answer partial (read partial copy .state))))))
       where
-        go : (b : Bool) (r : Returned) → cond b (returns 1 0 0) (cond (ltb room (length sheet)) (returns 2 0 0) (cond (mayEdit sheet n new) (cond b (returns 1 0 0) r) (returns 12 n 0))) ≡ cond b (returns 1 0 0) r
-        go true r = refl
-        go false r = rw (le-ltb room (length sheet) short, may) refl
+        -- 1 is asked again by the run
+        twice : (b : Bool) (r : Returned) → cond b (returns 1 0 0) (cond b (returns 1 0 0) r) ≡ cond b (returns 1 0 0) r
+        twice true r = refl
+        twice false r = refl
 
     -- AND EVERY BYTE OF THE BUFFER IS WHAT IT LEAVES
     pub preview-writes : (work₁ work₂ : ℕ) (buffer : List ℕ) → previewWritten work₁ work₂ buffer sheet n new ≡ written partial work₁ work₂ buffer copy
