@@ -161,24 +161,26 @@ form-row T k s a m fs gs b c b′ c′ t xs u ys e p q = row-items T fs b c t xs
   parts = items-parts T a 0 fs gs xs ys e ix iy;
 }))
 
+-- the tag of a key without constructors
+abbrev pub tagFor : ℕ → ℕ
+tagFor k = tagOf k []
+
+-- bytes 32 to 126, with `=`
+abbrev pub shown : List ℕ → Bool
+shown l = printable l && ltb (upTo 61 l) (length l)
+
+-- the row of a line of such a key
+pub row-of-key : (w : String) (k : ℕ) → placeIn (ascii w) keys ≡ k → ((v : List ℕ) → rowOfValue partial k v ≡ rowFor partial (tagFor k) (split 44 v)) → (l : List ℕ) → keyIn l ≡ ascii w → rowOf partial l ≡ cond (shown l) (rowFor partial (tagFor k) (itemsIn l)) []
+unfolding rowOf
+row-of-key w k c h l d = ap (λ z. cond (shown l) (rowOfValue partial z (drop (suc (upTo 61 l)) l)) []) (ap (λ z. placeIn z keys) d ∙ c) ∙ ap (λ z. cond (shown l) z []) (h (drop (suc (upTo 61 l)) l))
+
 -- the rows of two lines of one key, whose first item is the number of a line of key f
 module _ (old new : List ℕ) (e : fillsOnly (itemsIn old) (itemsIn new) ≡ true) (t : ℕ) (xs : List ℕ) (u : ℕ) (ys : List ℕ) (p : rowOf partial old ≡ t ∷ xs) (q : rowOf partial new ≡ u ∷ ys) where
-  abbrev shown : List ℕ → Bool
-  shown l = printable l && ltb (upTo 61 l) (length l)
-
-  -- the tag of a key without constructors
-  abbrev tagFor : ℕ → ℕ
-  tagFor k = tagOf k []
-
-  cut-as : (w : String) (k : ℕ) → placeIn (ascii w) keys ≡ k → ((v : List ℕ) → rowOfValue partial k v ≡ rowFor partial (tagFor k) (split 44 v)) → (l r : List ℕ) → keyIn l ≡ ascii w → rowOf partial l ≡ r → cond (shown l) (rowFor partial (tagFor k) (itemsIn l)) [] ≡ r
-  unfolding rowOf
-  cut-as w k c h l r d e = ap (λ z. cond (shown l) z []) (sym (h (drop (suc (upTo 61 l)) l))) ∙ ap (λ z. cond (shown l) (rowOfValue partial z (drop (suc (upTo 61 l)) l)) []) (sym (ap (λ z. placeIn z keys) d ∙ c)) ∙ e
-
   as-key : (w : String) (k f : ℕ) → placeIn (ascii w) keys ≡ k → ((v : List ℕ) → rowOfValue partial k v ≡ rowFor partial (tagFor k) (split 44 v)) → slotAt (tagFor k) 0 ≡ line f → allAskable (formOf (tagFor k) .items) ≡ true → formOf (tagFor k) .group ≡ []
       → fillable (formOf (tagFor k) .key) ≡ true → keyIn old ≡ ascii w → keyIn new ≡ ascii w → FillRow (t ∷ xs) (u ∷ ys)
   as-key w k f c h s a g m d d′ =
       form-row (tagFor k) f s (ask-slot (tagFor k) a g) m (itemsIn old) (itemsIn new) (shown old) (counted (tagFor k) (length (itemsIn old))) (shown new) (counted (tagFor k) (length (itemsIn new))) t xs u ys e
-      (cut-as w k c h old (t ∷ xs) d p) (cut-as w k c h new (u ∷ ys) d′ q)
+      (sym (row-of-key w k c h old d) ∙ p) (sym (row-of-key w k c h new d′) ∙ q)
 
   as-principal : keyIn old ≡ ascii "principal" → keyIn new ≡ ascii "principal" → FillRow (t ∷ xs) (u ∷ ys)
   unfolding keys tagOf forms formOf slotAt

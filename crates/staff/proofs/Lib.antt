@@ -1,0 +1,3 @@
+pub mod FirmBytes
+pub mod FirmRead
+pub mod FirmState
