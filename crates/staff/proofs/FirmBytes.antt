@@ -19,17 +19,20 @@ use Rattle.sheet.specs.State.{State, empty, count, lineAt}
 use Rattle.sheet.specs.Sheet.{read, reading}
 use Rattle.sheet.specs.Call.{Accepted}
 use Rattle.sheet.proofs.Limits.{most-lines}
-use Rattle.sheet.proofs.Demand3Bytes.{facts, accepted-read}
-use Rattle.previewed.proofs.PreviewSheets.{allLack, NotNone, split-join, split-some, split-lacks}
+use Rattle.sheet.proofs.Checked.{accepted-read}
+use Rattle.sheet.proofs.Demand3Bytes.{facts}
+use Rattle.previewed.proofs.PreviewLines.{allLack, ahead-lacks, NotNone, split-join, split-some, split-lacks}
 use Rattle.staff.specs.Firm.{textFits, askFits, decisionOn, rowDecision, Asked, filledItems, filledLine, filledLines, filledSheet, setText, withTexts}
 use Rattle.sheet.proofs.Lines.{not-empty}
 use Rattle.sheet.proofs.TwoSheets.{same-is}
+use Rattle.sheet.proofs.NodeRows.{index-small}
 use Rattle.sheet.proofs.Parsed.{counted-plain}
+use Rattle.sheet.proofs.ValueRows.{same-refl}
 use Rattle.sheet.proofs.DigitsBack.{plainByte, plainBytes, index-back}
 use Rattle.sheet.proofs.RowsBack.{small-plain}
 use Rattle.sheet.proofs.LinesBack.{lacks, allPlain, unended, items-back, items-show, line-lacks}
-use Rattle.previewed.proofs.PreviewRows.{row-items, one-some, joined-some}
-use Rattle.staff.proofs.FirmState.{FilledRow, kept, principal, resource}
+use Rattle.previewed.proofs.PreviewRows.{tagFor, shown, row-of-key, joined-some}
+use Rattle.staff.proofs.FirmState.{FilledRow, kept, principal, resource, principalTag, resourceTag}
 use Rattle.staff.proofs.FirmRead.{FilledLine, FilledAll, more-lines, reading-with}
 use Rattle.staff.proofs.FirmRead as R
 
@@ -62,13 +65,13 @@ filled-plain t (f ∷ fs) h e = and-both (plainBytes f) (allPlain fs) e (λ p q.
 
 -- ---- the line of principal, and of resource
 
-principal-line : (f : List ℕ) (fs : List (List ℕ)) → allPlain (f ∷ fs) ≡ true → rowOf partial (unended "principal" (f ∷ fs)) ≡ rowHeaded partial 7 (headed [] (f ∷ fs))
+principal-line : (f : List ℕ) (fs : List (List ℕ)) → allPlain (f ∷ fs) ≡ true → rowOf partial (unended "principal" (f ∷ fs)) ≡ rowFor partial (tagFor PRINCIPAL) (f ∷ fs)
 unfolding rowOf keys
-principal-line f fs e = λ i. cond (items-show (f ∷ fs) e i && lt-ltb 9 (length (unended "principal" (f ∷ fs))) (omega arith) i) (rowHeaded partial 7 (heading 7 (items-back f fs e i))) []
+principal-line f fs e = λ i. cond (items-show (f ∷ fs) e i && lt-ltb 9 (length (unended "principal" (f ∷ fs))) (omega arith) i) (rowHeaded partial PRINCIPAL (heading PRINCIPAL (items-back f fs e i))) []
 
-resource-line : (f : List ℕ) (fs : List (List ℕ)) → allPlain (f ∷ fs) ≡ true → rowOf partial (unended "resource" (f ∷ fs)) ≡ rowHeaded partial 9 (headed [] (f ∷ fs))
+resource-line : (f : List ℕ) (fs : List (List ℕ)) → allPlain (f ∷ fs) ≡ true → rowOf partial (unended "resource" (f ∷ fs)) ≡ rowFor partial (tagFor RESOURCE) (f ∷ fs)
 unfolding rowOf keys
-resource-line f fs e = λ i. cond (items-show (f ∷ fs) e i && lt-ltb 8 (length (unended "resource" (f ∷ fs))) (omega arith) i) (rowHeaded partial 9 (heading 9 (items-back f fs e i))) []
+resource-line f fs e = λ i. cond (items-show (f ∷ fs) e i && lt-ltb 8 (length (unended "resource" (f ∷ fs))) (omega arith) i) (rowHeaded partial RESOURCE (heading RESOURCE (items-back f fs e i))) []
 
 -- a row that is not empty: the line is printable, has as many items as its form, and they are read
 row-parts : {X : Type 0} (T : ℕ) (fs : List (List ℕ)) (b c : Bool) (t : ℕ) (xs : List ℕ) → cond b (cond c (orEmpty T (itemsFrom partial T 0 fs)) []) [] ≡ t ∷ xs → (b ≡ true → c ≡ true → t ≡ T → itemsFrom partial T 0 fs ≡ some xs → X) → X
@@ -83,17 +86,6 @@ row-parts T fs false c t xs e f = not-empty [] t xs e
 -- two items: a number of a line, and a number of a text or `?`
 abbrev pairOf : List ℕ → List ℕ → Option (List ℕ)
 pairOf f g = joined (one (index f)) (joined (one (markOr (same g (ascii "?")) (index g))) (some []))
-
-index-small : (g : List ℕ) (n : ℕ) → index g ≡ some n → n ≤ 9999
-index-small g n e = go (decimal g) e
-  where
-    go : (o : Option ℕ) → atMost 9999 o ≡ some n → n ≤ 9999
-    go none e = no-some e
-    go (some m) e = at-bound (leb m 9999) refl e
-      where
-        at-bound : (b : Bool) → leb m 9999 ≡ b → cond b (some m) none ≡ some n → n ≤ 9999
-        at-bound true f e = subst (λ z. z ≤ 9999) (Option·some-injective m n e) (leb-true m 9999 f)
-        at-bound false f e = no-some e
 
 first-item : (t : ℕ) (f : List ℕ) (k : ℕ) → index f ≡ some k → index (cond (same f (ascii "?")) (digits t) f) ≡ some k
 first-item t f k e = go (same f (ascii "?")) refl
@@ -114,7 +106,7 @@ second-item t g x h e = go (same g (ascii "?")) refl e
   where
     go : (b : Bool) → same g (ascii "?") ≡ b → markOr b (index g) ≡ some x → markOr (same (cond b (digits t) g) (ascii "?")) (index (cond b (digits t) g)) ≡ some (cond (eqb x mark) t x)
     go true p e = rw (not-asked t h) (index-back t h ∙ ap (λ b. some (cond b t x)) (sym (eq-eqb x mark (sym (Option·some-injective mark x e)))))
-    go false p e = rw p (e ∙ ap (λ b. some (cond b t x)) (sym (ne-eqb x mark (λ z. let w = index-small g x e in omega (arith, w, z)))))
+    go false p e = rw p (e ∙ ap (λ b. some (cond b t x)) (sym (ne-eqb x mark (λ z. let w = index-small (decimal g) x (ap one e) in omega (arith, w, z)))))
 
 pair-filled : {X : Type 0} (t : ℕ) (f g xs : List ℕ) → t ≤ 9999 → pairOf f g ≡ some xs
     → ((k x : ℕ) → xs ≡ k ∷ x ∷ [] → pairOf (cond (same f (ascii "?")) (digits t) f) (cond (same g (ascii "?")) (digits t) g) ≡ some (k ∷ cond (eqb x mark) t x ∷ []) → X) → X
@@ -141,35 +133,50 @@ set-is T k x t = go (eqb x mark)
     go true = refl
     go false = refl
 
+-- a key without constructors whose lines have these two items
+record Pairs (w : String) (k : ℕ) : Type 0 where
+  is-key : placeIn (ascii w) keys ≡ k
+  row : (v : List ℕ) → rowOfValue partial k v ≡ rowFor partial (tagFor k) (split 44 v)
+  line : (f : List ℕ) (fs : List (List ℕ)) → allPlain (f ∷ fs) ≡ true → rowOf partial (unended w (f ∷ fs)) ≡ rowFor partial (tagFor k) (f ∷ fs)
+  pairs : (f g : List ℕ) → itemsFrom partial (tagFor k) 0 (f ∷ g ∷ []) ≡ pairOf f g
+  two : counted (tagFor k) 2 ≡ true
+  only-two : (n : ℕ) → counted (tagFor k) n ≡ true → n ≡ 2
+
+-- the row of its line, and of the line with text n filled in
+key-filled : {X : Type 0} (w : String) (k : ℕ) → Pairs w k → (l : List ℕ) (n : ℕ) → n ≤ 9999 → keyIn l ≡ ascii w → (t : ℕ) (xs : List ℕ) → rowOf partial l ≡ t ∷ xs
+    → ((j x : ℕ) → t ∷ xs ≡ tagFor k ∷ j ∷ x ∷ [] → rowOf partial (keyIn l ++ (61 ∷ commas (filledItems n (itemsIn l)))) ≡ setText n (tagFor k ∷ j ∷ x ∷ []) → X) → X
+key-filled w k p l n h key t xs e c =
+    row-parts (tagFor k) (itemsIn l) (shown l) (counted (tagFor k) (length (itemsIn l))) t xs (sym (row-of-key w k (p .is-key) (p .row) l key) ∙ e)
+    (λ b d tag-is ix. and-both (printable l) (ltb (upTo 61 l) (length l)) b (λ show less.
+    two-of (itemsIn l) (p .only-two (length (itemsIn l)) d) (λ f g fs.
+    let F : List ℕ = cond (same f (ascii "?")) (digits n) f in
+    let G : List ℕ = cond (same g (ascii "?")) (digits n) g in
+    let plain : allPlain (F ∷ G ∷ []) ≡ true = filled-plain n (f ∷ g ∷ []) h (subst (λ z. allPlain z ≡ true) fs (split-plain (drop (suc (upTo 61 l)) l) (show-drop (suc (upTo 61 l)) l show))) in
+    pair-filled n f g xs h (sym (p .pairs f g) ∙ sym (ap (itemsFrom partial (tagFor k) 0) fs) ∙ ix) (λ j x xs-are new.
+    c j x (ap₂ _∷_ tag-is xs-are)
+    ((λ i. rowOf partial (key i ++ (61 ∷ commas (filledItems n (fs i)))))
+    ∙ p .line F (G ∷ []) plain
+    ∙ ap (λ z. cond z (orEmpty (tagFor k) (itemsFrom partial (tagFor k) 0 (F ∷ G ∷ []))) []) (p .two)
+    ∙ ap (orEmpty (tagFor k)) (p .pairs F G ∙ new)
+    ∙ set-is (tagFor k) j x n)))))
+
+principal-pairs : Pairs "principal" PRINCIPAL
+unfolding keys tagOf forms formOf slotAt counted
+principal-pairs = record { is-key = refl; row = λ v. refl; line = principal-line; pairs = λ f g. refl; two = refl; only-two = λ n e. counted-plain (formOf principalTag) n refl e }
+
+resource-pairs : Pairs "resource" RESOURCE
+unfolding keys tagOf forms formOf slotAt counted
+resource-pairs = record { is-key = refl; row = λ v. refl; line = resource-line; pairs = λ f g. refl; two = refl; only-two = λ n e. counted-plain (formOf resourceTag) n refl e }
+
 principal-filled : (q : Asked) (l : List ℕ) → q .principal ≤ 9999 → keyIn l ≡ ascii "principal" → (t : ℕ) (xs : List ℕ) → rowOf partial l ≡ t ∷ xs → FilledRow q (t ∷ xs) (rowOf partial (keyIn l ++ (61 ∷ commas (filledItems (q .principal) (itemsIn l)))))
-unfolding rowOf keys tagOf forms formOf slotAt counted
-principal-filled q l h key t xs e = row-parts 17 (itemsIn l) (printable l && ltb (upTo 61 l) (length l)) (counted 17 (length (itemsIn l))) t xs
-    (ap (λ z. cond (printable l && ltb (upTo 61 l) (length l)) (rowOfValue partial z (drop (suc (upTo 61 l)) l)) []) (sym (ap (λ z. placeIn z keys) key)) ∙ e)
-    (λ b c tag-is ix. and-both (printable l) (ltb (upTo 61 l) (length l)) b (λ shown less.
-    two-of (itemsIn l) (counted-plain (formOf 17) (length (itemsIn l)) refl c) (λ f g fs.
-    pair-filled (q .principal) f g xs h (sym (ap (itemsFrom partial 17 0) fs) ∙ ix) (λ k x xs-are new.
-    subst (λ z. FilledRow q z (rowOf partial (keyIn l ++ (61 ∷ commas (filledItems (q .principal) (itemsIn l)))))) (sym (ap₂ _∷_ tag-is xs-are))
-    (subst (FilledRow q (17 ∷ k ∷ x ∷ [])) (sym (
-    (λ i. rowOf partial (key i ++ (61 ∷ commas (filledItems (q .principal) (fs i)))))
-    ∙ principal-line (cond (same f (ascii "?")) (digits (q .principal)) f) (cond (same g (ascii "?")) (digits (q .principal)) g ∷ []) (filled-plain (q .principal) (f ∷ g ∷ []) h (subst (λ z. allPlain z ≡ true) fs (split-plain (drop (suc (upTo 61 l)) l) (show-drop (suc (upTo 61 l)) l shown))))
-    ∙ ap (orEmpty 17) new
-    ∙ set-is 17 k x (q .principal)
-    )) principal)))))
+unfolding tagOf forms
+principal-filled q l h key t xs e = key-filled "principal" PRINCIPAL principal-pairs l (q .principal) h key t xs e (λ j x old new.
+    subst (λ z. FilledRow q z (rowOf partial (keyIn l ++ (61 ∷ commas (filledItems (q .principal) (itemsIn l)))))) (sym old) (subst (FilledRow q (principalTag ∷ j ∷ x ∷ [])) (sym new) principal))
 
 resource-filled : (q : Asked) (l : List ℕ) → q .resource ≤ 9999 → keyIn l ≡ ascii "resource" → (t : ℕ) (xs : List ℕ) → rowOf partial l ≡ t ∷ xs → FilledRow q (t ∷ xs) (rowOf partial (keyIn l ++ (61 ∷ commas (filledItems (q .resource) (itemsIn l)))))
-unfolding rowOf keys tagOf forms formOf slotAt counted
-resource-filled q l h key t xs e = row-parts 19 (itemsIn l) (printable l && ltb (upTo 61 l) (length l)) (counted 19 (length (itemsIn l))) t xs
-    (ap (λ z. cond (printable l && ltb (upTo 61 l) (length l)) (rowOfValue partial z (drop (suc (upTo 61 l)) l)) []) (sym (ap (λ z. placeIn z keys) key)) ∙ e)
-    (λ b c tag-is ix. and-both (printable l) (ltb (upTo 61 l) (length l)) b (λ shown less.
-    two-of (itemsIn l) (counted-plain (formOf 19) (length (itemsIn l)) refl c) (λ f g fs.
-    pair-filled (q .resource) f g xs h (sym (ap (itemsFrom partial 19 0) fs) ∙ ix) (λ k x xs-are new.
-    subst (λ z. FilledRow q z (rowOf partial (keyIn l ++ (61 ∷ commas (filledItems (q .resource) (itemsIn l)))))) (sym (ap₂ _∷_ tag-is xs-are))
-    (subst (FilledRow q (19 ∷ k ∷ x ∷ [])) (sym (
-    (λ i. rowOf partial (key i ++ (61 ∷ commas (filledItems (q .resource) (fs i)))))
-    ∙ resource-line (cond (same f (ascii "?")) (digits (q .resource)) f) (cond (same g (ascii "?")) (digits (q .resource)) g ∷ []) (filled-plain (q .resource) (f ∷ g ∷ []) h (subst (λ z. allPlain z ≡ true) fs (split-plain (drop (suc (upTo 61 l)) l) (show-drop (suc (upTo 61 l)) l shown))))
-    ∙ ap (orEmpty 19) new
-    ∙ set-is 19 k x (q .resource)
-    )) resource)))))
+unfolding tagOf forms
+resource-filled q l h key t xs e = key-filled "resource" RESOURCE resource-pairs l (q .resource) h key t xs e (λ j x old new.
+    subst (λ z. FilledRow q z (rowOf partial (keyIn l ++ (61 ∷ commas (filledItems (q .resource) (itemsIn l)))))) (sym old) (subst (FilledRow q (resourceTag ∷ j ∷ x ∷ [])) (sym new) resource))
 
 -- ---- other lines
 
@@ -217,7 +224,7 @@ row-key l t xs e j lo hi g = cut (printable l && ltb (upTo 61 l) (length l)) e
     value false e = from-row (counted (tagOf K (heading K (split 44 v) .name)) (length (heading K (split 44 v) .items))) e
 
     cut : (b : Bool) → cond b (rowOfValue partial K v) [] ≡ t ∷ xs → K ≡ j
-    cut true e = value (eqb K 1) e
+    cut true e = value (eqb K TEXT) e
     cut false e = not-empty [] t xs e
 
 place-is : (w : List ℕ) (ks : List String) (j : ℕ) → placeIn w ks ≡ j → j < length ks → w ≡ ascii (getD ks j "")
@@ -229,10 +236,6 @@ place-is w (x ∷ ks) j e h = go (same w (ascii x)) refl j e h (place-is w ks)
     go true p (suc j) e h ih = absurd (omega (arith, e))
     go false p zero e h ih = absurd (omega (arith, e))
     go false p (suc j) e h ih = ih j (omega (arith, e)) (omega (arith, h))
-
-same-refl : (k : List ℕ) → same k k ≡ true
-same-refl [] = refl
-same-refl (x ∷ k) = both (eq-eqb x x refl) (same-refl k)
 
 -- a line of another key has a row of another key
 other-key : (l : List ℕ) (w : String) (j : ℕ) → 1 < j → j < noKey → ascii (getD keys j "") ≡ ascii w → same (keyIn l) (ascii w) ≡ false → (t : ℕ) (xs : List ℕ) → rowOf partial l ≡ t ∷ xs → eqb (keyOf (t ∷ xs)) j ≡ false
@@ -265,7 +268,7 @@ module _ (q : Asked) (h : q .principal ≤ 9999) (k : q .resource ≤ 9999) wher
         entity = ap (λ z. starts (ascii "entity=") (z ++ (61 ∷ commas (filledItems (q .resource) (itemsIn l))))) key ∙ sym (not-entity l 114 (ascii "esource") refl key);
         rows = resource-filled q l k key;
       }
-      at-resource false p n = record { ends = refl; entity = refl; rows = λ t xs e. subst (FilledRow q (t ∷ xs)) (sym e) (kept (other-key l "principal" 7 (omega arith) (omega arith) refl n t xs e) (other-key l "resource" 9 (omega arith) (omega arith) refl p t xs e)) }
+      at-resource false p n = record { ends = refl; entity = refl; rows = λ t xs e. subst (FilledRow q (t ∷ xs)) (sym e) (kept (other-key l "principal" PRINCIPAL (omega arith) (omega arith) refl n t xs e) (other-key l "resource" RESOURCE (omega arith) (omega arith) refl p t xs e)) }
 
       at-principal : (b : Bool) → same (keyIn l) (ascii "principal") ≡ b → FilledLine q l (filledLine "resource" (q .resource) (cond b (keyIn l ++ (61 ∷ commas (filledItems (q .principal) (itemsIn l)))) l))
       at-principal true p =
@@ -300,21 +303,13 @@ lack-drop zero l e = e
 lack-drop (suc n) [] e = refl
 lack-drop (suc n) (x ∷ l) e = and-both (not (eqb x 10)) (lacks 10 l) e (λ p q. lack-drop n l q)
 
-abbrev EachLacks : List (List ℕ) → Type 0
-EachLacks [] = Unit {0}
-EachLacks (f ∷ fs) = (lacks 10 f ≡ true) × EachLacks fs
-
-ahead-each : (x : ℕ) (ps : List (List ℕ)) → not (eqb x 10) ≡ true → EachLacks ps → EachLacks (ahead x ps)
-ahead-each x [] e h = (rw e refl, tt)
-ahead-each x (p ∷ ps) e h = (rw e (h .0), h .1)
-
-split-each : (l : List ℕ) → lacks 10 l ≡ true → EachLacks (split 44 l)
+split-each : (l : List ℕ) → lacks 10 l ≡ true → allLack (split 44 l)
 split-each [] e = (refl, tt)
 split-each (x ∷ l) e = and-both (not (eqb x 10)) (lacks 10 l) e (λ p q. go (eqb x 44) p (split-each l q))
   where
-    go : (b : Bool) → not (eqb x 10) ≡ true → EachLacks (split 44 l) → EachLacks (cond b ([] ∷ split 44 l) (ahead x (split 44 l)))
+    go : (b : Bool) → not (eqb x 10) ≡ true → allLack (split 44 l) → allLack (cond b ([] ∷ split 44 l) (ahead x (split 44 l)))
     go true p h = (refl, h)
-    go false p h = ahead-each x (split 44 l) p h
+    go false p h = ahead-lacks x (split 44 l) p h
 
 digits-lack : (t : ℕ) → t ≤ 9999 → lacks 10 (digits t) ≡ true
 digits-lack t h = line-lacks-of (digits t) (small-plain t h)
@@ -324,7 +319,7 @@ digits-lack t h = line-lacks-of (digits t) (small-plain t h)
     line-lacks-of (x ∷ l) e = and-both (plainByte x) (plainBytes l) e (λ p q. and-both (leb 32 x && leb x 126) (not (eqb x 44)) p (λ a b. and-both (leb 32 x) (leb x 126) a (λ c d.
         let lo = leb-true 32 x c in rw (ne-eqb x 10 (λ z. omega (arith, lo, z))) (line-lacks-of l q))))
 
-items-lack : (t : ℕ) → t ≤ 9999 → (fs : List (List ℕ)) → EachLacks fs → EachLacks (filledItems t fs)
+items-lack : (t : ℕ) → t ≤ 9999 → (fs : List (List ℕ)) → allLack fs → allLack (filledItems t fs)
 items-lack t h [] e = tt
 items-lack t h (f ∷ fs) e = (go (same f (ascii "?")), items-lack t h fs (e .1))
   where
@@ -332,7 +327,7 @@ items-lack t h (f ∷ fs) e = (go (same f (ascii "?")), items-lack t h fs (e .1)
     go true = digits-lack t h
     go false = e .0
 
-commas-lack : (fs : List (List ℕ)) → EachLacks fs → lacks 10 (commas fs) ≡ true
+commas-lack : (fs : List (List ℕ)) → allLack fs → lacks 10 (commas fs) ≡ true
 commas-lack [] h = refl
 commas-lack (f ∷ []) h = h .0
 commas-lack (f ∷ g ∷ fs) h = lack-append f (44 ∷ commas (g ∷ fs)) (h .0) (commas-lack (g ∷ fs) (h .1))

@@ -10,36 +10,25 @@ use lib.Seq.{getD-set-same}
 use Rattle.cedar.proofs.Tools.{no-true}
 use Rattle.sheet.specs.Bytes.{same, starts}
 use Rattle.sheet.specs.Ascii.{ascii}
-use Rattle.sheet.specs.Forms.{partial, rowOf, keyOf, forms, formOf, mark, TEXT, NODE, noKey, POLICY, ENTITY}
+use Rattle.sheet.specs.Forms.{partial, rowOf, keyOf, forms, formOf, TEXT, NODE, noKey, POLICY, ENTITY, PRINCIPAL, RESOURCE}
 use Rattle.sheet.specs.State.{State, linesOf, count, before}
 use Rattle.sheet.specs.Sheet.{Reading, reads, enough, firstUnused, added, more, fault, ending, goOn, reading, entitiesFit, beforeLine, firstUnlinked, firstUnfit, lineRead}
 use Rattle.staff.specs.Firm.{Asked, setText, withTexts}
 use Rattle.sheet.proofs.Lines.{zero-not-suc, passed, ended, lines-more, later-empty, entities-passed, line-passed, AllFit}
-use Rattle.staff.proofs.FirmState.{Lines, LongRow, Long, listed, fault-with, enough-with, nodes-with, FilledRow, kept, principal, resource, fill-17, fill-19, added-kept, added-principal, added-resource, linked-with, unfit-with}
+use Rattle.staff.proofs.FirmState.{Lines, LongRow, Long, listed, fault-with, enough-with, nodes-with, FilledRow, kept, principal, resource, fill-principal, fill-resource, principalTag, resourceTag, of-text, added-kept, added-principal, added-resource, linked-with, unfit-with}
 
 -- ---- one line
 
 -- what a state keeps: all keys, rows of principal and resource with two items
 pub record Fit (s : State) : Type 0 where
   pub keys : length (s .lines) ≡ noKey
-  pub first : Long (linesOf s 7)
-  pub second : Long (linesOf s 9)
+  pub first : Long (linesOf s PRINCIPAL)
+  pub second : Long (linesOf s RESOURCE)
 
-key-17 : (t k x : ℕ) → keyOf (setText t (17 ∷ k ∷ x ∷ [])) ≡ 7
-unfolding keyOf formOf forms
-key-17 t k x = go (eqb x mark)
-  where
-    go : (b : Bool) → keyOf (cond b (17 ∷ k ∷ t ∷ []) (17 ∷ k ∷ x ∷ [])) ≡ 7
-    go true = refl
-    go false = refl
-
-key-19 : (t k x : ℕ) → keyOf (setText t (19 ∷ k ∷ x ∷ [])) ≡ 9
-unfolding keyOf formOf forms
-key-19 t k x = go (eqb x mark)
-  where
-    go : (b : Bool) → keyOf (cond b (19 ∷ k ∷ t ∷ []) (19 ∷ k ∷ x ∷ [])) ≡ 9
-    go true = refl
-    go false = refl
+-- the text of a row says nothing of its key
+key-kept : (T t k x : ℕ) → keyOf (setText t (T ∷ k ∷ x ∷ [])) ≡ keyOf (T ∷ k ∷ x ∷ [])
+unfolding keyOf
+key-kept T t k x = of-text T k (λ z. keyOf z ≡ keyOf (T ∷ k ∷ x ∷ [])) (λ y. refl) t x
 
 more-with : (s : State) (q : Asked) {z y : List ℕ} → length (s .lines) ≡ noKey → FilledRow q z y → more (withTexts s q) y ≡ withTexts (more s z) q
 unfolding more withTexts keyOf formOf forms
@@ -50,8 +39,8 @@ more-with s q {z} {y} e f = listed (s .lines) e (λ a0 a1 a2 a3 a4 a5 a6 a7 a8 a
     go : (a0 a1 a2 a3 a4 a5 a6 a7 a8 a9 a10 a11 a12 a13 a14 a15 : Lines) {z y : List ℕ} → FilledRow q z y
         → more (withTexts (record { lines = a0 ∷ a1 ∷ a2 ∷ a3 ∷ a4 ∷ a5 ∷ a6 ∷ a7 ∷ a8 ∷ a9 ∷ a10 ∷ a11 ∷ a12 ∷ a13 ∷ a14 ∷ a15 ∷ []; depths = s .depths; used = s .used }) q) y ≡ withTexts (more (record { lines = a0 ∷ a1 ∷ a2 ∷ a3 ∷ a4 ∷ a5 ∷ a6 ∷ a7 ∷ a8 ∷ a9 ∷ a10 ∷ a11 ∷ a12 ∷ a13 ∷ a14 ∷ a15 ∷ []; depths = s .depths; used = s .used }) z) q
     go a0 a1 a2 a3 a4 a5 a6 a7 a8 a9 a10 a11 a12 a13 a14 a15 (kept {z = z} e f) = added-kept a0 a1 a2 a3 a4 a5 a6 a7 a8 a9 a10 a11 a12 a13 a14 a15 (s .depths) (s .used) q (keyOf z) z e f
-    go a0 a1 a2 a3 a4 a5 a6 a7 a8 a9 a10 a11 a12 a13 a14 a15 (principal {k = k} {x = x}) = ap (λ j. added (withTexts (record { lines = a0 ∷ a1 ∷ a2 ∷ a3 ∷ a4 ∷ a5 ∷ a6 ∷ a7 ∷ a8 ∷ a9 ∷ a10 ∷ a11 ∷ a12 ∷ a13 ∷ a14 ∷ a15 ∷ []; depths = s .depths; used = s .used }) q) j (setText (q .principal) (17 ∷ k ∷ x ∷ []))) (key-17 (q .principal) k x) ∙ added-principal a0 a1 a2 a3 a4 a5 a6 a7 a8 a9 a10 a11 a12 a13 a14 a15 (s .depths) (s .used) q k x
-    go a0 a1 a2 a3 a4 a5 a6 a7 a8 a9 a10 a11 a12 a13 a14 a15 (resource {k = k} {x = x}) = ap (λ j. added (withTexts (record { lines = a0 ∷ a1 ∷ a2 ∷ a3 ∷ a4 ∷ a5 ∷ a6 ∷ a7 ∷ a8 ∷ a9 ∷ a10 ∷ a11 ∷ a12 ∷ a13 ∷ a14 ∷ a15 ∷ []; depths = s .depths; used = s .used }) q) j (setText (q .resource) (19 ∷ k ∷ x ∷ []))) (key-19 (q .resource) k x) ∙ added-resource a0 a1 a2 a3 a4 a5 a6 a7 a8 a9 a10 a11 a12 a13 a14 a15 (s .depths) (s .used) q k x
+    go a0 a1 a2 a3 a4 a5 a6 a7 a8 a9 a10 a11 a12 a13 a14 a15 (principal {k = k} {x = x}) = ap (λ j. added (withTexts (record { lines = a0 ∷ a1 ∷ a2 ∷ a3 ∷ a4 ∷ a5 ∷ a6 ∷ a7 ∷ a8 ∷ a9 ∷ a10 ∷ a11 ∷ a12 ∷ a13 ∷ a14 ∷ a15 ∷ []; depths = s .depths; used = s .used }) q) j (setText (q .principal) (principalTag ∷ k ∷ x ∷ []))) (key-kept principalTag (q .principal) k x) ∙ added-principal a0 a1 a2 a3 a4 a5 a6 a7 a8 a9 a10 a11 a12 a13 a14 a15 (s .depths) (s .used) q k x
+    go a0 a1 a2 a3 a4 a5 a6 a7 a8 a9 a10 a11 a12 a13 a14 a15 (resource {k = k} {x = x}) = ap (λ j. added (withTexts (record { lines = a0 ∷ a1 ∷ a2 ∷ a3 ∷ a4 ∷ a5 ∷ a6 ∷ a7 ∷ a8 ∷ a9 ∷ a10 ∷ a11 ∷ a12 ∷ a13 ∷ a14 ∷ a15 ∷ []; depths = s .depths; used = s .used }) q) j (setText (q .resource) (resourceTag ∷ k ∷ x ∷ []))) (key-kept resourceTag (q .resource) k x) ∙ added-resource a0 a1 a2 a3 a4 a5 a6 a7 a8 a9 a10 a11 a12 a13 a14 a15 (s .depths) (s .used) q k x
 
 -- ---- texts are read before the request
 
@@ -86,8 +75,8 @@ long-append : (p : Lines) (z : List ℕ) → Long p → LongRow z → Long (p ++
 long-append [] z h k = (k, tt)
 long-append (r ∷ p) z h k = (h .0, long-append p z (h .1) k)
 
-row-long : {q : Asked} {z y : List ℕ} (j : ℕ) → FilledRow q z y → j ≡ keyOf z → (eqb j 7 || eqb j 9) ≡ true → LongRow z
-row-long j (kept {z = z} a b) e f = no-true (sym (subst (λ i. (eqb i 7 || eqb i 9) ≡ false) (sym e) (ap₂ _||_ a b)) ∙ f)
+row-long : {q : Asked} {z y : List ℕ} (j : ℕ) → FilledRow q z y → j ≡ keyOf z → (eqb j PRINCIPAL || eqb j RESOURCE) ≡ true → LongRow z
+row-long j (kept {z = z} a b) e f = no-true (sym (subst (λ i. (eqb i PRINCIPAL || eqb i RESOURCE) ≡ false) (sym e) (ap₂ _||_ a b)) ∙ f)
 row-long j principal e f = tt
 row-long j resource e f = tt
 
@@ -95,16 +84,16 @@ fit-more : (s : State) {q : Asked} {z y : List ℕ} → Fit s → FilledRow q z 
 unfolding more
 fit-more s {q} {z} h f = record {
   keys = length-set (s .lines) (keyOf z) (linesOf s (keyOf z) ++ (z ∷ [])) ∙ h .keys;
-  first = lines-more s z 7 (λ e. subst Long (sym e) (h .first)) (λ e g. subst Long (sym g) (long-append (linesOf s 7) z (h .first) (row-long 7 f e refl)));
-  second = lines-more s z 9 (λ e. subst Long (sym e) (h .second)) (λ e g. subst Long (sym g) (long-append (linesOf s 9) z (h .second) (row-long 9 f e refl)));
+  first = lines-more s z PRINCIPAL (λ e. subst Long (sym e) (h .first)) (λ e g. subst Long (sym g) (long-append (linesOf s PRINCIPAL) z (h .first) (row-long PRINCIPAL f e refl)));
+  second = lines-more s z RESOURCE (λ e. subst Long (sym e) (h .second)) (λ e g. subst Long (sym g) (long-append (linesOf s RESOURCE) z (h .second) (row-long RESOURCE f e refl)));
 }
 
 -- the line with the texts filled in passes too
-fault-filled : (s : State) (q : Asked) {z y : List ℕ} → FilledRow q z y → (keyOf z ≡ 7 → ltb (q .principal) (count s TEXT) ≡ true) → (keyOf z ≡ 9 → ltb (q .resource) (count s TEXT) ≡ true) → fault s z ≡ 0 → fault s y ≡ 0
+fault-filled : (s : State) (q : Asked) {z y : List ℕ} → FilledRow q z y → (keyOf z ≡ PRINCIPAL → ltb (q .principal) (count s TEXT) ≡ true) → (keyOf z ≡ RESOURCE → ltb (q .resource) (count s TEXT) ≡ true) → fault s z ≡ 0 → fault s y ≡ 0
 unfolding keyOf formOf forms
 fault-filled s q (kept a b) f g e = e
-fault-filled s q (principal {k = k} {x = x}) f g e = fill-17 s k (q .principal) (f refl) x e
-fault-filled s q (resource {k = k} {x = x}) f g e = fill-19 s k (q .resource) (g refl) x e
+fault-filled s q (principal {k = k} {x = x}) f g e = fill-principal s k (q .principal) (f refl) x e
+fault-filled s q (resource {k = k} {x = x}) f g e = fill-resource s k (q .resource) (g refl) x e
 
 -- ---- the end
 
@@ -214,9 +203,6 @@ reading-with q (l ∷ k ∷ ls) (n ∷ m ∷ ns) f s i h e a b =
     parts : FilledAll q (l ∷ k ∷ ls) (n ∷ m ∷ ns) → FilledLine q l n × FilledAll q (k ∷ ls) (m ∷ ns)
     parts (more-lines x y) = (x, y)
 
-    rest : Reading
-    rest = reading partial (k ∷ ls) (more s (rowOf partial l)) (suc i)
-
     go : FilledLine q l n → (c : ℕ) → fault s (rowOf partial l) ≡ c → goOn s i (rowOf partial l) c (reading partial (k ∷ ls)) .number ≡ 0
         → ltb (q .principal) (count (goOn s i (rowOf partial l) c (reading partial (k ∷ ls)) .state) TEXT) ≡ true → ltb (q .resource) (count (goOn s i (rowOf partial l) c (reading partial (k ∷ ls)) .state) TEXT) ≡ true
         → (Fit (more s (rowOf partial l)) → reading partial (k ∷ ls) (more s (rowOf partial l)) (suc i) .number ≡ 0 → ltb (q .principal) (count (reading partial (k ∷ ls) (more s (rowOf partial l)) (suc i) .state) TEXT) ≡ true → ltb (q .resource) (count (reading partial (k ∷ ls) (more s (rowOf partial l)) (suc i) .state) TEXT) ≡ true
@@ -228,6 +214,6 @@ reading-with q (l ∷ k ∷ ls) (n ∷ m ∷ ns) f s i h e a b =
         let texts : (j : ℕ) → 1 < j → j < noKey → keyOf (rowOf partial l) ≡ j → count (reading partial (k ∷ ls) (more s (rowOf partial l)) (suc i) .state) TEXT ≡ count s TEXT = λ j lt hi g.
         frozen (k ∷ ls) (more s (rowOf partial l)) (suc i) j lt (one-there s (rowOf partial l) j (h .keys) hi g) e ∙ lines-more s (rowOf partial l) TEXT (λ w. ap length w) (λ w v. absurd (omega (arith, w, g, lt))) in
         let free : fault (withTexts s q) (rowOf partial n) ≡ 0 = sym (fault-with s q (h .keys) (h .first) (h .second) (rowOf partial n))
-        ∙ fault-filled s q z (λ g. subst (λ c. ltb (q .principal) c ≡ true) (texts 7 (omega arith) (omega arith) g) a) (λ g. subst (λ c. ltb (q .resource) c ≡ true) (texts 9 (omega arith) (omega arith) g) b) p in
+        ∙ fault-filled s q z (λ g. subst (λ c. ltb (q .principal) c ≡ true) (texts PRINCIPAL (omega arith) (omega arith) g) a) (λ g. subst (λ c. ltb (q .resource) c ≡ true) (texts RESOURCE (omega arith) (omega arith) g) b) p in
         subst (λ c. With q (reading partial (k ∷ ls) (more s (rowOf partial l)) (suc i)) (goOn (withTexts s q) i (rowOf partial n) c (reading partial (m ∷ ns)))) (sym free)
         (subst (λ u. With q (reading partial (k ∷ ls) (more s (rowOf partial l)) (suc i)) (reading partial (m ∷ ns) u (suc i))) (sym (more-with s q (h .keys) z)) (ih (fit-more s h z) e a b))

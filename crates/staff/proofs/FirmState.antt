@@ -8,7 +8,7 @@ use lib.Dec.{leb, ltb, eqb}
 use Rattle.cedar.proofs.Tools.{no-true, or-right}
 use lib.ListN.{length, getD, take, drop, set}
 use Rattle.cedar.specs.Numbered.{memN}
-use Rattle.sheet.specs.Forms.{forms, formOf, Slot, entry, line, lineOr, lineUnknown, word, number, nothing, slotAt, tag, items, at, mark, keyOf, refs, ascendings, firstNode, NODE, TEXT, KIND, noKey, day, POLICY, ENTITY}
+use Rattle.sheet.specs.Forms.{forms, formOf, Slot, entry, line, lineOr, lineUnknown, word, number, nothing, slotAt, tag, items, at, mark, keyOf, refs, ascendings, firstNode, NODE, TEXT, KIND, noKey, day, POLICY, ENTITY, PRINCIPAL, RESOURCE}
 use Rattle.sheet.specs.State.{State, linesOf, count}
 use Rattle.sheet.specs.Typing.{isAction, shapeTyped, entityTyped, contextTyped, declaredIn, pathTyped, kid, boolAt, rules, policyTyped, typed, fits, eachOf, slotsFit, isSlot, slotValue, nodesUnder, nodesOf, linkTyped}
 use Rattle.cedar.specs.Value.{onSome}
@@ -216,10 +216,10 @@ listed (a0 ∷ a1 ∷ a2 ∷ a3 ∷ a4 ∷ a5 ∷ a6 ∷ a7 ∷ a8 ∷ a9 ∷ a1
 listed (a0 ∷ a1 ∷ a2 ∷ a3 ∷ a4 ∷ a5 ∷ a6 ∷ a7 ∷ a8 ∷ a9 ∷ a10 ∷ a11 ∷ a12 ∷ a13 ∷ a14 ∷ a15 ∷ a16 ∷ ls) e f = absurd (omega (arith, e))
 
 -- A LINE IS REFUSED OR NOT WHATEVER TEXTS PRINCIPAL AND RESOURCE HAVE
-pub fault-with : (s : State) (q : Asked) → length (s .lines) ≡ noKey → Long (linesOf s 7) → Long (linesOf s 9) → (z : List ℕ) → fault s z ≡ fault (withTexts s q) z
+pub fault-with : (s : State) (q : Asked) → length (s .lines) ≡ noKey → Long (linesOf s PRINCIPAL) → Long (linesOf s RESOURCE) → (z : List ℕ) → fault s z ≡ fault (withTexts s q) z
 unfolding withTexts
 fault-with s q e h k z = listed (s .lines) e (λ a0 a1 a2 a3 a4 a5 a6 a7 a8 a9 a10 a11 a12 a13 a14 a15 g.
-    subst (λ ls. Long (getD ls 7 []) → Long (getD ls 9 []) → fault (record { lines = ls; depths = s .depths; used = s .used }) z ≡ fault (withTexts (record { lines = ls; depths = s .depths; used = s .used }) q) z) (sym g)
+    subst (λ ls. Long (getD ls PRINCIPAL []) → Long (getD ls RESOURCE []) → fault (record { lines = ls; depths = s .depths; used = s .used }) z ≡ fault (withTexts (record { lines = ls; depths = s .depths; used = s .used }) q) z) (sym g)
     (λ h k. texts-fault a0 a1 a2 a3 a4 a5 a6 a8 a10 a11 a12 a13 a14 a15 (s .depths) (s .used) q a7 a9 h k z) h k)
 
 -- ---- one line more
@@ -228,11 +228,26 @@ texts-append : (n : ℕ) (p : Lines) (z : List ℕ) → setTexts n (p ++ (z ∷ 
 texts-append n [] z = refl
 texts-append n (r ∷ p) z = ap (λ l. setText n r ∷ l) (texts-append n p z)
 
+-- what holds of a row whatever text it has holds of it with a text set
+pub of-text : (T k : ℕ) (P : List ℕ → Type 0) → ((y : ℕ) → P (T ∷ k ∷ y ∷ [])) → (t x : ℕ) → P (setText t (T ∷ k ∷ x ∷ []))
+of-text T k P f t x = go (eqb x mark)
+  where
+    go : (b : Bool) → P (cond b (T ∷ k ∷ t ∷ []) (T ∷ k ∷ x ∷ []))
+    go true = f t
+    go false = f x
+
+-- the tags of the lines of principal and resource in the table of forms
+abbrev pub principalTag : ℕ
+principalTag = 17
+
+abbrev pub resourceTag : ℕ
+resourceTag = 19
+
 -- a line's row, and that of the line with the texts filled in
 pub data FilledRow (q : Asked) : List ℕ → List ℕ → Type 0 where
-  kept : {z : List ℕ} → eqb (keyOf z) 7 ≡ false → eqb (keyOf z) 9 ≡ false → FilledRow q z z
-  principal : {k x : ℕ} → FilledRow q (17 ∷ k ∷ x ∷ []) (setText (q .principal) (17 ∷ k ∷ x ∷ []))
-  resource : {k x : ℕ} → FilledRow q (19 ∷ k ∷ x ∷ []) (setText (q .resource) (19 ∷ k ∷ x ∷ []))
+  kept : {z : List ℕ} → eqb (keyOf z) PRINCIPAL ≡ false → eqb (keyOf z) RESOURCE ≡ false → FilledRow q z z
+  principal : {k x : ℕ} → FilledRow q (principalTag ∷ k ∷ x ∷ []) (setText (q .principal) (principalTag ∷ k ∷ x ∷ []))
+  resource : {k x : ℕ} → FilledRow q (resourceTag ∷ k ∷ x ∷ []) (setText (q .resource) (resourceTag ∷ k ∷ x ∷ []))
 
 module _ (a0 a1 a2 a3 a4 a5 a6 a7 a8 a9 a10 a11 a12 a13 a14 a15 : Lines) (ds : List (List ℕ)) (us : List ℕ) (q : Asked) where
   abbrev S : State
@@ -245,14 +260,11 @@ module _ (a0 a1 a2 a3 a4 a5 a6 a7 a8 a9 a10 a11 a12 a13 a14 a15 : Lines) (ds : L
   deep k z = sym (depth-same a0 a1 a2 a3 a4 a5 a6 a8 a10 a11 a12 a13 a14 a15 ds us a7 (setTexts (q .principal) a7) a9 (setTexts (q .resource) a9) k z)
 
   -- of a key that is neither
-  pub added-kept : (k : ℕ) (z : List ℕ) → eqb k 7 ≡ false → eqb k 9 ≡ false → added U k z ≡ withTexts (added S k z) q
+  pub added-kept : (k : ℕ) (z : List ℕ) → eqb k PRINCIPAL ≡ false → eqb k RESOURCE ≡ false → added U k z ≡ withTexts (added S k z) q
   unfolding withTexts
   added-kept k z e f = at-key k e f
     where
-      whole : (k : ℕ) (ls : List Lines) → State
-      whole k ls = record { lines = ls; depths = ds; used = us }
-
-      at-key : (k : ℕ) → eqb k 7 ≡ false → eqb k 9 ≡ false → added U k z ≡ withTexts (added S k z) q
+      at-key : (k : ℕ) → eqb k PRINCIPAL ≡ false → eqb k RESOURCE ≡ false → added U k z ≡ withTexts (added S k z) q
       at-key zero e f = λ i. record { lines = added U 0 z .lines; depths = set ds 0 (getD ds 0 [] ++ (deep 0 z i ∷ [])); used = added U 0 z .used }
       at-key (suc zero) e f = λ i. record { lines = added U 1 z .lines; depths = set ds 1 (getD ds 1 [] ++ (deep 1 z i ∷ [])); used = added U 1 z .used }
       at-key (suc (suc zero)) e f = λ i. record { lines = added U 2 z .lines; depths = set ds 2 (getD ds 2 [] ++ (deep 2 z i ∷ [])); used = added U 2 z .used }
@@ -272,59 +284,60 @@ module _ (a0 a1 a2 a3 a4 a5 a6 a7 a8 a9 a10 a11 a12 a13 a14 a15 : Lines) (ds : L
       at-key (suc (suc (suc (suc (suc (suc (suc (suc (suc (suc (suc (suc (suc (suc (suc (suc (k))))))))))))))))) e f = λ i. record { lines = U .lines; depths = set ds (suc (suc (suc (suc (suc (suc (suc (suc (suc (suc (suc (suc (suc (suc (suc (suc (k))))))))))))))))) (getD ds (suc (suc (suc (suc (suc (suc (suc (suc (suc (suc (suc (suc (suc (suc (suc (suc (k))))))))))))))))) [] ++ (deep (suc (suc (suc (suc (suc (suc (suc (suc (suc (suc (suc (suc (suc (suc (suc (suc (k))))))))))))))))) z i ∷ [])); used = added U (suc (suc (suc (suc (suc (suc (suc (suc (suc (suc (suc (suc (suc (suc (suc (suc (k))))))))))))))))) z .used }
 
   -- of principal, and of resource
-  one-principal : (k y : ℕ) → added U 7 (17 ∷ k ∷ y ∷ []) ≡ at-state a0 a1 a2 a3 a4 a5 a6 a8 a10 a11 a12 a13 a14 a15 (set ds 7 (getD ds 7 [] ++ (1 ∷ []))) us (setTexts (q .principal) a7 ++ ((17 ∷ k ∷ y ∷ []) ∷ [])) (setTexts (q .resource) a9)
+  abbrev deeper : ℕ → List (List ℕ)
+  deeper k = set ds k (getD ds k [] ++ (1 ∷ []))
+
+  abbrev filled : List (List ℕ) → Lines → Lines → State
+  filled ds p r = at-state a0 a1 a2 a3 a4 a5 a6 a8 a10 a11 a12 a13 a14 a15 ds us p r
+
+  one-principal : (k y : ℕ) → added U PRINCIPAL (principalTag ∷ k ∷ y ∷ []) ≡ filled (deeper PRINCIPAL) (setTexts (q .principal) a7 ++ ((principalTag ∷ k ∷ y ∷ []) ∷ [])) (setTexts (q .resource) a9)
   unfolding depth refs slotAt formOf forms
   one-principal k y = refl
 
-  pub added-principal : (k x : ℕ) → added U 7 (setText (q .principal) (17 ∷ k ∷ x ∷ [])) ≡ withTexts (added S 7 (17 ∷ k ∷ x ∷ [])) q
+  pub added-principal : (k x : ℕ) → added U PRINCIPAL (setText (q .principal) (principalTag ∷ k ∷ x ∷ [])) ≡ withTexts (added S PRINCIPAL (principalTag ∷ k ∷ x ∷ [])) q
   unfolding withTexts depth refs slotAt formOf forms
-  added-principal k x = go (eqb x mark) refl ∙ (λ i. at-state a0 a1 a2 a3 a4 a5 a6 a8 a10 a11 a12 a13 a14 a15 (set ds 7 (getD ds 7 [] ++ (1 ∷ []))) us (sym (texts-append (q .principal) a7 (17 ∷ k ∷ x ∷ [])) i) (setTexts (q .resource) a9))
-    where
-      go : (b : Bool) → eqb x mark ≡ b → added U 7 (cond b (17 ∷ k ∷ q .principal ∷ []) (17 ∷ k ∷ x ∷ [])) ≡ at-state a0 a1 a2 a3 a4 a5 a6 a8 a10 a11 a12 a13 a14 a15 (set ds 7 (getD ds 7 [] ++ (1 ∷ []))) us (setTexts (q .principal) a7 ++ (cond b (17 ∷ k ∷ q .principal ∷ []) (17 ∷ k ∷ x ∷ []) ∷ [])) (setTexts (q .resource) a9)
-      go true e = one-principal k (q .principal)
-      go false e = one-principal k x
+  added-principal k x =
+      of-text principalTag k (λ z. added U PRINCIPAL z ≡ filled (deeper PRINCIPAL) (setTexts (q .principal) a7 ++ (z ∷ [])) (setTexts (q .resource) a9)) (one-principal k) (q .principal) x
+      ∙ (λ i. filled (deeper PRINCIPAL) (sym (texts-append (q .principal) a7 (principalTag ∷ k ∷ x ∷ [])) i) (setTexts (q .resource) a9))
 
-  one-resource : (k y : ℕ) → added U 9 (19 ∷ k ∷ y ∷ []) ≡ at-state a0 a1 a2 a3 a4 a5 a6 a8 a10 a11 a12 a13 a14 a15 (set ds 9 (getD ds 9 [] ++ (1 ∷ []))) us (setTexts (q .principal) a7) (setTexts (q .resource) a9 ++ ((19 ∷ k ∷ y ∷ []) ∷ []))
+  one-resource : (k y : ℕ) → added U RESOURCE (resourceTag ∷ k ∷ y ∷ []) ≡ filled (deeper RESOURCE) (setTexts (q .principal) a7) (setTexts (q .resource) a9 ++ ((resourceTag ∷ k ∷ y ∷ []) ∷ []))
   unfolding depth refs slotAt formOf forms
   one-resource k y = refl
 
-  pub added-resource : (k x : ℕ) → added U 9 (setText (q .resource) (19 ∷ k ∷ x ∷ [])) ≡ withTexts (added S 9 (19 ∷ k ∷ x ∷ [])) q
+  pub added-resource : (k x : ℕ) → added U RESOURCE (setText (q .resource) (resourceTag ∷ k ∷ x ∷ [])) ≡ withTexts (added S RESOURCE (resourceTag ∷ k ∷ x ∷ [])) q
   unfolding withTexts depth refs slotAt formOf forms
-  added-resource k x = go (eqb x mark) refl ∙ (λ i. at-state a0 a1 a2 a3 a4 a5 a6 a8 a10 a11 a12 a13 a14 a15 (set ds 9 (getD ds 9 [] ++ (1 ∷ []))) us (setTexts (q .principal) a7) (sym (texts-append (q .resource) a9 (19 ∷ k ∷ x ∷ [])) i))
-    where
-      go : (b : Bool) → eqb x mark ≡ b → added U 9 (cond b (19 ∷ k ∷ q .resource ∷ []) (19 ∷ k ∷ x ∷ [])) ≡ at-state a0 a1 a2 a3 a4 a5 a6 a8 a10 a11 a12 a13 a14 a15 (set ds 9 (getD ds 9 [] ++ (1 ∷ []))) us (setTexts (q .principal) a7) (setTexts (q .resource) a9 ++ (cond b (19 ∷ k ∷ q .resource ∷ []) (19 ∷ k ∷ x ∷ []) ∷ []))
-      go true e = one-resource k (q .resource)
-      go false e = one-resource k x
+  added-resource k x =
+      of-text resourceTag k (λ z. added U RESOURCE z ≡ filled (deeper RESOURCE) (setTexts (q .principal) a7) (setTexts (q .resource) a9 ++ (z ∷ []))) (one-resource k) (q .resource) x
+      ∙ (λ i. filled (deeper RESOURCE) (setTexts (q .principal) a7) (sym (texts-append (q .resource) a9 (resourceTag ∷ k ∷ x ∷ [])) i))
 
 -- a text that exists may stand for `?`
 module _ (s : State) (k t : ℕ) (there : ltb t (count s TEXT) ≡ true) where
   abbrev refusal : ℕ → Bool → ℕ
   refusal j b = cond (not (inOrder s j)) 3 (cond (leb (getD (greatest s) j 0) (count s j) || false) 4 (cond (not (ltb k (count s KIND) && (b && true) && true && true)) 5 (cond (ltb 64 1) 6 (cond (not (not (isAction s k))) 7 0))))
 
-  fault-17 : (y : ℕ) → fault s (17 ∷ k ∷ y ∷ []) ≡ refusal 7 (eqb y mark || ltb y (count s TEXT))
+  fault-principal : (y : ℕ) → fault s (principalTag ∷ k ∷ y ∷ []) ≡ refusal PRINCIPAL (eqb y mark || ltb y (count s TEXT))
   unfolding fault found depth typed refs keyOf slotAt formOf forms ascendings
-  fault-17 y = refl
+  fault-principal y = refl
 
-  fault-19 : (y : ℕ) → fault s (19 ∷ k ∷ y ∷ []) ≡ refusal 9 (eqb y mark || ltb y (count s TEXT))
+  fault-resource : (y : ℕ) → fault s (resourceTag ∷ k ∷ y ∷ []) ≡ refusal RESOURCE (eqb y mark || ltb y (count s TEXT))
   unfolding fault found depth typed refs keyOf slotAt formOf forms ascendings
-  fault-19 y = refl
+  fault-resource y = refl
 
   may-stand : (x : ℕ) → eqb x mark ≡ true → (eqb x mark || ltb x (count s TEXT)) ≡ (eqb t mark || ltb t (count s TEXT))
   may-stand x e = ap (λ b. b || ltb x (count s TEXT)) e ∙ sym (or-right (eqb t mark) (ltb t (count s TEXT)) there)
 
-  pub fill-17 : (x : ℕ) → fault s (17 ∷ k ∷ x ∷ []) ≡ 0 → fault s (setText t (17 ∷ k ∷ x ∷ [])) ≡ 0
-  fill-17 x e = go (eqb x mark) refl
+  fill : (T j : ℕ) → ((y : ℕ) → fault s (T ∷ k ∷ y ∷ []) ≡ refusal j (eqb y mark || ltb y (count s TEXT))) → (x : ℕ) → fault s (T ∷ k ∷ x ∷ []) ≡ 0 → fault s (setText t (T ∷ k ∷ x ∷ [])) ≡ 0
+  fill T j f x e = go (eqb x mark) refl
     where
-      go : (b : Bool) → eqb x mark ≡ b → fault s (cond b (17 ∷ k ∷ t ∷ []) (17 ∷ k ∷ x ∷ [])) ≡ 0
-      go true f = fault-17 t ∙ ap (refusal 7) (sym (may-stand x f)) ∙ sym (fault-17 x) ∙ e
-      go false f = e
+      go : (b : Bool) → eqb x mark ≡ b → fault s (cond b (T ∷ k ∷ t ∷ []) (T ∷ k ∷ x ∷ [])) ≡ 0
+      go true g = f t ∙ ap (refusal j) (sym (may-stand x g)) ∙ sym (f x) ∙ e
+      go false g = e
 
-  pub fill-19 : (x : ℕ) → fault s (19 ∷ k ∷ x ∷ []) ≡ 0 → fault s (setText t (19 ∷ k ∷ x ∷ [])) ≡ 0
-  fill-19 x e = go (eqb x mark) refl
-    where
-      go : (b : Bool) → eqb x mark ≡ b → fault s (cond b (19 ∷ k ∷ t ∷ []) (19 ∷ k ∷ x ∷ [])) ≡ 0
-      go true f = fault-19 t ∙ ap (refusal 9) (sym (may-stand x f)) ∙ sym (fault-19 x) ∙ e
-      go false f = e
+  pub fill-principal : (x : ℕ) → fault s (principalTag ∷ k ∷ x ∷ []) ≡ 0 → fault s (setText t (principalTag ∷ k ∷ x ∷ [])) ≡ 0
+  fill-principal = fill principalTag PRINCIPAL fault-principal
+
+  pub fill-resource : (x : ℕ) → fault s (resourceTag ∷ k ∷ x ∷ []) ≡ 0 → fault s (setText t (resourceTag ∷ k ∷ x ∷ [])) ≡ 0
+  fill-resource = fill resourceTag RESOURCE fault-resource
 
 -- the number of lines of each key stays
 pub enough-with : (s : State) (q : Asked) → length (s .lines) ≡ noKey → enough s noKey ≡ enough (withTexts s q) noKey

@@ -1,3 +1,4 @@
 pub mod FirmBytes
+pub mod FirmCall
 pub mod FirmRead
 pub mod FirmState
