@@ -49,17 +49,17 @@ module _ (w₁ w₂ : List ℕ) where
         let x = part-cleared (take 16384 w₁) (take 16384 w₂) refl refl in
         (ap cleared (sym (take-append-drop 16384 w₁)) ∙ x .0, ap cleared (sym (take-append-drop 16384 w₂)) ∙ x .1)
 
-    pub first-cleared : (v : List ℕ) → v ≡ cleared w₁ → v ≡ worked w₁ (length w₂)
-    first-cleared v e = e ∙ all-cleared .0
+    pub now-cleared : (v : List ℕ) → v ≡ cleared w₁ → v ≡ worked w₁ (length w₂)
+    now-cleared v e = e ∙ all-cleared .0
 
-    pub second-cleared : (v : List ℕ) → v ≡ cleared w₂ → v ≡ worked w₂ (length w₁)
-    second-cleared v e = e ∙ all-cleared .1
+  pub own-short : length w₁ < 16384 → w₁ ≡ worked w₁ (length w₂)
+  own-short h = short-first (returns 0 0 0) [] w₁ w₂ [] h .first
 
-  pub first-short : length w₁ < 16384 → (w₁ ≡ worked w₁ (length w₂)) × (w₂ ≡ worked w₂ (length w₁))
-  first-short h = let x = short-first (returns 0 0 0) [] w₁ w₂ [] h in (x .first, x .second)
+  pub other-short : length w₂ < 16384 → w₁ ≡ worked w₁ (length w₂)
+  other-short h = short-second (returns 0 0 0) [] w₁ w₂ [] h .first
 
-  pub second-short : length w₂ < 16384 → (w₁ ≡ worked w₁ (length w₂)) × (w₂ ≡ worked w₂ (length w₁))
-  second-short h = let x = short-second (returns 0 0 0) [] w₁ w₂ [] h in (x .first, x .second)
+pub part-room : (w : List ℕ) → 16384 ≤ length w → 16384 ≤ length (take 16384 w)
+part-room w h = let z = part-long w h in omega (arith, z)
 
 -- parts of w₁ and w₂ were lent: what is left in the end is the same
 module _ (w₁ w₂ p₁ p₂ : List ℕ) (h₁ : 16384 ≤ length w₁) (h₂ : 16384 ≤ length w₂) (l₁ : length p₁ ≡ length (take 16384 w₁)) (l₂ : length p₂ ≡ length (take 16384 w₂)) where

@@ -12,7 +12,7 @@ use Rattle.forms.proofs.Keys.{regions-rise, regions-low, regions-high}
 use Rattle.sheet.specs.Forms.{PRINCIPAL, RESOURCE}
 use Rattle.table.specs.Layout.{TOP, heap, base, rowsOf, limit}
 use Rattle.forms.specs.Keys.{limits, bases}
-use Rattle.firm.specs.Laid.{LINE, AHEAD, moved, lineWith, Moves, Lays, Stands, Others, Laid, Roomy}
+use Rattle.firm.specs.Laid.{LINE, AHEAD, moved, lineWith, Moves, Shifted, Lays, Stands, Others, Laid, Roomy}
 
 -- ---- runs of stores by places
 
@@ -97,10 +97,9 @@ past-index : TOP < base PRINCIPAL
 unfolding base bases
 past-index = omega arith
 
--- ---- all of it
+-- ---- all rows
 
-module _ (a w₀ w₁ w₂ w₃ w₄ w₅ : List ℕ) (p q : ℕ) (long : length w₀ ≡ 16384) (c : w₁ ≡ sets w₀ 0 (part a 0 TOP)) (m : Moves a w₁ w₂) (h : w₃ ≡ sets w₂ (heap + AHEAD) (part a heap (getD a TOP 0)))
-    (x : Lays PRINCIPAL heap (lineWith (getD (rowsOf a PRINCIPAL) 0 []) p) w₃ w₄) (y : Lays RESOURCE (heap + LINE) (lineWith (getD (rowsOf a RESOURCE) 0 []) q) w₄ w₅) (r : Roomy a) where
+module _ (a w₀ w₁ w₂ w₃ : List ℕ) (long : length w₀ ≡ 16384) (c : w₁ ≡ sets w₀ 0 (part a 0 TOP)) (m : Moves a w₁ w₂) (h : w₃ ≡ sets w₂ (heap + AHEAD) (part a heap (getD a TOP 0))) (r : Roomy a) where
   abbrev top : ℕ
   top = getD a TOP 0
 
@@ -119,13 +118,9 @@ module _ (a w₀ w₁ w₂ w₃ w₄ w₅ : List ℕ) (p q : ℕ) (long : length
   size₃ : length w₃ ≡ 16384
   size₃ = ap length h ∙ length-sets (part a heap top) w₂ (heap + AHEAD) ∙ size₂
 
-  -- below the rows only the last three steps store
-  count-at : (k : ℕ) → k < TOP → getD w₅ k 0 ≡ getD a k 0
+  count-at : (k : ℕ) → k < TOP → getD w₃ k 0 ≡ getD a k 0
   count-at k lt =
-      y .index k (omega (arith, lt)) (omega (arith, lt, past-index, apart)) (omega (arith, lt, past-index, apart))
-      ∙ x .index k (omega (arith, lt)) (omega (arith, lt, past-index)) (omega (arith, lt, past-index))
-      ∙ ap (λ (w : List ℕ). getD w k 0) h ∙ sets-low (part a heap top) w₂ (heap + AHEAD) k (omega (arith, lt))
-      ∙ m .below k lt
+      ap (λ (w : List ℕ). getD w k 0) h ∙ sets-low (part a heap top) w₂ (heap + AHEAD) k (omega (arith, lt)) ∙ m .below k lt
       ∙ ap (λ (w : List ℕ). getD w k 0) c
       ∙ subst (λ (n : ℕ). getD (sets w₀ 0 (part a 0 TOP)) n 0 ≡ getD a n 0) zero
       (sets-in (part a 0 TOP) w₀ 0 (omega (arith, counts-long, long)) k (omega (arith, counts-long, lt)) ∙ part-at a 0 TOP k (omega (arith, lt)))
@@ -133,37 +128,54 @@ module _ (a w₀ w₁ w₂ w₃ w₄ w₅ : List ℕ) (p q : ℕ) (long : length
       zero : 0 + k ≡ k
       zero = omega arith
 
-  place-at : (i : ℕ) → TOP ≤ i → i < heap → Others i → getD w₅ i 0 ≡ moved (getD a i 0)
-  place-at i lo hi o =
-      y .index i hi (o .resource) (o .resource-end) ∙ x .index i hi (o .principal) (o .principal-end)
-      ∙ ap (λ (w : List ℕ). getD w i 0) h ∙ sets-low (part a heap top) w₂ (heap + AHEAD) i (omega (arith, hi)) ∙ m .moves i lo hi
+  place-at : (i : ℕ) → TOP ≤ i → i < heap → getD w₃ i 0 ≡ moved (getD a i 0)
+  place-at i lo hi = ap (λ (w : List ℕ). getD w i 0) h ∙ sets-low (part a heap top) w₂ (heap + AHEAD) i (omega (arith, hi)) ∙ m .moves i lo hi
 
-  row-at : (i : ℕ) → heap ≤ i → i < top → getD w₅ (i + AHEAD) 0 ≡ getD a i 0
+  row-at : (i : ℕ) → heap ≤ i → i < top → getD w₃ (i + AHEAD) 0 ≡ getD a i 0
   row-at i lo hi =
       let j : heap + AHEAD + (i - heap) ≡ i + AHEAD = omega (arith, lo) in
       let e : heap + (i - heap) ≡ i = omega (arith, lo) in
-      y .above (i + AHEAD) (omega (arith, lo)) ∙ x .above (i + AHEAD) (omega (arith, lo)) ∙ ap (λ (w : List ℕ). getD w (i + AHEAD) 0) h
+      ap (λ (w : List ℕ). getD w (i + AHEAD) 0) h
       ∙ subst (λ (n : ℕ). getD (sets w₂ (heap + AHEAD) (part a heap top)) n 0 ≡ getD (part a heap top) (i - heap) 0) j
       (sets-in (part a heap top) w₂ (heap + AHEAD) (omega (arith, rows-long, size₂, r .under, r .over)) (i - heap) (omega (arith, rows-long, lo, hi)))
       ∙ part-at a heap top (i - heap) (omega (arith, lo, hi)) ∙ ap (λ (n : ℕ). getD a n 0) e
 
+  shifted : Shifted a w₃
+  shifted = record { long = size₃; counts = count-at; places = place-at; rows = row-at }
+
+-- as the code shifts them
+pub shifted-by : (a w₀ w₁ w₂ w₃ l m : List ℕ) (t : ℕ) → length w₀ ≡ 16384 → l ≡ part a 0 TOP → w₁ ≡ sets w₀ 0 l → Moves a w₁ w₂ → t ≡ getD a TOP 0 → m ≡ part a heap t → w₃ ≡ sets w₂ (heap + AHEAD) m → Roomy a → Shifted a w₃
+shifted-by a w₀ w₁ w₂ w₃ l m t long el c mv et em h room = shifted a w₀ w₁ w₂ w₃ long (c ∙ ap (sets w₀ 0) el) mv (h ∙ ap (sets w₂ (heap + AHEAD)) (em ∙ ap (part a heap) et)) room
+
+-- ---- then the rows of principal and resource
+
+module _ (a w₃ w₄ w₅ : List ℕ) (p q : ℕ) (s : Shifted a w₃) (x : Lays PRINCIPAL heap (lineWith (getD (rowsOf a PRINCIPAL) 0 []) p) w₃ w₄)
+    (y : Lays RESOURCE (heap + LINE) (lineWith (getD (rowsOf a RESOURCE) 0 []) q) w₄ w₅) where
+  counts-stay : (k : ℕ) → k < TOP → getD w₅ k 0 ≡ getD a k 0
+  counts-stay k lt =
+      y .index k (omega (arith, lt)) (omega (arith, lt, past-index, apart)) (omega (arith, lt, past-index, apart))
+      ∙ x .index k (omega (arith, lt)) (omega (arith, lt, past-index)) (omega (arith, lt, past-index)) ∙ s .counts k lt
+
+  place-stays : (i : ℕ) → TOP ≤ i → i < heap → Others i → getD w₅ i 0 ≡ moved (getD a i 0)
+  place-stays i lo hi o = y .index i hi (o .resource) (o .resource-end) ∙ x .index i hi (o .principal) (o .principal-end) ∙ s .places i lo hi
+
+  row-stays : (i : ℕ) → heap ≤ i → i < getD a TOP 0 → getD w₅ (i + AHEAD) 0 ≡ getD a i 0
+  row-stays i lo hi = y .above (i + AHEAD) (omega (arith, lo)) ∙ x .above (i + AHEAD) (omega (arith, lo)) ∙ s .rows i lo hi
+
   -- the principal's row is left as it was by the resource's
   principal-kept : part w₅ heap (heap + LINE) ≡ part w₄ heap (heap + LINE)
-  principal-kept = three-same w₄ w₅ heap (omega (arith, size₄)) (omega (arith, size₅)) (λ i lo hi. y .below i lo hi)
-    where
-      size₄ : length w₄ ≡ 16384
-      size₄ = x .long ∙ size₃
+  principal-kept =
+      let size₄ : length w₄ ≡ 16384 = x .long ∙ s .long in
+      let size₅ : length w₅ ≡ 16384 = y .long ∙ size₄ in
+      three-same w₄ w₅ heap (omega (arith, size₄)) (omega (arith, size₅)) (λ i lo hi. y .below i lo hi)
 
-      size₅ : length w₅ ≡ 16384
-      size₅ = y .long ∙ size₄
-
-  pub laid : Laid a p q w₅
+  laid : Laid a p q w₅
   laid = record {
-    long = y .long ∙ x .long ∙ size₃;
-    counts = count-at;
-    top = place-at TOP (omega arith) (omega arith) (record { principal = omega (arith, past-index); principal-end = omega (arith, past-index); resource = omega (arith, past-index, apart); resource-end = omega (arith, past-index, apart) });
-    places = λ i lo hi o. place-at i (omega (arith, lo)) hi o;
-    rows = row-at;
+    long = y .long ∙ x .long ∙ s .long;
+    counts = counts-stay;
+    top = place-stays TOP (omega arith) (omega arith) (record { principal = omega (arith, past-index); principal-end = omega (arith, past-index); resource = omega (arith, past-index, apart); resource-end = omega (arith, past-index, apart) });
+    places = λ i lo hi o. place-stays i (omega (arith, lo)) hi o;
+    rows = row-stays;
     principal = record {
       first = y .index (base PRINCIPAL) (omega (arith, near-principal)) (omega (arith, apart)) (omega (arith, apart)) ∙ x .first;
       next = y .index (suc (base PRINCIPAL)) near-principal (omega (arith, apart)) (omega (arith, apart)) ∙ x .next;
@@ -171,3 +183,9 @@ module _ (a w₀ w₁ w₂ w₃ w₄ w₅ : List ℕ) (p q : ℕ) (long : length
     };
     resource = record { first = y .first; next = y .next; row = y .row };
   }
+
+-- as the code lays them
+pub laid-by : (a w₃ w₄ w₅ r r′ : List ℕ) (p q : ℕ) → (Roomy a → Shifted a w₃) → r ≡ getD (rowsOf a PRINCIPAL) 0 [] → Lays PRINCIPAL heap (lineWith r p) w₃ w₄ → r′ ≡ getD (rowsOf a RESOURCE) 0 []
+    → Lays RESOURCE (heap + LINE) (lineWith r′ q) w₄ w₅ → Roomy a → Laid a p q w₅
+laid-by a w₃ w₄ w₅ r r′ p q s er x er′ y room =
+    laid a w₃ w₄ w₅ p q (s room) (subst (λ (z : List ℕ). Lays PRINCIPAL heap (lineWith z p) w₃ w₄) er x) (subst (λ (z : List ℕ). Lays RESOURCE (heap + LINE) (lineWith z q) w₄ w₅) er′ y)

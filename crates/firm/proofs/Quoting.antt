@@ -4,8 +4,8 @@ use mathlib.Core.Bool.{Bool, true, false, cond, _&&_, _||_}
 use mathlib.Core.List.{List, [], _∷_}
 use Prim.Native.Nat.{ℕ, zero, suc, _+_, _≤_, _<_}
 use native.Mathlib.Omega.{arith}
-use native.Mathlib.Decide.{ℕ-discrete}
-use borrow.Author.Tests.{eq-eqb, ne-eqb, lt-ltb}
+use native.Mathlib.Decide.{ℕ-discrete, decLt}
+use borrow.Author.Tests.{eq-eqb, ne-eqb, lt-ltb, le-ltb}
 use lib.Dec.{ltb, eqb}
 use lib.ListN.{length, getD, drop, set, drop-of-length-le}
 use lib.Seq.{drop-cons}
@@ -43,22 +43,41 @@ length-rows : (rs : List R.Row) → length (rowsIn rs) ≡ length rs
 length-rows [] = refl
 length-rows (r ∷ rs) = ap suc (length-rows rs)
 
+less : (m n : ℕ) → ltb m n ≡ ltb (suc m) (suc n)
+less m n = go (decLt m n)
+  where
+    go : Dec (m < n) → ltb m n ≡ ltb (suc m) (suc n)
+    go (yes d) = lt-ltb m n d ∙ sym (lt-ltb (suc m) (suc n) (omega (arith, d)))
+    go (no d) = le-ltb m n (omega (arith, d)) ∙ sym (le-ltb (suc m) (suc n) (omega (arith, d)))
+
 -- ---- all rows checked, from number i on
 
 pub checking : List ℕ → ℕ → List R.Row → Q.Quote → Q.Quote
 checking a i [] f = f
 checking a i (r ∷ rs) f = checking a (suc i) rs (checkOf a f r i)
 
+-- where the first loop stands: g is what it leaves
+pub record Checking (a : List ℕ) (rows : List R.Row) (g f : Q.Quote) (i : ℕ) : Type 0 where
+  pub most : i ≤ length rows
+  pub left : checking a i (drop i rows) f ≡ g
+
+pub checking-start : (a : List ℕ) (rows : List R.Row) (f : Q.Quote) → Checking a rows (checking a 0 rows f) f 0
+checking-start a rows f = record { most = omega arith; left = refl }
+
 -- a turn
-pub checking-on : (a : List ℕ) (i : ℕ) (rows : List R.Row) (d : R.Row) (f f₁ g : Q.Quote) → i < length rows → f₁ ≡ checkOf a f (getD rows i d) i → checking a i (drop i rows) f ≡ g → checking a (i + 1) (drop (i + 1) rows) f₁ ≡ g
+checks-on : (a : List ℕ) (i : ℕ) (rows : List R.Row) (d : R.Row) (f f₁ g : Q.Quote) → i < length rows → f₁ ≡ checkOf a f (getD rows i d) i → checking a i (drop i rows) f ≡ g → checking a (i + 1) (drop (i + 1) rows) f₁ ≡ g
 unfolding checking
-checking-on a i rows d f f₁ g h e c =
+checks-on a i rows d f f₁ g h e c =
     let n : i + 1 ≡ suc i = omega arith in
     rw n (ap (checking a (suc i) (drop (suc i) rows)) e ∙ sym (ap (λ (rs : List R.Row). checking a i rs f) (drop-cons rows i d h)) ∙ c)
 
-pub checking-end : (a : List ℕ) (i : ℕ) (rows : List R.Row) (f g : Q.Quote) → length rows ≤ i → checking a i (drop i rows) f ≡ g → f ≡ g
-unfolding checking
-checking-end a i rows f g h c = sym (ap (λ (rs : List R.Row). checking a i rs f) (drop-of-length-le rows h)) ∙ c
+module _ (a : List ℕ) (rows : List R.Row) (g f : Q.Quote) (i : ℕ) (c : Checking a rows g f i) where
+  pub checking-on : (d : R.Row) (f₁ : Q.Quote) → i < length rows → f₁ ≡ checkOf a f (getD rows i d) i → Checking a rows g f₁ (i + 1)
+  checking-on d f₁ h e = record { most = omega (arith, h); left = checks-on a i rows d f f₁ g h e (c .left) }
+
+  pub checking-end : length rows ≤ i → f ≡ g
+  unfolding checking
+  checking-end h = sym (ap (λ (rs : List R.Row). checking a i rs f) (drop-of-length-le rows h)) ∙ c .left
 
 -- what was refused stays so
 refused-stays : (a : List ℕ) (i : ℕ) (rs : List R.Row) (f : Q.Quote) → (f .number ≡ 0 → ⊥) → checking a i rs f ≡ f
@@ -86,9 +105,6 @@ module _ (sheet a : List ℕ) (o : Opened sheet a) where
       go true ih =
           let e : suc i + misfit s (rowsIn rs) ≡ i + suc (misfit s (rowsIn rs)) = omega arith in
           ih ∙ ap₂ (λ (x : Bool) (n : ℕ). cond x (refusal 15 n) f) (less (misfit s (rowsIn rs)) (length rs)) e
-        where
-          less : (m n : ℕ) → ltb m n ≡ ltb (suc m) (suc n)
-          less m n = refl
       go false ih =
           let e : i + 0 ≡ i = omega arith in
           refused-stays a (suc i) rs (refusal 15 i) (λ z. absurd (omega (arith, z))) ∙ sym (ap₂ (λ (x : Bool) (n : ℕ). cond x (refusal 15 n) f) (lt-ltb 0 (suc (length rs)) (omega arith)) e)
@@ -96,12 +112,13 @@ module _ (sheet a : List ℕ) (o : Opened sheet a) where
   -- where all fit, each does
   all-fit : (rs : List R.Row) → ltb (misfit s (rowsIn rs)) (length rs) ≡ false → (d : R.Row) (j : ℕ) → j < length rs → askFits s (askedIn (getD rs j d)) ≡ true
   all-fit [] e d j h = absurd (omega arith)
-  all-fit (r ∷ rs) e d j h = go (askFits s (askedIn r)) refl e j h
+  all-fit (r ∷ rs) e d j h = go (askFits s (askedIn r)) refl e j h (λ q. all-fit rs q d)
     where
-      go : (b : Bool) → askFits s (askedIn r) ≡ b → ltb (cond b (suc (misfit s (rowsIn rs))) 0) (suc (length rs)) ≡ false → (j : ℕ) → j < suc (length rs) → askFits s (askedIn (getD (r ∷ rs) j d)) ≡ true
-      go true p q zero k = p
-      go true p q (suc j) k = all-fit rs q d j (omega (arith, k))
-      go false p q j k = absurd (let z : _≡_ {A = ℕ} 1 0 = ap (λ (x : Bool). cond x 1 0) (sym (lt-ltb 0 (suc (length rs)) (omega arith)) ∙ q) in omega (arith, z))
+      go : (b : Bool) → askFits s (askedIn r) ≡ b → ltb (cond b (suc (misfit s (rowsIn rs))) 0) (suc (length rs)) ≡ false → (j : ℕ) → j < suc (length rs)
+          → (ltb (misfit s (rowsIn rs)) (length rs) ≡ false → (j : ℕ) → j < length rs → askFits s (askedIn (getD rs j d)) ≡ true) → askFits s (askedIn (getD (r ∷ rs) j d)) ≡ true
+      go true p q zero k ih = p
+      go true p q (suc j) k ih = ih (less (misfit s (rowsIn rs)) (length rs) ∙ q) j (omega (arith, k))
+      go false p q j k ih = absurd (let z : _≡_ {A = ℕ} 1 0 = ap (λ (x : Bool). cond x 1 0) (sym (lt-ltb 0 (suc (length rs)) (omega arith)) ∙ q) in omega (arith, z))
 
 -- what the checks leave
 pub record Checked (sheet : List ℕ) (rows : List R.Row) (w₁ w₂ a : List ℕ) (f : Q.Quote) : Type 0 where
@@ -120,49 +137,48 @@ module _ (sheet : List ℕ) (rows : List R.Row) (w₁ w₂ a b : List ℕ) (f : 
   unfolding firmReturned
   many = subst (λ (n : ℕ). lentThen (length w₁) (length w₂) (S.shortThen sheet (cond (ltb 64 n) (returns 14 0 0) (S.readThen partial sheet fitted))) ≡ refusedThen (f .number) (f .line) fitted) (sym (length-rows rows)) (x .checked fitted)
 
+  -- the lowest row that does not fit
+  abbrev lowest : ℕ
+  lowest = misfit (read partial sheet .state) (rowsIn rows)
+
+  passed : f .number ≡ 0 → firmReturned (length w₁) (length w₂) sheet (rowsIn rows) ≡ cond (ltb lowest (length rows)) (returns 15 lowest 0) (returns 0 0 0)
+  passed z = many ∙ ap (λ (n : ℕ). refusedThen n (f .line) fitted) z ∙ ap (λ (n : ℕ). cond (ltb lowest n) (returns 15 lowest 0) (returns 0 0 0)) (length-rows rows)
+
+  checked-by : f .number ≡ 0 → (t : Bool) → ltb lowest (length rows) ≡ t → Checked sheet rows w₁ w₂ a (cond t (refusal 15 (0 + lowest)) f)
+  checked-by z true e = record {
+    returned = let n : lowest ≡ 0 + lowest = omega arith in passed z ∙ ap (λ (t : Bool). cond t (returns 15 lowest 0) (returns 0 0 0)) e ∙ ap (λ (k : ℕ). returns 15 k 0) n;
+    length-is = refl;
+    group-is = refl;
+    holds = λ y. absurd (omega (arith, y));
+    long = λ y. absurd (omega (arith, y));
+    fit = λ y. absurd (omega (arith, y));
+  }
+  checked-by z false e = record {
+    returned = passed z ∙ ap (λ (t : Bool). cond t (returns 15 lowest 0) (returns 0 0 0)) e ∙ (λ i. returns (sym z i) (sym (x .line-is z) i) 0);
+    length-is = x .length-is;
+    group-is = x .group-is;
+    holds = x .holds;
+    long = x .long;
+    fit = λ y d j h. all-fit sheet a (x .holds z) rows e d j h;
+  }
+
   pub checked : Checked sheet rows w₁ w₂ a (checking a 0 rows f)
   checked = go (ℕ-discrete (f .number) 0)
     where
-      refused : (n : ℕ) → f .number ≡ n → (n ≡ 0 → ⊥) → refusedThen n (f .line) fitted ≡ returns n (f .line) 0
-      refused zero e z = absurd (z refl)
-      refused (suc n) e z = refl
+      refused : (n : ℕ) → (n ≡ 0 → ⊥) → refusedThen n (f .line) fitted ≡ returns n (f .line) 0
+      refused zero z = absurd (z refl)
+      refused (suc n) z = refl
 
       go : Dec (f .number ≡ 0) → Checked sheet rows w₁ w₂ a (checking a 0 rows f)
       go (no z) = subst (Checked sheet rows w₁ w₂ a) (sym (refused-stays a 0 rows f z)) (record {
-        returned = many ∙ refused (f .number) refl z;
+        returned = many ∙ refused (f .number) z;
         length-is = x .length-is;
         group-is = x .group-is;
         holds = λ y. absurd (z y);
         long = λ y. absurd (z y);
         fit = λ y. absurd (z y);
       })
-      go (yes z) = subst (Checked sheet rows w₁ w₂ a) (sym (checked-rows sheet a (x .holds z) 0 rows f z)) (by (ltb (misfit (read partial sheet .state) (rowsIn rows)) (length rows)) refl)
-        where
-          m : ℕ
-          m = misfit (read partial sheet .state) (rowsIn rows)
-
-          passed : firmReturned (length w₁) (length w₂) sheet (rowsIn rows) ≡ cond (ltb m (length rows)) (returns 15 m 0) (returns 0 0 0)
-          unfolding m
-          passed = many ∙ ap (λ (n : ℕ). refusedThen n (f .line) fitted) z ∙ ap (λ (n : ℕ). cond (ltb m n) (returns 15 m 0) (returns 0 0 0)) (length-rows rows)
-
-          by : (t : Bool) → ltb (misfit (read partial sheet .state) (rowsIn rows)) (length rows) ≡ t → Checked sheet rows w₁ w₂ a (cond t (refusal 15 (0 + misfit (read partial sheet .state) (rowsIn rows))) f)
-          unfolding m
-          by true e = record {
-            returned = let n : m ≡ 0 + m = omega arith in passed ∙ ap (λ (t : Bool). cond t (returns 15 m 0) (returns 0 0 0)) e ∙ ap (λ (k : ℕ). returns 15 k 0) n;
-            length-is = refl;
-            group-is = refl;
-            holds = λ y. absurd (omega (arith, y));
-            long = λ y. absurd (omega (arith, y));
-            fit = λ y. absurd (omega (arith, y));
-          }
-          by false e = record {
-            returned = passed ∙ ap (λ (t : Bool). cond t (returns 15 m 0) (returns 0 0 0)) e ∙ (λ i. returns (sym z i) (sym (x .line-is z) i) 0);
-            length-is = x .length-is;
-            group-is = x .group-is;
-            holds = x .holds;
-            long = x .long;
-            fit = λ y d j h. all-fit sheet a (x .holds z) rows e d j h;
-          }
+      go (yes z) = subst (Checked sheet rows w₁ w₂ a) (sym (checked-rows sheet a (x .holds z) 0 rows f z)) (checked-by z (ltb lowest (length rows)) refl)
 
 -- ---- all rows decided
 
@@ -198,13 +214,13 @@ done-all : (sheet : List ℕ) (n j : ℕ) (rs : List R.Row) → length rs ≤ j 
 unfolding doneTo
 done-all sheet n zero [] h = go (eqb n 0)
   where
-    go : (b : Bool) → [] ≡ cond b [] []
+    go : (b : Bool) → _≡_ {A = List R.Row} [] (cond b [] [])
     go true = refl
     go false = refl
 done-all sheet n zero (r ∷ rs) h = absurd (omega arith)
 done-all sheet n (suc j) [] h = go (eqb n 0)
   where
-    go : (b : Bool) → [] ≡ cond b [] []
+    go : (b : Bool) → _≡_ {A = List R.Row} [] (cond b [] [])
     go true = refl
     go false = refl
 done-all sheet n (suc j) (r ∷ rs) h = ap (λ (l : List R.Row). outcome sheet n r ∷ l) (done-all sheet n j rs (omega arith)) ∙ go (eqb n 0)
@@ -317,7 +333,7 @@ withGroup f g = record { number = f .number; line = f .line; length = f .length;
 
 group-from : (sheet : List ℕ) (n : ℕ) → n ≡ 0 → (f : Q.Quote) → f .number ≡ 0 → (g : Decision) → f .group ≡ codeOf g → (rs : List R.Row)
     → joinsAll sheet n f rs ≡ withGroup f (codeOf (both g (anyRow isDeny (filledRows sheet (rowsIn rs))) (anyRow isUndecided (filledRows sheet (rowsIn rs)))))
-unfolding joinsAll joinOf
+unfolding joinsAll joinOf both
 group-from sheet n zn f z allow e [] = λ i. withGroup f (e i)
 group-from sheet n zn f z deny e [] = λ i. withGroup f (e i)
 group-from sheet n zn f z undecided e [] = λ i. withGroup f (e i)
@@ -360,42 +376,59 @@ module _ (sheet : List ℕ) (rows₀ : List R.Row) (w₁ w₂ a : List ℕ) (f�
 
   -- the rows joined to what the checks left
   pub record Joined (f : Q.Quote) : Type 0 where
-    pub number : f .number ≡ f₁ .number
-    pub line : f .line ≡ f₁ .line
-    pub length : f .length ≡ 0
-    pub group : f .group ≡ codeOf (firmGroup (length w₁) (length w₂) sheet (rowsIn rows₀))
+    pub number-as : f .number ≡ f₁ .number
+    pub line-as : f .line ≡ f₁ .line
+    pub length-as : f .length ≡ 0
+    pub group-as : f .group ≡ codeOf (firmGroup (length w₁) (length w₂) sheet (rowsIn rows₀))
 
   group-of : (t : Bool) → eqb (f₁ .number) 0 ≡ t → firmGroup (length w₁) (length w₂) sheet (rowsIn rows₀) ≡ cond t (group (filledRows sheet (rowsIn rows₀))) undecided
   unfolding firmGroup
   group-of t e = ap (λ (x : Bool). cond x (group (filledRows sheet (rowsIn rows₀))) undecided) (ap (λ (n : ℕ). eqb n 0) (sym number-is) ∙ e)
 
   joined-all : Joined (joinsAll sheet (f₁ .number) f₁ rows₀)
+  unfolding both group
   joined-all = go (ℕ-discrete (f₁ .number) 0)
     where
       go : Dec (f₁ .number ≡ 0) → Joined (joinsAll sheet (f₁ .number) f₁ rows₀)
-      unfolding both group
       go (yes z) = subst Joined (sym (group-from sheet (f₁ .number) z f₁ z allow (c .group-is ∙ ap (λ (t : Bool). cond t 0 2) (eq-eqb (f₁ .number) 0 z)) rows₀))
-          (record { number = refl; line = refl; length = c .length-is; group = ap codeOf (sym (group-of true (eq-eqb (f₁ .number) 0 z))) })
+          (record { number-as = refl; line-as = refl; length-as = c .length-is; group-as = ap codeOf (sym (group-of true (eq-eqb (f₁ .number) 0 z))) })
       go (no z) = subst Joined (sym (refused-joins sheet (f₁ .number) f₁ z rows₀))
-          (record { number = refl; line = refl; length = c .length-is; group = c .group-is ∙ ap (λ (t : Bool). cond t 0 2) (ne-eqb (f₁ .number) 0 z) ∙ ap codeOf (sym (group-of false (ne-eqb (f₁ .number) 0 z))) })
+          (record { number-as = refl; line-as = refl; length-as = c .length-is; group-as = c .group-is ∙ ap (λ (t : Bool). cond t 0 2) (ne-eqb (f₁ .number) 0 z) ∙ ap codeOf (sym (group-of false (ne-eqb (f₁ .number) 0 z))) })
 
   pub quotes : (rows : List R.Row) (f : Q.Quote) → rows ≡ cond (eqb (f₁ .number) 0) (filledAll sheet rows₀) rows₀ → f ≡ joinsAll sheet (f₁ .number) f₁ rows₀
       → (v₁ v₂ : List ℕ) → v₁ ≡ worked w₁ (length w₂) → v₂ ≡ worked w₂ (length w₁) → Quotes sheet rows₀ w₁ w₂ f rows v₁ v₂
   unfolding firmRows
   quotes rows f er ef v₁ v₂ e₁ e₂ =
       let j : Joined f = subst Joined (sym ef) joined-all in
-      let t : eqb (f .number) 0 ≡ eqb (back .number) 0 = ap (λ (n : ℕ). eqb n 0) (j .number ∙ number-is) in
-      let rr : rows ≡ cond (eqb (f .number) 0) (filledAll sheet rows₀) rows₀ = er ∙ ap (λ (n : ℕ). cond (eqb n 0) (filledAll sheet rows₀) rows₀) (sym (j .number)) in
+      let t : eqb (f .number) 0 ≡ eqb (back .number) 0 = ap (λ (n : ℕ). eqb n 0) (j .number-as ∙ number-is) in
+      let rr : rows ≡ cond (eqb (f .number) 0) (filledAll sheet rows₀) rows₀ = er ∙ ap (λ (n : ℕ). cond (eqb n 0) (filledAll sheet rows₀) rows₀) (sym (j .number-as)) in
       record {
         quoted = record {
-          number-is = j .number ∙ number-is;
-          line-is = j .line ∙ sym (ap (λ (r : Returned). r .line) (c .returned));
-          length-is = j .length ∙ sym (ap (λ (r : Returned). r .length) (c .returned));
-          group-is = ap decisionIn (j .group) ∙ decision-back (firmGroup (length w₁) (length w₂) sheet (rowsIn rows₀));
+          number-is = j .number-as ∙ number-is;
+          line-is = j .line-as ∙ sym (ap (λ (r : Returned). r .line) (c .returned));
+          length-is = j .length-as ∙ sym (ap (λ (r : Returned). r .length) (c .returned));
+          group-is = ap decisionIn (j .group-as) ∙ decision-back (firmGroup (length w₁) (length w₂) sheet (rowsIn rows₀));
           rows-are = ap rowsIn rr ∙ rows-outcome sheet (eqb (f .number) 0) rows₀ ∙ ap (λ (x : Bool). cond x (filledRows sheet (rowsIn rows₀)) (rowsIn rows₀)) t;
           first = e₁;
           second = e₂;
         };
-        group-is = j .group;
+        group-is = j .group-as;
         rows-are = rr;
       }
+
+-- ---- as the code goes through it: the checks left f₁, then the rows were decided up to j
+
+module _ (sheet : List ℕ) (rows₀ : List R.Row) (w₁ w₂ a b₁ : List ℕ) (f₀ : Q.Quote) (g : Begins (length rows₀) sheet w₁ w₂ f₀ a b₁) (l₁ : length a ≡ length w₁) (l₂ : length b₁ ≡ length w₂)
+    (f₁ : Q.Quote) (i₁ : ℕ) (k : Checking a rows₀ (checking a 0 rows₀ f₀) f₁ i₁) (e₁ : length rows₀ ≤ i₁) where
+  after : Checked sheet rows₀ w₁ w₂ a f₁
+  after = subst (Checked sheet rows₀ w₁ w₂ a) (sym (checking-end a rows₀ (checking a 0 rows₀ f₀) f₁ i₁ k e₁)) (checked sheet rows₀ w₁ w₂ a b₁ f₀ g)
+
+  module _ (rows : List R.Row) (b : List ℕ) (f : Q.Quote) (j : ℕ) (i : Deciding sheet rows₀ a b₁ f₁ rows b f j) where
+    pub decided-on : (d : R.Row) → j < length rows₀ → (r′ : R.Row) (b′ : List ℕ) → length b′ ≡ length b → Singles sheet a b f (getD rows j d) r′ b′ → (f′ : Q.Quote) → f′ ≡ joinOf f r′ → Deciding sheet rows₀ a b₁ f₁ (set rows j r′) b′ f′ (j + 1)
+    decided-on d h r′ b′ lb x f′ e = deciding-on sheet rows₀ w₁ w₂ a b₁ f₁ after l₂ rows b f j i d h r′ b′ lb x f′ e
+
+    pub decided-all : length rows₀ ≤ j → (x : Q.Quote) → x ≡ f → (v₁ v₂ : List ℕ) → v₁ ≡ worked a (length b) → v₂ ≡ worked b (length a) → Quotes sheet rows₀ w₁ w₂ x rows v₁ v₂
+    decided-all h x ex v₁ v₂ p q =
+        let z = deciding-end sheet rows₀ w₁ w₂ a b₁ f₁ after l₂ rows b f j i h in
+        quotes sheet rows₀ w₁ w₂ a f₁ after rows x (z .0) (ex ∙ z .1) v₁ v₂
+        (p ∙ ap (worked a) (i .words ∙ l₂) ∙ g .first) (q ∙ i .work ∙ ap (worked b₁) l₁ ∙ g .second)

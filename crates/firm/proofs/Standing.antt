@@ -8,10 +8,9 @@ use lib.ListN.{length, getD}
 use lib.Seq.{ext-getD}
 use Rattle.words.specs.Log.{part, room}
 use Rattle.words.proofs.Stores.{part-at, length-part}
-use Rattle.forms.specs.Keys.{limits}
 use Rattle.forms.proofs.Keys.{regions-rise, regions-low, regions-high}
 use Rattle.sheet.specs.Forms.{PRINCIPAL, RESOURCE, DAY}
-use Rattle.table.specs.Layout.{TOP, MADE, heap, base, rowAt, rowsOf, limit, Last, Sound}
+use Rattle.table.specs.Layout.{TOP, heap, base, rowAt, rowsOf, limits, limit, Last, Sound}
 use Rattle.table.proofs.Rows.{count-rows, row-some}
 use Rattle.firm.specs.Laid.{LINE, AHEAD, moved, lineWith, Stands, Others, Laid}
 use Rattle.firm.proofs.Copying.{moved-far, moved-near}

@@ -32,6 +32,13 @@ pub record Moves (a w w′ : List ℕ) : Type 0 where
   pub below : (i : ℕ) → i < TOP → getD w′ i 0 ≡ getD w i 0
   pub above : (i : ℕ) → heap ≤ i → getD w′ i 0 ≡ getD w i 0
 
+-- the words w hold the rows of a, so many words further on
+pub record Shifted (a w : List ℕ) : Type 0 where
+  pub long : length w ≡ room
+  pub counts : (k : ℕ) → k < TOP → getD w k 0 ≡ getD a k 0
+  pub places : (i : ℕ) → TOP ≤ i → i < heap → getD w i 0 ≡ moved (getD a i 0)
+  pub rows : (i : ℕ) → heap ≤ i → i < getD a TOP 0 → getD w (i + AHEAD) 0 ≡ getD a i 0
+
 -- from w to w′ row r became the first row of key k, from place s on
 pub record Lays (k s : ℕ) (r w w′ : List ℕ) : Type 0 where
   pub long : length w′ ≡ length w

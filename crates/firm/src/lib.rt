@@ -28,8 +28,9 @@ ghost use lib.Seq.{sets};
 ghost use Rattle.sheet.specs.Call.{worked};
 ghost use Rattle.table.specs.Layout.{heap, base};
 ghost use Rattle.response.specs.Verdicts.{decisionOf};
-ghost use Rattle.firm.specs.Laid.{moved, lineWith, Moves, Lays, Laid, Roomy};
+ghost use Rattle.firm.specs.Laid.{moved, lineWith, Moves, Shifted, Lays, Laid, Roomy};
 ghost use Rattle.firm.specs.Parts.{codeOf, joined, Decides, textIn, askIn, refusal, Begins, checkOf, Singles, joinOf};
+ghost use Rattle.firm.specs.Promise.{Quotes};
 
 // ---- one row
 
@@ -97,14 +98,22 @@ fn lay_line(own: &mut [u32], key: usize, start: u32, line: &[u32], text: u32)
     put(own, place + 1, start + LINE);
 }
 
+// All rows of a sheet in words of their own, AHEAD words further on.
+fn shift(rows: &[u32], own: &mut [u32])
+    requires { ⌜ (16384 ≤ length (now rows)) × (length (now own) ≡ 16384) ⌝ }
+    ensures { λ _. ⌜ (Roomy (now (rows .entry)) → Shifted (now (rows .entry)) (now (own .exit))) ⌝ }
+{
+    copy(own, 0, cut(rows, 0, TOP));
+    move_places(rows, own);
+    copy(own, HEAP + AHEAD, cut(rows, HEAP, read(rows, TOP) as usize));
+}
+
 // The rows of a sheet in words of their own, with these texts of principal and resource.
 fn lay(rows: &[u32], own: &mut [u32], principal: u32, resource: u32)
     requires { ⌜ (16384 ≤ length (now rows)) × (length (now own) ≡ 16384) ⌝ }
     ensures { λ _. ⌜ (Roomy (now (rows .entry)) → Laid (now (rows .entry)) principal resource (now (own .exit))) ⌝ }
 {
-    copy(own, 0, cut(rows, 0, TOP));
-    move_places(rows, own);
-    copy(own, HEAP + AHEAD, cut(rows, HEAP, read(rows, TOP) as usize));
+    shift(rows, own);
     let start = HEAP as u32;
     lay_line(own, PRINCIPAL, start, row(rows, PRINCIPAL, 0), principal);
     lay_line(own, RESOURCE, start + LINE, row(rows, RESOURCE, 0), resource);
@@ -174,7 +183,7 @@ fn refused(number: u32, line: usize) -> Quote
 const MOST_ROWS: usize = 64;
 
 // The sheet opened for so many rows.
-pub fn begin(rows: usize, sheet: &[u8], work1: &mut [u32], work2: &mut [u32]) -> Quote
+fn begin(rows: usize, sheet: &[u8], work1: &mut [u32], work2: &mut [u32]) -> Quote
     ensures { λ f. ⌜ Begins rows (now (sheet .entry)) (now (work1 .entry)) (now (work2 .entry)) f (now (work1 .exit)) (now (work2 .exit)) ⌝ }
 {
     if work1.len() < ROOM {
@@ -227,7 +236,7 @@ fn fits(rows: &[u32], principal: u32, resource: u32) -> bool
 }
 
 // Row `i` checked, where nothing was refused before.
-pub fn check(f: Quote, r: Row, i: usize, work1: &[u32]) -> Quote
+fn check(f: Quote, r: Row, i: usize, work1: &[u32]) -> Quote
     ensures { λ x. ⌜ x ≡ checkOf (now (work1 .entry)) f r i ⌝ }
 {
     if f.number != 0 {
@@ -240,7 +249,7 @@ pub fn check(f: Quote, r: Row, i: usize, work1: &[u32]) -> Quote
 }
 
 // A row decided, where nothing was refused.
-pub fn single(f: Quote, r: Row, sheet: &[u8], work1: &[u32], work2: &mut [u32]) -> Row
+fn single(f: Quote, r: Row, sheet: &[u8], work1: &[u32], work2: &mut [u32]) -> Row
     ensures { λ x. ⌜ Singles (now (sheet .entry)) (now (work1 .entry)) (now (work2 .entry)) f r x (now (work2 .exit)) ⌝ }
 {
     if f.number != 0 {
@@ -280,7 +289,7 @@ fn join_group(group: u32, decision: u32) -> u32
 }
 
 // A row joins the group, where nothing was refused.
-pub fn join(f: Quote, r: Row) -> Quote
+fn join(f: Quote, r: Row) -> Quote
     ensures { λ x. ⌜ x ≡ joinOf f r ⌝ }
 {
     if f.number != 0 {
@@ -295,7 +304,7 @@ pub fn join(f: Quote, r: Row) -> Quote
 }
 
 // What was used of the work slices is cleared.
-pub fn finish(f: Quote, work1: &mut [u32], work2: &mut [u32]) -> Quote
+fn finish(f: Quote, work1: &mut [u32], work2: &mut [u32]) -> Quote
     ensures is { λ x. ⌜ x ≡ f ⌝ }
     ensures first { λ _. ⌜ now (work1 .exit) ≡ worked (now (work1 .entry)) (length (now (work2 .entry))) ⌝ }
     ensures second { λ _. ⌜ now (work2 .exit) ≡ worked (now (work2 .entry)) (length (now (work1 .entry))) ⌝ }
@@ -309,4 +318,27 @@ pub fn finish(f: Quote, work1: &mut [u32], work2: &mut [u32]) -> Quote
     clear(work1);
     clear(work2);
     f
+}
+
+// ---- the call
+
+// For each row the decision on the sheet with its two texts filled in, and the group's decision; where the call is refused no row changes.
+pub fn firm(rows: &mut [Row], sheet: &[u8], work1: &mut [u32], work2: &mut [u32]) -> Quote
+    ensures { λ f. ⌜ Quotes (now (sheet .entry)) (now (rows .entry)) (now (work1 .entry)) (now (work2 .entry)) f (now (rows .exit)) (now (work1 .exit)) (now (work2 .exit)) ⌝ }
+{
+    let n = rows.len();
+    let mut f = begin(n, sheet, work1, work2);
+    let mut i = 0;
+    while i < n {
+        f = check(f, rows[i], i, work1);
+        i += 1;
+    }
+    let mut j = 0;
+    while j < n {
+        let r = single(f, rows[j], sheet, work1, work2);
+        f = join(f, r);
+        rows[j] = r;
+        j += 1;
+    }
+    finish(f, work1, work2)
 }
