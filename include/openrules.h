@@ -11,6 +11,8 @@
  *   10, 0, needed     the answer buffer is shorter than the answer; one of OPENRULES_ANSWER bytes never is
  *   11, line, 0       openrules_finish alone: the complete sheet does not agree with the partial one, first at that line of it, or at the
  *                     line after its last where one is lacking
+ *   14, 0, 0          openrules_firm alone: over OPENRULES_ROWS rows
+ *   15, place, 0      openrules_firm alone: a text of the row at that place, counted from 0, does not exist or contradicts a known one
  *
  * An answer begins with its decision, eight counts and `why=`: the text number of the id of the first policy, in the sheet's order, that gave the
  * decision, a true forbid for a deny, a true permit for an allow; `none` for open and for a deny without a true forbid. A partial sheet does not
@@ -49,6 +51,14 @@ extern "C" {
 /* The bytes of an answer buffer that is long enough for every sheet. */
 #define OPENRULES_ANSWER 1048576
 
+/* The rows that a call of openrules_firm may have. */
+#define OPENRULES_ROWS 64
+
+/* A decision as a number. */
+#define OPENRULES_ALLOW 0
+#define OPENRULES_DENY 1
+#define OPENRULES_OPEN 2
+
 /* The answer to a sheet that begins with the line `sheet=partial`. */
 uint32_t openrules_partial(const uint8_t *sheet, size_t sheet_len,
                            uint32_t *first, size_t first_len,
@@ -74,6 +84,25 @@ uint32_t openrules_finish(const uint8_t *partial, size_t partial_len,
                           uint32_t *second, size_t second_len,
                           uint8_t *out, size_t out_len,
                           size_t *line, size_t *length);
+
+/* A row of a firm: the numbers of two texts of the sheet, and the decision, which the call fills. */
+typedef struct openrules_row {
+    uint32_t principal;
+    uint32_t resource;
+    uint32_t decision;
+} openrules_row;
+
+/*
+ * For each row the decision on the partial sheet with the row's texts for principal and resource, and the group's: deny if any row denies, else open
+ * if any row is open, else allow; no rows gives allow. A row repeats a text that the sheet knows. The sheet is read once for all rows. 1, 2, 14, then
+ * the sheet's lines, then 15 of the lowest row; where the call is refused no row changes and the group is open. `*length` is always 0: no answer
+ * buffer is lent. It takes some 64 KB of stack beside what the other calls take.
+ */
+uint32_t openrules_firm(openrules_row *rows, size_t rows_len,
+                        const uint8_t *sheet, size_t sheet_len,
+                        uint32_t *first, size_t first_len,
+                        uint32_t *second, size_t second_len,
+                        size_t *line, size_t *length, uint32_t *group);
 
 #ifdef __cplusplus
 }

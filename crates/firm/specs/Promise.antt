@@ -11,6 +11,10 @@ use Rattle.firm.specs.declared.Row as R
 use Rattle.firm.specs.declared.Quote as Q
 use Rattle.firm.specs.Parts.{codeOf, decisionIn, filledAll, rowsIn}
 
+-- what is returned, field by field
+abbrev pub quote : ℕ → ℕ → ℕ → ℕ → Q.Quote
+quote n k l g = record { number = n; line = k; length = l; group = g }
+
 pub record Quotes (sheet : List ℕ) (rows : List R.Row) (w₁ w₂ : List ℕ) (f : Q.Quote) (rows′ : List R.Row) (w₁′ w₂′ : List ℕ) : Type 0 where
   -- all is as the definition says
   pub quoted : Quoted sheet (rowsIn rows) w₁ w₂ (f .number) (f .line) (f .length) (decisionIn (f .group)) (rowsIn rows′) w₁′ w₂′

@@ -3,9 +3,12 @@
 use authorizer::complete;
 use authorizer::partial;
 use finish::finish;
+use firm::Row;
+use firm::firm;
 ghost use Rattle.sheet.specs.Forms.{partial, complete};
 ghost use Rattle.authorizer.specs.Called.{Called};
 ghost use Rattle.finished.specs.Promise.{Finished};
+ghost use Rattle.firm.specs.Promise.{quote, Quotes};
 
 #[no_mangle]
 pub extern "C" fn openrules_partial(
@@ -57,4 +60,23 @@ pub extern "C" fn openrules_finish(
     *line = r.line;
     *length = r.length;
     r.number
+}
+
+#[no_mangle]
+pub extern "C" fn openrules_firm(
+    rows: &mut [Row],
+    sheet: &[u8],
+    first: &mut [u32],
+    second: &mut [u32],
+    line: &mut usize,
+    length: &mut usize,
+    group: &mut u32,
+) -> u32
+    ensures { λ r. ⌜ Quotes (now (sheet .entry)) (now (rows .entry)) (now (first .entry)) (now (second .entry)) (quote r (now (line .exit)) (now (length .exit)) (now (group .exit))) (now (rows .exit)) (now (first .exit)) (now (second .exit)) ⌝ }
+{
+    let f = firm(rows, sheet, first, second);
+    *line = f.line;
+    *length = f.length;
+    *group = f.group;
+    f.number
 }

@@ -122,7 +122,9 @@ returns c =
     let l = c .before .before .before .before .before .before .before .before .before .before .loop in
     let k = c .before .before .before .before .before .before .before .before .loop2 in
     let e = c .before .before .before .before .finish in
-    decided-all _ _ _ _ _ _ _ (g .ensures) (g .kept .1 .1 .0) (g .kept .1 .1 .1 .0) _ _ (l .inv) (c .before .before .before .before .before .before .before .before .before .loop-test .left) _ _ _ _ (k .inv) (c .before .before .before .before .before .before .before .loop2-test .left) _ (e .ensures .0) _ _ (e .ensures .1) (e .ensures .2)
+    let s = c .before .before .before .before .before .before .before .before .before .before .before .before .before .before .before .before .before .before .before .before .before in
+    decided-all (s .args .sheet .now) (s .args .rows .now) (s .args .work1 .now) (s .args .work2 .now) (g .last .1 .1 .0) (g .last .1 .1 .1 .0) (g .result) (g .ensures) (g .kept .1 .1 .0) (g .kept .1 .1 .1 .0)
+    (l .f) (l .i) (l .inv) (c .before .before .before .before .before .before .before .before .before .loop-test .left) (k .rows) (k .work2) (k .f) (k .j) (k .inv) (c .before .before .before .before .before .before .before .loop2-test .left) (e .result) (e .ensures .0) (e .last .1 .0) (e .last .1 .1 .0) (e .ensures .1 .0) (e .ensures .1 .1)
 
 pub firm-spec : {M : Type 1} → statement M
 unfolding Code.routine tablesOf

@@ -1,5 +1,5 @@
--- The derivation of `firm` by the rules of the borrow checker: what it prints for the same function over `&mut [[u32; 3]]`, with the struct in the place of
--- the array. Written by scripts/struct_slices.py.
+-- The derivation of `firm` by the rules of the borrow checker: what it prints for the same function over `&mut [[u32; 3]]`, with the struct in the
+-- place of the array. Written by scripts/struct_slices.py.
 use Prim.Native.Nat
 use Rattle.firm.proofs.Quote
 use Rattle.firm.proofs.Quote.Laws
@@ -54,11 +54,11 @@ use denote.RattleType
 use denote.Memory
 use Rattle.firm.proofs.Row as S
 use Rattle.firm.proofs.Row.Laws as SL
-use Rattle.firm.proofs.begin.Kinds as begin-kinds
-use Rattle.firm.proofs.check.Kinds as check-kinds
-use Rattle.firm.proofs.single.Kinds as single-kinds
-use Rattle.firm.proofs.join.Kinds as join-kinds
-use Rattle.firm.proofs.finish.Kinds as finish-kinds
+use Rattle.firm.proofs.begin.Kinds as kinds·0
+use Rattle.firm.proofs.check.Kinds as kinds·1
+use Rattle.firm.proofs.single.Kinds as kinds·2
+use Rattle.firm.proofs.join.Kinds as kinds·3
+use Rattle.firm.proofs.finish.Kinds as kinds·4
 use Rattle.firm.specs.declared.Row as D
 
 -- the struct, its type by value and behind the reference
@@ -88,34 +88,34 @@ abbrev pub m : Nat.ℕ
 m = 7
 
 abbrev pub ps·0 : List.List (Kinds.PK 3)
-ps·0 = begin-kinds.ps
+ps·0 = kinds·0.ps
 
 abbrev pub r·0 : Kinds.RK 3
-r·0 = begin-kinds.r
+r·0 = kinds·0.r
 
 abbrev pub ps·1 : List.List (Kinds.PK 1)
-ps·1 = check-kinds.ps
+ps·1 = kinds·1.ps
 
 abbrev pub r·1 : Kinds.RK 1
-r·1 = check-kinds.r
+r·1 = kinds·1.r
 
 abbrev pub ps·2 : List.List (Kinds.PK 3)
-ps·2 = single-kinds.ps
+ps·2 = kinds·2.ps
 
 abbrev pub r·2 : Kinds.RK 3
-r·2 = single-kinds.r
+r·2 = kinds·2.r
 
 abbrev pub ps·3 : List.List (Kinds.PK 0)
-ps·3 = join-kinds.ps
+ps·3 = kinds·3.ps
 
 abbrev pub r·3 : Kinds.RK 0
-r·3 = join-kinds.r
+r·3 = kinds·3.r
 
 abbrev pub ps·4 : List.List (Kinds.PK 2)
-ps·4 = finish-kinds.ps
+ps·4 = kinds·4.ps
 
 abbrev pub r·4 : Kinds.RK 2
-r·4 = finish-kinds.r
+r·4 = kinds·4.r
 
 abbrev pub hs : List.List Syntax.Home
 hs = List._∷_ Syntax.valueLocal (List._∷_ Syntax.valueLocal (List._∷_ Syntax.valueLocal (List._∷_ Syntax.valueLocal (List._∷_ Syntax.valueLocal (List._∷_ Syntax.valueLocal (List._∷_ Syntax.valueLocal (List._∷_ Syntax.valueLocal (List._∷_ Syntax.valueLocal (List._∷_ Syntax.valueLocal (List._∷_ Syntax.valueLocal (List._∷_ Syntax.valueLocal (List._∷_ Syntax.valueLocal (List._∷_ Syntax.valueLocal (List._∷_ Syntax.valueLocal (List._∷_ Syntax.valueLocal (List._∷_ Syntax.valueLocal (List._∷_ Syntax.valueLocal (List._∷_ Syntax.valueLocal (List._∷_ Syntax.valueLocal (List._∷_ Syntax.valueLocal (List._∷_ Syntax.valueLocal (List._∷_ Syntax.valueLocal (List._∷_ Syntax.valueLocal (List._∷_ Syntax.valueLocal (List._∷_ Syntax.valueLocal (List._∷_ Syntax.valueLocal (List._∷_ Syntax.valueLocal (List._∷_ Syntax.valueLocal (List._∷_ Syntax.valueLocal (List._∷_ Syntax.valueLocal (List._∷_ Syntax.valueLocal (List._∷_ Syntax.valueLocal List.[]))))))))))))))))))))))))))))))))
