@@ -44,27 +44,30 @@ def joined(body):
 
 
 text = joined(body)
+ROWS = "Rows" if "use borrow.Table.Rows" in uses else "Rows'"
 WORD = r"\(Referent\.rtF \(Referent\.fInt Syntax\.w32\)\)"
 ARRAY = r"Array'?\.Array " + WORD + " 3"
 TYPE = r"Syntax\.tyArray \(Syntax\.tyInt Syntax\.w32\) 3"
 REFERENCE = r"Syntax\.tyRef \(Syntax\.named 0\) Syntax\.mut \(" + TYPE + r"\)"
+LENT = r"Syntax\.tyRef Syntax\.erased Syntax\.mut \(" + TYPE + r"\)"
 COPY = "Copies.cStruct S.the-type SL.the-laws SL.the-copy .copy"
 for old, new in [
     (r"\(" + ARRAY + r"\)", "T"),
     (ARRAY, "T"),
     (r"\(" + REFERENCE + r"\)", "τ"),
     (REFERENCE, "τ"),
+    (LENT, "Syntax.tyRef Syntax.erased Syntax.mut ϱ"),
     (r"\(" + TYPE + r"\)", "σ"),
     (TYPE, "σ"),
-    (r"\(Rows\.arrF " + WORD + r" 3 0\)", "(Rows'.whole T)"),
-    (r"Rows\.arrF " + WORD + r" 3 0", "Rows'.whole T"),
+    (r"\(Rows\.arrF " + WORD + r" 3 0\)", "(" + ROWS + ".whole T)"),
+    (r"Rows\.arrF " + WORD + r" 3 0", ROWS + ".whole T"),
     (r"Init\.room-arr 𝓤 H A W " + WORD + r" 3 0 3 Path'\.refl", "Local.room-whole 𝓤 H A W T σ Path'.refl"),
     (r"Copies\.cArr " + WORD + r" \(Copies\.cRf \(Referent\.fInt Syntax\.w32\)\) 3 \.copy", COPY),
     (r"Whole\.mem-arr 𝓤 H A W " + WORD + r" 3 ρ", "Local.mem-whole 𝓤 H A W T ρ"),
     (r"Whole\.arr-mem 𝓤 H A W " + WORD + r" 3 tt ρ", "Local.whole-mem 𝓤 H A W T ρ"),
     (r"List\.\[\] \(λ x\. Unit\)", "nothing (λ x. Unit)"),
     (r"Array\.arr-yields 𝓤 H A W \(Array\.eInt Syntax\.w32\) \(Array\.eInt-laws Syntax\.w32\) 3",
-     "Yields.yields-copy 𝓤 H A W (λ ρ. Unit) T Path'.refl (" + COPY + " 𝓤 H A W) (Rows'.whole T) (λ x. x) (λ x. x) (λ ρ told. Local.mem-whole 𝓤 H A W T ρ) (λ ρ told. Local.whole-mem 𝓤 H A W T ρ)"),
+     "Yields.yields-copy 𝓤 H A W (λ ρ. Unit) T Path'.refl (" + COPY + " 𝓤 H A W) (" + ROWS + ".whole T) (λ x. x) (λ x. x) (λ ρ told. Local.mem-whole 𝓤 H A W T ρ) (λ ρ told. Local.whole-mem 𝓤 H A W T ρ)"),
 ]:
     text = re.sub(old, new, text)
 text = re.sub(r"λ ([a-z]+)\. Unit\b(?! \{)", r"λ \1. Unit {0}", text)
@@ -77,7 +80,7 @@ for number, module in enumerate(kinds):
         text = re.sub(r"(abbrev pub %s·%d : [^\n]*\n)%s·%d = [^\n]*" % (kind, number, kind, number), r"\1%s·%d = kinds·%d.%s" % (kind, number, number, kind), text)
 gone = re.compile(r"^use (borrow\.Rule\.Array\.(Rows|Init|Whole)|denote\.Array|borrow\.Kind\.Array)\b")
 uses = [use for use in uses if not gone.match(use)]
-for module in ["borrow.Rule.Local", "borrow.Rule.Yields", "borrow.Table.Copies", "borrow.Table.Rows as Rows'"]:
+for module in ["borrow.Rule.Local", "borrow.Rule.Yields", "borrow.Table.Copies", "borrow.Table.Rows" + ("" if ROWS == "Rows" else " as " + ROWS)]:
     if "use " + module not in uses:
         uses.append("use " + module)
 head = """-- The derivation of `%s` by the rules of the borrow checker: what it prints for the same function over `&mut [[u32; 3]]`, with the struct in the
@@ -89,15 +92,18 @@ use %s as S
 use %s.Laws as SL
 %suse %s as D
 
--- the struct, its type by value and behind the reference
+-- the struct, its type by value and behind a reference, and the reference
 abbrev pub T : RattleType.RattleType
 T = S.the-row
 
 abbrev pub σ : Syntax.Ty
 σ = SL.mir
 
+abbrev pub ϱ : Syntax.Ty
+ϱ = Memory.pointee (T .written)
+
 abbrev pub τ : Syntax.Ty
-τ = Syntax.tyRef (Syntax.named 0) Syntax.mut (Memory.pointee (T .written))
+τ = Syntax.tyRef (Syntax.named 0) Syntax.mut ϱ
 
 -- what is read past the end
 abbrev pub nothing : D.%s

@@ -61,15 +61,18 @@ use Rattle.firm.proofs.join.Kinds as kinds·3
 use Rattle.firm.proofs.finish.Kinds as kinds·4
 use Rattle.firm.specs.declared.Row as D
 
--- the struct, its type by value and behind the reference
+-- the struct, its type by value and behind a reference, and the reference
 abbrev pub T : RattleType.RattleType
 T = S.the-row
 
 abbrev pub σ : Syntax.Ty
 σ = SL.mir
 
+abbrev pub ϱ : Syntax.Ty
+ϱ = Memory.pointee (T .written)
+
 abbrev pub τ : Syntax.Ty
-τ = Syntax.tyRef (Syntax.named 0) Syntax.mut (Memory.pointee (T .written))
+τ = Syntax.tyRef (Syntax.named 0) Syntax.mut ϱ
 
 -- what is read past the end
 abbrev pub nothing : D.Row

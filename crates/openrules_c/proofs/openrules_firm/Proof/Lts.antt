@@ -46,22 +46,24 @@ use prog.Wp
 use types.Kit
 use borrow.Rule.Yields
 use borrow.Table.Copies
-use borrow.Table.Rows as Rows'
 use denote.RattleType
 use denote.Memory
 use Rattle.firm.proofs.Row as S
 use Rattle.firm.proofs.Row.Laws as SL
 use Rattle.firm.specs.declared.Row as D
 
--- the struct, its type by value and behind the reference
+-- the struct, its type by value and behind a reference, and the reference
 abbrev pub T : RattleType.RattleType
 T = S.the-row
 
 abbrev pub σ : Syntax.Ty
 σ = SL.mir
 
+abbrev pub ϱ : Syntax.Ty
+ϱ = Memory.pointee (T .written)
+
 abbrev pub τ : Syntax.Ty
-τ = Syntax.tyRef (Syntax.named 0) Syntax.mut (Memory.pointee (T .written))
+τ = Syntax.tyRef (Syntax.named 0) Syntax.mut ϱ
 
 -- what is read past the end
 abbrev pub nothing : D.Row
@@ -74,7 +76,7 @@ abbrev pub r : Kinds.RK 7
 r = Num.rNum Syntax.w32
 
 abbrev pub xs : List.List Syntax.Ty
-xs = List._∷_ (Syntax.tyStruct (List._∷_ 102 (List._∷_ 105 (List._∷_ 114 (List._∷_ 109 (List._∷_ 58 (List._∷_ 58 (List._∷_ 81 (List._∷_ 117 (List._∷_ 111 (List._∷_ 116 (List._∷_ 101 List.[]))))))))))) (Syntax.tcons (Syntax.tyInt Syntax.w32) (Syntax.tcons (Syntax.tyInt Syntax.w64) (Syntax.tcons (Syntax.tyInt Syntax.w64) (Syntax.tcons (Syntax.tyInt Syntax.w32) Syntax.tnil))))) (List._∷_ (Syntax.tyRef Syntax.erased Syntax.mut σ) (List._∷_ (Syntax.tyStruct (List._∷_ 38 (List._∷_ 91 (List._∷_ 93 List.[]))) (Syntax.tcons (Syntax.tyRef Syntax.erased Syntax.mut σ) (Syntax.tcons (Syntax.tyInt Syntax.w64) Syntax.tnil))) (List._∷_ (Syntax.tyRef Syntax.erased Syntax.mut (Syntax.tyInt Syntax.w32)) (List._∷_ (Syntax.tyStruct (List._∷_ 38 (List._∷_ 91 (List._∷_ 93 List.[]))) (Syntax.tcons (Syntax.tyRef Syntax.erased Syntax.mut (Syntax.tyInt Syntax.w32)) (Syntax.tcons (Syntax.tyInt Syntax.w64) Syntax.tnil))) (List._∷_ (Syntax.tyRef Syntax.erased Syntax.mut (Syntax.tyInt Syntax.w32)) (List._∷_ (Syntax.tyStruct (List._∷_ 38 (List._∷_ 91 (List._∷_ 93 List.[]))) (Syntax.tcons (Syntax.tyRef Syntax.erased Syntax.mut (Syntax.tyInt Syntax.w32)) (Syntax.tcons (Syntax.tyInt Syntax.w64) Syntax.tnil))) List.[]))))))
+xs = List._∷_ (Syntax.tyStruct (List._∷_ 102 (List._∷_ 105 (List._∷_ 114 (List._∷_ 109 (List._∷_ 58 (List._∷_ 58 (List._∷_ 81 (List._∷_ 117 (List._∷_ 111 (List._∷_ 116 (List._∷_ 101 List.[]))))))))))) (Syntax.tcons (Syntax.tyInt Syntax.w32) (Syntax.tcons (Syntax.tyInt Syntax.w64) (Syntax.tcons (Syntax.tyInt Syntax.w64) (Syntax.tcons (Syntax.tyInt Syntax.w32) Syntax.tnil))))) (List._∷_ (Syntax.tyRef Syntax.erased Syntax.mut ϱ) (List._∷_ (Syntax.tyStruct (List._∷_ 38 (List._∷_ 91 (List._∷_ 93 List.[]))) (Syntax.tcons (Syntax.tyRef Syntax.erased Syntax.mut ϱ) (Syntax.tcons (Syntax.tyInt Syntax.w64) Syntax.tnil))) (List._∷_ (Syntax.tyRef Syntax.erased Syntax.mut (Syntax.tyInt Syntax.w32)) (List._∷_ (Syntax.tyStruct (List._∷_ 38 (List._∷_ 91 (List._∷_ 93 List.[]))) (Syntax.tcons (Syntax.tyRef Syntax.erased Syntax.mut (Syntax.tyInt Syntax.w32)) (Syntax.tcons (Syntax.tyInt Syntax.w64) Syntax.tnil))) (List._∷_ (Syntax.tyRef Syntax.erased Syntax.mut (Syntax.tyInt Syntax.w32)) (List._∷_ (Syntax.tyStruct (List._∷_ 38 (List._∷_ 91 (List._∷_ 93 List.[]))) (Syntax.tcons (Syntax.tyRef Syntax.erased Syntax.mut (Syntax.tyInt Syntax.w32)) (Syntax.tcons (Syntax.tyInt Syntax.w64) Syntax.tnil))) List.[]))))))
 
 abbrev pub m : Nat.ℕ
 m = 3
@@ -172,8 +174,8 @@ t0 = List._∷_ (0, Rows.any-gone (Syntax.tyInt Syntax.w32)) (List._∷_ ( 1, Mu
 ) (List._∷_ ( 6, Rows.mref (Referent.rtF (Referent.fInt Syntax.w64)) (Syntax.tyRef (Syntax.named 5) Syntax.mut (Syntax.tyInt Syntax.w64)) 5,
 ) (List._∷_ ( 7, Rows.mref (Referent.rtF (Referent.fInt Syntax.w32)) (Syntax.tyRef (Syntax.named 6) Syntax.mut (Syntax.tyInt Syntax.w32)) 6,
 ) (List._∷_ ( 8, Rows.any-gone (Syntax.tyStruct (List._∷_ 102 (List._∷_ 105 (List._∷_ 114 (List._∷_ 109 (List._∷_ 58 (List._∷_ 58 (List._∷_ 81 (List._∷_ 117 (List._∷_ 111 (List._∷_ 116 (List._∷_ 101 List.[]))))))))))) (Syntax.tcons (Syntax.tyInt Syntax.w32) (Syntax.tcons (Syntax.tyInt Syntax.w64) (Syntax.tcons (Syntax.tyInt Syntax.w64) (Syntax.tcons (Syntax.tyInt Syntax.w32) Syntax.tnil))))),
-) (List._∷_ ( 9, Rows.any-gone (Syntax.tyRef Syntax.erased Syntax.mut σ),
-) (List._∷_ ( 10, Rows.any-gone (Syntax.tyStruct (List._∷_ 38 (List._∷_ 91 (List._∷_ 93 List.[]))) (Syntax.tcons (Syntax.tyRef Syntax.erased Syntax.mut σ) (Syntax.tcons (Syntax.tyInt Syntax.w64) Syntax.tnil))),
+) (List._∷_ ( 9, Rows.any-gone (Syntax.tyRef Syntax.erased Syntax.mut ϱ),
+) (List._∷_ ( 10, Rows.any-gone (Syntax.tyStruct (List._∷_ 38 (List._∷_ 91 (List._∷_ 93 List.[]))) (Syntax.tcons (Syntax.tyRef Syntax.erased Syntax.mut ϱ) (Syntax.tcons (Syntax.tyInt Syntax.w64) Syntax.tnil))),
 ) (List._∷_ ( 11, Rows.any-gone (Syntax.tyRef Syntax.erased Syntax.mut (Syntax.tyInt Syntax.w32)), ) (List._∷_ ( 12, Rows.any-gone (Syntax.tyStruct (List._∷_ 38 (List._∷_ 91 (List._∷_ 93 List.[]))) (Syntax.tcons (Syntax.tyRef Syntax.erased Syntax.mut (Syntax.tyInt Syntax.w32)) (Syntax.tcons (Syntax.tyInt Syntax.w64) Syntax.tnil))), ) (List._∷_ ( 13, Rows.any-gone (Syntax.tyRef Syntax.erased Syntax.mut (Syntax.tyInt Syntax.w32)), ) (List._∷_ ( 14, Rows.any-gone (Syntax.tyStruct (List._∷_ 38 (List._∷_ 91 (List._∷_ 93 List.[]))) (Syntax.tcons (Syntax.tyRef Syntax.erased Syntax.mut (Syntax.tyInt Syntax.w32)) (Syntax.tcons (Syntax.tyInt Syntax.w64) Syntax.tnil))), ) List.[]))))))))))))))
 
 abbrev pub t1 : List.List Row.Entry
@@ -185,8 +187,8 @@ t1 = List._∷_ (0, Rows.sc-here (Row.sInt Syntax.w32)) (List._∷_ ( 1, Mut.msl
 ) (List._∷_ ( 6, Rows.mref (Referent.rtF (Referent.fInt Syntax.w64)) (Syntax.tyRef (Syntax.named 5) Syntax.mut (Syntax.tyInt Syntax.w64)) 5,
 ) (List._∷_ ( 7, Rows.mref (Referent.rtF (Referent.fInt Syntax.w32)) (Syntax.tyRef (Syntax.named 6) Syntax.mut (Syntax.tyInt Syntax.w32)) 6,
 ) (List._∷_ ( 8, Rows.any-gone (Syntax.tyStruct (List._∷_ 102 (List._∷_ 105 (List._∷_ 114 (List._∷_ 109 (List._∷_ 58 (List._∷_ 58 (List._∷_ 81 (List._∷_ 117 (List._∷_ 111 (List._∷_ 116 (List._∷_ 101 List.[]))))))))))) (Syntax.tcons (Syntax.tyInt Syntax.w32) (Syntax.tcons (Syntax.tyInt Syntax.w64) (Syntax.tcons (Syntax.tyInt Syntax.w64) (Syntax.tcons (Syntax.tyInt Syntax.w32) Syntax.tnil))))),
-) (List._∷_ ( 9, Rows.any-gone (Syntax.tyRef Syntax.erased Syntax.mut σ),
-) (List._∷_ ( 10, Rows.any-gone (Syntax.tyStruct (List._∷_ 38 (List._∷_ 91 (List._∷_ 93 List.[]))) (Syntax.tcons (Syntax.tyRef Syntax.erased Syntax.mut σ) (Syntax.tcons (Syntax.tyInt Syntax.w64) Syntax.tnil))),
+) (List._∷_ ( 9, Rows.any-gone (Syntax.tyRef Syntax.erased Syntax.mut ϱ),
+) (List._∷_ ( 10, Rows.any-gone (Syntax.tyStruct (List._∷_ 38 (List._∷_ 91 (List._∷_ 93 List.[]))) (Syntax.tcons (Syntax.tyRef Syntax.erased Syntax.mut ϱ) (Syntax.tcons (Syntax.tyInt Syntax.w64) Syntax.tnil))),
 ) (List._∷_ ( 11, Rows.any-gone (Syntax.tyRef Syntax.erased Syntax.mut (Syntax.tyInt Syntax.w32)), ) (List._∷_ ( 12, Rows.any-gone (Syntax.tyStruct (List._∷_ 38 (List._∷_ 91 (List._∷_ 93 List.[]))) (Syntax.tcons (Syntax.tyRef Syntax.erased Syntax.mut (Syntax.tyInt Syntax.w32)) (Syntax.tcons (Syntax.tyInt Syntax.w64) Syntax.tnil))), ) (List._∷_ ( 13, Rows.any-gone (Syntax.tyRef Syntax.erased Syntax.mut (Syntax.tyInt Syntax.w32)), ) (List._∷_ ( 14, Rows.any-gone (Syntax.tyStruct (List._∷_ 38 (List._∷_ 91 (List._∷_ 93 List.[]))) (Syntax.tcons (Syntax.tyRef Syntax.erased Syntax.mut (Syntax.tyInt Syntax.w32)) (Syntax.tcons (Syntax.tyInt Syntax.w64) Syntax.tnil))), ) List.[]))))))))))))))
 
 abbrev pub t2 : List.List Row.Entry
@@ -198,8 +200,8 @@ t2 = List._∷_ (0, Rows.any-gone (Syntax.tyInt Syntax.w32)) (List._∷_ ( 1, Re
 ) (List._∷_ ( 6, Rows.mref (Referent.rtF (Referent.fInt Syntax.w64)) (Syntax.tyRef (Syntax.named 5) Syntax.mut (Syntax.tyInt Syntax.w64)) 5,
 ) (List._∷_ ( 7, Rows.mref (Referent.rtF (Referent.fInt Syntax.w32)) (Syntax.tyRef (Syntax.named 6) Syntax.mut (Syntax.tyInt Syntax.w32)) 6,
 ) (List._∷_ ( 8, Rows.any-gone (Syntax.tyStruct (List._∷_ 102 (List._∷_ 105 (List._∷_ 114 (List._∷_ 109 (List._∷_ 58 (List._∷_ 58 (List._∷_ 81 (List._∷_ 117 (List._∷_ 111 (List._∷_ 116 (List._∷_ 101 List.[]))))))))))) (Syntax.tcons (Syntax.tyInt Syntax.w32) (Syntax.tcons (Syntax.tyInt Syntax.w64) (Syntax.tcons (Syntax.tyInt Syntax.w64) (Syntax.tcons (Syntax.tyInt Syntax.w32) Syntax.tnil))))),
-) (List._∷_ ( 9, Relend.msptr T (Syntax.tyRef Syntax.erased Syntax.mut σ) 7,
-) (List._∷_ ( 10, Rows.any-gone (Syntax.tyStruct (List._∷_ 38 (List._∷_ 91 (List._∷_ 93 List.[]))) (Syntax.tcons (Syntax.tyRef Syntax.erased Syntax.mut σ) (Syntax.tcons (Syntax.tyInt Syntax.w64) Syntax.tnil))),
+) (List._∷_ ( 9, Relend.msptr T (Syntax.tyRef Syntax.erased Syntax.mut ϱ) 7,
+) (List._∷_ ( 10, Rows.any-gone (Syntax.tyStruct (List._∷_ 38 (List._∷_ 91 (List._∷_ 93 List.[]))) (Syntax.tcons (Syntax.tyRef Syntax.erased Syntax.mut ϱ) (Syntax.tcons (Syntax.tyInt Syntax.w64) Syntax.tnil))),
 ) (List._∷_ ( 11, Rows.any-gone (Syntax.tyRef Syntax.erased Syntax.mut (Syntax.tyInt Syntax.w32)), ) (List._∷_ ( 12, Rows.any-gone (Syntax.tyStruct (List._∷_ 38 (List._∷_ 91 (List._∷_ 93 List.[]))) (Syntax.tcons (Syntax.tyRef Syntax.erased Syntax.mut (Syntax.tyInt Syntax.w32)) (Syntax.tcons (Syntax.tyInt Syntax.w64) Syntax.tnil))), ) (List._∷_ ( 13, Rows.any-gone (Syntax.tyRef Syntax.erased Syntax.mut (Syntax.tyInt Syntax.w32)), ) (List._∷_ ( 14, Rows.any-gone (Syntax.tyStruct (List._∷_ 38 (List._∷_ 91 (List._∷_ 93 List.[]))) (Syntax.tcons (Syntax.tyRef Syntax.erased Syntax.mut (Syntax.tyInt Syntax.w32)) (Syntax.tcons (Syntax.tyInt Syntax.w64) Syntax.tnil))), ) List.[]))))))))))))))
 
 abbrev pub t3 : List.List Row.Entry
@@ -211,8 +213,8 @@ t3 = List._∷_ (0, Rows.any-gone (Syntax.tyInt Syntax.w32)) (List._∷_ ( 1, Re
 ) (List._∷_ ( 6, Rows.mref (Referent.rtF (Referent.fInt Syntax.w64)) (Syntax.tyRef (Syntax.named 5) Syntax.mut (Syntax.tyInt Syntax.w64)) 5,
 ) (List._∷_ ( 7, Rows.mref (Referent.rtF (Referent.fInt Syntax.w32)) (Syntax.tyRef (Syntax.named 6) Syntax.mut (Syntax.tyInt Syntax.w32)) 6,
 ) (List._∷_ ( 8, Rows.any-gone (Syntax.tyStruct (List._∷_ 102 (List._∷_ 105 (List._∷_ 114 (List._∷_ 109 (List._∷_ 58 (List._∷_ 58 (List._∷_ 81 (List._∷_ 117 (List._∷_ 111 (List._∷_ 116 (List._∷_ 101 List.[]))))))))))) (Syntax.tcons (Syntax.tyInt Syntax.w32) (Syntax.tcons (Syntax.tyInt Syntax.w64) (Syntax.tcons (Syntax.tyInt Syntax.w64) (Syntax.tcons (Syntax.tyInt Syntax.w32) Syntax.tnil))))),
-) (List._∷_ ( 9, Rows.any-gone (Syntax.tyRef Syntax.erased Syntax.mut σ),
-) (List._∷_ ( 10, Mut.mslice T (Syntax.tyRef Syntax.erased Syntax.mut σ) 7,
+) (List._∷_ ( 9, Rows.any-gone (Syntax.tyRef Syntax.erased Syntax.mut ϱ),
+) (List._∷_ ( 10, Mut.mslice T (Syntax.tyRef Syntax.erased Syntax.mut ϱ) 7,
 ) (List._∷_ ( 11, Rows.any-gone (Syntax.tyRef Syntax.erased Syntax.mut (Syntax.tyInt Syntax.w32)), ) (List._∷_ ( 12, Rows.any-gone (Syntax.tyStruct (List._∷_ 38 (List._∷_ 91 (List._∷_ 93 List.[]))) (Syntax.tcons (Syntax.tyRef Syntax.erased Syntax.mut (Syntax.tyInt Syntax.w32)) (Syntax.tcons (Syntax.tyInt Syntax.w64) Syntax.tnil))), ) (List._∷_ ( 13, Rows.any-gone (Syntax.tyRef Syntax.erased Syntax.mut (Syntax.tyInt Syntax.w32)), ) (List._∷_ ( 14, Rows.any-gone (Syntax.tyStruct (List._∷_ 38 (List._∷_ 91 (List._∷_ 93 List.[]))) (Syntax.tcons (Syntax.tyRef Syntax.erased Syntax.mut (Syntax.tyInt Syntax.w32)) (Syntax.tcons (Syntax.tyInt Syntax.w64) Syntax.tnil))), ) List.[]))))))))))))))
 
 abbrev pub t4 : List.List Row.Entry
@@ -224,8 +226,8 @@ t4 = List._∷_ (0, Rows.any-gone (Syntax.tyInt Syntax.w32)) (List._∷_ ( 1, Re
 ) (List._∷_ ( 6, Rows.mref (Referent.rtF (Referent.fInt Syntax.w64)) (Syntax.tyRef (Syntax.named 5) Syntax.mut (Syntax.tyInt Syntax.w64)) 5,
 ) (List._∷_ ( 7, Rows.mref (Referent.rtF (Referent.fInt Syntax.w32)) (Syntax.tyRef (Syntax.named 6) Syntax.mut (Syntax.tyInt Syntax.w32)) 6,
 ) (List._∷_ ( 8, Rows.any-gone (Syntax.tyStruct (List._∷_ 102 (List._∷_ 105 (List._∷_ 114 (List._∷_ 109 (List._∷_ 58 (List._∷_ 58 (List._∷_ 81 (List._∷_ 117 (List._∷_ 111 (List._∷_ 116 (List._∷_ 101 List.[]))))))))))) (Syntax.tcons (Syntax.tyInt Syntax.w32) (Syntax.tcons (Syntax.tyInt Syntax.w64) (Syntax.tcons (Syntax.tyInt Syntax.w64) (Syntax.tcons (Syntax.tyInt Syntax.w32) Syntax.tnil))))),
-) (List._∷_ ( 9, Rows.any-gone (Syntax.tyRef Syntax.erased Syntax.mut σ),
-) (List._∷_ ( 10, Mut.mslice T (Syntax.tyRef Syntax.erased Syntax.mut σ) 7,
+) (List._∷_ ( 9, Rows.any-gone (Syntax.tyRef Syntax.erased Syntax.mut ϱ),
+) (List._∷_ ( 10, Mut.mslice T (Syntax.tyRef Syntax.erased Syntax.mut ϱ) 7,
 ) (List._∷_ ( 11, Relend.msptr (Referent.rtF (Referent.fInt Syntax.w32)) (Syntax.tyRef Syntax.erased Syntax.mut (Syntax.tyInt Syntax.w32)) 8,
 ) (List._∷_ ( 12, Rows.any-gone (Syntax.tyStruct (List._∷_ 38 (List._∷_ 91 (List._∷_ 93 List.[]))) (Syntax.tcons (Syntax.tyRef Syntax.erased Syntax.mut (Syntax.tyInt Syntax.w32)) (Syntax.tcons (Syntax.tyInt Syntax.w64) Syntax.tnil))),
 ) (List._∷_ ( 13, Rows.any-gone (Syntax.tyRef Syntax.erased Syntax.mut (Syntax.tyInt Syntax.w32)), ) (List._∷_ ( 14, Rows.any-gone (Syntax.tyStruct (List._∷_ 38 (List._∷_ 91 (List._∷_ 93 List.[]))) (Syntax.tcons (Syntax.tyRef Syntax.erased Syntax.mut (Syntax.tyInt Syntax.w32)) (Syntax.tcons (Syntax.tyInt Syntax.w64) Syntax.tnil))), ) List.[]))))))))))))))
@@ -239,8 +241,8 @@ t5 = List._∷_ (0, Rows.any-gone (Syntax.tyInt Syntax.w32)) (List._∷_ ( 1, Re
 ) (List._∷_ ( 6, Rows.mref (Referent.rtF (Referent.fInt Syntax.w64)) (Syntax.tyRef (Syntax.named 5) Syntax.mut (Syntax.tyInt Syntax.w64)) 5,
 ) (List._∷_ ( 7, Rows.mref (Referent.rtF (Referent.fInt Syntax.w32)) (Syntax.tyRef (Syntax.named 6) Syntax.mut (Syntax.tyInt Syntax.w32)) 6,
 ) (List._∷_ ( 8, Rows.any-gone (Syntax.tyStruct (List._∷_ 102 (List._∷_ 105 (List._∷_ 114 (List._∷_ 109 (List._∷_ 58 (List._∷_ 58 (List._∷_ 81 (List._∷_ 117 (List._∷_ 111 (List._∷_ 116 (List._∷_ 101 List.[]))))))))))) (Syntax.tcons (Syntax.tyInt Syntax.w32) (Syntax.tcons (Syntax.tyInt Syntax.w64) (Syntax.tcons (Syntax.tyInt Syntax.w64) (Syntax.tcons (Syntax.tyInt Syntax.w32) Syntax.tnil))))),
-) (List._∷_ ( 9, Rows.any-gone (Syntax.tyRef Syntax.erased Syntax.mut σ),
-) (List._∷_ ( 10, Mut.mslice T (Syntax.tyRef Syntax.erased Syntax.mut σ) 7,
+) (List._∷_ ( 9, Rows.any-gone (Syntax.tyRef Syntax.erased Syntax.mut ϱ),
+) (List._∷_ ( 10, Mut.mslice T (Syntax.tyRef Syntax.erased Syntax.mut ϱ) 7,
 ) (List._∷_ ( 11, Rows.any-gone (Syntax.tyRef Syntax.erased Syntax.mut (Syntax.tyInt Syntax.w32)), ) (List._∷_ ( 12, Mut.mslice (Referent.rtF (Referent.fInt Syntax.w32)) (Syntax.tyRef Syntax.erased Syntax.mut (Syntax.tyInt Syntax.w32)) 8, ) (List._∷_ ( 13, Rows.any-gone (Syntax.tyRef Syntax.erased Syntax.mut (Syntax.tyInt Syntax.w32)), ) (List._∷_ ( 14, Rows.any-gone (Syntax.tyStruct (List._∷_ 38 (List._∷_ 91 (List._∷_ 93 List.[]))) (Syntax.tcons (Syntax.tyRef Syntax.erased Syntax.mut (Syntax.tyInt Syntax.w32)) (Syntax.tcons (Syntax.tyInt Syntax.w64) Syntax.tnil))), ) List.[]))))))))))))))
 
 abbrev pub t6 : List.List Row.Entry
@@ -252,8 +254,8 @@ t6 = List._∷_ (0, Rows.any-gone (Syntax.tyInt Syntax.w32)) (List._∷_ ( 1, Re
 ) (List._∷_ ( 6, Rows.mref (Referent.rtF (Referent.fInt Syntax.w64)) (Syntax.tyRef (Syntax.named 5) Syntax.mut (Syntax.tyInt Syntax.w64)) 5,
 ) (List._∷_ ( 7, Rows.mref (Referent.rtF (Referent.fInt Syntax.w32)) (Syntax.tyRef (Syntax.named 6) Syntax.mut (Syntax.tyInt Syntax.w32)) 6,
 ) (List._∷_ ( 8, Rows.any-gone (Syntax.tyStruct (List._∷_ 102 (List._∷_ 105 (List._∷_ 114 (List._∷_ 109 (List._∷_ 58 (List._∷_ 58 (List._∷_ 81 (List._∷_ 117 (List._∷_ 111 (List._∷_ 116 (List._∷_ 101 List.[]))))))))))) (Syntax.tcons (Syntax.tyInt Syntax.w32) (Syntax.tcons (Syntax.tyInt Syntax.w64) (Syntax.tcons (Syntax.tyInt Syntax.w64) (Syntax.tcons (Syntax.tyInt Syntax.w32) Syntax.tnil))))),
-) (List._∷_ ( 9, Rows.any-gone (Syntax.tyRef Syntax.erased Syntax.mut σ),
-) (List._∷_ ( 10, Mut.mslice T (Syntax.tyRef Syntax.erased Syntax.mut σ) 7,
+) (List._∷_ ( 9, Rows.any-gone (Syntax.tyRef Syntax.erased Syntax.mut ϱ),
+) (List._∷_ ( 10, Mut.mslice T (Syntax.tyRef Syntax.erased Syntax.mut ϱ) 7,
 ) (List._∷_ ( 11, Rows.any-gone (Syntax.tyRef Syntax.erased Syntax.mut (Syntax.tyInt Syntax.w32)), ) (List._∷_ ( 12, Mut.mslice (Referent.rtF (Referent.fInt Syntax.w32)) (Syntax.tyRef Syntax.erased Syntax.mut (Syntax.tyInt Syntax.w32)) 8, ) (List._∷_ ( 13, Relend.msptr (Referent.rtF (Referent.fInt Syntax.w32)) (Syntax.tyRef Syntax.erased Syntax.mut (Syntax.tyInt Syntax.w32)) 9, ) (List._∷_ ( 14, Rows.any-gone (Syntax.tyStruct (List._∷_ 38 (List._∷_ 91 (List._∷_ 93 List.[]))) (Syntax.tcons (Syntax.tyRef Syntax.erased Syntax.mut (Syntax.tyInt Syntax.w32)) (Syntax.tcons (Syntax.tyInt Syntax.w64) Syntax.tnil))), ) List.[]))))))))))))))
 
 abbrev pub t7 : List.List Row.Entry
@@ -265,8 +267,8 @@ t7 = List._∷_ (0, Rows.any-gone (Syntax.tyInt Syntax.w32)) (List._∷_ ( 1, Re
 ) (List._∷_ ( 6, Rows.mref (Referent.rtF (Referent.fInt Syntax.w64)) (Syntax.tyRef (Syntax.named 5) Syntax.mut (Syntax.tyInt Syntax.w64)) 5,
 ) (List._∷_ ( 7, Rows.mref (Referent.rtF (Referent.fInt Syntax.w32)) (Syntax.tyRef (Syntax.named 6) Syntax.mut (Syntax.tyInt Syntax.w32)) 6,
 ) (List._∷_ ( 8, Rows.any-gone (Syntax.tyStruct (List._∷_ 102 (List._∷_ 105 (List._∷_ 114 (List._∷_ 109 (List._∷_ 58 (List._∷_ 58 (List._∷_ 81 (List._∷_ 117 (List._∷_ 111 (List._∷_ 116 (List._∷_ 101 List.[]))))))))))) (Syntax.tcons (Syntax.tyInt Syntax.w32) (Syntax.tcons (Syntax.tyInt Syntax.w64) (Syntax.tcons (Syntax.tyInt Syntax.w64) (Syntax.tcons (Syntax.tyInt Syntax.w32) Syntax.tnil))))),
-) (List._∷_ ( 9, Rows.any-gone (Syntax.tyRef Syntax.erased Syntax.mut σ),
-) (List._∷_ ( 10, Mut.mslice T (Syntax.tyRef Syntax.erased Syntax.mut σ) 7,
+) (List._∷_ ( 9, Rows.any-gone (Syntax.tyRef Syntax.erased Syntax.mut ϱ),
+) (List._∷_ ( 10, Mut.mslice T (Syntax.tyRef Syntax.erased Syntax.mut ϱ) 7,
 ) (List._∷_ ( 11, Rows.any-gone (Syntax.tyRef Syntax.erased Syntax.mut (Syntax.tyInt Syntax.w32)), ) (List._∷_ ( 12, Mut.mslice (Referent.rtF (Referent.fInt Syntax.w32)) (Syntax.tyRef Syntax.erased Syntax.mut (Syntax.tyInt Syntax.w32)) 8, ) (List._∷_ ( 13, Rows.any-gone (Syntax.tyRef Syntax.erased Syntax.mut (Syntax.tyInt Syntax.w32)), ) (List._∷_ ( 14, Mut.mslice (Referent.rtF (Referent.fInt Syntax.w32)) (Syntax.tyRef Syntax.erased Syntax.mut (Syntax.tyInt Syntax.w32)) 9, ) List.[]))))))))))))))
 
 abbrev pub t8 : List.List Row.Entry
@@ -277,8 +279,8 @@ t8 = List._∷_ (0, Rows.any-gone (Syntax.tyInt Syntax.w32)) (List._∷_ ( 1, Re
 ) (List._∷_ ( 5, Rows.mref (Referent.rtF (Referent.fInt Syntax.w64)) (Syntax.tyRef (Syntax.named 4) Syntax.mut (Syntax.tyInt Syntax.w64)) 4,
 ) (List._∷_ ( 6, Rows.mref (Referent.rtF (Referent.fInt Syntax.w64)) (Syntax.tyRef (Syntax.named 5) Syntax.mut (Syntax.tyInt Syntax.w64)) 5,
 ) (List._∷_ ( 7, Rows.mref (Referent.rtF (Referent.fInt Syntax.w32)) (Syntax.tyRef (Syntax.named 6) Syntax.mut (Syntax.tyInt Syntax.w32)) 6,
-) (List._∷_ (8, Rows.whole (Declared.row Quote.the-type)) (List._∷_ ( 9, Rows.any-gone (Syntax.tyRef Syntax.erased Syntax.mut σ),
-) (List._∷_ ( 10, Mut.msleft T (Syntax.tyRef Syntax.erased Syntax.mut σ),
+) (List._∷_ (8, Rows.whole (Declared.row Quote.the-type)) (List._∷_ ( 9, Rows.any-gone (Syntax.tyRef Syntax.erased Syntax.mut ϱ),
+) (List._∷_ ( 10, Mut.msleft T (Syntax.tyRef Syntax.erased Syntax.mut ϱ),
 ) (List._∷_ ( 11, Rows.any-gone (Syntax.tyRef Syntax.erased Syntax.mut (Syntax.tyInt Syntax.w32)), ) (List._∷_ ( 12, Mut.msleft (Referent.rtF (Referent.fInt Syntax.w32)) (Syntax.tyRef Syntax.erased Syntax.mut (Syntax.tyInt Syntax.w32)), ) (List._∷_ ( 13, Rows.any-gone (Syntax.tyRef Syntax.erased Syntax.mut (Syntax.tyInt Syntax.w32)), ) (List._∷_ ( 14, Mut.msleft (Referent.rtF (Referent.fInt Syntax.w32)) (Syntax.tyRef Syntax.erased Syntax.mut (Syntax.tyInt Syntax.w32)), ) List.[]))))))))))))))
 
 abbrev pub t9 : List.List Row.Entry
@@ -289,8 +291,8 @@ t9 = List._∷_ (0, Rows.any-gone (Syntax.tyInt Syntax.w32)) (List._∷_ ( 1, Mu
 ) (List._∷_ ( 5, Rows.mref (Referent.rtF (Referent.fInt Syntax.w64)) (Syntax.tyRef (Syntax.named 4) Syntax.mut (Syntax.tyInt Syntax.w64)) 4,
 ) (List._∷_ ( 6, Rows.mref (Referent.rtF (Referent.fInt Syntax.w64)) (Syntax.tyRef (Syntax.named 5) Syntax.mut (Syntax.tyInt Syntax.w64)) 5,
 ) (List._∷_ ( 7, Rows.mref (Referent.rtF (Referent.fInt Syntax.w32)) (Syntax.tyRef (Syntax.named 6) Syntax.mut (Syntax.tyInt Syntax.w32)) 6,
-) (List._∷_ (8, Rows.whole (Declared.row Quote.the-type)) (List._∷_ ( 9, Rows.any-gone (Syntax.tyRef Syntax.erased Syntax.mut σ),
-) (List._∷_ ( 10, Rows.any-gone (Syntax.tyStruct (List._∷_ 38 (List._∷_ 91 (List._∷_ 93 List.[]))) (Syntax.tcons (Syntax.tyRef Syntax.erased Syntax.mut σ) (Syntax.tcons (Syntax.tyInt Syntax.w64) Syntax.tnil))),
+) (List._∷_ (8, Rows.whole (Declared.row Quote.the-type)) (List._∷_ ( 9, Rows.any-gone (Syntax.tyRef Syntax.erased Syntax.mut ϱ),
+) (List._∷_ ( 10, Rows.any-gone (Syntax.tyStruct (List._∷_ 38 (List._∷_ 91 (List._∷_ 93 List.[]))) (Syntax.tcons (Syntax.tyRef Syntax.erased Syntax.mut ϱ) (Syntax.tcons (Syntax.tyInt Syntax.w64) Syntax.tnil))),
 ) (List._∷_ ( 11, Rows.any-gone (Syntax.tyRef Syntax.erased Syntax.mut (Syntax.tyInt Syntax.w32)), ) (List._∷_ ( 12, Mut.msleft (Referent.rtF (Referent.fInt Syntax.w32)) (Syntax.tyRef Syntax.erased Syntax.mut (Syntax.tyInt Syntax.w32)), ) (List._∷_ ( 13, Rows.any-gone (Syntax.tyRef Syntax.erased Syntax.mut (Syntax.tyInt Syntax.w32)), ) (List._∷_ ( 14, Mut.msleft (Referent.rtF (Referent.fInt Syntax.w32)) (Syntax.tyRef Syntax.erased Syntax.mut (Syntax.tyInt Syntax.w32)), ) List.[]))))))))))))))
 
 abbrev pub t10 : List.List Row.Entry
@@ -301,8 +303,8 @@ t10 = List._∷_ (0, Rows.any-gone (Syntax.tyInt Syntax.w32)) (List._∷_ ( 1, M
 ) (List._∷_ ( 5, Rows.mref (Referent.rtF (Referent.fInt Syntax.w64)) (Syntax.tyRef (Syntax.named 4) Syntax.mut (Syntax.tyInt Syntax.w64)) 4,
 ) (List._∷_ ( 6, Rows.mref (Referent.rtF (Referent.fInt Syntax.w64)) (Syntax.tyRef (Syntax.named 5) Syntax.mut (Syntax.tyInt Syntax.w64)) 5,
 ) (List._∷_ ( 7, Rows.mref (Referent.rtF (Referent.fInt Syntax.w32)) (Syntax.tyRef (Syntax.named 6) Syntax.mut (Syntax.tyInt Syntax.w32)) 6,
-) (List._∷_ (8, Rows.whole (Declared.row Quote.the-type)) (List._∷_ ( 9, Rows.any-gone (Syntax.tyRef Syntax.erased Syntax.mut σ),
-) (List._∷_ ( 10, Rows.any-gone (Syntax.tyStruct (List._∷_ 38 (List._∷_ 91 (List._∷_ 93 List.[]))) (Syntax.tcons (Syntax.tyRef Syntax.erased Syntax.mut σ) (Syntax.tcons (Syntax.tyInt Syntax.w64) Syntax.tnil))),
+) (List._∷_ (8, Rows.whole (Declared.row Quote.the-type)) (List._∷_ ( 9, Rows.any-gone (Syntax.tyRef Syntax.erased Syntax.mut ϱ),
+) (List._∷_ ( 10, Rows.any-gone (Syntax.tyStruct (List._∷_ 38 (List._∷_ 91 (List._∷_ 93 List.[]))) (Syntax.tcons (Syntax.tyRef Syntax.erased Syntax.mut ϱ) (Syntax.tcons (Syntax.tyInt Syntax.w64) Syntax.tnil))),
 ) (List._∷_ ( 11, Rows.any-gone (Syntax.tyRef Syntax.erased Syntax.mut (Syntax.tyInt Syntax.w32)), ) (List._∷_ ( 12, Rows.any-gone (Syntax.tyStruct (List._∷_ 38 (List._∷_ 91 (List._∷_ 93 List.[]))) (Syntax.tcons (Syntax.tyRef Syntax.erased Syntax.mut (Syntax.tyInt Syntax.w32)) (Syntax.tcons (Syntax.tyInt Syntax.w64) Syntax.tnil))), ) (List._∷_ ( 13, Rows.any-gone (Syntax.tyRef Syntax.erased Syntax.mut (Syntax.tyInt Syntax.w32)), ) (List._∷_ ( 14, Mut.msleft (Referent.rtF (Referent.fInt Syntax.w32)) (Syntax.tyRef Syntax.erased Syntax.mut (Syntax.tyInt Syntax.w32)), ) List.[]))))))))))))))
 
 abbrev pub t11 : List.List Row.Entry
@@ -313,8 +315,8 @@ t11 = List._∷_ (0, Rows.any-gone (Syntax.tyInt Syntax.w32)) (List._∷_ ( 1, M
 ) (List._∷_ ( 5, Rows.mref (Referent.rtF (Referent.fInt Syntax.w64)) (Syntax.tyRef (Syntax.named 4) Syntax.mut (Syntax.tyInt Syntax.w64)) 4,
 ) (List._∷_ ( 6, Rows.mref (Referent.rtF (Referent.fInt Syntax.w64)) (Syntax.tyRef (Syntax.named 5) Syntax.mut (Syntax.tyInt Syntax.w64)) 5,
 ) (List._∷_ ( 7, Rows.mref (Referent.rtF (Referent.fInt Syntax.w32)) (Syntax.tyRef (Syntax.named 6) Syntax.mut (Syntax.tyInt Syntax.w32)) 6,
-) (List._∷_ (8, Rows.whole (Declared.row Quote.the-type)) (List._∷_ ( 9, Rows.any-gone (Syntax.tyRef Syntax.erased Syntax.mut σ),
-) (List._∷_ ( 10, Rows.any-gone (Syntax.tyStruct (List._∷_ 38 (List._∷_ 91 (List._∷_ 93 List.[]))) (Syntax.tcons (Syntax.tyRef Syntax.erased Syntax.mut σ) (Syntax.tcons (Syntax.tyInt Syntax.w64) Syntax.tnil))),
+) (List._∷_ (8, Rows.whole (Declared.row Quote.the-type)) (List._∷_ ( 9, Rows.any-gone (Syntax.tyRef Syntax.erased Syntax.mut ϱ),
+) (List._∷_ ( 10, Rows.any-gone (Syntax.tyStruct (List._∷_ 38 (List._∷_ 91 (List._∷_ 93 List.[]))) (Syntax.tcons (Syntax.tyRef Syntax.erased Syntax.mut ϱ) (Syntax.tcons (Syntax.tyInt Syntax.w64) Syntax.tnil))),
 ) (List._∷_ ( 11, Rows.any-gone (Syntax.tyRef Syntax.erased Syntax.mut (Syntax.tyInt Syntax.w32)), ) (List._∷_ ( 12, Rows.any-gone (Syntax.tyStruct (List._∷_ 38 (List._∷_ 91 (List._∷_ 93 List.[]))) (Syntax.tcons (Syntax.tyRef Syntax.erased Syntax.mut (Syntax.tyInt Syntax.w32)) (Syntax.tcons (Syntax.tyInt Syntax.w64) Syntax.tnil))), ) (List._∷_ ( 13, Rows.any-gone (Syntax.tyRef Syntax.erased Syntax.mut (Syntax.tyInt Syntax.w32)), ) (List._∷_ ( 14, Rows.any-gone (Syntax.tyStruct (List._∷_ 38 (List._∷_ 91 (List._∷_ 93 List.[]))) (Syntax.tcons (Syntax.tyRef Syntax.erased Syntax.mut (Syntax.tyInt Syntax.w32)) (Syntax.tcons (Syntax.tyInt Syntax.w64) Syntax.tnil))), ) List.[]))))))))))))))
 
 abbrev pub t12 : List.List Row.Entry
@@ -325,8 +327,8 @@ t12 = List._∷_ (0, Rows.sc-here (Row.sInt Syntax.w32)) (List._∷_ ( 1, Mut.ms
 ) (List._∷_ ( 5, Rows.mref (Referent.rtF (Referent.fInt Syntax.w64)) (Syntax.tyRef (Syntax.named 4) Syntax.mut (Syntax.tyInt Syntax.w64)) 4,
 ) (List._∷_ ( 6, Rows.mref (Referent.rtF (Referent.fInt Syntax.w64)) (Syntax.tyRef (Syntax.named 5) Syntax.mut (Syntax.tyInt Syntax.w64)) 5,
 ) (List._∷_ ( 7, Rows.mref (Referent.rtF (Referent.fInt Syntax.w32)) (Syntax.tyRef (Syntax.named 6) Syntax.mut (Syntax.tyInt Syntax.w32)) 6,
-) (List._∷_ (8, Rows.whole (Declared.row Quote.the-type)) (List._∷_ ( 9, Rows.any-gone (Syntax.tyRef Syntax.erased Syntax.mut σ),
-) (List._∷_ ( 10, Rows.any-gone (Syntax.tyStruct (List._∷_ 38 (List._∷_ 91 (List._∷_ 93 List.[]))) (Syntax.tcons (Syntax.tyRef Syntax.erased Syntax.mut σ) (Syntax.tcons (Syntax.tyInt Syntax.w64) Syntax.tnil))),
+) (List._∷_ (8, Rows.whole (Declared.row Quote.the-type)) (List._∷_ ( 9, Rows.any-gone (Syntax.tyRef Syntax.erased Syntax.mut ϱ),
+) (List._∷_ ( 10, Rows.any-gone (Syntax.tyStruct (List._∷_ 38 (List._∷_ 91 (List._∷_ 93 List.[]))) (Syntax.tcons (Syntax.tyRef Syntax.erased Syntax.mut ϱ) (Syntax.tcons (Syntax.tyInt Syntax.w64) Syntax.tnil))),
 ) (List._∷_ ( 11, Rows.any-gone (Syntax.tyRef Syntax.erased Syntax.mut (Syntax.tyInt Syntax.w32)), ) (List._∷_ ( 12, Rows.any-gone (Syntax.tyStruct (List._∷_ 38 (List._∷_ 91 (List._∷_ 93 List.[]))) (Syntax.tcons (Syntax.tyRef Syntax.erased Syntax.mut (Syntax.tyInt Syntax.w32)) (Syntax.tcons (Syntax.tyInt Syntax.w64) Syntax.tnil))), ) (List._∷_ ( 13, Rows.any-gone (Syntax.tyRef Syntax.erased Syntax.mut (Syntax.tyInt Syntax.w32)), ) (List._∷_ ( 14, Rows.any-gone (Syntax.tyStruct (List._∷_ 38 (List._∷_ 91 (List._∷_ 93 List.[]))) (Syntax.tcons (Syntax.tyRef Syntax.erased Syntax.mut (Syntax.tyInt Syntax.w32)) (Syntax.tcons (Syntax.tyInt Syntax.w64) Syntax.tnil))), ) List.[]))))))))))))))
 
 abbrev pub T0 : Row.Cx
@@ -409,10 +411,10 @@ module _ (claims· : Claims) where
   s2 = Know.k-sl-known (Referent.fInt Syntax.w32) T3 4 3 (Syntax.tyRef (Syntax.named 3) Syntax.mut (Syntax.tyInt Syntax.w32)) Row.off 0 λ x. x
 
   abbrev s4 : Typed.Gives T4 T6
-  s4 = Relend.k-sl-relend T T4 1 9 0 7 τ (Syntax.tyRef Syntax.erased Syntax.mut σ) Row.off λ x. x
+  s4 = Relend.k-sl-relend T T4 1 9 0 7 τ (Syntax.tyRef Syntax.erased Syntax.mut ϱ) Row.off λ x. x
 
   abbrev s5 : Typed.Asks T6 T7
-  s5 = Relend.k-sl-aggregate T (Relend.asMut T) T6 9 10 7 (Syntax.tyRef Syntax.erased Syntax.mut σ) (Syntax.tyRef Syntax.erased Syntax.mut σ) (λ x. x) (Scalar.oFld 1 (List._∷_ (Syntax.field 1) List.[]) (Syntax.tyInt Syntax.w64) 8 λ v. Shared.lenV (v .0))
+  s5 = Relend.k-sl-aggregate T (Relend.asMut T) T6 9 10 7 (Syntax.tyRef Syntax.erased Syntax.mut ϱ) (Syntax.tyRef Syntax.erased Syntax.mut ϱ) (λ x. x) (Scalar.oFld 1 (List._∷_ (Syntax.field 1) List.[]) (Syntax.tyInt Syntax.w64) 8 λ v. Shared.lenV (v .0))
 
   abbrev s7 : Typed.Gives T7 T9
   s7 = Relend.k-sl-relend (Referent.rtF (Referent.fInt Syntax.w32)) T7 3 11 2 8 (Syntax.tyRef (Syntax.named 2) Syntax.mut (Syntax.tyInt Syntax.w32)) (Syntax.tyRef Syntax.erased Syntax.mut (Syntax.tyInt Syntax.w32)) Row.off λ x. x
@@ -427,11 +429,11 @@ module _ (claims· : Claims) where
   s11 = Relend.k-sl-aggregate (Referent.rtF (Referent.fInt Syntax.w32)) (Relend.asMut (Referent.rtF (Referent.fInt Syntax.w32))) T12 13 14 9 (Syntax.tyRef Syntax.erased Syntax.mut (Syntax.tyInt Syntax.w32)) (Syntax.tyRef Syntax.erased Syntax.mut (Syntax.tyInt Syntax.w32)) (λ x. x) (Scalar.oFld 4 (List._∷_ (Syntax.field 1) List.[]) (Syntax.tyInt Syntax.w64) 8 λ v. Shared.lenV (v .0))
 
   abbrev s12 : Typed.Both T13 T14
-  s12 = Call.callB ps·0 r·0 (claims· .0) (claims· .1) T13 ( record { pos = 10; ty = Syntax.tyRef Syntax.erased Syntax.mut σ; ref = λ x. x; }, ( record { pos = 2; ty = Syntax.tyRef (Syntax.named 1) Syntax.imm (Syntax.tyInt Syntax.w8); ref = λ x. x; }, ( record { pos = 12; ty = Syntax.tyRef Syntax.erased Syntax.mut (Syntax.tyInt Syntax.w32); ref = λ x. x; }, ( record { pos = 14; ty = Syntax.tyRef Syntax.erased Syntax.mut (Syntax.tyInt Syntax.w32); ref = λ x. x; }, tt, ), ), ),
+  s12 = Call.callB ps·0 r·0 (claims· .0) (claims· .1) T13 ( record { pos = 10; ty = Syntax.tyRef Syntax.erased Syntax.mut ϱ; ref = λ x. x; }, ( record { pos = 2; ty = Syntax.tyRef (Syntax.named 1) Syntax.imm (Syntax.tyInt Syntax.w8); ref = λ x. x; }, ( record { pos = 12; ty = Syntax.tyRef Syntax.erased Syntax.mut (Syntax.tyInt Syntax.w32); ref = λ x. x; }, ( record { pos = 14; ty = Syntax.tyRef Syntax.erased Syntax.mut (Syntax.tyInt Syntax.w32); ref = λ x. x; }, tt, ), ), ),
   ) 8 (List._∷_ 7 (List._∷_ 1 (List._∷_ 8 (List._∷_ 9 List.[])))) (Syntax.tyStruct (List._∷_ 102 (List._∷_ 105 (List._∷_ 114 (List._∷_ 109 (List._∷_ 58 (List._∷_ 58 (List._∷_ 81 (List._∷_ 117 (List._∷_ 111 (List._∷_ 116 (List._∷_ 101 List.[]))))))))))) (Syntax.tcons (Syntax.tyInt Syntax.w32) (Syntax.tcons (Syntax.tyInt Syntax.w64) (Syntax.tcons (Syntax.tyInt Syntax.w64) (Syntax.tcons (Syntax.tyInt Syntax.w32) Syntax.tnil)))))
 
   abbrev s14 : Typed.Both T14 T16
-  s14 = Relend.k-back-sl T T14 10 1 0 7 τ (Syntax.tyRef Syntax.erased Syntax.mut σ) Row.off (λ x. x) λ x. x
+  s14 = Relend.k-back-sl T T14 10 1 0 7 τ (Syntax.tyRef Syntax.erased Syntax.mut ϱ) Row.off (λ x. x) λ x. x
 
   abbrev s17 : Typed.Both T16 T19
   s17 = Relend.k-back-sl (Referent.rtF (Referent.fInt Syntax.w32)) T16 12 3 2 8 (Syntax.tyRef (Syntax.named 2) Syntax.mut (Syntax.tyInt Syntax.w32)) (Syntax.tyRef Syntax.erased Syntax.mut (Syntax.tyInt Syntax.w32)) Row.off (λ x. x) λ x. x
@@ -573,8 +575,8 @@ module _ (claims· : Claims) where
         ) (List._∷_ ( 6, Rows.mref (Referent.rtF (Referent.fInt Syntax.w64)) (Syntax.tyRef (Syntax.named 5) Syntax.mut (Syntax.tyInt Syntax.w64)) 5,
         ) (List._∷_ ( 7, Rows.mref (Referent.rtF (Referent.fInt Syntax.w32)) (Syntax.tyRef (Syntax.named 6) Syntax.mut (Syntax.tyInt Syntax.w32)) 6,
         ) (List._∷_ ( 8, Rows.any-gone (Syntax.tyStruct (List._∷_ 102 (List._∷_ 105 (List._∷_ 114 (List._∷_ 109 (List._∷_ 58 (List._∷_ 58 (List._∷_ 81 (List._∷_ 117 (List._∷_ 111 (List._∷_ 116 (List._∷_ 101 List.[]))))))))))) (Syntax.tcons (Syntax.tyInt Syntax.w32) (Syntax.tcons (Syntax.tyInt Syntax.w64) (Syntax.tcons (Syntax.tyInt Syntax.w64) (Syntax.tcons (Syntax.tyInt Syntax.w32) Syntax.tnil))))),
-        ) (List._∷_ ( 9, Relend.msptr T (Syntax.tyRef Syntax.erased Syntax.mut σ) 7,
-        ) (List._∷_ ( 10, Rows.any-gone (Syntax.tyStruct (List._∷_ 38 (List._∷_ 91 (List._∷_ 93 List.[]))) (Syntax.tcons (Syntax.tyRef Syntax.erased Syntax.mut σ) (Syntax.tcons (Syntax.tyInt Syntax.w64) Syntax.tnil))),
+        ) (List._∷_ ( 9, Relend.msptr T (Syntax.tyRef Syntax.erased Syntax.mut ϱ) 7,
+        ) (List._∷_ ( 10, Rows.any-gone (Syntax.tyStruct (List._∷_ 38 (List._∷_ 91 (List._∷_ 93 List.[]))) (Syntax.tcons (Syntax.tyRef Syntax.erased Syntax.mut ϱ) (Syntax.tcons (Syntax.tyInt Syntax.w64) Syntax.tnil))),
         ) (List._∷_ ( 11, Rows.any-gone (Syntax.tyRef Syntax.erased Syntax.mut (Syntax.tyInt Syntax.w32)),
         ) (List._∷_ ( 12, Rows.any-gone (Syntax.tyStruct (List._∷_ 38 (List._∷_ 91 (List._∷_ 93 List.[]))) (Syntax.tcons (Syntax.tyRef Syntax.erased Syntax.mut (Syntax.tyInt Syntax.w32)) (Syntax.tcons (Syntax.tyInt Syntax.w64) Syntax.tnil))),
         ) (List._∷_ ( 13, Rows.any-gone (Syntax.tyRef Syntax.erased Syntax.mut (Syntax.tyInt Syntax.w32)),
@@ -590,8 +592,8 @@ module _ (claims· : Claims) where
         ) (List._∷_ ( 6, Rows.mref (Referent.rtF (Referent.fInt Syntax.w64)) (Syntax.tyRef (Syntax.named 5) Syntax.mut (Syntax.tyInt Syntax.w64)) 5,
         ) (List._∷_ ( 7, Rows.mref (Referent.rtF (Referent.fInt Syntax.w32)) (Syntax.tyRef (Syntax.named 6) Syntax.mut (Syntax.tyInt Syntax.w32)) 6,
         ) (List._∷_ ( 8, Rows.any-gone (Syntax.tyStruct (List._∷_ 102 (List._∷_ 105 (List._∷_ 114 (List._∷_ 109 (List._∷_ 58 (List._∷_ 58 (List._∷_ 81 (List._∷_ 117 (List._∷_ 111 (List._∷_ 116 (List._∷_ 101 List.[]))))))))))) (Syntax.tcons (Syntax.tyInt Syntax.w32) (Syntax.tcons (Syntax.tyInt Syntax.w64) (Syntax.tcons (Syntax.tyInt Syntax.w64) (Syntax.tcons (Syntax.tyInt Syntax.w32) Syntax.tnil))))),
-        ) (List._∷_ ( 9, Rows.any-gone (Syntax.tyRef Syntax.erased Syntax.mut σ),
-        ) (List._∷_ ( 10, Mut.mslice T (Syntax.tyRef Syntax.erased Syntax.mut σ) 7,
+        ) (List._∷_ ( 9, Rows.any-gone (Syntax.tyRef Syntax.erased Syntax.mut ϱ),
+        ) (List._∷_ ( 10, Mut.mslice T (Syntax.tyRef Syntax.erased Syntax.mut ϱ) 7,
         ) (List._∷_ ( 11, Rows.any-gone (Syntax.tyRef Syntax.erased Syntax.mut (Syntax.tyInt Syntax.w32)),
         ) (List._∷_ ( 12, Rows.any-gone (Syntax.tyStruct (List._∷_ 38 (List._∷_ 91 (List._∷_ 93 List.[]))) (Syntax.tcons (Syntax.tyRef Syntax.erased Syntax.mut (Syntax.tyInt Syntax.w32)) (Syntax.tcons (Syntax.tyInt Syntax.w64) Syntax.tnil))),
         ) (List._∷_ ( 13, Rows.any-gone (Syntax.tyRef Syntax.erased Syntax.mut (Syntax.tyInt Syntax.w32)),
@@ -607,8 +609,8 @@ module _ (claims· : Claims) where
         ) (List._∷_ ( 6, Rows.mref (Referent.rtF (Referent.fInt Syntax.w64)) (Syntax.tyRef (Syntax.named 5) Syntax.mut (Syntax.tyInt Syntax.w64)) 5,
         ) (List._∷_ ( 7, Rows.mref (Referent.rtF (Referent.fInt Syntax.w32)) (Syntax.tyRef (Syntax.named 6) Syntax.mut (Syntax.tyInt Syntax.w32)) 6,
         ) (List._∷_ ( 8, Rows.any-gone (Syntax.tyStruct (List._∷_ 102 (List._∷_ 105 (List._∷_ 114 (List._∷_ 109 (List._∷_ 58 (List._∷_ 58 (List._∷_ 81 (List._∷_ 117 (List._∷_ 111 (List._∷_ 116 (List._∷_ 101 List.[]))))))))))) (Syntax.tcons (Syntax.tyInt Syntax.w32) (Syntax.tcons (Syntax.tyInt Syntax.w64) (Syntax.tcons (Syntax.tyInt Syntax.w64) (Syntax.tcons (Syntax.tyInt Syntax.w32) Syntax.tnil))))),
-        ) (List._∷_ ( 9, Rows.any-gone (Syntax.tyRef Syntax.erased Syntax.mut σ),
-        ) (List._∷_ ( 10, Mut.mslice T (Syntax.tyRef Syntax.erased Syntax.mut σ) 7,
+        ) (List._∷_ ( 9, Rows.any-gone (Syntax.tyRef Syntax.erased Syntax.mut ϱ),
+        ) (List._∷_ ( 10, Mut.mslice T (Syntax.tyRef Syntax.erased Syntax.mut ϱ) 7,
         ) (List._∷_ ( 11, Relend.msptr (Referent.rtF (Referent.fInt Syntax.w32)) (Syntax.tyRef Syntax.erased Syntax.mut (Syntax.tyInt Syntax.w32)) 8,
         ) (List._∷_ ( 12, Rows.any-gone (Syntax.tyStruct (List._∷_ 38 (List._∷_ 91 (List._∷_ 93 List.[]))) (Syntax.tcons (Syntax.tyRef Syntax.erased Syntax.mut (Syntax.tyInt Syntax.w32)) (Syntax.tcons (Syntax.tyInt Syntax.w64) Syntax.tnil))),
         ) (List._∷_ ( 13, Rows.any-gone (Syntax.tyRef Syntax.erased Syntax.mut (Syntax.tyInt Syntax.w32)),
@@ -624,8 +626,8 @@ module _ (claims· : Claims) where
         ) (List._∷_ ( 6, Rows.mref (Referent.rtF (Referent.fInt Syntax.w64)) (Syntax.tyRef (Syntax.named 5) Syntax.mut (Syntax.tyInt Syntax.w64)) 5,
         ) (List._∷_ ( 7, Rows.mref (Referent.rtF (Referent.fInt Syntax.w32)) (Syntax.tyRef (Syntax.named 6) Syntax.mut (Syntax.tyInt Syntax.w32)) 6,
         ) (List._∷_ ( 8, Rows.any-gone (Syntax.tyStruct (List._∷_ 102 (List._∷_ 105 (List._∷_ 114 (List._∷_ 109 (List._∷_ 58 (List._∷_ 58 (List._∷_ 81 (List._∷_ 117 (List._∷_ 111 (List._∷_ 116 (List._∷_ 101 List.[]))))))))))) (Syntax.tcons (Syntax.tyInt Syntax.w32) (Syntax.tcons (Syntax.tyInt Syntax.w64) (Syntax.tcons (Syntax.tyInt Syntax.w64) (Syntax.tcons (Syntax.tyInt Syntax.w32) Syntax.tnil))))),
-        ) (List._∷_ ( 9, Rows.any-gone (Syntax.tyRef Syntax.erased Syntax.mut σ),
-        ) (List._∷_ ( 10, Mut.mslice T (Syntax.tyRef Syntax.erased Syntax.mut σ) 7,
+        ) (List._∷_ ( 9, Rows.any-gone (Syntax.tyRef Syntax.erased Syntax.mut ϱ),
+        ) (List._∷_ ( 10, Mut.mslice T (Syntax.tyRef Syntax.erased Syntax.mut ϱ) 7,
         ) (List._∷_ ( 11, Rows.any-gone (Syntax.tyRef Syntax.erased Syntax.mut (Syntax.tyInt Syntax.w32)),
         ) (List._∷_ ( 12, Mut.mslice (Referent.rtF (Referent.fInt Syntax.w32)) (Syntax.tyRef Syntax.erased Syntax.mut (Syntax.tyInt Syntax.w32)) 8,
         ) (List._∷_ ( 13, Rows.any-gone (Syntax.tyRef Syntax.erased Syntax.mut (Syntax.tyInt Syntax.w32)),
@@ -641,8 +643,8 @@ module _ (claims· : Claims) where
         ) (List._∷_ ( 6, Rows.mref (Referent.rtF (Referent.fInt Syntax.w64)) (Syntax.tyRef (Syntax.named 5) Syntax.mut (Syntax.tyInt Syntax.w64)) 5,
         ) (List._∷_ ( 7, Rows.mref (Referent.rtF (Referent.fInt Syntax.w32)) (Syntax.tyRef (Syntax.named 6) Syntax.mut (Syntax.tyInt Syntax.w32)) 6,
         ) (List._∷_ ( 8, Rows.any-gone (Syntax.tyStruct (List._∷_ 102 (List._∷_ 105 (List._∷_ 114 (List._∷_ 109 (List._∷_ 58 (List._∷_ 58 (List._∷_ 81 (List._∷_ 117 (List._∷_ 111 (List._∷_ 116 (List._∷_ 101 List.[]))))))))))) (Syntax.tcons (Syntax.tyInt Syntax.w32) (Syntax.tcons (Syntax.tyInt Syntax.w64) (Syntax.tcons (Syntax.tyInt Syntax.w64) (Syntax.tcons (Syntax.tyInt Syntax.w32) Syntax.tnil))))),
-        ) (List._∷_ ( 9, Rows.any-gone (Syntax.tyRef Syntax.erased Syntax.mut σ),
-        ) (List._∷_ ( 10, Mut.mslice T (Syntax.tyRef Syntax.erased Syntax.mut σ) 7,
+        ) (List._∷_ ( 9, Rows.any-gone (Syntax.tyRef Syntax.erased Syntax.mut ϱ),
+        ) (List._∷_ ( 10, Mut.mslice T (Syntax.tyRef Syntax.erased Syntax.mut ϱ) 7,
         ) (List._∷_ ( 11, Rows.any-gone (Syntax.tyRef Syntax.erased Syntax.mut (Syntax.tyInt Syntax.w32)),
         ) (List._∷_ ( 12, Mut.mslice (Referent.rtF (Referent.fInt Syntax.w32)) (Syntax.tyRef Syntax.erased Syntax.mut (Syntax.tyInt Syntax.w32)) 8,
         ) (List._∷_ ( 13, Relend.msptr (Referent.rtF (Referent.fInt Syntax.w32)) (Syntax.tyRef Syntax.erased Syntax.mut (Syntax.tyInt Syntax.w32)) 9,
@@ -658,8 +660,8 @@ module _ (claims· : Claims) where
         ) (List._∷_ ( 6, Rows.mref (Referent.rtF (Referent.fInt Syntax.w64)) (Syntax.tyRef (Syntax.named 5) Syntax.mut (Syntax.tyInt Syntax.w64)) 5,
         ) (List._∷_ ( 7, Rows.mref (Referent.rtF (Referent.fInt Syntax.w32)) (Syntax.tyRef (Syntax.named 6) Syntax.mut (Syntax.tyInt Syntax.w32)) 6,
         ) (List._∷_ ( 8, Rows.any-gone (Syntax.tyStruct (List._∷_ 102 (List._∷_ 105 (List._∷_ 114 (List._∷_ 109 (List._∷_ 58 (List._∷_ 58 (List._∷_ 81 (List._∷_ 117 (List._∷_ 111 (List._∷_ 116 (List._∷_ 101 List.[]))))))))))) (Syntax.tcons (Syntax.tyInt Syntax.w32) (Syntax.tcons (Syntax.tyInt Syntax.w64) (Syntax.tcons (Syntax.tyInt Syntax.w64) (Syntax.tcons (Syntax.tyInt Syntax.w32) Syntax.tnil))))),
-        ) (List._∷_ ( 9, Rows.any-gone (Syntax.tyRef Syntax.erased Syntax.mut σ),
-        ) (List._∷_ ( 10, Mut.mslice T (Syntax.tyRef Syntax.erased Syntax.mut σ) 7,
+        ) (List._∷_ ( 9, Rows.any-gone (Syntax.tyRef Syntax.erased Syntax.mut ϱ),
+        ) (List._∷_ ( 10, Mut.mslice T (Syntax.tyRef Syntax.erased Syntax.mut ϱ) 7,
         ) (List._∷_ ( 11, Rows.any-gone (Syntax.tyRef Syntax.erased Syntax.mut (Syntax.tyInt Syntax.w32)),
         ) (List._∷_ ( 12, Mut.mslice (Referent.rtF (Referent.fInt Syntax.w32)) (Syntax.tyRef Syntax.erased Syntax.mut (Syntax.tyInt Syntax.w32)) 8,
         ) (List._∷_ ( 13, Rows.any-gone (Syntax.tyRef Syntax.erased Syntax.mut (Syntax.tyInt Syntax.w32)),
@@ -674,8 +676,8 @@ module _ (claims· : Claims) where
         ) (List._∷_ ( 5, Rows.mref (Referent.rtF (Referent.fInt Syntax.w64)) (Syntax.tyRef (Syntax.named 4) Syntax.mut (Syntax.tyInt Syntax.w64)) 4,
         ) (List._∷_ ( 6, Rows.mref (Referent.rtF (Referent.fInt Syntax.w64)) (Syntax.tyRef (Syntax.named 5) Syntax.mut (Syntax.tyInt Syntax.w64)) 5,
         ) (List._∷_ ( 7, Rows.mref (Referent.rtF (Referent.fInt Syntax.w32)) (Syntax.tyRef (Syntax.named 6) Syntax.mut (Syntax.tyInt Syntax.w32)) 6,
-        ) (List._∷_ (8, Rows.whole (Declared.row Quote.the-type)) (List._∷_ ( 9, Rows.any-gone (Syntax.tyRef Syntax.erased Syntax.mut σ),
-        ) (List._∷_ ( 10, Mut.msleft T (Syntax.tyRef Syntax.erased Syntax.mut σ),
+        ) (List._∷_ (8, Rows.whole (Declared.row Quote.the-type)) (List._∷_ ( 9, Rows.any-gone (Syntax.tyRef Syntax.erased Syntax.mut ϱ),
+        ) (List._∷_ ( 10, Mut.msleft T (Syntax.tyRef Syntax.erased Syntax.mut ϱ),
         ) (List._∷_ ( 11, Rows.any-gone (Syntax.tyRef Syntax.erased Syntax.mut (Syntax.tyInt Syntax.w32)),
         ) (List._∷_ ( 12, Mut.msleft (Referent.rtF (Referent.fInt Syntax.w32)) (Syntax.tyRef Syntax.erased Syntax.mut (Syntax.tyInt Syntax.w32)),
         ) (List._∷_ ( 13, Rows.any-gone (Syntax.tyRef Syntax.erased Syntax.mut (Syntax.tyInt Syntax.w32)),
@@ -690,8 +692,8 @@ module _ (claims· : Claims) where
         ) (List._∷_ ( 5, Rows.mref (Referent.rtF (Referent.fInt Syntax.w64)) (Syntax.tyRef (Syntax.named 4) Syntax.mut (Syntax.tyInt Syntax.w64)) 4,
         ) (List._∷_ ( 6, Rows.mref (Referent.rtF (Referent.fInt Syntax.w64)) (Syntax.tyRef (Syntax.named 5) Syntax.mut (Syntax.tyInt Syntax.w64)) 5,
         ) (List._∷_ ( 7, Rows.mref (Referent.rtF (Referent.fInt Syntax.w32)) (Syntax.tyRef (Syntax.named 6) Syntax.mut (Syntax.tyInt Syntax.w32)) 6,
-        ) (List._∷_ (8, Rows.whole (Declared.row Quote.the-type)) (List._∷_ ( 9, Rows.any-gone (Syntax.tyRef Syntax.erased Syntax.mut σ),
-        ) (List._∷_ ( 10, Rows.any-gone (Syntax.tyStruct (List._∷_ 38 (List._∷_ 91 (List._∷_ 93 List.[]))) (Syntax.tcons (Syntax.tyRef Syntax.erased Syntax.mut σ) (Syntax.tcons (Syntax.tyInt Syntax.w64) Syntax.tnil))),
+        ) (List._∷_ (8, Rows.whole (Declared.row Quote.the-type)) (List._∷_ ( 9, Rows.any-gone (Syntax.tyRef Syntax.erased Syntax.mut ϱ),
+        ) (List._∷_ ( 10, Rows.any-gone (Syntax.tyStruct (List._∷_ 38 (List._∷_ 91 (List._∷_ 93 List.[]))) (Syntax.tcons (Syntax.tyRef Syntax.erased Syntax.mut ϱ) (Syntax.tcons (Syntax.tyInt Syntax.w64) Syntax.tnil))),
         ) (List._∷_ ( 11, Rows.any-gone (Syntax.tyRef Syntax.erased Syntax.mut (Syntax.tyInt Syntax.w32)),
         ) (List._∷_ ( 12, Mut.msleft (Referent.rtF (Referent.fInt Syntax.w32)) (Syntax.tyRef Syntax.erased Syntax.mut (Syntax.tyInt Syntax.w32)),
         ) (List._∷_ ( 13, Rows.any-gone (Syntax.tyRef Syntax.erased Syntax.mut (Syntax.tyInt Syntax.w32)),
@@ -706,8 +708,8 @@ module _ (claims· : Claims) where
         ) (List._∷_ ( 5, Rows.mref (Referent.rtF (Referent.fInt Syntax.w64)) (Syntax.tyRef (Syntax.named 4) Syntax.mut (Syntax.tyInt Syntax.w64)) 4,
         ) (List._∷_ ( 6, Rows.mref (Referent.rtF (Referent.fInt Syntax.w64)) (Syntax.tyRef (Syntax.named 5) Syntax.mut (Syntax.tyInt Syntax.w64)) 5,
         ) (List._∷_ ( 7, Rows.mref (Referent.rtF (Referent.fInt Syntax.w32)) (Syntax.tyRef (Syntax.named 6) Syntax.mut (Syntax.tyInt Syntax.w32)) 6,
-        ) (List._∷_ (8, Rows.whole (Declared.row Quote.the-type)) (List._∷_ ( 9, Rows.any-gone (Syntax.tyRef Syntax.erased Syntax.mut σ),
-        ) (List._∷_ ( 10, Rows.any-gone (Syntax.tyStruct (List._∷_ 38 (List._∷_ 91 (List._∷_ 93 List.[]))) (Syntax.tcons (Syntax.tyRef Syntax.erased Syntax.mut σ) (Syntax.tcons (Syntax.tyInt Syntax.w64) Syntax.tnil))),
+        ) (List._∷_ (8, Rows.whole (Declared.row Quote.the-type)) (List._∷_ ( 9, Rows.any-gone (Syntax.tyRef Syntax.erased Syntax.mut ϱ),
+        ) (List._∷_ ( 10, Rows.any-gone (Syntax.tyStruct (List._∷_ 38 (List._∷_ 91 (List._∷_ 93 List.[]))) (Syntax.tcons (Syntax.tyRef Syntax.erased Syntax.mut ϱ) (Syntax.tcons (Syntax.tyInt Syntax.w64) Syntax.tnil))),
         ) (List._∷_ ( 11, Rows.any-gone (Syntax.tyRef Syntax.erased Syntax.mut (Syntax.tyInt Syntax.w32)),
         ) (List._∷_ ( 12, Rows.any-gone (Syntax.tyStruct (List._∷_ 38 (List._∷_ 91 (List._∷_ 93 List.[]))) (Syntax.tcons (Syntax.tyRef Syntax.erased Syntax.mut (Syntax.tyInt Syntax.w32)) (Syntax.tcons (Syntax.tyInt Syntax.w64) Syntax.tnil))),
         ) (List._∷_ ( 13, Rows.any-gone (Syntax.tyRef Syntax.erased Syntax.mut (Syntax.tyInt Syntax.w32)),
@@ -860,13 +862,13 @@ module _ (claims· : Claims) where
           d14 = Typed.g-pre 𝓤 H A W 𝓣 E G16 G17 b15 Δ0 (λ Ψ. Ψ) at13 (Lifetime.g-forget 𝓤 H A W E G16 7 Row.dead Path'.refl) d13
 
           d15 : Typed.Typed 𝓤 H A 𝓣 E G15 b15 Δ0 at15
-          d15 = Typed.g-pre 𝓤 H A W 𝓣 E G15 G16 b15 Δ0 (Typed.both s14) at14 (Relend.g-back-sl 𝓤 H A W E T G15 10 1 0 7 τ (Syntax.tyRef Syntax.erased Syntax.mut σ) (Row.lease (κs .0) (qs .0)) (λ x. x) (λ x. x) (Reads'.as-is 𝓤 H A (Mut.msleft T (Syntax.tyRef Syntax.erased Syntax.mut σ))) (Reads'.as-is 𝓤 H A (Relend.mslice-owed T τ 0 7 (Row.lease (κs .0) (qs .0)))) Path'.refl Path'.refl) d14
+          d15 = Typed.g-pre 𝓤 H A W 𝓣 E G15 G16 b15 Δ0 (Typed.both s14) at14 (Relend.g-back-sl 𝓤 H A W E T G15 10 1 0 7 τ (Syntax.tyRef Syntax.erased Syntax.mut ϱ) (Row.lease (κs .0) (qs .0)) (λ x. x) (λ x. x) (Reads'.as-is 𝓤 H A (Mut.msleft T (Syntax.tyRef Syntax.erased Syntax.mut ϱ))) (Reads'.as-is 𝓤 H A (Relend.mslice-owed T τ 0 7 (Row.lease (κs .0) (qs .0)))) Path'.refl Path'.refl) d14
 
           d16 : Typed.Typed 𝓤 H A 𝓣 E G14 b15 Δ0 at16
           d16 = Typed.g-pre 𝓤 H A W 𝓣 E G14 G15 b15 Δ0 (λ Ψ. Ψ) at15 (Lifetime.g-end 𝓤 H A W E G14 7 Path'.refl) d15
 
           d17 : Typed.Typed 𝓤 H A 𝓣 E G13 b16 Δ0 at17
-          d17 = Typed.s-seq 𝓤 H A W 𝓣 E G13 G14 b6 b15 Δ0 (Typed.both s12) at16 (Plain.t-call-plain 𝓤 H A W 𝓣 4 ps·0 r·0 (claims· .0) (claims· .1) "firm::firm" known E (λ pos β. β) G13 ( record { pos = 10; ty = Syntax.tyRef Syntax.erased Syntax.mut σ; ref = λ x. x; }, ( record { pos = 2; ty = Syntax.tyRef (Syntax.named 1) Syntax.imm (Syntax.tyInt Syntax.w8); ref = λ x. x; }, ( record { pos = 12; ty = Syntax.tyRef Syntax.erased Syntax.mut (Syntax.tyInt Syntax.w32); ref = λ x. x; }, ( record { pos = 14; ty = Syntax.tyRef Syntax.erased Syntax.mut (Syntax.tyInt Syntax.w32); ref = λ x. x; }, tt, ), ), ), ) 8 (List._∷_ 7 (List._∷_ 1 (List._∷_ 8 (List._∷_ 9 List.[])))) (Call.sub-id 𝓤 H A W (G13 .slots)) ( Reads'.as-is 𝓤 H A (Mut.mslice T (Syntax.tyRef Syntax.erased Syntax.mut σ) 7), Mut.reads-mslice 𝓤 H A W T (Syntax.tyRef Syntax.erased Syntax.mut σ) 7, Path'.refl, ( ShrSlice.spares-sslice 𝓤 H A W (Referent.rtF (Referent.fInt Syntax.w8)) (Syntax.tyRef (Syntax.named 1) Syntax.imm (Syntax.tyInt Syntax.w8)) 1, Shared.reads-sslice 𝓤 H A W (Referent.rtF (Referent.fInt Syntax.w8)) (Syntax.tyRef (Syntax.named 1) Syntax.imm (Syntax.tyInt Syntax.w8)) 1, Path'.refl, ( Reads'.as-is 𝓤 H A (Mut.mslice (Referent.rtF (Referent.fInt Syntax.w32)) (Syntax.tyRef Syntax.erased Syntax.mut (Syntax.tyInt Syntax.w32)) 8), Mut.reads-mslice 𝓤 H A W (Referent.rtF (Referent.fInt Syntax.w32)) (Syntax.tyRef Syntax.erased Syntax.mut (Syntax.tyInt Syntax.w32)) 8, Path'.refl, ( Reads'.as-is 𝓤 H A (Mut.mslice (Referent.rtF (Referent.fInt Syntax.w32)) (Syntax.tyRef Syntax.erased Syntax.mut (Syntax.tyInt Syntax.w32)) 9), Mut.reads-mslice 𝓤 H A W (Referent.rtF (Referent.fInt Syntax.w32)) (Syntax.tyRef Syntax.erased Syntax.mut (Syntax.tyInt Syntax.w32)) 9, Path'.refl, tt, ), ), ), ) (Reads'.room-gone 𝓤 H A (Syntax.tyStruct (List._∷_ 102 (List._∷_ 105 (List._∷_ 114 (List._∷_ 109 (List._∷_ 58 (List._∷_ 58 (List._∷_ 81 (List._∷_ 117 (List._∷_ 111 (List._∷_ 116 (List._∷_ 101 List.[]))))))))))) (Syntax.tcons (Syntax.tyInt Syntax.w32) (Syntax.tcons (Syntax.tyInt Syntax.w64) (Syntax.tcons (Syntax.tyInt Syntax.w64) (Syntax.tcons (Syntax.tyInt Syntax.w32) Syntax.tnil)))))) (tt, (tt, (tt, (tt, tt)))) Path'.refl) d16
+          d17 = Typed.s-seq 𝓤 H A W 𝓣 E G13 G14 b6 b15 Δ0 (Typed.both s12) at16 (Plain.t-call-plain 𝓤 H A W 𝓣 4 ps·0 r·0 (claims· .0) (claims· .1) "firm::firm" known E (λ pos β. β) G13 ( record { pos = 10; ty = Syntax.tyRef Syntax.erased Syntax.mut ϱ; ref = λ x. x; }, ( record { pos = 2; ty = Syntax.tyRef (Syntax.named 1) Syntax.imm (Syntax.tyInt Syntax.w8); ref = λ x. x; }, ( record { pos = 12; ty = Syntax.tyRef Syntax.erased Syntax.mut (Syntax.tyInt Syntax.w32); ref = λ x. x; }, ( record { pos = 14; ty = Syntax.tyRef Syntax.erased Syntax.mut (Syntax.tyInt Syntax.w32); ref = λ x. x; }, tt, ), ), ), ) 8 (List._∷_ 7 (List._∷_ 1 (List._∷_ 8 (List._∷_ 9 List.[])))) (Call.sub-id 𝓤 H A W (G13 .slots)) ( Reads'.as-is 𝓤 H A (Mut.mslice T (Syntax.tyRef Syntax.erased Syntax.mut ϱ) 7), Mut.reads-mslice 𝓤 H A W T (Syntax.tyRef Syntax.erased Syntax.mut ϱ) 7, Path'.refl, ( ShrSlice.spares-sslice 𝓤 H A W (Referent.rtF (Referent.fInt Syntax.w8)) (Syntax.tyRef (Syntax.named 1) Syntax.imm (Syntax.tyInt Syntax.w8)) 1, Shared.reads-sslice 𝓤 H A W (Referent.rtF (Referent.fInt Syntax.w8)) (Syntax.tyRef (Syntax.named 1) Syntax.imm (Syntax.tyInt Syntax.w8)) 1, Path'.refl, ( Reads'.as-is 𝓤 H A (Mut.mslice (Referent.rtF (Referent.fInt Syntax.w32)) (Syntax.tyRef Syntax.erased Syntax.mut (Syntax.tyInt Syntax.w32)) 8), Mut.reads-mslice 𝓤 H A W (Referent.rtF (Referent.fInt Syntax.w32)) (Syntax.tyRef Syntax.erased Syntax.mut (Syntax.tyInt Syntax.w32)) 8, Path'.refl, ( Reads'.as-is 𝓤 H A (Mut.mslice (Referent.rtF (Referent.fInt Syntax.w32)) (Syntax.tyRef Syntax.erased Syntax.mut (Syntax.tyInt Syntax.w32)) 9), Mut.reads-mslice 𝓤 H A W (Referent.rtF (Referent.fInt Syntax.w32)) (Syntax.tyRef Syntax.erased Syntax.mut (Syntax.tyInt Syntax.w32)) 9, Path'.refl, tt, ), ), ), ) (Reads'.room-gone 𝓤 H A (Syntax.tyStruct (List._∷_ 102 (List._∷_ 105 (List._∷_ 114 (List._∷_ 109 (List._∷_ 58 (List._∷_ 58 (List._∷_ 81 (List._∷_ 117 (List._∷_ 111 (List._∷_ 116 (List._∷_ 101 List.[]))))))))))) (Syntax.tcons (Syntax.tyInt Syntax.w32) (Syntax.tcons (Syntax.tyInt Syntax.w64) (Syntax.tcons (Syntax.tyInt Syntax.w64) (Syntax.tcons (Syntax.tyInt Syntax.w32) Syntax.tnil)))))) (tt, (tt, (tt, (tt, tt)))) Path'.refl) d16
 
           d18 : Typed.Typed 𝓤 H A 𝓣 E G12 b17 Δ0 at18
           d18 = Typed.s-seq 𝓤 H A W 𝓣 E G12 G13 b5 b16 Δ0 (Typed.ask s11) at17 (Relend.t-sl-aggregate 𝓤 H A W E (Referent.rtF (Referent.fInt Syntax.w32)) 𝓣 (Relend.asMut (Referent.rtF (Referent.fInt Syntax.w32))) G12 13 14 9 (Syntax.tyRef Syntax.erased Syntax.mut (Syntax.tyInt Syntax.w32)) (Syntax.tyRef Syntax.erased Syntax.mut (Syntax.tyInt Syntax.w32)) (λ x. x) (Scalar.oFld 4 (List._∷_ (Syntax.field 1) List.[]) (Syntax.tyInt Syntax.w64) 8 λ v. Shared.lenV (v .0)) (Reads'.as-is 𝓤 H A (Relend.msptr (Referent.rtF (Referent.fInt Syntax.w32)) (Syntax.tyRef Syntax.erased Syntax.mut (Syntax.tyInt Syntax.w32)) 9)) (Reads'.room-gone 𝓤 H A (Syntax.tyStruct (List._∷_ 38 (List._∷_ 91 (List._∷_ 93 List.[]))) (Syntax.tcons (Syntax.tyRef Syntax.erased Syntax.mut (Syntax.tyInt Syntax.w32)) (Syntax.tcons (Syntax.tyInt Syntax.w64) Syntax.tnil)))) ( Relend.reads-owed-len 𝓤 H A W (Referent.rtF (Referent.fInt Syntax.w32)) (Syntax.tyRef (Syntax.named 3) Syntax.mut (Syntax.tyInt Syntax.w32)) 3 9 (Row.lease (κs .1 .1 .1 .0) (qs .1 .1 .1 .0)) 8 Path'.refl, Path'.refl, ) Path'.refl Path'.refl λ b o k. tt) d17
@@ -887,10 +889,10 @@ module _ (claims· : Claims) where
           d23 = Typed.g-pre 𝓤 H A W 𝓣 E G7 G8 b20 Δ0 (λ Ψ. Ψ) at22 (Lifetime.g-begin 𝓤 H A W E G7 8 ( tt, ( (tt, tt), ( tt, ( tt, ( tt, (tt, (tt, (tt, (tt, (tt, (tt, (tt, (tt, (tt, (tt, tt)))))))))), ), ), ), ), )) d22
 
           d24 : Typed.Typed 𝓤 H A 𝓣 E G6 b21 Δ0 at24
-          d24 = Typed.s-seq 𝓤 H A W 𝓣 E G6 G7 b1 b20 Δ0 (Typed.ask s5) at23 (Relend.t-sl-aggregate 𝓤 H A W E T 𝓣 (Relend.asMut T) G6 9 10 7 (Syntax.tyRef Syntax.erased Syntax.mut σ) (Syntax.tyRef Syntax.erased Syntax.mut σ) (λ x. x) (Scalar.oFld 1 (List._∷_ (Syntax.field 1) List.[]) (Syntax.tyInt Syntax.w64) 8 λ v. Shared.lenV (v .0)) (Reads'.as-is 𝓤 H A (Relend.msptr T (Syntax.tyRef Syntax.erased Syntax.mut σ) 7)) (Reads'.room-gone 𝓤 H A (Syntax.tyStruct (List._∷_ 38 (List._∷_ 91 (List._∷_ 93 List.[]))) (Syntax.tcons (Syntax.tyRef Syntax.erased Syntax.mut σ) (Syntax.tcons (Syntax.tyInt Syntax.w64) Syntax.tnil)))) ( Relend.reads-owed-len 𝓤 H A W T τ 0 7 (Row.lease (κs .0) (qs .0)) 8 Path'.refl, Path'.refl, ) Path'.refl Path'.refl λ b o k. tt) d23
+          d24 = Typed.s-seq 𝓤 H A W 𝓣 E G6 G7 b1 b20 Δ0 (Typed.ask s5) at23 (Relend.t-sl-aggregate 𝓤 H A W E T 𝓣 (Relend.asMut T) G6 9 10 7 (Syntax.tyRef Syntax.erased Syntax.mut ϱ) (Syntax.tyRef Syntax.erased Syntax.mut ϱ) (λ x. x) (Scalar.oFld 1 (List._∷_ (Syntax.field 1) List.[]) (Syntax.tyInt Syntax.w64) 8 λ v. Shared.lenV (v .0)) (Reads'.as-is 𝓤 H A (Relend.msptr T (Syntax.tyRef Syntax.erased Syntax.mut ϱ) 7)) (Reads'.room-gone 𝓤 H A (Syntax.tyStruct (List._∷_ 38 (List._∷_ 91 (List._∷_ 93 List.[]))) (Syntax.tcons (Syntax.tyRef Syntax.erased Syntax.mut ϱ) (Syntax.tcons (Syntax.tyInt Syntax.w64) Syntax.tnil)))) ( Relend.reads-owed-len 𝓤 H A W T τ 0 7 (Row.lease (κs .0) (qs .0)) 8 Path'.refl, Path'.refl, ) Path'.refl Path'.refl λ b o k. tt) d23
 
           d25 : Typed.Typed 𝓤 H A 𝓣 E G5 b22 Δ0 at25
-          d25 = Typed.s-seq 𝓤 H A W 𝓣 E G5 G6 b0 b21 Δ0 (Typed.give s4) at24 (Relend.t-sl-relend 𝓤 H A W E T 𝓣 G5 1 9 0 7 τ (Syntax.tyRef Syntax.erased Syntax.mut σ) (Row.lease (κs .0) (qs .0)) 0 (λ x. x) (Reads'.as-is 𝓤 H A (Mut.mslice T τ 0)) (Reads'.room-gone 𝓤 H A (Syntax.tyRef Syntax.erased Syntax.mut σ)) Path'.refl tt Path'.refl Path'.refl Path'.refl λ b o. tt) d24
+          d25 = Typed.s-seq 𝓤 H A W 𝓣 E G5 G6 b0 b21 Δ0 (Typed.give s4) at24 (Relend.t-sl-relend 𝓤 H A W E T 𝓣 G5 1 9 0 7 τ (Syntax.tyRef Syntax.erased Syntax.mut ϱ) (Row.lease (κs .0) (qs .0)) 0 (λ x. x) (Reads'.as-is 𝓤 H A (Mut.mslice T τ 0)) (Reads'.room-gone 𝓤 H A (Syntax.tyRef Syntax.erased Syntax.mut ϱ)) Path'.refl tt Path'.refl Path'.refl Path'.refl λ b o. tt) d24
 
           d26 : Typed.Typed 𝓤 H A 𝓣 E G4 b22 Δ0 at26
           d26 = Typed.g-pre 𝓤 H A W 𝓣 E G4 G5 b22 Δ0 (λ Ψ. Ψ) at25 (Lifetime.g-begin 𝓤 H A W E G4 7 ( tt, ( tt, ( tt, ( tt, ( tt, (tt, (tt, (tt, (tt, (tt, (tt, (tt, (tt, (tt, (tt, tt)))))))))), ), ), ), ), )) d25
@@ -1017,7 +1019,7 @@ module _ (claims· : Claims) where
 
       module _ (before· : After-firm-arg3) where
         abbrev pub After-firm·own : Type 0
-        After-firm·own = Called.Called ps·0 r·0 (claims· .1) T13 ( record { pos = 10; ty = Syntax.tyRef Syntax.erased Syntax.mut σ; ref = λ x. x; }, ( record { pos = 2; ty = Syntax.tyRef (Syntax.named 1) Syntax.imm (Syntax.tyInt Syntax.w8); ref = λ x. x; }, ( record { pos = 12; ty = Syntax.tyRef Syntax.erased Syntax.mut (Syntax.tyInt Syntax.w32); ref = λ x. x; }, ( record { pos = 14; ty = Syntax.tyRef Syntax.erased Syntax.mut (Syntax.tyInt Syntax.w32); ref = λ x. x; }, tt, ), ), ),
+        After-firm·own = Called.Called ps·0 r·0 (claims· .1) T13 ( record { pos = 10; ty = Syntax.tyRef Syntax.erased Syntax.mut ϱ; ref = λ x. x; }, ( record { pos = 2; ty = Syntax.tyRef (Syntax.named 1) Syntax.imm (Syntax.tyInt Syntax.w8); ref = λ x. x; }, ( record { pos = 12; ty = Syntax.tyRef Syntax.erased Syntax.mut (Syntax.tyInt Syntax.w32); ref = λ x. x; }, ( record { pos = 14; ty = Syntax.tyRef Syntax.erased Syntax.mut (Syntax.tyInt Syntax.w32); ref = λ x. x; }, tt, ), ), ),
         ) (m9 (before· .before) (before· .firm-arg3 .given))
 
       pub record After-firm : Type 0 where
@@ -1025,7 +1027,7 @@ module _ (claims· : Claims) where
         pub firm : After-firm·own before
 
       abbrev pub After-firm·gave : (c : After-firm) → s12 .gives (m9 (c .before .before) (c .before .firm-arg3 .given))
-      After-firm·gave = λ c. Called.given ps·0 r·0 (claims· .1) T13 ( record { pos = 10; ty = Syntax.tyRef Syntax.erased Syntax.mut σ; ref = λ x. x; }, ( record { pos = 2; ty = Syntax.tyRef (Syntax.named 1) Syntax.imm (Syntax.tyInt Syntax.w8); ref = λ x. x; }, ( record { pos = 12; ty = Syntax.tyRef Syntax.erased Syntax.mut (Syntax.tyInt Syntax.w32); ref = λ x. x; }, ( record { pos = 14; ty = Syntax.tyRef Syntax.erased Syntax.mut (Syntax.tyInt Syntax.w32); ref = λ x. x; }, tt, ), ), ),
+      After-firm·gave = λ c. Called.given ps·0 r·0 (claims· .1) T13 ( record { pos = 10; ty = Syntax.tyRef Syntax.erased Syntax.mut ϱ; ref = λ x. x; }, ( record { pos = 2; ty = Syntax.tyRef (Syntax.named 1) Syntax.imm (Syntax.tyInt Syntax.w8); ref = λ x. x; }, ( record { pos = 12; ty = Syntax.tyRef Syntax.erased Syntax.mut (Syntax.tyInt Syntax.w32); ref = λ x. x; }, ( record { pos = 14; ty = Syntax.tyRef Syntax.erased Syntax.mut (Syntax.tyInt Syntax.w32); ref = λ x. x; }, tt, ), ), ),
       ) (m9 (c .before .before) (c .before .firm-arg3 .given)) (c .firm)
 
       abbrev pub m11 : (before : After-firm) → (given : s14 .gives (m10 (before .before) (After-firm·gave before))) → Typed.Mo T16
@@ -1116,7 +1118,7 @@ module _ (claims· : Claims) where
         )
 
         pub laid : (c : Start) → at29 (W0 (c .κs) (c .args)) (m0 (c .κs) (c .args))
-        laid = λ c. λ g. λ g'. λ g''. λ g'3. ( Path'.refl, λ g'4. ( Path'.refl, λ g'5. ( Path'.refl, ( firm-requires record { before = record { before = record { before = record { before = record { before = record { before = c; shared-slice-known = record { given = g }; }; slice-known = record { given = g' }; }; slice-known2 = record { given = g'' }; }; firm-arg = record { given = g'3 }; }; firm-arg2 = record { given = g'4 }; }; firm-arg3 = record { given = g'5 }; }, λ g'6. lay1 record { before = record { before = record { before = record { before = record { before = record { before = record { before = c; shared-slice-known = record { given = g }; }; slice-known = record { given = g' }; }; slice-known2 = record { given = g'' }; }; firm-arg = record { given = g'3 }; }; firm-arg2 = record { given = g'4 }; }; firm-arg3 = record { given = g'5 }; }; firm = Called.called ps·0 r·0 (claims· .1) T13 ( record { pos = 10; ty = Syntax.tyRef Syntax.erased Syntax.mut σ; ref = λ x. x; }, ( record { pos = 2; ty = Syntax.tyRef (Syntax.named 1) Syntax.imm (Syntax.tyInt Syntax.w8); ref = λ x. x; }, ( record { pos = 12; ty = Syntax.tyRef Syntax.erased Syntax.mut (Syntax.tyInt Syntax.w32); ref = λ x. x; }, ( record { pos = 14; ty = Syntax.tyRef Syntax.erased Syntax.mut (Syntax.tyInt Syntax.w32); ref = λ x. x; }, tt, ), ), ), ) (m9 record { before = record { before = record { before = record { before = record { before = c; shared-slice-known = record { given = g }; }; slice-known = record { given = g' }; }; slice-known2 = record { given = g'' }; }; firm-arg = record { given = g'3 }; }; firm-arg2 = record { given = g'4 }; } g'5) g'6; }, ), ), ),
+        laid = λ c. λ g. λ g'. λ g''. λ g'3. ( Path'.refl, λ g'4. ( Path'.refl, λ g'5. ( Path'.refl, ( firm-requires record { before = record { before = record { before = record { before = record { before = record { before = c; shared-slice-known = record { given = g }; }; slice-known = record { given = g' }; }; slice-known2 = record { given = g'' }; }; firm-arg = record { given = g'3 }; }; firm-arg2 = record { given = g'4 }; }; firm-arg3 = record { given = g'5 }; }, λ g'6. lay1 record { before = record { before = record { before = record { before = record { before = record { before = record { before = c; shared-slice-known = record { given = g }; }; slice-known = record { given = g' }; }; slice-known2 = record { given = g'' }; }; firm-arg = record { given = g'3 }; }; firm-arg2 = record { given = g'4 }; }; firm-arg3 = record { given = g'5 }; }; firm = Called.called ps·0 r·0 (claims· .1) T13 ( record { pos = 10; ty = Syntax.tyRef Syntax.erased Syntax.mut ϱ; ref = λ x. x; }, ( record { pos = 2; ty = Syntax.tyRef (Syntax.named 1) Syntax.imm (Syntax.tyInt Syntax.w8); ref = λ x. x; }, ( record { pos = 12; ty = Syntax.tyRef Syntax.erased Syntax.mut (Syntax.tyInt Syntax.w32); ref = λ x. x; }, ( record { pos = 14; ty = Syntax.tyRef Syntax.erased Syntax.mut (Syntax.tyInt Syntax.w32); ref = λ x. x; }, tt, ), ), ), ) (m9 record { before = record { before = record { before = record { before = record { before = c; shared-slice-known = record { given = g }; }; slice-known = record { given = g' }; }; slice-known2 = record { given = g'' }; }; firm-arg = record { given = g'3 }; }; firm-arg2 = record { given = g'4 }; } g'5) g'6; }, ), ), ),
         )
 
         module _ (κs : Lifetimes.Lfts 7) (qs : Lifetimes.Shares 7) where
