@@ -116,7 +116,13 @@ fn lay(rows: &[u32], own: &mut [u32], principal: u32, resource: u32)
     shift(rows, own);
     let start = HEAP as u32;
     lay_line(own, PRINCIPAL, start, row(rows, PRINCIPAL, 0), principal);
-    lay_line(own, RESOURCE, start + LINE, row(rows, RESOURCE, 0), resource);
+    lay_line(
+        own,
+        RESOURCE,
+        start + LINE,
+        row(rows, RESOURCE, 0),
+        resource,
+    );
 }
 
 // The decision on the sheet that the words hold, with these texts of principal and resource.

@@ -132,8 +132,8 @@ firm-spec {M} 𝓤 H 𝓜 𝓖 𝓡 =
     let w : World.World = record { M = M; 𝓤 = 𝓤; H = H; 𝓜 = 𝓜; 𝓖 = 𝓖; 𝓡 = 𝓡 } in
     Written.close 4 ps r reads.Ghost reads.requires reads.ensures reads.pre-read reads.Pinned reads.Owned reads.post-read w Code.env Key.name Code.function (Code.unfolded 𝓤 H 𝓜 𝓡) (λ κs a g. tt) (λ κs. reads.owns κs w) (reads.passes w)
     (λ g. lts.spec (begin-reads.Asked, begin-reads.Learnt, check-reads.Asked, check-reads.Learnt, single-reads.Asked, single-reads.Learnt, join-reads.Asked, join-reads.Learnt, finish-reads.Asked, finish-reads.Learnt) reads.Pre reads.Post Inv-loop μ-loop Inv-loop2 μ-loop2 begin-requires loop-holds mul-check slice-copy-out-check check-requires add-i loop-less loop-again loop2-holds mul-single slice-copy-out-single single-requires join-requires mul-r slice-set-from-r add-j loop2-less loop2-again finish-requires same-length same-length-2 same-length-3 returns 𝓤 H (𝓖 .A) (givenOf 𝓤 H 𝓜 𝓖) (Run.Over 𝓤 H 𝓜 𝓖 𝓡 Code.env)
-        (begin-reads.known w Code.env begin-symbol.name begin-symbol.routine Code.calls-firm·begin (begin-met.met 𝓤 H 𝓜 𝓖 𝓡))
-        (check-reads.known w Code.env check-symbol.name check-symbol.routine Code.calls-firm·check (check-met.met 𝓤 H 𝓜 𝓖 𝓡))
-        (single-reads.known w Code.env single-symbol.name single-symbol.routine Code.calls-firm·single (single-met.met 𝓤 H 𝓜 𝓖 𝓡))
-        (join-reads.known w Code.env join-symbol.name join-symbol.routine Code.calls-firm·join (join-met.met 𝓤 H 𝓜 𝓖 𝓡))
-        (finish-reads.known w Code.env finish-symbol.name finish-symbol.routine Code.calls-firm·finish (finish-met.met 𝓤 H 𝓜 𝓖 𝓡)))
+    (begin-reads.known w Code.env begin-symbol.name begin-symbol.routine Code.calls-firm·begin (begin-met.met 𝓤 H 𝓜 𝓖 𝓡))
+    (check-reads.known w Code.env check-symbol.name check-symbol.routine Code.calls-firm·check (check-met.met 𝓤 H 𝓜 𝓖 𝓡))
+    (single-reads.known w Code.env single-symbol.name single-symbol.routine Code.calls-firm·single (single-met.met 𝓤 H 𝓜 𝓖 𝓡))
+    (join-reads.known w Code.env join-symbol.name join-symbol.routine Code.calls-firm·join (join-met.met 𝓤 H 𝓜 𝓖 𝓡))
+    (finish-reads.known w Code.env finish-symbol.name finish-symbol.routine Code.calls-firm·finish (finish-met.met 𝓤 H 𝓜 𝓖 𝓡)))

@@ -38,4 +38,4 @@ openrules-firm-spec {M} 𝓤 H 𝓜 𝓖 𝓡 =
     let w : World.World = record { M = M; 𝓤 = 𝓤; H = H; 𝓜 = 𝓜; 𝓖 = 𝓖; 𝓡 = 𝓡 } in
     Written.close 7 ps r reads.Ghost reads.requires reads.ensures reads.pre-read reads.Pinned reads.Owned reads.post-read w Code.env Key.name Code.function (Code.unfolded 𝓤 H 𝓜 𝓡) (λ κs a g. tt) (λ κs. reads.owns κs w) (reads.passes w)
     (λ g. lts.spec (firm-reads.Asked, firm-reads.Learnt) reads.Pre reads.Post firm-requires same-length same-length-2 same-length-3 returns 𝓤 H (𝓖 .A) (givenOf 𝓤 H 𝓜 𝓖) (Run.Over 𝓤 H 𝓜 𝓖 𝓡 Code.env)
-        (firm-reads.known w Code.env firm-symbol.name firm-symbol.routine Code.calls-firm·firm (firm-met.met 𝓤 H 𝓜 𝓖 𝓡)))
+    (firm-reads.known w Code.env firm-symbol.name firm-symbol.routine Code.calls-firm·firm (firm-met.met 𝓤 H 𝓜 𝓖 𝓡)))

@@ -82,7 +82,7 @@ abbrev pub ps : List.List (Kinds.PK 4)
 ps = List._∷_ (MutSlice.pMutS T 0 tt) (List._∷_ (ShrSlice.pShrS (Referent.rtF (Referent.fInt Syntax.w8)) 1 tt) (List._∷_ (MutSlice.pMutS (Referent.rtF (Referent.fInt Syntax.w32)) 2 tt) (List._∷_ (MutSlice.pMutS (Referent.rtF (Referent.fInt Syntax.w32)) 3 tt) List.[])))
 
 abbrev pub r : Kinds.RK 4
-r = Value.rVal record { ty = Declared.row Quote.the-type; one = Path'.refl; val = Laws'.val Quote.the-type Laws.the-laws; tells = Laws'.tells Quote.the-type Laws.the-laws; still = Laws'.still Quote.the-type Laws.the-copy Exit.yes; row = Rows'.whole (Declared.row Quote.the-type); rd = λ x. x; mk = λ x. x; } λ M 𝓤 H A W. record { copies = Laws'.copy Quote.the-type Laws.the-copy 𝓤 H A W; lawful = Laws'.lawful Quote.the-type Laws.the-laws 𝓤 H A W; makes = Laws'.makes Quote.the-type Laws.the-plain 𝓤 H A; in-mem = Local.mem-whole 𝓤 H A W (Declared.row Quote.the-type); of-mem = Local.whole-mem 𝓤 H A W (Declared.row Quote.the-type); }
+r = Value.rVal record { ty = Declared.row Quote.the-type; one = Path'.refl; val = Laws'.val Quote.the-type Laws.the-laws; tells = Laws'.tells Quote.the-type Laws.the-laws; still = Laws'.still Quote.the-type Laws.the-copy Exit.yes; row = Rows'.whole (Declared.row Quote.the-type); rd = λ x. x; mk = λ x. x } λ M 𝓤 H A W. record { copies = Laws'.copy Quote.the-type Laws.the-copy 𝓤 H A W; lawful = Laws'.lawful Quote.the-type Laws.the-laws 𝓤 H A W; makes = Laws'.makes Quote.the-type Laws.the-plain 𝓤 H A; in-mem = Local.mem-whole 𝓤 H A W (Declared.row Quote.the-type); of-mem = Local.whole-mem 𝓤 H A W (Declared.row Quote.the-type) }
 
 abbrev pub xs : List.List Syntax.Ty
 xs = List._∷_ (Syntax.tyInt Syntax.w64) (List._∷_ (Syntax.tyStruct (List._∷_ 102 (List._∷_ 105 (List._∷_ 114 (List._∷_ 109 (List._∷_ 58 (List._∷_ 58 (List._∷_ 81 (List._∷_ 117 (List._∷_ 111 (List._∷_ 116 (List._∷_ 101 List.[]))))))))))) (Syntax.tcons (Syntax.tyInt Syntax.w32) (Syntax.tcons (Syntax.tyInt Syntax.w64) (Syntax.tcons (Syntax.tyInt Syntax.w64) (Syntax.tcons (Syntax.tyInt Syntax.w32) Syntax.tnil))))) (List._∷_ (Syntax.tyInt Syntax.w64) (List._∷_ (Syntax.tyInt Syntax.w64) (List._∷_ σ (List._∷_ (Syntax.tyRef Syntax.erased Syntax.mut (Syntax.tyInt Syntax.w32)) (List._∷_ (Syntax.tyStruct (List._∷_ 38 (List._∷_ 91 (List._∷_ 93 List.[]))) (Syntax.tcons (Syntax.tyRef Syntax.erased Syntax.mut (Syntax.tyInt Syntax.w32)) (Syntax.tcons (Syntax.tyInt Syntax.w64) Syntax.tnil))) (List._∷_ (Syntax.tyRef Syntax.erased Syntax.mut (Syntax.tyInt Syntax.w32)) (List._∷_ (Syntax.tyStruct (List._∷_ 38 (List._∷_ 91 (List._∷_ 93 List.[]))) (Syntax.tcons (Syntax.tyRef Syntax.erased Syntax.mut (Syntax.tyInt Syntax.w32)) (Syntax.tcons (Syntax.tyInt Syntax.w64) Syntax.tnil))) (List._∷_ Syntax.tyBool (List._∷_ (Syntax.tyInt Syntax.w64) (List._∷_ Syntax.tyPtr (List._∷_ σ (List._∷_ (Syntax.tyRef Syntax.erased Syntax.imm (Syntax.tyInt Syntax.w32)) (List._∷_ (Syntax.tyStruct (List._∷_ 38 (List._∷_ 91 (List._∷_ 93 List.[]))) (Syntax.tcons (Syntax.tyRef Syntax.erased Syntax.imm (Syntax.tyInt Syntax.w32)) (Syntax.tcons (Syntax.tyInt Syntax.w64) Syntax.tnil))) (List._∷_ Syntax.tyBool (List._∷_ (Syntax.tyInt Syntax.w64) (List._∷_ Syntax.tyPtr (List._∷_ σ (List._∷_ (Syntax.tyRef Syntax.erased Syntax.imm (Syntax.tyInt Syntax.w32)) (List._∷_ (Syntax.tyStruct (List._∷_ 38 (List._∷_ 91 (List._∷_ 93 List.[]))) (Syntax.tcons (Syntax.tyRef Syntax.erased Syntax.imm (Syntax.tyInt Syntax.w32)) (Syntax.tcons (Syntax.tyInt Syntax.w64) Syntax.tnil))) (List._∷_ (Syntax.tyRef Syntax.erased Syntax.mut (Syntax.tyInt Syntax.w32)) (List._∷_ (Syntax.tyStruct (List._∷_ 38 (List._∷_ 91 (List._∷_ 93 List.[]))) (Syntax.tcons (Syntax.tyRef Syntax.erased Syntax.mut (Syntax.tyInt Syntax.w32)) (Syntax.tcons (Syntax.tyInt Syntax.w64) Syntax.tnil))) (List._∷_ Syntax.tyPtr (List._∷_ (Syntax.tyRef Syntax.erased Syntax.mut (Syntax.tyInt Syntax.w32)) (List._∷_ (Syntax.tyStruct (List._∷_ 38 (List._∷_ 91 (List._∷_ 93 List.[]))) (Syntax.tcons (Syntax.tyRef Syntax.erased Syntax.mut (Syntax.tyInt Syntax.w32)) (Syntax.tcons (Syntax.tyInt Syntax.w64) Syntax.tnil))) (List._∷_ (Syntax.tyRef Syntax.erased Syntax.mut (Syntax.tyInt Syntax.w32)) (List._∷_ (Syntax.tyStruct (List._∷_ 38 (List._∷_ 91 (List._∷_ 93 List.[]))) (Syntax.tcons (Syntax.tyRef Syntax.erased Syntax.mut (Syntax.tyInt Syntax.w32)) (Syntax.tcons (Syntax.tyInt Syntax.w64) Syntax.tnil))) List.[])))))))))))))))))))))))))))
@@ -379,452 +379,1012 @@ abbrev pub Claims : Type 1
 Claims = Kinds.In 3 ps·0 × Kinds.Out 3 ps·0 r·0 × Kinds.In 1 ps·1 × Kinds.Out 1 ps·1 r·1 × Kinds.In 3 ps·2 × Kinds.Out 3 ps·2 r·2 × Kinds.In 0 ps·3 × Kinds.Out 0 ps·3 r·3 × Kinds.In 2 ps·4 × Kinds.Out 2 ps·4 r·4
 
 abbrev pub t0 : List.List Row.Entry
-t0 = List._∷_ ( 0, Rows'.any-gone (Syntax.tyStruct (List._∷_ 102 (List._∷_ 105 (List._∷_ 114 (List._∷_ 109 (List._∷_ 58 (List._∷_ 58 (List._∷_ 81 (List._∷_ 117 (List._∷_ 111 (List._∷_ 116 (List._∷_ 101 List.[]))))))))))) (Syntax.tcons (Syntax.tyInt Syntax.w32) (Syntax.tcons (Syntax.tyInt Syntax.w64) (Syntax.tcons (Syntax.tyInt Syntax.w64) (Syntax.tcons (Syntax.tyInt Syntax.w32) Syntax.tnil))))),
-) (List._∷_ ( 1, Mut.mslice T τ 0,
-) (List._∷_ ( 2, Rows'.sslice (Referent.rtF (Referent.fInt Syntax.w8)) (Syntax.tyRef (Syntax.named 1) Syntax.imm (Syntax.tyInt Syntax.w8)) 1,
-) (List._∷_ ( 3, Mut.mslice (Referent.rtF (Referent.fInt Syntax.w32)) (Syntax.tyRef (Syntax.named 2) Syntax.mut (Syntax.tyInt Syntax.w32)) 2,
-) (List._∷_ ( 4, Mut.mslice (Referent.rtF (Referent.fInt Syntax.w32)) (Syntax.tyRef (Syntax.named 3) Syntax.mut (Syntax.tyInt Syntax.w32)) 3,
-) (List._∷_ (5, Rows'.any-gone (Syntax.tyInt Syntax.w64)) (List._∷_ ( 6, Rows'.any-gone (Syntax.tyStruct (List._∷_ 102 (List._∷_ 105 (List._∷_ 114 (List._∷_ 109 (List._∷_ 58 (List._∷_ 58 (List._∷_ 81 (List._∷_ 117 (List._∷_ 111 (List._∷_ 116 (List._∷_ 101 List.[]))))))))))) (Syntax.tcons (Syntax.tyInt Syntax.w32) (Syntax.tcons (Syntax.tyInt Syntax.w64) (Syntax.tcons (Syntax.tyInt Syntax.w64) (Syntax.tcons (Syntax.tyInt Syntax.w32) Syntax.tnil))))),
-) (List._∷_ (7, Rows'.any-gone (Syntax.tyInt Syntax.w64)) (List._∷_ ( 8, Rows'.any-gone (Syntax.tyInt Syntax.w64),
-) (List._∷_ (9, Rows'.any-gone σ) (List._∷_ ( 10, Rows'.any-gone (Syntax.tyRef Syntax.erased Syntax.mut (Syntax.tyInt Syntax.w32)),
-) (List._∷_ ( 11, Rows'.any-gone (Syntax.tyStruct (List._∷_ 38 (List._∷_ 91 (List._∷_ 93 List.[]))) (Syntax.tcons (Syntax.tyRef Syntax.erased Syntax.mut (Syntax.tyInt Syntax.w32)) (Syntax.tcons (Syntax.tyInt Syntax.w64) Syntax.tnil))),
-) (List._∷_ ( 12, Rows'.any-gone (Syntax.tyRef Syntax.erased Syntax.mut (Syntax.tyInt Syntax.w32)), ) (List._∷_ ( 13, Rows'.any-gone (Syntax.tyStruct (List._∷_ 38 (List._∷_ 91 (List._∷_ 93 List.[]))) (Syntax.tcons (Syntax.tyRef Syntax.erased Syntax.mut (Syntax.tyInt Syntax.w32)) (Syntax.tcons (Syntax.tyInt Syntax.w64) Syntax.tnil))), ) (List._∷_ (14, Rows'.any-gone Syntax.tyBool) (List._∷_ ( 15, Rows'.any-gone (Syntax.tyInt Syntax.w64), ) List.[])))))))))))))))
+t0 = List._∷_ (
+  0,
+  Rows'.any-gone (Syntax.tyStruct (List._∷_ 102 (List._∷_ 105 (List._∷_ 114 (List._∷_ 109 (List._∷_ 58 (List._∷_ 58 (List._∷_ 81 (List._∷_ 117 (List._∷_ 111 (List._∷_ 116 (List._∷_ 101 List.[]))))))))))) (Syntax.tcons (Syntax.tyInt Syntax.w32) (Syntax.tcons (Syntax.tyInt Syntax.w64) (Syntax.tcons (Syntax.tyInt Syntax.w64) (Syntax.tcons (Syntax.tyInt Syntax.w32) Syntax.tnil))))),
+) (List._∷_ (
+  1,
+  Mut.mslice T τ 0,
+) (List._∷_ (
+  2,
+  Rows'.sslice (Referent.rtF (Referent.fInt Syntax.w8)) (Syntax.tyRef (Syntax.named 1) Syntax.imm (Syntax.tyInt Syntax.w8)) 1,
+) (List._∷_ (
+  3,
+  Mut.mslice (Referent.rtF (Referent.fInt Syntax.w32)) (Syntax.tyRef (Syntax.named 2) Syntax.mut (Syntax.tyInt Syntax.w32)) 2,
+) (List._∷_ (
+  4,
+  Mut.mslice (Referent.rtF (Referent.fInt Syntax.w32)) (Syntax.tyRef (Syntax.named 3) Syntax.mut (Syntax.tyInt Syntax.w32)) 3,
+) (List._∷_ (5, Rows'.any-gone (Syntax.tyInt Syntax.w64)) (List._∷_ (
+  6,
+  Rows'.any-gone (Syntax.tyStruct (List._∷_ 102 (List._∷_ 105 (List._∷_ 114 (List._∷_ 109 (List._∷_ 58 (List._∷_ 58 (List._∷_ 81 (List._∷_ 117 (List._∷_ 111 (List._∷_ 116 (List._∷_ 101 List.[]))))))))))) (Syntax.tcons (Syntax.tyInt Syntax.w32) (Syntax.tcons (Syntax.tyInt Syntax.w64) (Syntax.tcons (Syntax.tyInt Syntax.w64) (Syntax.tcons (Syntax.tyInt Syntax.w32) Syntax.tnil))))),
+) (List._∷_ (7, Rows'.any-gone (Syntax.tyInt Syntax.w64)) (List._∷_ (
+  8,
+  Rows'.any-gone (Syntax.tyInt Syntax.w64),
+) (List._∷_ (9, Rows'.any-gone σ) (List._∷_ (
+  10,
+  Rows'.any-gone (Syntax.tyRef Syntax.erased Syntax.mut (Syntax.tyInt Syntax.w32)),
+) (List._∷_ (
+  11,
+  Rows'.any-gone (Syntax.tyStruct (List._∷_ 38 (List._∷_ 91 (List._∷_ 93 List.[]))) (Syntax.tcons (Syntax.tyRef Syntax.erased Syntax.mut (Syntax.tyInt Syntax.w32)) (Syntax.tcons (Syntax.tyInt Syntax.w64) Syntax.tnil))),
+) (List._∷_ (12, Rows'.any-gone (Syntax.tyRef Syntax.erased Syntax.mut (Syntax.tyInt Syntax.w32))) (List._∷_ (13, Rows'.any-gone (Syntax.tyStruct (List._∷_ 38 (List._∷_ 91 (List._∷_ 93 List.[]))) (Syntax.tcons (Syntax.tyRef Syntax.erased Syntax.mut (Syntax.tyInt Syntax.w32)) (Syntax.tcons (Syntax.tyInt Syntax.w64) Syntax.tnil)))) (List._∷_ (14, Rows'.any-gone Syntax.tyBool) (List._∷_ (15, Rows'.any-gone (Syntax.tyInt Syntax.w64)) List.[])))))))))))))))
 
 abbrev pub t1 : List.List Row.Entry
-t1 = List._∷_ (16, Rows'.any-gone Syntax.tyPtr) (List._∷_ ( 17, Rows'.any-gone σ,
-) (List._∷_ ( 18, Rows'.any-gone (Syntax.tyRef Syntax.erased Syntax.imm (Syntax.tyInt Syntax.w32)), ) (List._∷_ ( 19, Rows'.any-gone (Syntax.tyStruct (List._∷_ 38 (List._∷_ 91 (List._∷_ 93 List.[]))) (Syntax.tcons (Syntax.tyRef Syntax.erased Syntax.imm (Syntax.tyInt Syntax.w32)) (Syntax.tcons (Syntax.tyInt Syntax.w64) Syntax.tnil))), ) (List._∷_ (20, Rows'.any-gone Syntax.tyBool) (List._∷_ ( 21, Rows'.any-gone (Syntax.tyInt Syntax.w64), ) (List._∷_ (22, Rows'.any-gone Syntax.tyPtr) (List._∷_ ( 23, Rows'.any-gone σ, ) (List._∷_ ( 24, Rows'.any-gone (Syntax.tyRef Syntax.erased Syntax.imm (Syntax.tyInt Syntax.w32)), ) (List._∷_ ( 25, Rows'.any-gone (Syntax.tyStruct (List._∷_ 38 (List._∷_ 91 (List._∷_ 93 List.[]))) (Syntax.tcons (Syntax.tyRef Syntax.erased Syntax.imm (Syntax.tyInt Syntax.w32)) (Syntax.tcons (Syntax.tyInt Syntax.w64) Syntax.tnil))), ) (List._∷_ ( 26, Rows'.any-gone (Syntax.tyRef Syntax.erased Syntax.mut (Syntax.tyInt Syntax.w32)), ) (List._∷_ ( 27, Rows'.any-gone (Syntax.tyStruct (List._∷_ 38 (List._∷_ 91 (List._∷_ 93 List.[]))) (Syntax.tcons (Syntax.tyRef Syntax.erased Syntax.mut (Syntax.tyInt Syntax.w32)) (Syntax.tcons (Syntax.tyInt Syntax.w64) Syntax.tnil))), ) (List._∷_ (28, Rows'.any-gone Syntax.tyPtr) (List._∷_ ( 29, Rows'.any-gone (Syntax.tyRef Syntax.erased Syntax.mut (Syntax.tyInt Syntax.w32)), ) (List._∷_ ( 30, Rows'.any-gone (Syntax.tyStruct (List._∷_ 38 (List._∷_ 91 (List._∷_ 93 List.[]))) (Syntax.tcons (Syntax.tyRef Syntax.erased Syntax.mut (Syntax.tyInt Syntax.w32)) (Syntax.tcons (Syntax.tyInt Syntax.w64) Syntax.tnil))), ) (List._∷_ ( 31, Rows'.any-gone (Syntax.tyRef Syntax.erased Syntax.mut (Syntax.tyInt Syntax.w32)), ) List.[])))))))))))))))
+t1 = List._∷_ (16, Rows'.any-gone Syntax.tyPtr) (List._∷_ (
+  17,
+  Rows'.any-gone σ,
+) (List._∷_ (18, Rows'.any-gone (Syntax.tyRef Syntax.erased Syntax.imm (Syntax.tyInt Syntax.w32))) (List._∷_ (19, Rows'.any-gone (Syntax.tyStruct (List._∷_ 38 (List._∷_ 91 (List._∷_ 93 List.[]))) (Syntax.tcons (Syntax.tyRef Syntax.erased Syntax.imm (Syntax.tyInt Syntax.w32)) (Syntax.tcons (Syntax.tyInt Syntax.w64) Syntax.tnil)))) (List._∷_ (20, Rows'.any-gone Syntax.tyBool) (List._∷_ (21, Rows'.any-gone (Syntax.tyInt Syntax.w64)) (List._∷_ (22, Rows'.any-gone Syntax.tyPtr) (List._∷_ (23, Rows'.any-gone σ) (List._∷_ (24, Rows'.any-gone (Syntax.tyRef Syntax.erased Syntax.imm (Syntax.tyInt Syntax.w32))) (List._∷_ (25, Rows'.any-gone (Syntax.tyStruct (List._∷_ 38 (List._∷_ 91 (List._∷_ 93 List.[]))) (Syntax.tcons (Syntax.tyRef Syntax.erased Syntax.imm (Syntax.tyInt Syntax.w32)) (Syntax.tcons (Syntax.tyInt Syntax.w64) Syntax.tnil)))) (List._∷_ (26, Rows'.any-gone (Syntax.tyRef Syntax.erased Syntax.mut (Syntax.tyInt Syntax.w32))) (List._∷_ (27, Rows'.any-gone (Syntax.tyStruct (List._∷_ 38 (List._∷_ 91 (List._∷_ 93 List.[]))) (Syntax.tcons (Syntax.tyRef Syntax.erased Syntax.mut (Syntax.tyInt Syntax.w32)) (Syntax.tcons (Syntax.tyInt Syntax.w64) Syntax.tnil)))) (List._∷_ (28, Rows'.any-gone Syntax.tyPtr) (List._∷_ (29, Rows'.any-gone (Syntax.tyRef Syntax.erased Syntax.mut (Syntax.tyInt Syntax.w32))) (List._∷_ (30, Rows'.any-gone (Syntax.tyStruct (List._∷_ 38 (List._∷_ 91 (List._∷_ 93 List.[]))) (Syntax.tcons (Syntax.tyRef Syntax.erased Syntax.mut (Syntax.tyInt Syntax.w32)) (Syntax.tcons (Syntax.tyInt Syntax.w64) Syntax.tnil)))) (List._∷_ (31, Rows'.any-gone (Syntax.tyRef Syntax.erased Syntax.mut (Syntax.tyInt Syntax.w32))) List.[])))))))))))))))
 
 abbrev pub t2 : List.List Row.Entry
-t2 = List._∷_ ( 32, Rows'.any-gone (Syntax.tyStruct (List._∷_ 38 (List._∷_ 91 (List._∷_ 93 List.[]))) (Syntax.tcons (Syntax.tyRef Syntax.erased Syntax.mut (Syntax.tyInt Syntax.w32)) (Syntax.tcons (Syntax.tyInt Syntax.w64) Syntax.tnil))),
+t2 = List._∷_ (
+  32,
+  Rows'.any-gone (Syntax.tyStruct (List._∷_ 38 (List._∷_ 91 (List._∷_ 93 List.[]))) (Syntax.tcons (Syntax.tyRef Syntax.erased Syntax.mut (Syntax.tyInt Syntax.w32)) (Syntax.tcons (Syntax.tyInt Syntax.w64) Syntax.tnil))),
 ) List.[]
 
 abbrev pub t3 : List.List Row.Entry
-t3 = List._∷_ (0, Rows'.whole (Declared.row Quote.the-type)) (List._∷_ ( 1, Mut.mslice T τ 0,
-) (List._∷_ ( 2, Rows'.sslice (Referent.rtF (Referent.fInt Syntax.w8)) (Syntax.tyRef (Syntax.named 1) Syntax.imm (Syntax.tyInt Syntax.w8)) 1,
-) (List._∷_ ( 3, Mut.mslice (Referent.rtF (Referent.fInt Syntax.w32)) (Syntax.tyRef (Syntax.named 2) Syntax.mut (Syntax.tyInt Syntax.w32)) 2,
-) (List._∷_ ( 4, Mut.mslice (Referent.rtF (Referent.fInt Syntax.w32)) (Syntax.tyRef (Syntax.named 3) Syntax.mut (Syntax.tyInt Syntax.w32)) 3,
-) (List._∷_ (5, Rows'.any-gone (Syntax.tyInt Syntax.w64)) (List._∷_ ( 6, Rows'.any-gone (Syntax.tyStruct (List._∷_ 102 (List._∷_ 105 (List._∷_ 114 (List._∷_ 109 (List._∷_ 58 (List._∷_ 58 (List._∷_ 81 (List._∷_ 117 (List._∷_ 111 (List._∷_ 116 (List._∷_ 101 List.[]))))))))))) (Syntax.tcons (Syntax.tyInt Syntax.w32) (Syntax.tcons (Syntax.tyInt Syntax.w64) (Syntax.tcons (Syntax.tyInt Syntax.w64) (Syntax.tcons (Syntax.tyInt Syntax.w32) Syntax.tnil))))),
-) (List._∷_ (7, Rows'.any-gone (Syntax.tyInt Syntax.w64)) (List._∷_ ( 8, Rows'.any-gone (Syntax.tyInt Syntax.w64),
-) (List._∷_ (9, Rows'.any-gone σ) (List._∷_ ( 10, Rows'.any-gone (Syntax.tyRef Syntax.erased Syntax.mut (Syntax.tyInt Syntax.w32)),
-) (List._∷_ ( 11, Rows'.any-gone (Syntax.tyStruct (List._∷_ 38 (List._∷_ 91 (List._∷_ 93 List.[]))) (Syntax.tcons (Syntax.tyRef Syntax.erased Syntax.mut (Syntax.tyInt Syntax.w32)) (Syntax.tcons (Syntax.tyInt Syntax.w64) Syntax.tnil))),
-) (List._∷_ ( 12, Rows'.any-gone (Syntax.tyRef Syntax.erased Syntax.mut (Syntax.tyInt Syntax.w32)), ) (List._∷_ ( 13, Rows'.any-gone (Syntax.tyStruct (List._∷_ 38 (List._∷_ 91 (List._∷_ 93 List.[]))) (Syntax.tcons (Syntax.tyRef Syntax.erased Syntax.mut (Syntax.tyInt Syntax.w32)) (Syntax.tcons (Syntax.tyInt Syntax.w64) Syntax.tnil))), ) (List._∷_ (14, Rows'.any-gone Syntax.tyBool) (List._∷_ ( 15, Rows'.any-gone (Syntax.tyInt Syntax.w64), ) List.[])))))))))))))))
+t3 = List._∷_ (0, Rows'.whole (Declared.row Quote.the-type)) (List._∷_ (
+  1,
+  Mut.mslice T τ 0,
+) (List._∷_ (
+  2,
+  Rows'.sslice (Referent.rtF (Referent.fInt Syntax.w8)) (Syntax.tyRef (Syntax.named 1) Syntax.imm (Syntax.tyInt Syntax.w8)) 1,
+) (List._∷_ (
+  3,
+  Mut.mslice (Referent.rtF (Referent.fInt Syntax.w32)) (Syntax.tyRef (Syntax.named 2) Syntax.mut (Syntax.tyInt Syntax.w32)) 2,
+) (List._∷_ (
+  4,
+  Mut.mslice (Referent.rtF (Referent.fInt Syntax.w32)) (Syntax.tyRef (Syntax.named 3) Syntax.mut (Syntax.tyInt Syntax.w32)) 3,
+) (List._∷_ (5, Rows'.any-gone (Syntax.tyInt Syntax.w64)) (List._∷_ (
+  6,
+  Rows'.any-gone (Syntax.tyStruct (List._∷_ 102 (List._∷_ 105 (List._∷_ 114 (List._∷_ 109 (List._∷_ 58 (List._∷_ 58 (List._∷_ 81 (List._∷_ 117 (List._∷_ 111 (List._∷_ 116 (List._∷_ 101 List.[]))))))))))) (Syntax.tcons (Syntax.tyInt Syntax.w32) (Syntax.tcons (Syntax.tyInt Syntax.w64) (Syntax.tcons (Syntax.tyInt Syntax.w64) (Syntax.tcons (Syntax.tyInt Syntax.w32) Syntax.tnil))))),
+) (List._∷_ (7, Rows'.any-gone (Syntax.tyInt Syntax.w64)) (List._∷_ (
+  8,
+  Rows'.any-gone (Syntax.tyInt Syntax.w64),
+) (List._∷_ (9, Rows'.any-gone σ) (List._∷_ (
+  10,
+  Rows'.any-gone (Syntax.tyRef Syntax.erased Syntax.mut (Syntax.tyInt Syntax.w32)),
+) (List._∷_ (
+  11,
+  Rows'.any-gone (Syntax.tyStruct (List._∷_ 38 (List._∷_ 91 (List._∷_ 93 List.[]))) (Syntax.tcons (Syntax.tyRef Syntax.erased Syntax.mut (Syntax.tyInt Syntax.w32)) (Syntax.tcons (Syntax.tyInt Syntax.w64) Syntax.tnil))),
+) (List._∷_ (12, Rows'.any-gone (Syntax.tyRef Syntax.erased Syntax.mut (Syntax.tyInt Syntax.w32))) (List._∷_ (13, Rows'.any-gone (Syntax.tyStruct (List._∷_ 38 (List._∷_ 91 (List._∷_ 93 List.[]))) (Syntax.tcons (Syntax.tyRef Syntax.erased Syntax.mut (Syntax.tyInt Syntax.w32)) (Syntax.tcons (Syntax.tyInt Syntax.w64) Syntax.tnil)))) (List._∷_ (14, Rows'.any-gone Syntax.tyBool) (List._∷_ (15, Rows'.any-gone (Syntax.tyInt Syntax.w64)) List.[])))))))))))))))
 
 abbrev pub t4 : List.List Row.Entry
-t4 = List._∷_ ( 0, Rows'.any-gone (Syntax.tyStruct (List._∷_ 102 (List._∷_ 105 (List._∷_ 114 (List._∷_ 109 (List._∷_ 58 (List._∷_ 58 (List._∷_ 81 (List._∷_ 117 (List._∷_ 111 (List._∷_ 116 (List._∷_ 101 List.[]))))))))))) (Syntax.tcons (Syntax.tyInt Syntax.w32) (Syntax.tcons (Syntax.tyInt Syntax.w64) (Syntax.tcons (Syntax.tyInt Syntax.w64) (Syntax.tcons (Syntax.tyInt Syntax.w32) Syntax.tnil))))),
-) (List._∷_ ( 1, Mut.mslice T τ 0,
-) (List._∷_ ( 2, Rows'.sslice (Referent.rtF (Referent.fInt Syntax.w8)) (Syntax.tyRef (Syntax.named 1) Syntax.imm (Syntax.tyInt Syntax.w8)) 1,
-) (List._∷_ ( 3, Mut.mslice (Referent.rtF (Referent.fInt Syntax.w32)) (Syntax.tyRef (Syntax.named 2) Syntax.mut (Syntax.tyInt Syntax.w32)) 2,
-) (List._∷_ ( 4, Mut.mslice (Referent.rtF (Referent.fInt Syntax.w32)) (Syntax.tyRef (Syntax.named 3) Syntax.mut (Syntax.tyInt Syntax.w32)) 3,
-) (List._∷_ (5, Rows'.sc-here (Row.sInt Syntax.w64)) (List._∷_ ( 6, Rows'.any-gone (Syntax.tyStruct (List._∷_ 102 (List._∷_ 105 (List._∷_ 114 (List._∷_ 109 (List._∷_ 58 (List._∷_ 58 (List._∷_ 81 (List._∷_ 117 (List._∷_ 111 (List._∷_ 116 (List._∷_ 101 List.[]))))))))))) (Syntax.tcons (Syntax.tyInt Syntax.w32) (Syntax.tcons (Syntax.tyInt Syntax.w64) (Syntax.tcons (Syntax.tyInt Syntax.w64) (Syntax.tcons (Syntax.tyInt Syntax.w32) Syntax.tnil))))),
-) (List._∷_ (7, Rows'.any-gone (Syntax.tyInt Syntax.w64)) (List._∷_ ( 8, Rows'.any-gone (Syntax.tyInt Syntax.w64),
-) (List._∷_ (9, Rows'.any-gone σ) (List._∷_ ( 10, Rows'.any-gone (Syntax.tyRef Syntax.erased Syntax.mut (Syntax.tyInt Syntax.w32)),
-) (List._∷_ ( 11, Rows'.any-gone (Syntax.tyStruct (List._∷_ 38 (List._∷_ 91 (List._∷_ 93 List.[]))) (Syntax.tcons (Syntax.tyRef Syntax.erased Syntax.mut (Syntax.tyInt Syntax.w32)) (Syntax.tcons (Syntax.tyInt Syntax.w64) Syntax.tnil))),
-) (List._∷_ ( 12, Rows'.any-gone (Syntax.tyRef Syntax.erased Syntax.mut (Syntax.tyInt Syntax.w32)), ) (List._∷_ ( 13, Rows'.any-gone (Syntax.tyStruct (List._∷_ 38 (List._∷_ 91 (List._∷_ 93 List.[]))) (Syntax.tcons (Syntax.tyRef Syntax.erased Syntax.mut (Syntax.tyInt Syntax.w32)) (Syntax.tcons (Syntax.tyInt Syntax.w64) Syntax.tnil))), ) (List._∷_ (14, Rows'.any-gone Syntax.tyBool) (List._∷_ ( 15, Rows'.any-gone (Syntax.tyInt Syntax.w64), ) List.[])))))))))))))))
+t4 = List._∷_ (
+  0,
+  Rows'.any-gone (Syntax.tyStruct (List._∷_ 102 (List._∷_ 105 (List._∷_ 114 (List._∷_ 109 (List._∷_ 58 (List._∷_ 58 (List._∷_ 81 (List._∷_ 117 (List._∷_ 111 (List._∷_ 116 (List._∷_ 101 List.[]))))))))))) (Syntax.tcons (Syntax.tyInt Syntax.w32) (Syntax.tcons (Syntax.tyInt Syntax.w64) (Syntax.tcons (Syntax.tyInt Syntax.w64) (Syntax.tcons (Syntax.tyInt Syntax.w32) Syntax.tnil))))),
+) (List._∷_ (
+  1,
+  Mut.mslice T τ 0,
+) (List._∷_ (
+  2,
+  Rows'.sslice (Referent.rtF (Referent.fInt Syntax.w8)) (Syntax.tyRef (Syntax.named 1) Syntax.imm (Syntax.tyInt Syntax.w8)) 1,
+) (List._∷_ (
+  3,
+  Mut.mslice (Referent.rtF (Referent.fInt Syntax.w32)) (Syntax.tyRef (Syntax.named 2) Syntax.mut (Syntax.tyInt Syntax.w32)) 2,
+) (List._∷_ (
+  4,
+  Mut.mslice (Referent.rtF (Referent.fInt Syntax.w32)) (Syntax.tyRef (Syntax.named 3) Syntax.mut (Syntax.tyInt Syntax.w32)) 3,
+) (List._∷_ (5, Rows'.sc-here (Row.sInt Syntax.w64)) (List._∷_ (
+  6,
+  Rows'.any-gone (Syntax.tyStruct (List._∷_ 102 (List._∷_ 105 (List._∷_ 114 (List._∷_ 109 (List._∷_ 58 (List._∷_ 58 (List._∷_ 81 (List._∷_ 117 (List._∷_ 111 (List._∷_ 116 (List._∷_ 101 List.[]))))))))))) (Syntax.tcons (Syntax.tyInt Syntax.w32) (Syntax.tcons (Syntax.tyInt Syntax.w64) (Syntax.tcons (Syntax.tyInt Syntax.w64) (Syntax.tcons (Syntax.tyInt Syntax.w32) Syntax.tnil))))),
+) (List._∷_ (7, Rows'.any-gone (Syntax.tyInt Syntax.w64)) (List._∷_ (
+  8,
+  Rows'.any-gone (Syntax.tyInt Syntax.w64),
+) (List._∷_ (9, Rows'.any-gone σ) (List._∷_ (
+  10,
+  Rows'.any-gone (Syntax.tyRef Syntax.erased Syntax.mut (Syntax.tyInt Syntax.w32)),
+) (List._∷_ (
+  11,
+  Rows'.any-gone (Syntax.tyStruct (List._∷_ 38 (List._∷_ 91 (List._∷_ 93 List.[]))) (Syntax.tcons (Syntax.tyRef Syntax.erased Syntax.mut (Syntax.tyInt Syntax.w32)) (Syntax.tcons (Syntax.tyInt Syntax.w64) Syntax.tnil))),
+) (List._∷_ (12, Rows'.any-gone (Syntax.tyRef Syntax.erased Syntax.mut (Syntax.tyInt Syntax.w32))) (List._∷_ (13, Rows'.any-gone (Syntax.tyStruct (List._∷_ 38 (List._∷_ 91 (List._∷_ 93 List.[]))) (Syntax.tcons (Syntax.tyRef Syntax.erased Syntax.mut (Syntax.tyInt Syntax.w32)) (Syntax.tcons (Syntax.tyInt Syntax.w64) Syntax.tnil)))) (List._∷_ (14, Rows'.any-gone Syntax.tyBool) (List._∷_ (15, Rows'.any-gone (Syntax.tyInt Syntax.w64)) List.[])))))))))))))))
 
 abbrev pub t5 : List.List Row.Entry
-t5 = List._∷_ ( 0, Rows'.any-gone (Syntax.tyStruct (List._∷_ 102 (List._∷_ 105 (List._∷_ 114 (List._∷_ 109 (List._∷_ 58 (List._∷_ 58 (List._∷_ 81 (List._∷_ 117 (List._∷_ 111 (List._∷_ 116 (List._∷_ 101 List.[]))))))))))) (Syntax.tcons (Syntax.tyInt Syntax.w32) (Syntax.tcons (Syntax.tyInt Syntax.w64) (Syntax.tcons (Syntax.tyInt Syntax.w64) (Syntax.tcons (Syntax.tyInt Syntax.w32) Syntax.tnil))))),
-) (List._∷_ ( 1, Mut.mslice T τ 0,
-) (List._∷_ ( 2, Rows'.sslice (Referent.rtF (Referent.fInt Syntax.w8)) (Syntax.tyRef (Syntax.named 1) Syntax.imm (Syntax.tyInt Syntax.w8)) 1,
-) (List._∷_ ( 3, Relend.mslice-owed (Referent.rtF (Referent.fInt Syntax.w32)) (Syntax.tyRef (Syntax.named 2) Syntax.mut (Syntax.tyInt Syntax.w32)) 2 4 Row.off,
-) (List._∷_ ( 4, Mut.mslice (Referent.rtF (Referent.fInt Syntax.w32)) (Syntax.tyRef (Syntax.named 3) Syntax.mut (Syntax.tyInt Syntax.w32)) 3,
-) (List._∷_ (5, Rows'.sc-here (Row.sInt Syntax.w64)) (List._∷_ ( 6, Rows'.any-gone (Syntax.tyStruct (List._∷_ 102 (List._∷_ 105 (List._∷_ 114 (List._∷_ 109 (List._∷_ 58 (List._∷_ 58 (List._∷_ 81 (List._∷_ 117 (List._∷_ 111 (List._∷_ 116 (List._∷_ 101 List.[]))))))))))) (Syntax.tcons (Syntax.tyInt Syntax.w32) (Syntax.tcons (Syntax.tyInt Syntax.w64) (Syntax.tcons (Syntax.tyInt Syntax.w64) (Syntax.tcons (Syntax.tyInt Syntax.w32) Syntax.tnil))))),
-) (List._∷_ (7, Rows'.any-gone (Syntax.tyInt Syntax.w64)) (List._∷_ ( 8, Rows'.any-gone (Syntax.tyInt Syntax.w64),
-) (List._∷_ (9, Rows'.any-gone σ) (List._∷_ ( 10, Relend.msptr (Referent.rtF (Referent.fInt Syntax.w32)) (Syntax.tyRef Syntax.erased Syntax.mut (Syntax.tyInt Syntax.w32)) 4,
-) (List._∷_ ( 11, Rows'.any-gone (Syntax.tyStruct (List._∷_ 38 (List._∷_ 91 (List._∷_ 93 List.[]))) (Syntax.tcons (Syntax.tyRef Syntax.erased Syntax.mut (Syntax.tyInt Syntax.w32)) (Syntax.tcons (Syntax.tyInt Syntax.w64) Syntax.tnil))),
-) (List._∷_ ( 12, Rows'.any-gone (Syntax.tyRef Syntax.erased Syntax.mut (Syntax.tyInt Syntax.w32)), ) (List._∷_ ( 13, Rows'.any-gone (Syntax.tyStruct (List._∷_ 38 (List._∷_ 91 (List._∷_ 93 List.[]))) (Syntax.tcons (Syntax.tyRef Syntax.erased Syntax.mut (Syntax.tyInt Syntax.w32)) (Syntax.tcons (Syntax.tyInt Syntax.w64) Syntax.tnil))), ) (List._∷_ (14, Rows'.any-gone Syntax.tyBool) (List._∷_ ( 15, Rows'.any-gone (Syntax.tyInt Syntax.w64), ) List.[])))))))))))))))
+t5 = List._∷_ (
+  0,
+  Rows'.any-gone (Syntax.tyStruct (List._∷_ 102 (List._∷_ 105 (List._∷_ 114 (List._∷_ 109 (List._∷_ 58 (List._∷_ 58 (List._∷_ 81 (List._∷_ 117 (List._∷_ 111 (List._∷_ 116 (List._∷_ 101 List.[]))))))))))) (Syntax.tcons (Syntax.tyInt Syntax.w32) (Syntax.tcons (Syntax.tyInt Syntax.w64) (Syntax.tcons (Syntax.tyInt Syntax.w64) (Syntax.tcons (Syntax.tyInt Syntax.w32) Syntax.tnil))))),
+) (List._∷_ (
+  1,
+  Mut.mslice T τ 0,
+) (List._∷_ (
+  2,
+  Rows'.sslice (Referent.rtF (Referent.fInt Syntax.w8)) (Syntax.tyRef (Syntax.named 1) Syntax.imm (Syntax.tyInt Syntax.w8)) 1,
+) (List._∷_ (
+  3,
+  Relend.mslice-owed (Referent.rtF (Referent.fInt Syntax.w32)) (Syntax.tyRef (Syntax.named 2) Syntax.mut (Syntax.tyInt Syntax.w32)) 2 4 Row.off,
+) (List._∷_ (
+  4,
+  Mut.mslice (Referent.rtF (Referent.fInt Syntax.w32)) (Syntax.tyRef (Syntax.named 3) Syntax.mut (Syntax.tyInt Syntax.w32)) 3,
+) (List._∷_ (5, Rows'.sc-here (Row.sInt Syntax.w64)) (List._∷_ (
+  6,
+  Rows'.any-gone (Syntax.tyStruct (List._∷_ 102 (List._∷_ 105 (List._∷_ 114 (List._∷_ 109 (List._∷_ 58 (List._∷_ 58 (List._∷_ 81 (List._∷_ 117 (List._∷_ 111 (List._∷_ 116 (List._∷_ 101 List.[]))))))))))) (Syntax.tcons (Syntax.tyInt Syntax.w32) (Syntax.tcons (Syntax.tyInt Syntax.w64) (Syntax.tcons (Syntax.tyInt Syntax.w64) (Syntax.tcons (Syntax.tyInt Syntax.w32) Syntax.tnil))))),
+) (List._∷_ (7, Rows'.any-gone (Syntax.tyInt Syntax.w64)) (List._∷_ (
+  8,
+  Rows'.any-gone (Syntax.tyInt Syntax.w64),
+) (List._∷_ (9, Rows'.any-gone σ) (List._∷_ (
+  10,
+  Relend.msptr (Referent.rtF (Referent.fInt Syntax.w32)) (Syntax.tyRef Syntax.erased Syntax.mut (Syntax.tyInt Syntax.w32)) 4,
+) (List._∷_ (
+  11,
+  Rows'.any-gone (Syntax.tyStruct (List._∷_ 38 (List._∷_ 91 (List._∷_ 93 List.[]))) (Syntax.tcons (Syntax.tyRef Syntax.erased Syntax.mut (Syntax.tyInt Syntax.w32)) (Syntax.tcons (Syntax.tyInt Syntax.w64) Syntax.tnil))),
+) (List._∷_ (12, Rows'.any-gone (Syntax.tyRef Syntax.erased Syntax.mut (Syntax.tyInt Syntax.w32))) (List._∷_ (13, Rows'.any-gone (Syntax.tyStruct (List._∷_ 38 (List._∷_ 91 (List._∷_ 93 List.[]))) (Syntax.tcons (Syntax.tyRef Syntax.erased Syntax.mut (Syntax.tyInt Syntax.w32)) (Syntax.tcons (Syntax.tyInt Syntax.w64) Syntax.tnil)))) (List._∷_ (14, Rows'.any-gone Syntax.tyBool) (List._∷_ (15, Rows'.any-gone (Syntax.tyInt Syntax.w64)) List.[])))))))))))))))
 
 abbrev pub t6 : List.List Row.Entry
-t6 = List._∷_ ( 0, Rows'.any-gone (Syntax.tyStruct (List._∷_ 102 (List._∷_ 105 (List._∷_ 114 (List._∷_ 109 (List._∷_ 58 (List._∷_ 58 (List._∷_ 81 (List._∷_ 117 (List._∷_ 111 (List._∷_ 116 (List._∷_ 101 List.[]))))))))))) (Syntax.tcons (Syntax.tyInt Syntax.w32) (Syntax.tcons (Syntax.tyInt Syntax.w64) (Syntax.tcons (Syntax.tyInt Syntax.w64) (Syntax.tcons (Syntax.tyInt Syntax.w32) Syntax.tnil))))),
-) (List._∷_ ( 1, Mut.mslice T τ 0,
-) (List._∷_ ( 2, Rows'.sslice (Referent.rtF (Referent.fInt Syntax.w8)) (Syntax.tyRef (Syntax.named 1) Syntax.imm (Syntax.tyInt Syntax.w8)) 1,
-) (List._∷_ ( 3, Relend.mslice-owed (Referent.rtF (Referent.fInt Syntax.w32)) (Syntax.tyRef (Syntax.named 2) Syntax.mut (Syntax.tyInt Syntax.w32)) 2 4 Row.off,
-) (List._∷_ ( 4, Mut.mslice (Referent.rtF (Referent.fInt Syntax.w32)) (Syntax.tyRef (Syntax.named 3) Syntax.mut (Syntax.tyInt Syntax.w32)) 3,
-) (List._∷_ (5, Rows'.sc-here (Row.sInt Syntax.w64)) (List._∷_ ( 6, Rows'.any-gone (Syntax.tyStruct (List._∷_ 102 (List._∷_ 105 (List._∷_ 114 (List._∷_ 109 (List._∷_ 58 (List._∷_ 58 (List._∷_ 81 (List._∷_ 117 (List._∷_ 111 (List._∷_ 116 (List._∷_ 101 List.[]))))))))))) (Syntax.tcons (Syntax.tyInt Syntax.w32) (Syntax.tcons (Syntax.tyInt Syntax.w64) (Syntax.tcons (Syntax.tyInt Syntax.w64) (Syntax.tcons (Syntax.tyInt Syntax.w32) Syntax.tnil))))),
-) (List._∷_ (7, Rows'.any-gone (Syntax.tyInt Syntax.w64)) (List._∷_ ( 8, Rows'.any-gone (Syntax.tyInt Syntax.w64),
-) (List._∷_ (9, Rows'.any-gone σ) (List._∷_ ( 10, Rows'.any-gone (Syntax.tyRef Syntax.erased Syntax.mut (Syntax.tyInt Syntax.w32)),
-) (List._∷_ ( 11, Mut.mslice (Referent.rtF (Referent.fInt Syntax.w32)) (Syntax.tyRef Syntax.erased Syntax.mut (Syntax.tyInt Syntax.w32)) 4,
-) (List._∷_ ( 12, Rows'.any-gone (Syntax.tyRef Syntax.erased Syntax.mut (Syntax.tyInt Syntax.w32)), ) (List._∷_ ( 13, Rows'.any-gone (Syntax.tyStruct (List._∷_ 38 (List._∷_ 91 (List._∷_ 93 List.[]))) (Syntax.tcons (Syntax.tyRef Syntax.erased Syntax.mut (Syntax.tyInt Syntax.w32)) (Syntax.tcons (Syntax.tyInt Syntax.w64) Syntax.tnil))), ) (List._∷_ (14, Rows'.any-gone Syntax.tyBool) (List._∷_ ( 15, Rows'.any-gone (Syntax.tyInt Syntax.w64), ) List.[])))))))))))))))
+t6 = List._∷_ (
+  0,
+  Rows'.any-gone (Syntax.tyStruct (List._∷_ 102 (List._∷_ 105 (List._∷_ 114 (List._∷_ 109 (List._∷_ 58 (List._∷_ 58 (List._∷_ 81 (List._∷_ 117 (List._∷_ 111 (List._∷_ 116 (List._∷_ 101 List.[]))))))))))) (Syntax.tcons (Syntax.tyInt Syntax.w32) (Syntax.tcons (Syntax.tyInt Syntax.w64) (Syntax.tcons (Syntax.tyInt Syntax.w64) (Syntax.tcons (Syntax.tyInt Syntax.w32) Syntax.tnil))))),
+) (List._∷_ (
+  1,
+  Mut.mslice T τ 0,
+) (List._∷_ (
+  2,
+  Rows'.sslice (Referent.rtF (Referent.fInt Syntax.w8)) (Syntax.tyRef (Syntax.named 1) Syntax.imm (Syntax.tyInt Syntax.w8)) 1,
+) (List._∷_ (
+  3,
+  Relend.mslice-owed (Referent.rtF (Referent.fInt Syntax.w32)) (Syntax.tyRef (Syntax.named 2) Syntax.mut (Syntax.tyInt Syntax.w32)) 2 4 Row.off,
+) (List._∷_ (
+  4,
+  Mut.mslice (Referent.rtF (Referent.fInt Syntax.w32)) (Syntax.tyRef (Syntax.named 3) Syntax.mut (Syntax.tyInt Syntax.w32)) 3,
+) (List._∷_ (5, Rows'.sc-here (Row.sInt Syntax.w64)) (List._∷_ (
+  6,
+  Rows'.any-gone (Syntax.tyStruct (List._∷_ 102 (List._∷_ 105 (List._∷_ 114 (List._∷_ 109 (List._∷_ 58 (List._∷_ 58 (List._∷_ 81 (List._∷_ 117 (List._∷_ 111 (List._∷_ 116 (List._∷_ 101 List.[]))))))))))) (Syntax.tcons (Syntax.tyInt Syntax.w32) (Syntax.tcons (Syntax.tyInt Syntax.w64) (Syntax.tcons (Syntax.tyInt Syntax.w64) (Syntax.tcons (Syntax.tyInt Syntax.w32) Syntax.tnil))))),
+) (List._∷_ (7, Rows'.any-gone (Syntax.tyInt Syntax.w64)) (List._∷_ (
+  8,
+  Rows'.any-gone (Syntax.tyInt Syntax.w64),
+) (List._∷_ (9, Rows'.any-gone σ) (List._∷_ (
+  10,
+  Rows'.any-gone (Syntax.tyRef Syntax.erased Syntax.mut (Syntax.tyInt Syntax.w32)),
+) (List._∷_ (
+  11,
+  Mut.mslice (Referent.rtF (Referent.fInt Syntax.w32)) (Syntax.tyRef Syntax.erased Syntax.mut (Syntax.tyInt Syntax.w32)) 4,
+) (List._∷_ (12, Rows'.any-gone (Syntax.tyRef Syntax.erased Syntax.mut (Syntax.tyInt Syntax.w32))) (List._∷_ (13, Rows'.any-gone (Syntax.tyStruct (List._∷_ 38 (List._∷_ 91 (List._∷_ 93 List.[]))) (Syntax.tcons (Syntax.tyRef Syntax.erased Syntax.mut (Syntax.tyInt Syntax.w32)) (Syntax.tcons (Syntax.tyInt Syntax.w64) Syntax.tnil)))) (List._∷_ (14, Rows'.any-gone Syntax.tyBool) (List._∷_ (15, Rows'.any-gone (Syntax.tyInt Syntax.w64)) List.[])))))))))))))))
 
 abbrev pub t7 : List.List Row.Entry
-t7 = List._∷_ ( 0, Rows'.any-gone (Syntax.tyStruct (List._∷_ 102 (List._∷_ 105 (List._∷_ 114 (List._∷_ 109 (List._∷_ 58 (List._∷_ 58 (List._∷_ 81 (List._∷_ 117 (List._∷_ 111 (List._∷_ 116 (List._∷_ 101 List.[]))))))))))) (Syntax.tcons (Syntax.tyInt Syntax.w32) (Syntax.tcons (Syntax.tyInt Syntax.w64) (Syntax.tcons (Syntax.tyInt Syntax.w64) (Syntax.tcons (Syntax.tyInt Syntax.w32) Syntax.tnil))))),
-) (List._∷_ ( 1, Mut.mslice T τ 0,
-) (List._∷_ ( 2, Rows'.sslice (Referent.rtF (Referent.fInt Syntax.w8)) (Syntax.tyRef (Syntax.named 1) Syntax.imm (Syntax.tyInt Syntax.w8)) 1,
-) (List._∷_ ( 3, Relend.mslice-owed (Referent.rtF (Referent.fInt Syntax.w32)) (Syntax.tyRef (Syntax.named 2) Syntax.mut (Syntax.tyInt Syntax.w32)) 2 4 Row.off,
-) (List._∷_ ( 4, Relend.mslice-owed (Referent.rtF (Referent.fInt Syntax.w32)) (Syntax.tyRef (Syntax.named 3) Syntax.mut (Syntax.tyInt Syntax.w32)) 3 5 Row.off,
-) (List._∷_ (5, Rows'.sc-here (Row.sInt Syntax.w64)) (List._∷_ ( 6, Rows'.any-gone (Syntax.tyStruct (List._∷_ 102 (List._∷_ 105 (List._∷_ 114 (List._∷_ 109 (List._∷_ 58 (List._∷_ 58 (List._∷_ 81 (List._∷_ 117 (List._∷_ 111 (List._∷_ 116 (List._∷_ 101 List.[]))))))))))) (Syntax.tcons (Syntax.tyInt Syntax.w32) (Syntax.tcons (Syntax.tyInt Syntax.w64) (Syntax.tcons (Syntax.tyInt Syntax.w64) (Syntax.tcons (Syntax.tyInt Syntax.w32) Syntax.tnil))))),
-) (List._∷_ (7, Rows'.any-gone (Syntax.tyInt Syntax.w64)) (List._∷_ ( 8, Rows'.any-gone (Syntax.tyInt Syntax.w64),
-) (List._∷_ (9, Rows'.any-gone σ) (List._∷_ ( 10, Rows'.any-gone (Syntax.tyRef Syntax.erased Syntax.mut (Syntax.tyInt Syntax.w32)),
-) (List._∷_ ( 11, Mut.mslice (Referent.rtF (Referent.fInt Syntax.w32)) (Syntax.tyRef Syntax.erased Syntax.mut (Syntax.tyInt Syntax.w32)) 4,
-) (List._∷_ ( 12, Relend.msptr (Referent.rtF (Referent.fInt Syntax.w32)) (Syntax.tyRef Syntax.erased Syntax.mut (Syntax.tyInt Syntax.w32)) 5,
-) (List._∷_ ( 13, Rows'.any-gone (Syntax.tyStruct (List._∷_ 38 (List._∷_ 91 (List._∷_ 93 List.[]))) (Syntax.tcons (Syntax.tyRef Syntax.erased Syntax.mut (Syntax.tyInt Syntax.w32)) (Syntax.tcons (Syntax.tyInt Syntax.w64) Syntax.tnil))),
-) (List._∷_ (14, Rows'.any-gone Syntax.tyBool) (List._∷_ ( 15, Rows'.any-gone (Syntax.tyInt Syntax.w64),
+t7 = List._∷_ (
+  0,
+  Rows'.any-gone (Syntax.tyStruct (List._∷_ 102 (List._∷_ 105 (List._∷_ 114 (List._∷_ 109 (List._∷_ 58 (List._∷_ 58 (List._∷_ 81 (List._∷_ 117 (List._∷_ 111 (List._∷_ 116 (List._∷_ 101 List.[]))))))))))) (Syntax.tcons (Syntax.tyInt Syntax.w32) (Syntax.tcons (Syntax.tyInt Syntax.w64) (Syntax.tcons (Syntax.tyInt Syntax.w64) (Syntax.tcons (Syntax.tyInt Syntax.w32) Syntax.tnil))))),
+) (List._∷_ (
+  1,
+  Mut.mslice T τ 0,
+) (List._∷_ (
+  2,
+  Rows'.sslice (Referent.rtF (Referent.fInt Syntax.w8)) (Syntax.tyRef (Syntax.named 1) Syntax.imm (Syntax.tyInt Syntax.w8)) 1,
+) (List._∷_ (
+  3,
+  Relend.mslice-owed (Referent.rtF (Referent.fInt Syntax.w32)) (Syntax.tyRef (Syntax.named 2) Syntax.mut (Syntax.tyInt Syntax.w32)) 2 4 Row.off,
+) (List._∷_ (
+  4,
+  Relend.mslice-owed (Referent.rtF (Referent.fInt Syntax.w32)) (Syntax.tyRef (Syntax.named 3) Syntax.mut (Syntax.tyInt Syntax.w32)) 3 5 Row.off,
+) (List._∷_ (5, Rows'.sc-here (Row.sInt Syntax.w64)) (List._∷_ (
+  6,
+  Rows'.any-gone (Syntax.tyStruct (List._∷_ 102 (List._∷_ 105 (List._∷_ 114 (List._∷_ 109 (List._∷_ 58 (List._∷_ 58 (List._∷_ 81 (List._∷_ 117 (List._∷_ 111 (List._∷_ 116 (List._∷_ 101 List.[]))))))))))) (Syntax.tcons (Syntax.tyInt Syntax.w32) (Syntax.tcons (Syntax.tyInt Syntax.w64) (Syntax.tcons (Syntax.tyInt Syntax.w64) (Syntax.tcons (Syntax.tyInt Syntax.w32) Syntax.tnil))))),
+) (List._∷_ (7, Rows'.any-gone (Syntax.tyInt Syntax.w64)) (List._∷_ (
+  8,
+  Rows'.any-gone (Syntax.tyInt Syntax.w64),
+) (List._∷_ (9, Rows'.any-gone σ) (List._∷_ (
+  10,
+  Rows'.any-gone (Syntax.tyRef Syntax.erased Syntax.mut (Syntax.tyInt Syntax.w32)),
+) (List._∷_ (
+  11,
+  Mut.mslice (Referent.rtF (Referent.fInt Syntax.w32)) (Syntax.tyRef Syntax.erased Syntax.mut (Syntax.tyInt Syntax.w32)) 4,
+) (List._∷_ (
+  12,
+  Relend.msptr (Referent.rtF (Referent.fInt Syntax.w32)) (Syntax.tyRef Syntax.erased Syntax.mut (Syntax.tyInt Syntax.w32)) 5,
+) (List._∷_ (
+  13,
+  Rows'.any-gone (Syntax.tyStruct (List._∷_ 38 (List._∷_ 91 (List._∷_ 93 List.[]))) (Syntax.tcons (Syntax.tyRef Syntax.erased Syntax.mut (Syntax.tyInt Syntax.w32)) (Syntax.tcons (Syntax.tyInt Syntax.w64) Syntax.tnil))),
+) (List._∷_ (14, Rows'.any-gone Syntax.tyBool) (List._∷_ (
+  15,
+  Rows'.any-gone (Syntax.tyInt Syntax.w64),
 ) List.[])))))))))))))))
 
 abbrev pub t8 : List.List Row.Entry
-t8 = List._∷_ ( 0, Rows'.any-gone (Syntax.tyStruct (List._∷_ 102 (List._∷_ 105 (List._∷_ 114 (List._∷_ 109 (List._∷_ 58 (List._∷_ 58 (List._∷_ 81 (List._∷_ 117 (List._∷_ 111 (List._∷_ 116 (List._∷_ 101 List.[]))))))))))) (Syntax.tcons (Syntax.tyInt Syntax.w32) (Syntax.tcons (Syntax.tyInt Syntax.w64) (Syntax.tcons (Syntax.tyInt Syntax.w64) (Syntax.tcons (Syntax.tyInt Syntax.w32) Syntax.tnil))))),
-) (List._∷_ ( 1, Mut.mslice T τ 0,
-) (List._∷_ ( 2, Rows'.sslice (Referent.rtF (Referent.fInt Syntax.w8)) (Syntax.tyRef (Syntax.named 1) Syntax.imm (Syntax.tyInt Syntax.w8)) 1,
-) (List._∷_ ( 3, Relend.mslice-owed (Referent.rtF (Referent.fInt Syntax.w32)) (Syntax.tyRef (Syntax.named 2) Syntax.mut (Syntax.tyInt Syntax.w32)) 2 4 Row.off,
-) (List._∷_ ( 4, Relend.mslice-owed (Referent.rtF (Referent.fInt Syntax.w32)) (Syntax.tyRef (Syntax.named 3) Syntax.mut (Syntax.tyInt Syntax.w32)) 3 5 Row.off,
-) (List._∷_ (5, Rows'.sc-here (Row.sInt Syntax.w64)) (List._∷_ ( 6, Rows'.any-gone (Syntax.tyStruct (List._∷_ 102 (List._∷_ 105 (List._∷_ 114 (List._∷_ 109 (List._∷_ 58 (List._∷_ 58 (List._∷_ 81 (List._∷_ 117 (List._∷_ 111 (List._∷_ 116 (List._∷_ 101 List.[]))))))))))) (Syntax.tcons (Syntax.tyInt Syntax.w32) (Syntax.tcons (Syntax.tyInt Syntax.w64) (Syntax.tcons (Syntax.tyInt Syntax.w64) (Syntax.tcons (Syntax.tyInt Syntax.w32) Syntax.tnil))))),
-) (List._∷_ (7, Rows'.any-gone (Syntax.tyInt Syntax.w64)) (List._∷_ ( 8, Rows'.any-gone (Syntax.tyInt Syntax.w64),
-) (List._∷_ (9, Rows'.any-gone σ) (List._∷_ ( 10, Rows'.any-gone (Syntax.tyRef Syntax.erased Syntax.mut (Syntax.tyInt Syntax.w32)),
-) (List._∷_ ( 11, Mut.mslice (Referent.rtF (Referent.fInt Syntax.w32)) (Syntax.tyRef Syntax.erased Syntax.mut (Syntax.tyInt Syntax.w32)) 4,
-) (List._∷_ ( 12, Rows'.any-gone (Syntax.tyRef Syntax.erased Syntax.mut (Syntax.tyInt Syntax.w32)), ) (List._∷_ ( 13, Mut.mslice (Referent.rtF (Referent.fInt Syntax.w32)) (Syntax.tyRef Syntax.erased Syntax.mut (Syntax.tyInt Syntax.w32)) 5, ) (List._∷_ (14, Rows'.any-gone Syntax.tyBool) (List._∷_ ( 15, Rows'.any-gone (Syntax.tyInt Syntax.w64), ) List.[])))))))))))))))
+t8 = List._∷_ (
+  0,
+  Rows'.any-gone (Syntax.tyStruct (List._∷_ 102 (List._∷_ 105 (List._∷_ 114 (List._∷_ 109 (List._∷_ 58 (List._∷_ 58 (List._∷_ 81 (List._∷_ 117 (List._∷_ 111 (List._∷_ 116 (List._∷_ 101 List.[]))))))))))) (Syntax.tcons (Syntax.tyInt Syntax.w32) (Syntax.tcons (Syntax.tyInt Syntax.w64) (Syntax.tcons (Syntax.tyInt Syntax.w64) (Syntax.tcons (Syntax.tyInt Syntax.w32) Syntax.tnil))))),
+) (List._∷_ (
+  1,
+  Mut.mslice T τ 0,
+) (List._∷_ (
+  2,
+  Rows'.sslice (Referent.rtF (Referent.fInt Syntax.w8)) (Syntax.tyRef (Syntax.named 1) Syntax.imm (Syntax.tyInt Syntax.w8)) 1,
+) (List._∷_ (
+  3,
+  Relend.mslice-owed (Referent.rtF (Referent.fInt Syntax.w32)) (Syntax.tyRef (Syntax.named 2) Syntax.mut (Syntax.tyInt Syntax.w32)) 2 4 Row.off,
+) (List._∷_ (
+  4,
+  Relend.mslice-owed (Referent.rtF (Referent.fInt Syntax.w32)) (Syntax.tyRef (Syntax.named 3) Syntax.mut (Syntax.tyInt Syntax.w32)) 3 5 Row.off,
+) (List._∷_ (5, Rows'.sc-here (Row.sInt Syntax.w64)) (List._∷_ (
+  6,
+  Rows'.any-gone (Syntax.tyStruct (List._∷_ 102 (List._∷_ 105 (List._∷_ 114 (List._∷_ 109 (List._∷_ 58 (List._∷_ 58 (List._∷_ 81 (List._∷_ 117 (List._∷_ 111 (List._∷_ 116 (List._∷_ 101 List.[]))))))))))) (Syntax.tcons (Syntax.tyInt Syntax.w32) (Syntax.tcons (Syntax.tyInt Syntax.w64) (Syntax.tcons (Syntax.tyInt Syntax.w64) (Syntax.tcons (Syntax.tyInt Syntax.w32) Syntax.tnil))))),
+) (List._∷_ (7, Rows'.any-gone (Syntax.tyInt Syntax.w64)) (List._∷_ (
+  8,
+  Rows'.any-gone (Syntax.tyInt Syntax.w64),
+) (List._∷_ (9, Rows'.any-gone σ) (List._∷_ (
+  10,
+  Rows'.any-gone (Syntax.tyRef Syntax.erased Syntax.mut (Syntax.tyInt Syntax.w32)),
+) (List._∷_ (
+  11,
+  Mut.mslice (Referent.rtF (Referent.fInt Syntax.w32)) (Syntax.tyRef Syntax.erased Syntax.mut (Syntax.tyInt Syntax.w32)) 4,
+) (List._∷_ (12, Rows'.any-gone (Syntax.tyRef Syntax.erased Syntax.mut (Syntax.tyInt Syntax.w32))) (List._∷_ (13, Mut.mslice (Referent.rtF (Referent.fInt Syntax.w32)) (Syntax.tyRef Syntax.erased Syntax.mut (Syntax.tyInt Syntax.w32)) 5) (List._∷_ (14, Rows'.any-gone Syntax.tyBool) (List._∷_ (15, Rows'.any-gone (Syntax.tyInt Syntax.w64)) List.[])))))))))))))))
 
 abbrev pub t9 : List.List Row.Entry
-t9 = List._∷_ ( 0, Rows'.any-gone (Syntax.tyStruct (List._∷_ 102 (List._∷_ 105 (List._∷_ 114 (List._∷_ 109 (List._∷_ 58 (List._∷_ 58 (List._∷_ 81 (List._∷_ 117 (List._∷_ 111 (List._∷_ 116 (List._∷_ 101 List.[]))))))))))) (Syntax.tcons (Syntax.tyInt Syntax.w32) (Syntax.tcons (Syntax.tyInt Syntax.w64) (Syntax.tcons (Syntax.tyInt Syntax.w64) (Syntax.tcons (Syntax.tyInt Syntax.w32) Syntax.tnil))))),
-) (List._∷_ ( 1, Mut.mslice T τ 0,
-) (List._∷_ ( 2, Rows'.sslice (Referent.rtF (Referent.fInt Syntax.w8)) (Syntax.tyRef (Syntax.named 1) Syntax.imm (Syntax.tyInt Syntax.w8)) 1,
-) (List._∷_ ( 3, Relend.mslice-owed (Referent.rtF (Referent.fInt Syntax.w32)) (Syntax.tyRef (Syntax.named 2) Syntax.mut (Syntax.tyInt Syntax.w32)) 2 4 Row.off,
-) (List._∷_ ( 4, Relend.mslice-owed (Referent.rtF (Referent.fInt Syntax.w32)) (Syntax.tyRef (Syntax.named 3) Syntax.mut (Syntax.tyInt Syntax.w32)) 3 5 Row.off,
-) (List._∷_ (5, Rows'.sc-here (Row.sInt Syntax.w64)) (List._∷_ ( 6, Rows'.whole (Declared.row Quote.the-type),
-) (List._∷_ (7, Rows'.any-gone (Syntax.tyInt Syntax.w64)) (List._∷_ ( 8, Rows'.any-gone (Syntax.tyInt Syntax.w64),
-) (List._∷_ (9, Rows'.any-gone σ) (List._∷_ ( 10, Rows'.any-gone (Syntax.tyRef Syntax.erased Syntax.mut (Syntax.tyInt Syntax.w32)),
-) (List._∷_ ( 11, Mut.msleft (Referent.rtF (Referent.fInt Syntax.w32)) (Syntax.tyRef Syntax.erased Syntax.mut (Syntax.tyInt Syntax.w32)),
-) (List._∷_ ( 12, Rows'.any-gone (Syntax.tyRef Syntax.erased Syntax.mut (Syntax.tyInt Syntax.w32)), ) (List._∷_ ( 13, Mut.msleft (Referent.rtF (Referent.fInt Syntax.w32)) (Syntax.tyRef Syntax.erased Syntax.mut (Syntax.tyInt Syntax.w32)), ) (List._∷_ (14, Rows'.any-gone Syntax.tyBool) (List._∷_ ( 15, Rows'.any-gone (Syntax.tyInt Syntax.w64), ) List.[])))))))))))))))
+t9 = List._∷_ (
+  0,
+  Rows'.any-gone (Syntax.tyStruct (List._∷_ 102 (List._∷_ 105 (List._∷_ 114 (List._∷_ 109 (List._∷_ 58 (List._∷_ 58 (List._∷_ 81 (List._∷_ 117 (List._∷_ 111 (List._∷_ 116 (List._∷_ 101 List.[]))))))))))) (Syntax.tcons (Syntax.tyInt Syntax.w32) (Syntax.tcons (Syntax.tyInt Syntax.w64) (Syntax.tcons (Syntax.tyInt Syntax.w64) (Syntax.tcons (Syntax.tyInt Syntax.w32) Syntax.tnil))))),
+) (List._∷_ (
+  1,
+  Mut.mslice T τ 0,
+) (List._∷_ (
+  2,
+  Rows'.sslice (Referent.rtF (Referent.fInt Syntax.w8)) (Syntax.tyRef (Syntax.named 1) Syntax.imm (Syntax.tyInt Syntax.w8)) 1,
+) (List._∷_ (
+  3,
+  Relend.mslice-owed (Referent.rtF (Referent.fInt Syntax.w32)) (Syntax.tyRef (Syntax.named 2) Syntax.mut (Syntax.tyInt Syntax.w32)) 2 4 Row.off,
+) (List._∷_ (
+  4,
+  Relend.mslice-owed (Referent.rtF (Referent.fInt Syntax.w32)) (Syntax.tyRef (Syntax.named 3) Syntax.mut (Syntax.tyInt Syntax.w32)) 3 5 Row.off,
+) (List._∷_ (5, Rows'.sc-here (Row.sInt Syntax.w64)) (List._∷_ (
+  6,
+  Rows'.whole (Declared.row Quote.the-type),
+) (List._∷_ (7, Rows'.any-gone (Syntax.tyInt Syntax.w64)) (List._∷_ (
+  8,
+  Rows'.any-gone (Syntax.tyInt Syntax.w64),
+) (List._∷_ (9, Rows'.any-gone σ) (List._∷_ (
+  10,
+  Rows'.any-gone (Syntax.tyRef Syntax.erased Syntax.mut (Syntax.tyInt Syntax.w32)),
+) (List._∷_ (
+  11,
+  Mut.msleft (Referent.rtF (Referent.fInt Syntax.w32)) (Syntax.tyRef Syntax.erased Syntax.mut (Syntax.tyInt Syntax.w32)),
+) (List._∷_ (12, Rows'.any-gone (Syntax.tyRef Syntax.erased Syntax.mut (Syntax.tyInt Syntax.w32))) (List._∷_ (13, Mut.msleft (Referent.rtF (Referent.fInt Syntax.w32)) (Syntax.tyRef Syntax.erased Syntax.mut (Syntax.tyInt Syntax.w32))) (List._∷_ (14, Rows'.any-gone Syntax.tyBool) (List._∷_ (15, Rows'.any-gone (Syntax.tyInt Syntax.w64)) List.[])))))))))))))))
 
 abbrev pub t10 : List.List Row.Entry
-t10 = List._∷_ ( 0, Rows'.any-gone (Syntax.tyStruct (List._∷_ 102 (List._∷_ 105 (List._∷_ 114 (List._∷_ 109 (List._∷_ 58 (List._∷_ 58 (List._∷_ 81 (List._∷_ 117 (List._∷_ 111 (List._∷_ 116 (List._∷_ 101 List.[]))))))))))) (Syntax.tcons (Syntax.tyInt Syntax.w32) (Syntax.tcons (Syntax.tyInt Syntax.w64) (Syntax.tcons (Syntax.tyInt Syntax.w64) (Syntax.tcons (Syntax.tyInt Syntax.w32) Syntax.tnil))))),
-) (List._∷_ ( 1, Mut.mslice T τ 0,
-) (List._∷_ ( 2, Rows'.sslice (Referent.rtF (Referent.fInt Syntax.w8)) (Syntax.tyRef (Syntax.named 1) Syntax.imm (Syntax.tyInt Syntax.w8)) 1,
-) (List._∷_ ( 3, Mut.mslice (Referent.rtF (Referent.fInt Syntax.w32)) (Syntax.tyRef (Syntax.named 2) Syntax.mut (Syntax.tyInt Syntax.w32)) 2,
-) (List._∷_ ( 4, Relend.mslice-owed (Referent.rtF (Referent.fInt Syntax.w32)) (Syntax.tyRef (Syntax.named 3) Syntax.mut (Syntax.tyInt Syntax.w32)) 3 5 Row.off,
-) (List._∷_ (5, Rows'.sc-here (Row.sInt Syntax.w64)) (List._∷_ ( 6, Rows'.whole (Declared.row Quote.the-type),
-) (List._∷_ (7, Rows'.any-gone (Syntax.tyInt Syntax.w64)) (List._∷_ ( 8, Rows'.any-gone (Syntax.tyInt Syntax.w64),
-) (List._∷_ (9, Rows'.any-gone σ) (List._∷_ ( 10, Rows'.any-gone (Syntax.tyRef Syntax.erased Syntax.mut (Syntax.tyInt Syntax.w32)),
-) (List._∷_ ( 11, Rows'.any-gone (Syntax.tyStruct (List._∷_ 38 (List._∷_ 91 (List._∷_ 93 List.[]))) (Syntax.tcons (Syntax.tyRef Syntax.erased Syntax.mut (Syntax.tyInt Syntax.w32)) (Syntax.tcons (Syntax.tyInt Syntax.w64) Syntax.tnil))),
-) (List._∷_ ( 12, Rows'.any-gone (Syntax.tyRef Syntax.erased Syntax.mut (Syntax.tyInt Syntax.w32)), ) (List._∷_ ( 13, Mut.msleft (Referent.rtF (Referent.fInt Syntax.w32)) (Syntax.tyRef Syntax.erased Syntax.mut (Syntax.tyInt Syntax.w32)), ) (List._∷_ (14, Rows'.any-gone Syntax.tyBool) (List._∷_ ( 15, Rows'.any-gone (Syntax.tyInt Syntax.w64), ) List.[])))))))))))))))
+t10 = List._∷_ (
+  0,
+  Rows'.any-gone (Syntax.tyStruct (List._∷_ 102 (List._∷_ 105 (List._∷_ 114 (List._∷_ 109 (List._∷_ 58 (List._∷_ 58 (List._∷_ 81 (List._∷_ 117 (List._∷_ 111 (List._∷_ 116 (List._∷_ 101 List.[]))))))))))) (Syntax.tcons (Syntax.tyInt Syntax.w32) (Syntax.tcons (Syntax.tyInt Syntax.w64) (Syntax.tcons (Syntax.tyInt Syntax.w64) (Syntax.tcons (Syntax.tyInt Syntax.w32) Syntax.tnil))))),
+) (List._∷_ (
+  1,
+  Mut.mslice T τ 0,
+) (List._∷_ (
+  2,
+  Rows'.sslice (Referent.rtF (Referent.fInt Syntax.w8)) (Syntax.tyRef (Syntax.named 1) Syntax.imm (Syntax.tyInt Syntax.w8)) 1,
+) (List._∷_ (
+  3,
+  Mut.mslice (Referent.rtF (Referent.fInt Syntax.w32)) (Syntax.tyRef (Syntax.named 2) Syntax.mut (Syntax.tyInt Syntax.w32)) 2,
+) (List._∷_ (
+  4,
+  Relend.mslice-owed (Referent.rtF (Referent.fInt Syntax.w32)) (Syntax.tyRef (Syntax.named 3) Syntax.mut (Syntax.tyInt Syntax.w32)) 3 5 Row.off,
+) (List._∷_ (5, Rows'.sc-here (Row.sInt Syntax.w64)) (List._∷_ (
+  6,
+  Rows'.whole (Declared.row Quote.the-type),
+) (List._∷_ (7, Rows'.any-gone (Syntax.tyInt Syntax.w64)) (List._∷_ (
+  8,
+  Rows'.any-gone (Syntax.tyInt Syntax.w64),
+) (List._∷_ (9, Rows'.any-gone σ) (List._∷_ (
+  10,
+  Rows'.any-gone (Syntax.tyRef Syntax.erased Syntax.mut (Syntax.tyInt Syntax.w32)),
+) (List._∷_ (
+  11,
+  Rows'.any-gone (Syntax.tyStruct (List._∷_ 38 (List._∷_ 91 (List._∷_ 93 List.[]))) (Syntax.tcons (Syntax.tyRef Syntax.erased Syntax.mut (Syntax.tyInt Syntax.w32)) (Syntax.tcons (Syntax.tyInt Syntax.w64) Syntax.tnil))),
+) (List._∷_ (12, Rows'.any-gone (Syntax.tyRef Syntax.erased Syntax.mut (Syntax.tyInt Syntax.w32))) (List._∷_ (13, Mut.msleft (Referent.rtF (Referent.fInt Syntax.w32)) (Syntax.tyRef Syntax.erased Syntax.mut (Syntax.tyInt Syntax.w32))) (List._∷_ (14, Rows'.any-gone Syntax.tyBool) (List._∷_ (15, Rows'.any-gone (Syntax.tyInt Syntax.w64)) List.[])))))))))))))))
 
 abbrev pub t11 : List.List Row.Entry
-t11 = List._∷_ ( 0, Rows'.any-gone (Syntax.tyStruct (List._∷_ 102 (List._∷_ 105 (List._∷_ 114 (List._∷_ 109 (List._∷_ 58 (List._∷_ 58 (List._∷_ 81 (List._∷_ 117 (List._∷_ 111 (List._∷_ 116 (List._∷_ 101 List.[]))))))))))) (Syntax.tcons (Syntax.tyInt Syntax.w32) (Syntax.tcons (Syntax.tyInt Syntax.w64) (Syntax.tcons (Syntax.tyInt Syntax.w64) (Syntax.tcons (Syntax.tyInt Syntax.w32) Syntax.tnil))))),
-) (List._∷_ ( 1, Mut.mslice T τ 0,
-) (List._∷_ ( 2, Rows'.sslice (Referent.rtF (Referent.fInt Syntax.w8)) (Syntax.tyRef (Syntax.named 1) Syntax.imm (Syntax.tyInt Syntax.w8)) 1,
-) (List._∷_ ( 3, Mut.mslice (Referent.rtF (Referent.fInt Syntax.w32)) (Syntax.tyRef (Syntax.named 2) Syntax.mut (Syntax.tyInt Syntax.w32)) 2,
-) (List._∷_ ( 4, Mut.mslice (Referent.rtF (Referent.fInt Syntax.w32)) (Syntax.tyRef (Syntax.named 3) Syntax.mut (Syntax.tyInt Syntax.w32)) 3,
-) (List._∷_ (5, Rows'.sc-here (Row.sInt Syntax.w64)) (List._∷_ ( 6, Rows'.whole (Declared.row Quote.the-type),
-) (List._∷_ (7, Rows'.any-gone (Syntax.tyInt Syntax.w64)) (List._∷_ ( 8, Rows'.any-gone (Syntax.tyInt Syntax.w64),
-) (List._∷_ (9, Rows'.any-gone σ) (List._∷_ ( 10, Rows'.any-gone (Syntax.tyRef Syntax.erased Syntax.mut (Syntax.tyInt Syntax.w32)),
-) (List._∷_ ( 11, Rows'.any-gone (Syntax.tyStruct (List._∷_ 38 (List._∷_ 91 (List._∷_ 93 List.[]))) (Syntax.tcons (Syntax.tyRef Syntax.erased Syntax.mut (Syntax.tyInt Syntax.w32)) (Syntax.tcons (Syntax.tyInt Syntax.w64) Syntax.tnil))),
-) (List._∷_ ( 12, Rows'.any-gone (Syntax.tyRef Syntax.erased Syntax.mut (Syntax.tyInt Syntax.w32)), ) (List._∷_ ( 13, Rows'.any-gone (Syntax.tyStruct (List._∷_ 38 (List._∷_ 91 (List._∷_ 93 List.[]))) (Syntax.tcons (Syntax.tyRef Syntax.erased Syntax.mut (Syntax.tyInt Syntax.w32)) (Syntax.tcons (Syntax.tyInt Syntax.w64) Syntax.tnil))), ) (List._∷_ (14, Rows'.any-gone Syntax.tyBool) (List._∷_ ( 15, Rows'.any-gone (Syntax.tyInt Syntax.w64), ) List.[])))))))))))))))
+t11 = List._∷_ (
+  0,
+  Rows'.any-gone (Syntax.tyStruct (List._∷_ 102 (List._∷_ 105 (List._∷_ 114 (List._∷_ 109 (List._∷_ 58 (List._∷_ 58 (List._∷_ 81 (List._∷_ 117 (List._∷_ 111 (List._∷_ 116 (List._∷_ 101 List.[]))))))))))) (Syntax.tcons (Syntax.tyInt Syntax.w32) (Syntax.tcons (Syntax.tyInt Syntax.w64) (Syntax.tcons (Syntax.tyInt Syntax.w64) (Syntax.tcons (Syntax.tyInt Syntax.w32) Syntax.tnil))))),
+) (List._∷_ (
+  1,
+  Mut.mslice T τ 0,
+) (List._∷_ (
+  2,
+  Rows'.sslice (Referent.rtF (Referent.fInt Syntax.w8)) (Syntax.tyRef (Syntax.named 1) Syntax.imm (Syntax.tyInt Syntax.w8)) 1,
+) (List._∷_ (
+  3,
+  Mut.mslice (Referent.rtF (Referent.fInt Syntax.w32)) (Syntax.tyRef (Syntax.named 2) Syntax.mut (Syntax.tyInt Syntax.w32)) 2,
+) (List._∷_ (
+  4,
+  Mut.mslice (Referent.rtF (Referent.fInt Syntax.w32)) (Syntax.tyRef (Syntax.named 3) Syntax.mut (Syntax.tyInt Syntax.w32)) 3,
+) (List._∷_ (5, Rows'.sc-here (Row.sInt Syntax.w64)) (List._∷_ (
+  6,
+  Rows'.whole (Declared.row Quote.the-type),
+) (List._∷_ (7, Rows'.any-gone (Syntax.tyInt Syntax.w64)) (List._∷_ (
+  8,
+  Rows'.any-gone (Syntax.tyInt Syntax.w64),
+) (List._∷_ (9, Rows'.any-gone σ) (List._∷_ (
+  10,
+  Rows'.any-gone (Syntax.tyRef Syntax.erased Syntax.mut (Syntax.tyInt Syntax.w32)),
+) (List._∷_ (
+  11,
+  Rows'.any-gone (Syntax.tyStruct (List._∷_ 38 (List._∷_ 91 (List._∷_ 93 List.[]))) (Syntax.tcons (Syntax.tyRef Syntax.erased Syntax.mut (Syntax.tyInt Syntax.w32)) (Syntax.tcons (Syntax.tyInt Syntax.w64) Syntax.tnil))),
+) (List._∷_ (12, Rows'.any-gone (Syntax.tyRef Syntax.erased Syntax.mut (Syntax.tyInt Syntax.w32))) (List._∷_ (13, Rows'.any-gone (Syntax.tyStruct (List._∷_ 38 (List._∷_ 91 (List._∷_ 93 List.[]))) (Syntax.tcons (Syntax.tyRef Syntax.erased Syntax.mut (Syntax.tyInt Syntax.w32)) (Syntax.tcons (Syntax.tyInt Syntax.w64) Syntax.tnil)))) (List._∷_ (14, Rows'.any-gone Syntax.tyBool) (List._∷_ (15, Rows'.any-gone (Syntax.tyInt Syntax.w64)) List.[])))))))))))))))
 
 abbrev pub t12 : List.List Row.Entry
-t12 = List._∷_ ( 0, Rows'.any-gone (Syntax.tyStruct (List._∷_ 102 (List._∷_ 105 (List._∷_ 114 (List._∷_ 109 (List._∷_ 58 (List._∷_ 58 (List._∷_ 81 (List._∷_ 117 (List._∷_ 111 (List._∷_ 116 (List._∷_ 101 List.[]))))))))))) (Syntax.tcons (Syntax.tyInt Syntax.w32) (Syntax.tcons (Syntax.tyInt Syntax.w64) (Syntax.tcons (Syntax.tyInt Syntax.w64) (Syntax.tcons (Syntax.tyInt Syntax.w32) Syntax.tnil))))),
-) (List._∷_ ( 1, Mut.mslice T τ 0,
-) (List._∷_ ( 2, Rows'.sslice (Referent.rtF (Referent.fInt Syntax.w8)) (Syntax.tyRef (Syntax.named 1) Syntax.imm (Syntax.tyInt Syntax.w8)) 1,
-) (List._∷_ ( 3, Mut.mslice (Referent.rtF (Referent.fInt Syntax.w32)) (Syntax.tyRef (Syntax.named 2) Syntax.mut (Syntax.tyInt Syntax.w32)) 2,
-) (List._∷_ ( 4, Mut.mslice (Referent.rtF (Referent.fInt Syntax.w32)) (Syntax.tyRef (Syntax.named 3) Syntax.mut (Syntax.tyInt Syntax.w32)) 3,
-) (List._∷_ (5, Rows'.sc-here (Row.sInt Syntax.w64)) (List._∷_ ( 6, Rows'.whole (Declared.row Quote.the-type),
-) (List._∷_ (7, Rows'.sc-here (Row.sInt Syntax.w64)) (List._∷_ ( 8, Rows'.any-gone (Syntax.tyInt Syntax.w64),
-) (List._∷_ (9, Rows'.any-gone σ) (List._∷_ ( 10, Rows'.any-gone (Syntax.tyRef Syntax.erased Syntax.mut (Syntax.tyInt Syntax.w32)),
-) (List._∷_ ( 11, Rows'.any-gone (Syntax.tyStruct (List._∷_ 38 (List._∷_ 91 (List._∷_ 93 List.[]))) (Syntax.tcons (Syntax.tyRef Syntax.erased Syntax.mut (Syntax.tyInt Syntax.w32)) (Syntax.tcons (Syntax.tyInt Syntax.w64) Syntax.tnil))),
-) (List._∷_ ( 12, Rows'.any-gone (Syntax.tyRef Syntax.erased Syntax.mut (Syntax.tyInt Syntax.w32)), ) (List._∷_ ( 13, Rows'.any-gone (Syntax.tyStruct (List._∷_ 38 (List._∷_ 91 (List._∷_ 93 List.[]))) (Syntax.tcons (Syntax.tyRef Syntax.erased Syntax.mut (Syntax.tyInt Syntax.w32)) (Syntax.tcons (Syntax.tyInt Syntax.w64) Syntax.tnil))), ) (List._∷_ (14, Rows'.any-gone Syntax.tyBool) (List._∷_ ( 15, Rows'.any-gone (Syntax.tyInt Syntax.w64), ) List.[])))))))))))))))
+t12 = List._∷_ (
+  0,
+  Rows'.any-gone (Syntax.tyStruct (List._∷_ 102 (List._∷_ 105 (List._∷_ 114 (List._∷_ 109 (List._∷_ 58 (List._∷_ 58 (List._∷_ 81 (List._∷_ 117 (List._∷_ 111 (List._∷_ 116 (List._∷_ 101 List.[]))))))))))) (Syntax.tcons (Syntax.tyInt Syntax.w32) (Syntax.tcons (Syntax.tyInt Syntax.w64) (Syntax.tcons (Syntax.tyInt Syntax.w64) (Syntax.tcons (Syntax.tyInt Syntax.w32) Syntax.tnil))))),
+) (List._∷_ (
+  1,
+  Mut.mslice T τ 0,
+) (List._∷_ (
+  2,
+  Rows'.sslice (Referent.rtF (Referent.fInt Syntax.w8)) (Syntax.tyRef (Syntax.named 1) Syntax.imm (Syntax.tyInt Syntax.w8)) 1,
+) (List._∷_ (
+  3,
+  Mut.mslice (Referent.rtF (Referent.fInt Syntax.w32)) (Syntax.tyRef (Syntax.named 2) Syntax.mut (Syntax.tyInt Syntax.w32)) 2,
+) (List._∷_ (
+  4,
+  Mut.mslice (Referent.rtF (Referent.fInt Syntax.w32)) (Syntax.tyRef (Syntax.named 3) Syntax.mut (Syntax.tyInt Syntax.w32)) 3,
+) (List._∷_ (5, Rows'.sc-here (Row.sInt Syntax.w64)) (List._∷_ (
+  6,
+  Rows'.whole (Declared.row Quote.the-type),
+) (List._∷_ (7, Rows'.sc-here (Row.sInt Syntax.w64)) (List._∷_ (
+  8,
+  Rows'.any-gone (Syntax.tyInt Syntax.w64),
+) (List._∷_ (9, Rows'.any-gone σ) (List._∷_ (
+  10,
+  Rows'.any-gone (Syntax.tyRef Syntax.erased Syntax.mut (Syntax.tyInt Syntax.w32)),
+) (List._∷_ (
+  11,
+  Rows'.any-gone (Syntax.tyStruct (List._∷_ 38 (List._∷_ 91 (List._∷_ 93 List.[]))) (Syntax.tcons (Syntax.tyRef Syntax.erased Syntax.mut (Syntax.tyInt Syntax.w32)) (Syntax.tcons (Syntax.tyInt Syntax.w64) Syntax.tnil))),
+) (List._∷_ (12, Rows'.any-gone (Syntax.tyRef Syntax.erased Syntax.mut (Syntax.tyInt Syntax.w32))) (List._∷_ (13, Rows'.any-gone (Syntax.tyStruct (List._∷_ 38 (List._∷_ 91 (List._∷_ 93 List.[]))) (Syntax.tcons (Syntax.tyRef Syntax.erased Syntax.mut (Syntax.tyInt Syntax.w32)) (Syntax.tcons (Syntax.tyInt Syntax.w64) Syntax.tnil)))) (List._∷_ (14, Rows'.any-gone Syntax.tyBool) (List._∷_ (15, Rows'.any-gone (Syntax.tyInt Syntax.w64)) List.[])))))))))))))))
 
 abbrev pub t13 : List.List Row.Entry
-t13 = List._∷_ ( 0, Rows'.any-gone (Syntax.tyStruct (List._∷_ 102 (List._∷_ 105 (List._∷_ 114 (List._∷_ 109 (List._∷_ 58 (List._∷_ 58 (List._∷_ 81 (List._∷_ 117 (List._∷_ 111 (List._∷_ 116 (List._∷_ 101 List.[]))))))))))) (Syntax.tcons (Syntax.tyInt Syntax.w32) (Syntax.tcons (Syntax.tyInt Syntax.w64) (Syntax.tcons (Syntax.tyInt Syntax.w64) (Syntax.tcons (Syntax.tyInt Syntax.w32) Syntax.tnil))))),
-) (List._∷_ ( 1, Mut.mslice T τ 0,
-) (List._∷_ ( 2, Rows'.sslice (Referent.rtF (Referent.fInt Syntax.w8)) (Syntax.tyRef (Syntax.named 1) Syntax.imm (Syntax.tyInt Syntax.w8)) 1,
-) (List._∷_ ( 3, Mut.mslice (Referent.rtF (Referent.fInt Syntax.w32)) (Syntax.tyRef (Syntax.named 2) Syntax.mut (Syntax.tyInt Syntax.w32)) 2,
-) (List._∷_ ( 4, Mut.mslice (Referent.rtF (Referent.fInt Syntax.w32)) (Syntax.tyRef (Syntax.named 3) Syntax.mut (Syntax.tyInt Syntax.w32)) 3,
-) (List._∷_ (5, Rows'.sc-here (Row.sInt Syntax.w64)) (List._∷_ ( 6, Rows'.whole (Declared.row Quote.the-type),
-) (List._∷_ (7, Rows'.sc-here (Row.sInt Syntax.w64)) (List._∷_ ( 8, Rows'.any-gone (Syntax.tyInt Syntax.w64),
-) (List._∷_ (9, Rows'.any-gone σ) (List._∷_ ( 10, Rows'.any-gone (Syntax.tyRef Syntax.erased Syntax.mut (Syntax.tyInt Syntax.w32)),
-) (List._∷_ ( 11, Rows'.any-gone (Syntax.tyStruct (List._∷_ 38 (List._∷_ 91 (List._∷_ 93 List.[]))) (Syntax.tcons (Syntax.tyRef Syntax.erased Syntax.mut (Syntax.tyInt Syntax.w32)) (Syntax.tcons (Syntax.tyInt Syntax.w64) Syntax.tnil))),
-) (List._∷_ ( 12, Rows'.any-gone (Syntax.tyRef Syntax.erased Syntax.mut (Syntax.tyInt Syntax.w32)), ) (List._∷_ ( 13, Rows'.any-gone (Syntax.tyStruct (List._∷_ 38 (List._∷_ 91 (List._∷_ 93 List.[]))) (Syntax.tcons (Syntax.tyRef Syntax.erased Syntax.mut (Syntax.tyInt Syntax.w32)) (Syntax.tcons (Syntax.tyInt Syntax.w64) Syntax.tnil))), ) (List._∷_ (14, Rows'.sc-here Row.sBool) (List._∷_ ( 15, Rows'.any-gone (Syntax.tyInt Syntax.w64), ) List.[])))))))))))))))
+t13 = List._∷_ (
+  0,
+  Rows'.any-gone (Syntax.tyStruct (List._∷_ 102 (List._∷_ 105 (List._∷_ 114 (List._∷_ 109 (List._∷_ 58 (List._∷_ 58 (List._∷_ 81 (List._∷_ 117 (List._∷_ 111 (List._∷_ 116 (List._∷_ 101 List.[]))))))))))) (Syntax.tcons (Syntax.tyInt Syntax.w32) (Syntax.tcons (Syntax.tyInt Syntax.w64) (Syntax.tcons (Syntax.tyInt Syntax.w64) (Syntax.tcons (Syntax.tyInt Syntax.w32) Syntax.tnil))))),
+) (List._∷_ (
+  1,
+  Mut.mslice T τ 0,
+) (List._∷_ (
+  2,
+  Rows'.sslice (Referent.rtF (Referent.fInt Syntax.w8)) (Syntax.tyRef (Syntax.named 1) Syntax.imm (Syntax.tyInt Syntax.w8)) 1,
+) (List._∷_ (
+  3,
+  Mut.mslice (Referent.rtF (Referent.fInt Syntax.w32)) (Syntax.tyRef (Syntax.named 2) Syntax.mut (Syntax.tyInt Syntax.w32)) 2,
+) (List._∷_ (
+  4,
+  Mut.mslice (Referent.rtF (Referent.fInt Syntax.w32)) (Syntax.tyRef (Syntax.named 3) Syntax.mut (Syntax.tyInt Syntax.w32)) 3,
+) (List._∷_ (5, Rows'.sc-here (Row.sInt Syntax.w64)) (List._∷_ (
+  6,
+  Rows'.whole (Declared.row Quote.the-type),
+) (List._∷_ (7, Rows'.sc-here (Row.sInt Syntax.w64)) (List._∷_ (
+  8,
+  Rows'.any-gone (Syntax.tyInt Syntax.w64),
+) (List._∷_ (9, Rows'.any-gone σ) (List._∷_ (
+  10,
+  Rows'.any-gone (Syntax.tyRef Syntax.erased Syntax.mut (Syntax.tyInt Syntax.w32)),
+) (List._∷_ (
+  11,
+  Rows'.any-gone (Syntax.tyStruct (List._∷_ 38 (List._∷_ 91 (List._∷_ 93 List.[]))) (Syntax.tcons (Syntax.tyRef Syntax.erased Syntax.mut (Syntax.tyInt Syntax.w32)) (Syntax.tcons (Syntax.tyInt Syntax.w64) Syntax.tnil))),
+) (List._∷_ (12, Rows'.any-gone (Syntax.tyRef Syntax.erased Syntax.mut (Syntax.tyInt Syntax.w32))) (List._∷_ (13, Rows'.any-gone (Syntax.tyStruct (List._∷_ 38 (List._∷_ 91 (List._∷_ 93 List.[]))) (Syntax.tcons (Syntax.tyRef Syntax.erased Syntax.mut (Syntax.tyInt Syntax.w32)) (Syntax.tcons (Syntax.tyInt Syntax.w64) Syntax.tnil)))) (List._∷_ (14, Rows'.sc-here Row.sBool) (List._∷_ (15, Rows'.any-gone (Syntax.tyInt Syntax.w64)) List.[])))))))))))))))
 
 abbrev pub t14 : List.List Row.Entry
-t14 = List._∷_ ( 0, Rows'.any-gone (Syntax.tyStruct (List._∷_ 102 (List._∷_ 105 (List._∷_ 114 (List._∷_ 109 (List._∷_ 58 (List._∷_ 58 (List._∷_ 81 (List._∷_ 117 (List._∷_ 111 (List._∷_ 116 (List._∷_ 101 List.[]))))))))))) (Syntax.tcons (Syntax.tyInt Syntax.w32) (Syntax.tcons (Syntax.tyInt Syntax.w64) (Syntax.tcons (Syntax.tyInt Syntax.w64) (Syntax.tcons (Syntax.tyInt Syntax.w32) Syntax.tnil))))),
-) (List._∷_ ( 1, Mut.mslice T τ 0,
-) (List._∷_ ( 2, Rows'.sslice (Referent.rtF (Referent.fInt Syntax.w8)) (Syntax.tyRef (Syntax.named 1) Syntax.imm (Syntax.tyInt Syntax.w8)) 1,
-) (List._∷_ ( 3, Mut.mslice (Referent.rtF (Referent.fInt Syntax.w32)) (Syntax.tyRef (Syntax.named 2) Syntax.mut (Syntax.tyInt Syntax.w32)) 2,
-) (List._∷_ ( 4, Mut.mslice (Referent.rtF (Referent.fInt Syntax.w32)) (Syntax.tyRef (Syntax.named 3) Syntax.mut (Syntax.tyInt Syntax.w32)) 3,
-) (List._∷_ (5, Rows'.sc-here (Row.sInt Syntax.w64)) (List._∷_ ( 6, Rows'.whole (Declared.row Quote.the-type),
-) (List._∷_ (7, Rows'.sc-here (Row.sInt Syntax.w64)) (List._∷_ ( 8, Rows'.any-gone (Syntax.tyInt Syntax.w64),
-) (List._∷_ (9, Rows'.any-gone σ) (List._∷_ ( 10, Rows'.any-gone (Syntax.tyRef Syntax.erased Syntax.mut (Syntax.tyInt Syntax.w32)),
-) (List._∷_ ( 11, Rows'.any-gone (Syntax.tyStruct (List._∷_ 38 (List._∷_ 91 (List._∷_ 93 List.[]))) (Syntax.tcons (Syntax.tyRef Syntax.erased Syntax.mut (Syntax.tyInt Syntax.w32)) (Syntax.tcons (Syntax.tyInt Syntax.w64) Syntax.tnil))),
-) (List._∷_ ( 12, Rows'.any-gone (Syntax.tyRef Syntax.erased Syntax.mut (Syntax.tyInt Syntax.w32)), ) (List._∷_ ( 13, Rows'.any-gone (Syntax.tyStruct (List._∷_ 38 (List._∷_ 91 (List._∷_ 93 List.[]))) (Syntax.tcons (Syntax.tyRef Syntax.erased Syntax.mut (Syntax.tyInt Syntax.w32)) (Syntax.tcons (Syntax.tyInt Syntax.w64) Syntax.tnil))), ) (List._∷_ (14, Rows'.any-gone Syntax.tyBool) (List._∷_ ( 15, Rows'.sc-here (Row.sInt Syntax.w64), ) List.[])))))))))))))))
+t14 = List._∷_ (
+  0,
+  Rows'.any-gone (Syntax.tyStruct (List._∷_ 102 (List._∷_ 105 (List._∷_ 114 (List._∷_ 109 (List._∷_ 58 (List._∷_ 58 (List._∷_ 81 (List._∷_ 117 (List._∷_ 111 (List._∷_ 116 (List._∷_ 101 List.[]))))))))))) (Syntax.tcons (Syntax.tyInt Syntax.w32) (Syntax.tcons (Syntax.tyInt Syntax.w64) (Syntax.tcons (Syntax.tyInt Syntax.w64) (Syntax.tcons (Syntax.tyInt Syntax.w32) Syntax.tnil))))),
+) (List._∷_ (
+  1,
+  Mut.mslice T τ 0,
+) (List._∷_ (
+  2,
+  Rows'.sslice (Referent.rtF (Referent.fInt Syntax.w8)) (Syntax.tyRef (Syntax.named 1) Syntax.imm (Syntax.tyInt Syntax.w8)) 1,
+) (List._∷_ (
+  3,
+  Mut.mslice (Referent.rtF (Referent.fInt Syntax.w32)) (Syntax.tyRef (Syntax.named 2) Syntax.mut (Syntax.tyInt Syntax.w32)) 2,
+) (List._∷_ (
+  4,
+  Mut.mslice (Referent.rtF (Referent.fInt Syntax.w32)) (Syntax.tyRef (Syntax.named 3) Syntax.mut (Syntax.tyInt Syntax.w32)) 3,
+) (List._∷_ (5, Rows'.sc-here (Row.sInt Syntax.w64)) (List._∷_ (
+  6,
+  Rows'.whole (Declared.row Quote.the-type),
+) (List._∷_ (7, Rows'.sc-here (Row.sInt Syntax.w64)) (List._∷_ (
+  8,
+  Rows'.any-gone (Syntax.tyInt Syntax.w64),
+) (List._∷_ (9, Rows'.any-gone σ) (List._∷_ (
+  10,
+  Rows'.any-gone (Syntax.tyRef Syntax.erased Syntax.mut (Syntax.tyInt Syntax.w32)),
+) (List._∷_ (
+  11,
+  Rows'.any-gone (Syntax.tyStruct (List._∷_ 38 (List._∷_ 91 (List._∷_ 93 List.[]))) (Syntax.tcons (Syntax.tyRef Syntax.erased Syntax.mut (Syntax.tyInt Syntax.w32)) (Syntax.tcons (Syntax.tyInt Syntax.w64) Syntax.tnil))),
+) (List._∷_ (12, Rows'.any-gone (Syntax.tyRef Syntax.erased Syntax.mut (Syntax.tyInt Syntax.w32))) (List._∷_ (13, Rows'.any-gone (Syntax.tyStruct (List._∷_ 38 (List._∷_ 91 (List._∷_ 93 List.[]))) (Syntax.tcons (Syntax.tyRef Syntax.erased Syntax.mut (Syntax.tyInt Syntax.w32)) (Syntax.tcons (Syntax.tyInt Syntax.w64) Syntax.tnil)))) (List._∷_ (14, Rows'.any-gone Syntax.tyBool) (List._∷_ (15, Rows'.sc-here (Row.sInt Syntax.w64)) List.[])))))))))))))))
 
 abbrev pub t15 : List.List Row.Entry
-t15 = List._∷_ (16, Rows'.sc-here Row.sPtr) (List._∷_ ( 17, Rows'.any-gone σ,
-) (List._∷_ ( 18, Rows'.any-gone (Syntax.tyRef Syntax.erased Syntax.imm (Syntax.tyInt Syntax.w32)), ) (List._∷_ ( 19, Rows'.any-gone (Syntax.tyStruct (List._∷_ 38 (List._∷_ 91 (List._∷_ 93 List.[]))) (Syntax.tcons (Syntax.tyRef Syntax.erased Syntax.imm (Syntax.tyInt Syntax.w32)) (Syntax.tcons (Syntax.tyInt Syntax.w64) Syntax.tnil))), ) (List._∷_ (20, Rows'.any-gone Syntax.tyBool) (List._∷_ ( 21, Rows'.any-gone (Syntax.tyInt Syntax.w64), ) (List._∷_ (22, Rows'.any-gone Syntax.tyPtr) (List._∷_ ( 23, Rows'.any-gone σ, ) (List._∷_ ( 24, Rows'.any-gone (Syntax.tyRef Syntax.erased Syntax.imm (Syntax.tyInt Syntax.w32)), ) (List._∷_ ( 25, Rows'.any-gone (Syntax.tyStruct (List._∷_ 38 (List._∷_ 91 (List._∷_ 93 List.[]))) (Syntax.tcons (Syntax.tyRef Syntax.erased Syntax.imm (Syntax.tyInt Syntax.w32)) (Syntax.tcons (Syntax.tyInt Syntax.w64) Syntax.tnil))), ) (List._∷_ ( 26, Rows'.any-gone (Syntax.tyRef Syntax.erased Syntax.mut (Syntax.tyInt Syntax.w32)), ) (List._∷_ ( 27, Rows'.any-gone (Syntax.tyStruct (List._∷_ 38 (List._∷_ 91 (List._∷_ 93 List.[]))) (Syntax.tcons (Syntax.tyRef Syntax.erased Syntax.mut (Syntax.tyInt Syntax.w32)) (Syntax.tcons (Syntax.tyInt Syntax.w64) Syntax.tnil))), ) (List._∷_ (28, Rows'.any-gone Syntax.tyPtr) (List._∷_ ( 29, Rows'.any-gone (Syntax.tyRef Syntax.erased Syntax.mut (Syntax.tyInt Syntax.w32)), ) (List._∷_ ( 30, Rows'.any-gone (Syntax.tyStruct (List._∷_ 38 (List._∷_ 91 (List._∷_ 93 List.[]))) (Syntax.tcons (Syntax.tyRef Syntax.erased Syntax.mut (Syntax.tyInt Syntax.w32)) (Syntax.tcons (Syntax.tyInt Syntax.w64) Syntax.tnil))), ) (List._∷_ ( 31, Rows'.any-gone (Syntax.tyRef Syntax.erased Syntax.mut (Syntax.tyInt Syntax.w32)), ) List.[])))))))))))))))
+t15 = List._∷_ (16, Rows'.sc-here Row.sPtr) (List._∷_ (
+  17,
+  Rows'.any-gone σ,
+) (List._∷_ (18, Rows'.any-gone (Syntax.tyRef Syntax.erased Syntax.imm (Syntax.tyInt Syntax.w32))) (List._∷_ (19, Rows'.any-gone (Syntax.tyStruct (List._∷_ 38 (List._∷_ 91 (List._∷_ 93 List.[]))) (Syntax.tcons (Syntax.tyRef Syntax.erased Syntax.imm (Syntax.tyInt Syntax.w32)) (Syntax.tcons (Syntax.tyInt Syntax.w64) Syntax.tnil)))) (List._∷_ (20, Rows'.any-gone Syntax.tyBool) (List._∷_ (21, Rows'.any-gone (Syntax.tyInt Syntax.w64)) (List._∷_ (22, Rows'.any-gone Syntax.tyPtr) (List._∷_ (23, Rows'.any-gone σ) (List._∷_ (24, Rows'.any-gone (Syntax.tyRef Syntax.erased Syntax.imm (Syntax.tyInt Syntax.w32))) (List._∷_ (25, Rows'.any-gone (Syntax.tyStruct (List._∷_ 38 (List._∷_ 91 (List._∷_ 93 List.[]))) (Syntax.tcons (Syntax.tyRef Syntax.erased Syntax.imm (Syntax.tyInt Syntax.w32)) (Syntax.tcons (Syntax.tyInt Syntax.w64) Syntax.tnil)))) (List._∷_ (26, Rows'.any-gone (Syntax.tyRef Syntax.erased Syntax.mut (Syntax.tyInt Syntax.w32))) (List._∷_ (27, Rows'.any-gone (Syntax.tyStruct (List._∷_ 38 (List._∷_ 91 (List._∷_ 93 List.[]))) (Syntax.tcons (Syntax.tyRef Syntax.erased Syntax.mut (Syntax.tyInt Syntax.w32)) (Syntax.tcons (Syntax.tyInt Syntax.w64) Syntax.tnil)))) (List._∷_ (28, Rows'.any-gone Syntax.tyPtr) (List._∷_ (29, Rows'.any-gone (Syntax.tyRef Syntax.erased Syntax.mut (Syntax.tyInt Syntax.w32))) (List._∷_ (30, Rows'.any-gone (Syntax.tyStruct (List._∷_ 38 (List._∷_ 91 (List._∷_ 93 List.[]))) (Syntax.tcons (Syntax.tyRef Syntax.erased Syntax.mut (Syntax.tyInt Syntax.w32)) (Syntax.tcons (Syntax.tyInt Syntax.w64) Syntax.tnil)))) (List._∷_ (31, Rows'.any-gone (Syntax.tyRef Syntax.erased Syntax.mut (Syntax.tyInt Syntax.w32))) List.[])))))))))))))))
 
 abbrev pub t16 : List.List Row.Entry
-t16 = List._∷_ (16, Rows'.sc-here Row.sPtr) (List._∷_ ( 17, Rows'.whole T,
-) (List._∷_ ( 18, Rows'.any-gone (Syntax.tyRef Syntax.erased Syntax.imm (Syntax.tyInt Syntax.w32)), ) (List._∷_ ( 19, Rows'.any-gone (Syntax.tyStruct (List._∷_ 38 (List._∷_ 91 (List._∷_ 93 List.[]))) (Syntax.tcons (Syntax.tyRef Syntax.erased Syntax.imm (Syntax.tyInt Syntax.w32)) (Syntax.tcons (Syntax.tyInt Syntax.w64) Syntax.tnil))), ) (List._∷_ (20, Rows'.any-gone Syntax.tyBool) (List._∷_ ( 21, Rows'.any-gone (Syntax.tyInt Syntax.w64), ) (List._∷_ (22, Rows'.any-gone Syntax.tyPtr) (List._∷_ ( 23, Rows'.any-gone σ, ) (List._∷_ ( 24, Rows'.any-gone (Syntax.tyRef Syntax.erased Syntax.imm (Syntax.tyInt Syntax.w32)), ) (List._∷_ ( 25, Rows'.any-gone (Syntax.tyStruct (List._∷_ 38 (List._∷_ 91 (List._∷_ 93 List.[]))) (Syntax.tcons (Syntax.tyRef Syntax.erased Syntax.imm (Syntax.tyInt Syntax.w32)) (Syntax.tcons (Syntax.tyInt Syntax.w64) Syntax.tnil))), ) (List._∷_ ( 26, Rows'.any-gone (Syntax.tyRef Syntax.erased Syntax.mut (Syntax.tyInt Syntax.w32)), ) (List._∷_ ( 27, Rows'.any-gone (Syntax.tyStruct (List._∷_ 38 (List._∷_ 91 (List._∷_ 93 List.[]))) (Syntax.tcons (Syntax.tyRef Syntax.erased Syntax.mut (Syntax.tyInt Syntax.w32)) (Syntax.tcons (Syntax.tyInt Syntax.w64) Syntax.tnil))), ) (List._∷_ (28, Rows'.any-gone Syntax.tyPtr) (List._∷_ ( 29, Rows'.any-gone (Syntax.tyRef Syntax.erased Syntax.mut (Syntax.tyInt Syntax.w32)), ) (List._∷_ ( 30, Rows'.any-gone (Syntax.tyStruct (List._∷_ 38 (List._∷_ 91 (List._∷_ 93 List.[]))) (Syntax.tcons (Syntax.tyRef Syntax.erased Syntax.mut (Syntax.tyInt Syntax.w32)) (Syntax.tcons (Syntax.tyInt Syntax.w64) Syntax.tnil))), ) (List._∷_ ( 31, Rows'.any-gone (Syntax.tyRef Syntax.erased Syntax.mut (Syntax.tyInt Syntax.w32)), ) List.[])))))))))))))))
+t16 = List._∷_ (16, Rows'.sc-here Row.sPtr) (List._∷_ (
+  17,
+  Rows'.whole T,
+) (List._∷_ (18, Rows'.any-gone (Syntax.tyRef Syntax.erased Syntax.imm (Syntax.tyInt Syntax.w32))) (List._∷_ (19, Rows'.any-gone (Syntax.tyStruct (List._∷_ 38 (List._∷_ 91 (List._∷_ 93 List.[]))) (Syntax.tcons (Syntax.tyRef Syntax.erased Syntax.imm (Syntax.tyInt Syntax.w32)) (Syntax.tcons (Syntax.tyInt Syntax.w64) Syntax.tnil)))) (List._∷_ (20, Rows'.any-gone Syntax.tyBool) (List._∷_ (21, Rows'.any-gone (Syntax.tyInt Syntax.w64)) (List._∷_ (22, Rows'.any-gone Syntax.tyPtr) (List._∷_ (23, Rows'.any-gone σ) (List._∷_ (24, Rows'.any-gone (Syntax.tyRef Syntax.erased Syntax.imm (Syntax.tyInt Syntax.w32))) (List._∷_ (25, Rows'.any-gone (Syntax.tyStruct (List._∷_ 38 (List._∷_ 91 (List._∷_ 93 List.[]))) (Syntax.tcons (Syntax.tyRef Syntax.erased Syntax.imm (Syntax.tyInt Syntax.w32)) (Syntax.tcons (Syntax.tyInt Syntax.w64) Syntax.tnil)))) (List._∷_ (26, Rows'.any-gone (Syntax.tyRef Syntax.erased Syntax.mut (Syntax.tyInt Syntax.w32))) (List._∷_ (27, Rows'.any-gone (Syntax.tyStruct (List._∷_ 38 (List._∷_ 91 (List._∷_ 93 List.[]))) (Syntax.tcons (Syntax.tyRef Syntax.erased Syntax.mut (Syntax.tyInt Syntax.w32)) (Syntax.tcons (Syntax.tyInt Syntax.w64) Syntax.tnil)))) (List._∷_ (28, Rows'.any-gone Syntax.tyPtr) (List._∷_ (29, Rows'.any-gone (Syntax.tyRef Syntax.erased Syntax.mut (Syntax.tyInt Syntax.w32))) (List._∷_ (30, Rows'.any-gone (Syntax.tyStruct (List._∷_ 38 (List._∷_ 91 (List._∷_ 93 List.[]))) (Syntax.tcons (Syntax.tyRef Syntax.erased Syntax.mut (Syntax.tyInt Syntax.w32)) (Syntax.tcons (Syntax.tyInt Syntax.w64) Syntax.tnil)))) (List._∷_ (31, Rows'.any-gone (Syntax.tyRef Syntax.erased Syntax.mut (Syntax.tyInt Syntax.w32))) List.[])))))))))))))))
 
 abbrev pub t17 : List.List Row.Entry
-t17 = List._∷_ (16, Rows'.any-gone Syntax.tyPtr) (List._∷_ ( 17, Rows'.whole T,
-) (List._∷_ ( 18, Rows'.any-gone (Syntax.tyRef Syntax.erased Syntax.imm (Syntax.tyInt Syntax.w32)), ) (List._∷_ ( 19, Rows'.any-gone (Syntax.tyStruct (List._∷_ 38 (List._∷_ 91 (List._∷_ 93 List.[]))) (Syntax.tcons (Syntax.tyRef Syntax.erased Syntax.imm (Syntax.tyInt Syntax.w32)) (Syntax.tcons (Syntax.tyInt Syntax.w64) Syntax.tnil))), ) (List._∷_ (20, Rows'.any-gone Syntax.tyBool) (List._∷_ ( 21, Rows'.any-gone (Syntax.tyInt Syntax.w64), ) (List._∷_ (22, Rows'.any-gone Syntax.tyPtr) (List._∷_ ( 23, Rows'.any-gone σ, ) (List._∷_ ( 24, Rows'.any-gone (Syntax.tyRef Syntax.erased Syntax.imm (Syntax.tyInt Syntax.w32)), ) (List._∷_ ( 25, Rows'.any-gone (Syntax.tyStruct (List._∷_ 38 (List._∷_ 91 (List._∷_ 93 List.[]))) (Syntax.tcons (Syntax.tyRef Syntax.erased Syntax.imm (Syntax.tyInt Syntax.w32)) (Syntax.tcons (Syntax.tyInt Syntax.w64) Syntax.tnil))), ) (List._∷_ ( 26, Rows'.any-gone (Syntax.tyRef Syntax.erased Syntax.mut (Syntax.tyInt Syntax.w32)), ) (List._∷_ ( 27, Rows'.any-gone (Syntax.tyStruct (List._∷_ 38 (List._∷_ 91 (List._∷_ 93 List.[]))) (Syntax.tcons (Syntax.tyRef Syntax.erased Syntax.mut (Syntax.tyInt Syntax.w32)) (Syntax.tcons (Syntax.tyInt Syntax.w64) Syntax.tnil))), ) (List._∷_ (28, Rows'.any-gone Syntax.tyPtr) (List._∷_ ( 29, Rows'.any-gone (Syntax.tyRef Syntax.erased Syntax.mut (Syntax.tyInt Syntax.w32)), ) (List._∷_ ( 30, Rows'.any-gone (Syntax.tyStruct (List._∷_ 38 (List._∷_ 91 (List._∷_ 93 List.[]))) (Syntax.tcons (Syntax.tyRef Syntax.erased Syntax.mut (Syntax.tyInt Syntax.w32)) (Syntax.tcons (Syntax.tyInt Syntax.w64) Syntax.tnil))), ) (List._∷_ ( 31, Rows'.any-gone (Syntax.tyRef Syntax.erased Syntax.mut (Syntax.tyInt Syntax.w32)), ) List.[])))))))))))))))
+t17 = List._∷_ (16, Rows'.any-gone Syntax.tyPtr) (List._∷_ (
+  17,
+  Rows'.whole T,
+) (List._∷_ (18, Rows'.any-gone (Syntax.tyRef Syntax.erased Syntax.imm (Syntax.tyInt Syntax.w32))) (List._∷_ (19, Rows'.any-gone (Syntax.tyStruct (List._∷_ 38 (List._∷_ 91 (List._∷_ 93 List.[]))) (Syntax.tcons (Syntax.tyRef Syntax.erased Syntax.imm (Syntax.tyInt Syntax.w32)) (Syntax.tcons (Syntax.tyInt Syntax.w64) Syntax.tnil)))) (List._∷_ (20, Rows'.any-gone Syntax.tyBool) (List._∷_ (21, Rows'.any-gone (Syntax.tyInt Syntax.w64)) (List._∷_ (22, Rows'.any-gone Syntax.tyPtr) (List._∷_ (23, Rows'.any-gone σ) (List._∷_ (24, Rows'.any-gone (Syntax.tyRef Syntax.erased Syntax.imm (Syntax.tyInt Syntax.w32))) (List._∷_ (25, Rows'.any-gone (Syntax.tyStruct (List._∷_ 38 (List._∷_ 91 (List._∷_ 93 List.[]))) (Syntax.tcons (Syntax.tyRef Syntax.erased Syntax.imm (Syntax.tyInt Syntax.w32)) (Syntax.tcons (Syntax.tyInt Syntax.w64) Syntax.tnil)))) (List._∷_ (26, Rows'.any-gone (Syntax.tyRef Syntax.erased Syntax.mut (Syntax.tyInt Syntax.w32))) (List._∷_ (27, Rows'.any-gone (Syntax.tyStruct (List._∷_ 38 (List._∷_ 91 (List._∷_ 93 List.[]))) (Syntax.tcons (Syntax.tyRef Syntax.erased Syntax.mut (Syntax.tyInt Syntax.w32)) (Syntax.tcons (Syntax.tyInt Syntax.w64) Syntax.tnil)))) (List._∷_ (28, Rows'.any-gone Syntax.tyPtr) (List._∷_ (29, Rows'.any-gone (Syntax.tyRef Syntax.erased Syntax.mut (Syntax.tyInt Syntax.w32))) (List._∷_ (30, Rows'.any-gone (Syntax.tyStruct (List._∷_ 38 (List._∷_ 91 (List._∷_ 93 List.[]))) (Syntax.tcons (Syntax.tyRef Syntax.erased Syntax.mut (Syntax.tyInt Syntax.w32)) (Syntax.tcons (Syntax.tyInt Syntax.w64) Syntax.tnil)))) (List._∷_ (31, Rows'.any-gone (Syntax.tyRef Syntax.erased Syntax.mut (Syntax.tyInt Syntax.w32))) List.[])))))))))))))))
 
 abbrev pub t18 : List.List Row.Entry
-t18 = List._∷_ ( 0, Rows'.any-gone (Syntax.tyStruct (List._∷_ 102 (List._∷_ 105 (List._∷_ 114 (List._∷_ 109 (List._∷_ 58 (List._∷_ 58 (List._∷_ 81 (List._∷_ 117 (List._∷_ 111 (List._∷_ 116 (List._∷_ 101 List.[]))))))))))) (Syntax.tcons (Syntax.tyInt Syntax.w32) (Syntax.tcons (Syntax.tyInt Syntax.w64) (Syntax.tcons (Syntax.tyInt Syntax.w64) (Syntax.tcons (Syntax.tyInt Syntax.w32) Syntax.tnil))))),
-) (List._∷_ ( 1, Mut.mslice T τ 0,
-) (List._∷_ ( 2, Rows'.sslice (Referent.rtF (Referent.fInt Syntax.w8)) (Syntax.tyRef (Syntax.named 1) Syntax.imm (Syntax.tyInt Syntax.w8)) 1,
-) (List._∷_ ( 3, Reshare.mslice-owedS (Referent.rtF (Referent.fInt Syntax.w32)) (Syntax.tyRef (Syntax.named 2) Syntax.mut (Syntax.tyInt Syntax.w32)) 2 6 Row.off,
-) (List._∷_ ( 4, Mut.mslice (Referent.rtF (Referent.fInt Syntax.w32)) (Syntax.tyRef (Syntax.named 3) Syntax.mut (Syntax.tyInt Syntax.w32)) 3,
-) (List._∷_ (5, Rows'.sc-here (Row.sInt Syntax.w64)) (List._∷_ ( 6, Rows'.whole (Declared.row Quote.the-type),
-) (List._∷_ (7, Rows'.sc-here (Row.sInt Syntax.w64)) (List._∷_ ( 8, Rows'.any-gone (Syntax.tyInt Syntax.w64),
-) (List._∷_ (9, Rows'.any-gone σ) (List._∷_ ( 10, Rows'.any-gone (Syntax.tyRef Syntax.erased Syntax.mut (Syntax.tyInt Syntax.w32)),
-) (List._∷_ ( 11, Rows'.any-gone (Syntax.tyStruct (List._∷_ 38 (List._∷_ 91 (List._∷_ 93 List.[]))) (Syntax.tcons (Syntax.tyRef Syntax.erased Syntax.mut (Syntax.tyInt Syntax.w32)) (Syntax.tcons (Syntax.tyInt Syntax.w64) Syntax.tnil))),
-) (List._∷_ ( 12, Rows'.any-gone (Syntax.tyRef Syntax.erased Syntax.mut (Syntax.tyInt Syntax.w32)), ) (List._∷_ ( 13, Rows'.any-gone (Syntax.tyStruct (List._∷_ 38 (List._∷_ 91 (List._∷_ 93 List.[]))) (Syntax.tcons (Syntax.tyRef Syntax.erased Syntax.mut (Syntax.tyInt Syntax.w32)) (Syntax.tcons (Syntax.tyInt Syntax.w64) Syntax.tnil))), ) (List._∷_ (14, Rows'.any-gone Syntax.tyBool) (List._∷_ ( 15, Rows'.any-gone (Syntax.tyInt Syntax.w64), ) List.[])))))))))))))))
+t18 = List._∷_ (
+  0,
+  Rows'.any-gone (Syntax.tyStruct (List._∷_ 102 (List._∷_ 105 (List._∷_ 114 (List._∷_ 109 (List._∷_ 58 (List._∷_ 58 (List._∷_ 81 (List._∷_ 117 (List._∷_ 111 (List._∷_ 116 (List._∷_ 101 List.[]))))))))))) (Syntax.tcons (Syntax.tyInt Syntax.w32) (Syntax.tcons (Syntax.tyInt Syntax.w64) (Syntax.tcons (Syntax.tyInt Syntax.w64) (Syntax.tcons (Syntax.tyInt Syntax.w32) Syntax.tnil))))),
+) (List._∷_ (
+  1,
+  Mut.mslice T τ 0,
+) (List._∷_ (
+  2,
+  Rows'.sslice (Referent.rtF (Referent.fInt Syntax.w8)) (Syntax.tyRef (Syntax.named 1) Syntax.imm (Syntax.tyInt Syntax.w8)) 1,
+) (List._∷_ (
+  3,
+  Reshare.mslice-owedS (Referent.rtF (Referent.fInt Syntax.w32)) (Syntax.tyRef (Syntax.named 2) Syntax.mut (Syntax.tyInt Syntax.w32)) 2 6 Row.off,
+) (List._∷_ (
+  4,
+  Mut.mslice (Referent.rtF (Referent.fInt Syntax.w32)) (Syntax.tyRef (Syntax.named 3) Syntax.mut (Syntax.tyInt Syntax.w32)) 3,
+) (List._∷_ (5, Rows'.sc-here (Row.sInt Syntax.w64)) (List._∷_ (
+  6,
+  Rows'.whole (Declared.row Quote.the-type),
+) (List._∷_ (7, Rows'.sc-here (Row.sInt Syntax.w64)) (List._∷_ (
+  8,
+  Rows'.any-gone (Syntax.tyInt Syntax.w64),
+) (List._∷_ (9, Rows'.any-gone σ) (List._∷_ (
+  10,
+  Rows'.any-gone (Syntax.tyRef Syntax.erased Syntax.mut (Syntax.tyInt Syntax.w32)),
+) (List._∷_ (
+  11,
+  Rows'.any-gone (Syntax.tyStruct (List._∷_ 38 (List._∷_ 91 (List._∷_ 93 List.[]))) (Syntax.tcons (Syntax.tyRef Syntax.erased Syntax.mut (Syntax.tyInt Syntax.w32)) (Syntax.tcons (Syntax.tyInt Syntax.w64) Syntax.tnil))),
+) (List._∷_ (12, Rows'.any-gone (Syntax.tyRef Syntax.erased Syntax.mut (Syntax.tyInt Syntax.w32))) (List._∷_ (13, Rows'.any-gone (Syntax.tyStruct (List._∷_ 38 (List._∷_ 91 (List._∷_ 93 List.[]))) (Syntax.tcons (Syntax.tyRef Syntax.erased Syntax.mut (Syntax.tyInt Syntax.w32)) (Syntax.tcons (Syntax.tyInt Syntax.w64) Syntax.tnil)))) (List._∷_ (14, Rows'.any-gone Syntax.tyBool) (List._∷_ (15, Rows'.any-gone (Syntax.tyInt Syntax.w64)) List.[])))))))))))))))
 
 abbrev pub t19 : List.List Row.Entry
-t19 = List._∷_ (16, Rows'.any-gone Syntax.tyPtr) (List._∷_ ( 17, Rows'.whole T,
-) (List._∷_ ( 18, Relend.ssptr (Referent.rtF (Referent.fInt Syntax.w32)) (Syntax.tyRef Syntax.erased Syntax.imm (Syntax.tyInt Syntax.w32)) 6,
-) (List._∷_ ( 19, Rows'.any-gone (Syntax.tyStruct (List._∷_ 38 (List._∷_ 91 (List._∷_ 93 List.[]))) (Syntax.tcons (Syntax.tyRef Syntax.erased Syntax.imm (Syntax.tyInt Syntax.w32)) (Syntax.tcons (Syntax.tyInt Syntax.w64) Syntax.tnil))),
-) (List._∷_ (20, Rows'.any-gone Syntax.tyBool) (List._∷_ ( 21, Rows'.any-gone (Syntax.tyInt Syntax.w64),
-) (List._∷_ (22, Rows'.any-gone Syntax.tyPtr) (List._∷_ ( 23, Rows'.any-gone σ,
-) (List._∷_ ( 24, Rows'.any-gone (Syntax.tyRef Syntax.erased Syntax.imm (Syntax.tyInt Syntax.w32)), ) (List._∷_ ( 25, Rows'.any-gone (Syntax.tyStruct (List._∷_ 38 (List._∷_ 91 (List._∷_ 93 List.[]))) (Syntax.tcons (Syntax.tyRef Syntax.erased Syntax.imm (Syntax.tyInt Syntax.w32)) (Syntax.tcons (Syntax.tyInt Syntax.w64) Syntax.tnil))), ) (List._∷_ ( 26, Rows'.any-gone (Syntax.tyRef Syntax.erased Syntax.mut (Syntax.tyInt Syntax.w32)), ) (List._∷_ ( 27, Rows'.any-gone (Syntax.tyStruct (List._∷_ 38 (List._∷_ 91 (List._∷_ 93 List.[]))) (Syntax.tcons (Syntax.tyRef Syntax.erased Syntax.mut (Syntax.tyInt Syntax.w32)) (Syntax.tcons (Syntax.tyInt Syntax.w64) Syntax.tnil))), ) (List._∷_ (28, Rows'.any-gone Syntax.tyPtr) (List._∷_ ( 29, Rows'.any-gone (Syntax.tyRef Syntax.erased Syntax.mut (Syntax.tyInt Syntax.w32)), ) (List._∷_ ( 30, Rows'.any-gone (Syntax.tyStruct (List._∷_ 38 (List._∷_ 91 (List._∷_ 93 List.[]))) (Syntax.tcons (Syntax.tyRef Syntax.erased Syntax.mut (Syntax.tyInt Syntax.w32)) (Syntax.tcons (Syntax.tyInt Syntax.w64) Syntax.tnil))), ) (List._∷_ ( 31, Rows'.any-gone (Syntax.tyRef Syntax.erased Syntax.mut (Syntax.tyInt Syntax.w32)), ) List.[])))))))))))))))
+t19 = List._∷_ (16, Rows'.any-gone Syntax.tyPtr) (List._∷_ (
+  17,
+  Rows'.whole T,
+) (List._∷_ (
+  18,
+  Relend.ssptr (Referent.rtF (Referent.fInt Syntax.w32)) (Syntax.tyRef Syntax.erased Syntax.imm (Syntax.tyInt Syntax.w32)) 6,
+) (List._∷_ (
+  19,
+  Rows'.any-gone (Syntax.tyStruct (List._∷_ 38 (List._∷_ 91 (List._∷_ 93 List.[]))) (Syntax.tcons (Syntax.tyRef Syntax.erased Syntax.imm (Syntax.tyInt Syntax.w32)) (Syntax.tcons (Syntax.tyInt Syntax.w64) Syntax.tnil))),
+) (List._∷_ (20, Rows'.any-gone Syntax.tyBool) (List._∷_ (
+  21,
+  Rows'.any-gone (Syntax.tyInt Syntax.w64),
+) (List._∷_ (22, Rows'.any-gone Syntax.tyPtr) (List._∷_ (
+  23,
+  Rows'.any-gone σ,
+) (List._∷_ (24, Rows'.any-gone (Syntax.tyRef Syntax.erased Syntax.imm (Syntax.tyInt Syntax.w32))) (List._∷_ (25, Rows'.any-gone (Syntax.tyStruct (List._∷_ 38 (List._∷_ 91 (List._∷_ 93 List.[]))) (Syntax.tcons (Syntax.tyRef Syntax.erased Syntax.imm (Syntax.tyInt Syntax.w32)) (Syntax.tcons (Syntax.tyInt Syntax.w64) Syntax.tnil)))) (List._∷_ (26, Rows'.any-gone (Syntax.tyRef Syntax.erased Syntax.mut (Syntax.tyInt Syntax.w32))) (List._∷_ (27, Rows'.any-gone (Syntax.tyStruct (List._∷_ 38 (List._∷_ 91 (List._∷_ 93 List.[]))) (Syntax.tcons (Syntax.tyRef Syntax.erased Syntax.mut (Syntax.tyInt Syntax.w32)) (Syntax.tcons (Syntax.tyInt Syntax.w64) Syntax.tnil)))) (List._∷_ (28, Rows'.any-gone Syntax.tyPtr) (List._∷_ (29, Rows'.any-gone (Syntax.tyRef Syntax.erased Syntax.mut (Syntax.tyInt Syntax.w32))) (List._∷_ (30, Rows'.any-gone (Syntax.tyStruct (List._∷_ 38 (List._∷_ 91 (List._∷_ 93 List.[]))) (Syntax.tcons (Syntax.tyRef Syntax.erased Syntax.mut (Syntax.tyInt Syntax.w32)) (Syntax.tcons (Syntax.tyInt Syntax.w64) Syntax.tnil)))) (List._∷_ (31, Rows'.any-gone (Syntax.tyRef Syntax.erased Syntax.mut (Syntax.tyInt Syntax.w32))) List.[])))))))))))))))
 
 abbrev pub t20 : List.List Row.Entry
-t20 = List._∷_ (16, Rows'.any-gone Syntax.tyPtr) (List._∷_ ( 17, Rows'.whole T,
-) (List._∷_ ( 18, Rows'.any-gone (Syntax.tyRef Syntax.erased Syntax.imm (Syntax.tyInt Syntax.w32)), ) (List._∷_ ( 19, Rows'.sslice (Referent.rtF (Referent.fInt Syntax.w32)) (Syntax.tyRef Syntax.erased Syntax.imm (Syntax.tyInt Syntax.w32)) 6, ) (List._∷_ (20, Rows'.any-gone Syntax.tyBool) (List._∷_ ( 21, Rows'.any-gone (Syntax.tyInt Syntax.w64), ) (List._∷_ (22, Rows'.any-gone Syntax.tyPtr) (List._∷_ ( 23, Rows'.any-gone σ, ) (List._∷_ ( 24, Rows'.any-gone (Syntax.tyRef Syntax.erased Syntax.imm (Syntax.tyInt Syntax.w32)), ) (List._∷_ ( 25, Rows'.any-gone (Syntax.tyStruct (List._∷_ 38 (List._∷_ 91 (List._∷_ 93 List.[]))) (Syntax.tcons (Syntax.tyRef Syntax.erased Syntax.imm (Syntax.tyInt Syntax.w32)) (Syntax.tcons (Syntax.tyInt Syntax.w64) Syntax.tnil))), ) (List._∷_ ( 26, Rows'.any-gone (Syntax.tyRef Syntax.erased Syntax.mut (Syntax.tyInt Syntax.w32)), ) (List._∷_ ( 27, Rows'.any-gone (Syntax.tyStruct (List._∷_ 38 (List._∷_ 91 (List._∷_ 93 List.[]))) (Syntax.tcons (Syntax.tyRef Syntax.erased Syntax.mut (Syntax.tyInt Syntax.w32)) (Syntax.tcons (Syntax.tyInt Syntax.w64) Syntax.tnil))), ) (List._∷_ (28, Rows'.any-gone Syntax.tyPtr) (List._∷_ ( 29, Rows'.any-gone (Syntax.tyRef Syntax.erased Syntax.mut (Syntax.tyInt Syntax.w32)), ) (List._∷_ ( 30, Rows'.any-gone (Syntax.tyStruct (List._∷_ 38 (List._∷_ 91 (List._∷_ 93 List.[]))) (Syntax.tcons (Syntax.tyRef Syntax.erased Syntax.mut (Syntax.tyInt Syntax.w32)) (Syntax.tcons (Syntax.tyInt Syntax.w64) Syntax.tnil))), ) (List._∷_ ( 31, Rows'.any-gone (Syntax.tyRef Syntax.erased Syntax.mut (Syntax.tyInt Syntax.w32)), ) List.[])))))))))))))))
+t20 = List._∷_ (16, Rows'.any-gone Syntax.tyPtr) (List._∷_ (
+  17,
+  Rows'.whole T,
+) (List._∷_ (18, Rows'.any-gone (Syntax.tyRef Syntax.erased Syntax.imm (Syntax.tyInt Syntax.w32))) (List._∷_ (19, Rows'.sslice (Referent.rtF (Referent.fInt Syntax.w32)) (Syntax.tyRef Syntax.erased Syntax.imm (Syntax.tyInt Syntax.w32)) 6) (List._∷_ (20, Rows'.any-gone Syntax.tyBool) (List._∷_ (21, Rows'.any-gone (Syntax.tyInt Syntax.w64)) (List._∷_ (22, Rows'.any-gone Syntax.tyPtr) (List._∷_ (23, Rows'.any-gone σ) (List._∷_ (24, Rows'.any-gone (Syntax.tyRef Syntax.erased Syntax.imm (Syntax.tyInt Syntax.w32))) (List._∷_ (25, Rows'.any-gone (Syntax.tyStruct (List._∷_ 38 (List._∷_ 91 (List._∷_ 93 List.[]))) (Syntax.tcons (Syntax.tyRef Syntax.erased Syntax.imm (Syntax.tyInt Syntax.w32)) (Syntax.tcons (Syntax.tyInt Syntax.w64) Syntax.tnil)))) (List._∷_ (26, Rows'.any-gone (Syntax.tyRef Syntax.erased Syntax.mut (Syntax.tyInt Syntax.w32))) (List._∷_ (27, Rows'.any-gone (Syntax.tyStruct (List._∷_ 38 (List._∷_ 91 (List._∷_ 93 List.[]))) (Syntax.tcons (Syntax.tyRef Syntax.erased Syntax.mut (Syntax.tyInt Syntax.w32)) (Syntax.tcons (Syntax.tyInt Syntax.w64) Syntax.tnil)))) (List._∷_ (28, Rows'.any-gone Syntax.tyPtr) (List._∷_ (29, Rows'.any-gone (Syntax.tyRef Syntax.erased Syntax.mut (Syntax.tyInt Syntax.w32))) (List._∷_ (30, Rows'.any-gone (Syntax.tyStruct (List._∷_ 38 (List._∷_ 91 (List._∷_ 93 List.[]))) (Syntax.tcons (Syntax.tyRef Syntax.erased Syntax.mut (Syntax.tyInt Syntax.w32)) (Syntax.tcons (Syntax.tyInt Syntax.w64) Syntax.tnil)))) (List._∷_ (31, Rows'.any-gone (Syntax.tyRef Syntax.erased Syntax.mut (Syntax.tyInt Syntax.w32))) List.[])))))))))))))))
 
 abbrev pub t21 : List.List Row.Entry
-t21 = List._∷_ ( 0, Rows'.any-gone (Syntax.tyStruct (List._∷_ 102 (List._∷_ 105 (List._∷_ 114 (List._∷_ 109 (List._∷_ 58 (List._∷_ 58 (List._∷_ 81 (List._∷_ 117 (List._∷_ 111 (List._∷_ 116 (List._∷_ 101 List.[]))))))))))) (Syntax.tcons (Syntax.tyInt Syntax.w32) (Syntax.tcons (Syntax.tyInt Syntax.w64) (Syntax.tcons (Syntax.tyInt Syntax.w64) (Syntax.tcons (Syntax.tyInt Syntax.w32) Syntax.tnil))))),
-) (List._∷_ ( 1, Mut.mslice T τ 0,
-) (List._∷_ ( 2, Rows'.sslice (Referent.rtF (Referent.fInt Syntax.w8)) (Syntax.tyRef (Syntax.named 1) Syntax.imm (Syntax.tyInt Syntax.w8)) 1,
-) (List._∷_ ( 3, Mut.mslice (Referent.rtF (Referent.fInt Syntax.w32)) (Syntax.tyRef (Syntax.named 2) Syntax.mut (Syntax.tyInt Syntax.w32)) 2,
-) (List._∷_ ( 4, Mut.mslice (Referent.rtF (Referent.fInt Syntax.w32)) (Syntax.tyRef (Syntax.named 3) Syntax.mut (Syntax.tyInt Syntax.w32)) 3,
-) (List._∷_ (5, Rows'.sc-here (Row.sInt Syntax.w64)) (List._∷_ ( 6, Rows'.whole (Declared.row Quote.the-type),
-) (List._∷_ (7, Rows'.sc-here (Row.sInt Syntax.w64)) (List._∷_ ( 8, Rows'.sc-here (Row.sInt Syntax.w64),
-) (List._∷_ (9, Rows'.any-gone σ) (List._∷_ ( 10, Rows'.any-gone (Syntax.tyRef Syntax.erased Syntax.mut (Syntax.tyInt Syntax.w32)),
-) (List._∷_ ( 11, Rows'.any-gone (Syntax.tyStruct (List._∷_ 38 (List._∷_ 91 (List._∷_ 93 List.[]))) (Syntax.tcons (Syntax.tyRef Syntax.erased Syntax.mut (Syntax.tyInt Syntax.w32)) (Syntax.tcons (Syntax.tyInt Syntax.w64) Syntax.tnil))),
-) (List._∷_ ( 12, Rows'.any-gone (Syntax.tyRef Syntax.erased Syntax.mut (Syntax.tyInt Syntax.w32)), ) (List._∷_ ( 13, Rows'.any-gone (Syntax.tyStruct (List._∷_ 38 (List._∷_ 91 (List._∷_ 93 List.[]))) (Syntax.tcons (Syntax.tyRef Syntax.erased Syntax.mut (Syntax.tyInt Syntax.w32)) (Syntax.tcons (Syntax.tyInt Syntax.w64) Syntax.tnil))), ) (List._∷_ (14, Rows'.any-gone Syntax.tyBool) (List._∷_ ( 15, Rows'.any-gone (Syntax.tyInt Syntax.w64), ) List.[])))))))))))))))
+t21 = List._∷_ (
+  0,
+  Rows'.any-gone (Syntax.tyStruct (List._∷_ 102 (List._∷_ 105 (List._∷_ 114 (List._∷_ 109 (List._∷_ 58 (List._∷_ 58 (List._∷_ 81 (List._∷_ 117 (List._∷_ 111 (List._∷_ 116 (List._∷_ 101 List.[]))))))))))) (Syntax.tcons (Syntax.tyInt Syntax.w32) (Syntax.tcons (Syntax.tyInt Syntax.w64) (Syntax.tcons (Syntax.tyInt Syntax.w64) (Syntax.tcons (Syntax.tyInt Syntax.w32) Syntax.tnil))))),
+) (List._∷_ (
+  1,
+  Mut.mslice T τ 0,
+) (List._∷_ (
+  2,
+  Rows'.sslice (Referent.rtF (Referent.fInt Syntax.w8)) (Syntax.tyRef (Syntax.named 1) Syntax.imm (Syntax.tyInt Syntax.w8)) 1,
+) (List._∷_ (
+  3,
+  Mut.mslice (Referent.rtF (Referent.fInt Syntax.w32)) (Syntax.tyRef (Syntax.named 2) Syntax.mut (Syntax.tyInt Syntax.w32)) 2,
+) (List._∷_ (
+  4,
+  Mut.mslice (Referent.rtF (Referent.fInt Syntax.w32)) (Syntax.tyRef (Syntax.named 3) Syntax.mut (Syntax.tyInt Syntax.w32)) 3,
+) (List._∷_ (5, Rows'.sc-here (Row.sInt Syntax.w64)) (List._∷_ (
+  6,
+  Rows'.whole (Declared.row Quote.the-type),
+) (List._∷_ (7, Rows'.sc-here (Row.sInt Syntax.w64)) (List._∷_ (
+  8,
+  Rows'.sc-here (Row.sInt Syntax.w64),
+) (List._∷_ (9, Rows'.any-gone σ) (List._∷_ (
+  10,
+  Rows'.any-gone (Syntax.tyRef Syntax.erased Syntax.mut (Syntax.tyInt Syntax.w32)),
+) (List._∷_ (
+  11,
+  Rows'.any-gone (Syntax.tyStruct (List._∷_ 38 (List._∷_ 91 (List._∷_ 93 List.[]))) (Syntax.tcons (Syntax.tyRef Syntax.erased Syntax.mut (Syntax.tyInt Syntax.w32)) (Syntax.tcons (Syntax.tyInt Syntax.w64) Syntax.tnil))),
+) (List._∷_ (12, Rows'.any-gone (Syntax.tyRef Syntax.erased Syntax.mut (Syntax.tyInt Syntax.w32))) (List._∷_ (13, Rows'.any-gone (Syntax.tyStruct (List._∷_ 38 (List._∷_ 91 (List._∷_ 93 List.[]))) (Syntax.tcons (Syntax.tyRef Syntax.erased Syntax.mut (Syntax.tyInt Syntax.w32)) (Syntax.tcons (Syntax.tyInt Syntax.w64) Syntax.tnil)))) (List._∷_ (14, Rows'.any-gone Syntax.tyBool) (List._∷_ (15, Rows'.any-gone (Syntax.tyInt Syntax.w64)) List.[])))))))))))))))
 
 abbrev pub t22 : List.List Row.Entry
-t22 = List._∷_ (16, Rows'.any-gone Syntax.tyPtr) (List._∷_ ( 17, Rows'.any-gone σ,
-) (List._∷_ ( 18, Rows'.any-gone (Syntax.tyRef Syntax.erased Syntax.imm (Syntax.tyInt Syntax.w32)), ) (List._∷_ ( 19, Rows'.any-gone (Syntax.tyStruct (List._∷_ 38 (List._∷_ 91 (List._∷_ 93 List.[]))) (Syntax.tcons (Syntax.tyRef Syntax.erased Syntax.imm (Syntax.tyInt Syntax.w32)) (Syntax.tcons (Syntax.tyInt Syntax.w64) Syntax.tnil))), ) (List._∷_ (20, Rows'.sc-here Row.sBool) (List._∷_ ( 21, Rows'.any-gone (Syntax.tyInt Syntax.w64), ) (List._∷_ (22, Rows'.any-gone Syntax.tyPtr) (List._∷_ ( 23, Rows'.any-gone σ, ) (List._∷_ ( 24, Rows'.any-gone (Syntax.tyRef Syntax.erased Syntax.imm (Syntax.tyInt Syntax.w32)), ) (List._∷_ ( 25, Rows'.any-gone (Syntax.tyStruct (List._∷_ 38 (List._∷_ 91 (List._∷_ 93 List.[]))) (Syntax.tcons (Syntax.tyRef Syntax.erased Syntax.imm (Syntax.tyInt Syntax.w32)) (Syntax.tcons (Syntax.tyInt Syntax.w64) Syntax.tnil))), ) (List._∷_ ( 26, Rows'.any-gone (Syntax.tyRef Syntax.erased Syntax.mut (Syntax.tyInt Syntax.w32)), ) (List._∷_ ( 27, Rows'.any-gone (Syntax.tyStruct (List._∷_ 38 (List._∷_ 91 (List._∷_ 93 List.[]))) (Syntax.tcons (Syntax.tyRef Syntax.erased Syntax.mut (Syntax.tyInt Syntax.w32)) (Syntax.tcons (Syntax.tyInt Syntax.w64) Syntax.tnil))), ) (List._∷_ (28, Rows'.any-gone Syntax.tyPtr) (List._∷_ ( 29, Rows'.any-gone (Syntax.tyRef Syntax.erased Syntax.mut (Syntax.tyInt Syntax.w32)), ) (List._∷_ ( 30, Rows'.any-gone (Syntax.tyStruct (List._∷_ 38 (List._∷_ 91 (List._∷_ 93 List.[]))) (Syntax.tcons (Syntax.tyRef Syntax.erased Syntax.mut (Syntax.tyInt Syntax.w32)) (Syntax.tcons (Syntax.tyInt Syntax.w64) Syntax.tnil))), ) (List._∷_ ( 31, Rows'.any-gone (Syntax.tyRef Syntax.erased Syntax.mut (Syntax.tyInt Syntax.w32)), ) List.[])))))))))))))))
+t22 = List._∷_ (16, Rows'.any-gone Syntax.tyPtr) (List._∷_ (
+  17,
+  Rows'.any-gone σ,
+) (List._∷_ (18, Rows'.any-gone (Syntax.tyRef Syntax.erased Syntax.imm (Syntax.tyInt Syntax.w32))) (List._∷_ (19, Rows'.any-gone (Syntax.tyStruct (List._∷_ 38 (List._∷_ 91 (List._∷_ 93 List.[]))) (Syntax.tcons (Syntax.tyRef Syntax.erased Syntax.imm (Syntax.tyInt Syntax.w32)) (Syntax.tcons (Syntax.tyInt Syntax.w64) Syntax.tnil)))) (List._∷_ (20, Rows'.sc-here Row.sBool) (List._∷_ (21, Rows'.any-gone (Syntax.tyInt Syntax.w64)) (List._∷_ (22, Rows'.any-gone Syntax.tyPtr) (List._∷_ (23, Rows'.any-gone σ) (List._∷_ (24, Rows'.any-gone (Syntax.tyRef Syntax.erased Syntax.imm (Syntax.tyInt Syntax.w32))) (List._∷_ (25, Rows'.any-gone (Syntax.tyStruct (List._∷_ 38 (List._∷_ 91 (List._∷_ 93 List.[]))) (Syntax.tcons (Syntax.tyRef Syntax.erased Syntax.imm (Syntax.tyInt Syntax.w32)) (Syntax.tcons (Syntax.tyInt Syntax.w64) Syntax.tnil)))) (List._∷_ (26, Rows'.any-gone (Syntax.tyRef Syntax.erased Syntax.mut (Syntax.tyInt Syntax.w32))) (List._∷_ (27, Rows'.any-gone (Syntax.tyStruct (List._∷_ 38 (List._∷_ 91 (List._∷_ 93 List.[]))) (Syntax.tcons (Syntax.tyRef Syntax.erased Syntax.mut (Syntax.tyInt Syntax.w32)) (Syntax.tcons (Syntax.tyInt Syntax.w64) Syntax.tnil)))) (List._∷_ (28, Rows'.any-gone Syntax.tyPtr) (List._∷_ (29, Rows'.any-gone (Syntax.tyRef Syntax.erased Syntax.mut (Syntax.tyInt Syntax.w32))) (List._∷_ (30, Rows'.any-gone (Syntax.tyStruct (List._∷_ 38 (List._∷_ 91 (List._∷_ 93 List.[]))) (Syntax.tcons (Syntax.tyRef Syntax.erased Syntax.mut (Syntax.tyInt Syntax.w32)) (Syntax.tcons (Syntax.tyInt Syntax.w64) Syntax.tnil)))) (List._∷_ (31, Rows'.any-gone (Syntax.tyRef Syntax.erased Syntax.mut (Syntax.tyInt Syntax.w32))) List.[])))))))))))))))
 
 abbrev pub t23 : List.List Row.Entry
-t23 = List._∷_ (16, Rows'.any-gone Syntax.tyPtr) (List._∷_ ( 17, Rows'.any-gone σ,
-) (List._∷_ ( 18, Rows'.any-gone (Syntax.tyRef Syntax.erased Syntax.imm (Syntax.tyInt Syntax.w32)), ) (List._∷_ ( 19, Rows'.any-gone (Syntax.tyStruct (List._∷_ 38 (List._∷_ 91 (List._∷_ 93 List.[]))) (Syntax.tcons (Syntax.tyRef Syntax.erased Syntax.imm (Syntax.tyInt Syntax.w32)) (Syntax.tcons (Syntax.tyInt Syntax.w64) Syntax.tnil))), ) (List._∷_ (20, Rows'.any-gone Syntax.tyBool) (List._∷_ ( 21, Rows'.sc-here (Row.sInt Syntax.w64), ) (List._∷_ (22, Rows'.any-gone Syntax.tyPtr) (List._∷_ ( 23, Rows'.any-gone σ, ) (List._∷_ ( 24, Rows'.any-gone (Syntax.tyRef Syntax.erased Syntax.imm (Syntax.tyInt Syntax.w32)), ) (List._∷_ ( 25, Rows'.any-gone (Syntax.tyStruct (List._∷_ 38 (List._∷_ 91 (List._∷_ 93 List.[]))) (Syntax.tcons (Syntax.tyRef Syntax.erased Syntax.imm (Syntax.tyInt Syntax.w32)) (Syntax.tcons (Syntax.tyInt Syntax.w64) Syntax.tnil))), ) (List._∷_ ( 26, Rows'.any-gone (Syntax.tyRef Syntax.erased Syntax.mut (Syntax.tyInt Syntax.w32)), ) (List._∷_ ( 27, Rows'.any-gone (Syntax.tyStruct (List._∷_ 38 (List._∷_ 91 (List._∷_ 93 List.[]))) (Syntax.tcons (Syntax.tyRef Syntax.erased Syntax.mut (Syntax.tyInt Syntax.w32)) (Syntax.tcons (Syntax.tyInt Syntax.w64) Syntax.tnil))), ) (List._∷_ (28, Rows'.any-gone Syntax.tyPtr) (List._∷_ ( 29, Rows'.any-gone (Syntax.tyRef Syntax.erased Syntax.mut (Syntax.tyInt Syntax.w32)), ) (List._∷_ ( 30, Rows'.any-gone (Syntax.tyStruct (List._∷_ 38 (List._∷_ 91 (List._∷_ 93 List.[]))) (Syntax.tcons (Syntax.tyRef Syntax.erased Syntax.mut (Syntax.tyInt Syntax.w32)) (Syntax.tcons (Syntax.tyInt Syntax.w64) Syntax.tnil))), ) (List._∷_ ( 31, Rows'.any-gone (Syntax.tyRef Syntax.erased Syntax.mut (Syntax.tyInt Syntax.w32)), ) List.[])))))))))))))))
+t23 = List._∷_ (16, Rows'.any-gone Syntax.tyPtr) (List._∷_ (
+  17,
+  Rows'.any-gone σ,
+) (List._∷_ (18, Rows'.any-gone (Syntax.tyRef Syntax.erased Syntax.imm (Syntax.tyInt Syntax.w32))) (List._∷_ (19, Rows'.any-gone (Syntax.tyStruct (List._∷_ 38 (List._∷_ 91 (List._∷_ 93 List.[]))) (Syntax.tcons (Syntax.tyRef Syntax.erased Syntax.imm (Syntax.tyInt Syntax.w32)) (Syntax.tcons (Syntax.tyInt Syntax.w64) Syntax.tnil)))) (List._∷_ (20, Rows'.any-gone Syntax.tyBool) (List._∷_ (21, Rows'.sc-here (Row.sInt Syntax.w64)) (List._∷_ (22, Rows'.any-gone Syntax.tyPtr) (List._∷_ (23, Rows'.any-gone σ) (List._∷_ (24, Rows'.any-gone (Syntax.tyRef Syntax.erased Syntax.imm (Syntax.tyInt Syntax.w32))) (List._∷_ (25, Rows'.any-gone (Syntax.tyStruct (List._∷_ 38 (List._∷_ 91 (List._∷_ 93 List.[]))) (Syntax.tcons (Syntax.tyRef Syntax.erased Syntax.imm (Syntax.tyInt Syntax.w32)) (Syntax.tcons (Syntax.tyInt Syntax.w64) Syntax.tnil)))) (List._∷_ (26, Rows'.any-gone (Syntax.tyRef Syntax.erased Syntax.mut (Syntax.tyInt Syntax.w32))) (List._∷_ (27, Rows'.any-gone (Syntax.tyStruct (List._∷_ 38 (List._∷_ 91 (List._∷_ 93 List.[]))) (Syntax.tcons (Syntax.tyRef Syntax.erased Syntax.mut (Syntax.tyInt Syntax.w32)) (Syntax.tcons (Syntax.tyInt Syntax.w64) Syntax.tnil)))) (List._∷_ (28, Rows'.any-gone Syntax.tyPtr) (List._∷_ (29, Rows'.any-gone (Syntax.tyRef Syntax.erased Syntax.mut (Syntax.tyInt Syntax.w32))) (List._∷_ (30, Rows'.any-gone (Syntax.tyStruct (List._∷_ 38 (List._∷_ 91 (List._∷_ 93 List.[]))) (Syntax.tcons (Syntax.tyRef Syntax.erased Syntax.mut (Syntax.tyInt Syntax.w32)) (Syntax.tcons (Syntax.tyInt Syntax.w64) Syntax.tnil)))) (List._∷_ (31, Rows'.any-gone (Syntax.tyRef Syntax.erased Syntax.mut (Syntax.tyInt Syntax.w32))) List.[])))))))))))))))
 
 abbrev pub t24 : List.List Row.Entry
-t24 = List._∷_ (16, Rows'.any-gone Syntax.tyPtr) (List._∷_ ( 17, Rows'.any-gone σ,
-) (List._∷_ ( 18, Rows'.any-gone (Syntax.tyRef Syntax.erased Syntax.imm (Syntax.tyInt Syntax.w32)), ) (List._∷_ ( 19, Rows'.any-gone (Syntax.tyStruct (List._∷_ 38 (List._∷_ 91 (List._∷_ 93 List.[]))) (Syntax.tcons (Syntax.tyRef Syntax.erased Syntax.imm (Syntax.tyInt Syntax.w32)) (Syntax.tcons (Syntax.tyInt Syntax.w64) Syntax.tnil))), ) (List._∷_ (20, Rows'.any-gone Syntax.tyBool) (List._∷_ ( 21, Rows'.sc-here (Row.sInt Syntax.w64), ) (List._∷_ (22, Rows'.sc-here Row.sPtr) (List._∷_ ( 23, Rows'.any-gone σ, ) (List._∷_ ( 24, Rows'.any-gone (Syntax.tyRef Syntax.erased Syntax.imm (Syntax.tyInt Syntax.w32)), ) (List._∷_ ( 25, Rows'.any-gone (Syntax.tyStruct (List._∷_ 38 (List._∷_ 91 (List._∷_ 93 List.[]))) (Syntax.tcons (Syntax.tyRef Syntax.erased Syntax.imm (Syntax.tyInt Syntax.w32)) (Syntax.tcons (Syntax.tyInt Syntax.w64) Syntax.tnil))), ) (List._∷_ ( 26, Rows'.any-gone (Syntax.tyRef Syntax.erased Syntax.mut (Syntax.tyInt Syntax.w32)), ) (List._∷_ ( 27, Rows'.any-gone (Syntax.tyStruct (List._∷_ 38 (List._∷_ 91 (List._∷_ 93 List.[]))) (Syntax.tcons (Syntax.tyRef Syntax.erased Syntax.mut (Syntax.tyInt Syntax.w32)) (Syntax.tcons (Syntax.tyInt Syntax.w64) Syntax.tnil))), ) (List._∷_ (28, Rows'.any-gone Syntax.tyPtr) (List._∷_ ( 29, Rows'.any-gone (Syntax.tyRef Syntax.erased Syntax.mut (Syntax.tyInt Syntax.w32)), ) (List._∷_ ( 30, Rows'.any-gone (Syntax.tyStruct (List._∷_ 38 (List._∷_ 91 (List._∷_ 93 List.[]))) (Syntax.tcons (Syntax.tyRef Syntax.erased Syntax.mut (Syntax.tyInt Syntax.w32)) (Syntax.tcons (Syntax.tyInt Syntax.w64) Syntax.tnil))), ) (List._∷_ ( 31, Rows'.any-gone (Syntax.tyRef Syntax.erased Syntax.mut (Syntax.tyInt Syntax.w32)), ) List.[])))))))))))))))
+t24 = List._∷_ (16, Rows'.any-gone Syntax.tyPtr) (List._∷_ (
+  17,
+  Rows'.any-gone σ,
+) (List._∷_ (18, Rows'.any-gone (Syntax.tyRef Syntax.erased Syntax.imm (Syntax.tyInt Syntax.w32))) (List._∷_ (19, Rows'.any-gone (Syntax.tyStruct (List._∷_ 38 (List._∷_ 91 (List._∷_ 93 List.[]))) (Syntax.tcons (Syntax.tyRef Syntax.erased Syntax.imm (Syntax.tyInt Syntax.w32)) (Syntax.tcons (Syntax.tyInt Syntax.w64) Syntax.tnil)))) (List._∷_ (20, Rows'.any-gone Syntax.tyBool) (List._∷_ (21, Rows'.sc-here (Row.sInt Syntax.w64)) (List._∷_ (22, Rows'.sc-here Row.sPtr) (List._∷_ (23, Rows'.any-gone σ) (List._∷_ (24, Rows'.any-gone (Syntax.tyRef Syntax.erased Syntax.imm (Syntax.tyInt Syntax.w32))) (List._∷_ (25, Rows'.any-gone (Syntax.tyStruct (List._∷_ 38 (List._∷_ 91 (List._∷_ 93 List.[]))) (Syntax.tcons (Syntax.tyRef Syntax.erased Syntax.imm (Syntax.tyInt Syntax.w32)) (Syntax.tcons (Syntax.tyInt Syntax.w64) Syntax.tnil)))) (List._∷_ (26, Rows'.any-gone (Syntax.tyRef Syntax.erased Syntax.mut (Syntax.tyInt Syntax.w32))) (List._∷_ (27, Rows'.any-gone (Syntax.tyStruct (List._∷_ 38 (List._∷_ 91 (List._∷_ 93 List.[]))) (Syntax.tcons (Syntax.tyRef Syntax.erased Syntax.mut (Syntax.tyInt Syntax.w32)) (Syntax.tcons (Syntax.tyInt Syntax.w64) Syntax.tnil)))) (List._∷_ (28, Rows'.any-gone Syntax.tyPtr) (List._∷_ (29, Rows'.any-gone (Syntax.tyRef Syntax.erased Syntax.mut (Syntax.tyInt Syntax.w32))) (List._∷_ (30, Rows'.any-gone (Syntax.tyStruct (List._∷_ 38 (List._∷_ 91 (List._∷_ 93 List.[]))) (Syntax.tcons (Syntax.tyRef Syntax.erased Syntax.mut (Syntax.tyInt Syntax.w32)) (Syntax.tcons (Syntax.tyInt Syntax.w64) Syntax.tnil)))) (List._∷_ (31, Rows'.any-gone (Syntax.tyRef Syntax.erased Syntax.mut (Syntax.tyInt Syntax.w32))) List.[])))))))))))))))
 
 abbrev pub t25 : List.List Row.Entry
-t25 = List._∷_ (16, Rows'.any-gone Syntax.tyPtr) (List._∷_ ( 17, Rows'.any-gone σ,
-) (List._∷_ ( 18, Rows'.any-gone (Syntax.tyRef Syntax.erased Syntax.imm (Syntax.tyInt Syntax.w32)), ) (List._∷_ ( 19, Rows'.any-gone (Syntax.tyStruct (List._∷_ 38 (List._∷_ 91 (List._∷_ 93 List.[]))) (Syntax.tcons (Syntax.tyRef Syntax.erased Syntax.imm (Syntax.tyInt Syntax.w32)) (Syntax.tcons (Syntax.tyInt Syntax.w64) Syntax.tnil))), ) (List._∷_ (20, Rows'.any-gone Syntax.tyBool) (List._∷_ ( 21, Rows'.sc-here (Row.sInt Syntax.w64), ) (List._∷_ (22, Rows'.sc-here Row.sPtr) (List._∷_ ( 23, Rows'.whole T, ) (List._∷_ ( 24, Rows'.any-gone (Syntax.tyRef Syntax.erased Syntax.imm (Syntax.tyInt Syntax.w32)), ) (List._∷_ ( 25, Rows'.any-gone (Syntax.tyStruct (List._∷_ 38 (List._∷_ 91 (List._∷_ 93 List.[]))) (Syntax.tcons (Syntax.tyRef Syntax.erased Syntax.imm (Syntax.tyInt Syntax.w32)) (Syntax.tcons (Syntax.tyInt Syntax.w64) Syntax.tnil))), ) (List._∷_ ( 26, Rows'.any-gone (Syntax.tyRef Syntax.erased Syntax.mut (Syntax.tyInt Syntax.w32)), ) (List._∷_ ( 27, Rows'.any-gone (Syntax.tyStruct (List._∷_ 38 (List._∷_ 91 (List._∷_ 93 List.[]))) (Syntax.tcons (Syntax.tyRef Syntax.erased Syntax.mut (Syntax.tyInt Syntax.w32)) (Syntax.tcons (Syntax.tyInt Syntax.w64) Syntax.tnil))), ) (List._∷_ (28, Rows'.any-gone Syntax.tyPtr) (List._∷_ ( 29, Rows'.any-gone (Syntax.tyRef Syntax.erased Syntax.mut (Syntax.tyInt Syntax.w32)), ) (List._∷_ ( 30, Rows'.any-gone (Syntax.tyStruct (List._∷_ 38 (List._∷_ 91 (List._∷_ 93 List.[]))) (Syntax.tcons (Syntax.tyRef Syntax.erased Syntax.mut (Syntax.tyInt Syntax.w32)) (Syntax.tcons (Syntax.tyInt Syntax.w64) Syntax.tnil))), ) (List._∷_ ( 31, Rows'.any-gone (Syntax.tyRef Syntax.erased Syntax.mut (Syntax.tyInt Syntax.w32)), ) List.[])))))))))))))))
+t25 = List._∷_ (16, Rows'.any-gone Syntax.tyPtr) (List._∷_ (
+  17,
+  Rows'.any-gone σ,
+) (List._∷_ (18, Rows'.any-gone (Syntax.tyRef Syntax.erased Syntax.imm (Syntax.tyInt Syntax.w32))) (List._∷_ (19, Rows'.any-gone (Syntax.tyStruct (List._∷_ 38 (List._∷_ 91 (List._∷_ 93 List.[]))) (Syntax.tcons (Syntax.tyRef Syntax.erased Syntax.imm (Syntax.tyInt Syntax.w32)) (Syntax.tcons (Syntax.tyInt Syntax.w64) Syntax.tnil)))) (List._∷_ (20, Rows'.any-gone Syntax.tyBool) (List._∷_ (21, Rows'.sc-here (Row.sInt Syntax.w64)) (List._∷_ (22, Rows'.sc-here Row.sPtr) (List._∷_ (23, Rows'.whole T) (List._∷_ (24, Rows'.any-gone (Syntax.tyRef Syntax.erased Syntax.imm (Syntax.tyInt Syntax.w32))) (List._∷_ (25, Rows'.any-gone (Syntax.tyStruct (List._∷_ 38 (List._∷_ 91 (List._∷_ 93 List.[]))) (Syntax.tcons (Syntax.tyRef Syntax.erased Syntax.imm (Syntax.tyInt Syntax.w32)) (Syntax.tcons (Syntax.tyInt Syntax.w64) Syntax.tnil)))) (List._∷_ (26, Rows'.any-gone (Syntax.tyRef Syntax.erased Syntax.mut (Syntax.tyInt Syntax.w32))) (List._∷_ (27, Rows'.any-gone (Syntax.tyStruct (List._∷_ 38 (List._∷_ 91 (List._∷_ 93 List.[]))) (Syntax.tcons (Syntax.tyRef Syntax.erased Syntax.mut (Syntax.tyInt Syntax.w32)) (Syntax.tcons (Syntax.tyInt Syntax.w64) Syntax.tnil)))) (List._∷_ (28, Rows'.any-gone Syntax.tyPtr) (List._∷_ (29, Rows'.any-gone (Syntax.tyRef Syntax.erased Syntax.mut (Syntax.tyInt Syntax.w32))) (List._∷_ (30, Rows'.any-gone (Syntax.tyStruct (List._∷_ 38 (List._∷_ 91 (List._∷_ 93 List.[]))) (Syntax.tcons (Syntax.tyRef Syntax.erased Syntax.mut (Syntax.tyInt Syntax.w32)) (Syntax.tcons (Syntax.tyInt Syntax.w64) Syntax.tnil)))) (List._∷_ (31, Rows'.any-gone (Syntax.tyRef Syntax.erased Syntax.mut (Syntax.tyInt Syntax.w32))) List.[])))))))))))))))
 
 abbrev pub t26 : List.List Row.Entry
-t26 = List._∷_ (16, Rows'.any-gone Syntax.tyPtr) (List._∷_ ( 17, Rows'.any-gone σ,
-) (List._∷_ ( 18, Rows'.any-gone (Syntax.tyRef Syntax.erased Syntax.imm (Syntax.tyInt Syntax.w32)), ) (List._∷_ ( 19, Rows'.any-gone (Syntax.tyStruct (List._∷_ 38 (List._∷_ 91 (List._∷_ 93 List.[]))) (Syntax.tcons (Syntax.tyRef Syntax.erased Syntax.imm (Syntax.tyInt Syntax.w32)) (Syntax.tcons (Syntax.tyInt Syntax.w64) Syntax.tnil))), ) (List._∷_ (20, Rows'.any-gone Syntax.tyBool) (List._∷_ ( 21, Rows'.any-gone (Syntax.tyInt Syntax.w64), ) (List._∷_ (22, Rows'.sc-here Row.sPtr) (List._∷_ ( 23, Rows'.whole T, ) (List._∷_ ( 24, Rows'.any-gone (Syntax.tyRef Syntax.erased Syntax.imm (Syntax.tyInt Syntax.w32)), ) (List._∷_ ( 25, Rows'.any-gone (Syntax.tyStruct (List._∷_ 38 (List._∷_ 91 (List._∷_ 93 List.[]))) (Syntax.tcons (Syntax.tyRef Syntax.erased Syntax.imm (Syntax.tyInt Syntax.w32)) (Syntax.tcons (Syntax.tyInt Syntax.w64) Syntax.tnil))), ) (List._∷_ ( 26, Rows'.any-gone (Syntax.tyRef Syntax.erased Syntax.mut (Syntax.tyInt Syntax.w32)), ) (List._∷_ ( 27, Rows'.any-gone (Syntax.tyStruct (List._∷_ 38 (List._∷_ 91 (List._∷_ 93 List.[]))) (Syntax.tcons (Syntax.tyRef Syntax.erased Syntax.mut (Syntax.tyInt Syntax.w32)) (Syntax.tcons (Syntax.tyInt Syntax.w64) Syntax.tnil))), ) (List._∷_ (28, Rows'.any-gone Syntax.tyPtr) (List._∷_ ( 29, Rows'.any-gone (Syntax.tyRef Syntax.erased Syntax.mut (Syntax.tyInt Syntax.w32)), ) (List._∷_ ( 30, Rows'.any-gone (Syntax.tyStruct (List._∷_ 38 (List._∷_ 91 (List._∷_ 93 List.[]))) (Syntax.tcons (Syntax.tyRef Syntax.erased Syntax.mut (Syntax.tyInt Syntax.w32)) (Syntax.tcons (Syntax.tyInt Syntax.w64) Syntax.tnil))), ) (List._∷_ ( 31, Rows'.any-gone (Syntax.tyRef Syntax.erased Syntax.mut (Syntax.tyInt Syntax.w32)), ) List.[])))))))))))))))
+t26 = List._∷_ (16, Rows'.any-gone Syntax.tyPtr) (List._∷_ (
+  17,
+  Rows'.any-gone σ,
+) (List._∷_ (18, Rows'.any-gone (Syntax.tyRef Syntax.erased Syntax.imm (Syntax.tyInt Syntax.w32))) (List._∷_ (19, Rows'.any-gone (Syntax.tyStruct (List._∷_ 38 (List._∷_ 91 (List._∷_ 93 List.[]))) (Syntax.tcons (Syntax.tyRef Syntax.erased Syntax.imm (Syntax.tyInt Syntax.w32)) (Syntax.tcons (Syntax.tyInt Syntax.w64) Syntax.tnil)))) (List._∷_ (20, Rows'.any-gone Syntax.tyBool) (List._∷_ (21, Rows'.any-gone (Syntax.tyInt Syntax.w64)) (List._∷_ (22, Rows'.sc-here Row.sPtr) (List._∷_ (23, Rows'.whole T) (List._∷_ (24, Rows'.any-gone (Syntax.tyRef Syntax.erased Syntax.imm (Syntax.tyInt Syntax.w32))) (List._∷_ (25, Rows'.any-gone (Syntax.tyStruct (List._∷_ 38 (List._∷_ 91 (List._∷_ 93 List.[]))) (Syntax.tcons (Syntax.tyRef Syntax.erased Syntax.imm (Syntax.tyInt Syntax.w32)) (Syntax.tcons (Syntax.tyInt Syntax.w64) Syntax.tnil)))) (List._∷_ (26, Rows'.any-gone (Syntax.tyRef Syntax.erased Syntax.mut (Syntax.tyInt Syntax.w32))) (List._∷_ (27, Rows'.any-gone (Syntax.tyStruct (List._∷_ 38 (List._∷_ 91 (List._∷_ 93 List.[]))) (Syntax.tcons (Syntax.tyRef Syntax.erased Syntax.mut (Syntax.tyInt Syntax.w32)) (Syntax.tcons (Syntax.tyInt Syntax.w64) Syntax.tnil)))) (List._∷_ (28, Rows'.any-gone Syntax.tyPtr) (List._∷_ (29, Rows'.any-gone (Syntax.tyRef Syntax.erased Syntax.mut (Syntax.tyInt Syntax.w32))) (List._∷_ (30, Rows'.any-gone (Syntax.tyStruct (List._∷_ 38 (List._∷_ 91 (List._∷_ 93 List.[]))) (Syntax.tcons (Syntax.tyRef Syntax.erased Syntax.mut (Syntax.tyInt Syntax.w32)) (Syntax.tcons (Syntax.tyInt Syntax.w64) Syntax.tnil)))) (List._∷_ (31, Rows'.any-gone (Syntax.tyRef Syntax.erased Syntax.mut (Syntax.tyInt Syntax.w32))) List.[])))))))))))))))
 
 abbrev pub t27 : List.List Row.Entry
-t27 = List._∷_ (16, Rows'.any-gone Syntax.tyPtr) (List._∷_ ( 17, Rows'.any-gone σ,
-) (List._∷_ ( 18, Rows'.any-gone (Syntax.tyRef Syntax.erased Syntax.imm (Syntax.tyInt Syntax.w32)), ) (List._∷_ ( 19, Rows'.any-gone (Syntax.tyStruct (List._∷_ 38 (List._∷_ 91 (List._∷_ 93 List.[]))) (Syntax.tcons (Syntax.tyRef Syntax.erased Syntax.imm (Syntax.tyInt Syntax.w32)) (Syntax.tcons (Syntax.tyInt Syntax.w64) Syntax.tnil))), ) (List._∷_ (20, Rows'.any-gone Syntax.tyBool) (List._∷_ ( 21, Rows'.any-gone (Syntax.tyInt Syntax.w64), ) (List._∷_ (22, Rows'.any-gone Syntax.tyPtr) (List._∷_ ( 23, Rows'.whole T, ) (List._∷_ ( 24, Rows'.any-gone (Syntax.tyRef Syntax.erased Syntax.imm (Syntax.tyInt Syntax.w32)), ) (List._∷_ ( 25, Rows'.any-gone (Syntax.tyStruct (List._∷_ 38 (List._∷_ 91 (List._∷_ 93 List.[]))) (Syntax.tcons (Syntax.tyRef Syntax.erased Syntax.imm (Syntax.tyInt Syntax.w32)) (Syntax.tcons (Syntax.tyInt Syntax.w64) Syntax.tnil))), ) (List._∷_ ( 26, Rows'.any-gone (Syntax.tyRef Syntax.erased Syntax.mut (Syntax.tyInt Syntax.w32)), ) (List._∷_ ( 27, Rows'.any-gone (Syntax.tyStruct (List._∷_ 38 (List._∷_ 91 (List._∷_ 93 List.[]))) (Syntax.tcons (Syntax.tyRef Syntax.erased Syntax.mut (Syntax.tyInt Syntax.w32)) (Syntax.tcons (Syntax.tyInt Syntax.w64) Syntax.tnil))), ) (List._∷_ (28, Rows'.any-gone Syntax.tyPtr) (List._∷_ ( 29, Rows'.any-gone (Syntax.tyRef Syntax.erased Syntax.mut (Syntax.tyInt Syntax.w32)), ) (List._∷_ ( 30, Rows'.any-gone (Syntax.tyStruct (List._∷_ 38 (List._∷_ 91 (List._∷_ 93 List.[]))) (Syntax.tcons (Syntax.tyRef Syntax.erased Syntax.mut (Syntax.tyInt Syntax.w32)) (Syntax.tcons (Syntax.tyInt Syntax.w64) Syntax.tnil))), ) (List._∷_ ( 31, Rows'.any-gone (Syntax.tyRef Syntax.erased Syntax.mut (Syntax.tyInt Syntax.w32)), ) List.[])))))))))))))))
+t27 = List._∷_ (16, Rows'.any-gone Syntax.tyPtr) (List._∷_ (
+  17,
+  Rows'.any-gone σ,
+) (List._∷_ (18, Rows'.any-gone (Syntax.tyRef Syntax.erased Syntax.imm (Syntax.tyInt Syntax.w32))) (List._∷_ (19, Rows'.any-gone (Syntax.tyStruct (List._∷_ 38 (List._∷_ 91 (List._∷_ 93 List.[]))) (Syntax.tcons (Syntax.tyRef Syntax.erased Syntax.imm (Syntax.tyInt Syntax.w32)) (Syntax.tcons (Syntax.tyInt Syntax.w64) Syntax.tnil)))) (List._∷_ (20, Rows'.any-gone Syntax.tyBool) (List._∷_ (21, Rows'.any-gone (Syntax.tyInt Syntax.w64)) (List._∷_ (22, Rows'.any-gone Syntax.tyPtr) (List._∷_ (23, Rows'.whole T) (List._∷_ (24, Rows'.any-gone (Syntax.tyRef Syntax.erased Syntax.imm (Syntax.tyInt Syntax.w32))) (List._∷_ (25, Rows'.any-gone (Syntax.tyStruct (List._∷_ 38 (List._∷_ 91 (List._∷_ 93 List.[]))) (Syntax.tcons (Syntax.tyRef Syntax.erased Syntax.imm (Syntax.tyInt Syntax.w32)) (Syntax.tcons (Syntax.tyInt Syntax.w64) Syntax.tnil)))) (List._∷_ (26, Rows'.any-gone (Syntax.tyRef Syntax.erased Syntax.mut (Syntax.tyInt Syntax.w32))) (List._∷_ (27, Rows'.any-gone (Syntax.tyStruct (List._∷_ 38 (List._∷_ 91 (List._∷_ 93 List.[]))) (Syntax.tcons (Syntax.tyRef Syntax.erased Syntax.mut (Syntax.tyInt Syntax.w32)) (Syntax.tcons (Syntax.tyInt Syntax.w64) Syntax.tnil)))) (List._∷_ (28, Rows'.any-gone Syntax.tyPtr) (List._∷_ (29, Rows'.any-gone (Syntax.tyRef Syntax.erased Syntax.mut (Syntax.tyInt Syntax.w32))) (List._∷_ (30, Rows'.any-gone (Syntax.tyStruct (List._∷_ 38 (List._∷_ 91 (List._∷_ 93 List.[]))) (Syntax.tcons (Syntax.tyRef Syntax.erased Syntax.mut (Syntax.tyInt Syntax.w32)) (Syntax.tcons (Syntax.tyInt Syntax.w64) Syntax.tnil)))) (List._∷_ (31, Rows'.any-gone (Syntax.tyRef Syntax.erased Syntax.mut (Syntax.tyInt Syntax.w32))) List.[])))))))))))))))
 
 abbrev pub t28 : List.List Row.Entry
-t28 = List._∷_ ( 0, Rows'.any-gone (Syntax.tyStruct (List._∷_ 102 (List._∷_ 105 (List._∷_ 114 (List._∷_ 109 (List._∷_ 58 (List._∷_ 58 (List._∷_ 81 (List._∷_ 117 (List._∷_ 111 (List._∷_ 116 (List._∷_ 101 List.[]))))))))))) (Syntax.tcons (Syntax.tyInt Syntax.w32) (Syntax.tcons (Syntax.tyInt Syntax.w64) (Syntax.tcons (Syntax.tyInt Syntax.w64) (Syntax.tcons (Syntax.tyInt Syntax.w32) Syntax.tnil))))),
-) (List._∷_ ( 1, Mut.mslice T τ 0,
-) (List._∷_ ( 2, Rows'.sslice (Referent.rtF (Referent.fInt Syntax.w8)) (Syntax.tyRef (Syntax.named 1) Syntax.imm (Syntax.tyInt Syntax.w8)) 1,
-) (List._∷_ ( 3, Reshare.mslice-owedS (Referent.rtF (Referent.fInt Syntax.w32)) (Syntax.tyRef (Syntax.named 2) Syntax.mut (Syntax.tyInt Syntax.w32)) 2 7 Row.off,
-) (List._∷_ ( 4, Mut.mslice (Referent.rtF (Referent.fInt Syntax.w32)) (Syntax.tyRef (Syntax.named 3) Syntax.mut (Syntax.tyInt Syntax.w32)) 3,
-) (List._∷_ (5, Rows'.sc-here (Row.sInt Syntax.w64)) (List._∷_ ( 6, Rows'.whole (Declared.row Quote.the-type),
-) (List._∷_ (7, Rows'.sc-here (Row.sInt Syntax.w64)) (List._∷_ ( 8, Rows'.sc-here (Row.sInt Syntax.w64),
-) (List._∷_ (9, Rows'.any-gone σ) (List._∷_ ( 10, Rows'.any-gone (Syntax.tyRef Syntax.erased Syntax.mut (Syntax.tyInt Syntax.w32)),
-) (List._∷_ ( 11, Rows'.any-gone (Syntax.tyStruct (List._∷_ 38 (List._∷_ 91 (List._∷_ 93 List.[]))) (Syntax.tcons (Syntax.tyRef Syntax.erased Syntax.mut (Syntax.tyInt Syntax.w32)) (Syntax.tcons (Syntax.tyInt Syntax.w64) Syntax.tnil))),
-) (List._∷_ ( 12, Rows'.any-gone (Syntax.tyRef Syntax.erased Syntax.mut (Syntax.tyInt Syntax.w32)), ) (List._∷_ ( 13, Rows'.any-gone (Syntax.tyStruct (List._∷_ 38 (List._∷_ 91 (List._∷_ 93 List.[]))) (Syntax.tcons (Syntax.tyRef Syntax.erased Syntax.mut (Syntax.tyInt Syntax.w32)) (Syntax.tcons (Syntax.tyInt Syntax.w64) Syntax.tnil))), ) (List._∷_ (14, Rows'.any-gone Syntax.tyBool) (List._∷_ ( 15, Rows'.any-gone (Syntax.tyInt Syntax.w64), ) List.[])))))))))))))))
+t28 = List._∷_ (
+  0,
+  Rows'.any-gone (Syntax.tyStruct (List._∷_ 102 (List._∷_ 105 (List._∷_ 114 (List._∷_ 109 (List._∷_ 58 (List._∷_ 58 (List._∷_ 81 (List._∷_ 117 (List._∷_ 111 (List._∷_ 116 (List._∷_ 101 List.[]))))))))))) (Syntax.tcons (Syntax.tyInt Syntax.w32) (Syntax.tcons (Syntax.tyInt Syntax.w64) (Syntax.tcons (Syntax.tyInt Syntax.w64) (Syntax.tcons (Syntax.tyInt Syntax.w32) Syntax.tnil))))),
+) (List._∷_ (
+  1,
+  Mut.mslice T τ 0,
+) (List._∷_ (
+  2,
+  Rows'.sslice (Referent.rtF (Referent.fInt Syntax.w8)) (Syntax.tyRef (Syntax.named 1) Syntax.imm (Syntax.tyInt Syntax.w8)) 1,
+) (List._∷_ (
+  3,
+  Reshare.mslice-owedS (Referent.rtF (Referent.fInt Syntax.w32)) (Syntax.tyRef (Syntax.named 2) Syntax.mut (Syntax.tyInt Syntax.w32)) 2 7 Row.off,
+) (List._∷_ (
+  4,
+  Mut.mslice (Referent.rtF (Referent.fInt Syntax.w32)) (Syntax.tyRef (Syntax.named 3) Syntax.mut (Syntax.tyInt Syntax.w32)) 3,
+) (List._∷_ (5, Rows'.sc-here (Row.sInt Syntax.w64)) (List._∷_ (
+  6,
+  Rows'.whole (Declared.row Quote.the-type),
+) (List._∷_ (7, Rows'.sc-here (Row.sInt Syntax.w64)) (List._∷_ (
+  8,
+  Rows'.sc-here (Row.sInt Syntax.w64),
+) (List._∷_ (9, Rows'.any-gone σ) (List._∷_ (
+  10,
+  Rows'.any-gone (Syntax.tyRef Syntax.erased Syntax.mut (Syntax.tyInt Syntax.w32)),
+) (List._∷_ (
+  11,
+  Rows'.any-gone (Syntax.tyStruct (List._∷_ 38 (List._∷_ 91 (List._∷_ 93 List.[]))) (Syntax.tcons (Syntax.tyRef Syntax.erased Syntax.mut (Syntax.tyInt Syntax.w32)) (Syntax.tcons (Syntax.tyInt Syntax.w64) Syntax.tnil))),
+) (List._∷_ (12, Rows'.any-gone (Syntax.tyRef Syntax.erased Syntax.mut (Syntax.tyInt Syntax.w32))) (List._∷_ (13, Rows'.any-gone (Syntax.tyStruct (List._∷_ 38 (List._∷_ 91 (List._∷_ 93 List.[]))) (Syntax.tcons (Syntax.tyRef Syntax.erased Syntax.mut (Syntax.tyInt Syntax.w32)) (Syntax.tcons (Syntax.tyInt Syntax.w64) Syntax.tnil)))) (List._∷_ (14, Rows'.any-gone Syntax.tyBool) (List._∷_ (15, Rows'.any-gone (Syntax.tyInt Syntax.w64)) List.[])))))))))))))))
 
 abbrev pub t29 : List.List Row.Entry
-t29 = List._∷_ (16, Rows'.any-gone Syntax.tyPtr) (List._∷_ ( 17, Rows'.any-gone σ,
-) (List._∷_ ( 18, Rows'.any-gone (Syntax.tyRef Syntax.erased Syntax.imm (Syntax.tyInt Syntax.w32)), ) (List._∷_ ( 19, Rows'.any-gone (Syntax.tyStruct (List._∷_ 38 (List._∷_ 91 (List._∷_ 93 List.[]))) (Syntax.tcons (Syntax.tyRef Syntax.erased Syntax.imm (Syntax.tyInt Syntax.w32)) (Syntax.tcons (Syntax.tyInt Syntax.w64) Syntax.tnil))), ) (List._∷_ (20, Rows'.any-gone Syntax.tyBool) (List._∷_ ( 21, Rows'.any-gone (Syntax.tyInt Syntax.w64), ) (List._∷_ (22, Rows'.any-gone Syntax.tyPtr) (List._∷_ ( 23, Rows'.whole T, ) (List._∷_ ( 24, Relend.ssptr (Referent.rtF (Referent.fInt Syntax.w32)) (Syntax.tyRef Syntax.erased Syntax.imm (Syntax.tyInt Syntax.w32)) 7, ) (List._∷_ ( 25, Rows'.any-gone (Syntax.tyStruct (List._∷_ 38 (List._∷_ 91 (List._∷_ 93 List.[]))) (Syntax.tcons (Syntax.tyRef Syntax.erased Syntax.imm (Syntax.tyInt Syntax.w32)) (Syntax.tcons (Syntax.tyInt Syntax.w64) Syntax.tnil))), ) (List._∷_ ( 26, Rows'.any-gone (Syntax.tyRef Syntax.erased Syntax.mut (Syntax.tyInt Syntax.w32)), ) (List._∷_ ( 27, Rows'.any-gone (Syntax.tyStruct (List._∷_ 38 (List._∷_ 91 (List._∷_ 93 List.[]))) (Syntax.tcons (Syntax.tyRef Syntax.erased Syntax.mut (Syntax.tyInt Syntax.w32)) (Syntax.tcons (Syntax.tyInt Syntax.w64) Syntax.tnil))), ) (List._∷_ (28, Rows'.any-gone Syntax.tyPtr) (List._∷_ ( 29, Rows'.any-gone (Syntax.tyRef Syntax.erased Syntax.mut (Syntax.tyInt Syntax.w32)), ) (List._∷_ ( 30, Rows'.any-gone (Syntax.tyStruct (List._∷_ 38 (List._∷_ 91 (List._∷_ 93 List.[]))) (Syntax.tcons (Syntax.tyRef Syntax.erased Syntax.mut (Syntax.tyInt Syntax.w32)) (Syntax.tcons (Syntax.tyInt Syntax.w64) Syntax.tnil))), ) (List._∷_ ( 31, Rows'.any-gone (Syntax.tyRef Syntax.erased Syntax.mut (Syntax.tyInt Syntax.w32)), ) List.[])))))))))))))))
+t29 = List._∷_ (16, Rows'.any-gone Syntax.tyPtr) (List._∷_ (
+  17,
+  Rows'.any-gone σ,
+) (List._∷_ (18, Rows'.any-gone (Syntax.tyRef Syntax.erased Syntax.imm (Syntax.tyInt Syntax.w32))) (List._∷_ (19, Rows'.any-gone (Syntax.tyStruct (List._∷_ 38 (List._∷_ 91 (List._∷_ 93 List.[]))) (Syntax.tcons (Syntax.tyRef Syntax.erased Syntax.imm (Syntax.tyInt Syntax.w32)) (Syntax.tcons (Syntax.tyInt Syntax.w64) Syntax.tnil)))) (List._∷_ (20, Rows'.any-gone Syntax.tyBool) (List._∷_ (21, Rows'.any-gone (Syntax.tyInt Syntax.w64)) (List._∷_ (22, Rows'.any-gone Syntax.tyPtr) (List._∷_ (23, Rows'.whole T) (List._∷_ (24, Relend.ssptr (Referent.rtF (Referent.fInt Syntax.w32)) (Syntax.tyRef Syntax.erased Syntax.imm (Syntax.tyInt Syntax.w32)) 7) (List._∷_ (25, Rows'.any-gone (Syntax.tyStruct (List._∷_ 38 (List._∷_ 91 (List._∷_ 93 List.[]))) (Syntax.tcons (Syntax.tyRef Syntax.erased Syntax.imm (Syntax.tyInt Syntax.w32)) (Syntax.tcons (Syntax.tyInt Syntax.w64) Syntax.tnil)))) (List._∷_ (26, Rows'.any-gone (Syntax.tyRef Syntax.erased Syntax.mut (Syntax.tyInt Syntax.w32))) (List._∷_ (27, Rows'.any-gone (Syntax.tyStruct (List._∷_ 38 (List._∷_ 91 (List._∷_ 93 List.[]))) (Syntax.tcons (Syntax.tyRef Syntax.erased Syntax.mut (Syntax.tyInt Syntax.w32)) (Syntax.tcons (Syntax.tyInt Syntax.w64) Syntax.tnil)))) (List._∷_ (28, Rows'.any-gone Syntax.tyPtr) (List._∷_ (29, Rows'.any-gone (Syntax.tyRef Syntax.erased Syntax.mut (Syntax.tyInt Syntax.w32))) (List._∷_ (30, Rows'.any-gone (Syntax.tyStruct (List._∷_ 38 (List._∷_ 91 (List._∷_ 93 List.[]))) (Syntax.tcons (Syntax.tyRef Syntax.erased Syntax.mut (Syntax.tyInt Syntax.w32)) (Syntax.tcons (Syntax.tyInt Syntax.w64) Syntax.tnil)))) (List._∷_ (31, Rows'.any-gone (Syntax.tyRef Syntax.erased Syntax.mut (Syntax.tyInt Syntax.w32))) List.[])))))))))))))))
 
 abbrev pub t30 : List.List Row.Entry
-t30 = List._∷_ (16, Rows'.any-gone Syntax.tyPtr) (List._∷_ ( 17, Rows'.any-gone σ,
-) (List._∷_ ( 18, Rows'.any-gone (Syntax.tyRef Syntax.erased Syntax.imm (Syntax.tyInt Syntax.w32)), ) (List._∷_ ( 19, Rows'.any-gone (Syntax.tyStruct (List._∷_ 38 (List._∷_ 91 (List._∷_ 93 List.[]))) (Syntax.tcons (Syntax.tyRef Syntax.erased Syntax.imm (Syntax.tyInt Syntax.w32)) (Syntax.tcons (Syntax.tyInt Syntax.w64) Syntax.tnil))), ) (List._∷_ (20, Rows'.any-gone Syntax.tyBool) (List._∷_ ( 21, Rows'.any-gone (Syntax.tyInt Syntax.w64), ) (List._∷_ (22, Rows'.any-gone Syntax.tyPtr) (List._∷_ ( 23, Rows'.whole T, ) (List._∷_ ( 24, Rows'.any-gone (Syntax.tyRef Syntax.erased Syntax.imm (Syntax.tyInt Syntax.w32)), ) (List._∷_ ( 25, Rows'.sslice (Referent.rtF (Referent.fInt Syntax.w32)) (Syntax.tyRef Syntax.erased Syntax.imm (Syntax.tyInt Syntax.w32)) 7, ) (List._∷_ ( 26, Rows'.any-gone (Syntax.tyRef Syntax.erased Syntax.mut (Syntax.tyInt Syntax.w32)), ) (List._∷_ ( 27, Rows'.any-gone (Syntax.tyStruct (List._∷_ 38 (List._∷_ 91 (List._∷_ 93 List.[]))) (Syntax.tcons (Syntax.tyRef Syntax.erased Syntax.mut (Syntax.tyInt Syntax.w32)) (Syntax.tcons (Syntax.tyInt Syntax.w64) Syntax.tnil))), ) (List._∷_ (28, Rows'.any-gone Syntax.tyPtr) (List._∷_ ( 29, Rows'.any-gone (Syntax.tyRef Syntax.erased Syntax.mut (Syntax.tyInt Syntax.w32)), ) (List._∷_ ( 30, Rows'.any-gone (Syntax.tyStruct (List._∷_ 38 (List._∷_ 91 (List._∷_ 93 List.[]))) (Syntax.tcons (Syntax.tyRef Syntax.erased Syntax.mut (Syntax.tyInt Syntax.w32)) (Syntax.tcons (Syntax.tyInt Syntax.w64) Syntax.tnil))), ) (List._∷_ ( 31, Rows'.any-gone (Syntax.tyRef Syntax.erased Syntax.mut (Syntax.tyInt Syntax.w32)), ) List.[])))))))))))))))
+t30 = List._∷_ (16, Rows'.any-gone Syntax.tyPtr) (List._∷_ (
+  17,
+  Rows'.any-gone σ,
+) (List._∷_ (18, Rows'.any-gone (Syntax.tyRef Syntax.erased Syntax.imm (Syntax.tyInt Syntax.w32))) (List._∷_ (19, Rows'.any-gone (Syntax.tyStruct (List._∷_ 38 (List._∷_ 91 (List._∷_ 93 List.[]))) (Syntax.tcons (Syntax.tyRef Syntax.erased Syntax.imm (Syntax.tyInt Syntax.w32)) (Syntax.tcons (Syntax.tyInt Syntax.w64) Syntax.tnil)))) (List._∷_ (20, Rows'.any-gone Syntax.tyBool) (List._∷_ (21, Rows'.any-gone (Syntax.tyInt Syntax.w64)) (List._∷_ (22, Rows'.any-gone Syntax.tyPtr) (List._∷_ (23, Rows'.whole T) (List._∷_ (24, Rows'.any-gone (Syntax.tyRef Syntax.erased Syntax.imm (Syntax.tyInt Syntax.w32))) (List._∷_ (25, Rows'.sslice (Referent.rtF (Referent.fInt Syntax.w32)) (Syntax.tyRef Syntax.erased Syntax.imm (Syntax.tyInt Syntax.w32)) 7) (List._∷_ (26, Rows'.any-gone (Syntax.tyRef Syntax.erased Syntax.mut (Syntax.tyInt Syntax.w32))) (List._∷_ (27, Rows'.any-gone (Syntax.tyStruct (List._∷_ 38 (List._∷_ 91 (List._∷_ 93 List.[]))) (Syntax.tcons (Syntax.tyRef Syntax.erased Syntax.mut (Syntax.tyInt Syntax.w32)) (Syntax.tcons (Syntax.tyInt Syntax.w64) Syntax.tnil)))) (List._∷_ (28, Rows'.any-gone Syntax.tyPtr) (List._∷_ (29, Rows'.any-gone (Syntax.tyRef Syntax.erased Syntax.mut (Syntax.tyInt Syntax.w32))) (List._∷_ (30, Rows'.any-gone (Syntax.tyStruct (List._∷_ 38 (List._∷_ 91 (List._∷_ 93 List.[]))) (Syntax.tcons (Syntax.tyRef Syntax.erased Syntax.mut (Syntax.tyInt Syntax.w32)) (Syntax.tcons (Syntax.tyInt Syntax.w64) Syntax.tnil)))) (List._∷_ (31, Rows'.any-gone (Syntax.tyRef Syntax.erased Syntax.mut (Syntax.tyInt Syntax.w32))) List.[])))))))))))))))
 
 abbrev pub t31 : List.List Row.Entry
-t31 = List._∷_ ( 0, Rows'.any-gone (Syntax.tyStruct (List._∷_ 102 (List._∷_ 105 (List._∷_ 114 (List._∷_ 109 (List._∷_ 58 (List._∷_ 58 (List._∷_ 81 (List._∷_ 117 (List._∷_ 111 (List._∷_ 116 (List._∷_ 101 List.[]))))))))))) (Syntax.tcons (Syntax.tyInt Syntax.w32) (Syntax.tcons (Syntax.tyInt Syntax.w64) (Syntax.tcons (Syntax.tyInt Syntax.w64) (Syntax.tcons (Syntax.tyInt Syntax.w32) Syntax.tnil))))),
-) (List._∷_ ( 1, Mut.mslice T τ 0,
-) (List._∷_ ( 2, Rows'.sslice (Referent.rtF (Referent.fInt Syntax.w8)) (Syntax.tyRef (Syntax.named 1) Syntax.imm (Syntax.tyInt Syntax.w8)) 1,
-) (List._∷_ ( 3, Reshare.mslice-owedS (Referent.rtF (Referent.fInt Syntax.w32)) (Syntax.tyRef (Syntax.named 2) Syntax.mut (Syntax.tyInt Syntax.w32)) 2 7 Row.off,
-) (List._∷_ ( 4, Relend.mslice-owed (Referent.rtF (Referent.fInt Syntax.w32)) (Syntax.tyRef (Syntax.named 3) Syntax.mut (Syntax.tyInt Syntax.w32)) 3 8 Row.off,
-) (List._∷_ (5, Rows'.sc-here (Row.sInt Syntax.w64)) (List._∷_ ( 6, Rows'.whole (Declared.row Quote.the-type),
-) (List._∷_ (7, Rows'.sc-here (Row.sInt Syntax.w64)) (List._∷_ ( 8, Rows'.sc-here (Row.sInt Syntax.w64),
-) (List._∷_ (9, Rows'.any-gone σ) (List._∷_ ( 10, Rows'.any-gone (Syntax.tyRef Syntax.erased Syntax.mut (Syntax.tyInt Syntax.w32)),
-) (List._∷_ ( 11, Rows'.any-gone (Syntax.tyStruct (List._∷_ 38 (List._∷_ 91 (List._∷_ 93 List.[]))) (Syntax.tcons (Syntax.tyRef Syntax.erased Syntax.mut (Syntax.tyInt Syntax.w32)) (Syntax.tcons (Syntax.tyInt Syntax.w64) Syntax.tnil))),
-) (List._∷_ ( 12, Rows'.any-gone (Syntax.tyRef Syntax.erased Syntax.mut (Syntax.tyInt Syntax.w32)), ) (List._∷_ ( 13, Rows'.any-gone (Syntax.tyStruct (List._∷_ 38 (List._∷_ 91 (List._∷_ 93 List.[]))) (Syntax.tcons (Syntax.tyRef Syntax.erased Syntax.mut (Syntax.tyInt Syntax.w32)) (Syntax.tcons (Syntax.tyInt Syntax.w64) Syntax.tnil))), ) (List._∷_ (14, Rows'.any-gone Syntax.tyBool) (List._∷_ ( 15, Rows'.any-gone (Syntax.tyInt Syntax.w64), ) List.[])))))))))))))))
+t31 = List._∷_ (
+  0,
+  Rows'.any-gone (Syntax.tyStruct (List._∷_ 102 (List._∷_ 105 (List._∷_ 114 (List._∷_ 109 (List._∷_ 58 (List._∷_ 58 (List._∷_ 81 (List._∷_ 117 (List._∷_ 111 (List._∷_ 116 (List._∷_ 101 List.[]))))))))))) (Syntax.tcons (Syntax.tyInt Syntax.w32) (Syntax.tcons (Syntax.tyInt Syntax.w64) (Syntax.tcons (Syntax.tyInt Syntax.w64) (Syntax.tcons (Syntax.tyInt Syntax.w32) Syntax.tnil))))),
+) (List._∷_ (
+  1,
+  Mut.mslice T τ 0,
+) (List._∷_ (
+  2,
+  Rows'.sslice (Referent.rtF (Referent.fInt Syntax.w8)) (Syntax.tyRef (Syntax.named 1) Syntax.imm (Syntax.tyInt Syntax.w8)) 1,
+) (List._∷_ (
+  3,
+  Reshare.mslice-owedS (Referent.rtF (Referent.fInt Syntax.w32)) (Syntax.tyRef (Syntax.named 2) Syntax.mut (Syntax.tyInt Syntax.w32)) 2 7 Row.off,
+) (List._∷_ (
+  4,
+  Relend.mslice-owed (Referent.rtF (Referent.fInt Syntax.w32)) (Syntax.tyRef (Syntax.named 3) Syntax.mut (Syntax.tyInt Syntax.w32)) 3 8 Row.off,
+) (List._∷_ (5, Rows'.sc-here (Row.sInt Syntax.w64)) (List._∷_ (
+  6,
+  Rows'.whole (Declared.row Quote.the-type),
+) (List._∷_ (7, Rows'.sc-here (Row.sInt Syntax.w64)) (List._∷_ (
+  8,
+  Rows'.sc-here (Row.sInt Syntax.w64),
+) (List._∷_ (9, Rows'.any-gone σ) (List._∷_ (
+  10,
+  Rows'.any-gone (Syntax.tyRef Syntax.erased Syntax.mut (Syntax.tyInt Syntax.w32)),
+) (List._∷_ (
+  11,
+  Rows'.any-gone (Syntax.tyStruct (List._∷_ 38 (List._∷_ 91 (List._∷_ 93 List.[]))) (Syntax.tcons (Syntax.tyRef Syntax.erased Syntax.mut (Syntax.tyInt Syntax.w32)) (Syntax.tcons (Syntax.tyInt Syntax.w64) Syntax.tnil))),
+) (List._∷_ (12, Rows'.any-gone (Syntax.tyRef Syntax.erased Syntax.mut (Syntax.tyInt Syntax.w32))) (List._∷_ (13, Rows'.any-gone (Syntax.tyStruct (List._∷_ 38 (List._∷_ 91 (List._∷_ 93 List.[]))) (Syntax.tcons (Syntax.tyRef Syntax.erased Syntax.mut (Syntax.tyInt Syntax.w32)) (Syntax.tcons (Syntax.tyInt Syntax.w64) Syntax.tnil)))) (List._∷_ (14, Rows'.any-gone Syntax.tyBool) (List._∷_ (15, Rows'.any-gone (Syntax.tyInt Syntax.w64)) List.[])))))))))))))))
 
 abbrev pub t32 : List.List Row.Entry
-t32 = List._∷_ (16, Rows'.any-gone Syntax.tyPtr) (List._∷_ ( 17, Rows'.any-gone σ,
-) (List._∷_ ( 18, Rows'.any-gone (Syntax.tyRef Syntax.erased Syntax.imm (Syntax.tyInt Syntax.w32)), ) (List._∷_ ( 19, Rows'.any-gone (Syntax.tyStruct (List._∷_ 38 (List._∷_ 91 (List._∷_ 93 List.[]))) (Syntax.tcons (Syntax.tyRef Syntax.erased Syntax.imm (Syntax.tyInt Syntax.w32)) (Syntax.tcons (Syntax.tyInt Syntax.w64) Syntax.tnil))), ) (List._∷_ (20, Rows'.any-gone Syntax.tyBool) (List._∷_ ( 21, Rows'.any-gone (Syntax.tyInt Syntax.w64), ) (List._∷_ (22, Rows'.any-gone Syntax.tyPtr) (List._∷_ ( 23, Rows'.whole T, ) (List._∷_ ( 24, Rows'.any-gone (Syntax.tyRef Syntax.erased Syntax.imm (Syntax.tyInt Syntax.w32)), ) (List._∷_ ( 25, Rows'.sslice (Referent.rtF (Referent.fInt Syntax.w32)) (Syntax.tyRef Syntax.erased Syntax.imm (Syntax.tyInt Syntax.w32)) 7, ) (List._∷_ ( 26, Relend.msptr (Referent.rtF (Referent.fInt Syntax.w32)) (Syntax.tyRef Syntax.erased Syntax.mut (Syntax.tyInt Syntax.w32)) 8, ) (List._∷_ ( 27, Rows'.any-gone (Syntax.tyStruct (List._∷_ 38 (List._∷_ 91 (List._∷_ 93 List.[]))) (Syntax.tcons (Syntax.tyRef Syntax.erased Syntax.mut (Syntax.tyInt Syntax.w32)) (Syntax.tcons (Syntax.tyInt Syntax.w64) Syntax.tnil))), ) (List._∷_ (28, Rows'.any-gone Syntax.tyPtr) (List._∷_ ( 29, Rows'.any-gone (Syntax.tyRef Syntax.erased Syntax.mut (Syntax.tyInt Syntax.w32)), ) (List._∷_ ( 30, Rows'.any-gone (Syntax.tyStruct (List._∷_ 38 (List._∷_ 91 (List._∷_ 93 List.[]))) (Syntax.tcons (Syntax.tyRef Syntax.erased Syntax.mut (Syntax.tyInt Syntax.w32)) (Syntax.tcons (Syntax.tyInt Syntax.w64) Syntax.tnil))), ) (List._∷_ ( 31, Rows'.any-gone (Syntax.tyRef Syntax.erased Syntax.mut (Syntax.tyInt Syntax.w32)), ) List.[])))))))))))))))
+t32 = List._∷_ (16, Rows'.any-gone Syntax.tyPtr) (List._∷_ (
+  17,
+  Rows'.any-gone σ,
+) (List._∷_ (18, Rows'.any-gone (Syntax.tyRef Syntax.erased Syntax.imm (Syntax.tyInt Syntax.w32))) (List._∷_ (19, Rows'.any-gone (Syntax.tyStruct (List._∷_ 38 (List._∷_ 91 (List._∷_ 93 List.[]))) (Syntax.tcons (Syntax.tyRef Syntax.erased Syntax.imm (Syntax.tyInt Syntax.w32)) (Syntax.tcons (Syntax.tyInt Syntax.w64) Syntax.tnil)))) (List._∷_ (20, Rows'.any-gone Syntax.tyBool) (List._∷_ (21, Rows'.any-gone (Syntax.tyInt Syntax.w64)) (List._∷_ (22, Rows'.any-gone Syntax.tyPtr) (List._∷_ (23, Rows'.whole T) (List._∷_ (24, Rows'.any-gone (Syntax.tyRef Syntax.erased Syntax.imm (Syntax.tyInt Syntax.w32))) (List._∷_ (25, Rows'.sslice (Referent.rtF (Referent.fInt Syntax.w32)) (Syntax.tyRef Syntax.erased Syntax.imm (Syntax.tyInt Syntax.w32)) 7) (List._∷_ (26, Relend.msptr (Referent.rtF (Referent.fInt Syntax.w32)) (Syntax.tyRef Syntax.erased Syntax.mut (Syntax.tyInt Syntax.w32)) 8) (List._∷_ (27, Rows'.any-gone (Syntax.tyStruct (List._∷_ 38 (List._∷_ 91 (List._∷_ 93 List.[]))) (Syntax.tcons (Syntax.tyRef Syntax.erased Syntax.mut (Syntax.tyInt Syntax.w32)) (Syntax.tcons (Syntax.tyInt Syntax.w64) Syntax.tnil)))) (List._∷_ (28, Rows'.any-gone Syntax.tyPtr) (List._∷_ (29, Rows'.any-gone (Syntax.tyRef Syntax.erased Syntax.mut (Syntax.tyInt Syntax.w32))) (List._∷_ (30, Rows'.any-gone (Syntax.tyStruct (List._∷_ 38 (List._∷_ 91 (List._∷_ 93 List.[]))) (Syntax.tcons (Syntax.tyRef Syntax.erased Syntax.mut (Syntax.tyInt Syntax.w32)) (Syntax.tcons (Syntax.tyInt Syntax.w64) Syntax.tnil)))) (List._∷_ (31, Rows'.any-gone (Syntax.tyRef Syntax.erased Syntax.mut (Syntax.tyInt Syntax.w32))) List.[])))))))))))))))
 
 abbrev pub t33 : List.List Row.Entry
-t33 = List._∷_ (16, Rows'.any-gone Syntax.tyPtr) (List._∷_ ( 17, Rows'.any-gone σ,
-) (List._∷_ ( 18, Rows'.any-gone (Syntax.tyRef Syntax.erased Syntax.imm (Syntax.tyInt Syntax.w32)), ) (List._∷_ ( 19, Rows'.any-gone (Syntax.tyStruct (List._∷_ 38 (List._∷_ 91 (List._∷_ 93 List.[]))) (Syntax.tcons (Syntax.tyRef Syntax.erased Syntax.imm (Syntax.tyInt Syntax.w32)) (Syntax.tcons (Syntax.tyInt Syntax.w64) Syntax.tnil))), ) (List._∷_ (20, Rows'.any-gone Syntax.tyBool) (List._∷_ ( 21, Rows'.any-gone (Syntax.tyInt Syntax.w64), ) (List._∷_ (22, Rows'.any-gone Syntax.tyPtr) (List._∷_ ( 23, Rows'.whole T, ) (List._∷_ ( 24, Rows'.any-gone (Syntax.tyRef Syntax.erased Syntax.imm (Syntax.tyInt Syntax.w32)), ) (List._∷_ ( 25, Rows'.sslice (Referent.rtF (Referent.fInt Syntax.w32)) (Syntax.tyRef Syntax.erased Syntax.imm (Syntax.tyInt Syntax.w32)) 7, ) (List._∷_ ( 26, Rows'.any-gone (Syntax.tyRef Syntax.erased Syntax.mut (Syntax.tyInt Syntax.w32)), ) (List._∷_ ( 27, Mut.mslice (Referent.rtF (Referent.fInt Syntax.w32)) (Syntax.tyRef Syntax.erased Syntax.mut (Syntax.tyInt Syntax.w32)) 8, ) (List._∷_ (28, Rows'.any-gone Syntax.tyPtr) (List._∷_ ( 29, Rows'.any-gone (Syntax.tyRef Syntax.erased Syntax.mut (Syntax.tyInt Syntax.w32)), ) (List._∷_ ( 30, Rows'.any-gone (Syntax.tyStruct (List._∷_ 38 (List._∷_ 91 (List._∷_ 93 List.[]))) (Syntax.tcons (Syntax.tyRef Syntax.erased Syntax.mut (Syntax.tyInt Syntax.w32)) (Syntax.tcons (Syntax.tyInt Syntax.w64) Syntax.tnil))), ) (List._∷_ ( 31, Rows'.any-gone (Syntax.tyRef Syntax.erased Syntax.mut (Syntax.tyInt Syntax.w32)), ) List.[])))))))))))))))
+t33 = List._∷_ (16, Rows'.any-gone Syntax.tyPtr) (List._∷_ (
+  17,
+  Rows'.any-gone σ,
+) (List._∷_ (18, Rows'.any-gone (Syntax.tyRef Syntax.erased Syntax.imm (Syntax.tyInt Syntax.w32))) (List._∷_ (19, Rows'.any-gone (Syntax.tyStruct (List._∷_ 38 (List._∷_ 91 (List._∷_ 93 List.[]))) (Syntax.tcons (Syntax.tyRef Syntax.erased Syntax.imm (Syntax.tyInt Syntax.w32)) (Syntax.tcons (Syntax.tyInt Syntax.w64) Syntax.tnil)))) (List._∷_ (20, Rows'.any-gone Syntax.tyBool) (List._∷_ (21, Rows'.any-gone (Syntax.tyInt Syntax.w64)) (List._∷_ (22, Rows'.any-gone Syntax.tyPtr) (List._∷_ (23, Rows'.whole T) (List._∷_ (24, Rows'.any-gone (Syntax.tyRef Syntax.erased Syntax.imm (Syntax.tyInt Syntax.w32))) (List._∷_ (25, Rows'.sslice (Referent.rtF (Referent.fInt Syntax.w32)) (Syntax.tyRef Syntax.erased Syntax.imm (Syntax.tyInt Syntax.w32)) 7) (List._∷_ (26, Rows'.any-gone (Syntax.tyRef Syntax.erased Syntax.mut (Syntax.tyInt Syntax.w32))) (List._∷_ (27, Mut.mslice (Referent.rtF (Referent.fInt Syntax.w32)) (Syntax.tyRef Syntax.erased Syntax.mut (Syntax.tyInt Syntax.w32)) 8) (List._∷_ (28, Rows'.any-gone Syntax.tyPtr) (List._∷_ (29, Rows'.any-gone (Syntax.tyRef Syntax.erased Syntax.mut (Syntax.tyInt Syntax.w32))) (List._∷_ (30, Rows'.any-gone (Syntax.tyStruct (List._∷_ 38 (List._∷_ 91 (List._∷_ 93 List.[]))) (Syntax.tcons (Syntax.tyRef Syntax.erased Syntax.mut (Syntax.tyInt Syntax.w32)) (Syntax.tcons (Syntax.tyInt Syntax.w64) Syntax.tnil)))) (List._∷_ (31, Rows'.any-gone (Syntax.tyRef Syntax.erased Syntax.mut (Syntax.tyInt Syntax.w32))) List.[])))))))))))))))
 
 abbrev pub t34 : List.List Row.Entry
-t34 = List._∷_ ( 0, Rows'.any-gone (Syntax.tyStruct (List._∷_ 102 (List._∷_ 105 (List._∷_ 114 (List._∷_ 109 (List._∷_ 58 (List._∷_ 58 (List._∷_ 81 (List._∷_ 117 (List._∷_ 111 (List._∷_ 116 (List._∷_ 101 List.[]))))))))))) (Syntax.tcons (Syntax.tyInt Syntax.w32) (Syntax.tcons (Syntax.tyInt Syntax.w64) (Syntax.tcons (Syntax.tyInt Syntax.w64) (Syntax.tcons (Syntax.tyInt Syntax.w32) Syntax.tnil))))),
-) (List._∷_ ( 1, Mut.mslice T τ 0,
-) (List._∷_ ( 2, Rows'.sslice (Referent.rtF (Referent.fInt Syntax.w8)) (Syntax.tyRef (Syntax.named 1) Syntax.imm (Syntax.tyInt Syntax.w8)) 1,
-) (List._∷_ ( 3, Reshare.mslice-owedS (Referent.rtF (Referent.fInt Syntax.w32)) (Syntax.tyRef (Syntax.named 2) Syntax.mut (Syntax.tyInt Syntax.w32)) 2 7 Row.off,
-) (List._∷_ ( 4, Relend.mslice-owed (Referent.rtF (Referent.fInt Syntax.w32)) (Syntax.tyRef (Syntax.named 3) Syntax.mut (Syntax.tyInt Syntax.w32)) 3 8 Row.off,
-) (List._∷_ (5, Rows'.sc-here (Row.sInt Syntax.w64)) (List._∷_ ( 6, Rows'.whole (Declared.row Quote.the-type),
-) (List._∷_ (7, Rows'.sc-here (Row.sInt Syntax.w64)) (List._∷_ ( 8, Rows'.sc-here (Row.sInt Syntax.w64),
-) (List._∷_ (9, Rows'.whole T) (List._∷_ ( 10, Rows'.any-gone (Syntax.tyRef Syntax.erased Syntax.mut (Syntax.tyInt Syntax.w32)),
-) (List._∷_ ( 11, Rows'.any-gone (Syntax.tyStruct (List._∷_ 38 (List._∷_ 91 (List._∷_ 93 List.[]))) (Syntax.tcons (Syntax.tyRef Syntax.erased Syntax.mut (Syntax.tyInt Syntax.w32)) (Syntax.tcons (Syntax.tyInt Syntax.w64) Syntax.tnil))),
-) (List._∷_ ( 12, Rows'.any-gone (Syntax.tyRef Syntax.erased Syntax.mut (Syntax.tyInt Syntax.w32)), ) (List._∷_ ( 13, Rows'.any-gone (Syntax.tyStruct (List._∷_ 38 (List._∷_ 91 (List._∷_ 93 List.[]))) (Syntax.tcons (Syntax.tyRef Syntax.erased Syntax.mut (Syntax.tyInt Syntax.w32)) (Syntax.tcons (Syntax.tyInt Syntax.w64) Syntax.tnil))), ) (List._∷_ (14, Rows'.any-gone Syntax.tyBool) (List._∷_ ( 15, Rows'.any-gone (Syntax.tyInt Syntax.w64), ) List.[])))))))))))))))
+t34 = List._∷_ (
+  0,
+  Rows'.any-gone (Syntax.tyStruct (List._∷_ 102 (List._∷_ 105 (List._∷_ 114 (List._∷_ 109 (List._∷_ 58 (List._∷_ 58 (List._∷_ 81 (List._∷_ 117 (List._∷_ 111 (List._∷_ 116 (List._∷_ 101 List.[]))))))))))) (Syntax.tcons (Syntax.tyInt Syntax.w32) (Syntax.tcons (Syntax.tyInt Syntax.w64) (Syntax.tcons (Syntax.tyInt Syntax.w64) (Syntax.tcons (Syntax.tyInt Syntax.w32) Syntax.tnil))))),
+) (List._∷_ (
+  1,
+  Mut.mslice T τ 0,
+) (List._∷_ (
+  2,
+  Rows'.sslice (Referent.rtF (Referent.fInt Syntax.w8)) (Syntax.tyRef (Syntax.named 1) Syntax.imm (Syntax.tyInt Syntax.w8)) 1,
+) (List._∷_ (
+  3,
+  Reshare.mslice-owedS (Referent.rtF (Referent.fInt Syntax.w32)) (Syntax.tyRef (Syntax.named 2) Syntax.mut (Syntax.tyInt Syntax.w32)) 2 7 Row.off,
+) (List._∷_ (
+  4,
+  Relend.mslice-owed (Referent.rtF (Referent.fInt Syntax.w32)) (Syntax.tyRef (Syntax.named 3) Syntax.mut (Syntax.tyInt Syntax.w32)) 3 8 Row.off,
+) (List._∷_ (5, Rows'.sc-here (Row.sInt Syntax.w64)) (List._∷_ (
+  6,
+  Rows'.whole (Declared.row Quote.the-type),
+) (List._∷_ (7, Rows'.sc-here (Row.sInt Syntax.w64)) (List._∷_ (
+  8,
+  Rows'.sc-here (Row.sInt Syntax.w64),
+) (List._∷_ (9, Rows'.whole T) (List._∷_ (
+  10,
+  Rows'.any-gone (Syntax.tyRef Syntax.erased Syntax.mut (Syntax.tyInt Syntax.w32)),
+) (List._∷_ (
+  11,
+  Rows'.any-gone (Syntax.tyStruct (List._∷_ 38 (List._∷_ 91 (List._∷_ 93 List.[]))) (Syntax.tcons (Syntax.tyRef Syntax.erased Syntax.mut (Syntax.tyInt Syntax.w32)) (Syntax.tcons (Syntax.tyInt Syntax.w64) Syntax.tnil))),
+) (List._∷_ (12, Rows'.any-gone (Syntax.tyRef Syntax.erased Syntax.mut (Syntax.tyInt Syntax.w32))) (List._∷_ (13, Rows'.any-gone (Syntax.tyStruct (List._∷_ 38 (List._∷_ 91 (List._∷_ 93 List.[]))) (Syntax.tcons (Syntax.tyRef Syntax.erased Syntax.mut (Syntax.tyInt Syntax.w32)) (Syntax.tcons (Syntax.tyInt Syntax.w64) Syntax.tnil)))) (List._∷_ (14, Rows'.any-gone Syntax.tyBool) (List._∷_ (15, Rows'.any-gone (Syntax.tyInt Syntax.w64)) List.[])))))))))))))))
 
 abbrev pub t35 : List.List Row.Entry
-t35 = List._∷_ (16, Rows'.any-gone Syntax.tyPtr) (List._∷_ ( 17, Rows'.any-gone σ,
-) (List._∷_ ( 18, Rows'.any-gone (Syntax.tyRef Syntax.erased Syntax.imm (Syntax.tyInt Syntax.w32)), ) (List._∷_ ( 19, Rows'.any-gone (Syntax.tyStruct (List._∷_ 38 (List._∷_ 91 (List._∷_ 93 List.[]))) (Syntax.tcons (Syntax.tyRef Syntax.erased Syntax.imm (Syntax.tyInt Syntax.w32)) (Syntax.tcons (Syntax.tyInt Syntax.w64) Syntax.tnil))), ) (List._∷_ (20, Rows'.any-gone Syntax.tyBool) (List._∷_ ( 21, Rows'.any-gone (Syntax.tyInt Syntax.w64), ) (List._∷_ (22, Rows'.any-gone Syntax.tyPtr) (List._∷_ ( 23, Rows'.whole T, ) (List._∷_ ( 24, Rows'.any-gone (Syntax.tyRef Syntax.erased Syntax.imm (Syntax.tyInt Syntax.w32)), ) (List._∷_ ( 25, Rows'.sslice (Referent.rtF (Referent.fInt Syntax.w32)) (Syntax.tyRef Syntax.erased Syntax.imm (Syntax.tyInt Syntax.w32)) 7, ) (List._∷_ ( 26, Rows'.any-gone (Syntax.tyRef Syntax.erased Syntax.mut (Syntax.tyInt Syntax.w32)), ) (List._∷_ ( 27, Mut.msleft (Referent.rtF (Referent.fInt Syntax.w32)) (Syntax.tyRef Syntax.erased Syntax.mut (Syntax.tyInt Syntax.w32)), ) (List._∷_ (28, Rows'.any-gone Syntax.tyPtr) (List._∷_ ( 29, Rows'.any-gone (Syntax.tyRef Syntax.erased Syntax.mut (Syntax.tyInt Syntax.w32)), ) (List._∷_ ( 30, Rows'.any-gone (Syntax.tyStruct (List._∷_ 38 (List._∷_ 91 (List._∷_ 93 List.[]))) (Syntax.tcons (Syntax.tyRef Syntax.erased Syntax.mut (Syntax.tyInt Syntax.w32)) (Syntax.tcons (Syntax.tyInt Syntax.w64) Syntax.tnil))), ) (List._∷_ ( 31, Rows'.any-gone (Syntax.tyRef Syntax.erased Syntax.mut (Syntax.tyInt Syntax.w32)), ) List.[])))))))))))))))
+t35 = List._∷_ (16, Rows'.any-gone Syntax.tyPtr) (List._∷_ (
+  17,
+  Rows'.any-gone σ,
+) (List._∷_ (18, Rows'.any-gone (Syntax.tyRef Syntax.erased Syntax.imm (Syntax.tyInt Syntax.w32))) (List._∷_ (19, Rows'.any-gone (Syntax.tyStruct (List._∷_ 38 (List._∷_ 91 (List._∷_ 93 List.[]))) (Syntax.tcons (Syntax.tyRef Syntax.erased Syntax.imm (Syntax.tyInt Syntax.w32)) (Syntax.tcons (Syntax.tyInt Syntax.w64) Syntax.tnil)))) (List._∷_ (20, Rows'.any-gone Syntax.tyBool) (List._∷_ (21, Rows'.any-gone (Syntax.tyInt Syntax.w64)) (List._∷_ (22, Rows'.any-gone Syntax.tyPtr) (List._∷_ (23, Rows'.whole T) (List._∷_ (24, Rows'.any-gone (Syntax.tyRef Syntax.erased Syntax.imm (Syntax.tyInt Syntax.w32))) (List._∷_ (25, Rows'.sslice (Referent.rtF (Referent.fInt Syntax.w32)) (Syntax.tyRef Syntax.erased Syntax.imm (Syntax.tyInt Syntax.w32)) 7) (List._∷_ (26, Rows'.any-gone (Syntax.tyRef Syntax.erased Syntax.mut (Syntax.tyInt Syntax.w32))) (List._∷_ (27, Mut.msleft (Referent.rtF (Referent.fInt Syntax.w32)) (Syntax.tyRef Syntax.erased Syntax.mut (Syntax.tyInt Syntax.w32))) (List._∷_ (28, Rows'.any-gone Syntax.tyPtr) (List._∷_ (29, Rows'.any-gone (Syntax.tyRef Syntax.erased Syntax.mut (Syntax.tyInt Syntax.w32))) (List._∷_ (30, Rows'.any-gone (Syntax.tyStruct (List._∷_ 38 (List._∷_ 91 (List._∷_ 93 List.[]))) (Syntax.tcons (Syntax.tyRef Syntax.erased Syntax.mut (Syntax.tyInt Syntax.w32)) (Syntax.tcons (Syntax.tyInt Syntax.w64) Syntax.tnil)))) (List._∷_ (31, Rows'.any-gone (Syntax.tyRef Syntax.erased Syntax.mut (Syntax.tyInt Syntax.w32))) List.[])))))))))))))))
 
 abbrev pub t36 : List.List Row.Entry
-t36 = List._∷_ (16, Rows'.any-gone Syntax.tyPtr) (List._∷_ ( 17, Rows'.any-gone σ,
-) (List._∷_ ( 18, Rows'.any-gone (Syntax.tyRef Syntax.erased Syntax.imm (Syntax.tyInt Syntax.w32)), ) (List._∷_ ( 19, Rows'.any-gone (Syntax.tyStruct (List._∷_ 38 (List._∷_ 91 (List._∷_ 93 List.[]))) (Syntax.tcons (Syntax.tyRef Syntax.erased Syntax.imm (Syntax.tyInt Syntax.w32)) (Syntax.tcons (Syntax.tyInt Syntax.w64) Syntax.tnil))), ) (List._∷_ (20, Rows'.any-gone Syntax.tyBool) (List._∷_ ( 21, Rows'.any-gone (Syntax.tyInt Syntax.w64), ) (List._∷_ (22, Rows'.any-gone Syntax.tyPtr) (List._∷_ ( 23, Rows'.whole T, ) (List._∷_ ( 24, Rows'.any-gone (Syntax.tyRef Syntax.erased Syntax.imm (Syntax.tyInt Syntax.w32)), ) (List._∷_ ( 25, Rows'.any-gone (Syntax.tyStruct (List._∷_ 38 (List._∷_ 91 (List._∷_ 93 List.[]))) (Syntax.tcons (Syntax.tyRef Syntax.erased Syntax.imm (Syntax.tyInt Syntax.w32)) (Syntax.tcons (Syntax.tyInt Syntax.w64) Syntax.tnil))), ) (List._∷_ ( 26, Rows'.any-gone (Syntax.tyRef Syntax.erased Syntax.mut (Syntax.tyInt Syntax.w32)), ) (List._∷_ ( 27, Mut.msleft (Referent.rtF (Referent.fInt Syntax.w32)) (Syntax.tyRef Syntax.erased Syntax.mut (Syntax.tyInt Syntax.w32)), ) (List._∷_ (28, Rows'.any-gone Syntax.tyPtr) (List._∷_ ( 29, Rows'.any-gone (Syntax.tyRef Syntax.erased Syntax.mut (Syntax.tyInt Syntax.w32)), ) (List._∷_ ( 30, Rows'.any-gone (Syntax.tyStruct (List._∷_ 38 (List._∷_ 91 (List._∷_ 93 List.[]))) (Syntax.tcons (Syntax.tyRef Syntax.erased Syntax.mut (Syntax.tyInt Syntax.w32)) (Syntax.tcons (Syntax.tyInt Syntax.w64) Syntax.tnil))), ) (List._∷_ ( 31, Rows'.any-gone (Syntax.tyRef Syntax.erased Syntax.mut (Syntax.tyInt Syntax.w32)), ) List.[])))))))))))))))
+t36 = List._∷_ (16, Rows'.any-gone Syntax.tyPtr) (List._∷_ (
+  17,
+  Rows'.any-gone σ,
+) (List._∷_ (18, Rows'.any-gone (Syntax.tyRef Syntax.erased Syntax.imm (Syntax.tyInt Syntax.w32))) (List._∷_ (19, Rows'.any-gone (Syntax.tyStruct (List._∷_ 38 (List._∷_ 91 (List._∷_ 93 List.[]))) (Syntax.tcons (Syntax.tyRef Syntax.erased Syntax.imm (Syntax.tyInt Syntax.w32)) (Syntax.tcons (Syntax.tyInt Syntax.w64) Syntax.tnil)))) (List._∷_ (20, Rows'.any-gone Syntax.tyBool) (List._∷_ (21, Rows'.any-gone (Syntax.tyInt Syntax.w64)) (List._∷_ (22, Rows'.any-gone Syntax.tyPtr) (List._∷_ (23, Rows'.whole T) (List._∷_ (24, Rows'.any-gone (Syntax.tyRef Syntax.erased Syntax.imm (Syntax.tyInt Syntax.w32))) (List._∷_ (25, Rows'.any-gone (Syntax.tyStruct (List._∷_ 38 (List._∷_ 91 (List._∷_ 93 List.[]))) (Syntax.tcons (Syntax.tyRef Syntax.erased Syntax.imm (Syntax.tyInt Syntax.w32)) (Syntax.tcons (Syntax.tyInt Syntax.w64) Syntax.tnil)))) (List._∷_ (26, Rows'.any-gone (Syntax.tyRef Syntax.erased Syntax.mut (Syntax.tyInt Syntax.w32))) (List._∷_ (27, Mut.msleft (Referent.rtF (Referent.fInt Syntax.w32)) (Syntax.tyRef Syntax.erased Syntax.mut (Syntax.tyInt Syntax.w32))) (List._∷_ (28, Rows'.any-gone Syntax.tyPtr) (List._∷_ (29, Rows'.any-gone (Syntax.tyRef Syntax.erased Syntax.mut (Syntax.tyInt Syntax.w32))) (List._∷_ (30, Rows'.any-gone (Syntax.tyStruct (List._∷_ 38 (List._∷_ 91 (List._∷_ 93 List.[]))) (Syntax.tcons (Syntax.tyRef Syntax.erased Syntax.mut (Syntax.tyInt Syntax.w32)) (Syntax.tcons (Syntax.tyInt Syntax.w64) Syntax.tnil)))) (List._∷_ (31, Rows'.any-gone (Syntax.tyRef Syntax.erased Syntax.mut (Syntax.tyInt Syntax.w32))) List.[])))))))))))))))
 
 abbrev pub t37 : List.List Row.Entry
-t37 = List._∷_ (16, Rows'.any-gone Syntax.tyPtr) (List._∷_ ( 17, Rows'.any-gone σ,
-) (List._∷_ ( 18, Rows'.any-gone (Syntax.tyRef Syntax.erased Syntax.imm (Syntax.tyInt Syntax.w32)), ) (List._∷_ ( 19, Rows'.any-gone (Syntax.tyStruct (List._∷_ 38 (List._∷_ 91 (List._∷_ 93 List.[]))) (Syntax.tcons (Syntax.tyRef Syntax.erased Syntax.imm (Syntax.tyInt Syntax.w32)) (Syntax.tcons (Syntax.tyInt Syntax.w64) Syntax.tnil))), ) (List._∷_ (20, Rows'.any-gone Syntax.tyBool) (List._∷_ ( 21, Rows'.any-gone (Syntax.tyInt Syntax.w64), ) (List._∷_ (22, Rows'.any-gone Syntax.tyPtr) (List._∷_ ( 23, Rows'.any-gone σ, ) (List._∷_ ( 24, Rows'.any-gone (Syntax.tyRef Syntax.erased Syntax.imm (Syntax.tyInt Syntax.w32)), ) (List._∷_ ( 25, Rows'.any-gone (Syntax.tyStruct (List._∷_ 38 (List._∷_ 91 (List._∷_ 93 List.[]))) (Syntax.tcons (Syntax.tyRef Syntax.erased Syntax.imm (Syntax.tyInt Syntax.w32)) (Syntax.tcons (Syntax.tyInt Syntax.w64) Syntax.tnil))), ) (List._∷_ ( 26, Rows'.any-gone (Syntax.tyRef Syntax.erased Syntax.mut (Syntax.tyInt Syntax.w32)), ) (List._∷_ ( 27, Mut.msleft (Referent.rtF (Referent.fInt Syntax.w32)) (Syntax.tyRef Syntax.erased Syntax.mut (Syntax.tyInt Syntax.w32)), ) (List._∷_ (28, Rows'.any-gone Syntax.tyPtr) (List._∷_ ( 29, Rows'.any-gone (Syntax.tyRef Syntax.erased Syntax.mut (Syntax.tyInt Syntax.w32)), ) (List._∷_ ( 30, Rows'.any-gone (Syntax.tyStruct (List._∷_ 38 (List._∷_ 91 (List._∷_ 93 List.[]))) (Syntax.tcons (Syntax.tyRef Syntax.erased Syntax.mut (Syntax.tyInt Syntax.w32)) (Syntax.tcons (Syntax.tyInt Syntax.w64) Syntax.tnil))), ) (List._∷_ ( 31, Rows'.any-gone (Syntax.tyRef Syntax.erased Syntax.mut (Syntax.tyInt Syntax.w32)), ) List.[])))))))))))))))
+t37 = List._∷_ (16, Rows'.any-gone Syntax.tyPtr) (List._∷_ (
+  17,
+  Rows'.any-gone σ,
+) (List._∷_ (18, Rows'.any-gone (Syntax.tyRef Syntax.erased Syntax.imm (Syntax.tyInt Syntax.w32))) (List._∷_ (19, Rows'.any-gone (Syntax.tyStruct (List._∷_ 38 (List._∷_ 91 (List._∷_ 93 List.[]))) (Syntax.tcons (Syntax.tyRef Syntax.erased Syntax.imm (Syntax.tyInt Syntax.w32)) (Syntax.tcons (Syntax.tyInt Syntax.w64) Syntax.tnil)))) (List._∷_ (20, Rows'.any-gone Syntax.tyBool) (List._∷_ (21, Rows'.any-gone (Syntax.tyInt Syntax.w64)) (List._∷_ (22, Rows'.any-gone Syntax.tyPtr) (List._∷_ (23, Rows'.any-gone σ) (List._∷_ (24, Rows'.any-gone (Syntax.tyRef Syntax.erased Syntax.imm (Syntax.tyInt Syntax.w32))) (List._∷_ (25, Rows'.any-gone (Syntax.tyStruct (List._∷_ 38 (List._∷_ 91 (List._∷_ 93 List.[]))) (Syntax.tcons (Syntax.tyRef Syntax.erased Syntax.imm (Syntax.tyInt Syntax.w32)) (Syntax.tcons (Syntax.tyInt Syntax.w64) Syntax.tnil)))) (List._∷_ (26, Rows'.any-gone (Syntax.tyRef Syntax.erased Syntax.mut (Syntax.tyInt Syntax.w32))) (List._∷_ (27, Mut.msleft (Referent.rtF (Referent.fInt Syntax.w32)) (Syntax.tyRef Syntax.erased Syntax.mut (Syntax.tyInt Syntax.w32))) (List._∷_ (28, Rows'.any-gone Syntax.tyPtr) (List._∷_ (29, Rows'.any-gone (Syntax.tyRef Syntax.erased Syntax.mut (Syntax.tyInt Syntax.w32))) (List._∷_ (30, Rows'.any-gone (Syntax.tyStruct (List._∷_ 38 (List._∷_ 91 (List._∷_ 93 List.[]))) (Syntax.tcons (Syntax.tyRef Syntax.erased Syntax.mut (Syntax.tyInt Syntax.w32)) (Syntax.tcons (Syntax.tyInt Syntax.w64) Syntax.tnil)))) (List._∷_ (31, Rows'.any-gone (Syntax.tyRef Syntax.erased Syntax.mut (Syntax.tyInt Syntax.w32))) List.[])))))))))))))))
 
 abbrev pub t38 : List.List Row.Entry
-t38 = List._∷_ ( 0, Rows'.any-gone (Syntax.tyStruct (List._∷_ 102 (List._∷_ 105 (List._∷_ 114 (List._∷_ 109 (List._∷_ 58 (List._∷_ 58 (List._∷_ 81 (List._∷_ 117 (List._∷_ 111 (List._∷_ 116 (List._∷_ 101 List.[]))))))))))) (Syntax.tcons (Syntax.tyInt Syntax.w32) (Syntax.tcons (Syntax.tyInt Syntax.w64) (Syntax.tcons (Syntax.tyInt Syntax.w64) (Syntax.tcons (Syntax.tyInt Syntax.w32) Syntax.tnil))))),
-) (List._∷_ ( 1, Mut.mslice T τ 0,
-) (List._∷_ ( 2, Rows'.sslice (Referent.rtF (Referent.fInt Syntax.w8)) (Syntax.tyRef (Syntax.named 1) Syntax.imm (Syntax.tyInt Syntax.w8)) 1,
-) (List._∷_ ( 3, Mut.mslice (Referent.rtF (Referent.fInt Syntax.w32)) (Syntax.tyRef (Syntax.named 2) Syntax.mut (Syntax.tyInt Syntax.w32)) 2,
-) (List._∷_ ( 4, Relend.mslice-owed (Referent.rtF (Referent.fInt Syntax.w32)) (Syntax.tyRef (Syntax.named 3) Syntax.mut (Syntax.tyInt Syntax.w32)) 3 8 Row.off,
-) (List._∷_ (5, Rows'.sc-here (Row.sInt Syntax.w64)) (List._∷_ ( 6, Rows'.whole (Declared.row Quote.the-type),
-) (List._∷_ (7, Rows'.sc-here (Row.sInt Syntax.w64)) (List._∷_ ( 8, Rows'.sc-here (Row.sInt Syntax.w64),
-) (List._∷_ (9, Rows'.whole T) (List._∷_ ( 10, Rows'.any-gone (Syntax.tyRef Syntax.erased Syntax.mut (Syntax.tyInt Syntax.w32)),
-) (List._∷_ ( 11, Rows'.any-gone (Syntax.tyStruct (List._∷_ 38 (List._∷_ 91 (List._∷_ 93 List.[]))) (Syntax.tcons (Syntax.tyRef Syntax.erased Syntax.mut (Syntax.tyInt Syntax.w32)) (Syntax.tcons (Syntax.tyInt Syntax.w64) Syntax.tnil))),
-) (List._∷_ ( 12, Rows'.any-gone (Syntax.tyRef Syntax.erased Syntax.mut (Syntax.tyInt Syntax.w32)), ) (List._∷_ ( 13, Rows'.any-gone (Syntax.tyStruct (List._∷_ 38 (List._∷_ 91 (List._∷_ 93 List.[]))) (Syntax.tcons (Syntax.tyRef Syntax.erased Syntax.mut (Syntax.tyInt Syntax.w32)) (Syntax.tcons (Syntax.tyInt Syntax.w64) Syntax.tnil))), ) (List._∷_ (14, Rows'.any-gone Syntax.tyBool) (List._∷_ ( 15, Rows'.any-gone (Syntax.tyInt Syntax.w64), ) List.[])))))))))))))))
+t38 = List._∷_ (
+  0,
+  Rows'.any-gone (Syntax.tyStruct (List._∷_ 102 (List._∷_ 105 (List._∷_ 114 (List._∷_ 109 (List._∷_ 58 (List._∷_ 58 (List._∷_ 81 (List._∷_ 117 (List._∷_ 111 (List._∷_ 116 (List._∷_ 101 List.[]))))))))))) (Syntax.tcons (Syntax.tyInt Syntax.w32) (Syntax.tcons (Syntax.tyInt Syntax.w64) (Syntax.tcons (Syntax.tyInt Syntax.w64) (Syntax.tcons (Syntax.tyInt Syntax.w32) Syntax.tnil))))),
+) (List._∷_ (
+  1,
+  Mut.mslice T τ 0,
+) (List._∷_ (
+  2,
+  Rows'.sslice (Referent.rtF (Referent.fInt Syntax.w8)) (Syntax.tyRef (Syntax.named 1) Syntax.imm (Syntax.tyInt Syntax.w8)) 1,
+) (List._∷_ (
+  3,
+  Mut.mslice (Referent.rtF (Referent.fInt Syntax.w32)) (Syntax.tyRef (Syntax.named 2) Syntax.mut (Syntax.tyInt Syntax.w32)) 2,
+) (List._∷_ (
+  4,
+  Relend.mslice-owed (Referent.rtF (Referent.fInt Syntax.w32)) (Syntax.tyRef (Syntax.named 3) Syntax.mut (Syntax.tyInt Syntax.w32)) 3 8 Row.off,
+) (List._∷_ (5, Rows'.sc-here (Row.sInt Syntax.w64)) (List._∷_ (
+  6,
+  Rows'.whole (Declared.row Quote.the-type),
+) (List._∷_ (7, Rows'.sc-here (Row.sInt Syntax.w64)) (List._∷_ (
+  8,
+  Rows'.sc-here (Row.sInt Syntax.w64),
+) (List._∷_ (9, Rows'.whole T) (List._∷_ (
+  10,
+  Rows'.any-gone (Syntax.tyRef Syntax.erased Syntax.mut (Syntax.tyInt Syntax.w32)),
+) (List._∷_ (
+  11,
+  Rows'.any-gone (Syntax.tyStruct (List._∷_ 38 (List._∷_ 91 (List._∷_ 93 List.[]))) (Syntax.tcons (Syntax.tyRef Syntax.erased Syntax.mut (Syntax.tyInt Syntax.w32)) (Syntax.tcons (Syntax.tyInt Syntax.w64) Syntax.tnil))),
+) (List._∷_ (12, Rows'.any-gone (Syntax.tyRef Syntax.erased Syntax.mut (Syntax.tyInt Syntax.w32))) (List._∷_ (13, Rows'.any-gone (Syntax.tyStruct (List._∷_ 38 (List._∷_ 91 (List._∷_ 93 List.[]))) (Syntax.tcons (Syntax.tyRef Syntax.erased Syntax.mut (Syntax.tyInt Syntax.w32)) (Syntax.tcons (Syntax.tyInt Syntax.w64) Syntax.tnil)))) (List._∷_ (14, Rows'.any-gone Syntax.tyBool) (List._∷_ (15, Rows'.any-gone (Syntax.tyInt Syntax.w64)) List.[])))))))))))))))
 
 abbrev pub t39 : List.List Row.Entry
-t39 = List._∷_ ( 0, Rows'.any-gone (Syntax.tyStruct (List._∷_ 102 (List._∷_ 105 (List._∷_ 114 (List._∷_ 109 (List._∷_ 58 (List._∷_ 58 (List._∷_ 81 (List._∷_ 117 (List._∷_ 111 (List._∷_ 116 (List._∷_ 101 List.[]))))))))))) (Syntax.tcons (Syntax.tyInt Syntax.w32) (Syntax.tcons (Syntax.tyInt Syntax.w64) (Syntax.tcons (Syntax.tyInt Syntax.w64) (Syntax.tcons (Syntax.tyInt Syntax.w32) Syntax.tnil))))),
-) (List._∷_ ( 1, Mut.mslice T τ 0,
-) (List._∷_ ( 2, Rows'.sslice (Referent.rtF (Referent.fInt Syntax.w8)) (Syntax.tyRef (Syntax.named 1) Syntax.imm (Syntax.tyInt Syntax.w8)) 1,
-) (List._∷_ ( 3, Mut.mslice (Referent.rtF (Referent.fInt Syntax.w32)) (Syntax.tyRef (Syntax.named 2) Syntax.mut (Syntax.tyInt Syntax.w32)) 2,
-) (List._∷_ ( 4, Mut.mslice (Referent.rtF (Referent.fInt Syntax.w32)) (Syntax.tyRef (Syntax.named 3) Syntax.mut (Syntax.tyInt Syntax.w32)) 3,
-) (List._∷_ (5, Rows'.sc-here (Row.sInt Syntax.w64)) (List._∷_ ( 6, Rows'.whole (Declared.row Quote.the-type),
-) (List._∷_ (7, Rows'.sc-here (Row.sInt Syntax.w64)) (List._∷_ ( 8, Rows'.sc-here (Row.sInt Syntax.w64),
-) (List._∷_ (9, Rows'.whole T) (List._∷_ ( 10, Rows'.any-gone (Syntax.tyRef Syntax.erased Syntax.mut (Syntax.tyInt Syntax.w32)),
-) (List._∷_ ( 11, Rows'.any-gone (Syntax.tyStruct (List._∷_ 38 (List._∷_ 91 (List._∷_ 93 List.[]))) (Syntax.tcons (Syntax.tyRef Syntax.erased Syntax.mut (Syntax.tyInt Syntax.w32)) (Syntax.tcons (Syntax.tyInt Syntax.w64) Syntax.tnil))),
-) (List._∷_ ( 12, Rows'.any-gone (Syntax.tyRef Syntax.erased Syntax.mut (Syntax.tyInt Syntax.w32)), ) (List._∷_ ( 13, Rows'.any-gone (Syntax.tyStruct (List._∷_ 38 (List._∷_ 91 (List._∷_ 93 List.[]))) (Syntax.tcons (Syntax.tyRef Syntax.erased Syntax.mut (Syntax.tyInt Syntax.w32)) (Syntax.tcons (Syntax.tyInt Syntax.w64) Syntax.tnil))), ) (List._∷_ (14, Rows'.any-gone Syntax.tyBool) (List._∷_ ( 15, Rows'.any-gone (Syntax.tyInt Syntax.w64), ) List.[])))))))))))))))
+t39 = List._∷_ (
+  0,
+  Rows'.any-gone (Syntax.tyStruct (List._∷_ 102 (List._∷_ 105 (List._∷_ 114 (List._∷_ 109 (List._∷_ 58 (List._∷_ 58 (List._∷_ 81 (List._∷_ 117 (List._∷_ 111 (List._∷_ 116 (List._∷_ 101 List.[]))))))))))) (Syntax.tcons (Syntax.tyInt Syntax.w32) (Syntax.tcons (Syntax.tyInt Syntax.w64) (Syntax.tcons (Syntax.tyInt Syntax.w64) (Syntax.tcons (Syntax.tyInt Syntax.w32) Syntax.tnil))))),
+) (List._∷_ (
+  1,
+  Mut.mslice T τ 0,
+) (List._∷_ (
+  2,
+  Rows'.sslice (Referent.rtF (Referent.fInt Syntax.w8)) (Syntax.tyRef (Syntax.named 1) Syntax.imm (Syntax.tyInt Syntax.w8)) 1,
+) (List._∷_ (
+  3,
+  Mut.mslice (Referent.rtF (Referent.fInt Syntax.w32)) (Syntax.tyRef (Syntax.named 2) Syntax.mut (Syntax.tyInt Syntax.w32)) 2,
+) (List._∷_ (
+  4,
+  Mut.mslice (Referent.rtF (Referent.fInt Syntax.w32)) (Syntax.tyRef (Syntax.named 3) Syntax.mut (Syntax.tyInt Syntax.w32)) 3,
+) (List._∷_ (5, Rows'.sc-here (Row.sInt Syntax.w64)) (List._∷_ (
+  6,
+  Rows'.whole (Declared.row Quote.the-type),
+) (List._∷_ (7, Rows'.sc-here (Row.sInt Syntax.w64)) (List._∷_ (
+  8,
+  Rows'.sc-here (Row.sInt Syntax.w64),
+) (List._∷_ (9, Rows'.whole T) (List._∷_ (
+  10,
+  Rows'.any-gone (Syntax.tyRef Syntax.erased Syntax.mut (Syntax.tyInt Syntax.w32)),
+) (List._∷_ (
+  11,
+  Rows'.any-gone (Syntax.tyStruct (List._∷_ 38 (List._∷_ 91 (List._∷_ 93 List.[]))) (Syntax.tcons (Syntax.tyRef Syntax.erased Syntax.mut (Syntax.tyInt Syntax.w32)) (Syntax.tcons (Syntax.tyInt Syntax.w64) Syntax.tnil))),
+) (List._∷_ (12, Rows'.any-gone (Syntax.tyRef Syntax.erased Syntax.mut (Syntax.tyInt Syntax.w32))) (List._∷_ (13, Rows'.any-gone (Syntax.tyStruct (List._∷_ 38 (List._∷_ 91 (List._∷_ 93 List.[]))) (Syntax.tcons (Syntax.tyRef Syntax.erased Syntax.mut (Syntax.tyInt Syntax.w32)) (Syntax.tcons (Syntax.tyInt Syntax.w64) Syntax.tnil)))) (List._∷_ (14, Rows'.any-gone Syntax.tyBool) (List._∷_ (15, Rows'.any-gone (Syntax.tyInt Syntax.w64)) List.[])))))))))))))))
 
 abbrev pub t40 : List.List Row.Entry
-t40 = List._∷_ (16, Rows'.any-gone Syntax.tyPtr) (List._∷_ ( 17, Rows'.any-gone σ,
-) (List._∷_ ( 18, Rows'.any-gone (Syntax.tyRef Syntax.erased Syntax.imm (Syntax.tyInt Syntax.w32)), ) (List._∷_ ( 19, Rows'.any-gone (Syntax.tyStruct (List._∷_ 38 (List._∷_ 91 (List._∷_ 93 List.[]))) (Syntax.tcons (Syntax.tyRef Syntax.erased Syntax.imm (Syntax.tyInt Syntax.w32)) (Syntax.tcons (Syntax.tyInt Syntax.w64) Syntax.tnil))), ) (List._∷_ (20, Rows'.any-gone Syntax.tyBool) (List._∷_ ( 21, Rows'.sc-here (Row.sInt Syntax.w64), ) (List._∷_ (22, Rows'.any-gone Syntax.tyPtr) (List._∷_ ( 23, Rows'.any-gone σ, ) (List._∷_ ( 24, Rows'.any-gone (Syntax.tyRef Syntax.erased Syntax.imm (Syntax.tyInt Syntax.w32)), ) (List._∷_ ( 25, Rows'.any-gone (Syntax.tyStruct (List._∷_ 38 (List._∷_ 91 (List._∷_ 93 List.[]))) (Syntax.tcons (Syntax.tyRef Syntax.erased Syntax.imm (Syntax.tyInt Syntax.w32)) (Syntax.tcons (Syntax.tyInt Syntax.w64) Syntax.tnil))), ) (List._∷_ ( 26, Rows'.any-gone (Syntax.tyRef Syntax.erased Syntax.mut (Syntax.tyInt Syntax.w32)), ) (List._∷_ ( 27, Rows'.any-gone (Syntax.tyStruct (List._∷_ 38 (List._∷_ 91 (List._∷_ 93 List.[]))) (Syntax.tcons (Syntax.tyRef Syntax.erased Syntax.mut (Syntax.tyInt Syntax.w32)) (Syntax.tcons (Syntax.tyInt Syntax.w64) Syntax.tnil))), ) (List._∷_ (28, Rows'.sc-here Row.sPtr) (List._∷_ ( 29, Rows'.any-gone (Syntax.tyRef Syntax.erased Syntax.mut (Syntax.tyInt Syntax.w32)), ) (List._∷_ ( 30, Rows'.any-gone (Syntax.tyStruct (List._∷_ 38 (List._∷_ 91 (List._∷_ 93 List.[]))) (Syntax.tcons (Syntax.tyRef Syntax.erased Syntax.mut (Syntax.tyInt Syntax.w32)) (Syntax.tcons (Syntax.tyInt Syntax.w64) Syntax.tnil))), ) (List._∷_ ( 31, Rows'.any-gone (Syntax.tyRef Syntax.erased Syntax.mut (Syntax.tyInt Syntax.w32)), ) List.[])))))))))))))))
+t40 = List._∷_ (16, Rows'.any-gone Syntax.tyPtr) (List._∷_ (
+  17,
+  Rows'.any-gone σ,
+) (List._∷_ (18, Rows'.any-gone (Syntax.tyRef Syntax.erased Syntax.imm (Syntax.tyInt Syntax.w32))) (List._∷_ (19, Rows'.any-gone (Syntax.tyStruct (List._∷_ 38 (List._∷_ 91 (List._∷_ 93 List.[]))) (Syntax.tcons (Syntax.tyRef Syntax.erased Syntax.imm (Syntax.tyInt Syntax.w32)) (Syntax.tcons (Syntax.tyInt Syntax.w64) Syntax.tnil)))) (List._∷_ (20, Rows'.any-gone Syntax.tyBool) (List._∷_ (21, Rows'.sc-here (Row.sInt Syntax.w64)) (List._∷_ (22, Rows'.any-gone Syntax.tyPtr) (List._∷_ (23, Rows'.any-gone σ) (List._∷_ (24, Rows'.any-gone (Syntax.tyRef Syntax.erased Syntax.imm (Syntax.tyInt Syntax.w32))) (List._∷_ (25, Rows'.any-gone (Syntax.tyStruct (List._∷_ 38 (List._∷_ 91 (List._∷_ 93 List.[]))) (Syntax.tcons (Syntax.tyRef Syntax.erased Syntax.imm (Syntax.tyInt Syntax.w32)) (Syntax.tcons (Syntax.tyInt Syntax.w64) Syntax.tnil)))) (List._∷_ (26, Rows'.any-gone (Syntax.tyRef Syntax.erased Syntax.mut (Syntax.tyInt Syntax.w32))) (List._∷_ (27, Rows'.any-gone (Syntax.tyStruct (List._∷_ 38 (List._∷_ 91 (List._∷_ 93 List.[]))) (Syntax.tcons (Syntax.tyRef Syntax.erased Syntax.mut (Syntax.tyInt Syntax.w32)) (Syntax.tcons (Syntax.tyInt Syntax.w64) Syntax.tnil)))) (List._∷_ (28, Rows'.sc-here Row.sPtr) (List._∷_ (29, Rows'.any-gone (Syntax.tyRef Syntax.erased Syntax.mut (Syntax.tyInt Syntax.w32))) (List._∷_ (30, Rows'.any-gone (Syntax.tyStruct (List._∷_ 38 (List._∷_ 91 (List._∷_ 93 List.[]))) (Syntax.tcons (Syntax.tyRef Syntax.erased Syntax.mut (Syntax.tyInt Syntax.w32)) (Syntax.tcons (Syntax.tyInt Syntax.w64) Syntax.tnil)))) (List._∷_ (31, Rows'.any-gone (Syntax.tyRef Syntax.erased Syntax.mut (Syntax.tyInt Syntax.w32))) List.[])))))))))))))))
 
 abbrev pub t41 : List.List Row.Entry
-t41 = List._∷_ (16, Rows'.any-gone Syntax.tyPtr) (List._∷_ ( 17, Rows'.any-gone σ,
-) (List._∷_ ( 18, Rows'.any-gone (Syntax.tyRef Syntax.erased Syntax.imm (Syntax.tyInt Syntax.w32)), ) (List._∷_ ( 19, Rows'.any-gone (Syntax.tyStruct (List._∷_ 38 (List._∷_ 91 (List._∷_ 93 List.[]))) (Syntax.tcons (Syntax.tyRef Syntax.erased Syntax.imm (Syntax.tyInt Syntax.w32)) (Syntax.tcons (Syntax.tyInt Syntax.w64) Syntax.tnil))), ) (List._∷_ (20, Rows'.any-gone Syntax.tyBool) (List._∷_ ( 21, Rows'.any-gone (Syntax.tyInt Syntax.w64), ) (List._∷_ (22, Rows'.any-gone Syntax.tyPtr) (List._∷_ ( 23, Rows'.any-gone σ, ) (List._∷_ ( 24, Rows'.any-gone (Syntax.tyRef Syntax.erased Syntax.imm (Syntax.tyInt Syntax.w32)), ) (List._∷_ ( 25, Rows'.any-gone (Syntax.tyStruct (List._∷_ 38 (List._∷_ 91 (List._∷_ 93 List.[]))) (Syntax.tcons (Syntax.tyRef Syntax.erased Syntax.imm (Syntax.tyInt Syntax.w32)) (Syntax.tcons (Syntax.tyInt Syntax.w64) Syntax.tnil))), ) (List._∷_ ( 26, Rows'.any-gone (Syntax.tyRef Syntax.erased Syntax.mut (Syntax.tyInt Syntax.w32)), ) (List._∷_ ( 27, Rows'.any-gone (Syntax.tyStruct (List._∷_ 38 (List._∷_ 91 (List._∷_ 93 List.[]))) (Syntax.tcons (Syntax.tyRef Syntax.erased Syntax.mut (Syntax.tyInt Syntax.w32)) (Syntax.tcons (Syntax.tyInt Syntax.w64) Syntax.tnil))), ) (List._∷_ (28, Rows'.sc-here Row.sPtr) (List._∷_ ( 29, Rows'.any-gone (Syntax.tyRef Syntax.erased Syntax.mut (Syntax.tyInt Syntax.w32)), ) (List._∷_ ( 30, Rows'.any-gone (Syntax.tyStruct (List._∷_ 38 (List._∷_ 91 (List._∷_ 93 List.[]))) (Syntax.tcons (Syntax.tyRef Syntax.erased Syntax.mut (Syntax.tyInt Syntax.w32)) (Syntax.tcons (Syntax.tyInt Syntax.w64) Syntax.tnil))), ) (List._∷_ ( 31, Rows'.any-gone (Syntax.tyRef Syntax.erased Syntax.mut (Syntax.tyInt Syntax.w32)), ) List.[])))))))))))))))
+t41 = List._∷_ (16, Rows'.any-gone Syntax.tyPtr) (List._∷_ (
+  17,
+  Rows'.any-gone σ,
+) (List._∷_ (18, Rows'.any-gone (Syntax.tyRef Syntax.erased Syntax.imm (Syntax.tyInt Syntax.w32))) (List._∷_ (19, Rows'.any-gone (Syntax.tyStruct (List._∷_ 38 (List._∷_ 91 (List._∷_ 93 List.[]))) (Syntax.tcons (Syntax.tyRef Syntax.erased Syntax.imm (Syntax.tyInt Syntax.w32)) (Syntax.tcons (Syntax.tyInt Syntax.w64) Syntax.tnil)))) (List._∷_ (20, Rows'.any-gone Syntax.tyBool) (List._∷_ (21, Rows'.any-gone (Syntax.tyInt Syntax.w64)) (List._∷_ (22, Rows'.any-gone Syntax.tyPtr) (List._∷_ (23, Rows'.any-gone σ) (List._∷_ (24, Rows'.any-gone (Syntax.tyRef Syntax.erased Syntax.imm (Syntax.tyInt Syntax.w32))) (List._∷_ (25, Rows'.any-gone (Syntax.tyStruct (List._∷_ 38 (List._∷_ 91 (List._∷_ 93 List.[]))) (Syntax.tcons (Syntax.tyRef Syntax.erased Syntax.imm (Syntax.tyInt Syntax.w32)) (Syntax.tcons (Syntax.tyInt Syntax.w64) Syntax.tnil)))) (List._∷_ (26, Rows'.any-gone (Syntax.tyRef Syntax.erased Syntax.mut (Syntax.tyInt Syntax.w32))) (List._∷_ (27, Rows'.any-gone (Syntax.tyStruct (List._∷_ 38 (List._∷_ 91 (List._∷_ 93 List.[]))) (Syntax.tcons (Syntax.tyRef Syntax.erased Syntax.mut (Syntax.tyInt Syntax.w32)) (Syntax.tcons (Syntax.tyInt Syntax.w64) Syntax.tnil)))) (List._∷_ (28, Rows'.sc-here Row.sPtr) (List._∷_ (29, Rows'.any-gone (Syntax.tyRef Syntax.erased Syntax.mut (Syntax.tyInt Syntax.w32))) (List._∷_ (30, Rows'.any-gone (Syntax.tyStruct (List._∷_ 38 (List._∷_ 91 (List._∷_ 93 List.[]))) (Syntax.tcons (Syntax.tyRef Syntax.erased Syntax.mut (Syntax.tyInt Syntax.w32)) (Syntax.tcons (Syntax.tyInt Syntax.w64) Syntax.tnil)))) (List._∷_ (31, Rows'.any-gone (Syntax.tyRef Syntax.erased Syntax.mut (Syntax.tyInt Syntax.w32))) List.[])))))))))))))))
 
 abbrev pub t42 : List.List Row.Entry
-t42 = List._∷_ ( 0, Rows'.any-gone (Syntax.tyStruct (List._∷_ 102 (List._∷_ 105 (List._∷_ 114 (List._∷_ 109 (List._∷_ 58 (List._∷_ 58 (List._∷_ 81 (List._∷_ 117 (List._∷_ 111 (List._∷_ 116 (List._∷_ 101 List.[]))))))))))) (Syntax.tcons (Syntax.tyInt Syntax.w32) (Syntax.tcons (Syntax.tyInt Syntax.w64) (Syntax.tcons (Syntax.tyInt Syntax.w64) (Syntax.tcons (Syntax.tyInt Syntax.w32) Syntax.tnil))))),
-) (List._∷_ ( 1, Mut.mslice T τ 0,
-) (List._∷_ ( 2, Rows'.sslice (Referent.rtF (Referent.fInt Syntax.w8)) (Syntax.tyRef (Syntax.named 1) Syntax.imm (Syntax.tyInt Syntax.w8)) 1,
-) (List._∷_ ( 3, Relend.mslice-owed (Referent.rtF (Referent.fInt Syntax.w32)) (Syntax.tyRef (Syntax.named 2) Syntax.mut (Syntax.tyInt Syntax.w32)) 2 9 Row.off,
-) (List._∷_ ( 4, Mut.mslice (Referent.rtF (Referent.fInt Syntax.w32)) (Syntax.tyRef (Syntax.named 3) Syntax.mut (Syntax.tyInt Syntax.w32)) 3,
-) (List._∷_ (5, Rows'.sc-here (Row.sInt Syntax.w64)) (List._∷_ ( 6, Rows'.whole (Declared.row Quote.the-type),
-) (List._∷_ (7, Rows'.sc-here (Row.sInt Syntax.w64)) (List._∷_ ( 8, Rows'.sc-here (Row.sInt Syntax.w64),
-) (List._∷_ (9, Rows'.any-gone σ) (List._∷_ ( 10, Rows'.any-gone (Syntax.tyRef Syntax.erased Syntax.mut (Syntax.tyInt Syntax.w32)),
-) (List._∷_ ( 11, Rows'.any-gone (Syntax.tyStruct (List._∷_ 38 (List._∷_ 91 (List._∷_ 93 List.[]))) (Syntax.tcons (Syntax.tyRef Syntax.erased Syntax.mut (Syntax.tyInt Syntax.w32)) (Syntax.tcons (Syntax.tyInt Syntax.w64) Syntax.tnil))),
-) (List._∷_ ( 12, Rows'.any-gone (Syntax.tyRef Syntax.erased Syntax.mut (Syntax.tyInt Syntax.w32)), ) (List._∷_ ( 13, Rows'.any-gone (Syntax.tyStruct (List._∷_ 38 (List._∷_ 91 (List._∷_ 93 List.[]))) (Syntax.tcons (Syntax.tyRef Syntax.erased Syntax.mut (Syntax.tyInt Syntax.w32)) (Syntax.tcons (Syntax.tyInt Syntax.w64) Syntax.tnil))), ) (List._∷_ (14, Rows'.any-gone Syntax.tyBool) (List._∷_ ( 15, Rows'.any-gone (Syntax.tyInt Syntax.w64), ) List.[])))))))))))))))
+t42 = List._∷_ (
+  0,
+  Rows'.any-gone (Syntax.tyStruct (List._∷_ 102 (List._∷_ 105 (List._∷_ 114 (List._∷_ 109 (List._∷_ 58 (List._∷_ 58 (List._∷_ 81 (List._∷_ 117 (List._∷_ 111 (List._∷_ 116 (List._∷_ 101 List.[]))))))))))) (Syntax.tcons (Syntax.tyInt Syntax.w32) (Syntax.tcons (Syntax.tyInt Syntax.w64) (Syntax.tcons (Syntax.tyInt Syntax.w64) (Syntax.tcons (Syntax.tyInt Syntax.w32) Syntax.tnil))))),
+) (List._∷_ (
+  1,
+  Mut.mslice T τ 0,
+) (List._∷_ (
+  2,
+  Rows'.sslice (Referent.rtF (Referent.fInt Syntax.w8)) (Syntax.tyRef (Syntax.named 1) Syntax.imm (Syntax.tyInt Syntax.w8)) 1,
+) (List._∷_ (
+  3,
+  Relend.mslice-owed (Referent.rtF (Referent.fInt Syntax.w32)) (Syntax.tyRef (Syntax.named 2) Syntax.mut (Syntax.tyInt Syntax.w32)) 2 9 Row.off,
+) (List._∷_ (
+  4,
+  Mut.mslice (Referent.rtF (Referent.fInt Syntax.w32)) (Syntax.tyRef (Syntax.named 3) Syntax.mut (Syntax.tyInt Syntax.w32)) 3,
+) (List._∷_ (5, Rows'.sc-here (Row.sInt Syntax.w64)) (List._∷_ (
+  6,
+  Rows'.whole (Declared.row Quote.the-type),
+) (List._∷_ (7, Rows'.sc-here (Row.sInt Syntax.w64)) (List._∷_ (
+  8,
+  Rows'.sc-here (Row.sInt Syntax.w64),
+) (List._∷_ (9, Rows'.any-gone σ) (List._∷_ (
+  10,
+  Rows'.any-gone (Syntax.tyRef Syntax.erased Syntax.mut (Syntax.tyInt Syntax.w32)),
+) (List._∷_ (
+  11,
+  Rows'.any-gone (Syntax.tyStruct (List._∷_ 38 (List._∷_ 91 (List._∷_ 93 List.[]))) (Syntax.tcons (Syntax.tyRef Syntax.erased Syntax.mut (Syntax.tyInt Syntax.w32)) (Syntax.tcons (Syntax.tyInt Syntax.w64) Syntax.tnil))),
+) (List._∷_ (12, Rows'.any-gone (Syntax.tyRef Syntax.erased Syntax.mut (Syntax.tyInt Syntax.w32))) (List._∷_ (13, Rows'.any-gone (Syntax.tyStruct (List._∷_ 38 (List._∷_ 91 (List._∷_ 93 List.[]))) (Syntax.tcons (Syntax.tyRef Syntax.erased Syntax.mut (Syntax.tyInt Syntax.w32)) (Syntax.tcons (Syntax.tyInt Syntax.w64) Syntax.tnil)))) (List._∷_ (14, Rows'.any-gone Syntax.tyBool) (List._∷_ (15, Rows'.any-gone (Syntax.tyInt Syntax.w64)) List.[])))))))))))))))
 
 abbrev pub t43 : List.List Row.Entry
-t43 = List._∷_ (16, Rows'.any-gone Syntax.tyPtr) (List._∷_ ( 17, Rows'.any-gone σ,
-) (List._∷_ ( 18, Rows'.any-gone (Syntax.tyRef Syntax.erased Syntax.imm (Syntax.tyInt Syntax.w32)), ) (List._∷_ ( 19, Rows'.any-gone (Syntax.tyStruct (List._∷_ 38 (List._∷_ 91 (List._∷_ 93 List.[]))) (Syntax.tcons (Syntax.tyRef Syntax.erased Syntax.imm (Syntax.tyInt Syntax.w32)) (Syntax.tcons (Syntax.tyInt Syntax.w64) Syntax.tnil))), ) (List._∷_ (20, Rows'.any-gone Syntax.tyBool) (List._∷_ ( 21, Rows'.any-gone (Syntax.tyInt Syntax.w64), ) (List._∷_ (22, Rows'.any-gone Syntax.tyPtr) (List._∷_ ( 23, Rows'.any-gone σ, ) (List._∷_ ( 24, Rows'.any-gone (Syntax.tyRef Syntax.erased Syntax.imm (Syntax.tyInt Syntax.w32)), ) (List._∷_ ( 25, Rows'.any-gone (Syntax.tyStruct (List._∷_ 38 (List._∷_ 91 (List._∷_ 93 List.[]))) (Syntax.tcons (Syntax.tyRef Syntax.erased Syntax.imm (Syntax.tyInt Syntax.w32)) (Syntax.tcons (Syntax.tyInt Syntax.w64) Syntax.tnil))), ) (List._∷_ ( 26, Rows'.any-gone (Syntax.tyRef Syntax.erased Syntax.mut (Syntax.tyInt Syntax.w32)), ) (List._∷_ ( 27, Rows'.any-gone (Syntax.tyStruct (List._∷_ 38 (List._∷_ 91 (List._∷_ 93 List.[]))) (Syntax.tcons (Syntax.tyRef Syntax.erased Syntax.mut (Syntax.tyInt Syntax.w32)) (Syntax.tcons (Syntax.tyInt Syntax.w64) Syntax.tnil))), ) (List._∷_ (28, Rows'.any-gone Syntax.tyPtr) (List._∷_ ( 29, Relend.msptr (Referent.rtF (Referent.fInt Syntax.w32)) (Syntax.tyRef Syntax.erased Syntax.mut (Syntax.tyInt Syntax.w32)) 9, ) (List._∷_ ( 30, Rows'.any-gone (Syntax.tyStruct (List._∷_ 38 (List._∷_ 91 (List._∷_ 93 List.[]))) (Syntax.tcons (Syntax.tyRef Syntax.erased Syntax.mut (Syntax.tyInt Syntax.w32)) (Syntax.tcons (Syntax.tyInt Syntax.w64) Syntax.tnil))), ) (List._∷_ ( 31, Rows'.any-gone (Syntax.tyRef Syntax.erased Syntax.mut (Syntax.tyInt Syntax.w32)), ) List.[])))))))))))))))
+t43 = List._∷_ (16, Rows'.any-gone Syntax.tyPtr) (List._∷_ (
+  17,
+  Rows'.any-gone σ,
+) (List._∷_ (18, Rows'.any-gone (Syntax.tyRef Syntax.erased Syntax.imm (Syntax.tyInt Syntax.w32))) (List._∷_ (19, Rows'.any-gone (Syntax.tyStruct (List._∷_ 38 (List._∷_ 91 (List._∷_ 93 List.[]))) (Syntax.tcons (Syntax.tyRef Syntax.erased Syntax.imm (Syntax.tyInt Syntax.w32)) (Syntax.tcons (Syntax.tyInt Syntax.w64) Syntax.tnil)))) (List._∷_ (20, Rows'.any-gone Syntax.tyBool) (List._∷_ (21, Rows'.any-gone (Syntax.tyInt Syntax.w64)) (List._∷_ (22, Rows'.any-gone Syntax.tyPtr) (List._∷_ (23, Rows'.any-gone σ) (List._∷_ (24, Rows'.any-gone (Syntax.tyRef Syntax.erased Syntax.imm (Syntax.tyInt Syntax.w32))) (List._∷_ (25, Rows'.any-gone (Syntax.tyStruct (List._∷_ 38 (List._∷_ 91 (List._∷_ 93 List.[]))) (Syntax.tcons (Syntax.tyRef Syntax.erased Syntax.imm (Syntax.tyInt Syntax.w32)) (Syntax.tcons (Syntax.tyInt Syntax.w64) Syntax.tnil)))) (List._∷_ (26, Rows'.any-gone (Syntax.tyRef Syntax.erased Syntax.mut (Syntax.tyInt Syntax.w32))) (List._∷_ (27, Rows'.any-gone (Syntax.tyStruct (List._∷_ 38 (List._∷_ 91 (List._∷_ 93 List.[]))) (Syntax.tcons (Syntax.tyRef Syntax.erased Syntax.mut (Syntax.tyInt Syntax.w32)) (Syntax.tcons (Syntax.tyInt Syntax.w64) Syntax.tnil)))) (List._∷_ (28, Rows'.any-gone Syntax.tyPtr) (List._∷_ (29, Relend.msptr (Referent.rtF (Referent.fInt Syntax.w32)) (Syntax.tyRef Syntax.erased Syntax.mut (Syntax.tyInt Syntax.w32)) 9) (List._∷_ (30, Rows'.any-gone (Syntax.tyStruct (List._∷_ 38 (List._∷_ 91 (List._∷_ 93 List.[]))) (Syntax.tcons (Syntax.tyRef Syntax.erased Syntax.mut (Syntax.tyInt Syntax.w32)) (Syntax.tcons (Syntax.tyInt Syntax.w64) Syntax.tnil)))) (List._∷_ (31, Rows'.any-gone (Syntax.tyRef Syntax.erased Syntax.mut (Syntax.tyInt Syntax.w32))) List.[])))))))))))))))
 
 abbrev pub t44 : List.List Row.Entry
-t44 = List._∷_ (16, Rows'.any-gone Syntax.tyPtr) (List._∷_ ( 17, Rows'.any-gone σ,
-) (List._∷_ ( 18, Rows'.any-gone (Syntax.tyRef Syntax.erased Syntax.imm (Syntax.tyInt Syntax.w32)), ) (List._∷_ ( 19, Rows'.any-gone (Syntax.tyStruct (List._∷_ 38 (List._∷_ 91 (List._∷_ 93 List.[]))) (Syntax.tcons (Syntax.tyRef Syntax.erased Syntax.imm (Syntax.tyInt Syntax.w32)) (Syntax.tcons (Syntax.tyInt Syntax.w64) Syntax.tnil))), ) (List._∷_ (20, Rows'.any-gone Syntax.tyBool) (List._∷_ ( 21, Rows'.any-gone (Syntax.tyInt Syntax.w64), ) (List._∷_ (22, Rows'.any-gone Syntax.tyPtr) (List._∷_ ( 23, Rows'.any-gone σ, ) (List._∷_ ( 24, Rows'.any-gone (Syntax.tyRef Syntax.erased Syntax.imm (Syntax.tyInt Syntax.w32)), ) (List._∷_ ( 25, Rows'.any-gone (Syntax.tyStruct (List._∷_ 38 (List._∷_ 91 (List._∷_ 93 List.[]))) (Syntax.tcons (Syntax.tyRef Syntax.erased Syntax.imm (Syntax.tyInt Syntax.w32)) (Syntax.tcons (Syntax.tyInt Syntax.w64) Syntax.tnil))), ) (List._∷_ ( 26, Rows'.any-gone (Syntax.tyRef Syntax.erased Syntax.mut (Syntax.tyInt Syntax.w32)), ) (List._∷_ ( 27, Rows'.any-gone (Syntax.tyStruct (List._∷_ 38 (List._∷_ 91 (List._∷_ 93 List.[]))) (Syntax.tcons (Syntax.tyRef Syntax.erased Syntax.mut (Syntax.tyInt Syntax.w32)) (Syntax.tcons (Syntax.tyInt Syntax.w64) Syntax.tnil))), ) (List._∷_ (28, Rows'.any-gone Syntax.tyPtr) (List._∷_ ( 29, Rows'.any-gone (Syntax.tyRef Syntax.erased Syntax.mut (Syntax.tyInt Syntax.w32)), ) (List._∷_ ( 30, Mut.mslice (Referent.rtF (Referent.fInt Syntax.w32)) (Syntax.tyRef Syntax.erased Syntax.mut (Syntax.tyInt Syntax.w32)) 9, ) (List._∷_ ( 31, Rows'.any-gone (Syntax.tyRef Syntax.erased Syntax.mut (Syntax.tyInt Syntax.w32)), ) List.[])))))))))))))))
+t44 = List._∷_ (16, Rows'.any-gone Syntax.tyPtr) (List._∷_ (
+  17,
+  Rows'.any-gone σ,
+) (List._∷_ (18, Rows'.any-gone (Syntax.tyRef Syntax.erased Syntax.imm (Syntax.tyInt Syntax.w32))) (List._∷_ (19, Rows'.any-gone (Syntax.tyStruct (List._∷_ 38 (List._∷_ 91 (List._∷_ 93 List.[]))) (Syntax.tcons (Syntax.tyRef Syntax.erased Syntax.imm (Syntax.tyInt Syntax.w32)) (Syntax.tcons (Syntax.tyInt Syntax.w64) Syntax.tnil)))) (List._∷_ (20, Rows'.any-gone Syntax.tyBool) (List._∷_ (21, Rows'.any-gone (Syntax.tyInt Syntax.w64)) (List._∷_ (22, Rows'.any-gone Syntax.tyPtr) (List._∷_ (23, Rows'.any-gone σ) (List._∷_ (24, Rows'.any-gone (Syntax.tyRef Syntax.erased Syntax.imm (Syntax.tyInt Syntax.w32))) (List._∷_ (25, Rows'.any-gone (Syntax.tyStruct (List._∷_ 38 (List._∷_ 91 (List._∷_ 93 List.[]))) (Syntax.tcons (Syntax.tyRef Syntax.erased Syntax.imm (Syntax.tyInt Syntax.w32)) (Syntax.tcons (Syntax.tyInt Syntax.w64) Syntax.tnil)))) (List._∷_ (26, Rows'.any-gone (Syntax.tyRef Syntax.erased Syntax.mut (Syntax.tyInt Syntax.w32))) (List._∷_ (27, Rows'.any-gone (Syntax.tyStruct (List._∷_ 38 (List._∷_ 91 (List._∷_ 93 List.[]))) (Syntax.tcons (Syntax.tyRef Syntax.erased Syntax.mut (Syntax.tyInt Syntax.w32)) (Syntax.tcons (Syntax.tyInt Syntax.w64) Syntax.tnil)))) (List._∷_ (28, Rows'.any-gone Syntax.tyPtr) (List._∷_ (29, Rows'.any-gone (Syntax.tyRef Syntax.erased Syntax.mut (Syntax.tyInt Syntax.w32))) (List._∷_ (30, Mut.mslice (Referent.rtF (Referent.fInt Syntax.w32)) (Syntax.tyRef Syntax.erased Syntax.mut (Syntax.tyInt Syntax.w32)) 9) (List._∷_ (31, Rows'.any-gone (Syntax.tyRef Syntax.erased Syntax.mut (Syntax.tyInt Syntax.w32))) List.[])))))))))))))))
 
 abbrev pub t45 : List.List Row.Entry
-t45 = List._∷_ ( 0, Rows'.any-gone (Syntax.tyStruct (List._∷_ 102 (List._∷_ 105 (List._∷_ 114 (List._∷_ 109 (List._∷_ 58 (List._∷_ 58 (List._∷_ 81 (List._∷_ 117 (List._∷_ 111 (List._∷_ 116 (List._∷_ 101 List.[]))))))))))) (Syntax.tcons (Syntax.tyInt Syntax.w32) (Syntax.tcons (Syntax.tyInt Syntax.w64) (Syntax.tcons (Syntax.tyInt Syntax.w64) (Syntax.tcons (Syntax.tyInt Syntax.w32) Syntax.tnil))))),
-) (List._∷_ ( 1, Mut.mslice T τ 0,
-) (List._∷_ ( 2, Rows'.sslice (Referent.rtF (Referent.fInt Syntax.w8)) (Syntax.tyRef (Syntax.named 1) Syntax.imm (Syntax.tyInt Syntax.w8)) 1,
-) (List._∷_ ( 3, Relend.mslice-owed (Referent.rtF (Referent.fInt Syntax.w32)) (Syntax.tyRef (Syntax.named 2) Syntax.mut (Syntax.tyInt Syntax.w32)) 2 9 Row.off,
-) (List._∷_ ( 4, Relend.mslice-owed (Referent.rtF (Referent.fInt Syntax.w32)) (Syntax.tyRef (Syntax.named 3) Syntax.mut (Syntax.tyInt Syntax.w32)) 3 10 Row.off,
-) (List._∷_ (5, Rows'.sc-here (Row.sInt Syntax.w64)) (List._∷_ ( 6, Rows'.whole (Declared.row Quote.the-type),
-) (List._∷_ (7, Rows'.sc-here (Row.sInt Syntax.w64)) (List._∷_ ( 8, Rows'.sc-here (Row.sInt Syntax.w64),
-) (List._∷_ (9, Rows'.any-gone σ) (List._∷_ ( 10, Rows'.any-gone (Syntax.tyRef Syntax.erased Syntax.mut (Syntax.tyInt Syntax.w32)),
-) (List._∷_ ( 11, Rows'.any-gone (Syntax.tyStruct (List._∷_ 38 (List._∷_ 91 (List._∷_ 93 List.[]))) (Syntax.tcons (Syntax.tyRef Syntax.erased Syntax.mut (Syntax.tyInt Syntax.w32)) (Syntax.tcons (Syntax.tyInt Syntax.w64) Syntax.tnil))),
-) (List._∷_ ( 12, Rows'.any-gone (Syntax.tyRef Syntax.erased Syntax.mut (Syntax.tyInt Syntax.w32)), ) (List._∷_ ( 13, Rows'.any-gone (Syntax.tyStruct (List._∷_ 38 (List._∷_ 91 (List._∷_ 93 List.[]))) (Syntax.tcons (Syntax.tyRef Syntax.erased Syntax.mut (Syntax.tyInt Syntax.w32)) (Syntax.tcons (Syntax.tyInt Syntax.w64) Syntax.tnil))), ) (List._∷_ (14, Rows'.any-gone Syntax.tyBool) (List._∷_ ( 15, Rows'.any-gone (Syntax.tyInt Syntax.w64), ) List.[])))))))))))))))
+t45 = List._∷_ (
+  0,
+  Rows'.any-gone (Syntax.tyStruct (List._∷_ 102 (List._∷_ 105 (List._∷_ 114 (List._∷_ 109 (List._∷_ 58 (List._∷_ 58 (List._∷_ 81 (List._∷_ 117 (List._∷_ 111 (List._∷_ 116 (List._∷_ 101 List.[]))))))))))) (Syntax.tcons (Syntax.tyInt Syntax.w32) (Syntax.tcons (Syntax.tyInt Syntax.w64) (Syntax.tcons (Syntax.tyInt Syntax.w64) (Syntax.tcons (Syntax.tyInt Syntax.w32) Syntax.tnil))))),
+) (List._∷_ (
+  1,
+  Mut.mslice T τ 0,
+) (List._∷_ (
+  2,
+  Rows'.sslice (Referent.rtF (Referent.fInt Syntax.w8)) (Syntax.tyRef (Syntax.named 1) Syntax.imm (Syntax.tyInt Syntax.w8)) 1,
+) (List._∷_ (
+  3,
+  Relend.mslice-owed (Referent.rtF (Referent.fInt Syntax.w32)) (Syntax.tyRef (Syntax.named 2) Syntax.mut (Syntax.tyInt Syntax.w32)) 2 9 Row.off,
+) (List._∷_ (
+  4,
+  Relend.mslice-owed (Referent.rtF (Referent.fInt Syntax.w32)) (Syntax.tyRef (Syntax.named 3) Syntax.mut (Syntax.tyInt Syntax.w32)) 3 10 Row.off,
+) (List._∷_ (5, Rows'.sc-here (Row.sInt Syntax.w64)) (List._∷_ (
+  6,
+  Rows'.whole (Declared.row Quote.the-type),
+) (List._∷_ (7, Rows'.sc-here (Row.sInt Syntax.w64)) (List._∷_ (
+  8,
+  Rows'.sc-here (Row.sInt Syntax.w64),
+) (List._∷_ (9, Rows'.any-gone σ) (List._∷_ (
+  10,
+  Rows'.any-gone (Syntax.tyRef Syntax.erased Syntax.mut (Syntax.tyInt Syntax.w32)),
+) (List._∷_ (
+  11,
+  Rows'.any-gone (Syntax.tyStruct (List._∷_ 38 (List._∷_ 91 (List._∷_ 93 List.[]))) (Syntax.tcons (Syntax.tyRef Syntax.erased Syntax.mut (Syntax.tyInt Syntax.w32)) (Syntax.tcons (Syntax.tyInt Syntax.w64) Syntax.tnil))),
+) (List._∷_ (12, Rows'.any-gone (Syntax.tyRef Syntax.erased Syntax.mut (Syntax.tyInt Syntax.w32))) (List._∷_ (13, Rows'.any-gone (Syntax.tyStruct (List._∷_ 38 (List._∷_ 91 (List._∷_ 93 List.[]))) (Syntax.tcons (Syntax.tyRef Syntax.erased Syntax.mut (Syntax.tyInt Syntax.w32)) (Syntax.tcons (Syntax.tyInt Syntax.w64) Syntax.tnil)))) (List._∷_ (14, Rows'.any-gone Syntax.tyBool) (List._∷_ (15, Rows'.any-gone (Syntax.tyInt Syntax.w64)) List.[])))))))))))))))
 
 abbrev pub t46 : List.List Row.Entry
-t46 = List._∷_ (16, Rows'.any-gone Syntax.tyPtr) (List._∷_ ( 17, Rows'.any-gone σ,
-) (List._∷_ ( 18, Rows'.any-gone (Syntax.tyRef Syntax.erased Syntax.imm (Syntax.tyInt Syntax.w32)), ) (List._∷_ ( 19, Rows'.any-gone (Syntax.tyStruct (List._∷_ 38 (List._∷_ 91 (List._∷_ 93 List.[]))) (Syntax.tcons (Syntax.tyRef Syntax.erased Syntax.imm (Syntax.tyInt Syntax.w32)) (Syntax.tcons (Syntax.tyInt Syntax.w64) Syntax.tnil))), ) (List._∷_ (20, Rows'.any-gone Syntax.tyBool) (List._∷_ ( 21, Rows'.any-gone (Syntax.tyInt Syntax.w64), ) (List._∷_ (22, Rows'.any-gone Syntax.tyPtr) (List._∷_ ( 23, Rows'.any-gone σ, ) (List._∷_ ( 24, Rows'.any-gone (Syntax.tyRef Syntax.erased Syntax.imm (Syntax.tyInt Syntax.w32)), ) (List._∷_ ( 25, Rows'.any-gone (Syntax.tyStruct (List._∷_ 38 (List._∷_ 91 (List._∷_ 93 List.[]))) (Syntax.tcons (Syntax.tyRef Syntax.erased Syntax.imm (Syntax.tyInt Syntax.w32)) (Syntax.tcons (Syntax.tyInt Syntax.w64) Syntax.tnil))), ) (List._∷_ ( 26, Rows'.any-gone (Syntax.tyRef Syntax.erased Syntax.mut (Syntax.tyInt Syntax.w32)), ) (List._∷_ ( 27, Rows'.any-gone (Syntax.tyStruct (List._∷_ 38 (List._∷_ 91 (List._∷_ 93 List.[]))) (Syntax.tcons (Syntax.tyRef Syntax.erased Syntax.mut (Syntax.tyInt Syntax.w32)) (Syntax.tcons (Syntax.tyInt Syntax.w64) Syntax.tnil))), ) (List._∷_ (28, Rows'.any-gone Syntax.tyPtr) (List._∷_ ( 29, Rows'.any-gone (Syntax.tyRef Syntax.erased Syntax.mut (Syntax.tyInt Syntax.w32)), ) (List._∷_ ( 30, Mut.mslice (Referent.rtF (Referent.fInt Syntax.w32)) (Syntax.tyRef Syntax.erased Syntax.mut (Syntax.tyInt Syntax.w32)) 9, ) (List._∷_ ( 31, Relend.msptr (Referent.rtF (Referent.fInt Syntax.w32)) (Syntax.tyRef Syntax.erased Syntax.mut (Syntax.tyInt Syntax.w32)) 10, ) List.[])))))))))))))))
+t46 = List._∷_ (16, Rows'.any-gone Syntax.tyPtr) (List._∷_ (
+  17,
+  Rows'.any-gone σ,
+) (List._∷_ (18, Rows'.any-gone (Syntax.tyRef Syntax.erased Syntax.imm (Syntax.tyInt Syntax.w32))) (List._∷_ (19, Rows'.any-gone (Syntax.tyStruct (List._∷_ 38 (List._∷_ 91 (List._∷_ 93 List.[]))) (Syntax.tcons (Syntax.tyRef Syntax.erased Syntax.imm (Syntax.tyInt Syntax.w32)) (Syntax.tcons (Syntax.tyInt Syntax.w64) Syntax.tnil)))) (List._∷_ (20, Rows'.any-gone Syntax.tyBool) (List._∷_ (21, Rows'.any-gone (Syntax.tyInt Syntax.w64)) (List._∷_ (22, Rows'.any-gone Syntax.tyPtr) (List._∷_ (23, Rows'.any-gone σ) (List._∷_ (24, Rows'.any-gone (Syntax.tyRef Syntax.erased Syntax.imm (Syntax.tyInt Syntax.w32))) (List._∷_ (25, Rows'.any-gone (Syntax.tyStruct (List._∷_ 38 (List._∷_ 91 (List._∷_ 93 List.[]))) (Syntax.tcons (Syntax.tyRef Syntax.erased Syntax.imm (Syntax.tyInt Syntax.w32)) (Syntax.tcons (Syntax.tyInt Syntax.w64) Syntax.tnil)))) (List._∷_ (26, Rows'.any-gone (Syntax.tyRef Syntax.erased Syntax.mut (Syntax.tyInt Syntax.w32))) (List._∷_ (27, Rows'.any-gone (Syntax.tyStruct (List._∷_ 38 (List._∷_ 91 (List._∷_ 93 List.[]))) (Syntax.tcons (Syntax.tyRef Syntax.erased Syntax.mut (Syntax.tyInt Syntax.w32)) (Syntax.tcons (Syntax.tyInt Syntax.w64) Syntax.tnil)))) (List._∷_ (28, Rows'.any-gone Syntax.tyPtr) (List._∷_ (29, Rows'.any-gone (Syntax.tyRef Syntax.erased Syntax.mut (Syntax.tyInt Syntax.w32))) (List._∷_ (30, Mut.mslice (Referent.rtF (Referent.fInt Syntax.w32)) (Syntax.tyRef Syntax.erased Syntax.mut (Syntax.tyInt Syntax.w32)) 9) (List._∷_ (31, Relend.msptr (Referent.rtF (Referent.fInt Syntax.w32)) (Syntax.tyRef Syntax.erased Syntax.mut (Syntax.tyInt Syntax.w32)) 10) List.[])))))))))))))))
 
 abbrev pub t47 : List.List Row.Entry
-t47 = List._∷_ ( 32, Mut.mslice (Referent.rtF (Referent.fInt Syntax.w32)) (Syntax.tyRef Syntax.erased Syntax.mut (Syntax.tyInt Syntax.w32)) 10,
+t47 = List._∷_ (
+  32,
+  Mut.mslice (Referent.rtF (Referent.fInt Syntax.w32)) (Syntax.tyRef Syntax.erased Syntax.mut (Syntax.tyInt Syntax.w32)) 10,
 ) List.[]
 
 abbrev pub t48 : List.List Row.Entry
-t48 = List._∷_ (0, Rows'.whole (Declared.row Quote.the-type)) (List._∷_ ( 1, Mut.mslice T τ 0,
-) (List._∷_ ( 2, Rows'.sslice (Referent.rtF (Referent.fInt Syntax.w8)) (Syntax.tyRef (Syntax.named 1) Syntax.imm (Syntax.tyInt Syntax.w8)) 1,
-) (List._∷_ ( 3, Relend.mslice-owed (Referent.rtF (Referent.fInt Syntax.w32)) (Syntax.tyRef (Syntax.named 2) Syntax.mut (Syntax.tyInt Syntax.w32)) 2 9 Row.off,
-) (List._∷_ ( 4, Relend.mslice-owed (Referent.rtF (Referent.fInt Syntax.w32)) (Syntax.tyRef (Syntax.named 3) Syntax.mut (Syntax.tyInt Syntax.w32)) 3 10 Row.off,
-) (List._∷_ (5, Rows'.sc-here (Row.sInt Syntax.w64)) (List._∷_ ( 6, Rows'.whole (Declared.row Quote.the-type),
-) (List._∷_ (7, Rows'.sc-here (Row.sInt Syntax.w64)) (List._∷_ ( 8, Rows'.sc-here (Row.sInt Syntax.w64),
-) (List._∷_ (9, Rows'.any-gone σ) (List._∷_ ( 10, Rows'.any-gone (Syntax.tyRef Syntax.erased Syntax.mut (Syntax.tyInt Syntax.w32)),
-) (List._∷_ ( 11, Rows'.any-gone (Syntax.tyStruct (List._∷_ 38 (List._∷_ 91 (List._∷_ 93 List.[]))) (Syntax.tcons (Syntax.tyRef Syntax.erased Syntax.mut (Syntax.tyInt Syntax.w32)) (Syntax.tcons (Syntax.tyInt Syntax.w64) Syntax.tnil))),
-) (List._∷_ ( 12, Rows'.any-gone (Syntax.tyRef Syntax.erased Syntax.mut (Syntax.tyInt Syntax.w32)), ) (List._∷_ ( 13, Rows'.any-gone (Syntax.tyStruct (List._∷_ 38 (List._∷_ 91 (List._∷_ 93 List.[]))) (Syntax.tcons (Syntax.tyRef Syntax.erased Syntax.mut (Syntax.tyInt Syntax.w32)) (Syntax.tcons (Syntax.tyInt Syntax.w64) Syntax.tnil))), ) (List._∷_ (14, Rows'.any-gone Syntax.tyBool) (List._∷_ ( 15, Rows'.any-gone (Syntax.tyInt Syntax.w64), ) List.[])))))))))))))))
+t48 = List._∷_ (0, Rows'.whole (Declared.row Quote.the-type)) (List._∷_ (
+  1,
+  Mut.mslice T τ 0,
+) (List._∷_ (
+  2,
+  Rows'.sslice (Referent.rtF (Referent.fInt Syntax.w8)) (Syntax.tyRef (Syntax.named 1) Syntax.imm (Syntax.tyInt Syntax.w8)) 1,
+) (List._∷_ (
+  3,
+  Relend.mslice-owed (Referent.rtF (Referent.fInt Syntax.w32)) (Syntax.tyRef (Syntax.named 2) Syntax.mut (Syntax.tyInt Syntax.w32)) 2 9 Row.off,
+) (List._∷_ (
+  4,
+  Relend.mslice-owed (Referent.rtF (Referent.fInt Syntax.w32)) (Syntax.tyRef (Syntax.named 3) Syntax.mut (Syntax.tyInt Syntax.w32)) 3 10 Row.off,
+) (List._∷_ (5, Rows'.sc-here (Row.sInt Syntax.w64)) (List._∷_ (
+  6,
+  Rows'.whole (Declared.row Quote.the-type),
+) (List._∷_ (7, Rows'.sc-here (Row.sInt Syntax.w64)) (List._∷_ (
+  8,
+  Rows'.sc-here (Row.sInt Syntax.w64),
+) (List._∷_ (9, Rows'.any-gone σ) (List._∷_ (
+  10,
+  Rows'.any-gone (Syntax.tyRef Syntax.erased Syntax.mut (Syntax.tyInt Syntax.w32)),
+) (List._∷_ (
+  11,
+  Rows'.any-gone (Syntax.tyStruct (List._∷_ 38 (List._∷_ 91 (List._∷_ 93 List.[]))) (Syntax.tcons (Syntax.tyRef Syntax.erased Syntax.mut (Syntax.tyInt Syntax.w32)) (Syntax.tcons (Syntax.tyInt Syntax.w64) Syntax.tnil))),
+) (List._∷_ (12, Rows'.any-gone (Syntax.tyRef Syntax.erased Syntax.mut (Syntax.tyInt Syntax.w32))) (List._∷_ (13, Rows'.any-gone (Syntax.tyStruct (List._∷_ 38 (List._∷_ 91 (List._∷_ 93 List.[]))) (Syntax.tcons (Syntax.tyRef Syntax.erased Syntax.mut (Syntax.tyInt Syntax.w32)) (Syntax.tcons (Syntax.tyInt Syntax.w64) Syntax.tnil)))) (List._∷_ (14, Rows'.any-gone Syntax.tyBool) (List._∷_ (15, Rows'.any-gone (Syntax.tyInt Syntax.w64)) List.[])))))))))))))))
 
 abbrev pub t49 : List.List Row.Entry
-t49 = List._∷_ (16, Rows'.any-gone Syntax.tyPtr) (List._∷_ ( 17, Rows'.any-gone σ,
-) (List._∷_ ( 18, Rows'.any-gone (Syntax.tyRef Syntax.erased Syntax.imm (Syntax.tyInt Syntax.w32)), ) (List._∷_ ( 19, Rows'.any-gone (Syntax.tyStruct (List._∷_ 38 (List._∷_ 91 (List._∷_ 93 List.[]))) (Syntax.tcons (Syntax.tyRef Syntax.erased Syntax.imm (Syntax.tyInt Syntax.w32)) (Syntax.tcons (Syntax.tyInt Syntax.w64) Syntax.tnil))), ) (List._∷_ (20, Rows'.any-gone Syntax.tyBool) (List._∷_ ( 21, Rows'.any-gone (Syntax.tyInt Syntax.w64), ) (List._∷_ (22, Rows'.any-gone Syntax.tyPtr) (List._∷_ ( 23, Rows'.any-gone σ, ) (List._∷_ ( 24, Rows'.any-gone (Syntax.tyRef Syntax.erased Syntax.imm (Syntax.tyInt Syntax.w32)), ) (List._∷_ ( 25, Rows'.any-gone (Syntax.tyStruct (List._∷_ 38 (List._∷_ 91 (List._∷_ 93 List.[]))) (Syntax.tcons (Syntax.tyRef Syntax.erased Syntax.imm (Syntax.tyInt Syntax.w32)) (Syntax.tcons (Syntax.tyInt Syntax.w64) Syntax.tnil))), ) (List._∷_ ( 26, Rows'.any-gone (Syntax.tyRef Syntax.erased Syntax.mut (Syntax.tyInt Syntax.w32)), ) (List._∷_ ( 27, Rows'.any-gone (Syntax.tyStruct (List._∷_ 38 (List._∷_ 91 (List._∷_ 93 List.[]))) (Syntax.tcons (Syntax.tyRef Syntax.erased Syntax.mut (Syntax.tyInt Syntax.w32)) (Syntax.tcons (Syntax.tyInt Syntax.w64) Syntax.tnil))), ) (List._∷_ (28, Rows'.any-gone Syntax.tyPtr) (List._∷_ ( 29, Rows'.any-gone (Syntax.tyRef Syntax.erased Syntax.mut (Syntax.tyInt Syntax.w32)), ) (List._∷_ ( 30, Mut.msleft (Referent.rtF (Referent.fInt Syntax.w32)) (Syntax.tyRef Syntax.erased Syntax.mut (Syntax.tyInt Syntax.w32)), ) (List._∷_ ( 31, Rows'.any-gone (Syntax.tyRef Syntax.erased Syntax.mut (Syntax.tyInt Syntax.w32)), ) List.[])))))))))))))))
+t49 = List._∷_ (16, Rows'.any-gone Syntax.tyPtr) (List._∷_ (
+  17,
+  Rows'.any-gone σ,
+) (List._∷_ (18, Rows'.any-gone (Syntax.tyRef Syntax.erased Syntax.imm (Syntax.tyInt Syntax.w32))) (List._∷_ (19, Rows'.any-gone (Syntax.tyStruct (List._∷_ 38 (List._∷_ 91 (List._∷_ 93 List.[]))) (Syntax.tcons (Syntax.tyRef Syntax.erased Syntax.imm (Syntax.tyInt Syntax.w32)) (Syntax.tcons (Syntax.tyInt Syntax.w64) Syntax.tnil)))) (List._∷_ (20, Rows'.any-gone Syntax.tyBool) (List._∷_ (21, Rows'.any-gone (Syntax.tyInt Syntax.w64)) (List._∷_ (22, Rows'.any-gone Syntax.tyPtr) (List._∷_ (23, Rows'.any-gone σ) (List._∷_ (24, Rows'.any-gone (Syntax.tyRef Syntax.erased Syntax.imm (Syntax.tyInt Syntax.w32))) (List._∷_ (25, Rows'.any-gone (Syntax.tyStruct (List._∷_ 38 (List._∷_ 91 (List._∷_ 93 List.[]))) (Syntax.tcons (Syntax.tyRef Syntax.erased Syntax.imm (Syntax.tyInt Syntax.w32)) (Syntax.tcons (Syntax.tyInt Syntax.w64) Syntax.tnil)))) (List._∷_ (26, Rows'.any-gone (Syntax.tyRef Syntax.erased Syntax.mut (Syntax.tyInt Syntax.w32))) (List._∷_ (27, Rows'.any-gone (Syntax.tyStruct (List._∷_ 38 (List._∷_ 91 (List._∷_ 93 List.[]))) (Syntax.tcons (Syntax.tyRef Syntax.erased Syntax.mut (Syntax.tyInt Syntax.w32)) (Syntax.tcons (Syntax.tyInt Syntax.w64) Syntax.tnil)))) (List._∷_ (28, Rows'.any-gone Syntax.tyPtr) (List._∷_ (29, Rows'.any-gone (Syntax.tyRef Syntax.erased Syntax.mut (Syntax.tyInt Syntax.w32))) (List._∷_ (30, Mut.msleft (Referent.rtF (Referent.fInt Syntax.w32)) (Syntax.tyRef Syntax.erased Syntax.mut (Syntax.tyInt Syntax.w32))) (List._∷_ (31, Rows'.any-gone (Syntax.tyRef Syntax.erased Syntax.mut (Syntax.tyInt Syntax.w32))) List.[])))))))))))))))
 
 abbrev pub t50 : List.List Row.Entry
-t50 = List._∷_ ( 32, Mut.msleft (Referent.rtF (Referent.fInt Syntax.w32)) (Syntax.tyRef Syntax.erased Syntax.mut (Syntax.tyInt Syntax.w32)),
+t50 = List._∷_ (
+  32,
+  Mut.msleft (Referent.rtF (Referent.fInt Syntax.w32)) (Syntax.tyRef Syntax.erased Syntax.mut (Syntax.tyInt Syntax.w32)),
 ) List.[]
 
 abbrev pub t51 : List.List Row.Entry
-t51 = List._∷_ (0, Rows'.whole (Declared.row Quote.the-type)) (List._∷_ ( 1, Mut.mslice T τ 0,
-) (List._∷_ ( 2, Rows'.sslice (Referent.rtF (Referent.fInt Syntax.w8)) (Syntax.tyRef (Syntax.named 1) Syntax.imm (Syntax.tyInt Syntax.w8)) 1,
-) (List._∷_ ( 3, Relend.mslice-owed (Referent.rtF (Referent.fInt Syntax.w32)) (Syntax.tyRef (Syntax.named 2) Syntax.mut (Syntax.tyInt Syntax.w32)) 2 9 Row.off,
-) (List._∷_ ( 4, Relend.mslice-owed (Referent.rtF (Referent.fInt Syntax.w32)) (Syntax.tyRef (Syntax.named 3) Syntax.mut (Syntax.tyInt Syntax.w32)) 3 10 Row.off,
-) (List._∷_ (5, Rows'.any-gone (Syntax.tyInt Syntax.w64)) (List._∷_ ( 6, Rows'.whole (Declared.row Quote.the-type),
-) (List._∷_ (7, Rows'.sc-here (Row.sInt Syntax.w64)) (List._∷_ ( 8, Rows'.sc-here (Row.sInt Syntax.w64),
-) (List._∷_ (9, Rows'.any-gone σ) (List._∷_ ( 10, Rows'.any-gone (Syntax.tyRef Syntax.erased Syntax.mut (Syntax.tyInt Syntax.w32)),
-) (List._∷_ ( 11, Rows'.any-gone (Syntax.tyStruct (List._∷_ 38 (List._∷_ 91 (List._∷_ 93 List.[]))) (Syntax.tcons (Syntax.tyRef Syntax.erased Syntax.mut (Syntax.tyInt Syntax.w32)) (Syntax.tcons (Syntax.tyInt Syntax.w64) Syntax.tnil))),
-) (List._∷_ ( 12, Rows'.any-gone (Syntax.tyRef Syntax.erased Syntax.mut (Syntax.tyInt Syntax.w32)), ) (List._∷_ ( 13, Rows'.any-gone (Syntax.tyStruct (List._∷_ 38 (List._∷_ 91 (List._∷_ 93 List.[]))) (Syntax.tcons (Syntax.tyRef Syntax.erased Syntax.mut (Syntax.tyInt Syntax.w32)) (Syntax.tcons (Syntax.tyInt Syntax.w64) Syntax.tnil))), ) (List._∷_ (14, Rows'.any-gone Syntax.tyBool) (List._∷_ ( 15, Rows'.any-gone (Syntax.tyInt Syntax.w64), ) List.[])))))))))))))))
+t51 = List._∷_ (0, Rows'.whole (Declared.row Quote.the-type)) (List._∷_ (
+  1,
+  Mut.mslice T τ 0,
+) (List._∷_ (
+  2,
+  Rows'.sslice (Referent.rtF (Referent.fInt Syntax.w8)) (Syntax.tyRef (Syntax.named 1) Syntax.imm (Syntax.tyInt Syntax.w8)) 1,
+) (List._∷_ (
+  3,
+  Relend.mslice-owed (Referent.rtF (Referent.fInt Syntax.w32)) (Syntax.tyRef (Syntax.named 2) Syntax.mut (Syntax.tyInt Syntax.w32)) 2 9 Row.off,
+) (List._∷_ (
+  4,
+  Relend.mslice-owed (Referent.rtF (Referent.fInt Syntax.w32)) (Syntax.tyRef (Syntax.named 3) Syntax.mut (Syntax.tyInt Syntax.w32)) 3 10 Row.off,
+) (List._∷_ (5, Rows'.any-gone (Syntax.tyInt Syntax.w64)) (List._∷_ (
+  6,
+  Rows'.whole (Declared.row Quote.the-type),
+) (List._∷_ (7, Rows'.sc-here (Row.sInt Syntax.w64)) (List._∷_ (
+  8,
+  Rows'.sc-here (Row.sInt Syntax.w64),
+) (List._∷_ (9, Rows'.any-gone σ) (List._∷_ (
+  10,
+  Rows'.any-gone (Syntax.tyRef Syntax.erased Syntax.mut (Syntax.tyInt Syntax.w32)),
+) (List._∷_ (
+  11,
+  Rows'.any-gone (Syntax.tyStruct (List._∷_ 38 (List._∷_ 91 (List._∷_ 93 List.[]))) (Syntax.tcons (Syntax.tyRef Syntax.erased Syntax.mut (Syntax.tyInt Syntax.w32)) (Syntax.tcons (Syntax.tyInt Syntax.w64) Syntax.tnil))),
+) (List._∷_ (12, Rows'.any-gone (Syntax.tyRef Syntax.erased Syntax.mut (Syntax.tyInt Syntax.w32))) (List._∷_ (13, Rows'.any-gone (Syntax.tyStruct (List._∷_ 38 (List._∷_ 91 (List._∷_ 93 List.[]))) (Syntax.tcons (Syntax.tyRef Syntax.erased Syntax.mut (Syntax.tyInt Syntax.w32)) (Syntax.tcons (Syntax.tyInt Syntax.w64) Syntax.tnil)))) (List._∷_ (14, Rows'.any-gone Syntax.tyBool) (List._∷_ (15, Rows'.any-gone (Syntax.tyInt Syntax.w64)) List.[])))))))))))))))
 
 abbrev pub t52 : List.List Row.Entry
-t52 = List._∷_ (0, Rows'.whole (Declared.row Quote.the-type)) (List._∷_ ( 1, Mut.mslice T τ 0,
-) (List._∷_ ( 2, Rows'.sslice (Referent.rtF (Referent.fInt Syntax.w8)) (Syntax.tyRef (Syntax.named 1) Syntax.imm (Syntax.tyInt Syntax.w8)) 1,
-) (List._∷_ ( 3, Relend.mslice-owed (Referent.rtF (Referent.fInt Syntax.w32)) (Syntax.tyRef (Syntax.named 2) Syntax.mut (Syntax.tyInt Syntax.w32)) 2 9 Row.off,
-) (List._∷_ ( 4, Relend.mslice-owed (Referent.rtF (Referent.fInt Syntax.w32)) (Syntax.tyRef (Syntax.named 3) Syntax.mut (Syntax.tyInt Syntax.w32)) 3 10 Row.off,
-) (List._∷_ (5, Rows'.any-gone (Syntax.tyInt Syntax.w64)) (List._∷_ ( 6, Rows'.any-gone (Syntax.tyStruct (List._∷_ 102 (List._∷_ 105 (List._∷_ 114 (List._∷_ 109 (List._∷_ 58 (List._∷_ 58 (List._∷_ 81 (List._∷_ 117 (List._∷_ 111 (List._∷_ 116 (List._∷_ 101 List.[]))))))))))) (Syntax.tcons (Syntax.tyInt Syntax.w32) (Syntax.tcons (Syntax.tyInt Syntax.w64) (Syntax.tcons (Syntax.tyInt Syntax.w64) (Syntax.tcons (Syntax.tyInt Syntax.w32) Syntax.tnil))))),
-) (List._∷_ (7, Rows'.sc-here (Row.sInt Syntax.w64)) (List._∷_ ( 8, Rows'.sc-here (Row.sInt Syntax.w64),
-) (List._∷_ (9, Rows'.any-gone σ) (List._∷_ ( 10, Rows'.any-gone (Syntax.tyRef Syntax.erased Syntax.mut (Syntax.tyInt Syntax.w32)),
-) (List._∷_ ( 11, Rows'.any-gone (Syntax.tyStruct (List._∷_ 38 (List._∷_ 91 (List._∷_ 93 List.[]))) (Syntax.tcons (Syntax.tyRef Syntax.erased Syntax.mut (Syntax.tyInt Syntax.w32)) (Syntax.tcons (Syntax.tyInt Syntax.w64) Syntax.tnil))),
-) (List._∷_ ( 12, Rows'.any-gone (Syntax.tyRef Syntax.erased Syntax.mut (Syntax.tyInt Syntax.w32)), ) (List._∷_ ( 13, Rows'.any-gone (Syntax.tyStruct (List._∷_ 38 (List._∷_ 91 (List._∷_ 93 List.[]))) (Syntax.tcons (Syntax.tyRef Syntax.erased Syntax.mut (Syntax.tyInt Syntax.w32)) (Syntax.tcons (Syntax.tyInt Syntax.w64) Syntax.tnil))), ) (List._∷_ (14, Rows'.any-gone Syntax.tyBool) (List._∷_ ( 15, Rows'.any-gone (Syntax.tyInt Syntax.w64), ) List.[])))))))))))))))
+t52 = List._∷_ (0, Rows'.whole (Declared.row Quote.the-type)) (List._∷_ (
+  1,
+  Mut.mslice T τ 0,
+) (List._∷_ (
+  2,
+  Rows'.sslice (Referent.rtF (Referent.fInt Syntax.w8)) (Syntax.tyRef (Syntax.named 1) Syntax.imm (Syntax.tyInt Syntax.w8)) 1,
+) (List._∷_ (
+  3,
+  Relend.mslice-owed (Referent.rtF (Referent.fInt Syntax.w32)) (Syntax.tyRef (Syntax.named 2) Syntax.mut (Syntax.tyInt Syntax.w32)) 2 9 Row.off,
+) (List._∷_ (
+  4,
+  Relend.mslice-owed (Referent.rtF (Referent.fInt Syntax.w32)) (Syntax.tyRef (Syntax.named 3) Syntax.mut (Syntax.tyInt Syntax.w32)) 3 10 Row.off,
+) (List._∷_ (5, Rows'.any-gone (Syntax.tyInt Syntax.w64)) (List._∷_ (
+  6,
+  Rows'.any-gone (Syntax.tyStruct (List._∷_ 102 (List._∷_ 105 (List._∷_ 114 (List._∷_ 109 (List._∷_ 58 (List._∷_ 58 (List._∷_ 81 (List._∷_ 117 (List._∷_ 111 (List._∷_ 116 (List._∷_ 101 List.[]))))))))))) (Syntax.tcons (Syntax.tyInt Syntax.w32) (Syntax.tcons (Syntax.tyInt Syntax.w64) (Syntax.tcons (Syntax.tyInt Syntax.w64) (Syntax.tcons (Syntax.tyInt Syntax.w32) Syntax.tnil))))),
+) (List._∷_ (7, Rows'.sc-here (Row.sInt Syntax.w64)) (List._∷_ (
+  8,
+  Rows'.sc-here (Row.sInt Syntax.w64),
+) (List._∷_ (9, Rows'.any-gone σ) (List._∷_ (
+  10,
+  Rows'.any-gone (Syntax.tyRef Syntax.erased Syntax.mut (Syntax.tyInt Syntax.w32)),
+) (List._∷_ (
+  11,
+  Rows'.any-gone (Syntax.tyStruct (List._∷_ 38 (List._∷_ 91 (List._∷_ 93 List.[]))) (Syntax.tcons (Syntax.tyRef Syntax.erased Syntax.mut (Syntax.tyInt Syntax.w32)) (Syntax.tcons (Syntax.tyInt Syntax.w64) Syntax.tnil))),
+) (List._∷_ (12, Rows'.any-gone (Syntax.tyRef Syntax.erased Syntax.mut (Syntax.tyInt Syntax.w32))) (List._∷_ (13, Rows'.any-gone (Syntax.tyStruct (List._∷_ 38 (List._∷_ 91 (List._∷_ 93 List.[]))) (Syntax.tcons (Syntax.tyRef Syntax.erased Syntax.mut (Syntax.tyInt Syntax.w32)) (Syntax.tcons (Syntax.tyInt Syntax.w64) Syntax.tnil)))) (List._∷_ (14, Rows'.any-gone Syntax.tyBool) (List._∷_ (15, Rows'.any-gone (Syntax.tyInt Syntax.w64)) List.[])))))))))))))))
 
 abbrev pub t53 : List.List Row.Entry
-t53 = List._∷_ (0, Rows'.whole (Declared.row Quote.the-type)) (List._∷_ ( 1, Mut.mslice T τ 0,
-) (List._∷_ ( 2, Rows'.sslice (Referent.rtF (Referent.fInt Syntax.w8)) (Syntax.tyRef (Syntax.named 1) Syntax.imm (Syntax.tyInt Syntax.w8)) 1,
-) (List._∷_ ( 3, Relend.mslice-owed (Referent.rtF (Referent.fInt Syntax.w32)) (Syntax.tyRef (Syntax.named 2) Syntax.mut (Syntax.tyInt Syntax.w32)) 2 9 Row.off,
-) (List._∷_ ( 4, Relend.mslice-owed (Referent.rtF (Referent.fInt Syntax.w32)) (Syntax.tyRef (Syntax.named 3) Syntax.mut (Syntax.tyInt Syntax.w32)) 3 10 Row.off,
-) (List._∷_ (5, Rows'.any-gone (Syntax.tyInt Syntax.w64)) (List._∷_ ( 6, Rows'.any-gone (Syntax.tyStruct (List._∷_ 102 (List._∷_ 105 (List._∷_ 114 (List._∷_ 109 (List._∷_ 58 (List._∷_ 58 (List._∷_ 81 (List._∷_ 117 (List._∷_ 111 (List._∷_ 116 (List._∷_ 101 List.[]))))))))))) (Syntax.tcons (Syntax.tyInt Syntax.w32) (Syntax.tcons (Syntax.tyInt Syntax.w64) (Syntax.tcons (Syntax.tyInt Syntax.w64) (Syntax.tcons (Syntax.tyInt Syntax.w32) Syntax.tnil))))),
-) (List._∷_ (7, Rows'.any-gone (Syntax.tyInt Syntax.w64)) (List._∷_ ( 8, Rows'.sc-here (Row.sInt Syntax.w64),
-) (List._∷_ (9, Rows'.any-gone σ) (List._∷_ ( 10, Rows'.any-gone (Syntax.tyRef Syntax.erased Syntax.mut (Syntax.tyInt Syntax.w32)),
-) (List._∷_ ( 11, Rows'.any-gone (Syntax.tyStruct (List._∷_ 38 (List._∷_ 91 (List._∷_ 93 List.[]))) (Syntax.tcons (Syntax.tyRef Syntax.erased Syntax.mut (Syntax.tyInt Syntax.w32)) (Syntax.tcons (Syntax.tyInt Syntax.w64) Syntax.tnil))),
-) (List._∷_ ( 12, Rows'.any-gone (Syntax.tyRef Syntax.erased Syntax.mut (Syntax.tyInt Syntax.w32)), ) (List._∷_ ( 13, Rows'.any-gone (Syntax.tyStruct (List._∷_ 38 (List._∷_ 91 (List._∷_ 93 List.[]))) (Syntax.tcons (Syntax.tyRef Syntax.erased Syntax.mut (Syntax.tyInt Syntax.w32)) (Syntax.tcons (Syntax.tyInt Syntax.w64) Syntax.tnil))), ) (List._∷_ (14, Rows'.any-gone Syntax.tyBool) (List._∷_ ( 15, Rows'.any-gone (Syntax.tyInt Syntax.w64), ) List.[])))))))))))))))
+t53 = List._∷_ (0, Rows'.whole (Declared.row Quote.the-type)) (List._∷_ (
+  1,
+  Mut.mslice T τ 0,
+) (List._∷_ (
+  2,
+  Rows'.sslice (Referent.rtF (Referent.fInt Syntax.w8)) (Syntax.tyRef (Syntax.named 1) Syntax.imm (Syntax.tyInt Syntax.w8)) 1,
+) (List._∷_ (
+  3,
+  Relend.mslice-owed (Referent.rtF (Referent.fInt Syntax.w32)) (Syntax.tyRef (Syntax.named 2) Syntax.mut (Syntax.tyInt Syntax.w32)) 2 9 Row.off,
+) (List._∷_ (
+  4,
+  Relend.mslice-owed (Referent.rtF (Referent.fInt Syntax.w32)) (Syntax.tyRef (Syntax.named 3) Syntax.mut (Syntax.tyInt Syntax.w32)) 3 10 Row.off,
+) (List._∷_ (5, Rows'.any-gone (Syntax.tyInt Syntax.w64)) (List._∷_ (
+  6,
+  Rows'.any-gone (Syntax.tyStruct (List._∷_ 102 (List._∷_ 105 (List._∷_ 114 (List._∷_ 109 (List._∷_ 58 (List._∷_ 58 (List._∷_ 81 (List._∷_ 117 (List._∷_ 111 (List._∷_ 116 (List._∷_ 101 List.[]))))))))))) (Syntax.tcons (Syntax.tyInt Syntax.w32) (Syntax.tcons (Syntax.tyInt Syntax.w64) (Syntax.tcons (Syntax.tyInt Syntax.w64) (Syntax.tcons (Syntax.tyInt Syntax.w32) Syntax.tnil))))),
+) (List._∷_ (7, Rows'.any-gone (Syntax.tyInt Syntax.w64)) (List._∷_ (
+  8,
+  Rows'.sc-here (Row.sInt Syntax.w64),
+) (List._∷_ (9, Rows'.any-gone σ) (List._∷_ (
+  10,
+  Rows'.any-gone (Syntax.tyRef Syntax.erased Syntax.mut (Syntax.tyInt Syntax.w32)),
+) (List._∷_ (
+  11,
+  Rows'.any-gone (Syntax.tyStruct (List._∷_ 38 (List._∷_ 91 (List._∷_ 93 List.[]))) (Syntax.tcons (Syntax.tyRef Syntax.erased Syntax.mut (Syntax.tyInt Syntax.w32)) (Syntax.tcons (Syntax.tyInt Syntax.w64) Syntax.tnil))),
+) (List._∷_ (12, Rows'.any-gone (Syntax.tyRef Syntax.erased Syntax.mut (Syntax.tyInt Syntax.w32))) (List._∷_ (13, Rows'.any-gone (Syntax.tyStruct (List._∷_ 38 (List._∷_ 91 (List._∷_ 93 List.[]))) (Syntax.tcons (Syntax.tyRef Syntax.erased Syntax.mut (Syntax.tyInt Syntax.w32)) (Syntax.tcons (Syntax.tyInt Syntax.w64) Syntax.tnil)))) (List._∷_ (14, Rows'.any-gone Syntax.tyBool) (List._∷_ (15, Rows'.any-gone (Syntax.tyInt Syntax.w64)) List.[])))))))))))))))
 
 abbrev pub t54 : List.List Row.Entry
-t54 = List._∷_ (0, Rows'.whole (Declared.row Quote.the-type)) (List._∷_ ( 1, Mut.mslice T τ 0,
-) (List._∷_ ( 2, Rows'.sslice (Referent.rtF (Referent.fInt Syntax.w8)) (Syntax.tyRef (Syntax.named 1) Syntax.imm (Syntax.tyInt Syntax.w8)) 1,
-) (List._∷_ ( 3, Relend.mslice-owed (Referent.rtF (Referent.fInt Syntax.w32)) (Syntax.tyRef (Syntax.named 2) Syntax.mut (Syntax.tyInt Syntax.w32)) 2 9 Row.off,
-) (List._∷_ ( 4, Relend.mslice-owed (Referent.rtF (Referent.fInt Syntax.w32)) (Syntax.tyRef (Syntax.named 3) Syntax.mut (Syntax.tyInt Syntax.w32)) 3 10 Row.off,
-) (List._∷_ (5, Rows'.any-gone (Syntax.tyInt Syntax.w64)) (List._∷_ ( 6, Rows'.any-gone (Syntax.tyStruct (List._∷_ 102 (List._∷_ 105 (List._∷_ 114 (List._∷_ 109 (List._∷_ 58 (List._∷_ 58 (List._∷_ 81 (List._∷_ 117 (List._∷_ 111 (List._∷_ 116 (List._∷_ 101 List.[]))))))))))) (Syntax.tcons (Syntax.tyInt Syntax.w32) (Syntax.tcons (Syntax.tyInt Syntax.w64) (Syntax.tcons (Syntax.tyInt Syntax.w64) (Syntax.tcons (Syntax.tyInt Syntax.w32) Syntax.tnil))))),
-) (List._∷_ (7, Rows'.any-gone (Syntax.tyInt Syntax.w64)) (List._∷_ ( 8, Rows'.any-gone (Syntax.tyInt Syntax.w64),
-) (List._∷_ (9, Rows'.any-gone σ) (List._∷_ ( 10, Rows'.any-gone (Syntax.tyRef Syntax.erased Syntax.mut (Syntax.tyInt Syntax.w32)),
-) (List._∷_ ( 11, Rows'.any-gone (Syntax.tyStruct (List._∷_ 38 (List._∷_ 91 (List._∷_ 93 List.[]))) (Syntax.tcons (Syntax.tyRef Syntax.erased Syntax.mut (Syntax.tyInt Syntax.w32)) (Syntax.tcons (Syntax.tyInt Syntax.w64) Syntax.tnil))),
-) (List._∷_ ( 12, Rows'.any-gone (Syntax.tyRef Syntax.erased Syntax.mut (Syntax.tyInt Syntax.w32)), ) (List._∷_ ( 13, Rows'.any-gone (Syntax.tyStruct (List._∷_ 38 (List._∷_ 91 (List._∷_ 93 List.[]))) (Syntax.tcons (Syntax.tyRef Syntax.erased Syntax.mut (Syntax.tyInt Syntax.w32)) (Syntax.tcons (Syntax.tyInt Syntax.w64) Syntax.tnil))), ) (List._∷_ (14, Rows'.any-gone Syntax.tyBool) (List._∷_ ( 15, Rows'.any-gone (Syntax.tyInt Syntax.w64), ) List.[])))))))))))))))
+t54 = List._∷_ (0, Rows'.whole (Declared.row Quote.the-type)) (List._∷_ (
+  1,
+  Mut.mslice T τ 0,
+) (List._∷_ (
+  2,
+  Rows'.sslice (Referent.rtF (Referent.fInt Syntax.w8)) (Syntax.tyRef (Syntax.named 1) Syntax.imm (Syntax.tyInt Syntax.w8)) 1,
+) (List._∷_ (
+  3,
+  Relend.mslice-owed (Referent.rtF (Referent.fInt Syntax.w32)) (Syntax.tyRef (Syntax.named 2) Syntax.mut (Syntax.tyInt Syntax.w32)) 2 9 Row.off,
+) (List._∷_ (
+  4,
+  Relend.mslice-owed (Referent.rtF (Referent.fInt Syntax.w32)) (Syntax.tyRef (Syntax.named 3) Syntax.mut (Syntax.tyInt Syntax.w32)) 3 10 Row.off,
+) (List._∷_ (5, Rows'.any-gone (Syntax.tyInt Syntax.w64)) (List._∷_ (
+  6,
+  Rows'.any-gone (Syntax.tyStruct (List._∷_ 102 (List._∷_ 105 (List._∷_ 114 (List._∷_ 109 (List._∷_ 58 (List._∷_ 58 (List._∷_ 81 (List._∷_ 117 (List._∷_ 111 (List._∷_ 116 (List._∷_ 101 List.[]))))))))))) (Syntax.tcons (Syntax.tyInt Syntax.w32) (Syntax.tcons (Syntax.tyInt Syntax.w64) (Syntax.tcons (Syntax.tyInt Syntax.w64) (Syntax.tcons (Syntax.tyInt Syntax.w32) Syntax.tnil))))),
+) (List._∷_ (7, Rows'.any-gone (Syntax.tyInt Syntax.w64)) (List._∷_ (
+  8,
+  Rows'.any-gone (Syntax.tyInt Syntax.w64),
+) (List._∷_ (9, Rows'.any-gone σ) (List._∷_ (
+  10,
+  Rows'.any-gone (Syntax.tyRef Syntax.erased Syntax.mut (Syntax.tyInt Syntax.w32)),
+) (List._∷_ (
+  11,
+  Rows'.any-gone (Syntax.tyStruct (List._∷_ 38 (List._∷_ 91 (List._∷_ 93 List.[]))) (Syntax.tcons (Syntax.tyRef Syntax.erased Syntax.mut (Syntax.tyInt Syntax.w32)) (Syntax.tcons (Syntax.tyInt Syntax.w64) Syntax.tnil))),
+) (List._∷_ (12, Rows'.any-gone (Syntax.tyRef Syntax.erased Syntax.mut (Syntax.tyInt Syntax.w32))) (List._∷_ (13, Rows'.any-gone (Syntax.tyStruct (List._∷_ 38 (List._∷_ 91 (List._∷_ 93 List.[]))) (Syntax.tcons (Syntax.tyRef Syntax.erased Syntax.mut (Syntax.tyInt Syntax.w32)) (Syntax.tcons (Syntax.tyInt Syntax.w64) Syntax.tnil)))) (List._∷_ (14, Rows'.any-gone Syntax.tyBool) (List._∷_ (15, Rows'.any-gone (Syntax.tyInt Syntax.w64)) List.[])))))))))))))))
 
 abbrev pub t55 : List.List Row.Entry
-t55 = List._∷_ (0, Rows'.whole (Declared.row Quote.the-type)) (List._∷_ ( 1, Mut.mslice T τ 0,
-) (List._∷_ ( 2, Rows'.sslice (Referent.rtF (Referent.fInt Syntax.w8)) (Syntax.tyRef (Syntax.named 1) Syntax.imm (Syntax.tyInt Syntax.w8)) 1,
-) (List._∷_ ( 3, Mut.mslice (Referent.rtF (Referent.fInt Syntax.w32)) (Syntax.tyRef (Syntax.named 2) Syntax.mut (Syntax.tyInt Syntax.w32)) 2,
-) (List._∷_ ( 4, Relend.mslice-owed (Referent.rtF (Referent.fInt Syntax.w32)) (Syntax.tyRef (Syntax.named 3) Syntax.mut (Syntax.tyInt Syntax.w32)) 3 10 Row.off,
-) (List._∷_ (5, Rows'.any-gone (Syntax.tyInt Syntax.w64)) (List._∷_ ( 6, Rows'.any-gone (Syntax.tyStruct (List._∷_ 102 (List._∷_ 105 (List._∷_ 114 (List._∷_ 109 (List._∷_ 58 (List._∷_ 58 (List._∷_ 81 (List._∷_ 117 (List._∷_ 111 (List._∷_ 116 (List._∷_ 101 List.[]))))))))))) (Syntax.tcons (Syntax.tyInt Syntax.w32) (Syntax.tcons (Syntax.tyInt Syntax.w64) (Syntax.tcons (Syntax.tyInt Syntax.w64) (Syntax.tcons (Syntax.tyInt Syntax.w32) Syntax.tnil))))),
-) (List._∷_ (7, Rows'.any-gone (Syntax.tyInt Syntax.w64)) (List._∷_ ( 8, Rows'.any-gone (Syntax.tyInt Syntax.w64),
-) (List._∷_ (9, Rows'.any-gone σ) (List._∷_ ( 10, Rows'.any-gone (Syntax.tyRef Syntax.erased Syntax.mut (Syntax.tyInt Syntax.w32)),
-) (List._∷_ ( 11, Rows'.any-gone (Syntax.tyStruct (List._∷_ 38 (List._∷_ 91 (List._∷_ 93 List.[]))) (Syntax.tcons (Syntax.tyRef Syntax.erased Syntax.mut (Syntax.tyInt Syntax.w32)) (Syntax.tcons (Syntax.tyInt Syntax.w64) Syntax.tnil))),
-) (List._∷_ ( 12, Rows'.any-gone (Syntax.tyRef Syntax.erased Syntax.mut (Syntax.tyInt Syntax.w32)), ) (List._∷_ ( 13, Rows'.any-gone (Syntax.tyStruct (List._∷_ 38 (List._∷_ 91 (List._∷_ 93 List.[]))) (Syntax.tcons (Syntax.tyRef Syntax.erased Syntax.mut (Syntax.tyInt Syntax.w32)) (Syntax.tcons (Syntax.tyInt Syntax.w64) Syntax.tnil))), ) (List._∷_ (14, Rows'.any-gone Syntax.tyBool) (List._∷_ ( 15, Rows'.any-gone (Syntax.tyInt Syntax.w64), ) List.[])))))))))))))))
+t55 = List._∷_ (0, Rows'.whole (Declared.row Quote.the-type)) (List._∷_ (
+  1,
+  Mut.mslice T τ 0,
+) (List._∷_ (
+  2,
+  Rows'.sslice (Referent.rtF (Referent.fInt Syntax.w8)) (Syntax.tyRef (Syntax.named 1) Syntax.imm (Syntax.tyInt Syntax.w8)) 1,
+) (List._∷_ (
+  3,
+  Mut.mslice (Referent.rtF (Referent.fInt Syntax.w32)) (Syntax.tyRef (Syntax.named 2) Syntax.mut (Syntax.tyInt Syntax.w32)) 2,
+) (List._∷_ (
+  4,
+  Relend.mslice-owed (Referent.rtF (Referent.fInt Syntax.w32)) (Syntax.tyRef (Syntax.named 3) Syntax.mut (Syntax.tyInt Syntax.w32)) 3 10 Row.off,
+) (List._∷_ (5, Rows'.any-gone (Syntax.tyInt Syntax.w64)) (List._∷_ (
+  6,
+  Rows'.any-gone (Syntax.tyStruct (List._∷_ 102 (List._∷_ 105 (List._∷_ 114 (List._∷_ 109 (List._∷_ 58 (List._∷_ 58 (List._∷_ 81 (List._∷_ 117 (List._∷_ 111 (List._∷_ 116 (List._∷_ 101 List.[]))))))))))) (Syntax.tcons (Syntax.tyInt Syntax.w32) (Syntax.tcons (Syntax.tyInt Syntax.w64) (Syntax.tcons (Syntax.tyInt Syntax.w64) (Syntax.tcons (Syntax.tyInt Syntax.w32) Syntax.tnil))))),
+) (List._∷_ (7, Rows'.any-gone (Syntax.tyInt Syntax.w64)) (List._∷_ (
+  8,
+  Rows'.any-gone (Syntax.tyInt Syntax.w64),
+) (List._∷_ (9, Rows'.any-gone σ) (List._∷_ (
+  10,
+  Rows'.any-gone (Syntax.tyRef Syntax.erased Syntax.mut (Syntax.tyInt Syntax.w32)),
+) (List._∷_ (
+  11,
+  Rows'.any-gone (Syntax.tyStruct (List._∷_ 38 (List._∷_ 91 (List._∷_ 93 List.[]))) (Syntax.tcons (Syntax.tyRef Syntax.erased Syntax.mut (Syntax.tyInt Syntax.w32)) (Syntax.tcons (Syntax.tyInt Syntax.w64) Syntax.tnil))),
+) (List._∷_ (12, Rows'.any-gone (Syntax.tyRef Syntax.erased Syntax.mut (Syntax.tyInt Syntax.w32))) (List._∷_ (13, Rows'.any-gone (Syntax.tyStruct (List._∷_ 38 (List._∷_ 91 (List._∷_ 93 List.[]))) (Syntax.tcons (Syntax.tyRef Syntax.erased Syntax.mut (Syntax.tyInt Syntax.w32)) (Syntax.tcons (Syntax.tyInt Syntax.w64) Syntax.tnil)))) (List._∷_ (14, Rows'.any-gone Syntax.tyBool) (List._∷_ (15, Rows'.any-gone (Syntax.tyInt Syntax.w64)) List.[])))))))))))))))
 
 abbrev pub T0 : Row.Cx
 T0 = record { locals = List._++_ t0 (List._++_ t1 t2); slots = List.[] }
@@ -1116,7 +1676,9 @@ module _ (claims· : Claims) where
   s9 = Relend.k-sl-aggregate (Referent.rtF (Referent.fInt Syntax.w32)) (Relend.asMut (Referent.rtF (Referent.fInt Syntax.w32))) T10 12 13 5 (Syntax.tyRef Syntax.erased Syntax.mut (Syntax.tyInt Syntax.w32)) (Syntax.tyRef Syntax.erased Syntax.mut (Syntax.tyInt Syntax.w32)) (λ x. x) (Scalar.oFld 4 (List._∷_ (Syntax.field 1) List.[]) (Syntax.tyInt Syntax.w64) 8 λ v. Shared.lenV (v .0))
 
   abbrev s10 : Typed.Both T11 T12
-  s10 = Call.callB ps·0 r·0 (claims· .0) (claims· .1) T11 ( Num.vAt 5 λ x. x, ( record { pos = 2; ty = Syntax.tyRef (Syntax.named 1) Syntax.imm (Syntax.tyInt Syntax.w8); ref = λ x. x; }, ( record { pos = 11; ty = Syntax.tyRef Syntax.erased Syntax.mut (Syntax.tyInt Syntax.w32); ref = λ x. x; }, ( record { pos = 13; ty = Syntax.tyRef Syntax.erased Syntax.mut (Syntax.tyInt Syntax.w32); ref = λ x. x; }, tt, ), ), ),
+  s10 = Call.callB ps·0 r·0 (claims· .0) (claims· .1) T11 (
+    Num.vAt 5 λ x. x,
+    (record { pos = 2; ty = Syntax.tyRef (Syntax.named 1) Syntax.imm (Syntax.tyInt Syntax.w8); ref = λ x. x }, (record { pos = 11; ty = Syntax.tyRef Syntax.erased Syntax.mut (Syntax.tyInt Syntax.w32); ref = λ x. x }, (record { pos = 13; ty = Syntax.tyRef Syntax.erased Syntax.mut (Syntax.tyInt Syntax.w32); ref = λ x. x }, tt))),
   ) 6 (List._∷_ 1 (List._∷_ 4 (List._∷_ 5 List.[]))) (Syntax.tyStruct (List._∷_ 102 (List._∷_ 105 (List._∷_ 114 (List._∷_ 109 (List._∷_ 58 (List._∷_ 58 (List._∷_ 81 (List._∷_ 117 (List._∷_ 111 (List._∷_ 116 (List._∷_ 101 List.[]))))))))))) (Syntax.tcons (Syntax.tyInt Syntax.w32) (Syntax.tcons (Syntax.tyInt Syntax.w64) (Syntax.tcons (Syntax.tyInt Syntax.w64) (Syntax.tcons (Syntax.tyInt Syntax.w32) Syntax.tnil)))))
 
   abbrev s12 : Typed.Both T12 T14
@@ -1165,7 +1727,9 @@ module _ (claims· : Claims) where
   s30 = Relend.k-sl-aggregate (Referent.rtF (Referent.fInt Syntax.w32)) (Relend.asShr (Referent.rtF (Referent.fInt Syntax.w32))) T33 18 19 6 (Syntax.tyRef Syntax.erased Syntax.imm (Syntax.tyInt Syntax.w32)) (Syntax.tyRef Syntax.erased Syntax.imm (Syntax.tyInt Syntax.w32)) (λ x. x) (Scalar.oFld 3 (List._∷_ (Syntax.field 1) List.[]) (Syntax.tyInt Syntax.w64) 8 λ v. Shared.lenV (v .0))
 
   abbrev s31 : Typed.Both T34 T35
-  s31 = Call.callB ps·1 r·1 (claims· .2) (claims· .3) T34 ( record { pos = 6; st = List.[]; d = 0; at = λ x. x }, ( record { pos = 17; st = List.[]; d = 0; at = λ x. x }, ( Num.vAt 7 λ x. x, ( record { pos = 19; ty = Syntax.tyRef Syntax.erased Syntax.imm (Syntax.tyInt Syntax.w32); ref = λ x. x; }, tt, ), ), ),
+  s31 = Call.callB ps·1 r·1 (claims· .2) (claims· .3) T34 (
+    record { pos = 6; st = List.[]; d = 0; at = λ x. x },
+    (record { pos = 17; st = List.[]; d = 0; at = λ x. x }, (Num.vAt 7 λ x. x, (record { pos = 19; ty = Syntax.tyRef Syntax.erased Syntax.imm (Syntax.tyInt Syntax.w32); ref = λ x. x }, tt))),
   ) 6 (List._∷_ 6 List.[]) (Syntax.tyStruct (List._∷_ 102 (List._∷_ 105 (List._∷_ 114 (List._∷_ 109 (List._∷_ 58 (List._∷_ 58 (List._∷_ 81 (List._∷_ 117 (List._∷_ 111 (List._∷_ 116 (List._∷_ 101 List.[]))))))))))) (Syntax.tcons (Syntax.tyInt Syntax.w32) (Syntax.tcons (Syntax.tyInt Syntax.w64) (Syntax.tcons (Syntax.tyInt Syntax.w64) (Syntax.tcons (Syntax.tyInt Syntax.w32) Syntax.tnil)))))
 
   abbrev s32 : Typed.Mo T35 → Typed.Mo T36
@@ -1220,7 +1784,9 @@ module _ (claims· : Claims) where
   s52 = Relend.k-sl-aggregate (Referent.rtF (Referent.fInt Syntax.w32)) (Relend.asMut (Referent.rtF (Referent.fInt Syntax.w32))) T57 26 27 8 (Syntax.tyRef Syntax.erased Syntax.mut (Syntax.tyInt Syntax.w32)) (Syntax.tyRef Syntax.erased Syntax.mut (Syntax.tyInt Syntax.w32)) (λ x. x) (Scalar.oFld 4 (List._∷_ (Syntax.field 1) List.[]) (Syntax.tyInt Syntax.w64) 8 λ v. Shared.lenV (v .0))
 
   abbrev s53 : Typed.Both T58 T59
-  s53 = Call.callB ps·2 r·2 (claims· .4) (claims· .5) T58 ( record { pos = 6; st = List.[]; d = 0; at = λ x. x }, ( record { pos = 23; st = List.[]; d = 0; at = λ x. x }, ( record { pos = 2; ty = Syntax.tyRef (Syntax.named 1) Syntax.imm (Syntax.tyInt Syntax.w8); ref = λ x. x; }, ( record { pos = 25; ty = Syntax.tyRef Syntax.erased Syntax.imm (Syntax.tyInt Syntax.w32); ref = λ x. x; }, ( record { pos = 27; ty = Syntax.tyRef Syntax.erased Syntax.mut (Syntax.tyInt Syntax.w32); ref = λ x. x; }, tt, ), ), ), ),
+  s53 = Call.callB ps·2 r·2 (claims· .4) (claims· .5) T58 (
+    record { pos = 6; st = List.[]; d = 0; at = λ x. x },
+    (record { pos = 23; st = List.[]; d = 0; at = λ x. x }, (record { pos = 2; ty = Syntax.tyRef (Syntax.named 1) Syntax.imm (Syntax.tyInt Syntax.w8); ref = λ x. x }, (record { pos = 25; ty = Syntax.tyRef Syntax.erased Syntax.imm (Syntax.tyInt Syntax.w32); ref = λ x. x }, (record { pos = 27; ty = Syntax.tyRef Syntax.erased Syntax.mut (Syntax.tyInt Syntax.w32); ref = λ x. x }, tt)))),
   ) 9 (List._∷_ 1 (List._∷_ 7 (List._∷_ 8 List.[]))) σ
 
   abbrev s54 : Typed.Mo T59 → Typed.Mo T60
@@ -1239,7 +1805,9 @@ module _ (claims· : Claims) where
   s61 = Know.k-sl-known (Referent.fInt Syntax.w32) T66 4 3 (Syntax.tyRef (Syntax.named 3) Syntax.mut (Syntax.tyInt Syntax.w32)) Row.off 0 λ x. x
 
   abbrev s63 : Typed.Both T67 T69
-  s63 = Call.callB ps·3 r·3 (claims· .6) (claims· .7) T67 ( record { pos = 6; st = List.[]; d = 0; at = λ x. x }, (record { pos = 9; st = List.[]; d = 0; at = λ x. x }, tt),
+  s63 = Call.callB ps·3 r·3 (claims· .6) (claims· .7) T67 (
+    record { pos = 6; st = List.[]; d = 0; at = λ x. x },
+    (record { pos = 9; st = List.[]; d = 0; at = λ x. x }, tt),
   ) 6 List.[] (Syntax.tyStruct (List._∷_ 102 (List._∷_ 105 (List._∷_ 114 (List._∷_ 109 (List._∷_ 58 (List._∷_ 58 (List._∷_ 81 (List._∷_ 117 (List._∷_ 111 (List._∷_ 116 (List._∷_ 101 List.[]))))))))))) (Syntax.tcons (Syntax.tyInt Syntax.w32) (Syntax.tcons (Syntax.tyInt Syntax.w64) (Syntax.tcons (Syntax.tyInt Syntax.w64) (Syntax.tcons (Syntax.tyInt Syntax.w32) Syntax.tnil)))))
 
   abbrev s64 : Typed.Asks T69 T70
@@ -1276,7 +1844,9 @@ module _ (claims· : Claims) where
   s76 = Relend.k-sl-aggregate (Referent.rtF (Referent.fInt Syntax.w32)) (Relend.asMut (Referent.rtF (Referent.fInt Syntax.w32))) T81 31 32 10 (Syntax.tyRef Syntax.erased Syntax.mut (Syntax.tyInt Syntax.w32)) (Syntax.tyRef Syntax.erased Syntax.mut (Syntax.tyInt Syntax.w32)) (λ x. x) (Scalar.oFld 4 (List._∷_ (Syntax.field 1) List.[]) (Syntax.tyInt Syntax.w64) 8 λ v. Shared.lenV (v .0))
 
   abbrev s77 : Typed.Both T82 T83
-  s77 = Call.callB ps·4 r·4 (claims· .8) (claims· .9) T82 ( record { pos = 6; st = List.[]; d = 0; at = λ x. x }, ( record { pos = 30; ty = Syntax.tyRef Syntax.erased Syntax.mut (Syntax.tyInt Syntax.w32); ref = λ x. x; }, ( record { pos = 32; ty = Syntax.tyRef Syntax.erased Syntax.mut (Syntax.tyInt Syntax.w32); ref = λ x. x; }, tt, ), ),
+  s77 = Call.callB ps·4 r·4 (claims· .8) (claims· .9) T82 (
+    record { pos = 6; st = List.[]; d = 0; at = λ x. x },
+    (record { pos = 30; ty = Syntax.tyRef Syntax.erased Syntax.mut (Syntax.tyInt Syntax.w32); ref = λ x. x }, (record { pos = 32; ty = Syntax.tyRef Syntax.erased Syntax.mut (Syntax.tyInt Syntax.w32); ref = λ x. x }, tt)),
   ) 0 (List._∷_ 9 (List._∷_ 10 List.[])) (Syntax.tyStruct (List._∷_ 102 (List._∷_ 105 (List._∷_ 114 (List._∷_ 109 (List._∷_ 58 (List._∷_ 58 (List._∷_ 81 (List._∷_ 117 (List._∷_ 111 (List._∷_ 116 (List._∷_ 101 List.[]))))))))))) (Syntax.tcons (Syntax.tyInt Syntax.w32) (Syntax.tcons (Syntax.tyInt Syntax.w64) (Syntax.tcons (Syntax.tyInt Syntax.w64) (Syntax.tcons (Syntax.tyInt Syntax.w32) Syntax.tnil)))))
 
   abbrev s78 : Typed.Mo T83 → Typed.Mo T84
@@ -1304,10 +1874,10 @@ module _ (claims· : Claims) where
   s88 = Know.k-sl-known (Referent.fInt Syntax.w32) T93 4 3 (Syntax.tyRef (Syntax.named 3) Syntax.mut (Syntax.tyInt Syntax.w32)) Row.off 0 λ x. x
 
   abbrev put0 : Rows'.whole (Declared.row Quote.the-type) .Mod × Rows'.sc-here (Row.sInt Syntax.w64) .Mod → Typed.Mo T21 → Typed.Mo T21
-  put0 = λ vs u. Row.set 7 (7, Rows'.sc-here (Row.sInt Syntax.w64)) (vs .1) (T21 .locals) (Row.set 6 ( 6, Rows'.whole (Declared.row Quote.the-type), ) (vs .0) (T21 .locals) u)
+  put0 = λ vs u. Row.set 7 (7, Rows'.sc-here (Row.sInt Syntax.w64)) (vs .1) (T21 .locals) (Row.set 6 (6, Rows'.whole (Declared.row Quote.the-type)) (vs .0) (T21 .locals) u)
 
   abbrev put1 : List.List (T .Denot) × List.List (Referent.rtF (Referent.fInt Syntax.w32) .Denot) × Rows'.whole (Declared.row Quote.the-type) .Mod × Rows'.sc-here (Row.sInt Syntax.w64) .Mod → Typed.Mo T42 → Typed.Mo T42
-  put1 = λ vs u. Row.set 8 (8, Rows'.sc-here (Row.sInt Syntax.w64)) (vs .3) (T42 .locals) (Row.set 6 ( 6, Rows'.whole (Declared.row Quote.the-type), ) (vs .2) (T42 .locals) (Row.set 4 ( 4, Mut.mslice (Referent.rtF (Referent.fInt Syntax.w32)) (Syntax.tyRef (Syntax.named 3) Syntax.mut (Syntax.tyInt Syntax.w32)) 3, ) record { ptr = Row.get 4 (T42 .locals) u .ptr; name = Row.get 4 (T42 .locals) u .name; now = vs .1; } (T42 .locals) (Row.set 1 ( 1, Mut.mslice T τ 0, ) record { ptr = Row.get 1 (T42 .locals) u .ptr; name = Row.get 1 (T42 .locals) u .name; now = vs .0; } (T42 .locals) u)))
+  put1 = λ vs u. Row.set 8 (8, Rows'.sc-here (Row.sInt Syntax.w64)) (vs .3) (T42 .locals) (Row.set 6 (6, Rows'.whole (Declared.row Quote.the-type)) (vs .2) (T42 .locals) (Row.set 4 (4, Mut.mslice (Referent.rtF (Referent.fInt Syntax.w32)) (Syntax.tyRef (Syntax.named 3) Syntax.mut (Syntax.tyInt Syntax.w32)) 3) record { ptr = Row.get 4 (T42 .locals) u .ptr; name = Row.get 4 (T42 .locals) u .name; now = vs .1 } (T42 .locals) (Row.set 1 (1, Mut.mslice T τ 0) record { ptr = Row.get 1 (T42 .locals) u .ptr; name = Row.get 1 (T42 .locals) u .name; now = vs .0 } (T42 .locals) u)))
 
   module _ (Pre· : (κs : Lifetimes.Lfts 4) → Kinds.Dens κs ps → Type 0) (Post· : (κs : Lifetimes.Lfts 4) → (a : Kinds.Dens κs ps) → Kinds.Plain 4 ps r κs) where
     module _ (M : Type 1) where
@@ -1639,571 +2209,1015 @@ module _ (claims· : Claims) where
 
       module _ (κs : Lifetimes.Lfts 4) (qs : Lifetimes.Shares 4) where
         abbrev g5 : List.List Row.Entry
-        g5 = List._∷_ ( 0, Rows'.any-gone (Syntax.tyStruct (List._∷_ 102 (List._∷_ 105 (List._∷_ 114 (List._∷_ 109 (List._∷_ 58 (List._∷_ 58 (List._∷_ 81 (List._∷_ 117 (List._∷_ 111 (List._∷_ 116 (List._∷_ 101 List.[]))))))))))) (Syntax.tcons (Syntax.tyInt Syntax.w32) (Syntax.tcons (Syntax.tyInt Syntax.w64) (Syntax.tcons (Syntax.tyInt Syntax.w64) (Syntax.tcons (Syntax.tyInt Syntax.w32) Syntax.tnil))))),
-        ) (List._∷_ ( 1, Mut.mslice T τ 0,
-        ) (List._∷_ ( 2, Rows'.sslice (Referent.rtF (Referent.fInt Syntax.w8)) (Syntax.tyRef (Syntax.named 1) Syntax.imm (Syntax.tyInt Syntax.w8)) 1,
-        ) (List._∷_ ( 3, Relend.mslice-owed (Referent.rtF (Referent.fInt Syntax.w32)) (Syntax.tyRef (Syntax.named 2) Syntax.mut (Syntax.tyInt Syntax.w32)) 2 4 (Row.lease (κs .1 .1 .0) (qs .1 .1 .0)),
-        ) (List._∷_ ( 4, Mut.mslice (Referent.rtF (Referent.fInt Syntax.w32)) (Syntax.tyRef (Syntax.named 3) Syntax.mut (Syntax.tyInt Syntax.w32)) 3,
-        ) (List._∷_ (5, Rows'.sc-here (Row.sInt Syntax.w64)) (List._∷_ ( 6, Rows'.any-gone (Syntax.tyStruct (List._∷_ 102 (List._∷_ 105 (List._∷_ 114 (List._∷_ 109 (List._∷_ 58 (List._∷_ 58 (List._∷_ 81 (List._∷_ 117 (List._∷_ 111 (List._∷_ 116 (List._∷_ 101 List.[]))))))))))) (Syntax.tcons (Syntax.tyInt Syntax.w32) (Syntax.tcons (Syntax.tyInt Syntax.w64) (Syntax.tcons (Syntax.tyInt Syntax.w64) (Syntax.tcons (Syntax.tyInt Syntax.w32) Syntax.tnil))))),
-        ) (List._∷_ (7, Rows'.any-gone (Syntax.tyInt Syntax.w64)) (List._∷_ ( 8, Rows'.any-gone (Syntax.tyInt Syntax.w64),
-        ) (List._∷_ (9, Rows'.any-gone σ) (List._∷_ ( 10, Relend.msptr (Referent.rtF (Referent.fInt Syntax.w32)) (Syntax.tyRef Syntax.erased Syntax.mut (Syntax.tyInt Syntax.w32)) 4,
-        ) (List._∷_ ( 11, Rows'.any-gone (Syntax.tyStruct (List._∷_ 38 (List._∷_ 91 (List._∷_ 93 List.[]))) (Syntax.tcons (Syntax.tyRef Syntax.erased Syntax.mut (Syntax.tyInt Syntax.w32)) (Syntax.tcons (Syntax.tyInt Syntax.w64) Syntax.tnil))),
-        ) (List._∷_ ( 12, Rows'.any-gone (Syntax.tyRef Syntax.erased Syntax.mut (Syntax.tyInt Syntax.w32)),
-        ) (List._∷_ ( 13, Rows'.any-gone (Syntax.tyStruct (List._∷_ 38 (List._∷_ 91 (List._∷_ 93 List.[]))) (Syntax.tcons (Syntax.tyRef Syntax.erased Syntax.mut (Syntax.tyInt Syntax.w32)) (Syntax.tcons (Syntax.tyInt Syntax.w64) Syntax.tnil))),
-        ) (List._∷_ (14, Rows'.any-gone Syntax.tyBool) (List._∷_ ( 15, Rows'.any-gone (Syntax.tyInt Syntax.w64),
+        g5 = List._∷_ (
+          0,
+          Rows'.any-gone (Syntax.tyStruct (List._∷_ 102 (List._∷_ 105 (List._∷_ 114 (List._∷_ 109 (List._∷_ 58 (List._∷_ 58 (List._∷_ 81 (List._∷_ 117 (List._∷_ 111 (List._∷_ 116 (List._∷_ 101 List.[]))))))))))) (Syntax.tcons (Syntax.tyInt Syntax.w32) (Syntax.tcons (Syntax.tyInt Syntax.w64) (Syntax.tcons (Syntax.tyInt Syntax.w64) (Syntax.tcons (Syntax.tyInt Syntax.w32) Syntax.tnil))))),
+        ) (List._∷_ (
+          1,
+          Mut.mslice T τ 0,
+        ) (List._∷_ (
+          2,
+          Rows'.sslice (Referent.rtF (Referent.fInt Syntax.w8)) (Syntax.tyRef (Syntax.named 1) Syntax.imm (Syntax.tyInt Syntax.w8)) 1,
+        ) (List._∷_ (
+          3,
+          Relend.mslice-owed (Referent.rtF (Referent.fInt Syntax.w32)) (Syntax.tyRef (Syntax.named 2) Syntax.mut (Syntax.tyInt Syntax.w32)) 2 4 (Row.lease (κs .1 .1 .0) (qs .1 .1 .0)),
+        ) (List._∷_ (
+          4,
+          Mut.mslice (Referent.rtF (Referent.fInt Syntax.w32)) (Syntax.tyRef (Syntax.named 3) Syntax.mut (Syntax.tyInt Syntax.w32)) 3,
+        ) (List._∷_ (5, Rows'.sc-here (Row.sInt Syntax.w64)) (List._∷_ (
+          6,
+          Rows'.any-gone (Syntax.tyStruct (List._∷_ 102 (List._∷_ 105 (List._∷_ 114 (List._∷_ 109 (List._∷_ 58 (List._∷_ 58 (List._∷_ 81 (List._∷_ 117 (List._∷_ 111 (List._∷_ 116 (List._∷_ 101 List.[]))))))))))) (Syntax.tcons (Syntax.tyInt Syntax.w32) (Syntax.tcons (Syntax.tyInt Syntax.w64) (Syntax.tcons (Syntax.tyInt Syntax.w64) (Syntax.tcons (Syntax.tyInt Syntax.w32) Syntax.tnil))))),
+        ) (List._∷_ (7, Rows'.any-gone (Syntax.tyInt Syntax.w64)) (List._∷_ (
+          8,
+          Rows'.any-gone (Syntax.tyInt Syntax.w64),
+        ) (List._∷_ (9, Rows'.any-gone σ) (List._∷_ (
+          10,
+          Relend.msptr (Referent.rtF (Referent.fInt Syntax.w32)) (Syntax.tyRef Syntax.erased Syntax.mut (Syntax.tyInt Syntax.w32)) 4,
+        ) (List._∷_ (
+          11,
+          Rows'.any-gone (Syntax.tyStruct (List._∷_ 38 (List._∷_ 91 (List._∷_ 93 List.[]))) (Syntax.tcons (Syntax.tyRef Syntax.erased Syntax.mut (Syntax.tyInt Syntax.w32)) (Syntax.tcons (Syntax.tyInt Syntax.w64) Syntax.tnil))),
+        ) (List._∷_ (
+          12,
+          Rows'.any-gone (Syntax.tyRef Syntax.erased Syntax.mut (Syntax.tyInt Syntax.w32)),
+        ) (List._∷_ (
+          13,
+          Rows'.any-gone (Syntax.tyStruct (List._∷_ 38 (List._∷_ 91 (List._∷_ 93 List.[]))) (Syntax.tcons (Syntax.tyRef Syntax.erased Syntax.mut (Syntax.tyInt Syntax.w32)) (Syntax.tcons (Syntax.tyInt Syntax.w64) Syntax.tnil))),
+        ) (List._∷_ (14, Rows'.any-gone Syntax.tyBool) (List._∷_ (
+          15,
+          Rows'.any-gone (Syntax.tyInt Syntax.w64),
         ) List.[])))))))))))))))
 
         abbrev g6 : List.List Row.Entry
-        g6 = List._∷_ ( 0, Rows'.any-gone (Syntax.tyStruct (List._∷_ 102 (List._∷_ 105 (List._∷_ 114 (List._∷_ 109 (List._∷_ 58 (List._∷_ 58 (List._∷_ 81 (List._∷_ 117 (List._∷_ 111 (List._∷_ 116 (List._∷_ 101 List.[]))))))))))) (Syntax.tcons (Syntax.tyInt Syntax.w32) (Syntax.tcons (Syntax.tyInt Syntax.w64) (Syntax.tcons (Syntax.tyInt Syntax.w64) (Syntax.tcons (Syntax.tyInt Syntax.w32) Syntax.tnil))))),
-        ) (List._∷_ ( 1, Mut.mslice T τ 0,
-        ) (List._∷_ ( 2, Rows'.sslice (Referent.rtF (Referent.fInt Syntax.w8)) (Syntax.tyRef (Syntax.named 1) Syntax.imm (Syntax.tyInt Syntax.w8)) 1,
-        ) (List._∷_ ( 3, Relend.mslice-owed (Referent.rtF (Referent.fInt Syntax.w32)) (Syntax.tyRef (Syntax.named 2) Syntax.mut (Syntax.tyInt Syntax.w32)) 2 4 (Row.lease (κs .1 .1 .0) (qs .1 .1 .0)),
-        ) (List._∷_ ( 4, Mut.mslice (Referent.rtF (Referent.fInt Syntax.w32)) (Syntax.tyRef (Syntax.named 3) Syntax.mut (Syntax.tyInt Syntax.w32)) 3,
-        ) (List._∷_ (5, Rows'.sc-here (Row.sInt Syntax.w64)) (List._∷_ ( 6, Rows'.any-gone (Syntax.tyStruct (List._∷_ 102 (List._∷_ 105 (List._∷_ 114 (List._∷_ 109 (List._∷_ 58 (List._∷_ 58 (List._∷_ 81 (List._∷_ 117 (List._∷_ 111 (List._∷_ 116 (List._∷_ 101 List.[]))))))))))) (Syntax.tcons (Syntax.tyInt Syntax.w32) (Syntax.tcons (Syntax.tyInt Syntax.w64) (Syntax.tcons (Syntax.tyInt Syntax.w64) (Syntax.tcons (Syntax.tyInt Syntax.w32) Syntax.tnil))))),
-        ) (List._∷_ (7, Rows'.any-gone (Syntax.tyInt Syntax.w64)) (List._∷_ ( 8, Rows'.any-gone (Syntax.tyInt Syntax.w64),
-        ) (List._∷_ (9, Rows'.any-gone σ) (List._∷_ ( 10, Rows'.any-gone (Syntax.tyRef Syntax.erased Syntax.mut (Syntax.tyInt Syntax.w32)),
-        ) (List._∷_ ( 11, Mut.mslice (Referent.rtF (Referent.fInt Syntax.w32)) (Syntax.tyRef Syntax.erased Syntax.mut (Syntax.tyInt Syntax.w32)) 4,
-        ) (List._∷_ ( 12, Rows'.any-gone (Syntax.tyRef Syntax.erased Syntax.mut (Syntax.tyInt Syntax.w32)),
-        ) (List._∷_ ( 13, Rows'.any-gone (Syntax.tyStruct (List._∷_ 38 (List._∷_ 91 (List._∷_ 93 List.[]))) (Syntax.tcons (Syntax.tyRef Syntax.erased Syntax.mut (Syntax.tyInt Syntax.w32)) (Syntax.tcons (Syntax.tyInt Syntax.w64) Syntax.tnil))),
-        ) (List._∷_ (14, Rows'.any-gone Syntax.tyBool) (List._∷_ ( 15, Rows'.any-gone (Syntax.tyInt Syntax.w64),
+        g6 = List._∷_ (
+          0,
+          Rows'.any-gone (Syntax.tyStruct (List._∷_ 102 (List._∷_ 105 (List._∷_ 114 (List._∷_ 109 (List._∷_ 58 (List._∷_ 58 (List._∷_ 81 (List._∷_ 117 (List._∷_ 111 (List._∷_ 116 (List._∷_ 101 List.[]))))))))))) (Syntax.tcons (Syntax.tyInt Syntax.w32) (Syntax.tcons (Syntax.tyInt Syntax.w64) (Syntax.tcons (Syntax.tyInt Syntax.w64) (Syntax.tcons (Syntax.tyInt Syntax.w32) Syntax.tnil))))),
+        ) (List._∷_ (
+          1,
+          Mut.mslice T τ 0,
+        ) (List._∷_ (
+          2,
+          Rows'.sslice (Referent.rtF (Referent.fInt Syntax.w8)) (Syntax.tyRef (Syntax.named 1) Syntax.imm (Syntax.tyInt Syntax.w8)) 1,
+        ) (List._∷_ (
+          3,
+          Relend.mslice-owed (Referent.rtF (Referent.fInt Syntax.w32)) (Syntax.tyRef (Syntax.named 2) Syntax.mut (Syntax.tyInt Syntax.w32)) 2 4 (Row.lease (κs .1 .1 .0) (qs .1 .1 .0)),
+        ) (List._∷_ (
+          4,
+          Mut.mslice (Referent.rtF (Referent.fInt Syntax.w32)) (Syntax.tyRef (Syntax.named 3) Syntax.mut (Syntax.tyInt Syntax.w32)) 3,
+        ) (List._∷_ (5, Rows'.sc-here (Row.sInt Syntax.w64)) (List._∷_ (
+          6,
+          Rows'.any-gone (Syntax.tyStruct (List._∷_ 102 (List._∷_ 105 (List._∷_ 114 (List._∷_ 109 (List._∷_ 58 (List._∷_ 58 (List._∷_ 81 (List._∷_ 117 (List._∷_ 111 (List._∷_ 116 (List._∷_ 101 List.[]))))))))))) (Syntax.tcons (Syntax.tyInt Syntax.w32) (Syntax.tcons (Syntax.tyInt Syntax.w64) (Syntax.tcons (Syntax.tyInt Syntax.w64) (Syntax.tcons (Syntax.tyInt Syntax.w32) Syntax.tnil))))),
+        ) (List._∷_ (7, Rows'.any-gone (Syntax.tyInt Syntax.w64)) (List._∷_ (
+          8,
+          Rows'.any-gone (Syntax.tyInt Syntax.w64),
+        ) (List._∷_ (9, Rows'.any-gone σ) (List._∷_ (
+          10,
+          Rows'.any-gone (Syntax.tyRef Syntax.erased Syntax.mut (Syntax.tyInt Syntax.w32)),
+        ) (List._∷_ (
+          11,
+          Mut.mslice (Referent.rtF (Referent.fInt Syntax.w32)) (Syntax.tyRef Syntax.erased Syntax.mut (Syntax.tyInt Syntax.w32)) 4,
+        ) (List._∷_ (
+          12,
+          Rows'.any-gone (Syntax.tyRef Syntax.erased Syntax.mut (Syntax.tyInt Syntax.w32)),
+        ) (List._∷_ (
+          13,
+          Rows'.any-gone (Syntax.tyStruct (List._∷_ 38 (List._∷_ 91 (List._∷_ 93 List.[]))) (Syntax.tcons (Syntax.tyRef Syntax.erased Syntax.mut (Syntax.tyInt Syntax.w32)) (Syntax.tcons (Syntax.tyInt Syntax.w64) Syntax.tnil))),
+        ) (List._∷_ (14, Rows'.any-gone Syntax.tyBool) (List._∷_ (
+          15,
+          Rows'.any-gone (Syntax.tyInt Syntax.w64),
         ) List.[])))))))))))))))
 
         abbrev g7 : List.List Row.Entry
-        g7 = List._∷_ ( 0, Rows'.any-gone (Syntax.tyStruct (List._∷_ 102 (List._∷_ 105 (List._∷_ 114 (List._∷_ 109 (List._∷_ 58 (List._∷_ 58 (List._∷_ 81 (List._∷_ 117 (List._∷_ 111 (List._∷_ 116 (List._∷_ 101 List.[]))))))))))) (Syntax.tcons (Syntax.tyInt Syntax.w32) (Syntax.tcons (Syntax.tyInt Syntax.w64) (Syntax.tcons (Syntax.tyInt Syntax.w64) (Syntax.tcons (Syntax.tyInt Syntax.w32) Syntax.tnil))))),
-        ) (List._∷_ ( 1, Mut.mslice T τ 0,
-        ) (List._∷_ ( 2, Rows'.sslice (Referent.rtF (Referent.fInt Syntax.w8)) (Syntax.tyRef (Syntax.named 1) Syntax.imm (Syntax.tyInt Syntax.w8)) 1,
-        ) (List._∷_ ( 3, Relend.mslice-owed (Referent.rtF (Referent.fInt Syntax.w32)) (Syntax.tyRef (Syntax.named 2) Syntax.mut (Syntax.tyInt Syntax.w32)) 2 4 (Row.lease (κs .1 .1 .0) (qs .1 .1 .0)),
-        ) (List._∷_ ( 4, Relend.mslice-owed (Referent.rtF (Referent.fInt Syntax.w32)) (Syntax.tyRef (Syntax.named 3) Syntax.mut (Syntax.tyInt Syntax.w32)) 3 5 (Row.lease (κs .1 .1 .1 .0) (qs .1 .1 .1 .0)),
-        ) (List._∷_ (5, Rows'.sc-here (Row.sInt Syntax.w64)) (List._∷_ ( 6, Rows'.any-gone (Syntax.tyStruct (List._∷_ 102 (List._∷_ 105 (List._∷_ 114 (List._∷_ 109 (List._∷_ 58 (List._∷_ 58 (List._∷_ 81 (List._∷_ 117 (List._∷_ 111 (List._∷_ 116 (List._∷_ 101 List.[]))))))))))) (Syntax.tcons (Syntax.tyInt Syntax.w32) (Syntax.tcons (Syntax.tyInt Syntax.w64) (Syntax.tcons (Syntax.tyInt Syntax.w64) (Syntax.tcons (Syntax.tyInt Syntax.w32) Syntax.tnil))))),
-        ) (List._∷_ (7, Rows'.any-gone (Syntax.tyInt Syntax.w64)) (List._∷_ ( 8, Rows'.any-gone (Syntax.tyInt Syntax.w64),
-        ) (List._∷_ (9, Rows'.any-gone σ) (List._∷_ ( 10, Rows'.any-gone (Syntax.tyRef Syntax.erased Syntax.mut (Syntax.tyInt Syntax.w32)),
-        ) (List._∷_ ( 11, Mut.mslice (Referent.rtF (Referent.fInt Syntax.w32)) (Syntax.tyRef Syntax.erased Syntax.mut (Syntax.tyInt Syntax.w32)) 4,
-        ) (List._∷_ ( 12, Relend.msptr (Referent.rtF (Referent.fInt Syntax.w32)) (Syntax.tyRef Syntax.erased Syntax.mut (Syntax.tyInt Syntax.w32)) 5,
-        ) (List._∷_ ( 13, Rows'.any-gone (Syntax.tyStruct (List._∷_ 38 (List._∷_ 91 (List._∷_ 93 List.[]))) (Syntax.tcons (Syntax.tyRef Syntax.erased Syntax.mut (Syntax.tyInt Syntax.w32)) (Syntax.tcons (Syntax.tyInt Syntax.w64) Syntax.tnil))),
-        ) (List._∷_ (14, Rows'.any-gone Syntax.tyBool) (List._∷_ ( 15, Rows'.any-gone (Syntax.tyInt Syntax.w64),
+        g7 = List._∷_ (
+          0,
+          Rows'.any-gone (Syntax.tyStruct (List._∷_ 102 (List._∷_ 105 (List._∷_ 114 (List._∷_ 109 (List._∷_ 58 (List._∷_ 58 (List._∷_ 81 (List._∷_ 117 (List._∷_ 111 (List._∷_ 116 (List._∷_ 101 List.[]))))))))))) (Syntax.tcons (Syntax.tyInt Syntax.w32) (Syntax.tcons (Syntax.tyInt Syntax.w64) (Syntax.tcons (Syntax.tyInt Syntax.w64) (Syntax.tcons (Syntax.tyInt Syntax.w32) Syntax.tnil))))),
+        ) (List._∷_ (
+          1,
+          Mut.mslice T τ 0,
+        ) (List._∷_ (
+          2,
+          Rows'.sslice (Referent.rtF (Referent.fInt Syntax.w8)) (Syntax.tyRef (Syntax.named 1) Syntax.imm (Syntax.tyInt Syntax.w8)) 1,
+        ) (List._∷_ (
+          3,
+          Relend.mslice-owed (Referent.rtF (Referent.fInt Syntax.w32)) (Syntax.tyRef (Syntax.named 2) Syntax.mut (Syntax.tyInt Syntax.w32)) 2 4 (Row.lease (κs .1 .1 .0) (qs .1 .1 .0)),
+        ) (List._∷_ (
+          4,
+          Relend.mslice-owed (Referent.rtF (Referent.fInt Syntax.w32)) (Syntax.tyRef (Syntax.named 3) Syntax.mut (Syntax.tyInt Syntax.w32)) 3 5 (Row.lease (κs .1 .1 .1 .0) (qs .1 .1 .1 .0)),
+        ) (List._∷_ (5, Rows'.sc-here (Row.sInt Syntax.w64)) (List._∷_ (
+          6,
+          Rows'.any-gone (Syntax.tyStruct (List._∷_ 102 (List._∷_ 105 (List._∷_ 114 (List._∷_ 109 (List._∷_ 58 (List._∷_ 58 (List._∷_ 81 (List._∷_ 117 (List._∷_ 111 (List._∷_ 116 (List._∷_ 101 List.[]))))))))))) (Syntax.tcons (Syntax.tyInt Syntax.w32) (Syntax.tcons (Syntax.tyInt Syntax.w64) (Syntax.tcons (Syntax.tyInt Syntax.w64) (Syntax.tcons (Syntax.tyInt Syntax.w32) Syntax.tnil))))),
+        ) (List._∷_ (7, Rows'.any-gone (Syntax.tyInt Syntax.w64)) (List._∷_ (
+          8,
+          Rows'.any-gone (Syntax.tyInt Syntax.w64),
+        ) (List._∷_ (9, Rows'.any-gone σ) (List._∷_ (
+          10,
+          Rows'.any-gone (Syntax.tyRef Syntax.erased Syntax.mut (Syntax.tyInt Syntax.w32)),
+        ) (List._∷_ (
+          11,
+          Mut.mslice (Referent.rtF (Referent.fInt Syntax.w32)) (Syntax.tyRef Syntax.erased Syntax.mut (Syntax.tyInt Syntax.w32)) 4,
+        ) (List._∷_ (
+          12,
+          Relend.msptr (Referent.rtF (Referent.fInt Syntax.w32)) (Syntax.tyRef Syntax.erased Syntax.mut (Syntax.tyInt Syntax.w32)) 5,
+        ) (List._∷_ (
+          13,
+          Rows'.any-gone (Syntax.tyStruct (List._∷_ 38 (List._∷_ 91 (List._∷_ 93 List.[]))) (Syntax.tcons (Syntax.tyRef Syntax.erased Syntax.mut (Syntax.tyInt Syntax.w32)) (Syntax.tcons (Syntax.tyInt Syntax.w64) Syntax.tnil))),
+        ) (List._∷_ (14, Rows'.any-gone Syntax.tyBool) (List._∷_ (
+          15,
+          Rows'.any-gone (Syntax.tyInt Syntax.w64),
         ) List.[])))))))))))))))
 
         abbrev g8 : List.List Row.Entry
-        g8 = List._∷_ ( 0, Rows'.any-gone (Syntax.tyStruct (List._∷_ 102 (List._∷_ 105 (List._∷_ 114 (List._∷_ 109 (List._∷_ 58 (List._∷_ 58 (List._∷_ 81 (List._∷_ 117 (List._∷_ 111 (List._∷_ 116 (List._∷_ 101 List.[]))))))))))) (Syntax.tcons (Syntax.tyInt Syntax.w32) (Syntax.tcons (Syntax.tyInt Syntax.w64) (Syntax.tcons (Syntax.tyInt Syntax.w64) (Syntax.tcons (Syntax.tyInt Syntax.w32) Syntax.tnil))))),
-        ) (List._∷_ ( 1, Mut.mslice T τ 0,
-        ) (List._∷_ ( 2, Rows'.sslice (Referent.rtF (Referent.fInt Syntax.w8)) (Syntax.tyRef (Syntax.named 1) Syntax.imm (Syntax.tyInt Syntax.w8)) 1,
-        ) (List._∷_ ( 3, Relend.mslice-owed (Referent.rtF (Referent.fInt Syntax.w32)) (Syntax.tyRef (Syntax.named 2) Syntax.mut (Syntax.tyInt Syntax.w32)) 2 4 (Row.lease (κs .1 .1 .0) (qs .1 .1 .0)),
-        ) (List._∷_ ( 4, Relend.mslice-owed (Referent.rtF (Referent.fInt Syntax.w32)) (Syntax.tyRef (Syntax.named 3) Syntax.mut (Syntax.tyInt Syntax.w32)) 3 5 (Row.lease (κs .1 .1 .1 .0) (qs .1 .1 .1 .0)),
-        ) (List._∷_ (5, Rows'.sc-here (Row.sInt Syntax.w64)) (List._∷_ ( 6, Rows'.any-gone (Syntax.tyStruct (List._∷_ 102 (List._∷_ 105 (List._∷_ 114 (List._∷_ 109 (List._∷_ 58 (List._∷_ 58 (List._∷_ 81 (List._∷_ 117 (List._∷_ 111 (List._∷_ 116 (List._∷_ 101 List.[]))))))))))) (Syntax.tcons (Syntax.tyInt Syntax.w32) (Syntax.tcons (Syntax.tyInt Syntax.w64) (Syntax.tcons (Syntax.tyInt Syntax.w64) (Syntax.tcons (Syntax.tyInt Syntax.w32) Syntax.tnil))))),
-        ) (List._∷_ (7, Rows'.any-gone (Syntax.tyInt Syntax.w64)) (List._∷_ ( 8, Rows'.any-gone (Syntax.tyInt Syntax.w64),
-        ) (List._∷_ (9, Rows'.any-gone σ) (List._∷_ ( 10, Rows'.any-gone (Syntax.tyRef Syntax.erased Syntax.mut (Syntax.tyInt Syntax.w32)),
-        ) (List._∷_ ( 11, Mut.mslice (Referent.rtF (Referent.fInt Syntax.w32)) (Syntax.tyRef Syntax.erased Syntax.mut (Syntax.tyInt Syntax.w32)) 4,
-        ) (List._∷_ ( 12, Rows'.any-gone (Syntax.tyRef Syntax.erased Syntax.mut (Syntax.tyInt Syntax.w32)),
-        ) (List._∷_ ( 13, Mut.mslice (Referent.rtF (Referent.fInt Syntax.w32)) (Syntax.tyRef Syntax.erased Syntax.mut (Syntax.tyInt Syntax.w32)) 5,
-        ) (List._∷_ (14, Rows'.any-gone Syntax.tyBool) (List._∷_ ( 15, Rows'.any-gone (Syntax.tyInt Syntax.w64),
+        g8 = List._∷_ (
+          0,
+          Rows'.any-gone (Syntax.tyStruct (List._∷_ 102 (List._∷_ 105 (List._∷_ 114 (List._∷_ 109 (List._∷_ 58 (List._∷_ 58 (List._∷_ 81 (List._∷_ 117 (List._∷_ 111 (List._∷_ 116 (List._∷_ 101 List.[]))))))))))) (Syntax.tcons (Syntax.tyInt Syntax.w32) (Syntax.tcons (Syntax.tyInt Syntax.w64) (Syntax.tcons (Syntax.tyInt Syntax.w64) (Syntax.tcons (Syntax.tyInt Syntax.w32) Syntax.tnil))))),
+        ) (List._∷_ (
+          1,
+          Mut.mslice T τ 0,
+        ) (List._∷_ (
+          2,
+          Rows'.sslice (Referent.rtF (Referent.fInt Syntax.w8)) (Syntax.tyRef (Syntax.named 1) Syntax.imm (Syntax.tyInt Syntax.w8)) 1,
+        ) (List._∷_ (
+          3,
+          Relend.mslice-owed (Referent.rtF (Referent.fInt Syntax.w32)) (Syntax.tyRef (Syntax.named 2) Syntax.mut (Syntax.tyInt Syntax.w32)) 2 4 (Row.lease (κs .1 .1 .0) (qs .1 .1 .0)),
+        ) (List._∷_ (
+          4,
+          Relend.mslice-owed (Referent.rtF (Referent.fInt Syntax.w32)) (Syntax.tyRef (Syntax.named 3) Syntax.mut (Syntax.tyInt Syntax.w32)) 3 5 (Row.lease (κs .1 .1 .1 .0) (qs .1 .1 .1 .0)),
+        ) (List._∷_ (5, Rows'.sc-here (Row.sInt Syntax.w64)) (List._∷_ (
+          6,
+          Rows'.any-gone (Syntax.tyStruct (List._∷_ 102 (List._∷_ 105 (List._∷_ 114 (List._∷_ 109 (List._∷_ 58 (List._∷_ 58 (List._∷_ 81 (List._∷_ 117 (List._∷_ 111 (List._∷_ 116 (List._∷_ 101 List.[]))))))))))) (Syntax.tcons (Syntax.tyInt Syntax.w32) (Syntax.tcons (Syntax.tyInt Syntax.w64) (Syntax.tcons (Syntax.tyInt Syntax.w64) (Syntax.tcons (Syntax.tyInt Syntax.w32) Syntax.tnil))))),
+        ) (List._∷_ (7, Rows'.any-gone (Syntax.tyInt Syntax.w64)) (List._∷_ (
+          8,
+          Rows'.any-gone (Syntax.tyInt Syntax.w64),
+        ) (List._∷_ (9, Rows'.any-gone σ) (List._∷_ (
+          10,
+          Rows'.any-gone (Syntax.tyRef Syntax.erased Syntax.mut (Syntax.tyInt Syntax.w32)),
+        ) (List._∷_ (
+          11,
+          Mut.mslice (Referent.rtF (Referent.fInt Syntax.w32)) (Syntax.tyRef Syntax.erased Syntax.mut (Syntax.tyInt Syntax.w32)) 4,
+        ) (List._∷_ (
+          12,
+          Rows'.any-gone (Syntax.tyRef Syntax.erased Syntax.mut (Syntax.tyInt Syntax.w32)),
+        ) (List._∷_ (
+          13,
+          Mut.mslice (Referent.rtF (Referent.fInt Syntax.w32)) (Syntax.tyRef Syntax.erased Syntax.mut (Syntax.tyInt Syntax.w32)) 5,
+        ) (List._∷_ (14, Rows'.any-gone Syntax.tyBool) (List._∷_ (
+          15,
+          Rows'.any-gone (Syntax.tyInt Syntax.w64),
         ) List.[])))))))))))))))
 
         abbrev g9 : List.List Row.Entry
-        g9 = List._∷_ ( 0, Rows'.any-gone (Syntax.tyStruct (List._∷_ 102 (List._∷_ 105 (List._∷_ 114 (List._∷_ 109 (List._∷_ 58 (List._∷_ 58 (List._∷_ 81 (List._∷_ 117 (List._∷_ 111 (List._∷_ 116 (List._∷_ 101 List.[]))))))))))) (Syntax.tcons (Syntax.tyInt Syntax.w32) (Syntax.tcons (Syntax.tyInt Syntax.w64) (Syntax.tcons (Syntax.tyInt Syntax.w64) (Syntax.tcons (Syntax.tyInt Syntax.w32) Syntax.tnil))))),
-        ) (List._∷_ ( 1, Mut.mslice T τ 0,
-        ) (List._∷_ ( 2, Rows'.sslice (Referent.rtF (Referent.fInt Syntax.w8)) (Syntax.tyRef (Syntax.named 1) Syntax.imm (Syntax.tyInt Syntax.w8)) 1,
-        ) (List._∷_ ( 3, Relend.mslice-owed (Referent.rtF (Referent.fInt Syntax.w32)) (Syntax.tyRef (Syntax.named 2) Syntax.mut (Syntax.tyInt Syntax.w32)) 2 4 (Row.lease (κs .1 .1 .0) (qs .1 .1 .0)),
-        ) (List._∷_ ( 4, Relend.mslice-owed (Referent.rtF (Referent.fInt Syntax.w32)) (Syntax.tyRef (Syntax.named 3) Syntax.mut (Syntax.tyInt Syntax.w32)) 3 5 (Row.lease (κs .1 .1 .1 .0) (qs .1 .1 .1 .0)),
-        ) (List._∷_ (5, Rows'.sc-here (Row.sInt Syntax.w64)) (List._∷_ ( 6, Rows'.whole (Declared.row Quote.the-type),
-        ) (List._∷_ (7, Rows'.any-gone (Syntax.tyInt Syntax.w64)) (List._∷_ ( 8, Rows'.any-gone (Syntax.tyInt Syntax.w64),
-        ) (List._∷_ (9, Rows'.any-gone σ) (List._∷_ ( 10, Rows'.any-gone (Syntax.tyRef Syntax.erased Syntax.mut (Syntax.tyInt Syntax.w32)),
-        ) (List._∷_ ( 11, Mut.msleft (Referent.rtF (Referent.fInt Syntax.w32)) (Syntax.tyRef Syntax.erased Syntax.mut (Syntax.tyInt Syntax.w32)),
-        ) (List._∷_ ( 12, Rows'.any-gone (Syntax.tyRef Syntax.erased Syntax.mut (Syntax.tyInt Syntax.w32)),
-        ) (List._∷_ ( 13, Mut.msleft (Referent.rtF (Referent.fInt Syntax.w32)) (Syntax.tyRef Syntax.erased Syntax.mut (Syntax.tyInt Syntax.w32)),
-        ) (List._∷_ (14, Rows'.any-gone Syntax.tyBool) (List._∷_ ( 15, Rows'.any-gone (Syntax.tyInt Syntax.w64),
+        g9 = List._∷_ (
+          0,
+          Rows'.any-gone (Syntax.tyStruct (List._∷_ 102 (List._∷_ 105 (List._∷_ 114 (List._∷_ 109 (List._∷_ 58 (List._∷_ 58 (List._∷_ 81 (List._∷_ 117 (List._∷_ 111 (List._∷_ 116 (List._∷_ 101 List.[]))))))))))) (Syntax.tcons (Syntax.tyInt Syntax.w32) (Syntax.tcons (Syntax.tyInt Syntax.w64) (Syntax.tcons (Syntax.tyInt Syntax.w64) (Syntax.tcons (Syntax.tyInt Syntax.w32) Syntax.tnil))))),
+        ) (List._∷_ (
+          1,
+          Mut.mslice T τ 0,
+        ) (List._∷_ (
+          2,
+          Rows'.sslice (Referent.rtF (Referent.fInt Syntax.w8)) (Syntax.tyRef (Syntax.named 1) Syntax.imm (Syntax.tyInt Syntax.w8)) 1,
+        ) (List._∷_ (
+          3,
+          Relend.mslice-owed (Referent.rtF (Referent.fInt Syntax.w32)) (Syntax.tyRef (Syntax.named 2) Syntax.mut (Syntax.tyInt Syntax.w32)) 2 4 (Row.lease (κs .1 .1 .0) (qs .1 .1 .0)),
+        ) (List._∷_ (
+          4,
+          Relend.mslice-owed (Referent.rtF (Referent.fInt Syntax.w32)) (Syntax.tyRef (Syntax.named 3) Syntax.mut (Syntax.tyInt Syntax.w32)) 3 5 (Row.lease (κs .1 .1 .1 .0) (qs .1 .1 .1 .0)),
+        ) (List._∷_ (5, Rows'.sc-here (Row.sInt Syntax.w64)) (List._∷_ (
+          6,
+          Rows'.whole (Declared.row Quote.the-type),
+        ) (List._∷_ (7, Rows'.any-gone (Syntax.tyInt Syntax.w64)) (List._∷_ (
+          8,
+          Rows'.any-gone (Syntax.tyInt Syntax.w64),
+        ) (List._∷_ (9, Rows'.any-gone σ) (List._∷_ (
+          10,
+          Rows'.any-gone (Syntax.tyRef Syntax.erased Syntax.mut (Syntax.tyInt Syntax.w32)),
+        ) (List._∷_ (
+          11,
+          Mut.msleft (Referent.rtF (Referent.fInt Syntax.w32)) (Syntax.tyRef Syntax.erased Syntax.mut (Syntax.tyInt Syntax.w32)),
+        ) (List._∷_ (
+          12,
+          Rows'.any-gone (Syntax.tyRef Syntax.erased Syntax.mut (Syntax.tyInt Syntax.w32)),
+        ) (List._∷_ (
+          13,
+          Mut.msleft (Referent.rtF (Referent.fInt Syntax.w32)) (Syntax.tyRef Syntax.erased Syntax.mut (Syntax.tyInt Syntax.w32)),
+        ) (List._∷_ (14, Rows'.any-gone Syntax.tyBool) (List._∷_ (
+          15,
+          Rows'.any-gone (Syntax.tyInt Syntax.w64),
         ) List.[])))))))))))))))
 
         abbrev g10 : List.List Row.Entry
-        g10 = List._∷_ ( 0, Rows'.any-gone (Syntax.tyStruct (List._∷_ 102 (List._∷_ 105 (List._∷_ 114 (List._∷_ 109 (List._∷_ 58 (List._∷_ 58 (List._∷_ 81 (List._∷_ 117 (List._∷_ 111 (List._∷_ 116 (List._∷_ 101 List.[]))))))))))) (Syntax.tcons (Syntax.tyInt Syntax.w32) (Syntax.tcons (Syntax.tyInt Syntax.w64) (Syntax.tcons (Syntax.tyInt Syntax.w64) (Syntax.tcons (Syntax.tyInt Syntax.w32) Syntax.tnil))))),
-        ) (List._∷_ ( 1, Mut.mslice T τ 0,
-        ) (List._∷_ ( 2, Rows'.sslice (Referent.rtF (Referent.fInt Syntax.w8)) (Syntax.tyRef (Syntax.named 1) Syntax.imm (Syntax.tyInt Syntax.w8)) 1,
-        ) (List._∷_ ( 3, Mut.mslice (Referent.rtF (Referent.fInt Syntax.w32)) (Syntax.tyRef (Syntax.named 2) Syntax.mut (Syntax.tyInt Syntax.w32)) 2,
-        ) (List._∷_ ( 4, Relend.mslice-owed (Referent.rtF (Referent.fInt Syntax.w32)) (Syntax.tyRef (Syntax.named 3) Syntax.mut (Syntax.tyInt Syntax.w32)) 3 5 (Row.lease (κs .1 .1 .1 .0) (qs .1 .1 .1 .0)),
-        ) (List._∷_ (5, Rows'.sc-here (Row.sInt Syntax.w64)) (List._∷_ ( 6, Rows'.whole (Declared.row Quote.the-type),
-        ) (List._∷_ (7, Rows'.any-gone (Syntax.tyInt Syntax.w64)) (List._∷_ ( 8, Rows'.any-gone (Syntax.tyInt Syntax.w64),
-        ) (List._∷_ (9, Rows'.any-gone σ) (List._∷_ ( 10, Rows'.any-gone (Syntax.tyRef Syntax.erased Syntax.mut (Syntax.tyInt Syntax.w32)),
-        ) (List._∷_ ( 11, Rows'.any-gone (Syntax.tyStruct (List._∷_ 38 (List._∷_ 91 (List._∷_ 93 List.[]))) (Syntax.tcons (Syntax.tyRef Syntax.erased Syntax.mut (Syntax.tyInt Syntax.w32)) (Syntax.tcons (Syntax.tyInt Syntax.w64) Syntax.tnil))),
-        ) (List._∷_ ( 12, Rows'.any-gone (Syntax.tyRef Syntax.erased Syntax.mut (Syntax.tyInt Syntax.w32)),
-        ) (List._∷_ ( 13, Mut.msleft (Referent.rtF (Referent.fInt Syntax.w32)) (Syntax.tyRef Syntax.erased Syntax.mut (Syntax.tyInt Syntax.w32)),
-        ) (List._∷_ (14, Rows'.any-gone Syntax.tyBool) (List._∷_ ( 15, Rows'.any-gone (Syntax.tyInt Syntax.w64),
+        g10 = List._∷_ (
+          0,
+          Rows'.any-gone (Syntax.tyStruct (List._∷_ 102 (List._∷_ 105 (List._∷_ 114 (List._∷_ 109 (List._∷_ 58 (List._∷_ 58 (List._∷_ 81 (List._∷_ 117 (List._∷_ 111 (List._∷_ 116 (List._∷_ 101 List.[]))))))))))) (Syntax.tcons (Syntax.tyInt Syntax.w32) (Syntax.tcons (Syntax.tyInt Syntax.w64) (Syntax.tcons (Syntax.tyInt Syntax.w64) (Syntax.tcons (Syntax.tyInt Syntax.w32) Syntax.tnil))))),
+        ) (List._∷_ (
+          1,
+          Mut.mslice T τ 0,
+        ) (List._∷_ (
+          2,
+          Rows'.sslice (Referent.rtF (Referent.fInt Syntax.w8)) (Syntax.tyRef (Syntax.named 1) Syntax.imm (Syntax.tyInt Syntax.w8)) 1,
+        ) (List._∷_ (
+          3,
+          Mut.mslice (Referent.rtF (Referent.fInt Syntax.w32)) (Syntax.tyRef (Syntax.named 2) Syntax.mut (Syntax.tyInt Syntax.w32)) 2,
+        ) (List._∷_ (
+          4,
+          Relend.mslice-owed (Referent.rtF (Referent.fInt Syntax.w32)) (Syntax.tyRef (Syntax.named 3) Syntax.mut (Syntax.tyInt Syntax.w32)) 3 5 (Row.lease (κs .1 .1 .1 .0) (qs .1 .1 .1 .0)),
+        ) (List._∷_ (5, Rows'.sc-here (Row.sInt Syntax.w64)) (List._∷_ (
+          6,
+          Rows'.whole (Declared.row Quote.the-type),
+        ) (List._∷_ (7, Rows'.any-gone (Syntax.tyInt Syntax.w64)) (List._∷_ (
+          8,
+          Rows'.any-gone (Syntax.tyInt Syntax.w64),
+        ) (List._∷_ (9, Rows'.any-gone σ) (List._∷_ (
+          10,
+          Rows'.any-gone (Syntax.tyRef Syntax.erased Syntax.mut (Syntax.tyInt Syntax.w32)),
+        ) (List._∷_ (
+          11,
+          Rows'.any-gone (Syntax.tyStruct (List._∷_ 38 (List._∷_ 91 (List._∷_ 93 List.[]))) (Syntax.tcons (Syntax.tyRef Syntax.erased Syntax.mut (Syntax.tyInt Syntax.w32)) (Syntax.tcons (Syntax.tyInt Syntax.w64) Syntax.tnil))),
+        ) (List._∷_ (
+          12,
+          Rows'.any-gone (Syntax.tyRef Syntax.erased Syntax.mut (Syntax.tyInt Syntax.w32)),
+        ) (List._∷_ (
+          13,
+          Mut.msleft (Referent.rtF (Referent.fInt Syntax.w32)) (Syntax.tyRef Syntax.erased Syntax.mut (Syntax.tyInt Syntax.w32)),
+        ) (List._∷_ (14, Rows'.any-gone Syntax.tyBool) (List._∷_ (
+          15,
+          Rows'.any-gone (Syntax.tyInt Syntax.w64),
         ) List.[])))))))))))))))
 
         abbrev g18 : List.List Row.Entry
-        g18 = List._∷_ ( 0, Rows'.any-gone (Syntax.tyStruct (List._∷_ 102 (List._∷_ 105 (List._∷_ 114 (List._∷_ 109 (List._∷_ 58 (List._∷_ 58 (List._∷_ 81 (List._∷_ 117 (List._∷_ 111 (List._∷_ 116 (List._∷_ 101 List.[]))))))))))) (Syntax.tcons (Syntax.tyInt Syntax.w32) (Syntax.tcons (Syntax.tyInt Syntax.w64) (Syntax.tcons (Syntax.tyInt Syntax.w64) (Syntax.tcons (Syntax.tyInt Syntax.w32) Syntax.tnil))))),
-        ) (List._∷_ ( 1, Mut.mslice T τ 0,
-        ) (List._∷_ ( 2, Rows'.sslice (Referent.rtF (Referent.fInt Syntax.w8)) (Syntax.tyRef (Syntax.named 1) Syntax.imm (Syntax.tyInt Syntax.w8)) 1,
-        ) (List._∷_ ( 3, Reshare.mslice-owedS (Referent.rtF (Referent.fInt Syntax.w32)) (Syntax.tyRef (Syntax.named 2) Syntax.mut (Syntax.tyInt Syntax.w32)) 2 6 (Row.lease (κs .1 .1 .0) (qs .1 .1 .0)),
-        ) (List._∷_ ( 4, Mut.mslice (Referent.rtF (Referent.fInt Syntax.w32)) (Syntax.tyRef (Syntax.named 3) Syntax.mut (Syntax.tyInt Syntax.w32)) 3,
-        ) (List._∷_ (5, Rows'.sc-here (Row.sInt Syntax.w64)) (List._∷_ ( 6, Rows'.whole (Declared.row Quote.the-type),
-        ) (List._∷_ (7, Rows'.sc-here (Row.sInt Syntax.w64)) (List._∷_ ( 8, Rows'.any-gone (Syntax.tyInt Syntax.w64),
-        ) (List._∷_ (9, Rows'.any-gone σ) (List._∷_ ( 10, Rows'.any-gone (Syntax.tyRef Syntax.erased Syntax.mut (Syntax.tyInt Syntax.w32)),
-        ) (List._∷_ ( 11, Rows'.any-gone (Syntax.tyStruct (List._∷_ 38 (List._∷_ 91 (List._∷_ 93 List.[]))) (Syntax.tcons (Syntax.tyRef Syntax.erased Syntax.mut (Syntax.tyInt Syntax.w32)) (Syntax.tcons (Syntax.tyInt Syntax.w64) Syntax.tnil))),
-        ) (List._∷_ ( 12, Rows'.any-gone (Syntax.tyRef Syntax.erased Syntax.mut (Syntax.tyInt Syntax.w32)),
-        ) (List._∷_ ( 13, Rows'.any-gone (Syntax.tyStruct (List._∷_ 38 (List._∷_ 91 (List._∷_ 93 List.[]))) (Syntax.tcons (Syntax.tyRef Syntax.erased Syntax.mut (Syntax.tyInt Syntax.w32)) (Syntax.tcons (Syntax.tyInt Syntax.w64) Syntax.tnil))),
-        ) (List._∷_ (14, Rows'.any-gone Syntax.tyBool) (List._∷_ ( 15, Rows'.any-gone (Syntax.tyInt Syntax.w64),
+        g18 = List._∷_ (
+          0,
+          Rows'.any-gone (Syntax.tyStruct (List._∷_ 102 (List._∷_ 105 (List._∷_ 114 (List._∷_ 109 (List._∷_ 58 (List._∷_ 58 (List._∷_ 81 (List._∷_ 117 (List._∷_ 111 (List._∷_ 116 (List._∷_ 101 List.[]))))))))))) (Syntax.tcons (Syntax.tyInt Syntax.w32) (Syntax.tcons (Syntax.tyInt Syntax.w64) (Syntax.tcons (Syntax.tyInt Syntax.w64) (Syntax.tcons (Syntax.tyInt Syntax.w32) Syntax.tnil))))),
+        ) (List._∷_ (
+          1,
+          Mut.mslice T τ 0,
+        ) (List._∷_ (
+          2,
+          Rows'.sslice (Referent.rtF (Referent.fInt Syntax.w8)) (Syntax.tyRef (Syntax.named 1) Syntax.imm (Syntax.tyInt Syntax.w8)) 1,
+        ) (List._∷_ (
+          3,
+          Reshare.mslice-owedS (Referent.rtF (Referent.fInt Syntax.w32)) (Syntax.tyRef (Syntax.named 2) Syntax.mut (Syntax.tyInt Syntax.w32)) 2 6 (Row.lease (κs .1 .1 .0) (qs .1 .1 .0)),
+        ) (List._∷_ (
+          4,
+          Mut.mslice (Referent.rtF (Referent.fInt Syntax.w32)) (Syntax.tyRef (Syntax.named 3) Syntax.mut (Syntax.tyInt Syntax.w32)) 3,
+        ) (List._∷_ (5, Rows'.sc-here (Row.sInt Syntax.w64)) (List._∷_ (
+          6,
+          Rows'.whole (Declared.row Quote.the-type),
+        ) (List._∷_ (7, Rows'.sc-here (Row.sInt Syntax.w64)) (List._∷_ (
+          8,
+          Rows'.any-gone (Syntax.tyInt Syntax.w64),
+        ) (List._∷_ (9, Rows'.any-gone σ) (List._∷_ (
+          10,
+          Rows'.any-gone (Syntax.tyRef Syntax.erased Syntax.mut (Syntax.tyInt Syntax.w32)),
+        ) (List._∷_ (
+          11,
+          Rows'.any-gone (Syntax.tyStruct (List._∷_ 38 (List._∷_ 91 (List._∷_ 93 List.[]))) (Syntax.tcons (Syntax.tyRef Syntax.erased Syntax.mut (Syntax.tyInt Syntax.w32)) (Syntax.tcons (Syntax.tyInt Syntax.w64) Syntax.tnil))),
+        ) (List._∷_ (
+          12,
+          Rows'.any-gone (Syntax.tyRef Syntax.erased Syntax.mut (Syntax.tyInt Syntax.w32)),
+        ) (List._∷_ (
+          13,
+          Rows'.any-gone (Syntax.tyStruct (List._∷_ 38 (List._∷_ 91 (List._∷_ 93 List.[]))) (Syntax.tcons (Syntax.tyRef Syntax.erased Syntax.mut (Syntax.tyInt Syntax.w32)) (Syntax.tcons (Syntax.tyInt Syntax.w64) Syntax.tnil))),
+        ) (List._∷_ (14, Rows'.any-gone Syntax.tyBool) (List._∷_ (
+          15,
+          Rows'.any-gone (Syntax.tyInt Syntax.w64),
         ) List.[])))))))))))))))
 
         abbrev g28 : List.List Row.Entry
-        g28 = List._∷_ ( 0, Rows'.any-gone (Syntax.tyStruct (List._∷_ 102 (List._∷_ 105 (List._∷_ 114 (List._∷_ 109 (List._∷_ 58 (List._∷_ 58 (List._∷_ 81 (List._∷_ 117 (List._∷_ 111 (List._∷_ 116 (List._∷_ 101 List.[]))))))))))) (Syntax.tcons (Syntax.tyInt Syntax.w32) (Syntax.tcons (Syntax.tyInt Syntax.w64) (Syntax.tcons (Syntax.tyInt Syntax.w64) (Syntax.tcons (Syntax.tyInt Syntax.w32) Syntax.tnil))))),
-        ) (List._∷_ ( 1, Mut.mslice T τ 0,
-        ) (List._∷_ ( 2, Rows'.sslice (Referent.rtF (Referent.fInt Syntax.w8)) (Syntax.tyRef (Syntax.named 1) Syntax.imm (Syntax.tyInt Syntax.w8)) 1,
-        ) (List._∷_ ( 3, Reshare.mslice-owedS (Referent.rtF (Referent.fInt Syntax.w32)) (Syntax.tyRef (Syntax.named 2) Syntax.mut (Syntax.tyInt Syntax.w32)) 2 7 (Row.lease (κs .1 .1 .0) (qs .1 .1 .0)),
-        ) (List._∷_ ( 4, Mut.mslice (Referent.rtF (Referent.fInt Syntax.w32)) (Syntax.tyRef (Syntax.named 3) Syntax.mut (Syntax.tyInt Syntax.w32)) 3,
-        ) (List._∷_ (5, Rows'.sc-here (Row.sInt Syntax.w64)) (List._∷_ ( 6, Rows'.whole (Declared.row Quote.the-type),
-        ) (List._∷_ (7, Rows'.sc-here (Row.sInt Syntax.w64)) (List._∷_ ( 8, Rows'.sc-here (Row.sInt Syntax.w64),
-        ) (List._∷_ (9, Rows'.any-gone σ) (List._∷_ ( 10, Rows'.any-gone (Syntax.tyRef Syntax.erased Syntax.mut (Syntax.tyInt Syntax.w32)),
-        ) (List._∷_ ( 11, Rows'.any-gone (Syntax.tyStruct (List._∷_ 38 (List._∷_ 91 (List._∷_ 93 List.[]))) (Syntax.tcons (Syntax.tyRef Syntax.erased Syntax.mut (Syntax.tyInt Syntax.w32)) (Syntax.tcons (Syntax.tyInt Syntax.w64) Syntax.tnil))),
-        ) (List._∷_ ( 12, Rows'.any-gone (Syntax.tyRef Syntax.erased Syntax.mut (Syntax.tyInt Syntax.w32)),
-        ) (List._∷_ ( 13, Rows'.any-gone (Syntax.tyStruct (List._∷_ 38 (List._∷_ 91 (List._∷_ 93 List.[]))) (Syntax.tcons (Syntax.tyRef Syntax.erased Syntax.mut (Syntax.tyInt Syntax.w32)) (Syntax.tcons (Syntax.tyInt Syntax.w64) Syntax.tnil))),
-        ) (List._∷_ (14, Rows'.any-gone Syntax.tyBool) (List._∷_ ( 15, Rows'.any-gone (Syntax.tyInt Syntax.w64),
+        g28 = List._∷_ (
+          0,
+          Rows'.any-gone (Syntax.tyStruct (List._∷_ 102 (List._∷_ 105 (List._∷_ 114 (List._∷_ 109 (List._∷_ 58 (List._∷_ 58 (List._∷_ 81 (List._∷_ 117 (List._∷_ 111 (List._∷_ 116 (List._∷_ 101 List.[]))))))))))) (Syntax.tcons (Syntax.tyInt Syntax.w32) (Syntax.tcons (Syntax.tyInt Syntax.w64) (Syntax.tcons (Syntax.tyInt Syntax.w64) (Syntax.tcons (Syntax.tyInt Syntax.w32) Syntax.tnil))))),
+        ) (List._∷_ (
+          1,
+          Mut.mslice T τ 0,
+        ) (List._∷_ (
+          2,
+          Rows'.sslice (Referent.rtF (Referent.fInt Syntax.w8)) (Syntax.tyRef (Syntax.named 1) Syntax.imm (Syntax.tyInt Syntax.w8)) 1,
+        ) (List._∷_ (
+          3,
+          Reshare.mslice-owedS (Referent.rtF (Referent.fInt Syntax.w32)) (Syntax.tyRef (Syntax.named 2) Syntax.mut (Syntax.tyInt Syntax.w32)) 2 7 (Row.lease (κs .1 .1 .0) (qs .1 .1 .0)),
+        ) (List._∷_ (
+          4,
+          Mut.mslice (Referent.rtF (Referent.fInt Syntax.w32)) (Syntax.tyRef (Syntax.named 3) Syntax.mut (Syntax.tyInt Syntax.w32)) 3,
+        ) (List._∷_ (5, Rows'.sc-here (Row.sInt Syntax.w64)) (List._∷_ (
+          6,
+          Rows'.whole (Declared.row Quote.the-type),
+        ) (List._∷_ (7, Rows'.sc-here (Row.sInt Syntax.w64)) (List._∷_ (
+          8,
+          Rows'.sc-here (Row.sInt Syntax.w64),
+        ) (List._∷_ (9, Rows'.any-gone σ) (List._∷_ (
+          10,
+          Rows'.any-gone (Syntax.tyRef Syntax.erased Syntax.mut (Syntax.tyInt Syntax.w32)),
+        ) (List._∷_ (
+          11,
+          Rows'.any-gone (Syntax.tyStruct (List._∷_ 38 (List._∷_ 91 (List._∷_ 93 List.[]))) (Syntax.tcons (Syntax.tyRef Syntax.erased Syntax.mut (Syntax.tyInt Syntax.w32)) (Syntax.tcons (Syntax.tyInt Syntax.w64) Syntax.tnil))),
+        ) (List._∷_ (
+          12,
+          Rows'.any-gone (Syntax.tyRef Syntax.erased Syntax.mut (Syntax.tyInt Syntax.w32)),
+        ) (List._∷_ (
+          13,
+          Rows'.any-gone (Syntax.tyStruct (List._∷_ 38 (List._∷_ 91 (List._∷_ 93 List.[]))) (Syntax.tcons (Syntax.tyRef Syntax.erased Syntax.mut (Syntax.tyInt Syntax.w32)) (Syntax.tcons (Syntax.tyInt Syntax.w64) Syntax.tnil))),
+        ) (List._∷_ (14, Rows'.any-gone Syntax.tyBool) (List._∷_ (
+          15,
+          Rows'.any-gone (Syntax.tyInt Syntax.w64),
         ) List.[])))))))))))))))
 
         abbrev g31 : List.List Row.Entry
-        g31 = List._∷_ ( 0, Rows'.any-gone (Syntax.tyStruct (List._∷_ 102 (List._∷_ 105 (List._∷_ 114 (List._∷_ 109 (List._∷_ 58 (List._∷_ 58 (List._∷_ 81 (List._∷_ 117 (List._∷_ 111 (List._∷_ 116 (List._∷_ 101 List.[]))))))))))) (Syntax.tcons (Syntax.tyInt Syntax.w32) (Syntax.tcons (Syntax.tyInt Syntax.w64) (Syntax.tcons (Syntax.tyInt Syntax.w64) (Syntax.tcons (Syntax.tyInt Syntax.w32) Syntax.tnil))))),
-        ) (List._∷_ ( 1, Mut.mslice T τ 0,
-        ) (List._∷_ ( 2, Rows'.sslice (Referent.rtF (Referent.fInt Syntax.w8)) (Syntax.tyRef (Syntax.named 1) Syntax.imm (Syntax.tyInt Syntax.w8)) 1,
-        ) (List._∷_ ( 3, Reshare.mslice-owedS (Referent.rtF (Referent.fInt Syntax.w32)) (Syntax.tyRef (Syntax.named 2) Syntax.mut (Syntax.tyInt Syntax.w32)) 2 7 (Row.lease (κs .1 .1 .0) (qs .1 .1 .0)),
-        ) (List._∷_ ( 4, Relend.mslice-owed (Referent.rtF (Referent.fInt Syntax.w32)) (Syntax.tyRef (Syntax.named 3) Syntax.mut (Syntax.tyInt Syntax.w32)) 3 8 (Row.lease (κs .1 .1 .1 .0) (qs .1 .1 .1 .0)),
-        ) (List._∷_ (5, Rows'.sc-here (Row.sInt Syntax.w64)) (List._∷_ ( 6, Rows'.whole (Declared.row Quote.the-type),
-        ) (List._∷_ (7, Rows'.sc-here (Row.sInt Syntax.w64)) (List._∷_ ( 8, Rows'.sc-here (Row.sInt Syntax.w64),
-        ) (List._∷_ (9, Rows'.any-gone σ) (List._∷_ ( 10, Rows'.any-gone (Syntax.tyRef Syntax.erased Syntax.mut (Syntax.tyInt Syntax.w32)),
-        ) (List._∷_ ( 11, Rows'.any-gone (Syntax.tyStruct (List._∷_ 38 (List._∷_ 91 (List._∷_ 93 List.[]))) (Syntax.tcons (Syntax.tyRef Syntax.erased Syntax.mut (Syntax.tyInt Syntax.w32)) (Syntax.tcons (Syntax.tyInt Syntax.w64) Syntax.tnil))),
-        ) (List._∷_ ( 12, Rows'.any-gone (Syntax.tyRef Syntax.erased Syntax.mut (Syntax.tyInt Syntax.w32)),
-        ) (List._∷_ ( 13, Rows'.any-gone (Syntax.tyStruct (List._∷_ 38 (List._∷_ 91 (List._∷_ 93 List.[]))) (Syntax.tcons (Syntax.tyRef Syntax.erased Syntax.mut (Syntax.tyInt Syntax.w32)) (Syntax.tcons (Syntax.tyInt Syntax.w64) Syntax.tnil))),
-        ) (List._∷_ (14, Rows'.any-gone Syntax.tyBool) (List._∷_ ( 15, Rows'.any-gone (Syntax.tyInt Syntax.w64),
+        g31 = List._∷_ (
+          0,
+          Rows'.any-gone (Syntax.tyStruct (List._∷_ 102 (List._∷_ 105 (List._∷_ 114 (List._∷_ 109 (List._∷_ 58 (List._∷_ 58 (List._∷_ 81 (List._∷_ 117 (List._∷_ 111 (List._∷_ 116 (List._∷_ 101 List.[]))))))))))) (Syntax.tcons (Syntax.tyInt Syntax.w32) (Syntax.tcons (Syntax.tyInt Syntax.w64) (Syntax.tcons (Syntax.tyInt Syntax.w64) (Syntax.tcons (Syntax.tyInt Syntax.w32) Syntax.tnil))))),
+        ) (List._∷_ (
+          1,
+          Mut.mslice T τ 0,
+        ) (List._∷_ (
+          2,
+          Rows'.sslice (Referent.rtF (Referent.fInt Syntax.w8)) (Syntax.tyRef (Syntax.named 1) Syntax.imm (Syntax.tyInt Syntax.w8)) 1,
+        ) (List._∷_ (
+          3,
+          Reshare.mslice-owedS (Referent.rtF (Referent.fInt Syntax.w32)) (Syntax.tyRef (Syntax.named 2) Syntax.mut (Syntax.tyInt Syntax.w32)) 2 7 (Row.lease (κs .1 .1 .0) (qs .1 .1 .0)),
+        ) (List._∷_ (
+          4,
+          Relend.mslice-owed (Referent.rtF (Referent.fInt Syntax.w32)) (Syntax.tyRef (Syntax.named 3) Syntax.mut (Syntax.tyInt Syntax.w32)) 3 8 (Row.lease (κs .1 .1 .1 .0) (qs .1 .1 .1 .0)),
+        ) (List._∷_ (5, Rows'.sc-here (Row.sInt Syntax.w64)) (List._∷_ (
+          6,
+          Rows'.whole (Declared.row Quote.the-type),
+        ) (List._∷_ (7, Rows'.sc-here (Row.sInt Syntax.w64)) (List._∷_ (
+          8,
+          Rows'.sc-here (Row.sInt Syntax.w64),
+        ) (List._∷_ (9, Rows'.any-gone σ) (List._∷_ (
+          10,
+          Rows'.any-gone (Syntax.tyRef Syntax.erased Syntax.mut (Syntax.tyInt Syntax.w32)),
+        ) (List._∷_ (
+          11,
+          Rows'.any-gone (Syntax.tyStruct (List._∷_ 38 (List._∷_ 91 (List._∷_ 93 List.[]))) (Syntax.tcons (Syntax.tyRef Syntax.erased Syntax.mut (Syntax.tyInt Syntax.w32)) (Syntax.tcons (Syntax.tyInt Syntax.w64) Syntax.tnil))),
+        ) (List._∷_ (
+          12,
+          Rows'.any-gone (Syntax.tyRef Syntax.erased Syntax.mut (Syntax.tyInt Syntax.w32)),
+        ) (List._∷_ (
+          13,
+          Rows'.any-gone (Syntax.tyStruct (List._∷_ 38 (List._∷_ 91 (List._∷_ 93 List.[]))) (Syntax.tcons (Syntax.tyRef Syntax.erased Syntax.mut (Syntax.tyInt Syntax.w32)) (Syntax.tcons (Syntax.tyInt Syntax.w64) Syntax.tnil))),
+        ) (List._∷_ (14, Rows'.any-gone Syntax.tyBool) (List._∷_ (
+          15,
+          Rows'.any-gone (Syntax.tyInt Syntax.w64),
         ) List.[])))))))))))))))
 
         abbrev g34 : List.List Row.Entry
-        g34 = List._∷_ ( 0, Rows'.any-gone (Syntax.tyStruct (List._∷_ 102 (List._∷_ 105 (List._∷_ 114 (List._∷_ 109 (List._∷_ 58 (List._∷_ 58 (List._∷_ 81 (List._∷_ 117 (List._∷_ 111 (List._∷_ 116 (List._∷_ 101 List.[]))))))))))) (Syntax.tcons (Syntax.tyInt Syntax.w32) (Syntax.tcons (Syntax.tyInt Syntax.w64) (Syntax.tcons (Syntax.tyInt Syntax.w64) (Syntax.tcons (Syntax.tyInt Syntax.w32) Syntax.tnil))))),
-        ) (List._∷_ ( 1, Mut.mslice T τ 0,
-        ) (List._∷_ ( 2, Rows'.sslice (Referent.rtF (Referent.fInt Syntax.w8)) (Syntax.tyRef (Syntax.named 1) Syntax.imm (Syntax.tyInt Syntax.w8)) 1,
-        ) (List._∷_ ( 3, Reshare.mslice-owedS (Referent.rtF (Referent.fInt Syntax.w32)) (Syntax.tyRef (Syntax.named 2) Syntax.mut (Syntax.tyInt Syntax.w32)) 2 7 (Row.lease (κs .1 .1 .0) (qs .1 .1 .0)),
-        ) (List._∷_ ( 4, Relend.mslice-owed (Referent.rtF (Referent.fInt Syntax.w32)) (Syntax.tyRef (Syntax.named 3) Syntax.mut (Syntax.tyInt Syntax.w32)) 3 8 (Row.lease (κs .1 .1 .1 .0) (qs .1 .1 .1 .0)),
-        ) (List._∷_ (5, Rows'.sc-here (Row.sInt Syntax.w64)) (List._∷_ ( 6, Rows'.whole (Declared.row Quote.the-type),
-        ) (List._∷_ (7, Rows'.sc-here (Row.sInt Syntax.w64)) (List._∷_ ( 8, Rows'.sc-here (Row.sInt Syntax.w64),
-        ) (List._∷_ (9, Rows'.whole T) (List._∷_ ( 10, Rows'.any-gone (Syntax.tyRef Syntax.erased Syntax.mut (Syntax.tyInt Syntax.w32)),
-        ) (List._∷_ ( 11, Rows'.any-gone (Syntax.tyStruct (List._∷_ 38 (List._∷_ 91 (List._∷_ 93 List.[]))) (Syntax.tcons (Syntax.tyRef Syntax.erased Syntax.mut (Syntax.tyInt Syntax.w32)) (Syntax.tcons (Syntax.tyInt Syntax.w64) Syntax.tnil))),
-        ) (List._∷_ ( 12, Rows'.any-gone (Syntax.tyRef Syntax.erased Syntax.mut (Syntax.tyInt Syntax.w32)),
-        ) (List._∷_ ( 13, Rows'.any-gone (Syntax.tyStruct (List._∷_ 38 (List._∷_ 91 (List._∷_ 93 List.[]))) (Syntax.tcons (Syntax.tyRef Syntax.erased Syntax.mut (Syntax.tyInt Syntax.w32)) (Syntax.tcons (Syntax.tyInt Syntax.w64) Syntax.tnil))),
-        ) (List._∷_ (14, Rows'.any-gone Syntax.tyBool) (List._∷_ ( 15, Rows'.any-gone (Syntax.tyInt Syntax.w64),
+        g34 = List._∷_ (
+          0,
+          Rows'.any-gone (Syntax.tyStruct (List._∷_ 102 (List._∷_ 105 (List._∷_ 114 (List._∷_ 109 (List._∷_ 58 (List._∷_ 58 (List._∷_ 81 (List._∷_ 117 (List._∷_ 111 (List._∷_ 116 (List._∷_ 101 List.[]))))))))))) (Syntax.tcons (Syntax.tyInt Syntax.w32) (Syntax.tcons (Syntax.tyInt Syntax.w64) (Syntax.tcons (Syntax.tyInt Syntax.w64) (Syntax.tcons (Syntax.tyInt Syntax.w32) Syntax.tnil))))),
+        ) (List._∷_ (
+          1,
+          Mut.mslice T τ 0,
+        ) (List._∷_ (
+          2,
+          Rows'.sslice (Referent.rtF (Referent.fInt Syntax.w8)) (Syntax.tyRef (Syntax.named 1) Syntax.imm (Syntax.tyInt Syntax.w8)) 1,
+        ) (List._∷_ (
+          3,
+          Reshare.mslice-owedS (Referent.rtF (Referent.fInt Syntax.w32)) (Syntax.tyRef (Syntax.named 2) Syntax.mut (Syntax.tyInt Syntax.w32)) 2 7 (Row.lease (κs .1 .1 .0) (qs .1 .1 .0)),
+        ) (List._∷_ (
+          4,
+          Relend.mslice-owed (Referent.rtF (Referent.fInt Syntax.w32)) (Syntax.tyRef (Syntax.named 3) Syntax.mut (Syntax.tyInt Syntax.w32)) 3 8 (Row.lease (κs .1 .1 .1 .0) (qs .1 .1 .1 .0)),
+        ) (List._∷_ (5, Rows'.sc-here (Row.sInt Syntax.w64)) (List._∷_ (
+          6,
+          Rows'.whole (Declared.row Quote.the-type),
+        ) (List._∷_ (7, Rows'.sc-here (Row.sInt Syntax.w64)) (List._∷_ (
+          8,
+          Rows'.sc-here (Row.sInt Syntax.w64),
+        ) (List._∷_ (9, Rows'.whole T) (List._∷_ (
+          10,
+          Rows'.any-gone (Syntax.tyRef Syntax.erased Syntax.mut (Syntax.tyInt Syntax.w32)),
+        ) (List._∷_ (
+          11,
+          Rows'.any-gone (Syntax.tyStruct (List._∷_ 38 (List._∷_ 91 (List._∷_ 93 List.[]))) (Syntax.tcons (Syntax.tyRef Syntax.erased Syntax.mut (Syntax.tyInt Syntax.w32)) (Syntax.tcons (Syntax.tyInt Syntax.w64) Syntax.tnil))),
+        ) (List._∷_ (
+          12,
+          Rows'.any-gone (Syntax.tyRef Syntax.erased Syntax.mut (Syntax.tyInt Syntax.w32)),
+        ) (List._∷_ (
+          13,
+          Rows'.any-gone (Syntax.tyStruct (List._∷_ 38 (List._∷_ 91 (List._∷_ 93 List.[]))) (Syntax.tcons (Syntax.tyRef Syntax.erased Syntax.mut (Syntax.tyInt Syntax.w32)) (Syntax.tcons (Syntax.tyInt Syntax.w64) Syntax.tnil))),
+        ) (List._∷_ (14, Rows'.any-gone Syntax.tyBool) (List._∷_ (
+          15,
+          Rows'.any-gone (Syntax.tyInt Syntax.w64),
         ) List.[])))))))))))))))
 
         abbrev g38 : List.List Row.Entry
-        g38 = List._∷_ ( 0, Rows'.any-gone (Syntax.tyStruct (List._∷_ 102 (List._∷_ 105 (List._∷_ 114 (List._∷_ 109 (List._∷_ 58 (List._∷_ 58 (List._∷_ 81 (List._∷_ 117 (List._∷_ 111 (List._∷_ 116 (List._∷_ 101 List.[]))))))))))) (Syntax.tcons (Syntax.tyInt Syntax.w32) (Syntax.tcons (Syntax.tyInt Syntax.w64) (Syntax.tcons (Syntax.tyInt Syntax.w64) (Syntax.tcons (Syntax.tyInt Syntax.w32) Syntax.tnil))))),
-        ) (List._∷_ ( 1, Mut.mslice T τ 0,
-        ) (List._∷_ ( 2, Rows'.sslice (Referent.rtF (Referent.fInt Syntax.w8)) (Syntax.tyRef (Syntax.named 1) Syntax.imm (Syntax.tyInt Syntax.w8)) 1,
-        ) (List._∷_ ( 3, Mut.mslice (Referent.rtF (Referent.fInt Syntax.w32)) (Syntax.tyRef (Syntax.named 2) Syntax.mut (Syntax.tyInt Syntax.w32)) 2,
-        ) (List._∷_ ( 4, Relend.mslice-owed (Referent.rtF (Referent.fInt Syntax.w32)) (Syntax.tyRef (Syntax.named 3) Syntax.mut (Syntax.tyInt Syntax.w32)) 3 8 (Row.lease (κs .1 .1 .1 .0) (qs .1 .1 .1 .0)),
-        ) (List._∷_ (5, Rows'.sc-here (Row.sInt Syntax.w64)) (List._∷_ ( 6, Rows'.whole (Declared.row Quote.the-type),
-        ) (List._∷_ (7, Rows'.sc-here (Row.sInt Syntax.w64)) (List._∷_ ( 8, Rows'.sc-here (Row.sInt Syntax.w64),
-        ) (List._∷_ (9, Rows'.whole T) (List._∷_ ( 10, Rows'.any-gone (Syntax.tyRef Syntax.erased Syntax.mut (Syntax.tyInt Syntax.w32)),
-        ) (List._∷_ ( 11, Rows'.any-gone (Syntax.tyStruct (List._∷_ 38 (List._∷_ 91 (List._∷_ 93 List.[]))) (Syntax.tcons (Syntax.tyRef Syntax.erased Syntax.mut (Syntax.tyInt Syntax.w32)) (Syntax.tcons (Syntax.tyInt Syntax.w64) Syntax.tnil))),
-        ) (List._∷_ ( 12, Rows'.any-gone (Syntax.tyRef Syntax.erased Syntax.mut (Syntax.tyInt Syntax.w32)),
-        ) (List._∷_ ( 13, Rows'.any-gone (Syntax.tyStruct (List._∷_ 38 (List._∷_ 91 (List._∷_ 93 List.[]))) (Syntax.tcons (Syntax.tyRef Syntax.erased Syntax.mut (Syntax.tyInt Syntax.w32)) (Syntax.tcons (Syntax.tyInt Syntax.w64) Syntax.tnil))),
-        ) (List._∷_ (14, Rows'.any-gone Syntax.tyBool) (List._∷_ ( 15, Rows'.any-gone (Syntax.tyInt Syntax.w64),
+        g38 = List._∷_ (
+          0,
+          Rows'.any-gone (Syntax.tyStruct (List._∷_ 102 (List._∷_ 105 (List._∷_ 114 (List._∷_ 109 (List._∷_ 58 (List._∷_ 58 (List._∷_ 81 (List._∷_ 117 (List._∷_ 111 (List._∷_ 116 (List._∷_ 101 List.[]))))))))))) (Syntax.tcons (Syntax.tyInt Syntax.w32) (Syntax.tcons (Syntax.tyInt Syntax.w64) (Syntax.tcons (Syntax.tyInt Syntax.w64) (Syntax.tcons (Syntax.tyInt Syntax.w32) Syntax.tnil))))),
+        ) (List._∷_ (
+          1,
+          Mut.mslice T τ 0,
+        ) (List._∷_ (
+          2,
+          Rows'.sslice (Referent.rtF (Referent.fInt Syntax.w8)) (Syntax.tyRef (Syntax.named 1) Syntax.imm (Syntax.tyInt Syntax.w8)) 1,
+        ) (List._∷_ (
+          3,
+          Mut.mslice (Referent.rtF (Referent.fInt Syntax.w32)) (Syntax.tyRef (Syntax.named 2) Syntax.mut (Syntax.tyInt Syntax.w32)) 2,
+        ) (List._∷_ (
+          4,
+          Relend.mslice-owed (Referent.rtF (Referent.fInt Syntax.w32)) (Syntax.tyRef (Syntax.named 3) Syntax.mut (Syntax.tyInt Syntax.w32)) 3 8 (Row.lease (κs .1 .1 .1 .0) (qs .1 .1 .1 .0)),
+        ) (List._∷_ (5, Rows'.sc-here (Row.sInt Syntax.w64)) (List._∷_ (
+          6,
+          Rows'.whole (Declared.row Quote.the-type),
+        ) (List._∷_ (7, Rows'.sc-here (Row.sInt Syntax.w64)) (List._∷_ (
+          8,
+          Rows'.sc-here (Row.sInt Syntax.w64),
+        ) (List._∷_ (9, Rows'.whole T) (List._∷_ (
+          10,
+          Rows'.any-gone (Syntax.tyRef Syntax.erased Syntax.mut (Syntax.tyInt Syntax.w32)),
+        ) (List._∷_ (
+          11,
+          Rows'.any-gone (Syntax.tyStruct (List._∷_ 38 (List._∷_ 91 (List._∷_ 93 List.[]))) (Syntax.tcons (Syntax.tyRef Syntax.erased Syntax.mut (Syntax.tyInt Syntax.w32)) (Syntax.tcons (Syntax.tyInt Syntax.w64) Syntax.tnil))),
+        ) (List._∷_ (
+          12,
+          Rows'.any-gone (Syntax.tyRef Syntax.erased Syntax.mut (Syntax.tyInt Syntax.w32)),
+        ) (List._∷_ (
+          13,
+          Rows'.any-gone (Syntax.tyStruct (List._∷_ 38 (List._∷_ 91 (List._∷_ 93 List.[]))) (Syntax.tcons (Syntax.tyRef Syntax.erased Syntax.mut (Syntax.tyInt Syntax.w32)) (Syntax.tcons (Syntax.tyInt Syntax.w64) Syntax.tnil))),
+        ) (List._∷_ (14, Rows'.any-gone Syntax.tyBool) (List._∷_ (
+          15,
+          Rows'.any-gone (Syntax.tyInt Syntax.w64),
         ) List.[])))))))))))))))
 
         abbrev g42 : List.List Row.Entry
-        g42 = List._∷_ ( 0, Rows'.any-gone (Syntax.tyStruct (List._∷_ 102 (List._∷_ 105 (List._∷_ 114 (List._∷_ 109 (List._∷_ 58 (List._∷_ 58 (List._∷_ 81 (List._∷_ 117 (List._∷_ 111 (List._∷_ 116 (List._∷_ 101 List.[]))))))))))) (Syntax.tcons (Syntax.tyInt Syntax.w32) (Syntax.tcons (Syntax.tyInt Syntax.w64) (Syntax.tcons (Syntax.tyInt Syntax.w64) (Syntax.tcons (Syntax.tyInt Syntax.w32) Syntax.tnil))))),
-        ) (List._∷_ ( 1, Mut.mslice T τ 0,
-        ) (List._∷_ ( 2, Rows'.sslice (Referent.rtF (Referent.fInt Syntax.w8)) (Syntax.tyRef (Syntax.named 1) Syntax.imm (Syntax.tyInt Syntax.w8)) 1,
-        ) (List._∷_ ( 3, Relend.mslice-owed (Referent.rtF (Referent.fInt Syntax.w32)) (Syntax.tyRef (Syntax.named 2) Syntax.mut (Syntax.tyInt Syntax.w32)) 2 9 (Row.lease (κs .1 .1 .0) (qs .1 .1 .0)),
-        ) (List._∷_ ( 4, Mut.mslice (Referent.rtF (Referent.fInt Syntax.w32)) (Syntax.tyRef (Syntax.named 3) Syntax.mut (Syntax.tyInt Syntax.w32)) 3,
-        ) (List._∷_ (5, Rows'.sc-here (Row.sInt Syntax.w64)) (List._∷_ ( 6, Rows'.whole (Declared.row Quote.the-type),
-        ) (List._∷_ (7, Rows'.sc-here (Row.sInt Syntax.w64)) (List._∷_ ( 8, Rows'.sc-here (Row.sInt Syntax.w64),
-        ) (List._∷_ (9, Rows'.any-gone σ) (List._∷_ ( 10, Rows'.any-gone (Syntax.tyRef Syntax.erased Syntax.mut (Syntax.tyInt Syntax.w32)),
-        ) (List._∷_ ( 11, Rows'.any-gone (Syntax.tyStruct (List._∷_ 38 (List._∷_ 91 (List._∷_ 93 List.[]))) (Syntax.tcons (Syntax.tyRef Syntax.erased Syntax.mut (Syntax.tyInt Syntax.w32)) (Syntax.tcons (Syntax.tyInt Syntax.w64) Syntax.tnil))),
-        ) (List._∷_ ( 12, Rows'.any-gone (Syntax.tyRef Syntax.erased Syntax.mut (Syntax.tyInt Syntax.w32)),
-        ) (List._∷_ ( 13, Rows'.any-gone (Syntax.tyStruct (List._∷_ 38 (List._∷_ 91 (List._∷_ 93 List.[]))) (Syntax.tcons (Syntax.tyRef Syntax.erased Syntax.mut (Syntax.tyInt Syntax.w32)) (Syntax.tcons (Syntax.tyInt Syntax.w64) Syntax.tnil))),
-        ) (List._∷_ (14, Rows'.any-gone Syntax.tyBool) (List._∷_ ( 15, Rows'.any-gone (Syntax.tyInt Syntax.w64),
+        g42 = List._∷_ (
+          0,
+          Rows'.any-gone (Syntax.tyStruct (List._∷_ 102 (List._∷_ 105 (List._∷_ 114 (List._∷_ 109 (List._∷_ 58 (List._∷_ 58 (List._∷_ 81 (List._∷_ 117 (List._∷_ 111 (List._∷_ 116 (List._∷_ 101 List.[]))))))))))) (Syntax.tcons (Syntax.tyInt Syntax.w32) (Syntax.tcons (Syntax.tyInt Syntax.w64) (Syntax.tcons (Syntax.tyInt Syntax.w64) (Syntax.tcons (Syntax.tyInt Syntax.w32) Syntax.tnil))))),
+        ) (List._∷_ (
+          1,
+          Mut.mslice T τ 0,
+        ) (List._∷_ (
+          2,
+          Rows'.sslice (Referent.rtF (Referent.fInt Syntax.w8)) (Syntax.tyRef (Syntax.named 1) Syntax.imm (Syntax.tyInt Syntax.w8)) 1,
+        ) (List._∷_ (
+          3,
+          Relend.mslice-owed (Referent.rtF (Referent.fInt Syntax.w32)) (Syntax.tyRef (Syntax.named 2) Syntax.mut (Syntax.tyInt Syntax.w32)) 2 9 (Row.lease (κs .1 .1 .0) (qs .1 .1 .0)),
+        ) (List._∷_ (
+          4,
+          Mut.mslice (Referent.rtF (Referent.fInt Syntax.w32)) (Syntax.tyRef (Syntax.named 3) Syntax.mut (Syntax.tyInt Syntax.w32)) 3,
+        ) (List._∷_ (5, Rows'.sc-here (Row.sInt Syntax.w64)) (List._∷_ (
+          6,
+          Rows'.whole (Declared.row Quote.the-type),
+        ) (List._∷_ (7, Rows'.sc-here (Row.sInt Syntax.w64)) (List._∷_ (
+          8,
+          Rows'.sc-here (Row.sInt Syntax.w64),
+        ) (List._∷_ (9, Rows'.any-gone σ) (List._∷_ (
+          10,
+          Rows'.any-gone (Syntax.tyRef Syntax.erased Syntax.mut (Syntax.tyInt Syntax.w32)),
+        ) (List._∷_ (
+          11,
+          Rows'.any-gone (Syntax.tyStruct (List._∷_ 38 (List._∷_ 91 (List._∷_ 93 List.[]))) (Syntax.tcons (Syntax.tyRef Syntax.erased Syntax.mut (Syntax.tyInt Syntax.w32)) (Syntax.tcons (Syntax.tyInt Syntax.w64) Syntax.tnil))),
+        ) (List._∷_ (
+          12,
+          Rows'.any-gone (Syntax.tyRef Syntax.erased Syntax.mut (Syntax.tyInt Syntax.w32)),
+        ) (List._∷_ (
+          13,
+          Rows'.any-gone (Syntax.tyStruct (List._∷_ 38 (List._∷_ 91 (List._∷_ 93 List.[]))) (Syntax.tcons (Syntax.tyRef Syntax.erased Syntax.mut (Syntax.tyInt Syntax.w32)) (Syntax.tcons (Syntax.tyInt Syntax.w64) Syntax.tnil))),
+        ) (List._∷_ (14, Rows'.any-gone Syntax.tyBool) (List._∷_ (
+          15,
+          Rows'.any-gone (Syntax.tyInt Syntax.w64),
         ) List.[])))))))))))))))
 
         abbrev g45 : List.List Row.Entry
-        g45 = List._∷_ ( 0, Rows'.any-gone (Syntax.tyStruct (List._∷_ 102 (List._∷_ 105 (List._∷_ 114 (List._∷_ 109 (List._∷_ 58 (List._∷_ 58 (List._∷_ 81 (List._∷_ 117 (List._∷_ 111 (List._∷_ 116 (List._∷_ 101 List.[]))))))))))) (Syntax.tcons (Syntax.tyInt Syntax.w32) (Syntax.tcons (Syntax.tyInt Syntax.w64) (Syntax.tcons (Syntax.tyInt Syntax.w64) (Syntax.tcons (Syntax.tyInt Syntax.w32) Syntax.tnil))))),
-        ) (List._∷_ ( 1, Mut.mslice T τ 0,
-        ) (List._∷_ ( 2, Rows'.sslice (Referent.rtF (Referent.fInt Syntax.w8)) (Syntax.tyRef (Syntax.named 1) Syntax.imm (Syntax.tyInt Syntax.w8)) 1,
-        ) (List._∷_ ( 3, Relend.mslice-owed (Referent.rtF (Referent.fInt Syntax.w32)) (Syntax.tyRef (Syntax.named 2) Syntax.mut (Syntax.tyInt Syntax.w32)) 2 9 (Row.lease (κs .1 .1 .0) (qs .1 .1 .0)),
-        ) (List._∷_ ( 4, Relend.mslice-owed (Referent.rtF (Referent.fInt Syntax.w32)) (Syntax.tyRef (Syntax.named 3) Syntax.mut (Syntax.tyInt Syntax.w32)) 3 10 (Row.lease (κs .1 .1 .1 .0) (qs .1 .1 .1 .0)),
-        ) (List._∷_ (5, Rows'.sc-here (Row.sInt Syntax.w64)) (List._∷_ ( 6, Rows'.whole (Declared.row Quote.the-type),
-        ) (List._∷_ (7, Rows'.sc-here (Row.sInt Syntax.w64)) (List._∷_ ( 8, Rows'.sc-here (Row.sInt Syntax.w64),
-        ) (List._∷_ (9, Rows'.any-gone σ) (List._∷_ ( 10, Rows'.any-gone (Syntax.tyRef Syntax.erased Syntax.mut (Syntax.tyInt Syntax.w32)),
-        ) (List._∷_ ( 11, Rows'.any-gone (Syntax.tyStruct (List._∷_ 38 (List._∷_ 91 (List._∷_ 93 List.[]))) (Syntax.tcons (Syntax.tyRef Syntax.erased Syntax.mut (Syntax.tyInt Syntax.w32)) (Syntax.tcons (Syntax.tyInt Syntax.w64) Syntax.tnil))),
-        ) (List._∷_ ( 12, Rows'.any-gone (Syntax.tyRef Syntax.erased Syntax.mut (Syntax.tyInt Syntax.w32)),
-        ) (List._∷_ ( 13, Rows'.any-gone (Syntax.tyStruct (List._∷_ 38 (List._∷_ 91 (List._∷_ 93 List.[]))) (Syntax.tcons (Syntax.tyRef Syntax.erased Syntax.mut (Syntax.tyInt Syntax.w32)) (Syntax.tcons (Syntax.tyInt Syntax.w64) Syntax.tnil))),
-        ) (List._∷_ (14, Rows'.any-gone Syntax.tyBool) (List._∷_ ( 15, Rows'.any-gone (Syntax.tyInt Syntax.w64),
+        g45 = List._∷_ (
+          0,
+          Rows'.any-gone (Syntax.tyStruct (List._∷_ 102 (List._∷_ 105 (List._∷_ 114 (List._∷_ 109 (List._∷_ 58 (List._∷_ 58 (List._∷_ 81 (List._∷_ 117 (List._∷_ 111 (List._∷_ 116 (List._∷_ 101 List.[]))))))))))) (Syntax.tcons (Syntax.tyInt Syntax.w32) (Syntax.tcons (Syntax.tyInt Syntax.w64) (Syntax.tcons (Syntax.tyInt Syntax.w64) (Syntax.tcons (Syntax.tyInt Syntax.w32) Syntax.tnil))))),
+        ) (List._∷_ (
+          1,
+          Mut.mslice T τ 0,
+        ) (List._∷_ (
+          2,
+          Rows'.sslice (Referent.rtF (Referent.fInt Syntax.w8)) (Syntax.tyRef (Syntax.named 1) Syntax.imm (Syntax.tyInt Syntax.w8)) 1,
+        ) (List._∷_ (
+          3,
+          Relend.mslice-owed (Referent.rtF (Referent.fInt Syntax.w32)) (Syntax.tyRef (Syntax.named 2) Syntax.mut (Syntax.tyInt Syntax.w32)) 2 9 (Row.lease (κs .1 .1 .0) (qs .1 .1 .0)),
+        ) (List._∷_ (
+          4,
+          Relend.mslice-owed (Referent.rtF (Referent.fInt Syntax.w32)) (Syntax.tyRef (Syntax.named 3) Syntax.mut (Syntax.tyInt Syntax.w32)) 3 10 (Row.lease (κs .1 .1 .1 .0) (qs .1 .1 .1 .0)),
+        ) (List._∷_ (5, Rows'.sc-here (Row.sInt Syntax.w64)) (List._∷_ (
+          6,
+          Rows'.whole (Declared.row Quote.the-type),
+        ) (List._∷_ (7, Rows'.sc-here (Row.sInt Syntax.w64)) (List._∷_ (
+          8,
+          Rows'.sc-here (Row.sInt Syntax.w64),
+        ) (List._∷_ (9, Rows'.any-gone σ) (List._∷_ (
+          10,
+          Rows'.any-gone (Syntax.tyRef Syntax.erased Syntax.mut (Syntax.tyInt Syntax.w32)),
+        ) (List._∷_ (
+          11,
+          Rows'.any-gone (Syntax.tyStruct (List._∷_ 38 (List._∷_ 91 (List._∷_ 93 List.[]))) (Syntax.tcons (Syntax.tyRef Syntax.erased Syntax.mut (Syntax.tyInt Syntax.w32)) (Syntax.tcons (Syntax.tyInt Syntax.w64) Syntax.tnil))),
+        ) (List._∷_ (
+          12,
+          Rows'.any-gone (Syntax.tyRef Syntax.erased Syntax.mut (Syntax.tyInt Syntax.w32)),
+        ) (List._∷_ (
+          13,
+          Rows'.any-gone (Syntax.tyStruct (List._∷_ 38 (List._∷_ 91 (List._∷_ 93 List.[]))) (Syntax.tcons (Syntax.tyRef Syntax.erased Syntax.mut (Syntax.tyInt Syntax.w32)) (Syntax.tcons (Syntax.tyInt Syntax.w64) Syntax.tnil))),
+        ) (List._∷_ (14, Rows'.any-gone Syntax.tyBool) (List._∷_ (
+          15,
+          Rows'.any-gone (Syntax.tyInt Syntax.w64),
         ) List.[])))))))))))))))
 
         abbrev g48 : List.List Row.Entry
-        g48 = List._∷_ (0, Rows'.whole (Declared.row Quote.the-type)) (List._∷_ ( 1, Mut.mslice T τ 0,
-        ) (List._∷_ ( 2, Rows'.sslice (Referent.rtF (Referent.fInt Syntax.w8)) (Syntax.tyRef (Syntax.named 1) Syntax.imm (Syntax.tyInt Syntax.w8)) 1,
-        ) (List._∷_ ( 3, Relend.mslice-owed (Referent.rtF (Referent.fInt Syntax.w32)) (Syntax.tyRef (Syntax.named 2) Syntax.mut (Syntax.tyInt Syntax.w32)) 2 9 (Row.lease (κs .1 .1 .0) (qs .1 .1 .0)),
-        ) (List._∷_ ( 4, Relend.mslice-owed (Referent.rtF (Referent.fInt Syntax.w32)) (Syntax.tyRef (Syntax.named 3) Syntax.mut (Syntax.tyInt Syntax.w32)) 3 10 (Row.lease (κs .1 .1 .1 .0) (qs .1 .1 .1 .0)),
-        ) (List._∷_ (5, Rows'.sc-here (Row.sInt Syntax.w64)) (List._∷_ ( 6, Rows'.whole (Declared.row Quote.the-type),
-        ) (List._∷_ (7, Rows'.sc-here (Row.sInt Syntax.w64)) (List._∷_ ( 8, Rows'.sc-here (Row.sInt Syntax.w64),
-        ) (List._∷_ (9, Rows'.any-gone σ) (List._∷_ ( 10, Rows'.any-gone (Syntax.tyRef Syntax.erased Syntax.mut (Syntax.tyInt Syntax.w32)),
-        ) (List._∷_ ( 11, Rows'.any-gone (Syntax.tyStruct (List._∷_ 38 (List._∷_ 91 (List._∷_ 93 List.[]))) (Syntax.tcons (Syntax.tyRef Syntax.erased Syntax.mut (Syntax.tyInt Syntax.w32)) (Syntax.tcons (Syntax.tyInt Syntax.w64) Syntax.tnil))),
-        ) (List._∷_ ( 12, Rows'.any-gone (Syntax.tyRef Syntax.erased Syntax.mut (Syntax.tyInt Syntax.w32)),
-        ) (List._∷_ ( 13, Rows'.any-gone (Syntax.tyStruct (List._∷_ 38 (List._∷_ 91 (List._∷_ 93 List.[]))) (Syntax.tcons (Syntax.tyRef Syntax.erased Syntax.mut (Syntax.tyInt Syntax.w32)) (Syntax.tcons (Syntax.tyInt Syntax.w64) Syntax.tnil))),
-        ) (List._∷_ (14, Rows'.any-gone Syntax.tyBool) (List._∷_ ( 15, Rows'.any-gone (Syntax.tyInt Syntax.w64),
+        g48 = List._∷_ (0, Rows'.whole (Declared.row Quote.the-type)) (List._∷_ (
+          1,
+          Mut.mslice T τ 0,
+        ) (List._∷_ (
+          2,
+          Rows'.sslice (Referent.rtF (Referent.fInt Syntax.w8)) (Syntax.tyRef (Syntax.named 1) Syntax.imm (Syntax.tyInt Syntax.w8)) 1,
+        ) (List._∷_ (
+          3,
+          Relend.mslice-owed (Referent.rtF (Referent.fInt Syntax.w32)) (Syntax.tyRef (Syntax.named 2) Syntax.mut (Syntax.tyInt Syntax.w32)) 2 9 (Row.lease (κs .1 .1 .0) (qs .1 .1 .0)),
+        ) (List._∷_ (
+          4,
+          Relend.mslice-owed (Referent.rtF (Referent.fInt Syntax.w32)) (Syntax.tyRef (Syntax.named 3) Syntax.mut (Syntax.tyInt Syntax.w32)) 3 10 (Row.lease (κs .1 .1 .1 .0) (qs .1 .1 .1 .0)),
+        ) (List._∷_ (5, Rows'.sc-here (Row.sInt Syntax.w64)) (List._∷_ (
+          6,
+          Rows'.whole (Declared.row Quote.the-type),
+        ) (List._∷_ (7, Rows'.sc-here (Row.sInt Syntax.w64)) (List._∷_ (
+          8,
+          Rows'.sc-here (Row.sInt Syntax.w64),
+        ) (List._∷_ (9, Rows'.any-gone σ) (List._∷_ (
+          10,
+          Rows'.any-gone (Syntax.tyRef Syntax.erased Syntax.mut (Syntax.tyInt Syntax.w32)),
+        ) (List._∷_ (
+          11,
+          Rows'.any-gone (Syntax.tyStruct (List._∷_ 38 (List._∷_ 91 (List._∷_ 93 List.[]))) (Syntax.tcons (Syntax.tyRef Syntax.erased Syntax.mut (Syntax.tyInt Syntax.w32)) (Syntax.tcons (Syntax.tyInt Syntax.w64) Syntax.tnil))),
+        ) (List._∷_ (
+          12,
+          Rows'.any-gone (Syntax.tyRef Syntax.erased Syntax.mut (Syntax.tyInt Syntax.w32)),
+        ) (List._∷_ (
+          13,
+          Rows'.any-gone (Syntax.tyStruct (List._∷_ 38 (List._∷_ 91 (List._∷_ 93 List.[]))) (Syntax.tcons (Syntax.tyRef Syntax.erased Syntax.mut (Syntax.tyInt Syntax.w32)) (Syntax.tcons (Syntax.tyInt Syntax.w64) Syntax.tnil))),
+        ) (List._∷_ (14, Rows'.any-gone Syntax.tyBool) (List._∷_ (
+          15,
+          Rows'.any-gone (Syntax.tyInt Syntax.w64),
         ) List.[])))))))))))))))
 
         abbrev g51 : List.List Row.Entry
-        g51 = List._∷_ (0, Rows'.whole (Declared.row Quote.the-type)) (List._∷_ ( 1, Mut.mslice T τ 0,
-        ) (List._∷_ ( 2, Rows'.sslice (Referent.rtF (Referent.fInt Syntax.w8)) (Syntax.tyRef (Syntax.named 1) Syntax.imm (Syntax.tyInt Syntax.w8)) 1,
-        ) (List._∷_ ( 3, Relend.mslice-owed (Referent.rtF (Referent.fInt Syntax.w32)) (Syntax.tyRef (Syntax.named 2) Syntax.mut (Syntax.tyInt Syntax.w32)) 2 9 (Row.lease (κs .1 .1 .0) (qs .1 .1 .0)),
-        ) (List._∷_ ( 4, Relend.mslice-owed (Referent.rtF (Referent.fInt Syntax.w32)) (Syntax.tyRef (Syntax.named 3) Syntax.mut (Syntax.tyInt Syntax.w32)) 3 10 (Row.lease (κs .1 .1 .1 .0) (qs .1 .1 .1 .0)),
-        ) (List._∷_ (5, Rows'.any-gone (Syntax.tyInt Syntax.w64)) (List._∷_ ( 6, Rows'.whole (Declared.row Quote.the-type),
-        ) (List._∷_ (7, Rows'.sc-here (Row.sInt Syntax.w64)) (List._∷_ ( 8, Rows'.sc-here (Row.sInt Syntax.w64),
-        ) (List._∷_ (9, Rows'.any-gone σ) (List._∷_ ( 10, Rows'.any-gone (Syntax.tyRef Syntax.erased Syntax.mut (Syntax.tyInt Syntax.w32)),
-        ) (List._∷_ ( 11, Rows'.any-gone (Syntax.tyStruct (List._∷_ 38 (List._∷_ 91 (List._∷_ 93 List.[]))) (Syntax.tcons (Syntax.tyRef Syntax.erased Syntax.mut (Syntax.tyInt Syntax.w32)) (Syntax.tcons (Syntax.tyInt Syntax.w64) Syntax.tnil))),
-        ) (List._∷_ ( 12, Rows'.any-gone (Syntax.tyRef Syntax.erased Syntax.mut (Syntax.tyInt Syntax.w32)),
-        ) (List._∷_ ( 13, Rows'.any-gone (Syntax.tyStruct (List._∷_ 38 (List._∷_ 91 (List._∷_ 93 List.[]))) (Syntax.tcons (Syntax.tyRef Syntax.erased Syntax.mut (Syntax.tyInt Syntax.w32)) (Syntax.tcons (Syntax.tyInt Syntax.w64) Syntax.tnil))),
-        ) (List._∷_ (14, Rows'.any-gone Syntax.tyBool) (List._∷_ ( 15, Rows'.any-gone (Syntax.tyInt Syntax.w64),
+        g51 = List._∷_ (0, Rows'.whole (Declared.row Quote.the-type)) (List._∷_ (
+          1,
+          Mut.mslice T τ 0,
+        ) (List._∷_ (
+          2,
+          Rows'.sslice (Referent.rtF (Referent.fInt Syntax.w8)) (Syntax.tyRef (Syntax.named 1) Syntax.imm (Syntax.tyInt Syntax.w8)) 1,
+        ) (List._∷_ (
+          3,
+          Relend.mslice-owed (Referent.rtF (Referent.fInt Syntax.w32)) (Syntax.tyRef (Syntax.named 2) Syntax.mut (Syntax.tyInt Syntax.w32)) 2 9 (Row.lease (κs .1 .1 .0) (qs .1 .1 .0)),
+        ) (List._∷_ (
+          4,
+          Relend.mslice-owed (Referent.rtF (Referent.fInt Syntax.w32)) (Syntax.tyRef (Syntax.named 3) Syntax.mut (Syntax.tyInt Syntax.w32)) 3 10 (Row.lease (κs .1 .1 .1 .0) (qs .1 .1 .1 .0)),
+        ) (List._∷_ (5, Rows'.any-gone (Syntax.tyInt Syntax.w64)) (List._∷_ (
+          6,
+          Rows'.whole (Declared.row Quote.the-type),
+        ) (List._∷_ (7, Rows'.sc-here (Row.sInt Syntax.w64)) (List._∷_ (
+          8,
+          Rows'.sc-here (Row.sInt Syntax.w64),
+        ) (List._∷_ (9, Rows'.any-gone σ) (List._∷_ (
+          10,
+          Rows'.any-gone (Syntax.tyRef Syntax.erased Syntax.mut (Syntax.tyInt Syntax.w32)),
+        ) (List._∷_ (
+          11,
+          Rows'.any-gone (Syntax.tyStruct (List._∷_ 38 (List._∷_ 91 (List._∷_ 93 List.[]))) (Syntax.tcons (Syntax.tyRef Syntax.erased Syntax.mut (Syntax.tyInt Syntax.w32)) (Syntax.tcons (Syntax.tyInt Syntax.w64) Syntax.tnil))),
+        ) (List._∷_ (
+          12,
+          Rows'.any-gone (Syntax.tyRef Syntax.erased Syntax.mut (Syntax.tyInt Syntax.w32)),
+        ) (List._∷_ (
+          13,
+          Rows'.any-gone (Syntax.tyStruct (List._∷_ 38 (List._∷_ 91 (List._∷_ 93 List.[]))) (Syntax.tcons (Syntax.tyRef Syntax.erased Syntax.mut (Syntax.tyInt Syntax.w32)) (Syntax.tcons (Syntax.tyInt Syntax.w64) Syntax.tnil))),
+        ) (List._∷_ (14, Rows'.any-gone Syntax.tyBool) (List._∷_ (
+          15,
+          Rows'.any-gone (Syntax.tyInt Syntax.w64),
         ) List.[])))))))))))))))
 
         abbrev g52 : List.List Row.Entry
-        g52 = List._∷_ (0, Rows'.whole (Declared.row Quote.the-type)) (List._∷_ ( 1, Mut.mslice T τ 0,
-        ) (List._∷_ ( 2, Rows'.sslice (Referent.rtF (Referent.fInt Syntax.w8)) (Syntax.tyRef (Syntax.named 1) Syntax.imm (Syntax.tyInt Syntax.w8)) 1,
-        ) (List._∷_ ( 3, Relend.mslice-owed (Referent.rtF (Referent.fInt Syntax.w32)) (Syntax.tyRef (Syntax.named 2) Syntax.mut (Syntax.tyInt Syntax.w32)) 2 9 (Row.lease (κs .1 .1 .0) (qs .1 .1 .0)),
-        ) (List._∷_ ( 4, Relend.mslice-owed (Referent.rtF (Referent.fInt Syntax.w32)) (Syntax.tyRef (Syntax.named 3) Syntax.mut (Syntax.tyInt Syntax.w32)) 3 10 (Row.lease (κs .1 .1 .1 .0) (qs .1 .1 .1 .0)),
-        ) (List._∷_ (5, Rows'.any-gone (Syntax.tyInt Syntax.w64)) (List._∷_ ( 6, Rows'.any-gone (Syntax.tyStruct (List._∷_ 102 (List._∷_ 105 (List._∷_ 114 (List._∷_ 109 (List._∷_ 58 (List._∷_ 58 (List._∷_ 81 (List._∷_ 117 (List._∷_ 111 (List._∷_ 116 (List._∷_ 101 List.[]))))))))))) (Syntax.tcons (Syntax.tyInt Syntax.w32) (Syntax.tcons (Syntax.tyInt Syntax.w64) (Syntax.tcons (Syntax.tyInt Syntax.w64) (Syntax.tcons (Syntax.tyInt Syntax.w32) Syntax.tnil))))),
-        ) (List._∷_ (7, Rows'.sc-here (Row.sInt Syntax.w64)) (List._∷_ ( 8, Rows'.sc-here (Row.sInt Syntax.w64),
-        ) (List._∷_ (9, Rows'.any-gone σ) (List._∷_ ( 10, Rows'.any-gone (Syntax.tyRef Syntax.erased Syntax.mut (Syntax.tyInt Syntax.w32)),
-        ) (List._∷_ ( 11, Rows'.any-gone (Syntax.tyStruct (List._∷_ 38 (List._∷_ 91 (List._∷_ 93 List.[]))) (Syntax.tcons (Syntax.tyRef Syntax.erased Syntax.mut (Syntax.tyInt Syntax.w32)) (Syntax.tcons (Syntax.tyInt Syntax.w64) Syntax.tnil))),
-        ) (List._∷_ ( 12, Rows'.any-gone (Syntax.tyRef Syntax.erased Syntax.mut (Syntax.tyInt Syntax.w32)),
-        ) (List._∷_ ( 13, Rows'.any-gone (Syntax.tyStruct (List._∷_ 38 (List._∷_ 91 (List._∷_ 93 List.[]))) (Syntax.tcons (Syntax.tyRef Syntax.erased Syntax.mut (Syntax.tyInt Syntax.w32)) (Syntax.tcons (Syntax.tyInt Syntax.w64) Syntax.tnil))),
-        ) (List._∷_ (14, Rows'.any-gone Syntax.tyBool) (List._∷_ ( 15, Rows'.any-gone (Syntax.tyInt Syntax.w64),
+        g52 = List._∷_ (0, Rows'.whole (Declared.row Quote.the-type)) (List._∷_ (
+          1,
+          Mut.mslice T τ 0,
+        ) (List._∷_ (
+          2,
+          Rows'.sslice (Referent.rtF (Referent.fInt Syntax.w8)) (Syntax.tyRef (Syntax.named 1) Syntax.imm (Syntax.tyInt Syntax.w8)) 1,
+        ) (List._∷_ (
+          3,
+          Relend.mslice-owed (Referent.rtF (Referent.fInt Syntax.w32)) (Syntax.tyRef (Syntax.named 2) Syntax.mut (Syntax.tyInt Syntax.w32)) 2 9 (Row.lease (κs .1 .1 .0) (qs .1 .1 .0)),
+        ) (List._∷_ (
+          4,
+          Relend.mslice-owed (Referent.rtF (Referent.fInt Syntax.w32)) (Syntax.tyRef (Syntax.named 3) Syntax.mut (Syntax.tyInt Syntax.w32)) 3 10 (Row.lease (κs .1 .1 .1 .0) (qs .1 .1 .1 .0)),
+        ) (List._∷_ (5, Rows'.any-gone (Syntax.tyInt Syntax.w64)) (List._∷_ (
+          6,
+          Rows'.any-gone (Syntax.tyStruct (List._∷_ 102 (List._∷_ 105 (List._∷_ 114 (List._∷_ 109 (List._∷_ 58 (List._∷_ 58 (List._∷_ 81 (List._∷_ 117 (List._∷_ 111 (List._∷_ 116 (List._∷_ 101 List.[]))))))))))) (Syntax.tcons (Syntax.tyInt Syntax.w32) (Syntax.tcons (Syntax.tyInt Syntax.w64) (Syntax.tcons (Syntax.tyInt Syntax.w64) (Syntax.tcons (Syntax.tyInt Syntax.w32) Syntax.tnil))))),
+        ) (List._∷_ (7, Rows'.sc-here (Row.sInt Syntax.w64)) (List._∷_ (
+          8,
+          Rows'.sc-here (Row.sInt Syntax.w64),
+        ) (List._∷_ (9, Rows'.any-gone σ) (List._∷_ (
+          10,
+          Rows'.any-gone (Syntax.tyRef Syntax.erased Syntax.mut (Syntax.tyInt Syntax.w32)),
+        ) (List._∷_ (
+          11,
+          Rows'.any-gone (Syntax.tyStruct (List._∷_ 38 (List._∷_ 91 (List._∷_ 93 List.[]))) (Syntax.tcons (Syntax.tyRef Syntax.erased Syntax.mut (Syntax.tyInt Syntax.w32)) (Syntax.tcons (Syntax.tyInt Syntax.w64) Syntax.tnil))),
+        ) (List._∷_ (
+          12,
+          Rows'.any-gone (Syntax.tyRef Syntax.erased Syntax.mut (Syntax.tyInt Syntax.w32)),
+        ) (List._∷_ (
+          13,
+          Rows'.any-gone (Syntax.tyStruct (List._∷_ 38 (List._∷_ 91 (List._∷_ 93 List.[]))) (Syntax.tcons (Syntax.tyRef Syntax.erased Syntax.mut (Syntax.tyInt Syntax.w32)) (Syntax.tcons (Syntax.tyInt Syntax.w64) Syntax.tnil))),
+        ) (List._∷_ (14, Rows'.any-gone Syntax.tyBool) (List._∷_ (
+          15,
+          Rows'.any-gone (Syntax.tyInt Syntax.w64),
         ) List.[])))))))))))))))
 
         abbrev g53 : List.List Row.Entry
-        g53 = List._∷_ (0, Rows'.whole (Declared.row Quote.the-type)) (List._∷_ ( 1, Mut.mslice T τ 0,
-        ) (List._∷_ ( 2, Rows'.sslice (Referent.rtF (Referent.fInt Syntax.w8)) (Syntax.tyRef (Syntax.named 1) Syntax.imm (Syntax.tyInt Syntax.w8)) 1,
-        ) (List._∷_ ( 3, Relend.mslice-owed (Referent.rtF (Referent.fInt Syntax.w32)) (Syntax.tyRef (Syntax.named 2) Syntax.mut (Syntax.tyInt Syntax.w32)) 2 9 (Row.lease (κs .1 .1 .0) (qs .1 .1 .0)),
-        ) (List._∷_ ( 4, Relend.mslice-owed (Referent.rtF (Referent.fInt Syntax.w32)) (Syntax.tyRef (Syntax.named 3) Syntax.mut (Syntax.tyInt Syntax.w32)) 3 10 (Row.lease (κs .1 .1 .1 .0) (qs .1 .1 .1 .0)),
-        ) (List._∷_ (5, Rows'.any-gone (Syntax.tyInt Syntax.w64)) (List._∷_ ( 6, Rows'.any-gone (Syntax.tyStruct (List._∷_ 102 (List._∷_ 105 (List._∷_ 114 (List._∷_ 109 (List._∷_ 58 (List._∷_ 58 (List._∷_ 81 (List._∷_ 117 (List._∷_ 111 (List._∷_ 116 (List._∷_ 101 List.[]))))))))))) (Syntax.tcons (Syntax.tyInt Syntax.w32) (Syntax.tcons (Syntax.tyInt Syntax.w64) (Syntax.tcons (Syntax.tyInt Syntax.w64) (Syntax.tcons (Syntax.tyInt Syntax.w32) Syntax.tnil))))),
-        ) (List._∷_ (7, Rows'.any-gone (Syntax.tyInt Syntax.w64)) (List._∷_ ( 8, Rows'.sc-here (Row.sInt Syntax.w64),
-        ) (List._∷_ (9, Rows'.any-gone σ) (List._∷_ ( 10, Rows'.any-gone (Syntax.tyRef Syntax.erased Syntax.mut (Syntax.tyInt Syntax.w32)),
-        ) (List._∷_ ( 11, Rows'.any-gone (Syntax.tyStruct (List._∷_ 38 (List._∷_ 91 (List._∷_ 93 List.[]))) (Syntax.tcons (Syntax.tyRef Syntax.erased Syntax.mut (Syntax.tyInt Syntax.w32)) (Syntax.tcons (Syntax.tyInt Syntax.w64) Syntax.tnil))),
-        ) (List._∷_ ( 12, Rows'.any-gone (Syntax.tyRef Syntax.erased Syntax.mut (Syntax.tyInt Syntax.w32)),
-        ) (List._∷_ ( 13, Rows'.any-gone (Syntax.tyStruct (List._∷_ 38 (List._∷_ 91 (List._∷_ 93 List.[]))) (Syntax.tcons (Syntax.tyRef Syntax.erased Syntax.mut (Syntax.tyInt Syntax.w32)) (Syntax.tcons (Syntax.tyInt Syntax.w64) Syntax.tnil))),
-        ) (List._∷_ (14, Rows'.any-gone Syntax.tyBool) (List._∷_ ( 15, Rows'.any-gone (Syntax.tyInt Syntax.w64),
+        g53 = List._∷_ (0, Rows'.whole (Declared.row Quote.the-type)) (List._∷_ (
+          1,
+          Mut.mslice T τ 0,
+        ) (List._∷_ (
+          2,
+          Rows'.sslice (Referent.rtF (Referent.fInt Syntax.w8)) (Syntax.tyRef (Syntax.named 1) Syntax.imm (Syntax.tyInt Syntax.w8)) 1,
+        ) (List._∷_ (
+          3,
+          Relend.mslice-owed (Referent.rtF (Referent.fInt Syntax.w32)) (Syntax.tyRef (Syntax.named 2) Syntax.mut (Syntax.tyInt Syntax.w32)) 2 9 (Row.lease (κs .1 .1 .0) (qs .1 .1 .0)),
+        ) (List._∷_ (
+          4,
+          Relend.mslice-owed (Referent.rtF (Referent.fInt Syntax.w32)) (Syntax.tyRef (Syntax.named 3) Syntax.mut (Syntax.tyInt Syntax.w32)) 3 10 (Row.lease (κs .1 .1 .1 .0) (qs .1 .1 .1 .0)),
+        ) (List._∷_ (5, Rows'.any-gone (Syntax.tyInt Syntax.w64)) (List._∷_ (
+          6,
+          Rows'.any-gone (Syntax.tyStruct (List._∷_ 102 (List._∷_ 105 (List._∷_ 114 (List._∷_ 109 (List._∷_ 58 (List._∷_ 58 (List._∷_ 81 (List._∷_ 117 (List._∷_ 111 (List._∷_ 116 (List._∷_ 101 List.[]))))))))))) (Syntax.tcons (Syntax.tyInt Syntax.w32) (Syntax.tcons (Syntax.tyInt Syntax.w64) (Syntax.tcons (Syntax.tyInt Syntax.w64) (Syntax.tcons (Syntax.tyInt Syntax.w32) Syntax.tnil))))),
+        ) (List._∷_ (7, Rows'.any-gone (Syntax.tyInt Syntax.w64)) (List._∷_ (
+          8,
+          Rows'.sc-here (Row.sInt Syntax.w64),
+        ) (List._∷_ (9, Rows'.any-gone σ) (List._∷_ (
+          10,
+          Rows'.any-gone (Syntax.tyRef Syntax.erased Syntax.mut (Syntax.tyInt Syntax.w32)),
+        ) (List._∷_ (
+          11,
+          Rows'.any-gone (Syntax.tyStruct (List._∷_ 38 (List._∷_ 91 (List._∷_ 93 List.[]))) (Syntax.tcons (Syntax.tyRef Syntax.erased Syntax.mut (Syntax.tyInt Syntax.w32)) (Syntax.tcons (Syntax.tyInt Syntax.w64) Syntax.tnil))),
+        ) (List._∷_ (
+          12,
+          Rows'.any-gone (Syntax.tyRef Syntax.erased Syntax.mut (Syntax.tyInt Syntax.w32)),
+        ) (List._∷_ (
+          13,
+          Rows'.any-gone (Syntax.tyStruct (List._∷_ 38 (List._∷_ 91 (List._∷_ 93 List.[]))) (Syntax.tcons (Syntax.tyRef Syntax.erased Syntax.mut (Syntax.tyInt Syntax.w32)) (Syntax.tcons (Syntax.tyInt Syntax.w64) Syntax.tnil))),
+        ) (List._∷_ (14, Rows'.any-gone Syntax.tyBool) (List._∷_ (
+          15,
+          Rows'.any-gone (Syntax.tyInt Syntax.w64),
         ) List.[])))))))))))))))
 
         abbrev g54 : List.List Row.Entry
-        g54 = List._∷_ (0, Rows'.whole (Declared.row Quote.the-type)) (List._∷_ ( 1, Mut.mslice T τ 0,
-        ) (List._∷_ ( 2, Rows'.sslice (Referent.rtF (Referent.fInt Syntax.w8)) (Syntax.tyRef (Syntax.named 1) Syntax.imm (Syntax.tyInt Syntax.w8)) 1,
-        ) (List._∷_ ( 3, Relend.mslice-owed (Referent.rtF (Referent.fInt Syntax.w32)) (Syntax.tyRef (Syntax.named 2) Syntax.mut (Syntax.tyInt Syntax.w32)) 2 9 (Row.lease (κs .1 .1 .0) (qs .1 .1 .0)),
-        ) (List._∷_ ( 4, Relend.mslice-owed (Referent.rtF (Referent.fInt Syntax.w32)) (Syntax.tyRef (Syntax.named 3) Syntax.mut (Syntax.tyInt Syntax.w32)) 3 10 (Row.lease (κs .1 .1 .1 .0) (qs .1 .1 .1 .0)),
-        ) (List._∷_ (5, Rows'.any-gone (Syntax.tyInt Syntax.w64)) (List._∷_ ( 6, Rows'.any-gone (Syntax.tyStruct (List._∷_ 102 (List._∷_ 105 (List._∷_ 114 (List._∷_ 109 (List._∷_ 58 (List._∷_ 58 (List._∷_ 81 (List._∷_ 117 (List._∷_ 111 (List._∷_ 116 (List._∷_ 101 List.[]))))))))))) (Syntax.tcons (Syntax.tyInt Syntax.w32) (Syntax.tcons (Syntax.tyInt Syntax.w64) (Syntax.tcons (Syntax.tyInt Syntax.w64) (Syntax.tcons (Syntax.tyInt Syntax.w32) Syntax.tnil))))),
-        ) (List._∷_ (7, Rows'.any-gone (Syntax.tyInt Syntax.w64)) (List._∷_ ( 8, Rows'.any-gone (Syntax.tyInt Syntax.w64),
-        ) (List._∷_ (9, Rows'.any-gone σ) (List._∷_ ( 10, Rows'.any-gone (Syntax.tyRef Syntax.erased Syntax.mut (Syntax.tyInt Syntax.w32)),
-        ) (List._∷_ ( 11, Rows'.any-gone (Syntax.tyStruct (List._∷_ 38 (List._∷_ 91 (List._∷_ 93 List.[]))) (Syntax.tcons (Syntax.tyRef Syntax.erased Syntax.mut (Syntax.tyInt Syntax.w32)) (Syntax.tcons (Syntax.tyInt Syntax.w64) Syntax.tnil))),
-        ) (List._∷_ ( 12, Rows'.any-gone (Syntax.tyRef Syntax.erased Syntax.mut (Syntax.tyInt Syntax.w32)),
-        ) (List._∷_ ( 13, Rows'.any-gone (Syntax.tyStruct (List._∷_ 38 (List._∷_ 91 (List._∷_ 93 List.[]))) (Syntax.tcons (Syntax.tyRef Syntax.erased Syntax.mut (Syntax.tyInt Syntax.w32)) (Syntax.tcons (Syntax.tyInt Syntax.w64) Syntax.tnil))),
-        ) (List._∷_ (14, Rows'.any-gone Syntax.tyBool) (List._∷_ ( 15, Rows'.any-gone (Syntax.tyInt Syntax.w64),
+        g54 = List._∷_ (0, Rows'.whole (Declared.row Quote.the-type)) (List._∷_ (
+          1,
+          Mut.mslice T τ 0,
+        ) (List._∷_ (
+          2,
+          Rows'.sslice (Referent.rtF (Referent.fInt Syntax.w8)) (Syntax.tyRef (Syntax.named 1) Syntax.imm (Syntax.tyInt Syntax.w8)) 1,
+        ) (List._∷_ (
+          3,
+          Relend.mslice-owed (Referent.rtF (Referent.fInt Syntax.w32)) (Syntax.tyRef (Syntax.named 2) Syntax.mut (Syntax.tyInt Syntax.w32)) 2 9 (Row.lease (κs .1 .1 .0) (qs .1 .1 .0)),
+        ) (List._∷_ (
+          4,
+          Relend.mslice-owed (Referent.rtF (Referent.fInt Syntax.w32)) (Syntax.tyRef (Syntax.named 3) Syntax.mut (Syntax.tyInt Syntax.w32)) 3 10 (Row.lease (κs .1 .1 .1 .0) (qs .1 .1 .1 .0)),
+        ) (List._∷_ (5, Rows'.any-gone (Syntax.tyInt Syntax.w64)) (List._∷_ (
+          6,
+          Rows'.any-gone (Syntax.tyStruct (List._∷_ 102 (List._∷_ 105 (List._∷_ 114 (List._∷_ 109 (List._∷_ 58 (List._∷_ 58 (List._∷_ 81 (List._∷_ 117 (List._∷_ 111 (List._∷_ 116 (List._∷_ 101 List.[]))))))))))) (Syntax.tcons (Syntax.tyInt Syntax.w32) (Syntax.tcons (Syntax.tyInt Syntax.w64) (Syntax.tcons (Syntax.tyInt Syntax.w64) (Syntax.tcons (Syntax.tyInt Syntax.w32) Syntax.tnil))))),
+        ) (List._∷_ (7, Rows'.any-gone (Syntax.tyInt Syntax.w64)) (List._∷_ (
+          8,
+          Rows'.any-gone (Syntax.tyInt Syntax.w64),
+        ) (List._∷_ (9, Rows'.any-gone σ) (List._∷_ (
+          10,
+          Rows'.any-gone (Syntax.tyRef Syntax.erased Syntax.mut (Syntax.tyInt Syntax.w32)),
+        ) (List._∷_ (
+          11,
+          Rows'.any-gone (Syntax.tyStruct (List._∷_ 38 (List._∷_ 91 (List._∷_ 93 List.[]))) (Syntax.tcons (Syntax.tyRef Syntax.erased Syntax.mut (Syntax.tyInt Syntax.w32)) (Syntax.tcons (Syntax.tyInt Syntax.w64) Syntax.tnil))),
+        ) (List._∷_ (
+          12,
+          Rows'.any-gone (Syntax.tyRef Syntax.erased Syntax.mut (Syntax.tyInt Syntax.w32)),
+        ) (List._∷_ (
+          13,
+          Rows'.any-gone (Syntax.tyStruct (List._∷_ 38 (List._∷_ 91 (List._∷_ 93 List.[]))) (Syntax.tcons (Syntax.tyRef Syntax.erased Syntax.mut (Syntax.tyInt Syntax.w32)) (Syntax.tcons (Syntax.tyInt Syntax.w64) Syntax.tnil))),
+        ) (List._∷_ (14, Rows'.any-gone Syntax.tyBool) (List._∷_ (
+          15,
+          Rows'.any-gone (Syntax.tyInt Syntax.w64),
         ) List.[])))))))))))))))
 
         abbrev g55 : List.List Row.Entry
-        g55 = List._∷_ (0, Rows'.whole (Declared.row Quote.the-type)) (List._∷_ ( 1, Mut.mslice T τ 0,
-        ) (List._∷_ ( 2, Rows'.sslice (Referent.rtF (Referent.fInt Syntax.w8)) (Syntax.tyRef (Syntax.named 1) Syntax.imm (Syntax.tyInt Syntax.w8)) 1,
-        ) (List._∷_ ( 3, Mut.mslice (Referent.rtF (Referent.fInt Syntax.w32)) (Syntax.tyRef (Syntax.named 2) Syntax.mut (Syntax.tyInt Syntax.w32)) 2,
-        ) (List._∷_ ( 4, Relend.mslice-owed (Referent.rtF (Referent.fInt Syntax.w32)) (Syntax.tyRef (Syntax.named 3) Syntax.mut (Syntax.tyInt Syntax.w32)) 3 10 (Row.lease (κs .1 .1 .1 .0) (qs .1 .1 .1 .0)),
-        ) (List._∷_ (5, Rows'.any-gone (Syntax.tyInt Syntax.w64)) (List._∷_ ( 6, Rows'.any-gone (Syntax.tyStruct (List._∷_ 102 (List._∷_ 105 (List._∷_ 114 (List._∷_ 109 (List._∷_ 58 (List._∷_ 58 (List._∷_ 81 (List._∷_ 117 (List._∷_ 111 (List._∷_ 116 (List._∷_ 101 List.[]))))))))))) (Syntax.tcons (Syntax.tyInt Syntax.w32) (Syntax.tcons (Syntax.tyInt Syntax.w64) (Syntax.tcons (Syntax.tyInt Syntax.w64) (Syntax.tcons (Syntax.tyInt Syntax.w32) Syntax.tnil))))),
-        ) (List._∷_ (7, Rows'.any-gone (Syntax.tyInt Syntax.w64)) (List._∷_ ( 8, Rows'.any-gone (Syntax.tyInt Syntax.w64),
-        ) (List._∷_ (9, Rows'.any-gone σ) (List._∷_ ( 10, Rows'.any-gone (Syntax.tyRef Syntax.erased Syntax.mut (Syntax.tyInt Syntax.w32)),
-        ) (List._∷_ ( 11, Rows'.any-gone (Syntax.tyStruct (List._∷_ 38 (List._∷_ 91 (List._∷_ 93 List.[]))) (Syntax.tcons (Syntax.tyRef Syntax.erased Syntax.mut (Syntax.tyInt Syntax.w32)) (Syntax.tcons (Syntax.tyInt Syntax.w64) Syntax.tnil))),
-        ) (List._∷_ ( 12, Rows'.any-gone (Syntax.tyRef Syntax.erased Syntax.mut (Syntax.tyInt Syntax.w32)),
-        ) (List._∷_ ( 13, Rows'.any-gone (Syntax.tyStruct (List._∷_ 38 (List._∷_ 91 (List._∷_ 93 List.[]))) (Syntax.tcons (Syntax.tyRef Syntax.erased Syntax.mut (Syntax.tyInt Syntax.w32)) (Syntax.tcons (Syntax.tyInt Syntax.w64) Syntax.tnil))),
-        ) (List._∷_ (14, Rows'.any-gone Syntax.tyBool) (List._∷_ ( 15, Rows'.any-gone (Syntax.tyInt Syntax.w64),
+        g55 = List._∷_ (0, Rows'.whole (Declared.row Quote.the-type)) (List._∷_ (
+          1,
+          Mut.mslice T τ 0,
+        ) (List._∷_ (
+          2,
+          Rows'.sslice (Referent.rtF (Referent.fInt Syntax.w8)) (Syntax.tyRef (Syntax.named 1) Syntax.imm (Syntax.tyInt Syntax.w8)) 1,
+        ) (List._∷_ (
+          3,
+          Mut.mslice (Referent.rtF (Referent.fInt Syntax.w32)) (Syntax.tyRef (Syntax.named 2) Syntax.mut (Syntax.tyInt Syntax.w32)) 2,
+        ) (List._∷_ (
+          4,
+          Relend.mslice-owed (Referent.rtF (Referent.fInt Syntax.w32)) (Syntax.tyRef (Syntax.named 3) Syntax.mut (Syntax.tyInt Syntax.w32)) 3 10 (Row.lease (κs .1 .1 .1 .0) (qs .1 .1 .1 .0)),
+        ) (List._∷_ (5, Rows'.any-gone (Syntax.tyInt Syntax.w64)) (List._∷_ (
+          6,
+          Rows'.any-gone (Syntax.tyStruct (List._∷_ 102 (List._∷_ 105 (List._∷_ 114 (List._∷_ 109 (List._∷_ 58 (List._∷_ 58 (List._∷_ 81 (List._∷_ 117 (List._∷_ 111 (List._∷_ 116 (List._∷_ 101 List.[]))))))))))) (Syntax.tcons (Syntax.tyInt Syntax.w32) (Syntax.tcons (Syntax.tyInt Syntax.w64) (Syntax.tcons (Syntax.tyInt Syntax.w64) (Syntax.tcons (Syntax.tyInt Syntax.w32) Syntax.tnil))))),
+        ) (List._∷_ (7, Rows'.any-gone (Syntax.tyInt Syntax.w64)) (List._∷_ (
+          8,
+          Rows'.any-gone (Syntax.tyInt Syntax.w64),
+        ) (List._∷_ (9, Rows'.any-gone σ) (List._∷_ (
+          10,
+          Rows'.any-gone (Syntax.tyRef Syntax.erased Syntax.mut (Syntax.tyInt Syntax.w32)),
+        ) (List._∷_ (
+          11,
+          Rows'.any-gone (Syntax.tyStruct (List._∷_ 38 (List._∷_ 91 (List._∷_ 93 List.[]))) (Syntax.tcons (Syntax.tyRef Syntax.erased Syntax.mut (Syntax.tyInt Syntax.w32)) (Syntax.tcons (Syntax.tyInt Syntax.w64) Syntax.tnil))),
+        ) (List._∷_ (
+          12,
+          Rows'.any-gone (Syntax.tyRef Syntax.erased Syntax.mut (Syntax.tyInt Syntax.w32)),
+        ) (List._∷_ (
+          13,
+          Rows'.any-gone (Syntax.tyStruct (List._∷_ 38 (List._∷_ 91 (List._∷_ 93 List.[]))) (Syntax.tcons (Syntax.tyRef Syntax.erased Syntax.mut (Syntax.tyInt Syntax.w32)) (Syntax.tcons (Syntax.tyInt Syntax.w64) Syntax.tnil))),
+        ) (List._∷_ (14, Rows'.any-gone Syntax.tyBool) (List._∷_ (
+          15,
+          Rows'.any-gone (Syntax.tyInt Syntax.w64),
         ) List.[])))))))))))))))
 
         abbrev G0 : Row.Cx
-        G0 = record { locals = List._++_ t0 (List._++_ t1 t2); slots = List._∷_ (Row.lease (κs .0) (qs .0)) (List._∷_ (Row.lease (κs .1 .0) (qs .1 .0)) (List._∷_ (Row.lease (κs .1 .1 .0) (qs .1 .1 .0)) (List._∷_ (Row.lease (κs .1 .1 .1 .0) (qs .1 .1 .1 .0)) (List._∷_ Row.off (List._∷_ Row.off (List._∷_ Row.off (List._∷_ Row.off (List._∷_ Row.off (List._∷_ Row.off (List._∷_ Row.off List.[])))))))))); }
+        G0 = record { locals = List._++_ t0 (List._++_ t1 t2); slots = List._∷_ (Row.lease (κs .0) (qs .0)) (List._∷_ (Row.lease (κs .1 .0) (qs .1 .0)) (List._∷_ (Row.lease (κs .1 .1 .0) (qs .1 .1 .0)) (List._∷_ (Row.lease (κs .1 .1 .1 .0) (qs .1 .1 .1 .0)) (List._∷_ Row.off (List._∷_ Row.off (List._∷_ Row.off (List._∷_ Row.off (List._∷_ Row.off (List._∷_ Row.off (List._∷_ Row.off List.[])))))))))) }
 
         abbrev G1 : Row.Cx
-        G1 = record { locals = List._++_ t3 (List._++_ t1 t2); slots = List._∷_ (Row.lease (κs .0) (qs .0)) (List._∷_ (Row.lease (κs .1 .0) (qs .1 .0)) (List._∷_ (Row.lease (κs .1 .1 .0) (qs .1 .1 .0)) (List._∷_ (Row.lease (κs .1 .1 .1 .0) (qs .1 .1 .1 .0)) (List._∷_ Row.off (List._∷_ Row.off (List._∷_ Row.off (List._∷_ Row.off (List._∷_ Row.off (List._∷_ Row.off (List._∷_ Row.off List.[])))))))))); }
+        G1 = record { locals = List._++_ t3 (List._++_ t1 t2); slots = List._∷_ (Row.lease (κs .0) (qs .0)) (List._∷_ (Row.lease (κs .1 .0) (qs .1 .0)) (List._∷_ (Row.lease (κs .1 .1 .0) (qs .1 .1 .0)) (List._∷_ (Row.lease (κs .1 .1 .1 .0) (qs .1 .1 .1 .0)) (List._∷_ Row.off (List._∷_ Row.off (List._∷_ Row.off (List._∷_ Row.off (List._∷_ Row.off (List._∷_ Row.off (List._∷_ Row.off List.[])))))))))) }
 
         abbrev G2 : Row.Cx
-        G2 = record { locals = List._++_ t0 (List._++_ t1 t2); slots = List._∷_ (Row.lease (κs .0) (qs .0)) (List._∷_ (Row.lease (κs .1 .0) (qs .1 .0)) (List._∷_ (Row.lease (κs .1 .1 .0) (qs .1 .1 .0)) (List._∷_ (Row.lease (κs .1 .1 .1 .0) (qs .1 .1 .1 .0)) (List._∷_ Row.off (List._∷_ Row.off (List._∷_ Row.off (List._∷_ Row.off (List._∷_ Row.off (List._∷_ Row.off (List._∷_ Row.off List.[])))))))))); }
+        G2 = record { locals = List._++_ t0 (List._++_ t1 t2); slots = List._∷_ (Row.lease (κs .0) (qs .0)) (List._∷_ (Row.lease (κs .1 .0) (qs .1 .0)) (List._∷_ (Row.lease (κs .1 .1 .0) (qs .1 .1 .0)) (List._∷_ (Row.lease (κs .1 .1 .1 .0) (qs .1 .1 .1 .0)) (List._∷_ Row.off (List._∷_ Row.off (List._∷_ Row.off (List._∷_ Row.off (List._∷_ Row.off (List._∷_ Row.off (List._∷_ Row.off List.[])))))))))) }
 
         abbrev G3 : Row.Cx
-        G3 = record { locals = List._++_ t0 (List._++_ t1 t2); slots = List._∷_ (Row.lease (κs .0) (qs .0)) (List._∷_ (Row.lease (κs .1 .0) (qs .1 .0)) (List._∷_ (Row.lease (κs .1 .1 .0) (qs .1 .1 .0)) (List._∷_ (Row.lease (κs .1 .1 .1 .0) (qs .1 .1 .1 .0)) (List._∷_ Row.off (List._∷_ Row.off (List._∷_ Row.off (List._∷_ Row.off (List._∷_ Row.off (List._∷_ Row.off (List._∷_ Row.off List.[])))))))))); }
+        G3 = record { locals = List._++_ t0 (List._++_ t1 t2); slots = List._∷_ (Row.lease (κs .0) (qs .0)) (List._∷_ (Row.lease (κs .1 .0) (qs .1 .0)) (List._∷_ (Row.lease (κs .1 .1 .0) (qs .1 .1 .0)) (List._∷_ (Row.lease (κs .1 .1 .1 .0) (qs .1 .1 .1 .0)) (List._∷_ Row.off (List._∷_ Row.off (List._∷_ Row.off (List._∷_ Row.off (List._∷_ Row.off (List._∷_ Row.off (List._∷_ Row.off List.[])))))))))) }
 
         abbrev G4 : Row.Cx
-        G4 = record { locals = List._++_ t0 (List._++_ t1 t2); slots = List._∷_ (Row.lease (κs .0) (qs .0)) (List._∷_ (Row.lease (κs .1 .0) (qs .1 .0)) (List._∷_ (Row.lease (κs .1 .1 .0) (qs .1 .1 .0)) (List._∷_ (Row.lease (κs .1 .1 .1 .0) (qs .1 .1 .1 .0)) (List._∷_ Row.off (List._∷_ Row.off (List._∷_ Row.off (List._∷_ Row.off (List._∷_ Row.off (List._∷_ Row.off (List._∷_ Row.off List.[])))))))))); }
+        G4 = record { locals = List._++_ t0 (List._++_ t1 t2); slots = List._∷_ (Row.lease (κs .0) (qs .0)) (List._∷_ (Row.lease (κs .1 .0) (qs .1 .0)) (List._∷_ (Row.lease (κs .1 .1 .0) (qs .1 .1 .0)) (List._∷_ (Row.lease (κs .1 .1 .1 .0) (qs .1 .1 .1 .0)) (List._∷_ Row.off (List._∷_ Row.off (List._∷_ Row.off (List._∷_ Row.off (List._∷_ Row.off (List._∷_ Row.off (List._∷_ Row.off List.[])))))))))) }
 
         abbrev G5 : Row.Cx
-        G5 = record { locals = List._++_ t4 (List._++_ t1 t2); slots = List._∷_ (Row.lease (κs .0) (qs .0)) (List._∷_ (Row.lease (κs .1 .0) (qs .1 .0)) (List._∷_ (Row.lease (κs .1 .1 .0) (qs .1 .1 .0)) (List._∷_ (Row.lease (κs .1 .1 .1 .0) (qs .1 .1 .1 .0)) (List._∷_ Row.off (List._∷_ Row.off (List._∷_ Row.off (List._∷_ Row.off (List._∷_ Row.off (List._∷_ Row.off (List._∷_ Row.off List.[])))))))))); }
+        G5 = record { locals = List._++_ t4 (List._++_ t1 t2); slots = List._∷_ (Row.lease (κs .0) (qs .0)) (List._∷_ (Row.lease (κs .1 .0) (qs .1 .0)) (List._∷_ (Row.lease (κs .1 .1 .0) (qs .1 .1 .0)) (List._∷_ (Row.lease (κs .1 .1 .1 .0) (qs .1 .1 .1 .0)) (List._∷_ Row.off (List._∷_ Row.off (List._∷_ Row.off (List._∷_ Row.off (List._∷_ Row.off (List._∷_ Row.off (List._∷_ Row.off List.[])))))))))) }
 
         abbrev G6 : Row.Cx
-        G6 = record { locals = List._++_ t4 (List._++_ t1 t2); slots = List._∷_ (Row.lease (κs .0) (qs .0)) (List._∷_ (Row.lease (κs .1 .0) (qs .1 .0)) (List._∷_ (Row.lease (κs .1 .1 .0) (qs .1 .1 .0)) (List._∷_ (Row.lease (κs .1 .1 .1 .0) (qs .1 .1 .1 .0)) (List._∷_ Row.alive (List._∷_ Row.off (List._∷_ Row.off (List._∷_ Row.off (List._∷_ Row.off (List._∷_ Row.off (List._∷_ Row.off List.[])))))))))); }
+        G6 = record { locals = List._++_ t4 (List._++_ t1 t2); slots = List._∷_ (Row.lease (κs .0) (qs .0)) (List._∷_ (Row.lease (κs .1 .0) (qs .1 .0)) (List._∷_ (Row.lease (κs .1 .1 .0) (qs .1 .1 .0)) (List._∷_ (Row.lease (κs .1 .1 .1 .0) (qs .1 .1 .1 .0)) (List._∷_ Row.alive (List._∷_ Row.off (List._∷_ Row.off (List._∷_ Row.off (List._∷_ Row.off (List._∷_ Row.off (List._∷_ Row.off List.[])))))))))) }
 
         abbrev G7 : Row.Cx
-        G7 = record { locals = List._++_ g5 (List._++_ t1 t2); slots = List._∷_ (Row.lease (κs .0) (qs .0)) (List._∷_ (Row.lease (κs .1 .0) (qs .1 .0)) (List._∷_ Row.off (List._∷_ (Row.lease (κs .1 .1 .1 .0) (qs .1 .1 .1 .0)) (List._∷_ Row.alive (List._∷_ Row.off (List._∷_ Row.off (List._∷_ Row.off (List._∷_ Row.off (List._∷_ Row.off (List._∷_ Row.off List.[])))))))))); }
+        G7 = record { locals = List._++_ g5 (List._++_ t1 t2); slots = List._∷_ (Row.lease (κs .0) (qs .0)) (List._∷_ (Row.lease (κs .1 .0) (qs .1 .0)) (List._∷_ Row.off (List._∷_ (Row.lease (κs .1 .1 .1 .0) (qs .1 .1 .1 .0)) (List._∷_ Row.alive (List._∷_ Row.off (List._∷_ Row.off (List._∷_ Row.off (List._∷_ Row.off (List._∷_ Row.off (List._∷_ Row.off List.[])))))))))) }
 
         abbrev G8 : Row.Cx
-        G8 = record { locals = List._++_ g6 (List._++_ t1 t2); slots = List._∷_ (Row.lease (κs .0) (qs .0)) (List._∷_ (Row.lease (κs .1 .0) (qs .1 .0)) (List._∷_ Row.off (List._∷_ (Row.lease (κs .1 .1 .1 .0) (qs .1 .1 .1 .0)) (List._∷_ Row.alive (List._∷_ Row.off (List._∷_ Row.off (List._∷_ Row.off (List._∷_ Row.off (List._∷_ Row.off (List._∷_ Row.off List.[])))))))))); }
+        G8 = record { locals = List._++_ g6 (List._++_ t1 t2); slots = List._∷_ (Row.lease (κs .0) (qs .0)) (List._∷_ (Row.lease (κs .1 .0) (qs .1 .0)) (List._∷_ Row.off (List._∷_ (Row.lease (κs .1 .1 .1 .0) (qs .1 .1 .1 .0)) (List._∷_ Row.alive (List._∷_ Row.off (List._∷_ Row.off (List._∷_ Row.off (List._∷_ Row.off (List._∷_ Row.off (List._∷_ Row.off List.[])))))))))) }
 
         abbrev G9 : Row.Cx
-        G9 = record { locals = List._++_ g6 (List._++_ t1 t2); slots = List._∷_ (Row.lease (κs .0) (qs .0)) (List._∷_ (Row.lease (κs .1 .0) (qs .1 .0)) (List._∷_ Row.off (List._∷_ (Row.lease (κs .1 .1 .1 .0) (qs .1 .1 .1 .0)) (List._∷_ Row.alive (List._∷_ Row.alive (List._∷_ Row.off (List._∷_ Row.off (List._∷_ Row.off (List._∷_ Row.off (List._∷_ Row.off List.[])))))))))); }
+        G9 = record { locals = List._++_ g6 (List._++_ t1 t2); slots = List._∷_ (Row.lease (κs .0) (qs .0)) (List._∷_ (Row.lease (κs .1 .0) (qs .1 .0)) (List._∷_ Row.off (List._∷_ (Row.lease (κs .1 .1 .1 .0) (qs .1 .1 .1 .0)) (List._∷_ Row.alive (List._∷_ Row.alive (List._∷_ Row.off (List._∷_ Row.off (List._∷_ Row.off (List._∷_ Row.off (List._∷_ Row.off List.[])))))))))) }
 
         abbrev G10 : Row.Cx
-        G10 = record { locals = List._++_ g7 (List._++_ t1 t2); slots = List._∷_ (Row.lease (κs .0) (qs .0)) (List._∷_ (Row.lease (κs .1 .0) (qs .1 .0)) (List._∷_ Row.off (List._∷_ Row.off (List._∷_ Row.alive (List._∷_ Row.alive (List._∷_ Row.off (List._∷_ Row.off (List._∷_ Row.off (List._∷_ Row.off (List._∷_ Row.off List.[])))))))))); }
+        G10 = record { locals = List._++_ g7 (List._++_ t1 t2); slots = List._∷_ (Row.lease (κs .0) (qs .0)) (List._∷_ (Row.lease (κs .1 .0) (qs .1 .0)) (List._∷_ Row.off (List._∷_ Row.off (List._∷_ Row.alive (List._∷_ Row.alive (List._∷_ Row.off (List._∷_ Row.off (List._∷_ Row.off (List._∷_ Row.off (List._∷_ Row.off List.[])))))))))) }
 
         abbrev G11 : Row.Cx
-        G11 = record { locals = List._++_ g8 (List._++_ t1 t2); slots = List._∷_ (Row.lease (κs .0) (qs .0)) (List._∷_ (Row.lease (κs .1 .0) (qs .1 .0)) (List._∷_ Row.off (List._∷_ Row.off (List._∷_ Row.alive (List._∷_ Row.alive (List._∷_ Row.off (List._∷_ Row.off (List._∷_ Row.off (List._∷_ Row.off (List._∷_ Row.off List.[])))))))))); }
+        G11 = record { locals = List._++_ g8 (List._++_ t1 t2); slots = List._∷_ (Row.lease (κs .0) (qs .0)) (List._∷_ (Row.lease (κs .1 .0) (qs .1 .0)) (List._∷_ Row.off (List._∷_ Row.off (List._∷_ Row.alive (List._∷_ Row.alive (List._∷_ Row.off (List._∷_ Row.off (List._∷_ Row.off (List._∷_ Row.off (List._∷_ Row.off List.[])))))))))) }
 
         abbrev G12 : Row.Cx
-        G12 = record { locals = List._++_ g9 (List._++_ t1 t2); slots = List._∷_ (Row.lease (κs .0) (qs .0)) (List._∷_ (Row.lease (κs .1 .0) (qs .1 .0)) (List._∷_ Row.off (List._∷_ Row.off (List._∷_ Row.alive (List._∷_ Row.alive (List._∷_ Row.off (List._∷_ Row.off (List._∷_ Row.off (List._∷_ Row.off (List._∷_ Row.off List.[])))))))))); }
+        G12 = record { locals = List._++_ g9 (List._++_ t1 t2); slots = List._∷_ (Row.lease (κs .0) (qs .0)) (List._∷_ (Row.lease (κs .1 .0) (qs .1 .0)) (List._∷_ Row.off (List._∷_ Row.off (List._∷_ Row.alive (List._∷_ Row.alive (List._∷_ Row.off (List._∷_ Row.off (List._∷_ Row.off (List._∷_ Row.off (List._∷_ Row.off List.[])))))))))) }
 
         abbrev G13 : Row.Cx
-        G13 = record { locals = List._++_ g9 (List._++_ t1 t2); slots = List._∷_ (Row.lease (κs .0) (qs .0)) (List._∷_ (Row.lease (κs .1 .0) (qs .1 .0)) (List._∷_ Row.off (List._∷_ Row.off (List._∷_ Row.dead (List._∷_ Row.alive (List._∷_ Row.off (List._∷_ Row.off (List._∷_ Row.off (List._∷_ Row.off (List._∷_ Row.off List.[])))))))))); }
+        G13 = record { locals = List._++_ g9 (List._++_ t1 t2); slots = List._∷_ (Row.lease (κs .0) (qs .0)) (List._∷_ (Row.lease (κs .1 .0) (qs .1 .0)) (List._∷_ Row.off (List._∷_ Row.off (List._∷_ Row.dead (List._∷_ Row.alive (List._∷_ Row.off (List._∷_ Row.off (List._∷_ Row.off (List._∷_ Row.off (List._∷_ Row.off List.[])))))))))) }
 
         abbrev G14 : Row.Cx
-        G14 = record { locals = List._++_ g10 (List._++_ t1 t2); slots = List._∷_ (Row.lease (κs .0) (qs .0)) (List._∷_ (Row.lease (κs .1 .0) (qs .1 .0)) (List._∷_ (Row.lease (κs .1 .1 .0) (qs .1 .1 .0)) (List._∷_ Row.off (List._∷_ Row.dead (List._∷_ Row.alive (List._∷_ Row.off (List._∷_ Row.off (List._∷_ Row.off (List._∷_ Row.off (List._∷_ Row.off List.[])))))))))); }
+        G14 = record { locals = List._++_ g10 (List._++_ t1 t2); slots = List._∷_ (Row.lease (κs .0) (qs .0)) (List._∷_ (Row.lease (κs .1 .0) (qs .1 .0)) (List._∷_ (Row.lease (κs .1 .1 .0) (qs .1 .1 .0)) (List._∷_ Row.off (List._∷_ Row.dead (List._∷_ Row.alive (List._∷_ Row.off (List._∷_ Row.off (List._∷_ Row.off (List._∷_ Row.off (List._∷_ Row.off List.[])))))))))) }
 
         abbrev G15 : Row.Cx
-        G15 = record { locals = List._++_ g10 (List._++_ t1 t2); slots = List._∷_ (Row.lease (κs .0) (qs .0)) (List._∷_ (Row.lease (κs .1 .0) (qs .1 .0)) (List._∷_ (Row.lease (κs .1 .1 .0) (qs .1 .1 .0)) (List._∷_ Row.off (List._∷_ Row.dead (List._∷_ Row.alive (List._∷_ Row.off (List._∷_ Row.off (List._∷_ Row.off (List._∷_ Row.off (List._∷_ Row.off List.[])))))))))); }
+        G15 = record { locals = List._++_ g10 (List._++_ t1 t2); slots = List._∷_ (Row.lease (κs .0) (qs .0)) (List._∷_ (Row.lease (κs .1 .0) (qs .1 .0)) (List._∷_ (Row.lease (κs .1 .1 .0) (qs .1 .1 .0)) (List._∷_ Row.off (List._∷_ Row.dead (List._∷_ Row.alive (List._∷_ Row.off (List._∷_ Row.off (List._∷_ Row.off (List._∷_ Row.off (List._∷_ Row.off List.[])))))))))) }
 
         abbrev G16 : Row.Cx
-        G16 = record { locals = List._++_ g10 (List._++_ t1 t2); slots = List._∷_ (Row.lease (κs .0) (qs .0)) (List._∷_ (Row.lease (κs .1 .0) (qs .1 .0)) (List._∷_ (Row.lease (κs .1 .1 .0) (qs .1 .1 .0)) (List._∷_ Row.off (List._∷_ Row.off (List._∷_ Row.alive (List._∷_ Row.off (List._∷_ Row.off (List._∷_ Row.off (List._∷_ Row.off (List._∷_ Row.off List.[])))))))))); }
+        G16 = record { locals = List._++_ g10 (List._++_ t1 t2); slots = List._∷_ (Row.lease (κs .0) (qs .0)) (List._∷_ (Row.lease (κs .1 .0) (qs .1 .0)) (List._∷_ (Row.lease (κs .1 .1 .0) (qs .1 .1 .0)) (List._∷_ Row.off (List._∷_ Row.off (List._∷_ Row.alive (List._∷_ Row.off (List._∷_ Row.off (List._∷_ Row.off (List._∷_ Row.off (List._∷_ Row.off List.[])))))))))) }
 
         abbrev G17 : Row.Cx
-        G17 = record { locals = List._++_ g10 (List._++_ t1 t2); slots = List._∷_ (Row.lease (κs .0) (qs .0)) (List._∷_ (Row.lease (κs .1 .0) (qs .1 .0)) (List._∷_ (Row.lease (κs .1 .1 .0) (qs .1 .1 .0)) (List._∷_ Row.off (List._∷_ Row.off (List._∷_ Row.dead (List._∷_ Row.off (List._∷_ Row.off (List._∷_ Row.off (List._∷_ Row.off (List._∷_ Row.off List.[])))))))))); }
+        G17 = record { locals = List._++_ g10 (List._++_ t1 t2); slots = List._∷_ (Row.lease (κs .0) (qs .0)) (List._∷_ (Row.lease (κs .1 .0) (qs .1 .0)) (List._∷_ (Row.lease (κs .1 .1 .0) (qs .1 .1 .0)) (List._∷_ Row.off (List._∷_ Row.off (List._∷_ Row.dead (List._∷_ Row.off (List._∷_ Row.off (List._∷_ Row.off (List._∷_ Row.off (List._∷_ Row.off List.[])))))))))) }
 
         abbrev G18 : Row.Cx
-        G18 = record { locals = List._++_ t11 (List._++_ t1 t2); slots = List._∷_ (Row.lease (κs .0) (qs .0)) (List._∷_ (Row.lease (κs .1 .0) (qs .1 .0)) (List._∷_ (Row.lease (κs .1 .1 .0) (qs .1 .1 .0)) (List._∷_ (Row.lease (κs .1 .1 .1 .0) (qs .1 .1 .1 .0)) (List._∷_ Row.off (List._∷_ Row.dead (List._∷_ Row.off (List._∷_ Row.off (List._∷_ Row.off (List._∷_ Row.off (List._∷_ Row.off List.[])))))))))); }
+        G18 = record { locals = List._++_ t11 (List._++_ t1 t2); slots = List._∷_ (Row.lease (κs .0) (qs .0)) (List._∷_ (Row.lease (κs .1 .0) (qs .1 .0)) (List._∷_ (Row.lease (κs .1 .1 .0) (qs .1 .1 .0)) (List._∷_ (Row.lease (κs .1 .1 .1 .0) (qs .1 .1 .1 .0)) (List._∷_ Row.off (List._∷_ Row.dead (List._∷_ Row.off (List._∷_ Row.off (List._∷_ Row.off (List._∷_ Row.off (List._∷_ Row.off List.[])))))))))) }
 
         abbrev G19 : Row.Cx
-        G19 = record { locals = List._++_ t11 (List._++_ t1 t2); slots = List._∷_ (Row.lease (κs .0) (qs .0)) (List._∷_ (Row.lease (κs .1 .0) (qs .1 .0)) (List._∷_ (Row.lease (κs .1 .1 .0) (qs .1 .1 .0)) (List._∷_ (Row.lease (κs .1 .1 .1 .0) (qs .1 .1 .1 .0)) (List._∷_ Row.off (List._∷_ Row.dead (List._∷_ Row.off (List._∷_ Row.off (List._∷_ Row.off (List._∷_ Row.off (List._∷_ Row.off List.[])))))))))); }
+        G19 = record { locals = List._++_ t11 (List._++_ t1 t2); slots = List._∷_ (Row.lease (κs .0) (qs .0)) (List._∷_ (Row.lease (κs .1 .0) (qs .1 .0)) (List._∷_ (Row.lease (κs .1 .1 .0) (qs .1 .1 .0)) (List._∷_ (Row.lease (κs .1 .1 .1 .0) (qs .1 .1 .1 .0)) (List._∷_ Row.off (List._∷_ Row.dead (List._∷_ Row.off (List._∷_ Row.off (List._∷_ Row.off (List._∷_ Row.off (List._∷_ Row.off List.[])))))))))) }
 
         abbrev G20 : Row.Cx
-        G20 = record { locals = List._++_ t11 (List._++_ t1 t2); slots = List._∷_ (Row.lease (κs .0) (qs .0)) (List._∷_ (Row.lease (κs .1 .0) (qs .1 .0)) (List._∷_ (Row.lease (κs .1 .1 .0) (qs .1 .1 .0)) (List._∷_ (Row.lease (κs .1 .1 .1 .0) (qs .1 .1 .1 .0)) (List._∷_ Row.off (List._∷_ Row.off (List._∷_ Row.off (List._∷_ Row.off (List._∷_ Row.off (List._∷_ Row.off (List._∷_ Row.off List.[])))))))))); }
+        G20 = record { locals = List._++_ t11 (List._++_ t1 t2); slots = List._∷_ (Row.lease (κs .0) (qs .0)) (List._∷_ (Row.lease (κs .1 .0) (qs .1 .0)) (List._∷_ (Row.lease (κs .1 .1 .0) (qs .1 .1 .0)) (List._∷_ (Row.lease (κs .1 .1 .1 .0) (qs .1 .1 .1 .0)) (List._∷_ Row.off (List._∷_ Row.off (List._∷_ Row.off (List._∷_ Row.off (List._∷_ Row.off (List._∷_ Row.off (List._∷_ Row.off List.[])))))))))) }
 
         abbrev G21 : Row.Cx
-        G21 = record { locals = List._++_ t12 (List._++_ t1 t2); slots = List._∷_ (Row.lease (κs .0) (qs .0)) (List._∷_ (Row.lease (κs .1 .0) (qs .1 .0)) (List._∷_ (Row.lease (κs .1 .1 .0) (qs .1 .1 .0)) (List._∷_ (Row.lease (κs .1 .1 .1 .0) (qs .1 .1 .1 .0)) (List._∷_ Row.off (List._∷_ Row.off (List._∷_ Row.off (List._∷_ Row.off (List._∷_ Row.off (List._∷_ Row.off (List._∷_ Row.off List.[])))))))))); }
+        G21 = record { locals = List._++_ t12 (List._++_ t1 t2); slots = List._∷_ (Row.lease (κs .0) (qs .0)) (List._∷_ (Row.lease (κs .1 .0) (qs .1 .0)) (List._∷_ (Row.lease (κs .1 .1 .0) (qs .1 .1 .0)) (List._∷_ (Row.lease (κs .1 .1 .1 .0) (qs .1 .1 .1 .0)) (List._∷_ Row.off (List._∷_ Row.off (List._∷_ Row.off (List._∷_ Row.off (List._∷_ Row.off (List._∷_ Row.off (List._∷_ Row.off List.[])))))))))) }
 
         abbrev G22 : Row.Cx
-        G22 = record { locals = List._++_ t12 (List._++_ t1 t2); slots = List._∷_ (Row.lease (κs .0) (qs .0)) (List._∷_ (Row.lease (κs .1 .0) (qs .1 .0)) (List._∷_ (Row.lease (κs .1 .1 .0) (qs .1 .1 .0)) (List._∷_ (Row.lease (κs .1 .1 .1 .0) (qs .1 .1 .1 .0)) (List._∷_ Row.off (List._∷_ Row.off (List._∷_ Row.off (List._∷_ Row.off (List._∷_ Row.off (List._∷_ Row.off (List._∷_ Row.off List.[])))))))))); }
+        G22 = record { locals = List._++_ t12 (List._++_ t1 t2); slots = List._∷_ (Row.lease (κs .0) (qs .0)) (List._∷_ (Row.lease (κs .1 .0) (qs .1 .0)) (List._∷_ (Row.lease (κs .1 .1 .0) (qs .1 .1 .0)) (List._∷_ (Row.lease (κs .1 .1 .1 .0) (qs .1 .1 .1 .0)) (List._∷_ Row.off (List._∷_ Row.off (List._∷_ Row.off (List._∷_ Row.off (List._∷_ Row.off (List._∷_ Row.off (List._∷_ Row.off List.[])))))))))) }
 
         abbrev G23 : Row.Cx
-        G23 = record { locals = List._++_ t13 (List._++_ t1 t2); slots = List._∷_ (Row.lease (κs .0) (qs .0)) (List._∷_ (Row.lease (κs .1 .0) (qs .1 .0)) (List._∷_ (Row.lease (κs .1 .1 .0) (qs .1 .1 .0)) (List._∷_ (Row.lease (κs .1 .1 .1 .0) (qs .1 .1 .1 .0)) (List._∷_ Row.off (List._∷_ Row.off (List._∷_ Row.off (List._∷_ Row.off (List._∷_ Row.off (List._∷_ Row.off (List._∷_ Row.off List.[])))))))))); }
+        G23 = record { locals = List._++_ t13 (List._++_ t1 t2); slots = List._∷_ (Row.lease (κs .0) (qs .0)) (List._∷_ (Row.lease (κs .1 .0) (qs .1 .0)) (List._∷_ (Row.lease (κs .1 .1 .0) (qs .1 .1 .0)) (List._∷_ (Row.lease (κs .1 .1 .1 .0) (qs .1 .1 .1 .0)) (List._∷_ Row.off (List._∷_ Row.off (List._∷_ Row.off (List._∷_ Row.off (List._∷_ Row.off (List._∷_ Row.off (List._∷_ Row.off List.[])))))))))) }
 
         abbrev G24 : Row.Cx
-        G24 = record { locals = List._++_ t12 (List._++_ t1 t2); slots = List._∷_ (Row.lease (κs .0) (qs .0)) (List._∷_ (Row.lease (κs .1 .0) (qs .1 .0)) (List._∷_ (Row.lease (κs .1 .1 .0) (qs .1 .1 .0)) (List._∷_ (Row.lease (κs .1 .1 .1 .0) (qs .1 .1 .1 .0)) (List._∷_ Row.off (List._∷_ Row.off (List._∷_ Row.off (List._∷_ Row.off (List._∷_ Row.off (List._∷_ Row.off (List._∷_ Row.off List.[])))))))))); }
+        G24 = record { locals = List._++_ t12 (List._++_ t1 t2); slots = List._∷_ (Row.lease (κs .0) (qs .0)) (List._∷_ (Row.lease (κs .1 .0) (qs .1 .0)) (List._∷_ (Row.lease (κs .1 .1 .0) (qs .1 .1 .0)) (List._∷_ (Row.lease (κs .1 .1 .1 .0) (qs .1 .1 .1 .0)) (List._∷_ Row.off (List._∷_ Row.off (List._∷_ Row.off (List._∷_ Row.off (List._∷_ Row.off (List._∷_ Row.off (List._∷_ Row.off List.[])))))))))) }
 
         abbrev G25 : Row.Cx
-        G25 = record { locals = List._++_ t12 (List._++_ t1 t2); slots = List._∷_ (Row.lease (κs .0) (qs .0)) (List._∷_ (Row.lease (κs .1 .0) (qs .1 .0)) (List._∷_ (Row.lease (κs .1 .1 .0) (qs .1 .1 .0)) (List._∷_ (Row.lease (κs .1 .1 .1 .0) (qs .1 .1 .1 .0)) (List._∷_ Row.off (List._∷_ Row.off (List._∷_ Row.off (List._∷_ Row.off (List._∷_ Row.off (List._∷_ Row.off (List._∷_ Row.off List.[])))))))))); }
+        G25 = record { locals = List._++_ t12 (List._++_ t1 t2); slots = List._∷_ (Row.lease (κs .0) (qs .0)) (List._∷_ (Row.lease (κs .1 .0) (qs .1 .0)) (List._∷_ (Row.lease (κs .1 .1 .0) (qs .1 .1 .0)) (List._∷_ (Row.lease (κs .1 .1 .1 .0) (qs .1 .1 .1 .0)) (List._∷_ Row.off (List._∷_ Row.off (List._∷_ Row.off (List._∷_ Row.off (List._∷_ Row.off (List._∷_ Row.off (List._∷_ Row.off List.[])))))))))) }
 
         abbrev G26 : Row.Cx
-        G26 = record { locals = List._++_ t12 (List._++_ t1 t2); slots = List._∷_ (Row.lease (κs .0) (qs .0)) (List._∷_ (Row.lease (κs .1 .0) (qs .1 .0)) (List._∷_ (Row.lease (κs .1 .1 .0) (qs .1 .1 .0)) (List._∷_ (Row.lease (κs .1 .1 .1 .0) (qs .1 .1 .1 .0)) (List._∷_ Row.off (List._∷_ Row.off (List._∷_ Row.off (List._∷_ Row.off (List._∷_ Row.off (List._∷_ Row.off (List._∷_ Row.off List.[])))))))))); }
+        G26 = record { locals = List._++_ t12 (List._++_ t1 t2); slots = List._∷_ (Row.lease (κs .0) (qs .0)) (List._∷_ (Row.lease (κs .1 .0) (qs .1 .0)) (List._∷_ (Row.lease (κs .1 .1 .0) (qs .1 .1 .0)) (List._∷_ (Row.lease (κs .1 .1 .1 .0) (qs .1 .1 .1 .0)) (List._∷_ Row.off (List._∷_ Row.off (List._∷_ Row.off (List._∷_ Row.off (List._∷_ Row.off (List._∷_ Row.off (List._∷_ Row.off List.[])))))))))) }
 
         abbrev G27 : Row.Cx
-        G27 = record { locals = List._++_ t14 (List._++_ t1 t2); slots = List._∷_ (Row.lease (κs .0) (qs .0)) (List._∷_ (Row.lease (κs .1 .0) (qs .1 .0)) (List._∷_ (Row.lease (κs .1 .1 .0) (qs .1 .1 .0)) (List._∷_ (Row.lease (κs .1 .1 .1 .0) (qs .1 .1 .1 .0)) (List._∷_ Row.off (List._∷_ Row.off (List._∷_ Row.off (List._∷_ Row.off (List._∷_ Row.off (List._∷_ Row.off (List._∷_ Row.off List.[])))))))))); }
+        G27 = record { locals = List._++_ t14 (List._++_ t1 t2); slots = List._∷_ (Row.lease (κs .0) (qs .0)) (List._∷_ (Row.lease (κs .1 .0) (qs .1 .0)) (List._∷_ (Row.lease (κs .1 .1 .0) (qs .1 .1 .0)) (List._∷_ (Row.lease (κs .1 .1 .1 .0) (qs .1 .1 .1 .0)) (List._∷_ Row.off (List._∷_ Row.off (List._∷_ Row.off (List._∷_ Row.off (List._∷_ Row.off (List._∷_ Row.off (List._∷_ Row.off List.[])))))))))) }
 
         abbrev G28 : Row.Cx
-        G28 = record { locals = List._++_ t14 (List._++_ t15 t2); slots = List._∷_ (Row.lease (κs .0) (qs .0)) (List._∷_ (Row.lease (κs .1 .0) (qs .1 .0)) (List._∷_ (Row.lease (κs .1 .1 .0) (qs .1 .1 .0)) (List._∷_ (Row.lease (κs .1 .1 .1 .0) (qs .1 .1 .1 .0)) (List._∷_ Row.off (List._∷_ Row.off (List._∷_ Row.off (List._∷_ Row.off (List._∷_ Row.off (List._∷_ Row.off (List._∷_ Row.off List.[])))))))))); }
+        G28 = record { locals = List._++_ t14 (List._++_ t15 t2); slots = List._∷_ (Row.lease (κs .0) (qs .0)) (List._∷_ (Row.lease (κs .1 .0) (qs .1 .0)) (List._∷_ (Row.lease (κs .1 .1 .0) (qs .1 .1 .0)) (List._∷_ (Row.lease (κs .1 .1 .1 .0) (qs .1 .1 .1 .0)) (List._∷_ Row.off (List._∷_ Row.off (List._∷_ Row.off (List._∷_ Row.off (List._∷_ Row.off (List._∷_ Row.off (List._∷_ Row.off List.[])))))))))) }
 
         abbrev G29 : Row.Cx
-        G29 = record { locals = List._++_ t14 (List._++_ t16 t2); slots = List._∷_ (Row.lease (κs .0) (qs .0)) (List._∷_ (Row.lease (κs .1 .0) (qs .1 .0)) (List._∷_ (Row.lease (κs .1 .1 .0) (qs .1 .1 .0)) (List._∷_ (Row.lease (κs .1 .1 .1 .0) (qs .1 .1 .1 .0)) (List._∷_ Row.off (List._∷_ Row.off (List._∷_ Row.off (List._∷_ Row.off (List._∷_ Row.off (List._∷_ Row.off (List._∷_ Row.off List.[])))))))))); }
+        G29 = record { locals = List._++_ t14 (List._++_ t16 t2); slots = List._∷_ (Row.lease (κs .0) (qs .0)) (List._∷_ (Row.lease (κs .1 .0) (qs .1 .0)) (List._∷_ (Row.lease (κs .1 .1 .0) (qs .1 .1 .0)) (List._∷_ (Row.lease (κs .1 .1 .1 .0) (qs .1 .1 .1 .0)) (List._∷_ Row.off (List._∷_ Row.off (List._∷_ Row.off (List._∷_ Row.off (List._∷_ Row.off (List._∷_ Row.off (List._∷_ Row.off List.[])))))))))) }
 
         abbrev G30 : Row.Cx
-        G30 = record { locals = List._++_ t12 (List._++_ t16 t2); slots = List._∷_ (Row.lease (κs .0) (qs .0)) (List._∷_ (Row.lease (κs .1 .0) (qs .1 .0)) (List._∷_ (Row.lease (κs .1 .1 .0) (qs .1 .1 .0)) (List._∷_ (Row.lease (κs .1 .1 .1 .0) (qs .1 .1 .1 .0)) (List._∷_ Row.off (List._∷_ Row.off (List._∷_ Row.off (List._∷_ Row.off (List._∷_ Row.off (List._∷_ Row.off (List._∷_ Row.off List.[])))))))))); }
+        G30 = record { locals = List._++_ t12 (List._++_ t16 t2); slots = List._∷_ (Row.lease (κs .0) (qs .0)) (List._∷_ (Row.lease (κs .1 .0) (qs .1 .0)) (List._∷_ (Row.lease (κs .1 .1 .0) (qs .1 .1 .0)) (List._∷_ (Row.lease (κs .1 .1 .1 .0) (qs .1 .1 .1 .0)) (List._∷_ Row.off (List._∷_ Row.off (List._∷_ Row.off (List._∷_ Row.off (List._∷_ Row.off (List._∷_ Row.off (List._∷_ Row.off List.[])))))))))) }
 
         abbrev G31 : Row.Cx
-        G31 = record { locals = List._++_ t12 (List._++_ t17 t2); slots = List._∷_ (Row.lease (κs .0) (qs .0)) (List._∷_ (Row.lease (κs .1 .0) (qs .1 .0)) (List._∷_ (Row.lease (κs .1 .1 .0) (qs .1 .1 .0)) (List._∷_ (Row.lease (κs .1 .1 .1 .0) (qs .1 .1 .1 .0)) (List._∷_ Row.off (List._∷_ Row.off (List._∷_ Row.off (List._∷_ Row.off (List._∷_ Row.off (List._∷_ Row.off (List._∷_ Row.off List.[])))))))))); }
+        G31 = record { locals = List._++_ t12 (List._++_ t17 t2); slots = List._∷_ (Row.lease (κs .0) (qs .0)) (List._∷_ (Row.lease (κs .1 .0) (qs .1 .0)) (List._∷_ (Row.lease (κs .1 .1 .0) (qs .1 .1 .0)) (List._∷_ (Row.lease (κs .1 .1 .1 .0) (qs .1 .1 .1 .0)) (List._∷_ Row.off (List._∷_ Row.off (List._∷_ Row.off (List._∷_ Row.off (List._∷_ Row.off (List._∷_ Row.off (List._∷_ Row.off List.[])))))))))) }
 
         abbrev G32 : Row.Cx
-        G32 = record { locals = List._++_ t12 (List._++_ t17 t2); slots = List._∷_ (Row.lease (κs .0) (qs .0)) (List._∷_ (Row.lease (κs .1 .0) (qs .1 .0)) (List._∷_ (Row.lease (κs .1 .1 .0) (qs .1 .1 .0)) (List._∷_ (Row.lease (κs .1 .1 .1 .0) (qs .1 .1 .1 .0)) (List._∷_ Row.off (List._∷_ Row.off (List._∷_ Row.alive (List._∷_ Row.off (List._∷_ Row.off (List._∷_ Row.off (List._∷_ Row.off List.[])))))))))); }
+        G32 = record { locals = List._++_ t12 (List._++_ t17 t2); slots = List._∷_ (Row.lease (κs .0) (qs .0)) (List._∷_ (Row.lease (κs .1 .0) (qs .1 .0)) (List._∷_ (Row.lease (κs .1 .1 .0) (qs .1 .1 .0)) (List._∷_ (Row.lease (κs .1 .1 .1 .0) (qs .1 .1 .1 .0)) (List._∷_ Row.off (List._∷_ Row.off (List._∷_ Row.alive (List._∷_ Row.off (List._∷_ Row.off (List._∷_ Row.off (List._∷_ Row.off List.[])))))))))) }
 
         abbrev G33 : Row.Cx
-        G33 = record { locals = List._++_ g18 (List._++_ t19 t2); slots = List._∷_ (Row.lease (κs .0) (qs .0)) (List._∷_ (Row.lease (κs .1 .0) (qs .1 .0)) (List._∷_ Row.off (List._∷_ (Row.lease (κs .1 .1 .1 .0) (qs .1 .1 .1 .0)) (List._∷_ Row.off (List._∷_ Row.off (List._∷_ Row.alive (List._∷_ Row.off (List._∷_ Row.off (List._∷_ Row.off (List._∷_ Row.off List.[])))))))))); }
+        G33 = record { locals = List._++_ g18 (List._++_ t19 t2); slots = List._∷_ (Row.lease (κs .0) (qs .0)) (List._∷_ (Row.lease (κs .1 .0) (qs .1 .0)) (List._∷_ Row.off (List._∷_ (Row.lease (κs .1 .1 .1 .0) (qs .1 .1 .1 .0)) (List._∷_ Row.off (List._∷_ Row.off (List._∷_ Row.alive (List._∷_ Row.off (List._∷_ Row.off (List._∷_ Row.off (List._∷_ Row.off List.[])))))))))) }
 
         abbrev G34 : Row.Cx
-        G34 = record { locals = List._++_ g18 (List._++_ t20 t2); slots = List._∷_ (Row.lease (κs .0) (qs .0)) (List._∷_ (Row.lease (κs .1 .0) (qs .1 .0)) (List._∷_ Row.off (List._∷_ (Row.lease (κs .1 .1 .1 .0) (qs .1 .1 .1 .0)) (List._∷_ Row.off (List._∷_ Row.off (List._∷_ Row.alive (List._∷_ Row.off (List._∷_ Row.off (List._∷_ Row.off (List._∷_ Row.off List.[])))))))))); }
+        G34 = record { locals = List._++_ g18 (List._++_ t20 t2); slots = List._∷_ (Row.lease (κs .0) (qs .0)) (List._∷_ (Row.lease (κs .1 .0) (qs .1 .0)) (List._∷_ Row.off (List._∷_ (Row.lease (κs .1 .1 .1 .0) (qs .1 .1 .1 .0)) (List._∷_ Row.off (List._∷_ Row.off (List._∷_ Row.alive (List._∷_ Row.off (List._∷_ Row.off (List._∷_ Row.off (List._∷_ Row.off List.[])))))))))) }
 
         abbrev G35 : Row.Cx
-        G35 = record { locals = List._++_ g18 (List._++_ t20 t2); slots = List._∷_ (Row.lease (κs .0) (qs .0)) (List._∷_ (Row.lease (κs .1 .0) (qs .1 .0)) (List._∷_ Row.off (List._∷_ (Row.lease (κs .1 .1 .1 .0) (qs .1 .1 .1 .0)) (List._∷_ Row.off (List._∷_ Row.off (List._∷_ Row.alive (List._∷_ Row.off (List._∷_ Row.off (List._∷_ Row.off (List._∷_ Row.off List.[])))))))))); }
+        G35 = record { locals = List._++_ g18 (List._++_ t20 t2); slots = List._∷_ (Row.lease (κs .0) (qs .0)) (List._∷_ (Row.lease (κs .1 .0) (qs .1 .0)) (List._∷_ Row.off (List._∷_ (Row.lease (κs .1 .1 .1 .0) (qs .1 .1 .1 .0)) (List._∷_ Row.off (List._∷_ Row.off (List._∷_ Row.alive (List._∷_ Row.off (List._∷_ Row.off (List._∷_ Row.off (List._∷_ Row.off List.[])))))))))) }
 
         abbrev G36 : Row.Cx
-        G36 = record { locals = List._++_ g18 (List._++_ t17 t2); slots = List._∷_ (Row.lease (κs .0) (qs .0)) (List._∷_ (Row.lease (κs .1 .0) (qs .1 .0)) (List._∷_ Row.off (List._∷_ (Row.lease (κs .1 .1 .1 .0) (qs .1 .1 .1 .0)) (List._∷_ Row.off (List._∷_ Row.off (List._∷_ Row.alive (List._∷_ Row.off (List._∷_ Row.off (List._∷_ Row.off (List._∷_ Row.off List.[])))))))))); }
+        G36 = record { locals = List._++_ g18 (List._++_ t17 t2); slots = List._∷_ (Row.lease (κs .0) (qs .0)) (List._∷_ (Row.lease (κs .1 .0) (qs .1 .0)) (List._∷_ Row.off (List._∷_ (Row.lease (κs .1 .1 .1 .0) (qs .1 .1 .1 .0)) (List._∷_ Row.off (List._∷_ Row.off (List._∷_ Row.alive (List._∷_ Row.off (List._∷_ Row.off (List._∷_ Row.off (List._∷_ Row.off List.[])))))))))) }
 
         abbrev G37 : Row.Cx
-        G37 = record { locals = List._++_ g18 (List._++_ t1 t2); slots = List._∷_ (Row.lease (κs .0) (qs .0)) (List._∷_ (Row.lease (κs .1 .0) (qs .1 .0)) (List._∷_ Row.off (List._∷_ (Row.lease (κs .1 .1 .1 .0) (qs .1 .1 .1 .0)) (List._∷_ Row.off (List._∷_ Row.off (List._∷_ Row.alive (List._∷_ Row.off (List._∷_ Row.off (List._∷_ Row.off (List._∷_ Row.off List.[])))))))))); }
+        G37 = record { locals = List._++_ g18 (List._++_ t1 t2); slots = List._∷_ (Row.lease (κs .0) (qs .0)) (List._∷_ (Row.lease (κs .1 .0) (qs .1 .0)) (List._∷_ Row.off (List._∷_ (Row.lease (κs .1 .1 .1 .0) (qs .1 .1 .1 .0)) (List._∷_ Row.off (List._∷_ Row.off (List._∷_ Row.alive (List._∷_ Row.off (List._∷_ Row.off (List._∷_ Row.off (List._∷_ Row.off List.[])))))))))) }
 
         abbrev G38 : Row.Cx
-        G38 = record { locals = List._++_ g18 (List._++_ t1 t2); slots = List._∷_ (Row.lease (κs .0) (qs .0)) (List._∷_ (Row.lease (κs .1 .0) (qs .1 .0)) (List._∷_ Row.off (List._∷_ (Row.lease (κs .1 .1 .1 .0) (qs .1 .1 .1 .0)) (List._∷_ Row.off (List._∷_ Row.off (List._∷_ Row.dead (List._∷_ Row.off (List._∷_ Row.off (List._∷_ Row.off (List._∷_ Row.off List.[])))))))))); }
+        G38 = record { locals = List._++_ g18 (List._++_ t1 t2); slots = List._∷_ (Row.lease (κs .0) (qs .0)) (List._∷_ (Row.lease (κs .1 .0) (qs .1 .0)) (List._∷_ Row.off (List._∷_ (Row.lease (κs .1 .1 .1 .0) (qs .1 .1 .1 .0)) (List._∷_ Row.off (List._∷_ Row.off (List._∷_ Row.dead (List._∷_ Row.off (List._∷_ Row.off (List._∷_ Row.off (List._∷_ Row.off List.[])))))))))) }
 
         abbrev G39 : Row.Cx
-        G39 = record { locals = List._++_ t12 (List._++_ t1 t2); slots = List._∷_ (Row.lease (κs .0) (qs .0)) (List._∷_ (Row.lease (κs .1 .0) (qs .1 .0)) (List._∷_ (Row.lease (κs .1 .1 .0) (qs .1 .1 .0)) (List._∷_ (Row.lease (κs .1 .1 .1 .0) (qs .1 .1 .1 .0)) (List._∷_ Row.off (List._∷_ Row.off (List._∷_ Row.dead (List._∷_ Row.off (List._∷_ Row.off (List._∷_ Row.off (List._∷_ Row.off List.[])))))))))); }
+        G39 = record { locals = List._++_ t12 (List._++_ t1 t2); slots = List._∷_ (Row.lease (κs .0) (qs .0)) (List._∷_ (Row.lease (κs .1 .0) (qs .1 .0)) (List._∷_ (Row.lease (κs .1 .1 .0) (qs .1 .1 .0)) (List._∷_ (Row.lease (κs .1 .1 .1 .0) (qs .1 .1 .1 .0)) (List._∷_ Row.off (List._∷_ Row.off (List._∷_ Row.dead (List._∷_ Row.off (List._∷_ Row.off (List._∷_ Row.off (List._∷_ Row.off List.[])))))))))) }
 
         abbrev G40 : Row.Cx
-        G40 = record { locals = List._++_ t12 (List._++_ t1 t2); slots = List._∷_ (Row.lease (κs .0) (qs .0)) (List._∷_ (Row.lease (κs .1 .0) (qs .1 .0)) (List._∷_ (Row.lease (κs .1 .1 .0) (qs .1 .1 .0)) (List._∷_ (Row.lease (κs .1 .1 .1 .0) (qs .1 .1 .1 .0)) (List._∷_ Row.off (List._∷_ Row.off (List._∷_ Row.off (List._∷_ Row.off (List._∷_ Row.off (List._∷_ Row.off (List._∷_ Row.off List.[])))))))))); }
+        G40 = record { locals = List._++_ t12 (List._++_ t1 t2); slots = List._∷_ (Row.lease (κs .0) (qs .0)) (List._∷_ (Row.lease (κs .1 .0) (qs .1 .0)) (List._∷_ (Row.lease (κs .1 .1 .0) (qs .1 .1 .0)) (List._∷_ (Row.lease (κs .1 .1 .1 .0) (qs .1 .1 .1 .0)) (List._∷_ Row.off (List._∷_ Row.off (List._∷_ Row.off (List._∷_ Row.off (List._∷_ Row.off (List._∷_ Row.off (List._∷_ Row.off List.[])))))))))) }
 
         abbrev G41 : Row.Cx
-        G41 = record { locals = List._++_ t12 (List._++_ t1 t2); slots = List._∷_ (Row.lease (κs .0) (qs .0)) (List._∷_ (Row.lease (κs .1 .0) (qs .1 .0)) (List._∷_ (Row.lease (κs .1 .1 .0) (qs .1 .1 .0)) (List._∷_ (Row.lease (κs .1 .1 .1 .0) (qs .1 .1 .1 .0)) (List._∷_ Row.off (List._∷_ Row.off (List._∷_ Row.off (List._∷_ Row.off (List._∷_ Row.off (List._∷_ Row.off (List._∷_ Row.off List.[])))))))))); }
+        G41 = record { locals = List._++_ t12 (List._++_ t1 t2); slots = List._∷_ (Row.lease (κs .0) (qs .0)) (List._∷_ (Row.lease (κs .1 .0) (qs .1 .0)) (List._∷_ (Row.lease (κs .1 .1 .0) (qs .1 .1 .0)) (List._∷_ (Row.lease (κs .1 .1 .1 .0) (qs .1 .1 .1 .0)) (List._∷_ Row.off (List._∷_ Row.off (List._∷_ Row.off (List._∷_ Row.off (List._∷_ Row.off (List._∷_ Row.off (List._∷_ Row.off List.[])))))))))) }
 
         abbrev G42 : Row.Cx
-        G42 = record { locals = List._++_ t21 (List._++_ t1 t2); slots = List._∷_ (Row.lease (κs .0) (qs .0)) (List._∷_ (Row.lease (κs .1 .0) (qs .1 .0)) (List._∷_ (Row.lease (κs .1 .1 .0) (qs .1 .1 .0)) (List._∷_ (Row.lease (κs .1 .1 .1 .0) (qs .1 .1 .1 .0)) (List._∷_ Row.off (List._∷_ Row.off (List._∷_ Row.off (List._∷_ Row.off (List._∷_ Row.off (List._∷_ Row.off (List._∷_ Row.off List.[])))))))))); }
+        G42 = record { locals = List._++_ t21 (List._++_ t1 t2); slots = List._∷_ (Row.lease (κs .0) (qs .0)) (List._∷_ (Row.lease (κs .1 .0) (qs .1 .0)) (List._∷_ (Row.lease (κs .1 .1 .0) (qs .1 .1 .0)) (List._∷_ (Row.lease (κs .1 .1 .1 .0) (qs .1 .1 .1 .0)) (List._∷_ Row.off (List._∷_ Row.off (List._∷_ Row.off (List._∷_ Row.off (List._∷_ Row.off (List._∷_ Row.off (List._∷_ Row.off List.[])))))))))) }
 
         abbrev G43 : Row.Cx
-        G43 = record { locals = List._++_ t21 (List._++_ t1 t2); slots = List._∷_ (Row.lease (κs .0) (qs .0)) (List._∷_ (Row.lease (κs .1 .0) (qs .1 .0)) (List._∷_ (Row.lease (κs .1 .1 .0) (qs .1 .1 .0)) (List._∷_ (Row.lease (κs .1 .1 .1 .0) (qs .1 .1 .1 .0)) (List._∷_ Row.off (List._∷_ Row.off (List._∷_ Row.off (List._∷_ Row.off (List._∷_ Row.off (List._∷_ Row.off (List._∷_ Row.off List.[])))))))))); }
+        G43 = record { locals = List._++_ t21 (List._++_ t1 t2); slots = List._∷_ (Row.lease (κs .0) (qs .0)) (List._∷_ (Row.lease (κs .1 .0) (qs .1 .0)) (List._∷_ (Row.lease (κs .1 .1 .0) (qs .1 .1 .0)) (List._∷_ (Row.lease (κs .1 .1 .1 .0) (qs .1 .1 .1 .0)) (List._∷_ Row.off (List._∷_ Row.off (List._∷_ Row.off (List._∷_ Row.off (List._∷_ Row.off (List._∷_ Row.off (List._∷_ Row.off List.[])))))))))) }
 
         abbrev G44 : Row.Cx
-        G44 = record { locals = List._++_ t21 (List._++_ t22 t2); slots = List._∷_ (Row.lease (κs .0) (qs .0)) (List._∷_ (Row.lease (κs .1 .0) (qs .1 .0)) (List._∷_ (Row.lease (κs .1 .1 .0) (qs .1 .1 .0)) (List._∷_ (Row.lease (κs .1 .1 .1 .0) (qs .1 .1 .1 .0)) (List._∷_ Row.off (List._∷_ Row.off (List._∷_ Row.off (List._∷_ Row.off (List._∷_ Row.off (List._∷_ Row.off (List._∷_ Row.off List.[])))))))))); }
+        G44 = record { locals = List._++_ t21 (List._++_ t22 t2); slots = List._∷_ (Row.lease (κs .0) (qs .0)) (List._∷_ (Row.lease (κs .1 .0) (qs .1 .0)) (List._∷_ (Row.lease (κs .1 .1 .0) (qs .1 .1 .0)) (List._∷_ (Row.lease (κs .1 .1 .1 .0) (qs .1 .1 .1 .0)) (List._∷_ Row.off (List._∷_ Row.off (List._∷_ Row.off (List._∷_ Row.off (List._∷_ Row.off (List._∷_ Row.off (List._∷_ Row.off List.[])))))))))) }
 
         abbrev G45 : Row.Cx
-        G45 = record { locals = List._++_ t21 (List._++_ t1 t2); slots = List._∷_ (Row.lease (κs .0) (qs .0)) (List._∷_ (Row.lease (κs .1 .0) (qs .1 .0)) (List._∷_ (Row.lease (κs .1 .1 .0) (qs .1 .1 .0)) (List._∷_ (Row.lease (κs .1 .1 .1 .0) (qs .1 .1 .1 .0)) (List._∷_ Row.off (List._∷_ Row.off (List._∷_ Row.off (List._∷_ Row.off (List._∷_ Row.off (List._∷_ Row.off (List._∷_ Row.off List.[])))))))))); }
+        G45 = record { locals = List._++_ t21 (List._++_ t1 t2); slots = List._∷_ (Row.lease (κs .0) (qs .0)) (List._∷_ (Row.lease (κs .1 .0) (qs .1 .0)) (List._∷_ (Row.lease (κs .1 .1 .0) (qs .1 .1 .0)) (List._∷_ (Row.lease (κs .1 .1 .1 .0) (qs .1 .1 .1 .0)) (List._∷_ Row.off (List._∷_ Row.off (List._∷_ Row.off (List._∷_ Row.off (List._∷_ Row.off (List._∷_ Row.off (List._∷_ Row.off List.[])))))))))) }
 
         abbrev G46 : Row.Cx
-        G46 = record { locals = List._++_ t21 (List._++_ t1 t2); slots = List._∷_ (Row.lease (κs .0) (qs .0)) (List._∷_ (Row.lease (κs .1 .0) (qs .1 .0)) (List._∷_ (Row.lease (κs .1 .1 .0) (qs .1 .1 .0)) (List._∷_ (Row.lease (κs .1 .1 .1 .0) (qs .1 .1 .1 .0)) (List._∷_ Row.off (List._∷_ Row.off (List._∷_ Row.off (List._∷_ Row.off (List._∷_ Row.off (List._∷_ Row.off (List._∷_ Row.off List.[])))))))))); }
+        G46 = record { locals = List._++_ t21 (List._++_ t1 t2); slots = List._∷_ (Row.lease (κs .0) (qs .0)) (List._∷_ (Row.lease (κs .1 .0) (qs .1 .0)) (List._∷_ (Row.lease (κs .1 .1 .0) (qs .1 .1 .0)) (List._∷_ (Row.lease (κs .1 .1 .1 .0) (qs .1 .1 .1 .0)) (List._∷_ Row.off (List._∷_ Row.off (List._∷_ Row.off (List._∷_ Row.off (List._∷_ Row.off (List._∷_ Row.off (List._∷_ Row.off List.[])))))))))) }
 
         abbrev G47 : Row.Cx
-        G47 = record { locals = List._++_ t21 (List._++_ t1 t2); slots = List._∷_ (Row.lease (κs .0) (qs .0)) (List._∷_ (Row.lease (κs .1 .0) (qs .1 .0)) (List._∷_ (Row.lease (κs .1 .1 .0) (qs .1 .1 .0)) (List._∷_ (Row.lease (κs .1 .1 .1 .0) (qs .1 .1 .1 .0)) (List._∷_ Row.off (List._∷_ Row.off (List._∷_ Row.off (List._∷_ Row.off (List._∷_ Row.off (List._∷_ Row.off (List._∷_ Row.off List.[])))))))))); }
+        G47 = record { locals = List._++_ t21 (List._++_ t1 t2); slots = List._∷_ (Row.lease (κs .0) (qs .0)) (List._∷_ (Row.lease (κs .1 .0) (qs .1 .0)) (List._∷_ (Row.lease (κs .1 .1 .0) (qs .1 .1 .0)) (List._∷_ (Row.lease (κs .1 .1 .1 .0) (qs .1 .1 .1 .0)) (List._∷_ Row.off (List._∷_ Row.off (List._∷_ Row.off (List._∷_ Row.off (List._∷_ Row.off (List._∷_ Row.off (List._∷_ Row.off List.[])))))))))) }
 
         abbrev G48 : Row.Cx
-        G48 = record { locals = List._++_ t21 (List._++_ t23 t2); slots = List._∷_ (Row.lease (κs .0) (qs .0)) (List._∷_ (Row.lease (κs .1 .0) (qs .1 .0)) (List._∷_ (Row.lease (κs .1 .1 .0) (qs .1 .1 .0)) (List._∷_ (Row.lease (κs .1 .1 .1 .0) (qs .1 .1 .1 .0)) (List._∷_ Row.off (List._∷_ Row.off (List._∷_ Row.off (List._∷_ Row.off (List._∷_ Row.off (List._∷_ Row.off (List._∷_ Row.off List.[])))))))))); }
+        G48 = record { locals = List._++_ t21 (List._++_ t23 t2); slots = List._∷_ (Row.lease (κs .0) (qs .0)) (List._∷_ (Row.lease (κs .1 .0) (qs .1 .0)) (List._∷_ (Row.lease (κs .1 .1 .0) (qs .1 .1 .0)) (List._∷_ (Row.lease (κs .1 .1 .1 .0) (qs .1 .1 .1 .0)) (List._∷_ Row.off (List._∷_ Row.off (List._∷_ Row.off (List._∷_ Row.off (List._∷_ Row.off (List._∷_ Row.off (List._∷_ Row.off List.[])))))))))) }
 
         abbrev G49 : Row.Cx
-        G49 = record { locals = List._++_ t21 (List._++_ t24 t2); slots = List._∷_ (Row.lease (κs .0) (qs .0)) (List._∷_ (Row.lease (κs .1 .0) (qs .1 .0)) (List._∷_ (Row.lease (κs .1 .1 .0) (qs .1 .1 .0)) (List._∷_ (Row.lease (κs .1 .1 .1 .0) (qs .1 .1 .1 .0)) (List._∷_ Row.off (List._∷_ Row.off (List._∷_ Row.off (List._∷_ Row.off (List._∷_ Row.off (List._∷_ Row.off (List._∷_ Row.off List.[])))))))))); }
+        G49 = record { locals = List._++_ t21 (List._++_ t24 t2); slots = List._∷_ (Row.lease (κs .0) (qs .0)) (List._∷_ (Row.lease (κs .1 .0) (qs .1 .0)) (List._∷_ (Row.lease (κs .1 .1 .0) (qs .1 .1 .0)) (List._∷_ (Row.lease (κs .1 .1 .1 .0) (qs .1 .1 .1 .0)) (List._∷_ Row.off (List._∷_ Row.off (List._∷_ Row.off (List._∷_ Row.off (List._∷_ Row.off (List._∷_ Row.off (List._∷_ Row.off List.[])))))))))) }
 
         abbrev G50 : Row.Cx
-        G50 = record { locals = List._++_ t21 (List._++_ t25 t2); slots = List._∷_ (Row.lease (κs .0) (qs .0)) (List._∷_ (Row.lease (κs .1 .0) (qs .1 .0)) (List._∷_ (Row.lease (κs .1 .1 .0) (qs .1 .1 .0)) (List._∷_ (Row.lease (κs .1 .1 .1 .0) (qs .1 .1 .1 .0)) (List._∷_ Row.off (List._∷_ Row.off (List._∷_ Row.off (List._∷_ Row.off (List._∷_ Row.off (List._∷_ Row.off (List._∷_ Row.off List.[])))))))))); }
+        G50 = record { locals = List._++_ t21 (List._++_ t25 t2); slots = List._∷_ (Row.lease (κs .0) (qs .0)) (List._∷_ (Row.lease (κs .1 .0) (qs .1 .0)) (List._∷_ (Row.lease (κs .1 .1 .0) (qs .1 .1 .0)) (List._∷_ (Row.lease (κs .1 .1 .1 .0) (qs .1 .1 .1 .0)) (List._∷_ Row.off (List._∷_ Row.off (List._∷_ Row.off (List._∷_ Row.off (List._∷_ Row.off (List._∷_ Row.off (List._∷_ Row.off List.[])))))))))) }
 
         abbrev G51 : Row.Cx
-        G51 = record { locals = List._++_ t21 (List._++_ t26 t2); slots = List._∷_ (Row.lease (κs .0) (qs .0)) (List._∷_ (Row.lease (κs .1 .0) (qs .1 .0)) (List._∷_ (Row.lease (κs .1 .1 .0) (qs .1 .1 .0)) (List._∷_ (Row.lease (κs .1 .1 .1 .0) (qs .1 .1 .1 .0)) (List._∷_ Row.off (List._∷_ Row.off (List._∷_ Row.off (List._∷_ Row.off (List._∷_ Row.off (List._∷_ Row.off (List._∷_ Row.off List.[])))))))))); }
+        G51 = record { locals = List._++_ t21 (List._++_ t26 t2); slots = List._∷_ (Row.lease (κs .0) (qs .0)) (List._∷_ (Row.lease (κs .1 .0) (qs .1 .0)) (List._∷_ (Row.lease (κs .1 .1 .0) (qs .1 .1 .0)) (List._∷_ (Row.lease (κs .1 .1 .1 .0) (qs .1 .1 .1 .0)) (List._∷_ Row.off (List._∷_ Row.off (List._∷_ Row.off (List._∷_ Row.off (List._∷_ Row.off (List._∷_ Row.off (List._∷_ Row.off List.[])))))))))) }
 
         abbrev G52 : Row.Cx
-        G52 = record { locals = List._++_ t21 (List._++_ t27 t2); slots = List._∷_ (Row.lease (κs .0) (qs .0)) (List._∷_ (Row.lease (κs .1 .0) (qs .1 .0)) (List._∷_ (Row.lease (κs .1 .1 .0) (qs .1 .1 .0)) (List._∷_ (Row.lease (κs .1 .1 .1 .0) (qs .1 .1 .1 .0)) (List._∷_ Row.off (List._∷_ Row.off (List._∷_ Row.off (List._∷_ Row.off (List._∷_ Row.off (List._∷_ Row.off (List._∷_ Row.off List.[])))))))))); }
+        G52 = record { locals = List._++_ t21 (List._++_ t27 t2); slots = List._∷_ (Row.lease (κs .0) (qs .0)) (List._∷_ (Row.lease (κs .1 .0) (qs .1 .0)) (List._∷_ (Row.lease (κs .1 .1 .0) (qs .1 .1 .0)) (List._∷_ (Row.lease (κs .1 .1 .1 .0) (qs .1 .1 .1 .0)) (List._∷_ Row.off (List._∷_ Row.off (List._∷_ Row.off (List._∷_ Row.off (List._∷_ Row.off (List._∷_ Row.off (List._∷_ Row.off List.[])))))))))) }
 
         abbrev G53 : Row.Cx
-        G53 = record { locals = List._++_ t21 (List._++_ t27 t2); slots = List._∷_ (Row.lease (κs .0) (qs .0)) (List._∷_ (Row.lease (κs .1 .0) (qs .1 .0)) (List._∷_ (Row.lease (κs .1 .1 .0) (qs .1 .1 .0)) (List._∷_ (Row.lease (κs .1 .1 .1 .0) (qs .1 .1 .1 .0)) (List._∷_ Row.off (List._∷_ Row.off (List._∷_ Row.off (List._∷_ Row.alive (List._∷_ Row.off (List._∷_ Row.off (List._∷_ Row.off List.[])))))))))); }
+        G53 = record { locals = List._++_ t21 (List._++_ t27 t2); slots = List._∷_ (Row.lease (κs .0) (qs .0)) (List._∷_ (Row.lease (κs .1 .0) (qs .1 .0)) (List._∷_ (Row.lease (κs .1 .1 .0) (qs .1 .1 .0)) (List._∷_ (Row.lease (κs .1 .1 .1 .0) (qs .1 .1 .1 .0)) (List._∷_ Row.off (List._∷_ Row.off (List._∷_ Row.off (List._∷_ Row.alive (List._∷_ Row.off (List._∷_ Row.off (List._∷_ Row.off List.[])))))))))) }
 
         abbrev G54 : Row.Cx
-        G54 = record { locals = List._++_ g28 (List._++_ t29 t2); slots = List._∷_ (Row.lease (κs .0) (qs .0)) (List._∷_ (Row.lease (κs .1 .0) (qs .1 .0)) (List._∷_ Row.off (List._∷_ (Row.lease (κs .1 .1 .1 .0) (qs .1 .1 .1 .0)) (List._∷_ Row.off (List._∷_ Row.off (List._∷_ Row.off (List._∷_ Row.alive (List._∷_ Row.off (List._∷_ Row.off (List._∷_ Row.off List.[])))))))))); }
+        G54 = record { locals = List._++_ g28 (List._++_ t29 t2); slots = List._∷_ (Row.lease (κs .0) (qs .0)) (List._∷_ (Row.lease (κs .1 .0) (qs .1 .0)) (List._∷_ Row.off (List._∷_ (Row.lease (κs .1 .1 .1 .0) (qs .1 .1 .1 .0)) (List._∷_ Row.off (List._∷_ Row.off (List._∷_ Row.off (List._∷_ Row.alive (List._∷_ Row.off (List._∷_ Row.off (List._∷_ Row.off List.[])))))))))) }
 
         abbrev G55 : Row.Cx
-        G55 = record { locals = List._++_ g28 (List._++_ t30 t2); slots = List._∷_ (Row.lease (κs .0) (qs .0)) (List._∷_ (Row.lease (κs .1 .0) (qs .1 .0)) (List._∷_ Row.off (List._∷_ (Row.lease (κs .1 .1 .1 .0) (qs .1 .1 .1 .0)) (List._∷_ Row.off (List._∷_ Row.off (List._∷_ Row.off (List._∷_ Row.alive (List._∷_ Row.off (List._∷_ Row.off (List._∷_ Row.off List.[])))))))))); }
+        G55 = record { locals = List._++_ g28 (List._++_ t30 t2); slots = List._∷_ (Row.lease (κs .0) (qs .0)) (List._∷_ (Row.lease (κs .1 .0) (qs .1 .0)) (List._∷_ Row.off (List._∷_ (Row.lease (κs .1 .1 .1 .0) (qs .1 .1 .1 .0)) (List._∷_ Row.off (List._∷_ Row.off (List._∷_ Row.off (List._∷_ Row.alive (List._∷_ Row.off (List._∷_ Row.off (List._∷_ Row.off List.[])))))))))) }
 
         abbrev G56 : Row.Cx
-        G56 = record { locals = List._++_ g28 (List._++_ t30 t2); slots = List._∷_ (Row.lease (κs .0) (qs .0)) (List._∷_ (Row.lease (κs .1 .0) (qs .1 .0)) (List._∷_ Row.off (List._∷_ (Row.lease (κs .1 .1 .1 .0) (qs .1 .1 .1 .0)) (List._∷_ Row.off (List._∷_ Row.off (List._∷_ Row.off (List._∷_ Row.alive (List._∷_ Row.alive (List._∷_ Row.off (List._∷_ Row.off List.[])))))))))); }
+        G56 = record { locals = List._++_ g28 (List._++_ t30 t2); slots = List._∷_ (Row.lease (κs .0) (qs .0)) (List._∷_ (Row.lease (κs .1 .0) (qs .1 .0)) (List._∷_ Row.off (List._∷_ (Row.lease (κs .1 .1 .1 .0) (qs .1 .1 .1 .0)) (List._∷_ Row.off (List._∷_ Row.off (List._∷_ Row.off (List._∷_ Row.alive (List._∷_ Row.alive (List._∷_ Row.off (List._∷_ Row.off List.[])))))))))) }
 
         abbrev G57 : Row.Cx
-        G57 = record { locals = List._++_ g31 (List._++_ t32 t2); slots = List._∷_ (Row.lease (κs .0) (qs .0)) (List._∷_ (Row.lease (κs .1 .0) (qs .1 .0)) (List._∷_ Row.off (List._∷_ Row.off (List._∷_ Row.off (List._∷_ Row.off (List._∷_ Row.off (List._∷_ Row.alive (List._∷_ Row.alive (List._∷_ Row.off (List._∷_ Row.off List.[])))))))))); }
+        G57 = record { locals = List._++_ g31 (List._++_ t32 t2); slots = List._∷_ (Row.lease (κs .0) (qs .0)) (List._∷_ (Row.lease (κs .1 .0) (qs .1 .0)) (List._∷_ Row.off (List._∷_ Row.off (List._∷_ Row.off (List._∷_ Row.off (List._∷_ Row.off (List._∷_ Row.alive (List._∷_ Row.alive (List._∷_ Row.off (List._∷_ Row.off List.[])))))))))) }
 
         abbrev G58 : Row.Cx
-        G58 = record { locals = List._++_ g31 (List._++_ t33 t2); slots = List._∷_ (Row.lease (κs .0) (qs .0)) (List._∷_ (Row.lease (κs .1 .0) (qs .1 .0)) (List._∷_ Row.off (List._∷_ Row.off (List._∷_ Row.off (List._∷_ Row.off (List._∷_ Row.off (List._∷_ Row.alive (List._∷_ Row.alive (List._∷_ Row.off (List._∷_ Row.off List.[])))))))))); }
+        G58 = record { locals = List._++_ g31 (List._++_ t33 t2); slots = List._∷_ (Row.lease (κs .0) (qs .0)) (List._∷_ (Row.lease (κs .1 .0) (qs .1 .0)) (List._∷_ Row.off (List._∷_ Row.off (List._∷_ Row.off (List._∷_ Row.off (List._∷_ Row.off (List._∷_ Row.alive (List._∷_ Row.alive (List._∷_ Row.off (List._∷_ Row.off List.[])))))))))) }
 
         abbrev G59 : Row.Cx
-        G59 = record { locals = List._++_ g34 (List._++_ t35 t2); slots = List._∷_ (Row.lease (κs .0) (qs .0)) (List._∷_ (Row.lease (κs .1 .0) (qs .1 .0)) (List._∷_ Row.off (List._∷_ Row.off (List._∷_ Row.off (List._∷_ Row.off (List._∷_ Row.off (List._∷_ Row.alive (List._∷_ Row.alive (List._∷_ Row.off (List._∷_ Row.off List.[])))))))))); }
+        G59 = record { locals = List._++_ g34 (List._++_ t35 t2); slots = List._∷_ (Row.lease (κs .0) (qs .0)) (List._∷_ (Row.lease (κs .1 .0) (qs .1 .0)) (List._∷_ Row.off (List._∷_ Row.off (List._∷_ Row.off (List._∷_ Row.off (List._∷_ Row.off (List._∷_ Row.alive (List._∷_ Row.alive (List._∷_ Row.off (List._∷_ Row.off List.[])))))))))) }
 
         abbrev G60 : Row.Cx
-        G60 = record { locals = List._++_ g34 (List._++_ t36 t2); slots = List._∷_ (Row.lease (κs .0) (qs .0)) (List._∷_ (Row.lease (κs .1 .0) (qs .1 .0)) (List._∷_ Row.off (List._∷_ Row.off (List._∷_ Row.off (List._∷_ Row.off (List._∷_ Row.off (List._∷_ Row.alive (List._∷_ Row.alive (List._∷_ Row.off (List._∷_ Row.off List.[])))))))))); }
+        G60 = record { locals = List._++_ g34 (List._++_ t36 t2); slots = List._∷_ (Row.lease (κs .0) (qs .0)) (List._∷_ (Row.lease (κs .1 .0) (qs .1 .0)) (List._∷_ Row.off (List._∷_ Row.off (List._∷_ Row.off (List._∷_ Row.off (List._∷_ Row.off (List._∷_ Row.alive (List._∷_ Row.alive (List._∷_ Row.off (List._∷_ Row.off List.[])))))))))) }
 
         abbrev G61 : Row.Cx
-        G61 = record { locals = List._++_ g34 (List._++_ t37 t2); slots = List._∷_ (Row.lease (κs .0) (qs .0)) (List._∷_ (Row.lease (κs .1 .0) (qs .1 .0)) (List._∷_ Row.off (List._∷_ Row.off (List._∷_ Row.off (List._∷_ Row.off (List._∷_ Row.off (List._∷_ Row.alive (List._∷_ Row.alive (List._∷_ Row.off (List._∷_ Row.off List.[])))))))))); }
+        G61 = record { locals = List._++_ g34 (List._++_ t37 t2); slots = List._∷_ (Row.lease (κs .0) (qs .0)) (List._∷_ (Row.lease (κs .1 .0) (qs .1 .0)) (List._∷_ Row.off (List._∷_ Row.off (List._∷_ Row.off (List._∷_ Row.off (List._∷_ Row.off (List._∷_ Row.alive (List._∷_ Row.alive (List._∷_ Row.off (List._∷_ Row.off List.[])))))))))) }
 
         abbrev G62 : Row.Cx
-        G62 = record { locals = List._++_ g34 (List._++_ t37 t2); slots = List._∷_ (Row.lease (κs .0) (qs .0)) (List._∷_ (Row.lease (κs .1 .0) (qs .1 .0)) (List._∷_ Row.off (List._∷_ Row.off (List._∷_ Row.off (List._∷_ Row.off (List._∷_ Row.off (List._∷_ Row.dead (List._∷_ Row.alive (List._∷_ Row.off (List._∷_ Row.off List.[])))))))))); }
+        G62 = record { locals = List._++_ g34 (List._++_ t37 t2); slots = List._∷_ (Row.lease (κs .0) (qs .0)) (List._∷_ (Row.lease (κs .1 .0) (qs .1 .0)) (List._∷_ Row.off (List._∷_ Row.off (List._∷_ Row.off (List._∷_ Row.off (List._∷_ Row.off (List._∷_ Row.dead (List._∷_ Row.alive (List._∷_ Row.off (List._∷_ Row.off List.[])))))))))) }
 
         abbrev G63 : Row.Cx
-        G63 = record { locals = List._++_ g38 (List._++_ t37 t2); slots = List._∷_ (Row.lease (κs .0) (qs .0)) (List._∷_ (Row.lease (κs .1 .0) (qs .1 .0)) (List._∷_ (Row.lease (κs .1 .1 .0) (qs .1 .1 .0)) (List._∷_ Row.off (List._∷_ Row.off (List._∷_ Row.off (List._∷_ Row.off (List._∷_ Row.dead (List._∷_ Row.alive (List._∷_ Row.off (List._∷_ Row.off List.[])))))))))); }
+        G63 = record { locals = List._++_ g38 (List._++_ t37 t2); slots = List._∷_ (Row.lease (κs .0) (qs .0)) (List._∷_ (Row.lease (κs .1 .0) (qs .1 .0)) (List._∷_ (Row.lease (κs .1 .1 .0) (qs .1 .1 .0)) (List._∷_ Row.off (List._∷_ Row.off (List._∷_ Row.off (List._∷_ Row.off (List._∷_ Row.dead (List._∷_ Row.alive (List._∷_ Row.off (List._∷_ Row.off List.[])))))))))) }
 
         abbrev G64 : Row.Cx
-        G64 = record { locals = List._++_ g38 (List._++_ t37 t2); slots = List._∷_ (Row.lease (κs .0) (qs .0)) (List._∷_ (Row.lease (κs .1 .0) (qs .1 .0)) (List._∷_ (Row.lease (κs .1 .1 .0) (qs .1 .1 .0)) (List._∷_ Row.off (List._∷_ Row.off (List._∷_ Row.off (List._∷_ Row.off (List._∷_ Row.off (List._∷_ Row.alive (List._∷_ Row.off (List._∷_ Row.off List.[])))))))))); }
+        G64 = record { locals = List._++_ g38 (List._++_ t37 t2); slots = List._∷_ (Row.lease (κs .0) (qs .0)) (List._∷_ (Row.lease (κs .1 .0) (qs .1 .0)) (List._∷_ (Row.lease (κs .1 .1 .0) (qs .1 .1 .0)) (List._∷_ Row.off (List._∷_ Row.off (List._∷_ Row.off (List._∷_ Row.off (List._∷_ Row.off (List._∷_ Row.alive (List._∷_ Row.off (List._∷_ Row.off List.[])))))))))) }
 
         abbrev G65 : Row.Cx
-        G65 = record { locals = List._++_ g38 (List._++_ t37 t2); slots = List._∷_ (Row.lease (κs .0) (qs .0)) (List._∷_ (Row.lease (κs .1 .0) (qs .1 .0)) (List._∷_ (Row.lease (κs .1 .1 .0) (qs .1 .1 .0)) (List._∷_ Row.off (List._∷_ Row.off (List._∷_ Row.off (List._∷_ Row.off (List._∷_ Row.off (List._∷_ Row.dead (List._∷_ Row.off (List._∷_ Row.off List.[])))))))))); }
+        G65 = record { locals = List._++_ g38 (List._++_ t37 t2); slots = List._∷_ (Row.lease (κs .0) (qs .0)) (List._∷_ (Row.lease (κs .1 .0) (qs .1 .0)) (List._∷_ (Row.lease (κs .1 .1 .0) (qs .1 .1 .0)) (List._∷_ Row.off (List._∷_ Row.off (List._∷_ Row.off (List._∷_ Row.off (List._∷_ Row.off (List._∷_ Row.dead (List._∷_ Row.off (List._∷_ Row.off List.[])))))))))) }
 
         abbrev G66 : Row.Cx
-        G66 = record { locals = List._++_ t39 (List._++_ t1 t2); slots = List._∷_ (Row.lease (κs .0) (qs .0)) (List._∷_ (Row.lease (κs .1 .0) (qs .1 .0)) (List._∷_ (Row.lease (κs .1 .1 .0) (qs .1 .1 .0)) (List._∷_ (Row.lease (κs .1 .1 .1 .0) (qs .1 .1 .1 .0)) (List._∷_ Row.off (List._∷_ Row.off (List._∷_ Row.off (List._∷_ Row.off (List._∷_ Row.dead (List._∷_ Row.off (List._∷_ Row.off List.[])))))))))); }
+        G66 = record { locals = List._++_ t39 (List._++_ t1 t2); slots = List._∷_ (Row.lease (κs .0) (qs .0)) (List._∷_ (Row.lease (κs .1 .0) (qs .1 .0)) (List._∷_ (Row.lease (κs .1 .1 .0) (qs .1 .1 .0)) (List._∷_ (Row.lease (κs .1 .1 .1 .0) (qs .1 .1 .1 .0)) (List._∷_ Row.off (List._∷_ Row.off (List._∷_ Row.off (List._∷_ Row.off (List._∷_ Row.dead (List._∷_ Row.off (List._∷_ Row.off List.[])))))))))) }
 
         abbrev G67 : Row.Cx
-        G67 = record { locals = List._++_ t39 (List._++_ t1 t2); slots = List._∷_ (Row.lease (κs .0) (qs .0)) (List._∷_ (Row.lease (κs .1 .0) (qs .1 .0)) (List._∷_ (Row.lease (κs .1 .1 .0) (qs .1 .1 .0)) (List._∷_ (Row.lease (κs .1 .1 .1 .0) (qs .1 .1 .1 .0)) (List._∷_ Row.off (List._∷_ Row.off (List._∷_ Row.off (List._∷_ Row.off (List._∷_ Row.dead (List._∷_ Row.off (List._∷_ Row.off List.[])))))))))); }
+        G67 = record { locals = List._++_ t39 (List._++_ t1 t2); slots = List._∷_ (Row.lease (κs .0) (qs .0)) (List._∷_ (Row.lease (κs .1 .0) (qs .1 .0)) (List._∷_ (Row.lease (κs .1 .1 .0) (qs .1 .1 .0)) (List._∷_ (Row.lease (κs .1 .1 .1 .0) (qs .1 .1 .1 .0)) (List._∷_ Row.off (List._∷_ Row.off (List._∷_ Row.off (List._∷_ Row.off (List._∷_ Row.dead (List._∷_ Row.off (List._∷_ Row.off List.[])))))))))) }
 
         abbrev G68 : Row.Cx
-        G68 = record { locals = List._++_ t39 (List._++_ t1 t2); slots = List._∷_ (Row.lease (κs .0) (qs .0)) (List._∷_ (Row.lease (κs .1 .0) (qs .1 .0)) (List._∷_ (Row.lease (κs .1 .1 .0) (qs .1 .1 .0)) (List._∷_ (Row.lease (κs .1 .1 .1 .0) (qs .1 .1 .1 .0)) (List._∷_ Row.off (List._∷_ Row.off (List._∷_ Row.off (List._∷_ Row.off (List._∷_ Row.off (List._∷_ Row.off (List._∷_ Row.off List.[])))))))))); }
+        G68 = record { locals = List._++_ t39 (List._++_ t1 t2); slots = List._∷_ (Row.lease (κs .0) (qs .0)) (List._∷_ (Row.lease (κs .1 .0) (qs .1 .0)) (List._∷_ (Row.lease (κs .1 .1 .0) (qs .1 .1 .0)) (List._∷_ (Row.lease (κs .1 .1 .1 .0) (qs .1 .1 .1 .0)) (List._∷_ Row.off (List._∷_ Row.off (List._∷_ Row.off (List._∷_ Row.off (List._∷_ Row.off (List._∷_ Row.off (List._∷_ Row.off List.[])))))))))) }
 
         abbrev G69 : Row.Cx
-        G69 = record { locals = List._++_ t39 (List._++_ t1 t2); slots = List._∷_ (Row.lease (κs .0) (qs .0)) (List._∷_ (Row.lease (κs .1 .0) (qs .1 .0)) (List._∷_ (Row.lease (κs .1 .1 .0) (qs .1 .1 .0)) (List._∷_ (Row.lease (κs .1 .1 .1 .0) (qs .1 .1 .1 .0)) (List._∷_ Row.off (List._∷_ Row.off (List._∷_ Row.off (List._∷_ Row.off (List._∷_ Row.off (List._∷_ Row.off (List._∷_ Row.off List.[])))))))))); }
+        G69 = record { locals = List._++_ t39 (List._++_ t1 t2); slots = List._∷_ (Row.lease (κs .0) (qs .0)) (List._∷_ (Row.lease (κs .1 .0) (qs .1 .0)) (List._∷_ (Row.lease (κs .1 .1 .0) (qs .1 .1 .0)) (List._∷_ (Row.lease (κs .1 .1 .1 .0) (qs .1 .1 .1 .0)) (List._∷_ Row.off (List._∷_ Row.off (List._∷_ Row.off (List._∷_ Row.off (List._∷_ Row.off (List._∷_ Row.off (List._∷_ Row.off List.[])))))))))) }
 
         abbrev G70 : Row.Cx
-        G70 = record { locals = List._++_ t39 (List._++_ t23 t2); slots = List._∷_ (Row.lease (κs .0) (qs .0)) (List._∷_ (Row.lease (κs .1 .0) (qs .1 .0)) (List._∷_ (Row.lease (κs .1 .1 .0) (qs .1 .1 .0)) (List._∷_ (Row.lease (κs .1 .1 .1 .0) (qs .1 .1 .1 .0)) (List._∷_ Row.off (List._∷_ Row.off (List._∷_ Row.off (List._∷_ Row.off (List._∷_ Row.off (List._∷_ Row.off (List._∷_ Row.off List.[])))))))))); }
+        G70 = record { locals = List._++_ t39 (List._++_ t23 t2); slots = List._∷_ (Row.lease (κs .0) (qs .0)) (List._∷_ (Row.lease (κs .1 .0) (qs .1 .0)) (List._∷_ (Row.lease (κs .1 .1 .0) (qs .1 .1 .0)) (List._∷_ (Row.lease (κs .1 .1 .1 .0) (qs .1 .1 .1 .0)) (List._∷_ Row.off (List._∷_ Row.off (List._∷_ Row.off (List._∷_ Row.off (List._∷_ Row.off (List._∷_ Row.off (List._∷_ Row.off List.[])))))))))) }
 
         abbrev G71 : Row.Cx
-        G71 = record { locals = List._++_ t39 (List._++_ t40 t2); slots = List._∷_ (Row.lease (κs .0) (qs .0)) (List._∷_ (Row.lease (κs .1 .0) (qs .1 .0)) (List._∷_ (Row.lease (κs .1 .1 .0) (qs .1 .1 .0)) (List._∷_ (Row.lease (κs .1 .1 .1 .0) (qs .1 .1 .1 .0)) (List._∷_ Row.off (List._∷_ Row.off (List._∷_ Row.off (List._∷_ Row.off (List._∷_ Row.off (List._∷_ Row.off (List._∷_ Row.off List.[])))))))))); }
+        G71 = record { locals = List._++_ t39 (List._++_ t40 t2); slots = List._∷_ (Row.lease (κs .0) (qs .0)) (List._∷_ (Row.lease (κs .1 .0) (qs .1 .0)) (List._∷_ (Row.lease (κs .1 .1 .0) (qs .1 .1 .0)) (List._∷_ (Row.lease (κs .1 .1 .1 .0) (qs .1 .1 .1 .0)) (List._∷_ Row.off (List._∷_ Row.off (List._∷_ Row.off (List._∷_ Row.off (List._∷_ Row.off (List._∷_ Row.off (List._∷_ Row.off List.[])))))))))) }
 
         abbrev G72 : Row.Cx
-        G72 = record { locals = List._++_ t39 (List._++_ t40 t2); slots = List._∷_ (Row.lease (κs .0) (qs .0)) (List._∷_ (Row.lease (κs .1 .0) (qs .1 .0)) (List._∷_ (Row.lease (κs .1 .1 .0) (qs .1 .1 .0)) (List._∷_ (Row.lease (κs .1 .1 .1 .0) (qs .1 .1 .1 .0)) (List._∷_ Row.off (List._∷_ Row.off (List._∷_ Row.off (List._∷_ Row.off (List._∷_ Row.off (List._∷_ Row.off (List._∷_ Row.off List.[])))))))))); }
+        G72 = record { locals = List._++_ t39 (List._++_ t40 t2); slots = List._∷_ (Row.lease (κs .0) (qs .0)) (List._∷_ (Row.lease (κs .1 .0) (qs .1 .0)) (List._∷_ (Row.lease (κs .1 .1 .0) (qs .1 .1 .0)) (List._∷_ (Row.lease (κs .1 .1 .1 .0) (qs .1 .1 .1 .0)) (List._∷_ Row.off (List._∷_ Row.off (List._∷_ Row.off (List._∷_ Row.off (List._∷_ Row.off (List._∷_ Row.off (List._∷_ Row.off List.[])))))))))) }
 
         abbrev G73 : Row.Cx
-        G73 = record { locals = List._++_ t21 (List._++_ t40 t2); slots = List._∷_ (Row.lease (κs .0) (qs .0)) (List._∷_ (Row.lease (κs .1 .0) (qs .1 .0)) (List._∷_ (Row.lease (κs .1 .1 .0) (qs .1 .1 .0)) (List._∷_ (Row.lease (κs .1 .1 .1 .0) (qs .1 .1 .1 .0)) (List._∷_ Row.off (List._∷_ Row.off (List._∷_ Row.off (List._∷_ Row.off (List._∷_ Row.off (List._∷_ Row.off (List._∷_ Row.off List.[])))))))))); }
+        G73 = record { locals = List._++_ t21 (List._++_ t40 t2); slots = List._∷_ (Row.lease (κs .0) (qs .0)) (List._∷_ (Row.lease (κs .1 .0) (qs .1 .0)) (List._∷_ (Row.lease (κs .1 .1 .0) (qs .1 .1 .0)) (List._∷_ (Row.lease (κs .1 .1 .1 .0) (qs .1 .1 .1 .0)) (List._∷_ Row.off (List._∷_ Row.off (List._∷_ Row.off (List._∷_ Row.off (List._∷_ Row.off (List._∷_ Row.off (List._∷_ Row.off List.[])))))))))) }
 
         abbrev G74 : Row.Cx
-        G74 = record { locals = List._++_ t21 (List._++_ t41 t2); slots = List._∷_ (Row.lease (κs .0) (qs .0)) (List._∷_ (Row.lease (κs .1 .0) (qs .1 .0)) (List._∷_ (Row.lease (κs .1 .1 .0) (qs .1 .1 .0)) (List._∷_ (Row.lease (κs .1 .1 .1 .0) (qs .1 .1 .1 .0)) (List._∷_ Row.off (List._∷_ Row.off (List._∷_ Row.off (List._∷_ Row.off (List._∷_ Row.off (List._∷_ Row.off (List._∷_ Row.off List.[])))))))))); }
+        G74 = record { locals = List._++_ t21 (List._++_ t41 t2); slots = List._∷_ (Row.lease (κs .0) (qs .0)) (List._∷_ (Row.lease (κs .1 .0) (qs .1 .0)) (List._∷_ (Row.lease (κs .1 .1 .0) (qs .1 .1 .0)) (List._∷_ (Row.lease (κs .1 .1 .1 .0) (qs .1 .1 .1 .0)) (List._∷_ Row.off (List._∷_ Row.off (List._∷_ Row.off (List._∷_ Row.off (List._∷_ Row.off (List._∷_ Row.off (List._∷_ Row.off List.[])))))))))) }
 
         abbrev G75 : Row.Cx
-        G75 = record { locals = List._++_ t21 (List._++_ t1 t2); slots = List._∷_ (Row.lease (κs .0) (qs .0)) (List._∷_ (Row.lease (κs .1 .0) (qs .1 .0)) (List._∷_ (Row.lease (κs .1 .1 .0) (qs .1 .1 .0)) (List._∷_ (Row.lease (κs .1 .1 .1 .0) (qs .1 .1 .1 .0)) (List._∷_ Row.off (List._∷_ Row.off (List._∷_ Row.off (List._∷_ Row.off (List._∷_ Row.off (List._∷_ Row.off (List._∷_ Row.off List.[])))))))))); }
+        G75 = record { locals = List._++_ t21 (List._++_ t1 t2); slots = List._∷_ (Row.lease (κs .0) (qs .0)) (List._∷_ (Row.lease (κs .1 .0) (qs .1 .0)) (List._∷_ (Row.lease (κs .1 .1 .0) (qs .1 .1 .0)) (List._∷_ (Row.lease (κs .1 .1 .1 .0) (qs .1 .1 .1 .0)) (List._∷_ Row.off (List._∷_ Row.off (List._∷_ Row.off (List._∷_ Row.off (List._∷_ Row.off (List._∷_ Row.off (List._∷_ Row.off List.[])))))))))) }
 
         abbrev G76 : Row.Cx
-        G76 = record { locals = List._++_ t21 (List._++_ t1 t2); slots = List._∷_ (Row.lease (κs .0) (qs .0)) (List._∷_ (Row.lease (κs .1 .0) (qs .1 .0)) (List._∷_ (Row.lease (κs .1 .1 .0) (qs .1 .1 .0)) (List._∷_ (Row.lease (κs .1 .1 .1 .0) (qs .1 .1 .1 .0)) (List._∷_ Row.off (List._∷_ Row.off (List._∷_ Row.off (List._∷_ Row.off (List._∷_ Row.off (List._∷_ Row.off (List._∷_ Row.off List.[])))))))))); }
+        G76 = record { locals = List._++_ t21 (List._++_ t1 t2); slots = List._∷_ (Row.lease (κs .0) (qs .0)) (List._∷_ (Row.lease (κs .1 .0) (qs .1 .0)) (List._∷_ (Row.lease (κs .1 .1 .0) (qs .1 .1 .0)) (List._∷_ (Row.lease (κs .1 .1 .1 .0) (qs .1 .1 .1 .0)) (List._∷_ Row.off (List._∷_ Row.off (List._∷_ Row.off (List._∷_ Row.off (List._∷_ Row.off (List._∷_ Row.off (List._∷_ Row.off List.[])))))))))) }
 
         abbrev G77 : Row.Cx
-        G77 = record { locals = List._++_ t21 (List._++_ t1 t2); slots = List._∷_ (Row.lease (κs .0) (qs .0)) (List._∷_ (Row.lease (κs .1 .0) (qs .1 .0)) (List._∷_ (Row.lease (κs .1 .1 .0) (qs .1 .1 .0)) (List._∷_ (Row.lease (κs .1 .1 .1 .0) (qs .1 .1 .1 .0)) (List._∷_ Row.off (List._∷_ Row.off (List._∷_ Row.off (List._∷_ Row.off (List._∷_ Row.off (List._∷_ Row.alive (List._∷_ Row.off List.[])))))))))); }
+        G77 = record { locals = List._++_ t21 (List._++_ t1 t2); slots = List._∷_ (Row.lease (κs .0) (qs .0)) (List._∷_ (Row.lease (κs .1 .0) (qs .1 .0)) (List._∷_ (Row.lease (κs .1 .1 .0) (qs .1 .1 .0)) (List._∷_ (Row.lease (κs .1 .1 .1 .0) (qs .1 .1 .1 .0)) (List._∷_ Row.off (List._∷_ Row.off (List._∷_ Row.off (List._∷_ Row.off (List._∷_ Row.off (List._∷_ Row.alive (List._∷_ Row.off List.[])))))))))) }
 
         abbrev G78 : Row.Cx
-        G78 = record { locals = List._++_ g42 (List._++_ t43 t2); slots = List._∷_ (Row.lease (κs .0) (qs .0)) (List._∷_ (Row.lease (κs .1 .0) (qs .1 .0)) (List._∷_ Row.off (List._∷_ (Row.lease (κs .1 .1 .1 .0) (qs .1 .1 .1 .0)) (List._∷_ Row.off (List._∷_ Row.off (List._∷_ Row.off (List._∷_ Row.off (List._∷_ Row.off (List._∷_ Row.alive (List._∷_ Row.off List.[])))))))))); }
+        G78 = record { locals = List._++_ g42 (List._++_ t43 t2); slots = List._∷_ (Row.lease (κs .0) (qs .0)) (List._∷_ (Row.lease (κs .1 .0) (qs .1 .0)) (List._∷_ Row.off (List._∷_ (Row.lease (κs .1 .1 .1 .0) (qs .1 .1 .1 .0)) (List._∷_ Row.off (List._∷_ Row.off (List._∷_ Row.off (List._∷_ Row.off (List._∷_ Row.off (List._∷_ Row.alive (List._∷_ Row.off List.[])))))))))) }
 
         abbrev G79 : Row.Cx
-        G79 = record { locals = List._++_ g42 (List._++_ t44 t2); slots = List._∷_ (Row.lease (κs .0) (qs .0)) (List._∷_ (Row.lease (κs .1 .0) (qs .1 .0)) (List._∷_ Row.off (List._∷_ (Row.lease (κs .1 .1 .1 .0) (qs .1 .1 .1 .0)) (List._∷_ Row.off (List._∷_ Row.off (List._∷_ Row.off (List._∷_ Row.off (List._∷_ Row.off (List._∷_ Row.alive (List._∷_ Row.off List.[])))))))))); }
+        G79 = record { locals = List._++_ g42 (List._++_ t44 t2); slots = List._∷_ (Row.lease (κs .0) (qs .0)) (List._∷_ (Row.lease (κs .1 .0) (qs .1 .0)) (List._∷_ Row.off (List._∷_ (Row.lease (κs .1 .1 .1 .0) (qs .1 .1 .1 .0)) (List._∷_ Row.off (List._∷_ Row.off (List._∷_ Row.off (List._∷_ Row.off (List._∷_ Row.off (List._∷_ Row.alive (List._∷_ Row.off List.[])))))))))) }
 
         abbrev G80 : Row.Cx
-        G80 = record { locals = List._++_ g42 (List._++_ t44 t2); slots = List._∷_ (Row.lease (κs .0) (qs .0)) (List._∷_ (Row.lease (κs .1 .0) (qs .1 .0)) (List._∷_ Row.off (List._∷_ (Row.lease (κs .1 .1 .1 .0) (qs .1 .1 .1 .0)) (List._∷_ Row.off (List._∷_ Row.off (List._∷_ Row.off (List._∷_ Row.off (List._∷_ Row.off (List._∷_ Row.alive (List._∷_ Row.alive List.[])))))))))); }
+        G80 = record { locals = List._++_ g42 (List._++_ t44 t2); slots = List._∷_ (Row.lease (κs .0) (qs .0)) (List._∷_ (Row.lease (κs .1 .0) (qs .1 .0)) (List._∷_ Row.off (List._∷_ (Row.lease (κs .1 .1 .1 .0) (qs .1 .1 .1 .0)) (List._∷_ Row.off (List._∷_ Row.off (List._∷_ Row.off (List._∷_ Row.off (List._∷_ Row.off (List._∷_ Row.alive (List._∷_ Row.alive List.[])))))))))) }
 
         abbrev G81 : Row.Cx
-        G81 = record { locals = List._++_ g45 (List._++_ t46 t2); slots = List._∷_ (Row.lease (κs .0) (qs .0)) (List._∷_ (Row.lease (κs .1 .0) (qs .1 .0)) (List._∷_ Row.off (List._∷_ Row.off (List._∷_ Row.off (List._∷_ Row.off (List._∷_ Row.off (List._∷_ Row.off (List._∷_ Row.off (List._∷_ Row.alive (List._∷_ Row.alive List.[])))))))))); }
+        G81 = record { locals = List._++_ g45 (List._++_ t46 t2); slots = List._∷_ (Row.lease (κs .0) (qs .0)) (List._∷_ (Row.lease (κs .1 .0) (qs .1 .0)) (List._∷_ Row.off (List._∷_ Row.off (List._∷_ Row.off (List._∷_ Row.off (List._∷_ Row.off (List._∷_ Row.off (List._∷_ Row.off (List._∷_ Row.alive (List._∷_ Row.alive List.[])))))))))) }
 
         abbrev G82 : Row.Cx
-        G82 = record { locals = List._++_ g45 (List._++_ t44 t47); slots = List._∷_ (Row.lease (κs .0) (qs .0)) (List._∷_ (Row.lease (κs .1 .0) (qs .1 .0)) (List._∷_ Row.off (List._∷_ Row.off (List._∷_ Row.off (List._∷_ Row.off (List._∷_ Row.off (List._∷_ Row.off (List._∷_ Row.off (List._∷_ Row.alive (List._∷_ Row.alive List.[])))))))))); }
+        G82 = record { locals = List._++_ g45 (List._++_ t44 t47); slots = List._∷_ (Row.lease (κs .0) (qs .0)) (List._∷_ (Row.lease (κs .1 .0) (qs .1 .0)) (List._∷_ Row.off (List._∷_ Row.off (List._∷_ Row.off (List._∷_ Row.off (List._∷_ Row.off (List._∷_ Row.off (List._∷_ Row.off (List._∷_ Row.alive (List._∷_ Row.alive List.[])))))))))) }
 
         abbrev G83 : Row.Cx
-        G83 = record { locals = List._++_ g48 (List._++_ t49 t50); slots = List._∷_ (Row.lease (κs .0) (qs .0)) (List._∷_ (Row.lease (κs .1 .0) (qs .1 .0)) (List._∷_ Row.off (List._∷_ Row.off (List._∷_ Row.off (List._∷_ Row.off (List._∷_ Row.off (List._∷_ Row.off (List._∷_ Row.off (List._∷_ Row.alive (List._∷_ Row.alive List.[])))))))))); }
+        G83 = record { locals = List._++_ g48 (List._++_ t49 t50); slots = List._∷_ (Row.lease (κs .0) (qs .0)) (List._∷_ (Row.lease (κs .1 .0) (qs .1 .0)) (List._∷_ Row.off (List._∷_ Row.off (List._∷_ Row.off (List._∷_ Row.off (List._∷_ Row.off (List._∷_ Row.off (List._∷_ Row.off (List._∷_ Row.alive (List._∷_ Row.alive List.[])))))))))) }
 
         abbrev G84 : Row.Cx
-        G84 = record { locals = List._++_ g51 (List._++_ t49 t50); slots = List._∷_ (Row.lease (κs .0) (qs .0)) (List._∷_ (Row.lease (κs .1 .0) (qs .1 .0)) (List._∷_ Row.off (List._∷_ Row.off (List._∷_ Row.off (List._∷_ Row.off (List._∷_ Row.off (List._∷_ Row.off (List._∷_ Row.off (List._∷_ Row.alive (List._∷_ Row.alive List.[])))))))))); }
+        G84 = record { locals = List._++_ g51 (List._++_ t49 t50); slots = List._∷_ (Row.lease (κs .0) (qs .0)) (List._∷_ (Row.lease (κs .1 .0) (qs .1 .0)) (List._∷_ Row.off (List._∷_ Row.off (List._∷_ Row.off (List._∷_ Row.off (List._∷_ Row.off (List._∷_ Row.off (List._∷_ Row.off (List._∷_ Row.alive (List._∷_ Row.alive List.[])))))))))) }
 
         abbrev G85 : Row.Cx
-        G85 = record { locals = List._++_ g52 (List._++_ t49 t50); slots = List._∷_ (Row.lease (κs .0) (qs .0)) (List._∷_ (Row.lease (κs .1 .0) (qs .1 .0)) (List._∷_ Row.off (List._∷_ Row.off (List._∷_ Row.off (List._∷_ Row.off (List._∷_ Row.off (List._∷_ Row.off (List._∷_ Row.off (List._∷_ Row.alive (List._∷_ Row.alive List.[])))))))))); }
+        G85 = record { locals = List._++_ g52 (List._++_ t49 t50); slots = List._∷_ (Row.lease (κs .0) (qs .0)) (List._∷_ (Row.lease (κs .1 .0) (qs .1 .0)) (List._∷_ Row.off (List._∷_ Row.off (List._∷_ Row.off (List._∷_ Row.off (List._∷_ Row.off (List._∷_ Row.off (List._∷_ Row.off (List._∷_ Row.alive (List._∷_ Row.alive List.[])))))))))) }
 
         abbrev G86 : Row.Cx
-        G86 = record { locals = List._++_ g53 (List._++_ t49 t50); slots = List._∷_ (Row.lease (κs .0) (qs .0)) (List._∷_ (Row.lease (κs .1 .0) (qs .1 .0)) (List._∷_ Row.off (List._∷_ Row.off (List._∷_ Row.off (List._∷_ Row.off (List._∷_ Row.off (List._∷_ Row.off (List._∷_ Row.off (List._∷_ Row.alive (List._∷_ Row.alive List.[])))))))))); }
+        G86 = record { locals = List._++_ g53 (List._++_ t49 t50); slots = List._∷_ (Row.lease (κs .0) (qs .0)) (List._∷_ (Row.lease (κs .1 .0) (qs .1 .0)) (List._∷_ Row.off (List._∷_ Row.off (List._∷_ Row.off (List._∷_ Row.off (List._∷_ Row.off (List._∷_ Row.off (List._∷_ Row.off (List._∷_ Row.alive (List._∷_ Row.alive List.[])))))))))) }
 
         abbrev G87 : Row.Cx
-        G87 = record { locals = List._++_ g54 (List._++_ t49 t50); slots = List._∷_ (Row.lease (κs .0) (qs .0)) (List._∷_ (Row.lease (κs .1 .0) (qs .1 .0)) (List._∷_ Row.off (List._∷_ Row.off (List._∷_ Row.off (List._∷_ Row.off (List._∷_ Row.off (List._∷_ Row.off (List._∷_ Row.off (List._∷_ Row.alive (List._∷_ Row.alive List.[])))))))))); }
+        G87 = record { locals = List._++_ g54 (List._++_ t49 t50); slots = List._∷_ (Row.lease (κs .0) (qs .0)) (List._∷_ (Row.lease (κs .1 .0) (qs .1 .0)) (List._∷_ Row.off (List._∷_ Row.off (List._∷_ Row.off (List._∷_ Row.off (List._∷_ Row.off (List._∷_ Row.off (List._∷_ Row.off (List._∷_ Row.alive (List._∷_ Row.alive List.[])))))))))) }
 
         abbrev G88 : Row.Cx
-        G88 = record { locals = List._++_ g54 (List._++_ t49 t50); slots = List._∷_ (Row.lease (κs .0) (qs .0)) (List._∷_ (Row.lease (κs .1 .0) (qs .1 .0)) (List._∷_ Row.off (List._∷_ Row.off (List._∷_ Row.off (List._∷_ Row.off (List._∷_ Row.off (List._∷_ Row.off (List._∷_ Row.off (List._∷_ Row.dead (List._∷_ Row.alive List.[])))))))))); }
+        G88 = record { locals = List._++_ g54 (List._++_ t49 t50); slots = List._∷_ (Row.lease (κs .0) (qs .0)) (List._∷_ (Row.lease (κs .1 .0) (qs .1 .0)) (List._∷_ Row.off (List._∷_ Row.off (List._∷_ Row.off (List._∷_ Row.off (List._∷_ Row.off (List._∷_ Row.off (List._∷_ Row.off (List._∷_ Row.dead (List._∷_ Row.alive List.[])))))))))) }
 
         abbrev G89 : Row.Cx
-        G89 = record { locals = List._++_ g55 (List._++_ t1 t50); slots = List._∷_ (Row.lease (κs .0) (qs .0)) (List._∷_ (Row.lease (κs .1 .0) (qs .1 .0)) (List._∷_ (Row.lease (κs .1 .1 .0) (qs .1 .1 .0)) (List._∷_ Row.off (List._∷_ Row.off (List._∷_ Row.off (List._∷_ Row.off (List._∷_ Row.off (List._∷_ Row.off (List._∷_ Row.dead (List._∷_ Row.alive List.[])))))))))); }
+        G89 = record { locals = List._++_ g55 (List._++_ t1 t50); slots = List._∷_ (Row.lease (κs .0) (qs .0)) (List._∷_ (Row.lease (κs .1 .0) (qs .1 .0)) (List._∷_ (Row.lease (κs .1 .1 .0) (qs .1 .1 .0)) (List._∷_ Row.off (List._∷_ Row.off (List._∷_ Row.off (List._∷_ Row.off (List._∷_ Row.off (List._∷_ Row.off (List._∷_ Row.dead (List._∷_ Row.alive List.[])))))))))) }
 
         abbrev G90 : Row.Cx
-        G90 = record { locals = List._++_ g55 (List._++_ t1 t50); slots = List._∷_ (Row.lease (κs .0) (qs .0)) (List._∷_ (Row.lease (κs .1 .0) (qs .1 .0)) (List._∷_ (Row.lease (κs .1 .1 .0) (qs .1 .1 .0)) (List._∷_ Row.off (List._∷_ Row.off (List._∷_ Row.off (List._∷_ Row.off (List._∷_ Row.off (List._∷_ Row.off (List._∷_ Row.dead (List._∷_ Row.alive List.[])))))))))); }
+        G90 = record { locals = List._++_ g55 (List._++_ t1 t50); slots = List._∷_ (Row.lease (κs .0) (qs .0)) (List._∷_ (Row.lease (κs .1 .0) (qs .1 .0)) (List._∷_ (Row.lease (κs .1 .1 .0) (qs .1 .1 .0)) (List._∷_ Row.off (List._∷_ Row.off (List._∷_ Row.off (List._∷_ Row.off (List._∷_ Row.off (List._∷_ Row.off (List._∷_ Row.dead (List._∷_ Row.alive List.[])))))))))) }
 
         abbrev G91 : Row.Cx
-        G91 = record { locals = List._++_ g55 (List._++_ t1 t50); slots = List._∷_ (Row.lease (κs .0) (qs .0)) (List._∷_ (Row.lease (κs .1 .0) (qs .1 .0)) (List._∷_ (Row.lease (κs .1 .1 .0) (qs .1 .1 .0)) (List._∷_ Row.off (List._∷_ Row.off (List._∷_ Row.off (List._∷_ Row.off (List._∷_ Row.off (List._∷_ Row.off (List._∷_ Row.off (List._∷_ Row.alive List.[])))))))))); }
+        G91 = record { locals = List._++_ g55 (List._++_ t1 t50); slots = List._∷_ (Row.lease (κs .0) (qs .0)) (List._∷_ (Row.lease (κs .1 .0) (qs .1 .0)) (List._∷_ (Row.lease (κs .1 .1 .0) (qs .1 .1 .0)) (List._∷_ Row.off (List._∷_ Row.off (List._∷_ Row.off (List._∷_ Row.off (List._∷_ Row.off (List._∷_ Row.off (List._∷_ Row.off (List._∷_ Row.alive List.[])))))))))) }
 
         abbrev G92 : Row.Cx
-        G92 = record { locals = List._++_ g55 (List._++_ t1 t50); slots = List._∷_ (Row.lease (κs .0) (qs .0)) (List._∷_ (Row.lease (κs .1 .0) (qs .1 .0)) (List._∷_ (Row.lease (κs .1 .1 .0) (qs .1 .1 .0)) (List._∷_ Row.off (List._∷_ Row.off (List._∷_ Row.off (List._∷_ Row.off (List._∷_ Row.off (List._∷_ Row.off (List._∷_ Row.off (List._∷_ Row.dead List.[])))))))))); }
+        G92 = record { locals = List._++_ g55 (List._++_ t1 t50); slots = List._∷_ (Row.lease (κs .0) (qs .0)) (List._∷_ (Row.lease (κs .1 .0) (qs .1 .0)) (List._∷_ (Row.lease (κs .1 .1 .0) (qs .1 .1 .0)) (List._∷_ Row.off (List._∷_ Row.off (List._∷_ Row.off (List._∷_ Row.off (List._∷_ Row.off (List._∷_ Row.off (List._∷_ Row.off (List._∷_ Row.dead List.[])))))))))) }
 
         abbrev G93 : Row.Cx
-        G93 = record { locals = List._++_ t3 (List._++_ t1 t2); slots = List._∷_ (Row.lease (κs .0) (qs .0)) (List._∷_ (Row.lease (κs .1 .0) (qs .1 .0)) (List._∷_ (Row.lease (κs .1 .1 .0) (qs .1 .1 .0)) (List._∷_ (Row.lease (κs .1 .1 .1 .0) (qs .1 .1 .1 .0)) (List._∷_ Row.off (List._∷_ Row.off (List._∷_ Row.off (List._∷_ Row.off (List._∷_ Row.off (List._∷_ Row.off (List._∷_ Row.dead List.[])))))))))); }
+        G93 = record { locals = List._++_ t3 (List._++_ t1 t2); slots = List._∷_ (Row.lease (κs .0) (qs .0)) (List._∷_ (Row.lease (κs .1 .0) (qs .1 .0)) (List._∷_ (Row.lease (κs .1 .1 .0) (qs .1 .1 .0)) (List._∷_ (Row.lease (κs .1 .1 .1 .0) (qs .1 .1 .1 .0)) (List._∷_ Row.off (List._∷_ Row.off (List._∷_ Row.off (List._∷_ Row.off (List._∷_ Row.off (List._∷_ Row.off (List._∷_ Row.dead List.[])))))))))) }
 
         abbrev G94 : Row.Cx
-        G94 = record { locals = List._++_ t3 (List._++_ t1 t2); slots = List._∷_ (Row.lease (κs .0) (qs .0)) (List._∷_ (Row.lease (κs .1 .0) (qs .1 .0)) (List._∷_ (Row.lease (κs .1 .1 .0) (qs .1 .1 .0)) (List._∷_ (Row.lease (κs .1 .1 .1 .0) (qs .1 .1 .1 .0)) (List._∷_ Row.off (List._∷_ Row.off (List._∷_ Row.off (List._∷_ Row.off (List._∷_ Row.off (List._∷_ Row.off (List._∷_ Row.dead List.[])))))))))); }
+        G94 = record { locals = List._++_ t3 (List._++_ t1 t2); slots = List._∷_ (Row.lease (κs .0) (qs .0)) (List._∷_ (Row.lease (κs .1 .0) (qs .1 .0)) (List._∷_ (Row.lease (κs .1 .1 .0) (qs .1 .1 .0)) (List._∷_ (Row.lease (κs .1 .1 .1 .0) (qs .1 .1 .1 .0)) (List._∷_ Row.off (List._∷_ Row.off (List._∷_ Row.off (List._∷_ Row.off (List._∷_ Row.off (List._∷_ Row.off (List._∷_ Row.dead List.[])))))))))) }
 
         abbrev G95 : Row.Cx
-        G95 = record { locals = List._++_ t3 (List._++_ t1 t2); slots = List._∷_ (Row.lease (κs .0) (qs .0)) (List._∷_ (Row.lease (κs .1 .0) (qs .1 .0)) (List._∷_ (Row.lease (κs .1 .1 .0) (qs .1 .1 .0)) (List._∷_ (Row.lease (κs .1 .1 .1 .0) (qs .1 .1 .1 .0)) (List._∷_ Row.off (List._∷_ Row.off (List._∷_ Row.off (List._∷_ Row.off (List._∷_ Row.off (List._∷_ Row.off (List._∷_ Row.off List.[])))))))))); }
+        G95 = record { locals = List._++_ t3 (List._++_ t1 t2); slots = List._∷_ (Row.lease (κs .0) (qs .0)) (List._∷_ (Row.lease (κs .1 .0) (qs .1 .0)) (List._∷_ (Row.lease (κs .1 .1 .0) (qs .1 .1 .0)) (List._∷_ (Row.lease (κs .1 .1 .1 .0) (qs .1 .1 .1 .0)) (List._∷_ Row.off (List._∷_ Row.off (List._∷_ Row.off (List._∷_ Row.off (List._∷_ Row.off (List._∷_ Row.off (List._∷_ Row.off List.[])))))))))) }
 
         abbrev Δ0 : Typed.Outs
         Δ0 = record { next = Option.none; exits = List.[]; returns = Option.some G1 }
@@ -2270,16 +3284,16 @@ module _ (claims· : Claims) where
           d10 = Typed.g-pre 𝓤 H A W 𝓣 E G35 G36 b17 Δ3 (Typed.pass T35 T36 s32) at9 (Scalar.g-room 𝓤 H A W E G35 19 (Syntax.tyStruct (List._∷_ 38 (List._∷_ 91 (List._∷_ 93 List.[]))) (Syntax.tcons (Syntax.tyRef Syntax.erased Syntax.imm (Syntax.tyInt Syntax.w32)) (Syntax.tcons (Syntax.tyInt Syntax.w64) Syntax.tnil))) (Shared.room-sslice 𝓤 H A W (Referent.rtF (Referent.fInt Syntax.w32)) (Syntax.tyRef Syntax.erased Syntax.imm (Syntax.tyInt Syntax.w32)) 6)) d9
 
           d11 : Typed.Typed 𝓤 H A 𝓣 E G34 b18 Δ3 at11
-          d11 = Typed.s-seq 𝓤 H A W 𝓣 E G34 G35 b16 b17 Δ3 (Typed.both s31) at10 (Plain.t-call-plain 𝓤 H A W 𝓣 1 ps·1 r·1 (claims· .2) (claims· .3) "firm::check" (known .1) E (λ pos β. β) G34 ( record { pos = 6; st = List.[]; d = 0; at = λ x. x }, ( record { pos = 17; st = List.[]; d = 0; at = λ x. x }, ( Num.vAt 7 λ x. x, ( record { pos = 19; ty = Syntax.tyRef Syntax.erased Syntax.imm (Syntax.tyInt Syntax.w32); ref = λ x. x; }, tt, ), ), ), ) 6 (List._∷_ 6 List.[]) (Call.sub-id 𝓤 H A W (G34 .slots)) ( ( Yields.yields-copy 𝓤 H A W (λ ρ. Unit) (Declared.row Quote.the-type) Path'.refl (Copies.cStruct Quote.the-type Laws.the-laws Laws.the-copy .copy 𝓤 H A W) (Rows'.whole (Declared.row Quote.the-type)) (λ x. x) (λ x. x) (λ ρ told. Local.mem-whole 𝓤 H A W (Declared.row Quote.the-type) ρ) λ ρ told. Local.whole-mem 𝓤 H A W (Declared.row Quote.the-type) ρ, Path'.refl, ), ( ( Yields.yields-copy 𝓤 H A W (λ ρ. Unit) T Path'.refl (Copies.cStruct S.the-type SL.the-laws SL.the-copy .copy 𝓤 H A W) (Rows'.whole T) (λ x. x) (λ x. x) (λ ρ told. Local.mem-whole 𝓤 H A W T ρ) (λ ρ told. Local.whole-mem 𝓤 H A W T ρ), Path'.refl, ), ( (Scalar.reads-sc 𝓤 H A W (Row.sInt Syntax.w64), Path'.refl), ( ShrSlice.spares-sslice 𝓤 H A W (Referent.rtF (Referent.fInt Syntax.w32)) (Syntax.tyRef Syntax.erased Syntax.imm (Syntax.tyInt Syntax.w32)) 6, Shared.reads-sslice 𝓤 H A W (Referent.rtF (Referent.fInt Syntax.w32)) (Syntax.tyRef Syntax.erased Syntax.imm (Syntax.tyInt Syntax.w32)) 6, Path'.refl, tt, ), ), ), ) (Local.room-whole 𝓤 H A W (Declared.row Quote.the-type) (Syntax.tyStruct (List._∷_ 102 (List._∷_ 105 (List._∷_ 114 (List._∷_ 109 (List._∷_ 58 (List._∷_ 58 (List._∷_ 81 (List._∷_ 117 (List._∷_ 111 (List._∷_ 116 (List._∷_ 101 List.[]))))))))))) (Syntax.tcons (Syntax.tyInt Syntax.w32) (Syntax.tcons (Syntax.tyInt Syntax.w64) (Syntax.tcons (Syntax.tyInt Syntax.w64) (Syntax.tcons (Syntax.tyInt Syntax.w32) Syntax.tnil))))) Path'.refl) (tt, tt) Path'.refl) d10
+          d11 = Typed.s-seq 𝓤 H A W 𝓣 E G34 G35 b16 b17 Δ3 (Typed.both s31) at10 (Plain.t-call-plain 𝓤 H A W 𝓣 1 ps·1 r·1 (claims· .2) (claims· .3) "firm::check" (known .1) E (λ pos β. β) G34 (record { pos = 6; st = List.[]; d = 0; at = λ x. x }, (record { pos = 17; st = List.[]; d = 0; at = λ x. x }, (Num.vAt 7 λ x. x, (record { pos = 19; ty = Syntax.tyRef Syntax.erased Syntax.imm (Syntax.tyInt Syntax.w32); ref = λ x. x }, tt)))) 6 (List._∷_ 6 List.[]) (Call.sub-id 𝓤 H A W (G34 .slots)) ((Yields.yields-copy 𝓤 H A W (λ ρ. Unit) (Declared.row Quote.the-type) Path'.refl (Copies.cStruct Quote.the-type Laws.the-laws Laws.the-copy .copy 𝓤 H A W) (Rows'.whole (Declared.row Quote.the-type)) (λ x. x) (λ x. x) (λ ρ told. Local.mem-whole 𝓤 H A W (Declared.row Quote.the-type) ρ) λ ρ told. Local.whole-mem 𝓤 H A W (Declared.row Quote.the-type) ρ, Path'.refl), ((Yields.yields-copy 𝓤 H A W (λ ρ. Unit) T Path'.refl (Copies.cStruct S.the-type SL.the-laws SL.the-copy .copy 𝓤 H A W) (Rows'.whole T) (λ x. x) (λ x. x) (λ ρ told. Local.mem-whole 𝓤 H A W T ρ) (λ ρ told. Local.whole-mem 𝓤 H A W T ρ), Path'.refl), ((Scalar.reads-sc 𝓤 H A W (Row.sInt Syntax.w64), Path'.refl), (ShrSlice.spares-sslice 𝓤 H A W (Referent.rtF (Referent.fInt Syntax.w32)) (Syntax.tyRef Syntax.erased Syntax.imm (Syntax.tyInt Syntax.w32)) 6, Shared.reads-sslice 𝓤 H A W (Referent.rtF (Referent.fInt Syntax.w32)) (Syntax.tyRef Syntax.erased Syntax.imm (Syntax.tyInt Syntax.w32)) 6, Path'.refl, tt)))) (Local.room-whole 𝓤 H A W (Declared.row Quote.the-type) (Syntax.tyStruct (List._∷_ 102 (List._∷_ 105 (List._∷_ 114 (List._∷_ 109 (List._∷_ 58 (List._∷_ 58 (List._∷_ 81 (List._∷_ 117 (List._∷_ 111 (List._∷_ 116 (List._∷_ 101 List.[]))))))))))) (Syntax.tcons (Syntax.tyInt Syntax.w32) (Syntax.tcons (Syntax.tyInt Syntax.w64) (Syntax.tcons (Syntax.tyInt Syntax.w64) (Syntax.tcons (Syntax.tyInt Syntax.w32) Syntax.tnil))))) Path'.refl) (tt, tt) Path'.refl) d10
 
           d12 : Typed.Typed 𝓤 H A 𝓣 E G33 b19 Δ3 at12
-          d12 = Typed.s-seq 𝓤 H A W 𝓣 E G33 G34 b15 b18 Δ3 (Typed.ask s30) at11 (Relend.t-sl-aggregate 𝓤 H A W E (Referent.rtF (Referent.fInt Syntax.w32)) 𝓣 (Relend.asShr (Referent.rtF (Referent.fInt Syntax.w32))) G33 18 19 6 (Syntax.tyRef Syntax.erased Syntax.imm (Syntax.tyInt Syntax.w32)) (Syntax.tyRef Syntax.erased Syntax.imm (Syntax.tyInt Syntax.w32)) (λ x. x) (Scalar.oFld 3 (List._∷_ (Syntax.field 1) List.[]) (Syntax.tyInt Syntax.w64) 8 λ v. Shared.lenV (v .0)) (Reads.as-is 𝓤 H A (Relend.ssptr (Referent.rtF (Referent.fInt Syntax.w32)) (Syntax.tyRef Syntax.erased Syntax.imm (Syntax.tyInt Syntax.w32)) 6)) (Reads.room-gone 𝓤 H A (Syntax.tyStruct (List._∷_ 38 (List._∷_ 91 (List._∷_ 93 List.[]))) (Syntax.tcons (Syntax.tyRef Syntax.erased Syntax.imm (Syntax.tyInt Syntax.w32)) (Syntax.tcons (Syntax.tyInt Syntax.w64) Syntax.tnil)))) ( Reshare.reads-owedS-len 𝓤 H A W (Referent.rtF (Referent.fInt Syntax.w32)) (Syntax.tyRef (Syntax.named 2) Syntax.mut (Syntax.tyInt Syntax.w32)) 2 6 (Row.lease (κs .1 .1 .0) (qs .1 .1 .0)) 8 Path'.refl, Path'.refl, ) Path'.refl Path'.refl λ b o k. tt) d11
+          d12 = Typed.s-seq 𝓤 H A W 𝓣 E G33 G34 b15 b18 Δ3 (Typed.ask s30) at11 (Relend.t-sl-aggregate 𝓤 H A W E (Referent.rtF (Referent.fInt Syntax.w32)) 𝓣 (Relend.asShr (Referent.rtF (Referent.fInt Syntax.w32))) G33 18 19 6 (Syntax.tyRef Syntax.erased Syntax.imm (Syntax.tyInt Syntax.w32)) (Syntax.tyRef Syntax.erased Syntax.imm (Syntax.tyInt Syntax.w32)) (λ x. x) (Scalar.oFld 3 (List._∷_ (Syntax.field 1) List.[]) (Syntax.tyInt Syntax.w64) 8 λ v. Shared.lenV (v .0)) (Reads.as-is 𝓤 H A (Relend.ssptr (Referent.rtF (Referent.fInt Syntax.w32)) (Syntax.tyRef Syntax.erased Syntax.imm (Syntax.tyInt Syntax.w32)) 6)) (Reads.room-gone 𝓤 H A (Syntax.tyStruct (List._∷_ 38 (List._∷_ 91 (List._∷_ 93 List.[]))) (Syntax.tcons (Syntax.tyRef Syntax.erased Syntax.imm (Syntax.tyInt Syntax.w32)) (Syntax.tcons (Syntax.tyInt Syntax.w64) Syntax.tnil)))) (Reshare.reads-owedS-len 𝓤 H A W (Referent.rtF (Referent.fInt Syntax.w32)) (Syntax.tyRef (Syntax.named 2) Syntax.mut (Syntax.tyInt Syntax.w32)) 2 6 (Row.lease (κs .1 .1 .0) (qs .1 .1 .0)) 8 Path'.refl, Path'.refl) Path'.refl Path'.refl λ b o k. tt) d11
 
           d13 : Typed.Typed 𝓤 H A 𝓣 E G32 b20 Δ3 at13
           d13 = Typed.s-seq 𝓤 H A W 𝓣 E G32 G33 b14 b19 Δ3 (Typed.give s29) at12 (Reshare.t-sl-reshare 𝓤 H A W E (Referent.rtF (Referent.fInt Syntax.w32)) 𝓣 G32 3 18 2 6 (Syntax.tyRef (Syntax.named 2) Syntax.mut (Syntax.tyInt Syntax.w32)) (Syntax.tyRef Syntax.erased Syntax.imm (Syntax.tyInt Syntax.w32)) (Row.lease (κs .1 .1 .0) (qs .1 .1 .0)) 0 (λ x. x) (Reads.as-is 𝓤 H A (Mut.mslice (Referent.rtF (Referent.fInt Syntax.w32)) (Syntax.tyRef (Syntax.named 2) Syntax.mut (Syntax.tyInt Syntax.w32)) 2)) (Reads.room-gone 𝓤 H A (Syntax.tyRef Syntax.erased Syntax.imm (Syntax.tyInt Syntax.w32))) Path'.refl tt Path'.refl Path'.refl Path'.refl λ b o. tt) d12
 
           d14 : Typed.Typed 𝓤 H A 𝓣 E G31 b20 Δ3 at14
-          d14 = Typed.g-pre 𝓤 H A W 𝓣 E G31 G32 b20 Δ3 (λ Ψ. Ψ) at13 (Lifetime.g-begin 𝓤 H A W E G31 6 ( tt, ( tt, ( tt, ( tt, ( tt, ( tt, ( tt, ( tt, ( tt, ( tt, ( tt, ( tt, ( tt, ( tt, ( tt, ( tt, ( tt, ( tt, ( tt, ( tt, ( tt, ( tt, ( tt, ( tt, ( tt, ( tt, ( tt, ( tt, ( tt, ( tt, (tt, (tt, (tt, tt))), ), ), ), ), ), ), ), ), ), ), ), ), ), ), ), ), ), ), ), ), ), ), ), ), ), ), ), ), ), )) d13
+          d14 = Typed.g-pre 𝓤 H A W 𝓣 E G31 G32 b20 Δ3 (λ Ψ. Ψ) at13 (Lifetime.g-begin 𝓤 H A W E G31 6 (tt, (tt, (tt, (tt, (tt, (tt, (tt, (tt, (tt, (tt, (tt, (tt, (tt, (tt, (tt, (tt, (tt, (tt, (tt, (tt, (tt, (tt, (tt, (tt, (tt, (tt, (tt, (tt, (tt, (tt, (tt, (tt, (tt, tt)))))))))))))))))))))))))))))))))) d13
 
           d15 : Typed.Typed 𝓤 H A 𝓣 E G30 b20 Δ3 at15
           d15 = Typed.g-pre 𝓤 H A W 𝓣 E G30 G31 b20 Δ3 (Typed.pass T30 T31 s27) at14 (Scalar.g-room 𝓤 H A W E G30 16 Syntax.tyPtr (Scalar.room-sc 𝓤 H A W Row.sPtr)) d14
@@ -2291,7 +3305,7 @@ module _ (claims· : Claims) where
           d17 = Typed.s-seq 𝓤 H A W 𝓣 E G28 G29 b13 b20 Δ3 (Typed.both s25) at16 (Move.t-sl-copy-out 𝓤 H A W E T 𝓣 Path'.refl (Copies.cStruct S.the-type SL.the-laws SL.the-copy .copy 𝓤 H A W) (λ ρ. Unit) G28 1 16 17 0 τ (Row.lease (κs .0) (qs .0)) σ σ (Rows'.whole T) (Shared.bySize 12) (λ u. u .1 .1 .1 .1 .1 .1 .1 .0) (λ x. x) nothing (λ x. Unit {0}) (λ x. x) (λ x. x) (λ i o. Elements.at-mul o 12 i) Path'.refl Path'.refl (Own.told-none 𝓤 H A (G28 .slots)) (DerefMove.learns-nothing 𝓤 H A T) (Reads.as-is 𝓤 H A (Mut.mslice T τ 0)) (Reads.as-is 𝓤 H A (Rows'.sc-here Row.sPtr)) (Reads.room-gone 𝓤 H A σ) (Yields.makes-mem 𝓤 H A W (λ ρ. Unit) T Path'.refl (Rows'.whole T) (λ x. x) λ ρ told. Local.whole-mem 𝓤 H A W T ρ) Path'.refl tt Path'.refl Path'.refl) d16
 
           d18 : Typed.Typed 𝓤 H A 𝓣 E G27 b22 Δ3 at18
-          d18 = Typed.s-seq 𝓤 H A W 𝓣 E G27 G28 b12 b21 Δ3 (Typed.ask s24) at17 (Scalar.t-op2 𝓤 H A W E 𝓣 G27 Syntax.offset (Scalar.oFld 1 (List._∷_ (Syntax.field 0) List.[]) τ 0 Reads.ptrVal) (Scalar.oAt 15 (Syntax.tyInt Syntax.w64) (Row.valS (Row.sInt Syntax.w64))) 16 (Rows'.sc-here Row.sPtr) Syntax.tyPtr (Row.valS Row.sPtr) (Row.sPtr .of) ( Mut.reads-mslice-ptr 𝓤 H A W T τ 0 0 Path'.refl, Path'.refl, ) (Scalar.reads-sc 𝓤 H A W (Row.sInt Syntax.w64), Path'.refl) (Reads.room-gone 𝓤 H A Syntax.tyPtr) (Scalar.holds-sc 𝓤 H A W Row.sPtr) Path'.refl (λ u. Path'.refl) λ u. tt) d17
+          d18 = Typed.s-seq 𝓤 H A W 𝓣 E G27 G28 b12 b21 Δ3 (Typed.ask s24) at17 (Scalar.t-op2 𝓤 H A W E 𝓣 G27 Syntax.offset (Scalar.oFld 1 (List._∷_ (Syntax.field 0) List.[]) τ 0 Reads.ptrVal) (Scalar.oAt 15 (Syntax.tyInt Syntax.w64) (Row.valS (Row.sInt Syntax.w64))) 16 (Rows'.sc-here Row.sPtr) Syntax.tyPtr (Row.valS Row.sPtr) (Row.sPtr .of) (Mut.reads-mslice-ptr 𝓤 H A W T τ 0 0 Path'.refl, Path'.refl) (Scalar.reads-sc 𝓤 H A W (Row.sInt Syntax.w64), Path'.refl) (Reads.room-gone 𝓤 H A Syntax.tyPtr) (Scalar.holds-sc 𝓤 H A W Row.sPtr) Path'.refl (λ u. Path'.refl) λ u. tt) d17
 
           d19 : Typed.Typed 𝓤 H A 𝓣 E G24 b23 Δ3 at19
           d19 = Typed.s-seq 𝓤 H A W 𝓣 E G24 G27 b11 b22 Δ3 (Typed.ask s23) at18 (Scalar.t-op2 𝓤 H A W E 𝓣 G24 (Syntax.mul Syntax.unsigned) (Scalar.oAt 7 (Syntax.tyInt Syntax.w64) (Row.valS (Row.sInt Syntax.w64))) (Scalar.oInt Syntax.w64 12) 15 (Rows'.sc-here (Row.sInt Syntax.w64)) (Syntax.tyInt Syntax.w64) (Row.valS (Row.sInt Syntax.w64)) (Row.sInt Syntax.w64 .of) (Scalar.reads-sc 𝓤 H A W (Row.sInt Syntax.w64), Path'.refl) tt (Reads.room-gone 𝓤 H A (Syntax.tyInt Syntax.w64)) (Scalar.holds-sc 𝓤 H A W (Row.sInt Syntax.w64)) Path'.refl (λ u. Path'.refl) λ u. tt) d18
@@ -2339,13 +3353,13 @@ module _ (claims· : Claims) where
           d33 = Typed.s-seq 𝓤 H A W 𝓣 E G71 G72 b44 b45 Δ7 (Typed.ask s66) at32 (Move.t-sl-set-from 𝓤 H A W E T 𝓣 Path'.refl (λ ρ. Unit) G71 1 28 9 0 τ (Row.lease (κs .0) (qs .0)) σ σ (Rows'.whole T) (Shared.bySize 12) (λ u. u .1 .1 .1 .1 .1 .1 .1 .1 .0) (λ x. x) (λ x. x) (λ x. x) (λ x. x) (λ i o. Elements.at-mul o 12 i) Path'.refl Path'.refl (Own.told-none 𝓤 H A (G71 .slots)) (Reads.as-is 𝓤 H A (Mut.mslice T τ 0)) (Reads.as-is 𝓤 H A (Rows'.sc-here Row.sPtr)) (Yields.yields-copy 𝓤 H A W (λ ρ. Unit) T Path'.refl (Copies.cStruct S.the-type SL.the-laws SL.the-copy .copy 𝓤 H A W) (Rows'.whole T) (λ x. x) (λ x. x) (λ ρ told. Local.mem-whole 𝓤 H A W T ρ) λ ρ told. Local.whole-mem 𝓤 H A W T ρ) Path'.refl tt Path'.refl Path'.refl) d32
 
           d34 : Typed.Typed 𝓤 H A 𝓣 E G70 b47 Δ7 at34
-          d34 = Typed.s-seq 𝓤 H A W 𝓣 E G70 G71 b43 b46 Δ7 (Typed.ask s65) at33 (Scalar.t-op2 𝓤 H A W E 𝓣 G70 Syntax.offset (Scalar.oFld 1 (List._∷_ (Syntax.field 0) List.[]) τ 0 Reads.ptrVal) (Scalar.oAt 21 (Syntax.tyInt Syntax.w64) (Row.valS (Row.sInt Syntax.w64))) 28 (Rows'.sc-here Row.sPtr) Syntax.tyPtr (Row.valS Row.sPtr) (Row.sPtr .of) ( Mut.reads-mslice-ptr 𝓤 H A W T τ 0 0 Path'.refl, Path'.refl, ) (Scalar.reads-sc 𝓤 H A W (Row.sInt Syntax.w64), Path'.refl) (Reads.room-gone 𝓤 H A Syntax.tyPtr) (Scalar.holds-sc 𝓤 H A W Row.sPtr) Path'.refl (λ u. Path'.refl) λ u. tt) d33
+          d34 = Typed.s-seq 𝓤 H A W 𝓣 E G70 G71 b43 b46 Δ7 (Typed.ask s65) at33 (Scalar.t-op2 𝓤 H A W E 𝓣 G70 Syntax.offset (Scalar.oFld 1 (List._∷_ (Syntax.field 0) List.[]) τ 0 Reads.ptrVal) (Scalar.oAt 21 (Syntax.tyInt Syntax.w64) (Row.valS (Row.sInt Syntax.w64))) 28 (Rows'.sc-here Row.sPtr) Syntax.tyPtr (Row.valS Row.sPtr) (Row.sPtr .of) (Mut.reads-mslice-ptr 𝓤 H A W T τ 0 0 Path'.refl, Path'.refl) (Scalar.reads-sc 𝓤 H A W (Row.sInt Syntax.w64), Path'.refl) (Reads.room-gone 𝓤 H A Syntax.tyPtr) (Scalar.holds-sc 𝓤 H A W Row.sPtr) Path'.refl (λ u. Path'.refl) λ u. tt) d33
 
           d35 : Typed.Typed 𝓤 H A 𝓣 E G69 b48 Δ7 at35
           d35 = Typed.s-seq 𝓤 H A W 𝓣 E G69 G70 b42 b47 Δ7 (Typed.ask s64) at34 (Scalar.t-op2 𝓤 H A W E 𝓣 G69 (Syntax.mul Syntax.unsigned) (Scalar.oAt 8 (Syntax.tyInt Syntax.w64) (Row.valS (Row.sInt Syntax.w64))) (Scalar.oInt Syntax.w64 12) 21 (Rows'.sc-here (Row.sInt Syntax.w64)) (Syntax.tyInt Syntax.w64) (Row.valS (Row.sInt Syntax.w64)) (Row.sInt Syntax.w64 .of) (Scalar.reads-sc 𝓤 H A W (Row.sInt Syntax.w64), Path'.refl) tt (Reads.room-gone 𝓤 H A (Syntax.tyInt Syntax.w64)) (Scalar.holds-sc 𝓤 H A W (Row.sInt Syntax.w64)) Path'.refl (λ u. Path'.refl) λ u. tt) d34
 
           d36 : Typed.Typed 𝓤 H A 𝓣 E G68 b49 Δ7 at36
-          d36 = Typed.s-seq 𝓤 H A W 𝓣 E G68 G69 b41 b48 Δ7 (Typed.both s63) at35 (Plain.t-call-plain 𝓤 H A W 𝓣 0 ps·3 r·3 (claims· .6) (claims· .7) "firm::join" (known .3) E (λ pos β. β) G68 ( record { pos = 6; st = List.[]; d = 0; at = λ x. x }, (record { pos = 9; st = List.[]; d = 0; at = λ x. x }, tt), ) 6 List.[] (Call.sub-id 𝓤 H A W (G68 .slots)) ( ( Yields.yields-copy 𝓤 H A W (λ ρ. Unit) (Declared.row Quote.the-type) Path'.refl (Copies.cStruct Quote.the-type Laws.the-laws Laws.the-copy .copy 𝓤 H A W) (Rows'.whole (Declared.row Quote.the-type)) (λ x. x) (λ x. x) (λ ρ told. Local.mem-whole 𝓤 H A W (Declared.row Quote.the-type) ρ) λ ρ told. Local.whole-mem 𝓤 H A W (Declared.row Quote.the-type) ρ, Path'.refl, ), ( ( Yields.yields-copy 𝓤 H A W (λ ρ. Unit) T Path'.refl (Copies.cStruct S.the-type SL.the-laws SL.the-copy .copy 𝓤 H A W) (Rows'.whole T) (λ x. x) (λ x. x) (λ ρ told. Local.mem-whole 𝓤 H A W T ρ) (λ ρ told. Local.whole-mem 𝓤 H A W T ρ), Path'.refl, ), tt, ), ) (Local.room-whole 𝓤 H A W (Declared.row Quote.the-type) (Syntax.tyStruct (List._∷_ 102 (List._∷_ 105 (List._∷_ 114 (List._∷_ 109 (List._∷_ 58 (List._∷_ 58 (List._∷_ 81 (List._∷_ 117 (List._∷_ 111 (List._∷_ 116 (List._∷_ 101 List.[]))))))))))) (Syntax.tcons (Syntax.tyInt Syntax.w32) (Syntax.tcons (Syntax.tyInt Syntax.w64) (Syntax.tcons (Syntax.tyInt Syntax.w64) (Syntax.tcons (Syntax.tyInt Syntax.w32) Syntax.tnil))))) Path'.refl) tt Path'.refl) d35
+          d36 = Typed.s-seq 𝓤 H A W 𝓣 E G68 G69 b41 b48 Δ7 (Typed.both s63) at35 (Plain.t-call-plain 𝓤 H A W 𝓣 0 ps·3 r·3 (claims· .6) (claims· .7) "firm::join" (known .3) E (λ pos β. β) G68 (record { pos = 6; st = List.[]; d = 0; at = λ x. x }, (record { pos = 9; st = List.[]; d = 0; at = λ x. x }, tt)) 6 List.[] (Call.sub-id 𝓤 H A W (G68 .slots)) ((Yields.yields-copy 𝓤 H A W (λ ρ. Unit) (Declared.row Quote.the-type) Path'.refl (Copies.cStruct Quote.the-type Laws.the-laws Laws.the-copy .copy 𝓤 H A W) (Rows'.whole (Declared.row Quote.the-type)) (λ x. x) (λ x. x) (λ ρ told. Local.mem-whole 𝓤 H A W (Declared.row Quote.the-type) ρ) λ ρ told. Local.whole-mem 𝓤 H A W (Declared.row Quote.the-type) ρ, Path'.refl), ((Yields.yields-copy 𝓤 H A W (λ ρ. Unit) T Path'.refl (Copies.cStruct S.the-type SL.the-laws SL.the-copy .copy 𝓤 H A W) (Rows'.whole T) (λ x. x) (λ x. x) (λ ρ told. Local.mem-whole 𝓤 H A W T ρ) (λ ρ told. Local.whole-mem 𝓤 H A W T ρ), Path'.refl), tt)) (Local.room-whole 𝓤 H A W (Declared.row Quote.the-type) (Syntax.tyStruct (List._∷_ 102 (List._∷_ 105 (List._∷_ 114 (List._∷_ 109 (List._∷_ 58 (List._∷_ 58 (List._∷_ 81 (List._∷_ 117 (List._∷_ 111 (List._∷_ 116 (List._∷_ 101 List.[]))))))))))) (Syntax.tcons (Syntax.tyInt Syntax.w32) (Syntax.tcons (Syntax.tyInt Syntax.w64) (Syntax.tcons (Syntax.tyInt Syntax.w64) (Syntax.tcons (Syntax.tyInt Syntax.w32) Syntax.tnil))))) Path'.refl) tt Path'.refl) d35
 
           d37 : Typed.Typed 𝓤 H A 𝓣 E G67 b49 Δ7 at37
           d37 = Typed.g-pre 𝓤 H A W 𝓣 E G67 G68 b49 Δ7 (λ Ψ. Ψ) at36 (Lifetime.g-forget 𝓤 H A W E G67 8 Row.dead Path'.refl) d36
@@ -2375,25 +3389,25 @@ module _ (claims· : Claims) where
           d45 = Typed.g-pre 𝓤 H A W 𝓣 E G59 G60 b49 Δ7 (Typed.pass T59 T60 s54) at44 (Scalar.g-room 𝓤 H A W E G59 25 (Syntax.tyStruct (List._∷_ 38 (List._∷_ 91 (List._∷_ 93 List.[]))) (Syntax.tcons (Syntax.tyRef Syntax.erased Syntax.imm (Syntax.tyInt Syntax.w32)) (Syntax.tcons (Syntax.tyInt Syntax.w64) Syntax.tnil))) (Shared.room-sslice 𝓤 H A W (Referent.rtF (Referent.fInt Syntax.w32)) (Syntax.tyRef Syntax.erased Syntax.imm (Syntax.tyInt Syntax.w32)) 7)) d44
 
           d46 : Typed.Typed 𝓤 H A 𝓣 E G58 b50 Δ7 at46
-          d46 = Typed.s-seq 𝓤 H A W 𝓣 E G58 G59 b40 b49 Δ7 (Typed.both s53) at45 (Plain.t-call-plain 𝓤 H A W 𝓣 3 ps·2 r·2 (claims· .4) (claims· .5) "firm::single" (known .2) E (λ pos β. β) G58 ( record { pos = 6; st = List.[]; d = 0; at = λ x. x }, ( record { pos = 23; st = List.[]; d = 0; at = λ x. x }, ( record { pos = 2; ty = Syntax.tyRef (Syntax.named 1) Syntax.imm (Syntax.tyInt Syntax.w8); ref = λ x. x; }, ( record { pos = 25; ty = Syntax.tyRef Syntax.erased Syntax.imm (Syntax.tyInt Syntax.w32); ref = λ x. x; }, ( record { pos = 27; ty = Syntax.tyRef Syntax.erased Syntax.mut (Syntax.tyInt Syntax.w32); ref = λ x. x; }, tt, ), ), ), ), ) 9 (List._∷_ 1 (List._∷_ 7 (List._∷_ 8 List.[]))) (Call.sub-id 𝓤 H A W (G58 .slots)) ( ( Yields.yields-copy 𝓤 H A W (λ ρ. Unit) (Declared.row Quote.the-type) Path'.refl (Copies.cStruct Quote.the-type Laws.the-laws Laws.the-copy .copy 𝓤 H A W) (Rows'.whole (Declared.row Quote.the-type)) (λ x. x) (λ x. x) (λ ρ told. Local.mem-whole 𝓤 H A W (Declared.row Quote.the-type) ρ) λ ρ told. Local.whole-mem 𝓤 H A W (Declared.row Quote.the-type) ρ, Path'.refl, ), ( ( Yields.yields-copy 𝓤 H A W (λ ρ. Unit) T Path'.refl (Copies.cStruct S.the-type SL.the-laws SL.the-copy .copy 𝓤 H A W) (Rows'.whole T) (λ x. x) (λ x. x) (λ ρ told. Local.mem-whole 𝓤 H A W T ρ) (λ ρ told. Local.whole-mem 𝓤 H A W T ρ), Path'.refl, ), ( ShrSlice.spares-sslice 𝓤 H A W (Referent.rtF (Referent.fInt Syntax.w8)) (Syntax.tyRef (Syntax.named 1) Syntax.imm (Syntax.tyInt Syntax.w8)) 1, Shared.reads-sslice 𝓤 H A W (Referent.rtF (Referent.fInt Syntax.w8)) (Syntax.tyRef (Syntax.named 1) Syntax.imm (Syntax.tyInt Syntax.w8)) 1, Path'.refl, ( ShrSlice.spares-sslice 𝓤 H A W (Referent.rtF (Referent.fInt Syntax.w32)) (Syntax.tyRef Syntax.erased Syntax.imm (Syntax.tyInt Syntax.w32)) 7, Shared.reads-sslice 𝓤 H A W (Referent.rtF (Referent.fInt Syntax.w32)) (Syntax.tyRef Syntax.erased Syntax.imm (Syntax.tyInt Syntax.w32)) 7, Path'.refl, ( Reads.as-is 𝓤 H A (Mut.mslice (Referent.rtF (Referent.fInt Syntax.w32)) (Syntax.tyRef Syntax.erased Syntax.mut (Syntax.tyInt Syntax.w32)) 8), Mut.reads-mslice 𝓤 H A W (Referent.rtF (Referent.fInt Syntax.w32)) (Syntax.tyRef Syntax.erased Syntax.mut (Syntax.tyInt Syntax.w32)) 8, Path'.refl, tt, ), ), ), ), ) (Reads.room-gone 𝓤 H A σ) (tt, (tt, (tt, tt))) Path'.refl) d45
+          d46 = Typed.s-seq 𝓤 H A W 𝓣 E G58 G59 b40 b49 Δ7 (Typed.both s53) at45 (Plain.t-call-plain 𝓤 H A W 𝓣 3 ps·2 r·2 (claims· .4) (claims· .5) "firm::single" (known .2) E (λ pos β. β) G58 (record { pos = 6; st = List.[]; d = 0; at = λ x. x }, (record { pos = 23; st = List.[]; d = 0; at = λ x. x }, (record { pos = 2; ty = Syntax.tyRef (Syntax.named 1) Syntax.imm (Syntax.tyInt Syntax.w8); ref = λ x. x }, (record { pos = 25; ty = Syntax.tyRef Syntax.erased Syntax.imm (Syntax.tyInt Syntax.w32); ref = λ x. x }, (record { pos = 27; ty = Syntax.tyRef Syntax.erased Syntax.mut (Syntax.tyInt Syntax.w32); ref = λ x. x }, tt))))) 9 (List._∷_ 1 (List._∷_ 7 (List._∷_ 8 List.[]))) (Call.sub-id 𝓤 H A W (G58 .slots)) ((Yields.yields-copy 𝓤 H A W (λ ρ. Unit) (Declared.row Quote.the-type) Path'.refl (Copies.cStruct Quote.the-type Laws.the-laws Laws.the-copy .copy 𝓤 H A W) (Rows'.whole (Declared.row Quote.the-type)) (λ x. x) (λ x. x) (λ ρ told. Local.mem-whole 𝓤 H A W (Declared.row Quote.the-type) ρ) λ ρ told. Local.whole-mem 𝓤 H A W (Declared.row Quote.the-type) ρ, Path'.refl), ((Yields.yields-copy 𝓤 H A W (λ ρ. Unit) T Path'.refl (Copies.cStruct S.the-type SL.the-laws SL.the-copy .copy 𝓤 H A W) (Rows'.whole T) (λ x. x) (λ x. x) (λ ρ told. Local.mem-whole 𝓤 H A W T ρ) (λ ρ told. Local.whole-mem 𝓤 H A W T ρ), Path'.refl), (ShrSlice.spares-sslice 𝓤 H A W (Referent.rtF (Referent.fInt Syntax.w8)) (Syntax.tyRef (Syntax.named 1) Syntax.imm (Syntax.tyInt Syntax.w8)) 1, Shared.reads-sslice 𝓤 H A W (Referent.rtF (Referent.fInt Syntax.w8)) (Syntax.tyRef (Syntax.named 1) Syntax.imm (Syntax.tyInt Syntax.w8)) 1, Path'.refl, (ShrSlice.spares-sslice 𝓤 H A W (Referent.rtF (Referent.fInt Syntax.w32)) (Syntax.tyRef Syntax.erased Syntax.imm (Syntax.tyInt Syntax.w32)) 7, Shared.reads-sslice 𝓤 H A W (Referent.rtF (Referent.fInt Syntax.w32)) (Syntax.tyRef Syntax.erased Syntax.imm (Syntax.tyInt Syntax.w32)) 7, Path'.refl, (Reads.as-is 𝓤 H A (Mut.mslice (Referent.rtF (Referent.fInt Syntax.w32)) (Syntax.tyRef Syntax.erased Syntax.mut (Syntax.tyInt Syntax.w32)) 8), Mut.reads-mslice 𝓤 H A W (Referent.rtF (Referent.fInt Syntax.w32)) (Syntax.tyRef Syntax.erased Syntax.mut (Syntax.tyInt Syntax.w32)) 8, Path'.refl, tt))))) (Reads.room-gone 𝓤 H A σ) (tt, (tt, (tt, tt))) Path'.refl) d45
 
           d47 : Typed.Typed 𝓤 H A 𝓣 E G57 b51 Δ7 at47
-          d47 = Typed.s-seq 𝓤 H A W 𝓣 E G57 G58 b39 b50 Δ7 (Typed.ask s52) at46 (Relend.t-sl-aggregate 𝓤 H A W E (Referent.rtF (Referent.fInt Syntax.w32)) 𝓣 (Relend.asMut (Referent.rtF (Referent.fInt Syntax.w32))) G57 26 27 8 (Syntax.tyRef Syntax.erased Syntax.mut (Syntax.tyInt Syntax.w32)) (Syntax.tyRef Syntax.erased Syntax.mut (Syntax.tyInt Syntax.w32)) (λ x. x) (Scalar.oFld 4 (List._∷_ (Syntax.field 1) List.[]) (Syntax.tyInt Syntax.w64) 8 λ v. Shared.lenV (v .0)) (Reads.as-is 𝓤 H A (Relend.msptr (Referent.rtF (Referent.fInt Syntax.w32)) (Syntax.tyRef Syntax.erased Syntax.mut (Syntax.tyInt Syntax.w32)) 8)) (Reads.room-gone 𝓤 H A (Syntax.tyStruct (List._∷_ 38 (List._∷_ 91 (List._∷_ 93 List.[]))) (Syntax.tcons (Syntax.tyRef Syntax.erased Syntax.mut (Syntax.tyInt Syntax.w32)) (Syntax.tcons (Syntax.tyInt Syntax.w64) Syntax.tnil)))) ( Relend.reads-owed-len 𝓤 H A W (Referent.rtF (Referent.fInt Syntax.w32)) (Syntax.tyRef (Syntax.named 3) Syntax.mut (Syntax.tyInt Syntax.w32)) 3 8 (Row.lease (κs .1 .1 .1 .0) (qs .1 .1 .1 .0)) 8 Path'.refl, Path'.refl, ) Path'.refl Path'.refl λ b o k. tt) d46
+          d47 = Typed.s-seq 𝓤 H A W 𝓣 E G57 G58 b39 b50 Δ7 (Typed.ask s52) at46 (Relend.t-sl-aggregate 𝓤 H A W E (Referent.rtF (Referent.fInt Syntax.w32)) 𝓣 (Relend.asMut (Referent.rtF (Referent.fInt Syntax.w32))) G57 26 27 8 (Syntax.tyRef Syntax.erased Syntax.mut (Syntax.tyInt Syntax.w32)) (Syntax.tyRef Syntax.erased Syntax.mut (Syntax.tyInt Syntax.w32)) (λ x. x) (Scalar.oFld 4 (List._∷_ (Syntax.field 1) List.[]) (Syntax.tyInt Syntax.w64) 8 λ v. Shared.lenV (v .0)) (Reads.as-is 𝓤 H A (Relend.msptr (Referent.rtF (Referent.fInt Syntax.w32)) (Syntax.tyRef Syntax.erased Syntax.mut (Syntax.tyInt Syntax.w32)) 8)) (Reads.room-gone 𝓤 H A (Syntax.tyStruct (List._∷_ 38 (List._∷_ 91 (List._∷_ 93 List.[]))) (Syntax.tcons (Syntax.tyRef Syntax.erased Syntax.mut (Syntax.tyInt Syntax.w32)) (Syntax.tcons (Syntax.tyInt Syntax.w64) Syntax.tnil)))) (Relend.reads-owed-len 𝓤 H A W (Referent.rtF (Referent.fInt Syntax.w32)) (Syntax.tyRef (Syntax.named 3) Syntax.mut (Syntax.tyInt Syntax.w32)) 3 8 (Row.lease (κs .1 .1 .1 .0) (qs .1 .1 .1 .0)) 8 Path'.refl, Path'.refl) Path'.refl Path'.refl λ b o k. tt) d46
 
           d48 : Typed.Typed 𝓤 H A 𝓣 E G56 b52 Δ7 at48
           d48 = Typed.s-seq 𝓤 H A W 𝓣 E G56 G57 b38 b51 Δ7 (Typed.give s51) at47 (Relend.t-sl-relend 𝓤 H A W E (Referent.rtF (Referent.fInt Syntax.w32)) 𝓣 G56 4 26 3 8 (Syntax.tyRef (Syntax.named 3) Syntax.mut (Syntax.tyInt Syntax.w32)) (Syntax.tyRef Syntax.erased Syntax.mut (Syntax.tyInt Syntax.w32)) (Row.lease (κs .1 .1 .1 .0) (qs .1 .1 .1 .0)) 0 (λ x. x) (Reads.as-is 𝓤 H A (Mut.mslice (Referent.rtF (Referent.fInt Syntax.w32)) (Syntax.tyRef (Syntax.named 3) Syntax.mut (Syntax.tyInt Syntax.w32)) 3)) (Reads.room-gone 𝓤 H A (Syntax.tyRef Syntax.erased Syntax.mut (Syntax.tyInt Syntax.w32))) Path'.refl tt Path'.refl Path'.refl Path'.refl λ b o. tt) d47
 
           d49 : Typed.Typed 𝓤 H A 𝓣 E G55 b52 Δ7 at49
-          d49 = Typed.g-pre 𝓤 H A W 𝓣 E G55 G56 b52 Δ7 (λ Ψ. Ψ) at48 (Lifetime.g-begin 𝓤 H A W E G55 8 ( tt, ( tt, ( tt, ( (tt, tt), ( tt, ( tt, ( tt, ( tt, ( tt, ( tt, ( tt, ( tt, ( tt, ( tt, ( tt, ( tt, ( tt, ( tt, ( tt, ( tt, ( tt, ( tt, ( tt, ( tt, ( tt, ( tt, ( tt, ( tt, ( tt, ( tt, (tt, (tt, (tt, tt))), ), ), ), ), ), ), ), ), ), ), ), ), ), ), ), ), ), ), ), ), ), ), ), ), ), ), ), ), ), )) d48
+          d49 = Typed.g-pre 𝓤 H A W 𝓣 E G55 G56 b52 Δ7 (λ Ψ. Ψ) at48 (Lifetime.g-begin 𝓤 H A W E G55 8 (tt, (tt, (tt, ((tt, tt), (tt, (tt, (tt, (tt, (tt, (tt, (tt, (tt, (tt, (tt, (tt, (tt, (tt, (tt, (tt, (tt, (tt, (tt, (tt, (tt, (tt, (tt, (tt, (tt, (tt, (tt, (tt, (tt, (tt, tt)))))))))))))))))))))))))))))))))) d48
 
           d50 : Typed.Typed 𝓤 H A 𝓣 E G54 b53 Δ7 at50
-          d50 = Typed.s-seq 𝓤 H A W 𝓣 E G54 G55 b37 b52 Δ7 (Typed.ask s49) at49 (Relend.t-sl-aggregate 𝓤 H A W E (Referent.rtF (Referent.fInt Syntax.w32)) 𝓣 (Relend.asShr (Referent.rtF (Referent.fInt Syntax.w32))) G54 24 25 7 (Syntax.tyRef Syntax.erased Syntax.imm (Syntax.tyInt Syntax.w32)) (Syntax.tyRef Syntax.erased Syntax.imm (Syntax.tyInt Syntax.w32)) (λ x. x) (Scalar.oFld 3 (List._∷_ (Syntax.field 1) List.[]) (Syntax.tyInt Syntax.w64) 8 λ v. Shared.lenV (v .0)) (Reads.as-is 𝓤 H A (Relend.ssptr (Referent.rtF (Referent.fInt Syntax.w32)) (Syntax.tyRef Syntax.erased Syntax.imm (Syntax.tyInt Syntax.w32)) 7)) (Reads.room-gone 𝓤 H A (Syntax.tyStruct (List._∷_ 38 (List._∷_ 91 (List._∷_ 93 List.[]))) (Syntax.tcons (Syntax.tyRef Syntax.erased Syntax.imm (Syntax.tyInt Syntax.w32)) (Syntax.tcons (Syntax.tyInt Syntax.w64) Syntax.tnil)))) ( Reshare.reads-owedS-len 𝓤 H A W (Referent.rtF (Referent.fInt Syntax.w32)) (Syntax.tyRef (Syntax.named 2) Syntax.mut (Syntax.tyInt Syntax.w32)) 2 7 (Row.lease (κs .1 .1 .0) (qs .1 .1 .0)) 8 Path'.refl, Path'.refl, ) Path'.refl Path'.refl λ b o k. tt) d49
+          d50 = Typed.s-seq 𝓤 H A W 𝓣 E G54 G55 b37 b52 Δ7 (Typed.ask s49) at49 (Relend.t-sl-aggregate 𝓤 H A W E (Referent.rtF (Referent.fInt Syntax.w32)) 𝓣 (Relend.asShr (Referent.rtF (Referent.fInt Syntax.w32))) G54 24 25 7 (Syntax.tyRef Syntax.erased Syntax.imm (Syntax.tyInt Syntax.w32)) (Syntax.tyRef Syntax.erased Syntax.imm (Syntax.tyInt Syntax.w32)) (λ x. x) (Scalar.oFld 3 (List._∷_ (Syntax.field 1) List.[]) (Syntax.tyInt Syntax.w64) 8 λ v. Shared.lenV (v .0)) (Reads.as-is 𝓤 H A (Relend.ssptr (Referent.rtF (Referent.fInt Syntax.w32)) (Syntax.tyRef Syntax.erased Syntax.imm (Syntax.tyInt Syntax.w32)) 7)) (Reads.room-gone 𝓤 H A (Syntax.tyStruct (List._∷_ 38 (List._∷_ 91 (List._∷_ 93 List.[]))) (Syntax.tcons (Syntax.tyRef Syntax.erased Syntax.imm (Syntax.tyInt Syntax.w32)) (Syntax.tcons (Syntax.tyInt Syntax.w64) Syntax.tnil)))) (Reshare.reads-owedS-len 𝓤 H A W (Referent.rtF (Referent.fInt Syntax.w32)) (Syntax.tyRef (Syntax.named 2) Syntax.mut (Syntax.tyInt Syntax.w32)) 2 7 (Row.lease (κs .1 .1 .0) (qs .1 .1 .0)) 8 Path'.refl, Path'.refl) Path'.refl Path'.refl λ b o k. tt) d49
 
           d51 : Typed.Typed 𝓤 H A 𝓣 E G53 b54 Δ7 at51
           d51 = Typed.s-seq 𝓤 H A W 𝓣 E G53 G54 b36 b53 Δ7 (Typed.give s48) at50 (Reshare.t-sl-reshare 𝓤 H A W E (Referent.rtF (Referent.fInt Syntax.w32)) 𝓣 G53 3 24 2 7 (Syntax.tyRef (Syntax.named 2) Syntax.mut (Syntax.tyInt Syntax.w32)) (Syntax.tyRef Syntax.erased Syntax.imm (Syntax.tyInt Syntax.w32)) (Row.lease (κs .1 .1 .0) (qs .1 .1 .0)) 0 (λ x. x) (Reads.as-is 𝓤 H A (Mut.mslice (Referent.rtF (Referent.fInt Syntax.w32)) (Syntax.tyRef (Syntax.named 2) Syntax.mut (Syntax.tyInt Syntax.w32)) 2)) (Reads.room-gone 𝓤 H A (Syntax.tyRef Syntax.erased Syntax.imm (Syntax.tyInt Syntax.w32))) Path'.refl tt Path'.refl Path'.refl Path'.refl λ b o. tt) d50
 
           d52 : Typed.Typed 𝓤 H A 𝓣 E G52 b54 Δ7 at52
-          d52 = Typed.g-pre 𝓤 H A W 𝓣 E G52 G53 b54 Δ7 (λ Ψ. Ψ) at51 (Lifetime.g-begin 𝓤 H A W E G52 7 ( tt, ( tt, ( tt, ( tt, ( tt, ( tt, ( tt, ( tt, ( tt, ( tt, ( tt, ( tt, ( tt, ( tt, ( tt, ( tt, ( tt, ( tt, ( tt, ( tt, ( tt, ( tt, ( tt, ( tt, ( tt, ( tt, ( tt, ( tt, ( tt, ( tt, (tt, (tt, (tt, tt))), ), ), ), ), ), ), ), ), ), ), ), ), ), ), ), ), ), ), ), ), ), ), ), ), ), ), ), ), ), )) d51
+          d52 = Typed.g-pre 𝓤 H A W 𝓣 E G52 G53 b54 Δ7 (λ Ψ. Ψ) at51 (Lifetime.g-begin 𝓤 H A W E G52 7 (tt, (tt, (tt, (tt, (tt, (tt, (tt, (tt, (tt, (tt, (tt, (tt, (tt, (tt, (tt, (tt, (tt, (tt, (tt, (tt, (tt, (tt, (tt, (tt, (tt, (tt, (tt, (tt, (tt, (tt, (tt, (tt, (tt, tt)))))))))))))))))))))))))))))))))) d51
 
           d53 : Typed.Typed 𝓤 H A 𝓣 E G51 b54 Δ7 at53
           d53 = Typed.g-pre 𝓤 H A W 𝓣 E G51 G52 b54 Δ7 (Typed.pass T51 T52 s46) at52 (Scalar.g-room 𝓤 H A W E G51 22 Syntax.tyPtr (Scalar.room-sc 𝓤 H A W Row.sPtr)) d52
@@ -2405,7 +3419,7 @@ module _ (claims· : Claims) where
           d55 = Typed.s-seq 𝓤 H A W 𝓣 E G49 G50 b35 b54 Δ7 (Typed.both s44) at54 (Move.t-sl-copy-out 𝓤 H A W E T 𝓣 Path'.refl (Copies.cStruct S.the-type SL.the-laws SL.the-copy .copy 𝓤 H A W) (λ ρ. Unit) G49 1 22 23 0 τ (Row.lease (κs .0) (qs .0)) σ σ (Rows'.whole T) (Shared.bySize 12) (λ u. u .1 .1 .1 .1 .1 .1 .1 .1 .0) (λ x. x) nothing (λ x. Unit {0}) (λ x. x) (λ x. x) (λ i o. Elements.at-mul o 12 i) Path'.refl Path'.refl (Own.told-none 𝓤 H A (G49 .slots)) (DerefMove.learns-nothing 𝓤 H A T) (Reads.as-is 𝓤 H A (Mut.mslice T τ 0)) (Reads.as-is 𝓤 H A (Rows'.sc-here Row.sPtr)) (Reads.room-gone 𝓤 H A σ) (Yields.makes-mem 𝓤 H A W (λ ρ. Unit) T Path'.refl (Rows'.whole T) (λ x. x) λ ρ told. Local.whole-mem 𝓤 H A W T ρ) Path'.refl tt Path'.refl Path'.refl) d54
 
           d56 : Typed.Typed 𝓤 H A 𝓣 E G48 b56 Δ7 at56
-          d56 = Typed.s-seq 𝓤 H A W 𝓣 E G48 G49 b34 b55 Δ7 (Typed.ask s43) at55 (Scalar.t-op2 𝓤 H A W E 𝓣 G48 Syntax.offset (Scalar.oFld 1 (List._∷_ (Syntax.field 0) List.[]) τ 0 Reads.ptrVal) (Scalar.oAt 21 (Syntax.tyInt Syntax.w64) (Row.valS (Row.sInt Syntax.w64))) 22 (Rows'.sc-here Row.sPtr) Syntax.tyPtr (Row.valS Row.sPtr) (Row.sPtr .of) ( Mut.reads-mslice-ptr 𝓤 H A W T τ 0 0 Path'.refl, Path'.refl, ) (Scalar.reads-sc 𝓤 H A W (Row.sInt Syntax.w64), Path'.refl) (Reads.room-gone 𝓤 H A Syntax.tyPtr) (Scalar.holds-sc 𝓤 H A W Row.sPtr) Path'.refl (λ u. Path'.refl) λ u. tt) d55
+          d56 = Typed.s-seq 𝓤 H A W 𝓣 E G48 G49 b34 b55 Δ7 (Typed.ask s43) at55 (Scalar.t-op2 𝓤 H A W E 𝓣 G48 Syntax.offset (Scalar.oFld 1 (List._∷_ (Syntax.field 0) List.[]) τ 0 Reads.ptrVal) (Scalar.oAt 21 (Syntax.tyInt Syntax.w64) (Row.valS (Row.sInt Syntax.w64))) 22 (Rows'.sc-here Row.sPtr) Syntax.tyPtr (Row.valS Row.sPtr) (Row.sPtr .of) (Mut.reads-mslice-ptr 𝓤 H A W T τ 0 0 Path'.refl, Path'.refl) (Scalar.reads-sc 𝓤 H A W (Row.sInt Syntax.w64), Path'.refl) (Reads.room-gone 𝓤 H A Syntax.tyPtr) (Scalar.holds-sc 𝓤 H A W Row.sPtr) Path'.refl (λ u. Path'.refl) λ u. tt) d55
 
           d57 : Typed.Typed 𝓤 H A 𝓣 E G45 b57 Δ7 at57
           d57 = Typed.s-seq 𝓤 H A W 𝓣 E G45 G48 b33 b56 Δ7 (Typed.ask s42) at56 (Scalar.t-op2 𝓤 H A W E 𝓣 G45 (Syntax.mul Syntax.unsigned) (Scalar.oAt 8 (Syntax.tyInt Syntax.w64) (Row.valS (Row.sInt Syntax.w64))) (Scalar.oInt Syntax.w64 12) 21 (Rows'.sc-here (Row.sInt Syntax.w64)) (Syntax.tyInt Syntax.w64) (Row.valS (Row.sInt Syntax.w64)) (Row.sInt Syntax.w64 .of) (Scalar.reads-sc 𝓤 H A W (Row.sInt Syntax.w64), Path'.refl) tt (Reads.room-gone 𝓤 H A (Syntax.tyInt Syntax.w64)) (Scalar.holds-sc 𝓤 H A W (Row.sInt Syntax.w64)) Path'.refl (λ u. Path'.refl) λ u. tt) d56
@@ -2462,25 +3476,25 @@ module _ (claims· : Claims) where
           d74 = Typed.g-pre 𝓤 H A W 𝓣 E G83 G84 b67 Δ0 (Typed.pass T83 T84 s78) at73 (Scalar.g-room 𝓤 H A W E G83 5 (Syntax.tyInt Syntax.w64) (Scalar.room-sc 𝓤 H A W (Row.sInt Syntax.w64))) d73
 
           d75 : Typed.Typed 𝓤 H A 𝓣 E G82 b68 Δ0 at75
-          d75 = Typed.s-seq 𝓤 H A W 𝓣 E G82 G83 b66 b67 Δ0 (Typed.both s77) at74 (Plain.t-call-plain 𝓤 H A W 𝓣 2 ps·4 r·4 (claims· .8) (claims· .9) "firm::finish" (known .4) E (λ pos β. β) G82 ( record { pos = 6; st = List.[]; d = 0; at = λ x. x }, ( record { pos = 30; ty = Syntax.tyRef Syntax.erased Syntax.mut (Syntax.tyInt Syntax.w32); ref = λ x. x; }, ( record { pos = 32; ty = Syntax.tyRef Syntax.erased Syntax.mut (Syntax.tyInt Syntax.w32); ref = λ x. x; }, tt, ), ), ) 0 (List._∷_ 9 (List._∷_ 10 List.[])) (Call.sub-id 𝓤 H A W (G82 .slots)) ( ( Yields.yields-copy 𝓤 H A W (λ ρ. Unit) (Declared.row Quote.the-type) Path'.refl (Copies.cStruct Quote.the-type Laws.the-laws Laws.the-copy .copy 𝓤 H A W) (Rows'.whole (Declared.row Quote.the-type)) (λ x. x) (λ x. x) (λ ρ told. Local.mem-whole 𝓤 H A W (Declared.row Quote.the-type) ρ) λ ρ told. Local.whole-mem 𝓤 H A W (Declared.row Quote.the-type) ρ, Path'.refl, ), ( Reads.as-is 𝓤 H A (Mut.mslice (Referent.rtF (Referent.fInt Syntax.w32)) (Syntax.tyRef Syntax.erased Syntax.mut (Syntax.tyInt Syntax.w32)) 9), Mut.reads-mslice 𝓤 H A W (Referent.rtF (Referent.fInt Syntax.w32)) (Syntax.tyRef Syntax.erased Syntax.mut (Syntax.tyInt Syntax.w32)) 9, Path'.refl, ( Reads.as-is 𝓤 H A (Mut.mslice (Referent.rtF (Referent.fInt Syntax.w32)) (Syntax.tyRef Syntax.erased Syntax.mut (Syntax.tyInt Syntax.w32)) 10), Mut.reads-mslice 𝓤 H A W (Referent.rtF (Referent.fInt Syntax.w32)) (Syntax.tyRef Syntax.erased Syntax.mut (Syntax.tyInt Syntax.w32)) 10, Path'.refl, tt, ), ), ) (Reads.room-gone 𝓤 H A (Syntax.tyStruct (List._∷_ 102 (List._∷_ 105 (List._∷_ 114 (List._∷_ 109 (List._∷_ 58 (List._∷_ 58 (List._∷_ 81 (List._∷_ 117 (List._∷_ 111 (List._∷_ 116 (List._∷_ 101 List.[]))))))))))) (Syntax.tcons (Syntax.tyInt Syntax.w32) (Syntax.tcons (Syntax.tyInt Syntax.w64) (Syntax.tcons (Syntax.tyInt Syntax.w64) (Syntax.tcons (Syntax.tyInt Syntax.w32) Syntax.tnil)))))) (tt, (tt, tt)) Path'.refl) d74
+          d75 = Typed.s-seq 𝓤 H A W 𝓣 E G82 G83 b66 b67 Δ0 (Typed.both s77) at74 (Plain.t-call-plain 𝓤 H A W 𝓣 2 ps·4 r·4 (claims· .8) (claims· .9) "firm::finish" (known .4) E (λ pos β. β) G82 (record { pos = 6; st = List.[]; d = 0; at = λ x. x }, (record { pos = 30; ty = Syntax.tyRef Syntax.erased Syntax.mut (Syntax.tyInt Syntax.w32); ref = λ x. x }, (record { pos = 32; ty = Syntax.tyRef Syntax.erased Syntax.mut (Syntax.tyInt Syntax.w32); ref = λ x. x }, tt))) 0 (List._∷_ 9 (List._∷_ 10 List.[])) (Call.sub-id 𝓤 H A W (G82 .slots)) ((Yields.yields-copy 𝓤 H A W (λ ρ. Unit) (Declared.row Quote.the-type) Path'.refl (Copies.cStruct Quote.the-type Laws.the-laws Laws.the-copy .copy 𝓤 H A W) (Rows'.whole (Declared.row Quote.the-type)) (λ x. x) (λ x. x) (λ ρ told. Local.mem-whole 𝓤 H A W (Declared.row Quote.the-type) ρ) λ ρ told. Local.whole-mem 𝓤 H A W (Declared.row Quote.the-type) ρ, Path'.refl), (Reads.as-is 𝓤 H A (Mut.mslice (Referent.rtF (Referent.fInt Syntax.w32)) (Syntax.tyRef Syntax.erased Syntax.mut (Syntax.tyInt Syntax.w32)) 9), Mut.reads-mslice 𝓤 H A W (Referent.rtF (Referent.fInt Syntax.w32)) (Syntax.tyRef Syntax.erased Syntax.mut (Syntax.tyInt Syntax.w32)) 9, Path'.refl, (Reads.as-is 𝓤 H A (Mut.mslice (Referent.rtF (Referent.fInt Syntax.w32)) (Syntax.tyRef Syntax.erased Syntax.mut (Syntax.tyInt Syntax.w32)) 10), Mut.reads-mslice 𝓤 H A W (Referent.rtF (Referent.fInt Syntax.w32)) (Syntax.tyRef Syntax.erased Syntax.mut (Syntax.tyInt Syntax.w32)) 10, Path'.refl, tt))) (Reads.room-gone 𝓤 H A (Syntax.tyStruct (List._∷_ 102 (List._∷_ 105 (List._∷_ 114 (List._∷_ 109 (List._∷_ 58 (List._∷_ 58 (List._∷_ 81 (List._∷_ 117 (List._∷_ 111 (List._∷_ 116 (List._∷_ 101 List.[]))))))))))) (Syntax.tcons (Syntax.tyInt Syntax.w32) (Syntax.tcons (Syntax.tyInt Syntax.w64) (Syntax.tcons (Syntax.tyInt Syntax.w64) (Syntax.tcons (Syntax.tyInt Syntax.w32) Syntax.tnil)))))) (tt, (tt, tt)) Path'.refl) d74
 
           d76 : Typed.Typed 𝓤 H A 𝓣 E G81 b69 Δ0 at76
-          d76 = Typed.s-seq 𝓤 H A W 𝓣 E G81 G82 b65 b68 Δ0 (Typed.ask s76) at75 (Relend.t-sl-aggregate 𝓤 H A W E (Referent.rtF (Referent.fInt Syntax.w32)) 𝓣 (Relend.asMut (Referent.rtF (Referent.fInt Syntax.w32))) G81 31 32 10 (Syntax.tyRef Syntax.erased Syntax.mut (Syntax.tyInt Syntax.w32)) (Syntax.tyRef Syntax.erased Syntax.mut (Syntax.tyInt Syntax.w32)) (λ x. x) (Scalar.oFld 4 (List._∷_ (Syntax.field 1) List.[]) (Syntax.tyInt Syntax.w64) 8 λ v. Shared.lenV (v .0)) (Reads.as-is 𝓤 H A (Relend.msptr (Referent.rtF (Referent.fInt Syntax.w32)) (Syntax.tyRef Syntax.erased Syntax.mut (Syntax.tyInt Syntax.w32)) 10)) (Reads.room-gone 𝓤 H A (Syntax.tyStruct (List._∷_ 38 (List._∷_ 91 (List._∷_ 93 List.[]))) (Syntax.tcons (Syntax.tyRef Syntax.erased Syntax.mut (Syntax.tyInt Syntax.w32)) (Syntax.tcons (Syntax.tyInt Syntax.w64) Syntax.tnil)))) ( Relend.reads-owed-len 𝓤 H A W (Referent.rtF (Referent.fInt Syntax.w32)) (Syntax.tyRef (Syntax.named 3) Syntax.mut (Syntax.tyInt Syntax.w32)) 3 10 (Row.lease (κs .1 .1 .1 .0) (qs .1 .1 .1 .0)) 8 Path'.refl, Path'.refl, ) Path'.refl Path'.refl λ b o k. tt) d75
+          d76 = Typed.s-seq 𝓤 H A W 𝓣 E G81 G82 b65 b68 Δ0 (Typed.ask s76) at75 (Relend.t-sl-aggregate 𝓤 H A W E (Referent.rtF (Referent.fInt Syntax.w32)) 𝓣 (Relend.asMut (Referent.rtF (Referent.fInt Syntax.w32))) G81 31 32 10 (Syntax.tyRef Syntax.erased Syntax.mut (Syntax.tyInt Syntax.w32)) (Syntax.tyRef Syntax.erased Syntax.mut (Syntax.tyInt Syntax.w32)) (λ x. x) (Scalar.oFld 4 (List._∷_ (Syntax.field 1) List.[]) (Syntax.tyInt Syntax.w64) 8 λ v. Shared.lenV (v .0)) (Reads.as-is 𝓤 H A (Relend.msptr (Referent.rtF (Referent.fInt Syntax.w32)) (Syntax.tyRef Syntax.erased Syntax.mut (Syntax.tyInt Syntax.w32)) 10)) (Reads.room-gone 𝓤 H A (Syntax.tyStruct (List._∷_ 38 (List._∷_ 91 (List._∷_ 93 List.[]))) (Syntax.tcons (Syntax.tyRef Syntax.erased Syntax.mut (Syntax.tyInt Syntax.w32)) (Syntax.tcons (Syntax.tyInt Syntax.w64) Syntax.tnil)))) (Relend.reads-owed-len 𝓤 H A W (Referent.rtF (Referent.fInt Syntax.w32)) (Syntax.tyRef (Syntax.named 3) Syntax.mut (Syntax.tyInt Syntax.w32)) 3 10 (Row.lease (κs .1 .1 .1 .0) (qs .1 .1 .1 .0)) 8 Path'.refl, Path'.refl) Path'.refl Path'.refl λ b o k. tt) d75
 
           d77 : Typed.Typed 𝓤 H A 𝓣 E G80 b70 Δ0 at77
           d77 = Typed.s-seq 𝓤 H A W 𝓣 E G80 G81 b64 b69 Δ0 (Typed.give s75) at76 (Relend.t-sl-relend 𝓤 H A W E (Referent.rtF (Referent.fInt Syntax.w32)) 𝓣 G80 4 31 3 10 (Syntax.tyRef (Syntax.named 3) Syntax.mut (Syntax.tyInt Syntax.w32)) (Syntax.tyRef Syntax.erased Syntax.mut (Syntax.tyInt Syntax.w32)) (Row.lease (κs .1 .1 .1 .0) (qs .1 .1 .1 .0)) 0 (λ x. x) (Reads.as-is 𝓤 H A (Mut.mslice (Referent.rtF (Referent.fInt Syntax.w32)) (Syntax.tyRef (Syntax.named 3) Syntax.mut (Syntax.tyInt Syntax.w32)) 3)) (Reads.room-gone 𝓤 H A (Syntax.tyRef Syntax.erased Syntax.mut (Syntax.tyInt Syntax.w32))) Path'.refl tt Path'.refl Path'.refl Path'.refl λ b o. tt) d76
 
           d78 : Typed.Typed 𝓤 H A 𝓣 E G79 b70 Δ0 at78
-          d78 = Typed.g-pre 𝓤 H A W 𝓣 E G79 G80 b70 Δ0 (λ Ψ. Ψ) at77 (Lifetime.g-begin 𝓤 H A W E G79 10 ( tt, ( tt, ( tt, ( (tt, tt), ( tt, ( tt, ( tt, ( tt, ( tt, ( tt, ( tt, ( tt, ( tt, ( tt, ( tt, ( tt, ( tt, ( tt, ( tt, ( tt, ( tt, ( tt, ( tt, ( tt, ( tt, ( tt, ( tt, ( tt, ( tt, ( tt, (tt, (tt, (tt, tt))), ), ), ), ), ), ), ), ), ), ), ), ), ), ), ), ), ), ), ), ), ), ), ), ), ), ), ), ), ), )) d77
+          d78 = Typed.g-pre 𝓤 H A W 𝓣 E G79 G80 b70 Δ0 (λ Ψ. Ψ) at77 (Lifetime.g-begin 𝓤 H A W E G79 10 (tt, (tt, (tt, ((tt, tt), (tt, (tt, (tt, (tt, (tt, (tt, (tt, (tt, (tt, (tt, (tt, (tt, (tt, (tt, (tt, (tt, (tt, (tt, (tt, (tt, (tt, (tt, (tt, (tt, (tt, (tt, (tt, (tt, (tt, tt)))))))))))))))))))))))))))))))))) d77
 
           d79 : Typed.Typed 𝓤 H A 𝓣 E G78 b71 Δ0 at79
-          d79 = Typed.s-seq 𝓤 H A W 𝓣 E G78 G79 b63 b70 Δ0 (Typed.ask s73) at78 (Relend.t-sl-aggregate 𝓤 H A W E (Referent.rtF (Referent.fInt Syntax.w32)) 𝓣 (Relend.asMut (Referent.rtF (Referent.fInt Syntax.w32))) G78 29 30 9 (Syntax.tyRef Syntax.erased Syntax.mut (Syntax.tyInt Syntax.w32)) (Syntax.tyRef Syntax.erased Syntax.mut (Syntax.tyInt Syntax.w32)) (λ x. x) (Scalar.oFld 3 (List._∷_ (Syntax.field 1) List.[]) (Syntax.tyInt Syntax.w64) 8 λ v. Shared.lenV (v .0)) (Reads.as-is 𝓤 H A (Relend.msptr (Referent.rtF (Referent.fInt Syntax.w32)) (Syntax.tyRef Syntax.erased Syntax.mut (Syntax.tyInt Syntax.w32)) 9)) (Reads.room-gone 𝓤 H A (Syntax.tyStruct (List._∷_ 38 (List._∷_ 91 (List._∷_ 93 List.[]))) (Syntax.tcons (Syntax.tyRef Syntax.erased Syntax.mut (Syntax.tyInt Syntax.w32)) (Syntax.tcons (Syntax.tyInt Syntax.w64) Syntax.tnil)))) ( Relend.reads-owed-len 𝓤 H A W (Referent.rtF (Referent.fInt Syntax.w32)) (Syntax.tyRef (Syntax.named 2) Syntax.mut (Syntax.tyInt Syntax.w32)) 2 9 (Row.lease (κs .1 .1 .0) (qs .1 .1 .0)) 8 Path'.refl, Path'.refl, ) Path'.refl Path'.refl λ b o k. tt) d78
+          d79 = Typed.s-seq 𝓤 H A W 𝓣 E G78 G79 b63 b70 Δ0 (Typed.ask s73) at78 (Relend.t-sl-aggregate 𝓤 H A W E (Referent.rtF (Referent.fInt Syntax.w32)) 𝓣 (Relend.asMut (Referent.rtF (Referent.fInt Syntax.w32))) G78 29 30 9 (Syntax.tyRef Syntax.erased Syntax.mut (Syntax.tyInt Syntax.w32)) (Syntax.tyRef Syntax.erased Syntax.mut (Syntax.tyInt Syntax.w32)) (λ x. x) (Scalar.oFld 3 (List._∷_ (Syntax.field 1) List.[]) (Syntax.tyInt Syntax.w64) 8 λ v. Shared.lenV (v .0)) (Reads.as-is 𝓤 H A (Relend.msptr (Referent.rtF (Referent.fInt Syntax.w32)) (Syntax.tyRef Syntax.erased Syntax.mut (Syntax.tyInt Syntax.w32)) 9)) (Reads.room-gone 𝓤 H A (Syntax.tyStruct (List._∷_ 38 (List._∷_ 91 (List._∷_ 93 List.[]))) (Syntax.tcons (Syntax.tyRef Syntax.erased Syntax.mut (Syntax.tyInt Syntax.w32)) (Syntax.tcons (Syntax.tyInt Syntax.w64) Syntax.tnil)))) (Relend.reads-owed-len 𝓤 H A W (Referent.rtF (Referent.fInt Syntax.w32)) (Syntax.tyRef (Syntax.named 2) Syntax.mut (Syntax.tyInt Syntax.w32)) 2 9 (Row.lease (κs .1 .1 .0) (qs .1 .1 .0)) 8 Path'.refl, Path'.refl) Path'.refl Path'.refl λ b o k. tt) d78
 
           d80 : Typed.Typed 𝓤 H A 𝓣 E G77 b72 Δ0 at80
           d80 = Typed.s-seq 𝓤 H A W 𝓣 E G77 G78 b62 b71 Δ0 (Typed.give s72) at79 (Relend.t-sl-relend 𝓤 H A W E (Referent.rtF (Referent.fInt Syntax.w32)) 𝓣 G77 3 29 2 9 (Syntax.tyRef (Syntax.named 2) Syntax.mut (Syntax.tyInt Syntax.w32)) (Syntax.tyRef Syntax.erased Syntax.mut (Syntax.tyInt Syntax.w32)) (Row.lease (κs .1 .1 .0) (qs .1 .1 .0)) 0 (λ x. x) (Reads.as-is 𝓤 H A (Mut.mslice (Referent.rtF (Referent.fInt Syntax.w32)) (Syntax.tyRef (Syntax.named 2) Syntax.mut (Syntax.tyInt Syntax.w32)) 2)) (Reads.room-gone 𝓤 H A (Syntax.tyRef Syntax.erased Syntax.mut (Syntax.tyInt Syntax.w32))) Path'.refl tt Path'.refl Path'.refl Path'.refl λ b o. tt) d79
 
           d81 : Typed.Typed 𝓤 H A 𝓣 E G43 b72 Δ0 at81
-          d81 = Typed.g-pre 𝓤 H A W 𝓣 E G43 G77 b72 Δ0 (λ Ψ. Ψ) at80 (Lifetime.g-begin 𝓤 H A W E G43 9 ( tt, ( tt, ( tt, ( tt, ( tt, ( tt, ( tt, ( tt, ( tt, ( tt, ( tt, ( tt, ( tt, ( tt, ( tt, ( tt, ( tt, ( tt, ( tt, ( tt, ( tt, ( tt, ( tt, ( tt, ( tt, ( tt, ( tt, ( tt, ( tt, ( tt, (tt, (tt, (tt, tt))), ), ), ), ), ), ), ), ), ), ), ), ), ), ), ), ), ), ), ), ), ), ), ), ), ), ), ), ), ), )) d80
+          d81 = Typed.g-pre 𝓤 H A W 𝓣 E G43 G77 b72 Δ0 (λ Ψ. Ψ) at80 (Lifetime.g-begin 𝓤 H A W E G43 9 (tt, (tt, (tt, (tt, (tt, (tt, (tt, (tt, (tt, (tt, (tt, (tt, (tt, (tt, (tt, (tt, (tt, (tt, (tt, (tt, (tt, (tt, (tt, (tt, (tt, (tt, (tt, (tt, (tt, (tt, (tt, (tt, (tt, tt)))))))))))))))))))))))))))))))))) d80
 
           d82 : Typed.Typed 𝓤 H A 𝓣 E G42 b73 Δ0 at82
           d82 = Typed.t-seq 𝓤 H A W 𝓣 E G42 G43 b61 b72 Δ0 at61 at81 d61 d81
@@ -2519,28 +3533,28 @@ module _ (claims· : Claims) where
           d93 = Typed.g-pre 𝓤 H A W 𝓣 E G12 G13 b76 Δ0 (λ Ψ. Ψ) at92 (Lifetime.g-end 𝓤 H A W E G12 4 Path'.refl) d92
 
           d94 : Typed.Typed 𝓤 H A 𝓣 E G11 b77 Δ0 at94
-          d94 = Typed.s-seq 𝓤 H A W 𝓣 E G11 G12 b5 b76 Δ0 (Typed.both s10) at93 (Plain.t-call-plain 𝓤 H A W 𝓣 3 ps·0 r·0 (claims· .0) (claims· .1) "firm::begin" (known .0) E (λ pos β. β) G11 ( Num.vAt 5 λ x. x, ( record { pos = 2; ty = Syntax.tyRef (Syntax.named 1) Syntax.imm (Syntax.tyInt Syntax.w8); ref = λ x. x; }, ( record { pos = 11; ty = Syntax.tyRef Syntax.erased Syntax.mut (Syntax.tyInt Syntax.w32); ref = λ x. x; }, ( record { pos = 13; ty = Syntax.tyRef Syntax.erased Syntax.mut (Syntax.tyInt Syntax.w32); ref = λ x. x; }, tt, ), ), ), ) 6 (List._∷_ 1 (List._∷_ 4 (List._∷_ 5 List.[]))) (Call.sub-id 𝓤 H A W (G11 .slots)) ( (Scalar.reads-sc 𝓤 H A W (Row.sInt Syntax.w64), Path'.refl), ( ShrSlice.spares-sslice 𝓤 H A W (Referent.rtF (Referent.fInt Syntax.w8)) (Syntax.tyRef (Syntax.named 1) Syntax.imm (Syntax.tyInt Syntax.w8)) 1, Shared.reads-sslice 𝓤 H A W (Referent.rtF (Referent.fInt Syntax.w8)) (Syntax.tyRef (Syntax.named 1) Syntax.imm (Syntax.tyInt Syntax.w8)) 1, Path'.refl, ( Reads.as-is 𝓤 H A (Mut.mslice (Referent.rtF (Referent.fInt Syntax.w32)) (Syntax.tyRef Syntax.erased Syntax.mut (Syntax.tyInt Syntax.w32)) 4), Mut.reads-mslice 𝓤 H A W (Referent.rtF (Referent.fInt Syntax.w32)) (Syntax.tyRef Syntax.erased Syntax.mut (Syntax.tyInt Syntax.w32)) 4, Path'.refl, ( Reads.as-is 𝓤 H A (Mut.mslice (Referent.rtF (Referent.fInt Syntax.w32)) (Syntax.tyRef Syntax.erased Syntax.mut (Syntax.tyInt Syntax.w32)) 5), Mut.reads-mslice 𝓤 H A W (Referent.rtF (Referent.fInt Syntax.w32)) (Syntax.tyRef Syntax.erased Syntax.mut (Syntax.tyInt Syntax.w32)) 5, Path'.refl, tt, ), ), ), ) (Reads.room-gone 𝓤 H A (Syntax.tyStruct (List._∷_ 102 (List._∷_ 105 (List._∷_ 114 (List._∷_ 109 (List._∷_ 58 (List._∷_ 58 (List._∷_ 81 (List._∷_ 117 (List._∷_ 111 (List._∷_ 116 (List._∷_ 101 List.[]))))))))))) (Syntax.tcons (Syntax.tyInt Syntax.w32) (Syntax.tcons (Syntax.tyInt Syntax.w64) (Syntax.tcons (Syntax.tyInt Syntax.w64) (Syntax.tcons (Syntax.tyInt Syntax.w32) Syntax.tnil)))))) (tt, (tt, (tt, tt))) Path'.refl) d93
+          d94 = Typed.s-seq 𝓤 H A W 𝓣 E G11 G12 b5 b76 Δ0 (Typed.both s10) at93 (Plain.t-call-plain 𝓤 H A W 𝓣 3 ps·0 r·0 (claims· .0) (claims· .1) "firm::begin" (known .0) E (λ pos β. β) G11 (Num.vAt 5 λ x. x, (record { pos = 2; ty = Syntax.tyRef (Syntax.named 1) Syntax.imm (Syntax.tyInt Syntax.w8); ref = λ x. x }, (record { pos = 11; ty = Syntax.tyRef Syntax.erased Syntax.mut (Syntax.tyInt Syntax.w32); ref = λ x. x }, (record { pos = 13; ty = Syntax.tyRef Syntax.erased Syntax.mut (Syntax.tyInt Syntax.w32); ref = λ x. x }, tt)))) 6 (List._∷_ 1 (List._∷_ 4 (List._∷_ 5 List.[]))) (Call.sub-id 𝓤 H A W (G11 .slots)) ((Scalar.reads-sc 𝓤 H A W (Row.sInt Syntax.w64), Path'.refl), (ShrSlice.spares-sslice 𝓤 H A W (Referent.rtF (Referent.fInt Syntax.w8)) (Syntax.tyRef (Syntax.named 1) Syntax.imm (Syntax.tyInt Syntax.w8)) 1, Shared.reads-sslice 𝓤 H A W (Referent.rtF (Referent.fInt Syntax.w8)) (Syntax.tyRef (Syntax.named 1) Syntax.imm (Syntax.tyInt Syntax.w8)) 1, Path'.refl, (Reads.as-is 𝓤 H A (Mut.mslice (Referent.rtF (Referent.fInt Syntax.w32)) (Syntax.tyRef Syntax.erased Syntax.mut (Syntax.tyInt Syntax.w32)) 4), Mut.reads-mslice 𝓤 H A W (Referent.rtF (Referent.fInt Syntax.w32)) (Syntax.tyRef Syntax.erased Syntax.mut (Syntax.tyInt Syntax.w32)) 4, Path'.refl, (Reads.as-is 𝓤 H A (Mut.mslice (Referent.rtF (Referent.fInt Syntax.w32)) (Syntax.tyRef Syntax.erased Syntax.mut (Syntax.tyInt Syntax.w32)) 5), Mut.reads-mslice 𝓤 H A W (Referent.rtF (Referent.fInt Syntax.w32)) (Syntax.tyRef Syntax.erased Syntax.mut (Syntax.tyInt Syntax.w32)) 5, Path'.refl, tt)))) (Reads.room-gone 𝓤 H A (Syntax.tyStruct (List._∷_ 102 (List._∷_ 105 (List._∷_ 114 (List._∷_ 109 (List._∷_ 58 (List._∷_ 58 (List._∷_ 81 (List._∷_ 117 (List._∷_ 111 (List._∷_ 116 (List._∷_ 101 List.[]))))))))))) (Syntax.tcons (Syntax.tyInt Syntax.w32) (Syntax.tcons (Syntax.tyInt Syntax.w64) (Syntax.tcons (Syntax.tyInt Syntax.w64) (Syntax.tcons (Syntax.tyInt Syntax.w32) Syntax.tnil)))))) (tt, (tt, (tt, tt))) Path'.refl) d93
 
           d95 : Typed.Typed 𝓤 H A 𝓣 E G10 b78 Δ0 at95
-          d95 = Typed.s-seq 𝓤 H A W 𝓣 E G10 G11 b4 b77 Δ0 (Typed.ask s9) at94 (Relend.t-sl-aggregate 𝓤 H A W E (Referent.rtF (Referent.fInt Syntax.w32)) 𝓣 (Relend.asMut (Referent.rtF (Referent.fInt Syntax.w32))) G10 12 13 5 (Syntax.tyRef Syntax.erased Syntax.mut (Syntax.tyInt Syntax.w32)) (Syntax.tyRef Syntax.erased Syntax.mut (Syntax.tyInt Syntax.w32)) (λ x. x) (Scalar.oFld 4 (List._∷_ (Syntax.field 1) List.[]) (Syntax.tyInt Syntax.w64) 8 λ v. Shared.lenV (v .0)) (Reads.as-is 𝓤 H A (Relend.msptr (Referent.rtF (Referent.fInt Syntax.w32)) (Syntax.tyRef Syntax.erased Syntax.mut (Syntax.tyInt Syntax.w32)) 5)) (Reads.room-gone 𝓤 H A (Syntax.tyStruct (List._∷_ 38 (List._∷_ 91 (List._∷_ 93 List.[]))) (Syntax.tcons (Syntax.tyRef Syntax.erased Syntax.mut (Syntax.tyInt Syntax.w32)) (Syntax.tcons (Syntax.tyInt Syntax.w64) Syntax.tnil)))) ( Relend.reads-owed-len 𝓤 H A W (Referent.rtF (Referent.fInt Syntax.w32)) (Syntax.tyRef (Syntax.named 3) Syntax.mut (Syntax.tyInt Syntax.w32)) 3 5 (Row.lease (κs .1 .1 .1 .0) (qs .1 .1 .1 .0)) 8 Path'.refl, Path'.refl, ) Path'.refl Path'.refl λ b o k. tt) d94
+          d95 = Typed.s-seq 𝓤 H A W 𝓣 E G10 G11 b4 b77 Δ0 (Typed.ask s9) at94 (Relend.t-sl-aggregate 𝓤 H A W E (Referent.rtF (Referent.fInt Syntax.w32)) 𝓣 (Relend.asMut (Referent.rtF (Referent.fInt Syntax.w32))) G10 12 13 5 (Syntax.tyRef Syntax.erased Syntax.mut (Syntax.tyInt Syntax.w32)) (Syntax.tyRef Syntax.erased Syntax.mut (Syntax.tyInt Syntax.w32)) (λ x. x) (Scalar.oFld 4 (List._∷_ (Syntax.field 1) List.[]) (Syntax.tyInt Syntax.w64) 8 λ v. Shared.lenV (v .0)) (Reads.as-is 𝓤 H A (Relend.msptr (Referent.rtF (Referent.fInt Syntax.w32)) (Syntax.tyRef Syntax.erased Syntax.mut (Syntax.tyInt Syntax.w32)) 5)) (Reads.room-gone 𝓤 H A (Syntax.tyStruct (List._∷_ 38 (List._∷_ 91 (List._∷_ 93 List.[]))) (Syntax.tcons (Syntax.tyRef Syntax.erased Syntax.mut (Syntax.tyInt Syntax.w32)) (Syntax.tcons (Syntax.tyInt Syntax.w64) Syntax.tnil)))) (Relend.reads-owed-len 𝓤 H A W (Referent.rtF (Referent.fInt Syntax.w32)) (Syntax.tyRef (Syntax.named 3) Syntax.mut (Syntax.tyInt Syntax.w32)) 3 5 (Row.lease (κs .1 .1 .1 .0) (qs .1 .1 .1 .0)) 8 Path'.refl, Path'.refl) Path'.refl Path'.refl λ b o k. tt) d94
 
           d96 : Typed.Typed 𝓤 H A 𝓣 E G9 b79 Δ0 at96
           d96 = Typed.s-seq 𝓤 H A W 𝓣 E G9 G10 b3 b78 Δ0 (Typed.give s8) at95 (Relend.t-sl-relend 𝓤 H A W E (Referent.rtF (Referent.fInt Syntax.w32)) 𝓣 G9 4 12 3 5 (Syntax.tyRef (Syntax.named 3) Syntax.mut (Syntax.tyInt Syntax.w32)) (Syntax.tyRef Syntax.erased Syntax.mut (Syntax.tyInt Syntax.w32)) (Row.lease (κs .1 .1 .1 .0) (qs .1 .1 .1 .0)) 0 (λ x. x) (Reads.as-is 𝓤 H A (Mut.mslice (Referent.rtF (Referent.fInt Syntax.w32)) (Syntax.tyRef (Syntax.named 3) Syntax.mut (Syntax.tyInt Syntax.w32)) 3)) (Reads.room-gone 𝓤 H A (Syntax.tyRef Syntax.erased Syntax.mut (Syntax.tyInt Syntax.w32))) Path'.refl tt Path'.refl Path'.refl Path'.refl λ b o. tt) d95
 
           d97 : Typed.Typed 𝓤 H A 𝓣 E G8 b79 Δ0 at97
-          d97 = Typed.g-pre 𝓤 H A W 𝓣 E G8 G9 b79 Δ0 (λ Ψ. Ψ) at96 (Lifetime.g-begin 𝓤 H A W E G8 5 ( tt, ( tt, ( tt, ( (tt, tt), ( tt, ( tt, ( tt, ( tt, ( tt, ( tt, ( tt, ( tt, ( tt, ( tt, ( tt, ( tt, ( tt, ( tt, ( tt, ( tt, ( tt, ( tt, ( tt, ( tt, ( tt, ( tt, ( tt, ( tt, ( tt, ( tt, (tt, (tt, (tt, tt))), ), ), ), ), ), ), ), ), ), ), ), ), ), ), ), ), ), ), ), ), ), ), ), ), ), ), ), ), ), )) d96
+          d97 = Typed.g-pre 𝓤 H A W 𝓣 E G8 G9 b79 Δ0 (λ Ψ. Ψ) at96 (Lifetime.g-begin 𝓤 H A W E G8 5 (tt, (tt, (tt, ((tt, tt), (tt, (tt, (tt, (tt, (tt, (tt, (tt, (tt, (tt, (tt, (tt, (tt, (tt, (tt, (tt, (tt, (tt, (tt, (tt, (tt, (tt, (tt, (tt, (tt, (tt, (tt, (tt, (tt, (tt, tt)))))))))))))))))))))))))))))))))) d96
 
           d98 : Typed.Typed 𝓤 H A 𝓣 E G7 b80 Δ0 at98
-          d98 = Typed.s-seq 𝓤 H A W 𝓣 E G7 G8 b2 b79 Δ0 (Typed.ask s6) at97 (Relend.t-sl-aggregate 𝓤 H A W E (Referent.rtF (Referent.fInt Syntax.w32)) 𝓣 (Relend.asMut (Referent.rtF (Referent.fInt Syntax.w32))) G7 10 11 4 (Syntax.tyRef Syntax.erased Syntax.mut (Syntax.tyInt Syntax.w32)) (Syntax.tyRef Syntax.erased Syntax.mut (Syntax.tyInt Syntax.w32)) (λ x. x) (Scalar.oFld 3 (List._∷_ (Syntax.field 1) List.[]) (Syntax.tyInt Syntax.w64) 8 λ v. Shared.lenV (v .0)) (Reads.as-is 𝓤 H A (Relend.msptr (Referent.rtF (Referent.fInt Syntax.w32)) (Syntax.tyRef Syntax.erased Syntax.mut (Syntax.tyInt Syntax.w32)) 4)) (Reads.room-gone 𝓤 H A (Syntax.tyStruct (List._∷_ 38 (List._∷_ 91 (List._∷_ 93 List.[]))) (Syntax.tcons (Syntax.tyRef Syntax.erased Syntax.mut (Syntax.tyInt Syntax.w32)) (Syntax.tcons (Syntax.tyInt Syntax.w64) Syntax.tnil)))) ( Relend.reads-owed-len 𝓤 H A W (Referent.rtF (Referent.fInt Syntax.w32)) (Syntax.tyRef (Syntax.named 2) Syntax.mut (Syntax.tyInt Syntax.w32)) 2 4 (Row.lease (κs .1 .1 .0) (qs .1 .1 .0)) 8 Path'.refl, Path'.refl, ) Path'.refl Path'.refl λ b o k. tt) d97
+          d98 = Typed.s-seq 𝓤 H A W 𝓣 E G7 G8 b2 b79 Δ0 (Typed.ask s6) at97 (Relend.t-sl-aggregate 𝓤 H A W E (Referent.rtF (Referent.fInt Syntax.w32)) 𝓣 (Relend.asMut (Referent.rtF (Referent.fInt Syntax.w32))) G7 10 11 4 (Syntax.tyRef Syntax.erased Syntax.mut (Syntax.tyInt Syntax.w32)) (Syntax.tyRef Syntax.erased Syntax.mut (Syntax.tyInt Syntax.w32)) (λ x. x) (Scalar.oFld 3 (List._∷_ (Syntax.field 1) List.[]) (Syntax.tyInt Syntax.w64) 8 λ v. Shared.lenV (v .0)) (Reads.as-is 𝓤 H A (Relend.msptr (Referent.rtF (Referent.fInt Syntax.w32)) (Syntax.tyRef Syntax.erased Syntax.mut (Syntax.tyInt Syntax.w32)) 4)) (Reads.room-gone 𝓤 H A (Syntax.tyStruct (List._∷_ 38 (List._∷_ 91 (List._∷_ 93 List.[]))) (Syntax.tcons (Syntax.tyRef Syntax.erased Syntax.mut (Syntax.tyInt Syntax.w32)) (Syntax.tcons (Syntax.tyInt Syntax.w64) Syntax.tnil)))) (Relend.reads-owed-len 𝓤 H A W (Referent.rtF (Referent.fInt Syntax.w32)) (Syntax.tyRef (Syntax.named 2) Syntax.mut (Syntax.tyInt Syntax.w32)) 2 4 (Row.lease (κs .1 .1 .0) (qs .1 .1 .0)) 8 Path'.refl, Path'.refl) Path'.refl Path'.refl λ b o k. tt) d97
 
           d99 : Typed.Typed 𝓤 H A 𝓣 E G6 b81 Δ0 at99
           d99 = Typed.s-seq 𝓤 H A W 𝓣 E G6 G7 b1 b80 Δ0 (Typed.give s5) at98 (Relend.t-sl-relend 𝓤 H A W E (Referent.rtF (Referent.fInt Syntax.w32)) 𝓣 G6 3 10 2 4 (Syntax.tyRef (Syntax.named 2) Syntax.mut (Syntax.tyInt Syntax.w32)) (Syntax.tyRef Syntax.erased Syntax.mut (Syntax.tyInt Syntax.w32)) (Row.lease (κs .1 .1 .0) (qs .1 .1 .0)) 0 (λ x. x) (Reads.as-is 𝓤 H A (Mut.mslice (Referent.rtF (Referent.fInt Syntax.w32)) (Syntax.tyRef (Syntax.named 2) Syntax.mut (Syntax.tyInt Syntax.w32)) 2)) (Reads.room-gone 𝓤 H A (Syntax.tyRef Syntax.erased Syntax.mut (Syntax.tyInt Syntax.w32))) Path'.refl tt Path'.refl Path'.refl Path'.refl λ b o. tt) d98
 
           d100 : Typed.Typed 𝓤 H A 𝓣 E G5 b81 Δ0 at100
-          d100 = Typed.g-pre 𝓤 H A W 𝓣 E G5 G6 b81 Δ0 (λ Ψ. Ψ) at99 (Lifetime.g-begin 𝓤 H A W E G5 4 ( tt, ( tt, ( tt, ( tt, ( tt, ( tt, ( tt, ( tt, ( tt, ( tt, ( tt, ( tt, ( tt, ( tt, ( tt, ( tt, ( tt, ( tt, ( tt, ( tt, ( tt, ( tt, ( tt, ( tt, ( tt, ( tt, ( tt, ( tt, ( tt, ( tt, (tt, (tt, (tt, tt))), ), ), ), ), ), ), ), ), ), ), ), ), ), ), ), ), ), ), ), ), ), ), ), ), ), ), ), ), ), )) d99
+          d100 = Typed.g-pre 𝓤 H A W 𝓣 E G5 G6 b81 Δ0 (λ Ψ. Ψ) at99 (Lifetime.g-begin 𝓤 H A W E G5 4 (tt, (tt, (tt, (tt, (tt, (tt, (tt, (tt, (tt, (tt, (tt, (tt, (tt, (tt, (tt, (tt, (tt, (tt, (tt, (tt, (tt, (tt, (tt, (tt, (tt, (tt, (tt, (tt, (tt, (tt, (tt, (tt, (tt, tt)))))))))))))))))))))))))))))))))) d99
 
           d101 : Typed.Typed 𝓤 H A 𝓣 E G4 b82 Δ0 at101
-          d101 = Typed.s-seq 𝓤 H A W 𝓣 E G4 G5 b0 b81 Δ0 (Typed.pass T4 T5 s3) at100 (Scalar.t-use 𝓤 H A W E 𝓣 G4 (Scalar.oFld 1 (List._∷_ (Syntax.field 1) List.[]) (Syntax.tyInt Syntax.w64) 8 Shared.lenV) 5 (Rows'.sc-here (Row.sInt Syntax.w64)) (Syntax.tyInt Syntax.w64) (Row.valS (Row.sInt Syntax.w64)) (Row.sInt Syntax.w64 .of) ( Mut.reads-mslice-len 𝓤 H A W T τ 0 8 Path'.refl, Path'.refl, ) (Reads.room-gone 𝓤 H A (Syntax.tyInt Syntax.w64)) (Scalar.holds-sc 𝓤 H A W (Row.sInt Syntax.w64)) Path'.refl (λ u. Path'.refl) λ u. tt) d100
+          d101 = Typed.s-seq 𝓤 H A W 𝓣 E G4 G5 b0 b81 Δ0 (Typed.pass T4 T5 s3) at100 (Scalar.t-use 𝓤 H A W E 𝓣 G4 (Scalar.oFld 1 (List._∷_ (Syntax.field 1) List.[]) (Syntax.tyInt Syntax.w64) 8 Shared.lenV) 5 (Rows'.sc-here (Row.sInt Syntax.w64)) (Syntax.tyInt Syntax.w64) (Row.valS (Row.sInt Syntax.w64)) (Row.sInt Syntax.w64 .of) (Mut.reads-mslice-len 𝓤 H A W T τ 0 8 Path'.refl, Path'.refl) (Reads.room-gone 𝓤 H A (Syntax.tyInt Syntax.w64)) (Scalar.holds-sc 𝓤 H A W (Row.sInt Syntax.w64)) Path'.refl (λ u. Path'.refl) λ u. tt) d100
 
           d102 : Typed.Typed 𝓤 H A 𝓣 E G3 b82 Δ0 at102
           d102 = Typed.g-pre 𝓤 H A W 𝓣 E G3 G4 b82 Δ0 (Typed.give s2) at101 (Know.g-sl-known 𝓤 H A W (Referent.fInt Syntax.w32) E G3 4 3 (Syntax.tyRef (Syntax.named 3) Syntax.mut (Syntax.tyInt Syntax.w32)) (Row.lease (κs .1 .1 .1 .0) (qs .1 .1 .1 .0)) 0 (λ x. x) record { fits = Dec'.lit< tt } (Reads.as-is 𝓤 H A (Mut.mslice (Referent.rtF (Referent.fInt Syntax.w32)) (Syntax.tyRef (Syntax.named 3) Syntax.mut (Syntax.tyInt Syntax.w32)) 3)) Path'.refl tt) d101
@@ -2568,7 +3582,10 @@ module _ (claims· : Claims) where
       m0 = λ κs args. (tt, Enter.partsP κs 1 ps xs (dens κs args))
 
       abbrev W0 : (κs : Lifetimes.Lfts 4) → (args : Args κs) → Typed.Want O0
-      W0 = λ κs args. ( λ u. ⊥, tt, λ u. Enter.Fixs κs 1 ps xs (dens κs args) (u .1) × Post· κs (dens κs args) (Function.resV r κs (u .0)) (Clauses.atExit (Kinds.endedOf 4 ps r) κs (dens κs args) (Enter.lastsP κs 1 ps xs (dens κs args) (u .1))),
+      W0 = λ κs args. (
+        λ u. ⊥,
+        tt,
+        λ u. Enter.Fixs κs 1 ps xs (dens κs args) (u .1) × Post· κs (dens κs args) (Function.resV r κs (u .0)) (Clauses.atExit (Kinds.endedOf 4 ps r) κs (dens κs args) (Enter.lastsP κs 1 ps xs (dens κs args) (u .1))),
       )
 
       pub record Start : Type 0 where
@@ -2649,7 +3666,9 @@ module _ (claims· : Claims) where
 
       module _ (before· : After-begin-arg2) where
         abbrev pub After-begin·own : Type 0
-        After-begin·own = Called.Called ps·0 r·0 (claims· .1) T11 ( Num.vAt 5 λ x. x, ( record { pos = 2; ty = Syntax.tyRef (Syntax.named 1) Syntax.imm (Syntax.tyInt Syntax.w8); ref = λ x. x; }, ( record { pos = 11; ty = Syntax.tyRef Syntax.erased Syntax.mut (Syntax.tyInt Syntax.w32); ref = λ x. x; }, ( record { pos = 13; ty = Syntax.tyRef Syntax.erased Syntax.mut (Syntax.tyInt Syntax.w32); ref = λ x. x; }, tt, ), ), ),
+        After-begin·own = Called.Called ps·0 r·0 (claims· .1) T11 (
+          Num.vAt 5 λ x. x,
+          (record { pos = 2; ty = Syntax.tyRef (Syntax.named 1) Syntax.imm (Syntax.tyInt Syntax.w8); ref = λ x. x }, (record { pos = 11; ty = Syntax.tyRef Syntax.erased Syntax.mut (Syntax.tyInt Syntax.w32); ref = λ x. x }, (record { pos = 13; ty = Syntax.tyRef Syntax.erased Syntax.mut (Syntax.tyInt Syntax.w32); ref = λ x. x }, tt))),
         ) (m8 (before· .before) (before· .begin-arg2 .given))
 
       pub record After-begin : Type 0 where
@@ -2657,7 +3676,9 @@ module _ (claims· : Claims) where
         pub begin : After-begin·own before
 
       abbrev pub After-begin·gave : (c : After-begin) → s10 .gives (m8 (c .before .before) (c .before .begin-arg2 .given))
-      After-begin·gave = λ c. Called.given ps·0 r·0 (claims· .1) T11 ( Num.vAt 5 λ x. x, ( record { pos = 2; ty = Syntax.tyRef (Syntax.named 1) Syntax.imm (Syntax.tyInt Syntax.w8); ref = λ x. x; }, ( record { pos = 11; ty = Syntax.tyRef Syntax.erased Syntax.mut (Syntax.tyInt Syntax.w32); ref = λ x. x; }, ( record { pos = 13; ty = Syntax.tyRef Syntax.erased Syntax.mut (Syntax.tyInt Syntax.w32); ref = λ x. x; }, tt, ), ), ),
+      After-begin·gave = λ c. Called.given ps·0 r·0 (claims· .1) T11 (
+        Num.vAt 5 λ x. x,
+        (record { pos = 2; ty = Syntax.tyRef (Syntax.named 1) Syntax.imm (Syntax.tyInt Syntax.w8); ref = λ x. x }, (record { pos = 11; ty = Syntax.tyRef Syntax.erased Syntax.mut (Syntax.tyInt Syntax.w32); ref = λ x. x }, (record { pos = 13; ty = Syntax.tyRef Syntax.erased Syntax.mut (Syntax.tyInt Syntax.w32); ref = λ x. x }, tt))),
       ) (m8 (c .before .before) (c .before .begin-arg2 .given)) (c .begin)
 
       abbrev pub m10 : (before : After-begin) → (given : s12 .gives (m9 (before .before) (After-begin·gave before))) → Typed.Mo T14
@@ -2717,7 +3738,9 @@ module _ (claims· : Claims) where
       Need-loop-holds = (c : After-slice-known4) → Inv·0 (Row.get 1 (T21 .locals) (m14 (c .before) (c .slice-known4 .given)) .now) (Row.get 2 (T21 .locals) (m14 (c .before) (c .slice-known4 .given)) .now) (Row.get 3 (T21 .locals) (m14 (c .before) (c .slice-known4 .given)) .now) (Row.get 4 (T21 .locals) (m14 (c .before) (c .slice-known4 .given)) .now) (Row.get 5 (T21 .locals) (m14 (c .before) (c .slice-known4 .given))) (Row.get 6 (T21 .locals) (m14 (c .before) (c .slice-known4 .given))) (Row.get 7 (T21 .locals) (m14 (c .before) (c .slice-known4 .given))) (Row.get 6 (T21 .locals) (m14 (c .before) (c .slice-known4 .given))) (Row.get 7 (T21 .locals) (m14 (c .before) (c .slice-known4 .given)))
 
       abbrev pub m15 : (before : After-slice-known4) → (f : Rows'.whole (Declared.row Quote.the-type) .Mod) → (i : Rows'.sc-here (Row.sInt Syntax.w64) .Mod) → Typed.Mo T21
-      m15 = λ before f i. Row.set 7 (7, Rows'.sc-here (Row.sInt Syntax.w64)) i (Row.setRow 6 ( 6, Rows'.whole (Declared.row Quote.the-type),
+      m15 = λ before f i. Row.set 7 (7, Rows'.sc-here (Row.sInt Syntax.w64)) i (Row.setRow 6 (
+        6,
+        Rows'.whole (Declared.row Quote.the-type),
       ) (T21 .locals)) (Row.set 6 (6, Rows'.whole (Declared.row Quote.the-type)) f (T21 .locals) (m14 (before .before) (before .slice-known4 .given)))
 
       abbrev W3 : (before : After-slice-known4) → (f : Rows'.whole (Declared.row Quote.the-type) .Mod) → (i : Rows'.sc-here (Row.sInt Syntax.w64) .Mod) → Typed.Want O3
@@ -2812,7 +3835,9 @@ module _ (claims· : Claims) where
 
       module _ (before· : After-check-arg2) where
         abbrev pub After-check·own : Type 0
-        After-check·own = Called.Called ps·1 r·1 (claims· .3) T34 ( record { pos = 6; st = List.[]; d = 0; at = λ x. x }, ( record { pos = 17; st = List.[]; d = 0; at = λ x. x }, ( Num.vAt 7 λ x. x, ( record { pos = 19; ty = Syntax.tyRef Syntax.erased Syntax.imm (Syntax.tyInt Syntax.w32); ref = λ x. x; }, tt, ), ), ),
+        After-check·own = Called.Called ps·1 r·1 (claims· .3) T34 (
+          record { pos = 6; st = List.[]; d = 0; at = λ x. x },
+          (record { pos = 17; st = List.[]; d = 0; at = λ x. x }, (Num.vAt 7 λ x. x, (record { pos = 19; ty = Syntax.tyRef Syntax.erased Syntax.imm (Syntax.tyInt Syntax.w32); ref = λ x. x }, tt))),
         ) (m25 (before· .before) (before· .check-arg2 .given))
 
       pub record After-check : Type 0 where
@@ -2820,7 +3845,9 @@ module _ (claims· : Claims) where
         pub check : After-check·own before
 
       abbrev pub After-check·gave : (c : After-check) → s31 .gives (m25 (c .before .before) (c .before .check-arg2 .given))
-      After-check·gave = λ c. Called.given ps·1 r·1 (claims· .3) T34 ( record { pos = 6; st = List.[]; d = 0; at = λ x. x }, ( record { pos = 17; st = List.[]; d = 0; at = λ x. x }, ( Num.vAt 7 λ x. x, ( record { pos = 19; ty = Syntax.tyRef Syntax.erased Syntax.imm (Syntax.tyInt Syntax.w32); ref = λ x. x; }, tt, ), ), ),
+      After-check·gave = λ c. Called.given ps·1 r·1 (claims· .3) T34 (
+        record { pos = 6; st = List.[]; d = 0; at = λ x. x },
+        (record { pos = 17; st = List.[]; d = 0; at = λ x. x }, (Num.vAt 7 λ x. x, (record { pos = 19; ty = Syntax.tyRef Syntax.erased Syntax.imm (Syntax.tyInt Syntax.w32); ref = λ x. x }, tt))),
       ) (m25 (c .before .before) (c .before .check-arg2 .given)) (c .check)
 
       abbrev pub m27 : (before : After-check-arg2) → (given : s31 .gives (m25 (before .before) (before .check-arg2 .given))) → Typed.Mo T36
@@ -2857,7 +3884,7 @@ module _ (claims· : Claims) where
       Need-loop2-holds = (c : After-loop) → Inv·1 (Row.get 1 (T42 .locals) (m31 (c .before)) .now) (Row.get 2 (T42 .locals) (m31 (c .before)) .now) (Row.get 3 (T42 .locals) (m31 (c .before)) .now) (Row.get 4 (T42 .locals) (m31 (c .before)) .now) (Row.get 5 (T42 .locals) (m31 (c .before))) (Row.get 6 (T42 .locals) (m31 (c .before))) (Row.get 7 (T42 .locals) (m31 (c .before))) (Row.get 8 (T42 .locals) (m31 (c .before))) (Row.get 1 (T42 .locals) (m31 (c .before)) .now) (Row.get 4 (T42 .locals) (m31 (c .before)) .now) (Row.get 6 (T42 .locals) (m31 (c .before))) (Row.get 8 (T42 .locals) (m31 (c .before)))
 
       abbrev pub m32 : (before : After-loop) → (rows : List.List (T .Denot)) → (work2 : List.List (Referent.rtF (Referent.fInt Syntax.w32) .Denot)) → (f : Rows'.whole (Declared.row Quote.the-type) .Mod) → (j : Rows'.sc-here (Row.sInt Syntax.w64) .Mod) → Typed.Mo T42
-      m32 = λ before rows work2 f j. Row.set 8 (8, Rows'.sc-here (Row.sInt Syntax.w64)) j (Row.setRow 6 (6, Rows'.whole (Declared.row Quote.the-type)) (Row.setRow 4 ( 4, Mut.mslice (Referent.rtF (Referent.fInt Syntax.w32)) (Syntax.tyRef (Syntax.named 3) Syntax.mut (Syntax.tyInt Syntax.w32)) 3, ) (Row.setRow 1 ( 1, Mut.mslice T τ 0, ) (T42 .locals)))) (Row.set 6 (6, Rows'.whole (Declared.row Quote.the-type)) f (Row.setRow 4 ( 4, Mut.mslice (Referent.rtF (Referent.fInt Syntax.w32)) (Syntax.tyRef (Syntax.named 3) Syntax.mut (Syntax.tyInt Syntax.w32)) 3, ) (Row.setRow 1 ( 1, Mut.mslice T τ 0, ) (T42 .locals))) (Row.set 4 ( 4, Mut.mslice (Referent.rtF (Referent.fInt Syntax.w32)) (Syntax.tyRef (Syntax.named 3) Syntax.mut (Syntax.tyInt Syntax.w32)) 3, ) record { ptr = Row.get 4 (T42 .locals) (m31 (before .before)) .ptr; name = Row.get 4 (T42 .locals) (m31 (before .before)) .name; now = work2; } (Row.setRow 1 ( 1, Mut.mslice T τ 0, ) (T42 .locals)) (Row.set 1 ( 1, Mut.mslice T τ 0, ) record { ptr = Row.get 1 (T42 .locals) (m31 (before .before)) .ptr; name = Row.get 1 (T42 .locals) (m31 (before .before)) .name; now = rows; } (T42 .locals) (m31 (before .before)))))
+      m32 = λ before rows work2 f j. Row.set 8 (8, Rows'.sc-here (Row.sInt Syntax.w64)) j (Row.setRow 6 (6, Rows'.whole (Declared.row Quote.the-type)) (Row.setRow 4 (4, Mut.mslice (Referent.rtF (Referent.fInt Syntax.w32)) (Syntax.tyRef (Syntax.named 3) Syntax.mut (Syntax.tyInt Syntax.w32)) 3) (Row.setRow 1 (1, Mut.mslice T τ 0) (T42 .locals)))) (Row.set 6 (6, Rows'.whole (Declared.row Quote.the-type)) f (Row.setRow 4 (4, Mut.mslice (Referent.rtF (Referent.fInt Syntax.w32)) (Syntax.tyRef (Syntax.named 3) Syntax.mut (Syntax.tyInt Syntax.w32)) 3) (Row.setRow 1 (1, Mut.mslice T τ 0) (T42 .locals))) (Row.set 4 (4, Mut.mslice (Referent.rtF (Referent.fInt Syntax.w32)) (Syntax.tyRef (Syntax.named 3) Syntax.mut (Syntax.tyInt Syntax.w32)) 3) record { ptr = Row.get 4 (T42 .locals) (m31 (before .before)) .ptr; name = Row.get 4 (T42 .locals) (m31 (before .before)) .name; now = work2 } (Row.setRow 1 (1, Mut.mslice T τ 0) (T42 .locals)) (Row.set 1 (1, Mut.mslice T τ 0) record { ptr = Row.get 1 (T42 .locals) (m31 (before .before)) .ptr; name = Row.get 1 (T42 .locals) (m31 (before .before)) .name; now = rows } (T42 .locals) (m31 (before .before)))))
 
       abbrev W7 : (before : After-loop) → (rows : List.List (T .Denot)) → (work2 : List.List (Referent.rtF (Referent.fInt Syntax.w32) .Denot)) → (f : Rows'.whole (Declared.row Quote.the-type) .Mod) → (j : Rows'.sc-here (Row.sInt Syntax.w64) .Mod) → Typed.Want O7
       W7 = λ before rows work2 f j. Typed.inLoop T42 O6 (Typed.Round T42 O6 put1 (λ u vs. Inv·1 (Row.get 1 (T42 .locals) u .now) (Row.get 2 (T42 .locals) u .now) (Row.get 3 (T42 .locals) u .now) (Row.get 4 (T42 .locals) u .now) (Row.get 5 (T42 .locals) u) (Row.get 6 (T42 .locals) u) (Row.get 7 (T42 .locals) u) (Row.get 8 (T42 .locals) u) (vs .0) (vs .1) (vs .2) (vs .3)) (λ u vs. μ·1 (Row.get 1 (T42 .locals) u .now) (Row.get 2 (T42 .locals) u .now) (Row.get 3 (T42 .locals) u .now) (Row.get 4 (T42 .locals) u .now) (Row.get 5 (T42 .locals) u) (Row.get 6 (T42 .locals) u) (Row.get 7 (T42 .locals) u) (Row.get 8 (T42 .locals) u) (vs .0) (vs .1) (vs .2) (vs .3)) at59 (m31 (before .before)) (rows, work2, f, j)) (W6 (before .before))
@@ -2967,7 +3994,9 @@ module _ (claims· : Claims) where
 
       module _ (before· : After-single-arg3) where
         abbrev pub After-single·own : Type 0
-        After-single·own = Called.Called ps·2 r·2 (claims· .5) T58 ( record { pos = 6; st = List.[]; d = 0; at = λ x. x }, ( record { pos = 23; st = List.[]; d = 0; at = λ x. x }, ( record { pos = 2; ty = Syntax.tyRef (Syntax.named 1) Syntax.imm (Syntax.tyInt Syntax.w8); ref = λ x. x; }, ( record { pos = 25; ty = Syntax.tyRef Syntax.erased Syntax.imm (Syntax.tyInt Syntax.w32); ref = λ x. x; }, ( record { pos = 27; ty = Syntax.tyRef Syntax.erased Syntax.mut (Syntax.tyInt Syntax.w32); ref = λ x. x; }, tt, ), ), ), ),
+        After-single·own = Called.Called ps·2 r·2 (claims· .5) T58 (
+          record { pos = 6; st = List.[]; d = 0; at = λ x. x },
+          (record { pos = 23; st = List.[]; d = 0; at = λ x. x }, (record { pos = 2; ty = Syntax.tyRef (Syntax.named 1) Syntax.imm (Syntax.tyInt Syntax.w8); ref = λ x. x }, (record { pos = 25; ty = Syntax.tyRef Syntax.erased Syntax.imm (Syntax.tyInt Syntax.w32); ref = λ x. x }, (record { pos = 27; ty = Syntax.tyRef Syntax.erased Syntax.mut (Syntax.tyInt Syntax.w32); ref = λ x. x }, tt)))),
         ) (m44 (before· .before) (before· .single-arg3 .given))
 
       pub record After-single : Type 0 where
@@ -2975,7 +4004,9 @@ module _ (claims· : Claims) where
         pub single : After-single·own before
 
       abbrev pub After-single·gave : (c : After-single) → s53 .gives (m44 (c .before .before) (c .before .single-arg3 .given))
-      After-single·gave = λ c. Called.given ps·2 r·2 (claims· .5) T58 ( record { pos = 6; st = List.[]; d = 0; at = λ x. x }, ( record { pos = 23; st = List.[]; d = 0; at = λ x. x }, ( record { pos = 2; ty = Syntax.tyRef (Syntax.named 1) Syntax.imm (Syntax.tyInt Syntax.w8); ref = λ x. x; }, ( record { pos = 25; ty = Syntax.tyRef Syntax.erased Syntax.imm (Syntax.tyInt Syntax.w32); ref = λ x. x; }, ( record { pos = 27; ty = Syntax.tyRef Syntax.erased Syntax.mut (Syntax.tyInt Syntax.w32); ref = λ x. x; }, tt, ), ), ), ),
+      After-single·gave = λ c. Called.given ps·2 r·2 (claims· .5) T58 (
+        record { pos = 6; st = List.[]; d = 0; at = λ x. x },
+        (record { pos = 23; st = List.[]; d = 0; at = λ x. x }, (record { pos = 2; ty = Syntax.tyRef (Syntax.named 1) Syntax.imm (Syntax.tyInt Syntax.w8); ref = λ x. x }, (record { pos = 25; ty = Syntax.tyRef Syntax.erased Syntax.imm (Syntax.tyInt Syntax.w32); ref = λ x. x }, (record { pos = 27; ty = Syntax.tyRef Syntax.erased Syntax.mut (Syntax.tyInt Syntax.w32); ref = λ x. x }, tt)))),
       ) (m44 (c .before .before) (c .before .single-arg3 .given)) (c .single)
 
       abbrev pub m46 : (before : After-single-arg3) → (given : s53 .gives (m44 (before .before) (before .single-arg3 .given))) → Typed.Mo T60
@@ -3017,7 +4048,9 @@ module _ (claims· : Claims) where
 
       module _ (before· : After-slice-known5) where
         abbrev pub After-join·own : Type 0
-        After-join·own = Called.Called ps·3 r·3 (claims· .7) T67 ( record { pos = 6; st = List.[]; d = 0; at = λ x. x }, (record { pos = 9; st = List.[]; d = 0; at = λ x. x }, tt),
+        After-join·own = Called.Called ps·3 r·3 (claims· .7) T67 (
+          record { pos = 6; st = List.[]; d = 0; at = λ x. x },
+          (record { pos = 9; st = List.[]; d = 0; at = λ x. x }, tt),
         ) (m50 (before· .before) (before· .slice-known5 .given))
 
       pub record After-join : Type 0 where
@@ -3025,7 +4058,9 @@ module _ (claims· : Claims) where
         pub join : After-join·own before
 
       abbrev pub After-join·gave : (c : After-join) → s63 .gives (m50 (c .before .before) (c .before .slice-known5 .given))
-      After-join·gave = λ c. Called.given ps·3 r·3 (claims· .7) T67 ( record { pos = 6; st = List.[]; d = 0; at = λ x. x }, (record { pos = 9; st = List.[]; d = 0; at = λ x. x }, tt),
+      After-join·gave = λ c. Called.given ps·3 r·3 (claims· .7) T67 (
+        record { pos = 6; st = List.[]; d = 0; at = λ x. x },
+        (record { pos = 9; st = List.[]; d = 0; at = λ x. x }, tt),
       ) (m50 (c .before .before) (c .before .slice-known5 .given)) (c .join)
 
       abbrev pub Need-mul-r : Type 0
@@ -3059,10 +4094,10 @@ module _ (claims· : Claims) where
       m58 = λ before given. s70 .next (m57 before given)
 
       abbrev pub Need-loop2-less : Type 0
-      Need-loop2-less = (c : After-join) → Nat._<_ (μ·1 (Row.get 1 (T42 .locals) (m31 (c .before .before .before .before .before .before .before .before .before .before) ) .now) (Row.get 2 (T42 .locals) (m31 (c .before .before .before .before .before .before .before .before .before .before) ) .now) (Row.get 3 (T42 .locals) (m31 (c .before .before .before .before .before .before .before .before .before .before) ) .now) (Row.get 4 (T42 .locals) (m31 (c .before .before .before .before .before .before .before .before .before .before) ) .now) (Row.get 5 (T42 .locals) (m31 (c .before .before .before .before .before .before .before .before .before .before))) (Row.get 6 (T42 .locals) (m31 (c .before .before .before .before .before .before .before .before .before .before))) (Row.get 7 (T42 .locals) (m31 (c .before .before .before .before .before .before .before .before .before .before))) (Row.get 8 (T42 .locals) (m31 (c .before .before .before .before .before .before .before .before .before .before))) (Row.get 1 (T42 .locals) (m58 (c .before) (After-join·gave c)) .now) (Row.get 4 (T42 .locals) (m58 (c .before) (After-join·gave c)) .now) (Row.get 6 (T42 .locals) (m58 (c .before) (After-join·gave c))) (Row.get 8 (T42 .locals) (m58 (c .before) (After-join·gave c)))) (μ·1 (Row.get 1 (T42 .locals) (m31 (c .before .before .before .before .before .before .before .before .before .before) ) .now) (Row.get 2 (T42 .locals) (m31 (c .before .before .before .before .before .before .before .before .before .before) ) .now) (Row.get 3 (T42 .locals) (m31 (c .before .before .before .before .before .before .before .before .before .before) ) .now) (Row.get 4 (T42 .locals) (m31 (c .before .before .before .before .before .before .before .before .before .before) ) .now) (Row.get 5 (T42 .locals) (m31 (c .before .before .before .before .before .before .before .before .before .before))) (Row.get 6 (T42 .locals) (m31 (c .before .before .before .before .before .before .before .before .before .before))) (Row.get 7 (T42 .locals) (m31 (c .before .before .before .before .before .before .before .before .before .before))) (Row.get 8 (T42 .locals) (m31 (c .before .before .before .before .before .before .before .before .before .before))) (c .before .before .before .before .before .before .before .before .loop2 .rows) (c .before .before .before .before .before .before .before .before .loop2 .work2) (c .before .before .before .before .before .before .before .before .loop2 .f) (c .before .before .before .before .before .before .before .before .loop2 .j))
+      Need-loop2-less = (c : After-join) → Nat._<_ (μ·1 (Row.get 1 (T42 .locals) (m31 (c .before .before .before .before .before .before .before .before .before .before)) .now) (Row.get 2 (T42 .locals) (m31 (c .before .before .before .before .before .before .before .before .before .before)) .now) (Row.get 3 (T42 .locals) (m31 (c .before .before .before .before .before .before .before .before .before .before)) .now) (Row.get 4 (T42 .locals) (m31 (c .before .before .before .before .before .before .before .before .before .before)) .now) (Row.get 5 (T42 .locals) (m31 (c .before .before .before .before .before .before .before .before .before .before))) (Row.get 6 (T42 .locals) (m31 (c .before .before .before .before .before .before .before .before .before .before))) (Row.get 7 (T42 .locals) (m31 (c .before .before .before .before .before .before .before .before .before .before))) (Row.get 8 (T42 .locals) (m31 (c .before .before .before .before .before .before .before .before .before .before))) (Row.get 1 (T42 .locals) (m58 (c .before) (After-join·gave c)) .now) (Row.get 4 (T42 .locals) (m58 (c .before) (After-join·gave c)) .now) (Row.get 6 (T42 .locals) (m58 (c .before) (After-join·gave c))) (Row.get 8 (T42 .locals) (m58 (c .before) (After-join·gave c)))) (μ·1 (Row.get 1 (T42 .locals) (m31 (c .before .before .before .before .before .before .before .before .before .before)) .now) (Row.get 2 (T42 .locals) (m31 (c .before .before .before .before .before .before .before .before .before .before)) .now) (Row.get 3 (T42 .locals) (m31 (c .before .before .before .before .before .before .before .before .before .before)) .now) (Row.get 4 (T42 .locals) (m31 (c .before .before .before .before .before .before .before .before .before .before)) .now) (Row.get 5 (T42 .locals) (m31 (c .before .before .before .before .before .before .before .before .before .before))) (Row.get 6 (T42 .locals) (m31 (c .before .before .before .before .before .before .before .before .before .before))) (Row.get 7 (T42 .locals) (m31 (c .before .before .before .before .before .before .before .before .before .before))) (Row.get 8 (T42 .locals) (m31 (c .before .before .before .before .before .before .before .before .before .before))) (c .before .before .before .before .before .before .before .before .loop2 .rows) (c .before .before .before .before .before .before .before .before .loop2 .work2) (c .before .before .before .before .before .before .before .before .loop2 .f) (c .before .before .before .before .before .before .before .before .loop2 .j))
 
       abbrev pub Need-loop2-again : Type 0
-      Need-loop2-again = (c : After-join) → Inv·1 (Row.get 1 (T42 .locals) (m31 (c .before .before .before .before .before .before .before .before .before .before) ) .now) (Row.get 2 (T42 .locals) (m31 (c .before .before .before .before .before .before .before .before .before .before) ) .now) (Row.get 3 (T42 .locals) (m31 (c .before .before .before .before .before .before .before .before .before .before) ) .now) (Row.get 4 (T42 .locals) (m31 (c .before .before .before .before .before .before .before .before .before .before) ) .now) (Row.get 5 (T42 .locals) (m31 (c .before .before .before .before .before .before .before .before .before .before))) (Row.get 6 (T42 .locals) (m31 (c .before .before .before .before .before .before .before .before .before .before))) (Row.get 7 (T42 .locals) (m31 (c .before .before .before .before .before .before .before .before .before .before))) (Row.get 8 (T42 .locals) (m31 (c .before .before .before .before .before .before .before .before .before .before))) (Row.get 1 (T42 .locals) (m58 (c .before) (After-join·gave c)) .now) (Row.get 4 (T42 .locals) (m58 (c .before) (After-join·gave c)) .now) (Row.get 6 (T42 .locals) (m58 (c .before) (After-join·gave c))) (Row.get 8 (T42 .locals) (m58 (c .before) (After-join·gave c)))
+      Need-loop2-again = (c : After-join) → Inv·1 (Row.get 1 (T42 .locals) (m31 (c .before .before .before .before .before .before .before .before .before .before)) .now) (Row.get 2 (T42 .locals) (m31 (c .before .before .before .before .before .before .before .before .before .before)) .now) (Row.get 3 (T42 .locals) (m31 (c .before .before .before .before .before .before .before .before .before .before)) .now) (Row.get 4 (T42 .locals) (m31 (c .before .before .before .before .before .before .before .before .before .before)) .now) (Row.get 5 (T42 .locals) (m31 (c .before .before .before .before .before .before .before .before .before .before))) (Row.get 6 (T42 .locals) (m31 (c .before .before .before .before .before .before .before .before .before .before))) (Row.get 7 (T42 .locals) (m31 (c .before .before .before .before .before .before .before .before .before .before))) (Row.get 8 (T42 .locals) (m31 (c .before .before .before .before .before .before .before .before .before .before))) (Row.get 1 (T42 .locals) (m58 (c .before) (After-join·gave c)) .now) (Row.get 4 (T42 .locals) (m58 (c .before) (After-join·gave c)) .now) (Row.get 6 (T42 .locals) (m58 (c .before) (After-join·gave c))) (Row.get 8 (T42 .locals) (m58 (c .before) (After-join·gave c)))
 
       abbrev pub m59 : (before : After-loop2) → (given : s72 .gives (m35 (before .before))) → Typed.Mo T78
       m59 = λ before given. s72 .next (m35 (before .before)) given
@@ -3100,7 +4135,9 @@ module _ (claims· : Claims) where
 
       module _ (before· : After-finish-arg2) where
         abbrev pub After-finish·own : Type 0
-        After-finish·own = Called.Called ps·4 r·4 (claims· .9) T82 ( record { pos = 6; st = List.[]; d = 0; at = λ x. x }, ( record { pos = 30; ty = Syntax.tyRef Syntax.erased Syntax.mut (Syntax.tyInt Syntax.w32); ref = λ x. x; }, ( record { pos = 32; ty = Syntax.tyRef Syntax.erased Syntax.mut (Syntax.tyInt Syntax.w32); ref = λ x. x; }, tt, ), ),
+        After-finish·own = Called.Called ps·4 r·4 (claims· .9) T82 (
+          record { pos = 6; st = List.[]; d = 0; at = λ x. x },
+          (record { pos = 30; ty = Syntax.tyRef Syntax.erased Syntax.mut (Syntax.tyInt Syntax.w32); ref = λ x. x }, (record { pos = 32; ty = Syntax.tyRef Syntax.erased Syntax.mut (Syntax.tyInt Syntax.w32); ref = λ x. x }, tt)),
         ) (m62 (before· .before) (before· .finish-arg2 .given))
 
       pub record After-finish : Type 0 where
@@ -3108,7 +4145,9 @@ module _ (claims· : Claims) where
         pub finish : After-finish·own before
 
       abbrev pub After-finish·gave : (c : After-finish) → s77 .gives (m62 (c .before .before) (c .before .finish-arg2 .given))
-      After-finish·gave = λ c. Called.given ps·4 r·4 (claims· .9) T82 ( record { pos = 6; st = List.[]; d = 0; at = λ x. x }, ( record { pos = 30; ty = Syntax.tyRef Syntax.erased Syntax.mut (Syntax.tyInt Syntax.w32); ref = λ x. x; }, ( record { pos = 32; ty = Syntax.tyRef Syntax.erased Syntax.mut (Syntax.tyInt Syntax.w32); ref = λ x. x; }, tt, ), ),
+      After-finish·gave = λ c. Called.given ps·4 r·4 (claims· .9) T82 (
+        record { pos = 6; st = List.[]; d = 0; at = λ x. x },
+        (record { pos = 30; ty = Syntax.tyRef Syntax.erased Syntax.mut (Syntax.tyInt Syntax.w32); ref = λ x. x }, (record { pos = 32; ty = Syntax.tyRef Syntax.erased Syntax.mut (Syntax.tyInt Syntax.w32); ref = λ x. x }, tt)),
       ) (m62 (c .before .before) (c .before .finish-arg2 .given)) (c .finish)
 
       abbrev pub m64 : (before : After-finish-arg2) → (given : s77 .gives (m62 (before .before) (before .finish-arg2 .given))) → Typed.Mo T84
@@ -3181,23 +4220,33 @@ module _ (claims· : Claims) where
 
       module _ (begin-requires : Need-begin-requires) (loop-holds : Need-loop-holds) (mul-check : Need-mul-check) (slice-copy-out-check : Need-slice-copy-out-check) (check-requires : Need-check-requires) (add-i : Need-add-i) (loop-less : Need-loop-less) (loop-again : Need-loop-again) (loop2-holds : Need-loop2-holds) (mul-single : Need-mul-single) (slice-copy-out-single : Need-slice-copy-out-single) (single-requires : Need-single-requires) (join-requires : Need-join-requires) (mul-r : Need-mul-r) (slice-set-from-r : Need-slice-set-from-r) (add-j : Need-add-j) (loop2-less : Need-loop2-less) (loop2-again : Need-loop2-again) (finish-requires : Need-finish-requires) (same-length : Need-same-length) (same-length-2 : Need-same-length-2) (same-length-3 : Need-same-length-3) (returns : Need-returns) where
         lay13 : (c : After-finish) → at74 (W0 (c .before .before .before .before .before .before .before .before .before .before .before .before .before .before .before .before .before .κs) (c .before .before .before .before .before .before .before .before .before .before .before .before .before .before .before .before .before .args)) (m63 (c .before) (After-finish·gave c))
-        lay13 = λ c. ( Path'.refl, λ g. λ g'. ( Path'.refl, λ g''. λ g'3. ( ( MutSlice.fix-len (Row.get 1 (T94 .locals) (m71 record { before = record { before = record { before = record { before = c .before; finish = c .finish }; work12 = record { given = g }; }; slice-known6 = record { given = g' }; }; work23 = record { given = g'' }; } g'3) .ptr) (Row.get 1 (T94 .locals) (m71 record { before = record { before = record { before = record { before = c .before; finish = c .finish }; work12 = record { given = g }; }; slice-known6 = record { given = g' }; }; work23 = record { given = g'' }; } g'3) .name) (Row.get 1 (T94 .locals) (m71 record { before = record { before = record { before = record { before = c .before; finish = c .finish }; work12 = record { given = g }; }; slice-known6 = record { given = g' }; }; work23 = record { given = g'' }; } g'3) .now) (dens (c .before .before .before .before .before .before .before .before .before .before .before .before .before .before .before .before .before .κs) (c .before .before .before .before .before .before .before .before .before .before .before .before .before .before .before .before .before .args) .0 .now) (same-length record { before = record { before = record { before = record { before = record { before = c .before; finish = c .finish }; work12 = record { given = g }; }; slice-known6 = record { given = g' }; }; work23 = record { given = g'' }; }; slice-known7 = record { given = g'3 }; }), ( Path'.refl, ( MutSlice.fix-len (Row.get 3 (T94 .locals) (m71 record { before = record { before = record { before = record { before = c .before; finish = c .finish }; work12 = record { given = g }; }; slice-known6 = record { given = g' }; }; work23 = record { given = g'' }; } g'3) .ptr) (Row.get 3 (T94 .locals) (m71 record { before = record { before = record { before = record { before = c .before; finish = c .finish }; work12 = record { given = g }; }; slice-known6 = record { given = g' }; }; work23 = record { given = g'' }; } g'3) .name) (Row.get 3 (T94 .locals) (m71 record { before = record { before = record { before = record { before = c .before; finish = c .finish }; work12 = record { given = g }; }; slice-known6 = record { given = g' }; }; work23 = record { given = g'' }; } g'3) .now) (dens (c .before .before .before .before .before .before .before .before .before .before .before .before .before .before .before .before .before .κs) (c .before .before .before .before .before .before .before .before .before .before .before .before .before .before .before .before .before .args) .1 .1 .0 .now) (same-length-2 record { before = record { before = record { before = record { before = record { before = c .before; finish = c .finish }; work12 = record { given = g }; }; slice-known6 = record { given = g' }; }; work23 = record { given = g'' }; }; slice-known7 = record { given = g'3 }; }), ( MutSlice.fix-len (Row.get 4 (T94 .locals) (m71 record { before = record { before = record { before = record { before = c .before; finish = c .finish }; work12 = record { given = g }; }; slice-known6 = record { given = g' }; }; work23 = record { given = g'' }; } g'3) .ptr) (Row.get 4 (T94 .locals) (m71 record { before = record { before = record { before = record { before = c .before; finish = c .finish }; work12 = record { given = g }; }; slice-known6 = record { given = g' }; }; work23 = record { given = g'' }; } g'3) .name) (Row.get 4 (T94 .locals) (m71 record { before = record { before = record { before = record { before = c .before; finish = c .finish }; work12 = record { given = g }; }; slice-known6 = record { given = g' }; }; work23 = record { given = g'' }; } g'3) .now) (dens (c .before .before .before .before .before .before .before .before .before .before .before .before .before .before .before .before .before .κs) (c .before .before .before .before .before .before .before .before .before .before .before .before .before .before .before .before .before .args) .1 .1 .1 .0 .now) (same-length-3 record { before = record { before = record { before = record { before = record { before = c .before; finish = c .finish }; work12 = record { given = g }; }; slice-known6 = record { given = g' }; }; work23 = record { given = g'' }; }; slice-known7 = record { given = g'3 }; }), tt, ), ), ), ), returns record { before = record { before = record { before = record { before = record { before = c .before; finish = c .finish }; work12 = record { given = g }; }; slice-known6 = record { given = g' }; }; work23 = record { given = g'' }; }; slice-known7 = record { given = g'3 }; }, ), ),
+        lay13 = λ c. (
+          Path'.refl,
+          λ g. λ g'. (Path'.refl, λ g''. λ g'3. ((MutSlice.fix-len (Row.get 1 (T94 .locals) (m71 record { before = record { before = record { before = record { before = c .before; finish = c .finish }; work12 = record { given = g } }; slice-known6 = record { given = g' } }; work23 = record { given = g'' } } g'3) .ptr) (Row.get 1 (T94 .locals) (m71 record { before = record { before = record { before = record { before = c .before; finish = c .finish }; work12 = record { given = g } }; slice-known6 = record { given = g' } }; work23 = record { given = g'' } } g'3) .name) (Row.get 1 (T94 .locals) (m71 record { before = record { before = record { before = record { before = c .before; finish = c .finish }; work12 = record { given = g } }; slice-known6 = record { given = g' } }; work23 = record { given = g'' } } g'3) .now) (dens (c .before .before .before .before .before .before .before .before .before .before .before .before .before .before .before .before .before .κs) (c .before .before .before .before .before .before .before .before .before .before .before .before .before .before .before .before .before .args) .0 .now) (same-length record { before = record { before = record { before = record { before = record { before = c .before; finish = c .finish }; work12 = record { given = g } }; slice-known6 = record { given = g' } }; work23 = record { given = g'' } }; slice-known7 = record { given = g'3 } }), (Path'.refl, (MutSlice.fix-len (Row.get 3 (T94 .locals) (m71 record { before = record { before = record { before = record { before = c .before; finish = c .finish }; work12 = record { given = g } }; slice-known6 = record { given = g' } }; work23 = record { given = g'' } } g'3) .ptr) (Row.get 3 (T94 .locals) (m71 record { before = record { before = record { before = record { before = c .before; finish = c .finish }; work12 = record { given = g } }; slice-known6 = record { given = g' } }; work23 = record { given = g'' } } g'3) .name) (Row.get 3 (T94 .locals) (m71 record { before = record { before = record { before = record { before = c .before; finish = c .finish }; work12 = record { given = g } }; slice-known6 = record { given = g' } }; work23 = record { given = g'' } } g'3) .now) (dens (c .before .before .before .before .before .before .before .before .before .before .before .before .before .before .before .before .before .κs) (c .before .before .before .before .before .before .before .before .before .before .before .before .before .before .before .before .before .args) .1 .1 .0 .now) (same-length-2 record { before = record { before = record { before = record { before = record { before = c .before; finish = c .finish }; work12 = record { given = g } }; slice-known6 = record { given = g' } }; work23 = record { given = g'' } }; slice-known7 = record { given = g'3 } }), (MutSlice.fix-len (Row.get 4 (T94 .locals) (m71 record { before = record { before = record { before = record { before = c .before; finish = c .finish }; work12 = record { given = g } }; slice-known6 = record { given = g' } }; work23 = record { given = g'' } } g'3) .ptr) (Row.get 4 (T94 .locals) (m71 record { before = record { before = record { before = record { before = c .before; finish = c .finish }; work12 = record { given = g } }; slice-known6 = record { given = g' } }; work23 = record { given = g'' } } g'3) .name) (Row.get 4 (T94 .locals) (m71 record { before = record { before = record { before = record { before = c .before; finish = c .finish }; work12 = record { given = g } }; slice-known6 = record { given = g' } }; work23 = record { given = g'' } } g'3) .now) (dens (c .before .before .before .before .before .before .before .before .before .before .before .before .before .before .before .before .before .κs) (c .before .before .before .before .before .before .before .before .before .before .before .before .before .before .before .before .before .args) .1 .1 .1 .0 .now) (same-length-3 record { before = record { before = record { before = record { before = record { before = c .before; finish = c .finish }; work12 = record { given = g } }; slice-known6 = record { given = g' } }; work23 = record { given = g'' } }; slice-known7 = record { given = g'3 } }), tt)))), returns record { before = record { before = record { before = record { before = record { before = c .before; finish = c .finish }; work12 = record { given = g } }; slice-known6 = record { given = g' } }; work23 = record { given = g'' } }; slice-known7 = record { given = g'3 } })),
         )
 
         lay12 : (c : After-loop2) → at81 (W0 (c .before .before .before .before .before .before .before .before .before .before .before .before .before .before .κs) (c .before .before .before .before .before .before .before .before .before .before .before .before .before .before .args)) (m35 (c .before))
-        lay12 = λ c. λ g. ( Path'.refl, λ g'. ( Path'.refl, ( finish-requires record { before = record { before = record { before = c .before; loop2-test = c .loop2-test }; finish-arg = record { given = g }; }; finish-arg2 = record { given = g' }; }, λ g''. lay13 record { before = record { before = record { before = record { before = c .before; loop2-test = c .loop2-test }; finish-arg = record { given = g }; }; finish-arg2 = record { given = g' }; }; finish = Called.called ps·4 r·4 (claims· .9) T82 ( record { pos = 6; st = List.[]; d = 0; at = λ x. x }, ( record { pos = 30; ty = Syntax.tyRef Syntax.erased Syntax.mut (Syntax.tyInt Syntax.w32); ref = λ x. x; }, ( record { pos = 32; ty = Syntax.tyRef Syntax.erased Syntax.mut (Syntax.tyInt Syntax.w32); ref = λ x. x; }, tt, ), ), ) (m62 record { before = record { before = c .before; loop2-test = c .loop2-test }; finish-arg = record { given = g }; } g') g''; }, ), ),
+        lay12 = λ c. λ g. (
+          Path'.refl,
+          λ g'. (Path'.refl, (finish-requires record { before = record { before = record { before = c .before; loop2-test = c .loop2-test }; finish-arg = record { given = g } }; finish-arg2 = record { given = g' } }, λ g''. lay13 record { before = record { before = record { before = record { before = c .before; loop2-test = c .loop2-test }; finish-arg = record { given = g } }; finish-arg2 = record { given = g' } }; finish = Called.called ps·4 r·4 (claims· .9) T82 (record { pos = 6; st = List.[]; d = 0; at = λ x. x }, (record { pos = 30; ty = Syntax.tyRef Syntax.erased Syntax.mut (Syntax.tyInt Syntax.w32); ref = λ x. x }, (record { pos = 32; ty = Syntax.tyRef Syntax.erased Syntax.mut (Syntax.tyInt Syntax.w32); ref = λ x. x }, tt))) (m62 record { before = record { before = c .before; loop2-test = c .loop2-test }; finish-arg = record { given = g } } g') g'' })),
         )
 
         lay11 : (c : After-join) → at35 (W7 (c .before .before .before .before .before .before .before .before .before) (c .before .before .before .before .before .before .before .before .loop2 .rows) (c .before .before .before .before .before .before .before .before .loop2 .work2) (c .before .before .before .before .before .before .before .before .loop2 .f) (c .before .before .before .before .before .before .before .before .loop2 .j)) (m51 (c .before) (After-join·gave c))
-        lay11 = λ c. ( mul-r record { before = c .before; join = c .join }, ( tt, ( ( Path'.refl, Path'.refl, slice-set-from-r record { before = c .before; join = c .join }, ), ( add-j record { before = c .before; join = c .join }, ( μ·1 (Row.get 1 (T42 .locals) (m31 (c .before .before .before .before .before .before .before .before .before .before)) .now) (Row.get 2 (T42 .locals) (m31 (c .before .before .before .before .before .before .before .before .before .before)) .now) (Row.get 3 (T42 .locals) (m31 (c .before .before .before .before .before .before .before .before .before .before)) .now) (Row.get 4 (T42 .locals) (m31 (c .before .before .before .before .before .before .before .before .before .before)) .now) (Row.get 5 (T42 .locals) (m31 (c .before .before .before .before .before .before .before .before .before .before))) (Row.get 6 (T42 .locals) (m31 (c .before .before .before .before .before .before .before .before .before .before))) (Row.get 7 (T42 .locals) (m31 (c .before .before .before .before .before .before .before .before .before .before))) (Row.get 8 (T42 .locals) (m31 (c .before .before .before .before .before .before .before .before .before .before))) (Row.get 1 (T42 .locals) (m58 (c .before) (After-join·gave c)) .now) (Row.get 4 (T42 .locals) (m58 (c .before) (After-join·gave c)) .now) (Row.get 6 (T42 .locals) (m58 (c .before) (After-join·gave c))) (Row.get 8 (T42 .locals) (m58 (c .before) (After-join·gave c))), loop2-less record { before = c .before; join = c .join }, ( ( Row.get 1 (T42 .locals) (m58 (c .before) (After-join·gave c)) .now, Row.get 4 (T42 .locals) (m58 (c .before) (After-join·gave c)) .now, Row.get 6 (T42 .locals) (m58 (c .before) (After-join·gave c)), Row.get 8 (T42 .locals) (m58 (c .before) (After-join·gave c)), ), Path'.refl {a = m58 (c .before) (After-join·gave c)}, loop2-again record { before = c .before; join = c .join }, Path'.refl {a = μ·1 (Row.get 1 (T42 .locals) (m31 (c .before .before .before .before .before .before .before .before .before .before)) .now) (Row.get 2 (T42 .locals) (m31 (c .before .before .before .before .before .before .before .before .before .before)) .now) (Row.get 3 (T42 .locals) (m31 (c .before .before .before .before .before .before .before .before .before .before)) .now) (Row.get 4 (T42 .locals) (m31 (c .before .before .before .before .before .before .before .before .before .before)) .now) (Row.get 5 (T42 .locals) (m31 (c .before .before .before .before .before .before .before .before .before .before))) (Row.get 6 (T42 .locals) (m31 (c .before .before .before .before .before .before .before .before .before .before))) (Row.get 7 (T42 .locals) (m31 (c .before .before .before .before .before .before .before .before .before .before))) (Row.get 8 (T42 .locals) (m31 (c .before .before .before .before .before .before .before .before .before .before))) (Row.get 1 (T42 .locals) (m58 (c .before) (After-join·gave c)) .now) (Row.get 4 (T42 .locals) (m58 (c .before) (After-join·gave c)) .now) (Row.get 6 (T42 .locals) (m58 (c .before) (After-join·gave c))) (Row.get 8 (T42 .locals) (m58 (c .before) (After-join·gave c)))}, ), ), ), ), ),
+        lay11 = λ c. (
+          mul-r record { before = c .before; join = c .join },
+          (tt, ((Path'.refl, Path'.refl, slice-set-from-r record { before = c .before; join = c .join }), (add-j record { before = c .before; join = c .join }, (μ·1 (Row.get 1 (T42 .locals) (m31 (c .before .before .before .before .before .before .before .before .before .before)) .now) (Row.get 2 (T42 .locals) (m31 (c .before .before .before .before .before .before .before .before .before .before)) .now) (Row.get 3 (T42 .locals) (m31 (c .before .before .before .before .before .before .before .before .before .before)) .now) (Row.get 4 (T42 .locals) (m31 (c .before .before .before .before .before .before .before .before .before .before)) .now) (Row.get 5 (T42 .locals) (m31 (c .before .before .before .before .before .before .before .before .before .before))) (Row.get 6 (T42 .locals) (m31 (c .before .before .before .before .before .before .before .before .before .before))) (Row.get 7 (T42 .locals) (m31 (c .before .before .before .before .before .before .before .before .before .before))) (Row.get 8 (T42 .locals) (m31 (c .before .before .before .before .before .before .before .before .before .before))) (Row.get 1 (T42 .locals) (m58 (c .before) (After-join·gave c)) .now) (Row.get 4 (T42 .locals) (m58 (c .before) (After-join·gave c)) .now) (Row.get 6 (T42 .locals) (m58 (c .before) (After-join·gave c))) (Row.get 8 (T42 .locals) (m58 (c .before) (After-join·gave c))), loop2-less record { before = c .before; join = c .join }, ((Row.get 1 (T42 .locals) (m58 (c .before) (After-join·gave c)) .now, Row.get 4 (T42 .locals) (m58 (c .before) (After-join·gave c)) .now, Row.get 6 (T42 .locals) (m58 (c .before) (After-join·gave c)), Row.get 8 (T42 .locals) (m58 (c .before) (After-join·gave c))), Path'.refl {a = m58 (c .before) (After-join·gave c)}, loop2-again record { before = c .before; join = c .join }, Path'.refl {a = μ·1 (Row.get 1 (T42 .locals) (m31 (c .before .before .before .before .before .before .before .before .before .before)) .now) (Row.get 2 (T42 .locals) (m31 (c .before .before .before .before .before .before .before .before .before .before)) .now) (Row.get 3 (T42 .locals) (m31 (c .before .before .before .before .before .before .before .before .before .before)) .now) (Row.get 4 (T42 .locals) (m31 (c .before .before .before .before .before .before .before .before .before .before)) .now) (Row.get 5 (T42 .locals) (m31 (c .before .before .before .before .before .before .before .before .before .before))) (Row.get 6 (T42 .locals) (m31 (c .before .before .before .before .before .before .before .before .before .before))) (Row.get 7 (T42 .locals) (m31 (c .before .before .before .before .before .before .before .before .before .before))) (Row.get 8 (T42 .locals) (m31 (c .before .before .before .before .before .before .before .before .before .before))) (Row.get 1 (T42 .locals) (m58 (c .before) (After-join·gave c)) .now) (Row.get 4 (T42 .locals) (m58 (c .before) (After-join·gave c)) .now) (Row.get 6 (T42 .locals) (m58 (c .before) (After-join·gave c))) (Row.get 8 (T42 .locals) (m58 (c .before) (After-join·gave c)))}))))),
         )
 
         lay10 : (c : After-single) → at45 (W7 (c .before .before .before .before .before .before) (c .before .before .before .before .before .loop2 .rows) (c .before .before .before .before .before .loop2 .work2) (c .before .before .before .before .before .loop2 .f) (c .before .before .before .before .before .loop2 .j)) (m45 (c .before) (After-single·gave c))
-        lay10 = λ c. ( Path'.refl, λ g. λ g'. ( join-requires record { before = record { before = record { before = c .before; single = c .single }; work22 = record { given = g }; }; slice-known5 = record { given = g' }; }, λ g''. lay11 record { before = record { before = record { before = record { before = c .before; single = c .single }; work22 = record { given = g }; }; slice-known5 = record { given = g' }; }; join = Called.called ps·3 r·3 (claims· .7) T67 ( record { pos = 6; st = List.[]; d = 0; at = λ x. x }, (record { pos = 9; st = List.[]; d = 0; at = λ x. x }, tt), ) (m50 record { before = record { before = c .before; single = c .single }; work22 = record { given = g }; } g') g''; }, ),
+        lay10 = λ c. (
+          Path'.refl,
+          λ g. λ g'. (join-requires record { before = record { before = record { before = c .before; single = c .single }; work22 = record { given = g } }; slice-known5 = record { given = g' } }, λ g''. lay11 record { before = record { before = record { before = record { before = c .before; single = c .single }; work22 = record { given = g } }; slice-known5 = record { given = g' } }; join = Called.called ps·3 r·3 (claims· .7) T67 (record { pos = 6; st = List.[]; d = 0; at = λ x. x }, (record { pos = 9; st = List.[]; d = 0; at = λ x. x }, tt)) (m50 record { before = record { before = c .before; single = c .single }; work22 = record { given = g } } g') g'' }),
         )
 
         lay9 : (c : In-loop2) → at57 (W7 (c .before .before) (c .before .loop2 .rows) (c .before .loop2 .work2) (c .before .loop2 .f) (c .before .loop2 .j)) (m34 (c .before))
-        lay9 = λ c. ( mul-single record { before = c .before; loop2-test = c .loop2-test }, ( tt, ( ( Path'.refl, Path'.refl, slice-copy-out-single record { before = c .before; loop2-test = c .loop2-test }, ), λ g. λ g'. ( Path'.refl, λ g''. ( Path'.refl, ( single-requires record { before = record { before = record { before = record { before = c .before; loop2-test = c .loop2-test }; single-arg = record { given = g }; }; single-arg2 = record { given = g' }; }; single-arg3 = record { given = g'' }; }, λ g'3. lay10 record { before = record { before = record { before = record { before = record { before = c .before; loop2-test = c .loop2-test }; single-arg = record { given = g }; }; single-arg2 = record { given = g' }; }; single-arg3 = record { given = g'' }; }; single = Called.called ps·2 r·2 (claims· .5) T58 ( record { pos = 6; st = List.[]; d = 0; at = λ x. x }, ( record { pos = 23; st = List.[]; d = 0; at = λ x. x }, ( record { pos = 2; ty = Syntax.tyRef (Syntax.named 1) Syntax.imm (Syntax.tyInt Syntax.w8); ref = λ x. x; }, ( record { pos = 25; ty = Syntax.tyRef Syntax.erased Syntax.imm (Syntax.tyInt Syntax.w32); ref = λ x. x; }, ( record { pos = 27; ty = Syntax.tyRef Syntax.erased Syntax.mut (Syntax.tyInt Syntax.w32); ref = λ x. x; }, tt, ), ), ), ), ) (m44 record { before = record { before = record { before = c .before; loop2-test = c .loop2-test }; single-arg = record { given = g }; }; single-arg2 = record { given = g' }; } g'') g'3; }, ), ), ), ), ),
+        lay9 = λ c. (
+          mul-single record { before = c .before; loop2-test = c .loop2-test },
+          (tt, ((Path'.refl, Path'.refl, slice-copy-out-single record { before = c .before; loop2-test = c .loop2-test }), λ g. λ g'. (Path'.refl, λ g''. (Path'.refl, (single-requires record { before = record { before = record { before = record { before = c .before; loop2-test = c .loop2-test }; single-arg = record { given = g } }; single-arg2 = record { given = g' } }; single-arg3 = record { given = g'' } }, λ g'3. lay10 record { before = record { before = record { before = record { before = record { before = c .before; loop2-test = c .loop2-test }; single-arg = record { given = g } }; single-arg2 = record { given = g' } }; single-arg3 = record { given = g'' } }; single = Called.called ps·2 r·2 (claims· .5) T58 (record { pos = 6; st = List.[]; d = 0; at = λ x. x }, (record { pos = 23; st = List.[]; d = 0; at = λ x. x }, (record { pos = 2; ty = Syntax.tyRef (Syntax.named 1) Syntax.imm (Syntax.tyInt Syntax.w8); ref = λ x. x }, (record { pos = 25; ty = Syntax.tyRef Syntax.erased Syntax.imm (Syntax.tyInt Syntax.w32); ref = λ x. x }, (record { pos = 27; ty = Syntax.tyRef Syntax.erased Syntax.mut (Syntax.tyInt Syntax.w32); ref = λ x. x }, tt))))) (m44 record { before = record { before = record { before = c .before; loop2-test = c .loop2-test }; single-arg = record { given = g } }; single-arg2 = record { given = g' } } g'') g'3 }))))),
         )
 
         lay8 : (c : After-loop2) → at27 (W8 (c .before .before) (c .before .loop2 .rows) (c .before .loop2 .work2) (c .before .loop2 .f) (c .before .loop2 .j)) (m33 (c .before .before) (c .before .loop2 .rows) (c .before .loop2 .work2) (c .before .loop2 .f) (c .before .loop2 .j))
@@ -3207,15 +4256,21 @@ module _ (claims· : Claims) where
         lay7 = λ c. lay9 record { before = c .before; loop2-test = c .loop2-test }
 
         lay6 : (c : After-loop) → at83 (W0 (c .before .before .before .before .before .before .before .before .before .before .before .before .κs) (c .before .before .before .before .before .before .before .before .before .before .before .before .args)) (m18 (c .before))
-        lay6 = λ c. ( ( ( Row.get 1 (T42 .locals) (m31 (c .before)) .now, Row.get 4 (T42 .locals) (m31 (c .before)) .now, Row.get 6 (T42 .locals) (m31 (c .before)), Row.get 8 (T42 .locals) (m31 (c .before)), ), Path'.refl {a = m31 (c .before)}, loop2-holds record { before = c .before; loop-test = c .loop-test }, ), λ vs inv. ( tt, ( λ taken. lay7 record { before = record { before = record { before = c .before; loop-test = c .loop-test }; loop2 = record { rows = vs .0; work2 = vs .1; f = vs .2; j = vs .3; inv = inv }; }; loop2-test = record { taken = Tests.ltb-true (Row.get 8 (T42 .locals) (m32 record { before = c .before; loop-test = c .loop-test; } (vs .0) (vs .1) (vs .2) (vs .3))) (Row.get 5 (T42 .locals) (m32 record { before = c .before; loop-test = c .loop-test; } (vs .0) (vs .1) (vs .2) (vs .3))) taken; }; }, λ left. lay8 record { before = record { before = record { before = c .before; loop-test = c .loop-test }; loop2 = record { rows = vs .0; work2 = vs .1; f = vs .2; j = vs .3; inv = inv }; }; loop2-test = record { left = Tests.ltb-false (Row.get 8 (T42 .locals) (m32 record { before = c .before; loop-test = c .loop-test; } (vs .0) (vs .1) (vs .2) (vs .3))) (Row.get 5 (T42 .locals) (m32 record { before = c .before; loop-test = c .loop-test; } (vs .0) (vs .1) (vs .2) (vs .3))) left; }; }, ), ),
+        lay6 = λ c. (
+          ((Row.get 1 (T42 .locals) (m31 (c .before)) .now, Row.get 4 (T42 .locals) (m31 (c .before)) .now, Row.get 6 (T42 .locals) (m31 (c .before)), Row.get 8 (T42 .locals) (m31 (c .before))), Path'.refl {a = m31 (c .before)}, loop2-holds record { before = c .before; loop-test = c .loop-test }),
+          λ vs inv. (tt, (λ taken. lay7 record { before = record { before = record { before = c .before; loop-test = c .loop-test }; loop2 = record { rows = vs .0; work2 = vs .1; f = vs .2; j = vs .3; inv = inv } }; loop2-test = record { taken = Tests.ltb-true (Row.get 8 (T42 .locals) (m32 record { before = c .before; loop-test = c .loop-test } (vs .0) (vs .1) (vs .2) (vs .3))) (Row.get 5 (T42 .locals) (m32 record { before = c .before; loop-test = c .loop-test } (vs .0) (vs .1) (vs .2) (vs .3))) taken } }, λ left. lay8 record { before = record { before = record { before = c .before; loop-test = c .loop-test }; loop2 = record { rows = vs .0; work2 = vs .1; f = vs .2; j = vs .3; inv = inv } }; loop2-test = record { left = Tests.ltb-false (Row.get 8 (T42 .locals) (m32 record { before = c .before; loop-test = c .loop-test } (vs .0) (vs .1) (vs .2) (vs .3))) (Row.get 5 (T42 .locals) (m32 record { before = c .before; loop-test = c .loop-test } (vs .0) (vs .1) (vs .2) (vs .3))) left } })),
         )
 
         lay5 : (c : After-check) → at10 (W3 (c .before .before .before .before .before) (c .before .before .before .before .loop .f) (c .before .before .before .before .loop .i)) (m26 (c .before) (After-check·gave c))
-        lay5 = λ c. ( add-i record { before = c .before; check = c .check }, ( μ·0 (Row.get 1 (T21 .locals) (m14 (c .before .before .before .before .before .before) (c .before .before .before .before .before .slice-known4 .given)) .now) (Row.get 2 (T21 .locals) (m14 (c .before .before .before .before .before .before) (c .before .before .before .before .before .slice-known4 .given)) .now) (Row.get 3 (T21 .locals) (m14 (c .before .before .before .before .before .before) (c .before .before .before .before .before .slice-known4 .given)) .now) (Row.get 4 (T21 .locals) (m14 (c .before .before .before .before .before .before) (c .before .before .before .before .before .slice-known4 .given)) .now) (Row.get 5 (T21 .locals) (m14 (c .before .before .before .before .before .before) (c .before .before .before .before .before .slice-known4 .given))) (Row.get 6 (T21 .locals) (m14 (c .before .before .before .before .before .before) (c .before .before .before .before .before .slice-known4 .given))) (Row.get 7 (T21 .locals) (m14 (c .before .before .before .before .before .before) (c .before .before .before .before .before .slice-known4 .given))) (Row.get 6 (T21 .locals) (m30 (c .before) (After-check·gave c))) (Row.get 7 (T21 .locals) (m30 (c .before) (After-check·gave c))), loop-less record { before = c .before; check = c .check }, ( ( Row.get 6 (T21 .locals) (m30 (c .before) (After-check·gave c)), Row.get 7 (T21 .locals) (m30 (c .before) (After-check·gave c)), ), Path'.refl {a = m30 (c .before) (After-check·gave c)}, loop-again record { before = c .before; check = c .check }, Path'.refl {a = μ·0 (Row.get 1 (T21 .locals) (m14 (c .before .before .before .before .before .before) (c .before .before .before .before .before .slice-known4 .given)) .now) (Row.get 2 (T21 .locals) (m14 (c .before .before .before .before .before .before) (c .before .before .before .before .before .slice-known4 .given)) .now) (Row.get 3 (T21 .locals) (m14 (c .before .before .before .before .before .before) (c .before .before .before .before .before .slice-known4 .given)) .now) (Row.get 4 (T21 .locals) (m14 (c .before .before .before .before .before .before) (c .before .before .before .before .before .slice-known4 .given)) .now) (Row.get 5 (T21 .locals) (m14 (c .before .before .before .before .before .before) (c .before .before .before .before .before .slice-known4 .given))) (Row.get 6 (T21 .locals) (m14 (c .before .before .before .before .before .before) (c .before .before .before .before .before .slice-known4 .given))) (Row.get 7 (T21 .locals) (m14 (c .before .before .before .before .before .before) (c .before .before .before .before .before .slice-known4 .given))) (Row.get 6 (T21 .locals) (m30 (c .before) (After-check·gave c))) (Row.get 7 (T21 .locals) (m30 (c .before) (After-check·gave c)))}, ), ),
+        lay5 = λ c. (
+          add-i record { before = c .before; check = c .check },
+          (μ·0 (Row.get 1 (T21 .locals) (m14 (c .before .before .before .before .before .before) (c .before .before .before .before .before .slice-known4 .given)) .now) (Row.get 2 (T21 .locals) (m14 (c .before .before .before .before .before .before) (c .before .before .before .before .before .slice-known4 .given)) .now) (Row.get 3 (T21 .locals) (m14 (c .before .before .before .before .before .before) (c .before .before .before .before .before .slice-known4 .given)) .now) (Row.get 4 (T21 .locals) (m14 (c .before .before .before .before .before .before) (c .before .before .before .before .before .slice-known4 .given)) .now) (Row.get 5 (T21 .locals) (m14 (c .before .before .before .before .before .before) (c .before .before .before .before .before .slice-known4 .given))) (Row.get 6 (T21 .locals) (m14 (c .before .before .before .before .before .before) (c .before .before .before .before .before .slice-known4 .given))) (Row.get 7 (T21 .locals) (m14 (c .before .before .before .before .before .before) (c .before .before .before .before .before .slice-known4 .given))) (Row.get 6 (T21 .locals) (m30 (c .before) (After-check·gave c))) (Row.get 7 (T21 .locals) (m30 (c .before) (After-check·gave c))), loop-less record { before = c .before; check = c .check }, ((Row.get 6 (T21 .locals) (m30 (c .before) (After-check·gave c)), Row.get 7 (T21 .locals) (m30 (c .before) (After-check·gave c))), Path'.refl {a = m30 (c .before) (After-check·gave c)}, loop-again record { before = c .before; check = c .check }, Path'.refl {a = μ·0 (Row.get 1 (T21 .locals) (m14 (c .before .before .before .before .before .before) (c .before .before .before .before .before .slice-known4 .given)) .now) (Row.get 2 (T21 .locals) (m14 (c .before .before .before .before .before .before) (c .before .before .before .before .before .slice-known4 .given)) .now) (Row.get 3 (T21 .locals) (m14 (c .before .before .before .before .before .before) (c .before .before .before .before .before .slice-known4 .given)) .now) (Row.get 4 (T21 .locals) (m14 (c .before .before .before .before .before .before) (c .before .before .before .before .before .slice-known4 .given)) .now) (Row.get 5 (T21 .locals) (m14 (c .before .before .before .before .before .before) (c .before .before .before .before .before .slice-known4 .given))) (Row.get 6 (T21 .locals) (m14 (c .before .before .before .before .before .before) (c .before .before .before .before .before .slice-known4 .given))) (Row.get 7 (T21 .locals) (m14 (c .before .before .before .before .before .before) (c .before .before .before .before .before .slice-known4 .given))) (Row.get 6 (T21 .locals) (m30 (c .before) (After-check·gave c))) (Row.get 7 (T21 .locals) (m30 (c .before) (After-check·gave c)))})),
         )
 
         lay4 : (c : In-loop) → at19 (W3 (c .before .before) (c .before .loop .f) (c .before .loop .i)) (m17 (c .before))
-        lay4 = λ c. ( mul-check record { before = c .before; loop-test = c .loop-test }, ( tt, ( ( Path'.refl, Path'.refl, slice-copy-out-check record { before = c .before; loop-test = c .loop-test }, ), λ g. λ g'. ( Path'.refl, ( check-requires record { before = record { before = record { before = c .before; loop-test = c .loop-test }; check-arg = record { given = g }; }; check-arg2 = record { given = g' }; }, λ g''. lay5 record { before = record { before = record { before = record { before = c .before; loop-test = c .loop-test }; check-arg = record { given = g }; }; check-arg2 = record { given = g' }; }; check = Called.called ps·1 r·1 (claims· .3) T34 ( record { pos = 6; st = List.[]; d = 0; at = λ x. x }, ( record { pos = 17; st = List.[]; d = 0; at = λ x. x }, ( Num.vAt 7 λ x. x, ( record { pos = 19; ty = Syntax.tyRef Syntax.erased Syntax.imm (Syntax.tyInt Syntax.w32); ref = λ x. x; }, tt, ), ), ), ) (m25 record { before = record { before = c .before; loop-test = c .loop-test }; check-arg = record { given = g }; } g') g''; }, ), ), ), ),
+        lay4 = λ c. (
+          mul-check record { before = c .before; loop-test = c .loop-test },
+          (tt, ((Path'.refl, Path'.refl, slice-copy-out-check record { before = c .before; loop-test = c .loop-test }), λ g. λ g'. (Path'.refl, (check-requires record { before = record { before = record { before = c .before; loop-test = c .loop-test }; check-arg = record { given = g } }; check-arg2 = record { given = g' } }, λ g''. lay5 record { before = record { before = record { before = record { before = c .before; loop-test = c .loop-test }; check-arg = record { given = g } }; check-arg2 = record { given = g' } }; check = Called.called ps·1 r·1 (claims· .3) T34 (record { pos = 6; st = List.[]; d = 0; at = λ x. x }, (record { pos = 17; st = List.[]; d = 0; at = λ x. x }, (Num.vAt 7 λ x. x, (record { pos = 19; ty = Syntax.tyRef Syntax.erased Syntax.imm (Syntax.tyInt Syntax.w32); ref = λ x. x }, tt)))) (m25 record { before = record { before = c .before; loop-test = c .loop-test }; check-arg = record { given = g } } g') g'' })))),
         )
 
         lay3 : (c : After-loop) → at3 (W4 (c .before .before) (c .before .loop .f) (c .before .loop .i)) (m16 (c .before .before) (c .before .loop .f) (c .before .loop .i))
@@ -3225,16 +4280,20 @@ module _ (claims· : Claims) where
         lay2 = λ c. lay4 record { before = c .before; loop-test = c .loop-test }
 
         lay1 : (c : After-begin) → at93 (W0 (c .before .before .before .before .before .before .κs) (c .before .before .before .before .before .before .args)) (m9 (c .before) (After-begin·gave c))
-        lay1 = λ c. ( Path'.refl, λ g. λ g'. ( Path'.refl, λ g''. λ g'3. ( ( ( Row.get 6 (T21 .locals) (m14 record { before = record { before = record { before = record { before = c .before; begin = c .begin }; work1 = record { given = g }; }; slice-known3 = record { given = g' }; }; work2 = record { given = g'' }; } g'3), Row.get 7 (T21 .locals) (m14 record { before = record { before = record { before = record { before = c .before; begin = c .begin }; work1 = record { given = g }; }; slice-known3 = record { given = g' }; }; work2 = record { given = g'' }; } g'3), ), Path'.refl {a = m14 record { before = record { before = record { before = record { before = c .before; begin = c .begin }; work1 = record { given = g }; }; slice-known3 = record { given = g' }; }; work2 = record { given = g'' }; } g'3}, loop-holds record { before = record { before = record { before = record { before = record { before = c .before; begin = c .begin }; work1 = record { given = g }; }; slice-known3 = record { given = g' }; }; work2 = record { given = g'' }; }; slice-known4 = record { given = g'3 }; }, ), λ vs inv. ( tt, ( λ taken. lay2 record { before = record { before = record { before = record { before = record { before = record { before = record { before = c .before; begin = c .begin }; work1 = record { given = g }; }; slice-known3 = record { given = g' }; }; work2 = record { given = g'' }; }; slice-known4 = record { given = g'3 }; }; loop = record { f = vs .0; i = vs .1; inv = inv }; }; loop-test = record { taken = Tests.ltb-true (Row.get 7 (T21 .locals) (m15 record { before = record { before = record { before = record { before = record { before = c .before; begin = c .begin }; work1 = record { given = g }; }; slice-known3 = record { given = g' }; }; work2 = record { given = g'' }; }; slice-known4 = record { given = g'3 }; } (vs .0) (vs .1))) (Row.get 5 (T21 .locals) (m15 record { before = record { before = record { before = record { before = record { before = c .before; begin = c .begin }; work1 = record { given = g }; }; slice-known3 = record { given = g' }; }; work2 = record { given = g'' }; }; slice-known4 = record { given = g'3 }; } (vs .0) (vs .1))) taken; }; }, λ left. lay3 record { before = record { before = record { before = record { before = record { before = record { before = record { before = c .before; begin = c .begin }; work1 = record { given = g }; }; slice-known3 = record { given = g' }; }; work2 = record { given = g'' }; }; slice-known4 = record { given = g'3 }; }; loop = record { f = vs .0; i = vs .1; inv = inv }; }; loop-test = record { left = Tests.ltb-false (Row.get 7 (T21 .locals) (m15 record { before = record { before = record { before = record { before = record { before = c .before; begin = c .begin }; work1 = record { given = g }; }; slice-known3 = record { given = g' }; }; work2 = record { given = g'' }; }; slice-known4 = record { given = g'3 }; } (vs .0) (vs .1))) (Row.get 5 (T21 .locals) (m15 record { before = record { before = record { before = record { before = record { before = c .before; begin = c .begin }; work1 = record { given = g }; }; slice-known3 = record { given = g' }; }; work2 = record { given = g'' }; }; slice-known4 = record { given = g'3 }; } (vs .0) (vs .1))) left; }; }, ), ), ), ),
+        lay1 = λ c. (
+          Path'.refl,
+          λ g. λ g'. (Path'.refl, λ g''. λ g'3. (((Row.get 6 (T21 .locals) (m14 record { before = record { before = record { before = record { before = c .before; begin = c .begin }; work1 = record { given = g } }; slice-known3 = record { given = g' } }; work2 = record { given = g'' } } g'3), Row.get 7 (T21 .locals) (m14 record { before = record { before = record { before = record { before = c .before; begin = c .begin }; work1 = record { given = g } }; slice-known3 = record { given = g' } }; work2 = record { given = g'' } } g'3)), Path'.refl {a = m14 record { before = record { before = record { before = record { before = c .before; begin = c .begin }; work1 = record { given = g } }; slice-known3 = record { given = g' } }; work2 = record { given = g'' } } g'3}, loop-holds record { before = record { before = record { before = record { before = record { before = c .before; begin = c .begin }; work1 = record { given = g } }; slice-known3 = record { given = g' } }; work2 = record { given = g'' } }; slice-known4 = record { given = g'3 } }), λ vs inv. (tt, (λ taken. lay2 record { before = record { before = record { before = record { before = record { before = record { before = record { before = c .before; begin = c .begin }; work1 = record { given = g } }; slice-known3 = record { given = g' } }; work2 = record { given = g'' } }; slice-known4 = record { given = g'3 } }; loop = record { f = vs .0; i = vs .1; inv = inv } }; loop-test = record { taken = Tests.ltb-true (Row.get 7 (T21 .locals) (m15 record { before = record { before = record { before = record { before = record { before = c .before; begin = c .begin }; work1 = record { given = g } }; slice-known3 = record { given = g' } }; work2 = record { given = g'' } }; slice-known4 = record { given = g'3 } } (vs .0) (vs .1))) (Row.get 5 (T21 .locals) (m15 record { before = record { before = record { before = record { before = record { before = c .before; begin = c .begin }; work1 = record { given = g } }; slice-known3 = record { given = g' } }; work2 = record { given = g'' } }; slice-known4 = record { given = g'3 } } (vs .0) (vs .1))) taken } }, λ left. lay3 record { before = record { before = record { before = record { before = record { before = record { before = record { before = c .before; begin = c .begin }; work1 = record { given = g } }; slice-known3 = record { given = g' } }; work2 = record { given = g'' } }; slice-known4 = record { given = g'3 } }; loop = record { f = vs .0; i = vs .1; inv = inv } }; loop-test = record { left = Tests.ltb-false (Row.get 7 (T21 .locals) (m15 record { before = record { before = record { before = record { before = record { before = c .before; begin = c .begin }; work1 = record { given = g } }; slice-known3 = record { given = g' } }; work2 = record { given = g'' } }; slice-known4 = record { given = g'3 } } (vs .0) (vs .1))) (Row.get 5 (T21 .locals) (m15 record { before = record { before = record { before = record { before = record { before = c .before; begin = c .begin }; work1 = record { given = g } }; slice-known3 = record { given = g' } }; work2 = record { given = g'' } }; slice-known4 = record { given = g'3 } } (vs .0) (vs .1))) left } })))),
         )
 
         pub laid : (c : Start) → at104 (W0 (c .κs) (c .args)) (m0 (c .κs) (c .args))
-        laid = λ c. λ g. λ g'. λ g''. λ g'3. ( Path'.refl, λ g'4. ( Path'.refl, ( begin-requires record { before = record { before = record { before = record { before = record { before = c; shared-slice-known = record { given = g } }; slice-known = record { given = g' }; }; slice-known2 = record { given = g'' }; }; begin-arg = record { given = g'3 }; }; begin-arg2 = record { given = g'4 }; }, λ g'5. lay1 record { before = record { before = record { before = record { before = record { before = record { before = c; shared-slice-known = record { given = g }; }; slice-known = record { given = g' }; }; slice-known2 = record { given = g'' }; }; begin-arg = record { given = g'3 }; }; begin-arg2 = record { given = g'4 }; }; begin = Called.called ps·0 r·0 (claims· .1) T11 ( Num.vAt 5 λ x. x, ( record { pos = 2; ty = Syntax.tyRef (Syntax.named 1) Syntax.imm (Syntax.tyInt Syntax.w8); ref = λ x. x; }, ( record { pos = 11; ty = Syntax.tyRef Syntax.erased Syntax.mut (Syntax.tyInt Syntax.w32); ref = λ x. x; }, ( record { pos = 13; ty = Syntax.tyRef Syntax.erased Syntax.mut (Syntax.tyInt Syntax.w32); ref = λ x. x; }, tt, ), ), ), ) (m8 record { before = record { before = record { before = record { before = c; shared-slice-known = record { given = g } }; slice-known = record { given = g' }; }; slice-known2 = record { given = g'' }; }; begin-arg = record { given = g'3 }; } g'4) g'5; }, ), ),
+        laid = λ c. λ g. λ g'. λ g''. λ g'3. (
+          Path'.refl,
+          λ g'4. (Path'.refl, (begin-requires record { before = record { before = record { before = record { before = record { before = c; shared-slice-known = record { given = g } }; slice-known = record { given = g' } }; slice-known2 = record { given = g'' } }; begin-arg = record { given = g'3 } }; begin-arg2 = record { given = g'4 } }, λ g'5. lay1 record { before = record { before = record { before = record { before = record { before = record { before = c; shared-slice-known = record { given = g } }; slice-known = record { given = g' } }; slice-known2 = record { given = g'' } }; begin-arg = record { given = g'3 } }; begin-arg2 = record { given = g'4 } }; begin = Called.called ps·0 r·0 (claims· .1) T11 (Num.vAt 5 λ x. x, (record { pos = 2; ty = Syntax.tyRef (Syntax.named 1) Syntax.imm (Syntax.tyInt Syntax.w8); ref = λ x. x }, (record { pos = 11; ty = Syntax.tyRef Syntax.erased Syntax.mut (Syntax.tyInt Syntax.w32); ref = λ x. x }, (record { pos = 13; ty = Syntax.tyRef Syntax.erased Syntax.mut (Syntax.tyInt Syntax.w32); ref = λ x. x }, tt)))) (m8 record { before = record { before = record { before = record { before = c; shared-slice-known = record { given = g } }; slice-known = record { given = g' } }; slice-known2 = record { given = g'' } }; begin-arg = record { given = g'3 } } g'4) g'5 })),
         )
 
         module _ (κs : Lifetimes.Lfts 4) (qs : Lifetimes.Shares 4) where
           pub asked : (a : Kinds.Dens κs ps) → (good : Kinds.GoodsP κs ps a) → (pre : Pre· κs a) → (bs : List.List Nat.ℕ) → Φ (Any.wantQ 4 ps r xs m κs qs a (Post· κs a)) (Function.init 4 ps r xs m κs qs a)
-          asked = λ a good pre bs. laid record { κs = κs; args = record { rows = a .0; sheet = a .1 .0; work1 = a .1 .1 .0; work2 = a .1 .1 .1 .0; }; good = good; pre = pre; }
+          asked = λ a good pre bs. laid record { κs = κs; args = record { rows = a .0; sheet = a .1 .0; work1 = a .1 .1 .0; work2 = a .1 .1 .1 .0 }; good = good; pre = pre }
 
         module _ {M : Type 1} (𝓤 : URA.URA M) (H : Wp.Heap 𝓤) (A : Atoms.Atoms 𝓤) (W : Kit.Given 𝓤 H A) (𝓣 : Wp.Tables 𝓤 H) (known0 : Plain.Known 𝓤 H A W 𝓣 3 ps·0 r·0 (claims· .0) (claims· .1) "firm::begin") (known1 : Plain.Known 𝓤 H A W 𝓣 1 ps·1 r·1 (claims· .2) (claims· .3) "firm::check") (known2 : Plain.Known 𝓤 H A W 𝓣 3 ps·2 r·2 (claims· .4) (claims· .5) "firm::single") (known3 : Plain.Known 𝓤 H A W 𝓣 0 ps·3 r·3 (claims· .6) (claims· .7) "firm::join") (known4 : Plain.Known 𝓤 H A W 𝓣 2 ps·4 r·4 (claims· .8) (claims· .9) "firm::finish") where
           pub spec : Statement.Triple 𝓤 (Wp.WpFn 𝓤 H (𝓣 .C) (𝓣 .Λ) (Function.fnOf 4 ps r xs m hs body)) (Function.plainOf 𝓤 H A 4 ps r Pre· Post·)

@@ -85,7 +85,7 @@ abbrev pub ps·0 : List.List (Kinds.PK 4)
 ps·0 = List._∷_ (MutSlice.pMutS T 0 tt) (List._∷_ (ShrSlice.pShrS (Referent.rtF (Referent.fInt Syntax.w8)) 1 tt) (List._∷_ (MutSlice.pMutS (Referent.rtF (Referent.fInt Syntax.w32)) 2 tt) (List._∷_ (MutSlice.pMutS (Referent.rtF (Referent.fInt Syntax.w32)) 3 tt) List.[])))
 
 abbrev pub r·0 : Kinds.RK 4
-r·0 = Value.rVal record { ty = Declared.row Quote.the-type; one = Path'.refl; val = Laws'.val Quote.the-type Laws.the-laws; tells = Laws'.tells Quote.the-type Laws.the-laws; still = Laws'.still Quote.the-type Laws.the-copy Exit.yes; row = Rows.whole (Declared.row Quote.the-type); rd = λ x. x; mk = λ x. x; } λ M 𝓤 H A W. record { copies = Laws'.copy Quote.the-type Laws.the-copy 𝓤 H A W; lawful = Laws'.lawful Quote.the-type Laws.the-laws 𝓤 H A W; makes = Laws'.makes Quote.the-type Laws.the-plain 𝓤 H A; in-mem = Local.mem-whole 𝓤 H A W (Declared.row Quote.the-type); of-mem = Local.whole-mem 𝓤 H A W (Declared.row Quote.the-type); }
+r·0 = Value.rVal record { ty = Declared.row Quote.the-type; one = Path'.refl; val = Laws'.val Quote.the-type Laws.the-laws; tells = Laws'.tells Quote.the-type Laws.the-laws; still = Laws'.still Quote.the-type Laws.the-copy Exit.yes; row = Rows.whole (Declared.row Quote.the-type); rd = λ x. x; mk = λ x. x } λ M 𝓤 H A W. record { copies = Laws'.copy Quote.the-type Laws.the-copy 𝓤 H A W; lawful = Laws'.lawful Quote.the-type Laws.the-laws 𝓤 H A W; makes = Laws'.makes Quote.the-type Laws.the-plain 𝓤 H A; in-mem = Local.mem-whole 𝓤 H A W (Declared.row Quote.the-type); of-mem = Local.whole-mem 𝓤 H A W (Declared.row Quote.the-type) }
 
 abbrev pub hs : List.List Syntax.Home
 hs = List._∷_ Syntax.valueLocal (List._∷_ Syntax.valueLocal (List._∷_ Syntax.valueLocal (List._∷_ Syntax.valueLocal (List._∷_ Syntax.valueLocal (List._∷_ Syntax.valueLocal (List._∷_ Syntax.valueLocal (List._∷_ Syntax.valueLocal (List._∷_ Syntax.valueLocal (List._∷_ Syntax.valueLocal (List._∷_ Syntax.valueLocal (List._∷_ Syntax.valueLocal (List._∷_ Syntax.valueLocal (List._∷_ Syntax.valueLocal (List._∷_ Syntax.valueLocal List.[]))))))))))))))
@@ -166,170 +166,424 @@ abbrev pub Claims : Type 1
 Claims = Kinds.In 4 ps·0 × Kinds.Out 4 ps·0 r·0
 
 abbrev pub t0 : List.List Row.Entry
-t0 = List._∷_ (0, Rows.any-gone (Syntax.tyInt Syntax.w32)) (List._∷_ ( 1, Mut.mslice T τ 0,
-) (List._∷_ ( 2, Rows.sslice (Referent.rtF (Referent.fInt Syntax.w8)) (Syntax.tyRef (Syntax.named 1) Syntax.imm (Syntax.tyInt Syntax.w8)) 1,
-) (List._∷_ ( 3, Mut.mslice (Referent.rtF (Referent.fInt Syntax.w32)) (Syntax.tyRef (Syntax.named 2) Syntax.mut (Syntax.tyInt Syntax.w32)) 2,
-) (List._∷_ ( 4, Mut.mslice (Referent.rtF (Referent.fInt Syntax.w32)) (Syntax.tyRef (Syntax.named 3) Syntax.mut (Syntax.tyInt Syntax.w32)) 3,
-) (List._∷_ ( 5, Rows.mref (Referent.rtF (Referent.fInt Syntax.w64)) (Syntax.tyRef (Syntax.named 4) Syntax.mut (Syntax.tyInt Syntax.w64)) 4,
-) (List._∷_ ( 6, Rows.mref (Referent.rtF (Referent.fInt Syntax.w64)) (Syntax.tyRef (Syntax.named 5) Syntax.mut (Syntax.tyInt Syntax.w64)) 5,
-) (List._∷_ ( 7, Rows.mref (Referent.rtF (Referent.fInt Syntax.w32)) (Syntax.tyRef (Syntax.named 6) Syntax.mut (Syntax.tyInt Syntax.w32)) 6,
-) (List._∷_ ( 8, Rows.any-gone (Syntax.tyStruct (List._∷_ 102 (List._∷_ 105 (List._∷_ 114 (List._∷_ 109 (List._∷_ 58 (List._∷_ 58 (List._∷_ 81 (List._∷_ 117 (List._∷_ 111 (List._∷_ 116 (List._∷_ 101 List.[]))))))))))) (Syntax.tcons (Syntax.tyInt Syntax.w32) (Syntax.tcons (Syntax.tyInt Syntax.w64) (Syntax.tcons (Syntax.tyInt Syntax.w64) (Syntax.tcons (Syntax.tyInt Syntax.w32) Syntax.tnil))))),
-) (List._∷_ ( 9, Rows.any-gone (Syntax.tyRef Syntax.erased Syntax.mut ϱ),
-) (List._∷_ ( 10, Rows.any-gone (Syntax.tyStruct (List._∷_ 38 (List._∷_ 91 (List._∷_ 93 List.[]))) (Syntax.tcons (Syntax.tyRef Syntax.erased Syntax.mut ϱ) (Syntax.tcons (Syntax.tyInt Syntax.w64) Syntax.tnil))),
-) (List._∷_ ( 11, Rows.any-gone (Syntax.tyRef Syntax.erased Syntax.mut (Syntax.tyInt Syntax.w32)), ) (List._∷_ ( 12, Rows.any-gone (Syntax.tyStruct (List._∷_ 38 (List._∷_ 91 (List._∷_ 93 List.[]))) (Syntax.tcons (Syntax.tyRef Syntax.erased Syntax.mut (Syntax.tyInt Syntax.w32)) (Syntax.tcons (Syntax.tyInt Syntax.w64) Syntax.tnil))), ) (List._∷_ ( 13, Rows.any-gone (Syntax.tyRef Syntax.erased Syntax.mut (Syntax.tyInt Syntax.w32)), ) (List._∷_ ( 14, Rows.any-gone (Syntax.tyStruct (List._∷_ 38 (List._∷_ 91 (List._∷_ 93 List.[]))) (Syntax.tcons (Syntax.tyRef Syntax.erased Syntax.mut (Syntax.tyInt Syntax.w32)) (Syntax.tcons (Syntax.tyInt Syntax.w64) Syntax.tnil))), ) List.[]))))))))))))))
+t0 = List._∷_ (0, Rows.any-gone (Syntax.tyInt Syntax.w32)) (List._∷_ (
+  1,
+  Mut.mslice T τ 0,
+) (List._∷_ (
+  2,
+  Rows.sslice (Referent.rtF (Referent.fInt Syntax.w8)) (Syntax.tyRef (Syntax.named 1) Syntax.imm (Syntax.tyInt Syntax.w8)) 1,
+) (List._∷_ (
+  3,
+  Mut.mslice (Referent.rtF (Referent.fInt Syntax.w32)) (Syntax.tyRef (Syntax.named 2) Syntax.mut (Syntax.tyInt Syntax.w32)) 2,
+) (List._∷_ (
+  4,
+  Mut.mslice (Referent.rtF (Referent.fInt Syntax.w32)) (Syntax.tyRef (Syntax.named 3) Syntax.mut (Syntax.tyInt Syntax.w32)) 3,
+) (List._∷_ (
+  5,
+  Rows.mref (Referent.rtF (Referent.fInt Syntax.w64)) (Syntax.tyRef (Syntax.named 4) Syntax.mut (Syntax.tyInt Syntax.w64)) 4,
+) (List._∷_ (
+  6,
+  Rows.mref (Referent.rtF (Referent.fInt Syntax.w64)) (Syntax.tyRef (Syntax.named 5) Syntax.mut (Syntax.tyInt Syntax.w64)) 5,
+) (List._∷_ (
+  7,
+  Rows.mref (Referent.rtF (Referent.fInt Syntax.w32)) (Syntax.tyRef (Syntax.named 6) Syntax.mut (Syntax.tyInt Syntax.w32)) 6,
+) (List._∷_ (
+  8,
+  Rows.any-gone (Syntax.tyStruct (List._∷_ 102 (List._∷_ 105 (List._∷_ 114 (List._∷_ 109 (List._∷_ 58 (List._∷_ 58 (List._∷_ 81 (List._∷_ 117 (List._∷_ 111 (List._∷_ 116 (List._∷_ 101 List.[]))))))))))) (Syntax.tcons (Syntax.tyInt Syntax.w32) (Syntax.tcons (Syntax.tyInt Syntax.w64) (Syntax.tcons (Syntax.tyInt Syntax.w64) (Syntax.tcons (Syntax.tyInt Syntax.w32) Syntax.tnil))))),
+) (List._∷_ (
+  9,
+  Rows.any-gone (Syntax.tyRef Syntax.erased Syntax.mut ϱ),
+) (List._∷_ (
+  10,
+  Rows.any-gone (Syntax.tyStruct (List._∷_ 38 (List._∷_ 91 (List._∷_ 93 List.[]))) (Syntax.tcons (Syntax.tyRef Syntax.erased Syntax.mut ϱ) (Syntax.tcons (Syntax.tyInt Syntax.w64) Syntax.tnil))),
+) (List._∷_ (11, Rows.any-gone (Syntax.tyRef Syntax.erased Syntax.mut (Syntax.tyInt Syntax.w32))) (List._∷_ (12, Rows.any-gone (Syntax.tyStruct (List._∷_ 38 (List._∷_ 91 (List._∷_ 93 List.[]))) (Syntax.tcons (Syntax.tyRef Syntax.erased Syntax.mut (Syntax.tyInt Syntax.w32)) (Syntax.tcons (Syntax.tyInt Syntax.w64) Syntax.tnil)))) (List._∷_ (13, Rows.any-gone (Syntax.tyRef Syntax.erased Syntax.mut (Syntax.tyInt Syntax.w32))) (List._∷_ (14, Rows.any-gone (Syntax.tyStruct (List._∷_ 38 (List._∷_ 91 (List._∷_ 93 List.[]))) (Syntax.tcons (Syntax.tyRef Syntax.erased Syntax.mut (Syntax.tyInt Syntax.w32)) (Syntax.tcons (Syntax.tyInt Syntax.w64) Syntax.tnil)))) List.[]))))))))))))))
 
 abbrev pub t1 : List.List Row.Entry
-t1 = List._∷_ (0, Rows.sc-here (Row.sInt Syntax.w32)) (List._∷_ ( 1, Mut.mslice T τ 0,
-) (List._∷_ ( 2, Rows.sslice (Referent.rtF (Referent.fInt Syntax.w8)) (Syntax.tyRef (Syntax.named 1) Syntax.imm (Syntax.tyInt Syntax.w8)) 1,
-) (List._∷_ ( 3, Mut.mslice (Referent.rtF (Referent.fInt Syntax.w32)) (Syntax.tyRef (Syntax.named 2) Syntax.mut (Syntax.tyInt Syntax.w32)) 2,
-) (List._∷_ ( 4, Mut.mslice (Referent.rtF (Referent.fInt Syntax.w32)) (Syntax.tyRef (Syntax.named 3) Syntax.mut (Syntax.tyInt Syntax.w32)) 3,
-) (List._∷_ ( 5, Rows.mref (Referent.rtF (Referent.fInt Syntax.w64)) (Syntax.tyRef (Syntax.named 4) Syntax.mut (Syntax.tyInt Syntax.w64)) 4,
-) (List._∷_ ( 6, Rows.mref (Referent.rtF (Referent.fInt Syntax.w64)) (Syntax.tyRef (Syntax.named 5) Syntax.mut (Syntax.tyInt Syntax.w64)) 5,
-) (List._∷_ ( 7, Rows.mref (Referent.rtF (Referent.fInt Syntax.w32)) (Syntax.tyRef (Syntax.named 6) Syntax.mut (Syntax.tyInt Syntax.w32)) 6,
-) (List._∷_ ( 8, Rows.any-gone (Syntax.tyStruct (List._∷_ 102 (List._∷_ 105 (List._∷_ 114 (List._∷_ 109 (List._∷_ 58 (List._∷_ 58 (List._∷_ 81 (List._∷_ 117 (List._∷_ 111 (List._∷_ 116 (List._∷_ 101 List.[]))))))))))) (Syntax.tcons (Syntax.tyInt Syntax.w32) (Syntax.tcons (Syntax.tyInt Syntax.w64) (Syntax.tcons (Syntax.tyInt Syntax.w64) (Syntax.tcons (Syntax.tyInt Syntax.w32) Syntax.tnil))))),
-) (List._∷_ ( 9, Rows.any-gone (Syntax.tyRef Syntax.erased Syntax.mut ϱ),
-) (List._∷_ ( 10, Rows.any-gone (Syntax.tyStruct (List._∷_ 38 (List._∷_ 91 (List._∷_ 93 List.[]))) (Syntax.tcons (Syntax.tyRef Syntax.erased Syntax.mut ϱ) (Syntax.tcons (Syntax.tyInt Syntax.w64) Syntax.tnil))),
-) (List._∷_ ( 11, Rows.any-gone (Syntax.tyRef Syntax.erased Syntax.mut (Syntax.tyInt Syntax.w32)), ) (List._∷_ ( 12, Rows.any-gone (Syntax.tyStruct (List._∷_ 38 (List._∷_ 91 (List._∷_ 93 List.[]))) (Syntax.tcons (Syntax.tyRef Syntax.erased Syntax.mut (Syntax.tyInt Syntax.w32)) (Syntax.tcons (Syntax.tyInt Syntax.w64) Syntax.tnil))), ) (List._∷_ ( 13, Rows.any-gone (Syntax.tyRef Syntax.erased Syntax.mut (Syntax.tyInt Syntax.w32)), ) (List._∷_ ( 14, Rows.any-gone (Syntax.tyStruct (List._∷_ 38 (List._∷_ 91 (List._∷_ 93 List.[]))) (Syntax.tcons (Syntax.tyRef Syntax.erased Syntax.mut (Syntax.tyInt Syntax.w32)) (Syntax.tcons (Syntax.tyInt Syntax.w64) Syntax.tnil))), ) List.[]))))))))))))))
+t1 = List._∷_ (0, Rows.sc-here (Row.sInt Syntax.w32)) (List._∷_ (
+  1,
+  Mut.mslice T τ 0,
+) (List._∷_ (
+  2,
+  Rows.sslice (Referent.rtF (Referent.fInt Syntax.w8)) (Syntax.tyRef (Syntax.named 1) Syntax.imm (Syntax.tyInt Syntax.w8)) 1,
+) (List._∷_ (
+  3,
+  Mut.mslice (Referent.rtF (Referent.fInt Syntax.w32)) (Syntax.tyRef (Syntax.named 2) Syntax.mut (Syntax.tyInt Syntax.w32)) 2,
+) (List._∷_ (
+  4,
+  Mut.mslice (Referent.rtF (Referent.fInt Syntax.w32)) (Syntax.tyRef (Syntax.named 3) Syntax.mut (Syntax.tyInt Syntax.w32)) 3,
+) (List._∷_ (
+  5,
+  Rows.mref (Referent.rtF (Referent.fInt Syntax.w64)) (Syntax.tyRef (Syntax.named 4) Syntax.mut (Syntax.tyInt Syntax.w64)) 4,
+) (List._∷_ (
+  6,
+  Rows.mref (Referent.rtF (Referent.fInt Syntax.w64)) (Syntax.tyRef (Syntax.named 5) Syntax.mut (Syntax.tyInt Syntax.w64)) 5,
+) (List._∷_ (
+  7,
+  Rows.mref (Referent.rtF (Referent.fInt Syntax.w32)) (Syntax.tyRef (Syntax.named 6) Syntax.mut (Syntax.tyInt Syntax.w32)) 6,
+) (List._∷_ (
+  8,
+  Rows.any-gone (Syntax.tyStruct (List._∷_ 102 (List._∷_ 105 (List._∷_ 114 (List._∷_ 109 (List._∷_ 58 (List._∷_ 58 (List._∷_ 81 (List._∷_ 117 (List._∷_ 111 (List._∷_ 116 (List._∷_ 101 List.[]))))))))))) (Syntax.tcons (Syntax.tyInt Syntax.w32) (Syntax.tcons (Syntax.tyInt Syntax.w64) (Syntax.tcons (Syntax.tyInt Syntax.w64) (Syntax.tcons (Syntax.tyInt Syntax.w32) Syntax.tnil))))),
+) (List._∷_ (
+  9,
+  Rows.any-gone (Syntax.tyRef Syntax.erased Syntax.mut ϱ),
+) (List._∷_ (
+  10,
+  Rows.any-gone (Syntax.tyStruct (List._∷_ 38 (List._∷_ 91 (List._∷_ 93 List.[]))) (Syntax.tcons (Syntax.tyRef Syntax.erased Syntax.mut ϱ) (Syntax.tcons (Syntax.tyInt Syntax.w64) Syntax.tnil))),
+) (List._∷_ (11, Rows.any-gone (Syntax.tyRef Syntax.erased Syntax.mut (Syntax.tyInt Syntax.w32))) (List._∷_ (12, Rows.any-gone (Syntax.tyStruct (List._∷_ 38 (List._∷_ 91 (List._∷_ 93 List.[]))) (Syntax.tcons (Syntax.tyRef Syntax.erased Syntax.mut (Syntax.tyInt Syntax.w32)) (Syntax.tcons (Syntax.tyInt Syntax.w64) Syntax.tnil)))) (List._∷_ (13, Rows.any-gone (Syntax.tyRef Syntax.erased Syntax.mut (Syntax.tyInt Syntax.w32))) (List._∷_ (14, Rows.any-gone (Syntax.tyStruct (List._∷_ 38 (List._∷_ 91 (List._∷_ 93 List.[]))) (Syntax.tcons (Syntax.tyRef Syntax.erased Syntax.mut (Syntax.tyInt Syntax.w32)) (Syntax.tcons (Syntax.tyInt Syntax.w64) Syntax.tnil)))) List.[]))))))))))))))
 
 abbrev pub t2 : List.List Row.Entry
-t2 = List._∷_ (0, Rows.any-gone (Syntax.tyInt Syntax.w32)) (List._∷_ ( 1, Relend.mslice-owed T τ 0 7 Row.off,
-) (List._∷_ ( 2, Rows.sslice (Referent.rtF (Referent.fInt Syntax.w8)) (Syntax.tyRef (Syntax.named 1) Syntax.imm (Syntax.tyInt Syntax.w8)) 1,
-) (List._∷_ ( 3, Mut.mslice (Referent.rtF (Referent.fInt Syntax.w32)) (Syntax.tyRef (Syntax.named 2) Syntax.mut (Syntax.tyInt Syntax.w32)) 2,
-) (List._∷_ ( 4, Mut.mslice (Referent.rtF (Referent.fInt Syntax.w32)) (Syntax.tyRef (Syntax.named 3) Syntax.mut (Syntax.tyInt Syntax.w32)) 3,
-) (List._∷_ ( 5, Rows.mref (Referent.rtF (Referent.fInt Syntax.w64)) (Syntax.tyRef (Syntax.named 4) Syntax.mut (Syntax.tyInt Syntax.w64)) 4,
-) (List._∷_ ( 6, Rows.mref (Referent.rtF (Referent.fInt Syntax.w64)) (Syntax.tyRef (Syntax.named 5) Syntax.mut (Syntax.tyInt Syntax.w64)) 5,
-) (List._∷_ ( 7, Rows.mref (Referent.rtF (Referent.fInt Syntax.w32)) (Syntax.tyRef (Syntax.named 6) Syntax.mut (Syntax.tyInt Syntax.w32)) 6,
-) (List._∷_ ( 8, Rows.any-gone (Syntax.tyStruct (List._∷_ 102 (List._∷_ 105 (List._∷_ 114 (List._∷_ 109 (List._∷_ 58 (List._∷_ 58 (List._∷_ 81 (List._∷_ 117 (List._∷_ 111 (List._∷_ 116 (List._∷_ 101 List.[]))))))))))) (Syntax.tcons (Syntax.tyInt Syntax.w32) (Syntax.tcons (Syntax.tyInt Syntax.w64) (Syntax.tcons (Syntax.tyInt Syntax.w64) (Syntax.tcons (Syntax.tyInt Syntax.w32) Syntax.tnil))))),
-) (List._∷_ ( 9, Relend.msptr T (Syntax.tyRef Syntax.erased Syntax.mut ϱ) 7,
-) (List._∷_ ( 10, Rows.any-gone (Syntax.tyStruct (List._∷_ 38 (List._∷_ 91 (List._∷_ 93 List.[]))) (Syntax.tcons (Syntax.tyRef Syntax.erased Syntax.mut ϱ) (Syntax.tcons (Syntax.tyInt Syntax.w64) Syntax.tnil))),
-) (List._∷_ ( 11, Rows.any-gone (Syntax.tyRef Syntax.erased Syntax.mut (Syntax.tyInt Syntax.w32)), ) (List._∷_ ( 12, Rows.any-gone (Syntax.tyStruct (List._∷_ 38 (List._∷_ 91 (List._∷_ 93 List.[]))) (Syntax.tcons (Syntax.tyRef Syntax.erased Syntax.mut (Syntax.tyInt Syntax.w32)) (Syntax.tcons (Syntax.tyInt Syntax.w64) Syntax.tnil))), ) (List._∷_ ( 13, Rows.any-gone (Syntax.tyRef Syntax.erased Syntax.mut (Syntax.tyInt Syntax.w32)), ) (List._∷_ ( 14, Rows.any-gone (Syntax.tyStruct (List._∷_ 38 (List._∷_ 91 (List._∷_ 93 List.[]))) (Syntax.tcons (Syntax.tyRef Syntax.erased Syntax.mut (Syntax.tyInt Syntax.w32)) (Syntax.tcons (Syntax.tyInt Syntax.w64) Syntax.tnil))), ) List.[]))))))))))))))
+t2 = List._∷_ (0, Rows.any-gone (Syntax.tyInt Syntax.w32)) (List._∷_ (
+  1,
+  Relend.mslice-owed T τ 0 7 Row.off,
+) (List._∷_ (
+  2,
+  Rows.sslice (Referent.rtF (Referent.fInt Syntax.w8)) (Syntax.tyRef (Syntax.named 1) Syntax.imm (Syntax.tyInt Syntax.w8)) 1,
+) (List._∷_ (
+  3,
+  Mut.mslice (Referent.rtF (Referent.fInt Syntax.w32)) (Syntax.tyRef (Syntax.named 2) Syntax.mut (Syntax.tyInt Syntax.w32)) 2,
+) (List._∷_ (
+  4,
+  Mut.mslice (Referent.rtF (Referent.fInt Syntax.w32)) (Syntax.tyRef (Syntax.named 3) Syntax.mut (Syntax.tyInt Syntax.w32)) 3,
+) (List._∷_ (
+  5,
+  Rows.mref (Referent.rtF (Referent.fInt Syntax.w64)) (Syntax.tyRef (Syntax.named 4) Syntax.mut (Syntax.tyInt Syntax.w64)) 4,
+) (List._∷_ (
+  6,
+  Rows.mref (Referent.rtF (Referent.fInt Syntax.w64)) (Syntax.tyRef (Syntax.named 5) Syntax.mut (Syntax.tyInt Syntax.w64)) 5,
+) (List._∷_ (
+  7,
+  Rows.mref (Referent.rtF (Referent.fInt Syntax.w32)) (Syntax.tyRef (Syntax.named 6) Syntax.mut (Syntax.tyInt Syntax.w32)) 6,
+) (List._∷_ (
+  8,
+  Rows.any-gone (Syntax.tyStruct (List._∷_ 102 (List._∷_ 105 (List._∷_ 114 (List._∷_ 109 (List._∷_ 58 (List._∷_ 58 (List._∷_ 81 (List._∷_ 117 (List._∷_ 111 (List._∷_ 116 (List._∷_ 101 List.[]))))))))))) (Syntax.tcons (Syntax.tyInt Syntax.w32) (Syntax.tcons (Syntax.tyInt Syntax.w64) (Syntax.tcons (Syntax.tyInt Syntax.w64) (Syntax.tcons (Syntax.tyInt Syntax.w32) Syntax.tnil))))),
+) (List._∷_ (
+  9,
+  Relend.msptr T (Syntax.tyRef Syntax.erased Syntax.mut ϱ) 7,
+) (List._∷_ (
+  10,
+  Rows.any-gone (Syntax.tyStruct (List._∷_ 38 (List._∷_ 91 (List._∷_ 93 List.[]))) (Syntax.tcons (Syntax.tyRef Syntax.erased Syntax.mut ϱ) (Syntax.tcons (Syntax.tyInt Syntax.w64) Syntax.tnil))),
+) (List._∷_ (11, Rows.any-gone (Syntax.tyRef Syntax.erased Syntax.mut (Syntax.tyInt Syntax.w32))) (List._∷_ (12, Rows.any-gone (Syntax.tyStruct (List._∷_ 38 (List._∷_ 91 (List._∷_ 93 List.[]))) (Syntax.tcons (Syntax.tyRef Syntax.erased Syntax.mut (Syntax.tyInt Syntax.w32)) (Syntax.tcons (Syntax.tyInt Syntax.w64) Syntax.tnil)))) (List._∷_ (13, Rows.any-gone (Syntax.tyRef Syntax.erased Syntax.mut (Syntax.tyInt Syntax.w32))) (List._∷_ (14, Rows.any-gone (Syntax.tyStruct (List._∷_ 38 (List._∷_ 91 (List._∷_ 93 List.[]))) (Syntax.tcons (Syntax.tyRef Syntax.erased Syntax.mut (Syntax.tyInt Syntax.w32)) (Syntax.tcons (Syntax.tyInt Syntax.w64) Syntax.tnil)))) List.[]))))))))))))))
 
 abbrev pub t3 : List.List Row.Entry
-t3 = List._∷_ (0, Rows.any-gone (Syntax.tyInt Syntax.w32)) (List._∷_ ( 1, Relend.mslice-owed T τ 0 7 Row.off,
-) (List._∷_ ( 2, Rows.sslice (Referent.rtF (Referent.fInt Syntax.w8)) (Syntax.tyRef (Syntax.named 1) Syntax.imm (Syntax.tyInt Syntax.w8)) 1,
-) (List._∷_ ( 3, Mut.mslice (Referent.rtF (Referent.fInt Syntax.w32)) (Syntax.tyRef (Syntax.named 2) Syntax.mut (Syntax.tyInt Syntax.w32)) 2,
-) (List._∷_ ( 4, Mut.mslice (Referent.rtF (Referent.fInt Syntax.w32)) (Syntax.tyRef (Syntax.named 3) Syntax.mut (Syntax.tyInt Syntax.w32)) 3,
-) (List._∷_ ( 5, Rows.mref (Referent.rtF (Referent.fInt Syntax.w64)) (Syntax.tyRef (Syntax.named 4) Syntax.mut (Syntax.tyInt Syntax.w64)) 4,
-) (List._∷_ ( 6, Rows.mref (Referent.rtF (Referent.fInt Syntax.w64)) (Syntax.tyRef (Syntax.named 5) Syntax.mut (Syntax.tyInt Syntax.w64)) 5,
-) (List._∷_ ( 7, Rows.mref (Referent.rtF (Referent.fInt Syntax.w32)) (Syntax.tyRef (Syntax.named 6) Syntax.mut (Syntax.tyInt Syntax.w32)) 6,
-) (List._∷_ ( 8, Rows.any-gone (Syntax.tyStruct (List._∷_ 102 (List._∷_ 105 (List._∷_ 114 (List._∷_ 109 (List._∷_ 58 (List._∷_ 58 (List._∷_ 81 (List._∷_ 117 (List._∷_ 111 (List._∷_ 116 (List._∷_ 101 List.[]))))))))))) (Syntax.tcons (Syntax.tyInt Syntax.w32) (Syntax.tcons (Syntax.tyInt Syntax.w64) (Syntax.tcons (Syntax.tyInt Syntax.w64) (Syntax.tcons (Syntax.tyInt Syntax.w32) Syntax.tnil))))),
-) (List._∷_ ( 9, Rows.any-gone (Syntax.tyRef Syntax.erased Syntax.mut ϱ),
-) (List._∷_ ( 10, Mut.mslice T (Syntax.tyRef Syntax.erased Syntax.mut ϱ) 7,
-) (List._∷_ ( 11, Rows.any-gone (Syntax.tyRef Syntax.erased Syntax.mut (Syntax.tyInt Syntax.w32)), ) (List._∷_ ( 12, Rows.any-gone (Syntax.tyStruct (List._∷_ 38 (List._∷_ 91 (List._∷_ 93 List.[]))) (Syntax.tcons (Syntax.tyRef Syntax.erased Syntax.mut (Syntax.tyInt Syntax.w32)) (Syntax.tcons (Syntax.tyInt Syntax.w64) Syntax.tnil))), ) (List._∷_ ( 13, Rows.any-gone (Syntax.tyRef Syntax.erased Syntax.mut (Syntax.tyInt Syntax.w32)), ) (List._∷_ ( 14, Rows.any-gone (Syntax.tyStruct (List._∷_ 38 (List._∷_ 91 (List._∷_ 93 List.[]))) (Syntax.tcons (Syntax.tyRef Syntax.erased Syntax.mut (Syntax.tyInt Syntax.w32)) (Syntax.tcons (Syntax.tyInt Syntax.w64) Syntax.tnil))), ) List.[]))))))))))))))
+t3 = List._∷_ (0, Rows.any-gone (Syntax.tyInt Syntax.w32)) (List._∷_ (
+  1,
+  Relend.mslice-owed T τ 0 7 Row.off,
+) (List._∷_ (
+  2,
+  Rows.sslice (Referent.rtF (Referent.fInt Syntax.w8)) (Syntax.tyRef (Syntax.named 1) Syntax.imm (Syntax.tyInt Syntax.w8)) 1,
+) (List._∷_ (
+  3,
+  Mut.mslice (Referent.rtF (Referent.fInt Syntax.w32)) (Syntax.tyRef (Syntax.named 2) Syntax.mut (Syntax.tyInt Syntax.w32)) 2,
+) (List._∷_ (
+  4,
+  Mut.mslice (Referent.rtF (Referent.fInt Syntax.w32)) (Syntax.tyRef (Syntax.named 3) Syntax.mut (Syntax.tyInt Syntax.w32)) 3,
+) (List._∷_ (
+  5,
+  Rows.mref (Referent.rtF (Referent.fInt Syntax.w64)) (Syntax.tyRef (Syntax.named 4) Syntax.mut (Syntax.tyInt Syntax.w64)) 4,
+) (List._∷_ (
+  6,
+  Rows.mref (Referent.rtF (Referent.fInt Syntax.w64)) (Syntax.tyRef (Syntax.named 5) Syntax.mut (Syntax.tyInt Syntax.w64)) 5,
+) (List._∷_ (
+  7,
+  Rows.mref (Referent.rtF (Referent.fInt Syntax.w32)) (Syntax.tyRef (Syntax.named 6) Syntax.mut (Syntax.tyInt Syntax.w32)) 6,
+) (List._∷_ (
+  8,
+  Rows.any-gone (Syntax.tyStruct (List._∷_ 102 (List._∷_ 105 (List._∷_ 114 (List._∷_ 109 (List._∷_ 58 (List._∷_ 58 (List._∷_ 81 (List._∷_ 117 (List._∷_ 111 (List._∷_ 116 (List._∷_ 101 List.[]))))))))))) (Syntax.tcons (Syntax.tyInt Syntax.w32) (Syntax.tcons (Syntax.tyInt Syntax.w64) (Syntax.tcons (Syntax.tyInt Syntax.w64) (Syntax.tcons (Syntax.tyInt Syntax.w32) Syntax.tnil))))),
+) (List._∷_ (
+  9,
+  Rows.any-gone (Syntax.tyRef Syntax.erased Syntax.mut ϱ),
+) (List._∷_ (
+  10,
+  Mut.mslice T (Syntax.tyRef Syntax.erased Syntax.mut ϱ) 7,
+) (List._∷_ (11, Rows.any-gone (Syntax.tyRef Syntax.erased Syntax.mut (Syntax.tyInt Syntax.w32))) (List._∷_ (12, Rows.any-gone (Syntax.tyStruct (List._∷_ 38 (List._∷_ 91 (List._∷_ 93 List.[]))) (Syntax.tcons (Syntax.tyRef Syntax.erased Syntax.mut (Syntax.tyInt Syntax.w32)) (Syntax.tcons (Syntax.tyInt Syntax.w64) Syntax.tnil)))) (List._∷_ (13, Rows.any-gone (Syntax.tyRef Syntax.erased Syntax.mut (Syntax.tyInt Syntax.w32))) (List._∷_ (14, Rows.any-gone (Syntax.tyStruct (List._∷_ 38 (List._∷_ 91 (List._∷_ 93 List.[]))) (Syntax.tcons (Syntax.tyRef Syntax.erased Syntax.mut (Syntax.tyInt Syntax.w32)) (Syntax.tcons (Syntax.tyInt Syntax.w64) Syntax.tnil)))) List.[]))))))))))))))
 
 abbrev pub t4 : List.List Row.Entry
-t4 = List._∷_ (0, Rows.any-gone (Syntax.tyInt Syntax.w32)) (List._∷_ ( 1, Relend.mslice-owed T τ 0 7 Row.off,
-) (List._∷_ ( 2, Rows.sslice (Referent.rtF (Referent.fInt Syntax.w8)) (Syntax.tyRef (Syntax.named 1) Syntax.imm (Syntax.tyInt Syntax.w8)) 1,
-) (List._∷_ ( 3, Relend.mslice-owed (Referent.rtF (Referent.fInt Syntax.w32)) (Syntax.tyRef (Syntax.named 2) Syntax.mut (Syntax.tyInt Syntax.w32)) 2 8 Row.off,
-) (List._∷_ ( 4, Mut.mslice (Referent.rtF (Referent.fInt Syntax.w32)) (Syntax.tyRef (Syntax.named 3) Syntax.mut (Syntax.tyInt Syntax.w32)) 3,
-) (List._∷_ ( 5, Rows.mref (Referent.rtF (Referent.fInt Syntax.w64)) (Syntax.tyRef (Syntax.named 4) Syntax.mut (Syntax.tyInt Syntax.w64)) 4,
-) (List._∷_ ( 6, Rows.mref (Referent.rtF (Referent.fInt Syntax.w64)) (Syntax.tyRef (Syntax.named 5) Syntax.mut (Syntax.tyInt Syntax.w64)) 5,
-) (List._∷_ ( 7, Rows.mref (Referent.rtF (Referent.fInt Syntax.w32)) (Syntax.tyRef (Syntax.named 6) Syntax.mut (Syntax.tyInt Syntax.w32)) 6,
-) (List._∷_ ( 8, Rows.any-gone (Syntax.tyStruct (List._∷_ 102 (List._∷_ 105 (List._∷_ 114 (List._∷_ 109 (List._∷_ 58 (List._∷_ 58 (List._∷_ 81 (List._∷_ 117 (List._∷_ 111 (List._∷_ 116 (List._∷_ 101 List.[]))))))))))) (Syntax.tcons (Syntax.tyInt Syntax.w32) (Syntax.tcons (Syntax.tyInt Syntax.w64) (Syntax.tcons (Syntax.tyInt Syntax.w64) (Syntax.tcons (Syntax.tyInt Syntax.w32) Syntax.tnil))))),
-) (List._∷_ ( 9, Rows.any-gone (Syntax.tyRef Syntax.erased Syntax.mut ϱ),
-) (List._∷_ ( 10, Mut.mslice T (Syntax.tyRef Syntax.erased Syntax.mut ϱ) 7,
-) (List._∷_ ( 11, Relend.msptr (Referent.rtF (Referent.fInt Syntax.w32)) (Syntax.tyRef Syntax.erased Syntax.mut (Syntax.tyInt Syntax.w32)) 8,
-) (List._∷_ ( 12, Rows.any-gone (Syntax.tyStruct (List._∷_ 38 (List._∷_ 91 (List._∷_ 93 List.[]))) (Syntax.tcons (Syntax.tyRef Syntax.erased Syntax.mut (Syntax.tyInt Syntax.w32)) (Syntax.tcons (Syntax.tyInt Syntax.w64) Syntax.tnil))),
-) (List._∷_ ( 13, Rows.any-gone (Syntax.tyRef Syntax.erased Syntax.mut (Syntax.tyInt Syntax.w32)), ) (List._∷_ ( 14, Rows.any-gone (Syntax.tyStruct (List._∷_ 38 (List._∷_ 91 (List._∷_ 93 List.[]))) (Syntax.tcons (Syntax.tyRef Syntax.erased Syntax.mut (Syntax.tyInt Syntax.w32)) (Syntax.tcons (Syntax.tyInt Syntax.w64) Syntax.tnil))), ) List.[]))))))))))))))
+t4 = List._∷_ (0, Rows.any-gone (Syntax.tyInt Syntax.w32)) (List._∷_ (
+  1,
+  Relend.mslice-owed T τ 0 7 Row.off,
+) (List._∷_ (
+  2,
+  Rows.sslice (Referent.rtF (Referent.fInt Syntax.w8)) (Syntax.tyRef (Syntax.named 1) Syntax.imm (Syntax.tyInt Syntax.w8)) 1,
+) (List._∷_ (
+  3,
+  Relend.mslice-owed (Referent.rtF (Referent.fInt Syntax.w32)) (Syntax.tyRef (Syntax.named 2) Syntax.mut (Syntax.tyInt Syntax.w32)) 2 8 Row.off,
+) (List._∷_ (
+  4,
+  Mut.mslice (Referent.rtF (Referent.fInt Syntax.w32)) (Syntax.tyRef (Syntax.named 3) Syntax.mut (Syntax.tyInt Syntax.w32)) 3,
+) (List._∷_ (
+  5,
+  Rows.mref (Referent.rtF (Referent.fInt Syntax.w64)) (Syntax.tyRef (Syntax.named 4) Syntax.mut (Syntax.tyInt Syntax.w64)) 4,
+) (List._∷_ (
+  6,
+  Rows.mref (Referent.rtF (Referent.fInt Syntax.w64)) (Syntax.tyRef (Syntax.named 5) Syntax.mut (Syntax.tyInt Syntax.w64)) 5,
+) (List._∷_ (
+  7,
+  Rows.mref (Referent.rtF (Referent.fInt Syntax.w32)) (Syntax.tyRef (Syntax.named 6) Syntax.mut (Syntax.tyInt Syntax.w32)) 6,
+) (List._∷_ (
+  8,
+  Rows.any-gone (Syntax.tyStruct (List._∷_ 102 (List._∷_ 105 (List._∷_ 114 (List._∷_ 109 (List._∷_ 58 (List._∷_ 58 (List._∷_ 81 (List._∷_ 117 (List._∷_ 111 (List._∷_ 116 (List._∷_ 101 List.[]))))))))))) (Syntax.tcons (Syntax.tyInt Syntax.w32) (Syntax.tcons (Syntax.tyInt Syntax.w64) (Syntax.tcons (Syntax.tyInt Syntax.w64) (Syntax.tcons (Syntax.tyInt Syntax.w32) Syntax.tnil))))),
+) (List._∷_ (
+  9,
+  Rows.any-gone (Syntax.tyRef Syntax.erased Syntax.mut ϱ),
+) (List._∷_ (
+  10,
+  Mut.mslice T (Syntax.tyRef Syntax.erased Syntax.mut ϱ) 7,
+) (List._∷_ (
+  11,
+  Relend.msptr (Referent.rtF (Referent.fInt Syntax.w32)) (Syntax.tyRef Syntax.erased Syntax.mut (Syntax.tyInt Syntax.w32)) 8,
+) (List._∷_ (
+  12,
+  Rows.any-gone (Syntax.tyStruct (List._∷_ 38 (List._∷_ 91 (List._∷_ 93 List.[]))) (Syntax.tcons (Syntax.tyRef Syntax.erased Syntax.mut (Syntax.tyInt Syntax.w32)) (Syntax.tcons (Syntax.tyInt Syntax.w64) Syntax.tnil))),
+) (List._∷_ (13, Rows.any-gone (Syntax.tyRef Syntax.erased Syntax.mut (Syntax.tyInt Syntax.w32))) (List._∷_ (14, Rows.any-gone (Syntax.tyStruct (List._∷_ 38 (List._∷_ 91 (List._∷_ 93 List.[]))) (Syntax.tcons (Syntax.tyRef Syntax.erased Syntax.mut (Syntax.tyInt Syntax.w32)) (Syntax.tcons (Syntax.tyInt Syntax.w64) Syntax.tnil)))) List.[]))))))))))))))
 
 abbrev pub t5 : List.List Row.Entry
-t5 = List._∷_ (0, Rows.any-gone (Syntax.tyInt Syntax.w32)) (List._∷_ ( 1, Relend.mslice-owed T τ 0 7 Row.off,
-) (List._∷_ ( 2, Rows.sslice (Referent.rtF (Referent.fInt Syntax.w8)) (Syntax.tyRef (Syntax.named 1) Syntax.imm (Syntax.tyInt Syntax.w8)) 1,
-) (List._∷_ ( 3, Relend.mslice-owed (Referent.rtF (Referent.fInt Syntax.w32)) (Syntax.tyRef (Syntax.named 2) Syntax.mut (Syntax.tyInt Syntax.w32)) 2 8 Row.off,
-) (List._∷_ ( 4, Mut.mslice (Referent.rtF (Referent.fInt Syntax.w32)) (Syntax.tyRef (Syntax.named 3) Syntax.mut (Syntax.tyInt Syntax.w32)) 3,
-) (List._∷_ ( 5, Rows.mref (Referent.rtF (Referent.fInt Syntax.w64)) (Syntax.tyRef (Syntax.named 4) Syntax.mut (Syntax.tyInt Syntax.w64)) 4,
-) (List._∷_ ( 6, Rows.mref (Referent.rtF (Referent.fInt Syntax.w64)) (Syntax.tyRef (Syntax.named 5) Syntax.mut (Syntax.tyInt Syntax.w64)) 5,
-) (List._∷_ ( 7, Rows.mref (Referent.rtF (Referent.fInt Syntax.w32)) (Syntax.tyRef (Syntax.named 6) Syntax.mut (Syntax.tyInt Syntax.w32)) 6,
-) (List._∷_ ( 8, Rows.any-gone (Syntax.tyStruct (List._∷_ 102 (List._∷_ 105 (List._∷_ 114 (List._∷_ 109 (List._∷_ 58 (List._∷_ 58 (List._∷_ 81 (List._∷_ 117 (List._∷_ 111 (List._∷_ 116 (List._∷_ 101 List.[]))))))))))) (Syntax.tcons (Syntax.tyInt Syntax.w32) (Syntax.tcons (Syntax.tyInt Syntax.w64) (Syntax.tcons (Syntax.tyInt Syntax.w64) (Syntax.tcons (Syntax.tyInt Syntax.w32) Syntax.tnil))))),
-) (List._∷_ ( 9, Rows.any-gone (Syntax.tyRef Syntax.erased Syntax.mut ϱ),
-) (List._∷_ ( 10, Mut.mslice T (Syntax.tyRef Syntax.erased Syntax.mut ϱ) 7,
-) (List._∷_ ( 11, Rows.any-gone (Syntax.tyRef Syntax.erased Syntax.mut (Syntax.tyInt Syntax.w32)), ) (List._∷_ ( 12, Mut.mslice (Referent.rtF (Referent.fInt Syntax.w32)) (Syntax.tyRef Syntax.erased Syntax.mut (Syntax.tyInt Syntax.w32)) 8, ) (List._∷_ ( 13, Rows.any-gone (Syntax.tyRef Syntax.erased Syntax.mut (Syntax.tyInt Syntax.w32)), ) (List._∷_ ( 14, Rows.any-gone (Syntax.tyStruct (List._∷_ 38 (List._∷_ 91 (List._∷_ 93 List.[]))) (Syntax.tcons (Syntax.tyRef Syntax.erased Syntax.mut (Syntax.tyInt Syntax.w32)) (Syntax.tcons (Syntax.tyInt Syntax.w64) Syntax.tnil))), ) List.[]))))))))))))))
+t5 = List._∷_ (0, Rows.any-gone (Syntax.tyInt Syntax.w32)) (List._∷_ (
+  1,
+  Relend.mslice-owed T τ 0 7 Row.off,
+) (List._∷_ (
+  2,
+  Rows.sslice (Referent.rtF (Referent.fInt Syntax.w8)) (Syntax.tyRef (Syntax.named 1) Syntax.imm (Syntax.tyInt Syntax.w8)) 1,
+) (List._∷_ (
+  3,
+  Relend.mslice-owed (Referent.rtF (Referent.fInt Syntax.w32)) (Syntax.tyRef (Syntax.named 2) Syntax.mut (Syntax.tyInt Syntax.w32)) 2 8 Row.off,
+) (List._∷_ (
+  4,
+  Mut.mslice (Referent.rtF (Referent.fInt Syntax.w32)) (Syntax.tyRef (Syntax.named 3) Syntax.mut (Syntax.tyInt Syntax.w32)) 3,
+) (List._∷_ (
+  5,
+  Rows.mref (Referent.rtF (Referent.fInt Syntax.w64)) (Syntax.tyRef (Syntax.named 4) Syntax.mut (Syntax.tyInt Syntax.w64)) 4,
+) (List._∷_ (
+  6,
+  Rows.mref (Referent.rtF (Referent.fInt Syntax.w64)) (Syntax.tyRef (Syntax.named 5) Syntax.mut (Syntax.tyInt Syntax.w64)) 5,
+) (List._∷_ (
+  7,
+  Rows.mref (Referent.rtF (Referent.fInt Syntax.w32)) (Syntax.tyRef (Syntax.named 6) Syntax.mut (Syntax.tyInt Syntax.w32)) 6,
+) (List._∷_ (
+  8,
+  Rows.any-gone (Syntax.tyStruct (List._∷_ 102 (List._∷_ 105 (List._∷_ 114 (List._∷_ 109 (List._∷_ 58 (List._∷_ 58 (List._∷_ 81 (List._∷_ 117 (List._∷_ 111 (List._∷_ 116 (List._∷_ 101 List.[]))))))))))) (Syntax.tcons (Syntax.tyInt Syntax.w32) (Syntax.tcons (Syntax.tyInt Syntax.w64) (Syntax.tcons (Syntax.tyInt Syntax.w64) (Syntax.tcons (Syntax.tyInt Syntax.w32) Syntax.tnil))))),
+) (List._∷_ (
+  9,
+  Rows.any-gone (Syntax.tyRef Syntax.erased Syntax.mut ϱ),
+) (List._∷_ (
+  10,
+  Mut.mslice T (Syntax.tyRef Syntax.erased Syntax.mut ϱ) 7,
+) (List._∷_ (11, Rows.any-gone (Syntax.tyRef Syntax.erased Syntax.mut (Syntax.tyInt Syntax.w32))) (List._∷_ (12, Mut.mslice (Referent.rtF (Referent.fInt Syntax.w32)) (Syntax.tyRef Syntax.erased Syntax.mut (Syntax.tyInt Syntax.w32)) 8) (List._∷_ (13, Rows.any-gone (Syntax.tyRef Syntax.erased Syntax.mut (Syntax.tyInt Syntax.w32))) (List._∷_ (14, Rows.any-gone (Syntax.tyStruct (List._∷_ 38 (List._∷_ 91 (List._∷_ 93 List.[]))) (Syntax.tcons (Syntax.tyRef Syntax.erased Syntax.mut (Syntax.tyInt Syntax.w32)) (Syntax.tcons (Syntax.tyInt Syntax.w64) Syntax.tnil)))) List.[]))))))))))))))
 
 abbrev pub t6 : List.List Row.Entry
-t6 = List._∷_ (0, Rows.any-gone (Syntax.tyInt Syntax.w32)) (List._∷_ ( 1, Relend.mslice-owed T τ 0 7 Row.off,
-) (List._∷_ ( 2, Rows.sslice (Referent.rtF (Referent.fInt Syntax.w8)) (Syntax.tyRef (Syntax.named 1) Syntax.imm (Syntax.tyInt Syntax.w8)) 1,
-) (List._∷_ ( 3, Relend.mslice-owed (Referent.rtF (Referent.fInt Syntax.w32)) (Syntax.tyRef (Syntax.named 2) Syntax.mut (Syntax.tyInt Syntax.w32)) 2 8 Row.off,
-) (List._∷_ ( 4, Relend.mslice-owed (Referent.rtF (Referent.fInt Syntax.w32)) (Syntax.tyRef (Syntax.named 3) Syntax.mut (Syntax.tyInt Syntax.w32)) 3 9 Row.off,
-) (List._∷_ ( 5, Rows.mref (Referent.rtF (Referent.fInt Syntax.w64)) (Syntax.tyRef (Syntax.named 4) Syntax.mut (Syntax.tyInt Syntax.w64)) 4,
-) (List._∷_ ( 6, Rows.mref (Referent.rtF (Referent.fInt Syntax.w64)) (Syntax.tyRef (Syntax.named 5) Syntax.mut (Syntax.tyInt Syntax.w64)) 5,
-) (List._∷_ ( 7, Rows.mref (Referent.rtF (Referent.fInt Syntax.w32)) (Syntax.tyRef (Syntax.named 6) Syntax.mut (Syntax.tyInt Syntax.w32)) 6,
-) (List._∷_ ( 8, Rows.any-gone (Syntax.tyStruct (List._∷_ 102 (List._∷_ 105 (List._∷_ 114 (List._∷_ 109 (List._∷_ 58 (List._∷_ 58 (List._∷_ 81 (List._∷_ 117 (List._∷_ 111 (List._∷_ 116 (List._∷_ 101 List.[]))))))))))) (Syntax.tcons (Syntax.tyInt Syntax.w32) (Syntax.tcons (Syntax.tyInt Syntax.w64) (Syntax.tcons (Syntax.tyInt Syntax.w64) (Syntax.tcons (Syntax.tyInt Syntax.w32) Syntax.tnil))))),
-) (List._∷_ ( 9, Rows.any-gone (Syntax.tyRef Syntax.erased Syntax.mut ϱ),
-) (List._∷_ ( 10, Mut.mslice T (Syntax.tyRef Syntax.erased Syntax.mut ϱ) 7,
-) (List._∷_ ( 11, Rows.any-gone (Syntax.tyRef Syntax.erased Syntax.mut (Syntax.tyInt Syntax.w32)), ) (List._∷_ ( 12, Mut.mslice (Referent.rtF (Referent.fInt Syntax.w32)) (Syntax.tyRef Syntax.erased Syntax.mut (Syntax.tyInt Syntax.w32)) 8, ) (List._∷_ ( 13, Relend.msptr (Referent.rtF (Referent.fInt Syntax.w32)) (Syntax.tyRef Syntax.erased Syntax.mut (Syntax.tyInt Syntax.w32)) 9, ) (List._∷_ ( 14, Rows.any-gone (Syntax.tyStruct (List._∷_ 38 (List._∷_ 91 (List._∷_ 93 List.[]))) (Syntax.tcons (Syntax.tyRef Syntax.erased Syntax.mut (Syntax.tyInt Syntax.w32)) (Syntax.tcons (Syntax.tyInt Syntax.w64) Syntax.tnil))), ) List.[]))))))))))))))
+t6 = List._∷_ (0, Rows.any-gone (Syntax.tyInt Syntax.w32)) (List._∷_ (
+  1,
+  Relend.mslice-owed T τ 0 7 Row.off,
+) (List._∷_ (
+  2,
+  Rows.sslice (Referent.rtF (Referent.fInt Syntax.w8)) (Syntax.tyRef (Syntax.named 1) Syntax.imm (Syntax.tyInt Syntax.w8)) 1,
+) (List._∷_ (
+  3,
+  Relend.mslice-owed (Referent.rtF (Referent.fInt Syntax.w32)) (Syntax.tyRef (Syntax.named 2) Syntax.mut (Syntax.tyInt Syntax.w32)) 2 8 Row.off,
+) (List._∷_ (
+  4,
+  Relend.mslice-owed (Referent.rtF (Referent.fInt Syntax.w32)) (Syntax.tyRef (Syntax.named 3) Syntax.mut (Syntax.tyInt Syntax.w32)) 3 9 Row.off,
+) (List._∷_ (
+  5,
+  Rows.mref (Referent.rtF (Referent.fInt Syntax.w64)) (Syntax.tyRef (Syntax.named 4) Syntax.mut (Syntax.tyInt Syntax.w64)) 4,
+) (List._∷_ (
+  6,
+  Rows.mref (Referent.rtF (Referent.fInt Syntax.w64)) (Syntax.tyRef (Syntax.named 5) Syntax.mut (Syntax.tyInt Syntax.w64)) 5,
+) (List._∷_ (
+  7,
+  Rows.mref (Referent.rtF (Referent.fInt Syntax.w32)) (Syntax.tyRef (Syntax.named 6) Syntax.mut (Syntax.tyInt Syntax.w32)) 6,
+) (List._∷_ (
+  8,
+  Rows.any-gone (Syntax.tyStruct (List._∷_ 102 (List._∷_ 105 (List._∷_ 114 (List._∷_ 109 (List._∷_ 58 (List._∷_ 58 (List._∷_ 81 (List._∷_ 117 (List._∷_ 111 (List._∷_ 116 (List._∷_ 101 List.[]))))))))))) (Syntax.tcons (Syntax.tyInt Syntax.w32) (Syntax.tcons (Syntax.tyInt Syntax.w64) (Syntax.tcons (Syntax.tyInt Syntax.w64) (Syntax.tcons (Syntax.tyInt Syntax.w32) Syntax.tnil))))),
+) (List._∷_ (
+  9,
+  Rows.any-gone (Syntax.tyRef Syntax.erased Syntax.mut ϱ),
+) (List._∷_ (
+  10,
+  Mut.mslice T (Syntax.tyRef Syntax.erased Syntax.mut ϱ) 7,
+) (List._∷_ (11, Rows.any-gone (Syntax.tyRef Syntax.erased Syntax.mut (Syntax.tyInt Syntax.w32))) (List._∷_ (12, Mut.mslice (Referent.rtF (Referent.fInt Syntax.w32)) (Syntax.tyRef Syntax.erased Syntax.mut (Syntax.tyInt Syntax.w32)) 8) (List._∷_ (13, Relend.msptr (Referent.rtF (Referent.fInt Syntax.w32)) (Syntax.tyRef Syntax.erased Syntax.mut (Syntax.tyInt Syntax.w32)) 9) (List._∷_ (14, Rows.any-gone (Syntax.tyStruct (List._∷_ 38 (List._∷_ 91 (List._∷_ 93 List.[]))) (Syntax.tcons (Syntax.tyRef Syntax.erased Syntax.mut (Syntax.tyInt Syntax.w32)) (Syntax.tcons (Syntax.tyInt Syntax.w64) Syntax.tnil)))) List.[]))))))))))))))
 
 abbrev pub t7 : List.List Row.Entry
-t7 = List._∷_ (0, Rows.any-gone (Syntax.tyInt Syntax.w32)) (List._∷_ ( 1, Relend.mslice-owed T τ 0 7 Row.off,
-) (List._∷_ ( 2, Rows.sslice (Referent.rtF (Referent.fInt Syntax.w8)) (Syntax.tyRef (Syntax.named 1) Syntax.imm (Syntax.tyInt Syntax.w8)) 1,
-) (List._∷_ ( 3, Relend.mslice-owed (Referent.rtF (Referent.fInt Syntax.w32)) (Syntax.tyRef (Syntax.named 2) Syntax.mut (Syntax.tyInt Syntax.w32)) 2 8 Row.off,
-) (List._∷_ ( 4, Relend.mslice-owed (Referent.rtF (Referent.fInt Syntax.w32)) (Syntax.tyRef (Syntax.named 3) Syntax.mut (Syntax.tyInt Syntax.w32)) 3 9 Row.off,
-) (List._∷_ ( 5, Rows.mref (Referent.rtF (Referent.fInt Syntax.w64)) (Syntax.tyRef (Syntax.named 4) Syntax.mut (Syntax.tyInt Syntax.w64)) 4,
-) (List._∷_ ( 6, Rows.mref (Referent.rtF (Referent.fInt Syntax.w64)) (Syntax.tyRef (Syntax.named 5) Syntax.mut (Syntax.tyInt Syntax.w64)) 5,
-) (List._∷_ ( 7, Rows.mref (Referent.rtF (Referent.fInt Syntax.w32)) (Syntax.tyRef (Syntax.named 6) Syntax.mut (Syntax.tyInt Syntax.w32)) 6,
-) (List._∷_ ( 8, Rows.any-gone (Syntax.tyStruct (List._∷_ 102 (List._∷_ 105 (List._∷_ 114 (List._∷_ 109 (List._∷_ 58 (List._∷_ 58 (List._∷_ 81 (List._∷_ 117 (List._∷_ 111 (List._∷_ 116 (List._∷_ 101 List.[]))))))))))) (Syntax.tcons (Syntax.tyInt Syntax.w32) (Syntax.tcons (Syntax.tyInt Syntax.w64) (Syntax.tcons (Syntax.tyInt Syntax.w64) (Syntax.tcons (Syntax.tyInt Syntax.w32) Syntax.tnil))))),
-) (List._∷_ ( 9, Rows.any-gone (Syntax.tyRef Syntax.erased Syntax.mut ϱ),
-) (List._∷_ ( 10, Mut.mslice T (Syntax.tyRef Syntax.erased Syntax.mut ϱ) 7,
-) (List._∷_ ( 11, Rows.any-gone (Syntax.tyRef Syntax.erased Syntax.mut (Syntax.tyInt Syntax.w32)), ) (List._∷_ ( 12, Mut.mslice (Referent.rtF (Referent.fInt Syntax.w32)) (Syntax.tyRef Syntax.erased Syntax.mut (Syntax.tyInt Syntax.w32)) 8, ) (List._∷_ ( 13, Rows.any-gone (Syntax.tyRef Syntax.erased Syntax.mut (Syntax.tyInt Syntax.w32)), ) (List._∷_ ( 14, Mut.mslice (Referent.rtF (Referent.fInt Syntax.w32)) (Syntax.tyRef Syntax.erased Syntax.mut (Syntax.tyInt Syntax.w32)) 9, ) List.[]))))))))))))))
+t7 = List._∷_ (0, Rows.any-gone (Syntax.tyInt Syntax.w32)) (List._∷_ (
+  1,
+  Relend.mslice-owed T τ 0 7 Row.off,
+) (List._∷_ (
+  2,
+  Rows.sslice (Referent.rtF (Referent.fInt Syntax.w8)) (Syntax.tyRef (Syntax.named 1) Syntax.imm (Syntax.tyInt Syntax.w8)) 1,
+) (List._∷_ (
+  3,
+  Relend.mslice-owed (Referent.rtF (Referent.fInt Syntax.w32)) (Syntax.tyRef (Syntax.named 2) Syntax.mut (Syntax.tyInt Syntax.w32)) 2 8 Row.off,
+) (List._∷_ (
+  4,
+  Relend.mslice-owed (Referent.rtF (Referent.fInt Syntax.w32)) (Syntax.tyRef (Syntax.named 3) Syntax.mut (Syntax.tyInt Syntax.w32)) 3 9 Row.off,
+) (List._∷_ (
+  5,
+  Rows.mref (Referent.rtF (Referent.fInt Syntax.w64)) (Syntax.tyRef (Syntax.named 4) Syntax.mut (Syntax.tyInt Syntax.w64)) 4,
+) (List._∷_ (
+  6,
+  Rows.mref (Referent.rtF (Referent.fInt Syntax.w64)) (Syntax.tyRef (Syntax.named 5) Syntax.mut (Syntax.tyInt Syntax.w64)) 5,
+) (List._∷_ (
+  7,
+  Rows.mref (Referent.rtF (Referent.fInt Syntax.w32)) (Syntax.tyRef (Syntax.named 6) Syntax.mut (Syntax.tyInt Syntax.w32)) 6,
+) (List._∷_ (
+  8,
+  Rows.any-gone (Syntax.tyStruct (List._∷_ 102 (List._∷_ 105 (List._∷_ 114 (List._∷_ 109 (List._∷_ 58 (List._∷_ 58 (List._∷_ 81 (List._∷_ 117 (List._∷_ 111 (List._∷_ 116 (List._∷_ 101 List.[]))))))))))) (Syntax.tcons (Syntax.tyInt Syntax.w32) (Syntax.tcons (Syntax.tyInt Syntax.w64) (Syntax.tcons (Syntax.tyInt Syntax.w64) (Syntax.tcons (Syntax.tyInt Syntax.w32) Syntax.tnil))))),
+) (List._∷_ (
+  9,
+  Rows.any-gone (Syntax.tyRef Syntax.erased Syntax.mut ϱ),
+) (List._∷_ (
+  10,
+  Mut.mslice T (Syntax.tyRef Syntax.erased Syntax.mut ϱ) 7,
+) (List._∷_ (11, Rows.any-gone (Syntax.tyRef Syntax.erased Syntax.mut (Syntax.tyInt Syntax.w32))) (List._∷_ (12, Mut.mslice (Referent.rtF (Referent.fInt Syntax.w32)) (Syntax.tyRef Syntax.erased Syntax.mut (Syntax.tyInt Syntax.w32)) 8) (List._∷_ (13, Rows.any-gone (Syntax.tyRef Syntax.erased Syntax.mut (Syntax.tyInt Syntax.w32))) (List._∷_ (14, Mut.mslice (Referent.rtF (Referent.fInt Syntax.w32)) (Syntax.tyRef Syntax.erased Syntax.mut (Syntax.tyInt Syntax.w32)) 9) List.[]))))))))))))))
 
 abbrev pub t8 : List.List Row.Entry
-t8 = List._∷_ (0, Rows.any-gone (Syntax.tyInt Syntax.w32)) (List._∷_ ( 1, Relend.mslice-owed T τ 0 7 Row.off,
-) (List._∷_ ( 2, Rows.sslice (Referent.rtF (Referent.fInt Syntax.w8)) (Syntax.tyRef (Syntax.named 1) Syntax.imm (Syntax.tyInt Syntax.w8)) 1,
-) (List._∷_ ( 3, Relend.mslice-owed (Referent.rtF (Referent.fInt Syntax.w32)) (Syntax.tyRef (Syntax.named 2) Syntax.mut (Syntax.tyInt Syntax.w32)) 2 8 Row.off,
-) (List._∷_ ( 4, Relend.mslice-owed (Referent.rtF (Referent.fInt Syntax.w32)) (Syntax.tyRef (Syntax.named 3) Syntax.mut (Syntax.tyInt Syntax.w32)) 3 9 Row.off,
-) (List._∷_ ( 5, Rows.mref (Referent.rtF (Referent.fInt Syntax.w64)) (Syntax.tyRef (Syntax.named 4) Syntax.mut (Syntax.tyInt Syntax.w64)) 4,
-) (List._∷_ ( 6, Rows.mref (Referent.rtF (Referent.fInt Syntax.w64)) (Syntax.tyRef (Syntax.named 5) Syntax.mut (Syntax.tyInt Syntax.w64)) 5,
-) (List._∷_ ( 7, Rows.mref (Referent.rtF (Referent.fInt Syntax.w32)) (Syntax.tyRef (Syntax.named 6) Syntax.mut (Syntax.tyInt Syntax.w32)) 6,
-) (List._∷_ (8, Rows.whole (Declared.row Quote.the-type)) (List._∷_ ( 9, Rows.any-gone (Syntax.tyRef Syntax.erased Syntax.mut ϱ),
-) (List._∷_ ( 10, Mut.msleft T (Syntax.tyRef Syntax.erased Syntax.mut ϱ),
-) (List._∷_ ( 11, Rows.any-gone (Syntax.tyRef Syntax.erased Syntax.mut (Syntax.tyInt Syntax.w32)), ) (List._∷_ ( 12, Mut.msleft (Referent.rtF (Referent.fInt Syntax.w32)) (Syntax.tyRef Syntax.erased Syntax.mut (Syntax.tyInt Syntax.w32)), ) (List._∷_ ( 13, Rows.any-gone (Syntax.tyRef Syntax.erased Syntax.mut (Syntax.tyInt Syntax.w32)), ) (List._∷_ ( 14, Mut.msleft (Referent.rtF (Referent.fInt Syntax.w32)) (Syntax.tyRef Syntax.erased Syntax.mut (Syntax.tyInt Syntax.w32)), ) List.[]))))))))))))))
+t8 = List._∷_ (0, Rows.any-gone (Syntax.tyInt Syntax.w32)) (List._∷_ (
+  1,
+  Relend.mslice-owed T τ 0 7 Row.off,
+) (List._∷_ (
+  2,
+  Rows.sslice (Referent.rtF (Referent.fInt Syntax.w8)) (Syntax.tyRef (Syntax.named 1) Syntax.imm (Syntax.tyInt Syntax.w8)) 1,
+) (List._∷_ (
+  3,
+  Relend.mslice-owed (Referent.rtF (Referent.fInt Syntax.w32)) (Syntax.tyRef (Syntax.named 2) Syntax.mut (Syntax.tyInt Syntax.w32)) 2 8 Row.off,
+) (List._∷_ (
+  4,
+  Relend.mslice-owed (Referent.rtF (Referent.fInt Syntax.w32)) (Syntax.tyRef (Syntax.named 3) Syntax.mut (Syntax.tyInt Syntax.w32)) 3 9 Row.off,
+) (List._∷_ (
+  5,
+  Rows.mref (Referent.rtF (Referent.fInt Syntax.w64)) (Syntax.tyRef (Syntax.named 4) Syntax.mut (Syntax.tyInt Syntax.w64)) 4,
+) (List._∷_ (
+  6,
+  Rows.mref (Referent.rtF (Referent.fInt Syntax.w64)) (Syntax.tyRef (Syntax.named 5) Syntax.mut (Syntax.tyInt Syntax.w64)) 5,
+) (List._∷_ (
+  7,
+  Rows.mref (Referent.rtF (Referent.fInt Syntax.w32)) (Syntax.tyRef (Syntax.named 6) Syntax.mut (Syntax.tyInt Syntax.w32)) 6,
+) (List._∷_ (8, Rows.whole (Declared.row Quote.the-type)) (List._∷_ (
+  9,
+  Rows.any-gone (Syntax.tyRef Syntax.erased Syntax.mut ϱ),
+) (List._∷_ (
+  10,
+  Mut.msleft T (Syntax.tyRef Syntax.erased Syntax.mut ϱ),
+) (List._∷_ (11, Rows.any-gone (Syntax.tyRef Syntax.erased Syntax.mut (Syntax.tyInt Syntax.w32))) (List._∷_ (12, Mut.msleft (Referent.rtF (Referent.fInt Syntax.w32)) (Syntax.tyRef Syntax.erased Syntax.mut (Syntax.tyInt Syntax.w32))) (List._∷_ (13, Rows.any-gone (Syntax.tyRef Syntax.erased Syntax.mut (Syntax.tyInt Syntax.w32))) (List._∷_ (14, Mut.msleft (Referent.rtF (Referent.fInt Syntax.w32)) (Syntax.tyRef Syntax.erased Syntax.mut (Syntax.tyInt Syntax.w32))) List.[]))))))))))))))
 
 abbrev pub t9 : List.List Row.Entry
-t9 = List._∷_ (0, Rows.any-gone (Syntax.tyInt Syntax.w32)) (List._∷_ ( 1, Mut.mslice T τ 0,
-) (List._∷_ ( 2, Rows.sslice (Referent.rtF (Referent.fInt Syntax.w8)) (Syntax.tyRef (Syntax.named 1) Syntax.imm (Syntax.tyInt Syntax.w8)) 1,
-) (List._∷_ ( 3, Relend.mslice-owed (Referent.rtF (Referent.fInt Syntax.w32)) (Syntax.tyRef (Syntax.named 2) Syntax.mut (Syntax.tyInt Syntax.w32)) 2 8 Row.off,
-) (List._∷_ ( 4, Relend.mslice-owed (Referent.rtF (Referent.fInt Syntax.w32)) (Syntax.tyRef (Syntax.named 3) Syntax.mut (Syntax.tyInt Syntax.w32)) 3 9 Row.off,
-) (List._∷_ ( 5, Rows.mref (Referent.rtF (Referent.fInt Syntax.w64)) (Syntax.tyRef (Syntax.named 4) Syntax.mut (Syntax.tyInt Syntax.w64)) 4,
-) (List._∷_ ( 6, Rows.mref (Referent.rtF (Referent.fInt Syntax.w64)) (Syntax.tyRef (Syntax.named 5) Syntax.mut (Syntax.tyInt Syntax.w64)) 5,
-) (List._∷_ ( 7, Rows.mref (Referent.rtF (Referent.fInt Syntax.w32)) (Syntax.tyRef (Syntax.named 6) Syntax.mut (Syntax.tyInt Syntax.w32)) 6,
-) (List._∷_ (8, Rows.whole (Declared.row Quote.the-type)) (List._∷_ ( 9, Rows.any-gone (Syntax.tyRef Syntax.erased Syntax.mut ϱ),
-) (List._∷_ ( 10, Rows.any-gone (Syntax.tyStruct (List._∷_ 38 (List._∷_ 91 (List._∷_ 93 List.[]))) (Syntax.tcons (Syntax.tyRef Syntax.erased Syntax.mut ϱ) (Syntax.tcons (Syntax.tyInt Syntax.w64) Syntax.tnil))),
-) (List._∷_ ( 11, Rows.any-gone (Syntax.tyRef Syntax.erased Syntax.mut (Syntax.tyInt Syntax.w32)), ) (List._∷_ ( 12, Mut.msleft (Referent.rtF (Referent.fInt Syntax.w32)) (Syntax.tyRef Syntax.erased Syntax.mut (Syntax.tyInt Syntax.w32)), ) (List._∷_ ( 13, Rows.any-gone (Syntax.tyRef Syntax.erased Syntax.mut (Syntax.tyInt Syntax.w32)), ) (List._∷_ ( 14, Mut.msleft (Referent.rtF (Referent.fInt Syntax.w32)) (Syntax.tyRef Syntax.erased Syntax.mut (Syntax.tyInt Syntax.w32)), ) List.[]))))))))))))))
+t9 = List._∷_ (0, Rows.any-gone (Syntax.tyInt Syntax.w32)) (List._∷_ (
+  1,
+  Mut.mslice T τ 0,
+) (List._∷_ (
+  2,
+  Rows.sslice (Referent.rtF (Referent.fInt Syntax.w8)) (Syntax.tyRef (Syntax.named 1) Syntax.imm (Syntax.tyInt Syntax.w8)) 1,
+) (List._∷_ (
+  3,
+  Relend.mslice-owed (Referent.rtF (Referent.fInt Syntax.w32)) (Syntax.tyRef (Syntax.named 2) Syntax.mut (Syntax.tyInt Syntax.w32)) 2 8 Row.off,
+) (List._∷_ (
+  4,
+  Relend.mslice-owed (Referent.rtF (Referent.fInt Syntax.w32)) (Syntax.tyRef (Syntax.named 3) Syntax.mut (Syntax.tyInt Syntax.w32)) 3 9 Row.off,
+) (List._∷_ (
+  5,
+  Rows.mref (Referent.rtF (Referent.fInt Syntax.w64)) (Syntax.tyRef (Syntax.named 4) Syntax.mut (Syntax.tyInt Syntax.w64)) 4,
+) (List._∷_ (
+  6,
+  Rows.mref (Referent.rtF (Referent.fInt Syntax.w64)) (Syntax.tyRef (Syntax.named 5) Syntax.mut (Syntax.tyInt Syntax.w64)) 5,
+) (List._∷_ (
+  7,
+  Rows.mref (Referent.rtF (Referent.fInt Syntax.w32)) (Syntax.tyRef (Syntax.named 6) Syntax.mut (Syntax.tyInt Syntax.w32)) 6,
+) (List._∷_ (8, Rows.whole (Declared.row Quote.the-type)) (List._∷_ (
+  9,
+  Rows.any-gone (Syntax.tyRef Syntax.erased Syntax.mut ϱ),
+) (List._∷_ (
+  10,
+  Rows.any-gone (Syntax.tyStruct (List._∷_ 38 (List._∷_ 91 (List._∷_ 93 List.[]))) (Syntax.tcons (Syntax.tyRef Syntax.erased Syntax.mut ϱ) (Syntax.tcons (Syntax.tyInt Syntax.w64) Syntax.tnil))),
+) (List._∷_ (11, Rows.any-gone (Syntax.tyRef Syntax.erased Syntax.mut (Syntax.tyInt Syntax.w32))) (List._∷_ (12, Mut.msleft (Referent.rtF (Referent.fInt Syntax.w32)) (Syntax.tyRef Syntax.erased Syntax.mut (Syntax.tyInt Syntax.w32))) (List._∷_ (13, Rows.any-gone (Syntax.tyRef Syntax.erased Syntax.mut (Syntax.tyInt Syntax.w32))) (List._∷_ (14, Mut.msleft (Referent.rtF (Referent.fInt Syntax.w32)) (Syntax.tyRef Syntax.erased Syntax.mut (Syntax.tyInt Syntax.w32))) List.[]))))))))))))))
 
 abbrev pub t10 : List.List Row.Entry
-t10 = List._∷_ (0, Rows.any-gone (Syntax.tyInt Syntax.w32)) (List._∷_ ( 1, Mut.mslice T τ 0,
-) (List._∷_ ( 2, Rows.sslice (Referent.rtF (Referent.fInt Syntax.w8)) (Syntax.tyRef (Syntax.named 1) Syntax.imm (Syntax.tyInt Syntax.w8)) 1,
-) (List._∷_ ( 3, Mut.mslice (Referent.rtF (Referent.fInt Syntax.w32)) (Syntax.tyRef (Syntax.named 2) Syntax.mut (Syntax.tyInt Syntax.w32)) 2,
-) (List._∷_ ( 4, Relend.mslice-owed (Referent.rtF (Referent.fInt Syntax.w32)) (Syntax.tyRef (Syntax.named 3) Syntax.mut (Syntax.tyInt Syntax.w32)) 3 9 Row.off,
-) (List._∷_ ( 5, Rows.mref (Referent.rtF (Referent.fInt Syntax.w64)) (Syntax.tyRef (Syntax.named 4) Syntax.mut (Syntax.tyInt Syntax.w64)) 4,
-) (List._∷_ ( 6, Rows.mref (Referent.rtF (Referent.fInt Syntax.w64)) (Syntax.tyRef (Syntax.named 5) Syntax.mut (Syntax.tyInt Syntax.w64)) 5,
-) (List._∷_ ( 7, Rows.mref (Referent.rtF (Referent.fInt Syntax.w32)) (Syntax.tyRef (Syntax.named 6) Syntax.mut (Syntax.tyInt Syntax.w32)) 6,
-) (List._∷_ (8, Rows.whole (Declared.row Quote.the-type)) (List._∷_ ( 9, Rows.any-gone (Syntax.tyRef Syntax.erased Syntax.mut ϱ),
-) (List._∷_ ( 10, Rows.any-gone (Syntax.tyStruct (List._∷_ 38 (List._∷_ 91 (List._∷_ 93 List.[]))) (Syntax.tcons (Syntax.tyRef Syntax.erased Syntax.mut ϱ) (Syntax.tcons (Syntax.tyInt Syntax.w64) Syntax.tnil))),
-) (List._∷_ ( 11, Rows.any-gone (Syntax.tyRef Syntax.erased Syntax.mut (Syntax.tyInt Syntax.w32)), ) (List._∷_ ( 12, Rows.any-gone (Syntax.tyStruct (List._∷_ 38 (List._∷_ 91 (List._∷_ 93 List.[]))) (Syntax.tcons (Syntax.tyRef Syntax.erased Syntax.mut (Syntax.tyInt Syntax.w32)) (Syntax.tcons (Syntax.tyInt Syntax.w64) Syntax.tnil))), ) (List._∷_ ( 13, Rows.any-gone (Syntax.tyRef Syntax.erased Syntax.mut (Syntax.tyInt Syntax.w32)), ) (List._∷_ ( 14, Mut.msleft (Referent.rtF (Referent.fInt Syntax.w32)) (Syntax.tyRef Syntax.erased Syntax.mut (Syntax.tyInt Syntax.w32)), ) List.[]))))))))))))))
+t10 = List._∷_ (0, Rows.any-gone (Syntax.tyInt Syntax.w32)) (List._∷_ (
+  1,
+  Mut.mslice T τ 0,
+) (List._∷_ (
+  2,
+  Rows.sslice (Referent.rtF (Referent.fInt Syntax.w8)) (Syntax.tyRef (Syntax.named 1) Syntax.imm (Syntax.tyInt Syntax.w8)) 1,
+) (List._∷_ (
+  3,
+  Mut.mslice (Referent.rtF (Referent.fInt Syntax.w32)) (Syntax.tyRef (Syntax.named 2) Syntax.mut (Syntax.tyInt Syntax.w32)) 2,
+) (List._∷_ (
+  4,
+  Relend.mslice-owed (Referent.rtF (Referent.fInt Syntax.w32)) (Syntax.tyRef (Syntax.named 3) Syntax.mut (Syntax.tyInt Syntax.w32)) 3 9 Row.off,
+) (List._∷_ (
+  5,
+  Rows.mref (Referent.rtF (Referent.fInt Syntax.w64)) (Syntax.tyRef (Syntax.named 4) Syntax.mut (Syntax.tyInt Syntax.w64)) 4,
+) (List._∷_ (
+  6,
+  Rows.mref (Referent.rtF (Referent.fInt Syntax.w64)) (Syntax.tyRef (Syntax.named 5) Syntax.mut (Syntax.tyInt Syntax.w64)) 5,
+) (List._∷_ (
+  7,
+  Rows.mref (Referent.rtF (Referent.fInt Syntax.w32)) (Syntax.tyRef (Syntax.named 6) Syntax.mut (Syntax.tyInt Syntax.w32)) 6,
+) (List._∷_ (8, Rows.whole (Declared.row Quote.the-type)) (List._∷_ (
+  9,
+  Rows.any-gone (Syntax.tyRef Syntax.erased Syntax.mut ϱ),
+) (List._∷_ (
+  10,
+  Rows.any-gone (Syntax.tyStruct (List._∷_ 38 (List._∷_ 91 (List._∷_ 93 List.[]))) (Syntax.tcons (Syntax.tyRef Syntax.erased Syntax.mut ϱ) (Syntax.tcons (Syntax.tyInt Syntax.w64) Syntax.tnil))),
+) (List._∷_ (11, Rows.any-gone (Syntax.tyRef Syntax.erased Syntax.mut (Syntax.tyInt Syntax.w32))) (List._∷_ (12, Rows.any-gone (Syntax.tyStruct (List._∷_ 38 (List._∷_ 91 (List._∷_ 93 List.[]))) (Syntax.tcons (Syntax.tyRef Syntax.erased Syntax.mut (Syntax.tyInt Syntax.w32)) (Syntax.tcons (Syntax.tyInt Syntax.w64) Syntax.tnil)))) (List._∷_ (13, Rows.any-gone (Syntax.tyRef Syntax.erased Syntax.mut (Syntax.tyInt Syntax.w32))) (List._∷_ (14, Mut.msleft (Referent.rtF (Referent.fInt Syntax.w32)) (Syntax.tyRef Syntax.erased Syntax.mut (Syntax.tyInt Syntax.w32))) List.[]))))))))))))))
 
 abbrev pub t11 : List.List Row.Entry
-t11 = List._∷_ (0, Rows.any-gone (Syntax.tyInt Syntax.w32)) (List._∷_ ( 1, Mut.mslice T τ 0,
-) (List._∷_ ( 2, Rows.sslice (Referent.rtF (Referent.fInt Syntax.w8)) (Syntax.tyRef (Syntax.named 1) Syntax.imm (Syntax.tyInt Syntax.w8)) 1,
-) (List._∷_ ( 3, Mut.mslice (Referent.rtF (Referent.fInt Syntax.w32)) (Syntax.tyRef (Syntax.named 2) Syntax.mut (Syntax.tyInt Syntax.w32)) 2,
-) (List._∷_ ( 4, Mut.mslice (Referent.rtF (Referent.fInt Syntax.w32)) (Syntax.tyRef (Syntax.named 3) Syntax.mut (Syntax.tyInt Syntax.w32)) 3,
-) (List._∷_ ( 5, Rows.mref (Referent.rtF (Referent.fInt Syntax.w64)) (Syntax.tyRef (Syntax.named 4) Syntax.mut (Syntax.tyInt Syntax.w64)) 4,
-) (List._∷_ ( 6, Rows.mref (Referent.rtF (Referent.fInt Syntax.w64)) (Syntax.tyRef (Syntax.named 5) Syntax.mut (Syntax.tyInt Syntax.w64)) 5,
-) (List._∷_ ( 7, Rows.mref (Referent.rtF (Referent.fInt Syntax.w32)) (Syntax.tyRef (Syntax.named 6) Syntax.mut (Syntax.tyInt Syntax.w32)) 6,
-) (List._∷_ (8, Rows.whole (Declared.row Quote.the-type)) (List._∷_ ( 9, Rows.any-gone (Syntax.tyRef Syntax.erased Syntax.mut ϱ),
-) (List._∷_ ( 10, Rows.any-gone (Syntax.tyStruct (List._∷_ 38 (List._∷_ 91 (List._∷_ 93 List.[]))) (Syntax.tcons (Syntax.tyRef Syntax.erased Syntax.mut ϱ) (Syntax.tcons (Syntax.tyInt Syntax.w64) Syntax.tnil))),
-) (List._∷_ ( 11, Rows.any-gone (Syntax.tyRef Syntax.erased Syntax.mut (Syntax.tyInt Syntax.w32)), ) (List._∷_ ( 12, Rows.any-gone (Syntax.tyStruct (List._∷_ 38 (List._∷_ 91 (List._∷_ 93 List.[]))) (Syntax.tcons (Syntax.tyRef Syntax.erased Syntax.mut (Syntax.tyInt Syntax.w32)) (Syntax.tcons (Syntax.tyInt Syntax.w64) Syntax.tnil))), ) (List._∷_ ( 13, Rows.any-gone (Syntax.tyRef Syntax.erased Syntax.mut (Syntax.tyInt Syntax.w32)), ) (List._∷_ ( 14, Rows.any-gone (Syntax.tyStruct (List._∷_ 38 (List._∷_ 91 (List._∷_ 93 List.[]))) (Syntax.tcons (Syntax.tyRef Syntax.erased Syntax.mut (Syntax.tyInt Syntax.w32)) (Syntax.tcons (Syntax.tyInt Syntax.w64) Syntax.tnil))), ) List.[]))))))))))))))
+t11 = List._∷_ (0, Rows.any-gone (Syntax.tyInt Syntax.w32)) (List._∷_ (
+  1,
+  Mut.mslice T τ 0,
+) (List._∷_ (
+  2,
+  Rows.sslice (Referent.rtF (Referent.fInt Syntax.w8)) (Syntax.tyRef (Syntax.named 1) Syntax.imm (Syntax.tyInt Syntax.w8)) 1,
+) (List._∷_ (
+  3,
+  Mut.mslice (Referent.rtF (Referent.fInt Syntax.w32)) (Syntax.tyRef (Syntax.named 2) Syntax.mut (Syntax.tyInt Syntax.w32)) 2,
+) (List._∷_ (
+  4,
+  Mut.mslice (Referent.rtF (Referent.fInt Syntax.w32)) (Syntax.tyRef (Syntax.named 3) Syntax.mut (Syntax.tyInt Syntax.w32)) 3,
+) (List._∷_ (
+  5,
+  Rows.mref (Referent.rtF (Referent.fInt Syntax.w64)) (Syntax.tyRef (Syntax.named 4) Syntax.mut (Syntax.tyInt Syntax.w64)) 4,
+) (List._∷_ (
+  6,
+  Rows.mref (Referent.rtF (Referent.fInt Syntax.w64)) (Syntax.tyRef (Syntax.named 5) Syntax.mut (Syntax.tyInt Syntax.w64)) 5,
+) (List._∷_ (
+  7,
+  Rows.mref (Referent.rtF (Referent.fInt Syntax.w32)) (Syntax.tyRef (Syntax.named 6) Syntax.mut (Syntax.tyInt Syntax.w32)) 6,
+) (List._∷_ (8, Rows.whole (Declared.row Quote.the-type)) (List._∷_ (
+  9,
+  Rows.any-gone (Syntax.tyRef Syntax.erased Syntax.mut ϱ),
+) (List._∷_ (
+  10,
+  Rows.any-gone (Syntax.tyStruct (List._∷_ 38 (List._∷_ 91 (List._∷_ 93 List.[]))) (Syntax.tcons (Syntax.tyRef Syntax.erased Syntax.mut ϱ) (Syntax.tcons (Syntax.tyInt Syntax.w64) Syntax.tnil))),
+) (List._∷_ (11, Rows.any-gone (Syntax.tyRef Syntax.erased Syntax.mut (Syntax.tyInt Syntax.w32))) (List._∷_ (12, Rows.any-gone (Syntax.tyStruct (List._∷_ 38 (List._∷_ 91 (List._∷_ 93 List.[]))) (Syntax.tcons (Syntax.tyRef Syntax.erased Syntax.mut (Syntax.tyInt Syntax.w32)) (Syntax.tcons (Syntax.tyInt Syntax.w64) Syntax.tnil)))) (List._∷_ (13, Rows.any-gone (Syntax.tyRef Syntax.erased Syntax.mut (Syntax.tyInt Syntax.w32))) (List._∷_ (14, Rows.any-gone (Syntax.tyStruct (List._∷_ 38 (List._∷_ 91 (List._∷_ 93 List.[]))) (Syntax.tcons (Syntax.tyRef Syntax.erased Syntax.mut (Syntax.tyInt Syntax.w32)) (Syntax.tcons (Syntax.tyInt Syntax.w64) Syntax.tnil)))) List.[]))))))))))))))
 
 abbrev pub t12 : List.List Row.Entry
-t12 = List._∷_ (0, Rows.sc-here (Row.sInt Syntax.w32)) (List._∷_ ( 1, Mut.mslice T τ 0,
-) (List._∷_ ( 2, Rows.sslice (Referent.rtF (Referent.fInt Syntax.w8)) (Syntax.tyRef (Syntax.named 1) Syntax.imm (Syntax.tyInt Syntax.w8)) 1,
-) (List._∷_ ( 3, Mut.mslice (Referent.rtF (Referent.fInt Syntax.w32)) (Syntax.tyRef (Syntax.named 2) Syntax.mut (Syntax.tyInt Syntax.w32)) 2,
-) (List._∷_ ( 4, Mut.mslice (Referent.rtF (Referent.fInt Syntax.w32)) (Syntax.tyRef (Syntax.named 3) Syntax.mut (Syntax.tyInt Syntax.w32)) 3,
-) (List._∷_ ( 5, Rows.mref (Referent.rtF (Referent.fInt Syntax.w64)) (Syntax.tyRef (Syntax.named 4) Syntax.mut (Syntax.tyInt Syntax.w64)) 4,
-) (List._∷_ ( 6, Rows.mref (Referent.rtF (Referent.fInt Syntax.w64)) (Syntax.tyRef (Syntax.named 5) Syntax.mut (Syntax.tyInt Syntax.w64)) 5,
-) (List._∷_ ( 7, Rows.mref (Referent.rtF (Referent.fInt Syntax.w32)) (Syntax.tyRef (Syntax.named 6) Syntax.mut (Syntax.tyInt Syntax.w32)) 6,
-) (List._∷_ (8, Rows.whole (Declared.row Quote.the-type)) (List._∷_ ( 9, Rows.any-gone (Syntax.tyRef Syntax.erased Syntax.mut ϱ),
-) (List._∷_ ( 10, Rows.any-gone (Syntax.tyStruct (List._∷_ 38 (List._∷_ 91 (List._∷_ 93 List.[]))) (Syntax.tcons (Syntax.tyRef Syntax.erased Syntax.mut ϱ) (Syntax.tcons (Syntax.tyInt Syntax.w64) Syntax.tnil))),
-) (List._∷_ ( 11, Rows.any-gone (Syntax.tyRef Syntax.erased Syntax.mut (Syntax.tyInt Syntax.w32)), ) (List._∷_ ( 12, Rows.any-gone (Syntax.tyStruct (List._∷_ 38 (List._∷_ 91 (List._∷_ 93 List.[]))) (Syntax.tcons (Syntax.tyRef Syntax.erased Syntax.mut (Syntax.tyInt Syntax.w32)) (Syntax.tcons (Syntax.tyInt Syntax.w64) Syntax.tnil))), ) (List._∷_ ( 13, Rows.any-gone (Syntax.tyRef Syntax.erased Syntax.mut (Syntax.tyInt Syntax.w32)), ) (List._∷_ ( 14, Rows.any-gone (Syntax.tyStruct (List._∷_ 38 (List._∷_ 91 (List._∷_ 93 List.[]))) (Syntax.tcons (Syntax.tyRef Syntax.erased Syntax.mut (Syntax.tyInt Syntax.w32)) (Syntax.tcons (Syntax.tyInt Syntax.w64) Syntax.tnil))), ) List.[]))))))))))))))
+t12 = List._∷_ (0, Rows.sc-here (Row.sInt Syntax.w32)) (List._∷_ (
+  1,
+  Mut.mslice T τ 0,
+) (List._∷_ (
+  2,
+  Rows.sslice (Referent.rtF (Referent.fInt Syntax.w8)) (Syntax.tyRef (Syntax.named 1) Syntax.imm (Syntax.tyInt Syntax.w8)) 1,
+) (List._∷_ (
+  3,
+  Mut.mslice (Referent.rtF (Referent.fInt Syntax.w32)) (Syntax.tyRef (Syntax.named 2) Syntax.mut (Syntax.tyInt Syntax.w32)) 2,
+) (List._∷_ (
+  4,
+  Mut.mslice (Referent.rtF (Referent.fInt Syntax.w32)) (Syntax.tyRef (Syntax.named 3) Syntax.mut (Syntax.tyInt Syntax.w32)) 3,
+) (List._∷_ (
+  5,
+  Rows.mref (Referent.rtF (Referent.fInt Syntax.w64)) (Syntax.tyRef (Syntax.named 4) Syntax.mut (Syntax.tyInt Syntax.w64)) 4,
+) (List._∷_ (
+  6,
+  Rows.mref (Referent.rtF (Referent.fInt Syntax.w64)) (Syntax.tyRef (Syntax.named 5) Syntax.mut (Syntax.tyInt Syntax.w64)) 5,
+) (List._∷_ (
+  7,
+  Rows.mref (Referent.rtF (Referent.fInt Syntax.w32)) (Syntax.tyRef (Syntax.named 6) Syntax.mut (Syntax.tyInt Syntax.w32)) 6,
+) (List._∷_ (8, Rows.whole (Declared.row Quote.the-type)) (List._∷_ (
+  9,
+  Rows.any-gone (Syntax.tyRef Syntax.erased Syntax.mut ϱ),
+) (List._∷_ (
+  10,
+  Rows.any-gone (Syntax.tyStruct (List._∷_ 38 (List._∷_ 91 (List._∷_ 93 List.[]))) (Syntax.tcons (Syntax.tyRef Syntax.erased Syntax.mut ϱ) (Syntax.tcons (Syntax.tyInt Syntax.w64) Syntax.tnil))),
+) (List._∷_ (11, Rows.any-gone (Syntax.tyRef Syntax.erased Syntax.mut (Syntax.tyInt Syntax.w32))) (List._∷_ (12, Rows.any-gone (Syntax.tyStruct (List._∷_ 38 (List._∷_ 91 (List._∷_ 93 List.[]))) (Syntax.tcons (Syntax.tyRef Syntax.erased Syntax.mut (Syntax.tyInt Syntax.w32)) (Syntax.tcons (Syntax.tyInt Syntax.w64) Syntax.tnil)))) (List._∷_ (13, Rows.any-gone (Syntax.tyRef Syntax.erased Syntax.mut (Syntax.tyInt Syntax.w32))) (List._∷_ (14, Rows.any-gone (Syntax.tyStruct (List._∷_ 38 (List._∷_ 91 (List._∷_ 93 List.[]))) (Syntax.tcons (Syntax.tyRef Syntax.erased Syntax.mut (Syntax.tyInt Syntax.w32)) (Syntax.tcons (Syntax.tyInt Syntax.w64) Syntax.tnil)))) List.[]))))))))))))))
 
 abbrev pub T0 : Row.Cx
 T0 = record { locals = t0; slots = List.[] }
@@ -429,7 +683,9 @@ module _ (claims· : Claims) where
   s11 = Relend.k-sl-aggregate (Referent.rtF (Referent.fInt Syntax.w32)) (Relend.asMut (Referent.rtF (Referent.fInt Syntax.w32))) T12 13 14 9 (Syntax.tyRef Syntax.erased Syntax.mut (Syntax.tyInt Syntax.w32)) (Syntax.tyRef Syntax.erased Syntax.mut (Syntax.tyInt Syntax.w32)) (λ x. x) (Scalar.oFld 4 (List._∷_ (Syntax.field 1) List.[]) (Syntax.tyInt Syntax.w64) 8 λ v. Shared.lenV (v .0))
 
   abbrev s12 : Typed.Both T13 T14
-  s12 = Call.callB ps·0 r·0 (claims· .0) (claims· .1) T13 ( record { pos = 10; ty = Syntax.tyRef Syntax.erased Syntax.mut ϱ; ref = λ x. x; }, ( record { pos = 2; ty = Syntax.tyRef (Syntax.named 1) Syntax.imm (Syntax.tyInt Syntax.w8); ref = λ x. x; }, ( record { pos = 12; ty = Syntax.tyRef Syntax.erased Syntax.mut (Syntax.tyInt Syntax.w32); ref = λ x. x; }, ( record { pos = 14; ty = Syntax.tyRef Syntax.erased Syntax.mut (Syntax.tyInt Syntax.w32); ref = λ x. x; }, tt, ), ), ),
+  s12 = Call.callB ps·0 r·0 (claims· .0) (claims· .1) T13 (
+    record { pos = 10; ty = Syntax.tyRef Syntax.erased Syntax.mut ϱ; ref = λ x. x },
+    (record { pos = 2; ty = Syntax.tyRef (Syntax.named 1) Syntax.imm (Syntax.tyInt Syntax.w8); ref = λ x. x }, (record { pos = 12; ty = Syntax.tyRef Syntax.erased Syntax.mut (Syntax.tyInt Syntax.w32); ref = λ x. x }, (record { pos = 14; ty = Syntax.tyRef Syntax.erased Syntax.mut (Syntax.tyInt Syntax.w32); ref = λ x. x }, tt))),
   ) 8 (List._∷_ 7 (List._∷_ 1 (List._∷_ 8 (List._∷_ 9 List.[])))) (Syntax.tyStruct (List._∷_ 102 (List._∷_ 105 (List._∷_ 114 (List._∷_ 109 (List._∷_ 58 (List._∷_ 58 (List._∷_ 81 (List._∷_ 117 (List._∷_ 111 (List._∷_ 116 (List._∷_ 101 List.[]))))))))))) (Syntax.tcons (Syntax.tyInt Syntax.w32) (Syntax.tcons (Syntax.tyInt Syntax.w64) (Syntax.tcons (Syntax.tyInt Syntax.w64) (Syntax.tcons (Syntax.tyInt Syntax.w32) Syntax.tnil)))))
 
   abbrev s14 : Typed.Both T14 T16
@@ -567,247 +823,493 @@ module _ (claims· : Claims) where
 
       module _ (κs : Lifetimes.Lfts 7) (qs : Lifetimes.Shares 7) where
         abbrev g2 : List.List Row.Entry
-        g2 = List._∷_ (0, Rows.any-gone (Syntax.tyInt Syntax.w32)) (List._∷_ ( 1, Relend.mslice-owed T τ 0 7 (Row.lease (κs .0) (qs .0)),
-        ) (List._∷_ ( 2, Rows.sslice (Referent.rtF (Referent.fInt Syntax.w8)) (Syntax.tyRef (Syntax.named 1) Syntax.imm (Syntax.tyInt Syntax.w8)) 1,
-        ) (List._∷_ ( 3, Mut.mslice (Referent.rtF (Referent.fInt Syntax.w32)) (Syntax.tyRef (Syntax.named 2) Syntax.mut (Syntax.tyInt Syntax.w32)) 2,
-        ) (List._∷_ ( 4, Mut.mslice (Referent.rtF (Referent.fInt Syntax.w32)) (Syntax.tyRef (Syntax.named 3) Syntax.mut (Syntax.tyInt Syntax.w32)) 3,
-        ) (List._∷_ ( 5, Rows.mref (Referent.rtF (Referent.fInt Syntax.w64)) (Syntax.tyRef (Syntax.named 4) Syntax.mut (Syntax.tyInt Syntax.w64)) 4,
-        ) (List._∷_ ( 6, Rows.mref (Referent.rtF (Referent.fInt Syntax.w64)) (Syntax.tyRef (Syntax.named 5) Syntax.mut (Syntax.tyInt Syntax.w64)) 5,
-        ) (List._∷_ ( 7, Rows.mref (Referent.rtF (Referent.fInt Syntax.w32)) (Syntax.tyRef (Syntax.named 6) Syntax.mut (Syntax.tyInt Syntax.w32)) 6,
-        ) (List._∷_ ( 8, Rows.any-gone (Syntax.tyStruct (List._∷_ 102 (List._∷_ 105 (List._∷_ 114 (List._∷_ 109 (List._∷_ 58 (List._∷_ 58 (List._∷_ 81 (List._∷_ 117 (List._∷_ 111 (List._∷_ 116 (List._∷_ 101 List.[]))))))))))) (Syntax.tcons (Syntax.tyInt Syntax.w32) (Syntax.tcons (Syntax.tyInt Syntax.w64) (Syntax.tcons (Syntax.tyInt Syntax.w64) (Syntax.tcons (Syntax.tyInt Syntax.w32) Syntax.tnil))))),
-        ) (List._∷_ ( 9, Relend.msptr T (Syntax.tyRef Syntax.erased Syntax.mut ϱ) 7,
-        ) (List._∷_ ( 10, Rows.any-gone (Syntax.tyStruct (List._∷_ 38 (List._∷_ 91 (List._∷_ 93 List.[]))) (Syntax.tcons (Syntax.tyRef Syntax.erased Syntax.mut ϱ) (Syntax.tcons (Syntax.tyInt Syntax.w64) Syntax.tnil))),
-        ) (List._∷_ ( 11, Rows.any-gone (Syntax.tyRef Syntax.erased Syntax.mut (Syntax.tyInt Syntax.w32)),
-        ) (List._∷_ ( 12, Rows.any-gone (Syntax.tyStruct (List._∷_ 38 (List._∷_ 91 (List._∷_ 93 List.[]))) (Syntax.tcons (Syntax.tyRef Syntax.erased Syntax.mut (Syntax.tyInt Syntax.w32)) (Syntax.tcons (Syntax.tyInt Syntax.w64) Syntax.tnil))),
-        ) (List._∷_ ( 13, Rows.any-gone (Syntax.tyRef Syntax.erased Syntax.mut (Syntax.tyInt Syntax.w32)),
-        ) (List._∷_ ( 14, Rows.any-gone (Syntax.tyStruct (List._∷_ 38 (List._∷_ 91 (List._∷_ 93 List.[]))) (Syntax.tcons (Syntax.tyRef Syntax.erased Syntax.mut (Syntax.tyInt Syntax.w32)) (Syntax.tcons (Syntax.tyInt Syntax.w64) Syntax.tnil))),
+        g2 = List._∷_ (0, Rows.any-gone (Syntax.tyInt Syntax.w32)) (List._∷_ (
+          1,
+          Relend.mslice-owed T τ 0 7 (Row.lease (κs .0) (qs .0)),
+        ) (List._∷_ (
+          2,
+          Rows.sslice (Referent.rtF (Referent.fInt Syntax.w8)) (Syntax.tyRef (Syntax.named 1) Syntax.imm (Syntax.tyInt Syntax.w8)) 1,
+        ) (List._∷_ (
+          3,
+          Mut.mslice (Referent.rtF (Referent.fInt Syntax.w32)) (Syntax.tyRef (Syntax.named 2) Syntax.mut (Syntax.tyInt Syntax.w32)) 2,
+        ) (List._∷_ (
+          4,
+          Mut.mslice (Referent.rtF (Referent.fInt Syntax.w32)) (Syntax.tyRef (Syntax.named 3) Syntax.mut (Syntax.tyInt Syntax.w32)) 3,
+        ) (List._∷_ (
+          5,
+          Rows.mref (Referent.rtF (Referent.fInt Syntax.w64)) (Syntax.tyRef (Syntax.named 4) Syntax.mut (Syntax.tyInt Syntax.w64)) 4,
+        ) (List._∷_ (
+          6,
+          Rows.mref (Referent.rtF (Referent.fInt Syntax.w64)) (Syntax.tyRef (Syntax.named 5) Syntax.mut (Syntax.tyInt Syntax.w64)) 5,
+        ) (List._∷_ (
+          7,
+          Rows.mref (Referent.rtF (Referent.fInt Syntax.w32)) (Syntax.tyRef (Syntax.named 6) Syntax.mut (Syntax.tyInt Syntax.w32)) 6,
+        ) (List._∷_ (
+          8,
+          Rows.any-gone (Syntax.tyStruct (List._∷_ 102 (List._∷_ 105 (List._∷_ 114 (List._∷_ 109 (List._∷_ 58 (List._∷_ 58 (List._∷_ 81 (List._∷_ 117 (List._∷_ 111 (List._∷_ 116 (List._∷_ 101 List.[]))))))))))) (Syntax.tcons (Syntax.tyInt Syntax.w32) (Syntax.tcons (Syntax.tyInt Syntax.w64) (Syntax.tcons (Syntax.tyInt Syntax.w64) (Syntax.tcons (Syntax.tyInt Syntax.w32) Syntax.tnil))))),
+        ) (List._∷_ (
+          9,
+          Relend.msptr T (Syntax.tyRef Syntax.erased Syntax.mut ϱ) 7,
+        ) (List._∷_ (
+          10,
+          Rows.any-gone (Syntax.tyStruct (List._∷_ 38 (List._∷_ 91 (List._∷_ 93 List.[]))) (Syntax.tcons (Syntax.tyRef Syntax.erased Syntax.mut ϱ) (Syntax.tcons (Syntax.tyInt Syntax.w64) Syntax.tnil))),
+        ) (List._∷_ (
+          11,
+          Rows.any-gone (Syntax.tyRef Syntax.erased Syntax.mut (Syntax.tyInt Syntax.w32)),
+        ) (List._∷_ (
+          12,
+          Rows.any-gone (Syntax.tyStruct (List._∷_ 38 (List._∷_ 91 (List._∷_ 93 List.[]))) (Syntax.tcons (Syntax.tyRef Syntax.erased Syntax.mut (Syntax.tyInt Syntax.w32)) (Syntax.tcons (Syntax.tyInt Syntax.w64) Syntax.tnil))),
+        ) (List._∷_ (
+          13,
+          Rows.any-gone (Syntax.tyRef Syntax.erased Syntax.mut (Syntax.tyInt Syntax.w32)),
+        ) (List._∷_ (
+          14,
+          Rows.any-gone (Syntax.tyStruct (List._∷_ 38 (List._∷_ 91 (List._∷_ 93 List.[]))) (Syntax.tcons (Syntax.tyRef Syntax.erased Syntax.mut (Syntax.tyInt Syntax.w32)) (Syntax.tcons (Syntax.tyInt Syntax.w64) Syntax.tnil))),
         ) List.[]))))))))))))))
 
         abbrev g3 : List.List Row.Entry
-        g3 = List._∷_ (0, Rows.any-gone (Syntax.tyInt Syntax.w32)) (List._∷_ ( 1, Relend.mslice-owed T τ 0 7 (Row.lease (κs .0) (qs .0)),
-        ) (List._∷_ ( 2, Rows.sslice (Referent.rtF (Referent.fInt Syntax.w8)) (Syntax.tyRef (Syntax.named 1) Syntax.imm (Syntax.tyInt Syntax.w8)) 1,
-        ) (List._∷_ ( 3, Mut.mslice (Referent.rtF (Referent.fInt Syntax.w32)) (Syntax.tyRef (Syntax.named 2) Syntax.mut (Syntax.tyInt Syntax.w32)) 2,
-        ) (List._∷_ ( 4, Mut.mslice (Referent.rtF (Referent.fInt Syntax.w32)) (Syntax.tyRef (Syntax.named 3) Syntax.mut (Syntax.tyInt Syntax.w32)) 3,
-        ) (List._∷_ ( 5, Rows.mref (Referent.rtF (Referent.fInt Syntax.w64)) (Syntax.tyRef (Syntax.named 4) Syntax.mut (Syntax.tyInt Syntax.w64)) 4,
-        ) (List._∷_ ( 6, Rows.mref (Referent.rtF (Referent.fInt Syntax.w64)) (Syntax.tyRef (Syntax.named 5) Syntax.mut (Syntax.tyInt Syntax.w64)) 5,
-        ) (List._∷_ ( 7, Rows.mref (Referent.rtF (Referent.fInt Syntax.w32)) (Syntax.tyRef (Syntax.named 6) Syntax.mut (Syntax.tyInt Syntax.w32)) 6,
-        ) (List._∷_ ( 8, Rows.any-gone (Syntax.tyStruct (List._∷_ 102 (List._∷_ 105 (List._∷_ 114 (List._∷_ 109 (List._∷_ 58 (List._∷_ 58 (List._∷_ 81 (List._∷_ 117 (List._∷_ 111 (List._∷_ 116 (List._∷_ 101 List.[]))))))))))) (Syntax.tcons (Syntax.tyInt Syntax.w32) (Syntax.tcons (Syntax.tyInt Syntax.w64) (Syntax.tcons (Syntax.tyInt Syntax.w64) (Syntax.tcons (Syntax.tyInt Syntax.w32) Syntax.tnil))))),
-        ) (List._∷_ ( 9, Rows.any-gone (Syntax.tyRef Syntax.erased Syntax.mut ϱ),
-        ) (List._∷_ ( 10, Mut.mslice T (Syntax.tyRef Syntax.erased Syntax.mut ϱ) 7,
-        ) (List._∷_ ( 11, Rows.any-gone (Syntax.tyRef Syntax.erased Syntax.mut (Syntax.tyInt Syntax.w32)),
-        ) (List._∷_ ( 12, Rows.any-gone (Syntax.tyStruct (List._∷_ 38 (List._∷_ 91 (List._∷_ 93 List.[]))) (Syntax.tcons (Syntax.tyRef Syntax.erased Syntax.mut (Syntax.tyInt Syntax.w32)) (Syntax.tcons (Syntax.tyInt Syntax.w64) Syntax.tnil))),
-        ) (List._∷_ ( 13, Rows.any-gone (Syntax.tyRef Syntax.erased Syntax.mut (Syntax.tyInt Syntax.w32)),
-        ) (List._∷_ ( 14, Rows.any-gone (Syntax.tyStruct (List._∷_ 38 (List._∷_ 91 (List._∷_ 93 List.[]))) (Syntax.tcons (Syntax.tyRef Syntax.erased Syntax.mut (Syntax.tyInt Syntax.w32)) (Syntax.tcons (Syntax.tyInt Syntax.w64) Syntax.tnil))),
+        g3 = List._∷_ (0, Rows.any-gone (Syntax.tyInt Syntax.w32)) (List._∷_ (
+          1,
+          Relend.mslice-owed T τ 0 7 (Row.lease (κs .0) (qs .0)),
+        ) (List._∷_ (
+          2,
+          Rows.sslice (Referent.rtF (Referent.fInt Syntax.w8)) (Syntax.tyRef (Syntax.named 1) Syntax.imm (Syntax.tyInt Syntax.w8)) 1,
+        ) (List._∷_ (
+          3,
+          Mut.mslice (Referent.rtF (Referent.fInt Syntax.w32)) (Syntax.tyRef (Syntax.named 2) Syntax.mut (Syntax.tyInt Syntax.w32)) 2,
+        ) (List._∷_ (
+          4,
+          Mut.mslice (Referent.rtF (Referent.fInt Syntax.w32)) (Syntax.tyRef (Syntax.named 3) Syntax.mut (Syntax.tyInt Syntax.w32)) 3,
+        ) (List._∷_ (
+          5,
+          Rows.mref (Referent.rtF (Referent.fInt Syntax.w64)) (Syntax.tyRef (Syntax.named 4) Syntax.mut (Syntax.tyInt Syntax.w64)) 4,
+        ) (List._∷_ (
+          6,
+          Rows.mref (Referent.rtF (Referent.fInt Syntax.w64)) (Syntax.tyRef (Syntax.named 5) Syntax.mut (Syntax.tyInt Syntax.w64)) 5,
+        ) (List._∷_ (
+          7,
+          Rows.mref (Referent.rtF (Referent.fInt Syntax.w32)) (Syntax.tyRef (Syntax.named 6) Syntax.mut (Syntax.tyInt Syntax.w32)) 6,
+        ) (List._∷_ (
+          8,
+          Rows.any-gone (Syntax.tyStruct (List._∷_ 102 (List._∷_ 105 (List._∷_ 114 (List._∷_ 109 (List._∷_ 58 (List._∷_ 58 (List._∷_ 81 (List._∷_ 117 (List._∷_ 111 (List._∷_ 116 (List._∷_ 101 List.[]))))))))))) (Syntax.tcons (Syntax.tyInt Syntax.w32) (Syntax.tcons (Syntax.tyInt Syntax.w64) (Syntax.tcons (Syntax.tyInt Syntax.w64) (Syntax.tcons (Syntax.tyInt Syntax.w32) Syntax.tnil))))),
+        ) (List._∷_ (
+          9,
+          Rows.any-gone (Syntax.tyRef Syntax.erased Syntax.mut ϱ),
+        ) (List._∷_ (
+          10,
+          Mut.mslice T (Syntax.tyRef Syntax.erased Syntax.mut ϱ) 7,
+        ) (List._∷_ (
+          11,
+          Rows.any-gone (Syntax.tyRef Syntax.erased Syntax.mut (Syntax.tyInt Syntax.w32)),
+        ) (List._∷_ (
+          12,
+          Rows.any-gone (Syntax.tyStruct (List._∷_ 38 (List._∷_ 91 (List._∷_ 93 List.[]))) (Syntax.tcons (Syntax.tyRef Syntax.erased Syntax.mut (Syntax.tyInt Syntax.w32)) (Syntax.tcons (Syntax.tyInt Syntax.w64) Syntax.tnil))),
+        ) (List._∷_ (
+          13,
+          Rows.any-gone (Syntax.tyRef Syntax.erased Syntax.mut (Syntax.tyInt Syntax.w32)),
+        ) (List._∷_ (
+          14,
+          Rows.any-gone (Syntax.tyStruct (List._∷_ 38 (List._∷_ 91 (List._∷_ 93 List.[]))) (Syntax.tcons (Syntax.tyRef Syntax.erased Syntax.mut (Syntax.tyInt Syntax.w32)) (Syntax.tcons (Syntax.tyInt Syntax.w64) Syntax.tnil))),
         ) List.[]))))))))))))))
 
         abbrev g4 : List.List Row.Entry
-        g4 = List._∷_ (0, Rows.any-gone (Syntax.tyInt Syntax.w32)) (List._∷_ ( 1, Relend.mslice-owed T τ 0 7 (Row.lease (κs .0) (qs .0)),
-        ) (List._∷_ ( 2, Rows.sslice (Referent.rtF (Referent.fInt Syntax.w8)) (Syntax.tyRef (Syntax.named 1) Syntax.imm (Syntax.tyInt Syntax.w8)) 1,
-        ) (List._∷_ ( 3, Relend.mslice-owed (Referent.rtF (Referent.fInt Syntax.w32)) (Syntax.tyRef (Syntax.named 2) Syntax.mut (Syntax.tyInt Syntax.w32)) 2 8 (Row.lease (κs .1 .1 .0) (qs .1 .1 .0)),
-        ) (List._∷_ ( 4, Mut.mslice (Referent.rtF (Referent.fInt Syntax.w32)) (Syntax.tyRef (Syntax.named 3) Syntax.mut (Syntax.tyInt Syntax.w32)) 3,
-        ) (List._∷_ ( 5, Rows.mref (Referent.rtF (Referent.fInt Syntax.w64)) (Syntax.tyRef (Syntax.named 4) Syntax.mut (Syntax.tyInt Syntax.w64)) 4,
-        ) (List._∷_ ( 6, Rows.mref (Referent.rtF (Referent.fInt Syntax.w64)) (Syntax.tyRef (Syntax.named 5) Syntax.mut (Syntax.tyInt Syntax.w64)) 5,
-        ) (List._∷_ ( 7, Rows.mref (Referent.rtF (Referent.fInt Syntax.w32)) (Syntax.tyRef (Syntax.named 6) Syntax.mut (Syntax.tyInt Syntax.w32)) 6,
-        ) (List._∷_ ( 8, Rows.any-gone (Syntax.tyStruct (List._∷_ 102 (List._∷_ 105 (List._∷_ 114 (List._∷_ 109 (List._∷_ 58 (List._∷_ 58 (List._∷_ 81 (List._∷_ 117 (List._∷_ 111 (List._∷_ 116 (List._∷_ 101 List.[]))))))))))) (Syntax.tcons (Syntax.tyInt Syntax.w32) (Syntax.tcons (Syntax.tyInt Syntax.w64) (Syntax.tcons (Syntax.tyInt Syntax.w64) (Syntax.tcons (Syntax.tyInt Syntax.w32) Syntax.tnil))))),
-        ) (List._∷_ ( 9, Rows.any-gone (Syntax.tyRef Syntax.erased Syntax.mut ϱ),
-        ) (List._∷_ ( 10, Mut.mslice T (Syntax.tyRef Syntax.erased Syntax.mut ϱ) 7,
-        ) (List._∷_ ( 11, Relend.msptr (Referent.rtF (Referent.fInt Syntax.w32)) (Syntax.tyRef Syntax.erased Syntax.mut (Syntax.tyInt Syntax.w32)) 8,
-        ) (List._∷_ ( 12, Rows.any-gone (Syntax.tyStruct (List._∷_ 38 (List._∷_ 91 (List._∷_ 93 List.[]))) (Syntax.tcons (Syntax.tyRef Syntax.erased Syntax.mut (Syntax.tyInt Syntax.w32)) (Syntax.tcons (Syntax.tyInt Syntax.w64) Syntax.tnil))),
-        ) (List._∷_ ( 13, Rows.any-gone (Syntax.tyRef Syntax.erased Syntax.mut (Syntax.tyInt Syntax.w32)),
-        ) (List._∷_ ( 14, Rows.any-gone (Syntax.tyStruct (List._∷_ 38 (List._∷_ 91 (List._∷_ 93 List.[]))) (Syntax.tcons (Syntax.tyRef Syntax.erased Syntax.mut (Syntax.tyInt Syntax.w32)) (Syntax.tcons (Syntax.tyInt Syntax.w64) Syntax.tnil))),
+        g4 = List._∷_ (0, Rows.any-gone (Syntax.tyInt Syntax.w32)) (List._∷_ (
+          1,
+          Relend.mslice-owed T τ 0 7 (Row.lease (κs .0) (qs .0)),
+        ) (List._∷_ (
+          2,
+          Rows.sslice (Referent.rtF (Referent.fInt Syntax.w8)) (Syntax.tyRef (Syntax.named 1) Syntax.imm (Syntax.tyInt Syntax.w8)) 1,
+        ) (List._∷_ (
+          3,
+          Relend.mslice-owed (Referent.rtF (Referent.fInt Syntax.w32)) (Syntax.tyRef (Syntax.named 2) Syntax.mut (Syntax.tyInt Syntax.w32)) 2 8 (Row.lease (κs .1 .1 .0) (qs .1 .1 .0)),
+        ) (List._∷_ (
+          4,
+          Mut.mslice (Referent.rtF (Referent.fInt Syntax.w32)) (Syntax.tyRef (Syntax.named 3) Syntax.mut (Syntax.tyInt Syntax.w32)) 3,
+        ) (List._∷_ (
+          5,
+          Rows.mref (Referent.rtF (Referent.fInt Syntax.w64)) (Syntax.tyRef (Syntax.named 4) Syntax.mut (Syntax.tyInt Syntax.w64)) 4,
+        ) (List._∷_ (
+          6,
+          Rows.mref (Referent.rtF (Referent.fInt Syntax.w64)) (Syntax.tyRef (Syntax.named 5) Syntax.mut (Syntax.tyInt Syntax.w64)) 5,
+        ) (List._∷_ (
+          7,
+          Rows.mref (Referent.rtF (Referent.fInt Syntax.w32)) (Syntax.tyRef (Syntax.named 6) Syntax.mut (Syntax.tyInt Syntax.w32)) 6,
+        ) (List._∷_ (
+          8,
+          Rows.any-gone (Syntax.tyStruct (List._∷_ 102 (List._∷_ 105 (List._∷_ 114 (List._∷_ 109 (List._∷_ 58 (List._∷_ 58 (List._∷_ 81 (List._∷_ 117 (List._∷_ 111 (List._∷_ 116 (List._∷_ 101 List.[]))))))))))) (Syntax.tcons (Syntax.tyInt Syntax.w32) (Syntax.tcons (Syntax.tyInt Syntax.w64) (Syntax.tcons (Syntax.tyInt Syntax.w64) (Syntax.tcons (Syntax.tyInt Syntax.w32) Syntax.tnil))))),
+        ) (List._∷_ (
+          9,
+          Rows.any-gone (Syntax.tyRef Syntax.erased Syntax.mut ϱ),
+        ) (List._∷_ (
+          10,
+          Mut.mslice T (Syntax.tyRef Syntax.erased Syntax.mut ϱ) 7,
+        ) (List._∷_ (
+          11,
+          Relend.msptr (Referent.rtF (Referent.fInt Syntax.w32)) (Syntax.tyRef Syntax.erased Syntax.mut (Syntax.tyInt Syntax.w32)) 8,
+        ) (List._∷_ (
+          12,
+          Rows.any-gone (Syntax.tyStruct (List._∷_ 38 (List._∷_ 91 (List._∷_ 93 List.[]))) (Syntax.tcons (Syntax.tyRef Syntax.erased Syntax.mut (Syntax.tyInt Syntax.w32)) (Syntax.tcons (Syntax.tyInt Syntax.w64) Syntax.tnil))),
+        ) (List._∷_ (
+          13,
+          Rows.any-gone (Syntax.tyRef Syntax.erased Syntax.mut (Syntax.tyInt Syntax.w32)),
+        ) (List._∷_ (
+          14,
+          Rows.any-gone (Syntax.tyStruct (List._∷_ 38 (List._∷_ 91 (List._∷_ 93 List.[]))) (Syntax.tcons (Syntax.tyRef Syntax.erased Syntax.mut (Syntax.tyInt Syntax.w32)) (Syntax.tcons (Syntax.tyInt Syntax.w64) Syntax.tnil))),
         ) List.[]))))))))))))))
 
         abbrev g5 : List.List Row.Entry
-        g5 = List._∷_ (0, Rows.any-gone (Syntax.tyInt Syntax.w32)) (List._∷_ ( 1, Relend.mslice-owed T τ 0 7 (Row.lease (κs .0) (qs .0)),
-        ) (List._∷_ ( 2, Rows.sslice (Referent.rtF (Referent.fInt Syntax.w8)) (Syntax.tyRef (Syntax.named 1) Syntax.imm (Syntax.tyInt Syntax.w8)) 1,
-        ) (List._∷_ ( 3, Relend.mslice-owed (Referent.rtF (Referent.fInt Syntax.w32)) (Syntax.tyRef (Syntax.named 2) Syntax.mut (Syntax.tyInt Syntax.w32)) 2 8 (Row.lease (κs .1 .1 .0) (qs .1 .1 .0)),
-        ) (List._∷_ ( 4, Mut.mslice (Referent.rtF (Referent.fInt Syntax.w32)) (Syntax.tyRef (Syntax.named 3) Syntax.mut (Syntax.tyInt Syntax.w32)) 3,
-        ) (List._∷_ ( 5, Rows.mref (Referent.rtF (Referent.fInt Syntax.w64)) (Syntax.tyRef (Syntax.named 4) Syntax.mut (Syntax.tyInt Syntax.w64)) 4,
-        ) (List._∷_ ( 6, Rows.mref (Referent.rtF (Referent.fInt Syntax.w64)) (Syntax.tyRef (Syntax.named 5) Syntax.mut (Syntax.tyInt Syntax.w64)) 5,
-        ) (List._∷_ ( 7, Rows.mref (Referent.rtF (Referent.fInt Syntax.w32)) (Syntax.tyRef (Syntax.named 6) Syntax.mut (Syntax.tyInt Syntax.w32)) 6,
-        ) (List._∷_ ( 8, Rows.any-gone (Syntax.tyStruct (List._∷_ 102 (List._∷_ 105 (List._∷_ 114 (List._∷_ 109 (List._∷_ 58 (List._∷_ 58 (List._∷_ 81 (List._∷_ 117 (List._∷_ 111 (List._∷_ 116 (List._∷_ 101 List.[]))))))))))) (Syntax.tcons (Syntax.tyInt Syntax.w32) (Syntax.tcons (Syntax.tyInt Syntax.w64) (Syntax.tcons (Syntax.tyInt Syntax.w64) (Syntax.tcons (Syntax.tyInt Syntax.w32) Syntax.tnil))))),
-        ) (List._∷_ ( 9, Rows.any-gone (Syntax.tyRef Syntax.erased Syntax.mut ϱ),
-        ) (List._∷_ ( 10, Mut.mslice T (Syntax.tyRef Syntax.erased Syntax.mut ϱ) 7,
-        ) (List._∷_ ( 11, Rows.any-gone (Syntax.tyRef Syntax.erased Syntax.mut (Syntax.tyInt Syntax.w32)),
-        ) (List._∷_ ( 12, Mut.mslice (Referent.rtF (Referent.fInt Syntax.w32)) (Syntax.tyRef Syntax.erased Syntax.mut (Syntax.tyInt Syntax.w32)) 8,
-        ) (List._∷_ ( 13, Rows.any-gone (Syntax.tyRef Syntax.erased Syntax.mut (Syntax.tyInt Syntax.w32)),
-        ) (List._∷_ ( 14, Rows.any-gone (Syntax.tyStruct (List._∷_ 38 (List._∷_ 91 (List._∷_ 93 List.[]))) (Syntax.tcons (Syntax.tyRef Syntax.erased Syntax.mut (Syntax.tyInt Syntax.w32)) (Syntax.tcons (Syntax.tyInt Syntax.w64) Syntax.tnil))),
+        g5 = List._∷_ (0, Rows.any-gone (Syntax.tyInt Syntax.w32)) (List._∷_ (
+          1,
+          Relend.mslice-owed T τ 0 7 (Row.lease (κs .0) (qs .0)),
+        ) (List._∷_ (
+          2,
+          Rows.sslice (Referent.rtF (Referent.fInt Syntax.w8)) (Syntax.tyRef (Syntax.named 1) Syntax.imm (Syntax.tyInt Syntax.w8)) 1,
+        ) (List._∷_ (
+          3,
+          Relend.mslice-owed (Referent.rtF (Referent.fInt Syntax.w32)) (Syntax.tyRef (Syntax.named 2) Syntax.mut (Syntax.tyInt Syntax.w32)) 2 8 (Row.lease (κs .1 .1 .0) (qs .1 .1 .0)),
+        ) (List._∷_ (
+          4,
+          Mut.mslice (Referent.rtF (Referent.fInt Syntax.w32)) (Syntax.tyRef (Syntax.named 3) Syntax.mut (Syntax.tyInt Syntax.w32)) 3,
+        ) (List._∷_ (
+          5,
+          Rows.mref (Referent.rtF (Referent.fInt Syntax.w64)) (Syntax.tyRef (Syntax.named 4) Syntax.mut (Syntax.tyInt Syntax.w64)) 4,
+        ) (List._∷_ (
+          6,
+          Rows.mref (Referent.rtF (Referent.fInt Syntax.w64)) (Syntax.tyRef (Syntax.named 5) Syntax.mut (Syntax.tyInt Syntax.w64)) 5,
+        ) (List._∷_ (
+          7,
+          Rows.mref (Referent.rtF (Referent.fInt Syntax.w32)) (Syntax.tyRef (Syntax.named 6) Syntax.mut (Syntax.tyInt Syntax.w32)) 6,
+        ) (List._∷_ (
+          8,
+          Rows.any-gone (Syntax.tyStruct (List._∷_ 102 (List._∷_ 105 (List._∷_ 114 (List._∷_ 109 (List._∷_ 58 (List._∷_ 58 (List._∷_ 81 (List._∷_ 117 (List._∷_ 111 (List._∷_ 116 (List._∷_ 101 List.[]))))))))))) (Syntax.tcons (Syntax.tyInt Syntax.w32) (Syntax.tcons (Syntax.tyInt Syntax.w64) (Syntax.tcons (Syntax.tyInt Syntax.w64) (Syntax.tcons (Syntax.tyInt Syntax.w32) Syntax.tnil))))),
+        ) (List._∷_ (
+          9,
+          Rows.any-gone (Syntax.tyRef Syntax.erased Syntax.mut ϱ),
+        ) (List._∷_ (
+          10,
+          Mut.mslice T (Syntax.tyRef Syntax.erased Syntax.mut ϱ) 7,
+        ) (List._∷_ (
+          11,
+          Rows.any-gone (Syntax.tyRef Syntax.erased Syntax.mut (Syntax.tyInt Syntax.w32)),
+        ) (List._∷_ (
+          12,
+          Mut.mslice (Referent.rtF (Referent.fInt Syntax.w32)) (Syntax.tyRef Syntax.erased Syntax.mut (Syntax.tyInt Syntax.w32)) 8,
+        ) (List._∷_ (
+          13,
+          Rows.any-gone (Syntax.tyRef Syntax.erased Syntax.mut (Syntax.tyInt Syntax.w32)),
+        ) (List._∷_ (
+          14,
+          Rows.any-gone (Syntax.tyStruct (List._∷_ 38 (List._∷_ 91 (List._∷_ 93 List.[]))) (Syntax.tcons (Syntax.tyRef Syntax.erased Syntax.mut (Syntax.tyInt Syntax.w32)) (Syntax.tcons (Syntax.tyInt Syntax.w64) Syntax.tnil))),
         ) List.[]))))))))))))))
 
         abbrev g6 : List.List Row.Entry
-        g6 = List._∷_ (0, Rows.any-gone (Syntax.tyInt Syntax.w32)) (List._∷_ ( 1, Relend.mslice-owed T τ 0 7 (Row.lease (κs .0) (qs .0)),
-        ) (List._∷_ ( 2, Rows.sslice (Referent.rtF (Referent.fInt Syntax.w8)) (Syntax.tyRef (Syntax.named 1) Syntax.imm (Syntax.tyInt Syntax.w8)) 1,
-        ) (List._∷_ ( 3, Relend.mslice-owed (Referent.rtF (Referent.fInt Syntax.w32)) (Syntax.tyRef (Syntax.named 2) Syntax.mut (Syntax.tyInt Syntax.w32)) 2 8 (Row.lease (κs .1 .1 .0) (qs .1 .1 .0)),
-        ) (List._∷_ ( 4, Relend.mslice-owed (Referent.rtF (Referent.fInt Syntax.w32)) (Syntax.tyRef (Syntax.named 3) Syntax.mut (Syntax.tyInt Syntax.w32)) 3 9 (Row.lease (κs .1 .1 .1 .0) (qs .1 .1 .1 .0)),
-        ) (List._∷_ ( 5, Rows.mref (Referent.rtF (Referent.fInt Syntax.w64)) (Syntax.tyRef (Syntax.named 4) Syntax.mut (Syntax.tyInt Syntax.w64)) 4,
-        ) (List._∷_ ( 6, Rows.mref (Referent.rtF (Referent.fInt Syntax.w64)) (Syntax.tyRef (Syntax.named 5) Syntax.mut (Syntax.tyInt Syntax.w64)) 5,
-        ) (List._∷_ ( 7, Rows.mref (Referent.rtF (Referent.fInt Syntax.w32)) (Syntax.tyRef (Syntax.named 6) Syntax.mut (Syntax.tyInt Syntax.w32)) 6,
-        ) (List._∷_ ( 8, Rows.any-gone (Syntax.tyStruct (List._∷_ 102 (List._∷_ 105 (List._∷_ 114 (List._∷_ 109 (List._∷_ 58 (List._∷_ 58 (List._∷_ 81 (List._∷_ 117 (List._∷_ 111 (List._∷_ 116 (List._∷_ 101 List.[]))))))))))) (Syntax.tcons (Syntax.tyInt Syntax.w32) (Syntax.tcons (Syntax.tyInt Syntax.w64) (Syntax.tcons (Syntax.tyInt Syntax.w64) (Syntax.tcons (Syntax.tyInt Syntax.w32) Syntax.tnil))))),
-        ) (List._∷_ ( 9, Rows.any-gone (Syntax.tyRef Syntax.erased Syntax.mut ϱ),
-        ) (List._∷_ ( 10, Mut.mslice T (Syntax.tyRef Syntax.erased Syntax.mut ϱ) 7,
-        ) (List._∷_ ( 11, Rows.any-gone (Syntax.tyRef Syntax.erased Syntax.mut (Syntax.tyInt Syntax.w32)),
-        ) (List._∷_ ( 12, Mut.mslice (Referent.rtF (Referent.fInt Syntax.w32)) (Syntax.tyRef Syntax.erased Syntax.mut (Syntax.tyInt Syntax.w32)) 8,
-        ) (List._∷_ ( 13, Relend.msptr (Referent.rtF (Referent.fInt Syntax.w32)) (Syntax.tyRef Syntax.erased Syntax.mut (Syntax.tyInt Syntax.w32)) 9,
-        ) (List._∷_ ( 14, Rows.any-gone (Syntax.tyStruct (List._∷_ 38 (List._∷_ 91 (List._∷_ 93 List.[]))) (Syntax.tcons (Syntax.tyRef Syntax.erased Syntax.mut (Syntax.tyInt Syntax.w32)) (Syntax.tcons (Syntax.tyInt Syntax.w64) Syntax.tnil))),
+        g6 = List._∷_ (0, Rows.any-gone (Syntax.tyInt Syntax.w32)) (List._∷_ (
+          1,
+          Relend.mslice-owed T τ 0 7 (Row.lease (κs .0) (qs .0)),
+        ) (List._∷_ (
+          2,
+          Rows.sslice (Referent.rtF (Referent.fInt Syntax.w8)) (Syntax.tyRef (Syntax.named 1) Syntax.imm (Syntax.tyInt Syntax.w8)) 1,
+        ) (List._∷_ (
+          3,
+          Relend.mslice-owed (Referent.rtF (Referent.fInt Syntax.w32)) (Syntax.tyRef (Syntax.named 2) Syntax.mut (Syntax.tyInt Syntax.w32)) 2 8 (Row.lease (κs .1 .1 .0) (qs .1 .1 .0)),
+        ) (List._∷_ (
+          4,
+          Relend.mslice-owed (Referent.rtF (Referent.fInt Syntax.w32)) (Syntax.tyRef (Syntax.named 3) Syntax.mut (Syntax.tyInt Syntax.w32)) 3 9 (Row.lease (κs .1 .1 .1 .0) (qs .1 .1 .1 .0)),
+        ) (List._∷_ (
+          5,
+          Rows.mref (Referent.rtF (Referent.fInt Syntax.w64)) (Syntax.tyRef (Syntax.named 4) Syntax.mut (Syntax.tyInt Syntax.w64)) 4,
+        ) (List._∷_ (
+          6,
+          Rows.mref (Referent.rtF (Referent.fInt Syntax.w64)) (Syntax.tyRef (Syntax.named 5) Syntax.mut (Syntax.tyInt Syntax.w64)) 5,
+        ) (List._∷_ (
+          7,
+          Rows.mref (Referent.rtF (Referent.fInt Syntax.w32)) (Syntax.tyRef (Syntax.named 6) Syntax.mut (Syntax.tyInt Syntax.w32)) 6,
+        ) (List._∷_ (
+          8,
+          Rows.any-gone (Syntax.tyStruct (List._∷_ 102 (List._∷_ 105 (List._∷_ 114 (List._∷_ 109 (List._∷_ 58 (List._∷_ 58 (List._∷_ 81 (List._∷_ 117 (List._∷_ 111 (List._∷_ 116 (List._∷_ 101 List.[]))))))))))) (Syntax.tcons (Syntax.tyInt Syntax.w32) (Syntax.tcons (Syntax.tyInt Syntax.w64) (Syntax.tcons (Syntax.tyInt Syntax.w64) (Syntax.tcons (Syntax.tyInt Syntax.w32) Syntax.tnil))))),
+        ) (List._∷_ (
+          9,
+          Rows.any-gone (Syntax.tyRef Syntax.erased Syntax.mut ϱ),
+        ) (List._∷_ (
+          10,
+          Mut.mslice T (Syntax.tyRef Syntax.erased Syntax.mut ϱ) 7,
+        ) (List._∷_ (
+          11,
+          Rows.any-gone (Syntax.tyRef Syntax.erased Syntax.mut (Syntax.tyInt Syntax.w32)),
+        ) (List._∷_ (
+          12,
+          Mut.mslice (Referent.rtF (Referent.fInt Syntax.w32)) (Syntax.tyRef Syntax.erased Syntax.mut (Syntax.tyInt Syntax.w32)) 8,
+        ) (List._∷_ (
+          13,
+          Relend.msptr (Referent.rtF (Referent.fInt Syntax.w32)) (Syntax.tyRef Syntax.erased Syntax.mut (Syntax.tyInt Syntax.w32)) 9,
+        ) (List._∷_ (
+          14,
+          Rows.any-gone (Syntax.tyStruct (List._∷_ 38 (List._∷_ 91 (List._∷_ 93 List.[]))) (Syntax.tcons (Syntax.tyRef Syntax.erased Syntax.mut (Syntax.tyInt Syntax.w32)) (Syntax.tcons (Syntax.tyInt Syntax.w64) Syntax.tnil))),
         ) List.[]))))))))))))))
 
         abbrev g7 : List.List Row.Entry
-        g7 = List._∷_ (0, Rows.any-gone (Syntax.tyInt Syntax.w32)) (List._∷_ ( 1, Relend.mslice-owed T τ 0 7 (Row.lease (κs .0) (qs .0)),
-        ) (List._∷_ ( 2, Rows.sslice (Referent.rtF (Referent.fInt Syntax.w8)) (Syntax.tyRef (Syntax.named 1) Syntax.imm (Syntax.tyInt Syntax.w8)) 1,
-        ) (List._∷_ ( 3, Relend.mslice-owed (Referent.rtF (Referent.fInt Syntax.w32)) (Syntax.tyRef (Syntax.named 2) Syntax.mut (Syntax.tyInt Syntax.w32)) 2 8 (Row.lease (κs .1 .1 .0) (qs .1 .1 .0)),
-        ) (List._∷_ ( 4, Relend.mslice-owed (Referent.rtF (Referent.fInt Syntax.w32)) (Syntax.tyRef (Syntax.named 3) Syntax.mut (Syntax.tyInt Syntax.w32)) 3 9 (Row.lease (κs .1 .1 .1 .0) (qs .1 .1 .1 .0)),
-        ) (List._∷_ ( 5, Rows.mref (Referent.rtF (Referent.fInt Syntax.w64)) (Syntax.tyRef (Syntax.named 4) Syntax.mut (Syntax.tyInt Syntax.w64)) 4,
-        ) (List._∷_ ( 6, Rows.mref (Referent.rtF (Referent.fInt Syntax.w64)) (Syntax.tyRef (Syntax.named 5) Syntax.mut (Syntax.tyInt Syntax.w64)) 5,
-        ) (List._∷_ ( 7, Rows.mref (Referent.rtF (Referent.fInt Syntax.w32)) (Syntax.tyRef (Syntax.named 6) Syntax.mut (Syntax.tyInt Syntax.w32)) 6,
-        ) (List._∷_ ( 8, Rows.any-gone (Syntax.tyStruct (List._∷_ 102 (List._∷_ 105 (List._∷_ 114 (List._∷_ 109 (List._∷_ 58 (List._∷_ 58 (List._∷_ 81 (List._∷_ 117 (List._∷_ 111 (List._∷_ 116 (List._∷_ 101 List.[]))))))))))) (Syntax.tcons (Syntax.tyInt Syntax.w32) (Syntax.tcons (Syntax.tyInt Syntax.w64) (Syntax.tcons (Syntax.tyInt Syntax.w64) (Syntax.tcons (Syntax.tyInt Syntax.w32) Syntax.tnil))))),
-        ) (List._∷_ ( 9, Rows.any-gone (Syntax.tyRef Syntax.erased Syntax.mut ϱ),
-        ) (List._∷_ ( 10, Mut.mslice T (Syntax.tyRef Syntax.erased Syntax.mut ϱ) 7,
-        ) (List._∷_ ( 11, Rows.any-gone (Syntax.tyRef Syntax.erased Syntax.mut (Syntax.tyInt Syntax.w32)),
-        ) (List._∷_ ( 12, Mut.mslice (Referent.rtF (Referent.fInt Syntax.w32)) (Syntax.tyRef Syntax.erased Syntax.mut (Syntax.tyInt Syntax.w32)) 8,
-        ) (List._∷_ ( 13, Rows.any-gone (Syntax.tyRef Syntax.erased Syntax.mut (Syntax.tyInt Syntax.w32)),
-        ) (List._∷_ ( 14, Mut.mslice (Referent.rtF (Referent.fInt Syntax.w32)) (Syntax.tyRef Syntax.erased Syntax.mut (Syntax.tyInt Syntax.w32)) 9,
+        g7 = List._∷_ (0, Rows.any-gone (Syntax.tyInt Syntax.w32)) (List._∷_ (
+          1,
+          Relend.mslice-owed T τ 0 7 (Row.lease (κs .0) (qs .0)),
+        ) (List._∷_ (
+          2,
+          Rows.sslice (Referent.rtF (Referent.fInt Syntax.w8)) (Syntax.tyRef (Syntax.named 1) Syntax.imm (Syntax.tyInt Syntax.w8)) 1,
+        ) (List._∷_ (
+          3,
+          Relend.mslice-owed (Referent.rtF (Referent.fInt Syntax.w32)) (Syntax.tyRef (Syntax.named 2) Syntax.mut (Syntax.tyInt Syntax.w32)) 2 8 (Row.lease (κs .1 .1 .0) (qs .1 .1 .0)),
+        ) (List._∷_ (
+          4,
+          Relend.mslice-owed (Referent.rtF (Referent.fInt Syntax.w32)) (Syntax.tyRef (Syntax.named 3) Syntax.mut (Syntax.tyInt Syntax.w32)) 3 9 (Row.lease (κs .1 .1 .1 .0) (qs .1 .1 .1 .0)),
+        ) (List._∷_ (
+          5,
+          Rows.mref (Referent.rtF (Referent.fInt Syntax.w64)) (Syntax.tyRef (Syntax.named 4) Syntax.mut (Syntax.tyInt Syntax.w64)) 4,
+        ) (List._∷_ (
+          6,
+          Rows.mref (Referent.rtF (Referent.fInt Syntax.w64)) (Syntax.tyRef (Syntax.named 5) Syntax.mut (Syntax.tyInt Syntax.w64)) 5,
+        ) (List._∷_ (
+          7,
+          Rows.mref (Referent.rtF (Referent.fInt Syntax.w32)) (Syntax.tyRef (Syntax.named 6) Syntax.mut (Syntax.tyInt Syntax.w32)) 6,
+        ) (List._∷_ (
+          8,
+          Rows.any-gone (Syntax.tyStruct (List._∷_ 102 (List._∷_ 105 (List._∷_ 114 (List._∷_ 109 (List._∷_ 58 (List._∷_ 58 (List._∷_ 81 (List._∷_ 117 (List._∷_ 111 (List._∷_ 116 (List._∷_ 101 List.[]))))))))))) (Syntax.tcons (Syntax.tyInt Syntax.w32) (Syntax.tcons (Syntax.tyInt Syntax.w64) (Syntax.tcons (Syntax.tyInt Syntax.w64) (Syntax.tcons (Syntax.tyInt Syntax.w32) Syntax.tnil))))),
+        ) (List._∷_ (
+          9,
+          Rows.any-gone (Syntax.tyRef Syntax.erased Syntax.mut ϱ),
+        ) (List._∷_ (
+          10,
+          Mut.mslice T (Syntax.tyRef Syntax.erased Syntax.mut ϱ) 7,
+        ) (List._∷_ (
+          11,
+          Rows.any-gone (Syntax.tyRef Syntax.erased Syntax.mut (Syntax.tyInt Syntax.w32)),
+        ) (List._∷_ (
+          12,
+          Mut.mslice (Referent.rtF (Referent.fInt Syntax.w32)) (Syntax.tyRef Syntax.erased Syntax.mut (Syntax.tyInt Syntax.w32)) 8,
+        ) (List._∷_ (
+          13,
+          Rows.any-gone (Syntax.tyRef Syntax.erased Syntax.mut (Syntax.tyInt Syntax.w32)),
+        ) (List._∷_ (
+          14,
+          Mut.mslice (Referent.rtF (Referent.fInt Syntax.w32)) (Syntax.tyRef Syntax.erased Syntax.mut (Syntax.tyInt Syntax.w32)) 9,
         ) List.[]))))))))))))))
 
         abbrev g8 : List.List Row.Entry
-        g8 = List._∷_ (0, Rows.any-gone (Syntax.tyInt Syntax.w32)) (List._∷_ ( 1, Relend.mslice-owed T τ 0 7 (Row.lease (κs .0) (qs .0)),
-        ) (List._∷_ ( 2, Rows.sslice (Referent.rtF (Referent.fInt Syntax.w8)) (Syntax.tyRef (Syntax.named 1) Syntax.imm (Syntax.tyInt Syntax.w8)) 1,
-        ) (List._∷_ ( 3, Relend.mslice-owed (Referent.rtF (Referent.fInt Syntax.w32)) (Syntax.tyRef (Syntax.named 2) Syntax.mut (Syntax.tyInt Syntax.w32)) 2 8 (Row.lease (κs .1 .1 .0) (qs .1 .1 .0)),
-        ) (List._∷_ ( 4, Relend.mslice-owed (Referent.rtF (Referent.fInt Syntax.w32)) (Syntax.tyRef (Syntax.named 3) Syntax.mut (Syntax.tyInt Syntax.w32)) 3 9 (Row.lease (κs .1 .1 .1 .0) (qs .1 .1 .1 .0)),
-        ) (List._∷_ ( 5, Rows.mref (Referent.rtF (Referent.fInt Syntax.w64)) (Syntax.tyRef (Syntax.named 4) Syntax.mut (Syntax.tyInt Syntax.w64)) 4,
-        ) (List._∷_ ( 6, Rows.mref (Referent.rtF (Referent.fInt Syntax.w64)) (Syntax.tyRef (Syntax.named 5) Syntax.mut (Syntax.tyInt Syntax.w64)) 5,
-        ) (List._∷_ ( 7, Rows.mref (Referent.rtF (Referent.fInt Syntax.w32)) (Syntax.tyRef (Syntax.named 6) Syntax.mut (Syntax.tyInt Syntax.w32)) 6,
-        ) (List._∷_ (8, Rows.whole (Declared.row Quote.the-type)) (List._∷_ ( 9, Rows.any-gone (Syntax.tyRef Syntax.erased Syntax.mut ϱ),
-        ) (List._∷_ ( 10, Mut.msleft T (Syntax.tyRef Syntax.erased Syntax.mut ϱ),
-        ) (List._∷_ ( 11, Rows.any-gone (Syntax.tyRef Syntax.erased Syntax.mut (Syntax.tyInt Syntax.w32)),
-        ) (List._∷_ ( 12, Mut.msleft (Referent.rtF (Referent.fInt Syntax.w32)) (Syntax.tyRef Syntax.erased Syntax.mut (Syntax.tyInt Syntax.w32)),
-        ) (List._∷_ ( 13, Rows.any-gone (Syntax.tyRef Syntax.erased Syntax.mut (Syntax.tyInt Syntax.w32)),
-        ) (List._∷_ ( 14, Mut.msleft (Referent.rtF (Referent.fInt Syntax.w32)) (Syntax.tyRef Syntax.erased Syntax.mut (Syntax.tyInt Syntax.w32)),
+        g8 = List._∷_ (0, Rows.any-gone (Syntax.tyInt Syntax.w32)) (List._∷_ (
+          1,
+          Relend.mslice-owed T τ 0 7 (Row.lease (κs .0) (qs .0)),
+        ) (List._∷_ (
+          2,
+          Rows.sslice (Referent.rtF (Referent.fInt Syntax.w8)) (Syntax.tyRef (Syntax.named 1) Syntax.imm (Syntax.tyInt Syntax.w8)) 1,
+        ) (List._∷_ (
+          3,
+          Relend.mslice-owed (Referent.rtF (Referent.fInt Syntax.w32)) (Syntax.tyRef (Syntax.named 2) Syntax.mut (Syntax.tyInt Syntax.w32)) 2 8 (Row.lease (κs .1 .1 .0) (qs .1 .1 .0)),
+        ) (List._∷_ (
+          4,
+          Relend.mslice-owed (Referent.rtF (Referent.fInt Syntax.w32)) (Syntax.tyRef (Syntax.named 3) Syntax.mut (Syntax.tyInt Syntax.w32)) 3 9 (Row.lease (κs .1 .1 .1 .0) (qs .1 .1 .1 .0)),
+        ) (List._∷_ (
+          5,
+          Rows.mref (Referent.rtF (Referent.fInt Syntax.w64)) (Syntax.tyRef (Syntax.named 4) Syntax.mut (Syntax.tyInt Syntax.w64)) 4,
+        ) (List._∷_ (
+          6,
+          Rows.mref (Referent.rtF (Referent.fInt Syntax.w64)) (Syntax.tyRef (Syntax.named 5) Syntax.mut (Syntax.tyInt Syntax.w64)) 5,
+        ) (List._∷_ (
+          7,
+          Rows.mref (Referent.rtF (Referent.fInt Syntax.w32)) (Syntax.tyRef (Syntax.named 6) Syntax.mut (Syntax.tyInt Syntax.w32)) 6,
+        ) (List._∷_ (8, Rows.whole (Declared.row Quote.the-type)) (List._∷_ (
+          9,
+          Rows.any-gone (Syntax.tyRef Syntax.erased Syntax.mut ϱ),
+        ) (List._∷_ (
+          10,
+          Mut.msleft T (Syntax.tyRef Syntax.erased Syntax.mut ϱ),
+        ) (List._∷_ (
+          11,
+          Rows.any-gone (Syntax.tyRef Syntax.erased Syntax.mut (Syntax.tyInt Syntax.w32)),
+        ) (List._∷_ (
+          12,
+          Mut.msleft (Referent.rtF (Referent.fInt Syntax.w32)) (Syntax.tyRef Syntax.erased Syntax.mut (Syntax.tyInt Syntax.w32)),
+        ) (List._∷_ (
+          13,
+          Rows.any-gone (Syntax.tyRef Syntax.erased Syntax.mut (Syntax.tyInt Syntax.w32)),
+        ) (List._∷_ (
+          14,
+          Mut.msleft (Referent.rtF (Referent.fInt Syntax.w32)) (Syntax.tyRef Syntax.erased Syntax.mut (Syntax.tyInt Syntax.w32)),
         ) List.[]))))))))))))))
 
         abbrev g9 : List.List Row.Entry
-        g9 = List._∷_ (0, Rows.any-gone (Syntax.tyInt Syntax.w32)) (List._∷_ ( 1, Mut.mslice T τ 0,
-        ) (List._∷_ ( 2, Rows.sslice (Referent.rtF (Referent.fInt Syntax.w8)) (Syntax.tyRef (Syntax.named 1) Syntax.imm (Syntax.tyInt Syntax.w8)) 1,
-        ) (List._∷_ ( 3, Relend.mslice-owed (Referent.rtF (Referent.fInt Syntax.w32)) (Syntax.tyRef (Syntax.named 2) Syntax.mut (Syntax.tyInt Syntax.w32)) 2 8 (Row.lease (κs .1 .1 .0) (qs .1 .1 .0)),
-        ) (List._∷_ ( 4, Relend.mslice-owed (Referent.rtF (Referent.fInt Syntax.w32)) (Syntax.tyRef (Syntax.named 3) Syntax.mut (Syntax.tyInt Syntax.w32)) 3 9 (Row.lease (κs .1 .1 .1 .0) (qs .1 .1 .1 .0)),
-        ) (List._∷_ ( 5, Rows.mref (Referent.rtF (Referent.fInt Syntax.w64)) (Syntax.tyRef (Syntax.named 4) Syntax.mut (Syntax.tyInt Syntax.w64)) 4,
-        ) (List._∷_ ( 6, Rows.mref (Referent.rtF (Referent.fInt Syntax.w64)) (Syntax.tyRef (Syntax.named 5) Syntax.mut (Syntax.tyInt Syntax.w64)) 5,
-        ) (List._∷_ ( 7, Rows.mref (Referent.rtF (Referent.fInt Syntax.w32)) (Syntax.tyRef (Syntax.named 6) Syntax.mut (Syntax.tyInt Syntax.w32)) 6,
-        ) (List._∷_ (8, Rows.whole (Declared.row Quote.the-type)) (List._∷_ ( 9, Rows.any-gone (Syntax.tyRef Syntax.erased Syntax.mut ϱ),
-        ) (List._∷_ ( 10, Rows.any-gone (Syntax.tyStruct (List._∷_ 38 (List._∷_ 91 (List._∷_ 93 List.[]))) (Syntax.tcons (Syntax.tyRef Syntax.erased Syntax.mut ϱ) (Syntax.tcons (Syntax.tyInt Syntax.w64) Syntax.tnil))),
-        ) (List._∷_ ( 11, Rows.any-gone (Syntax.tyRef Syntax.erased Syntax.mut (Syntax.tyInt Syntax.w32)),
-        ) (List._∷_ ( 12, Mut.msleft (Referent.rtF (Referent.fInt Syntax.w32)) (Syntax.tyRef Syntax.erased Syntax.mut (Syntax.tyInt Syntax.w32)),
-        ) (List._∷_ ( 13, Rows.any-gone (Syntax.tyRef Syntax.erased Syntax.mut (Syntax.tyInt Syntax.w32)),
-        ) (List._∷_ ( 14, Mut.msleft (Referent.rtF (Referent.fInt Syntax.w32)) (Syntax.tyRef Syntax.erased Syntax.mut (Syntax.tyInt Syntax.w32)),
+        g9 = List._∷_ (0, Rows.any-gone (Syntax.tyInt Syntax.w32)) (List._∷_ (
+          1,
+          Mut.mslice T τ 0,
+        ) (List._∷_ (
+          2,
+          Rows.sslice (Referent.rtF (Referent.fInt Syntax.w8)) (Syntax.tyRef (Syntax.named 1) Syntax.imm (Syntax.tyInt Syntax.w8)) 1,
+        ) (List._∷_ (
+          3,
+          Relend.mslice-owed (Referent.rtF (Referent.fInt Syntax.w32)) (Syntax.tyRef (Syntax.named 2) Syntax.mut (Syntax.tyInt Syntax.w32)) 2 8 (Row.lease (κs .1 .1 .0) (qs .1 .1 .0)),
+        ) (List._∷_ (
+          4,
+          Relend.mslice-owed (Referent.rtF (Referent.fInt Syntax.w32)) (Syntax.tyRef (Syntax.named 3) Syntax.mut (Syntax.tyInt Syntax.w32)) 3 9 (Row.lease (κs .1 .1 .1 .0) (qs .1 .1 .1 .0)),
+        ) (List._∷_ (
+          5,
+          Rows.mref (Referent.rtF (Referent.fInt Syntax.w64)) (Syntax.tyRef (Syntax.named 4) Syntax.mut (Syntax.tyInt Syntax.w64)) 4,
+        ) (List._∷_ (
+          6,
+          Rows.mref (Referent.rtF (Referent.fInt Syntax.w64)) (Syntax.tyRef (Syntax.named 5) Syntax.mut (Syntax.tyInt Syntax.w64)) 5,
+        ) (List._∷_ (
+          7,
+          Rows.mref (Referent.rtF (Referent.fInt Syntax.w32)) (Syntax.tyRef (Syntax.named 6) Syntax.mut (Syntax.tyInt Syntax.w32)) 6,
+        ) (List._∷_ (8, Rows.whole (Declared.row Quote.the-type)) (List._∷_ (
+          9,
+          Rows.any-gone (Syntax.tyRef Syntax.erased Syntax.mut ϱ),
+        ) (List._∷_ (
+          10,
+          Rows.any-gone (Syntax.tyStruct (List._∷_ 38 (List._∷_ 91 (List._∷_ 93 List.[]))) (Syntax.tcons (Syntax.tyRef Syntax.erased Syntax.mut ϱ) (Syntax.tcons (Syntax.tyInt Syntax.w64) Syntax.tnil))),
+        ) (List._∷_ (
+          11,
+          Rows.any-gone (Syntax.tyRef Syntax.erased Syntax.mut (Syntax.tyInt Syntax.w32)),
+        ) (List._∷_ (
+          12,
+          Mut.msleft (Referent.rtF (Referent.fInt Syntax.w32)) (Syntax.tyRef Syntax.erased Syntax.mut (Syntax.tyInt Syntax.w32)),
+        ) (List._∷_ (
+          13,
+          Rows.any-gone (Syntax.tyRef Syntax.erased Syntax.mut (Syntax.tyInt Syntax.w32)),
+        ) (List._∷_ (
+          14,
+          Mut.msleft (Referent.rtF (Referent.fInt Syntax.w32)) (Syntax.tyRef Syntax.erased Syntax.mut (Syntax.tyInt Syntax.w32)),
         ) List.[]))))))))))))))
 
         abbrev g10 : List.List Row.Entry
-        g10 = List._∷_ (0, Rows.any-gone (Syntax.tyInt Syntax.w32)) (List._∷_ ( 1, Mut.mslice T τ 0,
-        ) (List._∷_ ( 2, Rows.sslice (Referent.rtF (Referent.fInt Syntax.w8)) (Syntax.tyRef (Syntax.named 1) Syntax.imm (Syntax.tyInt Syntax.w8)) 1,
-        ) (List._∷_ ( 3, Mut.mslice (Referent.rtF (Referent.fInt Syntax.w32)) (Syntax.tyRef (Syntax.named 2) Syntax.mut (Syntax.tyInt Syntax.w32)) 2,
-        ) (List._∷_ ( 4, Relend.mslice-owed (Referent.rtF (Referent.fInt Syntax.w32)) (Syntax.tyRef (Syntax.named 3) Syntax.mut (Syntax.tyInt Syntax.w32)) 3 9 (Row.lease (κs .1 .1 .1 .0) (qs .1 .1 .1 .0)),
-        ) (List._∷_ ( 5, Rows.mref (Referent.rtF (Referent.fInt Syntax.w64)) (Syntax.tyRef (Syntax.named 4) Syntax.mut (Syntax.tyInt Syntax.w64)) 4,
-        ) (List._∷_ ( 6, Rows.mref (Referent.rtF (Referent.fInt Syntax.w64)) (Syntax.tyRef (Syntax.named 5) Syntax.mut (Syntax.tyInt Syntax.w64)) 5,
-        ) (List._∷_ ( 7, Rows.mref (Referent.rtF (Referent.fInt Syntax.w32)) (Syntax.tyRef (Syntax.named 6) Syntax.mut (Syntax.tyInt Syntax.w32)) 6,
-        ) (List._∷_ (8, Rows.whole (Declared.row Quote.the-type)) (List._∷_ ( 9, Rows.any-gone (Syntax.tyRef Syntax.erased Syntax.mut ϱ),
-        ) (List._∷_ ( 10, Rows.any-gone (Syntax.tyStruct (List._∷_ 38 (List._∷_ 91 (List._∷_ 93 List.[]))) (Syntax.tcons (Syntax.tyRef Syntax.erased Syntax.mut ϱ) (Syntax.tcons (Syntax.tyInt Syntax.w64) Syntax.tnil))),
-        ) (List._∷_ ( 11, Rows.any-gone (Syntax.tyRef Syntax.erased Syntax.mut (Syntax.tyInt Syntax.w32)),
-        ) (List._∷_ ( 12, Rows.any-gone (Syntax.tyStruct (List._∷_ 38 (List._∷_ 91 (List._∷_ 93 List.[]))) (Syntax.tcons (Syntax.tyRef Syntax.erased Syntax.mut (Syntax.tyInt Syntax.w32)) (Syntax.tcons (Syntax.tyInt Syntax.w64) Syntax.tnil))),
-        ) (List._∷_ ( 13, Rows.any-gone (Syntax.tyRef Syntax.erased Syntax.mut (Syntax.tyInt Syntax.w32)),
-        ) (List._∷_ ( 14, Mut.msleft (Referent.rtF (Referent.fInt Syntax.w32)) (Syntax.tyRef Syntax.erased Syntax.mut (Syntax.tyInt Syntax.w32)),
+        g10 = List._∷_ (0, Rows.any-gone (Syntax.tyInt Syntax.w32)) (List._∷_ (
+          1,
+          Mut.mslice T τ 0,
+        ) (List._∷_ (
+          2,
+          Rows.sslice (Referent.rtF (Referent.fInt Syntax.w8)) (Syntax.tyRef (Syntax.named 1) Syntax.imm (Syntax.tyInt Syntax.w8)) 1,
+        ) (List._∷_ (
+          3,
+          Mut.mslice (Referent.rtF (Referent.fInt Syntax.w32)) (Syntax.tyRef (Syntax.named 2) Syntax.mut (Syntax.tyInt Syntax.w32)) 2,
+        ) (List._∷_ (
+          4,
+          Relend.mslice-owed (Referent.rtF (Referent.fInt Syntax.w32)) (Syntax.tyRef (Syntax.named 3) Syntax.mut (Syntax.tyInt Syntax.w32)) 3 9 (Row.lease (κs .1 .1 .1 .0) (qs .1 .1 .1 .0)),
+        ) (List._∷_ (
+          5,
+          Rows.mref (Referent.rtF (Referent.fInt Syntax.w64)) (Syntax.tyRef (Syntax.named 4) Syntax.mut (Syntax.tyInt Syntax.w64)) 4,
+        ) (List._∷_ (
+          6,
+          Rows.mref (Referent.rtF (Referent.fInt Syntax.w64)) (Syntax.tyRef (Syntax.named 5) Syntax.mut (Syntax.tyInt Syntax.w64)) 5,
+        ) (List._∷_ (
+          7,
+          Rows.mref (Referent.rtF (Referent.fInt Syntax.w32)) (Syntax.tyRef (Syntax.named 6) Syntax.mut (Syntax.tyInt Syntax.w32)) 6,
+        ) (List._∷_ (8, Rows.whole (Declared.row Quote.the-type)) (List._∷_ (
+          9,
+          Rows.any-gone (Syntax.tyRef Syntax.erased Syntax.mut ϱ),
+        ) (List._∷_ (
+          10,
+          Rows.any-gone (Syntax.tyStruct (List._∷_ 38 (List._∷_ 91 (List._∷_ 93 List.[]))) (Syntax.tcons (Syntax.tyRef Syntax.erased Syntax.mut ϱ) (Syntax.tcons (Syntax.tyInt Syntax.w64) Syntax.tnil))),
+        ) (List._∷_ (
+          11,
+          Rows.any-gone (Syntax.tyRef Syntax.erased Syntax.mut (Syntax.tyInt Syntax.w32)),
+        ) (List._∷_ (
+          12,
+          Rows.any-gone (Syntax.tyStruct (List._∷_ 38 (List._∷_ 91 (List._∷_ 93 List.[]))) (Syntax.tcons (Syntax.tyRef Syntax.erased Syntax.mut (Syntax.tyInt Syntax.w32)) (Syntax.tcons (Syntax.tyInt Syntax.w64) Syntax.tnil))),
+        ) (List._∷_ (
+          13,
+          Rows.any-gone (Syntax.tyRef Syntax.erased Syntax.mut (Syntax.tyInt Syntax.w32)),
+        ) (List._∷_ (
+          14,
+          Mut.msleft (Referent.rtF (Referent.fInt Syntax.w32)) (Syntax.tyRef Syntax.erased Syntax.mut (Syntax.tyInt Syntax.w32)),
         ) List.[]))))))))))))))
 
         abbrev G0 : Row.Cx
-        G0 = record { locals = t0; slots = List._∷_ (Row.lease (κs .0) (qs .0)) (List._∷_ (Row.lease (κs .1 .0) (qs .1 .0)) (List._∷_ (Row.lease (κs .1 .1 .0) (qs .1 .1 .0)) (List._∷_ (Row.lease (κs .1 .1 .1 .0) (qs .1 .1 .1 .0)) (List._∷_ (Row.lease (κs .1 .1 .1 .1 .0) (qs .1 .1 .1 .1 .0)) (List._∷_ (Row.lease (κs .1 .1 .1 .1 .1 .0) (qs .1 .1 .1 .1 .1 .0)) (List._∷_ (Row.lease (κs .1 .1 .1 .1 .1 .1 .0) (qs .1 .1 .1 .1 .1 .1 .0)) (List._∷_ Row.off (List._∷_ Row.off (List._∷_ Row.off List.[]))))))))); }
+        G0 = record { locals = t0; slots = List._∷_ (Row.lease (κs .0) (qs .0)) (List._∷_ (Row.lease (κs .1 .0) (qs .1 .0)) (List._∷_ (Row.lease (κs .1 .1 .0) (qs .1 .1 .0)) (List._∷_ (Row.lease (κs .1 .1 .1 .0) (qs .1 .1 .1 .0)) (List._∷_ (Row.lease (κs .1 .1 .1 .1 .0) (qs .1 .1 .1 .1 .0)) (List._∷_ (Row.lease (κs .1 .1 .1 .1 .1 .0) (qs .1 .1 .1 .1 .1 .0)) (List._∷_ (Row.lease (κs .1 .1 .1 .1 .1 .1 .0) (qs .1 .1 .1 .1 .1 .1 .0)) (List._∷_ Row.off (List._∷_ Row.off (List._∷_ Row.off List.[]))))))))) }
 
         abbrev G1 : Row.Cx
-        G1 = record { locals = t1; slots = List._∷_ (Row.lease (κs .0) (qs .0)) (List._∷_ (Row.lease (κs .1 .0) (qs .1 .0)) (List._∷_ (Row.lease (κs .1 .1 .0) (qs .1 .1 .0)) (List._∷_ (Row.lease (κs .1 .1 .1 .0) (qs .1 .1 .1 .0)) (List._∷_ (Row.lease (κs .1 .1 .1 .1 .0) (qs .1 .1 .1 .1 .0)) (List._∷_ (Row.lease (κs .1 .1 .1 .1 .1 .0) (qs .1 .1 .1 .1 .1 .0)) (List._∷_ (Row.lease (κs .1 .1 .1 .1 .1 .1 .0) (qs .1 .1 .1 .1 .1 .1 .0)) (List._∷_ Row.off (List._∷_ Row.off (List._∷_ Row.off List.[]))))))))); }
+        G1 = record { locals = t1; slots = List._∷_ (Row.lease (κs .0) (qs .0)) (List._∷_ (Row.lease (κs .1 .0) (qs .1 .0)) (List._∷_ (Row.lease (κs .1 .1 .0) (qs .1 .1 .0)) (List._∷_ (Row.lease (κs .1 .1 .1 .0) (qs .1 .1 .1 .0)) (List._∷_ (Row.lease (κs .1 .1 .1 .1 .0) (qs .1 .1 .1 .1 .0)) (List._∷_ (Row.lease (κs .1 .1 .1 .1 .1 .0) (qs .1 .1 .1 .1 .1 .0)) (List._∷_ (Row.lease (κs .1 .1 .1 .1 .1 .1 .0) (qs .1 .1 .1 .1 .1 .1 .0)) (List._∷_ Row.off (List._∷_ Row.off (List._∷_ Row.off List.[]))))))))) }
 
         abbrev G2 : Row.Cx
-        G2 = record { locals = t0; slots = List._∷_ (Row.lease (κs .0) (qs .0)) (List._∷_ (Row.lease (κs .1 .0) (qs .1 .0)) (List._∷_ (Row.lease (κs .1 .1 .0) (qs .1 .1 .0)) (List._∷_ (Row.lease (κs .1 .1 .1 .0) (qs .1 .1 .1 .0)) (List._∷_ (Row.lease (κs .1 .1 .1 .1 .0) (qs .1 .1 .1 .1 .0)) (List._∷_ (Row.lease (κs .1 .1 .1 .1 .1 .0) (qs .1 .1 .1 .1 .1 .0)) (List._∷_ (Row.lease (κs .1 .1 .1 .1 .1 .1 .0) (qs .1 .1 .1 .1 .1 .1 .0)) (List._∷_ Row.off (List._∷_ Row.off (List._∷_ Row.off List.[]))))))))); }
+        G2 = record { locals = t0; slots = List._∷_ (Row.lease (κs .0) (qs .0)) (List._∷_ (Row.lease (κs .1 .0) (qs .1 .0)) (List._∷_ (Row.lease (κs .1 .1 .0) (qs .1 .1 .0)) (List._∷_ (Row.lease (κs .1 .1 .1 .0) (qs .1 .1 .1 .0)) (List._∷_ (Row.lease (κs .1 .1 .1 .1 .0) (qs .1 .1 .1 .1 .0)) (List._∷_ (Row.lease (κs .1 .1 .1 .1 .1 .0) (qs .1 .1 .1 .1 .1 .0)) (List._∷_ (Row.lease (κs .1 .1 .1 .1 .1 .1 .0) (qs .1 .1 .1 .1 .1 .1 .0)) (List._∷_ Row.off (List._∷_ Row.off (List._∷_ Row.off List.[]))))))))) }
 
         abbrev G3 : Row.Cx
-        G3 = record { locals = t0; slots = List._∷_ (Row.lease (κs .0) (qs .0)) (List._∷_ (Row.lease (κs .1 .0) (qs .1 .0)) (List._∷_ (Row.lease (κs .1 .1 .0) (qs .1 .1 .0)) (List._∷_ (Row.lease (κs .1 .1 .1 .0) (qs .1 .1 .1 .0)) (List._∷_ (Row.lease (κs .1 .1 .1 .1 .0) (qs .1 .1 .1 .1 .0)) (List._∷_ (Row.lease (κs .1 .1 .1 .1 .1 .0) (qs .1 .1 .1 .1 .1 .0)) (List._∷_ (Row.lease (κs .1 .1 .1 .1 .1 .1 .0) (qs .1 .1 .1 .1 .1 .1 .0)) (List._∷_ Row.off (List._∷_ Row.off (List._∷_ Row.off List.[]))))))))); }
+        G3 = record { locals = t0; slots = List._∷_ (Row.lease (κs .0) (qs .0)) (List._∷_ (Row.lease (κs .1 .0) (qs .1 .0)) (List._∷_ (Row.lease (κs .1 .1 .0) (qs .1 .1 .0)) (List._∷_ (Row.lease (κs .1 .1 .1 .0) (qs .1 .1 .1 .0)) (List._∷_ (Row.lease (κs .1 .1 .1 .1 .0) (qs .1 .1 .1 .1 .0)) (List._∷_ (Row.lease (κs .1 .1 .1 .1 .1 .0) (qs .1 .1 .1 .1 .1 .0)) (List._∷_ (Row.lease (κs .1 .1 .1 .1 .1 .1 .0) (qs .1 .1 .1 .1 .1 .1 .0)) (List._∷_ Row.off (List._∷_ Row.off (List._∷_ Row.off List.[]))))))))) }
 
         abbrev G4 : Row.Cx
-        G4 = record { locals = t0; slots = List._∷_ (Row.lease (κs .0) (qs .0)) (List._∷_ (Row.lease (κs .1 .0) (qs .1 .0)) (List._∷_ (Row.lease (κs .1 .1 .0) (qs .1 .1 .0)) (List._∷_ (Row.lease (κs .1 .1 .1 .0) (qs .1 .1 .1 .0)) (List._∷_ (Row.lease (κs .1 .1 .1 .1 .0) (qs .1 .1 .1 .1 .0)) (List._∷_ (Row.lease (κs .1 .1 .1 .1 .1 .0) (qs .1 .1 .1 .1 .1 .0)) (List._∷_ (Row.lease (κs .1 .1 .1 .1 .1 .1 .0) (qs .1 .1 .1 .1 .1 .1 .0)) (List._∷_ Row.off (List._∷_ Row.off (List._∷_ Row.off List.[]))))))))); }
+        G4 = record { locals = t0; slots = List._∷_ (Row.lease (κs .0) (qs .0)) (List._∷_ (Row.lease (κs .1 .0) (qs .1 .0)) (List._∷_ (Row.lease (κs .1 .1 .0) (qs .1 .1 .0)) (List._∷_ (Row.lease (κs .1 .1 .1 .0) (qs .1 .1 .1 .0)) (List._∷_ (Row.lease (κs .1 .1 .1 .1 .0) (qs .1 .1 .1 .1 .0)) (List._∷_ (Row.lease (κs .1 .1 .1 .1 .1 .0) (qs .1 .1 .1 .1 .1 .0)) (List._∷_ (Row.lease (κs .1 .1 .1 .1 .1 .1 .0) (qs .1 .1 .1 .1 .1 .1 .0)) (List._∷_ Row.off (List._∷_ Row.off (List._∷_ Row.off List.[]))))))))) }
 
         abbrev G5 : Row.Cx
-        G5 = record { locals = t0; slots = List._∷_ (Row.lease (κs .0) (qs .0)) (List._∷_ (Row.lease (κs .1 .0) (qs .1 .0)) (List._∷_ (Row.lease (κs .1 .1 .0) (qs .1 .1 .0)) (List._∷_ (Row.lease (κs .1 .1 .1 .0) (qs .1 .1 .1 .0)) (List._∷_ (Row.lease (κs .1 .1 .1 .1 .0) (qs .1 .1 .1 .1 .0)) (List._∷_ (Row.lease (κs .1 .1 .1 .1 .1 .0) (qs .1 .1 .1 .1 .1 .0)) (List._∷_ (Row.lease (κs .1 .1 .1 .1 .1 .1 .0) (qs .1 .1 .1 .1 .1 .1 .0)) (List._∷_ Row.alive (List._∷_ Row.off (List._∷_ Row.off List.[]))))))))); }
+        G5 = record { locals = t0; slots = List._∷_ (Row.lease (κs .0) (qs .0)) (List._∷_ (Row.lease (κs .1 .0) (qs .1 .0)) (List._∷_ (Row.lease (κs .1 .1 .0) (qs .1 .1 .0)) (List._∷_ (Row.lease (κs .1 .1 .1 .0) (qs .1 .1 .1 .0)) (List._∷_ (Row.lease (κs .1 .1 .1 .1 .0) (qs .1 .1 .1 .1 .0)) (List._∷_ (Row.lease (κs .1 .1 .1 .1 .1 .0) (qs .1 .1 .1 .1 .1 .0)) (List._∷_ (Row.lease (κs .1 .1 .1 .1 .1 .1 .0) (qs .1 .1 .1 .1 .1 .1 .0)) (List._∷_ Row.alive (List._∷_ Row.off (List._∷_ Row.off List.[]))))))))) }
 
         abbrev G6 : Row.Cx
-        G6 = record { locals = g2; slots = List._∷_ Row.off (List._∷_ (Row.lease (κs .1 .0) (qs .1 .0)) (List._∷_ (Row.lease (κs .1 .1 .0) (qs .1 .1 .0)) (List._∷_ (Row.lease (κs .1 .1 .1 .0) (qs .1 .1 .1 .0)) (List._∷_ (Row.lease (κs .1 .1 .1 .1 .0) (qs .1 .1 .1 .1 .0)) (List._∷_ (Row.lease (κs .1 .1 .1 .1 .1 .0) (qs .1 .1 .1 .1 .1 .0)) (List._∷_ (Row.lease (κs .1 .1 .1 .1 .1 .1 .0) (qs .1 .1 .1 .1 .1 .1 .0)) (List._∷_ Row.alive (List._∷_ Row.off (List._∷_ Row.off List.[]))))))))); }
+        G6 = record { locals = g2; slots = List._∷_ Row.off (List._∷_ (Row.lease (κs .1 .0) (qs .1 .0)) (List._∷_ (Row.lease (κs .1 .1 .0) (qs .1 .1 .0)) (List._∷_ (Row.lease (κs .1 .1 .1 .0) (qs .1 .1 .1 .0)) (List._∷_ (Row.lease (κs .1 .1 .1 .1 .0) (qs .1 .1 .1 .1 .0)) (List._∷_ (Row.lease (κs .1 .1 .1 .1 .1 .0) (qs .1 .1 .1 .1 .1 .0)) (List._∷_ (Row.lease (κs .1 .1 .1 .1 .1 .1 .0) (qs .1 .1 .1 .1 .1 .1 .0)) (List._∷_ Row.alive (List._∷_ Row.off (List._∷_ Row.off List.[]))))))))) }
 
         abbrev G7 : Row.Cx
-        G7 = record { locals = g3; slots = List._∷_ Row.off (List._∷_ (Row.lease (κs .1 .0) (qs .1 .0)) (List._∷_ (Row.lease (κs .1 .1 .0) (qs .1 .1 .0)) (List._∷_ (Row.lease (κs .1 .1 .1 .0) (qs .1 .1 .1 .0)) (List._∷_ (Row.lease (κs .1 .1 .1 .1 .0) (qs .1 .1 .1 .1 .0)) (List._∷_ (Row.lease (κs .1 .1 .1 .1 .1 .0) (qs .1 .1 .1 .1 .1 .0)) (List._∷_ (Row.lease (κs .1 .1 .1 .1 .1 .1 .0) (qs .1 .1 .1 .1 .1 .1 .0)) (List._∷_ Row.alive (List._∷_ Row.off (List._∷_ Row.off List.[]))))))))); }
+        G7 = record { locals = g3; slots = List._∷_ Row.off (List._∷_ (Row.lease (κs .1 .0) (qs .1 .0)) (List._∷_ (Row.lease (κs .1 .1 .0) (qs .1 .1 .0)) (List._∷_ (Row.lease (κs .1 .1 .1 .0) (qs .1 .1 .1 .0)) (List._∷_ (Row.lease (κs .1 .1 .1 .1 .0) (qs .1 .1 .1 .1 .0)) (List._∷_ (Row.lease (κs .1 .1 .1 .1 .1 .0) (qs .1 .1 .1 .1 .1 .0)) (List._∷_ (Row.lease (κs .1 .1 .1 .1 .1 .1 .0) (qs .1 .1 .1 .1 .1 .1 .0)) (List._∷_ Row.alive (List._∷_ Row.off (List._∷_ Row.off List.[]))))))))) }
 
         abbrev G8 : Row.Cx
-        G8 = record { locals = g3; slots = List._∷_ Row.off (List._∷_ (Row.lease (κs .1 .0) (qs .1 .0)) (List._∷_ (Row.lease (κs .1 .1 .0) (qs .1 .1 .0)) (List._∷_ (Row.lease (κs .1 .1 .1 .0) (qs .1 .1 .1 .0)) (List._∷_ (Row.lease (κs .1 .1 .1 .1 .0) (qs .1 .1 .1 .1 .0)) (List._∷_ (Row.lease (κs .1 .1 .1 .1 .1 .0) (qs .1 .1 .1 .1 .1 .0)) (List._∷_ (Row.lease (κs .1 .1 .1 .1 .1 .1 .0) (qs .1 .1 .1 .1 .1 .1 .0)) (List._∷_ Row.alive (List._∷_ Row.alive (List._∷_ Row.off List.[]))))))))); }
+        G8 = record { locals = g3; slots = List._∷_ Row.off (List._∷_ (Row.lease (κs .1 .0) (qs .1 .0)) (List._∷_ (Row.lease (κs .1 .1 .0) (qs .1 .1 .0)) (List._∷_ (Row.lease (κs .1 .1 .1 .0) (qs .1 .1 .1 .0)) (List._∷_ (Row.lease (κs .1 .1 .1 .1 .0) (qs .1 .1 .1 .1 .0)) (List._∷_ (Row.lease (κs .1 .1 .1 .1 .1 .0) (qs .1 .1 .1 .1 .1 .0)) (List._∷_ (Row.lease (κs .1 .1 .1 .1 .1 .1 .0) (qs .1 .1 .1 .1 .1 .1 .0)) (List._∷_ Row.alive (List._∷_ Row.alive (List._∷_ Row.off List.[]))))))))) }
 
         abbrev G9 : Row.Cx
-        G9 = record { locals = g4; slots = List._∷_ Row.off (List._∷_ (Row.lease (κs .1 .0) (qs .1 .0)) (List._∷_ Row.off (List._∷_ (Row.lease (κs .1 .1 .1 .0) (qs .1 .1 .1 .0)) (List._∷_ (Row.lease (κs .1 .1 .1 .1 .0) (qs .1 .1 .1 .1 .0)) (List._∷_ (Row.lease (κs .1 .1 .1 .1 .1 .0) (qs .1 .1 .1 .1 .1 .0)) (List._∷_ (Row.lease (κs .1 .1 .1 .1 .1 .1 .0) (qs .1 .1 .1 .1 .1 .1 .0)) (List._∷_ Row.alive (List._∷_ Row.alive (List._∷_ Row.off List.[]))))))))); }
+        G9 = record { locals = g4; slots = List._∷_ Row.off (List._∷_ (Row.lease (κs .1 .0) (qs .1 .0)) (List._∷_ Row.off (List._∷_ (Row.lease (κs .1 .1 .1 .0) (qs .1 .1 .1 .0)) (List._∷_ (Row.lease (κs .1 .1 .1 .1 .0) (qs .1 .1 .1 .1 .0)) (List._∷_ (Row.lease (κs .1 .1 .1 .1 .1 .0) (qs .1 .1 .1 .1 .1 .0)) (List._∷_ (Row.lease (κs .1 .1 .1 .1 .1 .1 .0) (qs .1 .1 .1 .1 .1 .1 .0)) (List._∷_ Row.alive (List._∷_ Row.alive (List._∷_ Row.off List.[]))))))))) }
 
         abbrev G10 : Row.Cx
-        G10 = record { locals = g5; slots = List._∷_ Row.off (List._∷_ (Row.lease (κs .1 .0) (qs .1 .0)) (List._∷_ Row.off (List._∷_ (Row.lease (κs .1 .1 .1 .0) (qs .1 .1 .1 .0)) (List._∷_ (Row.lease (κs .1 .1 .1 .1 .0) (qs .1 .1 .1 .1 .0)) (List._∷_ (Row.lease (κs .1 .1 .1 .1 .1 .0) (qs .1 .1 .1 .1 .1 .0)) (List._∷_ (Row.lease (κs .1 .1 .1 .1 .1 .1 .0) (qs .1 .1 .1 .1 .1 .1 .0)) (List._∷_ Row.alive (List._∷_ Row.alive (List._∷_ Row.off List.[]))))))))); }
+        G10 = record { locals = g5; slots = List._∷_ Row.off (List._∷_ (Row.lease (κs .1 .0) (qs .1 .0)) (List._∷_ Row.off (List._∷_ (Row.lease (κs .1 .1 .1 .0) (qs .1 .1 .1 .0)) (List._∷_ (Row.lease (κs .1 .1 .1 .1 .0) (qs .1 .1 .1 .1 .0)) (List._∷_ (Row.lease (κs .1 .1 .1 .1 .1 .0) (qs .1 .1 .1 .1 .1 .0)) (List._∷_ (Row.lease (κs .1 .1 .1 .1 .1 .1 .0) (qs .1 .1 .1 .1 .1 .1 .0)) (List._∷_ Row.alive (List._∷_ Row.alive (List._∷_ Row.off List.[]))))))))) }
 
         abbrev G11 : Row.Cx
-        G11 = record { locals = g5; slots = List._∷_ Row.off (List._∷_ (Row.lease (κs .1 .0) (qs .1 .0)) (List._∷_ Row.off (List._∷_ (Row.lease (κs .1 .1 .1 .0) (qs .1 .1 .1 .0)) (List._∷_ (Row.lease (κs .1 .1 .1 .1 .0) (qs .1 .1 .1 .1 .0)) (List._∷_ (Row.lease (κs .1 .1 .1 .1 .1 .0) (qs .1 .1 .1 .1 .1 .0)) (List._∷_ (Row.lease (κs .1 .1 .1 .1 .1 .1 .0) (qs .1 .1 .1 .1 .1 .1 .0)) (List._∷_ Row.alive (List._∷_ Row.alive (List._∷_ Row.alive List.[]))))))))); }
+        G11 = record { locals = g5; slots = List._∷_ Row.off (List._∷_ (Row.lease (κs .1 .0) (qs .1 .0)) (List._∷_ Row.off (List._∷_ (Row.lease (κs .1 .1 .1 .0) (qs .1 .1 .1 .0)) (List._∷_ (Row.lease (κs .1 .1 .1 .1 .0) (qs .1 .1 .1 .1 .0)) (List._∷_ (Row.lease (κs .1 .1 .1 .1 .1 .0) (qs .1 .1 .1 .1 .1 .0)) (List._∷_ (Row.lease (κs .1 .1 .1 .1 .1 .1 .0) (qs .1 .1 .1 .1 .1 .1 .0)) (List._∷_ Row.alive (List._∷_ Row.alive (List._∷_ Row.alive List.[]))))))))) }
 
         abbrev G12 : Row.Cx
-        G12 = record { locals = g6; slots = List._∷_ Row.off (List._∷_ (Row.lease (κs .1 .0) (qs .1 .0)) (List._∷_ Row.off (List._∷_ Row.off (List._∷_ (Row.lease (κs .1 .1 .1 .1 .0) (qs .1 .1 .1 .1 .0)) (List._∷_ (Row.lease (κs .1 .1 .1 .1 .1 .0) (qs .1 .1 .1 .1 .1 .0)) (List._∷_ (Row.lease (κs .1 .1 .1 .1 .1 .1 .0) (qs .1 .1 .1 .1 .1 .1 .0)) (List._∷_ Row.alive (List._∷_ Row.alive (List._∷_ Row.alive List.[]))))))))); }
+        G12 = record { locals = g6; slots = List._∷_ Row.off (List._∷_ (Row.lease (κs .1 .0) (qs .1 .0)) (List._∷_ Row.off (List._∷_ Row.off (List._∷_ (Row.lease (κs .1 .1 .1 .1 .0) (qs .1 .1 .1 .1 .0)) (List._∷_ (Row.lease (κs .1 .1 .1 .1 .1 .0) (qs .1 .1 .1 .1 .1 .0)) (List._∷_ (Row.lease (κs .1 .1 .1 .1 .1 .1 .0) (qs .1 .1 .1 .1 .1 .1 .0)) (List._∷_ Row.alive (List._∷_ Row.alive (List._∷_ Row.alive List.[]))))))))) }
 
         abbrev G13 : Row.Cx
-        G13 = record { locals = g7; slots = List._∷_ Row.off (List._∷_ (Row.lease (κs .1 .0) (qs .1 .0)) (List._∷_ Row.off (List._∷_ Row.off (List._∷_ (Row.lease (κs .1 .1 .1 .1 .0) (qs .1 .1 .1 .1 .0)) (List._∷_ (Row.lease (κs .1 .1 .1 .1 .1 .0) (qs .1 .1 .1 .1 .1 .0)) (List._∷_ (Row.lease (κs .1 .1 .1 .1 .1 .1 .0) (qs .1 .1 .1 .1 .1 .1 .0)) (List._∷_ Row.alive (List._∷_ Row.alive (List._∷_ Row.alive List.[]))))))))); }
+        G13 = record { locals = g7; slots = List._∷_ Row.off (List._∷_ (Row.lease (κs .1 .0) (qs .1 .0)) (List._∷_ Row.off (List._∷_ Row.off (List._∷_ (Row.lease (κs .1 .1 .1 .1 .0) (qs .1 .1 .1 .1 .0)) (List._∷_ (Row.lease (κs .1 .1 .1 .1 .1 .0) (qs .1 .1 .1 .1 .1 .0)) (List._∷_ (Row.lease (κs .1 .1 .1 .1 .1 .1 .0) (qs .1 .1 .1 .1 .1 .1 .0)) (List._∷_ Row.alive (List._∷_ Row.alive (List._∷_ Row.alive List.[]))))))))) }
 
         abbrev G14 : Row.Cx
-        G14 = record { locals = g8; slots = List._∷_ Row.off (List._∷_ (Row.lease (κs .1 .0) (qs .1 .0)) (List._∷_ Row.off (List._∷_ Row.off (List._∷_ (Row.lease (κs .1 .1 .1 .1 .0) (qs .1 .1 .1 .1 .0)) (List._∷_ (Row.lease (κs .1 .1 .1 .1 .1 .0) (qs .1 .1 .1 .1 .1 .0)) (List._∷_ (Row.lease (κs .1 .1 .1 .1 .1 .1 .0) (qs .1 .1 .1 .1 .1 .1 .0)) (List._∷_ Row.alive (List._∷_ Row.alive (List._∷_ Row.alive List.[]))))))))); }
+        G14 = record { locals = g8; slots = List._∷_ Row.off (List._∷_ (Row.lease (κs .1 .0) (qs .1 .0)) (List._∷_ Row.off (List._∷_ Row.off (List._∷_ (Row.lease (κs .1 .1 .1 .1 .0) (qs .1 .1 .1 .1 .0)) (List._∷_ (Row.lease (κs .1 .1 .1 .1 .1 .0) (qs .1 .1 .1 .1 .1 .0)) (List._∷_ (Row.lease (κs .1 .1 .1 .1 .1 .1 .0) (qs .1 .1 .1 .1 .1 .1 .0)) (List._∷_ Row.alive (List._∷_ Row.alive (List._∷_ Row.alive List.[]))))))))) }
 
         abbrev G15 : Row.Cx
-        G15 = record { locals = g8; slots = List._∷_ Row.off (List._∷_ (Row.lease (κs .1 .0) (qs .1 .0)) (List._∷_ Row.off (List._∷_ Row.off (List._∷_ (Row.lease (κs .1 .1 .1 .1 .0) (qs .1 .1 .1 .1 .0)) (List._∷_ (Row.lease (κs .1 .1 .1 .1 .1 .0) (qs .1 .1 .1 .1 .1 .0)) (List._∷_ (Row.lease (κs .1 .1 .1 .1 .1 .1 .0) (qs .1 .1 .1 .1 .1 .1 .0)) (List._∷_ Row.dead (List._∷_ Row.alive (List._∷_ Row.alive List.[]))))))))); }
+        G15 = record { locals = g8; slots = List._∷_ Row.off (List._∷_ (Row.lease (κs .1 .0) (qs .1 .0)) (List._∷_ Row.off (List._∷_ Row.off (List._∷_ (Row.lease (κs .1 .1 .1 .1 .0) (qs .1 .1 .1 .1 .0)) (List._∷_ (Row.lease (κs .1 .1 .1 .1 .1 .0) (qs .1 .1 .1 .1 .1 .0)) (List._∷_ (Row.lease (κs .1 .1 .1 .1 .1 .1 .0) (qs .1 .1 .1 .1 .1 .1 .0)) (List._∷_ Row.dead (List._∷_ Row.alive (List._∷_ Row.alive List.[]))))))))) }
 
         abbrev G16 : Row.Cx
-        G16 = record { locals = g9; slots = List._∷_ (Row.lease (κs .0) (qs .0)) (List._∷_ (Row.lease (κs .1 .0) (qs .1 .0)) (List._∷_ Row.off (List._∷_ Row.off (List._∷_ (Row.lease (κs .1 .1 .1 .1 .0) (qs .1 .1 .1 .1 .0)) (List._∷_ (Row.lease (κs .1 .1 .1 .1 .1 .0) (qs .1 .1 .1 .1 .1 .0)) (List._∷_ (Row.lease (κs .1 .1 .1 .1 .1 .1 .0) (qs .1 .1 .1 .1 .1 .1 .0)) (List._∷_ Row.dead (List._∷_ Row.alive (List._∷_ Row.alive List.[]))))))))); }
+        G16 = record { locals = g9; slots = List._∷_ (Row.lease (κs .0) (qs .0)) (List._∷_ (Row.lease (κs .1 .0) (qs .1 .0)) (List._∷_ Row.off (List._∷_ Row.off (List._∷_ (Row.lease (κs .1 .1 .1 .1 .0) (qs .1 .1 .1 .1 .0)) (List._∷_ (Row.lease (κs .1 .1 .1 .1 .1 .0) (qs .1 .1 .1 .1 .1 .0)) (List._∷_ (Row.lease (κs .1 .1 .1 .1 .1 .1 .0) (qs .1 .1 .1 .1 .1 .1 .0)) (List._∷_ Row.dead (List._∷_ Row.alive (List._∷_ Row.alive List.[]))))))))) }
 
         abbrev G17 : Row.Cx
-        G17 = record { locals = g9; slots = List._∷_ (Row.lease (κs .0) (qs .0)) (List._∷_ (Row.lease (κs .1 .0) (qs .1 .0)) (List._∷_ Row.off (List._∷_ Row.off (List._∷_ (Row.lease (κs .1 .1 .1 .1 .0) (qs .1 .1 .1 .1 .0)) (List._∷_ (Row.lease (κs .1 .1 .1 .1 .1 .0) (qs .1 .1 .1 .1 .1 .0)) (List._∷_ (Row.lease (κs .1 .1 .1 .1 .1 .1 .0) (qs .1 .1 .1 .1 .1 .1 .0)) (List._∷_ Row.off (List._∷_ Row.alive (List._∷_ Row.alive List.[]))))))))); }
+        G17 = record { locals = g9; slots = List._∷_ (Row.lease (κs .0) (qs .0)) (List._∷_ (Row.lease (κs .1 .0) (qs .1 .0)) (List._∷_ Row.off (List._∷_ Row.off (List._∷_ (Row.lease (κs .1 .1 .1 .1 .0) (qs .1 .1 .1 .1 .0)) (List._∷_ (Row.lease (κs .1 .1 .1 .1 .1 .0) (qs .1 .1 .1 .1 .1 .0)) (List._∷_ (Row.lease (κs .1 .1 .1 .1 .1 .1 .0) (qs .1 .1 .1 .1 .1 .1 .0)) (List._∷_ Row.off (List._∷_ Row.alive (List._∷_ Row.alive List.[]))))))))) }
 
         abbrev G18 : Row.Cx
-        G18 = record { locals = g9; slots = List._∷_ (Row.lease (κs .0) (qs .0)) (List._∷_ (Row.lease (κs .1 .0) (qs .1 .0)) (List._∷_ Row.off (List._∷_ Row.off (List._∷_ (Row.lease (κs .1 .1 .1 .1 .0) (qs .1 .1 .1 .1 .0)) (List._∷_ (Row.lease (κs .1 .1 .1 .1 .1 .0) (qs .1 .1 .1 .1 .1 .0)) (List._∷_ (Row.lease (κs .1 .1 .1 .1 .1 .1 .0) (qs .1 .1 .1 .1 .1 .1 .0)) (List._∷_ Row.off (List._∷_ Row.dead (List._∷_ Row.alive List.[]))))))))); }
+        G18 = record { locals = g9; slots = List._∷_ (Row.lease (κs .0) (qs .0)) (List._∷_ (Row.lease (κs .1 .0) (qs .1 .0)) (List._∷_ Row.off (List._∷_ Row.off (List._∷_ (Row.lease (κs .1 .1 .1 .1 .0) (qs .1 .1 .1 .1 .0)) (List._∷_ (Row.lease (κs .1 .1 .1 .1 .1 .0) (qs .1 .1 .1 .1 .1 .0)) (List._∷_ (Row.lease (κs .1 .1 .1 .1 .1 .1 .0) (qs .1 .1 .1 .1 .1 .1 .0)) (List._∷_ Row.off (List._∷_ Row.dead (List._∷_ Row.alive List.[]))))))))) }
 
         abbrev G19 : Row.Cx
-        G19 = record { locals = g10; slots = List._∷_ (Row.lease (κs .0) (qs .0)) (List._∷_ (Row.lease (κs .1 .0) (qs .1 .0)) (List._∷_ (Row.lease (κs .1 .1 .0) (qs .1 .1 .0)) (List._∷_ Row.off (List._∷_ (Row.lease (κs .1 .1 .1 .1 .0) (qs .1 .1 .1 .1 .0)) (List._∷_ (Row.lease (κs .1 .1 .1 .1 .1 .0) (qs .1 .1 .1 .1 .1 .0)) (List._∷_ (Row.lease (κs .1 .1 .1 .1 .1 .1 .0) (qs .1 .1 .1 .1 .1 .1 .0)) (List._∷_ Row.off (List._∷_ Row.dead (List._∷_ Row.alive List.[]))))))))); }
+        G19 = record { locals = g10; slots = List._∷_ (Row.lease (κs .0) (qs .0)) (List._∷_ (Row.lease (κs .1 .0) (qs .1 .0)) (List._∷_ (Row.lease (κs .1 .1 .0) (qs .1 .1 .0)) (List._∷_ Row.off (List._∷_ (Row.lease (κs .1 .1 .1 .1 .0) (qs .1 .1 .1 .1 .0)) (List._∷_ (Row.lease (κs .1 .1 .1 .1 .1 .0) (qs .1 .1 .1 .1 .1 .0)) (List._∷_ (Row.lease (κs .1 .1 .1 .1 .1 .1 .0) (qs .1 .1 .1 .1 .1 .1 .0)) (List._∷_ Row.off (List._∷_ Row.dead (List._∷_ Row.alive List.[]))))))))) }
 
         abbrev G20 : Row.Cx
-        G20 = record { locals = g10; slots = List._∷_ (Row.lease (κs .0) (qs .0)) (List._∷_ (Row.lease (κs .1 .0) (qs .1 .0)) (List._∷_ (Row.lease (κs .1 .1 .0) (qs .1 .1 .0)) (List._∷_ Row.off (List._∷_ (Row.lease (κs .1 .1 .1 .1 .0) (qs .1 .1 .1 .1 .0)) (List._∷_ (Row.lease (κs .1 .1 .1 .1 .1 .0) (qs .1 .1 .1 .1 .1 .0)) (List._∷_ (Row.lease (κs .1 .1 .1 .1 .1 .1 .0) (qs .1 .1 .1 .1 .1 .1 .0)) (List._∷_ Row.off (List._∷_ Row.dead (List._∷_ Row.alive List.[]))))))))); }
+        G20 = record { locals = g10; slots = List._∷_ (Row.lease (κs .0) (qs .0)) (List._∷_ (Row.lease (κs .1 .0) (qs .1 .0)) (List._∷_ (Row.lease (κs .1 .1 .0) (qs .1 .1 .0)) (List._∷_ Row.off (List._∷_ (Row.lease (κs .1 .1 .1 .1 .0) (qs .1 .1 .1 .1 .0)) (List._∷_ (Row.lease (κs .1 .1 .1 .1 .1 .0) (qs .1 .1 .1 .1 .1 .0)) (List._∷_ (Row.lease (κs .1 .1 .1 .1 .1 .1 .0) (qs .1 .1 .1 .1 .1 .1 .0)) (List._∷_ Row.off (List._∷_ Row.dead (List._∷_ Row.alive List.[]))))))))) }
 
         abbrev G21 : Row.Cx
-        G21 = record { locals = g10; slots = List._∷_ (Row.lease (κs .0) (qs .0)) (List._∷_ (Row.lease (κs .1 .0) (qs .1 .0)) (List._∷_ (Row.lease (κs .1 .1 .0) (qs .1 .1 .0)) (List._∷_ Row.off (List._∷_ (Row.lease (κs .1 .1 .1 .1 .0) (qs .1 .1 .1 .1 .0)) (List._∷_ (Row.lease (κs .1 .1 .1 .1 .1 .0) (qs .1 .1 .1 .1 .1 .0)) (List._∷_ (Row.lease (κs .1 .1 .1 .1 .1 .1 .0) (qs .1 .1 .1 .1 .1 .1 .0)) (List._∷_ Row.off (List._∷_ Row.off (List._∷_ Row.alive List.[]))))))))); }
+        G21 = record { locals = g10; slots = List._∷_ (Row.lease (κs .0) (qs .0)) (List._∷_ (Row.lease (κs .1 .0) (qs .1 .0)) (List._∷_ (Row.lease (κs .1 .1 .0) (qs .1 .1 .0)) (List._∷_ Row.off (List._∷_ (Row.lease (κs .1 .1 .1 .1 .0) (qs .1 .1 .1 .1 .0)) (List._∷_ (Row.lease (κs .1 .1 .1 .1 .1 .0) (qs .1 .1 .1 .1 .1 .0)) (List._∷_ (Row.lease (κs .1 .1 .1 .1 .1 .1 .0) (qs .1 .1 .1 .1 .1 .1 .0)) (List._∷_ Row.off (List._∷_ Row.off (List._∷_ Row.alive List.[]))))))))) }
 
         abbrev G22 : Row.Cx
-        G22 = record { locals = g10; slots = List._∷_ (Row.lease (κs .0) (qs .0)) (List._∷_ (Row.lease (κs .1 .0) (qs .1 .0)) (List._∷_ (Row.lease (κs .1 .1 .0) (qs .1 .1 .0)) (List._∷_ Row.off (List._∷_ (Row.lease (κs .1 .1 .1 .1 .0) (qs .1 .1 .1 .1 .0)) (List._∷_ (Row.lease (κs .1 .1 .1 .1 .1 .0) (qs .1 .1 .1 .1 .1 .0)) (List._∷_ (Row.lease (κs .1 .1 .1 .1 .1 .1 .0) (qs .1 .1 .1 .1 .1 .1 .0)) (List._∷_ Row.off (List._∷_ Row.off (List._∷_ Row.dead List.[]))))))))); }
+        G22 = record { locals = g10; slots = List._∷_ (Row.lease (κs .0) (qs .0)) (List._∷_ (Row.lease (κs .1 .0) (qs .1 .0)) (List._∷_ (Row.lease (κs .1 .1 .0) (qs .1 .1 .0)) (List._∷_ Row.off (List._∷_ (Row.lease (κs .1 .1 .1 .1 .0) (qs .1 .1 .1 .1 .0)) (List._∷_ (Row.lease (κs .1 .1 .1 .1 .1 .0) (qs .1 .1 .1 .1 .1 .0)) (List._∷_ (Row.lease (κs .1 .1 .1 .1 .1 .1 .0) (qs .1 .1 .1 .1 .1 .1 .0)) (List._∷_ Row.off (List._∷_ Row.off (List._∷_ Row.dead List.[]))))))))) }
 
         abbrev G23 : Row.Cx
-        G23 = record { locals = t11; slots = List._∷_ (Row.lease (κs .0) (qs .0)) (List._∷_ (Row.lease (κs .1 .0) (qs .1 .0)) (List._∷_ (Row.lease (κs .1 .1 .0) (qs .1 .1 .0)) (List._∷_ (Row.lease (κs .1 .1 .1 .0) (qs .1 .1 .1 .0)) (List._∷_ (Row.lease (κs .1 .1 .1 .1 .0) (qs .1 .1 .1 .1 .0)) (List._∷_ (Row.lease (κs .1 .1 .1 .1 .1 .0) (qs .1 .1 .1 .1 .1 .0)) (List._∷_ (Row.lease (κs .1 .1 .1 .1 .1 .1 .0) (qs .1 .1 .1 .1 .1 .1 .0)) (List._∷_ Row.off (List._∷_ Row.off (List._∷_ Row.dead List.[]))))))))); }
+        G23 = record { locals = t11; slots = List._∷_ (Row.lease (κs .0) (qs .0)) (List._∷_ (Row.lease (κs .1 .0) (qs .1 .0)) (List._∷_ (Row.lease (κs .1 .1 .0) (qs .1 .1 .0)) (List._∷_ (Row.lease (κs .1 .1 .1 .0) (qs .1 .1 .1 .0)) (List._∷_ (Row.lease (κs .1 .1 .1 .1 .0) (qs .1 .1 .1 .1 .0)) (List._∷_ (Row.lease (κs .1 .1 .1 .1 .1 .0) (qs .1 .1 .1 .1 .1 .0)) (List._∷_ (Row.lease (κs .1 .1 .1 .1 .1 .1 .0) (qs .1 .1 .1 .1 .1 .1 .0)) (List._∷_ Row.off (List._∷_ Row.off (List._∷_ Row.dead List.[]))))))))) }
 
         abbrev G24 : Row.Cx
-        G24 = record { locals = t11; slots = List._∷_ (Row.lease (κs .0) (qs .0)) (List._∷_ (Row.lease (κs .1 .0) (qs .1 .0)) (List._∷_ (Row.lease (κs .1 .1 .0) (qs .1 .1 .0)) (List._∷_ (Row.lease (κs .1 .1 .1 .0) (qs .1 .1 .1 .0)) (List._∷_ (Row.lease (κs .1 .1 .1 .1 .0) (qs .1 .1 .1 .1 .0)) (List._∷_ (Row.lease (κs .1 .1 .1 .1 .1 .0) (qs .1 .1 .1 .1 .1 .0)) (List._∷_ (Row.lease (κs .1 .1 .1 .1 .1 .1 .0) (qs .1 .1 .1 .1 .1 .1 .0)) (List._∷_ Row.off (List._∷_ Row.off (List._∷_ Row.dead List.[]))))))))); }
+        G24 = record { locals = t11; slots = List._∷_ (Row.lease (κs .0) (qs .0)) (List._∷_ (Row.lease (κs .1 .0) (qs .1 .0)) (List._∷_ (Row.lease (κs .1 .1 .0) (qs .1 .1 .0)) (List._∷_ (Row.lease (κs .1 .1 .1 .0) (qs .1 .1 .1 .0)) (List._∷_ (Row.lease (κs .1 .1 .1 .1 .0) (qs .1 .1 .1 .1 .0)) (List._∷_ (Row.lease (κs .1 .1 .1 .1 .1 .0) (qs .1 .1 .1 .1 .1 .0)) (List._∷_ (Row.lease (κs .1 .1 .1 .1 .1 .1 .0) (qs .1 .1 .1 .1 .1 .1 .0)) (List._∷_ Row.off (List._∷_ Row.off (List._∷_ Row.dead List.[]))))))))) }
 
         abbrev G25 : Row.Cx
-        G25 = record { locals = t11; slots = List._∷_ (Row.lease (κs .0) (qs .0)) (List._∷_ (Row.lease (κs .1 .0) (qs .1 .0)) (List._∷_ (Row.lease (κs .1 .1 .0) (qs .1 .1 .0)) (List._∷_ (Row.lease (κs .1 .1 .1 .0) (qs .1 .1 .1 .0)) (List._∷_ (Row.lease (κs .1 .1 .1 .1 .0) (qs .1 .1 .1 .1 .0)) (List._∷_ (Row.lease (κs .1 .1 .1 .1 .1 .0) (qs .1 .1 .1 .1 .1 .0)) (List._∷_ (Row.lease (κs .1 .1 .1 .1 .1 .1 .0) (qs .1 .1 .1 .1 .1 .1 .0)) (List._∷_ Row.off (List._∷_ Row.off (List._∷_ Row.off List.[]))))))))); }
+        G25 = record { locals = t11; slots = List._∷_ (Row.lease (κs .0) (qs .0)) (List._∷_ (Row.lease (κs .1 .0) (qs .1 .0)) (List._∷_ (Row.lease (κs .1 .1 .0) (qs .1 .1 .0)) (List._∷_ (Row.lease (κs .1 .1 .1 .0) (qs .1 .1 .1 .0)) (List._∷_ (Row.lease (κs .1 .1 .1 .1 .0) (qs .1 .1 .1 .1 .0)) (List._∷_ (Row.lease (κs .1 .1 .1 .1 .1 .0) (qs .1 .1 .1 .1 .1 .0)) (List._∷_ (Row.lease (κs .1 .1 .1 .1 .1 .1 .0) (qs .1 .1 .1 .1 .1 .1 .0)) (List._∷_ Row.off (List._∷_ Row.off (List._∷_ Row.off List.[]))))))))) }
 
         abbrev G26 : Row.Cx
-        G26 = record { locals = t11; slots = List._∷_ (Row.lease (κs .0) (qs .0)) (List._∷_ (Row.lease (κs .1 .0) (qs .1 .0)) (List._∷_ (Row.lease (κs .1 .1 .0) (qs .1 .1 .0)) (List._∷_ (Row.lease (κs .1 .1 .1 .0) (qs .1 .1 .1 .0)) (List._∷_ (Row.lease (κs .1 .1 .1 .1 .0) (qs .1 .1 .1 .1 .0)) (List._∷_ (Row.lease (κs .1 .1 .1 .1 .1 .0) (qs .1 .1 .1 .1 .1 .0)) (List._∷_ (Row.lease (κs .1 .1 .1 .1 .1 .1 .0) (qs .1 .1 .1 .1 .1 .1 .0)) (List._∷_ Row.off (List._∷_ Row.off (List._∷_ Row.off List.[]))))))))); }
+        G26 = record { locals = t11; slots = List._∷_ (Row.lease (κs .0) (qs .0)) (List._∷_ (Row.lease (κs .1 .0) (qs .1 .0)) (List._∷_ (Row.lease (κs .1 .1 .0) (qs .1 .1 .0)) (List._∷_ (Row.lease (κs .1 .1 .1 .0) (qs .1 .1 .1 .0)) (List._∷_ (Row.lease (κs .1 .1 .1 .1 .0) (qs .1 .1 .1 .1 .0)) (List._∷_ (Row.lease (κs .1 .1 .1 .1 .1 .0) (qs .1 .1 .1 .1 .1 .0)) (List._∷_ (Row.lease (κs .1 .1 .1 .1 .1 .1 .0) (qs .1 .1 .1 .1 .1 .1 .0)) (List._∷_ Row.off (List._∷_ Row.off (List._∷_ Row.off List.[]))))))))) }
 
         abbrev G27 : Row.Cx
-        G27 = record { locals = t11; slots = List._∷_ (Row.lease (κs .0) (qs .0)) (List._∷_ (Row.lease (κs .1 .0) (qs .1 .0)) (List._∷_ (Row.lease (κs .1 .1 .0) (qs .1 .1 .0)) (List._∷_ (Row.lease (κs .1 .1 .1 .0) (qs .1 .1 .1 .0)) (List._∷_ (Row.lease (κs .1 .1 .1 .1 .0) (qs .1 .1 .1 .1 .0)) (List._∷_ (Row.lease (κs .1 .1 .1 .1 .1 .0) (qs .1 .1 .1 .1 .1 .0)) (List._∷_ (Row.lease (κs .1 .1 .1 .1 .1 .1 .0) (qs .1 .1 .1 .1 .1 .1 .0)) (List._∷_ Row.off (List._∷_ Row.off (List._∷_ Row.off List.[]))))))))); }
+        G27 = record { locals = t11; slots = List._∷_ (Row.lease (κs .0) (qs .0)) (List._∷_ (Row.lease (κs .1 .0) (qs .1 .0)) (List._∷_ (Row.lease (κs .1 .1 .0) (qs .1 .1 .0)) (List._∷_ (Row.lease (κs .1 .1 .1 .0) (qs .1 .1 .1 .0)) (List._∷_ (Row.lease (κs .1 .1 .1 .1 .0) (qs .1 .1 .1 .1 .0)) (List._∷_ (Row.lease (κs .1 .1 .1 .1 .1 .0) (qs .1 .1 .1 .1 .1 .0)) (List._∷_ (Row.lease (κs .1 .1 .1 .1 .1 .1 .0) (qs .1 .1 .1 .1 .1 .1 .0)) (List._∷_ Row.off (List._∷_ Row.off (List._∷_ Row.off List.[]))))))))) }
 
         abbrev G28 : Row.Cx
-        G28 = record { locals = t11; slots = List._∷_ (Row.lease (κs .0) (qs .0)) (List._∷_ (Row.lease (κs .1 .0) (qs .1 .0)) (List._∷_ (Row.lease (κs .1 .1 .0) (qs .1 .1 .0)) (List._∷_ (Row.lease (κs .1 .1 .1 .0) (qs .1 .1 .1 .0)) (List._∷_ (Row.lease (κs .1 .1 .1 .1 .0) (qs .1 .1 .1 .1 .0)) (List._∷_ (Row.lease (κs .1 .1 .1 .1 .1 .0) (qs .1 .1 .1 .1 .1 .0)) (List._∷_ (Row.lease (κs .1 .1 .1 .1 .1 .1 .0) (qs .1 .1 .1 .1 .1 .1 .0)) (List._∷_ Row.off (List._∷_ Row.off (List._∷_ Row.off List.[]))))))))); }
+        G28 = record { locals = t11; slots = List._∷_ (Row.lease (κs .0) (qs .0)) (List._∷_ (Row.lease (κs .1 .0) (qs .1 .0)) (List._∷_ (Row.lease (κs .1 .1 .0) (qs .1 .1 .0)) (List._∷_ (Row.lease (κs .1 .1 .1 .0) (qs .1 .1 .1 .0)) (List._∷_ (Row.lease (κs .1 .1 .1 .1 .0) (qs .1 .1 .1 .1 .0)) (List._∷_ (Row.lease (κs .1 .1 .1 .1 .1 .0) (qs .1 .1 .1 .1 .1 .0)) (List._∷_ (Row.lease (κs .1 .1 .1 .1 .1 .1 .0) (qs .1 .1 .1 .1 .1 .1 .0)) (List._∷_ Row.off (List._∷_ Row.off (List._∷_ Row.off List.[]))))))))) }
 
         abbrev G29 : Row.Cx
-        G29 = record { locals = t12; slots = List._∷_ (Row.lease (κs .0) (qs .0)) (List._∷_ (Row.lease (κs .1 .0) (qs .1 .0)) (List._∷_ (Row.lease (κs .1 .1 .0) (qs .1 .1 .0)) (List._∷_ (Row.lease (κs .1 .1 .1 .0) (qs .1 .1 .1 .0)) (List._∷_ (Row.lease (κs .1 .1 .1 .1 .0) (qs .1 .1 .1 .1 .0)) (List._∷_ (Row.lease (κs .1 .1 .1 .1 .1 .0) (qs .1 .1 .1 .1 .1 .0)) (List._∷_ (Row.lease (κs .1 .1 .1 .1 .1 .1 .0) (qs .1 .1 .1 .1 .1 .1 .0)) (List._∷_ Row.off (List._∷_ Row.off (List._∷_ Row.off List.[]))))))))); }
+        G29 = record { locals = t12; slots = List._∷_ (Row.lease (κs .0) (qs .0)) (List._∷_ (Row.lease (κs .1 .0) (qs .1 .0)) (List._∷_ (Row.lease (κs .1 .1 .0) (qs .1 .1 .0)) (List._∷_ (Row.lease (κs .1 .1 .1 .0) (qs .1 .1 .1 .0)) (List._∷_ (Row.lease (κs .1 .1 .1 .1 .0) (qs .1 .1 .1 .1 .0)) (List._∷_ (Row.lease (κs .1 .1 .1 .1 .1 .0) (qs .1 .1 .1 .1 .1 .0)) (List._∷_ (Row.lease (κs .1 .1 .1 .1 .1 .1 .0) (qs .1 .1 .1 .1 .1 .1 .0)) (List._∷_ Row.off (List._∷_ Row.off (List._∷_ Row.off List.[]))))))))) }
 
         abbrev G30 : Row.Cx
-        G30 = record { locals = t1; slots = List._∷_ (Row.lease (κs .0) (qs .0)) (List._∷_ (Row.lease (κs .1 .0) (qs .1 .0)) (List._∷_ (Row.lease (κs .1 .1 .0) (qs .1 .1 .0)) (List._∷_ (Row.lease (κs .1 .1 .1 .0) (qs .1 .1 .1 .0)) (List._∷_ (Row.lease (κs .1 .1 .1 .1 .0) (qs .1 .1 .1 .1 .0)) (List._∷_ (Row.lease (κs .1 .1 .1 .1 .1 .0) (qs .1 .1 .1 .1 .1 .0)) (List._∷_ (Row.lease (κs .1 .1 .1 .1 .1 .1 .0) (qs .1 .1 .1 .1 .1 .1 .0)) (List._∷_ Row.off (List._∷_ Row.off (List._∷_ Row.off List.[]))))))))); }
+        G30 = record { locals = t1; slots = List._∷_ (Row.lease (κs .0) (qs .0)) (List._∷_ (Row.lease (κs .1 .0) (qs .1 .0)) (List._∷_ (Row.lease (κs .1 .1 .0) (qs .1 .1 .0)) (List._∷_ (Row.lease (κs .1 .1 .1 .0) (qs .1 .1 .1 .0)) (List._∷_ (Row.lease (κs .1 .1 .1 .1 .0) (qs .1 .1 .1 .1 .0)) (List._∷_ (Row.lease (κs .1 .1 .1 .1 .1 .0) (qs .1 .1 .1 .1 .1 .0)) (List._∷_ (Row.lease (κs .1 .1 .1 .1 .1 .1 .0) (qs .1 .1 .1 .1 .1 .1 .0)) (List._∷_ Row.off (List._∷_ Row.off (List._∷_ Row.off List.[]))))))))) }
 
         abbrev Δ0 : Typed.Outs
         Δ0 = record { next = Option.none; exits = List.[]; returns = Option.some G1 }
@@ -823,16 +1325,16 @@ module _ (claims· : Claims) where
           d1 = Typed.g-pre 𝓤 H A W 𝓣 E G29 G30 b11 Δ0 (Typed.pass T29 T30 s28) at0 (Scalar.g-room 𝓤 H A W E G29 8 (Syntax.tyStruct (List._∷_ 102 (List._∷_ 105 (List._∷_ 114 (List._∷_ 109 (List._∷_ 58 (List._∷_ 58 (List._∷_ 81 (List._∷_ 117 (List._∷_ 111 (List._∷_ 116 (List._∷_ 101 List.[]))))))))))) (Syntax.tcons (Syntax.tyInt Syntax.w32) (Syntax.tcons (Syntax.tyInt Syntax.w64) (Syntax.tcons (Syntax.tyInt Syntax.w64) (Syntax.tcons (Syntax.tyInt Syntax.w32) Syntax.tnil))))) (Local.room-whole 𝓤 H A W (Declared.row Quote.the-type) (Syntax.tyStruct (List._∷_ 102 (List._∷_ 105 (List._∷_ 114 (List._∷_ 109 (List._∷_ 58 (List._∷_ 58 (List._∷_ 81 (List._∷_ 117 (List._∷_ 111 (List._∷_ 116 (List._∷_ 101 List.[]))))))))))) (Syntax.tcons (Syntax.tyInt Syntax.w32) (Syntax.tcons (Syntax.tyInt Syntax.w64) (Syntax.tcons (Syntax.tyInt Syntax.w64) (Syntax.tcons (Syntax.tyInt Syntax.w32) Syntax.tnil))))) Path'.refl)) d0
 
           d2 : Typed.Typed 𝓤 H A 𝓣 E G28 b12 Δ0 at2
-          d2 = Typed.s-seq 𝓤 H A W 𝓣 E G28 G29 b10 b11 Δ0 (Typed.pass T28 T29 s27) at1 (Scalar.t-use 𝓤 H A W E 𝓣 G28 (Scalar.oFld 8 (List._∷_ (Syntax.field 0) List.[]) (Syntax.tyInt Syntax.w32) 0 (Reads.fieldV Quote.the-type Laws.the-laws 0)) 0 (Rows.sc-here (Row.sInt Syntax.w32)) (Syntax.tyInt Syntax.w32) (Row.valS (Row.sInt Syntax.w32)) (Row.sInt Syntax.w32 .of) ( Reads.reads-field 𝓤 H A W Quote.the-type Laws.the-laws 0 (Syntax.tyInt Syntax.w32) 0 Path'.refl, Path'.refl, ) (Reads'.room-gone 𝓤 H A (Syntax.tyInt Syntax.w32)) (Scalar.holds-sc 𝓤 H A W (Row.sInt Syntax.w32)) Path'.refl (λ u. Path'.refl) λ u. tt) d1
+          d2 = Typed.s-seq 𝓤 H A W 𝓣 E G28 G29 b10 b11 Δ0 (Typed.pass T28 T29 s27) at1 (Scalar.t-use 𝓤 H A W E 𝓣 G28 (Scalar.oFld 8 (List._∷_ (Syntax.field 0) List.[]) (Syntax.tyInt Syntax.w32) 0 (Reads.fieldV Quote.the-type Laws.the-laws 0)) 0 (Rows.sc-here (Row.sInt Syntax.w32)) (Syntax.tyInt Syntax.w32) (Row.valS (Row.sInt Syntax.w32)) (Row.sInt Syntax.w32 .of) (Reads.reads-field 𝓤 H A W Quote.the-type Laws.the-laws 0 (Syntax.tyInt Syntax.w32) 0 Path'.refl, Path'.refl) (Reads'.room-gone 𝓤 H A (Syntax.tyInt Syntax.w32)) (Scalar.holds-sc 𝓤 H A W (Row.sInt Syntax.w32)) Path'.refl (λ u. Path'.refl) λ u. tt) d1
 
           d3 : Typed.Typed 𝓤 H A 𝓣 E G27 b13 Δ0 at3
-          d3 = Typed.s-seq 𝓤 H A W 𝓣 E G27 G28 b9 b12 Δ0 (Typed.pass T27 T28 s26) at2 (Deref.t-ref-write 𝓤 H A W E 𝓣 G27 7 6 (Referent.fInt Syntax.w32) (Syntax.tyRef (Syntax.named 6) Syntax.mut (Syntax.tyInt Syntax.w32)) (Row.lease (κs .1 .1 .1 .1 .1 .1 .0) (qs .1 .1 .1 .1 .1 .1 .0)) (λ x. x) (Scalar.oFld 8 (List._∷_ (Syntax.field 3) List.[]) (Syntax.tyInt Syntax.w32) 24 (Reads.fieldV Quote.the-type Laws.the-laws 3)) (Reads'.as-is 𝓤 H A (Rows.mref (Referent.rtF (Referent.fInt Syntax.w32)) (Syntax.tyRef (Syntax.named 6) Syntax.mut (Syntax.tyInt Syntax.w32)) 6)) ( Reads.reads-field 𝓤 H A W Quote.the-type Laws.the-laws 3 (Syntax.tyInt Syntax.w32) 24 Path'.refl, Path'.refl, ) Path'.refl tt Path'.refl λ u. Path'.refl) d2
+          d3 = Typed.s-seq 𝓤 H A W 𝓣 E G27 G28 b9 b12 Δ0 (Typed.pass T27 T28 s26) at2 (Deref.t-ref-write 𝓤 H A W E 𝓣 G27 7 6 (Referent.fInt Syntax.w32) (Syntax.tyRef (Syntax.named 6) Syntax.mut (Syntax.tyInt Syntax.w32)) (Row.lease (κs .1 .1 .1 .1 .1 .1 .0) (qs .1 .1 .1 .1 .1 .1 .0)) (λ x. x) (Scalar.oFld 8 (List._∷_ (Syntax.field 3) List.[]) (Syntax.tyInt Syntax.w32) 24 (Reads.fieldV Quote.the-type Laws.the-laws 3)) (Reads'.as-is 𝓤 H A (Rows.mref (Referent.rtF (Referent.fInt Syntax.w32)) (Syntax.tyRef (Syntax.named 6) Syntax.mut (Syntax.tyInt Syntax.w32)) 6)) (Reads.reads-field 𝓤 H A W Quote.the-type Laws.the-laws 3 (Syntax.tyInt Syntax.w32) 24 Path'.refl, Path'.refl) Path'.refl tt Path'.refl λ u. Path'.refl) d2
 
           d4 : Typed.Typed 𝓤 H A 𝓣 E G26 b14 Δ0 at4
-          d4 = Typed.s-seq 𝓤 H A W 𝓣 E G26 G27 b8 b13 Δ0 (Typed.pass T26 T27 s25) at3 (Deref.t-ref-write 𝓤 H A W E 𝓣 G26 6 5 (Referent.fInt Syntax.w64) (Syntax.tyRef (Syntax.named 5) Syntax.mut (Syntax.tyInt Syntax.w64)) (Row.lease (κs .1 .1 .1 .1 .1 .0) (qs .1 .1 .1 .1 .1 .0)) (λ x. x) (Scalar.oFld 8 (List._∷_ (Syntax.field 2) List.[]) (Syntax.tyInt Syntax.w64) 16 (Reads.fieldV Quote.the-type Laws.the-laws 2)) (Reads'.as-is 𝓤 H A (Rows.mref (Referent.rtF (Referent.fInt Syntax.w64)) (Syntax.tyRef (Syntax.named 5) Syntax.mut (Syntax.tyInt Syntax.w64)) 5)) ( Reads.reads-field 𝓤 H A W Quote.the-type Laws.the-laws 2 (Syntax.tyInt Syntax.w64) 16 Path'.refl, Path'.refl, ) Path'.refl tt Path'.refl λ u. Path'.refl) d3
+          d4 = Typed.s-seq 𝓤 H A W 𝓣 E G26 G27 b8 b13 Δ0 (Typed.pass T26 T27 s25) at3 (Deref.t-ref-write 𝓤 H A W E 𝓣 G26 6 5 (Referent.fInt Syntax.w64) (Syntax.tyRef (Syntax.named 5) Syntax.mut (Syntax.tyInt Syntax.w64)) (Row.lease (κs .1 .1 .1 .1 .1 .0) (qs .1 .1 .1 .1 .1 .0)) (λ x. x) (Scalar.oFld 8 (List._∷_ (Syntax.field 2) List.[]) (Syntax.tyInt Syntax.w64) 16 (Reads.fieldV Quote.the-type Laws.the-laws 2)) (Reads'.as-is 𝓤 H A (Rows.mref (Referent.rtF (Referent.fInt Syntax.w64)) (Syntax.tyRef (Syntax.named 5) Syntax.mut (Syntax.tyInt Syntax.w64)) 5)) (Reads.reads-field 𝓤 H A W Quote.the-type Laws.the-laws 2 (Syntax.tyInt Syntax.w64) 16 Path'.refl, Path'.refl) Path'.refl tt Path'.refl λ u. Path'.refl) d3
 
           d5 : Typed.Typed 𝓤 H A 𝓣 E G25 b15 Δ0 at5
-          d5 = Typed.s-seq 𝓤 H A W 𝓣 E G25 G26 b7 b14 Δ0 (Typed.pass T24 T26 s24) at4 (Deref.t-ref-write 𝓤 H A W E 𝓣 G25 5 4 (Referent.fInt Syntax.w64) (Syntax.tyRef (Syntax.named 4) Syntax.mut (Syntax.tyInt Syntax.w64)) (Row.lease (κs .1 .1 .1 .1 .0) (qs .1 .1 .1 .1 .0)) (λ x. x) (Scalar.oFld 8 (List._∷_ (Syntax.field 1) List.[]) (Syntax.tyInt Syntax.w64) 8 (Reads.fieldV Quote.the-type Laws.the-laws 1)) (Reads'.as-is 𝓤 H A (Rows.mref (Referent.rtF (Referent.fInt Syntax.w64)) (Syntax.tyRef (Syntax.named 4) Syntax.mut (Syntax.tyInt Syntax.w64)) 4)) ( Reads.reads-field 𝓤 H A W Quote.the-type Laws.the-laws 1 (Syntax.tyInt Syntax.w64) 8 Path'.refl, Path'.refl, ) Path'.refl tt Path'.refl λ u. Path'.refl) d4
+          d5 = Typed.s-seq 𝓤 H A W 𝓣 E G25 G26 b7 b14 Δ0 (Typed.pass T24 T26 s24) at4 (Deref.t-ref-write 𝓤 H A W E 𝓣 G25 5 4 (Referent.fInt Syntax.w64) (Syntax.tyRef (Syntax.named 4) Syntax.mut (Syntax.tyInt Syntax.w64)) (Row.lease (κs .1 .1 .1 .1 .0) (qs .1 .1 .1 .1 .0)) (λ x. x) (Scalar.oFld 8 (List._∷_ (Syntax.field 1) List.[]) (Syntax.tyInt Syntax.w64) 8 (Reads.fieldV Quote.the-type Laws.the-laws 1)) (Reads'.as-is 𝓤 H A (Rows.mref (Referent.rtF (Referent.fInt Syntax.w64)) (Syntax.tyRef (Syntax.named 4) Syntax.mut (Syntax.tyInt Syntax.w64)) 4)) (Reads.reads-field 𝓤 H A W Quote.the-type Laws.the-laws 1 (Syntax.tyInt Syntax.w64) 8 Path'.refl, Path'.refl) Path'.refl tt Path'.refl λ u. Path'.refl) d4
 
           d6 : Typed.Typed 𝓤 H A 𝓣 E G24 b15 Δ0 at6
           d6 = Typed.g-pre 𝓤 H A W 𝓣 E G24 G25 b15 Δ0 (λ Ψ. Ψ) at5 (Lifetime.g-forget 𝓤 H A W E G24 9 Row.dead Path'.refl) d5
@@ -868,34 +1370,34 @@ module _ (claims· : Claims) where
           d16 = Typed.g-pre 𝓤 H A W 𝓣 E G14 G15 b15 Δ0 (λ Ψ. Ψ) at15 (Lifetime.g-end 𝓤 H A W E G14 7 Path'.refl) d15
 
           d17 : Typed.Typed 𝓤 H A 𝓣 E G13 b16 Δ0 at17
-          d17 = Typed.s-seq 𝓤 H A W 𝓣 E G13 G14 b6 b15 Δ0 (Typed.both s12) at16 (Plain.t-call-plain 𝓤 H A W 𝓣 4 ps·0 r·0 (claims· .0) (claims· .1) "firm::firm" known E (λ pos β. β) G13 ( record { pos = 10; ty = Syntax.tyRef Syntax.erased Syntax.mut ϱ; ref = λ x. x; }, ( record { pos = 2; ty = Syntax.tyRef (Syntax.named 1) Syntax.imm (Syntax.tyInt Syntax.w8); ref = λ x. x; }, ( record { pos = 12; ty = Syntax.tyRef Syntax.erased Syntax.mut (Syntax.tyInt Syntax.w32); ref = λ x. x; }, ( record { pos = 14; ty = Syntax.tyRef Syntax.erased Syntax.mut (Syntax.tyInt Syntax.w32); ref = λ x. x; }, tt, ), ), ), ) 8 (List._∷_ 7 (List._∷_ 1 (List._∷_ 8 (List._∷_ 9 List.[])))) (Call.sub-id 𝓤 H A W (G13 .slots)) ( Reads'.as-is 𝓤 H A (Mut.mslice T (Syntax.tyRef Syntax.erased Syntax.mut ϱ) 7), Mut.reads-mslice 𝓤 H A W T (Syntax.tyRef Syntax.erased Syntax.mut ϱ) 7, Path'.refl, ( ShrSlice.spares-sslice 𝓤 H A W (Referent.rtF (Referent.fInt Syntax.w8)) (Syntax.tyRef (Syntax.named 1) Syntax.imm (Syntax.tyInt Syntax.w8)) 1, Shared.reads-sslice 𝓤 H A W (Referent.rtF (Referent.fInt Syntax.w8)) (Syntax.tyRef (Syntax.named 1) Syntax.imm (Syntax.tyInt Syntax.w8)) 1, Path'.refl, ( Reads'.as-is 𝓤 H A (Mut.mslice (Referent.rtF (Referent.fInt Syntax.w32)) (Syntax.tyRef Syntax.erased Syntax.mut (Syntax.tyInt Syntax.w32)) 8), Mut.reads-mslice 𝓤 H A W (Referent.rtF (Referent.fInt Syntax.w32)) (Syntax.tyRef Syntax.erased Syntax.mut (Syntax.tyInt Syntax.w32)) 8, Path'.refl, ( Reads'.as-is 𝓤 H A (Mut.mslice (Referent.rtF (Referent.fInt Syntax.w32)) (Syntax.tyRef Syntax.erased Syntax.mut (Syntax.tyInt Syntax.w32)) 9), Mut.reads-mslice 𝓤 H A W (Referent.rtF (Referent.fInt Syntax.w32)) (Syntax.tyRef Syntax.erased Syntax.mut (Syntax.tyInt Syntax.w32)) 9, Path'.refl, tt, ), ), ), ) (Reads'.room-gone 𝓤 H A (Syntax.tyStruct (List._∷_ 102 (List._∷_ 105 (List._∷_ 114 (List._∷_ 109 (List._∷_ 58 (List._∷_ 58 (List._∷_ 81 (List._∷_ 117 (List._∷_ 111 (List._∷_ 116 (List._∷_ 101 List.[]))))))))))) (Syntax.tcons (Syntax.tyInt Syntax.w32) (Syntax.tcons (Syntax.tyInt Syntax.w64) (Syntax.tcons (Syntax.tyInt Syntax.w64) (Syntax.tcons (Syntax.tyInt Syntax.w32) Syntax.tnil)))))) (tt, (tt, (tt, (tt, tt)))) Path'.refl) d16
+          d17 = Typed.s-seq 𝓤 H A W 𝓣 E G13 G14 b6 b15 Δ0 (Typed.both s12) at16 (Plain.t-call-plain 𝓤 H A W 𝓣 4 ps·0 r·0 (claims· .0) (claims· .1) "firm::firm" known E (λ pos β. β) G13 (record { pos = 10; ty = Syntax.tyRef Syntax.erased Syntax.mut ϱ; ref = λ x. x }, (record { pos = 2; ty = Syntax.tyRef (Syntax.named 1) Syntax.imm (Syntax.tyInt Syntax.w8); ref = λ x. x }, (record { pos = 12; ty = Syntax.tyRef Syntax.erased Syntax.mut (Syntax.tyInt Syntax.w32); ref = λ x. x }, (record { pos = 14; ty = Syntax.tyRef Syntax.erased Syntax.mut (Syntax.tyInt Syntax.w32); ref = λ x. x }, tt)))) 8 (List._∷_ 7 (List._∷_ 1 (List._∷_ 8 (List._∷_ 9 List.[])))) (Call.sub-id 𝓤 H A W (G13 .slots)) (Reads'.as-is 𝓤 H A (Mut.mslice T (Syntax.tyRef Syntax.erased Syntax.mut ϱ) 7), Mut.reads-mslice 𝓤 H A W T (Syntax.tyRef Syntax.erased Syntax.mut ϱ) 7, Path'.refl, (ShrSlice.spares-sslice 𝓤 H A W (Referent.rtF (Referent.fInt Syntax.w8)) (Syntax.tyRef (Syntax.named 1) Syntax.imm (Syntax.tyInt Syntax.w8)) 1, Shared.reads-sslice 𝓤 H A W (Referent.rtF (Referent.fInt Syntax.w8)) (Syntax.tyRef (Syntax.named 1) Syntax.imm (Syntax.tyInt Syntax.w8)) 1, Path'.refl, (Reads'.as-is 𝓤 H A (Mut.mslice (Referent.rtF (Referent.fInt Syntax.w32)) (Syntax.tyRef Syntax.erased Syntax.mut (Syntax.tyInt Syntax.w32)) 8), Mut.reads-mslice 𝓤 H A W (Referent.rtF (Referent.fInt Syntax.w32)) (Syntax.tyRef Syntax.erased Syntax.mut (Syntax.tyInt Syntax.w32)) 8, Path'.refl, (Reads'.as-is 𝓤 H A (Mut.mslice (Referent.rtF (Referent.fInt Syntax.w32)) (Syntax.tyRef Syntax.erased Syntax.mut (Syntax.tyInt Syntax.w32)) 9), Mut.reads-mslice 𝓤 H A W (Referent.rtF (Referent.fInt Syntax.w32)) (Syntax.tyRef Syntax.erased Syntax.mut (Syntax.tyInt Syntax.w32)) 9, Path'.refl, tt)))) (Reads'.room-gone 𝓤 H A (Syntax.tyStruct (List._∷_ 102 (List._∷_ 105 (List._∷_ 114 (List._∷_ 109 (List._∷_ 58 (List._∷_ 58 (List._∷_ 81 (List._∷_ 117 (List._∷_ 111 (List._∷_ 116 (List._∷_ 101 List.[]))))))))))) (Syntax.tcons (Syntax.tyInt Syntax.w32) (Syntax.tcons (Syntax.tyInt Syntax.w64) (Syntax.tcons (Syntax.tyInt Syntax.w64) (Syntax.tcons (Syntax.tyInt Syntax.w32) Syntax.tnil)))))) (tt, (tt, (tt, (tt, tt)))) Path'.refl) d16
 
           d18 : Typed.Typed 𝓤 H A 𝓣 E G12 b17 Δ0 at18
-          d18 = Typed.s-seq 𝓤 H A W 𝓣 E G12 G13 b5 b16 Δ0 (Typed.ask s11) at17 (Relend.t-sl-aggregate 𝓤 H A W E (Referent.rtF (Referent.fInt Syntax.w32)) 𝓣 (Relend.asMut (Referent.rtF (Referent.fInt Syntax.w32))) G12 13 14 9 (Syntax.tyRef Syntax.erased Syntax.mut (Syntax.tyInt Syntax.w32)) (Syntax.tyRef Syntax.erased Syntax.mut (Syntax.tyInt Syntax.w32)) (λ x. x) (Scalar.oFld 4 (List._∷_ (Syntax.field 1) List.[]) (Syntax.tyInt Syntax.w64) 8 λ v. Shared.lenV (v .0)) (Reads'.as-is 𝓤 H A (Relend.msptr (Referent.rtF (Referent.fInt Syntax.w32)) (Syntax.tyRef Syntax.erased Syntax.mut (Syntax.tyInt Syntax.w32)) 9)) (Reads'.room-gone 𝓤 H A (Syntax.tyStruct (List._∷_ 38 (List._∷_ 91 (List._∷_ 93 List.[]))) (Syntax.tcons (Syntax.tyRef Syntax.erased Syntax.mut (Syntax.tyInt Syntax.w32)) (Syntax.tcons (Syntax.tyInt Syntax.w64) Syntax.tnil)))) ( Relend.reads-owed-len 𝓤 H A W (Referent.rtF (Referent.fInt Syntax.w32)) (Syntax.tyRef (Syntax.named 3) Syntax.mut (Syntax.tyInt Syntax.w32)) 3 9 (Row.lease (κs .1 .1 .1 .0) (qs .1 .1 .1 .0)) 8 Path'.refl, Path'.refl, ) Path'.refl Path'.refl λ b o k. tt) d17
+          d18 = Typed.s-seq 𝓤 H A W 𝓣 E G12 G13 b5 b16 Δ0 (Typed.ask s11) at17 (Relend.t-sl-aggregate 𝓤 H A W E (Referent.rtF (Referent.fInt Syntax.w32)) 𝓣 (Relend.asMut (Referent.rtF (Referent.fInt Syntax.w32))) G12 13 14 9 (Syntax.tyRef Syntax.erased Syntax.mut (Syntax.tyInt Syntax.w32)) (Syntax.tyRef Syntax.erased Syntax.mut (Syntax.tyInt Syntax.w32)) (λ x. x) (Scalar.oFld 4 (List._∷_ (Syntax.field 1) List.[]) (Syntax.tyInt Syntax.w64) 8 λ v. Shared.lenV (v .0)) (Reads'.as-is 𝓤 H A (Relend.msptr (Referent.rtF (Referent.fInt Syntax.w32)) (Syntax.tyRef Syntax.erased Syntax.mut (Syntax.tyInt Syntax.w32)) 9)) (Reads'.room-gone 𝓤 H A (Syntax.tyStruct (List._∷_ 38 (List._∷_ 91 (List._∷_ 93 List.[]))) (Syntax.tcons (Syntax.tyRef Syntax.erased Syntax.mut (Syntax.tyInt Syntax.w32)) (Syntax.tcons (Syntax.tyInt Syntax.w64) Syntax.tnil)))) (Relend.reads-owed-len 𝓤 H A W (Referent.rtF (Referent.fInt Syntax.w32)) (Syntax.tyRef (Syntax.named 3) Syntax.mut (Syntax.tyInt Syntax.w32)) 3 9 (Row.lease (κs .1 .1 .1 .0) (qs .1 .1 .1 .0)) 8 Path'.refl, Path'.refl) Path'.refl Path'.refl λ b o k. tt) d17
 
           d19 : Typed.Typed 𝓤 H A 𝓣 E G11 b18 Δ0 at19
           d19 = Typed.s-seq 𝓤 H A W 𝓣 E G11 G12 b4 b17 Δ0 (Typed.give s10) at18 (Relend.t-sl-relend 𝓤 H A W E (Referent.rtF (Referent.fInt Syntax.w32)) 𝓣 G11 4 13 3 9 (Syntax.tyRef (Syntax.named 3) Syntax.mut (Syntax.tyInt Syntax.w32)) (Syntax.tyRef Syntax.erased Syntax.mut (Syntax.tyInt Syntax.w32)) (Row.lease (κs .1 .1 .1 .0) (qs .1 .1 .1 .0)) 0 (λ x. x) (Reads'.as-is 𝓤 H A (Mut.mslice (Referent.rtF (Referent.fInt Syntax.w32)) (Syntax.tyRef (Syntax.named 3) Syntax.mut (Syntax.tyInt Syntax.w32)) 3)) (Reads'.room-gone 𝓤 H A (Syntax.tyRef Syntax.erased Syntax.mut (Syntax.tyInt Syntax.w32))) Path'.refl tt Path'.refl Path'.refl Path'.refl λ b o. tt) d18
 
           d20 : Typed.Typed 𝓤 H A 𝓣 E G10 b18 Δ0 at20
-          d20 = Typed.g-pre 𝓤 H A W 𝓣 E G10 G11 b18 Δ0 (λ Ψ. Ψ) at19 (Lifetime.g-begin 𝓤 H A W E G10 9 ( tt, ( (tt, tt), ( tt, ( (tt, tt), ( tt, (tt, (tt, (tt, (tt, (tt, (tt, (tt, (tt, (tt, (tt, tt)))))))))), ), ), ), ), )) d19
+          d20 = Typed.g-pre 𝓤 H A W 𝓣 E G10 G11 b18 Δ0 (λ Ψ. Ψ) at19 (Lifetime.g-begin 𝓤 H A W E G10 9 (tt, ((tt, tt), (tt, ((tt, tt), (tt, (tt, (tt, (tt, (tt, (tt, (tt, (tt, (tt, (tt, (tt, tt)))))))))))))))) d19
 
           d21 : Typed.Typed 𝓤 H A 𝓣 E G9 b19 Δ0 at21
-          d21 = Typed.s-seq 𝓤 H A W 𝓣 E G9 G10 b3 b18 Δ0 (Typed.ask s8) at20 (Relend.t-sl-aggregate 𝓤 H A W E (Referent.rtF (Referent.fInt Syntax.w32)) 𝓣 (Relend.asMut (Referent.rtF (Referent.fInt Syntax.w32))) G9 11 12 8 (Syntax.tyRef Syntax.erased Syntax.mut (Syntax.tyInt Syntax.w32)) (Syntax.tyRef Syntax.erased Syntax.mut (Syntax.tyInt Syntax.w32)) (λ x. x) (Scalar.oFld 3 (List._∷_ (Syntax.field 1) List.[]) (Syntax.tyInt Syntax.w64) 8 λ v. Shared.lenV (v .0)) (Reads'.as-is 𝓤 H A (Relend.msptr (Referent.rtF (Referent.fInt Syntax.w32)) (Syntax.tyRef Syntax.erased Syntax.mut (Syntax.tyInt Syntax.w32)) 8)) (Reads'.room-gone 𝓤 H A (Syntax.tyStruct (List._∷_ 38 (List._∷_ 91 (List._∷_ 93 List.[]))) (Syntax.tcons (Syntax.tyRef Syntax.erased Syntax.mut (Syntax.tyInt Syntax.w32)) (Syntax.tcons (Syntax.tyInt Syntax.w64) Syntax.tnil)))) ( Relend.reads-owed-len 𝓤 H A W (Referent.rtF (Referent.fInt Syntax.w32)) (Syntax.tyRef (Syntax.named 2) Syntax.mut (Syntax.tyInt Syntax.w32)) 2 8 (Row.lease (κs .1 .1 .0) (qs .1 .1 .0)) 8 Path'.refl, Path'.refl, ) Path'.refl Path'.refl λ b o k. tt) d20
+          d21 = Typed.s-seq 𝓤 H A W 𝓣 E G9 G10 b3 b18 Δ0 (Typed.ask s8) at20 (Relend.t-sl-aggregate 𝓤 H A W E (Referent.rtF (Referent.fInt Syntax.w32)) 𝓣 (Relend.asMut (Referent.rtF (Referent.fInt Syntax.w32))) G9 11 12 8 (Syntax.tyRef Syntax.erased Syntax.mut (Syntax.tyInt Syntax.w32)) (Syntax.tyRef Syntax.erased Syntax.mut (Syntax.tyInt Syntax.w32)) (λ x. x) (Scalar.oFld 3 (List._∷_ (Syntax.field 1) List.[]) (Syntax.tyInt Syntax.w64) 8 λ v. Shared.lenV (v .0)) (Reads'.as-is 𝓤 H A (Relend.msptr (Referent.rtF (Referent.fInt Syntax.w32)) (Syntax.tyRef Syntax.erased Syntax.mut (Syntax.tyInt Syntax.w32)) 8)) (Reads'.room-gone 𝓤 H A (Syntax.tyStruct (List._∷_ 38 (List._∷_ 91 (List._∷_ 93 List.[]))) (Syntax.tcons (Syntax.tyRef Syntax.erased Syntax.mut (Syntax.tyInt Syntax.w32)) (Syntax.tcons (Syntax.tyInt Syntax.w64) Syntax.tnil)))) (Relend.reads-owed-len 𝓤 H A W (Referent.rtF (Referent.fInt Syntax.w32)) (Syntax.tyRef (Syntax.named 2) Syntax.mut (Syntax.tyInt Syntax.w32)) 2 8 (Row.lease (κs .1 .1 .0) (qs .1 .1 .0)) 8 Path'.refl, Path'.refl) Path'.refl Path'.refl λ b o k. tt) d20
 
           d22 : Typed.Typed 𝓤 H A 𝓣 E G8 b20 Δ0 at22
           d22 = Typed.s-seq 𝓤 H A W 𝓣 E G8 G9 b2 b19 Δ0 (Typed.give s7) at21 (Relend.t-sl-relend 𝓤 H A W E (Referent.rtF (Referent.fInt Syntax.w32)) 𝓣 G8 3 11 2 8 (Syntax.tyRef (Syntax.named 2) Syntax.mut (Syntax.tyInt Syntax.w32)) (Syntax.tyRef Syntax.erased Syntax.mut (Syntax.tyInt Syntax.w32)) (Row.lease (κs .1 .1 .0) (qs .1 .1 .0)) 0 (λ x. x) (Reads'.as-is 𝓤 H A (Mut.mslice (Referent.rtF (Referent.fInt Syntax.w32)) (Syntax.tyRef (Syntax.named 2) Syntax.mut (Syntax.tyInt Syntax.w32)) 2)) (Reads'.room-gone 𝓤 H A (Syntax.tyRef Syntax.erased Syntax.mut (Syntax.tyInt Syntax.w32))) Path'.refl tt Path'.refl Path'.refl Path'.refl λ b o. tt) d21
 
           d23 : Typed.Typed 𝓤 H A 𝓣 E G7 b20 Δ0 at23
-          d23 = Typed.g-pre 𝓤 H A W 𝓣 E G7 G8 b20 Δ0 (λ Ψ. Ψ) at22 (Lifetime.g-begin 𝓤 H A W E G7 8 ( tt, ( (tt, tt), ( tt, ( tt, ( tt, (tt, (tt, (tt, (tt, (tt, (tt, (tt, (tt, (tt, (tt, tt)))))))))), ), ), ), ), )) d22
+          d23 = Typed.g-pre 𝓤 H A W 𝓣 E G7 G8 b20 Δ0 (λ Ψ. Ψ) at22 (Lifetime.g-begin 𝓤 H A W E G7 8 (tt, ((tt, tt), (tt, (tt, (tt, (tt, (tt, (tt, (tt, (tt, (tt, (tt, (tt, (tt, (tt, tt)))))))))))))))) d22
 
           d24 : Typed.Typed 𝓤 H A 𝓣 E G6 b21 Δ0 at24
-          d24 = Typed.s-seq 𝓤 H A W 𝓣 E G6 G7 b1 b20 Δ0 (Typed.ask s5) at23 (Relend.t-sl-aggregate 𝓤 H A W E T 𝓣 (Relend.asMut T) G6 9 10 7 (Syntax.tyRef Syntax.erased Syntax.mut ϱ) (Syntax.tyRef Syntax.erased Syntax.mut ϱ) (λ x. x) (Scalar.oFld 1 (List._∷_ (Syntax.field 1) List.[]) (Syntax.tyInt Syntax.w64) 8 λ v. Shared.lenV (v .0)) (Reads'.as-is 𝓤 H A (Relend.msptr T (Syntax.tyRef Syntax.erased Syntax.mut ϱ) 7)) (Reads'.room-gone 𝓤 H A (Syntax.tyStruct (List._∷_ 38 (List._∷_ 91 (List._∷_ 93 List.[]))) (Syntax.tcons (Syntax.tyRef Syntax.erased Syntax.mut ϱ) (Syntax.tcons (Syntax.tyInt Syntax.w64) Syntax.tnil)))) ( Relend.reads-owed-len 𝓤 H A W T τ 0 7 (Row.lease (κs .0) (qs .0)) 8 Path'.refl, Path'.refl, ) Path'.refl Path'.refl λ b o k. tt) d23
+          d24 = Typed.s-seq 𝓤 H A W 𝓣 E G6 G7 b1 b20 Δ0 (Typed.ask s5) at23 (Relend.t-sl-aggregate 𝓤 H A W E T 𝓣 (Relend.asMut T) G6 9 10 7 (Syntax.tyRef Syntax.erased Syntax.mut ϱ) (Syntax.tyRef Syntax.erased Syntax.mut ϱ) (λ x. x) (Scalar.oFld 1 (List._∷_ (Syntax.field 1) List.[]) (Syntax.tyInt Syntax.w64) 8 λ v. Shared.lenV (v .0)) (Reads'.as-is 𝓤 H A (Relend.msptr T (Syntax.tyRef Syntax.erased Syntax.mut ϱ) 7)) (Reads'.room-gone 𝓤 H A (Syntax.tyStruct (List._∷_ 38 (List._∷_ 91 (List._∷_ 93 List.[]))) (Syntax.tcons (Syntax.tyRef Syntax.erased Syntax.mut ϱ) (Syntax.tcons (Syntax.tyInt Syntax.w64) Syntax.tnil)))) (Relend.reads-owed-len 𝓤 H A W T τ 0 7 (Row.lease (κs .0) (qs .0)) 8 Path'.refl, Path'.refl) Path'.refl Path'.refl λ b o k. tt) d23
 
           d25 : Typed.Typed 𝓤 H A 𝓣 E G5 b22 Δ0 at25
           d25 = Typed.s-seq 𝓤 H A W 𝓣 E G5 G6 b0 b21 Δ0 (Typed.give s4) at24 (Relend.t-sl-relend 𝓤 H A W E T 𝓣 G5 1 9 0 7 τ (Syntax.tyRef Syntax.erased Syntax.mut ϱ) (Row.lease (κs .0) (qs .0)) 0 (λ x. x) (Reads'.as-is 𝓤 H A (Mut.mslice T τ 0)) (Reads'.room-gone 𝓤 H A (Syntax.tyRef Syntax.erased Syntax.mut ϱ)) Path'.refl tt Path'.refl Path'.refl Path'.refl λ b o. tt) d24
 
           d26 : Typed.Typed 𝓤 H A 𝓣 E G4 b22 Δ0 at26
-          d26 = Typed.g-pre 𝓤 H A W 𝓣 E G4 G5 b22 Δ0 (λ Ψ. Ψ) at25 (Lifetime.g-begin 𝓤 H A W E G4 7 ( tt, ( tt, ( tt, ( tt, ( tt, (tt, (tt, (tt, (tt, (tt, (tt, (tt, (tt, (tt, (tt, tt)))))))))), ), ), ), ), )) d25
+          d26 = Typed.g-pre 𝓤 H A W 𝓣 E G4 G5 b22 Δ0 (λ Ψ. Ψ) at25 (Lifetime.g-begin 𝓤 H A W E G4 7 (tt, (tt, (tt, (tt, (tt, (tt, (tt, (tt, (tt, (tt, (tt, (tt, (tt, (tt, (tt, tt)))))))))))))))) d25
 
           d27 : Typed.Typed 𝓤 H A 𝓣 E G3 b22 Δ0 at27
           d27 = Typed.g-pre 𝓤 H A W 𝓣 E G3 G4 b22 Δ0 (Typed.give s2) at26 (Know.g-sl-known 𝓤 H A W (Referent.fInt Syntax.w32) E G3 4 3 (Syntax.tyRef (Syntax.named 3) Syntax.mut (Syntax.tyInt Syntax.w32)) (Row.lease (κs .1 .1 .1 .0) (qs .1 .1 .1 .0)) 0 (λ x. x) record { fits = Dec'.lit< tt } (Reads'.as-is 𝓤 H A (Mut.mslice (Referent.rtF (Referent.fInt Syntax.w32)) (Syntax.tyRef (Syntax.named 3) Syntax.mut (Syntax.tyInt Syntax.w32)) 3)) Path'.refl tt) d26
@@ -920,14 +1422,19 @@ module _ (claims· : Claims) where
           pub group : Kinds.Den {n = 7} κs (Kinds.pMutF (Referent.fInt Syntax.w32) 6 tt)
 
         abbrev pub dens : (a : Args) → Kinds.Dens κs ps
-        dens = λ a. ( a .rows, (a .sheet, (a .first, (a .second, (a .line, (a .length, (a .group, tt)))))),
+        dens = λ a. (
+          a .rows,
+          (a .sheet, (a .first, (a .second, (a .line, (a .length, (a .group, tt)))))),
         )
 
       abbrev pub m0 : (κs : Lifetimes.Lfts 7) → (args : Args κs) → Typed.Mo T0
       m0 = λ κs args. (tt, Enter.partsP κs 1 ps xs (dens κs args))
 
       abbrev W0 : (κs : Lifetimes.Lfts 7) → (args : Args κs) → Typed.Want O0
-      W0 = λ κs args. ( λ u. ⊥, tt, λ u. Enter.Fixs κs 1 ps xs (dens κs args) (u .1) × Post· κs (dens κs args) (Function.resV r κs (u .0)) (Clauses.atExit (Kinds.endedOf 7 ps r) κs (dens κs args) (Enter.lastsP κs 1 ps xs (dens κs args) (u .1))),
+      W0 = λ κs args. (
+        λ u. ⊥,
+        tt,
+        λ u. Enter.Fixs κs 1 ps xs (dens κs args) (u .1) × Post· κs (dens κs args) (Function.resV r κs (u .0)) (Clauses.atExit (Kinds.endedOf 7 ps r) κs (dens κs args) (Enter.lastsP κs 1 ps xs (dens κs args) (u .1))),
       )
 
       pub record Start : Type 0 where
@@ -1019,7 +1526,9 @@ module _ (claims· : Claims) where
 
       module _ (before· : After-firm-arg3) where
         abbrev pub After-firm·own : Type 0
-        After-firm·own = Called.Called ps·0 r·0 (claims· .1) T13 ( record { pos = 10; ty = Syntax.tyRef Syntax.erased Syntax.mut ϱ; ref = λ x. x; }, ( record { pos = 2; ty = Syntax.tyRef (Syntax.named 1) Syntax.imm (Syntax.tyInt Syntax.w8); ref = λ x. x; }, ( record { pos = 12; ty = Syntax.tyRef Syntax.erased Syntax.mut (Syntax.tyInt Syntax.w32); ref = λ x. x; }, ( record { pos = 14; ty = Syntax.tyRef Syntax.erased Syntax.mut (Syntax.tyInt Syntax.w32); ref = λ x. x; }, tt, ), ), ),
+        After-firm·own = Called.Called ps·0 r·0 (claims· .1) T13 (
+          record { pos = 10; ty = Syntax.tyRef Syntax.erased Syntax.mut ϱ; ref = λ x. x },
+          (record { pos = 2; ty = Syntax.tyRef (Syntax.named 1) Syntax.imm (Syntax.tyInt Syntax.w8); ref = λ x. x }, (record { pos = 12; ty = Syntax.tyRef Syntax.erased Syntax.mut (Syntax.tyInt Syntax.w32); ref = λ x. x }, (record { pos = 14; ty = Syntax.tyRef Syntax.erased Syntax.mut (Syntax.tyInt Syntax.w32); ref = λ x. x }, tt))),
         ) (m9 (before· .before) (before· .firm-arg3 .given))
 
       pub record After-firm : Type 0 where
@@ -1027,7 +1536,9 @@ module _ (claims· : Claims) where
         pub firm : After-firm·own before
 
       abbrev pub After-firm·gave : (c : After-firm) → s12 .gives (m9 (c .before .before) (c .before .firm-arg3 .given))
-      After-firm·gave = λ c. Called.given ps·0 r·0 (claims· .1) T13 ( record { pos = 10; ty = Syntax.tyRef Syntax.erased Syntax.mut ϱ; ref = λ x. x; }, ( record { pos = 2; ty = Syntax.tyRef (Syntax.named 1) Syntax.imm (Syntax.tyInt Syntax.w8); ref = λ x. x; }, ( record { pos = 12; ty = Syntax.tyRef Syntax.erased Syntax.mut (Syntax.tyInt Syntax.w32); ref = λ x. x; }, ( record { pos = 14; ty = Syntax.tyRef Syntax.erased Syntax.mut (Syntax.tyInt Syntax.w32); ref = λ x. x; }, tt, ), ), ),
+      After-firm·gave = λ c. Called.given ps·0 r·0 (claims· .1) T13 (
+        record { pos = 10; ty = Syntax.tyRef Syntax.erased Syntax.mut ϱ; ref = λ x. x },
+        (record { pos = 2; ty = Syntax.tyRef (Syntax.named 1) Syntax.imm (Syntax.tyInt Syntax.w8); ref = λ x. x }, (record { pos = 12; ty = Syntax.tyRef Syntax.erased Syntax.mut (Syntax.tyInt Syntax.w32); ref = λ x. x }, (record { pos = 14; ty = Syntax.tyRef Syntax.erased Syntax.mut (Syntax.tyInt Syntax.w32); ref = λ x. x }, tt))),
       ) (m9 (c .before .before) (c .before .firm-arg3 .given)) (c .firm)
 
       abbrev pub m11 : (before : After-firm) → (given : s14 .gives (m10 (before .before) (After-firm·gave before))) → Typed.Mo T16
@@ -1114,16 +1625,20 @@ module _ (claims· : Claims) where
 
       module _ (firm-requires : Need-firm-requires) (same-length : Need-same-length) (same-length-2 : Need-same-length-2) (same-length-3 : Need-same-length-3) (returns : Need-returns) where
         lay1 : (c : After-firm) → at16 (W0 (c .before .before .before .before .before .before .before .κs) (c .before .before .before .before .before .before .before .args)) (m10 (c .before) (After-firm·gave c))
-        lay1 = λ c. ( Path'.refl, λ g. ( Path'.refl, λ g'. λ g''. ( Path'.refl, λ g'3. λ g'4. ( ( MutSlice.fix-len (Row.get 1 (T30 .locals) (m20 record { before = record { before = record { before = record { before = record { before = c .before; firm = c .firm }; rows = record { given = g }; }; first = record { given = g' }; }; slice-known3 = record { given = g'' }; }; second = record { given = g'3 }; } g'4) .ptr) (Row.get 1 (T30 .locals) (m20 record { before = record { before = record { before = record { before = record { before = c .before; firm = c .firm }; rows = record { given = g }; }; first = record { given = g' }; }; slice-known3 = record { given = g'' }; }; second = record { given = g'3 }; } g'4) .name) (Row.get 1 (T30 .locals) (m20 record { before = record { before = record { before = record { before = record { before = c .before; firm = c .firm }; rows = record { given = g }; }; first = record { given = g' }; }; slice-known3 = record { given = g'' }; }; second = record { given = g'3 }; } g'4) .now) (dens (c .before .before .before .before .before .before .before .κs) (c .before .before .before .before .before .before .before .args) .0 .now) (same-length record { before = record { before = record { before = record { before = record { before = record { before = c .before; firm = c .firm }; rows = record { given = g }; }; first = record { given = g' }; }; slice-known3 = record { given = g'' }; }; second = record { given = g'3 }; }; slice-known4 = record { given = g'4 }; }), ( Path'.refl, ( MutSlice.fix-len (Row.get 3 (T30 .locals) (m20 record { before = record { before = record { before = record { before = record { before = c .before; firm = c .firm }; rows = record { given = g }; }; first = record { given = g' }; }; slice-known3 = record { given = g'' }; }; second = record { given = g'3 }; } g'4) .ptr) (Row.get 3 (T30 .locals) (m20 record { before = record { before = record { before = record { before = record { before = c .before; firm = c .firm }; rows = record { given = g }; }; first = record { given = g' }; }; slice-known3 = record { given = g'' }; }; second = record { given = g'3 }; } g'4) .name) (Row.get 3 (T30 .locals) (m20 record { before = record { before = record { before = record { before = record { before = c .before; firm = c .firm }; rows = record { given = g }; }; first = record { given = g' }; }; slice-known3 = record { given = g'' }; }; second = record { given = g'3 }; } g'4) .now) (dens (c .before .before .before .before .before .before .before .κs) (c .before .before .before .before .before .before .before .args) .1 .1 .0 .now) (same-length-2 record { before = record { before = record { before = record { before = record { before = record { before = c .before; firm = c .firm }; rows = record { given = g }; }; first = record { given = g' }; }; slice-known3 = record { given = g'' }; }; second = record { given = g'3 }; }; slice-known4 = record { given = g'4 }; }), ( MutSlice.fix-len (Row.get 4 (T30 .locals) (m20 record { before = record { before = record { before = record { before = record { before = c .before; firm = c .firm }; rows = record { given = g }; }; first = record { given = g' }; }; slice-known3 = record { given = g'' }; }; second = record { given = g'3 }; } g'4) .ptr) (Row.get 4 (T30 .locals) (m20 record { before = record { before = record { before = record { before = record { before = c .before; firm = c .firm }; rows = record { given = g }; }; first = record { given = g' }; }; slice-known3 = record { given = g'' }; }; second = record { given = g'3 }; } g'4) .name) (Row.get 4 (T30 .locals) (m20 record { before = record { before = record { before = record { before = record { before = c .before; firm = c .firm }; rows = record { given = g }; }; first = record { given = g' }; }; slice-known3 = record { given = g'' }; }; second = record { given = g'3 }; } g'4) .now) (dens (c .before .before .before .before .before .before .before .κs) (c .before .before .before .before .before .before .before .args) .1 .1 .1 .0 .now) (same-length-3 record { before = record { before = record { before = record { before = record { before = record { before = c .before; firm = c .firm }; rows = record { given = g }; }; first = record { given = g' }; }; slice-known3 = record { given = g'' }; }; second = record { given = g'3 }; }; slice-known4 = record { given = g'4 }; }), (Path'.refl, (Path'.refl, (Path'.refl, tt))), ), ), ), ), returns record { before = record { before = record { before = record { before = record { before = record { before = c .before; firm = c .firm }; rows = record { given = g }; }; first = record { given = g' }; }; slice-known3 = record { given = g'' }; }; second = record { given = g'3 }; }; slice-known4 = record { given = g'4 }; }, ), ), ),
+        lay1 = λ c. (
+          Path'.refl,
+          λ g. (Path'.refl, λ g'. λ g''. (Path'.refl, λ g'3. λ g'4. ((MutSlice.fix-len (Row.get 1 (T30 .locals) (m20 record { before = record { before = record { before = record { before = record { before = c .before; firm = c .firm }; rows = record { given = g } }; first = record { given = g' } }; slice-known3 = record { given = g'' } }; second = record { given = g'3 } } g'4) .ptr) (Row.get 1 (T30 .locals) (m20 record { before = record { before = record { before = record { before = record { before = c .before; firm = c .firm }; rows = record { given = g } }; first = record { given = g' } }; slice-known3 = record { given = g'' } }; second = record { given = g'3 } } g'4) .name) (Row.get 1 (T30 .locals) (m20 record { before = record { before = record { before = record { before = record { before = c .before; firm = c .firm }; rows = record { given = g } }; first = record { given = g' } }; slice-known3 = record { given = g'' } }; second = record { given = g'3 } } g'4) .now) (dens (c .before .before .before .before .before .before .before .κs) (c .before .before .before .before .before .before .before .args) .0 .now) (same-length record { before = record { before = record { before = record { before = record { before = record { before = c .before; firm = c .firm }; rows = record { given = g } }; first = record { given = g' } }; slice-known3 = record { given = g'' } }; second = record { given = g'3 } }; slice-known4 = record { given = g'4 } }), (Path'.refl, (MutSlice.fix-len (Row.get 3 (T30 .locals) (m20 record { before = record { before = record { before = record { before = record { before = c .before; firm = c .firm }; rows = record { given = g } }; first = record { given = g' } }; slice-known3 = record { given = g'' } }; second = record { given = g'3 } } g'4) .ptr) (Row.get 3 (T30 .locals) (m20 record { before = record { before = record { before = record { before = record { before = c .before; firm = c .firm }; rows = record { given = g } }; first = record { given = g' } }; slice-known3 = record { given = g'' } }; second = record { given = g'3 } } g'4) .name) (Row.get 3 (T30 .locals) (m20 record { before = record { before = record { before = record { before = record { before = c .before; firm = c .firm }; rows = record { given = g } }; first = record { given = g' } }; slice-known3 = record { given = g'' } }; second = record { given = g'3 } } g'4) .now) (dens (c .before .before .before .before .before .before .before .κs) (c .before .before .before .before .before .before .before .args) .1 .1 .0 .now) (same-length-2 record { before = record { before = record { before = record { before = record { before = record { before = c .before; firm = c .firm }; rows = record { given = g } }; first = record { given = g' } }; slice-known3 = record { given = g'' } }; second = record { given = g'3 } }; slice-known4 = record { given = g'4 } }), (MutSlice.fix-len (Row.get 4 (T30 .locals) (m20 record { before = record { before = record { before = record { before = record { before = c .before; firm = c .firm }; rows = record { given = g } }; first = record { given = g' } }; slice-known3 = record { given = g'' } }; second = record { given = g'3 } } g'4) .ptr) (Row.get 4 (T30 .locals) (m20 record { before = record { before = record { before = record { before = record { before = c .before; firm = c .firm }; rows = record { given = g } }; first = record { given = g' } }; slice-known3 = record { given = g'' } }; second = record { given = g'3 } } g'4) .name) (Row.get 4 (T30 .locals) (m20 record { before = record { before = record { before = record { before = record { before = c .before; firm = c .firm }; rows = record { given = g } }; first = record { given = g' } }; slice-known3 = record { given = g'' } }; second = record { given = g'3 } } g'4) .now) (dens (c .before .before .before .before .before .before .before .κs) (c .before .before .before .before .before .before .before .args) .1 .1 .1 .0 .now) (same-length-3 record { before = record { before = record { before = record { before = record { before = record { before = c .before; firm = c .firm }; rows = record { given = g } }; first = record { given = g' } }; slice-known3 = record { given = g'' } }; second = record { given = g'3 } }; slice-known4 = record { given = g'4 } }), (Path'.refl, (Path'.refl, (Path'.refl, tt))))))), returns record { before = record { before = record { before = record { before = record { before = record { before = c .before; firm = c .firm }; rows = record { given = g } }; first = record { given = g' } }; slice-known3 = record { given = g'' } }; second = record { given = g'3 } }; slice-known4 = record { given = g'4 } }))),
         )
 
         pub laid : (c : Start) → at29 (W0 (c .κs) (c .args)) (m0 (c .κs) (c .args))
-        laid = λ c. λ g. λ g'. λ g''. λ g'3. ( Path'.refl, λ g'4. ( Path'.refl, λ g'5. ( Path'.refl, ( firm-requires record { before = record { before = record { before = record { before = record { before = record { before = c; shared-slice-known = record { given = g }; }; slice-known = record { given = g' }; }; slice-known2 = record { given = g'' }; }; firm-arg = record { given = g'3 }; }; firm-arg2 = record { given = g'4 }; }; firm-arg3 = record { given = g'5 }; }, λ g'6. lay1 record { before = record { before = record { before = record { before = record { before = record { before = record { before = c; shared-slice-known = record { given = g }; }; slice-known = record { given = g' }; }; slice-known2 = record { given = g'' }; }; firm-arg = record { given = g'3 }; }; firm-arg2 = record { given = g'4 }; }; firm-arg3 = record { given = g'5 }; }; firm = Called.called ps·0 r·0 (claims· .1) T13 ( record { pos = 10; ty = Syntax.tyRef Syntax.erased Syntax.mut ϱ; ref = λ x. x; }, ( record { pos = 2; ty = Syntax.tyRef (Syntax.named 1) Syntax.imm (Syntax.tyInt Syntax.w8); ref = λ x. x; }, ( record { pos = 12; ty = Syntax.tyRef Syntax.erased Syntax.mut (Syntax.tyInt Syntax.w32); ref = λ x. x; }, ( record { pos = 14; ty = Syntax.tyRef Syntax.erased Syntax.mut (Syntax.tyInt Syntax.w32); ref = λ x. x; }, tt, ), ), ), ) (m9 record { before = record { before = record { before = record { before = record { before = c; shared-slice-known = record { given = g }; }; slice-known = record { given = g' }; }; slice-known2 = record { given = g'' }; }; firm-arg = record { given = g'3 }; }; firm-arg2 = record { given = g'4 }; } g'5) g'6; }, ), ), ),
+        laid = λ c. λ g. λ g'. λ g''. λ g'3. (
+          Path'.refl,
+          λ g'4. (Path'.refl, λ g'5. (Path'.refl, (firm-requires record { before = record { before = record { before = record { before = record { before = record { before = c; shared-slice-known = record { given = g } }; slice-known = record { given = g' } }; slice-known2 = record { given = g'' } }; firm-arg = record { given = g'3 } }; firm-arg2 = record { given = g'4 } }; firm-arg3 = record { given = g'5 } }, λ g'6. lay1 record { before = record { before = record { before = record { before = record { before = record { before = record { before = c; shared-slice-known = record { given = g } }; slice-known = record { given = g' } }; slice-known2 = record { given = g'' } }; firm-arg = record { given = g'3 } }; firm-arg2 = record { given = g'4 } }; firm-arg3 = record { given = g'5 } }; firm = Called.called ps·0 r·0 (claims· .1) T13 (record { pos = 10; ty = Syntax.tyRef Syntax.erased Syntax.mut ϱ; ref = λ x. x }, (record { pos = 2; ty = Syntax.tyRef (Syntax.named 1) Syntax.imm (Syntax.tyInt Syntax.w8); ref = λ x. x }, (record { pos = 12; ty = Syntax.tyRef Syntax.erased Syntax.mut (Syntax.tyInt Syntax.w32); ref = λ x. x }, (record { pos = 14; ty = Syntax.tyRef Syntax.erased Syntax.mut (Syntax.tyInt Syntax.w32); ref = λ x. x }, tt)))) (m9 record { before = record { before = record { before = record { before = record { before = c; shared-slice-known = record { given = g } }; slice-known = record { given = g' } }; slice-known2 = record { given = g'' } }; firm-arg = record { given = g'3 } }; firm-arg2 = record { given = g'4 } } g'5) g'6 }))),
         )
 
         module _ (κs : Lifetimes.Lfts 7) (qs : Lifetimes.Shares 7) where
           pub asked : (a : Kinds.Dens κs ps) → (good : Kinds.GoodsP κs ps a) → (pre : Pre· κs a) → (bs : List.List Nat.ℕ) → Φ (Any.wantQ 7 ps r xs m κs qs a (Post· κs a)) (Function.init 7 ps r xs m κs qs a)
-          asked = λ a good pre bs. laid record { κs = κs; args = record { rows = a .0; sheet = a .1 .0; first = a .1 .1 .0; second = a .1 .1 .1 .0; line = a .1 .1 .1 .1 .0; length = a .1 .1 .1 .1 .1 .0; group = a .1 .1 .1 .1 .1 .1 .0; }; good = good; pre = pre; }
+          asked = λ a good pre bs. laid record { κs = κs; args = record { rows = a .0; sheet = a .1 .0; first = a .1 .1 .0; second = a .1 .1 .1 .0; line = a .1 .1 .1 .1 .0; length = a .1 .1 .1 .1 .1 .0; group = a .1 .1 .1 .1 .1 .1 .0 }; good = good; pre = pre }
 
         module _ {M : Type 1} (𝓤 : URA.URA M) (H : Wp.Heap 𝓤) (A : Atoms.Atoms 𝓤) (W : Kit.Given 𝓤 H A) (𝓣 : Wp.Tables 𝓤 H) (known0 : Plain.Known 𝓤 H A W 𝓣 4 ps·0 r·0 (claims· .0) (claims· .1) "firm::firm") where
           pub spec : Statement.Triple 𝓤 (Wp.WpFn 𝓤 H (𝓣 .C) (𝓣 .Λ) (Function.fnOf 7 ps r xs m hs body)) (Function.plainOf 𝓤 H A 7 ps r Pre· Post·)
