@@ -2,15 +2,19 @@
  * openrules: a partial evaluator for Cedar policies, proved.
  *
  * Each call takes a sheet or two, two work slices and an answer buffer, each as a pointer and a length, and returns a number; the line
- * and the length go where the last two pointers say. README.md has the table of numbers:
+ * and the length go where the last two pointers say. openrules_test_load takes two numbers in the place of sheets and work slices.
+ * README.md has the table of numbers:
  *
  *   0, 0, written     accepted: the first `*length` bytes of `out` are the answer
  *   1, 0, 0           a work slice has under OPENRULES_WORDS words
  *   2, 0, 0           the sheet has over OPENRULES_SHEET bytes
  *   3 to 8, line, 0   the sheet is faulty, first at that line
- *   10, 0, needed     the answer buffer is shorter than the answer; one of OPENRULES_ANSWER bytes never is
+ *   10, 0, needed     the answer buffer is shorter than the answer; one of OPENRULES_ANSWER bytes never is; a page needs OPENRULES_PAGE
  *   11, line, 0       openrules_finish alone: the complete sheet does not agree with the partial one, first at that line of it, or at the
  *                     line after its last where one is lacking
+ *   12, line, 0       openrules_preview alone, before the run on the copy: the sheet lacks the line of this number, which is returned, or the
+ *                     replacement breaks a rule or fills nothing
+ *   13, 0, 0          openrules_test_load alone: under 1 or over OPENRULES_POLICIES policies
  *   14, 0, 0          openrules_firm alone: over OPENRULES_ROWS rows
  *   15, place, 0      openrules_firm alone: a text of the row at that place, counted from 0, does not exist or contradicts a known one
  *
@@ -51,6 +55,12 @@ extern "C" {
 /* The bytes of an answer buffer that is long enough for every sheet. */
 #define OPENRULES_ANSWER 1048576
 
+/* The bytes of a counter page. */
+#define OPENRULES_PAGE 4380
+
+/* The policies that a test load may have. */
+#define OPENRULES_POLICIES 64
+
 /* The rows that a call of openrules_firm may have. */
 #define OPENRULES_ROWS 64
 
@@ -74,6 +84,16 @@ uint32_t openrules_complete(const uint8_t *sheet, size_t sheet_len,
                             size_t *line, size_t *length);
 
 /*
+ * The counter page of a sheet that begins with the line `sheet=partial`: 60 lines of 72 columns, each ending in byte 10, in the answer's place.
+ * Line 1 has the decision; then each policy on term has a line: the text of its id, its effect, its class and the number of its residual nodes.
+ */
+uint32_t openrules_page(const uint8_t *sheet, size_t sheet_len,
+                        uint32_t *first, size_t first_len,
+                        uint32_t *second, size_t second_len,
+                        uint8_t *out, size_t out_len,
+                        size_t *line, size_t *length);
+
+/*
  * The answer that what the partial sheet's run left gives on the complete sheet: that of openrules_complete on it, byte for byte. Both sheets
  * pass their own checks first, the partial one before the other; 2 to 8 and their line are those of the sheet at fault. It takes some 84 KB of
  * stack beside what the other calls take.
@@ -85,6 +105,29 @@ uint32_t openrules_finish(const uint8_t *partial, size_t partial_len,
                           uint8_t *out, size_t out_len,
                           size_t *line, size_t *length);
 
+/*
+ * What a run on a copy of a partial sheet returns that has the replacement in the place of line `of_line`, counted from 1. The kept sheet is only
+ * read: 1 and 2 are asked of it, then 12; the rest, also 2, is that of the run on the copy. A replacement has no byte 10 and no other key, keeps
+ * the number of items after the first `=` and differs only in items that were a lone `?`, on a line `principal`, `resource`, `context` or `entity`.
+ * It takes some 16 KB of stack beside what the other calls take.
+ */
+uint32_t openrules_preview(const uint8_t *sheet, size_t sheet_len,
+                           size_t of_line,
+                           const uint8_t *replacement, size_t replacement_len,
+                           uint32_t *first, size_t first_len,
+                           uint32_t *second, size_t second_len,
+                           uint8_t *out, size_t out_len,
+                           size_t *line, size_t *length);
+
+/*
+ * The test load that a seed and a number of policies name: a partial sheet. It returns 0, 10 or 13, and 13 comes before 10. With 0 the first
+ * `*length` bytes of `out` are the sheet, with 10 `*length` is the sheet's length; `*line` is always 0. A buffer of OPENRULES_SHEET bytes is
+ * long enough for every seed. openrules_partial accepts every such sheet, and its answer has at most OPENRULES_SHEET bytes.
+ */
+uint32_t openrules_test_load(uint64_t seed, uint32_t policies,
+                             uint8_t *out, size_t out_len,
+                             size_t *line, size_t *length);
+
 /* A row of a firm: the numbers of two texts of the sheet, and the decision, which the call fills. */
 typedef struct openrules_row {
     uint32_t principal;
@@ -93,10 +136,10 @@ typedef struct openrules_row {
 } openrules_row;
 
 /*
- * For each row the decision on the partial sheet with the row's texts for principal and resource, and the group's: deny if any row denies, else open
- * if any row is open, else allow; no rows gives allow. A row repeats a text that the sheet knows. The sheet is read once for all rows. 1, 2, 14, then
- * the sheet's lines, then 15 of the lowest row; where the call is refused no row changes and the group is open. `*length` is always 0: no answer
- * buffer is lent. It takes some 64 KB of stack beside what the other calls take.
+ * For each row the decision on the partial sheet with the row's texts for principal and resource, and in `*group` the group's: deny if any row
+ * denies, else open if any row is open, else allow; no rows gives allow. A row repeats a text that the sheet knows. The sheet is read once for all
+ * rows. First 1, 2 and 14, then 3 to 8 of the sheet, then 15 of the lowest row; where the call is refused no row changes and the group is open.
+ * `*length` is always 0: no answer buffer is lent. It takes some 64 KB of stack beside what the other calls take.
  */
 uint32_t openrules_firm(openrules_row *rows, size_t rows_len,
                         const uint8_t *sheet, size_t sheet_len,

@@ -1,17 +1,18 @@
 #!/usr/bin/env python3
-"""Runs the program on the known sheets: python3 scripts/answers.py [PATTERN] [--wrong]
+"""Runs the program on the known sheets and pairs: python3 scripts/answers.py [PATTERN] [--wrong]
 
 Each known sheet (scripts/sheets.py) that the program sends to the entry that it is known for goes to target/bin/openrules (`rt check openrules` makes
 it; OPENRULES names another), and what it prints must be the known text to the byte; where the known call was lent too short a buffer, the program, which
-lends a longer one, must print an answer of the length that was needed. With PATTERN only the sheets whose name it is
-found in. With --wrong every known text is replaced by a wrong one: every sheet must then fail.
+lends a longer one, must print an answer of the length that was needed. Each known pair goes to `openrules finish` in the same way. With PATTERN only the
+sheets and pairs whose name it is found in. With --wrong every known text is replaced by a wrong one: every one must then fail.
 """
 import os
 import re
 import subprocess
 import sys
+import tempfile
 
-from sheets import HERE, WORDS, known, printed, whole
+from sheets import HERE, PAIRS, WORDS, Sheet, known, printed, whole
 
 PROGRAM = os.environ.get("OPENRULES", os.path.join(HERE, "target", "bin", "openrules"))
 
@@ -21,13 +22,21 @@ def entry_of(sheet):
 
 
 def texts():
-    """Name, entry, sheet and text, or the text's length; a sheet far over the limit of size is the program's own."""
-    for sheet, result in known():
-        if whole(sheet, result):
-            yield sheet.name, sheet.entry, sheet.bytes, printed(result)
-        elif min(sheet.first, sheet.second) >= WORDS:
-            yield sheet.name, sheet.entry, sheet.bytes, result.length
-    yield "100,000 bytes", "partial", b"x" * 100000, b"refused=2,0,0\n"
+    """Sheet or pair and text, or the text's length, of those that are lent long enough slices; a sheet far over the limit of size is the program's own."""
+    for one, result in [*known(), *known(PAIRS)]:
+        if min(one.first, one.second) >= WORDS:
+            yield one, printed(result) if whole(one, result) else result.length
+    yield Sheet("100,000 bytes", "partial", b"x" * 100000, WORDS, WORDS, 0), b"refused=2,0,0\n"
+
+
+def run(one):
+    """The program on a sheet, or on the two of a pair."""
+    if isinstance(one, Sheet):
+        return subprocess.run([PROGRAM], input=one.bytes, capture_output=True)
+    with tempfile.NamedTemporaryFile() as file:
+        file.write(one.partial)
+        file.flush()
+        return subprocess.run([PROGRAM, "finish", file.name], input=one.complete, capture_output=True)
 
 
 def main(args):
@@ -39,20 +48,20 @@ def main(args):
         print("%s is not there: run `rt check openrules`" % PROGRAM)
         return 2
     tried = failed = other = 0
-    for name, entry, sheet, want in texts():
-        if words and not re.search(words[0], name):
+    for one, want in texts():
+        if words and not re.search(words[0], one.name):
             continue
-        if entry_of(sheet) != entry:
+        if isinstance(one, Sheet) and entry_of(one.bytes) != one.entry:
             other += 1
             continue
         want = b"refused=3,77,0\n" if "--wrong" in args else want
-        run = subprocess.run([PROGRAM], input=sheet, capture_output=True)
+        ran = run(one)
         tried += 1
-        got = len(run.stdout) if isinstance(want, int) else run.stdout
-        if run.returncode != 0 or got != want or run.stderr:
+        got = len(ran.stdout) if isinstance(want, int) else ran.stdout
+        if ran.returncode != 0 or got != want or ran.stderr:
             failed += 1
-            print("%s: status %d, printed %r, wanted %r" % (name, run.returncode, run.stdout[:200], want if isinstance(want, int) else want[:200]))
-    print("%d sheets, %d differ; %d are about the other entry" % (tried, failed, other))
+            print("%s: status %d, printed %r, wanted %r" % (one.name, ran.returncode, ran.stdout[:200], want if isinstance(want, int) else want[:200]))
+    print("%d sheets and pairs, %d differ; %d are about the other entry" % (tried, failed, other))
     return 1 if failed or not tried else 0
 
 

@@ -1,5 +1,5 @@
 #!/usr/bin/env python3
-"""Writes the known sheets and what program `known` must print for them.
+"""Writes the known sheets and what program `known` must print for them, and the known pairs and what `pairs` must print.
 
     python3 scripts/known.py REFERENCE [FOLDER] [--host HOST] [--have REQUESTS] [--check]
 
@@ -10,8 +10,8 @@ promise kept, and beside each sheet of examples/ its answer.
 
 With --host each answer must also be that of the original: HOST is the program that `cargo build --release` makes in host/. Of an accepted sheet with
 groups of kinds the original is not asked; there the host must accept it, and the expected text, where there is one, must be the reading's. With --have,
-a list as 2.3,2.5,2.9,2.4,2.7,2.6,2.2,2.8 of the requests of document 02 that have landed, the reading is asked with these; the cases of its `cases02.py` that hold
-then are added, from 2.9 on each sheet of `cases.py` and each probe gets a `day` line, from 2.4 on there are sheets whose answers are long, from 2.7 on
+a list as 2.3,2.5,2.9,2.4,2.7,2.6,2.2,2.8,2.1 of the requests of document 02 that have landed, the reading is asked with these; the cases of its `cases02.py` that hold
+then are added, from 2.1 on those of `finish`, to crates/pairs/stdin and stdout, with the pairs of examples/, beside whose complete sheets goes what `finish` prints, from 2.9 on each sheet of `cases.py` and each probe gets a `day` line, from 2.4 on there are sheets whose answers are long, from 2.7 on
 sheets with larger groups and some random ones with groups, of its `gen02.py`, and from 2.6 on sheets with long rows and circles of parents and some random
 ones that parents matter to. Where an expected text, the reading and the original differ, nothing is written. With --check nothing is written either: the files must be what would be written.
 """
@@ -19,12 +19,14 @@ import os
 import subprocess
 import sys
 
-from sheets import CRATE, ENTRIES, HERE, NOT_ASKED, WORDS, Result, Sheet, head, printed, sheets, shown, whole
+from sheets import CRATE, ENTRIES, HERE, NOT_ASKED, PAIRS, WORDS, Pair, Result, Sheet, printed, record, sheets, shown, whole
 
 BUFFER, LARGE = 4096, 65536
 # of random sheets the seed, and how many of each sort are taken: with groups, by entry, and those that parents matter to, by entry and whether they are refused
 GROUPS = 27, {"partial": 40, "complete": 10}
 PARENTS = 26, {("partial", False): 14, ("complete", False): 3, ("partial", True): 6, ("complete", True): 2}
+# requests that bring a call of their own; random sheets are made as they are without these
+CALLS = ["2.1", "2.10", "2.11", "2.12", "2.13", "2.14"]
 PROBE = "probe: "
 DAY = b"day=2026-06-15\n"
 
@@ -40,6 +42,15 @@ def examples():
         if file.endswith(".sheet"):
             sheet = open(os.path.join(HERE, "examples", file), "rb").read()
             yield file, "complete" if sheet.startswith(b"sheet=complete\n") else "partial", sheet
+
+
+def example_pairs():
+    """The complete sheets of examples/, each with the partial sheet whose name its own begins with."""
+    partial = {name[:-len("sheet") - 1]: sheet for name, entry, sheet in examples() if entry == "partial"}
+    for name, entry, sheet in examples():
+        if entry == "complete":
+            shown = max((one for one in partial if name.startswith(one + "-")), key=len)
+            yield Pair(name, partial[shown], sheet, WORDS, WORDS, BUFFER)
 
 
 def with_day(sheet, landed):
@@ -232,20 +243,26 @@ def reaching(gen02, landed):
     yield from of_random(gen02, PARENTS, sort, "with parents")
 
 
-def of_requests(cases02, landed):
-    """Sheets with expected texts: the cases of document 02 that hold when these requests have landed and no more."""
-    others = 0
+def of_requests(cases02, landed, kinds):
+    """Sheets, or pairs for `finish`, with expected texts: the cases of document 02 that hold when these requests have landed and no more."""
     for name, since, until, kind, parts, expected, out_len, work in cases02.CASES if landed else []:
-        if since not in landed or until in landed:
-            continue
-        if kind not in ENTRIES:
-            others += 1
+        if since not in landed or until in landed or kind not in kinds:
             continue
         want = cases02.expected_text(expected, kind, parts, "2.2" in landed).encode()
         buffer = out_len if out_len is not None else BUFFER if len(want) <= BUFFER else LARGE
-        yield Sheet("%s %s" % (since, titled(name, kind)), kind, bytes_of(parts[0]), work[0], work[1], buffer), want
-    if others:
-        print("%d cases are of calls that program `known` does not run" % others)
+        lent, parts = (work[0], work[1], buffer), [bytes_of(part) for part in parts]
+        if kind == "finish":
+            yield Pair("%s %s" % (since, name), *parts, *lent), want
+        else:
+            yield Sheet("%s %s" % (since, titled(name, kind)), kind, *parts, *lent), want
+
+
+def chosen_pairs(cases02, landed):
+    """Pairs, each with the expected text or none."""
+    if "2.1" in landed:
+        yield from of_requests(cases02, landed, ["finish"])
+        for pair in example_pairs():
+            yield pair, None
 
 
 def chosen(cases, cases02, gen02, folder, answer_length, landed):
@@ -261,17 +278,23 @@ def chosen(cases, cases02, gen02, folder, answer_length, landed):
         yield sheet, None
     for sheet in shared(cases02, landed):
         yield sheet, None
-    for sheet in grouped(gen02, landed):
+    without_calls = [request for request in landed if request not in CALLS]
+    gen02.refsheet.set_have(without_calls)
+    for sheet in grouped(gen02, without_calls):
         yield sheet, None
-    for sheet in reaching(gen02, landed):
+    for sheet in reaching(gen02, without_calls):
         yield sheet, None
-    yield from of_requests(cases02, landed)
+    gen02.refsheet.set_have(landed)
+    yield from of_requests(cases02, landed, ENTRIES)
 
 
 def original(sheet, result, host):
-    """What the original makes of a sheet, where it is asked; else what the host says of it, or none."""
-    if not host or not whole(sheet, result):
+    """What the original makes of a sheet, where it is asked; else what the host says of it, or none. Of a pair that agrees it is asked for the complete sheet."""
+    pair = isinstance(sheet, Pair)
+    if not host or not whole(sheet, result) or pair and result.number != 0:
         return None
+    if pair:
+        sheet = Sheet(sheet.name, "complete", sheet.complete, *sheet[3:])
     return subprocess.run([host, "answer", sheet.entry], input=sheet.bytes, capture_output=True, check=True).stdout
 
 
@@ -301,7 +324,7 @@ def settle(made, check):
         if not check:
             with open(path, "wb") as f:
                 f.write(data)
-        elif open(path, "rb").read() != data:
+        elif not os.path.exists(path) or open(path, "rb").read() != data:
             print("%s is not what would be written" % os.path.relpath(path, HERE))
             faults += 1
     return faults
@@ -322,22 +345,29 @@ def main(args):
     landed = have.split(",") if have else []
     refsheet.set_have(landed)
 
-    def result_of(sheet):
-        found = refsheet.run_entry(sheet.entry, sheet.bytes, sheet.buffer, min(sheet.first, sheet.second))
+    def result_of(one):
+        if isinstance(one, Pair):
+            return Result(*refsheet.finish(one.partial, one.complete, one.first, one.second, one.buffer))
+        found = refsheet.run_entry(one.entry, one.bytes, one.buffer, min(one.first, one.second))
         return Result(*found[:3], found[3].encode())
 
     def answer_length(sheet):
         return refsheet.run_entry("partial", sheet)[2]
     folder = words[1] if len(words) == 2 else None
-    found = [(sheet, result_of(sheet), want) for sheet, want in chosen(cases, cases02, gen02, folder, answer_length, landed)]
-    said = [original(sheet, result, host) for sheet, result, _ in found]
-    faults = sum(differs(*one, text) for one, text in zip(found, said))
-    if not faults:
-        made = [(os.path.join(CRATE, "stdin"), b"%d\n" % len(found) + b"".join(head(s) + s.name.encode() + s.bytes for s, _, _ in found)),
-                (os.path.join(CRATE, "stdout"), b"".join(shown(s, r) for s, r, _ in found))]
-        made += [(os.path.join(HERE, "examples", s.name[:-6] + ".answer"), printed(r)) for s, r, _ in found if s.name.endswith(".sheet")]
-        faults = settle(made, "--check" in args)
-    print("%d known sheets, %d faults; %d of them accepted with groups, where the original is not asked" % (len(found), faults, said.count(NOT_ASKED)))
+    lists = [(CRATE, ".answer", list(chosen(cases, cases02, gen02, folder, answer_length, landed))), (PAIRS, ".finished", list(chosen_pairs(cases02, landed)))]
+    faults, asked, made = 0, [], []
+    for crate, suffix, inputs in lists:
+        found = [(one, result_of(one), want) for one, want in inputs]
+        said = [original(one, result, host) for one, result, _ in found]
+        faults += sum(differs(*one, text) for one, text in zip(found, said))
+        asked += said
+        if found:
+            made += [(os.path.join(crate, "stdin"), b"%d\n" % len(found) + b"".join(record(s) for s, _, _ in found)),
+                     (os.path.join(crate, "stdout"), b"".join(shown(s, r) for s, r, _ in found))]
+        made += [(os.path.join(HERE, "examples", s.name[:-6] + suffix), printed(r)) for s, r, _ in found if s.name.endswith(".sheet")]
+    faults = faults or settle(made, "--check" in args)
+    sheets_pairs = tuple(len(inputs) for _, _, inputs in lists)
+    print("%d known sheets, %d pairs, %d faults; %d of them accepted with groups, where the original is not asked" % (sheets_pairs + (faults, asked.count(NOT_ASKED))))
     return 1 if faults else 0
 
 

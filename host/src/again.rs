@@ -6,7 +6,7 @@
 
 use std::collections::HashMap;
 
-use crate::compare::Call;
+use crate::compare::{report, Call};
 use crate::generate;
 use crate::sheet::{self, Mode, Sheet, ANSWER_BYTES, WORK_WORDS};
 
@@ -153,10 +153,7 @@ pub fn again(call: Call, count: usize, seed: u64) -> Counts {
         };
         counts.accepted += 1;
         if let Some(text) = one(call, &case.bytes, &sheet, &mut counts) {
-            counts.differences += 1;
-            if counts.differences <= 20 {
-                println!("seed {seed}, sheet {n}: {text} (host show {seed} {n})");
-            }
+            report(&mut counts.differences, format!("seed {seed}, sheet {n}: {text} (host show {seed} {n})"));
         }
     }
     counts

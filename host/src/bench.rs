@@ -11,6 +11,7 @@ use crate::compare::Call;
 use crate::finish::Finish;
 use crate::generate;
 use crate::heavy;
+use crate::loads::{self, Load};
 use crate::run;
 use crate::sheet::{self, Mode, ANSWER_BYTES, WORK_WORDS};
 
@@ -170,9 +171,50 @@ pub fn finish_bench(library: Call, finish: Finish, rounds: usize) {
     }
 }
 
-pub fn bench(library: Option<Call>, rounds: usize) {
+/// The seeds of the test loads that are measured. They are far apart, since near ones may name one sheet.
+fn load_seeds() -> impl Iterator<Item = u64> {
+    (0..16).map(|n| n << 60)
+}
+
+/// Their sheets of most policies: the library's where it is linked.
+fn test_loads(load: Option<Load>) -> Vec<(Mode, Vec<u8>)> {
+    let own = |seed| loads::sheet(seed, loads::MOST);
+    let made = |load: Load, seed| {
+        let mut out = vec![0u8; loads::BYTES];
+        let [number, _, length] = load(seed, loads::MOST, &mut out);
+        assert_eq!(number, 0, "the buffer is long enough");
+        out.truncate(length as usize);
+        out
+    };
+    load_seeds().map(|seed| (Mode::Partial, load.map_or_else(|| own(seed), |load| made(load, seed)))).collect()
+}
+
+fn load_row(library: Option<Call>, load: Option<Load>, rounds: usize) {
+    row("16 test loads of 64 policies", &measure(&test_loads(load), library, rounds));
+}
+
+fn table_head() {
     let head = "| sheets | bytes a sheet | original, ns a sheet | original, ns a byte | of it reading, ns a sheet | library, ns a sheet | library, ns a byte | ratio |";
     println!("{head}\n|---|---|---|---|---|---|---|---|");
+}
+
+/// The row of test loads by itself, and how long the library takes to make one.
+pub fn load_bench(library: Option<Call>, load: Option<Load>, rounds: usize) {
+    table_head();
+    load_row(library, load, rounds);
+    if let Some(load) = load {
+        let mut out = vec![0u8; loads::BYTES];
+        let making = time(rounds, || {
+            for seed in load_seeds() {
+                black_box(load(black_box(seed), loads::MOST, &mut out));
+            }
+        });
+        println!("\nthe library makes one in {:.0} ns", making / load_seeds().count() as f64);
+    }
+}
+
+pub fn bench(library: Option<Call>, load: Option<Load>, rounds: usize) {
+    table_head();
     let mixed: Vec<(Mode, Vec<u8>)> = (0..60).map(|n| (Mode::Partial, heavy::mixed(4, n))).collect();
     row("60 random valid ones", &measure(&mixed, library, rounds));
     let mut whole = None;
@@ -181,6 +223,7 @@ pub fn bench(library: Option<Call>, rounds: usize) {
         row(&format!("ordinary, {size} bytes"), &times);
         whole = Some(times);
     }
+    load_row(library, load, rounds);
     let whole = whole.expect("the largest ordinary sheet");
     println!();
     println!("| heavy accepted sheet | bytes | answer, bytes | original, ns | times the ordinary one of 16,384 bytes | library, ns | times the ordinary one | library, ns a byte of sheet and answer | ratio |");

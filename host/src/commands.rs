@@ -8,7 +8,10 @@ use std::process::ExitCode;
 use crate::compare::{self, Call};
 use crate::finish::{self, Finish};
 use crate::generate;
+use crate::loads::{self, Load};
+use crate::pages::{self, Page};
 use crate::parents::Shown;
+use crate::preview::{self, Preview};
 use crate::run;
 use crate::sheet::{self, Mode, Refusal};
 use crate::{again, bench, heavy, replay};
@@ -22,10 +25,15 @@ host compare N SEED                    the library against the original on N she
 host self N SEED                       the same with the original on both sides: a check of the comparison itself
 host again N SEED                      N answers of partial sheets handed back to the library as sheets
 host finish N SEED                     the library's finish on N pairs of sheets that agree or nearly do, against the complete sheet's own run
+host pages N SEED                      the library's counter pages of N sheets, against those that the original's answers make
 host show-pair SEED N                  the N-th pair of a seed, and what finishing gives
+host preview N SEED                    the library's preview on N sheets with a line filled or changed, against the original's run on a copy
+host show-preview SEED N               the N-th of these, and what it gives
+host loads N SEED                      the library's test loads of N seeds, with 1 to 64 policies, against the document's words
 host replay FILE                       writes the fixed list of sheets and answers
 host replay-check FILE                 runs a written list, with the library where it is linked
 host bench [ROUNDS]                    times, in three tables
+host bench-loads ROUNDS                the row of test loads of the first
 host bench-finish ROUNDS               the third of them: finish beside its two sheets' own runs
 host heavy DIR                         writes the sheets of the benchmark
 host about                             what the host was built with";
@@ -47,6 +55,36 @@ fn library_finish() -> Option<Finish> {
 
 #[cfg(not(feature = "library"))]
 fn library_finish() -> Option<Finish> {
+    None
+}
+
+#[cfg(feature = "library")]
+fn library_page() -> Option<Page> {
+    Some(crate::library::page)
+}
+
+#[cfg(not(feature = "library"))]
+fn library_page() -> Option<Page> {
+    None
+}
+
+#[cfg(feature = "library")]
+fn library_load() -> Option<Load> {
+    Some(crate::library::test_load)
+}
+
+#[cfg(not(feature = "library"))]
+fn library_load() -> Option<Load> {
+    None
+}
+
+#[cfg(feature = "library")]
+fn library_preview() -> Option<Preview> {
+    Some(crate::library::preview)
+}
+
+#[cfg(not(feature = "library"))]
+fn library_preview() -> Option<Preview> {
     None
 }
 
@@ -82,6 +120,14 @@ pub fn run(args: &[&str]) -> ExitCode {
             Some(call) => finished(call, number(count), number(seed)),
             None => not_linked(),
         },
+        ["pages", count, seed] => match (library(), library_page()) {
+            (Some(call), Some(page)) => paged(call, page, number(count), number(seed)),
+            _ => not_linked(),
+        },
+        ["loads", count, seed] => match (library_load(), library()) {
+            (Some(load), Some(call)) => loaded(load, call, number(count), number(seed)),
+            _ => not_linked(),
+        },
         ["show-pair", seed, n] => {
             let [partial, complete] = finish::pair(number(seed), number(n));
             write(&partial);
@@ -89,6 +135,19 @@ pub fn run(args: &[&str]) -> ExitCode {
             write(&complete);
             println!("---");
             write(&text_of(finish::answer(&partial, &complete)));
+            ExitCode::SUCCESS
+        }
+        ["preview", count, seed] => match library_preview() {
+            Some(call) => previewed(call, number(count), number(seed)),
+            None => not_linked(),
+        },
+        ["show-preview", seed, n] => {
+            let trial = preview::trial(number(seed), number(n));
+            write(&trial.sheet);
+            println!("--- line {}", trial.of_line);
+            write(&trial.replacement);
+            println!("---");
+            write(&text_of(preview::answer(&trial)));
             ExitCode::SUCCESS
         }
         ["self", count, seed] => compared("the original", run::call, number(count), number(seed)),
@@ -107,11 +166,7 @@ pub fn run(args: &[&str]) -> ExitCode {
             match replay::check(&bytes, library().unwrap_or(run::call)) {
                 Some((records, differences)) => {
                     println!("{records} records, {differences} differences");
-                    if differences == 0 {
-                        ExitCode::SUCCESS
-                    } else {
-                        ExitCode::FAILURE
-                    }
+                    verdict(differences)
                 }
                 None => {
                     println!("the list does not read back");
@@ -121,6 +176,10 @@ pub fn run(args: &[&str]) -> ExitCode {
         }
         ["bench"] => benched(5),
         ["bench", rounds] => benched(number(rounds) as usize),
+        ["bench-loads", rounds] => {
+            bench::load_bench(library(), library_load(), number(rounds) as usize);
+            ExitCode::SUCCESS
+        }
         ["bench-finish", rounds] => match (library(), library_finish()) {
             (Some(call), Some(finish)) => {
                 bench::finish_bench(call, finish, number(rounds) as usize);
@@ -194,42 +253,57 @@ fn heavy_sheets(folder: &Path) -> ExitCode {
 }
 
 fn benched(rounds: usize) -> ExitCode {
-    bench::bench(library(), rounds);
+    bench::bench(library(), library_load(), rounds);
     if let (Some(call), Some(finish)) = (library(), library_finish()) {
         bench::finish_bench(call, finish, rounds);
     }
     ExitCode::SUCCESS
 }
 
-fn finished(call: Finish, count: u64, seed: u64) -> ExitCode {
-    let counts = finish::compare(call, count, seed);
-    println!("finish of the library against the complete sheet's own run, seed {seed}: {}", counts.line());
-    if counts.differences == 0 {
+/// Success where nothing differed.
+fn verdict(differences: usize) -> ExitCode {
+    if differences == 0 {
         ExitCode::SUCCESS
     } else {
         ExitCode::FAILURE
     }
 }
 
+fn finished(call: Finish, count: u64, seed: u64) -> ExitCode {
+    let counts = finish::compare(call, count, seed);
+    println!("finish of the library against the complete sheet's own run, seed {seed}: {}", counts.line());
+    verdict(counts.differences)
+}
+
+fn paged(call: Call, page: Page, count: u64, seed: u64) -> ExitCode {
+    let counts = pages::compare(call, page, count, seed);
+    println!("pages of the library against those of the original's answers, seed {seed}: {}", counts.line());
+    verdict(counts.differences)
+}
+
+fn loaded(load: Load, call: Call, count: u64, seed: u64) -> ExitCode {
+    let counts = loads::compare(load, call, count, seed);
+    println!("test loads of the library against the document's words, seed {seed}: {}", counts.line());
+    verdict(counts.differences)
+}
+
+fn previewed(call: Preview, count: u64, seed: u64) -> ExitCode {
+    let counts = preview::compare(call, count, seed);
+    println!("preview of the library against the original's run on a copy, seed {seed}: {}", counts.line());
+    verdict(counts.differences)
+}
+
 fn compared(name: &str, call: Call, count: u64, seed: u64) -> ExitCode {
     let counts = compare::compare(call, count, seed);
     println!("{name} against the original, seed {seed}: {}", counts.line());
-    if counts.differences == 0 {
-        ExitCode::SUCCESS
-    } else {
-        ExitCode::FAILURE
-    }
+    verdict(counts.differences)
 }
 
 /// Answers handed back to the library.
 fn handed_back(call: Call, count: usize, seed: u64) -> ExitCode {
     let counts = again::again(call, count, seed);
     println!("answers of partial sheets, seed {seed}: {}", counts.line());
-    if counts.differences == 0 {
-        ExitCode::SUCCESS
-    } else {
-        ExitCode::FAILURE
-    }
+    verdict(counts.differences)
 }
 
 /// Known sheets, each with its expected text, and one of them in several buffers.
@@ -269,11 +343,7 @@ fn cases(folder: &Path) -> ExitCode {
         }
     }
     println!("{count} cases, {differences} differences; {grouped} accepted with groups, their answers not compared");
-    if differences == 0 {
-        ExitCode::SUCCESS
-    } else {
-        ExitCode::FAILURE
-    }
+    verdict(differences)
 }
 
 /// The known sheet with an exact, a short and no buffer, and with a short work slice.

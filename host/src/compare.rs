@@ -143,19 +143,24 @@ fn whole_answer(call: Call, case: &Case, random: &mut Random) -> Result<Vec<u8>,
     }
 }
 
+/// The original's answer to a sheet, or its refusal; the library's answer where the original is not asked.
+pub fn original(call: Call, case: &Case, random: &mut Random, grouped: &mut usize) -> Result<Result<Vec<u8>, Refusal>, String> {
+    match run::answer(case.mode, &case.bytes) {
+        Ok(Some(answer)) => Ok(Ok(answer)),
+        Ok(None) => {
+            *grouped += 1;
+            whole_answer(call, case, random).map(Ok).map_err(|text| format!("an accepted sheet with groups: {text}"))
+        }
+        Err(refusal) => Ok(Err(refusal)),
+    }
+}
+
 /// Runs both on one sheet and says what differs.
 fn one(call: Call, case: &Case, random: &mut Random, counts: &mut Counts) -> Option<String> {
     counts.sheets += 1;
-    let answer = match run::answer(case.mode, &case.bytes) {
-        Ok(Some(answer)) => Ok(answer),
-        Ok(None) => {
-            counts.grouped += 1;
-            match whole_answer(call, case, random) {
-                Ok(answer) => Ok(answer),
-                Err(text) => return Some(format!("an accepted sheet with groups: {text}")),
-            }
-        }
-        Err(refusal) => Err(refusal),
+    let answer = match original(call, case, random, &mut counts.grouped) {
+        Ok(answer) => answer,
+        Err(text) => return Some(text),
     };
     if let Ok(answer) = &answer {
         match run::explained(case.mode, answer) {
@@ -166,16 +171,25 @@ fn one(call: Call, case: &Case, random: &mut Random, counts: &mut Counts) -> Opt
             Err(text) => return Some(text),
         }
     }
+    let (number, differs) = beside(answer, random, |a, b, out| call(case.mode, &case.bytes, a, b, out));
+    counts.numbers[number] += 1;
+    differs
+}
+
+/// A call in whatever is lent, beside what an answer or a refusal should leave there: the number that it should return, and what differs.
+pub fn beside(
+    answer: Result<Vec<u8>, Refusal>,
+    random: &mut Random,
+    call: impl FnOnce(&mut [u32], &mut [u32], &mut [u8]) -> [u32; 3],
+) -> (usize, Option<String>) {
     let needed = answer.as_ref().map_or(40, Vec::len);
     let mut expected = Lent::of(work_length(random), work_length(random), buffer_length(needed, random), random);
     let mut found = expected.clone();
     let wanted = expected.left(answer);
-    let got = found.call(call, case);
-    counts.numbers[wanted[0] as usize] += 1;
-    if got != wanted {
-        return Some(format!("returned {got:?}, expected {wanted:?}"));
-    }
-    found.differs(&expected)
+    let (a, b, out) = found.parts();
+    let got = call(a, b, out);
+    let differs = if got == wanted { found.differs(&expected) } else { Some(format!("returned {got:?}, expected {wanted:?}")) };
+    (wanted[0] as usize, differs)
 }
 
 /// The three answers of a triple, and demand 3 over them.
@@ -191,25 +205,27 @@ fn triple(call: Call, sheets: &[Vec<u8>; 3], random: &mut Random) -> Option<Stri
     run::demand3([&sheets[0], &sheets[1], &sheets[2]], [&answers[0], &answers[1], &answers[2]]).err()
 }
 
+/// One difference more; the first twenty are printed.
+pub fn report(differences: &mut usize, text: String) {
+    *differences += 1;
+    if *differences <= 20 {
+        println!("{text}");
+    }
+}
+
 /// Compares on so many sheets of a seed, and on a triple for every fourth.
 pub fn compare(call: Call, count: u64, seed: u64) -> Counts {
     let mut counts = Counts::default();
-    let report = |counts: &mut Counts, text: String| {
-        counts.differences += 1;
-        if counts.differences <= 20 {
-            println!("{text}");
-        }
-    };
     for n in 0..count {
         let case = generate::sheet(seed, n);
         let random = &mut Random::of(!seed, n);
         if let Some(text) = one(call, &case, random, &mut counts) {
-            report(&mut counts, format!("seed {seed}, sheet {n}: {text} (host show {seed} {n})"));
+            report(&mut counts.differences, format!("seed {seed}, sheet {n}: {text} (host show {seed} {n})"));
         }
         if n % 4 == 0 {
             counts.triples += 1;
             if let Some(text) = triple(call, &generate::triple(seed, n), random) {
-                report(&mut counts, format!("seed {seed}, triple {n}: {text} (host show-triple {seed} {n})"));
+                report(&mut counts.differences, format!("seed {seed}, triple {n}: {text} (host show-triple {seed} {n})"));
             }
         }
     }

@@ -1,7 +1,7 @@
 //! Document 02, 2.1: the library's `finish` beside the complete sheet's own run by the original, on pairs that agree and pairs that
 //! nearly do. Where they do not, the line of number 11 is found here from the lines of both sheets as they stand.
 
-use crate::compare::{buffer_length, by_number, work_length, Lent};
+use crate::compare::{beside, by_number, report};
 use crate::draft::bytes_of;
 use crate::generate;
 use crate::random::Random;
@@ -225,17 +225,9 @@ fn one(finish: Finish, [partial, complete]: &[Vec<u8>; 2], random: &mut Random, 
     if let Err(Refusal { number: 11, line, .. }) = &answer {
         counts.lacking += usize::from(*line as usize > complete.iter().filter(|byte| **byte == b'\n').count());
     }
-    let needed = answer.as_ref().map_or(40, Vec::len);
-    let mut expected = Lent::of(work_length(random), work_length(random), buffer_length(needed, random), random);
-    let mut found = expected.clone();
-    let wanted = expected.left(answer);
-    let (a, b, out) = found.parts();
-    let got = finish(partial, complete, a, b, out);
-    counts.numbers[wanted[0] as usize] += 1;
-    if got != wanted {
-        return Some(format!("returned {got:?}, expected {wanted:?}"));
-    }
-    found.differs(&expected)
+    let (number, differs) = beside(answer, random, |a, b, out| finish(partial, complete, a, b, out));
+    counts.numbers[number] += 1;
+    differs
 }
 
 /// Compares on so many pairs of a seed.
@@ -244,10 +236,7 @@ pub fn compare(finish: Finish, count: u64, seed: u64) -> Counts {
     for n in 0..count {
         let random = &mut Random::of(!seed, n);
         if let Some(text) = one(finish, &pair(seed, n), random, &mut counts) {
-            counts.differences += 1;
-            if counts.differences <= 20 {
-                println!("seed {seed}, pair {n}: {text} (host show-pair {seed} {n})");
-            }
+            report(&mut counts.differences, format!("seed {seed}, pair {n}: {text} (host show-pair {seed} {n})"));
         }
     }
     counts

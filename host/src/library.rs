@@ -27,6 +27,18 @@ extern "C" {
         line: *mut usize,
         length: *mut usize,
     ) -> u32;
+    fn openrules_page(
+        sheet: *const u8,
+        sheet_len: usize,
+        first: *mut u32,
+        first_len: usize,
+        second: *mut u32,
+        second_len: usize,
+        out: *mut u8,
+        out_len: usize,
+        line: *mut usize,
+        length: *mut usize,
+    ) -> u32;
     fn openrules_finish(
         partial: *const u8,
         partial_len: usize,
@@ -41,6 +53,22 @@ extern "C" {
         line: *mut usize,
         length: *mut usize,
     ) -> u32;
+    fn openrules_preview(
+        sheet: *const u8,
+        sheet_len: usize,
+        of_line: usize,
+        replacement: *const u8,
+        replacement_len: usize,
+        first: *mut u32,
+        first_len: usize,
+        second: *mut u32,
+        second_len: usize,
+        out: *mut u8,
+        out_len: usize,
+        line: *mut usize,
+        length: *mut usize,
+    ) -> u32;
+    fn openrules_test_load(seed: u64, policies: u32, out: *mut u8, out_len: usize, line: *mut usize, length: *mut usize) -> u32;
 }
 
 /// Number, line and length of a call. A number too large for the comparison becomes one that no call returns.
@@ -48,12 +76,26 @@ fn returned(number: u32, line: usize, length: usize) -> [u32; 3] {
     [number, u32::try_from(line).unwrap_or(u32::MAX), u32::try_from(length).unwrap_or(u32::MAX)]
 }
 
-/// One call; returns number, line and length.
+/// A C function over one sheet.
+type Entry =
+    unsafe extern "C" fn(*const u8, usize, *mut u32, usize, *mut u32, usize, *mut u8, usize, *mut usize, *mut usize) -> u32;
+
+/// The answer to a sheet; returns number, line and length.
 pub fn call(mode: Mode, sheet: &[u8], work_a: &mut [u32], work_b: &mut [u32], out: &mut [u8]) -> [u32; 3] {
-    let entry = match mode {
+    let entry: Entry = match mode {
         Mode::Partial => openrules_partial,
         Mode::Complete => openrules_complete,
     };
+    lend(entry, sheet, work_a, work_b, out)
+}
+
+/// The counter page of a partial sheet.
+pub fn page(sheet: &[u8], work_a: &mut [u32], work_b: &mut [u32], out: &mut [u8]) -> [u32; 3] {
+    lend(openrules_page, sheet, work_a, work_b, out)
+}
+
+/// One call over one sheet.
+fn lend(entry: Entry, sheet: &[u8], work_a: &mut [u32], work_b: &mut [u32], out: &mut [u8]) -> [u32; 3] {
     let (mut line, mut length) = (usize::MAX, usize::MAX);
     // Every pointer is that of a slice of the length beside it or of a number, and no two of them overlap.
     let number = unsafe {
@@ -93,5 +135,44 @@ pub fn finish(partial: &[u8], complete: &[u8], work_a: &mut [u32], work_b: &mut 
             &mut length,
         )
     };
+    returned(number, line, length)
+}
+
+/// One call over a sheet, the number of a line and a line for it.
+pub fn preview(
+    sheet: &[u8],
+    of_line: usize,
+    replacement: &[u8],
+    work_a: &mut [u32],
+    work_b: &mut [u32],
+    out: &mut [u8],
+) -> [u32; 3] {
+    let (mut line, mut length) = (usize::MAX, usize::MAX);
+    // As above.
+    let number = unsafe {
+        openrules_preview(
+            sheet.as_ptr(),
+            sheet.len(),
+            of_line,
+            replacement.as_ptr(),
+            replacement.len(),
+            work_a.as_mut_ptr(),
+            work_a.len(),
+            work_b.as_mut_ptr(),
+            work_b.len(),
+            out.as_mut_ptr(),
+            out.len(),
+            &mut line,
+            &mut length,
+        )
+    };
+    returned(number, line, length)
+}
+
+/// A test load.
+pub fn test_load(seed: u64, policies: u32, out: &mut [u8]) -> [u32; 3] {
+    let (mut line, mut length) = (usize::MAX, usize::MAX);
+    // As above.
+    let number = unsafe { openrules_test_load(seed, policies, out.as_mut_ptr(), out.len(), &mut line, &mut length) };
     returned(number, line, length)
 }

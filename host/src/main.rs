@@ -17,7 +17,13 @@ mod heavy;
 #[cfg(all(original, feature = "library"))]
 mod library;
 #[cfg(original)]
+mod loads;
+#[cfg(original)]
+mod pages;
+#[cfg(original)]
 mod parents;
+#[cfg(original)]
+mod preview;
 #[cfg(original)]
 mod random;
 #[cfg(original)]

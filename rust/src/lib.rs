@@ -48,9 +48,16 @@
 //! Where a partial sheet was filled in, [`Evaluator::finish`] takes both sheets and evaluates what the partial run left on the complete one. The
 //! answer is that of the complete sheet itself; sheets that do not agree are refused with number 11 and the line that breaks agreement.
 //!
+//! [`Evaluator::page`] gives the counter page of a partial sheet: 60 lines of 72 columns, with the decision and a line for each policy on term.
+//!
+//! [`Evaluator::preview`] says what one more answer would do: what a run on a copy of a partial sheet returns that has another line in the place
+//! of one of its own. The sheet itself is only read.
+//!
+//! [`test_load`] gives a partial sheet that a seed and a number of policies name, so that all can measure and compare on the same sheets.
+//!
 //! Where several brokers ask for the same quote, [`Evaluator::firm`] fills a list of [`Row`]s, each with the decision on the sheet with its two texts.
 //!
-//! [`partial`], [`complete`], [`finish`] and [`firm`] are the calls themselves, in slices of the caller's own; they allocate nothing.
+//! [`partial`], [`complete`], [`finish`], [`page`], [`preview`], [`firm`] and [`test_load`] are the calls themselves, in slices of the caller's own; they allocate nothing.
 
 use std::error::Error;
 use std::fmt;
@@ -66,6 +73,12 @@ pub const ROWS: usize = 64;
 
 /// The bytes of an answer buffer that is long enough for every sheet: no answer is longer. An [`Evaluator`] lends so many.
 pub const ANSWER: usize = 1048576;
+
+/// The bytes of a counter page: 60 lines of 72 columns, each ending in byte 10.
+pub const PAGE: usize = 4380;
+
+/// The policies that a test load may have.
+pub const POLICIES: u32 = 64;
 
 extern "C" {
     fn openrules_partial(
@@ -92,11 +105,38 @@ extern "C" {
         line: *mut usize,
         length: *mut usize,
     ) -> u32;
+    fn openrules_page(
+        sheet: *const u8,
+        sheet_len: usize,
+        first: *mut u32,
+        first_len: usize,
+        second: *mut u32,
+        second_len: usize,
+        out: *mut u8,
+        out_len: usize,
+        line: *mut usize,
+        length: *mut usize,
+    ) -> u32;
     fn openrules_finish(
         partial: *const u8,
         partial_len: usize,
         complete: *const u8,
         complete_len: usize,
+        first: *mut u32,
+        first_len: usize,
+        second: *mut u32,
+        second_len: usize,
+        out: *mut u8,
+        out_len: usize,
+        line: *mut usize,
+        length: *mut usize,
+    ) -> u32;
+    fn openrules_preview(
+        sheet: *const u8,
+        sheet_len: usize,
+        of_line: usize,
+        replacement: *const u8,
+        replacement_len: usize,
         first: *mut u32,
         first_len: usize,
         second: *mut u32,
@@ -119,6 +159,7 @@ extern "C" {
         length: *mut usize,
         group: *mut Decision,
     ) -> u32;
+    fn openrules_test_load(seed: u64, policies: u32, out: *mut u8, out_len: usize, line: *mut usize, length: *mut usize) -> u32;
 }
 
 /// Why there is no answer: number, line and length, by the table of refusals.
@@ -129,12 +170,12 @@ extern "C" {
 /// ```
 #[derive(Clone, Copy, Debug, PartialEq, Eq)]
 pub struct Refusal {
-    /// 1 to 8, 10, 11, 14 or 15; [`finish`] alone gives 11, [`firm`] alone 14 and 15.
+    /// 1 to 8 or 10 to 15; [`finish`] alone gives 11, [`preview`] alone 12, [`firm`] alone 14 and 15, and [`test_load`] gives 10 and 13 alone.
     pub number: u32,
     /// The line of the first fault, counted from 1, for the numbers 3 to 8; the line of the complete sheet that breaks agreement, or the
-    /// line after its last, for the number 11; the place of a row, counted from 0, for the number 15; else 0.
+    /// line after its last, for the number 11; the line that was to be replaced, for the number 12; the place of a row, counted from 0, for the number 15; else 0.
     pub line: usize,
-    /// The bytes that the answer needs, for the number 10; else 0.
+    /// The bytes that the answer, or the test load, needs, for the number 10; else 0.
     pub length: usize,
 }
 
@@ -156,6 +197,8 @@ impl Refusal {
             8 => "a node is used twice or never",
             10 => "the answer buffer is shorter than the answer",
             11 => "the complete sheet does not agree with the partial one",
+            12 => "the sheet lacks the line, or the replacement breaks a rule or fills nothing",
+            13 => "under 1 or over 64 policies",
             14 => "over 64 rows",
             15 => "a row's text does not exist or contradicts a known one",
             _ => "no refusal",
@@ -230,7 +273,7 @@ fn outcome(number: u32, line: usize, length: usize, out: &[u8]) -> Outcome<'_> {
     if number != 0 {
         return Outcome::Refused(Refusal { number, line, length });
     }
-    Outcome::Answer(std::str::from_utf8(&out[..length]).expect("an answer has bytes 10 and 32 to 126 alone"))
+    Outcome::Answer(std::str::from_utf8(&out[..length]).expect("answers and sheets have bytes 10 and 32 to 126 alone"))
 }
 
 /// The answer to a partial sheet, in slices of the caller's own.
@@ -253,6 +296,25 @@ pub fn partial<'a>(sheet: &[u8], first: &mut [u32], second: &mut [u32], out: &'a
 /// The answer to a complete sheet, in slices of the caller's own, as [`partial`] is for a partial one.
 pub fn complete<'a>(sheet: &[u8], first: &mut [u32], second: &mut [u32], out: &'a mut [u8]) -> Outcome<'a> {
     call(openrules_complete, sheet, first, second, out)
+}
+
+/// The counter page of a partial sheet, in slices of the caller's own, as [`partial`] has them: [`PAGE`] bytes in the answer's place.
+///
+/// It is refused as [`partial`] refuses, but for the number 10, which a buffer of under [`PAGE`] bytes gets, with that length.
+///
+/// ```
+/// use openrules::{page, Outcome, Refusal, PAGE, WORDS};
+///
+/// let sheet = "sheet=partial\ntext=Broker\ntext=Action\ntext=quote\nkind=0,e\nkind=1,a\ntype=record\nshape=0,-\nshape=0,-\n\
+///     principal=0,?\naction=1,2\nresource=0,?\ncontext=0,?\nday=2026-06-30\n";
+/// let (mut first, mut second, mut out) = ([0; WORDS], [0; WORDS], [0; PAGE]);
+/// let outcome = page(sheet.as_bytes(), &mut first, &mut second, &mut out[1..]);
+/// assert_eq!(outcome, Outcome::Refused(Refusal { number: 10, line: 0, length: PAGE }));
+/// let text = page(sheet.as_bytes(), &mut first, &mut second, &mut out).result().unwrap();
+/// assert_eq!(text, format!("{:72}\n", "decision=deny") + &format!("{:72}\n", "").repeat(59));
+/// ```
+pub fn page<'a>(sheet: &[u8], first: &mut [u32], second: &mut [u32], out: &'a mut [u8]) -> Outcome<'a> {
+    call(openrules_page, sheet, first, second, out)
 }
 
 /// The answer that what a partial sheet's run left gives on a complete sheet, in slices of the caller's own, as [`partial`] has them.
@@ -296,6 +358,83 @@ pub fn finish<'a>(partial: &[u8], complete: &[u8], first: &mut [u32], second: &m
             &mut length,
         )
     };
+    outcome(number, line, length, out)
+}
+
+/// What a run on a copy of a partial sheet gives that has `replacement` in the place of line `of_line`, counted from 1, in slices of the caller's
+/// own, as [`partial`] has them. The sheet itself is only read.
+///
+/// 1 comes first, then 2 for the kept sheet. Then comes 12, with `of_line`, where the sheet has no such line or the replacement may not stand for
+/// it: it has no byte 10, the same key, one of `principal`, `resource`, `context` and `entity`, as many items after the first `=`, and differs
+/// from the line, only in items that were a lone `?`. The rest is what [`partial`] gives for the copy; the kept sheet is not asked for it. The call
+/// takes some 16 KB of stack beside what the other calls take.
+///
+/// ```
+/// use openrules::{partial, preview, Outcome, Refusal, WORDS};
+///
+/// let sheet = "sheet=partial\ntext=Broker\ntext=Action\ntext=quote\ntext=b7\nkind=0,e\nkind=1,a\ntype=bool\ntype=record\ntype=entity,0\n\
+///     shape=1,-\nshape=1,-\nvalue=entity,0,3\nprincipal=0,?\naction=1,2\nresource=0,?\ncontext=1,?\nday=2026-06-30\n\
+///     node=2,var,p\nnode=2,lit,0\nnode=0,eq,0,1\npolicy=3,permit,2\n";
+/// let (mut first, mut second, mut out) = ([0; WORDS], [0; WORDS], [0; 200]);
+/// let open = partial(sheet.as_bytes(), &mut first, &mut second, &mut out).result().unwrap();
+/// assert!(open.starts_with("decision=open\n"));
+///
+/// // Were the broker b7, the rule would permit.
+/// let allow = preview(sheet.as_bytes(), 14, b"principal=0,3", &mut first, &mut second, &mut out).result().unwrap();
+/// assert!(allow.starts_with("decision=allow\n"));
+///
+/// // A known item stays as it is.
+/// let outcome = preview(sheet.as_bytes(), 14, b"principal=1,3", &mut first, &mut second, &mut out);
+/// assert_eq!(outcome, Outcome::Refused(Refusal { number: 12, line: 14, length: 0 }));
+/// ```
+pub fn preview<'a>(
+    sheet: &[u8],
+    of_line: usize,
+    replacement: &[u8],
+    first: &mut [u32],
+    second: &mut [u32],
+    out: &'a mut [u8],
+) -> Outcome<'a> {
+    let (mut line, mut length) = (0, 0);
+    // SAFETY: as for the other calls.
+    let number = unsafe {
+        openrules_preview(
+            sheet.as_ptr(),
+            sheet.len(),
+            of_line,
+            replacement.as_ptr(),
+            replacement.len(),
+            first.as_mut_ptr(),
+            first.len(),
+            second.as_mut_ptr(),
+            second.len(),
+            out.as_mut_ptr(),
+            out.len(),
+            &mut line,
+            &mut length,
+        )
+    };
+    outcome(number, line, length, out)
+}
+
+/// The test load that a seed and a number of policies name: a partial sheet, which [`partial`] accepts with an answer of at most [`SHEET`]
+/// bytes. The number of policies is 1 to [`POLICIES`]; another one gets 13, before 10. A buffer of [`SHEET`] bytes is long enough for every seed. Of
+/// `out` only the bytes of the sheet change.
+///
+/// ```
+/// use openrules::{test_load, Evaluator, Outcome, Refusal, SHEET};
+///
+/// let mut out = [0; SHEET];
+/// assert_eq!(test_load(0, 65, &mut out), Outcome::Refused(Refusal { number: 13, line: 0, length: 0 }));
+/// assert_eq!(test_load(0, 1, &mut out[..340]), Outcome::Refused(Refusal { number: 10, line: 0, length: 341 }));
+/// let sheet = test_load(0, 1, &mut out).result().unwrap();
+/// assert!(sheet.ends_with("node=3,var,c\nnode=1,get,0,4\nnode=0,like,1,*\npolicy=5,forbid,2\n"));
+/// assert!(Evaluator::new().partial(sheet.as_bytes()).result().is_ok());
+/// ```
+pub fn test_load(seed: u64, policies: u32, out: &mut [u8]) -> Outcome<'_> {
+    let (mut line, mut length) = (0, 0);
+    // SAFETY: as for the other calls.
+    let number = unsafe { openrules_test_load(seed, policies, out.as_mut_ptr(), out.len(), &mut line, &mut length) };
     outcome(number, line, length, out)
 }
 
@@ -398,9 +537,19 @@ impl Evaluator {
         complete(sheet, &mut self.first, &mut self.second, &mut self.out)
     }
 
+    /// The counter page of a partial sheet.
+    pub fn page(&mut self, sheet: &[u8]) -> Outcome<'_> {
+        page(sheet, &mut self.first, &mut self.second, &mut self.out)
+    }
+
     /// The answer that what a partial sheet's run left gives on a complete sheet.
     pub fn finish(&mut self, partial: &[u8], complete: &[u8]) -> Outcome<'_> {
         finish(partial, complete, &mut self.first, &mut self.second, &mut self.out)
+    }
+
+    /// What a partial sheet gives with `replacement` in the place of line `of_line`.
+    pub fn preview(&mut self, sheet: &[u8], of_line: usize, replacement: &[u8]) -> Outcome<'_> {
+        preview(sheet, of_line, replacement, &mut self.first, &mut self.second, &mut self.out)
     }
 
     /// For each row the decision on a partial sheet with the row's two texts, and the group's decision.

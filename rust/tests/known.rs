@@ -1,7 +1,10 @@
 //! Known sheets through the safe crate: the worked input of the program, every form of refusal that it can meet, and what the
 //! calls leave in the slices that they are lent.
 
-use openrules::{complete, finish, partial, Evaluator, Outcome, Refusal, ANSWER as LONGEST, SHEET as GREATEST, WORDS};
+use openrules::{
+    complete, finish, page, partial, preview, test_load, Evaluator, Outcome, Refusal, ANSWER as LONGEST, PAGE, POLICIES,
+    SHEET as GREATEST, WORDS,
+};
 
 /// The worked input, one principal unknown, and its answer.
 const SHEET: &str = include_str!("../../crates/openrules/stdin");
@@ -234,6 +237,20 @@ fn parents() {
     assert_eq!(evaluator.partial(unfit("entity=3,?,?,7\n").as_bytes()), refused(5, line + 2, 0));
 }
 
+/// The complete forms of examples/ that are to finish `excluded-goods`, each with what is printed.
+#[test]
+fn forms_finished() {
+    let mut evaluator = Evaluator::new();
+    let read = |file: &str| std::fs::read_to_string(format!("../examples/excluded-goods{file}")).expect("the example is there");
+    for form in ["-timber", "-fireworks", "-heavier"] {
+        let text = match evaluator.finish(read(".sheet").as_bytes(), read(&format!("{form}.sheet")).as_bytes()) {
+            Outcome::Answer(text) => text.to_string(),
+            Outcome::Refused(refusal) => format!("{refusal}\n"),
+        };
+        assert_eq!(text, read(&format!("{form}.finished")));
+    }
+}
+
 #[test]
 fn finished() {
     let mut evaluator = Evaluator::new();
@@ -292,6 +309,103 @@ fn finished_in_what_is_lent() {
     assert!(second.iter().all(|word| *word == 5));
 }
 
+#[test]
+fn counter_pages() {
+    let mut evaluator = Evaluator::new();
+    let sheet = include_str!("../../examples/office-region-firm.sheet");
+    assert_eq!(evaluator.page(sheet.as_bytes()), Outcome::Answer(include_str!("../../examples/office-region-firm.page")));
+    // refused as an answer is
+    assert_eq!(evaluator.page(b"x\n"), refused(3, 1, 0));
+    assert_eq!(evaluator.page(&[b'x'; 16385]), refused(2, 0, 0));
+    assert_eq!(evaluator.page(known(7).as_bytes()), refused(3, 1, 0));
+    // 64 policies: the first 58 are shown, and that 6 are left off
+    let text = evaluator.page(many(3, 1).as_bytes()).result().expect("the sheet is accepted");
+    let lines: Vec<&str> = text.lines().collect();
+    assert_eq!(
+        (lines.len(), lines[58], lines[59]),
+        (60, &*format!("{:40}permit  open    {:>16}", "p57", 3), &*format!("{:72}", "+6"))
+    );
+    // a page needs 4,380 bytes, and changes no other
+    let (mut first, mut second, mut out) = (vec![7; WORDS], vec![7; WORDS], vec![7; PAGE + 1]);
+    assert_eq!(page(sheet.as_bytes(), &mut first, &mut second, &mut out[..PAGE - 1]), refused(10, 0, PAGE));
+    assert_eq!(out, vec![7; PAGE + 1]);
+    assert!(matches!(page(sheet.as_bytes(), &mut first, &mut second, &mut out[..PAGE]), Outcome::Answer(_)));
+    assert_eq!((out[PAGE - 1], out[PAGE]), (b'\n', 7));
+    assert!(first.iter().chain(&second).all(|word| *word == 0));
+    assert_eq!(page(b"", &mut first, &mut second[1..], &mut []), refused(1, 0, 0));
+}
+
+/// The line of the unknown broker.
+const BROKER: usize = 21;
+
+#[test]
+fn previewed() {
+    let mut evaluator = Evaluator::new();
+    // what a run on the sheet with that line gives, and the sheet stays
+    for broker in [7, 4] {
+        let line = format!("principal=0,{broker}");
+        let edited = SHEET.replace("principal=0,?", &line);
+        let expected = Evaluator::new().partial(edited.as_bytes()).result().map(str::to_string);
+        let found = evaluator.preview(SHEET.as_bytes(), BROKER, line.as_bytes()).result().map(str::to_string);
+        assert!(found.is_ok());
+        assert_eq!(found, expected);
+    }
+    let form = include_bytes!("../../examples/one-rule-three-brokers.sheet");
+    let shown = include_str!("../../examples/one-rule-three-brokers.preview");
+    assert_eq!(evaluator.preview(form, 38, b"principal=0,11"), Outcome::Answer(shown));
+    // a line that the sheet lacks, and what breaks a rule or fills nothing
+    for (line, replacement) in [
+        (0, "principal=0,7"),
+        (32, "principal=0,7"),
+        (BROKER, "principal=0,?"),
+        (BROKER, "principal=2,7"),
+        (BROKER, "resource=0,7"),
+        (BROKER, "principal=0,7,7"),
+        (BROKER, "principal=0"),
+        (BROKER, "principal=0,7\n"),
+        (BROKER, "principal0,7"),
+        (BROKER, ""),
+        (22, "action=1,4"),
+        (23, "resource=2,5"),
+    ] {
+        assert_eq!(evaluator.preview(SHEET.as_bytes(), line, replacement.as_bytes()), refused(12, line, 0), "{replacement}");
+    }
+    // what is filled in is the run's to judge
+    assert_eq!(evaluator.preview(SHEET.as_bytes(), BROKER, b"principal=0,x"), refused(3, BROKER, 0));
+    assert_eq!(evaluator.preview(SHEET.as_bytes(), BROKER, b"principal=0,99"), refused(5, BROKER, 0));
+    assert_eq!(evaluator.preview(SHEET.as_bytes(), 24, b"context=1,1"), refused(7, 24, 0));
+    // 2 for the kept sheet, then 12, then 2 for the copy
+    let mut long = b"principal=0,?\n".to_vec();
+    long.resize(GREATEST, b'x');
+    assert_eq!(evaluator.preview(&long, 1, b"principal=0,7"), refused(3, 1, 0));
+    assert_eq!(evaluator.preview(&long, 1, b"principal=0,77"), refused(2, 0, 0));
+    assert_eq!(evaluator.preview(&long, 1, b"principal=1,77"), refused(12, 1, 0));
+    long.push(b'x');
+    assert_eq!(evaluator.preview(&long, 1, b"principal=1,77"), refused(2, 0, 0));
+}
+
+#[test]
+fn previewed_in_what_is_lent() {
+    let (mut first, mut second, mut out) = (vec![7; WORDS + 1], vec![7; WORDS - 1], vec![7; 300]);
+    let line = b"principal=0,7";
+    assert_eq!(preview(SHEET.as_bytes(), BROKER, line, &mut first, &mut second, &mut out), refused(1, 0, 0));
+    assert!(first.iter().chain(&second).all(|word| *word == 7) && out.iter().all(|byte| *byte == 7));
+    second.push(7);
+    assert_eq!(preview(SHEET.as_bytes(), BROKER, b"", &mut first, &mut second, &mut out), refused(12, BROKER, 0));
+    assert!(
+        first[..WORDS].iter().chain(&second).all(|word| *word == 0) && first[WORDS] == 7 && out.iter().all(|byte| *byte == 7)
+    );
+    let length = match preview(SHEET.as_bytes(), BROKER, line, &mut first, &mut second, &mut []) {
+        Outcome::Refused(Refusal { number: 10, line: 0, length }) => length,
+        other => panic!("{other:?}"),
+    };
+    match preview(SHEET.as_bytes(), BROKER, line, &mut first, &mut second, &mut out) {
+        Outcome::Answer(text) => assert_eq!(text.len(), length),
+        other => panic!("{other:?}"),
+    }
+    assert!(out[length..].iter().all(|byte| *byte == 7));
+}
+
 /// 64 policies over one root of so many nodes: a comparison of the broker's name with a pattern of so many `*`, and `not`.
 fn many(nodes: usize, stars: usize) -> String {
     let ids: String = (0..64).map(|n| format!("text=p{n}\n")).collect();
@@ -344,4 +458,39 @@ fn refusal_as_text() {
     let Outcome::Refused(refusal) = Evaluator::new().partial(b"sheet=partial") else { panic!("an unended line was accepted") };
     assert_eq!(refusal.to_string(), "refused=3,1,0");
     assert!(refusal.meaning().starts_with("form"));
+}
+
+/// Test loads: the numbers at their edges, what is left of the buffer, and that each load is accepted.
+#[test]
+fn test_loads() {
+    let mut buffer = [7; GREATEST];
+    for policies in [0, POLICIES + 1, u32::MAX] {
+        assert_eq!(test_load(0, policies, &mut buffer[..0]), refused(13, 0, 0));
+        assert_eq!(test_load(0, policies, &mut buffer), refused(13, 0, 0));
+    }
+    assert_eq!(test_load(0, 1, &mut buffer[..340]), refused(10, 0, 341));
+    assert!(buffer.iter().all(|&byte| byte == 7));
+    assert!(test_load(0, 1, &mut buffer[..341]).result().is_ok());
+    assert!(buffer[..341].ends_with(b"\npolicy=5,forbid,2\n") && buffer[341..].iter().all(|&byte| byte == 7));
+
+    let mut evaluator = Evaluator::new();
+    for seed in [0, 1, 7046029258681320426, 7046029258681320427, u64::MAX] {
+        for policies in 1..=POLICIES {
+            let sheet = test_load(seed, policies, &mut buffer).result().expect("the buffer is long enough");
+            let answer = evaluator.partial(sheet.as_bytes()).result().expect("a test load is accepted");
+            assert!(answer.len() <= GREATEST);
+        }
+    }
+}
+
+/// Only the upper 32 bits of a state decide a draw, so near seeds may name one sheet.
+#[test]
+fn near_seeds() {
+    let load = |seed, policies| {
+        let mut buffer = [0; GREATEST];
+        test_load(seed, policies, &mut buffer).result().expect("the buffer is long enough").to_string()
+    };
+    assert_eq!(load(0, 64), load(1, 64));
+    assert_eq!(load(0, 64), load(u64::MAX, 64));
+    assert_ne!(load(7046029258681320426, 2), load(7046029258681320427, 2));
 }

@@ -1,55 +1,18 @@
 -- What a caller has to know: words that hold the lines of two accepted sheets, whatever else they hold. Assumes nothing.
 use mathlib.Core.Path.{_≡_, refl, sym, ap, ap₂, subst, _∙_}
-use mathlib.Core.Bool.{Bool, true, false, _&&_, _||_}
-use mathlib.Core.List.{List, [], _∷_, _++_, append-assoc}
-use Prim.Native.Nat.{ℕ, suc, _-_, _≤_, _<_}
-use native.Mathlib.Omega.{arith}
-use borrow.Author.Tests.{eqb-true, ltb-true}
-use lib.Dec.{ltb, eqb}
-use lib.ListN.{length, getD, length-append}
-use Rattle.cedar.proofs.Tools.{and-both}
-use Rattle.sheet.specs.Forms.{Mode, partial, complete, tag, items, at, ascendings, noKey, ENTITY}
-use Rattle.sheet.specs.State.{State, linesOf, lineAt, count}
-use Rattle.sheet.specs.Sheet.{found, above, allThere, ascend, read}
-use Rattle.sheet.proofs.Lines.{History, accepted-history}
+use mathlib.Core.List.{List, []}
+use Prim.Native.Nat.{ℕ, _<_}
+use lib.ListN.{getD}
+use Rattle.sheet.specs.Forms.{Mode, partial, complete, noKey, ENTITY}
+use Rattle.sheet.specs.State.{State}
+use Rattle.sheet.specs.Sheet.{read}
+use Rattle.sheet.proofs.Lines.{accepted-history}
 use Rattle.table.specs.Layout.{rowsOf, linesHeld, held}
 use Rattle.table.proofs.Held.{held-same}
 use Rattle.finished.specs.Finish.{breakingLine}
-use Rattle.agree.specs.Breaks.{Rising, Ordered}
-
--- ---- the entity lines of an accepted sheet ascend
-
-above-of : (u : State) (q : List ℕ) → found u ENTITY q ≡ true → above u ENTITY q ≡ true
-unfolding found
-above-of u q e = and-both (allThere u (tag q) 0 (items q) && ascend 0 (ascendings q)) (above u ENTITY q) e (λ a b. b)
-
-last-is : (l : List (List ℕ)) (x : List ℕ) → getD (l ++ (x ∷ [])) (length l) [] ≡ x
-last-is [] x = refl
-last-is (y ∷ l) x = last-is l x
-
-above-last : (u : State) (pre : List (List ℕ)) (r q : List ℕ) → linesOf u ENTITY ≡ pre ++ (r ∷ []) → above u ENTITY q ≡ true → suc (at r 0) ≤ at q 0
-above-last u pre r q e a =
-    let n = length-append pre (r ∷ []) in
-    let k : count u ENTITY ≡ suc (length pre) = ap length e ∙ n ∙ omega arith in
-    let i : count u ENTITY - 1 ≡ length pre = omega (arith, k) in
-    go (eqb (count u ENTITY) 0) refl k (ap (λ (l : List ℕ). at l 0) ((λ j. getD (e j) (i j) []) ∙ last-is pre r)) a
-  where
-    go : (b : Bool) → eqb (count u ENTITY) 0 ≡ b → count u ENTITY ≡ suc (length pre) → at (lineAt u ENTITY (count u ENTITY - 1)) 0 ≡ at r 0 → (b || ltb (at (lineAt u ENTITY (count u ENTITY - 1)) 0) (at q 0)) ≡ true → suc (at r 0) ≤ at q 0
-    go true c k z a = let y = eqb-true (count u ENTITY) 0 c in absurd (omega (arith, k, y))
-    go false c k z a = let y = ltb-true (at (lineAt u ENTITY (count u ENTITY - 1)) 0) (at q 0) a in omega (arith, y, z)
-
--- after the lines pre, each of rs is above the one before it
-rising-from : (m : Mode) (s : State) → History m s → (pre rs : List (List ℕ)) → linesOf s ENTITY ≡ pre ++ rs → (b : ℕ) → ((r : List ℕ) (rest : List (List ℕ)) → rs ≡ r ∷ rest → b ≤ at r 0) → Rising b rs
-rising-from m s h pre [] e b f = tt
-rising-from m s h pre (r ∷ rs) e b f = (f r rs refl, rising-from m s h (pre ++ (r ∷ [])) rs (e ∙ sym (append-assoc pre (r ∷ []) rs)) (suc (at r 0)) next)
-  where
-    next : (q : List ℕ) (rest : List (List ℕ)) → rs ≡ q ∷ rest → suc (at r 0) ≤ at q 0
-    next q rest g =
-        let w = h ENTITY (pre ++ (r ∷ [])) q rest (e ∙ ap (λ (z : List (List ℕ)). pre ++ (r ∷ z)) g ∙ sym (append-assoc pre (r ∷ []) (q ∷ rest))) in
-        above-last (w .was) pre r q (w .mine) (above-of (w .was) q (w .pass .refers))
-
-pub rising : (m : Mode) (s : State) → History m s → Rising 0 (linesOf s ENTITY)
-rising m s h = rising-from m s h [] (linesOf s ENTITY) refl 0 (λ r rest e. omega arith)
+use Rattle.finished.specs.Rising.{Rising}
+use Rattle.finished.proofs.FinishAgrees.{rising}
+use Rattle.agree.specs.Breaks.{Ordered}
 
 -- ---- words that hold an accepted sheet's lines
 

@@ -19,7 +19,8 @@ use Rattle.sheet.specs.Agreement.{entitySame}
 use Rattle.table.specs.Layout.{rowsOf}
 use Rattle.table.proofs.Rows.{count-rows}
 use Rattle.finished.specs.Finish.{entityBreak, unlistedIn}
-use Rattle.agree.specs.Breaks.{counted, Rising, Ordered, below, firstFor}
+use Rattle.finished.specs.Rising.{Rising}
+use Rattle.agree.specs.Breaks.{counted, Ordered, below, firstFor}
 
 -- ---- ascending lines
 

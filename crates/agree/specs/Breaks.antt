@@ -2,7 +2,7 @@
 use mathlib.Core.Bool.{Bool, false, cond, _&&_, _||_}
 use mathlib.Core.Option.{Option, none, some}
 use mathlib.Core.List.{List, [], _∷_}
-use Prim.Native.Nat.{ℕ, suc, _≤_}
+use Prim.Native.Nat.{ℕ, suc}
 use lib.Dec.{leb, ltb, eqb}
 use lib.ListN.{getD}
 use Rattle.cedar.specs.Value.{onSome}
@@ -10,6 +10,7 @@ use Rattle.sheet.specs.Bytes.{same}
 use Rattle.sheet.specs.Forms.{at, TEXT, VALUE, ENTITY, PRINCIPAL, CONTEXT}
 use Rattle.table.specs.Layout.{rowsOf, textRows}
 use Rattle.finished.specs.Finish.{beginBreak, sameBreak, entityBreak, requestBreak, shorter, unlistedIn}
+use Rattle.finished.specs.Rising.{Rising}
 
 -- the lines of key k that words hold
 abbrev pub linesIn : List ℕ → List ℕ → ℕ → List (List ℕ)
@@ -26,11 +27,6 @@ alike (r ∷ p) [] = 0
 alike (r ∷ p) (q ∷ c) = cond (same r q) (suc (alike p c)) 0
 
 -- ---- entities
-
--- each line's entity has a number of at least b, and one above that of the line before it
-abbrev pub Rising : ℕ → List (List ℕ) → Type 0
-Rising b [] = Unit {0}
-Rising b (r ∷ p) = (b ≤ at r 0) × Rising (suc (at r 0)) p
 
 -- the entity lines of both sheets ascend
 pub record Ordered (a c : List ℕ) : Type 0 where

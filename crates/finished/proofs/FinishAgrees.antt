@@ -18,6 +18,7 @@ use Rattle.sheet.specs.Forms as F
 use Rattle.sheet.specs.Parents.{lineFor}
 use Rattle.sheet.specs.Agreement.{begins, sameLines, requestSame, entitySame, listed, allListed, agrees}
 use Rattle.finished.specs.Finish.{beginBreak, sameBreak, entityBreak, requestBreak, firstSome, breaks, shorter, unlistedIn, anyOf, lacking, lacks, breakingLine}
+use Rattle.finished.specs.Rising.{Rising}
 use Rattle.sheet.proofs.Lines.{History}
 use Rattle.sheet.proofs.TwoSheets.{common}
 use Rattle.sheet.proofs.ValueRows.{same-refl}
@@ -64,11 +65,6 @@ none-request : (p c : List ℕ) (l : ℕ) → requestSame p c ≡ true → reque
 none-request p c l e = rw e refl
 
 -- ---- entities: lines ascend, so an entity has one line
-
--- each line's entity has a number of at least b, and each one's is above the one's before
-abbrev Rising : ℕ → List (List ℕ) → Type 0
-Rising b [] = Unit {0}
-Rising b (r ∷ rs) = (b ≤ at r 0) × Rising (suc (at r 0)) rs
 
 -- r is among the lines
 data In (r : List ℕ) : List (List ℕ) → Type 0 where
@@ -134,7 +130,7 @@ rising-from m s h pre (r ∷ rs) e b f = (f r rs refl, rising-from m s h (pre ++
         let w = h ENTITY (pre ++ (r ∷ [])) q rest (e ∙ ap (λ z. pre ++ (r ∷ z)) g ∙ sym (append-assoc pre (r ∷ []) (q ∷ rest))) in
         above-last (w .was) pre r q (w .mine) (above-of (w .was) q (w .pass .refers))
 
-rising : (m : Mode) (s : State) → History m s → Rising 0 (linesOf s ENTITY)
+pub rising : (m : Mode) (s : State) → History m s → Rising 0 (linesOf s ENTITY)
 rising m s h = rising-from m s h [] (linesOf s ENTITY) refl 0 (λ r rest e. omega arith)
 
 -- ---- entities

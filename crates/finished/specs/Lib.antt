@@ -1,3 +1,4 @@
 pub mod Breaks
 pub mod Finish
 pub mod Promise
+pub mod Rising

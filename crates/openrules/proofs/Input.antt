@@ -14,7 +14,20 @@ use Rattle.sheet.specs.Call.{Returned, returns, room, lentThen, readThen, check
 use Rattle.sheet.proofs.Lines.{zero-not-suc}
 use Rattle.sheet.proofs.Checked.{lent-by, checked-by}
 use Rattle.finished.specs.Finish.{breakingLine, finishedAnswer, atLine, finishReturned}
-use Rattle.openrules.specs.Shown.{entryOf, space, refusal, textOf, shown, finishBack, shownFinished}
+use Rattle.paged.specs.Page.{pageReturned}
+use Rattle.previewed.specs.Preview.{previewReturned}
+use Rattle.openrules.specs.Shown.{entryOf, space, refusal, textOf, shown, finishBack, shownFinished, shownPage, shownPreview}
+
+-- what is printed is the same for all inputs that are too long
+module _ (f : List ℕ → List ℕ) (alike : (s t : List ℕ) → 16384 < length s → 16384 < length t → f s ≡ f t) where
+  front : (input : List ℕ) → f (take 16385 input) ≡ f input
+  front input = go (decLe (length input) 16385)
+    where
+      go : Dec (length input ≤ 16385) → f (take 16385 input) ≡ f input
+      go (yes h) = ap f (take-all 16385 input h)
+      go (no h) = alike (take 16385 input) input (omega (arith, length-take 16385 input)) (omega arith)
+
+-- ---- a sheet alone
 
 too-long : (m : Mode) (s : List ℕ) → 16384 < length s → returned m room room space s ≡ returns 2 0 0
 unfolding returned
@@ -24,13 +37,17 @@ shown-long : (s : List ℕ) → 16384 < length s → shown s ≡ refusal 2 0 0
 unfolding shown
 shown-long s h = rw (too-long (entryOf s) s h)
 
--- a sheet alone
 pub first-bytes : (input : List ℕ) → shown (take 16385 input) ≡ shown input
-first-bytes input = go (decLe (length input) 16385)
-  where
-    go : Dec (length input ≤ 16385) → shown (take 16385 input) ≡ shown input
-    go (yes h) = ap shown (take-all 16385 input h)
-    go (no h) = shown-long (take 16385 input) (omega (arith, length-take 16385 input)) ∙ sym (shown-long input (omega arith))
+first-bytes = front shown (λ s t h k. shown-long s h ∙ sym (shown-long t k))
+
+-- ---- a page
+
+page-long : (s : List ℕ) → 16384 < length s → shownPage s ≡ refusal 2 0 0
+unfolding shownPage pageReturned
+page-long s h = rw (lt-ltb room (length s) h)
+
+pub first-bytes-of-page : (input : List ℕ) → shownPage (take 16385 input) ≡ shownPage input
+first-bytes-of-page = front shownPage (λ s t h k. page-long s h ∙ sym (page-long t k))
 
 -- ---- both sheets
 
@@ -70,12 +87,15 @@ shown-second p c d h k =
     ap (λ (r : Returned). textOf r x) (second-long p c h) ∙ refused-text (secondLong p) x y (long-refused p) ∙ sym (ap (λ (r : Returned). textOf r y) (second-long p d k))
 
 pub first-bytes-of-both : (p c : List ℕ) → shownFinished (take 16385 p) (take 16385 c) ≡ shownFinished p c
-first-bytes-of-both p c = first (decLe (length p) 16385) ∙ second (decLe (length c) 16385)
-  where
-    first : Dec (length p ≤ 16385) → shownFinished (take 16385 p) (take 16385 c) ≡ shownFinished p (take 16385 c)
-    first (yes h) = ap (λ (l : List ℕ). shownFinished l (take 16385 c)) (take-all 16385 p h)
-    first (no h) = shown-first (take 16385 p) (take 16385 c) (omega (arith, length-take 16385 p)) ∙ sym (shown-first p (take 16385 c) (omega arith))
+first-bytes-of-both p c =
+    front (λ (l : List ℕ). shownFinished l (take 16385 c)) (λ s t h k. shown-first s (take 16385 c) h ∙ sym (shown-first t (take 16385 c) k)) p
+    ∙ front (shownFinished p) (shown-second p) c
 
-    second : Dec (length c ≤ 16385) → shownFinished p (take 16385 c) ≡ shownFinished p c
-    second (yes h) = ap (shownFinished p) (take-all 16385 c h)
-    second (no h) = shown-second p (take 16385 c) c (omega (arith, length-take 16385 c)) (omega arith)
+-- ---- a line replaced
+
+shown-kept : (s : List ℕ) (n : ℕ) (new : List ℕ) → 16384 < length s → shownPreview s n new ≡ refusal 2 0 0
+unfolding shownPreview previewReturned
+shown-kept s n new h = rw (lt-ltb room (length s) h)
+
+pub first-bytes-of-kept : (s : List ℕ) (n : ℕ) (new : List ℕ) → shownPreview (take 16385 s) n new ≡ shownPreview s n new
+first-bytes-of-kept s n new = front (λ (l : List ℕ). shownPreview l n new) (λ q r h k. shown-kept q n new h ∙ sym (shown-kept r n new k)) s

@@ -1,2 +1,4 @@
 pub mod Showing
 pub mod Input
+pub mod Numbers
+pub mod Loading

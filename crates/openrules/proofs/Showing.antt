@@ -14,16 +14,22 @@ use Rattle.sheet.specs.Forms.{partial, complete}
 use Rattle.sheet.specs.State.{State}
 use Rattle.sheet.specs.Sheet.{read}
 use Rattle.sheet.specs.Answer.{answer}
-use Rattle.sheet.specs.Call.{Returned, returns, room, checkedThen, returned, over, outputs, written}
+use Rattle.sheet.specs.Call.{Returned, returns, room, shortThen, checkedThen, returned, over, outputs, written}
 use Rattle.sheet.proofs.Lines.{zero-not-suc}
-use Rattle.sheet.proofs.Checked.{lent-by, checked-by}
+use Rattle.sheet.proofs.Checked.{lent-by, short-by, checked-by}
 use Rattle.sheet.proofs.Buffers.{accepted-whole}
 use Rattle.print.specs.Written.{Written}
 use Rattle.print.proofs.Writing.{written-append, written-as, written-over, digits-few}
 use Rattle.authorizer.specs.Called.{Called}
 use Rattle.finished.specs.Finish.{breakingLine, finishedAnswer, atLine, finishReturned, finishWritten}
 use Rattle.finished.specs.Promise.{Finished}
-use Rattle.openrules.specs.Shown.{space, saysComplete, entryOf, refusal, textOf, back, shown, finishBack, shownFinished, Shows}
+use Rattle.paged.specs.Page.{page, pageReturned, pageWritten}
+use Rattle.paged.specs.Promise.{Paged}
+use Rattle.paged.proofs.PageLength.{page-length}
+use Rattle.paged.proofs.PageGoesOut.{goes-out, page-out}
+use Rattle.previewed.specs.Preview.{edited, mayEdit, editThen, previewReturned, previewWritten}
+use Rattle.previewed.specs.Promise.{Previewed}
+use Rattle.openrules.specs.Shown.{space, saysComplete, entryOf, refusal, textOf, back, shown, finishBack, shownFinished, pageBack, shownPage, previewBack, shownPreview, Shows}
 
 -- ---- the entry
 
@@ -69,7 +75,7 @@ counts-front bytes rest = (omega (arith, length-append bytes rest), sym (ap leng
 -- a call that returned r, whose answer has these bytes
 module _ (r : Returned) (bytes out out′ : List ℕ) (number line len : ℕ) (lo : length out ≡ space) (number-is : number ≡ r .number) (line-is : line ≡ r .line) (length-is : len ≡ r .length)
     (buffer : out′ ≡ outputs (r .number) bytes out) (whole : r .number ≡ 0 → r .length ≡ length bytes) where
-  shows-text : number ≡ 0 → Shows (textOf r bytes) out′ len
+  pub shows-text : number ≡ 0 → Shows (textOf r bytes) out′ len
   shows-text h =
       let z : r .number ≡ 0 = sym number-is ∙ h in
       let n : len ≡ length bytes = length-is ∙ whole z in
@@ -80,7 +86,7 @@ module _ (r : Returned) (bytes out out′ : List ℕ) (number line len : ℕ) (l
         within = rw (n, w) (counts-front bytes (drop (length bytes) out));
       }
 
-  shows-line : (number ≡ 0 → ⊥) → (is : List ℕ) (next : ℕ) → Written out′ 0 (refusal number line len) is next → Shows (textOf r bytes) is next
+  pub shows-line : (number ≡ 0 → ⊥) → (is : List ℕ) (next : ℕ) → Written out′ 0 (refusal number line len) is next → Shows (textOf r bytes) is next
   shows-line h is next w =
       let f : r .number ≡ 0 → ⊥ = λ e. h (number-is ∙ e) in
       let o : out′ ≡ out = buffer ∙ ap (λ (b : Bool). cond b (over bytes out) out) (ne-eqb (r .number) 0 f) in
@@ -165,3 +171,71 @@ module _ (p c a b out a′ b′ out′ : List ℕ) (number line len : ℕ) (la :
   finish-refusal h is next w =
       shows-line (finishBack p c) finish-bytes out out′ number line len lo (x .number-is ∙ ap (λ (r : Returned). r .number) finish-here) (x .line-is ∙ ap (λ (r : Returned). r .line) finish-here)
       (x .length-is ∙ ap (λ (r : Returned). r .length) finish-here) finish-went (finish-whole p c) h is next w
+
+-- ---- the page of a partial sheet
+
+page-whole : (s : List ℕ) → Whole (length (page (read partial s .state))) (pageBack s)
+page-whole s z = ap (λ (r : Returned). r .length) (page-out room room space s (goes-out room room space s z)) ∙ sym (page-length (read partial s .state))
+
+module _ (s a b out a′ b′ out′ : List ℕ) (number line len : ℕ) (la : 16384 ≡ length a) (lb : 16384 ≡ length b) (lo : length out ≡ space) (x : Paged s a b out number line len out′ a′ b′) where
+  abbrev page-bytes : List ℕ
+  page-bytes = page (read partial s .state)
+
+  page-here : pageReturned (length a) (length b) (length out) s ≡ pageBack s
+  page-here = rw (← la, ← lb, lo)
+
+  page-went : out′ ≡ outputs (pageBack s .number) page-bytes out
+  unfolding pageWritten
+  page-went = x .buffer ∙ ap (λ (r : Returned). outputs (r .number) page-bytes out) page-here
+
+  pub page-answer : number ≡ 0 → Shows (shownPage s) out′ len
+  unfolding shownPage
+  page-answer h =
+      shows-text (pageBack s) page-bytes out out′ number line len lo (x .number-is ∙ ap (λ (r : Returned). r .number) page-here) (x .line-is ∙ ap (λ (r : Returned). r .line) page-here)
+      (x .length-is ∙ ap (λ (r : Returned). r .length) page-here) page-went (page-whole s) h
+
+  pub page-refusal : (number ≡ 0 → ⊥) → (is : List ℕ) (next : ℕ) → Written out′ 0 (refusal number line len) is next → Shows (shownPage s) is next
+  unfolding shownPage
+  page-refusal h is next w =
+      shows-line (pageBack s) page-bytes out out′ number line len lo (x .number-is ∙ ap (λ (r : Returned). r .number) page-here) (x .line-is ∙ ap (λ (r : Returned). r .line) page-here)
+      (x .length-is ∙ ap (λ (r : Returned). r .length) page-here) page-went (page-whole s) h is next w
+
+-- ---- a partial sheet with one line replaced
+
+module _ (s : List ℕ) (n : ℕ) (new a b out a′ b′ out′ : List ℕ) (number line len : ℕ) (la : 16384 ≡ length a) (lb : 16384 ≡ length b) (lo : length out ≡ space)
+    (x : Previewed s n new a b out number line len out′ a′ b′) where
+  abbrev copy : List ℕ
+  copy = edited s n new
+
+  abbrev preview-bytes : List ℕ
+  preview-bytes = answer partial (read partial copy .state)
+
+  preview-here : previewReturned (length a) (length b) (length out) s n new ≡ previewBack s n new
+  preview-here = rw (← la, ← lb, lo)
+
+  preview-whole : Whole (length preview-bytes) (previewReturned (length a) (length b) (length out) s n new)
+  unfolding previewReturned
+  preview-whole =
+      let r = returned partial (length a) (length b) (length out) copy in
+      lent-by (Whole (length preview-bytes)) (length a) (length b) (shortThen s (editThen s n new r)) (λ h e. zero-not-suc e)
+      (λ h. short-by (Whole (length preview-bytes)) s (editThen s n new r) (λ e. zero-not-suc e) (λ h′. go (mayEdit s n new)))
+    where
+      go : (t : Bool) → Whole (length preview-bytes) (cond t (returned partial (length a) (length b) (length out) copy) (returns 12 n 0))
+      go true = λ z. accepted-whole partial (length a) (length b) out copy z .1
+      go false = λ e. zero-not-suc e
+
+  preview-went : out′ ≡ outputs (previewBack s n new .number) preview-bytes out
+  unfolding previewWritten
+  preview-went = x .buffer ∙ ap (λ (r : Returned). outputs (r .number) preview-bytes out) preview-here
+
+  pub preview-answer : number ≡ 0 → Shows (shownPreview s n new) out′ len
+  unfolding shownPreview
+  preview-answer h =
+      shows-text (previewBack s n new) preview-bytes out out′ number line len lo (x .number-is ∙ ap (λ (r : Returned). r .number) preview-here) (x .line-is ∙ ap (λ (r : Returned). r .line) preview-here)
+      (x .length-is ∙ ap (λ (r : Returned). r .length) preview-here) preview-went (subst (Whole (length preview-bytes)) preview-here preview-whole) h
+
+  pub preview-refusal : (number ≡ 0 → ⊥) → (is : List ℕ) (next : ℕ) → Written out′ 0 (refusal number line len) is next → Shows (shownPreview s n new) is next
+  unfolding shownPreview
+  preview-refusal h is next w =
+      shows-line (previewBack s n new) preview-bytes out out′ number line len lo (x .number-is ∙ ap (λ (r : Returned). r .number) preview-here) (x .line-is ∙ ap (λ (r : Returned). r .line) preview-here)
+      (x .length-is ∙ ap (λ (r : Returned). r .length) preview-here) preview-went (subst (Whole (length preview-bytes)) preview-here preview-whole) h is next w

@@ -1,19 +1,25 @@
 -- What the program prints for the bytes that it reads. Document 01, "Known sheets": "Program `openrules` reads standard input." With the word
--- `finish` it also reads the partial sheet from a file.
+-- `finish` it also reads the partial sheet from a file; after the word `preview` the command line has the number of a line and a line; with the word
+-- `load` it reads nothing but the two numbers after it.
 use mathlib.Core.Path.{_≡_}
 use mathlib.Core.Bool.{Bool, cond}
 use mathlib.Core.List.{List, [], _∷_}
+use mathlib.Core.Option.{Option}
 use Prim.Native.Nat.{ℕ}
 use lib.Dec.{eqb}
 use lib.ListN.{length, take}
 use Rattle.io.specs.Counts.{Counts}
+use Rattle.print.specs.Written.{greatest}
 use Rattle.sheet.specs.Ascii.{ascii}
-use Rattle.sheet.specs.Bytes.{upTo, same}
+use Rattle.sheet.specs.Bytes.{upTo, same, decimal, atMost}
 use Rattle.sheet.specs.Forms.{Mode, partial, complete}
 use Rattle.sheet.specs.Sheet.{read}
 use Rattle.sheet.specs.Answer.{printed, numbers, answer}
 use Rattle.sheet.specs.Call.{Returned, room, returned}
 use Rattle.finished.specs.Finish.{finishedAnswer, finishReturned}
+use Rattle.paged.specs.Page.{page, pageReturned}
+use Rattle.previewed.specs.Preview.{edited, previewReturned}
+use Rattle.drawn.specs.TestLoad.{load, loadReturned}
 
 -- the first line is exactly `sheet=complete`
 unfoldable pub saysComplete : List ℕ → Bool
@@ -48,6 +54,31 @@ finishBack p c = finishReturned room room space p c
 
 unfoldable pub shownFinished : List ℕ → List ℕ → List ℕ
 shownFinished p c = textOf (finishBack p c) (finishedAnswer (read partial p .state) (read complete c .state))
+
+-- the page of a partial sheet (document 02, 2.10)
+abbrev pub pageBack : List ℕ → Returned
+pageBack sheet = pageReturned room room space sheet
+
+unfoldable pub shownPage : List ℕ → List ℕ
+shownPage sheet = textOf (pageBack sheet) (page (read partial sheet .state))
+
+-- a partial sheet with line n replaced (document 02, 2.11)
+abbrev pub previewBack : List ℕ → ℕ → List ℕ → Returned
+previewBack sheet n new = previewReturned room room space sheet n new
+
+unfoldable pub shownPreview : List ℕ → ℕ → List ℕ → List ℕ
+shownPreview sheet n new = textOf (previewBack sheet n new) (answer partial (read partial (edited sheet n new) .state))
+
+-- a test load (document 02, 2.12)
+abbrev pub loadBack : ℕ → ℕ → Returned
+loadBack seed policies = loadReturned seed policies space
+
+unfoldable pub shownLoad : ℕ → ℕ → List ℕ
+shownLoad seed policies = textOf (loadBack seed policies) (load seed policies)
+
+-- a number on the command line: decimal, of 64 bits, without leading zeros; none where a word is no such number
+unfoldable pub numberIn : List ℕ → Option ℕ
+numberIn word = atMost greatest (decimal word)
 
 -- the first n bytes of a buffer are this text
 pub record Shows (text buffer : List ℕ) (n : ℕ) : Type 0 where

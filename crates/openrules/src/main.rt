@@ -1,7 +1,8 @@
 // The program: without a word, a sheet on standard input, the answer or its refusal on standard output; with a word, what `help` lists. Of
 // what is read the first 16,385 bytes of each sheet matter (proofs/Input.antt). What is proved of it: it is safe, it ends, and the bytes that
-// it hands to `io::write_all` for the bytes that `io::read_full` gave are those that `answer` and `finished` promise. No contract can speak of
-// what C's read and write move. A program has no status to end with: what cannot be done is said on standard error.
+// it hands to `io::write_all` for the bytes that `io::read_full` gave are those that `answer`, `finished`, `paged`, `previewed` and `loaded`
+// promise. No contract can speak of what C's read and write move. A program has no status to end with: what cannot be done is said on standard
+// error.
 use authorizer::Returned;
 use authorizer::complete;
 use authorizer::partial;
@@ -9,17 +10,24 @@ use finish::finish;
 use libc::STDERR_FILENO;
 use libc::STDIN_FILENO;
 use libc::STDOUT_FILENO;
+use page::page;
+use preview::preview;
 use print::byte;
 use print::bytes;
 use print::number;
+use scan::Number;
 use scan::find;
 use scan::front;
 use scan::same_bytes;
+use testload::load;
 ghost use mathlib.Core.Path.{_≡_};
+ghost use Prim.Native.Nat.{min};
 ghost use lib.ListN.{length};
-ghost use Rattle.print.specs.Written.{Written};
+ghost use Rattle.print.specs.Written.{greatest, Written};
+ghost use Rattle.sheet.specs.Bytes.{digitsFrom, atMost};
+ghost use Rattle.scan.specs.Numbers.{numberOf};
 ghost use Rattle.authorizer.specs.Called.{Called};
-ghost use Rattle.openrules.specs.Shown.{saysComplete, entryOf, space, refusal, shown, shownFinished, Shows};
+ghost use Rattle.openrules.specs.Shown.{saysComplete, entryOf, refusal, shown, shownFinished, shownPage, shownPreview, shownLoad, numberIn, Shows};
 
 // Whether the first line is exactly `sheet=complete`.
 fn says_complete(sheet: &[u8]) -> bool
@@ -89,6 +97,103 @@ fn finished(partial: &[u8], complete: &[u8], out: &mut [u8; SPACE]) -> usize
     refused(out, f.number, f.line, f.length)
 }
 
+// What is printed for the page of a partial sheet, likewise.
+fn paged(sheet: &[u8], out: &mut [u8; SPACE]) -> usize
+    ensures { λ r. ⌜ Shows (shownPage (now (sheet .entry))) (now (out .exit)) r ⌝ }
+{
+    let mut a = words();
+    let mut b = words();
+    let p = page(sheet, &mut a, &mut b, out);
+    if p.number == 0 {
+        return p.length;
+    }
+    refused(out, p.number, p.line, p.length)
+}
+
+// What is printed for a partial sheet with one line replaced, likewise.
+fn previewed(sheet: &[u8], line: usize, new: &[u8], out: &mut [u8; SPACE]) -> usize
+    ensures { λ r. ⌜ Shows (shownPreview (now (sheet .entry)) line (now (new .entry))) (now (out .exit)) r ⌝ }
+{
+    let mut a = words();
+    let mut b = words();
+    let p = preview(sheet, line, new, &mut a, &mut b, out);
+    if p.number == 0 {
+        return p.length;
+    }
+    refused(out, p.number, p.line, p.length)
+}
+
+// The number of policies that the call is asked for: the greatest that it can be where there are more, as both are refused alike.
+fn at_most(policies: u64) -> u32
+    ensures { λ r. ⌜ r ≡ min policies 4294967295 ⌝ }
+{
+    if policies > 4294967295 {
+        return 4294967295;
+    }
+    policies as u32
+}
+
+// What is printed for a seed and a number of policies, likewise.
+fn loaded(seed: u64, policies: u64, out: &mut [u8; SPACE]) -> usize
+    ensures { λ r. ⌜ Shows (shownLoad seed policies) (now (out .exit)) r ⌝ }
+{
+    let n = at_most(policies);
+    let l = load(seed, n, out);
+    if l.number == 0 {
+        return l.length;
+    }
+    refused(out, l.number, l.line, l.length)
+}
+
+// ---- numbers on the command line
+
+// The greatest number of 64 bits.
+const MOST: u64 = 18446744073709551615;
+
+// The number that digits write, leading zeros or not: nothing wraps.
+fn digits_of(word: &[u8]) -> Number
+    ensures { λ r. ⌜ numberOf r ≡ atMost greatest (digitsFrom 0 (now (word .entry))) ⌝ }
+{
+    let mut n: u64 = 0;
+    let mut i = 0;
+    while i < word.len() {
+        let x = word[i];
+        if x < b'0' {
+            return Number::Refused;
+        }
+        if x > b'9' {
+            return Number::Refused;
+        }
+        if n > MOST / 10 {
+            return Number::Refused;
+        }
+        let tens = n * 10;
+        let digit = (x - b'0') as u64;
+        if digit > MOST - tens {
+            return Number::Refused;
+        }
+        n = tens + digit;
+        i += 1;
+    }
+    Number::Value(n)
+}
+
+// A decimal number.
+fn number_of(word: &[u8]) -> Number
+    ensures { λ r. ⌜ numberOf r ≡ numberIn (now (word .entry)) ⌝ }
+{
+    if word.len() == 0 {
+        return Number::Refused;
+    }
+    if word.len() == 1 {
+        return digits_of(word);
+    }
+    if word[0] == b'0' {
+        return Number::Refused;
+    }
+    digits_of(word)
+}
+
 // ---- the words
 
 // The bytes of a sheet that are read: one more than it may have, so that a longer one is seen.
@@ -99,7 +204,18 @@ const WORD: usize = 1;
 
 const NAME: usize = 2;
 
-// What stands on the command line, by how many there are: nothing, the program's name, a word after it, a name after that.
+// The places of the number of a line and of the line for it, which may follow the word instead.
+const LINE: usize = 2;
+
+const REPLACEMENT: usize = 3;
+
+// The places of the two numbers that may follow the word instead.
+const SEED: usize = 2;
+
+const POLICIES: usize = 3;
+
+// What stands on the command line, by how many there are: nothing, the program's name, a word after it, a name after that, a number and one thing
+// more instead.
 const NOTHING: usize = 0;
 
 const PROGRAM: usize = 1;
@@ -108,8 +224,16 @@ const LONE_WORD: usize = 2;
 
 const NAMED_WORD: usize = 3;
 
+const COUNTED_WORD: usize = 4;
+
 // The bytes of a word; a longer one is none of the words.
 const LETTERS: usize = 16;
+
+// The digits of a number of 64 bits; a longer word is no such number (proofs/Numbers.antt).
+const DIGITS: usize = 20;
+
+// The bytes of what may stand at one place on a command line.
+const ARGUMENT: usize = 131072;
 
 // The words, on standard output or standard error.
 fn help(to: i32) {
@@ -121,6 +245,18 @@ fn help(to: i32) {
         to,
         b"openrules finish PARTIAL < COMPLETE  what the partial sheet's residuals give on the complete sheet\n",
     );
+    io::write_all(
+        to,
+        b"openrules page < SHEET               the counter page of a partial sheet\n",
+    );
+    io::write_all(
+        to,
+        b"openrules preview LINE NEW < SHEET   the answer to a partial sheet with the line NEW in the place of line LINE\n",
+    );
+    io::write_all(
+        to,
+        b"openrules load SEED POLICIES         the test load that a seed and 1 to 64 policies name, a sheet\n",
+    );
     io::write_all(to, b"openrules help                       these words\n");
 }
 
@@ -130,6 +266,15 @@ fn print_answer() {
     let n = io::read_full(STDIN_FILENO, &mut input);
     let mut out = [0u8; SPACE];
     let k = answer(&input[..n], &mut out);
+    io::write_all(STDOUT_FILENO, &out[..k]);
+}
+
+// `page`
+fn print_page() {
+    let mut input = [0u8; INPUT];
+    let n = io::read_full(STDIN_FILENO, &mut input);
+    let mut out = [0u8; SPACE];
+    let k = paged(&input[..n], &mut out);
     io::write_all(STDOUT_FILENO, &out[..k]);
 }
 
@@ -157,10 +302,61 @@ fn finish_word() {
     libc::close(file);
 }
 
+// The test load of two numbers.
+fn print_load(seed: u64, policies: u64) {
+    let mut out = [0u8; SPACE];
+    let k = loaded(seed, policies, &mut out);
+    io::write_all(STDOUT_FILENO, &out[..k]);
+}
+
+// Number `i` on the command line.
+fn number_at(i: usize) -> Number {
+    let mut word = [0u8; DIGITS];
+    let n = os::arg(i, &mut word);
+    number_of(&word[..n])
+}
+
+// The partial sheet from standard input, with one line replaced.
+fn print_preview(line: usize, new: &[u8]) {
+    let mut input = [0u8; INPUT];
+    let n = io::read_full(STDIN_FILENO, &mut input);
+    let mut out = [0u8; SPACE];
+    let k = previewed(&input[..n], line, new, &mut out);
+    io::write_all(STDOUT_FILENO, &out[..k]);
+}
+
+// `preview LINE REPLACEMENT`
+fn preview_word() {
+    let Number::Value(line) = number_at(LINE) else {
+        help(STDERR_FILENO);
+        return;
+    };
+    let mut new = [0u8; ARGUMENT];
+    let n = os::arg(REPLACEMENT, &mut new);
+    print_preview(line as usize, &new[..n]);
+}
+
+// `load SEED POLICIES`
+fn load_word() {
+    let Number::Value(seed) = number_at(SEED) else {
+        help(STDERR_FILENO);
+        return;
+    };
+    let Number::Value(policies) = number_at(POLICIES) else {
+        help(STDERR_FILENO);
+        return;
+    };
+    print_load(seed, policies);
+}
+
 // One word alone.
 fn lone_word(word: &[u8]) {
     if same_bytes(word, b"help") {
         help(STDOUT_FILENO);
+        return;
+    }
+    if same_bytes(word, b"page") {
+        print_page();
         return;
     }
     help(STDERR_FILENO);
@@ -175,6 +371,19 @@ fn named_word(word: &[u8]) {
     help(STDERR_FILENO);
 }
 
+// A word, a number and one thing more.
+fn counted_word(word: &[u8]) {
+    if same_bytes(word, b"preview") {
+        preview_word();
+        return;
+    }
+    if same_bytes(word, b"load") {
+        load_word();
+        return;
+    }
+    help(STDERR_FILENO);
+}
+
 fn main() {
     let mut word = [0u8; LETTERS];
     let n = os::arg(WORD, &mut word);
@@ -183,6 +392,7 @@ fn main() {
         PROGRAM => print_answer(),
         LONE_WORD => lone_word(&word[..n]),
         NAMED_WORD => named_word(&word[..n]),
+        COUNTED_WORD => counted_word(&word[..n]),
         _ => help(STDERR_FILENO),
     }
 }

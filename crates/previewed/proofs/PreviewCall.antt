@@ -12,7 +12,7 @@ use Rattle.cedar.proofs.Tools.{or-left}
 use Rattle.sheet.specs.Forms.{partial}
 use Rattle.sheet.specs.Sheet.{read}
 use Rattle.sheet.specs.Answer.{answer}
-use Rattle.sheet.specs.Call.{Returned, returns, room, lentThen, shortThen, checkedThen, fitted, returned, over, outputs, written, Accepted}
+use Rattle.sheet.specs.Call.{Returned, returns, room, lentThen, shortThen, checkedThen, fitted, returned, over, outputs, written}
 use Rattle.sheet.specs.Demand3.{Answered, bytesOf}
 use Rattle.previewed.specs.Preview.{edited, mayEdit, editThen, previewReturned, previewWritten}
 use Rattle.previewed.specs.Tried.{Tried, bytesTried}

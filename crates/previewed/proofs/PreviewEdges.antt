@@ -4,7 +4,6 @@ use mathlib.Core.List.{List, [], _∷_, _++_}
 use Prim.Native.Nat.{ℕ}
 use Prim.Native.String.{String}
 use lib.ListN.{replicate}
-use Rattle.sheet.specs.Ascii.{ascii}
 use Rattle.sheet.specs.Forms.{keys, partial, forms, formOf, slotAt, counted, tagOf, rowOf, keyOf, refs, ascendings}
 use Rattle.sheet.specs.Parents.{ancestors, unknownAbove}
 use Rattle.sheet.specs.Typing.{fitsIn, nodesUnder, typed}
@@ -83,6 +82,7 @@ judged-tries =
     ∷ try 21 "principal=0," "refused=3,21,0/"
     ∷ try 21 "principal=0,??" "refused=3,21,0/"
     ∷ try 24 "context=1,1" "refused=7,24,0/"
+    ∷ try 24 "context=1,9" "refused=5,24,0/"
     ∷ []
 
 judged : triedAll form judged-tries ≡ saysAll judged-tries
@@ -101,6 +101,7 @@ listed-tries =
     ∷ try 41 "entity=7,2,2,?" "decision=open/counts=0,0,0,1,0,0,0,0/why=none/node=2,lit,5/node=4,lit,8/node=0,in,0,1/policy=5,permit,open,2/"
     ∷ try 40 "entity=5,?,?,11" "refused=12,40,0/"
     ∷ try 40 "entity=5,2,2,11" "refused=12,40,0/"
+    ∷ try 41 "entity=7,,?,?" "refused=3,41,0/"
     ∷ []
 
 entities : triedAll listed listed-tries ≡ saysAll listed-tries
@@ -131,6 +132,7 @@ others-kept =
     ∷ kept "sheet=partial/text=Person/text=Action/text=Firm/text=quote/text=T1/text=p0/text=p1/text=a/text=b/text=x/kind=0,e/kind=1,a/kind=2,e/type=bool/type=record/type=entity,0/type=entity,1/type=entity,2/type=long/type=string/type=set,2/type=record,7,r,0/shape=1,-,2/shape=1,-/shape=1,-,0/value=bool,0/value=bool,1/value=record/value=record,7,1/value=set/value=entity,0,7/value=entity,0,8/value=entity,2,4/value=entity,2,9/value=set,6/value=set,7/value=set,8/value=set,5/entity=5,?,?,10/entity=7,?,?,?/principal=0,?/action=1,3/resource=2,4/context=8,?/day=2026-06-15/" (try 41 "entity=7,?,?,9" "refused=7,40,0/")
     ∷ kept "sheet=partial/text=Broker/text=Action/text=Tariff/text=quote/text=T1/text=low/text=high/text=b7/kind=0,e/kind=1,a/kind=2,e/type=bool/type=record/type=entity,0/shape=1,-/shape=1,-/shape=1,-/value=entity,0,7/value=bool,1/principal=0,?/action=x/resource=2,4/context=1,?/day=2026-06-15/node=2,var,p/node=2,lit,0/node=0,eq,0,1/node=0,lit,1/policy=5,permit,2/policy=6,permit,3/" (try 21 "principal=0,7" "refused=3,22,0/")
     ∷ kept "sheet=complete/text=Broker/text=Action/text=Tariff/text=quote/text=T1/text=low/text=high/text=b7/kind=0,e/kind=1,a/kind=2,e/type=bool/type=record/type=entity,0/shape=1,-/shape=1,-/shape=1,-/value=entity,0,7/value=bool,1/principal=0,?/action=1,3/resource=2,4/context=1,?/day=2026-06-15/node=2,var,p/node=2,lit,0/node=0,eq,0,1/node=0,lit,1/policy=5,permit,2/policy=6,permit,3/" (try 21 "principal=0,7" "refused=3,1,0/")
+    ∷ kept "sheet=partial/text=Broker/text=Action/text=Tariff/text=quote/text=T1/text=low/text=high/text=b7/kind=0,e/kind=1,a/kind=2,e/type=bool/type=record/type=entity,0/shape=1,-/shape=1,-/shape=1,-/value=entity,0,7/value=bool,1/principal=0,?/action=1,3/resource=2,4/context=1,?/day=x/node=2,var,p/node=2,lit,0/node=0,eq,0,1/node=0,lit,1/policy=5,permit,2/policy=6,permit,3/" (try 21 "principal=0,?" "refused=12,21,0/")
     ∷ kept "x/" (try 1 "principal=0,7" "refused=12,1,0/")
     ∷ kept "principal=0,?" (try 1 "principal=0,7" "refused=3,1,0/")
     ∷ kept "a/b/c/context=1,?" (try 4 "context=1,2" "refused=3,1,0/")

@@ -1,20 +1,19 @@
 -- A line whose lone `?` are filled: its row has the same key and entity or kind, and each part is the same where it was known.
-use mathlib.Core.Path.{_≡_, refl, sym, _∙_, ap, ap₂, subst}
+use mathlib.Core.Path.{_≡_, refl, sym, _∙_, ap, subst}
 use mathlib.Core.Bool.{Bool, true, false, cond, not, _&&_, _||_}
 use mathlib.Core.Option.{Option, none, some, Option·some-injective}
 use mathlib.Core.List.{List, [], _∷_, _++_}
 use Prim.Native.Nat.{ℕ, zero, suc, _%_, _-_}
 use Prim.Native.String.{String}
-use native.Mathlib.Omega.{arith}
-use borrow.Author.Tests.{eq-eqb, ltb-true}
+use borrow.Author.Tests.{eq-eqb}
 use lib.Dec.{ltb, eqb}
-use lib.ListN.{length, getD, take, drop}
+use lib.ListN.{length, getD, drop}
 use Rattle.cedar.proofs.Tools.{no-some, no-true, and-both, either}
 use Rattle.cedar.specs.Types.{among}
 use Rattle.sheet.specs.Ascii.{ascii}
 use Rattle.sheet.specs.Bytes.{upTo, split, same, printable, index}
 use Rattle.sheet.specs.Typing.{unknownOr}
-use Rattle.sheet.specs.Forms.{Mode, partial, Slot, entry, line, lineOr, lineUnknown, word, number, day, nothing, keys, forms, formOf, slotIn, slotAt, counted, tagOf, item, one, joined, itemsFrom, orEmpty, rowFor, rowOfValue, rowOf, placeIn, markOr, mark, at, keyOf, TYPE, KIND, VALUE, ENTITY, PRINCIPAL, RESOURCE, CONTEXT}
+use Rattle.sheet.specs.Forms.{partial, Slot, entry, line, lineOr, lineUnknown, word, number, day, nothing, keys, forms, formOf, slotAt, counted, tagOf, item, one, joined, itemsFrom, orEmpty, rowFor, rowOfValue, rowOf, placeIn, markOr, mark, at, keyOf, TYPE, KIND, VALUE, ENTITY, PRINCIPAL, RESOURCE, CONTEXT}
 use Rattle.previewed.specs.Preview.{fillsOnly, keyIn, itemsIn, mayFill, fills}
 use Rattle.sheet.proofs.Lines.{not-empty}
 use Rattle.sheet.proofs.TwoSheets.{same-is}

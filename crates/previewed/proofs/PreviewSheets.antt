@@ -1,27 +1,27 @@
 -- A sheet with one line filled, where both are accepted: the same lines but for one, whose known parts are the same; so what agrees with the
 -- edited sheet agrees with the kept one.
-use mathlib.Core.Path.{_≡_, refl, sym, _∙_, ap, ap₂, subst}
+use mathlib.Core.Path.{_≡_, refl, sym, _∙_, ap, subst}
 use mathlib.Core.Bool.{Bool, true, false, cond, not, _&&_, _||_}
 use mathlib.Core.Option.{Option, none, some}
 use mathlib.Core.List.{List, [], _∷_, _++_}
-use Prim.Native.Nat.{ℕ, zero, suc, _<_, _≤_, _-_}
+use Prim.Native.Nat.{ℕ, zero, suc, _-_}
 use native.Mathlib.Omega.{arith}
 use borrow.Author.Tests.{eq-eqb}
-use lib.Dec.{leb, eqb}
+use lib.Dec.{eqb}
 use lib.ListN.{length, getD, set, length-set}
-use Rattle.cedar.proofs.Tools.{no-some, no-true, eqb-true, and-both, both, either}
+use Rattle.cedar.proofs.Tools.{no-true, eqb-true, and-both, both, either}
 use Rattle.cedar.specs.Value.{onSome}
 use Rattle.cedar.specs.Types.{among}
 use Rattle.sheet.specs.Bytes.{split, same}
 use Rattle.sheet.specs.Typing.{unknownOr}
-use Rattle.sheet.specs.Forms.{Mode, partial, complete, rowOf, keyOf, at, mark, TEXT, KIND, TYPE, SHAPE, VALUE, ENTITY, PRINCIPAL, ACTION, RESOURCE, CONTEXT, DAY, NODE, POLICY, LINK, TERM}
+use Rattle.sheet.specs.Forms.{partial, rowOf, keyOf, at, mark, TEXT, KIND, TYPE, SHAPE, VALUE, ENTITY, PRINCIPAL, ACTION, RESOURCE, CONTEXT, DAY, NODE, POLICY, LINK, TERM}
 use Rattle.sheet.specs.State.{State, empty, linesOf, lineAt}
-use Rattle.sheet.specs.Sheet.{Reading, reads, fault, more, entitiesFit, ending, goOn, lineRead, reading, read}
+use Rattle.sheet.specs.Sheet.{Reading, reads, fault, more, ending, goOn, lineRead, reading, read}
 use Rattle.sheet.specs.Parents.{lineFor}
-use Rattle.sheet.specs.Agreement.{begins, sameLines, partSame, requestSame, entitySame, listed, allListed, agrees}
+use Rattle.sheet.specs.Agreement.{begins, partSame, requestSame, entitySame, listed, allListed, agrees}
 use Rattle.previewed.specs.Preview.{edited, fills, mayEdit}
-use Rattle.sheet.proofs.Lines.{ended, entities-passed, line-passed, zero-not-suc, set-cases}
-use Rattle.sheet.proofs.TwoSheets.{Common, common}
+use Rattle.sheet.proofs.Lines.{ended, entities-passed, line-passed, zero-not-suc}
+use Rattle.sheet.proofs.TwoSheets.{common}
 use Rattle.finished.proofs.FinishAgrees.{lines-are}
 use Rattle.previewed.proofs.PreviewLines.{edited-lines}
 use Rattle.previewed.proofs.PreviewRows.{fillable, FillRow, fills-row}

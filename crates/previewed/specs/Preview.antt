@@ -1,5 +1,4 @@
--- Document 02, 2.11, "Try one answer": "Given a partial sheet, the number of one of its lines and a replacement line, the preview returns exactly
--- what a run on a copy with that line replaced returns."
+-- Document 02, 2.11, "Try one answer": a partial sheet, the number of one of its lines and a replacement line.
 use mathlib.Core.Bool.{Bool, true, false, cond, _&&_, _||_, not}
 use mathlib.Core.List.{List, [], _∷_, _++_}
 use Prim.Native.Nat.{ℕ, zero, suc, _-_}
@@ -13,10 +12,10 @@ use Rattle.sheet.specs.Sheet.{read}
 use Rattle.sheet.specs.Answer.{answer}
 use Rattle.sheet.specs.Call.{Returned, returns, lentThen, shortThen, outputs, returned}
 
--- ---- "lines are split at byte 10 (an unended rest is one too) and items at commas after the first `=`"
+-- ---- the lines and the items of a line
 
--- Line n, counted from 1. A line that the sheet lacks is as an empty one: it has no `=`, so nothing may stand for it. So is the empty rest after
--- a last byte 10.
+-- "lines are split at byte 10 (an unended rest is one too)": line n, counted from 1. A line that the sheet lacks is as an empty one: it has no
+-- `=`, so nothing may stand for it. So is the empty rest after a last byte 10.
 abbrev pub lineOf : List ℕ → ℕ → List ℕ
 lineOf sheet zero = []
 lineOf sheet (suc i) = getD (split 10 sheet) i []
@@ -27,32 +26,32 @@ joinLines [] = []
 joinLines (l ∷ []) = l
 joinLines (l ∷ n ∷ ls) = l ++ (10 ∷ joinLines (n ∷ ls))
 
--- the copy with line n replaced: a line that was not ended is not ended in the copy
+-- "a copy with that line replaced": a line that was not ended is not ended in the copy
 unfoldable pub edited : List ℕ → ℕ → List ℕ → List ℕ
 edited sheet n new = joinLines (set (split 10 sheet) (n - 1) new)
 
--- what stands before the first `=` of a line, and the items after it
+-- what stands before the first `=` of a line
 abbrev pub keyIn : List ℕ → List ℕ
 keyIn l = take (upTo 61 l) l
 
+-- "items at commas after the first `=`"
 abbrev pub itemsIn : List ℕ → List (List ℕ)
 itemsIn l = split 44 (drop (suc (upTo 61 l)) l)
 
--- ---- "The replacement has no byte 10, keeps the number of items and differs only in items that were a lone `?`, on a principal, resource,
--- context or entity line."
+-- ---- what may stand for a line
 
--- a line with `=` and one of these keys
+-- "on a principal, resource, context or entity line": with `=` and one of these keys
 abbrev pub mayFill : List ℕ → Bool
 mayFill l = ltb (placeIn (keyIn l) ("principal" ∷ "resource" ∷ "context" ∷ "entity" ∷ [])) 4 && ltb (upTo 61 l) (length l)
 
--- the items of the kept line and of the replacement
+-- "keeps the number of items and differs only in items that were a lone `?`": the items of the kept line and of the replacement
 abbrev pub fillsOnly : List (List ℕ) → List (List ℕ) → Bool
 fillsOnly [] [] = true
 fillsOnly [] (g ∷ gs) = false
 fillsOnly (f ∷ fs) [] = false
 fillsOnly (f ∷ fs) (g ∷ gs) = (same f g || same f (ascii "?")) && fillsOnly fs gs
 
--- the rules above, and that it fills something: then the replacement is another line
+-- "The replacement has no byte 10", keeps these rules, and fills something: then it is another line
 unfoldable pub fills : List ℕ → List ℕ → Bool
 fills old new = not (among 10 new) && (mayFill old && (mayFill new && (same (keyIn old) (keyIn new) && (fillsOnly (itemsIn old) (itemsIn new) && not (same old new)))))
 
@@ -65,7 +64,8 @@ mayEdit sheet n new = fills (lineOf sheet n) new
 abbrev pub editThen : List ℕ → ℕ → List ℕ → Returned → Returned
 editThen sheet n new r = cond (mayEdit sheet n new) r (returns 12 n 0)
 
--- "it comes after 1 and after 2 for the kept sheet, and before the run on the copy, which gives 2 itself if the copy is too long"
+-- "the preview returns exactly what a run on a copy with that line replaced returns"; 12 "comes after 1 and after 2 for the kept sheet, and before
+-- the run on the copy, which gives 2 itself if the copy is too long"
 unfoldable pub previewReturned : ℕ → ℕ → ℕ → List ℕ → ℕ → List ℕ → Returned
 previewReturned work₁ work₂ out sheet n new = lentThen work₁ work₂ (shortThen sheet (editThen sheet n new (returned partial work₁ work₂ out (edited sheet n new))))
 

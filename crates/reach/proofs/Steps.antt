@@ -161,25 +161,27 @@ no-members s (suc (suc (suc (suc zero)))) h = absurd (h refl)
 no-members s (suc (suc (suc (suc (suc zero))))) h = refl
 no-members s (suc (suc (suc (suc (suc (suc n)))))) h = refl
 
-module _ (a : List ℕ) (i : ℕ) (r : List ℕ) (x : ℕ) (er : r ≡ getD (lineRows a) i []) (ex : x ≡ getD r 4 0) where
-  item-is : x ≡ at (getD (lineRows a) i []) 3
-  item-is = ex ∙ ap (λ (q : List ℕ). getD q 4 0) er
-
-  pub parents-by : (y : ℕ) → x ≡ y → parentsIn (rowsOf a VALUE) (lineRows a) (getD (lineRows a) i []) ≡ cond (eqb y mark) [] (rSet [] (valueRow (getD (rowsOf a VALUE) y [])) (λ l. l))
-  parents-by y e = ap (λ (z : ℕ). cond (eqb z mark) [] (rSet [] (valueRow (getD (rowsOf a VALUE) z [])) (λ l. l))) (sym item-is ∙ e)
-
-  pub parents-unknown : x ≡ mark → [] ≡ parentsIn (rowsOf a VALUE) (lineRows a) (getD (lineRows a) i [])
-  parents-unknown e = sym (parents-by mark e)
+module _ (a : List ℕ) (x : ℕ) where
+  pub parents-unknown : x ≡ mark → [] ≡ named (rowsOf a VALUE) x
+  parents-unknown e = sym (ap (named (rowsOf a VALUE)) e)
 
   module _ (ne : x ≡ mark → ⊥) (s : List ℕ) (t : ℕ) (es : s ≡ getD (rowsOf a VALUE) x []) (et : t ≡ tag s) where
-    known : parentsIn (rowsOf a VALUE) (lineRows a) (getD (lineRows a) i []) ≡ rSet [] (valueRow s) (λ l. l)
-    known = parents-by x refl ∙ ap (λ (b : Bool). cond b [] (rSet [] (valueRow (getD (rowsOf a VALUE) x [])) (λ l. l))) (ne-eqb x mark ne) ∙ ap (λ (q : List ℕ). rSet [] (valueRow q) (λ l. l)) (sym es)
+    known : named (rowsOf a VALUE) x ≡ rSet [] (valueRow s) (λ l. l)
+    known = ap (λ (b : Bool). cond b [] (rSet [] (valueRow (getD (rowsOf a VALUE) x [])) (λ l. l))) (ne-eqb x mark ne) ∙ ap (λ (q : List ℕ). rSet [] (valueRow q) (λ l. l)) (sym es)
 
-    pub parents-other : (t ≡ SET-VALUE → ⊥) → [] ≡ parentsIn (rowsOf a VALUE) (lineRows a) (getD (lineRows a) i [])
+    pub parents-other : (t ≡ SET-VALUE → ⊥) → [] ≡ named (rowsOf a VALUE) x
     parents-other n = sym (known ∙ no-members s (tag s - firstValue) (λ z. n (omega (arith, et, z))))
 
-    pub parents-set : t ≡ SET-VALUE → (q : List ℕ) → q ≡ items s → q ≡ parentsIn (rowsOf a VALUE) (lineRows a) (getD (lineRows a) i [])
+    pub parents-set : t ≡ SET-VALUE → (q : List ℕ) → q ≡ items s → q ≡ named (rowsOf a VALUE) x
     parents-set e q eq = eq ∙ sym (known ∙ ap (λ (n : ℕ). rSet [] (getD (rowsFor s) (n - firstValue) (rbool false)) (λ l. l)) (sym et ∙ e))
+
+-- the parents that line i names are those that its last item names
+module _ (a : List ℕ) (i : ℕ) (r : List ℕ) (x : ℕ) (er : r ≡ getD (lineRows a) i []) (ex : x ≡ getD r 4 0) where
+  on-it : named (rowsOf a VALUE) x ≡ parentsIn (rowsOf a VALUE) (lineRows a) (getD (lineRows a) i [])
+  on-it = ap (named (rowsOf a VALUE)) (ex ∙ ap (λ (q : List ℕ). getD q 4 0) er)
+
+  pub parents-line : (l : List ℕ) → l ≡ named (rowsOf a VALUE) x → l ≡ parentsIn (rowsOf a VALUE) (lineRows a) (getD (lineRows a) i [])
+  parents-line l e = e ∙ on-it
 
 -- ---- see_at, note, meet, see, expand
 
@@ -260,27 +262,24 @@ module _ (a : List ℕ) (i : ℕ) (s w m q : List ℕ) (t : ℕ) (c : Queue (lin
   Full : List ℕ → List ℕ → List ℕ → Type 0
   Full w m l = (i : ℕ) → i < length l → Taken (lineRows a) w m (getD l i 0)
 
-  on-it : named (rowsOf a VALUE) x ≡ parentsIn (rowsOf a VALUE) (lineRows a) (getD (lineRows a) i [])
-  on-it = sym (parents-by a i r x er ex x refl)
-
   module _ (y : ℕ) (ey : y ≡ getD s x 0) where
     pub expand-old : (y ≡ 0 → ⊥) → Expanded (rowsOf a VALUE) (lineRows a) i s w m q t s w m q t
     unfolding Full
     expand-old e = record {
       long = refl;
-      seen = seen-none (lineRows a) (parentsIn (rowsOf a VALUE) (lineRows a) (getD (lineRows a) i [])) (length (parentsIn (rowsOf a VALUE) (lineRows a) (getD (lineRows a) i []))) w m q t c o (subst (Full w m) on-it (d .is x (subst (λ (z : ℕ). 1 ≤ z) ey (not-none y e))));
+      seen = seen-none (lineRows a) (parentsIn (rowsOf a VALUE) (lineRows a) (getD (lineRows a) i [])) (length (parentsIn (rowsOf a VALUE) (lineRows a) (getD (lineRows a) i []))) w m q t c o (subst (Full w m) (on-it a i r x er ex) (d .is x (subst (λ (z : ℕ). 1 ≤ z) ey (not-none y e))));
       spread = d;
     }
 
-    pub expand-new : (s′ l w′ m′ q′ : List ℕ) (t′ : ℕ) → s′ ≡ set s x 1 → l ≡ parentsIn (rowsOf a VALUE) (lineRows a) (getD (lineRows a) i []) → Seen (lineRows a) l (length l) w m q t w′ m′ q′ t′ → Expanded (rowsOf a VALUE) (lineRows a) i s w m q t s′ w′ m′ q′ t′
+    pub expand-new : (s′ l w′ m′ q′ : List ℕ) (t′ : ℕ) → s′ ≡ set s x 1 → l ≡ named (rowsOf a VALUE) x → Seen (lineRows a) l (length l) w m q t w′ m′ q′ t′ → Expanded (rowsOf a VALUE) (lineRows a) i s w m q t s′ w′ m′ q′ t′
     unfolding Full
     expand-new s′ l w′ m′ q′ t′ es el g = record {
       long = ap length es ∙ length-set s x 1;
-      seen = subst (λ (k : List ℕ). Seen (lineRows a) k (length k) w m q t w′ m′ q′ t′) el g;
+      seen = subst (λ (k : List ℕ). Seen (lineRows a) k (length k) w m q t w′ m′ q′ t′) (parents-line a i r x er ex l el) g;
       spread = subst (λ (u : List ℕ). Spread (rowsOf a VALUE) (lineRows a) u w′ m′) (sym es) (record {
         is = λ z h. set-cases s x z 1 0
             (λ e i′ b. taken-on (lineRows a) w m w′ m′ (getD (named (rowsOf a VALUE) z) i′ 0) (g .longw) (g .kept) (g .keptw) (d .is z (omega (arith, h, e)) i′ b))
-            (λ e u. subst (λ (n : ℕ). Full w′ m′ (named (rowsOf a VALUE) n)) (sym e) (subst (Full w′ m′) (el ∙ sym on-it) (g .full)));
+            (λ e u. subst (λ (n : ℕ). Full w′ m′ (named (rowsOf a VALUE) n)) (sym e) (subst (Full w′ m′) el (g .full)));
       });
     }
 

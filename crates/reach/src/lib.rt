@@ -21,7 +21,7 @@ ghost use lib.ListN.{length, getD, set};
 ghost use Rattle.sheet.specs.Forms.{VALUE};
 ghost use Rattle.sheet.specs.Parents.{parentsIn};
 ghost use Rattle.table.specs.Layout.{rowsOf};
-ghost use Rattle.reach.specs.Marks.{LINES, VALUES, FAR, lineRows, placeOf, Filled, Indexed, Queue, Noted, Grown, Spot, Skipped, Seen, Spread, Expanded, Found, markedAt, anyMarked, namesAt, unknownAt, isMet, anyMet};
+ghost use Rattle.reach.specs.Marks.{LINES, VALUES, FAR, lineRows, placeOf, named, Filled, Indexed, Queue, Noted, Grown, Spot, Skipped, Seen, Spread, Expanded, Found, markedAt, anyMarked, namesAt, unknownAt, isMet, anyMet};
 
 // The most entity lines, and the most values of a sheet: so many bytes has a table by value.
 pub const LINES: usize = 128;
@@ -147,19 +147,25 @@ fn place(rows: &[u32], places: &[u8], value: u32) -> u32
     place_of(rows, value)
 }
 
-// The parents that line `number` names.
-pub fn parents_of(rows: &[u32], number: u32) -> &[u32]
-    ensures { λ l. ⌜ now l ≡ parentsIn (rowsOf (now (rows .entry)) VALUE) (lineRows (now (rows .entry))) (getD (lineRows (now (rows .entry))) number []) ⌝ }
+// The parents that the last item of an entity line names.
+fn parents_in(rows: &[u32], parents: u32) -> &[u32]
+    ensures { λ l. ⌜ now l ≡ named (rowsOf (now (rows .entry)) VALUE) parents ⌝ }
 {
-    let x = item(line_at(rows, number), 4);
-    if x == MARK {
+    if parents == MARK {
         return &rows[0..0];
     }
-    let q = row(rows, VALUE, x);
+    let q = row(rows, VALUE, parents);
     if tag(q) != SET_VALUE {
         return &rows[0..0];
     }
     members(q)
+}
+
+// The parents that line `number` names.
+pub fn parents_of(rows: &[u32], number: u32) -> &[u32]
+    ensures { λ l. ⌜ now l ≡ parentsIn (rowsOf (now (rows .entry)) VALUE) (lineRows (now (rows .entry))) (getD (lineRows (now (rows .entry))) number []) ⌝ }
+{
+    parents_in(rows, item(line_at(rows, number), 4))
 }
 
 // ---- the search
@@ -289,15 +295,16 @@ fn expand(
     requires { ⌜ Spread (rowsOf (now rows) VALUE) (lineRows (now rows)) (now asked) (now met) (now marks) ⌝ }
     ensures { λ e. ⌜ Expanded (rowsOf (now (rows .entry)) VALUE) (lineRows (now (rows .entry))) number (now (asked .entry)) (now (met .entry)) (now (marks .entry)) (now (queue .entry)) end (now (asked .exit)) (now (met .exit)) (now (marks .exit)) (now (queue .exit)) e ⌝ }
 {
-    let x = item(line_at(rows, number), 4) as usize;
-    if byte(asked, x) != 0 {
+    let parents = item(line_at(rows, number), 4);
+    let i = parents as usize;
+    if byte(asked, i) != 0 {
         return end;
     }
-    put_byte(asked, x, 1);
+    put_byte(asked, i, 1);
     see(
         rows,
         places,
-        parents_of(rows, number),
+        parents_in(rows, parents),
         met,
         marks,
         queue,

@@ -58,7 +58,7 @@ abbrev pub classFirst : List Verdict → Class
 classFirst [] = copen
 classFirst (v ∷ vs) = v .class
 
-second-of : (l : List ℕ) (i : ℕ) → getD (drop 1 l) i 0 ≡ getD l (suc i) 0
+pub second-of : (l : List ℕ) (i : ℕ) → getD (drop 1 l) i 0 ≡ getD l (suc i) 0
 second-of [] zero = refl
 second-of [] (suc i) = refl
 second-of (x ∷ l) i = refl

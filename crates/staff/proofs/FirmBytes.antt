@@ -1,9 +1,9 @@
 -- DOCUMENT 02, 2.14: THE SHEET WITH TWO TEXTS FILLED IN, FROM BYTES: it is accepted where the sheet is, and has its state with these texts set.
 use mathlib.Core.Path.{_≡_, refl, sym, _∙_, ap, ap₂, subst}
-use mathlib.Core.Bool.{Bool, true, false, cond, not, _&&_, _||_}
+use mathlib.Core.Bool.{Bool, true, false, cond, not, _&&_}
 use mathlib.Core.Option.{Option, none, some, Option·some-injective}
 use mathlib.Core.List.{List, [], _∷_, _++_}
-use Prim.Native.Nat.{ℕ, zero, suc, _+_, _<_, _≤_, _-_}
+use Prim.Native.Nat.{ℕ, zero, suc, _<_, _≤_}
 use Prim.Native.String.{String}
 use native.Mathlib.Omega.{arith}
 use native.Mathlib.Decide.{decLt}
@@ -12,10 +12,10 @@ use lib.Dec.{leb, ltb, eqb}
 use lib.ListN.{length, getD, take, drop, List·getD-eq-default}
 use Rattle.cedar.proofs.Tools.{no-some, no-true, eqb-true, and-both, both}
 use Rattle.sheet.specs.Ascii.{ascii}
-use Rattle.sheet.specs.Bytes.{upTo, split, ahead, same, printable, decimal, atMost, index, digits, commas, starts}
-use Rattle.sheet.specs.Forms.{partial, Slot, Form, noForm, keys, forms, formOf, slotAt, counted, tagOf, formIn, placeIn, item, one, joined, markOr, mark, itemsFrom, orEmpty, rowFor, rowHeaded, headed, heading, rowOfValue, rowOf, keyOf, tag, at, TEXT, PRINCIPAL, RESOURCE, noKey, noTag}
+use Rattle.sheet.specs.Bytes.{upTo, split, ahead, same, printable, decimal, index, digits, commas, starts}
+use Rattle.sheet.specs.Forms.{partial, Form, noForm, keys, forms, formOf, slotAt, counted, tagOf, formIn, placeIn, one, joined, markOr, mark, itemsFrom, orEmpty, rowFor, rowHeaded, heading, rowOfValue, rowOf, keyOf, TEXT, PRINCIPAL, RESOURCE, noKey, noTag}
 use Rattle.previewed.specs.Preview.{joinLines, keyIn, itemsIn}
-use Rattle.sheet.specs.State.{State, empty, count, lineAt}
+use Rattle.sheet.specs.State.{State, empty, count}
 use Rattle.sheet.specs.Sheet.{read, reading}
 use Rattle.sheet.specs.Call.{Accepted}
 use Rattle.sheet.proofs.Limits.{most-lines}
@@ -30,7 +30,7 @@ use Rattle.sheet.proofs.Parsed.{counted-plain}
 use Rattle.sheet.proofs.ValueRows.{same-refl}
 use Rattle.sheet.proofs.DigitsBack.{plainByte, plainBytes, index-back}
 use Rattle.sheet.proofs.RowsBack.{small-plain}
-use Rattle.sheet.proofs.LinesBack.{lacks, allPlain, unended, items-back, items-show, line-lacks}
+use Rattle.sheet.proofs.LinesBack.{lacks, allPlain, unended, items-back, items-show}
 use Rattle.previewed.proofs.PreviewRows.{tagFor, shown, row-of-key, joined-some}
 use Rattle.staff.proofs.FirmState.{FilledRow, kept, principal, resource, principalTag, resourceTag}
 use Rattle.staff.proofs.FirmRead.{FilledLine, FilledAll, more-lines, reading-with}
@@ -349,15 +349,16 @@ filled-some q (l ∷ ls) n = tt
 
 -- ---- the theorem
 
+-- a text that fits exists
+text-there : (s : State) (k t : ℕ) → textFits s k t ≡ true → ltb t (count s TEXT) ≡ true
+text-there s k t e = and-both (ltb t (count s TEXT)) _ e (λ x y. x)
+
 module _ (sheet : List ℕ) (q : Asked) (acc : Accepted partial sheet) (fits : askFits (read partial sheet .state) q ≡ true) where
   abbrev s : State
   s = read partial sheet .state
 
   there : (ltb (q .principal) (count s TEXT) ≡ true) × (ltb (q .resource) (count s TEXT) ≡ true)
-  there = and-both (textFits s PRINCIPAL (q .principal)) (textFits s RESOURCE (q .resource)) fits (λ a b. (
-    and-both (ltb (q .principal) (count s TEXT)) (eqb (at (lineAt s PRINCIPAL 0) 1) mark || eqb (at (lineAt s PRINCIPAL 0) 1) (q .principal)) a (λ x y. x),
-    and-both (ltb (q .resource) (count s TEXT)) (eqb (at (lineAt s RESOURCE 0) 1) mark || eqb (at (lineAt s RESOURCE 0) 1) (q .resource)) b (λ x y. x),
-  ))
+  there = and-both (textFits s PRINCIPAL (q .principal)) (textFits s RESOURCE (q .resource)) fits (λ a b. (text-there s PRINCIPAL (q .principal) a, text-there s RESOURCE (q .resource) b))
 
   small : (t : ℕ) → ltb t (count s TEXT) ≡ true → t ≤ 9999
   small t e = let a = most-lines partial s (facts partial sheet acc .history) .texts in let b = ltb-true t (count s TEXT) e in omega (arith, a, b)

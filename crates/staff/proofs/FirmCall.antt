@@ -41,48 +41,6 @@ module _ (sheet : List ℕ) (q : Asked) (acc : Accepted partial sheet) (fits : a
   unfolding rowDecision
   row-called x = record { said = partialSaid (read partial (filledSheet sheet q) .state); reads = ap (readAnswer partial) (bytes-are x) ∙ partial-answer-back (filledSheet sheet q) (accepted x); decides = refl }
 
--- ---- the rows
-
--- from one state: what the sheet's one reading gives each row
-abbrev pub rowsOn : State → List Row → List Row
-rowsOn s [] = []
-rowsOn s (r ∷ rs) = record { asked = r .asked; decision = decisionOn (withTexts s (r .asked)) } ∷ rowsOn s rs
-
--- each row fits
-abbrev pub AllAsk : State → List Row → Type 0
-AllAsk s [] = Unit {0}
-AllAsk s (r ∷ rs) = (askFits s (r .asked) ≡ true) × AllAsk s rs
-
-pub all-ask : (s : State) (rs : List Row) → length rs ≤ misfit s rs → AllAsk s rs
-all-ask s [] h = tt
-all-ask s (r ∷ rs) h = go (askFits s (r .asked)) refl h (all-ask s rs)
-  where
-    go : (b : Bool) → askFits s (r .asked) ≡ b → suc (length rs) ≤ cond b (suc (misfit s rs)) 0 → (length rs ≤ misfit s rs → AllAsk s rs) → (askFits s (r .asked) ≡ true) × AllAsk s rs
-    go true e h ih = (e, ih (le-of-suc-le-suc h))
-    go false e h ih = absurd (omega (arith, h))
-
-pub rows-are : (sheet : List ℕ) → Accepted partial sheet → (rs : List Row) → AllAsk (read partial sheet .state) rs → filledRows sheet rs ≡ rowsOn (read partial sheet .state) rs
-rows-are sheet acc [] h = refl
-rows-are sheet acc (r ∷ rs) h = ap₂ (λ d l. record { asked = r .asked; decision = d } ∷ l) (row-decision sheet (r .asked) acc (h .0)) (rows-are sheet acc rs (h .1))
-
--- a row's two texts
-abbrev pub textsOf : List Row → List Asked
-textsOf [] = []
-textsOf (r ∷ rs) = r .asked ∷ textsOf rs
-
-filled-texts : (sheet : List ℕ) (rs : List Row) → textsOf (filledRows sheet rs) ≡ textsOf rs
-filled-texts sheet [] = refl
-filled-texts sheet (r ∷ rs) = ap (λ l. r .asked ∷ l) (filled-texts sheet rs)
-
--- THE TEXTS OF THE ROWS ARE KEPT, and so is their number
-pub texts-kept : (work₁ work₂ : ℕ) (sheet : List ℕ) (rs : List Row) → textsOf (firmRows work₁ work₂ sheet rs) ≡ textsOf rs
-unfolding firmRows
-texts-kept work₁ work₂ sheet rs = go (eqb (firmReturned work₁ work₂ sheet rs .number) 0)
-  where
-    go : (b : Bool) → textsOf (cond b (filledRows sheet rs) rs) ≡ textsOf rs
-    go true = filled-texts sheet rs
-    go false = refl
-
 -- ---- 15: the lowest row that does not fit
 
 -- row i does not fit, and each before it does
@@ -107,12 +65,49 @@ misfit-lowest s (r ∷ rs) h = go (askFits s (r .asked)) refl h (misfit-lowest s
     go true e h ih = lowest-later s r rs (misfit s rs) e (ih (le-of-suc-le-suc h))
     go false e h ih = record { row = r; there = refl; unfit = e; first = λ j x lt g. absurd (omega (arith, lt)) }
 
+-- ---- the rows
+
+-- from one state: what the sheet's one reading gives each row
+abbrev pub rowsOn : State → List Row → List Row
+rowsOn s [] = []
+rowsOn s (r ∷ rs) = record { asked = r .asked; decision = decisionOn (withTexts s (r .asked)) } ∷ rowsOn s rs
+
+-- each row fits
+abbrev pub AllAsk : State → List Row → Type 0
+AllAsk s [] = Unit {0}
+AllAsk s (r ∷ rs) = (askFits s (r .asked) ≡ true) × AllAsk s rs
+
+pub all-ask : (s : State) (rs : List Row) → length rs ≤ misfit s rs → AllAsk s rs
+all-ask s [] h = tt
+all-ask s (r ∷ rs) h = go (askFits s (r .asked)) refl h (all-ask s rs)
+  where
+    go : (b : Bool) → askFits s (r .asked) ≡ b → suc (length rs) ≤ cond b (suc (misfit s rs)) 0 → (length rs ≤ misfit s rs → AllAsk s rs) → (askFits s (r .asked) ≡ true) × AllAsk s rs
+    go true e h ih = (e, ih (le-of-suc-le-suc h))
+    go false e h ih = absurd (omega (arith, h))
+
+pub rows-are : (sheet : List ℕ) → Accepted partial sheet → (rs : List Row) → AllAsk (read partial sheet .state) rs → filledRows sheet rs ≡ rowsOn (read partial sheet .state) rs
+rows-are sheet acc [] h = refl
+rows-are sheet acc (r ∷ rs) h = ap₂ (λ d l. record { asked = r .asked; decision = d } ∷ l) (row-decision sheet (r .asked) acc (h .0)) (rows-are sheet acc rs (h .1))
+
 -- ---- the call
 
 -- what it returns, the group's decision and the rows after it
 pub data Says (sheet : List ℕ) (rs : List Row) : Returned → Decision → List Row → Type 0 where
   decides : Accepted partial sheet → length rs ≤ mostRows → AllAsk (read partial sheet .state) rs → Says sheet rs (returns 0 0 0) (group (rowsOn (read partial sheet .state) rs)) (rowsOn (read partial sheet .state) rs)
   refuses : (n l : ℕ) → Says sheet rs (returns (suc n) l 0) undecided rs
+
+-- a row's two texts
+abbrev pub textsOf : List Row → List Asked
+textsOf [] = []
+textsOf (r ∷ rs) = r .asked ∷ textsOf rs
+
+texts-on : (s : State) (rs : List Row) → textsOf (rowsOn s rs) ≡ textsOf rs
+texts-on s [] = refl
+texts-on s (r ∷ rs) = ap (λ l. r .asked ∷ l) (texts-on s rs)
+
+texts-said : {sheet : List ℕ} {rs rs′ : List Row} {r : Returned} {d : Decision} → Says sheet rs r d rs′ → textsOf rs′ ≡ textsOf rs
+texts-said {sheet} {rs} (decides acc few fit) = texts-on (read partial sheet .state) rs
+texts-said (refuses n l) = refl
 
 module _ (work₁ work₂ : ℕ) (sheet : List ℕ) (rs : List Row) where
   abbrev s : State
@@ -144,6 +139,10 @@ module _ (work₁ work₂ : ℕ) (sheet : List ℕ) (rs : List Row) where
       fitting acc few false e =
           let fit = all-ask s rs (ltb-false (misfit s rs) (length rs) e) in
           subst (λ (l : List Row). Says sheet rs (returns 0 0 0) (group l) l) (sym (rows-are sheet acc rs fit)) (decides acc few fit)
+
+  -- THE TEXTS OF THE ROWS ARE KEPT, and so is their number
+  pub texts-kept : textsOf (firmRows work₁ work₂ sheet rs) ≡ textsOf rs
+  texts-kept = texts-said firm-says
 
   -- ---- each number
 

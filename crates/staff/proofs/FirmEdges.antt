@@ -2,7 +2,6 @@
 use mathlib.Core.Path.{_≡_, refl}
 use mathlib.Core.List.{List, [], _∷_}
 use Prim.Native.Nat.{ℕ}
-use Prim.Native.String.{String}
 use lib.ListN.{replicate}
 use Rattle.cedar.specs.Canonical.{order, same, place, insert, ascending, makeSet}
 use Rattle.cedar.specs.Response.{Decision, allow, deny, undecided}
@@ -14,7 +13,7 @@ use Rattle.sheet.specs.Content.{types, valueRows, contents, schema, trees, expr
 use Rattle.sheet.specs.Answer.{run, results, answer}
 use Rattle.sheet.specs.Call.{Returned, returns, returned}
 use Rattle.sheet.proofs.Shown.{bytes}
-use Rattle.staff.specs.Firm.{Asked, Row, filledSheet, rowDecision, group, firmReturned, firmRows, firmGroup}
+use Rattle.staff.specs.Firm.{Row, filledSheet, rowDecision, group, firmReturned, firmRows, firmGroup}
 
 -- a principal text, a resource text, and a decision
 abbrev pub row : ℕ → ℕ → Decision → Row

@@ -1,27 +1,29 @@
 -- The theorems on a sheet with every key: a template with two links, two terms, a policy off term, entities with parents, a known context.
 -- Principal and resource are unknown: the broker b7, text 7, is permitted, b9, text 8, is not.
-use mathlib.Core.Path.{_≡_, refl, ap, subst}
+use mathlib.Core.Path.{_≡_, refl, subst}
 use mathlib.Core.Bool.{true, false}
 use mathlib.Core.List.{List, [], _∷_}
-use Prim.Native.Nat.{ℕ, _≤_, _<_}
+use Prim.Native.Nat.{ℕ, _≤_}
 use native.Mathlib.Omega.{arith}
 use lib.ListN.{length, replicate}
 use Rattle.cedar.specs.Canonical.{order, same, place, insert, ascending, makeSet}
 use Rattle.cedar.specs.Response.{allow, deny, undecided}
-use Rattle.sheet.specs.Forms.{keys, partial, forms, formOf, slotAt, counted, tagOf, rowOf, keyOf, refs, ascendings}
+use Rattle.sheet.specs.Forms.{keys, partial, forms, formOf, slotAt, counted, tagOf, rowOf, keyOf, refs, ascendings, at, PRINCIPAL, RESOURCE}
+use Rattle.sheet.specs.State.{lineAt}
 use Rattle.sheet.specs.Parents.{ancestors, unknownAbove}
 use Rattle.sheet.specs.Typing.{fitsIn, nodesUnder, typed}
 use Rattle.sheet.specs.Sheet.{found, depth, fault, more, read}
 use Rattle.sheet.specs.Content.{types, valueRows, contents, schema, trees, exprs, onTerm, nPolicies, policies, nEnv, env}
 use Rattle.sheet.specs.Answer.{run, results, answer}
-use Rattle.sheet.specs.Call.{Returned, returns, returned, written, Accepted}
+use Rattle.sheet.specs.Call.{returns, returned, written, Accepted}
 use Rattle.sheet.specs.Demand3.{Answered, bytesOf}
 use Rattle.finished.proofs.FinishExample.{asked, changed, put, add, sheet}
 use Rattle.staff.specs.Firm.{Asked, Row, filledSheet, withTexts, decisionOn, rowDecision, group, askFits, misfit, firmReturned, firmRows, firmGroup}
 use Rattle.staff.specs.Called.{SaysDecision}
 use Rattle.staff.proofs.FirmBytes.{filled-sheet, row-decision}
-use Rattle.staff.proofs.FirmCall.{row-called, rowsOn, Lowest, misfit-lowest, Says, firm-says, firm-fourteen, firm-refused, firm-fifteen, firm-accepted}
+use Rattle.staff.proofs.FirmCall.{row-called, Lowest, misfit-lowest, Says, textsOf, firm-says, texts-kept, firm-fourteen, firm-refused, firm-fifteen, firm-accepted}
 use Rattle.staff.proofs.FirmEdges.{row, left, quoted}
+use Rattle.staff.proofs.FirmTexts.{principal-is, resource-is}
 
 unfoldable firm : List ℕ
 firm = sheet (changed (put 38 "context=6,8" ∷ put 37 "resource=2,?" ∷ add 33 ("value=long,9" ∷ "value=record,9,7" ∷ []) ∷ []) asked)
@@ -46,6 +48,9 @@ b7-sheet = refl
 
 b7-state : (read partial (filledSheet firm b7) .number ≡ 0) × (read partial (filledSheet firm b7) .state ≡ withTexts (read partial firm .state) b7)
 b7-state = filled-sheet firm b7 accepted b7-fits
+
+b7-texts : (at (lineAt (read partial (filledSheet firm b7) .state) PRINCIPAL 0) 1 ≡ 7) × (at (lineAt (read partial (filledSheet firm b7) .state) RESOURCE 0) 1 ≡ 4)
+b7-texts = (principal-is firm b7 accepted b7-fits, resource-is firm b7 accepted b7-fits)
 
 b7-decision : rowDecision firm b7 ≡ decisionOn (withTexts (read partial firm .state) b7)
 b7-decision = row-decision firm b7 accepted b7-fits
@@ -77,6 +82,9 @@ by-computation = refl
 
 says : Says firm staff (firmReturned 16384 16384 firm staff) (firmGroup 16384 16384 firm staff) (firmRows 16384 16384 firm staff)
 says = firm-says 16384 16384 firm staff
+
+texts : textsOf (firmRows 16384 16384 firm staff) ≡ textsOf staff
+texts = texts-kept 16384 16384 firm staff
 
 all-fit : misfit (read partial firm .state) staff ≡ 3
 unfolding firm keys forms formOf slotAt counted tagOf rowOf keyOf refs ascendings fitsIn nodesUnder typed found depth fault more read types valueRows contents schema trees exprs onTerm nPolicies policies nEnv env run results answer returned ancestors unknownAbove order same place insert ascending makeSet filledSheet rowDecision group firmReturned firmRows firmGroup

@@ -4,3 +4,4 @@ pub mod FirmEdges
 pub mod FirmExample
 pub mod FirmRead
 pub mod FirmState
+pub mod FirmTexts

@@ -1,5 +1,4 @@
--- Document 02, 2.14, "A whole firm in one call": "The caller lends a list of rows, each with a principal text and a resource text, and the call
--- fills each row's decision."
+-- Document 02, 2.14, "A whole firm in one call": a partial sheet, and rows whose decisions the call fills.
 use mathlib.Core.Bool.{Bool, true, false, cond, _&&_, _||_}
 use mathlib.Core.List.{List, [], _∷_, _++_}
 use Prim.Native.Nat.{ℕ, suc}
@@ -22,11 +21,12 @@ pub record Asked : Type 0 where
   pub principal : ℕ
   pub resource : ℕ
 
+-- "a list of rows, each with a principal text and a resource text", and the decision that the call fills
 pub record Row : Type 0 where
   pub asked : Asked
   pub decision : Decision
 
--- ---- "the sheet with those two texts filled in, whose length has no limit here"
+-- ---- a row's sheet and its decision
 
 -- on a line of this key `?` becomes the text's number
 abbrev pub filledItems : ℕ → List (List ℕ) → List (List ℕ)
@@ -40,13 +40,15 @@ abbrev pub filledLines : Asked → List (List ℕ) → List (List ℕ)
 filledLines q [] = []
 filledLines q (l ∷ ls) = filledLine "resource" (q .resource) (filledLine "principal" (q .principal) l) ∷ filledLines q ls
 
+-- "the sheet with those two texts filled in, whose length has no limit here"
 unfoldable pub filledSheet : List ℕ → Asked → List ℕ
 filledSheet sheet q = joinLines (filledLines q (split 10 sheet))
 
--- "Each row equals the decision on" that sheet
+-- the decision of the partial run on what was read
 abbrev pub decisionOn : State → Decision
 decisionOn s = decision (verdicts (run partial s .lines))
 
+-- "Each row equals the decision on" that sheet
 unfoldable pub rowDecision : List ℕ → Asked → Decision
 rowDecision sheet q = decisionOn (read partial (filledSheet sheet q) .state)
 
@@ -73,7 +75,7 @@ withTexts s q = record {
   used = s .used;
 }
 
--- ---- "Then the group: deny if any row denies, else open if any row is open, else allow; no rows gives allow."
+-- ---- the group
 
 abbrev pub isDeny : Decision → Bool
 isDeny allow = false
@@ -89,6 +91,7 @@ abbrev pub anyRow : (Decision → Bool) → List Row → Bool
 anyRow f [] = false
 anyRow f (r ∷ rs) = f (r .decision) || anyRow f rs
 
+-- "Then the group: deny if any row denies, else open if any row is open, else allow; no rows gives allow."
 unfoldable pub group : List Row → Decision
 group rs = cond (anyRow isDeny rs) deny (cond (anyRow isUndecided rs) undecided allow)
 

@@ -2,6 +2,7 @@
 use authorizer::Returned;
 use authorizer::complete;
 use authorizer::partial;
+use scan::front;
 use scan::rest;
 use words::ROOM;
 use words::cut;
@@ -59,7 +60,7 @@ pub fn take(space: &mut [u8], n: usize)
 // ---- the call
 
 // The mark in every word.
-fn mark_words(words: &mut [u32])
+pub fn mark_words(words: &mut [u32])
     ensures { λ _. ⌜ now (words .exit) ≡ marks (length (now (words .entry))) ⌝ }
 {
     let mut i = 0;
@@ -70,7 +71,7 @@ fn mark_words(words: &mut [u32])
 }
 
 // The mark in every byte.
-fn mark_bytes(out: &mut [u8])
+pub fn mark_bytes(out: &mut [u8])
     ensures { λ _. ⌜ now (out .exit) ≡ marks (length (now (out .entry))) ⌝ }
 {
     let mut i = 0;
@@ -154,4 +155,35 @@ pub fn bytes_kept(out: &[u8], from: usize) -> bool
     ensures { λ r. ⌜ r ≡ every mark (drop from (now (out .entry))) ⌝ }
 {
     every_byte(rest(out, from), MARK)
+}
+
+// ---- what is printed of it
+
+// A number after a text.
+fn show(text: &[u8], n: u64) {
+    io::write_all(1, text);
+    io::print_decimal(1, n);
+}
+
+// What was lent, and whether it came back as promised.
+fn came_back(lent: &[u8], kept: bool) {
+    io::write_all(1, lent);
+    if kept {
+        io::write_all(1, b" kept");
+    } else {
+        io::write_all(1, b" NOT KEPT");
+    }
+}
+
+// A line with what a call returned, and whether what was lent came back as promised; then the answer.
+pub fn report(r: Returned, a: &[u32], b: &[u32], out: &[u8]) {
+    let n = written(r.number == 0, r.length);
+    show(b": ", r.number as u64);
+    show(b",", r.line as u64);
+    show(b",", r.length as u64);
+    came_back(b"; first slice", words_kept(r.number, a));
+    came_back(b", second slice", words_kept(r.number, b));
+    came_back(b", buffer", bytes_kept(out, n));
+    io::write_all(1, b"\n");
+    io::write_all(1, front(out, n));
 }

@@ -18,7 +18,7 @@ use Rattle.table.proofs.Rows.{count-rows}
 use Rattle.fits.specs.Fit.{full, hasIn, completeIn, declaredBy, Answered}
 use Rattle.fits.proofs.Sorts.{typeTable}
 use Rattle.typing.specs.Links.{TYPES, Shown, slotFits, slotsFitIn, rootAt, linkRule}
-use Rattle.typing.specs.Rules.{BOOL-SORT, LONG-SORT, STRING-SORT, ENTITY-SORT, SET-SORT, sortNumber, sortAt, kindsAt, elementAt, recordAt, attributeAt, bareAt, attributeTypeAt, tagTypeAt, isAboveAt, actionAt, ofRecord, ofKind, eachAt, declaresAs, tagsAre, targetAt, requestAt, nodeTypeAt, pathFrom, pathAt, allOf, argsFit, childAt, twoSorts, threeSorts, requestIs, contextIsAt, varRule, eqRule, inRule, gettagRule, containsRule, twoSetsRule, ifRule, getRule, hasRule, haspathRule, setRule, recordRule, slotRule, nodeRules, nodeRule, shapeRule, contextRule, policyRule, attributesRule, tagsRule, ancestorRule, ancestorsRule, entityRule, typedRule, Typed}
+use Rattle.typing.specs.Rules.{BOOL-SORT, LONG-SORT, STRING-SORT, ENTITY-SORT, SET-SORT, sortNumber, sortAt, kindsAt, elementAt, recordAt, attributeAt, bareAt, attributeTypeAt, tagTypeAt, isAboveAt, actionAt, ofRecord, ofKind, eachAt, declaresAs, tagsAre, targetAt, requestAt, nodeTypeAt, pathFrom, pathAt, allOf, argsFit, childAt, twoSorts, threeSorts, requestIs, contextIsAt, varRule, eqRule, inRule, gettagRule, containsRule, twoSetsRule, ifRule, getRule, hasRule, haspathRule, setRule, recordRule, slotRule, nodeRules, nodeRule, shapeRule, contextRule, policyRule, attributesRule, tagsRule, ancestorRule, parentsRule, entityRule, typedRule, Typed}
 
 -- ---- tests on a type are tests on its sort
 
@@ -327,7 +327,7 @@ module _ (sheet a c r : List ℕ) where
       ∙ some-const (recordAt a own) (eqb (getD r 2 0) mark || full a (getD r 2 0) own)
 
   entity-as : entityTyped s r ≡ entityRule a r
-  unfolding held linesHeld entityRule attributesRule tagsRule ancestorsRule ancestorRule full attributeTypeAt tagTypeAt isAboveAt
+  unfolding held linesHeld entityRule attributesRule tagsRule parentsRule ancestorRule full attributeTypeAt tagTypeAt isAboveAt
   entity-as = λ i. rEnt false (valueRow (getD (rowsOf a VALUE) own [])) (λ k t.
       attributesRule a (getD r 2 0) k && tagsRule a (getD r 3 0) k
       && (eqb (getD r 4 0) mark || rSet false (valueRow (getD (rowsOf a VALUE) (getD r 4 0) [])) (allIn (λ v. rEnt false (valueRow (getD (rowsOf a VALUE) v [])) (λ l u. memN l (drop-three (getD (rowsOf a SHAPE) k []) i))))))

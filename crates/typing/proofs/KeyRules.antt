@@ -20,7 +20,7 @@ use Rattle.fits.specs.declared.Found as F
 use Rattle.fits.proofs.Walks.{next}
 use Rattle.fits.proofs.Sorts.{sort-tag, no-entity, no-set, no-record}
 use Rattle.typing.specs.Links.{linkRule}
-use Rattle.typing.specs.Rules.{BOOL-SORT, sortAt, recordAt, bareAt, attributeTypeAt, tagTypeAt, isAboveAt, actionAt, childAt, nodeRule, shapeRule, contextRule, policyRule, attributesRule, tagsRule, ancestorRule, ancestorsRule, entityRule, typedRule}
+use Rattle.typing.specs.Rules.{BOOL-SORT, sortAt, recordAt, bareAt, attributeTypeAt, tagTypeAt, isAboveAt, actionAt, childAt, nodeRule, shapeRule, contextRule, policyRule, attributesRule, tagsRule, ancestorRule, parentsRule, entityRule, typedRule}
 
 -- an answer that asks for no pair
 pub plain : (a m : List ℕ) (x b : Bool) → Known a m → b ≡ x → Answered a m m x b
@@ -56,7 +56,7 @@ module _ (a r : List ℕ) (o : ℕ) (f : F.Found) (eo : o ≡ getD r 1 0) (ef : 
           let e : recordAt a o ≡ some y = sym ef ∙ ap foundIn g in
           rw (← eo, e, ← en, ← eb, h, ← ec, not-false c i, ← et)
 
--- ---- attributes, tags, ancestors of an entity
+-- ---- attributes, tags, parents of an entity
 
 module _ (a m : List ℕ) (x k : ℕ) (u : Known a m) where
   pub attributes-unknown : x ≡ mark → Answered a m m (attributesRule a x k) true
@@ -116,32 +116,32 @@ module _ (a q : List ℕ) (x k t : ℕ) (eq : q ≡ getD (rowsOf a VALUE) x []) 
   unfolding ancestorRule
   ancestor-no h = rw (← eq) (sym (no-entity false (valueRow q) (λ l i. isAboveAt a k l) (λ s. h (et ∙ sort-tag q (ENTITY-VALUE - LONG-VALUE) s))))
 
-  pub ancestors-sort : (x ≡ mark → ⊥) → (t ≡ SET-VALUE → ⊥) → false ≡ ancestorsRule a x k
-  unfolding ancestorsRule
-  ancestors-sort nx h = rw (ne-eqb x mark nx, ← eq) (sym (no-set false (valueRow q) (allIn (λ v. ancestorRule a v k)) (λ s. h (et ∙ sort-tag q (SET-VALUE - LONG-VALUE) s))))
+  pub parents-sort : (x ≡ mark → ⊥) → (t ≡ SET-VALUE → ⊥) → false ≡ parentsRule a x k
+  unfolding parentsRule
+  parents-sort nx h = rw (ne-eqb x mark nx, ← eq) (sym (no-set false (valueRow q) (allIn (λ v. ancestorRule a v k)) (λ s. h (et ∙ sort-tag q (SET-VALUE - LONG-VALUE) s))))
 
-pub ancestors-unknown : (a : List ℕ) (x k : ℕ) → x ≡ mark → true ≡ ancestorsRule a x k
-unfolding ancestorsRule
-ancestors-unknown a x k h = rw (eq-eqb x mark h)
+pub parents-unknown : (a : List ℕ) (x k : ℕ) → x ≡ mark → true ≡ parentsRule a x k
+unfolding parentsRule
+parents-unknown a x k h = rw (eq-eqb x mark h)
 
 -- what is left of the set, from word i on, decides the whole
-pub record Ancestors (a q : List ℕ) (x k i : ℕ) : Type 0 where
-  pub left : ancestorsRule a x k ≡ allIn (λ v. ancestorRule a v k) (drop i q)
+pub record Parents (a q : List ℕ) (x k i : ℕ) : Type 0 where
+  pub left : parentsRule a x k ≡ allIn (λ v. ancestorRule a v k) (drop i q)
 
-pub ancestors-start : (a q : List ℕ) (x k t : ℕ) → q ≡ getD (rowsOf a VALUE) x [] → t ≡ tag q → (x ≡ mark → ⊥) → t ≡ SET-VALUE → Ancestors a q x k 1
-unfolding ancestorsRule
-ancestors-start a q x k t eq et nx h = let e : tag q ≡ SET-VALUE = sym et ∙ h in record { left = rw (ne-eqb x mark nx, ← eq, e) }
+pub parents-start : (a q : List ℕ) (x k t : ℕ) → q ≡ getD (rowsOf a VALUE) x [] → t ≡ tag q → (x ≡ mark → ⊥) → t ≡ SET-VALUE → Parents a q x k 1
+unfolding parentsRule
+parents-start a q x k t eq et nx h = let e : tag q ≡ SET-VALUE = sym et ∙ h in record { left = rw (ne-eqb x mark nx, ← eq, e) }
 
-module _ (a q : List ℕ) (x k i : ℕ) (w : Ancestors a q x k i) where
-  pub ancestors-end : length q ≤ i → true ≡ ancestorsRule a x k
-  ancestors-end h = sym (w .left ∙ rw (drop-of-length-le q h))
+module _ (a q : List ℕ) (x k i : ℕ) (w : Parents a q x k i) where
+  pub parents-end : length q ≤ i → true ≡ parentsRule a x k
+  parents-end h = sym (w .left ∙ rw (drop-of-length-le q h))
 
   module _ (l : i < length q) (v : ℕ) (b : Bool) (ev : v ≡ getD q i 0) (eb : b ≡ ancestorRule a v k) where
-    pub ancestors-off : not b ≡ true → false ≡ ancestorsRule a x k
-    ancestors-off h = sym (w .left ∙ rw (next q i l, ← ev, ← eb, not-true b h))
+    pub parents-off : not b ≡ true → false ≡ parentsRule a x k
+    parents-off h = sym (w .left ∙ rw (next q i l, ← ev, ← eb, not-true b h))
 
-    pub ancestors-on : not b ≡ false → Ancestors a q x k (i + 1)
-    ancestors-on h = record { left = w .left ∙ rw (next q i l, ← ev, ← eb, not-false b h) }
+    pub parents-on : not b ≡ false → Parents a q x k (i + 1)
+    parents-on h = record { left = w .left ∙ rw (next q i l, ← ev, ← eb, not-false b h) }
 
 -- ---- `entity_typed`
 
@@ -149,10 +149,10 @@ module _ (a r q : List ℕ) (v t : ℕ) (ev : v ≡ getD r 1 0) (eq : q ≡ getD
   pub entity-no : (m : List ℕ) → Known a m → (t ≡ ENTITY-VALUE → ⊥) → Answered a m m (entityRule a r) false
   unfolding entityRule
   entity-no m u h = plain a m (entityRule a r) false u
-      (rw (← ev, ← eq) (sym (no-entity false (valueRow q) (λ k i. attributesRule a (getD r 2 0) k && tagsRule a (getD r 3 0) k && ancestorsRule a (getD r 4 0) k) (λ s. h (et ∙ sort-tag q (ENTITY-VALUE - LONG-VALUE) s)))))
+      (rw (← ev, ← eq) (sym (no-entity false (valueRow q) (λ k i. attributesRule a (getD r 2 0) k && tagsRule a (getD r 3 0) k && parentsRule a (getD r 4 0) k) (λ s. h (et ∙ sort-tag q (ENTITY-VALUE - LONG-VALUE) s)))))
 
   module _ (k x : ℕ) (h : t ≡ ENTITY-VALUE) (ek : k ≡ getD q 1 0) (ex : x ≡ getD r 2 0) where
-    entity-as : entityRule a r ≡ (attributesRule a x k && tagsRule a (getD r 3 0) k && ancestorsRule a (getD r 4 0) k)
+    entity-as : entityRule a r ≡ (attributesRule a x k && tagsRule a (getD r 3 0) k && parentsRule a (getD r 4 0) k)
     unfolding entityRule
     entity-as = let e : tag q ≡ ENTITY-VALUE = sym et ∙ h in rw (← ev, ← eq, e, ← ek, ← ex)
 
@@ -175,8 +175,8 @@ module _ (a r q : List ℕ) (v t : ℕ) (ev : v ≡ getD r 1 0) (eq : q ≡ getD
           rest = g .rest ∙ p .rest;
         }
 
-        pub entity-ancestors : (z : ℕ) (d : Bool) → not c ≡ false → z ≡ getD r 4 0 → d ≡ ancestorsRule a z k → Answered a m o (entityRule a r) d
-        entity-ancestors z d nc ez ed = record {
+        pub entity-parents : (z : ℕ) (d : Bool) → not c ≡ false → z ≡ getD r 4 0 → d ≡ parentsRule a z k → Answered a m o (entityRule a r) d
+        entity-parents z d nc ez ed = record {
           is = λ s.
               let e : attributesRule a x k ≡ true = sym (p .is s) ∙ not-false b nb in
               let f : tagsRule a (getD r 3 0) k ≡ true = rw (← ey) (sym (g .is s) ∙ not-false c nc) in

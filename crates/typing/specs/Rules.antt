@@ -242,7 +242,7 @@ module _ (a r : List ℕ) where
   policyRule = eqb (sortAt a (childAt 3)) BOOL-SORT
 
 module _ (a : List ℕ) (x k : ℕ) where
-  -- attributes, tags and ancestors x of an entity of kind k
+  -- attributes, tags and parents x of an entity of kind k
   unfoldable pub attributesRule : Bool
   attributesRule = eqb x mark || rRec false (valueRow (getD (rowsOf a VALUE) x [])) (λ e. full a x (attributeTypeAt a k))
 
@@ -254,11 +254,11 @@ module _ (a : List ℕ) (x k : ℕ) where
   ancestorRule = rEnt false (valueRow (getD (rowsOf a VALUE) x [])) (λ l t. isAboveAt a k l)
 
 module _ (a : List ℕ) where
-  unfoldable pub ancestorsRule : ℕ → ℕ → Bool
-  ancestorsRule x k = eqb x mark || rSet false (valueRow (getD (rowsOf a VALUE) x [])) (allIn (λ v. ancestorRule a v k))
+  unfoldable pub parentsRule : ℕ → ℕ → Bool
+  parentsRule x k = eqb x mark || rSet false (valueRow (getD (rowsOf a VALUE) x [])) (allIn (λ v. ancestorRule a v k))
 
   unfoldable pub entityRule : List ℕ → Bool
-  entityRule r = rEnt false (valueRow (getD (rowsOf a VALUE) (getD r 1 0) [])) (λ k t. attributesRule a (getD r 2 0) k && tagsRule a (getD r 3 0) k && ancestorsRule (getD r 4 0) k)
+  entityRule r = rEnt false (valueRow (getD (rowsOf a VALUE) (getD r 1 0) [])) (λ k t. attributesRule a (getD r 2 0) k && tagsRule a (getD r 3 0) k && parentsRule (getD r 4 0) k)
 
   -- one rule for each key
   unfoldable pub typedRule : List ℕ → ℕ → Bool

@@ -42,7 +42,7 @@ ghost use Rattle.typing.specs.Rules.{
   attributesRule,
   tagsRule,
   ancestorRule,
-  ancestorsRule,
+  parentsRule,
   entityRule,
   typedRule,
   Typed,
@@ -113,9 +113,9 @@ pub fn is_ancestor(rows: &[u32], value: u32, kind: u32) -> bool
     false
 }
 
-// The ancestors of an entity of a kind, or a mark.
-fn ancestors_typed(rows: &[u32], value: u32, kind: u32) -> bool
-    ensures { λ b. ⌜ b ≡ ancestorsRule (now (rows .entry)) value kind ⌝ }
+// The parents of an entity of a kind, or a mark.
+fn parents_typed(rows: &[u32], value: u32, kind: u32) -> bool
+    ensures { λ b. ⌜ b ≡ parentsRule (now (rows .entry)) value kind ⌝ }
 {
     if value == MARK {
         return true;
@@ -149,7 +149,7 @@ fn entity_typed(rows: &[u32], work: &mut [u32], line: &[u32]) -> bool
     if !tags_typed(rows, work, item(line, 3), k) {
         return false;
     }
-    ancestors_typed(rows, item(line, 4), k)
+    parents_typed(rows, item(line, 4), k)
 }
 
 // ---- the request, policies

@@ -1,9 +1,9 @@
 -- What a run makes and what evaluating its residuals may make, together: at most one value for each use of a node, and three words.
 -- A node that is left makes nothing in the run; a node that gave a value is no longer there. `and`, `or` and `if` make nothing when they are evaluated.
-use mathlib.Core.Path.{_≡_, refl, sym, _∙_, ap}
+use mathlib.Core.Path.{_≡_, refl}
 use mathlib.Core.Bool.{Bool, true, false, cond, _||_}
-use mathlib.Core.Option.{Option, none, some, Option·some-injective}
-use mathlib.Core.List.{List, [], _∷_, _++_}
+use mathlib.Core.Option.{Option, none, some}
+use mathlib.Core.List.{List, [], _∷_}
 use Prim.Native.Nat.{ℕ, suc, _≤_, _+_, _*_}
 use native.Mathlib.Omega.{arith}
 use lib.ListN.{length, length-append}
@@ -11,75 +11,20 @@ use Rattle.cedar.specs.Value.{onSome}
 use Rattle.cedar.specs.Types.{Ty, Schema, Var}
 use Rattle.cedar.specs.Residual.{Node, Nodes, NodeArgs, lit, err, var, and, or, ite, un, bin, rel, get, has, haspath, set, rec, enil, econs, gnil, gcons, tyOf, canErr, Stage, value, error, open′, view, Class, ctrue, cfalse, cerror, copen, anyError, anyErrorArg}
 use Rattle.cedar.specs.TypeRules.{unRule, binRule, relRule, hasRule}
-use Rattle.cedar.proofs.Tools.{no-some}
-use Rattle.cedar.specs.Rows.{Entries, stop, entry, Row, rbool, rset, rrec}
+use Rattle.cedar.specs.Rows.{Entries, Row, rbool, rset, rrec}
 use Rattle.cedar.specs.Making.{findRow, orAdd, intern, sortN}
 use Rattle.cedar.specs.Interpret.{alone}
-use Rattle.cedar.specs.Numbered.{NEnv, Give, made, old, NOut, give, fails, stays, isSome, entryOf, rowAt, Out, out, make, giveLit, nSettle, nStrict1, nStrict2, nByRule, nClass, nAndOpen, nAnd, nOrOpen, nOr, nIf, consN, numbers, entryN, entries, Outs, OutArgs, nUn, nBin, nRel, nGet, nHas, nLeft, nWalk, nPath, nVar, nInterpret, nInterprets, nInterpretArgs}
+use Rattle.cedar.specs.Numbered.{NEnv, Give, made, old, NOut, give, fails, stays, isSome, entryOf, rowAt, Out, out, make, giveLit, nSettle, nStrict1, nStrict2, nByRule, nClass, nAndOpen, nAnd, nOrOpen, nOr, nIf, numbers, entries, Outs, OutArgs, nUn, nBin, nRel, nGet, nHas, nLeft, nWalk, nPath, nVar, nInterpret, nInterprets, nInterpretArgs}
 use Rattle.cedar.specs.Runs.{NPolicy, NVerdict, nRun}
-use Rattle.cedar.proofs.Outcomes.{Basic, GiveIs, OutIs, e-some, e-entries, made-un, made-bin, made-rel, made-get, made-has}
+use Rattle.cedar.proofs.Outcomes.{GiveIs, OutIs, e-some, e-entries, made-un, made-bin, made-rel, made-get, made-has}
 use Rattle.sheet.specs.Answer.{size, sizes, sizeArgs}
 use Rattle.sheet.proofs.MadeCount.{policySizes}
-use Rattle.sheet.proofs.MadeWords.{fieldsIn, rowWords, wordsOf, Measure, missing, missing-falls, one-less, budget}
+use Rattle.sheet.proofs.MadeWords.{rowWords, howMany, howManyArgs, numbers-are, entries-are, Measure, Cheap, cheap, budget, budget-any, budget-asked}
 use Rattle.tpe.proofs.Sets.{sort-short}
 
--- ---- children, rows and their words
-
-words-append : (R : List Row) (r : Row) → wordsOf (R ++ (r ∷ [])) ≡ wordsOf R + rowWords r
-words-append [] r = omega arith
-words-append (q ∷ R) r = let a = words-append R r in omega (arith, a)
-
-abbrev howMany : Nodes ℕ → ℕ
-howMany enil = 0
-howMany (econs e es) = suc (howMany es)
-
-abbrev howManyArgs : NodeArgs ℕ → ℕ
-howManyArgs gnil = 0
-howManyArgs (gcons t e gs) = suc (howManyArgs gs)
-
-numbers-are : (es : Nodes ℕ) (l : List ℕ) → numbers es ≡ some l → length l ≡ howMany es
-numbers-are enil l q = ap length (sym (Option·some-injective _ _ q))
-numbers-are (econs e es) l q = go (view e) (numbers es) refl (λ k p. numbers-are es k p) q
-  where
-    go : (x : Stage ℕ) (o : Option (List ℕ)) → numbers es ≡ o → ((k : List ℕ) → numbers es ≡ some k → length k ≡ howMany es) → consN x o ≡ some l → length l ≡ suc (howMany es)
-    go (value n) (some k) p f r = ap length (sym (Option·some-injective _ _ r)) ∙ ap suc (f k p)
-    go (value n) none p f r = no-some r
-    go error o p f r = no-some r
-    go open′ o p f r = no-some r
-
-entries-are : (gs : NodeArgs ℕ) (d : Entries) → entries gs ≡ some d → fieldsIn d ≡ howManyArgs gs
-entries-are gnil d q = ap fieldsIn (sym (Option·some-injective _ _ q))
-entries-are (gcons t e gs) d q = go (view e) (entries gs) refl (λ k p. entries-are gs k p) q
-  where
-    go : (x : Stage ℕ) (o : Option Entries) → entries gs ≡ o → ((k : Entries) → entries gs ≡ some k → fieldsIn k ≡ howManyArgs gs) → entryN t x o ≡ some d → fieldsIn d ≡ suc (howManyArgs gs)
-    go (value n) (some k) p f r = ap fieldsIn (sym (Option·some-injective _ _ r)) ∙ ap suc (f k p)
-    go (value n) none p f r = no-some r
-    go error o p f r = no-some r
-    go open′ o p f r = no-some r
-
-abbrev Cheap : Row → Type 0
-Cheap r = rowWords r ≤ 3
-
-cheap : Basic Cheap
-cheap = record { bools = λ b. omega arith; longs = λ z e. omega arith }
-
 module _ (N : NEnv) (small : (x : Var) (r : Row) → N .request x ≡ some (made r) → rowWords r ≤ 3) where
-  budget-any : (R : List Row) (r : Row) → budget N small (intern R r .rows) ≤ budget N small R + rowWords r
-  budget-any R r = go (findRow r R)
-    where
-      go : (o : Option ℕ) → budget N small (orAdd o R r .rows) ≤ budget N small R + rowWords r
-      go none = let a = words-append R r in let b = missing-falls N R r in omega (arith, a, b)
-      go (some n) = omega arith
-
-  budget-asked : (x : Var) (r : Row) → N .request x ≡ some (made r) → (R : List Row) → budget N small (intern R r .rows) ≤ budget N small R
-  budget-asked x r e R = go (findRow r R) refl
-    where
-      go : (o : Option ℕ) → findRow r R ≡ o → budget N small (orAdd o R r .rows) ≤ budget N small R
-      go none f = let a = words-append R r in let b = one-less N x r e R f in let c = small x r e in omega (arith, a, b, c)
-      go (some n) f = omega arith
-
   pub budgets : Measure N (budget N small)
-  budgets = record { any = budget-any; asked = budget-asked }
+  budgets = record { any = budget-any N small; asked = budget-asked N small }
 
 -- ---- what evaluating a residual may take: words, with two to spare; and how many values it may make
 

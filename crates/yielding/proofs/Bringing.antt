@@ -1,18 +1,16 @@
 -- The values that a run made, among the values of another sheet: each number of the one has a number there that stands for the same content.
 -- Assumes nothing.
 use mathlib.Core.Path.{_≡_, refl, sym, _∙_, ap, ap₂, subst}
-use mathlib.Core.Bool.{Bool, true, false, cond}
 use mathlib.Core.List.{List, [], _∷_, _++_, append-assoc, append-nil}
-use Prim.Native.Nat.{ℕ, zero, suc, _+_, _-_, _*_, _≤_, _<_}
+use Prim.Native.Nat.{ℕ, suc, _+_, _-_, _*_, _≤_, _<_}
 use native.Mathlib.Omega.{arith}
 use native.Mathlib.Decide.{decLt}
 use borrow.Author.Tests.{lt-ltb, le-ltb}
-use lib.Dec.{ltb}
-use lib.ListN.{length, getD, drop, set, length-append, length-set}
+use lib.ListN.{length, getD, set, length-append, length-set}
 use lib.Seq.{getD-set-same, getD-set-other}
-use Rattle.words.specs.Log.{appended, pushed}
+use Rattle.words.specs.Log.{pushed}
 use Rattle.words.proofs.Logs.{appended-is}
-use Rattle.cedar.specs.Value.{Value as Content, Values, Fields, vset, Result, ok}
+use Rattle.cedar.specs.Value.{Value as Content, Values, Fields, vset, ok}
 use Rattle.cedar.specs.Canonical.{makeSet}
 use Rattle.cedar.specs.Entities.{Env}
 use Rattle.cedar.specs.Rows.{Entries, stop, entry, Row, rbool, rlong, rtext, rent, rset, rrec}
@@ -21,7 +19,6 @@ use Rattle.cedar.specs.Table.{At, now, later, Elems, elem0, elem1, Named, name0
 use Rattle.cedar.proofs.TableLaws.{at-append, at-last, at-snoc, same-length, at-fun}
 use Rattle.cedar.proofs.MakingLaws.{content-of, set-denotes}
 use Rattle.cedar.proofs.ReadsLaws.{Keeps}
-use Rattle.sheet.specs.Forms.{tag}
 use Rattle.sheet.specs.State.{valueRow, entriesOf}
 use Rattle.sheet.specs.Content.{rowsIn}
 use Rattle.sheet.proofs.ValueRows.{back, flat, rows-length}
@@ -33,8 +30,7 @@ use Rattle.value.proofs.Fills.{written-is}
 use Rattle.residual.specs.Rows.{litRow}
 use Rattle.tpe.proofs.Reach.{reach}
 use Rattle.tpe.proofs.Sets.{sort-short}
-use Rattle.evaluator.specs.Run.{E, madeOf}
-use Rattle.evaluator.specs.declared.Yield.{Yield}
+use Rattle.evaluator.specs.Run.{madeOf}
 use Rattle.evaluator.specs.declared.Yield.the-variants.{Value}
 use Rattle.evaluator.proofs.Gives.{Says, says-value, Stand}
 use Rattle.carried.specs.Carry.{numberThere, memberRows, fieldsOnto, fieldWords, rowThere, There, carriedFrom}

@@ -1,43 +1,40 @@
 -- THE RESIDUALS OF AN ACCEPTED PARTIAL SHEET ON AN ACCEPTED COMPLETE SHEET THAT AGREES: the classes that are left are those of what `eval` gives
 -- them there, with their literals read among the partial sheet's values and the made ones.
-use mathlib.Core.Path.{_≡_, refl, sym, _∙_, ap, ap₂, subst}
-use mathlib.Core.Bool.{Bool, true, false, cond}
-use mathlib.Core.Option.{Option, none, some}
+use mathlib.Core.Path.{_≡_, refl, sym, _∙_, ap, subst}
+use mathlib.Core.Bool.{true, false}
+use mathlib.Core.Option.{none}
 use mathlib.Core.List.{List, [], _∷_, _++_}
 use Prim.Native.Nat.{ℕ, _+_, _*_, _≤_, _<_}
 use native.Mathlib.Omega.{arith}
-use lib.Dec.{eqb}
 use lib.ListN.{length, getD, length-append}
-use Rattle.cedar.specs.Types.{Ty, Var, principal, action, resource, context}
 use Rattle.cedar.specs.Value.{Value as Content, vbool}
 use Rattle.cedar.specs.Residual.{Node, Expr}
 use Rattle.cedar.specs.Entities.{Env}
-use Rattle.cedar.specs.Rows.{Row, rent}
-use Rattle.cedar.specs.Numbered.{Give, made, old}
+use Rattle.cedar.specs.Rows.{Row}
+use Rattle.cedar.specs.Numbered.{made}
 use Rattle.cedar.specs.Table.{At, Table}
 use Rattle.cedar.specs.Runs.{NVerdict, Run, Policy}
 use Rattle.cedar.proofs.TableLaws.{at-fun}
 use Rattle.cedar.proofs.SettledByNumber.{Residuals}
 use Rattle.cedar.proofs.SettledByNumber as Q
-use Rattle.sheet.specs.Forms.{partial, complete, at, mark, VALUE, NODE, PRINCIPAL, ACTION, RESOURCE, CONTEXT}
-use Rattle.sheet.specs.State.{State, linesOf, lineAt, count, valueRow}
+use Rattle.sheet.specs.Forms.{partial, complete, VALUE, NODE}
+use Rattle.sheet.specs.State.{State, linesOf, count, valueRow}
 use Rattle.sheet.specs.Sheet.{read}
-use Rattle.sheet.specs.Content.{types, rowsIn, valueRows, contents, schema, env, nEnv, pEnv, given, nPolicies, policies, onTerm}
+use Rattle.sheet.specs.Content.{rowsIn, valueRows, contents, schema, env, nEnv, pEnv, given, nPolicies, onTerm}
 use Rattle.sheet.specs.Answer.{run}
 use Rattle.sheet.specs.Call.{Accepted}
-use Rattle.sheet.specs.Agreement.{agrees, begins}
-use Rattle.sheet.proofs.Environment.{Facts}
+use Rattle.sheet.specs.Agreement.{agrees}
 use Rattle.sheet.proofs.Fitting.{contents-length}
 use Rattle.sheet.proofs.ValueRows.{at-getD, rows-length}
-use Rattle.sheet.proofs.MadeCount.{policySizes}
-use Rattle.sheet.proofs.MadeWords.{rowWords, wordsOf, missing, missing-most, budget}
+use Rattle.sheet.proofs.MadeWords.{wordsOf, missing-most, budget}
+use Rattle.sheet.proofs.AnswerLength.{asked-words}
 use Rattle.sheet.proofs.NeverNine.{policy-sizes}
 use Rattle.sheet.proofs.TwoSheets.{Common, common, begins-with, val-same}
 use Rattle.sheet.proofs.Demand3Bytes.{Settles, demand-3, facts}
-use Rattle.table.specs.Layout.{rowsOf, held, linesHeld, RUN, MADE, TOP, limit, limits, Sound}
+use Rattle.table.specs.Layout.{rowsOf, held, linesHeld, RUN, MADE, limit, limits, Sound}
 use Rattle.table.proofs.Rows.{count-rows}
 use Rattle.value.specs.Lines.{valueLines}
-use Rattle.value.proofs.Interned.{Formeds, none-formed, one-formed}
+use Rattle.value.proofs.Interned.{Formeds, one-formed}
 use Rattle.residual.specs.Trees.{Ress, flats, countRes, treesOf, Wholes}
 use Rattle.tpe.specs.Fits.{Fits}
 use Rattle.tpe.specs.Run.{Ran, runOf}
@@ -51,7 +48,7 @@ use Rattle.carried.specs.Carry.{numberThere, There, carriedFrom, carriedOf}
 use Rattle.yielding.specs.Yields.{ranOf, classesIn, yieldedOf}
 use Rattle.yielding.proofs.Accounts.{takesIn, makesIn, budgets, run-words, run-count}
 use Rattle.yielding.proofs.Working.{takesSum, makesSum, ReadEach, read-none, read-more}
-use Rattle.yielding.proofs.Stacking.{Maps, Rooms, ran-is, classesOf}
+use Rattle.yielding.proofs.Stacking.{Rooms, ran-is, classesOf}
 use Rattle.yielding.proofs.Stacking as M
 use Rattle.yielding.proofs.Bringing.{Brought, brought, wordsIn, words-are, here-there}
 
@@ -76,38 +73,6 @@ takes-roots (v ∷ vs) = let h = takes-roots vs in omega (arith, h)
 makes-roots : (vs : List NVerdict) → makesSum (rootsOf vs) ≡ makesIn vs
 makes-roots [] = refl
 makes-roots (v ∷ vs) = let h = makes-roots vs in omega (arith, h)
-
--- what the request makes is an entity
-abbrev Small : Option Give → Type 0
-Small none = Unit {0}
-Small (some (made r)) = rowWords r ≤ 3
-Small (some (old n)) = Unit {0}
-
-given-small : (s : State) (x : Var) → Small (given s x)
-given-small s principal = go (eqb (at (lineAt s PRINCIPAL 0) 1) mark)
-  where
-    go : (b : Bool) → Small (cond b none (some (made (rent (at (lineAt s PRINCIPAL 0) 0) (at (lineAt s PRINCIPAL 0) 1)))))
-    go true = tt
-    go false = omega arith
-given-small s action = go (eqb (at (lineAt s ACTION 0) 1) mark)
-  where
-    go : (b : Bool) → Small (cond b none (some (made (rent (at (lineAt s ACTION 0) 0) (at (lineAt s ACTION 0) 1)))))
-    go true = tt
-    go false = omega arith
-given-small s resource = go (eqb (at (lineAt s RESOURCE 0) 1) mark)
-  where
-    go : (b : Bool) → Small (cond b none (some (made (rent (at (lineAt s RESOURCE 0) 0) (at (lineAt s RESOURCE 0) 1)))))
-    go true = tt
-    go false = omega arith
-given-small s context = go (eqb (at (lineAt s CONTEXT 0) 1) mark)
-  where
-    go : (b : Bool) → Small (cond b none (some (old (at (lineAt s CONTEXT 0) 1))))
-    go true = tt
-    go false = tt
-
-small : (s : State) (x : Var) (r : Row) → nEnv partial s .request x ≡ some (made r) → rowWords r ≤ 3
-unfolding nEnv
-small s x r e = subst Small e (given-small s x)
 
 module _ (p pa pb : List ℕ) (xp : Accepted partial p) (ep : read partial p .number ≡ 0) (hp : read partial p .state ≡ held p pa pb) (soundp : Sound pa) (nonep : getD pa MADE 0 ≡ 0) (runsp : rowsOf pa RUN ≡ onTerm (held p pa pb)) (fitsp : Fits pa) where
   abbrev S : State
@@ -151,7 +116,7 @@ module _ (p pa pb : List ℕ) (xp : Accepted partial p) (ep : read partial p .nu
   unfolding run
   made-words =
       let N = nEnv partial S in
-      let a = run-words (schema S) N (budget N (small S)) (budgets N (small S)) (nPolicies S) (valueRows S) in
+      let a = run-words (schema S) N (budget N (asked-words partial S)) (budgets N (asked-words partial S)) (nPolicies S) (valueRows S) in
       let b = ap wordsOf rows-split in
       let c = words-both (valueRows S) (rowsIn (rowsOf kept MADE)) in
       let d = words-are formed-made in
@@ -163,7 +128,7 @@ module _ (p pa pb : List ℕ) (xp : Accepted partial p) (ep : read partial p .nu
   unfolding run
   made-count =
       let N = nEnv partial S in
-      let a = run-count (schema S) N (budget N (small S)) (budgets N (small S)) (nPolicies S) (valueRows S) in
+      let a = run-count (schema S) N (budget N (asked-words partial S)) (budgets N (asked-words partial S)) (nPolicies S) (valueRows S) in
       let b = ap length rows-split in
       let c = length-append (valueRows S) (rowsIn (rowsOf kept MADE)) in
       let d = rows-length (rowsOf kept MADE) in

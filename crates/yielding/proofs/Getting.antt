@@ -3,41 +3,40 @@
 use mathlib.Core.Path.{_≡_, refl, sym, _∙_, ap, subst}
 use mathlib.Core.Bool.{Bool, true, false, cond}
 use mathlib.Core.Option.{Option, none, some}
-use mathlib.Core.List.{List, [], _∷_}
+use mathlib.Core.List.{List, []}
 use Prim.Native.Nat.{ℕ, _+_, _≤_}
 use native.Mathlib.Omega.{arith}
 use borrow.Author.Tests.{lt-ltb, le-leb}
-use lib.Dec.{eqb}
-use lib.ListN.{length, getD, drop}
-use Rattle.cedar.specs.Types.{Var, principal, action, resource, context}
+use lib.ListN.{length, getD}
+use Rattle.cedar.specs.Types.{Var}
 use Rattle.cedar.specs.Value.{Value as Content, vbool, Result, ok, fail, bind, okBool}
 use Rattle.cedar.specs.Entities.{Env}
 use Rattle.cedar.specs.Evaluate.{boolOf}
 use Rattle.cedar.specs.Interpret.{gives}
-use Rattle.cedar.specs.Rows.{Row, rent}
+use Rattle.cedar.specs.Rows.{Row}
 use Rattle.cedar.specs.Table.{At, Denotes, dbool, dlong, dtext, dent, dset, drec, Table}
-use Rattle.cedar.specs.Numbered.{Give, made, old, NOut, rBool}
+use Rattle.cedar.specs.Numbered.{Give, made, NOut, rBool}
 use Rattle.cedar.specs.Reads.{GiveRead, give-made, give-old}
 use Rattle.cedar.proofs.MakingLaws.{intern-makes}
 use Rattle.cedar.proofs.ReadsLaws.{Keeps, OutReads, omade, oold, ofail, row-denotes}
 use Rattle.cedar.proofs.ReadsOps.{keep-env}
 use Rattle.sheet.specs.Forms.{complete}
 use Rattle.sheet.specs.State.{State, valueRow}
-use Rattle.sheet.specs.Content.{nEnv, given, varOf}
+use Rattle.sheet.specs.Content.{nEnv, given}
 use Rattle.table.specs.Layout.{held, MADE, TOP, heap}
 use Rattle.value.specs.Made.{roomFor, withValue}
 use Rattle.value.proofs.Interned.{Formed, made-is, Interning}
 use Rattle.tpe.specs.Run.{wordsOf}
 use Rattle.tpe.proofs.Outcomes.{Fine, words-row, words-formed, words-short}
 use Rattle.tpe.proofs.Reach.{reach, asks, reach-most, reach-asked}
-use Rattle.tpe.proofs.Stands.{Hold, same-sheet, env-is}
+use Rattle.tpe.proofs.Stands.{same-sheet, env-is}
 use Rattle.evaluator.specs.Run.{E, yields, values, madeOf, giveOf, settleOf, optOf, onYield, boolOnly, next, envOf}
 use Rattle.evaluator.specs.Gave.{asBool, yieldBool, sameBool}
 use Rattle.evaluator.specs.declared.Yield.{Yield}
 use Rattle.evaluator.specs.declared.Yield.the-variants.{Value, Error}
 use Rattle.evaluator.proofs.Gives.{Says, says-value, says-error, Stand}
 use Rattle.evaluator.proofs.Steps.{OptFine, request-fine}
-use Rattle.yielding.specs.Yields.{lazyBy, lazyOf, branchBy, branchOf, twoOf}
+use Rattle.yielding.specs.Yields.{lazyBy, lazyOf, branchBy, branchOf}
 
 module _ (sheet a₀ : List ℕ) (G : Env) where
   -- from words a with contents C, o yields r and takes at most w words and c values

@@ -2,41 +2,40 @@
 use mathlib.Core.Path.{_≡_, refl, sym, _∙_, ap, ap₂, subst}
 use mathlib.Core.Bool.{true}
 use mathlib.Core.List.{List, [], _∷_, _++_, append-assoc, append-nil}
-use Prim.Native.Nat.{ℕ, zero, suc, _+_, _-_, _*_, _/_, _≤_}
+use Prim.Native.Nat.{ℕ, suc, _+_, _-_, _*_, _/_, _≤_}
 use native.Mathlib.Omega.{arith}
 use borrow.Author.Tests.{ne-eqb}
-use lib.Dec.{eqb}
-use lib.ListN.{length, getD, take, drop, length-append}
+use lib.ListN.{length, getD, take, length-append}
 use lib.Seq.{take-append-seam, drop-append-seam, getD-append-add}
-use Rattle.words.specs.Log.{appended}
 use Rattle.words.proofs.Logs.{appended-is}
 use Rattle.cedar.specs.Types.{Ty}
-use Rattle.cedar.specs.Value.{Value as Content, Result, ok}
-use Rattle.cedar.specs.Residual.{Node, Expr, lit, err, truth}
+use Rattle.cedar.specs.Value.{Value as Content, Result}
+use Rattle.cedar.specs.Residual.{Node, Expr, lit, err}
 use Rattle.cedar.specs.Runs.{resultClass}
 use Rattle.cedar.specs.Entities.{Env}
 use Rattle.cedar.specs.Evaluate.{eval}
 use Rattle.cedar.specs.Table.{At}
 use Rattle.cedar.specs.Reads.{Reads, xlit, xerr}
-use Rattle.cedar.proofs.ReadsLaws.{Keeps, row-denotes, on-bool}
+use Rattle.cedar.proofs.ReadsLaws.{Keeps}
 use Rattle.sheet.specs.Forms.{tag, NODE}
 use Rattle.table.specs.Layout.{rowsOf, MADE}
 use Rattle.residual.specs.Rows.{ROW, ROW-TYPE, VALUE-ROW, ERROR-ROW, LEFT-ROW, litRow, errRow, leftRow}
 use Rattle.residual.specs.Classes.{classNumber}
-use Rattle.residual.specs.Trees.{Res, rlit, rerr, rleft, Ress, rnil, rcons, flat, flats, countRes, leftTree, suits, tyAt, treeOf, treesOf, Whole, whole-lit, whole-err, whole-left, Wholes, whole-none, whole-more}
+use Rattle.residual.specs.Trees.{Res, rlit, rerr, rleft, Ress, rnil, rcons, flat, flats, countRes, leftTree, suits, tyAt, treeOf, treesOf, Whole, whole-left, Wholes, whole-more}
 use Rattle.residual.proofs.Meaning.{trees-count, suited}
 use Rattle.tpe.proofs.Reach.{reach}
 use Rattle.tpe.proofs.Stands.{Hold}
 use Rattle.evaluator.specs.Run.{E, classOf}
 use Rattle.evaluator.specs.declared.Yield.{Yield}
 use Rattle.evaluator.specs.declared.Yield.the-variants.{Value, Error}
+use Rattle.evaluator.proofs.Evaluates.{class-is}
 use Rattle.evaluator.proofs.Gives.{Says, says-value, says-error, Stand}
 use Rattle.evaluator.proofs.Steps.{sch, same-node}
 use Rattle.carried.specs.Carry.{numberThere}
 use Rattle.yielding.specs.Yields.{yieldRow, rowsBack, startOf, nodeBy, nodeOf, Stacked, stacked, leaves, turnOf, ranOf, yieldIn, classesIn}
 use Rattle.yielding.proofs.Turning.{back-zero}
 use Rattle.yielding.proofs.Accounts.{takes, makes, takes-least}
-use Rattle.yielding.proofs.Getting.{Gets, Space}
+use Rattle.yielding.proofs.Getting.{Gets}
 use Rattle.yielding.proofs.Working.{Slot, yieldRows, row-four, rows-long, takesSum, makesSum, evalEach, Say, say-none, say-more, ReadEach, read-none, read-more, Work, left-work}
 
 -- ---- where the operands of a node begin
@@ -402,11 +401,6 @@ module _ (sheet a₀ : List ℕ) (G : Env) (ts : List Ty) (K : List Content) (g 
 
   -- ---- the classes of the policies
 
-  class-is : {C : List Content} {a : List ℕ} {y : Yield} {x : Result} → Stand sheet a₀ G C a → Says C y x → classOf a y ≡ resultClass x
-  unfolding classOf
-  class-is s (says-value h) = on-bool _≡_ refl truth truth (row-denotes (s .table) h) (λ b. refl)
-  class-is s says-error = refl
-
   abbrev pub classesOf : List Expr → List ℕ
   classesOf [] = []
   classesOf (X ∷ Xs) = classNumber (resultClass (eval (sch sheet a₀ G) G X)) ∷ classesOf Xs
@@ -419,7 +413,7 @@ module _ (sheet a₀ : List ℕ) (G : Env) (ts : List Ty) (K : List Content) (g 
   classes-are : {C : List Content} {a : List ℕ} (ps : List Slot) (Xs : List Expr) → Stand sheet a₀ G C a → Say sheet a₀ G C ps (evalEach sheet a₀ G Xs) → classesIn a (yieldRows ps) ≡ classesOf Xs
   unfolding yieldRows classesIn
   classes-are [] [] s say-none = refl
-  classes-are {a = a} (p ∷ ps) (X ∷ Xs) s (say-more h t) = row-class a (p .yield) (p .words) (yieldRows ps) ∙ ap₂ (λ (x : ℕ) (xs : List ℕ). x ∷ xs) (ap classNumber (class-is s h)) (classes-are ps Xs s t)
+  classes-are {a = a} (p ∷ ps) (X ∷ Xs) s (say-more h t) = row-class a (p .yield) (p .words) (yieldRows ps) ∙ ap₂ (λ (x : ℕ) (xs : List ℕ). x ∷ xs) (ap classNumber (class-is sheet a₀ G s h)) (classes-are ps Xs s t)
 
   -- what is left of the run over all residuals
   pub record Ran (res a : List ℕ) (Xs : List Expr) : Type 0 where

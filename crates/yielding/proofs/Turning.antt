@@ -1,34 +1,33 @@
 -- The laws of the functions of the stack, one for each way. Assumes nothing.
 use mathlib.Core.Path.{_≡_, refl, sym, ap, ap₂, _∙_}
 use mathlib.Core.Bool.{Bool, true, false, cond, _&&_}
-use mathlib.Core.Option.{Option, none, some}
 use mathlib.Core.List.{List, [], _∷_, _++_, append-assoc, append-nil}
 use Prim.Native.Nat.{ℕ, zero, suc, _+_, _-_, _*_, _/_, _≤_, _<_}
 use native.Mathlib.Omega.{arith}
 use borrow.Author.Tests.{lt-ltb, le-ltb, eq-eqb, ne-eqb}
-use lib.Dec.{eqb, ltb}
+use lib.Dec.{eqb}
 use lib.ListN.{length, getD, take, drop, set, length-drop, length-set}
 use lib.Seq.{length-take-le, getD-take, getD-drop, take-set-lt, drop-set-lt}
 use Rattle.words.specs.Log.{part, Room, Holds, Appended, appended}
-use Rattle.words.proofs.Logs.{append-holds, append-room, log-length, log-cut, holds-from, holds-as}
-use Rattle.sheet.specs.Forms.{tag, at, NODE, VALUE}
+use Rattle.words.proofs.Logs.{append-holds, log-length, log-cut, holds-from, holds-as}
+use Rattle.sheet.specs.Forms.{tag, NODE, VALUE}
 use Rattle.forms.specs.Tags.{VAR, AND, OR, EQ, IF, IS, HASPATH, SET-OF, RECORD-OF}
 use Rattle.sheet.specs.Content.{varOf}
 use Rattle.table.specs.Layout.{rowsOf}
-use Rattle.value.specs.Made.{Made, MadeBeside, setRow, recordRow, written}
-use Rattle.value.proofs.Lists.{uncons, spent}
+use Rattle.value.specs.Made.{MadeBeside, setRow, recordRow}
+use Rattle.value.proofs.Lists.{uncons}
 use Rattle.strict.specs.Gives.{outOf}
 use Rattle.strict.specs.declared.Given.{Given}
-use Rattle.residual.specs.Rows.{ROW, SOURCE, ROW-TYPE, VALUE-ROW, ERROR-ROW, LEFT-ROW, litRow, errRow}
+use Rattle.residual.specs.Rows.{ROW, ROW-TYPE, VALUE-ROW, ERROR-ROW, litRow, errRow}
 use Rattle.residual.specs.Classes.{classNumber}
-use Rattle.evaluator.specs.Run.{E, yields, nodeIn, madeOf, settleOf, optOf, onYield, boolOnly, walkOut, twoOut, oneOut, envOf, classOf, Ran}
+use Rattle.evaluator.specs.Run.{yields, nodeIn, madeOf, settleOf, optOf, onYield, boolOnly, walkOut, twoOut, oneOut, envOf, classOf}
 use Rattle.evaluator.specs.Gave.{Gave, GaveBeside, Done, truthOf, yieldBool, sameBool}
 use Rattle.evaluator.specs.declared.Yield.{Yield}
 use Rattle.evaluator.specs.declared.Yield.the-variants.{Value, Error}
 use Rattle.evaluator.specs.declared.Truth.{Truth}
 use Rattle.evaluator.specs.declared.Truth.the-variants.{Is, Other}
 use Rattle.evaluator.proofs.Given.{to-end}
-use Rattle.carried.specs.Carry.{numberThere, There, carriedOf, Carried}
+use Rattle.carried.specs.Carry.{numberThere, carriedOf, Carried}
 use Rattle.yielding.specs.Yields.{yieldRow, yieldIn, rowsBack, startOf, Started, lazyBy, lazyOf, logicOf, branchBy, branchOf, oneOf, twoOf, overOf, allValues, manyOf, setOf, recordOf, nodeBy, nodeOf, Stacked, stacked, leaves, turnOf, ranOf, Turned, classesIn, yieldedOf}
 
 -- ---- lists

@@ -1,20 +1,20 @@
 -- Each node that is left, over what its operands yielded, gives what `eval` gives it where they yielded what `eval` gives them. Operation by
 -- operation; K lists the contents of the values that the residuals' literals number. Assumes nothing.
 use mathlib.Core.Path.{_≡_, refl, sym, _∙_, ap, ap₂, subst}
-use mathlib.Core.Bool.{Bool, true, false, cond, _&&_, and-eq-true-iff}
-use mathlib.Core.Option.{Option, none, some}
+use mathlib.Core.Bool.{Bool, true, false}
+use mathlib.Core.Option.{some}
 use mathlib.Core.List.{List, [], _∷_, _++_}
-use Prim.Native.Nat.{ℕ, zero, suc, _+_, _-_, _*_, _≤_}
+use Prim.Native.Nat.{ℕ, suc, _+_, _*_, _≤_}
 use native.Mathlib.Omega.{arith}
-use borrow.Author.Tests.{leb-true, eqb-true}
-use lib.Dec.{eqb, leb}
+use borrow.Author.Tests.{eqb-true}
+use lib.Dec.{eqb}
 use lib.ListN.{length, getD, drop}
 use lib.Seq.{drop-drop, getD-drop}
 use Rattle.cedar.proofs.Tools.{no-true}
 use Rattle.cedar.specs.Types.{Ty, tbool, Schema}
-use Rattle.cedar.specs.Value.{Value as Content, Values, vnil, vcons, Fields, fnil, fcons, vrec, Result, ok, fail, bind, onSome}
+use Rattle.cedar.specs.Value.{Value as Content, Fields, fnil, fcons, vrec, Result, ok, fail, bind, onSome}
 use Rattle.cedar.specs.Canonical.{makeSet}
-use Rattle.cedar.specs.Residual.{Node, Nodes, NodeArgs, Expr, Exprs, Args, lit, err, var, and, or, ite, un, bin, rel, get, has, haspath, set, rec, enil, econs, gnil, gcons, Un, unot, uneg, uempty, uis, ulike, Bin, beq, blt, ble, badd, bsub, bmul, bcontains, ball, bany, Rel, rin, rgettag, rhastag}
+use Rattle.cedar.specs.Residual.{Node, Expr, Exprs, Args, err, var, and, or, ite, un, bin, rel, get, has, haspath, set, rec, enil, econs, gnil, gcons, Un, unot, uneg, uempty, uis, ulike, Bin, beq, blt, ble, badd, bsub, bmul, bcontains, ball, bany, Rel, rin, rgettag, rhastag}
 use Rattle.cedar.specs.Entities.{Env}
 use Rattle.cedar.specs.Evaluate.{evalAnd, evalOr, eval, evals, evalArgs, fieldR, applyUn, applyBin, applyRel, applyGet, applyHas, applyPath}
 use Rattle.cedar.specs.Interpret.{gives}
@@ -27,22 +27,21 @@ use Rattle.cedar.proofs.MakingLaws.{set-denotes}
 use Rattle.cedar.proofs.ReadsLaws.{OutReads, row-denotes}
 use Rattle.cedar.proofs.ReadsOps.{un-reads, bin-reads}
 use Rattle.cedar.proofs.Outcomes.{made-un, made-bin, made-rel, made-get, made-has}
-use Rattle.sheet.specs.Forms.{complete, tag, items, at, firstNode, NODE}
+use Rattle.sheet.specs.Forms.{complete, tag, items, at, firstNode}
 use Rattle.sheet.specs.State.{valueRow, entriesOf}
 use Rattle.sheet.specs.Content.{varOf, patternOf}
 use Rattle.forms.specs.Tags.{VAR, AND, OR, EQ, LT, LE, ADD, SUB, MUL, IN, GETTAG, HASTAG, CONTAINS, ALL, ANY, IF, IS, LIKE, GET, HAS, HASPATH, NOT, NEG, EMPTY, SET-OF, RECORD-OF, SET-VALUE}
 use Rattle.table.specs.Layout.{MADE}
-use Rattle.value.specs.Made.{valuesIn, setRow, pairsOf, recordRow, written}
+use Rattle.value.specs.Made.{valuesIn, setRow, pairsOf, recordRow}
 use Rattle.value.proofs.Interned.{Formed, formed-record}
 use Rattle.value.proofs.Fills.{written-is}
-use Rattle.residual.specs.Rows.{ROW}
 use Rattle.residual.specs.Trees.{nodesOf, argsOf, leftFor, leftTree, suitsFor, suits}
-use Rattle.residual.proofs.Blocks.{Each, each0, each1, each-at, over0, over1, over2, over3}
+use Rattle.residual.proofs.Blocks.{Each, each0, each1, at-operation, over0, over1, over2, over3}
 use Rattle.tpe.proofs.Outcomes.{Fine, row-fine}
 use Rattle.tpe.proofs.Sets.{sort-short, drop-two}
 use Rattle.tpe.proofs.Stands.{Hold, schema-is, env-is}
 use Rattle.tpe.proofs.Reach.{reach}
-use Rattle.evaluator.specs.Run.{E, yields, values, nodeIn, madeOf, settleOf, optOf, onYield, pathOut, unOut, binOut, relOut, getOut, hasOut, walkOut, twoOut, oneOut, schemaOf, envOf}
+use Rattle.evaluator.specs.Run.{E, yields, values, nodeIn, settleOf, optOf, onYield, pathOut, unOut, binOut, relOut, getOut, hasOut, walkOut, twoOut, oneOut, schemaOf, envOf}
 use Rattle.evaluator.specs.declared.Yield.{Yield}
 use Rattle.evaluator.specs.declared.Yield.the-variants.{Value, Error}
 use Rattle.evaluator.proofs.Gives.{Says, says-value, says-error, Stand, rel-gives, get-gives, has-gives, path-gives, fine-path}
@@ -547,9 +546,5 @@ module _ (sheet a₀ : List ℕ) (G : Env) where
           (each1 (λ e. rec-work cs (eqb-true (length (drop 1 (items r))) (length cs + length cs) e)) each0)))))))))))))))))))))))))))
 
       pub left-work : suits r (length cs) ≡ true → (X : Expr) → Reads K (leftTree r k T cs) X → Work cs (tag r) (leftTree r k T cs) X
-      unfolding suits leftTree Works
-      left-work s =
-          let p = and-eq-true-iff (leb firstNode (tag r)) (getD (suitsFor r (length cs)) (tag r - firstNode) false) .0 s in
-          let t : tag r - firstNode + firstNode ≡ tag r = omega (arith, leb-true firstNode (tag r) (p .0)) in
-          let q : Works (tag r - firstNode + firstNode) (getD (leftFor r k T cs c) (tag r - firstNode) (err tbool)) = each-at (err tbool) all-work (tag r - firstNode) (p .1) in
-          rw t at q
+      unfolding Works
+      left-work s = at-operation r k T cs {Q = Works} all-work s

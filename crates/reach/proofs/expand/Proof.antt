@@ -16,7 +16,7 @@ returns-2 c =
     let e = b .before .before in
     let r = e .before in
     let s = r .before .before .before .before .before .before .before in
-    expand-new _ _ _ _ _ _ _ (s .pre .1 .0) (s .pre .1 .1 .0) (s .pre .1 .1 .1) _ _ (r .line-at .ensures) (e .item .ensures) _ (b .byte .ensures) _ _ _ _ _ _ (p .put-byte .ensures) (l .parents-of .ensures) (g .see .ensures)
+    expand-new _ _ _ _ _ _ _ (s .pre .1 .0) (s .pre .1 .1 .0) (s .pre .1 .1 .1) _ _ (r .line-at .ensures) (e .item .ensures) _ (b .byte .ensures) _ _ _ _ _ _ (p .put-byte .ensures) (l .parents-in .ensures) (g .see .ensures)
 
 pub expand-spec : {M : Type 1} → statement M
 expand-spec =

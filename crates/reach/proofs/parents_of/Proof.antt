@@ -1,17 +1,11 @@
 -- `reach::parents_of` meets its contract. Assumes nothing.
-use Rattle.reach.proofs.Steps.{parents-other, parents-set, parents-unknown}
+use Rattle.reach.proofs.Steps.{parents-line}
 use borrow.Author.Needs.{needs}
 use Rattle.reach.proofs.parents_of.Statement.{statement}
 use Rattle.reach.proofs.parents_of.Tie as tie
 
 returns : tie.Need-returns
-returns c = search (parents-unknown, needs)
-
-returns-2 : tie.Need-returns-2
-returns-2 c = search (parents-other, needs)
-
-returns-3 : tie.Need-returns-3
-returns-3 c = search (parents-set, needs)
+returns c = search (parents-line, needs)
 
 pub parents-of-spec : {M : Type 1} → statement M
 parents-of-spec =
@@ -19,15 +13,5 @@ parents-of-spec =
     (tie.spec
     (λ c κs. search needs)
     (λ c κs. search needs)
-    (λ c. search needs)
-    (λ c. search needs)
-    (λ c. search needs)
-    returns
     (λ c κs. search needs)
-    (λ c κs. search needs)
-    (λ c. search needs)
-    (λ c. search needs)
-    (λ c. search needs)
-    returns-2
-    (λ c κs. search needs)
-    returns-3)
+    returns)

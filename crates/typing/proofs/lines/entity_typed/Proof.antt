@@ -1,5 +1,5 @@
 -- `entity_typed`: one law for each answer.
-use Rattle.typing.proofs.KeyRules.{entity-ancestors, entity-attributes, entity-no, entity-tags}
+use Rattle.typing.proofs.KeyRules.{entity-parents, entity-attributes, entity-no, entity-tags}
 use borrow.Author.Needs.{needs}
 use Rattle.typing.proofs.lines.entity_typed.Statement.{statement}
 use Rattle.typing.proofs.lines.entity_typed.Tie as tie
@@ -14,7 +14,7 @@ returns-3 : tie.Need-returns-3
 returns-3 c = search entity-tags
 
 returns-4 : tie.Need-returns-4
-returns-4 c = search entity-ancestors
+returns-4 c = search entity-parents
 
 pub entity-typed-spec : {M : Type 1} → statement M
 entity-typed-spec =

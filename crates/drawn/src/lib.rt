@@ -1,0 +1,1 @@
+// No code: the definition of the test load in specs/, its theorems and examples in proofs/.

@@ -1,0 +1,4 @@
+pub mod Columns
+pub mod Paging
+pub mod Rows
+pub mod Showing

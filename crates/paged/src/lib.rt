@@ -1,0 +1,1 @@
+// No code: the counter page, and the theorems on it.
