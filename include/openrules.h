@@ -15,6 +15,8 @@
  *   12, line, 0       openrules_preview alone, before the run on the copy: the sheet lacks the line of this number, which is returned, or the
  *                     replacement breaks a rule or fills nothing
  *   13, 0, 0          openrules_test_load alone: under 1 or over OPENRULES_POLICIES policies
+ *   14, 0, 0          openrules_firm alone: over OPENRULES_ROWS rows
+ *   15, place, 0      openrules_firm alone: a text of the row at that place, counted from 0, does not exist or contradicts a known one
  *
  * An answer begins with its decision, eight counts and `why=`: the text number of the id of the first policy, in the sheet's order, that gave the
  * decision, a true forbid for a deny, a true permit for an allow; `none` for open and for a deny without a true forbid. A partial sheet does not
@@ -58,6 +60,14 @@ extern "C" {
 
 /* The policies that a test load may have. */
 #define OPENRULES_POLICIES 64
+
+/* The rows that a call of openrules_firm may have. */
+#define OPENRULES_ROWS 64
+
+/* A decision as a number. */
+#define OPENRULES_ALLOW 0
+#define OPENRULES_DENY 1
+#define OPENRULES_OPEN 2
 
 /* The answer to a sheet that begins with the line `sheet=partial`. */
 uint32_t openrules_partial(const uint8_t *sheet, size_t sheet_len,
@@ -117,6 +127,25 @@ uint32_t openrules_preview(const uint8_t *sheet, size_t sheet_len,
 uint32_t openrules_test_load(uint64_t seed, uint32_t policies,
                              uint8_t *out, size_t out_len,
                              size_t *line, size_t *length);
+
+/* A row of a firm: the numbers of two texts of the sheet, and the decision, which the call fills. */
+typedef struct openrules_row {
+    uint32_t principal;
+    uint32_t resource;
+    uint32_t decision;
+} openrules_row;
+
+/*
+ * For each row the decision on the partial sheet with the row's texts for principal and resource, and in `*group` the group's: deny if any row
+ * denies, else open if any row is open, else allow; no rows gives allow. A row repeats a text that the sheet knows. The sheet is read once for all
+ * rows. First 1, 2 and 14, then 3 to 8 of the sheet, then 15 of the lowest row; where the call is refused no row changes and the group is open.
+ * `*length` is always 0: no answer buffer is lent. It takes some 64 KB of stack beside what the other calls take.
+ */
+uint32_t openrules_firm(openrules_row *rows, size_t rows_len,
+                        const uint8_t *sheet, size_t sheet_len,
+                        uint32_t *first, size_t first_len,
+                        uint32_t *second, size_t second_len,
+                        size_t *line, size_t *length, uint32_t *group);
 
 #ifdef __cplusplus
 }

@@ -1,6 +1,7 @@
 #!/usr/bin/env bash
 # Compares the proved library with the original on random sheets, hands as many answers of partial sheets back to it, compares its finish on as
-# many pairs, as many of its counter pages, its preview on as many sheets, and its test loads of 100 seeds with the document's words, for each seed:
+# many pairs, as many of its counter pages, its preview on as many sheets, its firm on a tenth as many lists of rows, and its test loads of 100 seeds with
+# the document's words, for each seed:
 # scripts/compare.sh [SHEETS [SEED..]]
 # It needs cargo and the original's source, in OPENRULES_CEDAR_SRC or ../shared/docs/src. Status 0: no difference; 1: one;
 # 3: something that it needs is not there, and nothing was compared.
@@ -29,5 +30,6 @@ for seed; do
     target/release/host finish "$sheets" "$seed"
     target/release/host pages "$sheets" "$seed"
     target/release/host preview "$sheets" "$seed"
+    target/release/host firm "$((sheets / 10))" "$seed"
     target/release/host loads 100 "$seed"
 done

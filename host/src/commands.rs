@@ -7,6 +7,7 @@ use std::process::ExitCode;
 
 use crate::compare::{self, Call};
 use crate::finish::{self, Finish};
+use crate::firm::{self, Firm};
 use crate::generate;
 use crate::loads::{self, Load};
 use crate::pages::{self, Page};
@@ -28,6 +29,7 @@ host finish N SEED                     the library's finish on N pairs of sheets
 host pages N SEED                      the library's counter pages of N sheets, against those that the original's answers make
 host show-pair SEED N                  the N-th pair of a seed, and what finishing gives
 host preview N SEED                    the library's preview on N sheets with a line filled or changed, against the original's run on a copy
+host firm N SEED                       the library's firm on N sheets with lists of rows, against the original's run for each row
 host show-preview SEED N               the N-th of these, and what it gives
 host loads N SEED                      the library's test loads of N seeds, with 1 to 64 policies, against the document's words
 host replay FILE                       writes the fixed list of sheets and answers
@@ -88,6 +90,16 @@ fn library_preview() -> Option<Preview> {
     None
 }
 
+#[cfg(feature = "library")]
+fn library_firm() -> Option<Firm> {
+    Some(crate::library::firm)
+}
+
+#[cfg(not(feature = "library"))]
+fn library_firm() -> Option<Firm> {
+    None
+}
+
 fn not_linked() -> ExitCode {
     println!("The library is not linked: build with --features library (README.md).");
     ExitCode::from(3)
@@ -139,6 +151,10 @@ pub fn run(args: &[&str]) -> ExitCode {
         }
         ["preview", count, seed] => match library_preview() {
             Some(call) => previewed(call, number(count), number(seed)),
+            None => not_linked(),
+        },
+        ["firm", count, seed] => match library_firm() {
+            Some(call) => quoted(call, number(count), number(seed)),
             None => not_linked(),
         },
         ["show-preview", seed, n] => {
@@ -290,6 +306,12 @@ fn loaded(load: Load, call: Call, count: u64, seed: u64) -> ExitCode {
 fn previewed(call: Preview, count: u64, seed: u64) -> ExitCode {
     let counts = preview::compare(call, count, seed);
     println!("preview of the library against the original's run on a copy, seed {seed}: {}", counts.line());
+    verdict(counts.differences)
+}
+
+fn quoted(call: Firm, count: u64, seed: u64) -> ExitCode {
+    let counts = firm::compare(call, count, seed);
+    println!("firm of the library against the original's run for each row, seed {seed}: {}", counts.line());
     verdict(counts.differences)
 }
 

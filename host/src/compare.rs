@@ -192,6 +192,21 @@ pub fn beside(
     (wanted[0] as usize, differs)
 }
 
+/// A call without an answer buffer, likewise.
+pub fn beside_words(
+    answer: Result<(), Refusal>,
+    random: &mut Random,
+    call: impl FnOnce(&mut [u32], &mut [u32]) -> [u32; 3],
+) -> (usize, Option<String>) {
+    let mut expected = Lent::of(work_length(random), work_length(random), 0, random);
+    let mut found = expected.clone();
+    let wanted = expected.left(answer.map(|()| Vec::new()));
+    let (a, b, _) = found.parts();
+    let got = call(a, b);
+    let differs = if got == wanted { found.differs(&expected) } else { Some(format!("returned {got:?}, expected {wanted:?}")) };
+    (wanted[0] as usize, differs)
+}
+
 /// The three answers of a triple, and demand 3 over them.
 fn triple(call: Call, sheets: &[Vec<u8>; 3], random: &mut Random) -> Option<String> {
     let mut answers: Vec<Vec<u8>> = Vec::new();

@@ -1,5 +1,6 @@
 //! The proved library, called through its C functions (include/openrules.h). A Rattle slice is passed as a pointer and then a length.
 
+use crate::firm::Row;
 use crate::sheet::Mode;
 
 extern "C" {
@@ -67,6 +68,19 @@ extern "C" {
         out_len: usize,
         line: *mut usize,
         length: *mut usize,
+    ) -> u32;
+    fn openrules_firm(
+        rows: *mut Row,
+        rows_len: usize,
+        sheet: *const u8,
+        sheet_len: usize,
+        first: *mut u32,
+        first_len: usize,
+        second: *mut u32,
+        second_len: usize,
+        line: *mut usize,
+        length: *mut usize,
+        group: *mut u32,
     ) -> u32;
     fn openrules_test_load(seed: u64, policies: u32, out: *mut u8, out_len: usize, line: *mut usize, length: *mut usize) -> u32;
 }
@@ -167,6 +181,28 @@ pub fn preview(
         )
     };
     returned(number, line, length)
+}
+
+/// One call over a sheet and a list of rows.
+pub fn firm(rows: &mut [Row], sheet: &[u8], work_a: &mut [u32], work_b: &mut [u32]) -> ([u32; 3], u32) {
+    let (mut line, mut length, mut group) = (usize::MAX, usize::MAX, u32::MAX);
+    // As above.
+    let number = unsafe {
+        openrules_firm(
+            rows.as_mut_ptr(),
+            rows.len(),
+            sheet.as_ptr(),
+            sheet.len(),
+            work_a.as_mut_ptr(),
+            work_a.len(),
+            work_b.as_mut_ptr(),
+            work_b.len(),
+            &mut line,
+            &mut length,
+            &mut group,
+        )
+    };
+    (returned(number, line, length), group)
 }
 
 /// A test load.

@@ -10,6 +10,7 @@ mod compare;
 mod draft;
 #[cfg(original)]
 mod finish;
+mod firm;
 #[cfg(original)]
 mod generate;
 #[cfg(original)]

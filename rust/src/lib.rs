@@ -55,7 +55,9 @@
 //!
 //! [`test_load`] gives a partial sheet that a seed and a number of policies name, so that all can measure and compare on the same sheets.
 //!
-//! [`partial`], [`complete`], [`finish`], [`page`], [`preview`] and [`test_load`] are the calls themselves, in slices of the caller's own; they allocate nothing.
+//! Where several brokers ask for the same quote, [`Evaluator::firm`] fills a list of [`Row`]s, each with the decision on the sheet with its two texts.
+//!
+//! [`partial`], [`complete`], [`finish`], [`page`], [`preview`], [`firm`] and [`test_load`] are the calls themselves, in slices of the caller's own; they allocate nothing.
 
 use std::error::Error;
 use std::fmt;
@@ -65,6 +67,9 @@ pub const WORDS: usize = 16384;
 
 /// The bytes that a sheet may have.
 pub const SHEET: usize = 16384;
+
+/// The rows that a call of [`firm`] may have.
+pub const ROWS: usize = 64;
 
 /// The bytes of an answer buffer that is long enough for every sheet: no answer is longer. An [`Evaluator`] lends so many.
 pub const ANSWER: usize = 1048576;
@@ -141,6 +146,19 @@ extern "C" {
         line: *mut usize,
         length: *mut usize,
     ) -> u32;
+    fn openrules_firm(
+        rows: *mut Row,
+        rows_len: usize,
+        sheet: *const u8,
+        sheet_len: usize,
+        first: *mut u32,
+        first_len: usize,
+        second: *mut u32,
+        second_len: usize,
+        line: *mut usize,
+        length: *mut usize,
+        group: *mut Decision,
+    ) -> u32;
     fn openrules_test_load(seed: u64, policies: u32, out: *mut u8, out_len: usize, line: *mut usize, length: *mut usize) -> u32;
 }
 
@@ -152,10 +170,10 @@ extern "C" {
 /// ```
 #[derive(Clone, Copy, Debug, PartialEq, Eq)]
 pub struct Refusal {
-    /// 1 to 8 or 10 to 13; [`finish`] alone gives 11, [`preview`] alone 12, and [`test_load`] gives 10 and 13 alone.
+    /// 1 to 8 or 10 to 15; [`finish`] alone gives 11, [`preview`] alone 12, [`firm`] alone 14 and 15, and [`test_load`] gives 10 and 13 alone.
     pub number: u32,
     /// The line of the first fault, counted from 1, for the numbers 3 to 8; the line of the complete sheet that breaks agreement, or the
-    /// line after its last, for the number 11; the line that was to be replaced, for the number 12; else 0.
+    /// line after its last, for the number 11; the line that was to be replaced, for the number 12; the place of a row, counted from 0, for the number 15; else 0.
     pub line: usize,
     /// The bytes that the answer, or the test load, needs, for the number 10; else 0.
     pub length: usize,
@@ -181,6 +199,8 @@ impl Refusal {
             11 => "the complete sheet does not agree with the partial one",
             12 => "the sheet lacks the line, or the replacement breaks a rule or fills nothing",
             13 => "under 1 or over 64 policies",
+            14 => "over 64 rows",
+            15 => "a row's text does not exist or contradicts a known one",
             _ => "no refusal",
         }
     }
@@ -418,6 +438,82 @@ pub fn test_load(seed: u64, policies: u32, out: &mut [u8]) -> Outcome<'_> {
     outcome(number, line, length, out)
 }
 
+/// What the policies decide, for one row or for a group.
+#[derive(Clone, Copy, Debug, PartialEq, Eq)]
+#[repr(u32)]
+pub enum Decision {
+    /// A permit is true, and no forbid is true or open.
+    Allow = 0,
+    /// A forbid is true, or nothing permits.
+    Deny = 1,
+    /// What is unknown decides.
+    Open = 2,
+}
+
+/// A row of a firm: the numbers of two texts of the sheet, and the decision, which [`firm`] fills.
+#[derive(Clone, Copy, Debug, PartialEq, Eq)]
+#[repr(C)]
+pub struct Row {
+    /// The principal's text.
+    pub principal: u32,
+    /// The resource's text.
+    pub resource: u32,
+    /// The decision on the sheet with both texts.
+    pub decision: Decision,
+}
+
+impl Row {
+    /// A row that asks for these texts; until a call fills it, it is open.
+    pub fn new(principal: u32, resource: u32) -> Row {
+        Row { principal, resource, decision: Decision::Open }
+    }
+}
+
+/// For each row the decision on a partial sheet with the row's texts for principal and resource, in slices of the caller's own, as [`partial`] has them;
+/// and the group's decision: deny if any row denies, else open if any row is open, else allow.
+///
+/// A row repeats a text that the sheet knows. The sheet is read once for all rows. First 1, 2 and 14, then the sheet's lines, then 15 of the lowest row; after
+/// a refusal no row has changed. The call takes some 64 KB of stack beside what the other calls take.
+///
+/// ```
+/// use openrules::{firm, Decision, Refusal, Row, WORDS};
+///
+/// // No policy, so nothing permits: deny.
+/// let sheet = b"sheet=partial\ntext=Broker\ntext=Action\ntext=quote\nkind=0,e\nkind=1,a\ntype=record\nshape=0,-\nshape=0,-\nprincipal=0,?\naction=1,2\nresource=0,0\ncontext=0,?\nday=2026-06-30\n";
+/// let (mut first, mut second) = ([0; WORDS], [0; WORDS]);
+/// let mut rows = [Row::new(0, 0), Row::new(1, 0)];
+/// assert_eq!(firm(&mut rows, sheet, &mut first, &mut second), Ok(Decision::Deny));
+/// assert_eq!(rows[1].decision, Decision::Deny);
+///
+/// // There are three texts.
+/// let mut rows = [Row::new(0, 0), Row::new(3, 0)];
+/// assert_eq!(firm(&mut rows, sheet, &mut first, &mut second), Err(Refusal { number: 15, line: 1, length: 0 }));
+/// assert_eq!(rows[0].decision, Decision::Open);
+/// ```
+pub fn firm(rows: &mut [Row], sheet: &[u8], first: &mut [u32], second: &mut [u32]) -> Result<Decision, Refusal> {
+    let (mut line, mut length, mut group) = (0, 0, Decision::Open);
+    // SAFETY: as for the other calls. A row and a decision have the layout of the C type; the library stores the numbers 0, 1 and 2 alone as decisions.
+    let number = unsafe {
+        openrules_firm(
+            rows.as_mut_ptr(),
+            rows.len(),
+            sheet.as_ptr(),
+            sheet.len(),
+            first.as_mut_ptr(),
+            first.len(),
+            second.as_mut_ptr(),
+            second.len(),
+            &mut line,
+            &mut length,
+            &mut group,
+        )
+    };
+    if number != 0 {
+        return Err(Refusal { number, line, length });
+    }
+    Ok(group)
+}
+
 /// The slices that calls work in, kept from call to call.
 pub struct Evaluator {
     first: Vec<u32>,
@@ -454,6 +550,11 @@ impl Evaluator {
     /// What a partial sheet gives with `replacement` in the place of line `of_line`.
     pub fn preview(&mut self, sheet: &[u8], of_line: usize, replacement: &[u8]) -> Outcome<'_> {
         preview(sheet, of_line, replacement, &mut self.first, &mut self.second, &mut self.out)
+    }
+
+    /// For each row the decision on a partial sheet with the row's two texts, and the group's decision.
+    pub fn firm(&mut self, rows: &mut [Row], sheet: &[u8]) -> Result<Decision, Refusal> {
+        firm(rows, sheet, &mut self.first, &mut self.second)
     }
 }
 

@@ -2,8 +2,8 @@
 //! calls leave in the slices that they are lent.
 
 use openrules::{
-    complete, finish, page, partial, preview, test_load, Evaluator, Outcome, Refusal, ANSWER as LONGEST, PAGE, POLICIES,
-    SHEET as GREATEST, WORDS,
+    complete, finish, firm, page, partial, preview, test_load, Decision, Evaluator, Outcome, Refusal, Row, ANSWER as LONGEST,
+    PAGE, POLICIES, ROWS, SHEET as GREATEST, WORDS,
 };
 
 /// The worked input, one principal unknown, and its answer.
@@ -493,4 +493,40 @@ fn near_seeds() {
     assert_eq!(load(0, 64), load(1, 64));
     assert_eq!(load(0, 64), load(u64::MAX, 64));
     assert_ne!(load(7046029258681320426, 2), load(7046029258681320427, 2));
+}
+
+/// One rule for three brokers of a firm: the texts 10, 11 and 12, with the load that the form knows, text 4.
+const BROKERS: &str = include_str!("../../examples/one-rule-three-brokers.sheet");
+
+#[test]
+fn a_whole_firm() {
+    let mut evaluator = Evaluator::new();
+    let mut rows = [Row::new(10, 4), Row::new(11, 4), Row::new(12, 4)];
+    assert_eq!(evaluator.firm(&mut rows, BROKERS.as_bytes()), Ok(Decision::Allow));
+    assert!(rows.iter().all(|row| row.decision == Decision::Allow));
+    let mut rows = [Row::new(10, 4), Row::new(3, 4)];
+    assert_eq!(evaluator.firm(&mut rows, BROKERS.as_bytes()), Ok(Decision::Deny));
+    assert_eq!([rows[0].decision, rows[1].decision], [Decision::Allow, Decision::Deny]);
+    assert_eq!(evaluator.firm(&mut [], BROKERS.as_bytes()), Ok(Decision::Allow));
+}
+
+#[test]
+fn a_firm_refused() {
+    let mut evaluator = Evaluator::new();
+    let refused = |number, line| Err(Refusal { number, line, length: 0 });
+    for (row, place) in [(Row::new(10, 5), 2), (Row::new(13, 4), 2), (Row::new(u32::MAX, 4), 2)] {
+        let mut rows = [Row::new(10, 4), Row::new(11, 4), row];
+        assert_eq!(evaluator.firm(&mut rows, BROKERS.as_bytes()), refused(15, place));
+        assert!(rows.iter().all(|row| row.decision == Decision::Open));
+    }
+    let mut many = [Row::new(99, 4); ROWS + 1];
+    assert_eq!(evaluator.firm(&mut many, b"x\n"), refused(14, 0));
+    assert_eq!(evaluator.firm(&mut many[..ROWS], b"x\n"), refused(3, 1));
+    assert_eq!(evaluator.firm(&mut many, &[b'x'; GREATEST + 1]), refused(2, 0));
+    let (mut first, mut second) = ([7; WORDS], [7; WORDS - 1]);
+    assert_eq!(firm(&mut many, b"x\n", &mut first, &mut second), refused(1, 0));
+    assert_eq!(first, [7; WORDS]);
+    let (mut first, mut second) = ([7; WORDS + 1], [7; WORDS]);
+    assert_eq!(firm(&mut many, b"x\n", &mut first, &mut second), refused(14, 0));
+    assert_eq!((first[WORDS - 1], first[WORDS], second[0]), (0, 7, 0));
 }

@@ -41,6 +41,7 @@ use Rattle.response.proofs.Counting.{class-back}
 use Rattle.response.proofs.Printing.{complete-held}
 use Rattle.response.proofs.Sending.{gives-as, sends-as}
 use Rattle.response.proofs.Completing.{part-front}
+use Rattle.response.proofs.PartialRun.{holding-ready}
 use Rattle.opening.specs.Opens.{Opens}
 use Rattle.finished.specs.Finish.{yieldsOf, finishedResults, finishedAnswer, atLine, breakingLine}
 use Rattle.agree.specs.Breaks.{Ordered}
@@ -90,7 +91,7 @@ module _ (p residuals kept₁ : List ℕ) (x : Left p residuals kept₁) where
 
   rows-same : (k : ℕ) → k < MADE → rowsOf kept₁ k ≡ rowsOf (x .words) k
   rows-same k lt =
-      ap (λ (a : List ℕ). rowsOf a k) (x .kept-is) ∙ ran p (x .words) (x .depths) (h .accepted) (h .state) (h .sound) (h .none) (h .runs) (h .fits) .hold .same k lt
+      ap (λ (a : List ℕ). rowsOf a k) (x .kept-is) ∙ ran p p (x .words) (x .depths) (holding-ready p (x .words) (x .depths) h) .hold .same k lt
 
   partial-kept : Kept partial p kept₁
   partial-kept = kept partial p (x .words) (x .depths) kept₁ (h .accepted) (h .state) (λ k lt. rows-same k (omega (arith, lt)))
@@ -116,7 +117,7 @@ pub left-run : (p a b a′ b′ : List ℕ) (e : ℕ) (l zs ws : List ℕ) (n : 
 left-run p a b a′ b′ e l zs ws n q el z ap′ s₀ =
     let h = s₀ .holding in
     let k : l ≡ runOf partial p a [] .log = el ∙ part-front b′ e ∙ q .log .is in
-    let s : length l ≤ 4096 = subst (λ (y : List ℕ). length y ≤ 4096) (sym k) (log-short p a b (h .accepted) (h .state) (h .sound) (h .none) (h .runs) (h .fits)) in
+    let s : length l ≤ 4096 = subst (λ (y : List ℕ). length y ≤ 4096) (sym k) (log-short p p a b (holding-ready p a b h)) in
     record {
       words = a;
       depths = b;

@@ -25,22 +25,21 @@ use Rattle.cedar.proofs.SettledByNumber.{Residuals, run-reads}
 use Rattle.sheet.specs.Forms.{partial}
 use Rattle.sheet.specs.State.{State}
 use Rattle.sheet.specs.Sheet.{read}
-use Rattle.sheet.specs.Content.{schema, nEnv, pEnv, nPolicies, onTerm}
+use Rattle.sheet.specs.Content.{schema, nEnv, pEnv, nPolicies}
 use Rattle.sheet.specs.Answer.{run}
 use Rattle.sheet.proofs.Lines.{accepted-history, accepted-fit}
 use Rattle.sheet.proofs.Environment.{Facts, env-read, all-keys}
 use Rattle.sheet.proofs.ValueRows.{values-table}
 use Rattle.sheet.proofs.OwnPolicies.{read-own}
 use Rattle.sheet.proofs.NeverNine.{policy-sizes, residual-sizes}
-use Rattle.table.specs.Layout.{rowsOf, held, RUN, MADE, limits, limit, Sound}
+use Rattle.table.specs.Layout.{RUN, limits, limit}
 use Rattle.table.proofs.Rows.{count-rows}
 use Rattle.residual.specs.Trees.{flats}
 use Rattle.residual.specs.Classes.{rootsOf}
 use Rattle.tpe.specs.Run.{Rec, Ran, ranFrom, runOf}
-use Rattle.tpe.specs.Fits.{Fits}
 use Rattle.tpe.proofs.Stands.{tys, nodes}
 use Rattle.tpe.proofs.Policies.{linesFor, RunIs}
-use Rattle.tpe.proofs.Accepted.{run-fits}
+use Rattle.tpe.proofs.Accepted.{Ready, run-is}
 use Rattle.interpret.specs.Lines.{CLASSES, ROOTS, linesFrom, linesOf, classesOf}
 use Rattle.interpret.proofs.Back.{Noted, noted, classes-noted, roots-noted}
 use Rattle.interpret.proofs.Rooted.{endOf, end-low, end-all, Stays, classes-long, roots-long, counted, all-long, root-there, class-there, start-at}
@@ -88,19 +87,18 @@ pub record Lined (vs : List NVerdict) (b b′ : List ℕ) : Type 0 where
   pub classes : take (length vs) (drop CLASSES b′) ≡ classesOf vs
   pub roots : take (length vs) (drop ROOTS b′) ≡ rootsOf 0 vs
 
-module _ (sheet a b : List ℕ) (accepted : read partial sheet .number ≡ 0) (state : read partial sheet .state ≡ held sheet a b) (sound : Sound a) (none : getD a MADE 0 ≡ 0)
-    (runs : rowsOf a RUN ≡ onTerm (held sheet a b)) (fits : Fits a) where
+module _ (text sheet a b : List ℕ) (y : Ready text sheet a b) where
   abbrev x : Run
-  x = run partial (read partial sheet .state)
+  x = run partial (read partial text .state)
 
   abbrev r : Ran
   r = runOf partial sheet a []
 
   pub ran : RunIs partial sheet a 64 [] x r
-  ran = run-fits sheet a b accepted state sound none runs fits
+  ran = run-is text sheet a b y
 
   stays : Stays (x .rows) (x .lines)
-  stays = let (h, g) = accepted-history partial sheet accepted in run-stays (read partial sheet .state) (record { history = h; ends = g; keys = all-keys partial sheet accepted; fit = accepted-fit partial sheet accepted })
+  stays = let (h, g) = accepted-history partial text (y .accepted) in run-stays (read partial text .state) (record { history = h; ends = g; keys = all-keys partial text (y .accepted); fit = accepted-fit partial text (y .accepted) })
 
   -- a line for each policy that runs
   pub policies : length (x .lines) ≡ getD a RUN 0
@@ -112,13 +110,13 @@ module _ (sheet a b : List ℕ) (accepted : read partial sheet .number ≡ 0) (s
 
   pub few : length (x .lines) ≤ 64
   unfolding limit limits
-  few = let n = sound .few RUN (omega arith) in omega (arith, n, policies)
+  few = let n = y .sound .few RUN (omega arith) in omega (arith, n, policies)
 
   -- at most 1,024 rows of four words
   pub log-short : length (r .log) ≤ 4096
   log-short =
       let e = ap length (ran .log) ∙ all-long (tys sheet a) (nodes sheet a) (ran .ress) (x .lines) (ran .wholes) (ran .trees) in
-      omega (arith, e, policy-sizes partial sheet accepted, residual-sizes partial sheet accepted)
+      omega (arith, e, policy-sizes partial text (y .accepted), residual-sizes partial text (y .accepted))
 
   module _ (b₁ : List ℕ) (e : ℕ) (h : Holds 0 b₁ e (r .log)) (len : 16384 ≤ length b₁) where
     abbrev n : ℕ

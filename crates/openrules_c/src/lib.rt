@@ -3,12 +3,15 @@
 use authorizer::complete;
 use authorizer::partial;
 use finish::finish;
+use firm::Row;
+use firm::firm;
 use page::page;
 use preview::preview;
 use testload::load;
 ghost use Rattle.sheet.specs.Forms.{partial, complete};
 ghost use Rattle.authorizer.specs.Called.{Called};
 ghost use Rattle.finished.specs.Promise.{Finished};
+ghost use Rattle.firm.specs.Promise.{quote, Quotes};
 ghost use Rattle.paged.specs.Promise.{Paged};
 ghost use Rattle.previewed.specs.Promise.{Previewed};
 ghost use Rattle.testload.specs.Loaded.{Loaded};
@@ -116,4 +119,24 @@ pub extern "C" fn openrules_test_load(
     *line = r.line;
     *length = r.length;
     r.number
+}
+
+// For a list of rows; the group's decision is written where the last pointer says.
+#[no_mangle]
+pub extern "C" fn openrules_firm(
+    rows: &mut [Row],
+    sheet: &[u8],
+    first: &mut [u32],
+    second: &mut [u32],
+    line: &mut usize,
+    length: &mut usize,
+    group: &mut u32,
+) -> u32
+    ensures { λ r. ⌜ Quotes (now (sheet .entry)) (now (rows .entry)) (now (first .entry)) (now (second .entry)) (quote r (now (line .exit)) (now (length .exit)) (now (group .exit))) (now (rows .exit)) (now (first .exit)) (now (second .exit)) ⌝ }
+{
+    let f = firm(rows, sheet, first, second);
+    *line = f.line;
+    *length = f.length;
+    *group = f.group;
+    f.number
 }

@@ -20,6 +20,7 @@ use Rattle.listing.proofs.LogTrees.{treesIn}
 use Rattle.tpe.specs.Run.{Ran, runOf}
 use Rattle.tpe.specs.Leaves.{Leaves}
 use Rattle.tpe.proofs.Policies.{RunIs}
+use Rattle.tpe.proofs.Accepted.{Ready, ready}
 use Rattle.interpret.specs.Nodes.{ended}
 use Rattle.interpret.proofs.Answered.{Lined, ran, lined, log-stays, few}
 use Rattle.interpret.specs.Lines.{CLASSES, ROOTS, classesOf, linesOf}
@@ -47,20 +48,24 @@ classes-back (v ∷ vs) (suc i) h = classes-back vs i (omega arith)
 longer : (n m : ℕ) (w : List ℕ) (i : ℕ) → i < n → n ≤ m → getD (take m w) i 0 ≡ getD (take n w) i 0
 longer n m w i h k = getD-take m w i 0 (omega arith) ∙ sym (getD-take n w i 0 h)
 
+-- words that hold a sheet are ready for its run
+pub holding-ready : (sheet a b : List ℕ) → Holding partial sheet a b → Ready sheet sheet a b
+holding-ready sheet a b h = ready sheet a b (h .accepted) (h .state) (h .sound) (h .none) (h .runs) (h .fits)
+
 -- ---- what the run leaves
 
-module _ (sheet a b : List ℕ) (h : Holding partial sheet a b) where
+module _ (text sheet a b : List ℕ) (h : Ready text sheet a b) where
   abbrev x : Run
-  x = run partial (read partial sheet .state)
+  x = run partial (read partial text .state)
 
   abbrev r : Ran
   r = runOf partial sheet a []
 
   is-ran : RunIs partial sheet a 64 [] x r
-  is-ran = ran sheet a b (h .accepted) (h .state) (h .sound) (h .none) (h .runs) (h .fits)
+  is-ran = ran text sheet a b h
 
   most : length (x .lines) ≤ 64
-  most = few sheet a b (h .accepted) (h .state) (h .sound) (h .none) (h .runs) (h .fits)
+  most = few text sheet a b h
 
   -- the lines are noted in w
   module _ (v w : List ℕ) (n : Lined (x .lines) v w) where
@@ -89,10 +94,10 @@ module _ (sheet a b : List ℕ) (h : Holding partial sheet a b) where
       roots = root-at;
     }
 
-    run-bytes : partialBytes (whyIn (r .words) (part w CLASSES room)) (r .words) (r .log) (part w CLASSES room) (part w ROOTS room) ≡ answer partial (read partial sheet .state)
+    run-bytes : partialBytes (whyIn (r .words) (part w CLASSES room)) (r .words) (r .log) (part w CLASSES room) (part w ROOTS room) ≡ answer partial (read partial text .state)
     unfolding answer
     run-bytes =
-        let (k, g) = accepted-history partial sheet (h .accepted) in
+        let (k, g) = accepted-history partial text (h .accepted) in
         partial-held sheet a b (subst (History partial) (h .state) k) (h .runs) x (r .words) (r .log) (part w CLASSES room) (part w ROOTS room) words
         ∙ ap (λ (s : State). partialOf s x) (sym (h .state))
 
@@ -102,33 +107,38 @@ pub log-fits : (l b : List ℕ) (e : ℕ) → l ≡ part b 0 e → length b ≡ 
 log-fits l b e el h = omega (arith, ap length (el ∙ part-front b e), length-take e b)
 
 -- the run's words a′ and b′, and its lines noted in b″
-module _ (sheet a b : List ℕ) (h : Holding partial sheet a b) (a′ b′ b″ : List ℕ) (e : ℕ) (q : Leaves 0 a′ b′ e (ended (runOf partial sheet a []))) (lb : length b ≡ room)
-    (lb′ : length b′ ≡ length b) (eb : b″ ≡ linesOf a′ b′ e) where
+module _ (text sheet a b : List ℕ) (h : Ready text sheet a b) (a′ b′ b″ : List ℕ) (e : ℕ) (q : Leaves 0 a′ b′ e (ended (runOf partial sheet a []))) (lb : length b′ ≡ room)
+    (eb : b″ ≡ linesOf a′ b′ e) where
   abbrev t : Ran
   t = runOf partial sheet a []
 
   long : room ≤ length b′
-  long = omega (arith, lb, lb′)
+  long = omega (arith, lb)
 
   lines-in : b″ ≡ linesOf (t .words) b′ e
   lines-in = eb ∙ ap (λ (y : List ℕ). linesOf y b′ e) (q .words)
 
-  noted : Lined (run partial (read partial sheet .state) .lines) b′ b″
-  noted = subst (Lined (run partial (read partial sheet .state) .lines) b′) (sym lines-in) (lined sheet a b (h .accepted) (h .state) (h .sound) (h .none) (h .runs) (h .fits) b′ e (q .log) long)
+  noted : Lined (run partial (read partial text .state) .lines) b′ b″
+  noted = subst (Lined (run partial (read partial text .state) .lines) b′) (sym lines-in) (lined text sheet a b h b′ e (q .log) long)
 
   log-kept : take e b″ ≡ t .log
-  log-kept = ap (take e) lines-in ∙ log-stays sheet a b (h .accepted) (h .state) (h .sound) (h .none) (h .runs) (h .fits) b′ e (q .log) long
+  log-kept = ap (take e) lines-in ∙ log-stays text sheet a b h b′ e (q .log) long
 
   -- WHAT THE RUN LEAVES IN WORDS
-  pub run-words : RunWords sheet a (run partial (read partial sheet .state)) a′ (t .log) (part b″ CLASSES room) (part b″ ROOTS room)
-  run-words = subst (λ (y : List ℕ). RunWords sheet a (run partial (read partial sheet .state)) y (t .log) (part b″ CLASSES room) (part b″ ROOTS room)) (sym (q .words)) (words sheet a b h b′ b″ noted)
+  pub ready-words : RunWords sheet a (run partial (read partial text .state)) a′ (t .log) (part b″ CLASSES room) (part b″ ROOTS room)
+  ready-words = subst (λ (y : List ℕ). RunWords sheet a (run partial (read partial text .state)) y (t .log) (part b″ CLASSES room) (part b″ ROOTS room)) (sym (q .words)) (words text sheet a b h b′ b″ noted)
+
+pub run-words : (sheet a b : List ℕ) (h : Holding partial sheet a b) (a′ b′ b″ : List ℕ) (e : ℕ) (q : Leaves 0 a′ b′ e (ended (runOf partial sheet a []))) (lb : length b ≡ room) (lb′ : length b′ ≡ length b)
+    (eb : b″ ≡ linesOf a′ b′ e) → RunWords sheet a (run partial (read partial sheet .state)) a′ (runOf partial sheet a [] .log) (part b″ CLASSES room) (part b″ ROOTS room)
+run-words sheet a b h a′ b′ b″ e q lb lb′ eb = ready-words sheet sheet a b (holding-ready sheet a b h) a′ b′ b″ e q (lb′ ∙ lb) eb
 
 pub partial-runs : (sheet a b a′ b′ b″ l cs es out : List ℕ) (e number len : ℕ) (out′ : List ℕ) → Leaves 0 a′ b′ e (ended (runOf partial sheet a [])) → length b ≡ room → length b′ ≡ length b
     → b″ ≡ linesOf a′ b′ e → l ≡ part b″ 0 e → cs ≡ part b″ CLASSES room → es ≡ part b″ ROOTS room → Sends (partialBytes (whyIn a′ cs) a′ l cs es) out number len out′
     → Runs partial sheet a b out number len out′
 partial-runs sheet a b a′ b′ b″ l cs es out e number len out′ q lb lb′ eb el ec ee s h =
     let r : Ran = runOf partial sheet a [] in
-    let g : l ≡ r .log = el ∙ part-front b″ e ∙ log-kept sheet a b h a′ b′ b″ e q lb lb′ eb in
+    let y : Ready sheet sheet a b = holding-ready sheet a b h in
+    let g : l ≡ r .log = el ∙ part-front b″ e ∙ log-kept sheet sheet a b y a′ b′ b″ e q (lb′ ∙ lb) eb in
     let i : partialBytes (whyIn a′ cs) a′ l cs es ≡ partialBytes (whyIn (r .words) (part b″ CLASSES room)) (r .words) (r .log) (part b″ CLASSES room) (part b″ ROOTS room) =
     ap₂ (λ (y z : List ℕ). partialBytes (whyIn y cs) y z cs es) (q .words) g ∙ ap₂ (λ (y z : List ℕ). partialBytes (whyIn (r .words) y) (r .words) (r .log) y z) ec ee in
-    subst (λ (y : List ℕ). Sends y out number len out′) (i ∙ run-bytes sheet a b h b′ b″ (noted sheet a b h a′ b′ b″ e q lb lb′ eb)) s
+    subst (λ (y : List ℕ). Sends y out number len out′) (i ∙ run-bytes sheet sheet a b y b′ b″ (noted sheet sheet a b y a′ b′ b″ e q (lb′ ∙ lb) eb)) s

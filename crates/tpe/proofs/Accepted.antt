@@ -1,5 +1,5 @@
 -- THE RUN OVER WORDS IS THE NUMBERED RUN, for every accepted partial sheet that the words hold with its policies on term as those that run, if they have
--- room for what is made.
+-- room for what is made. Of the bytes of a sheet a run sees only those of its texts: these may stand in other bytes than those whose reading is run.
 use mathlib.Core.Path.{_≡_, refl, sym, _∙_, ap, ap₂, subst}
 use mathlib.Core.Bool.{false, cond, _&&_, not}
 use mathlib.Core.Option.{Option, some}
@@ -265,18 +265,30 @@ module _ (sheet a b : List ℕ) (f : Facts partial (held sheet a b)) (d : Depths
       subst (λ (x : Run). RunIs partial sheet a 64 [] x (ranFrom (λ p q. interpOf partial sheet p q 64) 0 (getD a RUN 0) a [])) same-run
       (run-from (record { top = omega (arith, z, few, top, reach-start a); few = omega (arith, z, few, none); log = omega (arith, z, few) }))
 
+-- the words hold the state that the reading of `text` leaves, an accepted sheet, their texts as parts of `sheet`; its policies on term are those that run, and
+-- there is room for what a run makes
+pub record Ready (text sheet a b : List ℕ) : Type 0 where
+  pub accepted : read partial text .number ≡ 0
+  pub state : read partial text .state ≡ held sheet a b
+  pub sound : Sound a
+  pub none : getD a MADE 0 ≡ 0
+  pub runs : rowsOf a RUN ≡ onTerm (held sheet a b)
+  pub top : getD a TOP 0 + 12 + 3 * 1024 ≤ 16384
+
 -- THE THEOREM
-pub run-is : (sheet a b : List ℕ) → read partial sheet .number ≡ 0 → read partial sheet .state ≡ held sheet a b → Sound a → getD a MADE 0 ≡ 0 → rowsOf a RUN ≡ onTerm (held sheet a b) → getD a TOP 0 + 12 + 3 * 1024 ≤ 16384
-    → RunIs partial sheet a 64 [] (run partial (read partial sheet .state)) (runOf partial sheet a [])
-run-is sheet a b e h sound none runs top =
-    let (hi, en) = accepted-history partial sheet e in
-    let f : Facts partial (held sheet a b) = subst (Facts partial) h (record { history = hi; ends = en; keys = all-keys partial sheet e; fit = accepted-fit partial sheet e }) in
-    let d : Depths (held sheet a b) = reached-depths (subst (Reached partial) h (read-reached partial sheet)) in
-    let few : policySizes (nPolicies (held sheet a b)) ≤ 1024 = subst (λ (s : State). policySizes (nPolicies s) ≤ 1024) h (policy-sizes partial sheet e) in
-    subst (λ (s : State). RunIs partial sheet a 64 [] (run partial s) (runOf partial sheet a [])) (sym h) (run-held sheet a b f d sound none runs few top)
+pub run-is : (text sheet a b : List ℕ) → Ready text sheet a b → RunIs partial sheet a 64 [] (run partial (read partial text .state)) (runOf partial sheet a [])
+run-is text sheet a b y =
+    let (hi, en) = accepted-history partial text (y .accepted) in
+    let f : Facts partial (held sheet a b) = subst (Facts partial) (y .state) (record { history = hi; ends = en; keys = all-keys partial text (y .accepted); fit = accepted-fit partial text (y .accepted) }) in
+    let d : Depths (held sheet a b) = reached-depths (subst (Reached partial) (y .state) (read-reached partial text)) in
+    let few : policySizes (nPolicies (held sheet a b)) ≤ 1024 = subst (λ (s : State). policySizes (nPolicies s) ≤ 1024) (y .state) (policy-sizes partial text (y .accepted)) in
+    subst (λ (s : State). RunIs partial sheet a 64 [] (run partial s) (runOf partial sheet a [])) (sym (y .state)) (run-held sheet a b f d (y .sound) (y .none) (y .runs) few (y .top))
 
 -- there is room where the rows fit
+pub ready : (sheet a b : List ℕ) → read partial sheet .number ≡ 0 → read partial sheet .state ≡ held sheet a b → Sound a → getD a MADE 0 ≡ 0 → rowsOf a RUN ≡ onTerm (held sheet a b) → Fits a → Ready sheet sheet a b
+unfolding limit limits
+ready sheet a b e h sound none runs fits = record { accepted = e; state = h; sound = sound; none = none; runs = runs; top = omega (arith, fits) }
+
 pub run-fits : (sheet a b : List ℕ) → read partial sheet .number ≡ 0 → read partial sheet .state ≡ held sheet a b → Sound a → getD a MADE 0 ≡ 0 → rowsOf a RUN ≡ onTerm (held sheet a b) → Fits a
     → RunIs partial sheet a 64 [] (run partial (read partial sheet .state)) (runOf partial sheet a [])
-unfolding limit limits
-run-fits sheet a b e h sound none runs fits = run-is sheet a b e h sound none runs (omega (arith, fits))
+run-fits sheet a b e h sound none runs fits = run-is sheet sheet a b (ready sheet a b e h sound none runs fits)

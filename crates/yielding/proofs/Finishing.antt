@@ -41,7 +41,7 @@ use Rattle.tpe.specs.Run.{Ran, runOf}
 use Rattle.tpe.proofs.Reach.{reach, reach-start}
 use Rattle.tpe.proofs.Stands.{Hold, values, tys, nodes}
 use Rattle.tpe.proofs.Policies.{rootsOf, RunIs}
-use Rattle.tpe.proofs.Accepted.{run-fits}
+use Rattle.tpe.proofs.Accepted.{ready, run-fits}
 use Rattle.interpret.proofs.Answered.{log-short}
 use Rattle.evaluator.proofs.Gives.{Stand}
 use Rattle.carried.specs.Carry.{numberThere, There, carriedFrom, carriedOf}
@@ -206,7 +206,7 @@ module _ (p pa pb : List ℕ) (xp : Accepted partial p) (ep : read partial p .nu
     wholes-there = subst (λ (l : List (List ℕ)). Wholes (tys p pa) l 64 ress) same-nodes (is-run .wholes)
 
     log-long : length (flats ress) ≤ 4096
-    log-long = let a = log-short p pa pb ep hp soundp nonep runsp fitsp in let b = ap length (is-run .log) in omega (arith, a, b)
+    log-long = let a = log-short p p pa pb (ready p pa pb ep hp soundp nonep runsp fitsp) in let b = ap length (is-run .log) in omega (arith, a, b)
 
     rooms : Rooms c ca G (tys p pa) K (length (rowsOf kept VALUE)) (carried .numbers) (takesSum (treesOf (tys p pa) (rowsOf ca NODE) ress)) (makesSum (treesOf (tys p pa) (rowsOf ca NODE) ress)) (length (flats ress)) (countRes ress) (carried .words) []
     rooms =

@@ -1,0 +1,350 @@
+// A whole firm in one call: for each of a list of rows, whose two texts stand for those of principal and resource, the decision on a partial sheet.
+// The sheet is read once; each row is run over a copy of its words on the stack, some 64 KB, which have the row's texts.
+use forms::MARK;
+use forms::PRINCIPAL;
+use forms::RESOURCE;
+use forms::TEXT;
+use interpret::CLASSES;
+use opening::open;
+use response::Decision;
+use response::decision_of;
+use table::HEAP;
+use table::TOP;
+use table::base_of;
+use table::count;
+use table::item;
+use table::row;
+use words::ROOM;
+use words::clear;
+use words::cut;
+use words::put;
+use words::read;
+use words::store;
+ghost use mathlib.Core.Path.{_≡_};
+ghost use mathlib.Core.List.{[]};
+ghost use Prim.Native.Nat.{suc, _+_, _≤_, _<_};
+ghost use lib.ListN.{length, getD};
+ghost use lib.Seq.{sets};
+ghost use Rattle.sheet.specs.Call.{worked};
+ghost use Rattle.table.specs.Layout.{heap, base};
+ghost use Rattle.response.specs.Verdicts.{decisionOf};
+ghost use Rattle.firm.specs.Laid.{moved, lineWith, Moves, Shifted, Lays, Laid, Roomy};
+ghost use Rattle.firm.specs.Parts.{codeOf, joined, Decides, textIn, askIn, refusal, Begins, checkOf, Singles, joinOf};
+ghost use Rattle.firm.specs.Promise.{Quotes};
+
+// ---- one row
+
+// The words of a sheet's rows.
+fn row_words() -> [u32; 16384]
+    ensures { λ r. ⌜ 16384 ≡ length r ⌝ }
+{
+    [0; 16384]
+}
+
+// The words of the rows of principal and resource, tag, kind and text: of one, and of both. In a row's own words they stand before the others.
+const LINE: u32 = 3;
+
+const AHEAD: usize = 6;
+
+// Where what stood at a place stands in those words.
+fn moved(place: u32) -> u32
+    ensures { λ r. ⌜ r ≡ moved place ⌝ }
+{
+    if place > 16384 {
+        return place;
+    }
+    place + AHEAD as u32
+}
+
+// A run of stores from `at` on, all of which the slice has room for.
+fn copy(words: &mut [u32], at: usize, row: &[u32])
+    ensures { λ _. ⌜ now (words .exit) ≡ sets (now (words .entry)) at (now (row .entry)) ⌝ }
+{
+    let n = row.len();
+    if words.len() < n {
+        return store(words, at, row);
+    }
+    if words.len() - n < at {
+        return store(words, at, row);
+    }
+    let mut i = 0;
+    while i < n {
+        words[at + i] = row[i];
+        i += 1;
+    }
+}
+
+// The places of rows and of the heap's end, moved.
+fn move_places(rows: &[u32], own: &mut [u32])
+    requires { ⌜ (heap ≤ length (now rows)) × (heap ≤ length (now own)) ⌝ }
+    ensures { λ _. ⌜ Moves (now (rows .entry)) (now (own .entry)) (now (own .exit)) ⌝ }
+{
+    let mut i = TOP;
+    while i < HEAP {
+        own[i] = moved(rows[i]);
+        i += 1;
+    }
+}
+
+// A row of principal or resource from `start` on, with this text.
+fn lay_line(own: &mut [u32], key: usize, start: u32, line: &[u32], text: u32)
+    requires { ⌜ (heap ≤ start) × (start + 3 ≤ 16384) × (16384 ≤ length (now own)) × (suc (base key) < heap) ⌝ }
+    ensures { λ _. ⌜ Lays key start (lineWith (now (line .entry)) text) (now (own .entry)) (now (own .exit)) ⌝ }
+{
+    let words = [item(line, 0), item(line, 1), text];
+    store(own, start as usize, &words);
+    let place = base_of(key);
+    put(own, place, start);
+    put(own, place + 1, start + LINE);
+}
+
+// All rows of a sheet in words of their own, AHEAD words further on.
+fn shift(rows: &[u32], own: &mut [u32])
+    requires { ⌜ (16384 ≤ length (now rows)) × (length (now own) ≡ 16384) ⌝ }
+    ensures { λ _. ⌜ (Roomy (now (rows .entry)) → Shifted (now (rows .entry)) (now (own .exit))) ⌝ }
+{
+    copy(own, 0, cut(rows, 0, TOP));
+    move_places(rows, own);
+    copy(own, HEAP + AHEAD, cut(rows, HEAP, read(rows, TOP) as usize));
+}
+
+// The rows of a sheet in words of their own, with these texts of principal and resource.
+fn lay(rows: &[u32], own: &mut [u32], principal: u32, resource: u32)
+    requires { ⌜ (16384 ≤ length (now rows)) × (length (now own) ≡ 16384) ⌝ }
+    ensures { λ _. ⌜ (Roomy (now (rows .entry)) → Laid (now (rows .entry)) principal resource (now (own .exit))) ⌝ }
+{
+    shift(rows, own);
+    let start = HEAP as u32;
+    lay_line(own, PRINCIPAL, start, row(rows, PRINCIPAL, 0), principal);
+    lay_line(
+        own,
+        RESOURCE,
+        start + LINE,
+        row(rows, RESOURCE, 0),
+        resource,
+    );
+}
+
+// The decision on the sheet that the words hold, with these texts of principal and resource.
+fn decided(sheet: &[u8], rows: &[u32], principal: u32, resource: u32, log: &mut [u32]) -> Decision
+    requires { ⌜ (16384 ≤ length (now rows)) × (length (now log) ≡ 16384) ⌝ }
+    ensures { λ d. ⌜ Decides (now (sheet .entry)) (now (rows .entry)) principal resource d ⌝ }
+{
+    let mut own = row_words();
+    lay(rows, &mut own, principal, resource);
+    let end = interpret::run(sheet, &mut own, log);
+    interpret::lines(&own, log, end);
+    decision_of(&own, cut(log, CLASSES, ROOM))
+}
+
+// ---- rows
+
+// What is asked, the texts of principal and resource by number, and the decision.
+#[repr(C)]
+pub struct Row {
+    pub principal: u32,
+    pub resource: u32,
+    pub decision: u32,
+}
+
+// A decision as a number.
+pub const ALLOW: u32 = 0;
+
+pub const DENY: u32 = 1;
+
+pub const OPEN: u32 = 2;
+
+fn number_of(decision: Decision) -> u32
+    ensures { λ r. ⌜ r ≡ codeOf (decisionOf decision) ⌝ }
+{
+    match decision {
+        Decision::Allow => ALLOW,
+        Decision::Deny => DENY,
+        Decision::Open => OPEN,
+    }
+}
+
+// Number and line of a refusal, or 0 and 0; the length, which is always 0; the group's decision.
+pub struct Quote {
+    pub number: u32,
+    pub line: usize,
+    pub length: usize,
+    pub group: u32,
+}
+
+fn refused(number: u32, line: usize) -> Quote
+    ensures { λ f. ⌜ f ≡ refusal number line ⌝ }
+{
+    Quote {
+        number,
+        line,
+        length: 0,
+        group: OPEN,
+    }
+}
+
+// ---- the parts of the call
+
+// The rows of a call at most.
+const MOST_ROWS: usize = 64;
+
+// The sheet opened for so many rows.
+fn begin(rows: usize, sheet: &[u8], work1: &mut [u32], work2: &mut [u32]) -> Quote
+    ensures { λ f. ⌜ Begins rows (now (sheet .entry)) (now (work1 .entry)) (now (work2 .entry)) f (now (work1 .exit)) (now (work2 .exit)) ⌝ }
+{
+    if work1.len() < ROOM {
+        return refused(1, 0);
+    }
+    if work2.len() < ROOM {
+        return refused(1, 0);
+    }
+    if sheet.len() > ROOM {
+        return refused(2, 0);
+    }
+    if rows > MOST_ROWS {
+        return refused(14, 0);
+    }
+    let o = open(sheet, true, &mut work1[..ROOM], &mut work2[..ROOM]);
+    let number = o.number;
+    if number != 0 {
+        return refused(number, o.line);
+    }
+    Quote {
+        number: 0,
+        line: 0,
+        length: 0,
+        group: ALLOW,
+    }
+}
+
+// Whether a text exists and does not contradict the one of a key's line.
+fn text_fits(rows: &[u32], key: usize, text: u32) -> bool
+    ensures { λ b. ⌜ b ≡ textIn (now (rows .entry)) key text ⌝ }
+{
+    if text >= count(rows, TEXT) {
+        return false;
+    }
+    let known = item(row(rows, key, 0), 2);
+    if known == MARK {
+        return true;
+    }
+    known == text
+}
+
+// Whether both texts of a row fit.
+fn fits(rows: &[u32], principal: u32, resource: u32) -> bool
+    ensures { λ b. ⌜ b ≡ askIn (now (rows .entry)) principal resource ⌝ }
+{
+    if !text_fits(rows, PRINCIPAL, principal) {
+        return false;
+    }
+    text_fits(rows, RESOURCE, resource)
+}
+
+// Row `i` checked, where nothing was refused before.
+fn check(f: Quote, r: Row, i: usize, work1: &[u32]) -> Quote
+    ensures { λ x. ⌜ x ≡ checkOf (now (work1 .entry)) f r i ⌝ }
+{
+    if f.number != 0 {
+        return f;
+    }
+    if fits(cut(work1, 0, ROOM), r.principal, r.resource) {
+        return f;
+    }
+    refused(15, i)
+}
+
+// A row decided, where nothing was refused.
+fn single(f: Quote, r: Row, sheet: &[u8], work1: &[u32], work2: &mut [u32]) -> Row
+    ensures { λ x. ⌜ Singles (now (sheet .entry)) (now (work1 .entry)) (now (work2 .entry)) f r x (now (work2 .exit)) ⌝ }
+{
+    if f.number != 0 {
+        return r;
+    }
+    if work1.len() < ROOM {
+        return r;
+    }
+    if work2.len() < ROOM {
+        return r;
+    }
+    let d = decided(
+        sheet,
+        &work1[..ROOM],
+        r.principal,
+        r.resource,
+        &mut work2[..ROOM],
+    );
+    Row {
+        principal: r.principal,
+        resource: r.resource,
+        decision: number_of(d),
+    }
+}
+
+// The group's decision with a row's more: deny if any row denies, else open if any is open.
+fn join_group(group: u32, decision: u32) -> u32
+    ensures { λ r. ⌜ r ≡ joined group decision ⌝ }
+{
+    if decision == ALLOW {
+        return group;
+    }
+    if group == DENY {
+        return DENY;
+    }
+    decision
+}
+
+// A row joins the group, where nothing was refused.
+fn join(f: Quote, r: Row) -> Quote
+    ensures { λ x. ⌜ x ≡ joinOf f r ⌝ }
+{
+    if f.number != 0 {
+        return f;
+    }
+    Quote {
+        number: f.number,
+        line: f.line,
+        length: f.length,
+        group: join_group(f.group, r.decision),
+    }
+}
+
+// What was used of the work slices is cleared.
+fn finish(f: Quote, work1: &mut [u32], work2: &mut [u32]) -> Quote
+    ensures is { λ x. ⌜ x ≡ f ⌝ }
+    ensures first { λ _. ⌜ now (work1 .exit) ≡ worked (now (work1 .entry)) (length (now (work2 .entry))) ⌝ }
+    ensures second { λ _. ⌜ now (work2 .exit) ≡ worked (now (work2 .entry)) (length (now (work1 .entry))) ⌝ }
+{
+    if work1.len() < ROOM {
+        return f;
+    }
+    if work2.len() < ROOM {
+        return f;
+    }
+    clear(work1);
+    clear(work2);
+    f
+}
+
+// ---- the call
+
+// For each row the decision on the sheet with its two texts filled in, and the group's decision; where the call is refused no row changes.
+pub fn firm(rows: &mut [Row], sheet: &[u8], work1: &mut [u32], work2: &mut [u32]) -> Quote
+    ensures { λ f. ⌜ Quotes (now (sheet .entry)) (now (rows .entry)) (now (work1 .entry)) (now (work2 .entry)) f (now (rows .exit)) (now (work1 .exit)) (now (work2 .exit)) ⌝ }
+{
+    let n = rows.len();
+    let mut f = begin(n, sheet, work1, work2);
+    let mut i = 0;
+    while i < n {
+        f = check(f, rows[i], i, work1);
+        i += 1;
+    }
+    let mut j = 0;
+    while j < n {
+        let r = single(f, rows[j], sheet, work1, work2);
+        f = join(f, r);
+        rows[j] = r;
+        j += 1;
+    }
+    finish(f, work1, work2)
+}

@@ -1,0 +1,1 @@
+// No code: what the call for a whole firm answers, and the theorems on it.
