@@ -2,14 +2,22 @@
 """The derivation of a function over `&mut [S]`, S a struct of three u32.
 
 The borrow checker covers slices of arrays and not slices of structs, though its rules hold at any element. So the function is written over
-`&mut [[u32; 3]]` in a crate of the same name with the same functions (scripts/analog holds it), `rt dev CRATE --generated OUT` prints the derivation
-there, proofs/FUNCTION/Lts.antt, and this puts the struct in the place of the array. The result is checked like every other file: a slip here
-is refused there.
+`&mut [[u32; 3]]` in a crate of the same name, its callees with the same names and parameters and any bodies: scripts/analog has both texts that
+are needed here. `rt dev CRATE --generated OUT` prints the derivation there, proofs/FUNCTION/Lts.antt, and this puts the struct in the place of
+the array. The result is checked like every other file, so that a slip here is refused there; then `rt fmt`.
 
     struct_slices.py LTS OUT FUNCTION STRUCT-PROOFS STRUCT-SPECS DEFAULT [KINDS,..]
 
 STRUCT-PROOFS and STRUCT-SPECS are the modules of the struct, DEFAULT is the element that a list gives past its end; KINDS are the modules with the
-kinds of the callees, in the order of their first calls, `-` for a callee whose kinds stay as they are printed."""
+kinds of the callees, in the order of their first calls, `-` for a callee whose kinds stay as they are printed. For both functions, where P is
+Rattle.firm.proofs and Z is 'record { principal = 0; resource = 0; decision = 0 }':
+
+    struct_slices.py .. crates/firm/proofs/firm/Proof/Lts.antt firm P.Row Rattle.firm.specs.declared.Row Z \\
+        P.begin.Kinds,P.check.Kinds,P.single.Kinds,P.join.Kinds,P.finish.Kinds
+    struct_slices.py .. crates/openrules_c/proofs/openrules_firm/Proof/Lts.antt openrules_firm Rattle.firm.proofs.Row Rattle.firm.specs.declared.Row Z -
+
+What the derivation leaves is answered in Proof.antt as for a covered function; Proof/Reads.antt reads the contract, and openrules_firm/Proof/Firm.antt
+that of a callee that is not covered itself."""
 import re
 import sys
 

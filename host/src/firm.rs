@@ -34,7 +34,8 @@ fn request<'a>(sheet: &'a str, key: &str) -> Vec<&'a str> {
 /// "a text that does not exist or contradicts a known one"
 fn fits(sheet: &str, key: &str, text: u32) -> bool {
     let known = request(sheet, key)[1];
-    (text as usize) < sheet.lines().filter(|line| line.starts_with("text=")).count() && (known == "?" || known == text.to_string())
+    (text as usize) < sheet.lines().filter(|line| line.starts_with("text=")).count()
+        && (known == "?" || known == text.to_string())
 }
 
 /// "the sheet with those two texts filled in"

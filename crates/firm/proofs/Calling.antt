@@ -1,19 +1,17 @@
 -- The parts of the call by their tests. Assumes nothing.
 use mathlib.Core.Path.{_≡_, refl, sym, ap, ap₂, _∙_, subst}
 use mathlib.Core.Bool.{Bool, true, false, cond, not, _&&_, _||_}
-use mathlib.Core.List.{List, [], _∷_, _++_}
-use Prim.Native.Nat.{ℕ, zero, suc, _≤_, _<_}
+use mathlib.Core.List.{List, [], _++_}
+use Prim.Native.Nat.{ℕ, _≤_, _<_}
 use native.Mathlib.Omega.{arith}
-use native.Mathlib.Decide.{decLe}
-use borrow.Author.Tests.{eq-eqb, ne-eqb, lt-ltb, le-ltb, eqb-true}
+use borrow.Author.Tests.{eq-eqb, ne-eqb, lt-ltb, le-ltb}
 use lib.Dec.{ltb, eqb}
 use lib.ListN.{length, getD, take, drop, length-append, length-drop, length-take, take-append-drop}
 use lib.Seq.{take-at}
 use Rattle.words.specs.Log.{part, cleared}
 use Rattle.cedar.specs.Response.{Decision}
 use Rattle.sheet.specs.Forms.{partial, at, mark, TEXT, PRINCIPAL, RESOURCE}
-use Rattle.sheet.specs.Sheet.{read}
-use Rattle.sheet.specs.Call.{Returned, returns, room, lentThen, shortThen, refusedThen, readThen, checkedThen, outputs, worked}
+use Rattle.sheet.specs.Call.{Returned, returns, room, lentThen, shortThen, refusedThen, readThen, worked}
 use Rattle.sheet.proofs.Checked.{accepted-from}
 use Rattle.table.specs.Layout.{rowsOf}
 use Rattle.response.specs.Runs.{Gives, Holding}
@@ -21,10 +19,9 @@ use Rattle.response.specs.Verdicts.{decisionOf}
 use Rattle.response.specs.declared.Decision as C
 use Rattle.opening.specs.Opens.{Opens}
 use Rattle.opening.proofs.Lent.{part-long, short-first, short-second, long-enough}
-use Rattle.staff.specs.Firm.{askFits, mostRows, rowDecision}
 use Rattle.firm.specs.declared.Row as R
 use Rattle.firm.specs.declared.Quote as Q
-use Rattle.firm.specs.Parts.{codeOf, joined, asks, askedIn, filled, Decides, textIn, askIn, refusal, Opened, manyThen, Begins, checkOf, Singles, joinOf}
+use Rattle.firm.specs.Parts.{codeOf, joined, Decides, textIn, askIn, refusal, Opened, manyThen, Begins, checkOf, Singles, joinOf}
 
 or-true : (p : Bool) → (p || true) ≡ true
 or-true true = refl

@@ -8,7 +8,7 @@ use native.Mathlib.Decide.{ℕ-discrete}
 use borrow.Author.Tests.{lt-ltb, le-ltb}
 use lib.ListN.{length, getD, drop, set, length-set}
 use lib.Seq.{sets, getD-set-same, getD-set-other}
-use Rattle.words.proofs.Stores.{Storing, storing-on, storing-end}
+use Rattle.words.proofs.Stores.{storing-on, storing-end}
 use Rattle.table.specs.Layout.{TOP, heap}
 use Rattle.firm.specs.Laid.{AHEAD, moved, Moves}
 

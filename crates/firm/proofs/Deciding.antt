@@ -1,24 +1,24 @@
 -- THE DECISION OF A ROW: words laid for it hold what the reading of the sheet with its texts leaves, so that their run gives the decision on that sheet.
-use mathlib.Core.Path.{_≡_, refl, sym, ap, _∙_, subst}
-use mathlib.Core.Bool.{Bool, true, cond, _&&_, _||_}
+use mathlib.Core.Path.{_≡_, sym, ap, _∙_, subst}
+use mathlib.Core.Bool.{true, cond, _||_}
 use mathlib.Core.List.{List, [], _∷_}
 use Prim.Native.Nat.{ℕ, _+_, _≤_, _<_}
 use native.Mathlib.Omega.{arith}
 use lib.Dec.{ltb, eqb}
 use lib.ListN.{length, getD, set, replicate}
-use Rattle.cedar.specs.Response.{Verdict, decision}
+use Rattle.cedar.specs.Response.{decision}
 use Rattle.sheet.specs.Forms.{partial, at, mark, noKey, TEXT, PRINCIPAL, RESOURCE, DAY, NODE, POLICY, LINK, TERM, SHEET, KIND, TYPE, SHAPE, VALUE, ENTITY, ACTION, CONTEXT}
 use Rattle.sheet.specs.State.{State, linesOf, lineAt, count}
 use Rattle.sheet.specs.Sheet.{read, least}
 use Rattle.sheet.specs.Content.{onTerm}
 use Rattle.sheet.specs.Call.{Accepted}
-use Rattle.sheet.proofs.Lines.{and-both}
+use Rattle.sheet.proofs.Lines.{and-both, Was}
 use Rattle.sheet.proofs.Environment.{Facts, a-line, the-line}
 use Rattle.sheet.proofs.Demand3Bytes.{facts}
 use Rattle.sheet.proofs.OnTerm.{same-term}
 use Rattle.words.specs.Log.{part, room}
-use Rattle.table.specs.Layout.{RUN, MADE, TOP, USES, heap, limit, limits, rowsOf, textRows, linesHeld, depthBase, depthsAt, depthsIn, depthsHeld, held, Sound}
-use Rattle.table.proofs.Rows.{count-rows, count-held, lines-held, tab-same}
+use Rattle.table.specs.Layout.{RUN, MADE, TOP, USES, heap, limit, limits, rowsOf, textRows, linesHeld, depthBase, depthsAt, depthsIn, depthsHeld, held}
+use Rattle.table.proofs.Rows.{count-rows, lines-held, tab-same}
 use Rattle.table.proofs.Held.{depths-tab}
 use Rattle.tpe.specs.Run.{runOf}
 use Rattle.tpe.specs.Leaves.{Leaves}
@@ -29,12 +29,12 @@ use Rattle.response.specs.Runs.{Holding}
 use Rattle.response.specs.Verdicts.{verdictsIn, decisionOf}
 use Rattle.response.specs.declared.Decision as C
 use Rattle.response.proofs.PartialRun.{ready-words}
-use Rattle.staff.specs.Firm.{Asked, setTexts, withTexts, textFits, askFits, filledSheet, rowDecision}
+use Rattle.staff.specs.Firm.{setTexts, withTexts, textFits, askFits, filledSheet, rowDecision}
 use Rattle.staff.proofs.FirmBytes.{filled-sheet}
-use Rattle.firm.specs.Laid.{AHEAD, LINE, lineWith, Laid, Roomy}
+use Rattle.firm.specs.Laid.{AHEAD, LINE, lineWith, Stands, Laid, Roomy}
 use Rattle.firm.specs.Parts.{asks, Decides}
 use Rattle.firm.proofs.Texts.{principal-size, resource-size, texts-set}
-use Rattle.firm.proofs.Standing.{top-is, rows-kept, row-laid, sound-laid}
+use Rattle.firm.proofs.Standing.{one-principal, one-resource, top-is, rows-kept, row-laid, sound-laid}
 
 -- ---- room
 
@@ -72,31 +72,23 @@ module _ (sheet a b w : List ℕ) (p q : ℕ) (acc : Accepted partial sheet) (h 
       and-both (ltb t (count s TEXT)) (eqb (at (lineAt s k 0) 1) mark || eqb (at (lineAt s k 0) 1) t) e (λ x y.
       subst (λ (rs : List (List ℕ)). (eqb (at (getD rs 0 []) 1) mark || eqb (at (getD rs 0 []) 1) t) ≡ true) (own k lt n) y)
 
-  one-principal : limit PRINCIPAL ≡ 1
-  unfolding limit limits
-  one-principal = refl
-
-  one-resource : limit RESOURCE ≡ 1
-  unfolding limit limits
-  one-resource = refl
+  -- the row of key k, which stands at place b with the text t
+  line-is : (k b t : ℕ) → k < noKey → (k ≡ TEXT → ⊥) → 1 ≤ getD (least s) k 0 → limit k ≡ 1 → (Was partial s k [] (lineAt s k 0) → length (lineAt s k 0) ≡ 3) → textFits s k t ≡ true
+      → Stands k b (lineWith (getD (rowsOf a k) 0 []) t) w → rowsOf w k ≡ setTexts t (rowsOf a k)
+  line-is k b t lt n one most size fit stands =
+      let c = one-row k lt n one most in
+      row-laid a w p q (h .sound) l under k b (lineWith (getD (rowsOf a k) 0 []) t) (omega (arith, lt)) c stands
+      ∙ sym (texts-set (rowsOf a k) t (count-rows a k ∙ c) (subst (λ (rs : List (List ℕ)). length (getD rs 0 []) ≡ 3) (own k lt n) (size (the-line partial s f k lt one))) (text-fits k t lt n fit))
 
   principal-is : rowsOf w PRINCIPAL ≡ setTexts p (rowsOf a PRINCIPAL)
   principal-is =
-      let o = own PRINCIPAL (omega arith) (λ x. absurd (omega (arith, x))) in
-      let n = one-row PRINCIPAL (omega arith) (λ x. absurd (omega (arith, x))) (omega arith) one-principal in
-      row-laid a w p q (h .sound) l under PRINCIPAL heap (lineWith (getD (rowsOf a PRINCIPAL) 0 []) p) (omega arith) n (l .principal)
-      ∙ sym (texts-set (rowsOf a PRINCIPAL) p (count-rows a PRINCIPAL ∙ n)
-      (subst (λ (rs : List (List ℕ)). length (getD rs 0 []) ≡ 3) o (principal-size partial s [] (lineAt s PRINCIPAL 0) (the-line partial s f PRINCIPAL (omega arith) (omega arith))))
-      (text-fits PRINCIPAL p (omega arith) (λ x. absurd (omega (arith, x))) (and-both (textFits s PRINCIPAL p) (textFits s RESOURCE q) fits (λ x y. x))))
+      line-is PRINCIPAL heap p (omega arith) (λ x. absurd (omega (arith, x))) (omega arith) one-principal (principal-size partial s [] (lineAt s PRINCIPAL 0))
+      (and-both (textFits s PRINCIPAL p) (textFits s RESOURCE q) fits (λ x y. x)) (l .principal)
 
   resource-is : rowsOf w RESOURCE ≡ setTexts q (rowsOf a RESOURCE)
   resource-is =
-      let o = own RESOURCE (omega arith) (λ x. absurd (omega (arith, x))) in
-      let n = one-row RESOURCE (omega arith) (λ x. absurd (omega (arith, x))) (omega arith) one-resource in
-      row-laid a w p q (h .sound) l under RESOURCE (heap + LINE) (lineWith (getD (rowsOf a RESOURCE) 0 []) q) (omega arith) n (l .resource)
-      ∙ sym (texts-set (rowsOf a RESOURCE) q (count-rows a RESOURCE ∙ n)
-      (subst (λ (rs : List (List ℕ)). length (getD rs 0 []) ≡ 3) o (resource-size partial s [] (lineAt s RESOURCE 0) (the-line partial s f RESOURCE (omega arith) (omega arith))))
-      (text-fits RESOURCE q (omega arith) (λ x. absurd (omega (arith, x))) (and-both (textFits s PRINCIPAL p) (textFits s RESOURCE q) fits (λ x y. y))))
+      line-is RESOURCE (heap + LINE) q (omega arith) (λ x. absurd (omega (arith, x))) (omega arith) one-resource (resource-size partial s [] (lineAt s RESOURCE 0))
+      (and-both (textFits s PRINCIPAL p) (textFits s RESOURCE q) fits (λ x y. y)) (l .resource)
 
   kept : (k : ℕ) → k < TOP → (k ≡ PRINCIPAL → ⊥) → (k ≡ RESOURCE → ⊥) → rowsOf w k ≡ rowsOf a k
   kept = rows-kept a w p q (h .sound) l under

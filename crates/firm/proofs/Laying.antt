@@ -4,15 +4,14 @@ use mathlib.Core.List.{List, [], _∷_}
 use Prim.Native.Nat.{ℕ, suc, _+_, _-_, _≤_, _<_}
 use native.Mathlib.Omega.{arith}
 use native.Mathlib.Numerals.{add-one}
-use lib.ListN.{length, getD, take, drop, set, length-set}
-use lib.Seq.{sets, ext-getD, getD-set-same, getD-set-other, take-set-le, drop-set-lt}
+use lib.ListN.{length, getD, take, set, length-set}
+use lib.Seq.{sets, ext-getD, getD-set-same, getD-set-other, drop-set-lt}
 use Rattle.words.specs.Log.{part, room}
 use Rattle.words.proofs.Stores.{take-sets, drop-sets, part-sets, getD-below, getD-above, part-at, length-part}
-use Rattle.forms.proofs.Keys.{regions-rise, regions-low, regions-high}
 use Rattle.sheet.specs.Forms.{PRINCIPAL, RESOURCE}
-use Rattle.table.specs.Layout.{TOP, heap, base, rowsOf, limit}
-use Rattle.forms.specs.Keys.{limits, bases}
-use Rattle.firm.specs.Laid.{LINE, AHEAD, moved, lineWith, Moves, Shifted, Lays, Stands, Others, Laid, Roomy}
+use Rattle.table.specs.Layout.{TOP, heap, base, rowsOf}
+use Rattle.forms.specs.Keys.{bases}
+use Rattle.firm.specs.Laid.{LINE, AHEAD, moved, lineWith, Moves, Shifted, Lays, Others, Laid, Roomy}
 
 -- ---- runs of stores by places
 

@@ -11,19 +11,17 @@ use lib.ListN.{length, getD, drop, set, drop-of-length-le}
 use lib.Seq.{drop-cons}
 use Rattle.cedar.specs.Response.{Decision, allow, deny, undecided}
 use Rattle.sheet.specs.Forms.{partial, noKey, TEXT, PRINCIPAL, RESOURCE, at, mark}
-use Rattle.sheet.specs.State.{State, linesOf, lineAt, count}
+use Rattle.sheet.specs.State.{State}
 use Rattle.sheet.specs.Sheet.{read}
 use Rattle.sheet.specs.Call.{Returned, returns, room, lentThen, refusedThen, worked}
 use Rattle.sheet.specs.Call as S
 use Rattle.words.specs.Log.{part}
-use Rattle.table.specs.Layout.{rowsOf, held}
 use Rattle.table.proofs.Rows.{count-held, lines-held}
 use Rattle.response.specs.Runs.{Holding}
-use Rattle.staff.specs.Firm.{Asked, Row, textFits, askFits, misfit, fitThen, firmReturned, firmRows, firmGroup, filledRow, filledRows, rowDecision, isDeny, isUndecided, anyRow, group}
-use Rattle.staff.specs.Promise.{Quoted}
+use Rattle.staff.specs.Firm.{Row, textFits, askFits, misfit, fitThen, firmReturned, firmRows, firmGroup, filledRows, rowDecision, isDeny, isUndecided, anyRow, group}
 use Rattle.firm.specs.declared.Row as R
 use Rattle.firm.specs.declared.Quote as Q
-use Rattle.firm.specs.Parts.{codeOf, decisionIn, joined, asks, askedIn, filled, filledAll, textIn, askIn, refusal, Opened, Begins, checkOf, Singles, joinOf, rowIn, rowsIn}
+use Rattle.firm.specs.Parts.{codeOf, decisionIn, joined, asks, askedIn, filled, filledAll, textIn, askIn, refusal, Opened, Begins, checkOf, Singles, joinOf, rowsIn}
 use Rattle.firm.specs.Promise.{Quotes}
 
 -- ---- what the words say of a row's texts is what the sheet says

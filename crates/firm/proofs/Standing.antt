@@ -1,7 +1,7 @@
 -- Words laid for a row hold the rows of the sheet, those of principal and resource with the row's texts. Assumes nothing.
 use mathlib.Core.Path.{_≡_, refl, sym, ap, _∙_, subst}
 use mathlib.Core.List.{List, [], _∷_}
-use Prim.Native.Nat.{ℕ, zero, suc, _+_, _-_, _≤_, _<_}
+use Prim.Native.Nat.{ℕ, suc, _+_, _-_, _≤_, _<_}
 use native.Mathlib.Omega.{arith}
 use native.Mathlib.Decide.{ℕ-discrete, decLe, decLt}
 use lib.ListN.{length, getD}
@@ -12,7 +12,7 @@ use Rattle.forms.proofs.Keys.{regions-rise, regions-low, regions-high}
 use Rattle.sheet.specs.Forms.{PRINCIPAL, RESOURCE, DAY}
 use Rattle.table.specs.Layout.{TOP, heap, base, rowAt, rowsOf, limits, limit, Last, Sound}
 use Rattle.table.proofs.Rows.{count-rows, row-some}
-use Rattle.firm.specs.Laid.{LINE, AHEAD, moved, lineWith, Stands, Others, Laid}
+use Rattle.firm.specs.Laid.{AHEAD, moved, Stands, Others, Laid}
 use Rattle.firm.proofs.Copying.{moved-far, moved-near}
 
 part-none : (w : List ℕ) (i j : ℕ) → j ≤ i → part w i j ≡ []
@@ -20,11 +20,11 @@ part-none w i j h = let z : j - i ≡ 0 = omega arith in rw z
 
 -- ---- no word of another key says where the rows of principal and resource are
 
-one-principal : limit PRINCIPAL ≡ 1
+pub one-principal : limit PRINCIPAL ≡ 1
 unfolding limit limits
 one-principal = refl
 
-one-resource : limit RESOURCE ≡ 1
+pub one-resource : limit RESOURCE ≡ 1
 unfolding limit limits
 one-resource = refl
 

@@ -8,7 +8,6 @@ use native.Mathlib.Omega.{arith}
 use borrow.Author.Tests.{eqb-true}
 use lib.Dec.{eqb}
 use lib.ListN.{length, getD, set}
-use Rattle.cedar.proofs.Tools.{no-true}
 use Rattle.sheet.specs.Forms.{Mode, forms, formOf, counted, itemsFrom, tag, keyOf, rowOf, noTag, at, mark, PRINCIPAL, RESOURCE}
 use Rattle.sheet.specs.State.{State}
 use Rattle.sheet.proofs.Lines.{Was}

@@ -1,6 +1,6 @@
 -- What the parts of the call leave. A name with a prime is what is left.
 use mathlib.Core.Path.{_≡_}
-use mathlib.Core.Bool.{Bool, true, false, cond, _&&_, _||_}
+use mathlib.Core.Bool.{Bool, true, cond, _&&_, _||_}
 use mathlib.Core.List.{List, [], _∷_}
 use Prim.Native.Nat.{ℕ, _≤_}
 use lib.Dec.{ltb, eqb}
@@ -9,7 +9,7 @@ use Rattle.cedar.specs.Response.{Decision, allow, deny, undecided}
 use Rattle.sheet.specs.Forms.{partial, at, mark, TEXT, PRINCIPAL, RESOURCE}
 use Rattle.sheet.specs.Sheet.{read}
 use Rattle.sheet.specs.Call.{Returned, returns, lentThen, shortThen, refusedThen, readThen, worked, Accepted}
-use Rattle.words.specs.Log.{part, room, cleared}
+use Rattle.words.specs.Log.{part, room}
 use Rattle.table.specs.Layout.{rowsOf}
 use Rattle.response.specs.Runs.{Holding}
 use Rattle.response.specs.Verdicts.{decisionOf}
