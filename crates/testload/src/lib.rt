@@ -19,6 +19,17 @@ const STEP: u64 = 11400714819323198485;
 // A draw is the state divided by this, then its rest by the number of choices.
 const LOWER: u64 = 4294967296;
 
+// The choices of an effect, the first of which is permit, and those of a tree: literal true, literal false, `like`.
+const EFFECTS: u64 = 2;
+
+const PERMIT: u64 = 0;
+
+const TREES: u64 = 3;
+
+const LITERAL_TRUE: u64 = 0;
+
+const LITERAL_FALSE: u64 = 1;
+
 // The text numbers of the ids: five texts of the head come before them.
 const FIRST_ID: u64 = 5;
 
@@ -46,8 +57,8 @@ fn drawn(state: u64) -> Policy
     let first = next(state);
     let second = next(first);
     Policy {
-        effect: first / LOWER % 2,
-        tree: second / LOWER % 3,
+        effect: first / LOWER % EFFECTS,
+        tree: second / LOWER % TREES,
         state: second,
     }
 }
@@ -57,8 +68,8 @@ fn nodes_in(tree: u64) -> u64
     ensures { λ r. ⌜ r ≡ nodesIn tree ⌝ }
 {
     match tree {
-        0 => 1,
-        1 => 1,
+        LITERAL_TRUE => 1,
+        LITERAL_FALSE => 1,
         _ => 3,
     }
 }
@@ -105,8 +116,8 @@ fn tree_lines(out: &mut [u8], at: usize, node: u64, tree: u64) -> usize
     ensures { λ r. ⌜ Written (now (out .entry)) at (concat (treeLines node tree)) (now (out .exit)) r ⌝ }
 {
     match tree {
-        0 => bytes(out, at, b"node=0,lit,1\n"),
-        1 => bytes(out, at, b"node=0,lit,0\n"),
+        LITERAL_TRUE => bytes(out, at, b"node=0,lit,1\n"),
+        LITERAL_FALSE => bytes(out, at, b"node=0,lit,0\n"),
         _ => like_lines(out, at, node),
     }
 }
@@ -135,7 +146,7 @@ fn effect_word(out: &mut [u8], at: usize, effect: u64) -> usize
     ensures { λ r. ⌜ Written (now (out .entry)) at ((44 ∷ effectAs effect) ++ (44 ∷ [])) (now (out .exit)) r ⌝ }
 {
     match effect {
-        0 => bytes(out, at, b",permit,"),
+        PERMIT => bytes(out, at, b",permit,"),
         _ => bytes(out, at, b",forbid,"),
     }
 }

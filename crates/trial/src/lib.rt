@@ -175,7 +175,8 @@ fn came_back(lent: &[u8], kept: bool) {
     }
 }
 
-// A line with what a call returned, and whether what was lent came back as promised; then the answer.
+// A line with what a call returned, and whether what was lent came back as promised; then the answer. It only writes, and no contract can speak of
+// what C's write moves; what is written is held to the file `stdout` of the program that calls it.
 pub fn report(r: Returned, a: &[u32], b: &[u32], out: &[u8]) {
     let n = written(r.number == 0, r.length);
     show(b": ", r.number as u64);
