@@ -15,7 +15,7 @@ use Rattle.cedar.specs.Numbered.{memN, anyN}
 use Rattle.sheet.specs.Forms.{at, mark}
 use Rattle.sheet.specs.Parents.{Reaches, parent, beyond, parentsIn, parents, ancestors, isOpen, anyOpen, unknownAbove}
 use Rattle.sheet.proofs.Reaching.{parents-are, closed-above, are-reached, reached-are}
-use Rattle.reach.specs.Marks.{FAR, placeOf, Self, Reached, Found, anyMarked, namesAt, unknownAt, isMet, anyMet, markedAt}
+use Rattle.reach.specs.Marks.{HIDDEN, FAR, placeOf, Self, Reached, Found, anyMarked, namesAt, unknownAt, isMet, anyMet, markedAt}
 use Rattle.reach.proofs.Marking.{place-most, parents-at, with-parents, line-there, line-not}
 
 -- ---- one of some places
@@ -93,12 +93,12 @@ module _ (U E : List (List ℕ)) (v : ℕ) (m : List ℕ) (h : Reached U E v m) 
   is-unlisted : (x : ℕ) → length E ≤ placeOf x E → isOpen U E x ≡ true
   is-unlisted x l = ap (λ o. onSome true o (λ r. eqb (at r 3) mark)) (line-not x E l)
 
-  pub open-is : (not (eqb (getD m (length E) 0) 0) || anyMarked (unknownAt E) m 0 (length E)) ≡ unknownAbove U E v
+  pub open-is : (not (eqb (getD m HIDDEN 0) 0) || not (eqb (getD m (length E) 0) 0)) ≡ unknownAbove U E v
   unfolding unknownAt unknownAbove
-  open-is = iff (not (eqb (getD m (length E) 0) 0) || anyMarked (unknownAt E) m 0 (length E)) (isOpen U E v || anyOpen U E (ancestors U E v))
-      (λ e. either (not (eqb (getD m (length E) 0) 0)) (anyMarked (unknownAt E) m 0 (length E)) e
-      (λ z. let (x, p, s) = h .only (length E) (omega arith) (not-zero (getD m (length E) 0) z) in self x s (is-unlisted x (omega (arith, p))))
-      (λ z. marked-out (unknownAt E) m 0 (length E) z (λ k a b c d. let (x, p, s) = h .only k (omega (arith, b)) c in self x s (is-open x (omega (arith, p, b)) ∙ ap (λ n. eqb (at (getD E n []) 3) mark) p ∙ d))))
+  open-is = iff (not (eqb (getD m HIDDEN 0) 0) || not (eqb (getD m (length E) 0) 0)) (isOpen U E v || anyOpen U E (ancestors U E v))
+      (λ e. either (not (eqb (getD m HIDDEN 0) 0)) (not (eqb (getD m (length E) 0) 0)) e
+      (λ z. let (k, b, c, d) = h .hidden (not-zero (getD m HIDDEN 0) z) in let (x, p, s) = h .only k (omega (arith, b)) c in self x s (is-open x (omega (arith, p, b)) ∙ ap (λ n. eqb (at (getD E n []) 3) mark) p ∙ d))
+      (λ z. let (x, p, s) = h .only (length E) (omega arith) (not-zero (getD m (length E) 0) z) in self x s (is-unlisted x (omega (arith, p)))))
       (λ e. either (isOpen U E v) (anyOpen U E (ancestors U E v)) e
       (λ z. opens v (inl refl) z (ltb (placeOf v E) (length E)) refl)
       (λ z. open-out U E (ancestors U E v) z (λ y i j. opens y (inr i) j (ltb (placeOf y E) (length E)) refl)))
@@ -107,10 +107,10 @@ module _ (U E : List (List ℕ)) (v : ℕ) (m : List ℕ) (h : Reached U E v m) 
       self x (inl e) o = or-left (isOpen U E v) (anyOpen U E (ancestors U E v)) (subst (λ z. isOpen U E z ≡ true) e o)
       self x (inr i) o = or-right (isOpen U E v) (anyOpen U E (ancestors U E v)) (open-in U E (ancestors U E v) x i o)
 
-      opens : (x : ℕ) → Self U E v x → isOpen U E x ≡ true → (b : Bool) → ltb (placeOf x E) (length E) ≡ b → (not (eqb (getD m (length E) 0) 0) || anyMarked (unknownAt E) m 0 (length E)) ≡ true
-      opens x s o true q = let l = ltb-true (placeOf x E) (length E) q in or-right (not (eqb (getD m (length E) 0) 0)) (anyMarked (unknownAt E) m 0 (length E)) (marked-in (unknownAt E) m 0 (length E) (placeOf x E) (omega arith) (omega (arith, l)) (h .all x s) (sym (is-open x l) ∙ o))
+      opens : (x : ℕ) → Self U E v x → isOpen U E x ≡ true → (b : Bool) → ltb (placeOf x E) (length E) ≡ b → (not (eqb (getD m HIDDEN 0) 0) || not (eqb (getD m (length E) 0) 0)) ≡ true
+      opens x s o true q = let l = ltb-true (placeOf x E) (length E) q in or-left (not (eqb (getD m HIDDEN 0) 0)) (not (eqb (getD m (length E) 0) 0)) (nonzero (getD m HIDDEN 0) (h .shown (placeOf x E) l (h .all x s) (sym (is-open x l) ∙ o)))
       opens x s o false q = let a = place-most x E in let b = ltb-false (placeOf x E) (length E) q in let e : placeOf x E ≡ length E = omega (arith, a, b) in
-          or-left (not (eqb (getD m (length E) 0) 0)) (anyMarked (unknownAt E) m 0 (length E)) (nonzero (getD m (length E) 0) (subst (λ k. 1 ≤ getD m k 0) e (h .all x s)))
+          or-right (not (eqb (getD m HIDDEN 0) 0)) (not (eqb (getD m (length E) 0) 0)) (nonzero (getD m (length E) 0) (subst (λ k. 1 ≤ getD m k 0) e (h .all x s)))
 
 -- ---- WHAT WAS MET ARE THE ANCESTORS
 

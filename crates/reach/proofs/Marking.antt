@@ -13,11 +13,11 @@ use lib.Seq.{getD-set-same}
 use Rattle.cedar.proofs.Tools.{no-true, or-left, or-right, either}
 use Rattle.cedar.specs.Value.{onSome}
 use Rattle.cedar.specs.Numbered.{memN}
-use Rattle.sheet.specs.Forms.{at}
+use Rattle.sheet.specs.Forms.{at, mark}
 use Rattle.sheet.specs.Parents.{lineFor, parentsIn, parents, ancestors}
 use Rattle.sheet.proofs.Reaching.{parents-are, closed-above, all-above}
 use Rattle.sheet.proofs.Lines.{set-cases}
-use Rattle.reach.specs.Marks.{FAR, placeOf, left, Queue, Grown, Noted, Taken, Spot, Skipped, Seen, Spread, Expanded, Self, Found}
+use Rattle.reach.specs.Marks.{HIDDEN, FAR, placeOf, left, named, Queue, Grown, Noted, Opened, Taken, Spot, Skipped, Seen, Spread, Expanded, Self, unknownAt, Found}
 
 -- ---- the place of a line
 
@@ -123,7 +123,7 @@ queue-beside E m q t k c h = record {
 
 -- by nothing
 pub grown-old : (E : List (List ℕ)) (v : ℕ) (m q : List ℕ) (t : ℕ) → Queue E m q t → 1 ≤ getD m (placeOf v E) 0 → Grown E v m q t m q t
-grown-old E v m q t c f = record { queue = c; long = refl; longq = refl; more = omega arith; same = λ j h. refl; kept = λ k h. h; full = f; only = λ k h a. inl a }
+grown-old E v m q t c f = record { queue = c; long = refl; longq = refl; more = omega arith; same = λ j h. refl; kept = λ k h. h; full = f; only = λ k h a. inl a; hidden = λ a. a }
 
 -- there is room
 pub room-left : (E : List (List ℕ)) (m q : List ℕ) (t k : ℕ) → Queue E m q t → k < length E → getD m k 0 ≡ 0 → t < length E
@@ -139,9 +139,12 @@ module _ (E : List (List ℕ)) (v : ℕ) (m q : List ℕ) (t : ℕ) (c : Queue E
   mine-only : (i : ℕ) → 1 ≤ getD (set m k 1) i 0 → (1 ≤ getD m i 0) ⊎ (placeOf v E ≡ i)
   mine-only i a = set-cases m k i 1 0 (λ w. inl (omega (arith, a, w))) (λ w x. inr (sym e ∙ sym w))
 
+  mine-hidden : 1 ≤ getD (set m k 1) HIDDEN 0 → 1 ≤ getD m HIDDEN 0
+  mine-hidden a = set-cases m k HIDDEN 1 0 (λ w. omega (arith, a, w)) (λ w x. let b = place-most v E in let d = c .lines in absurd (omega (arith, w, e, b, d)))
+
   -- by one that is not listed
   pub grown-beside : length E ≤ k → Grown E v m q t (set m k 1) q t
-  grown-beside h = record { queue = queue-beside E m q t k c h; long = length-set m k 1; longq = refl; more = omega arith; same = λ j l. refl; kept = λ i a. set-stays m k i a; full = subst (λ i. 1 ≤ getD (set m k 1) i 0) e mine; only = λ i l a. mine-only i a }
+  grown-beside h = record { queue = queue-beside E m q t k c h; long = length-set m k 1; longq = refl; more = omega arith; same = λ j l. refl; kept = λ i a. set-stays m k i a; full = subst (λ i. 1 ≤ getD (set m k 1) i 0) e mine; only = λ i l a. mine-only i a; hidden = mine-hidden }
 
   -- by one line
   module _ (h : k < length E) (z : getD m k 0 ≡ 0) where
@@ -173,6 +176,7 @@ module _ (E : List (List ℕ)) (v : ℕ) (m q : List ℕ) (t : ℕ) (c : Queue E
       kept = λ i a. set-stays m k i a;
       full = subst (λ i. 1 ≤ getD (set m k 1) i 0) e mine;
       only = λ i l a. mine-only i a;
+      hidden = mine-hidden;
     }
       where
         last : (j : ℕ) → j < t + 1 → (b : Bool) → eqb j t ≡ b → (getD (set q t k) j 0 < length E) × (1 ≤ getD (set m k 1) (getD (set q t k) j 0) 0)
@@ -197,7 +201,7 @@ taken-on E w m w′ m′ y e f g (a, b, c) = (f (placeOf y E) a, (λ h. g y (b (
 
 -- by nothing
 pub seen-none : (E : List (List ℕ)) (l : List ℕ) (n : ℕ) (w m q : List ℕ) (t : ℕ) → Queue E m q t → Spot E w m → ((i : ℕ) → i < n → Taken E w m (getD l i 0)) → Seen E l n w m q t w m q t
-seen-none E l n w m q t c d f = record { queue = c; spot = d; longw = refl; long = refl; longq = refl; more = omega arith; same = λ j h. refl; kept = λ k h. h; keptw = λ y h. h; full = f; only = λ k h a. inl a; onlyw = λ y a. inl a }
+seen-none E l n w m q t c d f = record { queue = c; spot = d; longw = refl; long = refl; longq = refl; more = omega arith; same = λ j h. refl; kept = λ k h. h; keptw = λ y h. h; full = f; only = λ k h a. inl a; onlyw = λ y a. inl a; hidden = λ a. a }
 
 pub seen-old : (E : List (List ℕ)) (v : ℕ) (w m q : List ℕ) (t : ℕ) → Queue E m q t → Spot E w m → 1 ≤ getD w v 0 → Seen E (v ∷ []) 1 w m q t w m q t
 seen-old E v w m q t c d h = seen-none E (v ∷ []) 1 w m q t c d go
@@ -250,6 +254,7 @@ module _ (E : List (List ℕ)) (v : ℕ) (w m q : List ℕ) (t : ℕ) (c : Queue
       full = first;
       only = λ k h a. other k h (g .only k h a);
       onlyw = λ y a. mine-w y (onlys y a);
+      hidden = λ a. noted-back HIDDEN (omega arith) (g .hidden a);
     }
       where
         noted : (y : ℕ) → (1 ≤ getD w y 0) ⊎ (v ≡ y) → Taken E w′ m′ y
@@ -283,6 +288,7 @@ seen-more E l n w m q t w₁ m₁ q₁ t₁ w₂ m₂ q₂ t₂ a b = record {
   full = λ i h. each i h (eqb i n) refl;
   only = λ k h g. other k h (b .only k h g);
   onlyw = λ y g. otherw y (b .onlyw y g);
+  hidden = λ h. a .hidden (b .hidden h);
 }
   where
     each : (i : ℕ) → i < n + 1 → (x : Bool) → eqb i n ≡ x → Taken E w₂ m₂ (getD l i 0)
@@ -320,6 +326,7 @@ seen-skip E l n j w m q t w′ m′ q′ t′ a b = record {
   full = λ i h. each i h (ltb i n) refl;
   only = λ k h g. widen (λ y. placeOf y E) (1 ≤ getD m k 0) k (a .only k h g);
   onlyw = λ y g. widen (λ z. z) (1 ≤ getD w y 0) y (a .onlyw y g);
+  hidden = a .hidden;
 }
   where
     each : (i : ℕ) → i < j → (x : Bool) → ltb i n ≡ x → Taken E w′ m′ (getD l i 0)
@@ -329,6 +336,31 @@ seen-skip E l n j w m q t w′ m′ q′ t′ a b = record {
     widen : (f : ℕ → ℕ) (X : Type 0) (k : ℕ) → X ⊎ ((i : ℕ) × (i < n) × (f (getD l i 0) ≡ k)) → X ⊎ ((i : ℕ) × (i < j) × (f (getD l i 0) ≡ k))
     widen f X k (inl x) = inl x
     widen f X k (inr (i, h, e)) = inr (i, let z = b .more in omega (arith, h, z), e)
+
+-- ---- unknown parents are marked
+
+opened-cases : {X : Type 0} (x : ℕ) (m m₁ : List ℕ) → Opened x m m₁ → (m₁ ≡ m → X) → (x ≡ mark → m₁ ≡ set m HIDDEN 1 → X) → X
+opened-cases {X} x m m₁ o f g = go (eqb x mark) refl
+  where
+    go : (b : Bool) → eqb x mark ≡ b → X
+    go true e = g (eqb-true x mark e) (o .unknown (eqb-true x mark e))
+    go false e = f (o .known (eqb-false x mark e))
+
+module _ (x : ℕ) (m m₁ : List ℕ) (o : Opened x m m₁) where
+  pub opened-kept : (k : ℕ) → 1 ≤ getD m k 0 → 1 ≤ getD m₁ k 0
+  opened-kept k a = opened-cases x m m₁ o (λ e. subst (λ u. 1 ≤ getD u k 0) (sym e) a) (λ z e. subst (λ u. 1 ≤ getD u k 0) (sym e) (set-stays m HIDDEN k a))
+
+  opened-back : (k : ℕ) → k < HIDDEN → 1 ≤ getD m₁ k 0 → 1 ≤ getD m k 0
+  opened-back k h a = opened-cases x m m₁ o (λ e. subst (λ u. 1 ≤ getD u k 0) e a) (λ z e. let b : 1 ≤ getD (set m HIDDEN 1) k 0 = subst (λ u. 1 ≤ getD u k 0) e a in set-cases m HIDDEN k 1 0 (λ y. omega (arith, b, y)) (λ y w. absurd (omega (arith, y, h))))
+
+  pub opened-long : length m₁ ≡ length m
+  opened-long = opened-cases x m m₁ o (λ e. ap length e) (λ z e. ap length e ∙ length-set m HIDDEN 1)
+
+  opened-queue : (E : List (List ℕ)) (q : List ℕ) (t : ℕ) → Queue E m q t → Queue E m₁ q t
+  opened-queue E q t c = opened-cases x m m₁ o (λ e. subst (λ u. Queue E u q t) (sym e) c) (λ z e. subst (λ u. Queue E u q t) (sym e) (queue-beside E m q t HIDDEN c (let a = c .lines in omega (arith, a))))
+
+  opened-taken : (E : List (List ℕ)) (w : List ℕ) (y : ℕ) → Taken E w m y → Taken E w m₁ y
+  opened-taken E w y a = taken-on E w m w m₁ y refl opened-kept (λ z h. h) a
 
 -- ---- the search from v
 
@@ -342,6 +374,8 @@ pub record Marks (U E : List (List ℕ)) (v : ℕ) (s w m q : List ℕ) (t h : �
   pub onlyw : (y : ℕ) → 1 ≤ getD w y 0 → memN y (ancestors U E v) ≡ true
   pub own : 1 ≤ getD m (placeOf v E) 0
   pub done : (j : ℕ) → j < h → (i : ℕ) → i < length (parentsIn U E (getD E (getD q j 0) [])) → Taken E w m (getD (parentsIn U E (getD E (getD q j 0) [])) i 0)
+  pub hidden : 1 ≤ getD m HIDDEN 0 → (k : ℕ) × (k < length E) × (1 ≤ getD m k 0) × (unknownAt E k ≡ true)
+  pub shown : (j : ℕ) → j < h → unknownAt E (getD q j 0) ≡ true → 1 ≤ getD m HIDDEN 0
 
 module _ (U E : List (List ℕ)) (v : ℕ) where
   -- a parent of what is reached is reached
@@ -349,7 +383,34 @@ module _ (U E : List (List ℕ)) (v : ℕ) where
   up x y (inl e) i = parents-are U E v y (subst (λ z. memN y (parents U E z) ≡ true) e i)
   up x y (inr h) i = closed-above U E v x y h i
 
-  module _ (s w m q : List ℕ) (t h : ℕ) (c : Marks U E v s w m q t h) (lt : h < t) (k : ℕ) (ek : k ≡ getD q h 0) (s′ w′ m′ q′ : List ℕ) (t′ : ℕ) (g : Expanded U E k s w m q t s′ w′ m′ q′ t′) where
+  -- the next line is looked at
+  module _ (s w m q : List ℕ) (t h : ℕ) (c : Marks U E v s w m q t h) (lt : h < t) (k : ℕ) (ek : k ≡ getD q h 0) (x : ℕ) (ex : x ≡ at (getD E k []) 3) (m₁ : List ℕ) (o : Opened x m m₁) where
+    pub marks-open : Marks U E v s w m₁ q t h
+    unfolding unknownAt
+    marks-open = record {
+      queue = opened-queue x m m₁ o E q t (c .queue);
+      spot = record { is = λ y a. opened-taken x m m₁ o E w y (c .spot .is y a) };
+      spread = record { is = λ y a i b. opened-taken x m m₁ o E w (getD (named U y) i 0) (c .spread .is y a i b) };
+      near = c .near;
+      only = λ i a b. c .only i a (opened-back x m m₁ o i (let z = c .queue .lines in omega (arith, z, a)) b);
+      onlyw = c .onlyw;
+      own = opened-kept x m m₁ o (placeOf v E) (c .own);
+      done = λ j a i b. opened-taken x m m₁ o E w (getD (parentsIn U E (getD E (getD q j 0) [])) i 0) (c .done j a i b);
+      hidden = λ a. opened-cases x m m₁ o
+          (λ e. let (i, l, b, z) = c .hidden (subst (λ u. 1 ≤ getD u HIDDEN 0) e a) in (i, l, opened-kept x m m₁ o i b, z))
+          (λ z e. let b = c .queue .back h lt in (k, let d = b .0 in omega (arith, d, ek), opened-kept x m m₁ o k (subst (λ i. 1 ≤ getD m i 0) (sym ek) (b .1)), eq-eqb (at (getD E k []) 3) mark (sym ex ∙ z)));
+      shown = λ j a e. opened-kept x m m₁ o HIDDEN (c .shown j a e);
+    }
+
+    pub marks-shown : unknownAt E k ≡ true → 1 ≤ getD m₁ HIDDEN 0
+    unfolding unknownAt
+    marks-shown e = let z = o .unknown (ex ∙ eqb-true (at (getD E k []) 3) mark e) in let a = getD-set-same m HIDDEN 1 0 (let b = c .queue .marks in omega (arith, b)) in subst (λ u. 1 ≤ getD u HIDDEN 0) (sym z) (omega (arith, a))
+
+  -- its parents are met
+  module _ (s w m q : List ℕ) (t h : ℕ) (c : Marks U E v s w m q t h) (lt : h < t) (k : ℕ) (ek : k ≡ getD q h 0) (x : ℕ) (ex : x ≡ at (getD E k []) 3) (sh : unknownAt E k ≡ true → 1 ≤ getD m HIDDEN 0) (s′ w′ m′ q′ : List ℕ) (t′ : ℕ) (g : Expanded U E x s w m q t s′ w′ m′ q′ t′) where
+    seen : Seen E (parentsIn U E (getD E k [])) (length (parentsIn U E (getD E k []))) w m q t w′ m′ q′ t′
+    seen = subst (λ (y : ℕ). Seen E (named U y) (length (named U y)) w m q t w′ m′ q′ t′) ex (g .seen)
+
     there : (k < length E) × (1 ≤ getD m k 0)
     there = let a = c .queue .back h lt in (let b = a .0 in omega (arith, b, ek), subst (λ i. 1 ≤ getD m i 0) (sym ek) (a .1))
 
@@ -371,27 +432,33 @@ module _ (U E : List (List ℕ)) (v : ℕ) where
 
     each : (j : ℕ) → j < h + 1 → (b : Bool) → eqb j h ≡ b → After (getD q′ j 0)
     unfolding After
-    each j a true e = let z = eqb-true j h e in subst After (ek ∙ sym (g .seen .same h lt) ∙ ap (λ i. getD q′ i 0) (sym z)) (g .seen .full)
-    each j a false e = let z = eqb-false j h e in let b : j < h = omega (arith, a, z) in subst After (sym (g .seen .same j (omega (arith, b, lt)))) (λ i x. taken-on E w m w′ m′ (getD (parentsIn U E (getD E (getD q j 0) [])) i 0) (g .seen .longw) (g .seen .kept) (g .seen .keptw) (c .done j b i x))
+    each j a true e = let z = eqb-true j h e in subst After (ek ∙ sym (seen .same h lt) ∙ ap (λ i. getD q′ i 0) (sym z)) (seen .full)
+    each j a false e = let z = eqb-false j h e in let b : j < h = omega (arith, a, z) in subst After (sym (seen .same j (omega (arith, b, lt)))) (λ i x. taken-on E w m w′ m′ (getD (parentsIn U E (getD E (getD q j 0) [])) i 0) (seen .longw) (seen .kept) (seen .keptw) (c .done j b i x))
+
+    before : (j : ℕ) → j < h + 1 → (b : Bool) → eqb j h ≡ b → unknownAt E (getD q′ j 0) ≡ true → 1 ≤ getD m HIDDEN 0
+    before j a true e f = let z = eqb-true j h e in sh (subst (λ i. unknownAt E i ≡ true) (sym (ek ∙ sym (seen .same h lt) ∙ ap (λ i. getD q′ i 0) (sym z))) f)
+    before j a false e f = let z = eqb-false j h e in let b : j < h = omega (arith, a, z) in c .shown j b (subst (λ i. unknownAt E i ≡ true) (seen .same j (omega (arith, b, lt))) f)
 
     pub marks-on : Marks U E v s′ w′ m′ q′ t′ (h + 1)
     unfolding After
     marks-on = record {
-      queue = g .seen .queue;
-      spot = g .seen .spot;
+      queue = seen .queue;
+      spot = seen .spot;
       spread = g .spread;
-      near = let a = g .seen .more in omega (arith, a, lt);
-      only = λ i a b. new-only i a (g .seen .only i a b);
-      onlyw = λ y b. new-onlyw y (g .seen .onlyw y b);
-      own = g .seen .kept (placeOf v E) (c .own);
+      near = let a = seen .more in omega (arith, a, lt);
+      only = λ i a b. new-only i a (seen .only i a b);
+      onlyw = λ y b. new-onlyw y (seen .onlyw y b);
+      own = seen .kept (placeOf v E) (c .own);
       done = λ j a. each j a (eqb j h) refl;
+      hidden = λ a. let (i, l, b, z) = c .hidden (seen .hidden a) in (i, l, seen .kept i b, z);
+      shown = λ j a e. seen .kept HIDDEN (before j a (eqb j h) refl e);
     }
 
   -- at the start: no mark but its own, and nothing is met
-  pub queue-start : (m q : List ℕ) → length E < FAR → FAR < length m → length E ≤ length q → ((k : ℕ) → k < length m → getD m k 0 ≡ 0) → Queue E m q 0
+  pub queue-start : (m q : List ℕ) → length E < HIDDEN → FAR < length m → length E ≤ length q → ((k : ℕ) → k < length m → getD m k 0 ≡ 0) → Queue E m q 0
   queue-start m q n a b f = record { lines = n; marks = a; room = b; few = let z = left-most (length E) m in omega (arith, z); queued = λ k h z. let w = f k (omega (arith, h, n, a)) in absurd (omega (arith, w, z)); back = λ j h. absurd (omega arith) }
 
-  pub marks-start : (s w m q m′ q′ : List ℕ) (t : ℕ) → length E < FAR → FAR < length m → ((k : ℕ) → k < length m → getD m k 0 ≡ 0) → ((x : ℕ) → getD s x 0 ≡ 0) → ((y : ℕ) → getD w y 0 ≡ 0) → Grown E v m q 0 m′ q′ t → Marks U E v s w m′ q′ t 0
+  pub marks-start : (s w m q m′ q′ : List ℕ) (t : ℕ) → length E < HIDDEN → FAR < length m → ((k : ℕ) → k < length m → getD m k 0 ≡ 0) → ((x : ℕ) → getD s x 0 ≡ 0) → ((y : ℕ) → getD w y 0 ≡ 0) → Grown E v m q 0 m′ q′ t → Marks U E v s w m′ q′ t 0
   marks-start s w m q m′ q′ t p a f n o g = record {
     queue = g .queue;
     spot = record { is = λ y h. let z = o y in absurd (omega (arith, z, h)) };
@@ -401,6 +468,8 @@ module _ (U E : List (List ℕ)) (v : ℕ) where
     onlyw = λ y h. let z = o y in absurd (omega (arith, z, h));
     own = g .full;
     done = λ j h. absurd (omega arith);
+    hidden = λ h. let z = f HIDDEN (omega (arith, a)) in let b = g .hidden h in absurd (omega (arith, z, b));
+    shown = λ j h. absurd (omega arith);
   }
     where
       mine-at : (k : ℕ) → k ≤ length E → (1 ≤ getD m k 0) ⊎ (placeOf v E ≡ k) → (x : ℕ) × (placeOf x E ≡ k) × Self U E v x
@@ -410,7 +479,7 @@ module _ (U E : List (List ℕ)) (v : ℕ) where
   -- at the end
   pub marks-end : (s w m q : List ℕ) (t h : ℕ) → Marks U E v s w m q t h → t ≤ h → Found U E v w m
   marks-end s w m q t h c e = record {
-    reached = record { only = c .only; all = λ x z. go x z };
+    reached = record { only = c .only; all = λ x z. go x z; hidden = c .hidden; shown = open-line };
     only = c .onlyw;
     all = λ y i. every y i .1;
     far = λ y i. every y i .2;
@@ -425,6 +494,9 @@ module _ (U E : List (List ℕ)) (v : ℕ) where
 
       every : (y : ℕ) → memN y (ancestors U E v) ≡ true → Taken E w m y
       every y i = all-above U E (Taken E w m) v (λ z j. step v z (c .own) j) (λ x z p j. step x z (p .0) j) y i
+
+      open-line : (k : ℕ) → k < length E → 1 ≤ getD m k 0 → unknownAt E k ≡ true → 1 ≤ getD m HIDDEN 0
+      open-line k l f z = let (j, a, b) = c .queue .queued k l f in c .shown j (omega (arith, a, e)) (subst (λ i. unknownAt E i ≡ true) (sym b) z)
 
       go : (x : ℕ) → Self U E v x → 1 ≤ getD m (placeOf x E) 0
       go x (inl e) = subst (λ z. 1 ≤ getD m (placeOf z E) 0) (sym e) (c .own)

@@ -17,11 +17,11 @@ use Rattle.sheet.specs.Bytes.{longAt}
 use Rattle.sheet.specs.Parents.{parentsIn}
 use Rattle.sheet.proofs.Lines.{set-cases}
 use Rattle.forms.specs.Tags.{SET-VALUE}
-use Rattle.table.specs.Layout.{rowsOf}
-use Rattle.table.proofs.Rows.{count-rows}
+use Rattle.table.specs.Layout.{base, part, rowsOf}
+use Rattle.table.proofs.Rows.{count-rows, row-at-is, row-some}
 use Rattle.value.proofs.Lists.{uncons, spent}
-use Rattle.reach.specs.Marks.{LINES, VALUES, FAR, lineRows, placeOf, named, Filled, Indexed, Queue, Grown, Noted, Taken, Spot, Skipped, Seen, Spread, Expanded, Found, markedAt, anyMarked, namesAt, unknownAt, isMet, anyMet}
-use Rattle.reach.proofs.Marking.{Marks, grown-old, grown-beside, grown-one, room-left, taken-on, seen-none, seen-old, seen-more, seen-skip, marks-on, marks-end, marks-start, queue-start}
+use Rattle.reach.specs.Marks.{LINES, VALUES, HIDDEN, FAR, lineRows, placeOf, named, Filled, Indexed, Listed, Queue, Grown, Noted, Opened, Taken, Spot, Skipped, Seen, Spread, Expanded, Found, markedAt, anyMarked, namesAt, isMet, anyMet}
+use Rattle.reach.proofs.Marking.{Marks, grown-old, grown-beside, grown-one, room-left, taken-on, seen-none, seen-old, seen-more, seen-skip, opened-long, marks-open, marks-shown, marks-on, marks-end, marks-start, queue-start}
 
 -- ---- lines, line_at
 
@@ -38,6 +38,15 @@ unfolding lineRows
 lines-most a = go LINES (rowsOf a ENTITY)
   where
     go : {A : Type 0} (n : ℕ) (l : List A) → length (take n l) ≤ n
+    go zero l = omega arith
+    go (suc n) [] = omega arith
+    go (suc n) (x ∷ l) = let z = go n l in omega (arith, z)
+
+lines-few : (a : List ℕ) → length (lineRows a) ≤ getD a ENTITY 0
+unfolding lineRows
+lines-few a = let z = count-rows a ENTITY in let y = go LINES (rowsOf a ENTITY) in omega (arith, z, y)
+  where
+    go : {A : Type 0} (n : ℕ) (l : List A) → length (take n l) ≤ length l
     go zero l = omega arith
     go (suc n) [] = omega arith
     go (suc n) (x ∷ l) = let z = go n l in omega (arith, z)
@@ -134,14 +143,49 @@ index-step a p₀ p j c r x er ex = record {
     go v h false e = let y : placeOf v (drop j (lineRows a)) ≡ suc (placeOf v (drop (j + 1) (lineRows a))) = front v ∙ ap (λ (b : Bool). cond b 0 (suc (placeOf v (drop (j + 1) (lineRows a))))) e in
         let z = c .is v h in let w = eqb-false x v e in set-cases p x v j 0 (λ q. omega (arith, y, z, q)) (λ q u. absurd (w (sym q)))
 
-pub index-byte : (a p₀ p : List ℕ) (i : ℕ) → Indexing a p₀ p i → 0 < i → i - 1 < 256
-index-byte a p₀ p i c h = let z = c .near in let y = lines-most a in omega (arith, z, y)
+-- from the last line to line i: each begins where word `base ENTITY` and its number says, and ends at e, where the next one begins
+pub record Walking (a p₀ u₀ p u : List ℕ) (b i e : ℕ) : Type 0 where
+  pub index : Indexing a p₀ p i
+  pub longu : length u ≡ length u₀
+  pub room : LINES ≤ length u
+  pub low : b ≡ base ENTITY
+  pub end : e ≡ getD a (b + i) 0
+  pub listed : (k : ℕ) → i ≤ k → k < length (lineRows a) → getD u k 0 ≡ at (getD (lineRows a) k []) 3
 
-pub index-on : (a p₀ p : List ℕ) (i : ℕ) → Indexing a p₀ p i → 0 < i → (r : List ℕ) (x : ℕ) (p′ : List ℕ) → r ≡ getD (lineRows a) (i - 1) [] → x ≡ getD r 1 0 → p′ ≡ set p x (i - 1) → Indexing a p₀ p′ (i - 1)
-index-on a p₀ p i c h r x p′ er ex ep = subst (λ (w : List ℕ). Indexing a p₀ w (i - 1)) (sym ep) (index-step a p₀ p (i - 1) (subst (Indexing a p₀ p) (let z : i ≡ i - 1 + 1 = omega (arith, h) in z) c) r x er ex)
+pub walk-start : (a p p′ u : List ℕ) (b n e : ℕ) → (n ≡ length (lineRows a)) × (n ≤ LINES) → Filled n p p′ → LINES ≤ length u → b ≡ base ENTITY → e ≡ getD a (b + n) 0 → Walking a p′ u p′ u b n e
+walk-start a p p′ u b n e en f h eb ee = record { index = index-start a p p′ n (en .0) f; longu = refl; room = h; low = eb; end = ee; listed = λ k l z. let y = en .0 in absurd (omega (arith, l, z, y)) }
 
-pub index-end : (a p₀ p : List ℕ) (i : ℕ) → Indexing a p₀ p i → i ≤ 0 → Indexed (lineRows a) p
-index-end a p₀ p i c h = record { is = λ v l. let z : i ≡ 0 = omega (arith, h) in let y : getD p v 0 ≡ 0 + placeOf v (lineRows a) = c .is v l ∙ ap (λ (j : ℕ). j + placeOf v (drop j (lineRows a))) z in omega (arith, y) }
+module _ (a p₀ u₀ p u : List ℕ) (b i e : ℕ) (c : Walking a p₀ u₀ p u b i e) (h : 0 < i) where
+  pub walk-byte : i - 1 < 256
+  walk-byte = let z = c .index .near in let y = lines-most a in omega (arith, z, y)
+
+  walk-line : (s : ℕ) (r : List ℕ) → s ≡ getD a (b + (i - 1)) 0 → r ≡ part a s e → r ≡ getD (lineRows a) (i - 1) []
+  walk-line s r es er = let z = c .index .near in let y = lines-few a in let x = lines-most a in
+      line-row a (i - 1) (length (lineRows a)) (refl, x) (omega (arith, z, h)) r
+      (row-some a ENTITY (i - 1) (getD a ENTITY 0) b r refl (omega (arith, z, y, h)) (c .low)
+      (row-at-is a (b + (i - 1)) s e r es (c .end ∙ ap (λ (j : ℕ). getD a j 0) (let w : b + i ≡ b + (i - 1) + 1 = omega (arith, h) in w)) er))
+
+  pub walk-on : (s : ℕ) (r : List ℕ) (x y : ℕ) (u′ p′ : List ℕ) → s ≡ getD a (b + (i - 1)) 0 → r ≡ part a s e → x ≡ getD r 4 0 → u′ ≡ set u (i - 1) x → y ≡ getD r 1 0 → p′ ≡ set p y (i - 1) → Walking a p₀ u₀ p′ u′ b (i - 1) s
+  walk-on s r x y u′ p′ es er ex eu ey ep = record {
+    index = subst (λ (w : List ℕ). Indexing a p₀ w (i - 1)) (sym ep) (index-step a p₀ p (i - 1) (subst (Indexing a p₀ p) (let z : i ≡ i - 1 + 1 = omega (arith, h) in z) (c .index)) r y (walk-line s r es er) ey);
+    longu = ap length eu ∙ length-set u (i - 1) x ∙ c .longu;
+    room = let z = ap length eu ∙ length-set u (i - 1) x in let w = c .room in omega (arith, z, w);
+    low = c .low;
+    end = es;
+    listed = λ k l z. subst (λ (w : List ℕ). getD w k 0 ≡ at (getD (lineRows a) k []) 3) (sym eu) (each k l z (eqb k (i - 1)) refl);
+  }
+    where
+      each : (k : ℕ) → i - 1 ≤ k → k < length (lineRows a) → (d : Bool) → eqb k (i - 1) ≡ d → getD (set u (i - 1) x) k 0 ≡ at (getD (lineRows a) k []) 3
+      each k l z true q = let j = eqb-true k (i - 1) q in let n = c .index .near in let w = lines-most a in let v = c .room in
+          subst (λ (j : ℕ). getD (set u (i - 1) x) j 0 ≡ at (getD (lineRows a) j []) 3) (sym j) (getD-set-same u (i - 1) x 0 (omega (arith, n, w, v, h)) ∙ ex ∙ ap (λ (q : List ℕ). getD q 4 0) (walk-line s r es er))
+      each k l z false q = let j = eqb-false k (i - 1) q in set-cases u (i - 1) k x 0 (λ w. w ∙ c .listed k (omega (arith, l, j, h)) z) (λ w v. absurd (j w))
+
+module _ (a p₀ u₀ p u : List ℕ) (b i e : ℕ) (c : Walking a p₀ u₀ p u b i e) (h : i ≤ 0) where
+  pub walk-indexed : Indexed (lineRows a) p
+  walk-indexed = record { is = λ v l. let z : i ≡ 0 = omega (arith, h) in let y : getD p v 0 ≡ 0 + placeOf v (lineRows a) = c .index .is v l ∙ ap (λ (j : ℕ). j + placeOf v (drop j (lineRows a))) z in omega (arith, y) }
+
+  pub walk-listed : Listed (lineRows a) u
+  walk-listed = record { is = λ k l. c .listed k (omega (arith, h)) l }
 
 pub place-in : (a p : List ℕ) (v : ℕ) → Indexed (lineRows a) p → v < length p → getD p v 0 ≡ placeOf v (lineRows a)
 place-in a p v c h = c .is v h
@@ -258,40 +302,46 @@ module _ (a p l w₀ m₀ q₀ : List ℕ) (t : ℕ) (w m q : List ℕ) (u j : �
   pub seeing-end : length l ≤ j → Seen (lineRows a) l (length l) w₀ m₀ q₀ t w m q u
   seeing-end h = subst (λ (n : ℕ). Seen (lineRows a) l n w₀ m₀ q₀ t w m q u) (let z = c .near in let x : j ≡ length l = omega (arith, z, h) in x) (c .seen)
 
-module _ (a : List ℕ) (i : ℕ) (s w m q : List ℕ) (t : ℕ) (c : Queue (lineRows a) m q t) (o : Spot (lineRows a) w m) (d : Spread (rowsOf a VALUE) (lineRows a) s w m) (r : List ℕ) (x : ℕ) (er : r ≡ getD (lineRows a) i []) (ex : x ≡ getD r 4 0) where
+pub hide-open : (x : ℕ) (m m′ : List ℕ) → x ≡ mark → m′ ≡ set m HIDDEN 1 → Opened x m m′
+hide-open x m m′ h e = record { known = λ n. absurd (n h); unknown = λ z. e }
+
+pub hide-known : (x : ℕ) (m : List ℕ) → (x ≡ mark → ⊥) → Opened x m m
+hide-known x m h = record { known = λ n. refl; unknown = λ z. absurd (h z) }
+
+module _ (a : List ℕ) (x : ℕ) (s w m q : List ℕ) (t : ℕ) (c : Queue (lineRows a) m q t) (o : Spot (lineRows a) w m) (d : Spread (rowsOf a VALUE) (lineRows a) s w m) (y : ℕ) (ey : y ≡ getD s x 0) where
   Full : List ℕ → List ℕ → List ℕ → Type 0
   Full w m l = (i : ℕ) → i < length l → Taken (lineRows a) w m (getD l i 0)
 
-  module _ (y : ℕ) (ey : y ≡ getD s x 0) where
-    pub expand-old : (y ≡ 0 → ⊥) → Expanded (rowsOf a VALUE) (lineRows a) i s w m q t s w m q t
-    unfolding Full
-    expand-old e = record {
-      long = refl;
-      seen = seen-none (lineRows a) (parentsIn (rowsOf a VALUE) (lineRows a) (getD (lineRows a) i [])) (length (parentsIn (rowsOf a VALUE) (lineRows a) (getD (lineRows a) i []))) w m q t c o (subst (Full w m) (on-it a i r x er ex) (d .is x (subst (λ (z : ℕ). 1 ≤ z) ey (not-none y e))));
-      spread = d;
-    }
+  pub expand-old : (y ≡ 0 → ⊥) → Expanded (rowsOf a VALUE) (lineRows a) x s w m q t s w m q t
+  expand-old e = record {
+    long = refl;
+    seen = seen-none (lineRows a) (named (rowsOf a VALUE) x) (length (named (rowsOf a VALUE) x)) w m q t c o (d .is x (subst (λ (z : ℕ). 1 ≤ z) ey (not-none y e)));
+    spread = d;
+  }
 
-    pub expand-new : (s′ l w′ m′ q′ : List ℕ) (t′ : ℕ) → s′ ≡ set s x 1 → l ≡ named (rowsOf a VALUE) x → Seen (lineRows a) l (length l) w m q t w′ m′ q′ t′ → Expanded (rowsOf a VALUE) (lineRows a) i s w m q t s′ w′ m′ q′ t′
-    unfolding Full
-    expand-new s′ l w′ m′ q′ t′ es el g = record {
-      long = ap length es ∙ length-set s x 1;
-      seen = subst (λ (k : List ℕ). Seen (lineRows a) k (length k) w m q t w′ m′ q′ t′) (parents-line a i r x er ex l el) g;
-      spread = subst (λ (u : List ℕ). Spread (rowsOf a VALUE) (lineRows a) u w′ m′) (sym es) (record {
-        is = λ z h. set-cases s x z 1 0
-            (λ e i′ b. taken-on (lineRows a) w m w′ m′ (getD (named (rowsOf a VALUE) z) i′ 0) (g .longw) (g .kept) (g .keptw) (d .is z (omega (arith, h, e)) i′ b))
-            (λ e u. subst (λ (n : ℕ). Full w′ m′ (named (rowsOf a VALUE) n)) (sym e) (subst (Full w′ m′) el (g .full)));
-      });
-    }
+  pub expand-new : (s′ l w′ m′ q′ : List ℕ) (t′ : ℕ) → s′ ≡ set s x 1 → l ≡ named (rowsOf a VALUE) x → Seen (lineRows a) l (length l) w m q t w′ m′ q′ t′ → Expanded (rowsOf a VALUE) (lineRows a) x s w m q t s′ w′ m′ q′ t′
+  unfolding Full
+  expand-new s′ l w′ m′ q′ t′ es el g = record {
+    long = ap length es ∙ length-set s x 1;
+    seen = subst (λ (k : List ℕ). Seen (lineRows a) k (length k) w m q t w′ m′ q′ t′) el g;
+    spread = subst (λ (u : List ℕ). Spread (rowsOf a VALUE) (lineRows a) u w′ m′) (sym es) (record {
+      is = λ z h. set-cases s x z 1 0
+          (λ e i′ b. taken-on (lineRows a) w m w′ m′ (getD (named (rowsOf a VALUE) z) i′ 0) (g .longw) (g .kept) (g .keptw) (d .is z (omega (arith, h, e)) i′ b))
+          (λ e u. subst (λ (n : ℕ). Full w′ m′ (named (rowsOf a VALUE) n)) (sym e) (subst (Full w′ m′) el (g .full)));
+    });
+  }
 
 -- ---- reach
 
-pub record Going (a : List ℕ) (v : ℕ) (p w₀ m₀ s w m q : List ℕ) (t h : ℕ) : Type 0 where
+pub record Going (a : List ℕ) (v : ℕ) (p u w₀ m₀ s w m q : List ℕ) (t h : ℕ) : Type 0 where
   pub longw : length w ≡ length w₀
   pub long : length m ≡ length m₀
   pub longp : length p ≡ VALUES
   pub longs : length s ≡ VALUES
+  pub longu : length u ≡ LINES
   pub longq : length q ≡ LINES
   pub indexed : Indexed (lineRows a) p
+  pub listed : Listed (lineRows a) u
   pub queue : Queue (lineRows a) m q t
   pub spot : Spot (lineRows a) w m
   pub spread : Spread (rowsOf a VALUE) (lineRows a) s w m
@@ -305,19 +355,26 @@ none-there s s′ c x = go (ltb x (length s′)) refl
     go false e = List·getD-eq-default s′ 0 (ltb-false x (length s′) e)
 
 module _ (a : List ℕ) (v : ℕ) where
-  few : length (lineRows a) < FAR
+  few : length (lineRows a) < HIDDEN
   few = let z = lines-most a in omega (arith, z)
 
   pub reach-queue : (m m₁ q : List ℕ) → FAR < length m → Filled 0 m m₁ → length q ≡ LINES → Queue (lineRows a) m₁ q 0
   reach-queue m m₁ q h c e = queue-start (rowsOf a VALUE) (lineRows a) v m₁ q few (let z = c .long in omega (arith, z, h)) (let z = lines-most a in omega (arith, z, e)) (c .is)
 
-  pub going-start : (m m₁ m₂ w w₁ p s s₁ q q₂ : List ℕ) (t : ℕ) → FAR < length m → Filled 0 m m₁ → Filled 0 w w₁ → length p ≡ VALUES → length s ≡ VALUES → length q ≡ LINES → Filled 0 s s₁ → Indexed (lineRows a) p → Grown (lineRows a) v m₁ q 0 m₂ q₂ t → Going a v p w₁ m₂ s₁ w₁ m₂ q₂ t 0
-  going-start m m₁ m₂ w w₁ p s s₁ q q₂ t h c cw np ns nq d i g = let x = marks-start (rowsOf a VALUE) (lineRows a) v s₁ w₁ m₁ q m₂ q₂ t few (let z = c .long in omega (arith, z, h)) (c .is) (none-there s s₁ d) (none-there w w₁ cw) g in
-      record { longw = refl; long = refl; longp = np; longs = d .long ∙ ns; longq = g .longq ∙ nq; indexed = i; queue = x .queue; spot = x .spot; spread = x .spread; marks = x }
+  pub going-start : (m m₁ m₂ w w₁ p u s s₁ q q₂ : List ℕ) (t : ℕ) → FAR < length m → Filled 0 m m₁ → Filled 0 w w₁ → length p ≡ VALUES → length u ≡ LINES → length s ≡ VALUES → length q ≡ LINES → Filled 0 s s₁ → Indexed (lineRows a) p × Listed (lineRows a) u → Grown (lineRows a) v m₁ q 0 m₂ q₂ t → Going a v p u w₁ m₂ s₁ w₁ m₂ q₂ t 0
+  going-start m m₁ m₂ w w₁ p u s s₁ q q₂ t h c cw np nu ns nq d i g = let x = marks-start (rowsOf a VALUE) (lineRows a) v s₁ w₁ m₁ q m₂ q₂ t few (let z = c .long in omega (arith, z, h)) (c .is) (none-there s s₁ d) (none-there w w₁ cw) g in
+      record { longw = refl; long = refl; longp = np; longu = nu; longs = d .long ∙ ns; longq = g .longq ∙ nq; indexed = i .0; listed = i .1; queue = x .queue; spot = x .spot; spread = x .spread; marks = x }
 
-  module _ (p w₀ m₀ s w m q : List ℕ) (t h : ℕ) (c : Going a v p w₀ m₀ s w m q t h) where
-    pub going-on : h < t → (k : ℕ) → k ≡ getD q h 0 → (s′ w′ m′ q′ : List ℕ) (t′ : ℕ) → Expanded (rowsOf a VALUE) (lineRows a) k s w m q t s′ w′ m′ q′ t′ → Going a v p w₀ m₀ s′ w′ m′ q′ t′ (h + 1)
-    going-on l k ek s′ w′ m′ q′ t′ g = record { longw = g .seen .longw ∙ c .longw; long = g .seen .long ∙ c .long; longp = c .longp; longs = g .long ∙ c .longs; longq = g .seen .longq ∙ c .longq; indexed = c .indexed; queue = g .seen .queue; spot = g .seen .spot; spread = g .spread; marks = marks-on (rowsOf a VALUE) (lineRows a) v s w m q t h (c .marks) l k ek s′ w′ m′ q′ t′ g }
+  module _ (p u w₀ m₀ s w m q : List ℕ) (t h : ℕ) (c : Going a v p u w₀ m₀ s w m q t h) where
+    module _ (l : h < t) (k : ℕ) (ek : k ≡ getD q h 0) (x : ℕ) (ex : x ≡ getD u k 0) (m₁ : List ℕ) (o : Opened x m m₁) where
+      last-item : x ≡ at (getD (lineRows a) k []) 3
+      last-item = ex ∙ c .listed .is k (let z = c .queue .back h l .0 in omega (arith, z, ek))
+
+      pub going-open : Marks (rowsOf a VALUE) (lineRows a) v s w m₁ q t h
+      going-open = marks-open (rowsOf a VALUE) (lineRows a) v s w m q t h (c .marks) l k ek x last-item m₁ o
+
+      pub going-on : (s′ w′ m′ q′ : List ℕ) (t′ : ℕ) → Expanded (rowsOf a VALUE) (lineRows a) x s w m₁ q t s′ w′ m′ q′ t′ → Going a v p u w₀ m₀ s′ w′ m′ q′ t′ (h + 1)
+      going-on s′ w′ m′ q′ t′ g = record { longw = g .seen .longw ∙ c .longw; long = g .seen .long ∙ opened-long x m m₁ o ∙ c .long; longp = c .longp; longu = c .longu; longs = g .long ∙ c .longs; longq = g .seen .longq ∙ c .longq; indexed = c .indexed; listed = c .listed; queue = g .seen .queue; spot = g .seen .spot; spread = g .spread; marks = marks-on (rowsOf a VALUE) (lineRows a) v s w m₁ q t h going-open l k ek x last-item (marks-shown (rowsOf a VALUE) (lineRows a) v s w m q t h (c .marks) l k ek x last-item m₁ o) s′ w′ m′ q′ t′ g }
 
     pub going-less : h < t → length (lineRows a) - (h + 1) < length (lineRows a) - h
     going-less l = let z = c .queue .few in omega (arith, z, l)
@@ -408,36 +465,14 @@ module _ (a w m l : List ℕ) where
     unfolding anyMet
     meeting-end h = sym (c .rest ∙ ap (anyMet (rowsOf a VALUE) (lineRows a) w m) (spent l j h))
 
--- ---- unknown_at, open_above
+-- ---- open_above
 
-pub unknown-some : (a m : List ℕ) (k x : ℕ) → x ≡ getD m k 0 → (x ≡ 0 → ⊥) → (r : List ℕ) (y : ℕ) → r ≡ getD (lineRows a) k [] → y ≡ getD r 4 0 → eqb y mark ≡ markedAt (unknownAt (lineRows a)) m k
-unfolding unknownAt
-unknown-some a m k x ex e r y er ey = mark-some (unknownAt (lineRows a)) m k x ex e (eqb y mark) (ap (λ (z : ℕ). eqb z mark) (ey ∙ ap (λ (q : List ℕ). getD q 4 0) er))
+module _ (a m : List ℕ) (x : ℕ) (ex : x ≡ getD m HIDDEN 0) where
+  pub open-hidden : (x ≡ 0 → ⊥) → true ≡ (not (eqb (getD m HIDDEN 0) 0) || not (eqb (getD m (length (lineRows a)) 0) 0))
+  open-hidden e = sym (ap (λ (y : ℕ). not (eqb y 0) || not (eqb (getD m (length (lineRows a)) 0) 0)) (sym ex) ∙ ap (λ (b : Bool). not b || not (eqb (getD m (length (lineRows a)) 0) 0)) (ne-eqb x 0 e))
 
-pub record Opening (a m : List ℕ) (n k : ℕ) : Type 0 where
-  pub none : getD m (length (lineRows a)) 0 ≡ 0
-  pub asking : Asking (unknownAt (lineRows a)) m (length (lineRows a)) n k
-
-module _ (a m : List ℕ) (n x : ℕ) (en : (n ≡ length (lineRows a)) × (n ≤ LINES)) (ex : x ≡ getD m n 0) where
-  pub open-met : (x ≡ 0 → ⊥) → true ≡ (not (eqb (getD m (length (lineRows a)) 0) 0) || anyMarked (unknownAt (lineRows a)) m 0 (length (lineRows a)))
-  open-met e = sym (ap (λ (y : ℕ). not (eqb y 0) || anyMarked (unknownAt (lineRows a)) m 0 (length (lineRows a))) (sym (ex ∙ ap (λ (i : ℕ). getD m i 0) (en .0))) ∙ ap (λ (b : Bool). not b || anyMarked (unknownAt (lineRows a)) m 0 (length (lineRows a))) (ne-eqb x 0 e))
-
-  pub open-start : x ≡ 0 → Opening a m n 0
-  open-start e = record { none = ap (λ (i : ℕ). getD m i 0) (sym (en .0)) ∙ sym ex ∙ e; asking = asking-start (unknownAt (lineRows a)) m (length (lineRows a)) n (en .0) }
-
-module _ (a m : List ℕ) (n k : ℕ) (c : Opening a m n k) where
-  open-by : (b : Bool) → b ≡ anyMarked (unknownAt (lineRows a)) m 0 (length (lineRows a)) → b ≡ (not (eqb (getD m (length (lineRows a)) 0) 0) || anyMarked (unknownAt (lineRows a)) m 0 (length (lineRows a)))
-  open-by b eb = eb ∙ sym (ap (λ (b : Bool). not b || anyMarked (unknownAt (lineRows a)) m 0 (length (lineRows a))) (eq-eqb (getD m (length (lineRows a)) 0) 0 (c .none)))
-
-  module _ (h : k < n) (b : Bool) (eb : b ≡ markedAt (unknownAt (lineRows a)) m k) where
-    pub open-yes : b ≡ true → true ≡ (not (eqb (getD m (length (lineRows a)) 0) 0) || anyMarked (unknownAt (lineRows a)) m 0 (length (lineRows a)))
-    open-yes e = open-by true (asked-yes (unknownAt (lineRows a)) m (length (lineRows a)) n k (c .asking) h b eb e)
-
-    pub open-no : b ≡ false → Opening a m n (k + 1)
-    open-no e = record { none = c .none; asking = asked-no (unknownAt (lineRows a)) m (length (lineRows a)) n k (c .asking) h b eb e }
-
-  pub open-end : n ≤ k → false ≡ (not (eqb (getD m (length (lineRows a)) 0) 0) || anyMarked (unknownAt (lineRows a)) m 0 (length (lineRows a)))
-  open-end h = open-by false (asked-end (unknownAt (lineRows a)) m (length (lineRows a)) n k (c .asking) h)
+  pub open-listed : x ≡ 0 → (n : ℕ) → (n ≡ length (lineRows a)) × (n ≤ LINES) → (y : ℕ) → y ≡ getD m n 0 → not (eqb y 0) ≡ (not (eqb (getD m HIDDEN 0) 0) || not (eqb (getD m (length (lineRows a)) 0) 0))
+  open-listed e n en y ey = ap (λ (z : ℕ). not (eqb z 0)) (ey ∙ ap (λ (i : ℕ). getD m i 0) (en .0)) ∙ sym (ap (λ (b : Bool). not b || not (eqb (getD m (length (lineRows a)) 0) 0)) (eq-eqb (getD m HIDDEN 0) 0 (sym ex ∙ e)))
 
 -- ---- none of these
 

@@ -19,9 +19,13 @@ LINES = 128
 abbrev pub VALUES : ℕ
 VALUES = 1024
 
--- marks: one for each line, then one for all entities that are not listed; here, for parents whose numbers are past the table of those met
+-- marks: one for each line, then one for all entities that are not listed; here, for lines whose parents are `?`; then for parents whose numbers are
+-- past the table of those met
+abbrev pub HIDDEN : ℕ
+HIDDEN = 129
+
 abbrev pub FAR : ℕ
-FAR = 129
+FAR = 130
 
 -- the entity lines that the words hold
 unfoldable pub lineRows : List ℕ → List (List ℕ)
@@ -45,6 +49,10 @@ pub record Filled (x : ℕ) (w w′ : List ℕ) : Type 0 where
 pub record Indexed (E : List (List ℕ)) (p : List ℕ) : Type 0 where
   pub is : (v : ℕ) → v < length p → getD p v 0 ≡ placeOf v E
 
+-- word k is the item of line k that names its parents
+pub record Listed (E : List (List ℕ)) (u : List ℕ) : Type 0 where
+  pub is : (k : ℕ) → k < length E → getD u k 0 ≡ at (getD E k []) 3
+
 -- how many of the first n lines are not marked
 unfoldable pub left : ℕ → List ℕ → ℕ
 left zero m = 0
@@ -52,7 +60,7 @@ left (suc n) m = (1 - getD m n 0) + left n m
 
 -- the first t words of q are the places of the marked lines
 pub record Queue (E : List (List ℕ)) (m q : List ℕ) (t : ℕ) : Type 0 where
-  pub lines : length E < FAR
+  pub lines : length E < HIDDEN
   pub marks : FAR < length m
   pub room : length E ≤ length q
   pub few : t + left (length E) m ≤ length E
@@ -69,11 +77,17 @@ pub record Grown (E : List (List ℕ)) (v : ℕ) (m q : List ℕ) (t : ℕ) (m�
   pub kept : (k : ℕ) → 1 ≤ getD m k 0 → 1 ≤ getD m′ k 0
   pub full : 1 ≤ getD m′ (placeOf v E) 0
   pub only : (k : ℕ) → k ≤ length E → 1 ≤ getD m′ k 0 → (1 ≤ getD m k 0) ⊎ (placeOf v E ≡ k)
+  pub hidden : 1 ≤ getD m′ HIDDEN 0 → 1 ≤ getD m HIDDEN 0
 
 -- where v is past a table of length n this is marked
 pub record Noted (n v : ℕ) (m m′ : List ℕ) : Type 0 where
   pub near : v < n → m′ ≡ m
   pub far : n ≤ v → m′ ≡ set m FAR 1
+
+-- where item x is `?` this is marked
+pub record Opened (x : ℕ) (m m′ : List ℕ) : Type 0 where
+  pub known : (x ≡ mark → ⊥) → m′ ≡ m
+  pub unknown : x ≡ mark → m′ ≡ set m HIDDEN 1
 
 -- parent y is met: its place is marked, and it is noted, by the table of those met or as past its end
 abbrev pub Taken : List (List ℕ) → List ℕ → List ℕ → ℕ → Type 0
@@ -103,25 +117,32 @@ pub record Seen (E : List (List ℕ)) (l : List ℕ) (n : ℕ) (w m q : List ℕ
   pub full : (i : ℕ) → i < n → Taken E w′ m′ (getD l i 0)
   pub only : (k : ℕ) → k ≤ length E → 1 ≤ getD m′ k 0 → (1 ≤ getD m k 0) ⊎ ((i : ℕ) × (i < n) × (placeOf (getD l i 0) E ≡ k))
   pub onlyw : (y : ℕ) → 1 ≤ getD w′ y 0 → (1 ≤ getD w y 0) ⊎ ((i : ℕ) × (i < n) × (getD l i 0 ≡ y))
+  pub hidden : 1 ≤ getD m′ HIDDEN 0 → 1 ≤ getD m HIDDEN 0
 
 -- of a set value x whose byte is not 0 the members are met
 pub record Spread (U E : List (List ℕ)) (s w m : List ℕ) : Type 0 where
   pub is : (x : ℕ) → 1 ≤ getD s x 0 → (i : ℕ) → i < length (named U x) → Taken E w m (getD (named U x) i 0)
 
--- the parents on line i are met too
-pub record Expanded (U E : List (List ℕ)) (i : ℕ) (s w m q : List ℕ) (t : ℕ) (s′ w′ m′ q′ : List ℕ) (t′ : ℕ) : Type 0 where
+-- the parents that item x names are met too
+pub record Expanded (U E : List (List ℕ)) (x : ℕ) (s w m q : List ℕ) (t : ℕ) (s′ w′ m′ q′ : List ℕ) (t′ : ℕ) : Type 0 where
   pub long : length s′ ≡ length s
-  pub seen : Seen E (parentsIn U E (getD E i [])) (length (parentsIn U E (getD E i []))) w m q t w′ m′ q′ t′
+  pub seen : Seen E (named U x) (length (named U x)) w m q t w′ m′ q′ t′
   pub spread : Spread U E s′ w′ m′
 
 -- v itself or one of its ancestors
 abbrev pub Self : List (List ℕ) → List (List ℕ) → ℕ → ℕ → Type 0
 Self U E v x = (x ≡ v) ⊎ (memN x (ancestors U E v) ≡ true)
 
--- the marks say which lines v reaches, its own among them, and whether one that is not listed
+-- the parents on line k are `?`
+unfoldable pub unknownAt : List (List ℕ) → ℕ → Bool
+unknownAt E k = eqb (at (getD E k []) 3) mark
+
+-- the marks say which lines v reaches, its own among them, whether one that is not listed, and whether the parents on one of the lines are `?`
 pub record Reached (U E : List (List ℕ)) (v : ℕ) (m : List ℕ) : Type 0 where
   pub only : (k : ℕ) → k ≤ length E → 1 ≤ getD m k 0 → (x : ℕ) × (placeOf x E ≡ k) × Self U E v x
   pub all : (x : ℕ) → Self U E v x → 1 ≤ getD m (placeOf x E) 0
+  pub hidden : 1 ≤ getD m HIDDEN 0 → (k : ℕ) × (k < length E) × (1 ≤ getD m k 0) × (unknownAt E k ≡ true)
+  pub shown : (k : ℕ) → k < length E → 1 ≤ getD m k 0 → unknownAt E k ≡ true → 1 ≤ getD m HIDDEN 0
 
 -- the table says which values are ancestors of v; of one past its end there is a mark
 pub record Found (U E : List (List ℕ)) (v : ℕ) (w m : List ℕ) : Type 0 where
@@ -144,10 +165,6 @@ anyMarked f m i (suc n) = markedAt f m i || anyMarked f m (suc i) n
 -- t is a parent on line k
 unfoldable pub namesAt : List (List ℕ) → List (List ℕ) → ℕ → ℕ → Bool
 namesAt U E t k = memN t (parentsIn U E (getD E k []))
-
--- the parents on line k are `?`
-unfoldable pub unknownAt : List (List ℕ) → ℕ → Bool
-unknownAt E k = eqb (at (getD E k []) 3) mark
 
 -- t was met
 unfoldable pub isMet : List (List ℕ) → List (List ℕ) → List ℕ → List ℕ → ℕ → Bool

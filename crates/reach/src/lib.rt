@@ -4,12 +4,14 @@ use forms::ENTITY;
 use forms::MARK;
 use forms::SET_VALUE;
 use forms::VALUE;
+use table::base_of;
 use table::count;
 use table::item;
 use table::row;
 use table::tag;
 use value::contains;
 use value::members;
+use words::cut;
 use words::put;
 use words::read;
 ghost use mathlib.Core.Path.{_≡_};
@@ -21,17 +23,20 @@ ghost use lib.ListN.{length, getD, set};
 ghost use Rattle.sheet.specs.Forms.{VALUE};
 ghost use Rattle.sheet.specs.Parents.{parentsIn};
 ghost use Rattle.table.specs.Layout.{rowsOf};
-ghost use Rattle.reach.specs.Marks.{LINES, VALUES, FAR, lineRows, placeOf, named, Filled, Indexed, Queue, Noted, Grown, Spot, Skipped, Seen, Spread, Expanded, Found, markedAt, anyMarked, namesAt, unknownAt, isMet, anyMet};
+ghost use Rattle.reach.specs.Marks.{LINES, VALUES, HIDDEN, FAR, lineRows, placeOf, named, Filled, Indexed, Listed, Queue, Noted, Opened, Grown, Spot, Skipped, Seen, Spread, Expanded, Found, markedAt, anyMarked, namesAt, isMet, anyMet};
 
 // The most entity lines, and the most values of a sheet: so many bytes has a table by value.
 pub const LINES: usize = 128;
 
 pub const VALUES: usize = 1024;
 
-// After the marks of the lines comes the one of all entities that are not listed, then, here, that of parents whose numbers a table does not have.
-pub const FAR: usize = 129;
+// After the marks of the lines comes the one of all entities that are not listed, then, here, that of lines whose parents are unknown, and that of
+// parents whose numbers a table does not have.
+pub const HIDDEN: usize = 129;
 
-pub const MARKS: usize = 130;
+pub const FAR: usize = 130;
+
+pub const MARKS: usize = 131;
 
 // How many entity lines there are, none past the most.
 pub fn lines(rows: &[u32]) -> u32
@@ -123,15 +128,23 @@ fn fill(words: &mut [u32], word: u32)
     }
 }
 
-// The byte of each entity becomes the place of its line: from the last line to the first, so that the first one stays.
-fn index(rows: &[u32], places: &mut [u8])
-    ensures { λ _. ⌜ Indexed (lineRows (now (rows .entry))) (now (places .exit)) ⌝ }
+// The byte of each entity becomes the place of its line: from the last line to the first, so that the first one stays. The word of each line
+// becomes its last item, the set of its parents. A line ends where the next one begins.
+fn index(rows: &[u32], places: &mut [u8], sets: &mut [u32])
+    requires { ⌜ LINES ≤ length (now sets) ⌝ }
+    ensures { λ _. ⌜ Indexed (lineRows (now (rows .entry))) (now (places .exit)) × Listed (lineRows (now (rows .entry))) (now (sets .exit)) ⌝ }
 {
     let mut i = lines(rows);
     fill_bytes(places, i as u8);
+    let b = base_of(ENTITY);
+    let mut end = read(rows, b + i as usize) as usize;
     while i > 0 {
         i -= 1;
-        put_byte(places, item(line_at(rows, i), 1) as usize, i as u8);
+        let start = read(rows, b + i as usize) as usize;
+        let line = cut(rows, start, end);
+        put(sets, i as usize, item(line, 4));
+        put_byte(places, item(line, 1) as usize, i as u8);
+        end = start;
     }
 }
 
@@ -278,11 +291,20 @@ fn see(
     e
 }
 
-// The parents of line `number` are met, once for each set of parents.
+// Parents that are unknown are marked as such.
+fn hide(marks: &mut [u32], parents: u32)
+    ensures { λ _. ⌜ Opened parents (now (marks .entry)) (now (marks .exit)) ⌝ }
+{
+    if parents == MARK {
+        put(marks, HIDDEN, 1);
+    }
+}
+
+// The parents that the last item of a line names are met, once for each set of parents.
 fn expand(
     rows: &[u32],
     places: &[u8],
-    number: u32,
+    parents: u32,
     asked: &mut [u8],
     met: &mut [u8],
     marks: &mut [u32],
@@ -293,9 +315,8 @@ fn expand(
     requires { ⌜ Queue (lineRows (now rows)) (now marks) (now queue) end ⌝ }
     requires { ⌜ Spot (lineRows (now rows)) (now met) (now marks) ⌝ }
     requires { ⌜ Spread (rowsOf (now rows) VALUE) (lineRows (now rows)) (now asked) (now met) (now marks) ⌝ }
-    ensures { λ e. ⌜ Expanded (rowsOf (now (rows .entry)) VALUE) (lineRows (now (rows .entry))) number (now (asked .entry)) (now (met .entry)) (now (marks .entry)) (now (queue .entry)) end (now (asked .exit)) (now (met .exit)) (now (marks .exit)) (now (queue .exit)) e ⌝ }
+    ensures { λ e. ⌜ Expanded (rowsOf (now (rows .entry)) VALUE) (lineRows (now (rows .entry))) parents (now (asked .entry)) (now (met .entry)) (now (marks .entry)) (now (queue .entry)) end (now (asked .exit)) (now (met .exit)) (now (marks .exit)) (now (queue .exit)) e ⌝ }
 {
-    let parents = item(line_at(rows, number), 4);
     let i = parents as usize;
     if byte(asked, i) != 0 {
         return end;
@@ -320,17 +341,20 @@ pub fn reach(rows: &[u32], value: u32, met: &mut [u8], marks: &mut [u32])
     fill(marks, 0);
     fill_bytes(met, 0);
     let mut places: [u8; VALUES] = [0; VALUES];
-    index(rows, &mut places[..]);
+    let mut sets: [u32; LINES] = [0; LINES];
+    index(rows, &mut places[..], &mut sets[..]);
     let mut asked: [u8; VALUES] = [0; VALUES];
     fill_bytes(&mut asked[..], 0);
     let mut queue: [u32; LINES] = [0; LINES];
     let mut end = see_at(rows, &places[..], value, marks, &mut queue[..], 0);
     let mut i = 0;
     while i < end {
+        let parents = read(&sets[..], read(&queue[..], i as usize) as usize);
+        hide(marks, parents);
         end = expand(
             rows,
             &places[..],
-            read(&queue[..], i as usize),
+            parents,
             &mut asked[..],
             met,
             marks,
@@ -396,30 +420,13 @@ pub fn meets_above(rows: &[u32], targets: &[u32], met: &[u8], marks: &[u32]) -> 
     false
 }
 
-// Whether line `number` is marked and the parents on it are unknown.
-fn unknown_at(rows: &[u32], marks: &[u32], number: u32) -> bool
-    ensures { λ r. ⌜ r ≡ markedAt (unknownAt (lineRows (now (rows .entry)))) (now (marks .entry)) number ⌝ }
-{
-    if read(marks, number as usize) == 0 {
-        return false;
-    }
-    item(line_at(rows, number), 4) == MARK
-}
-
 // Whether one that is not listed was met, or the parents on a marked line are unknown.
 pub fn open_above(rows: &[u32], marks: &[u32]) -> bool
-    ensures { λ r. ⌜ r ≡ (not (eqb (getD (now (marks .entry)) (length (lineRows (now (rows .entry)))) 0) 0) || anyMarked (unknownAt (lineRows (now (rows .entry)))) (now (marks .entry)) 0 (length (lineRows (now (rows .entry))))) ⌝ }
+    ensures { λ r. ⌜ r ≡ (not (eqb (getD (now (marks .entry)) HIDDEN 0) 0) || not (eqb (getD (now (marks .entry)) (length (lineRows (now (rows .entry)))) 0) 0)) ⌝ }
 {
-    let n = lines(rows);
-    if read(marks, n as usize) != 0 {
+    if read(marks, HIDDEN) != 0 {
         return true;
     }
-    let mut i = 0;
-    while i < n {
-        if unknown_at(rows, marks, i) {
-            return true;
-        }
-        i += 1;
-    }
-    false
+    let n = lines(rows);
+    read(marks, n as usize) != 0
 }

@@ -16,7 +16,7 @@ use Rattle.sheet.specs.Parents.{ancestors, unknownAbove}
 use Rattle.table.specs.Layout.{held, linesHeld, rowsOf}
 use Rattle.value.specs.declared.Entry.{Entry}
 use Rattle.value.specs.declared.Entry.the-variants.{At, Nothing}
-use Rattle.reach.specs.Marks.{LINES, lineRows, Found, anyMarked, anyMet, unknownAt}
+use Rattle.reach.specs.Marks.{LINES, HIDDEN, lineRows, Found, anyMet}
 use Rattle.reach.proofs.Asking.{meets-is, open-is}
 use Rattle.reach.proofs.Steps.{any-none}
 use Rattle.strict.specs.Gives.{outOf, values, modeOf, envIn}
@@ -52,7 +52,7 @@ module _ (c : Bool) (a : List ℕ) (v : ℕ) where
     pub unknown-complete : c ≡ true → Unknowns c a v marks false
     unknown-complete e = record { is = λ h. sym (ap (λ (b : Bool). not b && unknownAbove (rowsOf a VALUE) (lineRows a) v) e) }
 
-    pub unknown-open : c ≡ false → (r : Bool) → r ≡ (not (eqb (getD marks (length (lineRows a)) 0) 0) || anyMarked (unknownAt (lineRows a)) marks 0 (length (lineRows a))) → Unknowns c a v marks r
+    pub unknown-open : c ≡ false → (r : Bool) → r ≡ (not (eqb (getD marks HIDDEN 0) 0) || not (eqb (getD marks (length (lineRows a)) 0) 0)) → Unknowns c a v marks r
     unknown-open e r er = record { is = λ h. er ∙ open-is (rowsOf a VALUE) (lineRows a) v marks h ∙ sym (ap (λ (b : Bool). not b && unknownAbove (rowsOf a VALUE) (lineRows a) v) e) }
 
     module _ (met : List ℕ) (h : Found (rowsOf a VALUE) (lineRows a) v met marks) (u : Bool) (eu : Unknowns c a v marks u) (m : ℕ) (l : List ℕ) where

@@ -13,18 +13,13 @@ returns-2 c =
     let l = g .before .before .before .before in
     let p = l .before .before .before in
     let b = p .before .before .before in
-    let e = b .before .before in
-    let r = e .before in
-    let s = r .before .before .before .before .before .before .before in
-    expand-new _ _ _ _ _ _ _ (s .pre .1 .0) (s .pre .1 .1 .0) (s .pre .1 .1 .1) _ _ (r .line-at .ensures) (e .item .ensures) _ (b .byte .ensures) _ _ _ _ _ _ (p .put-byte .ensures) (l .parents-in .ensures) (g .see .ensures)
+    let s = b .before .before .before .before .before .before .before .before in
+    expand-new _ _ _ _ _ _ _ (s .pre .1 .0) (s .pre .1 .1 .0) (s .pre .1 .1 .1) _ (b .byte .ensures) _ _ _ _ _ _ (p .put-byte .ensures) (l .parents-in .ensures) (g .see .ensures)
 
 pub expand-spec : {M : Type 1} → statement M
 expand-spec =
     tie.close
     (tie.spec
-    (λ c κs. search needs)
-    (λ c κs. search needs)
-    (λ c. search needs)
     (λ c κs. search needs)
     (λ c. search needs)
     returns

@@ -2,39 +2,48 @@
 use Prim.Native.Nat.{_-_}
 use lib.ListN.{length}
 use Rattle.reach.specs.Marks.{lineRows}
-use Rattle.reach.proofs.Steps.{Going, going-end, going-less, going-on, going-start, reach-queue}
+use Rattle.reach.proofs.Steps.{Going, going-end, going-less, going-on, going-open, going-start, reach-queue}
 use borrow.Author.Needs.{needs}
 use Rattle.reach.proofs.reach.Statement.{statement}
 use Rattle.reach.proofs.reach.Tie as tie
 
 abbrev Inv-loop : tie.InvT-loop
-Inv-loop rows value met₀ marks₀ places asked₀ queue₀ end₀ i₀ met marks asked queue end i = Going rows value places met₀ marks₀ asked met marks queue end i
+Inv-loop rows value met₀ marks₀ places sets asked₀ queue₀ end₀ i₀ met marks asked queue end i = Going rows value places sets met₀ marks₀ asked met marks queue end i
 
 abbrev μ-loop : tie.MeasureT-loop
-μ-loop rows value met₀ marks₀ places asked₀ queue₀ end₀ i₀ met marks asked queue end i = length (lineRows rows) - i
+μ-loop rows value met₀ marks₀ places sets asked₀ queue₀ end₀ i₀ met marks asked queue end i = length (lineRows rows) - i
 
 see-at-requires : tie.Need-see-at-requires Inv-loop μ-loop
 see-at-requires c κs =
-    let x = c .before .before .before .before .before .before .before in
-    let f = x .before .before .before .before .before .before .before .before in
-    (x .index .ensures, reach-queue _ 0 _ _ _ (f .before .before .before .before .before .pre) (f .fill .ensures) (search needs))
+    let x = c .before .before .before .before .before .before .before .before in
+    let f = x .before .before .before .before .before .before .before .before .before in
+    (x .index .ensures .0, reach-queue _ 0 _ _ _ (f .before .before .before .before .before .pre) (f .fill .ensures) (search needs))
 
 loop-holds : tie.Need-loop-holds Inv-loop μ-loop
 loop-holds c =
     let s = c .before .before .before in
     let a = s .before .before .before .before .before in
-    let x = a .before .before .before in
-    let f = x .before .before .before .before .before .before .before .before in
-    going-start _ _ _ _ _ _ _ _ _ _ _ _ _ (f .before .before .before .before .before .pre) (f .fill .ensures) (x .before .before .before .before .fill-bytes .ensures) (search needs) (search needs) (search needs) (a .fill-bytes2 .ensures) (x .index .ensures) (s .see-at .ensures)
+    let x = a .before .before .before .before in
+    let f = x .before .before .before .before .before .before .before .before .before in
+    going-start _ _ _ _ _ _ _ _ _ _ _ _ _ _ (f .before .before .before .before .before .pre) (f .fill .ensures) (x .before .before .before .before .before .fill-bytes .ensures) (search needs) (search needs) (search needs) (search needs) (a .fill-bytes2 .ensures) (x .index .ensures) (s .see-at .ensures)
 
 expand-requires : tie.Need-expand-requires Inv-loop μ-loop
-expand-requires c κs = let w = c .before .before .before .before .before .before .before .before .loop .inv in (w .indexed, (w .queue, (w .spot, w .spread)))
+expand-requires c κs =
+    let h = c .before .before .before .before .before .before .before in
+    let k = h .before .before .before in
+    let w = k .before .before .before .before .loop .inv in
+    let m = going-open _ _ _ _ _ _ _ _ _ _ _ _ w (k .before .before .before .loop-test .taken) _ (k .read .ensures) _ (h .before .before .read2 .ensures) _ (h .hide .ensures) in
+    (w .indexed, (m .queue, (m .spot, m .spread)))
 
 loop-less : tie.Need-loop-less Inv-loop μ-loop
 loop-less c = search (going-less, needs)
 
 loop-again : tie.Need-loop-again Inv-loop μ-loop
-loop-again c = search (going-on, needs)
+loop-again c =
+    let e = c .before .before .before .before .before .before in
+    let h = e .before .before .before .before .before .before .before .before in
+    let k = h .before .before .before in
+    going-on _ _ _ _ _ _ _ _ _ _ _ _ (k .before .before .before .before .loop .inv) (k .before .before .before .loop-test .taken) _ (k .read .ensures) _ (h .before .before .read2 .ensures) _ (h .hide .ensures) _ _ _ _ _ (e .expand .ensures)
 
 returns : tie.Need-returns Inv-loop μ-loop
 returns c = search (going-end, needs)
@@ -48,6 +57,7 @@ reach-spec =
     (λ c κs. search needs)
     (λ c κs. search needs)
     (λ c. search needs)
+    (λ c. search needs)
     (λ c κs. search needs)
     (λ c. search needs)
     (λ c κs. search needs)
@@ -59,6 +69,10 @@ reach-spec =
     (λ c. search needs)
     (λ c. search needs)
     (λ c κs. search needs)
+    (λ c. search needs)
+    (λ c κs. search needs)
+    (λ c κs. search needs)
+    (λ c. search needs)
     (λ c. search needs)
     (λ c. search needs)
     expand-requires
