@@ -36,10 +36,10 @@ ghost use Rattle.firm.specs.Words.{wordsOfRow, rowFrom, QuotesWords};
 // ---- one row
 
 // The words of a sheet's rows.
-fn row_words() -> [u32; 16384]
+fn row_words() -> [u32; ROOM]
     ensures { λ r. ⌜ 16384 ≡ length r ⌝ }
 {
-    [0; 16384]
+    [0; ROOM]
 }
 
 // The words of the rows of principal and resource, tag, kind and text: of one, and of both. In a row's own words they stand before the others.
@@ -51,7 +51,7 @@ const AHEAD: usize = 6;
 fn moved(place: u32) -> u32
     ensures { λ r. ⌜ r ≡ moved place ⌝ }
 {
-    if place > 16384 {
+    if place > ROOM as u32 {
         return place;
     }
     place + AHEAD as u32

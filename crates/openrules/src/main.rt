@@ -25,6 +25,7 @@ use scan::front;
 use scan::rest;
 use scan::same_bytes;
 use testload::load;
+use words::ROOM;
 use words::store;
 ghost use mathlib.Core.Path.{_≡_};
 ghost use mathlib.Core.List.{[], _∷_, _++_};
@@ -76,10 +77,10 @@ fn refused(out: &mut [u8], n: u32, line: usize, length: usize) -> usize
 const SPACE: usize = 1048576;
 
 // The words of a work slice.
-fn words() -> [u32; 16384]
+fn words() -> [u32; ROOM]
     ensures { λ r. ⌜ 16384 ≡ length r ⌝ }
 {
-    [0; 16384]
+    [0; ROOM]
 }
 
 // What is printed for a sheet, at the start of the buffer, and its length.
@@ -189,12 +190,15 @@ fn quoted(rows: &mut [u32], sheet: &[u8], out: &mut [u8; SPACE]) -> usize
 
 // ---- a test load
 
+// The greatest number of 32 bits.
+const GREATEST: u32 = 4294967295;
+
 // A number as a call takes it: the greatest that it can be where it is greater. So many policies are refused alike, and no sheet has so many texts.
 fn at_most(n: u64) -> u32
     ensures { λ r. ⌜ r ≡ min n 4294967295 ⌝ }
 {
-    if n > 4294967295 {
-        return 4294967295;
+    if n > GREATEST as u64 {
+        return GREATEST;
     }
     n as u32
 }
