@@ -9,6 +9,7 @@ use std::hint::black_box;
 
 use crate::compare::Call;
 use crate::finish::Finish;
+use crate::firm::{self, Firm};
 use crate::generate;
 use crate::heavy;
 use crate::loads::{self, Load};
@@ -167,6 +168,41 @@ pub fn finish_bench(library: Call, finish: Finish, rounds: usize) {
             times.complete / count,
             times.finish / count,
             times.finish / (times.partial + times.complete)
+        );
+    }
+}
+
+/// The fourth table: a list of rows beside a call for each of them, on the sheet with its texts filled in.
+pub fn firm_bench(library: Call, call: Firm, rounds: usize) {
+    println!("\n| ordinary sheet, bytes | {} calls, ns | firm without rows, ns | with {} rows, ns | a row, ns | of the calls |", firm::ROWS, firm::ROWS);
+    println!("|---|---|---|---|---|---|");
+    let mut out = vec![0u8; ANSWER_BYTES];
+    let (mut a, mut b) = (vec![0u32; WORK_WORDS], vec![0u32; WORK_WORDS]);
+    for size in [1024, 4096, 8192, 16384] {
+        let sheet = heavy::ordinary(size);
+        let text = std::str::from_utf8(&sheet).expect("a sheet of the benchmark is text");
+        let mut rows = firm::fitting(text);
+        let copies: Vec<String> = rows.iter().map(|row| firm::filled(text, row)).collect();
+        for copy in &copies {
+            assert_eq!(library(Mode::Partial, copy.as_bytes(), &mut a, &mut b, &mut out)[0], 0, "a filled sheet is accepted");
+        }
+        assert_eq!(call(&mut rows, &sheet, &mut a, &mut b).0[0], 0, "the rows fit the sheet");
+        let calls = time(rounds, || {
+            for copy in &copies {
+                black_box(library(Mode::Partial, black_box(copy.as_bytes()), &mut a, &mut b, &mut out));
+            }
+        });
+        let none = time(rounds, || {
+            black_box(call(&mut [], black_box(&sheet), &mut a, &mut b));
+        });
+        let all = time(rounds, || {
+            black_box(call(&mut rows, black_box(&sheet), &mut a, &mut b));
+        });
+        println!(
+            "| {} | {calls:.0} | {none:.0} | {all:.0} | {:.0} | {:.2} |",
+            sheet.len(),
+            (all - none) / firm::ROWS as f64,
+            all / calls
         );
     }
 }

@@ -34,9 +34,10 @@ host show-preview SEED N               the N-th of these, and what it gives
 host loads N SEED                      the library's test loads of N seeds, with 1 to 64 policies, against the document's words
 host replay FILE                       writes the fixed list of sheets and answers
 host replay-check FILE                 runs a written list, with the library where it is linked
-host bench [ROUNDS]                    times, in three tables
+host bench [ROUNDS]                    times, in four tables
 host bench-loads ROUNDS                the row of test loads of the first
 host bench-finish ROUNDS               the third of them: finish beside its two sheets' own runs
+host bench-firm ROUNDS                 the fourth: firm with 64 rows beside a call for each row
 host heavy DIR                         writes the sheets of the benchmark
 host about                             what the host was built with";
 
@@ -203,6 +204,13 @@ pub fn run(args: &[&str]) -> ExitCode {
             }
             _ => not_linked(),
         },
+        ["bench-firm", rounds] => match (library(), library_firm()) {
+            (Some(call), Some(firm)) => {
+                bench::firm_bench(call, firm, number(rounds) as usize);
+                ExitCode::SUCCESS
+            }
+            _ => not_linked(),
+        },
         ["heavy", folder] => heavy_sheets(Path::new(folder)),
         ["about"] => {
             println!("the original text: {}", original::SOURCE);
@@ -272,6 +280,9 @@ fn benched(rounds: usize) -> ExitCode {
     bench::bench(library(), library_load(), rounds);
     if let (Some(call), Some(finish)) = (library(), library_finish()) {
         bench::finish_bench(call, finish, rounds);
+    }
+    if let (Some(call), Some(firm)) = (library(), library_firm()) {
+        bench::firm_bench(call, firm, rounds);
     }
     ExitCode::SUCCESS
 }

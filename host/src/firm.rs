@@ -18,7 +18,7 @@ pub struct Row {
 /// Number, line and length, and the group's decision.
 pub type Firm = fn(&mut [Row], &[u8], &mut [u32], &mut [u32]) -> ([u32; 3], u32);
 
-const ROWS: usize = 64;
+pub const ROWS: usize = 64;
 const ALLOW: u32 = 0;
 const DENY: u32 = 1;
 const OPEN: u32 = 2;
@@ -39,7 +39,7 @@ fn fits(sheet: &str, key: &str, text: u32) -> bool {
 }
 
 /// "the sheet with those two texts filled in"
-fn filled(sheet: &str, row: &Row) -> String {
+pub fn filled(sheet: &str, row: &Row) -> String {
     sheet
         .lines()
         .map(|line| match line.split_once('=') {
@@ -48,6 +48,12 @@ fn filled(sheet: &str, row: &Row) -> String {
             _ => format!("{line}\n"),
         })
         .collect()
+}
+
+/// As many rows as a call may have: what the sheet knows, else each of its first ten texts in turn, so that no filled sheet is longer than the sheet.
+pub fn fitting(sheet: &str) -> Vec<Row> {
+    let text = |key: &str, place: usize| request(sheet, key)[1].parse().unwrap_or(place as u32 % 10);
+    (0..ROWS).map(|n| Row { principal: text("principal=", n), resource: text("resource=", n / 10), decision: OPEN }).collect()
 }
 
 /// The decision that the original's answer begins with.

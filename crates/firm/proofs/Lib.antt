@@ -5,3 +5,4 @@ pub mod Standing
 pub mod Deciding
 pub mod Calling
 pub mod Quoting
+pub mod Wording

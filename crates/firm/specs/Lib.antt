@@ -1,3 +1,4 @@
 pub mod Laid
 pub mod Parts
 pub mod Promise
+pub mod Words

@@ -20,17 +20,26 @@ use Rattle.firm.specs.declared.Quote as Q
 
 -- ---- decisions as numbers
 
+abbrev pub ALLOW : ℕ
+ALLOW = 0
+
+abbrev pub DENY : ℕ
+DENY = 1
+
+abbrev pub OPEN : ℕ
+OPEN = 2
+
 abbrev pub codeOf : Decision → ℕ
-codeOf allow = 0
-codeOf deny = 1
-codeOf undecided = 2
+codeOf allow = ALLOW
+codeOf deny = DENY
+codeOf undecided = OPEN
 
 abbrev pub decisionIn : ℕ → Decision
 decisionIn n = getD (allow ∷ deny ∷ []) n undecided
 
 -- the group's, with one row's more
 unfoldable pub joined : ℕ → ℕ → ℕ
-joined group d = cond (eqb d 0) group (cond (eqb group 1) 1 d)
+joined group d = cond (eqb d ALLOW) group (cond (eqb group DENY) DENY d)
 
 -- ---- rows
 
@@ -64,7 +73,7 @@ unfoldable pub askIn : List ℕ → ℕ → ℕ → Bool
 askIn a p q = textIn a PRINCIPAL p && textIn a RESOURCE q
 
 abbrev pub refusal : ℕ → ℕ → Q.Quote
-refusal n k = record { number = n; line = k; length = 0; group = 2 }
+refusal n k = record { number = n; line = k; length = 0; group = OPEN }
 
 -- the first 16,384 words of a slice hold an accepted sheet
 pub record Opened (sheet a : List ℕ) : Type 0 where
@@ -81,7 +90,7 @@ pub record Begins (n : ℕ) (sheet w₁ w₂ : List ℕ) (f : Q.Quote) (a b : Li
   pub checked : (r : Returned) → lentThen (length w₁) (length w₂) (shortThen sheet (manyThen n (readThen partial sheet r))) ≡ refusedThen (f .number) (f .line) r
   pub line-is : f .number ≡ 0 → f .line ≡ 0
   pub length-is : f .length ≡ 0
-  pub group-is : f .group ≡ cond (eqb (f .number) 0) 0 2
+  pub group-is : f .group ≡ cond (eqb (f .number) 0) ALLOW OPEN
   pub holds : f .number ≡ 0 → Opened sheet a
   pub long : f .number ≡ 0 → room ≤ length w₂
   pub first : worked a (length w₂) ≡ worked w₁ (length w₂)

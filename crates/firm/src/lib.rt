@@ -22,7 +22,7 @@ use words::read;
 use words::store;
 ghost use mathlib.Core.Path.{_≡_};
 ghost use mathlib.Core.List.{[]};
-ghost use Prim.Native.Nat.{suc, _+_, _≤_, _<_};
+ghost use Prim.Native.Nat.{suc, _+_, _*_, _/_, _≤_, _<_};
 ghost use lib.ListN.{length, getD};
 ghost use lib.Seq.{sets};
 ghost use Rattle.sheet.specs.Call.{worked};
@@ -31,14 +31,15 @@ ghost use Rattle.response.specs.Verdicts.{decisionOf};
 ghost use Rattle.firm.specs.Laid.{moved, lineWith, Moves, Shifted, Lays, Laid, Roomy};
 ghost use Rattle.firm.specs.Parts.{codeOf, joined, Decides, textIn, askIn, refusal, Begins, checkOf, Singles, joinOf};
 ghost use Rattle.firm.specs.Promise.{Quotes};
+ghost use Rattle.firm.specs.Words.{wordsOfRow, rowFrom, QuotesWords};
 
 // ---- one row
 
 // The words of a sheet's rows.
-fn row_words() -> [u32; 16384]
+fn row_words() -> [u32; ROOM]
     ensures { λ r. ⌜ 16384 ≡ length r ⌝ }
 {
-    [0; 16384]
+    [0; ROOM]
 }
 
 // The words of the rows of principal and resource, tag, kind and text: of one, and of both. In a row's own words they stand before the others.
@@ -50,7 +51,7 @@ const AHEAD: usize = 6;
 fn moved(place: u32) -> u32
     ensures { λ r. ⌜ r ≡ moved place ⌝ }
 {
-    if place > 16384 {
+    if place > ROOM as u32 {
         return place;
     }
     place + AHEAD as u32
@@ -344,6 +345,54 @@ pub fn firm(rows: &mut [Row], sheet: &[u8], work1: &mut [u32], work2: &mut [u32]
         let r = single(f, rows[j], sheet, work1, work2);
         f = join(f, r);
         rows[j] = r;
+        j += 1;
+    }
+    finish(f, work1, work2)
+}
+
+// ---- the same call over plain words, three to a row, for callers that have no row structs
+
+// The words of a row: principal, resource, decision.
+pub const ROW: usize = 3;
+
+// Row `i` of the words.
+fn row_from(words: &[u32], i: usize) -> Row
+    requires { ⌜ i < length (now words) / 3 ⌝ }
+    ensures { λ r. ⌜ r ≡ rowFrom (now (words .entry)) i ⌝ }
+{
+    let at = i * ROW;
+    Row {
+        principal: words[at],
+        resource: words[at + 1],
+        decision: words[at + 2],
+    }
+}
+
+// Another row in the place of row `i`.
+fn put_row(words: &mut [u32], i: usize, r: Row)
+    requires { ⌜ i < length (now words) / 3 ⌝ }
+    ensures { λ _. ⌜ now (words .exit) ≡ sets (now (words .entry)) (i * 3) (wordsOfRow r) ⌝ }
+{
+    let row = [r.principal, r.resource, r.decision];
+    store(words, i * ROW, &row);
+}
+
+// `firm` for the rows that the words are; one or two words at the end stay as they are.
+pub fn firm_in_words(words: &mut [u32], sheet: &[u8], work1: &mut [u32], work2: &mut [u32]) -> Quote
+    ensures { λ f. ⌜ QuotesWords (now (sheet .entry)) (now (words .entry)) (now (work1 .entry)) (now (work2 .entry)) f (now (words .exit)) (now (work1 .exit)) (now (work2 .exit)) ⌝ }
+{
+    let n = words.len() / ROW;
+    let mut f = begin(n, sheet, work1, work2);
+    let mut i = 0;
+    while i < n {
+        f = check(f, row_from(words, i), i, work1);
+        i += 1;
+    }
+    let mut j = 0;
+    while j < n {
+        let r = single(f, row_from(words, j), sheet, work1, work2);
+        f = join(f, r);
+        put_row(words, j, r);
         j += 1;
     }
     finish(f, work1, work2)

@@ -69,7 +69,7 @@ refusal-short n line len =
 
 -- ---- what is shown
 
-counts-front : (bytes rest : List ℕ) → Counts (length bytes) (bytes ++ rest)
+pub counts-front : (bytes rest : List ℕ) → Counts (length bytes) (bytes ++ rest)
 counts-front bytes rest = (omega (arith, length-append bytes rest), sym (ap length (take-append-seam bytes rest)))
 
 -- a call that returned r, whose answer has these bytes

@@ -1,25 +1,28 @@
 -- What the program prints for the bytes that it reads. Document 01, "Known sheets": "Program `openrules` reads standard input." With the word
--- `finish` it also reads the partial sheet from a file; after the word `preview` the command line has the number of a line and a line; with the word
--- `load` it reads nothing but the two numbers after it.
+-- `finish` it also reads the partial sheet from a file; after the word `preview` the command line has the number of a line and a line, after the word
+-- `firm` the rows; with the word `load` it reads nothing but the two numbers after it.
 use mathlib.Core.Path.{_≡_}
 use mathlib.Core.Bool.{Bool, cond}
-use mathlib.Core.List.{List, [], _∷_}
+use mathlib.Core.List.{List, [], _∷_, _++_}
 use mathlib.Core.Option.{Option}
 use Prim.Native.Nat.{ℕ}
+use Prim.Native.String.{String}
 use lib.Dec.{eqb}
 use lib.ListN.{length, take}
 use Rattle.io.specs.Counts.{Counts}
+use Rattle.cedar.specs.Response.{Decision}
 use Rattle.print.specs.Written.{greatest}
 use Rattle.sheet.specs.Ascii.{ascii}
 use Rattle.sheet.specs.Bytes.{upTo, same, decimal, atMost}
 use Rattle.sheet.specs.Forms.{Mode, partial, complete}
 use Rattle.sheet.specs.Sheet.{read}
-use Rattle.sheet.specs.Answer.{printed, numbers, answer}
+use Rattle.sheet.specs.Answer.{printed, numbers, answer, decisionWord}
 use Rattle.sheet.specs.Call.{Returned, room, returned}
 use Rattle.finished.specs.Finish.{finishedAnswer, finishReturned}
 use Rattle.paged.specs.Page.{page, pageReturned}
 use Rattle.previewed.specs.Preview.{edited, previewReturned}
 use Rattle.drawn.specs.TestLoad.{load, loadReturned}
+use Rattle.staff.specs.Firm.{Row, firmReturned, firmRows, firmGroup}
 
 -- the first line is exactly `sheet=complete`
 unfoldable pub saysComplete : List ℕ → Bool
@@ -75,6 +78,23 @@ loadBack seed policies = loadReturned seed policies space
 
 unfoldable pub shownLoad : ℕ → ℕ → List ℕ
 shownLoad seed policies = textOf (loadBack seed policies) (load seed policies)
+
+-- a partial sheet and rows (document 02, 2.14): a line of the group's decision, then one of each row's
+abbrev pub decided : String → Decision → List ℕ
+decided key d = printed key (ascii (decisionWord d) ∷ [])
+
+abbrev pub rowsText : List Row → List ℕ
+rowsText [] = []
+rowsText (r ∷ rs) = decided "row" (r .decision) ++ rowsText rs
+
+abbrev pub firmBack : List ℕ → List Row → Returned
+firmBack sheet rows = firmReturned room room sheet rows
+
+abbrev pub firmText : List ℕ → List Row → List ℕ
+firmText sheet rows = decided "group" (firmGroup room room sheet rows) ++ rowsText (firmRows room room sheet rows)
+
+unfoldable pub shownFirm : List ℕ → List Row → List ℕ
+shownFirm sheet rows = textOf (firmBack sheet rows) (firmText sheet rows)
 
 -- a number on the command line: decimal, of 64 bits, without leading zeros; none where a word is no such number
 unfoldable pub numberIn : List ℕ → Option ℕ

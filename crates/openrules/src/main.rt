@@ -1,12 +1,16 @@
 // The program: without a word, a sheet on standard input, the answer or its refusal on standard output; with a word, what `help` lists. Of
 // what is read the first 16,385 bytes of each sheet matter (proofs/Input.antt). What is proved of it: it is safe, it ends, and the bytes that
-// it hands to `io::write_all` for the bytes that `io::read_full` gave are those that `answer`, `finished`, `paged`, `previewed` and `loaded`
-// promise. No contract can speak of what C's read and write move. A program has no status to end with: what cannot be done is said on standard
+// it hands to `io::write_all` for the bytes that `io::read_full` gave are those that `answer`, `finished`, `paged`, `previewed`, `quoted` and
+// `loaded` promise. No contract can speak of what C's read and write move. A program has no status to end with: what cannot be done is said on standard
 // error.
 use authorizer::Returned;
 use authorizer::complete;
 use authorizer::partial;
 use finish::finish;
+use firm::ALLOW;
+use firm::DENY;
+use firm::ROW;
+use firm::firm_in_words;
 use libc::STDERR_FILENO;
 use libc::STDIN_FILENO;
 use libc::STDOUT_FILENO;
@@ -18,16 +22,24 @@ use print::number;
 use scan::Number;
 use scan::find;
 use scan::front;
+use scan::rest;
 use scan::same_bytes;
 use testload::load;
+use words::ROOM;
+use words::store;
 ghost use mathlib.Core.Path.{_≡_};
-ghost use Prim.Native.Nat.{min};
+ghost use mathlib.Core.List.{[], _∷_, _++_};
+ghost use Prim.Native.Nat.{min, _≤_, _<_};
 ghost use lib.ListN.{length};
 ghost use Rattle.print.specs.Written.{greatest, Written};
+ghost use Rattle.sheet.specs.Ascii.{ascii};
 ghost use Rattle.sheet.specs.Bytes.{digitsFrom, atMost};
+ghost use Rattle.sheet.specs.Answer.{decisionWord};
 ghost use Rattle.scan.specs.Numbers.{numberOf};
 ghost use Rattle.authorizer.specs.Called.{Called};
-ghost use Rattle.openrules.specs.Shown.{saysComplete, entryOf, refusal, shown, shownFinished, shownPage, shownPreview, shownLoad, numberIn, Shows};
+ghost use Rattle.firm.specs.Parts.{decisionIn, rowsIn};
+ghost use Rattle.firm.specs.Words.{rowsOfWords};
+ghost use Rattle.openrules.specs.Shown.{saysComplete, entryOf, refusal, shown, shownFinished, shownPage, shownPreview, rowsText, shownFirm, shownLoad, numberIn, Shows};
 
 // Whether the first line is exactly `sheet=complete`.
 fn says_complete(sheet: &[u8]) -> bool
@@ -65,10 +77,10 @@ fn refused(out: &mut [u8], n: u32, line: usize, length: usize) -> usize
 const SPACE: usize = 1048576;
 
 // The words of a work slice.
-fn words() -> [u32; 16384]
+fn words() -> [u32; ROOM]
     ensures { λ r. ⌜ 16384 ≡ length r ⌝ }
 {
-    [0; 16384]
+    [0; ROOM]
 }
 
 // What is printed for a sheet, at the start of the buffer, and its length.
@@ -123,14 +135,72 @@ fn previewed(sheet: &[u8], line: usize, new: &[u8], out: &mut [u8; SPACE]) -> us
     refused(out, p.number, p.line, p.length)
 }
 
-// The number of policies that the call is asked for: the greatest that it can be where there are more, as both are refused alike.
-fn at_most(policies: u64) -> u32
-    ensures { λ r. ⌜ r ≡ min policies 4294967295 ⌝ }
+// ---- a whole firm
+
+// The word of a decision that a number says.
+fn decision_word(out: &mut [u8], at: usize, decision: u32) -> usize
+    ensures { λ r. ⌜ Written (now (out .entry)) at (ascii (decisionWord (decisionIn decision))) (now (out .exit)) r ⌝ }
 {
-    if policies > 4294967295 {
-        return 4294967295;
+    if decision == ALLOW {
+        return bytes(out, at, b"allow");
     }
-    policies as u32
+    if decision == DENY {
+        return bytes(out, at, b"deny");
+    }
+    bytes(out, at, b"open")
+}
+
+// A line of a decision.
+fn decision_line(out: &mut [u8], at: usize, key: &[u8], decision: u32) -> usize
+    ensures { λ r. ⌜ Written (now (out .entry)) at (now (key .entry) ++ (61 ∷ ascii (decisionWord (decisionIn decision)) ++ (10 ∷ []))) (now (out .exit)) r ⌝ }
+{
+    let a = bytes(out, at, key);
+    let b = byte(out, a, b'=');
+    let c = decision_word(out, b, decision);
+    byte(out, c, b'\n')
+}
+
+// A line of each row's decision, the last of a row's words.
+fn row_lines(out: &mut [u8], at: usize, rows: &[u32]) -> usize
+    ensures { λ r. ⌜ Written (now (out .entry)) at (rowsText (rowsIn (rowsOfWords (now (rows .entry))))) (now (out .exit)) r ⌝ }
+{
+    let n = rows.len() / ROW;
+    let mut k = at;
+    let mut i = 0;
+    while i < n {
+        k = decision_line(out, k, b"row", rows[i * ROW + 2]);
+        i += 1;
+    }
+    k
+}
+
+// What is printed for a partial sheet and rows, likewise.
+fn quoted(rows: &mut [u32], sheet: &[u8], out: &mut [u8; SPACE]) -> usize
+    ensures { λ r. ⌜ Shows (shownFirm (now (sheet .entry)) (rowsIn (rowsOfWords (now (rows .entry))))) (now (out .exit)) r ⌝ }
+{
+    let mut a = words();
+    let mut b = words();
+    let f = firm_in_words(rows, sheet, &mut a, &mut b);
+    if f.number != 0 {
+        return refused(out, f.number, f.line, f.length);
+    }
+    let k = decision_line(out, 0, b"group", f.group);
+    row_lines(out, k, rows)
+}
+
+// ---- a test load
+
+// The greatest number of 32 bits.
+const GREATEST: u32 = 4294967295;
+
+// A number as a call takes it: the greatest that it can be where it is greater. So many policies are refused alike, and no sheet has so many texts.
+fn at_most(n: u64) -> u32
+    ensures { λ r. ⌜ r ≡ min n 4294967295 ⌝ }
+{
+    if n > GREATEST as u64 {
+        return GREATEST;
+    }
+    n as u32
 }
 
 // What is printed for a seed and a number of policies, likewise.
@@ -214,6 +284,11 @@ const SEED: usize = 2;
 
 const POLICIES: usize = 3;
 
+// The place of the first row, which may follow the word instead, and how many rows are read: one more than a call may have, so that more are seen.
+const FIRST_ROW: usize = 2;
+
+const ROWS: usize = 65;
+
 // What stands on the command line, by how many there are: nothing, the program's name, a word after it, a name after that, a number and one thing
 // more instead.
 const NOTHING: usize = 0;
@@ -231,6 +306,9 @@ const LETTERS: usize = 16;
 
 // The digits of a number of 64 bits; a longer word is no such number (proofs/Numbers.antt).
 const DIGITS: usize = 20;
+
+// The bytes of two numbers and a comma.
+const PAIR: usize = 41;
 
 // The bytes of what may stand at one place on a command line.
 const ARGUMENT: usize = 131072;
@@ -252,6 +330,10 @@ fn help(to: i32) {
     io::write_all(
         to,
         b"openrules preview LINE NEW < SHEET   the answer to a partial sheet with the line NEW in the place of line LINE\n",
+    );
+    io::write_all(
+        to,
+        b"openrules firm P,R P,R .. < SHEET    the decisions on a partial sheet for rows of a principal text and a resource text, and the group's\n",
     );
     io::write_all(
         to,
@@ -336,6 +418,76 @@ fn preview_word() {
     print_preview(line as usize, &new[..n]);
 }
 
+// Row `i` on the command line into its words, and whether it is one: two numbers with a comma between them.
+fn row_at(i: usize, rows: &mut [u32]) -> bool
+    requires { ⌜ i < 65 ⌝ }
+{
+    let mut word = [0u8; PAIR];
+    let n = os::arg(FIRST_ROW + i, &mut word);
+    let pair = &word[..n];
+    let comma = find(pair, 0, b',');
+    if comma >= n {
+        return false;
+    }
+    let Number::Value(principal) = number_of(front(pair, comma)) else {
+        return false;
+    };
+    let Number::Value(resource) = number_of(rest(pair, comma + 1)) else {
+        return false;
+    };
+    let row = [at_most(principal), at_most(resource), 0];
+    store(rows, i * ROW, &row);
+    true
+}
+
+// The first `n` rows into their words, and whether all are rows.
+fn rows_at(n: usize, rows: &mut [u32]) -> bool
+    requires { ⌜ n ≤ 65 ⌝ }
+{
+    let mut i = 0;
+    while i < n {
+        if !row_at(i, rows) {
+            return false;
+        }
+        i += 1;
+    }
+    true
+}
+
+// How many rows are read.
+fn rows_given() -> usize
+    ensures { λ r. ⌜ r ≤ 65 ⌝ }
+{
+    let n = os::arg_count();
+    if n < FIRST_ROW {
+        return 0;
+    }
+    if n - FIRST_ROW > ROWS {
+        return ROWS;
+    }
+    n - FIRST_ROW
+}
+
+// The partial sheet from standard input, with these rows.
+fn print_firm(rows: &mut [u32]) {
+    let mut input = [0u8; INPUT];
+    let n = io::read_full(STDIN_FILENO, &mut input);
+    let mut out = [0u8; SPACE];
+    let k = quoted(rows, &input[..n], &mut out);
+    io::write_all(STDOUT_FILENO, &out[..k]);
+}
+
+// `firm P,R P,R ..`
+fn firm_word() {
+    let n = rows_given();
+    let mut rows = [0u32; ROWS * ROW];
+    if !rows_at(n, &mut rows) {
+        help(STDERR_FILENO);
+        return;
+    }
+    print_firm(&mut rows[..n * ROW]);
+}
+
 // `load SEED POLICIES`
 fn load_word() {
     let Number::Value(seed) = number_at(SEED) else {
@@ -387,6 +539,10 @@ fn counted_word(word: &[u8]) {
 fn main() {
     let mut word = [0u8; LETTERS];
     let n = os::arg(WORD, &mut word);
+    if same_bytes(&word[..n], b"firm") {
+        firm_word();
+        return;
+    }
     match os::arg_count() {
         NOTHING => print_answer(),
         PROGRAM => print_answer(),

@@ -11,4 +11,4 @@ returns-2 : tie.Need-returns-2
 returns-2 c = search (moved-near, needs)
 
 pub moved-spec : {M : Type 1} → statement M
-moved-spec = tie.close (tie.spec returns (λ c. search needs) (λ c. search needs) returns-2)
+moved-spec = tie.close (tie.spec (λ c. search needs) returns (λ c. search needs) (λ c. search needs) returns-2)

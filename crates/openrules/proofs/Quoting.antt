@@ -1,0 +1,204 @@
+-- What the program shows for a whole firm, from what its call promises. Assumes nothing.
+use mathlib.Core.Path.{_≡_, refl, sym, ap, ap₂, _∙_, subst}
+use mathlib.Core.Bool.{Bool, true, false, cond}
+use mathlib.Core.List.{List, [], _∷_, _++_, append-assoc, append-nil}
+use Prim.Native.Nat.{ℕ, zero, suc, _+_, _*_, _/_, _≤_, _<_}
+use native.Mathlib.Omega.{arith}
+use native.Mathlib.Decide.{decLe}
+use borrow.Author.Tests.{eq-eqb, ne-eqb, lt-ltb}
+use lib.ListN.{length, getD, take, drop, length-append}
+use lib.Dec.{eqb}
+use lib.Seq.{take-all, take-append-seam}
+use Rattle.cedar.specs.Response.{Decision, allow, deny, undecided}
+use Rattle.sheet.specs.Ascii.{ascii}
+use Rattle.sheet.specs.Forms.{partial}
+use Rattle.sheet.specs.Sheet.{read}
+use Rattle.sheet.specs.Answer.{decisionWord}
+use Rattle.sheet.specs.Call.{Returned, returns, room, shortThen, readThen, over}
+use Rattle.sheet.proofs.Lines.{zero-not-suc}
+use Rattle.sheet.proofs.Checked.{lent-by, short-by}
+use Rattle.print.specs.Written.{Written}
+use Rattle.print.proofs.Writing.{written-none, written-append, written-as, written-over}
+use Rattle.staff.specs.Firm.{Row, rowsThen, fitThen, firmReturned, firmRows, firmGroup, filledRows}
+use Rattle.firm.specs.declared.Row as R
+use Rattle.firm.specs.declared.Quote as Q
+use Rattle.firm.specs.Parts.{decisionIn, rowsIn}
+use Rattle.firm.specs.Words.{rowsOfWords, rowFrom, QuotesWords}
+use Rattle.firm.proofs.Wording.{rows-count, row-of-words, rows-back}
+use Rattle.openrules.specs.Shown.{space, refusal, decided, rowsText, firmBack, firmText, shownFirm, Shows}
+use Rattle.openrules.proofs.Showing.{counts-front, shows-line}
+
+-- ---- a decision's word and line
+
+module _ (was : List ℕ) (at n : ℕ) (is : List ℕ) (next : ℕ) where
+  abbrev Worded : ℕ → Type 0
+  Worded k = Written was at (ascii (decisionWord (decisionIn k))) is next
+
+  pub word-allow : n ≡ 0 → Written was at (97 ∷ 108 ∷ 108 ∷ 111 ∷ 119 ∷ []) is next → Worded n
+  word-allow e w = subst Worded (sym e) w
+
+  pub word-deny : n ≡ 1 → Written was at (100 ∷ 101 ∷ 110 ∷ 121 ∷ []) is next → Worded n
+  word-deny e w = subst Worded (sym e) w
+
+  pub word-open : (n ≡ 0 → ⊥) → (n ≡ 1 → ⊥) → Written was at (111 ∷ 112 ∷ 101 ∷ 110 ∷ []) is next → Worded n
+  word-open a d w = go n a d
+    where
+      go : (k : ℕ) → (k ≡ 0 → ⊥) → (k ≡ 1 → ⊥) → Worded k
+      go zero a d = absurd (a refl)
+      go (suc zero) a d = absurd (d refl)
+      go (suc (suc k)) a d = w
+
+pub decision-line : {was is o₁ o₂ o₃ : List ℕ} {at k₁ k₂ k₃ next : ℕ} (key : List ℕ) (n : ℕ) → Written was at key o₁ k₁ → Written o₁ k₁ (61 ∷ []) o₂ k₂
+    → Written o₂ k₂ (ascii (decisionWord (decisionIn n))) o₃ k₃ → Written o₃ k₃ (10 ∷ []) is next → Written was at (key ++ (61 ∷ ascii (decisionWord (decisionIn n)) ++ (10 ∷ []))) is next
+decision-line key n w₀ w₁ w₂ w₃ = written-append w₀ (written-append w₁ (written-append w₂ w₃))
+
+-- ---- the rows' lines: the first i are written
+
+rows-one-more : (rs : List R.Row) (i : ℕ) (d : R.Row) → i < length rs → rowsText (rowsIn (take (suc i) rs)) ≡ rowsText (rowsIn (take i rs)) ++ decided "row" (decisionIn (getD rs i d .decision))
+rows-one-more [] i d h = absurd (omega arith)
+rows-one-more (r ∷ rs) zero d h = append-nil (decided "row" (decisionIn (r .decision)))
+rows-one-more (r ∷ rs) (suc i) d h =
+    let x = decided "row" (decisionIn (r .decision)) in
+    ap (λ (l : List ℕ). x ++ l) (rows-one-more rs i d (omega arith)) ∙ sym (append-assoc x (rowsText (rowsIn (take i rs))) (decided "row" (decisionIn (getD rs i d .decision))))
+
+pub record Lining (ws was : List ℕ) (at₀ : ℕ) (is : List ℕ) (at i : ℕ) : Type 0 where
+  pub near : i ≤ length ws / 3
+  pub kept : length is ≡ length was
+  pub written : Written was at₀ (rowsText (rowsIn (take i (rowsOfWords ws)))) is at
+
+pub lining-start : (ws was : List ℕ) (at : ℕ) → at ≤ 18446744073709551615 → length was ≤ 18446744073709551615 → Lining ws was at was at 0
+lining-start ws was at h l = record { near = omega arith; kept = refl; written = written-none was at h l }
+
+module _ (ws was : List ℕ) (at₀ : ℕ) (is : List ℕ) (at i : ℕ) (k : Lining ws was at₀ is at i) where
+  nothing : R.Row
+  nothing = record { principal = 0; resource = 0; decision = 0 }
+
+  pub lining-on : (out : List ℕ) (next : ℕ) → i < length ws / 3 → length out ≡ length is → Written is at ((114 ∷ 111 ∷ 119 ∷ []) ++ (61 ∷ ascii (decisionWord (decisionIn (getD ws (i * 3 + 2) 0))) ++ (10 ∷ []))) out next → Lining ws was at₀ out next (i + 1)
+  unfolding rowFrom
+  lining-on out next h l w =
+      let n : suc i ≡ i + 1 = omega arith in
+      let e : getD ws (i * 3 + 2) 0 ≡ getD (rowsOfWords ws) i nothing .decision = ap (λ (r : R.Row). r .decision) (row-of-words ws i nothing h) in
+      record {
+        near = omega (arith, h);
+        kept = l ∙ k .kept;
+        written =
+            written-as (written-append (k .written) w)
+            (ap (λ (d : ℕ). rowsText (rowsIn (take i (rowsOfWords ws))) ++ decided "row" (decisionIn d)) e
+            ∙ sym (rows-one-more (rowsOfWords ws) i nothing (omega (arith, h, rows-count ws))) ∙ ap (λ (m : ℕ). rowsText (rowsIn (take m (rowsOfWords ws)))) n);
+      }
+
+  pub lining-end : length ws / 3 ≤ i → Written was at₀ (rowsText (rowsIn (rowsOfWords ws))) is at
+  lining-end h = written-as (k .written) (ap (λ (l : List R.Row). rowsText (rowsIn l)) (take-all i (rowsOfWords ws) (omega (arith, h, rows-count ws))))
+
+-- ---- what is shown has room
+
+word-most : (d : Decision) → length (ascii (decisionWord d)) ≤ 5
+word-most allow = omega arith
+word-most deny = omega arith
+word-most undecided = omega arith
+
+row-most : (d : Decision) → length (decided "row" d) ≤ 10
+row-most d =
+    let z = word-most d in
+    let y : length (ascii (decisionWord d) ++ (10 ∷ [])) ≡ length (ascii (decisionWord d)) + 1 = length-append (ascii (decisionWord d)) (10 ∷ []) in
+    let e : length (decided "row" d) ≡ suc (suc (suc (suc (length (ascii (decisionWord d) ++ (10 ∷ [])))))) = refl in
+    omega (arith, z, y, e)
+
+group-most : (d : Decision) → length (decided "group" d) ≤ 12
+group-most d =
+    let z = word-most d in
+    let y : length (ascii (decisionWord d) ++ (10 ∷ [])) ≡ length (ascii (decisionWord d)) + 1 = length-append (ascii (decisionWord d)) (10 ∷ []) in
+    let e : length (decided "group" d) ≡ suc (suc (suc (suc (suc (suc (length (ascii (decisionWord d) ++ (10 ∷ [])))))))) = refl in
+    omega (arith, z, y, e)
+
+rows-most : (rs : List Row) → length (rowsText rs) ≤ length rs * 10
+rows-most [] = omega arith
+rows-most (r ∷ rs) =
+    let z = rows-most rs in
+    let y = row-most (r .decision) in
+    let x : length (rowsText (r ∷ rs)) ≡ length (decided "row" (r .decision)) + length (rowsText rs) = length-append (decided "row" (r .decision)) (rowsText rs) in
+    omega (arith, x, y, z)
+
+-- number 0 is that of 64 rows at most
+few : (w₁ w₂ : ℕ) (s : List ℕ) (rs : List Row) → firmReturned w₁ w₂ s rs .number ≡ 0 → length rs ≤ 64
+unfolding firmReturned
+few w₁ w₂ s rs =
+    lent-by Few w₁ w₂ (shortThen s (rowsThen rs r)) (λ h e. zero-not-suc e) (λ h. short-by Few s (rowsThen rs r) (λ e. zero-not-suc e) (λ h′. go (decLe (length rs) 64)))
+  where
+    r : Returned
+    r = readThen partial s (fitThen (read partial s .state) rs (returns 0 0 0))
+
+    Few : Returned → Type 0
+    Few x = x .number ≡ 0 → length rs ≤ 64
+
+    go : Dec (length rs ≤ 64) → Few (rowsThen rs r)
+    go (yes d) = λ e. d
+    go (no d) = λ e. zero-not-suc (sym (ap (λ (b : Bool). cond b (returns 14 0 0) r .number) (lt-ltb 64 (length rs) (omega (arith, d)))) ∙ e)
+
+filled-length : (s : List ℕ) (rs : List Row) → length (filledRows s rs) ≡ length rs
+filled-length s [] = refl
+filled-length s (r ∷ rs) = ap suc (filled-length s rs)
+
+rows-length : (w₁ w₂ : ℕ) (s : List ℕ) (rs : List Row) → length (firmRows w₁ w₂ s rs) ≡ length rs
+unfolding firmRows
+rows-length w₁ w₂ s rs = go (eqb (firmReturned w₁ w₂ s rs .number) 0)
+  where
+    go : (t : Bool) → length (cond t (filledRows s rs) rs) ≡ length rs
+    go true = filled-length s rs
+    go false = refl
+
+-- ---- what is shown
+
+module _ (ws s a b : List ℕ) (f : Q.Quote) (ws′ a′ b′ : List ℕ) (la : 16384 ≡ length a) (lb : 16384 ≡ length b) (x : QuotesWords s ws a b f ws′ a′ b′) where
+  abbrev rows : List Row
+  rows = rowsIn (rowsOfWords ws)
+
+  abbrev text : List ℕ
+  text = firmText s rows
+
+  back-is : firmReturned (length a) (length b) s rows ≡ firmBack s rows
+  back-is = rw (← la, ← lb)
+
+  number-is : f .number ≡ firmBack s rows .number
+  number-is = x .quotes .quoted .number-is ∙ ap (λ (r : Returned). r .number) back-is
+
+  group-is : decisionIn (f .group) ≡ firmGroup room room s rows
+  group-is =
+      let e : firmGroup (length a) (length b) s rows ≡ firmGroup room room s rows = rw (← la, ← lb) in
+      x .quotes .quoted .group-is ∙ e
+
+  rows-are : rowsIn (rowsOfWords ws′) ≡ firmRows room room s rows
+  rows-are =
+      let e : firmRows (length a) (length b) s rows ≡ firmRows room room s rows = rw (← la, ← lb) in
+      ap (λ (l : List ℕ). rowsIn (rowsOfWords l)) (x .words-are) ∙ ap rowsIn (rows-back (x .rows) ws) ∙ x .quotes .quoted .rows-are ∙ e
+
+  short : f .number ≡ 0 → length text ≤ 652
+  short z =
+      let n = few room room s rows (sym number-is ∙ z) in
+      let g = group-most (firmGroup room room s rows) in
+      let m = rows-most (firmRows room room s rows) in
+      let l = rows-length room room s rows in
+      let t : length text ≡ length (decided "group" (firmGroup room room s rows)) + length (rowsText (firmRows room room s rows)) = length-append (decided "group" (firmGroup room room s rows)) (rowsText (firmRows room room s rows)) in
+      omega (arith, n, g, m, l, t)
+
+  module _ (out : List ℕ) (lo : length out ≡ space) where
+    pub firm-answer : f .number ≡ 0 → (mid : List ℕ) (k : ℕ) → Written out 0 ((103 ∷ 114 ∷ 111 ∷ 117 ∷ 112 ∷ []) ++ (61 ∷ ascii (decisionWord (decisionIn (f .group))) ++ (10 ∷ []))) mid k
+        → (is : List ℕ) (next : ℕ) → Written mid k (rowsText (rowsIn (rowsOfWords ws′))) is next → Shows (shownFirm s rows) is next
+    unfolding shownFirm
+    firm-answer z mid k w₀ is next w₁ =
+        let w : Written out 0 text is next = written-as (written-append w₀ w₁) (ap₂ (λ (d : Decision) (rs : List Row). decided "group" d ++ rowsText rs) group-is rows-are) in
+        let (e, n) = written-over out text is next w (let y = short z in omega (arith, y, lo)) in
+        let t : take next is ≡ text = rw (n, e) (take-append-seam text (drop (length text) out)) in
+        let q : firmBack s rows .number ≡ 0 = sym number-is ∙ z in
+        record {
+          front = t ∙ sym (ap (λ (c : Bool). cond c text (refusal (firmBack s rows .number) (firmBack s rows .line) (firmBack s rows .length))) (eq-eqb (firmBack s rows .number) 0 q));
+          within = rw (n, e) (counts-front text (drop (length text) out));
+        }
+
+    pub firm-refusal : (f .number ≡ 0 → ⊥) → (is : List ℕ) (next : ℕ) → Written out 0 (refusal (f .number) (f .line) (f .length)) is next → Shows (shownFirm s rows) is next
+    unfolding shownFirm
+    firm-refusal h is next w =
+        let q : firmBack s rows .number ≡ 0 → ⊥ = λ e. h (number-is ∙ e) in
+        shows-line (firmBack s rows) text out out (f .number) (f .line) (f .length) lo number-is (x .quotes .quoted .line-is ∙ ap (λ (r : Returned). r .line) back-is)
+        (x .quotes .quoted .length-is ∙ ap (λ (r : Returned). r .length) back-is)
+        (sym (ap (λ (c : Bool). cond c (over text out) out) (ne-eqb (firmBack s rows .number) 0 q))) (λ e. absurd (q e)) h is next w

@@ -1,0 +1,13 @@
+-- `openrules::decision_line` meets its contract. Assumes nothing.
+use Rattle.openrules.proofs.Quoting.{decision-line}
+use borrow.Author.Needs.{needs}
+use Rattle.openrules.proofs.decision_line.Statement.{statement}
+use Rattle.openrules.proofs.decision_line.Tie as tie
+
+returns : tie.Need-returns
+returns c = search (decision-line, needs)
+
+pub decision-line-spec : {M : Type 1} → statement M
+decision-line-spec =
+    tie.close
+    (tie.spec (λ c κs. search needs) (λ c κs. search needs) (λ c κs. search needs) (λ c κs. search needs) (λ c. search needs) returns)
