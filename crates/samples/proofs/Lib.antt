@@ -8,3 +8,4 @@ pub mod GroupEdges
 pub mod KnownParents
 pub mod KnownSheets
 pub mod LinkEdges
+pub mod WrongAnswers

@@ -1,13 +1,14 @@
 -- THE ANSWERS OF ACCEPTED SHEETS READ BACK: decision, counts, made values, residual nodes and policy lines are those of the run, and under
 -- each policy's root stands its residual.
 use mathlib.Core.Path.{_≡_, refl, sym, _∙_, ap, ap₂, subst}
-use mathlib.Core.Bool.{false}
+use mathlib.Core.Bool.{true, false}
 use mathlib.Core.Option.{some}
 use mathlib.Core.List.{List, [], _∷_, _++_, append-assoc, append-nil}
 use Prim.Native.Nat.{ℕ, suc, _≤_, _+_}
 use native.Mathlib.Omega.{arith}
 use lib.ListN.{length, getD, drop, getElem?, length-append}
 use lib.Seq.{drop-at}
+use Rattle.cedar.proofs.Tools.{both}
 use Rattle.cedar.specs.Value.{Value, vbool, Values, Fields}
 use Rattle.cedar.specs.Types.{Ty}
 use Rattle.cedar.specs.Residual.{Node, Nodes, NodeArgs, Expr, Exprs, Args, lit, and, or, ite, un, bin, rel, get, has, haspath, set, rec, econs, gcons, err}
@@ -26,7 +27,7 @@ use Rattle.sheet.specs.Content.{types, rowsIn, valueRows, contents, valu
 use Rattle.sheet.specs.Why.{why}
 use Rattle.sheet.specs.Answer.{size, root, treeRows, residualRows, countsOf, ids, run, results, answer}
 use Rattle.sheet.specs.Call.{Accepted}
-use Rattle.sheet.specs.ReadAnswer.{PolicyLine, Said, readAnswer}
+use Rattle.sheet.specs.ReadAnswer.{PolicyLine, Said, readAnswer, valuesStand, nodesStand, allStand}
 use Rattle.sheet.proofs.Lines.{History}
 use Rattle.sheet.proofs.ValueRows.{rows-length, values-table}
 use Rattle.sheet.proofs.Environment.{Facts, env-read}
@@ -41,6 +42,7 @@ use Rattle.sheet.proofs.MadeCount.{residualSizes}
 use Rattle.sheet.proofs.NeverNine.{policy-sizes, residual-sizes, rows-at-most}
 use Rattle.sheet.proofs.RowsBack.{AllSmall, SmallEntries, GoodValue}
 use Rattle.sheet.proofs.TreesBack.{Small, SmallAll, SmallArgs, valued, valuedAll, valuedArgs, valued-same, post, post-size, root-there, then-rows, tree-back}
+use Rattle.sheet.proofs.NodesStand.{made-stand, residuals-stand}
 use Rattle.sheet.proofs.RowsGood.{ResidualsSmall, residuals-good}
 use Rattle.sheet.proofs.LeftOver.{Any, left-small, LeftLines, no-lines, one-line, PoliciesSmall, SmallNames, MadeOk, AllMade, RunLeaves, run-leaves}
 use Rattle.sheet.proofs.SheetSmall.{policies-small, ids-small, asked-made}
@@ -266,6 +268,24 @@ module _ (sheet : List ℕ) (acc : Accepted partial sheet) where
   roots-stand value = subst (λ z. Standing z (λ l. valued value (l .root)) (partialPolicies 0 (ids s) (run partial s .lines)) (run partial s .lines))
       (sym (residuals-built (types s) value (run partial s .lines) [] 0 refl residuals-small (residual-types s f)))
       (standing (types s) value (run partial s .lines) (ids s) [] 0 refl as-many)
+
+  values-many : count s VALUE + length (drop (count s VALUE) (run partial s .rows)) ≡ length (reads .contents)
+  unfolding valueRows
+  values-many =
+      let a = rows-length (linesOf s VALUE) in
+      let b = ap length rows-are ∙ length-append (rowsIn (linesOf s VALUE)) (drop (count s VALUE) (run partial s .rows)) in
+      let c = same-length (reads .table) in
+      omega (arith, a, b, c)
+
+  made-stands : valuesStand (count s VALUE) (drop (count s VALUE) (run partial s .rows)) ≡ true
+  unfolding valueRows
+  made-stands = ap (λ k. valuesStand k (drop (count s VALUE) (run partial s .rows))) (sym (rows-length (linesOf s VALUE)))
+      ∙ made-stand (rowsIn (linesOf s VALUE)) (drop (count s VALUE) (run partial s .rows)) (subst (λ R. Table R (reads .contents)) rows-are (reads .table))
+
+  -- WHAT MADE VALUES AND RESIDUAL NODES REFER TO IS THERE
+  pub all-stand : allStand s (partialSaid s) ≡ true
+  all-stand = both made-stands (ap₂ (λ x y. nodesStand x y 0 (residualRows (types s) 0 (run partial s .lines))) (sym (types-length partial s h)) values-many
+      ∙ residuals-stand (types s) (reads .contents) (reads .residuals) (residual-types s f) 0)
 
   -- UNDER EACH PRINTED ROOT STANDS THE RUN'S RESIDUAL
   pub residuals-back : Standing (treesFrom (types s) (λ n. n) (λ A x. err A) [] (partialSaid s .nodes)) (λ l. l .root) (partialSaid s .policies) (run partial s .lines)

@@ -3,11 +3,13 @@ pub mod AnswerBack
 pub mod AnswerLength
 pub mod AnswerRead
 pub mod Buffers
+pub mod CanErr
 pub mod Checked
 pub mod CompleteRun
 pub mod Counts
 pub mod Demand3Answers
 pub mod Demand3Bytes
+pub mod Demand3Says
 pub mod Depths
 pub mod DigitsBack
 pub mod EntitiesEnd
@@ -28,6 +30,7 @@ pub mod MadeWords
 pub mod NeverNine
 pub mod NodeRows
 pub mod NodeTyped
+pub mod NodesStand
 pub mod OnTerm
 pub mod OwnPolicies
 pub mod Parsed

@@ -22,18 +22,18 @@ abbrev pub lacks : ℕ → List ℕ → Bool
 lacks c [] = true
 lacks c (x ∷ l) = not (eqb x c) && lacks c l
 
-split-one : (c : ℕ) (l : List ℕ) → lacks c l ≡ true → split c l ≡ l ∷ []
+pub split-one : (c : ℕ) (l : List ℕ) → lacks c l ≡ true → split c l ≡ l ∷ []
 split-one c [] e = refl
 split-one c (x ∷ l) e = and-both (not (eqb x c)) (lacks c l) e (λ p q. rw (not-true (eqb x c) p, split-one c l q))
 
-split-two : (c : ℕ) (l k : List ℕ) → lacks c l ≡ true → split c (l ++ (c ∷ k)) ≡ l ∷ split c k
+pub split-two : (c : ℕ) (l k : List ℕ) → lacks c l ≡ true → split c (l ++ (c ∷ k)) ≡ l ∷ split c k
 split-two c [] k e = rw (eqb-same c)
   where
     eqb-same : (c : ℕ) → eqb c c ≡ true
     eqb-same c = eq-eqb c c refl
 split-two c (x ∷ l) k e = and-both (not (eqb x c)) (lacks c l) e (λ p q. rw (not-true (eqb x c) p, split-two c l k q))
 
-lacks-append : (c : ℕ) (k l : List ℕ) → lacks c k ≡ true → lacks c l ≡ true → lacks c (k ++ l) ≡ true
+pub lacks-append : (c : ℕ) (k l : List ℕ) → lacks c k ≡ true → lacks c l ≡ true → lacks c (k ++ l) ≡ true
 lacks-append c [] l a b = b
 lacks-append c (x ∷ k) l a b = and-both (not (eqb x c)) (lacks c k) a (λ p q. rw p (lacks-append c k l q b))
 
@@ -50,7 +50,7 @@ no-comma : (l : List ℕ) → plainBytes l ≡ true → lacks 44 l ≡ true
 no-comma [] e = refl
 no-comma (x ∷ l) e = and-both (plainByte x) (plainBytes l) e (λ p q. plain-is x p (λ lo a b c. rw c (no-comma l q)))
 
-no-end : (l : List ℕ) → plainBytes l ≡ true → lacks 10 l ≡ true
+pub no-end : (l : List ℕ) → plainBytes l ≡ true → lacks 10 l ≡ true
 no-end [] e = refl
 no-end (x ∷ l) e = and-both (plainByte x) (plainBytes l) e (λ p q. plain-is x p (λ lo a b c. rw (ne-eqb x 10 (λ z. omega (arith, z))) (no-end l q)))
 

@@ -1,6 +1,6 @@
 -- Printed trees read back: the rows of a tree's nodes, children before parents, are built up into the tree again.
 use mathlib.Core.Path.{_≡_, refl, sym, _∙_, ap, ap₂}
-use mathlib.Core.Bool.{false, cond, _||_}
+use mathlib.Core.Bool.{cond}
 use mathlib.Core.Option.{some}
 use mathlib.Core.List.{List, [], _∷_, _++_, append-assoc, append-nil}
 use Prim.Native.Nat.{ℕ, suc, _≤_, _+_}
@@ -10,15 +10,12 @@ use lib.ListN.{length, getD, getElem?, length-append}
 use lib.Seq.{getD-at}
 use Rattle.cedar.specs.Types.{Ty, tbool, Var, principal, action, resource, context}
 use Rattle.cedar.specs.Residual.{Item, star, piece, Node, Nodes, NodeArgs, lit, err, var, and, or, ite, un, bin, rel, get, has, haspath, set, rec, enil, econs, gnil, gcons, Un, unot, uneg, uempty, uis, ulike, Bin, beq, blt, ble, badd, bsub, bmul, bcontains, ball, bany, Rel, rin, rgettag, rhastag}
-use Rattle.cedar.specs.Runs.{NVerdict}
 use Rattle.cedar.proofs.TypesKept.{AllHold, ArgsHold}
 use Rattle.sheet.specs.Forms.{forms, tagOf, mark}
-use Rattle.sheet.specs.Sheet.{anySlot}
 use Rattle.sheet.specs.Content.{varOf, patternOf, childrenOver, argsOver, treeOver, treesFrom}
 use Rattle.sheet.proofs.TypeNumbers.{Listed, TypesIn}
 pub use Rattle.sheet.specs.Literals.{valued, valuedAll, valuedArgs}
-use Rattle.sheet.proofs.Under.{any-append}
-use Rattle.sheet.specs.Answer.{size, sizes, sizeArgs, root, roots, argRoots, op, patternItems, unTag, unItems, binTag, relTag, varNumber, typeNumber, treeRows, allRows, argRows, residualRows}
+use Rattle.sheet.specs.Answer.{size, sizes, sizeArgs, root, roots, argRoots, op, patternItems, unTag, unItems, binTag, relTag, varNumber, typeNumber, treeRows, allRows, argRows}
 
 -- ---- numbers of four digits, and Q of the numbers of literals
 
@@ -322,71 +319,3 @@ module _ {L : Type 0} (ts : List Ty) (value : ℕ → L) where
       args-back : (gs : NodeArgs ℕ) (ns : List (Node L)) (n : ℕ) → length ns ≡ n → SmallArgs Q gs → ArgsHold (Listed ts) gs → Built ns (argRows ts n gs) (innerArgs (valuedArgs value gs))
       args-back gnil ns n len h q = sym (append-nil ns)
       args-back (gcons t e gs) ns n len h q = then-rows ns (post (W e)) (innerArgs (valuedArgs value gs)) (treeRows ts n e) (argRows ts (n + size e) gs) (tree-back e ns n len (h .1) (q .0)) (args-back gs (ns ++ post (W e)) (n + size e) (grown ns n len e) (h .2) (q .1))
-
--- ---- no slot stands in the rows of a tree
-
-none-in : (a b : List (List ℕ)) → anySlot a ≡ false → anySlot b ≡ false → anySlot (a ++ b) ≡ false
-none-in a b g h = any-append a b ∙ ap₂ (λ x y. x || y) g h
-
-module _ (ts : List Ty) where
-  no-un : (u : Un) (r : List ℕ) → anySlot ((unTag u ∷ r) ∷ []) ≡ false
-  unfolding tagOf forms
-  no-un unot r = refl
-  no-un uneg r = refl
-  no-un uempty r = refl
-  no-un (uis k) r = refl
-  no-un (ulike p) r = refl
-
-  no-bin : (o : Bin) (r : List ℕ) → anySlot ((binTag o ∷ r) ∷ []) ≡ false
-  unfolding tagOf forms
-  no-bin beq r = refl
-  no-bin blt r = refl
-  no-bin ble r = refl
-  no-bin badd r = refl
-  no-bin bsub r = refl
-  no-bin bmul r = refl
-  no-bin bcontains r = refl
-  no-bin ball r = refl
-  no-bin bany r = refl
-
-  no-rel : (o : Rel) (r : List ℕ) → anySlot ((relTag o ∷ r) ∷ []) ≡ false
-  unfolding tagOf forms
-  no-rel rin r = refl
-  no-rel rgettag r = refl
-  no-rel rhastag r = refl
-
-  -- two trees and the row above them
-  over : (a b : Node ℕ) (n : ℕ) (r : List ℕ) → anySlot (treeRows ts n a) ≡ false → anySlot (treeRows ts (n + size a) b) ≡ false → anySlot (r ∷ []) ≡ false → anySlot (treeRows ts n a ++ treeRows ts (n + size a) b ++ (r ∷ [])) ≡ false
-  over a b n r f g h = none-in (treeRows ts n a ++ treeRows ts (n + size a) b) (r ∷ []) (none-in (treeRows ts n a) (treeRows ts (n + size a) b) f g) h
-
-  mutual
-    unfolding tagOf forms
-
-    no-slot : (e : Node ℕ) (n : ℕ) → anySlot (treeRows ts n e) ≡ false
-    no-slot (lit T v) n = refl
-    no-slot (err T) n = refl
-    no-slot (var T x) n = refl
-    no-slot (and T a b) n = over a b n (op "and" ∷ typeNumber ts T ∷ root n a ∷ root (n + size a) b ∷ []) (no-slot a n) (no-slot b (n + size a)) refl
-    no-slot (or T a b) n = over a b n (op "or" ∷ typeNumber ts T ∷ root n a ∷ root (n + size a) b ∷ []) (no-slot a n) (no-slot b (n + size a)) refl
-    no-slot (ite T c a b) n = none-in (treeRows ts n c ++ treeRows ts (n + size c) a ++ treeRows ts (n + size c + size a) b) ((op "if" ∷ typeNumber ts T ∷ root n c ∷ root (n + size c) a ∷ root (n + size c + size a) b ∷ []) ∷ [])
-        (none-in (treeRows ts n c ++ treeRows ts (n + size c) a) (treeRows ts (n + size c + size a) b) (none-in (treeRows ts n c) (treeRows ts (n + size c) a) (no-slot c n) (no-slot a (n + size c))) (no-slot b (n + size c + size a))) refl
-    no-slot (un T u a) n = none-in (treeRows ts n a) ((unTag u ∷ typeNumber ts T ∷ root n a ∷ unItems u) ∷ []) (no-slot a n) (no-un u (typeNumber ts T ∷ root n a ∷ unItems u))
-    no-slot (bin T o a b) n = over a b n (binTag o ∷ typeNumber ts T ∷ root n a ∷ root (n + size a) b ∷ []) (no-slot a n) (no-slot b (n + size a)) (no-bin o (typeNumber ts T ∷ root n a ∷ root (n + size a) b ∷ []))
-    no-slot (rel T o a b) n = over a b n (relTag o ∷ typeNumber ts T ∷ root n a ∷ root (n + size a) b ∷ []) (no-slot a n) (no-slot b (n + size a)) (no-rel o (typeNumber ts T ∷ root n a ∷ root (n + size a) b ∷ []))
-    no-slot (get T a t) n = none-in (treeRows ts n a) ((op "get" ∷ typeNumber ts T ∷ root n a ∷ t ∷ []) ∷ []) (no-slot a n) refl
-    no-slot (has T a t) n = none-in (treeRows ts n a) ((op "has" ∷ typeNumber ts T ∷ root n a ∷ t ∷ []) ∷ []) (no-slot a n) refl
-    no-slot (haspath T a t us) n = none-in (treeRows ts n a) ((op "haspath" ∷ typeNumber ts T ∷ root n a ∷ t ∷ us) ∷ []) (no-slot a n) refl
-    no-slot (set T es) n = none-in (allRows ts n es) ((op "set" ∷ typeNumber ts T ∷ roots n es) ∷ []) (no-slots es n) refl
-    no-slot (rec T gs) n = none-in (argRows ts n gs) ((op "record" ∷ typeNumber ts T ∷ argRoots n gs) ∷ []) (no-arg-slots gs n) refl
-
-    no-slots : (es : Nodes ℕ) (n : ℕ) → anySlot (allRows ts n es) ≡ false
-    no-slots enil n = refl
-    no-slots (econs e es) n = none-in (treeRows ts n e) (allRows ts (n + size e) es) (no-slot e n) (no-slots es (n + size e))
-
-    no-arg-slots : (gs : NodeArgs ℕ) (n : ℕ) → anySlot (argRows ts n gs) ≡ false
-    no-arg-slots gnil n = refl
-    no-arg-slots (gcons t e gs) n = none-in (treeRows ts n e) (argRows ts (n + size e) gs) (no-slot e n) (no-arg-slots gs (n + size e))
-
-  pub no-slot-left : (ls : List NVerdict) (n : ℕ) → anySlot (residualRows ts n ls) ≡ false
-  no-slot-left [] n = refl
-  no-slot-left (l ∷ ls) n = none-in (treeRows ts n (l .root)) (residualRows ts (n + size (l .root)) ls) (no-slot (l .root) n) (no-slot-left ls (n + size (l .root)))

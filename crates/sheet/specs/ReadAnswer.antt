@@ -1,23 +1,23 @@
 -- Document 01, "The answer", read back: from the bytes of an answer to its decision, counts, name, made values, residual nodes and policy lines.
 -- Its `value=` and `node=` lines have the forms of a sheet's and are read by the sheet's table. A text of another form reads as none.
-use mathlib.Core.Bool.{cond}
+use mathlib.Core.Bool.{Bool, true, cond, _&&_, not}
 use mathlib.Core.Option.{Option, none, some}
 use mathlib.Core.List.{List, [], _∷_}
-use Prim.Native.Nat.{ℕ, suc}
+use Prim.Native.Nat.{ℕ, suc, _+_}
 use Prim.Native.String.{String}
-use lib.Dec.{eqb}
+use lib.Dec.{ltb, eqb}
 use lib.ListN.{length, getD, take, drop, replicate, getElem?}
 use Rattle.cedar.specs.Value.{onSome}
-use Rattle.cedar.specs.Types.{Ty}
 use Rattle.cedar.specs.Residual.{Node, err, Class, ctrue, cfalse, cerror, copen}
 use Rattle.cedar.specs.Response.{Effect, Decision, allow, deny, undecided}
-use Rattle.cedar.specs.Rows.{Row}
+use Rattle.cedar.specs.Rows.{Row, rbool, rlong, rtext, rent, rset, rrec}
 use Rattle.sheet.specs.Ascii.{ascii}
 use Rattle.sheet.specs.Bytes.{upTo, split, same}
-use Rattle.sheet.specs.Forms.{Mode, partial, complete, Slot, line, word, item, joined, rowOf, keyOf, TEXT, VALUE, NODE, POLICY}
+use Rattle.sheet.specs.Forms.{Mode, partial, complete, Slot, line, word, item, joined, rowOf, keyOf, refs, TEXT, TYPE, VALUE, NODE, POLICY}
 use Rattle.sheet.specs.Why.{Name}
-use Rattle.sheet.specs.Sheet.{anySlot}
-use Rattle.sheet.specs.Content.{rowsIn, treesFrom, effectOf}
+use Rattle.sheet.specs.State.{State, count}
+use Rattle.sheet.specs.Typing.{allIn, allEntries, isSlot}
+use Rattle.sheet.specs.Content.{types, rowsIn, treesFrom, effectOf}
 
 -- `policy=id,effect,true|false|error|open,root`; in a complete answer, "policies without root", the root is 0
 pub record PolicyLine : Type 0 where
@@ -109,7 +109,36 @@ linesSay m (d ∷ c ∷ w ∷ ls) = onSome none (decisionLine d) (λ x. onSome n
 unfoldable pub readAnswer : Mode → List ℕ → Option Said
 readAnswer m bytes = linesSay m (split 10 bytes)
 
--- the tree under a policy's root, if there is one: ts are the sheet's types, and a `lit` holds what its number stands for. Residuals are
--- those of linked policies: an answer with a slot has no trees
-unfoldable pub treeUnder : {L : Type 0} → List Ty → (ℕ → L) → Said → PolicyLine → Option (Node L)
-treeUnder ts value a l = cond (anySlot (a .nodes)) none (getElem? (treesFrom ts value (λ T x. err T) [] (a .nodes)) (l .root))
+-- ---- the residuals of an answer
+
+-- whether what a made value holds is among the n values before it
+abbrev pub valueStands : ℕ → Row → Bool
+valueStands n (rbool b) = true
+valueStands n (rlong x) = true
+valueStands n (rtext t) = true
+valueStands n (rent k t) = true
+valueStands n (rset l) = allIn (λ x. ltb x n) l
+valueStands n (rrec e) = allEntries (λ t x. ltb x n) e
+
+-- made values, "numbered on from the sheet's"
+abbrev pub valuesStand : ℕ → List Row → Bool
+valuesStand n [] = true
+valuesStand n (r ∷ rs) = valueStands n r && valuesStand (suc n) rs
+
+-- whether what a node refers to is there: its type and its literal, of so many types and values; its children, of the n nodes before it.
+-- Residuals are those of linked policies: no slot is left
+abbrev pub nodeStands : ℕ → ℕ → ℕ → List ℕ → Bool
+nodeStands types values n r = allIn (λ x. ltb x types) (refs TYPE r) && (allIn (λ x. ltb x values) (refs VALUE r) && (allIn (λ x. ltb x n) (refs NODE r) && not (isSlot r)))
+
+-- nodes, "children before parents .. from 0"
+abbrev pub nodesStand : ℕ → ℕ → ℕ → List (List ℕ) → Bool
+nodesStand types values n [] = true
+nodesStand types values n (r ∷ rs) = nodeStands types values n r && nodesStand types values (suc n) rs
+
+-- "with its `lit` numbers read among the partial sheet's values and the made ones"
+abbrev pub allStand : State → Said → Bool
+allStand s a = valuesStand (count s VALUE) (a .made) && nodesStand (count s TYPE) (count s VALUE + length (a .made)) 0 (a .nodes)
+
+-- the tree under a policy's root, if there is one, where a `lit` holds what its number stands for; none where a value, type or node is absent
+unfoldable pub treeUnder : {L : Type 0} → State → (ℕ → L) → Said → PolicyLine → Option (Node L)
+treeUnder s value a l = cond (allStand s a) (getElem? (treesFrom (types s) value (λ T x. err T) [] (a .nodes)) (l .root)) none
