@@ -1,1 +1,3 @@
 pub mod FitsBoth
+pub mod TypesBoth
+pub mod ShapesBoth
