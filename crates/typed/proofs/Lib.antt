@@ -1,3 +1,6 @@
 pub mod FitsBoth
 pub mod TypesBoth
 pub mod ShapesBoth
+pub mod Parts
+pub mod RulesBoth
+pub mod Trees
