@@ -4,3 +4,4 @@ pub mod ShapesBoth
 pub mod Parts
 pub mod RulesBoth
 pub mod Trees
+pub mod NodeRule
