@@ -5,3 +5,4 @@ pub mod Parts
 pub mod RulesBoth
 pub mod Trees
 pub mod NodeRule
+pub mod LinesBoth

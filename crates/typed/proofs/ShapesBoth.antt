@@ -30,18 +30,18 @@ use Rattle.typed.proofs.TypesBoth.{type-eq, entity-both, record-both, k
 
 -- ---- after the shapes every kind has one
 
-reach-take : (k : ℕ) (xs ys : List ℕ) → reach (take k xs) ys ≡ true → (j : ℕ) → j < k → j < length xs → j < length ys → getD ys j 0 ≤ getD xs j 0
+pub reach-take : (k : ℕ) (xs ys : List ℕ) → reach (take k xs) ys ≡ true → (j : ℕ) → j < k → j < length xs → j < length ys → getD ys j 0 ≤ getD xs j 0
 reach-take zero xs ys e j a b c = absurd (omega arith)
 reach-take (suc k) [] ys e j a b c = absurd (omega arith)
 reach-take (suc k) (x ∷ xs) [] e j a b c = absurd (omega arith)
 reach-take (suc k) (x ∷ xs) (y ∷ ys) e zero a b c = and-both (leb y x) (reach (take k xs) ys) e (λ p q. leb-true y x p)
 reach-take (suc k) (x ∷ xs) (y ∷ ys) e (suc j) a b c = and-both (leb y x) (reach (take k xs) ys) e (λ p q. reach-take k xs ys q j (le-of-suc-le-suc a) (le-of-suc-le-suc b) (le-of-suc-le-suc c))
 
-lengths-length : (ls : List (List (List ℕ))) → length (lengths ls) ≡ length ls
+pub lengths-length : (ls : List (List (List ℕ))) → length (lengths ls) ≡ length ls
 lengths-length [] = refl
 lengths-length (l ∷ ls) = ap suc (lengths-length ls)
 
-lengths-at : (ls : List (List (List ℕ))) (j : ℕ) → getD (lengths ls) j 0 ≡ length (getD ls j [])
+pub lengths-at : (ls : List (List (List ℕ))) (j : ℕ) → getD (lengths ls) j 0 ≡ length (getD ls j [])
 lengths-at [] j = refl
 lengths-at (l ∷ ls) zero = refl
 lengths-at (l ∷ ls) (suc j) = lengths-at ls j

@@ -15,7 +15,7 @@ use Rattle.sheet.specs.Forms.{at, mark, keyOf, refs, SHAPE, NODE}
 use Rattle.sheet.specs.State.{State, count, linesOf}
 use Rattle.sheet.specs.Typing.{isAction, attributesOf, unknownOr, nodesOf, isSlot, slotValue}
 use Rattle.sheet.specs.Sheet.{inOrder, tooMany, found, depth, usedTwice}
-use Rattle.sheet.specs.Content.{types, contentOf, schema, treeOver, treesFrom}
+use Rattle.sheet.specs.Content.{types, contents, contentOf, schema, treeOver, treesFrom, above, setOver}
 
 -- the type that a type number stands for
 abbrev pub typeIn : State → ℕ → Ty
@@ -60,6 +60,10 @@ entityBy s r = onEnt false (contentOf s (at r 0)) (λ k t.
     unknownOr (at r 1) (Test.fits (contentOf s (at r 1)) (trec (schema s .shape k .attrs)))
     && unknownOr (at r 2) (onRec false (contentOf s (at r 2)) (tagsBy (schema s .shape k .tags)))
     && unknownOr (at r 3) (onSet false (contentOf s (at r 3)) (eachValue (kindBy (schema s .shape k .above)))))
+
+-- of an entity line and all that it reaches, after the entity lines (`reachedFit` of sheet/specs/Sheet)
+abbrev pub reachedBy : State → List ℕ → Bool
+reachedBy s r = onEnt false (contentOf s (at r 0)) (λ k t. eachValue (kindBy (schema s .shape k .above)) (setOver (contents s) (above s (at r 0))))
 
 -- ---- "A known context fits its record type"
 
