@@ -6,3 +6,4 @@ pub mod RulesBoth
 pub mod Trees
 pub mod NodeRule
 pub mod LinesBoth
+pub mod SevenByContent
