@@ -7,3 +7,4 @@ pub mod Trees
 pub mod NodeRule
 pub mod LinesBoth
 pub mod SevenByContent
+pub mod Refused

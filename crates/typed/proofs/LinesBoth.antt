@@ -201,13 +201,15 @@ module _ {m : Mode} {s : State} (h : Reached m s) where
 
   -- ---- policies
 
-  pub policy-both : (r l : List ℕ) → r ≡ rowOf m l → keyOf r ≡ POLICY → found s POLICY r ≡ true → policyTyped s r ≡ policyBy s r
+  pub root-there : (r l : List ℕ) → r ≡ rowOf m l → keyOf r ≡ POLICY → found s POLICY r ≡ true → at r 2 < count s NODE
   unfolding keyOf slotAt formOf forms
-  policy-both r l e k f =
+  root-there r l e k f =
       let (lo, hi) = tags-between POLICY policyTag policyTag (tag r) (omega arith) policy-tags k in
       let rd = row-read m r l policyTag e (omega (arith, lo, hi)) (omega arith) (omega arith) (λ z. absurd (omega (arith, z))) in
-      let lt = ltb-true (at r 2) (count s NODE) (item-there m s s POLICY r policyTag rd f 2 (ltb-true 2 3 refl)) in
-      bool-both h (typeOfNode s (at r 2)) ∙ ap (λ A. tySame A tbool) (sym (drafts-ty h (at r 2) lt))
+      ltb-true (at r 2) (count s NODE) (item-there m s s POLICY r policyTag rd f 2 (ltb-true 2 3 refl))
+
+  pub policy-both : (r l : List ℕ) → r ≡ rowOf m l → keyOf r ≡ POLICY → found s POLICY r ≡ true → policyTyped s r ≡ policyBy s r
+  policy-both r l e k f = bool-both h (typeOfNode s (at r 2)) ∙ ap (λ A. tySame A tbool) (sym (drafts-ty h (at r 2) (root-there r l e k f)))
 
   -- ---- links
 

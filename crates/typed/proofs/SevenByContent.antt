@@ -39,12 +39,17 @@ and-one : (p : Bool) → p ≡ (p && true)
 and-one true = refl
 and-one false = refl
 
+-- a slot stands as an error, which passes
+pub slot-passes : (s : State) (r : List ℕ) → isSlot r ≡ true → check (schema s) (draft s r) ≡ true
+slot-passes s [] e = no-true e
+slot-passes s (t ∷ k) e = subst (λ z. check (schema s) (draft s (z ∷ k)) ≡ true) (sym (eqb-true t 49 e)) refl
+
 module _ {m : Mode} {s : State} (h : Reached m s) where
   -- ---- nodes
 
   module _ (order : inOrder s NODE ≡ true) where
     -- the root of a tree that is no slot, whatever typed trees stand for slots
-    root-both : (sl : Ty → ℕ → Expr) → ((A : Ty) (x : ℕ) → tyOf (sl A x) ≡ A) → (t : ℕ) (k l : List ℕ) → (t ∷ k) ≡ rowOf m l → keyOf (t ∷ k) ≡ NODE → found s NODE (t ∷ k) ≡ true → isSlot (t ∷ k) ≡ false
+    pub root-both : (sl : Ty → ℕ → Expr) → ((A : Ty) (x : ℕ) → tyOf (sl A x) ≡ A) → (t : ℕ) (k l : List ℕ) → (t ∷ k) ≡ rowOf m l → keyOf (t ∷ k) ≡ NODE → found s NODE (t ∷ k) ≡ true → isSlot (t ∷ k) ≡ false
         → getD (rules s (t ∷ k)) (t - 21) false ≡ check (schema s) (blank (treeOver (types s) (contentOf s) sl (treesFrom (types s) (contentOf s) sl [] (linesOf s NODE)) (t ∷ k)))
     unfolding keyOf
     root-both sl own t k l e q f ns =
@@ -59,16 +64,13 @@ module _ {m : Mode} {s : State} (h : Reached m s) where
             go (yes d) = omega (arith, d)
             go (no d) = let z : t ≡ 49 = omega (arith, d, le) in no-true (sym ns ∙ ap (λ x. eqb x 49) z)
 
-    slot-draft : (t : ℕ) (k : List ℕ) → isSlot (t ∷ k) ≡ true → check (schema s) (draft s (t ∷ k)) ≡ true
-    slot-draft t k e = subst (λ z. check (schema s) (draft s (z ∷ k)) ≡ true) (sym (eqb-true t 49 e)) refl
-
     slot-rule : (t : ℕ) (k : List ℕ) → isSlot (t ∷ k) ≡ true → getD (rules s (t ∷ k)) (t - 21) false ≡ onEntTy false (typeIn s (getD k 0 0)) (λ ks. true)
     slot-rule t k e = subst (λ z. getD (rules s (z ∷ k)) (z - 21) false ≡ onEntTy false (typeIn s (getD k 0 0)) (λ ks. true)) (sym (eqb-true t 49 e)) (is-entity h (getD k 0 0))
 
     node-row : (t : ℕ) (k l : List ℕ) → (t ∷ k) ≡ rowOf m l → keyOf (t ∷ k) ≡ NODE → found s NODE (t ∷ k) ≡ true → (b : Bool) → isSlot (t ∷ k) ≡ b
         → getD (rules s (t ∷ k)) (t - 21) false ≡ ((not b || onEntTy false (typeIn s (getD k 0 0)) (λ ks. true)) && check (schema s) (draft s (t ∷ k)))
     unfolding drafts
-    node-row t k l e q f true b = slot-rule t k b ∙ and-one (onEntTy false (typeIn s (getD k 0 0)) (λ ks. true)) ∙ ap (λ c. onEntTy false (typeIn s (getD k 0 0)) (λ ks. true) && c) (sym (slot-draft t k b))
+    node-row t k l e q f true b = slot-rule t k b ∙ and-one (onEntTy false (typeIn s (getD k 0 0)) (λ ks. true)) ∙ ap (λ c. onEntTy false (typeIn s (getD k 0 0)) (λ ks. true) && c) (sym (slot-passes s (t ∷ k) b))
     node-row t k l e q f false b =
         root-both (λ A x. err A) (λ A x. refl) t k l e q f b
         ∙ and-one (check (schema s) (blank (draft s (t ∷ k))))

@@ -1,9 +1,10 @@
 -- Refusal 7 by content: the rule of each line over types, values and trees by content, where sheet/specs/Typing has it over their numbers.
 -- Values and trees are judged by cedar's own test (cedar/specs/TypingTest), which accepts exactly what fits and what is typed.
+use mathlib.Core.Path.{_≡_}
 use mathlib.Core.Bool.{Bool, true, false, cond, _&&_, _||_, not}
 use mathlib.Core.Option.{Option, none, some}
 use mathlib.Core.List.{List, [], _∷_}
-use Prim.Native.Nat.{ℕ}
+use Prim.Native.Nat.{ℕ, suc, _<_, _+_}
 use lib.Dec.{ltb, eqb}
 use lib.ListN.{getD}
 use Rattle.cedar.specs.Value.{Value, vbool, vlong, vtext, vent, vset, vrec, Values, vnil, vcons, Fields, fnil, fcons, onEnt, onSet, onSome}
@@ -11,10 +12,10 @@ use Rattle.cedar.specs.Types.{Ty, tbool, trec, Attrs, anil, acons, among, tySam
 use Rattle.cedar.specs.Residual.{Expr, err, tyOf}
 use Rattle.cedar.specs.TypingTest.{onEntTy, onRecTy, check}
 use Rattle.cedar.specs.TypingTest as Test
-use Rattle.sheet.specs.Forms.{at, mark, keyOf, refs, SHAPE, NODE}
-use Rattle.sheet.specs.State.{State, count, linesOf}
+use Rattle.sheet.specs.Forms.{Mode, at, mark, keyOf, rowOf, refs, SHAPE, ENTITY, NODE}
+use Rattle.sheet.specs.State.{State, count, linesOf, lineAt, before}
 use Rattle.sheet.specs.Typing.{isAction, attributesOf, unknownOr, nodesOf, isSlot, slotValue}
-use Rattle.sheet.specs.Sheet.{inOrder, tooMany, found, depth, usedTwice}
+use Rattle.sheet.specs.Sheet.{Reading, inOrder, tooMany, found, depth, usedTwice}
 use Rattle.sheet.specs.Content.{types, contents, contentOf, schema, treeOver, treesFrom, above, setOver}
 
 -- the type that a type number stands for
@@ -129,3 +130,10 @@ faultBy s k r =
     (cond (ltb 64 (depth s k r)) 6
     (cond (not (byContent s r k)) 7
     (cond (usedTwice (s .used) (refs NODE r)) 8 0)))))
+
+-- ---- a reading that ended with 7
+
+-- of the lines of a sheet and the end of its reading: the line that ended it, or the entity line that is named, is untyped by content
+pub data Untyped (m : Mode) (lines : List (List ℕ)) (x : Reading) : Type 0 where
+  ofLine : (n : ℕ) → x .line ≡ suc n → byContent (x .state) (rowOf m (getD lines n [])) (keyOf (rowOf m (getD lines n []))) ≡ false → Untyped m lines x
+  ofEntity : (n : ℕ) → n < count (x .state) ENTITY → x .line ≡ suc (before (x .state) ENTITY + n) → reachedBy (x .state) (lineAt (x .state) ENTITY n) ≡ false → Untyped m lines x
