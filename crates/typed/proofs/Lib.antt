@@ -8,3 +8,4 @@ pub mod NodeRule
 pub mod LinesBoth
 pub mod SevenByContent
 pub mod Refused
+pub mod ExampleSeven
