@@ -2,7 +2,9 @@
 use mathlib.Core.Path.{_≡_, refl}
 use mathlib.Core.List.{List, []}
 use Prim.Native.Nat.{ℕ}
-use Rattle.cedar.specs.Types.{Ty}
+use lib.ListN.{getD}
+use Rattle.cedar.specs.Types.{Ty, tbool}
+use Rattle.cedar.specs.Residual.{err}
 use Rattle.cedar.specs.Typing.{Typed}
 use Rattle.sheet.specs.Ascii.{ascii}
 use Rattle.sheet.specs.Bytes.{split}
@@ -11,11 +13,12 @@ use Rattle.sheet.specs.State.{State, linesOf}
 use Rattle.sheet.specs.Parents.{ancestors, unknownAbove}
 use Rattle.sheet.specs.Typing.{fitsIn, nodesUnder, typed}
 use Rattle.sheet.specs.Sheet.{found, depth, fault, more, read}
-use Rattle.sheet.specs.Content.{types, contentOf, schema, treeOver, treesFrom, linked}
+use Rattle.sheet.specs.Content.{types, contentOf, schema, treeOver, treesFrom, linked, exprs}
 use Rattle.sheet.proofs.Shown.{lineEnds}
 use Rattle.sheet.proofs.Depths.{read-reached}
 use Rattle.typed.specs.ByContent.{Untyped}
 use Rattle.typed.proofs.Refused.{read-seven, node-untyped}
+use Rattle.typed.proofs.LinkedTrees.{link-untyped}
 
 -- types: bool, an empty record, entities of kind 0; values: an entity and a bool
 
@@ -158,3 +161,11 @@ s = read partial not-an-entity .state
 no-type : (p q : ℕ) (A : Ty) → Typed (schema s) (treeOver (types s) (contentOf s) (linked (contentOf s) p q) (treesFrom (types s) (contentOf s) (linked (contentOf s) p q) [] (linesOf s NODE)) (rowOf partial (ascii "node=0,not,0"))) A → ⊥
 unfolding not-an-entity keys forms formOf slotAt counted tagOf rowOf keyOf refs ascendings fitsIn nodesUnder typed found depth fault more read ancestors unknownAbove
 no-type p q = node-untyped (read-reached partial not-an-entity) (ascii "node=0,not,0") refl (linked (contentOf s) p q) (λ A x. refl) refl refl
+
+-- the tree that this link would make has no type
+abbrev u : State
+u = read partial bool-linked .state
+
+no-link : (A : Ty) → Typed (schema u) (getD (exprs u 1 10000) 2 (err tbool)) A → ⊥
+unfolding bool-linked keys forms formOf slotAt counted tagOf rowOf keyOf refs ascendings fitsIn nodesUnder typed found depth fault more read ancestors unknownAbove
+no-link = link-untyped (read-reached partial bool-linked) (ascii "link=0,1,-") refl refl

@@ -9,3 +9,4 @@ pub mod LinesBoth
 pub mod SevenByContent
 pub mod Refused
 pub mod ExampleSeven
+pub mod LinkedTrees
