@@ -1,23 +1,22 @@
 -- A value fits a type by number exactly if it fits by content.
-use mathlib.Core.Path.{_≡_, refl, sym, _∙_, ap, ap₂, subst}
+use mathlib.Core.Path.{_≡_, refl, sym, _∙_, ap, ap₂}
 use mathlib.Core.Bool.{Bool, true, false, not, _&&_, _||_}
 use mathlib.Core.Option.{Option, none, some}
 use mathlib.Core.List.{List, [], _∷_}
 use Prim.Native.Nat.{ℕ, zero, suc, _<_, _-_, Ordering, Ordering·lt, Ordering·eq, Ordering·gt}
 use native.Mathlib.Omega.{arith}
-use lib.Dec.{eqb}
 use lib.ListN.{getD}
-use Rattle.cedar.specs.Value.{Value, vbool, Values, vnil, vcons, Fields, find, found, onSome}
+use Rattle.cedar.specs.Value.{Value, vbool, Values, vnil, vcons, find, found, onSome}
 use Rattle.cedar.specs.Canonical.{order, place, insert, ascending, makeSet}
-use Rattle.cedar.specs.Types.{Ty, tbool, Attrs, declared}
+use Rattle.cedar.specs.Types.{Ty, tbool}
 use Rattle.cedar.specs.TypingTest.{allFit, fieldsFit, completed, need}
 use Rattle.cedar.specs.TypingTest as Test
 use Rattle.cedar.specs.Rows.{Entries, stop, entry, Row, rbool, rlong, rtext, rent, rset, rrec}
 use Rattle.cedar.specs.Numbered.{isSome, entryOf}
 use Rattle.cedar.proofs.CanonicalLaws.{order-eq}
 use Rattle.sheet.specs.Forms.{Mode, TYPE, VALUE}
-use Rattle.sheet.specs.State.{State, linesOf, depthsOf, Declared, TypeRow, bool, long, string, entity, set′, record′, typeRow, typeAt, valueRow, valueAt}
-use Rattle.sheet.specs.Typing.{declaredIn, requiredThere, allIn, allEntries, entriesFit, rowFits, fitsBy, fits, fitsIn}
+use Rattle.sheet.specs.State.{State, linesOf, depthsOf, Declared, TypeRow, bool, long, string, entity, set′, record′, typeAt, valueAt}
+use Rattle.sheet.specs.Typing.{declaredIn, requiredThere, allIn, allEntries, rowFits, fitsBy, fits, fitsIn}
 use Rattle.sheet.specs.Content.{types, contents, contentOf, attrsOver, tyOver, membersOver, fieldsOver, valueOver}
 use Rattle.sheet.proofs.RowTests.{mem-among}
 use Rattle.sheet.proofs.Fitting.{val-eq, ty-eq}
@@ -37,6 +36,10 @@ and-swap false false c = refl
 and-again : (a b : Bool) → (a && b) ≡ (a && (a && b))
 and-again true b = refl
 and-again false b = refl
+
+pub and-one : (p : Bool) → p ≡ (p && true)
+and-one true = refl
+and-one false = refl
 
 pub and-turn : (a b : Bool) → (a && b) ≡ (b && a)
 and-turn true true = refl

@@ -1,32 +1,28 @@
 -- The rules of shapes, entities, the context, policies and links over numbers are those over contents.
 use mathlib.Core.Path.{_≡_, refl, sym, _∙_, ap, ap₂, subst}
 use mathlib.Core.Bool.{Bool, true, false, cond, _&&_, _||_, not}
-use mathlib.Core.Option.{Option, none, some}
+use mathlib.Core.Option.{none, some}
 use mathlib.Core.List.{List, [], _∷_}
 use Prim.Native.Nat.{ℕ, zero, suc, _<_, _≤_, _+_, _-_, _*_}
 use native.Mathlib.Omega.{arith}
 use native.Mathlib.Decide.{decLt}
 use borrow.Author.Tests.{ltb-true}
 use lib.Dec.{eqb}
-use lib.IntN.{ℤ}
 use lib.ListN.{length, getD, drop, List·getD-eq-default}
 use Rattle.cedar.proofs.Tools.{no-true, and-both}
-use Rattle.cedar.specs.Value.{Value, vbool, Values, Fields, onEnt, onSet, onSome}
-use Rattle.cedar.specs.Canonical.{ascending, makeSet}
+use Rattle.cedar.specs.Value.{Value, vbool, Fields, onEnt, onSet}
+use Rattle.cedar.specs.Canonical.{makeSet}
 use Rattle.cedar.specs.Types.{Ty, tbool, trec, Attrs, among, tySame}
-use Rattle.cedar.specs.Residual.{err, tyOf}
-use Rattle.cedar.specs.TypingTest.{onRecTy}
 use Rattle.cedar.specs.TypingTest as Test
 use Rattle.cedar.specs.Rows.{Entries, stop, entry, Row, rbool, rlong, rtext, rent, rset, rrec}
 use Rattle.cedar.specs.Numbered.{memN, rEnt, rSet, rRec}
 use Rattle.sheet.specs.Bytes.{longAt}
-use Rattle.sheet.specs.Forms.{Mode, forms, formOf, slotAt, tag, items, at, mark, keyOf, rowOf, KIND, TYPE, SHAPE, VALUE, ENTITY, CONTEXT, NODE, POLICY, noTag}
-use Rattle.sheet.specs.State.{State, linesOf, count, lineAt, counts, Declared, typeAt, record′, valueRow, valueAt, entriesOf, entityLines}
-use Rattle.sheet.specs.Parents.{ancestors}
-use Rattle.sheet.specs.Typing.{onRecord, allIn, allEntries, fits, isAction, attributesOf, tagsOf, aboveOf, noneDeclared, shapeTyped, isStop, tagsFit, ancestorFits, unknownOr, entityTyped, contextTyped, typeOfNode, isSlot, slotValue, slotsFit, policyTyped, isBool}
-use Rattle.sheet.specs.Sheet.{found, thereIs, inOrder, enough, least, allZero, reachedFit}
+use Rattle.sheet.specs.Forms.{Mode, forms, formOf, slotAt, tag, items, at, mark, keyOf, rowOf, KIND, TYPE, SHAPE, VALUE, ENTITY, CONTEXT, NODE, POLICY}
+use Rattle.sheet.specs.State.{State, linesOf, count, lineAt, counts, Declared, valueRow, valueAt, entriesOf}
+use Rattle.sheet.specs.Typing.{allIn, allEntries, fits, isAction, attributesOf, tagsOf, aboveOf, noneDeclared, shapeTyped, isStop, tagsFit, ancestorFits, unknownOr, entityTyped, contextTyped, typeOfNode, isSlot, slotValue, slotsFit, policyTyped}
+use Rattle.sheet.specs.Sheet.{found, inOrder, enough, least, allZero, reachedFit}
 use Rattle.sheet.specs.Content.{types, contents, contentOf, membersOver, fieldsOver, valueOver, attrsOver, tyOver, tagTy, schema, setOver, above}
-use Rattle.sheet.proofs.Parsed.{tags-between, policy-tags, policyTag, allBelow, between}
+use Rattle.sheet.proofs.Parsed.{tags-between, policy-tags, policyTag}
 use Rattle.sheet.proofs.RowTests.{mem-among}
 use Rattle.sheet.proofs.Fitting.{val-eq}
 use Rattle.sheet.proofs.NodeRows.{row-read}
@@ -34,7 +30,7 @@ use Rattle.sheet.proofs.PoliciesRead.{item-there}
 use Rattle.sheet.proofs.Environment.{context-read}
 use Rattle.sheet.proofs.TypeNumbers.{split-at}
 use Rattle.sheet.proofs.Depths.{Reached, reached-history, reached-depths}
-use Rattle.typed.specs.ByContent.{typeIn, onRec, eachValue, noAttrs, shapeBy, tagsBy, kindBy, entityBy, reachedBy, contextBy, drafts, policyBy, slotsBy}
+use Rattle.typed.specs.ByContent.{typeIn, onRec, eachValue, noAttrs, shapeBy, tagsBy, kindBy, entityBy, reachedBy, contextBy, policyBy, slotsBy}
 use Rattle.typed.proofs.FitsBoth.{fits-both, each-ascending}
 use Rattle.typed.proofs.TypesBoth.{type-eq, bool-both, record-both}
 use Rattle.typed.proofs.ShapesBoth.{reach-take, lengths-length, lengths-at, shape-record, shape-attrs}

@@ -1,12 +1,11 @@
 -- Links by their trees: a link whose values do not fit the slots makes a tree that has no type.
-use mathlib.Core.Path.{_≡_, refl, sym, _∙_, ap, ap₂, subst}
+use mathlib.Core.Path.{_≡_, refl, sym, _∙_, ap, subst}
 use mathlib.Core.Bool.{Bool, true, false, _&&_, _||_, not}
 use mathlib.Core.Option.{some}
 use mathlib.Core.List.{List, [], _∷_, _++_, append-assoc}
 use Prim.Native.Nat.{ℕ, zero, suc, _<_, _≤_, _+_, _-_}
 use native.Mathlib.Omega.{arith}
-use lib.Dec.{eqb}
-use lib.ListN.{length, getD, drop}
+use lib.ListN.{length, getD}
 use Rattle.cedar.proofs.Tools.{no-true, eqb-true, and-left, and-right, both}
 use Rattle.cedar.proofs.TableLaws.{InN, now′, later′}
 use Rattle.cedar.proofs.TypingTestComplete.{check-complete}
@@ -20,7 +19,7 @@ use Rattle.sheet.specs.State.{State, linesOf, lineAt}
 use Rattle.sheet.specs.Typing.{gathered, underFrom, nodesUnder, isSlot, slotValue}
 use Rattle.sheet.specs.Sheet.{fault}
 use Rattle.sheet.specs.Content.{types, contentOf, schema, childrenOver, argsOver, treeOver, treesFrom, linked, exprs}
-use Rattle.sheet.proofs.Lines.{Was, History}
+use Rattle.sheet.proofs.Lines.{Was}
 use Rattle.sheet.proofs.Parsed.{parsed, counted-plain, tags-between, node-tags}
 use Rattle.sheet.proofs.ValueRows.{items-length}
 use Rattle.sheet.proofs.NodeRows.{plain-slots, row-read}

@@ -10,14 +10,14 @@ use lib.Dec.{eqb}
 use lib.ListN.{length, getD, drop}
 use Rattle.cedar.proofs.Tools.{and-both}
 use Rattle.cedar.specs.Value.{onSome}
-use Rattle.cedar.specs.Types.{Ty, tbool, Attrs, declared, tySame}
+use Rattle.cedar.specs.Types.{Ty, tbool, declared, tySame}
 use Rattle.cedar.specs.Residual.{Expr, err, and, or, ite, un, bin, rel, get, has, haspath, tyOf, unot, uneg, uempty, uis, ulike, beq, blt, ble, badd, bsub, bmul, bcontains, ball, bany, rin, rgettag, rhastag}
 use Rattle.cedar.specs.Typing.{named}
 use Rattle.cedar.specs.TypingTest.{onSetTy, onRecTy, completed, check, checkAll, checkArgs}
 use Rattle.cedar.specs.Numbered.{entryOf, isSome, pickN}
 use Rattle.sheet.specs.Forms.{Mode, Slot, line, forms, formOf, slotAt, at, TYPE, NODE, KIND, SHAPE, CONTEXT}
 use Rattle.sheet.specs.State.{State, count, lineAt, Declared, record′, typeAt}
-use Rattle.sheet.specs.Typing.{onSetOf, onRecord, declaredIn, requiredThere, allIn, allEntries, entriesFit, typeOfNode, argTypes, rules}
+use Rattle.sheet.specs.Typing.{onSetOf, onRecord, declaredIn, allIn, allEntries, entriesFit, typeOfNode, argTypes, rules}
 use Rattle.sheet.specs.Sheet.{allThere, thereIs}
 use Rattle.sheet.specs.Content.{types, contentOf, schema, attrsOver, patternOf, childrenOver, argsOver, treeOver}
 use Rattle.sheet.proofs.NodeRows.{Read, there-at}
@@ -25,16 +25,12 @@ use Rattle.sheet.proofs.Slots.{set-slot, field-slot}
 use Rattle.sheet.proofs.Shallow.{Part, elem, attr}
 use Rattle.sheet.proofs.Depths.{Reached}
 use Rattle.typed.specs.ByContent.{typeIn}
-use Rattle.typed.proofs.FitsBoth.{required-same, and-turn}
+use Rattle.typed.proofs.FitsBoth.{required-same, and-turn, and-one}
 use Rattle.typed.proofs.TypesBoth.{set-both, record-both, number-both, part-there}
 use Rattle.typed.proofs.ShapesBoth.{declared-both}
 use Rattle.typed.proofs.RulesBoth.{rule-lit, rule-var, rule-and, rule-or, rule-eq, rule-lt, rule-le, rule-add, rule-sub, rule-mul, rule-in, rule-gettag, rule-hastag, rule-contains, rule-all, rule-any, rule-if, rule-is, rule-like, rule-get, rule-has, rule-path, rule-not, rule-neg, rule-empty}
 use Rattle.typed.proofs.Parts.{bareAll, bareArgs, blank}
 use Rattle.typed.proofs.Trees.{node-type-there}
-
-and-one : (p : Bool) → p ≡ (p && true)
-and-one true = refl
-and-one false = refl
 
 -- where every kind has a shape and the context has its type
 module _ {m : Mode} {s : State} (h : Reached m s) (full : count s KIND ≤ count s SHAPE) (placed : at (lineAt s CONTEXT 0) 0 < count s TYPE) where

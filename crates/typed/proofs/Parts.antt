@@ -1,15 +1,14 @@
 -- A tree passes the typing test exactly if its children do and it passes with an error of its type in the place of each child.
 use mathlib.Core.Path.{_≡_, refl, sym, _∙_, ap, ap₂}
 use mathlib.Core.Bool.{Bool, true, false, _&&_, _||_}
-use mathlib.Core.Option.{Option, none, some}
-use mathlib.Core.List.{List, [], _∷_}
 use Prim.Native.Nat.{ℕ}
 use lib.Dec.{eqb}
 use Rattle.cedar.specs.Value.{onSome}
 use Rattle.cedar.specs.Types.{Ty, tbool, tlong, tstr, tent, tset, trec, Attrs, declared, Schema, tySame}
 use Rattle.cedar.specs.Residual.{Expr, Exprs, Args, lit, err, var, and, or, ite, un, bin, rel, get, has, haspath, set, rec, enil, econs, gnil, gcons, tyOf}
 use Rattle.cedar.specs.Typing.{named}
-use Rattle.cedar.specs.TypingTest.{onSetTy, onRecTy, completed, unOk, three, binOk, relOk, each, pathOk, check, checkAll, checkArgs}
+use Rattle.cedar.specs.TypingTest.{completed, unOk, three, binOk, relOk, each, pathOk, check, checkAll, checkArgs}
+use Rattle.typed.proofs.FitsBoth.{and-one}
 
 -- an error of a tree's type
 abbrev pub bare : Expr → Expr
@@ -67,10 +66,6 @@ module _ (c : Expr → Bool) where
   eachChild (rec T gs) = eachOfArgs gs
 
 -- ---- conjunctions
-
-and-one : (p : Bool) → p ≡ (p && true)
-and-one true = refl
-and-one false = refl
 
 and-turn3 : (p a b c : Bool) → (((p && (a && b)) && c)) ≡ (((p && (true && true)) && true) && (c && (a && b)))
 and-turn3 true true true true = refl

@@ -1,19 +1,19 @@
 -- What is refused with 7 has no type by content: a line in the state in which it is read, and the end of a reading.
-use mathlib.Core.Path.{_≡_, refl, sym, _∙_, ap, ap₂, subst}
+use mathlib.Core.Path.{_≡_, refl, sym, _∙_, ap, subst}
 use mathlib.Core.Bool.{Bool, true, false, cond, _&&_, _||_, not}
 use mathlib.Core.Option.{Option}
 use mathlib.Core.List.{List, [], _∷_, _++_, append-assoc}
-use Prim.Native.Nat.{ℕ, zero, suc, _<_, _≤_, _+_, _-_}
+use Prim.Native.Nat.{ℕ, zero, suc, _<_, _+_}
 use native.Mathlib.Nat.{le-of-suc-le-suc}
 use native.Mathlib.Omega.{arith}
 use borrow.Author.Tests.{ltb-true}
 use lib.Dec.{ltb, eqb}
 use lib.ListN.{length, getD, length-append}
-use Rattle.cedar.proofs.Tools.{no-true, and-left, both, eqb-true, eqb-self}
+use Rattle.cedar.proofs.Tools.{no-true, and-left, both, eqb-self}
 use Rattle.cedar.proofs.Kept.{ty-of}
-use Rattle.cedar.proofs.TypingTestComplete.{check-complete, fits-complete, tySame-refl}
+use Rattle.cedar.proofs.TypingTestComplete.{check-complete, fits-complete}
 use Rattle.cedar.specs.Types.{Ty, tbool, tent, trec, Attrs, anil, Fits, tySame}
-use Rattle.cedar.specs.Value.{Value, vent, vrec, vset, Values, Fields, onEnt, onSet}
+use Rattle.cedar.specs.Value.{vent, vrec, vset, Values, Fields, onEnt, onSet}
 use Rattle.cedar.specs.Residual.{Expr, err, tyOf}
 use Rattle.cedar.specs.Typing.{Typed}
 use Rattle.cedar.specs.Entities.{KindsIn, noKind, oneKind, TagsFit, noTag, oneTag}
@@ -21,13 +21,13 @@ use Rattle.cedar.specs.TypingTest.{onEntTy, onRecTy, check}
 use Rattle.cedar.specs.TypingTest as Test
 use Rattle.sheet.specs.Ascii.{ascii}
 use Rattle.sheet.specs.Bytes.{same, split, starts}
-use Rattle.sheet.specs.Forms.{Mode, tag, at, keyOf, rowOf, refs, mark, SHAPE, ENTITY, CONTEXT, NODE, POLICY, noKey, noTag as pastTags}
+use Rattle.sheet.specs.Forms.{Mode, at, keyOf, rowOf, refs, mark, SHAPE, ENTITY, CONTEXT, NODE, POLICY, noKey, noTag as pastTags}
 use Rattle.sheet.specs.State.{State, empty, linesOf, count, lineAt, before}
-use Rattle.sheet.specs.Typing.{typed, rules, isSlot, isAction, unknownOr, typeOfNode}
+use Rattle.sheet.specs.Typing.{typed, isSlot, isAction, unknownOr}
 use Rattle.sheet.specs.Sheet.{Reading, reads, inOrder, tooMany, found, depth, usedTwice, fault, faultOf, more, goOn, lineRead, ending, enough, firstUnlinked, firstUnused, reachedFit, firstUnfit, entitiesFit, beforeLine, reading, read}
 use Rattle.sheet.specs.Content.{types, contentOf, schema, treeOver, treesFrom}
 use Rattle.sheet.proofs.Parsed.{tags-between, node-tags}
-use Rattle.sheet.proofs.Depths.{Reached, start, next, read-reached}
+use Rattle.sheet.proofs.Depths.{Reached, start, next}
 use Rattle.typed.specs.ByContent.{typeIn, onRec, eachValue, noAttrs, tagsBy, kindBy, drafts, byContent, Untyped, ofLine, ofEntity}
 use Rattle.typed.proofs.Parts.{blank, eachChild, check-parts}
 use Rattle.typed.proofs.Trees.{trees-ty, drafts-ty}

@@ -1,32 +1,31 @@
 -- The rule of each operation over numbers is cedar's test over contents, of a node whose children are errors of their types.
-use mathlib.Core.Path.{_≡_, refl, sym, _∙_, ap, ap₂, subst}
+use mathlib.Core.Path.{_≡_, refl, sym, _∙_, ap, subst}
 use mathlib.Core.Bool.{Bool, true, false, cond, _&&_, _||_}
-use mathlib.Core.Option.{Option, none, some}
+use mathlib.Core.Option.{none, some}
 use mathlib.Core.List.{List, [], _∷_}
 use Prim.Native.Nat.{ℕ, zero, suc, _<_, _≤_}
 use native.Mathlib.Omega.{arith}
 use borrow.Author.Tests.{ltb-true, ne-eqb}
 use lib.Dec.{ltb, eqb}
-use lib.ListN.{length, getD}
-use Rattle.cedar.proofs.Tools.{no-true, eqb-true, either, iff}
+use Rattle.cedar.proofs.Tools.{eqb-true, iff}
 use Rattle.cedar.proofs.TypingTest.{tySame-true}
 use Rattle.cedar.proofs.TypingTestComplete.{tySame-refl}
-use Rattle.cedar.specs.Value.{Value, onSome}
-use Rattle.cedar.specs.Types.{Ty, tbool, tlong, tstr, tent, tset, Attrs, declared, eachKind, tySame, principal, action, resource, context}
-use Rattle.cedar.specs.Residual.{Expr, lit, err, var, and, or, ite, un, bin, rel, get, has, haspath, Item, unot, uneg, uempty, uis, ulike, beq, blt, ble, badd, bsub, bmul, bcontains, ball, bany, rin, rgettag, rhastag}
+use Rattle.cedar.specs.Value.{onSome}
+use Rattle.cedar.specs.Types.{Ty, tbool, tlong, tstr, tent, tset, declared, eachKind, tySame}
+use Rattle.cedar.specs.Residual.{lit, err, var, and, or, ite, un, bin, rel, get, has, haspath, Item, unot, uneg, uempty, uis, ulike, beq, blt, ble, badd, bsub, bmul, bcontains, ball, bany, rin, rgettag, rhastag}
 use Rattle.cedar.specs.TypingTest.{onEntTy, onSetTy, three, each, pathOk, check}
 use Rattle.sheet.specs.Bytes.{same}
 use Rattle.sheet.specs.Forms.{Mode, at, mark, TYPE, KIND, SHAPE, PRINCIPAL, ACTION, RESOURCE, CONTEXT}
-use Rattle.sheet.specs.State.{State, count, lineAt, Declared, TypeRow, bool, long, string, entity, set′, record′, typeAt}
-use Rattle.sheet.specs.Typing.{onEntity, onSetOf, isBool, isLong, isString, declaredIn, allIn, fits, tagsOf, eachOf, isTarget, pathTyped, entityIs, contextIs, varTyped}
-use Rattle.sheet.specs.Content.{types, contentOf, tyOver, tagTy, schema, varOf, attrsOver}
+use Rattle.sheet.specs.State.{State, count, lineAt, TypeRow, bool, long, string, entity, set′, record′, typeAt}
+use Rattle.sheet.specs.Typing.{onEntity, onSetOf, isBool, isLong, isString, declaredIn, allIn, fits, tagsOf, eachOf, isTarget, pathTyped, varTyped}
+use Rattle.sheet.specs.Content.{types, contentOf, tyOver, schema, varOf}
 use Rattle.sheet.proofs.RowTests.{same-is}
 use Rattle.sheet.proofs.ValueRows.{same-refl}
 use Rattle.sheet.proofs.Limits.{most-lines}
 use Rattle.sheet.proofs.Shallow.{Part, elem, attr}
 use Rattle.sheet.proofs.Depths.{Reached, reached-history}
 use Rattle.typed.specs.ByContent.{typeIn}
-use Rattle.typed.proofs.FitsBoth.{fits-both, and-turn}
+use Rattle.typed.proofs.FitsBoth.{fits-both, and-one}
 use Rattle.typed.proofs.TypesBoth.{type-eq, bool-both, long-both, string-both, entity-both, set-both, number-both, part-there}
 use Rattle.typed.proofs.ShapesBoth.{shape-there, each-kind, each-both, declared-both, path-both}
 
@@ -59,10 +58,6 @@ test-last true false c = refl
 test-last false true true = refl
 test-last false true false = refl
 test-last false false c = refl
-
-and-one : (p : Bool) → p ≡ (p && true)
-and-one true = refl
-and-one false = refl
 
 group-and : (a b c : Bool) → ((a && b) && c) ≡ (a && (b && c))
 group-and true b c = refl

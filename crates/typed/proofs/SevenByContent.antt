@@ -1,43 +1,34 @@
 -- REFUSAL 7 BOTH WAYS: in every state that a reading reaches, a line that stood every check before is typed over numbers exactly if it is typed by content.
 -- So the refusal of a line is the same with either rule, and what is refused with 7 has no type by content.
-use mathlib.Core.Path.{_≡_, refl, sym, _∙_, ap, ap₂, subst}
+use mathlib.Core.Path.{_≡_, refl, sym, _∙_, ap, subst}
 use mathlib.Core.Bool.{Bool, true, false, cond, _&&_, _||_, not}
 use mathlib.Core.List.{List, [], _∷_}
 use Prim.Native.Nat.{ℕ, zero, suc, _<_, _≤_, _-_}
 use native.Mathlib.Omega.{arith}
 use native.Mathlib.Decide.{decLt}
-use borrow.Author.Tests.{ne-eqb}
 use lib.Dec.{ltb, eqb}
 use lib.ListN.{getD}
-use Rattle.cedar.proofs.Tools.{no-true, eqb-true, both, and-both}
-use Rattle.cedar.proofs.Kept.{ty-of}
-use Rattle.cedar.proofs.TypingTestComplete.{check-complete, fits-complete, tySame-refl}
-use Rattle.cedar.specs.Types.{Ty, tbool, tent, trec, Attrs, Fits, tySame}
+use Rattle.cedar.proofs.Tools.{no-true, eqb-true}
+use Rattle.cedar.specs.Types.{Ty}
 use Rattle.cedar.specs.Residual.{Expr, err, tyOf}
-use Rattle.cedar.specs.Typing.{Typed}
-use Rattle.cedar.specs.TypingTest.{onEntTy, onRecTy, check}
-use Rattle.cedar.specs.TypingTest as Test
-use Rattle.sheet.specs.Forms.{Mode, tag, at, keyOf, rowOf, refs, NODE, POLICY, CONTEXT, LINK, noTag, mark}
-use Rattle.sheet.specs.State.{State, linesOf, count, lineAt}
-use Rattle.sheet.specs.Typing.{typed, nodeTyped, rules, isSlot, nodesOf, unknownOr}
-use Rattle.sheet.specs.Sheet.{inOrder, tooMany, found, depth, usedTwice, faultOf, fault}
+use Rattle.cedar.specs.TypingTest.{onEntTy, check}
+use Rattle.sheet.specs.Forms.{Mode, at, keyOf, rowOf, refs, NODE, noTag}
+use Rattle.sheet.specs.State.{State, linesOf}
+use Rattle.sheet.specs.Typing.{typed, nodeTyped, rules, isSlot, nodesOf}
+use Rattle.sheet.specs.Sheet.{inOrder, tooMany, found, depth, usedTwice, faultOf}
 use Rattle.sheet.specs.Content.{types, contentOf, schema, treeOver, treesFrom}
 use Rattle.sheet.proofs.Parsed.{tags-between, node-tags}
 use Rattle.sheet.proofs.NodeRows.{row-read}
 use Rattle.sheet.proofs.PoliciesRead.{all-there}
-use Rattle.sheet.proofs.Refusals.{in-number-order}
 use Rattle.sheet.proofs.Depths.{Reached}
-use Rattle.typed.specs.ByContent.{typeIn, drafts, draft, nodeBy, policyBy, contextBy, byContent, faultBy}
+use Rattle.typed.specs.ByContent.{typeIn, drafts, draft, nodeBy, byContent, faultBy}
 use Rattle.typed.proofs.ShapesBoth.{kinds-shaped}
 use Rattle.typed.proofs.RulesBoth.{is-entity}
-use Rattle.typed.proofs.Parts.{blank, eachChild, check-parts}
-use Rattle.typed.proofs.Trees.{type-there, trees-ty, drafts-check, drafts-ty, children-pass}
+use Rattle.typed.proofs.Parts.{blank, check-parts}
+use Rattle.typed.proofs.Trees.{type-there, trees-ty, drafts-check, children-pass}
 use Rattle.typed.proofs.NodeRule.{node-rule}
 use Rattle.typed.proofs.LinesBoth.{shape-both, entity-line-both, context-both, context-placed, policy-both, slots-both}
-
-and-one : (p : Bool) → p ≡ (p && true)
-and-one true = refl
-and-one false = refl
+use Rattle.typed.proofs.FitsBoth.{and-one}
 
 -- a slot stands as an error, which passes
 pub slot-passes : (s : State) (r : List ℕ) → isSlot r ≡ true → check (schema s) (draft s r) ≡ true

@@ -11,12 +11,12 @@ use lib.Dec.{leb, ltb, eqb}
 use lib.ListN.{length, getD, take, drop}
 use Rattle.cedar.proofs.Tools.{eqb-self, or-left, or-right, and-both}
 use Rattle.cedar.specs.Value.{onSome}
-use Rattle.cedar.specs.Types.{Ty, tbool, among, eachKind, Attrs, declared}
+use Rattle.cedar.specs.Types.{Ty, among, eachKind, Attrs, declared}
 use Rattle.cedar.specs.TypingTest.{onEntTy, onRecTy, each, pathOk}
-use Rattle.sheet.specs.Forms.{Mode, forms, formOf, slotAt, tag, at, mark, keyOf, KIND, TYPE, SHAPE, noKey, noTag}
+use Rattle.sheet.specs.Forms.{Mode, forms, formOf, slotAt, tag, at, mark, keyOf, KIND, TYPE, SHAPE, noTag}
 use Rattle.sheet.specs.State.{State, linesOf, count, lineAt, counts, lengths, Declared, entity, record′, typeRow, typeAt}
 use Rattle.sheet.specs.Typing.{onEntity, onRecord, declaredIn, allIn, isAction, attributesOf, tagsOf, noneDeclared, eachOf, pathTyped, typed}
-use Rattle.sheet.specs.Sheet.{reach, least, enough, inOrder, allZero, thereIs}
+use Rattle.sheet.specs.Sheet.{reach, least, enough, inOrder, allZero}
 use Rattle.sheet.specs.Content.{types, attrsOver, tyOver, attrsIn, schema}
 use Rattle.sheet.proofs.Parsed.{allBelow, between, tags-between}
 use Rattle.sheet.proofs.RowTests.{on-record}

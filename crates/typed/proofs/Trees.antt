@@ -11,7 +11,7 @@ use lib.ListN.{length, getD, drop, length-append, List·getD-append, List·getD-
 use Rattle.cedar.proofs.Tools.{no-true, both, and-both}
 use Rattle.cedar.proofs.TypingTestComplete.{check-complete}
 use Rattle.cedar.specs.Types.{Ty, tbool}
-use Rattle.cedar.specs.Residual.{Expr, Exprs, Args, err, tyOf}
+use Rattle.cedar.specs.Residual.{Expr, err, tyOf}
 use Rattle.cedar.specs.Typing.{Typed, terr}
 use Rattle.cedar.specs.TypingTest.{check}
 use Rattle.sheet.specs.Forms.{Mode, isLine, line, forms, formOf, slotAt, tag, items, at, keyOf, rowOf, TYPE, NODE, noTag}

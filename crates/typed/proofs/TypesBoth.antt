@@ -1,13 +1,13 @@
 -- Types by number and by content: a number's row has the sort of its content, equal numbers are equal contents, and every type that a line names has a type line.
 use mathlib.Core.Path.{_≡_, refl, sym, _∙_, ap, ap₂, subst}
-use mathlib.Core.Bool.{Bool, true, false, cond, _&&_, _||_}
-use mathlib.Core.Option.{Option, none, some}
-use mathlib.Core.List.{List, [], _∷_, _++_}
+use mathlib.Core.Bool.{Bool, true, false, cond}
+use mathlib.Core.Option.{some}
+use mathlib.Core.List.{List, [], _∷_}
 use Prim.Native.Nat.{ℕ, zero, suc, _<_, _≤_, _-_, _%_}
 use native.Mathlib.Omega.{arith}
 use native.Mathlib.Decide.{decLt}
 use borrow.Author.Tests.{ltb-true, le-ltb}
-use lib.Dec.{ltb, eqb}
+use lib.Dec.{eqb}
 use lib.ListN.{length, getD, drop, List·getD-eq-default}
 use Rattle.cedar.proofs.Tools.{no-true, no-some, eqb-true, eqb-self, either, and-both, iff}
 use Rattle.cedar.proofs.TypingTest.{tySame-true}
@@ -16,12 +16,12 @@ use Rattle.cedar.specs.Types.{Ty, tbool, tlong, tstr, among, Attrs, tySame}
 use Rattle.cedar.specs.Table.{At}
 use Rattle.cedar.specs.Numbered.{pickN}
 use Rattle.cedar.specs.TypingTest.{onEntTy, onSetTy, onRecTy}
-use Rattle.sheet.specs.Forms.{Mode, line, nothing, forms, formOf, slotAt, tag, items, at, keyOf, TYPE, KIND, SHAPE, mark, noTag}
+use Rattle.sheet.specs.Forms.{Mode, line, nothing, forms, formOf, slotAt, tag, items, at, TYPE, KIND}
 use Rattle.sheet.specs.State.{State, linesOf, count, lineAt, Declared, TypeRow, bool, long, string, entity, set′, record′, declareds, typeRow, typeAt}
 use Rattle.sheet.specs.Typing.{onEntity, onSetOf, onRecord, isBool, isLong, isString, declaredIn}
-use Rattle.sheet.specs.Sheet.{found, allThere, thereIs}
+use Rattle.sheet.specs.Sheet.{allThere, thereIs}
 use Rattle.sheet.specs.Content.{types, attrsOver, tyOver}
-use Rattle.sheet.proofs.Fitting.{at-less, AttrsAt, noA, oneA, TyAt, abool, along, astr, aent, aset, arec, Known, all-known, ty-eq}
+use Rattle.sheet.proofs.Fitting.{at-less, AttrsAt, noA, oneA, TyAt, aset, arec, Known, all-known, ty-eq}
 use Rattle.sheet.proofs.ValueRows.{at-getD, some-is}
 use Rattle.sheet.proofs.TypeNumbers.{types-distinct, types-length, split-at}
 use Rattle.sheet.proofs.PoliciesRead.{all-there}
@@ -161,9 +161,6 @@ module _ {m : Mode} {s : State} (h : Reached m s) where
   entity-row : (r : List ℕ) (k : ℕ) (ks : List ℕ) → typeRow r ≡ entity k ks → (tag r ≡ 6) × ((k ∷ ks) ≡ (at r 0 ∷ drop 1 (items r)))
   entity-row r k ks e = go (tag r - 3) refl e
     where
-      kinds : TypeRow → List ℕ
-      kinds row = onEntity [] row (λ l. l)
-
       go : (d : ℕ) → tag r - 3 ≡ d → getD (bool ∷ long ∷ string ∷ entity (at r 0) (drop 1 (items r)) ∷ set′ (at r 0) ∷ record′ (declareds (items r)) ∷ []) d bool ≡ entity k ks → (tag r ≡ 6) × ((k ∷ ks) ≡ (at r 0 ∷ drop 1 (items r)))
       go zero q e = no-true (ap (λ r. onEntity false r (λ l. true)) e)
       go (suc zero) q e = no-true (ap (λ r. onEntity false r (λ l. true)) e)

@@ -2,7 +2,7 @@
 -- Values and trees are judged by cedar's own test (cedar/specs/TypingTest), which accepts exactly what fits and what is typed.
 use mathlib.Core.Path.{_≡_}
 use mathlib.Core.Bool.{Bool, true, false, cond, _&&_, _||_, not}
-use mathlib.Core.Option.{Option, none, some}
+use mathlib.Core.Option.{Option}
 use mathlib.Core.List.{List, [], _∷_}
 use Prim.Native.Nat.{ℕ, suc, _<_, _+_}
 use lib.Dec.{ltb, eqb}
@@ -14,7 +14,7 @@ use Rattle.cedar.specs.TypingTest.{onEntTy, onRecTy, check}
 use Rattle.cedar.specs.TypingTest as Test
 use Rattle.sheet.specs.Forms.{Mode, at, mark, keyOf, rowOf, refs, SHAPE, ENTITY, NODE}
 use Rattle.sheet.specs.State.{State, count, linesOf, lineAt, before}
-use Rattle.sheet.specs.Typing.{isAction, attributesOf, unknownOr, nodesOf, isSlot, slotValue}
+use Rattle.sheet.specs.Typing.{isAction, unknownOr, nodesOf, isSlot, slotValue}
 use Rattle.sheet.specs.Sheet.{Reading, inOrder, tooMany, found, depth, usedTwice}
 use Rattle.sheet.specs.Content.{types, contents, contentOf, schema, treeOver, treesFrom, above, setOver}
 
