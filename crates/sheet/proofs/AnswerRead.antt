@@ -4,7 +4,7 @@ use mathlib.Core.Path.{_≡_, refl, sym, _∙_, ap, ap₂, subst}
 use mathlib.Core.Bool.{true, false}
 use mathlib.Core.Option.{some}
 use mathlib.Core.List.{List, [], _∷_, _++_, append-assoc, append-nil}
-use Prim.Native.Nat.{ℕ, suc, _≤_, _+_}
+use Prim.Native.Nat.{ℕ, suc, _≤_, _<_, _+_}
 use native.Mathlib.Omega.{arith}
 use lib.ListN.{length, getD, drop, getElem?, length-append}
 use lib.Seq.{drop-at}
@@ -41,11 +41,11 @@ use Rattle.sheet.proofs.Limits.{most-lines}
 use Rattle.sheet.proofs.MadeCount.{residualSizes}
 use Rattle.sheet.proofs.NeverNine.{policy-sizes, residual-sizes, rows-at-most}
 use Rattle.sheet.proofs.RowsBack.{AllSmall, SmallEntries, GoodValue}
-use Rattle.sheet.proofs.TreesBack.{Small, SmallAll, SmallArgs, valued, valuedAll, valuedArgs, valued-same, post, post-size, root-there, then-rows, tree-back}
-use Rattle.sheet.proofs.NodesStand.{made-stand, residuals-stand}
+use Rattle.sheet.proofs.TreesBack.{Small, SmallAll, SmallArgs, Short, valued, valuedAll, valuedArgs, valued-same, post, post-size, root-there, then-rows, tree-back}
+use Rattle.sheet.proofs.NodesStand.{made-stand, NamesThere, residuals-stand}
 use Rattle.sheet.proofs.RowsGood.{ResidualsSmall, residuals-good}
 use Rattle.sheet.proofs.LeftOver.{Any, left-small, LeftLines, no-lines, one-line, PoliciesSmall, SmallNames, MadeOk, AllMade, RunLeaves, run-leaves}
-use Rattle.sheet.proofs.SheetSmall.{policies-small, ids-small, asked-made}
+use Rattle.sheet.proofs.SheetSmall.{policies-small, policies-under, ids-small, asked-made}
 use Rattle.sheet.proofs.AnswerBack.{GoodValues, partialPolicies, completePolicies, partial-reads, complete-reads}
 use Rattle.sheet.proofs.WhyLaws.{why-small}
 use Rattle.sheet.proofs.Fitting.{at-less, denotes-over}
@@ -74,7 +74,7 @@ module _ {C : List Value} (few : length C ≤ 10000) where
   made-good (drec e) h = named-small e h
 
   mutual
-    reads-small : {a : Node ℕ} {d : Expr} → Reads C a d → Small Any a → Small (λ v. v ≤ 9999) a
+    reads-small : {a : Node ℕ} {d : Expr} → Reads C a d → Small Short Any a → Small Short (λ v. v ≤ 9999) a
     reads-small (xlit n) h = let z = at-less n in omega arith
     reads-small xerr h = tt
     reads-small xvar h = tt
@@ -90,11 +90,11 @@ module _ {C : List Value} (few : length C ≤ 10000) where
     reads-small (xset k) h = all-small k h
     reads-small (xrec k) h = args-small k h
 
-    all-small : {es : Nodes ℕ} {fs : Exprs} → ReadsAll C es fs → SmallAll Any es → SmallAll (λ v. v ≤ 9999) es
+    all-small : {es : Nodes ℕ} {fs : Exprs} → ReadsAll C es fs → SmallAll Short Any es → SmallAll Short (λ v. v ≤ 9999) es
     all-small xnil h = tt
     all-small (xcons a k) h = (reads-small a (h .0), all-small k (h .1))
 
-    args-small : {gs : NodeArgs ℕ} {hs : Args} → ReadsArgs C gs hs → SmallArgs Any gs → SmallArgs (λ v. v ≤ 9999) gs
+    args-small : {gs : NodeArgs ℕ} {hs : Args} → ReadsArgs C gs hs → SmallArgs Short Any gs → SmallArgs Short (λ v. v ≤ 9999) gs
     args-small xstop h = tt
     args-small (xarg a k) h = (h .0, reads-small a (h .1), args-small k (h .2))
 
@@ -233,9 +233,9 @@ module _ (sheet : List ℕ) (acc : Accepted partial sheet) where
   pub made-values : GoodValues (drop (count s VALUE) (run partial s .rows))
   made-values = subst GoodValues (sym made-is) (made-goods few-values (valueRows s) (leaves .rows .more) (λ n r a. content-of (reads .table) (subst (λ z. At z n r) (sym (leaves .rows .grew)) a)) (leaves .rows .good))
 
-  lines-small : {ps : List NPolicy} {ls : List NVerdict} {qs : List Policy} → LeftLines ps ls → PoliciesSmall ps → Residuals (schema s) (nEnv partial s) (pEnv s) (reads .contents) ls qs → ResidualsSmall ls
+  lines-small : {ps : List NPolicy} {ls : List NVerdict} {qs : List Policy} → LeftLines ps ls → PoliciesSmall Short ps → Residuals (schema s) (nEnv partial s) (pEnv s) (reads .contents) ls qs → ResidualsSmall ls
   lines-small no-lines k R.none = tt
-  lines-small (one-line l ls) k (R.more r rs) = (reads-small few-values r (left-small l (k .0)), lines-small ls (k .1) rs)
+  lines-small (one-line l ls) k (R.more r rs) = (reads-small few-values r (left-small Short l (k .0)), lines-small ls (k .1) rs)
 
   pub residuals-small : ResidualsSmall (run partial s .lines)
   residuals-small = lines-small (leaves .lines) (policies-small partial s h) (reads .residuals)
@@ -282,10 +282,14 @@ module _ (sheet : List ℕ) (acc : Accepted partial sheet) where
   made-stands = ap (λ k. valuesStand k (drop (count s VALUE) (run partial s .rows))) (sym (rows-length (linesOf s VALUE)))
       ∙ made-stand (rowsIn (linesOf s VALUE)) (drop (count s VALUE) (run partial s .rows)) (subst (λ R. Table R (reads .contents)) rows-are (reads .table))
 
+  lines-named : {ps : List NPolicy} {ls : List NVerdict} → LeftLines ps ls → PoliciesSmall (λ k n. n < count s k) ps → NamesThere (count s) ls
+  lines-named no-lines k = tt
+  lines-named (one-line l ls) k = (left-small (λ k n. n < count s k) l (k .0), lines-named ls (k .1))
+
   -- WHAT MADE VALUES AND RESIDUAL NODES REFER TO IS THERE
   pub all-stand : allStand s (partialSaid s) ≡ true
-  all-stand = both made-stands (ap₂ (λ x y. nodesStand x y 0 (residualRows (types s) 0 (run partial s .lines))) (sym (types-length partial s h)) values-many
-      ∙ residuals-stand (types s) (reads .contents) (reads .residuals) (residual-types s f) 0)
+  all-stand = both made-stands (ap (λ n. nodesStand (count s) n 0 (residualRows (types s) 0 (run partial s .lines))) values-many
+      ∙ residuals-stand (count s) (types s) (reads .contents) (types-length partial s h) (reads .residuals) (residual-types s f) (lines-named (leaves .lines) (policies-under partial s h)) 0)
 
   -- UNDER EACH PRINTED ROOT STANDS THE RUN'S RESIDUAL
   pub residuals-back : Standing (treesFrom (types s) (λ n. n) (λ A x. err A) [] (partialSaid s .nodes)) (λ l. l .root) (partialSaid s .policies) (run partial s .lines)

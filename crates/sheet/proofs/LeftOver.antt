@@ -15,7 +15,7 @@ use Rattle.cedar.specs.Interpret.{alone}
 use Rattle.cedar.specs.Numbered.{Give, made, old, NEnv, rowAt, NOut, give, fails, stays, entryOf, isSome, nUn, nBin, nRel, nGet, nHas, Out, out, make, giveLit, nSettle, nStrict1, nStrict2, nByRule, nClass, nAndOpen, nAnd, nOrOpen, nOr, nIf, entryN, numbers, entries, Outs, OutArgs, nLeft, nWalk, nPath, nVar, nStepUn, nStepBin, nStepRel, nStepGet, nStepHas, nStepSet, nStepRec, nInterpret, nInterprets, nInterpretArgs}
 use Rattle.cedar.specs.Runs.{NPolicy, NVerdict, Run, nRun}
 use Rattle.sheet.proofs.DigitsBack.{IsLong, in-range}
-use Rattle.sheet.proofs.TreesBack.{SmallTexts, Small, SmallAll, SmallArgs}
+use Rattle.sheet.proofs.TreesBack.{SmallTexts, Small, SmallAll, SmallArgs, Short}
 use Rattle.cedar.proofs.Outcomes.{Basic, GiveIs, OutIs, e-some, e-entries, made-un, made-bin, made-rel, made-get, made-has}
 
 -- ---- what may be left of a tree
@@ -61,42 +61,43 @@ mutual
 abbrev pub Any : ℕ → Type 0
 Any n = Unit {0}
 
-along-small : {t u : ℕ} {ts us : List ℕ} → Along t ts u us → SmallTexts (t ∷ ts) → SmallTexts (u ∷ us)
-along-small here h = h
-along-small (on p) h = along-small p (h .1)
+module _ (N : ℕ → ℕ → Type 0) where
+  along-small : {t u : ℕ} {ts us : List ℕ} → Along t ts u us → SmallTexts N (t ∷ ts) → SmallTexts N (u ∷ us)
+  along-small here h = h
+  along-small (on p) h = along-small p (h .1)
 
--- it has the tree's texts and kinds
-mutual
-  pub left-small : {e r : Node ℕ} → Left e r → Small Any e → Small Any r
-  left-small as-lit h = tt
-  left-small as-err h = tt
-  left-small as-var h = tt
-  left-small (in-and a b) h = (left-small a (h .0), left-small b (h .1))
-  left-small (and-one a) h = left-small a (h .0)
-  left-small (and-two b) h = left-small b (h .1)
-  left-small (in-or a b) h = (left-small a (h .0), left-small b (h .1))
-  left-small (or-one a) h = left-small a (h .0)
-  left-small (or-two b) h = left-small b (h .1)
-  left-small (in-if a b c) h = (left-small a (h .0), left-small b (h .1), left-small c (h .2))
-  left-small (if-one b) h = left-small b (h .1)
-  left-small (if-two c) h = left-small c (h .2)
-  left-small (in-un a) h = (h .0, left-small a (h .1))
-  left-small (in-bin a b) h = (left-small a (h .0), left-small b (h .1))
-  left-small (in-rel a b) h = (left-small a (h .0), left-small b (h .1))
-  left-small (in-get a) h = (h .0, left-small a (h .1))
-  left-small (in-has a) h = (h .0, left-small a (h .1))
-  left-small (in-path a) h = (h .0, left-small a (h .1))
-  left-small (on-path p) h = (along-small p (h .0), tt)
-  left-small (in-set k) h = left-all-small k h
-  left-small (in-rec k) h = left-args-small k h
+  -- it has the tree's texts and kinds
+  mutual
+    pub left-small : {e r : Node ℕ} → Left e r → Small N Any e → Small N Any r
+    left-small as-lit h = tt
+    left-small as-err h = tt
+    left-small as-var h = tt
+    left-small (in-and a b) h = (left-small a (h .0), left-small b (h .1))
+    left-small (and-one a) h = left-small a (h .0)
+    left-small (and-two b) h = left-small b (h .1)
+    left-small (in-or a b) h = (left-small a (h .0), left-small b (h .1))
+    left-small (or-one a) h = left-small a (h .0)
+    left-small (or-two b) h = left-small b (h .1)
+    left-small (in-if a b c) h = (left-small a (h .0), left-small b (h .1), left-small c (h .2))
+    left-small (if-one b) h = left-small b (h .1)
+    left-small (if-two c) h = left-small c (h .2)
+    left-small (in-un a) h = (h .0, left-small a (h .1))
+    left-small (in-bin a b) h = (left-small a (h .0), left-small b (h .1))
+    left-small (in-rel a b) h = (left-small a (h .0), left-small b (h .1))
+    left-small (in-get a) h = (h .0, left-small a (h .1))
+    left-small (in-has a) h = (h .0, left-small a (h .1))
+    left-small (in-path a) h = (h .0, left-small a (h .1))
+    left-small (on-path p) h = (along-small p (h .0), tt)
+    left-small (in-set k) h = left-all-small k h
+    left-small (in-rec k) h = left-args-small k h
 
-  left-all-small : {es fs : Nodes ℕ} → LeftAll es fs → SmallAll Any es → SmallAll Any fs
-  left-all-small left-nil h = tt
-  left-all-small (left-cons a k) h = (left-small a (h .0), left-all-small k (h .1))
+    left-all-small : {es fs : Nodes ℕ} → LeftAll es fs → SmallAll N Any es → SmallAll N Any fs
+    left-all-small left-nil h = tt
+    left-all-small (left-cons a k) h = (left-small a (h .0), left-all-small k (h .1))
 
-  left-args-small : {gs hs : NodeArgs ℕ} → LeftArgs gs hs → SmallArgs Any gs → SmallArgs Any hs
-  left-args-small left-stop h = tt
-  left-args-small (left-arg a k) h = (h .0, left-small a (h .1), left-args-small k (h .2))
+    left-args-small : {gs hs : NodeArgs ℕ} → LeftArgs gs hs → SmallArgs N Any gs → SmallArgs N Any hs
+    left-args-small left-stop h = tt
+    left-args-small (left-arg a k) h = (h .0, left-small a (h .1), left-args-small k (h .2))
 
 -- ---- what may be made
 
@@ -245,7 +246,7 @@ record LeavesArgs (gs : NodeArgs ℕ) (R : List Row) (o : OutArgs) : Type 0 wher
   left : LeftArgs gs (o .trees)
   grown : Grown R (o .rows)
 
-names-small : (gs : NodeArgs ℕ) → SmallArgs Any gs → (e : Entries) → entries gs ≡ some e → SmallNames e
+names-small : (gs : NodeArgs ℕ) → SmallArgs Short Any gs → (e : Entries) → entries gs ≡ some e → SmallNames e
 names-small gnil h e q = subst SmallNames (Option·some-injective _ _ q) tt
 names-small (gcons t a gs) h e q = go (view a) (entries gs) refl (λ d p. names-small gs (h .2) d p) q
   where
@@ -256,9 +257,9 @@ names-small (gcons t a gs) h e q = go (view a) (entries gs) refl (λ d p. names-
     go open′ o p f r = no-some r
 
 -- of all policies
-abbrev pub PoliciesSmall : List NPolicy → Type 0
-PoliciesSmall [] = Unit {0}
-PoliciesSmall (p ∷ ps) = Small Any (p .tree) × PoliciesSmall ps
+abbrev pub PoliciesSmall : (ℕ → ℕ → Type 0) → List NPolicy → Type 0
+PoliciesSmall N [] = Unit {0}
+PoliciesSmall N (p ∷ ps) = Small N Any (p .tree) × PoliciesSmall N ps
 
 pub data LeftLines : List NPolicy → List NVerdict → Type 0 where
   no-lines : LeftLines [] []
@@ -317,16 +318,16 @@ module _ (S : Schema) (M : NEnv) (asked : (x : Var) (g : Give) → M .request x 
       go none false = record { left = in-set (h .left); grown = h .grown }
       go (some l) b = after (make T (rset (sortN l)) (o .rows)) (h .grown) (makes (o .rows) T (rset (sortN l)) tt)
 
-  leaves-rec : (T : Ty) (gs : NodeArgs ℕ) {R : List Row} (o : OutArgs) → SmallArgs Any gs → LeavesArgs gs R o → Leaves (rec T gs) R (nStepRec S M T o)
+  leaves-rec : (T : Ty) (gs : NodeArgs ℕ) {R : List Row} (o : OutArgs) → SmallArgs Short Any gs → LeavesArgs gs R o → Leaves (rec T gs) R (nStepRec S M T o)
   leaves-rec T gs {R} o s h = go (entries (o .trees)) (anyErrorArg (o .trees)) refl
     where
       go : (x : Option Entries) (b : Bool) → entries (o .trees) ≡ x → Leaves (rec T gs) R (onSome (out (o .rows) (cond b (err T) (rec T (o .trees)))) x (λ e. make T (rrec e) (o .rows)))
       go none true q = record { left = as-err; grown = h .grown }
       go none false q = record { left = in-rec (h .left); grown = h .grown }
-      go (some e) b q = after (make T (rrec e) (o .rows)) (h .grown) (makes (o .rows) T (rrec e) (names-small (o .trees) (left-args-small (h .left) s) e q))
+      go (some e) b q = after (make T (rrec e) (o .rows)) (h .grown) (makes (o .rows) T (rrec e) (names-small (o .trees) (left-args-small Short (h .left) s) e q))
 
   mutual
-    pub leaves : (e : Node ℕ) → Small Any e → (R : List Row) → Leaves e R (nInterpret S M e R)
+    pub leaves : (e : Node ℕ) → Small Short Any e → (R : List Row) → Leaves e R (nInterpret S M e R)
     leaves (lit T n) s R = stay R (lit T n) as-lit
     leaves (err T) s R = stay R (err T) as-err
     leaves (var T x) s R = leaves-var T x (M .request x) R (asked x)
@@ -343,14 +344,14 @@ module _ (S : Schema) (M : NEnv) (asked : (x : Var) (g : Give) → M .request x 
     leaves (set T es) s R = leaves-set T es (nInterprets S M es R) (leaves-all es s R)
     leaves (rec T gs) s R = leaves-rec T gs (nInterpretArgs S M gs R) s (leaves-args gs s R)
 
-    leaves-all : (es : Nodes ℕ) → SmallAll Any es → (R : List Row) → LeavesAll es R (nInterprets S M es R)
+    leaves-all : (es : Nodes ℕ) → SmallAll Short Any es → (R : List Row) → LeavesAll es R (nInterprets S M es R)
     leaves-all enil s R = record { left = left-nil; grown = same-rows R }
     leaves-all (econs e es) s R = let h = leaves e (s .0) R in let k = leaves-all es (s .1) (nInterpret S M e R .rows) in record { left = left-cons (h .left) (k .left); grown = grow-on (h .grown) (k .grown) }
 
-    leaves-args : (gs : NodeArgs ℕ) → SmallArgs Any gs → (R : List Row) → LeavesArgs gs R (nInterpretArgs S M gs R)
+    leaves-args : (gs : NodeArgs ℕ) → SmallArgs Short Any gs → (R : List Row) → LeavesArgs gs R (nInterpretArgs S M gs R)
     leaves-args gnil s R = record { left = left-stop; grown = same-rows R }
     leaves-args (gcons t e gs) s R = let h = leaves e (s .1) R in let k = leaves-args gs (s .2) (nInterpret S M e R .rows) in record { left = left-arg (h .left) (k .left); grown = grow-on (h .grown) (k .grown) }
 
-  pub run-leaves : (ps : List NPolicy) → PoliciesSmall ps → (R : List Row) → RunLeaves ps R (nRun S M ps R)
+  pub run-leaves : (ps : List NPolicy) → PoliciesSmall Short ps → (R : List Row) → RunLeaves ps R (nRun S M ps R)
   run-leaves [] s R = record { lines = no-lines; rows = same-rows R }
   run-leaves (p ∷ ps) s R = let h = leaves (p .tree) (s .0) R in let k = run-leaves ps (s .1) (nInterpret S M (p .tree) R .rows) in record { lines = one-line (h .left) (k .lines); rows = grow-on (h .grown) (k .rows) }
