@@ -1,5 +1,5 @@
 -- THE MADE VALUES AND RESIDUAL NODES OF A RUN STAND: what they refer to is there, the texts, kinds, types and values of the sheet, the values made before, the nodes before.
-use mathlib.Core.Path.{_≡_, refl, _∙_, ap}
+use mathlib.Core.Path.{_≡_, refl, _∙_, ap, subst}
 use mathlib.Core.Bool.{Bool, true, cond, _&&_}
 use mathlib.Core.Option.{none, some}
 use mathlib.Core.List.{List, [], _∷_, _++_}
@@ -13,8 +13,8 @@ use Rattle.cedar.specs.Value.{Value, Values, Fields}
 use Rattle.cedar.specs.Types.{Ty, Schema}
 use Rattle.cedar.specs.Entities.{PEnv}
 use Rattle.cedar.specs.Residual.{Item, star, piece, Node, Nodes, NodeArgs, Expr, Exprs, Args, lit, err, var, and, or, ite, un, bin, rel, get, has, haspath, set, rec, enil, econs, gnil, gcons, Un, unot, uneg, uempty, uis, ulike, Bin, beq, blt, ble, badd, bsub, bmul, bcontains, ball, bany, Rel, rin, rgettag, rhastag}
-use Rattle.cedar.specs.Rows.{Entries, Row}
-use Rattle.cedar.specs.Table.{At, Elems, elem0, elem1, Named, name0, name1, Denotes, dbool, dlong, dtext, dent, dset, drec, Table, start, grow}
+use Rattle.cedar.specs.Rows.{Entries, stop, entry, Row, rbool, rlong, rtext, rent, rset, rrec}
+use Rattle.cedar.specs.Table.{Elems, elem0, elem1, Named, name0, name1, Denotes, dbool, dlong, dtext, dent, dset, drec, Table, start, grow}
 use Rattle.cedar.specs.Numbered.{NEnv}
 use Rattle.cedar.specs.Reads.{Reads, xlit, xerr, xvar, xand, xor, xite, xun, xbin, xrel, xget, xhas, xpath, xset, xrec, ReadsAll, xnil, xcons, ReadsArgs, xstop, xarg}
 use Rattle.cedar.specs.Runs.{Policy, NVerdict}
@@ -25,49 +25,80 @@ use Rattle.sheet.specs.Forms.{forms, formOf, slotAt, tagOf, mark, TEXT, 
 use Rattle.sheet.specs.State.{State}
 use Rattle.sheet.specs.Typing.{allIn, allEntries}
 use Rattle.sheet.specs.Content.{types, treesFrom}
-use Rattle.sheet.specs.Answer.{size, sizes, sizeArgs, root, roots, argRoots, op, patternItems, unTag, unItems, binTag, relTag, varNumber, typeNumber, treeRows, allRows, argRows, residualRows}
+use Rattle.sheet.specs.Answer.{size, sizes, sizeArgs, root, roots, argRoots, op, patternItems, unTag, unItems, binTag, relTag, typeNumber, treeRows, allRows, argRows, residualRows}
 use Rattle.sheet.specs.Sheet.{thereOf, allThereOf}
 use Rattle.sheet.specs.ReadAnswer.{PolicyLine, Said, valueStands, valuesStand, linesFor, nodeStands, nodesStand, allStand, treeUnder}
 use Rattle.sheet.proofs.Fitting.{at-less}
 use Rattle.sheet.proofs.Slots.{like-slot, path-slot, set-slot, name-slot, field-slot}
 use Rattle.sheet.proofs.TypeNumbers.{Listed, TypesIn, LinesIn}
 use Rattle.sheet.proofs.TreesBack.{SmallPattern, SmallUn, SmallTexts, Small, SmallAll, SmallArgs}
-use Rattle.sheet.proofs.LeftOver.{Any}
+use Rattle.sheet.proofs.LeftOver.{Any, SmallNames, MadeOk, AllMade}
 use Rattle.cedar.proofs.SettledByNumber as R
 
 -- ---- made values
 
-elems-stand : {C : List Value} {l : List ℕ} {vs : Values} → Elems C l vs → allIn (λ x. ltb x (length C)) l ≡ true
-elems-stand elem0 = refl
-elems-stand {C = C} (elem1 {n = n} a e) = both (lt-ltb n (length C) (at-less a)) (elems-stand e)
+-- the values that a row holds are among the n before it
+abbrev Holds : ℕ → Row → Type 0
+Holds n (rbool b) = Unit {0}
+Holds n (rlong x) = Unit {0}
+Holds n (rtext t) = Unit {0}
+Holds n (rent k t) = Unit {0}
+Holds n (rset l) = allIn (λ x. ltb x n) l ≡ true
+Holds n (rrec e) = allEntries (λ t x. ltb x n) e ≡ true
 
-named-stand : {C : List Value} {e : Entries} {fs : Fields} → Named C e fs → allEntries (λ t x. ltb x (length C)) e ≡ true
-named-stand name0 = refl
-named-stand {C = C} (name1 {n = n} a e) = both (lt-ltb n (length C) (at-less a)) (named-stand e)
+abbrev AllHeld : ℕ → List Row → Type 0
+AllHeld n [] = Unit {0}
+AllHeld n (r ∷ rs) = Holds n r × AllHeld (suc n) rs
 
-value-stands : {C : List Value} {r : Row} {v : Value} → Denotes C r v → valueStands (length C) r ≡ true
-value-stands dbool = refl
-value-stands dlong = refl
-value-stands dtext = refl
-value-stands dent = refl
-value-stands (dset a e q) = elems-stand e
-value-stands (drec e) = named-stand e
+elems-held : {C : List Value} {l : List ℕ} {vs : Values} → Elems C l vs → allIn (λ x. ltb x (length C)) l ≡ true
+elems-held elem0 = refl
+elems-held {C = C} (elem1 {n = n} a e) = both (lt-ltb n (length C) (at-less a)) (elems-held e)
 
-values-snoc : (n : ℕ) (T : List Row) (r : Row) → valuesStand n T ≡ true → valueStands (n + length T) r ≡ true → valuesStand n (T ++ (r ∷ [])) ≡ true
-values-snoc n [] r g h = let z : n ≡ n + 0 = omega arith in both (ap (λ k. valueStands k r) z ∙ h) refl
-values-snoc n (x ∷ T) r g h = let z : suc n + length T ≡ n + suc (length T) = omega arith in and-both (valueStands n x) (valuesStand (suc n) T) g (λ p q. both p (values-snoc (suc n) T r q (ap (λ k. valueStands k r) z ∙ h)))
+named-held : {C : List Value} {e : Entries} {fs : Fields} → Named C e fs → allEntries (λ t x. ltb x (length C)) e ≡ true
+named-held name0 = refl
+named-held {C = C} (name1 {n = n} a e) = both (lt-ltb n (length C) (at-less a)) (named-held e)
 
-table-stands : {T : List Row} {C : List Value} → Table T C → valuesStand 0 T ≡ true
-table-stands start = refl
-table-stands (grow {T = T} {C = C} {r = r} t d h) = let y = same-length t in let z : 0 + length T ≡ length C = omega (arith, y) in values-snoc 0 T r (table-stands t) (ap (λ k. valueStands k r) z ∙ value-stands d)
+held : {C : List Value} {r : Row} {v : Value} → Denotes C r v → Holds (length C) r
+held dbool = tt
+held dlong = tt
+held dtext = tt
+held dent = tt
+held (dset a e q) = elems-held e
+held (drec e) = named-held e
 
-values-after : (n : ℕ) (T more : List Row) → valuesStand n (T ++ more) ≡ true → valuesStand (n + length T) more ≡ true
-values-after n [] more h = let z : n + 0 ≡ n = omega arith in ap (λ k. valuesStand k more) z ∙ h
-values-after n (r ∷ T) more h = let z : n + suc (length T) ≡ suc n + length T = omega arith in and-both (valueStands n r) (valuesStand (suc n) (T ++ more)) h (λ p q. ap (λ k. valuesStand k more) z ∙ values-after (suc n) T more q)
+held-snoc : (n : ℕ) (T : List Row) (r : Row) → AllHeld n T → Holds (n + length T) r → AllHeld n (T ++ (r ∷ []))
+held-snoc n [] r g h = let z : n + 0 ≡ n = omega arith in (subst (λ k. Holds k r) z h, tt)
+held-snoc n (x ∷ T) r g h = let z : n + suc (length T) ≡ suc n + length T = omega arith in (g .0, held-snoc (suc n) T r (g .1) (subst (λ k. Holds k r) z h))
 
--- of a table, the rows after the first ones
-pub made-stand : {C : List Value} (T more : List Row) → Table (T ++ more) C → valuesStand (length T) more ≡ true
-made-stand T more t = let z : length T ≡ 0 + length T = omega arith in ap (λ k. valuesStand k more) z ∙ values-after 0 T more (table-stands t)
+table-held : {T : List Row} {C : List Value} → Table T C → AllHeld 0 T
+table-held start = tt
+table-held (grow {T = T} {C = C} {r = r} t d h) = let y = same-length t in let z : length C ≡ 0 + length T = omega (arith, y) in held-snoc 0 T r (table-held t) (subst (λ k. Holds k r) z (held d))
+
+held-after : (n : ℕ) (T more : List Row) → AllHeld n (T ++ more) → AllHeld (n + length T) more
+held-after n [] more h = let z : n ≡ n + 0 = omega arith in subst (λ k. AllHeld k more) z h
+held-after n (r ∷ T) more h = let z : suc n + length T ≡ n + suc (length T) = omega arith in subst (λ k. AllHeld k more) z (held-after (suc n) T more (h .1))
+
+-- and its texts and kinds are among the sheet's
+module _ (K : ℕ → ℕ) where
+  entries-stand : (n : ℕ) (e : Entries) → allEntries (λ t x. ltb x n) e ≡ true → SmallNames (λ k x. x < K k) e → allEntries (λ t x. ltb t (K TEXT) && ltb x n) e ≡ true
+  entries-stand n stop g h = refl
+  entries-stand n (entry t x e) g h = and-both (ltb x n) (allEntries (λ t x. ltb x n) e) g (λ p q. both (both (lt-ltb t (K TEXT) (h .0)) p) (entries-stand n e q (h .1)))
+
+  value-stands : (n : ℕ) (r : Row) → Holds n r → MadeOk (λ k x. x < K k) r → valueStands (linesFor K n 0) r ≡ true
+  value-stands n (rbool b) g h = refl
+  value-stands n (rlong x) g h = refl
+  value-stands n (rtext t) g h = lt-ltb t (K TEXT) h
+  value-stands n (rent k t) g h = both (lt-ltb k (K KIND) (h .0)) (lt-ltb t (K TEXT) (h .1))
+  value-stands n (rset l) g h = g
+  value-stands n (rrec e) g h = entries-stand n e g h
+
+  values-stand : (n : ℕ) (rs : List Row) → AllHeld n rs → AllMade (λ k x. x < K k) rs → valuesStand K n rs ≡ true
+  values-stand n [] g h = refl
+  values-stand n (r ∷ rs) g h = both (value-stands n r (g .0) (h .0)) (values-stand (suc n) rs (g .1) (h .1))
+
+  -- of a table, the rows after the first ones
+  pub made-stand : {C : List Value} (T more : List Row) → Table (T ++ more) C → AllMade (λ k x. x < K k) more → valuesStand K (length T) more ≡ true
+  made-stand T more t h = let z : 0 + length T ≡ length T = omega arith in values-stand (length T) more (subst (λ k. AllHeld k more) z (held-after 0 T more (table-held t))) h
 
 -- a tree's root stands before n, as there is a node in each tree
 size-some : {L : Type 0} (e : Node L) → 0 < size e

@@ -1,4 +1,4 @@
--- The numbers of an accepted sheet are there and have at most four digits: texts and kinds of its trees, of its request, and the policies' ids.
+-- The texts and kinds of an accepted sheet's trees and of its request are there; the policies' ids have at most four digits.
 use mathlib.Core.Path.{_≡_, refl, sym, _∙_, ap, subst}
 use mathlib.Core.Bool.{Bool, true, false, cond, _||_}
 use mathlib.Core.Option.{none, some, Option·some-injective}
@@ -18,7 +18,7 @@ use Rattle.sheet.specs.State.{State, linesOf, lineAt, count}
 use Rattle.sheet.specs.Sheet.{firsts, least, thereIs, allThere}
 use Rattle.sheet.specs.Content.{types, patternOf, childrenOver, argsOver, treeFor, treeOver, treesFrom, trees, numberedPolicies, nPolicies, known, nEnv, onTerm, linked}
 use Rattle.sheet.specs.Answer.{ids}
-use Rattle.sheet.proofs.Lines.{and-both, Was, History}
+use Rattle.sheet.proofs.Lines.{and-both, History}
 use Rattle.sheet.proofs.Parsed.{allBelow, between, tags-between, policyTag}
 use Rattle.sheet.proofs.NodeRows.{row-read, there-at}
 use Rattle.sheet.proofs.Slots.{like-slot, path-slot, name-slot}
@@ -26,10 +26,14 @@ use Rattle.sheet.proofs.PoliciesRead.{node-tags, policy-tags, request-t
 use Rattle.sheet.proofs.Environment.{Facts, the-line}
 use Rattle.sheet.proofs.Limits.{most-lines}
 use Rattle.sheet.proofs.RowsBack.{AllSmall}
-use Rattle.sheet.proofs.TreesBack.{SmallPattern, SmallTexts, Small, SmallAll, SmallArgs, Short}
+use Rattle.sheet.proofs.TreesBack.{SmallPattern, SmallTexts, Small, SmallAll, SmallArgs}
 use Rattle.sheet.proofs.LeftOver.{Any, GiveMade, PoliciesSmall}
 use Rattle.sheet.proofs.OnTerm as O
 use Rattle.sheet.proofs.OnTerm.{Each, on-term}
+
+-- a number of a line of key k that the sheet has
+abbrev pub Under : State → ℕ → ℕ → Type 0
+Under s k n = n < count s k
 
 -- ---- what may follow, where it is there and N holds of the numbers of texts and kinds that are
 
@@ -156,12 +160,8 @@ module _ (m : Mode) (s : State) (h : History m s) where
     policies-named = policies-from (onTerm s) (λ p q. trees-from p q [] (linesOf s NODE) refl [] (λ n. tt))
 
   -- THE SHEET'S OWN TREES: their texts and kinds are there
-  pub policies-under : PoliciesSmall (λ k n. n < count s k) (nPolicies s)
-  policies-under = policies-named (λ k n. n < count s k) (λ x lt. lt) (λ x lt. lt)
-
-  -- and have four digits
-  pub policies-small : PoliciesSmall Short (nPolicies s)
-  policies-small = let a = most-lines m s h .texts in let b = most-lines m s h .kinds in policies-named Short (λ x lt. omega (arith, a, lt)) (λ x lt. omega (arith, b, lt))
+  pub policies-under : PoliciesSmall (Under s) (nPolicies s)
+  policies-under = policies-named (Under s) (λ x lt. lt) (λ x lt. lt)
 
   -- ---- the policies' ids
   id-small : (pre : List (List ℕ)) (r : List ℕ) (rest : List (List ℕ)) → linesOf s POLICY ≡ pre ++ (r ∷ rest) → at r 0 ≤ 9999
@@ -186,44 +186,37 @@ module _ (m : Mode) (s : State) (h : History m s) where
 
 module _ (s : State) (f : Facts partial s) where
   -- item j, the number of a line of key l, of the one row of a key k with one tag t
-  short-item : (k t j l : ℕ) → k < noKey → 1 ≤ getD (least s) k 0 → 12 ≤ t → t < noTag → allBelow (between k t t) noTag ≡ true → j < length (formOf t .items) → l < k → count s l ≤ 512
-      → ((u : State) → thereIs u (slotAt t j) (at (lineAt s k 0) j) ≡ true → ltb (at (lineAt s k 0) j) (count u l) ≡ true) → at (lineAt s k 0) j ≤ 9999
+  item-under : (k t j l : ℕ) → k < noKey → 1 ≤ getD (least s) k 0 → 12 ≤ t → t < noTag → allBelow (between k t t) noTag ≡ true → j < length (formOf t .items) → l < k
+      → ((u : State) → thereIs u (slotAt t j) (at (lineAt s k 0) j) ≡ true → ltb (at (lineAt s k 0) j) (count u l) ≡ true) → at (lineAt s k 0) j < count s l
   unfolding keyOf
-  short-item k t j l lt one lo hi e le before few there =
+  item-under k t j l lt one lo hi e le before there =
       let r = lineAt s k 0 in
       let w = the-line partial s f k lt one in
       let (a, b) = tags-between k t t (tag r) lt e (w .key) in
       let rd = row-read partial r (w .line) t (w .row) (omega (arith, a, b)) (omega (arith, lo)) hi (λ z. absurd (omega (arith, z, lo))) in
       let c = ltb-true (at r j) (count (w .was) l) (there (w .was) (item-there partial s (w .was) k r t rd (w .pass .refers) j le)) in
-      let d = subst (λ z. at r j < length z) (w .earlier l before) c in
-      omega (arith, d, few)
+      subst (λ z. at r j < length z) (w .earlier l before) c
 
-  few-texts : count s TEXT ≤ 512
-  few-texts = most-lines partial s (f .history) .texts
-
-  few-kinds : count s KIND ≤ 512
-  few-kinds = let a = most-lines partial s (f .history) .kinds in omega (arith, a)
-
-  known-made : (n : ℕ) (a g : Give) → (eqb n mark ≡ false → GiveMade a) → known n a ≡ some g → GiveMade g
+  known-made : (n : ℕ) (a g : Give) → (eqb n mark ≡ false → GiveMade (Under s) a) → known n a ≡ some g → GiveMade (Under s) g
   known-made n a g h e = go (eqb n mark) refl e
     where
-      go : (b : Bool) → eqb n mark ≡ b → cond b none (some a) ≡ some g → GiveMade g
+      go : (b : Bool) → eqb n mark ≡ b → cond b none (some a) ≡ some g → GiveMade (Under s) g
       go true q e = no-some e
-      go false q e = subst GiveMade (Option·some-injective a g e) (h q)
+      go false q e = subst (GiveMade (Under s)) (Option·some-injective a g e) (h q)
 
   -- WHAT IS ASKED
-  pub asked-made : (x : Var) (g : Give) → nEnv partial s .request x ≡ some g → GiveMade g
+  pub asked-under : (x : Var) (g : Give) → nEnv partial s .request x ≡ some g → GiveMade (Under s) g
   unfolding nEnv slotAt formOf forms
-  asked-made principal g e = let r = lineAt s PRINCIPAL 0 in known-made (at r 1) (made (rent (at r 0) (at r 1))) g (λ n. (
-    short-item 7 17 0 KIND (omega arith) (omega arith) (omega arith) (omega arith) (request-tags .0) (omega arith) (omega arith) few-kinds (λ u h. h),
-    short-item 7 17 1 TEXT (omega arith) (omega arith) (omega arith) (omega arith) (request-tags .0) (omega arith) (omega arith) few-texts (λ u h. subst (λ b. (b || ltb (at r 1) (count u TEXT)) ≡ true) n h),
+  asked-under principal g e = let r = lineAt s PRINCIPAL 0 in known-made (at r 1) (made (rent (at r 0) (at r 1))) g (λ n. (
+    item-under 7 17 0 KIND (omega arith) (omega arith) (omega arith) (omega arith) (request-tags .0) (omega arith) (omega arith) (λ u h. h),
+    item-under 7 17 1 TEXT (omega arith) (omega arith) (omega arith) (omega arith) (request-tags .0) (omega arith) (omega arith) (λ u h. subst (λ b. (b || ltb (at r 1) (count u TEXT)) ≡ true) n h),
   )) e
-  asked-made action g e = let r = lineAt s ACTION 0 in known-made (at r 1) (made (rent (at r 0) (at r 1))) g (λ n. (
-    short-item 8 18 0 KIND (omega arith) (omega arith) (omega arith) (omega arith) (request-tags .1) (omega arith) (omega arith) few-kinds (λ u h. h),
-    short-item 8 18 1 TEXT (omega arith) (omega arith) (omega arith) (omega arith) (request-tags .1) (omega arith) (omega arith) few-texts (λ u h. h),
+  asked-under action g e = let r = lineAt s ACTION 0 in known-made (at r 1) (made (rent (at r 0) (at r 1))) g (λ n. (
+    item-under 8 18 0 KIND (omega arith) (omega arith) (omega arith) (omega arith) (request-tags .1) (omega arith) (omega arith) (λ u h. h),
+    item-under 8 18 1 TEXT (omega arith) (omega arith) (omega arith) (omega arith) (request-tags .1) (omega arith) (omega arith) (λ u h. h),
   )) e
-  asked-made resource g e = let r = lineAt s RESOURCE 0 in known-made (at r 1) (made (rent (at r 0) (at r 1))) g (λ n. (
-    short-item 9 19 0 KIND (omega arith) (omega arith) (omega arith) (omega arith) (request-tags .2) (omega arith) (omega arith) few-kinds (λ u h. h),
-    short-item 9 19 1 TEXT (omega arith) (omega arith) (omega arith) (omega arith) (request-tags .2) (omega arith) (omega arith) few-texts (λ u h. subst (λ b. (b || ltb (at r 1) (count u TEXT)) ≡ true) n h),
+  asked-under resource g e = let r = lineAt s RESOURCE 0 in known-made (at r 1) (made (rent (at r 0) (at r 1))) g (λ n. (
+    item-under 9 19 0 KIND (omega arith) (omega arith) (omega arith) (omega arith) (request-tags .2) (omega arith) (omega arith) (λ u h. h),
+    item-under 9 19 1 TEXT (omega arith) (omega arith) (omega arith) (omega arith) (request-tags .2) (omega arith) (omega arith) (λ u h. subst (λ b. (b || ltb (at r 1) (count u TEXT)) ≡ true) n h),
   )) e
-  asked-made context g e = known-made (at (lineAt s CONTEXT 0) 1) (old (at (lineAt s CONTEXT 0) 1)) g (λ n. tt) e
+  asked-under context g e = known-made (at (lineAt s CONTEXT 0) 1) (old (at (lineAt s CONTEXT 0) 1)) g (λ n. tt) e
