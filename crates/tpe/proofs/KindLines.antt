@@ -50,7 +50,7 @@ entity-of ts k (set′ y) e = absurd e
 entity-of ts k (record′ ds) e = absurd e
 
 module _ (m : Mode) (s : State) (h : History m s) where
-  pub kind-found : (k : ℕ) → Listed (types s) (alone k) → getD (types s) (placeOf (aloneRow k) (linesOf s TYPE)) tbool ≡ alone k
+  pub kind-found : (k : ℕ) → Listed (types s) (alone k) → (placeOf (aloneRow k) (linesOf s TYPE) < length (types s)) × (getD (types s) (placeOf (aloneRow k) (linesOf s TYPE)) tbool ≡ alone k)
   kind-found k e =
       let y = typeNumber (types s) (alone k) in
       let n = types-length m s h in
@@ -59,7 +59,8 @@ module _ (m : Mode) (s : State) (h : History m s) where
       let r : typeRow (getD (linesOf s TYPE) y []) ≡ entity k [] = entity-of (types s) k (typeRow (getD (linesOf s TYPE) y [])) (subst (IsEnt k) q (refl, refl)) in
       let row : getD (linesOf s TYPE) y [] ≡ aloneRow k = split-at (linesOf s TYPE) y lt (λ pre rest z. let w = h TYPE pre (getD (linesOf s TYPE) y []) rest z in let b = type-back m (w .line) (getD (linesOf s TYPE) y []) (w .row) (w .key) in sym (rw r at b)) in
       let p = place-found (aloneRow k) (linesOf s TYPE) y lt row in
-      ty-eq m s h (placeOf (aloneRow k) (linesOf s TYPE)) ∙ ap (λ x. tyOver (types s) (typeRow x)) (p .1)
+      let b = p .0 in
+      (omega (arith, b, n), ty-eq m s h (placeOf (aloneRow k) (linesOf s TYPE)) ∙ ap (λ x. tyOver (types s) (typeRow x)) (p .1))
 
   formeds-from : (pre rest : List (List ℕ)) → linesOf s VALUE ≡ pre ++ rest → Formeds rest
   formeds-from pre [] e = none-formed
