@@ -9,7 +9,7 @@ from believed import HERE, without_code
 HEAD = """# Definitions and the sentences they quote
 
 Written by `python3 scripts/sentences.py` from the comments of specs/. A definition that is not listed is a part of one that is, or of
-what its file states (docs/ARCHITECTURE.md, section 2).
+what its file states (docs/ARCHITECTURE.md, section 2). What notices a changed line of them stands in docs/MUTANTS.md.
 """
 
 
