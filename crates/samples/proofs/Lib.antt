@@ -1,3 +1,4 @@
+pub mod AgreementEdges
 pub mod ExampleBytes
 pub mod ExampleEntities
 pub mod ExampleGroups
@@ -5,6 +6,7 @@ pub mod ExampleLinks
 pub mod ExampleName
 pub mod ExampleTerms
 pub mod GroupEdges
+pub mod KnownEdges
 pub mod KnownParents
 pub mod KnownSheets
 pub mod LinkEdges
