@@ -28,7 +28,7 @@ use Rattle.sheet.proofs.ValueRows.{values-table}
 use Rattle.sheet.proofs.Environment.{Facts, env-read}
 use Rattle.sheet.proofs.OwnPolicies.{read-own}
 use Rattle.sheet.proofs.Demand3Bytes.{facts}
-use Rattle.sheet.proofs.SheetSmall.{policies-small, asked-made}
+use Rattle.sheet.proofs.SheetSmall.{Under, policies-under, asked-under}
 use Rattle.sheet.proofs.LeftOver.{LeftLines, no-lines, one-line, run-leaves}
 use Rattle.sheet.proofs.NodesStand.{tree-there}
 use Rattle.sheet.proofs.AnswerBack.{lineWith, partialPolicies}
@@ -117,7 +117,7 @@ module _ (sheet : List ℕ) (acc : Accepted partial sheet) where
 
   the-left : LeftLines (nPolicies s) (run partial s .lines)
   unfolding run
-  the-left = run-leaves (schema s) (nEnv partial s) (asked-made s f) (nPolicies s) (policies-small partial s (f .history)) (valueRows s) .lines
+  the-left = run-leaves (Under s) (schema s) (nEnv partial s) (asked-under s f) (nPolicies s) (policies-under partial s (f .history)) (valueRows s) .lines
 
   -- the run again
   run-again : runAgain s (partialSaid s) (handedBack (run partial s .lines)) ≡ run partial s

@@ -138,6 +138,8 @@ groupCases =
     ∷ case "value=entity,0,11/value=entity,2,11/principal=0,?/action=1,4/resource=3,5/context=14,?/day=2000-01-01/node=4,var,p/node=4,lit,0/node=0,eq,0,1/node=8,lit,0/node=8,lit,1/node=8,if,2,3,4/node=0,is,5,0/policy=6,permit,6/" "decision=open/counts=0,0,0,1,0,0,0,0/why=none/node=4,var,p/node=4,lit,0/node=0,eq,0,1/node=8,lit,0/node=8,lit,1/node=8,if,2,3,4/node=0,is,5,0/policy=6,permit,open,6/"  -- is: present, not the sole one
     ∷ case "value=entity,0,11/value=entity,2,11/principal=0,?/action=1,4/resource=3,5/context=14,?/day=2000-01-01/node=4,var,p/node=0,is,0,0/policy=6,permit,1/" "decision=allow/counts=1,0,0,0,0,0,0,0/why=6/value=bool,1/node=0,lit,2/policy=6,permit,true,0/"  -- is: the sole one
     ∷ case "value=entity,0,11/value=entity,2,11/principal=0,?/action=1,4/resource=3,5/context=14,?/day=2000-01-01/node=8,lit,0/node=0,is,0,0/policy=6,permit,1/" "decision=allow/counts=1,0,0,0,0,0,0,0/why=6/value=bool,1/node=0,lit,2/policy=6,permit,true,0/"  -- is: concrete in a group
+    ∷ case "value=entity,0,11/value=entity,2,11/value=bool,0/principal=0,?/action=1,4/resource=3,5/context=14,?/day=2000-01-01/node=4,var,p/node=4,lit,0/node=0,eq,0,1/node=8,lit,0/node=8,lit,1/node=8,if,2,3,4/node=0,is,5,0/node=0,lit,2/node=0,and,6,7/policy=6,permit,8/" "decision=deny/counts=0,1,0,0,0,0,0,0/why=none/node=0,lit,2/policy=6,permit,false,0/"  -- is: left open it cannot err, so false beside it settles the and
+    ∷ case "value=entity,0,11/value=entity,2,11/value=bool,1/principal=0,?/action=1,4/resource=3,5/context=14,?/day=2000-01-01/node=4,var,p/node=4,lit,0/node=0,eq,0,1/node=8,lit,0/node=8,lit,1/node=8,if,2,3,4/node=0,is,5,0/node=0,lit,2/node=0,or,6,7/policy=6,permit,8/" "decision=allow/counts=1,0,0,0,0,0,0,0/why=6/node=0,lit,2/policy=6,permit,true,0/"  -- and true the or
     ∷ case "value=entity,0,11/value=entity,2,11/value=entity,3,11/principal=0,?/action=1,4/resource=3,5/context=14,?/day=2000-01-01/node=4,var,p/node=4,lit,0/node=0,eq,0,1/node=8,lit,0/node=8,lit,1/node=8,if,2,3,4/node=6,lit,2/node=0,eq,5,6/policy=6,permit,7/" "decision=deny/counts=0,1,0,0,0,0,0,0/why=none/value=bool,0/node=0,lit,3/policy=6,permit,false,0/"  -- eq: no common kind
     ∷ case "value=entity,0,11/value=entity,2,11/principal=0,?/action=1,4/resource=3,5/context=14,?/day=2000-01-01/node=4,var,p/node=4,lit,0/node=0,eq,0,1/node=8,lit,0/node=8,lit,1/node=8,if,2,3,4/node=9,lit,0/node=0,eq,5,6/policy=6,permit,7/" "decision=open/counts=0,0,0,1,0,0,0,0/why=none/node=4,var,p/node=4,lit,0/node=0,eq,0,1/node=8,lit,0/node=8,lit,1/node=8,if,2,3,4/node=9,lit,0/node=0,eq,5,6/policy=6,permit,open,7/"  -- eq: a common kind
     ∷ case "value=entity,0,11/value=entity,2,11/value=entity,3,11/principal=0,?/action=1,4/resource=3,5/context=14,?/day=2000-01-01/node=4,var,p/node=4,lit,0/node=0,eq,0,1/node=8,lit,0/node=8,lit,1/node=8,if,2,3,4/node=6,lit,2/node=0,in,5,6/policy=6,permit,7/" "decision=deny/counts=0,1,0,0,0,0,0,0/why=none/value=bool,0/node=0,lit,3/policy=6,permit,false,0/"  -- in: no pair allows it

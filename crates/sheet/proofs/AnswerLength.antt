@@ -38,7 +38,7 @@ use Rattle.sheet.proofs.MadeWords.{fieldsIn, rowWords, wordsOf, run-wor
 use Rattle.sheet.proofs.NeverNine.{policy-sizes, residual-sizes, made-at-most}
 use Rattle.sheet.proofs.Demand3Bytes.{facts}
 use Rattle.sheet.proofs.LeftOver.{LeftLines, run-leaves}
-use Rattle.sheet.proofs.SheetSmall.{policies-small, asked-made}
+use Rattle.sheet.proofs.SheetSmall.{Under, policies-under, asked-under}
 use Rattle.sheet.proofs.AnswerRead.{firsts-length, rows-are, made-values, residuals-small, few-types}
 use Rattle.sheet.proofs.AnswerBack.{GoodValues}
 use Rattle.sheet.proofs.DigitsBack.{plainByte, IsLong}
@@ -470,7 +470,7 @@ module _ (sheet : List ℕ) (acc : Accepted partial sheet) where
 
   left-lines : LeftLines (nPolicies s) (run partial s .lines)
   unfolding run
-  left-lines = let f = facts partial sheet acc in run-leaves (schema s) (nEnv partial s) (asked-made s f) (nPolicies s) (policies-small partial s (f .history)) (valueRows s) .lines
+  left-lines = let f = facts partial sheet acc in run-leaves (Under s) (schema s) (nEnv partial s) (asked-under s f) (nPolicies s) (policies-under partial s (f .history)) (valueRows s) .lines
 
   few-made : length (drop (count s VALUE) (run partial s .rows)) ≤ policySizes (nPolicies s)
   few-made = let a = made-at-most partial sheet (accepted-read partial sheet acc) in let b = length-drop (count s VALUE) (run partial s .rows) in omega (arith, a, b)

@@ -4,14 +4,14 @@ use mathlib.Core.Path.{_≡_, refl, sym, _∙_, ap, ap₂, subst}
 use mathlib.Core.Bool.{true, false}
 use mathlib.Core.Option.{some}
 use mathlib.Core.List.{List, [], _∷_, _++_, append-assoc, append-nil}
-use Prim.Native.Nat.{ℕ, suc, _≤_, _+_}
+use Prim.Native.Nat.{ℕ, suc, _≤_, _<_, _+_}
 use native.Mathlib.Omega.{arith}
 use lib.ListN.{length, getD, drop, getElem?, length-append}
 use lib.Seq.{drop-at}
 use Rattle.cedar.proofs.Tools.{both}
 use Rattle.cedar.specs.Value.{Value, vbool, Values, Fields}
 use Rattle.cedar.specs.Types.{Ty}
-use Rattle.cedar.specs.Residual.{Node, Nodes, NodeArgs, Expr, Exprs, Args, lit, and, or, ite, un, bin, rel, get, has, haspath, set, rec, econs, gcons, err}
+use Rattle.cedar.specs.Residual.{Item, star, piece, Un, unot, uneg, uempty, uis, ulike, Node, Nodes, NodeArgs, Expr, Exprs, Args, lit, and, or, ite, un, bin, rel, get, has, haspath, set, rec, econs, gcons, err}
 use Rattle.cedar.specs.Response.{decision}
 use Rattle.cedar.specs.Rows.{Entries, Row}
 use Rattle.cedar.specs.Table.{At, Elems, elem0, elem1, Named, name0, name1, Denotes, dbool, dlong, dtext, dent, dset, drec, Table, start, grow}
@@ -20,7 +20,7 @@ use Rattle.cedar.specs.Runs.{Policy, NPolicy, NVerdict, verdicts}
 use Rattle.cedar.proofs.MakingLaws.{content-of}
 use Rattle.cedar.proofs.TableLaws.{at-last, at-append, same-length}
 use Rattle.cedar.proofs.SettledByNumber.{Residuals, RunReads, run-reads}
-use Rattle.sheet.specs.Forms.{partial, complete, VALUE}
+use Rattle.sheet.specs.Forms.{partial, complete, TEXT, KIND, VALUE}
 use Rattle.sheet.specs.State.{State, count, linesOf, sum}
 use Rattle.sheet.specs.Sheet.{firsts, read}
 use Rattle.sheet.specs.Content.{types, rowsIn, valueRows, contents, valueOver, valuesFrom, schema, pEnv, nEnv, exprs, nPolicies, policies, treesFrom, onTerm}
@@ -41,11 +41,11 @@ use Rattle.sheet.proofs.Limits.{most-lines}
 use Rattle.sheet.proofs.MadeCount.{residualSizes}
 use Rattle.sheet.proofs.NeverNine.{policy-sizes, residual-sizes, rows-at-most}
 use Rattle.sheet.proofs.RowsBack.{AllSmall, SmallEntries, GoodValue}
-use Rattle.sheet.proofs.TreesBack.{Small, SmallAll, SmallArgs, valued, valuedAll, valuedArgs, valued-same, post, post-size, root-there, then-rows, tree-back}
-use Rattle.sheet.proofs.NodesStand.{made-stand, residuals-stand}
+use Rattle.sheet.proofs.TreesBack.{SmallPattern, SmallUn, SmallTexts, Small, SmallAll, SmallArgs, Short, valued, valuedAll, valuedArgs, valued-same, post, post-size, root-there, then-rows, tree-back}
+use Rattle.sheet.proofs.NodesStand.{made-stand, NamesThere, residuals-stand}
 use Rattle.sheet.proofs.RowsGood.{ResidualsSmall, residuals-good}
 use Rattle.sheet.proofs.LeftOver.{Any, left-small, LeftLines, no-lines, one-line, PoliciesSmall, SmallNames, MadeOk, AllMade, RunLeaves, run-leaves}
-use Rattle.sheet.proofs.SheetSmall.{policies-small, ids-small, asked-made}
+use Rattle.sheet.proofs.SheetSmall.{Under, policies-under, ids-small, asked-under}
 use Rattle.sheet.proofs.AnswerBack.{GoodValues, partialPolicies, completePolicies, partial-reads, complete-reads}
 use Rattle.sheet.proofs.WhyLaws.{why-small}
 use Rattle.sheet.proofs.Fitting.{at-less, denotes-over}
@@ -53,52 +53,71 @@ use Rattle.cedar.proofs.SettledByNumber as R
 use Rattle.cedar.proofs.ReadsLaws.{at-is}
 use Rattle.sheet.proofs.OnTerm.{on-term-few}
 
+-- ---- numbers of texts and kinds
+
+module _ (N : ℕ → ℕ → Type 0) (texts : (x : ℕ) → N TEXT x → x ≤ 9999) (kinds : (x : ℕ) → N KIND x → x ≤ 9999) where
+  pattern-small : (p : List Item) → SmallPattern N p → SmallPattern Short p
+  pattern-small [] h = tt
+  pattern-small (star ∷ p) h = pattern-small p h
+  pattern-small (piece t ∷ p) h = (texts t (h .0), pattern-small p (h .1))
+
+  un-small : (u : Un) → SmallUn N u → SmallUn Short u
+  un-small unot h = tt
+  un-small uneg h = tt
+  un-small uempty h = tt
+  un-small (uis k) h = kinds k h
+  un-small (ulike p) h = pattern-small p h
+
+  texts-small : (l : List ℕ) → SmallTexts N l → SmallTexts Short l
+  texts-small [] h = tt
+  texts-small (t ∷ l) h = (texts t (h .0), texts-small l (h .1))
+
 -- ---- numbers of values
 
-module _ {C : List Value} (few : length C ≤ 10000) where
+module _ {C : List Value} (few : length C ≤ 10000) (N : ℕ → ℕ → Type 0) (texts : (x : ℕ) → N TEXT x → x ≤ 9999) (kinds : (x : ℕ) → N KIND x → x ≤ 9999) where
   elems-small : {l : List ℕ} {vs : Values} → Elems C l vs → AllSmall l
   elems-small elem0 = tt
   elems-small (elem1 a e) = let z = at-less a in (omega arith, elems-small e)
 
-  named-small : {e : Entries} {fs : Fields} → Named C e fs → SmallNames e → SmallEntries e
+  named-small : {e : Entries} {fs : Fields} → Named C e fs → SmallNames N e → SmallEntries e
   named-small name0 h = tt
-  named-small (name1 a e) h = let z = at-less a in (h .0, omega arith, named-small e (h .1))
+  named-small (name1 a e) h = let z = at-less a in (texts _ (h .0), omega arith, named-small e (h .1))
 
   -- a made row over a table is one whose line reads back
-  made-good : {r : Row} {v : Value} → Denotes C r v → MadeOk r → GoodValue r
+  made-good : {r : Row} {v : Value} → Denotes C r v → MadeOk N r → GoodValue r
   made-good dbool h = tt
   made-good dlong h = h
-  made-good dtext h = h
-  made-good dent h = h
+  made-good dtext h = texts _ h
+  made-good dent h = (kinds _ (h .0), texts _ (h .1))
   made-good (dset a e q) h = elems-small e
   made-good (drec e) h = named-small e h
 
   mutual
-    reads-small : {a : Node ℕ} {d : Expr} → Reads C a d → Small Any a → Small (λ v. v ≤ 9999) a
+    reads-small : {a : Node ℕ} {d : Expr} → Reads C a d → Small N Any a → Small Short (λ v. v ≤ 9999) a
     reads-small (xlit n) h = let z = at-less n in omega arith
     reads-small xerr h = tt
     reads-small xvar h = tt
     reads-small (xand a b) h = (reads-small a (h .0), reads-small b (h .1))
     reads-small (xor a b) h = (reads-small a (h .0), reads-small b (h .1))
     reads-small (xite c a b) h = (reads-small c (h .0), reads-small a (h .1), reads-small b (h .2))
-    reads-small (xun a) h = (h .0, reads-small a (h .1))
+    reads-small (xun {u = u} a) h = (un-small N texts kinds u (h .0), reads-small a (h .1))
     reads-small (xbin a b) h = (reads-small a (h .0), reads-small b (h .1))
     reads-small (xrel a b) h = (reads-small a (h .0), reads-small b (h .1))
-    reads-small (xget a) h = (h .0, reads-small a (h .1))
-    reads-small (xhas a) h = (h .0, reads-small a (h .1))
-    reads-small (xpath a) h = (h .0, reads-small a (h .1))
+    reads-small (xget a) h = (texts _ (h .0), reads-small a (h .1))
+    reads-small (xhas a) h = (texts _ (h .0), reads-small a (h .1))
+    reads-small (xpath {t = t} {ts = ts} a) h = (texts-small N texts kinds (t ∷ ts) (h .0), reads-small a (h .1))
     reads-small (xset k) h = all-small k h
     reads-small (xrec k) h = args-small k h
 
-    all-small : {es : Nodes ℕ} {fs : Exprs} → ReadsAll C es fs → SmallAll Any es → SmallAll (λ v. v ≤ 9999) es
+    all-small : {es : Nodes ℕ} {fs : Exprs} → ReadsAll C es fs → SmallAll N Any es → SmallAll Short (λ v. v ≤ 9999) es
     all-small xnil h = tt
     all-small (xcons a k) h = (reads-small a (h .0), all-small k (h .1))
 
-    args-small : {gs : NodeArgs ℕ} {hs : Args} → ReadsArgs C gs hs → SmallArgs Any gs → SmallArgs (λ v. v ≤ 9999) gs
+    args-small : {gs : NodeArgs ℕ} {hs : Args} → ReadsArgs C gs hs → SmallArgs N Any gs → SmallArgs Short (λ v. v ≤ 9999) gs
     args-small xstop h = tt
-    args-small (xarg a k) h = (h .0, reads-small a (h .1), args-small k (h .2))
+    args-small (xarg a k) h = (texts _ (h .0), reads-small a (h .1), args-small k (h .2))
 
-  made-goods : (pre more : List Row) → ((n : ℕ) (r : Row) → At (pre ++ more) n r → (v : Value) × At C n v × Denotes C r v) → AllMade more → GoodValues more
+  made-goods : (pre more : List Row) → ((n : ℕ) (r : Row) → At (pre ++ more) n r → (v : Value) × At C n v × Denotes C r v) → AllMade N more → GoodValues more
   made-goods pre [] f h = tt
   made-goods pre (r ∷ more) f h =
       let q : pre ++ (r ∷ more) ≡ (pre ++ (r ∷ [])) ++ more = sym (append-assoc pre (r ∷ []) more) in
@@ -215,9 +234,15 @@ module _ (sheet : List ℕ) (acc : Accepted partial sheet) where
   unfolding run
   reads = run-reads (schema s) (nEnv partial s) (pEnv s) (nPolicies s) (values-table partial s h) (env-read s f) (read-own partial s h (f .ends))
 
-  leaves : RunLeaves (nPolicies s) (valueRows s) (run partial s)
+  leaves : RunLeaves (Under s) (nPolicies s) (valueRows s) (run partial s)
   unfolding run
-  leaves = run-leaves (schema s) (nEnv partial s) (asked-made s f) (nPolicies s) (policies-small partial s h) (valueRows s)
+  leaves = run-leaves (Under s) (schema s) (nEnv partial s) (asked-under s f) (nPolicies s) (policies-under partial s h) (valueRows s)
+
+  short-text : (x : ℕ) → x < count s TEXT → x ≤ 9999
+  short-text x lt = let a = most-lines partial s h .texts in omega (arith, a, lt)
+
+  short-kind : (x : ℕ) → x < count s KIND → x ≤ 9999
+  short-kind x lt = let a = most-lines partial s h .kinds in omega (arith, a, lt)
 
   few-values : length (reads .contents) ≤ 10000
   few-values = let a = rows-at-most partial sheet e in let b = same-length (reads .table) in omega (arith, a, b)
@@ -231,14 +256,14 @@ module _ (sheet : List ℕ) (acc : Accepted partial sheet) where
   rows-are = leaves .rows .grew ∙ ap (λ z. valueRows s ++ z) (sym made-is)
 
   pub made-values : GoodValues (drop (count s VALUE) (run partial s .rows))
-  made-values = subst GoodValues (sym made-is) (made-goods few-values (valueRows s) (leaves .rows .more) (λ n r a. content-of (reads .table) (subst (λ z. At z n r) (sym (leaves .rows .grew)) a)) (leaves .rows .good))
+  made-values = subst GoodValues (sym made-is) (made-goods few-values (Under s) short-text short-kind (valueRows s) (leaves .rows .more) (λ n r a. content-of (reads .table) (subst (λ z. At z n r) (sym (leaves .rows .grew)) a)) (leaves .rows .good))
 
-  lines-small : {ps : List NPolicy} {ls : List NVerdict} {qs : List Policy} → LeftLines ps ls → PoliciesSmall ps → Residuals (schema s) (nEnv partial s) (pEnv s) (reads .contents) ls qs → ResidualsSmall ls
+  lines-small : {ps : List NPolicy} {ls : List NVerdict} {qs : List Policy} → LeftLines ps ls → PoliciesSmall (Under s) ps → Residuals (schema s) (nEnv partial s) (pEnv s) (reads .contents) ls qs → ResidualsSmall ls
   lines-small no-lines k R.none = tt
-  lines-small (one-line l ls) k (R.more r rs) = (reads-small few-values r (left-small l (k .0)), lines-small ls (k .1) rs)
+  lines-small (one-line l ls) k (R.more r rs) = (reads-small few-values (Under s) short-text short-kind r (left-small (Under s) l (k .0)), lines-small ls (k .1) rs)
 
   pub residuals-small : ResidualsSmall (run partial s .lines)
-  residuals-small = lines-small (leaves .lines) (policies-small partial s h) (reads .residuals)
+  residuals-small = lines-small (leaves .lines) (policies-under partial s h) (reads .residuals)
 
   sizes-small : residualSizes (run partial s .lines) ≤ 10000
   sizes-small = let a = policy-sizes partial sheet e in let b = residual-sizes partial sheet e in omega (arith, a, b)
@@ -277,15 +302,19 @@ module _ (sheet : List ℕ) (acc : Accepted partial sheet) where
       let c = same-length (reads .table) in
       omega (arith, a, b, c)
 
-  made-stands : valuesStand (count s VALUE) (drop (count s VALUE) (run partial s .rows)) ≡ true
+  made-stands : valuesStand (count s) (count s VALUE) (drop (count s VALUE) (run partial s .rows)) ≡ true
   unfolding valueRows
-  made-stands = ap (λ k. valuesStand k (drop (count s VALUE) (run partial s .rows))) (sym (rows-length (linesOf s VALUE)))
-      ∙ made-stand (rowsIn (linesOf s VALUE)) (drop (count s VALUE) (run partial s .rows)) (subst (λ R. Table R (reads .contents)) rows-are (reads .table))
+  made-stands = ap (λ k. valuesStand (count s) k (drop (count s VALUE) (run partial s .rows))) (sym (rows-length (linesOf s VALUE)))
+      ∙ made-stand (count s) (rowsIn (linesOf s VALUE)) (drop (count s VALUE) (run partial s .rows)) (subst (λ R. Table R (reads .contents)) rows-are (reads .table)) (subst (AllMade (Under s)) (sym made-is) (leaves .rows .good))
+
+  lines-named : {ps : List NPolicy} {ls : List NVerdict} → LeftLines ps ls → PoliciesSmall (Under s) ps → NamesThere (count s) ls
+  lines-named no-lines k = tt
+  lines-named (one-line l ls) k = (left-small (Under s) l (k .0), lines-named ls (k .1))
 
   -- WHAT MADE VALUES AND RESIDUAL NODES REFER TO IS THERE
   pub all-stand : allStand s (partialSaid s) ≡ true
-  all-stand = both made-stands (ap₂ (λ x y. nodesStand x y 0 (residualRows (types s) 0 (run partial s .lines))) (sym (types-length partial s h)) values-many
-      ∙ residuals-stand (types s) (reads .contents) (reads .residuals) (residual-types s f) 0)
+  all-stand = both made-stands (ap (λ n. nodesStand (count s) n 0 (residualRows (types s) 0 (run partial s .lines))) values-many
+      ∙ residuals-stand (count s) (types s) (reads .contents) (types-length partial s h) (reads .residuals) (residual-types s f) (lines-named (leaves .lines) (policies-under partial s h)) 0)
 
   -- UNDER EACH PRINTED ROOT STANDS THE RUN'S RESIDUAL
   pub residuals-back : Standing (treesFrom (types s) (λ n. n) (λ A x. err A) [] (partialSaid s .nodes)) (λ l. l .root) (partialSaid s .policies) (run partial s .lines)

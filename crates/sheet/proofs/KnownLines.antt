@@ -1,4 +1,4 @@
--- What the documents say of single lines and no theorem rests on, from bytes to bytes, by computation on short sheets: dates, terms, templates, groups.
+-- What the documents say of single lines and no theorem rests on, from bytes to bytes, by computation on short sheets: dates, terms, templates, groups; the depth of leaves.
 use mathlib.Core.Path.{_≡_, refl}
 use mathlib.Core.Bool.{true}
 use mathlib.Core.Option.{none, some}
@@ -7,6 +7,7 @@ use Prim.Native.Nat.{ℕ}
 use lib.ListN.{replicate}
 use Rattle.sheet.specs.Ascii.{ascii}
 use Rattle.sheet.specs.Forms.{keys, partial, forms, formOf, slotAt, counted, tagOf, rowOf, keyOf, refs, ascendings, firstType, firstValue, firstNode, TYPE, VALUE, NODE, slotNode, aloneRow}
+use Rattle.sheet.specs.State.{State}
 use Rattle.sheet.specs.Typing.{fitsIn, nodesUnder, typed}
 use Rattle.sheet.specs.Parents.{ancestors, unknownAbove}
 use Rattle.sheet.specs.Sheet.{found, depth, fault, more, read}
@@ -79,6 +80,29 @@ no-dates : date (ascii "2100-02-29") ∷ date (ascii "1900-02-29") ∷ date (asc
     ∷ date (ascii "2000-04-31") ∷ date (ascii "2000-1-010") ∷ date (ascii "02000-1-01") ∷ date (ascii "2000-01-1") ∷ date (ascii "2000-01-011") ∷ date (ascii "2000/01/01") ∷ date (ascii "20000101") ∷ date (ascii "?") ∷ date [] ∷ []
     ≡ replicate 17 none
 no-dates = refl
+
+-- the last day of each month, and the day after it
+month-ends : date (ascii "2026-01-31") ∷ date (ascii "2026-02-28") ∷ date (ascii "2026-03-31") ∷ date (ascii "2026-04-30") ∷ date (ascii "2026-05-31") ∷ date (ascii "2026-06-30") ∷ date (ascii "2026-07-31") ∷ date (ascii "2026-08-31") ∷ date (ascii "2026-09-30") ∷ date (ascii "2026-10-31") ∷ date (ascii "2026-11-30") ∷ date (ascii "2026-12-31") ∷ [] ≡ some 20260131 ∷ some 20260228 ∷ some 20260331 ∷ some 20260430 ∷ some 20260531 ∷ some 20260630 ∷ some 20260731 ∷ some 20260831 ∷ some 20260930 ∷ some 20261031 ∷ some 20261130 ∷ some 20261231 ∷ []
+month-ends = refl
+
+past-month-ends : date (ascii "2026-01-32") ∷ date (ascii "2026-02-29") ∷ date (ascii "2026-03-32") ∷ date (ascii "2026-04-31") ∷ date (ascii "2026-05-32") ∷ date (ascii "2026-06-31") ∷ date (ascii "2026-07-32") ∷ date (ascii "2026-08-32") ∷ date (ascii "2026-09-31") ∷ date (ascii "2026-10-32") ∷ date (ascii "2026-11-31") ∷ date (ascii "2026-12-32") ∷ [] ≡ replicate 12 none
+past-month-ends = refl
+
+-- 29 February: every fourth year, of the years of a century's end every fourth
+leap-days : date (ascii "1904-02-29") ∷ date (ascii "1996-02-29") ∷ date (ascii "2000-02-29") ∷ date (ascii "2004-02-29") ∷ date (ascii "2096-02-29") ∷ date (ascii "2104-02-29") ∷ date (ascii "2196-02-29") ∷ [] ≡ some 19040229 ∷ some 19960229 ∷ some 20000229 ∷ some 20040229 ∷ some 20960229 ∷ some 21040229 ∷ some 21960229 ∷ []
+leap-days = refl
+
+no-leap-days : date (ascii "1900-02-29") ∷ date (ascii "2100-02-29") ∷ date (ascii "2002-02-29") ∷ date (ascii "2025-02-29") ∷ date (ascii "2026-02-29") ∷ date (ascii "2027-02-29") ∷ date (ascii "2198-02-29") ∷ [] ≡ replicate 7 none
+no-leap-days = refl
+
+-- both dashes are dashes
+dashes : date (ascii "2026-06-15") ∷ date (ascii "2026-06.15") ∷ date (ascii "2026.06-15") ∷ date (ascii "2026-06/15") ∷ date (ascii "2026/06-15") ∷ date (ascii "2026-06015") ∷ date (ascii "2026006-15") ∷ [] ≡ some 20260615 ∷ replicate 6 none
+dashes = refl
+
+-- "A leaf has depth 1": a node's depth counts nodes alone, a value's values alone, a type's types alone
+leaf-depths : (s : State) (x y : ℕ) → depth s NODE (21 ∷ x ∷ y ∷ []) ∷ depth s NODE (22 ∷ x ∷ []) ∷ depth s NODE (23 ∷ x ∷ y ∷ []) ∷ depth s NODE (slotNode ∷ x ∷ y ∷ []) ∷ depth s VALUE (12 ∷ x ∷ []) ∷ depth s VALUE (13 ∷ x ∷ y ∷ []) ∷ depth s TYPE (6 ∷ x ∷ y ∷ []) ∷ [] ≡ replicate 7 1
+unfolding forms formOf slotAt refs depth
+leaf-depths s x y = refl
 
 -- the named tags are where the table has them
 first-tags : tagOf TYPE (ascii "bool") ∷ tagOf VALUE (ascii "bool") ∷ tagOf NODE (ascii "lit") ∷ tagOf NODE (ascii "slot") ∷ [] ≡ firstType ∷ firstValue ∷ firstNode ∷ slotNode ∷ []

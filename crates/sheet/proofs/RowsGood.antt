@@ -16,7 +16,7 @@ use Rattle.sheet.proofs.Lines.{and-both}
 use Rattle.sheet.proofs.MadeCount.{residualSizes}
 use Rattle.sheet.proofs.RowsBack.{comes, allCome, goodRow, counted-groups}
 use Rattle.sheet.proofs.Slots.{like-slot, path-slot, set-slot, name-slot, field-slot}
-use Rattle.sheet.proofs.TreesBack.{SmallPattern, SmallUn, SmallTexts, Small, SmallAll, SmallArgs}
+use Rattle.sheet.proofs.TreesBack.{SmallPattern, SmallUn, SmallTexts, Small, SmallAll, SmallArgs, Short}
 use Rattle.cedar.proofs.Tools.{both}
 
 abbrev pub allGood : List (List ℕ) → Bool
@@ -47,7 +47,7 @@ record-counted n = counted-groups 1 (suc (n + n)) 2 (omega arith) (omega arith) 
 
 -- ---- what may follow reads back
 
-pattern-comes : (j : ℕ) (p : List Item) → SmallPattern p → allCome 40 (suc (suc j)) (patternItems p) ≡ true
+pattern-comes : (j : ℕ) (p : List Item) → SmallPattern Short p → allCome 40 (suc (suc j)) (patternItems p) ≡ true
 pattern-comes j [] h = refl
 pattern-comes j (star ∷ p) h = both (ap (λ s. comes s mark) (like-slot j)) (pattern-comes (suc j) p h)
 pattern-comes j (piece t ∷ p) h = both (ap (λ s. comes s t) (like-slot j) ∙ small t (eqb t mark) (le-leb t 9999 (h .0))) (pattern-comes (suc j) p (h .1))
@@ -56,7 +56,7 @@ pattern-comes j (piece t ∷ p) h = both (ap (λ s. comes s t) (like-slot j) ∙
     small t true e = refl
     small t false e = e
 
-texts-come : (j : ℕ) (l : List ℕ) → SmallTexts l → allCome 43 (suc (suc (suc j))) l ≡ true
+texts-come : (j : ℕ) (l : List ℕ) → SmallTexts Short l → allCome 43 (suc (suc (suc j))) l ≡ true
 texts-come j [] h = refl
 texts-come j (t ∷ l) h = both (ap (λ s. comes s t) (path-slot j) ∙ le-leb t 9999 (h .0)) (texts-come (suc j) l (h .1))
 
@@ -72,7 +72,7 @@ args-length : (gs : NodeArgs ℕ) (n : ℕ) → length (argRoots n gs) ≡ howMa
 args-length gnil n = refl
 args-length (gcons t e gs) n = let z = args-length gs (n + size e) in omega (arith, z)
 
-args-come : (gs : NodeArgs ℕ) (i n : ℕ) → SmallArgs (λ v. v ≤ 9999) gs → n + sizeArgs gs ≤ 10000 → allCome 48 (suc (i + i)) (argRoots n gs) ≡ true
+args-come : (gs : NodeArgs ℕ) (i n : ℕ) → SmallArgs Short (λ v. v ≤ 9999) gs → n + sizeArgs gs ≤ 10000 → allCome 48 (suc (i + i)) (argRoots n gs) ≡ true
 args-come gnil i n h b = refl
 args-come (gcons t e gs) i n h b = both (ap (λ s. comes s t) (name-slot i) ∙ le-leb t 9999 (h .0))
     (both (ap (λ s. comes s (root n e)) (field-slot i) ∙ le-leb (root n e) 9999 (omega arith)) (ap (λ j. allCome 48 j (argRoots (n + size e) gs)) (omega arith) ∙ args-come gs (suc i) (n + size e) (h .2) (omega arith)))
@@ -90,7 +90,7 @@ type-small (A ∷ ts) T = go (tySame A T) (type-small ts T)
 -- of all residuals
 abbrev pub ResidualsSmall : List NVerdict → Type 0
 ResidualsSmall [] = Unit {0}
-ResidualsSmall (l ∷ ls) = Small (λ v. v ≤ 9999) (l .root) × ResidualsSmall ls
+ResidualsSmall (l ∷ ls) = Small Short (λ v. v ≤ 9999) (l .root) × ResidualsSmall ls
 
 module _ (ts : List Ty) (few : length ts ≤ 9999) where
   ty : (T : Ty) → leb (typeNumber ts T) 9999 ≡ true
@@ -120,7 +120,7 @@ module _ (ts : List Ty) (few : length ts ≤ 9999) where
   rel-good T rgettag x y g h = two-good T x y g h
   rel-good T rhastag x y g h = two-good T x y g h
 
-  un-good : (T : Ty) (u : Un) (x : ℕ) → SmallUn u → x ≤ 9999 → goodRow (unTag u ∷ typeNumber ts T ∷ x ∷ unItems u) ≡ true
+  un-good : (T : Ty) (u : Un) (x : ℕ) → SmallUn Short u → x ≤ 9999 → goodRow (unTag u ∷ typeNumber ts T ∷ x ∷ unItems u) ≡ true
   unfolding tagOf formOf forms slotAt counted
   un-good T unot x u g = both (ty T) (both (small x g) refl)
   un-good T uneg x u g = both (ty T) (both (small x g) refl)
@@ -141,7 +141,7 @@ module _ (ts : List Ty) (few : length ts ≤ 9999) where
   mutual
     unfolding tagOf formOf forms slotAt counted
 
-    pub tree-good : (e : Node ℕ) (n : ℕ) → Small (λ v. v ≤ 9999) e → n + size e ≤ 10000 → allGood (treeRows ts n e) ≡ true
+    pub tree-good : (e : Node ℕ) (n : ℕ) → Small Short (λ v. v ≤ 9999) e → n + size e ≤ 10000 → allGood (treeRows ts n e) ≡ true
     tree-good (lit T v) n h b = one-good (op "lit" ∷ typeNumber ts T ∷ v ∷ []) (both (ty T) (both (small v h) refl))
     tree-good (err T) n h b = one-good (op "err" ∷ typeNumber ts T ∷ []) (both (ty T) refl)
     tree-good (var T x) n h b = one-good (op "var" ∷ typeNumber ts T ∷ varNumber x ∷ []) (var-good T x)
@@ -166,11 +166,11 @@ module _ (ts : List Ty) (few : length ts ≤ 9999) where
     tree-good (rec T gs) n h b = good-append (argRows ts n gs) _ (args-good gs n h (omega arith))
         (one-good (op "record" ∷ typeNumber ts T ∷ argRoots n gs) (both (ap (λ k. counted 48 (suc k)) (args-length gs n) ∙ record-counted (howMany gs)) (both (ty T) (args-come gs 0 n h (omega arith)))))
 
-    all-good : (es : Nodes ℕ) (n : ℕ) → SmallAll (λ v. v ≤ 9999) es → n + sizes es ≤ 10000 → allGood (allRows ts n es) ≡ true
+    all-good : (es : Nodes ℕ) (n : ℕ) → SmallAll Short (λ v. v ≤ 9999) es → n + sizes es ≤ 10000 → allGood (allRows ts n es) ≡ true
     all-good enil n h b = refl
     all-good (econs e es) n h b = good-append (treeRows ts n e) (allRows ts (n + size e) es) (tree-good e n (h .0) (omega arith)) (all-good es (n + size e) (h .1) (omega arith))
 
-    args-good : (gs : NodeArgs ℕ) (n : ℕ) → SmallArgs (λ v. v ≤ 9999) gs → n + sizeArgs gs ≤ 10000 → allGood (argRows ts n gs) ≡ true
+    args-good : (gs : NodeArgs ℕ) (n : ℕ) → SmallArgs Short (λ v. v ≤ 9999) gs → n + sizeArgs gs ≤ 10000 → allGood (argRows ts n gs) ≡ true
     args-good gnil n h b = refl
     args-good (gcons t e gs) n h b = good-append (treeRows ts n e) (argRows ts (n + size e) gs) (tree-good e n (h .1) (omega arith)) (args-good gs (n + size e) (h .2) (omega arith))
 

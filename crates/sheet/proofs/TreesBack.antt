@@ -11,54 +11,58 @@ use lib.Seq.{getD-at}
 use Rattle.cedar.specs.Types.{Ty, tbool, Var, principal, action, resource, context}
 use Rattle.cedar.specs.Residual.{Item, star, piece, Node, Nodes, NodeArgs, lit, err, var, and, or, ite, un, bin, rel, get, has, haspath, set, rec, enil, econs, gnil, gcons, Un, unot, uneg, uempty, uis, ulike, Bin, beq, blt, ble, badd, bsub, bmul, bcontains, ball, bany, Rel, rin, rgettag, rhastag}
 use Rattle.cedar.proofs.TypesKept.{AllHold, ArgsHold}
-use Rattle.sheet.specs.Forms.{forms, tagOf, mark}
+use Rattle.sheet.specs.Forms.{forms, tagOf, mark, TEXT, KIND}
 use Rattle.sheet.specs.Content.{varOf, patternOf, childrenOver, argsOver, treeOver, treesFrom}
 use Rattle.sheet.proofs.TypeNumbers.{Listed, TypesIn}
 pub use Rattle.sheet.specs.Literals.{valued, valuedAll, valuedArgs}
 use Rattle.sheet.specs.Answer.{size, sizes, sizeArgs, root, roots, argRoots, op, patternItems, unTag, unItems, binTag, relTag, varNumber, typeNumber, treeRows, allRows, argRows}
 
--- ---- numbers of four digits, and Q of the numbers of literals
+-- ---- N of the numbers of texts and kinds, by their keys, and Q of the numbers of literals
 
-abbrev pub SmallPattern : List Item → Type 0
-SmallPattern [] = Unit {0}
-SmallPattern (star ∷ p) = SmallPattern p
-SmallPattern (piece t ∷ p) = (t ≤ 9999) × SmallPattern p
+abbrev pub SmallPattern : (ℕ → ℕ → Type 0) → List Item → Type 0
+SmallPattern N [] = Unit {0}
+SmallPattern N (star ∷ p) = SmallPattern N p
+SmallPattern N (piece t ∷ p) = N TEXT t × SmallPattern N p
 
-abbrev pub SmallUn : Un → Type 0
-SmallUn unot = Unit {0}
-SmallUn uneg = Unit {0}
-SmallUn uempty = Unit {0}
-SmallUn (uis k) = k ≤ 9999
-SmallUn (ulike p) = SmallPattern p
+abbrev pub SmallUn : (ℕ → ℕ → Type 0) → Un → Type 0
+SmallUn N unot = Unit {0}
+SmallUn N uneg = Unit {0}
+SmallUn N uempty = Unit {0}
+SmallUn N (uis k) = N KIND k
+SmallUn N (ulike p) = SmallPattern N p
 
-abbrev pub SmallTexts : List ℕ → Type 0
-SmallTexts [] = Unit {0}
-SmallTexts (t ∷ l) = (t ≤ 9999) × SmallTexts l
+abbrev pub SmallTexts : (ℕ → ℕ → Type 0) → List ℕ → Type 0
+SmallTexts N [] = Unit {0}
+SmallTexts N (t ∷ l) = N TEXT t × SmallTexts N l
 
 abbrev mutual
-  pub Small : (ℕ → Type 0) → Node ℕ → Type 0
-  Small Q (lit T n) = Q n
-  Small Q (err T) = Unit {0}
-  Small Q (var T x) = Unit {0}
-  Small Q (and T a b) = Small Q a × Small Q b
-  Small Q (or T a b) = Small Q a × Small Q b
-  Small Q (ite T c a b) = Small Q c × Small Q a × Small Q b
-  Small Q (un T u a) = SmallUn u × Small Q a
-  Small Q (bin T o a b) = Small Q a × Small Q b
-  Small Q (rel T o a b) = Small Q a × Small Q b
-  Small Q (get T a t) = (t ≤ 9999) × Small Q a
-  Small Q (has T a t) = (t ≤ 9999) × Small Q a
-  Small Q (haspath T a t ts) = SmallTexts (t ∷ ts) × Small Q a
-  Small Q (set T es) = SmallAll Q es
-  Small Q (rec T gs) = SmallArgs Q gs
+  pub Small : (ℕ → ℕ → Type 0) → (ℕ → Type 0) → Node ℕ → Type 0
+  Small N Q (lit T n) = Q n
+  Small N Q (err T) = Unit {0}
+  Small N Q (var T x) = Unit {0}
+  Small N Q (and T a b) = Small N Q a × Small N Q b
+  Small N Q (or T a b) = Small N Q a × Small N Q b
+  Small N Q (ite T c a b) = Small N Q c × Small N Q a × Small N Q b
+  Small N Q (un T u a) = SmallUn N u × Small N Q a
+  Small N Q (bin T o a b) = Small N Q a × Small N Q b
+  Small N Q (rel T o a b) = Small N Q a × Small N Q b
+  Small N Q (get T a t) = N TEXT t × Small N Q a
+  Small N Q (has T a t) = N TEXT t × Small N Q a
+  Small N Q (haspath T a t ts) = SmallTexts N (t ∷ ts) × Small N Q a
+  Small N Q (set T es) = SmallAll N Q es
+  Small N Q (rec T gs) = SmallArgs N Q gs
 
-  pub SmallAll : (ℕ → Type 0) → Nodes ℕ → Type 0
-  SmallAll Q enil = Unit {0}
-  SmallAll Q (econs e es) = Small Q e × SmallAll Q es
+  pub SmallAll : (ℕ → ℕ → Type 0) → (ℕ → Type 0) → Nodes ℕ → Type 0
+  SmallAll N Q enil = Unit {0}
+  SmallAll N Q (econs e es) = Small N Q e × SmallAll N Q es
 
-  pub SmallArgs : (ℕ → Type 0) → NodeArgs ℕ → Type 0
-  SmallArgs Q gnil = Unit {0}
-  SmallArgs Q (gcons t e gs) = (t ≤ 9999) × Small Q e × SmallArgs Q gs
+  pub SmallArgs : (ℕ → ℕ → Type 0) → (ℕ → Type 0) → NodeArgs ℕ → Type 0
+  SmallArgs N Q gnil = Unit {0}
+  SmallArgs N Q (gcons t e gs) = N TEXT t × Small N Q e × SmallArgs N Q gs
+
+-- four digits
+abbrev pub Short : ℕ → ℕ → Type 0
+Short k n = n ≤ 9999
 
 -- ---- a tree with its literals read
 
@@ -176,7 +180,7 @@ module _ {L : Type 0} (value : ℕ → L) where
 
 -- ---- items read back
 
-pattern-back : (p : List Item) → SmallPattern p → patternOf (patternItems p) ≡ p
+pattern-back : (p : List Item) → SmallPattern Short p → patternOf (patternItems p) ≡ p
 pattern-back [] h = refl
 pattern-back (star ∷ p) h = ap (λ z. star ∷ z) (pattern-back p h)
 pattern-back (piece t ∷ p) h = let lt = h .0 in ap₂ (λ b z. cond b star (piece t) ∷ z) (ne-eqb t mark (λ z. omega (arith, z))) (pattern-back p (h .1))
@@ -256,7 +260,7 @@ module _ {L : Type 0} (ts : List Ty) (value : ℕ → L) where
       ∙ args-at gs (ns ++ post (W e)) (n + size e) (grown ns n len e) more)
 
   module _ (ns : List (Node L)) (n : ℕ) (len : length ns ≡ n) (T : Ty) (q : getD ts (typeNumber ts T) tbool ≡ T) where
-    un-back : (a : Node ℕ) (u : Un) → SmallUn u → treeOver ts value (λ A x. err A) (ns ++ post (W a)) (unTag u ∷ typeNumber ts T ∷ root n a ∷ unItems u) ≡ un T u (W a)
+    un-back : (a : Node ℕ) (u : Un) → SmallUn Short u → treeOver ts value (λ A x. err A) (ns ++ post (W a)) (unTag u ∷ typeNumber ts T ∷ root n a ∷ unItems u) ≡ un T u (W a)
     unfolding tagOf forms
     un-back a unot h = ap₂ (λ T x. un T unot x) q (lone ns n len a)
     un-back a uneg h = ap₂ (λ T x. un T uneg x) q (lone ns n len a)
@@ -287,7 +291,7 @@ module _ {L : Type 0} (ts : List Ty) (value : ℕ → L) where
       unfolding tagOf forms
 
       -- THE ROWS OF A TREE ARE BUILT UP INTO THE TREE
-      pub tree-back : (e : Node ℕ) (ns : List (Node L)) (n : ℕ) → length ns ≡ n → Small Q e → TypesIn ts e → Built ns (treeRows ts n e) (post (W e))
+      pub tree-back : (e : Node ℕ) (ns : List (Node L)) (n : ℕ) → length ns ≡ n → Small Short Q e → TypesIn ts e → Built ns (treeRows ts n e) (post (W e))
       tree-back (lit T v) ns n len h q = ap (λ T. ns ++ (lit T (value v) ∷ [])) (q .found)
       tree-back (err T) ns n len h q = ap (λ T. ns ++ (err T ∷ [])) (q .found)
       tree-back (var T x) ns n len h q = ap₂ (λ T x. ns ++ (var T x ∷ [])) (q .found) (var-back x)
@@ -312,10 +316,10 @@ module _ {L : Type 0} (ts : List Ty) (value : ℕ → L) where
       tree-back (rec T gs) ns n len h q = then-row ns (innerArgs (valuedArgs value gs)) (argRows ts n gs) (op "record" ∷ typeNumber ts T ∷ argRoots n gs) (rec T (valuedArgs value gs)) (args-back gs ns n len h (q .1))
           (ap₂ rec (q .0 .found) (ap (λ z. argsOver ts value (ns ++ z) (argRoots n gs)) (sym (append-nil (innerArgs (valuedArgs value gs)))) ∙ args-at gs ns n len []))
 
-      all-back : (es : Nodes ℕ) (ns : List (Node L)) (n : ℕ) → length ns ≡ n → SmallAll Q es → AllHold (Listed ts) es → Built ns (allRows ts n es) (innerAll (valuedAll value es))
+      all-back : (es : Nodes ℕ) (ns : List (Node L)) (n : ℕ) → length ns ≡ n → SmallAll Short Q es → AllHold (Listed ts) es → Built ns (allRows ts n es) (innerAll (valuedAll value es))
       all-back enil ns n len h q = sym (append-nil ns)
       all-back (econs e es) ns n len h q = then-rows ns (post (W e)) (innerAll (valuedAll value es)) (treeRows ts n e) (allRows ts (n + size e) es) (tree-back e ns n len (h .0) (q .0)) (all-back es (ns ++ post (W e)) (n + size e) (grown ns n len e) (h .1) (q .1))
 
-      args-back : (gs : NodeArgs ℕ) (ns : List (Node L)) (n : ℕ) → length ns ≡ n → SmallArgs Q gs → ArgsHold (Listed ts) gs → Built ns (argRows ts n gs) (innerArgs (valuedArgs value gs))
+      args-back : (gs : NodeArgs ℕ) (ns : List (Node L)) (n : ℕ) → length ns ≡ n → SmallArgs Short Q gs → ArgsHold (Listed ts) gs → Built ns (argRows ts n gs) (innerArgs (valuedArgs value gs))
       args-back gnil ns n len h q = sym (append-nil ns)
       args-back (gcons t e gs) ns n len h q = then-rows ns (post (W e)) (innerArgs (valuedArgs value gs)) (treeRows ts n e) (argRows ts (n + size e) gs) (tree-back e ns n len (h .1) (q .0)) (args-back gs (ns ++ post (W e)) (n + size e) (grown ns n len e) (h .2) (q .1))

@@ -13,10 +13,11 @@ use Rattle.cedar.specs.Response.{Effect, Decision, allow, deny, undecided}
 use Rattle.cedar.specs.Rows.{Row, rbool, rlong, rtext, rent, rset, rrec}
 use Rattle.sheet.specs.Ascii.{ascii}
 use Rattle.sheet.specs.Bytes.{upTo, split, same}
-use Rattle.sheet.specs.Forms.{Mode, partial, complete, Slot, line, word, item, joined, rowOf, keyOf, refs, TEXT, TYPE, VALUE, NODE, POLICY}
+use Rattle.sheet.specs.Forms.{Mode, partial, complete, Slot, line, word, item, joined, rowOf, tag, items, keyOf, TEXT, KIND, VALUE, NODE, POLICY}
 use Rattle.sheet.specs.Why.{Name}
 use Rattle.sheet.specs.State.{State, count}
 use Rattle.sheet.specs.Typing.{allIn, allEntries, isSlot}
+use Rattle.sheet.specs.Sheet.{allThereOf}
 use Rattle.sheet.specs.Content.{types, rowsIn, treesFrom, effectOf}
 
 -- `policy=id,effect,true|false|error|open,root`; in a complete answer, "policies without root", the root is 0
@@ -111,34 +112,37 @@ readAnswer m bytes = linesSay m (split 10 bytes)
 
 -- ---- the residuals of an answer
 
--- whether what a made value holds is among the n values before it
-abbrev pub valueStands : ℕ → Row → Bool
-valueStands n (rbool b) = true
-valueStands n (rlong x) = true
-valueStands n (rtext t) = true
-valueStands n (rent k t) = true
-valueStands n (rset l) = allIn (λ x. ltb x n) l
-valueStands n (rrec e) = allEntries (λ t x. ltb x n) e
+-- how many lines of key k a made value or a node may refer to: so many values, so many nodes, else the sheet's
+abbrev pub linesFor : (ℕ → ℕ) → ℕ → ℕ → ℕ → ℕ
+linesFor sheet values nodes k = cond (eqb k VALUE) values (cond (eqb k NODE) nodes (sheet k))
 
--- made values, "numbered on from the sheet's"
-abbrev pub valuesStand : ℕ → List Row → Bool
-valuesStand n [] = true
-valuesStand n (r ∷ rs) = valueStands n r && valuesStand (suc n) rs
+-- whether what a made value refers to is there
+abbrev pub valueStands : (ℕ → ℕ) → Row → Bool
+valueStands lines (rbool b) = true
+valueStands lines (rlong x) = true
+valueStands lines (rtext t) = ltb t (lines TEXT)
+valueStands lines (rent k t) = ltb k (lines KIND) && ltb t (lines TEXT)
+valueStands lines (rset l) = allIn (λ x. ltb x (lines VALUE)) l
+valueStands lines (rrec e) = allEntries (λ t x. ltb t (lines TEXT) && ltb x (lines VALUE)) e
 
--- whether what a node refers to is there: its type and its literal, of so many types and values; its children, of the n nodes before it.
--- Residuals are those of linked policies: no slot is left
-abbrev pub nodeStands : ℕ → ℕ → ℕ → List ℕ → Bool
-nodeStands types values n r = allIn (λ x. ltb x types) (refs TYPE r) && (allIn (λ x. ltb x values) (refs VALUE r) && (allIn (λ x. ltb x n) (refs NODE r) && not (isSlot r)))
+-- made values, "numbered on from the sheet's", each over the n before it
+abbrev pub valuesStand : (ℕ → ℕ) → ℕ → List Row → Bool
+valuesStand sheet n [] = true
+valuesStand sheet n (r ∷ rs) = valueStands (linesFor sheet n 0) r && valuesStand sheet (suc n) rs
+
+-- whether what a node refers to is there. Residuals are those of linked policies: no slot is left
+abbrev pub nodeStands : (ℕ → ℕ) → List ℕ → Bool
+nodeStands lines r = allThereOf lines (tag r) 0 (items r) && not (isSlot r)
 
 -- nodes, "children before parents .. from 0"
-abbrev pub nodesStand : ℕ → ℕ → ℕ → List (List ℕ) → Bool
-nodesStand types values n [] = true
-nodesStand types values n (r ∷ rs) = nodeStands types values n r && nodesStand types values (suc n) rs
+abbrev pub nodesStand : (ℕ → ℕ) → ℕ → ℕ → List (List ℕ) → Bool
+nodesStand sheet values n [] = true
+nodesStand sheet values n (r ∷ rs) = nodeStands (linesFor sheet values n) r && nodesStand sheet values (suc n) rs
 
 -- "with its `lit` numbers read among the partial sheet's values and the made ones"
 abbrev pub allStand : State → Said → Bool
-allStand s a = valuesStand (count s VALUE) (a .made) && nodesStand (count s TYPE) (count s VALUE + length (a .made)) 0 (a .nodes)
+allStand s a = valuesStand (count s) (count s VALUE) (a .made) && nodesStand (count s) (count s VALUE + length (a .made)) 0 (a .nodes)
 
--- the tree under a policy's root, if there is one, where a `lit` holds what its number stands for; none where a value, type or node is absent
+-- the tree under a policy's root, if there is one, where a `lit` holds what its number stands for; none where a text, kind, type, value or node is absent
 unfoldable pub treeUnder : {L : Type 0} → State → (ℕ → L) → Said → PolicyLine → Option (Node L)
 treeUnder s value a l = cond (allStand s a) (getElem? (treesFrom (types s) value (λ T x. err T) [] (a .nodes)) (l .root)) none
