@@ -306,11 +306,12 @@ def main(args):
             crate = next(rest)
         elif not a.startswith("--"):
             names.append(a)
-    unknown = [n for n in names if n not in {m["name"] for m in all_}]
+    by_name = {m["name"]: m for m in all_}
+    unknown = [n for n in names if n not in by_name]
     if unknown:
         sys.exit("not in the list: " + " ".join(unknown))
-    for m in all_:
-        if (names and m["name"] not in names) or (crate and m["crate"] != crate) or ("--new" in args and kept(m)):
+    for m in [by_name[n] for n in names] or all_:
+        if (crate and m["crate"] != crate) or ("--new" in args and kept(m)):
             continue
         begin = time.time()
         answer = ask(m, folder)

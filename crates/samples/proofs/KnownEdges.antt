@@ -1,17 +1,14 @@
 -- Edges that no other sheet here comes to, from bytes to bytes, by computation: each fails if one line of a definition is changed (scripts/mutants.txt).
 use mathlib.Core.Path.{_≡_, refl}
-use mathlib.Core.Bool.{true, false}
-use mathlib.Core.List.{List, [], _∷_, _++_}
+use mathlib.Core.List.{List, [], _∷_}
 use Prim.Native.Nat.{ℕ}
-use lib.ListN.{take, drop, replicate}
-use Rattle.sheet.specs.Forms.{partial, VALUE, NODE, keys, forms, formOf, slotAt, counted, tagOf, rowOf, keyOf, refs, ascendings}
+use Rattle.sheet.specs.Forms.{keys, forms, formOf, slotAt, counted, tagOf, rowOf, keyOf, refs, ascendings}
 use Rattle.sheet.specs.Typing.{fitsIn, nodesUnder, typed}
 use Rattle.sheet.specs.Parents.{ancestors, unknownAbove}
-use Rattle.sheet.specs.State.{State}
-use Rattle.sheet.specs.Sheet.{tooMany, found, depth, fault, more, read}
+use Rattle.sheet.specs.Sheet.{found, depth, fault, more, read}
 use Rattle.sheet.specs.Content.{types, valueRows, contents, schema, trees, exprs, onTerm, nPolicies, policies, nEnv, env}
 use Rattle.sheet.specs.Answer.{run, results, answer}
-use Rattle.sheet.specs.Call.{returned, outputs, worked}
+use Rattle.sheet.specs.Call.{returned}
 use Rattle.cedar.specs.Canonical.{order, same, place, insert, ascending, makeSet}
 use Rattle.sheet.proofs.Shown.{bytes, shown, Case, case, shownAll, saysAll}
 
@@ -71,31 +68,3 @@ heads =
 head-edges : shownAll [] heads ≡ saysAll heads
 unfolding heads shown keys forms formOf slotAt counted tagOf rowOf keyOf refs ascendings fitsIn nodesUnder typed found depth fault more read types valueRows contents schema trees exprs onTerm nPolicies policies nEnv env run results answer returned ancestors unknownAbove order same place insert ascending makeSet
 head-edges = refl
-
--- ---- the call: 1 before 2, a buffer kept on a refusal, the words of a work slice
-
-one-before-two : returned partial 0 0 0 (replicate 16385 33) .number ≡ 1
-unfolding returned
-one-before-two = refl
-
-buffer-kept : outputs 10 (1 ∷ []) (7 ∷ 7 ∷ []) ≡ 7 ∷ 7 ∷ []
-buffer-kept = refl
-
-first-words-zero : take 1 (worked (replicate 16385 7) 16384) ≡ 0 ∷ []
-unfolding worked
-first-words-zero = refl
-
-other-words-kept : drop 16384 (worked (replicate 16385 7) 16384) ≡ 7 ∷ []
-unfolding worked
-other-words-kept = refl
-
--- ---- limits that no short sheet comes to: n lines of key k, and whether one more is too many
-
-abbrev only : ℕ → ℕ → State
-only k n = record { lines = replicate k [] ++ (replicate n [] ∷ []); depths = []; used = [] }
-
-most-values : tooMany (only VALUE 1023) VALUE [] ∷ tooMany (only VALUE 1024) VALUE [] ∷ [] ≡ false ∷ true ∷ []
-most-values = refl
-
-most-nodes : tooMany (only NODE 1023) NODE [] ∷ tooMany (only NODE 1024) NODE [] ∷ [] ≡ false ∷ true ∷ []
-most-nodes = refl

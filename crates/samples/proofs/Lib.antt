@@ -1,4 +1,5 @@
 pub mod AgreementEdges
+pub mod CallEdges
 pub mod ExampleBytes
 pub mod ExampleEntities
 pub mod ExampleGroups
