@@ -37,6 +37,8 @@ WORK = os.path.join(HERE, "target", "mutants")
 FOUND = os.path.join(WORK, "tried")
 # the crates without code, in the order of their needs
 CRATES = ["cedar", "sheet", "samples", "again", "finished", "paged", "previewed", "staff", "forms", "drawn"]
+# so many changes in one check
+AT_ONCE = 20
 WORDS = {"mutant", "file", "old", "new", "use", "sheets", "proof", "equal"}
 
 
@@ -154,58 +156,121 @@ def ask_crate(m, folder):
         restore(m, tree)
 
 
-def imported(proof):
-    """A file of proofs and all that it imports: their texts, by crate and name."""
-    out, left = {}, [proof]
-    while left:
-        crate, name = left.pop()
-        if (crate, name) not in out:
-            out[crate, name] = open(os.path.join(HERE, "crates", crate, "proofs", name + ".antt"), encoding="utf-8").read()
-            left += re.findall(r"^use Rattle·(\w+?)(?:·proofs)?\.proofs\.(\w+)", out[crate, name], re.M)
+REFERENCE = re.compile(r"Rattle·(\w+?)(?:·\w+)?\.(specs|proofs)\.(\w+)")
+
+
+def read(crate, part, name):
+    return open(os.path.join(HERE, "crates", crate, part, name + ".antt"), encoding="utf-8").read()
+
+
+def definitions():
+    """The texts of all definitions, by crate and file."""
+    return {(c, f[:-5]): read(c, "specs", f[:-5]) for c in CRATES if os.path.isdir(os.path.join(HERE, "crates", c, "specs"))
+            for f in os.listdir(os.path.join(HERE, "crates", c, "specs")) if f != "Lib.antt"}
+
+
+def imports(text):
+    return [(c, n) for c, part, n in REFERENCE.findall(text) if part == "specs"]
+
+
+def above(specs, changes):
+    """These files and all that import them."""
+    out, more = set(), set(changes)
+    while more:
+        out |= more
+        more = {k for k, text in specs.items() if k not in out and not out.isdisjoint(imports(text))}
     return out
 
 
-def ask_proofs(m, folder, crate, proofs):
-    """A crate over the changed definitions, with these proofs and no others: how it was checked, and what was said."""
-    tree = os.path.join(WORK, folder, "few")
-    crates = [c for c in CRATES if c in ("cedar", "sheet", crate) or c in {d for d, _ in proofs}]
-    for c in crates:
-        copied(("src", "specs"), c, tree)
-        there = os.path.join(tree, "crates", c, "proofs")
-        shutil.rmtree(there, ignore_errors=True)
-        os.makedirs(there)
-        mine = {name + ".antt": text for (d, name), text in proofs.items() if d == c}
-        mine["Lib.antt"] = "".join("pub mod %s\n" % name[:-5] for name in sorted(mine))
-        for name, text in mine.items():
-            with open(os.path.join(there, name), "w", encoding="utf-8") as f:
-                f.write(text)
-    with open(os.path.join(tree, "crates.txt"), "w", encoding="utf-8") as f:
-        f.write("".join("%s: %s\n" % (c, " ".join(crates[:i])) for i, c in enumerate(crates)))
-    edit(m, tree)
-    return rt(tree, "check", crate)
+def below(specs, texts):
+    """The files of definitions that these texts import, and all that those import."""
+    out, more = set(), {k for text in texts for k in imports(text)}
+    while more:
+        out |= more
+        more = {k for o in more for k in imports(specs[o])} - out
+    return out
 
 
-def ask_proof(m, folder):
-    crate, name = m["proof"].split("/")
-    return verdict(*ask_proofs(m, folder, crate, imported((crate, name))))
+def asked_of(m):
+    """The proofs that are asked: their texts, by crate and file."""
+    if "sheets" in m:
+        return {("sheet", "Cases"): cases.HEAD + "".join("\n" + cases.theorem(i, c) for i, c in sheets_of(m).items())}
+    out, left = {}, [tuple(m["proof"].split("/"))]
+    while left:
+        crate, name = left.pop()
+        if (crate, name) not in out:
+            out[crate, name] = read(crate, "proofs", name)
+            left += [(c, n) for c, part, n in REFERENCE.findall(out[crate, name]) if part == "proofs"]
+    return out
 
 
-def ask_known_sheets(m, folder):
-    """The known sheets of the pattern, as theorems by computation over the changed definitions: those that come out otherwise."""
+def sheets_of(m):
+    """The known sheets of the pattern and what is known of them, by number."""
     pattern = m["sheets"]
-    asked = [(len(s.bytes), i, (s, printed(r))) for i, (s, r) in enumerate(known())
+    found = [(len(s.bytes), i, (s, printed(r))) for i, (s, r) in enumerate(known())
              if (pattern[1:].encode() in s.bytes if pattern.startswith("=") else re.search(pattern, s.name))]
-    chosen = {i: c for _, i, c in (sorted(asked)[:6] if pattern.startswith("=") else asked)}
-    if not chosen:
+    if not found:
         sys.exit("%s: no known sheet has such a name: %s" % (m["name"], pattern))
-    text = cases.HEAD.replace("Rattle.sheet.", "Rattle.sheet.specs.") + "".join("\n" + cases.theorem(i, c) for i, c in chosen.items())
-    status, said = ask_proofs(m, folder, "sheet", {("sheet", "Cases"): text})
-    wrong = [chosen[int(i)][0].name for i in dict.fromkeys(re.findall(r"error: `case(\d+)`", said))]
-    return {"asked": len(chosen), "wrong": wrong} if wrong or status == 0 else {"bad": said.strip()[-600:]}
+    return {i: c for _, i, c in (sorted(found)[:6] if pattern.startswith("=") else found)}
 
 
-def ask(m, folder):
-    return (ask_known_sheets if "sheets" in m else ask_proof if "proof" in m else ask_crate)(m, folder)
+def copy_name(part, crate, name, number):
+    """What the copy of a file for a change is called: `DSheetFormsX3` has definitions, `PSheetShownX3` proofs."""
+    return "%s%s%sX%d" % (part[0].upper().replace("S", "D"), crate.capitalize(), name, number)
+
+
+def copied_for(m, number, specs):
+    """What is asked of a change, and the definitions that it asks for and that the change concerns: the texts of these copies, by name."""
+    proofs = asked_of(m)
+    concerned = above(specs, {(m["crate"], os.path.basename(f)[:-5]) for f in files(m)}) & below(specs, proofs.values())
+    texts = {("proofs",) + k: text for k, text in proofs.items()}
+    for crate, name in concerned:
+        file = "specs/%s.antt" % name
+        texts["specs", crate, name] = changed(m, file) if crate == m["crate"] and file in files(m) else specs[crate, name]
+
+    def renamed(r):
+        crate, part, name = r.groups()
+        return "Rattle.asked.specs." + copy_name(part, crate, name, number) if (part, crate, name) in texts else "Rattle.%s.%s.%s" % (crate, part, name)
+    return {copy_name(*k, number): REFERENCE.sub(renamed, text) for k, text in texts.items()}
+
+
+def few(ms, folder):
+    """A tree with a crate `asked` above the proved ones: for each change its copies."""
+    tree, specs, texts = whole(folder), definitions(), {}
+    for number, m in enumerate(ms):
+        texts.update(copied_for(m, number, specs))
+    texts["Lib"] = "".join("pub mod %s\n" % name for name in sorted(texts))
+    there = os.path.join(tree, "crates", "asked")
+    shutil.rmtree(there, ignore_errors=True)
+    os.makedirs(os.path.join(there, "specs"))
+    os.makedirs(os.path.join(there, "src"))
+    for file, text in [("src/lib.rt", "// No code.\n")] + [("specs/%s.antt" % name, text) for name, text in texts.items()]:
+        with open(os.path.join(there, file), "w", encoding="utf-8") as f:
+            f.write(text)
+    needed = {c for text in texts.values() for c, _, _ in REFERENCE.findall(text)}
+    with open(os.path.join(tree, "crates.txt"), "w", encoding="utf-8") as f:
+        f.write(open(os.path.join(HERE, "crates.txt"), encoding="utf-8").read() + "asked: %s\n" % " ".join(c for c in CRATES if c in needed))
+    return tree
+
+
+def ask_few(ms, folder):
+    """What is asked of each of these changes, all in one check: the errors in its copies."""
+    status, said = rt(few(ms, folder), "check", "asked")
+    done = status == 0 or re.search(r"asked NOT PROVED \(exit 1,", said)
+    out = []
+    for number, m in enumerate(ms):
+        errors = re.findall(r"/asked/specs/(\w)\w*X%d\.antt:\d+:\d+: error: `([^`\n]*)`" % number, said)
+        if not done or any(part == "D" for part, _ in errors):
+            out.append({"bad": "%s: %s" % (errors, said.strip()[-600:])})
+        elif "sheets" in m:
+            chosen = sheets_of(m)
+            out.append({"asked": len(chosen), "wrong": [chosen[int(i)][0].name for i in dict.fromkeys(name[4:] for _, name in errors)]})
+        elif errors:
+            out.append({"at": next(["%s" % c, "proofs/%s.antt" % n, errors[0][1]] for c, n in asked_of(m)
+                                   if "%s.antt" % copy_name("proofs", c, n, number) in said)})
+        else:
+            out.append({"proved": True})
+    return out
 
 
 # ---- what was found
@@ -310,13 +375,14 @@ def main(args):
     unknown = [n for n in names if n not in by_name]
     if unknown:
         sys.exit("not in the list: " + " ".join(unknown))
-    for m in [by_name[n] for n in names] or all_:
-        if (crate and m["crate"] != crate) or ("--new" in args and kept(m)):
-            continue
+    left = [m for m in [by_name[n] for n in dict.fromkeys(names)] or all_ if not (crate and m["crate"] != crate) and not ("--new" in args and kept(m))]
+    some = [m for m in left if "sheets" in m or "proof" in m]
+    for ms in [some[i:i + AT_ONCE] for i in range(0, len(some), AT_ONCE)] + [[m] for m in left if m not in some]:
         begin = time.time()
-        answer = ask(m, folder)
-        keep(m, answer)
-        print("%s: %s (%.0f s)" % (m["name"], told(m, answer), time.time() - begin), flush=True)
+        for m, answer in zip(ms, ask_few(ms, folder) if ms[0] in some else [ask_crate(ms[0], folder)]):
+            keep(m, answer)
+            print("%s: %s" % (m["name"], told(m, answer)), flush=True)
+        print("%d in %.0f s" % (len(ms), time.time() - begin), flush=True)
 
 
 if __name__ == "__main__":
