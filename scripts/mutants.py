@@ -9,7 +9,8 @@ who is asked:
 
     sheets: PATTERN      the known sheets (crates/known) whose names PATTERN is found in, computed over the changed definitions of `cedar` and `sheet`
                          without any proof (scripts/cases.py). A pattern after `=` is a text of the sheet: the six shortest that have it.
-    proof: CRATE/FILE    crates/CRATE/proofs/FILE.antt over the changed definitions, with the proofs that it imports and no others.
+    proof: CRATE/FILE    crates/CRATE/proofs/FILE.antt over the changed definitions, with the proofs that it imports and no others. Names after it are
+                         the computed examples of the file that are asked.
     (no such line)       the whole crate, as `rt dev CRATE` asks it.
 
 Each change, or each of the given names, is made in a copy below target/mutants/. A change that is proved all the same, and that every known sheet asked
@@ -156,6 +157,7 @@ def ask_crate(m, folder):
         restore(m, tree)
 
 
+EXAMPLE = re.compile(r"^(\S+) = refl$", re.M)
 REFERENCE = re.compile(r"Rattle·(\w+?)(?:·\w+)?\.(specs|proofs)\.(\w+)")
 
 
@@ -195,12 +197,16 @@ def asked_of(m):
     """The proofs that are asked: their texts, by crate and file."""
     if "sheets" in m:
         return {("sheet", "Cases"): cases.HEAD + "".join("\n" + cases.theorem(i, c) for i, c in sheets_of(m).items())}
-    out, left = {}, [tuple(m["proof"].split("/"))]
+    file, *names = m["proof"].split()
+    out, left = {}, [tuple(file.split("/"))]
     while left:
         crate, name = left.pop()
         if (crate, name) not in out:
             out[crate, name] = read(crate, "proofs", name)
             left += [(c, n) for c, part, n in REFERENCE.findall(out[crate, name]) if part == "proofs"]
+    if names:
+        first = next(iter(out))
+        out[first] = "\n\n".join(b for b in out[first].split("\n\n") if not EXAMPLE.search(b) or set(names) & set(EXAMPLE.findall(b)))
     return out
 
 
