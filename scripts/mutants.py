@@ -15,8 +15,9 @@ who is asked:
 
 Each change, or each of the given names, is made in a copy below target/mutants/. A change that is proved all the same, and that every known sheet asked
 agrees with, is UNNOTICED, unless a line `equal:` gives the reason why it changes nothing. `use:` has a file and a `use` line that the new text needs.
-The crates must have been proved (`rt check again paged staff drawn samples`): their libraries are copied from target/. With --new only changes that were
-not yet tried are; two runs at a time need two names of --folder. 300 changes take about an hour on one processor, so this is no part of the gate.
+The crates must have been proved (`rt check again paged staff drawn samples`): their libraries are copied from target/. Of changes with `sheets:` or `proof:`
+twenty are asked in one check: the files that a change concerns are copied for it into a crate `asked` above the proved ones. With --new only changes
+without a verdict are tried; two runs at a time need two names of --folder. All take some twenty minutes of one processor; this is no part of the gate.
 
 --table writes docs/MUTANTS.md from what was found; a change that was not tried keeps its row if it has one.
 """
@@ -315,7 +316,7 @@ def told(m, answer):
     if "bad" in answer:
         return "no verdict: " + answer["bad"].splitlines()[-1][:160]
     if "equal" in m:
-        return "the same: " + m["equal"]
+        return "the same: %s (%d known sheets agree)" % (m["equal"], answer["asked"])
     return "UNNOTICED by " + ("%d known sheets" % answer["asked"] if "asked" in answer else m.get("proof", m["crate"]))
 
 
@@ -381,7 +382,7 @@ def main(args):
     unknown = [n for n in names if n not in by_name]
     if unknown:
         sys.exit("not in the list: " + " ".join(unknown))
-    left = [m for m in [by_name[n] for n in dict.fromkeys(names)] or all_ if not (crate and m["crate"] != crate) and not ("--new" in args and kept(m))]
+    left = [m for m in [by_name[n] for n in dict.fromkeys(names)] or all_ if not (crate and m["crate"] != crate) and not ("--new" in args and "bad" not in (kept(m) or {"bad": ""}))]
     some = [m for m in left if "sheets" in m or "proof" in m]
     for ms in [some[i:i + AT_ONCE] for i in range(0, len(some), AT_ONCE)] + [[m] for m in left if m not in some]:
         begin = time.time()

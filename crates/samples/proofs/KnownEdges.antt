@@ -42,6 +42,7 @@ refused =
     case "value=long,1:/" "refused=3,17,0/"  -- `:`, the byte after 9
     ∷ case "value=long,+1/" "refused=3,17,0/"  -- a plus sign
     ∷ case "principal=0,?/action=1,1/context=6,?/" "refused=3,19,0/"  -- no resource line
+    ∷ case "value=entity,0,2/value=set,0/entity=0,?,?,1/entity=x/" "refused=7,19,0/"  -- a parent of a kind that is not above, before the next line
     ∷ case "value=long,1/value=text,2/principal=0,?/action=1,1/resource=0,0/context=6,?/day=2000-01-01/node=3,lit,0/node=4,lit,1/node=0,eq,0,1/" "refused=7,26,0/"  -- eq of two types that are no entities
     ∷ case "value=long,1/principal=0,?/action=1,1/resource=0,0/context=6,?/day=2000-01-01/node=2,var,p/node=3,lit,0/node=0,eq,0,1/" "refused=7,25,0/"  -- eq of an entity and a long
     ∷ case "value=long,1/principal=0,?/action=1,1/resource=0,0/context=6,?/day=2000-01-01/node=2,var,p/node=3,lit,0/node=0,hastag,0,1/" "refused=7,25,0/"  -- hastag of a long
