@@ -308,7 +308,8 @@ def keep(m, answer):
 def told(m, answer):
     """What the table says of a change."""
     if "at" in answer:
-        return "`%s`, %s/%s" % (answer["at"][2], answer["at"][0], answer["at"][1])
+        crate, file, name = answer["at"]
+        return "%s`%s`, %s/%s" % ("" if "proof" in m or re.search("Known|Example|Edges", file) else "the proof of ", name, crate, file)
     if answer.get("wrong"):
         names = answer["wrong"]
         return "known sheet%s %s" % ("s" if len(names) > 1 else "", ", ".join("`%s`" % n for n in names[:3])) + (
@@ -324,9 +325,9 @@ HEAD = """# Changed definitions, and what notices each
 
 Written by `python3 scripts/mutants.py --table`; the changes stand in scripts/mutants.txt. Each changes a definition of a crate without code in one line,
 or in a few where it stands by content and by number, or where two lines are exchanged. "Noticed by" is a known sheet (crates/known) that the changed
-definitions compute otherwise; or the place of the prover's first error: a theorem, or an example computed in the proofs. Where a law's proof is named, the
-prover refused the proof; the known sheets were not asked. The crates with code are not asked: their code is proved to be the definition, so they refuse
-a change of what code computes. The must-fail edits of these crates are such changes too, which the gate tries; they are not repeated here.
+definitions compute otherwise; or a theorem, or an example computed in the proofs, that is false then. Where it says "the proof of", the whole crate was asked
+and this proof was refused first, which does not show that what it states is false. The crates with code are not asked: their code is proved to be the definition, so
+they refuse a change of what code computes. The must-fail edits of these crates are such changes too, which the gate tries; they are not repeated here.
 """
 
 

@@ -17,8 +17,8 @@ CHANGED = """
 
 From [docs/MUTANTS.md](MUTANTS.md), the table of `python3 scripts/mutants.py`: %s
 
-| What is changed | Changes | A known sheet or an example, computed | A theorem | The same |
-|---|---|---|---|---|"""
+| What is changed | Changes | A known sheet or an example, computed | A theorem | The proof of a law | The same |
+|---|---|---|---|---|---|"""
 
 
 def changes():
@@ -28,13 +28,13 @@ def changes():
         if re.match(r"\d+ changes: ", line):
             said = line.strip()
         elif line.startswith("## "):
-            rows.append([line[3:].strip(), 0, 0, 0, 0])
+            rows.append([line[3:].strip(), 0, 0, 0, 0, 0])
         elif line.startswith("| `"):
             by = line.rsplit(" | ", 1)[1]
             rows[-1][1] += 1
-            computed = re.match(r"known sheet|.*/proofs/\w*(Known|Example|Edges)", by)
-            rows[-1][2 if computed else 4 if by.startswith("the same") else 3] += 1
-    return [CHANGED % said] + ["| %s | %d | %d | %d | %d |" % tuple(r) for r in rows]
+            computed = re.match(r"known sheet|`.*/proofs/\w*(Known|Example|Edges)", by)
+            rows[-1][2 if computed else 5 if by.startswith("the same") else 4 if by.startswith("the proof of") else 3] += 1
+    return [CHANGED % said] + ["| %s | %d | %d | %d | %d | %d |" % tuple(r) for r in rows]
 
 
 def main():
