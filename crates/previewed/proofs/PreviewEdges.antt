@@ -140,6 +140,7 @@ others-kept =
     ∷ kept "principal=0,?/" (try 2 "principal=0,7" "refused=12,2,0/")
     ∷ kept "principal=0,?/" (try 1 "principal=0,=" "refused=3,1,0/")
     ∷ kept "entity=?,1,2,3/" (try 1 "entity=5,1,2,3" "refused=3,1,0/")
+    ∷ kept "action=1,?/" (try 1 "action=1,7" "refused=12,1,0/")
     ∷ []
 
 others : keptAll others-kept ≡ keptSay others-kept
