@@ -24,23 +24,23 @@ use Rattle.sheet.specs.Answer.{size, root, ids, run, answer, partialOf}
 use Rattle.sheet.specs.Call.{Accepted}
 use Rattle.sheet.specs.ReadAnswer.{Said, PolicyLine, allStand}
 use Rattle.sheet.specs.Demand3.{Answered, bytesOf}
-use Rattle.sheet.proofs.ValueRows.{values-table}
-use Rattle.sheet.proofs.Environment.{Facts, env-read}
-use Rattle.sheet.proofs.OwnPolicies.{read-own}
-use Rattle.sheet.proofs.Demand3Bytes.{facts}
-use Rattle.sheet.proofs.SheetSmall.{Under, policies-under, asked-under}
-use Rattle.sheet.proofs.LeftOver.{LeftLines, no-lines, one-line, run-leaves}
-use Rattle.sheet.proofs.NodesStand.{tree-there}
-use Rattle.sheet.proofs.AnswerBack.{lineWith, partialPolicies}
-use Rattle.sheet.proofs.AnswerRead.{Standing, partialSaid, partial-answer-back, all-stand, residuals-back, as-many, rows-are, values-of}
-use Rattle.sheet.proofs.Demand3Answers.{accepted}
-use Rattle.sheet.proofs.Buffers.{bytes-are}
+use Rattle.sheet.proofs.content.ValueRows.{values-table}
+use Rattle.sheet.proofs.content.Environment.{Facts, env-read}
+use Rattle.sheet.proofs.content.OwnPolicies.{read-own}
+use Rattle.sheet.proofs.demand3.Demand3Bytes.{facts}
+use Rattle.sheet.proofs.content.SheetSmall.{Under, policies-under, asked-under}
+use Rattle.sheet.proofs.running.LeftOver.{LeftLines, no-lines, one-line, run-leaves}
+use Rattle.sheet.proofs.answer.NodesStand.{tree-there}
+use Rattle.sheet.proofs.answer.AnswerBack.{lineWith, partialPolicies}
+use Rattle.sheet.proofs.answer.AnswerRead.{Standing, partialSaid, partial-answer-back, all-stand, residuals-back, as-many, rows-are, values-of}
+use Rattle.sheet.proofs.demand3.Demand3Answers.{accepted}
+use Rattle.sheet.proofs.answer.Buffers.{bytes-are}
 use Rattle.again.specs.Again.{allValues, residualOf, LinesAgain, policiesIn, runAgain, Again}
 use Rattle.again.proofs.DepthKept.{left-deep}
 use Rattle.again.proofs.DepthLimit.{AllWithin, policies-within}
 use Rattle.again.proofs.RunAgain.{handedBack, first-called, rest-called, again-tree, again-class, lines-again}
 use Rattle.cedar.proofs.SettledByNumber as R
-use Rattle.sheet.proofs.AnswerRead as A
+use Rattle.sheet.proofs.answer.AnswerRead as A
 use Rattle.again.specs.Again as G
 
 -- nothing is said of fewer lines than there are policies, nor of more

@@ -11,7 +11,7 @@ use Rattle.sheet.specs.Content.{types, valueRows, contents, schema, trees, expr
 use Rattle.sheet.specs.Answer.{run, results, answer}
 use Rattle.sheet.specs.Call.{returns, returned}
 use Rattle.cedar.specs.Canonical.{order, same, place, insert, ascending, makeSet}
-use Rattle.sheet.proofs.Shown.{bytes}
+use Rattle.sheet.proofs.answer.Shown.{bytes}
 use Rattle.finished.specs.Finish.{finishedResults, finishedAnswer, finishReturned, breakingLine}
 
 unfoldable sheet : List ℕ

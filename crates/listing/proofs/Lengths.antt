@@ -17,7 +17,7 @@ use Rattle.sheet.specs.Forms.{Form, forms, formOf, noForm, firstNode, tag, item
 use Rattle.sheet.specs.State.{entriesOf, valueRow}
 use Rattle.sheet.specs.Content.{rowsIn}
 use Rattle.sheet.specs.Answer.{printed, concat, numbers, entryItems, valueItems, valueLines}
-use Rattle.sheet.proofs.Lines.{and-both}
+use Rattle.sheet.proofs.reading.Lines.{and-both}
 use Rattle.forms.specs.Tags.{VAR, IS, LIKE, GET, HAS, HASPATH, RECORD-OF}
 use Rattle.table.specs.Layout.{part, rowAt, rowsAt, rowsOf, base, MADE}
 use Rattle.table.proofs.Rows.{count-rows}

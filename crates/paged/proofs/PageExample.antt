@@ -13,7 +13,7 @@ use Rattle.sheet.specs.Sheet.{found, depth, fault, more, read}
 use Rattle.sheet.specs.Content.{types, valueRows, contents, schema, trees, exprs, nPolicies, policies, nEnv, env, onTerm}
 use Rattle.sheet.specs.Answer.{run}
 use Rattle.paged.specs.Page.{shownRows, pageWith, page}
-use Rattle.sheet.proofs.Shown.{lineEnds}
+use Rattle.sheet.proofs.answer.Shown.{lineEnds}
 
 unfoldable sample : List ℕ
 sample = lineEnds (ascii "sheet=partial/text=Broker/text=Action/text=Tariff/text=quote/text=T1/text=b7/text=b8/text=p0/text=an id of more than forty bytes is cut off here/kind=0,e/kind=1,a/kind=2,e/type=bool/type=record/type=entity,0/type=entity,2/shape=1,-/shape=1,-/shape=1,-/value=entity,0,5/value=bool,1/principal=0,?/action=1,3/resource=2,?/context=1,?/day=2000-01-01/node=2,var,p/node=2,lit,0/node=0,eq,0,1/node=0,lit,1/policy=7,permit,2/policy=8,forbid,3/")

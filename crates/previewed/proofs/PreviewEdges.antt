@@ -12,7 +12,7 @@ use Rattle.sheet.specs.Content.{types, valueRows, contents, schema, trees, expr
 use Rattle.sheet.specs.Answer.{run, results, answer}
 use Rattle.sheet.specs.Call.{returns, returned}
 use Rattle.cedar.specs.Canonical.{order, same, place, insert, ascending, makeSet}
-use Rattle.sheet.proofs.Shown.{bytes, shownFor}
+use Rattle.sheet.proofs.answer.Shown.{bytes, shownFor}
 use Rattle.previewed.specs.Preview.{edited, fills, mayEdit, previewReturned}
 
 -- a line's number, its replacement, and what is shown: the answer, or `refused=number,line,length`

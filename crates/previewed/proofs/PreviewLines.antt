@@ -10,7 +10,7 @@ use Rattle.cedar.proofs.Tools.{no-true, neither}
 use Rattle.cedar.specs.Types.{among}
 use Rattle.sheet.specs.Bytes.{split, ahead}
 use Rattle.previewed.specs.Preview.{joinLines, edited}
-use Rattle.sheet.proofs.LinesBack.{lacks, split-one, split-two}
+use Rattle.sheet.proofs.answer.LinesBack.{lacks, split-one, split-two}
 
 -- no part has a byte 10
 abbrev pub allLack : List (List ℕ) → Type 0

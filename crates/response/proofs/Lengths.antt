@@ -13,14 +13,14 @@ use Rattle.sheet.specs.Forms.{at, NODE}
 use Rattle.sheet.specs.Sheet.{firsts}
 use Rattle.sheet.specs.Answer.{printed, concat, numbers, decisionWord, effectWord, classWord, countsOf, policyItems, completeLines, headLines}
 use Rattle.sheet.specs.Why.{Name, whyItem}
-use Rattle.sheet.proofs.AnswerRead.{firsts-length}
+use Rattle.sheet.proofs.answer.AnswerRead.{firsts-length}
 use Rattle.table.specs.Layout.{RUN, rowsOf, MADE}
 use Rattle.table.proofs.Rows.{count-rows}
 use Rattle.print.specs.Written.{greatest}
 use Rattle.print.proofs.Writing.{digits-few}
 use Rattle.listing.specs.Values.{madeLines}
 use Rattle.listing.specs.Nodes.{logLines}
-use Rattle.sheet.proofs.LinesBack.{concat-append}
+use Rattle.sheet.proofs.answer.LinesBack.{concat-append}
 use Rattle.listing.proofs.Lengths.{weigh, printed-most, numbers-most, made-most, log-most}
 use Rattle.response.specs.Verdicts.{classIn, effectIn, verdictsIn}
 use Rattle.response.specs.Printed.{policyLines, completeBytes, rootedOf, rootedLines, partialBytes}

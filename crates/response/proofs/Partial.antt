@@ -17,8 +17,8 @@ use Rattle.sheet.specs.Content.{types, rowsIn, numberedPolicies, onTerm, nPolic
 use Rattle.sheet.specs.Sheet.{firsts}
 use Rattle.sheet.specs.Answer.{printed, concat, policyItems, partialLines, valueLines, root, size, typeNumber, residualRows, nodeLines, ids, run, headLines, partialOf, answer}
 use Rattle.sheet.specs.Why.{why}
-use Rattle.sheet.proofs.Lines.{History}
-use Rattle.sheet.proofs.TypeNumbers.{types-length, number-again}
+use Rattle.sheet.proofs.reading.Lines.{History}
+use Rattle.sheet.proofs.content.TypeNumbers.{types-length, number-again}
 use Rattle.table.specs.Layout.{RUN, rowsOf, linesHeld, held, MADE}
 use Rattle.table.proofs.Rows.{count-rows, count-held, lines-held}
 use Rattle.residual.specs.Classes.{rootsOf}
@@ -26,7 +26,7 @@ use Rattle.residual.specs.Trees.{Ress, flats, treesOf, Wholes}
 use Rattle.value.specs.Lines.{valueLines as allRows}
 use Rattle.listing.specs.Values.{madeLines}
 use Rattle.listing.specs.Nodes.{logLines}
-use Rattle.sheet.proofs.LinesBack.{concat-append}
+use Rattle.sheet.proofs.answer.LinesBack.{concat-append}
 use Rattle.listing.proofs.TreeRows.{rowsAll}
 use Rattle.listing.proofs.LogTrees.{treesIn, residual-rows, log-lines}
 use Rattle.response.specs.Verdicts.{classIn, effectIn, verdictsOf, verdictsIn}

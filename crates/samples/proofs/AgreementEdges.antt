@@ -10,7 +10,7 @@ use Rattle.sheet.specs.Typing.{fitsIn, nodesUnder, typed}
 use Rattle.sheet.specs.Parents.{ancestors, unknownAbove}
 use Rattle.sheet.specs.Sheet.{found, depth, fault, more, read}
 use Rattle.sheet.specs.Agreement.{agrees}
-use Rattle.sheet.proofs.Shown.{bytes}
+use Rattle.sheet.proofs.answer.Shown.{bytes}
 
 unfoldable shown-part : List ℕ
 shown-part = bytes "sheet=partial/text=P/text=A/text=a/text=x/kind=0,e/kind=1,a/kind=2,e/type=bool/type=record/type=string/shape=1,2/shape=1,-/shape=1,-/value=entity,0,2/value=record/value=bool,1/entity=0,?,1,?/principal=0,?/action=1,1/resource=0,?/context=1,?/day=2000-01-01/node=0,lit,2/policy=2,permit,0/"

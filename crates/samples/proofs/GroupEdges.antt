@@ -9,7 +9,7 @@ use Rattle.sheet.specs.Content.{types, valueRows, contents, schema, trees, expr
 use Rattle.sheet.specs.Answer.{run, results, answer}
 use Rattle.sheet.specs.Call.{returned}
 use Rattle.cedar.specs.Canonical.{order, same, place, insert, ascending, makeSet}
-use Rattle.sheet.proofs.Shown.{bytes, shown}
+use Rattle.sheet.proofs.answer.Shown.{bytes, shown}
 
 -- no kind in common
 groups-eq-apart : shown (bytes "sheet=partial/text=P/text=A/text=F/text=T/text=U/kind=0,e/kind=1,a/kind=2,e/kind=3,e/kind=4,e/type=bool/type=record/type=entity,0/type=entity,2/type=entity,3/type=entity,4/type=entity,0,2/type=entity,3,4/type=set,7/type=record,0,r,6,3,r,7/shape=1,-/shape=1,-/shape=1,-,0/shape=1,-/shape=1,-/value=entity,0,0/value=entity,2,0/value=entity,3,0/value=entity,4,0/value=bool,1/principal=0,?/action=1,0/resource=0,?/context=9,?/day=2000-01-01/node=2,var,p/node=2,lit,0/node=0,eq,0,1/node=6,lit,0/node=6,lit,1/node=6,if,2,3,4/node=2,var,r/node=2,lit,0/node=0,eq,6,7/node=7,lit,2/node=7,lit,3/node=7,if,8,9,10/node=0,eq,5,11/policy=0,permit,12/") ≡ bytes "decision=deny/counts=0,1,0,0,0,0,0,0/why=none/value=bool,0/node=0,lit,5/policy=0,permit,false,0/"

@@ -10,7 +10,7 @@ use Rattle.sheet.specs.Content.{types, valueRows, contents, schema, trees, expr
 use Rattle.sheet.specs.Answer.{run, results, answer}
 use Rattle.sheet.specs.Call.{returned}
 use Rattle.cedar.specs.Canonical.{order, same, place, insert, ascending, makeSet}
-use Rattle.sheet.proofs.Shown.{bytes, shown, Case, case, shownAll, saysAll}
+use Rattle.sheet.proofs.answer.Shown.{bytes, shown, Case, case, shownAll, saysAll}
 
 -- P has a bool and perhaps another P as attributes, and texts as tags; the context has the same attributes
 unfoldable edgeHead : List ℕ

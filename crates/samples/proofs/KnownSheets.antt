@@ -14,8 +14,8 @@ use Rattle.sheet.specs.Call.{returned}
 use Rattle.cedar.specs.Canonical.{order, same, place, insert, ascending, makeSet}
 use Rattle.sheet.specs.Bytes.{date, daysIn, isDate}
 use Rattle.sheet.specs.State.{sum}
-use Rattle.sheet.proofs.Shown.{bytes, shown, Case, case, shownAll, saysAll}
-use Rattle.sheet.proofs.KnownLines.{head, kindLines}
+use Rattle.sheet.proofs.answer.Shown.{bytes, shown, Case, case, shownAll, saysAll}
+use Rattle.sheet.proofs.reading.KnownLines.{head, kindLines}
 
 -- "Input, whole", and "Output"
 known-sheet : shown (bytes "sheet=partial/text=Broker/text=Action/text=Tariff/text=quote/text=T1/text=low/text=high/text=b7/kind=0,e/kind=1,a/kind=2,e/type=bool/type=record/type=entity,0/shape=1,-/shape=1,-/shape=1,-/value=entity,0,7/value=bool,1/principal=0,?/action=1,3/resource=2,4/context=1,?/day=2000-01-01/node=2,var,p/node=2,lit,0/node=0,eq,0,1/node=0,lit,1/policy=5,permit,2/policy=6,permit,3/")

@@ -21,8 +21,8 @@ use Rattle.sheet.specs.Answer.{run, results, answer}
 use Rattle.sheet.specs.Call.{returned}
 use Rattle.sheet.specs.ReadAnswer.{Said, readAnswer}
 use Rattle.sheet.specs.Demand3.{Demand3}
-use Rattle.sheet.proofs.Demand3Says.{own-ids, own-effects, own-counts, own-trees}
-use Rattle.sheet.proofs.Shown.{lineEnds}
+use Rattle.sheet.proofs.demand3.Demand3Says.{own-ids, own-effects, own-counts, own-trees}
+use Rattle.sheet.proofs.answer.Shown.{lineEnds}
 use Rattle.samples.proofs.ExampleBytes.{p, c, open-sheet, low, high}
 
 -- what such a text says

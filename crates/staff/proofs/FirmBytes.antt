@@ -18,19 +18,19 @@ use Rattle.previewed.specs.Preview.{joinLines, keyIn, itemsIn}
 use Rattle.sheet.specs.State.{State, empty, count}
 use Rattle.sheet.specs.Sheet.{read, reading}
 use Rattle.sheet.specs.Call.{Accepted}
-use Rattle.sheet.proofs.Limits.{most-lines}
-use Rattle.sheet.proofs.Checked.{accepted-read}
-use Rattle.sheet.proofs.Demand3Bytes.{facts}
+use Rattle.sheet.proofs.reading.Limits.{most-lines}
+use Rattle.sheet.proofs.reading.Checked.{accepted-read}
+use Rattle.sheet.proofs.demand3.Demand3Bytes.{facts}
 use Rattle.previewed.proofs.PreviewLines.{allLack, ahead-lacks, NotNone, split-join, split-some, split-lacks}
 use Rattle.staff.specs.Firm.{textFits, askFits, decisionOn, rowDecision, Asked, filledItems, filledLine, filledLines, filledSheet, setText, withTexts}
-use Rattle.sheet.proofs.Lines.{not-empty}
-use Rattle.sheet.proofs.TwoSheets.{same-is}
-use Rattle.sheet.proofs.NodeRows.{index-small}
-use Rattle.sheet.proofs.Parsed.{counted-plain}
-use Rattle.sheet.proofs.ValueRows.{same-refl}
-use Rattle.sheet.proofs.DigitsBack.{plainByte, plainBytes, index-back}
-use Rattle.sheet.proofs.RowsBack.{small-plain}
-use Rattle.sheet.proofs.LinesBack.{lacks, lacks-append, no-end, allPlain, unended, items-back, items-show}
+use Rattle.sheet.proofs.reading.Lines.{not-empty}
+use Rattle.sheet.proofs.demand3.TwoSheets.{same-is}
+use Rattle.sheet.proofs.reading.NodeRows.{index-small}
+use Rattle.sheet.proofs.reading.Parsed.{counted-plain}
+use Rattle.sheet.proofs.content.ValueRows.{same-refl}
+use Rattle.sheet.proofs.answer.DigitsBack.{plainByte, plainBytes, index-back}
+use Rattle.sheet.proofs.answer.RowsBack.{small-plain}
+use Rattle.sheet.proofs.answer.LinesBack.{lacks, lacks-append, no-end, allPlain, unended, items-back, items-show}
 use Rattle.previewed.proofs.PreviewRows.{tagFor, shown, row-of-key, joined-some}
 use Rattle.staff.proofs.FirmState.{FilledRow, kept, principal, resource, principalTag, resourceTag}
 use Rattle.staff.proofs.FirmRead.{FilledLine, FilledAll, more-lines, reading-with}

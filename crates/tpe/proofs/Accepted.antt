@@ -22,19 +22,19 @@ use Rattle.sheet.specs.Typing.{nodesUnder}
 use Rattle.sheet.specs.Sheet.{read, anySlot, firsts, firstUnlinked, reachedFit, firstUnfit}
 use Rattle.sheet.specs.Content.{types, rowsIn, valueRows, schema, nEnv, given, requestTy, entityLine, lookUp, lineGiven, trees, numberedPolicies, nPolicies, linkOf, withLink, onTerm}
 use Rattle.sheet.specs.Answer.{run}
-use Rattle.sheet.proofs.Lines.{Was, accepted-history, accepted-fit}
-use Rattle.sheet.proofs.Parsed.{tags-between}
-use Rattle.sheet.proofs.NodeRows.{row-read}
-use Rattle.sheet.proofs.MadeCount.{policySizes}
-use Rattle.sheet.proofs.PoliciesRead.{item-there, policy-tags}
-use Rattle.sheet.proofs.Environment.{Facts, all-keys}
-use Rattle.sheet.proofs.TypeNumbers.{Listed, TypesIn, bool-listed}
-use Rattle.sheet.proofs.Depths.{Reached, read-reached, reached-depths, Depths}
-use Rattle.sheet.proofs.Depths as D
-use Rattle.sheet.proofs.Under.{fit-child}
-use Rattle.sheet.proofs.Linked.{link-fits}
-use Rattle.sheet.proofs.NeverNine.{policy-sizes}
-use Rattle.sheet.proofs.OnTerm.{Each, on-term}
+use Rattle.sheet.proofs.reading.Lines.{Was, accepted-history, accepted-fit}
+use Rattle.sheet.proofs.reading.Parsed.{tags-between}
+use Rattle.sheet.proofs.reading.NodeRows.{row-read}
+use Rattle.sheet.proofs.running.MadeCount.{policySizes}
+use Rattle.sheet.proofs.content.PoliciesRead.{item-there, policy-tags}
+use Rattle.sheet.proofs.content.Environment.{Facts, all-keys}
+use Rattle.sheet.proofs.content.TypeNumbers.{Listed, TypesIn, bool-listed}
+use Rattle.sheet.proofs.reading.Depths.{Reached, read-reached, reached-depths, Depths}
+use Rattle.sheet.proofs.reading.Depths as D
+use Rattle.sheet.proofs.reading.Under.{fit-child}
+use Rattle.sheet.proofs.content.Linked.{link-fits}
+use Rattle.sheet.proofs.running.NeverNine.{policy-sizes}
+use Rattle.sheet.proofs.content.OnTerm.{Each, on-term}
 use Rattle.table.specs.Layout.{base, rowsAt, rowsOf, linesHeld, held, RUN, MADE, TOP, limits, limit, Sound}
 use Rattle.table.proofs.Rows.{count-rows}
 use Rattle.value.specs.Lines.{valueLines}

@@ -13,7 +13,7 @@ use Rattle.forms.specs.Tags.{RECORD-OF, SLOT}
 use Rattle.sheet.specs.Forms.{Mode, tag, items, at, NODE, firstNode}
 use Rattle.sheet.specs.Content.{treeOver, linked}
 use Rattle.sheet.specs.Answer.{size}
-use Rattle.sheet.proofs.TypeNumbers.{TypesIn}
+use Rattle.sheet.proofs.content.TypeNumbers.{TypesIn}
 use Rattle.tpe.specs.Run.{others, errStep, steps, stepWith, stepOf, interpOf}
 use Rattle.tpe.proofs.Stands.{values, Room, tys, nodes, Is}
 use Rattle.tpe.proofs.Operations.{sch, env}

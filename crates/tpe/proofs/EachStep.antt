@@ -21,8 +21,8 @@ use Rattle.sheet.specs.State.{State, lineAt}
 use Rattle.sheet.specs.Typing.{slotValue}
 use Rattle.sheet.specs.Content.{varOf, known, given, nEnv, child, childrenOver, argsOver, treeFor, linked, patternOf}
 use Rattle.sheet.specs.Answer.{size, sizes, sizeArgs}
-use Rattle.sheet.proofs.MadeCount.{size-least}
-use Rattle.sheet.proofs.TypeNumbers.{TypesIn}
+use Rattle.sheet.proofs.running.MadeCount.{size-least}
+use Rattle.sheet.proofs.content.TypeNumbers.{TypesIn}
 use Rattle.table.specs.Layout.{rowsOf, held}
 use Rattle.residual.specs.Trees.{rnil, flats, nodesOf, argsOf, leftFor, leftTree, suitsFor, suits, treesOf, Res, Whole, whole-none}
 use Rattle.tpe.specs.Run.{O, Rec, giveOf, varFor, others, litStep, errStep, varStep, lazyStep, ifStep, binStep, relStep, unStep, getStep, hasStep, pathStep, setStep, recStep, slotStep, pathOf, steps}

@@ -13,11 +13,11 @@ use Rattle.sheet.specs.Forms.{Mode, TYPE, VALUE, aloneRow}
 use Rattle.sheet.specs.State.{State, linesOf, count, TypeRow, bool, long, string, entity, set′, record′, typeRow}
 use Rattle.sheet.specs.Answer.{typeNumber}
 use Rattle.sheet.specs.Content.{types, tyOver}
-use Rattle.sheet.proofs.Lines.{History}
-use Rattle.sheet.proofs.ValueRows.{same-refl, value-back}
-use Rattle.sheet.proofs.Fitting.{ty-eq}
-use Rattle.sheet.proofs.TypeNumbers.{Listed, split-at, type-back, types-length}
-use Rattle.sheet.proofs.TwoSheets.{same-is}
+use Rattle.sheet.proofs.reading.Lines.{History}
+use Rattle.sheet.proofs.content.ValueRows.{same-refl, value-back}
+use Rattle.sheet.proofs.content.Fitting.{ty-eq}
+use Rattle.sheet.proofs.content.TypeNumbers.{Listed, split-at, type-back, types-length}
+use Rattle.sheet.proofs.demand3.TwoSheets.{same-is}
 use Rattle.value.specs.Lines.{placeOf}
 use Rattle.value.proofs.Interned.{Formeds, none-formed, one-formed}
 

@@ -18,16 +18,16 @@ use Rattle.sheet.specs.Forms.{Mode, line, forms, formOf, slotAt, isLine, refsFr
 use Rattle.sheet.specs.State.{State, linesOf, count}
 use Rattle.sheet.specs.Content.{types, childrenOver, argsOver, treeFor, treeOver, treesFrom, linked, trees, patternOf}
 use Rattle.sheet.specs.Sheet.{thereIs}
-use Rattle.sheet.proofs.Lines.{Was, History}
-use Rattle.sheet.proofs.Parsed.{parsed, allBelow, all-below, tags-between}
-use Rattle.sheet.proofs.NodeRows.{row-read, plain-slots}
-use Rattle.sheet.proofs.ValueRows.{items-length}
-use Rattle.sheet.proofs.PoliciesRead.{all-there, item-there, node-tags}
-use Rattle.sheet.proofs.Slots.{set-slot, field-slot}
-use Rattle.sheet.proofs.TypeNumbers.{is-line, types-length}
-use Rattle.sheet.proofs.Uses.{refs-below}
-use Rattle.sheet.proofs.Depths.{in-below}
-use Rattle.sheet.proofs.Shallow.{in-keep, this-kept}
+use Rattle.sheet.proofs.reading.Lines.{Was, History}
+use Rattle.sheet.proofs.reading.Parsed.{parsed, allBelow, all-below, tags-between}
+use Rattle.sheet.proofs.reading.NodeRows.{row-read, plain-slots}
+use Rattle.sheet.proofs.content.ValueRows.{items-length}
+use Rattle.sheet.proofs.content.PoliciesRead.{all-there, item-there, node-tags}
+use Rattle.sheet.proofs.reading.Slots.{set-slot, field-slot}
+use Rattle.sheet.proofs.content.TypeNumbers.{is-line, types-length}
+use Rattle.sheet.proofs.running.Uses.{refs-below}
+use Rattle.sheet.proofs.reading.Depths.{in-below}
+use Rattle.sheet.proofs.reading.Shallow.{in-keep, this-kept}
 use Rattle.tpe.specs.Run.{others}
 use Rattle.tpe.proofs.EachStep.{kidsFor}
 use Rattle.tpe.proofs.Depth.{childrenOf}

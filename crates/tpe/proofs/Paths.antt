@@ -16,7 +16,7 @@ use Rattle.cedar.specs.TypeRules.{hasRule}
 use Rattle.cedar.specs.Rows.{Entries, Row, rbool, rlong, rtext, rent, rset, rrec}
 use Rattle.cedar.specs.Numbered.{Give, NEnv, giveRow, rRec, nentity, onEntries, rowAt, isSome, entryOf, Out, out, make, nByRule, nLeft, nWalk, nPath, nStepPath}
 use Rattle.sheet.specs.Forms.{Mode, items, at, TYPE, aloneRow}
-use Rattle.sheet.proofs.TypeNumbers.{Listed, TypesIn}
+use Rattle.sheet.proofs.content.TypeNumbers.{Listed, TypesIn}
 use Rattle.table.specs.Layout.{rowsOf}
 use Rattle.value.specs.Lines.{placeOf}
 use Rattle.value.specs.Made.{boolRow}

@@ -14,8 +14,8 @@ use Rattle.sheet.specs.Parents.{ancestors, unknownAbove}
 use Rattle.sheet.specs.Typing.{fitsIn, nodesUnder, typed}
 use Rattle.sheet.specs.Sheet.{found, depth, fault, more, read}
 use Rattle.sheet.specs.Content.{types, contentOf, schema, treeOver, treesFrom, linked, exprs}
-use Rattle.sheet.proofs.Shown.{lineEnds}
-use Rattle.sheet.proofs.Depths.{read-reached}
+use Rattle.sheet.proofs.answer.Shown.{lineEnds}
+use Rattle.sheet.proofs.reading.Depths.{read-reached}
 use Rattle.typed.specs.ByContent.{Untyped}
 use Rattle.typed.proofs.Refused.{read-seven, node-untyped}
 use Rattle.typed.proofs.LinkedTrees.{link-untyped}

@@ -18,11 +18,11 @@ use Rattle.sheet.specs.Forms.{Mode, TYPE, VALUE}
 use Rattle.sheet.specs.State.{State, linesOf, depthsOf, Declared, TypeRow, bool, long, string, entity, set′, record′, typeAt, valueAt}
 use Rattle.sheet.specs.Typing.{declaredIn, requiredThere, allIn, allEntries, rowFits, fitsBy, fits, fitsIn}
 use Rattle.sheet.specs.Content.{types, contents, contentOf, attrsOver, tyOver, membersOver, fieldsOver, valueOver}
-use Rattle.sheet.proofs.RowTests.{mem-among}
-use Rattle.sheet.proofs.Fitting.{val-eq, ty-eq}
-use Rattle.sheet.proofs.FitsSound.{find-over, declared-over, mapTy}
-use Rattle.sheet.proofs.Depths.{Reached, reached-history}
-use Rattle.sheet.proofs.Shallow.{Part, elem, attr, types-shallow}
+use Rattle.sheet.proofs.reading.RowTests.{mem-among}
+use Rattle.sheet.proofs.content.Fitting.{val-eq, ty-eq}
+use Rattle.sheet.proofs.content.FitsSound.{find-over, declared-over, mapTy}
+use Rattle.sheet.proofs.reading.Depths.{Reached, reached-history}
+use Rattle.sheet.proofs.reading.Shallow.{Part, elem, attr, types-shallow}
 use Rattle.typed.specs.ByContent.{typeIn, eachValue}
 
 -- ---- a test of each member of a set

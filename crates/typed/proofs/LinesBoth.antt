@@ -22,14 +22,14 @@ use Rattle.sheet.specs.State.{State, linesOf, count, lineAt, counts, Declared, 
 use Rattle.sheet.specs.Typing.{allIn, allEntries, fits, isAction, attributesOf, tagsOf, aboveOf, noneDeclared, shapeTyped, isStop, tagsFit, ancestorFits, unknownOr, entityTyped, contextTyped, typeOfNode, isSlot, slotValue, slotsFit, policyTyped}
 use Rattle.sheet.specs.Sheet.{found, inOrder, enough, least, allZero, reachedFit}
 use Rattle.sheet.specs.Content.{types, contents, contentOf, membersOver, fieldsOver, valueOver, attrsOver, tyOver, tagTy, schema, setOver, above}
-use Rattle.sheet.proofs.Parsed.{tags-between, policy-tags, policyTag}
-use Rattle.sheet.proofs.RowTests.{mem-among}
-use Rattle.sheet.proofs.Fitting.{val-eq}
-use Rattle.sheet.proofs.NodeRows.{row-read}
-use Rattle.sheet.proofs.PoliciesRead.{item-there}
-use Rattle.sheet.proofs.Environment.{context-read}
-use Rattle.sheet.proofs.TypeNumbers.{split-at}
-use Rattle.sheet.proofs.Depths.{Reached, reached-history, reached-depths}
+use Rattle.sheet.proofs.reading.Parsed.{tags-between, policy-tags, policyTag}
+use Rattle.sheet.proofs.reading.RowTests.{mem-among}
+use Rattle.sheet.proofs.content.Fitting.{val-eq}
+use Rattle.sheet.proofs.reading.NodeRows.{row-read}
+use Rattle.sheet.proofs.content.PoliciesRead.{item-there}
+use Rattle.sheet.proofs.content.Environment.{context-read}
+use Rattle.sheet.proofs.content.TypeNumbers.{split-at}
+use Rattle.sheet.proofs.reading.Depths.{Reached, reached-history, reached-depths}
 use Rattle.typed.specs.ByContent.{typeIn, onRec, eachValue, noAttrs, shapeBy, tagsBy, kindBy, entityBy, reachedBy, contextBy, policyBy, slotsBy}
 use Rattle.typed.proofs.FitsBoth.{fits-both, each-ascending}
 use Rattle.typed.proofs.TypesBoth.{type-eq, bool-both, record-both}

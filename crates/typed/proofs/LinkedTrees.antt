@@ -19,12 +19,12 @@ use Rattle.sheet.specs.State.{State, linesOf, lineAt}
 use Rattle.sheet.specs.Typing.{gathered, underFrom, nodesUnder, isSlot, slotValue}
 use Rattle.sheet.specs.Sheet.{fault}
 use Rattle.sheet.specs.Content.{types, contentOf, schema, childrenOver, argsOver, treeOver, treesFrom, linked, exprs}
-use Rattle.sheet.proofs.Lines.{Was}
-use Rattle.sheet.proofs.Parsed.{parsed, counted-plain, tags-between, node-tags}
-use Rattle.sheet.proofs.ValueRows.{items-length}
-use Rattle.sheet.proofs.NodeRows.{plain-slots, row-read}
-use Rattle.sheet.proofs.Slots.{like-slot, path-slot, name-slot}
-use Rattle.sheet.proofs.Depths.{Reached, reached-history}
+use Rattle.sheet.proofs.reading.Lines.{Was}
+use Rattle.sheet.proofs.reading.Parsed.{parsed, counted-plain, tags-between, node-tags}
+use Rattle.sheet.proofs.content.ValueRows.{items-length}
+use Rattle.sheet.proofs.reading.NodeRows.{plain-slots, row-read}
+use Rattle.sheet.proofs.reading.Slots.{like-slot, path-slot, name-slot}
+use Rattle.sheet.proofs.reading.Depths.{Reached, reached-history}
 use Rattle.typed.specs.ByContent.{typeIn, slotsBy, byContent}
 use Rattle.typed.proofs.Parts.{blank, eachOfAll, eachOfArgs, eachChild, check-parts}
 use Rattle.typed.proofs.Refused.{refused-by-content}

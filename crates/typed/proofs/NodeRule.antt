@@ -20,10 +20,10 @@ use Rattle.sheet.specs.State.{State, count, lineAt, Declared, record′, typeAt
 use Rattle.sheet.specs.Typing.{onSetOf, onRecord, declaredIn, allIn, allEntries, entriesFit, typeOfNode, argTypes, rules}
 use Rattle.sheet.specs.Sheet.{allThere, thereIs}
 use Rattle.sheet.specs.Content.{types, contentOf, schema, attrsOver, patternOf, childrenOver, argsOver, treeOver}
-use Rattle.sheet.proofs.NodeRows.{Read, there-at}
-use Rattle.sheet.proofs.Slots.{set-slot, field-slot}
-use Rattle.sheet.proofs.Shallow.{Part, elem, attr}
-use Rattle.sheet.proofs.Depths.{Reached}
+use Rattle.sheet.proofs.reading.NodeRows.{Read, there-at}
+use Rattle.sheet.proofs.reading.Slots.{set-slot, field-slot}
+use Rattle.sheet.proofs.reading.Shallow.{Part, elem, attr}
+use Rattle.sheet.proofs.reading.Depths.{Reached}
 use Rattle.typed.specs.ByContent.{typeIn}
 use Rattle.typed.proofs.FitsBoth.{required-same, and-turn, and-one}
 use Rattle.typed.proofs.TypesBoth.{set-both, record-both, number-both, part-there}

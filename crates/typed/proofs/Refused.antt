@@ -26,8 +26,8 @@ use Rattle.sheet.specs.State.{State, empty, linesOf, count, lineAt, before}
 use Rattle.sheet.specs.Typing.{typed, isSlot, isAction, unknownOr}
 use Rattle.sheet.specs.Sheet.{Reading, reads, inOrder, tooMany, found, depth, usedTwice, fault, faultOf, more, goOn, lineRead, ending, enough, firstUnlinked, firstUnused, reachedFit, firstUnfit, entitiesFit, beforeLine, reading, read}
 use Rattle.sheet.specs.Content.{types, contentOf, schema, treeOver, treesFrom}
-use Rattle.sheet.proofs.Parsed.{tags-between, node-tags}
-use Rattle.sheet.proofs.Depths.{Reached, start, next}
+use Rattle.sheet.proofs.reading.Parsed.{tags-between, node-tags}
+use Rattle.sheet.proofs.reading.Depths.{Reached, start, next}
 use Rattle.typed.specs.ByContent.{typeIn, onRec, eachValue, noAttrs, tagsBy, kindBy, drafts, byContent, Untyped, ofLine, ofEntity}
 use Rattle.typed.proofs.Parts.{blank, eachChild, check-parts}
 use Rattle.typed.proofs.Trees.{trees-ty, drafts-ty}

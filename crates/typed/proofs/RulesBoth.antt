@@ -19,11 +19,11 @@ use Rattle.sheet.specs.Forms.{Mode, at, mark, TYPE, KIND, SHAPE, PRINCIPAL, ACT
 use Rattle.sheet.specs.State.{State, count, lineAt, TypeRow, bool, long, string, entity, set′, record′, typeAt}
 use Rattle.sheet.specs.Typing.{onEntity, onSetOf, isBool, isLong, isString, declaredIn, allIn, fits, tagsOf, eachOf, isTarget, pathTyped, varTyped}
 use Rattle.sheet.specs.Content.{types, contentOf, tyOver, schema, varOf}
-use Rattle.sheet.proofs.RowTests.{same-is}
-use Rattle.sheet.proofs.ValueRows.{same-refl}
-use Rattle.sheet.proofs.Limits.{most-lines}
-use Rattle.sheet.proofs.Shallow.{Part, elem, attr}
-use Rattle.sheet.proofs.Depths.{Reached, reached-history}
+use Rattle.sheet.proofs.reading.RowTests.{same-is}
+use Rattle.sheet.proofs.content.ValueRows.{same-refl}
+use Rattle.sheet.proofs.reading.Limits.{most-lines}
+use Rattle.sheet.proofs.reading.Shallow.{Part, elem, attr}
+use Rattle.sheet.proofs.reading.Depths.{Reached, reached-history}
 use Rattle.typed.specs.ByContent.{typeIn}
 use Rattle.typed.proofs.FitsBoth.{fits-both, and-one}
 use Rattle.typed.proofs.TypesBoth.{type-eq, bool-both, long-both, string-both, entity-both, set-both, number-both, part-there}

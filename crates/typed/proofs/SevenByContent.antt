@@ -17,10 +17,10 @@ use Rattle.sheet.specs.State.{State, linesOf}
 use Rattle.sheet.specs.Typing.{typed, nodeTyped, rules, isSlot, nodesOf}
 use Rattle.sheet.specs.Sheet.{inOrder, tooMany, found, depth, usedTwice, faultOf}
 use Rattle.sheet.specs.Content.{types, contentOf, schema, treeOver, treesFrom}
-use Rattle.sheet.proofs.Parsed.{tags-between, node-tags}
-use Rattle.sheet.proofs.NodeRows.{row-read}
-use Rattle.sheet.proofs.PoliciesRead.{all-there}
-use Rattle.sheet.proofs.Depths.{Reached}
+use Rattle.sheet.proofs.reading.Parsed.{tags-between, node-tags}
+use Rattle.sheet.proofs.reading.NodeRows.{row-read}
+use Rattle.sheet.proofs.content.PoliciesRead.{all-there}
+use Rattle.sheet.proofs.reading.Depths.{Reached}
 use Rattle.typed.specs.ByContent.{typeIn, drafts, draft, nodeBy, byContent, faultBy}
 use Rattle.typed.proofs.ShapesBoth.{kinds-shaped}
 use Rattle.typed.proofs.RulesBoth.{is-entity}

@@ -18,13 +18,13 @@ use Rattle.sheet.specs.State.{State, linesOf, count, lineAt, counts, lengths, D
 use Rattle.sheet.specs.Typing.{onEntity, onRecord, declaredIn, allIn, isAction, attributesOf, tagsOf, noneDeclared, eachOf, pathTyped, typed}
 use Rattle.sheet.specs.Sheet.{reach, least, enough, inOrder, allZero}
 use Rattle.sheet.specs.Content.{types, attrsOver, tyOver, attrsIn, schema}
-use Rattle.sheet.proofs.Parsed.{allBelow, between, tags-between}
-use Rattle.sheet.proofs.RowTests.{on-record}
-use Rattle.sheet.proofs.FitsSound.{declared-over, mapTy}
-use Rattle.sheet.proofs.TypeNumbers.{split-at}
-use Rattle.sheet.proofs.NodeRows.{row-read}
-use Rattle.sheet.proofs.PoliciesRead.{item-there}
-use Rattle.sheet.proofs.Depths.{Reached, reached-history, reached-depths}
+use Rattle.sheet.proofs.reading.Parsed.{allBelow, between, tags-between}
+use Rattle.sheet.proofs.reading.RowTests.{on-record}
+use Rattle.sheet.proofs.content.FitsSound.{declared-over, mapTy}
+use Rattle.sheet.proofs.content.TypeNumbers.{split-at}
+use Rattle.sheet.proofs.reading.NodeRows.{row-read}
+use Rattle.sheet.proofs.content.PoliciesRead.{item-there}
+use Rattle.sheet.proofs.reading.Depths.{Reached, reached-history, reached-depths}
 use Rattle.typed.specs.ByContent.{typeIn}
 use Rattle.typed.proofs.TypesBoth.{type-eq, entity-both, record-both, kind-there}
 

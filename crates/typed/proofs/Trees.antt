@@ -19,13 +19,13 @@ use Rattle.sheet.specs.State.{State, linesOf, count, lineAt}
 use Rattle.sheet.specs.Typing.{typeOfNode, typed}
 use Rattle.sheet.specs.Sheet.{found, thereIs}
 use Rattle.sheet.specs.Content.{types, contentOf, schema, childrenOver, argsOver, treeFor, treeOver, treesFrom}
-use Rattle.sheet.proofs.Lines.{Was}
-use Rattle.sheet.proofs.Parsed.{allBelow, all-below, tags-between, node-tags}
-use Rattle.sheet.proofs.NodeRows.{row-read}
-use Rattle.sheet.proofs.NodeTyped.{node-typed}
-use Rattle.sheet.proofs.PoliciesRead.{all-there, item-there}
-use Rattle.sheet.proofs.TypeNumbers.{is-line, split-at}
-use Rattle.sheet.proofs.Depths.{Reached, reached-history}
+use Rattle.sheet.proofs.reading.Lines.{Was}
+use Rattle.sheet.proofs.reading.Parsed.{allBelow, all-below, tags-between, node-tags}
+use Rattle.sheet.proofs.reading.NodeRows.{row-read}
+use Rattle.sheet.proofs.content.NodeTyped.{node-typed}
+use Rattle.sheet.proofs.content.PoliciesRead.{all-there, item-there}
+use Rattle.sheet.proofs.content.TypeNumbers.{is-line, split-at}
+use Rattle.sheet.proofs.reading.Depths.{Reached, reached-history}
 use Rattle.typed.specs.ByContent.{typeIn, drafts}
 use Rattle.typed.proofs.Parts.{eachOfAll, eachOfArgs, eachChild}
 

@@ -21,13 +21,13 @@ use Rattle.sheet.specs.State.{State, linesOf, count, lineAt, Declared, TypeRow,
 use Rattle.sheet.specs.Typing.{onEntity, onSetOf, onRecord, isBool, isLong, isString, declaredIn}
 use Rattle.sheet.specs.Sheet.{allThere, thereIs}
 use Rattle.sheet.specs.Content.{types, attrsOver, tyOver}
-use Rattle.sheet.proofs.Fitting.{at-less, AttrsAt, noA, oneA, TyAt, aset, arec, Known, all-known, ty-eq}
-use Rattle.sheet.proofs.ValueRows.{at-getD, some-is}
-use Rattle.sheet.proofs.TypeNumbers.{types-distinct, types-length, split-at}
-use Rattle.sheet.proofs.PoliciesRead.{all-there}
-use Rattle.sheet.proofs.NodeRows.{row-read}
-use Rattle.sheet.proofs.Shallow.{Part, elem, attr}
-use Rattle.sheet.proofs.Depths.{Reached, reached-history}
+use Rattle.sheet.proofs.content.Fitting.{at-less, AttrsAt, noA, oneA, TyAt, aset, arec, Known, all-known, ty-eq}
+use Rattle.sheet.proofs.content.ValueRows.{at-getD, some-is}
+use Rattle.sheet.proofs.content.TypeNumbers.{types-distinct, types-length, split-at}
+use Rattle.sheet.proofs.content.PoliciesRead.{all-there}
+use Rattle.sheet.proofs.reading.NodeRows.{row-read}
+use Rattle.sheet.proofs.reading.Shallow.{Part, elem, attr}
+use Rattle.sheet.proofs.reading.Depths.{Reached, reached-history}
 use Rattle.typed.specs.ByContent.{typeIn}
 
 -- ---- a row and its content have one sort
