@@ -17,9 +17,9 @@ use Rattle.sheet.specs.State.{valueRow}
 use Rattle.sheet.specs.Typing.{allIn}
 use Rattle.sheet.specs.Parents.{parentsIn, ancestors}
 use Rattle.sheet.specs.Sheet.{firstUnfit, reachedFit}
-use Rattle.sheet.proofs.Ancestors.{all-in-at}
-use Rattle.sheet.proofs.Reaching.{all-above, closed-above}
-use Rattle.sheet.proofs.Lines.{set-cases}
+use Rattle.sheet.proofs.content.Ancestors.{all-in-at}
+use Rattle.sheet.proofs.content.Reaching.{all-above, closed-above}
+use Rattle.sheet.proofs.reading.Lines.{set-cases}
 use Rattle.forms.specs.Tags.{LONG-VALUE, ENTITY-VALUE}
 use Rattle.table.specs.Layout.{rowsOf, held, linesHeld}
 use Rattle.table.proofs.Rows.{count-rows}

@@ -1,7 +1,7 @@
 -- DOCUMENT 02, 2.13, ON THE BYTES OF AN ANSWER: the residuals of a partial answer, interpreted again, give that answer.
 use mathlib.Core.Path.{_≡_, refl, sym, _∙_, ap, subst}
-use mathlib.Core.Bool.{cond}
-use mathlib.Core.Option.{none, some}
+use mathlib.Core.Bool.{true}
+use mathlib.Core.Option.{some}
 use mathlib.Core.List.{List, [], _∷_}
 use Prim.Native.Nat.{ℕ, suc, _+_}
 use native.Mathlib.Omega.{arith}
@@ -22,25 +22,25 @@ use Rattle.sheet.specs.Sheet.{read}
 use Rattle.sheet.specs.Content.{types, valueRows, contents, valuesFrom, schema, nEnv, pEnv, nPolicies, policies, treesFrom}
 use Rattle.sheet.specs.Answer.{size, root, ids, run, answer, partialOf}
 use Rattle.sheet.specs.Call.{Accepted}
-use Rattle.sheet.specs.ReadAnswer.{Said, PolicyLine, treeUnder}
+use Rattle.sheet.specs.ReadAnswer.{Said, PolicyLine, allStand}
 use Rattle.sheet.specs.Demand3.{Answered, bytesOf}
-use Rattle.sheet.proofs.ValueRows.{values-table}
-use Rattle.sheet.proofs.Environment.{Facts, env-read}
-use Rattle.sheet.proofs.OwnPolicies.{read-own}
-use Rattle.sheet.proofs.Demand3Bytes.{facts}
-use Rattle.sheet.proofs.SheetSmall.{policies-small, asked-made}
-use Rattle.sheet.proofs.LeftOver.{LeftLines, no-lines, one-line, run-leaves}
-use Rattle.sheet.proofs.TreesBack.{no-slot-left}
-use Rattle.sheet.proofs.AnswerBack.{lineWith, partialPolicies}
-use Rattle.sheet.proofs.AnswerRead.{Standing, partialSaid, partial-answer-back, residuals-back, as-many, rows-are, values-of}
-use Rattle.sheet.proofs.Demand3Answers.{accepted}
-use Rattle.sheet.proofs.Buffers.{bytes-are}
+use Rattle.sheet.proofs.content.ValueRows.{values-table}
+use Rattle.sheet.proofs.content.Environment.{Facts, env-read}
+use Rattle.sheet.proofs.content.OwnPolicies.{read-own}
+use Rattle.sheet.proofs.demand3.Demand3Bytes.{facts}
+use Rattle.sheet.proofs.content.SheetSmall.{Under, policies-under, asked-under}
+use Rattle.sheet.proofs.running.LeftOver.{LeftLines, no-lines, one-line, run-leaves}
+use Rattle.sheet.proofs.answer.NodesStand.{tree-there}
+use Rattle.sheet.proofs.answer.AnswerBack.{lineWith, partialPolicies}
+use Rattle.sheet.proofs.answer.AnswerRead.{Standing, partialSaid, partial-answer-back, all-stand, residuals-back, as-many, rows-are, values-of}
+use Rattle.sheet.proofs.demand3.Demand3Answers.{accepted}
+use Rattle.sheet.proofs.answer.Buffers.{bytes-are}
 use Rattle.again.specs.Again.{allValues, residualOf, LinesAgain, policiesIn, runAgain, Again}
 use Rattle.again.proofs.DepthKept.{left-deep}
 use Rattle.again.proofs.DepthLimit.{AllWithin, policies-within}
 use Rattle.again.proofs.RunAgain.{handedBack, first-called, rest-called, again-tree, again-class, lines-again}
 use Rattle.cedar.proofs.SettledByNumber as R
-use Rattle.sheet.proofs.AnswerRead as A
+use Rattle.sheet.proofs.answer.AnswerRead as A
 use Rattle.again.specs.Again as G
 
 -- nothing is said of fewer lines than there are policies, nor of more
@@ -49,17 +49,15 @@ as-many-lines G.end = refl
 as-many-lines (G.also h hs) = ap suc (as-many-lines hs)
 
 -- the policies that an answer hands back are its run's lines
-module _ (s : State) where
+module _ (s : State) (stand : allStand s (partialSaid s) ≡ true) where
   abbrev a : Said
   a = partialSaid s
 
   abbrev trees : List (Node ℕ)
   trees = treesFrom (types s) (λ n. n) (λ A x. err A) [] (a .nodes)
 
-  -- no slot is left, so the tree under a root is the one that stands there
   under : (x : PolicyLine) (t : Node ℕ) → getElem? trees (x .root) ≡ some t → residualOf s a x ≡ some t
-  unfolding treeUnder
-  under x t u = ap (λ b. cond b none (getElem? trees (x .root))) (no-slot-left (types s) (run partial s .lines) 0) ∙ u
+  under x t u = tree-there s a stand (λ n. n) x t u
 
   handed : (n : ℕ) (is : List ℕ) (ls : List NVerdict) → Standing trees (λ l. l .root) (partialPolicies n is ls) ls → length is ≡ length ls → policiesIn s a (partialPolicies n is ls) ≡ some (handedBack ls)
   handed n [] [] A.none e = refl
@@ -119,7 +117,7 @@ module _ (sheet : List ℕ) (acc : Accepted partial sheet) where
 
   the-left : LeftLines (nPolicies s) (run partial s .lines)
   unfolding run
-  the-left = run-leaves (schema s) (nEnv partial s) (asked-made s f) (nPolicies s) (policies-small partial s (f .history)) (valueRows s) .lines
+  the-left = run-leaves (Under s) (schema s) (nEnv partial s) (asked-under s f) (nPolicies s) (policies-under partial s (f .history)) (valueRows s) .lines
 
   -- the run again
   run-again : runAgain s (partialSaid s) (handedBack (run partial s .lines)) ≡ run partial s
@@ -130,9 +128,9 @@ module _ (sheet : List ℕ) (acc : Accepted partial sheet) where
   said-again = record {
     said = partialSaid s;
     reads = partial-answer-back sheet acc;
-    lines = each-again s the-table the-env 0 (ids s) the-residuals (read-back .classes) the-left (policies-within sheet) (residuals-back sheet acc) (as-many sheet acc);
+    lines = each-again s (all-stand sheet acc) the-table the-env 0 (ids s) the-residuals (read-back .classes) the-left (policies-within sheet) (residuals-back sheet acc) (as-many sheet acc);
     residuals = handedBack (run partial s .lines);
-    handed-back = handed s 0 (ids s) (run partial s .lines) (residuals-back sheet acc) (as-many sheet acc);
+    handed-back = handed s (all-stand sheet acc) 0 (ids s) (run partial s .lines) (residuals-back sheet acc) (as-many sheet acc);
     same-decision = ap (λ r. decision (verdicts (r .lines))) run-again;
     same-answer = ap (partialOf s) run-again;
   }

@@ -2,7 +2,7 @@
 use Prim.Native.Nat.{ℕ, _≤_}
 use native.Mathlib.Omega.{arith}
 use Rattle.cedar.specs.Residual.{Node, Nodes, NodeArgs, lit, err, var, and, or, ite, un, bin, rel, get, has, haspath, set, rec}
-use Rattle.sheet.proofs.LeftOver.{Left, as-lit, as-err, as-var, in-and, and-one, and-two, in-or, or-one, or-two, in-if, if-one, if-two, in-un, in-bin, in-rel, in-get, in-has, in-path, on-path, in-set, in-rec, LeftAll, left-nil, left-cons, LeftArgs, left-stop, left-arg}
+use Rattle.sheet.proofs.running.LeftOver.{Left, as-lit, as-err, as-var, in-and, and-one, and-two, in-or, or-one, or-two, in-if, if-one, if-two, in-un, in-bin, in-rel, in-get, in-has, in-path, on-path, in-set, in-rec, LeftAll, left-nil, left-cons, LeftArgs, left-stop, left-arg}
 use Rattle.again.specs.TreeDepth.{treeDepth, deepestOf, deepestArg}
 
 depth-least : (e : Node ℕ) → 1 ≤ treeDepth e

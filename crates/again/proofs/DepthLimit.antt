@@ -15,11 +15,11 @@ use Rattle.sheet.specs.State.{State, linesOf, depthsOf}
 use Rattle.sheet.specs.Sheet.{read}
 use Rattle.sheet.specs.Content.{childrenOver, argsOver, treeFor, treeOver, treesFrom, trees, nPolicies, numberedPolicies, types, onTerm, linked}
 use Rattle.sheet.specs.Answer.{op}
-use Rattle.sheet.proofs.Lines.{Was, History}
-use Rattle.sheet.proofs.Parsed.{tags-between, node-tags}
-use Rattle.sheet.proofs.NodeRows.{row-read}
-use Rattle.sheet.proofs.Slots.{set-slot, field-slot}
-use Rattle.sheet.proofs.Depths.{Deep, reached-history, reached-depths, read-reached}
+use Rattle.sheet.proofs.reading.Lines.{Was, History}
+use Rattle.sheet.proofs.reading.Parsed.{tags-between, node-tags}
+use Rattle.sheet.proofs.reading.NodeRows.{row-read}
+use Rattle.sheet.proofs.reading.Slots.{set-slot, field-slot}
+use Rattle.sheet.proofs.reading.Depths.{Deep, reached-history, reached-depths, read-reached}
 use Rattle.again.specs.TreeDepth.{treeDepth, deepestOf, deepestArg}
 
 -- the deepest of these

@@ -23,7 +23,7 @@ use Rattle.sheet.specs.Answer.{op, run, results, answer, partialOf}
 use Rattle.sheet.specs.Call.{returned, written}
 use Rattle.sheet.specs.ReadAnswer.{PolicyLine, Said, readAnswer, treeUnder}
 use Rattle.sheet.specs.Demand3.{Answered, bytesOf}
-use Rattle.sheet.proofs.Shown.{lineEnds}
+use Rattle.sheet.proofs.answer.Shown.{lineEnds}
 use Rattle.again.specs.TreeDepth.{treeDepth}
 use Rattle.again.specs.Again.{policiesIn, runAgain, Again}
 use Rattle.again.proofs.AnswerAgain.{answer-again}

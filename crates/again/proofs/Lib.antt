@@ -1,4 +1,5 @@
 pub mod AnswerAgain
+pub mod DepthExample
 pub mod DepthKept
 pub mod DepthLimit
 pub mod ExampleAgain

@@ -24,8 +24,8 @@ use Rattle.cedar.proofs.ReadsOps.{keep-env}
 use Rattle.cedar.proofs.ReadsLaws.{keep-reads, keep-all, keep-args}
 use Rattle.cedar.proofs.Refine.{refine}
 use Rattle.sheet.specs.Answer.{size}
-use Rattle.sheet.proofs.Fitting.{at-less}
-use Rattle.sheet.proofs.MadeCount.{size-least, interpret-within}
+use Rattle.sheet.proofs.content.Fitting.{at-less}
+use Rattle.sheet.proofs.running.MadeCount.{size-least, interpret-within}
 
 -- a value that is there is not made: a second row of one content has no place in a table
 there-stays : {T : List Row} {C : List Value} {r : Row} {n : ℕ} → Table T C → At T n r → intern T r .rows ≡ T

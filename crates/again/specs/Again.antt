@@ -15,7 +15,7 @@ use Rattle.cedar.specs.Runs.{NPolicy, Run, nRun, verdicts}
 use Rattle.sheet.specs.Forms.{partial}
 use Rattle.sheet.specs.State.{State}
 use Rattle.sheet.specs.Sheet.{read}
-use Rattle.sheet.specs.Content.{types, valueRows, contents, valuesFrom, schema, nEnv, nPolicies}
+use Rattle.sheet.specs.Content.{valueRows, contents, valuesFrom, schema, nEnv, nPolicies}
 use Rattle.sheet.specs.Answer.{partialOf}
 use Rattle.sheet.specs.ReadAnswer.{Said, PolicyLine, readAnswer, treeUnder}
 use Rattle.again.specs.TreeDepth.{treeDepth}
@@ -26,7 +26,7 @@ allValues s a = valueRows s ++ a .made
 
 -- the residual of a policy's line: the tree under its root, its `lit` numbers as they stand
 abbrev pub residualOf : State → Said → PolicyLine → Option (Node ℕ)
-residualOf s a x = treeUnder (types s) (λ n. n) a x
+residualOf s a x = treeUnder s (λ n. n) a x
 
 -- a tree interpreted "with the same request, entities and schema"
 abbrev pub interpreted : State → Said → Node ℕ → Out

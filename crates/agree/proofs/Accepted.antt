@@ -6,7 +6,7 @@ use lib.ListN.{getD}
 use Rattle.sheet.specs.Forms.{Mode, partial, complete, noKey, ENTITY}
 use Rattle.sheet.specs.State.{State}
 use Rattle.sheet.specs.Sheet.{read}
-use Rattle.sheet.proofs.Lines.{accepted-history}
+use Rattle.sheet.proofs.reading.Lines.{accepted-history}
 use Rattle.table.specs.Layout.{rowsOf, linesHeld, held}
 use Rattle.table.proofs.Held.{held-same}
 use Rattle.finished.specs.Finish.{breakingLine}

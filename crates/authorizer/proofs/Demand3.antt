@@ -8,7 +8,7 @@ use Rattle.sheet.specs.Forms.{Mode, partial, complete}
 use Rattle.sheet.specs.Sheet.{read}
 use Rattle.sheet.specs.Agreement.{agrees}
 use Rattle.sheet.specs.Demand3.{Answered, bytesOf, Demand3}
-use Rattle.sheet.proofs.Demand3Answers.{demand-3-bytes}
+use Rattle.sheet.proofs.demand3.Demand3Answers.{demand-3-bytes}
 use Rattle.authorizer.specs.Calls.{Run, bytesIn}
 
 module _ {m : Mode} {sheet : List ℕ} (x : Run m sheet) (e : x .number ≡ 0) where

@@ -16,7 +16,7 @@ use Rattle.sheet.specs.Sheet.{allThere, deepest, depth}
 use Rattle.table.specs.Layout.{TYPEDEPTHS, VALUEDEPTHS, NODEDEPTHS, held, ones, depthsAt, depthBase, depthBases, depthsIn}
 use Rattle.table.proofs.Held.{no-depths, depths-of}
 use Rattle.cedar.specs.Numbered.{memN}
-use Rattle.sheet.proofs.Parsed.{allBelow, all-below}
+use Rattle.sheet.proofs.reading.Parsed.{allBelow, all-below}
 use Rattle.forms.proofs.Tests.{other}
 use Rattle.forms.specs.Rows.{NONE, NUMBER, ENTRY, DATE, LINE, UNKNOWN, OF-TYPE, OF-VALUE, OF-NODE, code as codeOf}
 use Rattle.forms.specs.Tags.{LIT, AND, IF}

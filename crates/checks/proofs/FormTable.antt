@@ -9,7 +9,7 @@ use borrow.Author.Tests.{leb-true, eqb-true, eq-eqb, ne-eqb, le-ltb, not-true}
 use lib.Dec.{leb, eqb}
 use lib.ListN.{length, getD}
 use Rattle.sheet.specs.Forms.{Slot, line, nothing, Form, forms, formOf, noForm, slotIn, slotAt, noTag, TYPE, POLICY}
-use Rattle.sheet.proofs.Parsed.{allBelow, all-below}
+use Rattle.sheet.proofs.reading.Parsed.{allBelow, all-below}
 use Rattle.forms.specs.declared.Form as F
 use Rattle.forms.specs.Rows.{LINE, EFFECT, OF-TYPE, OF-VALUE, OF-NODE, code as codeOf, coded, Packed}
 use Rattle.forms.specs.Tags.{LIT, ERR, AND, IS, SET-OF, RECORD-OF, POLICY-LINE}

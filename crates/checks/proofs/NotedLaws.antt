@@ -13,7 +13,7 @@ use Rattle.sheet.specs.Forms.{refs, at, NODE, POLICY}
 use Rattle.sheet.specs.State.{State, count}
 use Rattle.sheet.specs.Typing.{gathered, underFrom, nodesUnder, isSlot}
 use Rattle.sheet.specs.Sheet.{greatest, uses, hasSlot, tooMany}
-use Rattle.sheet.proofs.Under.{has-append}
+use Rattle.sheet.proofs.reading.Under.{has-append}
 use Rattle.table.specs.Layout.{NODEDEPTHS, USES, SIZES, SLOTS, SPENT, rowsOf, held}
 use Rattle.table.proofs.Rows.{count-rows, lines-held}
 use Rattle.checks.specs.declared.Under as D

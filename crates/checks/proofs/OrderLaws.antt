@@ -14,7 +14,7 @@ use lib.Seq.{drop-cons, getD-set-other, getD-take}
 use Rattle.sheet.specs.Forms.{noKey, SHEET, TEXT, KIND, SHAPE, PRINCIPAL, ACTION, RESOURCE, CONTEXT, DAY, NODE, POLICY, LINK, TERM}
 use Rattle.sheet.specs.State.{State, count}
 use Rattle.sheet.specs.Sheet.{least, greatest, reach, enough, allZero, inOrder}
-use Rattle.sheet.proofs.Parsed.{allBelow}
+use Rattle.sheet.proofs.reading.Parsed.{allBelow}
 use Rattle.table.specs.Layout.{held, limit}
 use Rattle.table.proofs.Counts.{count-at}
 use Rattle.table.proofs.Rows.{count-held}

@@ -14,7 +14,7 @@ use Rattle.sheet.specs.Bytes.{same}
 use Rattle.sheet.specs.Forms.{formOf, forms, tag, at, keyOf, noKey}
 use Rattle.forms.specs.Tags.{TEXT-LINE}
 use Rattle.sheet.specs.Sheet.{among}
-use Rattle.sheet.proofs.TwoSheets.{same-is}
+use Rattle.sheet.proofs.demand3.TwoSheets.{same-is}
 use Rattle.table.specs.Layout.{part, base, heap, rowAt, rowsOf, textRow, textRows}
 use Rattle.table.proofs.Rows.{count-rows, row-at-is, row-some}
 use Rattle.checks.specs.Ends.{endsOf, RowEnds, TextEnds}

@@ -11,7 +11,7 @@ use lib.ListN.{length, getD, take, drop, set, length-take, length-drop, List·ge
 use lib.Seq.{getD-take, getD-drop, set-out, take-set-lt, take-set-le, drop-set-lt, drop-set-add}
 use Rattle.sheet.specs.Forms.{Slot, nothing, forms, formOf, slotAt, tag, items, keyOf, isLine, keep, refsFrom, refs, NODE, POLICY}
 use Rattle.sheet.specs.Sheet.{marked, usedTwice}
-use Rattle.sheet.proofs.Parsed.{policyTag, tags-between, policy-tags}
+use Rattle.sheet.proofs.reading.Parsed.{policyTag, tags-between, policy-tags}
 use Rattle.table.specs.Layout.{USES, SIZES}
 use Rattle.forms.specs.Rows.{OF-TYPE, OF-NODE, code as codeOf}
 use Rattle.forms.specs.Tags.{AND, POLICY-LINE}

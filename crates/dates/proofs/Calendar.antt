@@ -14,7 +14,7 @@ use Rattle.cedar.specs.Numbered.{memN}
 use Rattle.sheet.specs.Bytes.{leapYear, daysIn, isDate, dateIn, digitsFrom, atMost, half, date}
 use Rattle.scan.specs.declared.Number as N
 use Rattle.scan.specs.Numbers.{numberOf}
-use Rattle.sheet.proofs.Parsed.{all-below}
+use Rattle.sheet.proofs.reading.Parsed.{all-below}
 use Rattle.forms.proofs.Tests.{NoneOf, none-of, other}
 
 pub leap-no : (y : ℕ) → (y % 4 ≡ 0 → ⊥) → false ≡ leapYear y

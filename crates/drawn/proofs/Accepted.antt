@@ -15,8 +15,8 @@ use Rattle.sheet.specs.Sheet.{reads, reading, read}
 use Rattle.sheet.specs.Answer.{concat, printed, answer}
 use Rattle.sheet.specs.Call.{Accepted, returns, returned, room}
 use Rattle.drawn.specs.TestLoad.{Drawn, drawn, headTexts, headRest, idLines, treeLines, nodesIn, nodesFrom, rootAfter, effectAs, policiesFrom, sheetOf, load}
-use Rattle.sheet.proofs.DigitsBack.{number-plain}
-use Rattle.sheet.proofs.LinesBack.{allLack, lack-append, endAll, end-append, concat-append, lines-back, line-lacks}
+use Rattle.sheet.proofs.answer.DigitsBack.{number-plain}
+use Rattle.sheet.proofs.answer.LinesBack.{allLack, lack-append, endAll, end-append, concat-append, lines-back, line-lacks}
 use Rattle.drawn.proofs.Lengths.{drawn-many, load-short}
 use Rattle.drawn.proofs.Head.{Good, firstLines, restLines, idLinesOf, textRows, textDepths, loadState, head-read}
 use Rattle.drawn.proofs.Nodes.{treeLinesOf, nodeLinesOf, rowsOf, depthsOf, usesOf, nodes-read, few-nodes}

@@ -13,9 +13,9 @@ use Rattle.sheet.specs.Content.{types, onTerm}
 use Rattle.sheet.specs.Why.{Name, why}
 use Rattle.sheet.specs.Answer.{concat, printed, headLines, size, treeRows, residualRows, nodeItems, nodeLines, partialLines, ids, run, partialOf, answer}
 use Rattle.sheet.specs.Call.{returned, room}
-use Rattle.sheet.proofs.OnTerm.{on-term-few}
-use Rattle.sheet.proofs.AnswerRead.{firsts-length}
-use Rattle.sheet.proofs.AnswerLength.{concat-length, head-most, partial-most}
+use Rattle.sheet.proofs.content.OnTerm.{on-term-few}
+use Rattle.sheet.proofs.answer.AnswerRead.{firsts-length}
+use Rattle.sheet.proofs.answer.AnswerLength.{concat-length, head-most, partial-most}
 use Rattle.drawn.specs.TestLoad.{Drawn, drawn, treeLines, nodesIn, nodesFrom, load}
 use Rattle.drawn.proofs.Lengths.{nodes-few, drawn-many}
 use Rattle.drawn.proofs.Policies.{policyRowsOf}

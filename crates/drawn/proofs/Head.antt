@@ -15,10 +15,10 @@ use Rattle.sheet.specs.Typing.{fitsIn, typed, nodesUnder}
 use Rattle.sheet.specs.State.{State, empty, linesOf}
 use Rattle.sheet.specs.Sheet.{found, depth, fault, more, reads, reading, goOn, firstUnfit}
 use Rattle.forms.specs.Tags.{SHEET-LINE, TEXT-LINE, KIND-LINE, BOOL-TYPE, STRING-TYPE, RECORD-TYPE, SHAPE-LINE, BOOL-VALUE, PRINCIPAL-LINE, ACTION-LINE, RESOURCE-LINE, CONTEXT-LINE, DAY-LINE, ORDINARY, OF-ACTIONS, REQUIRED}
-use Rattle.sheet.proofs.Lines.{AllFit}
-use Rattle.sheet.proofs.EntitiesEnd.{fit-passes}
-use Rattle.sheet.proofs.RowTests.{same-is}
-use Rattle.sheet.proofs.Parsed.{allBelow, all-below}
+use Rattle.sheet.proofs.reading.Lines.{AllFit}
+use Rattle.sheet.proofs.reading.EntitiesEnd.{fit-passes}
+use Rattle.sheet.proofs.reading.RowTests.{same-is}
+use Rattle.sheet.proofs.reading.Parsed.{allBelow, all-below}
 
 -- ---- lines that are read on from a state, accepted, and leave the state w
 

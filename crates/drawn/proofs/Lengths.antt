@@ -7,8 +7,8 @@ use lib.ListN.{length, length-append}
 use Rattle.sheet.specs.Ascii.{ascii}
 use Rattle.sheet.specs.Bytes.{digits}
 use Rattle.sheet.specs.Answer.{concat, printed}
-use Rattle.sheet.proofs.ItemBytes.{weigh}
-use Rattle.sheet.proofs.AnswerLength.{digits-few, printed-most, concat-length}
+use Rattle.sheet.proofs.answer.ItemBytes.{weigh}
+use Rattle.sheet.proofs.answer.AnswerLength.{digits-few, printed-most, concat-length}
 use Rattle.drawn.specs.TestLoad.{Drawn, drawn, headTexts, headRest, idLines, treeLines, nodesIn, nodesFrom, effectAs, rootAfter, policiesFrom, sheetOf, load}
 
 ids-few : (i n : ℕ) → length (concat (idLines i n)) ≤ 27 * n

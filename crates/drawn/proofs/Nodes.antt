@@ -15,8 +15,8 @@ use Rattle.sheet.specs.State.{State}
 use Rattle.sheet.specs.Sheet.{found, depth, fault, more}
 use Rattle.drawn.specs.TestLoad.{Drawn, nodesIn}
 use Rattle.forms.specs.Tags.{LIT, VAR, LIKE, GET, PART-C}
-use Rattle.sheet.proofs.LinesBack.{unended}
-use Rattle.sheet.proofs.RowsBack.{node-back}
+use Rattle.sheet.proofs.answer.LinesBack.{unended}
+use Rattle.sheet.proofs.answer.RowsBack.{node-back}
 use Rattle.drawn.proofs.Head.{Good, step, loadState}
 
 pub one-longer : {A : Type 0} (l : List A) (x : A) (n : ℕ) → length l ≡ n → length (l ++ (x ∷ [])) ≡ suc n

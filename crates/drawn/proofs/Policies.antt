@@ -16,10 +16,10 @@ use Rattle.sheet.specs.Typing.{typed, nodesUnder, underFrom, gathered}
 use Rattle.sheet.specs.State.{State, linesOf, lineAt, count}
 use Rattle.sheet.specs.Sheet.{found, depth, fault, more, uses, firsts, anySlot, firstUnlinked, firstUnused}
 use Rattle.drawn.specs.TestLoad.{Drawn, nodesIn, rootAfter, effectAs}
-use Rattle.sheet.proofs.DigitsBack.{plainBytes, index-back, number-plain}
-use Rattle.sheet.proofs.LinesBack.{allPlain, unended, items-back, items-show}
+use Rattle.sheet.proofs.answer.DigitsBack.{plainBytes, index-back, number-plain}
+use Rattle.sheet.proofs.answer.LinesBack.{allPlain, unended, items-back, items-show}
 use Rattle.forms.specs.Tags.{POLICY-LINE, PERMIT, FORBID}
-use Rattle.sheet.proofs.Under.{lower, under-lower, lower-is}
+use Rattle.sheet.proofs.reading.Under.{lower, under-lower, lower-is}
 use Rattle.drawn.proofs.Head.{Good, step, loadState}
 use Rattle.drawn.proofs.Nodes.{longer, litRow, varRow, getRow, likeRow, rowsIn, usesIn, rowsOf, usesOf, rows-many, few-nodes}
 

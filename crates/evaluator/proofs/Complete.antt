@@ -17,14 +17,14 @@ use Rattle.sheet.specs.State.{State, linesOf}
 use Rattle.sheet.specs.Content.{types, rowsIn, valueRows, contents, schema, requestTy, nEnv, env, nPolicies, policies, onTerm}
 use Rattle.sheet.specs.Sheet.{read}
 use Rattle.sheet.specs.Answer.{results}
-use Rattle.sheet.proofs.Lines.{accepted-history, accepted-fit}
-use Rattle.sheet.proofs.ValueRows.{values-table, value-back}
-use Rattle.sheet.proofs.OwnPolicies.{read-own}
-use Rattle.sheet.proofs.Environment.{Facts, all-keys}
-use Rattle.sheet.proofs.CompleteRun.{whole-read}
-use Rattle.sheet.proofs.MadeCount.{policySizes}
-use Rattle.sheet.proofs.NeverNine.{policy-sizes}
-use Rattle.sheet.proofs.Depths.{Depths, Reached, read-reached, reached-depths}
+use Rattle.sheet.proofs.reading.Lines.{accepted-history, accepted-fit}
+use Rattle.sheet.proofs.content.ValueRows.{values-table, value-back}
+use Rattle.sheet.proofs.content.OwnPolicies.{read-own}
+use Rattle.sheet.proofs.content.Environment.{Facts, all-keys}
+use Rattle.sheet.proofs.running.CompleteRun.{whole-read}
+use Rattle.sheet.proofs.running.MadeCount.{policySizes}
+use Rattle.sheet.proofs.running.NeverNine.{policy-sizes}
+use Rattle.sheet.proofs.reading.Depths.{Depths, Reached, read-reached, reached-depths}
 use Rattle.table.specs.Layout.{rowsOf, rowsAt, base, held, linesHeld, RUN, MADE, limit, limits, Sound}
 use Rattle.table.proofs.Rows.{count-rows}
 use Rattle.value.specs.Lines.{valueLines}

@@ -14,16 +14,16 @@ use Rattle.sheet.specs.Forms.{Mode, line, nothing, forms, formOf, slotAt, isLin
 use Rattle.forms.specs.Tags.{AND, OR, EQ, LT, LE, ADD, SUB, MUL, IN, GETTAG, HASTAG, CONTAINS, ALL, ANY, IF, IS, LIKE, GET, HAS, HASPATH, NOT, NEG, EMPTY, SET-OF, RECORD-OF, SLOT, POLICY-LINE}
 use Rattle.sheet.specs.State.{State, linesOf, count, depthsOf}
 use Rattle.sheet.specs.Content.{types, patternOf, childrenOver, argsOver, treeOver, treesFrom, trees, linked, effectOf, numberedPolicies, nPolicies, onTerm}
-use Rattle.sheet.proofs.Lines.{History}
-use Rattle.sheet.proofs.Parsed.{tags-between}
-use Rattle.sheet.proofs.NodeRows.{row-read}
-use Rattle.sheet.proofs.PoliciesRead.{node-tags, policy-tags, all-there}
-use Rattle.sheet.proofs.Uses.{refs-below}
-use Rattle.sheet.proofs.Depths.{Deep, in-below}
-use Rattle.sheet.proofs.Shallow.{in-keep, this-kept}
-use Rattle.sheet.proofs.Slots.{set-slot, field-slot}
-use Rattle.sheet.proofs.OnTerm as T
-use Rattle.sheet.proofs.OnTerm.{Each, on-term}
+use Rattle.sheet.proofs.reading.Lines.{History}
+use Rattle.sheet.proofs.reading.Parsed.{tags-between}
+use Rattle.sheet.proofs.reading.NodeRows.{row-read}
+use Rattle.sheet.proofs.content.PoliciesRead.{node-tags, policy-tags, all-there}
+use Rattle.sheet.proofs.running.Uses.{refs-below}
+use Rattle.sheet.proofs.reading.Depths.{Deep, in-below}
+use Rattle.sheet.proofs.reading.Shallow.{in-keep, this-kept}
+use Rattle.sheet.proofs.reading.Slots.{set-slot, field-slot}
+use Rattle.sheet.proofs.content.OnTerm as T
+use Rattle.sheet.proofs.content.OnTerm.{Each, on-term}
 use Rattle.evaluator.proofs.Many.{kidsWith, argsWith}
 use Rattle.evaluator.proofs.Evaluates.{treesOf, treesWith, treeWith, treeAt, policiesAt}
 

@@ -17,7 +17,7 @@ use Rattle.cedar.proofs.ReadsLaws.{Keeps, keep-reads, row-denotes, on-bool}
 use Rattle.sheet.specs.Forms.{tag, items, at, firstNode, NODE}
 use Rattle.sheet.specs.Content.{varOf, patternOf, types, effectOf, linked}
 use Rattle.sheet.specs.Answer.{size}
-use Rattle.sheet.proofs.MadeCount.{policySizes}
+use Rattle.sheet.proofs.running.MadeCount.{policySizes}
 use Rattle.table.specs.Layout.{RUN, rowsOf, held}
 use Rattle.residual.specs.Classes.{classNumber}
 use Rattle.tpe.proofs.Stands.{Hold, Room}

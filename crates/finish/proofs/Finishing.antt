@@ -23,7 +23,7 @@ use Rattle.sheet.specs.Sheet.{read}
 use Rattle.sheet.specs.Content.{effectOf, schema, nEnv, trees, valueRows, numberedPolicies, nPolicies, onTerm}
 use Rattle.sheet.specs.Answer.{run, completeOf}
 use Rattle.sheet.specs.Call.{Returned, returns, refusedThen, readThen, checkedThen, over}
-use Rattle.sheet.proofs.Checked.{accepted-from}
+use Rattle.sheet.proofs.reading.Checked.{accepted-from}
 use Rattle.table.specs.Layout.{RUN, MADE, rowsOf, held}
 use Rattle.table.proofs.Held.{held-same}
 use Rattle.tpe.specs.Run.{runOf}

@@ -16,9 +16,9 @@ use Rattle.sheet.specs.Content.{contents, schema, env}
 use Rattle.sheet.specs.Literals.{valued}
 use Rattle.sheet.specs.Answer.{run}
 use Rattle.sheet.specs.Agreement.{agrees}
-use Rattle.sheet.proofs.Lines.{accepted-history}
-use Rattle.sheet.proofs.Demand3Bytes.{Settles}
-use Rattle.sheet.proofs.AnswerRead.{values-of, reads-valued}
+use Rattle.sheet.proofs.reading.Lines.{accepted-history}
+use Rattle.sheet.proofs.demand3.Demand3Bytes.{Settles}
+use Rattle.sheet.proofs.answer.AnswerRead.{values-of, reads-valued}
 use Rattle.table.specs.Layout.{held}
 use Rattle.residual.specs.Classes.{classNumber}
 use Rattle.tpe.specs.Run.{runOf}

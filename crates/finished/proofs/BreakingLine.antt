@@ -17,11 +17,11 @@ use Rattle.sheet.specs.Sheet.{greatest, read}
 use Rattle.sheet.specs.Call.{Accepted}
 use Rattle.sheet.specs.Parents.{lineFor}
 use Rattle.sheet.specs.Agreement.{requestSame, entitySame}
-use Rattle.sheet.proofs.Environment.{Facts, a-line}
-use Rattle.sheet.proofs.Limits.{lines-at-most}
-use Rattle.sheet.proofs.Demand3Bytes.{facts}
-use Rattle.sheet.proofs.Checked.{accepted-read}
-use Rattle.sheet.proofs.LinePlaces.{line-stands}
+use Rattle.sheet.proofs.content.Environment.{Facts, a-line}
+use Rattle.sheet.proofs.reading.Limits.{lines-at-most}
+use Rattle.sheet.proofs.demand3.Demand3Bytes.{facts}
+use Rattle.sheet.proofs.reading.Checked.{accepted-read}
+use Rattle.sheet.proofs.reading.LinePlaces.{line-stands}
 use Rattle.finished.specs.Finish.{beginBreak, sameBreak, entityBreak, requestBreak, firstSome, breaks, lacks, breakingLine}
 use Rattle.finished.specs.Breaks.{breaksAt, Breaks, Named, the-first, after-last, no-line}
 

@@ -19,9 +19,9 @@ use Rattle.sheet.specs.Parents.{lineFor}
 use Rattle.sheet.specs.Agreement.{begins, sameLines, requestSame, entitySame, listed, allListed, agrees}
 use Rattle.finished.specs.Finish.{beginBreak, sameBreak, entityBreak, requestBreak, firstSome, breaks, shorter, unlistedIn, anyOf, lacking, lacks, breakingLine}
 use Rattle.finished.specs.Rising.{Rising}
-use Rattle.sheet.proofs.Lines.{History}
-use Rattle.sheet.proofs.TwoSheets.{common}
-use Rattle.sheet.proofs.ValueRows.{same-refl}
+use Rattle.sheet.proofs.reading.Lines.{History}
+use Rattle.sheet.proofs.demand3.TwoSheets.{common}
+use Rattle.sheet.proofs.content.ValueRows.{same-refl}
 
 -- ---- lines compared one by one
 

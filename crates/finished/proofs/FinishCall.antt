@@ -17,11 +17,11 @@ use Rattle.sheet.specs.Answer.{answer}
 use Rattle.sheet.specs.Call.{Returned, returns, room, lentThen, checkedThen, fitted, returned, outputs, written, Accepted}
 use Rattle.sheet.specs.Agreement.{agrees}
 use Rattle.finished.specs.Finish.{breakingLine, finishedAnswer, atLine, finishReturned, finishWritten}
-use Rattle.sheet.proofs.Lines.{zero-not-suc}
-use Rattle.sheet.proofs.Checked.{lent-by, checked-by, same-refusal, accepted-from, passes}
-use Rattle.sheet.proofs.Refusals.{read-small}
-use Rattle.sheet.proofs.AnswerLength.{mostAnswer, answer-most}
-use Rattle.sheet.proofs.Demand3Bytes.{facts}
+use Rattle.sheet.proofs.reading.Lines.{zero-not-suc}
+use Rattle.sheet.proofs.reading.Checked.{lent-by, checked-by, same-refusal, accepted-from, passes}
+use Rattle.sheet.proofs.reading.Refusals.{read-small}
+use Rattle.sheet.proofs.answer.AnswerLength.{mostAnswer, answer-most}
+use Rattle.sheet.proofs.demand3.Demand3Bytes.{facts}
 use Rattle.finished.proofs.FinishAgrees.{no-break-agrees, agrees-no-break}
 use Rattle.finished.proofs.FinishEqual.{finished-answer}
 

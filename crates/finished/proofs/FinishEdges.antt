@@ -11,7 +11,7 @@ use Rattle.sheet.specs.Content.{types, valueRows, contents, schema, trees, expr
 use Rattle.sheet.specs.Answer.{run, results, answer}
 use Rattle.sheet.specs.Call.{returns, returned}
 use Rattle.cedar.specs.Canonical.{order, same, place, insert, ascending, makeSet}
-use Rattle.sheet.proofs.Shown.{bytes}
+use Rattle.sheet.proofs.answer.Shown.{bytes}
 use Rattle.finished.specs.Finish.{finishedResults, finishedAnswer, finishReturned, breakingLine}
 
 unfoldable sheet : List ℕ
@@ -78,3 +78,20 @@ finish-complete-too-long = refl
 finish-turned-round : finishReturned 16384 16384 500 whole sheet ≡ returns 3 1 0
 unfolding sheet whole keys forms formOf slotAt counted tagOf rowOf keyOf refs ascendings fitsIn nodesUnder typed found depth fault more read types valueRows contents schema trees exprs onTerm nPolicies policies nEnv env run results answer returned ancestors unknownAbove order same place insert ascending makeSet finishedResults finishedAnswer finishReturned breakingLine
 finish-turned-round = refl
+
+-- ---- a sheet with a term: without it, with a kind more, with an entity more
+
+unfoldable small : List ℕ
+small = bytes "sheet=partial/text=P/text=A/kind=0,e/kind=1,a/type=bool/type=record/shape=1,-/shape=1,-/value=bool,1/principal=0,?/action=1,0/resource=0,?/context=1,?/day=2000-01-01/node=0,lit,0/policy=0,permit,0/term=0,2000-01-01,2000-01-02/"
+
+finish-lacking-term : finishReturned 16384 16384 500 small (bytes "sheet=complete/text=P/text=A/kind=0,e/kind=1,a/type=bool/type=record/shape=1,-/shape=1,-/value=bool,1/value=record/principal=0,0/action=1,0/resource=0,0/context=1,1/day=2000-01-01/node=0,lit,0/policy=0,permit,0/") ≡ returns 11 19 0
+unfolding small keys forms formOf slotAt counted tagOf rowOf keyOf refs ascendings fitsIn nodesUnder typed found depth fault more read types valueRows contents schema trees exprs onTerm nPolicies policies nEnv env run results answer returned ancestors unknownAbove order same place insert ascending makeSet finishedResults finishedAnswer finishReturned breakingLine
+finish-lacking-term = refl
+
+finish-kind-more : finishReturned 16384 16384 500 small (bytes "sheet=complete/text=P/text=A/text=X/kind=0,e/kind=1,a/kind=2,e/type=bool/type=record/shape=1,-/shape=1,-/shape=1,-/value=bool,1/value=record/principal=0,0/action=1,0/resource=0,0/context=1,1/day=2000-01-01/node=0,lit,0/policy=0,permit,0/term=0,2000-01-01,2000-01-02/") ≡ returns 11 7 0
+unfolding small keys forms formOf slotAt counted tagOf rowOf keyOf refs ascendings fitsIn nodesUnder typed found depth fault more read types valueRows contents schema trees exprs onTerm nPolicies policies nEnv env run results answer returned ancestors unknownAbove order same place insert ascending makeSet finishedResults finishedAnswer finishReturned breakingLine
+finish-kind-more = refl
+
+finish-entity-more : finishReturned 16384 16384 500 small (bytes "sheet=complete/text=P/text=A/kind=0,e/kind=1,a/type=bool/type=record/shape=1,-/shape=1,-/value=bool,1/value=record/value=entity,0,0/value=set/entity=2,1,1,3/principal=0,0/action=1,0/resource=0,0/context=1,1/day=2000-01-01/node=0,lit,0/policy=0,permit,0/term=0,2000-01-01,2000-01-02/") .number ≡ 0
+unfolding small keys forms formOf slotAt counted tagOf rowOf keyOf refs ascendings fitsIn nodesUnder typed found depth fault more read types valueRows contents schema trees exprs onTerm nPolicies policies nEnv env run results answer returned ancestors unknownAbove order same place insert ascending makeSet finishedResults finishedAnswer finishReturned breakingLine
+finish-entity-more = refl

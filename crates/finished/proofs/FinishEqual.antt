@@ -21,10 +21,10 @@ use Rattle.sheet.specs.Answer.{concat, headLines, completeLines, results, answe
 use Rattle.sheet.specs.Call.{Accepted}
 use Rattle.sheet.specs.Agreement.{agrees}
 use Rattle.finished.specs.Finish.{contentOf, yieldsOf, finishedResults, finishedAnswer}
-use Rattle.sheet.proofs.TwoSheets.{common}
-use Rattle.sheet.proofs.Demand3Bytes.{Settles, demand-3}
-use Rattle.sheet.proofs.Demand3Answers.{choices-parts}
-use Rattle.sheet.proofs.AnswerRead.{values-of, reads-valued}
+use Rattle.sheet.proofs.demand3.TwoSheets.{common}
+use Rattle.sheet.proofs.demand3.Demand3Bytes.{Settles, demand-3}
+use Rattle.sheet.proofs.demand3.Demand3Answers.{choices-parts}
+use Rattle.sheet.proofs.answer.AnswerRead.{values-of, reads-valued}
 use Rattle.cedar.proofs.SettledByNumber as R
 
 module _ (p c : List ℕ) (ap′ : Accepted partial p) (ac : Accepted complete c) (ag : agrees (read partial p .state) (read complete c .state) ≡ true) where

@@ -20,7 +20,7 @@ use Rattle.cedar.specs.Canonical.{order, same, place, insert, ascending, makeSe
 use Rattle.cedar.specs.Residual.{ctrue}
 use Rattle.cedar.specs.Response.{permit, forbid}
 use Rattle.sheet.specs.Agreement.{agrees}
-use Rattle.sheet.proofs.Demand3Bytes.{facts}
+use Rattle.sheet.proofs.demand3.Demand3Bytes.{facts}
 use Rattle.finished.specs.Finish.{finishedResults, finishedAnswer, finishReturned, finishWritten, breakingLine}
 use Rattle.finished.specs.Breaks.{Breaks, Named}
 use Rattle.finished.proofs.FinishEqual.{finished-results, finished-answer}

@@ -12,7 +12,7 @@ use Rattle.words.specs.Log.{part, cleared}
 use Rattle.cedar.specs.Response.{Decision}
 use Rattle.sheet.specs.Forms.{partial, at, mark, TEXT, PRINCIPAL, RESOURCE}
 use Rattle.sheet.specs.Call.{Returned, returns, room, lentThen, shortThen, refusedThen, readThen, worked}
-use Rattle.sheet.proofs.Checked.{accepted-from}
+use Rattle.sheet.proofs.reading.Checked.{accepted-from}
 use Rattle.table.specs.Layout.{rowsOf}
 use Rattle.response.specs.Runs.{Gives, Holding}
 use Rattle.response.specs.Verdicts.{decisionOf}

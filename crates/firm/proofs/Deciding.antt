@@ -12,10 +12,10 @@ use Rattle.sheet.specs.State.{State, linesOf, lineAt, count}
 use Rattle.sheet.specs.Sheet.{read, least}
 use Rattle.sheet.specs.Content.{onTerm}
 use Rattle.sheet.specs.Call.{Accepted}
-use Rattle.sheet.proofs.Lines.{and-both, Was}
-use Rattle.sheet.proofs.Environment.{Facts, a-line, the-line}
-use Rattle.sheet.proofs.Demand3Bytes.{facts}
-use Rattle.sheet.proofs.OnTerm.{same-term}
+use Rattle.sheet.proofs.reading.Lines.{and-both, Was}
+use Rattle.sheet.proofs.content.Environment.{Facts, a-line, the-line}
+use Rattle.sheet.proofs.demand3.Demand3Bytes.{facts}
+use Rattle.sheet.proofs.content.OnTerm.{same-term}
 use Rattle.words.specs.Log.{part, room}
 use Rattle.table.specs.Layout.{RUN, MADE, TOP, USES, heap, limit, limits, rowsOf, textRows, linesHeld, depthBase, depthsAt, depthsIn, depthsHeld, held}
 use Rattle.table.proofs.Rows.{count-rows, lines-held, tab-same}

@@ -10,10 +10,10 @@ use lib.Dec.{eqb}
 use lib.ListN.{length, getD, set}
 use Rattle.sheet.specs.Forms.{Mode, forms, formOf, counted, itemsFrom, tag, keyOf, rowOf, noTag, at, mark, PRINCIPAL, RESOURCE}
 use Rattle.sheet.specs.State.{State}
-use Rattle.sheet.proofs.Lines.{Was}
-use Rattle.sheet.proofs.Parsed.{parsed, counted-plain, tags-between, request-tags}
-use Rattle.sheet.proofs.NodeRows.{plain-slots}
-use Rattle.sheet.proofs.ValueRows.{items-length}
+use Rattle.sheet.proofs.reading.Lines.{Was}
+use Rattle.sheet.proofs.reading.Parsed.{parsed, counted-plain, tags-between, request-tags}
+use Rattle.sheet.proofs.reading.NodeRows.{plain-slots}
+use Rattle.sheet.proofs.content.ValueRows.{items-length}
 use Rattle.forms.specs.Tags.{PRINCIPAL-LINE, RESOURCE-LINE}
 use Rattle.staff.specs.Firm.{setText, setTexts}
 use Rattle.firm.specs.Laid.{lineWith}

@@ -8,7 +8,7 @@ use borrow.Author.Tests.{ltb-true, leb-true, ne-eqb}
 use lib.Dec.{leb, ltb}
 use lib.ListN.{length, List·getD-eq-default}
 use Rattle.sheet.specs.Forms.{Form, forms, formIn, tagOf, noKey, noTag}
-use Rattle.sheet.proofs.Parsed.{allBelow, all-below}
+use Rattle.sheet.proofs.reading.Parsed.{allBelow, all-below}
 use Rattle.forms.specs.declared.Key as D
 use Rattle.forms.specs.Keys.{MADE, INDEX, limits, limit, bases, base, heap, keyRow, keyed}
 use Rattle.forms.proofs.Tests.{small, entry-small, NoneOf, below, past}

@@ -9,7 +9,7 @@ use lib.Dec.{leb, eqb}
 use lib.ListN.{length, getD, List·getD-map, List·getD-eq-default}
 use Rattle.cedar.proofs.Tools.{no-true}
 use Rattle.sheet.specs.Forms.{Slot, entry, line, lineOr, lineUnknown, word, number, day, nothing, Form, forms, formOf, noForm, noKey, noTag, slotAt, isLine, firstNode, TYPE, NODE}
-use Rattle.sheet.proofs.Parsed.{allBelow}
+use Rattle.sheet.proofs.reading.Parsed.{allBelow}
 use Rattle.forms.specs.declared.Form as D
 use Rattle.forms.specs.Rows.{Shape, shape, read, code, coded, slotOf, FLAT, risesFrom}
 use Rattle.forms.specs.Tags.{SLOT, POLICY-LINE}

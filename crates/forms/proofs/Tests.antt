@@ -9,7 +9,7 @@ use lib.Dec.{leb}
 use lib.ListN.{getD}
 use Rattle.cedar.specs.Numbered.{memN}
 use Rattle.cedar.proofs.Tools.{no-true}
-use Rattle.sheet.proofs.Parsed.{allBelow, all-below}
+use Rattle.sheet.proofs.reading.Parsed.{allBelow, all-below}
 
 -- what a computed test says of the n numbers from lo on
 pub ranged : (f : ℕ → Bool) (lo n : ℕ) → allBelow (λ (i : ℕ). f (lo + i)) n ≡ true → (t : ℕ) → lo ≤ t → t < lo + n → f t ≡ true

@@ -27,11 +27,11 @@ use Rattle.sheet.specs.State.{State}
 use Rattle.sheet.specs.Sheet.{read}
 use Rattle.sheet.specs.Content.{schema, nEnv, pEnv, nPolicies}
 use Rattle.sheet.specs.Answer.{run}
-use Rattle.sheet.proofs.Lines.{accepted-history, accepted-fit}
-use Rattle.sheet.proofs.Environment.{Facts, env-read, all-keys}
-use Rattle.sheet.proofs.ValueRows.{values-table}
-use Rattle.sheet.proofs.OwnPolicies.{read-own}
-use Rattle.sheet.proofs.NeverNine.{policy-sizes, residual-sizes}
+use Rattle.sheet.proofs.reading.Lines.{accepted-history, accepted-fit}
+use Rattle.sheet.proofs.content.Environment.{Facts, env-read, all-keys}
+use Rattle.sheet.proofs.content.ValueRows.{values-table}
+use Rattle.sheet.proofs.content.OwnPolicies.{read-own}
+use Rattle.sheet.proofs.running.NeverNine.{policy-sizes, residual-sizes}
 use Rattle.table.specs.Layout.{RUN, limits, limit}
 use Rattle.table.proofs.Rows.{count-rows}
 use Rattle.residual.specs.Trees.{flats}

@@ -11,7 +11,7 @@ use Rattle.cedar.specs.Numbered.{nClassOf}
 use Rattle.cedar.specs.Runs.{NVerdict}
 use Rattle.sheet.specs.Content.{rowsIn}
 use Rattle.sheet.specs.Answer.{root, size}
-use Rattle.sheet.proofs.MadeCount.{residualSizes}
+use Rattle.sheet.proofs.running.MadeCount.{residualSizes}
 use Rattle.value.specs.Lines.{valueLines}
 use Rattle.residual.specs.Rows.{stageAt, startAt}
 use Rattle.residual.specs.Classes.{classNumber, rootsOf}

@@ -13,7 +13,7 @@ use Rattle.sheet.specs.Forms.{Slot, entry, line, lineOr, lineUnknown, word, num
 use Rattle.sheet.specs.State.{State, empty, linesOf, count, depthsOf, typeRow}
 use Rattle.sheet.specs.Typing.{nodesUnder, onEntity}
 use Rattle.sheet.specs.Sheet.{least, greatest, reach, allZero, inOrder, uses, tooMany, hasSlot, slotGiven, thereIs, allThere, ascend, among, firsts, eachAlone, newType, termGoes, fresh, found, deepest, depth}
-use Rattle.sheet.proofs.Parsed.{tags-between}
+use Rattle.sheet.proofs.reading.Parsed.{tags-between}
 use Rattle.forms.specs.Tags.{TEXT-LINE}
 use Rattle.table.specs.Layout.{part, rowsOf, textRows, linesHeld, held, rowIn}
 use Rattle.table.proofs.Rows.{count-held, lines-held, texts-held}

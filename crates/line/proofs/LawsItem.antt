@@ -23,8 +23,8 @@ use Rattle.scan.specs.declared.Counted as C
 use Rattle.scan.specs.Numbers.{numberOf, placed}
 use Rattle.scan.specs.Places.{itemEnd, itemsBy, ItemRead, NumberRead}
 use Rattle.cedar.proofs.Tools.{no-true}
-use Rattle.sheet.proofs.Parsed.{allBelow, all-below}
-use Rattle.sheet.proofs.TwoSheets.{same-is}
+use Rattle.sheet.proofs.reading.Parsed.{allBelow, all-below}
+use Rattle.sheet.proofs.demand3.TwoSheets.{same-is}
 use Rattle.scan.proofs.Scans.{same-last, comparing-never}
 use Rattle.scan.proofs.Decimals.{index-small}
 use Rattle.scan.proofs.Wordlists.{words-are}

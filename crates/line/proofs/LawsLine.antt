@@ -14,7 +14,7 @@ use Rattle.words.proofs.Stores.{length-part}
 use Rattle.sheet.specs.Ascii.{ascii}
 use Rattle.sheet.specs.Bytes.{upTo, split, same, printable}
 use Rattle.sheet.specs.Forms.{Form, entry, plain, keys, wordNumber, forms, formOf, formIn, tagOf, keyOf, counted, orEmpty, itemsFrom, rowHeaded, heading, rowOfText, rowOfValue, tag, noKey, SHEET, TEXT, DAY, NODE}
-use Rattle.sheet.proofs.Parsed.{allBelow, all-below}
+use Rattle.sheet.proofs.reading.Parsed.{allBelow, all-below}
 use Rattle.scan.specs.declared.Cursor.{Cursor}
 use Rattle.scan.specs.declared.Heading as H
 use Rattle.scan.specs.declared.Line as L

@@ -13,7 +13,7 @@ use lib.Seq.{getD-append-add}
 use Rattle.cedar.proofs.Tools.{no-true}
 use Rattle.sheet.specs.Forms.{Mode, Slot, entry, line, lineOr, lineUnknown, word, number, day, nothing, Form, forms, formOf, noTag, slotAt, counted, item, joined, itemsFrom}
 use Rattle.words.specs.Bits.{byteOf}
-use Rattle.sheet.proofs.Parsed.{allBelow, all-below}
+use Rattle.sheet.proofs.reading.Parsed.{allBelow, all-below}
 use Rattle.forms.specs.declared.Form as F
 use Rattle.forms.specs.Rows.{slotOf, Shape, places, shape, read, Packed}
 use Rattle.forms.specs.Tags.{LONG-VALUE}

@@ -12,7 +12,7 @@ use lib.ListN.{length, getD}
 use Rattle.sheet.specs.Ascii.{ascii}
 use Rattle.sheet.specs.Bytes.{same}
 use Rattle.sheet.specs.Forms.{Form, forms, formOf, noForm, formIn, tagOf, noKey, noTag, firstNode, NODE}
-use Rattle.sheet.proofs.Parsed.{allBelow, all-below, tags-between, node-tags}
+use Rattle.sheet.proofs.reading.Parsed.{allBelow, all-below, tags-between, node-tags}
 use Rattle.scan.specs.Numbers.{following, placed}
 use Rattle.forms.specs.Tags.{SLOT}
 use Rattle.forms.proofs.Table.{no-form}

@@ -13,11 +13,11 @@ use Rattle.cedar.specs.Canonical.{bit}
 use Rattle.cedar.specs.Rows.{Row, rbool, rlong, rtext, rent, rset, rrec}
 use Rattle.sheet.specs.Ascii.{ascii}
 use Rattle.sheet.specs.Bytes.{digits, signed, longAt, commas}
-use Rattle.sheet.specs.Forms.{Form, forms, formOf, noForm, firstNode, tag, items, at, mark, TYPE, NODE, firstValue, asterisk}
+use Rattle.sheet.specs.Forms.{Form, forms, formOf, noForm, firstNode, tag, items, at, mark, NODE, firstValue, asterisk}
 use Rattle.sheet.specs.State.{entriesOf, valueRow}
 use Rattle.sheet.specs.Content.{rowsIn}
 use Rattle.sheet.specs.Answer.{printed, concat, numbers, entryItems, valueItems, valueLines}
-use Rattle.sheet.proofs.Lines.{and-both}
+use Rattle.sheet.proofs.reading.Lines.{and-both}
 use Rattle.forms.specs.Tags.{VAR, IS, LIKE, GET, HAS, HASPATH, RECORD-OF}
 use Rattle.table.specs.Layout.{part, rowAt, rowsAt, rowsOf, base, MADE}
 use Rattle.table.proofs.Rows.{count-rows}
@@ -27,7 +27,7 @@ use Rattle.residual.specs.declared.Stage.the-variants.{Value, Error, Open}
 use Rattle.print.proofs.Writing.{digits-few}
 use Rattle.listing.specs.Values.{madeLines}
 use Rattle.listing.specs.Names.{opName}
-use Rattle.listing.specs.Nodes.{numberOf, childrenBy, childrenTo, fieldsTo, letter, pieces, restItems, leftItems, leftAt, saidAs, saidAt, typeIn, nodeLine, linesBy, logLines}
+use Rattle.listing.specs.Nodes.{numberOf, childrenBy, childrenTo, fieldsTo, letter, pieces, restItems, leftItems, leftAt, saidAs, saidAt, nodeLine, linesBy, logLines}
 
 -- ---- items and lines
 
@@ -220,7 +220,7 @@ left-most t r k cs fs = go (eqb t VAR) (eqb t RECORD-OF)
     go false true = omega (arith, numbers-most fs)
     go false false = omega (arith, weigh-append (numbers cs) (restItems t r k), numbers-most cs, rest-most t r k)
 
-module _ (types nodes : List (List ℕ)) (l : List ℕ) (h : AllShort 16384 nodes) (e : ℕ) (low : e ≤ 16384) where
+module _ (nodes : List (List ℕ)) (l : List ℕ) (h : AllShort 16384 nodes) (e : ℕ) (low : e ≤ 16384) where
   left-at : weigh (leftAt nodes l e) ≤ 21 * 49152 + 50
   unfolding leftAt childrenTo
   left-at =
@@ -236,19 +236,19 @@ module _ (types nodes : List (List ℕ)) (l : List ℕ) (h : AllShort 16384 node
   said-as Error = omega arith
   said-as Open = left-at
 
-  node-most : length (nodeLine types nodes l e) ≤ 1100000
+  node-most : length (nodeLine nodes l e) ≤ 1100000
   unfolding nodeLine saidAt
   node-most =
-      let y : List ℕ = digits (typeIn types (wordAt l e 3)) in
+      let y : List ℕ = digits (wordAt l e 3) in
       let p : length (printed "node" (y ∷ saidAt nodes l e)) ≤ 4 + weigh (y ∷ saidAt nodes l e) + 2 = printed-most "node" (y ∷ saidAt nodes l e) in
-      omega (arith, p, digits-few (typeIn types (wordAt l e 3)), said-as (stageAt l e))
+      omega (arith, p, digits-few (wordAt l e 3), said-as (stageAt l e))
 
-nodes-most : (types nodes : List (List ℕ)) (l : List ℕ) → AllShort 16384 nodes → (n s : ℕ) → s + 4 * n ≤ 16384 → length (concat (linesBy types nodes l n s)) ≤ 1100000 * n
+nodes-most : (nodes : List (List ℕ)) (l : List ℕ) → AllShort 16384 nodes → (n s : ℕ) → s + 4 * n ≤ 16384 → length (concat (linesBy nodes l n s)) ≤ 1100000 * n
 unfolding linesBy
-nodes-most types nodes l h zero s k = omega arith
-nodes-most types nodes l h (suc n) s k =
-    let i = nodes-most types nodes l h n (s + 4) (omega (arith, k)) in
-    omega (arith, i, node-most types nodes l h (s + 4) (omega (arith, k)), length-append (nodeLine types nodes l (s + 4)) (concat (linesBy types nodes l n (s + 4))))
+nodes-most nodes l h zero s k = omega arith
+nodes-most nodes l h (suc n) s k =
+    let i = nodes-most nodes l h n (s + 4) (omega (arith, k)) in
+    omega (arith, i, node-most nodes l h (s + 4) (omega (arith, k)), length-append (nodeLine nodes l (s + 4)) (concat (linesBy nodes l n (s + 4))))
 
 -- ---- both, in words of 16,384 at most
 
@@ -257,6 +257,6 @@ module _ (a : List ℕ) (h : length a ≤ 16384) where
   unfolding madeLines
   made-most = let d = values-most (rowsOf a MADE) (all-short a MADE h) in omega (arith, d, count-rows a MADE)
 
-  pub log-most : (l : List ℕ) → length l ≤ 16384 → length (concat (logLines (rowsOf a TYPE) (rowsOf a NODE) l)) ≤ 1100000 * (length l / 4)
+  pub log-most : (l : List ℕ) → length l ≤ 16384 → length (concat (logLines (rowsOf a NODE) l)) ≤ 1100000 * (length l / 4)
   unfolding logLines
-  log-most l k = nodes-most (rowsOf a TYPE) (rowsOf a NODE) l (all-short a NODE h) (length l / 4) 0 (omega (arith, k))
+  log-most l k = nodes-most (rowsOf a NODE) l (all-short a NODE h) (length l / 4) 0 (omega (arith, k))

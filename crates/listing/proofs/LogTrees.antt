@@ -24,23 +24,23 @@ use Rattle.residual.proofs.Blocks.{rowOf, bodyOf, sizeAll, left-size, left-open
 use Rattle.residual.proofs.Meaning.{stageFor, stage-is, rows-are, suited, apart, before-row}
 use Rattle.value.proofs.Lists.{uncons2}
 use Rattle.listing.specs.Names.{opName}
-use Rattle.listing.specs.Nodes.{numberOf, childrenTo, fieldsTo, leftItems, leftSaid, leftAt, saidAt, typeIn, nodeLine, linesBy, logLines}
+use Rattle.listing.specs.Nodes.{numberOf, childrenTo, fieldsTo, leftItems, leftSaid, leftAt, saidAt, nodeLine, linesBy, logLines}
 use Rattle.listing.proofs.NodeLines.{children-end, children-step, fields-end, fields-step}
 use Rattle.listing.proofs.TreeRows.{rowsAll, rootsAll, fieldsAll, lines-append, saidOver, left-lines}
 
 -- ---- a line by the words of its row
 
-module _ (types nodes : List (List ℕ)) (l : List ℕ) (e y : ℕ) (ey : wordAt l e 3 ≡ y) where
-  line-value : (v : ℕ) → stageAt l e ≡ Value v → nodeLine types nodes l e ≡ printed "node" (digits (typeIn types y) ∷ ascii "lit" ∷ digits v ∷ [])
+module _ (nodes : List (List ℕ)) (l : List ℕ) (e y : ℕ) (ey : wordAt l e 3 ≡ y) where
+  line-value : (v : ℕ) → stageAt l e ≡ Value v → nodeLine nodes l e ≡ printed "node" (digits y ∷ ascii "lit" ∷ digits v ∷ [])
   unfolding nodeLine saidAt
   line-value v s = rw (ey, s)
 
-  line-error : stageAt l e ≡ Error → nodeLine types nodes l e ≡ printed "node" (digits (typeIn types y) ∷ ascii "err" ∷ [])
+  line-error : stageAt l e ≡ Error → nodeLine nodes l e ≡ printed "node" (digits y ∷ ascii "err" ∷ [])
   unfolding nodeLine saidAt
   line-error s = rw (ey, s)
 
   line-open : (n k start p : ℕ) → stageAt l e ≡ Open → wordAt l e 1 ≡ n → wordAt l e 0 ≡ 2 + k → startAt l e ≡ start → e - 4 ≡ p
-      → nodeLine types nodes l e ≡ printed "node" (digits (typeIn types y) ∷ leftSaid (getD nodes n []) k l start p)
+      → nodeLine nodes l e ≡ printed "node" (digits y ∷ leftSaid (getD nodes n []) k l start p)
   unfolding nodeLine saidAt leftAt
   line-open n k start p s en ek es ep =
       let z : 2 + k - 2 ≡ k = omega arith in
@@ -48,20 +48,20 @@ module _ (types nodes : List (List ℕ)) (l : List ℕ) (e y : ℕ) (ey : wordAt
 
 -- ---- as many lines more
 
-module _ (types nodes : List (List ℕ)) (l : List ℕ) where
-  lines-join : (a b s : ℕ) → linesBy types nodes l (a + b) s ≡ linesBy types nodes l a s ++ linesBy types nodes l b (s + 4 * a)
+module _ (nodes : List (List ℕ)) (l : List ℕ) where
+  lines-join : (a b s : ℕ) → linesBy nodes l (a + b) s ≡ linesBy nodes l a s ++ linesBy nodes l b (s + 4 * a)
   unfolding linesBy
   lines-join zero b s =
       let z : zero + b ≡ b = omega arith in
       let w : s ≡ s + 4 * zero = omega arith in
-      ap (λ (n : ℕ). linesBy types nodes l n s) z ∙ ap (linesBy types nodes l b) w
+      ap (λ (n : ℕ). linesBy nodes l n s) z ∙ ap (linesBy nodes l b) w
   lines-join (suc a) b s =
       let z : suc a + b ≡ suc (a + b) = omega arith in
       let w : s + 4 + 4 * a ≡ s + 4 * suc a = omega arith in
-      ap (λ (n : ℕ). linesBy types nodes l n s) z
-      ∙ ap (λ (x : List (List ℕ)). nodeLine types nodes l (s + 4) ∷ x) (lines-join a b (s + 4) ∙ ap (λ (n : ℕ). linesBy types nodes l a (s + 4) ++ linesBy types nodes l b n) w)
+      ap (λ (n : ℕ). linesBy nodes l n s) z
+      ∙ ap (λ (x : List (List ℕ)). nodeLine nodes l (s + 4) ∷ x) (lines-join a b (s + 4) ∙ ap (λ (n : ℕ). linesBy nodes l a (s + 4) ++ linesBy nodes l b n) w)
 
-  line-once : (s : ℕ) → linesBy types nodes l 1 s ≡ nodeLine types nodes l (s + 4) ∷ []
+  line-once : (s : ℕ) → linesBy nodes l 1 s ≡ nodeLine nodes l (s + 4) ∷ []
   unfolding linesBy
   line-once s = refl
 
@@ -205,12 +205,12 @@ module _ (n k y : ℕ) (rs : Ress) (l pre post : List ℕ) (el : l ≡ pre ++ (f
   left-body : end - 4 ≡ length pre + length (flats rs)
   left-body = omega (arith, body-length n k y rs)
 
-module _ (ts : List Ty) (types nodes : List (List ℕ)) where
-  left-stage : {d : ℕ} (n k y : ℕ) (rs : Ress) → suits (getD nodes n []) (countRes rs) ≡ true → Wholes ts nodes d rs → (l pre post : List ℕ) → l ≡ pre ++ (flat (rleft n k y rs) ++ post)
+module _ (ts : List Ty) (nodes : List (List ℕ)) where
+  left-stage : {d : ℕ} (n k y : ℕ) (rs : Ress) → y < length ts → suits (getD nodes n []) (countRes rs) ≡ true → Wholes ts nodes d rs → (l pre post : List ℕ) → l ≡ pre ++ (flat (rleft n k y rs) ++ post)
       → stageAt l (length pre + length (flat (rleft n k y rs))) ≡ Open
   unfolding treeOf
-  left-stage n k y rs s ws l pre post el =
-      ap (λ (x : List ℕ). stageAt x (length pre + length (flat (rleft n k y rs)))) el ∙ stage-is ts nodes (rleft n k y rs) (whole-left s ws) pre post
+  left-stage n k y rs t s ws l pre post el =
+      ap (λ (x : List ℕ). stageAt x (length pre + length (flat (rleft n k y rs)))) el ∙ stage-is ts nodes (rleft n k y rs) (whole-left t s ws) pre post
       ∙ ap stageFor (left-open (getD nodes n []) k (tyAt ts nodes y) (trees ts nodes rs) (suited ts nodes n rs s))
 
   -- a record's fields, all of them
@@ -229,85 +229,85 @@ module _ (ts : List Ty) (types nodes : List (List ℕ)) where
       fields-are ts nodes (rcons r rs) ws row l (length pre) 2 (length row) m pre post el (omega arith) em (omega (arith, a, b, et)) (omega arith)
       ∙ ap₂ (λ (x y : List ℕ). x ++ fieldsAll m y (trees ts nodes (rcons r rs))) (fields-end row l (length pre) 2 (length pre) (omega arith)) (sym (drop-drop 1 1 row))
 
-  module _ (same : (y : ℕ) → typeNumber ts (tyAt ts nodes y) ≡ typeIn types y) where
-    left-line : {d : ℕ} (n k y : ℕ) (rs : Ress) → suits (getD nodes n []) (countRes rs) ≡ true → Wholes ts nodes d rs → (l pre post : List ℕ) (m : ℕ) → l ≡ pre ++ (flat (rleft n k y rs) ++ post) → length pre ≡ 4 * m
-        → nodeLine types nodes l (length pre + length (flat (rleft n k y rs))) ≡ printed "node" (saidOver ts (getD nodes n []) k m (tyAt ts nodes y) (tag (getD nodes n [])) (trees ts nodes rs))
-    left-line n k y rs s ws l pre post m el em =
+  module _ (same : (y : ℕ) → y < length ts → typeNumber ts (tyAt ts nodes y) ≡ y) where
+    left-line : {d : ℕ} (n k y : ℕ) (rs : Ress) → y < length ts → suits (getD nodes n []) (countRes rs) ≡ true → Wholes ts nodes d rs → (l pre post : List ℕ) (m : ℕ) → l ≡ pre ++ (flat (rleft n k y rs) ++ post) → length pre ≡ 4 * m
+        → nodeLine nodes l (length pre + length (flat (rleft n k y rs))) ≡ printed "node" (saidOver ts (getD nodes n []) k m (tyAt ts nodes y) (tag (getD nodes n [])) (trees ts nodes rs))
+    left-line n k y rs t s ws l pre post m el em =
         let row : List ℕ = getD nodes n [] in
         let at : l ≡ pre ++ (flats rs ++ (leftRow n k (length (flats rs)) y ++ post)) = el ∙ before-row n k y rs pre post in
         let cs : childrenTo l (length pre) (length pre + length (flats rs)) ≡ rootsAll m (trees ts nodes rs) =
         children-are ts nodes rs ws l (length pre) m pre (leftRow n k (length (flats rs)) y ++ post) at (omega arith) em
         ∙ ap (λ (x : List ℕ). x ++ rootsAll m (trees ts nodes rs)) (children-end l (length pre) (length pre) (omega arith)) in
-        line-open types nodes l (length pre + length (flat (rleft n k y rs))) y (left-type n k y rs l pre post el) n k (length pre) (length pre + length (flats rs))
-        (left-stage n k y rs s ws l pre post el) (left-source n k y rs l pre post el) (left-what n k y rs l pre post el) (left-start n k y rs l pre post el) (left-body n k y rs l pre post el)
-        ∙ ap₂ (λ (i : ℕ) (x : List (List ℕ)). printed "node" (digits i ∷ ascii (opName (tag row)) ∷ x)) (sym (same y))
+        line-open nodes l (length pre + length (flat (rleft n k y rs))) y (left-type n k y rs l pre post el) n k (length pre) (length pre + length (flats rs))
+        (left-stage n k y rs t s ws l pre post el) (left-source n k y rs l pre post el) (left-what n k y rs l pre post el) (left-start n k y rs l pre post el) (left-body n k y rs l pre post el)
+        ∙ ap₂ (λ (i : ℕ) (x : List (List ℕ)). printed "node" (digits i ∷ ascii (opName (tag row)) ∷ x)) (sym (same y t))
         (ap (λ (x : List ℕ). leftItems (tag row) row k x (fieldsTo row (length row) l (length pre) (length pre + length (flats rs)))) cs
         ∙ fields-matter (tag row) row k (rootsAll m (trees ts nodes rs)) (fieldsTo row (length row) l (length pre) (length pre + length (flats rs))) (fieldsAll m (drop 1 (items row)) (trees ts nodes rs))
         (λ e. record-fields rs ws row l pre (leftRow n k (length (flats rs)) y ++ post) m at em (record-texts row (countRes rs) s e)))
 
     -- ---- the lines of a tree
 
-    lit-lines : (v y : ℕ) (l pre post : List ℕ) (m : ℕ) → l ≡ pre ++ (flat (rlit v y) ++ post)
-        → linesBy types nodes l (size (tree ts nodes (rlit v y))) (length pre) ≡ nodeLines (treeRows ts m (tree ts nodes (rlit v y)))
+    lit-lines : (v y : ℕ) → y < length ts → (l pre post : List ℕ) (m : ℕ) → l ≡ pre ++ (flat (rlit v y) ++ post)
+        → linesBy nodes l (size (tree ts nodes (rlit v y))) (length pre) ≡ nodeLines (treeRows ts m (tree ts nodes (rlit v y)))
     unfolding treeOf flat rowOf tagOf formOf forms slotAt
-    lit-lines v y l pre post m el =
-        line-once types nodes l (length pre)
+    lit-lines v y t l pre post m el =
+        line-once nodes l (length pre)
         ∙ ap (λ (x : List ℕ). x ∷ [])
-        (line-value types nodes l (length pre + 4) y (ap (λ (x : List ℕ). wordAt x (length pre + 4) 3) el ∙ res-word pre (rlit v y) post 3 (omega arith)) v
-        (ap (λ (x : List ℕ). stageAt x (length pre + 4)) el ∙ stage-is ts nodes (rlit v y) (whole-lit {d = 0}) pre post)
-        ∙ ap (λ (i : ℕ). printed "node" (digits i ∷ ascii "lit" ∷ digits v ∷ [])) (sym (same y)))
+        (line-value nodes l (length pre + 4) y (ap (λ (x : List ℕ). wordAt x (length pre + 4) 3) el ∙ res-word pre (rlit v y) post 3 (omega arith)) v
+        (ap (λ (x : List ℕ). stageAt x (length pre + 4)) el ∙ stage-is ts nodes (rlit v y) (whole-lit {d = 0} t) pre post)
+        ∙ ap (λ (i : ℕ). printed "node" (digits i ∷ ascii "lit" ∷ digits v ∷ [])) (sym (same y t)))
 
-    err-lines : (y : ℕ) (l pre post : List ℕ) (m : ℕ) → l ≡ pre ++ (flat (rerr y) ++ post)
-        → linesBy types nodes l (size (tree ts nodes (rerr y))) (length pre) ≡ nodeLines (treeRows ts m (tree ts nodes (rerr y)))
+    err-lines : (y : ℕ) → y < length ts → (l pre post : List ℕ) (m : ℕ) → l ≡ pre ++ (flat (rerr y) ++ post)
+        → linesBy nodes l (size (tree ts nodes (rerr y))) (length pre) ≡ nodeLines (treeRows ts m (tree ts nodes (rerr y)))
     unfolding treeOf flat rowOf tagOf formOf forms slotAt
-    err-lines y l pre post m el =
-        line-once types nodes l (length pre)
+    err-lines y t l pre post m el =
+        line-once nodes l (length pre)
         ∙ ap (λ (x : List ℕ). x ∷ [])
-        (line-error types nodes l (length pre + 4) y (ap (λ (x : List ℕ). wordAt x (length pre + 4) 3) el ∙ res-word pre (rerr y) post 3 (omega arith))
-        (ap (λ (x : List ℕ). stageAt x (length pre + 4)) el ∙ stage-is ts nodes (rerr y) (whole-err {d = 0}) pre post)
-        ∙ ap (λ (i : ℕ). printed "node" (digits i ∷ ascii "err" ∷ [])) (sym (same y)))
+        (line-error nodes l (length pre + 4) y (ap (λ (x : List ℕ). wordAt x (length pre + 4) 3) el ∙ res-word pre (rerr y) post 3 (omega arith))
+        (ap (λ (x : List ℕ). stageAt x (length pre + 4)) el ∙ stage-is ts nodes (rerr y) (whole-err {d = 0} t) pre post)
+        ∙ ap (λ (i : ℕ). printed "node" (digits i ∷ ascii "err" ∷ [])) (sym (same y t)))
 
-    node-lines : {d : ℕ} (n k y : ℕ) (rs : Ress) → suits (getD nodes n []) (countRes rs) ≡ true → Wholes ts nodes d rs → (l pre post : List ℕ) (m : ℕ) → l ≡ pre ++ (flat (rleft n k y rs) ++ post) → length pre ≡ 4 * m
-        → linesBy types nodes l (sizeAll (trees ts nodes rs)) (length pre) ≡ nodeLines (rowsAll ts m (trees ts nodes rs))
-        → linesBy types nodes l (size (tree ts nodes (rleft n k y rs))) (length pre) ≡ nodeLines (treeRows ts m (tree ts nodes (rleft n k y rs)))
+    node-lines : {d : ℕ} (n k y : ℕ) (rs : Ress) → y < length ts → suits (getD nodes n []) (countRes rs) ≡ true → Wholes ts nodes d rs → (l pre post : List ℕ) (m : ℕ) → l ≡ pre ++ (flat (rleft n k y rs) ++ post) → length pre ≡ 4 * m
+        → linesBy nodes l (sizeAll (trees ts nodes rs)) (length pre) ≡ nodeLines (rowsAll ts m (trees ts nodes rs))
+        → linesBy nodes l (size (tree ts nodes (rleft n k y rs))) (length pre) ≡ nodeLines (treeRows ts m (tree ts nodes (rleft n k y rs)))
     unfolding treeOf
-    node-lines n k y rs s ws l pre post m el em ih =
+    node-lines n k y rs t s ws l pre post m el em ih =
         let row : List ℕ = getD nodes n [] in
         let cs : List (Node ℕ) = trees ts nodes rs in
         let z : size (leftTree row k (tyAt ts nodes y) cs) ≡ suc (sizeAll cs) = left-size row k (tyAt ts nodes y) cs (suited ts nodes n rs s) in
-        let q : length (flat (rleft n k y rs)) ≡ 4 * size (leftTree row k (tyAt ts nodes y) cs) = rows-are ts nodes (rleft n k y rs) (whole-left s ws) in
+        let q : length (flat (rleft n k y rs)) ≡ 4 * size (leftTree row k (tyAt ts nodes y) cs) = rows-are ts nodes (rleft n k y rs) (whole-left t s ws) in
         let one : size (leftTree row k (tyAt ts nodes y) cs) ≡ sizeAll cs + 1 = omega (arith, z) in
         let e : length pre + 4 * sizeAll cs + 4 ≡ length pre + length (flat (rleft n k y rs)) = omega (arith, z, q) in
-        ap (λ (i : ℕ). linesBy types nodes l i (length pre)) one ∙ lines-join types nodes l (sizeAll cs) 1 (length pre)
+        ap (λ (i : ℕ). linesBy nodes l i (length pre)) one ∙ lines-join nodes l (sizeAll cs) 1 (length pre)
         ∙ ap₂ (λ (x x′ : List (List ℕ)). x ++ x′) ih
-        (line-once types nodes l (length pre + 4 * sizeAll cs) ∙ ap (λ (i : ℕ). nodeLine types nodes l i ∷ []) e ∙ ap (λ (x : List ℕ). x ∷ []) (left-line n k y rs s ws l pre post m el em))
+        (line-once nodes l (length pre + 4 * sizeAll cs) ∙ ap (λ (i : ℕ). nodeLine nodes l i ∷ []) e ∙ ap (λ (x : List ℕ). x ∷ []) (left-line n k y rs t s ws l pre post m el em))
         ∙ sym (left-lines ts row k m (tyAt ts nodes y) cs (suited ts nodes n rs s))
 
-    no-lines : (l : List ℕ) (s m : ℕ) → linesBy types nodes l (sizeAll (trees ts nodes rnil)) s ≡ nodeLines (rowsAll ts m (trees ts nodes rnil))
+    no-lines : (l : List ℕ) (s m : ℕ) → linesBy nodes l (sizeAll (trees ts nodes rnil)) s ≡ nodeLines (rowsAll ts m (trees ts nodes rnil))
     unfolding treesOf sizeAll linesBy
     no-lines l s m = refl
 
     more-lines : {d : ℕ} (r : Res) (rs : Ress) → Whole ts nodes d r → (l pre post : List ℕ) (m : ℕ) → l ≡ pre ++ (flat r ++ (flats rs ++ post)) → length pre ≡ 4 * m
-        → linesBy types nodes l (size (tree ts nodes r)) (length pre) ≡ nodeLines (treeRows ts m (tree ts nodes r))
-        → linesBy types nodes l (sizeAll (trees ts nodes rs)) (length (pre ++ flat r)) ≡ nodeLines (rowsAll ts (m + size (tree ts nodes r)) (trees ts nodes rs))
-        → linesBy types nodes l (sizeAll (trees ts nodes (rcons r rs))) (length pre) ≡ nodeLines (rowsAll ts m (trees ts nodes (rcons r rs)))
+        → linesBy nodes l (size (tree ts nodes r)) (length pre) ≡ nodeLines (treeRows ts m (tree ts nodes r))
+        → linesBy nodes l (sizeAll (trees ts nodes rs)) (length (pre ++ flat r)) ≡ nodeLines (rowsAll ts (m + size (tree ts nodes r)) (trees ts nodes rs))
+        → linesBy nodes l (sizeAll (trees ts nodes (rcons r rs))) (length pre) ≡ nodeLines (rowsAll ts m (trees ts nodes (rcons r rs)))
     unfolding treesOf sizeAll
     more-lines r rs w l pre post m el em p q =
         let z : length pre + 4 * size (tree ts nodes r) ≡ length (pre ++ flat r) = omega (arith, next ts nodes r w l pre (flats rs ++ post) m el em) in
-        lines-join types nodes l (size (tree ts nodes r)) (sizeAll (trees ts nodes rs)) (length pre)
-        ∙ ap₂ (λ (x x′ : List (List ℕ)). x ++ x′) p (ap (linesBy types nodes l (sizeAll (trees ts nodes rs))) z ∙ q)
+        lines-join nodes l (size (tree ts nodes r)) (sizeAll (trees ts nodes rs)) (length pre)
+        ∙ ap₂ (λ (x x′ : List (List ℕ)). x ++ x′) p (ap (linesBy nodes l (sizeAll (trees ts nodes rs))) z ∙ q)
         ∙ sym (lines-append (treeRows ts m (tree ts nodes r)) (rowsAll ts (m + size (tree ts nodes r)) (trees ts nodes rs)))
 
     mutual
       tree-lines : {d : ℕ} (r : Res) → Whole ts nodes d r → (l pre post : List ℕ) (m : ℕ) → l ≡ pre ++ (flat r ++ post) → length pre ≡ 4 * m
-          → linesBy types nodes l (size (tree ts nodes r)) (length pre) ≡ nodeLines (treeRows ts m (tree ts nodes r))
-      tree-lines (rlit v y) w l pre post m el em = lit-lines v y l pre post m el
-      tree-lines (rerr y) w l pre post m el em = err-lines y l pre post m el
-      tree-lines (rleft n k y rs) (whole-left s ws) l pre post m el em =
-          node-lines n k y rs s ws l pre post m el em (all-lines rs ws l pre (leftRow n k (length (flats rs)) y ++ post) m (el ∙ before-row n k y rs pre post) em)
+          → linesBy nodes l (size (tree ts nodes r)) (length pre) ≡ nodeLines (treeRows ts m (tree ts nodes r))
+      tree-lines (rlit v y) (whole-lit t) l pre post m el em = lit-lines v y t l pre post m el
+      tree-lines (rerr y) (whole-err t) l pre post m el em = err-lines y t l pre post m el
+      tree-lines (rleft n k y rs) (whole-left t s ws) l pre post m el em =
+          node-lines n k y rs t s ws l pre post m el em (all-lines rs ws l pre (leftRow n k (length (flats rs)) y ++ post) m (el ∙ before-row n k y rs pre post) em)
 
       all-lines : {d : ℕ} (rs : Ress) → Wholes ts nodes d rs → (l pre post : List ℕ) (m : ℕ) → l ≡ pre ++ (flats rs ++ post) → length pre ≡ 4 * m
-          → linesBy types nodes l (sizeAll (trees ts nodes rs)) (length pre) ≡ nodeLines (rowsAll ts m (trees ts nodes rs))
+          → linesBy nodes l (sizeAll (trees ts nodes rs)) (length pre) ≡ nodeLines (rowsAll ts m (trees ts nodes rs))
       all-lines rnil ws l pre post m el em = no-lines l (length pre) m
       all-lines (rcons r rs) (whole-more w ws) l pre post m el em =
           let at : l ≡ pre ++ (flat r ++ (flats rs ++ post)) = el ∙ apart pre r rs post in
@@ -322,11 +322,11 @@ module _ (ts : List Ty) (types nodes : List (List ℕ)) where
     words-all (rcons r rs) (whole-more w ws) = flats-more ts nodes r rs ∙ omega (arith, rows-are ts nodes r w, words-all rs ws)
 
     -- THE LINES OF A LOG OF RESIDUALS ARE THOSE OF THEIR TREES
-    pub log-lines : {d : ℕ} (rs : Ress) → Wholes ts nodes d rs → logLines types nodes (flats rs) ≡ nodeLines (rowsAll ts 0 (trees ts nodes rs))
+    pub log-lines : {d : ℕ} (rs : Ress) → Wholes ts nodes d rs → logLines nodes (flats rs) ≡ nodeLines (rowsAll ts 0 (trees ts nodes rs))
     unfolding logLines
     log-lines rs ws =
         let z : length (flats rs) / 4 ≡ sizeAll (trees ts nodes rs) = omega (arith, words-all rs ws) in
-        ap (λ (n : ℕ). linesBy types nodes (flats rs) n 0) z ∙ all-lines rs ws (flats rs) [] [] 0 (sym (append-nil (flats rs))) refl
+        ap (λ (n : ℕ). linesBy nodes (flats rs) n 0) z ∙ all-lines rs ws (flats rs) [] [] 0 (sym (append-nil (flats rs))) refl
 
 -- the trees under the roots of a run's lines
 abbrev pub treesIn : List NVerdict → List (Node ℕ)

@@ -1,22 +1,20 @@
 -- The lines of residual rows, run by run. Assumes nothing.
 use mathlib.Core.Path.{_≡_, refl, sym, ap, ap₂, _∙_}
-use mathlib.Core.Bool.{Bool, true, false, cond, _||_}
+use mathlib.Core.Bool.{cond}
 use mathlib.Core.List.{List, [], _∷_, _++_, append-nil, append-assoc}
 use Prim.Native.Nat.{ℕ, zero, suc, _+_, _-_, _/_, _≤_, _<_}
 use native.Mathlib.Omega.{arith}
 use native.Mathlib.Decide.{decLe}
-use borrow.Author.Tests.{eq-eqb, ne-eqb, lt-ltb, le-ltb, le-leb, lt-leb}
-use lib.Dec.{leb, ltb}
+use borrow.Author.Tests.{eq-eqb, ne-eqb, le-leb, lt-leb}
+use lib.Dec.{leb}
 use lib.ListN.{length, getD, take, drop, length-drop, drop-of-length-le}
 use lib.Seq.{take-all, drop-drop}
 use Rattle.sheet.specs.Ascii.{ascii}
 use Rattle.sheet.specs.Bytes.{digits}
-use Rattle.sheet.specs.Forms.{lineOr, tag, items, at, TEXT, TYPE, NODE, firstType, mark, asterisk}
-use Rattle.sheet.specs.State.{typeRow}
+use Rattle.sheet.specs.Forms.{lineOr, tag, at, TEXT, NODE, mark, asterisk}
 use Rattle.sheet.specs.Answer.{concat, numbers, itemOut}
-use Rattle.forms.specs.Tags.{VAR, IS, LIKE, GET, HAS, HASPATH, RECORD-OF, BOOL-TYPE, RECORD-TYPE}
+use Rattle.forms.specs.Tags.{VAR, IS, LIKE, GET, HAS, HASPATH, RECORD-OF}
 use Rattle.table.specs.Layout.{rowsOf}
-use Rattle.table.proofs.Rows.{count-rows}
 use Rattle.residual.specs.Rows.{wordAt, stageAt, startAt}
 use Rattle.residual.specs.declared.Stage.{Stage}
 use Rattle.residual.specs.declared.Stage.the-variants.{Value, Error, Open}
@@ -26,7 +24,7 @@ use Rattle.print.specs.Written.{Written}
 use Rattle.print.proofs.Writing.{written-none, written-append, written-as}
 use Rattle.listing.specs.Values.{after}
 use Rattle.listing.specs.Names.{unpadded, opName}
-use Rattle.listing.specs.Nodes.{numberOf, childrenBy, childrenTo, fieldsTo, letter, pieces, restItems, leftItems, leftSaid, leftAt, saidAs, saidAt, saysBool, boolLine, typeIn, nodeLine, linesBy, logLines}
+use Rattle.listing.specs.Nodes.{numberOf, childrenBy, childrenTo, fieldsTo, letter, pieces, restItems, leftItems, leftSaid, leftAt, saidAs, saidAt, nodeLine, linesBy, logLines}
 use Rattle.listing.proofs.Printing.{printing-start, printing-on, printing-end}
 use Rattle.listing.proofs.Made.{Along, commas-after}
 
@@ -250,125 +248,50 @@ module _ (was is : List ℕ) (at next : ℕ) (nodes : List (List ℕ)) (l : List
   pub said-left : s ≡ Open → Written was at (after (leftAt nodes l e)) is next → Written was at (after (saidAt nodes l e)) is next
   said-left h w = written-as w (ap (λ (x : Stage). after (saidAs nodes l e x)) (sym h) ∙ said-as)
 
--- ---- a type
-
-bool-tag : (r : List ℕ) → (leb (tag r) BOOL-TYPE || ltb RECORD-TYPE (tag r)) ≡ saysBool (typeRow r)
-bool-tag r = go (tag r) refl
-  where
-    go : (t : ℕ) → tag r ≡ t → (leb t BOOL-TYPE || ltb RECORD-TYPE t) ≡ saysBool (typeRow r)
-    go zero e = rw e
-    go (suc zero) e = rw e
-    go (suc (suc zero)) e = rw e
-    go (suc (suc (suc zero))) e = rw e
-    go (suc (suc (suc (suc zero)))) e = rw e
-    go (suc (suc (suc (suc (suc zero))))) e = rw e
-    go (suc (suc (suc (suc (suc (suc zero)))))) e = rw e
-    go (suc (suc (suc (suc (suc (suc (suc zero))))))) e = rw e
-    go (suc (suc (suc (suc (suc (suc (suc (suc zero)))))))) e = rw e
-    go (suc (suc (suc (suc (suc (suc (suc (suc (suc t))))))))) e =
-        let n : ℕ = suc (suc (suc (suc (suc (suc (suc (suc (suc t)))))))) in
-        let z : n - firstType ≡ suc (suc (suc (suc (suc (suc t))))) = omega arith in
-        rw (e, lt-leb n BOOL-TYPE (omega arith), lt-ltb RECORD-TYPE n (omega arith), z)
-
-pub says-low : (t : ℕ) → t ≤ BOOL-TYPE → true ≡ (leb t BOOL-TYPE || ltb RECORD-TYPE t)
-says-low t h = rw (le-leb t BOOL-TYPE h)
-
-pub says-high : (t : ℕ) → BOOL-TYPE < t → ltb RECORD-TYPE t ≡ (leb t BOOL-TYPE || ltb RECORD-TYPE t)
-says-high t h = rw (lt-leb t BOOL-TYPE h)
-
--- the lines before place i do not say bool
-pub record Seeking (a : List ℕ) (i n : ℕ) : Type 0 where
-  pub near : i ≤ n
-  pub left : boolLine (rowsOf a TYPE) ≡ i + boolLine (drop i (rowsOf a TYPE))
-
-pub seek-start : (a : List ℕ) (n : ℕ) → Seeking a 0 n
-seek-start a n = record { near = omega arith; left = omega arith }
-
-module _ (a : List ℕ) (n : ℕ) (en : n ≡ getD a TYPE 0) where
-  many : n ≡ length (rowsOf a TYPE)
-  many = en ∙ sym (count-rows a TYPE)
-
-  module _ (i : ℕ) (s : Seeking a i n) where
-    pub seek-end : n ≤ i → n ≡ boolLine (rowsOf a TYPE)
-    unfolding boolLine
-    seek-end h =
-        let z : boolLine (drop i (rowsOf a TYPE)) ≡ 0 = ap boolLine (spent (rowsOf a TYPE) i (omega (arith, many))) in
-        omega (arith, s .near, s .left)
-
-    module _ (h : i < n) (r : List ℕ) (er : r ≡ getD (rowsOf a TYPE) i []) (t : ℕ) (et : t ≡ tag r) (b : Bool) (eb : b ≡ (leb t BOOL-TYPE || ltb RECORD-TYPE t)) where
-      seen : b ≡ saysBool (typeRow (getD (rowsOf a TYPE) i []))
-      seen = eb ∙ ap (λ (x : ℕ). leb x BOOL-TYPE || ltb RECORD-TYPE x) et ∙ bool-tag r ∙ ap (λ (x : List ℕ). saysBool (typeRow x)) er
-
-      from-here : boolLine (drop i (rowsOf a TYPE)) ≡ cond b 0 (suc (boolLine (drop (i + 1) (rowsOf a TYPE))))
-      unfolding boolLine
-      from-here = ap boolLine (uncons (rowsOf a TYPE) [] i (omega (arith, many))) ∙ ap (λ (x : Bool). cond x 0 (suc (boolLine (drop (i + 1) (rowsOf a TYPE))))) (sym seen)
-
-      pub seek-hit : b ≡ true → i ≡ boolLine (rowsOf a TYPE)
-      seek-hit e =
-          let z : boolLine (drop i (rowsOf a TYPE)) ≡ 0 = from-here ∙ rw e in
-          omega (arith, s .left)
-
-      pub seek-on : b ≡ false → Seeking a (i + 1) n
-      seek-on e =
-          let z : boolLine (drop i (rowsOf a TYPE)) ≡ suc (boolLine (drop (i + 1) (rowsOf a TYPE))) = from-here ∙ rw e in
-          record { near = omega arith; left = omega (arith, s .left) }
-
-module _ (a : List ℕ) (n y : ℕ) (en : n ≡ getD a TYPE 0) where
-  count-is : n ≡ length (rowsOf a TYPE)
-  count-is = en ∙ sym (count-rows a TYPE)
-
-  pub type-there : y < n → y ≡ typeIn (rowsOf a TYPE) y
-  unfolding typeIn
-  type-there h = rw (← count-is, lt-ltb y n h)
-
-  pub type-none : (x : ℕ) → n ≤ y → x ≡ boolLine (rowsOf a TYPE) → x ≡ typeIn (rowsOf a TYPE) y
-  unfolding typeIn
-  type-none x h e = e ∙ rw (← count-is, le-ltb y n h)
-
 -- ---- lines
 
-pub node-line : (was w₁ w₂ w₃ is : List ℕ) (at k₁ k₂ k₃ next : ℕ) (a l : List ℕ) (e w y : ℕ) → w ≡ wordAt l e 3 → y ≡ typeIn (rowsOf a TYPE) w → Written was at (110 ∷ 111 ∷ 100 ∷ 101 ∷ []) w₁ k₁
-    → Written w₁ k₁ (61 ∷ digits y) w₂ k₂ → Written w₂ k₂ (after (saidAt (rowsOf a NODE) l e)) w₃ k₃ → Written w₃ k₃ (10 ∷ []) is next → Written was at (nodeLine (rowsOf a TYPE) (rowsOf a NODE) l e) is next
+pub node-line : (was w₁ w₂ w₃ is : List ℕ) (at k₁ k₂ k₃ next : ℕ) (a l : List ℕ) (e y : ℕ) → y ≡ wordAt l e 3 → Written was at (110 ∷ 111 ∷ 100 ∷ 101 ∷ []) w₁ k₁
+    → Written w₁ k₁ (61 ∷ digits y) w₂ k₂ → Written w₂ k₂ (after (saidAt (rowsOf a NODE) l e)) w₃ k₃ → Written w₃ k₃ (10 ∷ []) is next → Written was at (nodeLine (rowsOf a NODE) l e) is next
 unfolding nodeLine
-node-line was w₁ w₂ w₃ is at k₁ k₂ k₃ next a l e w y ew ey p q r s =
+node-line was w₁ w₂ w₃ is at k₁ k₂ k₃ next a l e y ey p q r s =
     written-as (written-append p (written-append q (written-append r s)))
-    (ap (λ (z : ℕ). (110 ∷ 111 ∷ 100 ∷ 101 ∷ []) ++ ((61 ∷ digits z) ++ (after (saidAt (rowsOf a NODE) l e) ++ (10 ∷ [])))) (ey ∙ ap (typeIn (rowsOf a TYPE)) ew)
+    (ap (λ (z : ℕ). (110 ∷ 111 ∷ 100 ∷ 101 ∷ []) ++ ((61 ∷ digits z) ++ (after (saidAt (rowsOf a NODE) l e) ++ (10 ∷ [])))) ey
     ∙ ap (λ (z : List ℕ). (110 ∷ 111 ∷ 100 ∷ 101 ∷ 61 ∷ []) ++ z)
-    (sym (append-assoc (digits (typeIn (rowsOf a TYPE) (wordAt l e 3))) (after (saidAt (rowsOf a NODE) l e)) (10 ∷ []))
-    ∙ ap (λ (z : List ℕ). z ++ (10 ∷ [])) (sym (commas-after (digits (typeIn (rowsOf a TYPE) (wordAt l e 3))) (saidAt (rowsOf a NODE) l e)))))
+    (sym (append-assoc (digits (wordAt l e 3)) (after (saidAt (rowsOf a NODE) l e)) (10 ∷ []))
+    ∙ ap (λ (z : List ℕ). z ++ (10 ∷ [])) (sym (commas-after (digits (wordAt l e 3)) (saidAt (rowsOf a NODE) l e)))))
 
-module _ (types nodes : List (List ℕ)) (l : List ℕ) where
+module _ (nodes : List (List ℕ)) (l : List ℕ) where
   -- the rows from word s on
   abbrev pub linesFrom : ℕ → List ℕ
-  linesFrom s = concat (linesBy types nodes l ((length l - s) / 4) s)
+  linesFrom s = concat (linesBy nodes l ((length l - s) / 4) s)
 
-  lines-on : (s : ℕ) → 4 ≤ length l - s → linesFrom s ≡ nodeLine types nodes l (s + 4) ++ linesFrom (s + 4)
+  lines-on : (s : ℕ) → 4 ≤ length l - s → linesFrom s ≡ nodeLine nodes l (s + 4) ++ linesFrom (s + 4)
   unfolding linesBy
   lines-on s h =
       let z : (length l - s) / 4 ≡ suc ((length l - (s + 4)) / 4) = omega arith in
-      ap (λ (n : ℕ). concat (linesBy types nodes l n s)) z
+      ap (λ (n : ℕ). concat (linesBy nodes l n s)) z
 
   lines-over : (s : ℕ) → length l - s < 4 → linesFrom s ≡ []
   unfolding linesBy
   lines-over s h =
       let z : (length l - s) / 4 ≡ 0 = omega arith in
-      ap (λ (n : ℕ). concat (linesBy types nodes l n s)) z
+      ap (λ (n : ℕ). concat (linesBy nodes l n s)) z
 
   pub lines-start : (was : List ℕ) (at : ℕ) → at ≤ 18446744073709551615 → length was ≤ 18446744073709551615
-      → Along (concat (logLines types nodes l)) (linesFrom 0) was at was at 0 (length l)
+      → Along (concat (logLines nodes l)) (linesFrom 0) was at was at 0 (length l)
   unfolding logLines
   lines-start was at h g =
       let z : length l ≡ length l - 0 = omega arith in
-      record { near = omega arith; print = printing-start (concat (logLines types nodes l)) (linesFrom 0) was at (ap (λ (n : ℕ). concat (linesBy types nodes l (n / 4) 0)) z) h g }
+      record { near = omega arith; print = printing-start (concat (logLines nodes l)) (linesFrom 0) was at (ap (λ (n : ℕ). concat (linesBy nodes l (n / 4) 0)) z) h g }
 
-  module _ (s : ℕ) (was is : List ℕ) (at next : ℕ) (p : Along (concat (logLines types nodes l)) (linesFrom s) was at is next s (length l)) where
-    pub lines-more : (out : List ℕ) (then : ℕ) → 4 ≤ length l - s → Written is next (nodeLine types nodes l (s + 4)) out then
-        → Along (concat (logLines types nodes l)) (linesFrom (s + 4)) was at out then (s + 4) (length l)
+  module _ (s : ℕ) (was is : List ℕ) (at next : ℕ) (p : Along (concat (logLines nodes l)) (linesFrom s) was at is next s (length l)) where
+    pub lines-more : (out : List ℕ) (then : ℕ) → 4 ≤ length l - s → Written is next (nodeLine nodes l (s + 4)) out then
+        → Along (concat (logLines nodes l)) (linesFrom (s + 4)) was at out then (s + 4) (length l)
     lines-more out then h w =
         record {
           near = omega (arith, p .near);
-          print = printing-on (p .print) (nodeLine types nodes l (s + 4)) (linesFrom (s + 4)) out then (lines-on s h) w;
+          print = printing-on (p .print) (nodeLine nodes l (s + 4)) (linesFrom (s + 4)) out then (lines-on s h) w;
         }
 
-    pub lines-end : length l - s < 4 → Written was at (concat (logLines types nodes l)) is next
+    pub lines-end : length l - s < 4 → Written was at (concat (logLines nodes l)) is next
     lines-end h = printing-end (p .print) (lines-over s h)

@@ -15,7 +15,7 @@ use Rattle.sheet.specs.Bytes.{digits}
 use Rattle.sheet.specs.Forms.{Slot, line, lineOr, forms, formOf, slotAt, tagOf, tag, items, at, mark, firstNode, TEXT, asterisk}
 use Rattle.sheet.specs.Content.{varOf, patternOf}
 use Rattle.sheet.specs.Answer.{printed, numbers, size, root, roots, argRoots, patternItems, varNumber, typeNumber, treeRows, allRows, argRows, itemOut, itemsOut, nodeItems, nodeLines}
-use Rattle.sheet.proofs.Slots.{like-slot, path-slot, set-slot, name-slot, field-slot}
+use Rattle.sheet.proofs.reading.Slots.{like-slot, path-slot, set-slot, name-slot, field-slot}
 use Rattle.forms.specs.Tags.{LIT, VAR, AND, OR, EQ, LT, LE, ADD, SUB, MUL, IN, GETTAG, HASTAG, CONTAINS, ALL, ANY, IF, IS, LIKE, GET, HAS, HASPATH, NOT, NEG, EMPTY, SET-OF, RECORD-OF}
 use Rattle.residual.specs.Trees.{nodesOf, argsOf, leftFor, leftTree, suitsFor, suits}
 use Rattle.listing.specs.Names.{opName}

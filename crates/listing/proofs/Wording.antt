@@ -12,8 +12,8 @@ use Rattle.sheet.specs.Ascii.{ascii}
 use Rattle.sheet.specs.Bytes.{same}
 use Rattle.sheet.specs.Forms.{forms, formOf, noTag, firstNode}
 use Rattle.forms.specs.Tags.{LIT, ERR, VAR, AND, OR, EQ, LT, LE, ADD, SUB, MUL, IN, GETTAG, HASTAG, CONTAINS, ALL, ANY, IF, IS, LIKE, GET, HAS, HASPATH, NOT, NEG, EMPTY, SET-OF, RECORD-OF, SLOT, PART-P, PART-A, PART-R}
-use Rattle.sheet.proofs.Parsed.{allBelow, all-below, past-table}
-use Rattle.sheet.proofs.TwoSheets.{same-is}
+use Rattle.sheet.proofs.reading.Parsed.{allBelow, all-below, past-table}
+use Rattle.sheet.proofs.demand3.TwoSheets.{same-is}
 use Rattle.forms.proofs.Tests.{other, NoneOf, none-of}
 use Rattle.value.proofs.Lists.{uncons, spent}
 use Rattle.print.specs.Written.{Written}

@@ -1,13 +1,12 @@
 -- What is printed of the residuals that a log holds: a line for each of its rows, in order.
-use mathlib.Core.Bool.{Bool, true, false, cond, _||_}
+use mathlib.Core.Bool.{cond, _||_}
 use mathlib.Core.List.{List, [], _∷_, _++_}
 use Prim.Native.Nat.{ℕ, zero, suc, _+_, _-_, _/_}
-use lib.Dec.{eqb, leb, ltb}
+use lib.Dec.{eqb, leb}
 use lib.ListN.{length, getD, drop}
 use Rattle.sheet.specs.Ascii.{ascii}
 use Rattle.sheet.specs.Bytes.{digits}
 use Rattle.sheet.specs.Forms.{lineOr, tag, items, at, asterisk, TEXT}
-use Rattle.sheet.specs.State.{TypeRow, bool, long, string, entity, set′, record′, typeRow}
 use Rattle.sheet.specs.Answer.{printed, numbers, itemOut}
 use Rattle.forms.specs.Tags.{VAR, IS, LIKE, GET, HAS, HASPATH, RECORD-OF}
 use Rattle.residual.specs.Rows.{wordAt, stageAt, startAt}
@@ -77,30 +76,12 @@ module _ (nodes : List (List ℕ)) (l : List ℕ) where
   unfoldable pub saidAt : ℕ → List (List ℕ)
   saidAt e = saidAs e (stageAt l e)
 
--- ---- its type: the number of a line; a number that no line has is read as bool's
+-- ---- lines, over the sheet's nodes
 
-abbrev pub saysBool : TypeRow → Bool
-saysBool bool = true
-saysBool long = false
-saysBool string = false
-saysBool (entity k ks) = false
-saysBool (set′ y) = false
-saysBool (record′ ds) = false
-
--- the first line that says bool
-unfoldable pub boolLine : List (List ℕ) → ℕ
-boolLine [] = 0
-boolLine (r ∷ rs) = cond (saysBool (typeRow r)) 0 (suc (boolLine rs))
-
-unfoldable pub typeIn : List (List ℕ) → ℕ → ℕ
-typeIn types y = cond (ltb y (length types)) y (boolLine types)
-
--- ---- lines, over the sheet's types and nodes
-
-module _ (types nodes : List (List ℕ)) (l : List ℕ) where
+module _ (nodes : List (List ℕ)) (l : List ℕ) where
   -- of the row that ends at e
   unfoldable pub nodeLine : ℕ → List ℕ
-  nodeLine e = printed "node" (digits (typeIn types (wordAt l e 3)) ∷ saidAt nodes l e)
+  nodeLine e = printed "node" (digits (wordAt l e 3) ∷ saidAt nodes l e)
 
   -- of n rows, from the one that begins at s on
   unfoldable pub linesBy : ℕ → ℕ → List (List ℕ)

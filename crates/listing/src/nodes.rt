@@ -4,7 +4,6 @@ use crate::names::op_name;
 use crate::names::part_name;
 use crate::number_after;
 use crate::values::numbers;
-use forms::BOOL_TYPE;
 use forms::GET;
 use forms::HAS;
 use forms::HASPATH;
@@ -13,8 +12,6 @@ use forms::LIKE;
 use forms::MARK;
 use forms::NODE;
 use forms::RECORD_OF;
-use forms::RECORD_TYPE;
-use forms::TYPE;
 use forms::VAR;
 use print::byte;
 use print::bytes;
@@ -22,24 +19,20 @@ use residual::Stage;
 use residual::stage_at;
 use residual::start_at;
 use residual::word_at;
-use table::count;
 use table::item;
 use table::row;
 use table::tag;
 ghost use mathlib.Core.Path.{_≡_};
-ghost use mathlib.Core.Bool.{_||_};
 ghost use mathlib.Core.List.{_∷_};
 ghost use Prim.Native.Nat.{_+_, _-_};
-ghost use lib.Dec.{leb, ltb};
 ghost use lib.ListN.{length, getD, drop};
 ghost use Rattle.table.specs.Layout.{rowsOf};
 ghost use Rattle.print.specs.Written.{Written};
 ghost use Rattle.sheet.specs.Bytes.{digits};
-ghost use Rattle.sheet.specs.Forms.{tag, lineOr, TEXT, TYPE, NODE, asterisk};
+ghost use Rattle.sheet.specs.Forms.{tag, lineOr, TEXT, NODE, asterisk};
 ghost use Rattle.sheet.specs.Answer.{numbers, itemOut, concat};
-ghost use Rattle.forms.specs.Tags.{BOOL-TYPE, RECORD-TYPE};
 ghost use Rattle.listing.specs.Values.{after};
-ghost use Rattle.listing.specs.Nodes.{numberOf, childrenTo, fieldsTo, letter, pieces, restItems, leftItems, leftSaid, leftAt, saidAt, boolLine, typeIn, nodeLine, logLines};
+ghost use Rattle.listing.specs.Nodes.{numberOf, childrenTo, fieldsTo, letter, pieces, restItems, leftItems, leftSaid, leftAt, saidAt, nodeLine, logLines};
 
 // Where the row that ends at `end` begins.
 fn before(end: usize) -> usize
@@ -243,48 +236,11 @@ fn said_at(out: &mut [u8], at: usize, rows: &[u32], log: &[u32], end: usize) -> 
     }
 }
 
-// Whether a type line of this form says bool; a number that no form of types has is read so.
-fn says_bool(form: u32) -> bool
-    ensures { λ r. ⌜ r ≡ leb form BOOL-TYPE || ltb RECORD-TYPE form ⌝ }
-{
-    if form <= BOOL_TYPE {
-        return true;
-    }
-    form > RECORD_TYPE
-}
-
-// The first type line that says bool, or how many lines there are.
-fn bool_line(rows: &[u32]) -> u32
-    ensures { λ r. ⌜ r ≡ boolLine (rowsOf (now (rows .entry)) TYPE) ⌝ }
-{
-    let n = count(rows, TYPE);
-    let mut i = 0;
-    loop {
-        if i >= n {
-            break n;
-        }
-        if says_bool(tag(row(rows, TYPE, i))) {
-            break i;
-        }
-        i += 1;
-    }
-}
-
-// The number of a type's line; a number that no line has is read as bool's.
-fn type_in(rows: &[u32], ty: u32) -> u32
-    ensures { λ r. ⌜ r ≡ typeIn (rowsOf (now (rows .entry)) TYPE) ty ⌝ }
-{
-    if ty < count(rows, TYPE) {
-        return ty;
-    }
-    bool_line(rows)
-}
-
 // The line of the row that ends at `end`.
 fn node_line(out: &mut [u8], at: usize, rows: &[u32], log: &[u32], end: usize) -> usize
-    ensures { λ r. ⌜ Written (now (out .entry)) at (nodeLine (rowsOf (now (rows .entry)) TYPE) (rowsOf (now (rows .entry)) NODE) (now (log .entry)) end) (now (out .exit)) r ⌝ }
+    ensures { λ r. ⌜ Written (now (out .entry)) at (nodeLine (rowsOf (now (rows .entry)) NODE) (now (log .entry)) end) (now (out .exit)) r ⌝ }
 {
-    let y = type_in(rows, word_at(log, end, 3));
+    let y = word_at(log, end, 3);
     let k = bytes(out, at, b"node");
     let l = number_after(out, k, b'=', y as u64);
     let m = said_at(out, l, rows, log, end);
@@ -293,7 +249,7 @@ fn node_line(out: &mut [u8], at: usize, rows: &[u32], log: &[u32], end: usize) -
 
 // The lines of all rows.
 pub fn node_lines(out: &mut [u8], at: usize, rows: &[u32], log: &[u32]) -> usize
-    ensures { λ r. ⌜ Written (now (out .entry)) at (concat (logLines (rowsOf (now (rows .entry)) TYPE) (rowsOf (now (rows .entry)) NODE) (now (log .entry)))) (now (out .exit)) r ⌝ }
+    ensures { λ r. ⌜ Written (now (out .entry)) at (concat (logLines (rowsOf (now (rows .entry)) NODE) (now (log .entry)))) (now (out .exit)) r ⌝ }
 {
     let mut s = 0;
     let mut k = at;

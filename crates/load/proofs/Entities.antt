@@ -14,8 +14,8 @@ use Rattle.sheet.specs.Bytes.{same, starts, split, printable}
 use Rattle.sheet.specs.Forms.{Mode, forms, formOf, tagOf, keys, keyOf, counted, itemsFrom, orEmpty, rowOf, ENTITY, PRINCIPAL}
 use Rattle.sheet.specs.State.{State, linesOf, count, before, sum}
 use Rattle.sheet.specs.Sheet.{Reading, fault, more, reads, firstUnfit, entitiesFit, beforeLine}
-use Rattle.sheet.proofs.Lines.{AllFit, passed, later-empty, lines-more}
-use Rattle.sheet.proofs.EntitiesEnd.{fit-more, fit-passes}
+use Rattle.sheet.proofs.reading.Lines.{AllFit, passed, later-empty, lines-more}
+use Rattle.sheet.proofs.reading.EntitiesEnd.{fit-more, fit-passes}
 use Rattle.forms.specs.Tags.{ENTITY-LINE}
 use Rattle.table.specs.Layout.{rowsOf, held}
 use Rattle.table.proofs.Rows.{count-held, lines-held}

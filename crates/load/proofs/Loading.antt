@@ -21,8 +21,8 @@ use Rattle.sheet.specs.Forms.{Mode, forms, formOf, tagOf, keyOf, itemsFrom, cou
 use Rattle.forms.specs.Tags.{DAY-LINE}
 use Rattle.sheet.specs.State.{State, empty, linesOf, count, before, sum}
 use Rattle.sheet.specs.Sheet.{Reading, least, enough, reach, firstUnused, firstUnlinked, reads, ending, fault, more, goOn, beforeLine, reading, readingOn, read}
-use Rattle.sheet.proofs.Lines.{AllFit}
-use Rattle.sheet.proofs.EntitiesEnd.{firstPart, reading-before, starts-entity}
+use Rattle.sheet.proofs.reading.Lines.{AllFit}
+use Rattle.sheet.proofs.reading.EntitiesEnd.{firstPart, reading-before, starts-entity}
 use Rattle.table.specs.Layout.{part, RUN, MADE, TOP, TYPEDEPTHS, USES, SPENT, heap, rowsAt, rowsOf, linesHeld, depthsHeld, depthsAt, held, depthBase, depthsIn}
 use Rattle.table.proofs.Rows.{limit-small, lines-held, count-held}
 use Rattle.table.proofs.Held.{tab-same, linesIn, lines-tab, depths-tab, counts-held}

@@ -10,12 +10,12 @@ use Rattle.sheet.specs.Forms.{Mode, forms, formOf, counted, itemsFrom, tag, key
 use Rattle.sheet.specs.State.{State, linesOf}
 use Rattle.sheet.specs.Sheet.{read}
 use Rattle.sheet.specs.Content.{onTerm}
-use Rattle.sheet.proofs.Lines.{Was, accepted-history}
-use Rattle.sheet.proofs.Parsed.{parsed, counted-plain, tags-between}
-use Rattle.sheet.proofs.NodeRows.{plain-slots}
-use Rattle.sheet.proofs.ValueRows.{items-length}
-use Rattle.sheet.proofs.PoliciesRead.{policy-tags}
-use Rattle.sheet.proofs.OnTerm.{Each, none, more, each-line, same-term}
+use Rattle.sheet.proofs.reading.Lines.{Was, accepted-history}
+use Rattle.sheet.proofs.reading.Parsed.{parsed, counted-plain, tags-between}
+use Rattle.sheet.proofs.reading.NodeRows.{plain-slots}
+use Rattle.sheet.proofs.content.ValueRows.{items-length}
+use Rattle.sheet.proofs.content.PoliciesRead.{policy-tags}
+use Rattle.sheet.proofs.content.OnTerm.{Each, none, more, each-line, same-term}
 use Rattle.forms.specs.Tags.{POLICY-LINE}
 use Rattle.table.specs.Layout.{POLICY-WORDS, rowsOf, held}
 use Rattle.table.proofs.Rows.{lines-held, count-rows}

@@ -11,8 +11,8 @@ use lib.Seq.{take-all}
 use Rattle.sheet.specs.Forms.{Mode, partial, complete}
 use Rattle.sheet.specs.Sheet.{read}
 use Rattle.sheet.specs.Call.{Returned, returns, room, lentThen, shortThen, readThen, checkedThen, returned}
-use Rattle.sheet.proofs.Lines.{zero-not-suc}
-use Rattle.sheet.proofs.Checked.{lent-by, short-by, checked-by}
+use Rattle.sheet.proofs.reading.Lines.{zero-not-suc}
+use Rattle.sheet.proofs.reading.Checked.{lent-by, short-by, checked-by}
 use Rattle.finished.specs.Finish.{breakingLine, finishedAnswer, atLine, finishReturned}
 use Rattle.paged.specs.Page.{pageReturned}
 use Rattle.previewed.specs.Preview.{previewReturned}

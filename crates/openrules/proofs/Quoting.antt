@@ -15,8 +15,8 @@ use Rattle.sheet.specs.Forms.{partial}
 use Rattle.sheet.specs.Sheet.{read}
 use Rattle.sheet.specs.Answer.{decisionWord}
 use Rattle.sheet.specs.Call.{Returned, returns, room, shortThen, readThen, over}
-use Rattle.sheet.proofs.Lines.{zero-not-suc}
-use Rattle.sheet.proofs.Checked.{lent-by, short-by}
+use Rattle.sheet.proofs.reading.Lines.{zero-not-suc}
+use Rattle.sheet.proofs.reading.Checked.{lent-by, short-by}
 use Rattle.print.specs.Written.{Written}
 use Rattle.print.proofs.Writing.{written-none, written-append, written-as, written-over}
 use Rattle.staff.specs.Firm.{Row, rowsThen, fitThen, firmReturned, firmRows, firmGroup, filledRows}

@@ -15,9 +15,9 @@ use Rattle.sheet.specs.State.{State}
 use Rattle.sheet.specs.Sheet.{read}
 use Rattle.sheet.specs.Answer.{answer}
 use Rattle.sheet.specs.Call.{Returned, returns, room, shortThen, checkedThen, returned, over, outputs, written}
-use Rattle.sheet.proofs.Lines.{zero-not-suc}
-use Rattle.sheet.proofs.Checked.{lent-by, short-by, checked-by}
-use Rattle.sheet.proofs.Buffers.{accepted-whole}
+use Rattle.sheet.proofs.reading.Lines.{zero-not-suc}
+use Rattle.sheet.proofs.reading.Checked.{lent-by, short-by, checked-by}
+use Rattle.sheet.proofs.answer.Buffers.{accepted-whole}
 use Rattle.print.specs.Written.{Written}
 use Rattle.print.proofs.Writing.{written-append, written-as, written-over, digits-few}
 use Rattle.authorizer.specs.Called.{Called}

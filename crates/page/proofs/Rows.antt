@@ -15,7 +15,7 @@ use Rattle.sheet.specs.Bytes.{digits}
 use Rattle.sheet.specs.Forms.{at}
 use Rattle.sheet.specs.Answer.{concat, effectWord, classWord}
 use Rattle.sheet.specs.ReadAnswer.{PolicyLine}
-use Rattle.sheet.proofs.LinesBack.{concat-append}
+use Rattle.sheet.proofs.answer.LinesBack.{concat-append}
 use Rattle.forms.specs.Tags.{PERMIT}
 use Rattle.table.specs.Layout.{RUN, rowsOf, textAt}
 use Rattle.table.proofs.Rows.{count-rows}

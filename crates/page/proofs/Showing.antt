@@ -17,7 +17,7 @@ use Rattle.sheet.specs.Sheet.{firsts, read}
 use Rattle.sheet.specs.Answer.{size, ids, run}
 use Rattle.sheet.specs.ReadAnswer.{PolicyLine}
 use Rattle.sheet.specs.Call.{room, returns, fitted}
-use Rattle.sheet.proofs.AnswerBack.{lineWith, partialPolicies}
+use Rattle.sheet.proofs.answer.AnswerBack.{lineWith, partialPolicies}
 use Rattle.table.specs.Layout.{RUN, rowsOf, textRows, textAt, linesHeld, held}
 use Rattle.residual.specs.Classes.{rootsOf}
 use Rattle.print.specs.Written.{Written}

@@ -12,7 +12,7 @@ use Rattle.sheet.specs.Content.{types, valueRows, contents, schema, trees, expr
 use Rattle.sheet.specs.Answer.{run}
 use Rattle.sheet.specs.Call.{returns}
 use Rattle.paged.specs.Page.{pageReturned}
-use Rattle.sheet.proofs.Shown.{bytes}
+use Rattle.sheet.proofs.answer.Shown.{bytes}
 
 -- a sheet up to its day, and its day, nodes and policies
 unfoldable head : List ℕ

@@ -14,8 +14,8 @@ use Rattle.sheet.specs.Sheet.{read}
 use Rattle.sheet.specs.Answer.{answer}
 use Rattle.sheet.specs.Call.{Returned, returns, room, lentThen, refusedThen, checkedThen, fitted, returned, over, Accepted}
 use Rattle.cedar.proofs.Tools.{no-true}
-use Rattle.sheet.proofs.Lines.{zero-not-suc}
-use Rattle.sheet.proofs.Checked.{lent-by, checked-by, accepted-from, passes}
+use Rattle.sheet.proofs.reading.Lines.{zero-not-suc}
+use Rattle.sheet.proofs.reading.Checked.{lent-by, checked-by, accepted-from, passes}
 use Rattle.paged.specs.Page.{page, pageBytes, pageReturned, pageWritten}
 use Rattle.paged.proofs.PageLength.{page-length}
 

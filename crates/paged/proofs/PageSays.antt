@@ -14,11 +14,11 @@ use Rattle.sheet.specs.Call.{Accepted}
 use Rattle.sheet.specs.ReadAnswer.{Said, readAnswer}
 use Rattle.sheet.specs.Demand3.{Answered, bytesOf}
 use Rattle.paged.specs.Page.{policyRow, idText, policyRows, pageWith, page, saidRows, pageOf}
-use Rattle.sheet.proofs.MadeCount.{size-least}
-use Rattle.sheet.proofs.AnswerBack.{partialPolicies}
-use Rattle.sheet.proofs.AnswerRead.{partialSaid, partial-answer-back}
-use Rattle.sheet.proofs.Demand3Answers.{accepted}
-use Rattle.sheet.proofs.Buffers.{bytes-are}
+use Rattle.sheet.proofs.running.MadeCount.{size-least}
+use Rattle.sheet.proofs.answer.AnswerBack.{partialPolicies}
+use Rattle.sheet.proofs.answer.AnswerRead.{partialSaid, partial-answer-back}
+use Rattle.sheet.proofs.demand3.Demand3Answers.{accepted}
+use Rattle.sheet.proofs.answer.Buffers.{bytes-are}
 
 said-rows : (s : State) (n : ℕ) (is : List ℕ) (ls : List NVerdict) → saidRows (idText s) n (partialPolicies n is ls) ≡ policyRows s is ls
 said-rows s n [] ls = refl

@@ -16,10 +16,10 @@ use Rattle.sheet.specs.Call.{Returned, returns, room, lentThen, shortThen, chec
 use Rattle.sheet.specs.Demand3.{Answered, bytesOf}
 use Rattle.previewed.specs.Preview.{edited, mayEdit, editThen, previewReturned, previewWritten}
 use Rattle.previewed.specs.Tried.{Tried, bytesTried}
-use Rattle.sheet.proofs.Lines.{zero-not-suc}
-use Rattle.sheet.proofs.Checked.{lent-by, short-by, checked-by}
-use Rattle.sheet.proofs.Refusals.{read-small}
-use Rattle.sheet.proofs.AnswerLength.{mostAnswer, answer-most}
+use Rattle.sheet.proofs.reading.Lines.{zero-not-suc}
+use Rattle.sheet.proofs.reading.Checked.{lent-by, short-by, checked-by}
+use Rattle.sheet.proofs.reading.Refusals.{read-small}
+use Rattle.sheet.proofs.answer.AnswerLength.{mostAnswer, answer-most}
 
 module _ (sheet : List ℕ) (n : ℕ) (new : List ℕ) where
   abbrev copy : List ℕ

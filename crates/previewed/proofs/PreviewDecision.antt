@@ -16,11 +16,11 @@ use Rattle.sheet.specs.Demand3.{Answered, bytesOf}
 use Rattle.sheet.specs.Agreement.{agrees}
 use Rattle.previewed.specs.Preview.{edited, mayEdit}
 use Rattle.previewed.specs.Tried.{Tried, bytesTried, Opposite, allow-deny, deny-allow, NeverOpposite}
-use Rattle.sheet.proofs.AnswerRead.{partialSaid, partial-answer-back}
-use Rattle.sheet.proofs.Buffers.{bytes-are}
-use Rattle.sheet.proofs.Checked.{accepted-read}
-use Rattle.sheet.proofs.Demand3Answers.{accepted}
-use Rattle.sheet.proofs.Demand3Bytes.{Settles, demand-3}
+use Rattle.sheet.proofs.answer.AnswerRead.{partialSaid, partial-answer-back}
+use Rattle.sheet.proofs.answer.Buffers.{bytes-are}
+use Rattle.sheet.proofs.reading.Checked.{accepted-read}
+use Rattle.sheet.proofs.demand3.Demand3Answers.{accepted}
+use Rattle.sheet.proofs.demand3.Demand3Bytes.{Settles, demand-3}
 use Rattle.previewed.proofs.PreviewCall.{tried-may, answered, tried-bytes}
 use Rattle.previewed.proofs.PreviewSheets.{edited-filled, kept-agrees}
 

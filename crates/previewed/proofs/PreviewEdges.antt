@@ -12,7 +12,7 @@ use Rattle.sheet.specs.Content.{types, valueRows, contents, schema, trees, expr
 use Rattle.sheet.specs.Answer.{run, results, answer}
 use Rattle.sheet.specs.Call.{returns, returned}
 use Rattle.cedar.specs.Canonical.{order, same, place, insert, ascending, makeSet}
-use Rattle.sheet.proofs.Shown.{bytes, shownFor}
+use Rattle.sheet.proofs.answer.Shown.{bytes, shownFor}
 use Rattle.previewed.specs.Preview.{edited, fills, mayEdit, previewReturned}
 
 -- a line's number, its replacement, and what is shown: the answer, or `refused=number,line,length`
@@ -140,6 +140,7 @@ others-kept =
     ∷ kept "principal=0,?/" (try 2 "principal=0,7" "refused=12,2,0/")
     ∷ kept "principal=0,?/" (try 1 "principal=0,=" "refused=3,1,0/")
     ∷ kept "entity=?,1,2,3/" (try 1 "entity=5,1,2,3" "refused=3,1,0/")
+    ∷ kept "action=1,?/" (try 1 "action=1,7" "refused=12,1,0/")
     ∷ []
 
 others : keptAll others-kept ≡ keptSay others-kept

@@ -1,16 +1,16 @@
 -- Lines put together and taken apart again: the copy of a preview has the sheet's lines, but for the one replaced.
 use mathlib.Core.Path.{_≡_, refl, sym, _∙_, ap}
 use mathlib.Core.Bool.{Bool, true, false, cond, not}
-use mathlib.Core.List.{List, [], _∷_, _++_}
+use mathlib.Core.List.{List, [], _∷_}
 use Prim.Native.Nat.{ℕ, zero, suc, _-_}
 use borrow.Author.Tests.{eq-eqb, ne-eqb, not-true}
 use lib.Dec.{eqb}
 use lib.ListN.{set}
-use Rattle.cedar.proofs.Tools.{no-true, and-both, neither}
+use Rattle.cedar.proofs.Tools.{no-true, neither}
 use Rattle.cedar.specs.Types.{among}
 use Rattle.sheet.specs.Bytes.{split, ahead}
 use Rattle.previewed.specs.Preview.{joinLines, edited}
-use Rattle.sheet.proofs.LinesBack.{lacks}
+use Rattle.sheet.proofs.answer.LinesBack.{lacks, split-one, split-two}
 
 -- no part has a byte 10
 abbrev pub allLack : List (List ℕ) → Type 0
@@ -38,14 +38,6 @@ set-lacks [] i new h e = tt
 set-lacks (l ∷ ls) zero new h e = (e, h .1)
 set-lacks (l ∷ ls) (suc i) new h e = (h .0, set-lacks ls i new (h .1) e)
 
-split-alone : (l : List ℕ) → lacks 10 l ≡ true → split 10 l ≡ l ∷ []
-split-alone [] e = refl
-split-alone (x ∷ l) e = and-both (not (eqb x 10)) (lacks 10 l) e (λ p q. rw (not-true (eqb x 10) p, split-alone l q))
-
-split-more : (l k : List ℕ) → lacks 10 l ≡ true → split 10 (l ++ (10 ∷ k)) ≡ l ∷ split 10 k
-split-more [] k e = refl
-split-more (x ∷ l) k e = and-both (not (eqb x 10)) (lacks 10 l) e (λ p q. rw (not-true (eqb x 10) p, split-more l k q))
-
 -- at least one line
 abbrev pub NotNone : List (List ℕ) → Type 0
 NotNone [] = ⊥
@@ -53,8 +45,8 @@ NotNone (l ∷ ls) = Unit {0}
 
 pub split-join : (ls : List (List ℕ)) → NotNone ls → allLack ls → split 10 (joinLines ls) ≡ ls
 split-join [] n h = absurd n
-split-join (l ∷ []) n h = split-alone l (h .0)
-split-join (l ∷ k ∷ ls) n h = split-more l (joinLines (k ∷ ls)) (h .0) ∙ ap (λ z. l ∷ z) (split-join (k ∷ ls) tt (h .1))
+split-join (l ∷ []) n h = split-one 10 l (h .0)
+split-join (l ∷ k ∷ ls) n h = split-two 10 l (joinLines (k ∷ ls)) (h .0) ∙ ap (λ z. l ∷ z) (split-join (k ∷ ls) tt (h .1))
 
 pub split-some : (l : List ℕ) → NotNone (split 10 l)
 split-some [] = tt

@@ -15,8 +15,8 @@ use Rattle.sheet.specs.Bytes.{upTo, split, same, printable, index}
 use Rattle.sheet.specs.Typing.{unknownOr}
 use Rattle.sheet.specs.Forms.{partial, Slot, entry, line, lineOr, lineUnknown, word, number, day, nothing, keys, forms, formOf, slotAt, counted, tagOf, item, one, joined, itemsFrom, orEmpty, rowFor, rowOfValue, rowOf, placeIn, markOr, mark, at, keyOf, TYPE, KIND, VALUE, ENTITY, PRINCIPAL, RESOURCE, CONTEXT}
 use Rattle.previewed.specs.Preview.{fillsOnly, keyIn, itemsIn, mayFill, fills}
-use Rattle.sheet.proofs.Lines.{not-empty}
-use Rattle.sheet.proofs.TwoSheets.{same-is}
+use Rattle.sheet.proofs.reading.Lines.{not-empty}
+use Rattle.sheet.proofs.demand3.TwoSheets.{same-is}
 
 -- keys of lines that may be filled
 abbrev pub fillable : ℕ → Bool

@@ -20,8 +20,8 @@ use Rattle.sheet.specs.Sheet.{Reading, reads, fault, more, ending, goOn, lineRe
 use Rattle.sheet.specs.Parents.{lineFor}
 use Rattle.sheet.specs.Agreement.{begins, partSame, requestSame, entitySame, listed, allListed, agrees}
 use Rattle.previewed.specs.Preview.{edited, fills, mayEdit}
-use Rattle.sheet.proofs.Lines.{ended, entities-passed, line-passed, zero-not-suc}
-use Rattle.sheet.proofs.TwoSheets.{common}
+use Rattle.sheet.proofs.reading.Lines.{ended, entities-passed, line-passed, zero-not-suc}
+use Rattle.sheet.proofs.demand3.TwoSheets.{common}
 use Rattle.finished.proofs.FinishAgrees.{lines-are}
 use Rattle.previewed.proofs.PreviewLines.{edited-lines}
 use Rattle.previewed.proofs.PreviewRows.{fillable, FillRow, fills-row}

@@ -14,7 +14,7 @@ use Rattle.cedar.specs.Value.{onSome}
 use Rattle.cedar.specs.Numbered.{memN, anyN}
 use Rattle.sheet.specs.Forms.{at, mark}
 use Rattle.sheet.specs.Parents.{Reaches, parent, beyond, parentsIn, parents, ancestors, isOpen, anyOpen, unknownAbove}
-use Rattle.sheet.proofs.Reaching.{parents-are, closed-above, are-reached, reached-are}
+use Rattle.sheet.proofs.content.Reaching.{parents-are, closed-above, are-reached, reached-are}
 use Rattle.reach.specs.Marks.{HIDDEN, FAR, placeOf, Self, Reached, Found, anyMarked, namesAt, unknownAt, isMet, anyMet, markedAt}
 use Rattle.reach.proofs.Marking.{place-most, parents-at, with-parents, line-there, line-not}
 

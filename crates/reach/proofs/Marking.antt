@@ -15,8 +15,8 @@ use Rattle.cedar.specs.Value.{onSome}
 use Rattle.cedar.specs.Numbered.{memN}
 use Rattle.sheet.specs.Forms.{at, mark}
 use Rattle.sheet.specs.Parents.{lineFor, parentsIn, parents, ancestors}
-use Rattle.sheet.proofs.Reaching.{parents-are, closed-above, all-above}
-use Rattle.sheet.proofs.Lines.{set-cases}
+use Rattle.sheet.proofs.content.Reaching.{parents-are, closed-above, all-above}
+use Rattle.sheet.proofs.reading.Lines.{set-cases}
 use Rattle.reach.specs.Marks.{HIDDEN, FAR, placeOf, left, named, Queue, Grown, Noted, Opened, Taken, Spot, Skipped, Seen, Spread, Expanded, Self, unknownAt, Found}
 
 -- ---- the place of a line

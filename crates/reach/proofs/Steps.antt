@@ -15,7 +15,7 @@ use Rattle.sheet.specs.Forms.{tag, items, at, mark, firstValue, VALUE, ENTITY}
 use Rattle.sheet.specs.State.{valueRow, entriesOf}
 use Rattle.sheet.specs.Bytes.{longAt}
 use Rattle.sheet.specs.Parents.{parentsIn}
-use Rattle.sheet.proofs.Lines.{set-cases}
+use Rattle.sheet.proofs.reading.Lines.{set-cases}
 use Rattle.forms.specs.Tags.{SET-VALUE}
 use Rattle.table.specs.Layout.{base, part, rowsOf}
 use Rattle.table.proofs.Rows.{count-rows, row-at-is, row-some}

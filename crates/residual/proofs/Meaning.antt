@@ -47,7 +47,7 @@ module _ (ts : List Ty) (nodes : List (List ℕ)) where
   unfolding stageAt rowOf treeOf
   stage-is (rlit v y) w pre post = rw (res-word pre (rlit v y) post WHAT (omega arith), res-word pre (rlit v y) post SOURCE (omega arith))
   stage-is (rerr y) w pre post = rw (res-word pre (rerr y) post WHAT (omega arith))
-  stage-is (rleft n k y rs) (whole-left s ws) pre post =
+  stage-is (rleft n k y rs) (whole-left t s ws) pre post =
       rw (
         res-word pre (rleft n k y rs) post WHAT (omega arith),
         ne-eqb (LEFT-ROW + k) VALUE-ROW (omega arith),
@@ -60,7 +60,7 @@ module _ (ts : List Ty) (nodes : List (List ℕ)) where
   unfolding rowOf treeOf
   type-is (rlit v y) w pre post = rw (res-word pre (rlit v y) post ROW-TYPE (omega arith))
   type-is (rerr y) w pre post = rw (res-word pre (rerr y) post ROW-TYPE (omega arith))
-  type-is (rleft n k y rs) (whole-left s ws) pre post =
+  type-is (rleft n k y rs) (whole-left t s ws) pre post =
       rw (res-word pre (rleft n k y rs) post ROW-TYPE (omega arith)) (sym (left-typed (getD nodes n []) k (tyAt ts nodes y) (treesOf ts nodes rs) (suited ts nodes n rs s)))
 
   -- ---- errors
@@ -146,9 +146,9 @@ module _ (ts : List Ty) (nodes : List (List ℕ)) where
   mutual
     pub errs-is : {d : ℕ} (r : Res) → Whole ts nodes d r → (pre post : List ℕ)
         → errsBy nodes (pre ++ (flat r ++ post)) d (length pre + length (flat r)) ≡ canErr (treeOf ts nodes r)
-    errs-is (rlit v y) (whole-lit {d = d}) pre post = lit-errs d v y pre post ∙ sym (tree-lit v y)
-    errs-is (rerr y) (whole-err {d = d}) pre post = err-errs d y pre post ∙ sym (tree-err y)
-    errs-is (rleft n k y rs) (whole-left {d = d} s ws) pre post =
+    errs-is (rlit v y) (whole-lit {d = d} t) pre post = lit-errs d v y pre post ∙ sym (tree-lit v y)
+    errs-is (rerr y) (whole-err {d = d} t) pre post = err-errs d y pre post ∙ sym (tree-err y)
+    errs-is (rleft n k y rs) (whole-left {d = d} t s ws) pre post =
         left-row d n k y rs pre post (anyErrs (treesOf ts nodes rs))
         (blocks-are rs ws (pre ++ (flat (rleft n k y rs) ++ post)) (length pre) pre (leftRow n k (length (flats rs)) y ++ post) (before-row n k y rs pre post) (omega arith)
         ∙ ap (λ (b : Bool). anyErrs (treesOf ts nodes rs) || b) (blocks-none (errsBy nodes (pre ++ (flat (rleft n k y rs) ++ post)) d) (pre ++ (flat (rleft n k y rs) ++ post)) (length pre) (length pre) (omega arith))
@@ -201,7 +201,7 @@ module _ (ts : List Ty) (nodes : List (List ℕ)) where
     pub rows-are : {d : ℕ} (r : Res) → Whole ts nodes d r → length (flat r) ≡ ROW * size (treeOf ts nodes r)
     rows-are (rlit v y) w = lit-rows v y
     rows-are (rerr y) w = err-rows y
-    rows-are (rleft n k y rs) (whole-left s ws) = left-rows n k y (length (flats rs)) rs s refl (all-rows rs ws)
+    rows-are (rleft n k y rs) (whole-left t s ws) = left-rows n k y (length (flats rs)) rs s refl (all-rows rs ws)
 
     all-rows : {d : ℕ} (rs : Ress) → Wholes ts nodes d rs → length (flats rs) ≡ ROW * sizeAll (treesOf ts nodes rs)
     all-rows rnil w = no-rows

@@ -2,7 +2,7 @@
 use mathlib.Core.Path.{_≡_}
 use mathlib.Core.Bool.{Bool, true, false, _&&_}
 use mathlib.Core.List.{List, [], _∷_, _++_}
-use Prim.Native.Nat.{ℕ, suc, _+_, _-_}
+use Prim.Native.Nat.{ℕ, suc, _+_, _-_, _<_}
 use lib.Dec.{eqb, leb}
 use lib.ListN.{length, getD, drop}
 use Rattle.cedar.specs.Types.{Ty, tbool}
@@ -114,12 +114,12 @@ module _ (ts : List Ty) (nodes : List (List ℕ)) where
     treesOf rnil = []
     treesOf (rcons r rs) = treeOf r ∷ treesOf rs
 
-  -- a residual of at most d levels whose nodes have the children that they should
+  -- a residual of at most d levels whose types are numbers of ts and whose nodes have the children that they should
   mutual
     pub data Whole : ℕ → Res → Type 0 where
-      whole-lit : {d v y : ℕ} → Whole (suc d) (rlit v y)
-      whole-err : {d y : ℕ} → Whole (suc d) (rerr y)
-      whole-left : {d n k y : ℕ} {rs : Ress} → suits (getD nodes n []) (countRes rs) ≡ true → Wholes d rs → Whole (suc d) (rleft n k y rs)
+      whole-lit : {d v y : ℕ} → y < length ts → Whole (suc d) (rlit v y)
+      whole-err : {d y : ℕ} → y < length ts → Whole (suc d) (rerr y)
+      whole-left : {d n k y : ℕ} {rs : Ress} → y < length ts → suits (getD nodes n []) (countRes rs) ≡ true → Wholes d rs → Whole (suc d) (rleft n k y rs)
 
     pub data Wholes : ℕ → Ress → Type 0 where
       whole-none : {d : ℕ} → Wholes d rnil

@@ -9,18 +9,18 @@ use Rattle.cedar.specs.Residual.{Class, ctrue, cfalse, cerror, copen}
 use Rattle.cedar.specs.Response.{Effect, permit, forbid, Verdict, Decision, allow, deny, undecided, decision}
 use Rattle.sheet.specs.Ascii.{ascii}
 use Rattle.sheet.specs.Bytes.{digits}
-use Rattle.sheet.specs.Forms.{at, TYPE, NODE}
+use Rattle.sheet.specs.Forms.{at, NODE}
 use Rattle.sheet.specs.Sheet.{firsts}
 use Rattle.sheet.specs.Answer.{printed, concat, numbers, decisionWord, effectWord, classWord, countsOf, policyItems, completeLines, headLines}
 use Rattle.sheet.specs.Why.{Name, whyItem}
-use Rattle.sheet.proofs.AnswerRead.{firsts-length}
+use Rattle.sheet.proofs.answer.AnswerRead.{firsts-length}
 use Rattle.table.specs.Layout.{RUN, rowsOf, MADE}
 use Rattle.table.proofs.Rows.{count-rows}
 use Rattle.print.specs.Written.{greatest}
 use Rattle.print.proofs.Writing.{digits-few}
 use Rattle.listing.specs.Values.{madeLines}
 use Rattle.listing.specs.Nodes.{logLines}
-use Rattle.sheet.proofs.LinesBack.{concat-append}
+use Rattle.sheet.proofs.answer.LinesBack.{concat-append}
 use Rattle.listing.proofs.Lengths.{weigh, printed-most, numbers-most, made-most, log-most}
 use Rattle.response.specs.Verdicts.{classIn, effectIn, verdictsIn}
 use Rattle.response.specs.Printed.{policyLines, completeBytes, rootedOf, rootedLines, partialBytes}
@@ -97,7 +97,7 @@ rooted-most (r ∷ rs) cs es =
 pub partial-counted : (name : Name) (a l cs es : List ℕ) → length a ≤ 16384 → length l ≤ 16384 → getD a RUN 0 < 4294967296 → getD a MADE 0 < 4294967296 → length (partialBytes name a l cs es) ≤ greatest
 unfolding partialBytes rootedLines
 partial-counted name a l cs es h k p q =
-    let n : List ℕ = concat (logLines (rowsOf a TYPE) (rowsOf a NODE) l) in
+    let n : List ℕ = concat (logLines (rowsOf a NODE) l) in
     let o : List ℕ = concat (rootedLines a cs es) in
     let b = head-most name (verdictsIn a cs) in
     let d = made-most a h in

@@ -1,35 +1,32 @@
 -- The lines of a partial answer are those of the definition, where the words hold what the run gives. Assumes nothing.
 use mathlib.Core.Path.{_≡_, refl, sym, ap, ap₂, _∙_, subst}
-use mathlib.Core.Bool.{Bool, cond}
-use mathlib.Core.List.{List, [], _∷_, _++_, append-nil, append-assoc}
-use Prim.Native.Nat.{ℕ, zero, suc, _+_, _≤_, _<_}
+use mathlib.Core.List.{List, [], _∷_, _++_, append-assoc}
+use Prim.Native.Nat.{ℕ, zero, suc, _+_, _<_}
 use native.Mathlib.Omega.{arith}
-use native.Mathlib.Decide.{decLt}
-use borrow.Author.Tests.{lt-ltb, le-ltb}
-use lib.ListN.{length, getD, drop, List·getD-eq-default}
-use Rattle.cedar.specs.Types.{Ty, tbool, Schema, tySame}
+use lib.ListN.{length, getD, drop}
+use Rattle.cedar.specs.Types.{Ty, tbool, Schema}
 use Rattle.cedar.specs.Residual.{Node, Class, copen}
 use Rattle.cedar.specs.Response.{Effect, permit, Verdict}
 use Rattle.cedar.specs.Rows.{Row}
 use Rattle.cedar.specs.Numbered.{NEnv, nInterpret}
 use Rattle.cedar.specs.Runs.{NVerdict, Run, nRun, verdicts}
 use Rattle.sheet.specs.Bytes.{digits}
-use Rattle.sheet.specs.Forms.{Mode, partial, at, TYPE, VALUE, NODE, noKey}
-use Rattle.sheet.specs.State.{State, linesOf, count, TypeRow, bool, long, string, entity, set′, record′, typeRow}
-use Rattle.sheet.specs.Content.{tyOver, tysFrom, types, rowsIn, numberedPolicies, onTerm, nPolicies, schema, nEnv, trees, valueRows}
+use Rattle.sheet.specs.Forms.{partial, at, VALUE, NODE, noKey}
+use Rattle.sheet.specs.State.{State, linesOf, count}
+use Rattle.sheet.specs.Content.{types, rowsIn, numberedPolicies, onTerm, nPolicies, schema, nEnv, trees, valueRows}
 use Rattle.sheet.specs.Sheet.{firsts}
 use Rattle.sheet.specs.Answer.{printed, concat, policyItems, partialLines, valueLines, root, size, typeNumber, residualRows, nodeLines, ids, run, headLines, partialOf, answer}
 use Rattle.sheet.specs.Why.{why}
-use Rattle.sheet.proofs.Lines.{History}
-use Rattle.sheet.proofs.TypeNumbers.{types-length, number-again}
+use Rattle.sheet.proofs.reading.Lines.{History}
+use Rattle.sheet.proofs.content.TypeNumbers.{types-length, number-again}
 use Rattle.table.specs.Layout.{RUN, rowsOf, linesHeld, held, MADE}
 use Rattle.table.proofs.Rows.{count-rows, count-held, lines-held}
 use Rattle.residual.specs.Classes.{rootsOf}
 use Rattle.residual.specs.Trees.{Ress, flats, treesOf, Wholes}
 use Rattle.value.specs.Lines.{valueLines as allRows}
 use Rattle.listing.specs.Values.{madeLines}
-use Rattle.listing.specs.Nodes.{saysBool, boolLine, typeIn, logLines}
-use Rattle.sheet.proofs.LinesBack.{concat-append}
+use Rattle.listing.specs.Nodes.{logLines}
+use Rattle.sheet.proofs.answer.LinesBack.{concat-append}
 use Rattle.listing.proofs.TreeRows.{rowsAll}
 use Rattle.listing.proofs.LogTrees.{treesIn, residual-rows, log-lines}
 use Rattle.response.specs.Verdicts.{classIn, effectIn, verdictsOf, verdictsIn}
@@ -102,45 +99,6 @@ verdicts-run sheet a₀ b₀ a cs e f =
     ap (λ (rs : List (List ℕ)). verdictsOf rs cs) e
     ∙ verdicts-from (schema (held sheet a₀ b₀)) (nEnv partial (held sheet a₀ b₀)) (trees (held sheet a₀ b₀)) (onTerm (held sheet a₀ b₀)) cs (valueRows (held sheet a₀ b₀)) f
 
--- ---- types: a number of a line is the one that its content is found by; past the lines it is bool's
-
-bool-said : (ts : List Ty) (y : TypeRow) → tySame (tyOver ts y) tbool ≡ saysBool y
-bool-said ts bool = refl
-bool-said ts long = refl
-bool-said ts string = refl
-bool-said ts (entity k ks) = refl
-bool-said ts (set′ y) = refl
-bool-said ts (record′ ds) = refl
-
-abbrev tysAfter : List Ty → List (List ℕ) → List Ty
-tysAfter ts [] = []
-tysAfter ts (r ∷ rs) = tyOver ts (typeRow r) ∷ tysAfter (ts ++ (tyOver ts (typeRow r) ∷ [])) rs
-
-tys-more : (ts : List Ty) (rs : List (List ℕ)) → tysFrom ts rs ≡ ts ++ tysAfter ts rs
-tys-more ts [] = sym (append-nil ts)
-tys-more ts (r ∷ rs) = tys-more (ts ++ (tyOver ts (typeRow r) ∷ [])) rs ∙ append-assoc ts (tyOver ts (typeRow r) ∷ []) (tysAfter (ts ++ (tyOver ts (typeRow r) ∷ [])) rs)
-
-bool-after : (ts : List Ty) (rs : List (List ℕ)) → typeNumber (tysAfter ts rs) tbool ≡ boolLine rs
-unfolding boolLine
-bool-after ts [] = refl
-bool-after ts (r ∷ rs) = ap₂ (λ (b : Bool) (n : ℕ). cond b 0 (suc n)) (bool-said ts (typeRow r)) (bool-after (ts ++ (tyOver ts (typeRow r) ∷ [])) rs)
-
-bool-number : (s : State) → typeNumber (types s) tbool ≡ boolLine (linesOf s TYPE)
-unfolding types
-bool-number s = ap (λ (ts : List Ty). typeNumber ts tbool) (tys-more [] (linesOf s TYPE)) ∙ bool-after [] (linesOf s TYPE)
-
-type-same : (m : Mode) (s : State) → History m s → (y : ℕ) → typeNumber (types s) (getD (types s) y tbool) ≡ typeIn (linesOf s TYPE) y
-unfolding typeIn
-type-same m s h y = go (decLt y (count s TYPE))
-  where
-    go : Dec (y < count s TYPE) → typeNumber (types s) (getD (types s) y tbool) ≡ typeIn (linesOf s TYPE) y
-    go (yes d) = number-again m s h y d ∙ rw (lt-ltb y (count s TYPE) d)
-    go (no d) =
-        let n = types-length m s h in
-        let z : length (types s) ≤ y = omega (arith, n) in
-        let w : count s TYPE ≤ y = omega arith in
-        ap (typeNumber (types s)) (List·getD-eq-default (types s) tbool z) ∙ bool-number s ∙ rw (le-ltb y (count s TYPE) w)
-
 -- ---- the whole answer
 
 -- what a run x of the sheet that the words a₀ hold leaves in words: a the words, l the log, cs and es a class and a root for each policy
@@ -173,13 +131,14 @@ module _ (sheet a₀ b₀ : List ℕ) (h : History partial (held sheet a₀ b₀
       ∙ ap₂ (λ (n : ℕ) (R : List Row). concat (valueLines (drop n R)))
       (count-held sheet a [] VALUE (omega arith) ∙ sym (count-rows a VALUE) ∙ ap length (kept VALUE (omega arith) (λ e. absurd (omega arith)))) (w .rows)
 
-  type-is : (y : ℕ) → typeNumber (types s) (getD (types s) y tbool) ≡ typeIn (rowsOf a TYPE) y
-  type-is y = type-same partial s h y ∙ ap (λ (rs : List (List ℕ)). typeIn rs y) (sym (kept TYPE (omega arith) (λ e. absurd (omega arith))))
+  -- a type's number is the one that its content is found by
+  type-is : (y : ℕ) → y < length (types s) → typeNumber (types s) (getD (types s) y tbool) ≡ y
+  type-is y lt = let n = types-length partial s h in number-again partial s h y (omega (arith, lt, n))
 
-  nodes-are : logLines (rowsOf a TYPE) (rowsOf a NODE) l ≡ nodeLines (residualRows (types s) 0 (x .lines))
+  nodes-are : logLines (rowsOf a NODE) l ≡ nodeLines (residualRows (types s) 0 (x .lines))
   nodes-are =
-      ap₂ (λ (ns : List (List ℕ)) (m : List ℕ). logLines (rowsOf a TYPE) ns m) (w .same NODE (omega arith)) (w .log)
-      ∙ log-lines (types s) (rowsOf a TYPE) (rowsOf a₀ NODE) type-is (w .ress) (subst (λ (ts : List Ty). Wholes ts (rowsOf a₀ NODE) (w .levels) (w .ress)) types-are (w .wholes))
+      ap₂ (λ (ns : List (List ℕ)) (m : List ℕ). logLines ns m) (w .same NODE (omega arith)) (w .log)
+      ∙ log-lines (types s) (rowsOf a₀ NODE) type-is (w .ress) (subst (λ (ts : List Ty). Wholes ts (rowsOf a₀ NODE) (w .levels) (w .ress)) types-are (w .wholes))
       ∙ ap (λ (ts : List (Node ℕ)). nodeLines (rowsAll (types s) 0 ts)) (subst (λ (ts : List Ty). treesOf ts (rowsOf a₀ NODE) (w .ress) ≡ treesIn (x .lines)) types-are (w .trees))
       ∙ ap nodeLines (sym (residual-rows (types s) 0 (x .lines)))
 
@@ -201,7 +160,7 @@ module _ (sheet a₀ b₀ : List ℕ) (h : History partial (held sheet a₀ b₀
       let M : List (List ℕ) = valueLines (drop (count s VALUE) (x .rows)) in
       let N : List (List ℕ) = nodeLines (residualRows (types s) 0 (x .lines)) in
       let P : List (List ℕ) = partialLines 0 (ids s) (x .lines) in
-      ap₂ (λ (k m : List ℕ). k ++ (m ++ (concat (logLines (rowsOf a TYPE) (rowsOf a NODE) l) ++ concat (rootedLines a cs es)))) (ap₂ (λ (is : List ℕ) (v : List Verdict). concat (headLines (why is v) v)) ids-are (w .verdicts)) made-are
+      ap₂ (λ (k m : List ℕ). k ++ (m ++ (concat (logLines (rowsOf a NODE) l) ++ concat (rootedLines a cs es)))) (ap₂ (λ (is : List ℕ) (v : List Verdict). concat (headLines (why is v) v)) ids-are (w .verdicts)) made-are
       ∙ ap₂ (λ (k m : List (List ℕ)). concat H ++ (concat M ++ (concat k ++ concat m))) nodes-are policies-are
       ∙ sym (concat-append (H ++ M ++ N) P ∙ ap (λ (k : List ℕ). k ++ concat P) (concat-append (H ++ M) N ∙ ap (λ (k : List ℕ). k ++ concat N) (concat-append H M))
       ∙ append-assoc (concat H ++ concat M) (concat N) (concat P) ∙ append-assoc (concat H) (concat M) (concat N ++ concat P))

@@ -14,7 +14,7 @@ use Rattle.table.specs.Layout.{RUN}
 use Rattle.sheet.specs.Sheet.{read}
 use Rattle.sheet.specs.Answer.{run, partialOf, answer}
 use Rattle.sheet.specs.Call.{room}
-use Rattle.sheet.proofs.Lines.{History, accepted-history}
+use Rattle.sheet.proofs.reading.Lines.{History, accepted-history}
 use Rattle.residual.specs.Classes.{rootsOf}
 use Rattle.listing.proofs.LogTrees.{treesIn}
 use Rattle.tpe.specs.Run.{Ran, runOf}

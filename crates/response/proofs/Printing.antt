@@ -20,7 +20,7 @@ use Rattle.value.proofs.Lists.{uncons, spent}
 use Rattle.print.specs.Written.{Written}
 use Rattle.print.proofs.Writing.{written-append, written-as}
 use Rattle.residual.specs.Classes.{classNumber}
-use Rattle.sheet.proofs.LinesBack.{concat-append}
+use Rattle.sheet.proofs.answer.LinesBack.{concat-append}
 use Rattle.listing.proofs.Printing.{Printing, printing-on, printing-end}
 use Rattle.response.specs.Verdicts.{classIn, effectIn, effectNumber, verdictsIn, decisionOf}
 use Rattle.response.specs.Naming.{idsIn, whyIn}

@@ -7,7 +7,7 @@ use native.Mathlib.Omega.{arith}
 use lib.ListN.{length, getD, drop}
 use Rattle.sheet.specs.Ascii.{ascii}
 use Rattle.sheet.specs.Bytes.{digits, commas}
-use Rattle.sheet.specs.Forms.{at, TYPE, NODE}
+use Rattle.sheet.specs.Forms.{at, NODE}
 use Rattle.sheet.specs.Answer.{printed, concat, effectWord, classWord, policyItems, headLines}
 use Rattle.sheet.specs.Why.{Name}
 use Rattle.table.specs.Layout.{RUN, rowsOf}
@@ -70,6 +70,6 @@ module _ (a cs es : List ℕ) (n : ℕ) (en : n ≡ getD a RUN 0) where
 -- ---- a partial answer
 
 pub partial-is : (name : Name) (was w₁ w₂ w₃ is : List ℕ) (at k₁ k₂ k₃ next : ℕ) (a l cs es : List ℕ) → Written was at (concat (headLines name (verdictsIn a cs))) w₁ k₁ → Written w₁ k₁ (madeLines a) w₂ k₂
-    → Written w₂ k₂ (concat (logLines (rowsOf a TYPE) (rowsOf a NODE) l)) w₃ k₃ → Written w₃ k₃ (concat (rootedLines a cs es)) is next → Written was at (partialBytes name a l cs es) is next
+    → Written w₂ k₂ (concat (logLines (rowsOf a NODE) l)) w₃ k₃ → Written w₃ k₃ (concat (rootedLines a cs es)) is next → Written was at (partialBytes name a l cs es) is next
 unfolding partialBytes
 partial-is name was w₁ w₂ w₃ is at k₁ k₂ k₃ next a l cs es p q r s = written-append p (written-append q (written-append r s))

@@ -5,7 +5,7 @@ use lib.ListN.{getD, drop}
 use Rattle.cedar.specs.Response.{Verdict, Decision}
 use Rattle.sheet.specs.Ascii.{ascii}
 use Rattle.sheet.specs.Bytes.{digits, commas}
-use Rattle.sheet.specs.Forms.{at, TYPE, NODE}
+use Rattle.sheet.specs.Forms.{at, NODE}
 use Rattle.sheet.specs.Sheet.{firsts}
 use Rattle.sheet.specs.Answer.{howMany, decisionWord, printed, concat, policyItems, completeLines, headLines}
 use Rattle.sheet.specs.Why.{Name}
@@ -64,4 +64,4 @@ rootedLines a cs es = rootedOf (rowsOf a RUN) cs es
 -- a partial answer that carries this name: the words of the sheet and of what was made, the log, a class and the number of a root for each policy
 unfoldable pub partialBytes : Name → List ℕ → List ℕ → List ℕ → List ℕ → List ℕ
 partialBytes name a l cs es =
-    concat (headLines name (verdictsIn a cs)) ++ (madeLines a ++ (concat (logLines (rowsOf a TYPE) (rowsOf a NODE) l) ++ concat (rootedLines a cs es)))
+    concat (headLines name (verdictsIn a cs)) ++ (madeLines a ++ (concat (logLines (rowsOf a NODE) l) ++ concat (rootedLines a cs es)))

@@ -22,14 +22,14 @@ use Rattle.cedar.specs.Rows.{rlong}
 use Rattle.sheet.specs.Agreement.{agrees}
 use Rattle.sheet.specs.ReadAnswer.{PolicyLine, readAnswer}
 use Rattle.sheet.specs.Demand3.{Answered, bytesOf, Demand3}
-use Rattle.sheet.proofs.Demand3Bytes.{demand-3}
-use Rattle.sheet.proofs.Demand3Answers.{demand-3-bytes}
-use Rattle.sheet.proofs.Shown.{lineEnds}
+use Rattle.sheet.proofs.demand3.Demand3Bytes.{demand-3}
+use Rattle.sheet.proofs.demand3.Demand3Answers.{demand-3-bytes}
+use Rattle.sheet.proofs.answer.Shown.{lineEnds}
 
-p : List ℕ
+unfoldable pub p : List ℕ
 p = lineEnds (ascii "sheet=partial/text=Broker/text=Action/text=Tariff/text=quote/text=T1/text=low/text=high/text=b7/kind=0,e/kind=1,a/kind=2,e/type=bool/type=record/type=entity,0/shape=1,-/shape=1,-/shape=1,-/value=entity,0,7/value=bool,1/principal=0,?/action=1,3/resource=2,4/context=1,?/day=2000-01-01/node=2,var,p/node=2,lit,0/node=0,eq,0,1/node=0,lit,1/policy=5,permit,2/policy=6,permit,3/")
 
-c : List ℕ
+unfoldable pub c : List ℕ
 c = lineEnds (ascii "sheet=complete/text=Broker/text=Action/text=Tariff/text=quote/text=T1/text=low/text=high/text=b7/text=b9/kind=0,e/kind=1,a/kind=2,e/type=bool/type=record/type=entity,0/shape=1,-/shape=1,-/shape=1,-/value=entity,0,7/value=bool,1/value=record/principal=0,8/action=1,3/resource=2,4/context=1,2/day=2000-01-01/node=2,var,p/node=2,lit,0/node=0,eq,0,1/node=0,lit,1/policy=5,permit,2/policy=6,permit,3/")
 
 p-accepted : Accepted partial p

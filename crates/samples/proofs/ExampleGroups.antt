@@ -16,8 +16,8 @@ use Rattle.sheet.specs.Call.{returned, written}
 use Rattle.cedar.specs.Canonical.{order, same, place, insert, ascending, makeSet}
 use Rattle.sheet.specs.Agreement.{agrees}
 use Rattle.sheet.specs.Demand3.{Answered, bytesOf, Demand3}
-use Rattle.sheet.proofs.Demand3Answers.{demand-3-bytes}
-use Rattle.sheet.proofs.Shown.{lineEnds}
+use Rattle.sheet.proofs.demand3.Demand3Answers.{demand-3-bytes}
+use Rattle.sheet.proofs.answer.Shown.{lineEnds}
 
 unfoldable pub client : List ℕ
 client = lineEnds (ascii "sheet=partial/text=Person/text=Action/text=Firm/text=Tariff/text=quote/text=T1/text=p0/text=p1/text=name/text=owner/text=size/text=x/kind=0,e/kind=1,a/kind=2,e/kind=3,e/type=bool/type=long/type=string/type=record/type=entity,0/type=entity,2/type=entity,3/type=entity,1/type=entity,0,2/type=entity,0,3/type=set,8/type=entity,2,3/type=record,8,r,2,9,o,8/type=record,8,r,2,9,o,5,10,o,1/type=record,9,o,8/type=entity,0,1/shape=12,2,2/shape=3,-/shape=13,-/shape=3,-/value=entity,0,11/value=entity,2,11/value=text,8/value=record,8,2,9,1/entity=0,3,?,?/principal=0,?/action=1,4/resource=3,5/context=14,?/day=2000-01-01/node=8,lit,0/node=0,haspath,0,9,10/policy=6,permit,1/")

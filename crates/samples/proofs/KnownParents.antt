@@ -16,8 +16,8 @@ use Rattle.sheet.specs.Call.{Returned, returned}
 use Rattle.sheet.specs.Agreement.{agrees}
 use Rattle.sheet.specs.Demand3.{Answered, bytesOf, Demand3}
 use Rattle.cedar.specs.Canonical.{order, same, place, insert, ascending, makeSet}
-use Rattle.sheet.proofs.Demand3Answers.{demand-3-bytes}
-use Rattle.sheet.proofs.Shown.{lineEnds}
+use Rattle.sheet.proofs.demand3.Demand3Answers.{demand-3-bytes}
+use Rattle.sheet.proofs.answer.Shown.{lineEnds}
 
 abbrev bytes : String → List ℕ
 bytes s = lineEnds (ascii s)

@@ -14,8 +14,8 @@ use Rattle.sheet.specs.Call.{returned}
 use Rattle.cedar.specs.Canonical.{order, same, place, insert, ascending, makeSet}
 use Rattle.sheet.specs.Bytes.{date, daysIn, isDate}
 use Rattle.sheet.specs.State.{sum}
-use Rattle.sheet.proofs.Shown.{bytes, shown, Case, case, shownAll, saysAll}
-use Rattle.sheet.proofs.KnownLines.{head, kindLines}
+use Rattle.sheet.proofs.answer.Shown.{bytes, shown, Case, case, shownAll, saysAll}
+use Rattle.sheet.proofs.reading.KnownLines.{head, kindLines}
 
 -- "Input, whole", and "Output"
 known-sheet : shown (bytes "sheet=partial/text=Broker/text=Action/text=Tariff/text=quote/text=T1/text=low/text=high/text=b7/kind=0,e/kind=1,a/kind=2,e/type=bool/type=record/type=entity,0/shape=1,-/shape=1,-/shape=1,-/value=entity,0,7/value=bool,1/principal=0,?/action=1,3/resource=2,4/context=1,?/day=2000-01-01/node=2,var,p/node=2,lit,0/node=0,eq,0,1/node=0,lit,1/policy=5,permit,2/policy=6,permit,3/")
@@ -138,6 +138,8 @@ groupCases =
     ∷ case "value=entity,0,11/value=entity,2,11/principal=0,?/action=1,4/resource=3,5/context=14,?/day=2000-01-01/node=4,var,p/node=4,lit,0/node=0,eq,0,1/node=8,lit,0/node=8,lit,1/node=8,if,2,3,4/node=0,is,5,0/policy=6,permit,6/" "decision=open/counts=0,0,0,1,0,0,0,0/why=none/node=4,var,p/node=4,lit,0/node=0,eq,0,1/node=8,lit,0/node=8,lit,1/node=8,if,2,3,4/node=0,is,5,0/policy=6,permit,open,6/"  -- is: present, not the sole one
     ∷ case "value=entity,0,11/value=entity,2,11/principal=0,?/action=1,4/resource=3,5/context=14,?/day=2000-01-01/node=4,var,p/node=0,is,0,0/policy=6,permit,1/" "decision=allow/counts=1,0,0,0,0,0,0,0/why=6/value=bool,1/node=0,lit,2/policy=6,permit,true,0/"  -- is: the sole one
     ∷ case "value=entity,0,11/value=entity,2,11/principal=0,?/action=1,4/resource=3,5/context=14,?/day=2000-01-01/node=8,lit,0/node=0,is,0,0/policy=6,permit,1/" "decision=allow/counts=1,0,0,0,0,0,0,0/why=6/value=bool,1/node=0,lit,2/policy=6,permit,true,0/"  -- is: concrete in a group
+    ∷ case "value=entity,0,11/value=entity,2,11/value=bool,0/principal=0,?/action=1,4/resource=3,5/context=14,?/day=2000-01-01/node=4,var,p/node=4,lit,0/node=0,eq,0,1/node=8,lit,0/node=8,lit,1/node=8,if,2,3,4/node=0,is,5,0/node=0,lit,2/node=0,and,6,7/policy=6,permit,8/" "decision=deny/counts=0,1,0,0,0,0,0,0/why=none/node=0,lit,2/policy=6,permit,false,0/"  -- is: left open it cannot err, so false beside it settles the and
+    ∷ case "value=entity,0,11/value=entity,2,11/value=bool,1/principal=0,?/action=1,4/resource=3,5/context=14,?/day=2000-01-01/node=4,var,p/node=4,lit,0/node=0,eq,0,1/node=8,lit,0/node=8,lit,1/node=8,if,2,3,4/node=0,is,5,0/node=0,lit,2/node=0,or,6,7/policy=6,permit,8/" "decision=allow/counts=1,0,0,0,0,0,0,0/why=6/node=0,lit,2/policy=6,permit,true,0/"  -- and true the or
     ∷ case "value=entity,0,11/value=entity,2,11/value=entity,3,11/principal=0,?/action=1,4/resource=3,5/context=14,?/day=2000-01-01/node=4,var,p/node=4,lit,0/node=0,eq,0,1/node=8,lit,0/node=8,lit,1/node=8,if,2,3,4/node=6,lit,2/node=0,eq,5,6/policy=6,permit,7/" "decision=deny/counts=0,1,0,0,0,0,0,0/why=none/value=bool,0/node=0,lit,3/policy=6,permit,false,0/"  -- eq: no common kind
     ∷ case "value=entity,0,11/value=entity,2,11/principal=0,?/action=1,4/resource=3,5/context=14,?/day=2000-01-01/node=4,var,p/node=4,lit,0/node=0,eq,0,1/node=8,lit,0/node=8,lit,1/node=8,if,2,3,4/node=9,lit,0/node=0,eq,5,6/policy=6,permit,7/" "decision=open/counts=0,0,0,1,0,0,0,0/why=none/node=4,var,p/node=4,lit,0/node=0,eq,0,1/node=8,lit,0/node=8,lit,1/node=8,if,2,3,4/node=9,lit,0/node=0,eq,5,6/policy=6,permit,open,7/"  -- eq: a common kind
     ∷ case "value=entity,0,11/value=entity,2,11/value=entity,3,11/principal=0,?/action=1,4/resource=3,5/context=14,?/day=2000-01-01/node=4,var,p/node=4,lit,0/node=0,eq,0,1/node=8,lit,0/node=8,lit,1/node=8,if,2,3,4/node=6,lit,2/node=0,in,5,6/policy=6,permit,7/" "decision=deny/counts=0,1,0,0,0,0,0,0/why=none/value=bool,0/node=0,lit,3/policy=6,permit,false,0/"  -- in: no pair allows it

@@ -1,3 +1,5 @@
+pub mod AgreementEdges
+pub mod CallEdges
 pub mod ExampleBytes
 pub mod ExampleEntities
 pub mod ExampleGroups
@@ -5,6 +7,8 @@ pub mod ExampleLinks
 pub mod ExampleName
 pub mod ExampleTerms
 pub mod GroupEdges
+pub mod KnownEdges
 pub mod KnownParents
 pub mod KnownSheets
 pub mod LinkEdges
+pub mod WrongAnswers

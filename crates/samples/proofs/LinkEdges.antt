@@ -10,7 +10,7 @@ use Rattle.sheet.specs.Content.{types, valueRows, contents, schema, trees, expr
 use Rattle.sheet.specs.Answer.{run, results, answer}
 use Rattle.sheet.specs.Call.{returned}
 use Rattle.cedar.specs.Canonical.{order, same, place, insert, ascending, makeSet}
-use Rattle.sheet.proofs.Shown.{bytes, shown}
+use Rattle.sheet.proofs.answer.Shown.{bytes, shown}
 
 -- up to the nodes: a rule with a slot
 head : List ℕ

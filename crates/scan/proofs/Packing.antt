@@ -11,7 +11,7 @@ use lib.Dec.{ltb, leb}
 use lib.ListN.{length, getD, take, drop}
 use lib.Pow.{pow-add}
 use lib.Seq.{take-add, drop-drop, drop-cons, take-length, length-take-le}
-use Rattle.sheet.proofs.Lines.{and-both}
+use Rattle.sheet.proofs.reading.Lines.{and-both}
 use Rattle.scan.specs.Numbers.{bytesOf, areBytes, codeOf, wordOf, Packed, WordRead}
 
 bytes-append : (a b : List ℕ) → bytesOf (a ++ b) ≡ bytesOf a + 256 ^ length a * bytesOf b

@@ -11,7 +11,7 @@ use lib.ListN.{length, getD, take, drop, length-drop, drop-of-length-le}
 use lib.Seq.{drop-cons, take-all, take-nil, drop-nil}
 use Rattle.words.specs.Log.{part}
 use Rattle.sheet.specs.Bytes.{upTo, same, printable}
-use Rattle.sheet.proofs.TwoSheets.{same-is}
+use Rattle.sheet.proofs.demand3.TwoSheets.{same-is}
 use Rattle.scan.specs.Places.{isPrintable, plainTo}
 
 module _ (c : ℕ) (s : List ℕ) (i : ℕ) where

@@ -16,8 +16,8 @@ use Rattle.words.specs.Log.{part}
 use Rattle.sheet.specs.Ascii.{ascii}
 use Rattle.sheet.specs.Bytes.{upTo, same, printable}
 use Rattle.sheet.specs.Forms.{keys, wordNumber}
-use Rattle.sheet.proofs.Lines.{and-both}
-use Rattle.sheet.proofs.TwoSheets.{same-is}
+use Rattle.sheet.proofs.reading.Lines.{and-both}
+use Rattle.sheet.proofs.demand3.TwoSheets.{same-is}
 use Rattle.scan.specs.declared.Cursor.{Cursor}
 use Rattle.scan.specs.declared.Number as N
 use Rattle.scan.specs.declared.Heading as H

@@ -1,23 +1,24 @@
 -- Document 01, "The answer", read back: from the bytes of an answer to its decision, counts, name, made values, residual nodes and policy lines.
 -- Its `value=` and `node=` lines have the forms of a sheet's and are read by the sheet's table. A text of another form reads as none.
-use mathlib.Core.Bool.{cond}
+use mathlib.Core.Bool.{Bool, true, cond, _&&_, not}
 use mathlib.Core.Option.{Option, none, some}
 use mathlib.Core.List.{List, [], _∷_}
-use Prim.Native.Nat.{ℕ, suc}
+use Prim.Native.Nat.{ℕ, suc, _+_}
 use Prim.Native.String.{String}
-use lib.Dec.{eqb}
+use lib.Dec.{ltb, eqb}
 use lib.ListN.{length, getD, take, drop, replicate, getElem?}
 use Rattle.cedar.specs.Value.{onSome}
-use Rattle.cedar.specs.Types.{Ty}
 use Rattle.cedar.specs.Residual.{Node, err, Class, ctrue, cfalse, cerror, copen}
 use Rattle.cedar.specs.Response.{Effect, Decision, allow, deny, undecided}
-use Rattle.cedar.specs.Rows.{Row}
+use Rattle.cedar.specs.Rows.{Row, rbool, rlong, rtext, rent, rset, rrec}
 use Rattle.sheet.specs.Ascii.{ascii}
 use Rattle.sheet.specs.Bytes.{upTo, split, same}
-use Rattle.sheet.specs.Forms.{Mode, partial, complete, Slot, line, word, item, joined, rowOf, keyOf, TEXT, VALUE, NODE, POLICY}
+use Rattle.sheet.specs.Forms.{Mode, partial, complete, Slot, line, word, item, joined, rowOf, tag, items, keyOf, TEXT, KIND, VALUE, NODE, POLICY}
 use Rattle.sheet.specs.Why.{Name}
-use Rattle.sheet.specs.Sheet.{anySlot}
-use Rattle.sheet.specs.Content.{rowsIn, treesFrom, effectOf}
+use Rattle.sheet.specs.State.{State, count}
+use Rattle.sheet.specs.Typing.{allIn, allEntries, isSlot}
+use Rattle.sheet.specs.Sheet.{allThereOf}
+use Rattle.sheet.specs.Content.{types, rowsIn, treesFrom, effectOf}
 
 -- `policy=id,effect,true|false|error|open,root`; in a complete answer, "policies without root", the root is 0
 pub record PolicyLine : Type 0 where
@@ -109,7 +110,39 @@ linesSay m (d ∷ c ∷ w ∷ ls) = onSome none (decisionLine d) (λ x. onSome n
 unfoldable pub readAnswer : Mode → List ℕ → Option Said
 readAnswer m bytes = linesSay m (split 10 bytes)
 
--- the tree under a policy's root, if there is one: ts are the sheet's types, and a `lit` holds what its number stands for. Residuals are
--- those of linked policies: an answer with a slot has no trees
-unfoldable pub treeUnder : {L : Type 0} → List Ty → (ℕ → L) → Said → PolicyLine → Option (Node L)
-treeUnder ts value a l = cond (anySlot (a .nodes)) none (getElem? (treesFrom ts value (λ T x. err T) [] (a .nodes)) (l .root))
+-- ---- the residuals of an answer
+
+-- how many lines of key k a made value or a node may refer to: so many values, so many nodes, else the sheet's
+abbrev pub linesFor : (ℕ → ℕ) → ℕ → ℕ → ℕ → ℕ
+linesFor sheet values nodes k = cond (eqb k VALUE) values (cond (eqb k NODE) nodes (sheet k))
+
+-- whether what a made value refers to is there
+abbrev pub valueStands : (ℕ → ℕ) → Row → Bool
+valueStands lines (rbool b) = true
+valueStands lines (rlong x) = true
+valueStands lines (rtext t) = ltb t (lines TEXT)
+valueStands lines (rent k t) = ltb k (lines KIND) && ltb t (lines TEXT)
+valueStands lines (rset l) = allIn (λ x. ltb x (lines VALUE)) l
+valueStands lines (rrec e) = allEntries (λ t x. ltb t (lines TEXT) && ltb x (lines VALUE)) e
+
+-- made values, "numbered on from the sheet's", each over the n before it
+abbrev pub valuesStand : (ℕ → ℕ) → ℕ → List Row → Bool
+valuesStand sheet n [] = true
+valuesStand sheet n (r ∷ rs) = valueStands (linesFor sheet n 0) r && valuesStand sheet (suc n) rs
+
+-- whether what a node refers to is there. Residuals are those of linked policies: no slot is left
+abbrev pub nodeStands : (ℕ → ℕ) → List ℕ → Bool
+nodeStands lines r = allThereOf lines (tag r) 0 (items r) && not (isSlot r)
+
+-- nodes, "children before parents .. from 0"
+abbrev pub nodesStand : (ℕ → ℕ) → ℕ → ℕ → List (List ℕ) → Bool
+nodesStand sheet values n [] = true
+nodesStand sheet values n (r ∷ rs) = nodeStands (linesFor sheet values n) r && nodesStand sheet values (suc n) rs
+
+-- "with its `lit` numbers read among the partial sheet's values and the made ones"
+abbrev pub allStand : State → Said → Bool
+allStand s a = valuesStand (count s) (count s VALUE) (a .made) && nodesStand (count s) (count s VALUE + length (a .made)) 0 (a .nodes)
+
+-- the tree under a policy's root, if there is one, where a `lit` holds what its number stands for; none where a text, kind, type, value or node is absent
+unfoldable pub treeUnder : {L : Type 0} → State → (ℕ → L) → Said → PolicyLine → Option (Node L)
+treeUnder s value a l = cond (allStand s a) (getElem? (treesFrom (types s) value (λ T x. err T) [] (a .nodes)) (l .root)) none

@@ -55,20 +55,27 @@ tooMany s k r = leb (getD (greatest s) k 0) (count s k) || overused s k r
 
 -- ---- 5: references, repeats, order
 
-abbrev pub thereIs : State → Slot → ℕ → Bool
-thereIs s entry x = true
-thereIs s (line k) x = ltb x (count s k)
-thereIs s (lineOr w k) x = eqb x mark || ltb x (count s k)
-thereIs s (lineUnknown k) x = eqb x mark || ltb x (count s k)
-thereIs s (word ws) x = true
-thereIs s number x = true
-thereIs s day x = true
-thereIs s nothing x = true
+-- what an item refers to is there, of `lines k` lines of key k
+abbrev pub thereOf : (ℕ → ℕ) → Slot → ℕ → Bool
+thereOf lines entry x = true
+thereOf lines (line k) x = ltb x (lines k)
+thereOf lines (lineOr w k) x = eqb x mark || ltb x (lines k)
+thereOf lines (lineUnknown k) x = eqb x mark || ltb x (lines k)
+thereOf lines (word ws) x = true
+thereOf lines number x = true
+thereOf lines day x = true
+thereOf lines nothing x = true
 
 -- the items from place j on of a row of tag t
+abbrev pub allThereOf : (ℕ → ℕ) → ℕ → ℕ → List ℕ → Bool
+allThereOf lines t j [] = true
+allThereOf lines t j (x ∷ l) = thereOf lines (slotAt t j) x && allThereOf lines t (suc j) l
+
+abbrev pub thereIs : State → Slot → ℕ → Bool
+thereIs s sl x = thereOf (count s) sl x
+
 abbrev pub allThere : State → ℕ → ℕ → List ℕ → Bool
-allThere s t j [] = true
-allThere s t j (x ∷ l) = thereIs s (slotAt t j) x && allThere s t (suc j) l
+allThere s t j l = allThereOf (count s) t j l
 
 -- strictly, and none under m
 abbrev pub ascend : ℕ → List ℕ → Bool

@@ -7,7 +7,7 @@ use Prim.Native.Nat.{ℕ, zero, suc, _<_, _≤_}
 use Prim.Native.String.{String}
 use native.Mathlib.Omega.{arith}
 use native.Mathlib.Decide.{decLt}
-use borrow.Author.Tests.{eq-eqb, ne-eqb, lt-ltb, ltb-true, leb-true}
+use borrow.Author.Tests.{eq-eqb, ne-eqb, lt-ltb, ltb-true}
 use lib.Dec.{leb, ltb, eqb}
 use lib.ListN.{length, getD, take, drop, List·getD-eq-default}
 use Rattle.cedar.proofs.Tools.{no-some, no-true, eqb-true, and-both, both}
@@ -18,19 +18,19 @@ use Rattle.previewed.specs.Preview.{joinLines, keyIn, itemsIn}
 use Rattle.sheet.specs.State.{State, empty, count}
 use Rattle.sheet.specs.Sheet.{read, reading}
 use Rattle.sheet.specs.Call.{Accepted}
-use Rattle.sheet.proofs.Limits.{most-lines}
-use Rattle.sheet.proofs.Checked.{accepted-read}
-use Rattle.sheet.proofs.Demand3Bytes.{facts}
+use Rattle.sheet.proofs.reading.Limits.{most-lines}
+use Rattle.sheet.proofs.reading.Checked.{accepted-read}
+use Rattle.sheet.proofs.demand3.Demand3Bytes.{facts}
 use Rattle.previewed.proofs.PreviewLines.{allLack, ahead-lacks, NotNone, split-join, split-some, split-lacks}
 use Rattle.staff.specs.Firm.{textFits, askFits, decisionOn, rowDecision, Asked, filledItems, filledLine, filledLines, filledSheet, setText, withTexts}
-use Rattle.sheet.proofs.Lines.{not-empty}
-use Rattle.sheet.proofs.TwoSheets.{same-is}
-use Rattle.sheet.proofs.NodeRows.{index-small}
-use Rattle.sheet.proofs.Parsed.{counted-plain}
-use Rattle.sheet.proofs.ValueRows.{same-refl}
-use Rattle.sheet.proofs.DigitsBack.{plainByte, plainBytes, index-back}
-use Rattle.sheet.proofs.RowsBack.{small-plain}
-use Rattle.sheet.proofs.LinesBack.{lacks, allPlain, unended, items-back, items-show}
+use Rattle.sheet.proofs.reading.Lines.{not-empty}
+use Rattle.sheet.proofs.demand3.TwoSheets.{same-is}
+use Rattle.sheet.proofs.reading.NodeRows.{index-small}
+use Rattle.sheet.proofs.reading.Parsed.{counted-plain}
+use Rattle.sheet.proofs.content.ValueRows.{same-refl}
+use Rattle.sheet.proofs.answer.DigitsBack.{plainByte, plainBytes, index-back}
+use Rattle.sheet.proofs.answer.RowsBack.{small-plain}
+use Rattle.sheet.proofs.answer.LinesBack.{lacks, lacks-append, no-end, allPlain, unended, items-back, items-show}
 use Rattle.previewed.proofs.PreviewRows.{tagFor, shown, row-of-key, joined-some}
 use Rattle.staff.proofs.FirmState.{FilledRow, kept, principal, resource, principalTag, resourceTag}
 use Rattle.staff.proofs.FirmRead.{FilledLine, FilledAll, more-lines, reading-with}
@@ -289,10 +289,6 @@ module _ (q : Asked) (h : q .principal ≤ 9999) (k : q .resource ≤ 9999) wher
 
 -- ---- no line end is put into a line
 
-lack-append : (k l : List ℕ) → lacks 10 k ≡ true → lacks 10 l ≡ true → lacks 10 (k ++ l) ≡ true
-lack-append [] l a b = b
-lack-append (x ∷ k) l a b = and-both (not (eqb x 10)) (lacks 10 k) a (λ p q. rw p (lack-append k l q b))
-
 lack-take : (n : ℕ) (l : List ℕ) → lacks 10 l ≡ true → lacks 10 (take n l) ≡ true
 lack-take zero l e = refl
 lack-take (suc n) [] e = refl
@@ -312,12 +308,7 @@ split-each (x ∷ l) e = and-both (not (eqb x 10)) (lacks 10 l) e (λ p q. go (e
     go false p h = ahead-lacks x (split 44 l) p h
 
 digits-lack : (t : ℕ) → t ≤ 9999 → lacks 10 (digits t) ≡ true
-digits-lack t h = line-lacks-of (digits t) (small-plain t h)
-  where
-    line-lacks-of : (l : List ℕ) → plainBytes l ≡ true → lacks 10 l ≡ true
-    line-lacks-of [] e = refl
-    line-lacks-of (x ∷ l) e = and-both (plainByte x) (plainBytes l) e (λ p q. and-both (leb 32 x && leb x 126) (not (eqb x 44)) p (λ a b. and-both (leb 32 x) (leb x 126) a (λ c d.
-        let lo = leb-true 32 x c in rw (ne-eqb x 10 (λ z. omega (arith, lo, z))) (line-lacks-of l q))))
+digits-lack t h = no-end (digits t) (small-plain t h)
 
 items-lack : (t : ℕ) → t ≤ 9999 → (fs : List (List ℕ)) → allLack fs → allLack (filledItems t fs)
 items-lack t h [] e = tt
@@ -330,13 +321,13 @@ items-lack t h (f ∷ fs) e = (go (same f (ascii "?")), items-lack t h fs (e .1)
 commas-lack : (fs : List (List ℕ)) → allLack fs → lacks 10 (commas fs) ≡ true
 commas-lack [] h = refl
 commas-lack (f ∷ []) h = h .0
-commas-lack (f ∷ g ∷ fs) h = lack-append f (44 ∷ commas (g ∷ fs)) (h .0) (commas-lack (g ∷ fs) (h .1))
+commas-lack (f ∷ g ∷ fs) h = lacks-append 10 f (44 ∷ commas (g ∷ fs)) (h .0) (commas-lack (g ∷ fs) (h .1))
 
 line-lack : (w : String) (t : ℕ) → t ≤ 9999 → (l : List ℕ) → lacks 10 l ≡ true → lacks 10 (filledLine w t l) ≡ true
 line-lack w t h l e = go (same (keyIn l) (ascii w))
   where
     go : (b : Bool) → lacks 10 (cond b (keyIn l ++ (61 ∷ commas (filledItems t (itemsIn l)))) l) ≡ true
-    go true = lack-append (keyIn l) (61 ∷ commas (filledItems t (itemsIn l))) (lack-take (upTo 61 l) l e) (commas-lack (filledItems t (itemsIn l)) (items-lack t h (itemsIn l) (split-each (drop (suc (upTo 61 l)) l) (lack-drop (suc (upTo 61 l)) l e))))
+    go true = lacks-append 10 (keyIn l) (61 ∷ commas (filledItems t (itemsIn l))) (lack-take (upTo 61 l) l e) (commas-lack (filledItems t (itemsIn l)) (items-lack t h (itemsIn l) (split-each (drop (suc (upTo 61 l)) l) (lack-drop (suc (upTo 61 l)) l e))))
     go false = e
 
 lines-lack : (q : Asked) → q .principal ≤ 9999 → q .resource ≤ 9999 → (ls : List (List ℕ)) → allLack ls → allLack (filledLines q ls)

@@ -21,12 +21,12 @@ use Rattle.sheet.specs.ReadAnswer.{readAnswer}
 use Rattle.sheet.specs.Demand3.{Answered, bytesOf}
 use Rattle.staff.specs.Firm.{Asked, Row, filledSheet, decisionOn, rowDecision, filledRows, withTexts, group, mostRows, rowsThen, askFits, misfit, fitThen, firmReturned, firmRows, firmGroup}
 use Rattle.staff.specs.Called.{SaysDecision}
-use Rattle.sheet.proofs.Lines.{zero-not-suc}
-use Rattle.sheet.proofs.AnswerRead.{partialSaid, partial-answer-back}
-use Rattle.sheet.proofs.Buffers.{bytes-are}
-use Rattle.sheet.proofs.Checked.{lent-by, short-by, read-by, same-refusal, passes, accepted-from}
-use Rattle.sheet.proofs.Demand3Answers.{accepted}
-use Rattle.sheet.proofs.Refusals.{read-small}
+use Rattle.sheet.proofs.reading.Lines.{zero-not-suc}
+use Rattle.sheet.proofs.answer.AnswerRead.{partialSaid, partial-answer-back}
+use Rattle.sheet.proofs.answer.Buffers.{bytes-are}
+use Rattle.sheet.proofs.reading.Checked.{lent-by, short-by, read-by, same-refusal, passes, accepted-from}
+use Rattle.sheet.proofs.demand3.Demand3Answers.{accepted}
+use Rattle.sheet.proofs.reading.Refusals.{read-small}
 use Rattle.staff.proofs.FirmBytes.{filled-sheet, row-decision}
 
 -- ---- a row

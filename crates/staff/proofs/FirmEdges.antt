@@ -12,7 +12,7 @@ use Rattle.sheet.specs.Sheet.{found, depth, fault, more, read}
 use Rattle.sheet.specs.Content.{types, valueRows, contents, schema, trees, exprs, onTerm, nPolicies, policies, nEnv, env}
 use Rattle.sheet.specs.Answer.{run, results, answer}
 use Rattle.sheet.specs.Call.{Returned, returns, returned}
-use Rattle.sheet.proofs.Shown.{bytes}
+use Rattle.sheet.proofs.answer.Shown.{bytes}
 use Rattle.staff.specs.Firm.{Row, filledSheet, rowDecision, group, firmReturned, firmRows, firmGroup}
 
 -- a principal text, a resource text, and a decision

@@ -14,7 +14,7 @@ use Rattle.sheet.specs.Forms.{partial, rowOf, keyOf, forms, formOf, TEXT, NODE,
 use Rattle.sheet.specs.State.{State, linesOf, count, before}
 use Rattle.sheet.specs.Sheet.{Reading, reads, enough, firstUnused, added, more, fault, ending, goOn, reading, entitiesFit, beforeLine, firstUnlinked, firstUnfit, lineRead}
 use Rattle.staff.specs.Firm.{Asked, setText, withTexts}
-use Rattle.sheet.proofs.Lines.{zero-not-suc, passed, ended, lines-more, later-empty, entities-passed, line-passed, AllFit}
+use Rattle.sheet.proofs.reading.Lines.{zero-not-suc, passed, ended, lines-more, later-empty, entities-passed, line-passed, AllFit}
 use Rattle.staff.proofs.FirmState.{Lines, LongRow, Long, listed, fault-with, enough-with, nodes-with, FilledRow, kept, principal, resource, fill-principal, fill-resource, principalTag, resourceTag, of-text, added-kept, added-principal, added-resource, linked-with, unfit-with}
 
 -- ---- one line

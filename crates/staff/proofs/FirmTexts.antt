@@ -12,10 +12,10 @@ use Rattle.sheet.specs.State.{State, count, linesOf, lineAt}
 use Rattle.sheet.specs.Sheet.{read, least}
 use Rattle.sheet.specs.Call.{Accepted}
 use Rattle.staff.specs.Firm.{Asked, filledSheet, setTexts, withTexts, textFits, askFits}
-use Rattle.sheet.proofs.Demand3Bytes.{facts}
-use Rattle.sheet.proofs.Environment.{Facts, a-line, the-line}
-use Rattle.sheet.proofs.NodeRows.{row-read}
-use Rattle.sheet.proofs.Parsed.{allBelow, between, tags-between, request-tags}
+use Rattle.sheet.proofs.demand3.Demand3Bytes.{facts}
+use Rattle.sheet.proofs.content.Environment.{Facts, a-line, the-line}
+use Rattle.sheet.proofs.reading.NodeRows.{row-read}
+use Rattle.sheet.proofs.reading.Parsed.{allBelow, between, tags-between, request-tags}
 use Rattle.staff.proofs.FirmState.{Lines, listed, principalTag, resourceTag}
 use Rattle.staff.proofs.FirmBytes.{filled-sheet}
 

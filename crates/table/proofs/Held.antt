@@ -11,7 +11,7 @@ use lib.ListN.{length, getD, drop, set, List·getD-eq-default}
 use lib.Seq.{drop-drop}
 use Rattle.sheet.specs.Forms.{noKey, NODE, TEXT}
 use Rattle.sheet.specs.State.{linesOf, depthsOf, counts, lengths}
-use Rattle.sheet.proofs.Parsed.{allBelow, all-below}
+use Rattle.sheet.proofs.reading.Parsed.{allBelow, all-below}
 use Rattle.forms.proofs.Tests.{other}
 use Rattle.table.specs.Layout.{TYPEDEPTHS, USES, rowsOf, rowIn, textRow, textRows, linesHeld, depthsAt, depthBases, depthBase, depthsIn, depthsHeld, held}
 use Rattle.table.proofs.Rows.{count-rows, set-tab, zero-plus, lines-of, length-lines}

@@ -12,10 +12,10 @@ use lib.Seq.{drop-drop, getD-set-other}
 use Rattle.sheet.specs.Forms.{Mode, forms, formOf, tag, keyOf, refs, TEXT, KIND, TYPE, SHAPE, VALUE, ENTITY, DAY, NODE, POLICY, noKey}
 use Rattle.sheet.specs.State.{State, empty, count}
 use Rattle.sheet.specs.Sheet.{greatest, fault, faultOf, more, depth, marked}
-use Rattle.sheet.proofs.Parsed.{allBelow, all-below}
-use Rattle.sheet.proofs.Lines.{Passed, passed, later-empty}
-use Rattle.sheet.proofs.Shallow.{reached-settled}
-use Rattle.sheet.proofs.Depths as D
+use Rattle.sheet.proofs.reading.Parsed.{allBelow, all-below}
+use Rattle.sheet.proofs.reading.Lines.{Passed, passed, later-empty}
+use Rattle.sheet.proofs.reading.Shallow.{reached-settled}
+use Rattle.sheet.proofs.reading.Depths as D
 use Rattle.forms.specs.Tags.{TEXT-LINE}
 use Rattle.words.proofs.Stores.{getD-below, part-below}
 use Rattle.table.specs.Layout.{part, heap, RUN, MADE, TOP, TYPEDEPTHS, USES, SIZES, depthsAt, rowsOf, textRow, held, withRow, limits, limit, Last, Sound, rowIn}

@@ -7,7 +7,7 @@ use native.Mathlib.Omega.{arith}
 use lib.ListN.{length}
 use Rattle.sheet.specs.Bytes.{digits}
 use Rattle.sheet.specs.Answer.{concat, printed}
-use Rattle.sheet.proofs.LinesBack.{concat-append}
+use Rattle.sheet.proofs.answer.LinesBack.{concat-append}
 use Rattle.print.specs.Written.{Written}
 use Rattle.print.proofs.Writing.{written-as}
 use Rattle.print.proofs.Printing.{Printing, printing-start, printing-on, printing-end}

@@ -11,42 +11,42 @@ use lib.Dec.{ltb}
 use lib.ListN.{length, getD}
 use Rattle.cedar.specs.Types.{Ty, tbool, Var, principal, action, resource, context}
 use Rattle.cedar.specs.Residual.{err}
-use Rattle.cedar.specs.Interpret.{alone}
 use Rattle.cedar.specs.Rows.{Row, rent, sameRow}
 use Rattle.cedar.specs.Numbered.{NEnv, memN, nInterpret}
 use Rattle.cedar.specs.Runs.{Run, nRun}
 use Rattle.cedar.proofs.TableLaws.{InN}
 use Rattle.forms.specs.Tags.{POLICY-LINE}
-use Rattle.sheet.specs.Forms.{partial, forms, formOf, slotAt, tag, at, keyOf, TYPE, VALUE, NODE, POLICY, LINK, ENTITY, aloneRow}
+use Rattle.sheet.specs.Forms.{partial, forms, formOf, slotAt, tag, at, keyOf, VALUE, NODE, POLICY, LINK, ENTITY}
 use Rattle.sheet.specs.State.{State, linesOf, count, depthsOf, valueRow}
 use Rattle.sheet.specs.Typing.{nodesUnder}
 use Rattle.sheet.specs.Sheet.{read, anySlot, firsts, firstUnlinked, reachedFit, firstUnfit}
 use Rattle.sheet.specs.Content.{types, rowsIn, valueRows, schema, nEnv, given, requestTy, entityLine, lookUp, lineGiven, trees, numberedPolicies, nPolicies, linkOf, withLink, onTerm}
 use Rattle.sheet.specs.Answer.{run}
-use Rattle.sheet.proofs.Lines.{Was, accepted-history, accepted-fit}
-use Rattle.sheet.proofs.Parsed.{tags-between}
-use Rattle.sheet.proofs.NodeRows.{row-read}
-use Rattle.sheet.proofs.MadeCount.{policySizes}
-use Rattle.sheet.proofs.PoliciesRead.{item-there, policy-tags}
-use Rattle.sheet.proofs.Environment.{Facts, all-keys}
-use Rattle.sheet.proofs.TypeNumbers.{Listed, TypesIn, bool-listed}
-use Rattle.sheet.proofs.Depths.{Reached, read-reached, reached-depths, Depths}
-use Rattle.sheet.proofs.Depths as D
-use Rattle.sheet.proofs.Under.{fit-child}
-use Rattle.sheet.proofs.Linked.{link-fits}
-use Rattle.sheet.proofs.NeverNine.{policy-sizes}
-use Rattle.sheet.proofs.OnTerm.{Each, on-term}
+use Rattle.sheet.proofs.reading.Lines.{Was, accepted-history, accepted-fit}
+use Rattle.sheet.proofs.reading.Parsed.{tags-between}
+use Rattle.sheet.proofs.reading.NodeRows.{row-read}
+use Rattle.sheet.proofs.running.MadeCount.{policySizes}
+use Rattle.sheet.proofs.content.PoliciesRead.{item-there, policy-tags}
+use Rattle.sheet.proofs.content.Environment.{Facts, all-keys}
+use Rattle.sheet.proofs.content.TypeNumbers.{Listed, TypesIn, bool-listed}
+use Rattle.sheet.proofs.reading.Depths.{Reached, read-reached, reached-depths, Depths}
+use Rattle.sheet.proofs.reading.Depths as D
+use Rattle.sheet.proofs.reading.Under.{fit-child}
+use Rattle.sheet.proofs.content.Linked.{link-fits}
+use Rattle.sheet.proofs.running.NeverNine.{policy-sizes}
+use Rattle.sheet.proofs.content.OnTerm.{Each, on-term}
 use Rattle.table.specs.Layout.{base, rowsAt, rowsOf, linesHeld, held, RUN, MADE, TOP, limits, limit, Sound}
 use Rattle.table.proofs.Rows.{count-rows}
-use Rattle.value.specs.Lines.{valueLines, placeOf}
+use Rattle.value.specs.Lines.{valueLines}
 use Rattle.value.proofs.Interned.{Formeds}
 use Rattle.strict.specs.Gives.{envIn}
 use Rattle.strict.proofs.Links.{env-link}
 use Rattle.tpe.specs.Run.{interpOf, ranFrom, runOf}
 use Rattle.tpe.specs.Fits.{Fits}
 use Rattle.tpe.proofs.Reach.{reach-start}
-use Rattle.tpe.proofs.Stands.{Hold, values, Room, tys, nodes, ty}
+use Rattle.tpe.proofs.Stands.{Hold, values, Room, tys, nodes}
 use Rattle.tpe.proofs.Operations.{sch, env}
+use Rattle.tpe.proofs.Paths.{Kinds}
 use Rattle.tpe.proofs.Depth.{childrenOf, Proper, Deep, interp-is}
 use Rattle.tpe.proofs.Nodes.{node-fact}
 use Rattle.tpe.proofs.Policies.{RunIs, PolicyWorks, ran-is}
@@ -84,7 +84,7 @@ module _ (sheet a₀ : List ℕ) (f : Facts partial (held sheet a₀ [])) where
   abbrev s : State
   s = held sheet a₀ []
 
-  kinds : (k : ℕ) → Listed (tys sheet a₀) (alone k) → ty sheet a₀ (placeOf (aloneRow k) (rowsOf a₀ TYPE)) ≡ alone k
+  kinds : Kinds sheet a₀
   unfolding held linesHeld
   kinds k e = kind-found partial s (f .history) k e
 
@@ -104,7 +104,7 @@ module _ (sheet a₀ : List ℕ) (f : Facts partial (held sheet a₀ [])) where
 
     proper : (c : ℕ) → Linked s p q c → Proper sheet a₀ p q (trees s p q) (Linked s p q) c
     unfolding held linesHeld
-    proper c l = let k = node-fact partial s (f .history) p q c (l .there) in record { known = l; low = k .low; high = k .high; even = k .even; tree = k .tree }
+    proper c l = let k = node-fact partial s (f .history) p q c (l .there) in record { known = l; low = k .low; high = k .high; typed = k .typed; even = k .even; tree = k .tree }
 
     module _ (ds : List ℕ) (levels : D.Deep NODE (rowsOf a₀ NODE) ds) where
       kid-falls : (c : ℕ) → Linked s p q c → (j : ℕ) → InN j (childrenOf (getD (nodes sheet a₀) c [])) → Linked s p q j × (getD ds j 0 < getD ds c 0)

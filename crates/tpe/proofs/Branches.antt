@@ -2,7 +2,7 @@
 use mathlib.Core.Path.{_≡_, sym, _∙_, ap, ap₂}
 use mathlib.Core.Bool.{true}
 use mathlib.Core.List.{List, [], _∷_, _++_, append-assoc, append-nil}
-use Prim.Native.Nat.{ℕ, suc, _+_, _*_, _≤_}
+use Prim.Native.Nat.{ℕ, suc, _+_, _*_, _≤_, _<_}
 use native.Mathlib.Omega.{arith}
 use lib.ListN.{length, getD, length-append}
 use Rattle.cedar.specs.Types.{Schema}
@@ -12,13 +12,13 @@ use Rattle.cedar.specs.Numbered.{NEnv, Out, out, nClass, nIf, thenIf}
 use Rattle.sheet.specs.Forms.{Mode, at}
 use Rattle.residual.specs.Trees.{rnil, rcons, flat, flats, leftTree, suits, treesOf, whole-none, whole-more}
 use Rattle.tpe.specs.Run.{O, Rec, leftOf, splitOf, branchBy, branchOf}
-use Rattle.tpe.proofs.Stands.{Room, nodes, ty, Is, is-as, left-is}
+use Rattle.tpe.proofs.Stands.{Room, tys, nodes, ty, Is, is-as, left-is}
 use Rattle.tpe.proofs.Logic.{class-is, Works, works-on, then-err, then-on, then-more}
 
 module _ (m : Mode) (sheet a₀ : List ℕ) where
   -- three blocks are kept
   module _ {d p q s : ℕ} {a l : List ℕ} {X Y Z : Out} {o u w : O} (i : Is sheet a₀ d p a l X o) (j : Is sheet a₀ d q (o .words) (o .log) Y u) (k : Is sheet a₀ d s (u .words) (u .log) Z w)
-      (c : ℕ) (r : List ℕ) (room : Room (suc (p + q + s)) a l) (su : suits (getD (nodes sheet a₀) c []) 3 ≡ true) where
+      (c : ℕ) (r : List ℕ) (typed : at r 0 < length (tys sheet a₀)) (room : Room (suc (p + q + s)) a l) (su : suits (getD (nodes sheet a₀) c []) 3 ≡ true) where
     three-log : w .log ≡ l ++ (flat (i .res) ++ (flat (j .res) ++ (flat (k .res) ++ [])))
     three-log =
         k .log ∙ ap (λ (z : List ℕ). z ++ flat (k .res)) (j .log) ∙ append-assoc (o .log) (flat (j .res)) (flat (k .res))
@@ -36,13 +36,13 @@ module _ (m : Mode) (sheet a₀ : List ℕ) where
         is-as sheet a₀
         (left-is sheet a₀ d (suc (p + q + s)) (omega arith) a l (w .words) room (k .hold) (record { top = omega (arith, i .top, j .top, k .top); few = omega (arith, i .few, j .few, k .few) })
         (w .log) (rcons (i .res) (rcons (j .res) (rcons (k .res) rnil))) three-log three-short (whole-more (i .whole) (whole-more (j .whole) (whole-more (k .whole) whole-none)))
-        c 0 (at r 0) su keep
+        c 0 (at r 0) typed su keep
         (ap (leftTree (getD (nodes sheet a₀) c []) 0 (ty sheet a₀ (at r 0))) (ap₂ (λ (t : Node ℕ) (v : List (Node ℕ)). t ∷ v) (i .tree) (ap₂ (λ (t v : Node ℕ). t ∷ v ∷ []) (j .tree) (k .tree))) ∙ e))
         (ap (λ (R : List Row). out R keep) (k .rows))
 
   module _ {d p q s : ℕ} {a l : List ℕ} {X : Out} {o : O} (deep : d ≤ 64) (i : Is sheet a₀ d p a l X o) (f : Rec) (x y : ℕ) (K L : List Row → Out)
       (P : List Row → Type 0) (g : Works m sheet a₀ P d q f x K) (h : Works m sheet a₀ P d s f y L) (good : P (X .rows)) (then-good : P (K (X .rows) .rows))
-      (c : ℕ) (r : List ℕ) (room : Room (suc (p + q + s)) a l) (su : suits (getD (nodes sheet a₀) c []) 3 ≡ true)
+      (c : ℕ) (r : List ℕ) (typed : at r 0 < length (tys sheet a₀)) (room : Room (suc (p + q + s)) a l) (su : suits (getD (nodes sheet a₀) c []) 3 ≡ true)
       (keep : (t u v : Node ℕ) → leftTree (getD (nodes sheet a₀) c []) 0 (ty sheet a₀ (at r 0)) (t ∷ u ∷ v ∷ []) ≡ ite (ty sheet a₀ (at r 0)) t u v) where
     second : Is sheet a₀ d q (o .words) (o .log) (K (X .rows)) (f (o .words) (o .log) x)
     second = then-more m sheet a₀ i (suc (p + q + s)) room (omega arith) P good q f x K (omega arith) g
@@ -61,8 +61,8 @@ module _ (m : Mode) (sheet a₀ : List ℕ) where
     unfolding branchBy splitOf
     go ctrue = then-on m sheet a₀ i (suc (p + q + s)) room (omega arith) P good q f x K (omega arith) g
     go cfalse = then-on m sheet a₀ i (suc (p + q + s)) room (omega arith) P good s f y L (omega arith) h
-    go cerror = then-err m sheet a₀ i (suc (p + q + s)) room (omega arith) (at r 0)
-    go copen = three-kept i second third c r room su (ite (ty sheet a₀ (at r 0)) (X .tree) (K (X .rows) .tree) (L (K (X .rows) .rows) .tree)) (keep _ _ _)
+    go cerror = then-err m sheet a₀ i (suc (p + q + s)) room (omega arith) (at r 0) typed
+    go copen = three-kept i second third c r typed room su (ite (ty sheet a₀ (at r 0)) (X .tree) (K (X .rows) .tree) (L (K (X .rows) .rows) .tree)) (keep _ _ _)
 
     pub if-is : (S : Schema) (N : NEnv) → Is sheet a₀ (suc d) (suc (p + q + s)) a l (thenIf S N (ty sheet a₀ (at r 0)) X K L) (branchOf f (length l) c (at r 0) x y o)
     unfolding branchOf

@@ -1,26 +1,24 @@
 -- Interpretation over words, at the depth of a node, is the numbered interpretation of its tree. Assumes nothing.
 use mathlib.Core.Path.{_≡_, refl, sym, subst}
 use mathlib.Core.List.{List, []}
-use Prim.Native.Nat.{ℕ, zero, suc, _-_, _*_, _≤_}
+use Prim.Native.Nat.{ℕ, zero, suc, _-_, _*_, _≤_, _<_}
 use native.Mathlib.Omega.{arith}
 use lib.ListN.{length, getD, drop}
 use Rattle.cedar.specs.Types.{tbool}
-use Rattle.cedar.specs.Interpret.{alone}
 use Rattle.cedar.specs.Residual.{Node, err}
 use Rattle.cedar.specs.Rows.{Row}
 use Rattle.cedar.specs.Numbered.{nInterpret}
 use Rattle.cedar.proofs.TableLaws.{InN}
 use Rattle.forms.specs.Tags.{RECORD-OF, SLOT}
-use Rattle.sheet.specs.Forms.{Mode, tag, items, TYPE, NODE, firstNode, aloneRow}
+use Rattle.sheet.specs.Forms.{Mode, tag, items, at, NODE, firstNode}
 use Rattle.sheet.specs.Content.{treeOver, linked}
 use Rattle.sheet.specs.Answer.{size}
-use Rattle.sheet.proofs.TypeNumbers.{Listed, TypesIn}
-use Rattle.table.specs.Layout.{rowsOf}
-use Rattle.value.specs.Lines.{placeOf}
+use Rattle.sheet.proofs.content.TypeNumbers.{TypesIn}
 use Rattle.tpe.specs.Run.{others, errStep, steps, stepWith, stepOf, interpOf}
-use Rattle.tpe.proofs.Stands.{values, Room, tys, nodes, ty, Is}
+use Rattle.tpe.proofs.Stands.{values, Room, tys, nodes, Is}
 use Rattle.tpe.proofs.Operations.{sch, env}
 use Rattle.tpe.proofs.Logic.{Works}
+use Rattle.tpe.proofs.Paths.{Kinds}
 use Rattle.tpe.proofs.EachStep.{kidsFor, step-is}
 
 -- the children of a node's row
@@ -29,11 +27,12 @@ childrenOf r = getD (kidsFor r) (tag r - firstNode) []
 
 -- F: what is known of the nodes that are worked; p and q: the link's values
 module _ (sheet a₀ : List ℕ) (p q : ℕ) (trs : List (Node ℕ)) (F : ℕ → Type 0) where
-  -- node c is known, its row is of an operation, and tree c is the one that the row says
+  -- node c is known, its row is of an operation and of a listed type, and tree c is the one that the row says
   pub record Proper (c : ℕ) : Type 0 where
     pub known : F c
     pub low : firstNode ≤ tag (getD (nodes sheet a₀) c [])
     pub high : tag (getD (nodes sheet a₀) c []) ≤ SLOT
+    pub typed : at (getD (nodes sheet a₀) c []) 0 < length (tys sheet a₀)
     pub even : tag (getD (nodes sheet a₀) c []) ≡ RECORD-OF → length (drop 1 (items (getD (nodes sheet a₀) c []))) ≡ 2 * length (others (drop 1 (items (getD (nodes sheet a₀) c []))))
     pub tree : getD trs c (err tbool) ≡ treeOver (tys sheet a₀) (λ n. n) (linked (λ n. n) p q) trs (getD (nodes sheet a₀) c [])
 
@@ -46,7 +45,7 @@ module _ (sheet a₀ : List ℕ) (p q : ℕ) (trs : List (Node ℕ)) (F : ℕ �
   deep-known zero c e = absurd e
   deep-known (suc d) c e = e .0 .known
 
-module _ (m : Mode) (sheet a₀ : List ℕ) (kinds : (k : ℕ) → Listed (tys sheet a₀) (alone k) → ty sheet a₀ (placeOf (aloneRow k) (rowsOf a₀ TYPE)) ≡ alone k)
+module _ (m : Mode) (sheet a₀ : List ℕ) (kinds : Kinds sheet a₀)
     (p q : ℕ) (trs : List (Node ℕ)) (F : ℕ → Type 0) (P : List Row → Type 0)
     (keeps : (c : ℕ) → F c → (R : List Row) → P R → P (nInterpret (sch m sheet a₀) (env m sheet a₀) (getD trs c (err tbool)) R .rows))
     (lists : (c : ℕ) → F c → (R : List Row) → P R → TypesIn (tys sheet a₀) (nInterpret (sch m sheet a₀) (env m sheet a₀) (getD trs c (err tbool)) R .tree)) where
@@ -61,6 +60,6 @@ module _ (m : Mode) (sheet a₀ : List ℕ) (kinds : (k : ℕ) → Listed (tys s
       (λ (t : Node ℕ). Room (size t) a l → TypesIn (tys sheet a₀) (nInterpret (sch m sheet a₀) (env m sheet a₀) t (values a) .tree)
       → Is sheet a₀ (suc d) (size t) a l (nInterpret (sch m sheet a₀) (env m sheet a₀) t (values a)) (getD (steps m sheet p q) (tag (getD (nodes sheet a₀) c []) - firstNode) (errStep m sheet) (interpOf m sheet p q d) a l c (getD (nodes sheet a₀) c [])))
       (sym (k .tree))
-      (step-is m sheet a₀ kinds trs P d (omega (arith, deep)) (interpOf m sheet p q d) c (k .low) a l h good p q (k .even) (tag (getD (nodes sheet a₀) c []) - firstNode) refl (omega (arith, k .high))
+      (step-is m sheet a₀ kinds trs P d (omega (arith, deep)) (interpOf m sheet p q d) c (k .low) (k .typed) a l h good p q (k .even) (tag (getD (nodes sheet a₀) c []) - firstNode) refl (omega (arith, k .high))
       (λ j i. record { working = interp-is d j (omega (arith, deep)) (e .1 j i); keeps = keeps j (deep-known sheet a₀ p q trs F d j (e .1 j i)) }))
       room (lists c (k .known) (values a) good))

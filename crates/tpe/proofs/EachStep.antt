@@ -3,7 +3,7 @@ use mathlib.Core.Path.{_≡_, refl, sym, _∙_, ap, subst}
 use mathlib.Core.Bool.{Bool, true, false, cond}
 use mathlib.Core.Option.{Option, none, some, Option·some-injective}
 use mathlib.Core.List.{List, [], _∷_, append-nil}
-use Prim.Native.Nat.{ℕ, zero, suc, _+_, _-_, _*_, _/_, _≤_}
+use Prim.Native.Nat.{ℕ, zero, suc, _+_, _-_, _*_, _/_, _≤_, _<_}
 use native.Mathlib.Nat.{div-eq-of-eq-mul-right}
 use native.Mathlib.Omega.{arith}
 use borrow.Author.Tests.{le-leb, eq-eqb}
@@ -11,21 +11,19 @@ use lib.Dec.{eqb}
 use lib.ListN.{length, getD, drop, length-drop}
 use Rattle.cedar.specs.Types.{Ty, tbool, Schema, Var, principal, action, resource, context}
 use Rattle.cedar.specs.Residual.{Node, lit, err, var, and, or, ite, un, bin, rel, get, has, haspath, econs, gcons, Un, unot, uneg, uempty, uis, ulike, Bin, beq, blt, ble, badd, bsub, bmul, bcontains, ball, bany, Rel, rin, rgettag, rhastag}
-use Rattle.cedar.specs.Interpret.{alone}
 use Rattle.cedar.specs.Rows.{Row}
 use Rattle.cedar.specs.Numbered.{Give, made, old, NEnv, Out, out, Outs, OutArgs, nVar, giveLit, nStepUn, nStepGet, nStepHas, nStepPath, nStepSet, nStepRec, thenAnd, thenOr, thenIf, thenBin, thenRel, nInterpret, nInterprets, nInterpretArgs}
 use Rattle.cedar.proofs.Tools.{no-some}
 use Rattle.cedar.proofs.TableLaws.{InN, now′, later′}
 use Rattle.forms.specs.Tags.{VAR, SET-OF, RECORD-OF, SLOT}
-use Rattle.sheet.specs.Forms.{Mode, tag, items, at, mark, TYPE, NODE, PRINCIPAL, ACTION, RESOURCE, CONTEXT, firstNode, aloneRow}
+use Rattle.sheet.specs.Forms.{Mode, tag, items, at, mark, NODE, PRINCIPAL, ACTION, RESOURCE, CONTEXT, firstNode}
 use Rattle.sheet.specs.State.{State, lineAt}
 use Rattle.sheet.specs.Typing.{slotValue}
 use Rattle.sheet.specs.Content.{varOf, known, given, nEnv, child, childrenOver, argsOver, treeFor, linked, patternOf}
 use Rattle.sheet.specs.Answer.{size, sizes, sizeArgs}
-use Rattle.sheet.proofs.MadeCount.{size-least}
-use Rattle.sheet.proofs.TypeNumbers.{Listed, TypesIn}
+use Rattle.sheet.proofs.running.MadeCount.{size-least}
+use Rattle.sheet.proofs.content.TypeNumbers.{TypesIn}
 use Rattle.table.specs.Layout.{rowsOf, held}
-use Rattle.value.specs.Lines.{placeOf}
 use Rattle.residual.specs.Trees.{rnil, flats, nodesOf, argsOf, leftFor, leftTree, suitsFor, suits, treesOf, Res, Whole, whole-none}
 use Rattle.tpe.specs.Run.{O, Rec, giveOf, varFor, others, litStep, errStep, varStep, lazyStep, ifStep, binStep, relStep, unStep, getStep, hasStep, pathStep, setStep, recStep, slotStep, pathOf, steps}
 use Rattle.tpe.proofs.Outcomes.{RowFine, GiveFine, words-row, words-formed, words-short}
@@ -34,7 +32,7 @@ use Rattle.tpe.proofs.Stands.{Hold, values, same-sheet, env-is, Room, t
 use Rattle.tpe.proofs.Operations.{sch, env, un-is, get-is, has-is, bin-is, rel-is}
 use Rattle.tpe.proofs.Logic.{Works, then-more, and-is, or-is}
 use Rattle.tpe.proofs.Branches.{if-is}
-use Rattle.tpe.proofs.Paths.{path-is}
+use Rattle.tpe.proofs.Paths.{Kinds, path-is}
 use Rattle.tpe.proofs.Kids.{resultsOf, Kid, kid-none, kid-more, Takes, kids-are}
 use Rattle.tpe.proofs.Sets.{set-is, rec-is, drop-two}
 
@@ -94,21 +92,21 @@ unfolding suits
 suits-at r x h e n = rw (le-leb firstNode (tag r) h, e)
 
 -- a path over a child of any depth: none is of depth 0
-path-any : (m : Mode) (sheet a₀ : List ℕ) (kinds : (k : ℕ) → Listed (tys sheet a₀) (alone k) → ty sheet a₀ (placeOf (aloneRow k) (rowsOf a₀ TYPE)) ≡ alone k)
-    (d : ℕ) {n : ℕ} {a l : List ℕ} {X : Out} {o : O} → d ≤ 64 → Is sheet a₀ d n a l X o → (c : ℕ) (r : List ℕ) → Room (suc n) a l → suits (getD (nodes sheet a₀) c []) 1 ≡ true
+path-any : (m : Mode) (sheet a₀ : List ℕ) (kinds : Kinds sheet a₀)
+    (d : ℕ) {n : ℕ} {a l : List ℕ} {X : Out} {o : O} → d ≤ 64 → Is sheet a₀ d n a l X o → (c : ℕ) (r : List ℕ) → at r 0 < length (tys sheet a₀) → Room (suc n) a l → suits (getD (nodes sheet a₀) c []) 1 ≡ true
     → ((j : ℕ) (t : Node ℕ) → leftTree (getD (nodes sheet a₀) c []) j (ty sheet a₀ (at r 0)) (t ∷ []) ≡ haspath (ty sheet a₀ (at r 0)) t (at r (2 + j)) (drop (3 + j) (items r)))
     → TypesIn (tys sheet a₀) (nStepPath (sch m sheet a₀) (env m sheet a₀) (ty sheet a₀ (at r 0)) X (at r 2) (drop 3 (items r)) .tree)
     → Is sheet a₀ (suc d) (suc n) a l (nStepPath (sch m sheet a₀) (env m sheet a₀) (ty sheet a₀ (at r 0)) X (at r 2) (drop 3 (items r))) (pathOf m sheet (length l) c r o)
-path-any m sheet a₀ kinds zero deep i c r room su keep lists = none-flat (i .whole)
+path-any m sheet a₀ kinds zero deep i c r typed room su keep lists = none-flat (i .whole)
   where
     none-flat : {X : Type 0} {q : Res} → Whole (tys sheet a₀) (nodes sheet a₀) 0 q → X
     none-flat w = elim w [ ]
-path-any m sheet a₀ kinds (suc d) deep i c r room su keep lists = path-is m sheet a₀ kinds deep i c r room su keep lists
+path-any m sheet a₀ kinds (suc d) deep i c r typed room su keep lists = path-is m sheet a₀ kinds deep i c r typed room su keep lists
 
 -- ---- one step: node c has row r, and the nodes below work
 
-module _ (m : Mode) (sheet a₀ : List ℕ) (kinds : (k : ℕ) → Listed (tys sheet a₀) (alone k) → ty sheet a₀ (placeOf (aloneRow k) (rowsOf a₀ TYPE)) ≡ alone k)
-    (trs : List (Node ℕ)) (P : List Row → Type 0) (d : ℕ) (deep : d ≤ 64) (f : Rec) (c : ℕ) (low : firstNode ≤ tag (getD (nodes sheet a₀) c []))
+module _ (m : Mode) (sheet a₀ : List ℕ) (kinds : Kinds sheet a₀)
+    (trs : List (Node ℕ)) (P : List Row → Type 0) (d : ℕ) (deep : d ≤ 64) (f : Rec) (c : ℕ) (low : firstNode ≤ tag (getD (nodes sheet a₀) c [])) (typed : at (getD (nodes sheet a₀) c []) 0 < length (tys sheet a₀))
     (a l : List ℕ) (h : Hold a₀ a) (good : P (values a)) where
   abbrev r : List ℕ
   r = getD (nodes sheet a₀) c []
@@ -136,16 +134,16 @@ module _ (m : Mode) (sheet a₀ : List ℕ) (kinds : (k : ℕ) → Listed (tys s
 
   pub lit-step : Room 1 a l → Is sheet a₀ (suc d) 1 a l (out (values a) (lit T (at r 1))) (litStep m sheet f a l c r)
   unfolding litStep
-  lit-step room = lit-is sheet a₀ d 1 (omega arith) a l a room h (record { top = omega arith; few = omega arith }) (at r 0) (at r 1)
+  lit-step room = lit-is sheet a₀ d 1 (omega arith) a l a room h (record { top = omega arith; few = omega arith }) (at r 0) (at r 1) typed
 
   pub err-step : Room 1 a l → Is sheet a₀ (suc d) 1 a l (out (values a) (err T)) (errStep m sheet f a l c r)
   unfolding errStep
-  err-step room = err-is sheet a₀ d 1 (omega arith) a l a room h (record { top = omega arith; few = omega arith }) (at r 0)
+  err-step room = err-is sheet a₀ d 1 (omega arith) a l a room h (record { top = omega arith; few = omega arith }) (at r 0) typed
 
   -- under a link with the values v and w
   pub slot-step : (v w : ℕ) → Room 1 a l → Is sheet a₀ (suc d) 1 a l (out (values a) (linked (λ n. n) v w T (at r 1))) (slotStep m sheet v w f a l c r)
   unfolding slotStep
-  slot-step v w room = lit-is sheet a₀ d 1 (omega arith) a l a room h (record { top = omega arith; few = omega arith }) (at r 0) (slotValue v w (at r 1))
+  slot-step v w room = lit-is sheet a₀ d 1 (omega arith) a l a room h (record { top = omega arith; few = omega arith }) (at r 0) (slotValue v w (at r 1)) typed
 
   module _ (e : tag r - firstNode ≡ VAR - firstNode) (room : Room 1 a l) where
     asked-as : (g : Give) → env m sheet a₀ .request (varOf (at r 1)) ≡ some g → asks a .request (varOf (at r 1)) ≡ some g
@@ -156,14 +154,14 @@ module _ (m : Mode) (sheet a₀ : List ℕ) (kinds : (k : ℕ) → Listed (tys s
         → Is sheet a₀ (suc d) 1 a l (nVar (sch m sheet a₀) (env m sheet a₀) T (var T (varOf (at r 1))) o (values a)) (varFor m sheet a l c (at r 0) o)
     unfolding varFor giveOf flats treesOf
     var-by none ask fine =
-        left-is sheet a₀ d 1 (omega arith) a l a room h (record { top = omega arith; few = omega arith }) l rnil (sym (append-nil l)) (omega arith) whole-none c 0 (at r 0)
+        left-is sheet a₀ d 1 (omega arith) a l a room h (record { top = omega arith; few = omega arith }) l rnil (sym (append-nil l)) (omega arith) whole-none c 0 (at r 0) typed
         (suits-at r (VAR - firstNode) low e 0) (var T (varOf (at r 1))) (left-at r (VAR - firstNode) e 0 T [])
     var-by (some (made q)) ask fine =
         let g : RowFine q = fine (made q) refl in
         is-as sheet a₀
-        (make-asked sheet a₀ d 1 (omega arith) a l room h _ (words-formed q g) (words-short q g) (varOf (at r 1)) (asked-as (made q) ask ∙ ap (λ (z : Row). some (made z)) (sym (words-row q g))) (at r 0))
+        (make-asked sheet a₀ d 1 (omega arith) a l room h _ (words-formed q g) (words-short q g) (varOf (at r 1)) (asked-as (made q) ask ∙ ap (λ (z : Row). some (made z)) (sym (words-row q g))) (at r 0) typed)
         (ap (λ (z : Row). giveLit T (made z) (values a)) (words-row q g))
-    var-by (some (old v)) ask fine = lit-is sheet a₀ d 1 (omega arith) a l a room h (record { top = omega arith; few = omega arith }) (at r 0) v
+    var-by (some (old v)) ask fine = lit-is sheet a₀ d 1 (omega arith) a l a room h (record { top = omega arith; few = omega arith }) (at r 0) v typed
 
     pub var-step : Is sheet a₀ (suc d) 1 a l (nInterpret (sch m sheet a₀) (env m sheet a₀) (var T (varOf (at r 1))) (values a)) (varStep m sheet f a l c r)
     unfolding varStep
@@ -177,17 +175,17 @@ module _ (m : Mode) (sheet a₀ : List ℕ) (kinds : (k : ℕ) → Listed (tys s
     pub un-step : (u : List ℕ → Un) → ((t : Node ℕ) → leftTree r 0 T (t ∷ []) ≡ un T (u r) t)
         → Is sheet a₀ (suc d) (suc (size (tr (at r 1)))) a l (nStepUn (sch m sheet a₀) (env m sheet a₀) T (u r) (K (at r 1) (values a))) (unStep m sheet u f a l c r)
     unfolding unStep
-    un-step u k = rw (same-row (f a l (at r 1) .words) (i₁ .hold)) (un-is m sheet a₀ deep i₁ c r room su (u r) (k _))
+    un-step u k = rw (same-row (f a l (at r 1) .words) (i₁ .hold)) (un-is m sheet a₀ deep i₁ c r typed room su (u r) (k _))
 
     pub get-step : ((t : Node ℕ) → leftTree r 0 T (t ∷ []) ≡ get T t (at r 2))
         → Is sheet a₀ (suc d) (suc (size (tr (at r 1)))) a l (nStepGet (sch m sheet a₀) (env m sheet a₀) T (K (at r 1) (values a)) (at r 2)) (getStep m sheet f a l c r)
     unfolding getStep
-    get-step k = rw (same-row (f a l (at r 1) .words) (i₁ .hold)) (get-is m sheet a₀ deep i₁ c r room su (k _))
+    get-step k = rw (same-row (f a l (at r 1) .words) (i₁ .hold)) (get-is m sheet a₀ deep i₁ c r typed room su (k _))
 
     pub has-step : ((t : Node ℕ) → leftTree r 0 T (t ∷ []) ≡ has T t (at r 2))
         → Is sheet a₀ (suc d) (suc (size (tr (at r 1)))) a l (nStepHas (sch m sheet a₀) (env m sheet a₀) T (K (at r 1) (values a)) (at r 2)) (hasStep m sheet f a l c r)
     unfolding hasStep
-    has-step k = rw (same-row (f a l (at r 1) .words) (i₁ .hold)) (has-is m sheet a₀ deep i₁ c r room su (k _))
+    has-step k = rw (same-row (f a l (at r 1) .words) (i₁ .hold)) (has-is m sheet a₀ deep i₁ c r typed room su (k _))
 
   -- two operands
   module _ (b₁ : Below (at r 1)) (b₂ : Below (at r 2)) (room : Room (suc (size (tr (at r 1)) + size (tr (at r 2)))) a l) (su : suits r 2 ≡ true) where
@@ -209,22 +207,22 @@ module _ (m : Mode) (sheet a₀ : List ℕ) (kinds : (k : ℕ) → Listed (tys s
     pub bin-step : (b : Bin) → ((t u : Node ℕ) → leftTree r 0 T (t ∷ u ∷ []) ≡ bin T b t u)
         → Is sheet a₀ (suc d) (suc (p + q)) a l (thenBin (sch m sheet a₀) (env m sheet a₀) T b (K (at r 1) (values a)) (K (at r 2))) (binStep m sheet b f a l c r)
     unfolding binStep
-    bin-step b k = rw (row₁, same-row (f (f a l (at r 1) .words) (f a l (at r 1) .log) (at r 2) .words) (right₂ .hold)) (bin-is m sheet a₀ deep left₂ right₂ c r room su b (k _ _))
+    bin-step b k = rw (row₁, same-row (f (f a l (at r 1) .words) (f a l (at r 1) .log) (at r 2) .words) (right₂ .hold)) (bin-is m sheet a₀ deep left₂ right₂ c r typed room su b (k _ _))
 
     pub rel-step : (b : Rel) → ((t u : Node ℕ) → leftTree r 0 T (t ∷ u ∷ []) ≡ rel T b t u)
         → Is sheet a₀ (suc d) (suc (p + q)) a l (thenRel (sch m sheet a₀) (env m sheet a₀) T b (K (at r 1) (values a)) (K (at r 2))) (relStep m sheet b f a l c r)
     unfolding relStep
-    rel-step b k = rw (row₁, same-row (f (f a l (at r 1) .words) (f a l (at r 1) .log) (at r 2) .words) (right₂ .hold)) (rel-is m sheet a₀ deep left₂ right₂ c r room su b (k _ _))
+    rel-step b k = rw (row₁, same-row (f (f a l (at r 1) .words) (f a l (at r 1) .log) (at r 2) .words) (right₂ .hold)) (rel-is m sheet a₀ deep left₂ right₂ c r typed room su b (k _ _))
 
     pub and-step : ((t u : Node ℕ) → leftTree r 0 T (t ∷ u ∷ []) ≡ and T t u)
         → Is sheet a₀ (suc d) (suc (p + q)) a l (thenAnd (sch m sheet a₀) (env m sheet a₀) T (K (at r 1) (values a)) (K (at r 2))) (lazyStep m sheet false f a l c r)
     unfolding lazyStep
-    and-step k = rw row₁ (and-is m sheet a₀ deep left₂ f (at r 2) (K (at r 2)) P (b₂ .working) (b₁ .keeps (values a) good) (size-least (tr (at r 2))) c r room su k (sch m sheet a₀) (env m sheet a₀))
+    and-step k = rw row₁ (and-is m sheet a₀ deep left₂ f (at r 2) (K (at r 2)) P (b₂ .working) (b₁ .keeps (values a) good) (size-least (tr (at r 2))) c r typed room su k (sch m sheet a₀) (env m sheet a₀))
 
     pub or-step : ((t u : Node ℕ) → leftTree r 0 T (t ∷ u ∷ []) ≡ or T t u)
         → Is sheet a₀ (suc d) (suc (p + q)) a l (thenOr (sch m sheet a₀) (env m sheet a₀) T (K (at r 1) (values a)) (K (at r 2))) (lazyStep m sheet true f a l c r)
     unfolding lazyStep
-    or-step k = rw row₁ (or-is m sheet a₀ deep left₂ f (at r 2) (K (at r 2)) P (b₂ .working) (b₁ .keeps (values a) good) (size-least (tr (at r 2))) c r room su k (sch m sheet a₀) (env m sheet a₀))
+    or-step k = rw row₁ (or-is m sheet a₀ deep left₂ f (at r 2) (K (at r 2)) P (b₂ .working) (b₁ .keeps (values a) good) (size-least (tr (at r 2))) c r typed room su k (sch m sheet a₀) (env m sheet a₀))
 
   -- if
   module _ (b₁ : Below (at r 1)) (b₂ : Below (at r 2)) (b₃ : Below (at r 3)) (room : Room (suc (size (tr (at r 1)) + size (tr (at r 2)) + size (tr (at r 3)))) a l) (su : suits r 3 ≡ true) where
@@ -235,7 +233,7 @@ module _ (m : Mode) (sheet a₀ : List ℕ) (kinds : (k : ℕ) → Listed (tys s
         let i = first (at r 1) (suc (size (tr (at r 1)) + size (tr (at r 2)) + size (tr (at r 3)))) b₁ room (omega arith) in
         rw (same-row (f a l (at r 1) .words) (i .hold))
         (if-is m sheet a₀ deep i f (at r 2) (at r 3) (K (at r 2)) (K (at r 3)) P (b₂ .working) (b₃ .working)
-        (b₁ .keeps (values a) good) (b₂ .keeps (K (at r 1) (values a) .rows) (b₁ .keeps (values a) good)) c r room su k (sch m sheet a₀) (env m sheet a₀))
+        (b₁ .keeps (values a) good) (b₂ .keeps (K (at r 1) (values a) .rows) (b₁ .keeps (values a) good)) c r typed room su k (sch m sheet a₀) (env m sheet a₀))
 
   -- sets and records
   kid-all : (xs : List ℕ) → ((x : ℕ) → InN x xs → Below x) → Kid m sheet a₀ P d f xs (works (sch m sheet a₀) (env m sheet a₀) (tys sheet a₀) trs xs) (sizes (childrenOver (tys sheet a₀) (λ n. n) trs xs))
@@ -276,7 +274,7 @@ module _ (m : Mode) (sheet a₀ : List ℕ) (kinds : (k : ℕ) → Listed (tys s
       let n : length (drop 1 (items r)) ≡ length r - 2 = simp length-drop (omega arith) in
       rw (← n, same-row _ (k .hold))
       (is-as sheet a₀
-      (set-is m sheet a₀ P k c r room (suits-at r (SET-OF - firstNode) low e (length (drop 1 (items r)))) (left-at r (SET-OF - firstNode) e 0 T _))
+      (set-is m sheet a₀ P k c r typed room (suits-at r (SET-OF - firstNode) low e (length (drop 1 (items r)))) (left-at r (SET-OF - firstNode) e 0 T _))
       (ap (nStepSet (sch m sheet a₀) (env m sheet a₀) T) (sym (all-are (sch m sheet a₀) (env m sheet a₀) (tys sheet a₀) trs (drop 1 (items r)) (values a)))))
 
   pub rec-step : ((x : ℕ) → InN x (others (drop 1 (items r))) → Below x) → Room (suc (sizeArgs (argsOver (tys sheet a₀) (λ n. n) trs (drop 1 (items r))))) a l → tag r - firstNode ≡ RECORD-OF - firstNode
@@ -290,7 +288,7 @@ module _ (m : Mode) (sheet a₀ : List ℕ) (kinds : (k : ℕ) → Listed (tys s
       let n : length (others (drop 1 (items r))) ≡ (length r - 2) / 2 = sym (div-eq-of-eq-mul-right (omega arith) (omega (arith, even, w))) in
       rw (← n, same-row _ (k .hold))
       (is-as sheet a₀
-      (rec-is m sheet a₀ P k c r room
+      (rec-is m sheet a₀ P k c r typed room
       (suits-at r (RECORD-OF - firstNode) low e (length (others (drop 1 (items r)))) ∙ eq-eqb (length (drop 1 (items r))) (length (others (drop 1 (items r))) + length (others (drop 1 (items r)))) (omega (arith, even)))
       even (left-at r (RECORD-OF - firstNode) e 0 T _))
       (ap (nStepRec (sch m sheet a₀) (env m sheet a₀) T) (sym (args-are (sch m sheet a₀) (env m sheet a₀) (tys sheet a₀) trs (drop 1 (items r)) (values a)))))
@@ -302,7 +300,7 @@ module _ (m : Mode) (sheet a₀ : List ℕ) (kinds : (k : ℕ) → Listed (tys s
   unfolding pathStep
   path-step b room su k lists =
       let i = first (at r 1) (suc (size (tr (at r 1)))) b room (omega arith) in
-      rw (same-row (f a l (at r 1) .words) (i .hold)) (path-any m sheet a₀ kinds d deep i c r room su k lists)
+      rw (same-row (f a l (at r 1) .words) (i .hold)) (path-any m sheet a₀ kinds d deep i c r typed room su k lists)
 
   -- the tree of the row for operation x, under a link with the values v and w
   abbrev pub treeAt : ℕ → ℕ → ℕ → Node ℕ

@@ -13,11 +13,11 @@ use Rattle.sheet.specs.Forms.{Mode, TYPE, VALUE, aloneRow}
 use Rattle.sheet.specs.State.{State, linesOf, count, TypeRow, bool, long, string, entity, set′, record′, typeRow}
 use Rattle.sheet.specs.Answer.{typeNumber}
 use Rattle.sheet.specs.Content.{types, tyOver}
-use Rattle.sheet.proofs.Lines.{History}
-use Rattle.sheet.proofs.ValueRows.{same-refl, value-back}
-use Rattle.sheet.proofs.Fitting.{ty-eq}
-use Rattle.sheet.proofs.TypeNumbers.{Listed, split-at, type-back, types-length}
-use Rattle.sheet.proofs.TwoSheets.{same-is}
+use Rattle.sheet.proofs.reading.Lines.{History}
+use Rattle.sheet.proofs.content.ValueRows.{same-refl, value-back}
+use Rattle.sheet.proofs.content.Fitting.{ty-eq}
+use Rattle.sheet.proofs.content.TypeNumbers.{Listed, split-at, type-back, types-length}
+use Rattle.sheet.proofs.demand3.TwoSheets.{same-is}
 use Rattle.value.specs.Lines.{placeOf}
 use Rattle.value.proofs.Interned.{Formeds, none-formed, one-formed}
 
@@ -50,7 +50,7 @@ entity-of ts k (set′ y) e = absurd e
 entity-of ts k (record′ ds) e = absurd e
 
 module _ (m : Mode) (s : State) (h : History m s) where
-  pub kind-found : (k : ℕ) → Listed (types s) (alone k) → getD (types s) (placeOf (aloneRow k) (linesOf s TYPE)) tbool ≡ alone k
+  pub kind-found : (k : ℕ) → Listed (types s) (alone k) → (placeOf (aloneRow k) (linesOf s TYPE) < length (types s)) × (getD (types s) (placeOf (aloneRow k) (linesOf s TYPE)) tbool ≡ alone k)
   kind-found k e =
       let y = typeNumber (types s) (alone k) in
       let n = types-length m s h in
@@ -59,7 +59,8 @@ module _ (m : Mode) (s : State) (h : History m s) where
       let r : typeRow (getD (linesOf s TYPE) y []) ≡ entity k [] = entity-of (types s) k (typeRow (getD (linesOf s TYPE) y [])) (subst (IsEnt k) q (refl, refl)) in
       let row : getD (linesOf s TYPE) y [] ≡ aloneRow k = split-at (linesOf s TYPE) y lt (λ pre rest z. let w = h TYPE pre (getD (linesOf s TYPE) y []) rest z in let b = type-back m (w .line) (getD (linesOf s TYPE) y []) (w .row) (w .key) in sym (rw r at b)) in
       let p = place-found (aloneRow k) (linesOf s TYPE) y lt row in
-      ty-eq m s h (placeOf (aloneRow k) (linesOf s TYPE)) ∙ ap (λ x. tyOver (types s) (typeRow x)) (p .1)
+      let b = p .0 in
+      (omega (arith, b, n), ty-eq m s h (placeOf (aloneRow k) (linesOf s TYPE)) ∙ ap (λ x. tyOver (types s) (typeRow x)) (p .1))
 
   formeds-from : (pre rest : List (List ℕ)) → linesOf s VALUE ≡ pre ++ rest → Formeds rest
   formeds-from pre [] e = none-formed

@@ -2,7 +2,7 @@
 use mathlib.Core.Path.{_≡_, refl, sym, _∙_, ap, ap₂, subst}
 use mathlib.Core.Bool.{Bool, true, false, cond}
 use mathlib.Core.List.{List, [], _∷_, _++_, append-assoc}
-use Prim.Native.Nat.{ℕ, zero, suc, _+_, _≤_}
+use Prim.Native.Nat.{ℕ, zero, suc, _+_, _≤_, _<_}
 use native.Mathlib.Omega.{arith}
 use lib.ListN.{length, getD, take, length-append}
 use Rattle.words.specs.Log.{appended}
@@ -32,9 +32,9 @@ class-by a error = refl
 class-by a open′ = refl
 
 module _ (m : Mode) (sheet a₀ : List ℕ) where
-  lit-whole : (d : ℕ) {r : Res} {v y : ℕ} → Whole (tys sheet a₀) (nodes sheet a₀) d r → Whole (tys sheet a₀) (nodes sheet a₀) d (rlit v y)
-  lit-whole zero w = elim w [ ]
-  lit-whole (suc d) w = whole-lit
+  lit-whole : (d : ℕ) {r : Res} {v y : ℕ} → y < length (tys sheet a₀) → Whole (tys sheet a₀) (nodes sheet a₀) d r → Whole (tys sheet a₀) (nodes sheet a₀) d (rlit v y)
+  lit-whole zero t w = elim w [ ]
+  lit-whole (suc d) t w = whole-lit t
 
   pub class-is : {d n : ℕ} {a l : List ℕ} {X : Out} {o : O} → d ≤ 64 → Is sheet a₀ d n a l X o → classOf (o .words) (o .log) ≡ nClass X
   unfolding classOf
@@ -54,15 +54,15 @@ module _ (m : Mode) (sheet a₀ : List ℕ) where
     cut : take (length l) (o .log) ≡ l
     cut = cut-back l (flat (i .res)) (o .log) (i .log)
 
-    pub then-bool : (b : Bool) (y : ℕ) → Is sheet a₀ (suc d) n a l (make (ty sheet a₀ y) (rbool b) (X .rows)) (madeOf (o .words) (take (length l) (o .log)) y (boolRow b))
-    then-bool b y =
+    pub then-bool : (b : Bool) (y : ℕ) → y < length (tys sheet a₀) → Is sheet a₀ (suc d) n a l (make (ty sheet a₀ y) (rbool b) (X .rows)) (madeOf (o .words) (take (length l) (o .log)) y (boolRow b))
+    then-bool b y typed =
         rw (cut, ← i .rows, ← bool-row b)
-        (make-bool sheet a₀ d n (omega (arith, more)) a l (o .words) room (i .hold) (record { top = omega (arith, i .top, more); few = omega (arith, i .few, more) }) b y)
+        (make-bool sheet a₀ d n (omega (arith, more)) a l (o .words) room (i .hold) (record { top = omega (arith, i .top, more); few = omega (arith, i .few, more) }) b y typed)
 
-    pub then-err : (y : ℕ) → Is sheet a₀ (suc d) n a l (out (X .rows) (err (ty sheet a₀ y))) (errOf (o .words) (take (length l) (o .log)) y)
-    then-err y =
+    pub then-err : (y : ℕ) → y < length (tys sheet a₀) → Is sheet a₀ (suc d) n a l (out (X .rows) (err (ty sheet a₀ y))) (errOf (o .words) (take (length l) (o .log)) y)
+    then-err y typed =
         rw (cut, ← i .rows)
-        (err-is sheet a₀ d n (omega (arith, more)) a l (o .words) room (i .hold) (record { top = omega (arith, i .top, more); few = omega (arith, i .few, more) }) y)
+        (err-is sheet a₀ d n (omega (arith, more)) a l (o .words) room (i .hold) (record { top = omega (arith, i .top, more); few = omega (arith, i .few, more) }) y typed)
 
     -- a second part in its place
     pub then-on : (P : List Row → Type 0) → P (X .rows) → (q : ℕ) (f : Rec) (x : ℕ) (K : List Row → Out) → suc (p + q) ≤ n → Works P d q f x K → Is sheet a₀ (suc d) n a l (K (X .rows)) (f (o .words) (take (length l) (o .log)) x)
@@ -85,7 +85,7 @@ module _ (m : Mode) (sheet a₀ : List ℕ) where
   -- ---- and, or
 
   module _ {d p q : ℕ} {a l : List ℕ} {X Y : Out} {o w : O} (deep : d ≤ 64) (i : Is sheet a₀ d p a l X o) (j : Is sheet a₀ d q (o .words) (o .log) Y w) (least : 1 ≤ q)
-      (c : ℕ) (r : List ℕ) (room : Room (suc (p + q)) a l) (su : suits (getD (nodes sheet a₀) c []) 2 ≡ true) where
+      (c : ℕ) (r : List ℕ) (typed : at r 0 < length (tys sheet a₀)) (room : Room (suc (p + q)) a l) (su : suits (getD (nodes sheet a₀) c []) 2 ≡ true) where
     both-cut : take (length l) (w .log) ≡ l
     both-cut = cut-back l (flat (i .res) ++ flat (j .res)) (w .log) (j .log ∙ ap (λ (z : List ℕ). z ++ flat (j .res)) (i .log) ∙ append-assoc l (flat (i .res)) (flat (j .res)))
 
@@ -109,7 +109,7 @@ module _ (m : Mode) (sheet a₀ : List ℕ) where
     -- both are kept
     pub both-kept : (keep : Node ℕ) → leftTree (getD (nodes sheet a₀) c []) 0 (ty sheet a₀ (at r 0)) (X .tree ∷ Y .tree ∷ []) ≡ keep
         → Is sheet a₀ (suc d) (suc (p + q)) a l (out (Y .rows) keep) (leftOf (w .words) (w .log) (length l) c 0 (at r 0))
-    both-kept keep k = over-left sheet a₀ (over2 m sheet a₀ deep i j c r room su keep k)
+    both-kept keep k = over-left sheet a₀ (over2 m sheet a₀ deep i j c r typed room su keep k)
 
     -- the right side decides: beside a left side that can err it is kept
     module _ (z : Bool) where
@@ -145,11 +145,11 @@ module _ (m : Mode) (sheet a₀ : List ℕ) where
           (rcons (i .res) (rcons (rlit (numberOf (w .words) (boolRow z)) (at r 0)) rnil))
           (decided-log (at r 0))
           (omega (arith, i .short, least, length-append (flat (i .res)) (litRow (numberOf (w .words) (boolRow z)) (at r 0) ++ [])))
-          (whole-more (i .whole) (whole-more (lit-whole d (i .whole)) whole-none))
-          c 0 (at r 0) su (two (X .tree) (lit (ty sheet a₀ (at r 0)) (intern (Y .rows) (rbool z) .number)))
+          (whole-more (i .whole) (whole-more (lit-whole d typed (i .whole)) whole-none))
+          c 0 (at r 0) typed su (two (X .tree) (lit (ty sheet a₀ (at r 0)) (intern (Y .rows) (rbool z) .number)))
           (k (treeOf (tys sheet a₀) (nodes sheet a₀) (i .res)) (lit (ty sheet a₀ (at r 0)) (numberOf (w .words) (boolRow z))) ∙ ap₂ two (i .tree) (ap (lit (ty sheet a₀ (at r 0))) number-is)))
           (ap (λ (R : List Row). out R (two (X .tree) (lit (ty sheet a₀ (at r 0)) (intern (Y .rows) (rbool z) .number)))) rows-are)
-      decided-is two k false = rw (both-cut, ← j .rows, ← bool-row z) (make-bool sheet a₀ d (suc (p + q)) (omega arith) a l (w .words) room (j .hold) space z (at r 0))
+      decided-is two k false = rw (both-cut, ← j .rows, ← bool-row z) (make-bool sheet a₀ d (suc (p + q)) (omega arith) a l (w .words) room (j .hold) space z (at r 0) typed)
 
     -- the second side
     module _ (k : (t u : Node ℕ) → leftTree (getD (nodes sheet a₀) c []) 0 (ty sheet a₀ (at r 0)) (t ∷ u ∷ []) ≡ and (ty sheet a₀ (at r 0)) t u) where
@@ -177,13 +177,13 @@ module _ (m : Mode) (sheet a₀ : List ℕ) where
       or-open = rw (class-is deep j) (or-second (nClass Y))
 
   module _ {d p q : ℕ} {a l : List ℕ} {X : Out} {o : O} (deep : d ≤ 64) (i : Is sheet a₀ d p a l X o) (f : Rec) (x : ℕ) (K : List Row → Out) (P : List Row → Type 0) (g : Works P d q f x K) (good : P (X .rows)) (least : 1 ≤ q)
-      (c : ℕ) (r : List ℕ) (room : Room (suc (p + q)) a l) (su : suits (getD (nodes sheet a₀) c []) 2 ≡ true) where
+      (c : ℕ) (r : List ℕ) (typed : at r 0 < length (tys sheet a₀)) (room : Room (suc (p + q)) a l) (su : suits (getD (nodes sheet a₀) c []) 2 ≡ true) where
     abbrev T : Ty
     T = ty sheet a₀ (at r 0)
 
     first-stops : (z : Bool) → Is sheet a₀ (suc d) (suc (p + q)) a l (make T (rbool z) (X .rows)) (firstBy z f (length l) c (at r 0) x o stops)
     unfolding firstBy
-    first-stops z = then-bool i (suc (p + q)) room (omega arith) z (at r 0)
+    first-stops z = then-bool i (suc (p + q)) room (omega arith) z (at r 0) typed
 
     first-goes : (z : Bool) → Is sheet a₀ (suc d) (suc (p + q)) a l (K (X .rows)) (firstBy z f (length l) c (at r 0) x o goes)
     unfolding firstBy
@@ -191,7 +191,7 @@ module _ (m : Mode) (sheet a₀ : List ℕ) where
 
     first-wrong : (z : Bool) → Is sheet a₀ (suc d) (suc (p + q)) a l (out (X .rows) (err T)) (firstBy z f (length l) c (at r 0) x o wrong)
     unfolding firstBy
-    first-wrong z = then-err i (suc (p + q)) room (omega arith) (at r 0)
+    first-wrong z = then-err i (suc (p + q)) room (omega arith) (at r 0) typed
 
     first-open : (z : Bool) {Z : Out} → Is sheet a₀ (suc d) (suc (p + q)) a l Z (secondOf z (length l) c (at r 0) (length (o .log)) (f (o .words) (o .log) x))
         → Is sheet a₀ (suc d) (suc (p + q)) a l Z (firstBy z f (length l) c (at r 0) x o unsure)
@@ -207,7 +207,7 @@ module _ (m : Mode) (sheet a₀ : List ℕ) where
         go cfalse = first-stops false
         go ctrue = first-goes false
         go cerror = first-wrong false
-        go copen = first-open false (and-open deep i (then-more i (suc (p + q)) room (omega arith) P good q f x K (omega arith) g) least c r room su k)
+        go copen = first-open false (and-open deep i (then-more i (suc (p + q)) room (omega arith) P good q f x K (omega arith) g) least c r typed room su k)
 
     pub or-is : ((t u : Node ℕ) → leftTree (getD (nodes sheet a₀) c []) 0 T (t ∷ u ∷ []) ≡ or T t u) → (S : Schema) (N : NEnv)
         → Is sheet a₀ (suc d) (suc (p + q)) a l (thenOr S N T X K) (firstOf true f (length l) c (at r 0) x o)
@@ -218,4 +218,4 @@ module _ (m : Mode) (sheet a₀ : List ℕ) where
         go ctrue = first-stops true
         go cfalse = first-goes true
         go cerror = first-wrong true
-        go copen = first-open true (or-open deep i (then-more i (suc (p + q)) room (omega arith) P good q f x K (omega arith) g) least c r room su k)
+        go copen = first-open true (or-open deep i (then-more i (suc (p + q)) room (omega arith) P good q f x K (omega arith) g) least c r typed room su k)

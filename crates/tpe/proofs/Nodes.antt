@@ -6,25 +6,28 @@ use mathlib.Core.List.{List, [], _∷_, _++_}
 use Prim.Native.Nat.{ℕ, zero, suc, _<_, _≤_, _+_, _-_, _*_, _%_}
 use native.Mathlib.Nat.{le-of-suc-le-suc}
 use native.Mathlib.Omega.{arith}
+use borrow.Author.Tests.{ltb-true, le-ltb}
 use lib.Dec.{eqb, ltb}
 use lib.ListN.{length, getD, drop, length-append, List·getD-append}
-use Rattle.cedar.proofs.Tools.{no-true, eqb-true}
+use Rattle.cedar.proofs.Tools.{and-both, no-true, eqb-true}
 use Rattle.cedar.proofs.TableLaws.{InN, now′, later′, nowhere}
 use Rattle.cedar.specs.Types.{Ty, tbool}
 use Rattle.cedar.specs.Residual.{Node, err, and, or, ite, un, bin, rel, get, has, haspath, set, rec, econs, gcons, unot, uneg, uempty, uis, ulike, beq, blt, ble, badd, bsub, bmul, bcontains, ball, bany, rin, rgettag, rhastag}
 use Rattle.forms.specs.Tags.{TEXT-LINE, SET-OF, RECORD-OF, SLOT}
-use Rattle.sheet.specs.Forms.{Mode, line, forms, formOf, slotAt, isLine, refsFrom, refs, counted, itemsFrom, tag, items, at, keyOf, rowOf, NODE, noTag, firstNode}
+use Rattle.sheet.specs.Forms.{Mode, line, forms, formOf, slotAt, isLine, refsFrom, refs, counted, itemsFrom, tag, items, at, keyOf, rowOf, TYPE, NODE, noTag, firstNode}
 use Rattle.sheet.specs.State.{State, linesOf, count}
 use Rattle.sheet.specs.Content.{types, childrenOver, argsOver, treeFor, treeOver, treesFrom, linked, trees, patternOf}
-use Rattle.sheet.proofs.Lines.{Was, History}
-use Rattle.sheet.proofs.Parsed.{parsed, tags-between}
-use Rattle.sheet.proofs.NodeRows.{row-read, plain-slots}
-use Rattle.sheet.proofs.ValueRows.{items-length}
-use Rattle.sheet.proofs.PoliciesRead.{all-there, node-tags}
-use Rattle.sheet.proofs.Slots.{set-slot, field-slot}
-use Rattle.sheet.proofs.Uses.{refs-below}
-use Rattle.sheet.proofs.Depths.{in-below}
-use Rattle.sheet.proofs.Shallow.{in-keep, this-kept}
+use Rattle.sheet.specs.Sheet.{thereIs}
+use Rattle.sheet.proofs.reading.Lines.{Was, History}
+use Rattle.sheet.proofs.reading.Parsed.{parsed, allBelow, all-below, tags-between}
+use Rattle.sheet.proofs.reading.NodeRows.{row-read, plain-slots}
+use Rattle.sheet.proofs.content.ValueRows.{items-length}
+use Rattle.sheet.proofs.content.PoliciesRead.{all-there, item-there, node-tags}
+use Rattle.sheet.proofs.reading.Slots.{set-slot, field-slot}
+use Rattle.sheet.proofs.content.TypeNumbers.{is-line, types-length}
+use Rattle.sheet.proofs.running.Uses.{refs-below}
+use Rattle.sheet.proofs.reading.Depths.{in-below}
+use Rattle.sheet.proofs.reading.Shallow.{in-keep, this-kept}
 use Rattle.tpe.specs.Run.{others}
 use Rattle.tpe.proofs.EachStep.{kidsFor}
 use Rattle.tpe.proofs.Depth.{childrenOf}
@@ -240,9 +243,27 @@ module _ (ts : List Ty) (sl : Ty → ℕ → Node ℕ) where
 pub record Fact (s : State) (p q c : ℕ) : Type 0 where
   pub low : firstNode ≤ tag (getD (linesOf s NODE) c [])
   pub high : tag (getD (linesOf s NODE) c []) ≤ SLOT
+  pub typed : at (getD (linesOf s NODE) c []) 0 < length (types s)
   pub even : tag (getD (linesOf s NODE) c []) ≡ RECORD-OF → length (drop 1 (items (getD (linesOf s NODE) c []))) ≡ 2 * length (others (drop 1 (items (getD (linesOf s NODE) c []))))
   pub kids : (j : ℕ) → InN j (childrenOf (getD (linesOf s NODE) c [])) → InN j (refs NODE (getD (linesOf s NODE) c []))
   pub tree : getD (trees s p q) c (err tbool) ≡ treeOver (types s) (λ n. n) (linked (λ n. n) p q) (trees s p q) (getD (linesOf s NODE) c [])
+
+-- a node's first item is its type
+type-first : ℕ → Bool
+type-first t = ltb t firstNode || ltb SLOT t || (isLine TYPE (slotAt t 0) && ltb 0 (length (formOf t .items)))
+
+types-first : allBelow type-first noTag ≡ true
+unfolding type-first slotAt formOf forms
+types-first = refl
+
+first-is : (t : ℕ) → firstNode ≤ t → t ≤ SLOT → (slotAt t 0 ≡ line TYPE) × (0 < length (formOf t .items))
+unfolding type-first
+first-is t lo hi = go (ltb t firstNode) (ltb SLOT t) (le-ltb t firstNode lo) (le-ltb SLOT t hi) (all-below type-first noTag t types-first (omega arith))
+  where
+    go : (a b : Bool) → a ≡ false → b ≡ false → (a || b || (isLine TYPE (slotAt t 0) && ltb 0 (length (formOf t .items)))) ≡ true → (slotAt t 0 ≡ line TYPE) × (0 < length (formOf t .items))
+    go true b p q e = no-true (sym p)
+    go false true p q e = no-true (sym q)
+    go false false p q e = and-both (isLine TYPE (slotAt t 0)) (ltb 0 (length (formOf t .items))) e (λ x y. (is-line TYPE (slotAt t 0) x, ltb-true 0 (length (formOf t .items)) y))
 
 split-here : {X : Type 0} (l : List (List ℕ)) (c : ℕ) → c < length l → ((pre rest : List (List ℕ)) → length pre ≡ c → l ≡ pre ++ (getD l c [] ∷ rest) → X) → X
 split-here [] c lt f = absurd (omega arith)
@@ -263,6 +284,16 @@ module _ (m : Mode) (s : State) where
   unfolding refs
   row-below pre r w j i = subst (λ z. j < length z) (w .mine) (in-below (count (w .was) NODE) (refsFrom NODE (tag r) 0 (items r)) j (refs-below (w .was) NODE (tag r) 0 (items r) (all-there (w .was) NODE r (w .pass .refers))) i)
 
+  row-type : History m s → (pre : List (List ℕ)) (r : List ℕ) → Was m s NODE pre r → firstNode ≤ tag r → tag r ≤ SLOT → at r 0 < length (types s)
+  row-type h pre r w lo hi =
+      let (sl, le) = first-is (tag r) lo hi in
+      let rd = row-read m r (w .line) (tag r) (w .row) refl (omega (arith, lo)) (omega (arith, hi)) (λ z. absurd (omega (arith, z, lo))) in
+      let there = item-there m s (w .was) NODE r (tag r) rd (w .pass .refers) 0 le in
+      let lt = ltb-true (at r 0) (count (w .was) TYPE) (sym (ap (λ z. thereIs (w .was) z (at r 0)) sl) ∙ there) in
+      let n = ap length (w .earlier TYPE (omega arith)) in
+      let k = types-length m s h in
+      omega (arith, lt, n, k)
+
   pub node-fact : History m s → (p q c : ℕ) → c < count s NODE → Fact s p q c
   unfolding keyOf trees
   node-fact h p q c lt = split-here (linesOf s NODE) c lt (λ pre rest n e. go pre (getD (linesOf s NODE) c []) rest n e (h NODE pre (getD (linesOf s NODE) c []) rest e) refl)
@@ -279,6 +310,7 @@ module _ (m : Mode) (s : State) where
           record {
             low = subst (λ z. firstNode ≤ tag z) (sym x) lo;
             high = subst (λ z. tag z ≤ SLOT) (sym x) hi;
+            typed = subst (λ z. at z 0 < length (types s)) (sym x) (row-type h pre r w lo hi);
             even = subst (λ z. tag z ≡ RECORD-OF → length (drop 1 (items z)) ≡ 2 * length (others (drop 1 (items z)))) (sym x) (even-row m r (w .line) (w .row));
             kids = subst (λ z. (j : ℕ) → InN j (childrenOf z) → InN j (refs NODE z)) (sym x) (row-kids pre r w lo hi);
             tree = subst (λ z. getD (treesFrom (types s) (λ n. n) (linked (λ n. n) p q) [] (linesOf s NODE)) c (err tbool) ≡ treeOver (types s) (λ n. n) (linked (λ n. n) p q) (treesFrom (types s) (λ n. n) (linked (λ n. n) p q) [] (linesOf s NODE)) z) (sym x)

@@ -3,7 +3,7 @@ use mathlib.Core.Path.{_≡_, refl, sym, _∙_, ap, ap₂}
 use mathlib.Core.Bool.{Bool, true, false}
 use mathlib.Core.Option.{none}
 use mathlib.Core.List.{List, [], _∷_, _++_, append-assoc, append-nil}
-use Prim.Native.Nat.{ℕ, suc, _+_, _≤_}
+use Prim.Native.Nat.{ℕ, suc, _+_, _≤_, _<_}
 use native.Mathlib.Omega.{arith}
 use lib.ListN.{length, getD, length-append}
 use Rattle.cedar.specs.Types.{Ty, Schema}
@@ -19,7 +19,7 @@ use Rattle.residual.specs.Rows.{wordAt}
 use Rattle.residual.specs.Trees.{rnil, rcons, flat, flats, leftTree, suits, treesOf, whole-none, whole-more}
 use Rattle.tpe.specs.Run.{O, unOf, binOf, relOf, getOf, hasOf, tyIn}
 use Rattle.tpe.proofs.Outcomes.{row-fine}
-use Rattle.tpe.proofs.Stands.{Hold, schema-is, types-are, env-is, Room, nodes, ty, Is, is-as}
+use Rattle.tpe.proofs.Stands.{Hold, schema-is, types-are, env-is, Room, tys, nodes, ty, Is, is-as}
 use Rattle.tpe.proofs.Strict.{Over, one-is, two-is, last-stage, last-type, last-errs, first-stage, first-type, first-errs, over1}
 
 -- where no rule is asked
@@ -38,13 +38,13 @@ module _ (m : Mode) (sheet a₀ : List ℕ) where
   block-type : (a l : List ℕ) (e : ℕ) → Hold a₀ a → (A : Ty) → ty sheet a₀ (wordAt l e 3) ≡ A → tyIn m sheet a (wordAt l e 3) ≡ A
   block-type a l e h A q = types-are m sheet a₀ a h (wordAt l e 3) ∙ q
 
-  module _ {d n : ℕ} {a l : List ℕ} {X : Out} {o : O} (deep : d ≤ 64) (i : Is sheet a₀ d n a l X o) (c : ℕ) (r : List ℕ) (room : Room (suc n) a l) (su : suits (getD (nodes sheet a₀) c []) 1 ≡ true) where
+  module _ {d n : ℕ} {a l : List ℕ} {X : Out} {o : O} (deep : d ≤ 64) (i : Is sheet a₀ d n a l X o) (c : ℕ) (r : List ℕ) (typed : at r 0 < length (tys sheet a₀)) (room : Room (suc n) a l) (su : suits (getD (nodes sheet a₀) c []) 1 ≡ true) where
     pub un-is : (u : Un) → leftTree (getD (nodes sheet a₀) c []) 0 (ty sheet a₀ (at r 0)) (X .tree ∷ []) ≡ un (ty sheet a₀ (at r 0)) u (X .tree)
         → Is sheet a₀ (suc d) (suc n) a l (nStepUn sch env (ty sheet a₀ (at r 0)) u X) (unOf m sheet u (length l) c r o)
     unfolding unOf
     un-is u k =
         rw (schema-is m sheet a₀ (o .words) (i .hold), i .rows, block-type (o .words) (o .log) (length (o .log)) (i .hold) (tyOf (X .tree)) (last-type sheet a₀ deep i))
-        (one-is sheet a₀ (over1 sheet a₀ deep i c (at r 0) room su (un (ty sheet a₀ (at r 0)) u (X .tree)) k) (X .tree) (last-errs sheet a₀ deep i) (last-stage sheet a₀ deep i)
+        (one-is sheet a₀ (over1 sheet a₀ deep i c (at r 0) typed room su (un (ty sheet a₀ (at r 0)) u (X .tree)) k) (X .tree) (last-errs sheet a₀ deep i) (last-stage sheet a₀ deep i)
         (unRule sch u (tyOf (X .tree))) (λ v. nUn sch u (rowAt (X .rows) v)) (λ v. made-un row-fine sch u (rowAt (X .rows) v)))
 
     pub get-is : leftTree (getD (nodes sheet a₀) c []) 0 (ty sheet a₀ (at r 0)) (X .tree ∷ []) ≡ get (ty sheet a₀ (at r 0)) (X .tree) (at r 2)
@@ -52,7 +52,7 @@ module _ (m : Mode) (sheet a₀ : List ℕ) where
     unfolding getOf
     get-is k =
         rw (env-is m sheet a₀ (o .words) (i .hold), i .rows)
-        (is-as sheet a₀ (one-is sheet a₀ (over1 sheet a₀ deep i c (at r 0) room su (get (ty sheet a₀ (at r 0)) (X .tree) (at r 2)) k) (X .tree) (last-errs sheet a₀ deep i) (last-stage sheet a₀ deep i)
+        (is-as sheet a₀ (one-is sheet a₀ (over1 sheet a₀ deep i c (at r 0) typed room su (get (ty sheet a₀ (at r 0)) (X .tree) (at r 2)) k) (X .tree) (last-errs sheet a₀ deep i) (last-stage sheet a₀ deep i)
         none (λ v. nGet env (X .rows) (at r 2) (rowAt (X .rows) v)) (λ v. made-get row-fine env (X .rows) (at r 2) (rowAt (X .rows) v)))
         (no-rule _ (canErr (X .tree)) _ _))
 
@@ -61,11 +61,11 @@ module _ (m : Mode) (sheet a₀ : List ℕ) where
     unfolding hasOf
     has-is k =
         rw (schema-is m sheet a₀ (o .words) (i .hold), env-is m sheet a₀ (o .words) (i .hold), i .rows, block-type (o .words) (o .log) (length (o .log)) (i .hold) (tyOf (X .tree)) (last-type sheet a₀ deep i))
-        (one-is sheet a₀ (over1 sheet a₀ deep i c (at r 0) room su (has (ty sheet a₀ (at r 0)) (X .tree) (at r 2)) k) (X .tree) (last-errs sheet a₀ deep i) (last-stage sheet a₀ deep i)
+        (one-is sheet a₀ (over1 sheet a₀ deep i c (at r 0) typed room su (has (ty sheet a₀ (at r 0)) (X .tree) (at r 2)) k) (X .tree) (last-errs sheet a₀ deep i) (last-stage sheet a₀ deep i)
         (hasRule sch (at r 2) (tyOf (X .tree))) (λ v. nHas env (X .rows) (at r 2) (rowAt (X .rows) v)) (λ v. made-has row-fine env (X .rows) (at r 2) (rowAt (X .rows) v)))
 
   module _ {d p q : ℕ} {a l : List ℕ} {X Y : Out} {o w : O} (deep : d ≤ 64) (i : Is sheet a₀ d p a l X o) (j : Is sheet a₀ d q (o .words) (o .log) Y w)
-      (c : ℕ) (r : List ℕ) (room : Room (suc (p + q)) a l) (su : suits (getD (nodes sheet a₀) c []) 2 ≡ true) where
+      (c : ℕ) (r : List ℕ) (typed : at r 0 < length (tys sheet a₀)) (room : Room (suc (p + q)) a l) (su : suits (getD (nodes sheet a₀) c []) 2 ≡ true) where
     pub over2 : (keep : Node ℕ) → leftTree (getD (nodes sheet a₀) c []) 0 (ty sheet a₀ (at r 0)) (X .tree ∷ Y .tree ∷ []) ≡ keep
         → Over sheet a₀ d (suc (p + q)) a l (w .words) (w .log) (Y .rows) c (at r 0) keep
     unfolding flats treesOf
@@ -79,6 +79,7 @@ module _ (m : Mode) (sheet a₀ : List ℕ) where
           ∙ ap (λ (z : List ℕ). l ++ (flat (i .res) ++ z)) (sym (append-nil (flat (j .res))));
       short = omega (arith, i .short, j .short, length-append (flat (i .res)) (flat (j .res) ++ []), length-append (flat (j .res)) []);
       wholes = whole-more (i .whole) (whole-more (j .whole) whole-none);
+      typed = typed;
       suit = su;
       kept = ap₂ (λ (t u : Node ℕ). leftTree (getD (nodes sheet a₀) c []) 0 (ty sheet a₀ (at r 0)) (t ∷ u ∷ [])) (i .tree) (j .tree) ∙ k;
     }

@@ -10,7 +10,7 @@ use Rattle.cedar.specs.Rows.{Row, rbool, rlong, rtext, rent, rset, rrec}
 use Rattle.cedar.specs.Numbered.{Give, NOut, give}
 use Rattle.sheet.specs.Bytes.{longAt, half}
 use Rattle.sheet.specs.State.{valueRow}
-use Rattle.sheet.proofs.DigitsBack.{IsLong, in-range}
+use Rattle.sheet.proofs.answer.DigitsBack.{IsLong, in-range}
 use Rattle.cedar.proofs.Outcomes.{Basic, GiveIs, OutIs}
 use Rattle.value.proofs.Interned.{Formed, formed-bool, formed-long, formed-entity, long-row}
 use Rattle.value.specs.Made.{boolRow}

@@ -3,7 +3,7 @@ use mathlib.Core.Path.{_≡_, refl, sym, _∙_, ap, subst}
 use mathlib.Core.Bool.{Bool, true, false}
 use mathlib.Core.Option.{Option, none, some}
 use mathlib.Core.List.{List, [], _∷_}
-use Prim.Native.Nat.{ℕ, zero, suc, _+_, _≤_}
+use Prim.Native.Nat.{ℕ, zero, suc, _+_, _≤_, _<_}
 use native.Mathlib.Omega.{arith}
 use lib.ListN.{length, getD, take, drop}
 use Rattle.words.specs.Log.{appended}
@@ -16,7 +16,7 @@ use Rattle.cedar.specs.TypeRules.{hasRule}
 use Rattle.cedar.specs.Rows.{Entries, Row, rbool, rlong, rtext, rent, rset, rrec}
 use Rattle.cedar.specs.Numbered.{Give, NEnv, giveRow, rRec, nentity, onEntries, rowAt, isSome, entryOf, Out, out, make, nByRule, nLeft, nWalk, nPath, nStepPath}
 use Rattle.sheet.specs.Forms.{Mode, items, at, TYPE, aloneRow}
-use Rattle.sheet.proofs.TypeNumbers.{Listed, TypesIn}
+use Rattle.sheet.proofs.content.TypeNumbers.{Listed, TypesIn}
 use Rattle.table.specs.Layout.{rowsOf}
 use Rattle.value.specs.Lines.{placeOf}
 use Rattle.value.specs.Made.{boolRow}
@@ -81,38 +81,42 @@ own-lit (haspath T a t ts) = tt
 own-lit (set T es) = tt
 own-lit (rec T gs) = tt
 
-module _ (m : Mode) (sheet a₀ : List ℕ) (kinds : (k : ℕ) → Listed (tys sheet a₀) (alone k) → ty sheet a₀ (placeOf (aloneRow k) (rowsOf a₀ TYPE)) ≡ alone k) where
+-- the type line of a listed entity type of kind k alone is found by its row
+abbrev pub Kinds : List ℕ → List ℕ → Type 0
+Kinds sheet a₀ = (k : ℕ) → Listed (tys sheet a₀) (alone k) → (placeOf (aloneRow k) (rowsOf a₀ TYPE) < length (tys sheet a₀)) × (ty sheet a₀ (placeOf (aloneRow k) (rowsOf a₀ TYPE)) ≡ alone k)
+
+module _ (m : Mode) (sheet a₀ : List ℕ) (kinds : Kinds sheet a₀) where
   module _ (d n : ℕ) (most : 1 ≤ n) (a l a₁ l₁ : List ℕ) (R : List Row) (room : Room (suc n) a l) (h : Hold a₀ a₁) (space : Space 3 (suc n) a a₁) (rows : values a₁ ≡ R)
-      (c : ℕ) (r : List ℕ) (su : suits (getD (nodes sheet a₀) c []) 1 ≡ true)
+      (c : ℕ) (r : List ℕ) (typed : at r 0 < length (tys sheet a₀)) (su : suits (getD (nodes sheet a₀) c []) 1 ≡ true)
       (keep : (j : ℕ) (t : Node ℕ) → leftTree (getD (nodes sheet a₀) c []) j (ty sheet a₀ (at r 0)) (t ∷ []) ≡ haspath (ty sheet a₀ (at r 0)) t (at r (2 + j)) (drop (3 + j) (items r)))
       (cut : take (length l) l₁ ≡ l) (A : Ty) (x : ℕ)
       (unmoved : Is sheet a₀ (suc (suc d)) (suc n) a l (nLeft (sch m sheet a₀) (env m sheet a₀) (ty sheet a₀ (at r 0)) (lit A x) (at r 2) (drop 3 (items r)) R) (unmovedOf m sheet a₁ l₁ (length l) c r)) where
     abbrev T : Ty
     T = ty sheet a₀ (at r 0)
 
-    entity-type : (k : ℕ) → Listed (tys sheet a₀) (alone k) → ty sheet a₀ (entityType a₁ k) ≡ alone k
+    entity-type : (k : ℕ) → Listed (tys sheet a₀) (alone k) → (entityType a₁ k < length (tys sheet a₀)) × (ty sheet a₀ (entityType a₁ k) ≡ alone k)
     unfolding entityType
-    entity-type k e = ap (λ (rs : List (List ℕ)). ty sheet a₀ (placeOf (aloneRow k) rs)) (h .same TYPE (omega arith)) ∙ kinds k e
+    entity-type k e = subst (λ (rs : List (List ℕ)). (placeOf (aloneRow k) rs < length (tys sheet a₀)) × (ty sheet a₀ (placeOf (aloneRow k) rs) ≡ alone k)) (sym (h .same TYPE (omega arith))) (kinds k e)
 
     says-is : (b : Bool) → Is sheet a₀ (suc (suc d)) (suc n) a l (make T (rbool b) R) (madeOf a₁ l (at r 0) (boolRow b))
-    says-is b = rw (← rows, ← bool-row b) (make-bool sheet a₀ (suc d) (suc n) (omega arith) a l a₁ room h space b (at r 0))
+    says-is b = rw (← rows, ← bool-row b) (make-bool sheet a₀ (suc d) (suc n) (omega arith) a l a₁ room h space b (at r 0) typed)
 
     lost-is : Is sheet a₀ (suc (suc d)) (suc n) a l (out R (err T)) (errOf a₁ l (at r 0))
-    lost-is = rw (← rows) (err-is sheet a₀ (suc d) (suc n) (omega arith) a l a₁ room h (space-spent 3 (suc n) a a₁ space) (at r 0))
+    lost-is = rw (← rows) (err-is sheet a₀ (suc d) (suc n) (omega arith) a l a₁ room h (space-spent 3 (suc n) a a₁ space) (at r 0) typed)
 
-    left-over : (j v k : ℕ) → ty sheet a₀ (entityType a₁ k) ≡ alone k
+    left-over : (j v k : ℕ) → entityType a₁ k < length (tys sheet a₀) → ty sheet a₀ (entityType a₁ k) ≡ alone k
         → Is sheet a₀ (suc (suc d)) (suc n) a l (out R (haspath T (lit (alone k) v) (at r (2 + j)) (drop (3 + j) (items r)))) (leftOf a₁ (appended l (litRow v (entityType a₁ k))) (length l) c j (at r 0))
     unfolding flat flats treeOf treesOf
-    left-over j v k e =
+    left-over j v k t e =
         rw (← rows)
         (left-is sheet a₀ (suc d) (suc n) (omega arith) a l a₁ room h (space-spent 3 (suc n) a a₁ space) (appended l (litRow v (entityType a₁ k))) (rcons (rlit v (entityType a₁ k)) rnil)
-        (appended-is l (litRow v (entityType a₁ k)) (omega (arith, room .log))) (omega (arith, most)) (whole-more whole-lit whole-none) c j (at r 0) su
+        (appended-is l (litRow v (entityType a₁ k)) (omega (arith, room .log))) (omega (arith, most)) (whole-more (whole-lit t) whole-none) c j (at r 0) typed su
         (haspath T (lit (alone k) v) (at r (2 + j)) (drop (3 + j) (items r))) (keep j (lit (ty sheet a₀ (entityType a₁ k)) v) ∙ ap (λ (B : Ty). haspath T (lit B v) (at r (2 + j)) (drop (3 + j) (items r))) e))
 
     stuck-is : (j v k : ℕ) (o : Option Bool) → TypesIn (tys sheet a₀) (nByRule T false o (out R (haspath T (lit (alone k) v) (at r (2 + j)) (drop (3 + j) (items r)))) R .tree)
         → Is sheet a₀ (suc (suc d)) (suc n) a l (nByRule T false o (out R (haspath T (lit (alone k) v) (at r (2 + j)) (drop (3 + j) (items r)))) R) (stuckOf m sheet a₁ l c r j v k o)
     unfolding stuckOf
-    stuck-is j v k none lists = left-over j v k (entity-type k (lists .1))
+    stuck-is j v k none lists = let (t, e) = entity-type k (lists .1) in left-over j v k t e
     stuck-is j v k (some b) lists = says-is b
 
     -- what a walk leaves, where its types are listed
@@ -160,10 +164,10 @@ module _ (m : Mode) (sheet a₀ : List ℕ) (kinds : (k : ℕ) → Listed (tys s
         go none ih = walked-says false
         go (some w) ih = ih w
 
-  module _ {d n : ℕ} {a l : List ℕ} {X : Out} {o : O} (deep : suc d ≤ 64) (i : Is sheet a₀ (suc d) n a l X o) (c : ℕ) (r : List ℕ) (room : Room (suc n) a l) (su : suits (getD (nodes sheet a₀) c []) 1 ≡ true)
+  module _ {d n : ℕ} {a l : List ℕ} {X : Out} {o : O} (deep : suc d ≤ 64) (i : Is sheet a₀ (suc d) n a l X o) (c : ℕ) (r : List ℕ) (typed : at r 0 < length (tys sheet a₀)) (room : Room (suc n) a l) (su : suits (getD (nodes sheet a₀) c []) 1 ≡ true)
       (keep : (j : ℕ) (t : Node ℕ) → leftTree (getD (nodes sheet a₀) c []) j (ty sheet a₀ (at r 0)) (t ∷ []) ≡ haspath (ty sheet a₀ (at r 0)) t (at r (2 + j)) (drop (3 + j) (items r))) where
     abbrev over : Over sheet a₀ (suc d) (suc n) a l (o .words) (o .log) (X .rows) c (at r 0) (haspath (ty sheet a₀ (at r 0)) (X .tree) (at r 2) (drop 3 (items r)))
-    over = over1 sheet a₀ deep i c (at r 0) room su (haspath (ty sheet a₀ (at r 0)) (X .tree) (at r 2) (drop 3 (items r))) (keep 0 (X .tree))
+    over = over1 sheet a₀ deep i c (at r 0) typed room su (haspath (ty sheet a₀ (at r 0)) (X .tree) (at r 2) (drop 3 (items r))) (keep 0 (X .tree))
 
     cut : take (length l) (o .log) ≡ l
     cut = cut-back l (flat (i .res)) (o .log) (i .log)
@@ -184,9 +188,9 @@ module _ (m : Mode) (sheet a₀ : List ℕ) (kinds : (k : ℕ) → Listed (tys s
     unfolding pathBy
     path-by (value v) e lists =
         rw (env-is m sheet a₀ (o .words) (i .hold), i .rows)
-        (walk-is d n (omega (arith, i .short, flat-length (i .res))) a l (o .words) (o .log) (X .rows) room (i .hold) (over .space) (i .rows) c r su keep cut (tyOf (X .tree)) v
+        (walk-is d n (omega (arith, i .short, flat-length (i .res))) a l (o .words) (o .log) (X .rows) room (i .hold) (over .space) (i .rows) c r typed su keep cut (tyOf (X .tree)) v
         (subst Unmoved e unmoved-is) (drop 3 (items r)) (at r 2) v 0 refl refl refl lists)
-    path-by error e lists = rw (cut, ← i .rows) (err-is sheet a₀ (suc d) (suc n) (omega arith) a l (o .words) room (i .hold) (space-spent 3 (suc n) a (o .words) (over .space)) (at r 0))
+    path-by error e lists = rw (cut, ← i .rows) (err-is sheet a₀ (suc d) (suc n) (omega arith) a l (o .words) room (i .hold) (space-spent 3 (suc n) a (o .words) (over .space)) (at r 0) typed)
     path-by open′ e lists = unmoved-is
 
     pub path-is : TypesIn (tys sheet a₀) (nStepPath (sch m sheet a₀) (env m sheet a₀) (ty sheet a₀ (at r 0)) X (at r 2) (drop 3 (items r)) .tree)

@@ -13,8 +13,8 @@ use Rattle.cedar.specs.Runs.{NVerdict, Run, nRun, thenRun}
 use Rattle.sheet.specs.Forms.{Mode, at}
 use Rattle.sheet.specs.Content.{numberedPolicies, effectOf}
 use Rattle.sheet.specs.Answer.{size}
-use Rattle.sheet.proofs.MadeCount.{policySizes}
-use Rattle.sheet.proofs.OnTerm.{Each, none, more}
+use Rattle.sheet.proofs.running.MadeCount.{policySizes}
+use Rattle.sheet.proofs.content.OnTerm.{Each, none, more}
 use Rattle.table.specs.Layout.{RUN, rowsOf}
 use Rattle.residual.specs.Trees.{Ress, rnil, rcons, flat, flats, treesOf, Wholes, whole-none, whole-more}
 use Rattle.residual.proofs.Meaning.{rows-are}

@@ -12,7 +12,7 @@ use Rattle.cedar.specs.Numbered.{NEnv, made}
 use Rattle.sheet.specs.Forms.{partial}
 use Rattle.sheet.specs.State.{valueRow}
 use Rattle.sheet.specs.Content.{rowsIn, nEnv}
-use Rattle.sheet.proofs.MadeWords.{missing, missing-most, missing-intern, one-less}
+use Rattle.sheet.proofs.running.MadeWords.{missing, missing-most, missing-intern, one-less}
 use Rattle.table.specs.Layout.{held, TOP}
 use Rattle.table.proofs.Held.{held-same}
 use Rattle.value.specs.Lines.{valueLines}

@@ -21,13 +21,13 @@ use Rattle.sheet.specs.Forms.{partial, at, NODE}
 use Rattle.sheet.specs.State.{State, linesOf, count}
 use Rattle.sheet.specs.Typing.{nodesUnder, slotsFit}
 use Rattle.sheet.specs.Content.{types, contents, contentOf, trees, exprs, schema, nEnv, pEnv, valueRows}
-use Rattle.sheet.proofs.Lines.{History}
-use Rattle.sheet.proofs.ValueRows.{values-table}
-use Rattle.sheet.proofs.PoliciesRead.{node-reads, every-node}
-use Rattle.sheet.proofs.Environment.{Facts, env-read, there-value}
-use Rattle.sheet.proofs.EnvFit.{known-fits}
-use Rattle.sheet.proofs.TypeNumbers.{Listed, TypesIn, below-listed, hold-from, any-listed}
-use Rattle.sheet.proofs.OwnPolicies.{lit-there}
+use Rattle.sheet.proofs.reading.Lines.{History}
+use Rattle.sheet.proofs.content.ValueRows.{values-table}
+use Rattle.sheet.proofs.content.PoliciesRead.{node-reads, every-node}
+use Rattle.sheet.proofs.content.Environment.{Facts, env-read, there-value}
+use Rattle.sheet.proofs.content.EnvFit.{known-fits}
+use Rattle.sheet.proofs.content.TypeNumbers.{Listed, TypesIn, below-listed, hold-from, any-listed}
+use Rattle.sheet.proofs.content.OwnPolicies.{lit-there}
 
 -- the rows read as contents that begin with the sheet's
 pub record Tabled (s : State) (R : List Row) : Type 0 where

@@ -3,7 +3,7 @@ use mathlib.Core.Path.{_≡_, refl, sym, _∙_, ap, subst}
 use mathlib.Core.Bool.{Bool, true, false, cond, _||_}
 use mathlib.Core.Option.{Option, none, some, Option·some-injective}
 use mathlib.Core.List.{List, [], _∷_, _++_}
-use Prim.Native.Nat.{ℕ, suc, _+_, _*_, _≤_, compare, Ordering, Ordering·lt, Ordering·eq, Ordering·gt}
+use Prim.Native.Nat.{ℕ, suc, _+_, _*_, _≤_, _<_, compare, Ordering, Ordering·lt, Ordering·eq, Ordering·gt}
 use native.Mathlib.Omega.{arith}
 use lib.ListN.{length, getD, take, drop, length-append}
 use lib.Seq.{drop-append-seam}
@@ -113,7 +113,7 @@ module _ (ts : List Ty) (ns : List (List ℕ)) where
   unfolding flat treeOf
   lit-flat (rlit w y) h v e f = f y (ap (λ (x : ℕ). litRow x y) (value-in e))
   lit-flat (rerr y) h v e f = value-not e
-  lit-flat (rleft n k y rs) (whole-left s ws) v e f = open-not (sym (left-open (getD ns n []) k (tyAt ts ns y) (treesOf ts ns rs) (suited ts ns n rs s)) ∙ e)
+  lit-flat (rleft n k y rs) (whole-left t s ws) v e f = open-not (sym (left-open (getD ns n []) k (tyAt ts ns y) (treesOf ts ns rs) (suited ts ns n rs s)) ∙ e)
 
   pub values-in : {d : ℕ} (rs : Ress) → Wholes ts ns d rs → (vs : List ℕ) → vals (treesOf ts ns rs) ≡ some vs → valuesIn (flats rs) ≡ vs
   unfolding valuesIn flats treesOf
@@ -158,7 +158,7 @@ pub drop-two : (r : List ℕ) → drop 2 r ≡ drop 1 (items r)
 drop-two [] = refl
 drop-two (t ∷ l) = refl
 
-module _ (m : Mode) (sheet a₀ : List ℕ) (P : List Row → Type 0) {d n count : ℕ} {a l : List ℕ} {t : Results} {k : Kids} (h : Are m sheet a₀ P d n a l t allValues count k) (c : ℕ) (r : List ℕ) (room : Room (suc n) a l) where
+module _ (m : Mode) (sheet a₀ : List ℕ) (P : List Row → Type 0) {d n count : ℕ} {a l : List ℕ} {t : Results} {k : Kids} (h : Are m sheet a₀ P d n a l t allValues count k) (c : ℕ) (r : List ℕ) (typed : at r 0 < length (tys sheet a₀)) (room : Room (suc n) a l) where
   abbrev T : Ty
   T = ty sheet a₀ (at r 0)
 
@@ -174,16 +174,16 @@ module _ (m : Mode) (sheet a₀ : List ℕ) (P : List Row → Type 0) {d n count
   many-made : (q : List ℕ) → Formed q → length q ≤ 1 + 2 * count → Is sheet a₀ (suc d) (suc n) a l (make T (valueRow q) (t .rows)) (madeOf (k .words) (take (length l) (k .log)) (at r 0) (written (k .log) q))
   many-made q f s =
       rw (cut, ← h .rows, written-is (k .log) q (omega (arith, room .log, ap length (h .log), length-append l (flats (h .ress)), h .short, h .many, s)))
-      (make-is sheet a₀ d (suc n) (omega arith) a l (k .words) room (h .hold) (1 + 2 * count) (record { top = omega (arith, h .top); few = omega (arith, h .few) }) q f s (at r 0))
+      (make-is sheet a₀ d (suc n) (omega arith) a l (k .words) room (h .hold) (1 + 2 * count) (record { top = omega (arith, h .top); few = omega (arith, h .few) }) q f s (at r 0) typed)
 
   many-err : Is sheet a₀ (suc d) (suc n) a l (out (t .rows) (err T)) (errOf (k .words) (take (length l) (k .log)) (at r 0))
-  many-err = rw (cut, ← h .rows) (err-is sheet a₀ d (suc n) (omega arith) a l (k .words) room (h .hold) spent (at r 0))
+  many-err = rw (cut, ← h .rows) (err-is sheet a₀ d (suc n) (omega arith) a l (k .words) room (h .hold) spent (at r 0) typed)
 
   module _ (su : suits (getD (nodes sheet a₀) c []) count ≡ true) (keep : Node ℕ) (e : leftTree (getD (nodes sheet a₀) c []) 0 T (t .trees) ≡ keep) where
     many-left : Is sheet a₀ (suc d) (suc n) a l (out (t .rows) keep) (leftOf (k .words) (k .log) (length l) c 0 (at r 0))
     many-left =
         rw (← h .rows)
-        (left-is sheet a₀ d (suc n) (omega arith) a l (k .words) room (h .hold) spent (k .log) (h .ress) (h .log) (omega (arith, h .short)) (h .wholes) c 0 (at r 0) (ap (suits (getD (nodes sheet a₀) c [])) (h .counted) ∙ su) keep
+        (left-is sheet a₀ d (suc n) (omega arith) a l (k .words) room (h .hold) spent (k .log) (h .ress) (h .log) (omega (arith, h .short)) (h .wholes) c 0 (at r 0) typed (ap (suits (getD (nodes sheet a₀) c [])) (h .counted) ∙ su) keep
         (ap (leftTree (getD (nodes sheet a₀) c []) 0 T) (h .trees) ∙ e))
 
     -- where not all are values

@@ -14,7 +14,7 @@ use Rattle.forms.specs.Tags.{SET-OF, RECORD-OF, PART-P, PART-A, PART-R}
 use Rattle.sheet.specs.Bytes.{longAt}
 use Rattle.sheet.specs.Forms.{partial, at, mark, PRINCIPAL, ACTION, RESOURCE, CONTEXT, NODE}
 use Rattle.sheet.specs.Content.{varOf, entityGiven, nEnv}
-use Rattle.sheet.proofs.ValueRows.{back}
+use Rattle.sheet.proofs.content.ValueRows.{back}
 use Rattle.words.specs.Log.{part, Appended, Room}
 use Rattle.words.proofs.Logs.{append-holds, holds-from, log-cut, log-length}
 use Rattle.table.specs.Layout.{rowsOf, held, linesHeld}

@@ -118,12 +118,12 @@ module _ (sheet a₀ : List ℕ) where
 
   mutual
     pub whole-up : {d : ℕ} {r : Res} → Whole tys nodes d r → (e : ℕ) → d ≤ e → Whole tys nodes e r
-    whole-up (whole-lit {d = d}) zero h = absurd (omega arith)
-    whole-up (whole-lit {d = d}) (suc e) h = whole-lit
-    whole-up (whole-err {d = d}) zero h = absurd (omega arith)
-    whole-up (whole-err {d = d}) (suc e) h = whole-err
-    whole-up (whole-left {d = d} s ws) zero h = absurd (omega arith)
-    whole-up (whole-left {d = d} s ws) (suc e) h = whole-left s (wholes-up ws e (omega arith))
+    whole-up (whole-lit {d = d} t) zero h = absurd (omega arith)
+    whole-up (whole-lit {d = d} t) (suc e) h = whole-lit t
+    whole-up (whole-err {d = d} t) zero h = absurd (omega arith)
+    whole-up (whole-err {d = d} t) (suc e) h = whole-err t
+    whole-up (whole-left {d = d} t s ws) zero h = absurd (omega arith)
+    whole-up (whole-left {d = d} t s ws) (suc e) h = whole-left t s (wholes-up ws e (omega arith))
 
     pub wholes-up : {d : ℕ} {rs : Ress} → Wholes tys nodes d rs → (e : ℕ) → d ≤ e → Wholes tys nodes e rs
     wholes-up whole-none e h = whole-none
@@ -161,28 +161,28 @@ module _ (sheet a₀ : List ℕ) where
     four : (xs : List ℕ) → length xs ≡ 4 → appended l xs ≡ l ++ xs
     four xs e = appended-is l xs (omega (arith, e, room .log))
 
-    pub lit-is : Spent n a a₁ → (y v : ℕ) → Is (suc d) n a l (out (values a₁) (lit (ty y) v)) (litOf a₁ l y v)
+    pub lit-is : Spent n a a₁ → (y v : ℕ) → y < length tys → Is (suc d) n a l (out (values a₁) (lit (ty y) v)) (litOf a₁ l y v)
     unfolding litOf flat treeOf
-    lit-is s y v = record {
+    lit-is s y v typed = record {
       res = rlit v y;
       log = four (litRow v y) refl;
       short = omega arith;
       tree = refl;
-      whole = whole-lit;
+      whole = whole-lit typed;
       rows = refl;
       hold = h;
       top = s .top;
       few = s .few;
     }
 
-    pub err-is : Spent n a a₁ → (y : ℕ) → Is (suc d) n a l (out (values a₁) (err (ty y))) (errOf a₁ l y)
+    pub err-is : Spent n a a₁ → (y : ℕ) → y < length tys → Is (suc d) n a l (out (values a₁) (err (ty y))) (errOf a₁ l y)
     unfolding errOf flat treeOf
-    err-is s y = record {
+    err-is s y typed = record {
       res = rerr y;
       log = four (errRow y) refl;
       short = omega arith;
       tree = refl;
-      whole = whole-err;
+      whole = whole-err typed;
       rows = refl;
       hold = h;
       top = s .top;
@@ -191,10 +191,10 @@ module _ (sheet a₀ : List ℕ) where
 
     -- node c over the blocks rs
     pub left-is : Spent n a a₁ → (l₁ : List ℕ) (rs : Ress) → l₁ ≡ l ++ flats rs → length (flats rs) + 4 ≤ 4 * n → Wholes tys nodes d rs
-        → (c k y : ℕ) → suits (getD nodes c []) (countRes rs) ≡ true → (e : Node ℕ) → leftTree (getD nodes c []) k (ty y) (treesOf tys nodes rs) ≡ e
+        → (c k y : ℕ) → y < length tys → suits (getD nodes c []) (countRes rs) ≡ true → (e : Node ℕ) → leftTree (getD nodes c []) k (ty y) (treesOf tys nodes rs) ≡ e
         → Is (suc d) n a l (out (values a₁) e) (leftOf a₁ l₁ (length l) c k y)
     unfolding leftOf flat treeOf
-    left-is s l₁ rs el sh ws c k y su e et = record {
+    left-is s l₁ rs el sh ws c k y typed su e et = record {
       res = rleft c k y rs;
       log =
           let z : length l₁ ≡ length l + length (flats rs) = ap length el ∙ length-append l (flats rs) in
@@ -203,7 +203,7 @@ module _ (sheet a₀ : List ℕ) where
           ∙ ap₂ (λ (x : List ℕ) (j : ℕ). x ++ leftRow c k j y) el w ∙ append-assoc l (flats rs) (leftRow c k (length (flats rs)) y);
       short = omega (arith, length-append (flats rs) (leftRow c k (length (flats rs)) y), sh);
       tree = et;
-      whole = whole-left su ws;
+      whole = whole-left typed su ws;
       rows = refl;
       hold = h;
       top = s .top;
@@ -228,23 +228,23 @@ module _ (sheet a₀ : List ℕ) where
       pub made-few : getD (withValue a₁ q) MADE 0 ≤ getD a MADE 0 + n
       made-few = omega (arith, made .kept .few, s .few)
 
-      pub make-is : (y : ℕ) → Is (suc d) n a l (make (ty y) (valueRow q) (values a₁)) (madeOf a₁ l y q)
+      pub make-is : (y : ℕ) → y < length tys → Is (suc d) n a l (make (ty y) (valueRow q) (values a₁)) (madeOf a₁ l y q)
       unfolding madeOf litOf flat treeOf
-      make-is y = record {
+      make-is y typed = record {
         res = rlit (numberOf a₁ q) y;
         log = four (litRow (numberOf a₁ q) y) refl;
         short = omega arith;
         tree = ap (lit (ty y)) (made .number);
-        whole = whole-lit;
+        whole = whole-lit typed;
         rows = made .rows;
         hold = made-hold;
         top = made-top;
         few = made-few;
       }
 
-    pub make-bool : Space 3 n a a₁ → (b : Bool) (y : ℕ) → Is (suc d) n a l (make (ty y) (valueRow (boolRow b)) (values a₁)) (madeOf a₁ l y (boolRow b))
-    make-bool s true y = make-is 3 s (boolRow true) refl (omega arith) y
-    make-bool s false y = make-is 3 s (boolRow false) refl (omega arith) y
+    pub make-bool : Space 3 n a a₁ → (b : Bool) (y : ℕ) → y < length tys → Is (suc d) n a l (make (ty y) (valueRow (boolRow b)) (values a₁)) (madeOf a₁ l y (boolRow b))
+    make-bool s true y typed = make-is 3 s (boolRow true) refl (omega arith) y typed
+    make-bool s false y typed = make-is 3 s (boolRow false) refl (omega arith) y typed
 
   -- a row that is asked
   module _ (d n : ℕ) (one : 1 ≤ n) (a l : List ℕ) (room : Room n a l) (h : Hold a₀ a) (q : List ℕ) (f : Formed q) (short : length q ≤ 3) (x : Var) (e : asks a .request x ≡ some (mk (valueRow q))) where
@@ -255,14 +255,14 @@ module _ (sheet a₀ : List ℕ) where
     asked-made : Interning a q
     asked-made = made-is a q (h .sound) (h .formed) f asked-room
 
-    pub make-asked : (y : ℕ) → Is (suc d) n a l (make (ty y) (valueRow q) (values a)) (madeOf a l y q)
+    pub make-asked : (y : ℕ) → y < length tys → Is (suc d) n a l (make (ty y) (valueRow q) (values a)) (madeOf a l y q)
     unfolding madeOf litOf flat treeOf
-    make-asked y = record {
+    make-asked y typed = record {
       res = rlit (numberOf a q) y;
       log = four d n one a l a room h (litRow (numberOf a q) y) refl;
       short = omega arith;
       tree = ap (lit (ty y)) (asked-made .number);
-      whole = whole-lit;
+      whole = whole-lit typed;
       rows = asked-made .rows;
       hold = record { sound = asked-made .kept .sound; formed = asked-made .formed; same = λ k lt. asked-made .kept .others k lt ∙ h .same k lt };
       top = let r = reach-asked a q asked-made (h .formed) f short x e in omega (arith, r, one);

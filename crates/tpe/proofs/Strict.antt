@@ -3,7 +3,7 @@ use mathlib.Core.Path.{_≡_, sym, _∙_, ap}
 use mathlib.Core.Bool.{Bool, true, false, _||_}
 use mathlib.Core.Option.{Option, none, some}
 use mathlib.Core.List.{List, [], _∷_, _++_, append-assoc, append-nil}
-use Prim.Native.Nat.{ℕ, suc, _+_, _*_, _≤_}
+use Prim.Native.Nat.{ℕ, suc, _+_, _*_, _≤_, _<_}
 use native.Mathlib.Omega.{arith}
 use lib.ListN.{length, getD, take, length-append}
 use Rattle.cedar.specs.Residual.{Node, err, tyOf, canErr, Stage, value, error, open′, view}
@@ -20,7 +20,7 @@ use Rattle.tpe.specs.Run.{O, left, errOf, leftOf, madeOf, wordsOf, giveO
 use Rattle.tpe.proofs.Outcomes.{RowFine, GiveFine, Fine, words-row, words-formed, words-short, bool-row}
 use Rattle.tpe.proofs.Stands.{Hold, values, Room, Space, Spent, space-spent, tys, nodes, ty, Is, is-as, stage-there, type-there, errs-there, lit-is, err-is, left-is, make-is, make-bool, cut-back}
 
--- the operands rs stand on the log l₁ from l on, and the words are a₁: node c, of type y, would be left over them as `keep`
+-- the operands rs stand on the log l₁ from l on, and the words are a₁: node c, of the listed type y, would be left over them as `keep`
 pub record Over (sheet a₀ : List ℕ) (d n : ℕ) (a l a₁ l₁ : List ℕ) (R : List Row) (c y : ℕ) (keep : Node ℕ) : Type 0 where
   pub room : Room n a l
   pub hold : Hold a₀ a₁
@@ -30,6 +30,7 @@ pub record Over (sheet a₀ : List ℕ) (d n : ℕ) (a l a₁ l₁ : List ℕ) (
   pub log : l₁ ≡ l ++ flats ress
   pub short : length (flats ress) + 4 ≤ 4 * n
   pub wholes : Wholes (tys sheet a₀) (nodes sheet a₀) d ress
+  pub typed : y < length (tys sheet a₀)
   pub suit : suits (getD (nodes sheet a₀) c []) (countRes ress) ≡ true
   pub kept : leftTree (getD (nodes sheet a₀) c []) 0 (ty sheet a₀ y) (treesOf (tys sheet a₀) (nodes sheet a₀) ress) ≡ keep
 
@@ -44,24 +45,24 @@ module _ (sheet a₀ : List ℕ) {d n : ℕ} {a l a₁ l₁ : List ℕ} {R : Lis
   cut = cut-back l (flats (v .ress)) l₁ (v .log)
 
   pub over-err : Is sheet a₀ (suc d) n a l (out R (err (ty sheet a₀ y))) (errOf a₁ (take (length l) l₁) y)
-  over-err = rw (cut, ← v .rows) (err-is sheet a₀ d n one a l a₁ (v .room) (v .hold) none-made y)
+  over-err = rw (cut, ← v .rows) (err-is sheet a₀ d n one a l a₁ (v .room) (v .hold) none-made y (v .typed))
 
   pub over-left : Is sheet a₀ (suc d) n a l (out R keep) (leftOf a₁ l₁ (length l) c 0 y)
-  over-left = rw (← v .rows) (left-is sheet a₀ d n one a l a₁ (v .room) (v .hold) none-made l₁ (v .ress) (v .log) (v .short) (v .wholes) c 0 y (v .suit) keep (v .kept))
+  over-left = rw (← v .rows) (left-is sheet a₀ d n one a l a₁ (v .room) (v .hold) none-made l₁ (v .ress) (v .log) (v .short) (v .wholes) c 0 y (v .typed) (v .suit) keep (v .kept))
 
   pub over-bool : (b : Bool) → Is sheet a₀ (suc d) n a l (make (ty sheet a₀ y) (rbool b) R) (madeOf a₁ (take (length l) l₁) y (boolRow b))
-  over-bool b = rw (cut, ← v .rows, ← bool-row b) (make-bool sheet a₀ d n one a l a₁ (v .room) (v .hold) (v .space) b y)
+  over-bool b = rw (cut, ← v .rows, ← bool-row b) (make-bool sheet a₀ d n one a l a₁ (v .room) (v .hold) (v .space) b y (v .typed))
 
   over-made : (r : Row) → RowFine r → Is sheet a₀ (suc d) n a l (make (ty sheet a₀ y) r R) (madeOf a₁ (take (length l) l₁) y (wordsOf r))
   over-made r f =
       rw (cut, ← v .rows)
-      (is-as sheet a₀ (make-is sheet a₀ d n one a l a₁ (v .room) (v .hold) 3 (v .space) (wordsOf r) (words-formed r f) (words-short r f) y)
+      (is-as sheet a₀ (make-is sheet a₀ d n one a l a₁ (v .room) (v .hold) 3 (v .space) (wordsOf r) (words-formed r f) (words-short r f) y (v .typed))
       (ap (λ (q : Row). make (ty sheet a₀ y) q (values a₁)) (words-row r f)))
 
   over-give : (g : Give) → GiveFine g → Is sheet a₀ (suc d) n a l (giveLit (ty sheet a₀ y) g R) (giveOf a₁ (take (length l) l₁) y g)
   unfolding giveOf
   over-give (made r) f = over-made r f
-  over-give (old x) f = rw (cut, ← v .rows) (lit-is sheet a₀ d n one a l a₁ (v .room) (v .hold) none-made y x)
+  over-give (old x) f = rw (cut, ← v .rows) (lit-is sheet a₀ d n one a l a₁ (v .room) (v .hold) none-made y x (v .typed))
 
   over-settle : (x : NOut) → Fine x → Is sheet a₀ (suc d) n a l (nSettle (ty sheet a₀ y) keep x R) (settleOf a₁ l₁ (length l) c y x)
   unfolding settleOf
@@ -139,7 +140,7 @@ module _ (sheet a₀ : List ℕ) {d n : ℕ} {a l : List ℕ} {X : Out} {o : O} 
 
   -- ---- one operand
 
-  module _ (c y : ℕ) (room : Room (suc n) a l) (su : suits (getD (nodes sheet a₀) c []) 1 ≡ true) where
+  module _ (c y : ℕ) (typed : y < length (tys sheet a₀)) (room : Room (suc n) a l) (su : suits (getD (nodes sheet a₀) c []) 1 ≡ true) where
     pub over1 : (keep : Node ℕ) → leftTree (getD (nodes sheet a₀) c []) 0 (ty sheet a₀ y) (X .tree ∷ []) ≡ keep → Over sheet a₀ d (suc n) a l (o .words) (o .log) (X .rows) c y keep
     unfolding flats treesOf
     over1 keep k = record {
@@ -151,6 +152,7 @@ module _ (sheet a₀ : List ℕ) {d n : ℕ} {a l : List ℕ} {X : Out} {o : O} 
       log = last-log;
       short = omega (arith, i .short, length-append (flat (i .res)) []);
       wholes = whole-more (i .whole) whole-none;
+      typed = typed;
       suit = su;
       kept = ap (λ (t : Node ℕ). leftTree (getD (nodes sheet a₀) c []) 0 (ty sheet a₀ y) (t ∷ [])) (i .tree) ∙ k;
     }

@@ -13,9 +13,9 @@ use Rattle.cedar.proofs.TableLaws.{InN, now′, later′}
 use Rattle.sheet.specs.Forms.{Mode, refs, TYPE, NODE}
 use Rattle.sheet.specs.State.{State, linesOf, lineAt, count, depthsOf}
 use Rattle.sheet.specs.Typing.{gathered, underFrom, nodesUnder}
-use Rattle.sheet.proofs.Under.{lower, under-lower, lower-is, lower-none}
-use Rattle.sheet.proofs.Depths.{Reached, Deep, Depths, reached-depths, reached-history}
-use Rattle.sheet.proofs.Limits.{lines-at-most}
+use Rattle.sheet.proofs.reading.Under.{lower, under-lower, lower-is, lower-none}
+use Rattle.sheet.proofs.reading.Depths.{Reached, Deep, Depths, reached-depths, reached-history}
+use Rattle.sheet.proofs.reading.Limits.{lines-at-most}
 use Rattle.table.specs.Layout.{linesHeld, held}
 use Rattle.table.proofs.Rows.{count-rows}
 use Rattle.typing.specs.Links.{TYPES, seenBelow, seenFrom, Shown}

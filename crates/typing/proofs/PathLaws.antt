@@ -11,7 +11,7 @@ use lib.Dec.{ltb}
 use lib.ListN.{length, getD, drop, replicate, length-replicate, drop-of-length-le}
 use Rattle.cedar.proofs.Tools.{no-true, and-both, iff}
 use Rattle.sheet.specs.Bytes.{same}
-use Rattle.sheet.proofs.RowTests.{same-is}
+use Rattle.sheet.proofs.reading.RowTests.{same-is}
 use Rattle.words.proofs.Bits.{added-is}
 use Rattle.fits.specs.Fit.{foundIn}
 use Rattle.fits.specs.declared.Found as F

@@ -18,8 +18,8 @@ use Rattle.sheet.specs.Bytes.{same, longAt}
 use Rattle.sheet.specs.Forms.{VALUE}
 use Rattle.sheet.specs.State.{valueRow, entriesOf}
 use Rattle.sheet.specs.Content.{rowsIn}
-use Rattle.sheet.proofs.TwoSheets.{same-is}
-use Rattle.sheet.proofs.ValueRows.{back, flat, word-back, same-refl, rows-length, rows-snoc}
+use Rattle.sheet.proofs.demand3.TwoSheets.{same-is}
+use Rattle.sheet.proofs.content.ValueRows.{back, flat, word-back, same-refl, rows-length, rows-snoc}
 use Rattle.table.specs.Layout.{part, rowsOf, MADE, TOP, withRow, limits, limit, Last, Sound}
 use Rattle.table.proofs.Rows.{count-rows, limit-small}
 use Rattle.table.proofs.Frame.{word-kept, rows-kept, sound-kept, top-new, count-new, rows-other, rows-own, sound-new}

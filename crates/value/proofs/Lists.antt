@@ -17,7 +17,7 @@ use Rattle.cedar.specs.Numbered.{memN, allN, anyN, entryOf}
 use Rattle.sheet.specs.Bytes.{same}
 use Rattle.sheet.specs.State.{entriesOf}
 use Rattle.sheet.specs.Sheet.{ascend}
-use Rattle.sheet.proofs.TwoSheets.{same-is}
+use Rattle.sheet.proofs.demand3.TwoSheets.{same-is}
 use Rattle.value.specs.Places.{lowerThan}
 use Rattle.value.specs.Shapes.{valueFound}
 use Rattle.value.specs.declared.Entry.the-variants.{At, Nothing}

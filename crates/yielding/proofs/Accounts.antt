@@ -18,8 +18,8 @@ use Rattle.cedar.specs.Numbered.{NEnv, Give, made, old, NOut, give, fails, stay
 use Rattle.cedar.specs.Runs.{NPolicy, NVerdict, nRun}
 use Rattle.cedar.proofs.Outcomes.{GiveIs, OutIs, e-some, e-entries, made-un, made-bin, made-rel, made-get, made-has}
 use Rattle.sheet.specs.Answer.{size, sizes, sizeArgs}
-use Rattle.sheet.proofs.MadeCount.{policySizes}
-use Rattle.sheet.proofs.MadeWords.{rowWords, howMany, howManyArgs, numbers-are, entries-are, Measure, Cheap, cheap, budget, budget-any, budget-asked}
+use Rattle.sheet.proofs.running.MadeCount.{policySizes}
+use Rattle.sheet.proofs.running.MadeWords.{rowWords, howMany, howManyArgs, numbers-are, entries-are, Measure, Cheap, cheap, budget, budget-any, budget-asked}
 use Rattle.tpe.proofs.Sets.{sort-short}
 
 module _ (N : NEnv) (small : (x : Var) (r : Row) → N .request x ≡ some (made r) → rowWords r ≤ 3) where

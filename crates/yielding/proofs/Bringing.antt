@@ -21,8 +21,8 @@ use Rattle.cedar.proofs.MakingLaws.{content-of, set-denotes}
 use Rattle.cedar.proofs.ReadsLaws.{Keeps}
 use Rattle.sheet.specs.State.{valueRow, entriesOf}
 use Rattle.sheet.specs.Content.{rowsIn}
-use Rattle.sheet.proofs.ValueRows.{back, flat, rows-length}
-use Rattle.sheet.proofs.MadeWords.{fieldsIn, rowWords, wordsOf}
+use Rattle.sheet.proofs.content.ValueRows.{back, flat, rows-length}
+use Rattle.sheet.proofs.running.MadeWords.{fieldsIn, rowWords, wordsOf}
 use Rattle.table.specs.Layout.{MADE}
 use Rattle.value.specs.Made.{valuesIn, setRow, written, numberOf, withValue}
 use Rattle.value.proofs.Interned.{Formed, Formeds, none-formed, one-formed}

@@ -24,13 +24,13 @@ use Rattle.sheet.specs.Content.{rowsIn, valueRows, contents, schema, env, nEnv,
 use Rattle.sheet.specs.Answer.{run}
 use Rattle.sheet.specs.Call.{Accepted}
 use Rattle.sheet.specs.Agreement.{agrees}
-use Rattle.sheet.proofs.Fitting.{contents-length}
-use Rattle.sheet.proofs.ValueRows.{at-getD, rows-length}
-use Rattle.sheet.proofs.MadeWords.{wordsOf, missing-most, budget}
-use Rattle.sheet.proofs.AnswerLength.{asked-words}
-use Rattle.sheet.proofs.NeverNine.{policy-sizes}
-use Rattle.sheet.proofs.TwoSheets.{Common, common, begins-with, val-same}
-use Rattle.sheet.proofs.Demand3Bytes.{Settles, demand-3, facts}
+use Rattle.sheet.proofs.content.Fitting.{contents-length}
+use Rattle.sheet.proofs.content.ValueRows.{at-getD, rows-length}
+use Rattle.sheet.proofs.running.MadeWords.{wordsOf, missing-most, budget}
+use Rattle.sheet.proofs.answer.AnswerLength.{asked-words}
+use Rattle.sheet.proofs.running.NeverNine.{policy-sizes}
+use Rattle.sheet.proofs.demand3.TwoSheets.{Common, common, begins-with, val-same}
+use Rattle.sheet.proofs.demand3.Demand3Bytes.{Settles, demand-3, facts}
 use Rattle.table.specs.Layout.{rowsOf, held, linesHeld, RUN, MADE, limit, limits, Sound}
 use Rattle.table.proofs.Rows.{count-rows}
 use Rattle.value.specs.Lines.{valueLines}

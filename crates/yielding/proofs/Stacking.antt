@@ -386,7 +386,7 @@ module _ (sheet a₀ : List ℕ) (G : Env) (ts : List Ty) (K : List Content) (g 
     pub block : {d : ℕ} (r : Res) → Whole ts nodes d r → (X : Expr) (C : List Content) (a l : List ℕ) → Stand sheet a₀ G C a → Maps K (numberThere g ns) C → Room (takes (tree r)) (makes (tree r)) (length (flat r)) a l → Reads K (tree r) X → Block C a l r X
     block (rlit v y) w X C a l st maps room h = lit-block C a l st maps v y X (flat-room (rlit v y) a l _ _ room) (lit-reads v y X h)
     block (rerr y) w X C a l st maps room h = err-block C a l st maps y X (flat-room (rerr y) a l _ _ room) (err-reads y X h)
-    block (rleft n k y rs) (whole-left s ws) X C a l st maps room h =
+    block (rleft n k y rs) (whole-left t s ws) X C a l st maps room h =
         let w = left-work sheet a₀ G K n k (getD nodes n []) refl (tyAt ts nodes y) (trees rs) (suited ts nodes n rs s) X (left-reads n k y rs X h) in
         node-block C a l n k y rs X s w (blocks rs ws (w .exprs) C a l st maps (inner-room a l n k y rs X w room) (w .reads)) room
 

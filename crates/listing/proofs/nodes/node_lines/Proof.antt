@@ -4,7 +4,7 @@ use Prim.Native.Nat.{_-_}
 use lib.ListN.{length}
 use Rattle.table.specs.Layout.{rowsOf}
 use Rattle.sheet.specs.Answer.{concat}
-use Rattle.sheet.specs.Forms.{TYPE, NODE}
+use Rattle.sheet.specs.Forms.{NODE}
 use Rattle.listing.specs.Nodes.{logLines}
 use Rattle.listing.proofs.Made.{Along}
 use Rattle.listing.proofs.NodeLines.{linesFrom, lines-start, lines-more, lines-end}
@@ -13,13 +13,13 @@ use Rattle.listing.proofs.nodes.node_lines.Statement.{statement}
 use Rattle.listing.proofs.nodes.node_lines.Tie as tie
 
 abbrev Inv-loop : tie.InvT-loop
-Inv-loop out₀ at rows log s₀ k₀ out s k = Along (concat (logLines (rowsOf rows TYPE) (rowsOf rows NODE) log)) (linesFrom (rowsOf rows TYPE) (rowsOf rows NODE) log s) out₀ at out k s (length log)
+Inv-loop out₀ at rows log s₀ k₀ out s k = Along (concat (logLines (rowsOf rows NODE) log)) (linesFrom (rowsOf rows NODE) log s) out₀ at out k s (length log)
 
 abbrev μ-loop : tie.MeasureT-loop
 μ-loop out₀ at rows log s₀ k₀ out s k = length log - s
 
 loop-holds : tie.Need-loop-holds Inv-loop μ-loop
-loop-holds c = let x = c .before .before .before .args in lines-start (rowsOf (x .rows .now) TYPE) (rowsOf (x .rows .now) NODE) (x .log .now) (x .out .now) (x .at) (search needs) (search needs)
+loop-holds c = let x = c .before .before .before .args in lines-start (rowsOf (x .rows .now) NODE) (x .log .now) (x .out .now) (x .at) (search needs) (search needs)
 
 loop-again : tie.Need-loop-again Inv-loop μ-loop
 loop-again c = search (lines-more, needs)

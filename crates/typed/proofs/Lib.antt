@@ -1,0 +1,12 @@
+pub mod FitsBoth
+pub mod TypesBoth
+pub mod ShapesBoth
+pub mod Parts
+pub mod RulesBoth
+pub mod Trees
+pub mod NodeRule
+pub mod LinesBoth
+pub mod SevenByContent
+pub mod Refused
+pub mod ExampleSeven
+pub mod LinkedTrees

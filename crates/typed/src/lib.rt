@@ -1,0 +1,1 @@
+// No code: refusal 7 by content. The definition stands in specs/, the theorems in proofs/.
