@@ -152,6 +152,8 @@ pub fn all() -> Vec<(&'static str, Mode, Vec<u8>)> {
     add("types and shapes, all limits", many_types());
     add("patterns with many stars", stars());
     add("one pattern, almost matching often", almost());
+    add("one pattern of a star and many empty texts", long_pattern(b"", false));
+    add("patterns with 56 texts of one byte in a row", short_texts(56));
     add("chains 64 deep that may err", chains());
     add("chains of if, 64 deep", ifs());
     add("many made values", made());
@@ -168,6 +170,10 @@ pub fn all() -> Vec<(&'static str, Mode, Vec<u8>)> {
     add("128 entities, many look-ups", look_ups());
     add("get in a long record", long_records());
     add("haspath over many steps", paths());
+    add("haspath over many steps, the last of 128 entities", entity_steps(b"last", false));
+    add("haspath over many steps, the last of 128 entities with text 0", entity_steps(b"Broker", false));
+    add("haspath over many steps, the last of 500 attributes", attribute_steps(500));
+    add("128 entities that share all their parents, 31 kinds above", shared_parents());
     add("literals of long sets", literals());
     add("64 policies, all open", open());
     add("many sets with a common start", common_starts());
@@ -175,6 +181,8 @@ pub fn all() -> Vec<(&'static str, Mode, Vec<u8>)> {
     add("64 policies over one root with long patterns", shared_root(Long::Patterns, false));
     add("64 policies over one root with long paths", shared_root(Long::Paths, false));
     add("64 policies over one root of 16 nodes, both slots linked", linked());
+    add("64 policies over one root, a star and many empty texts", long_pattern(b"", true));
+    add("64 policies over one root, haspath over many steps, the last of 128 entities", entity_steps(b"last", true));
     add("64 policies over one root, made values among many", shared_made());
     add("64 policies over one root, any on long sets", shared_sets());
     add("64 policies over one root, get in a long record", shared_gets());
@@ -202,6 +210,8 @@ pub fn all() -> Vec<(&'static str, Mode, Vec<u8>)> {
     add("complete: 64 policies over one root, get in a long record", completed(shared_gets()));
     add("complete: shared rows", completed(shared(62)));
     add("complete: one pattern, almost matching often", completed(almost()));
+    add("complete: one pattern of a star and many empty texts", completed(long_pattern(b"", false)));
+    add("complete: haspath over many steps, the last of 128 entities", completed(entity_steps(b"last", false)));
     add("complete: all on long sets", completed(long_sets(Two::All)));
     add("complete: in long sets, long ancestors", completed(ancestors()));
     add("complete: 128 entities, many look-ups", completed(look_ups()));
@@ -398,6 +408,43 @@ fn almost() -> Draft {
     repeated(draft, Two::Or, |draft, _| {
         let lit = draft.node(string, Operation::Lit(v));
         draft.node(0, Operation::Like(lit, vec![None, Some(end)]))
+    })
+}
+
+/// One pattern that does not match: a star, a piece as often as fits, and a text that does not end the value. Under one policy, or under 64.
+fn long_pattern(piece: &[u8], shared: bool) -> Draft {
+    let mut draft = small();
+    let string = draft.ty(TypeRow::String);
+    let text = draft.text(&[b'a'; 128]);
+    let (piece, end) = (draft.text(piece), draft.text(b"b"));
+    let v = draft.value(ValueRow::Text(text));
+    greatest(|count| {
+        let mut next = draft.clone();
+        let lit = next.node(string, Operation::Lit(v));
+        let items = [vec![None], vec![Some(piece); count], vec![Some(end)]].concat();
+        let like = next.node(0, Operation::Like(lit, items));
+        under(&mut next, like, shared);
+        next
+    })
+}
+
+/// One policy of this root, or 64 over it.
+fn under(draft: &mut Draft, root: u32, shared: bool) {
+    match shared {
+        true => sixteen(draft, vec![root]),
+        false => draft.policy(3, true, root),
+    }
+}
+
+fn short_texts(count: usize) -> Draft {
+    let mut draft = small();
+    let string = draft.ty(TypeRow::String);
+    let text = draft.text(&[b'a'; 128]);
+    let (a, b) = (draft.text(b"a"), draft.text(b"b"));
+    let v = draft.value(ValueRow::Text(text));
+    repeated(draft, Two::Or, |draft, _| {
+        let lit = draft.node(string, Operation::Lit(v));
+        draft.node(0, Operation::Like(lit, [vec![None], vec![Some(a); count], vec![Some(b)]].concat()))
     })
 }
 
@@ -704,6 +751,71 @@ fn paths() -> Draft {
     repeated(draft, Two::And, |draft, _| {
         let var = draft.node(ty, Operation::Var(Variable::Context));
         draft.node(0, Operation::HasPath(var, vec![a; 60]))
+    })
+}
+
+/// A path of as many steps as fit from the last of 128 entities, each step to that entity itself; this is its text.
+fn entity_steps(text: &[u8], shared: bool) -> Draft {
+    let mut draft = small();
+    let (a, text) = (draft.text(b"a"), draft.text(text));
+    draft.shapes[0].attributes = draft.ty(TypeRow::Record(vec![(a, false, 2)]));
+    let mut row = brokers(&mut draft, 127);
+    let last = draft.value(ValueRow::Entity(0, text));
+    row.push(last);
+    let [none, own] = [Vec::new(), vec![(a, last)]].map(|fields| Some(draft.value(ValueRow::Record(fields))));
+    let parents = Some(draft.value(ValueRow::Set(Vec::new())));
+    for entity in row {
+        draft.entities.push(EntityRow { entity, attributes: if entity == last { own } else { none }, tags: none, parents });
+    }
+    draft.principal = (0, Some(text));
+    greatest(|steps| {
+        let mut next = draft.clone();
+        let var = next.node(2, Operation::Var(Variable::Principal));
+        let path = next.node(0, Operation::HasPath(var, vec![a; steps]));
+        under(&mut next, path, shared);
+        next
+    })
+}
+
+/// A path of as many steps as fit through the last of so many declared attributes.
+fn attribute_steps(count: usize) -> Draft {
+    let mut draft = small();
+    let texts: Vec<u32> = (0..count).map(|n| draft.text(format!("{n}").as_bytes())).collect();
+    let last = *texts.last().expect("texts");
+    let fields = texts.iter().map(|t| (*t, false, if *t == last { 2 } else { 0 })).collect();
+    draft.shapes[0].attributes = draft.ty(TypeRow::Record(fields));
+    greatest(|steps| {
+        let mut next = draft.clone();
+        let var = next.node(2, Operation::Var(Variable::Principal));
+        let path = next.node(0, Operation::HasPath(var, vec![last; steps]));
+        under(&mut next, path, false);
+        next
+    })
+}
+
+/// 128 entities with one set of parents, as many as fit, of a kind that is the last of 31 above theirs.
+fn shared_parents() -> Draft {
+    let mut draft = small();
+    for n in 3..32 {
+        let name = draft.text(format!("k{n}").as_bytes());
+        draft.kinds.push((name, false));
+        draft.shapes.push(ShapeRow { attributes: 1, tags: None, above: Vec::new() });
+    }
+    draft.shapes[0].above = (0..32).filter(|kind| *kind != 1).collect();
+    let row = brokers(&mut draft, 128);
+    greatest(|count| {
+        let mut next = draft.clone();
+        let parents: Vec<u32> = (0..count)
+            .map(|n| {
+                let t = next.text(format!("{n}").as_bytes());
+                next.value(ValueRow::Entity(31, t))
+            })
+            .collect();
+        let parents = Some(next.value(ValueRow::Set(parents)));
+        for entity in &row {
+            next.entities.push(EntityRow { entity: *entity, attributes: None, tags: None, parents });
+        }
+        next
     })
 }
 

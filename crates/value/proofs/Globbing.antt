@@ -15,7 +15,7 @@ use Rattle.cedar.specs.Residual.{star, piece}
 use Rattle.sheet.specs.Bytes.{same}
 use Rattle.sheet.specs.Forms.{mark}
 use Rattle.sheet.specs.Content.{patternOf}
-use Rattle.value.specs.Globs.{Block, misses, endsAt, starAt, Step, holds, fails, onTo, blockIn, stepIn, begins, blockOf, untilPiece, untilItem, laterOf, stepOf, after}
+use Rattle.value.specs.Globs.{Block, misses, endsAt, starAt, Step, holds, fails, onTo, blockIn, stepIn, begins, blockOf, untilPiece, laterOf, stepOf, after, Steps}
 use Rattle.value.specs.declared.like.Block.{Block as Blockᶜ}
 use Rattle.value.specs.declared.like.Block.the-variants.{Misses, Ends, Star}
 use Rattle.value.specs.declared.like.Step.{Step as Stepᶜ}
@@ -32,7 +32,7 @@ begins-short (x ∷ p) = ne-eqb (suc (length p)) 0 (λ e. omega arith)
 pub begins-past : (p s : List ℕ) (at : ℕ) → length s < at → eqb (length p) 0 ≡ begins p (drop at s)
 begins-past p s at h = begins-short p ∙ ap (begins p) (sym (spent s at (omega arith)))
 
-too-long : (p s : List ℕ) → length s < length p → false ≡ begins p s
+pub too-long : (p s : List ℕ) → length s < length p → false ≡ begins p s
 unfolding begins
 too-long [] s h = absurd (omega arith)
 too-long (x ∷ p) [] h = refl
@@ -127,7 +127,7 @@ module _ (x y : List ℕ) (e : length x ≡ length y) (d i : ℕ) (g : Telling x
 
 -- ---- the first place of a piece
 
-until-most : (p s : List ℕ) → untilPiece p s ≤ length s
+pub until-most : (p s : List ℕ) → untilPiece p s ≤ length s
 unfolding untilPiece
 until-most p [] = omega arith
 until-most p (y ∷ s) = go (begins p (y ∷ s)) (until-most p s)
@@ -146,7 +146,7 @@ unfolding untilPiece
 until-here p [] e = refl
 until-here p (y ∷ s) e = rw e
 
-begins-some : (p s : List ℕ) → length p ≤ length s → begins p s ≡ false → 1 ≤ length s
+pub begins-some : (p s : List ℕ) → length p ≤ length s → begins p s ≡ false → 1 ≤ length s
 unfolding begins
 begins-some [] s h e = let z : _≡_ {A = ℕ} 0 1 = cc in absurd (omega arith)
 begins-some (x ∷ p) s h e = omega arith
@@ -179,20 +179,6 @@ module _ (p s : List ℕ) (from u : ℕ) (g : Hunting p s from u) where
         let f : begins p (getD s u 0 ∷ drop (u + 1) s) ≡ false = ap (begins p) (sym d) ∙ sym eb ∙ e in
         let z : untilPiece p (drop u s) ≡ suc (untilPiece p (drop (u + 1) s)) = ap (untilPiece p) d ∙ rw f in
         record { near = omega arith; left = omega (arith, g .left) }
-
-module _ (B : ℕ → List ℕ) (P S : List ℕ) (q t : ℕ) where
-  pub skip-end : length P ≤ q → t ≡ t + untilItem B (drop q P) (drop t S)
-  unfolding untilItem
-  skip-end h = let z : t ≡ t + 0 = omega arith in rw (spent P q h) z
-
-  module _ (h : q < length P) (x : ℕ) (ex : x ≡ getD P q 0) where
-    pub skip-star : x ≡ mark → t ≡ t + untilItem B (drop q P) (drop t S)
-    unfolding untilItem
-    skip-star m = let z : t ≡ t + 0 = omega arith in rw (uncons P 0 q h, ← ex, eq-eqb x mark m) z
-
-    pub skip-piece : (x ≡ mark → ⊥) → (w : List ℕ) → w ≡ B x → (u : ℕ) → u ≡ t + untilPiece w (drop t S) → u ≡ t + untilItem B (drop q P) (drop t S)
-    unfolding untilItem
-    skip-piece n w ew u eu = rw (uncons P 0 q h, ← ex, ne-eqb x mark n, ← ew) eu
 
 -- ---- a block: where the loop stands
 
@@ -257,10 +243,10 @@ module _ (B : ℕ → List ℕ) where
   piece-is (x ∷ p) [] f = refl
   piece-is (x ∷ p) (y ∷ s) f = ap (λ (b : Bool). eqb x y && b) (piece-is p s f) ∙ and-assoc (eqb x y) (begins p s) (f (drop (length p) s))
 
-  at-piece : (x : ℕ) (p s : List ℕ) → eqb x mark ≡ false → M (x ∷ p) s ≡ (begins (B x) s && M p (drop (length (B x)) s))
+  pub at-piece : (x : ℕ) (p s : List ℕ) → eqb x mark ≡ false → M (x ∷ p) s ≡ (begins (B x) s && M p (drop (length (B x)) s))
   at-piece x p s e = ap (λ (b : Bool). matches B (cond b star (piece x) ∷ patternOf p) s) e ∙ piece-is (B x) s (M p)
 
-  at-star : (x : ℕ) (p s : List ℕ) → eqb x mark ≡ true → M (x ∷ p) s ≡ anySuffix (M p) s
+  pub at-star : (x : ℕ) (p s : List ℕ) → eqb x mark ≡ true → M (x ∷ p) s ≡ anySuffix (M p) s
   at-star x p s e = ap (λ (b : Bool). matches B (cond b star (piece x) ∷ patternOf p) s) e
 
   module _ (P S : List ℕ) where
@@ -356,7 +342,7 @@ module _ (B : ℕ → List ℕ) where
       first [] e = e
       first (x ∷ s) e = rw e
 
-      greedy : (s : List ℕ) → b s ≡ true → anySuffix f s ≡ anySuffix K (drop n s)
+      pub greedy : (s : List ℕ) → b s ≡ true → anySuffix f s ≡ anySuffix K (drop n s)
       greedy s h = iff (anySuffix f s) (anySuffix K (drop n s)) (any-wide s) (λ e. first s (m s ∙ rw (h, e)))
 
   -- ---- a step
@@ -406,7 +392,7 @@ module _ (B : ℕ → List ℕ) where
     any-first f [] e = e
     any-first f (x ∷ s) e = rw e
 
-    step-is : (q t : ℕ) → t ≤ length S → After q t ≡ reached (stepOf (length S) q t (blockOf B q t (drop q P) (drop t S)))
+    pub step-is : (q t : ℕ) → t ≤ length S → After q t ≡ reached (stepOf (length S) q t (blockOf B q t (drop q P) (drop t S)))
     unfolding Means stepOf
     step-is q t h = go (blockOf B q t (drop q P) (drop t S)) (block-means P S (drop q P) q t refl h)
       where
@@ -420,12 +406,12 @@ module _ (B : ℕ → List ℕ) where
         go (starAt k e) m = jumped q t k e m
 
     -- where a step goes on, it has come nearer to the end
-    record Nearer (q t k e : ℕ) : Type 0 where
-      most : k ≤ length P
-      within : e ≤ length S
-      less : length P - k + (length S - e) < length P - q + (length S - t)
+    pub record Nearer (q t k e : ℕ) : Type 0 where
+      pub most : k ≤ length P
+      pub within : e ≤ length S
+      pub less : length P - k + (length S - e) < length P - q + (length S - t)
 
-    step-nearer : (q t k e : ℕ) → q ≤ length P → t ≤ length S → stepOf (length S) q t (blockOf B q t (drop q P) (drop t S)) ≡ onTo k e → Nearer q t k e
+    pub step-nearer : (q t k e : ℕ) → q ≤ length P → t ≤ length S → stepOf (length S) q t (blockOf B q t (drop q P) (drop t S)) ≡ onTo k e → Nearer q t k e
     unfolding Means stepOf laterOf
     step-nearer q t k e l h eq = go (blockOf B q t (drop q P) (drop t S)) (block-means P S (drop q P) q t refl h) eq
       where
@@ -495,7 +481,7 @@ pub glob-start : (B : ℕ → List ℕ) (P S : List ℕ) (q t : ℕ) → q ≤ l
 glob-start B P S q t h k = record { nearP = h; nearS = k; left = refl }
 
 -- places before the first item's are passed over
-any-skip : (f : List ℕ → Bool) (p : List ℕ) → ((l : List ℕ) → begins p l ≡ false → f l ≡ false) → (s : List ℕ) → anySuffix f s ≡ anySuffix f (drop (untilPiece p s) s)
+pub any-skip : (f : List ℕ → Bool) (p : List ℕ) → ((l : List ℕ) → begins p l ≡ false → f l ≡ false) → (s : List ℕ) → anySuffix f s ≡ anySuffix f (drop (untilPiece p s) s)
 unfolding untilPiece
 any-skip f p h [] = refl
 any-skip f p h (y ∷ s) = go (begins p (y ∷ s)) refl (any-skip f p h s)
@@ -505,56 +491,26 @@ any-skip f p h (y ∷ s) = go (begins p (y ∷ s)) refl (any-skip f p h s)
     go true e ih = refl
     go false e ih = rw (h (y ∷ s) e) ih
 
-module _ (B : ℕ → List ℕ) where
-  item-skip : (p s : List ℕ) → anySuffix (M B p) s ≡ anySuffix (M B p) (drop (untilItem B p s) s)
-  unfolding untilItem
-  item-skip [] s = refl
-  item-skip (x ∷ p) s = go (eqb x mark) refl
-    where
-      go : (b : Bool) → eqb x mark ≡ b → anySuffix (M B (x ∷ p)) s ≡ anySuffix (M B (x ∷ p)) (drop (cond b 0 (untilPiece (B x) s)) s)
-      go true e = refl
-      go false e = any-skip (M B (x ∷ p)) (B x) (λ l z. at-piece B x p l e ∙ rw z) s
+module _ (B : ℕ → List ℕ) (P S : List ℕ) (q₀ t₀ q t : ℕ) (g : Globbing B P S q₀ t₀ q t) (r : Stepᶜ) (j : Steps B P S q t (stepIn r)) where
+  as-step : (o : Stepᶜ) → r ≡ o → Steps B P S q t (stepIn o)
+  as-step o e = subst (λ (x : Stepᶜ). Steps B P S q t (stepIn x)) e j
 
-  item-most : (p s : List ℕ) → untilItem B p s ≤ length s
-  unfolding untilItem
-  item-most [] s = omega arith
-  item-most (x ∷ p) s = go (eqb x mark) (until-most (B x) s)
-    where
-      go : (b : Bool) → untilPiece (B x) s ≤ length s → cond b 0 (untilPiece (B x) s) ≤ length s
-      go true h = omega arith
-      go false h = h
+  pub glob-holds : r ≡ Holds → true ≡ after B P S q₀ t₀
+  unfolding Steps
+  glob-holds e = sym (g .left ∙ as-step Holds e)
 
-module _ (B : ℕ → List ℕ) (P S : List ℕ) (q₀ t₀ q t : ℕ) (g : Globbing B P S q₀ t₀ q t) (u : ℕ) (eu : u ≡ t + untilItem B (drop q P) (drop t S)) where
-  pub skip-within : u ≤ length S
-  skip-within = omega (arith, item-most B (drop q P) (drop t S), length-drop t S, g .nearS)
+  pub glob-fails : r ≡ Fails → false ≡ after B P S q₀ t₀
+  unfolding Steps
+  glob-fails e = sym (g .left ∙ as-step Fails e)
 
-  skipped : Globbing B P S q₀ t₀ q u
-  unfolding after
-  skipped =
-      let z : drop (untilItem B (drop q P) (drop t S)) (drop t S) ≡ drop u S = drop-drop (untilItem B (drop q P) (drop t S)) t S ∙ ap (λ (n : ℕ). drop n S) (sym eu) in
-      record { nearP = g .nearP; nearS = skip-within; left = g .left ∙ item-skip B (drop q P) (drop t S) ∙ ap (anySuffix (M B (drop q P))) z }
+  module _ (k e : ℕ) (z : r ≡ On k e) where
+    pub glob-on : Globbing B P S q₀ t₀ k e
+    unfolding Steps
+    glob-on = let o = as-step (On k e) z in record { nearP = o .1; nearS = o .2; left = g .left ∙ o .0 }
 
-  module _ (r : Stepᶜ) (er : stepIn r ≡ stepOf (length S) q u (blockOf B q u (drop q P) (drop u S))) where
-    by-step : (o : Stepᶜ) → r ≡ o → after B P S q₀ t₀ ≡ reached B P S (stepIn o)
-    unfolding after
-    by-step o e = skipped .left ∙ step-is B P S q u skip-within ∙ ap (reached B P S) (sym er ∙ ap stepIn e)
-
-    pub glob-holds : r ≡ Holds → true ≡ after B P S q₀ t₀
-    glob-holds e = sym (by-step Holds e)
-
-    pub glob-fails : r ≡ Fails → false ≡ after B P S q₀ t₀
-    glob-fails e = sym (by-step Fails e)
-
-    module _ (k e : ℕ) (z : r ≡ On k e) where
-      nearer : Nearer B P S q u k e
-      nearer = step-nearer B P S q u k e (g .nearP) skip-within (sym er ∙ ap stepIn z)
-
-      pub glob-on : Globbing B P S q₀ t₀ k e
-      unfolding after
-      glob-on = record { nearP = nearer .most; nearS = nearer .within; left = by-step (On k e) z }
-
-      pub glob-less : length P - k + (length S - e) < length P - q + (length S - t)
-      glob-less = omega (arith, nearer .less)
+    pub glob-less : length P - k + (length S - e) < length P - q + (length S - t)
+    unfolding Steps
+    glob-less = as-step (On k e) z .3
 
 -- a step by its block
 module _ (n q t : ℕ) (B : ℕ → List ℕ) (p s : List ℕ) (r : Blockᶜ) (er : blockIn r ≡ blockOf B q t p s) where

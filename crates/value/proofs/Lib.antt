@@ -1,6 +1,7 @@
 pub mod Lists
 pub mod Shaped
 pub mod Globbing
+pub mod Joining
 pub mod Makes
 pub mod Sorting
 pub mod Fills

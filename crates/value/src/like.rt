@@ -1,6 +1,7 @@
-// A text against a pattern of texts and `*`, which stands for any run. The items up to the next `*` are tried at one place after
-// the other; once they fit, no later place is tried for them.
+// A text against a pattern of texts and `*`, which stands for any run. The items up to the next `*` are joined to one text, which is looked for;
+// where it stands first, no later place is tried for it.
 use forms::MARK;
+use print::bytes;
 use table::text;
 ghost use mathlib.Core.Path.{_≡_};
 ghost use mathlib.Core.Bool.{cond, not};
@@ -9,9 +10,10 @@ ghost use lib.Dec.{eqb};
 ghost use lib.ListN.{length, drop};
 ghost use Rattle.cedar.specs.Evaluate.{matches};
 ghost use Rattle.sheet.specs.Bytes.{same};
+ghost use Rattle.sheet.specs.Forms.{mark};
 ghost use Rattle.sheet.specs.Content.{patternOf};
 ghost use Rattle.table.specs.Layout.{textAt};
-ghost use Rattle.value.specs.Globs.{blockIn, stepIn, begins, blockOf, untilPiece, untilItem, laterOf, stepOf, after};
+ghost use Rattle.value.specs.Globs.{blockIn, stepIn, begins, blockOf, untilPiece, laterOf, stepOf, after, Joins, firstOf, lastOf, Steps};
 
 // The items up to the next `*` at a place of the text: they do not stand there; they do, and are the last ones, up to this place;
 // they do, and the item after the `*` and the place reached are these.
@@ -160,19 +162,117 @@ fn seek(bytes: &[u8], piece: &[u8], from: usize) -> usize
     }
 }
 
-// The first place from `at` on where item `from` stands, if it is a text.
-fn skip(sheet: &[u8], rows: &[u32], pattern: &[u32], bytes: &[u8], from: usize, at: usize) -> usize
-    requires { ⌜ at ≤ length (now bytes) ⌝ }
-    ensures { λ r. ⌜ r ≡ at + untilItem (textAt (now (sheet .entry)) (now (rows .entry))) (drop from (now (pattern .entry))) (drop at (now (bytes .entry))) ⌝ }
+// The items up to the next `*`, joined to one text: it is longer than there is room for; it has so many bytes and is the last block; item `.0` comes
+// after the `*`, and it has so many bytes.
+enum Joined {
+    Long,
+    Last(usize),
+    Inner(usize, usize),
+}
+
+// The most bytes of a block that is joined.
+const BLOCK: usize = 128;
+
+// Whether an item adds nothing to the `n` bytes that are joined: a `*` after a `*`, or the text that is known to be empty.
+fn idle(item: u32, empty: u32, n: usize) -> bool
+    ensures { λ r. ⌜ r ≡ cond (eqb item mark) (eqb n 0) (eqb item empty) ⌝ }
 {
-    if from >= pattern.len() {
-        return at;
+    if item == MARK {
+        return n == 0;
     }
-    let x = pattern[from];
-    if x == MARK {
-        return at;
+    item == empty
+}
+
+// The text that is known to be empty, after `item` was looked at.
+fn emptied(piece: &[u8], item: u32, empty: u32) -> u32
+    ensures { λ r. ⌜ r ≡ cond (eqb (length (now (piece .entry))) 0) item empty ⌝ }
+{
+    if piece.len() == 0 {
+        return item;
     }
-    seek(bytes, text(sheet, rows, x), at)
+    empty
+}
+
+// The block from `from` on, after a `*`, joined. No sheet has two empty texts; the one that it has is looked up once.
+fn join(sheet: &[u8], rows: &[u32], pattern: &[u32], from: usize, block: &mut [u8]) -> Joined
+    requires { ⌜ from ≤ length (now pattern) ⌝ }
+    ensures { λ r. ⌜ Joins (textAt (now (sheet .entry)) (now (rows .entry))) (now (pattern .entry)) from (now (block .exit)) r ⌝ }
+{
+    let mut p = from;
+    let mut n = 0;
+    let mut empty = MARK;
+    loop {
+        if p >= pattern.len() {
+            break Joined::Last(n);
+        }
+        let x = pattern[p];
+        if idle(x, empty, n) {
+            p += 1;
+            continue;
+        }
+        if x == MARK {
+            break Joined::Inner(p + 1, n);
+        }
+        let piece = text(sheet, rows, x);
+        if piece.len() > block.len() - n {
+            break Joined::Long;
+        }
+        n = bytes(block, n, piece);
+        empty = emptied(piece, x, empty);
+        p += 1;
+    }
+}
+
+// A block before item `next`, at its first place from `at` on.
+fn first(bytes: &[u8], piece: &[u8], at: usize, next: usize) -> Step
+    requires { ⌜ at ≤ length (now bytes) ⌝ }
+    ensures { λ r. ⌜ stepIn r ≡ firstOf (now (piece .entry)) (drop at (now (bytes .entry))) at next ⌝ }
+{
+    let u = seek(bytes, piece, at);
+    if !begins(bytes, u, piece) {
+        return Step::Fails;
+    }
+    Step::On(next, u + piece.len())
+}
+
+// The last block, from `at` on: it ends with the text.
+fn last(bytes: &[u8], piece: &[u8], at: usize) -> Step
+    requires { ⌜ at ≤ length (now bytes) ⌝ }
+    ensures { λ r. ⌜ stepIn r ≡ lastOf (now (piece .entry)) (now (bytes .entry)) at ⌝ }
+{
+    if piece.len() > bytes.len() - at {
+        return Step::Fails;
+    }
+    if begins(bytes, bytes.len() - piece.len(), piece) {
+        return Step::Holds;
+    }
+    Step::Fails
+}
+
+// The block from `from` on, after a `*`, at place `at` or a later one. One that is too long to be joined is tried at one place after the other.
+fn advance(
+    sheet: &[u8],
+    rows: &[u32],
+    pattern: &[u32],
+    bytes: &[u8],
+    from: usize,
+    at: usize,
+) -> Step
+    requires { ⌜ (from ≤ length (now pattern)) × (at ≤ length (now bytes)) ⌝ }
+    ensures { λ r. ⌜ Steps (textAt (now (sheet .entry)) (now (rows .entry))) (now (pattern .entry)) (now (bytes .entry)) from at (stepIn r) ⌝ }
+{
+    let mut block: [u8; BLOCK] = [0; BLOCK];
+    let joined = join(sheet, rows, pattern, from, &mut block[..]);
+    match joined {
+        Joined::Inner(p, n) => first(bytes, &block[..n], at, p),
+        Joined::Last(n) => last(bytes, &block[..n], at),
+        Joined::Long => {
+            if bytes.len() - at <= BLOCK {
+                return Step::Fails;
+            }
+            step_at(sheet, rows, pattern, bytes, from, at)
+        }
+    }
 }
 
 // Whether the items from `from` on, after a `*`, match at place `at` or a later one.
@@ -183,8 +283,7 @@ fn go_on(sheet: &[u8], rows: &[u32], pattern: &[u32], bytes: &[u8], from: usize,
     let mut q = from;
     let mut t = at;
     loop {
-        let u = skip(sheet, rows, pattern, bytes, q, t);
-        let next = step_at(sheet, rows, pattern, bytes, q, u);
+        let next = advance(sheet, rows, pattern, bytes, q, t);
         match next {
             Step::Holds => break true,
             Step::Fails => break false,

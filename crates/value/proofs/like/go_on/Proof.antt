@@ -2,7 +2,7 @@
 use Prim.Native.Nat.{_-_, _+_}
 use lib.ListN.{length}
 use Rattle.table.specs.Layout.{textAt}
-use Rattle.value.proofs.Globbing.{Globbing, glob-start, skip-within, glob-holds, glob-fails, glob-on, glob-less}
+use Rattle.value.proofs.Globbing.{Globbing, glob-start, glob-holds, glob-fails, glob-on, glob-less}
 use borrow.Author.Needs.{needs}
 use Rattle.value.proofs.like.go_on.Statement.{statement}
 use Rattle.value.proofs.like.go_on.Tie as tie
@@ -15,9 +15,6 @@ abbrev μ-loop : tie.MeasureT-loop
 
 loop-holds : tie.Need-loop-holds Inv-loop μ-loop
 loop-holds c = search (glob-start, needs)
-
-step-at-requires : tie.Need-step-at-requires Inv-loop μ-loop
-step-at-requires c κs = (search needs, search (skip-within, needs))
 
 loop-less : tie.Need-loop-less Inv-loop μ-loop
 loop-less c = search (glob-less, needs)
@@ -39,7 +36,6 @@ go-on-spec =
     μ-loop
     loop-holds
     (λ c κs. search needs)
-    step-at-requires
     (λ c. search needs)
     (λ c. search needs)
     (λ c. search needs)
