@@ -1,4 +1,4 @@
-//! The commands of the documents, run as they stand: each block `console` of docs/LESSON.md, and the examples of the manual page, docs/openrules.1.
+//! The commands of the documents, run as they stand: each block `console` of docs/LESSON.md and README.md, and the examples of the manual page, docs/openrules.1.
 //!
 //! A line that begins with `$ ` is a command for `sh` in the repository's folder; what it prints, on both outputs, are the lines up to the next one, but for spaces at
 //! their ends. A command with the program `openrules` is run where it was built, target/bin/openrules, and else said and skipped.
@@ -67,7 +67,12 @@ fn held(name: &str, commands: Vec<Shown>, least: usize) {
     for shown in commands {
         if asks_the_program(&shown.command) && !there {
             // Straight to standard error, which the test runner does not keep back.
-            let _ = writeln!(std::io::stderr(), "{name}:{}: target/bin/openrules is not there, skipped: {}", shown.line, shown.command);
+            let _ = writeln!(
+                std::io::stderr(),
+                "{name}:{}: target/bin/openrules is not there, skipped: {}",
+                shown.line,
+                shown.command
+            );
             continue;
         }
         assert_eq!(printed(&shown.command), shown.prints, "{name}:{}: {}", shown.line, shown.command);
@@ -77,6 +82,11 @@ fn held(name: &str, commands: Vec<Shown>, least: usize) {
 #[test]
 fn the_lesson() {
     held("docs/LESSON.md", commands(&read("docs/LESSON.md"), "```console", "```"), 15);
+}
+
+#[test]
+fn the_readme() {
+    held("README.md", commands(&read("README.md"), "```console", "```"), 6);
 }
 
 #[test]
