@@ -94,3 +94,18 @@ fn the_manual_page() {
     let plain = read("docs/openrules.1").replace("\\-", "-").replace("\\(aq", "'").replace("\\e", "\\");
     held("docs/openrules.1", commands(&plain, ".EX", ".EE"), 4);
 }
+
+/// The synopsis of the manual page has the words that the program lists.
+#[test]
+fn the_words() {
+    if !root().join("target/bin/openrules").is_file() {
+        let _ = writeln!(std::io::stderr(), "target/bin/openrules is not there: its words were not compared");
+        return;
+    }
+    let listed: Vec<String> =
+        printed("openrules help").iter().map(|line| line.split("  ").next().unwrap_or_default().to_string()).collect();
+    let page = read("docs/openrules.1");
+    let synopsis = page.split(".SH SYNOPSIS\n.nf\n").nth(1).and_then(|rest| rest.split(".fi\n").next()).expect("a synopsis");
+    let plain = ["\\fB", "\\fI", "\\fR"].iter().fold(synopsis.to_string(), |text, font| text.replace(font, ""));
+    assert_eq!(plain.lines().collect::<Vec<_>>(), listed);
+}
