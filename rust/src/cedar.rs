@@ -48,7 +48,7 @@ pub type Text = Arc<str>;
 /// assert_eq!(broker.to_string(), r#"Broker::"b7""#);
 /// assert_eq!(Literal::Set([Literal::Long(-1), Literal::Bool(true)].into()).to_string(), "[-1, true]");
 /// ```
-#[derive(Clone, Debug, PartialEq, Eq)]
+#[derive(Clone, Debug, PartialEq, Eq, PartialOrd, Ord, Hash)]
 pub enum Literal {
     /// `true` or `false`.
     Bool(bool),

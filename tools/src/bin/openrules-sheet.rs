@@ -4,7 +4,7 @@ use clap::{Arg, ArgAction, ArgMatches, Command};
 use openrules::sheet::{Day, Mode, Sheet};
 use openrules::{Evaluator, Outcome};
 use openrules_tools::cedar::error::Error;
-use openrules_tools::cedar::{self, File, Files};
+use openrules_tools::cedar::{self, File, Files, Options};
 use std::io::Write;
 use std::process::ExitCode;
 
@@ -21,6 +21,12 @@ fn options() -> Command {
                 .long("partial")
                 .action(ArgAction::SetTrue)
                 .help("Writes a partial sheet: what is not there or null is unknown"),
+        )
+        .arg(
+            Arg::new("short")
+                .long("short")
+                .action(ArgAction::SetTrue)
+                .help("Leaves away all parts of conditions that never run for the request's types"),
         )
         .arg(
             Arg::new("after")
@@ -82,7 +88,8 @@ fn run(options: &ArgMatches) -> Result<String, Error> {
     let mode = if options.get_flag("partial") { Mode::Partial } else { Mode::Complete };
     let day = options.get_one::<Day>("day").copied().unwrap_or(Day { year: 2000, month: 1, day: 1 });
     let before = options.get_one::<String>("after").map(|name| read_sheet(name)).transpose()?;
-    let sheet = cedar::sheet(&files, mode, day, before.as_ref())?.to_string();
+    let short = options.get_flag("short");
+    let sheet = cedar::sheet(&files, &Options { mode, day, short, after: before.as_ref() })?.to_string();
     let mut evaluator = Evaluator::new();
     let outcome = match mode {
         Mode::Partial => evaluator.partial(sheet.as_bytes()),

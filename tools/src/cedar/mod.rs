@@ -43,8 +43,22 @@ pub struct Files<'a> {
     pub request: File<'a>,
 }
 
-/// Makes a sheet. It goes on from the numbers of `before`, if there is one, so that a complete sheet agrees with the partial one before it.
-pub fn sheet(files: &Files, mode: Mode, day: Day, before: Option<&Sheet>) -> Result<Sheet, Error> {
+/// What is asked for beside the files.
+#[derive(Clone, Copy, Debug)]
+pub struct Options<'a> {
+    /// Whether parts may be unknown.
+    pub mode: Mode,
+    /// The day of the request.
+    pub day: Day,
+    /// Whether parts of conditions that never run for the request's types are left away even where they have a type.
+    pub short: bool,
+    /// A sheet whose numbers this one goes on from: so a complete sheet agrees with the partial one before it.
+    pub after: Option<&'a Sheet>,
+}
+
+/// Makes a sheet.
+pub fn sheet(files: &Files, options: &Options) -> Result<Sheet, Error> {
+    let mode = options.mode;
     let [schema_json, policies, entities, request] =
         [files.schema, files.policies, files.entities, files.request].map(|file| json::read(file.name, file.bytes));
     let (schema_json, policies, entities, request) = (schema_json?, policies?, entities?, request?);
@@ -55,7 +69,7 @@ pub fn sheet(files: &Files, mode: Mode, day: Day, before: Option<&Sheet>) -> Res
     let entities = entities::read(&at(&entities, files.entities), &schema, mode)?;
 
     let place = Place::file(files.request.name);
-    let mut builder = match before {
+    let mut builder = match options.after {
         Some(before) => Builder::after(mode, before).room(&place)?,
         None => Builder::new(mode),
     };
@@ -72,6 +86,7 @@ pub fn sheet(files: &Files, mode: Mode, day: Day, before: Option<&Sheet>) -> Res
         resource: &request.resource.kind,
         context,
         slots,
+        short: options.short,
         steps: Cell::new(0),
     };
     policies.write(&typing, &mut builder)?;
@@ -81,7 +96,7 @@ pub fn sheet(files: &Files, mode: Mode, day: Day, before: Option<&Sheet>) -> Res
     let action = (request.action.kind.as_str(), request.action.id.as_str());
     builder.request((&principal.kind, principal.id.as_deref()), action, (&resource.kind, resource.id.as_deref())).room(&place)?;
     builder.context(context, request.context.as_ref()).room(&place)?;
-    builder.day(day);
+    builder.day(options.day);
     entities::write(entities, &mut builder)?;
     builder.finish().room(&Place::file("the sheet"))
 }

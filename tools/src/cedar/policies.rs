@@ -169,12 +169,19 @@ fn read_link(at: &At, file: &Place) -> Result<Link, Error> {
     Ok(Link { place: file.policy(&id), template, id, principal, resource })
 }
 
+impl Policy {
+    /// Where a fault of the written tree lies: at a text without room, else at the policy.
+    fn fault_place<'a>(&'a self, policy: &'a Place) -> &'a Place {
+        self.condition.without_room().map_or(policy, |expr| &expr.place)
+    }
+}
+
 impl Policies {
     /// Writes the policies, in the file's order, and then the links.
     pub fn write<'a>(&'a self, typing: &dyn Fn([Option<&'a str>; 2]) -> Typing<'a>, builder: &mut Builder) -> Result<(), Error> {
         for (id, policy) in &self.policies {
             let tree = typing([None; 2]).condition(&policy.condition)?.tree;
-            let root = builder.tree(&tree).room(&policy.place)?;
+            let root = builder.tree(&tree).room(policy.fault_place(&policy.place))?;
             builder.policy(id, policy.effect, root).room(&policy.place)?;
         }
         // A template is written once for each pair of types in its slots.
@@ -188,7 +195,7 @@ impl Policies {
                 Entry::Occupied(there) => *there.get(),
                 Entry::Vacant(new) => {
                     let tree = typing.condition(&template.condition)?.tree;
-                    let root = builder.tree(&tree).room(&link.place)?;
+                    let root = builder.tree(&tree).room(template.fault_place(&link.place))?;
                     *new.insert((root, tree.has_slot(Slot::Principal), tree.has_slot(Slot::Resource)))
                 }
             };
@@ -212,7 +219,7 @@ impl Policies {
 /// A link fills the slots that its template has, with entities that the schema declares.
 fn slots_fit(link: &Link, template: &Policy, typing: &Typing) -> Result<(), Error> {
     for (slot, name, uid) in [(Slot::Principal, "?principal", &link.principal), (Slot::Resource, "?resource", &link.resource)] {
-        let there = has_slot(&template.condition, slot);
+        let there = template.condition.has_slot(slot);
         if there != uid.is_some() {
             let what = if there { "nothing is linked to the slot" } else { "the template has no slot" };
             return Err(Error::Slot { at: link.place.clone(), what: format!("{what} {name}") });
@@ -222,18 +229,4 @@ fn slots_fit(link: &Link, template: &Policy, typing: &Typing) -> Result<(), Erro
         }
     }
     Ok(())
-}
-
-/// Whether a slot stands in an expression.
-fn has_slot(expr: &Expr, slot: Slot) -> bool {
-    match &expr.kind {
-        Kind::Slot(one) => *one == slot,
-        Kind::Lit(_) | Kind::Var(_) => false,
-        Kind::Unary(_, child) | Kind::Like(child, _) | Kind::Get(child, _) | Kind::Has(child, _) => has_slot(child, slot),
-        Kind::Is(child, _, within) => has_slot(child, slot) || within.as_ref().is_some_and(|within| has_slot(within, slot)),
-        Kind::Binary(_, left, right) => has_slot(left, slot) || has_slot(right, slot),
-        Kind::If(test, yes, no) => [test, yes, no].into_iter().any(|part| has_slot(part, slot)),
-        Kind::Set(children) => children.iter().any(|child| has_slot(child, slot)),
-        Kind::Record(fields) => fields.iter().any(|(_, field)| has_slot(field, slot)),
-    }
 }
