@@ -4,21 +4,21 @@
 //! Cedar's JSON does not hold every sheet. What it lacks is taken from each sheet first, see `tame`; a sheet with groups of kinds is passed over. JSON has no
 //! types of expressions: where a node was read with another type than it had, a difference is counted and not held against the tool.
 //!
-//! OPENRULES_SHEETS has the number of sheets, and OPENRULES_SEED the seed.
+//! It is a program of its own, so that the tests in the host's files stay there. OPENRULES_SHEETS has the number of sheets, and OPENRULES_SEED the seed.
 
-#[allow(dead_code, clippy::all)]
+#[allow(dead_code, unused_imports, clippy::all)]
 #[path = "../../host/src/draft.rs"]
 mod draft;
-#[allow(dead_code, clippy::all)]
+#[allow(dead_code, unused_imports, clippy::all)]
 #[path = "../../host/src/generate.rs"]
 mod generate;
-#[allow(dead_code, clippy::all)]
+#[allow(dead_code, unused_imports, clippy::all)]
 #[path = "../../host/src/parents.rs"]
 mod parents;
-#[allow(dead_code, clippy::all)]
+#[allow(dead_code, unused_imports, clippy::all)]
 #[path = "../../host/src/random.rs"]
 mod random;
-#[allow(dead_code, clippy::all)]
+#[allow(dead_code, unused_imports, clippy::all)]
 #[path = "../../host/src/sheet.rs"]
 mod sheet;
 
@@ -78,11 +78,12 @@ fn tame(sheet: &mut Sheet) {
     close(sheet);
 }
 
-/// Lists all actions with all that is to be known of them.
+/// Lists all actions with all that is to be known of them, at least one of each kind.
 fn known_actions(sheet: &mut Sheet) {
     let (record, set) = (value(sheet, Value::Record(vec![])), value(sheet, Value::Set(vec![])));
-    let action = sheet.action;
-    value(sheet, Value::Entity { kind: action.kind, text: action.text.unwrap() });
+    for kind in (0..sheet.kinds.len()).filter(|kind| sheet.kinds[*kind].action).collect::<Vec<_>>() {
+        value(sheet, Value::Entity { kind, text: sheet.action.text.unwrap() });
+    }
     for number in 0..sheet.values.len() {
         if !matches!(sheet.values[number], Value::Entity { .. }) || !is_action(sheet, number) {
             continue;
@@ -268,8 +269,7 @@ impl Counts {
 fn reason(error: &Error) -> &'static str {
     match error {
         Error::Room { .. } => "no room",
-        Error::Undeclared { .. } => "not read: an attribute of a value or error whose type JSON does not hold",
-        Error::Type { .. } => "not read: a type that JSON does not hold",
+        Error::Undeclared { .. } | Error::Type { .. } => "not read: a value or an error has a type that JSON does not hold",
         _ => panic!("{error}"),
     }
 }
@@ -324,8 +324,7 @@ fn residuals(sheet: &Sheet, answer: &Answer, files: &print::Files, evaluator: &m
     }
 }
 
-#[test]
-fn random_sheets() {
+fn main() {
     let number = |name: &str, else_: u64| std::env::var(name).ok().and_then(|text| text.parse().ok()).unwrap_or(else_);
     let (sheets, seed) = (number("OPENRULES_SHEETS", 300), number("OPENRULES_SEED", 1));
     let mut evaluator = Evaluator::new();
@@ -344,7 +343,7 @@ fn random_sheets() {
         tame(&mut sheet);
         there_and_back(&sheet, &mut evaluator, &mut counts);
     }
-    println!("{sheets} sheets of seed {seed}");
+    println!("the way to JSON and back: {sheets} sheets of seed {seed}");
     counts.0.iter().for_each(|(what, count)| println!("{count:8} {what}"));
-    assert!(counts.of("the same") > 0);
+    assert!(counts.of("the same") > 0 && counts.of("residual trees the same") > 0);
 }

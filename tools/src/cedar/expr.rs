@@ -81,6 +81,16 @@ impl Expr {
         }
     }
 
+    /// Whether it is a value made here, whose type is best taken from where it stands.
+    pub fn is_made(&self) -> bool {
+        match &self.kind {
+            Kind::Lit(_) | Kind::Err | Kind::Set(_) | Kind::Record(_) => true,
+            Kind::If(_, yes, no) => yes.is_made() && no.is_made(),
+            Kind::Get(child, _) => child.is_made(),
+            _ => false,
+        }
+    }
+
     /// Whether a slot stands in it.
     pub fn has_slot(&self, slot: Slot) -> bool {
         matches!(self.kind, Kind::Slot(one) if one == slot) || self.children().into_iter().any(|child| child.has_slot(slot))

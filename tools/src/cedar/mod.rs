@@ -91,13 +91,13 @@ pub fn sheet(files: &Files, options: &Options) -> Result<Sheet, Error> {
     };
     policies.write(&typing, &mut builder)?;
     declare(&schema, &Place::file(files.schema.name), &mut builder)?;
-    entities::write_actions(&schema, &request.action, &Place::file(files.schema.name), &mut builder)?;
     let (principal, resource) = (&request.principal, &request.resource);
     let action = (request.action.kind.as_str(), request.action.id.as_str());
     builder.request((&principal.kind, principal.id.as_deref()), action, (&resource.kind, resource.id.as_deref())).room(&place)?;
     builder.context(context, request.context.as_ref()).room(&place)?;
     builder.day(options.day);
     entities::write(entities, &mut builder)?;
+    entities::write_actions(&schema, &request.action, &Place::file(files.schema.name), &mut builder)?;
     builder.finish().room(&Place::file("the sheet"))
 }
 

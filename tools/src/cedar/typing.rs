@@ -83,6 +83,18 @@ fn settled(ty: &Type) -> Type {
     }
 }
 
+fn optional(ty: Type) -> Field {
+    Field { required: false, ty }
+}
+
+/// The type of a record made here that is asked for an attribute of a type: it may lack it.
+fn with_attribute(mut fields: BTreeMap<String, Field>, name: &str, wanted: &Type) -> Option<Type> {
+    let own = fields.remove(name).unwrap_or(optional(any()));
+    let Type::Record(mut fields) = settled(&Type::Record(fields)) else { return None };
+    fields.insert(name.into(), Field { ty: join(own.ty, wanted.clone())?, ..own });
+    Some(Type::Record(fields))
+}
+
 /// The kinds of an entity, or of the entities of a set.
 fn kinds_in(ty: &Type) -> Option<&[String]> {
     match ty {
@@ -119,7 +131,7 @@ fn join_records(mut one: BTreeMap<String, Field>, two: BTreeMap<String, Field>) 
     for (name, field) in two {
         let joined = match one.remove(&name) {
             Some(own) => Field { required: own.required, ty: join(own.ty, field.ty)? },
-            None => Field { required: false, ty: field.ty },
+            None => optional(field.ty),
         };
         one.insert(name, joined);
     }
@@ -170,12 +182,7 @@ impl Typing<'_> {
                 let child = self.check(child, &Type::String)?;
                 Ok(Typed::truth(None, Operation::Like(Box::new(child.tree), pattern.clone())))
             }
-            Kind::Get(child, name) => {
-                let child = self.holder(child)?;
-                let undeclared = || Error::Undeclared { at: at.clone(), what: format!("the attribute {name:?} of {}", child.ty) };
-                let field = self.attribute(&child.ty, name, at)?.ok_or_else(undeclared)?;
-                Ok(Typed::of(field.ty, Operation::Get(Box::new(child), name.clone())))
-            }
+            Kind::Get(child, name) => self.get(child, name, &any(), at),
             Kind::Has(child, name) => {
                 let (child, truth) = self.has(child, std::slice::from_ref(name), at)?;
                 Ok(Typed::truth(truth, Operation::Has(Box::new(child), name.clone())))
@@ -247,6 +254,7 @@ impl Typing<'_> {
                 Ok(Typed::of(wanted.clone(), Operation::Set(children)))
             }
             (Kind::Record(fields), Type::Record(declared)) => self.check_record(fields, declared, wanted, at),
+            (Kind::Get(child, name), _) if child.is_made() => self.get(child, name, wanted, at),
             (Kind::If(test, yes, no), _) => self.choice([test, yes, no], Some(wanted), at),
             _ => {
                 let typed = self.infer(expr)?;
@@ -586,6 +594,22 @@ impl Typing<'_> {
             }
             _ => Err(mistyped(at, format!("an entity or a record is wanted here, and this is {ty}"))),
         }
+    }
+
+    /// An attribute.
+    fn get(&self, child: &Expr, name: &str, wanted: &Type, at: &Place) -> Result<Typed, Error> {
+        let typed = self.infer(child)?;
+        let holder = match &typed.tree.ty {
+            Type::Record(fields) if child.is_made() => {
+                let ty = with_attribute(fields.clone(), name, wanted).ok_or_else(|| mistyped(at, format!("{wanted} is wanted here")))?;
+                self.retyped(child, typed, |_| ty.clone())?.tree
+            }
+            ty if *ty == any() => self.check(child, &Type::Record([(name.into(), optional(wanted.clone()))].into()))?.tree,
+            _ => self.holder(child)?,
+        };
+        let undeclared = || Error::Undeclared { at: at.clone(), what: format!("the attribute {name:?} of {}", holder.ty) };
+        let field = self.attribute(&holder.ty, name, at)?.ok_or_else(undeclared)?;
+        Ok(Typed::of(field.ty, Operation::Get(Box::new(holder), name.into())))
     }
 
     /// `has` of a path: its operand, and what the types say, which goes by the first attribute that is not declared.

@@ -21,7 +21,7 @@ mod schema;
 
 use super::json::Json;
 use openrules::cedar::is_name;
-use openrules::sheet::{Entity, Kind, Mode, Node, Party, Sheet, Value};
+use openrules::sheet::{Entity, Kind, Node, Party, Sheet, Value};
 use openrules::Answer;
 use std::cell::Cell;
 use std::fmt;
@@ -57,6 +57,11 @@ pub enum Error {
         /// The kind.
         kind: String,
     },
+    /// A kind of actions without an action: a schema has types of actions through its actions alone.
+    Empty {
+        /// The kind.
+        kind: String,
+    },
     /// An action of which something is unknown or unlisted, that has a parent which is no action, or that is in itself.
     Action {
         /// The action.
@@ -79,6 +84,7 @@ impl fmt::Display for Error {
             Error::Name { kind } => write!(f, "{kind:?} cannot be the name of an entity type or of a type of actions"),
             Error::Group => write!(f, "a type lists several kinds"),
             Error::Above { kind } => write!(f, "the kinds above {kind:?} are not those that Cedar finds"),
+            Error::Empty { kind } => write!(f, "no action is of the kind {kind:?}"),
             Error::Action { action } => write!(f, "not all is known of the action {action}, or its groups are not actions above it"),
             Error::Mark { name } => write!(f, "a record has the attribute {name:?}, which marks something else in JSON"),
             Error::Large => write!(f, "types and values have over {PARTS} parts"),
@@ -233,12 +239,10 @@ pub fn sheet(sheet: &Sheet) -> Result<Files, Error> {
             entities.push(printer.entity_line(row)?);
         }
     }
-    let files = Files {
+    Ok(Files {
         schema: printer.schema()?,
         policies: policies(sheet)?,
         entities: Json::List(entities),
         request: printer.request()?,
-    };
-    debug_assert!(sheet.mode == Mode::Partial || sheet.context.value.is_some());
-    Ok(files)
+    })
 }

@@ -141,7 +141,7 @@ impl Printer<'_> {
         Ok(parents)
     }
 
-    /// No action is in itself, and the kinds above a kind of actions are those of the groups of its actions.
+    /// No action is in itself, and a kind of actions has one at least; the kinds above it are those of the groups of its actions.
     fn hierarchy(&self, groups: &BTreeMap<Named, Vec<Named>>) -> Result<(), Error> {
         let mut above = vec![BTreeSet::new(); self.sheet.kinds.len()];
         for action in groups.keys() {
@@ -152,6 +152,9 @@ impl Printer<'_> {
             above[action.0].extend(reached.into_iter().map(|(kind, _)| kind));
         }
         for (kind, row) in self.sheet.kinds.iter().enumerate().filter(|(_, row)| row.action) {
+            if !groups.keys().any(|action| action.0 == kind) {
+                return Err(Error::Empty { kind: self.text(row.name)?.into() });
+            }
             let declared = &self.sheet.shapes.get(kind).ok_or(Error::Reference)?.above;
             if !above[kind].iter().eq(declared) {
                 return Err(Error::Above { kind: self.text(row.name)?.into() });
