@@ -137,7 +137,9 @@ fn types() {
         "policies.json, policy \"p0\", conditions[0].body.containsAny.right: Set<String> is wanted here, and this is Long"
     );
     assert_eq!(
-        of_body(json!({"==": {"left": {"if-then-else": {"if": {"Value": true}, "then": {"Value": 1}, "else": {"Value": "a"}}}, "right": {"Value": "a"}}})),
+        of_body(
+            json!({"==": {"left": {"if-then-else": {"if": {"Value": true}, "then": {"Value": 1}, "else": {"Value": "a"}}}, "right": {"Value": "a"}}})
+        ),
         "policies.json, policy \"p0\", conditions[0].body: Long is compared with String"
     );
     assert_eq!(
@@ -217,10 +219,12 @@ fn room() {
     let user = |n: usize| json!({"uid": uid("Team", &format!("t{n}")), "attrs": {}, "parents": []});
     let in_team = set(json!({"in": {"left": {"Var": "principal"}, "right": {"Value": {"__entity": uid("Team", "t1")}}}}));
     let teams = |count: usize| Json::Array((0..count).map(user).collect());
-    // The action and its group have lines of their own.
+    // The action and its group have lines of their own, which come last.
     assert!(complete(&schema(), &in_team, &teams(126), &request()).is_ok());
     let error = complete(&schema(), &in_team, &teams(127), &request()).unwrap_err().to_string();
-    assert_eq!(error, "entities.json, [126]: more than 128 entities, which is what a sheet has room for");
+    assert_eq!(error, "schema.json, actions.readOnly: more than 128 entities, which is what a sheet has room for");
+    let error = complete(&schema(), &in_team, &teams(129), &request()).unwrap_err().to_string();
+    assert_eq!(error, "entities.json, [128]: more than 128 entities, which is what a sheet has room for");
     let texts = (0..150).map(|n| json!({"Value": format!("{n:0>120}")}));
     let policies = set(json!({"contains": {"left": {"Set": texts.collect::<Vec<_>>()}, "right": {"Value": ""}}}));
     let error = complete(&schema(), &policies, &json!([]), &request()).unwrap_err().to_string();

@@ -190,6 +190,21 @@ fn residuals_again(sheet: &Sheet, texts: &[Vec<u8>; 4], evaluator: &mut Evaluato
     }
 }
 
+/// The policies as JSON again, beside the same other files, give the same answer, and so does what is left of them.
+fn again(sheet: &Sheet, texts: &[Vec<u8>; 4], evaluator: &mut Evaluator, counts: &mut [usize; 2]) {
+    let printed = print::policies(sheet).unwrap().to_string();
+    let again = from_text([&texts[0], printed.as_bytes(), &texts[2], &texts[3]], sheet.mode, None);
+    let again = again.unwrap_or_else(|error| panic!("{error}\n{sheet}\n{printed}"));
+    assert_eq!(by_id(&again), by_id(sheet), "{sheet}\n{printed}");
+    if sheet.links.is_empty() {
+        assert_eq!(again, *sheet, "{printed}");
+    }
+    if sheet.mode == Mode::Partial {
+        residuals_again(sheet, texts, evaluator, counts);
+    }
+}
+
+/// Sheets as they come out of changed files: accepted, and the same again. Of many tries every sixteenth sheet goes the way back.
 #[test]
 fn never_a_panic() {
     let number = |name: &str, else_: u64| std::env::var(name).ok().and_then(|text| text.parse().ok()).unwrap_or(else_);
@@ -230,16 +245,8 @@ fn never_a_panic() {
                     let files = texts.map(|text| String::from_utf8_lossy(&text).into_owned()).join("\n");
                     panic!("{refusal}\n{text}\n{files}");
                 }
-                // The policies as JSON again, beside the same other files, give the same answer.
-                let printed = print::policies(&sheet).unwrap().to_string();
-                let again = from_text([&texts[0], printed.as_bytes(), &texts[2], &texts[3]], mode, None);
-                let again = again.unwrap_or_else(|error| panic!("{error}\n{text}\n{printed}"));
-                assert_eq!(by_id(&again), by_id(&sheet), "{text}\n{printed}");
-                if sheet.links.is_empty() {
-                    assert_eq!(again, sheet, "{printed}");
-                }
-                if mode == Mode::Partial {
-                    residuals_again(&sheet, &texts, &mut evaluator, &mut counts);
+                if tries <= 1000 || random.below(16) == 0 {
+                    again(&sheet, &texts, &mut evaluator, &mut counts);
                 }
             }
         }

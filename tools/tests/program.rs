@@ -90,3 +90,25 @@ fn a_sheet_or_an_error() {
     assert!(text(&lacking.stderr).starts_with("openrules-sheet: entities.json: No such file"));
     assert_eq!(folder.run(&["--day", "2100-02-29"]).status.code(), Some(2));
 }
+
+#[test]
+fn the_way_back() {
+    let folder = Folder::new("back");
+    let example = |name: &str| format!("{}/../examples/{name}.sheet", env!("CARGO_MANIFEST_DIR"));
+    let mut program = Command::new(env!("CARGO_BIN_EXE_openrules-sheet"));
+    let written = program.args(["--json", &example("one-rule-three-brokers"), "."]).current_dir(&folder.0).output().unwrap();
+    assert_eq!((written.status.code(), text(&written.stderr), text(&written.stdout)), (Some(0), String::new(), String::new()));
+    let again = folder.run(&["--partial", "--day", "2026-06-30"]);
+    assert_eq!((again.status.code(), text(&again.stderr)), (Some(0), String::new()));
+    let ids = ["tariff of b1", "tariff of b2", "tariff of b3"];
+    let sheet: openrules::sheet::Sheet = text(&again.stdout).parse().unwrap();
+    assert_eq!(sheet.policies.iter().map(|policy| &sheet.texts[policy.id]).collect::<Vec<_>>(), ids);
+    assert_eq!(sheet.links.len(), 3);
+
+    let mut program = Command::new(env!("CARGO_BIN_EXE_openrules-sheet"));
+    let grouped = program.args(["--json", &example("person-or-firm"), "."]).current_dir(&folder.0).output().unwrap();
+    assert_eq!(grouped.status.code(), Some(1));
+    assert!(
+        text(&grouped.stderr).ends_with("person-or-firm.sheet: Cedar's JSON cannot hold the sheet: a type lists several kinds\n")
+    );
+}

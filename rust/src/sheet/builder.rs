@@ -861,10 +861,7 @@ impl Builder {
             }
             Operation::Get(child, name) => super::Operation::Get(self.tree_within(child, inner)?, self.text(name)?),
             Operation::Has(child, name) => super::Operation::Has(self.tree_within(child, inner)?, self.text(name)?),
-            Operation::HasPath(child, path) => {
-                let child = self.tree_within(child, inner)?;
-                super::Operation::HasPath(child, path.iter().map(|name| self.text(name)).collect::<Result<_, _>>()?)
-            }
+            Operation::HasPath(child, path) => super::Operation::HasPath(self.tree_within(child, inner)?, self.names(path)?),
             Operation::Set(children) => {
                 super::Operation::Set(children.iter().map(|child| self.tree_within(child, inner)).collect::<Result<_, _>>()?)
             }
@@ -877,6 +874,10 @@ impl Builder {
         self.nodes.push(Node { ty, operation });
         self.sizes.push(self.nodes.len() - first);
         Ok(self.nodes.len() - 1)
+    }
+
+    fn names(&mut self, names: &[String]) -> Result<Vec<usize>, Fault> {
+        names.iter().map(|name| self.text(name)).collect()
     }
 
     /// The children of a record, in the order of their texts' numbers.

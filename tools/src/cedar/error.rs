@@ -1,5 +1,6 @@
 //! What may be wrong with Cedar's JSON, or may not stand on a sheet, and where.
 
+use super::print;
 use openrules::sheet::builder::Fault;
 use std::fmt;
 use std::rc::Rc;
@@ -75,8 +76,8 @@ impl fmt::Display for Place {
 /// Why there is no sheet.
 #[derive(Debug)]
 pub enum Error {
-    /// A file cannot be read.
-    Read {
+    /// A file cannot be read or written.
+    File {
         /// The file.
         file: String,
         /// What the system says.
@@ -164,17 +165,24 @@ pub enum Error {
         /// What is wrong.
         fault: openrules::sheet::Fault,
     },
-    /// The library refuses the sheet that was made.
-    Refused {
+    /// The library gives the sheet no answer.
+    Unanswered {
         /// What it says.
-        refusal: openrules::Refusal,
+        error: openrules::Error,
+    },
+    /// Cedar's JSON cannot hold the sheet.
+    Unwritten {
+        /// The file of the sheet.
+        file: String,
+        /// What it cannot hold.
+        error: print::Error,
     },
 }
 
 impl fmt::Display for Error {
     fn fmt(&self, f: &mut fmt::Formatter<'_>) -> fmt::Result {
         match self {
-            Error::Read { file, cause } => write!(f, "{file}: {cause}"),
+            Error::File { file, cause } => write!(f, "{file}: {cause}"),
             Error::Json { file, cause } => write!(f, "{file}: {cause}"),
             Error::Wanted { at, wanted } => write!(f, "{at}: {wanted} should stand here"),
             Error::Field { at, name } => write!(f, "{at}: the field {name:?} is not known here"),
@@ -186,7 +194,8 @@ impl fmt::Display for Error {
             Error::Unknown { at } => write!(f, "{at}: this is unknown, which a partial sheet alone may hold (--partial)"),
             Error::Room { at, fault } => write!(f, "{at}: {fault}"),
             Error::Sheet { file, fault } => write!(f, "{file}: {fault}"),
-            Error::Refused { refusal } => write!(f, "the library refuses the sheet: {refusal} ({})", refusal.meaning()),
+            Error::Unanswered { error } => write!(f, "the library gives the sheet no answer: {error}"),
+            Error::Unwritten { file, error } => write!(f, "{file}: Cedar's JSON cannot hold the sheet: {error}"),
         }
     }
 }

@@ -6,6 +6,7 @@
 use super::error::{Error, Place, Room};
 use super::expr::{Expr, Kind};
 use super::schema::Schema;
+use super::types::{any, common, entity, join, kinds_in, mistyped, optional, set_of, settled, wants_set, with_attribute};
 use openrules::sheet::builder::{Fault, Field, Operation, Tree, Type, Uid, Value, NODES};
 use openrules::sheet::{Binary, Slot, Unary, Variable};
 use std::cell::Cell;
@@ -51,99 +52,6 @@ impl Typed {
     fn truth(truth: Option<bool>, operation: Operation) -> Typed {
         Typed { tree: Tree { ty: Type::Bool, operation }, truth }
     }
-}
-
-fn mistyped(at: &Place, what: String) -> Error {
-    Error::Type { at: at.clone(), what }
-}
-
-fn entity(kind: &str) -> Type {
-    Type::Entity(vec![kind.into()])
-}
-
-fn set_of(element: Type) -> Type {
-    Type::Set(Box::new(element))
-}
-
-/// The type of what has none of its own: an error, and the elements of an empty set. It goes with every type, and no node has it.
-fn any() -> Type {
-    Type::Entity(vec![])
-}
-
-/// The type with a type of a sheet wherever any would do.
-fn settled(ty: &Type) -> Type {
-    match ty {
-        Type::Entity(kinds) if kinds.is_empty() => Type::Bool,
-        Type::Set(element) => set_of(settled(element)),
-        Type::Record(fields) => {
-            let field = |(name, field): (&String, &Field)| (name.clone(), Field { ty: settled(&field.ty), ..*field });
-            Type::Record(fields.iter().map(field).collect())
-        }
-        ty => ty.clone(),
-    }
-}
-
-fn optional(ty: Type) -> Field {
-    Field { required: false, ty }
-}
-
-/// The type of a record made here that is asked for an attribute of a type: it may lack it.
-fn with_attribute(mut fields: BTreeMap<String, Field>, name: &str, wanted: &Type) -> Option<Type> {
-    let own = fields.remove(name).unwrap_or(optional(any()));
-    let Type::Record(mut fields) = settled(&Type::Record(fields)) else { return None };
-    fields.insert(name.into(), Field { ty: join(own.ty, wanted.clone())?, ..own });
-    Some(Type::Record(fields))
-}
-
-/// The kinds of an entity, or of the entities of a set.
-fn kinds_in(ty: &Type) -> Option<&[String]> {
-    match ty {
-        Type::Entity(kinds) => Some(kinds),
-        Type::Set(element) => match &**element {
-            Type::Entity(kinds) => Some(kinds),
-            _ => None,
-        },
-        _ => None,
-    }
-}
-
-/// The one type of two: the same, a group of entity types, or a record whose attributes are required where both have them so; none if nothing has both.
-fn join(one: Type, two: Type) -> Option<Type> {
-    match (one, two) {
-        (one, two) if one == two || two == any() => Some(one),
-        (one, two) if one == any() => Some(two),
-        (Type::Entity(mut kinds), Type::Entity(more)) => {
-            kinds.extend(more);
-            kinds.sort();
-            kinds.dedup();
-            Some(Type::Entity(kinds))
-        }
-        (Type::Set(one), Type::Set(two)) => Some(set_of(join(*one, *two)?)),
-        (Type::Record(one), Type::Record(two)) => join_records(one, two),
-        _ => None,
-    }
-}
-
-fn join_records(mut one: BTreeMap<String, Field>, two: BTreeMap<String, Field>) -> Option<Type> {
-    for (name, field) in &mut one {
-        field.required &= two.get(name).is_some_and(|other| other.required);
-    }
-    for (name, field) in two {
-        let joined = match one.remove(&name) {
-            Some(own) => Field { required: own.required, ty: join(own.ty, field.ty)? },
-            None => optional(field.ty),
-        };
-        one.insert(name, joined);
-    }
-    Some(Type::Record(one))
-}
-
-/// The one type of the elements of a set.
-fn common(types: Vec<Type>, at: &Place) -> Result<Type, Error> {
-    types.into_iter().try_fold(any(), |one, ty| {
-        let what = || format!("elements of the types {one} and {ty} in one set");
-        join(one.clone(), ty.clone()).ok_or_else(|| mistyped(at, what()))
-    })
 }
 
 impl Typing<'_> {
@@ -199,21 +107,28 @@ impl Typing<'_> {
                     false => self.check(expr, &set_of(element)),
                 }
             }
-            Kind::Record(fields) => {
-                let (mut types, mut trees) = (BTreeMap::new(), BTreeMap::new());
-                for (name, field) in fields {
-                    let tree = self.infer(field)?.tree;
-                    types.insert(name.clone(), Field { required: true, ty: tree.ty.clone() });
-                    trees.insert(name.clone(), tree);
-                }
-                Ok(Typed::of(Type::Record(types), Operation::Record(trees)))
-            }
+            Kind::Record(fields) => self.record(fields),
         }
+    }
+
+    /// A record whose attributes have the types that they have by themselves.
+    fn record(&self, fields: &[(String, Expr)]) -> Result<Typed, Error> {
+        let (mut types, mut trees) = (BTreeMap::new(), BTreeMap::new());
+        for (name, field) in fields {
+            let tree = self.infer(field)?.tree;
+            types.insert(name.clone(), Field { required: true, ty: tree.ty.clone() });
+            trees.insert(name.clone(), tree);
+        }
+        Ok(Typed::of(Type::Record(types), Operation::Record(trees)))
     }
 
     /// The tree of an entity or a record. An error stands for an entity of the principal's kind.
     fn holder(&self, expr: &Expr) -> Result<Tree, Error> {
         let typed = self.infer(expr)?;
+        self.held(expr, typed)
+    }
+
+    fn held(&self, expr: &Expr, typed: Typed) -> Result<Tree, Error> {
         let other = |ty: &Type| if *ty == any() { entity(self.principal) } else { settled(ty) };
         Ok(self.retyped(expr, typed, other)?.tree)
     }
@@ -307,9 +222,8 @@ impl Typing<'_> {
                 set_of(common(elements.iter().map(|one| self.type_of(one, at)).collect::<Result<_, _>>()?, at)?)
             }
             Value::Record(fields) => {
-                let field = |(name, field): (&String, &Value)| {
-                    Ok((name.clone(), Field { required: true, ty: self.type_of(field, at)? }))
-                };
+                let field =
+                    |(name, field): (&String, &Value)| Ok((name.clone(), Field { required: true, ty: self.type_of(field, at)? }));
                 Type::Record(fields.iter().map(field).collect::<Result<_, Error>>()?)
             }
         })
@@ -601,11 +515,12 @@ impl Typing<'_> {
         let typed = self.infer(child)?;
         let holder = match &typed.tree.ty {
             Type::Record(fields) if child.is_made() => {
-                let ty = with_attribute(fields.clone(), name, wanted).ok_or_else(|| mistyped(at, format!("{wanted} is wanted here")))?;
+                let ty = with_attribute(fields.clone(), name, wanted)
+                    .ok_or_else(|| mistyped(at, format!("{wanted} is wanted here")))?;
                 self.retyped(child, typed, |_| ty.clone())?.tree
             }
             ty if *ty == any() => self.check(child, &Type::Record([(name.into(), optional(wanted.clone()))].into()))?.tree,
-            _ => self.holder(child)?,
+            _ => self.held(child, typed)?,
         };
         let undeclared = || Error::Undeclared { at: at.clone(), what: format!("the attribute {name:?} of {}", holder.ty) };
         let field = self.attribute(&holder.ty, name, at)?.ok_or_else(undeclared)?;
@@ -632,10 +547,6 @@ impl Typing<'_> {
         }
         Ok((child, truth))
     }
-}
-
-fn wants_set(at: &Place, ty: &Type) -> Error {
-    mistyped(at, format!("a set is wanted here, and this is {ty}"))
 }
 
 /// A copy of a tree, unless it has more nodes than a sheet has room for.

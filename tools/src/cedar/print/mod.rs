@@ -8,7 +8,7 @@
 //!
 //! let sheet = Sheet::read(include_bytes!("../../../../examples/bands-overlap.sheet")).unwrap();
 //! let files = print::sheet(&sheet).unwrap();
-//! let request = r#"{"principal":{"type":"Broker"},"action":{"type":"Action","id":"quote"},"resource":{"type":"Tariff","id":"T1"}}"#;
+//! let request = r#"{"principal":{"type":"Broker"},"action":{"type":"Action","id":"quote"},"resource":{"type":"Load","id":"load 17"}}"#;
 //! assert_eq!(files.request.to_string(), request);
 //!
 //! let answer = openrules::Evaluator::new().answer(sheet.to_string().as_bytes()).unwrap();
@@ -62,7 +62,7 @@ pub enum Error {
         /// The kind.
         kind: String,
     },
-    /// An action of which something is unknown or unlisted, that has a parent which is no action, or that is in itself.
+    /// An action of which something is unknown or unlisted, that has a parent which is no action, or that is in itself, where a policy asks of actions.
     Action {
         /// The action.
         action: String,
@@ -85,7 +85,9 @@ impl fmt::Display for Error {
             Error::Group => write!(f, "a type lists several kinds"),
             Error::Above { kind } => write!(f, "the kinds above {kind:?} are not those that Cedar finds"),
             Error::Empty { kind } => write!(f, "no action is of the kind {kind:?}"),
-            Error::Action { action } => write!(f, "not all is known of the action {action}, or its groups are not actions above it"),
+            Error::Action { action } => {
+                write!(f, "not all is known of the action {action}, or its groups are not actions above it")
+            }
             Error::Mark { name } => write!(f, "a record has the attribute {name:?}, which marks something else in JSON"),
             Error::Large => write!(f, "types and values have over {PARTS} parts"),
             Error::Reference => write!(f, "a number refers to nothing"),

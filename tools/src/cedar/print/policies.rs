@@ -136,7 +136,7 @@ impl Printer<'_> {
 ///
 /// let sheet = Sheet::read(include_bytes!("../../../../examples/one-rule-three-brokers.sheet")).unwrap();
 /// let policies = print::policies(&sheet).unwrap().to_string();
-/// assert!(policies.contains(r#"{"templateId":"permit 6","newId":"tariff of b1","values":{"?principal":{"type":"Broker","id":"b1"}}}"#));
+/// assert!(policies.contains(r#"{"templateId":"permit 7","newId":"tariff of b1","values":{"?principal":{"type":"Broker","id":"b1"}}}"#));
 /// ```
 pub fn policies(sheet: &Sheet) -> Result<Json, Error> {
     let printer = Printer::of_sheet(sheet);

@@ -2,7 +2,7 @@
 
 use super::{Error, Printer};
 use crate::cedar::json::Json;
-use openrules::sheet::{Attribute, Entity, Mode, Type, Value};
+use openrules::sheet::{Attribute, Binary, Entity, Mode, Operation, Type, Value};
 use std::collections::{BTreeMap, BTreeSet};
 
 /// An entity: the numbers of its kind and of its text.
@@ -104,7 +104,29 @@ impl Printer<'_> {
         Ok((self.text(attribute.text)?.into(), Json::Object(fields)))
     }
 
-    /// Every action, with its groups: all that the sheet mentions.
+    /// Whether a type is that of an action.
+    fn is_action_type(&self, ty: usize) -> bool {
+        let action = |kind: &usize| self.sheet.kinds.get(*kind).is_some_and(|kind| kind.action);
+        matches!(self.sheet.types.get(ty), Some(Type::Entity(kinds)) if kinds.iter().any(action))
+    }
+
+    /// Whether a policy asks an action for more than what it is called.
+    fn asks_of_actions(&self) -> bool {
+        let parts = |ty: &Type| match ty {
+            Type::Record(attributes) => attributes.iter().any(|one| self.is_action_type(one.ty)),
+            _ => false,
+        };
+        let hidden = self.sheet.types.iter().any(parts);
+        let of_action = |node: &usize| self.nodes.get(*node).is_some_and(|node| self.is_action_type(node.ty));
+        self.nodes.iter().any(|node| match &node.operation {
+            Operation::Binary(Binary::In | Binary::GetTag | Binary::HasTag, child, _) => of_action(child),
+            Operation::Get(child, _) | Operation::Has(child, _) => of_action(child),
+            Operation::HasPath(child, path) => of_action(child) || hidden && path.len() > 1,
+            _ => false,
+        })
+    }
+
+    /// Every action that the sheet mentions, with its groups; where no policy asks for them, without.
     fn actions(&self) -> Result<BTreeMap<Named, Vec<Named>>, Error> {
         let mut all = BTreeSet::new();
         all.insert((self.sheet.action.kind, self.sheet.action.text.ok_or(Error::Reference)?));
@@ -115,9 +137,11 @@ impl Printer<'_> {
                 }
             }
         }
+        let asked = self.asks_of_actions();
+        let groups = |action| if asked { self.groups(action) } else { Ok(vec![]) };
         let groups: BTreeMap<Named, Vec<Named>> =
-            all.into_iter().map(|action| Ok((action, self.groups(action)?))).collect::<Result<_, Error>>()?;
-        self.hierarchy(&groups)?;
+            all.into_iter().map(|action| Ok((action, groups(action)?))).collect::<Result<_, Error>>()?;
+        self.hierarchy(&groups, asked)?;
         Ok(groups)
     }
 
@@ -142,7 +166,7 @@ impl Printer<'_> {
     }
 
     /// No action is in itself, and a kind of actions has one at least; the kinds above it are those of the groups of its actions.
-    fn hierarchy(&self, groups: &BTreeMap<Named, Vec<Named>>) -> Result<(), Error> {
+    fn hierarchy(&self, groups: &BTreeMap<Named, Vec<Named>>, asked: bool) -> Result<(), Error> {
         let mut above = vec![BTreeSet::new(); self.sheet.kinds.len()];
         for action in groups.keys() {
             let reached = reached(*action, groups);
@@ -156,7 +180,7 @@ impl Printer<'_> {
                 return Err(Error::Empty { kind: self.text(row.name)?.into() });
             }
             let declared = &self.sheet.shapes.get(kind).ok_or(Error::Reference)?.above;
-            if !above[kind].iter().eq(declared) {
+            if asked && !above[kind].iter().eq(declared) {
                 return Err(Error::Above { kind: self.text(row.name)?.into() });
             }
         }
