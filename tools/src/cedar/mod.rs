@@ -1,6 +1,6 @@
 //! Sheets from Cedar's JSON formats: schema, policy set, entities and request.
 //!
-//! [`sheet`] makes a sheet, and [`print`] is the way back.
+//! [`sheet`] makes a sheet, and [`mod@print`] is the way back.
 //!
 //! The sheet has what the policies and the request come to: the entity types that some expression can reach, with their attributes, and the entities of
 //! these types. Scope constraints are the first parts of a policy's condition. Nothing here decides: the library runs the sheet.
