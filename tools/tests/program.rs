@@ -112,3 +112,22 @@ fn the_way_back() {
         text(&grouped.stderr).ends_with("person-or-firm.sheet: Cedar's JSON cannot hold the sheet: a type lists several kinds\n")
     );
 }
+
+/// A record that may have an attribute and lacks it: JSON has no place for its type, by which `has` stays open.
+#[test]
+fn types_that_are_lost() {
+    let folder = Folder::new("types");
+    let sheet = "sheet=partial\ntext=Broker\ntext=Action\ntext=quote\ntext=a\ntext=b\ntext=p\nkind=0,e\nkind=1,a\n\
+        type=bool\ntype=record\ntype=record,3,r,0,4,o,0\ntype=entity,0\nshape=1,-\nshape=1,-\n\
+        principal=0,?\naction=1,2\nresource=0,?\ncontext=1,?\nday=2026-06-30\n\
+        node=3,var,p\nnode=3,var,r\nnode=0,eq,0,1\nnode=2,record,3,2\nnode=0,has,3,4\npolicy=5,permit,4\n";
+    folder.write("open.sheet", sheet);
+    let mut program = Command::new(env!("CARGO_BIN_EXE_openrules-sheet"));
+    let lost = program.args(["--json", "open.sheet", "."]).current_dir(&folder.0).output().unwrap();
+    assert_eq!(lost.status.code(), Some(1));
+    assert_eq!(
+        text(&lost.stderr),
+        "openrules-sheet: open.sheet: Cedar's JSON cannot hold the sheet: read without the types of its expressions it has another answer\n"
+    );
+    assert!(!folder.0.join("schema.json").exists());
+}

@@ -2,7 +2,7 @@
 
 use clap::{Arg, ArgAction, ArgMatches, Command};
 use openrules::sheet::{Day, Mode, Sheet};
-use openrules::Evaluator;
+use openrules::{Evaluator, Verdict};
 use openrules_tools::cedar::error::Error;
 use openrules_tools::cedar::{self, print, File, Files, Options};
 use std::io::Write;
@@ -77,17 +77,40 @@ fn sheet(options: &ArgMatches) -> Result<String, Error> {
     Ok(sheet)
 }
 
-/// Writes the files of a sheet that the library accepts.
+/// The decision, and the id, effect and class of each policy, by id.
+fn lines(sheet: &[u8]) -> Result<Vec<String>, Error> {
+    let answer = Evaluator::new().answer(sheet).map_err(|error| Error::Unanswered { error })?;
+    let line = |policy: &Verdict| format!("{}: {}, {}", policy.id, policy.effect, policy.class);
+    let mut lines: Vec<String> = answer.policies.iter().map(line).collect();
+    lines.sort();
+    lines.push(answer.decision.to_string());
+    Ok(lines)
+}
+
+/// The text of the files of a sheet, in their order. Read again they are answered as the sheet is.
+fn texts(name: &str) -> Result<[String; 4], Error> {
+    let (bytes, sheet) = (bytes(name)?, read_sheet(name)?);
+    let unwritten = |error| Error::Unwritten { file: name.into(), error };
+    let before = lines(&bytes)?;
+    let files = print::sheet(&sheet).map_err(unwritten)?;
+    let texts = [files.schema, files.policies, files.entities, files.request].map(|json| format!("{json}\n"));
+    let [schema, policies, entities, request] =
+        [0, 1, 2, 3].map(|place| File { name: FILES[place], bytes: texts[place].as_bytes() });
+    let options = Options { mode: sheet.mode, day: sheet.day, short: false, after: None };
+    let again = cedar::sheet(&Files { schema, policies, entities, request }, &options)?;
+    match lines(again.to_string().as_bytes())? == before {
+        true => Ok(texts),
+        false => Err(unwritten(print::Error::Types)),
+    }
+}
+
+/// Writes the files of a sheet to a folder.
 fn json(name: &str, folder: &str) -> Result<(), Error> {
-    let text = bytes(name)?;
-    Evaluator::new().answer(&text).map_err(|error| Error::Unanswered { error })?;
-    let files = print::sheet(&read_sheet(name)?).map_err(|error| Error::Unwritten { file: name.into(), error })?;
-    let write = |name: &Path, text: String| {
-        std::fs::write(name, text).map_err(|cause| Error::File { file: name.display().to_string(), cause })
-    };
+    let texts = texts(name)?;
     std::fs::create_dir_all(folder).map_err(|cause| Error::File { file: folder.into(), cause })?;
-    for (name, json) in FILES.into_iter().zip([files.schema, files.policies, files.entities, files.request]) {
-        write(&Path::new(folder).join(format!("{name}.json")), format!("{json}\n"))?;
+    for (name, text) in FILES.into_iter().zip(texts) {
+        let file = Path::new(folder).join(format!("{name}.json"));
+        std::fs::write(&file, text).map_err(|cause| Error::File { file: file.display().to_string(), cause })?;
     }
     Ok(())
 }

@@ -74,6 +74,8 @@ pub enum Error {
     },
     /// Types or values of many parts, as come of sharing.
     Large,
+    /// Types of expressions, which JSON does not hold, that change the answer. Only `openrules-sheet --json` finds it, as it reads what it writes.
+    Types,
     /// A number that refers to nothing: no reader gives such rows.
     Reference,
 }
@@ -90,6 +92,7 @@ impl fmt::Display for Error {
             }
             Error::Mark { name } => write!(f, "a record has the attribute {name:?}, which marks something else in JSON"),
             Error::Large => write!(f, "types and values have over {PARTS} parts"),
+            Error::Types => write!(f, "read without the types of its expressions it has another answer"),
             Error::Reference => write!(f, "a number refers to nothing"),
         }
     }
