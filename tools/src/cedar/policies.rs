@@ -5,7 +5,7 @@ use super::expr::{self, Expr, Kind};
 use super::json::{At, Fields};
 use super::typing::Typing;
 use super::values;
-use openrules::sheet::builder::{Builder, Fault, Uid, Value, DEPTH};
+use openrules::sheet::builder::{Builder, Fault, Tree, Uid, Value, DEPTH};
 use openrules::sheet::{Binary, Effect, Slot, Variable};
 use std::collections::hash_map::Entry;
 use std::collections::{BTreeMap, HashMap};
@@ -170,9 +170,13 @@ fn read_link(at: &At, file: &Place) -> Result<Link, Error> {
 }
 
 impl Policy {
-    /// Where a fault of the written tree lies: at a text without room, else at the policy.
-    fn fault_place<'a>(&'a self, policy: &'a Place) -> &'a Place {
-        self.condition.without_room().map_or(policy, |expr| &expr.place)
+    /// Writes a tree of the policy, or of a link to it, and gives its root. A text without room is named by its own place.
+    fn root(&self, tree: &Tree, at: &Place, builder: &mut Builder) -> Result<usize, Error> {
+        builder.tree(tree).map_err(|fault| {
+            let of_text = matches!(fault, Fault::LongText { .. } | Fault::Byte { .. });
+            let text = self.condition.without_room().filter(|_| of_text);
+            Error::Room { at: text.map_or(at, |expr| &expr.place).clone(), fault }
+        })
     }
 }
 
@@ -181,7 +185,7 @@ impl Policies {
     pub fn write<'a>(&'a self, typing: &dyn Fn([Option<&'a str>; 2]) -> Typing<'a>, builder: &mut Builder) -> Result<(), Error> {
         for (id, policy) in &self.policies {
             let tree = typing([None; 2]).condition(&policy.condition)?.tree;
-            let root = builder.tree(&tree).room(policy.fault_place(&policy.place))?;
+            let root = policy.root(&tree, &policy.place, builder)?;
             builder.policy(id, policy.effect, root).room(&policy.place)?;
         }
         // A template is written once for each pair of types in its slots.
@@ -195,7 +199,7 @@ impl Policies {
                 Entry::Occupied(there) => *there.get(),
                 Entry::Vacant(new) => {
                     let tree = typing.condition(&template.condition)?.tree;
-                    let root = builder.tree(&tree).room(template.fault_place(&link.place))?;
+                    let root = template.root(&tree, &link.place, builder)?;
                     *new.insert((root, tree.has_slot(Slot::Principal), tree.has_slot(Slot::Resource)))
                 }
             };

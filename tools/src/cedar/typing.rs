@@ -75,7 +75,7 @@ impl Typing<'_> {
         self.step(at)?;
         match &expr.kind {
             Kind::Lit(value) => {
-                Ok(Typed { tree: Tree::lit(self.type_of(value, at)?, value.clone()), truth: self.literal_truth(value) })
+                Ok(Typed { tree: Tree::lit(self.type_of(value, at)?, value.clone()), truth: literal_truth(value) })
             }
             Kind::Err => Ok(Typed::of(any(), Operation::Err)),
             Kind::Var(variable) => Ok(Typed::of(self.variable(*variable), Operation::Var(*variable))),
@@ -157,7 +157,7 @@ impl Typing<'_> {
         self.step(at)?;
         match (&expr.kind, wanted) {
             (Kind::Lit(value), _) => {
-                let truth = self.literal_truth(value);
+                let truth = literal_truth(value);
                 match self.fits(value, wanted, at)? {
                     true => Ok(Typed { tree: Tree::lit(wanted.clone(), value.clone()), truth }),
                     false => Err(mistyped(at, format!("a value of type {wanted} is wanted here"))),
@@ -198,13 +198,6 @@ impl Typing<'_> {
         match declared.iter().find(|(name, attribute)| attribute.required && !trees.contains_key(*name)) {
             Some((name, _)) => Err(mistyped(at, format!("the attribute {name:?} of {wanted} is lacking"))),
             None => Ok(Typed::of(wanted.clone(), Operation::Record(trees))),
-        }
-    }
-
-    fn literal_truth(&self, value: &Value) -> Option<bool> {
-        match value {
-            Value::Bool(truth) => Some(*truth),
-            _ => None,
         }
     }
 
@@ -546,6 +539,13 @@ impl Typing<'_> {
             }
         }
         Ok((child, truth))
+    }
+}
+
+fn literal_truth(value: &Value) -> Option<bool> {
+    match value {
+        Value::Bool(truth) => Some(*truth),
+        _ => None,
     }
 }
 
