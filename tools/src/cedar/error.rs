@@ -6,6 +6,13 @@ use std::fmt;
 use std::rc::Rc;
 
 /// A place in a file: the policy that it belongs to, and the way to it through the JSON.
+///
+/// ```
+/// use openrules_tools::cedar::error::Place;
+///
+/// let place = Place::file("policies.json").policy("low band").field("conditions").item(0).field("body");
+/// assert_eq!(place.to_string(), "policies.json, policy \"low band\", conditions[0].body");
+/// ```
 #[derive(Clone, Debug)]
 pub struct Place {
     file: Rc<str>,
@@ -73,7 +80,19 @@ impl fmt::Display for Place {
     }
 }
 
-/// Why there is no sheet.
+/// Why there is no sheet, or no JSON of one.
+///
+/// ```
+/// use openrules::sheet::{Day, Mode};
+/// use openrules_tools::cedar::{error::Error, sheet, File, Files, Options};
+///
+/// let file = |name| File { name, bytes: b"{" };
+/// let files = Files { schema: file("s"), policies: file("p"), entities: file("e"), request: file("r") };
+/// let day = Day { year: 2026, month: 6, day: 30 };
+/// let error = sheet(&files, &Options { mode: Mode::Partial, day, short: false, after: None }).unwrap_err();
+/// assert!(matches!(error, Error::Json { .. }));
+/// assert_eq!(error.to_string(), "s: EOF while parsing an object at line 1 column 1");
+/// ```
 #[derive(Debug)]
 pub enum Error {
     /// A file cannot be read or written.
@@ -203,7 +222,7 @@ impl fmt::Display for Error {
 impl std::error::Error for Error {}
 
 /// Says where a sheet has no room.
-pub trait Room<T> {
+pub(crate) trait Room<T> {
     /// The same, with the place.
     fn room(self, at: &Place) -> Result<T, Error>;
 }

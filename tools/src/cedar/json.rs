@@ -7,7 +7,14 @@ use std::collections::HashSet;
 use std::fmt;
 use std::marker::PhantomData;
 
-/// A JSON value.
+/// A JSON value. Its `Display` is JSON without spaces.
+///
+/// ```
+/// use openrules_tools::cedar::Json;
+///
+/// let uid = Json::object([("type", "Broker".into()), ("id", "b\"7\"".into())]);
+/// assert_eq!(uid.to_string(), r#"{"type":"Broker","id":"b\"7\""}"#);
+/// ```
 #[derive(Clone, Debug, PartialEq)]
 pub enum Json {
     /// `null`.
@@ -28,6 +35,12 @@ pub enum Json {
 
 impl Json {
     /// An object of these fields.
+    ///
+    /// ```
+    /// use openrules_tools::cedar::Json;
+    ///
+    /// assert_eq!(Json::object([("mfa", Json::Bool(true))]).to_string(), r#"{"mfa":true}"#);
+    /// ```
     pub fn object<const N: usize>(fields: [(&str, Json); N]) -> Json {
         Json::Object(fields.into_iter().map(|(name, json)| (name.to_string(), json)).collect())
     }

@@ -8,7 +8,7 @@
 mod entities;
 pub mod error;
 mod expr;
-pub mod json;
+mod json;
 mod policies;
 pub mod print;
 mod request;
@@ -16,6 +16,8 @@ mod schema;
 mod types;
 mod typing;
 mod values;
+
+pub use json::Json;
 
 use entities::Entity;
 use error::{Error, Place, Room};
@@ -29,6 +31,11 @@ use std::cell::Cell;
 use typing::Typing;
 
 /// A file: its name, for errors, and its bytes.
+///
+/// ```
+/// let file = openrules_tools::cedar::File { name: "entities.json", bytes: b"[]" };
+/// assert_eq!(file.name, "entities.json");
+/// ```
 #[derive(Clone, Copy, Debug)]
 pub struct File<'a> {
     /// Its name.
@@ -37,7 +44,7 @@ pub struct File<'a> {
     pub bytes: &'a [u8],
 }
 
-/// The four files.
+/// The four files. [`sheet`] has an example.
 #[derive(Clone, Copy, Debug)]
 pub struct Files<'a> {
     /// The schema.
@@ -50,7 +57,7 @@ pub struct Files<'a> {
     pub request: File<'a>,
 }
 
-/// What is asked for beside the files.
+/// What is asked for beside the files. [`sheet`] has an example.
 #[derive(Clone, Copy, Debug)]
 pub struct Options<'a> {
     /// Whether parts may be unknown.

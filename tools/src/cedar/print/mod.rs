@@ -28,7 +28,7 @@ use std::fmt;
 
 pub use policies::{policies, residuals};
 
-/// The files of a sheet.
+/// The files of a sheet. [`sheet`] makes them.
 #[derive(Clone, Debug, PartialEq)]
 pub struct Files {
     /// The schema: its kinds, its actions, and what the request's action applies to.
@@ -42,6 +42,11 @@ pub struct Files {
 }
 
 /// What a sheet has, and Cedar's JSON has not.
+///
+/// ```
+/// let error = openrules_tools::cedar::print::Error::Name { kind: "my kind".into() };
+/// assert_eq!(error.to_string(), "\"my kind\" cannot be the name of an entity type or of a type of actions");
+/// ```
 #[derive(Clone, Debug, PartialEq, Eq)]
 #[non_exhaustive]
 pub enum Error {
@@ -234,6 +239,10 @@ impl<'a> Printer<'a> {
 ///
 /// let sheet = Sheet::read(include_bytes!("../../../../examples/person-or-firm.sheet")).unwrap();
 /// assert_eq!(print::sheet(&sheet), Err(print::Error::Group));
+///
+/// let sheet = Sheet::read(include_bytes!("../../../../examples/bands-overlap.sheet")).unwrap();
+/// let entities = print::sheet(&sheet).unwrap().entities.to_string();
+/// assert!(entities.starts_with(r#"[{"uid":{"type":"Load","id":"load 17"},"attrs":{"weight":"#), "{entities}");
 /// ```
 pub fn sheet(sheet: &Sheet) -> Result<Files, Error> {
     let printer = Printer::of_sheet(sheet);
