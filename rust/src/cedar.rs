@@ -48,7 +48,7 @@ pub type Text = Arc<str>;
 /// assert_eq!(broker.to_string(), r#"Broker::"b7""#);
 /// assert_eq!(Literal::Set([Literal::Long(-1), Literal::Bool(true)].into()).to_string(), "[-1, true]");
 /// ```
-#[derive(Clone, Debug, PartialEq, Eq)]
+#[derive(Clone, Debug, PartialEq, Eq, PartialOrd, Ord, Hash)]
 pub enum Literal {
     /// `true` or `false`.
     Bool(bool),
@@ -539,22 +539,8 @@ impl Expr {
                 }
             },
             Expr::If(test, yes, no) => write!(f, "if {test} then {yes} else {no}"),
-            Expr::Is(operand, kind) => {
-                operand.at(f, Level::Sum)?;
-                match is_name(kind) {
-                    true => write!(f, " is {kind}"),
-                    false => write!(f, " is kind({})", Quoted(kind)),
-                }
-            }
-            Expr::Like(operand, pattern) => {
-                operand.at(f, Level::Sum)?;
-                f.write_str(" like \"")?;
-                pattern.iter().try_for_each(|item| match item {
-                    Some(text) => write!(f, "{}", text.escape_debug().to_string().replace('*', "\\*")),
-                    None => f.write_str("*"),
-                })?;
-                f.write_str("\"")
-            }
+            Expr::Is(operand, kind) => write_is(f, operand, kind),
+            Expr::Like(operand, pattern) => write_like(f, operand, pattern),
             Expr::Get(operand, text) => {
                 operand.at(f, Level::Member)?;
                 write_step(f, text)
@@ -595,6 +581,25 @@ fn write_unary(f: &mut fmt::Formatter<'_>, word: Unary, operand: &Expr) -> fmt::
             operand.at(f, Level::Member)
         }
     }
+}
+
+fn write_is(f: &mut fmt::Formatter<'_>, operand: &Expr, kind: &str) -> fmt::Result {
+    operand.at(f, Level::Sum)?;
+    match is_name(kind) {
+        true => write!(f, " is {kind}"),
+        false => write!(f, " is kind({})", Quoted(kind)),
+    }
+}
+
+/// `like` and a pattern, where `*` of a text is escaped.
+fn write_like(f: &mut fmt::Formatter<'_>, operand: &Expr, pattern: &[Option<Text>]) -> fmt::Result {
+    operand.at(f, Level::Sum)?;
+    f.write_str(" like \"")?;
+    pattern.iter().try_for_each(|item| match item {
+        Some(text) => write!(f, "{}", text.escape_debug().to_string().replace('*', "\\*")),
+        None => f.write_str("*"),
+    })?;
+    f.write_str("\"")
 }
 
 /// An attribute of what stands before it.

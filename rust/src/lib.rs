@@ -143,72 +143,35 @@ pub const PAGE: usize = 4380;
 /// ```
 pub const POLICIES: u32 = 64;
 
+/// Declares C functions, each by the arguments of its own; then come the work slices and the answer buffer, each as a pointer and a length, and where line
+/// and length are written.
+macro_rules! declare {
+    ($($name:ident($($own:ident: $ty:ty),*);)*) => {
+        extern "C" {
+            $(fn $name(
+                $($own: $ty,)*
+                first: *mut u32,
+                first_len: usize,
+                second: *mut u32,
+                second_len: usize,
+                out: *mut u8,
+                out_len: usize,
+                line: *mut usize,
+                length: *mut usize,
+            ) -> u32;)*
+        }
+    };
+}
+
+declare! {
+    openrules_partial(sheet: *const u8, sheet_len: usize);
+    openrules_complete(sheet: *const u8, sheet_len: usize);
+    openrules_page(sheet: *const u8, sheet_len: usize);
+    openrules_finish(partial: *const u8, partial_len: usize, complete: *const u8, complete_len: usize);
+    openrules_preview(sheet: *const u8, sheet_len: usize, of_line: usize, replacement: *const u8, replacement_len: usize);
+}
+
 extern "C" {
-    fn openrules_partial(
-        sheet: *const u8,
-        sheet_len: usize,
-        first: *mut u32,
-        first_len: usize,
-        second: *mut u32,
-        second_len: usize,
-        out: *mut u8,
-        out_len: usize,
-        line: *mut usize,
-        length: *mut usize,
-    ) -> u32;
-    fn openrules_complete(
-        sheet: *const u8,
-        sheet_len: usize,
-        first: *mut u32,
-        first_len: usize,
-        second: *mut u32,
-        second_len: usize,
-        out: *mut u8,
-        out_len: usize,
-        line: *mut usize,
-        length: *mut usize,
-    ) -> u32;
-    fn openrules_page(
-        sheet: *const u8,
-        sheet_len: usize,
-        first: *mut u32,
-        first_len: usize,
-        second: *mut u32,
-        second_len: usize,
-        out: *mut u8,
-        out_len: usize,
-        line: *mut usize,
-        length: *mut usize,
-    ) -> u32;
-    fn openrules_finish(
-        partial: *const u8,
-        partial_len: usize,
-        complete: *const u8,
-        complete_len: usize,
-        first: *mut u32,
-        first_len: usize,
-        second: *mut u32,
-        second_len: usize,
-        out: *mut u8,
-        out_len: usize,
-        line: *mut usize,
-        length: *mut usize,
-    ) -> u32;
-    fn openrules_preview(
-        sheet: *const u8,
-        sheet_len: usize,
-        of_line: usize,
-        replacement: *const u8,
-        replacement_len: usize,
-        first: *mut u32,
-        first_len: usize,
-        second: *mut u32,
-        second_len: usize,
-        out: *mut u8,
-        out_len: usize,
-        line: *mut usize,
-        length: *mut usize,
-    ) -> u32;
     fn openrules_firm(
         rows: *mut Row,
         rows_len: usize,
@@ -330,30 +293,27 @@ impl<'a> Outcome<'a> {
     }
 }
 
-/// A C function of the library.
-type Entry =
-    unsafe extern "C" fn(*const u8, usize, *mut u32, usize, *mut u32, usize, *mut u8, usize, *mut usize, *mut usize) -> u32;
-
-/// One call of an entry in lent slices.
-fn call<'a>(entry: Entry, sheet: &[u8], first: &mut [u32], second: &mut [u32], out: &'a mut [u8]) -> Outcome<'a> {
-    let (mut line, mut length) = (0, 0);
-    // SAFETY: every pointer is that of a Rust slice with the length beside it, or of a local number; the borrows keep them
-    // apart and valid during the call. The library asks nothing else of its caller.
-    let number = unsafe {
-        entry(
-            sheet.as_ptr(),
-            sheet.len(),
-            first.as_mut_ptr(),
-            first.len(),
-            second.as_mut_ptr(),
-            second.len(),
-            out.as_mut_ptr(),
-            out.len(),
-            &mut line,
-            &mut length,
-        )
-    };
-    outcome(number, line, length, out)
+/// Calls a C function of [`declare`] with arguments of its own, in lent slices, and gives the [`Outcome`].
+macro_rules! call {
+    ($name:ident($($own:expr),*), $first:ident, $second:ident, $out:ident) => {{
+        let (mut line, mut length) = (0, 0);
+        // SAFETY: every pointer is that of a Rust slice with the length beside it, or of a local number; the borrows keep them
+        // apart and valid during the call. The library asks nothing else of its caller.
+        let number = unsafe {
+            $name(
+                $($own,)*
+                $first.as_mut_ptr(),
+                $first.len(),
+                $second.as_mut_ptr(),
+                $second.len(),
+                $out.as_mut_ptr(),
+                $out.len(),
+                &mut line,
+                &mut length,
+            )
+        };
+        outcome(number, line, length, $out)
+    }};
 }
 
 /// What a call gave, by its number, line and length and the buffer that it was lent.
@@ -378,7 +338,7 @@ fn outcome(number: u32, line: usize, length: usize, out: &[u8]) -> Outcome<'_> {
 /// assert_eq!(first, [7; WORDS]);
 /// ```
 pub fn partial<'a>(sheet: &[u8], first: &mut [u32], second: &mut [u32], out: &'a mut [u8]) -> Outcome<'a> {
-    call(openrules_partial, sheet, first, second, out)
+    call!(openrules_partial(sheet.as_ptr(), sheet.len()), first, second, out)
 }
 
 /// The answer to a complete sheet, in slices of the caller's own, as [`partial`] is for a partial one.
@@ -391,7 +351,7 @@ pub fn partial<'a>(sheet: &[u8], first: &mut [u32], second: &mut [u32], out: &'a
 /// assert_eq!(outcome, Outcome::Answer(include_str!("../../examples/bands-overlap-complete.answer")));
 /// ```
 pub fn complete<'a>(sheet: &[u8], first: &mut [u32], second: &mut [u32], out: &'a mut [u8]) -> Outcome<'a> {
-    call(openrules_complete, sheet, first, second, out)
+    call!(openrules_complete(sheet.as_ptr(), sheet.len()), first, second, out)
 }
 
 /// The counter page of a partial sheet, in slices of the caller's own, as [`partial`] has them: [`PAGE`] bytes in the answer's place.
@@ -410,7 +370,7 @@ pub fn complete<'a>(sheet: &[u8], first: &mut [u32], second: &mut [u32], out: &'
 /// assert_eq!(text, format!("{:72}\n", "decision=deny") + &format!("{:72}\n", "").repeat(59));
 /// ```
 pub fn page<'a>(sheet: &[u8], first: &mut [u32], second: &mut [u32], out: &'a mut [u8]) -> Outcome<'a> {
-    call(openrules_page, sheet, first, second, out)
+    call!(openrules_page(sheet.as_ptr(), sheet.len()), first, second, out)
 }
 
 /// The answer that what a partial sheet's run left gives on a complete sheet, in slices of the caller's own, as [`partial`] has them.
@@ -436,25 +396,7 @@ pub fn page<'a>(sheet: &[u8], first: &mut [u32], second: &mut [u32], out: &'a mu
 /// assert_eq!(outcome, Outcome::Refused(Refusal { number: 11, line: 13, length: 0 }));
 /// ```
 pub fn finish<'a>(partial: &[u8], complete: &[u8], first: &mut [u32], second: &mut [u32], out: &'a mut [u8]) -> Outcome<'a> {
-    let (mut line, mut length) = (0, 0);
-    // SAFETY: as for the other calls.
-    let number = unsafe {
-        openrules_finish(
-            partial.as_ptr(),
-            partial.len(),
-            complete.as_ptr(),
-            complete.len(),
-            first.as_mut_ptr(),
-            first.len(),
-            second.as_mut_ptr(),
-            second.len(),
-            out.as_mut_ptr(),
-            out.len(),
-            &mut line,
-            &mut length,
-        )
-    };
-    outcome(number, line, length, out)
+    call!(openrules_finish(partial.as_ptr(), partial.len(), complete.as_ptr(), complete.len()), first, second, out)
 }
 
 /// What a run on a copy of a partial sheet gives that has `replacement` in the place of line `of_line`, counted from 1, in slices of the caller's
@@ -491,26 +433,7 @@ pub fn preview<'a>(
     second: &mut [u32],
     out: &'a mut [u8],
 ) -> Outcome<'a> {
-    let (mut line, mut length) = (0, 0);
-    // SAFETY: as for the other calls.
-    let number = unsafe {
-        openrules_preview(
-            sheet.as_ptr(),
-            sheet.len(),
-            of_line,
-            replacement.as_ptr(),
-            replacement.len(),
-            first.as_mut_ptr(),
-            first.len(),
-            second.as_mut_ptr(),
-            second.len(),
-            out.as_mut_ptr(),
-            out.len(),
-            &mut line,
-            &mut length,
-        )
-    };
-    outcome(number, line, length, out)
+    call!(openrules_preview(sheet.as_ptr(), sheet.len(), of_line, replacement.as_ptr(), replacement.len()), first, second, out)
 }
 
 /// The test load that a seed and a number of policies name: a partial sheet, which [`partial`] accepts with an answer of at most [`SHEET`]

@@ -163,10 +163,14 @@ fn templates() {
     assert_eq!(decide(&policies, &view("bob", "sea")), "allow false true false false");
     assert_eq!(decide(&policies, &view("bob", "me")), "deny false false false false");
     let sheet = complete(&schema(), &policies, &entities(), &view("alice", "sea")).unwrap();
-    // The first two links share a root. Of the last one's condition `principal in ?principal` is left alone, so the resource's slot is gone.
+    // The first two links share a root.
     assert_eq!(sheet.policies[0].root, sheet.policies[1].root);
-    assert!(sheet.links[2].resource.is_some());
-    assert!(sheet.links[3].principal.is_some() && sheet.links[3].resource.is_none());
+    assert!(sheet.links[3].principal.is_some() && sheet.links[3].resource.is_some());
+    // Of the last one's condition `principal in ?principal` never runs further: on a short sheet it is left alone, so the resource's slot is gone.
+    let short = short(&schema(), &policies, &entities(), &view("alice", "sea")).unwrap();
+    assert!(short.links[2].resource.is_some());
+    assert!(short.links[3].principal.is_some() && short.links[3].resource.is_none());
+    assert_eq!(answer(&short), "allow true false true false");
 }
 
 #[test]
@@ -251,4 +255,56 @@ fn namespaces_and_common_types() {
     dear["resource"] = uid("Shop::Plan", "half");
     let error = complete(&schema, &policies, &json!([]), &dear).unwrap_err().to_string();
     assert_eq!(error, "request.json, resource: the schema does not declare the entity Shop::Plan::\"half\"");
+}
+
+/// What is left of each policy on a partial sheet, as Cedar text.
+fn left(policies: &Json, entities: &Json, request: &Json) -> Vec<String> {
+    let sheet = partial(&schema(), policies, entities, request).unwrap().to_string();
+    let answer = openrules::Evaluator::new().answer(sheet.as_bytes()).unwrap();
+    answer.policies.iter().map(|policy| policy.residual.as_ref().unwrap().to_string()).collect()
+}
+
+#[test]
+fn what_is_left() {
+    let owner = op("==", get(var("resource"), "owner"), var("principal"));
+    let night =
+        op("||", op("<", get(var("context"), "hour"), lit(json!(6))), op(">=", get(var("context"), "hour"), lit(json!(22))));
+    let senior = and(
+        has(var("principal"), "manager"),
+        op(">", get(get(var("principal"), "manager"), "level"), get(var("principal"), "level")),
+    );
+    let policies = set(json!({
+        "1": policy("permit", [within("Team", "editors"), all(), within("Folder", "public")], json!([{"kind": "when", "body": owner}])),
+        "2": policy("forbid", [all(), all(), all()], json!([{"kind": "unless", "body": get(var("context"), "mfa")}, {"kind": "when", "body": night}])),
+        "3": when(senior),
+        "4": when(op("containsAny", get(var("resource"), "labels"), json!({"Set": [lit(json!("open")), lit(json!("shared"))]}))),
+    }));
+    // Nothing is known of the principal but its type, all of the resource, nothing of the context.
+    let question = json!({"principal": {"type": "User"}, "action": uid("Action", "view"), "resource": uid("Photo", "sea")});
+    let owned = "principal in Team::\"editors\" && User::\"alice\" == principal";
+    let dark = "!context.mfa && (context.hour < 6 || context.hour >= 22)";
+    let above = "principal has manager && principal.manager.level > principal.level";
+    let some = json!([
+        {"uid": uid("Folder", "public"), "attrs": {}, "parents": [], "tags": {}},
+        {"uid": uid("Photo", "sea"), "attrs": {"owner": uid("User", "alice"), "private": false, "labels": ["open"]},
+            "parents": [uid("Folder", "public")], "tags": {}},
+    ]);
+    assert_eq!(left(&policies, &some, &question), [owned, dark, above, "true"]);
+    // bob is in no team, and his manager alice is above him: her level is known.
+    let question = json!({"principal": uid("User", "bob"), "action": uid("Action", "view"), "resource": uid("Photo", "sea")});
+    assert_eq!(left(&policies, &entities(), &question), ["false", dark, "true", "true"]);
+}
+
+#[test]
+fn empty_sets_and_errors() {
+    let policies = set(json!({
+        "1": when(json!({"isEmpty": {"arg": lit(json!([]))}})),
+        "2": when(op("==", lit(json!([])), json!({"Set": []}))),
+        "3": when(op("in", var("principal"), lit(json!([])))),
+        "4": when(op("contains", get(var("resource"), "labels"), json!({"error": []}))),
+        "5": when(op("==", json!({"Record": {"a": lit(json!(1))}}), lit(json!({"a": 1, "b": []})))),
+        "6": when(op("||", has(var("principal"), "email"), json!({"error": []}))),
+    }));
+    assert_eq!(decide(&policies, &view("alice", "sea")), "allow true true false error false true");
+    assert_eq!(decide(&policies, &view("bob", "sea")), "allow true true false error false error");
 }

@@ -125,8 +125,22 @@ fn types() {
         "policies.json, policy \"p0\", conditions[0].body: Bool is wanted here, and this is User"
     );
     assert_eq!(
-        of_body(json!({"isEmpty": {"arg": {"Value": []}}})),
-        "policies.json, policy \"p0\", conditions[0].body.isEmpty.arg: the type of an empty set is not to be seen from here"
+        of_body(json!({"isEmpty": {"arg": {"Value": 1}}})),
+        "policies.json, policy \"p0\", conditions[0].body.isEmpty.arg: a set is wanted here, and this is Long"
+    );
+    assert_eq!(
+        of_body(json!({"contains": {"left": {"Value": ["a"]}, "right": {"Value": 1}}})),
+        "policies.json, policy \"p0\", conditions[0].body.contains.right: Set<String> holds no Long"
+    );
+    assert_eq!(
+        of_body(json!({"containsAny": {"left": {"Value": ["a"]}, "right": {"Value": 1}}})),
+        "policies.json, policy \"p0\", conditions[0].body.containsAny.right: Set<String> is wanted here, and this is Long"
+    );
+    assert_eq!(
+        of_body(
+            json!({"==": {"left": {"if-then-else": {"if": {"Value": true}, "then": {"Value": 1}, "else": {"Value": "a"}}}, "right": {"Value": "a"}}})
+        ),
+        "policies.json, policy \"p0\", conditions[0].body: Long is compared with String"
     );
     assert_eq!(
         of_body(json!({"in": {"left": principal, "right": {"Value": {"__entity": uid("Club", "c")}}}})),
@@ -134,7 +148,7 @@ fn types() {
     );
     assert_eq!(
         of_body(json!({"contains": {"left": {"Set": [{"Value": 1}, {"Value": "a"}]}, "right": {"Value": 1}}})),
-        "policies.json, policy \"p0\", conditions[0].body.contains.left.Set[1]: a value of type Long is wanted here"
+        "policies.json, policy \"p0\", conditions[0].body.contains.left: elements of the types Long and String in one set"
     );
 }
 
@@ -176,10 +190,13 @@ fn room() {
     assert_eq!(of_policies(many(65)), "policies.json, policy \"p64\": more than 64 policies, which is what a sheet has room for");
     let text = |bytes: usize| json!({"==": {"left": {"Value": "x".repeat(bytes)}, "right": {"Value": ""}}});
     assert!(complete(&schema(), &set(text(128)), &json!([]), &request()).is_ok());
-    assert_eq!(of_body(text(129)), "policies.json, policy \"p0\": a text of 129 bytes, where a sheet has room for 128");
+    assert_eq!(
+        of_body(text(129)),
+        "policies.json, policy \"p0\", conditions[0].body.==.left: a text of 129 bytes, where a sheet has room for 128"
+    );
     assert_eq!(
         of_body(json!({"==": {"left": {"Value": "\u{e4}"}, "right": {"Value": ""}}})),
-        "policies.json, policy \"p0\": the text \"\u{e4}\" has a character that a sheet has not (bytes 32 to 126 alone)"
+        "policies.json, policy \"p0\", conditions[0].body.==.left: the text \"\u{e4}\" has a character that a sheet has not (bytes 32 to 126 alone)"
     );
     let wide = |count: usize| json!({"contains": {"left": {"Set": vec![json!({".": {"left": {"Var": "principal"}, "attr": "level"}}); count]}, "right": {"Value": 1}}});
     assert_eq!(of_body(wide(600)), "policies.json, policy \"p0\": more than 1024 nodes, which is what a sheet has room for");
@@ -202,10 +219,12 @@ fn room() {
     let user = |n: usize| json!({"uid": uid("Team", &format!("t{n}")), "attrs": {}, "parents": []});
     let in_team = set(json!({"in": {"left": {"Var": "principal"}, "right": {"Value": {"__entity": uid("Team", "t1")}}}}));
     let teams = |count: usize| Json::Array((0..count).map(user).collect());
-    // The action and its group have lines of their own.
+    // The action and its group have lines of their own, which come last.
     assert!(complete(&schema(), &in_team, &teams(126), &request()).is_ok());
     let error = complete(&schema(), &in_team, &teams(127), &request()).unwrap_err().to_string();
-    assert_eq!(error, "entities.json, [126]: more than 128 entities, which is what a sheet has room for");
+    assert_eq!(error, "schema.json, actions.readOnly: more than 128 entities, which is what a sheet has room for");
+    let error = complete(&schema(), &in_team, &teams(129), &request()).unwrap_err().to_string();
+    assert_eq!(error, "entities.json, [128]: more than 128 entities, which is what a sheet has room for");
     let texts = (0..150).map(|n| json!({"Value": format!("{n:0>120}")}));
     let policies = set(json!({"contains": {"left": {"Set": texts.collect::<Vec<_>>()}, "right": {"Value": ""}}}));
     let error = complete(&schema(), &policies, &json!([]), &request()).unwrap_err().to_string();

@@ -173,33 +173,38 @@ fn by_id(sheet: &Sheet) -> (String, Vec<(String, String)>) {
     (decision, classes)
 }
 
-/// The residuals of a partial sheet as JSON, beside the same other files: the same decision and classes, and the same trees but for parts that never run.
-fn residuals_again(sheet: &Sheet, texts: &[Vec<u8>; 4], evaluator: &mut Evaluator, counts: &mut [usize; 3]) {
+/// The residuals of a partial sheet as JSON, beside the same other files, are read as the same trees, but for parts that never run and have no type.
+fn residuals_again(sheet: &Sheet, texts: &[Vec<u8>; 4], evaluator: &mut Evaluator, counts: &mut [usize; 2]) {
     let answer = evaluator.answer(sheet.to_string().as_bytes()).unwrap();
-    let values = [sheet.values.clone(), answer.values.clone()].concat();
-    let printer = print::Printer { texts: &sheet.texts, kinds: &sheet.kinds, values: &values, nodes: &answer.nodes };
-    let mut left = serde_json::Map::new();
-    for policy in &answer.policies {
-        match printer.policy(policy.effect, policy.root.unwrap()) {
-            Some(body) => left.insert(policy.id.to_string(), body),
-            None => {
-                counts[2] += 1;
-                return;
-            }
-        };
-    }
-    let printed = json!({ "staticPolicies": left }).to_string();
+    let printed = print::residuals(sheet, &answer).unwrap().to_string();
     let again = from_text([&texts[0], printed.as_bytes(), &texts[2], &texts[3]], Mode::Partial, None);
     let again = again.unwrap_or_else(|error| panic!("{error}\n{sheet}\n{printed}"));
+    let rules = again.rules().unwrap();
     let second = evaluator.answer(again.to_string().as_bytes()).unwrap();
     assert_eq!(second.decision, answer.decision, "{sheet}\n{printed}");
     for policy in &answer.policies {
         let other = second.policies.iter().find(|other| other.id == policy.id).unwrap();
         assert_eq!((other.effect, other.class), (policy.effect, policy.class), "{sheet}\n{printed}");
-        counts[usize::from(other.residual != policy.residual)] += 1;
+        let rule = rules.iter().find(|rule| rule.id == policy.id).unwrap();
+        counts[usize::from(Some(&rule.condition) != policy.residual.as_ref())] += 1;
     }
 }
 
+/// The policies as JSON again, beside the same other files, give the same answer, and so does what is left of them.
+fn again(sheet: &Sheet, texts: &[Vec<u8>; 4], evaluator: &mut Evaluator, counts: &mut [usize; 2]) {
+    let printed = print::policies(sheet).unwrap().to_string();
+    let again = from_text([&texts[0], printed.as_bytes(), &texts[2], &texts[3]], sheet.mode, None);
+    let again = again.unwrap_or_else(|error| panic!("{error}\n{sheet}\n{printed}"));
+    assert_eq!(by_id(&again), by_id(sheet), "{sheet}\n{printed}");
+    if sheet.links.is_empty() {
+        assert_eq!(again, *sheet, "{printed}");
+    }
+    if sheet.mode == Mode::Partial {
+        residuals_again(sheet, texts, evaluator, counts);
+    }
+}
+
+/// Sheets as they come out of changed files: accepted, and the same again. Of many tries every sixteenth sheet goes the way back.
 #[test]
 fn never_a_panic() {
     let number = |name: &str, else_: u64| std::env::var(name).ok().and_then(|text| text.parse().ok()).unwrap_or(else_);
@@ -212,7 +217,7 @@ fn never_a_panic() {
     assert!(base.is_ok(), "{}", base.unwrap_err());
     let mut evaluator = Evaluator::new();
     let mut sheets = 0;
-    let mut counts = [0; 3];
+    let mut counts = [0; 2];
     for _ in 0..tries {
         let mut files = whole.clone();
         if random.below(2) == 0 {
@@ -240,21 +245,13 @@ fn never_a_panic() {
                     let files = texts.map(|text| String::from_utf8_lossy(&text).into_owned()).join("\n");
                     panic!("{refusal}\n{text}\n{files}");
                 }
-                // The policies as JSON again, beside the same other files, give the same answer.
-                let printed = print::policies(&sheet).unwrap().to_string();
-                let again = from_text([&texts[0], printed.as_bytes(), &texts[2], &texts[3]], mode, None);
-                let again = again.unwrap_or_else(|error| panic!("{error}\n{text}\n{printed}"));
-                assert_eq!(by_id(&again), by_id(&sheet), "{text}\n{printed}");
-                if sheet.links.is_empty() {
-                    assert_eq!(again, sheet, "{printed}");
-                }
-                if mode == Mode::Partial {
-                    residuals_again(&sheet, &texts, &mut evaluator, &mut counts);
+                if tries <= 1000 || random.below(16) == 0 {
+                    again(&sheet, &texts, &mut evaluator, &mut counts);
                 }
             }
         }
     }
-    let [same, shorter, without] = counts;
-    println!("{tries} tries, {sheets} sheets; residuals: {same} the same again, {shorter} with a part left away, {without} with an err");
+    let [same, other] = counts;
+    println!("{tries} tries, {sheets} sheets; residuals: {same} read as the same trees, {other} in another order or with a part left away");
     assert!(sheets > 0);
 }

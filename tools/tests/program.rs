@@ -90,3 +90,44 @@ fn a_sheet_or_an_error() {
     assert!(text(&lacking.stderr).starts_with("openrules-sheet: entities.json: No such file"));
     assert_eq!(folder.run(&["--day", "2100-02-29"]).status.code(), Some(2));
 }
+
+#[test]
+fn the_way_back() {
+    let folder = Folder::new("back");
+    let example = |name: &str| format!("{}/../examples/{name}.sheet", env!("CARGO_MANIFEST_DIR"));
+    let mut program = Command::new(env!("CARGO_BIN_EXE_openrules-sheet"));
+    let written = program.args(["--json", &example("one-rule-three-brokers"), "."]).current_dir(&folder.0).output().unwrap();
+    assert_eq!((written.status.code(), text(&written.stderr), text(&written.stdout)), (Some(0), String::new(), String::new()));
+    let again = folder.run(&["--partial", "--day", "2026-06-30"]);
+    assert_eq!((again.status.code(), text(&again.stderr)), (Some(0), String::new()));
+    let ids = ["tariff of b1", "tariff of b2", "tariff of b3"];
+    let sheet: openrules::sheet::Sheet = text(&again.stdout).parse().unwrap();
+    assert_eq!(sheet.policies.iter().map(|policy| &sheet.texts[policy.id]).collect::<Vec<_>>(), ids);
+    assert_eq!(sheet.links.len(), 3);
+
+    let mut program = Command::new(env!("CARGO_BIN_EXE_openrules-sheet"));
+    let grouped = program.args(["--json", &example("person-or-firm"), "."]).current_dir(&folder.0).output().unwrap();
+    assert_eq!(grouped.status.code(), Some(1));
+    assert!(
+        text(&grouped.stderr).ends_with("person-or-firm.sheet: Cedar's JSON cannot hold the sheet: a type lists several kinds\n")
+    );
+}
+
+/// A record that may have an attribute and lacks it: JSON has no place for its type, by which `has` stays open.
+#[test]
+fn types_that_are_lost() {
+    let folder = Folder::new("types");
+    let sheet = "sheet=partial\ntext=Broker\ntext=Action\ntext=quote\ntext=a\ntext=b\ntext=p\nkind=0,e\nkind=1,a\n\
+        type=bool\ntype=record\ntype=record,3,r,0,4,o,0\ntype=entity,0\nshape=1,-\nshape=1,-\n\
+        principal=0,?\naction=1,2\nresource=0,?\ncontext=1,?\nday=2026-06-30\n\
+        node=3,var,p\nnode=3,var,r\nnode=0,eq,0,1\nnode=2,record,3,2\nnode=0,has,3,4\npolicy=5,permit,4\n";
+    folder.write("open.sheet", sheet);
+    let mut program = Command::new(env!("CARGO_BIN_EXE_openrules-sheet"));
+    let lost = program.args(["--json", "open.sheet", "."]).current_dir(&folder.0).output().unwrap();
+    assert_eq!(lost.status.code(), Some(1));
+    assert_eq!(
+        text(&lost.stderr),
+        "openrules-sheet: open.sheet: Cedar's JSON cannot hold the sheet: read without the types of its expressions it has another answer\n"
+    );
+    assert!(!folder.0.join("schema.json").exists());
+}

@@ -123,6 +123,24 @@ impl fmt::Display for Fault {
 
 impl std::error::Error for Fault {}
 
+/// Whether a text may stand on a sheet: at most [`TEXT`] bytes, each from 32 to 126.
+///
+/// ```
+/// use openrules::sheet::builder::{has_room, Fault};
+///
+/// assert_eq!(has_room("insured"), Ok(()));
+/// assert_eq!(has_room("two\nlines"), Err(Fault::Byte { text: "two\nlines".into() }));
+/// ```
+pub fn has_room(text: &str) -> Result<(), Fault> {
+    if text.len() > TEXT {
+        return Err(Fault::LongText { bytes: text.len() });
+    }
+    match text.bytes().all(|byte| (32..=126).contains(&byte)) {
+        true => Ok(()),
+        false => Err(Fault::Byte { text: text.into() }),
+    }
+}
+
 /// The name of an entity: its kind and its id.
 ///
 /// ```
@@ -261,6 +279,8 @@ pub enum Value {
 pub enum Operation {
     /// A value.
     Lit(Value),
+    /// It yields an error.
+    Err,
     /// A part of the request.
     Var(Variable),
     /// What the policy's link has there.
@@ -362,7 +382,7 @@ impl Tree {
     /// ```
     pub fn children(&self) -> Vec<&Tree> {
         match &self.operation {
-            Operation::Lit(_) | Operation::Var(_) | Operation::Slot(_) => vec![],
+            Operation::Lit(_) | Operation::Err | Operation::Var(_) | Operation::Slot(_) => vec![],
             Operation::Unary(_, child)
             | Operation::Is(child, _)
             | Operation::Like(child, _)
@@ -515,12 +535,7 @@ impl Builder {
     /// assert_eq!((builder.text("a"), builder.text("b"), builder.text("a")), (Ok(0), Ok(1), Ok(0)));
     /// ```
     pub fn text(&mut self, text: &str) -> Result<usize, Fault> {
-        if text.len() > TEXT {
-            return Err(Fault::LongText { bytes: text.len() });
-        }
-        if !text.bytes().all(|byte| (32..=126).contains(&byte)) {
-            return Err(Fault::Byte { text: text.into() });
-        }
+        has_room(text)?;
         self.texts.number(text.into())
     }
 
@@ -827,6 +842,7 @@ impl Builder {
         let first = self.nodes.len();
         let operation = match &tree.operation {
             Operation::Lit(value) => super::Operation::Lit(self.value(value)?),
+            Operation::Err => super::Operation::Err,
             Operation::Var(variable) => super::Operation::Var(*variable),
             Operation::Slot(slot) => super::Operation::Slot(*slot),
             Operation::Unary(word, child) => super::Operation::Unary(*word, self.tree_within(child, inner)?),
@@ -845,10 +861,7 @@ impl Builder {
             }
             Operation::Get(child, name) => super::Operation::Get(self.tree_within(child, inner)?, self.text(name)?),
             Operation::Has(child, name) => super::Operation::Has(self.tree_within(child, inner)?, self.text(name)?),
-            Operation::HasPath(child, path) => {
-                let child = self.tree_within(child, inner)?;
-                super::Operation::HasPath(child, path.iter().map(|name| self.text(name)).collect::<Result<_, _>>()?)
-            }
+            Operation::HasPath(child, path) => super::Operation::HasPath(self.tree_within(child, inner)?, self.names(path)?),
             Operation::Set(children) => {
                 super::Operation::Set(children.iter().map(|child| self.tree_within(child, inner)).collect::<Result<_, _>>()?)
             }
@@ -861,6 +874,10 @@ impl Builder {
         self.nodes.push(Node { ty, operation });
         self.sizes.push(self.nodes.len() - first);
         Ok(self.nodes.len() - 1)
+    }
+
+    fn names(&mut self, names: &[String]) -> Result<Vec<usize>, Fault> {
+        names.iter().map(|name| self.text(name)).collect()
     }
 
     /// The children of a record, in the order of their texts' numbers.

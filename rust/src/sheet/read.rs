@@ -47,6 +47,7 @@ impl Fault {
     pub(crate) const TWICE: &'static str = "a node is used twice";
     pub(crate) const MISSING: &'static str = "a line is missing";
     pub(crate) const UNENDED: &'static str = "the line is not ended";
+    const DAY: &'static str = "a day is written as 2026-06-30, and is one from 1900-01-01 to 2199-12-31";
 
     pub(crate) fn new(line: usize, reason: &'static str) -> Fault {
         Fault { line, reason }
@@ -129,6 +130,22 @@ fn days_in(year: u16, month: u8) -> u8 {
         4 | 6 | 9 | 11 => 30,
         1..=12 => 31,
         _ => 0,
+    }
+}
+
+/// Reads a day as it is written on a sheet.
+///
+/// ```
+/// use openrules::sheet::Day;
+///
+/// assert_eq!("2026-06-30".parse(), Ok(Day { year: 2026, month: 6, day: 30 }));
+/// assert!("2100-02-29".parse::<Day>().is_err() && "2026-6-30".parse::<Day>().is_err());
+/// ```
+impl FromStr for Day {
+    type Err = Fault;
+
+    fn from_str(text: &str) -> Result<Day, Fault> {
+        form_day(text).ok_or(Fault::new(0, Fault::DAY))
     }
 }
 
@@ -525,50 +542,48 @@ impl Reader {
         let items: Vec<&str> = value.split(',').collect();
         let mode = self.sheet.mode;
         match key {
-            "text" if value.len() <= GREATEST_TEXT => {
-                self.sheet.texts.push(value.to_string());
-                self.scope.texts += 1;
-                Ok(())
-            }
+            "text" => self.text(value),
             "kind" => self.kind(form_kind(&items).ok_or(Fault::FORM)?),
             "type" => self.ty(form_type(&items).ok_or(Fault::FORM)?),
             "shape" => self.shape(form_shape(&items).ok_or(Fault::FORM)?),
-            "value" => {
-                let row = form_value(value).ok_or(Fault::FORM)?;
-                self.scope.value(&row)?;
-                self.sheet.values.push(row);
-                Ok(())
-            }
+            "value" => self.value(form_value(value).ok_or(Fault::FORM)?),
             "entity" => self.entity(form_entity(&items, mode).ok_or(Fault::FORM)?),
-            "principal" => {
-                self.sheet.principal = self.party(form_party(&items, mode).ok_or(Fault::FORM)?)?;
-                Ok(())
-            }
-            "action" => {
-                self.sheet.action = self.party(form_party(&items, Mode::Complete).ok_or(Fault::FORM)?)?;
-                Ok(())
-            }
-            "resource" => {
-                self.sheet.resource = self.party(form_party(&items, mode).ok_or(Fault::FORM)?)?;
-                Ok(())
-            }
+            "principal" | "action" | "resource" => self.party(key, &items),
             "context" => self.context(form_context(&items, mode).ok_or(Fault::FORM)?),
-            "day" => {
-                self.sheet.day = form_day(value).ok_or(Fault::FORM)?;
-                Ok(())
-            }
-            "node" => {
-                let row = form_node(value).ok_or(Fault::FORM)?;
-                self.scope.node(&row)?;
-                self.roots.push(false);
-                self.sheet.nodes.push(row);
-                Ok(())
-            }
+            "day" => self.day(form_day(value).ok_or(Fault::FORM)?),
+            "node" => self.node(form_node(value).ok_or(Fault::FORM)?),
             "policy" => self.policy(form_policy(&items).ok_or(Fault::FORM)?),
             "link" => self.link(form_link(&items).ok_or(Fault::FORM)?),
             "term" => self.term(form_term(&items).ok_or(Fault::FORM)?),
             _ => Err(Fault::FORM),
         }
+    }
+
+    fn text(&mut self, text: &str) -> Result<(), &'static str> {
+        if text.len() > GREATEST_TEXT {
+            return Err(Fault::FORM);
+        }
+        self.sheet.texts.push(text.to_string());
+        self.scope.texts += 1;
+        Ok(())
+    }
+
+    fn value(&mut self, row: Value) -> Result<(), &'static str> {
+        self.scope.value(&row)?;
+        self.sheet.values.push(row);
+        Ok(())
+    }
+
+    fn day(&mut self, day: Day) -> Result<(), &'static str> {
+        self.sheet.day = day;
+        Ok(())
+    }
+
+    fn node(&mut self, row: Node) -> Result<(), &'static str> {
+        self.scope.node(&row)?;
+        self.roots.push(false);
+        self.sheet.nodes.push(row);
+        Ok(())
     }
 
     fn kind(&mut self, row: Kind) -> Result<(), &'static str> {
@@ -616,9 +631,17 @@ impl Reader {
         Ok(())
     }
 
-    fn party(&self, row: Party) -> Result<Party, &'static str> {
+    /// A part of the request; an action is always known.
+    fn party(&mut self, key: &str, items: &[&str]) -> Result<(), &'static str> {
+        let mode = if key == "action" { Mode::Complete } else { self.sheet.mode };
+        let row = form_party(items, mode).ok_or(Fault::FORM)?;
         refers(row.kind < self.scope.kinds && row.text.is_none_or(|text| self.scope.text(text)))?;
-        Ok(row)
+        match key {
+            "principal" => self.sheet.principal = row,
+            "action" => self.sheet.action = row,
+            _ => self.sheet.resource = row,
+        }
+        Ok(())
     }
 
     fn context(&mut self, row: Context) -> Result<(), &'static str> {

@@ -1,27 +1,32 @@
-//! Writes a sheet from Cedar's JSON: a schema, a policy set, entities and a request.
+//! Writes a sheet from Cedar's JSON: a schema, a policy set, entities and a request. `--json` is the way back.
 
 use clap::{Arg, ArgAction, ArgMatches, Command};
 use openrules::sheet::{Day, Mode, Sheet};
-use openrules::{Evaluator, Outcome};
+use openrules::{Evaluator, Verdict};
 use openrules_tools::cedar::error::Error;
-use openrules_tools::cedar::{self, File, Files};
+use openrules_tools::cedar::{self, print, File, Files, Options};
 use std::io::Write;
+use std::path::Path;
 use std::process::ExitCode;
 
+/// The four files, by option and by name in a folder.
+const FILES: [&str; 4] = ["schema", "policies", "entities", "request"];
+
 fn options() -> Command {
-    let file = |name: &'static str, help: &'static str| Arg::new(name).long(name).value_name("FILE").required(true).help(help);
+    let help = [
+        "The schema, in JSON",
+        "The policy set, in JSON: staticPolicies, templates and templateLinks",
+        "The entities, a list with uid, attrs, parents and tags",
+        "The request: principal, action, resource and context",
+    ];
+    let file = |(name, help)| Arg::new(name).long(name).value_name("FILE").required_unless_present("json").help(help);
+    let flag = |name: &'static str, help: &'static str| Arg::new(name).long(name).action(ArgAction::SetTrue).help(help);
+    let day = |text: &str| text.parse::<Day>();
     Command::new("openrules-sheet")
         .about("Writes a sheet from Cedar's JSON formats to standard output")
-        .arg(file("schema", "The schema, in JSON"))
-        .arg(file("policies", "The policy set, in JSON: staticPolicies, templates and templateLinks"))
-        .arg(file("entities", "The entities, a list with uid, attrs, parents and tags"))
-        .arg(file("request", "The request: principal, action, resource and context"))
-        .arg(
-            Arg::new("partial")
-                .long("partial")
-                .action(ArgAction::SetTrue)
-                .help("Writes a partial sheet: what is not there or null is unknown"),
-        )
+        .args(FILES.into_iter().zip(help).map(file))
+        .arg(flag("partial", "Writes a partial sheet: what is not there or null is unknown"))
+        .arg(flag("short", "Leaves away all parts of conditions that never run for the request's types"))
         .arg(
             Arg::new("after")
                 .long("after")
@@ -36,61 +41,84 @@ fn options() -> Command {
                 .default_value("2000-01-01")
                 .help("The day of the request"),
         )
+        .arg(
+            Arg::new("json")
+                .long("json")
+                .value_names(["SHEET", "FOLDER"])
+                .num_args(2)
+                .conflicts_with_all(FILES.into_iter().chain(["partial", "short", "after"]))
+                .help("The way back: writes schema.json, policies.json, entities.json and request.json of a sheet to a folder"),
+        )
 }
 
-/// A day, in ten bytes.
-fn day(text: &str) -> Result<Day, String> {
-    let wrong = || "a day is written as 2026-06-30".to_string();
-    let parts: Vec<&str> = text.split('-').collect();
-    let [year, month, day] = parts[..] else { return Err(wrong()) };
-    let digits = |part: &str, count| part.len() == count && part.bytes().all(|byte| byte.is_ascii_digit());
-    if !(digits(year, 4) && digits(month, 2) && digits(day, 2)) {
-        return Err(wrong());
-    }
-    let number = |part: &str| part.parse::<u16>().map_err(|_| wrong());
-    let (year, month, day) = (number(year)?, number(month)?, number(day)?);
-    let leap = year % 4 == 0 && (year % 100 != 0 || year % 400 == 0);
-    let days = match month {
-        2 => 28 + u16::from(leap),
-        4 | 6 | 9 | 11 => 30,
-        1..=12 => 31,
-        _ => 0,
-    };
-    match (1900..=2199).contains(&year) && (1..=days).contains(&day) {
-        true => Ok(Day { year, month: month as u8, day: day as u8 }),
-        false => Err("there is no such day from 1900-01-01 to 2199-12-31".into()),
-    }
+fn bytes(name: &str) -> Result<Vec<u8>, Error> {
+    std::fs::read(name).map_err(|cause| Error::File { file: name.into(), cause })
 }
 
 /// The sheet in a file.
 fn read_sheet(name: &str) -> Result<Sheet, Error> {
-    let bytes = std::fs::read(name).map_err(|cause| Error::Read { file: name.into(), cause })?;
-    Sheet::read(&bytes).map_err(|fault| Error::Sheet { file: name.into(), fault })
+    Sheet::read(&bytes(name)?).map_err(|fault| Error::Sheet { file: name.into(), fault })
+}
+
+/// The sheet of four files, which the library accepts.
+fn sheet(options: &ArgMatches) -> Result<String, Error> {
+    let names = FILES.map(|option| options.get_one::<String>(option).map_or("", String::as_str));
+    let read = [bytes(names[0])?, bytes(names[1])?, bytes(names[2])?, bytes(names[3])?];
+    let [schema, policies, entities, request] = [0, 1, 2, 3].map(|place| File { name: names[place], bytes: &read[place] });
+    let before = options.get_one::<String>("after").map(|name| read_sheet(name)).transpose()?;
+    let wanted = Options {
+        mode: if options.get_flag("partial") { Mode::Partial } else { Mode::Complete },
+        day: options.get_one("day").copied().unwrap_or(Day { year: 2000, month: 1, day: 1 }),
+        short: options.get_flag("short"),
+        after: before.as_ref(),
+    };
+    let sheet = cedar::sheet(&Files { schema, policies, entities, request }, &wanted)?.to_string();
+    Evaluator::new().answer(sheet.as_bytes()).map_err(|error| Error::Unanswered { error })?;
+    Ok(sheet)
+}
+
+/// The decision, and the id, effect and class of each policy, by id.
+fn lines(sheet: &[u8]) -> Result<Vec<String>, Error> {
+    let answer = Evaluator::new().answer(sheet).map_err(|error| Error::Unanswered { error })?;
+    let line = |policy: &Verdict| format!("{}: {}, {}", policy.id, policy.effect, policy.class);
+    let mut lines: Vec<String> = answer.policies.iter().map(line).collect();
+    lines.sort();
+    lines.push(answer.decision.to_string());
+    Ok(lines)
+}
+
+/// The text of the files of a sheet, in their order. Read again they are answered as the sheet is.
+fn texts(name: &str) -> Result<[String; 4], Error> {
+    let (bytes, sheet) = (bytes(name)?, read_sheet(name)?);
+    let unwritten = |error| Error::Unwritten { file: name.into(), error };
+    let before = lines(&bytes)?;
+    let files = print::sheet(&sheet).map_err(unwritten)?;
+    let texts = [files.schema, files.policies, files.entities, files.request].map(|json| format!("{json}\n"));
+    let [schema, policies, entities, request] =
+        [0, 1, 2, 3].map(|place| File { name: FILES[place], bytes: texts[place].as_bytes() });
+    let options = Options { mode: sheet.mode, day: sheet.day, short: false, after: None };
+    let again = cedar::sheet(&Files { schema, policies, entities, request }, &options)?;
+    match lines(again.to_string().as_bytes())? == before {
+        true => Ok(texts),
+        false => Err(unwritten(print::Error::Types)),
+    }
+}
+
+/// Writes the files of a sheet to a folder.
+fn json(name: &str, folder: &str) -> Result<(), Error> {
+    let texts = texts(name)?;
+    std::fs::create_dir_all(folder).map_err(|cause| Error::File { file: folder.into(), cause })?;
+    for (name, text) in FILES.into_iter().zip(texts) {
+        let file = Path::new(folder).join(format!("{name}.json"));
+        std::fs::write(&file, text).map_err(|cause| Error::File { file: file.display().to_string(), cause })?;
+    }
+    Ok(())
 }
 
 fn run(options: &ArgMatches) -> Result<String, Error> {
-    let name = |option: &str| options.get_one::<String>(option).map_or("", String::as_str);
-    let bytes = |option: &str| std::fs::read(name(option)).map_err(|cause| Error::Read { file: name(option).into(), cause });
-    let read = [bytes("schema")?, bytes("policies")?, bytes("entities")?, bytes("request")?];
-    let file = |option, place: usize| File { name: name(option), bytes: &read[place] };
-    let files = Files {
-        schema: file("schema", 0),
-        policies: file("policies", 1),
-        entities: file("entities", 2),
-        request: file("request", 3),
-    };
-    let mode = if options.get_flag("partial") { Mode::Partial } else { Mode::Complete };
-    let day = options.get_one::<Day>("day").copied().unwrap_or(Day { year: 2000, month: 1, day: 1 });
-    let before = options.get_one::<String>("after").map(|name| read_sheet(name)).transpose()?;
-    let sheet = cedar::sheet(&files, mode, day, before.as_ref())?.to_string();
-    let mut evaluator = Evaluator::new();
-    let outcome = match mode {
-        Mode::Partial => evaluator.partial(sheet.as_bytes()),
-        Mode::Complete => evaluator.complete(sheet.as_bytes()),
-    };
-    match outcome {
-        Outcome::Answer(_) => Ok(sheet),
-        Outcome::Refused(refusal) => Err(Error::Refused { refusal }),
+    match options.get_many::<String>("json").map(|words| words.collect::<Vec<_>>()).as_deref() {
+        Some([name, folder]) => json(name, folder).map(|()| String::new()),
+        _ => sheet(options),
     }
 }
 

@@ -1,10 +1,18 @@
 //! What may be wrong with Cedar's JSON, or may not stand on a sheet, and where.
 
+use super::print;
 use openrules::sheet::builder::Fault;
 use std::fmt;
 use std::rc::Rc;
 
 /// A place in a file: the policy that it belongs to, and the way to it through the JSON.
+///
+/// ```
+/// use openrules_tools::cedar::error::Place;
+///
+/// let place = Place::file("policies.json").policy("low band").field("conditions").item(0).field("body");
+/// assert_eq!(place.to_string(), "policies.json, policy \"low band\", conditions[0].body");
+/// ```
 #[derive(Clone, Debug)]
 pub struct Place {
     file: Rc<str>,
@@ -72,11 +80,23 @@ impl fmt::Display for Place {
     }
 }
 
-/// Why there is no sheet.
+/// Why there is no sheet, or no JSON of one.
+///
+/// ```
+/// use openrules::sheet::{Day, Mode};
+/// use openrules_tools::cedar::{error::Error, sheet, File, Files, Options};
+///
+/// let file = |name| File { name, bytes: b"{" };
+/// let files = Files { schema: file("s"), policies: file("p"), entities: file("e"), request: file("r") };
+/// let day = Day { year: 2026, month: 6, day: 30 };
+/// let error = sheet(&files, &Options { mode: Mode::Partial, day, short: false, after: None }).unwrap_err();
+/// assert!(matches!(error, Error::Json { .. }));
+/// assert_eq!(error.to_string(), "s: EOF while parsing an object at line 1 column 1");
+/// ```
 #[derive(Debug)]
 pub enum Error {
-    /// A file cannot be read.
-    Read {
+    /// A file cannot be read or written.
+    File {
         /// The file.
         file: String,
         /// What the system says.
@@ -164,17 +184,24 @@ pub enum Error {
         /// What is wrong.
         fault: openrules::sheet::Fault,
     },
-    /// The library refuses the sheet that was made.
-    Refused {
+    /// The library gives the sheet no answer.
+    Unanswered {
         /// What it says.
-        refusal: openrules::Refusal,
+        error: openrules::Error,
+    },
+    /// Cedar's JSON cannot hold the sheet.
+    Unwritten {
+        /// The file of the sheet.
+        file: String,
+        /// What it cannot hold.
+        error: print::Error,
     },
 }
 
 impl fmt::Display for Error {
     fn fmt(&self, f: &mut fmt::Formatter<'_>) -> fmt::Result {
         match self {
-            Error::Read { file, cause } => write!(f, "{file}: {cause}"),
+            Error::File { file, cause } => write!(f, "{file}: {cause}"),
             Error::Json { file, cause } => write!(f, "{file}: {cause}"),
             Error::Wanted { at, wanted } => write!(f, "{at}: {wanted} should stand here"),
             Error::Field { at, name } => write!(f, "{at}: the field {name:?} is not known here"),
@@ -186,7 +213,8 @@ impl fmt::Display for Error {
             Error::Unknown { at } => write!(f, "{at}: this is unknown, which a partial sheet alone may hold (--partial)"),
             Error::Room { at, fault } => write!(f, "{at}: {fault}"),
             Error::Sheet { file, fault } => write!(f, "{file}: {fault}"),
-            Error::Refused { refusal } => write!(f, "the library refuses the sheet: {refusal} ({})", refusal.meaning()),
+            Error::Unanswered { error } => write!(f, "the library gives the sheet no answer: {error}"),
+            Error::Unwritten { file, error } => write!(f, "{file}: Cedar's JSON cannot hold the sheet: {error}"),
         }
     }
 }
@@ -194,7 +222,7 @@ impl fmt::Display for Error {
 impl std::error::Error for Error {}
 
 /// Says where a sheet has no room.
-pub trait Room<T> {
+pub(crate) trait Room<T> {
     /// The same, with the place.
     fn room(self, at: &Place) -> Result<T, Error>;
 }

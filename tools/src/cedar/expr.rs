@@ -3,7 +3,7 @@
 use super::error::{Error, Place};
 use super::json::{At, Fields};
 use super::values;
-use openrules::sheet::builder::Value;
+use openrules::sheet::builder::{has_room, Value};
 use openrules::sheet::{Binary, Slot, Unary, Variable};
 
 /// An expression, and where it stands.
@@ -20,6 +20,8 @@ pub struct Expr {
 pub enum Kind {
     /// A value.
     Lit(Value),
+    /// It yields an error.
+    Err,
     /// A part of the request.
     Var(Variable),
     /// A slot of a template.
@@ -36,8 +38,10 @@ pub enum Kind {
     Like(Box<Expr>, Vec<Option<String>>),
     /// An attribute.
     Get(Box<Expr>, String),
+    /// Whether there is an attribute.
+    Has(Box<Expr>, String),
     /// Whether there is an attribute at the end of a path.
-    Has(Box<Expr>, Vec<String>),
+    HasPath(Box<Expr>, Vec<String>),
     /// A set.
     Set(Vec<Expr>),
     /// A record.
@@ -60,13 +64,65 @@ impl Expr {
         Expr::new(&self.place.clone(), Kind::Unary(Unary::Not, Box::new(self)))
     }
 
-    /// Whether it is a set or record made here, whose type is best taken from where it stands.
+    /// The expressions in it, left to right.
+    pub fn children(&self) -> Vec<&Expr> {
+        match &self.kind {
+            Kind::Lit(_) | Kind::Err | Kind::Var(_) | Kind::Slot(_) => vec![],
+            Kind::Unary(_, child)
+            | Kind::Like(child, _)
+            | Kind::Get(child, _)
+            | Kind::Has(child, _)
+            | Kind::HasPath(child, _)
+            | Kind::Is(child, _, None) => vec![child],
+            Kind::Binary(_, left, right) | Kind::Is(left, _, Some(right)) => vec![left, right],
+            Kind::If(test, yes, no) => vec![test, yes, no],
+            Kind::Set(children) => children.iter().collect(),
+            Kind::Record(fields) => fields.iter().map(|(_, field)| field).collect(),
+        }
+    }
+
+    /// Whether it is a value made here, whose type is best taken from where it stands.
     pub fn is_made(&self) -> bool {
         match &self.kind {
-            Kind::Lit(Value::Set(_) | Value::Record(_)) | Kind::Set(_) | Kind::Record(_) => true,
+            Kind::Lit(_) | Kind::Err | Kind::Set(_) | Kind::Record(_) => true,
             Kind::If(_, yes, no) => yes.is_made() && no.is_made(),
+            Kind::Get(child, _) => child.is_made(),
             _ => false,
         }
+    }
+
+    /// Whether a slot stands in it.
+    pub fn has_slot(&self, slot: Slot) -> bool {
+        matches!(self.kind, Kind::Slot(one) if one == slot) || self.children().into_iter().any(|child| child.has_slot(slot))
+    }
+
+    /// The first expression in it, itself included, with a text of its own that a sheet has no room for.
+    pub fn without_room(&self) -> Option<&Expr> {
+        let wrong = |text: &String| has_room(text).is_err();
+        let own = match &self.kind {
+            Kind::Lit(value) => has_wrong(value),
+            Kind::Like(_, pattern) => pattern.iter().flatten().any(wrong),
+            Kind::Get(_, name) | Kind::Has(_, name) | Kind::Is(_, name, _) => wrong(name),
+            Kind::HasPath(_, path) => path.iter().any(wrong),
+            Kind::Record(fields) => fields.iter().any(|(name, _)| wrong(name)),
+            _ => false,
+        };
+        match own {
+            true => Some(self),
+            false => self.children().into_iter().find_map(Expr::without_room),
+        }
+    }
+}
+
+/// Whether a value has a text that a sheet has no room for.
+fn has_wrong(value: &Value) -> bool {
+    let wrong = |text: &String| has_room(text).is_err();
+    match value {
+        Value::Bool(_) | Value::Long(_) => false,
+        Value::Text(text) => wrong(text),
+        Value::Entity(uid) => wrong(&uid.kind) || wrong(&uid.id),
+        Value::Set(elements) => elements.iter().any(has_wrong),
+        Value::Record(fields) => fields.iter().any(|(name, field)| wrong(name) || has_wrong(field)),
     }
 }
 
@@ -137,6 +193,8 @@ fn other(word: &str, body: &At) -> Result<Kind, Error> {
             parts.end()?;
             Ok(kind)
         }
+        // What Cedar turns an error residual into.
+        "error" if body.list().is_ok_and(|arguments| arguments.is_empty()) => Ok(Kind::Err),
         "Unknown" | "unknown" => Err(Error::Type {
             at: body.place.clone(),
             what: "unknowns stand in the request and the entities, not in a policy".into(),
@@ -154,7 +212,7 @@ fn named(word: &str, parts: &mut Fields) -> Result<Kind, Error> {
     let left = Box::new(operand(parts, "left")?);
     match word {
         "." => Ok(Kind::Get(left, parts.need("attr")?.text()?.into())),
-        "has" => Ok(Kind::Has(left, path(&parts.need("attr")?)?)),
+        "has" => has(left, &parts.need("attr")?),
         "like" => Ok(Kind::Like(left, pattern(&parts.need("pattern")?)?)),
         _ => {
             let kind = parts.need("entity_type")?.text()?.into();
@@ -165,11 +223,11 @@ fn named(word: &str, parts: &mut Fields) -> Result<Kind, Error> {
 }
 
 /// One attribute, or a list of attributes, each of the one before.
-fn path(at: &At) -> Result<Vec<String>, Error> {
-    let Ok(items) = at.list() else { return Ok(vec![at.text()?.into()]) };
+fn has(left: Box<Expr>, at: &At) -> Result<Kind, Error> {
+    let Ok(items) = at.list() else { return Ok(Kind::Has(left, at.text()?.into())) };
     match items.is_empty() {
         true => Err(at.wanted("an attribute")),
-        false => items.iter().map(|item| Ok(item.text()?.into())).collect(),
+        false => Ok(Kind::HasPath(left, items.iter().map(|item| Ok(item.text()?.into())).collect::<Result<_, Error>>()?)),
     }
 }
 

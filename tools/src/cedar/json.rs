@@ -2,11 +2,19 @@
 
 use super::error::{Error, Place};
 use serde::de::{DeserializeSeed, Deserializer, Error as _, MapAccess, SeqAccess, Visitor};
+use serde::ser::{Error as _, Serialize, Serializer};
 use std::collections::HashSet;
 use std::fmt;
 use std::marker::PhantomData;
 
-/// A JSON value.
+/// A JSON value. Its `Display` is JSON without spaces.
+///
+/// ```
+/// use openrules_tools::cedar::Json;
+///
+/// let uid = Json::object([("type", "Broker".into()), ("id", "b\"7\"".into())]);
+/// assert_eq!(uid.to_string(), r#"{"type":"Broker","id":"b\"7\""}"#);
+/// ```
 #[derive(Clone, Debug, PartialEq)]
 pub enum Json {
     /// `null`.
@@ -23,6 +31,45 @@ pub enum Json {
     List(Vec<Json>),
     /// An object, in the file's order.
     Object(Vec<(String, Json)>),
+}
+
+impl Json {
+    /// An object of these fields.
+    ///
+    /// ```
+    /// use openrules_tools::cedar::Json;
+    ///
+    /// assert_eq!(Json::object([("mfa", Json::Bool(true))]).to_string(), r#"{"mfa":true}"#);
+    /// ```
+    pub fn object<const N: usize>(fields: [(&str, Json); N]) -> Json {
+        Json::Object(fields.into_iter().map(|(name, json)| (name.to_string(), json)).collect())
+    }
+}
+
+impl From<&str> for Json {
+    fn from(text: &str) -> Json {
+        Json::Text(text.into())
+    }
+}
+
+impl Serialize for Json {
+    fn serialize<S: Serializer>(&self, serializer: S) -> Result<S::Ok, S::Error> {
+        match self {
+            Json::Null => serializer.serialize_unit(),
+            Json::Bool(truth) => serializer.serialize_bool(*truth),
+            Json::Long(number) => serializer.serialize_i64(*number),
+            Json::Number => Err(S::Error::custom("a number that is no whole number of 64 bits was not kept")),
+            Json::Text(text) => serializer.serialize_str(text),
+            Json::List(items) => serializer.collect_seq(items),
+            Json::Object(fields) => serializer.collect_map(fields.iter().map(|(name, json)| (name, json))),
+        }
+    }
+}
+
+impl fmt::Display for Json {
+    fn fmt(&self, f: &mut fmt::Formatter<'_>) -> fmt::Result {
+        f.write_str(&serde_json::to_string(self).map_err(|_| fmt::Error)?)
+    }
 }
 
 /// The depth that is read: a tree of 64 operations, each two levels of JSON deep, with a value of 64 levels in it, has room.

@@ -5,7 +5,7 @@ use super::expr::{self, Expr, Kind};
 use super::json::{At, Fields};
 use super::typing::Typing;
 use super::values;
-use openrules::sheet::builder::{Builder, Fault, Uid, Value, DEPTH};
+use openrules::sheet::builder::{Builder, Fault, Tree, Uid, Value, DEPTH};
 use openrules::sheet::{Binary, Effect, Slot, Variable};
 use std::collections::hash_map::Entry;
 use std::collections::{BTreeMap, HashMap};
@@ -169,12 +169,23 @@ fn read_link(at: &At, file: &Place) -> Result<Link, Error> {
     Ok(Link { place: file.policy(&id), template, id, principal, resource })
 }
 
+impl Policy {
+    /// Writes a tree of the policy, or of a link to it, and gives its root. A text without room is named by its own place.
+    fn root(&self, tree: &Tree, at: &Place, builder: &mut Builder) -> Result<usize, Error> {
+        builder.tree(tree).map_err(|fault| {
+            let of_text = matches!(fault, Fault::LongText { .. } | Fault::Byte { .. });
+            let text = self.condition.without_room().filter(|_| of_text);
+            Error::Room { at: text.map_or(at, |expr| &expr.place).clone(), fault }
+        })
+    }
+}
+
 impl Policies {
     /// Writes the policies, in the file's order, and then the links.
     pub fn write<'a>(&'a self, typing: &dyn Fn([Option<&'a str>; 2]) -> Typing<'a>, builder: &mut Builder) -> Result<(), Error> {
         for (id, policy) in &self.policies {
             let tree = typing([None; 2]).condition(&policy.condition)?.tree;
-            let root = builder.tree(&tree).room(&policy.place)?;
+            let root = policy.root(&tree, &policy.place, builder)?;
             builder.policy(id, policy.effect, root).room(&policy.place)?;
         }
         // A template is written once for each pair of types in its slots.
@@ -188,7 +199,7 @@ impl Policies {
                 Entry::Occupied(there) => *there.get(),
                 Entry::Vacant(new) => {
                     let tree = typing.condition(&template.condition)?.tree;
-                    let root = builder.tree(&tree).room(&link.place)?;
+                    let root = template.root(&tree, &link.place, builder)?;
                     *new.insert((root, tree.has_slot(Slot::Principal), tree.has_slot(Slot::Resource)))
                 }
             };
@@ -212,7 +223,7 @@ impl Policies {
 /// A link fills the slots that its template has, with entities that the schema declares.
 fn slots_fit(link: &Link, template: &Policy, typing: &Typing) -> Result<(), Error> {
     for (slot, name, uid) in [(Slot::Principal, "?principal", &link.principal), (Slot::Resource, "?resource", &link.resource)] {
-        let there = has_slot(&template.condition, slot);
+        let there = template.condition.has_slot(slot);
         if there != uid.is_some() {
             let what = if there { "nothing is linked to the slot" } else { "the template has no slot" };
             return Err(Error::Slot { at: link.place.clone(), what: format!("{what} {name}") });
@@ -222,18 +233,4 @@ fn slots_fit(link: &Link, template: &Policy, typing: &Typing) -> Result<(), Erro
         }
     }
     Ok(())
-}
-
-/// Whether a slot stands in an expression.
-fn has_slot(expr: &Expr, slot: Slot) -> bool {
-    match &expr.kind {
-        Kind::Slot(one) => *one == slot,
-        Kind::Lit(_) | Kind::Var(_) => false,
-        Kind::Unary(_, child) | Kind::Like(child, _) | Kind::Get(child, _) | Kind::Has(child, _) => has_slot(child, slot),
-        Kind::Is(child, _, within) => has_slot(child, slot) || within.as_ref().is_some_and(|within| has_slot(within, slot)),
-        Kind::Binary(_, left, right) => has_slot(left, slot) || has_slot(right, slot),
-        Kind::If(test, yes, no) => [test, yes, no].into_iter().any(|part| has_slot(part, slot)),
-        Kind::Set(children) => children.iter().any(|child| has_slot(child, slot)),
-        Kind::Record(fields) => fields.iter().any(|(_, field)| has_slot(field, slot)),
-    }
 }

@@ -103,6 +103,7 @@ struct Reader<'a> {
     common: BTreeMap<String, (&'a str, At<'a>)>,
     entities: BTreeMap<String, (&'a str, At<'a>)>,
     actions: Vec<(Uid, &'a str, At<'a>)>,
+    action_types: BTreeSet<String>,
     made: usize,
     open: Vec<String>,
     file: Place,
@@ -114,6 +115,7 @@ pub fn read(at: &At) -> Result<Schema, Error> {
         common: BTreeMap::new(),
         entities: BTreeMap::new(),
         actions: vec![],
+        action_types: BTreeSet::new(),
         made: 0,
         open: vec![],
         file: at.place.clone(),
@@ -127,7 +129,9 @@ pub fn read(at: &At) -> Result<Schema, Error> {
             reader.entities.insert(qualified(namespace, name), (namespace, entity));
         }
         for (name, action) in members(&mut fields, "actions")? {
-            reader.actions.push((Uid::new(&qualified(namespace, "Action"), name), namespace, action));
+            let kind = qualified(namespace, "Action");
+            reader.actions.push((Uid::new(&kind, name), namespace, action));
+            reader.action_types.insert(kind);
         }
         fields.take("annotations");
         fields.end()?;
@@ -207,12 +211,19 @@ impl<'a> Reader<'a> {
 
     /// The full name of an entity type: of the namespace, else of the one without a name.
     fn entity_name(&self, namespace: &str, name: &str, at: &Place) -> Result<String, Error> {
+        self.name_among(namespace, name, at, |name| self.entities.contains_key(name))
+    }
+
+    /// The type of an entity, which may be an action.
+    fn entity_reference(&self, namespace: &str, name: &str, at: &Place) -> Result<Type, Error> {
+        let there = |name: &str| self.entities.contains_key(name) || self.action_types.contains(name);
+        Ok(Type::Entity(vec![self.name_among(namespace, name, at, there)?]))
+    }
+
+    fn name_among(&self, namespace: &str, name: &str, at: &Place, there: impl Fn(&str) -> bool) -> Result<String, Error> {
         let full = qualified(namespace, name);
-        let found = [full.as_str(), name].into_iter().find(|name| self.entities.contains_key(*name));
-        match found.map(str::to_string) {
-            Some(found) => Ok(found),
-            None => Err(Error::Undeclared { at: at.clone(), what: format!("the entity type {full:?}") }),
-        }
+        let found = [full.as_str(), name].into_iter().find(|name| there(name)).map(str::to_string);
+        found.ok_or_else(|| Error::Undeclared { at: at.clone(), what: format!("the entity type {full:?}") })
     }
 
     fn record_type(&mut self, namespace: &str, at: &At<'a>) -> Result<Type, Error> {
@@ -247,7 +258,7 @@ impl<'a> Reader<'a> {
             "Record" => self.attributes(namespace, &mut fields, steps)?,
             "Entity" => {
                 let name = fields.need("name")?;
-                Type::Entity(vec![self.entity_name(namespace, name.text()?, &name.place)?])
+                self.entity_reference(namespace, name.text()?, &name.place)?
             }
             "Extension" => return Err(Error::Extension { at, name: fields.need("name")?.text()?.into() }),
             "EntityOrCommon" => self.named(namespace, &fields.need("name")?, steps)?,
@@ -293,10 +304,9 @@ impl<'a> Reader<'a> {
             "String" | "__cedar::String" => Ok(Type::String),
             "ipaddr" | "decimal" | "datetime" | "duration" => Err(Error::Extension { at: at.place.clone(), name: name.into() }),
             _ if name.starts_with("__cedar::") => Err(Error::Extension { at: at.place.clone(), name: name.into() }),
-            _ => match self.entity_name(namespace, name, &at.place) {
-                Ok(entity) => Ok(Type::Entity(vec![entity])),
-                Err(_) => Err(Error::Undeclared { at: at.place.clone(), what: format!("the type {name:?}") }),
-            },
+            _ => self
+                .entity_reference(namespace, name, &at.place)
+                .map_err(|_| Error::Undeclared { at: at.place.clone(), what: format!("the type {name:?}") }),
         }
     }
 }

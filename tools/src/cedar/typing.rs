@@ -1,11 +1,12 @@
-//! The types of expressions, for one request: each node of a sheet has its type.
+//! The types of expressions, for one request: each node of a sheet has its type, which JSON does not hold.
 //!
-//! The rules are the sheet's, and where a part of a condition never runs for the request's types, Cedar's: the right side of an `&&` whose left is false by
-//! its types alone, of an `||` whose left is true, and the branch that such a test rules out are left away, so that they need not fit the types.
+//! The rules are the sheet's. Where a part of a condition never runs for the request's types, it need not fit them, as in Cedar: the right side of an `&&` whose
+//! left is false by its types alone, of an `||` whose left is true, and the branch that such a test rules out are left away if they have no type.
 
 use super::error::{Error, Place, Room};
 use super::expr::{Expr, Kind};
 use super::schema::Schema;
+use super::types::{any, common, entity, join, kinds_in, mistyped, optional, set_of, settled, wants_set, with_attribute};
 use openrules::sheet::builder::{Fault, Field, Operation, Tree, Type, Uid, Value, NODES};
 use openrules::sheet::{Binary, Slot, Unary, Variable};
 use std::cell::Cell;
@@ -25,6 +26,8 @@ pub struct Typing<'a> {
     pub context: &'a Type,
     /// The types of what stands in `?principal` and `?resource`.
     pub slots: [Option<&'a str>; 2],
+    /// Whether all that never runs is left away.
+    pub short: bool,
     /// The steps taken for this policy.
     pub steps: Cell<usize>,
 }
@@ -33,6 +36,7 @@ pub struct Typing<'a> {
 const STEPS: usize = 100_000;
 
 /// A tree, and the truth value that its types alone give it.
+#[derive(Clone, Debug)]
 pub struct Typed {
     /// The tree.
     pub tree: Tree,
@@ -48,49 +52,6 @@ impl Typed {
     fn truth(truth: Option<bool>, operation: Operation) -> Typed {
         Typed { tree: Tree { ty: Type::Bool, operation }, truth }
     }
-}
-
-fn mistyped(at: &Place, what: String) -> Error {
-    Error::Type { at: at.clone(), what }
-}
-
-fn entity(kind: &str) -> Type {
-    Type::Entity(vec![kind.into()])
-}
-
-fn set_of(element: Type) -> Type {
-    Type::Set(Box::new(element))
-}
-
-/// The kinds of an entity, or of the entities of a set.
-fn kinds_in(ty: &Type) -> Option<&[String]> {
-    match ty {
-        Type::Entity(kinds) => Some(kinds),
-        Type::Set(element) => match &**element {
-            Type::Entity(kinds) => Some(kinds),
-            _ => None,
-        },
-        _ => None,
-    }
-}
-
-/// The one type of several: the same, or a group of entity types.
-fn common(types: Vec<Type>, at: &Place) -> Result<Option<Type>, Error> {
-    let mut types = types.into_iter();
-    let Some(mut one) = types.next() else { return Ok(None) };
-    for ty in types {
-        one = match (one, ty) {
-            (one, ty) if one == ty => one,
-            (Type::Entity(mut kinds), Type::Entity(more)) => {
-                kinds.extend(more);
-                kinds.sort();
-                kinds.dedup();
-                Type::Entity(kinds)
-            }
-            (one, ty) => return Err(mistyped(at, format!("elements of the types {one} and {ty} in one set"))),
-        };
-    }
-    Ok(Some(one))
 }
 
 impl Typing<'_> {
@@ -113,45 +74,80 @@ impl Typing<'_> {
         let at = &expr.place;
         self.step(at)?;
         match &expr.kind {
-            Kind::Lit(value) => self.literal(value, at),
+            Kind::Lit(value) => {
+                Ok(Typed { tree: Tree::lit(self.type_of(value, at)?, value.clone()), truth: literal_truth(value) })
+            }
+            Kind::Err => Ok(Typed::of(any(), Operation::Err)),
             Kind::Var(variable) => Ok(Typed::of(self.variable(*variable), Operation::Var(*variable))),
             Kind::Slot(slot) => self.slot(*slot, at),
             Kind::Unary(word, child) => self.unary(*word, child),
             Kind::Binary(Binary::And, left, right) => self.both(Binary::And, left, right),
             Kind::Binary(Binary::Or, left, right) => self.both(Binary::Or, left, right),
             Kind::Binary(word, left, right) => self.binary(*word, left, right, at),
-            Kind::If(test, yes, no) => self.choice(test, yes, no, None, at),
+            Kind::If(test, yes, no) => self.choice([test, yes, no], None, at),
             Kind::Is(child, kind, within) => self.is(child, kind, within.as_deref(), at),
             Kind::Like(child, pattern) => {
                 let child = self.check(child, &Type::String)?;
                 Ok(Typed::truth(None, Operation::Like(Box::new(child.tree), pattern.clone())))
             }
-            Kind::Get(child, name) => {
-                let child = self.infer(child)?;
-                let ty = self.attribute(&child.tree.ty, name, at)?.ok_or_else(|| Error::Undeclared {
-                    at: at.clone(),
-                    what: format!("the attribute {name:?} of {}", child.tree.ty),
-                })?;
-                Ok(Typed::of(ty.ty, Operation::Get(Box::new(child.tree), name.clone())))
+            Kind::Get(child, name) => self.get(child, name, &any(), at),
+            Kind::Has(child, name) => {
+                let (child, truth) = self.has(child, std::slice::from_ref(name), at)?;
+                Ok(Typed::truth(truth, Operation::Has(Box::new(child), name.clone())))
             }
-            Kind::Has(child, path) => self.has(child, path, at),
+            Kind::HasPath(child, path) => {
+                let (child, truth) = self.has(child, path, at)?;
+                Ok(Typed::truth(truth, Operation::HasPath(Box::new(child), path.clone())))
+            }
             Kind::Set(children) => {
                 let trees = children.iter().map(|child| Ok(self.infer(child)?.tree)).collect::<Result<Vec<_>, Error>>()?;
-                let element = common(trees.iter().map(|tree| tree.ty.clone()).collect(), at)?.ok_or_else(|| empty(at))?;
+                let element = common(trees.iter().map(|tree| tree.ty.clone()).collect(), at)?;
                 match trees.iter().all(|tree| tree.ty == element) {
                     true => Ok(Typed::of(set_of(element), Operation::Set(trees))),
                     false => self.check(expr, &set_of(element)),
                 }
             }
-            Kind::Record(fields) => {
-                let (mut types, mut trees) = (BTreeMap::new(), BTreeMap::new());
-                for (name, field) in fields {
-                    let tree = self.infer(field)?.tree;
-                    types.insert(name.clone(), Field { required: true, ty: tree.ty.clone() });
-                    trees.insert(name.clone(), tree);
-                }
-                Ok(Typed::of(Type::Record(types), Operation::Record(trees)))
-            }
+            Kind::Record(fields) => self.record(fields),
+        }
+    }
+
+    /// A record whose attributes have the types that they have by themselves.
+    fn record(&self, fields: &[(String, Expr)]) -> Result<Typed, Error> {
+        let (mut types, mut trees) = (BTreeMap::new(), BTreeMap::new());
+        for (name, field) in fields {
+            let tree = self.infer(field)?.tree;
+            types.insert(name.clone(), Field { required: true, ty: tree.ty.clone() });
+            trees.insert(name.clone(), tree);
+        }
+        Ok(Typed::of(Type::Record(types), Operation::Record(trees)))
+    }
+
+    /// The tree of an entity or a record. An error stands for an entity of the principal's kind.
+    fn holder(&self, expr: &Expr) -> Result<Tree, Error> {
+        let typed = self.infer(expr)?;
+        self.held(expr, typed)
+    }
+
+    fn held(&self, expr: &Expr, typed: Typed) -> Result<Tree, Error> {
+        let other = |ty: &Type| if *ty == any() { entity(self.principal) } else { settled(ty) };
+        Ok(self.retyped(expr, typed, other)?.tree)
+    }
+
+    /// A tree, or the one that the expression has with another type.
+    fn retyped(&self, expr: &Expr, typed: Typed, other: impl Fn(&Type) -> Type) -> Result<Typed, Error> {
+        let wanted = other(&typed.tree.ty);
+        match typed.tree.ty == wanted {
+            true => Ok(typed),
+            false => self.check(expr, &wanted),
+        }
+    }
+
+    /// The tree of an entity, and its kinds.
+    fn entity_operand(&self, expr: &Expr) -> Result<(Tree, Vec<String>), Error> {
+        let tree = self.holder(expr)?;
+        match tree.ty.clone() {
+            Type::Entity(kinds) => Ok((tree, kinds)),
+            ty => Err(mistyped(&expr.place, format!("an entity is wanted here, and this is {ty}"))),
         }
     }
 
@@ -161,18 +157,20 @@ impl Typing<'_> {
         self.step(at)?;
         match (&expr.kind, wanted) {
             (Kind::Lit(value), _) => {
-                let truth = self.literal_truth(value);
+                let truth = literal_truth(value);
                 match self.fits(value, wanted, at)? {
                     true => Ok(Typed { tree: Tree::lit(wanted.clone(), value.clone()), truth }),
                     false => Err(mistyped(at, format!("a value of type {wanted} is wanted here"))),
                 }
             }
+            (Kind::Err, _) => Ok(Typed::of(wanted.clone(), Operation::Err)),
             (Kind::Set(children), Type::Set(element)) => {
                 let children = children.iter().map(|child| Ok(self.check(child, element)?.tree)).collect::<Result<_, Error>>()?;
                 Ok(Typed::of(wanted.clone(), Operation::Set(children)))
             }
             (Kind::Record(fields), Type::Record(declared)) => self.check_record(fields, declared, wanted, at),
-            (Kind::If(test, yes, no), _) => self.choice(test, yes, no, Some(wanted), at),
+            (Kind::Get(child, name), _) if child.is_made() => self.get(child, name, wanted, at),
+            (Kind::If(test, yes, no), _) => self.choice([test, yes, no], Some(wanted), at),
             _ => {
                 let typed = self.infer(expr)?;
                 match typed.tree.ty == *wanted {
@@ -203,21 +201,9 @@ impl Typing<'_> {
         }
     }
 
-    fn literal_truth(&self, value: &Value) -> Option<bool> {
-        match value {
-            Value::Bool(truth) => Some(*truth),
-            _ => None,
-        }
-    }
-
-    fn literal(&self, value: &Value, at: &Place) -> Result<Typed, Error> {
-        let ty = self.type_of(value, at)?.ok_or_else(|| empty(at))?;
-        Ok(Typed { tree: Tree::lit(ty, value.clone()), truth: self.literal_truth(value) })
-    }
-
-    /// The type that a value has by itself; none of an empty set.
-    fn type_of(&self, value: &Value, at: &Place) -> Result<Option<Type>, Error> {
-        Ok(Some(match value {
+    /// The type that a value has by itself.
+    fn type_of(&self, value: &Value, at: &Place) -> Result<Type, Error> {
+        Ok(match value {
             Value::Bool(_) => Type::Bool,
             Value::Long(_) => Type::Long,
             Value::Text(_) => Type::String,
@@ -226,21 +212,14 @@ impl Typing<'_> {
                 entity(&uid.kind)
             }
             Value::Set(elements) => {
-                let types = elements.iter().map(|one| self.type_of(one, at)).collect::<Result<Vec<_>, _>>()?;
-                match common(types.into_iter().flatten().collect(), at)? {
-                    Some(element) => set_of(element),
-                    None => return Ok(None),
-                }
+                set_of(common(elements.iter().map(|one| self.type_of(one, at)).collect::<Result<_, _>>()?, at)?)
             }
             Value::Record(fields) => {
-                let mut types = BTreeMap::new();
-                for (name, field) in fields {
-                    let ty = self.type_of(field, at)?.ok_or_else(|| empty(at))?;
-                    types.insert(name.clone(), Field { required: true, ty });
-                }
-                Type::Record(types)
+                let field =
+                    |(name, field): (&String, &Value)| Ok((name.clone(), Field { required: true, ty: self.type_of(field, at)? }));
+                Type::Record(fields.iter().map(field).collect::<Result<_, Error>>()?)
             }
-        }))
+        })
     }
 
     /// Whether a value is of a type.
@@ -289,138 +268,142 @@ impl Typing<'_> {
         let (child, ty) = match word {
             Unary::Not => (self.check(child, &Type::Bool)?, Type::Bool),
             Unary::Neg => (self.check(child, &Type::Long)?, Type::Long),
-            Unary::Empty => {
-                let place = &child.place;
-                let child = self.infer(child)?;
-                if !matches!(child.tree.ty, Type::Set(_)) {
-                    return Err(mistyped(place, format!("a set is wanted here, and this is {}", child.tree.ty)));
-                }
-                (child, Type::Bool)
-            }
+            Unary::Empty => (self.set_operand(child)?, Type::Bool),
         };
         let truth = if word == Unary::Not { child.truth.map(|truth| !truth) } else { None };
         Ok(Typed { tree: Tree::unary(word, ty, child.tree), truth })
     }
 
-    /// `&&` or `||`: a left side that settles it by its types stands alone.
+    fn set_operand(&self, expr: &Expr) -> Result<Typed, Error> {
+        let typed = self.infer(expr)?;
+        let ty = join(typed.tree.ty.clone(), set_of(any())).ok_or_else(|| wants_set(&expr.place, &typed.tree.ty))?;
+        self.retyped(expr, typed, |_| settled(&ty))
+    }
+
+    /// `&&` or `||`: where the left side settles it by its types, a right side without a type is left away.
     fn both(&self, word: Binary, left: &Expr, right: &Expr) -> Result<Typed, Error> {
-        let settles = word == Binary::Or;
+        let settles = Some(word == Binary::Or);
         let left = self.check(left, &Type::Bool)?;
-        if left.truth == Some(settles) {
+        let never = left.truth == settles;
+        if never && self.short {
             return Ok(left);
         }
-        let right = self.check(right, &Type::Bool)?;
+        let right = match self.check(right, &Type::Bool) {
+            Err(_) if never => return Ok(left),
+            right => right?,
+        };
         let truth = match (left.truth, right.truth) {
-            (_, Some(truth)) if truth == settles => Some(settles),
-            (left, Some(_)) => left,
-            (Some(_), right) => right,
-            (None, None) => None,
+            (one, other) if one == settles || other == settles => settles,
+            (Some(_), Some(_)) => left.truth,
+            _ => None,
         };
         Ok(Typed { tree: Tree::binary(word, Type::Bool, left.tree, right.tree), truth })
     }
 
-    /// `if`: both branches have one type. A branch that the test's types rule out stands for the other, as in Cedar.
-    fn choice(&self, test: &Expr, yes: &Expr, no: &Expr, wanted: Option<&Type>, at: &Place) -> Result<Typed, Error> {
+    /// `if`: both branches have one type. A branch that the test's types rule out, and that has no type, stands for the other.
+    fn choice(&self, parts: [&Expr; 3], wanted: Option<&Type>, at: &Place) -> Result<Typed, Error> {
+        let [test, yes, no] = parts;
         let test = self.check(test, &Type::Bool)?;
-        let branch = |expr: &Expr| wanted.map_or_else(|| self.infer(expr), |wanted| self.check(expr, wanted));
-        if let Some(truth) = test.truth {
-            let taken = branch(if truth { yes } else { no })?;
-            let copy = copied(&taken.tree, at)?;
-            let ty = copy.ty.clone();
-            let parts = Box::new([test.tree, taken.tree, copy]);
-            return Ok(Typed { tree: Tree { ty, operation: Operation::If(parts) }, truth: taken.truth });
+        let Some(truth) = test.truth else { return self.branches(test, yes, no, wanted, at) };
+        let both = if self.short { None } else { self.branches(test.clone(), yes, no, wanted, at).ok() };
+        if let Some(both) = both {
+            return Ok(both);
         }
-        let (yes, no) = match wanted {
-            Some(_) => (branch(yes)?, branch(no)?),
-            None => self.alike(yes, no, at)?,
+        let branch = if truth { yes } else { no };
+        let taken = wanted.map_or_else(|| self.infer(branch), |wanted| self.check(branch, wanted))?;
+        let parts = [test.tree, taken.tree.clone(), copied(&taken.tree, at)?];
+        Ok(Typed { tree: Tree { ty: taken.tree.ty, operation: Operation::If(Box::new(parts)) }, truth: taken.truth })
+    }
+
+    fn branches(&self, test: Typed, yes: &Expr, no: &Expr, wanted: Option<&Type>, at: &Place) -> Result<Typed, Error> {
+        let (ty, [yes, no]) = match wanted {
+            Some(wanted) => (wanted.clone(), [self.check(yes, wanted)?, self.check(no, wanted)?]),
+            None => self.alike([yes, no], Some, |one, two| mistyped(at, format!("branches of the types {one} and {two}")))?,
         };
-        let truth = if yes.truth == no.truth { yes.truth } else { None };
-        let ty = yes.tree.ty.clone();
-        Ok(Typed { tree: Tree { ty, operation: Operation::If(Box::new([test.tree, yes.tree, no.tree])) }, truth })
+        let truth = match test.truth {
+            Some(truth) => [no.truth, yes.truth][usize::from(truth)],
+            None => yes.truth.filter(|_| yes.truth == no.truth),
+        };
+        let parts = [test.tree, yes.tree, no.tree];
+        Ok(Typed { tree: Tree { ty, operation: Operation::If(Box::new(parts)) }, truth })
     }
 
-    /// Two expressions of one type, which either may give to the other.
-    fn alike(&self, left: &Expr, right: &Expr, at: &Place) -> Result<(Typed, Typed), Error> {
-        if left.is_made() && !right.is_made() {
-            let right = self.infer(right)?;
-            return Ok((self.check(left, &right.tree.ty)?, right));
-        }
-        match self.infer(left) {
-            Ok(first) => match self.check(right, &first.tree.ty) {
-                Ok(second) => Ok((first, second)),
-                Err(error) if !right.is_made() || !left.is_made() => Err(error),
-                Err(_) => self.second_gives(left, right),
-            },
-            Err(error) if !left.is_made() => Err(error),
-            Err(_) if right.is_made() => self.second_gives(left, right),
-            Err(_) => Err(empty(at)),
-        }
-    }
-
-    fn second_gives(&self, left: &Expr, right: &Expr) -> Result<(Typed, Typed), Error> {
-        let right = self.infer(right)?;
-        Ok((self.check(left, &right.tree.ty)?, right))
+    /// Two expressions with the one type of both, as `of` takes it; `unlike` says that there is none.
+    fn alike(
+        &self,
+        both: [&Expr; 2],
+        of: impl Fn(Type) -> Option<Type>,
+        unlike: impl Fn(&Type, &Type) -> Error,
+    ) -> Result<(Type, [Typed; 2]), Error> {
+        let [left, right] = both;
+        let (first, second) = (self.infer(left)?, self.infer(right)?);
+        let joined = join(first.tree.ty.clone(), second.tree.ty.clone()).and_then(of);
+        let ty = joined.ok_or_else(|| unlike(&first.tree.ty, &second.tree.ty))?;
+        let first = self.retyped(left, first, |_| ty.clone())?;
+        Ok((ty.clone(), [first, self.retyped(right, second, |_| ty.clone())?]))
     }
 
     fn binary(&self, word: Binary, left: &Expr, right: &Expr, at: &Place) -> Result<Typed, Error> {
-        let (left, right, ty, truth) = match word {
-            Binary::Lt | Binary::Le => (self.check(left, &Type::Long)?, self.check(right, &Type::Long)?, Type::Bool, None),
-            Binary::Add | Binary::Sub | Binary::Mul => {
-                (self.check(left, &Type::Long)?, self.check(right, &Type::Long)?, Type::Long, None)
-            }
-            Binary::All | Binary::Any => {
-                let (first, second) = self.alike(left, right, at)?;
-                if !matches!(first.tree.ty, Type::Set(_)) {
-                    return Err(mistyped(&left.place, format!("a set is wanted here, and this is {}", first.tree.ty)));
-                }
-                (first, second, Type::Bool, None)
-            }
-            Binary::Contains => {
-                let (set, element) = self.contains(left, right)?;
-                (set, element, Type::Bool, None)
-            }
+        let longs = || Ok::<_, Error>([self.check(left, &Type::Long)?, self.check(right, &Type::Long)?]);
+        let ([left, right], ty) = match word {
+            Binary::Lt | Binary::Le => (longs()?, Type::Bool),
+            Binary::Add | Binary::Sub | Binary::Mul => (longs()?, Type::Long),
+            Binary::All | Binary::Any => (self.sets(left, right)?, Type::Bool),
+            Binary::Contains => (self.contains(left, right)?, Type::Bool),
             Binary::In => return self.within(left, right),
             Binary::GetTag | Binary::HasTag => return self.tag(word, left, right),
             Binary::Eq | Binary::And | Binary::Or => return self.equal(left, right, at),
         };
-        Ok(Typed { tree: Tree::binary(word, ty, left.tree, right.tree), truth })
+        Ok(Typed { tree: Tree::binary(word, ty, left.tree, right.tree), truth: None })
     }
 
-    fn contains(&self, set: &Expr, element: &Expr) -> Result<(Typed, Typed), Error> {
-        if set.is_made() && !element.is_made() {
-            let element = self.infer(element)?;
-            return Ok((self.check(set, &set_of(element.tree.ty.clone()))?, element));
-        }
-        let place = &set.place;
-        let set = self.infer(set)?;
-        let Type::Set(inner) = &set.tree.ty else {
-            return Err(mistyped(place, format!("a set is wanted here, and this is {}", set.tree.ty)));
+    /// Two sets of one type.
+    fn sets(&self, left: &Expr, right: &Expr) -> Result<[Typed; 2], Error> {
+        let set = |ty| join(ty, set_of(any())).map(|ty| settled(&ty));
+        let unlike = |one: &Type, two: &Type| match join(one.clone(), set_of(any())) {
+            Some(one) => mistyped(&right.place, format!("{one} is wanted here, and this is {two}")),
+            None => wants_set(&left.place, one),
         };
-        let element = self.check(element, inner)?;
-        Ok((set, element))
+        Ok(self.alike([left, right], set, unlike)?.1)
+    }
+
+    /// A set, and what may be an element of it.
+    fn contains(&self, set: &Expr, element: &Expr) -> Result<[Typed; 2], Error> {
+        let (first, second) = (self.infer(set)?, self.infer(element)?);
+        if join(first.tree.ty.clone(), set_of(any())).is_none() {
+            return Err(wants_set(&set.place, &first.tree.ty));
+        }
+        let Some(Type::Set(inner)) = join(first.tree.ty.clone(), set_of(second.tree.ty.clone())) else {
+            let what = format!("{} holds no {}", first.tree.ty, second.tree.ty);
+            return Err(mistyped(&element.place, what));
+        };
+        let inner = settled(&inner);
+        Ok([self.retyped(set, first, |_| set_of(inner.clone()))?, self.retyped(element, second, |_| inner.clone())?])
     }
 
     /// `==`: two entities, or one type twice.
     fn equal(&self, left: &Expr, right: &Expr, at: &Place) -> Result<Typed, Error> {
-        let entities = |typed: &Typed| matches!(typed.tree.ty, Type::Entity(_));
-        let both = match (left.is_made(), right.is_made()) {
-            (false, false) => {
-                let (first, second) = (self.infer(left)?, self.infer(right)?);
-                if first.tree.ty != second.tree.ty && !(entities(&first) && entities(&second)) {
-                    return Err(mistyped(at, format!("{} is compared with {}", first.tree.ty, second.tree.ty)));
-                }
-                (first, second)
+        let (first, second) = (self.infer(left)?, self.infer(right)?);
+        let (one, two) = (first.tree.ty.clone(), second.tree.ty.clone());
+        let apart = match (&one, &two) {
+            (Type::Entity(one), Type::Entity(two)) if !one.is_empty() && !two.is_empty() => {
+                Some(!one.iter().any(|kind| two.contains(kind)))
             }
-            _ => self.alike(left, right, at)?,
+            _ => None,
+        };
+        let [first, second] = match apart {
+            Some(_) => [first, second],
+            None => {
+                let unlike = || mistyped(at, format!("{one} is compared with {two}"));
+                let ty = settled(&join(one.clone(), two.clone()).ok_or_else(unlike)?);
+                [self.retyped(left, first, |_| ty.clone())?, self.retyped(right, second, |_| ty.clone())?]
+            }
         };
         let truth = match (self.known(left), self.known(right)) {
-            (Some(first), Some(second)) => Some(first == second),
-            _ => match (&both.0.tree.ty, &both.1.tree.ty) {
-                (Type::Entity(first), Type::Entity(second)) if !first.iter().any(|kind| second.contains(kind)) => Some(false),
-                _ => None,
-            },
+            (Some(one), Some(two)) => Some(one == two),
+            _ => (apart == Some(true)).then_some(false),
         };
-        Ok(Typed { tree: Tree::binary(Binary::Eq, Type::Bool, both.0.tree, both.1.tree), truth })
+        Ok(Typed { tree: Tree::binary(Binary::Eq, Type::Bool, first.tree, second.tree), truth })
     }
 
     /// What is known when the sheet is written: literals that are no sets or records, and the action.
@@ -435,15 +418,13 @@ impl Typing<'_> {
 
     /// `in`: an entity, and an entity or a set of entities.
     fn within(&self, left: &Expr, right: &Expr) -> Result<Typed, Error> {
-        let first = self.infer(left)?;
-        let Type::Entity(kinds) = &first.tree.ty else {
-            return Err(mistyped(&left.place, format!("an entity is wanted here, and this is {}", first.tree.ty)));
-        };
-        let second = match &right.kind {
-            Kind::Lit(Value::Set(elements)) if elements.is_empty() => self.check(right, &set_of(first.tree.ty.clone()))?,
-            Kind::Set(elements) if elements.is_empty() => self.check(right, &set_of(first.tree.ty.clone()))?,
-            _ => self.infer(right)?,
-        };
+        let (first, kinds) = self.entity_operand(left)?;
+        let second = self.infer(right)?;
+        let second = self.retyped(right, second, |ty| match kinds_in(ty) {
+            Some([]) if *ty == any() => first.ty.clone(),
+            Some([]) => set_of(first.ty.clone()),
+            _ => ty.clone(),
+        })?;
         let Some(groups) = kinds_in(&second.tree.ty) else {
             let what = format!("an entity or a set of entities is wanted here, and this is {}", second.tree.ty);
             return Err(mistyped(&right.place, what));
@@ -456,7 +437,7 @@ impl Typing<'_> {
             }
             _ => None,
         };
-        Ok(Typed { tree: Tree::binary(Binary::In, Type::Bool, first.tree, second.tree), truth })
+        Ok(Typed { tree: Tree::binary(Binary::In, Type::Bool, first, second.tree), truth })
     }
 
     /// The entities that an expression names, if it names all of them.
@@ -473,28 +454,20 @@ impl Typing<'_> {
     }
 
     fn tag(&self, word: Binary, left: &Expr, right: &Expr) -> Result<Typed, Error> {
-        let first = self.infer(left)?;
-        let Type::Entity(kinds) = &first.tree.ty else {
-            return Err(mistyped(&left.place, format!("an entity is wanted here, and this is {}", first.tree.ty)));
-        };
+        let (first, kinds) = self.entity_operand(left)?;
         let tags = kinds.iter().find_map(|kind| self.schema.types.get(kind)?.tags.clone());
         let none = tags.is_none() && kinds.iter().all(|kind| self.schema.types.contains_key(kind));
-        let second = self.check(right, &Type::String)?;
-        let (ty, truth) = match word {
-            Binary::HasTag => (Type::Bool, none.then_some(false)),
-            _ => match tags {
-                Some(ty) => (ty, None),
-                None => return Err(Error::Undeclared { at: left.place.clone(), what: format!("tags of {}", first.tree.ty) }),
-            },
+        let second = self.check(right, &Type::String)?.tree;
+        let (ty, truth) = match (word, tags) {
+            (Binary::HasTag, _) => (Type::Bool, none.then_some(false)),
+            (_, Some(ty)) => (ty, None),
+            _ => return Err(Error::Undeclared { at: left.place.clone(), what: format!("tags of {}", first.ty) }),
         };
-        Ok(Typed { tree: Tree::binary(word, ty, first.tree, second.tree), truth })
+        Ok(Typed { tree: Tree::binary(word, ty, first, second), truth })
     }
 
     fn is(&self, child: &Expr, kind: &str, within: Option<&Expr>, at: &Place) -> Result<Typed, Error> {
-        let typed = self.infer(child)?;
-        let Type::Entity(kinds) = &typed.tree.ty else {
-            return Err(mistyped(&child.place, format!("an entity is wanted here, and this is {}", typed.tree.ty)));
-        };
+        let (tree, kinds) = self.entity_operand(child)?;
         if !self.schema.types.contains_key(kind) && !self.schema.is_action_type(kind) {
             return Err(Error::Undeclared { at: at.clone(), what: format!("the entity type {kind:?}") });
         }
@@ -502,10 +475,14 @@ impl Typing<'_> {
             true => (kinds.len() == 1).then_some(true),
             false => Some(false),
         };
-        let first = Typed::truth(truth, Operation::Is(Box::new(copied(&typed.tree, at)?), kind.into()));
-        let Some(within) = within.filter(|_| truth != Some(false)) else { return Ok(first) };
-        let second = self.within(child, within)?;
-        let truth = if second.truth == Some(false) { second.truth } else { None };
+        let first = Typed::truth(truth, Operation::Is(Box::new(copied(&tree, at)?), kind.into()));
+        let never = truth == Some(false);
+        let Some(within) = within.filter(|_| !(never && self.short)) else { return Ok(first) };
+        let second = match self.within(child, within) {
+            Err(_) if never => return Ok(first),
+            second => second?,
+        };
+        let truth = (never || second.truth == Some(false)).then_some(false);
         Ok(Typed { tree: Tree::binary(Binary::And, Type::Bool, first.tree, second.tree), truth })
     }
 
@@ -526,10 +503,27 @@ impl Typing<'_> {
         }
     }
 
-    /// `has` of a path: what its types say goes by the first attribute that is not declared.
-    fn has(&self, child: &Expr, path: &[String], at: &Place) -> Result<Typed, Error> {
-        let child = self.infer(child)?;
-        let mut ty = child.tree.ty.clone();
+    /// An attribute.
+    fn get(&self, child: &Expr, name: &str, wanted: &Type, at: &Place) -> Result<Typed, Error> {
+        let typed = self.infer(child)?;
+        let holder = match &typed.tree.ty {
+            Type::Record(fields) if child.is_made() => {
+                let ty = with_attribute(fields.clone(), name, wanted)
+                    .ok_or_else(|| mistyped(at, format!("{wanted} is wanted here")))?;
+                self.retyped(child, typed, |_| ty.clone())?.tree
+            }
+            ty if *ty == any() => self.check(child, &Type::Record([(name.into(), optional(wanted.clone()))].into()))?.tree,
+            _ => self.held(child, typed)?,
+        };
+        let undeclared = || Error::Undeclared { at: at.clone(), what: format!("the attribute {name:?} of {}", holder.ty) };
+        let field = self.attribute(&holder.ty, name, at)?.ok_or_else(undeclared)?;
+        Ok(Typed::of(field.ty, Operation::Get(Box::new(holder), name.into())))
+    }
+
+    /// `has` of a path: its operand, and what the types say, which goes by the first attribute that is not declared.
+    fn has(&self, child: &Expr, path: &[String], at: &Place) -> Result<(Tree, Option<bool>), Error> {
+        let child = self.holder(child)?;
+        let mut ty = child.ty.clone();
         let mut truth = Some(true);
         for name in path {
             let field = self.attribute(&ty, name, at)?;
@@ -544,17 +538,15 @@ impl Typing<'_> {
                 None => break,
             }
         }
-        let child = Box::new(child.tree);
-        let operation = match path {
-            [name] => Operation::Has(child, name.clone()),
-            _ => Operation::HasPath(child, path.to_vec()),
-        };
-        Ok(Typed::truth(truth, operation))
+        Ok((child, truth))
     }
 }
 
-fn empty(at: &Place) -> Error {
-    mistyped(at, "the type of an empty set is not to be seen from here".into())
+fn literal_truth(value: &Value) -> Option<bool> {
+    match value {
+        Value::Bool(truth) => Some(*truth),
+        _ => None,
+    }
 }
 
 /// A copy of a tree, unless it has more nodes than a sheet has room for.

@@ -4,7 +4,7 @@
 use openrules::sheet::{Day, Mode, Sheet};
 use openrules::Evaluator;
 use openrules_tools::cedar::error::Error;
-use openrules_tools::cedar::{sheet, File, Files};
+use openrules_tools::cedar::{sheet, File, Files, Options};
 use serde_json::{json, Value as Json};
 
 pub const DAY: Day = Day { year: 2026, month: 6, day: 30 };
@@ -39,9 +39,13 @@ pub fn schema() -> Json {
 
 /// A sheet from the text of four files.
 pub fn from_text(texts: [&[u8]; 4], mode: Mode, before: Option<&Sheet>) -> Result<Sheet, Error> {
+    with_options(texts, Options { mode, day: DAY, short: false, after: before })
+}
+
+fn with_options(texts: [&[u8]; 4], options: Options) -> Result<Sheet, Error> {
     let names = ["schema.json", "policies.json", "entities.json", "request.json"];
     let file = |place: usize| File { name: names[place], bytes: texts[place] };
-    sheet(&Files { schema: file(0), policies: file(1), entities: file(2), request: file(3) }, mode, DAY, before)
+    sheet(&Files { schema: file(0), policies: file(1), entities: file(2), request: file(3) }, &options)
 }
 
 fn from_json(parts: [&Json; 4], mode: Mode, before: Option<&Sheet>) -> Result<Sheet, Error> {
@@ -61,6 +65,13 @@ pub fn complete_after(
     before: Option<&Sheet>,
 ) -> Result<Sheet, Error> {
     from_json([schema, policies, entities, request], Mode::Complete, before)
+}
+
+/// A complete sheet without what never runs.
+pub fn short(schema: &Json, policies: &Json, entities: &Json, request: &Json) -> Result<Sheet, Error> {
+    let texts = [schema, policies, entities, request].map(Json::to_string);
+    let options = Options { mode: Mode::Complete, day: DAY, short: true, after: None };
+    with_options([0, 1, 2, 3].map(|place| texts[place].as_bytes()), options)
 }
 
 pub fn partial(schema: &Json, policies: &Json, entities: &Json, request: &Json) -> Result<Sheet, Error> {
