@@ -1,6 +1,6 @@
 #!/usr/bin/env bash
-# The tests of tools/. JSON and options are read by serde_json and clap: from Debian's packages where they are there or can be installed, which cargo is
-# handed as a folder; else from cargo's usual registry.
+# Runs cargo in tools/: `scripts/tools.sh test`, `scripts/tools.sh build --release`. JSON and options are read by serde_json and clap: from Debian's
+# packages where they are there or can be installed, which cargo is handed as a folder; else from cargo's usual registry. Ends with 3 where neither is there.
 set -euo pipefail
 cd "$(dirname "$0")/../tools"
 registry=/usr/share/cargo/registry
@@ -13,5 +13,8 @@ fi
 options=()
 if there; then
     options=(--offline --config 'source.crates-io.replace-with="debian"' --config "source.debian.directory=\"$registry\"")
+elif ! cargo fetch --quiet 2>/dev/null; then
+    echo "serde_json and clap are not there: nothing was done with the tools"
+    exit 3
 fi
 cargo "${1:-test}" "${options[@]}" "${@:2}"
