@@ -35,6 +35,21 @@
 //! }
 //! ```
 //!
+//! [`Evaluator::answer`] gives the same as data, an [`Answer`], with what is left of each policy as a tree that prints itself in Cedar's syntax:
+//!
+//! ```
+//! let mut evaluator = openrules::Evaluator::new();
+//! let answer = evaluator.answer(include_bytes!("../../examples/bands-overlap.sheet"))?;
+//! assert_eq!(answer.decision, openrules::Decision::Allow);
+//! assert_eq!(answer.why.as_deref(), Some("low band"));
+//! let left = answer.policies[1].residual.as_ref().map(|tree| tree.to_string());
+//! assert_eq!(left.as_deref(), Some("context.insured"));
+//! # Ok::<(), openrules::Error>(())
+//! ```
+//!
+//! [`sheet::Sheet`] is a sheet as data, and [`cedar`] says how trees are printed. What is proved is the library: the answer as data is taken from the bytes that it
+//! wrote, and nothing is worked out anew.
+//!
 //! A faulty sheet is refused with a number, the line of the first fault and a length:
 //!
 //! ```
@@ -59,93 +74,104 @@
 //!
 //! [`partial`], [`complete`], [`finish`], [`page`], [`preview`], [`firm`] and [`test_load`] are the calls themselves, in slices of the caller's own; they allocate nothing.
 
-use std::error::Error;
+#![deny(missing_docs)]
+
+mod answer;
+pub mod cedar;
+mod error;
+pub mod sheet;
+
 use std::fmt;
 
+pub use answer::{Answer, Class, Counts, Verdict};
+pub use error::{Error, Result};
+
+use sheet::Sheet;
+
 /// The words that each work slice must have.
+///
+/// ```
+/// let mut work = vec![0_u32; openrules::WORDS];
+/// assert_eq!(work.len(), 16384);
+/// ```
 pub const WORDS: usize = 16384;
 
 /// The bytes that a sheet may have.
+///
+/// ```
+/// let long = vec![b'x'; openrules::SHEET + 1];
+/// assert_eq!(openrules::Evaluator::new().partial(&long).result().unwrap_err().number, 2);
+/// ```
 pub const SHEET: usize = 16384;
 
 /// The rows that a call of [`firm`] may have.
+///
+/// ```
+/// use openrules::{Evaluator, Row, ROWS};
+///
+/// let mut rows = [Row::new(0, 0); ROWS + 1];
+/// assert_eq!(Evaluator::new().firm(&mut rows, b"").unwrap_err().number, 14);
+/// ```
 pub const ROWS: usize = 64;
 
-/// The bytes of an answer buffer that is long enough for every sheet: no answer is longer. An [`Evaluator`] lends so many.
+/// The bytes of an answer buffer that is long enough for every sheet: it is proved that no answer is longer (`answer-most` and `never-ten` in docs/ARCHITECTURE.md). An
+/// [`Evaluator`] lends so many, and so never meets the number 10.
+///
+/// ```
+/// use openrules::{partial, ANSWER, WORDS};
+///
+/// let (mut first, mut second, mut out) = (vec![0; WORDS], vec![0; WORDS], vec![0; ANSWER]);
+/// let sheet = include_bytes!("../../examples/bands-overlap.sheet");
+/// assert!(partial(sheet, &mut first, &mut second, &mut out).result().is_ok());
+/// ```
 pub const ANSWER: usize = 1048576;
 
 /// The bytes of a counter page: 60 lines of 72 columns, each ending in byte 10.
+///
+/// ```
+/// assert_eq!(openrules::PAGE, 60 * (72 + 1));
+/// ```
 pub const PAGE: usize = 4380;
 
 /// The policies that a test load may have.
+///
+/// ```
+/// use openrules::{test_load, POLICIES, SHEET};
+///
+/// let sheet = test_load(7, POLICIES, &mut [0; SHEET]).result().unwrap().lines().filter(|line| line.starts_with("policy=")).count();
+/// assert_eq!(sheet, 64);
+/// ```
 pub const POLICIES: u32 = 64;
 
+/// Declares C functions, each by the arguments of its own; then come the work slices and the answer buffer, each as a pointer and a length, and where line
+/// and length are written.
+macro_rules! declare {
+    ($($name:ident($($own:ident: $ty:ty),*);)*) => {
+        extern "C" {
+            $(fn $name(
+                $($own: $ty,)*
+                first: *mut u32,
+                first_len: usize,
+                second: *mut u32,
+                second_len: usize,
+                out: *mut u8,
+                out_len: usize,
+                line: *mut usize,
+                length: *mut usize,
+            ) -> u32;)*
+        }
+    };
+}
+
+declare! {
+    openrules_partial(sheet: *const u8, sheet_len: usize);
+    openrules_complete(sheet: *const u8, sheet_len: usize);
+    openrules_page(sheet: *const u8, sheet_len: usize);
+    openrules_finish(partial: *const u8, partial_len: usize, complete: *const u8, complete_len: usize);
+    openrules_preview(sheet: *const u8, sheet_len: usize, of_line: usize, replacement: *const u8, replacement_len: usize);
+}
+
 extern "C" {
-    fn openrules_partial(
-        sheet: *const u8,
-        sheet_len: usize,
-        first: *mut u32,
-        first_len: usize,
-        second: *mut u32,
-        second_len: usize,
-        out: *mut u8,
-        out_len: usize,
-        line: *mut usize,
-        length: *mut usize,
-    ) -> u32;
-    fn openrules_complete(
-        sheet: *const u8,
-        sheet_len: usize,
-        first: *mut u32,
-        first_len: usize,
-        second: *mut u32,
-        second_len: usize,
-        out: *mut u8,
-        out_len: usize,
-        line: *mut usize,
-        length: *mut usize,
-    ) -> u32;
-    fn openrules_page(
-        sheet: *const u8,
-        sheet_len: usize,
-        first: *mut u32,
-        first_len: usize,
-        second: *mut u32,
-        second_len: usize,
-        out: *mut u8,
-        out_len: usize,
-        line: *mut usize,
-        length: *mut usize,
-    ) -> u32;
-    fn openrules_finish(
-        partial: *const u8,
-        partial_len: usize,
-        complete: *const u8,
-        complete_len: usize,
-        first: *mut u32,
-        first_len: usize,
-        second: *mut u32,
-        second_len: usize,
-        out: *mut u8,
-        out_len: usize,
-        line: *mut usize,
-        length: *mut usize,
-    ) -> u32;
-    fn openrules_preview(
-        sheet: *const u8,
-        sheet_len: usize,
-        of_line: usize,
-        replacement: *const u8,
-        replacement_len: usize,
-        first: *mut u32,
-        first_len: usize,
-        second: *mut u32,
-        second_len: usize,
-        out: *mut u8,
-        out_len: usize,
-        line: *mut usize,
-        length: *mut usize,
-    ) -> u32;
     fn openrules_firm(
         rows: *mut Row,
         rows_len: usize,
@@ -212,9 +238,18 @@ impl fmt::Display for Refusal {
     }
 }
 
-impl Error for Refusal {}
+impl std::error::Error for Refusal {}
 
 /// What a call gives: the text of the answer, or a refusal.
+///
+/// ```
+/// use openrules::{Evaluator, Outcome};
+///
+/// match Evaluator::new().partial(b"") {
+///     Outcome::Answer(text) => panic!("{text}"),
+///     Outcome::Refused(refusal) => assert_eq!(refusal.to_string(), "refused=3,1,0"),
+/// }
+/// ```
 #[derive(Clone, Copy, Debug, PartialEq, Eq)]
 pub enum Outcome<'a> {
     /// The sheet is accepted, and this is its answer.
@@ -240,32 +275,45 @@ impl<'a> Outcome<'a> {
             Outcome::Refused(refusal) => Err(refusal),
         }
     }
+
+    /// The answer as data, where it was given to this sheet: by [`partial`], [`complete`] or [`preview`], or by [`finish`] with this complete sheet. A page and a test load are no
+    /// answers.
+    ///
+    /// ```
+    /// use openrules::sheet::Sheet;
+    /// use openrules::Evaluator;
+    ///
+    /// let shown = include_bytes!("../../examples/name-not-settled.sheet");
+    /// let filled = include_bytes!("../../examples/name-not-settled-insured.sheet");
+    /// let answer = Evaluator::new().finish(shown, filled).answer(&Sheet::read(filled).unwrap()).unwrap();
+    /// assert_eq!(answer.why.as_deref(), Some("high band"));
+    /// ```
+    pub fn answer(self, sheet: &Sheet) -> Result<Answer> {
+        Ok(Answer::read(sheet, self.result()?.as_bytes())?)
+    }
 }
 
-/// A C function of the library.
-type Entry =
-    unsafe extern "C" fn(*const u8, usize, *mut u32, usize, *mut u32, usize, *mut u8, usize, *mut usize, *mut usize) -> u32;
-
-/// One call of an entry in lent slices.
-fn call<'a>(entry: Entry, sheet: &[u8], first: &mut [u32], second: &mut [u32], out: &'a mut [u8]) -> Outcome<'a> {
-    let (mut line, mut length) = (0, 0);
-    // SAFETY: every pointer is that of a Rust slice with the length beside it, or of a local number; the borrows keep them
-    // apart and valid during the call. The library asks nothing else of its caller.
-    let number = unsafe {
-        entry(
-            sheet.as_ptr(),
-            sheet.len(),
-            first.as_mut_ptr(),
-            first.len(),
-            second.as_mut_ptr(),
-            second.len(),
-            out.as_mut_ptr(),
-            out.len(),
-            &mut line,
-            &mut length,
-        )
-    };
-    outcome(number, line, length, out)
+/// Calls a C function of [`declare`] with arguments of its own, in lent slices, and gives the [`Outcome`].
+macro_rules! call {
+    ($name:ident($($own:expr),*), $first:ident, $second:ident, $out:ident) => {{
+        let (mut line, mut length) = (0, 0);
+        // SAFETY: every pointer is that of a Rust slice with the length beside it, or of a local number; the borrows keep them
+        // apart and valid during the call. The library asks nothing else of its caller.
+        let number = unsafe {
+            $name(
+                $($own,)*
+                $first.as_mut_ptr(),
+                $first.len(),
+                $second.as_mut_ptr(),
+                $second.len(),
+                $out.as_mut_ptr(),
+                $out.len(),
+                &mut line,
+                &mut length,
+            )
+        };
+        outcome(number, line, length, $out)
+    }};
 }
 
 /// What a call gave, by its number, line and length and the buffer that it was lent.
@@ -290,12 +338,20 @@ fn outcome(number: u32, line: usize, length: usize, out: &[u8]) -> Outcome<'_> {
 /// assert_eq!(first, [7; WORDS]);
 /// ```
 pub fn partial<'a>(sheet: &[u8], first: &mut [u32], second: &mut [u32], out: &'a mut [u8]) -> Outcome<'a> {
-    call(openrules_partial, sheet, first, second, out)
+    call!(openrules_partial(sheet.as_ptr(), sheet.len()), first, second, out)
 }
 
 /// The answer to a complete sheet, in slices of the caller's own, as [`partial`] is for a partial one.
+///
+/// ```
+/// use openrules::{complete, Outcome, WORDS};
+///
+/// let (mut first, mut second, mut out) = ([0; WORDS], [0; WORDS], [0; 200]);
+/// let outcome = complete(include_bytes!("../../examples/bands-overlap-complete.sheet"), &mut first, &mut second, &mut out);
+/// assert_eq!(outcome, Outcome::Answer(include_str!("../../examples/bands-overlap-complete.answer")));
+/// ```
 pub fn complete<'a>(sheet: &[u8], first: &mut [u32], second: &mut [u32], out: &'a mut [u8]) -> Outcome<'a> {
-    call(openrules_complete, sheet, first, second, out)
+    call!(openrules_complete(sheet.as_ptr(), sheet.len()), first, second, out)
 }
 
 /// The counter page of a partial sheet, in slices of the caller's own, as [`partial`] has them: [`PAGE`] bytes in the answer's place.
@@ -314,7 +370,7 @@ pub fn complete<'a>(sheet: &[u8], first: &mut [u32], second: &mut [u32], out: &'
 /// assert_eq!(text, format!("{:72}\n", "decision=deny") + &format!("{:72}\n", "").repeat(59));
 /// ```
 pub fn page<'a>(sheet: &[u8], first: &mut [u32], second: &mut [u32], out: &'a mut [u8]) -> Outcome<'a> {
-    call(openrules_page, sheet, first, second, out)
+    call!(openrules_page(sheet.as_ptr(), sheet.len()), first, second, out)
 }
 
 /// The answer that what a partial sheet's run left gives on a complete sheet, in slices of the caller's own, as [`partial`] has them.
@@ -340,25 +396,7 @@ pub fn page<'a>(sheet: &[u8], first: &mut [u32], second: &mut [u32], out: &'a mu
 /// assert_eq!(outcome, Outcome::Refused(Refusal { number: 11, line: 13, length: 0 }));
 /// ```
 pub fn finish<'a>(partial: &[u8], complete: &[u8], first: &mut [u32], second: &mut [u32], out: &'a mut [u8]) -> Outcome<'a> {
-    let (mut line, mut length) = (0, 0);
-    // SAFETY: as for the other calls.
-    let number = unsafe {
-        openrules_finish(
-            partial.as_ptr(),
-            partial.len(),
-            complete.as_ptr(),
-            complete.len(),
-            first.as_mut_ptr(),
-            first.len(),
-            second.as_mut_ptr(),
-            second.len(),
-            out.as_mut_ptr(),
-            out.len(),
-            &mut line,
-            &mut length,
-        )
-    };
-    outcome(number, line, length, out)
+    call!(openrules_finish(partial.as_ptr(), partial.len(), complete.as_ptr(), complete.len()), first, second, out)
 }
 
 /// What a run on a copy of a partial sheet gives that has `replacement` in the place of line `of_line`, counted from 1, in slices of the caller's
@@ -395,26 +433,7 @@ pub fn preview<'a>(
     second: &mut [u32],
     out: &'a mut [u8],
 ) -> Outcome<'a> {
-    let (mut line, mut length) = (0, 0);
-    // SAFETY: as for the other calls.
-    let number = unsafe {
-        openrules_preview(
-            sheet.as_ptr(),
-            sheet.len(),
-            of_line,
-            replacement.as_ptr(),
-            replacement.len(),
-            first.as_mut_ptr(),
-            first.len(),
-            second.as_mut_ptr(),
-            second.len(),
-            out.as_mut_ptr(),
-            out.len(),
-            &mut line,
-            &mut length,
-        )
-    };
-    outcome(number, line, length, out)
+    call!(openrules_preview(sheet.as_ptr(), sheet.len(), of_line, replacement.as_ptr(), replacement.len()), first, second, out)
 }
 
 /// The test load that a seed and a number of policies name: a partial sheet, which [`partial`] accepts with an answer of at most [`SHEET`]
@@ -438,7 +457,11 @@ pub fn test_load(seed: u64, policies: u32, out: &mut [u8]) -> Outcome<'_> {
     outcome(number, line, length, out)
 }
 
-/// What the policies decide, for one row or for a group.
+/// What the policies decide, on a sheet, for one row or for a group.
+///
+/// ```
+/// assert_eq!(openrules::Decision::Open.to_string(), "open");
+/// ```
 #[derive(Clone, Copy, Debug, PartialEq, Eq)]
 #[repr(u32)]
 pub enum Decision {
@@ -450,7 +473,37 @@ pub enum Decision {
     Open = 2,
 }
 
+impl Decision {
+    /// The decision that a word of an answer names.
+    fn from_word(word: &str) -> Option<Decision> {
+        [Decision::Allow, Decision::Deny, Decision::Open].into_iter().find(|decision| decision.word() == word)
+    }
+
+    fn word(self) -> &'static str {
+        match self {
+            Decision::Allow => "allow",
+            Decision::Deny => "deny",
+            Decision::Open => "open",
+        }
+    }
+}
+
+impl fmt::Display for Decision {
+    fn fmt(&self, f: &mut fmt::Formatter<'_>) -> fmt::Result {
+        f.write_str(self.word())
+    }
+}
+
 /// A row of a firm: the numbers of two texts of the sheet, and the decision, which [`firm`] fills.
+///
+/// ```
+/// use openrules::{Decision, Evaluator, Row};
+///
+/// let mut rows = [Row::new(10, 4), Row::new(3, 4)];
+/// let group = Evaluator::new().firm(&mut rows, include_bytes!("../../examples/one-rule-three-brokers.sheet"));
+/// assert_eq!(rows.map(|row| row.decision), [Decision::Allow, Decision::Deny]);
+/// assert_eq!(group, Ok(Decision::Deny));
+/// ```
 #[derive(Clone, Copy, Debug, PartialEq, Eq)]
 #[repr(C)]
 pub struct Row {
@@ -464,6 +517,12 @@ pub struct Row {
 
 impl Row {
     /// A row that asks for these texts; until a call fills it, it is open.
+    ///
+    /// ```
+    /// use openrules::{Decision, Row};
+    ///
+    /// assert_eq!(Row::new(10, 4), Row { principal: 10, resource: 4, decision: Decision::Open });
+    /// ```
     pub fn new(principal: u32, resource: u32) -> Row {
         Row { principal, resource, decision: Decision::Open }
     }
@@ -515,6 +574,14 @@ pub fn firm(rows: &mut [Row], sheet: &[u8], first: &mut [u32], second: &mut [u32
 }
 
 /// The slices that calls work in, kept from call to call.
+///
+/// ```
+/// let mut evaluator = openrules::Evaluator::default();
+/// for sheet in [&include_bytes!("../../examples/bands-overlap.sheet")[..], include_bytes!("../../examples/open-forbid-alone.sheet")] {
+///     println!("{}", evaluator.answer(sheet)?);
+/// }
+/// # Ok::<(), openrules::Error>(())
+/// ```
 pub struct Evaluator {
     first: Vec<u32>,
     second: Vec<u32>,
@@ -523,36 +590,97 @@ pub struct Evaluator {
 
 impl Evaluator {
     /// Two work slices of [`WORDS`] words and an answer buffer of [`ANSWER`] bytes, so that the numbers 1 and 10 are never met.
+    ///
+    /// ```
+    /// let mut evaluator = openrules::Evaluator::new();
+    /// assert!(evaluator.partial(b"").result().is_err());
+    /// ```
     pub fn new() -> Evaluator {
         Evaluator { first: vec![0; WORDS], second: vec![0; WORDS], out: vec![0; ANSWER] }
     }
 
-    /// The answer to a partial sheet.
+    /// The answer to a sheet, as data. Where its first line is `sheet=complete` it goes to [`complete`], otherwise to [`partial`].
+    ///
+    /// ```
+    /// use openrules::{Decision, Evaluator};
+    ///
+    /// let mut evaluator = Evaluator::new();
+    /// let answer = evaluator.answer(include_bytes!("../../examples/bands-overlap-complete.sheet")).unwrap();
+    /// assert_eq!((answer.decision, answer.why.as_deref()), (Decision::Allow, Some("low band")));
+    /// assert!(answer.policies.iter().all(|policy| policy.residual.is_none()));
+    /// ```
+    pub fn answer(&mut self, sheet: &[u8]) -> Result<Answer> {
+        let outcome = if sheet.starts_with(b"sheet=complete\n") { self.complete(sheet) } else { self.partial(sheet) };
+        let text = outcome.result()?;
+        Ok(Answer::read(&Sheet::read(sheet)?, text.as_bytes())?)
+    }
+
+    /// The answer to a partial sheet, as the library wrote it.
+    ///
+    /// ```
+    /// let mut evaluator = openrules::Evaluator::new();
+    /// let text = evaluator.partial(include_bytes!("../../examples/bands-overlap.sheet")).result().unwrap();
+    /// assert_eq!(text, include_str!("../../examples/bands-overlap.answer"));
+    /// ```
     pub fn partial(&mut self, sheet: &[u8]) -> Outcome<'_> {
         partial(sheet, &mut self.first, &mut self.second, &mut self.out)
     }
 
-    /// The answer to a complete sheet.
+    /// The answer to a complete sheet, as the library wrote it.
+    ///
+    /// ```
+    /// let mut evaluator = openrules::Evaluator::new();
+    /// let text = evaluator.complete(include_bytes!("../../examples/bands-overlap-complete.sheet")).result().unwrap();
+    /// assert_eq!(text, include_str!("../../examples/bands-overlap-complete.answer"));
+    /// ```
     pub fn complete(&mut self, sheet: &[u8]) -> Outcome<'_> {
         complete(sheet, &mut self.first, &mut self.second, &mut self.out)
     }
 
     /// The counter page of a partial sheet.
+    ///
+    /// ```
+    /// let mut evaluator = openrules::Evaluator::new();
+    /// let page = evaluator.page(include_bytes!("../../examples/office-region-firm.sheet")).result().unwrap();
+    /// assert_eq!(page, include_str!("../../examples/office-region-firm.page"));
+    /// ```
     pub fn page(&mut self, sheet: &[u8]) -> Outcome<'_> {
         page(sheet, &mut self.first, &mut self.second, &mut self.out)
     }
 
     /// The answer that what a partial sheet's run left gives on a complete sheet.
+    ///
+    /// ```
+    /// let (shown, filled) = (include_bytes!("../../examples/excluded-goods.sheet"), include_bytes!("../../examples/excluded-goods-timber.sheet"));
+    /// let mut evaluator = openrules::Evaluator::new();
+    /// let text = evaluator.finish(shown, filled).result().unwrap();
+    /// assert_eq!(text, include_str!("../../examples/excluded-goods-timber.finished"));
+    /// ```
     pub fn finish(&mut self, partial: &[u8], complete: &[u8]) -> Outcome<'_> {
         finish(partial, complete, &mut self.first, &mut self.second, &mut self.out)
     }
 
     /// What a partial sheet gives with `replacement` in the place of line `of_line`.
+    ///
+    /// ```
+    /// let sheet = include_bytes!("../../examples/one-rule-three-brokers.sheet");
+    /// let mut evaluator = openrules::Evaluator::new();
+    /// let text = evaluator.preview(sheet, 38, b"principal=0,11").result().unwrap();
+    /// assert_eq!(text, include_str!("../../examples/one-rule-three-brokers.preview"));
+    /// ```
     pub fn preview(&mut self, sheet: &[u8], of_line: usize, replacement: &[u8]) -> Outcome<'_> {
         preview(sheet, of_line, replacement, &mut self.first, &mut self.second, &mut self.out)
     }
 
     /// For each row the decision on a partial sheet with the row's two texts, and the group's decision.
+    ///
+    /// ```
+    /// use openrules::{Decision, Evaluator, Row};
+    ///
+    /// let mut rows = [Row::new(10, 4), Row::new(11, 4), Row::new(12, 4)];
+    /// let group = Evaluator::new().firm(&mut rows, include_bytes!("../../examples/one-rule-three-brokers.sheet"));
+    /// assert_eq!(group, Ok(Decision::Allow));
+    /// ```
     pub fn firm(&mut self, rows: &mut [Row], sheet: &[u8]) -> Result<Decision, Refusal> {
         firm(rows, sheet, &mut self.first, &mut self.second)
     }
