@@ -9,8 +9,8 @@ who is asked:
 
     sheets: PATTERN      the known sheets (crates/known) whose names PATTERN is found in, computed over the changed definitions of `cedar` and `sheet`
                          without any proof (scripts/cases.py). A pattern after `=` is a text of the sheet: the six shortest that have it.
-    proof: CRATE/FILE    crates/CRATE/proofs/FILE.antt over the changed definitions, with the proofs that it imports and no others. Names after it are
-                         the computed examples of the file that are asked.
+    proof: CRATE/FILE    crates/CRATE/proofs/FILE.antt (FILE with its folder, if it has one) over the changed definitions, with the proofs that it imports
+                         and no others. Names after it are the computed examples of the file that are asked.
     (no such line)       the whole crate, as `rt dev CRATE` asks it.
 
 Each change, or each of the given names, is made in a copy below target/mutants/. A change that is proved all the same, and that every known sheet asked
@@ -159,11 +159,12 @@ def ask_crate(m, folder):
 
 
 EXAMPLE = re.compile(r"^(\S+) = refl$", re.M)
-REFERENCE = re.compile(r"Rattle·(\w+?)(?:·\w+)?\.(specs|proofs)\.(\w+)")
+# crate, part, and the file's name after those of its folders
+REFERENCE = re.compile(r"Rattle·(\w+?)(?:·\w+)?\.(specs|proofs)\.((?:[a-z]\w*\.)*[A-Z]\w*)")
 
 
 def read(crate, part, name):
-    return open(os.path.join(HERE, "crates", crate, part, name + ".antt"), encoding="utf-8").read()
+    return open(os.path.join(HERE, "crates", crate, part, *name.split(".")) + ".antt", encoding="utf-8").read()
 
 
 def definitions():
@@ -199,7 +200,8 @@ def asked_of(m):
     if "sheets" in m:
         return {("sheet", "Cases"): cases.HEAD + "".join("\n" + cases.theorem(i, c) for i, c in sheets_of(m).items())}
     file, *names = m["proof"].split()
-    out, left = {}, [tuple(file.split("/"))]
+    crate, *places = file.split("/")
+    out, left = {}, [(crate, ".".join(places))]
     while left:
         crate, name = left.pop()
         if (crate, name) not in out:
@@ -223,7 +225,7 @@ def sheets_of(m):
 
 def copy_name(part, crate, name, number):
     """What the copy of a file for a change is called: `DSheetFormsX3` has definitions, `PSheetShownX3` proofs."""
-    return "%s%s%sX%d" % (part[0].upper().replace("S", "D"), crate.capitalize(), name, number)
+    return "%s%s%sX%d" % (part[0].upper().replace("S", "D"), crate.capitalize(), name.replace(".", ""), number)
 
 
 def copied_for(m, number, specs):
@@ -273,7 +275,7 @@ def ask_few(ms, folder):
             chosen = sheets_of(m)
             out.append({"asked": len(chosen), "wrong": [chosen[int(i)][0].name for i in dict.fromkeys(name[4:] for _, name in errors)]})
         elif errors:
-            out.append({"at": next(["%s" % c, "proofs/%s.antt" % n, errors[0][1]] for c, n in asked_of(m)
+            out.append({"at": next(["%s" % c, "proofs/%s.antt" % n.replace(".", "/"), errors[0][1]] for c, n in asked_of(m)
                                    if "%s.antt" % copy_name("proofs", c, n, number) in said)})
         else:
             out.append({"proved": True})
