@@ -8,6 +8,7 @@ pub mod PathLaws
 pub mod Rulings
 pub mod Operations
 pub mod KeyRules
+pub mod SeenSets
 pub mod LinkLaws
 pub mod Levels
 pub mod Joined

@@ -1,15 +1,16 @@
--- Sets of types and what is asked of their members: the types that the steps of a path reach.
+-- Sets of types and kinds, and what is asked of their members: the types that the steps of a path reach.
 use mathlib.Core.Path.{_≡_}
 use mathlib.Core.Bool.{Bool, true, false, _&&_}
-use mathlib.Core.List.{List}
+use mathlib.Core.List.{List, [], _∷_}
 use Prim.Native.Nat.{ℕ, _+_, _-_, _*_, _≤_, _<_}
 use lib.Dec.{ltb}
-use lib.ListN.{length, getD, replicate}
+use lib.ListN.{length, getD, drop, replicate}
 use Rattle.cedar.specs.Value.{onSome}
-use Rattle.sheet.specs.Forms.{TYPE}
+use Rattle.sheet.specs.Forms.{TYPE, SHAPE}
 use Rattle.sheet.specs.Typing.{allIn}
-use Rattle.words.specs.Bits.{member}
+use Rattle.words.specs.Bits.{member, added}
 use Rattle.words.specs.Log.{part}
+use Rattle.table.specs.Layout.{rowsOf}
 use Rattle.fits.specs.Fit.{kindsIn}
 use Rattle.typing.specs.declared.paths.Place as P
 use Rattle.typing.specs.Links.{TYPES}
@@ -21,6 +22,19 @@ pub record From (set : List ℕ) (n : ℕ) (f : ℕ → Bool) : Type 0 where
 
 abbrev pub Each : List ℕ → (ℕ → Bool) → Type 0
 Each set f = From set 0 f
+
+-- set w, with all numbers of a list for which it has words
+unfoldable pub withAll : List ℕ → List ℕ → List ℕ
+withAll w [] = w
+withAll w (x ∷ l) = withAll (added w x) l
+
+-- the words of a set of kinds
+abbrev pub KIND-WORDS : ℕ
+KIND-WORDS = 1
+
+-- the kinds above kind k
+abbrev pub aboveAt : List ℕ → ℕ → List ℕ
+aboveAt a k = drop 3 (getD (rowsOf a SHAPE) k [])
 
 -- y is the first member from n on, or there is none below the number of types
 pub record Next (set : List ℕ) (n y : ℕ) : Type 0 where

@@ -31,7 +31,7 @@ ghost use Rattle.typing.specs.Paths.{WORDS, SETS, Next, Skipped, Placed,
 const TYPES: usize = 128;
 
 // The words of a set of types, of a set for each type, and of a set of texts.
-const WORDS: usize = 4;
+pub const WORDS: usize = 4;
 
 const SETS: usize = TYPES * WORDS;
 
