@@ -2,5 +2,6 @@ pub mod Shapes
 pub mod Plain
 pub mod Finds
 pub mod Entities
+pub mod Noting
 pub mod Parents
 pub mod Links

@@ -21,6 +21,8 @@ use value::entry_of;
 use value::members;
 use value::row_of;
 use value::shape_of;
+use words::cut;
+use words::put;
 use words::read;
 ghost use mathlib.Core.Path.{_≡_};
 ghost use Prim.Native.Nat.{_≤_, _<_};
@@ -32,11 +34,15 @@ ghost use Rattle.cedar.specs.Numbered.{allRent};
 ghost use Rattle.reach.specs.Marks.{FAR};
 ghost use Rattle.strict.specs.Gives.{outOf, values, valueIn};
 ghost use Rattle.strict.specs.Lookups.{TAGS, textThere, isEntityAt, lineAt, lineIn, partOf, partIn, lookRow, lookIn, lookAttr, takenOf, presentOf, getOut, hasOut, tagLook, gettagOut, hastagOut, isRentAt, inUnknownOut, Unknowns, Above, inLineOut, inUnlistedOut, inListOut, inOut, walkFrom};
+ghost use Rattle.strict.specs.Noted.{Spans, Noted, Placed, Looked};
 
 // Where an entity's attributes and tags stand in its line.
 const ATTRIBUTES: usize = 1;
 
 const TAGS: usize = 2;
+
+// A path of so many steps is a long one.
+const LONG: usize = 4;
 
 // A part of an entity's line: a value, nothing at all, or unknown.
 pub enum Part {
@@ -389,8 +395,105 @@ pub enum Walked {
     Left(u32, u32, usize),
 }
 
-// A path of texts from value `value` on.
-pub fn walk(rows: &[u32], complete: bool, value: u32, path: &[u32]) -> Walked
+// Where the entries of a record stand in the words: from `start` up to `end`, which is 0 where it is not known.
+struct Span {
+    start: u32,
+    end: u32,
+}
+
+// Where the entries of record `value` of the sheet stand.
+fn span_of(rows: &[u32], value: u32) -> Span
+    ensures { λ s. ⌜ Spans (now (rows .entry)) value (s .start) (s .end) ⌝ }
+{
+    if value >= count(rows, VALUE) {
+        return Span { start: 0, end: 0 };
+    }
+    let b = base_of(VALUE) + value as usize;
+    let start = read(rows, b);
+    let end = read(rows, b + 1);
+    if start >= end {
+        return Span { start: 0, end: 0 };
+    }
+    let s = shape_of(cut(rows, start as usize, end as usize));
+    let Shape::Record = s else {
+        return Span { start: 0, end: 0 };
+    };
+    Span {
+        start: start + 1,
+        end: end,
+    }
+}
+
+// Notes that the attributes of `value` are the entries of record `source`.
+fn note(rows: &[u32], value: u32, source: u32, from: &mut [u32], to: &mut [u32])
+    ensures { λ _. ⌜ Placed (now (rows .entry)) value source (now (from .entry)) (now (to .entry)) (now (from .exit)) (now (to .exit)) ⌝ }
+{
+    let s = span_of(rows, source);
+    put(from, value as usize, s.start);
+    put(to, value as usize, s.end);
+}
+
+// `text` among the attributes of a record or an entity, which are noted.
+fn look_new(
+    rows: &[u32],
+    complete: bool,
+    value: u32,
+    text: u32,
+    from: &mut [u32],
+    to: &mut [u32],
+) -> Look
+    requires { ⌜ Noted complete (now rows) (now from) (now to) ⌝ }
+    ensures { λ l. ⌜ Looked complete (now (rows .entry)) value text (now (from .exit)) (now (to .exit)) l ⌝ }
+{
+    let s = shape_of(row_of(rows, value as usize));
+    let Shape::Entity(k, t) = s else {
+        note(rows, value, value, from, to);
+        return look_at(rows, value, text);
+    };
+    let p = part_of(rows, complete, k, t, ATTRIBUTES);
+    match p {
+        Part::Unknown => Look::Unknown(k),
+        Part::Empty => Look::Missing,
+        Part::Known(n) => {
+            note(rows, value, n, from, to);
+            look_at(rows, n, text)
+        }
+    }
+}
+
+// The same, by what was noted.
+fn look_noted(
+    rows: &[u32],
+    complete: bool,
+    value: u32,
+    text: u32,
+    from: &mut [u32],
+    to: &mut [u32],
+) -> Look
+    requires { ⌜ Noted complete (now rows) (now from) (now to) ⌝ }
+    ensures { λ l. ⌜ Looked complete (now (rows .entry)) value text (now (from .exit)) (now (to .exit)) l ⌝ }
+{
+    let end = read(to, value as usize);
+    if end == 0 {
+        return look_new(rows, complete, value, text, from, to);
+    }
+    let start = read(from, value as usize);
+    let Entry::At(x) = entry_of(cut(rows, start as usize, end as usize), text) else {
+        return Look::Missing;
+    };
+    Look::At(x)
+}
+
+// A path of texts from value `value` on, with tables by value for what is noted.
+fn walk_noted(
+    rows: &[u32],
+    complete: bool,
+    value: u32,
+    path: &[u32],
+    from: &mut [u32],
+    to: &mut [u32],
+) -> Walked
+    requires { ⌜ Noted complete (now rows) (now from) (now to) ⌝ }
     ensures { λ r. ⌜ r ≡ walkFrom complete (now (rows .entry)) value 0 (now (path .entry)) ⌝ }
 {
     let mut n = value;
@@ -399,7 +502,7 @@ pub fn walk(rows: &[u32], complete: bool, value: u32, path: &[u32]) -> Walked
         if i >= path.len() {
             break Walked::Fails;
         }
-        match look_attr(rows, complete, n, path[i]) {
+        match look_noted(rows, complete, n, path[i], from, to) {
             Look::Bad => break Walked::Fails,
             Look::Missing => break Walked::Holds(false),
             Look::Unknown(k) => break Walked::Left(n, k, i),
@@ -412,4 +515,18 @@ pub fn walk(rows: &[u32], complete: bool, value: u32, path: &[u32]) -> Walked
         }
         i += 1;
     }
+}
+
+// A path of texts from value `value` on. On a short one little is noted.
+pub fn walk(rows: &[u32], complete: bool, value: u32, path: &[u32]) -> Walked
+    ensures { λ r. ⌜ r ≡ walkFrom complete (now (rows .entry)) value 0 (now (path .entry)) ⌝ }
+{
+    if path.len() < LONG {
+        let mut from: [u32; 1] = [0; 1];
+        let mut to: [u32; 1] = [0; 1];
+        return walk_noted(rows, complete, value, path, &mut from[..], &mut to[..]);
+    }
+    let mut from: [u32; VALUES] = [0; VALUES];
+    let mut to: [u32; VALUES] = [0; VALUES];
+    walk_noted(rows, complete, value, path, &mut from[..], &mut to[..])
 }
