@@ -24,7 +24,7 @@ ghost use mathlib.Core.Bool.{true, _&&_};
 ghost use mathlib.Core.List.{[]};
 ghost use mathlib.Core.Option.{none};
 ghost use Prim.Native.Nat.{_+_, _-_, _≤_, _<_};
-ghost use lib.Dec.{eqb, ltb};
+ghost use lib.Dec.{eqb, leb, ltb};
 ghost use lib.ListN.{getD, length, take, drop};
 ghost use Rattle.words.specs.Log.{part, Room, Holds};
 ghost use Rattle.cedar.specs.Making.{sortN};
@@ -32,6 +32,7 @@ ghost use Rattle.sheet.specs.Bytes.{same};
 ghost use Rattle.sheet.specs.Forms.{NODE};
 ghost use Rattle.table.specs.Layout.{base, rowsOf};
 ghost use Rattle.value.specs.Lines.{valueLines, placeOf};
+ghost use Rattle.value.specs.Places.{passed, Passing};
 ghost use Rattle.value.specs.Shapes.{valueFound};
 ghost use Rattle.value.specs.Made.{boolRow, longRow, entityRow, roomFor, narrow, withMade, Made, MadeBeside, valuesIn, Shifted, Inserted, lowerOf, leastOf, setRow, pairsOf, recordRow, pushAll};
 
@@ -39,6 +40,9 @@ ghost use Rattle.value.specs.Made.{boolRow, longRow, entityRow, roomFor,
 const ROW: usize = 4;
 
 const SOURCE: usize = 1;
+
+// How many places a search passes in one turn.
+const FOUR: usize = 4;
 
 // Whether two rows have the same words.
 pub fn same(left: &[u32], right: &[u32]) -> bool
@@ -76,43 +80,103 @@ fn find_row(rows: &[u32], key: usize, line: &[u32]) -> usize
     }
 }
 
-// Whether the row from `start` to `end` has these words: its length is compared first, then its last word.
-fn is_row(rows: &[u32], start: usize, end: usize, line: &[u32]) -> bool
-    requires { ⌜ (1 ≤ length (now line)) × (end ≤ length (now rows)) × (start < 4294967296) ⌝ }
-    ensures { λ b. ⌜ b ≡ same (part (now (rows .entry)) start end) (now (line .entry)) ⌝ }
+// Whether `value` stands at `at`, before `end`.
+fn is_there(log: &[u32], at: usize, end: usize, value: u32) -> bool
+    ensures { λ r. ⌜ r ≡ (ltb at end && eqb (getD (now (log .entry)) at 0) value) ⌝ }
 {
-    let n = line.len();
-    if start + n != end {
+    if at >= end {
         return false;
     }
-    if rows[end - 1] != line[n - 1] {
-        return false;
-    }
-    same(&rows[start..end], line)
+    read(log, at) == value
 }
 
-// The same in one walk: word `first` says where the first of the `many` rows begins, and each begins where the one before ends.
-fn find_walking(rows: &[u32], key: usize, first: usize, many: usize, line: &[u32]) -> usize
-    requires { ⌜ (first ≡ base key) × (many ≡ getD (now rows) key 0) × (first + many < length (now rows)) × (1 ≤ length (now line)) ⌝ }
-    ensures { λ v. ⌜ v ≡ placeOf (now (line .entry)) (rowsOf (now (rows .entry)) key) ⌝ }
+// Whether `value` stands at the place.
+fn is_at(words: &[u32], place: u32, value: u32) -> bool
+    ensures { λ r. ⌜ r ≡ (ltb place (length (now (words .entry))) && eqb (getD (now (words .entry)) place 0) value) ⌝ }
 {
-    let p = first + 1;
-    let q = p + many;
-    let ends = &rows[p..q];
-    let mut s = rows[first] as usize;
-    let mut i = 0;
+    is_there(words, place as usize, words.len(), value)
+}
+
+// Whether it stands at none of the four places from number `i` on.
+fn is_at_none(words: &[u32], places: &[u32], i: usize, value: u32) -> bool
+    requires { ⌜ i + 4 ≤ length (now places) ⌝ }
+    ensures { λ r. ⌜ r ≡ leb 4 (passed (now (words .entry)) value (drop i (now (places .entry)))) ⌝ }
+{
+    if is_at(words, places[i], value) {
+        return false;
+    }
+    if is_at(words, places[i + 1], value) {
+        return false;
+    }
+    if is_at(words, places[i + 2], value) {
+        return false;
+    }
+    !is_at(words, places[i + 3], value)
+}
+
+// A number up to which it stands at none of the places from number `from` on: they are passed four at a time.
+fn passed_by_fours(words: &[u32], places: &[u32], from: usize, value: u32) -> usize
+    requires { ⌜ from ≤ length (now places) ⌝ }
+    ensures { λ r. ⌜ Passing (now (words .entry)) value (now (places .entry)) from r ⌝ }
+{
+    let mut i = from;
     loop {
-        if i >= ends.len() {
-            break many;
-        }
-        let e = ends[i] as usize;
-        if e > rows.len() {
-            break find_row(rows, key, line);
-        }
-        if is_row(rows, s, e, line) {
+        if places.len() - i < FOUR {
             break i;
         }
-        s = e;
+        if !is_at_none(words, places, i, value) {
+            break i;
+        }
+        i += FOUR;
+    }
+}
+
+// The number of the first place from number `from` on where it stands, or of all places where it stands at none.
+fn next_place(words: &[u32], places: &[u32], from: usize, value: u32) -> usize
+    requires { ⌜ from ≤ length (now places) ⌝ }
+    ensures { λ r. ⌜ r ≡ from + passed (now (words .entry)) value (drop from (now (places .entry))) ⌝ }
+{
+    let mut i = passed_by_fours(words, places, from, value);
+    loop {
+        if i >= places.len() {
+            break i;
+        }
+        if is_at(words, places[i], value) {
+            break i;
+        }
+        i += 1;
+    }
+}
+
+// The word by which a row is told from most others: the last one, but the first of two.
+fn telling(line: &[u32]) -> usize
+    requires { ⌜ 1 ≤ length (now line) ⌝ }
+    ensures { λ j. ⌜ j < length (now (line .entry)) ⌝ }
+{
+    if line.len() == 2 {
+        return 0;
+    }
+    line.len() - 1
+}
+
+// The same by one word: only those of the `many` rows are compared that have it in its place. Word `first` says where the first row begins.
+fn find_telling(rows: &[u32], key: usize, first: usize, many: usize, line: &[u32]) -> usize
+    requires { ⌜ (first ≡ base key) × (many ≡ getD (now rows) key 0) × (first + many ≤ length (now rows)) × (many < 4294967296) × (1 ≤ length (now line)) ⌝ }
+    ensures { λ v. ⌜ v ≡ placeOf (now (line .entry)) (rowsOf (now (rows .entry)) key) ⌝ }
+{
+    let end = first + many;
+    let starts = &rows[first..end];
+    let j = telling(line);
+    let words = cut(rows, j, rows.len());
+    let mut i = 0;
+    loop {
+        i = next_place(words, starts, i, line[j]);
+        if i >= many {
+            break many;
+        }
+        if same(row(rows, key, i as u32), line) {
+            break i;
+        }
         i += 1;
     }
 }
@@ -123,13 +187,13 @@ fn find_in(rows: &[u32], key: usize, line: &[u32]) -> usize
 {
     let n = count(rows, key) as usize;
     let b = base_of(key);
-    if b + n >= rows.len() {
+    if b + n > rows.len() {
         return find_row(rows, key, line);
     }
     if line.len() < 1 {
         return find_row(rows, key, line);
     }
-    find_walking(rows, key, b, n, line)
+    find_telling(rows, key, b, n, line)
 }
 
 // The number of the first value with these words, or of all values where none has them.
@@ -289,16 +353,6 @@ fn shift(log: &mut [u32], start: usize, end: usize, value: u32)
         i += 1;
     }
     log[end] = y;
-}
-
-// Whether `value` stands at `at`, before `end`.
-fn is_there(log: &[u32], at: usize, end: usize, value: u32) -> bool
-    ensures { λ r. ⌜ r ≡ (ltb at end && eqb (getD (now (log .entry)) at 0) value) ⌝ }
-{
-    if at >= end {
-        return false;
-    }
-    read(log, at) == value
 }
 
 // The number `value` in its place among the words from `at` to `end`, unless it is there; the end after them.
