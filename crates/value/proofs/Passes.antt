@@ -13,7 +13,7 @@ use lib.Seq.{drop-drop}
 use Rattle.words.specs.Log.{part}
 use Rattle.words.proofs.Stores.{length-part, part-at}
 use Rattle.sheet.specs.Bytes.{same}
-use Rattle.table.specs.Layout.{base, rowsOf}
+use Rattle.table.specs.Layout.{base, rowAt, rowsOf}
 use Rattle.table.proofs.Rows.{row-at-is, row-some}
 use Rattle.value.specs.Lines.{placeOf}
 use Rattle.value.specs.Places.{passed, Passing}
@@ -207,9 +207,17 @@ module _ (r a : List ℕ) (k b n : ℕ) (eb : b ≡ base k) (en : n ≡ getD a k
     pub telling-end : n ≤ p → n ≡ placeOf r (rowsOf a k)
     telling-end l = find-end r (rowsOf a k) n p at-next l
 
-    module _ (l : p < n) (q : List ℕ) (eq : q ≡ getD (rowsOf a k) p []) (c : Bool) (ec : c ≡ same q r) where
+    module _ (l : p < n) (c : Bool) (ec : c ≡ same (rowAt a (b + p)) r) where
+      row-here : rowAt a (b + p) ≡ getD (rowsOf a k) p []
+      row-here = row-some a k p n b (rowAt a (b + p)) en l eb refl
+
       pub telling-hit : c ≡ true → p ≡ placeOf r (rowsOf a k)
-      telling-hit f = find-hit r (rowsOf a k) n p at-next l q eq c ec f
+      telling-hit f = find-hit r (rowsOf a k) n p at-next l (rowAt a (b + p)) row-here c ec f
 
       pub telling-on : c ≡ false → Finding r (rowsOf a k) n (p + 1)
-      telling-on f = find-on r (rowsOf a k) n p at-next l q eq c ec f
+      telling-on f = find-on r (rowsOf a k) n p at-next l (rowAt a (b + p)) row-here c ec f
+
+-- ---- one row
+
+pub row-same : (a r q : List ℕ) (i s e : ℕ) (b : Bool) → s ≡ getD a i 0 → e ≡ getD a (i + 1) 0 → q ≡ part a s e → b ≡ same q r → b ≡ same (rowAt a i) r
+row-same a r q i s e b es ee eq eb = eb ∙ ap (λ (x : List ℕ). same x r) (row-at-is a i s e q es ee eq)

@@ -30,7 +30,7 @@ ghost use Rattle.words.specs.Log.{part, Room, Holds};
 ghost use Rattle.cedar.specs.Making.{sortN};
 ghost use Rattle.sheet.specs.Bytes.{same};
 ghost use Rattle.sheet.specs.Forms.{NODE};
-ghost use Rattle.table.specs.Layout.{base, rowsOf};
+ghost use Rattle.table.specs.Layout.{base, rowAt, rowsOf};
 ghost use Rattle.value.specs.Lines.{valueLines, placeOf};
 ghost use Rattle.value.specs.Places.{passed, Passing};
 ghost use Rattle.value.specs.Shapes.{valueFound};
@@ -148,20 +148,30 @@ fn next_place(words: &[u32], places: &[u32], from: usize, value: u32) -> usize
     }
 }
 
-// The word by which a row is told from most others: the last one, but the first of two.
+// Which word tells a row from most others: the last one, but of a bool the first.
 fn telling(line: &[u32]) -> usize
     requires { ⌜ 1 ≤ length (now line) ⌝ }
     ensures { λ j. ⌜ j < length (now (line .entry)) ⌝ }
 {
-    if line.len() == 2 {
+    if line[0] == BOOL_VALUE {
         return 0;
     }
     line.len() - 1
 }
 
+// Whether the row whose beginning word `at` says has these words.
+fn is_row(rows: &[u32], at: usize, line: &[u32]) -> bool
+    requires { ⌜ at < length (now rows) ⌝ }
+    ensures { λ r. ⌜ r ≡ same (rowAt (now (rows .entry)) at) (now (line .entry)) ⌝ }
+{
+    let start = read(rows, at) as usize;
+    let end = read(rows, at + 1) as usize;
+    same(cut(rows, start, end), line)
+}
+
 // The same by one word: only those of the `many` rows are compared that have it in its place. Word `first` says where the first row begins.
 fn find_telling(rows: &[u32], key: usize, first: usize, many: usize, line: &[u32]) -> usize
-    requires { ⌜ (first ≡ base key) × (many ≡ getD (now rows) key 0) × (first + many ≤ length (now rows)) × (many < 4294967296) × (1 ≤ length (now line)) ⌝ }
+    requires { ⌜ (first ≡ base key) × (many ≡ getD (now rows) key 0) × (first + many ≤ length (now rows)) × (1 ≤ length (now line)) ⌝ }
     ensures { λ v. ⌜ v ≡ placeOf (now (line .entry)) (rowsOf (now (rows .entry)) key) ⌝ }
 {
     let end = first + many;
@@ -174,7 +184,7 @@ fn find_telling(rows: &[u32], key: usize, first: usize, many: usize, line: &[u32
         if i >= many {
             break many;
         }
-        if same(row(rows, key, i as u32), line) {
+        if is_row(rows, first + i, line) {
             break i;
         }
         i += 1;

@@ -21,12 +21,12 @@ next-place-requires c κs = search (near-starts, needs)
 
 loop-again : tie.Need-loop-again Inv-loop μ-loop
 loop-again c =
-    let n = c .before .before .before .before in
+    let n = c .before .before .before in
     let l = n .before .before in
     let k = l .before .before in
     let s = k .before .before .before .before in
     telling-on (s .args .line .now) (s .args .rows .now) (s .args .key) (s .args .first) (s .args .many) (s .pre .0) (s .pre .1) (s .pre .2) (k .telling .result) (k .telling .ensures) _ (l .before .cut .ensures)
-    (l .loop .i) (n .next-place .result) (l .loop .inv) (n .next-place .ensures) (c .before .before .before .if1 .left) _ (c .before .before .row .ensures) (c .before .same .result) (c .before .same .ensures) (c .if2 .left)
+    (l .loop .i) (n .next-place .result) (l .loop .inv) (n .next-place .ensures) (c .before .before .if1 .left) (c .before .is-row .result) (c .before .is-row .ensures) (c .if2 .left)
 
 returns : tie.Need-returns Inv-loop μ-loop
 returns c = search (telling-end, needs)
@@ -52,7 +52,6 @@ find-telling-spec =
     (λ c. search needs)
     next-place-requires
     (λ c. search needs)
-    (λ c κs. search needs)
     (λ c κs. search needs)
     (λ c. search needs)
     (λ c. search needs)
