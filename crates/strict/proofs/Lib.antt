@@ -3,5 +3,6 @@ pub mod Plain
 pub mod Finds
 pub mod Entities
 pub mod Noting
+pub mod Chaining
 pub mod Parents
 pub mod Links

@@ -1,3 +1,4 @@
 pub mod Gives
 pub mod Lookups
 pub mod Noted
+pub mod Chains

@@ -1,4 +1,6 @@
-// The strict operations on values by number: what each gives, without making it. Those that look at entities stand in `entity`.
+// The strict operations on values by number: what each gives, without making it. Those that look at entities stand in `entity`,
+// chains of their lines in `chains`.
+pub mod chains;
 pub mod entity;
 
 use forms::ADD;

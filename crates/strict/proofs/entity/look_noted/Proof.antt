@@ -8,13 +8,13 @@ returns-2 : tie.Need-returns-2
 returns-2 c =
     let m = c .before .before .before .before in
     let r = m .before .before .before in
-    noted-missing _ _ _ _ _ _ (r .before .before .before .before .before .pre) _ _ (r .read .ensures) (m .before .before .if1 .left) (m .read2 .ensures) _ (c .before .before .before .cut .ensures) (c .before .before .entry-of .result) (c .before .before .entry-of .ensures) (search needs)
+    noted-missing _ _ _ _ _ _ (r .before .before .before .before .before .before .before .pre .1) _ _ (r .read .ensures) (m .before .before .if1 .left) (m .read2 .ensures) _ (c .before .before .before .cut .ensures) (c .before .before .entry-of .result) (c .before .before .entry-of .ensures) (search needs)
 
 returns-3 : tie.Need-returns-3
 returns-3 c =
     let m = c .before .before .before .before .before in
     let r = m .before .before .before in
-    noted-found _ _ _ _ _ _ (r .before .before .before .before .before .pre) _ _ (r .read .ensures) (m .before .before .if1 .left) (m .read2 .ensures) _ (c .before .before .before .before .cut .ensures) (c .before .before .before .entry-of .result) (c .before .before .before .entry-of .ensures) _ (search needs)
+    noted-found _ _ _ _ _ _ (r .before .before .before .before .before .before .before .pre .1) _ _ (r .read .ensures) (m .before .before .if1 .left) (m .read2 .ensures) _ (c .before .before .before .before .cut .ensures) (c .before .before .before .entry-of .result) (c .before .before .before .entry-of .ensures) _ (search needs)
 
 pub look-noted-spec : {M : Type 1} → statement M
 look-noted-spec =

@@ -7,10 +7,10 @@ use Rattle.strict.proofs.entity.walk_noted.Statement.{statement}
 use Rattle.strict.proofs.entity.walk_noted.Tie as tie
 
 abbrev Inv-loop : tie.InvT-loop
-Inv-loop rows complete value path from₀ to₀ n₀ i₀ from to n i = Stepping complete rows value path from₀ to₀ from to n i
+Inv-loop rows complete value path heads links from₀ to₀ n₀ i₀ from to n i = Stepping complete rows value path from₀ to₀ from to n i
 
 abbrev μ-loop : tie.MeasureT-loop
-μ-loop rows complete value path from₀ to₀ n₀ i₀ from to n i = length path - i
+μ-loop rows complete value path heads links from₀ to₀ n₀ i₀ from to n i = length path - i
 
 loop-holds : tie.Need-loop-holds Inv-loop μ-loop
 loop-holds c = search (step-start, needs)
