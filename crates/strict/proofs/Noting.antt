@@ -1,11 +1,11 @@
 -- What is noted on a path, as the code notes it and looks it up. Assumes nothing.
 use mathlib.Core.Path.{_≡_, refl, sym, ap, _∙_}
-use mathlib.Core.Bool.{Bool, true, false}
+use mathlib.Core.Bool.{Bool, true, false, not}
 use mathlib.Core.List.{List, [], _∷_}
 use Prim.Native.Nat.{ℕ, zero, suc, _+_, _-_, _≤_, _<_}
 use native.Mathlib.Omega.{arith}
 use native.Mathlib.Decide.{decLt}
-use borrow.Author.Tests.{eqb-true, eqb-false}
+use borrow.Author.Tests.{eqb-true, eqb-false, not-false}
 use lib.Dec.{eqb}
 use lib.ListN.{length, getD, take, drop, set, replicate, length-set, List·getD-eq-default}
 use lib.Seq.{getD-set-same, getD-set-other, take-nil, drop-drop}
@@ -28,7 +28,8 @@ use Rattle.value.specs.declared.Entry.{Entry}
 use Rattle.value.specs.declared.Entry.the-variants.{At, Nothing}
 use Rattle.strict.specs.Gives.{valueIn}
 use Rattle.strict.specs.Lookups.{partOf, partIn, lookFound, lookRow, lookAttr, walkFrom}
-use Rattle.strict.specs.Noted.{lookPart, Spans, Noted, Placed, Looked}
+use Rattle.strict.specs.Leaps.{rising}
+use Rattle.strict.specs.Noted.{lookPart, Stands, Spans, Noted, Placed, Looked}
 use Rattle.strict.specs.declared.entity.Part.{Part}
 use Rattle.strict.specs.declared.entity.Part.the-variants.{Known, Empty, Unknown}
 use Rattle.strict.specs.declared.entity.Look.{Look}
@@ -55,10 +56,10 @@ part-items a s e =
     let h : e - s - 1 ≡ e - (s + 1) = omega arith in
     take-items (e - s) (drop s a) ∙ rw (drop-drop 1 s a, h)
 
-pub span-found : (a : List ℕ) (r n b s e : ℕ) (q : List ℕ) (d : Shape) → n ≡ getD a VALUE 0 → r < n → (b ≡ base VALUE) × (b < heap)
-    → s ≡ getD a (b + r) 0 → e ≡ getD a (b + r + 1) 0 → q ≡ part a s e → d ≡ shapeOf q → d ≡ Record → Spans a r (s + 1) e
+pub span-found : (a : List ℕ) (r n b s e : ℕ) (q : List ℕ) (d : Shape) (w : List ℕ) (up : Bool) → n ≡ getD a VALUE 0 → r < n → (b ≡ base VALUE) × (b < heap)
+    → s ≡ getD a (b + r) 0 → e ≡ getD a (b + r + 1) 0 → q ≡ part a s e → d ≡ shapeOf q → d ≡ Record → w ≡ part a (s + 1) e → up ≡ rising 0 w → not up ≡ false → Spans a r (s + 1) e
 unfolding lookRow lookPart
-span-found a r n b s e q d en h hb es ee eq ed z = record { is = λ m u. ap (λ (x : Row). rRec Bad x (λ y. lookFound (entryOf u y))) line ∙ ap (λ (l : List ℕ). lookFound (entryOf u (entriesOf l))) (ap items eq ∙ part-items a s e) }
+span-found a r n b s e q d w up en h hb es ee eq ed z ew eu f = record { is = λ m. record { is = λ u. ap (λ (x : Row). rRec Bad x (λ y. lookFound (entryOf u y))) line ∙ ap (λ (l : List ℕ). lookFound (entryOf u (entriesOf l))) (ap items eq ∙ part-items a s e); rises = ap (rising 0) (sym ew) ∙ sym eu ∙ not-false up f } }
   where
     stands : q ≡ getD (valueLines a) r []
     stands = row-given a n en r q h (row-some a VALUE r n b q en h (hb .0) (row-at-is a (b + r) s e q es ee eq))
@@ -88,18 +89,19 @@ module _ (c : Bool) (a : List ℕ) (v r : ℕ) (from to from′ to′ : List ℕ
   noted-more : ((u : ℕ) → lookAttr c a v u ≡ lookRow (valueIn a r) u) → Noted c a from′ to′
   noted-more f = record { long = omega (arith, g .long, long-from, long-to); is = λ w. go w (eqb w v) refl (decLt v (length to)) }
     where
-      as-noted : (w : ℕ) → getD from′ w 0 ≡ getD from w 0 → getD to′ w 0 ≡ getD to w 0 → (getD to′ w 0 ≡ 0 → ⊥) → (u : ℕ) → lookAttr c a w u ≡ lookPart a (getD from′ w 0) (getD to′ w 0) u
-      as-noted w es ee n u = rw (es, ee) (g .is w (λ z. n (ee ∙ z)) u)
+      as-noted : (w : ℕ) → getD from′ w 0 ≡ getD from w 0 → getD to′ w 0 ≡ getD to w 0 → (getD to′ w 0 ≡ 0 → ⊥) → Stands a (getD from′ w 0) (getD to′ w 0) (lookAttr c a w)
+      as-noted w es ee n = rw (es, ee) (g .is w (λ z. n (ee ∙ z)))
 
-      go : (w : ℕ) (b : Bool) → eqb w v ≡ b → Dec (v < length to) → (getD to′ w 0 ≡ 0 → ⊥) → (u : ℕ) → lookAttr c a w u ≡ lookPart a (getD from′ w 0) (getD to′ w 0) u
-      go w false z h n u =
-          as-noted w (ap (λ (l : List ℕ). getD l w 0) (p .starts) ∙ getD-set-other from v w (p .start) 0 (eqb-false w v z)) (ap (λ (l : List ℕ). getD l w 0) (p .ends) ∙ getD-set-other to v w (p .end) 0 (eqb-false w v z)) n u
-      go w true z (yes h) n u =
+      go : (w : ℕ) (b : Bool) → eqb w v ≡ b → Dec (v < length to) → (getD to′ w 0 ≡ 0 → ⊥) → Stands a (getD from′ w 0) (getD to′ w 0) (lookAttr c a w)
+      go w false z h n =
+          as-noted w (ap (λ (l : List ℕ). getD l w 0) (p .starts) ∙ getD-set-other from v w (p .start) 0 (eqb-false w v z)) (ap (λ (l : List ℕ). getD l w 0) (p .ends) ∙ getD-set-other to v w (p .end) 0 (eqb-false w v z)) n
+      go w true z (yes h) n =
           let q : w ≡ v = eqb-true w v z in
           let es : getD from′ w 0 ≡ p .start = ap (λ (l : List ℕ). getD l w 0) (p .starts) ∙ ap (λ (j : ℕ). getD (set from v (p .start)) j 0) q ∙ getD-set-same from v (p .start) 0 (omega (arith, g .long, h)) in
           let ee : getD to′ w 0 ≡ p .end = ap (λ (l : List ℕ). getD l w 0) (p .ends) ∙ ap (λ (j : ℕ). getD (set to v (p .end)) j 0) q ∙ getD-set-same to v (p .end) 0 h in
-          rw (es, ee, q) (f u ∙ p .spans .is (λ y. n (ee ∙ y)) u)
-      go w true z (no h) n u =
+          let s = p .spans .is (λ y. n (ee ∙ y)) in
+          rw (es, ee, q) (record { is = λ u. f u ∙ s .is u; rises = s .rises })
+      go w true z (no h) n =
           let q : w ≡ v = eqb-true w v z in
           absurd (n (List·getD-eq-default to′ 0 (omega (arith, long-to, q, h))))
 
@@ -123,10 +125,13 @@ module _ (c : Bool) (a : List ℕ) (v u : ℕ) (from to : List ℕ) (g : Noted c
     pub looked-empty : d ≡ Empty → Looked c a v u from to Missing
     looked-empty y = record { is = attr-entity a v q s eq es u c k t d Missing z ed (rw y); noted = g }
 
+  pub noted-rising : (e s : ℕ) → e ≡ getD to v 0 → (e ≡ 0 → ⊥) → s ≡ getD from v 0 → (q : List ℕ) → q ≡ part a s e → rising 0 q ≡ true
+  noted-rising e s ee n es q eq = rw (eq, es, ee) (g .is v (λ z. n (ee ∙ z)) .rises)
+
   module _ (e s : ℕ) (ee : e ≡ getD to v 0) (n : e ≡ 0 → ⊥) (es : s ≡ getD from v 0) (q : List ℕ) (eq : q ≡ part a s e) (y : Entry) (ey : valueFound y ≡ entryOf u (entriesOf q)) where
     by-part : lookAttr c a v u ≡ lookFound (valueFound y)
     unfolding lookPart
-    by-part = g .is v (λ z. n (ee ∙ z)) u ∙ rw (← ee, ← es, ← eq, ey)
+    by-part = g .is v (λ z. n (ee ∙ z)) .is u ∙ rw (← ee, ← es, ← eq, ey)
 
     pub noted-missing : y ≡ Nothing → Looked c a v u from to Missing
     noted-missing z = record { is = sym (by-part ∙ rw z); noted = g }

@@ -4,6 +4,8 @@ use crate::Given;
 use crate::chains::TEXTS;
 use crate::chains::find_chained;
 use crate::chains::index;
+use crate::entries::entry_rising;
+use crate::entries::rises;
 use forms::ENTITY;
 use forms::MARK;
 use forms::VALUE;
@@ -428,7 +430,7 @@ pub enum Walked {
     Left(u32, u32, usize),
 }
 
-// Where the entries of a record stand in the words: from `start` up to `end`, which is 0 where it is not known.
+// Where the entries of a record stand in the words: from `start` up to `end`, which is 0 where it is not known or their texts do not ascend.
 struct Span {
     start: u32,
     end: u32,
@@ -451,6 +453,9 @@ fn span_of(rows: &[u32], value: u32) -> Span
     let Shape::Record = s else {
         return Span { start: 0, end: 0 };
     };
+    if !rises(cut(rows, start as usize + 1, end as usize)) {
+        return Span { start: 0, end: 0 };
+    }
     Span {
         start: start + 1,
         end: end,
@@ -517,7 +522,7 @@ fn look_noted(
         return look_new(rows, complete, value, text, heads, links, from, to);
     }
     let start = read(from, value as usize);
-    let Entry::At(x) = entry_of(cut(rows, start as usize, end as usize), text) else {
+    let Entry::At(x) = entry_rising(cut(rows, start as usize, end as usize), text) else {
         return Look::Missing;
     };
     Look::At(x)
