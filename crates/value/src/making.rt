@@ -90,58 +90,82 @@ fn is_there(log: &[u32], at: usize, end: usize, value: u32) -> bool
     read(log, at) == value
 }
 
-// Whether `value` stands at the place.
-fn is_at(words: &[u32], place: u32, value: u32) -> bool
-    ensures { λ r. ⌜ r ≡ (ltb place (length (now (words .entry))) && eqb (getD (now (words .entry)) place 0) value) ⌝ }
+// Whether `value` stands at the place in the words, and `former` in those before.
+fn is_at(words: &[u32], before: &[u32], place: u32, value: u32, former: u32) -> bool
+    ensures { λ r. ⌜ r ≡ ((ltb place (length (now (words .entry))) && eqb (getD (now (words .entry)) place 0) value) && eqb (getD (now (before .entry)) place 0) former) ⌝ }
 {
-    is_there(words, place as usize, words.len(), value)
+    if !is_there(words, place as usize, words.len(), value) {
+        return false;
+    }
+    read(before, place as usize) == former
 }
 
-// Whether it stands at none of the four places from number `i` on.
-fn is_at_none(words: &[u32], places: &[u32], i: usize, value: u32) -> bool
+// Whether they stand at none of the four places from number `i` on.
+fn is_at_none(
+    words: &[u32],
+    before: &[u32],
+    places: &[u32],
+    i: usize,
+    value: u32,
+    former: u32,
+) -> bool
     requires { ⌜ i + 4 ≤ length (now places) ⌝ }
-    ensures { λ r. ⌜ r ≡ leb 4 (passed (now (words .entry)) value (drop i (now (places .entry)))) ⌝ }
+    ensures { λ r. ⌜ r ≡ leb 4 (passed (now (words .entry)) (now (before .entry)) value former (drop i (now (places .entry)))) ⌝ }
 {
-    if is_at(words, places[i], value) {
+    if is_at(words, before, places[i], value, former) {
         return false;
     }
-    if is_at(words, places[i + 1], value) {
+    if is_at(words, before, places[i + 1], value, former) {
         return false;
     }
-    if is_at(words, places[i + 2], value) {
+    if is_at(words, before, places[i + 2], value, former) {
         return false;
     }
-    !is_at(words, places[i + 3], value)
+    !is_at(words, before, places[i + 3], value, former)
 }
 
-// A number up to which it stands at none of the places from number `from` on: they are passed four at a time.
-fn passed_by_fours(words: &[u32], places: &[u32], from: usize, value: u32) -> usize
+// A number up to which they stand at none of the places from number `from` on: these are passed four at a time.
+fn passed_by_fours(
+    words: &[u32],
+    before: &[u32],
+    places: &[u32],
+    from: usize,
+    value: u32,
+    former: u32,
+) -> usize
     requires { ⌜ from ≤ length (now places) ⌝ }
-    ensures { λ r. ⌜ Passing (now (words .entry)) value (now (places .entry)) from r ⌝ }
+    ensures { λ r. ⌜ Passing (now (words .entry)) (now (before .entry)) value former (now (places .entry)) from r ⌝ }
 {
     let mut i = from;
     loop {
         if places.len() - i < FOUR {
             break i;
         }
-        if !is_at_none(words, places, i, value) {
+        if !is_at_none(words, before, places, i, value, former) {
             break i;
         }
         i += FOUR;
     }
 }
 
-// The number of the first place from number `from` on where it stands, or of all places where it stands at none.
-fn next_place(words: &[u32], places: &[u32], from: usize, value: u32) -> usize
+// The number of the first place from number `from` on where they stand, or of all places where they stand at none.
+fn next_place(
+    words: &[u32],
+    before: &[u32],
+    places: &[u32],
+    from: usize,
+    value: u32,
+    former: u32,
+) -> usize
     requires { ⌜ from ≤ length (now places) ⌝ }
-    ensures { λ r. ⌜ r ≡ from + passed (now (words .entry)) value (drop from (now (places .entry))) ⌝ }
+    ensures { λ r. ⌜ r ≡ from + passed (now (words .entry)) (now (before .entry)) value former (drop from (now (places .entry))) ⌝ }
 {
-    let mut i = passed_by_fours(words, places, from, value);
+    let mut i = passed_by_fours(words, before, places, from, value, former);
     loop {
         if i >= places.len() {
             break i;
         }
-        if is_at(words, places[i], value) {
+        if is_at(words, before, places[i], value, former) {
             break i;
         }
         i += 1;
@@ -159,6 +183,16 @@ fn telling(line: &[u32]) -> usize
     line.len() - 1
 }
 
+// Which word is compared where word `j` fits: the one before it, or the first one again.
+fn one_before(j: usize) -> usize
+    ensures { λ k. ⌜ k ≤ j ⌝ }
+{
+    if j < 1 {
+        return j;
+    }
+    j - 1
+}
+
 // Whether the row whose beginning word `at` says has these words.
 fn is_row(rows: &[u32], at: usize, line: &[u32]) -> bool
     requires { ⌜ at < length (now rows) ⌝ }
@@ -169,18 +203,21 @@ fn is_row(rows: &[u32], at: usize, line: &[u32]) -> bool
     same(cut(rows, start, end), line)
 }
 
-// The same by one word: only those of the `many` rows are compared that have it in its place. Word `first` says where the first row begins.
+// The same by two words: only those of the `many` rows are compared that have them in their places. Word `first` says where the first row begins.
 fn find_telling(rows: &[u32], key: usize, first: usize, many: usize, line: &[u32]) -> usize
-    requires { ⌜ (first ≡ base key) × (many ≡ getD (now rows) key 0) × (first + many ≤ length (now rows)) × (1 ≤ length (now line)) ⌝ }
+    requires { ⌜ (first ≡ base key) × (many ≡ getD (now rows) key 0) × (first + many ≤ length (now rows)) × (1 ≤ length (now line)) × (length (now line) ≤ length (now rows)) ⌝ }
     ensures { λ v. ⌜ v ≡ placeOf (now (line .entry)) (rowsOf (now (rows .entry)) key) ⌝ }
 {
     let end = first + many;
     let starts = &rows[first..end];
     let j = telling(line);
-    let words = cut(rows, j, rows.len());
+    let k = one_before(j);
+    let to = rows.len() - j + k;
+    let words = &rows[j..rows.len()];
+    let before = &rows[k..to];
     let mut i = 0;
     loop {
-        i = next_place(words, starts, i, line[j]);
+        i = next_place(words, before, starts, i, line[j], line[k]);
         if i >= many {
             break many;
         }
@@ -201,6 +238,9 @@ fn find_in(rows: &[u32], key: usize, line: &[u32]) -> usize
         return find_row(rows, key, line);
     }
     if line.len() < 1 {
+        return find_row(rows, key, line);
+    }
+    if line.len() > rows.len() {
         return find_row(rows, key, line);
     }
     find_telling(rows, key, b, n, line)

@@ -8,10 +8,10 @@ use Rattle.value.proofs.making.next_place.Statement.{statement}
 use Rattle.value.proofs.making.next_place.Tie as tie
 
 abbrev Inv-loop : tie.InvT-loop
-Inv-loop words places from value i₀ i = Passing words value places from i
+Inv-loop words before places from value former i₀ i = Passing words before value former places from i
 
 abbrev μ-loop : tie.MeasureT-loop
-μ-loop words places from value i₀ i = length places - i
+μ-loop words before places from value former i₀ i = length places - i
 
 loop-again : tie.Need-loop-again Inv-loop μ-loop
 loop-again c = search (passing-on, needs)

@@ -8,10 +8,10 @@ use Rattle.value.proofs.making.passed_by_fours.Statement.{statement}
 use Rattle.value.proofs.making.passed_by_fours.Tie as tie
 
 abbrev Inv-loop : tie.InvT-loop
-Inv-loop words places from value i₀ i = Passing words value places from i
+Inv-loop words before places from value former i₀ i = Passing words before value former places from i
 
 abbrev μ-loop : tie.MeasureT-loop
-μ-loop words places from value i₀ i = length places - i
+μ-loop words before places from value former i₀ i = length places - i
 
 loop-holds : tie.Need-loop-holds Inv-loop μ-loop
 loop-holds c = search (passing-start, needs)
