@@ -29,8 +29,11 @@ abbrev pub stands : List ℕ → List ℕ → ℕ → ℕ → ℕ → Bool
 stands w v x y p = alone w x p && eqb (getD v p 0) y
 
 module _ (w v : List ℕ) (x y p : ℕ) (b : Bool) (e : b ≡ alone w x p) where
+  off : b ≡ false → false ≡ stands w v x y p
+  off f = ap (λ (c : Bool). c && eqb (getD v p 0) y) (sym f ∙ e)
+
   pub at-none : not b ≡ true → false ≡ stands w v x y p
-  at-none f = ap (λ (c : Bool). c && eqb (getD v p 0) y) (sym (not-true b f) ∙ e)
+  at-none f = off (not-true b f)
 
   pub at-both : (q : ℕ) → q ≡ getD v p 0 → not b ≡ false → eqb q y ≡ stands w v x y p
   at-both q eq f = ap (λ (n : ℕ). eqb n y) eq ∙ ap (λ (c : Bool). c && eqb (getD v p 0) y) (sym (not-false b f) ∙ e)
@@ -120,6 +123,12 @@ module _ (w v : List ℕ) (x y : ℕ) (l : List ℕ) (i : ℕ) (h : i + 4 ≤ le
         four-4 false e =
             let z : passed w v x y (drop (i + 3) l) ≡ suc (passed w v x y (drop (i + 4) l)) = pass-on w v x y l (i + 3) (omega arith) false e (i + 4) (omega arith) refl in
             sym (le-leb 4 (passed w v x y (drop i l)) (omega (arith, z, p₀, p₁, p₂)))
+
+-- where x stands in w at none of the four, they are passed
+module _ (w v : List ℕ) (x y : ℕ) (l : List ℕ) (i : ℕ) (h : i + 4 ≤ length l) (b₀ b₁ b₂ b₃ : Bool) where
+  pub four-off : b₀ ≡ alone w x (getD l i 0) → b₀ ≡ false → b₁ ≡ alone w x (getD l (i + 1) 0) → b₁ ≡ false → b₂ ≡ alone w x (getD l (i + 2) 0) → b₂ ≡ false → b₃ ≡ alone w x (getD l (i + 3) 0) → b₃ ≡ false → true ≡ leb 4 (passed w v x y (drop i l))
+  four-off e₀ f₀ e₁ f₁ e₂ f₂ e₃ f₃ =
+      four-4 w v x y l i h false (off w v x y (getD l i 0) b₀ e₀ f₀) refl false (off w v x y (getD l (i + 1) 0) b₁ e₁ f₁) refl false (off w v x y (getD l (i + 2) 0) b₂ e₂ f₂) refl false (off w v x y (getD l (i + 3) 0) b₃ e₃ f₃)
 
 pub passing-start : (w v : List ℕ) (x y : ℕ) (l : List ℕ) (i : ℕ) → i ≤ length l → Passing w v x y l i i
 passing-start w v x y l i h = record { near = h; left = refl }

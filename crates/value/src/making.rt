@@ -90,11 +90,18 @@ fn is_there(log: &[u32], at: usize, end: usize, value: u32) -> bool
     read(log, at) == value
 }
 
+// Whether `value` stands at the place.
+fn is_word(words: &[u32], place: u32, value: u32) -> bool
+    ensures { λ r. ⌜ r ≡ (ltb place (length (now (words .entry))) && eqb (getD (now (words .entry)) place 0) value) ⌝ }
+{
+    is_there(words, place as usize, words.len(), value)
+}
+
 // Whether `value` stands at the place in the words, and `former` in those before.
 fn is_at(words: &[u32], before: &[u32], place: u32, value: u32, former: u32) -> bool
     ensures { λ r. ⌜ r ≡ ((ltb place (length (now (words .entry))) && eqb (getD (now (words .entry)) place 0) value) && eqb (getD (now (before .entry)) place 0) former) ⌝ }
 {
-    if !is_there(words, place as usize, words.len(), value) {
+    if !is_word(words, place, value) {
         return false;
     }
     read(before, place as usize) == former
@@ -124,6 +131,33 @@ fn is_at_none(
     !is_at(words, before, places[i + 3], value, former)
 }
 
+// The same, but most rows have another word there: both words are compared only where `value` stands at one of the four.
+fn passes_four(
+    words: &[u32],
+    before: &[u32],
+    places: &[u32],
+    i: usize,
+    value: u32,
+    former: u32,
+) -> bool
+    requires { ⌜ i + 4 ≤ length (now places) ⌝ }
+    ensures { λ r. ⌜ r ≡ leb 4 (passed (now (words .entry)) (now (before .entry)) value former (drop i (now (places .entry)))) ⌝ }
+{
+    if is_word(words, places[i], value) {
+        return is_at_none(words, before, places, i, value, former);
+    }
+    if is_word(words, places[i + 1], value) {
+        return is_at_none(words, before, places, i, value, former);
+    }
+    if is_word(words, places[i + 2], value) {
+        return is_at_none(words, before, places, i, value, former);
+    }
+    if is_word(words, places[i + 3], value) {
+        return is_at_none(words, before, places, i, value, former);
+    }
+    true
+}
+
 // A number up to which they stand at none of the places from number `from` on: these are passed four at a time.
 fn passed_by_fours(
     words: &[u32],
@@ -141,7 +175,7 @@ fn passed_by_fours(
         if places.len() - i < FOUR {
             break i;
         }
-        if !is_at_none(words, before, places, i, value, former) {
+        if !passes_four(words, before, places, i, value, former) {
             break i;
         }
         i += FOUR;
