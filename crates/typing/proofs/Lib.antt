@@ -3,6 +3,7 @@ pub mod KindWalks
 pub mod FirstBit
 pub mod PathSets
 pub mod KnownSets
+pub mod StepLaws
 pub mod PlaceLaws
 pub mod PathLaws
 pub mod Rulings
