@@ -38,8 +38,9 @@ const SETS: usize = TYPES * WORDS;
 
 const TEXTS: usize = 16;
 
-// A remembered step has its place by a sum's rest to a prime below the number of types.
-const PRIME: u64 = 127;
+// A remembered step has its place by its set, as a number, and its text: their sum's rest to a prime of which 2 is a primitive root, so that sets
+// which differ by one type seldom share a place. The words of a set count by the rests of the powers of 2^32.
+const PRIME: u64 = 107;
 
 // ---- sets
 
@@ -237,9 +238,9 @@ fn place_in(types: &[u32], text: u32) -> usize
 {
     let x = text as u64
         + read(types, 0) as u64
-        + read(types, 1) as u64 * 3
-        + read(types, 2) as u64 * 5
-        + read(types, 3) as u64 * 11;
+        + read(types, 1) as u64 * 29
+        + read(types, 2) as u64 * 92
+        + read(types, 3) as u64 * 100;
     (x % PRIME) as usize
 }
 
