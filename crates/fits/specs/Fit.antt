@@ -39,6 +39,14 @@ kindIn y k = memN k (kindsIn y)
 unfoldable pub hasIn : List ℕ → ℕ → Bool
 hasIn r t = isSome (entryOf t (entriesOf (items r)))
 
+-- what record r has from word i on, it has
+pub record Within (r : List ℕ) (i : ℕ) : Type 0 where
+  pub had : (t : ℕ) → isSome (entryOf t (entriesOf (drop i r))) ≡ true → hasIn r t ≡ true
+
+-- where record r goes on after word i: behind its attribute there, where that is t
+unfoldable pub afterIn : List ℕ → ℕ → ℕ → ℕ
+afterIn r t i = cond (ltb (i + 1) (length r) && eqb t (getD r i 0)) (i + 2) i
+
 -- record r has all attributes that record type y requires
 unfoldable pub completeIn : List ℕ → List ℕ → Bool
 completeIn r y = requiredThere (declareds (items y)) (hasIn r)

@@ -26,6 +26,8 @@ ghost use Rattle.fits.specs.Fit.{
   kindIn,
   hasIn,
   completeIn,
+  afterIn,
+  Within,
   metAt,
   declaredBy,
   foundIn,
@@ -90,29 +92,52 @@ pub fn declared(type_row: &[u32], text: u32) -> Found
     Found::Undeclared
 }
 
-// Whether the attribute declared at `i` is optional or there.
-fn meets(value_row: &[u32], type_row: &[u32], i: usize) -> bool
+// Where a record goes on after `place`: behind its attribute there, where that is this one.
+fn after(line: &[u32], text: u32, place: usize) -> usize
+    ensures { λ n. ⌜ n ≡ afterIn (now (line .entry)) text place ⌝ }
+{
+    if place >= line.len() {
+        return place;
+    }
+    if line.len() - place < 2 {
+        return place;
+    }
+    if text == item(line, place) {
+        return place + 2;
+    }
+    place
+}
+
+// Whether the attribute declared at `i` is optional or there; it is looked for at `place` first.
+fn meets(value_row: &[u32], type_row: &[u32], i: usize, place: usize) -> bool
     requires { ⌜ i < length (now «type_row») ⌝ }
+    requires { ⌜ Within (now «value_row») place ⌝ }
     ensures { λ b. ⌜ b ≡ metAt (now («value_row» .entry)) (now («type_row» .entry)) i ⌝ }
 {
+    let text = item(type_row, i);
+    if after(value_row, text, place) > place {
+        return true;
+    }
     if item(type_row, i + 1) == REQUIRED {
-        return there(value_row, item(type_row, i));
+        return there(value_row, text);
     }
     true
 }
 
-// Whether a record has all attributes that the type requires.
+// Whether a record has all attributes that the type requires. Where both ascend, each is found at the place where the last one ended.
 pub fn complete(value_row: &[u32], type_row: &[u32]) -> bool
     ensures { λ b. ⌜ b ≡ completeIn (now («value_row» .entry)) (now («type_row» .entry)) ⌝ }
 {
     let mut i: usize = 1;
+    let mut place: usize = 1;
     while i < type_row.len() {
         if type_row.len() - i < 3 {
             return true;
         }
-        if !meets(value_row, type_row, i) {
+        if !meets(value_row, type_row, i, place) {
             return false;
         }
+        place = after(value_row, item(type_row, i), place);
         i += 3;
     }
     true
