@@ -15,7 +15,7 @@ use Rattle.cedar.specs.Numbered.{entryOf, isSome, pickN}
 use Rattle.sheet.specs.Forms.{items}
 use Rattle.sheet.specs.State.{declareds, entriesOf}
 use Rattle.sheet.specs.Typing.{declaredIn, requiredThere}
-use Rattle.fits.specs.Fit.{hasIn, Within, afterIn, completeIn, metAt, declaredBy, foundIn}
+use Rattle.fits.specs.Fit.{hasIn, Within, afterIn, completeIn, metAt, Ahead, declaredBy, foundIn}
 use Rattle.fits.specs.declared.Found as F
 
 -- ---- the items from i on
@@ -109,6 +109,33 @@ module _ (y : List ℕ) (t i : ℕ) (inv : Declares y t i) where
 
     pub declared-on : (t ≡ x → ⊥) → Declares y t (i + 3)
     declared-on e = record { left = inv .left ∙ rw (declareds-on y i (omega arith), ← ex, ne-eqb t x e) }
+
+-- ---- `seek`
+
+pub ahead-start : (y : List ℕ) → Ahead y 1
+unfolding declaredBy
+ahead-start y = record { left = λ t h. refl }
+
+-- the attributes passed are below t
+pub record Seeks (y : List ℕ) (t i : ℕ) : Type 0 where
+  pub above : (u : ℕ) → t ≤ u → getD y i 0 ≤ u → declaredBy y u ≡ declaredIn u (declareds (drop i y))
+
+pub seek-start : (y : List ℕ) (t i : ℕ) → Ahead y i → Seeks y t i
+seek-start y t i a = record { above = λ u h l. a .left u l }
+
+module _ (y : List ℕ) (t i : ℕ) (g : Seeks y t i) (x : ℕ) (n : 3 ≤ length y - i) (ex : x ≡ getD y i 0) where
+  pub seek-hit : t ≤ x → Ahead y i
+  seek-hit h = record { left = λ u l. g .above u (omega (arith, h, ex, l)) l }
+
+  pub seek-on : x < t → Seeks y t (i + 3)
+  seek-on h = record {
+    above = λ u k l. g .above u k (omega (arith, h, ex, k)) ∙ rw (declareds-on y i (omega arith), ← ex, ne-eqb u x (λ e. omega (arith, e, h, k)));
+  }
+
+pub declared-here : (y : List ℕ) (t i x z : ℕ) → Ahead y i → 3 ≤ length y - i → x ≡ getD y i 0 → t ≡ x → z ≡ getD y (i + 2) 0 → foundIn (F.the-variants.As z) ≡ declaredBy y t
+declared-here y t i x z a n ex e ez =
+    let q : declaredIn t (declareds (drop i y)) ≡ some z = rw (declareds-on y i (omega arith), ← ex, eq-eqb t x e, ← ez) in
+    sym (a .left t (omega (arith, ex, e)) ∙ q)
 
 -- ---- `after`
 

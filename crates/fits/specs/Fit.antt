@@ -3,7 +3,7 @@ use mathlib.Core.Path.{_≡_}
 use mathlib.Core.Bool.{Bool, true, false, cond, _&&_, _||_, not}
 use mathlib.Core.List.{List, [], _∷_}
 use mathlib.Core.Option.{Option, none, some}
-use Prim.Native.Nat.{ℕ, _+_, _-_, _*_, max}
+use Prim.Native.Nat.{ℕ, _+_, _-_, _*_, _≤_, max}
 use lib.Dec.{ltb, eqb}
 use lib.ListN.{length, getD, drop}
 use Rattle.cedar.specs.Value.{onSome}
@@ -58,6 +58,10 @@ metAt r y i = not (eqb (getD y (i + 1) 0) REQUIRED) || hasIn r (getD y i 0)
 -- the type that record type y declares for attribute t, and what the answer of a search says
 unfoldable pub declaredBy : List ℕ → ℕ → Option ℕ
 declaredBy y t = declaredIn t (declareds (items y))
+
+-- what record type y declares for the attribute at word i and those above it stands from there on
+pub record Ahead (y : List ℕ) (i : ℕ) : Type 0 where
+  pub left : (t : ℕ) → getD y i 0 ≤ t → declaredBy y t ≡ declaredIn t (declareds (drop i y))
 
 abbrev pub foundIn : F.Found → Option ℕ
 foundIn (F.the-variants.As y) = some y

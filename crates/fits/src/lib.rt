@@ -29,6 +29,7 @@ ghost use Rattle.fits.specs.Fit.{
   afterIn,
   Within,
   metAt,
+  Ahead,
   declaredBy,
   foundIn,
   setFits,
@@ -90,6 +91,41 @@ pub fn declared(type_row: &[u32], text: u32) -> Found
         i += 3;
     }
     Found::Undeclared
+}
+
+// Where to look for an attribute, from `place` on: at the first one that is not below it.
+fn seek(type_row: &[u32], text: u32, place: usize) -> usize
+    requires { ⌜ Ahead (now «type_row») place ⌝ }
+    ensures { λ n. ⌜ Ahead (now («type_row» .entry)) n ⌝ }
+{
+    let mut i = place;
+    while i < type_row.len() {
+        if type_row.len() - i < 3 {
+            return place;
+        }
+        if item(type_row, i) >= text {
+            return i;
+        }
+        i += 3;
+    }
+    place
+}
+
+// The type that a record type declares for this attribute; it is looked for at `place` first.
+fn declared_at(type_row: &[u32], text: u32, place: usize) -> Found
+    requires { ⌜ Ahead (now «type_row») place ⌝ }
+    ensures { λ f. ⌜ foundIn f ≡ declaredBy (now («type_row» .entry)) text ⌝ }
+{
+    if place >= type_row.len() {
+        return declared(type_row, text);
+    }
+    if type_row.len() - place < 3 {
+        return declared(type_row, text);
+    }
+    if text == item(type_row, place) {
+        return Found::As(item(type_row, place + 2));
+    }
+    declared(type_row, text)
 }
 
 // Where a record goes on after `place`: behind its attribute there, where that is this one.
@@ -248,17 +284,20 @@ fn elements(rows: &[u32], work: &mut [u32], line: &[u32], ty: u32, depth: u32) -
     true
 }
 
-// Whether each attribute of a record is declared and fits.
+// Whether each attribute of a record is declared and fits. Where both ascend, each is found in one pass.
 fn entries(rows: &[u32], work: &mut [u32], value_row: &[u32], type_row: &[u32], depth: u32) -> bool
     requires { ⌜ Known (now rows) (now work) ⌝ }
     ensures { λ b. ⌜ Ran (now (rows .entry)) (now (work .entry)) (now (work .exit)) (recordFits (deep (now (rows .entry)) depth) (now («value_row» .entry)) (now («type_row» .entry))) (recordFits (full (now (rows .entry))) (now («value_row» .entry)) (now («type_row» .entry))) b ⌝ }
 {
     let mut i: usize = 1;
+    let mut place: usize = 1;
     while i < value_row.len() {
         if i + 1 == value_row.len() {
             return true;
         }
-        let f = declared(type_row, item(value_row, i));
+        let text = item(value_row, i);
+        place = seek(type_row, text, place);
+        let f = declared_at(type_row, text, place);
         let Found::As(z) = f else {
             return false;
         };
