@@ -183,6 +183,7 @@ pub fn all() -> Vec<(&'static str, Mode, Vec<u8>)> {
     add("64 policies over one root of 16 nodes, both slots linked", linked());
     add("64 policies over one root, a star and many empty texts", long_pattern(b"", true));
     add("64 policies over one root, haspath over many steps, the last of 128 entities", entity_steps(b"last", true));
+    add("64 policies over one root, five paths through a ring of 128 entities", shared_ring());
     add("64 policies over one root, made values among many", shared_made(1));
     add("64 policies over one root, any on long sets", shared_sets());
     add("64 policies over one root, get in a long record", shared_gets());
@@ -205,6 +206,7 @@ pub fn all() -> Vec<(&'static str, Mode, Vec<u8>)> {
     add("has in a group of 31 kinds with a long record", has_in_group());
     add("64 policies over one root, has in a group of 31 kinds with a long record", shared_has_in_group());
     add("haspath to and fro between two sets of 31 types", steps_between_sets());
+    add("haspath over sets of types that hardly repeat", steps_over_new_sets());
     add("haspath to and fro between two groups, ten records of 95 attributes", steps_between_groups());
     add("16 policies over one root of 20 in a long set of entities of 26 kinds", shared_in_kinds());
     add("512 texts with a long common end", common_text_ends());
@@ -874,6 +876,38 @@ fn entity_steps(text: &[u8], shared: bool) -> Draft {
     })
 }
 
+/// 128 entities, each of which has the next one as this attribute, and the last one the first.
+fn ring_of(draft: &mut Draft, attribute: u32) {
+    let row = brokers(draft, 128);
+    let none = Some(draft.value(ValueRow::Record(Vec::new())));
+    let parents = Some(draft.value(ValueRow::Set(Vec::new())));
+    for (n, entity) in row.iter().enumerate() {
+        let attributes = Some(draft.value(ValueRow::Record(vec![(attribute, row[(n + 1) % row.len()])])));
+        draft.entities.push(EntityRow { entity: *entity, attributes, tags: none, parents });
+    }
+}
+
+/// Five paths of as many steps as fit from the last of 128 entities, each step to the next entity of the ring. No two paths are
+/// equally long.
+fn shared_ring() -> Draft {
+    let mut draft = small();
+    let a = draft.text(b"a");
+    draft.shapes[0].attributes = draft.ty(TypeRow::Record(vec![(a, false, 2)]));
+    ring_of(&mut draft, a);
+    draft.principal = (0, Some(draft.text(b"127")));
+    greatest(|steps| {
+        let mut next = draft.clone();
+        let leaves = (0..5)
+            .map(|more| {
+                let var = next.node(2, Operation::Var(Variable::Principal));
+                next.node(0, Operation::HasPath(var, vec![a; steps + more]))
+            })
+            .collect();
+        sixteen(&mut next, Two::And, leaves);
+        next
+    })
+}
+
 /// A path of as many steps as fit through the last of so many declared attributes.
 fn attribute_steps(count: usize) -> Draft {
     let mut draft = small();
@@ -1185,6 +1219,27 @@ fn steps_between_sets() -> Draft {
     }
     let all = draft.ty(TypeRow::Entity(kinds));
     longest(draft, all, &[2, 0])
+}
+
+/// Each kind declares the next one as text 0, and itself as text 2, but the first two declare each other: a path of both texts
+/// in random order permutes the kinds, and more than half of its steps go from 24 of them to a set not reached before.
+fn steps_over_new_sets() -> Draft {
+    let mut draft = many_kinds();
+    let kinds: Vec<u32> = ordinary_kinds().collect();
+    let alone: Vec<u32> = kinds.iter().map(|kind| draft.alone(*kind)).collect();
+    for (n, kind) in kinds.iter().enumerate() {
+        let next = alone[(n + 1) % alone.len()];
+        let swapped = alone[if n < 2 { 1 - n } else { n }];
+        draft.shapes[*kind as usize].attributes = draft.ty(TypeRow::Record(vec![(0, false, next), (2, false, swapped)]));
+    }
+    let group = draft.ty(TypeRow::Entity(kinds[..24].to_vec()));
+    let mut random = Random::of(1, 0);
+    let path: Vec<u32> = (0..SHEET_BYTES / 2).map(|_| random.pick(&[0, 2])).collect();
+    greatest(|count| {
+        let mut next = draft.clone();
+        steps(&mut next, group, path[..40 * count].to_vec());
+        next
+    })
 }
 
 /// Each of eleven kinds declares the group of all of them and that of the first ten as the last two of 95 attributes. The
