@@ -1221,16 +1221,16 @@ fn steps_between_sets() -> Draft {
     longest(draft, all, &[2, 0])
 }
 
-/// Each kind declares the next one as text 0, and itself as text 2, but the first two declare each other: a path of both texts
-/// in random order permutes the kinds, and more than half of its steps go from 24 of them to a set not reached before.
+/// Each kind declares the next one as text 0, and the next one but for an exchange of the first two as text 2: a path of both
+/// texts in random order permutes the kinds, and nearly every step goes from 24 of them to a set not reached before.
 fn steps_over_new_sets() -> Draft {
     let mut draft = many_kinds();
     let kinds: Vec<u32> = ordinary_kinds().collect();
     let alone: Vec<u32> = kinds.iter().map(|kind| draft.alone(*kind)).collect();
     for (n, kind) in kinds.iter().enumerate() {
-        let next = alone[(n + 1) % alone.len()];
-        let swapped = alone[if n < 2 { 1 - n } else { n }];
-        draft.shapes[*kind as usize].attributes = draft.ty(TypeRow::Record(vec![(0, false, next), (2, false, swapped)]));
+        let next = (n + 1) % alone.len();
+        let swapped = if next < 2 { 1 - next } else { next };
+        draft.shapes[*kind as usize].attributes = draft.ty(TypeRow::Record(vec![(0, false, alone[next]), (2, false, alone[swapped])]));
     }
     let group = draft.ty(TypeRow::Entity(kinds[..24].to_vec()));
     let mut random = Random::of(1, 0);
