@@ -198,6 +198,9 @@ pub fn first_unfit(rows: &[u32]) -> u32
     ensures { λ i. ⌜ i ≡ unfitFrom (now (rows .entry)) (rowsOf (now (rows .entry)) ENTITY) ⌝ }
 {
     let n = count(rows, ENTITY);
+    if n == 0 {
+        return 0;
+    }
     let mut fit: [u32; LINES] = [0; LINES];
     ask_last(rows, &mut fit[..]);
     let mut i = 0;
