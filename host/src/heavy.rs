@@ -1230,7 +1230,8 @@ fn steps_over_new_sets() -> Draft {
     for (n, kind) in kinds.iter().enumerate() {
         let next = (n + 1) % alone.len();
         let swapped = if next < 2 { 1 - next } else { next };
-        draft.shapes[*kind as usize].attributes = draft.ty(TypeRow::Record(vec![(0, false, alone[next]), (2, false, alone[swapped])]));
+        draft.shapes[*kind as usize].attributes =
+            draft.ty(TypeRow::Record(vec![(0, false, alone[next]), (2, false, alone[swapped])]));
     }
     let group = draft.ty(TypeRow::Entity(kinds[..24].to_vec()));
     let mut random = Random::of(1, 0);
