@@ -13,7 +13,7 @@ kinds of the callees, in the order of their first calls, `-` for a callee whose 
 Rattle.firm.proofs and Z is 'record { principal = 0; resource = 0; decision = 0 }':
 
     struct_slices.py .. crates/firm/proofs/firm/Proof/Lts.antt firm P.Row Rattle.firm.specs.declared.Row Z \\
-        P.begin.Kinds,P.check.Kinds,P.single.Kinds,P.join.Kinds,P.finish.Kinds
+        P.begin.Kinds,P.check.Kinds,P.row_words.Kinds,P.single.Kinds,P.join.Kinds,P.finish.Kinds
     struct_slices.py .. crates/openrules_c/proofs/openrules_firm/Proof/Lts.antt openrules_firm Rattle.firm.proofs.Row Rattle.firm.specs.declared.Row Z -
 
 What the derivation leaves is answered in Proof.antt as for a covered function; Proof/Reads.antt reads the contract, and openrules_firm/Proof/Firm.antt
@@ -87,7 +87,14 @@ for number, module in enumerate(kinds):
     for kind in ["ps", "r"]:
         text = re.sub(r"(abbrev pub %s·%d : [^\n]*\n)%s·%d = [^\n]*" % (kind, number, kind, number), r"\1%s·%d = kinds·%d.%s" % (kind, number, number, kind), text)
 gone = re.compile(r"^use (borrow\.Rule\.Array\.(Rows|Init|Whole)|denote\.Array|borrow\.Kind\.Array)\b")
-uses = [use for use in uses if not gone.match(use)]
+
+
+def named(use):
+    """Whether the text names it still, as it does where an array is no element."""
+    return re.search(r"(?<![\w'.])" + re.split(r"[ .]", use)[-1] + r"\.", text)
+
+
+uses = [use for use in uses if not gone.match(use) or named(use)]
 for module in ["borrow.Rule.Local", "borrow.Rule.Yields", "borrow.Table.Copies", "borrow.Table.Rows" + ("" if ROWS == "Rows" else " as " + ROWS)]:
     if "use " + module not in uses:
         uses.append("use " + module)

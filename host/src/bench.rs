@@ -174,7 +174,11 @@ pub fn finish_bench(library: Call, finish: Finish, rounds: usize) {
 
 /// The fourth table: a list of rows beside a call for each of them, on the sheet with its texts filled in.
 pub fn firm_bench(library: Call, call: Firm, rounds: usize) {
-    println!("\n| ordinary sheet, bytes | {} calls, ns | firm without rows, ns | with {} rows, ns | a row, ns | of the calls |", firm::ROWS, firm::ROWS);
+    println!(
+        "\n| ordinary sheet, bytes | {} calls, ns | firm without rows, ns | with {} rows, ns | a row, ns | of the calls |",
+        firm::ROWS,
+        firm::ROWS
+    );
     println!("|---|---|---|---|---|---|");
     let mut out = vec![0u8; ANSWER_BYTES];
     let (mut a, mut b) = (vec![0u32; WORK_WORDS], vec![0u32; WORK_WORDS]);

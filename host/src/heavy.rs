@@ -183,7 +183,8 @@ pub fn all() -> Vec<(&'static str, Mode, Vec<u8>)> {
     add("64 policies over one root of 16 nodes, both slots linked", linked());
     add("64 policies over one root, a star and many empty texts", long_pattern(b"", true));
     add("64 policies over one root, haspath over many steps, the last of 128 entities", entity_steps(b"last", true));
-    add("64 policies over one root, made values among many", shared_made());
+    add("64 policies over one root, five paths through a ring of 128 entities", shared_ring());
+    add("64 policies over one root, made values among many", shared_made(1));
     add("64 policies over one root, any on long sets", shared_sets());
     add("64 policies over one root, get in a long record", shared_gets());
     add("16 policies over one root of 20 in, through a row of 128 entities", shared_in(|draft| row_of(draft, false), 1));
@@ -202,10 +203,22 @@ pub fn all() -> Vec<(&'static str, Mode, Vec<u8>)> {
     add("haspath over many steps, each kind declares a group of its own", steps_in_groups());
     add("in of two groups, no pair allowed", pairs_of_kinds());
     add("get in a group of 31 kinds with a long record", get_in_group());
+    add("has in a group of 31 kinds with a long record", has_in_group());
+    add("64 policies over one root, has in a group of 31 kinds with a long record", shared_has_in_group());
+    add("haspath to and fro between two sets of 31 types", steps_between_sets());
+    add("haspath over sets of types that hardly repeat", steps_over_new_sets());
+    add("haspath to and fro between two groups, ten records of 95 attributes", steps_between_groups());
+    add("16 policies over one root of 20 in a long set of entities of 26 kinds", shared_in_kinds());
+    add("512 texts with a long common end", common_text_ends());
+    add("many sets with a common end", sets_of_common_end());
+    add("64 policies over one root, made values among many sets with a common end", shared_common_ends());
+    add("64 policies over one root, made longs among many with the same low word", shared_made(1 << 32));
+    add("literals of long records, each of many record types", record_fits());
+    add("16 policies over one root of 20 all on long sets", shared_all());
     add("complete: 64 policies over one root with long patterns", completed(shared_root(Long::Patterns, true)));
     add("complete: 64 policies over one root with long paths", completed(shared_root(Long::Paths, true)));
     add("complete: 64 policies over one root of 16 nodes, both slots linked", completed(linked()));
-    add("complete: 64 policies over one root, made values among many", completed(shared_made()));
+    add("complete: 64 policies over one root, made values among many", completed(shared_made(1)));
     add("complete: 64 policies over one root, any on long sets", completed(shared_sets()));
     add("complete: 64 policies over one root, get in a long record", completed(shared_gets()));
     add("complete: shared rows", completed(shared(62)));
@@ -232,7 +245,7 @@ pub fn pairs() -> Vec<(String, [Vec<u8>; 2])> {
     let mut add = |name: &str, draft: Draft| list.push((name.to_string(), [draft.bytes(), completed(draft).bytes()]));
     add("64 policies over one root of 16 nodes, both slots linked", linked());
     add("64 policies over one root with long patterns", shared_root(Long::Patterns, true));
-    add("64 policies over one root, made values among many", shared_made());
+    add("64 policies over one root, made values among many", shared_made(1));
     add("64 policies over one root, any on long sets", shared_sets());
     add("64 policies over one root, get in a long record", shared_gets());
     add("one pattern, almost matching often", almost());
@@ -275,6 +288,27 @@ fn common_starts() -> Draft {
     })
 }
 
+/// A small sheet of longs, and the last of them.
+fn longs_of_sets() -> (Draft, u32) {
+    let mut draft = small();
+    let last = (0..44).map(|n| draft.value(ValueRow::Long(n))).last().expect("a value");
+    (draft, last)
+}
+
+/// As many sets as fit, each of the last long and two before it.
+fn common_ends(draft: Draft, last: u32) -> Draft {
+    let pairs: Vec<[u32; 2]> = (0..last).flat_map(|low| (low + 1..last).map(move |high| [low, high])).collect();
+    fill(draft, pairs.len(), |draft, n| {
+        let [low, high] = pairs[n];
+        draft.value(ValueRow::Set(vec![low, high, last]));
+    })
+}
+
+fn sets_of_common_end() -> Draft {
+    let (draft, last) = longs_of_sets();
+    common_ends(draft, last)
+}
+
 fn many_fits() -> Draft {
     let mut draft = small();
     let members: Vec<u32> = (0..300)
@@ -295,6 +329,30 @@ fn many_fits() -> Draft {
         let lit = draft.node(sets[n % sets.len()], Operation::Lit(all));
         draft.node(0, Operation::One(One::Empty, lit))
     })
+}
+
+/// A set of 14 records of 98 attributes, as a literal of each of 11 types, of which each leaves another attribute optional.
+fn record_fits() -> Draft {
+    let mut draft = small();
+    let count = 98;
+    for n in 4..count {
+        draft.text(format!("{n}").as_bytes());
+    }
+    let [yes, no] = [true, false].map(|b| draft.value(ValueRow::Bool(b)));
+    let records: Vec<u32> = (0..14)
+        .map(|own| draft.value(ValueRow::Record((0..count).map(|t| (t, if t == own { no } else { yes })).collect())))
+        .collect();
+    let all = draft.value(ValueRow::Set(records));
+    let leaves = (0..11)
+        .map(|own| {
+            let record = draft.ty(TypeRow::Record((0..count).map(|t| (t, t != own, 0)).collect()));
+            let set = draft.ty(TypeRow::Set(record));
+            let lit = draft.node(set, Operation::Lit(all));
+            draft.node(0, Operation::One(One::Empty, lit))
+        })
+        .collect();
+    join(&mut draft, leaves, Two::Or);
+    draft
 }
 
 /// Fills a sheet with what `more` adds, as long as it stays accepted by size.
@@ -372,6 +430,12 @@ fn many_texts() -> Draft {
     })
 }
 
+fn common_text_ends() -> Draft {
+    fill(small(), 508, |draft, n| {
+        draft.text(format!("{n:0>3} and then the same end").as_bytes());
+    })
+}
+
 fn many_types() -> Draft {
     let mut draft = small();
     for n in 4..32 {
@@ -431,7 +495,7 @@ fn long_pattern(piece: &[u8], shared: bool) -> Draft {
 /// One policy of this root, or 64 over it.
 fn under(draft: &mut Draft, root: u32, shared: bool) {
     match shared {
-        true => sixteen(draft, vec![root]),
+        true => sixteen(draft, Two::And, vec![root]),
         false => draft.policy(3, true, root),
     }
 }
@@ -683,24 +747,59 @@ fn is_in(draft: &mut Draft, low: u32, ty: u32, high: u32) -> u32 {
 }
 
 /// 16 policies over one root that asks twenty times and makes a set of the answers: 320 times together, in 992 uses.
-fn shared_in(low: impl Fn(&mut Draft) -> u32, targets: usize) -> Draft {
-    let mut draft = kinless();
-    let low = low(&mut draft);
-    let (ty, high) = unreached(&mut draft, targets);
+fn twenty(draft: &mut Draft, ask: impl Fn(&mut Draft) -> u32) {
     let answers = draft.ty(TypeRow::Set(0));
-    let leaves = (0..20).map(|_| is_in(&mut draft, low, ty, high)).collect();
+    let leaves = (0..20).map(|_| ask(draft)).collect();
     let set = draft.node(answers, Operation::Set(leaves));
     let root = draft.node(0, Operation::One(One::Empty, set));
     for n in 0..16 {
         let id = draft.text(format!("{n}").as_bytes());
         draft.policy(id, true, root);
     }
+}
+
+fn shared_in(low: impl Fn(&mut Draft) -> u32, targets: usize) -> Draft {
+    let mut draft = kinless();
+    let low = low(&mut draft);
+    let (ty, high) = unreached(&mut draft, targets);
+    twenty(&mut draft, |draft| is_in(draft, low, ty, high));
     draft
 }
 
 /// The same over as many parents as fit: fewer entities leave more room for them.
 fn shared_own_sets(lines: usize, targets: usize) -> Draft {
     greatest(|parents| shared_in(|draft| own_sets_of(draft, lines, parents), targets))
+}
+
+/// An entity without parents, asked for in a set of others that all have the same few texts.
+fn shared_in_kinds() -> Draft {
+    let mut draft = many_kinds();
+    let kinds: Vec<u32> = ordinary_kinds().take(26).collect();
+    let text = draft.texts.len() as u32 - 1;
+    let low = draft.value(ValueRow::Entity(0, text));
+    kin(&mut draft, &[low], |_| Vec::new());
+    let others = kinds.iter().flat_map(|kind| (0..22).map(move |t| ValueRow::Entity(*kind, t)));
+    let others: Vec<u32> = others.map(|row| draft.value(row)).collect();
+    let others = draft.value(ValueRow::Set(others));
+    let group = draft.ty(TypeRow::Entity(kinds));
+    let set = draft.ty(TypeRow::Set(group));
+    twenty(&mut draft, |draft| is_in(draft, low, set, others));
+    draft
+}
+
+/// Whether a set of as many longs as fit has all of its own members.
+fn shared_all() -> Draft {
+    greatest(|count| {
+        let mut draft = small();
+        let longs = draft.ty(TypeRow::Set(3));
+        let members = (0..count).map(|n| draft.value(ValueRow::Long(n as i64))).collect();
+        let set = draft.value(ValueRow::Set(members));
+        twenty(&mut draft, |draft| {
+            let [x, y] = [(); 2].map(|_| draft.node(longs, Operation::Lit(set)));
+            draft.node(0, Operation::Two(Two::All, x, y))
+        });
+        draft
+    })
 }
 
 fn look_ups() -> Draft {
@@ -773,6 +872,38 @@ fn entity_steps(text: &[u8], shared: bool) -> Draft {
         let var = next.node(2, Operation::Var(Variable::Principal));
         let path = next.node(0, Operation::HasPath(var, vec![a; steps]));
         under(&mut next, path, shared);
+        next
+    })
+}
+
+/// 128 entities, each of which has the next one as this attribute, and the last one the first.
+fn ring_of(draft: &mut Draft, attribute: u32) {
+    let row = brokers(draft, 128);
+    let none = Some(draft.value(ValueRow::Record(Vec::new())));
+    let parents = Some(draft.value(ValueRow::Set(Vec::new())));
+    for (n, entity) in row.iter().enumerate() {
+        let attributes = Some(draft.value(ValueRow::Record(vec![(attribute, row[(n + 1) % row.len()])])));
+        draft.entities.push(EntityRow { entity: *entity, attributes, tags: none, parents });
+    }
+}
+
+/// Five paths of as many steps as fit from the last of 128 entities, each step to the next entity of the ring. No two paths are
+/// equally long.
+fn shared_ring() -> Draft {
+    let mut draft = small();
+    let a = draft.text(b"a");
+    draft.shapes[0].attributes = draft.ty(TypeRow::Record(vec![(a, false, 2)]));
+    ring_of(&mut draft, a);
+    draft.principal = (0, Some(draft.text(b"127")));
+    greatest(|steps| {
+        let mut next = draft.clone();
+        let leaves = (0..5)
+            .map(|more| {
+                let var = next.node(2, Operation::Var(Variable::Principal));
+                next.node(0, Operation::HasPath(var, vec![a; steps + more]))
+            })
+            .collect();
+        sixteen(&mut next, Two::And, leaves);
         next
     })
 }
@@ -896,7 +1027,7 @@ fn shared_root(long: Long, known: bool) -> Draft {
                 })
                 .collect(),
         };
-        sixteen(&mut next, leaves);
+        sixteen(&mut next, Two::And, leaves);
         next
     })
 }
@@ -908,11 +1039,11 @@ fn greatest(build: impl Fn(usize) -> Draft) -> Draft {
     (1..).map(build).take_while(fits).last().expect("the first fits")
 }
 
-/// 64 policies over one root: leaves joined by `and`, and `not` up to 16 nodes.
-fn sixteen(draft: &mut Draft, leaves: Vec<u32>) {
+/// 64 policies over one root: leaves joined by `two`, and `not` up to 16 nodes.
+fn sixteen(draft: &mut Draft, two: Two, leaves: Vec<u32>) {
     let mut leaves = leaves.into_iter();
     let first = leaves.next().expect("a leaf");
-    let mut root = leaves.fold(first, |left, right| draft.node(0, Operation::Two(Two::And, left, right)));
+    let mut root = leaves.fold(first, |left, right| draft.node(0, Operation::Two(two, left, right)));
     while draft.nodes.len() < 16 {
         root = draft.node(0, Operation::One(One::Not, root));
     }
@@ -922,20 +1053,31 @@ fn sixteen(draft: &mut Draft, leaves: Vec<u32>) {
     }
 }
 
-/// Twelve values made or found again for each policy, each looked for among as many values as fit.
-fn shared_made() -> Draft {
+/// Twelve values made or found again for each of 64 policies: a long, negated again and again.
+fn negated(draft: &mut Draft, long: u32) {
+    let mut node = draft.node(3, Operation::Lit(long));
+    for _ in 0..12 {
+        node = draft.node(3, Operation::One(One::Neg, node));
+    }
+    let other = draft.node(3, Operation::Lit(long));
+    let less = draft.node(0, Operation::Two(Two::Le, node, other));
+    sixteen(draft, Two::And, vec![less]);
+}
+
+/// Each of the made values is looked for among as many longs as fit, which are so far apart.
+fn shared_made(step: i64) -> Draft {
     greatest(|count| {
         let mut draft = small();
-        let last = (0..count).map(|n| draft.value(ValueRow::Long(n as i64))).last().expect("a value");
-        let mut node = draft.node(3, Operation::Lit(last));
-        for _ in 0..12 {
-            node = draft.node(3, Operation::One(One::Neg, node));
-        }
-        let other = draft.node(3, Operation::Lit(last));
-        let less = draft.node(0, Operation::Two(Two::Le, node, other));
-        sixteen(&mut draft, vec![less]);
+        let last = (0..count).map(|n| draft.value(ValueRow::Long(n as i64 * step))).last().expect("a value");
+        negated(&mut draft, last);
         draft
     })
+}
+
+fn shared_common_ends() -> Draft {
+    let (mut draft, last) = longs_of_sets();
+    negated(&mut draft, last);
+    common_ends(draft, last)
 }
 
 fn shared_sets() -> Draft {
@@ -954,7 +1096,7 @@ fn shared_sets() -> Draft {
                 draft.node(0, Operation::One(One::Not, any))
             })
             .collect();
-        sixteen(&mut draft, leaves);
+        sixteen(&mut draft, Two::And, leaves);
         draft
     })
 }
@@ -974,7 +1116,7 @@ fn shared_gets() -> Draft {
                 draft.node(0, Operation::Get(var, last))
             })
             .collect();
-        sixteen(&mut draft, leaves);
+        sixteen(&mut draft, Two::And, leaves);
         draft
     })
 }
@@ -1025,11 +1167,11 @@ fn ordinary_kinds() -> impl Iterator<Item = u32> {
     (0..32).filter(|kind| *kind != 1)
 }
 
-/// One haspath of so many steps of text 3 over an entity of a type.
-fn steps(draft: &mut Draft, ty: u32, count: usize) {
+/// One haspath over an entity of a type.
+fn steps(draft: &mut Draft, ty: u32, path: Vec<u32>) {
     let v = draft.value(ValueRow::Entity(0, 3));
     let lit = draft.node(ty, Operation::Lit(v));
-    let root = draft.node(0, Operation::HasPath(lit, vec![3; count]));
+    let root = draft.node(0, Operation::HasPath(lit, path));
     draft.policy(3, true, root);
 }
 
@@ -1040,7 +1182,7 @@ fn steps_in_one_group() -> Draft {
     for kind in ordinary_kinds() {
         draft.shapes[kind as usize].attributes = record;
     }
-    steps(&mut draft, all, 2000);
+    steps(&mut draft, all, vec![3; 2000]);
     draft
 }
 
@@ -1052,11 +1194,77 @@ fn steps_in_groups() -> Draft {
         last = draft.ty(TypeRow::Entity((0..32).filter(|other| *other != kind).collect()));
         draft.shapes[kind as usize].attributes = draft.ty(TypeRow::Record(vec![(3, false, last)]));
     }
+    longest(draft, last, &[3])
+}
+
+/// A path that takes these steps over and over, as often as fits.
+fn longest(draft: Draft, ty: u32, path: &[u32]) -> Draft {
     greatest(|count| {
         let mut next = draft.clone();
-        steps(&mut next, last, 40 * count);
+        steps(&mut next, ty, path.repeat(40 * count));
         next
     })
+}
+
+/// Each kind declares itself alone, and the group of itself and the next one: a path goes from all the kinds alone to all those
+/// groups and back.
+fn steps_between_sets() -> Draft {
+    let mut draft = many_kinds();
+    let kinds: Vec<u32> = ordinary_kinds().collect();
+    for (n, kind) in kinds.iter().enumerate() {
+        let mut two = [*kind, kinds[(n + 1) % kinds.len()]];
+        two.sort();
+        let (alone, two) = (draft.alone(*kind), draft.ty(TypeRow::Entity(two.to_vec())));
+        draft.shapes[*kind as usize].attributes = draft.ty(TypeRow::Record(vec![(0, false, alone), (2, false, two)]));
+    }
+    let all = draft.ty(TypeRow::Entity(kinds));
+    longest(draft, all, &[2, 0])
+}
+
+/// Each kind declares the next one as text 0, and the next one but for an exchange of the first two as text 2: a path of both
+/// texts in random order permutes the kinds, and nearly every step goes from 24 of them to a set not reached before.
+fn steps_over_new_sets() -> Draft {
+    let mut draft = many_kinds();
+    let kinds: Vec<u32> = ordinary_kinds().collect();
+    let alone: Vec<u32> = kinds.iter().map(|kind| draft.alone(*kind)).collect();
+    for (n, kind) in kinds.iter().enumerate() {
+        let next = (n + 1) % alone.len();
+        let swapped = if next < 2 { 1 - next } else { next };
+        draft.shapes[*kind as usize].attributes =
+            draft.ty(TypeRow::Record(vec![(0, false, alone[next]), (2, false, alone[swapped])]));
+    }
+    let group = draft.ty(TypeRow::Entity(kinds[..24].to_vec()));
+    let mut random = Random::of(1, 0);
+    let path: Vec<u32> = (0..SHEET_BYTES / 2).map(|_| random.pick(&[0, 2])).collect();
+    greatest(|count| {
+        let mut next = draft.clone();
+        steps(&mut next, group, path[..40 * count].to_vec());
+        next
+    })
+}
+
+/// Each of eleven kinds declares the group of all of them and that of the first ten as the last two of 95 attributes. The
+/// records of the first ten differ, and the last kind has that of the one before.
+fn steps_between_groups() -> Draft {
+    let mut draft = small();
+    let (to_all, to_ten) = (93, 94);
+    for n in 4..=to_ten {
+        draft.text(format!("{n}").as_bytes());
+    }
+    for name in 4..13 {
+        draft.kinds.push((name, false));
+        draft.shapes.push(ShapeRow { attributes: 1, tags: None, above: Vec::new() });
+    }
+    let kinds: Vec<u32> = ordinary_kinds().take(11).collect();
+    for kind in &kinds {
+        draft.alone(*kind);
+    }
+    let [all, ten] = [11, 10].map(|count| draft.ty(TypeRow::Entity(kinds[..count].to_vec())));
+    for (n, kind) in (0..).zip(&kinds) {
+        let fields = (0..to_all).map(|t| (t, t == n.min(9), 0)).chain([(to_all, false, all), (to_ten, false, ten)]);
+        draft.shapes[*kind as usize].attributes = draft.ty(TypeRow::Record(fields.collect()));
+    }
+    longest(draft, all, &[to_ten, to_all])
 }
 
 /// The kinds of the left group stand above each other, and none of the right group above any of them.
@@ -1075,20 +1283,44 @@ fn pairs_of_kinds() -> Draft {
     })
 }
 
-fn get_in_group() -> Draft {
+/// A group of 31 kinds that declare one record of so many attributes: its type, and an entity of it.
+fn long_group(count: usize) -> (Draft, u32, u32) {
     let mut draft = many_kinds();
-    let texts: Vec<u32> = (0..350).map(|n| draft.text(format!("{n}").as_bytes())).collect();
+    let texts: Vec<u32> = (0..count).map(|n| draft.text(format!("{n}").as_bytes())).collect();
     let record = draft.ty(TypeRow::Record(texts.iter().map(|t| (*t, false, 0)).collect()));
     for kind in ordinary_kinds() {
         draft.shapes[kind as usize].attributes = record;
     }
     let group = draft.ty(TypeRow::Entity(ordinary_kinds().collect()));
     let v = draft.value(ValueRow::Entity(0, 3));
-    let last = *texts.last().expect("texts");
+    (draft, group, v)
+}
+
+fn get_in_group() -> Draft {
+    let (draft, group, v) = long_group(350);
+    let last = draft.texts.len() as u32 - 1;
     repeated(draft, Two::And, |draft, _| {
         let lit = draft.node(group, Operation::Lit(v));
         draft.node(0, Operation::Get(lit, last))
     })
+}
+
+/// Whether an entity of a group has what no kind of it declares.
+fn has_none(draft: &mut Draft, group: u32, v: u32) -> u32 {
+    let lit = draft.node(group, Operation::Lit(v));
+    draft.node(0, Operation::Has(lit, 3))
+}
+
+fn has_in_group() -> Draft {
+    let (draft, group, v) = long_group(400);
+    repeated(draft, Two::Or, |draft, _| has_none(draft, group, v))
+}
+
+fn shared_has_in_group() -> Draft {
+    let (mut draft, group, v) = long_group(475);
+    let leaves = (0..5).map(|_| has_none(&mut draft, group, v)).collect();
+    sixteen(&mut draft, Two::Or, leaves);
+    draft
 }
 
 #[cfg(test)]
@@ -1098,7 +1330,8 @@ mod tests {
 
     #[test]
     fn an_answer_far_longer_than_its_sheet() {
-        for draft in [linked(), shared_made(), shared_sets(), shared_gets()] {
+        let made = [shared_made(1), shared_made(1 << 32), shared_common_ends()];
+        for draft in [linked(), shared_sets(), shared_gets(), shared_has_in_group()].into_iter().chain(made) {
             assert_eq!((draft.policies.len(), draft.uses()), (64, 1024));
         }
         for long in [Long::Patterns, Long::Paths] {
@@ -1113,6 +1346,9 @@ mod tests {
     fn as_many_in_as_can_be() {
         for draft in [shared_own_sets(72, 1), shared_own_sets(72, 100)] {
             assert_eq!((draft.policies.len(), draft.uses(), draft.entities.len()), (16, 992, 72));
+        }
+        for draft in [shared_in_kinds(), shared_all()] {
+            assert_eq!((draft.policies.len(), draft.uses()), (16, 992));
         }
     }
 

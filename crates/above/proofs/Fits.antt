@@ -266,6 +266,10 @@ module _ (a : List ℕ) (n : ℕ) where
   pub firsts-start : (f : List ℕ) → length f ≡ LINES → Fit a f → n ≡ getD a ENTITY 0 → Firsts a n f 0
   firsts-start f l g e = record { long = l; all = e; near = omega arith; fit = g; rest = omega arith }
 
+  pub firsts-none : n ≡ getD a ENTITY 0 → n ≡ 0 → 0 ≡ unfitFrom a (rowsOf a ENTITY)
+  unfolding unfitFrom
+  firsts-none e h = let y : unfitFrom a (rowsOf a ENTITY) ≡ 0 = ap (unfitFrom a) (spent (rowsOf a ENTITY) 0 (let x = count-rows a ENTITY in omega (arith, x, e, h))) in sym y
+
   module _ (f : List ℕ) (i : ℕ) (c : Firsts a n f i) where
     module _ (h : i < n) (f′ : List ℕ) (b : Bool) (g : Fitted a i f′ b) where
       front : unfitFrom a (drop i (rowsOf a ENTITY)) ≡ cond b (suc (unfitFrom a (drop (i + 1) (rowsOf a ENTITY)))) 0

@@ -16,7 +16,10 @@ use table::count;
 use table::item;
 use table::row;
 use table::tag;
+use typing::lines::KIND_WORDS;
+use typing::lines::add_above;
 use typing::lines::is_ancestor;
+use typing::lines::is_ancestor_by;
 use words::put;
 use words::read;
 ghost use mathlib.Core.Path.{_≡_};
@@ -25,6 +28,8 @@ ghost use lib.ListN.{length};
 ghost use Rattle.sheet.specs.Forms.{ENTITY};
 ghost use Rattle.table.specs.Layout.{rowsOf};
 ghost use Rattle.reach.specs.Marks.{VALUES, FAR, lineRows, markedAt, anyMarked};
+ghost use Rattle.typing.specs.Paths.{Each};
+ghost use Rattle.typing.specs.Rules.{isAboveAt};
 ghost use Rattle.above.specs.Fitting.{allAbove, unfitAt, unfitValue, Unfit, Passed, Passes, Fit, Fitted, unfitFrom};
 
 // Whether the values of a list are all entities of kinds above this one.
@@ -66,14 +71,15 @@ fn any_unfit(rows: &[u32], kind: u32, marks: &[u32]) -> bool
     false
 }
 
-// Whether `value` was met and is not an entity of a kind above this one.
-fn unfit_value(rows: &[u32], kind: u32, met: &[u8], value: u32) -> bool
+// Whether `value` was met and is not an entity of a kind above this one, with a set of kinds that are.
+fn unfit_value(rows: &[u32], above: &[u32], kind: u32, met: &[u8], value: u32) -> bool
+    requires { ⌜ Each (now above) (isAboveAt (now rows) kind) ⌝ }
     ensures { λ r. ⌜ r ≡ markedAt (unfitValue (now (rows .entry)) kind) (now (met .entry)) value ⌝ }
 {
     if byte(met, value as usize) == 0 {
         return false;
     }
-    !is_ancestor(rows, value, kind)
+    !is_ancestor_by(rows, above, value, kind)
 }
 
 // Whether a value was met that is not an entity of a kind above this one.
@@ -81,10 +87,12 @@ fn any_value(rows: &[u32], kind: u32, met: &[u8]) -> bool
     requires { ⌜ length (now met) ≤ VALUES ⌝ }
     ensures { λ r. ⌜ r ≡ anyMarked (unfitValue (now (rows .entry)) kind) (now (met .entry)) 0 (length (now (met .entry))) ⌝ }
 {
+    let mut above = [0u32; KIND_WORDS];
+    add_above(rows, &mut above, kind);
     let n = met.len() as u32;
     let mut i = 0;
     while i < n {
-        if unfit_value(rows, kind, met, i) {
+        if unfit_value(rows, &above, kind, met, i) {
             return true;
         }
         i += 1;
@@ -190,6 +198,9 @@ pub fn first_unfit(rows: &[u32]) -> u32
     ensures { λ i. ⌜ i ≡ unfitFrom (now (rows .entry)) (rowsOf (now (rows .entry)) ENTITY) ⌝ }
 {
     let n = count(rows, ENTITY);
+    if n == 0 {
+        return 0;
+    }
     let mut fit: [u32; LINES] = [0; LINES];
     ask_last(rows, &mut fit[..]);
     let mut i = 0;

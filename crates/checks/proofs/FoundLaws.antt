@@ -337,9 +337,9 @@ module _ (a : List ℕ) (k : ℕ) (r : List ℕ) where
   pub fresh-type : (b : Bool) → b ≡ newType (rowsHeld a) r → k ≡ TYPE → b ≡ fresh (rowsHeld a) k r
   fresh-type b hb e = hb ∙ sym (rw e refl)
 
-  module _ (b : Bool) (hb : b ≡ among r (rowsOf a k)) where
-    pub fresh-value : k ≡ VALUE → not b ≡ fresh (rowsHeld a) k r
-    fresh-value e = sym (rw e (ap (λ (l : List (List ℕ)). not (among r l)) (lines-held [] a [] VALUE (omega arith) (λ q. absurd (omega arith)) ∙ ap (rowsOf a) (sym e)) ∙ ap not (sym hb)))
+  module _ (b : Bool) (hb : b ≡ not (among r (rowsOf a k))) where
+    pub fresh-value : k ≡ VALUE → b ≡ fresh (rowsHeld a) k r
+    fresh-value e = sym (rw e (ap (λ (l : List (List ℕ)). not (among r l)) (lines-held [] a [] VALUE (omega arith) (λ q. absurd (omega arith)) ∙ ap (rowsOf a) (sym e)) ∙ sym hb))
 
   module _ (b : Bool) (x : ℕ) (hx : x ≡ getD r 1 0) (hb : b ≡ memN x (firsts (rowsOf a k))) where
     pub fresh-kind : k ≡ KIND → not b ≡ fresh (rowsHeld a) k r

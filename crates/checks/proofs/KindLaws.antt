@@ -66,12 +66,12 @@ module _ (ts : List (List ℕ)) (r : List ℕ) (i : ℕ) (h : Alone ts r i) wher
 
 -- ---- a type line that repeats no other
 
-module _ (a r : List ℕ) (b : Bool) (hb : b ≡ among r (rowsOf a TYPE)) where
-  type-new : newType (rowsHeld a) r ≡ (not b && allAlone (rowsOf a TYPE) r)
+module _ (a r : List ℕ) (b : Bool) (hb : b ≡ not (among r (rowsOf a TYPE))) where
+  type-new : newType (rowsHeld a) r ≡ (b && allAlone (rowsOf a TYPE) r)
   type-new = rw (lines-held [] a [] TYPE (omega arith) (λ q. absurd (omega arith)), ← hb) refl
 
-  pub type-again : b ≡ true → false ≡ newType (rowsHeld a) r
-  type-again q = sym (type-new ∙ rw q refl)
+  pub type-again : not b ≡ true → false ≡ newType (rowsHeld a) r
+  type-again q = sym (type-new ∙ rw (not-true b q) refl)
 
-  pub type-once : b ≡ false → (v : Bool) → v ≡ allAlone (rowsOf a TYPE) r → v ≡ newType (rowsHeld a) r
-  type-once q v h = h ∙ sym (type-new ∙ rw q refl)
+  pub type-once : not b ≡ false → (v : Bool) → v ≡ allAlone (rowsOf a TYPE) r → v ≡ newType (rowsHeld a) r
+  type-once q v h = h ∙ sym (type-new ∙ rw (not-false b q) refl)

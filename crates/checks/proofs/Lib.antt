@@ -8,3 +8,4 @@ pub mod UnderLaws
 pub mod NotedLaws
 pub mod LinkLaws
 pub mod KindLaws
+pub mod SeenLaws

@@ -47,29 +47,34 @@ use table::base_of;
 use table::bytes;
 use table::count;
 use table::item;
+use table::key_of;
 use table::row;
 use table::tag;
+use words::add;
 use words::cut;
+use words::has;
 use words::put;
 use words::read;
 ghost use mathlib.Core.Path.{_≡_};
 ghost use mathlib.Core.List.{List, [], _∷_};
 ghost use mathlib.Core.Bool.{true, cond, _&&_, not};
-ghost use Prim.Native.Nat.{ℕ, _+_, _-_, _*_, _≤_, _<_, max};
+ghost use Prim.Native.Nat.{ℕ, _+_, _-_, _*_, _%_, _≤_, _<_, max};
 ghost use lib.Dec.{leb, eqb};
 ghost use lib.ListN.{length, getD, drop};
 ghost use Rattle.cedar.specs.Numbered.{memN};
+ghost use Rattle.words.specs.Bits.{member, added};
 ghost use Rattle.sheet.specs.Bytes.{same};
 ghost use Rattle.sheet.specs.Forms.{tag, keyOf, formOf, keep, refs, ascendings, mark, noKey, TEXT, TYPE, NODE, POLICY, LINK, TERM};
 ghost use Rattle.sheet.specs.State.{count, typeRow};
 ghost use Rattle.sheet.specs.Typing.{onEntity};
 ghost use Rattle.sheet.specs.Sheet.{greatest, enough, inOrder, tooMany, ascend, among, firsts, above, eachAlone, newType, slotGiven, termGoes, fresh, found, depth};
-ghost use Rattle.table.specs.Layout.{depthsIn, rowAt, rowsOf, textRow, textRows, held};
+ghost use Rattle.table.specs.Layout.{depthsIn, rowAt, rowsOf, textRow, textRows, rowIn, held};
 ghost use Rattle.forms.specs.Rows.{LINE, OF-NODE};
 ghost use Rattle.forms.specs.Tags.{TEXT-LINE};
 ghost use Rattle.checks.specs.Codes.{packed, packedFrom, codesAfter};
 ghost use Rattle.checks.specs.Depths.{ThereAs, thereDepth, OnTwo, OnNone};
 ghost use Rattle.checks.specs.Ends.{RowEnds, endsOf, TextEnds};
+ghost use Rattle.checks.specs.Seen.{PLACES, mixed, mixedOn, unseen, withSeen, Unlike};
 ghost use Rattle.checks.specs.Uses.{BY-NODE, BY-POLICY, markOf, Marked};
 ghost use Rattle.checks.specs.Under.{capped, bothOf, ownSlot, sizeAt, slotsAt, gatheredOn, underRow, spentOn, Noted};
 
@@ -364,7 +369,7 @@ pub fn too_many(rows: &[u32], work: &[u32], key: usize, line: &[u32]) -> bool
     false
 }
 
-// ---- 5: references, repeats, order
+// ---- 5: references, order of items
 
 // Whether item `x` is there, as its slot asks.
 fn is_there(rows: &[u32], slot: u8, x: u32) -> bool
@@ -411,6 +416,82 @@ fn ascends(line: &[u32]) -> bool
     true
 }
 
+// ---- 5: rows seen
+
+// The words of the set that has the numbers of the rows seen, and how many numbers there are.
+pub const PLACE_WORDS: usize = 512;
+
+const PLACES: usize = 32 * PLACE_WORDS;
+
+// The number of the words so far, with one word more.
+fn mixed(sum: u32, x: u32) -> u32
+    ensures { λ r. ⌜ r ≡ mixed sum x ⌝ }
+{
+    ((sum as u64 * 33 + x as u64) % 0x1_0000_0000) as u32
+}
+
+// The number of a row's words.
+fn mixed_words(line: &[u32]) -> u32
+    ensures { λ r. ⌜ r ≡ mixedOn (tag (now (line .entry))) (drop 1 (now (line .entry))) ⌝ }
+{
+    let mut sum = tag(line);
+    let mut i = 1;
+    while i < line.len() {
+        sum = mixed(sum, line[i]);
+        i += 1;
+    }
+    sum
+}
+
+// The number of a tag and a text's bytes.
+fn mixed_bytes(tag: u32, text: &[u8]) -> u32
+    ensures { λ r. ⌜ r ≡ mixedOn tag (now (text .entry)) ⌝ }
+{
+    let mut sum = tag;
+    let mut i = 0;
+    while i < text.len() {
+        sum = mixed(sum, text[i] as u32);
+        i += 1;
+    }
+    sum
+}
+
+// A number joins those seen. Returns whether it was not among them.
+fn see(seen: &mut [u32], sum: u32) -> bool
+    ensures new { λ b. ⌜ b ≡ not (member (now (seen .entry)) (sum % PLACES)) ⌝ }
+    ensures with { λ _. ⌜ now (seen .exit) ≡ added (now (seen .entry)) (sum % PLACES) ⌝ }
+{
+    let place = sum as usize % PLACES;
+    if has(seen, place) {
+        return false;
+    }
+    add(seen, place);
+    true
+}
+
+// A row joins those seen, if those of its key must differ. Returns whether no row of its number was seen, so that it is new.
+pub fn see_line(sheet: &[u8], line: &[u32], seen: &mut [u32]) -> bool
+    ensures new { λ b. ⌜ b ≡ unseen (now (seen .entry)) (rowIn (now (sheet .entry)) (keyOf (now (line .entry))) (now (line .entry))) ⌝ }
+    ensures with { λ _. ⌜ now (seen .exit) ≡ withSeen (now (seen .entry)) (rowIn (now (sheet .entry)) (keyOf (now (line .entry))) (now (line .entry))) ⌝ }
+{
+    let t = tag(line);
+    let k = key_of(t);
+    if k == TEXT {
+        let s = item(line, 1) as usize;
+        let n = item(line, 2) as usize;
+        return see(seen, mixed_bytes(t, bytes(sheet, s, s + n)));
+    }
+    if k == TYPE {
+        return see(seen, mixed_words(line));
+    }
+    if k == VALUE {
+        return see(seen, mixed_words(line));
+    }
+    false
+}
+
+// ---- 5: repeats
+
 // Whether the row whose beginning word `i` says, at word `start`, is this one. Most rows end with another word: word `start` of `ends` is the
 // last word of a row that begins there and is as long.
 fn is_row_at(rows: &[u32], ends: &[u32], x: u32, i: usize, start: usize, line: &[u32]) -> bool
@@ -446,6 +527,17 @@ fn is_row(rows: &[u32], key: usize, line: &[u32]) -> bool
         i += 1;
     }
     false
+}
+
+// Whether a row is not among those of a key, as is known where it is `new`.
+fn is_new(rows: &[u32], key: usize, line: &[u32], new: bool) -> bool
+    requires { ⌜ (1 ≤ length (now line)) × Unlike (now line) (rowsOf (now rows) key) new ⌝ }
+    ensures { λ b. ⌜ b ≡ not (among (now (line .entry)) (rowsOf (now (rows .entry)) key)) ⌝ }
+{
+    if new {
+        return true;
+    }
+    !is_row(rows, key, line)
 }
 
 // Whether the words of a row say where these bytes stand.
@@ -574,12 +666,12 @@ fn kinds_alone(rows: &[u32], line: &[u32]) -> bool
     true
 }
 
-// Whether a type line repeats no other and the kinds that it groups have lines alone.
-fn is_type(rows: &[u32], line: &[u32]) -> bool
-    requires { ⌜ 1 ≤ length (now line) ⌝ }
+// Whether a type line repeats no other, as is known where it is `new`, and the kinds that it groups have lines alone.
+fn is_type(rows: &[u32], line: &[u32], new: bool) -> bool
+    requires { ⌜ (1 ≤ length (now line)) × Unlike (now line) (rowsOf (now rows) TYPE) new ⌝ }
     ensures { λ b. ⌜ b ≡ newType (held [] (now (rows .entry)) []) (now (line .entry)) ⌝ }
 {
-    if is_row(rows, TYPE, line) {
+    if !is_new(rows, TYPE, line, new) {
         return false;
     }
     kinds_alone(rows, line)
@@ -659,20 +751,20 @@ fn is_term(rows: &[u32], line: &[u32]) -> bool
     term_goes(line)
 }
 
-// Whether a row of a key, which is not that of a text, repeats no other and keeps their order.
-fn is_fresh(rows: &[u32], work: &[u32], key: usize, line: &[u32]) -> bool
+// Whether a row of a key, which is not that of a text, repeats no other, as is known where it is `new`, and keeps their order.
+fn is_fresh(rows: &[u32], work: &[u32], key: usize, line: &[u32], new: bool) -> bool
     requires { ⌜ (key ≡ TEXT → ⊥) × (key ≡ keyOf (now line)) ⌝ }
-    requires { ⌜ Noted (now rows) (now work) ⌝ }
+    requires { ⌜ Noted (now rows) (now work) × Unlike (now line) (rowsOf (now rows) key) new ⌝ }
     ensures { λ b. ⌜ b ≡ fresh (held [] (now (rows .entry)) []) key (now (line .entry)) ⌝ }
 {
     if key == NODE {
         return true;
     }
     if key == TYPE {
-        return is_type(rows, line);
+        return is_type(rows, line, new);
     }
     if key == VALUE {
-        return !is_row(rows, key, line);
+        return is_new(rows, key, line, new);
     }
     if key == KIND {
         return !is_first(rows, key, item(line, 1));
@@ -849,9 +941,9 @@ fn depth_there(rows: &[u32], work: &[u32], key: usize, line: &[u32]) -> usize
 }
 
 // The depth of a row of a key, which is not that of a text; 0 where it refers to a line that is not there or is not new.
-pub fn new_depth(rows: &[u32], work: &[u32], key: usize, line: &[u32]) -> usize
+pub fn new_depth(rows: &[u32], work: &[u32], key: usize, line: &[u32], new: bool) -> usize
     requires { ⌜ (key ≡ TEXT → ⊥) × (key ≡ keyOf (now line)) × (key < noKey) ⌝ }
-    requires { ⌜ Noted (now rows) (now work) ⌝ }
+    requires { ⌜ Noted (now rows) (now work) × Unlike (now line) (rowsOf (now rows) key) new ⌝ }
     ensures { λ d. ⌜ d ≡ cond (found (held [] (now (rows .entry)) []) key (now (line .entry))) (depth (held [] (now (rows .entry)) (now (work .entry))) key (now (line .entry))) 0 ⌝ }
 {
     let d = depth_there(rows, work, key, line);
@@ -861,7 +953,7 @@ pub fn new_depth(rows: &[u32], work: &[u32], key: usize, line: &[u32]) -> usize
     if !ascends(line) {
         return 0;
     }
-    if !is_fresh(rows, work, key, line) {
+    if !is_fresh(rows, work, key, line, new) {
         return 0;
     }
     d

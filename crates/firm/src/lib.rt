@@ -1,5 +1,5 @@
 // A whole firm in one call: for each of a list of rows, whose two texts stand for those of principal and resource, the decision on a partial sheet.
-// The sheet is read once; each row is run over a copy of its words on the stack, some 64 KB, which have the row's texts.
+// The sheet is read once; each row is run over a copy of its words on the stack, some 64 KB that all rows share, which have the row's texts.
 use forms::MARK;
 use forms::PRINCIPAL;
 use forms::RESOURCE;
@@ -127,15 +127,21 @@ fn lay(rows: &[u32], own: &mut [u32], principal: u32, resource: u32)
 }
 
 // The decision on the sheet that the words hold, with these texts of principal and resource.
-fn decided(sheet: &[u8], rows: &[u32], principal: u32, resource: u32, log: &mut [u32]) -> Decision
-    requires { ⌜ (16384 ≤ length (now rows)) × (length (now log) ≡ 16384) ⌝ }
+fn decided(
+    sheet: &[u8],
+    rows: &[u32],
+    principal: u32,
+    resource: u32,
+    log: &mut [u32],
+    own: &mut [u32],
+) -> Decision
+    requires { ⌜ (16384 ≤ length (now rows)) × (length (now log) ≡ 16384) × (length (now own) ≡ 16384) ⌝ }
     ensures { λ d. ⌜ Decides (now (sheet .entry)) (now (rows .entry)) principal resource d ⌝ }
 {
-    let mut own = row_words();
-    lay(rows, &mut own, principal, resource);
-    let end = interpret::run(sheet, &mut own, log);
-    interpret::lines(&own, log, end);
-    decision_of(&own, cut(log, CLASSES, ROOM))
+    lay(rows, own, principal, resource);
+    let end = interpret::run(sheet, own, log);
+    interpret::lines(own, log, end);
+    decision_of(own, cut(log, CLASSES, ROOM))
 }
 
 // ---- rows
@@ -256,7 +262,8 @@ fn check(f: Quote, r: Row, i: usize, work1: &[u32]) -> Quote
 }
 
 // A row decided, where nothing was refused.
-fn single(f: Quote, r: Row, sheet: &[u8], work1: &[u32], work2: &mut [u32]) -> Row
+fn single(f: Quote, r: Row, sheet: &[u8], work1: &[u32], work2: &mut [u32], own: &mut [u32]) -> Row
+    requires { ⌜ length (now own) ≡ 16384 ⌝ }
     ensures { λ x. ⌜ Singles (now (sheet .entry)) (now (work1 .entry)) (now (work2 .entry)) f r x (now (work2 .exit)) ⌝ }
 {
     if f.number != 0 {
@@ -274,6 +281,7 @@ fn single(f: Quote, r: Row, sheet: &[u8], work1: &[u32], work2: &mut [u32]) -> R
         r.principal,
         r.resource,
         &mut work2[..ROOM],
+        own,
     );
     Row {
         principal: r.principal,
@@ -340,9 +348,10 @@ pub fn firm(rows: &mut [Row], sheet: &[u8], work1: &mut [u32], work2: &mut [u32]
         f = check(f, rows[i], i, work1);
         i += 1;
     }
+    let mut own = row_words();
     let mut j = 0;
     while j < n {
-        let r = single(f, rows[j], sheet, work1, work2);
+        let r = single(f, rows[j], sheet, work1, work2, &mut own);
         f = join(f, r);
         rows[j] = r;
         j += 1;
@@ -388,9 +397,10 @@ pub fn firm_in_words(words: &mut [u32], sheet: &[u8], work1: &mut [u32], work2: 
         f = check(f, row_from(words, i), i, work1);
         i += 1;
     }
+    let mut own = row_words();
     let mut j = 0;
     while j < n {
-        let r = single(f, row_from(words, j), sheet, work1, work2);
+        let r = single(f, row_from(words, j), sheet, work1, work2, &mut own);
         f = join(f, r);
         put_row(words, j, r);
         j += 1;

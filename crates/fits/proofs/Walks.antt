@@ -1,21 +1,21 @@
 -- Walks over a row by two and by three: what is left decides the whole.
 use mathlib.Core.Path.{_≡_, refl, sym, ap, _∙_}
-use mathlib.Core.Bool.{Bool, true, false, not}
+use mathlib.Core.Bool.{Bool, true, false, cond, _&&_, not, or-true}
 use mathlib.Core.List.{List, [], _∷_}
-use mathlib.Core.Option.{some}
+use mathlib.Core.Option.{Option, some}
 use Prim.Native.Nat.{ℕ, _+_, _-_, _≤_, _<_}
 use native.Mathlib.Numerals.{add-one}
 use native.Mathlib.Omega.{arith}
-use borrow.Author.Tests.{eq-eqb, ne-eqb, not-true, not-false}
-use lib.Dec.{eqb}
+use borrow.Author.Tests.{eq-eqb, ne-eqb, ltb-true, lt-ltb, le-ltb, not-true, not-false}
+use lib.Dec.{eqb, ltb}
 use lib.ListN.{length, getD, drop, drop-of-length-le, length-drop}
 use lib.Seq.{drop-cons}
 use Rattle.cedar.specs.Rows.{stop, entry}
-use Rattle.cedar.specs.Numbered.{entryOf, isSome}
+use Rattle.cedar.specs.Numbered.{entryOf, isSome, pickN}
 use Rattle.sheet.specs.Forms.{items}
 use Rattle.sheet.specs.State.{declareds, entriesOf}
 use Rattle.sheet.specs.Typing.{declaredIn, requiredThere}
-use Rattle.fits.specs.Fit.{hasIn, completeIn, metAt, declaredBy, foundIn}
+use Rattle.fits.specs.Fit.{hasIn, Within, afterIn, completeIn, metAt, Ahead, declaredBy, foundIn}
 use Rattle.fits.specs.declared.Found as F
 
 -- ---- the items from i on
@@ -110,7 +110,89 @@ module _ (y : List ℕ) (t i : ℕ) (inv : Declares y t i) where
     pub declared-on : (t ≡ x → ⊥) → Declares y t (i + 3)
     declared-on e = record { left = inv .left ∙ rw (declareds-on y i (omega arith), ← ex, ne-eqb t x e) }
 
+-- ---- `seek`
+
+pub ahead-start : (y : List ℕ) → Ahead y 1
+unfolding declaredBy
+ahead-start y = record { left = λ t h. refl }
+
+-- the attributes passed are below t
+pub record Seeks (y : List ℕ) (t i : ℕ) : Type 0 where
+  pub above : (u : ℕ) → t ≤ u → getD y i 0 ≤ u → declaredBy y u ≡ declaredIn u (declareds (drop i y))
+
+pub seek-start : (y : List ℕ) (t i : ℕ) → Ahead y i → Seeks y t i
+seek-start y t i a = record { above = λ u h l. a .left u l }
+
+module _ (y : List ℕ) (t i : ℕ) (g : Seeks y t i) (x : ℕ) (n : 3 ≤ length y - i) (ex : x ≡ getD y i 0) where
+  pub seek-hit : t ≤ x → Ahead y i
+  seek-hit h = record { left = λ u l. g .above u (omega (arith, h, ex, l)) l }
+
+  pub seek-on : x < t → Seeks y t (i + 3)
+  seek-on h = record {
+    above = λ u k l. g .above u k (omega (arith, h, ex, k)) ∙ rw (declareds-on y i (omega arith), ← ex, ne-eqb u x (λ e. omega (arith, e, h, k)));
+  }
+
+pub declared-here : (y : List ℕ) (t i x z : ℕ) → Ahead y i → 3 ≤ length y - i → x ≡ getD y i 0 → t ≡ x → z ≡ getD y (i + 2) 0 → foundIn (F.the-variants.As z) ≡ declaredBy y t
+declared-here y t i x z a n ex e ez =
+    let q : declaredIn t (declareds (drop i y)) ≡ some z = rw (declareds-on y i (omega arith), ← ex, eq-eqb t x e, ← ez) in
+    sym (a .left t (omega (arith, ex, e)) ∙ q)
+
+-- ---- `after`
+
+module _ (r : List ℕ) (t i : ℕ) where
+  pub after-end : length r ≤ i → i ≡ afterIn r t i
+  unfolding afterIn
+  after-end h = rw (le-ltb (i + 1) (length r) (omega arith))
+
+  pub after-few : length r - i < 2 → i ≡ afterIn r t i
+  unfolding afterIn
+  after-few h = rw (le-ltb (i + 1) (length r) (omega arith))
+
+  module _ (x : ℕ) (h : 2 ≤ length r - i) (ex : x ≡ getD r i 0) where
+    pub after-hit : t ≡ x → i + 2 ≡ afterIn r t i
+    unfolding afterIn
+    after-hit e = rw (lt-ltb (i + 1) (length r) (omega arith), ← ex, eq-eqb t x e)
+
+    pub after-off : (t ≡ x → ⊥) → i ≡ afterIn r t i
+    unfolding afterIn
+    after-off e = rw (lt-ltb (i + 1) (length r) (omega arith), ← ex, ne-eqb t x e)
+
+some-pick : (b : Bool) (n : ℕ) (o : Option ℕ) → isSome o ≡ true → isSome (pickN b n o) ≡ true
+some-pick true n o h = refl
+some-pick false n o h = h
+
+pub within-start : (r : List ℕ) → Within r 1
+unfolding hasIn
+within-start r = record { had = λ t h. h }
+
+module _ (r : List ℕ) (t i : ℕ) (w : Within r i) where
+  -- behind an attribute, and at it
+  within-two : i + 1 < length r → Within r (i + 2)
+  within-two l = record {
+    had = λ u h. w .had u (rw (entries-on r i l) (some-pick (eqb u (getD r i 0)) (getD r (i + 1) 0) (entryOf u (entriesOf (drop (i + 2) r))) h));
+  }
+
+  pub within-after : (n : ℕ) → n ≡ afterIn r t i → Within r n
+  unfolding afterIn
+  within-after n e = rw e (go (ltb (i + 1) (length r)) refl (eqb t (getD r i 0)))
+    where
+      go : (b : Bool) → ltb (i + 1) (length r) ≡ b → (c : Bool) → Within r (cond (b && c) (i + 2) i)
+      go true q true = within-two (ltb-true (i + 1) (length r) q)
+      go true q false = w
+      go false q c = w
+
+  found-after : (b c : Bool) → ltb (i + 1) (length r) ≡ b → eqb t (getD r i 0) ≡ c → i < cond (b && c) (i + 2) i → hasIn r t ≡ true
+  found-after true true p q h = w .had t (rw (entries-on r i (ltb-true (i + 1) (length r) p), q))
+  found-after true false p q h = absurd (omega arith)
+  found-after false c p q h = absurd (omega arith)
+
 -- ---- `complete`
+
+pub met-here : (r y : List ℕ) (i j n u : ℕ) → Within r j → u ≡ getD y i 0 → n ≡ afterIn r u j → j < n → true ≡ metAt r y i
+unfolding metAt afterIn
+met-here r y i j n u w eu en h =
+    let q : hasIn r u ≡ true = found-after r u j w (ltb (j + 1) (length r)) (eqb u (getD r j 0)) refl refl (rw (← en) h) in
+    rw (← eu, q) (sym (or-true (not (eqb (getD y (i + 1) 0) 1))))
 
 pub met : (r y : List ℕ) (i x u : ℕ) (b : Bool) → x ≡ getD y (i + 1) 0 → x ≡ 1 → u ≡ getD y i 0 → b ≡ hasIn r u → b ≡ metAt r y i
 unfolding metAt

@@ -3,7 +3,7 @@ use mathlib.Core.Path.{_≡_}
 use mathlib.Core.Bool.{Bool, true, false, cond, _&&_, _||_, not}
 use mathlib.Core.List.{List, [], _∷_}
 use mathlib.Core.Option.{Option, none, some}
-use Prim.Native.Nat.{ℕ, _+_, _-_, _*_, max}
+use Prim.Native.Nat.{ℕ, _+_, _-_, _*_, _≤_, max}
 use lib.Dec.{ltb, eqb}
 use lib.ListN.{length, getD, drop}
 use Rattle.cedar.specs.Value.{onSome}
@@ -39,6 +39,14 @@ kindIn y k = memN k (kindsIn y)
 unfoldable pub hasIn : List ℕ → ℕ → Bool
 hasIn r t = isSome (entryOf t (entriesOf (items r)))
 
+-- what record r has from word i on, it has
+pub record Within (r : List ℕ) (i : ℕ) : Type 0 where
+  pub had : (t : ℕ) → isSome (entryOf t (entriesOf (drop i r))) ≡ true → hasIn r t ≡ true
+
+-- where record r goes on after word i: behind its attribute there, where that is t
+unfoldable pub afterIn : List ℕ → ℕ → ℕ → ℕ
+afterIn r t i = cond (ltb (i + 1) (length r) && eqb t (getD r i 0)) (i + 2) i
+
 -- record r has all attributes that record type y requires
 unfoldable pub completeIn : List ℕ → List ℕ → Bool
 completeIn r y = requiredThere (declareds (items y)) (hasIn r)
@@ -50,6 +58,10 @@ metAt r y i = not (eqb (getD y (i + 1) 0) REQUIRED) || hasIn r (getD y i 0)
 -- the type that record type y declares for attribute t, and what the answer of a search says
 unfoldable pub declaredBy : List ℕ → ℕ → Option ℕ
 declaredBy y t = declaredIn t (declareds (items y))
+
+-- what record type y declares for the attribute at word i and those above it stands from there on
+pub record Ahead (y : List ℕ) (i : ℕ) : Type 0 where
+  pub left : (t : ℕ) → getD y i 0 ≤ t → declaredBy y t ≡ declaredIn t (declareds (drop i y))
 
 abbrev pub foundIn : F.Found → Option ℕ
 foundIn (F.the-variants.As y) = some y

@@ -26,7 +26,10 @@ ghost use Rattle.fits.specs.Fit.{
   kindIn,
   hasIn,
   completeIn,
+  afterIn,
+  Within,
   metAt,
+  Ahead,
   declaredBy,
   foundIn,
   setFits,
@@ -90,29 +93,87 @@ pub fn declared(type_row: &[u32], text: u32) -> Found
     Found::Undeclared
 }
 
-// Whether the attribute declared at `i` is optional or there.
-fn meets(value_row: &[u32], type_row: &[u32], i: usize) -> bool
+// Where to look for an attribute, from `place` on: at the first one that is not below it.
+fn seek(type_row: &[u32], text: u32, place: usize) -> usize
+    requires { ⌜ Ahead (now «type_row») place ⌝ }
+    ensures { λ n. ⌜ Ahead (now («type_row» .entry)) n ⌝ }
+{
+    let mut i = place;
+    while i < type_row.len() {
+        if type_row.len() - i < 3 {
+            return place;
+        }
+        if item(type_row, i) >= text {
+            return i;
+        }
+        i += 3;
+    }
+    place
+}
+
+// The type that a record type declares for this attribute; it is looked for at `place` first.
+fn declared_at(type_row: &[u32], text: u32, place: usize) -> Found
+    requires { ⌜ Ahead (now «type_row») place ⌝ }
+    ensures { λ f. ⌜ foundIn f ≡ declaredBy (now («type_row» .entry)) text ⌝ }
+{
+    if place >= type_row.len() {
+        return declared(type_row, text);
+    }
+    if type_row.len() - place < 3 {
+        return declared(type_row, text);
+    }
+    if text == item(type_row, place) {
+        return Found::As(item(type_row, place + 2));
+    }
+    declared(type_row, text)
+}
+
+// Where a record goes on after `place`: behind its attribute there, where that is this one.
+fn after(line: &[u32], text: u32, place: usize) -> usize
+    ensures { λ n. ⌜ n ≡ afterIn (now (line .entry)) text place ⌝ }
+{
+    if place >= line.len() {
+        return place;
+    }
+    if line.len() - place < 2 {
+        return place;
+    }
+    if text == item(line, place) {
+        return place + 2;
+    }
+    place
+}
+
+// Whether the attribute declared at `i` is optional or there; it is looked for at `place` first.
+fn meets(value_row: &[u32], type_row: &[u32], i: usize, place: usize) -> bool
     requires { ⌜ i < length (now «type_row») ⌝ }
+    requires { ⌜ Within (now «value_row») place ⌝ }
     ensures { λ b. ⌜ b ≡ metAt (now («value_row» .entry)) (now («type_row» .entry)) i ⌝ }
 {
+    let text = item(type_row, i);
+    if after(value_row, text, place) > place {
+        return true;
+    }
     if item(type_row, i + 1) == REQUIRED {
-        return there(value_row, item(type_row, i));
+        return there(value_row, text);
     }
     true
 }
 
-// Whether a record has all attributes that the type requires.
+// Whether a record has all attributes that the type requires. Where both ascend, each is found at the place where the last one ended.
 pub fn complete(value_row: &[u32], type_row: &[u32]) -> bool
     ensures { λ b. ⌜ b ≡ completeIn (now («value_row» .entry)) (now («type_row» .entry)) ⌝ }
 {
     let mut i: usize = 1;
+    let mut place: usize = 1;
     while i < type_row.len() {
         if type_row.len() - i < 3 {
             return true;
         }
-        if !meets(value_row, type_row, i) {
+        if !meets(value_row, type_row, i, place) {
             return false;
         }
+        place = after(value_row, item(type_row, i), place);
         i += 3;
     }
     true
@@ -223,17 +284,20 @@ fn elements(rows: &[u32], work: &mut [u32], line: &[u32], ty: u32, depth: u32) -
     true
 }
 
-// Whether each attribute of a record is declared and fits.
+// Whether each attribute of a record is declared and fits. Where both ascend, each is found in one pass.
 fn entries(rows: &[u32], work: &mut [u32], value_row: &[u32], type_row: &[u32], depth: u32) -> bool
     requires { ⌜ Known (now rows) (now work) ⌝ }
     ensures { λ b. ⌜ Ran (now (rows .entry)) (now (work .entry)) (now (work .exit)) (recordFits (deep (now (rows .entry)) depth) (now («value_row» .entry)) (now («type_row» .entry))) (recordFits (full (now (rows .entry))) (now («value_row» .entry)) (now («type_row» .entry))) b ⌝ }
 {
     let mut i: usize = 1;
+    let mut place: usize = 1;
     while i < value_row.len() {
         if i + 1 == value_row.len() {
             return true;
         }
-        let f = declared(type_row, item(value_row, i));
+        let text = item(value_row, i);
+        place = seek(type_row, text, place);
+        let f = declared_at(type_row, text, place);
         let Found::As(z) = f else {
             return false;
         };

@@ -15,6 +15,12 @@ abbrev pub row : ℕ → ℕ → ℕ → ℕ → ℕ → ℕ → ℕ → ℕ →
 row k n g m a b c d =
     record { key = k; items = n; group = g; from = m; first = a; second = b; third = c; fourth = d }
 
+-- a row from one word: a byte for each of its numbers, the first the lowest
+unfoldable pub unpacked : ℕ → D.Form
+unpacked w =
+    row (w % 256) (w / 256 % 256) (w / 65536 % 256) (w / 16777216 % 256) (w / 4294967296 % 256) (w / 1099511627776 % 256) (w / 281474976710656 % 256)
+    (w / 72057594037927936 % 256)
+
 -- ---- what may stand at a place, as a number; the code's constants have the same names
 
 -- below 16: refers to no line

@@ -1,8 +1,9 @@
 // The forms of a line: a row for each, in the definition's order. A form's place is its tag.
 ghost use mathlib.Core.Path.{_≡_};
 ghost use mathlib.Core.Bool.{true, false};
+ghost use Prim.Native.Nat.{_<_};
 ghost use Rattle.sheet.specs.Forms.{formOf};
-ghost use Rattle.forms.specs.Rows.{row, coded, Packed, placeIn, codeIn, NONE, FLAT};
+ghost use Rattle.forms.specs.Rows.{row, coded, unpacked, Packed, placeIn, codeIn, NONE, FLAT};
 ghost use Rattle.forms.specs.Keys.{keyRow, keyed};
 
 // ---- keys
@@ -266,35 +267,42 @@ pub struct Form {
     pub fourth: u8,
 }
 
-// A form without a group.
-fn plain(key: usize, items: usize, first: u8, second: u8, third: u8, fourth: u8) -> Form
-    ensures { λ r. ⌜ r ≡ row key items 0 FLAT first second third fourth ⌝ }
-{
-    with(key, items, 0, first, second, third, fourth)
-}
-
-// One with a group.
-fn with(
+// A form as one word: a byte for each of its numbers, the first the lowest.
+fn packed(
     key: usize,
     items: usize,
     group: usize,
+    from: usize,
     first: u8,
     second: u8,
     third: u8,
     fourth: u8,
-) -> Form
-    ensures { λ r. ⌜ r ≡ row key items group FLAT first second third fourth ⌝ }
+) -> u64
+    requires { ⌜ (key < 256) × (items < 256) × (group < 256) × (from < 256) ⌝ }
+    ensures { λ r. ⌜ unpacked r ≡ row key items group from first second third fourth ⌝ }
 {
-    Form {
-        key,
-        items,
-        group,
-        from: FLAT,
-        first,
-        second,
-        third,
-        fourth,
-    }
+    let counts = key + 0x100 * items + 0x1_0000 * group + 0x100_0000 * from;
+    let slots = first as u64
+        + 0x100 * second as u64
+        + 0x1_0000 * third as u64
+        + 0x100_0000 * fourth as u64;
+    counts as u64 + 0x1_0000_0000 * slots
+}
+
+// A form without a group.
+fn plain(key: usize, items: usize, first: u8, second: u8, third: u8, fourth: u8) -> u64
+    requires { ⌜ (key < 256) × (items < 256) ⌝ }
+    ensures { λ r. ⌜ unpacked r ≡ row key items 0 FLAT first second third fourth ⌝ }
+{
+    packed(key, items, 0, FLAT, first, second, third, fourth)
+}
+
+// One with a group.
+fn with(key: usize, items: usize, group: usize, first: u8, second: u8, third: u8, fourth: u8) -> u64
+    requires { ⌜ (key < 256) × (items < 256) × (group < 256) ⌝ }
+    ensures { λ r. ⌜ unpacked r ≡ row key items group FLAT first second third fourth ⌝ }
+{
+    packed(key, items, group, FLAT, first, second, third, fourth)
 }
 
 // One whose groups ascend.
@@ -306,40 +314,24 @@ fn rising(
     second: u8,
     third: u8,
     fourth: u8,
-) -> Form
-    ensures { λ r. ⌜ r ≡ row key items group items first second third fourth ⌝ }
+) -> u64
+    requires { ⌜ (key < 256) × (items < 256) × (group < 256) ⌝ }
+    ensures { λ r. ⌜ unpacked r ≡ row key items group items first second third fourth ⌝ }
 {
-    Form {
-        key,
-        items,
-        group,
-        from: items,
-        first,
-        second,
-        third,
-        fourth,
-    }
+    packed(key, items, group, items, first, second, third, fourth)
 }
 
 // One item or more, all alike, which ascend.
-fn rising_all(key: usize, slot: u8) -> Form
-    ensures { λ r. ⌜ r ≡ row key 1 1 0 slot slot NONE NONE ⌝ }
+fn rising_all(key: usize, slot: u8) -> u64
+    requires { ⌜ key < 256 ⌝ }
+    ensures { λ r. ⌜ unpacked r ≡ row key 1 1 0 slot slot NONE NONE ⌝ }
 {
-    Form {
-        key,
-        items: 1,
-        group: 1,
-        from: 0,
-        first: slot,
-        second: slot,
-        third: NONE,
-        fourth: NONE,
-    }
+    packed(key, 1, 1, 0, slot, slot, NONE, NONE)
 }
 
-// The forms of one key stand together.
-pub fn form_of(tag: u32) -> Form
-    ensures { λ r. ⌜ r ≡ coded (formOf tag) ⌝ }
+// The table. The forms of one key stand together.
+fn form_word(tag: u32) -> u64
+    ensures { λ r. ⌜ unpacked r ≡ coded (formOf tag) ⌝ }
 {
     match tag {
         SHEET_LINE => plain(SHEET, 1, ENTRY, NONE, NONE, NONE),
@@ -405,6 +397,30 @@ pub fn form_of(tag: u32) -> Form
         TERM_LINE => plain(TERM, 3, OF_POLICY, DATE, DATE, NONE),
         _ => plain(NO_KEY, 1, NONE, NONE, NONE, NONE),
     }
+}
+
+// The form of a tag.
+pub fn form_of(tag: u32) -> Form
+    ensures { λ r. ⌜ r ≡ coded (formOf tag) ⌝ }
+{
+    let w = form_word(tag);
+    Form {
+        key: (w % 256) as usize,
+        items: (w / 0x100 % 256) as usize,
+        group: (w / 0x1_0000 % 256) as usize,
+        from: (w / 0x100_0000 % 256) as usize,
+        first: (w / 0x1_0000_0000 % 256) as u8,
+        second: (w / 0x100_0000_0000 % 256) as u8,
+        third: (w / 0x1_0000_0000_0000 % 256) as u8,
+        fourth: (w / 0x100_0000_0000_0000 % 256) as u8,
+    }
+}
+
+// Its key alone.
+pub fn key_for(tag: u32) -> usize
+    ensures { λ k. ⌜ k ≡ formOf tag .key ⌝ }
+{
+    (form_word(tag) % 256) as usize
 }
 
 // What may stand at the four places of a form as one word: a byte each, the first the lowest.

@@ -1,5 +1,5 @@
 -- What the checks ask of the state is the same whatever the sheet's bytes and the other words are; and a text's words stand for its row. Assumes nothing.
-use mathlib.Core.Path.{_≡_, refl, sym, ap, ap₂, _∙_}
+use mathlib.Core.Path.{_≡_, refl, sym, ap, ap₂, subst, _∙_}
 use mathlib.Core.Bool.{Bool, true, false, cond, not, _&&_, _||_}
 use mathlib.Core.List.{List, [], _∷_}
 use Prim.Native.Nat.{ℕ, suc, _+_, _-_, _≤_, _<_, max}
@@ -18,7 +18,9 @@ use Rattle.forms.specs.Tags.{TEXT-LINE}
 use Rattle.table.specs.Layout.{part, rowsOf, textRows, linesHeld, held, rowIn}
 use Rattle.table.proofs.Rows.{count-held, lines-held, texts-held}
 use Rattle.table.proofs.Held.{counts-held}
+use Rattle.checks.specs.Seen.{unseen, Seen, Unlike}
 use Rattle.checks.proofs.NotedLaws.{under-held, uses-same}
+use Rattle.checks.proofs.SeenLaws.{key-alike, unlike-seen}
 use Rattle.judge.specs.Verdicts.{NewDepth}
 
 module _ (a sheet b : List ℕ) where
@@ -172,3 +174,25 @@ module _ (sheet a b : List ℕ) (k : ℕ) (r : List ℕ) (e : k ≡ keyOf r) (d 
 
     pub text-new : v ≡ false → NewDepth sheet a b r k 1
     text-new q = record { is = sym (rw (text-found, q) text-depth) }
+
+-- ---- rows that are new
+
+module _ (sheet a b r : List ℕ) (k : ℕ) (e : k ≡ keyOf r) (new : Bool) (u : Unlike (rowIn sheet (keyOf r) r) (linesOf (held sheet a b) (keyOf r)) new) where
+  pub text-sure : k ≡ TEXT → new ≡ true → NewDepth sheet a b r k 1
+  text-sure d q =
+      let t : tag r ≡ TEXT-LINE = text-tag r (sym e ∙ d) in
+      let row : rowIn sheet (keyOf r) r ≡ TEXT-LINE ∷ part sheet (getD r 1 0) (getD r 1 0 + getD r 2 0) = rw (eq-eqb (keyOf r) TEXT (sym e ∙ d), t) refl in
+      let rows : linesOf (held sheet a b) (keyOf r) ≡ textRows sheet (rowsOf a TEXT) = ap (linesOf (held sheet a b)) (sym e ∙ d) ∙ texts-held sheet a b in
+      text-new sheet a b k r e d (getD r 1 0) (getD r 2 0) (part sheet (getD r 1 0) (getD r 1 0 + getD r 2 0))
+      (among (TEXT-LINE ∷ part sheet (getD r 1 0) (getD r 1 0 + getD r 2 0)) (textRows sheet (rowsOf a TEXT))) refl refl refl refl
+      (sym (ap₂ among row rows) ∙ u .none q)
+
+  pub unlike-other : (k ≡ TEXT → ⊥) → k < noKey → Unlike r (rowsOf a k) new
+  unlike-other n l =
+      let row : rowIn sheet (keyOf r) r ≡ r = rw (ne-eqb (keyOf r) TEXT (λ q. n (e ∙ q))) refl in
+      record { none = λ q. sym (ap₂ among row (ap (linesOf (held sheet a b)) (sym e) ∙ lines-held sheet a b k l n)) ∙ u .none q }
+
+-- a row that the set lacks
+pub unlike-line : (sheet a b r m : List ℕ) (new : Bool) → Seen (held sheet a b) m → new ≡ unseen m (rowIn sheet (keyOf r) r) → Unlike (rowIn sheet (keyOf r) r) (linesOf (held sheet a b) (keyOf r)) new
+unlike-line sheet a b r m new s e =
+    subst (λ (k : ℕ). Unlike (rowIn sheet (keyOf r) r) (linesOf (held sheet a b) k) new) (key-alike sheet r) (unlike-seen (held sheet a b) m (rowIn sheet (keyOf r) r) new s e)

@@ -10,6 +10,7 @@ use Rattle.sheet.specs.Sheet.{found, depth, faultOf, marked}
 use Rattle.table.specs.Layout.{TYPEDEPTHS, USES, depthsAt, rowIn, held}
 use Rattle.fits.specs.Fit.{SettledIn, Known}
 use Rattle.typing.specs.Links.{Shown}
+use Rattle.checks.specs.Seen.{withSeen}
 use Rattle.checks.specs.Uses.{markOf, usesIn}
 
 -- the depth of a row of key k; 0 where what it refers to is not there, or the row is not new
@@ -33,3 +34,7 @@ pub record Judged (sheet a b r b′ : List ℕ) (f k d : ℕ) : Type 0 where
   pub early : keyOf r < ENTITY → (i : ℕ) → i < TYPEDEPTHS → getD b′ i 0 ≡ getD b i 0
   pub depths : (i n : ℕ) → TYPEDEPTHS ≤ i → i + n ≤ USES → depthsAt b′ i n ≡ depthsAt b i n
   pub rest : getD a NODE 0 ≤ 1024 → drop (USES + 1024) b′ ≡ drop (USES + 1024) b
+
+-- the rows seen, with the row that words r hold
+abbrev pub seenAt : List ℕ → List ℕ → List ℕ → List ℕ
+seenAt sheet m r = withSeen m (rowIn sheet (keyOf r) r)

@@ -2,6 +2,7 @@
 use checks::in_order;
 use checks::is_text;
 use checks::new_depth;
+use checks::see_line;
 use checks::too_many;
 use checks::use_nodes;
 use forms::ENTITY;
@@ -17,9 +18,12 @@ ghost use mathlib.Core.Path.{_≡_};
 ghost use Prim.Native.Nat.{_<_};
 ghost use Rattle.words.specs.Log.{part};
 ghost use Rattle.sheet.specs.Forms.{keyOf, noKey};
+ghost use Rattle.sheet.specs.State.{linesOf};
+ghost use Rattle.table.specs.Layout.{rowIn, held};
+ghost use Rattle.checks.specs.Seen.{Seen, Unlike};
 ghost use Rattle.checks.specs.Under.{Noted};
 ghost use Rattle.fits.specs.Fit.{Known};
-ghost use Rattle.judge.specs.Verdicts.{NewDepth, TypedLine, Judged};
+ghost use Rattle.judge.specs.Verdicts.{NewDepth, TypedLine, Judged, seenAt};
 
 // A refusal, 0 for none; the row's key and its depth.
 pub struct Verdict {
@@ -49,13 +53,16 @@ fn typed_line(rows: &[u32], work: &mut [u32], line: &[u32], key: usize) -> bool
     typed(rows, work, line, key)
 }
 
-// The depth of a row of this key; 0 where a line that it refers to is not there, or the row is not new.
-fn depth_of(sheet: &[u8], rows: &[u32], work: &[u32], key: usize, line: &[u32]) -> usize
+// The depth of a row of this key; 0 where a line that it refers to is not there, or the row is not new, as it is known to be where `new` says so.
+fn depth_of(sheet: &[u8], rows: &[u32], work: &[u32], key: usize, line: &[u32], new: bool) -> usize
     requires { ⌜ (key ≡ keyOf (now line)) × (key < noKey) ⌝ }
-    requires { ⌜ Noted (now rows) (now work) ⌝ }
+    requires { ⌜ Noted (now rows) (now work) × Unlike (rowIn (now sheet) (keyOf (now line)) (now line)) (linesOf (held (now sheet) (now rows) (now work)) (keyOf (now line))) new ⌝ }
     ensures { λ d. ⌜ NewDepth (now (sheet .entry)) (now (rows .entry)) (now (work .entry)) (now (line .entry)) key d ⌝ }
 {
     if key == TEXT {
+        if new {
+            return 1;
+        }
         let s = item(line, 1) as usize;
         let n = item(line, 2) as usize;
         if is_text(sheet, rows, bytes(sheet, s, s + n)) {
@@ -63,12 +70,12 @@ fn depth_of(sheet: &[u8], rows: &[u32], work: &[u32], key: usize, line: &[u32]) 
         }
         return 1;
     }
-    new_depth(rows, work, key, line)
+    new_depth(rows, work, key, line, new)
 }
 
-// The refusal of a row of words, and where there is none its key and depth; the nodes that it uses are then marked.
-pub fn judge(sheet: &[u8], rows: &[u32], work: &mut [u32], line: &[u32]) -> Verdict
-    requires { ⌜ Known (now rows) (now work) × Noted (now rows) (now work) ⌝ }
+// The refusal of a row of words, and where there is none its key and depth; the nodes that it uses are then marked. A row that is `new` repeats no other.
+pub fn judge(sheet: &[u8], rows: &[u32], work: &mut [u32], line: &[u32], new: bool) -> Verdict
+    requires { ⌜ Known (now rows) (now work) × Noted (now rows) (now work) × Unlike (rowIn (now sheet) (keyOf (now line)) (now line)) (linesOf (held (now sheet) (now rows) (now work)) (keyOf (now line))) new ⌝ }
     ensures { λ v. ⌜ Judged (now (sheet .entry)) (now (rows .entry)) (now (work .entry)) (now (line .entry)) (now (work .exit)) (v .number) (v .key) (v .depth) ⌝ }
 {
     let k = key_of(tag(line));
@@ -78,7 +85,7 @@ pub fn judge(sheet: &[u8], rows: &[u32], work: &mut [u32], line: &[u32]) -> Verd
     if too_many(rows, work, k, line) {
         return refused(4);
     }
-    let d = depth_of(sheet, rows, work, k, line);
+    let d = depth_of(sheet, rows, work, k, line, new);
     if d == 0 {
         return refused(5);
     }
@@ -98,11 +105,20 @@ pub fn judge(sheet: &[u8], rows: &[u32], work: &mut [u32], line: &[u32]) -> Verd
     }
 }
 
-// The same of the row that lies from word `top` to word `end`.
-pub fn judge_at(sheet: &[u8], rows: &[u32], work: &mut [u32], top: usize, end: usize) -> Verdict
-    requires { ⌜ Known (now rows) (now work) × Noted (now rows) (now work) ⌝ }
-    ensures { λ v. ⌜ Judged (now (sheet .entry)) (now (rows .entry)) (now (work .entry)) (part (now (rows .entry)) top end) (now (work .exit)) (v .number) (v .key) (v .depth) ⌝ }
+// The same of the row that lies from word `top` to word `end`, which joins the rows seen.
+pub fn judge_at(
+    sheet: &[u8],
+    rows: &[u32],
+    work: &mut [u32],
+    top: usize,
+    end: usize,
+    seen: &mut [u32],
+) -> Verdict
+    requires { ⌜ Known (now rows) (now work) × Noted (now rows) (now work) × Seen (held (now sheet) (now rows) (now work)) (now seen) ⌝ }
+    ensures verdict { λ v. ⌜ Judged (now (sheet .entry)) (now (rows .entry)) (now (work .entry)) (part (now (rows .entry)) top end) (now (work .exit)) (v .number) (v .key) (v .depth) ⌝ }
+    ensures seen { λ _. ⌜ now (seen .exit) ≡ seenAt (now (sheet .entry)) (now (seen .entry)) (part (now (rows .entry)) top end) ⌝ }
 {
-    let r = cut(rows, top, end);
-    judge(sheet, rows, work, r)
+    let line = cut(rows, top, end);
+    let new = see_line(sheet, line, seen);
+    judge(sheet, rows, work, line, new)
 }

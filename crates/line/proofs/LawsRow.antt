@@ -13,14 +13,10 @@ use Rattle.sheet.specs.Bytes.{index}
 use Rattle.sheet.specs.Forms.{Mode, Slot, nothing, slotAt, item, one, joined, itemsFrom, counted, orEmpty, tagOf, rowFor, noTag, firstNode, NODE}
 use Rattle.words.specs.Log.{room}
 use Rattle.forms.specs.Tags.{SLOT}
-use Rattle.line.specs.Codes.{modeOf}
 use Rattle.line.specs.Written.{countedFrom, Kept, Items, Row}
 use Rattle.forms.proofs.Table.{no-form, node-slot}
 use Rattle.line.proofs.LawsTag.{node-tag}
-use Rattle.line.proofs.LawsItems.{more-words, kept-both, given-some, joined-empty, counted-cons}
-
-pub empty-row : (row w : List ℕ) (top b : ℕ) → row ≡ [] → Row row w w top 0 b
-empty-row row w top b e = record { count = sym (ap length e); words = sym e; kept = record { below = refl; rest = refl }; tight = omega arith }
+use Rattle.line.proofs.LawsItems.{more-words, kept-both, given-some, counted-cons}
 
 -- ---- refused rows
 
@@ -51,14 +47,6 @@ row-is m t fs = let z : 0 + length fs ≡ length fs = omega arith in rw z (go (c
     go : (b : Bool) (o : Option (List ℕ)) → cond b (orEmpty t o) [] ≡ orEmpty t (cond b o none)
     go true o = refl
     go false o = refl
-
--- a refused row takes no words, so any bound holds of them
-pub tagged-unformed : (p : Bool) (t top bound : ℕ) (fs : List (List ℕ)) (w : List ℕ) → noTag ≤ t → Row (rowFor (modeOf p) t fs) w w top 0 bound
-tagged-unformed p t top bound fs w h = empty-row (rowFor (modeOf p) t fs) w top bound (row-unformed (modeOf p) t fs h)
-
-pub tagged-row : (p : Bool) (t top r bound : ℕ) (fs : List (List ℕ)) (w w₂ : List ℕ) → Row (orEmpty t (joined (some (take 0 (drop (top + 1) w))) (countedFrom (modeOf p) t 0 fs))) w w₂ top r bound
-    → Row (rowFor (modeOf p) t fs) w w₂ top r bound
-tagged-row p t top r bound fs w w₂ g = rw (row-is (modeOf p) t fs, ← joined-empty (countedFrom (modeOf p) t 0 fs)) g
 
 -- ---- a row whose first j items, none or one, are written
 

@@ -3,13 +3,14 @@ use mathlib.Core.Path.{_≡_}
 use mathlib.Core.Bool.{cond}
 use mathlib.Core.Option.{Option, none, some}
 use mathlib.Core.List.{List, [], _∷_}
-use Prim.Native.Nat.{ℕ, zero, suc, _+_, _-_, _*_, _≤_}
+use Prim.Native.Nat.{ℕ, zero, suc, _+_, _-_, _*_, _≤_, _<_}
 use lib.Dec.{leb, eqb}
 use lib.ListN.{length, take, drop}
 use Rattle.words.specs.Log.{part, room}
-use Rattle.sheet.specs.Forms.{Mode, item, itemsFrom, counted, keyOf, TEXT, NODE}
+use Rattle.sheet.specs.Forms.{Mode, Headed, item, itemsFrom, counted, joined, orEmpty, formOf, keyOf, rowFor, rowHeaded, noTag, firstNode, TEXT, NODE}
 use Rattle.table.specs.Layout.{textRow}
-use Rattle.scan.specs.Places.{itemEnd}
+use Rattle.scan.specs.declared.Cursor.{Cursor}
+use Rattle.scan.specs.Places.{itemEnd, itemsAt}
 use Rattle.forms.specs.Rows.{NUMBER, slotOf}
 use Rattle.forms.specs.Tags.{TEXT-LINE, LONG-VALUE}
 
@@ -47,6 +48,24 @@ pub record Items (o : Option (List ℕ)) (was is : List ℕ) (t k r e bytes : �
   pub tight : 2 * r + e ≤ 2 * k + bytes + 3
   pub close : (t ≡ LONG-VALUE → ⊥) → 2 * r + e ≤ 2 * k + bytes + 1
   pub grows : 1 ≤ r → k ≤ r
+
+-- a line of key k and heading hd, in the bytes s from byte a on, has tag t, and its items stand at the cursor
+pub record Tagged (k : ℕ) (hd : Headed) (s : List ℕ) (a t : ℕ) (items : Cursor) : Type 0 where
+  pub row : (m : Mode) → rowHeaded m k hd ≡ rowFor m t (itemsAt s items)
+  pub after : a ≤ items .at
+  pub near : items .at ≤ length s + 1
+
+-- the same where the first j items, none or one, are written behind the place of the tag, and so many half words are enough for the row
+pub record Begun (k : ℕ) (hd : Headed) (bytes : ℕ) (s : List ℕ) (a : ℕ) (was is : List ℕ) (top t j : ℕ) (items : Cursor) : Type 0 where
+  pub refused : noTag ≤ t → (m : Mode) → rowHeaded m k hd ≡ []
+  pub row : t < noTag → (m : Mode) → rowHeaded m k hd ≡ orEmpty t (joined (some (take j (drop (top + 1) is))) (countedFrom m t j (itemsAt s items)))
+  pub kept : Kept was is top
+  pub few : j ≤ 1
+  pub node : 1 ≤ j → firstNode ≤ t
+  pub places : t < noTag → j ≤ length (formOf t .items)
+  pub after : a ≤ items .at
+  pub near : items .at ≤ length s + 1
+  pub close : t < noTag → length s + 5 - items .at ≤ bytes
 
 -- a row of r words from top on
 pub record Row (row was is : List ℕ) (top r bytes : ℕ) : Type 0 where

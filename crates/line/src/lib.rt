@@ -43,12 +43,12 @@ ghost use Prim.Native.Nat.{_+_, _-_, _*_, _≤_, _<_};
 ghost use lib.ListN.{length, take, drop};
 ghost use Rattle.words.specs.Log.{room};
 ghost use Rattle.sheet.specs.Bytes.{same, index};
-ghost use Rattle.sheet.specs.Forms.{entry, firstNode, formOf, noTag, TYPE, VALUE, NODE, item, joined, markOr, one, orEmpty, tagOf, wordNumber, rowFor, rowHeaded, heading, nameFirst, nameSecond, rowOfValue};
+ghost use Rattle.sheet.specs.Forms.{entry, firstNode, formOf, noTag, TYPE, VALUE, NODE, item, joined, markOr, one, orEmpty, tagOf, wordNumber, rowHeaded, heading, nameFirst, nameSecond, rowOfValue};
 ghost use Rattle.scan.specs.Numbers.{numberOf};
 ghost use Rattle.scan.specs.Places.{itemsAt};
 ghost use Rattle.forms.specs.Rows.{NUMBER, slotOf};
 ghost use Rattle.line.specs.Codes.{modeOf};
-ghost use Rattle.line.specs.Written.{countedFrom, Item, After, Items, Row, Text, Entry, rowRoom};
+ghost use Rattle.line.specs.Written.{countedFrom, Item, After, Items, Tagged, Begun, Row, Text, Entry, rowRoom};
 
 // The keys that are read in a way of their own.
 const TEXT: u64 = forms::TEXT as u64;
@@ -68,6 +68,13 @@ const MARK: u64 = forms::MARK as u64;
 struct Placed {
     next: Cursor,
     words: usize,
+}
+
+// What a line begins with: its tag, how many of its items, none or one, stand before its constructor, and the cursor at the others.
+struct Head {
+    tag: usize,
+    before: usize,
+    items: Cursor,
 }
 
 // A mark or an index.
@@ -288,78 +295,75 @@ fn row_from(
     z - top
 }
 
-// Writes the row of a tag with the items from the cursor on.
-fn row_tagged(
-    bytes: &[u8],
-    cursor: Cursor,
-    partial: bool,
-    tag: usize,
-    rows: &mut [u32],
-    top: usize,
-) -> usize
-    requires { ⌜ (cursor .at ≤ length (now bytes) + 1) × (length (now bytes) ≤ room) × (room ≤ length (now rows)) × (2 * top + length (now bytes) + 16 ≤ 2 * room + cursor .at) ⌝ }
-    ensures { λ r. ⌜ Row (rowFor (modeOf partial) tag (itemsAt (now (bytes .entry)) cursor)) (now (rows .entry)) (now (rows .exit)) top r (length (now (bytes .entry)) + 5 - cursor .at) ⌝ }
-{
-    if NO_TAG <= tag {
-        return 0;
-    }
-    row_from(bytes, cursor, partial, tag, 0, rows, top)
-}
-
-// The row of a key without constructors.
-fn row_plain(
-    key: u64,
-    bytes: &[u8],
-    cursor: Cursor,
-    partial: bool,
-    rows: &mut [u32],
-    top: usize,
-) -> usize
-    requires { ⌜ (cursor .at ≤ length (now bytes)) × (length (now bytes) ≤ room) × (room ≤ length (now rows)) × (2 * top + length (now bytes) + 16 ≤ 2 * room + cursor .at) ⌝ }
-    ensures { λ r. ⌜ Row (rowFor (modeOf partial) (tagOf key []) (itemsAt (now (bytes .entry)) cursor)) (now (rows .entry)) (now (rows .exit)) top r (length (now (bytes .entry)) + 5 - cursor .at) ⌝ }
-{
-    let t = plain_tag(key);
-    row_tagged(bytes, cursor, partial, t, rows, top)
-}
-
-// The row of a type or value: its constructor stands first.
-fn row_named(
-    value: bool,
-    bytes: &[u8],
-    cursor: Cursor,
-    partial: bool,
-    rows: &mut [u32],
-    top: usize,
-) -> usize
-    requires { ⌜ (cursor .at ≤ length (now bytes)) × (length (now bytes) ≤ room) × (room ≤ length (now rows)) × (2 * top + length (now bytes) + 16 ≤ 2 * room + cursor .at) ⌝ }
-    ensures { λ r. ⌜ Row (rowHeaded (modeOf partial) (cond value VALUE TYPE) (nameFirst (itemsAt (now (bytes .entry)) cursor))) (now (rows .entry)) (now (rows .exit)) top r (length (now (bytes .entry)) + 5 - cursor .at) ⌝ }
+// The head of a type or value: its constructor stands first.
+fn named_head(value: bool, bytes: &[u8], cursor: Cursor) -> Head
+    requires { ⌜ (cursor .at ≤ length (now bytes)) × (length (now bytes) ≤ room) ⌝ }
+    ensures { λ r. ⌜ (r .before ≡ 0) × Tagged (cond value VALUE TYPE) (nameFirst (itemsAt (now (bytes .entry)) cursor)) (now (bytes .entry)) (cursor .at) (r .tag) (r .items) ⌝ }
 {
     let start = cursor.at;
-    let scan::Item::Part(end, next) = cursor.item(bytes) else {
-        return 0;
+    let scan::Item::Part(end, items) = cursor.item(bytes) else {
+        return Head {
+            tag: NO_TAG,
+            before: 0,
+            items: cursor,
+        };
     };
-    let t = named_tag(value, part_of(bytes, start, end));
-    row_tagged(bytes, next, partial, t, rows, top)
+    let tag = named_tag(value, part_of(bytes, start, end));
+    Head {
+        tag,
+        before: 0,
+        items,
+    }
 }
 
-// The row of a node: its type stands first, its constructor second.
-fn row_node(bytes: &[u8], cursor: Cursor, partial: bool, rows: &mut [u32], top: usize) -> usize
+// The head of a node: its type stands first, its constructor second.
+fn node_head(bytes: &[u8], cursor: Cursor, rows: &mut [u32], top: usize) -> Head
     requires { ⌜ (cursor .at ≤ length (now bytes)) × (length (now bytes) ≤ room) × (room ≤ length (now rows)) × (2 * top + length (now bytes) + 16 ≤ 2 * room + cursor .at) ⌝ }
-    ensures { λ r. ⌜ Row (rowHeaded (modeOf partial) NODE (nameSecond (itemsAt (now (bytes .entry)) cursor))) (now (rows .entry)) (now (rows .exit)) top r (length (now (bytes .entry)) - cursor .at) ⌝ }
+    ensures { λ r. ⌜ Begun NODE (nameSecond (itemsAt (now (bytes .entry)) cursor)) (length (now (bytes .entry)) - cursor .at) (now (bytes .entry)) (cursor .at) (now (rows .entry)) (now (rows .exit)) top (r .tag) (r .before) (r .items) ⌝ }
 {
-    let Counted::Value(x, typed) = cursor.number(bytes) else {
-        return 0;
+    let Counted::Value(first, typed) = cursor.number(bytes) else {
+        return Head {
+            tag: NO_TAG,
+            before: 0,
+            items: cursor,
+        };
     };
     let start = typed.at;
-    let scan::Item::Part(end, next) = typed.item(bytes) else {
-        return 0;
+    let scan::Item::Part(end, items) = typed.item(bytes) else {
+        return Head {
+            tag: NO_TAG,
+            before: 0,
+            items: cursor,
+        };
     };
-    let t = node_form(part_of(bytes, start, end)) as usize;
-    if NO_TAG <= t {
-        return 0;
+    let tag = node_form(part_of(bytes, start, end)) as usize;
+    rows[top + 1] = first;
+    Head {
+        tag,
+        before: 1,
+        items,
     }
-    rows[top + 1] = x;
-    row_from(bytes, next, partial, t, 1, rows, top)
+}
+
+// The head of a line of a key, which is not a text.
+fn head_of(key: u64, bytes: &[u8], cursor: Cursor, rows: &mut [u32], top: usize) -> Head
+    requires { ⌜ (cursor .at ≤ length (now bytes)) × (length (now bytes) ≤ room) × (room ≤ length (now rows)) × (2 * top + length (now bytes) + 16 ≤ 2 * room + cursor .at) ⌝ }
+    ensures { λ r. ⌜ Begun key (heading key (itemsAt (now (bytes .entry)) cursor)) (rowRoom key (length (now (bytes .entry)) - cursor .at)) (now (bytes .entry)) (cursor .at) (now (rows .entry)) (now (rows .exit)) top (r .tag) (r .before) (r .items) ⌝ }
+{
+    if key == NODE {
+        return node_head(bytes, cursor, rows, top);
+    }
+    if key == TYPE {
+        return named_head(false, bytes, cursor);
+    }
+    if key == VALUE {
+        return named_head(true, bytes, cursor);
+    }
+    Head {
+        tag: plain_tag(key),
+        before: 0,
+        items: cursor,
+    }
 }
 
 // The row of a line of a key, which is not a text.
@@ -374,16 +378,14 @@ fn row_value(
     requires { ⌜ (cursor .at ≤ length (now bytes)) × (length (now bytes) ≤ room) × (room ≤ length (now rows)) × (2 * top + length (now bytes) + 16 ≤ 2 * room + cursor .at) ⌝ }
     ensures { λ r. ⌜ Row (rowHeaded (modeOf partial) key (heading key (itemsAt (now (bytes .entry)) cursor))) (now (rows .entry)) (now (rows .exit)) top r (rowRoom key (length (now (bytes .entry)) - cursor .at)) ⌝ }
 {
-    if key == NODE {
-        return row_node(bytes, cursor, partial, rows, top);
+    let h = head_of(key, bytes, cursor, rows, top);
+    let tag = h.tag;
+    if NO_TAG <= tag {
+        return 0;
     }
-    if key == TYPE {
-        return row_named(false, bytes, cursor, partial, rows, top);
-    }
-    if key == VALUE {
-        return row_named(true, bytes, cursor, partial, rows, top);
-    }
-    row_plain(key, bytes, cursor, partial, rows, top)
+    let before = h.before;
+    let items = h.items;
+    row_from(bytes, items, partial, tag, before, rows, top)
 }
 
 // Writes a text as its place and length in the sheet.

@@ -21,14 +21,16 @@ use Rattle.sheet.specs.Forms.{Mode, forms, formOf, tagOf, keyOf, itemsFrom, cou
 use Rattle.forms.specs.Tags.{DAY-LINE}
 use Rattle.sheet.specs.State.{State, empty, linesOf, count, before, sum}
 use Rattle.sheet.specs.Sheet.{Reading, least, enough, reach, firstUnused, firstUnlinked, reads, ending, fault, more, goOn, beforeLine, reading, readingOn, read}
-use Rattle.sheet.proofs.reading.Lines.{AllFit}
+use Rattle.sheet.proofs.reading.Lines.{AllFit, no-lines as empty-lines}
 use Rattle.sheet.proofs.reading.EntitiesEnd.{firstPart, reading-before, starts-entity}
 use Rattle.table.specs.Layout.{part, RUN, MADE, TOP, TYPEDEPTHS, USES, SPENT, heap, rowsAt, rowsOf, linesHeld, depthsHeld, depthsAt, held, depthBase, depthsIn}
 use Rattle.table.proofs.Rows.{limit-small, lines-held, count-held}
 use Rattle.table.proofs.Held.{tab-same, linesIn, lines-tab, depths-tab, counts-held}
 use Rattle.fits.proofs.Remembered as R
+use Rattle.checks.specs.Seen.{PLACE-WORDS, withSeen, Seen}
 use Rattle.checks.specs.Under.{Noted}
 use Rattle.checks.proofs.NotedLaws.{noted-blank}
+use Rattle.checks.proofs.SeenLaws.{seen-first, seen-more}
 use Rattle.judge.proofs.Alike.{count-alike}
 use Rattle.line.proofs.LawsLine.{entry-wide, entry-wider}
 use Rattle.take.proofs.Taking.{fault-none}
@@ -200,6 +202,9 @@ module _ (sheet a b a₁ b₁ b₂ a₂ : List ℕ) (la : 16384 ≤ length a) (l
           go true = refl
           go false = refl
 
+  pub none-seen : (seen : List ℕ) → PLACE-WORDS ≤ length seen → Seen (held sheet a₂ b₂) seen
+  none-seen seen l = subst (λ (s : State). Seen s seen) (sym state-empty) (seen-first empty seen empty-lines l)
+
   blank : (i : ℕ) → i < TYPEDEPTHS → getD b₂ i 0 ≡ 0
   blank i h = ap (λ (x : List ℕ). getD x i 0) hs ∙ getD-set-other b₁ SPENT i 0 0 (omega arith) ∙ ap (λ (x : List ℕ). getD x i 0) hb ∙ getD-zeros TYPEDEPTHS b i h
 
@@ -360,11 +365,11 @@ module _ (m : Mode) (sheet a₀ b₀ a b : List ℕ) (c : Cursor) (i : Progress 
       row : List ℕ
       row = rowOfValue m j (part sheet (equals .at + 1) e)
 
-      pub line-fits : length sheet ≤ 16384
-          → Ready a b × Reached m (held sheet a b) × (equals .at < e) × (e ≤ length sheet) × (length sheet ≤ 16384) × (2 * getD a TOP 0 + (e + 4 - equals .at) ≤ 2 * heap + 16400)
-      line-fits s =
+      pub line-fits : length sheet ≤ 16384 → (seen : List ℕ) → Seen (held sheet a b) seen
+          → Ready a b × Reached m (held sheet a b) × (equals .at < e) × (e ≤ length sheet) × (length sheet ≤ 16384) × (2 * getD a TOP 0 + (e + 4 - equals .at) ≤ 2 * heap + 16400) × Seen (held sheet a b) seen
+      line-fits s seen h =
           let w = entry in
-          (i .ready, i .reached, w .equals-in, omega (arith, w .ends), s, omega (arith, i .room, wide, w .equals-in, w .ends))
+          (i .ready, i .reached, w .equals-in, omega (arith, w .ends), s, omega (arith, i .room, wide, w .equals-in, w .ends), h)
 
       module _ (a′ b′ : List ℕ) (n : ℕ) (t : Taken sheet (rowOfValue m j (part sheet (equals .at + 1) e)) a b a′ b′ (e + 4 - equals .at) n) where
         line-does : read m sheet ≡ goOn (held sheet a b) (c .line) row n (reading m (split 10 (drop (next .at) sheet)))
@@ -383,6 +388,11 @@ module _ (m : Mode) (sheet a₀ b₀ a b : List ℕ) (c : Cursor) (i : Progress 
               rest-a = t .rest-a ∙ i .rest-a;
               rest-b = t .rest-b ∙ i .rest-b;
             }
+
+        pub line-joins : n ≡ 0 → (seen seen′ : List ℕ) → Seen (held sheet a b) seen → (n ≡ 0 → seen′ ≡ withSeen seen (rowOfValue m j (part sheet (equals .at + 1) e))) → Seen (held sheet a′ b′) seen′
+        line-joins z seen seen′ h e′ =
+            let r = rowOfValue m j (part sheet (equals .at + 1) e) in
+            subst (Seen (held sheet a′ b′)) (sym (e′ z)) (subst (λ (s : State). Seen s (withSeen seen r)) (sym (t .state z)) (seen-more (held sheet a b) seen r h))
 
         line-reached : n ≡ 0 → Reached m (more (held sheet a b) (rowOfValue m j (part sheet (equals .at + 1) e)))
         line-reached z =

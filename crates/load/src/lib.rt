@@ -1,6 +1,7 @@
 // The reading of a sheet into the lent words: lines in turn, the first faulty line ends it.
 use above::first_unfit;
 use checks::NO_SLOT;
+use checks::PLACE_WORDS;
 use checks::enough_before;
 use checks::is_first;
 use checks::slots_at;
@@ -186,7 +187,7 @@ fn zero(words: &mut [u32], end: usize)
     }
 }
 
-// Reads the sheet; before the first line there are no rows, no pairs are remembered, and no nodes are used. The answer is the refusal of the first faulty line, or of the end; where it is accepted the words hold its rows.
+// Reads the sheet; before the first line there are no rows, no pairs are remembered, no nodes are used, and no rows are seen. The answer is the refusal of the first faulty line, or of the end; where it is accepted the words hold its rows.
 pub fn load(sheet: &[u8], partial: bool, rows: &mut [u32], work: &mut [u32]) -> Loaded
     requires { ⌜ (length (now sheet) ≤ 16384) × (16384 ≤ length (now rows)) × (16384 ≤ length (now work)) ⌝ }
     ensures { λ r. ⌜ Read (read (modeOf partial) (now (sheet .entry))) (now (sheet .entry)) (now (rows .entry)) (now (work .entry)) (now (rows .exit)) (now (work .exit)) (r .number) (r .line) ⌝ }
@@ -195,6 +196,7 @@ pub fn load(sheet: &[u8], partial: bool, rows: &mut [u32], work: &mut [u32]) -> 
     zero(work, TYPEDEPTHS);
     put(work, SPENT, 0);
     put(rows, TOP, HEAP as u32);
+    let mut seen: [u32; PLACE_WORDS] = [0; PLACE_WORDS];
     let mut c = Cursor::new();
     loop {
         let k = c.line;
@@ -210,7 +212,7 @@ pub fn load(sheet: &[u8], partial: bool, rows: &mut [u32], work: &mut [u32]) -> 
                 end,
                 next,
             } => {
-                let f = take_line(sheet, key, equals, end, partial, rows, work);
+                let f = take_line(sheet, key, equals, end, partial, rows, work, &mut seen[..]);
                 if f != 0 {
                     return Loaded { number: f, line: k };
                 }

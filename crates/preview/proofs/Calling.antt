@@ -1,8 +1,8 @@
--- The call by its tests: a work slice too short, or what was tried and the clearing. Assumes nothing.
-use mathlib.Core.Path.{_≡_, sym, ap}
-use mathlib.Core.List.{List, _++_}
+-- The call by its tests: a work slice too short, or what was tried. Assumes nothing.
+use mathlib.Core.Path.{_≡_, refl, sym, _∙_, ap}
+use mathlib.Core.List.{List}
 use Prim.Native.Nat.{ℕ, _≤_, _<_}
-use lib.ListN.{length, take, drop}
+use lib.ListN.{length, take, take-append-drop}
 use Rattle.words.specs.Log.{cleared}
 use Rattle.sheet.specs.Forms.{partial}
 use Rattle.sheet.specs.Call.{Returned, shortThen, returned}
@@ -34,10 +34,9 @@ module _ (sheet : List ℕ) (n : ℕ) (new w₁ w₂ out : List ℕ) where
   preview-second h = previewed 1 0 0 out w₁ w₂ (short-second next (answerOf sheet n new) w₁ w₂ out h)
 
   module _ (h₁ : 16384 ≤ length w₁) (h₂ : 16384 ≤ length w₂) where
-    pub preview-tried : (number line len : ℕ) (out′ p₁ p₂ v₁ v₂ : List ℕ) → Tries sheet n new out number line len out′
-        → length p₁ ≡ length (take 16384 w₁) → length p₂ ≡ length (take 16384 w₂) → v₁ ≡ cleared (p₁ ++ drop 16384 w₁) → v₂ ≡ cleared (p₂ ++ drop 16384 w₂)
-        → Previewed sheet n new w₁ w₂ out number line len out′ v₁ v₂
+    pub preview-tried : (number line len : ℕ) (out′ v₁ v₂ : List ℕ) → Tries sheet n new out number line len out′ → v₁ ≡ cleared w₁ → v₂ ≡ cleared w₂ → Previewed sheet n new w₁ w₂ out number line len out′ v₁ v₂
     unfolding previewReturned
-    preview-tried number line len out′ p₁ p₂ v₁ v₂ g l₁ l₂ e f =
-        previewed number line len out′ v₁ v₂ (long-enough next (answerOf sheet n new) w₁ w₂ out h₁ h₂ number line len out′ p₁ p₂ v₁ v₂
-        (gives-as (ap (λ (r : Returned). shortThen sheet (editThen sheet n new r)) (sym (lent (length w₁) (length w₂) (length out) (edited sheet n new) h₁ h₂))) g) l₁ l₂ e f)
+    preview-tried number line len out′ v₁ v₂ g e f =
+        previewed number line len out′ v₁ v₂ (long-enough next (answerOf sheet n new) w₁ w₂ out h₁ h₂ number line len out′ (take 16384 w₁) (take 16384 w₂) v₁ v₂
+        (gives-as (ap (λ (r : Returned). shortThen sheet (editThen sheet n new r)) (sym (lent (length w₁) (length w₂) (length out) (edited sheet n new) h₁ h₂))) g) refl refl
+        (e ∙ ap cleared (sym (take-append-drop 16384 w₁))) (f ∙ ap cleared (sym (take-append-drop 16384 w₂))))

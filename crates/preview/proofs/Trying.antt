@@ -6,20 +6,21 @@ use Prim.Native.Nat.{ℕ, _+_, _-_, _≤_, _<_}
 use native.Mathlib.Omega.{arith}
 use native.Mathlib.Decide.{decLe}
 use borrow.Author.Tests.{lt-ltb, le-ltb, not-true, not-false}
-use lib.ListN.{length, take, drop, drop-of-length-le}
+use lib.ListN.{length, take, drop, drop-of-length-le, take-append-drop}
 use lib.Seq.{take-append-seam, take-nil}
-use Rattle.words.specs.Log.{part}
+use Rattle.words.specs.Log.{part, cleared}
 use Rattle.cedar.specs.Types.{among}
 use Rattle.cedar.proofs.Tools.{no-true}
 use Rattle.sheet.specs.Bytes.{upTo}
 use Rattle.sheet.specs.Forms.{partial}
 use Rattle.sheet.specs.Sheet.{read}
 use Rattle.sheet.specs.Answer.{answer}
-use Rattle.sheet.specs.Call.{Returned, returns, outputs, shortThen, readThen, returned, written}
+use Rattle.sheet.specs.Call.{Returned, returns, outputs, shortThen, readThen, returned, written, worked}
 use Rattle.print.specs.Written.{Written}
 use Rattle.print.proofs.Writing.{written-append, written-as, written-over}
 use Rattle.print.proofs.Sending.{gives-as}
 use Rattle.response.specs.Runs.{Gives}
+use Rattle.opening.proofs.Lent.{long-enough}
 use Rattle.authorizer.specs.Called.{Called}
 use Rattle.authorizer.specs.Parts as A
 use Rattle.edit.specs.Places.{beginOf, endFrom, replaced}
@@ -50,6 +51,13 @@ called copy w₁ w₂ out number line len out′ v₁ v₂ g = record {
   buffer = g .buffer ∙ ap (λ (k : ℕ). outputs k (answer partial (read partial copy .state)) out) (sym (g .number-is));
 }
 
+-- a call clears work slices that are long enough
+both-cleared : (w₁ w₂ : List ℕ) → 16384 ≤ length w₁ → 16384 ≤ length w₂ → (cleared w₁ ≡ worked w₁ (length w₂)) × (cleared w₂ ≡ worked w₂ (length w₁))
+both-cleared w₁ w₂ h₁ h₂ =
+    let g : Gives (returns 0 0 0) [] [] 0 0 0 [] = record { number-is = refl; line-is = refl; length-is = refl; buffer = refl } in
+    let x = long-enough (returns 0 0 0) [] w₁ w₂ [] h₁ h₂ 0 0 0 [] (take 16384 w₁) (take 16384 w₂) (cleared w₁) (cleared w₂) g refl refl (ap cleared (sym (take-append-drop 16384 w₁))) (ap cleared (sym (take-append-drop 16384 w₂))) in
+    (x .first, x .second)
+
 -- ---- the copy, written in three parts
 
 module _ (sheet new out : List ℕ) (start end : ℕ) (c₀ c₁ c₂ c₃ x y : List ℕ) (a b c : ℕ) (room : 16384 ≡ length c₀) (xp : x ≡ take start sheet) (yp : y ≡ drop end sheet)
@@ -70,11 +78,14 @@ module _ (sheet new out : List ℕ) (start end : ℕ) (c₀ c₁ c₂ c₃ x y :
         let o = written-over c₀ copy c₃ c copied l in
         ap₂ (λ (i : ℕ) (k : List ℕ). take i k) (o .1) (o .0) ∙ take-append-seam copy (drop (length copy) c₀)
 
-    pub copy-ran : (w₁ w₂ : List ℕ) → length w₁ ≡ 16384 → length w₂ ≡ 16384 → (number line len : ℕ) (out′ v₁ v₂ : List ℕ) → Called partial (take c c₃) w₁ w₂ out number line len out′ v₁ v₂
-        → A.Answers partial copy out number line len out′
-    copy-ran w₁ w₂ l₁ l₂ number line len out′ v₁ v₂ g =
-        subst (λ (k : List ℕ). A.Answers partial k out number line len out′) copy-held
-        (gives-as (lent (length w₁) (length w₂) (length out) (take c c₃) (omega (arith, l₁)) (omega (arith, l₂))) (called (take c c₃) w₁ w₂ out number line len out′ v₁ v₂ g))
+    pub copy-ran : (w₁ w₂ : List ℕ) → 16384 ≤ length w₁ → 16384 ≤ length w₂ → (number line len : ℕ) (out′ v₁ v₂ : List ℕ) → Called partial (take c c₃) w₁ w₂ out number line len out′ v₁ v₂
+        → A.Answers partial copy out number line len out′ × ((v₁ ≡ cleared w₁) × (v₂ ≡ cleared w₂))
+    copy-ran w₁ w₂ h₁ h₂ number line len out′ v₁ v₂ g =
+        let k = both-cleared w₁ w₂ h₁ h₂ in (
+          subst (λ (l : List ℕ). A.Answers partial l out number line len out′) copy-held
+              (gives-as (lent (length w₁) (length w₂) (length out) (take c c₃) h₁ h₂) (called (take c c₃) w₁ w₂ out number line len out′ v₁ v₂ g)),
+          (g .first ∙ sym (k .0), g .second ∙ sym (k .1)),
+        )
 
 -- ---- 2, 12, or the run
 

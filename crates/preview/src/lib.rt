@@ -12,7 +12,9 @@ use scan::rest;
 use words::ROOM;
 use words::clear;
 ghost use mathlib.Core.Path.{_≡_};
+ghost use Prim.Native.Nat.{_≤_};
 ghost use lib.ListN.{length};
+ghost use Rattle.words.specs.Log.{cleared};
 ghost use Rattle.sheet.specs.Forms.{partial};
 ghost use Rattle.authorizer.specs.Parts.{Answers};
 ghost use Rattle.edit.specs.Places.{replaced};
@@ -26,46 +28,54 @@ fn copy_bytes() -> [u8; 16384]
     [0; 16384]
 }
 
-// The run on the copy that has other bytes in the place of those from `start` to `end`.
+// The run on the copy that has other bytes in the place of those from `start` to `end`. The work slices are left clear, by the run where there is one.
 fn run(
     sheet: &[u8],
     start: usize,
     end: usize,
     new: &[u8],
-    rows: &mut [u32],
-    work: &mut [u32],
+    work1: &mut [u32],
+    work2: &mut [u32],
     out: &mut [u8],
 ) -> Returned
-    requires { ⌜ (length (now rows) ≡ 16384) × (length (now work) ≡ 16384) ⌝ }
-    ensures { λ r. ⌜ Answers partial (replaced (now (sheet .entry)) start end (now (new .entry))) (now (out .entry)) (r .number) (r .line) (r .length) (now (out .exit)) ⌝ }
+    requires { ⌜ (16384 ≤ length (now work1)) × (16384 ≤ length (now work2)) ⌝ }
+    ensures answers { λ r. ⌜ Answers partial (replaced (now (sheet .entry)) start end (now (new .entry))) (now (out .entry)) (r .number) (r .line) (r .length) (now (out .exit)) ⌝ }
+    ensures first { λ _. ⌜ now (work1 .exit) ≡ cleared (now (work1 .entry)) ⌝ }
+    ensures second { λ _. ⌜ now (work2 .exit) ≡ cleared (now (work2 .entry)) ⌝ }
 {
     let mut copy = copy_bytes();
     let a = bytes(&mut copy, 0, front(sheet, start));
     let b = bytes(&mut copy, a, new);
     let c = bytes(&mut copy, b, rest(sheet, end));
     if c > ROOM {
+        clear(work1);
+        clear(work2);
         return Returned {
             number: 2,
             line: 0,
             length: 0,
         };
     }
-    partial(&copy[..c], rows, work, out)
+    partial(&copy[..c], work1, work2, out)
 }
 
-// 2 of the kept sheet, then 12, then the run on the copy, in work slices that are long enough.
+// 2 of the kept sheet, then 12, then the run on the copy, in work slices that are long enough and left clear.
 fn tried(
     sheet: &[u8],
     line: usize,
     new: &[u8],
-    rows: &mut [u32],
-    work: &mut [u32],
+    work1: &mut [u32],
+    work2: &mut [u32],
     out: &mut [u8],
 ) -> Returned
-    requires { ⌜ (length (now rows) ≡ 16384) × (length (now work) ≡ 16384) ⌝ }
-    ensures { λ r. ⌜ Tries (now (sheet .entry)) line (now (new .entry)) (now (out .entry)) (r .number) (r .line) (r .length) (now (out .exit)) ⌝ }
+    requires { ⌜ (16384 ≤ length (now work1)) × (16384 ≤ length (now work2)) ⌝ }
+    ensures answers { λ r. ⌜ Tries (now (sheet .entry)) line (now (new .entry)) (now (out .entry)) (r .number) (r .line) (r .length) (now (out .exit)) ⌝ }
+    ensures first { λ _. ⌜ now (work1 .exit) ≡ cleared (now (work1 .entry)) ⌝ }
+    ensures second { λ _. ⌜ now (work2 .exit) ≡ cleared (now (work2 .entry)) ⌝ }
 {
     if sheet.len() > ROOM {
+        clear(work1);
+        clear(work2);
         return Returned {
             number: 2,
             line: 0,
@@ -75,16 +85,18 @@ fn tried(
     let start = begin(sheet, line);
     let end = find(sheet, start, b'\n');
     if !fills(part_of(sheet, start, end), new) {
+        clear(work1);
+        clear(work2);
         return Returned {
             number: 12,
             line,
             length: 0,
         };
     }
-    run(sheet, start, end, new, rows, work, out)
+    run(sheet, start, end, new, work1, work2, out)
 }
 
-// The preview: what was used of the work slices is cleared.
+// The preview.
 pub fn preview(
     sheet: &[u8],
     line: usize,
@@ -109,15 +121,5 @@ pub fn preview(
             length: 0,
         };
     }
-    let r = tried(
-        sheet,
-        line,
-        new,
-        &mut work1[..ROOM],
-        &mut work2[..ROOM],
-        out,
-    );
-    clear(work1);
-    clear(work2);
-    r
+    tried(sheet, line, new, work1, work2, out)
 }

@@ -187,6 +187,9 @@ module _ (a p₀ u₀ p u : List ℕ) (b i e : ℕ) (c : Walking a p₀ u₀ p u
   pub walk-listed : Listed (lineRows a) u
   walk-listed = record { is = λ k l. c .listed k (omega (arith, h)) l }
 
+pub likely-is : (u : List ℕ) (n g x : ℕ) → n ≡ g → x ≡ getD u g 0 → x ≡ getD u n 0
+likely-is u n g x e h = h ∙ ap (λ (j : ℕ). getD u j 0) (sym e)
+
 pub place-in : (a p : List ℕ) (v : ℕ) → Indexed (lineRows a) p → v < length p → getD p v 0 ≡ placeOf v (lineRows a)
 place-in a p v c h = c .is v h
 

@@ -333,6 +333,18 @@ fn expand(
     )
 }
 
+// The parents' word of line `number`. That of the likely line is read before the two are compared, so that in a row of lines, each of which names
+// the next, the search does not wait for the queue.
+fn set_at(sets: &[u32], number: usize, likely: usize) -> u32
+    ensures { λ x. ⌜ x ≡ getD (now (sets .entry)) number 0 ⌝ }
+{
+    let word = read(sets, likely);
+    if number == likely {
+        return word;
+    }
+    read(sets, number)
+}
+
 // Marks the lines that entity `value` reaches, its own among them, and notes the ancestors met.
 pub fn reach(rows: &[u32], value: u32, met: &mut [u8], marks: &mut [u32])
     requires { ⌜ FAR < length (now marks) ⌝ }
@@ -349,7 +361,8 @@ pub fn reach(rows: &[u32], value: u32, met: &mut [u8], marks: &mut [u32])
     let mut end = see_at(rows, &places[..], value, marks, &mut queue[..], 0);
     let mut i = 0;
     while i < end {
-        let parents = read(&sets[..], read(&queue[..], i as usize) as usize);
+        let k = read(&queue[..], i as usize);
+        let parents = set_at(&sets[..], k as usize, i as usize);
         hide(marks, parents);
         end = expand(
             rows,

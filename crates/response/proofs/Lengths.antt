@@ -74,14 +74,18 @@ complete-most (i ∷ is) (l ∷ ls) =
     let h = complete-most is ls in
     omega (arith, a, h, length-append (printed "policy" (policyItems i (l .effect) (l .class) [])) (concat (completeLines is ls)))
 
--- A COMPLETE ANSWER CAN BE COUNTED: the word that says how many policies there are has 32 bits
-pub complete-counted : (name : Name) (a cs : List ℕ) → getD a RUN 0 < 4294967296 → length (completeBytes name a cs) ≤ greatest
+-- a complete answer: a head, and a line for each policy
+pub complete-within : (name : Name) (a cs : List ℕ) → length (completeBytes name a cs) ≤ 230 + 63 * getD a RUN 0
 unfolding completeBytes policyLines
-complete-counted name a cs h =
+complete-within name a cs =
     let p : length (firsts (rowsOf a RUN)) ≡ getD a RUN 0 = firsts-length (rowsOf a RUN) ∙ count-rows a RUN in
     let b = head-most name (verdictsIn a cs) in
     let d = complete-most (firsts (rowsOf a RUN)) (verdictsIn a cs) in
     omega (arith, p, b, d, ap length (concat-append (headLines name (verdictsIn a cs)) (completeLines (firsts (rowsOf a RUN)) (verdictsIn a cs))), length-append (concat (headLines name (verdictsIn a cs))) (concat (completeLines (firsts (rowsOf a RUN)) (verdictsIn a cs))))
+
+-- A COMPLETE ANSWER CAN BE COUNTED: the word that says how many policies there are has 32 bits
+pub complete-counted : (name : Name) (a cs : List ℕ) → getD a RUN 0 < 4294967296 → length (completeBytes name a cs) ≤ greatest
+complete-counted name a cs h = omega (arith, h, complete-within name a cs)
 
 -- ---- policies with roots
 

@@ -15,6 +15,7 @@ use Rattle.sheet.specs.Sheet.{read}
 use Rattle.sheet.specs.Answer.{run, partialOf, answer}
 use Rattle.sheet.specs.Call.{room}
 use Rattle.sheet.proofs.reading.Lines.{History, accepted-history}
+use Rattle.sheet.proofs.answer.AnswerLength.{mostAnswer, answer-most}
 use Rattle.residual.specs.Classes.{rootsOf}
 use Rattle.listing.proofs.LogTrees.{treesIn}
 use Rattle.tpe.specs.Run.{Ran, runOf}
@@ -29,7 +30,8 @@ use Rattle.response.specs.Naming.{whyIn}
 use Rattle.response.specs.Printed.{partialBytes}
 use Rattle.response.proofs.Counting.{class-back}
 use Rattle.response.proofs.Partial.{classesIn, verdicts-run, RunWords, partial-held}
-use Rattle.response.specs.Runs.{Holding, Sends, Runs}
+use Rattle.response.specs.Runs.{Holding, Sends, Prints, Runs}
+use Rattle.response.proofs.Sending.{sends-as}
 use Rattle.response.proofs.Completing.{part-front}
 use Rattle.tpe.proofs.Policies as P
 
@@ -132,13 +134,26 @@ pub run-words : (sheet a b : List ℕ) (h : Holding partial sheet a b) (a′ b�
     (eb : b″ ≡ linesOf a′ b′ e) → RunWords sheet a (run partial (read partial sheet .state)) a′ (runOf partial sheet a [] .log) (part b″ CLASSES room) (part b″ ROOTS room)
 run-words sheet a b h a′ b′ b″ e q lb lb′ eb = ready-words sheet sheet a b (holding-ready sheet a b h) a′ b′ b″ e q (lb′ ∙ lb) eb
 
-pub partial-runs : (sheet a b a′ b′ b″ l cs es out : List ℕ) (e number len : ℕ) (out′ : List ℕ) → Leaves 0 a′ b′ e (ended (runOf partial sheet a [])) → length b ≡ room → length b′ ≡ length b
-    → b″ ≡ linesOf a′ b′ e → l ≡ part b″ 0 e → cs ≡ part b″ CLASSES room → es ≡ part b″ ROOTS room → Sends (partialBytes (whyIn a′ cs) a′ l cs es) out number len out′
-    → Runs partial sheet a b out number len out′
-partial-runs sheet a b a′ b′ b″ l cs es out e number len out′ q lb lb′ eb el ec ee s h =
-    let r : Ran = runOf partial sheet a [] in
-    let y : Ready sheet sheet a b = holding-ready sheet a b h in
-    let g : l ≡ r .log = el ∙ part-front b″ e ∙ log-kept sheet sheet a b y a′ b′ b″ e q (lb′ ∙ lb) eb in
-    let i : partialBytes (whyIn a′ cs) a′ l cs es ≡ partialBytes (whyIn (r .words) (part b″ CLASSES room)) (r .words) (r .log) (part b″ CLASSES room) (part b″ ROOTS room) =
-    ap₂ (λ (y z : List ℕ). partialBytes (whyIn y cs) y z cs es) (q .words) g ∙ ap₂ (λ (y z : List ℕ). partialBytes (whyIn (r .words) y) (r .words) (r .log) y z) ec ee in
-    subst (λ (y : List ℕ). Sends y out number len out′) (i ∙ run-bytes sheet sheet a b y b′ b″ (noted sheet sheet a b y a′ b′ b″ e q (lb′ ∙ lb) eb)) s
+-- what is then printed
+module _ (sheet a b a′ b′ b″ l cs es out : List ℕ) (e number len : ℕ) (out′ : List ℕ) (q : Leaves 0 a′ b′ e (ended (runOf partial sheet a []))) (lb : length b ≡ room) (lb′ : length b′ ≡ length b)
+    (eb : b″ ≡ linesOf a′ b′ e) (el : l ≡ part b″ 0 e) (ec : cs ≡ part b″ CLASSES room) (ee : es ≡ part b″ ROOTS room) where
+  abbrev bytes : List ℕ
+  bytes = partialBytes (whyIn a′ cs) a′ l cs es
+
+  answer-is : Holding partial sheet a b → bytes ≡ answer partial (read partial sheet .state)
+  answer-is h =
+      let r : Ran = runOf partial sheet a [] in
+      let y : Ready sheet sheet a b = holding-ready sheet a b h in
+      let g : l ≡ r .log = el ∙ part-front b″ e ∙ log-kept sheet sheet a b y a′ b′ b″ e q (lb′ ∙ lb) eb in
+      let i : bytes ≡ partialBytes (whyIn (r .words) (part b″ CLASSES room)) (r .words) (r .log) (part b″ CLASSES room) (part b″ ROOTS room) =
+      ap₂ (λ (y z : List ℕ). partialBytes (whyIn y cs) y z cs es) (q .words) g ∙ ap₂ (λ (y z : List ℕ). partialBytes (whyIn (r .words) y) (r .words) (r .log) y z) ec ee in
+      i ∙ run-bytes sheet sheet a b y b′ b″ (noted sheet sheet a b y a′ b′ b″ e q (lb′ ∙ lb) eb)
+
+  pub partial-runs : Sends bytes out number len out′ → Runs partial sheet a b out number len out′
+  partial-runs s h = sends-as (answer-is h) s
+
+  -- into a buffer that has room for every answer
+  pub partial-prints : mostAnswer ≤ length out → length sheet ≤ room → Prints bytes out number len out′ → Runs partial sheet a b out number len out′
+  partial-prints m k p h =
+      let i = answer-is h in
+      sends-as i (p (omega (arith, m, ap length i, answer-most partial sheet k (h .accepted))))

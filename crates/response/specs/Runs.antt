@@ -1,8 +1,8 @@
 -- A run of a sheet that the words hold, and its answer sent into a buffer that may be too short for it. A name with a prime is what is left.
 use mathlib.Core.Path.{_≡_}
 use mathlib.Core.List.{List}
-use Prim.Native.Nat.{ℕ}
-use lib.ListN.{getD}
+use Prim.Native.Nat.{ℕ, _≤_}
+use lib.ListN.{length, getD}
 use Rattle.sheet.specs.Forms.{Mode}
 use Rattle.sheet.specs.Sheet.{read}
 use Rattle.sheet.specs.Content.{onTerm}
@@ -10,6 +10,10 @@ use Rattle.sheet.specs.Answer.{answer}
 use Rattle.table.specs.Layout.{rowsOf, held, Sound, RUN, MADE}
 use Rattle.tpe.specs.Fits.{Fits}
 pub use Rattle.print.specs.Sent.{Gives, Sends}
+
+-- where the buffer is long enough
+abbrev pub Prints : List ℕ → List ℕ → ℕ → ℕ → List ℕ → Type 0
+Prints bytes out number len out′ = length bytes ≤ length out → Sends bytes out number len out′
 
 -- the words hold an accepted sheet, as reading leaves it, with its policies on term as those that run
 pub record Holding (m : Mode) (sheet a b : List ℕ) : Type 0 where

@@ -1,3 +1,4 @@
 pub mod Decoded
+pub mod KindSets
 pub mod Rulings
 pub mod Same

@@ -7,8 +7,8 @@ use Prim.Native.Nat.{ℕ, _+_, _≤_, _<_}
 use native.Mathlib.Omega.{arith}
 use borrow.Author.Tests.{eq-eqb, ne-eqb, lt-ltb, le-ltb, not-true, not-false}
 use lib.Dec.{eqb}
-use lib.ListN.{getD, drop, length, drop-of-length-le}
-use lib.Seq.{drop-drop, drop-cons}
+use lib.ListN.{getD, drop, length, replicate, drop-of-length-le}
+use lib.Seq.{drop-cons}
 use Rattle.cedar.specs.Value.{onSome}
 use Rattle.cedar.specs.Types.{tbool, tstr, among, someKind, eachKind, declared}
 use Rattle.cedar.specs.Residual.{uis, beq, rin, rhastag}
@@ -23,8 +23,11 @@ use Rattle.table.specs.Layout.{rowsOf, held, linesHeld}
 use Rattle.fits.specs.Fit.{foundIn, kindsIn, kindsFrom, kindsEnd, kindIn}
 use Rattle.fits.specs.declared.Found as F
 use Rattle.fits.proofs.KindLaws.{kinds-first, kinds-next, kinds-end}
-use Rattle.typing.specs.Rules.{recordAt, attributeAt, attributeTypeAt, tagTypeAt, isAboveAt, actionAt}
-use Rattle.rules.specs.Rules.{ruleIn, schemaAt, tyAt, typeLine, targetRow, pairWith, untagged, lacking, recordRule}
+use Rattle.typing.specs.Rules.{recordAt, attributeAt, attributeTypeAt, tagTypeAt, actionAt}
+use Rattle.typing.specs.Paths as Paths
+use Rattle.typing.proofs.PathSets.{member-zeros, each-none, each-added}
+use Rattle.words.specs.Bits.{member, added}
+use Rattle.rules.specs.Rules.{ruleIn, schemaAt, tyAt, typeLine, targetRow, pairWith, untagged, typeLacks, lacking, recordRule}
 use Rattle.rules.specs.declared.Rule.{Rule}
 use Rattle.rules.specs.declared.Rule.the-variants.{Says, Silent}
 use Rattle.rules.proofs.Decoded.{kinds-of, kinds-none, targets-of, targets-none, attrs-read, has-read, has-other-read}
@@ -149,30 +152,6 @@ module _ (a : List ℕ) (y t : ℕ) (q : List ℕ) (eq : q ≡ typeLine a y) (et
     unfolding targetRow
     target-later l = rw (← eq, ← et, eq-eqb t SET-TYPE h, ← ex, le-ltb x y l) refl
 
-above-as : (a : List ℕ) (k l : ℕ) → among l (schemaAt a .shape k .above) ≡ isAboveAt a k l
-unfolding schemaAt schema held linesHeld isAboveAt
-above-as a k l = ap (among l) (drop-drop 2 1 (getD (rowsOf a SHAPE) k [])) ∙ among-mem l (drop 3 (getD (rowsOf a SHAPE) k []))
-
-module _ (a : List ℕ) (k l : ℕ) where
-  pub in-same : k ≡ l → true ≡ allows (schemaAt a) k l
-  in-same e = rw (eq-eqb k l e) refl
-
-  pub in-above : (b : Bool) → (k ≡ l → ⊥) → b ≡ isAboveAt a k l → b ≡ allows (schemaAt a) k l
-  in-above b h e = rw (ne-eqb k l h, above-as a k l) e
-
--- a pair of a kind and one of row q
-abbrev pub Pairing : List ℕ → List ℕ → ℕ → ℕ → Type 0
-Pairing a q k i = Some (allows (schemaAt a) k) q i
-
-module _ (a q : List ℕ) (k i n : ℕ) (en : n ≡ kindsEnd q) (g : Pairing a q k i) where
-  pub pair-over : n ≤ i → false ≡ pairWith a q k
-  unfolding pairWith
-  pair-over h = some-over (allows (schemaAt a) k) q i n en g h
-
-  pub pair-hit : (x : ℕ) (b : Bool) → i < n → x ≡ getD q i 0 → b ≡ allows (schemaAt a) k x → b ≡ true → true ≡ pairWith a q k
-  unfolding pairWith
-  pair-hit x b h ex eb t = some-hit (allows (schemaAt a) k) q i n en x b h ex eb g t
-
 module _ (a : List ℕ) (y z t : ℕ) (q : List ℕ) (eq : q ≡ typeLine a y) (et : t ≡ tag q) where
   abbrev In : Rule → Type 0
   In r = ruleIn r ≡ relRule (schemaAt a) rin (tyAt a y) (tyAt a z)
@@ -247,30 +226,46 @@ attrs-as : (a : List ℕ) (t k : ℕ) → undeclared (declared t (schemaAt a .sh
 unfolding schemaAt schema tyAt held linesHeld attributeTypeAt
 attrs-as a t k = attrs-read a t (attributeTypeAt a k)
 
+-- type y, and record types found to lack attribute t
+module _ (a : List ℕ) (t : ℕ) where
+  pub found-none : (n : ℕ) → Paths.Each (replicate n 0) (typeLacks a t)
+  found-none n = each-none (replicate n 0) (typeLacks a t) (member-zeros n)
+
+  module _ (y : ℕ) where
+    pub found-there : (w : List ℕ) (b : Bool) → Paths.Each w (typeLacks a t) → b ≡ member w y → b ≡ true → true ≡ typeLacks a t y
+    found-there w b g e h = sym (g .at y (omega arith) (sym e ∙ h))
+
+    module _ (f : F.Found) (ef : foundIn f ≡ recordAt a y) where
+      pub lacks-no-record : f ≡ F.the-variants.Undeclared → true ≡ typeLacks a t y
+      unfolding typeLacks
+      lacks-no-record e = let q : recordAt a y ≡ none = sym ef ∙ ap foundIn e in rw q
+
+      module _ (z : ℕ) (d : F.Found) (e : f ≡ F.the-variants.As z) (ed : foundIn d ≡ attributeAt a z t) where
+        pub lacks-it : d ≡ F.the-variants.Undeclared → true ≡ typeLacks a t y
+        unfolding typeLacks
+        lacks-it h =
+            let p : recordAt a y ≡ some z = sym ef ∙ ap foundIn e in
+            let q : attributeAt a z t ≡ none = sym ed ∙ ap foundIn h in
+            rw (p, q)
+
+        pub lacks-not : (x : ℕ) → d ≡ F.the-variants.As x → false ≡ typeLacks a t y
+        unfolding typeLacks
+        lacks-not x h =
+            let p : recordAt a y ≡ some z = sym ef ∙ ap foundIn e in
+            let q : attributeAt a z t ≡ some x = sym ed ∙ ap foundIn h in
+            rw (p, q)
+
+        pub found-more : (w v : List ℕ) → Paths.Each w (typeLacks a t) → d ≡ F.the-variants.Undeclared → v ≡ added w y → Paths.Each v (typeLacks a t)
+        found-more w v g h ev = rw ev (each-added w (typeLacks a t) y g (sym (lacks-it h)))
+
 module _ (a : List ℕ) (t k : ℕ) (b : Bool) (eb : b ≡ actionAt a k) where
   pub lacks-action : b ≡ true → false ≡ lacking a t k
   unfolding lacking
   lacks-action h = rw (action-as a k, ← eb, h)
 
-  module _ (y : ℕ) (f : F.Found) (h : b ≡ false) (ey : y ≡ attributeTypeAt a k) (ef : foundIn f ≡ recordAt a y) where
-    pub lacks-no-record : f ≡ F.the-variants.Undeclared → true ≡ lacking a t k
-    unfolding lacking
-    lacks-no-record e = let q : recordAt a y ≡ none = sym ef ∙ ap foundIn e in rw (action-as a k, ← eb, h, attrs-as a t k, ← ey, q)
-
-    module _ (z : ℕ) (g : F.Found) (e : f ≡ F.the-variants.As z) (eg : foundIn g ≡ attributeAt a z t) where
-      pub lacks-it : g ≡ F.the-variants.Undeclared → true ≡ lacking a t k
-      unfolding lacking
-      lacks-it d =
-          let p : recordAt a y ≡ some z = sym ef ∙ ap foundIn e in
-          let q : attributeAt a z t ≡ none = sym eg ∙ ap foundIn d in
-          rw (action-as a k, ← eb, h, attrs-as a t k, ← ey, p, q)
-
-      pub lacks-not : (x : ℕ) → g ≡ F.the-variants.As x → false ≡ lacking a t k
-      unfolding lacking
-      lacks-not x d =
-          let p : recordAt a y ≡ some z = sym ef ∙ ap foundIn e in
-          let q : attributeAt a z t ≡ some x = sym eg ∙ ap foundIn d in
-          rw (action-as a k, ← eb, h, attrs-as a t k, ← ey, p, q)
+  pub lacks-type : (y : ℕ) (c : Bool) → b ≡ false → y ≡ attributeTypeAt a k → c ≡ typeLacks a t y → c ≡ lacking a t k
+  unfolding lacking typeLacks
+  lacks-type y c h ey ec = rw (action-as a k, ← eb, h, attrs-as a t k, ← ey) ec
 
 module _ (a : List ℕ) (t k : ℕ) (b : Bool) (eb : b ≡ lacking a t k) where
   alone-as : hasRule (schemaAt a) t (alone k) ≡ falseIf b

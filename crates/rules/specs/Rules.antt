@@ -1,19 +1,22 @@
 -- The type rules over the rows in the lent words: the schema and the types that the words hold. No rule asks for a text's bytes, so the
 -- sheet is left out.
-use mathlib.Core.Bool.{Bool, cond, _&&_}
+use mathlib.Core.Path.{_≡_}
+use mathlib.Core.Bool.{Bool, true, cond, _&&_}
 use mathlib.Core.Option.{Option, none, some}
 use mathlib.Core.List.{List, []}
-use Prim.Native.Nat.{ℕ}
+use Prim.Native.Nat.{ℕ, _<_}
 use lib.Dec.{eqb, ltb}
 use lib.ListN.{getD}
+use Rattle.cedar.specs.Value.{onSome}
 use Rattle.cedar.specs.Types.{Ty, tbool, someKind, declared, Schema}
 use Rattle.cedar.specs.TypeRules.{undeclared, ordinary, falseIf, allows}
 use Rattle.forms.specs.Tags.{SET-TYPE}
 use Rattle.sheet.specs.Forms.{tag, TYPE}
 use Rattle.sheet.specs.Content.{types, schema}
+use Rattle.words.specs.Bits.{member}
 use Rattle.table.specs.Layout.{rowsOf, held}
-use Rattle.fits.specs.Fit.{kindsIn}
-use Rattle.typing.specs.Rules.{attributeAt}
+use Rattle.fits.specs.Fit.{kindsIn, kindIn}
+use Rattle.typing.specs.Rules.{recordAt, attributeAt}
 use Rattle.rules.specs.declared.Rule.{Rule}
 use Rattle.rules.specs.declared.Rule.the-variants.{Says, Silent}
 
@@ -21,6 +24,17 @@ use Rattle.rules.specs.declared.Rule.the-variants.{Says, Silent}
 abbrev pub ruleIn : Rule → Option Bool
 ruleIn (Says b) = some b
 ruleIn Silent = none
+
+-- the words of a set of kinds, and the kinds that it has bits for
+abbrev pub KIND-WORDS : ℕ
+KIND-WORDS = 1
+
+abbrev pub KINDS : ℕ
+KINDS = 32
+
+-- of the kinds that it has bits for, set w has those of row q
+pub record KindSet (q w : List ℕ) : Type 0 where
+  pub is : (k : ℕ) → k < KINDS → member w k ≡ kindIn q k
 
 module _ (a : List ℕ) where
   unfoldable pub schemaAt : Schema
@@ -39,6 +53,10 @@ module _ (a : List ℕ) where
   -- an entity of kind k may be in one of the kinds of row q
   unfoldable pub pairWith : List ℕ → ℕ → Bool
   pairWith q k = someKind (allows schemaAt k) (kindsIn q)
+
+  -- type y is no record type that declares attribute t
+  unfoldable pub typeLacks : ℕ → ℕ → Bool
+  typeLacks t y = onSome true (recordAt a y) (λ z. undeclared (attributeAt a z t))
 
   -- no entity of kind k has tags, or attribute t
   unfoldable pub untagged : ℕ → Bool

@@ -5,29 +5,40 @@ use fits::kinds_end;
 use forms::ENTITY_TYPE;
 use forms::MARK;
 use forms::SET_TYPE;
+use forms::SHAPE;
 use forms::TYPE;
 use table::item;
 use table::row;
 use table::tag;
 use typing::types::attribute;
 use typing::types::attribute_type;
-use typing::types::is_above;
 use typing::types::is_action;
 use typing::types::record_of;
 use typing::types::tag_type;
+use words::add;
+use words::has;
 ghost use mathlib.Core.Path.{_≡_};
 ghost use Rattle.cedar.specs.Types.{tstr, someKind, eachKind};
 ghost use Rattle.cedar.specs.Residual.{uis, beq, rin, rhastag};
 ghost use Rattle.cedar.specs.Interpret.{alone};
-ghost use Rattle.cedar.specs.TypeRules.{allows, unRule, binRule, relRule, hasRule};
+ghost use Rattle.cedar.specs.TypeRules.{unRule, binRule, relRule, hasRule};
+ghost use lib.ListN.{replicate};
 ghost use Rattle.fits.specs.Fit.{kindsIn, kindIn};
-ghost use Rattle.rules.specs.Rules.{ruleIn, schemaAt, tyAt, targetRow, pairWith, untagged, lacking, recordRule};
+ghost use Rattle.typing.specs.Paths.{Each};
+ghost use Rattle.rules.specs.Rules.{ruleIn, schemaAt, tyAt, targetRow, KIND-WORDS, KindSet, pairWith, untagged, typeLacks, lacking, recordRule};
 
 // What a rule says of a node, where it decides.
 pub enum Rule {
     Says(bool),
     Silent,
 }
+
+// A sheet has no more kinds; the words of a set of them, and of a set of types.
+const KINDS: u32 = 32;
+
+const KIND_WORDS: usize = 1;
+
+const TYPE_WORDS: usize = 4;
 
 // ---- kinds
 
@@ -48,14 +59,40 @@ pub fn is_rule(rows: &[u32], kind: u32, ty: u32) -> Rule
     Rule::Says(false)
 }
 
-// Whether two entity types have a kind in common.
-fn share_kind(type_row: &[u32], other_row: &[u32]) -> bool
-    ensures { λ b. ⌜ b ≡ someKind (kindIn (now («other_row» .entry))) (kindsIn (now («type_row» .entry))) ⌝ }
+// All kinds of an entity type join a set, as far as it has words for them.
+fn add_kinds(kinds: &mut [u32], type_row: &[u32])
+    requires { ⌜ now kinds ≡ replicate KIND-WORDS 0 ⌝ }
+    ensures { λ _. ⌜ KindSet (now («type_row» .entry)) (now (kinds .exit)) ⌝ }
 {
     let end = kinds_end(type_row);
     let mut i: usize = 1;
     while i < end {
-        if has_kind(other_row, item(type_row, i)) {
+        add(kinds, item(type_row, i) as usize);
+        i += 1;
+    }
+}
+
+// Whether a kind is among those of an entity type, which are in a set. A kind that the set has no word for is looked for in the row.
+fn is_kind(type_row: &[u32], kinds: &[u32], kind: u32) -> bool
+    requires { ⌜ KindSet (now «type_row») (now kinds) ⌝ }
+    ensures { λ b. ⌜ b ≡ kindIn (now («type_row» .entry)) kind ⌝ }
+{
+    if kind < KINDS {
+        return has(kinds, kind as usize);
+    }
+    has_kind(type_row, kind)
+}
+
+// Whether two entity types have a kind in common.
+fn share_kind(type_row: &[u32], other_row: &[u32]) -> bool
+    ensures { λ b. ⌜ b ≡ someKind (kindIn (now («other_row» .entry))) (kindsIn (now («type_row» .entry))) ⌝ }
+{
+    let mut kinds = [0u32; KIND_WORDS];
+    add_kinds(&mut kinds, other_row);
+    let end = kinds_end(type_row);
+    let mut i: usize = 1;
+    while i < end {
+        if is_kind(other_row, &kinds, item(type_row, i)) {
             return true;
         }
         i += 1;
@@ -96,24 +133,18 @@ fn target_row(rows: &[u32], ty: u32) -> &[u32]
     &rows[0..0]
 }
 
-// Whether an entity of one kind may be in one of another.
-fn may_be_in(rows: &[u32], kind: u32, above: u32) -> bool
-    ensures { λ b. ⌜ b ≡ allows (schemaAt (now (rows .entry))) kind above ⌝ }
-{
-    if kind == above {
-        return true;
-    }
-    is_above(rows, kind, above)
-}
-
-// Whether an entity of a kind may be in one of an entity type.
-fn pair_with(rows: &[u32], type_row: &[u32], kind: u32) -> bool
+// Whether an entity of a kind may be in one of an entity type, whose kinds are in a set.
+fn pair_with(rows: &[u32], type_row: &[u32], kinds: &[u32], kind: u32) -> bool
+    requires { ⌜ KindSet (now «type_row») (now kinds) ⌝ }
     ensures { λ b. ⌜ b ≡ pairWith (now (rows .entry)) (now («type_row» .entry)) kind ⌝ }
 {
-    let end = kinds_end(type_row);
-    let mut i: usize = 1;
-    while i < end {
-        if may_be_in(rows, kind, item(type_row, i)) {
+    if is_kind(type_row, kinds, kind) {
+        return true;
+    }
+    let q = row(rows, SHAPE, kind);
+    let mut i: usize = 3;
+    while i < q.len() {
+        if is_kind(type_row, kinds, item(q, i)) {
             return true;
         }
         i += 1;
@@ -125,10 +156,12 @@ fn pair_with(rows: &[u32], type_row: &[u32], kind: u32) -> bool
 fn some_pair(rows: &[u32], type_row: &[u32], other_row: &[u32]) -> bool
     ensures { λ b. ⌜ b ≡ someKind (pairWith (now (rows .entry)) (now («other_row» .entry))) (kindsIn (now («type_row» .entry))) ⌝ }
 {
+    let mut kinds = [0u32; KIND_WORDS];
+    add_kinds(&mut kinds, other_row);
     let end = kinds_end(type_row);
     let mut i: usize = 1;
     while i < end {
-        if pair_with(rows, other_row, item(type_row, i)) {
+        if pair_with(rows, other_row, &kinds, item(type_row, i)) {
             return true;
         }
         i += 1;
@@ -185,30 +218,44 @@ pub fn hastag_rule(rows: &[u32], ty: u32) -> Rule
     Rule::Says(false)
 }
 
-// Whether no entity of a kind has this attribute. Nothing is ruled out for an action kind.
-fn lacks(rows: &[u32], text: u32, kind: u32) -> bool
-    ensures { λ b. ⌜ b ≡ lacking (now (rows .entry)) text kind ⌝ }
+// Whether a type is no record type that declares this attribute. `found` has record types that were found not to, so that none is searched twice.
+fn type_lacks(rows: &[u32], found: &mut [u32], text: u32, ty: u32) -> bool
+    requires { ⌜ Each (now found) (typeLacks (now rows) text) ⌝ }
+    ensures { λ b. ⌜ (b ≡ typeLacks (now (rows .entry)) text ty) × Each (now (found .exit)) (typeLacks (now (rows .entry)) text) ⌝ }
 {
-    let action = is_action(rows, kind);
-    if action {
-        return false;
+    if has(found, ty as usize) {
+        return true;
     }
-    let f = record_of(rows, attribute_type(rows, kind));
+    let f = record_of(rows, ty);
     let Found::As(y) = f else {
         return true;
     };
     let g = attribute(rows, y, text);
     let Found::As(_) = g else {
+        add(found, ty as usize);
         return true;
     };
     false
+}
+
+// Whether no entity of a kind has this attribute, with types found to lack it. Nothing is ruled out for an action kind.
+fn lacks(rows: &[u32], found: &mut [u32], text: u32, kind: u32) -> bool
+    requires { ⌜ Each (now found) (typeLacks (now rows) text) ⌝ }
+    ensures { λ b. ⌜ (b ≡ lacking (now (rows .entry)) text kind) × Each (now (found .exit)) (typeLacks (now (rows .entry)) text) ⌝ }
+{
+    let action = is_action(rows, kind);
+    if action {
+        return false;
+    }
+    type_lacks(rows, found, text, attribute_type(rows, kind))
 }
 
 // `has` of an attribute on an entity of a kind.
 pub fn has_kind_rule(rows: &[u32], text: u32, kind: u32) -> Rule
     ensures { λ r. ⌜ ruleIn r ≡ hasRule (schemaAt (now (rows .entry))) text (alone kind) ⌝ }
 {
-    if lacks(rows, text, kind) {
+    let mut found = [0u32; TYPE_WORDS];
+    if lacks(rows, &mut found, text, kind) {
         return Rule::Says(false);
     }
     Rule::Silent
@@ -218,10 +265,11 @@ pub fn has_kind_rule(rows: &[u32], text: u32, kind: u32) -> Rule
 fn each_lacks(rows: &[u32], text: u32, type_row: &[u32]) -> bool
     ensures { λ b. ⌜ b ≡ eachKind (lacking (now (rows .entry)) text) (kindsIn (now («type_row» .entry))) ⌝ }
 {
+    let mut found = [0u32; TYPE_WORDS];
     let end = kinds_end(type_row);
     let mut i: usize = 1;
     while i < end {
-        if !lacks(rows, text, item(type_row, i)) {
+        if !lacks(rows, &mut found, text, item(type_row, i)) {
             return false;
         }
         i += 1;

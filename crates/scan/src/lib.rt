@@ -698,6 +698,32 @@ fn key_found(bytes: &[u8]) -> Heading
     }
 }
 
+// The same, where `entity` and `policy` are tried first.
+fn entity_at(bytes: &[u8]) -> Heading
+    requires { ⌜ 7 ≤ length (now bytes) ⌝ }
+    ensures { λ r. ⌜ HeadingRead (now (bytes .entry)) r ⌝ }
+{
+    match word_of(&bytes[0..7]) {
+        0x013d_7974_6974_6e65 => Heading::Keyed(ENTITY as u64, 6), // entity=
+        0x013d_7963_696c_6f70 => Heading::Keyed(POLICY as u64, 6), // policy=
+        _ => key_found(bytes),
+    }
+}
+
+// The same, where `type` and `kind` are tried first.
+fn type_at(bytes: &[u8]) -> Heading
+    ensures { λ r. ⌜ HeadingRead (now (bytes .entry)) r ⌝ }
+{
+    if bytes.len() < 7 {
+        return key_found(bytes);
+    }
+    match word_of(&bytes[0..5]) {
+        0x013d_6570_7974 => Heading::Keyed(TYPE as u64, 4), // type=
+        0x013d_646e_696b => Heading::Keyed(KIND as u64, 4), // kind=
+        _ => entity_at(bytes),
+    }
+}
+
 // The same, where `value` is tried first.
 fn value_at(bytes: &[u8]) -> Heading
     requires { ⌜ 6 ≤ length (now bytes) ⌝ }
@@ -705,7 +731,7 @@ fn value_at(bytes: &[u8]) -> Heading
 {
     match word_of(&bytes[0..6]) {
         0x01_3d65_756c_6176 => Heading::Keyed(VALUE as u64, 5), // value=
-        _ => key_found(bytes),
+        _ => type_at(bytes),
     }
 }
 

@@ -43,7 +43,7 @@ use Rattle.strict.proofs.Shapes.{value-shape, other-record}
 
 -- ---- an entity's line
 
-not-same : (p q : Row) → (p ≡ q → ⊥) → false ≡ sameRow p q
+pub not-same : (p q : Row) → (p ≡ q → ⊥) → false ≡ sameRow p q
 not-same p q n = go (sameRow p q) refl
   where
     go : (b : Bool) → sameRow p q ≡ b → false ≡ b
@@ -89,7 +89,7 @@ module _ (a : List ℕ) (s e : ℕ) where
       go (yes h) = m (sym (part-at a s e 2 (omega arith)) ∙ z)
       go (no h) = n (sym (word-none 2 (omega arith) ∙ z))
 
-not-entity : (q : List ℕ) (k t : ℕ) → (getD q 2 0 ≡ t → ⊥) → valueRow q ≡ rent k t → ⊥
+pub not-entity : (q : List ℕ) (k t : ℕ) → (getD q 2 0 ≡ t → ⊥) → valueRow q ≡ rent k t → ⊥
 not-entity q k t n e = go (tag q - firstValue) e
   where
     go : (j : ℕ) → getD (rbool (eqb (at q 0) 1) ∷ rlong (longAt (at q 0 * 4294967296 + at q 1)) ∷ rtext (at q 0) ∷ rent (at q 0) (at q 1) ∷ rset (items q) ∷ rrec (entriesOf (items q)) ∷ []) j (rbool false)
@@ -226,27 +226,28 @@ module _ (a : List ℕ) (k t n i s : ℕ) (g : Walking a k t n i s) where
 
 -- ---- a part of a line
 
-module _ (c : Bool) (a : List ℕ) (k t j : ℕ) (e : Entry) (ee : lineAt (rowsOf a ENTITY) e ≡ lineIn a k t) where
-  pub part-empty : e ≡ Nothing → c ≡ true → partOf Empty ≡ partIn c a k t j
-  unfolding partIn
-  part-empty z y = sym (ap (λ (o : Option (List ℕ)). partOfLine c o j) (sym ee ∙ ap (lineAt (rowsOf a ENTITY)) z) ∙ rw y)
+module _ (c : Bool) (a : List ℕ) (j : ℕ) (e : Entry) where
+  pub part-empty : e ≡ Nothing → c ≡ true → partOf Empty ≡ partOfLine c (lineAt (rowsOf a ENTITY) e) j
+  part-empty z y = rw (z, y)
 
-  pub part-unlisted : e ≡ Nothing → c ≡ false → partOf Unknown ≡ partIn c a k t j
-  unfolding partIn
-  part-unlisted z y = sym (ap (λ (o : Option (List ℕ)). partOfLine c o j) (sym ee ∙ ap (lineAt (rowsOf a ENTITY)) z) ∙ rw y)
+  pub part-unlisted : e ≡ Nothing → c ≡ false → partOf Unknown ≡ partOfLine c (lineAt (rowsOf a ENTITY) e) j
+  part-unlisted z y = rw (z, y)
 
   module _ (i : ℕ) (z : e ≡ At i) (r : List ℕ) (er : r ≡ getD (rowsOf a ENTITY) i []) (x : ℕ) (ex : x ≡ getD r (j + 1) 0) where
-    part-item : partIn c a k t j ≡ cond (eqb x mark) none (some (some x))
-    unfolding partIn
+    part-item : partOfLine c (lineAt (rowsOf a ENTITY) e) j ≡ cond (eqb x mark) none (some (some x))
     part-item =
         let w : x ≡ at (getD (rowsOf a ENTITY) i []) j = ex ∙ ap (λ (m : ℕ). getD r m 0) (add-one j) ∙ ap (λ (l : List ℕ). at l j) er in
-        ap (λ (o : Option (List ℕ)). partOfLine c o j) (sym ee ∙ ap (lineAt (rowsOf a ENTITY)) z) ∙ rw (← w)
+        ap (λ (o : Entry). partOfLine c (lineAt (rowsOf a ENTITY) o) j) z ∙ rw (← w)
 
-    pub part-unknown : x ≡ mark → partOf Unknown ≡ partIn c a k t j
+    pub part-unknown : x ≡ mark → partOf Unknown ≡ partOfLine c (lineAt (rowsOf a ENTITY) e) j
     part-unknown y = sym (part-item ∙ rw (eq-eqb x mark y))
 
-    pub part-known : (x ≡ mark → ⊥) → partOf (Known x) ≡ partIn c a k t j
+    pub part-known : (x ≡ mark → ⊥) → partOf (Known x) ≡ partOfLine c (lineAt (rowsOf a ENTITY) e) j
     part-known y = sym (part-item ∙ rw (ne-eqb x mark y))
+
+pub part-line : (c : Bool) (a : List ℕ) (k t j : ℕ) (e : Entry) (p : Part) → lineAt (rowsOf a ENTITY) e ≡ lineIn a k t → partOf p ≡ partOfLine c (lineAt (rowsOf a ENTITY) e) j → partOf p ≡ partIn c a k t j
+unfolding partIn
+part-line c a k t j e p el ep = ep ∙ ap (λ (o : Option (List ℕ)). partOfLine c o j) el
 
 -- ---- a text in a record
 

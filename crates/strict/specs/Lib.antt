@@ -1,2 +1,5 @@
 pub mod Gives
 pub mod Lookups
+pub mod Leaps
+pub mod Noted
+pub mod Chains

@@ -1,9 +1,15 @@
 // Operations on entities: their lines, attributes, tags and ancestors, known in part. On a complete sheet an unlisted entity has none.
 // Ancestors are found through parents at each `in`, by marks on the stack.
 use crate::Given;
+use crate::chains::TEXTS;
+use crate::chains::find_chained;
+use crate::chains::index;
+use crate::entries::entry_rising;
+use crate::entries::rises;
 use forms::ENTITY;
 use forms::MARK;
 use forms::VALUE;
+use reach::LINES;
 use reach::MARKS;
 use reach::VALUES;
 use reach::meets_above;
@@ -21,6 +27,8 @@ use value::entry_of;
 use value::members;
 use value::row_of;
 use value::shape_of;
+use words::cut;
+use words::put;
 use words::read;
 ghost use mathlib.Core.Path.{_≡_};
 ghost use Prim.Native.Nat.{_≤_, _<_};
@@ -31,12 +39,17 @@ ghost use Rattle.table.specs.Layout.{rowsOf};
 ghost use Rattle.cedar.specs.Numbered.{allRent};
 ghost use Rattle.reach.specs.Marks.{FAR};
 ghost use Rattle.strict.specs.Gives.{outOf, values, valueIn};
-ghost use Rattle.strict.specs.Lookups.{TAGS, textThere, isEntityAt, lineAt, lineIn, partOf, partIn, lookRow, lookIn, lookAttr, takenOf, presentOf, getOut, hasOut, tagLook, gettagOut, hastagOut, isRentAt, inUnknownOut, Unknowns, Above, inLineOut, inUnlistedOut, inListOut, inOut, walkFrom};
+ghost use Rattle.strict.specs.Lookups.{ATTRIBUTES, TAGS, textThere, isEntityAt, lineAt, lineIn, partOf, partOfLine, partIn, lookRow, lookIn, lookAttr, takenOf, presentOf, getOut, hasOut, tagLook, gettagOut, hastagOut, isRentAt, inUnknownOut, Unknowns, Above, inLineOut, inUnlistedOut, inListOut, inOut, walkFrom};
+ghost use Rattle.strict.specs.Chains.{Chained};
+ghost use Rattle.strict.specs.Noted.{Spans, Noted, Placed, Looked};
 
 // Where an entity's attributes and tags stand in its line.
 const ATTRIBUTES: usize = 1;
 
 const TAGS: usize = 2;
+
+// A path of so many steps is a long one.
+const LONG: usize = 4;
 
 // A part of an entity's line: a value, nothing at all, or unknown.
 pub enum Part {
@@ -65,7 +78,7 @@ fn has_text(rows: &[u32], value: u32, text: u32) -> bool
 }
 
 // Whether `value` of the sheet is the entity of this kind and text. Most others have another text.
-fn is_entity(rows: &[u32], value: u32, kind: u32, text: u32) -> bool
+pub fn is_entity(rows: &[u32], value: u32, kind: u32, text: u32) -> bool
     ensures { λ r. ⌜ r ≡ isEntityAt (now (rows .entry)) value kind text ⌝ }
 {
     if !has_text(rows, value, text) {
@@ -82,7 +95,7 @@ fn is_entity(rows: &[u32], value: u32, kind: u32, text: u32) -> bool
 }
 
 // The first item of the row from `start` to `end`.
-fn first_of(rows: &[u32], start: usize, end: usize) -> u32
+pub fn first_of(rows: &[u32], start: usize, end: usize) -> u32
     ensures { λ r. ⌜ r ≡ getD (part (now (rows .entry)) start end) 1 0 ⌝ }
 {
     if start >= end {
@@ -115,12 +128,12 @@ pub fn find_entity(rows: &[u32], kind: u32, text: u32) -> Entry
     }
 }
 
-// The item at `place` of an entity's line, its attributes or its tags.
-pub fn part_of(rows: &[u32], complete: bool, kind: u32, text: u32, place: usize) -> Part
+// The item at `place` of an entity's line as it was found, its attributes or its tags.
+fn part_at(rows: &[u32], complete: bool, line: Entry, place: usize) -> Part
     requires { ⌜ place ≤ TAGS ⌝ }
-    ensures { λ r. ⌜ partOf r ≡ partIn complete (now (rows .entry)) kind text place ⌝ }
+    ensures { λ r. ⌜ partOf r ≡ partOfLine complete (lineAt (rowsOf (now (rows .entry)) ENTITY) line) place ⌝ }
 {
-    let Entry::At(i) = find_entity(rows, kind, text) else {
+    let Entry::At(i) = line else {
         if complete {
             return Part::Empty;
         }
@@ -131,6 +144,34 @@ pub fn part_of(rows: &[u32], complete: bool, kind: u32, text: u32, place: usize)
         return Part::Unknown;
     }
     Part::Known(x)
+}
+
+// The item at `place` of an entity's line.
+pub fn part_of(rows: &[u32], complete: bool, kind: u32, text: u32, place: usize) -> Part
+    requires { ⌜ place ≤ TAGS ⌝ }
+    ensures { λ r. ⌜ partOf r ≡ partIn complete (now (rows .entry)) kind text place ⌝ }
+{
+    part_at(rows, complete, find_entity(rows, kind, text), place)
+}
+
+// The attributes of an entity, by chains of lines.
+fn attributes(
+    rows: &[u32],
+    complete: bool,
+    kind: u32,
+    text: u32,
+    heads: &[u32],
+    links: &[u32],
+) -> Part
+    requires { ⌜ Chained (now rows) (rowsOf (now rows) ENTITY) 0 (now heads) (now links) ⌝ }
+    ensures { λ r. ⌜ partOf r ≡ partIn complete (now (rows .entry)) kind text ATTRIBUTES ⌝ }
+{
+    part_at(
+        rows,
+        complete,
+        find_chained(rows, heads, links, kind, text),
+        ATTRIBUTES,
+    )
 }
 
 // `text` in a part of the line of an entity of this kind.
@@ -389,8 +430,117 @@ pub enum Walked {
     Left(u32, u32, usize),
 }
 
-// A path of texts from value `value` on.
-pub fn walk(rows: &[u32], complete: bool, value: u32, path: &[u32]) -> Walked
+// Where the entries of a record stand in the words: from `start` up to `end`, which is 0 where it is not known or their texts do not ascend.
+struct Span {
+    start: u32,
+    end: u32,
+}
+
+// Where the entries of record `value` of the sheet stand.
+fn span_of(rows: &[u32], value: u32) -> Span
+    ensures { λ s. ⌜ Spans (now (rows .entry)) value (s .start) (s .end) ⌝ }
+{
+    if value >= count(rows, VALUE) {
+        return Span { start: 0, end: 0 };
+    }
+    let b = base_of(VALUE) + value as usize;
+    let start = read(rows, b);
+    let end = read(rows, b + 1);
+    if start >= end {
+        return Span { start: 0, end: 0 };
+    }
+    let s = shape_of(cut(rows, start as usize, end as usize));
+    let Shape::Record = s else {
+        return Span { start: 0, end: 0 };
+    };
+    if !rises(cut(rows, start as usize + 1, end as usize)) {
+        return Span { start: 0, end: 0 };
+    }
+    Span {
+        start: start + 1,
+        end: end,
+    }
+}
+
+// Notes that the attributes of `value` are the entries of record `source`.
+fn note(rows: &[u32], value: u32, source: u32, from: &mut [u32], to: &mut [u32])
+    ensures { λ _. ⌜ Placed (now (rows .entry)) value source (now (from .entry)) (now (to .entry)) (now (from .exit)) (now (to .exit)) ⌝ }
+{
+    let s = span_of(rows, source);
+    put(from, value as usize, s.start);
+    put(to, value as usize, s.end);
+}
+
+// `text` among the attributes of a record or an entity, which are noted.
+fn look_new(
+    rows: &[u32],
+    complete: bool,
+    value: u32,
+    text: u32,
+    heads: &[u32],
+    links: &[u32],
+    from: &mut [u32],
+    to: &mut [u32],
+) -> Look
+    requires { ⌜ Chained (now rows) (rowsOf (now rows) ENTITY) 0 (now heads) (now links) ⌝ }
+    requires { ⌜ Noted complete (now rows) (now from) (now to) ⌝ }
+    ensures { λ l. ⌜ Looked complete (now (rows .entry)) value text (now (from .exit)) (now (to .exit)) l ⌝ }
+{
+    let s = shape_of(row_of(rows, value as usize));
+    let Shape::Entity(k, t) = s else {
+        note(rows, value, value, from, to);
+        return look_at(rows, value, text);
+    };
+    let p = attributes(rows, complete, k, t, heads, links);
+    match p {
+        Part::Unknown => Look::Unknown(k),
+        Part::Empty => Look::Missing,
+        Part::Known(n) => {
+            note(rows, value, n, from, to);
+            look_at(rows, n, text)
+        }
+    }
+}
+
+// The same, by what was noted.
+fn look_noted(
+    rows: &[u32],
+    complete: bool,
+    value: u32,
+    text: u32,
+    heads: &[u32],
+    links: &[u32],
+    from: &mut [u32],
+    to: &mut [u32],
+) -> Look
+    requires { ⌜ Chained (now rows) (rowsOf (now rows) ENTITY) 0 (now heads) (now links) ⌝ }
+    requires { ⌜ Noted complete (now rows) (now from) (now to) ⌝ }
+    ensures { λ l. ⌜ Looked complete (now (rows .entry)) value text (now (from .exit)) (now (to .exit)) l ⌝ }
+{
+    let end = read(to, value as usize);
+    if end == 0 {
+        return look_new(rows, complete, value, text, heads, links, from, to);
+    }
+    let start = read(from, value as usize);
+    let Entry::At(x) = entry_rising(cut(rows, start as usize, end as usize), text) else {
+        return Look::Missing;
+    };
+    Look::At(x)
+}
+
+// A path of texts from value `value` on, with tables by value for what is noted.
+fn walk_noted(
+    rows: &[u32],
+    complete: bool,
+    value: u32,
+    path: &[u32],
+    heads: &[u32],
+    links: &[u32],
+    from: &mut [u32],
+    to: &mut [u32],
+) -> Walked
+    requires { ⌜ Chained (now rows) (rowsOf (now rows) ENTITY) 0 (now heads) (now links) ⌝ }
+    requires { ⌜ Noted complete (now rows) (now from) (now to) ⌝ }
     ensures { λ r. ⌜ r ≡ walkFrom complete (now (rows .entry)) value 0 (now (path .entry)) ⌝ }
 {
     let mut n = value;
@@ -399,7 +549,7 @@ pub fn walk(rows: &[u32], complete: bool, value: u32, path: &[u32]) -> Walked
         if i >= path.len() {
             break Walked::Fails;
         }
-        match look_attr(rows, complete, n, path[i]) {
+        match look_noted(rows, complete, n, path[i], heads, links, from, to) {
             Look::Bad => break Walked::Fails,
             Look::Missing => break Walked::Holds(false),
             Look::Unknown(k) => break Walked::Left(n, k, i),
@@ -412,4 +562,46 @@ pub fn walk(rows: &[u32], complete: bool, value: u32, path: &[u32]) -> Walked
         }
         i += 1;
     }
+}
+
+// A long path of texts from value `value` on.
+fn walk_long(rows: &[u32], complete: bool, value: u32, path: &[u32]) -> Walked
+    ensures { λ r. ⌜ r ≡ walkFrom complete (now (rows .entry)) value 0 (now (path .entry)) ⌝ }
+{
+    let mut heads: [u32; TEXTS] = [0; TEXTS];
+    let mut links: [u32; LINES] = [0; LINES];
+    index(rows, &mut heads[..], &mut links[..]);
+    let mut from: [u32; VALUES] = [0; VALUES];
+    let mut to: [u32; VALUES] = [0; VALUES];
+    walk_noted(
+        rows,
+        complete,
+        value,
+        path,
+        &heads[..],
+        &links[..],
+        &mut from[..],
+        &mut to[..],
+    )
+}
+
+// A path of texts from value `value` on. On a short one little is noted, and no chains are made.
+pub fn walk(rows: &[u32], complete: bool, value: u32, path: &[u32]) -> Walked
+    ensures { λ r. ⌜ r ≡ walkFrom complete (now (rows .entry)) value 0 (now (path .entry)) ⌝ }
+{
+    if path.len() >= LONG {
+        return walk_long(rows, complete, value, path);
+    }
+    let mut from: [u32; 1] = [0; 1];
+    let mut to: [u32; 1] = [0; 1];
+    walk_noted(
+        rows,
+        complete,
+        value,
+        path,
+        &rows[0..0],
+        &rows[0..0],
+        &mut from[..],
+        &mut to[..],
+    )
 }

@@ -1,5 +1,8 @@
-// The strict operations on values by number: what each gives, without making it. Those that look at entities stand in `entity`.
+// The strict operations on values by number: what each gives, without making it. Those that look at entities stand in `entity`,
+// chains of their lines in `chains`, leaps over the entries of records in `entries`.
+pub mod chains;
 pub mod entity;
+pub mod entries;
 
 use forms::ADD;
 use forms::LE;

@@ -4,7 +4,7 @@ use forms::NO_TAG;
 use forms::NODE;
 use forms::SLOT;
 use forms::TEXT;
-use forms::form_of;
+use forms::key_for;
 use forms::key_row;
 use words::cut;
 use words::put;
@@ -108,7 +108,7 @@ pub fn key_of(tag: u32) -> usize
             return NODE;
         }
     }
-    form_of(tag).key
+    key_for(tag)
 }
 
 // The part of the sheet from `start` to `end`, cut at its end.

@@ -15,6 +15,7 @@ use Rattle.table.specs.Layout.{TOP, heap, TYPEDEPTHS, VALUEDEPTHS, NODEDEPTHS, 
 use Rattle.table.proofs.Frame.{rows-kept, word-kept, last-was, sound-kept}
 use Rattle.table.proofs.Held.{held-same}
 use Rattle.fits.proofs.Remembered.{known-kept, known-words}
+use Rattle.checks.specs.Seen.{Seen}
 use Rattle.checks.specs.Under.{Noted}
 use Rattle.checks.proofs.NotedLaws.{noted-other}
 use Rattle.take.specs.Steps.{Reached, Ready, taken, Taken}
@@ -95,6 +96,7 @@ pub record Fronts (sheet a b : List ℕ) (bytes : ℕ) (m : Mode) : Type 0 where
   pub ready : Ready (take room a) (take room b)
   pub reached : Reached m (held sheet (take room a) (take room b))
   pub fits : 2 * getD (take room a) TOP 0 + bytes ≤ 2 * heap + 16400
+  pub seen : (m : List ℕ) → Seen (held sheet a b) m → Seen (held sheet (take room a) (take room b)) m
 
 module _ (sheet a b : List ℕ) (bytes : ℕ) (ready : Ready a b) (fits : 2 * getD a TOP 0 + bytes ≤ 2 * heap + 16400) where
   long-a : length (take room a) ≡ room
@@ -111,6 +113,7 @@ module _ (sheet a b : List ℕ) (bytes : ℕ) (ready : Ready a b) (fits : 2 * ge
       record {
         ready = ready-alike sheet a b (take room a) (take room b) (front a) (front b) ready (omega arith) (omega (arith, long-a)) (omega (arith, long-b));
         reached = subst (Reached m) (sym state-front) r;
+        seen = λ m h. subst (λ (s : State). Seen s m) (sym state-front) h;
         fits = rw (word-alike sheet a b (take room a) (take room b) (front a) (front b) ready (omega arith) TOP (omega arith)) fits;
       }
 

@@ -1,6 +1,6 @@
 -- One line: its row is written past the heap's end, judged there, and added. Assumes nothing.
 use mathlib.Core.Path.{_≡_, refl, sym, ap, ap₂, subst, _∙_}
-use mathlib.Core.Bool.{Bool, true, false, cond}
+use mathlib.Core.Bool.{true, cond}
 use mathlib.Core.List.{List, [], _∷_, _++_}
 use Prim.Native.Nat.{ℕ, suc, _+_, _-_, _*_, _≤_, _<_}
 use native.Mathlib.Omega.{arith}
@@ -9,7 +9,7 @@ use borrow.Author.Tests.{eq-eqb, ne-eqb, leb-true, leb-false}
 use lib.Dec.{leb, eqb}
 use lib.ListN.{length, getD, take, drop}
 use lib.Seq.{drop-drop, getD-set-other}
-use Rattle.sheet.specs.Forms.{Mode, forms, formOf, tag, keyOf, refs, TEXT, KIND, TYPE, SHAPE, VALUE, ENTITY, DAY, NODE, POLICY, noKey}
+use Rattle.sheet.specs.Forms.{Mode, forms, formOf, keyOf, refs, TEXT, KIND, TYPE, SHAPE, VALUE, ENTITY, DAY, NODE, POLICY, noKey}
 use Rattle.sheet.specs.State.{State, empty, count}
 use Rattle.sheet.specs.Sheet.{greatest, fault, faultOf, more, depth, marked}
 use Rattle.sheet.proofs.reading.Parsed.{allBelow, all-below}
@@ -26,10 +26,12 @@ use Rattle.fits.specs.Fit.{SettledIn, Known}
 use Rattle.fits.proofs.Remembered.{cleared, settled-held, known-kept, known-words}
 use Rattle.checks.specs.Uses.{markOf, usesIn}
 use Rattle.checks.specs.Under.{Noted}
+use Rattle.checks.specs.Seen.{withSeen, Seen}
 use Rattle.checks.proofs.NotedLaws.{noted-other}
+use Rattle.checks.proofs.SeenLaws.{key-alike}
 use Rattle.typing.specs.Links.{Shown}
 use Rattle.typing.proofs.Levels.{shown-reached}
-use Rattle.judge.specs.Verdicts.{Judged}
+use Rattle.judge.specs.Verdicts.{Judged, seenAt}
 use Rattle.judge.proofs.Alike.{text-tag}
 use Rattle.judge.proofs.Judging.{line-key}
 use Rattle.line.specs.Written.{rowFrom, Line}
@@ -49,14 +51,6 @@ row-alike sheet (t ∷ l) n = go (ℕ-discrete t TEXT-LINE) (ℕ-discrete (keyOf
     go (yes e) (no k) = absurd (k (ap (λ (x : ℕ). formOf x .key) e))
     go (no e) (yes k) = absurd (e (text-tag (t ∷ l) k))
     go (no e) (no k) = rw (ne-eqb t TEXT-LINE e, ne-eqb (keyOf (t ∷ l)) TEXT k) refl
-
-key-alike : (sheet q : List ℕ) → keyOf (rowIn sheet (keyOf q) q) ≡ keyOf q
-unfolding keyOf
-key-alike sheet q = go (eqb (keyOf q) TEXT)
-  where
-    go : (b : Bool) → formOf (tag (cond b (textRow sheet q) q)) .key ≡ formOf (tag q) .key
-    go true = refl
-    go false = refl
 
 fault-some : (s : State) (r : List ℕ) → (r ≡ [] → ⊥) → fault s r ≡ faultOf s (keyOf r) r
 unfolding fault
@@ -137,8 +131,8 @@ module _ (sheet row a b : List ℕ) (bytes : ℕ) (m : Mode) (ready : Ready a b)
   noted₁ : Noted a₁ b
   noted₁ = noted-other a b a₁ b (ready .noted) (rows-as NODE (omega arith)) (rows-as POLICY (omega arith)) few-before (λ i h. refl)
 
-  pub judge-needs : Known a₁ b × Noted a₁ b
-  judge-needs = (known₁, noted₁)
+  pub judge-needs : (seen : List ℕ) → Seen (held sheet a b) seen → Known a₁ b × Noted a₁ b × Seen (held sheet a₁ b) seen
+  judge-needs seen h = (known₁, noted₁, subst (λ (s : State). Seen s seen) (sym state-as) h)
 
   pub line-malformed : n ≡ 0 → Taken sheet row a b a₁ b bytes 3
   line-malformed z =
@@ -171,6 +165,11 @@ module _ (sheet row a b : List ℕ) (bytes : ℕ) (m : Mode) (ready : Ready a b)
 
     key-is : keyOf row ≡ keyOf r₁
     key-is = ap keyOf (sym row-is) ∙ key-alike sheet r₁
+
+    -- the line's row joins those seen
+    pub line-seen : (m m′ : List ℕ) → m′ ≡ seenAt sheet m (part a₁ top end) → m′ ≡ withSeen m row
+    unfolding r₁
+    line-seen m m′ e = e ∙ ap (withSeen m) row-is
 
     settled₁ : SettledIn a₁
     settled₁ = settled-rows sheet a₁ b (subst (Reached m) (sym state-as) reached)

@@ -29,6 +29,7 @@ ghost use Rattle.words.specs.Log.{part};
 ghost use Rattle.sheet.specs.Forms.{rowOfValue};
 ghost use Rattle.table.specs.Layout.{TOP, SPENT, heap, withRow, held};
 ghost use Rattle.line.specs.Codes.{modeOf};
+ghost use Rattle.checks.specs.Seen.{withSeen, Seen};
 ghost use Rattle.checks.specs.Under.{underRow, spentOn};
 ghost use Rattle.take.specs.Steps.{withDepth, withUnder, notesOf, withNotes, Reached, Ready, Taken};
 
@@ -95,7 +96,7 @@ fn commit(rows: &mut [u32], work: &mut [u32], key: usize, depth: u32, end: u32)
     add_row(rows, key, end);
 }
 
-// Reads a line of this key, with its `=` at the cursor, that ends at byte `end`: its refusal, 0 for none.
+// Reads a line of this key, with its `=` at the cursor, that ends at byte `end`: its refusal, 0 for none. Its row joins those seen.
 pub fn take_line(
     sheet: &[u8],
     key: u64,
@@ -104,9 +105,11 @@ pub fn take_line(
     partial: bool,
     rows: &mut [u32],
     work: &mut [u32],
+    seen: &mut [u32],
 ) -> u32
-    requires { ⌜ Ready (now rows) (now work) × Reached (modeOf partial) (held (now sheet) (now rows) (now work)) × (equals .at < end) × (end ≤ length (now sheet)) × (length (now sheet) ≤ 16384) × (2 * getD (now rows) TOP 0 + (end + 4 - equals .at) ≤ 2 * heap + 16400) ⌝ }
-    ensures { λ f. ⌜ Taken (now (sheet .entry)) (rowOfValue (modeOf partial) key (part (now (sheet .entry)) (equals .at + 1) end)) (now (rows .entry)) (now (work .entry)) (now (rows .exit)) (now (work .exit)) (end + 4 - equals .at) f ⌝ }
+    requires { ⌜ Ready (now rows) (now work) × Reached (modeOf partial) (held (now sheet) (now rows) (now work)) × (equals .at < end) × (end ≤ length (now sheet)) × (length (now sheet) ≤ 16384) × (2 * getD (now rows) TOP 0 + (end + 4 - equals .at) ≤ 2 * heap + 16400) × Seen (held (now sheet) (now rows) (now work)) (now seen) ⌝ }
+    ensures line { λ f. ⌜ Taken (now (sheet .entry)) (rowOfValue (modeOf partial) key (part (now (sheet .entry)) (equals .at + 1) end)) (now (rows .entry)) (now (work .entry)) (now (rows .exit)) (now (work .exit)) (end + 4 - equals .at) f ⌝ }
+    ensures seen { λ f. ⌜ (f ≡ 0 → now (seen .exit) ≡ withSeen (now (seen .entry)) (rowOfValue (modeOf partial) key (part (now (sheet .entry)) (equals .at + 1) end))) ⌝ }
 {
     let rows = &mut rows[..ROOM];
     let work = &mut work[..ROOM];
@@ -117,7 +120,7 @@ pub fn take_line(
         return 3;
     }
     let next = top + n;
-    let v = judge_at(sheet, rows, work, top, next);
+    let v = judge_at(sheet, rows, work, top, next, seen);
     let f = v.number;
     if f != 0 {
         return f;

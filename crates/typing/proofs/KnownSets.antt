@@ -14,10 +14,10 @@ use Rattle.words.specs.Bits.{member, added, joined}
 use Rattle.words.proofs.Bits.{added-is, member-joined}
 use Rattle.words.proofs.Stores.{take-sets, drop-sets, part-sets, part-below, length-part}
 use Rattle.typing.specs.Links.{TYPES}
-use Rattle.typing.specs.Paths.{WORDS, SETS, Each, Gathered, RecordsOf, Learned, setAt, ofEach}
+use Rattle.typing.specs.Paths.{WORDS, SETS, Each, Asked, Gathered, RecordsOf, Learned, setAt, ofEach}
 use Rattle.typing.proofs.PathSets.{member-zeros, each-none, never-passes}
 
-empty : (f : ℕ → Bool) → Each (replicate WORDS 0) f
+pub empty : (f : ℕ → Bool) → Each (replicate WORDS 0) f
 empty f = each-none (replicate WORDS 0) f (member-zeros WORDS)
 
 -- ---- the union of two sets
@@ -32,14 +32,22 @@ module _ (w v : List ℕ) (e : length w ≡ length v) (f : ℕ → Bool) where
   joined-both : Each w f → Each v f → Each (joined w v) f
   joined-both h k = record { at = λ x l m. either (member w x) (member v x) (sym (member-joined w v x e) ∙ m) (λ i. h .at x l i) (λ i. k .at x l i) }
 
+-- a set, gathered from nothing, joins
+pub join-asked : (w own : List ℕ) (q : Asked) → length w ≡ length own → Gathered (replicate WORDS 0) own q true → Gathered w (joined w own) q true
+join-asked w own q l g = record {
+  asks = λ e f x. (joined-left w own l f x, g .asks refl f (joined-right w own l f x) .1);
+  joins = λ e f x y. joined-both w own l f x (g .joins refl f (empty f) y);
+  fails = λ e f x y. no-true (sym e);
+}
+
 -- ---- the sets of other types stay
 
 -- a run stored in the place of type y's set
 module _ (own w : List ℕ) (y : ℕ) (l : length own ≡ WORDS) where
-  set-own : length w ≡ SETS → y < TYPES → setAt (sets w (y * WORDS) own) y ≡ own
+  pub set-own : length w ≡ SETS → y < TYPES → setAt (sets w (y * WORDS) own) y ≡ own
   set-own k h = part-sets own w (y * WORDS) (y * WORDS + WORDS) (omega arith) (omega arith)
 
-  set-other : (z : ℕ) → (z ≡ y → ⊥) → setAt (sets w (y * WORDS) own) z ≡ setAt w z
+  pub set-other : (z : ℕ) → (z ≡ y → ⊥) → setAt (sets w (y * WORDS) own) z ≡ setAt w z
   set-other z n = go (decLt z y)
     where
       go : Dec (z < y) → setAt (sets w (y * WORDS) own) z ≡ setAt w z
@@ -85,11 +93,7 @@ module _ (a w v : List ℕ) (y : ℕ) (b : Bool) (g : RecordsOf a (setAt v y) y 
     same = lw ∙ sym (ap length eo ∙ length-part v (y * WORDS) (y * WORDS + WORDS) (omega arith) ∙ omega arith)
 
     pub known-on : not b ≡ false → Gathered w u (ofEach a y) true
-    known-on h = subst (λ (x : List ℕ). Gathered w x (ofEach a y) true) (sym eu) (record {
-      asks = λ e f x. (joined-left w own same f x, given .asks refl f (joined-right w own same f x) .1);
-      joins = λ e f x q. joined-both w own same f x (given .joins refl f (empty f) q);
-      fails = λ e f x q. no-true (sym e);
-    })
+    known-on h = subst (λ (x : List ℕ). Gathered w x (ofEach a y) true) (sym eu) (join-asked w own (ofEach a y) same given)
       where
         given : RecordsOf a own y true
         given = subst (λ (x : List ℕ). RecordsOf a x y true) (sym eo) (subst (RecordsOf a (setAt v y) y) (not-false b h) g)

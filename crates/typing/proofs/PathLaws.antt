@@ -22,7 +22,7 @@ use Rattle.words.specs.Bits.{member, added}
 use Rattle.fits.proofs.Walks.{next}
 use Rattle.typing.specs.Links.{TYPES}
 use Rattle.typing.specs.Rules.{attributeAt, eachAt, pathFrom, pathAt}
-use Rattle.typing.specs.Paths.{Each, Skipped, Gathered, Placed, declaredThere, ofAll, ofStep}
+use Rattle.typing.specs.Paths.{Each, Skipped, Gathered, Placed, declaredThere, ofAll, ofTypes}
 use Rattle.typing.proofs.PathSets.{member-zeros, each-none, each-new, each-added, each-there}
 
 -- what a path asks of each record type that its first type has
@@ -75,12 +75,8 @@ pub record Steps (a types : List ℕ) (t : ℕ) (reached : List ℕ) : Type 0 wh
 no-member : (n : ℕ) (z : List ℕ) (f : ℕ → Bool) → z ≡ replicate n 0 → Each z f
 no-member n z f e = each-none z f (λ x. ap (λ (s : List ℕ). member s x) e ∙ member-zeros n x)
 
-module _ (a types z records : List ℕ) (b : Bool) (ez : z ≡ replicate 4 0) (g : Gathered z records (ofAll a types) b) (h : not b ≡ false) where
-  steps-is : (t : ℕ) (s reached : List ℕ) (d : Bool) → s ≡ replicate 4 0 → Gathered s reached (ofStep a records t) d → not d ≡ false → Steps a types t reached
-  steps-is t s reached d es k c = record {
-    to = λ f e. k .joins (not-false d c) f (no-member 4 s f es) (g .joins (not-false b h) (declaredThere a t f) (no-member 4 z (declaredThere a t f) ez) e);
-    back = λ f e. g .asks (not-false b h) (declaredThere a t f) (k .asks (not-false d c) f e .1) .1;
-  }
+steps-is : (a types : List ℕ) (t : ℕ) (z reached : List ℕ) (b : Bool) → z ≡ replicate 4 0 → Gathered z reached (ofTypes a types t) b → not b ≡ false → Steps a types t reached
+steps-is a types t z reached b ez g h = record { to = λ f e. g .joins (not-false b h) f (no-member 4 z f ez) e; back = λ f e. g .asks (not-false b h) f e .1 }
 
 -- the texts whose step leaves the set as it is
 pub record Kept (a types texts : List ℕ) : Type 0 where
@@ -132,6 +128,10 @@ false-is : (b : Bool) → (b ≡ true → ⊥) → false ≡ b
 false-is true h = absurd (h refl)
 false-is false h = refl
 
+true-is : (b : Bool) → (b ≡ false → ⊥) → b ≡ true
+true-is true h = refl
+true-is false h = absurd (h refl)
+
 module _ (a r : List ℕ) (s y : ℕ) where
   pub path-start : (z v : List ℕ) → z ≡ replicate 4 0 → v ≡ added z y → y < getD a TYPE 0 → getD a TYPE 0 ≤ TYPES → 1 ≤ s → Path a r s y v s
   path-start z v ez ev h n l = subst (λ (u : List ℕ). Path a r s y u s) (sym ev) (record {
@@ -143,51 +143,53 @@ module _ (a r : List ℕ) (s y : ℕ) where
   pub kept-start : (types z : List ℕ) → z ≡ replicate 16 0 → Kept a types z
   kept-start = kept-none a
 
-  module _ (types texts : List ℕ) (i : ℕ) (w : Path a r s y types i) (k : Kept a types texts) (z records : List ℕ) (b : Bool) (ez : z ≡ replicate 4 0) (g : Gathered z records (ofAll a types) b) where
-    pub path-off : not b ≡ true → false ≡ leftAt a r s y
-    path-off h = false-is (leftAt a r s y) (λ e. g .fails (not-true b h) (stepAt a r i) (no-member 4 z (stepAt a r i) ez) (record { at = λ x l m. sym (path-each a (drop i r) (getD r (i - 1) 0) x) ∙ w .asks e .at x l m }))
+  module _ (types texts : List ℕ) (i : ℕ) (w : Path a r s y types i) (k : Kept a types texts) (j : ℕ) (d : Skipped r texts i j) where
+    here : Path a r s y types j
+    here = path-skip a r s y types texts i j w k d
 
-    module _ (j : ℕ) (h : not b ≡ false) (d : Skipped r texts i j) where
-      here : Path a r s y types j
-      here = path-skip a r s y types texts i j w k d
+    -- at the end the types are asked for no more than their record types
+    pub path-end : (z records : List ℕ) (b : Bool) → length r ≤ j → z ≡ replicate 4 0 → Gathered z records (ofAll a types) b → b ≡ leftAt a r s y
+    path-end z records b l ez g = iff b (leftAt a r s y) yes-is back
+      where
+        free : (x : ℕ) → stepAt a r j x ≡ true
+        free x = ap (λ (us : List ℕ). stepTest a us (getD r (j - 1) 0) x) (drop-of-length-le r {i = j} l)
 
-      pub path-end : length r ≤ j → true ≡ leftAt a r s y
-      path-end l = sym (here .says (record { at = λ x o m. path-each a (drop j r) (getD r (j - 1) 0) x ∙ all .at x o m }))
+        yes-is : b ≡ true → leftAt a r s y ≡ true
+        yes-is e =
+            let all : ofAll a types (stepAt a r j) = g .asks e (stepAt a r j) (record { at = λ x _ _. free x }) .1 in
+            here .says (record { at = λ x o m. path-each a (drop j r) (getD r (j - 1) 0) x ∙ all .at x o m })
+
+        back : leftAt a r s y ≡ true → b ≡ true
+        back e = true-is b (λ h. g .fails h (stepAt a r j) (no-member 4 z (stepAt a r j) ez) (record { at = λ x o m. sym (path-each a (drop j r) (getD r (j - 1) 0) x) ∙ here .asks e .at x o m }))
+
+    module _ (t : ℕ) (u reached : List ℕ) (c : Bool) (l : j < length r) (et : t ≡ getD r (j - 1) 0) (eu : u ≡ replicate 4 0) (q : Gathered u reached (ofTypes a types t) c) where
+      -- what is left asks for the step
+      asks-step : Each types (leftAt a r j) → ofTypes a types t (restAt a r j)
+      asks-step e = record { at = λ x o m. sym (one x) ∙ e .at x o m }
         where
-          free : (x : ℕ) → stepAt a r j x ≡ true
-          free x = ap (λ (us : List ℕ). stepTest a us (getD r (j - 1) 0) x) (drop-of-length-le r {i = j} l)
+          one : (x : ℕ) → leftAt a r j x ≡ eachAt a x (declaredThere a t (restAt a r j))
+          one x = rw (next r j l, ← et) (path-each a (getD r j 0 ∷ drop (j + 1) r) t x ∙ (λ n. eachAt a x (λ z. path-declared a (drop (j + 1) r) t (getD r j 0) z n)))
 
-          all : ofAll a types (stepAt a r j)
-          all = g .asks (not-false b h) (stepAt a r j) (record { at = λ x _ _. free x }) .1
+      pub path-lost : not c ≡ true → false ≡ leftAt a r s y
+      path-lost e = false-is (leftAt a r s y) (λ p. q .fails (not-true c e) (restAt a r j) (no-member 4 u (restAt a r j) eu) (asks-step (here .asks p)))
 
-      module _ (t : ℕ) (u reached : List ℕ) (c : Bool) (l : j < length r) (et : t ≡ getD r (j - 1) 0) (eu : u ≡ replicate 4 0) (q : Gathered u reached (ofStep a records t) c) where
-        -- what is left asks the record types
-        of-records : Each types (leftAt a r j) → ofStep a records t (restAt a r j)
-        of-records e = g .joins (not-false b h) (declaredThere a t (restAt a r j)) (no-member 4 z (declaredThere a t (restAt a r j)) ez) (record { at = λ x o m. sym (one x) ∙ e .at x o m })
-          where
-            one : (x : ℕ) → leftAt a r j x ≡ eachAt a x (declaredThere a t (restAt a r j))
-            one x = rw (next r j l, ← et) (path-each a (getD r j 0 ∷ drop (j + 1) r) t x ∙ (λ n. eachAt a x (λ z. path-declared a (drop (j + 1) r) t (getD r j 0) z n)))
+      module _ (e : not c ≡ false) where
+        steps : Steps a types (getD r (j - 1) 0) reached
+        steps = subst (λ (n : ℕ). Steps a types n reached) et (steps-is a types t u reached c eu q e)
 
-        pub path-lost : not c ≡ true → false ≡ leftAt a r s y
-        path-lost e = false-is (leftAt a r s y) (λ p. q .fails (not-true c e) (restAt a r j) (no-member 4 u (restAt a r j) eu) (of-records (here .asks p)))
+        pub path-on : Path a r s y reached (j + 1)
+        path-on = path-step a r s y types reached j here l steps
 
-        module _ (e : not c ≡ false) where
-          steps : Steps a types (getD r (j - 1) 0) reached
-          steps = subst (λ (n : ℕ). Steps a types n reached) et (steps-is a types z records b ez g h t u reached c eu q e)
+        -- the set is as it was
+        module _ (v : Bool) (ev : v ≡ same types reached) (o : v ≡ true) where
+          as-was : reached ≡ types
+          as-was = sym (same-is types reached (sym ev ∙ o))
 
-          pub path-on : Path a r s y reached (j + 1)
-          path-on = path-step a r s y types reached j here l steps
+          pub path-same : Path a r s y types (j + 1)
+          path-same = subst (λ (n : List ℕ). Path a r s y n (j + 1)) as-was path-on
 
-          -- the set is as it was
-          module _ (v : Bool) (ev : v ≡ same types reached) (o : v ≡ true) where
-            as-was : reached ≡ types
-            as-was = sym (same-is types reached (sym ev ∙ o))
-
-            pub path-same : Path a r s y types (j + 1)
-            path-same = subst (λ (n : List ℕ). Path a r s y n (j + 1)) as-was path-on
-
-            pub kept-same : (more : List ℕ) → more ≡ added texts t → Kept a types more
-            kept-same more em = subst (Kept a types) (sym em) (kept-more a types texts t k (subst (λ (n : List ℕ). Steps a types t n) as-was (subst (λ (n : ℕ). Steps a types n reached) (sym et) steps)))
+          pub kept-same : (more : List ℕ) → more ≡ added texts t → Kept a types more
+          kept-same more em = subst (Kept a types) (sym em) (kept-more a types texts t k (subst (λ (n : List ℕ). Steps a types t n) as-was (subst (λ (n : ℕ). Steps a types n reached) (sym et) steps)))
 
 -- ---- any path
 

@@ -31,7 +31,7 @@ use Rattle.typing.specs.Paths.{From, Each, Next, Asked, Gathered, ofType
 
 -- ---- members of a set
 
-zero-in : (n i : ℕ) → _≡_ {A = ℕ} (getD (replicate n 0) i 0) 0
+pub zero-in : (n i : ℕ) → _≡_ {A = ℕ} (getD (replicate n 0) i 0) 0
 zero-in zero i = refl
 zero-in (suc n) zero = refl
 zero-in (suc n) (suc i) = zero-in n i

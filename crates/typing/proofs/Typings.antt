@@ -1,11 +1,11 @@
 -- Types, shapes, kinds and the request by their numbers: one law for each answer.
 use mathlib.Core.Path.{_≡_, refl, sym, ap, _∙_}
-use mathlib.Core.Bool.{Bool, true, false}
+use mathlib.Core.Bool.{Bool, true, false, _||_, or-assoc}
 use mathlib.Core.List.{List, [], _∷_}
 use mathlib.Core.Option.{none, some}
 use Prim.Native.Nat.{ℕ, zero, suc, _+_, _-_, _≤_, _<_}
 use native.Mathlib.Omega.{arith}
-use borrow.Author.Tests.{eq-eqb, ne-eqb, eqb-true, eqb-false, le-ltb}
+use borrow.Author.Tests.{eqb-true, eqb-false, le-ltb}
 use lib.Dec.{eqb, ltb}
 use lib.ListN.{length, getD, drop, drop-of-length-le}
 use Rattle.cedar.specs.Value.{onSome}
@@ -169,24 +169,30 @@ child-is a r i n x en ex = rw (← en) ex
 
 -- ---- kinds above
 
--- what is left of the shape's row q, from word i on, decides whether kind l is above kind k
-pub record Above (a q : List ℕ) (k l i : ℕ) : Type 0 where
-  pub left : isAboveAt a k l ≡ memN l (drop i q)
+-- b, or what is left of the shape's row q, from word i on, decides whether kind l is above kind k
+pub record Above (a q : List ℕ) (k l i : ℕ) (b : Bool) : Type 0 where
+  pub left : isAboveAt a k l ≡ (b || memN l (drop i q))
 
-pub above-start : (a q : List ℕ) (k l : ℕ) → q ≡ getD (rowsOf a SHAPE) k [] → Above a q k l 3
+pub above-start : (a q : List ℕ) (k l : ℕ) → q ≡ getD (rowsOf a SHAPE) k [] → Above a q k l 3 false
 unfolding isAboveAt
 above-start a q k l eq = record { left = rw (← eq) }
 
-module _ (a q : List ℕ) (k l i : ℕ) (w : Above a q k l i) where
-  pub above-end : length q ≤ i → false ≡ isAboveAt a k l
-  above-end h = sym (w .left ∙ rw (drop-of-length-le q h))
+module _ (a q : List ℕ) (k l i : ℕ) (b : Bool) (w : Above a q k l i b) where
+  pub above-end : length q ≤ i → b ≡ isAboveAt a k l
+  above-end h = sym (w .left ∙ rw (drop-of-length-le q h) (or-none b))
+    where
+      or-none : (b : Bool) → (b || false) ≡ b
+      or-none true = refl
+      or-none false = refl
 
-  module _ (x : ℕ) (h : i < length q) (ex : x ≡ getD q i 0) where
-    pub above-hit : x ≡ l → true ≡ isAboveAt a k l
-    above-hit e = sym (w .left ∙ rw (next q i h, ← ex, eq-eqb l x (sym e)))
+  pub above-on : (x : ℕ) (c : Bool) → i < length q → x ≡ getD q i 0 → c ≡ (b || eqb l x) → Above a q k l (i + 1) c
+  above-on x c h ex ec = record { left = w .left ∙ rw (next q i h, ← ex, ec) (sym (or-assoc b (eqb l x) (memN l (drop (i + 1) q)))) }
 
-    pub above-on : (x ≡ l → ⊥) → Above a q k l (i + 1)
-    above-on e = record { left = w .left ∙ rw (next q i h, ← ex, ne-eqb l x (λ z. e (sym z))) }
+pub found-before : (f : Bool) (k l : ℕ) → f ≡ true → true ≡ (f || eqb k l)
+found-before f k l h = rw h
+
+pub found-here : (f : Bool) (k l : ℕ) → f ≡ false → eqb k l ≡ (f || eqb k l)
+found-here f k l h = rw h
 
 -- ---- targets
 

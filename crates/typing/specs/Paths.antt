@@ -1,15 +1,17 @@
--- Sets of types and what is asked of their members: the types that the steps of a path reach.
+-- Sets of types and kinds, and what is asked of their members: the types that the steps of a path reach.
 use mathlib.Core.Path.{_≡_}
 use mathlib.Core.Bool.{Bool, true, false, _&&_}
-use mathlib.Core.List.{List}
+use mathlib.Core.List.{List, [], _∷_}
 use Prim.Native.Nat.{ℕ, _+_, _-_, _*_, _≤_, _<_}
-use lib.Dec.{ltb}
-use lib.ListN.{length, getD, replicate}
+use lib.Dec.{eqb, ltb}
+use lib.ListN.{length, getD, drop, replicate}
 use Rattle.cedar.specs.Value.{onSome}
-use Rattle.sheet.specs.Forms.{TYPE}
+use Rattle.sheet.specs.Bytes.{same}
+use Rattle.sheet.specs.Forms.{TYPE, SHAPE}
 use Rattle.sheet.specs.Typing.{allIn}
-use Rattle.words.specs.Bits.{member}
+use Rattle.words.specs.Bits.{member, added}
 use Rattle.words.specs.Log.{part}
+use Rattle.table.specs.Layout.{rowsOf}
 use Rattle.fits.specs.Fit.{kindsIn}
 use Rattle.typing.specs.declared.paths.Place as P
 use Rattle.typing.specs.Links.{TYPES}
@@ -21,6 +23,19 @@ pub record From (set : List ℕ) (n : ℕ) (f : ℕ → Bool) : Type 0 where
 
 abbrev pub Each : List ℕ → (ℕ → Bool) → Type 0
 Each set f = From set 0 f
+
+-- set w, with all numbers of a list for which it has words
+unfoldable pub withAll : List ℕ → List ℕ → List ℕ
+withAll w [] = w
+withAll w (x ∷ l) = withAll (added w x) l
+
+-- the words of a set of kinds
+abbrev pub KIND-WORDS : ℕ
+KIND-WORDS = 1
+
+-- the kinds above kind k
+abbrev pub aboveAt : List ℕ → ℕ → List ℕ
+aboveAt a k = drop 3 (getD (rowsOf a SHAPE) k [])
 
 -- y is the first member from n on, or there is none below the number of types
 pub record Next (set : List ℕ) (n y : ℕ) : Type 0 where
@@ -68,6 +83,10 @@ module _ (a : List ℕ) where
   abbrev pub ofStep : List ℕ → ℕ → Asked
   ofStep records t f = Each records (declaredThere t f)
 
+  -- of what the record types of all types of a set declare for it
+  abbrev pub ofTypes : List ℕ → ℕ → Asked
+  ofTypes types t f = ofAll types (declaredThere t f)
+
 -- the one record type that is asked, or that nothing passes
 pub record PlaceOf (q : Asked) (p : P.Place) : Type 0 where
   pub alone : (z : ℕ) → p ≡ P.the-variants.Alone z → (f : ℕ → Bool) → (q f → f z ≡ true) × (f z ≡ true → q f)
@@ -98,3 +117,13 @@ RecordsOf a v y b = Gathered (replicate WORDS 0) v (ofEach a y) b
 -- of each type in `known` the set is worked out
 pub record Learned (a known sets : List ℕ) : Type 0 where
   pub at : (y : ℕ) → member known y ≡ true → RecordsOf a (setAt sets y) y true
+
+-- ---- steps that are remembered
+
+-- the step at place p is the one from the types by text t
+abbrev pub isStepAt : List ℕ → List ℕ → ℕ → List ℕ → ℕ → Bool
+isStepAt starts texts p types t = eqb (getD texts p 0) t && same (setAt starts p) types
+
+-- at each place the set at the end has what is asked of the set at the start by the text
+pub record Remembered (a starts texts ends : List ℕ) : Type 0 where
+  pub at : (p : ℕ) → p < TYPES → Gathered (replicate WORDS 0) (setAt ends p) (ofTypes a (setAt starts p) (getD texts p 0)) true

@@ -32,6 +32,8 @@ use table::count;
 use table::item;
 use table::row;
 use table::tag;
+use words::add;
+use words::has;
 ghost use mathlib.Core.Path.{_≡_};
 ghost use Rattle.sheet.specs.Forms.{ENTITY, CONTEXT, NODE, LINK};
 ghost use Rattle.fits.specs.Fit.{Known, Answered};
@@ -41,12 +43,17 @@ ghost use Rattle.typing.specs.Rules.{
   policyRule,
   attributesRule,
   tagsRule,
+  isAboveAt,
   ancestorRule,
   parentsRule,
   entityRule,
   typedRule,
   Typed,
 };
+ghost use Rattle.typing.specs.Paths.{Each, aboveAt, withAll};
+
+// The words of a set of kinds: a sheet has at most 32.
+pub const KIND_WORDS: usize = 1;
 
 // ---- shapes
 
@@ -113,6 +120,34 @@ pub fn is_ancestor(rows: &[u32], value: u32, kind: u32) -> bool
     false
 }
 
+// The kinds above this one join a set, as far as it has words for them.
+pub fn add_above(rows: &[u32], above: &mut [u32], kind: u32)
+    ensures { λ _. ⌜ now (above .exit) ≡ withAll (now (above .entry)) (aboveAt (now (rows .entry)) kind) ⌝ }
+{
+    let q = row(rows, SHAPE, kind);
+    let mut i: usize = 3;
+    while i < q.len() {
+        add(above, item(q, i) as usize);
+        i += 1;
+    }
+}
+
+// Whether a value is an entity whose kind is above this one, with a set of kinds that are; others are looked up.
+pub fn is_ancestor_by(rows: &[u32], above: &[u32], value: u32, kind: u32) -> bool
+    requires { ⌜ Each (now above) (isAboveAt (now rows) kind) ⌝ }
+    ensures { λ b. ⌜ b ≡ ancestorRule (now (rows .entry)) value kind ⌝ }
+{
+    let q = row(rows, VALUE, value);
+    if tag(q) != ENTITY_VALUE {
+        return false;
+    }
+    let k = item(q, 1);
+    if has(above, k as usize) {
+        return true;
+    }
+    is_above(rows, kind, k)
+}
+
 // The parents of an entity of a kind, or a mark.
 fn parents_typed(rows: &[u32], value: u32, kind: u32) -> bool
     ensures { λ b. ⌜ b ≡ parentsRule (now (rows .entry)) value kind ⌝ }
@@ -124,9 +159,11 @@ fn parents_typed(rows: &[u32], value: u32, kind: u32) -> bool
     if tag(q) != SET_VALUE {
         return false;
     }
+    let mut above = [0u32; KIND_WORDS];
+    add_above(rows, &mut above, kind);
     let mut i: usize = 1;
     while i < q.len() {
-        if !is_ancestor(rows, item(q, i), kind) {
+        if !is_ancestor_by(rows, &above, item(q, i), kind) {
             return false;
         }
         i += 1;

@@ -1,4 +1,5 @@
 // The typing of nodes: one rule for each operation.
+use crate::paths::WORDS;
 use crate::paths::path_typed;
 use crate::types::BOOL_SORT;
 use crate::types::ENTITY_SORT;
@@ -60,7 +61,9 @@ use forms::VAR;
 use table::item;
 use table::row;
 use table::tag;
+use words::add;
 use words::cut;
+use words::has;
 ghost use mathlib.Core.Path.{_≡_};
 ghost use Prim.Native.Nat.{_-_, _≤_};
 ghost use lib.ListN.{drop};
@@ -96,6 +99,7 @@ ghost use Rattle.typing.specs.Rules.{
   slotRule,
   nodeRule,
 };
+ghost use Rattle.typing.specs.Paths.{Each};
 
 // ---- the types of a node and its children
 
@@ -268,14 +272,31 @@ fn declares(rows: &[u32], ty: u32, text: u32, own: u32) -> bool
     own == z
 }
 
+// The same, with a set of types of which it is so; a type that is looked up joins it.
+fn declares_once(rows: &[u32], seen: &mut [u32], ty: u32, text: u32, own: u32) -> bool
+    requires { ⌜ Each (now seen) (ofRecord (now rows) (declaresAs (now rows) text own)) ⌝ }
+    ensures { λ b. ⌜ (b ≡ ofRecord (now (rows .entry)) (declaresAs (now (rows .entry)) text own) ty) × Each (now (seen .exit)) (ofRecord (now (rows .entry)) (declaresAs (now (rows .entry)) text own)) ⌝ }
+{
+    if has(seen, ty as usize) {
+        return true;
+    }
+    if !declares(rows, ty, text, own) {
+        return false;
+    }
+    add(seen, ty as usize);
+    true
+}
+
 // The same of each kind of an entity type's row.
 fn kinds_declare(rows: &[u32], type_row: &[u32], text: u32, own: u32) -> bool
     ensures { λ b. ⌜ b ≡ allIn (ofKind (now (rows .entry)) (declaresAs (now (rows .entry)) text own)) (kindsIn (now («type_row» .entry))) ⌝ }
 {
+    let mut seen = [0u32; WORDS];
     let end = kinds_end(type_row);
     let mut i: usize = 1;
     while i < end {
-        if !declares(rows, attribute_type(rows, item(type_row, i)), text, own) {
+        let y = attribute_type(rows, item(type_row, i));
+        if !declares_once(rows, &mut seen, y, text, own) {
             return false;
         }
         i += 1;

@@ -16,6 +16,7 @@ use words::add;
 use words::cut;
 use words::has;
 use words::join;
+use words::put;
 use words::read;
 use words::store;
 ghost use mathlib.Core.Path.{_≡_};
@@ -25,17 +26,21 @@ ghost use Rattle.sheet.specs.Bytes.{same};
 ghost use Rattle.sheet.specs.Forms.{TYPE};
 ghost use Rattle.typing.specs.Links.{TYPES};
 ghost use Rattle.typing.specs.Rules.{pathFrom, pathAt};
-ghost use Rattle.typing.specs.Paths.{WORDS, SETS, Next, Skipped, Placed, PlaceOf, Gathered, RecordsOf, Learned, setAt, ofType, ofRow, ofEach, ofAll, ofDeclared, ofStep};
+ghost use Rattle.typing.specs.Paths.{WORDS, SETS, Next, Skipped, Placed, PlaceOf, Gathered, RecordsOf, Learned, Remembered, setAt, isStepAt, ofType, ofRow, ofEach, ofAll, ofDeclared, ofStep, ofTypes};
 
 // A sheet has no more types.
 const TYPES: usize = 128;
 
 // The words of a set of types, of a set for each type, and of a set of texts.
-const WORDS: usize = 4;
+pub const WORDS: usize = 4;
 
 const SETS: usize = TYPES * WORDS;
 
 const TEXTS: usize = 16;
+
+// A remembered step has its place by its set, as a number, and its text: their sum's rest to a prime of which 2 is a primitive root, so that sets
+// which differ by one type seldom share a place. The words of a set count by the rests of the powers of 2^32.
+const PRIME: u64 = 107;
 
 // ---- sets
 
@@ -206,6 +211,81 @@ fn add_step(rows: &[u32], types: &mut [u32], records: &[u32], text: u32) -> bool
     true
 }
 
+// Those that the record types of all types of a set declare.
+fn work_step(
+    rows: &[u32],
+    known: &mut [u32],
+    sets: &mut [u32],
+    reached: &mut [u32],
+    types: &[u32],
+    text: u32,
+) -> bool
+    requires { ⌜ (getD (now rows) TYPE 0 ≤ TYPES) × (length (now known) ≡ WORDS) × (length (now sets) ≡ SETS) × (length (now reached) ≡ WORDS) × (length (now types) ≡ WORDS) × Learned (now rows) (now known) (now sets) ⌝ }
+    ensures { λ b. ⌜ Gathered (now (reached .entry)) (now (reached .exit)) (ofTypes (now (rows .entry)) (now (types .entry)) text) b × Learned (now (rows .entry)) (now (known .exit)) (now (sets .exit)) ⌝ }
+{
+    let mut records = [0u32; WORDS];
+    if !add_types(rows, known, sets, &mut records, types) {
+        return false;
+    }
+    add_step(rows, reached, &records, text)
+}
+
+// ---- steps that are remembered
+
+// The place of a step in the memory; a later step takes the place of an earlier one.
+fn place_in(types: &[u32], text: u32) -> usize
+    ensures { λ y. ⌜ y < TYPES ⌝ }
+{
+    let x = text as u64
+        + read(types, 0) as u64
+        + read(types, 1) as u64 * 29
+        + read(types, 2) as u64 * 92
+        + read(types, 3) as u64 * 100;
+    (x % PRIME) as usize
+}
+
+// Whether the step at a place of the memory is the one from a set by a text.
+fn is_step(starts: &[u32], texts: &[u32], place: usize, types: &[u32], text: u32) -> bool
+    requires { ⌜ (length (now starts) ≡ SETS) × (length (now types) ≡ WORDS) × (place < TYPES) ⌝ }
+    ensures { λ b. ⌜ b ≡ isStepAt (now (starts .entry)) (now (texts .entry)) place (now (types .entry)) text ⌝ }
+{
+    if read(texts, place) != text {
+        return false;
+    }
+    is_same(cut(starts, place * WORDS, place * WORDS + WORDS), types)
+}
+
+// Those that a step reaches, worked out unless the step is remembered.
+fn step(
+    rows: &[u32],
+    known: &mut [u32],
+    sets: &mut [u32],
+    starts: &mut [u32],
+    texts: &mut [u32],
+    ends: &mut [u32],
+    reached: &mut [u32],
+    types: &[u32],
+    text: u32,
+) -> bool
+    requires { ⌜ (getD (now rows) TYPE 0 ≤ TYPES) × (length (now known) ≡ WORDS) × (length (now sets) ≡ SETS) × (length (now starts) ≡ SETS) × (length (now texts) ≡ TYPES) × (length (now ends) ≡ SETS) × (length (now reached) ≡ WORDS) × (length (now types) ≡ WORDS) × Learned (now rows) (now known) (now sets) × Remembered (now rows) (now starts) (now texts) (now ends) ⌝ }
+    ensures { λ b. ⌜ Gathered (now (reached .entry)) (now (reached .exit)) (ofTypes (now (rows .entry)) (now (types .entry)) text) b × Learned (now (rows .entry)) (now (known .exit)) (now (sets .exit)) × Remembered (now (rows .entry)) (now (starts .exit)) (now (texts .exit)) (now (ends .exit)) ⌝ }
+{
+    let place = place_in(types, text);
+    if is_step(starts, texts, place, types, text) {
+        join(reached, cut(ends, place * WORDS, place * WORDS + WORDS));
+        return true;
+    }
+    let mut own = [0u32; WORDS];
+    if !work_step(rows, known, sets, &mut own, types, text) {
+        return false;
+    }
+    store(starts, place * WORDS, types);
+    put(texts, place, text);
+    store(ends, place * WORDS, &own);
+    join(reached, &own);
+    true
+}
+
 // ---- a path, from a group on
 
 // The first word from `start` on whose step, the word before it, is none of the texts of a set.
@@ -224,7 +304,7 @@ fn skip(line: &[u32], texts: &[u32], start: usize) -> usize
 }
 
 // Whether the steps of a path from word `start` on, the first of them the word before it, are typed from a type. Texts whose step leaves the set
-// of types as it is are kept in a set of their own, until it changes.
+// of types as it is are kept in a set of their own, until it changes; other steps are remembered.
 fn group_typed(rows: &[u32], line: &[u32], ty: u32, start: usize) -> bool
     requires { ⌜ (getD (now rows) TYPE 0 ≤ TYPES) × (ty < getD (now rows) TYPE 0) × (1 ≤ start) ⌝ }
     ensures { λ b. ⌜ b ≡ pathFrom (now (rows .entry)) (drop start (now (line .entry))) (getD (now (line .entry)) (start - 1) 0) ty ⌝ }
@@ -234,19 +314,28 @@ fn group_typed(rows: &[u32], line: &[u32], ty: u32, start: usize) -> bool
     let mut kept = [0u32; TEXTS];
     let mut known = [0u32; WORDS];
     let mut sets = [0u32; SETS];
+    let mut starts = [0u32; SETS];
+    let mut texts = [0u32; TYPES];
+    let mut ends = [0u32; SETS];
     let mut i = start;
     loop {
-        let mut records = [0u32; WORDS];
-        if !add_types(rows, &mut known, &mut sets, &mut records, &types) {
-            break false;
-        }
         i = skip(line, &kept, i);
+        let mut reached = [0u32; WORDS];
         if i >= line.len() {
-            break true;
+            break add_types(rows, &mut known, &mut sets, &mut reached, &types);
         }
         let text = item(line, i - 1);
-        let mut reached = [0u32; WORDS];
-        if !add_step(rows, &mut reached, &records, text) {
+        if !step(
+            rows,
+            &mut known,
+            &mut sets,
+            &mut starts,
+            &mut texts,
+            &mut ends,
+            &mut reached,
+            &types,
+            text,
+        ) {
             break false;
         }
         i += 1;

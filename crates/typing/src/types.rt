@@ -15,6 +15,8 @@ use table::item;
 use table::row;
 use table::tag;
 ghost use mathlib.Core.Path.{_≡_};
+ghost use mathlib.Core.Bool.{_||_};
+ghost use lib.Dec.{eqb};
 ghost use Rattle.fits.specs.Fit.{foundIn};
 ghost use Rattle.typing.specs.Rules.{
   always,
@@ -120,19 +122,28 @@ pub fn tag_type(rows: &[u32], kind: u32) -> u32
     item(q, 2)
 }
 
-// Whether kind `above` is above `kind`.
+// Whether it was found before, or two kinds are the same.
+fn found_or_same(found: bool, kind: u32, other: u32) -> bool
+    ensures { λ b. ⌜ b ≡ (found || eqb kind other) ⌝ }
+{
+    if found {
+        return true;
+    }
+    kind == other
+}
+
+// Whether kind `above` is above `kind`. The whole row is compared, which takes less time than to stop where the kind is found.
 pub fn is_above(rows: &[u32], kind: u32, above: u32) -> bool
     ensures { λ b. ⌜ b ≡ isAboveAt (now (rows .entry)) kind above ⌝ }
 {
     let q = row(rows, SHAPE, kind);
+    let mut found = false;
     let mut i: usize = 3;
     while i < q.len() {
-        if item(q, i) == above {
-            return true;
-        }
+        found = found_or_same(found, above, item(q, i));
         i += 1;
     }
-    false
+    found
 }
 
 pub fn is_action(rows: &[u32], kind: u32) -> bool

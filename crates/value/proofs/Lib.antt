@@ -3,6 +3,7 @@ pub mod Shaped
 pub mod Globbing
 pub mod Joining
 pub mod Makes
+pub mod Passes
 pub mod Sorting
 pub mod Fills
 pub mod Inserts

@@ -2,22 +2,21 @@
 use mathlib.Core.Path.{_≡_, refl, sym, ap, _∙_}
 use mathlib.Core.Bool.{Bool, true, false, not, cond, _&&_, and-eq-true-iff}
 use mathlib.Core.List.{List, [], _∷_, _++_}
-use Prim.Native.Nat.{ℕ, suc, _+_, _-_, _≤_, _<_}
+use Prim.Native.Nat.{ℕ, suc, _+_, _≤_, _<_}
 use native.Mathlib.Omega.{arith}
 use borrow.Author.Tests.{lt-ltb, le-ltb, ltb-true, le-leb, lt-leb, leb-true, not-true, not-false}
 use lib.Dec.{ltb, leb}
 use lib.ListN.{length, getD, drop, take}
 use lib.Seq.{sets}
-use Rattle.words.specs.Log.{part}
-use Rattle.words.proofs.Stores.{take-sets, getD-below, length-part, part-at}
+use Rattle.words.proofs.Stores.{take-sets, getD-below}
 use Rattle.sheet.specs.Bytes.{same}
 use Rattle.sheet.specs.Forms.{VALUE}
-use Rattle.table.specs.Layout.{MADE, TOP, heap, base, rowsOf, withRow}
-use Rattle.table.proofs.Rows.{count-rows, row-at-is, row-some}
+use Rattle.table.specs.Layout.{MADE, TOP, heap, rowsOf, withRow}
+use Rattle.table.proofs.Rows.{count-rows}
 use Rattle.forms.specs.Tags.{BOOL-VALUE}
 use Rattle.value.specs.Lines.{valueLines, placeOf}
 use Rattle.value.specs.Made.{boolRow, roomFor, narrow, numberOf, withMade, withValue, Made}
-use Rattle.value.proofs.Lists.{uncons, spent, same-apart, same-differ}
+use Rattle.value.proofs.Lists.{uncons, spent}
 
 -- ---- finding
 
@@ -63,52 +62,6 @@ module _ (r : List ℕ) (rows : List (List ℕ)) (n i : ℕ) (g : Finding r rows
 
 pub rows-start : (r a : List ℕ) (k n : ℕ) → n ≡ getD a k 0 → Finding r (rowsOf a k) n 0
 rows-start r a k n e = find-start r (rowsOf a k) n (e ∙ sym (count-rows a k))
-
--- the row from s to e, by its length and its last word
-module _ (a r : List ℕ) (s e : ℕ) (h : e ≤ length a) (p : 1 ≤ length r) where
-  pub row-apart : (s + length r ≡ e → ⊥) → false ≡ same (part a s e) r
-  row-apart n = same-apart (part a s e) r (λ q. n (omega (arith, length-part a s e h)))
-
-  pub row-last : s + length r ≡ e → (getD a (e - 1) 0 ≡ getD r (length r - 1) 0 → ⊥) → false ≡ same (part a s e) r
-  row-last q n =
-      let i : s + (length r - 1) ≡ e - 1 = omega arith in
-      same-differ (part a s e) r (length r - 1) (λ z. n (sym (part-at a s e (length r - 1) (omega arith) ∙ ap (λ (j : ℕ). getD a j 0) i) ∙ z))
-
--- the walk has come to row i, which begins at s
-pub record Walking (r a : List ℕ) (k n i s : ℕ) : Type 0 where
-  pub finding : Finding r (rowsOf a k) n i
-  pub start : s ≡ getD a (base k + i) 0
-  pub small : s < 4294967296
-
-module _ (r a : List ℕ) (k b n : ℕ) (eb : b ≡ base k) (en : n ≡ getD a k 0) (h : b + n < length a) where
-  pub walk-start : getD a b 0 < 4294967296 → Walking r a k n 0 (getD a b 0)
-  walk-start u =
-      let z : b ≡ base k + 0 = omega arith in
-      record { finding = rows-start r a k n en; start = ap (λ (j : ℕ). getD a j 0) z; small = u }
-
-  module _ (i s : ℕ) (g : Walking r a k n i s) where
-    pub walk-end : length (part a (b + 1) (b + 1 + n)) ≤ i → n ≡ placeOf r (rowsOf a k)
-    walk-end l = find-end r (rowsOf a k) n i (g .finding) (omega (arith, length-part a (b + 1) (b + 1 + n) (omega arith)))
-
-    module _ (l : i < length (part a (b + 1) (b + 1 + n))) (e : ℕ) (ee : e ≡ getD (part a (b + 1) (b + 1 + n)) i 0) (c : Bool) (ec : c ≡ same (part a s e) r) where
-      inside : i < n
-      inside = omega (arith, length-part a (b + 1) (b + 1 + n) (omega arith))
-
-      next : e ≡ getD a (base k + i + 1) 0
-      next =
-          let z : b + 1 + i ≡ base k + i + 1 = omega arith in
-          ee ∙ part-at a (b + 1) (b + 1 + n) i (omega (arith, inside)) ∙ ap (λ (j : ℕ). getD a j 0) z
-
-      row-here : part a s e ≡ getD (rowsOf a k) i []
-      row-here = row-some a k i n (base k) (part a s e) en inside refl (row-at-is a (base k + i) s e (part a s e) (g .start) next refl)
-
-      pub walk-hit : c ≡ true → i ≡ placeOf r (rowsOf a k)
-      walk-hit q = find-hit r (rowsOf a k) n i (g .finding) inside (part a s e) row-here c ec q
-
-      pub walk-on : e < 4294967296 → c ≡ false → Walking r a k n (i + 1) e
-      walk-on u q =
-          let z : base k + i + 1 ≡ base k + (i + 1) = omega arith in
-          record { finding = find-on r (rowsOf a k) n i (g .finding) inside (part a s e) row-here c ec q; start = next ∙ ap (λ (j : ℕ). getD a j 0) z; small = u }
 
 -- ---- finding among two lists of rows
 

@@ -24,14 +24,15 @@ ghost use mathlib.Core.Bool.{true, _&&_};
 ghost use mathlib.Core.List.{[]};
 ghost use mathlib.Core.Option.{none};
 ghost use Prim.Native.Nat.{_+_, _-_, _≤_, _<_};
-ghost use lib.Dec.{eqb, ltb};
+ghost use lib.Dec.{eqb, leb, ltb};
 ghost use lib.ListN.{getD, length, take, drop};
 ghost use Rattle.words.specs.Log.{part, Room, Holds};
 ghost use Rattle.cedar.specs.Making.{sortN};
 ghost use Rattle.sheet.specs.Bytes.{same};
 ghost use Rattle.sheet.specs.Forms.{NODE};
-ghost use Rattle.table.specs.Layout.{base, rowsOf};
+ghost use Rattle.table.specs.Layout.{base, rowAt, rowsOf};
 ghost use Rattle.value.specs.Lines.{valueLines, placeOf};
+ghost use Rattle.value.specs.Places.{passed, Passing};
 ghost use Rattle.value.specs.Shapes.{valueFound};
 ghost use Rattle.value.specs.Made.{boolRow, longRow, entityRow, roomFor, narrow, withMade, Made, MadeBeside, valuesIn, Shifted, Inserted, lowerOf, leastOf, setRow, pairsOf, recordRow, pushAll};
 
@@ -39,6 +40,9 @@ ghost use Rattle.value.specs.Made.{boolRow, longRow, entityRow, roomFor,
 const ROW: usize = 4;
 
 const SOURCE: usize = 1;
+
+// How many places a search passes in one turn.
+const FOUR: usize = 4;
 
 // Whether two rows have the same words.
 pub fn same(left: &[u32], right: &[u32]) -> bool
@@ -76,43 +80,184 @@ fn find_row(rows: &[u32], key: usize, line: &[u32]) -> usize
     }
 }
 
-// Whether the row from `start` to `end` has these words: its length is compared first, then its last word.
-fn is_row(rows: &[u32], start: usize, end: usize, line: &[u32]) -> bool
-    requires { ⌜ (1 ≤ length (now line)) × (end ≤ length (now rows)) × (start < 4294967296) ⌝ }
-    ensures { λ b. ⌜ b ≡ same (part (now (rows .entry)) start end) (now (line .entry)) ⌝ }
+// Whether `value` stands at `at`, before `end`.
+fn is_there(log: &[u32], at: usize, end: usize, value: u32) -> bool
+    ensures { λ r. ⌜ r ≡ (ltb at end && eqb (getD (now (log .entry)) at 0) value) ⌝ }
 {
-    let n = line.len();
-    if start + n != end {
+    if at >= end {
         return false;
     }
-    if rows[end - 1] != line[n - 1] {
-        return false;
-    }
-    same(&rows[start..end], line)
+    read(log, at) == value
 }
 
-// The same in one walk: word `first` says where the first of the `many` rows begins, and each begins where the one before ends.
-fn find_walking(rows: &[u32], key: usize, first: usize, many: usize, line: &[u32]) -> usize
-    requires { ⌜ (first ≡ base key) × (many ≡ getD (now rows) key 0) × (first + many < length (now rows)) × (1 ≤ length (now line)) ⌝ }
-    ensures { λ v. ⌜ v ≡ placeOf (now (line .entry)) (rowsOf (now (rows .entry)) key) ⌝ }
+// Whether `value` stands at the place.
+fn is_word(words: &[u32], place: u32, value: u32) -> bool
+    ensures { λ r. ⌜ r ≡ (ltb place (length (now (words .entry))) && eqb (getD (now (words .entry)) place 0) value) ⌝ }
 {
-    let p = first + 1;
-    let q = p + many;
-    let ends = &rows[p..q];
-    let mut s = rows[first] as usize;
-    let mut i = 0;
+    is_there(words, place as usize, words.len(), value)
+}
+
+// Whether `value` stands at the place in the words, and `former` in those before.
+fn is_at(words: &[u32], before: &[u32], place: u32, value: u32, former: u32) -> bool
+    ensures { λ r. ⌜ r ≡ ((ltb place (length (now (words .entry))) && eqb (getD (now (words .entry)) place 0) value) && eqb (getD (now (before .entry)) place 0) former) ⌝ }
+{
+    if !is_word(words, place, value) {
+        return false;
+    }
+    read(before, place as usize) == former
+}
+
+// Whether they stand at none of the four places from number `i` on.
+fn is_at_none(
+    words: &[u32],
+    before: &[u32],
+    places: &[u32],
+    i: usize,
+    value: u32,
+    former: u32,
+) -> bool
+    requires { ⌜ i + 4 ≤ length (now places) ⌝ }
+    ensures { λ r. ⌜ r ≡ leb 4 (passed (now (words .entry)) (now (before .entry)) value former (drop i (now (places .entry)))) ⌝ }
+{
+    if is_at(words, before, places[i], value, former) {
+        return false;
+    }
+    if is_at(words, before, places[i + 1], value, former) {
+        return false;
+    }
+    if is_at(words, before, places[i + 2], value, former) {
+        return false;
+    }
+    !is_at(words, before, places[i + 3], value, former)
+}
+
+// The same, but most rows have another word there: both words are compared only where `value` stands at one of the four.
+fn passes_four(
+    words: &[u32],
+    before: &[u32],
+    places: &[u32],
+    i: usize,
+    value: u32,
+    former: u32,
+) -> bool
+    requires { ⌜ i + 4 ≤ length (now places) ⌝ }
+    ensures { λ r. ⌜ r ≡ leb 4 (passed (now (words .entry)) (now (before .entry)) value former (drop i (now (places .entry)))) ⌝ }
+{
+    if is_word(words, places[i], value) {
+        return is_at_none(words, before, places, i, value, former);
+    }
+    if is_word(words, places[i + 1], value) {
+        return is_at_none(words, before, places, i, value, former);
+    }
+    if is_word(words, places[i + 2], value) {
+        return is_at_none(words, before, places, i, value, former);
+    }
+    if is_word(words, places[i + 3], value) {
+        return is_at_none(words, before, places, i, value, former);
+    }
+    true
+}
+
+// A number up to which they stand at none of the places from number `from` on: these are passed four at a time.
+fn passed_by_fours(
+    words: &[u32],
+    before: &[u32],
+    places: &[u32],
+    from: usize,
+    value: u32,
+    former: u32,
+) -> usize
+    requires { ⌜ from ≤ length (now places) ⌝ }
+    ensures { λ r. ⌜ Passing (now (words .entry)) (now (before .entry)) value former (now (places .entry)) from r ⌝ }
+{
+    let mut i = from;
     loop {
-        if i >= ends.len() {
-            break many;
-        }
-        let e = ends[i] as usize;
-        if e > rows.len() {
-            break find_row(rows, key, line);
-        }
-        if is_row(rows, s, e, line) {
+        if places.len() - i < FOUR {
             break i;
         }
-        s = e;
+        if !passes_four(words, before, places, i, value, former) {
+            break i;
+        }
+        i += FOUR;
+    }
+}
+
+// The number of the first place from number `from` on where they stand, or of all places where they stand at none.
+fn next_place(
+    words: &[u32],
+    before: &[u32],
+    places: &[u32],
+    from: usize,
+    value: u32,
+    former: u32,
+) -> usize
+    requires { ⌜ from ≤ length (now places) ⌝ }
+    ensures { λ r. ⌜ r ≡ from + passed (now (words .entry)) (now (before .entry)) value former (drop from (now (places .entry))) ⌝ }
+{
+    let mut i = passed_by_fours(words, before, places, from, value, former);
+    loop {
+        if i >= places.len() {
+            break i;
+        }
+        if is_at(words, before, places[i], value, former) {
+            break i;
+        }
+        i += 1;
+    }
+}
+
+// Which word tells a row from most others: the last one, but of a bool the first.
+fn telling(line: &[u32]) -> usize
+    requires { ⌜ 1 ≤ length (now line) ⌝ }
+    ensures { λ j. ⌜ j < length (now (line .entry)) ⌝ }
+{
+    if line[0] == BOOL_VALUE {
+        return 0;
+    }
+    line.len() - 1
+}
+
+// Which word is compared where word `j` fits: the one before it, or the first one again.
+fn one_before(j: usize) -> usize
+    ensures { λ k. ⌜ k ≤ j ⌝ }
+{
+    if j < 1 {
+        return j;
+    }
+    j - 1
+}
+
+// Whether the row whose beginning word `at` says has these words.
+fn is_row(rows: &[u32], at: usize, line: &[u32]) -> bool
+    requires { ⌜ at < length (now rows) ⌝ }
+    ensures { λ r. ⌜ r ≡ same (rowAt (now (rows .entry)) at) (now (line .entry)) ⌝ }
+{
+    let start = read(rows, at) as usize;
+    let end = read(rows, at + 1) as usize;
+    same(cut(rows, start, end), line)
+}
+
+// The same by two words: only those of the `many` rows are compared that have them in their places. Word `first` says where the first row begins.
+fn find_telling(rows: &[u32], key: usize, first: usize, many: usize, line: &[u32]) -> usize
+    requires { ⌜ (first ≡ base key) × (many ≡ getD (now rows) key 0) × (first + many ≤ length (now rows)) × (1 ≤ length (now line)) × (length (now line) ≤ length (now rows)) ⌝ }
+    ensures { λ v. ⌜ v ≡ placeOf (now (line .entry)) (rowsOf (now (rows .entry)) key) ⌝ }
+{
+    let end = first + many;
+    let starts = &rows[first..end];
+    let j = telling(line);
+    let k = one_before(j);
+    let to = rows.len() - j + k;
+    let words = &rows[j..rows.len()];
+    let before = &rows[k..to];
+    let mut i = 0;
+    loop {
+        i = next_place(words, before, starts, i, line[j], line[k]);
+        if i >= many {
+            break many;
+        }
+        if is_row(rows, first + i, line) {
+            break i;
+        }
         i += 1;
     }
 }
@@ -123,13 +268,16 @@ fn find_in(rows: &[u32], key: usize, line: &[u32]) -> usize
 {
     let n = count(rows, key) as usize;
     let b = base_of(key);
-    if b + n >= rows.len() {
+    if b + n > rows.len() {
         return find_row(rows, key, line);
     }
     if line.len() < 1 {
         return find_row(rows, key, line);
     }
-    find_walking(rows, key, b, n, line)
+    if line.len() > rows.len() {
+        return find_row(rows, key, line);
+    }
+    find_telling(rows, key, b, n, line)
 }
 
 // The number of the first value with these words, or of all values where none has them.
@@ -289,16 +437,6 @@ fn shift(log: &mut [u32], start: usize, end: usize, value: u32)
         i += 1;
     }
     log[end] = y;
-}
-
-// Whether `value` stands at `at`, before `end`.
-fn is_there(log: &[u32], at: usize, end: usize, value: u32) -> bool
-    ensures { λ r. ⌜ r ≡ (ltb at end && eqb (getD (now (log .entry)) at 0) value) ⌝ }
-{
-    if at >= end {
-        return false;
-    }
-    read(log, at) == value
 }
 
 // The number `value` in its place among the words from `at` to `end`, unless it is there; the end after them.

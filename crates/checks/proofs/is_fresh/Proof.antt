@@ -1,7 +1,9 @@
 -- `checks::is_fresh` meets its contract. Assumes nothing.
 use native.Mathlib.Omega.{arith}
 use Rattle.checks.proofs.FoundLaws.{fresh-type, fresh-value, fresh-kind, fresh-policy, fresh-entity, fresh-link, fresh-term, fresh-other, fresh-node}
+use Rattle.sheet.specs.Forms.{TYPE}
 use Rattle.checks.proofs.SearchLaws.{keyed-row}
+use Rattle.checks.proofs.SeenLaws.{unlike-key}
 use borrow.Author.Needs.{needs}
 use Rattle.checks.proofs.is_fresh.Statement.{statement}
 use Rattle.checks.proofs.is_fresh.Tie as tie
@@ -34,10 +36,14 @@ returns-9 : tie.Need-returns-9
 returns-9 c = search (fresh-other, needs)
 
 is-type-requires : tie.Need-is-type-requires
-is-type-requires c κs = let s = c .before .before .before .before .before in keyed-row (s .args .line .now) (s .args .key) (s .pre .0 .1) (omega arith)
+is-type-requires c κs =
+    let s = c .before .before .before .before .before in
+    (keyed-row (s .args .line .now) (s .args .key) (s .pre .0 .1) (omega arith), unlike-key (s .args .line .now) (s .args .rows .now) (s .args .key) TYPE (s .args .new) (c .if2 .taken) (s .pre .1 .1))
 
-is-row-requires : tie.Need-is-row-requires
-is-row-requires c κs = let s = c .before .before .before .before .before .before in keyed-row (s .args .line .now) (s .args .key) (s .pre .0 .1) (omega arith)
+is-new-requires : tie.Need-is-new-requires
+is-new-requires c κs =
+    let s = c .before .before .before .before .before .before in
+    (keyed-row (s .args .line .now) (s .args .key) (s .pre .0 .1) (omega arith), s .pre .1 .1)
 
 pub is-fresh-spec : {M : Type 1} → statement M
 is-fresh-spec =
@@ -46,7 +52,7 @@ is-fresh-spec =
     returns
     is-type-requires
     returns-2
-    is-row-requires
+    is-new-requires
     returns-3
     (λ c κs. search needs)
     (λ c κs. search needs)

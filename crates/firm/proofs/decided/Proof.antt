@@ -6,9 +6,9 @@ use Rattle.firm.proofs.decided.Tie as tie
 
 returns : tie.Need-returns
 returns c =
-    let s = c .before .before .before .before .before .before .before .before .before .before .before .before .before .before .before .before .before .before .before .before .before .before in
-    let l = c .before .before .before .before .before .before .before .before .before .before .before .before .before .before .before .before .lay in
-    let r = c .before .before .before .before .before .before .before .before .before .before .before .before .run in
+    let s = c .before .before .before .before .before .before .before .before .before .before .before .before .before .before .before .before .before .before .before .before .before .before .before .before in
+    let l = c .before .before .before .before .before .before .before .before .before .before .before .before .before .before .before .before .before .before .lay in
+    let r = c .before .before .before .before .before .before .before .before .before .before .before .before .before .run in
     let n = c .before .before .before .before .before .before .lines in
     let x = c .before .cut in
     let d = c .decision-of in
@@ -20,14 +20,10 @@ decided-spec =
     tie.close
     (tie.spec
     (λ c κs. search needs)
-    (λ c. search needs)
     (λ c κs. search needs)
-    (λ c. search needs)
     (λ c κs. search needs)
-    (λ c. search needs)
+    (λ c κs. search needs)
     (λ c κs. search needs)
     (λ c. search needs)
-    (λ c κs. search needs)
-    (λ c κs. search needs)
     (λ c. search needs)
     returns)

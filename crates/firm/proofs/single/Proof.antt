@@ -21,10 +21,13 @@ slice-aggregate-decided-2 : tie.Need-slice-aggregate-decided-2
 slice-aggregate-decided-2 c = search (part-long, needs)
 
 decided-requires : tie.Need-decided-requires
-decided-requires c κs = search (part-room, part-long, needs)
+decided-requires c κs = let s = c .before .before .before .before .before .before .before .before .before .before .before in (part-room (s .args .work1 .now) (c .before .before .before .before .if2 .left), part-long (s .args .work2 .now) (c .before .before .before .if3 .left), s .pre)
 
 returns-4 : tie.Need-returns-4
-returns-4 c = search (single-decided, needs)
+returns-4 c =
+    let d = c .before .before .before .before .before .decided in
+    let t = c .before .before .before .before .before .before .before .before .before in
+    single-decided _ _ _ _ _ (t .before .before .if1 .left) (t .before .if2 .left) (t .if3 .left) (d .last .1 .1 .1 .1 .0) (d .kept .1 .1 .1 .1 .0) (d .result) (d .ensures) _ (c .number-of .ensures)
 
 pub single-spec : {M : Type 1} → statement M
 single-spec =
@@ -38,5 +41,6 @@ single-spec =
     slice-aggregate-decided-2
     decided-requires
     (λ c κs. search needs)
+    (λ c. search needs)
     (λ c. search needs)
     returns-4)

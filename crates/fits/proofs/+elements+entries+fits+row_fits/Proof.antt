@@ -1,6 +1,8 @@
 -- `elements`, `entries`, `fits`, `row_fits`: the cycle of calls; the remaining depth falls.
 use Prim.Native.Nat.{_*_, _+_, _-_, _<_, ℕ}
 use Rattle.fits.proofs.Search.{Elements, Entered, elements-end, elements-off, elements-on, elements-start, entries-done, entries-more, entries-odd, entries-off, entries-start, entries-undeclared, fits-deep, fits-hit, fits-no, fits-yes, row-lacks, row-leaf, row-no-record, row-no-set, row-record, row-set}
+use Rattle.fits.specs.Fit.{Ahead}
+use Rattle.fits.proofs.Walks.{ahead-start}
 use lib.ListN.{length}
 use mathlib.Core.Path.{_≡_}
 use borrow.Author.Needs.{needs}
@@ -19,10 +21,11 @@ use Rattle.fits.proofs.row_fits.Reads as row-fits
 use Rattle.fits.proofs.row_fits.Kinds as row-fits-kinds
 use Rattle.fits.proofs.+elements+entries+fits+row_fits.Lts-row_fits as row-fits-lts
 use Rattle.fits.proofs.complete.Reads as complete-reads
-use Rattle.fits.proofs.declared.Reads as declared-reads
+use Rattle.fits.proofs.declared_at.Reads as declared-at-reads
 use Rattle.fits.proofs.is_marked.Reads as is-marked-reads
 use Rattle.fits.proofs.leaf_fits.Reads as leaf-fits-reads
 use Rattle.fits.proofs.mark.Reads as mark-reads
+use Rattle.fits.proofs.seek.Reads as seek-reads
 use Rattle.table.proofs.item.Reads as item-reads
 use Rattle.table.proofs.row.Reads as row-reads
 use Rattle.table.proofs.tag.Reads as tag-reads
@@ -106,26 +109,30 @@ elements-returns-2 : (t : ℕ) → elements-lts.Need-returns-2 (
 elements-returns-2 t c = search elements-end
 
 abbrev entries-Inv-loop : entries-lts.InvT-loop
-entries-Inv-loop a m₀ r y d i₀ m i = Entered a r y d m₀ m i × (length m ≡ length m₀)
+entries-Inv-loop a m₀ r y d i₀ place₀ m i place = Entered a r y d m₀ m i × ((length m ≡ length m₀) × Ahead y place)
 
 abbrev entries-μ-loop : entries-lts.MeasureT-loop
-entries-μ-loop a m₀ r y d i₀ m i = length r - i
+entries-μ-loop a m₀ r y d i₀ place₀ m i place = length r - i
 
 entries-loop-holds : (t : ℕ) → entries-lts.Need-loop-holds (
   item-reads.Asked,
   item-reads.Learnt,
-  declared-reads.Asked,
-  declared-reads.Learnt,
+  seek-reads.Asked,
+  seek-reads.Learnt,
+  declared-at-reads.Asked,
+  declared-at-reads.Learnt,
   fits-below t,
   fits.Post,
 ) (entries-at t) entries.Post entries-Inv-loop entries-μ-loop
-entries-loop-holds t c = (search entries-start, search needs)
+entries-loop-holds t c = (search entries-start, (search needs, search ahead-start))
 
 entries-returns : (t : ℕ) → entries-lts.Need-returns (
   item-reads.Asked,
   item-reads.Learnt,
-  declared-reads.Asked,
-  declared-reads.Learnt,
+  seek-reads.Asked,
+  seek-reads.Learnt,
+  declared-at-reads.Asked,
+  declared-at-reads.Learnt,
   fits-below t,
   fits.Post,
 ) (entries-at t) entries.Post entries-Inv-loop entries-μ-loop
@@ -134,8 +141,10 @@ entries-returns t c = search entries-odd
 entries-returns-2 : (t : ℕ) → entries-lts.Need-returns-2 (
   item-reads.Asked,
   item-reads.Learnt,
-  declared-reads.Asked,
-  declared-reads.Learnt,
+  seek-reads.Asked,
+  seek-reads.Learnt,
+  declared-at-reads.Asked,
+  declared-at-reads.Learnt,
   fits-below t,
   fits.Post,
 ) (entries-at t) entries.Post entries-Inv-loop entries-μ-loop
@@ -144,8 +153,10 @@ entries-returns-2 t c = search entries-undeclared
 entries-returns-3 : (t : ℕ) → entries-lts.Need-returns-3 (
   item-reads.Asked,
   item-reads.Learnt,
-  declared-reads.Asked,
-  declared-reads.Learnt,
+  seek-reads.Asked,
+  seek-reads.Learnt,
+  declared-at-reads.Asked,
+  declared-at-reads.Learnt,
   fits-below t,
   fits.Post,
 ) (entries-at t) entries.Post entries-Inv-loop entries-μ-loop
@@ -154,18 +165,22 @@ entries-returns-3 t c = search entries-off
 entries-loop-again : (t : ℕ) → entries-lts.Need-loop-again (
   item-reads.Asked,
   item-reads.Learnt,
-  declared-reads.Asked,
-  declared-reads.Learnt,
+  seek-reads.Asked,
+  seek-reads.Learnt,
+  declared-at-reads.Asked,
+  declared-at-reads.Learnt,
   fits-below t,
   fits.Post,
 ) (entries-at t) entries.Post entries-Inv-loop entries-μ-loop
-entries-loop-again t c = let f = c .before .before .before in let g = f .before .before .before .before in let e = g .before .before in let l = e .before .before .before .before in let a = l .before .before .before .before .before .args in (entries-more (a .rows .now) (a .value-row .now) (a .type-row .now) (a .depth) _ (l .loop .work) (l .loop .i) (l .loop .inv .0) (e .before .item .result) (e .declared .result) (e .before .before .before .loop-test .taken) (e .before .before .if1 .left) (e .before .item .ensures) (e .declared .ensures) (f .fits2 .last .1 .0) (f .before .before .item2 .result) (g .f .given .0 .0) (f .fits2 .result) (g .f .given .1) (f .before .before .item2 .ensures) (f .fits2 .ensures) (c .if2 .left), search needs)
+entries-loop-again t c = let f = c .before .before .before in let g = f .before .before .before .before in let e = g .before .before in let l = e .before .before .before .before .before in let a = l .before .before .before .before .before .args in (entries-more (a .rows .now) (a .value-row .now) (a .type-row .now) (a .depth) _ (l .loop .work) (l .loop .i) (l .loop .inv .0) (e .before .before .item .result) (e .declared-at .result) (e .before .before .before .before .loop-test .taken) (e .before .before .before .if1 .left) (e .before .before .item .ensures) (e .declared-at .ensures) (f .fits2 .last .1 .0) (f .before .before .item2 .result) (g .f .given .0 .0) (f .fits2 .result) (g .f .given .1) (f .before .before .item2 .ensures) (f .fits2 .ensures) (c .if2 .left), (search needs, e .before .seek .ensures))
 
 entries-returns-4 : (t : ℕ) → entries-lts.Need-returns-4 (
   item-reads.Asked,
   item-reads.Learnt,
-  declared-reads.Asked,
-  declared-reads.Learnt,
+  seek-reads.Asked,
+  seek-reads.Learnt,
+  declared-at-reads.Asked,
+  declared-at-reads.Learnt,
   fits-below t,
   fits.Post,
 ) (entries-at t) entries.Post entries-Inv-loop entries-μ-loop
@@ -340,8 +355,10 @@ pub +elements+entries+fits+row-fits-spec : {M : Type 1} → statement M
     (λ t. entries-lts.spec (
       item-reads.Asked,
       item-reads.Learnt,
-      declared-reads.Asked,
-      declared-reads.Learnt,
+      seek-reads.Asked,
+      seek-reads.Learnt,
+      declared-at-reads.Asked,
+      declared-at-reads.Learnt,
       fits-below t,
       fits.Post,
     )
@@ -353,6 +370,7 @@ pub +elements+entries+fits+row-fits-spec : {M : Type 1} → statement M
     (λ c. search needs)
     (λ c. search needs)
     (entries-returns t)
+    (λ c κs. search needs)
     (λ c κs. search needs)
     (λ c κs. search needs)
     (λ c. search needs)

@@ -19,7 +19,7 @@ depth-of-requires c κs =
     let g = c .before .before .before .before .before .before .before .tag in
     let k = c .before .before .before .before .before .before .key-of in
     let u = c .before .before .too-many in
-    ((key-of-row (s .args .line .now) (g .result) (k .result) (g .ensures) (k .ensures), key-of-line (s .args .rows .now) (k .result) (s .args .line .now) (u .result) (u .ensures) (c .before .if2 .left)), s .pre .1)
+    ((key-of-row (s .args .line .now) (g .result) (k .result) (g .ensures) (k .ensures), key-of-line (s .args .rows .now) (k .result) (s .args .line .now) (u .result) (u .ensures) (c .before .if2 .left)), (s .pre .1, s .pre .2))
 
 returns-3 : tie.Need-returns-3
 returns-3 c = search (judged-5, needs)

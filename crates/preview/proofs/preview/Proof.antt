@@ -1,5 +1,4 @@
 -- `preview::preview` meets its contract. Assumes nothing.
-use Rattle.opening.proofs.Lent.{part-long, part-same}
 use Rattle.preview.proofs.Calling.{preview-first, preview-second, preview-tried}
 use borrow.Author.Needs.{needs}
 use Rattle.preview.proofs.preview.Statement.{statement}
@@ -11,38 +10,8 @@ returns c = search (preview-first, needs)
 returns-2 : tie.Need-returns-2
 returns-2 c = search (preview-second, needs)
 
-slice-aggregate-tried : tie.Need-slice-aggregate-tried
-slice-aggregate-tried c = search (part-long, needs)
-
-slice-aggregate-tried-2 : tie.Need-slice-aggregate-tried-2
-slice-aggregate-tried-2 c = search (part-long, needs)
-
-tried-requires : tie.Need-tried-requires
-tried-requires c κs = let s = c .before .before .before .before .before .before .before .before .before .before in (part-long (s .args .work1 .now) (c .before .before .before .before .if1 .left), part-long (s .args .work2 .now) (c .before .before .before .if2 .left))
-
-same-length : tie.Need-same-length
-same-length c =
-    let s = c .before .before .before .before .before .before .before .before .before .before .before .before .before .before .before .before .before .before .before .before .before .before .before .before .before in
-    let a = c .before .before .before .before .before .before .before .before .before .before .before .before .before .before .tried in
-    let x = c .before .before .before .before .before .before .clear in
-    part-same (s .args .work1 .now) (c .before .before .before .before .before .before .before .before .before .before .before .before .before .before .before .before .before .before .before .if1 .left) (a .last .1 .1 .1 .0) (x .last .0) (a .kept .1 .1 .1 .0) (x .kept .0)
-
-same-length-2 : tie.Need-same-length-2
-same-length-2 c =
-    let s = c .before .before .before .before .before .before .before .before .before .before .before .before .before .before .before .before .before .before .before .before .before .before .before .before .before in
-    let a = c .before .before .before .before .before .before .before .before .before .before .before .before .before .before .tried in
-    let y = c .before .before .clear2 in
-    part-same (s .args .work2 .now) (c .before .before .before .before .before .before .before .before .before .before .before .before .before .before .before .before .before .before .if2 .left) (a .last .1 .1 .1 .1 .0) (y .last .0) (a .kept .1 .1 .1 .1 .0) (y .kept .0)
-
 returns-3 : tie.Need-returns-3
-returns-3 c =
-    let s = c .before .before .before .before .before .before .before .before .before .before .before .before .before .before .before .before .before .before .before .before .before .before .before .before .before in
-    let a = c .before .before .before .before .before .before .before .before .before .before .before .before .before .before .tried in
-    let x = c .before .before .before .before .before .before .clear in
-    let y = c .before .before .clear2 in
-    preview-tried (s .args .sheet .now) (s .args .line) (s .args .new .now) (s .args .work1 .now) (s .args .work2 .now) (s .args .out .now) (c .before .before .before .before .before .before .before .before .before .before .before .before .before .before .before .before .before .before .before .if1 .left) (c .before .before .before .before .before .before .before .before .before .before .before .before .before .before .before .before .before .before .if2 .left)
-    (a .result .number) (a .result .line) (a .result .length) (a .last .1 .1 .1 .1 .1 .0) (a .last .1 .1 .1 .0) (a .last .1 .1 .1 .1 .0) (x .last .0) (y .last .0)
-    (a .ensures) (a .kept .1 .1 .1 .0) (a .kept .1 .1 .1 .1 .0) (x .ensures) (y .ensures)
+returns-3 c = search (preview-tried, needs)
 
 pub preview-spec : {M : Type 1} → statement M
 preview-spec =
@@ -50,14 +19,8 @@ preview-spec =
     (tie.spec
     returns
     returns-2
-    (λ c. search needs)
-    slice-aggregate-tried
-    (λ c. search needs)
-    slice-aggregate-tried-2
-    tried-requires
     (λ c κs. search needs)
-    (λ c κs. search needs)
-    same-length
-    same-length-2
+    (λ c. search needs)
+    (λ c. search needs)
     (λ c. search needs)
     returns-3)

@@ -31,7 +31,7 @@ returns-2 c =
     let z = c .before .before .before .before .before .before .before .before .before .before .before .before .before .bytes3 in
     let p = c .before .before .before .before .before .before .partial in
     copy-ran (s .args .sheet .now) (s .args .new .now) (s .args .out .now) (s .args .start) (s .args .end) (o .result) (x .last .0) (y .last .0) (z .last .0) (f .result .now) (r .result .now) (x .result) (y .result) (z .result)
-    (o .ensures) (f .ensures) (r .ensures) (x .ensures) (y .ensures) (z .ensures) (c .before .before .before .before .before .before .before .before .before .before .before .if1 .left) (s .args .rows .now) (s .args .work .now) (s .pre .0) (s .pre .1)
+    (o .ensures) (f .ensures) (r .ensures) (x .ensures) (y .ensures) (z .ensures) (c .before .before .before .before .before .before .before .before .before .before .before .if1 .left) (s .args .work1 .now) (s .args .work2 .now) (s .pre .0) (s .pre .1)
     (p .result .number) (p .result .line) (p .result .length) (p .last .1 .1 .1 .0) (p .last .1 .0) (p .last .1 .1 .0) (p .ensures)
 
 pub run-spec : {M : Type 1} → statement M
@@ -47,6 +47,10 @@ run-spec =
     (λ c. search needs)
     (λ c κs. search needs)
     (λ c κs. search needs)
+    (λ c κs. search needs)
+    (λ c κs. search needs)
+    (λ c. search needs)
+    (λ c. search needs)
     returns
     (λ c. search needs)
     slice-aggregate-partial

@@ -30,9 +30,9 @@ loop-holds c =
 expand-requires : tie.Need-expand-requires Inv-loop μ-loop
 expand-requires c κs =
     let h = c .before .before .before .before .before .before .before in
-    let k = h .before .before .before in
-    let w = k .before .before .before .before .loop .inv in
-    let m = going-open _ _ _ _ _ _ _ _ _ _ _ _ w (k .before .before .before .loop-test .taken) _ (k .read .ensures) _ (h .before .before .read2 .ensures) _ (h .hide .ensures) in
+    let k = h .before .before .before .before in
+    let w = k .before .before .before .loop .inv in
+    let m = going-open _ _ _ _ _ _ _ _ _ _ _ _ w (k .before .before .loop-test .taken) _ (k .read .ensures) _ (h .before .before .set-at .ensures) _ (h .hide .ensures) in
     (w .indexed, (m .queue, (m .spot, m .spread)))
 
 loop-less : tie.Need-loop-less Inv-loop μ-loop
@@ -42,8 +42,8 @@ loop-again : tie.Need-loop-again Inv-loop μ-loop
 loop-again c =
     let e = c .before .before .before .before .before .before in
     let h = e .before .before .before .before .before .before .before .before in
-    let k = h .before .before .before in
-    going-on _ _ _ _ _ _ _ _ _ _ _ _ (k .before .before .before .before .loop .inv) (k .before .before .before .loop-test .taken) _ (k .read .ensures) _ (h .before .before .read2 .ensures) _ (h .hide .ensures) _ _ _ _ _ (e .expand .ensures)
+    let k = h .before .before .before .before in
+    going-on _ _ _ _ _ _ _ _ _ _ _ _ (k .before .before .before .loop .inv) (k .before .before .loop-test .taken) _ (k .read .ensures) _ (h .before .before .set-at .ensures) _ (h .hide .ensures) _ _ _ _ _ (e .expand .ensures)
 
 returns : tie.Need-returns Inv-loop μ-loop
 returns c = search (going-end, needs)
@@ -67,8 +67,9 @@ reach-spec =
     loop-holds
     (λ c. search needs)
     (λ c. search needs)
-    (λ c. search needs)
     (λ c κs. search needs)
+    (λ c. search needs)
+    (λ c. search needs)
     (λ c. search needs)
     (λ c κs. search needs)
     (λ c κs. search needs)

@@ -1,27 +1,31 @@
--- `pair_with`: what is left of the kinds decides.
+-- `pair_with`: the kind itself, or what is left of the kinds above it.
 use Prim.Native.Nat.{_-_}
-use Rattle.rules.proofs.Rulings.{Pairing, some-start, pair-hit, some-on, pair-over}
+use lib.ListN.{length}
+use Rattle.rules.proofs.KindSets.{Pairing, pair-own, pair-start, pair-hit, pair-on, pair-over}
 use borrow.Author.Needs.{needs}
 use Rattle.rules.proofs.pair_with.Statement.{statement}
 use Rattle.rules.proofs.pair_with.Tie as tie
 
 abbrev Inv-loop : tie.InvT-loop
-Inv-loop rows type-row kind end i₀ i = Pairing rows type-row kind i
+Inv-loop rows type-row kinds kind q i₀ i = Pairing rows type-row kind q i
 
 abbrev μ-loop : tie.MeasureT-loop
-μ-loop rows type-row kind end i₀ i = end - i
-
-loop-holds : tie.Need-loop-holds Inv-loop μ-loop
-loop-holds c = search some-start
+μ-loop rows type-row kinds kind q i₀ i = length q - i
 
 returns : tie.Need-returns Inv-loop μ-loop
-returns c = search pair-hit
+returns c = search pair-own
 
-loop-again : tie.Need-loop-again Inv-loop μ-loop
-loop-again c = search some-on
+loop-holds : tie.Need-loop-holds Inv-loop μ-loop
+loop-holds c = search pair-start
 
 returns-2 : tie.Need-returns-2 Inv-loop μ-loop
-returns-2 c = search pair-over
+returns-2 c = search pair-hit
+
+loop-again : tie.Need-loop-again Inv-loop μ-loop
+loop-again c = search pair-on
+
+returns-3 : tie.Need-returns-3 Inv-loop μ-loop
+returns-3 c = search pair-over
 
 pub pair-with-spec : {M : Type 1} → statement M
 pair-with-spec =
@@ -30,11 +34,13 @@ pair-with-spec =
     Inv-loop
     μ-loop
     (λ c κs. search needs)
+    returns
+    (λ c κs. search needs)
     loop-holds
     (λ c κs. search needs)
     (λ c κs. search needs)
-    returns
+    returns-2
     (λ c. search needs)
     (λ c. search needs)
     loop-again
-    returns-2)
+    returns-3)

@@ -7,10 +7,10 @@ use Rattle.rules.proofs.share_kind.Statement.{statement}
 use Rattle.rules.proofs.share_kind.Tie as tie
 
 abbrev Inv-loop : tie.InvT-loop
-Inv-loop type-row other-row end i₀ i = Some (kindIn other-row) type-row i
+Inv-loop type-row other-row kinds end i₀ i = Some (kindIn other-row) type-row i
 
 abbrev μ-loop : tie.MeasureT-loop
-μ-loop type-row other-row end i₀ i = end - i
+μ-loop type-row other-row kinds end i₀ i = end - i
 
 loop-holds : tie.Need-loop-holds Inv-loop μ-loop
 loop-holds c = search some-start
@@ -30,8 +30,11 @@ share-kind-spec =
     (tie.spec
     Inv-loop
     μ-loop
+    (λ c. search needs)
+    (λ c κs. search needs)
     (λ c κs. search needs)
     loop-holds
+    (λ c. search needs)
     (λ c κs. search needs)
     (λ c κs. search needs)
     returns

@@ -7,10 +7,10 @@ use Rattle.rules.proofs.some_pair.Statement.{statement}
 use Rattle.rules.proofs.some_pair.Tie as tie
 
 abbrev Inv-loop : tie.InvT-loop
-Inv-loop rows type-row other-row end i₀ i = Some (pairWith rows other-row) type-row i
+Inv-loop rows type-row other-row kinds end i₀ i = Some (pairWith rows other-row) type-row i
 
 abbrev μ-loop : tie.MeasureT-loop
-μ-loop rows type-row other-row end i₀ i = end - i
+μ-loop rows type-row other-row kinds end i₀ i = end - i
 
 loop-holds : tie.Need-loop-holds Inv-loop μ-loop
 loop-holds c = search some-start
@@ -30,8 +30,11 @@ some-pair-spec =
     (tie.spec
     Inv-loop
     μ-loop
+    (λ c. search needs)
+    (λ c κs. search needs)
     (λ c κs. search needs)
     loop-holds
+    (λ c. search needs)
     (λ c κs. search needs)
     (λ c κs. search needs)
     returns

@@ -1,32 +1,11 @@
 -- `strict::entity::part_of` meets its contract. Assumes nothing.
-use Rattle.strict.proofs.Finds.{part-empty, part-unlisted, part-unknown, part-known}
+use Rattle.strict.proofs.Finds.{part-line}
 use borrow.Author.Needs.{needs}
 use Rattle.strict.proofs.entity.part_of.Statement.{statement}
 use Rattle.strict.proofs.entity.part_of.Tie as tie
 
 returns : tie.Need-returns
-returns c = search (part-empty, part-unlisted, part-unknown, part-known, needs)
-
-returns-2 : tie.Need-returns-2
-returns-2 c = search (part-empty, part-unlisted, part-unknown, part-known, needs)
-
-returns-3 : tie.Need-returns-3
-returns-3 c = search (part-empty, part-unlisted, part-unknown, part-known, needs)
-
-returns-4 : tie.Need-returns-4
-returns-4 c = search (part-empty, part-unlisted, part-unknown, part-known, needs)
+returns c = search (part-line, needs)
 
 pub part-of-spec : {M : Type 1} → statement M
-part-of-spec =
-    tie.close
-    (tie.spec
-    (λ c κs. search needs)
-    (λ c. search needs)
-    (λ c. search needs)
-    returns
-    returns-2
-    (λ c κs. search needs)
-    (λ c. search needs)
-    (λ c κs. search needs)
-    returns-3
-    returns-4)
+part-of-spec = tie.close (tie.spec (λ c κs. search needs) (λ c κs. search needs) returns)

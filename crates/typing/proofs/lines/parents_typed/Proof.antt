@@ -1,16 +1,20 @@
 -- `parents_typed`: what is left of the set decides.
 use Prim.Native.Nat.{_-_}
-use Rattle.typing.proofs.KeyRules.{Parents, parents-end, parents-unknown, parents-off, parents-on, parents-sort, parents-start}
+use mathlib.Core.Path.{_≡_}
 use lib.ListN.{length}
+use Rattle.typing.specs.Paths.{KIND-WORDS, Each}
+use Rattle.typing.specs.Rules.{isAboveAt}
+use Rattle.typing.proofs.KeyRules.{Parents, parents-end, parents-unknown, parents-off, parents-on, parents-sort, parents-start}
+use Rattle.typing.proofs.SeenSets.{above-set}
 use borrow.Author.Needs.{needs}
 use Rattle.typing.proofs.lines.parents_typed.Statement.{statement}
 use Rattle.typing.proofs.lines.parents_typed.Tie as tie
 
 abbrev Inv-loop : tie.InvT-loop
-Inv-loop rows value kind q i₀ i = Parents rows q value kind i
+Inv-loop rows value kind q above i₀ i = Parents rows q value kind i × Each above (isAboveAt rows kind) × (length above ≡ KIND-WORDS)
 
 abbrev μ-loop : tie.MeasureT-loop
-μ-loop rows value kind q i₀ i = length q - i
+μ-loop rows value kind q above i₀ i = length q - i
 
 returns : tie.Need-returns Inv-loop μ-loop
 returns c = search parents-unknown
@@ -19,13 +23,13 @@ returns-2 : tie.Need-returns-2 Inv-loop μ-loop
 returns-2 c = search parents-sort
 
 loop-holds : tie.Need-loop-holds Inv-loop μ-loop
-loop-holds c = search parents-start
+loop-holds c = (search parents-start, search above-set, search needs)
 
 returns-3 : tie.Need-returns-3 Inv-loop μ-loop
 returns-3 c = search parents-off
 
 loop-again : tie.Need-loop-again Inv-loop μ-loop
-loop-again c = search parents-on
+loop-again c = (search parents-on, search needs, search needs)
 
 returns-4 : tie.Need-returns-4 Inv-loop μ-loop
 returns-4 c = search parents-end
@@ -40,7 +44,10 @@ parents-typed-spec =
     (λ c κs. search needs)
     (λ c κs. search needs)
     returns-2
+    (λ c. search needs)
+    (λ c κs. search needs)
     loop-holds
+    (λ c. search needs)
     (λ c κs. search needs)
     (λ c κs. search needs)
     returns-3

@@ -1,25 +1,30 @@
 -- `kinds_declare`: what is left of the kinds decides.
 use Prim.Native.Nat.{_-_}
+use mathlib.Core.Path.{_≡_}
+use lib.ListN.{length}
 use Rattle.typing.proofs.KindWalks.{Kinds, kinds-start, kinds-done, attributes-off, attributes-on}
-use Rattle.typing.specs.Rules.{ofKind, declaresAs}
+use Rattle.typing.specs.Paths.{WORDS, Each}
+use Rattle.typing.specs.Rules.{ofRecord, ofKind, declaresAs}
+use Rattle.typing.proofs.SeenSets.{records-none}
 use borrow.Author.Needs.{needs}
 use Rattle.typing.proofs.nodes.kinds_declare.Statement.{statement}
 use Rattle.typing.proofs.nodes.kinds_declare.Tie as tie
 
 abbrev Inv-loop : tie.InvT-loop
-Inv-loop rows type-row text own end i₀ i = Kinds (ofKind rows (declaresAs rows text own)) type-row i
+Inv-loop rows type-row text own seen₀ end i₀ seen i =
+    Kinds (ofKind rows (declaresAs rows text own)) type-row i × Each seen (ofRecord rows (declaresAs rows text own)) × (length seen ≡ WORDS)
 
 abbrev μ-loop : tie.MeasureT-loop
-μ-loop rows type-row text own end i₀ i = end - i
+μ-loop rows type-row text own seen₀ end i₀ seen i = end - i
 
 loop-holds : tie.Need-loop-holds Inv-loop μ-loop
-loop-holds c = search kinds-start
+loop-holds c = (search kinds-start, search records-none, search needs)
 
 returns : tie.Need-returns Inv-loop μ-loop
 returns c = search attributes-off
 
 loop-again : tie.Need-loop-again Inv-loop μ-loop
-loop-again c = search attributes-on
+loop-again c = (search attributes-on, search needs, search needs)
 
 returns-2 : tie.Need-returns-2 Inv-loop μ-loop
 returns-2 c = search kinds-done
@@ -34,6 +39,7 @@ kinds-declare-spec =
     loop-holds
     (λ c κs. search needs)
     (λ c κs. search needs)
+    (λ c. search needs)
     (λ c κs. search needs)
     returns
     (λ c. search needs)

@@ -1,28 +1,25 @@
--- `is_above`: what is left of the shape's row decides.
+-- `is_above`: what is found, or what is left of the shape's row, decides.
 use Prim.Native.Nat.{_-_}
-use Rattle.typing.proofs.Typings.{Above, above-end, above-hit, above-on, above-start}
+use Rattle.typing.proofs.Typings.{Above, above-end, above-on, above-start}
 use lib.ListN.{length}
 use borrow.Author.Needs.{needs}
 use Rattle.typing.proofs.types.is_above.Statement.{statement}
 use Rattle.typing.proofs.types.is_above.Tie as tie
 
 abbrev Inv-loop : tie.InvT-loop
-Inv-loop rows kind above q i₀ i = Above rows q kind above i
+Inv-loop rows kind above q found₀ i₀ found i = Above rows q kind above i found
 
 abbrev μ-loop : tie.MeasureT-loop
-μ-loop rows kind above q i₀ i = length q - i
+μ-loop rows kind above q found₀ i₀ found i = length q - i
 
 loop-holds : tie.Need-loop-holds Inv-loop μ-loop
 loop-holds c = search above-start
 
-returns : tie.Need-returns Inv-loop μ-loop
-returns c = search above-hit
-
 loop-again : tie.Need-loop-again Inv-loop μ-loop
 loop-again c = search above-on
 
-returns-2 : tie.Need-returns-2 Inv-loop μ-loop
-returns-2 c = search above-end
+returns : tie.Need-returns Inv-loop μ-loop
+returns c = search above-end
 
 pub is-above-spec : {M : Type 1} → statement M
 is-above-spec =
@@ -33,8 +30,8 @@ is-above-spec =
     (λ c κs. search needs)
     loop-holds
     (λ c κs. search needs)
-    returns
+    (λ c κs. search needs)
     (λ c. search needs)
     (λ c. search needs)
     loop-again
-    returns-2)
+    returns)

@@ -1,0 +1,85 @@
+-- A set of numbers that were found to pass a test: its members are not asked again.
+use mathlib.Core.Path.{_≡_, refl, sym, subst, _∙_}
+use mathlib.Core.Bool.{Bool, true, false, not}
+use mathlib.Core.List.{List, [], _∷_}
+use Prim.Native.Nat.{ℕ, _+_, _≤_, _<_}
+use native.Mathlib.Omega.{arith}
+use borrow.Author.Tests.{not-true, not-false, eq-eqb}
+use Rattle.cedar.proofs.Tools.{or-left, or-right}
+use lib.Dec.{eqb}
+use lib.ListN.{length, getD, drop, replicate, drop-of-length-le}
+use Rattle.cedar.specs.Numbered.{memN}
+use Rattle.sheet.specs.Forms.{tag, VALUE, SHAPE}
+use Rattle.forms.specs.Tags.{ENTITY-VALUE}
+use Rattle.words.specs.Bits.{member, added}
+use Rattle.table.specs.Layout.{rowsOf}
+use Rattle.fits.proofs.Walks.{next}
+use Rattle.typing.specs.Rules.{isAboveAt, ancestorRule, ofRecord}
+use Rattle.typing.specs.Paths.{WORDS, KIND-WORDS, Each, withAll, aboveAt}
+use Rattle.typing.proofs.PathSets.{member-zeros, each-none, each-added}
+use Rattle.typing.proofs.KeyRules.{ancestor-yes}
+
+-- ---- what is in the set passes
+
+empty : (n : ℕ) (f : ℕ → Bool) → Each (replicate n 0) f
+empty n f = each-none (replicate n 0) f (member-zeros n)
+
+seen-is : (s : List ℕ) (f : ℕ → Bool) → Each s f → (x : ℕ) (b : Bool) → b ≡ member s x → b ≡ true → true ≡ f x
+seen-is s f e x b eb h = sym (e .at x (omega arith) (sym eb ∙ h))
+
+-- ---- record types
+
+module _ (a : List ℕ) (g : ℕ → Bool) where
+  pub records-none : Each (replicate WORDS 0) (ofRecord a g)
+  records-none = empty WORDS (ofRecord a g)
+
+  module _ (y : ℕ) (b : Bool) where
+    pub record-seen : (s : List ℕ) → Each s (ofRecord a g) → b ≡ member s y → b ≡ true → true ≡ ofRecord a g y
+    record-seen s e = seen-is s (ofRecord a g) e y b
+
+    module _ (eb : b ≡ ofRecord a g y) where
+      pub record-fails : not b ≡ true → false ≡ ofRecord a g y
+      record-fails h = sym (not-true b h) ∙ eb
+
+      pub record-passes : not b ≡ false → true ≡ ofRecord a g y
+      record-passes h = sym (not-false b h) ∙ eb
+
+      pub record-joins : (s v : List ℕ) → Each s (ofRecord a g) → not b ≡ false → v ≡ added s y → Each v (ofRecord a g)
+      record-joins s v e h ev = subst (λ (u : List ℕ). Each u (ofRecord a g)) (sym ev) (each-added s (ofRecord a g) y e (sym (record-passes h)))
+
+-- ---- all numbers of a list
+
+all-pass : (l w : List ℕ) (f : ℕ → Bool) → Each w f → ((x : ℕ) → memN x l ≡ true → f x ≡ true) → Each (withAll w l) f
+unfolding withAll
+all-pass [] w f e h = e
+all-pass (y ∷ l) w f e h =
+    all-pass l (added w y) f (each-added w f y e (h y (or-left (eqb y y) (memN y l) (eq-eqb y y refl)))) (λ x m. h x (or-right (eqb x y) (memN x l) m))
+
+-- what is left of the shape's row q, from word i on, joins set v
+pub record Adding (a w q : List ℕ) (k : ℕ) (v : List ℕ) (i : ℕ) : Type 0 where
+  pub left : withAll w (aboveAt a k) ≡ withAll v (drop i q)
+
+module _ (a w q : List ℕ) (k : ℕ) where
+  pub adding-start : q ≡ getD (rowsOf a SHAPE) k [] → Adding a w q k w 3
+  adding-start eq = record { left = rw (← eq) }
+
+  module _ (v : List ℕ) (i : ℕ) (d : Adding a w q k v i) where
+    pub adding-on : (x : ℕ) (u : List ℕ) → i < length q → x ≡ getD q i 0 → u ≡ added v x → Adding a w q k u (i + 1)
+    unfolding withAll
+    adding-on x u h ex eu = record { left = d .left ∙ rw (next q i h, ← ex, eu) }
+
+    pub adding-end : length q ≤ i → v ≡ withAll w (aboveAt a k)
+    unfolding withAll
+    adding-end h = sym (d .left ∙ rw (drop-of-length-le q h))
+
+-- the kinds above kind k
+pub above-set : (a : List ℕ) (k : ℕ) (w v : List ℕ) → w ≡ replicate KIND-WORDS 0 → v ≡ withAll w (aboveAt a k) → Each v (isAboveAt a k)
+unfolding isAboveAt
+above-set a k w v ew ev =
+    subst (λ (u : List ℕ). Each u (isAboveAt a k)) (sym ev)
+    (all-pass (aboveAt a k) w (isAboveAt a k) (subst (λ (u : List ℕ). Each u (isAboveAt a k)) (sym ew) (empty KIND-WORDS (isAboveAt a k))) (λ x m. m))
+
+-- ---- an entity whose kind is in the set
+
+pub ancestor-seen : (a q : List ℕ) (x k t : ℕ) → q ≡ getD (rowsOf a VALUE) x [] → t ≡ tag q → t ≡ ENTITY-VALUE → (s : List ℕ) → Each s (isAboveAt a k) → (l : ℕ) (b : Bool) → l ≡ getD q 1 0 → b ≡ member s l → b ≡ true → true ≡ ancestorRule a x k
+ancestor-seen a q x k t eq et h s e l b el eb hb = ancestor-yes a q x k t eq et true l h el (seen-is s (isAboveAt a k) e l b eb hb)
