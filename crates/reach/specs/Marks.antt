@@ -21,7 +21,7 @@ VALUES = 1024
 
 -- the words of the table of parents' sets
 abbrev pub NEAR : ℕ
-NEAR = 512
+NEAR = 384
 
 -- marks: one for each line, then one for all entities that are not listed; here, for lines whose parents are `?`; then for parents whose numbers are
 -- past the table of those met

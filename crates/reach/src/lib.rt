@@ -31,7 +31,7 @@ pub const LINES: usize = 128;
 pub const VALUES: usize = 1024;
 
 // So many words has the table of parents' sets: entities come first among the values, and a short table is soon cleared.
-const NEAR: usize = 512;
+const NEAR: usize = 384;
 
 // After the marks of the lines comes the one of all entities that are not listed, then, here, that of lines whose parents are unknown, and that of
 // parents whose numbers a table does not have.
