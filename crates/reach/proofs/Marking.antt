@@ -118,7 +118,7 @@ queue-beside E m q t k c h = record {
   room = c .room;
   few = let a = left-before (length E) m k h in let b = c .few in omega (arith, a, b);
   queued = λ i l a. c .queued i l (set-cases m k i 1 0 (λ w. omega (arith, a, w)) (λ w x. absurd (omega (arith, w, l, h))));
-  back = λ j l. let d = c .back j l in (d .0, set-stays m k (getD q j 0) (d .1));
+  back = λ j l. let d = c .back j l in (d .0, set-stays m k (placeOf (getD q j 0) E) (d .1));
 }
 
 -- by nothing
@@ -151,26 +151,26 @@ module _ (E : List (List ℕ)) (v : ℕ) (m q : List ℕ) (t : ℕ) (c : Queue E
     longt : t < length q
     longt = let a = room-left E m q t k c h z in let b = c .room in omega (arith, a, b)
 
-    old : (j : ℕ) → j < t → getD (set q t k) j 0 ≡ getD q j 0
-    old j l = set-cases q t j k 0 (λ w. w) (λ w x. absurd (omega (arith, l, w)))
+    old : (j : ℕ) → j < t → getD (set q t v) j 0 ≡ getD q j 0
+    old j l = set-cases q t j v 0 (λ w. w) (λ w x. absurd (omega (arith, l, w)))
 
-    here : getD (set q t k) t 0 ≡ k
-    here = getD-set-same q t k 0 longt
+    here : placeOf (getD (set q t v) t 0) E ≡ k
+    here = ap (λ y. placeOf y E) (getD-set-same q t v 0 longt) ∙ sym e
 
-    pub grown-one : Grown E v m q t (set m k 1) (set q t k) (t + 1)
+    pub grown-one : Grown E v m q t (set m k 1) (set q t v) (t + 1)
     grown-one = record {
       queue = record {
         lines = c .lines;
         marks = let a = length-set m k 1 in let b = c .marks in omega (arith, a, b);
-        room = let a = length-set q t k in let b = c .room in omega (arith, a, b);
+        room = let a = length-set q t v in let b = c .room in omega (arith, a, b);
         few = let a = left-less (length E) m k h longm z in let b = c .few in omega (arith, a, b);
         queued = λ i l a. set-cases m k i 1 0
-            (λ w. let (j, g, x) = c .queued i l (omega (arith, a, w)) in (j, omega (arith, g), old j g ∙ x))
+            (λ w. let (j, g, x) = c .queued i l (omega (arith, a, w)) in (j, omega (arith, g), ap (λ y. placeOf y E) (old j g) ∙ x))
             (λ w x. (t, omega arith, here ∙ sym w));
         back = λ j l. last j l (eqb j t) refl;
       };
       long = length-set m k 1;
-      longq = length-set q t k;
+      longq = length-set q t v;
       more = omega arith;
       same = old;
       kept = λ i a. set-stays m k i a;
@@ -179,10 +179,10 @@ module _ (E : List (List ℕ)) (v : ℕ) (m q : List ℕ) (t : ℕ) (c : Queue E
       hidden = mine-hidden;
     }
       where
-        last : (j : ℕ) → j < t + 1 → (b : Bool) → eqb j t ≡ b → (getD (set q t k) j 0 < length E) × (1 ≤ getD (set m k 1) (getD (set q t k) j 0) 0)
-        last j l true y = let a = eqb-true j t y in let b : getD (set q t k) j 0 ≡ k = subst (λ i. getD (set q t k) i 0 ≡ k) (sym a) here in (omega (arith, b, h), subst (λ i. 1 ≤ getD (set m k 1) i 0) (sym b) mine)
-        last j l false y = let a = eqb-false j t y in let g : j < t = omega (arith, a, l) in let b = old j g in let d = c .back j g in
-            (let x = d .0 in omega (arith, b, x), subst (λ i. 1 ≤ getD (set m k 1) i 0) (sym b) (set-stays m k (getD q j 0) (d .1)))
+        last : (j : ℕ) → j < t + 1 → (b : Bool) → eqb j t ≡ b → (placeOf (getD (set q t v) j 0) E < length E) × (1 ≤ getD (set m k 1) (placeOf (getD (set q t v) j 0) E) 0)
+        last j l true y = let a = eqb-true j t y in let b : placeOf (getD (set q t v) j 0) E ≡ k = subst (λ i. placeOf (getD (set q t v) i 0) E ≡ k) (sym a) here in (omega (arith, b, h), subst (λ i. 1 ≤ getD (set m k 1) i 0) (sym b) mine)
+        last j l false y = let a = eqb-false j t y in let g : j < t = omega (arith, a, l) in let b = ap (λ y. placeOf y E) (old j g) in let d = c .back j g in
+            (let x = d .0 in omega (arith, b, x), subst (λ i. 1 ≤ getD (set m k 1) i 0) (sym b) (set-stays m k (placeOf (getD q j 0) E) (d .1)))
 
 -- ---- parents are met
 
@@ -373,9 +373,9 @@ pub record Marks (U E : List (List ℕ)) (v : ℕ) (s w m q : List ℕ) (t h : �
   pub only : (k : ℕ) → k ≤ length E → 1 ≤ getD m k 0 → (x : ℕ) × (placeOf x E ≡ k) × Self U E v x
   pub onlyw : (y : ℕ) → 1 ≤ getD w y 0 → memN y (ancestors U E v) ≡ true
   pub own : 1 ≤ getD m (placeOf v E) 0
-  pub done : (j : ℕ) → j < h → (i : ℕ) → i < length (parentsIn U E (getD E (getD q j 0) [])) → Taken E w m (getD (parentsIn U E (getD E (getD q j 0) [])) i 0)
+  pub done : (j : ℕ) → j < h → (i : ℕ) → i < length (parentsIn U E (getD E (placeOf (getD q j 0) E) [])) → Taken E w m (getD (parentsIn U E (getD E (placeOf (getD q j 0) E) [])) i 0)
   pub hidden : 1 ≤ getD m HIDDEN 0 → (k : ℕ) × (k < length E) × (1 ≤ getD m k 0) × (unknownAt E k ≡ true)
-  pub shown : (j : ℕ) → j < h → unknownAt E (getD q j 0) ≡ true → 1 ≤ getD m HIDDEN 0
+  pub shown : (j : ℕ) → j < h → unknownAt E (placeOf (getD q j 0) E) ≡ true → 1 ≤ getD m HIDDEN 0
 
 module _ (U E : List (List ℕ)) (v : ℕ) where
   -- a parent of what is reached is reached
@@ -384,7 +384,7 @@ module _ (U E : List (List ℕ)) (v : ℕ) where
   up x y (inr h) i = closed-above U E v x y h i
 
   -- the next line is looked at
-  module _ (s w m q : List ℕ) (t h : ℕ) (c : Marks U E v s w m q t h) (lt : h < t) (k : ℕ) (ek : k ≡ getD q h 0) (x : ℕ) (ex : x ≡ at (getD E k []) 3) (m₁ : List ℕ) (o : Opened x m m₁) where
+  module _ (s w m q : List ℕ) (t h : ℕ) (c : Marks U E v s w m q t h) (lt : h < t) (k : ℕ) (ek : k ≡ placeOf (getD q h 0) E) (x : ℕ) (ex : x ≡ at (getD E k []) 3) (m₁ : List ℕ) (o : Opened x m m₁) where
     pub marks-open : Marks U E v s w m₁ q t h
     unfolding unknownAt
     marks-open = record {
@@ -395,7 +395,7 @@ module _ (U E : List (List ℕ)) (v : ℕ) where
       only = λ i a b. c .only i a (opened-back x m m₁ o i (let z = c .queue .lines in omega (arith, z, a)) b);
       onlyw = c .onlyw;
       own = opened-kept x m m₁ o (placeOf v E) (c .own);
-      done = λ j a i b. opened-taken x m m₁ o E w (getD (parentsIn U E (getD E (getD q j 0) [])) i 0) (c .done j a i b);
+      done = λ j a i b. opened-taken x m m₁ o E w (getD (parentsIn U E (getD E (placeOf (getD q j 0) E) [])) i 0) (c .done j a i b);
       hidden = λ a. opened-cases x m m₁ o
           (λ e. let (i, l, b, z) = c .hidden (subst (λ u. 1 ≤ getD u HIDDEN 0) e a) in (i, l, opened-kept x m m₁ o i b, z))
           (λ z e. let b = c .queue .back h lt in (k, let d = b .0 in omega (arith, d, ek), opened-kept x m m₁ o k (subst (λ i. 1 ≤ getD m i 0) (sym ek) (b .1)), eq-eqb (at (getD E k []) 3) mark (sym ex ∙ z)));
@@ -407,7 +407,7 @@ module _ (U E : List (List ℕ)) (v : ℕ) where
     marks-shown e = let z = o .unknown (ex ∙ eqb-true (at (getD E k []) 3) mark e) in let a = getD-set-same m HIDDEN 1 0 (let b = c .queue .marks in omega (arith, b)) in subst (λ u. 1 ≤ getD u HIDDEN 0) (sym z) (omega (arith, a))
 
   -- its parents are met
-  module _ (s w m q : List ℕ) (t h : ℕ) (c : Marks U E v s w m q t h) (lt : h < t) (k : ℕ) (ek : k ≡ getD q h 0) (x : ℕ) (ex : x ≡ at (getD E k []) 3) (sh : unknownAt E k ≡ true → 1 ≤ getD m HIDDEN 0) (s′ w′ m′ q′ : List ℕ) (t′ : ℕ) (g : Expanded U E x s w m q t s′ w′ m′ q′ t′) where
+  module _ (s w m q : List ℕ) (t h : ℕ) (c : Marks U E v s w m q t h) (lt : h < t) (k : ℕ) (ek : k ≡ placeOf (getD q h 0) E) (x : ℕ) (ex : x ≡ at (getD E k []) 3) (sh : unknownAt E k ≡ true → 1 ≤ getD m HIDDEN 0) (s′ w′ m′ q′ : List ℕ) (t′ : ℕ) (g : Expanded U E x s w m q t s′ w′ m′ q′ t′) where
     seen : Seen E (parentsIn U E (getD E k [])) (length (parentsIn U E (getD E k []))) w m q t w′ m′ q′ t′
     seen = subst (λ (y : ℕ). Seen E (named U y) (length (named U y)) w m q t w′ m′ q′ t′) ex (g .seen)
 
@@ -427,17 +427,20 @@ module _ (U E : List (List ℕ)) (v : ℕ) where
     new-onlyw y (inl b) = c .onlyw y b
     new-onlyw y (inr (j, b, e)) = subst (λ z. memN z (ancestors U E v) ≡ true) e (on-it j b)
 
+    queued-same : (j : ℕ) → j < t → placeOf (getD q j 0) E ≡ placeOf (getD q′ j 0) E
+    queued-same j l = ap (λ y. placeOf y E) (sym (seen .same j l))
+
     After : ℕ → Type 0
     After n = (i : ℕ) → i < length (parentsIn U E (getD E n [])) → Taken E w′ m′ (getD (parentsIn U E (getD E n [])) i 0)
 
-    each : (j : ℕ) → j < h + 1 → (b : Bool) → eqb j h ≡ b → After (getD q′ j 0)
+    each : (j : ℕ) → j < h + 1 → (b : Bool) → eqb j h ≡ b → After (placeOf (getD q′ j 0) E)
     unfolding After
-    each j a true e = let z = eqb-true j h e in subst After (ek ∙ sym (seen .same h lt) ∙ ap (λ i. getD q′ i 0) (sym z)) (seen .full)
-    each j a false e = let z = eqb-false j h e in let b : j < h = omega (arith, a, z) in subst After (sym (seen .same j (omega (arith, b, lt)))) (λ i x. taken-on E w m w′ m′ (getD (parentsIn U E (getD E (getD q j 0) [])) i 0) (seen .longw) (seen .kept) (seen .keptw) (c .done j b i x))
+    each j a true e = let z = eqb-true j h e in subst After (ek ∙ queued-same h lt ∙ ap (λ i. placeOf (getD q′ i 0) E) (sym z)) (seen .full)
+    each j a false e = let z = eqb-false j h e in let b : j < h = omega (arith, a, z) in subst After (queued-same j (omega (arith, b, lt))) (λ i x. taken-on E w m w′ m′ (getD (parentsIn U E (getD E (placeOf (getD q j 0) E) [])) i 0) (seen .longw) (seen .kept) (seen .keptw) (c .done j b i x))
 
-    before : (j : ℕ) → j < h + 1 → (b : Bool) → eqb j h ≡ b → unknownAt E (getD q′ j 0) ≡ true → 1 ≤ getD m HIDDEN 0
-    before j a true e f = let z = eqb-true j h e in sh (subst (λ i. unknownAt E i ≡ true) (sym (ek ∙ sym (seen .same h lt) ∙ ap (λ i. getD q′ i 0) (sym z))) f)
-    before j a false e f = let z = eqb-false j h e in let b : j < h = omega (arith, a, z) in c .shown j b (subst (λ i. unknownAt E i ≡ true) (seen .same j (omega (arith, b, lt))) f)
+    before : (j : ℕ) → j < h + 1 → (b : Bool) → eqb j h ≡ b → unknownAt E (placeOf (getD q′ j 0) E) ≡ true → 1 ≤ getD m HIDDEN 0
+    before j a true e f = let z = eqb-true j h e in sh (subst (λ i. unknownAt E i ≡ true) (sym (ek ∙ queued-same h lt ∙ ap (λ i. placeOf (getD q′ i 0) E) (sym z))) f)
+    before j a false e f = let z = eqb-false j h e in let b : j < h = omega (arith, a, z) in c .shown j b (subst (λ i. unknownAt E i ≡ true) (sym (queued-same j (omega (arith, b, lt)))) f)
 
     pub marks-on : Marks U E v s′ w′ m′ q′ t′ (h + 1)
     unfolding After
@@ -490,7 +493,7 @@ module _ (U E : List (List ℕ)) (v : ℕ) where
 
       step : (x y : ℕ) → 1 ≤ getD m (placeOf x E) 0 → memN y (parents U E x) ≡ true → Taken E w m y
       step x y f i = let l = with-parents U E x y i in let (j, a, b) = c .queue .queued (placeOf x E) l f in
-          found y (parentsIn U E (getD E (getD q j 0) [])) (c .done j (omega (arith, a, e))) (subst (λ z. memN y z ≡ true) (parents-at U E x l ∙ ap (λ n. parentsIn U E (getD E n [])) (sym b)) i)
+          found y (parentsIn U E (getD E (placeOf (getD q j 0) E) [])) (c .done j (omega (arith, a, e))) (subst (λ z. memN y z ≡ true) (parents-at U E x l ∙ ap (λ n. parentsIn U E (getD E n [])) (sym b)) i)
 
       every : (y : ℕ) → memN y (ancestors U E v) ≡ true → Taken E w m y
       every y i = all-above U E (Taken E w m) v (λ z j. step v z (c .own) j) (λ x z p j. step x z (p .0) j) y i

@@ -20,7 +20,7 @@ use Rattle.forms.specs.Tags.{SET-VALUE}
 use Rattle.table.specs.Layout.{base, part, rowsOf}
 use Rattle.table.proofs.Rows.{count-rows, row-at-is, row-some}
 use Rattle.value.proofs.Lists.{uncons, spent}
-use Rattle.reach.specs.Marks.{LINES, VALUES, HIDDEN, FAR, lineRows, placeOf, named, Filled, Indexed, Listed, Queue, Grown, Noted, Opened, Taken, Spot, Skipped, Seen, Spread, Expanded, Found, markedAt, anyMarked, namesAt, isMet, anyMet}
+use Rattle.reach.specs.Marks.{LINES, VALUES, NEAR, HIDDEN, FAR, lineRows, placeOf, named, Filled, Indexed, Listed, Queue, Grown, Noted, Opened, Taken, Spot, Skipped, Seen, Spread, Expanded, Found, markedAt, anyMarked, namesAt, isMet, anyMet}
 use Rattle.reach.proofs.Marking.{Marks, grown-old, grown-beside, grown-one, room-left, taken-on, seen-none, seen-old, seen-more, seen-skip, opened-long, marks-open, marks-shown, marks-on, marks-end, marks-start, queue-start}
 
 -- ---- lines, line_at
@@ -125,8 +125,12 @@ pub index-start : (a p p′ : List ℕ) (n : ℕ) → n ≡ length (lineRows a) 
 unfolding placeOf
 index-start a p p′ n e f = record { long = refl; near = omega (arith, e); is = λ v h. let y : placeOf v (drop n (lineRows a)) ≡ 0 = ap (placeOf v) (spent (lineRows a) n (omega (arith, e))) in let z = f .is v h in omega (arith, y, z) }
 
-index-step : (a p₀ p : List ℕ) (j : ℕ) → Indexing a p₀ p (j + 1) → (r : List ℕ) (x : ℕ) → r ≡ getD (lineRows a) j [] → x ≡ getD r 1 0 → Indexing a p₀ (set p x j) j
+-- an entity's place among the lines from j on, by the first of them
+front-line : (a : List ℕ) (j : ℕ) → j < length (lineRows a) → (r : List ℕ) (x : ℕ) → r ≡ getD (lineRows a) j [] → x ≡ getD r 1 0 → (v : ℕ) → placeOf v (drop j (lineRows a)) ≡ cond (eqb x v) 0 (suc (placeOf v (drop (j + 1) (lineRows a))))
 unfolding placeOf
+front-line a j h r x er ex v = ap (placeOf v) (uncons (lineRows a) [] j h) ∙ ap (λ (y : ℕ). cond (eqb y v) 0 (suc (placeOf v (drop (j + 1) (lineRows a))))) (ap (λ (q : List ℕ). getD q 1 0) (sym er) ∙ sym ex)
+
+index-step : (a p₀ p : List ℕ) (j : ℕ) → Indexing a p₀ p (j + 1) → (r : List ℕ) (x : ℕ) → r ≡ getD (lineRows a) j [] → x ≡ getD r 1 0 → Indexing a p₀ (set p x j) j
 index-step a p₀ p j c r x er ex = record {
   long = length-set p x j ∙ c .long;
   near = let z = c .near in omega (arith, z);
@@ -134,8 +138,7 @@ index-step a p₀ p j c r x er ex = record {
 }
   where
     front : (v : ℕ) → placeOf v (drop j (lineRows a)) ≡ cond (eqb x v) 0 (suc (placeOf v (drop (j + 1) (lineRows a))))
-    front v = ap (placeOf v) (uncons (lineRows a) [] j (let y = c .near in omega (arith, y)))
-        ∙ ap (λ (y : ℕ). cond (eqb y v) 0 (suc (placeOf v (drop (j + 1) (lineRows a))))) (ap (λ (q : List ℕ). getD q 1 0) (sym er) ∙ sym ex)
+    front = front-line a j (let y = c .near in omega (arith, y)) r x er ex
 
     go : (v : ℕ) → v < length p → (b : Bool) → eqb x v ≡ b → getD (set p x j) v 0 ≡ j + placeOf v (drop j (lineRows a))
     go v h true e = let y : placeOf v (drop j (lineRows a)) ≡ 0 = front v ∙ ap (λ (b : Bool). cond b 0 (suc (placeOf v (drop (j + 1) (lineRows a))))) e in
@@ -143,17 +146,33 @@ index-step a p₀ p j c r x er ex = record {
     go v h false e = let y : placeOf v (drop j (lineRows a)) ≡ suc (placeOf v (drop (j + 1) (lineRows a))) = front v ∙ ap (λ (b : Bool). cond b 0 (suc (placeOf v (drop (j + 1) (lineRows a))))) e in
         let z = c .is v h in let w = eqb-false x v e in set-cases p x v j 0 (λ q. omega (arith, y, z, q)) (λ q u. absurd (w (sym q)))
 
+-- of the entities of lines from i on the words are the last items of their lines
+pub record Listing (a u : List ℕ) (i : ℕ) : Type 0 where
+  pub is : (v : ℕ) → v < length u → (k : ℕ) → k ≡ i + placeOf v (drop i (lineRows a)) → k < length (lineRows a) → getD u v 0 ≡ at (getD (lineRows a) k []) 3
+
+list-step : (a u : List ℕ) (j : ℕ) → j < length (lineRows a) → Listing a u (j + 1) → (r : List ℕ) (x y : ℕ) → r ≡ getD (lineRows a) j [] → x ≡ getD r 4 0 → y ≡ getD r 1 0 → Listing a (set u y x) j
+list-step a u j lj c r x y er ex ey = record { is = λ v h k ek lk. go v (let z = length-set u y x in omega (arith, z, h)) k ek lk (eqb y v) refl }
+  where
+    front : (v : ℕ) → placeOf v (drop j (lineRows a)) ≡ cond (eqb y v) 0 (suc (placeOf v (drop (j + 1) (lineRows a))))
+    front = front-line a j lj r y er ey
+
+    go : (v : ℕ) → v < length u → (k : ℕ) → k ≡ j + placeOf v (drop j (lineRows a)) → k < length (lineRows a) → (b : Bool) → eqb y v ≡ b → getD (set u y x) v 0 ≡ at (getD (lineRows a) k []) 3
+    go v h k ek lk true e = let z : placeOf v (drop j (lineRows a)) ≡ 0 = front v ∙ ap (λ (b : Bool). cond b 0 (suc (placeOf v (drop (j + 1) (lineRows a))))) e in
+        let w : getD (set u y x) v 0 ≡ x = subst (λ (n : ℕ). getD (set u y x) n 0 ≡ x) (eqb-true y v e) (getD-set-same u y x 0 (let w = eqb-true y v e in omega (arith, w, h))) in
+        w ∙ ex ∙ ap (λ (q : List ℕ). getD q 4 0) er ∙ ap (λ (n : ℕ). at (getD (lineRows a) n []) 3) (let m : j ≡ k = omega (arith, z, ek) in m)
+    go v h k ek lk false e = let z : placeOf v (drop j (lineRows a)) ≡ suc (placeOf v (drop (j + 1) (lineRows a))) = front v ∙ ap (λ (b : Bool). cond b 0 (suc (placeOf v (drop (j + 1) (lineRows a))))) e in
+        let w = eqb-false y v e in set-cases u y v x 0 (λ q. q ∙ c .is v h k (omega (arith, z, ek)) lk) (λ q n. absurd (w (sym q)))
+
 -- from the last line to line i: each begins where word `base ENTITY` and its number says, and ends at e, where the next one begins
 pub record Walking (a p₀ u₀ p u : List ℕ) (b i e : ℕ) : Type 0 where
   pub index : Indexing a p₀ p i
   pub longu : length u ≡ length u₀
-  pub room : LINES ≤ length u
   pub low : b ≡ base ENTITY
   pub end : e ≡ getD a (b + i) 0
-  pub listed : (k : ℕ) → i ≤ k → k < length (lineRows a) → getD u k 0 ≡ at (getD (lineRows a) k []) 3
+  pub listing : Listing a u i
 
-pub walk-start : (a p p′ u : List ℕ) (b n e : ℕ) → (n ≡ length (lineRows a)) × (n ≤ LINES) → Filled n p p′ → LINES ≤ length u → b ≡ base ENTITY → e ≡ getD a (b + n) 0 → Walking a p′ u p′ u b n e
-walk-start a p p′ u b n e en f h eb ee = record { index = index-start a p p′ n (en .0) f; longu = refl; room = h; low = eb; end = ee; listed = λ k l z. let y = en .0 in absurd (omega (arith, l, z, y)) }
+pub walk-start : (a p p′ u : List ℕ) (b n e : ℕ) → (n ≡ length (lineRows a)) × (n ≤ LINES) → Filled n p p′ → b ≡ base ENTITY → e ≡ getD a (b + n) 0 → Walking a p′ u p′ u b n e
+walk-start a p p′ u b n e en f eb ee = record { index = index-start a p p′ n (en .0) f; longu = refl; low = eb; end = ee; listing = record { is = λ v h k l z. let y = en .0 in absurd (omega (arith, l, z, y)) } }
 
 module _ (a p₀ u₀ p u : List ℕ) (b i e : ℕ) (c : Walking a p₀ u₀ p u b i e) (h : 0 < i) where
   pub walk-byte : i - 1 < 256
@@ -165,33 +184,33 @@ module _ (a p₀ u₀ p u : List ℕ) (b i e : ℕ) (c : Walking a p₀ u₀ p u
       (row-some a ENTITY (i - 1) (getD a ENTITY 0) b r refl (omega (arith, z, y, h)) (c .low)
       (row-at-is a (b + (i - 1)) s e r es (c .end ∙ ap (λ (j : ℕ). getD a j 0) (let w : b + i ≡ b + (i - 1) + 1 = omega (arith, h) in w)) er))
 
-  pub walk-on : (s : ℕ) (r : List ℕ) (x y : ℕ) (u′ p′ : List ℕ) → s ≡ getD a (b + (i - 1)) 0 → r ≡ part a s e → x ≡ getD r 4 0 → u′ ≡ set u (i - 1) x → y ≡ getD r 1 0 → p′ ≡ set p y (i - 1) → Walking a p₀ u₀ p′ u′ b (i - 1) s
-  walk-on s r x y u′ p′ es er ex eu ey ep = record {
-    index = subst (λ (w : List ℕ). Indexing a p₀ w (i - 1)) (sym ep) (index-step a p₀ p (i - 1) (subst (Indexing a p₀ p) (let z : i ≡ i - 1 + 1 = omega (arith, h) in z) (c .index)) r y (walk-line s r es er) ey);
-    longu = ap length eu ∙ length-set u (i - 1) x ∙ c .longu;
-    room = let z = ap length eu ∙ length-set u (i - 1) x in let w = c .room in omega (arith, z, w);
+  pub walk-on : (s : ℕ) (r : List ℕ) (x y : ℕ) (u′ p′ : List ℕ) → s ≡ getD a (b + (i - 1)) 0 → r ≡ part a s e → y ≡ getD r 1 0 → x ≡ getD r 4 0 → u′ ≡ set u y x → p′ ≡ set p y (i - 1) → Walking a p₀ u₀ p′ u′ b (i - 1) s
+  walk-on s r x y u′ p′ es er ey ex eu ep = record {
+    index = subst (λ (w : List ℕ). Indexing a p₀ w (i - 1)) (sym ep) (index-step a p₀ p (i - 1) (subst (Indexing a p₀ p) back (c .index)) r y (walk-line s r es er) ey);
+    longu = ap length eu ∙ length-set u y x ∙ c .longu;
     low = c .low;
     end = es;
-    listed = λ k l z. subst (λ (w : List ℕ). getD w k 0 ≡ at (getD (lineRows a) k []) 3) (sym eu) (each k l z (eqb k (i - 1)) refl);
+    listing = subst (λ (w : List ℕ). Listing a w (i - 1)) (sym eu) (list-step a u (i - 1) (let z = c .index .near in omega (arith, z, h)) (subst (Listing a u) back (c .listing)) r x y (walk-line s r es er) ex ey);
   }
     where
-      each : (k : ℕ) → i - 1 ≤ k → k < length (lineRows a) → (d : Bool) → eqb k (i - 1) ≡ d → getD (set u (i - 1) x) k 0 ≡ at (getD (lineRows a) k []) 3
-      each k l z true q = let j = eqb-true k (i - 1) q in let n = c .index .near in let w = lines-most a in let v = c .room in
-          subst (λ (j : ℕ). getD (set u (i - 1) x) j 0 ≡ at (getD (lineRows a) j []) 3) (sym j) (getD-set-same u (i - 1) x 0 (omega (arith, n, w, v, h)) ∙ ex ∙ ap (λ (q : List ℕ). getD q 4 0) (walk-line s r es er))
-      each k l z false q = let j = eqb-false k (i - 1) q in set-cases u (i - 1) k x 0 (λ w. w ∙ c .listed k (omega (arith, l, j, h)) z) (λ w v. absurd (j w))
+      back : i ≡ i - 1 + 1
+      back = omega (arith, h)
 
 module _ (a p₀ u₀ p u : List ℕ) (b i e : ℕ) (c : Walking a p₀ u₀ p u b i e) (h : i ≤ 0) where
   pub walk-indexed : Indexed (lineRows a) p
   walk-indexed = record { is = λ v l. let z : i ≡ 0 = omega (arith, h) in let y : getD p v 0 ≡ 0 + placeOf v (lineRows a) = c .index .is v l ∙ ap (λ (j : ℕ). j + placeOf v (drop j (lineRows a))) z in omega (arith, y) }
 
   pub walk-listed : Listed (lineRows a) u
-  walk-listed = record { is = λ k l. c .listed k (omega (arith, h)) l }
-
-pub likely-is : (u : List ℕ) (n g x : ℕ) → n ≡ g → x ≡ getD u g 0 → x ≡ getD u n 0
-likely-is u n g x e h = h ∙ ap (λ (j : ℕ). getD u j 0) (sym e)
+  walk-listed = record { is = λ v l. c .listing .is v l (placeOf v (lineRows a)) (let z : i ≡ 0 = omega (arith, h) in let y : i + placeOf v (drop i (lineRows a)) ≡ 0 + placeOf v (lineRows a) = ap (λ (j : ℕ). j + placeOf v (drop j (lineRows a))) z in omega (arith, y)) }
 
 pub place-in : (a p : List ℕ) (v : ℕ) → Indexed (lineRows a) p → v < length p → getD p v 0 ≡ placeOf v (lineRows a)
 place-in a p v c h = c .is v h
+
+pub set-far : (a : List ℕ) (v k : ℕ) (r : List ℕ) (x : ℕ) → k ≡ placeOf v (lineRows a) → r ≡ getD (lineRows a) k [] → x ≡ getD r 4 0 → x ≡ at (getD (lineRows a) (placeOf v (lineRows a)) []) 3
+set-far a v k r x ek er ex = ex ∙ ap (λ (q : List ℕ). getD q 4 0) (er ∙ ap (λ (n : ℕ). getD (lineRows a) n []) ek)
+
+pub set-near : (a u : List ℕ) (v : ℕ) → Listed (lineRows a) u → v < length u → placeOf v (lineRows a) < length (lineRows a) → getD u v 0 ≡ at (getD (lineRows a) (placeOf v (lineRows a)) []) 3
+set-near a u v c h l = c .is v h l
 
 -- ---- parents_of
 
@@ -243,7 +262,7 @@ module _ (a : List ℕ) (v : ℕ) (m q : List ℕ) (t : ℕ) (c : Queue (lineRow
     pub see-room : k < n → t < LINES
     see-room h = let y = en .0 in let z = room-left (lineRows a) m q t k c (omega (arith, h, y)) (sym ex ∙ e) in let w = lines-most a in omega (arith, z, w)
 
-    pub see-new : k < n → (q′ : List ℕ) → q′ ≡ set q t k → Grown (lineRows a) v m q t m′ q′ (t + 1)
+    pub see-new : k < n → (q′ : List ℕ) → q′ ≡ set q t v → Grown (lineRows a) v m q t m′ q′ (t + 1)
     see-new h q′ eq = subst (λ (w : List ℕ). Grown (lineRows a) v m q t w q′ (t + 1)) (sym em) (subst (λ (w : List ℕ). Grown (lineRows a) v m q t (set m k 1) w (t + 1)) (sym eq) (grown-one (lineRows a) v m q t c k ek (let y = en .0 in omega (arith, h, y)) (sym ex ∙ e)))
 
 pub note-far : (n v : ℕ) (m m′ : List ℕ) → n ≤ v → m′ ≡ set m FAR 1 → Noted n v m m′
@@ -341,7 +360,7 @@ pub record Going (a : List ℕ) (v : ℕ) (p u w₀ m₀ s w m q : List ℕ) (t 
   pub long : length m ≡ length m₀
   pub longp : length p ≡ VALUES
   pub longs : length s ≡ VALUES
-  pub longu : length u ≡ LINES
+  pub longu : length u ≡ NEAR
   pub longq : length q ≡ LINES
   pub indexed : Indexed (lineRows a) p
   pub listed : Listed (lineRows a) u
@@ -364,20 +383,23 @@ module _ (a : List ℕ) (v : ℕ) where
   pub reach-queue : (m m₁ q : List ℕ) → FAR < length m → Filled 0 m m₁ → length q ≡ LINES → Queue (lineRows a) m₁ q 0
   reach-queue m m₁ q h c e = queue-start (rowsOf a VALUE) (lineRows a) v m₁ q few (let z = c .long in omega (arith, z, h)) (let z = lines-most a in omega (arith, z, e)) (c .is)
 
-  pub going-start : (m m₁ m₂ w w₁ p u s s₁ q q₂ : List ℕ) (t : ℕ) → FAR < length m → Filled 0 m m₁ → Filled 0 w w₁ → length p ≡ VALUES → length u ≡ LINES → length s ≡ VALUES → length q ≡ LINES → Filled 0 s s₁ → Indexed (lineRows a) p × Listed (lineRows a) u → Grown (lineRows a) v m₁ q 0 m₂ q₂ t → Going a v p u w₁ m₂ s₁ w₁ m₂ q₂ t 0
+  pub going-start : (m m₁ m₂ w w₁ p u s s₁ q q₂ : List ℕ) (t : ℕ) → FAR < length m → Filled 0 m m₁ → Filled 0 w w₁ → length p ≡ VALUES → length u ≡ NEAR → length s ≡ VALUES → length q ≡ LINES → Filled 0 s s₁ → Indexed (lineRows a) p × Listed (lineRows a) u → Grown (lineRows a) v m₁ q 0 m₂ q₂ t → Going a v p u w₁ m₂ s₁ w₁ m₂ q₂ t 0
   going-start m m₁ m₂ w w₁ p u s s₁ q q₂ t h c cw np nu ns nq d i g = let x = marks-start (rowsOf a VALUE) (lineRows a) v s₁ w₁ m₁ q m₂ q₂ t few (let z = c .long in omega (arith, z, h)) (c .is) (none-there s s₁ d) (none-there w w₁ cw) g in
       record { longw = refl; long = refl; longp = np; longu = nu; longs = d .long ∙ ns; longq = g .longq ∙ nq; indexed = i .0; listed = i .1; queue = x .queue; spot = x .spot; spread = x .spread; marks = x }
 
   module _ (p u w₀ m₀ s w m q : List ℕ) (t h : ℕ) (c : Going a v p u w₀ m₀ s w m q t h) where
-    module _ (l : h < t) (k : ℕ) (ek : k ≡ getD q h 0) (x : ℕ) (ex : x ≡ getD u k 0) (m₁ : List ℕ) (o : Opened x m m₁) where
-      last-item : x ≡ at (getD (lineRows a) k []) 3
-      last-item = ex ∙ c .listed .is k (let z = c .queue .back h l .0 in omega (arith, z, ek))
+    pub going-there : h < t → (y : ℕ) → y ≡ getD q h 0 → placeOf y (lineRows a) < length (lineRows a)
+    going-there l y ey = subst (λ (n : ℕ). placeOf n (lineRows a) < length (lineRows a)) (sym ey) (c .queue .back h l .0)
+
+    module _ (l : h < t) (y : ℕ) (ey : y ≡ getD q h 0) (x : ℕ) (ex : x ≡ at (getD (lineRows a) (placeOf y (lineRows a)) []) 3) (m₁ : List ℕ) (o : Opened x m m₁) where
+      ek : placeOf y (lineRows a) ≡ placeOf (getD q h 0) (lineRows a)
+      ek = ap (λ (n : ℕ). placeOf n (lineRows a)) ey
 
       pub going-open : Marks (rowsOf a VALUE) (lineRows a) v s w m₁ q t h
-      going-open = marks-open (rowsOf a VALUE) (lineRows a) v s w m q t h (c .marks) l k ek x last-item m₁ o
+      going-open = marks-open (rowsOf a VALUE) (lineRows a) v s w m q t h (c .marks) l (placeOf y (lineRows a)) ek x ex m₁ o
 
       pub going-on : (s′ w′ m′ q′ : List ℕ) (t′ : ℕ) → Expanded (rowsOf a VALUE) (lineRows a) x s w m₁ q t s′ w′ m′ q′ t′ → Going a v p u w₀ m₀ s′ w′ m′ q′ t′ (h + 1)
-      going-on s′ w′ m′ q′ t′ g = record { longw = g .seen .longw ∙ c .longw; long = g .seen .long ∙ opened-long x m m₁ o ∙ c .long; longp = c .longp; longu = c .longu; longs = g .long ∙ c .longs; longq = g .seen .longq ∙ c .longq; indexed = c .indexed; listed = c .listed; queue = g .seen .queue; spot = g .seen .spot; spread = g .spread; marks = marks-on (rowsOf a VALUE) (lineRows a) v s w m₁ q t h going-open l k ek x last-item (marks-shown (rowsOf a VALUE) (lineRows a) v s w m q t h (c .marks) l k ek x last-item m₁ o) s′ w′ m′ q′ t′ g }
+      going-on s′ w′ m′ q′ t′ g = record { longw = g .seen .longw ∙ c .longw; long = g .seen .long ∙ opened-long x m m₁ o ∙ c .long; longp = c .longp; longu = c .longu; longs = g .long ∙ c .longs; longq = g .seen .longq ∙ c .longq; indexed = c .indexed; listed = c .listed; queue = g .seen .queue; spot = g .seen .spot; spread = g .spread; marks = marks-on (rowsOf a VALUE) (lineRows a) v s w m₁ q t h going-open l (placeOf y (lineRows a)) ek x ex (marks-shown (rowsOf a VALUE) (lineRows a) v s w m q t h (c .marks) l (placeOf y (lineRows a)) ek x ex m₁ o) s′ w′ m′ q′ t′ g }
 
     pub going-less : h < t → length (lineRows a) - (h + 1) < length (lineRows a) - h
     going-less l = let z = c .queue .few in omega (arith, z, l)

@@ -19,6 +19,10 @@ LINES = 128
 abbrev pub VALUES : ℕ
 VALUES = 1024
 
+-- the words of the table of parents' sets
+abbrev pub NEAR : ℕ
+NEAR = 384
+
 -- marks: one for each line, then one for all entities that are not listed; here, for lines whose parents are `?`; then for parents whose numbers are
 -- past the table of those met
 abbrev pub HIDDEN : ℕ
@@ -49,25 +53,25 @@ pub record Filled (x : ℕ) (w w′ : List ℕ) : Type 0 where
 pub record Indexed (E : List (List ℕ)) (p : List ℕ) : Type 0 where
   pub is : (v : ℕ) → v < length p → getD p v 0 ≡ placeOf v E
 
--- word k is the item of line k that names its parents
+-- word v is the item of the line of entity v that names its parents
 pub record Listed (E : List (List ℕ)) (u : List ℕ) : Type 0 where
-  pub is : (k : ℕ) → k < length E → getD u k 0 ≡ at (getD E k []) 3
+  pub is : (v : ℕ) → v < length u → placeOf v E < length E → getD u v 0 ≡ at (getD E (placeOf v E) []) 3
 
 -- how many of the first n lines are not marked
 unfoldable pub left : ℕ → List ℕ → ℕ
 left zero m = 0
 left (suc n) m = (1 - getD m n 0) + left n m
 
--- the first t words of q are the places of the marked lines
+-- the first t words of q are the entities of the marked lines
 pub record Queue (E : List (List ℕ)) (m q : List ℕ) (t : ℕ) : Type 0 where
   pub lines : length E < HIDDEN
   pub marks : FAR < length m
   pub room : length E ≤ length q
   pub few : t + left (length E) m ≤ length E
-  pub queued : (k : ℕ) → k < length E → 1 ≤ getD m k 0 → (j : ℕ) × (j < t) × (getD q j 0 ≡ k)
-  pub back : (j : ℕ) → j < t → (getD q j 0 < length E) × (1 ≤ getD m (getD q j 0) 0)
+  pub queued : (k : ℕ) → k < length E → 1 ≤ getD m k 0 → (j : ℕ) × (j < t) × (placeOf (getD q j 0) E ≡ k)
+  pub back : (j : ℕ) → j < t → (placeOf (getD q j 0) E < length E) × (1 ≤ getD m (placeOf (getD q j 0) E) 0)
 
--- the place of v is marked too, no other, and its line, if it was not marked, is queued behind the others
+-- the place of v is marked too, no other, and v, if its line was not marked, is queued behind the others
 pub record Grown (E : List (List ℕ)) (v : ℕ) (m q : List ℕ) (t : ℕ) (m′ q′ : List ℕ) (t′ : ℕ) : Type 0 where
   pub queue : Queue E m′ q′ t′
   pub long : length m′ ≡ length m
@@ -103,7 +107,7 @@ pub record Skipped (w l : List ℕ) (i j : ℕ) : Type 0 where
   pub near : j ≤ length l
   pub is : (k : ℕ) → i ≤ k → k < j → 1 ≤ getD w (getD l k 0) 0
 
--- the first n of l are met too, no others, and the lines that were not marked are queued behind the others
+-- the first n of l are met too, no others, and those whose lines were not marked are queued behind the others
 pub record Seen (E : List (List ℕ)) (l : List ℕ) (n : ℕ) (w m q : List ℕ) (t : ℕ) (w′ m′ q′ : List ℕ) (t′ : ℕ) : Type 0 where
   pub queue : Queue E m′ q′ t′
   pub spot : Spot E w′ m′

@@ -1,5 +1,5 @@
-// Entities reached through parents, over the rows in the lent words: a parent is noted where it is first met, and its line is marked and queued
-// until its own parents are met too. No line is expanded twice, and no set of parents.
+// Entities reached through parents, over the rows in the lent words: a parent is noted where it is first met, and its line is marked and it is
+// queued until its own parents are met too. No line is expanded twice, and no set of parents.
 use forms::ENTITY;
 use forms::MARK;
 use forms::SET_VALUE;
@@ -20,7 +20,7 @@ ghost use mathlib.Core.List.{[], _∷_};
 ghost use Prim.Native.Nat.{_≤_, _<_};
 ghost use lib.Dec.{eqb};
 ghost use lib.ListN.{length, getD, set};
-ghost use Rattle.sheet.specs.Forms.{VALUE};
+ghost use Rattle.sheet.specs.Forms.{VALUE, at};
 ghost use Rattle.sheet.specs.Parents.{parentsIn};
 ghost use Rattle.table.specs.Layout.{rowsOf};
 ghost use Rattle.reach.specs.Marks.{LINES, VALUES, HIDDEN, FAR, lineRows, placeOf, named, Filled, Indexed, Listed, Queue, Noted, Opened, Grown, Spot, Skipped, Seen, Spread, Expanded, Found, markedAt, anyMarked, namesAt, isMet, anyMet};
@@ -29,6 +29,9 @@ ghost use Rattle.reach.specs.Marks.{LINES, VALUES, HIDDEN, FAR, lineRows
 pub const LINES: usize = 128;
 
 pub const VALUES: usize = 1024;
+
+// So many words has the table of parents' sets: entities come first among the values, and a short table is soon cleared.
+const NEAR: usize = 384;
 
 // After the marks of the lines comes the one of all entities that are not listed, then, here, that of lines whose parents are unknown, and that of
 // parents whose numbers a table does not have.
@@ -128,10 +131,9 @@ fn fill(words: &mut [u32], word: u32)
     }
 }
 
-// The byte of each entity becomes the place of its line: from the last line to the first, so that the first one stays. The word of each line
-// becomes its last item, the set of its parents. A line ends where the next one begins.
+// The byte of each entity becomes the place of its line: from the last line to the first, so that the first one stays. Its word becomes the
+// last item of that line, the set of its parents. A line ends where the next one begins.
 fn index(rows: &[u32], places: &mut [u8], sets: &mut [u32])
-    requires { ⌜ LINES ≤ length (now sets) ⌝ }
     ensures { λ _. ⌜ Indexed (lineRows (now (rows .entry))) (now (places .exit)) × Listed (lineRows (now (rows .entry))) (now (sets .exit)) ⌝ }
 {
     let mut i = lines(rows);
@@ -142,8 +144,9 @@ fn index(rows: &[u32], places: &mut [u8], sets: &mut [u32])
         i -= 1;
         let start = read(rows, b + i as usize) as usize;
         let line = cut(rows, start, end);
-        put(sets, i as usize, item(line, 4));
-        put_byte(places, item(line, 1) as usize, i as u8);
+        let v = item(line, 1) as usize;
+        put(sets, v, item(line, 4));
+        put_byte(places, v, i as u8);
         end = start;
     }
 }
@@ -183,7 +186,8 @@ pub fn parents_of(rows: &[u32], number: u32) -> &[u32]
 
 // ---- the search
 
-// The line of entity `value` is marked; where it was not before it is queued. All that are not listed have one mark. Back comes where the queue ends.
+// The line of entity `value` is marked; where it was not before the entity is queued. All that are not listed have one mark. Back comes where the
+// queue ends.
 fn see_at(
     rows: &[u32],
     places: &[u8],
@@ -205,7 +209,7 @@ fn see_at(
     if k >= lines(rows) {
         return end;
     }
-    put(queue, end as usize, k);
+    put(queue, end as usize, value);
     end + 1
 }
 
@@ -333,16 +337,18 @@ fn expand(
     )
 }
 
-// The parents' word of line `number`. That of the likely line is read before the two are compared, so that in a row of lines, each of which names
-// the next, the search does not wait for the queue.
-fn set_at(sets: &[u32], number: usize, likely: usize) -> u32
-    ensures { λ x. ⌜ x ≡ getD (now (sets .entry)) number 0 ⌝ }
+// The last item of the line of entity `value`, by these words: the search does not wait for the place of the line. Past their end it is looked for.
+fn set_of(rows: &[u32], places: &[u8], sets: &[u32], value: u32) -> u32
+    requires { ⌜ Indexed (lineRows (now rows)) (now places) ⌝ }
+    requires { ⌜ Listed (lineRows (now rows)) (now sets) ⌝ }
+    requires { ⌜ placeOf value (lineRows (now rows)) < length (lineRows (now rows)) ⌝ }
+    ensures { λ x. ⌜ x ≡ at (getD (lineRows (now (rows .entry))) (placeOf value (lineRows (now (rows .entry)))) []) 3 ⌝ }
 {
-    let word = read(sets, likely);
-    if number == likely {
-        return word;
+    let i = value as usize;
+    if i < sets.len() {
+        return sets[i];
     }
-    read(sets, number)
+    item(line_at(rows, place(rows, places, value)), 4)
 }
 
 // Marks the lines that entity `value` reaches, its own among them, and notes the ancestors met.
@@ -353,7 +359,7 @@ pub fn reach(rows: &[u32], value: u32, met: &mut [u8], marks: &mut [u32])
     fill(marks, 0);
     fill_bytes(met, 0);
     let mut places: [u8; VALUES] = [0; VALUES];
-    let mut sets: [u32; LINES] = [0; LINES];
+    let mut sets: [u32; NEAR] = [0; NEAR];
     index(rows, &mut places[..], &mut sets[..]);
     let mut asked: [u8; VALUES] = [0; VALUES];
     fill_bytes(&mut asked[..], 0);
@@ -361,8 +367,8 @@ pub fn reach(rows: &[u32], value: u32, met: &mut [u8], marks: &mut [u32])
     let mut end = see_at(rows, &places[..], value, marks, &mut queue[..], 0);
     let mut i = 0;
     while i < end {
-        let k = read(&queue[..], i as usize);
-        let parents = set_at(&sets[..], k as usize, i as usize);
+        let v = read(&queue[..], i as usize);
+        let parents = set_of(rows, &places[..], &sets[..], v);
         hide(marks, parents);
         end = expand(
             rows,

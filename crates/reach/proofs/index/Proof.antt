@@ -13,8 +13,8 @@ abbrev μ-loop : tie.MeasureT-loop
 loop-holds : tie.Need-loop-holds Inv-loop μ-loop
 loop-holds c = search (walk-start, needs)
 
-cast-put-byte-2 : tie.Need-cast-put-byte-2 Inv-loop μ-loop
-cast-put-byte-2 c = search (walk-byte, needs)
+cast-put-byte : tie.Need-cast-put-byte Inv-loop μ-loop
+cast-put-byte c = search (walk-byte, needs)
 
 loop-again : tie.Need-loop-again Inv-loop μ-loop
 loop-again c = search (walk-on, needs)
@@ -43,12 +43,11 @@ index-spec =
     (λ c κs. search needs)
     (λ c. search needs)
     (λ c κs. search needs)
-    (λ c. search needs)
-    (λ c κs. search needs)
-    (λ c κs. search needs)
     (λ c κs. search needs)
     (λ c. search needs)
-    cast-put-byte-2
+    (λ c κs. search needs)
+    (λ c κs. search needs)
+    cast-put-byte
     (λ c κs. search needs)
     (λ c. search needs)
     loop-again

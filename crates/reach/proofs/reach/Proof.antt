@@ -2,7 +2,7 @@
 use Prim.Native.Nat.{_-_}
 use lib.ListN.{length}
 use Rattle.reach.specs.Marks.{lineRows}
-use Rattle.reach.proofs.Steps.{Going, going-end, going-less, going-on, going-open, going-start, reach-queue}
+use Rattle.reach.proofs.Steps.{Going, going-end, going-less, going-on, going-open, going-start, going-there, reach-queue}
 use borrow.Author.Needs.{needs}
 use Rattle.reach.proofs.reach.Statement.{statement}
 use Rattle.reach.proofs.reach.Tie as tie
@@ -27,12 +27,19 @@ loop-holds c =
     let f = x .before .before .before .before .before .before .before .before .before in
     going-start _ _ _ _ _ _ _ _ _ _ _ _ _ _ (f .before .before .before .before .before .pre) (f .fill .ensures) (x .before .before .before .before .before .fill-bytes .ensures) (search needs) (search needs) (search needs) (search needs) (a .fill-bytes2 .ensures) (x .index .ensures) (s .see-at .ensures)
 
+set-of-requires : tie.Need-set-of-requires Inv-loop μ-loop
+set-of-requires c κs =
+    let k = c .before .before in
+    let w = k .before .before .before .loop .inv in
+    (w .indexed, (w .listed, going-there _ _ _ _ _ _ _ _ _ _ _ _ w (k .before .before .loop-test .taken) _ (k .read .ensures)))
+
 expand-requires : tie.Need-expand-requires Inv-loop μ-loop
 expand-requires c κs =
     let h = c .before .before .before .before .before .before .before in
-    let k = h .before .before .before .before in
+    let s = h .before .before in
+    let k = s .before .before .before in
     let w = k .before .before .before .loop .inv in
-    let m = going-open _ _ _ _ _ _ _ _ _ _ _ _ w (k .before .before .loop-test .taken) _ (k .read .ensures) _ (h .before .before .set-at .ensures) _ (h .hide .ensures) in
+    let m = going-open _ _ _ _ _ _ _ _ _ _ _ _ w (k .before .before .loop-test .taken) _ (k .read .ensures) _ (s .set-of .ensures) _ (h .hide .ensures) in
     (w .indexed, (m .queue, (m .spot, m .spread)))
 
 loop-less : tie.Need-loop-less Inv-loop μ-loop
@@ -42,8 +49,9 @@ loop-again : tie.Need-loop-again Inv-loop μ-loop
 loop-again c =
     let e = c .before .before .before .before .before .before in
     let h = e .before .before .before .before .before .before .before .before in
-    let k = h .before .before .before .before in
-    going-on _ _ _ _ _ _ _ _ _ _ _ _ (k .before .before .before .loop .inv) (k .before .before .loop-test .taken) _ (k .read .ensures) _ (h .before .before .set-at .ensures) _ (h .hide .ensures) _ _ _ _ _ (e .expand .ensures)
+    let s = h .before .before in
+    let k = s .before .before .before in
+    going-on _ _ _ _ _ _ _ _ _ _ _ _ (k .before .before .before .loop .inv) (k .before .before .loop-test .taken) _ (k .read .ensures) _ (s .set-of .ensures) _ (h .hide .ensures) _ _ _ _ _ (e .expand .ensures)
 
 returns : tie.Need-returns Inv-loop μ-loop
 returns c = search (going-end, needs)
@@ -70,8 +78,7 @@ reach-spec =
     (λ c κs. search needs)
     (λ c. search needs)
     (λ c. search needs)
-    (λ c. search needs)
-    (λ c κs. search needs)
+    set-of-requires
     (λ c κs. search needs)
     (λ c. search needs)
     (λ c. search needs)
