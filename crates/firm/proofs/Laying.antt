@@ -9,8 +9,9 @@ use lib.Seq.{sets, ext-getD, getD-set-same, getD-set-other, drop-set-lt}
 use Rattle.words.specs.Log.{part, room}
 use Rattle.words.proofs.Stores.{take-sets, drop-sets, part-sets, getD-below, getD-above, part-at, length-part}
 use Rattle.sheet.specs.Forms.{PRINCIPAL, RESOURCE}
-use Rattle.table.specs.Layout.{TOP, heap, base, rowsOf}
+use Rattle.table.specs.Layout.{TOP, heap, base, limit, rowsOf}
 use Rattle.forms.specs.Keys.{bases}
+use Rattle.forms.proofs.Keys.{regions-high}
 use Rattle.firm.specs.Laid.{LINE, AHEAD, moved, lineWith, Moves, Shifted, Lays, Others, Laid, Roomy}
 
 -- ---- runs of stores by places
@@ -117,9 +118,13 @@ module _ (a w₀ w₁ w₂ w₃ : List ℕ) (long : length w₀ ≡ 16384) (c : 
   size₃ : length w₃ ≡ 16384
   size₃ = ap length h ∙ length-sets (part a heap top) w₂ (heap + AHEAD) ∙ size₂
 
+  -- no word of the index changes with the rows
+  index-kept : (i : ℕ) → i < heap → getD w₃ i 0 ≡ getD w₂ i 0
+  index-kept i hi = ap (λ (w : List ℕ). getD w i 0) h ∙ sets-low (part a heap top) w₂ (heap + AHEAD) i (omega (arith, hi))
+
   count-at : (k : ℕ) → k < TOP → getD w₃ k 0 ≡ getD a k 0
   count-at k lt =
-      ap (λ (w : List ℕ). getD w k 0) h ∙ sets-low (part a heap top) w₂ (heap + AHEAD) k (omega (arith, lt)) ∙ m .below k lt
+      index-kept k (omega (arith, lt)) ∙ m .below k lt
       ∙ ap (λ (w : List ℕ). getD w k 0) c
       ∙ subst (λ (n : ℕ). getD (sets w₀ 0 (part a 0 TOP)) n 0 ≡ getD a n 0) zero
       (sets-in (part a 0 TOP) w₀ 0 (omega (arith, counts-long, long)) k (omega (arith, counts-long, lt)) ∙ part-at a 0 TOP k (omega (arith, lt)))
@@ -127,8 +132,8 @@ module _ (a w₀ w₁ w₂ w₃ : List ℕ) (long : length w₀ ≡ 16384) (c : 
       zero : 0 + k ≡ k
       zero = omega arith
 
-  place-at : (i : ℕ) → TOP ≤ i → i < heap → getD w₃ i 0 ≡ moved (getD a i 0)
-  place-at i lo hi = ap (λ (w : List ℕ). getD w i 0) h ∙ sets-low (part a heap top) w₂ (heap + AHEAD) i (omega (arith, hi)) ∙ m .moves i lo hi
+  place-at : (k i : ℕ) → k < TOP → i ≤ getD a k 0 → i ≤ limit k → getD w₃ (base k + i) 0 ≡ moved (getD a (base k + i) 0)
+  place-at k i lt le few = let z = regions-high k (omega (arith, lt)) in index-kept (base k + i) (omega (arith, z, few)) ∙ m .moves k i lt le few
 
   row-at : (i : ℕ) → heap ≤ i → i < top → getD w₃ (i + AHEAD) 0 ≡ getD a i 0
   row-at i lo hi =
@@ -140,7 +145,7 @@ module _ (a w₀ w₁ w₂ w₃ : List ℕ) (long : length w₀ ≡ 16384) (c : 
       ∙ part-at a heap top (i - heap) (omega (arith, lo, hi)) ∙ ap (λ (n : ℕ). getD a n 0) e
 
   shifted : Shifted a w₃
-  shifted = record { long = size₃; counts = count-at; places = place-at; rows = row-at }
+  shifted = record { long = size₃; counts = count-at; top = index-kept TOP (omega arith) ∙ m .top; places = place-at; rows = row-at }
 
 -- as the code shifts them
 pub shifted-by : (a w₀ w₁ w₂ w₃ l m : List ℕ) (t : ℕ) → length w₀ ≡ 16384 → l ≡ part a 0 TOP → w₁ ≡ sets w₀ 0 l → Moves a w₁ w₂ → t ≡ getD a TOP 0 → m ≡ part a heap t → w₃ ≡ sets w₂ (heap + AHEAD) m → Roomy a → Shifted a w₃
@@ -155,8 +160,8 @@ module _ (a w₃ w₄ w₅ : List ℕ) (p q : ℕ) (s : Shifted a w₃) (x : Lay
       y .index k (omega (arith, lt)) (omega (arith, lt, past-index, apart)) (omega (arith, lt, past-index, apart))
       ∙ x .index k (omega (arith, lt)) (omega (arith, lt, past-index)) (omega (arith, lt, past-index)) ∙ s .counts k lt
 
-  place-stays : (i : ℕ) → TOP ≤ i → i < heap → Others i → getD w₅ i 0 ≡ moved (getD a i 0)
-  place-stays i lo hi o = y .index i hi (o .resource) (o .resource-end) ∙ x .index i hi (o .principal) (o .principal-end) ∙ s .places i lo hi
+  word-stays : (i : ℕ) → i < heap → Others i → getD w₅ i 0 ≡ getD w₃ i 0
+  word-stays i hi o = y .index i hi (o .resource) (o .resource-end) ∙ x .index i hi (o .principal) (o .principal-end)
 
   row-stays : (i : ℕ) → heap ≤ i → i < getD a TOP 0 → getD w₅ (i + AHEAD) 0 ≡ getD a i 0
   row-stays i lo hi = y .above (i + AHEAD) (omega (arith, lo)) ∙ x .above (i + AHEAD) (omega (arith, lo)) ∙ s .rows i lo hi
@@ -172,8 +177,8 @@ module _ (a w₃ w₄ w₅ : List ℕ) (p q : ℕ) (s : Shifted a w₃) (x : Lay
   laid = record {
     long = y .long ∙ x .long ∙ s .long;
     counts = counts-stay;
-    top = place-stays TOP (omega arith) (omega arith) (record { principal = omega (arith, past-index); principal-end = omega (arith, past-index); resource = omega (arith, past-index, apart); resource-end = omega (arith, past-index, apart) });
-    places = λ i lo hi o. place-stays i (omega (arith, lo)) hi o;
+    top = word-stays TOP (omega arith) (record { principal = omega (arith, past-index); principal-end = omega (arith, past-index); resource = omega (arith, past-index, apart); resource-end = omega (arith, past-index, apart) }) ∙ s .top;
+    places = λ k i lt le few o. let z = regions-high k (omega (arith, lt)) in word-stays (base k + i) (omega (arith, z, few)) o ∙ s .places k i lt le few;
     rows = row-stays;
     principal = record {
       first = y .index (base PRINCIPAL) (omega (arith, near-principal)) (omega (arith, apart)) (omega (arith, apart)) ∙ x .first;

@@ -8,7 +8,7 @@ use lib.ListN.{length, getD}
 use lib.Seq.{ext-getD}
 use Rattle.words.specs.Log.{part, room}
 use Rattle.words.proofs.Stores.{part-at, length-part}
-use Rattle.forms.proofs.Keys.{regions-rise, regions-low, regions-high}
+use Rattle.forms.proofs.Keys.{regions-rise}
 use Rattle.sheet.specs.Forms.{PRINCIPAL, RESOURCE, DAY}
 use Rattle.table.specs.Layout.{TOP, heap, base, rowAt, rowsOf, limits, limit, Last, Sound}
 use Rattle.table.proofs.Rows.{count-rows, row-some}
@@ -81,16 +81,15 @@ module _ (a w : List ℕ) (p q : ℕ) (s : Sound a) (l : Laid a p q w) (under : 
   -- ---- the rows of another key
 
   module _ (k : ℕ) (h : k < TOP) (np : k ≡ PRINCIPAL → ⊥) (nr : k ≡ RESOURCE → ⊥) where
-    place : (i : ℕ) → i ≤ limit k → getD w (base k + i) 0 ≡ moved (getD a (base k + i) 0)
-    place i le = let lo = regions-low k (omega (arith, h)) in let hi = regions-high k (omega (arith, h)) in l .places (base k + i) (omega (arith, lo)) (omega (arith, hi, le)) (others k i h np nr le)
+    place : (i : ℕ) → i ≤ getD a k 0 → getD w (base k + i) 0 ≡ moved (getD a (base k + i) 0)
+    place i le = let few = s .few k h in l .places k i h le (omega (arith, le, few)) (others k i h np nr (omega (arith, le, few)))
 
     row-moved : (i : ℕ) → i < getD a k 0 → rowAt w (base k + i) ≡ rowAt a (base k + i)
     unfolding rowAt
     row-moved i lt =
-        let few = s .few k h in
         let e : suc (base k + i) ≡ base k + suc i = omega arith in
-        let z : getD w (suc (base k + i)) 0 ≡ moved (getD a (suc (base k + i)) 0) = subst (λ (x : ℕ). getD w x 0 ≡ moved (getD a x 0)) (sym e) (place (suc i) (omega (arith, few, lt))) in
-        (λ j. part w (place i (omega (arith, few, lt)) j) (z j)) ∙ part-moved (getD a (base k + i) 0) (getD a (suc (base k + i)) 0) (s .low k i h lt) (s .high k i h lt)
+        let z : getD w (suc (base k + i)) 0 ≡ moved (getD a (suc (base k + i)) 0) = subst (λ (x : ℕ). getD w x 0 ≡ moved (getD a x 0)) (sym e) (place (suc i) (omega (arith, lt))) in
+        (λ j. part w (place i (omega (arith, lt)) j) (z j)) ∙ part-moved (getD a (base k + i) 0) (getD a (suc (base k + i)) 0) (s .low k i h lt) (s .high k i h lt)
 
     pub rows-kept : rowsOf w k ≡ rowsOf a k
     rows-kept =
@@ -139,9 +138,8 @@ module _ (a w : List ℕ) (p q : ℕ) (s : Sound a) (l : Laid a p q w) (under : 
             subst (λ (x : ℕ). heap ≤ getD w (base x + i) 0) (sym e) (let n : base RESOURCE + i ≡ base RESOURCE = omega (arith, z) in rw n (let f = l .resource .first in omega (arith, f)))
         low k i h lt (no d) (no e) =
             let c = l .counts k h in
-            let f = s .few k h in
             let m : i < getD a k 0 = omega (arith, lt, c) in
-            let z = place k h d e i (omega (arith, m, f)) in
+            let z = place k h d e i (omega (arith, m)) in
             let g = moved-least (getD a (base k + i) 0) in
             let o = s .low k i h m in
             omega (arith, z, g, o)
@@ -157,10 +155,9 @@ module _ (a w : List ℕ) (p q : ℕ) (s : Sound a) (l : Laid a p q w) (under : 
             (let n : suc (base RESOURCE + i) ≡ suc (base RESOURCE) = omega (arith, z) in rw n (let f = l .resource .next in let o = s .over in omega (arith, f, o, top-is)))
         high k i h lt (no d) (no e) =
             let c = l .counts k h in
-            let f = s .few k h in
             let m : i < getD a k 0 = omega (arith, lt, c) in
             let p : suc (base k + i) ≡ base k + suc i = omega arith in
-            let z : getD w (suc (base k + i)) 0 ≡ moved (getD a (suc (base k + i)) 0) = subst (λ (x : ℕ). getD w x 0 ≡ moved (getD a x 0)) (sym p) (place k h d e (suc i) (omega (arith, m, f))) in
+            let z : getD w (suc (base k + i)) 0 ≡ moved (getD a (suc (base k + i)) 0) = subst (λ (x : ℕ). getD w x 0 ≡ moved (getD a x 0)) (sym p) (place k h d e (suc i) (omega (arith, m))) in
             let o = s .high k i h m in
             let g = moved-near (getD a (suc (base k + i)) 0) (omega (arith, o, under)) in
             omega (arith, z, g, o, top-is)
@@ -170,6 +167,5 @@ module _ (a w : List ℕ) (p q : ℕ) (s : Sound a) (l : Laid a p q w) (under : 
         ends k h one last (no d) (yes e) = let z = last .last DAY (omega (arith, e)) (omega arith) in let c = l .counts DAY (omega arith) in absurd (omega (arith, z, c, day))
         ends k h one last (no d) (no e) =
             let c = l .counts k h in
-            let f = s .few k h in
-            ap (λ (n : ℕ). getD w (base k + n) 0) c ∙ place k h d e (getD a k 0) f
+            ap (λ (n : ℕ). getD w (base k + n) 0) c ∙ place k h d e (getD a k 0) (omega arith)
             ∙ ap moved (s .ends k h (omega (arith, one, c)) (record { last = λ j lo hi. sym (l .counts j hi) ∙ last .last j lo hi })) ∙ sym (l .top)

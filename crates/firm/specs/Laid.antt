@@ -8,7 +8,7 @@ use lib.Dec.{ltb}
 use lib.ListN.{length, getD}
 use Rattle.words.specs.Log.{part, room}
 use Rattle.sheet.specs.Forms.{PRINCIPAL, RESOURCE}
-use Rattle.table.specs.Layout.{TOP, heap, base, rowsOf}
+use Rattle.table.specs.Layout.{TOP, heap, base, limit, rowsOf}
 
 -- the words of a row of principal or resource, tag, kind and text, and of both
 abbrev pub LINE : ℕ
@@ -25,10 +25,23 @@ moved x = cond (ltb room x) x (x + AHEAD)
 abbrev pub lineWith : List ℕ → ℕ → List ℕ
 lineWith r t = getD r 0 0 ∷ getD r 1 0 ∷ t ∷ []
 
--- from w to w′ the places of rows, and of the heap's end, became those of a, moved
+-- before e stand all words that say where the rows of key k begin in a, and where the last one ends
+pub record Ends (a : List ℕ) (k e : ℕ) : Type 0 where
+  pub most : e ≤ heap
+  pub over : (i : ℕ) → i ≤ getD a k 0 → base k + i < heap → base k + i < e
+
+-- from w to w′ the places of the rows of key k became those of a, moved
+pub record MovesRows (k : ℕ) (a w w′ : List ℕ) : Type 0 where
+  pub long : length w′ ≡ length w
+  pub moves : (i : ℕ) → i ≤ getD a k 0 → base k + i < heap → getD w′ (base k + i) 0 ≡ moved (getD a (base k + i) 0)
+  pub below : (i : ℕ) → i < base k → getD w′ i 0 ≡ getD w i 0
+  pub above : (i : ℕ) → heap ≤ i → getD w′ i 0 ≡ getD w i 0
+
+-- from w to w′ the places of all rows, and of the heap's end, became those of a, moved
 pub record Moves (a w w′ : List ℕ) : Type 0 where
   pub long : length w′ ≡ length w
-  pub moves : (i : ℕ) → TOP ≤ i → i < heap → getD w′ i 0 ≡ moved (getD a i 0)
+  pub top : getD w′ TOP 0 ≡ moved (getD a TOP 0)
+  pub moves : (k i : ℕ) → k < TOP → i ≤ getD a k 0 → i ≤ limit k → getD w′ (base k + i) 0 ≡ moved (getD a (base k + i) 0)
   pub below : (i : ℕ) → i < TOP → getD w′ i 0 ≡ getD w i 0
   pub above : (i : ℕ) → heap ≤ i → getD w′ i 0 ≡ getD w i 0
 
@@ -36,7 +49,8 @@ pub record Moves (a w w′ : List ℕ) : Type 0 where
 pub record Shifted (a w : List ℕ) : Type 0 where
   pub long : length w ≡ room
   pub counts : (k : ℕ) → k < TOP → getD w k 0 ≡ getD a k 0
-  pub places : (i : ℕ) → TOP ≤ i → i < heap → getD w i 0 ≡ moved (getD a i 0)
+  pub top : getD w TOP 0 ≡ moved (getD a TOP 0)
+  pub places : (k i : ℕ) → k < TOP → i ≤ getD a k 0 → i ≤ limit k → getD w (base k + i) 0 ≡ moved (getD a (base k + i) 0)
   pub rows : (i : ℕ) → heap ≤ i → i < getD a TOP 0 → getD w (i + AHEAD) 0 ≡ getD a i 0
 
 -- from w to w′ row r became the first row of key k, from place s on
@@ -67,7 +81,7 @@ pub record Laid (a : List ℕ) (p q : ℕ) (w : List ℕ) : Type 0 where
   pub long : length w ≡ room
   pub counts : (k : ℕ) → k < TOP → getD w k 0 ≡ getD a k 0
   pub top : getD w TOP 0 ≡ moved (getD a TOP 0)
-  pub places : (i : ℕ) → TOP < i → i < heap → Others i → getD w i 0 ≡ moved (getD a i 0)
+  pub places : (k i : ℕ) → k < TOP → i ≤ getD a k 0 → i ≤ limit k → Others (base k + i) → getD w (base k + i) 0 ≡ moved (getD a (base k + i) 0)
   pub rows : (i : ℕ) → heap ≤ i → i < getD a TOP 0 → getD w (i + AHEAD) 0 ≡ getD a i 0
   pub principal : Stands PRINCIPAL heap (lineWith (getD (rowsOf a PRINCIPAL) 0 []) p) w
   pub resource : Stands RESOURCE (heap + LINE) (lineWith (getD (rowsOf a RESOURCE) 0 []) q) w

@@ -28,7 +28,7 @@ ghost use lib.Seq.{sets};
 ghost use Rattle.sheet.specs.Call.{worked};
 ghost use Rattle.table.specs.Layout.{heap, base};
 ghost use Rattle.response.specs.Verdicts.{decisionOf};
-ghost use Rattle.firm.specs.Laid.{moved, lineWith, Moves, Shifted, Lays, Laid, Roomy};
+ghost use Rattle.firm.specs.Laid.{moved, lineWith, Ends, MovesRows, Moves, Shifted, Lays, Laid, Roomy};
 ghost use Rattle.firm.specs.Parts.{codeOf, joined, Decides, textIn, askIn, refusal, Begins, checkOf, Singles, joinOf};
 ghost use Rattle.firm.specs.Promise.{Quotes};
 ghost use Rattle.firm.specs.Words.{wordsOfRow, rowFrom, QuotesWords};
@@ -75,16 +75,41 @@ fn copy(words: &mut [u32], at: usize, row: &[u32])
     }
 }
 
-// The places of rows and of the heap's end, moved.
+// Where the words end that say where a key's rows begin, with the one for the end of the last.
+fn places_end(rows: &[u32], key: usize) -> usize
+    ensures { λ r. ⌜ Ends (now (rows .entry)) key r ⌝ }
+{
+    let end = base_of(key) + count(rows, key) as usize + 1;
+    if end > HEAP {
+        return HEAP;
+    }
+    end
+}
+
+// The places of a key's rows, moved.
+fn move_rows(rows: &[u32], own: &mut [u32], key: usize)
+    requires { ⌜ (heap ≤ length (now rows)) × (heap ≤ length (now own)) ⌝ }
+    ensures { λ _. ⌜ MovesRows key (now (rows .entry)) (now (own .entry)) (now (own .exit)) ⌝ }
+{
+    let end = places_end(rows, key);
+    let mut i = base_of(key);
+    while i < end {
+        own[i] = moved(rows[i]);
+        i += 1;
+    }
+}
+
+// The places of all rows and of the heap's end, moved; those that no row uses stay.
 fn move_places(rows: &[u32], own: &mut [u32])
     requires { ⌜ (heap ≤ length (now rows)) × (heap ≤ length (now own)) ⌝ }
     ensures { λ _. ⌜ Moves (now (rows .entry)) (now (own .entry)) (now (own .exit)) ⌝ }
 {
-    let mut i = TOP;
-    while i < HEAP {
-        own[i] = moved(rows[i]);
-        i += 1;
+    let mut key = 0;
+    while key < TOP {
+        move_rows(rows, own, key);
+        key += 1;
     }
+    own[TOP] = moved(rows[TOP]);
 }
 
 // A row of principal or resource from `start` on, with this text.
