@@ -13,10 +13,12 @@ use table::item;
 use table::key_of;
 use table::tag;
 use typing::lines::typed;
+use words::ROOM;
 use words::cut;
 ghost use mathlib.Core.Path.{_≡_};
 ghost use Prim.Native.Nat.{_<_};
-ghost use Rattle.words.specs.Log.{part};
+ghost use lib.ListN.{length};
+ghost use Rattle.words.specs.Log.{part, room};
 ghost use Rattle.sheet.specs.Forms.{keyOf, noKey};
 ghost use Rattle.sheet.specs.State.{linesOf};
 ghost use Rattle.table.specs.Layout.{rowIn, held};
@@ -75,9 +77,12 @@ fn depth_of(sheet: &[u8], rows: &[u32], work: &[u32], key: usize, line: &[u32], 
 
 // The refusal of a row of words, and where there is none its key and depth; the nodes that it uses are then marked. A row that is `new` repeats no other.
 pub fn judge(sheet: &[u8], rows: &[u32], work: &mut [u32], line: &[u32], new: bool) -> Verdict
+    requires { ⌜ (length (now rows) ≡ room) × (length (now work) ≡ room) ⌝ }
     requires { ⌜ Known (now rows) (now work) × Noted (now rows) (now work) × Unlike (rowIn (now sheet) (keyOf (now line)) (now line)) (linesOf (held (now sheet) (now rows) (now work)) (keyOf (now line))) new ⌝ }
     ensures { λ v. ⌜ Judged (now (sheet .entry)) (now (rows .entry)) (now (work .entry)) (now (line .entry)) (now (work .exit)) (v .number) (v .key) (v .depth) ⌝ }
 {
+    let rows = &rows[..ROOM];
+    let work = &mut work[..ROOM];
     let k = key_of(tag(line));
     if !in_order(rows, k) {
         return refused(3);
@@ -114,6 +119,7 @@ pub fn judge_at(
     end: usize,
     seen: &mut [u32],
 ) -> Verdict
+    requires { ⌜ (length (now rows) ≡ room) × (length (now work) ≡ room) ⌝ }
     requires { ⌜ Known (now rows) (now work) × Noted (now rows) (now work) × Seen (held (now sheet) (now rows) (now work)) (now seen) ⌝ }
     ensures verdict { λ v. ⌜ Judged (now (sheet .entry)) (now (rows .entry)) (now (work .entry)) (part (now (rows .entry)) top end) (now (work .exit)) (v .number) (v .key) (v .depth) ⌝ }
     ensures seen { λ _. ⌜ now (seen .exit) ≡ seenAt (now (sheet .entry)) (now (seen .entry)) (part (now (rows .entry)) top end) ⌝ }

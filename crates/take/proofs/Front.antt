@@ -93,6 +93,8 @@ module _ (w p : List ℕ) (long : length p ≡ room) where
 
 -- what a line needs of the slices, of their fronts
 pub record Fronts (sheet a b : List ℕ) (bytes : ℕ) (m : Mode) : Type 0 where
+  pub long-a : length (take room a) ≡ room
+  pub long-b : length (take room b) ≡ room
   pub ready : Ready (take room a) (take room b)
   pub reached : Reached m (held sheet (take room a) (take room b))
   pub fits : 2 * getD (take room a) TOP 0 + bytes ≤ 2 * heap + 16400
@@ -111,6 +113,8 @@ module _ (sheet a b : List ℕ) (bytes : ℕ) (ready : Ready a b) (fits : 2 * ge
   pub fronts : (m : Mode) → Reached m (held sheet a b) → Fronts sheet a b bytes m
   fronts m r =
       record {
+        long-a = long-a;
+        long-b = long-b;
         ready = ready-alike sheet a b (take room a) (take room b) (front a) (front b) ready (omega arith) (omega (arith, long-a)) (omega (arith, long-b));
         reached = subst (Reached m) (sym state-front) r;
         seen = λ m h. subst (λ (s : State). Seen s m) (sym state-front) h;
