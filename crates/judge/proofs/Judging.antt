@@ -123,6 +123,11 @@ key-of-line a k r u e f = line-key (held [] a []) k (neither (leb (getD (greates
     neither true y h = h
     neither false y h = refl
 
+-- ---- `in_turn`
+
+pub turn-again : (a : List ℕ) (k last : ℕ) → inOrder (held [] a []) last ≡ true → k ≡ last → true ≡ inOrder (held [] a []) k
+turn-again a k last h e = sym (rw e h)
+
 -- ---- slices of 16,384 words, cut to so many
 
 -- the slice is its front
@@ -141,6 +146,9 @@ module _ (sheet a b r : List ℕ) (long-a : length a ≡ room) (long-b : length 
 
   pub unlike-front : (new : Bool) → Unlike (rowIn sheet (keyOf r) r) (linesOf (held sheet a b) (keyOf r)) new → Unlike (rowIn sheet (keyOf r) r) (linesOf (held sheet (take room a) (take room b)) (keyOf r)) new
   unlike-front new h = rw (front a long-a, front b long-b) h
+
+  pub order-front : (k : ℕ) → inOrder (held sheet a b) k ≡ true → inOrder (held [] (take room a) []) k ≡ true
+  order-front k h = rw (front a long-a) (order-alike a sheet b k ∙ h)
 
   -- nothing stands past the front
   judged-back : (q : List ℕ) (f n d : ℕ) → Judged sheet (take room a) (take room b) r q f n d → Judged sheet a b r (q ++ drop room b) f n d

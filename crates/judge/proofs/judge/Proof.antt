@@ -1,7 +1,7 @@
 -- `judge::judge` meets its contract. Assumes nothing.
 use lib.ListN.{take}
 use Rattle.words.specs.Log.{room}
-use Rattle.judge.proofs.Judging.{key-of-row, key-in-table, key-of-line, front-long, known-front, noted-front, unlike-front, judged-3, judged-4, judged-5, judged-6, judged-7, judged-8, judged-0}
+use Rattle.judge.proofs.Judging.{key-of-row, key-in-table, key-of-line, front-long, known-front, noted-front, unlike-front, order-front, judged-3, judged-4, judged-5, judged-6, judged-7, judged-8, judged-0}
 use borrow.Author.Needs.{needs}
 use Rattle.judge.proofs.judge.Statement.{statement}
 use Rattle.judge.proofs.judge.Tie as tie
@@ -12,15 +12,19 @@ slice-aggregate-rows c = let s = c .before .before .before .before .before in fr
 slice-aggregate-work : tie.Need-slice-aggregate-work
 slice-aggregate-work c = let s = c .before .before .before .before .before .before in front-long (s .args .work .now) (s .pre .0 .1)
 
-in-order-requires : tie.Need-in-order-requires
-in-order-requires c κs = search (key-in-table, needs)
+in-turn-requires : tie.Need-in-turn-requires
+in-turn-requires c κs =
+    let s = c .before .before .before .before .before .before .before .before in
+    let g = c .before .tag in
+    let k = c .key-of in
+    (key-in-table (g .result) (k .result) (k .ensures), order-front (s .args .sheet .now) (s .args .rows .now) (s .args .work .now) (s .args .line .now) (s .pre .0 .0) (s .pre .0 .1) (s .args .last) (s .pre .0 .2))
 
 returns : tie.Need-returns
 returns c =
     let w = c .before .before .before .before in
     let s = w .before .before .before .before .before .before .before .before .before in
     let z = s .args in
-    let o = w .in-order in
+    let o = w .in-turn in
     let k = w .before .key-of in
     let g = w .before .before .tag in
     let v = c .refused in
@@ -35,7 +39,7 @@ returns-2 c =
     let w = c .before .before .before .before .before .before .before in
     let s = w .before .before .before .before .before .before .before .before .before in
     let z = s .args in
-    let o = w .in-order in
+    let o = w .in-turn in
     let k = w .before .key-of in
     let g = w .before .before .tag in
     let u = c .before .before .before .before .too-many in
@@ -59,7 +63,7 @@ returns-3 c =
     let w = c .before .before .before .before .before .before .before .before .before .before in
     let s = w .before .before .before .before .before .before .before .before .before in
     let z = s .args in
-    let o = w .in-order in
+    let o = w .in-turn in
     let k = w .before .key-of in
     let g = w .before .before .tag in
     let u = c .before .before .before .before .before .before .before .too-many in
@@ -73,7 +77,7 @@ returns-4 c =
     let w = c .before .before .before .before .before .before .before .before .before .before .before in
     let s = w .before .before .before .before .before .before .before .before .before in
     let z = s .args in
-    let o = w .in-order in
+    let o = w .in-turn in
     let k = w .before .key-of in
     let g = w .before .before .tag in
     let u = c .before .before .before .before .before .before .before .before .too-many in
@@ -90,7 +94,7 @@ returns-5 c =
     let w = c .before .before .before .before .before .before .before .before .before .before .before .before .before .before .before .before in
     let s = w .before .before .before .before .before .before .before .before .before in
     let z = s .args in
-    let o = w .in-order in
+    let o = w .in-turn in
     let k = w .before .key-of in
     let g = w .before .before .tag in
     let u = c .before .before .before .before .before .before .before .before .before .before .before .before .before .too-many in
@@ -105,7 +109,7 @@ returns-6 c =
     let w = c .before .before .before .before .before .before .before .before .before .before .before .before .before .before .before .before .before .before in
     let s = w .before .before .before .before .before .before .before .before .before in
     let z = s .args in
-    let o = w .in-order in
+    let o = w .in-turn in
     let k = w .before .key-of in
     let g = w .before .before .tag in
     let u = c .before .before .before .before .before .before .before .before .before .before .before .before .before .before .before .too-many in
@@ -121,7 +125,7 @@ returns-7 c =
     let w = c .before .before .before .before .before .before .before .before .before .before .before .before .before .before .before .before .before in
     let s = w .before .before .before .before .before .before .before .before .before in
     let z = s .args in
-    let o = w .in-order in
+    let o = w .in-turn in
     let k = w .before .key-of in
     let g = w .before .before .tag in
     let u = c .before .before .before .before .before .before .before .before .before .before .before .before .before .before .too-many in
@@ -140,7 +144,7 @@ judge-spec =
     slice-aggregate-work
     (λ c κs. search needs)
     (λ c κs. search needs)
-    in-order-requires
+    in-turn-requires
     (λ c κs. search needs)
     (λ c. search needs)
     returns
