@@ -1,26 +1,19 @@
 -- `strict::entity::walk` meets its contract. Assumes nothing.
-use Rattle.strict.proofs.Noting.{noted-none}
-use Rattle.strict.proofs.Chaining.{chained-none}
 use borrow.Author.Needs.{needs}
 use Rattle.strict.proofs.entity.walk.Statement.{statement}
 use Rattle.strict.proofs.entity.walk.Tie as tie
 
-walk-noted-requires : tie.Need-walk-noted-requires
-walk-noted-requires c κs = (chained-none _ _ _, noted-none _ _ 1)
+walk-long-requires : tie.Need-walk-long-requires
+walk-long-requires c κs = search needs
+
+returns : tie.Need-returns
+returns c = search needs
+
+walk-on-requires : tie.Need-walk-on-requires
+walk-on-requires c κs = search needs
+
+returns-2 : tie.Need-returns-2
+returns-2 c = search needs
 
 pub walk-spec : {M : Type 1} → statement M
-walk-spec =
-    tie.close
-    (tie.spec
-    (λ c κs. search needs)
-    (λ c. search needs)
-    (λ c. search needs)
-    (λ c. search needs)
-    (λ c. search needs)
-    (λ c. search needs)
-    (λ c. search needs)
-    (λ c. search needs)
-    (λ c. search needs)
-    (λ c. search needs)
-    walk-noted-requires
-    (λ c. search needs))
+walk-spec = tie.close (tie.spec walk-long-requires returns walk-on-requires returns-2)

@@ -1,0 +1,59 @@
+-- `strict::firsts::enter_all` meets its contract. Assumes nothing.
+use Prim.Native.Nat.{_-_}
+use Rattle.strict.proofs.Leading.{Entering, entering-start, entering-near, entering-on, entering-end}
+use borrow.Author.Needs.{needs}
+use Rattle.strict.proofs.firsts.enter_all.Statement.{statement}
+use Rattle.strict.proofs.firsts.enter_all.Tie as tie
+
+abbrev Inv-loop : tie.InvT-loop
+Inv-loop rows seen₀ texts₀ nexts₀ n i₀ seen texts nexts i = Entering rows seen₀ texts₀ nexts₀ seen texts nexts n i
+
+abbrev μ-loop : tie.MeasureT-loop
+μ-loop rows seen₀ texts₀ nexts₀ n i₀ seen texts nexts i = n - i
+
+count-requires : tie.Need-count-requires Inv-loop μ-loop
+count-requires c κs = search needs
+
+loop-holds : tie.Need-loop-holds Inv-loop μ-loop
+loop-holds c = search (entering-start, needs)
+
+enter-requires : tie.Need-enter-requires Inv-loop μ-loop
+enter-requires c κs = search (entering-near, needs)
+
+add-i : tie.Need-add-i Inv-loop μ-loop
+add-i c = search needs
+
+loop-less : tie.Need-loop-less Inv-loop μ-loop
+loop-less c = search needs
+
+loop-again : tie.Need-loop-again Inv-loop μ-loop
+loop-again c = search (entering-on, needs)
+
+same-length : tie.Need-same-length Inv-loop μ-loop
+same-length c = search needs
+
+same-length-2 : tie.Need-same-length-2 Inv-loop μ-loop
+same-length-2 c = search needs
+
+same-length-3 : tie.Need-same-length-3 Inv-loop μ-loop
+same-length-3 c = search needs
+
+returns : tie.Need-returns Inv-loop μ-loop
+returns c = search (entering-end, needs)
+
+pub enter-all-spec : {M : Type 1} → statement M
+enter-all-spec =
+    tie.close
+    (tie.spec
+    Inv-loop
+    μ-loop
+    count-requires
+    loop-holds
+    enter-requires
+    add-i
+    loop-less
+    loop-again
+    same-length
+    same-length-2
+    same-length-3
+    returns)
