@@ -26,8 +26,7 @@ use Rattle.value.specs.declared.Shape.{Shape}
 use Rattle.value.specs.declared.Shape.the-variants.{Entity, Record}
 use Rattle.value.specs.declared.Entry.the-variants.{At}
 use Rattle.value.proofs.Shaped.{row-given}
-use Rattle.strict.specs.Gives.{valueIn}
-use Rattle.strict.specs.Lookups.{isEntityAt, lineAt, lineIn, partOf, partIn, lookRow, lookAttr, walkFrom}
+use Rattle.strict.specs.Lookups.{isEntityAt, lineAt, lineIn, partOf, partIn, lookAttr, walkFrom}
 use Rattle.strict.specs.Firsts.{Leads, Firsts, Kept, Entered}
 use Rattle.strict.specs.declared.entity.Part.the-variants.{Known}
 use Rattle.strict.specs.declared.entity.Look.the-variants.{At as Atˡ}

@@ -17,30 +17,6 @@ abbrev μ-loop : tie.MeasureT-loop
 loop-holds : tie.Need-loop-holds Inv-loop μ-loop
 loop-holds c = walk-start _ _ _ _ 0 (search needs)
 
-mul-leads : tie.Need-mul-leads Inv-loop μ-loop
-mul-leads c = search needs
-
-shared-slice-read-leads : tie.Need-shared-slice-read-leads Inv-loop μ-loop
-shared-slice-read-leads c = search needs
-
-leads-requires : tie.Need-leads-requires Inv-loop μ-loop
-leads-requires c κs = search needs
-
-walk-on-requires : tie.Need-walk-on-requires Inv-loop μ-loop
-walk-on-requires c κs = search needs
-
-add-if3 : tie.Need-add-if3 Inv-loop μ-loop
-add-if3 c = search needs
-
-led-to-requires : tie.Need-led-to-requires Inv-loop μ-loop
-led-to-requires c κs = search needs
-
-add-i : tie.Need-add-i Inv-loop μ-loop
-add-i c = search needs
-
-loop-less : tie.Need-loop-less Inv-loop μ-loop
-loop-less c = search needs
-
 loop-again : tie.Need-loop-again Inv-loop μ-loop
 loop-again c =
     let s = c .before .before .before in
@@ -63,14 +39,14 @@ walk-firsts-spec =
     Inv-loop
     μ-loop
     loop-holds
-    mul-leads
-    shared-slice-read-leads
-    leads-requires
-    walk-on-requires
-    add-if3
-    led-to-requires
-    add-i
-    loop-less
+    (λ c. search needs)
+    (λ c. search needs)
+    (λ c κs. search needs)
+    (λ c κs. search needs)
+    (λ c. search needs)
+    (λ c κs. search needs)
+    (λ c. search needs)
+    (λ c. search needs)
     loop-again
     returns
     returns-2
