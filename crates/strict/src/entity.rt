@@ -668,12 +668,15 @@ fn walk_long(rows: &[u32], complete: bool, value: u32, path: &[u32]) -> Walked
     walk_firsts(rows, complete, value, path, &texts[..], &nexts[..])
 }
 
-// A path of texts from value `value` on. For a short one no first attributes are noted.
+// A path of texts from value `value` on. For a short one, and where there are no entities, no first attributes are noted.
 pub fn walk(rows: &[u32], complete: bool, value: u32, path: &[u32]) -> Walked
     ensures { λ r. ⌜ r ≡ walkFrom complete (now (rows .entry)) value 0 (now (path .entry)) ⌝ }
 {
-    if path.len() >= LONG {
-        return walk_long(rows, complete, value, path);
+    if path.len() < LONG {
+        return walk_on(rows, complete, value, 0, path);
     }
-    walk_on(rows, complete, value, 0, path)
+    if count(rows, ENTITY) == 0 {
+        return walk_on(rows, complete, value, 0, path);
+    }
+    walk_long(rows, complete, value, path)
 }
