@@ -1,7 +1,6 @@
--- First attributes, as the code notes them and follows them. Assumes nothing.
+-- Attributes that a path asks for first, as the code notes them and follows them. Assumes nothing.
 use mathlib.Core.Path.{_≡_, refl, sym, ap, _∙_}
 use mathlib.Core.Bool.{Bool, true, false, not}
-use mathlib.Core.Option.{some}
 use mathlib.Core.List.{List, [], _∷_}
 use Prim.Native.Nat.{ℕ, zero, suc, _+_, _≤_, _<_}
 use native.Mathlib.Numerals.{add-one}
@@ -15,15 +14,16 @@ use types.Run.{OneOf}
 use denote.Enum.Declared.{tagOf}
 use Rattle.value.proofs.Shape.{the-type}
 use Rattle.cedar.specs.Rows.{rbool, rent, sameRow}
-use Rattle.cedar.specs.Numbered.{entryOf, pickN}
+use Rattle.cedar.specs.Numbered.{entryOf}
 use Rattle.sheet.specs.Forms.{items, at, mark, VALUE, ENTITY}
 use Rattle.sheet.specs.State.{valueRow, entriesOf}
 use Rattle.table.specs.Layout.{rowsOf}
 use Rattle.table.proofs.Rows.{count-rows, row-none}
 use Rattle.value.specs.Lines.{valueLines}
-use Rattle.value.specs.Shapes.{shapeOf}
+use Rattle.value.specs.Shapes.{shapeOf, valueFound}
 use Rattle.value.specs.declared.Shape.{Shape}
 use Rattle.value.specs.declared.Shape.the-variants.{Entity, Record}
+use Rattle.value.specs.declared.Entry.{Entry}
 use Rattle.value.specs.declared.Entry.the-variants.{At}
 use Rattle.value.proofs.Shaped.{row-given}
 use Rattle.strict.specs.Lookups.{isEntityAt, lineAt, lineIn, partOf, partIn, lookAttr, walkFrom}
@@ -35,23 +35,18 @@ use Rattle.strict.specs.declared.entity.Walked.the-variants.{Holds}
 use Rattle.strict.proofs.Finds.{not-same, entity-other, entity-kind, entity-text, Seeking, seek-start, seek-hit, seek-on, part-known, part-line, look-found, attr-entity}
 use Rattle.strict.proofs.Entities.{Walking, walk-last, walk-on}
 
--- ---- the first entry of a record
-
-first-entry : (l : List ℕ) → 2 ≤ length l → entryOf (getD l 0 0) (entriesOf l) ≡ some (getD l 1 0)
-first-entry [] h = absurd (omega (arith, h))
-first-entry (t ∷ []) h = absurd (omega (arith, h))
-first-entry (t ∷ v ∷ l) h = ap (λ (b : Bool). pickN b v (entryOf t (entriesOf l))) (eq-eqb t t refl)
+-- ---- one attribute of a record
 
 pub leads-none : (a : List ℕ) (m x : ℕ) → Leads a m 0 x
 leads-none a m x = record { is = λ u e. absurd (omega (arith, e)) }
 
-pub leads-first : (a : List ℕ) (m : ℕ) (q : List ℕ) (s : Shape) (l : List ℕ) → q ≡ getD (valueLines a) m [] → s ≡ shapeOf q → s ≡ Record → l ≡ items q → (m ≡ mark → ⊥) → 2 ≤ length l → Leads a m (getD l 0 0 + 1) (getD l 1 0)
-leads-first a m q s l eq es z el n h = record { is = λ u e. (n, look-found a m q s eq es u z l el (At (getD l 1 0)) (entry u e) (getD l 1 0) refl) }
+pub leads-text : (a : List ℕ) (m : ℕ) (q : List ℕ) (s : Shape) (l : List ℕ) → q ≡ getD (valueLines a) m [] → s ≡ shapeOf q → s ≡ Record → l ≡ items q → (m ≡ mark → ⊥) → (t : ℕ) (f : Entry) → valueFound f ≡ entryOf t (entriesOf l) → (x : ℕ) → f ≡ At x → Leads a m (t + 1) x
+leads-text a m q s l eq es z el n t f ef x y = record { is = λ u e. (n, look-found a m q s eq es u z l el f (entry u e) x y) }
   where
-    entry : (u : ℕ) → getD l 0 0 + 1 ≡ suc u → some (getD l 1 0) ≡ entryOf u (entriesOf l)
+    entry : (u : ℕ) → t + 1 ≡ suc u → valueFound f ≡ entryOf u (entriesOf l)
     entry u e =
-        let y : getD l 0 0 ≡ u = omega (arith, e) in
-        sym (first-entry l h) ∙ ap (λ (x : ℕ). entryOf x (entriesOf l)) y
+        let h : t ≡ u = omega (arith, e) in
+        ef ∙ ap (λ (w : ℕ). entryOf w (entriesOf l)) h
 
 -- ---- noted
 

@@ -1,4 +1,4 @@
--- The first attribute of an entity, noted by the number of its value.
+-- The attribute of an entity that a path asks for first, noted by the number of its value.
 use mathlib.Core.Path.{_≡_}
 use mathlib.Core.Bool.{Bool, false}
 use mathlib.Core.List.{List, []}

@@ -615,7 +615,7 @@ fn walk_on(rows: &[u32], complete: bool, value: u32, first: usize, path: &[u32])
     )
 }
 
-// Whether `text` is the first attribute noted for `value`.
+// Whether the attribute noted for `value` has this text.
 fn leads(texts: &[u32], value: u32, text: u32) -> bool
     ensures { λ b. ⌜ b ≡ eqb (getD (now (texts .entry)) value 0) (text + 1) ⌝ }
 {
@@ -629,7 +629,7 @@ fn led_to(nexts: &[u32], value: u32) -> u32
     read(nexts, value as usize)
 }
 
-// A path of texts from value `value` on, by first attributes as far as they lead.
+// A path of texts from value `value` on, by the attributes noted as far as they lead.
 fn walk_firsts(
     rows: &[u32],
     complete: bool,
@@ -658,17 +658,17 @@ fn walk_firsts(
     }
 }
 
-// A long path of texts from value `value` on.
+// A long path of texts from value `value` on: of each entity the attribute that the first step asks for is noted.
 fn walk_long(rows: &[u32], complete: bool, value: u32, path: &[u32]) -> Walked
     ensures { λ r. ⌜ r ≡ walkFrom complete (now (rows .entry)) value 0 (now (path .entry)) ⌝ }
 {
     let mut texts: [u32; VALUES] = [0; VALUES];
     let mut nexts: [u32; VALUES] = [0; VALUES];
-    firsts(rows, &mut texts[..], &mut nexts[..]);
+    firsts(rows, read(path, 0), &mut texts[..], &mut nexts[..]);
     walk_firsts(rows, complete, value, path, &texts[..], &nexts[..])
 }
 
-// A path of texts from value `value` on. For a short one, and where there are no entities, no first attributes are noted.
+// A path of texts from value `value` on. For a short one, and where there are no entities, no attributes are noted.
 pub fn walk(rows: &[u32], complete: bool, value: u32, path: &[u32]) -> Walked
     ensures { λ r. ⌜ r ≡ walkFrom complete (now (rows .entry)) value 0 (now (path .entry)) ⌝ }
 {

@@ -1,4 +1,4 @@
-// The first attribute of each entity whose line is the first with its text, for the steps of a long path. What stands there is noted in two tables by
+// The attribute that a long path asks for first, of each entity whose line is the first with its text. What stands there is noted in two tables by
 // value: the attribute's text plus one, or 0 where nothing is noted, and the value that it leads to.
 use crate::chains::TEXTS;
 use forms::ENTITY;
@@ -7,7 +7,9 @@ use forms::VALUE;
 use table::count;
 use table::item;
 use table::row;
+use value::Entry;
 use value::Shape;
+use value::entry_of;
 use value::members;
 use value::row_of;
 use value::shape_of;
@@ -26,11 +28,14 @@ struct First {
     next: u32,
 }
 
-// The first attribute that an entity has whose attributes are `source`, a record or unknown.
-fn first_in(rows: &[u32], source: u32) -> First
+// The attribute of this text that an entity has whose attributes are `source`, a record or unknown.
+fn first_in(rows: &[u32], source: u32, text: u32) -> First
     ensures { λ f. ⌜ Leads (now (rows .entry)) source (f .text) (f .next) ⌝ }
 {
     if source == MARK {
+        return First { text: 0, next: 0 };
+    }
+    if text >= TEXTS as u32 {
         return First { text: 0, next: 0 };
     }
     let r = row_of(rows, source as usize);
@@ -38,31 +43,33 @@ fn first_in(rows: &[u32], source: u32) -> First
     let Shape::Record = s else {
         return First { text: 0, next: 0 };
     };
-    let l = members(r);
-    if l.len() < 2 {
+    let Entry::At(next) = entry_of(members(r), text) else {
         return First { text: 0, next: 0 };
-    }
-    let u = l[0];
-    if u >= TEXTS as u32 {
-        return First { text: 0, next: 0 };
-    }
+    };
     First {
-        text: u + 1,
-        next: l[1],
+        text: text + 1,
+        next,
     }
 }
 
-// Notes the first attribute of `value`, whose attributes are `source`.
-fn keep(rows: &[u32], value: u32, source: u32, texts: &mut [u32], nexts: &mut [u32])
+// Notes the attribute of this text of `value`, whose attributes are `source`.
+fn keep(rows: &[u32], value: u32, source: u32, text: u32, texts: &mut [u32], nexts: &mut [u32])
     ensures { λ _. ⌜ Kept (now (rows .entry)) value source (now (texts .entry)) (now (nexts .entry)) (now (texts .exit)) (now (nexts .exit)) ⌝ }
 {
-    let f = first_in(rows, source);
+    let f = first_in(rows, source, text);
     put(texts, value as usize, f.text);
     put(nexts, value as usize, f.next);
 }
 
 // Notes the entity of line `number`, unless a line before it has its text.
-fn enter(rows: &[u32], number: u32, seen: &mut [u32], texts: &mut [u32], nexts: &mut [u32])
+fn enter(
+    rows: &[u32],
+    number: u32,
+    text: u32,
+    seen: &mut [u32],
+    texts: &mut [u32],
+    nexts: &mut [u32],
+)
     requires { ⌜ number < length (rowsOf (now rows) ENTITY) ⌝ }
     requires { ⌜ Entered (now rows) number (now seen) (now texts) (now nexts) ⌝ }
     ensures { λ _. ⌜ Entered (now (rows .entry)) (number + 1) (now (seen .exit)) (now (texts .exit)) (now (nexts .exit)) ⌝ }
@@ -83,27 +90,27 @@ fn enter(rows: &[u32], number: u32, seen: &mut [u32], texts: &mut [u32], nexts: 
         return;
     }
     put(seen, t as usize, 1);
-    keep(rows, v, item(line, 2), texts, nexts);
+    keep(rows, v, item(line, 2), text, texts, nexts);
 }
 
 // Notes the entities of all lines.
-fn enter_all(rows: &[u32], seen: &mut [u32], texts: &mut [u32], nexts: &mut [u32])
+fn enter_all(rows: &[u32], text: u32, seen: &mut [u32], texts: &mut [u32], nexts: &mut [u32])
     requires { ⌜ Firsts (now rows) (now texts) (now nexts) ⌝ }
     ensures { λ _. ⌜ Firsts (now (rows .entry)) (now (texts .exit)) (now (nexts .exit)) ⌝ }
 {
     let n = count(rows, ENTITY);
     let mut i = 0;
     while i < n {
-        enter(rows, i, seen, texts, nexts);
+        enter(rows, i, text, seen, texts, nexts);
         i += 1;
     }
 }
 
 // The same, with a table by text for those met.
-pub fn firsts(rows: &[u32], texts: &mut [u32], nexts: &mut [u32])
+pub fn firsts(rows: &[u32], text: u32, texts: &mut [u32], nexts: &mut [u32])
     requires { ⌜ Firsts (now rows) (now texts) (now nexts) ⌝ }
     ensures { λ _. ⌜ Firsts (now (rows .entry)) (now (texts .exit)) (now (nexts .exit)) ⌝ }
 {
     let mut seen: [u32; TEXTS] = [0; TEXTS];
-    enter_all(rows, &mut seen[..], texts, nexts);
+    enter_all(rows, text, &mut seen[..], texts, nexts);
 }

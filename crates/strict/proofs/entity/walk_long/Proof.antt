@@ -12,6 +12,7 @@ pub walk-long-spec : {M : Type 1} → statement M
 walk-long-spec =
     tie.close
     (tie.spec
+    (λ c κs. search needs)
     (λ c. search needs)
     (λ c. search needs)
     firsts-requires

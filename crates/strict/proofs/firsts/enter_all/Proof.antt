@@ -6,10 +6,10 @@ use Rattle.strict.proofs.firsts.enter_all.Statement.{statement}
 use Rattle.strict.proofs.firsts.enter_all.Tie as tie
 
 abbrev Inv-loop : tie.InvT-loop
-Inv-loop rows seen₀ texts₀ nexts₀ n i₀ seen texts nexts i = Entering rows seen₀ texts₀ nexts₀ seen texts nexts n i
+Inv-loop rows text seen₀ texts₀ nexts₀ n i₀ seen texts nexts i = Entering rows seen₀ texts₀ nexts₀ seen texts nexts n i
 
 abbrev μ-loop : tie.MeasureT-loop
-μ-loop rows seen₀ texts₀ nexts₀ n i₀ seen texts nexts i = n - i
+μ-loop rows text seen₀ texts₀ nexts₀ n i₀ seen texts nexts i = n - i
 
 loop-holds : tie.Need-loop-holds Inv-loop μ-loop
 loop-holds c = search (entering-start, needs)
