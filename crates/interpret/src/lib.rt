@@ -1,5 +1,6 @@
 // The interpreter of policies, `Evaluator::interpret`: a cycle of calls over the nodes of a tree, of which no more than 64 levels are
-// taken. A node leaves one block more on the `log`; what is made joins the values in `rows`.
+// taken. A node leaves one block more on the `log`; what is made joins the values in `rows`. Of these the first `skip` are no bools: a search for a bool
+// begins after them.
 use forms::AND;
 use forms::EQ;
 use forms::ERR;

@@ -1,5 +1,5 @@
 // The interpreter of policies. Its definition over words is in specs/, what it means in proofs/. What a node does with its worked
-// operands stands in `steps`.
+// operands stands in `steps`. The first `skip` values are no bools: a search for a bool begins after them.
 pub mod steps;
 
 use residual::Stage;

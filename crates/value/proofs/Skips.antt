@@ -11,7 +11,7 @@ use Rattle.forms.specs.Tags.{BOOL-VALUE}
 use Rattle.sheet.specs.Forms.{VALUE}
 use Rattle.table.specs.Layout.{TOP, heap, base, limit, limits, rowsOf}
 use Rattle.table.proofs.Rows.{count-rows}
-use Rattle.value.specs.Lines.{placeOf, Past}
+use Rattle.value.specs.Lines.{Past}
 use Rattle.value.specs.Made.{boolRow}
 use Rattle.value.specs.Clear.{Clear, clearAt}
 use Rattle.value.proofs.Makes.{Finding}
