@@ -170,6 +170,9 @@ module _ (a r : List ℕ) (s y : ℕ) where
 
 -- ---- any path
 
+pub never : false ≡ true → ⊥
+never e = let z : _≡_ {A = ℕ} 0 1 = cc in omega arith
+
 -- what is left of row r's path, from word i and type z on, decides the path from type y
 pub record Single (a r : List ℕ) (y z i : ℕ) : Type 0 where
   pub left : pathFrom a (drop 4 r) (getD r 3 0) y ≡ leftAt a r i z
@@ -191,8 +194,8 @@ module _ (a r : List ℕ) (y n : ℕ) (en : n ≡ getD a TYPE 0) where
     pub single-nowhere : p ≡ P.the-variants.Nowhere → false ≡ pathAt a r y
     single-nowhere e = false-is (pathAt a r y) (λ h. q .place .nowhere e (stepAt a r i) (sym (path-each a (drop i r) (getD r (i - 1) 0) z) ∙ sym path-few ∙ h))
 
-    pub single-group : (b : Bool) → p ≡ P.the-variants.Group → b ≡ leftAt a r i z → b ≡ pathAt a r y
-    single-group b e eb = eb ∙ sym path-few
+    pub single-left : (b : Bool) → b ≡ leftAt a r i z → b ≡ pathAt a r y
+    single-left b eb = eb ∙ sym path-few
 
     module _ (x : ℕ) (e : p ≡ P.the-variants.Alone x) where
       one-record : leftAt a r i z ≡ stepAt a r i x

@@ -1,4 +1,4 @@
-// The typing of paths: the types that the steps of a `haspath` reach, as a set of bits. A path of n steps over a group of k kinds has up to k^n
+// The typing of paths: the record types that the steps of a `haspath` reach, as a set of bits. A path of n steps over a group of k kinds has up to k^n
 // ways, so no way is followed alone.
 use crate::types::attribute;
 use crate::types::attribute_type;
@@ -43,6 +43,11 @@ const TEXTS: usize = 16;
 const SLOTS: usize = 8;
 
 const PLACES: usize = SLOTS * TYPES;
+
+// The words of a long record type, and the fewest steps for which it is searched once for each text.
+const LONG: usize = 96;
+
+const FEW: usize = 16;
 
 // ---- sets
 
@@ -312,12 +317,27 @@ fn join_places(images: &[u32], reached: &mut [u32], records: &[u32], slot: usize
 
 // ---- a step
 
+// The slot of a text, either of two: the first one, where it has this text or nothing is seen there.
+fn slot_of(texts: &[u32], seen: &[u32], text: u32) -> usize
+    ensures { λ s. ⌜ s < SLOTS ⌝ }
+{
+    let first = text as usize % SLOTS;
+    if read(texts, first) == text {
+        return first;
+    }
+    let w = first * WORDS;
+    if read(seen, w) | read(seen, w + 1) | read(seen, w + 2) | read(seen, w + 3) == 0 {
+        return first;
+    }
+    text as usize / SLOTS % SLOTS
+}
+
 // The text of a slot, a later one in the place of an earlier one: its slot.
 fn settle(texts: &mut [u32], seen: &mut [u32], text: u32) -> usize
     requires { ⌜ (length (now texts) ≡ SLOTS) × (length (now seen) ≡ SLOTS * WORDS) ⌝ }
     ensures { λ s. ⌜ Settled (now (texts .entry)) (now (seen .entry)) (now (texts .exit)) (now (seen .exit)) text s × (s < SLOTS) ⌝ }
 {
-    let slot = text as usize % SLOTS;
+    let slot = slot_of(texts, seen, text);
     if read(texts, slot) == text {
         return slot;
     }
@@ -485,6 +505,20 @@ fn place_of(rows: &[u32], ty: u32) -> Place
     }
 }
 
+// Whether a path with so many steps left, from a type with this record type, is worked as those from groups are, so that a long record type is
+// searched once for each text.
+fn is_searched_once(rows: &[u32], ty: u32, record: u32, left: usize) -> bool
+    ensures { λ b. ⌜ (b ≡ true → ty < getD (now (rows .entry)) TYPE 0) ⌝ }
+{
+    if ty >= count(rows, TYPE) {
+        return false;
+    }
+    if left < FEW {
+        return false;
+    }
+    row(rows, TYPE, record).len() >= LONG
+}
+
 // Whether all steps of a row's path, from a type on, are typed.
 pub fn path_typed(rows: &[u32], line: &[u32], ty: u32) -> bool
     ensures { λ b. ⌜ b ≡ pathAt (now (rows .entry)) (now (line .entry)) ty ⌝ }
@@ -502,6 +536,9 @@ pub fn path_typed(rows: &[u32], line: &[u32], ty: u32) -> bool
             Place::Alone(y) => {
                 if i >= line.len() {
                     break true;
+                }
+                if is_searched_once(rows, z, y, line.len() - i) {
+                    break group_typed(rows, line, z, i);
                 }
                 let f = attribute(rows, y, item(line, i - 1));
                 let Found::As(t) = f else {
