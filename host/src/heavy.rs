@@ -183,11 +183,16 @@ pub fn all() -> Vec<(&'static str, Mode, Vec<u8>)> {
     add("64 policies over one root of 16 nodes, both slots linked", linked());
     add("64 policies over one root, a star and many empty texts", long_pattern(b"", true));
     add("64 policies over one root, haspath over many steps, the last of 128 entities", entity_steps(b"last", true));
-    add("64 policies over one root, five paths through a ring of 128 entities", shared_ring());
+    add("64 policies over one root, five paths through a ring of 128 entities", shared_ring(&[b"a"]));
+    add("64 policies over one root, five paths of two texts through a ring of 128 entities", shared_ring(&[b"a", b"b"]));
     add("64 policies over one root, made values among many", shared_made(1));
     add("64 policies over one root, any on long sets", shared_sets());
     add("64 policies over one root, get in a long record", shared_gets());
     add("16 policies over one root of 20 in, through a row of 128 entities", shared_in(|draft| row_of(draft, false), 1));
+    add(
+        "16 policies over one root of 20 in, through a row of 128 entities from the last to the first",
+        shared_in(|draft| earlier_of(draft, 1), 1),
+    );
     add(
         "16 policies over one root of 20 in, 128 entities that are all each other's parents",
         shared_in(|draft| all_of(draft, 128), 1),
@@ -206,7 +211,8 @@ pub fn all() -> Vec<(&'static str, Mode, Vec<u8>)> {
     add("has in a group of 31 kinds with a long record", has_in_group());
     add("64 policies over one root, has in a group of 31 kinds with a long record", shared_has_in_group());
     add("haspath to and fro between two sets of 31 types", steps_between_sets());
-    add("haspath over sets of types that hardly repeat", steps_over_new_sets());
+    add("haspath over sets of types that hardly repeat", steps_over_new_sets(2));
+    add("haspath over sets of types that hardly repeat, two texts that share a place", steps_over_new_sets(8));
     add("haspath to and fro between two groups, ten records of 95 attributes", steps_between_groups());
     add("16 policies over one root of 20 in a long set of entities of 26 kinds", shared_in_kinds());
     add("512 texts with a long common end", common_text_ends());
@@ -876,31 +882,34 @@ fn entity_steps(text: &[u8], shared: bool) -> Draft {
     })
 }
 
-/// 128 entities, each of which has the next one as this attribute, and the last one the first.
-fn ring_of(draft: &mut Draft, attribute: u32) {
+/// 128 entities, each of which has the next one as each of these attributes, and the last one the first.
+fn ring_of(draft: &mut Draft, attributes: &[u32]) {
     let row = brokers(draft, 128);
     let none = Some(draft.value(ValueRow::Record(Vec::new())));
     let parents = Some(draft.value(ValueRow::Set(Vec::new())));
     for (n, entity) in row.iter().enumerate() {
-        let attributes = Some(draft.value(ValueRow::Record(vec![(attribute, row[(n + 1) % row.len()])])));
+        let next = row[(n + 1) % row.len()];
+        let fields = attributes.iter().map(|attribute| (*attribute, next)).collect();
+        let attributes = Some(draft.value(ValueRow::Record(fields)));
         draft.entities.push(EntityRow { entity: *entity, attributes, tags: none, parents });
     }
 }
 
-/// Five paths of as many steps as fit from the last of 128 entities, each step to the next entity of the ring. No two paths are
-/// equally long.
-fn shared_ring() -> Draft {
+/// Five paths of as many steps as fit from the last of 128 entities, each step to the next entity of the ring by these attributes
+/// in turn. No two paths are equally long.
+fn shared_ring(names: &[&[u8]]) -> Draft {
     let mut draft = small();
-    let a = draft.text(b"a");
-    draft.shapes[0].attributes = draft.ty(TypeRow::Record(vec![(a, false, 2)]));
-    ring_of(&mut draft, a);
+    let attributes: Vec<u32> = names.iter().map(|name| draft.text(name)).collect();
+    draft.shapes[0].attributes = draft.ty(TypeRow::Record(attributes.iter().map(|attribute| (*attribute, false, 2)).collect()));
+    ring_of(&mut draft, &attributes);
     draft.principal = (0, Some(draft.text(b"127")));
     greatest(|steps| {
         let mut next = draft.clone();
         let leaves = (0..5)
             .map(|more| {
                 let var = next.node(2, Operation::Var(Variable::Principal));
-                next.node(0, Operation::HasPath(var, vec![a; steps + more]))
+                let path = attributes.iter().copied().cycle().take(steps + more).collect();
+                next.node(0, Operation::HasPath(var, path))
             })
             .collect();
         sixteen(&mut next, Two::And, leaves);
@@ -1221,9 +1230,9 @@ fn steps_between_sets() -> Draft {
     longest(draft, all, &[2, 0])
 }
 
-/// Each kind declares the next one as text 0, and the next one but for an exchange of the first two as text 2: a path of both
+/// Each kind declares the next one as text 0, and the next one but for an exchange of the first two as another: a path of both
 /// texts in random order permutes the kinds, and nearly every step goes from 24 of them to a set not reached before.
-fn steps_over_new_sets() -> Draft {
+fn steps_over_new_sets(other: u32) -> Draft {
     let mut draft = many_kinds();
     let kinds: Vec<u32> = ordinary_kinds().collect();
     let alone: Vec<u32> = kinds.iter().map(|kind| draft.alone(*kind)).collect();
@@ -1231,11 +1240,11 @@ fn steps_over_new_sets() -> Draft {
         let next = (n + 1) % alone.len();
         let swapped = if next < 2 { 1 - next } else { next };
         draft.shapes[*kind as usize].attributes =
-            draft.ty(TypeRow::Record(vec![(0, false, alone[next]), (2, false, alone[swapped])]));
+            draft.ty(TypeRow::Record(vec![(0, false, alone[next]), (other, false, alone[swapped])]));
     }
     let group = draft.ty(TypeRow::Entity(kinds[..24].to_vec()));
     let mut random = Random::of(1, 0);
-    let path: Vec<u32> = (0..SHEET_BYTES / 2).map(|_| random.pick(&[0, 2])).collect();
+    let path: Vec<u32> = (0..SHEET_BYTES / 2).map(|_| random.pick(&[0, other])).collect();
     greatest(|count| {
         let mut next = draft.clone();
         steps(&mut next, group, path[..40 * count].to_vec());

@@ -1,5 +1,6 @@
 // The interpreter of policies, `Evaluator::interpret`: a cycle of calls over the nodes of a tree, of which no more than 64 levels are
-// taken. A node leaves one block more on the `log`; what is made joins the values in `rows`.
+// taken. A node leaves one block more on the `log`; what is made joins the values in `rows`. Of these the first `skip` are no bools: a search for a bool
+// begins after them.
 use forms::AND;
 use forms::EQ;
 use forms::ERR;
@@ -39,6 +40,7 @@ use tpe::steps::one;
 use tpe::steps::two;
 use tpe::steps::var;
 use typing::links::slot_value;
+use value::making::clear_of;
 use words::ROOM;
 use words::put;
 ghost use mathlib.Core.Path.{_≡_};
@@ -49,6 +51,7 @@ ghost use lib.ListN.{getD, length, take};
 ghost use Rattle.words.specs.Log.{Room};
 ghost use Rattle.forms.specs.Tags.{AND, SET-OF};
 ghost use Rattle.sheet.specs.Forms.{partial};
+ghost use Rattle.value.specs.Clear.{Clear};
 ghost use Rattle.residual.specs.Rows.{ROW, stageAt};
 ghost use Rattle.residual.specs.Classes.{classNumber};
 ghost use Rattle.tpe.specs.Run.{left, sideOf, classOf, joinOf, secondOf, splitOf, interpOf, runOf};
@@ -153,6 +156,7 @@ fn slot(rows: &[u32], log: &mut [u32], top: usize, node: u32, p: u32, q: u32) ->
 
 // Beside an open left side, which ends at `mid`, the right side of the node is worked.
 fn beside(
+    skip: usize,
     rows: &mut [u32],
     log: &mut [u32],
     start: usize,
@@ -164,10 +168,11 @@ fn beside(
 ) -> usize
     requires { ⌜ Room (now log) top ⌝ }
     requires { ⌜ (start ≤ mid) × (mid ≤ top) ⌝ }
+    requires { ⌜ Clear (now rows) skip ⌝ }
     ensures { λ e. ⌜ Leaves start (now (rows .exit)) (now (log .exit)) e (secondOf stop start node ty mid (left (now (rows .entry)) (take top (now (log .entry))))) ⌝ }
 {
     match side_at(rows, log, top, stop) {
-        Side::Stops => decided(rows, log, start, mid, top, node, stop, ty),
+        Side::Stops => decided(skip, rows, log, start, mid, top, node, stop, ty),
         Side::Goes => mid,
         Side::Wrong => push_left(log, start, top, node, 0, ty),
         Side::Unsure => push_left(log, start, top, node, 0, ty),
@@ -181,6 +186,7 @@ pub fn interpret(
     sheet: &[u8],
     p: u32,
     q: u32,
+    skip: usize,
     rows: &mut [u32],
     log: &mut [u32],
     top: usize,
@@ -188,6 +194,7 @@ pub fn interpret(
     depth: u32,
 ) -> usize
     requires { ⌜ Room (now log) top ⌝ }
+    requires { ⌜ Clear (now rows) skip ⌝ }
     ensures { λ e. ⌜ Leaves top (now (rows .exit)) (now (log .exit)) e (interpOf partial (now (sheet .entry)) p q depth (now (rows .entry)) (take top (now (log .entry))) node) ⌝ }
 {
     if depth == 0 {
@@ -198,11 +205,11 @@ pub fn interpret(
         return leaf(rows, log, top, node, tag);
     }
     if tag < SET_OF {
-        return operation(sheet, p, q, rows, log, top, node, tag, depth - 1);
+        return operation(sheet, p, q, skip, rows, log, top, node, tag, depth - 1);
     }
     match tag {
-        SET_OF => group(sheet, p, q, rows, log, top, node, tag, 1, depth - 1),
-        RECORD_OF => group(sheet, p, q, rows, log, top, node, tag, 2, depth - 1),
+        SET_OF => group(sheet, p, q, skip, rows, log, top, node, tag, 1, depth - 1),
+        RECORD_OF => group(sheet, p, q, skip, rows, log, top, node, tag, 2, depth - 1),
         SLOT => slot(rows, log, top, node, p, q),
         _ => leaf(rows, log, top, node, tag),
     }
@@ -213,6 +220,7 @@ fn operation(
     sheet: &[u8],
     p: u32,
     q: u32,
+    skip: usize,
     rows: &mut [u32],
     log: &mut [u32],
     top: usize,
@@ -222,20 +230,33 @@ fn operation(
 ) -> usize
     requires { ⌜ Room (now log) top ⌝ }
     requires { ⌜ (AND ≤ tag) × (tag < SET-OF) ⌝ }
+    requires { ⌜ Clear (now rows) skip ⌝ }
     ensures { λ e. ⌜ Leaves top (now (rows .exit)) (now (log .exit)) e (stepBy partial (now (sheet .entry)) p q tag (interpOf partial (now (sheet .entry)) p q depth) (now (rows .entry)) (take top (now (log .entry))) node) ⌝ }
 {
     let left = item(row(rows, NODE, node), 2);
-    let end = interpret(sheet, p, q, rows, log, top, left, depth);
+    let end = interpret(sheet, p, q, skip, rows, log, top, left, depth);
     if tag < EQ {
-        return first(sheet, p, q, rows, log, top, end, node, tag == OR, depth);
+        return first(
+            sheet,
+            p,
+            q,
+            skip,
+            rows,
+            log,
+            top,
+            end,
+            node,
+            tag == OR,
+            depth,
+        );
     }
     if tag < IF {
-        return pair(sheet, p, q, rows, log, top, end, node, tag, depth);
+        return pair(sheet, p, q, skip, rows, log, top, end, node, tag, depth);
     }
     if tag < IS {
-        return branch(sheet, p, q, rows, log, top, end, node, depth);
+        return branch(sheet, p, q, skip, rows, log, top, end, node, depth);
     }
-    one(sheet, rows, log, top, end, node, tag)
+    one(sheet, skip, rows, log, top, end, node, tag)
 }
 
 // `and` and `or`, where the bool `stop` decides: the left side is worked.
@@ -243,6 +264,7 @@ fn first(
     sheet: &[u8],
     p: u32,
     q: u32,
+    skip: usize,
     rows: &mut [u32],
     log: &mut [u32],
     start: usize,
@@ -253,19 +275,21 @@ fn first(
 ) -> usize
     requires { ⌜ Room (now log) top ⌝ }
     requires { ⌜ start ≤ top ⌝ }
+    requires { ⌜ Clear (now rows) skip ⌝ }
     ensures { λ e. ⌜ Leaves start (now (rows .exit)) (now (log .exit)) e (firstIn stop (interpOf partial (now (sheet .entry)) p q depth) start node (left (now (rows .entry)) (take top (now (log .entry))))) ⌝ }
 {
     let line = row(rows, NODE, node);
     let ty = item(line, 1);
     let right = item(line, 3);
     match side_at(rows, log, top, stop) {
-        Side::Stops => give_bool(rows, log, start, stop, ty),
-        Side::Goes => interpret(sheet, p, q, rows, log, start, right, depth),
+        Side::Stops => give_bool(skip, rows, log, start, stop, ty),
+        Side::Goes => interpret(sheet, p, q, skip, rows, log, start, right, depth),
         Side::Wrong => push_error(log, start, ty),
         Side::Unsure => second(
             sheet,
             p,
             q,
+            skip,
             rows,
             log,
             start,
@@ -284,6 +308,7 @@ fn second(
     sheet: &[u8],
     p: u32,
     q: u32,
+    skip: usize,
     rows: &mut [u32],
     log: &mut [u32],
     start: usize,
@@ -296,10 +321,11 @@ fn second(
 ) -> usize
     requires { ⌜ Room (now log) mid ⌝ }
     requires { ⌜ start ≤ mid ⌝ }
+    requires { ⌜ Clear (now rows) skip ⌝ }
     ensures { λ e. ⌜ Leaves start (now (rows .exit)) (now (log .exit)) e (secondOf stop start node ty mid (interpOf partial (now (sheet .entry)) p q depth (now (rows .entry)) (take mid (now (log .entry))) right)) ⌝ }
 {
-    let end = interpret(sheet, p, q, rows, log, mid, right, depth);
-    beside(rows, log, start, mid, end, node, stop, ty)
+    let end = interpret(sheet, p, q, skip, rows, log, mid, right, depth);
+    beside(skip, rows, log, start, mid, end, node, stop, ty)
 }
 
 // An operation on two operands: the left one is worked and ends at `mid`.
@@ -307,6 +333,7 @@ fn pair(
     sheet: &[u8],
     p: u32,
     q: u32,
+    skip: usize,
     rows: &mut [u32],
     log: &mut [u32],
     start: usize,
@@ -317,11 +344,12 @@ fn pair(
 ) -> usize
     requires { ⌜ Room (now log) mid ⌝ }
     requires { ⌜ start ≤ mid ⌝ }
+    requires { ⌜ Clear (now rows) skip ⌝ }
     ensures { λ e. ⌜ Leaves start (now (rows .exit)) (now (log .exit)) e (pairIn partial (now (sheet .entry)) tag (interpOf partial (now (sheet .entry)) p q depth) start node (left (now (rows .entry)) (take mid (now (log .entry))))) ⌝ }
 {
     let right = item(row(rows, NODE, node), 3);
-    let end = interpret(sheet, p, q, rows, log, mid, right, depth);
-    two(rows, log, start, mid, end, node, tag)
+    let end = interpret(sheet, p, q, skip, rows, log, mid, right, depth);
+    two(skip, rows, log, start, mid, end, node, tag)
 }
 
 // `if`, whose test is worked.
@@ -329,6 +357,7 @@ fn branch(
     sheet: &[u8],
     p: u32,
     q: u32,
+    skip: usize,
     rows: &mut [u32],
     log: &mut [u32],
     start: usize,
@@ -338,6 +367,7 @@ fn branch(
 ) -> usize
     requires { ⌜ Room (now log) top ⌝ }
     requires { ⌜ start ≤ top ⌝ }
+    requires { ⌜ Clear (now rows) skip ⌝ }
     ensures { λ e. ⌜ Leaves start (now (rows .exit)) (now (log .exit)) e (branchIn (interpOf partial (now (sheet .entry)) p q depth) start node (left (now (rows .entry)) (take top (now (log .entry))))) ⌝ }
 {
     let line = row(rows, NODE, node);
@@ -345,13 +375,14 @@ fn branch(
     let then = item(line, 3);
     let other = item(line, 4);
     match class_at(rows, log, top) {
-        Class::True => interpret(sheet, p, q, rows, log, start, then, depth),
-        Class::False => interpret(sheet, p, q, rows, log, start, other, depth),
+        Class::True => interpret(sheet, p, q, skip, rows, log, start, then, depth),
+        Class::False => interpret(sheet, p, q, skip, rows, log, start, other, depth),
         Class::Error => push_error(log, start, ty),
         Class::Open => split(
             sheet,
             p,
             q,
+            skip,
             rows,
             log,
             start,
@@ -370,6 +401,7 @@ fn split(
     sheet: &[u8],
     p: u32,
     q: u32,
+    skip: usize,
     rows: &mut [u32],
     log: &mut [u32],
     start: usize,
@@ -382,10 +414,11 @@ fn split(
 ) -> usize
     requires { ⌜ Room (now log) top ⌝ }
     requires { ⌜ start ≤ top ⌝ }
+    requires { ⌜ Clear (now rows) skip ⌝ }
     ensures { λ e. ⌜ Leaves start (now (rows .exit)) (now (log .exit)) e (splitOf (interpOf partial (now (sheet .entry)) p q depth) start node ty other (interpOf partial (now (sheet .entry)) p q depth (now (rows .entry)) (take top (now (log .entry))) then)) ⌝ }
 {
-    let mid = interpret(sheet, p, q, rows, log, top, then, depth);
-    let end = interpret(sheet, p, q, rows, log, mid, other, depth);
+    let mid = interpret(sheet, p, q, skip, rows, log, top, then, depth);
+    let end = interpret(sheet, p, q, skip, rows, log, mid, other, depth);
     push_left(log, start, end, node, 0, ty)
 }
 
@@ -394,6 +427,7 @@ fn group(
     sheet: &[u8],
     p: u32,
     q: u32,
+    skip: usize,
     rows: &mut [u32],
     log: &mut [u32],
     top: usize,
@@ -404,6 +438,7 @@ fn group(
 ) -> usize
     requires { ⌜ Room (now log) top ⌝ }
     requires { ⌜ 0 < step ⌝ }
+    requires { ⌜ Clear (now rows) skip ⌝ }
     ensures { λ e. ⌜ Leaves top (now (rows .exit)) (now (log .exit)) e (groupOf partial (now (sheet .entry)) tag step (interpOf partial (now (sheet .entry)) p q depth) (now (rows .entry)) (take top (now (log .entry))) node) ⌝ }
 {
     let len = row(rows, NODE, node).len();
@@ -412,7 +447,7 @@ fn group(
     let mut i = 2;
     while has_more(len, i, step) {
         let child = item(row(rows, NODE, node), i + step - 1);
-        end = interpret(sheet, p, q, rows, log, end, child, depth);
+        end = interpret(sheet, p, q, skip, rows, log, end, child, depth);
         joined = join(log, end, joined);
         i += step;
     }
@@ -426,6 +461,7 @@ pub fn run(sheet: &[u8], rows: &mut [u32], log: &mut [u32]) -> usize
     requires { ⌜ (16384 ≤ length (now rows)) × (16384 ≤ length (now log)) ⌝ }
     ensures { λ e. ⌜ Leaves 0 (now (rows .exit)) (now (log .exit)) e (ended (runOf partial (now (sheet .entry)) (now (rows .entry)) [])) ⌝ }
 {
+    let skip = clear_of(rows);
     let most = count(rows, RUN);
     let mut end = 0;
     let mut i = 0;
@@ -434,7 +470,7 @@ pub fn run(sheet: &[u8], rows: &mut [u32], log: &mut [u32]) -> usize
         let root = item(policy, 3);
         let p = item(policy, 4);
         let q = item(policy, 5);
-        end = interpret(sheet, p, q, rows, log, end, root, DEPTH);
+        end = interpret(sheet, p, q, skip, rows, log, end, root, DEPTH);
         i += 1;
     }
     end

@@ -1,17 +1,18 @@
 -- The refusals of a row in number order, and what is left of the words. Assumes nothing.
 use mathlib.Core.Path.{_≡_, refl, sym, ap, ap₂, subst, _∙_}
 use mathlib.Core.Bool.{Bool, true, false, cond, not, _||_}
-use mathlib.Core.List.{List, [], _∷_, _++_}
+use mathlib.Core.List.{List, [], _∷_, _++_, append-nil}
 use Prim.Native.Nat.{ℕ, suc, _+_, _-_, _≤_, _<_}
 use native.Mathlib.Omega.{arith}
 use native.Mathlib.Decide.{ℕ-discrete, decLt}
 use borrow.Author.Tests.{ne-eqb, lt-ltb, le-ltb, leb-false, not-true, not-false}
 use lib.Dec.{leb, ltb}
-use lib.ListN.{length, getD, take, drop, List·getD-eq-default}
-use lib.Seq.{drop-drop}
+use lib.ListN.{length, getD, take, drop, drop-of-length-le, List·getD-eq-default}
+use lib.Seq.{drop-drop, length-take-le, take-all}
+use Rattle.words.specs.Log.{room}
 use Rattle.words.proofs.Stores.{getD-below, part-below}
 use Rattle.sheet.specs.Forms.{formOf, tag, keyOf, refs, TEXT, ENTITY, NODE, noKey}
-use Rattle.sheet.specs.State.{State, count}
+use Rattle.sheet.specs.State.{State, linesOf, count}
 use Rattle.sheet.specs.Typing.{typed}
 use Rattle.sheet.specs.Sheet.{greatest, overused, inOrder, tooMany, found, deepest, depth, usedTwice, marked, faultOf}
 use Rattle.table.specs.Layout.{TYPEDEPTHS, USES, depthsAt, held, rowIn}
@@ -19,6 +20,8 @@ use Rattle.table.proofs.Rows.{key-low}
 use Rattle.table.proofs.Held.{used-of, depths-kept}
 use Rattle.fits.specs.Fit.{SettledIn, Known}
 use Rattle.fits.proofs.Remembered.{cleared, known-words}
+use Rattle.checks.specs.Seen.{Unlike}
+use Rattle.checks.specs.Under.{Noted}
 use Rattle.checks.specs.Uses.{usesIn, markOf, Marked}
 use Rattle.typing.specs.Links.{Shown}
 use Rattle.typing.specs.Rules.{Typed}
@@ -120,31 +123,73 @@ key-of-line a k r u e f = line-key (held [] a []) k (neither (leb (getD (greates
     neither true y h = h
     neither false y h = refl
 
+-- ---- `in_turn`
+
+pub turn-again : (a : List ℕ) (k last : ℕ) → inOrder (held [] a []) last ≡ true → k ≡ last → true ≡ inOrder (held [] a []) k
+turn-again a k last h e = sym (rw e h)
+
+-- ---- slices of 16,384 words, cut to so many
+
+-- the slice is its front
+pub front : (w : List ℕ) → length w ≡ room → take room w ≡ w
+front w l = take-all room w (omega arith)
+
+pub front-long : (w : List ℕ) → length w ≡ room → room ≡ length (take room w)
+front-long w l = sym (length-take-le room w (omega arith))
+
+module _ (sheet a b r : List ℕ) (long-a : length a ≡ room) (long-b : length b ≡ room) where
+  pub known-front : Known a b → Known (take room a) (take room b)
+  known-front h = rw (front a long-a, front b long-b) h
+
+  pub noted-front : Noted a b → Noted (take room a) (take room b)
+  noted-front h = rw (front a long-a, front b long-b) h
+
+  pub unlike-front : (new : Bool) → Unlike (rowIn sheet (keyOf r) r) (linesOf (held sheet a b) (keyOf r)) new → Unlike (rowIn sheet (keyOf r) r) (linesOf (held sheet (take room a) (take room b)) (keyOf r)) new
+  unlike-front new h = rw (front a long-a, front b long-b) h
+
+  pub order-front : (k : ℕ) → inOrder (held sheet a b) k ≡ true → inOrder (held [] (take room a) []) k ≡ true
+  order-front k h = rw (front a long-a) (order-alike a sheet b k ∙ h)
+
+  -- nothing stands past the front
+  judged-back : (q : List ℕ) (f n d : ℕ) → Judged sheet (take room a) (take room b) r q f n d → Judged sheet a b r (q ++ drop room b) f n d
+  judged-back q f n d j =
+      let e : q ++ drop room b ≡ q = ap (λ (x : List ℕ). q ++ x) (drop-of-length-le b {i = room} (omega arith)) ∙ append-nil q in
+      rw e (subst (λ (y : List ℕ). Judged sheet a y r q f n d) (front b long-b) (subst (λ (x : List ℕ). Judged sheet x (take room b) r q f n d) (front a long-a) j))
+
 -- ---- `judge`
 
-module _ (sheet a b r : List ℕ) (known : Known a b) (t k : ℕ) (ht : t ≡ tag r) (hk : k ≡ formOf t .key) where
+module _ (sheet rows work r : List ℕ) (long-a : length rows ≡ room) (long-b : length work ≡ room) (known : Known rows work) (t k : ℕ) (ht : t ≡ tag r) (hk : k ≡ formOf t .key) where
+  abbrev a : List ℕ
+  a = take room rows
+
+  abbrev b : List ℕ
+  b = take room work
+
+  back : (q : List ℕ) (f n d : ℕ) → Judged sheet a b r q f n d → Judged sheet rows work r (q ++ drop room work) f n d
+  back = judged-back sheet rows work r long-a long-b
+
   key-is : k ≡ keyOf r
   key-is = key-of-row r t k ht hk
 
   -- a refusal before the words change
-  stop : (f n d : ℕ) → (f ≡ 0 → ⊥) → faultOf (held sheet a b) (keyOf r) (rowIn sheet (keyOf r) r) ≡ f → Judged sheet a b r b f n d
+  stop : (f n d : ℕ) → (f ≡ 0 → ⊥) → faultOf (held sheet a b) (keyOf r) (rowIn sheet (keyOf r) r) ≡ f → Judged sheet rows work r (take room work ++ drop room work) f n d
   stop f n d z e =
-      record {
+      back b f n d (record {
         number = λ s w. sym e;
         key = λ q. absurd (z q);
         deep = λ q. absurd (z q);
         uses = λ q. absurd (z q);
-        known = known;
+        known = known-front sheet rows work r long-a long-b known;
         early = λ h i l. refl;
         depths = λ i m h l. refl;
         rest = λ h. refl;
-      }
+      })
 
   module _ (o : Bool) (ho : o ≡ inOrder (held [] a []) k) where
     order-is : o ≡ inOrder (held sheet a b) (keyOf r)
     order-is = ho ∙ order-alike a sheet b k ∙ ap (inOrder (held sheet a b)) key-is
 
-    pub judged-3 : not o ≡ true → (f n d : ℕ) → f ≡ 3 → Judged sheet a b r b f n d
+    pub judged-3 : not o ≡ true → (f n d : ℕ) → f ≡ 3 → Judged sheet rows work r (take room work ++ drop room work) f n d
     judged-3 h f n d e = stop f n d (λ q. absurd (omega arith)) (fault-order (held sheet a b) (keyOf r) (rowIn sheet (keyOf r) r) (sym order-is ∙ not-true o h) ∙ sym e)
 
     module _ (po : not o ≡ false) (u : Bool) (hu : u ≡ tooMany (held [] a []) k r) where
@@ -154,14 +199,14 @@ module _ (sheet a b r : List ℕ) (known : Known a b) (t k : ℕ) (ht : t ≡ ta
       ordered : inOrder (held sheet a b) (keyOf r) ≡ true
       ordered = sym order-is ∙ not-false o po
 
-      pub judged-4 : u ≡ true → (f n d : ℕ) → f ≡ 4 → Judged sheet a b r b f n d
+      pub judged-4 : u ≡ true → (f n d : ℕ) → f ≡ 4 → Judged sheet rows work r (take room work ++ drop room work) f n d
       judged-4 h f n d e = stop f n d (λ q. absurd (omega arith)) (fault-many (held sheet a b) (keyOf r) (rowIn sheet (keyOf r) r) ordered (sym many-is ∙ h) ∙ sym e)
 
       module _ (pu : u ≡ false) (g : ℕ) (hg : NewDepth sheet a b r k g) where
         depth-is : g ≡ cond (found (held sheet a b) (keyOf r) (rowIn sheet (keyOf r) r)) (depth (held sheet a b) (keyOf r) (rowIn sheet (keyOf r) r)) 0
         depth-is = hg .is ∙ ap (λ (x : ℕ). cond (found (held sheet a b) x (rowIn sheet x r)) (depth (held sheet a b) x (rowIn sheet x r)) 0) key-is
 
-        pub judged-5 : g ≡ 0 → (f n d : ℕ) → f ≡ 5 → Judged sheet a b r b f n d
+        pub judged-5 : g ≡ 0 → (f n d : ℕ) → f ≡ 5 → Judged sheet rows work r (take room work ++ drop room work) f n d
         judged-5 h f n d e =
             stop f n d (λ q. absurd (omega arith))
             (fault-found (held sheet a b) (keyOf r) (rowIn sheet (keyOf r) r) ordered (sym many-is ∙ pu) (none-found (held sheet a b) (keyOf r) (rowIn sheet (keyOf r) r) (sym h ∙ depth-is)) ∙ sym e)
@@ -177,7 +222,7 @@ module _ (sheet a b r : List ℕ) (known : Known a b) (t k : ℕ) (ht : t ≡ ta
           deep-is : g ≡ depth (held sheet a b) (keyOf r) (rowIn sheet (keyOf r) r)
           deep-is = depth-is ∙ ap (λ (t : Bool). cond t (depth (held sheet a b) (keyOf r) (rowIn sheet (keyOf r) r)) 0) found-is
 
-          pub judged-6 : 64 < g → (f n d : ℕ) → f ≡ 6 → Judged sheet a b r b f n d
+          pub judged-6 : 64 < g → (f n d : ℕ) → f ≡ 6 → Judged sheet rows work r (take room work ++ drop room work) f n d
           judged-6 h f n d e =
               stop f n d (λ q. absurd (omega arith))
               (fault-deep (held sheet a b) (keyOf r) (rowIn sheet (keyOf r) r) ordered (sym many-is ∙ pu) found-is (lt-ltb 64 (depth (held sheet a b) (keyOf r) (rowIn sheet (keyOf r) r)) (omega (arith, deep-is))) ∙ sym e)
@@ -200,9 +245,9 @@ module _ (sheet a b r : List ℕ) (known : Known a b) (t k : ℕ) (ht : t ≡ ta
             early₁ : keyOf r < ENTITY → b₁ ≡ b
             early₁ h = hy .early (rw key-is h)
 
-            pub judged-7 : not y ≡ true → (f n d : ℕ) → f ≡ 7 → Judged sheet a b r b₁ f n d
+            pub judged-7 : not y ≡ true → (f n d : ℕ) → f ≡ 7 → Judged sheet rows work r (b₁ ++ drop room work) f n d
             judged-7 h f n d e =
-                record {
+                back b₁ f n d (record {
                   number = λ s w. e ∙ sym (fault-typed (held sheet a b) (keyOf r) (rowIn sheet (keyOf r) r) ordered (sym many-is ∙ pu) found-is shallow (sym (typed-is s w) ∙ not-true y h));
                   key = λ q. absurd (omega arith);
                   deep = λ q. absurd (omega arith);
@@ -211,7 +256,7 @@ module _ (sheet a b r : List ℕ) (known : Known a b) (t k : ℕ) (ht : t ≡ ta
                   early = λ h i l. ap (λ (x : List ℕ). getD x i 0) (early₁ h);
                   depths = λ i m h l. depths-kept b b₁ i m h (hy .rest);
                   rest = λ h. later b b₁ (hy .rest);
-                }
+                })
 
             module _ (py : not y ≡ false) (b₂ : List ℕ) (x : Bool) (hx : Marked (markOf (keyOf r)) a b₁ (refs NODE r) b₂ x) where
               uses-same : usesIn a b₁ ≡ usesIn a b
@@ -234,9 +279,9 @@ module _ (sheet a b r : List ℕ) (known : Known a b) (t k : ℕ) (ht : t ≡ ta
               rest₂ : getD a NODE 0 ≤ 1024 → drop (USES + 1024) b₂ ≡ drop (USES + 1024) b
               rest₂ h = hx .above h ∙ later b b₁ (hy .rest)
 
-              pub judged-8 : x ≡ true → (f n d : ℕ) → f ≡ 8 → Judged sheet a b r b₂ f n d
+              pub judged-8 : x ≡ true → (f n d : ℕ) → f ≡ 8 → Judged sheet rows work r (b₂ ++ drop room work) f n d
               judged-8 h f n d e =
-                  record {
+                  back b₂ f n d (record {
                     number = λ s w. e ∙ sym (fault-used (held sheet a b) (keyOf r) (rowIn sheet (keyOf r) r) ordered (sym many-is ∙ pu) found-is shallow (sym (typed-is s w) ∙ not-false y py) (sym twice-is ∙ h));
                     key = λ q. absurd (omega arith);
                     deep = λ q. absurd (omega arith);
@@ -245,11 +290,11 @@ module _ (sheet a b r : List ℕ) (known : Known a b) (t k : ℕ) (ht : t ≡ ta
                     early = early₂;
                     depths = kept-part;
                     rest = rest₂;
-                  }
+                  })
 
-              pub judged-0 : x ≡ false → Judged sheet a b r b₂ 0 k g
+              pub judged-0 : x ≡ false → Judged sheet rows work r (b₂ ++ drop room work) 0 k g
               judged-0 h =
-                  record {
+                  back b₂ 0 k g (record {
                     number = λ s w. sym (fault-none (held sheet a b) (keyOf r) (rowIn sheet (keyOf r) r) ordered (sym many-is ∙ pu) found-is shallow (sym (typed-is s w) ∙ not-false y py) (sym twice-is ∙ h));
                     key = λ q. key-is;
                     deep = λ q. deep-is;
@@ -258,4 +303,4 @@ module _ (sheet a b r : List ℕ) (known : Known a b) (t k : ℕ) (ht : t ≡ ta
                     early = early₂;
                     depths = kept-part;
                     rest = rest₂;
-                  }
+                  })

@@ -13,12 +13,17 @@ use table::item;
 use table::key_of;
 use table::tag;
 use typing::lines::typed;
+use words::ROOM;
 use words::cut;
 ghost use mathlib.Core.Path.{_≡_};
-ghost use Prim.Native.Nat.{_<_};
-ghost use Rattle.words.specs.Log.{part};
+ghost use mathlib.Core.Bool.{true};
+ghost use mathlib.Core.List.{[]};
+ghost use Prim.Native.Nat.{_≤_, _<_};
+ghost use lib.ListN.{length};
+ghost use Rattle.words.specs.Log.{part, room};
 ghost use Rattle.sheet.specs.Forms.{keyOf, noKey};
 ghost use Rattle.sheet.specs.State.{linesOf};
+ghost use Rattle.sheet.specs.Sheet.{inOrder};
 ghost use Rattle.table.specs.Layout.{rowIn, held};
 ghost use Rattle.checks.specs.Seen.{Seen, Unlike};
 ghost use Rattle.checks.specs.Under.{Noted};
@@ -73,13 +78,35 @@ fn depth_of(sheet: &[u8], rows: &[u32], work: &[u32], key: usize, line: &[u32], 
     new_depth(rows, work, key, line, new)
 }
 
+// Whether a line of this key may come, as is known of one of the key `last`.
+fn in_turn(rows: &[u32], key: usize, last: usize) -> bool
+    requires { ⌜ (key ≤ noKey) × (inOrder (held [] (now rows) []) last ≡ true) ⌝ }
+    ensures { λ r. ⌜ r ≡ inOrder (held [] (now (rows .entry)) []) key ⌝ }
+{
+    if key == last {
+        return true;
+    }
+    in_order(rows, key)
+}
+
 // The refusal of a row of words, and where there is none its key and depth; the nodes that it uses are then marked. A row that is `new` repeats no other.
-pub fn judge(sheet: &[u8], rows: &[u32], work: &mut [u32], line: &[u32], new: bool) -> Verdict
+// A line of the key `last`, that of the line before, may come.
+pub fn judge(
+    sheet: &[u8],
+    rows: &[u32],
+    work: &mut [u32],
+    line: &[u32],
+    new: bool,
+    last: usize,
+) -> Verdict
+    requires { ⌜ (length (now rows) ≡ room) × (length (now work) ≡ room) × (inOrder (held (now sheet) (now rows) (now work)) last ≡ true) ⌝ }
     requires { ⌜ Known (now rows) (now work) × Noted (now rows) (now work) × Unlike (rowIn (now sheet) (keyOf (now line)) (now line)) (linesOf (held (now sheet) (now rows) (now work)) (keyOf (now line))) new ⌝ }
     ensures { λ v. ⌜ Judged (now (sheet .entry)) (now (rows .entry)) (now (work .entry)) (now (line .entry)) (now (work .exit)) (v .number) (v .key) (v .depth) ⌝ }
 {
+    let rows = &rows[..ROOM];
+    let work = &mut work[..ROOM];
     let k = key_of(tag(line));
-    if !in_order(rows, k) {
+    if !in_turn(rows, k, last) {
         return refused(3);
     }
     if too_many(rows, work, k, line) {
@@ -113,12 +140,14 @@ pub fn judge_at(
     top: usize,
     end: usize,
     seen: &mut [u32],
+    last: usize,
 ) -> Verdict
+    requires { ⌜ (length (now rows) ≡ room) × (length (now work) ≡ room) × (inOrder (held (now sheet) (now rows) (now work)) last ≡ true) ⌝ }
     requires { ⌜ Known (now rows) (now work) × Noted (now rows) (now work) × Seen (held (now sheet) (now rows) (now work)) (now seen) ⌝ }
     ensures verdict { λ v. ⌜ Judged (now (sheet .entry)) (now (rows .entry)) (now (work .entry)) (part (now (rows .entry)) top end) (now (work .exit)) (v .number) (v .key) (v .depth) ⌝ }
     ensures seen { λ _. ⌜ now (seen .exit) ≡ seenAt (now (sheet .entry)) (now (seen .entry)) (part (now (rows .entry)) top end) ⌝ }
 {
     let line = cut(rows, top, end);
     let new = see_line(sheet, line, seen);
-    judge(sheet, rows, work, line, new)
+    judge(sheet, rows, work, line, new, last)
 }

@@ -1,3 +1,4 @@
 pub mod Finishing
 pub mod Entities
+pub mod Turns
 pub mod Loading

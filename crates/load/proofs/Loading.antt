@@ -1,7 +1,6 @@
 -- The lines in turn. Assumes nothing.
 use mathlib.Core.Path.{_≡_, refl, sym, ap, ap₂, subst, _∙_}
 use mathlib.Core.Bool.{Bool, true, false, cond}
-use mathlib.Core.Option.{Option, none, some}
 use mathlib.Core.List.{List, []}
 use Prim.Native.Nat.{ℕ, zero, suc, _+_, _-_, _*_, _≤_, _<_}
 use native.Mathlib.Omega.{arith}
@@ -17,10 +16,9 @@ use Rattle.scan.specs.Places.{readingBy, LineRead}
 use Rattle.scan.proofs.Readings.{Entered, line-entered}
 use Rattle.sheet.specs.Ascii.{ascii}
 use Rattle.sheet.specs.Bytes.{starts, split}
-use Rattle.sheet.specs.Forms.{Mode, forms, formOf, tagOf, keyOf, itemsFrom, counted, orEmpty, rowOf, rowOfValue, TEXT, KIND, SHAPE, PRINCIPAL, DAY, NODE, POLICY, LINK, noKey}
-use Rattle.forms.specs.Tags.{DAY-LINE}
+use Rattle.sheet.specs.Forms.{Mode, keyOf, rowOf, rowOfValue, TEXT, KIND, SHAPE, PRINCIPAL, DAY, NODE, POLICY, LINK, noKey}
 use Rattle.sheet.specs.State.{State, empty, linesOf, count, before, sum}
-use Rattle.sheet.specs.Sheet.{Reading, least, enough, reach, firstUnused, firstUnlinked, reads, ending, fault, more, goOn, beforeLine, reading, readingOn, read}
+use Rattle.sheet.specs.Sheet.{Reading, least, enough, reach, firstUnused, firstUnlinked, inOrder, reads, ending, fault, more, goOn, beforeLine, reading, readingOn, read}
 use Rattle.sheet.proofs.reading.Lines.{AllFit, no-lines as empty-lines}
 use Rattle.sheet.proofs.reading.EntitiesEnd.{firstPart, reading-before, starts-entity}
 use Rattle.table.specs.Layout.{part, RUN, MADE, TOP, TYPEDEPTHS, USES, SPENT, heap, rowsAt, rowsOf, linesHeld, depthsHeld, depthsAt, held, depthBase, depthsIn}
@@ -33,12 +31,12 @@ use Rattle.checks.proofs.NotedLaws.{noted-blank}
 use Rattle.checks.proofs.SeenLaws.{seen-first, seen-more}
 use Rattle.judge.proofs.Alike.{count-alike}
 use Rattle.line.proofs.LawsLine.{entry-wide, entry-wider}
-use Rattle.take.proofs.Taking.{fault-none}
 use Rattle.take.specs.Steps.{Reached, before-any, after-line, Ready, taken, Taken}
 use Rattle.load.specs.Result.{Read}
 use Rattle.load.specs.Unfit.{unfitLine}
 use Rattle.load.proofs.Entities.{line-passes, line-unfit, closed-after}
 use Rattle.load.proofs.Finishing.{unlinked-same}
+use Rattle.load.proofs.Turns.{order-first, own-key, order-after}
 
 -- ---- the definition after a line
 
@@ -48,21 +46,6 @@ go-stops s k r (suc f) rest n = refl
 
 go-on : (s : State) (k : ℕ) (r : List ℕ) (f : ℕ) (rest : State → ℕ → Reading) → f ≡ 0 → goOn s k r f rest ≡ rest (more s r) (suc k)
 go-on s k r f rest e = rw e refl
-
--- ---- a day's line
-
--- its row is none or one of the key `day`
-day-key : (m : Mode) (k : ℕ) (v : List ℕ) → k ≡ DAY → (rowOfValue m k v ≡ [] → ⊥) → keyOf (rowOfValue m k v) ≡ DAY
-unfolding keyOf tagOf formOf forms
-day-key m k v e = subst (λ (x : ℕ). (rowOfValue m x v ≡ [] → ⊥) → keyOf (rowOfValue m x v) ≡ DAY) (sym e) own
-  where
-    by-items : (t : Bool) (o : Option (List ℕ)) → (cond t (orEmpty DAY-LINE o) [] ≡ [] → ⊥) → keyOf (cond t (orEmpty DAY-LINE o) []) ≡ DAY
-    by-items true none h = absurd (h refl)
-    by-items true (some l) h = refl
-    by-items false o h = absurd (h refl)
-
-    own : (rowOfValue m DAY v ≡ [] → ⊥) → keyOf (rowOfValue m DAY v) ≡ DAY
-    own h = by-items (counted DAY-LINE (length (split 44 v))) (itemsFrom m DAY-LINE 0 (split 44 v)) h
 
 -- ---- the end
 
@@ -204,6 +187,9 @@ module _ (sheet a b a₁ b₁ b₂ a₂ : List ℕ) (la : 16384 ≤ length a) (l
 
   pub none-seen : (seen : List ℕ) → PLACE-WORDS ≤ length seen → Seen (held sheet a₂ b₂) seen
   none-seen seen l = subst (λ (s : State). Seen s seen) (sym state-empty) (seen-first empty seen empty-lines l)
+
+  pub none-before : (k : ℕ) → k ≡ 0 → inOrder (held sheet a₂ b₂) k ≡ true
+  none-before k h = rw h (ap (λ (s : State). inOrder s 0) state-empty ∙ order-first)
 
   blank : (i : ℕ) → i < TYPEDEPTHS → getD b₂ i 0 ≡ 0
   blank i h = ap (λ (x : List ℕ). getD x i 0) hs ∙ getD-set-other b₁ SPENT i 0 0 (omega arith) ∙ ap (λ (x : List ℕ). getD x i 0) hb ∙ getD-zeros TYPEDEPTHS b i h
@@ -365,11 +351,11 @@ module _ (m : Mode) (sheet a₀ b₀ a b : List ℕ) (c : Cursor) (i : Progress 
       row : List ℕ
       row = rowOfValue m j (part sheet (equals .at + 1) e)
 
-      pub line-fits : length sheet ≤ 16384 → (seen : List ℕ) → Seen (held sheet a b) seen
-          → Ready a b × Reached m (held sheet a b) × (equals .at < e) × (e ≤ length sheet) × (length sheet ≤ 16384) × (2 * getD a TOP 0 + (e + 4 - equals .at) ≤ 2 * heap + 16400) × Seen (held sheet a b) seen
-      line-fits s seen h =
+      pub line-fits : length sheet ≤ 16384 → (seen : List ℕ) → Seen (held sheet a b) seen → (last : ℕ) → inOrder (held sheet a b) last ≡ true
+          → Ready a b × Reached m (held sheet a b) × (equals .at < e) × (e ≤ length sheet) × (length sheet ≤ 16384) × (2 * getD a TOP 0 + (e + 4 - equals .at) ≤ 2 * heap + 16400) × Seen (held sheet a b) seen × (inOrder (held sheet a b) last ≡ true)
+      line-fits s seen h last o =
           let w = entry in
-          (i .ready, i .reached, w .equals-in, omega (arith, w .ends), s, omega (arith, i .room, wide, w .equals-in, w .ends), h)
+          (i .ready, i .reached, w .equals-in, omega (arith, w .ends), s, omega (arith, i .room, wide, w .equals-in, w .ends), h, o)
 
       module _ (a′ b′ : List ℕ) (n : ℕ) (t : Taken sheet (rowOfValue m j (part sheet (equals .at + 1) e)) a b a′ b′ (e + 4 - equals .at) n) where
         line-does : read m sheet ≡ goOn (held sheet a b) (c .line) row n (reading m (split 10 (drop (next .at) sheet)))
@@ -394,6 +380,10 @@ module _ (m : Mode) (sheet a₀ b₀ a b : List ℕ) (c : Cursor) (i : Progress 
             let r = rowOfValue m j (part sheet (equals .at + 1) e) in
             subst (Seen (held sheet a′ b′)) (sym (e′ z)) (subst (λ (s : State). Seen s (withSeen seen r)) (sym (t .state z)) (seen-more (held sheet a b) seen r h))
 
+        pub line-orders : n ≡ 0 → (k : ℕ) → k ≡ j → inOrder (held sheet a′ b′) k ≡ true
+        line-orders z k h =
+            rw h (ap (λ (s : State). inOrder s j) (t .state z) ∙ order-after m j (part sheet (equals .at + 1) e) (held sheet a b) (sym (t .number) ∙ z))
+
         line-reached : n ≡ 0 → Reached m (more (held sheet a b) (rowOfValue m j (part sheet (equals .at + 1) e)))
         line-reached z =
             let w : rowOf m (part sheet (c .at) e) ≡ rowOfValue m j (part sheet (equals .at + 1) e) = entry .row m in
@@ -409,8 +399,7 @@ module _ (m : Mode) (sheet a₀ b₀ a b : List ℕ) (c : Cursor) (i : Progress 
 
         line-room : n ≡ 0 → Dec (j ≡ DAY) → taken a′ ≤ 2 * heap + next .at
         line-room z (yes d) =
-            let v = part sheet (equals .at + 1) e in
-            let k : keyOf (rowOfValue m j v) ≡ DAY = day-key m j v d (λ x. absurd (omega (arith, fault-none (held sheet a b) (rowOfValue m j v) x, t .number, z))) in
+            let k : keyOf (rowOfValue m j (part sheet (equals .at + 1) e)) ≡ DAY = own-key m j (part sheet (equals .at + 1) e) (held sheet a b) (sym (t .number) ∙ z) ∙ d in
             omega (arith, t .day k z, i .room, wide, entry .equals-in, line-long .2)
         line-room z (no d) = omega (arith, t .room z, i .room, wider d, entry .equals-in, line-long .2)
 

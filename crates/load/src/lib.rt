@@ -11,6 +11,7 @@ use forms::NO_KEY;
 use forms::NODE;
 use forms::POLICY;
 use forms::PRINCIPAL;
+use forms::SHEET;
 use scan::Cursor;
 use scan::Line;
 use scan::front;
@@ -187,7 +188,8 @@ fn zero(words: &mut [u32], end: usize)
     }
 }
 
-// Reads the sheet; before the first line there are no rows, no pairs are remembered, no nodes are used, and no rows are seen. The answer is the refusal of the first faulty line, or of the end; where it is accepted the words hold its rows.
+// Reads the sheet; before the first line there are no rows, no pairs are remembered, no nodes are used, and no rows are seen. A line of the key `last`, that of the line before and at first the first, may come.
+// The answer is the refusal of the first faulty line, or of the end; where it is accepted the words hold its rows.
 pub fn load(sheet: &[u8], partial: bool, rows: &mut [u32], work: &mut [u32]) -> Loaded
     requires { ⌜ (length (now sheet) ≤ 16384) × (16384 ≤ length (now rows)) × (16384 ≤ length (now work)) ⌝ }
     ensures { λ r. ⌜ Read (read (modeOf partial) (now (sheet .entry))) (now (sheet .entry)) (now (rows .entry)) (now (work .entry)) (now (rows .exit)) (now (work .exit)) (r .number) (r .line) ⌝ }
@@ -197,6 +199,7 @@ pub fn load(sheet: &[u8], partial: bool, rows: &mut [u32], work: &mut [u32]) -> 
     put(work, SPENT, 0);
     put(rows, TOP, HEAP as u32);
     let mut seen: [u32; PLACE_WORDS] = [0; PLACE_WORDS];
+    let mut last = SHEET;
     let mut c = Cursor::new();
     loop {
         let k = c.line;
@@ -212,10 +215,21 @@ pub fn load(sheet: &[u8], partial: bool, rows: &mut [u32], work: &mut [u32]) -> 
                 end,
                 next,
             } => {
-                let f = take_line(sheet, key, equals, end, partial, rows, work, &mut seen[..]);
+                let f = take_line(
+                    sheet,
+                    key,
+                    equals,
+                    end,
+                    partial,
+                    rows,
+                    work,
+                    &mut seen[..],
+                    last,
+                );
                 if f != 0 {
                     return Loaded { number: f, line: k };
                 }
+                last = key as usize;
                 c = next;
             }
             Line::Faulty => {

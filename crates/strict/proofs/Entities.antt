@@ -32,6 +32,7 @@ use Rattle.strict.specs.declared.Given.the-variants.{Bool as Boolᵍ, Fa
 use Rattle.strict.specs.declared.entity.Part.{Part}
 use Rattle.strict.specs.declared.entity.Look.{Look}
 use Rattle.strict.specs.declared.entity.Look.the-variants.{At as Atˡ, Missing, Unknown as Unknownˡ, Bad}
+use Rattle.strict.specs.declared.entity.Walked.{Walked}
 use Rattle.strict.specs.declared.entity.Walked.the-variants.{Holds, Fails as Failsʷ, Left}
 use Rattle.strict.proofs.Shapes.{value-shape, other-text, other-entity}
 
@@ -249,14 +250,14 @@ module _ (c : Bool) (a : List ℕ) (m n : ℕ) (q : List ℕ) (s : Shape) (eq : 
         go Set y = absurd (miss (0 ∷ 1 ∷ 2 ∷ 5 ∷ []) 4 tt y)
         go Record y = refl
 
--- ---- a path
+-- ---- a path that leads to w
 
-pub record Walking (c : Bool) (a : List ℕ) (v : ℕ) (path : List ℕ) (n i : ℕ) : Type 0 where
+pub record Walking (c : Bool) (a : List ℕ) (w : Walked) (path : List ℕ) (n i : ℕ) : Type 0 where
   pub near : i ≤ length path
-  pub left : walkFrom c a v 0 path ≡ walkFrom c a n i (drop i path)
+  pub left : w ≡ walkFrom c a n i (drop i path)
 
-pub walk-start : (c : Bool) (a : List ℕ) (v : ℕ) (path : List ℕ) → Walking c a v path v 0
-walk-start c a v path = record { near = omega arith; left = refl }
+pub walk-start : (c : Bool) (a : List ℕ) (path : List ℕ) (n i : ℕ) → i ≤ length path → Walking c a (walkFrom c a n i (drop i path)) path n i
+walk-start c a path n i h = record { near = h; left = refl }
 
 nil-drop : (l : List ℕ) (i : ℕ) → length l ≤ i → isNil (drop i l) ≡ true
 nil-drop l i h = ap isNil (spent l i h)
@@ -264,8 +265,8 @@ nil-drop l i h = ap isNil (spent l i h)
 cons-drop : (l : List ℕ) (i : ℕ) → i < length l → isNil (drop i l) ≡ false
 cons-drop l i h = ap isNil (uncons l 0 i h)
 
-module _ (c : Bool) (a : List ℕ) (v : ℕ) (path : List ℕ) (n i : ℕ) (g : Walking c a v path n i) where
-  pub walk-end : length path ≤ i → Failsʷ ≡ walkFrom c a v 0 path
+module _ (c : Bool) (a : List ℕ) (w : Walked) (path : List ℕ) (n i : ℕ) (g : Walking c a w path n i) where
+  pub walk-end : length path ≤ i → Failsʷ ≡ w
   unfolding walkFrom
   walk-end h = sym (g .left ∙ ap (walkFrom c a n i) (spent path i h))
 
@@ -274,18 +275,18 @@ module _ (c : Bool) (a : List ℕ) (v : ℕ) (path : List ℕ) (n i : ℕ) (g : 
     unfolding walkFrom
     walk-one = ap (walkFrom c a n i) (uncons path 0 i h) ∙ ap (λ (x : Look). walkStep n i x (isNil (drop (i + 1) path)) (λ y. walkFrom c a y (suc i) (drop (i + 1) path))) (sym el)
 
-    pub walk-bad : l ≡ Bad → Failsʷ ≡ walkFrom c a v 0 path
+    pub walk-bad : l ≡ Bad → Failsʷ ≡ w
     walk-bad e = sym (g .left ∙ walk-one ∙ rw e)
 
-    pub walk-missing : l ≡ Missing → Holds false ≡ walkFrom c a v 0 path
+    pub walk-missing : l ≡ Missing → Holds false ≡ w
     walk-missing e = sym (g .left ∙ walk-one ∙ rw e)
 
-    pub walk-unknown : (k : ℕ) → l ≡ Unknownˡ k → Left n k i ≡ walkFrom c a v 0 path
+    pub walk-unknown : (k : ℕ) → l ≡ Unknownˡ k → Left n k i ≡ w
     walk-unknown k e = sym (g .left ∙ walk-one ∙ rw e)
 
     module _ (x : ℕ) (e : l ≡ Atˡ x) where
-      pub walk-last : length path ≤ i + 1 → Holds true ≡ walkFrom c a v 0 path
+      pub walk-last : length path ≤ i + 1 → Holds true ≡ w
       walk-last m = sym (g .left ∙ walk-one ∙ rw (e, nil-drop path (i + 1) m))
 
-      pub walk-on : i + 1 < length path → Walking c a v path x (i + 1)
+      pub walk-on : i + 1 < length path → Walking c a w path x (i + 1)
       walk-on m = record { near = omega arith; left = g .left ∙ walk-one ∙ rw (e, cons-drop path (i + 1) m, ← (add-one i)) }

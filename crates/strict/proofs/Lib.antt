@@ -7,3 +7,4 @@ pub mod Noting
 pub mod Chaining
 pub mod Parents
 pub mod Links
+pub mod Leading

@@ -34,6 +34,7 @@ use Rattle.strict.specs.declared.entity.Part.{Part}
 use Rattle.strict.specs.declared.entity.Part.the-variants.{Known, Empty, Unknown}
 use Rattle.strict.specs.declared.entity.Look.{Look}
 use Rattle.strict.specs.declared.entity.Look.the-variants.{At as Atˡ, Missing, Unknown as Unknownˡ, Bad}
+use Rattle.strict.specs.declared.entity.Walked.{Walked}
 use Rattle.strict.specs.declared.entity.Walked.the-variants.{Holds, Fails as Failsʷ, Left}
 use Rattle.strict.proofs.Shapes.{value-shape}
 use Rattle.strict.proofs.Finds.{attr-other, attr-entity}
@@ -141,32 +142,32 @@ module _ (c : Bool) (a : List ℕ) (v u : ℕ) (from to : List ℕ) (g : Noted c
 
 -- ---- along a path
 
-pub record Stepping (c : Bool) (a : List ℕ) (v : ℕ) (path from₀ to₀ from to : List ℕ) (n i : ℕ) : Type 0 where
-  pub walking : Walking c a v path n i
+pub record Stepping (c : Bool) (a : List ℕ) (w : Walked) (path from₀ to₀ from to : List ℕ) (n i : ℕ) : Type 0 where
+  pub walking : Walking c a w path n i
   pub noted : Noted c a from to
   pub froms : length from ≡ length from₀
   pub tos : length to ≡ length to₀
 
-pub step-start : (c : Bool) (a : List ℕ) (v : ℕ) (path from to : List ℕ) → Noted c a from to → Stepping c a v path from to from to v 0
-step-start c a v path from to g = record { walking = walk-start c a v path; noted = g; froms = refl; tos = refl }
+pub step-start : (c : Bool) (a path from to : List ℕ) (n i : ℕ) → i ≤ length path → Noted c a from to → Stepping c a (walkFrom c a n i (drop i path)) path from to from to n i
+step-start c a path from to n i h g = record { walking = walk-start c a path n i h; noted = g; froms = refl; tos = refl }
 
-module _ (c : Bool) (a : List ℕ) (v : ℕ) (path from₀ to₀ from to : List ℕ) (n i : ℕ) (g : Stepping c a v path from₀ to₀ from to n i) where
-  pub step-end : length path ≤ i → Failsʷ ≡ walkFrom c a v 0 path
-  step-end h = walk-end c a v path n i (g .walking) h
+module _ (c : Bool) (a : List ℕ) (w : Walked) (path from₀ to₀ from to : List ℕ) (n i : ℕ) (g : Stepping c a w path from₀ to₀ from to n i) where
+  pub step-end : length path ≤ i → Failsʷ ≡ w
+  step-end h = walk-end c a w path n i (g .walking) h
 
   module _ (h : i < length path) (from′ to′ : List ℕ) (l : Look) (k : Looked c a n (getD path i 0) from′ to′ l) where
-    pub step-bad : l ≡ Bad → Failsʷ ≡ walkFrom c a v 0 path
-    step-bad e = walk-bad c a v path n i (g .walking) h l (k .is) e
+    pub step-bad : l ≡ Bad → Failsʷ ≡ w
+    step-bad e = walk-bad c a w path n i (g .walking) h l (k .is) e
 
-    pub step-missing : l ≡ Missing → Holds false ≡ walkFrom c a v 0 path
-    step-missing e = walk-missing c a v path n i (g .walking) h l (k .is) e
+    pub step-missing : l ≡ Missing → Holds false ≡ w
+    step-missing e = walk-missing c a w path n i (g .walking) h l (k .is) e
 
-    pub step-unknown : (j : ℕ) → l ≡ Unknownˡ j → Left n j i ≡ walkFrom c a v 0 path
-    step-unknown j e = walk-unknown c a v path n i (g .walking) h l (k .is) j e
+    pub step-unknown : (j : ℕ) → l ≡ Unknownˡ j → Left n j i ≡ w
+    step-unknown j e = walk-unknown c a w path n i (g .walking) h l (k .is) j e
 
     module _ (x : ℕ) (e : l ≡ Atˡ x) where
-      pub step-last : length path ≤ i + 1 → Holds true ≡ walkFrom c a v 0 path
-      step-last m = walk-last c a v path n i (g .walking) h l (k .is) x e m
+      pub step-last : length path ≤ i + 1 → Holds true ≡ w
+      step-last m = walk-last c a w path n i (g .walking) h l (k .is) x e m
 
-      pub step-on : i + 1 < length path → length from′ ≡ length from → length to′ ≡ length to → Stepping c a v path from₀ to₀ from′ to′ x (i + 1)
-      step-on m ef et = record { walking = walk-on c a v path n i (g .walking) h l (k .is) x e m; noted = k .noted; froms = ef ∙ g .froms; tos = et ∙ g .tos }
+      pub step-on : i + 1 < length path → length from′ ≡ length from → length to′ ≡ length to → Stepping c a w path from₀ to₀ from′ to′ x (i + 1)
+      step-on m ef et = record { walking = walk-on c a w path n i (g .walking) h l (k .is) x e m; noted = k .noted; froms = ef ∙ g .froms; tos = et ∙ g .tos }

@@ -3,3 +3,4 @@ pub mod Lookups
 pub mod Leaps
 pub mod Noted
 pub mod Chains
+pub mod Firsts

@@ -6,6 +6,7 @@ use crate::chains::find_chained;
 use crate::chains::index;
 use crate::entries::entry_rising;
 use crate::entries::rises;
+use crate::firsts::firsts;
 use forms::ENTITY;
 use forms::MARK;
 use forms::VALUE;
@@ -31,8 +32,9 @@ use words::cut;
 use words::put;
 use words::read;
 ghost use mathlib.Core.Path.{_≡_};
-ghost use Prim.Native.Nat.{_≤_, _<_};
-ghost use lib.ListN.{getD, length};
+ghost use Prim.Native.Nat.{_+_, _≤_, _<_};
+ghost use lib.Dec.{eqb};
+ghost use lib.ListN.{getD, length, drop};
 ghost use Rattle.words.specs.Log.{part};
 ghost use Rattle.sheet.specs.Forms.{ENTITY};
 ghost use Rattle.table.specs.Layout.{rowsOf};
@@ -41,6 +43,7 @@ ghost use Rattle.reach.specs.Marks.{FAR};
 ghost use Rattle.strict.specs.Gives.{outOf, values, valueIn};
 ghost use Rattle.strict.specs.Lookups.{ATTRIBUTES, TAGS, textThere, isEntityAt, lineAt, lineIn, partOf, partOfLine, partIn, lookRow, lookIn, lookAttr, takenOf, presentOf, getOut, hasOut, tagLook, gettagOut, hastagOut, isRentAt, inUnknownOut, Unknowns, Above, inLineOut, inUnlistedOut, inListOut, inOut, walkFrom};
 ghost use Rattle.strict.specs.Chains.{Chained};
+ghost use Rattle.strict.specs.Firsts.{Firsts};
 ghost use Rattle.strict.specs.Noted.{Spans, Noted, Placed, Looked};
 
 // Where an entity's attributes and tags stand in its line.
@@ -528,23 +531,25 @@ fn look_noted(
     Look::At(x)
 }
 
-// A path of texts from value `value` on, with tables by value for what is noted.
+// A path of texts from step `first` on, at value `value`, with tables by value for what is noted.
 fn walk_noted(
     rows: &[u32],
     complete: bool,
     value: u32,
+    first: usize,
     path: &[u32],
     heads: &[u32],
     links: &[u32],
     from: &mut [u32],
     to: &mut [u32],
 ) -> Walked
+    requires { ⌜ first ≤ length (now path) ⌝ }
     requires { ⌜ Chained (now rows) (rowsOf (now rows) ENTITY) 0 (now heads) (now links) ⌝ }
     requires { ⌜ Noted complete (now rows) (now from) (now to) ⌝ }
-    ensures { λ r. ⌜ r ≡ walkFrom complete (now (rows .entry)) value 0 (now (path .entry)) ⌝ }
+    ensures { λ r. ⌜ r ≡ walkFrom complete (now (rows .entry)) value first (drop first (now (path .entry))) ⌝ }
 {
     let mut n = value;
-    let mut i = 0;
+    let mut i = first;
     loop {
         if i >= path.len() {
             break Walked::Fails;
@@ -564,9 +569,10 @@ fn walk_noted(
     }
 }
 
-// A long path of texts from value `value` on.
-fn walk_long(rows: &[u32], complete: bool, value: u32, path: &[u32]) -> Walked
-    ensures { λ r. ⌜ r ≡ walkFrom complete (now (rows .entry)) value 0 (now (path .entry)) ⌝ }
+// A long path of texts from step `first` on, at value `value`, by chains and notes.
+fn walk_chained(rows: &[u32], complete: bool, value: u32, first: usize, path: &[u32]) -> Walked
+    requires { ⌜ first ≤ length (now path) ⌝ }
+    ensures { λ r. ⌜ r ≡ walkFrom complete (now (rows .entry)) value first (drop first (now (path .entry))) ⌝ }
 {
     let mut heads: [u32; TEXTS] = [0; TEXTS];
     let mut links: [u32; LINES] = [0; LINES];
@@ -577,6 +583,7 @@ fn walk_long(rows: &[u32], complete: bool, value: u32, path: &[u32]) -> Walked
         rows,
         complete,
         value,
+        first,
         path,
         &heads[..],
         &links[..],
@@ -585,12 +592,13 @@ fn walk_long(rows: &[u32], complete: bool, value: u32, path: &[u32]) -> Walked
     )
 }
 
-// A path of texts from value `value` on. On a short one little is noted, and no chains are made.
-pub fn walk(rows: &[u32], complete: bool, value: u32, path: &[u32]) -> Walked
-    ensures { λ r. ⌜ r ≡ walkFrom complete (now (rows .entry)) value 0 (now (path .entry)) ⌝ }
+// A path of texts from step `first` on, at value `value`. Where few steps are left, little is noted, and no chains are made.
+fn walk_on(rows: &[u32], complete: bool, value: u32, first: usize, path: &[u32]) -> Walked
+    requires { ⌜ first ≤ length (now path) ⌝ }
+    ensures { λ r. ⌜ r ≡ walkFrom complete (now (rows .entry)) value first (drop first (now (path .entry))) ⌝ }
 {
-    if path.len() >= LONG {
-        return walk_long(rows, complete, value, path);
+    if path.len() - first >= LONG {
+        return walk_chained(rows, complete, value, first, path);
     }
     let mut from: [u32; 1] = [0; 1];
     let mut to: [u32; 1] = [0; 1];
@@ -598,10 +606,77 @@ pub fn walk(rows: &[u32], complete: bool, value: u32, path: &[u32]) -> Walked
         rows,
         complete,
         value,
+        first,
         path,
         &rows[0..0],
         &rows[0..0],
         &mut from[..],
         &mut to[..],
     )
+}
+
+// Whether the attribute noted for `value` has this text.
+fn leads(texts: &[u32], value: u32, text: u32) -> bool
+    ensures { λ b. ⌜ b ≡ eqb (getD (now (texts .entry)) value 0) (text + 1) ⌝ }
+{
+    read(texts, value as usize) as usize == text as usize + 1
+}
+
+// The value that it leads to.
+fn led_to(nexts: &[u32], value: u32) -> u32
+    ensures { λ x. ⌜ x ≡ getD (now (nexts .entry)) value 0 ⌝ }
+{
+    read(nexts, value as usize)
+}
+
+// A path of texts from value `value` on, by the attributes noted as far as they lead.
+fn walk_firsts(
+    rows: &[u32],
+    complete: bool,
+    value: u32,
+    path: &[u32],
+    texts: &[u32],
+    nexts: &[u32],
+) -> Walked
+    requires { ⌜ Firsts (now rows) (now texts) (now nexts) ⌝ }
+    ensures { λ r. ⌜ r ≡ walkFrom complete (now (rows .entry)) value 0 (now (path .entry)) ⌝ }
+{
+    let mut n = value;
+    let mut i = 0;
+    loop {
+        if i >= path.len() {
+            break Walked::Fails;
+        }
+        if !leads(texts, n, path[i]) {
+            break walk_on(rows, complete, n, i, path);
+        }
+        if i + 1 >= path.len() {
+            break Walked::Holds(true);
+        }
+        n = led_to(nexts, n);
+        i += 1;
+    }
+}
+
+// A long path of texts from value `value` on: of each entity the attribute that the first step asks for is noted.
+fn walk_long(rows: &[u32], complete: bool, value: u32, path: &[u32]) -> Walked
+    ensures { λ r. ⌜ r ≡ walkFrom complete (now (rows .entry)) value 0 (now (path .entry)) ⌝ }
+{
+    let mut texts: [u32; VALUES] = [0; VALUES];
+    let mut nexts: [u32; VALUES] = [0; VALUES];
+    firsts(rows, read(path, 0), &mut texts[..], &mut nexts[..]);
+    walk_firsts(rows, complete, value, path, &texts[..], &nexts[..])
+}
+
+// A path of texts from value `value` on. For a short one, and where there are no entities, no attributes are noted.
+pub fn walk(rows: &[u32], complete: bool, value: u32, path: &[u32]) -> Walked
+    ensures { λ r. ⌜ r ≡ walkFrom complete (now (rows .entry)) value 0 (now (path .entry)) ⌝ }
+{
+    if path.len() < LONG {
+        return walk_on(rows, complete, value, 0, path);
+    }
+    if count(rows, ENTITY) == 0 {
+        return walk_on(rows, complete, value, 0, path);
+    }
+    walk_long(rows, complete, value, path)
 }

@@ -1,5 +1,6 @@
 -- Slices that agree in their first 16,384 words hold the same state, so a line may be taken in their fronts alone. Assumes nothing.
 use mathlib.Core.Path.{_≡_, refl, sym, ap, subst, _∙_}
+use mathlib.Core.Bool.{true}
 use mathlib.Core.List.{List, _++_}
 use Prim.Native.Nat.{ℕ, _+_, _-_, _*_, _≤_, _<_}
 use native.Mathlib.Nat.{le-refl}
@@ -8,7 +9,7 @@ use lib.ListN.{length, getD, take, drop, length-append}
 use lib.Seq.{length-take-le, take-take, take-append-le, drop-append-seam}
 use Rattle.sheet.specs.Forms.{Mode, keyOf, TYPE, VALUE, DAY, NODE, POLICY}
 use Rattle.sheet.specs.State.{State}
-use Rattle.sheet.specs.Sheet.{fault, more}
+use Rattle.sheet.specs.Sheet.{inOrder, fault, more}
 use Rattle.words.specs.Log.{room}
 use Rattle.words.proofs.Stores.{getD-below, take-below, part-below}
 use Rattle.table.specs.Layout.{TOP, heap, TYPEDEPTHS, VALUEDEPTHS, NODEDEPTHS, USES, rowsOf, depthsAt, depthsHeld, held, limits, limit, Sound}
@@ -93,10 +94,13 @@ module _ (w p : List ℕ) (long : length p ≡ room) where
 
 -- what a line needs of the slices, of their fronts
 pub record Fronts (sheet a b : List ℕ) (bytes : ℕ) (m : Mode) : Type 0 where
+  pub long-a : length (take room a) ≡ room
+  pub long-b : length (take room b) ≡ room
   pub ready : Ready (take room a) (take room b)
   pub reached : Reached m (held sheet (take room a) (take room b))
   pub fits : 2 * getD (take room a) TOP 0 + bytes ≤ 2 * heap + 16400
   pub seen : (m : List ℕ) → Seen (held sheet a b) m → Seen (held sheet (take room a) (take room b)) m
+  pub order : (k : ℕ) → inOrder (held sheet a b) k ≡ true → inOrder (held sheet (take room a) (take room b)) k ≡ true
 
 module _ (sheet a b : List ℕ) (bytes : ℕ) (ready : Ready a b) (fits : 2 * getD a TOP 0 + bytes ≤ 2 * heap + 16400) where
   long-a : length (take room a) ≡ room
@@ -111,9 +115,12 @@ module _ (sheet a b : List ℕ) (bytes : ℕ) (ready : Ready a b) (fits : 2 * ge
   pub fronts : (m : Mode) → Reached m (held sheet a b) → Fronts sheet a b bytes m
   fronts m r =
       record {
+        long-a = long-a;
+        long-b = long-b;
         ready = ready-alike sheet a b (take room a) (take room b) (front a) (front b) ready (omega arith) (omega (arith, long-a)) (omega (arith, long-b));
         reached = subst (Reached m) (sym state-front) r;
         seen = λ m h. subst (λ (s : State). Seen s m) (sym state-front) h;
+        order = λ k h. ap (λ (s : State). inOrder s k) state-front ∙ h;
         fits = rw (word-alike sheet a b (take room a) (take room b) (front a) (front b) ready (omega arith) TOP (omega arith)) fits;
       }
 

@@ -11,12 +11,13 @@ use lib.ListN.{length, getD, take, drop}
 use lib.Seq.{drop-drop, getD-set-other}
 use Rattle.sheet.specs.Forms.{Mode, forms, formOf, keyOf, refs, TEXT, KIND, TYPE, SHAPE, VALUE, ENTITY, DAY, NODE, POLICY, noKey}
 use Rattle.sheet.specs.State.{State, empty, count}
-use Rattle.sheet.specs.Sheet.{greatest, fault, faultOf, more, depth, marked}
+use Rattle.sheet.specs.Sheet.{greatest, inOrder, fault, faultOf, more, depth, marked}
 use Rattle.sheet.proofs.reading.Parsed.{allBelow, all-below}
 use Rattle.sheet.proofs.reading.Lines.{Passed, passed, later-empty}
 use Rattle.sheet.proofs.reading.Shallow.{reached-settled}
 use Rattle.sheet.proofs.reading.Depths as D
 use Rattle.forms.specs.Tags.{TEXT-LINE}
+use Rattle.words.specs.Log.{room}
 use Rattle.words.proofs.Stores.{getD-below, part-below}
 use Rattle.table.specs.Layout.{part, heap, RUN, MADE, TOP, TYPEDEPTHS, USES, SIZES, depthsAt, rowsOf, textRow, held, withRow, limits, limit, Last, Sound, rowIn}
 use Rattle.table.proofs.Rows.{count-held, limit-small}
@@ -131,8 +132,9 @@ module _ (sheet row a b : List ℕ) (bytes : ℕ) (m : Mode) (ready : Ready a b)
   noted₁ : Noted a₁ b
   noted₁ = noted-other a b a₁ b (ready .noted) (rows-as NODE (omega arith)) (rows-as POLICY (omega arith)) few-before (λ i h. refl)
 
-  pub judge-needs : (seen : List ℕ) → Seen (held sheet a b) seen → Known a₁ b × Noted a₁ b × Seen (held sheet a₁ b) seen
-  judge-needs seen h = (known₁, noted₁, subst (λ (s : State). Seen s seen) (sym state-as) h)
+  pub judge-needs : length a ≡ room → length b ≡ room → (seen : List ℕ) → Seen (held sheet a b) seen → (last : ℕ) → inOrder (held sheet a b) last ≡ true
+      → ((length a₁ ≡ room) × (length b ≡ room) × (inOrder (held sheet a₁ b) last ≡ true)) × (Known a₁ b × Noted a₁ b × Seen (held sheet a₁ b) seen)
+  judge-needs la lb seen h last o = ((long₁ ∙ la, lb, ap (λ (s : State). inOrder s last) state-as ∙ o), (known₁, noted₁, subst (λ (s : State). Seen s seen) (sym state-as) h))
 
   pub line-malformed : n ≡ 0 → Taken sheet row a b a₁ b bytes 3
   line-malformed z =

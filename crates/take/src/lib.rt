@@ -23,10 +23,12 @@ use words::cut;
 use words::put;
 use words::read;
 ghost use mathlib.Core.Path.{_≡_};
+ghost use mathlib.Core.Bool.{true};
 ghost use Prim.Native.Nat.{_+_, _-_, _*_, _≤_, _<_};
 ghost use lib.ListN.{length, getD, set};
 ghost use Rattle.words.specs.Log.{part};
 ghost use Rattle.sheet.specs.Forms.{rowOfValue};
+ghost use Rattle.sheet.specs.Sheet.{inOrder};
 ghost use Rattle.table.specs.Layout.{TOP, SPENT, heap, withRow, held};
 ghost use Rattle.line.specs.Codes.{modeOf};
 ghost use Rattle.checks.specs.Seen.{withSeen, Seen};
@@ -96,7 +98,7 @@ fn commit(rows: &mut [u32], work: &mut [u32], key: usize, depth: u32, end: u32)
     add_row(rows, key, end);
 }
 
-// Reads a line of this key, with its `=` at the cursor, that ends at byte `end`: its refusal, 0 for none. Its row joins those seen.
+// Reads a line of this key, with its `=` at the cursor, that ends at byte `end`: its refusal, 0 for none. Its row joins those seen. The line before has the key `last`.
 pub fn take_line(
     sheet: &[u8],
     key: u64,
@@ -106,8 +108,9 @@ pub fn take_line(
     rows: &mut [u32],
     work: &mut [u32],
     seen: &mut [u32],
+    last: usize,
 ) -> u32
-    requires { ⌜ Ready (now rows) (now work) × Reached (modeOf partial) (held (now sheet) (now rows) (now work)) × (equals .at < end) × (end ≤ length (now sheet)) × (length (now sheet) ≤ 16384) × (2 * getD (now rows) TOP 0 + (end + 4 - equals .at) ≤ 2 * heap + 16400) × Seen (held (now sheet) (now rows) (now work)) (now seen) ⌝ }
+    requires { ⌜ Ready (now rows) (now work) × Reached (modeOf partial) (held (now sheet) (now rows) (now work)) × (equals .at < end) × (end ≤ length (now sheet)) × (length (now sheet) ≤ 16384) × (2 * getD (now rows) TOP 0 + (end + 4 - equals .at) ≤ 2 * heap + 16400) × Seen (held (now sheet) (now rows) (now work)) (now seen) × (inOrder (held (now sheet) (now rows) (now work)) last ≡ true) ⌝ }
     ensures line { λ f. ⌜ Taken (now (sheet .entry)) (rowOfValue (modeOf partial) key (part (now (sheet .entry)) (equals .at + 1) end)) (now (rows .entry)) (now (work .entry)) (now (rows .exit)) (now (work .exit)) (end + 4 - equals .at) f ⌝ }
     ensures seen { λ f. ⌜ (f ≡ 0 → now (seen .exit) ≡ withSeen (now (seen .entry)) (rowOfValue (modeOf partial) key (part (now (sheet .entry)) (equals .at + 1) end))) ⌝ }
 {
@@ -120,7 +123,7 @@ pub fn take_line(
         return 3;
     }
     let next = top + n;
-    let v = judge_at(sheet, rows, work, top, next, seen);
+    let v = judge_at(sheet, rows, work, top, next, seen, last);
     let f = v.number;
     if f != 0 {
         return f;

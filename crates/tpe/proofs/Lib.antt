@@ -10,6 +10,7 @@ pub mod Kids
 pub mod Sets
 pub mod EachStep
 pub mod Depth
+pub mod Kept
 pub mod Policies
 pub mod Nodes
 pub mod Readings

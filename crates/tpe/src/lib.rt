@@ -1,5 +1,5 @@
 // The interpreter of policies. Its definition over words is in specs/, what it means in proofs/. What a node does with its worked
-// operands stands in `steps`.
+// operands stands in `steps`. The first `skip` values are no bools: a search for a bool begins after them.
 pub mod steps;
 
 use residual::Stage;
@@ -8,7 +8,7 @@ use residual::push_left;
 use residual::push_value;
 use residual::stage_at;
 use value::Shape;
-use value::making::make_bool;
+use value::making::make_bool_after;
 use value::row_of;
 use value::shape_of;
 ghost use mathlib.Core.Path.{_≡_};
@@ -16,6 +16,7 @@ ghost use Prim.Native.Nat.{_≤_};
 ghost use lib.ListN.{take};
 ghost use Rattle.words.specs.Log.{Room};
 ghost use Rattle.value.specs.Made.{boolRow};
+ghost use Rattle.value.specs.Clear.{Clear};
 ghost use Rattle.sheet.specs.Forms.{NODE};
 ghost use Rattle.table.specs.Layout.{rowsOf};
 ghost use Rattle.residual.specs.Rows.{stageAt};
@@ -58,16 +59,25 @@ pub fn class_at(rows: &[u32], log: &[u32], end: usize) -> Class
 }
 
 // A bool found or made, as a value of type `ty` more on the log.
-pub fn give_bool(rows: &mut [u32], log: &mut [u32], top: usize, truth: bool, ty: u32) -> usize
+pub fn give_bool(
+    skip: usize,
+    rows: &mut [u32],
+    log: &mut [u32],
+    top: usize,
+    truth: bool,
+    ty: u32,
+) -> usize
     requires { ⌜ Room (now log) top ⌝ }
+    requires { ⌜ Clear (now rows) skip ⌝ }
     ensures { λ e. ⌜ Leaves top (now (rows .exit)) (now (log .exit)) e (madeOf (now (rows .entry)) (take top (now (log .entry))) ty (boolRow truth)) ⌝ }
 {
-    let v = make_bool(rows, truth);
+    let v = make_bool_after(rows, skip, truth);
     push_value(log, top, v, ty)
 }
 
 // Beside an open left side, which ends at `mid`, the right one is the bool that decides: where the left side can err, the node stays.
 pub fn decided(
+    skip: usize,
     rows: &mut [u32],
     log: &mut [u32],
     start: usize,
@@ -79,11 +89,12 @@ pub fn decided(
 ) -> usize
     requires { ⌜ Room (now log) top ⌝ }
     requires { ⌜ (start ≤ mid) × (mid ≤ top) ⌝ }
+    requires { ⌜ Clear (now rows) skip ⌝ }
     ensures { λ e. ⌜ Leaves start (now (rows .exit)) (now (log .exit)) e (decidedBy truth start node ty mid (now (rows .entry)) (take top (now (log .entry))) (errs (rowsOf (now (rows .entry)) NODE) (take top (now (log .entry))) mid)) ⌝ }
 {
     if can_error_assuming_well_formed(rows, log, mid) {
-        let p = give_bool(rows, log, mid, truth, ty);
+        let p = give_bool(skip, rows, log, mid, truth, ty);
         return push_left(log, start, p, node, 0, ty);
     }
-    give_bool(rows, log, start, truth, ty)
+    give_bool(skip, rows, log, start, truth, ty)
 }

@@ -84,6 +84,7 @@ ghost use Rattle.sheet.specs.Content.{varOf, entityGiven, rowsIn};
 ghost use Rattle.table.specs.Layout.{rowsOf};
 ghost use Rattle.value.specs.Lines.{valueLines};
 ghost use Rattle.value.specs.Made.{longRow, MadeBeside};
+ghost use Rattle.value.specs.Clear.{Clear};
 ghost use Rattle.residual.specs.Rows.{litRow, stageAt, wordAt};
 ghost use Rattle.residual.specs.Errs.{errs};
 ghost use Rattle.rules.specs.Rules.{ruleIn, schemaAt};
@@ -118,6 +119,7 @@ fn give_long(rows: &mut [u32], log: &mut [u32], top: usize, word: u64, ty: u32) 
 
 // What an operation gives, in the place of the operands; the node stays where it gives nothing yet.
 fn settle(
+    skip: usize,
     rows: &mut [u32],
     log: &mut [u32],
     start: usize,
@@ -128,10 +130,11 @@ fn settle(
 ) -> usize
     requires { ⌜ Room (now log) top ⌝ }
     requires { ⌜ start ≤ top ⌝ }
+    requires { ⌜ Clear (now rows) skip ⌝ }
     ensures { λ e. ⌜ Leaves start (now (rows .exit)) (now (log .exit)) e (settleOf (now (rows .entry)) (take top (now (log .entry))) start node ty (outOf given)) ⌝ }
 {
     match given {
-        Given::Bool(x) => give_bool(rows, log, start, x, ty),
+        Given::Bool(x) => give_bool(skip, rows, log, start, x, ty),
         Given::Long(w) => give_long(rows, log, start, w, ty),
         Given::Old(v) => push_value(log, start, v, ty),
         Given::Fails => push_error(log, start, ty),
@@ -384,6 +387,7 @@ fn push_rest(
 
 // A path stuck after some steps at `value`, an entity of this kind. The type rule decides by the next step.
 fn stuck(
+    skip: usize,
     rows: &mut [u32],
     log: &mut [u32],
     start: usize,
@@ -394,6 +398,7 @@ fn stuck(
 ) -> usize
     requires { ⌜ Room (now log) start ⌝ }
     requires { ⌜ steps < 4294967294 ⌝ }
+    requires { ⌜ Clear (now rows) skip ⌝ }
     ensures { λ e. ⌜ Leaves start (now (rows .exit)) (now (log .exit)) e (stuckOf partial [] (now (rows .entry)) (take start (now (log .entry))) node (getD (rowsOf (now (rows .entry)) NODE) node []) steps value kind (hasRule (schemaAt (now (rows .entry))) (at (getD (rowsOf (now (rows .entry)) NODE) node []) (2 + steps)) (alone kind))) ⌝ }
 {
     let r = row(rows, NODE, node);
@@ -402,7 +407,7 @@ fn stuck(
     let Rule::Says(x) = q else {
         return push_rest(rows, log, start, node, ty, steps, value, kind);
     };
-    give_bool(rows, log, start, x, ty)
+    give_bool(skip, rows, log, start, x, ty)
 }
 
 // What a rule says; a node stays where it says nothing.
@@ -416,18 +421,27 @@ fn said(rule: Rule) -> Given
 }
 
 // A path of which no step is taken: its operand stays. The type rule of its first step decides where the operand cannot err.
-fn unmoved(rows: &mut [u32], log: &mut [u32], start: usize, top: usize, node: u32) -> usize
+fn unmoved(
+    skip: usize,
+    rows: &mut [u32],
+    log: &mut [u32],
+    start: usize,
+    top: usize,
+    node: u32,
+) -> usize
     requires { ⌜ Room (now log) top ⌝ }
     requires { ⌜ start ≤ top ⌝ }
+    requires { ⌜ Clear (now rows) skip ⌝ }
     ensures { λ e. ⌜ Leaves start (now (rows .exit)) (now (log .exit)) e (unmovedOf partial [] (now (rows .entry)) (take top (now (log .entry))) start node (getD (rowsOf (now (rows .entry)) NODE) node [])) ⌝ }
 {
     let given = said(ruled_one(rows, log, top, node, HAS));
     let ty = type_of(rows, node);
-    settle(rows, log, start, top, node, ty, given)
+    settle(skip, rows, log, start, top, node, ty, given)
 }
 
 // A path from a value on, its operand. With no step taken the operand keeps its own type.
 fn path_from(
+    skip: usize,
     rows: &mut [u32],
     log: &mut [u32],
     start: usize,
@@ -437,38 +451,48 @@ fn path_from(
 ) -> usize
     requires { ⌜ Room (now log) top ⌝ }
     requires { ⌜ start ≤ top ⌝ }
+    requires { ⌜ Clear (now rows) skip ⌝ }
     ensures { λ e. ⌜ Leaves start (now (rows .exit)) (now (log .exit)) e (walkedOf partial [] (now (rows .entry)) (take top (now (log .entry))) start node (getD (rowsOf (now (rows .entry)) NODE) node []) (walkFrom (envIn partial [] (now (rows .entry))) (rowsIn (valueLines (now (rows .entry)))) (drop 3 (items (getD (rowsOf (now (rows .entry)) NODE) node []))) (at (getD (rowsOf (now (rows .entry)) NODE) node []) 2) value 0)) ⌝ }
 {
     let ty = type_of(rows, node);
     match walked(rows, node, value) {
-        Walked::Holds(x) => give_bool(rows, log, start, x, ty),
+        Walked::Holds(x) => give_bool(skip, rows, log, start, x, ty),
         Walked::Fails => push_error(log, start, ty),
         Walked::Left(w, k, j) => {
             if j == 0 {
-                return unmoved(rows, log, start, top, node);
+                return unmoved(skip, rows, log, start, top, node);
             }
             let i = taken(rows, node, j);
-            stuck(rows, log, start, node, i, w, k)
+            stuck(skip, rows, log, start, node, i, w, k)
         }
     }
 }
 
 // Whether a node has its path from its operand on.
-fn path(rows: &mut [u32], log: &mut [u32], start: usize, top: usize, node: u32) -> usize
+fn path(
+    skip: usize,
+    rows: &mut [u32],
+    log: &mut [u32],
+    start: usize,
+    top: usize,
+    node: u32,
+) -> usize
     requires { ⌜ Room (now log) top ⌝ }
     requires { ⌜ start ≤ top ⌝ }
+    requires { ⌜ Clear (now rows) skip ⌝ }
     ensures { λ e. ⌜ Leaves start (now (rows .exit)) (now (log .exit)) e (pathOf partial [] start node (getD (rowsOf (now (rows .entry)) NODE) node []) (left (now (rows .entry)) (take top (now (log .entry))))) ⌝ }
 {
     match stage_at(log, top) {
-        Stage::Value(v) => path_from(rows, log, start, top, node, v),
+        Stage::Value(v) => path_from(skip, rows, log, start, top, node, v),
         Stage::Error => push_error(log, start, type_of(rows, node)),
-        Stage::Open => unmoved(rows, log, start, top, node),
+        Stage::Open => unmoved(skip, rows, log, start, top, node),
     }
 }
 
 // An operation on one operand. Its type rule decides where the operand cannot err.
 pub fn one(
     sheet: &[u8],
+    skip: usize,
     rows: &mut [u32],
     log: &mut [u32],
     start: usize,
@@ -478,14 +502,15 @@ pub fn one(
 ) -> usize
     requires { ⌜ Room (now log) top ⌝ }
     requires { ⌜ start ≤ top ⌝ }
+    requires { ⌜ Clear (now rows) skip ⌝ }
     ensures { λ e. ⌜ Leaves start (now (rows .exit)) (now (log .exit)) e (oneAt partial (now (sheet .entry)) tag start node (getD (rowsOf (now (rows .entry)) NODE) node []) (left (now (rows .entry)) (take top (now (log .entry))))) ⌝ }
 {
     if tag == HASPATH {
-        return path(rows, log, start, top, node);
+        return path(skip, rows, log, start, top, node);
     }
     let given = asked_one(sheet, rows, log, top, node, tag);
     let ty = type_of(rows, node);
-    settle(rows, log, start, top, node, ty, given)
+    settle(skip, rows, log, start, top, node, ty, given)
 }
 
 // ---- two operands
@@ -584,6 +609,7 @@ fn asked_two(rows: &[u32], log: &[u32], mid: usize, top: usize, tag: u32) -> Giv
 
 // An operation on two operands, the left of which ends at `mid`. Its type rule decides where neither can err.
 pub fn two(
+    skip: usize,
     rows: &mut [u32],
     log: &mut [u32],
     start: usize,
@@ -594,9 +620,10 @@ pub fn two(
 ) -> usize
     requires { ⌜ Room (now log) top ⌝ }
     requires { ⌜ (start ≤ mid) × (mid ≤ top) ⌝ }
+    requires { ⌜ Clear (now rows) skip ⌝ }
     ensures { λ e. ⌜ Leaves start (now (rows .exit)) (now (log .exit)) e (twoAt partial [] tag start mid node (getD (rowsOf (now (rows .entry)) NODE) node []) (left (now (rows .entry)) (take top (now (log .entry))))) ⌝ }
 {
     let given = asked_two(rows, log, mid, top, tag);
     let ty = type_of(rows, node);
-    settle(rows, log, start, top, node, ty, given)
+    settle(skip, rows, log, start, top, node, ty, given)
 }

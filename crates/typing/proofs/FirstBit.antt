@@ -6,7 +6,7 @@ use Prim.Native.Nat.{ℕ, zero, suc, _+_, _-_, _*_, _/_, _%_, _^_, _≤_, _<_}
 use native.Mathlib.Nat.{div-div-eq-div-mul, mul-comm, pow-suc, div-eq-of-lt, div-le-self, zero-div}
 use native.Mathlib.Omega.{arith}
 use native.Mathlib.Decide.{decLt}
-use borrow.Author.Tests.{eq-eqb, ne-eqb}
+use borrow.Author.Tests.{eq-eqb, ne-eqb, eqb-true}
 use lib.Dec.{eqb}
 use lib.Count.{trailingZeros, under}
 use lib.ListN.{length, getD, List·getD-eq-default}
@@ -36,12 +36,12 @@ unfolding bit
 bit-shift s j w = ap (λ (x : ℕ). eqb (x % 2) 1) (div-div-eq-div-mul w (2 ^ s) (2 ^ j) ∙ ap (λ (x : ℕ). w / x) (sym (pow-add 2 s j)))
 
 -- no bit past the highest
-bit-over : (n k w : ℕ) → w < 2 ^ n → n ≤ k → bit k w ≡ false
+pub bit-over : (n k w : ℕ) → w < 2 ^ n → n ≤ k → bit k w ≡ false
 unfolding bit
 bit-over n k w h l = ap (λ (x : ℕ). eqb (x % 2) 1) (div-eq-of-lt {n = w} {m = 2 ^ k} (let m : 2 ^ n ≤ 2 ^ k = pow-mono l in omega (arith, m)))
 
 -- the lowest bit, and none below it
-tz-here : (d q : ℕ) → (q ≡ 0 → ⊥) → q < 2 ^ d → bit (trailingZeros d q) q ≡ true
+pub tz-here : (d q : ℕ) → (q ≡ 0 → ⊥) → q < 2 ^ d → bit (trailingZeros d q) q ≡ true
 unfolding trailingZeros
 tz-here zero q h k = absurd (h (omega arith))
 tz-here (suc d) q h k = go (q % 2) refl (λ e. tz-here d (q / 2) (λ z. h (omega arith)) (let p = pow-suc 2 d in omega (arith, p)))
@@ -59,6 +59,15 @@ tz-below (suc d) q j h = go (q % 2) refl j h (tz-below d (q / 2))
     go zero e zero l ih = bit-low q ∙ ne-eqb (q % 2) 1 (omega arith)
     go zero e (suc j) l ih = bit-suc j q ∙ ih j (omega arith)
     go (suc r) e j l ih = absurd (omega arith)
+
+-- a bit that is set may be taken off
+pub bit-less : (s w : ℕ) → bit s w ≡ true → (2 ^ s ≤ w) × (bit s (w - 2 ^ s) ≡ false)
+bit-less zero w h = let o : w % 2 ≡ 1 = eqb-true (w % 2) 1 (sym (bit-low w) ∙ h) in (omega arith, bit-low (w - 2 ^ 0) ∙ ne-eqb ((w - 2 ^ 0) % 2) 1 (omega arith))
+bit-less (suc s) w h =
+    let p = pow-suc 2 s in
+    let (l, e) = bit-less s (w / 2) (sym (bit-suc s w) ∙ h) in
+    let q : (w - 2 ^ suc s) / 2 ≡ w / 2 - 2 ^ s = omega (arith, p, l) in
+    (omega (arith, p, l), bit-suc s (w - 2 ^ suc s) ∙ ap (bit s) q ∙ e)
 
 -- past the words of a set there is none
 pub member-out : (s : List ℕ) (x : ℕ) → length s ≤ x / 32 → member s x ≡ false

@@ -6,10 +6,9 @@ use mathlib.Core.Option.{Option, none, some}
 use mathlib.Core.Logic.{_⊎_, inl, inr}
 use Prim.Native.Nat.{ℕ, zero, suc, _+_, _-_, _≤_, _<_}
 use native.Mathlib.Omega.{arith}
-use borrow.Author.Tests.{lt-ltb, le-leb, lt-leb, not-true, not-false}
-use lib.Dec.{ltb}
-use lib.ListN.{length, getD, drop, replicate, length-replicate, drop-of-length-le}
-use Rattle.cedar.proofs.Tools.{no-true, and-both, iff}
+use borrow.Author.Tests.{le-leb, lt-leb, not-true, not-false}
+use lib.ListN.{length, getD, drop, replicate, drop-of-length-le}
+use Rattle.cedar.proofs.Tools.{no-true, iff}
 use Rattle.sheet.specs.Bytes.{same}
 use Rattle.sheet.proofs.reading.RowTests.{same-is}
 use Rattle.words.proofs.Bits.{added-is}
@@ -22,8 +21,8 @@ use Rattle.words.specs.Bits.{member, added}
 use Rattle.fits.proofs.Walks.{next}
 use Rattle.typing.specs.Links.{TYPES}
 use Rattle.typing.specs.Rules.{attributeAt, eachAt, pathFrom, pathAt}
-use Rattle.typing.specs.Paths.{Each, Skipped, Gathered, Placed, declaredThere, ofAll, ofTypes}
-use Rattle.typing.proofs.PathSets.{member-zeros, each-none, each-new, each-added, each-there}
+use Rattle.typing.specs.Paths.{Each, Skipped, Gathered, Placed, declaredEach, ofEach, ofStep}
+use Rattle.typing.proofs.PathSets.{member-zeros, each-none}
 
 -- what a path asks of each record type that its first type has
 abbrev stepTest : List ℕ → List ℕ → ℕ → ℕ → Bool
@@ -35,25 +34,13 @@ unfolding pathFrom
 path-each a [] t y = refl
 path-each a (u ∷ us) t y = refl
 
--- a path begins at a type that is there
-path-there : (a us : List ℕ) (t y : ℕ) → pathFrom a us t y ≡ true → y < getD a TYPE 0
-path-there a us t y e = each-there a y (stepTest a us t) (sym (path-each a us t y) ∙ e)
-
--- so a type that is declared is there, where the path from it is typed
-declared-path : (a us : List ℕ) (t u z : ℕ) → declaredThere a t (pathFrom a us u) z ≡ stepTest a (u ∷ us) t z
-declared-path a us t u z = go (attributeAt a z t)
+-- so what it asks of a record type is asked of the record types of the type that this one declares
+step-declared : (a us : List ℕ) (t u z : ℕ) → stepTest a (u ∷ us) t z ≡ declaredEach a t (stepTest a us u) z
+step-declared a us t u z = go (attributeAt a z t)
   where
-    one : (x : ℕ) → (ltb x (getD a TYPE 0) && pathFrom a us u x) ≡ pathFrom a us u x
-    one x = iff (ltb x (getD a TYPE 0) && pathFrom a us u x) (pathFrom a us u x)
-        (λ e. and-both (ltb x (getD a TYPE 0)) (pathFrom a us u x) e (λ p q. q))
-        (λ e. ap (λ (b : Bool). b && pathFrom a us u x) (lt-ltb x (getD a TYPE 0) (path-there a us u x e)) ∙ e)
-
-    go : (o : Option ℕ) → onSome true o (λ x. ltb x (getD a TYPE 0) && pathFrom a us u x) ≡ onSome true o (pathFrom a us u)
+    go : (o : Option ℕ) → onSome true o (pathFrom a us u) ≡ onSome true o (λ x. eachAt a x (stepTest a us u))
     go none = refl
-    go (some x) = one x
-
-path-declared : (a us : List ℕ) (t u z : ℕ) → stepTest a (u ∷ us) t z ≡ declaredThere a t (pathFrom a us u) z
-path-declared a us t u z = sym (declared-path a us t u z)
+    go (some x) = path-each a us u x
 
 -- what is left from word i on, its first step the word before it; after that step; and what that step asks of a record type
 abbrev leftAt : List ℕ → List ℕ → ℕ → ℕ → Bool
@@ -65,17 +52,24 @@ restAt a r i = pathFrom a (drop (i + 1) r) (getD r i 0)
 abbrev stepAt : List ℕ → List ℕ → ℕ → ℕ → Bool
 stepAt a r i = stepTest a (drop i r) (getD r (i - 1) 0)
 
--- ---- a step from all types of a set
+-- and what the step after it asks
+abbrev nextAt : List ℕ → List ℕ → ℕ → ℕ → Bool
+nextAt a r i = stepTest a (drop (i + 1) r) (getD r i 0)
 
--- to ask the types, by what their record types declare for text t, is to ask the types of the other set
+step-next : (a r : List ℕ) (i x : ℕ) → i < length r → stepAt a r i x ≡ declaredEach a (getD r (i - 1) 0) (nextAt a r i) x
+step-next a r i x l = rw (next r i l) (step-declared a (drop (i + 1) r) (getD r (i - 1) 0) (getD r i 0) x)
+
+-- ---- a step from all record types of a set
+
+-- to ask what the record types declare for text t is to ask the record types of the other set
 pub record Steps (a types : List ℕ) (t : ℕ) (reached : List ℕ) : Type 0 where
-  pub to : (f : ℕ → Bool) → ofAll a types (declaredThere a t f) → Each reached f
-  pub back : (f : ℕ → Bool) → Each reached f → ofAll a types (declaredThere a t f)
+  pub to : (f : ℕ → Bool) → ofStep a types t f → Each reached f
+  pub back : (f : ℕ → Bool) → Each reached f → ofStep a types t f
 
 no-member : (n : ℕ) (z : List ℕ) (f : ℕ → Bool) → z ≡ replicate n 0 → Each z f
 no-member n z f e = each-none z f (λ x. ap (λ (s : List ℕ). member s x) e ∙ member-zeros n x)
 
-steps-is : (a types : List ℕ) (t : ℕ) (z reached : List ℕ) (b : Bool) → z ≡ replicate 4 0 → Gathered z reached (ofTypes a types t) b → not b ≡ false → Steps a types t reached
+steps-is : (a types : List ℕ) (t : ℕ) (z reached : List ℕ) (b : Bool) → z ≡ replicate 4 0 → Gathered z reached (ofStep a types t) b → not b ≡ false → Steps a types t reached
 steps-is a types t z reached b ez g h = record { to = λ f e. g .joins (not-false b h) f (no-member 4 z f ez) e; back = λ f e. g .asks (not-false b h) f e .1 }
 
 -- the texts whose step leaves the set as it is
@@ -94,25 +88,22 @@ kept-more a types texts t k s = record { by = λ x m. go x (added-is texts t .jo
 
 -- ---- from a group on
 
--- what is left of row r's path, from word i on, is asked of all types reached, and decides the path from word s and type y on
+-- what is left of row r's path, from word i on, is asked of all record types reached, and decides the path from word s and type y on
 pub record Path (a r : List ℕ) (s y : ℕ) (types : List ℕ) (i : ℕ) : Type 0 where
-  pub asks : leftAt a r s y ≡ true → Each types (leftAt a r i)
-  pub says : Each types (leftAt a r i) → leftAt a r s y ≡ true
+  pub asks : leftAt a r s y ≡ true → Each types (stepAt a r i)
+  pub says : Each types (stepAt a r i) → leftAt a r s y ≡ true
   pub low : 1 ≤ i
 
 -- a step more
 path-step : (a r : List ℕ) (s y : ℕ) (types reached : List ℕ) (i : ℕ) → Path a r s y types i → i < length r → Steps a types (getD r (i - 1) 0) reached → Path a r s y reached (i + 1)
 path-step a r s y types reached i w l k = record {
-  asks = λ e. rw j (k .to (restAt a r i) (record { at = λ x o m. sym (one x) ∙ w .asks e .at x o m }));
-  says = λ e. w .says (record { at = λ x o m. one x ∙ k .back (restAt a r i) (subst (λ (n : ℕ). Each reached (pathFrom a (drop (i + 1) r) (getD r n 0))) j e) .at x o m });
+  asks = λ e. rw j (k .to (nextAt a r i) (record { at = λ x o m. sym (step-next a r i x l) ∙ w .asks e .at x o m }));
+  says = λ e. w .says (record { at = λ x o m. step-next a r i x l ∙ k .back (nextAt a r i) (subst (λ (n : ℕ). Each reached (stepTest a (drop (i + 1) r) (getD r n 0))) j e) .at x o m });
   low = omega (arith, w .low);
 }
   where
     j : i + 1 - 1 ≡ i
     j = omega arith
-
-    one : (x : ℕ) → leftAt a r i x ≡ eachAt a x (declaredThere a (getD r (i - 1) 0) (restAt a r i))
-    one x = rw (next r i l) (path-each a (getD r i 0 ∷ drop (i + 1) r) (getD r (i - 1) 0) x ∙ (λ n. eachAt a x (λ z. path-declared a (drop (i + 1) r) (getD r (i - 1) 0) (getD r i 0) z n)))
 
 -- steps that leave the set as it is
 path-skip : (a r : List ℕ) (s y : ℕ) (types texts : List ℕ) (i j : ℕ) → Path a r s y types i → Kept a types texts → Skipped r texts i j → Path a r s y types j
@@ -128,17 +119,17 @@ false-is : (b : Bool) → (b ≡ true → ⊥) → false ≡ b
 false-is true h = absurd (h refl)
 false-is false h = refl
 
-true-is : (b : Bool) → (b ≡ false → ⊥) → b ≡ true
-true-is true h = refl
-true-is false h = absurd (h refl)
-
 module _ (a r : List ℕ) (s y : ℕ) where
-  pub path-start : (z v : List ℕ) → z ≡ replicate 4 0 → v ≡ added z y → y < getD a TYPE 0 → getD a TYPE 0 ≤ TYPES → 1 ≤ s → Path a r s y v s
-  path-start z v ez ev h n l = subst (λ (u : List ℕ). Path a r s y u s) (sym ev) (record {
-    asks = λ e. each-added z (leftAt a r s) y (no-member 4 z (leftAt a r s) ez) e;
-    says = λ e. each-new z (leftAt a r s) y (rw (ez, length-replicate {A = ℕ} 4 0) (omega arith)) e;
-    low = l;
-  })
+  module _ (z v : List ℕ) (b : Bool) (ez : z ≡ replicate 4 0) (g : Gathered z v (ofEach a y) b) where
+    pub path-none : not b ≡ true → false ≡ leftAt a r s y
+    path-none h = false-is (leftAt a r s y) (λ e. g .fails (not-true b h) (stepAt a r s) (no-member 4 z (stepAt a r s) ez) (sym (path-each a (drop s r) (getD r (s - 1) 0) y) ∙ e))
+
+    pub path-start : not b ≡ false → 1 ≤ s → Path a r s y v s
+    path-start h l = record {
+      asks = λ e. g .joins (not-false b h) (stepAt a r s) (no-member 4 z (stepAt a r s) ez) (sym (path-each a (drop s r) (getD r (s - 1) 0) y) ∙ e);
+      says = λ e. path-each a (drop s r) (getD r (s - 1) 0) y ∙ g .asks (not-false b h) (stepAt a r s) e .1;
+      low = l;
+    }
 
   pub kept-start : (types z : List ℕ) → z ≡ replicate 16 0 → Kept a types z
   kept-start = kept-none a
@@ -147,31 +138,17 @@ module _ (a r : List ℕ) (s y : ℕ) where
     here : Path a r s y types j
     here = path-skip a r s y types texts i j w k d
 
-    -- at the end the types are asked for no more than their record types
-    pub path-end : (z records : List ℕ) (b : Bool) → length r ≤ j → z ≡ replicate 4 0 → Gathered z records (ofAll a types) b → b ≡ leftAt a r s y
-    path-end z records b l ez g = iff b (leftAt a r s y) yes-is back
-      where
-        free : (x : ℕ) → stepAt a r j x ≡ true
-        free x = ap (λ (us : List ℕ). stepTest a us (getD r (j - 1) 0) x) (drop-of-length-le r {i = j} l)
+    -- at the end nothing is asked
+    pub path-end : length r ≤ j → true ≡ leftAt a r s y
+    path-end l = sym (here .says (record { at = λ x o m. ap (λ (us : List ℕ). stepTest a us (getD r (j - 1) 0) x) (drop-of-length-le r {i = j} l) }))
 
-        yes-is : b ≡ true → leftAt a r s y ≡ true
-        yes-is e =
-            let all : ofAll a types (stepAt a r j) = g .asks e (stepAt a r j) (record { at = λ x _ _. free x }) .1 in
-            here .says (record { at = λ x o m. path-each a (drop j r) (getD r (j - 1) 0) x ∙ all .at x o m })
-
-        back : leftAt a r s y ≡ true → b ≡ true
-        back e = true-is b (λ h. g .fails h (stepAt a r j) (no-member 4 z (stepAt a r j) ez) (record { at = λ x o m. sym (path-each a (drop j r) (getD r (j - 1) 0) x) ∙ here .asks e .at x o m }))
-
-    module _ (t : ℕ) (u reached : List ℕ) (c : Bool) (l : j < length r) (et : t ≡ getD r (j - 1) 0) (eu : u ≡ replicate 4 0) (q : Gathered u reached (ofTypes a types t) c) where
+    module _ (t : ℕ) (u reached : List ℕ) (c : Bool) (l : j < length r) (et : t ≡ getD r (j - 1) 0) (eu : u ≡ replicate 4 0) (q : Gathered u reached (ofStep a types t) c) where
       -- what is left asks for the step
-      asks-step : Each types (leftAt a r j) → ofTypes a types t (restAt a r j)
-      asks-step e = record { at = λ x o m. sym (one x) ∙ e .at x o m }
-        where
-          one : (x : ℕ) → leftAt a r j x ≡ eachAt a x (declaredThere a t (restAt a r j))
-          one x = rw (next r j l, ← et) (path-each a (getD r j 0 ∷ drop (j + 1) r) t x ∙ (λ n. eachAt a x (λ z. path-declared a (drop (j + 1) r) t (getD r j 0) z n)))
+      asks-step : Each types (stepAt a r j) → ofStep a types t (nextAt a r j)
+      asks-step e = record { at = λ x o m. ap (λ (n : ℕ). declaredEach a n (nextAt a r j) x) et ∙ sym (step-next a r j x l) ∙ e .at x o m }
 
       pub path-lost : not c ≡ true → false ≡ leftAt a r s y
-      path-lost e = false-is (leftAt a r s y) (λ p. q .fails (not-true c e) (restAt a r j) (no-member 4 u (restAt a r j) eu) (asks-step (here .asks p)))
+      path-lost e = false-is (leftAt a r s y) (λ p. q .fails (not-true c e) (nextAt a r j) (no-member 4 u (nextAt a r j) eu) (asks-step (here .asks p)))
 
       module _ (e : not c ≡ false) where
         steps : Steps a types (getD r (j - 1) 0) reached
@@ -192,6 +169,9 @@ module _ (a r : List ℕ) (s y : ℕ) where
           kept-same more em = subst (Kept a types) (sym em) (kept-more a types texts t k (subst (λ (n : List ℕ). Steps a types t n) as-was (subst (λ (n : ℕ). Steps a types n reached) (sym et) steps)))
 
 -- ---- any path
+
+pub never : false ≡ true → ⊥
+never e = let z : _≡_ {A = ℕ} 0 1 = cc in omega arith
 
 -- what is left of row r's path, from word i and type z on, decides the path from type y
 pub record Single (a r : List ℕ) (y z i : ℕ) : Type 0 where
@@ -214,8 +194,8 @@ module _ (a r : List ℕ) (y n : ℕ) (en : n ≡ getD a TYPE 0) where
     pub single-nowhere : p ≡ P.the-variants.Nowhere → false ≡ pathAt a r y
     single-nowhere e = false-is (pathAt a r y) (λ h. q .place .nowhere e (stepAt a r i) (sym (path-each a (drop i r) (getD r (i - 1) 0) z) ∙ sym path-few ∙ h))
 
-    pub single-group : (b : Bool) → p ≡ P.the-variants.Group → b ≡ leftAt a r i z → b ≡ pathAt a r y
-    single-group b e eb = eb ∙ sym path-few
+    pub single-left : (b : Bool) → b ≡ leftAt a r i z → b ≡ pathAt a r y
+    single-left b eb = eb ∙ sym path-few
 
     module _ (x : ℕ) (e : p ≡ P.the-variants.Alone x) where
       one-record : leftAt a r i z ≡ stepAt a r i x

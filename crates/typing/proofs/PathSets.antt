@@ -8,8 +8,7 @@ use Prim.Native.Nat.{ℕ, zero, suc, _+_, _/_, _%_, _≤_, _<_}
 use native.Mathlib.Omega.{arith}
 use native.Mathlib.Decide.{decLt, ℕ-discrete}
 use Rattle.cedar.proofs.Tools.{no-true, both, and-both}
-use borrow.Author.Tests.{lt-ltb, le-ltb, not-true, not-false}
-use lib.Dec.{ltb}
+use borrow.Author.Tests.{not-true, not-false}
 use lib.ListN.{length, getD, replicate, List·getD-eq-default}
 use Rattle.cedar.specs.Value.{onSome}
 use Rattle.sheet.specs.Forms.{tag, TYPE}
@@ -27,7 +26,7 @@ use Rattle.typing.proofs.KindWalks.{each-kinds, each-record}
 use Rattle.typing.proofs.FirstBit.{bit-of-zero, member-out}
 use Rattle.typing.specs.Links.{TYPES}
 use Rattle.typing.specs.Rules.{always, kindsAt, recordAt, attributeAt, attributeTypeAt, ofRecord, ofKind, eachAt}
-use Rattle.typing.specs.Paths.{From, Each, Next, Asked, Gathered, ofType, ofRow, ofEach, ofAll, declaredThere, ofDeclared, ofStep}
+use Rattle.typing.specs.Paths.{From, Each, Next, Asked, Gathered, ofType, ofRow, ofEach, declaredEach, ofDeclared}
 
 -- ---- members of a set
 
@@ -156,22 +155,6 @@ module _ (g : Test) (w s : List ℕ) where
           go f p a x (yes j) (yes q) l m = ap (g f) q ∙ p
           go f p a x (yes j) (no q) l m = no-true (sym (n .none x (omega (arith, q)) j) ∙ m)
 
--- what each type of a set is asked, and what each record type of a set declares
-module _ (a w s v : List ℕ) (y : ℕ) where
-  module _ (k : Walked (λ f z. eachAt a z f) w s v y) where
-    pub types-end : TYPES ≤ y → length s ≡ 4 → Gathered w v (ofAll a s) true
-    types-end = walk-end (λ f z. eachAt a z f) w s v y k
-
-    pub types-off : (u : List ℕ) (b : Bool) → Gathered v u (ofEach a y) b → y < TYPES → not b ≡ true → Gathered w u (ofAll a s) false
-    types-off = walk-off (λ f z. eachAt a z f) w s v y k
-
-  module _ (t : ℕ) (k : Walked (declaredThere a t) w s v y) where
-    pub step-end : TYPES ≤ y → length s ≡ 4 → Gathered w v (ofStep a s t) true
-    step-end = walk-end (declaredThere a t) w s v y k
-
-    pub step-off : (u : List ℕ) (b : Bool) → Gathered v u (ofDeclared a t y) b → y < TYPES → not b ≡ true → Gathered w u (ofStep a s t) false
-    step-off = walk-off (declaredThere a t) w s v y k
-
 -- ---- record types
 
 module _ (a : List ℕ) (y : ℕ) where
@@ -296,16 +279,14 @@ module _ (a w v q : List ℕ) (y k : ℕ) (b : Bool) (eq : q ≡ getD (rowsOf a 
 
 module _ (a w : List ℕ) (y t : ℕ) (d : F.Found) (ed : foundIn d ≡ attributeAt a y t) where
   pub declared-none : d ≡ F.the-variants.Undeclared → Gathered w w (ofDeclared a t y) true
-  declared-none h = nothing-asked w (ofDeclared a t y) (λ f. ap (λ (o : Option ℕ). onSome true o (λ z. ltb z (getD a TYPE 0) && f z)) (sym ed ∙ ap foundIn h))
+  declared-none h = nothing-asked w (ofDeclared a t y) (λ f. ap (λ (o : Option ℕ). onSome true o (λ z. eachAt a z f)) (sym ed ∙ ap foundIn h))
 
-  module _ (z n : ℕ) (h : d ≡ F.the-variants.As z) (en : n ≡ getD a TYPE 0) where
-    declared-is : (f : ℕ → Bool) → declaredThere a t f y ≡ (ltb z n && f z)
-    declared-is f = ap (λ (o : Option ℕ). onSome true o (λ z. ltb z (getD a TYPE 0) && f z)) (sym ed ∙ ap foundIn h) ∙ ap (λ (m : ℕ). ltb z m && f z) (sym en)
+  module _ (z n : ℕ) (h : d ≡ F.the-variants.As z) where
+    declared-is : (f : ℕ → Bool) → declaredEach a t f y ≡ eachAt a z f
+    declared-is f = ap (λ (o : Option ℕ). onSome true o (λ z. eachAt a z f)) (sym ed ∙ ap foundIn h)
 
-    pub declared-out : n ≤ z → Gathered w w (ofDeclared a t y) false
-    declared-out l = never-passes w w (ofDeclared a t y) (λ f e. no-true (sym (ap (λ (b : Bool). b && f z) (le-ltb z n l)) ∙ sym (declared-is f) ∙ e))
+    pub declared-out : n ≡ getD a TYPE 0 → n ≤ z → Gathered w w (ofDeclared a t y) false
+    declared-out en l = never-passes w w (ofDeclared a t y) (λ f e. let m = each-there a z f (sym (declared-is f) ∙ e) in absurd (omega (arith, m)))
 
-    pub declared-in : (v : List ℕ) → z < n → getD a TYPE 0 ≤ TYPES → length w ≡ 4 → v ≡ added w z → Gathered w v (ofDeclared a t y) true
-    declared-in v l m k ev =
-        let e : (f : ℕ → Bool) → declaredThere a t f y ≡ f z = λ f. declared-is f ∙ ap (λ (b : Bool). b && f z) (lt-ltb z n l) in
-        one-asked w v (ofDeclared a t y) z ev (omega arith) (λ f q. sym (e f) ∙ q) (λ f q. e f ∙ q)
+    pub declared-in : (v : List ℕ) (b : Bool) → Gathered w v (ofEach a z) b → Gathered w v (ofDeclared a t y) b
+    declared-in v b = gathered-as (ofEach a z) (ofDeclared a t y) (λ f e. declared-is f ∙ e) (λ f e. sym (declared-is f) ∙ e)

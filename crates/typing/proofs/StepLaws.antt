@@ -1,109 +1,283 @@
--- A step from all types of a set: worked out, or remembered.
-use mathlib.Core.Path.{_≡_, sym, ap, subst, _∙_}
-use mathlib.Core.Bool.{Bool, true, false, not, _&&_}
-use mathlib.Core.List.{List}
-use Prim.Native.Nat.{ℕ, _+_, _*_, _/_, _%_, _<_}
+-- A step from all record types of a set by a text: worked out, or remembered at a place for each text and each type.
+use mathlib.Core.Path.{_≡_, refl, sym, ap, subst, _∙_}
+use mathlib.Core.Bool.{Bool, true, false, not, _||_}
+use mathlib.Core.List.{List, [], _∷_}
+use mathlib.Core.Logic.{_⊎_, inl, inr}
+use Prim.Native.Nat.{ℕ, _+_, _-_, _*_, _/_, _%_, _^_, _≤_, _<_}
 use native.Mathlib.Omega.{arith}
 use native.Mathlib.Decide.{decLt, ℕ-discrete}
-use borrow.Author.Tests.{not-true, not-false, ne-eqb, eq-eqb, eqb-true}
-use Rattle.cedar.proofs.Tools.{no-true, and-both}
-use lib.Dec.{eqb}
-use lib.ListN.{length, getD, set, replicate, length-replicate}
+use Rattle.cedar.proofs.Tools.{no-true, or-right}
+use lib.Bits.{bitOr}
+use lib.Count.{trailingZeros}
+use lib.Pow.{pow-mono}
+use lib.ListN.{length, getD, set, replicate}
 use lib.Seq.{sets, getD-set-same, getD-set-other}
-use Rattle.sheet.specs.Bytes.{same}
-use Rattle.sheet.proofs.reading.RowTests.{same-is}
-use Rattle.words.specs.Bits.{member, joined}
+use Rattle.words.specs.Bits.{bit, member, added, joined}
+use Rattle.words.proofs.Bits.{bit-joins, bit-keeps, member-joined}
 use Rattle.words.proofs.Stores.{part-at, length-part}
 use Rattle.typing.specs.Links.{TYPES}
-use Rattle.typing.specs.Rules.{eachAt}
-use Rattle.typing.specs.Paths.{WORDS, SETS, Gathered, Remembered, setAt, isStepAt, ofAll, ofStep, ofTypes, declaredThere}
-use Rattle.typing.proofs.FirstBit.{bit-of-zero, member-out}
-use Rattle.typing.proofs.PathSets.{zero-in, each-none, gathered-as, never-passes}
-use Rattle.typing.proofs.KnownSets.{empty, join-asked, set-own, set-other}
+use Rattle.typing.specs.Paths.{WORDS, SLOTS, PLACES, Next, Each, Gathered, Seen, AllSeen, Settled, PlacedIn, setAt, declaredEach, ofDeclared, ofPlace, ofSlot, ofStep, ofWord, ofSets}
+use Rattle.typing.proofs.FirstBit.{bit-of-zero, bit-over, member-out, tz-here, bit-less}
+use Rattle.typing.proofs.PathSets.{Turned, Walked, zero-in, member-zeros, gathered-as, turn-start, turn-done, turn-on, walk-end, walk-off, walk-on}
+use Rattle.typing.proofs.KnownSets.{empty, joined-left, joined-right, joined-both, join-asked, set-own, set-other, held-off, held-own, held-kept, joins-off, joins-on}
 
--- ---- worked out
+-- ---- a place that is seen, and one that is worked out
 
-module _ (a types records : List ℕ) (t : ℕ) (b : Bool) (g : Gathered (replicate WORDS 0) records (ofAll a types) b) where
-  pub work-off : (w : List ℕ) → not b ≡ true → Gathered w w (ofTypes a types t) false
-  work-off w h = never-passes w w (ofTypes a types t) (λ f q. g .fails (not-true b h) (declaredThere a t f) (empty (declaredThere a t f)) q)
+pub seen-none : (a texts images : List ℕ) → Seen a texts (replicate (SLOTS * WORDS) 0) images
+seen-none a texts images = record { at = λ p m. no-true (sym (member-zeros (SLOTS * WORDS) p) ∙ m) }
 
-  pub work-on : (w v : List ℕ) (c : Bool) → not b ≡ false → Gathered w v (ofStep a records t) c → Gathered w v (ofTypes a types t) c
-  work-on w v c h = gathered-as (ofStep a records t) (ofTypes a types t)
-      (λ f e. g .asks (not-false b h) (declaredThere a t f) e .1)
-      (λ f e. g .joins (not-false b h) (declaredThere a t f) (empty (declaredThere a t f)) e)
+module _ (a texts seen w : List ℕ) (p : ℕ) (k : Seen a texts seen w) where
+  pub look-known : (b : Bool) → b ≡ member seen p → b ≡ true → PlacedIn a texts w p true
+  look-known b e h = k .at p (sym e ∙ h)
 
--- ---- the step at a place
+  module _ (own : List ℕ) (b : Bool) (t : ℕ) (et : t ≡ getD texts (p / TYPES) 0) (d : Gathered (replicate WORDS 0) own (ofDeclared a t (p % TYPES)) b) where
+    g : Gathered (replicate WORDS 0) own (ofPlace a texts p) b
+    g = subst (λ (x : ℕ). Gathered (replicate WORDS 0) own (ofDeclared a x (p % TYPES)) b) et d
 
--- a set of the memory has as many words as any set
-pub set-words : (w own types : List ℕ) (p : ℕ) → own ≡ setAt w p → length w ≡ SETS → p < TYPES → length types ≡ WORDS → length own ≡ length types
-set-words w own types p eo lw l lt = ap length eo ∙ length-part w (p * WORDS) (p * WORDS + WORDS) (omega arith) ∙ omega arith
+    pub look-off : not b ≡ true → PlacedIn a texts w p false
+    look-off = held-off (ofPlace a texts) w p own b g
 
-module _ (starts texts : List ℕ) (p : ℕ) (types : List ℕ) (t x : ℕ) (ex : x ≡ getD texts p 0) where
-  pub text-other : (x ≡ t → ⊥) → false ≡ isStepAt starts texts p types t
-  text-other h = ap (λ (b : Bool). b && same (setAt starts p) types) (sym (ne-eqb (getD texts p 0) t (λ e. h (ex ∙ e))))
+    module _ (v : List ℕ) (h : not b ≡ false) (l : length own ≡ WORDS) (lw : length w ≡ PLACES * WORDS) (s : p < PLACES) (ev : v ≡ sets w (p * WORDS) own) where
+      pub look-own : PlacedIn a texts v p true
+      look-own = held-own (ofPlace a texts) w p own b g v h l (omega arith) ev
 
-  pub text-same : (own : List ℕ) (b : Bool) → x ≡ t → own ≡ setAt starts p → b ≡ same own types → b ≡ isStepAt starts texts p types t
-  text-same own b h eo eb = eb ∙ ap (λ (s : List ℕ). same s types) eo ∙ ap (λ (b : Bool). b && same (setAt starts p) types) (sym (eq-eqb (getD texts p 0) t (sym ex ∙ h)))
+      pub look-kept : (now : List ℕ) → now ≡ added seen p → Seen a texts now v
+      look-kept now en = record { at = held-kept (ofPlace a texts) w p own b g v h l (omega arith) ev seen now (k .at) en }
 
--- ---- the memory
+module _ (a texts w v : List ℕ) (p : ℕ) (b : Bool) (g : PlacedIn a texts v p b) where
+  pub place-off : not b ≡ true → Gathered w w (ofPlace a texts p) false
+  place-off = joins-off (ofPlace a texts) w v p b g
 
--- at first each set is without members
-none-at : (p x : ℕ) → p < TYPES → member (setAt (replicate SETS 0) p) x ≡ false
-unfolding member
-none-at p x h = go (decLt (x / 32) WORDS)
-  where
-    go : Dec (x / 32 < WORDS) → member (setAt (replicate SETS 0) p) x ≡ false
-    go (yes l) = rw (part-at (replicate SETS 0) (p * WORDS) (p * WORDS + WORDS) (x / 32) (omega arith), zero-in SETS (p * WORDS + x / 32)) (bit-of-zero (x % 32))
-    go (no l) = member-out (setAt (replicate SETS 0) p) x (rw (length-part (replicate SETS 0) (p * WORDS) (p * WORDS + WORDS) (rw (length-replicate {A = ℕ} SETS 0) (omega arith))) (omega (arith, l)))
+  pub place-on : (own u : List ℕ) → own ≡ setAt v p → length w ≡ WORDS → length v ≡ PLACES * WORDS → p < PLACES → u ≡ joined w own → not b ≡ false → Gathered w u (ofPlace a texts p) true
+  place-on own u eo lw lv s eu = joins-on (ofPlace a texts) w v p b g own u eo lw (omega arith) eu
 
-pub remembered-none : (a : List ℕ) → Remembered a (replicate SETS 0) (replicate TYPES 0) (replicate SETS 0)
-remembered-none a = record {
-  at = λ p l. record {
-    asks = λ e f v. (empty f, each-none (setAt (replicate SETS 0) p) (λ y. eachAt a y (declaredThere a (getD (replicate TYPES 0) p 0) f)) (λ x. none-at p x l));
-    joins = λ e f w q. each-none (setAt (replicate SETS 0) p) f (λ x. none-at p x l);
-    fails = λ e f w q. no-true (sym e);
-  };
-}
+-- the slot and the record type of a place
+at-place : (a texts : List ℕ) (s y : ℕ) (f : ℕ → Bool) → y < TYPES → declaredEach a (getD texts ((s * TYPES + y) / TYPES) 0) f ((s * TYPES + y) % TYPES) ≡ declaredEach a (getD texts s 0) f y
+at-place a texts s y f l =
+    let q : (s * TYPES + y) / TYPES ≡ s = omega arith in
+    let r : (s * TYPES + y) % TYPES ≡ y = omega arith in
+    rw (q, r)
 
-module _ (a starts texts ends : List ℕ) (p : ℕ) (types : List ℕ) (t : ℕ) (m : Remembered a starts texts ends) (l : p < TYPES) where
-  -- a step that is remembered
-  module _ (b : Bool) (eb : b ≡ isStepAt starts texts p types t) (h : b ≡ true) where
-    step-at : Gathered (replicate WORDS 0) (setAt ends p) (ofTypes a types t) true
-    step-at = and-both (eqb (getD texts p 0) t) (same (setAt starts p) types) (sym eb ∙ h) (λ x y.
-        subst (λ (s : List ℕ). Gathered (replicate WORDS 0) (setAt ends p) (ofTypes a s t) true) (same-is (setAt starts p) types y)
-        (subst (λ (u : ℕ). Gathered (replicate WORDS 0) (setAt ends p) (ofTypes a (setAt starts p) u) true) (eqb-true (getD texts p 0) t x) (m .at p l)))
+-- ---- the places of all record types of a set
 
-    pub step-known : (w own v : List ℕ) → own ≡ setAt ends p → length w ≡ WORDS → length ends ≡ SETS → v ≡ joined w own → Gathered w v (ofTypes a types t) true
-    step-known w own v eo lw le ev =
-        let n : length w ≡ length own = sym (set-words ends own w p eo le l lw) in
-        subst (λ (x : List ℕ). Gathered w x (ofTypes a types t) true) (sym ev) (join-asked w own (ofTypes a types t) n (subst (λ (x : List ℕ). Gathered (replicate WORDS 0) x (ofTypes a types t) true) (sym eo) step-at))
+module _ (a texts w s v : List ℕ) (n y : ℕ) (k : Walked (declaredEach a (getD texts n 0)) w s v y) where
+  pub places-end : TYPES ≤ y → length s ≡ 4 → Gathered w v (ofSlot a texts s n) true
+  places-end = walk-end (declaredEach a (getD texts n 0)) w s v y k
 
-  -- one that is worked out
-  module _ (own : List ℕ) (b : Bool) (g : Gathered (replicate WORDS 0) own (ofTypes a types t) b) where
-    pub step-none : (w : List ℕ) → not b ≡ true → Gathered w w (ofTypes a types t) false
-    step-none w h = never-passes w w (ofTypes a types t) (λ f q. g .fails (not-true b h) f (empty f) q)
+  module _ (u : List ℕ) (b : Bool) (d : Gathered v u (ofPlace a texts (n * TYPES + y)) b) (h : y < TYPES) where
+    here : Gathered v u (λ f. declaredEach a (getD texts n 0) f y ≡ true) b
+    here = gathered-as (ofPlace a texts (n * TYPES + y)) (λ f. declaredEach a (getD texts n 0) f y ≡ true) (λ f e. sym (at-place a texts n y f h) ∙ e) (λ f e. at-place a texts n y f h ∙ e) d
 
-    module _ (h : not b ≡ false) where
-      worked : Gathered (replicate WORDS 0) own (ofTypes a types t) true
-      worked = subst (Gathered (replicate WORDS 0) own (ofTypes a types t)) (not-false b h) g
+    pub places-off : not b ≡ true → Gathered w u (ofSlot a texts s n) false
+    places-off = walk-off (declaredEach a (getD texts n 0)) w s v y k u b here h
 
-      pub step-new : (w v : List ℕ) → length own ≡ WORDS → length w ≡ WORDS → v ≡ joined w own → Gathered w v (ofTypes a types t) true
-      step-new w v lo lw ev = subst (λ (x : List ℕ). Gathered w x (ofTypes a types t) true) (sym ev) (join-asked w own (ofTypes a types t) (lw ∙ sym lo) worked)
+    pub places-on : (z : ℕ) → not b ≡ false → Next s (y + 1) z → Walked (declaredEach a (getD texts n 0)) w s u z
+    places-on = walk-on (declaredEach a (getD texts n 0)) w s v y k u b here h
 
-      pub step-put : (s u e : List ℕ) → length own ≡ WORDS → length types ≡ WORDS → length starts ≡ SETS → length texts ≡ TYPES → length ends ≡ SETS → s ≡ sets starts (p * WORDS) types → u ≡ set texts p t → e ≡ sets ends (p * WORDS) own → Remembered a s u e
-      step-put s u e lo lt ls lx le es eu ee = record { at = λ q k. go q k (ℕ-discrete q p) }
+-- ---- places that are all seen
+
+-- those below number n are
+pub record Below (seen records : List ℕ) (s n : ℕ) : Type 0 where
+  pub at : (y : ℕ) → y < n → member records y ≡ true → member seen (s * TYPES + y) ≡ true
+
+module _ (seen records : List ℕ) (s : ℕ) where
+  pub below-start : Below seen records s 0
+  below-start = record { at = λ y l m. absurd (omega arith) }
+
+  pub below-not : AllSeen seen records s false
+  below-not = record { at = λ e y m. no-true e }
+
+  module _ (w : ℕ) (k : Below seen records s (w * 32)) where
+    pub below-end : 4 ≤ w → length records ≡ WORDS → AllSeen seen records s true
+    below-end h l = record { at = λ e y m. go y m (decLt y TYPES) }
+      where
+        go : (y : ℕ) → member records y ≡ true → Dec (y < TYPES) → member seen (s * TYPES + y) ≡ true
+        go y m (yes c) = k .at y (omega arith) m
+        go y m (no c) = no-true (sym (member-out records y (omega (arith, c))) ∙ m)
+
+    pub below-on : (x r : ℕ) → x ≡ getD seen (s * WORDS + w) 0 → r ≡ getD records w 0 → bitOr x r ≡ x → Below seen records s ((w + 1) * 32)
+    unfolding member joined
+    below-on x r ex er h = record { at = λ y l m. go y l m (decLt y (w * 32)) }
+      where
+        go : (y : ℕ) → y < (w + 1) * 32 → member records y ≡ true → Dec (y < w * 32) → member seen (s * TYPES + y) ≡ true
+        go y l m (yes c) = k .at y c m
+        go y l m (no c) =
+            let i : y / 32 ≡ w = omega (arith, c) in
+            let j : (s * TYPES + y) / 32 ≡ s * WORDS + w = omega (arith, c) in
+            let o : (s * TYPES + y) % 32 ≡ y % 32 = omega arith in
+            let z : y % 32 / 32 ≡ 0 = omega arith in
+            let n : y % 32 % 32 ≡ y % 32 = omega arith in
+            let b : bit (y % 32) r ≡ true = ap (bit (y % 32)) (er ∙ ap (λ (q : ℕ). getD records q 0) (sym i)) ∙ m in
+            let d = member-joined (x ∷ []) (r ∷ []) (y % 32) refl in
+            let c = subst (λ (q : ℕ). bit q (getD (bitOr x r ∷ []) (y % 32 / 32) 0) ≡ (bit q (getD (x ∷ []) (y % 32 / 32) 0) || bit q (getD (r ∷ []) (y % 32 / 32) 0))) n d in
+            let e : bit (y % 32) (bitOr x r) ≡ (bit (y % 32) x || bit (y % 32) r) = subst (λ (q : ℕ). bit (y % 32) (getD (bitOr x r ∷ []) q 0) ≡ (bit (y % 32) (getD (x ∷ []) q 0) || bit (y % 32) (getD (r ∷ []) q 0))) z c in
+            rw (j, o, ← ex) (ap (bit (y % 32)) (sym h) ∙ e ∙ or-right (bit (y % 32) x) (bit (y % 32) r) b)
+
+-- ---- the lowest bit of a word
+
+module _ (x : ℕ) (nz : x ≡ 0 → ⊥) (small : x < 4294967296) where
+  pub low-in : trailingZeros 32 x < 32
+  low-in = go (decLt (trailingZeros 32 x) 32)
+    where
+      go : Dec (trailingZeros 32 x < 32) → trailingZeros 32 x < 32
+      go (yes l) = l
+      go (no l) = no-true (sym (bit-over 32 (trailingZeros 32 x) x small (omega (arith, l))) ∙ tz-here 32 x nz small)
+
+  low-le : 2 ^ trailingZeros 32 x ≤ x
+  low-le = bit-less (trailingZeros 32 x) x (tz-here 32 x nz small) .0
+
+  pub low-one : (1 * 2 ^ trailingZeros 32 x) % 4294967296 ≡ 2 ^ trailingZeros 32 x
+  low-one = let l = low-le in omega (arith, l)
+
+  pub low-room : (1 * 2 ^ trailingZeros 32 x) % 4294967296 ≤ x
+  low-room = let l = low-le in let e = low-one in omega (arith, l, e)
+
+  pub low-less : x - (1 * 2 ^ trailingZeros 32 x) % 4294967296 < x
+  low-less = let l = low-le in let e = low-one in let z : 0 ≤ trailingZeros 32 x = omega arith in let m : 2 ^ 0 ≤ 2 ^ trailingZeros 32 x = pow-mono z in omega (arith, l, e, m)
+
+-- ---- the sets that the bits of a word number
+
+-- what is left of word x₀ is x
+pub record Worded (images : List ℕ) (n x₀ : ℕ) (own : List ℕ) (x : ℕ) : Type 0 where
+  pub turned : Turned (replicate WORDS 0) (ofWord images n x₀) own (ofWord images n x)
+
+module _ (images : List ℕ) (n x₀ : ℕ) where
+  pub word-start : (own : List ℕ) → own ≡ replicate WORDS 0 → Worded images n x₀ own x₀
+  word-start own e = record { turned = subst (λ (u : List ℕ). Turned (replicate WORDS 0) (ofWord images n x₀) u (ofWord images n x₀)) (sym e) (turn-start (replicate WORDS 0) (ofWord images n x₀) (ofWord images n x₀) (λ f q. q) (λ f q. q)) }
+
+  module _ (own : List ℕ) (x : ℕ) (d : Worded images n x₀ own x) where
+    pub word-end : (w u : List ℕ) → (x ≡ 0) → length w ≡ WORDS → length own ≡ WORDS → u ≡ joined w own → Gathered w u (ofWord images n x₀) true
+    word-end w u h lw lo eu =
+        subst (λ (v : List ℕ). Gathered w v (ofWord images n x₀) true) (sym eu)
+        (join-asked w own (ofWord images n x₀) (lw ∙ sym lo)
+        (turn-done (replicate WORDS 0) own (ofWord images n x₀) (ofWord images n x) (d .turned) (λ f k l b. no-true (sym (bit-of-zero k) ∙ ap (bit k) (sym h) ∙ b))))
+
+    module _ (k : ℕ) (ek : k ≡ trailingZeros 32 x) (nz : x ≡ 0 → ⊥) (small : x < 4294967296) where
+      low-bit : bit k x ≡ true
+      low-bit = ap (λ (i : ℕ). bit i x) ek ∙ tz-here 32 x nz small
+
+      room-low : 2 ^ k ≤ x
+      room-low = bit-less k x low-bit .0
+
+      module _ (one z : ℕ) (s u : List ℕ) (l : k < 32) (eo : one ≡ 2 ^ k) (ez : z ≡ x - one) (es : s ≡ setAt images (n + k)) (eu : u ≡ joined own s) (lw : length own ≡ WORDS) (room : (n + k) * WORDS + WORDS ≤ length images) where
+        lo : length own ≡ length s
+        lo = lw ∙ sym (ap length es ∙ length-part images ((n + k) * WORDS) ((n + k) * WORDS + WORDS) room ∙ omega arith)
+
+        whole : z + 2 ^ k ≡ x
+        whole = let r = room-low in omega (arith, r, eo, ez)
+
+        off : bit k z ≡ false
+        off = ap (bit k) (ez ∙ ap (λ (m : ℕ). x - m) eo) ∙ bit-less k x low-bit .1
+
+        kept : (j : ℕ) → bit j z ≡ true → bit j x ≡ true
+        kept j b = ap (bit j) (sym whole) ∙ bit-keeps k j z off b
+
+        left : (j : ℕ) → bit j x ≡ true → (bit j z ≡ true) ⊎ (j ≡ k)
+        left j b = bit-joins k j z off (ap (bit j) whole ∙ b)
+
+        pub word-on : Worded images n x₀ u z
+        word-on = record {
+          turned = record {
+            to = λ f e q.
+                let (o, r) = d .turned .to f e q in
+                (subst (λ (v : List ℕ). Each v f) (sym eu) (joined-both own s lo f o (subst (λ (v : List ℕ). Each v f) (sym es) (r k l low-bit))), λ j h b. r j h (kept j b));
+            back = λ f e q.
+                let e′ : Each (joined own s) f = subst (λ (v : List ℕ). Each v f) eu e in
+                d .turned .back f (joined-left own s lo f e′) (λ j h b. go f j h (left j b) q (subst (λ (v : List ℕ). Each v f) es (joined-right own s lo f e′)));
+          };
+        }
+          where
+            go : (f : ℕ → Bool) (j : ℕ) → j < 32 → (bit j z ≡ true) ⊎ (j ≡ k) → ofWord images n z f → Each (setAt images (n + k)) f → Each (setAt images (n + j)) f
+            go f j h (inl b) q e = q j h b
+            go f j h (inr i) q e = subst (λ (m : ℕ). Each (setAt images (n + m)) f) (sym i) e
+
+-- ---- those that the members of a set number
+
+pub record Gone (images : List ℕ) (s : ℕ) (records w v : List ℕ) (n : ℕ) : Type 0 where
+  pub turned : Turned w (ofSets images s records 0) v (ofSets images s records n)
+
+module _ (images : List ℕ) (s : ℕ) (records w : List ℕ) where
+  pub gone-start : Gone images s records w w (0 * 32)
+  gone-start = record { turned = turn-start w (ofSets images s records 0) (ofSets images s records 0) (λ f q. q) (λ f q. q) }
+
+  module _ (v : List ℕ) (i : ℕ) (d : Gone images s records w v (i * 32)) where
+    pub gone-end : 4 ≤ i → length records ≡ WORDS → Gathered w v (ofSets images s records 0) true
+    gone-end h l = turn-done w v (ofSets images s records 0) (ofSets images s records (i * 32)) (d .turned) (λ f y c m. no-true (sym (member-out records y (omega arith)) ∙ m))
+
+    module _ (x : ℕ) (u : List ℕ) (ex : x ≡ getD records i 0) (g : Gathered v u (ofWord images (s * TYPES + i * 32) x) true) where
+      bit-at : (y : ℕ) → y / 32 ≡ i → member records y ≡ bit (y % 32) x
+      unfolding member
+      bit-at y e = rw (e, ← ex)
+
+      pub gone-on : Gone images s records w u ((i + 1) * 32)
+      gone-on = record {
+        turned = turn-on w v (ofSets images s records 0) (ofSets images s records (i * 32)) (d .turned) u (ofWord images (s * TYPES + i * 32) x) true g (ofSets images s records ((i + 1) * 32)) refl first
+            (λ f q y c m. q y (omega arith) m)
+            (λ f p q y c m. go f p q y c m (decLt y ((i + 1) * 32)));
+      }
         where
-          from : (q : ℕ) (v w : List ℕ) (x : ℕ) → setAt e q ≡ v → setAt s q ≡ w → getD u q 0 ≡ x → Gathered (replicate WORDS 0) v (ofTypes a w x) true → Gathered (replicate WORDS 0) (setAt e q) (ofTypes a (setAt s q) (getD u q 0)) true
-          from q v w x ev ew ex g = rw (ev, ew, ex) g
+          first : (f : ℕ → Bool) → ofSets images s records (i * 32) f → ofWord images (s * TYPES + i * 32) x f
+          first f q k l b =
+              let e : (i * 32 + k) % 32 ≡ k = omega arith in
+              let c : s * TYPES + (i * 32 + k) ≡ s * TYPES + i * 32 + k = omega arith in
+              subst (λ (m : ℕ). Each (setAt images m) f) c (q (i * 32 + k) (omega arith) (bit-at (i * 32 + k) (omega arith) ∙ ap (λ (m : ℕ). bit m x) e ∙ b))
 
-          go : (q : ℕ) → q < TYPES → Dec (q ≡ p) → Gathered (replicate WORDS 0) (setAt e q) (ofTypes a (setAt s q) (getD u q 0)) true
-          go q k (yes n) = subst (λ (q : ℕ). Gathered (replicate WORDS 0) (setAt e q) (ofTypes a (setAt s q) (getD u q 0)) true) (sym n)
-              (from p own types t
-              (ap (λ (x : List ℕ). setAt x p) ee ∙ set-own own ends p lo le l)
-              (ap (λ (x : List ℕ). setAt x p) es ∙ set-own types starts p lt ls l)
-              (ap (λ (x : List ℕ). getD x p 0) eu ∙ getD-set-same texts p t 0 (omega arith)) worked)
-          go q k (no n) =
-              from q (setAt ends q) (setAt starts q) (getD texts q 0)
-              (ap (λ (x : List ℕ). setAt x q) ee ∙ set-other own ends p lo q n)
-              (ap (λ (x : List ℕ). setAt x q) es ∙ set-other types starts p lt q n)
-              (ap (λ (x : List ℕ). getD x q 0) eu ∙ getD-set-other texts p q t 0 n) (m .at q k)
+          go : (f : ℕ → Bool) → ofWord images (s * TYPES + i * 32) x f → ofSets images s records ((i + 1) * 32) f → (y : ℕ) → i * 32 ≤ y → member records y ≡ true → Dec (y < (i + 1) * 32) → Each (setAt images (s * TYPES + y)) f
+          go f p q y c m (yes h) =
+              let e : s * TYPES + i * 32 + y % 32 ≡ s * TYPES + y = omega arith in
+              subst (λ (n : ℕ). Each (setAt images n) f) e (p (y % 32) (omega arith) (sym (bit-at y (omega arith)) ∙ m))
+          go f p q y c m (no h) = q y (omega (arith, h)) m
+
+-- ---- a step
+
+-- by the sets of places that are all seen
+pub step-seen : (a texts seen images records : List ℕ) (s : ℕ) (w v : List ℕ) (b : Bool) → Seen a texts seen images → AllSeen seen records s b → b ≡ true → length records ≡ WORDS → Gathered w v (ofSets images s records 0) true → Gathered w v (ofSlot a texts records s) true
+step-seen a texts seen images records s w v b k d h l = gathered-as (ofSets images s records 0) (ofSlot a texts records s)
+    (λ f q. record { at = λ y o m. sym (at-place a texts s y f (low y m)) ∙ k .at (s * TYPES + y) (d .at h y m) .asks refl f (q y o m) .1 })
+    (λ f e y o m. k .at (s * TYPES + y) (d .at h y m) .joins refl f (empty f) (at-place a texts s y f (low y m) ∙ e .at y o m))
+  where
+    low : (y : ℕ) → member records y ≡ true → y < TYPES
+    low y m = go (decLt y TYPES)
+      where
+        go : Dec (y < TYPES) → y < TYPES
+        go (yes c) = c
+        go (no c) = no-true (sym (member-out records y (omega (arith, c))) ∙ m)
+
+-- the text of a slot
+pub settle-same : (texts seen : List ℕ) (t s x : ℕ) → x ≡ getD texts s 0 → x ≡ t → Settled texts seen texts seen t s
+settle-same texts seen t s x ex h = record { text = sym ex ∙ h; kept = λ p m. (m, refl) }
+
+set-word : (w : List ℕ) (p : ℕ) → getD w (p / 32) 0 ≡ getD (setAt w (p / TYPES)) (p / 32 - p / TYPES * WORDS) 0
+set-word w p =
+    let e : p / TYPES * WORDS + (p / 32 - p / TYPES * WORDS) ≡ p / 32 = omega arith in
+    sym (part-at w (p / TYPES * WORDS) (p / TYPES * WORDS + WORDS) (p / 32 - p / TYPES * WORDS) (omega arith) ∙ ap (λ (i : ℕ). getD w i 0) e)
+
+pub settle-new : (texts seen : List ℕ) (t s : ℕ) (none now u : List ℕ) → none ≡ replicate WORDS 0 → length none ≡ WORDS → length texts ≡ SLOTS → length seen ≡ SLOTS * WORDS → s < SLOTS → now ≡ sets seen (s * WORDS) none → u ≡ set texts s t → Settled texts seen u now t s
+unfolding member
+settle-new texts seen t s none now u en ln lt ls l ev eu = record {
+  text = ap (λ (x : List ℕ). getD x s 0) eu ∙ getD-set-same texts s t 0 (omega arith);
+  kept = λ p m. go p m (ℕ-discrete (p / TYPES) s);
+}
+  where
+    in-slot : (p : ℕ) (x : List ℕ) → setAt now (p / TYPES) ≡ x → member now p ≡ bit (p % 32) (getD x (p / 32 - p / TYPES * WORDS) 0)
+    in-slot p x e = ap (bit (p % 32)) (set-word now p ∙ ap (λ (v : List ℕ). getD v (p / 32 - p / TYPES * WORDS) 0) e)
+
+    own : setAt now s ≡ replicate WORDS 0
+    own = ap (λ (x : List ℕ). setAt x s) ev ∙ set-own none seen s ln (omega arith) ∙ en
+
+    other : (z : ℕ) → (z ≡ s → ⊥) → setAt now z ≡ setAt seen z
+    other z n = ap (λ (x : List ℕ). setAt x z) ev ∙ set-other none seen s ln z n
+
+    was : (p : ℕ) → bit (p % 32) (getD (setAt seen (p / TYPES)) (p / 32 - p / TYPES * WORDS) 0) ≡ member seen p
+    was p = ap (bit (p % 32)) (sym (set-word seen p))
+
+    go : (p : ℕ) → member now p ≡ true → Dec (p / TYPES ≡ s) → (member seen p ≡ true) × (getD u (p / TYPES) 0 ≡ getD texts (p / TYPES) 0)
+    go p m (yes e) = no-true (sym (in-slot p (replicate WORDS 0) (ap (setAt now) e ∙ own) ∙ ap (bit (p % 32)) (zero-in WORDS (p / 32 - p / TYPES * WORDS)) ∙ bit-of-zero (p % 32)) ∙ m)
+    go p m (no n) = (sym (was p) ∙ sym (in-slot p (setAt seen (p / TYPES)) (other (p / TYPES) n)) ∙ m, ap (λ (x : List ℕ). getD x (p / TYPES) 0) eu ∙ getD-set-other texts s (p / TYPES) t 0 n)
+
+module _ (texts seen u now : List ℕ) (t s : ℕ) (d : Settled texts seen u now t s) where
+  pub seen-settled : (a images : List ℕ) → Seen a texts seen images → Seen a u now images
+  seen-settled a images k = record { at = λ p m. let (o, e) = d .kept p m in subst (λ (x : ℕ). Gathered (replicate WORDS 0) (setAt images p) (λ f. declaredEach a x f (p % TYPES) ≡ true) true) (sym e) (k .at p o) }
+
+  pub step-settled : (a records w v : List ℕ) (b : Bool) → Gathered w v (ofSlot a u records s) b → Gathered w v (ofStep a records t) b
+  step-settled a records w v b g = subst (λ (x : ℕ). Gathered w v (ofStep a records x) b) (d .text) g

@@ -1,15 +1,13 @@
 -- Sets of types and kinds, and what is asked of their members: the types that the steps of a path reach.
 use mathlib.Core.Path.{_≡_}
-use mathlib.Core.Bool.{Bool, true, false, _&&_}
+use mathlib.Core.Bool.{Bool, true, false}
 use mathlib.Core.List.{List, [], _∷_}
-use Prim.Native.Nat.{ℕ, _+_, _-_, _*_, _≤_, _<_}
-use lib.Dec.{eqb, ltb}
+use Prim.Native.Nat.{ℕ, _+_, _-_, _*_, _/_, _%_, _≤_, _<_}
 use lib.ListN.{length, getD, drop, replicate}
 use Rattle.cedar.specs.Value.{onSome}
-use Rattle.sheet.specs.Bytes.{same}
 use Rattle.sheet.specs.Forms.{TYPE, SHAPE}
 use Rattle.sheet.specs.Typing.{allIn}
-use Rattle.words.specs.Bits.{member, added}
+use Rattle.words.specs.Bits.{bit, member, added}
 use Rattle.words.specs.Log.{part}
 use Rattle.table.specs.Layout.{rowsOf}
 use Rattle.fits.specs.Fit.{kindsIn}
@@ -59,7 +57,7 @@ pub record Gathered (w v : List ℕ) (q : Asked) (b : Bool) : Type 0 where
   pub fails : b ≡ false → (f : ℕ → Bool) → Each w f → q f → ⊥
 
 module _ (a : List ℕ) where
-  -- of record type y; of each kind of row r; of each kind of type y, or of record type y; of all types of a set
+  -- of record type y; of each kind of row r; of each kind of type y, or of record type y
   abbrev pub ofType : ℕ → Asked
   ofType y f = ofRecord a f y ≡ true
 
@@ -69,23 +67,16 @@ module _ (a : List ℕ) where
   abbrev pub ofEach : ℕ → Asked
   ofEach y f = eachAt a y f ≡ true
 
-  abbrev pub ofAll : List ℕ → Asked
-  ofAll types f = Each types (λ y. eachAt a y f)
-
-  -- of the type that record type y declares for attribute t, if it declares one: that it is there, and passes
-  abbrev pub declaredThere : ℕ → (ℕ → Bool) → ℕ → Bool
-  declaredThere t f y = onSome true (attributeAt a y t) (λ z. ltb z (getD a TYPE 0) && f z)
+  -- of the type that record type y declares for attribute t, if it declares one: of each of its record types
+  abbrev pub declaredEach : ℕ → (ℕ → Bool) → ℕ → Bool
+  declaredEach t f y = onSome true (attributeAt a y t) (λ z. eachAt a z f)
 
   abbrev pub ofDeclared : ℕ → ℕ → Asked
-  ofDeclared t y f = declaredThere t f y ≡ true
+  ofDeclared t y f = declaredEach t f y ≡ true
 
   -- of what all record types of a set declare for it
   abbrev pub ofStep : List ℕ → ℕ → Asked
-  ofStep records t f = Each records (declaredThere t f)
-
-  -- of what the record types of all types of a set declare for it
-  abbrev pub ofTypes : List ℕ → ℕ → Asked
-  ofTypes types t f = ofAll types (declaredThere t f)
+  ofStep records t f = Each records (declaredEach t f)
 
 -- the one record type that is asked, or that nothing passes
 pub record PlaceOf (q : Asked) (p : P.Place) : Type 0 where
@@ -120,10 +111,42 @@ pub record Learned (a known sets : List ℕ) : Type 0 where
 
 -- ---- steps that are remembered
 
--- the step at place p is the one from the types by text t
-abbrev pub isStepAt : List ℕ → List ℕ → ℕ → List ℕ → ℕ → Bool
-isStepAt starts texts p types t = eqb (getD texts p 0) t && same (setAt starts p) types
+-- the texts whose steps are remembered; a place for each of them and each type
+abbrev pub SLOTS : ℕ
+SLOTS = 8
 
--- at each place the set at the end has what is asked of the set at the start by the text
-pub record Remembered (a starts texts ends : List ℕ) : Type 0 where
-  pub at : (p : ℕ) → p < TYPES → Gathered (replicate WORDS 0) (setAt ends p) (ofTypes a (setAt starts p) (getD texts p 0)) true
+abbrev pub PLACES : ℕ
+PLACES = SLOTS * TYPES
+
+-- what is asked at place p: of the type that record type p modulo 128 declares for the text of the slot; and of all record types of a set by it
+module _ (a texts : List ℕ) where
+  abbrev pub ofPlace : ℕ → Asked
+  ofPlace p = ofDeclared a (getD texts (p / TYPES) 0) (p % TYPES)
+
+  abbrev pub ofSlot : List ℕ → ℕ → Asked
+  ofSlot records s = ofStep a records (getD texts s 0)
+
+  -- the set of place p has what is asked at it, and nothing else; where the answer is no, no test passes that
+  abbrev pub PlacedIn : List ℕ → ℕ → Bool → Type 0
+  PlacedIn images p b = Gathered (replicate WORDS 0) (setAt images p) (ofPlace p) b
+
+  -- so it is of each place that is seen
+  pub record Seen (seen images : List ℕ) : Type 0 where
+    pub at : (p : ℕ) → member seen p ≡ true → PlacedIn images p true
+
+-- the places of all record types of a set, for slot s, are seen, if the answer is yes
+pub record AllSeen (seen records : List ℕ) (s : ℕ) (b : Bool) : Type 0 where
+  pub at : b ≡ true → (y : ℕ) → member records y ≡ true → member seen (s * TYPES + y) ≡ true
+
+-- of the sets that the bits of word x number, from n on
+abbrev pub ofWord : List ℕ → ℕ → ℕ → Asked
+ofWord images n x f = (k : ℕ) → k < 32 → bit k x ≡ true → Each (setAt images (n + k)) f
+
+-- of the sets that the members of a set, from number n on, number in slot s
+abbrev pub ofSets : List ℕ → ℕ → List ℕ → ℕ → Asked
+ofSets images s records n f = (y : ℕ) → n ≤ y → member records y ≡ true → Each (setAt images (s * TYPES + y)) f
+
+-- slot s has text t now; what is seen was seen before, by the same text
+pub record Settled (texts seen newTexts newSeen : List ℕ) (t s : ℕ) : Type 0 where
+  pub text : getD newTexts s 0 ≡ t
+  pub kept : (p : ℕ) → member newSeen p ≡ true → (member seen p ≡ true) × (getD newTexts (p / TYPES) 0 ≡ getD texts (p / TYPES) 0)

@@ -1,4 +1,4 @@
-// The typing of paths: the types that the steps of a `haspath` reach, as a set of bits. A path of n steps over a group of k kinds has up to k^n
+// The typing of paths: the record types that the steps of a `haspath` reach, as a set of bits. A path of n steps over a group of k kinds has up to k^n
 // ways, so no way is followed alone.
 use crate::types::attribute;
 use crate::types::attribute_type;
@@ -20,13 +20,14 @@ use words::put;
 use words::read;
 use words::store;
 ghost use mathlib.Core.Path.{_≡_};
-ghost use Prim.Native.Nat.{_-_, _≤_, _<_};
+ghost use mathlib.Core.Bool.{true};
+ghost use Prim.Native.Nat.{_+_, _-_, _*_, _≤_, _<_};
 ghost use lib.ListN.{length, getD, drop};
 ghost use Rattle.sheet.specs.Bytes.{same};
 ghost use Rattle.sheet.specs.Forms.{TYPE};
 ghost use Rattle.typing.specs.Links.{TYPES};
 ghost use Rattle.typing.specs.Rules.{pathFrom, pathAt};
-ghost use Rattle.typing.specs.Paths.{WORDS, SETS, Next, Skipped, Placed, PlaceOf, Gathered, RecordsOf, Learned, Remembered, setAt, isStepAt, ofType, ofRow, ofEach, ofAll, ofDeclared, ofStep, ofTypes};
+ghost use Rattle.typing.specs.Paths.{WORDS, SETS, SLOTS, PLACES, Next, Skipped, Placed, PlaceOf, Gathered, RecordsOf, Learned, PlacedIn, Seen, AllSeen, Settled, setAt, ofType, ofRow, ofEach, ofDeclared, ofStep, ofPlace, ofSlot, ofWord, ofSets};
 
 // A sheet has no more types.
 const TYPES: usize = 128;
@@ -38,9 +39,15 @@ const SETS: usize = TYPES * WORDS;
 
 const TEXTS: usize = 16;
 
-// A remembered step has its place by its set, as a number, and its text: their sum's rest to a prime of which 2 is a primitive root, so that sets
-// which differ by one type seldom share a place. The words of a set count by the rests of the powers of 2^32.
-const PRIME: u64 = 107;
+// The texts whose steps are remembered; a place for each of them and each type.
+const SLOTS: usize = 8;
+
+const PLACES: usize = SLOTS * TYPES;
+
+// The words of a long record type, and the fewest steps for which it is searched once for each text.
+const LONG: usize = 96;
+
+const FEW: usize = 16;
 
 // ---- sets
 
@@ -157,33 +164,19 @@ fn add_known(
     true
 }
 
-// Those of all types of a set.
-fn add_types(
+// ---- what a record type reaches by a text
+
+// The record types of the type that a record type declares for a text, if it declares one.
+fn add_declared(
     rows: &[u32],
     known: &mut [u32],
     sets: &mut [u32],
     records: &mut [u32],
-    types: &[u32],
+    ty: u32,
+    text: u32,
 ) -> bool
-    requires { ⌜ (getD (now rows) TYPE 0 ≤ TYPES) × (length (now known) ≡ WORDS) × (length (now sets) ≡ SETS) × (length (now records) ≡ WORDS) × (length (now types) ≡ WORDS) × Learned (now rows) (now known) (now sets) ⌝ }
-    ensures { λ b. ⌜ Gathered (now (records .entry)) (now (records .exit)) (ofAll (now (rows .entry)) (now (types .entry))) b × Learned (now (rows .entry)) (now (known .exit)) (now (sets .exit)) ⌝ }
-{
-    let mut y = next(types, 0);
-    while y < TYPES {
-        if !add_known(rows, known, sets, records, y) {
-            return false;
-        }
-        y = next(types, y + 1);
-    }
-    true
-}
-
-// ---- a step
-
-// The type that a record type declares for a text, if it declares one; it must be there.
-fn add_declared(rows: &[u32], types: &mut [u32], ty: u32, text: u32) -> bool
-    requires { ⌜ (getD (now rows) TYPE 0 ≤ TYPES) × (length (now types) ≡ WORDS) ⌝ }
-    ensures { λ b. ⌜ Gathered (now (types .entry)) (now (types .exit)) (ofDeclared (now (rows .entry)) text ty) b ⌝ }
+    requires { ⌜ (getD (now rows) TYPE 0 ≤ TYPES) × (length (now known) ≡ WORDS) × (length (now sets) ≡ SETS) × (length (now records) ≡ WORDS) × Learned (now rows) (now known) (now sets) ⌝ }
+    ensures { λ b. ⌜ Gathered (now (records .entry)) (now (records .exit)) (ofDeclared (now (rows .entry)) text ty) b × Learned (now (rows .entry)) (now (known .exit)) (now (sets .exit)) ⌝ }
 {
     let f = attribute(rows, ty, text);
     let Found::As(z) = f else {
@@ -192,18 +185,83 @@ fn add_declared(rows: &[u32], types: &mut [u32], ty: u32, text: u32) -> bool
     if z >= count(rows, TYPE) {
         return false;
     }
-    add(types, z as usize);
+    add_known(rows, known, sets, records, z as usize)
+}
+
+// Those of the record type and the text of a place, in their own set among `images`, worked out unless they are seen.
+fn look(
+    rows: &[u32],
+    known: &mut [u32],
+    sets: &mut [u32],
+    texts: &[u32],
+    seen: &mut [u32],
+    images: &mut [u32],
+    place: usize,
+) -> bool
+    requires { ⌜ (getD (now rows) TYPE 0 ≤ TYPES) × (length (now known) ≡ WORDS) × (length (now sets) ≡ SETS) × (length (now texts) ≡ SLOTS) × (length (now seen) ≡ SLOTS * WORDS) × (length (now images) ≡ PLACES * WORDS) × Learned (now rows) (now known) (now sets) × Seen (now rows) (now texts) (now seen) (now images) × (place < PLACES) ⌝ }
+    ensures { λ b. ⌜ PlacedIn (now (rows .entry)) (now (texts .entry)) (now (images .exit)) place b × Learned (now (rows .entry)) (now (known .exit)) (now (sets .exit)) × Seen (now (rows .entry)) (now (texts .entry)) (now (seen .exit)) (now (images .exit)) ⌝ }
+{
+    if has(seen, place) {
+        return true;
+    }
+    let mut own = [0u32; WORDS];
+    let text = read(texts, place / TYPES);
+    if !add_declared(rows, known, sets, &mut own, (place % TYPES) as u32, text) {
+        return false;
+    }
+    store(images, place * WORDS, &own);
+    add(seen, place);
     true
 }
 
-// Those that all record types of a set declare.
-fn add_step(rows: &[u32], types: &mut [u32], records: &[u32], text: u32) -> bool
-    requires { ⌜ (getD (now rows) TYPE 0 ≤ TYPES) × (length (now types) ≡ WORDS) × (length (now records) ≡ WORDS) ⌝ }
-    ensures { λ b. ⌜ Gathered (now (types .entry)) (now (types .exit)) (ofStep (now (rows .entry)) (now (records .entry)) text) b ⌝ }
+// They join a set.
+fn add_place(
+    rows: &[u32],
+    known: &mut [u32],
+    sets: &mut [u32],
+    texts: &[u32],
+    seen: &mut [u32],
+    images: &mut [u32],
+    reached: &mut [u32],
+    place: usize,
+) -> bool
+    requires { ⌜ (getD (now rows) TYPE 0 ≤ TYPES) × (length (now known) ≡ WORDS) × (length (now sets) ≡ SETS) × (length (now texts) ≡ SLOTS) × (length (now seen) ≡ SLOTS * WORDS) × (length (now images) ≡ PLACES * WORDS) × (length (now reached) ≡ WORDS) × Learned (now rows) (now known) (now sets) × Seen (now rows) (now texts) (now seen) (now images) × (place < PLACES) ⌝ }
+    ensures { λ b. ⌜ Gathered (now (reached .entry)) (now (reached .exit)) (ofPlace (now (rows .entry)) (now (texts .entry)) place) b × Learned (now (rows .entry)) (now (known .exit)) (now (sets .exit)) × Seen (now (rows .entry)) (now (texts .entry)) (now (seen .exit)) (now (images .exit)) ⌝ }
+{
+    if !look(rows, known, sets, texts, seen, images, place) {
+        return false;
+    }
+    join(reached, cut(images, place * WORDS, place * WORDS + WORDS));
+    true
+}
+
+// Those of all record types of a set.
+fn add_places(
+    rows: &[u32],
+    known: &mut [u32],
+    sets: &mut [u32],
+    texts: &[u32],
+    seen: &mut [u32],
+    images: &mut [u32],
+    reached: &mut [u32],
+    records: &[u32],
+    slot: usize,
+) -> bool
+    requires { ⌜ (getD (now rows) TYPE 0 ≤ TYPES) × (length (now known) ≡ WORDS) × (length (now sets) ≡ SETS) × (length (now texts) ≡ SLOTS) × (length (now seen) ≡ SLOTS * WORDS) × (length (now images) ≡ PLACES * WORDS) × (length (now reached) ≡ WORDS) × (length (now records) ≡ WORDS) × Learned (now rows) (now known) (now sets) × Seen (now rows) (now texts) (now seen) (now images) × (slot < SLOTS) ⌝ }
+    ensures { λ b. ⌜ Gathered (now (reached .entry)) (now (reached .exit)) (ofSlot (now (rows .entry)) (now (texts .entry)) (now (records .entry)) slot) b × Learned (now (rows .entry)) (now (known .exit)) (now (sets .exit)) × Seen (now (rows .entry)) (now (texts .entry)) (now (seen .exit)) (now (images .exit)) ⌝ }
 {
     let mut y = next(records, 0);
     while y < TYPES {
-        if !add_declared(rows, types, y as u32, text) {
+        if !add_place(
+            rows,
+            known,
+            sets,
+            texts,
+            seen,
+            images,
+            reached,
+            slot * TYPES + y,
+        ) {
             return false;
         }
         y = next(records, y + 1);
@@ -211,79 +269,142 @@ fn add_step(rows: &[u32], types: &mut [u32], records: &[u32], text: u32) -> bool
     true
 }
 
-// Those that the record types of all types of a set declare.
-fn work_step(
+// ---- a step whose places are all seen
+
+// Whether those of all record types of a set are seen.
+fn are_seen(seen: &[u32], records: &[u32], slot: usize) -> bool
+    requires { ⌜ (length (now seen) ≡ SLOTS * WORDS) × (length (now records) ≡ WORDS) × (slot < SLOTS) ⌝ }
+    ensures { λ b. ⌜ AllSeen (now (seen .entry)) (now (records .entry)) slot b ⌝ }
+{
+    let mut w: usize = 0;
+    while w < WORDS {
+        let x = read(seen, slot * WORDS + w);
+        if x | read(records, w) != x {
+            return false;
+        }
+        w += 1;
+    }
+    true
+}
+
+// The sets join that the bits of a word number, from `first` on.
+fn join_word(images: &[u32], reached: &mut [u32], word: u32, first: usize)
+    requires { ⌜ (length (now images) ≡ PLACES * WORDS) × (length (now reached) ≡ WORDS) × (first + 32 ≤ PLACES) ⌝ }
+    ensures { λ _. ⌜ Gathered (now (reached .entry)) (now (reached .exit)) (ofWord (now (images .entry)) first word) true ⌝ }
+{
+    let mut own = [0u32; WORDS];
+    let mut x = word;
+    while x != 0 {
+        let k = u32::trailing_zeros(x);
+        let y = first + k as usize;
+        join(&mut own, cut(images, y * WORDS, y * WORDS + WORDS));
+        x -= 1 << k;
+    }
+    join(reached, &own);
+}
+
+// Those of all record types of a set join.
+fn join_places(images: &[u32], reached: &mut [u32], records: &[u32], slot: usize)
+    requires { ⌜ (length (now images) ≡ PLACES * WORDS) × (length (now reached) ≡ WORDS) × (length (now records) ≡ WORDS) × (slot < SLOTS) ⌝ }
+    ensures { λ _. ⌜ Gathered (now (reached .entry)) (now (reached .exit)) (ofSets (now (images .entry)) slot (now (records .entry)) 0) true ⌝ }
+{
+    let mut w: usize = 0;
+    while w < WORDS {
+        join_word(images, reached, read(records, w), slot * TYPES + w * 32);
+        w += 1;
+    }
+}
+
+// ---- a step
+
+// The slot of a text, either of two: the first one, where it has this text or nothing is seen there.
+fn slot_of(texts: &[u32], seen: &[u32], text: u32) -> usize
+    ensures { λ s. ⌜ s < SLOTS ⌝ }
+{
+    let first = text as usize % SLOTS;
+    if read(texts, first) == text {
+        return first;
+    }
+    let w = first * WORDS;
+    if read(seen, w) | read(seen, w + 1) | read(seen, w + 2) | read(seen, w + 3) == 0 {
+        return first;
+    }
+    text as usize / SLOTS % SLOTS
+}
+
+// The text of a slot, a later one in the place of an earlier one: its slot.
+fn settle(texts: &mut [u32], seen: &mut [u32], text: u32) -> usize
+    requires { ⌜ (length (now texts) ≡ SLOTS) × (length (now seen) ≡ SLOTS * WORDS) ⌝ }
+    ensures { λ s. ⌜ Settled (now (texts .entry)) (now (seen .entry)) (now (texts .exit)) (now (seen .exit)) text s × (s < SLOTS) ⌝ }
+{
+    let slot = slot_of(texts, seen, text);
+    if read(texts, slot) == text {
+        return slot;
+    }
+    store(seen, slot * WORDS, &[0u32; WORDS]);
+    put(texts, slot, text);
+    slot
+}
+
+// Those that all record types of a set reach by the text of a slot.
+fn add_step(
     rows: &[u32],
     known: &mut [u32],
     sets: &mut [u32],
+    texts: &[u32],
+    seen: &mut [u32],
+    images: &mut [u32],
     reached: &mut [u32],
-    types: &[u32],
-    text: u32,
+    records: &[u32],
+    slot: usize,
 ) -> bool
-    requires { ⌜ (getD (now rows) TYPE 0 ≤ TYPES) × (length (now known) ≡ WORDS) × (length (now sets) ≡ SETS) × (length (now reached) ≡ WORDS) × (length (now types) ≡ WORDS) × Learned (now rows) (now known) (now sets) ⌝ }
-    ensures { λ b. ⌜ Gathered (now (reached .entry)) (now (reached .exit)) (ofTypes (now (rows .entry)) (now (types .entry)) text) b × Learned (now (rows .entry)) (now (known .exit)) (now (sets .exit)) ⌝ }
+    requires { ⌜ (getD (now rows) TYPE 0 ≤ TYPES) × (length (now known) ≡ WORDS) × (length (now sets) ≡ SETS) × (length (now texts) ≡ SLOTS) × (length (now seen) ≡ SLOTS * WORDS) × (length (now images) ≡ PLACES * WORDS) × (length (now reached) ≡ WORDS) × (length (now records) ≡ WORDS) × Learned (now rows) (now known) (now sets) × Seen (now rows) (now texts) (now seen) (now images) × (slot < SLOTS) ⌝ }
+    ensures { λ b. ⌜ Gathered (now (reached .entry)) (now (reached .exit)) (ofSlot (now (rows .entry)) (now (texts .entry)) (now (records .entry)) slot) b × Learned (now (rows .entry)) (now (known .exit)) (now (sets .exit)) × Seen (now (rows .entry)) (now (texts .entry)) (now (seen .exit)) (now (images .exit)) ⌝ }
 {
-    let mut records = [0u32; WORDS];
-    if !add_types(rows, known, sets, &mut records, types) {
-        return false;
+    if are_seen(seen, records, slot) {
+        join_places(images, reached, records, slot);
+        return true;
     }
-    add_step(rows, reached, &records, text)
+    add_places(
+        rows,
+        known,
+        sets,
+        texts,
+        seen,
+        images,
+        reached,
+        records,
+        slot,
+    )
 }
 
-// ---- steps that are remembered
-
-// The place of a step in the memory; a later step takes the place of an earlier one.
-fn place_in(types: &[u32], text: u32) -> usize
-    ensures { λ y. ⌜ y < TYPES ⌝ }
-{
-    let x = text as u64
-        + read(types, 0) as u64
-        + read(types, 1) as u64 * 29
-        + read(types, 2) as u64 * 92
-        + read(types, 3) as u64 * 100;
-    (x % PRIME) as usize
-}
-
-// Whether the step at a place of the memory is the one from a set by a text.
-fn is_step(starts: &[u32], texts: &[u32], place: usize, types: &[u32], text: u32) -> bool
-    requires { ⌜ (length (now starts) ≡ SETS) × (length (now types) ≡ WORDS) × (place < TYPES) ⌝ }
-    ensures { λ b. ⌜ b ≡ isStepAt (now (starts .entry)) (now (texts .entry)) place (now (types .entry)) text ⌝ }
-{
-    if read(texts, place) != text {
-        return false;
-    }
-    is_same(cut(starts, place * WORDS, place * WORDS + WORDS), types)
-}
-
-// Those that a step reaches, worked out unless the step is remembered.
+// Those that they reach by a text.
 fn step(
     rows: &[u32],
     known: &mut [u32],
     sets: &mut [u32],
-    starts: &mut [u32],
     texts: &mut [u32],
-    ends: &mut [u32],
+    seen: &mut [u32],
+    images: &mut [u32],
     reached: &mut [u32],
-    types: &[u32],
+    records: &[u32],
     text: u32,
 ) -> bool
-    requires { ⌜ (getD (now rows) TYPE 0 ≤ TYPES) × (length (now known) ≡ WORDS) × (length (now sets) ≡ SETS) × (length (now starts) ≡ SETS) × (length (now texts) ≡ TYPES) × (length (now ends) ≡ SETS) × (length (now reached) ≡ WORDS) × (length (now types) ≡ WORDS) × Learned (now rows) (now known) (now sets) × Remembered (now rows) (now starts) (now texts) (now ends) ⌝ }
-    ensures { λ b. ⌜ Gathered (now (reached .entry)) (now (reached .exit)) (ofTypes (now (rows .entry)) (now (types .entry)) text) b × Learned (now (rows .entry)) (now (known .exit)) (now (sets .exit)) × Remembered (now (rows .entry)) (now (starts .exit)) (now (texts .exit)) (now (ends .exit)) ⌝ }
+    requires { ⌜ (getD (now rows) TYPE 0 ≤ TYPES) × (length (now known) ≡ WORDS) × (length (now sets) ≡ SETS) × (length (now texts) ≡ SLOTS) × (length (now seen) ≡ SLOTS * WORDS) × (length (now images) ≡ PLACES * WORDS) × (length (now reached) ≡ WORDS) × (length (now records) ≡ WORDS) × Learned (now rows) (now known) (now sets) × Seen (now rows) (now texts) (now seen) (now images) ⌝ }
+    ensures { λ b. ⌜ Gathered (now (reached .entry)) (now (reached .exit)) (ofStep (now (rows .entry)) (now (records .entry)) text) b × Learned (now (rows .entry)) (now (known .exit)) (now (sets .exit)) × Seen (now (rows .entry)) (now (texts .exit)) (now (seen .exit)) (now (images .exit)) ⌝ }
 {
-    let place = place_in(types, text);
-    if is_step(starts, texts, place, types, text) {
-        join(reached, cut(ends, place * WORDS, place * WORDS + WORDS));
-        return true;
-    }
-    let mut own = [0u32; WORDS];
-    if !work_step(rows, known, sets, &mut own, types, text) {
-        return false;
-    }
-    store(starts, place * WORDS, types);
-    put(texts, place, text);
-    store(ends, place * WORDS, &own);
-    join(reached, &own);
-    true
+    let slot = settle(texts, seen, text);
+    add_step(
+        rows,
+        known,
+        sets,
+        texts,
+        seen,
+        images,
+        reached,
+        records,
+        slot,
+    )
 }
 
 // ---- a path, from a group on
@@ -304,47 +425,49 @@ fn skip(line: &[u32], texts: &[u32], start: usize) -> usize
 }
 
 // Whether the steps of a path from word `start` on, the first of them the word before it, are typed from a type. Texts whose step leaves the set
-// of types as it is are kept in a set of their own, until it changes; other steps are remembered.
+// of record types as it is are kept in a set of their own, until it changes.
 fn group_typed(rows: &[u32], line: &[u32], ty: u32, start: usize) -> bool
     requires { ⌜ (getD (now rows) TYPE 0 ≤ TYPES) × (ty < getD (now rows) TYPE 0) × (1 ≤ start) ⌝ }
     ensures { λ b. ⌜ b ≡ pathFrom (now (rows .entry)) (drop start (now (line .entry))) (getD (now (line .entry)) (start - 1) 0) ty ⌝ }
 {
-    let mut types = [0u32; WORDS];
-    add(&mut types, ty as usize);
+    let mut records = [0u32; WORDS];
+    if !add_type(rows, &mut records, ty) {
+        return false;
+    }
     let mut kept = [0u32; TEXTS];
     let mut known = [0u32; WORDS];
     let mut sets = [0u32; SETS];
-    let mut starts = [0u32; SETS];
-    let mut texts = [0u32; TYPES];
-    let mut ends = [0u32; SETS];
+    let mut texts = [0u32; SLOTS];
+    let mut seen = [0u32; SLOTS * WORDS];
+    let mut images = [0u32; PLACES * WORDS];
     let mut i = start;
     loop {
         i = skip(line, &kept, i);
-        let mut reached = [0u32; WORDS];
         if i >= line.len() {
-            break add_types(rows, &mut known, &mut sets, &mut reached, &types);
+            break true;
         }
         let text = item(line, i - 1);
+        let mut reached = [0u32; WORDS];
         if !step(
             rows,
             &mut known,
             &mut sets,
-            &mut starts,
             &mut texts,
-            &mut ends,
+            &mut seen,
+            &mut images,
             &mut reached,
-            &types,
+            &records,
             text,
         ) {
             break false;
         }
         i += 1;
-        if is_same(&types, &reached) {
+        if is_same(&records, &reached) {
             add(&mut kept, text as usize);
             continue;
         }
         kept = [0u32; TEXTS];
-        types = reached;
+        records = reached;
     }
 }
 
@@ -382,6 +505,20 @@ fn place_of(rows: &[u32], ty: u32) -> Place
     }
 }
 
+// Whether a path with so many steps left, from a type with this record type, is worked as those from groups are, so that a long record type is
+// searched once for each text.
+fn is_searched_once(rows: &[u32], ty: u32, record: u32, left: usize) -> bool
+    ensures { λ b. ⌜ (b ≡ true → ty < getD (now (rows .entry)) TYPE 0) ⌝ }
+{
+    if ty >= count(rows, TYPE) {
+        return false;
+    }
+    if left < FEW {
+        return false;
+    }
+    row(rows, TYPE, record).len() >= LONG
+}
+
 // Whether all steps of a row's path, from a type on, are typed.
 pub fn path_typed(rows: &[u32], line: &[u32], ty: u32) -> bool
     ensures { λ b. ⌜ b ≡ pathAt (now (rows .entry)) (now (line .entry)) ty ⌝ }
@@ -399,6 +536,9 @@ pub fn path_typed(rows: &[u32], line: &[u32], ty: u32) -> bool
             Place::Alone(y) => {
                 if i >= line.len() {
                     break true;
+                }
+                if is_searched_once(rows, z, y, line.len() - i) {
+                    break group_typed(rows, line, z, i);
                 }
                 let f = attribute(rows, y, item(line, i - 1));
                 let Found::As(t) = f else {

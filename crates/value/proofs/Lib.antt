@@ -4,6 +4,8 @@ pub mod Globbing
 pub mod Joining
 pub mod Makes
 pub mod Passes
+pub mod ClearLaws
+pub mod Skips
 pub mod Sorting
 pub mod Fills
 pub mod Inserts

@@ -171,7 +171,7 @@ module _ (a r : List ℕ) (s e j : ℕ) (hj : j < length r) where
   past : length (part a j (length a)) ≤ s → same (part a s e) r ≡ false
   past h = sym (same-apart (part a s e) r (λ z. omega (arith, z, size, h, part-most a s e .1)))
 
-  differ : (getD a (j + s) 0 ≡ getD r j 0 → ⊥) → same (part a s e) r ≡ false
+  pub differ : (getD a (j + s) 0 ≡ getD r j 0 → ⊥) → same (part a s e) r ≡ false
   differ n = go (ℕ-discrete (length (part a s e)) (length r))
     where
       go : Dec (length (part a s e) ≡ length r) → same (part a s e) r ≡ false

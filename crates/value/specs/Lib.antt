@@ -2,4 +2,5 @@ pub mod Lines
 pub mod Places
 pub mod Shapes
 pub mod Made
+pub mod Clear
 pub mod Globs

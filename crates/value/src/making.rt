@@ -29,9 +29,10 @@ ghost use lib.ListN.{getD, length, take, drop};
 ghost use Rattle.words.specs.Log.{part, Room, Holds};
 ghost use Rattle.cedar.specs.Making.{sortN};
 ghost use Rattle.sheet.specs.Bytes.{same};
-ghost use Rattle.sheet.specs.Forms.{NODE};
+ghost use Rattle.sheet.specs.Forms.{NODE, VALUE};
 ghost use Rattle.table.specs.Layout.{base, rowAt, rowsOf};
-ghost use Rattle.value.specs.Lines.{valueLines, placeOf};
+ghost use Rattle.value.specs.Lines.{valueLines, placeOf, Past};
+ghost use Rattle.value.specs.Clear.{Clear, clearAt};
 ghost use Rattle.value.specs.Places.{passed, Passing};
 ghost use Rattle.value.specs.Shapes.{valueFound};
 ghost use Rattle.value.specs.Made.{boolRow, longRow, entityRow, roomFor, narrow, withMade, Made, MadeBeside, valuesIn, Shifted, Inserted, lowerOf, leastOf, setRow, pairsOf, recordRow, pushAll};
@@ -237,9 +238,16 @@ fn is_row(rows: &[u32], at: usize, line: &[u32]) -> bool
     same(cut(rows, start, end), line)
 }
 
-// The same by two words: only those of the `many` rows are compared that have them in their places. Word `first` says where the first row begins.
-fn find_telling(rows: &[u32], key: usize, first: usize, many: usize, line: &[u32]) -> usize
-    requires { ⌜ (first ≡ base key) × (many ≡ getD (now rows) key 0) × (first + many ≤ length (now rows)) × (1 ≤ length (now line)) × (length (now line) ≤ length (now rows)) ⌝ }
+// The same by two words: only those of the `many` rows from number `from` on are compared that have them in their places. Word `first` says where the first row begins.
+fn find_telling(
+    rows: &[u32],
+    key: usize,
+    first: usize,
+    many: usize,
+    from: usize,
+    line: &[u32],
+) -> usize
+    requires { ⌜ (first ≡ base key) × (many ≡ getD (now rows) key 0) × (first + many ≤ length (now rows)) × (1 ≤ length (now line)) × (length (now line) ≤ length (now rows)) × Past (now line) (rowsOf (now rows) key) from ⌝ }
     ensures { λ v. ⌜ v ≡ placeOf (now (line .entry)) (rowsOf (now (rows .entry)) key) ⌝ }
 {
     let end = first + many;
@@ -249,7 +257,7 @@ fn find_telling(rows: &[u32], key: usize, first: usize, many: usize, line: &[u32
     let to = rows.len() - j + k;
     let words = &rows[j..rows.len()];
     let before = &rows[k..to];
-    let mut i = 0;
+    let mut i = from;
     loop {
         i = next_place(words, before, starts, i, line[j], line[k]);
         if i >= many {
@@ -262,8 +270,9 @@ fn find_telling(rows: &[u32], key: usize, first: usize, many: usize, line: &[u32
     }
 }
 
-// The number of the first row of a key with these words, or of all its rows where none has them.
-fn find_in(rows: &[u32], key: usize, line: &[u32]) -> usize
+// The number of the first row of a key with these words, or of all its rows where none has them. The rows before number `from` are others.
+fn find_in(rows: &[u32], key: usize, from: usize, line: &[u32]) -> usize
+    requires { ⌜ Past (now line) (rowsOf (now rows) key) from ⌝ }
     ensures { λ v. ⌜ v ≡ placeOf (now (line .entry)) (rowsOf (now (rows .entry)) key) ⌝ }
 {
     let n = count(rows, key) as usize;
@@ -277,19 +286,20 @@ fn find_in(rows: &[u32], key: usize, line: &[u32]) -> usize
     if line.len() > rows.len() {
         return find_row(rows, key, line);
     }
-    find_telling(rows, key, b, n, line)
+    find_telling(rows, key, b, n, from, line)
 }
 
-// The number of the first value with these words, or of all values where none has them.
-pub fn find(rows: &[u32], line: &[u32]) -> usize
+// The number of the first value with these words, or of all values where none has them. The sheet's first `skip` values are others.
+fn find(rows: &[u32], skip: usize, line: &[u32]) -> usize
+    requires { ⌜ Past (now line) (rowsOf (now rows) VALUE) skip ⌝ }
     ensures { λ v. ⌜ v ≡ placeOf (now (line .entry)) (valueLines (now (rows .entry))) ⌝ }
 {
     let n = count(rows, VALUE) as usize;
-    let v = find_in(rows, VALUE, line);
+    let v = find_in(rows, VALUE, skip, line);
     if v < n {
         return v;
     }
-    n + find_in(rows, MADE, line)
+    n + find_in(rows, MADE, 0, line)
 }
 
 // Whether a row of `size` words more may be made.
@@ -329,11 +339,12 @@ fn add(rows: &mut [u32], line: &[u32])
     add_row(rows, MADE, top + line.len() as u32);
 }
 
-// The number of the value with these words, made where it is absent.
-pub fn make(rows: &mut [u32], line: &[u32]) -> u32
+// The number of the value with these words, made where it is absent. The sheet's first `skip` values are others.
+fn make_after(rows: &mut [u32], skip: usize, line: &[u32]) -> u32
+    requires { ⌜ Past (now line) (rowsOf (now rows) VALUE) skip ⌝ }
     ensures { λ v. ⌜ Made (now (rows .entry)) (now (line .entry)) (now (rows .exit)) v ⌝ }
 {
-    let v = find(rows, line);
+    let v = find(rows, skip, line);
     if v < crate::total(rows) {
         return narrowed(v);
     }
@@ -344,14 +355,64 @@ pub fn make(rows: &mut [u32], line: &[u32]) -> u32
     narrowed(v)
 }
 
+// The number of the value with these words, made where it is absent.
+pub fn make(rows: &mut [u32], line: &[u32]) -> u32
+    ensures { λ v. ⌜ Made (now (rows .entry)) (now (line .entry)) (now (rows .exit)) v ⌝ }
+{
+    make_after(rows, 0, line)
+}
+
+// Whether the row whose beginning word `at` says begins in the heap, and not as a bool.
+fn is_clear(rows: &[u32], at: usize) -> bool
+    ensures { λ r. ⌜ r ≡ clearAt (now (rows .entry)) at ⌝ }
+{
+    let start = read(rows, at);
+    if (start as usize) < HEAP {
+        return false;
+    }
+    if start >= read(rows, TOP) {
+        return false;
+    }
+    read(rows, start as usize) != BOOL_VALUE
+}
+
+// How many values of the sheet come before the first bool.
+pub fn clear_of(rows: &[u32]) -> usize
+    ensures { λ r. ⌜ Clear (now (rows .entry)) r ⌝ }
+{
+    let n = count(rows, VALUE) as usize;
+    if n > 1024 {
+        return 0;
+    }
+    let b = base_of(VALUE);
+    let mut i = 0;
+    loop {
+        if i >= n {
+            break i;
+        }
+        if !is_clear(rows, b + i) {
+            break i;
+        }
+        i += 1;
+    }
+}
+
+// The bool, which is none of the sheet's first `skip` values.
+pub fn make_bool_after(rows: &mut [u32], skip: usize, truth: bool) -> u32
+    requires { ⌜ Clear (now rows) skip ⌝ }
+    ensures { λ v. ⌜ Made (now (rows .entry)) (boolRow truth) (now (rows .exit)) v ⌝ }
+{
+    if truth {
+        return make_after(rows, skip, &[BOOL_VALUE, 1]);
+    }
+    make_after(rows, skip, &[BOOL_VALUE, 0])
+}
+
 // The bool.
 pub fn make_bool(rows: &mut [u32], truth: bool) -> u32
     ensures { λ v. ⌜ Made (now (rows .entry)) (boolRow truth) (now (rows .exit)) v ⌝ }
 {
-    if truth {
-        return make(rows, &[BOOL_VALUE, 1]);
-    }
-    make(rows, &[BOOL_VALUE, 0])
+    make_bool_after(rows, 0, truth)
 }
 
 // The long that is held as its number plus 2^63.

@@ -1,6 +1,5 @@
 -- `firm::move_places` meets its contract. Assumes nothing.
 use Prim.Native.Nat.{_-_}
-use native.Mathlib.Omega.{arith}
 use Rattle.table.specs.Layout.{TOP}
 use Rattle.firm.proofs.Copying.{MovingKeys, keys-start, keys-on, keys-end}
 use borrow.Author.Needs.{needs}

@@ -1,6 +1,5 @@
 -- `firm::move_rows` meets its contract. Assumes nothing.
 use Prim.Native.Nat.{_-_}
-use native.Mathlib.Omega.{arith}
 use Rattle.firm.proofs.Copying.{Moving, moving-start, moving-on, moving-end}
 use borrow.Author.Needs.{needs}
 use Rattle.firm.proofs.move_rows.Statement.{statement}

@@ -4,7 +4,9 @@ use native.Mathlib.Omega.{arith}
 use borrow.Author.Tests.{leb-true}
 use lib.ListN.{length}
 use Rattle.sheet.specs.Forms.{partial}
+use Rattle.value.specs.Clear.{Clear}
 use Rattle.tpe.specs.Run.{interpOf}
+use Rattle.tpe.proofs.Kept.{interp-clear}
 use Rattle.interpret.proofs.Laws.{branch-true, branch-false, branch-error, branch-open, first-stops, first-goes, first-wrong, first-unsure, pair-is, second-is, split-is}
 use Rattle.interpret.proofs.Turns.{Turning, turn-start, turn-on, turn-end, interpret-deep, interpret-leaf, interpret-operation, interpret-set, interpret-record, interpret-slot, interpret-other, on-first, on-pair, on-branch, on-one}
 use borrow.Author.Needs.{needs}
@@ -59,28 +61,28 @@ use Rattle.interpret.proofs.+branch+first+group+interpret+operation+pai
 }
 
 abbrev μ-branch : Measures 3 branch-kinds.ps ℕ
-μ-branch κs a = a .1 .1 .1 .1 .1 .1 .1 .1 .0 * 8 + 2
+μ-branch κs a = a .1 .1 .1 .1 .1 .1 .1 .1 .1 .0 * 8 + 2
 
 abbrev μ-first : Measures 3 first-kinds.ps ℕ
-μ-first κs a = a .1 .1 .1 .1 .1 .1 .1 .1 .1 .0 * 8 + 2
+μ-first κs a = a .1 .1 .1 .1 .1 .1 .1 .1 .1 .1 .0 * 8 + 2
 
 abbrev μ-group : Measures 3 group-kinds.ps ℕ
-μ-group κs a = a .1 .1 .1 .1 .1 .1 .1 .1 .1 .0 * 8 + 1
+μ-group κs a = a .1 .1 .1 .1 .1 .1 .1 .1 .1 .1 .0 * 8 + 1
 
 abbrev μ-interpret : Measures 3 interpret-kinds.ps ℕ
-μ-interpret κs a = a .1 .1 .1 .1 .1 .1 .1 .0 * 8
+μ-interpret κs a = a .1 .1 .1 .1 .1 .1 .1 .1 .0 * 8
 
 abbrev μ-operation : Measures 3 operation-kinds.ps ℕ
-μ-operation κs a = a .1 .1 .1 .1 .1 .1 .1 .1 .0 * 8 + 3
+μ-operation κs a = a .1 .1 .1 .1 .1 .1 .1 .1 .1 .0 * 8 + 3
 
 abbrev μ-pair : Measures 3 pair-kinds.ps ℕ
-μ-pair κs a = a .1 .1 .1 .1 .1 .1 .1 .1 .1 .0 * 8 + 1
+μ-pair κs a = a .1 .1 .1 .1 .1 .1 .1 .1 .1 .1 .0 * 8 + 1
 
 abbrev μ-second : Measures 3 second-kinds.ps ℕ
-μ-second κs a = a .1 .1 .1 .1 .1 .1 .1 .1 .1 .1 .1 .0 * 8 + 1
+μ-second κs a = a .1 .1 .1 .1 .1 .1 .1 .1 .1 .1 .1 .1 .0 * 8 + 1
 
 abbrev μ-split : Measures 3 split-kinds.ps ℕ
-μ-split κs a = a .1 .1 .1 .1 .1 .1 .1 .1 .1 .1 .1 .0 * 8 + 1
+μ-split κs a = a .1 .1 .1 .1 .1 .1 .1 .1 .1 .1 .1 .1 .0 * 8 + 1
 
 abbrev branch-at : ℕ → In 3 branch-kinds.ps
 branch-at t = and 3 branch-kinds.ps (is 3 branch-kinds.ps μ-branch t) branch.Pre
@@ -194,7 +196,7 @@ branch-returns-4 : (t : ℕ) → branch-lts.Need-returns-4 (
   split-below t,
   split.Post,
 ) (branch-at t) branch.Post
-branch-returns-4 t c = search branch-open
+branch-returns-4 t c = let s = c .before .before .before .before .before .before .before .before .before .before .before .before .before .before .before .before .before .before .before .before in search (branch-open, s .pre .1 .0, s .pre .1 .1 .0)
 
 first-returns : (t : ℕ) → first-lts.Need-returns (
   row-reads.Asked,
@@ -266,14 +268,14 @@ first-returns-4 : (t : ℕ) → first-lts.Need-returns-4 (
   second-below t,
   second.Post,
 ) (first-at t) first.Post
-first-returns-4 t c = search first-unsure
+first-returns-4 t c = let s = c .before .before .before .before .before .before .before .before .before .before .before .before .before .before .before .before .before .before .before in search (first-unsure, s .pre .1 .0, s .pre .1 .1 .0)
 
 abbrev group-Inv-loop : group-lts.InvT-loop
-group-Inv-loop sheet p q rows₀ log₀ top node tag step depth len end₀ joined₀ i₀ rows log end joined i =
-    Turning (interpOf partial sheet p q depth) node step top len rows₀ log₀ rows log end joined i × ((length rows ≡ length rows₀) × (length log ≡ length log₀))
+group-Inv-loop sheet p q skip rows₀ log₀ top node tag step depth len end₀ joined₀ i₀ rows log end joined i =
+    Turning (interpOf partial sheet p q depth) node step top len rows₀ log₀ rows log end joined i × ((length rows ≡ length rows₀) × (length log ≡ length log₀) × Clear rows skip)
 
 abbrev group-μ-loop : group-lts.MeasureT-loop
-group-μ-loop sheet p q rows₀ log₀ top node tag step depth len end₀ joined₀ i₀ rows log end joined i = len - i
+group-μ-loop sheet p q skip rows₀ log₀ top node tag step depth len end₀ joined₀ i₀ rows log end joined i = len - i
 
 group-loop-holds : (t : ℕ) → group-lts.Need-loop-holds (
   row-reads.Asked,
@@ -289,7 +291,7 @@ group-loop-holds : (t : ℕ) → group-lts.Need-loop-holds (
   many-reads.Asked,
   many-reads.Learnt,
 ) (group-at t) group.Post group-Inv-loop group-μ-loop
-group-loop-holds t c = (search turn-start, search needs)
+group-loop-holds t c = (search turn-start, (search needs, search needs, search needs))
 
 group-add-item : (t : ℕ) → group-lts.Need-add-item (
   row-reads.Asked,
@@ -353,7 +355,7 @@ group-loop-again : (t : ℕ) → group-lts.Need-loop-again (
   many-reads.Asked,
   many-reads.Learnt,
 ) (group-at t) group.Post group-Inv-loop group-μ-loop
-group-loop-again t c = (search turn-on, search needs)
+group-loop-again t c = (search (turn-on, c .before .before .before .before .before .before .before .before .before .before .before .before .before .before .before .before .before .before .before .before .pre .1 .1 .0), (search needs, search needs, search interp-clear))
 
 group-returns : (t : ℕ) → group-lts.Need-returns (
   row-reads.Asked,
@@ -513,7 +515,7 @@ operation-returns : (t : ℕ) → operation-lts.Need-returns (
   one-reads.Asked,
   one-reads.Learnt,
 ) (operation-at t) operation.Post
-operation-returns t c = search on-first
+operation-returns t c = let s = c .before .before .before .before .before .before .before .before .before .before .before .before .before .before .before .before .before .before .before .before .before in search (on-first, s .pre .1 .0, s .pre .1 .1 .0)
 
 operation-returns-2 : (t : ℕ) → operation-lts.Need-returns-2 (
   row-reads.Asked,
@@ -531,7 +533,7 @@ operation-returns-2 : (t : ℕ) → operation-lts.Need-returns-2 (
   one-reads.Asked,
   one-reads.Learnt,
 ) (operation-at t) operation.Post
-operation-returns-2 t c = search on-pair
+operation-returns-2 t c = let s = c .before .before .before .before .before .before .before .before .before .before .before .before .before .before .before .before .before .before .before .before .before .before in search (on-pair, s .pre .1 .0, s .pre .1 .1 .0)
 
 operation-returns-3 : (t : ℕ) → operation-lts.Need-returns-3 (
   row-reads.Asked,
@@ -549,7 +551,7 @@ operation-returns-3 : (t : ℕ) → operation-lts.Need-returns-3 (
   one-reads.Asked,
   one-reads.Learnt,
 ) (operation-at t) operation.Post
-operation-returns-3 t c = search on-branch
+operation-returns-3 t c = let s = c .before .before .before .before .before .before .before .before .before .before .before .before .before .before .before .before .before .before .before .before .before .before .before in search (on-branch, s .pre .1 .0, s .pre .1 .1 .0)
 
 operation-returns-4 : (t : ℕ) → operation-lts.Need-returns-4 (
   row-reads.Asked,
@@ -567,7 +569,7 @@ operation-returns-4 : (t : ℕ) → operation-lts.Need-returns-4 (
   one-reads.Asked,
   one-reads.Learnt,
 ) (operation-at t) operation.Post
-operation-returns-4 t c = search on-one
+operation-returns-4 t c = let s = c .before .before .before .before .before .before .before .before .before .before .before .before .before .before .before .before .before .before .before .before .before .before .before in search (on-one, s .pre .1 .0, s .pre .1 .1 .0)
 
 pair-returns : (t : ℕ) → pair-lts.Need-returns (
   row-reads.Asked,
@@ -595,7 +597,7 @@ split-returns : (t : ℕ) → split-lts.Need-returns (
   push-left-reads.Asked,
   push-left-reads.Learnt,
 ) (split-at t) split.Post
-split-returns t c = search split-is
+split-returns t c = let s = c .before .before .before .before .before .before .before .before .before .before .before .before .before .before .before .before .before .before .before .before .before in search (split-is, s .pre .1 .0, s .pre .1 .1 .0)
 
 pub +branch+first+group+interpret+operation+pair+second+split-spec : {M : Type 1} → statement M
 +branch+first+group+interpret+operation+pair+second+split-spec =
@@ -630,13 +632,13 @@ pub +branch+first+group+interpret+operation+pair+second+split-spec : {M : Type 1
     (λ c κs. search needs)
     (λ c κs. search needs)
     (λ c. search needs)
-    (λ c κs. search needs)
+    (λ c κs. (search needs, (search needs, search needs)))
+    (λ c. search needs)
+    (λ c κs. (search needs, (search needs, search needs)))
     (λ c. search needs)
     (λ c κs. search needs)
     (λ c. search needs)
-    (λ c κs. search needs)
-    (λ c. search needs)
-    (λ c κs. search needs)
+    (λ c κs. (search needs, (search needs, (search needs, search needs))))
     (λ c. search needs)
     (λ c. search needs)
     (branch-returns t)
@@ -672,13 +674,13 @@ pub +branch+first+group+interpret+operation+pair+second+split-spec : {M : Type 1
     (λ c κs. search needs)
     (λ c κs. search needs)
     (λ c. search needs)
-    (λ c κs. search needs)
+    (λ c κs. (search needs, search needs))
+    (λ c. search needs)
+    (λ c κs. (search needs, (search needs, search needs)))
     (λ c. search needs)
     (λ c κs. search needs)
     (λ c. search needs)
-    (λ c κs. search needs)
-    (λ c. search needs)
-    (λ c κs. search needs)
+    (λ c κs. (search needs, (search needs, (search needs, search needs))))
     (λ c. search needs)
     (λ c. search needs)
     (first-returns t)
@@ -716,7 +718,7 @@ pub +branch+first+group+interpret+operation+pair+second+split-spec : {M : Type 1
     (group-add-item t)
     (λ c. search needs)
     (λ c κs. search needs)
-    (λ c κs. search needs)
+    (λ c κs. (search needs, (search needs, search needs)))
     (λ c κs. search needs)
     (group-add-i t)
     (group-loop-less t)
@@ -753,14 +755,14 @@ pub +branch+first+group+interpret+operation+pair+second+split-spec : {M : Type 1
     (λ c. search needs)
     (interpret-returns-2 t)
     (λ c. search needs)
-    (λ c κs. search needs)
+    (λ c κs. (search needs, (search needs, (search needs, search needs))))
     (λ c. search needs)
     (λ c. search needs)
     (interpret-returns-3 t)
     (λ c. search needs)
-    (λ c κs. search needs)
+    (λ c κs. (search needs, (search needs, (search needs, search needs))))
     (λ c. search needs)
-    (λ c κs. search needs)
+    (λ c κs. (search needs, (search needs, (search needs, search needs))))
     (λ c κs. search needs)
     (λ c κs. search needs)
     (λ c. search needs)
@@ -795,20 +797,20 @@ pub +branch+first+group+interpret+operation+pair+second+split-spec : {M : Type 1
     operation.Post
     (λ c κs. search needs)
     (λ c κs. search needs)
-    (λ c κs. search needs)
-    (λ c κs. search needs)
+    (λ c κs. (search needs, (search needs, search needs)))
+    (λ c κs. (search needs, (search needs, (search needs, search interp-clear))))
     (λ c. search needs)
     (λ c. search needs)
     (operation-returns t)
-    (λ c κs. search needs)
+    (λ c κs. (search needs, (search needs, (search needs, search interp-clear))))
     (λ c. search needs)
     (λ c. search needs)
     (operation-returns-2 t)
-    (λ c κs. search needs)
+    (λ c κs. (search needs, (search needs, (search needs, search interp-clear))))
     (λ c. search needs)
     (λ c. search needs)
     (operation-returns-3 t)
-    (λ c κs. search needs)
+    (λ c κs. (search needs, (search needs, search interp-clear)))
     (λ c. search needs)
     (λ c. search needs)
     (operation-returns-4 t))
@@ -826,8 +828,8 @@ pub +branch+first+group+interpret+operation+pair+second+split-spec : {M : Type 1
     pair.Post
     (λ c κs. search needs)
     (λ c κs. search needs)
-    (λ c κs. search needs)
-    (λ c κs. search needs)
+    (λ c κs. (search needs, (search needs, search needs)))
+    (λ c κs. (search needs, (search needs, search interp-clear)))
     (λ c. search needs)
     (λ c. search needs)
     (pair-returns t))
@@ -839,8 +841,8 @@ pub +branch+first+group+interpret+operation+pair+second+split-spec : {M : Type 1
     )
     (second-at t)
     second.Post
-    (λ c κs. search needs)
-    (λ c κs. search needs)
+    (λ c κs. (search needs, (search needs, search needs)))
+    (λ c κs. (search needs, (search needs, search interp-clear)))
     (λ c. search needs)
     (λ c. search needs)
     (second-returns t))
@@ -848,8 +850,8 @@ pub +branch+first+group+interpret+operation+pair+second+split-spec : {M : Type 1
     (interpret-below t, interpret.Post, push-left-reads.Asked, push-left-reads.Learnt)
     (split-at t)
     split.Post
-    (λ c κs. search needs)
-    (λ c κs. search needs)
+    (λ c κs. (search needs, (search needs, search needs)))
+    (λ c κs. (search needs, (search needs, search interp-clear)))
     (λ c κs. search needs)
     (λ c. search needs)
     (λ c. search needs)

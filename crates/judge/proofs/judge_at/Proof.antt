@@ -13,7 +13,7 @@ judge-requires c κs =
     let s = c .before .before .before .before .before .before .before .before .before .before in
     let z = s .args in
     let n = c .before .before .before .see-line in
-    (s .pre .0, s .pre .1, unlike-line (z .sheet .now) (z .rows .now) (z .work .now) (c .before .before .before .before .before .cut .result .now) (z .seen .now) (n .result) (s .pre .2) (n .ensures .0))
+    (s .pre .0, (s .pre .1 .0, s .pre .1 .1, unlike-line (z .sheet .now) (z .rows .now) (z .work .now) (c .before .before .before .before .before .cut .result .now) (z .seen .now) (n .result) (s .pre .1 .2) (n .ensures .0)))
 
 returns : tie.Need-returns
 returns c =

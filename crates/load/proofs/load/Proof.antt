@@ -1,22 +1,23 @@
 -- `load::load` meets its contract. Assumes nothing.
 use mathlib.Core.Path.{_≡_, refl, sym, _∙_}
+use mathlib.Core.Bool.{true}
 use Prim.Native.Nat.{_-_}
 use native.Mathlib.Omega.{arith}
 use lib.ListN.{length}
-use Rattle.sheet.specs.Sheet.{read}
+use Rattle.sheet.specs.Sheet.{inOrder, read}
 use Rattle.table.specs.Layout.{held}
 use Rattle.line.specs.Codes.{modeOf}
 use Rattle.checks.specs.Seen.{PLACE-WORDS, Seen}
-use Rattle.load.proofs.Loading.{Progress, none-seen, progress-first, from-entry, finish-needs, line-unfits, all-read, line-faulty, line-fits, line-falls, line-stops, line-joins, line-goes}
+use Rattle.load.proofs.Loading.{Progress, none-seen, none-before, progress-first, from-entry, finish-needs, line-unfits, all-read, line-faulty, line-fits, line-falls, line-stops, line-joins, line-orders, line-goes}
 use borrow.Author.Needs.{needs}
 use Rattle.load.proofs.load.Statement.{statement}
 use Rattle.load.proofs.load.Tie as tie
 
 abbrev Inv-loop : tie.InvT-loop
-Inv-loop sheet partial rows₀ work₀ seen₀ c₀ rows work seen c = Progress (modeOf partial) sheet rows₀ work₀ rows work (c .at) (c .line) × Seen (held sheet rows work) seen × (PLACE-WORDS ≡ length seen)
+Inv-loop sheet partial rows₀ work₀ seen₀ last₀ c₀ rows work seen last c = Progress (modeOf partial) sheet rows₀ work₀ rows work (c .at) (c .line) × Seen (held sheet rows work) seen × (PLACE-WORDS ≡ length seen) × (inOrder (held sheet rows work) last ≡ true)
 
 abbrev μ-loop : tie.MeasureT-loop
-μ-loop sheet partial rows₀ work₀ seen₀ c₀ rows work seen c = length sheet - c .at
+μ-loop sheet partial rows₀ work₀ seen₀ last₀ c₀ rows work seen last c = length sheet - c .at
 
 -- above the loop stand, four places apart, `put2`, which stores the heap's end, `put`, which clears the uses, and `zero2` and `zero`, which clear work and rows
 
@@ -32,6 +33,8 @@ loop-holds c =
       none-seen (s .args .sheet .now) (s .args .rows .now) (s .args .work .now) (x .zero .last .0) (y .zero2 .last .0) (w .put .last .0) (p .put2 .last .0)
           (s .pre .1) (s .pre .2) (x .zero .ensures) (y .zero2 .ensures) (w .put .ensures) (p .put2 .ensures) _ (search needs),
       search needs,
+      none-before (s .args .sheet .now) (s .args .rows .now) (s .args .work .now) (x .zero .last .0) (y .zero2 .last .0) (w .put .last .0) (p .put2 .last .0)
+          (s .pre .1) (s .pre .2) (x .zero .ensures) (y .zero2 .ensures) (w .put .ensures) (p .put2 .ensures) _ refl,
     )
 
 returns : tie.Need-returns Inv-loop μ-loop
@@ -59,7 +62,7 @@ take-line-requires c κs =
     let u = c .before .before .before .before .before .before .before in
     let g = c .before .before .before .before .before .before .next-line in
     let v = c .before .before .before .before .l .given in
-    line-fits (modeOf (s .args .partial)) (s .args .sheet .now) (p .put2 .last .0) (w .put .last .0) (l .loop .rows) (l .loop .work) (l .loop .c) (l .loop .inv .0) (sym (u .before .unfit-line .ensures) ∙ u .if1 .left) (g .result) (g .ensures) (v .0 .0) (v .0 .1 .0) (v .0 .1 .1 .0) (v .0 .1 .1 .1 .0) (v .1) (s .pre .0) (l .loop .seen) (l .loop .inv .1)
+    line-fits (modeOf (s .args .partial)) (s .args .sheet .now) (p .put2 .last .0) (w .put .last .0) (l .loop .rows) (l .loop .work) (l .loop .c) (l .loop .inv .0) (sym (u .before .unfit-line .ensures) ∙ u .if1 .left) (g .result) (g .ensures) (v .0 .0) (v .0 .1 .0) (v .0 .1 .1 .0) (v .0 .1 .1 .1 .0) (v .1) (s .pre .0) (l .loop .seen) (l .loop .inv .1) (l .loop .last) (l .loop .inv .3)
 
 same-length-3 : tie.Need-same-length-3 Inv-loop μ-loop
 same-length-3 c =
@@ -118,6 +121,8 @@ loop-again c =
       line-joins (modeOf (s .args .partial)) (s .args .sheet .now) (p .put2 .last .0) (w .put .last .0) (l .loop .rows) (l .loop .work) (l .loop .c) (l .loop .inv .0) (sym (u .before .unfit-line .ensures) ∙ u .if1 .left) (g .result) (g .ensures) (v .0 .0) (v .0 .1 .0) (v .0 .1 .1 .0) (v .0 .1 .1 .1 .0) (v .1)
           (t .last .1 .1 .1 .1 .1 .0) (t .last .1 .1 .1 .1 .1 .1 .0) (t .result) (t .ensures .0) (c .if2 .left) (l .loop .seen) (t .last .1 .1 .1 .1 .1 .1 .1 .0) (l .loop .inv .1) (t .ensures .1),
       l .loop .inv .2 ∙ sym (t .kept .1 .1 .1 .1 .1 .1 .1 .0),
+      line-orders (modeOf (s .args .partial)) (s .args .sheet .now) (p .put2 .last .0) (w .put .last .0) (l .loop .rows) (l .loop .work) (l .loop .c) (l .loop .inv .0) (sym (u .before .unfit-line .ensures) ∙ u .if1 .left) (g .result) (g .ensures) (v .0 .0) (v .0 .1 .0) (v .0 .1 .1 .0) (v .0 .1 .1 .1 .0) (v .1)
+          (t .last .1 .1 .1 .1 .1 .0) (t .last .1 .1 .1 .1 .1 .1 .0) (t .result) (t .ensures .0) (c .if2 .left) _ refl,
     )
 
 returns-3 : tie.Need-returns-3 Inv-loop μ-loop

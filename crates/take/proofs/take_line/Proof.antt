@@ -80,7 +80,7 @@ judge-at-requires c κs =
     let g = fronts (e .sheet .now) (e .rows .now) (e .work .now) bytes (s .pre .0) (s .pre .5) (modeOf (e .partial)) (s .pre .1) in
     let l = entered-line (e .sheet .now) (r .before .before .value .result .now) (e .equals .at) (e .end) (r .before .before .value .ensures) (s .pre .2) (s .pre .3) (e .partial) (e .key) (t .read .result) (r .row-entry .result) a (r .row-entry .last .1 .1 .1 .1 .0) (r .row-entry .ensures) in
     judge-needs (e .sheet .now) row a (take room (e .work .now)) bytes (modeOf (e .partial)) (g .ready) (g .reached) (g .fits)
-    (t .read .result) (t .read .ensures) (r .row-entry .last .1 .1 .1 .1 .0) (r .row-entry .result) l (r .row-entry .kept .1 .1 .1 .1 .0) (e .seen .now) (g .seen (e .seen .now) (s .pre .6))
+    (t .read .result) (t .read .ensures) (r .row-entry .last .1 .1 .1 .1 .0) (r .row-entry .result) l (r .row-entry .kept .1 .1 .1 .1 .0) (g .long-a) (g .long-b) (e .seen .now) (g .seen (e .seen .now) (s .pre .6)) (e .last) (g .order (e .last) (s .pre .7))
 
 same-length-3 : tie.Need-same-length-3
 same-length-3 c =

@@ -1,28 +1,22 @@
 -- `strict::entity::walk_long` meets its contract. Assumes nothing.
 use Rattle.reach.specs.Marks.{VALUES}
-use Rattle.strict.specs.Chains.{TEXTS}
-use Rattle.strict.proofs.Noting.{noted-none}
-use Rattle.strict.proofs.Chaining.{clear-none}
+use Rattle.strict.proofs.Leading.{firsts-none}
 use borrow.Author.Needs.{needs}
 use Rattle.strict.proofs.entity.walk_long.Statement.{statement}
 use Rattle.strict.proofs.entity.walk_long.Tie as tie
 
-index-requires : tie.Need-index-requires
-index-requires c κs = clear-none TEXTS
-
-walk-noted-requires : tie.Need-walk-noted-requires
-walk-noted-requires c κs = (search needs, noted-none _ _ VALUES)
+firsts-requires : tie.Need-firsts-requires
+firsts-requires c κs = firsts-none _ VALUES
 
 pub walk-long-spec : {M : Type 1} → statement M
 walk-long-spec =
     tie.close
     (tie.spec
+    (λ c κs. search needs)
     (λ c. search needs)
     (λ c. search needs)
-    index-requires
+    firsts-requires
     (λ c. search needs)
     (λ c. search needs)
-    (λ c. search needs)
-    (λ c. search needs)
-    walk-noted-requires
+    (λ c κs. search needs)
     (λ c. search needs))

@@ -1,16 +1,17 @@
 -- `strict::entity::walk_noted` meets its contract. Assumes nothing.
 use Prim.Native.Nat.{_-_}
-use lib.ListN.{length}
+use lib.ListN.{length, drop}
+use Rattle.strict.specs.Lookups.{walkFrom}
 use Rattle.strict.proofs.Noting.{Stepping, step-start, step-end, step-bad, step-missing, step-unknown, step-last, step-on}
 use borrow.Author.Needs.{needs}
 use Rattle.strict.proofs.entity.walk_noted.Statement.{statement}
 use Rattle.strict.proofs.entity.walk_noted.Tie as tie
 
 abbrev Inv-loop : tie.InvT-loop
-Inv-loop rows complete value path heads links from₀ to₀ n₀ i₀ from to n i = Stepping complete rows value path from₀ to₀ from to n i
+Inv-loop rows complete value first path heads links from₀ to₀ n₀ i₀ from to n i = Stepping complete rows (walkFrom complete rows value first (drop first path)) path from₀ to₀ from to n i
 
 abbrev μ-loop : tie.MeasureT-loop
-μ-loop rows complete value path heads links from₀ to₀ n₀ i₀ from to n i = length path - i
+μ-loop rows complete value first path heads links from₀ to₀ n₀ i₀ from to n i = length path - i
 
 loop-holds : tie.Need-loop-holds Inv-loop μ-loop
 loop-holds c = search (step-start, needs)

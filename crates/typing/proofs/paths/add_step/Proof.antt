@@ -1,47 +1,62 @@
--- `add_step`: what is left of the set is asked.
-use Prim.Native.Nat.{_-_, _≤_}
-use mathlib.Core.Path.{_≡_}
-use lib.ListN.{length}
-use Rattle.typing.proofs.PathSets.{Walked, walk-start, step-off, walk-on, step-end}
-use Rattle.typing.specs.Links.{TYPES}
-use Rattle.typing.specs.Paths.{declaredThere}
+-- `add_step`: by the places that are seen, or by all of them.
+use Rattle.typing.proofs.StepLaws.{step-seen}
 use borrow.Author.Needs.{needs}
 use Rattle.typing.proofs.paths.add_step.Statement.{statement}
 use Rattle.typing.proofs.paths.add_step.Tie as tie
 
-abbrev Inv-loop : tie.InvT-loop
-Inv-loop rows types₀ records text y₀ types y = Walked (declaredThere rows text) types₀ records types y × (length types ≡ length types₀) × (y ≤ TYPES)
+are-seen-requires : tie.Need-are-seen-requires
+are-seen-requires c κs = search needs
 
-abbrev μ-loop : tie.MeasureT-loop
-μ-loop rows types₀ records text y₀ types y = TYPES - y
+join-places-requires : tie.Need-join-places-requires
+join-places-requires c κs = search needs
 
-loop-holds : tie.Need-loop-holds Inv-loop μ-loop
-loop-holds c = (search walk-start, search needs, search needs)
+same-length : tie.Need-same-length
+same-length c = search needs
 
-returns : tie.Need-returns Inv-loop μ-loop
-returns c = search step-off
+same-length-2 : tie.Need-same-length-2
+same-length-2 c = search needs
 
-loop-again : tie.Need-loop-again Inv-loop μ-loop
-loop-again c = (search walk-on, search needs, search needs)
+same-length-3 : tie.Need-same-length-3
+same-length-3 c = search needs
 
-returns-2 : tie.Need-returns-2 Inv-loop μ-loop
-returns-2 c = search step-end
+returns : tie.Need-returns
+returns c = (search step-seen, search needs, search needs)
+
+add-places-requires : tie.Need-add-places-requires
+add-places-requires c κs = search needs
+
+same-length-4 : tie.Need-same-length-4
+same-length-4 c = search needs
+
+same-length-5 : tie.Need-same-length-5
+same-length-5 c = search needs
+
+same-length-6 : tie.Need-same-length-6
+same-length-6 c = search needs
+
+same-length-7 : tie.Need-same-length-7
+same-length-7 c = search needs
+
+same-length-8 : tie.Need-same-length-8
+same-length-8 c = search needs
+
+returns-2 : tie.Need-returns-2
+returns-2 c = search needs
 
 pub add-step-spec : {M : Type 1} → statement M
 add-step-spec =
     tie.close
     (tie.spec
-    Inv-loop
-    μ-loop
-    (λ c κs. search needs)
-    loop-holds
-    (λ c. search needs)
-    (λ c κs. search needs)
-    (λ c. search needs)
+    are-seen-requires
+    join-places-requires
+    same-length
+    same-length-2
+    same-length-3
     returns
-    (λ c. search needs)
-    (λ c κs. search needs)
-    (λ c. search needs)
-    loop-again
-    (λ c. search needs)
+    add-places-requires
+    same-length-4
+    same-length-5
+    same-length-6
+    same-length-7
+    same-length-8
     returns-2)

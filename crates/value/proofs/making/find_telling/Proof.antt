@@ -1,20 +1,21 @@
 -- `value::making::find_telling` meets its contract. Assumes nothing.
 use Prim.Native.Nat.{_-_}
 use Rattle.table.specs.Layout.{rowsOf}
-use Rattle.value.proofs.Makes.{Finding, rows-start}
+use Rattle.value.proofs.Makes.{Finding}
+use Rattle.value.proofs.Skips.{past-start}
 use Rattle.value.proofs.Passes.{near-starts, telling-end, telling-hit, telling-on}
 use borrow.Author.Needs.{needs}
 use Rattle.value.proofs.making.find_telling.Statement.{statement}
 use Rattle.value.proofs.making.find_telling.Tie as tie
 
 abbrev Inv-loop : tie.InvT-loop
-Inv-loop rows key first many line end starts j k to words before i₀ i = Finding line (rowsOf rows key) many i
+Inv-loop rows key first many from line end starts j k to words before i₀ i = Finding line (rowsOf rows key) many i
 
 abbrev μ-loop : tie.MeasureT-loop
-μ-loop rows key first many line end starts j k to words before i₀ i = many - i
+μ-loop rows key first many from line end starts j k to words before i₀ i = many - i
 
 loop-holds : tie.Need-loop-holds Inv-loop μ-loop
-loop-holds c = search (rows-start, needs)
+loop-holds c = search (past-start, needs)
 
 next-place-requires : tie.Need-next-place-requires Inv-loop μ-loop
 next-place-requires c κs = search (near-starts, needs)

@@ -1,17 +1,18 @@
--- `strict::entity::walk` meets its contract. Assumes nothing.
+-- `strict::entity::walk_on` meets its contract. Assumes nothing.
 use Rattle.strict.proofs.Noting.{noted-none}
 use Rattle.strict.proofs.Chaining.{chained-none}
 use borrow.Author.Needs.{needs}
-use Rattle.strict.proofs.entity.walk.Statement.{statement}
-use Rattle.strict.proofs.entity.walk.Tie as tie
+use Rattle.strict.proofs.entity.walk_on.Statement.{statement}
+use Rattle.strict.proofs.entity.walk_on.Tie as tie
 
 walk-noted-requires : tie.Need-walk-noted-requires
-walk-noted-requires c κs = (chained-none _ _ _, noted-none _ _ 1)
+walk-noted-requires c κs = (search needs, (chained-none _ _ _, noted-none _ _ 1))
 
-pub walk-spec : {M : Type 1} → statement M
-walk-spec =
+pub walk-on-spec : {M : Type 1} → statement M
+walk-on-spec =
     tie.close
     (tie.spec
+    (λ c. search needs)
     (λ c κs. search needs)
     (λ c. search needs)
     (λ c. search needs)

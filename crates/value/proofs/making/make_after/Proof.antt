@@ -1,9 +1,9 @@
--- `value::making::make` meets its contract. Assumes nothing.
+-- `value::making::make_after` meets its contract. Assumes nothing.
 use lib.ListN.{length}
 use Rattle.value.proofs.Makes.{make-found, make-full, make-added, room-tested}
 use borrow.Author.Needs.{needs}
-use Rattle.value.proofs.making.make.Statement.{statement}
-use Rattle.value.proofs.making.make.Tie as tie
+use Rattle.value.proofs.making.make_after.Statement.{statement}
+use Rattle.value.proofs.making.make_after.Tie as tie
 
 returns : tie.Need-returns
 returns c = search (make-found, needs)
@@ -20,8 +20,8 @@ add-requires c κs =
 returns-3 : tie.Need-returns-3
 returns-3 c = search (make-added, needs)
 
-pub make-spec : {M : Type 1} → statement M
-make-spec =
+pub make-after-spec : {M : Type 1} → statement M
+make-after-spec =
     tie.close
     (tie.spec
     (λ c κs. search needs)

@@ -1,0 +1,53 @@
+-- `strict::entity::walk_firsts` meets its contract. Assumes nothing.
+use Prim.Native.Nat.{_-_}
+use lib.ListN.{length}
+use Rattle.strict.specs.Lookups.{walkFrom}
+use Rattle.strict.proofs.Entities.{Walking, walk-start, walk-end}
+use Rattle.strict.proofs.Leading.{firsts-off, firsts-last, firsts-on}
+use borrow.Author.Needs.{needs}
+use Rattle.strict.proofs.entity.walk_firsts.Statement.{statement}
+use Rattle.strict.proofs.entity.walk_firsts.Tie as tie
+
+abbrev Inv-loop : tie.InvT-loop
+Inv-loop rows complete value path texts nexts n₀ i₀ n i = Walking complete rows (walkFrom complete rows value 0 path) path n i
+
+abbrev μ-loop : tie.MeasureT-loop
+μ-loop rows complete value path texts nexts n₀ i₀ n i = length path - i
+
+loop-holds : tie.Need-loop-holds Inv-loop μ-loop
+loop-holds c = walk-start _ _ _ _ 0 (search needs)
+
+loop-again : tie.Need-loop-again Inv-loop μ-loop
+loop-again c =
+    let s = c .before .before .before in
+    let r = s .before .before .before in
+    firsts-on _ _ _ _ _ _ (r .loop .inv) _ _ (r .before .before .before .before .before .pre) (s .before .before .if1 .left) _ (s .leads .ensures) (c .before .before .if2 .left) _ (c .led-to .ensures) (c .before .if3 .left)
+
+returns : tie.Need-returns Inv-loop μ-loop
+returns c = search (walk-end, needs)
+
+returns-2 : tie.Need-returns-2 Inv-loop μ-loop
+returns-2 c = search (firsts-off, needs)
+
+returns-3 : tie.Need-returns-3 Inv-loop μ-loop
+returns-3 c = search (firsts-last, needs)
+
+pub walk-firsts-spec : {M : Type 1} → statement M
+walk-firsts-spec =
+    tie.close
+    (tie.spec
+    Inv-loop
+    μ-loop
+    loop-holds
+    (λ c. search needs)
+    (λ c. search needs)
+    (λ c κs. search needs)
+    (λ c κs. search needs)
+    (λ c. search needs)
+    (λ c κs. search needs)
+    (λ c. search needs)
+    (λ c. search needs)
+    loop-again
+    returns
+    returns-2
+    returns-3)
