@@ -10,5 +10,6 @@ pub mod GroupEdges
 pub mod KnownEdges
 pub mod KnownParents
 pub mod KnownSheets
+pub mod KnownTemplates
 pub mod LinkEdges
 pub mod WrongAnswers
