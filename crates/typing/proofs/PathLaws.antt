@@ -170,9 +170,6 @@ module _ (a r : List ℕ) (s y : ℕ) where
 
 -- ---- any path
 
-pub never : false ≡ true → ⊥
-never e = let z : _≡_ {A = ℕ} 0 1 = cc in omega arith
-
 -- what is left of row r's path, from word i and type z on, decides the path from type y
 pub record Single (a r : List ℕ) (y z i : ℕ) : Type 0 where
   pub left : pathFrom a (drop 4 r) (getD r 3 0) y ≡ leftAt a r i z

@@ -317,7 +317,7 @@ fn join_places(images: &[u32], reached: &mut [u32], records: &[u32], slot: usize
 
 // ---- a step
 
-// The slot of a text, either of two: the first one, where it has this text or nothing is seen there.
+// The slot of a text, either of two: the first one, where it has this text or nothing is seen there. Any slot would serve.
 fn slot_of(texts: &[u32], seen: &[u32], text: u32) -> usize
     ensures { λ s. ⌜ s < SLOTS ⌝ }
 {
@@ -506,7 +506,7 @@ fn place_of(rows: &[u32], ty: u32) -> Place
 }
 
 // Whether a path with so many steps left, from a type with this record type, is worked as those from groups are, so that a long record type is
-// searched once for each text.
+// searched once for each text. Either way gives the same where the type is there.
 fn is_searched_once(rows: &[u32], ty: u32, record: u32, left: usize) -> bool
     ensures { λ b. ⌜ (b ≡ true → ty < getD (now (rows .entry)) TYPE 0) ⌝ }
 {

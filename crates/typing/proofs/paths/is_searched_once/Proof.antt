@@ -1,11 +1,11 @@
 -- `is_searched_once`: where it says so the type is there.
-use Rattle.typing.proofs.PathLaws.{never}
+use Rattle.cedar.proofs.Tools.{no-true}
 use borrow.Author.Needs.{needs}
 use Rattle.typing.proofs.paths.is_searched_once.Statement.{statement}
 use Rattle.typing.proofs.paths.is_searched_once.Tie as tie
 
 returns : tie.Need-returns
-returns c = λ e. absurd (never e)
+returns c = no-true
 
 pub is-searched-once-spec : {M : Type 1} → statement M
 is-searched-once-spec =
