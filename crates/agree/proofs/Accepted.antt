@@ -10,8 +10,9 @@ use Rattle.sheet.proofs.reading.Lines.{accepted-history}
 use Rattle.table.specs.Layout.{rowsOf, linesHeld, held}
 use Rattle.table.proofs.Held.{held-same}
 use Rattle.finished.specs.Finish.{breakingLine}
+use Rattle.finished.specs.Lacking.{passedLine}
 use Rattle.finished.specs.Rising.{Rising}
-use Rattle.finished.proofs.FinishAgrees.{rising}
+use Rattle.finished.proofs.FinishAgrees.{rising, passed-is}
 use Rattle.agree.specs.Breaks.{Ordered}
 
 -- ---- words that hold an accepted sheet's lines
@@ -37,6 +38,10 @@ module _ (p c a d : List ℕ) (k : Kept partial p a) (j : Kept complete c d) whe
   ordered = record { partial-rows = entities-kept partial p a k; complete-rows = entities-kept complete c d j }
 
   -- and what it gives is the line of the two sheets
-  pub breaking-read : breakingLine (held p a []) (held c d []) ≡ breakingLine (read partial p .state) (read complete c .state)
-  unfolding breakingLine held
-  breaking-read = ap₂ (λ (x y : List (List (List ℕ))). breakingLine (record { lines = x; depths = []; used = [] }) (record { lines = y; depths = []; used = [] })) (k .lines) (j .lines)
+  pub breaking-read : passedLine (held p a []) (held c d []) ≡ breakingLine (read partial p .state) (read complete c .state)
+  unfolding passedLine held
+  breaking-read =
+      let (hp, ep) = accepted-history partial p (k .accepted) in
+      let (hc, ec) = accepted-history complete c (j .accepted) in
+      ap₂ (λ (x y : List (List (List ℕ))). passedLine (record { lines = x; depths = []; used = [] }) (record { lines = y; depths = []; used = [] })) (k .lines) (j .lines)
+      ∙ passed-is (read partial p .state) (read complete c .state) hp hc

@@ -8,7 +8,7 @@ use native.Mathlib.Nat.{le-of-suc-le-suc}
 use native.Mathlib.Decide.{decLe}
 use native.Mathlib.Omega.{arith}
 use lib.ListN.{length, getD, take, getElem?}
-use Rattle.cedar.proofs.Tools.{no-true}
+use Rattle.cedar.proofs.Tools.{no-some, no-true}
 use Rattle.cedar.specs.Value.{onSome}
 use Rattle.sheet.specs.Bytes.{same, split}
 use Rattle.sheet.specs.Forms.{partial, complete, at, rowOf, TEXT, KIND, TYPE, SHAPE, VALUE, ENTITY, PRINCIPAL, ACTION, RESOURCE, CONTEXT, DAY, NODE, POLICY, LINK, TERM, noKey}
@@ -16,14 +16,15 @@ use Rattle.sheet.specs.State.{State, linesOf, lineAt, count, counts, lengths, b
 use Rattle.sheet.specs.Sheet.{greatest, read}
 use Rattle.sheet.specs.Call.{Accepted}
 use Rattle.sheet.specs.Parents.{lineFor}
-use Rattle.sheet.specs.Agreement.{requestSame, entitySame}
+use Rattle.sheet.specs.Agreement.{requestSame, entitySame, agrees}
 use Rattle.sheet.proofs.content.Environment.{Facts, a-line}
 use Rattle.sheet.proofs.reading.Limits.{lines-at-most}
 use Rattle.sheet.proofs.demand3.Demand3Bytes.{facts}
 use Rattle.sheet.proofs.reading.Checked.{accepted-read}
 use Rattle.sheet.proofs.reading.LinePlaces.{line-stands}
-use Rattle.finished.specs.Finish.{beginBreak, sameBreak, entityBreak, requestBreak, firstSome, breaks, lacks, breakingLine}
+use Rattle.finished.specs.Finish.{beginBreak, sameBreak, entityBreak, requestBreak, firstSome, breaks, breakingLine}
 use Rattle.finished.specs.Breaks.{breaksAt, Breaks, Named, the-first, after-last, no-line}
+use Rattle.finished.proofs.FinishAgrees.{agrees-none}
 
 -- ---- of n places that stand after l others, the first where b holds
 
@@ -122,12 +123,13 @@ module _ (p c : State) where
   first-in k hi (o ∷ os) e h = first-with k hi o os (omega (arith, e)) (h .0) (first-in (suc k) hi os (omega (arith, e)) (h .1))
 
   -- what is named, by the first line that breaks
-  named-by : (o : Option ℕ) (b : Bool) → lacks p c ≡ b → FirstIn TEXT noKey o → Named p c (onSome (cond b (suc (sum (counts c))) 0) o suc)
-  named-by _ b e (first-at k i a d h t f) =
+  named-by : (o : Option ℕ) (b : Bool) → agrees p c ≡ b → (b ≡ true → o ≡ none) → FirstIn TEXT noKey o → Named p c (cond b 0 (onSome (suc (sum (counts c))) o suc))
+  named-by _ true e g (first-at k i a d h t f) = no-some (sym (g refl))
+  named-by _ false e g (first-at k i a d h t f) =
       the-first (record { key = k; place = i; later = a; is-key = d; there = h; line-is = refl; breaks = t })
       (λ l lt x. let q = x .line-is in no-true (sym (f (x .key) (x .place) (x .later) (x .is-key) (x .there) (omega (arith, lt, q))) ∙ x .breaks))
-  named-by _ true e (none-in f) = after-last (λ l x. no-true (sym (f (x .key) (x .place) (x .later) (x .is-key) (x .there)) ∙ x .breaks)) e
-  named-by _ false e (none-in f) = no-line (λ l x. no-true (sym (f (x .key) (x .place) (x .later) (x .is-key) (x .there)) ∙ x .breaks)) e
+  named-by _ false e g (none-in f) = after-last (λ l x. no-true (sym (f (x .key) (x .place) (x .later) (x .is-key) (x .there)) ∙ x .breaks)) e
+  named-by _ true e g (none-in f) = no-line (λ l x. no-true (sym (f (x .key) (x .place) (x .later) (x .is-key) (x .there)) ∙ x .breaks)) e
 
   module _ (fp : Facts partial p) (fc : Facts complete c) where
     one-line : (k : ℕ) → getD (greatest c) k 0 ≡ 1 → count c k ≤ 1
@@ -184,7 +186,7 @@ module _ (p c : State) where
     -- THE LINE OF NUMBER 11 IS THE FIRST THAT BREAKS AGREEMENT
     pub first-breaking : Named p c (breakingLine p c)
     unfolding breakingLine
-    first-breaking = named-by (firstSome (breaks p c)) (lacks p c) refl (first-in TEXT noKey (breaks p c) refl all-find)
+    first-breaking = named-by (firstSome (breaks p c)) (agrees p c) refl (agrees-none p c (fp .history) (fc .history)) (first-in TEXT noKey (breaks p c) refl all-find)
 
 -- for two accepted sheets
 pub eleven-names : (p c : List ℕ) → Accepted partial p → Accepted complete c → Named (read partial p .state) (read complete c .state) (breakingLine (read partial p .state) (read complete c .state))

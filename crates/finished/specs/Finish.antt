@@ -1,9 +1,8 @@
 -- Document 02, 2.1, "Finish an application": a partial and a complete sheet, and the answer that the residuals of the one give on the other.
-use mathlib.Core.Bool.{Bool, true, false, cond, _||_}
+use mathlib.Core.Bool.{true, false, cond}
 use mathlib.Core.Option.{Option, none, some}
 use mathlib.Core.List.{List, [], _∷_}
 use Prim.Native.Nat.{ℕ, zero, suc}
-use lib.Dec.{ltb}
 use lib.ListN.{length, getD, drop}
 use Rattle.cedar.specs.Value.{Value, vbool, onSome}
 use Rattle.cedar.specs.Residual.{Expr}
@@ -18,7 +17,7 @@ use Rattle.sheet.specs.Content.{valuesFrom, contents, schema, env}
 use Rattle.sheet.specs.Literals.{valued}
 use Rattle.sheet.specs.Answer.{run, completeOf}
 use Rattle.sheet.specs.Parents.{lineFor}
-use Rattle.sheet.specs.Agreement.{requestSame, entitySame}
+use Rattle.sheet.specs.Agreement.{requestSame, entitySame, agrees}
 use Rattle.sheet.specs.Call.{Returned, returns, lentThen, checkedThen, fitted, outputs}
 
 -- ---- "A line after the first breaks agreement if a known part differs from the partial line of its key and place (an entity line: of its
@@ -73,40 +72,9 @@ breaks p c =
     ∷ sameBreak (linesOf p TERM) (linesOf c TERM) (before c TERM)
     ∷ []
 
--- ---- "one is lacking": a line of a key that the complete sheet must have too, or an entity that it must list
-
-abbrev pub shorter : List (List ℕ) → List (List ℕ) → Bool
-shorter p c = ltb (length c) (length p)
-
-abbrev pub unlistedIn : List (List ℕ) → List (List ℕ) → Bool
-unlistedIn [] c = false
-unlistedIn (r ∷ p) c = onSome true (lineFor (at r 0) c) (λ q. false) || unlistedIn p c
-
-abbrev pub anyOf : List Bool → Bool
-anyOf [] = false
-anyOf (b ∷ l) = b || anyOf l
-
-abbrev pub lacking : State → State → List Bool
-lacking p c =
-    shorter (linesOf p TEXT) (linesOf c TEXT)
-    ∷ shorter (linesOf p KIND) (linesOf c KIND)
-    ∷ shorter (linesOf p TYPE) (linesOf c TYPE)
-    ∷ shorter (linesOf p SHAPE) (linesOf c SHAPE)
-    ∷ shorter (linesOf p VALUE) (linesOf c VALUE)
-    ∷ unlistedIn (linesOf p ENTITY) (linesOf c ENTITY)
-    ∷ shorter (linesOf p DAY) (linesOf c DAY)
-    ∷ shorter (linesOf p NODE) (linesOf c NODE)
-    ∷ shorter (linesOf p POLICY) (linesOf c POLICY)
-    ∷ shorter (linesOf p LINK) (linesOf c LINK)
-    ∷ shorter (linesOf p TERM) (linesOf c TERM)
-    ∷ []
-
-abbrev pub lacks : State → State → Bool
-lacks p c = anyOf (lacking p c)
-
 -- "the first line of the complete sheet that breaks agreement (the line after its last if none does and one is lacking)"; 0 where they agree
 unfoldable pub breakingLine : State → State → ℕ
-breakingLine p c = onSome (cond (lacks p c) (suc (sum (counts c))) 0) (firstSome (breaks p c)) suc
+breakingLine p c = cond (agrees p c) 0 (onSome (suc (sum (counts c))) (firstSome (breaks p c)) suc)
 
 -- ---- "its decision, counts and policy lines from what the residuals yield"
 

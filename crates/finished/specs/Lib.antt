@@ -1,4 +1,5 @@
 pub mod Breaks
 pub mod Finish
+pub mod Lacking
 pub mod Promise
 pub mod Rising
