@@ -96,3 +96,8 @@ finish-kind-more = refl
 finish-entity-more : finishReturned 16384 16384 500 small (bytes "sheet=complete/text=P/text=A/kind=0,e/kind=1,a/type=bool/type=record/shape=1,-/shape=1,-/value=bool,1/value=record/value=entity,0,0/value=set/entity=2,1,1,3/principal=0,0/action=1,0/resource=0,0/context=1,1/day=2000-01-01/node=0,lit,0/policy=0,permit,0/term=0,2000-01-01,2000-01-02/") .number ≡ 0
 unfolding small keys forms formOf slotAt counted tagOf rowOf keyOf refs ascendings fitsIn nodesUnder typed found depth fault more read types valueRows contents schema trees exprs onTerm nPolicies policies nEnv env run results answer returned ancestors unknownAbove order same place insert ascending makeSet finishedResults finishedAnswer finishReturned agrees breakingLine
 finish-entity-more = refl
+
+-- an entity more and another day: only the day breaks agreement
+finish-entity-more-and-break : finishReturned 16384 16384 500 small (bytes "sheet=complete/text=P/text=A/kind=0,e/kind=1,a/type=bool/type=record/shape=1,-/shape=1,-/value=bool,1/value=record/value=entity,0,0/value=set/entity=2,1,1,3/principal=0,0/action=1,0/resource=0,0/context=1,1/day=2000-01-02/node=0,lit,0/policy=0,permit,0/term=0,2000-01-01,2000-01-02/") ≡ returns 11 19 0
+unfolding small keys forms formOf slotAt counted tagOf rowOf keyOf refs ascendings fitsIn nodesUnder typed found depth fault more read types valueRows contents schema trees exprs onTerm nPolicies policies nEnv env run results answer returned ancestors unknownAbove order same place insert ascending makeSet finishedResults finishedAnswer finishReturned agrees breakingLine
+finish-entity-more-and-break = refl
