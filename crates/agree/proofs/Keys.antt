@@ -19,8 +19,7 @@ use Rattle.table.specs.Layout.{rowsOf, linesHeld, held}
 use Rattle.table.proofs.Rows.{tab, tab-same, length-tab, length-texts, count-rows}
 use Rattle.table.proofs.Held.{counts-held, countsIn}
 use Rattle.table.proofs.Counts.{count-at}
-use Rattle.finished.specs.Finish.{beginBreak, sameBreak, entityBreak, requestBreak, firstSome, breaks}
-use Rattle.finished.specs.Lacking.{unlistedIn, anyOf, lacks, passedLine}
+use Rattle.finished.specs.ByKey.{beginBreak, sameBreak, entityBreak, requestBreak, firstSome, breaks, unlistedIn, anyOf, lacks, passedLine}
 use Rattle.agree.specs.Breaks.{linesIn, counted, isRequest, breakIn, lackIn}
 
 -- ---- one key

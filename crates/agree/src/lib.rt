@@ -27,8 +27,7 @@ ghost use Rattle.sheet.specs.Forms.{at, ENTITY};
 ghost use Rattle.sheet.specs.Typing.{unknownOr};
 ghost use Rattle.sheet.specs.Agreement.{requestSame, entitySame};
 ghost use Rattle.table.specs.Layout.{part, rowsOf, textRow, rowIn, held};
-ghost use Rattle.finished.specs.Finish.{beginBreak, sameBreak, entityBreak, requestBreak};
-ghost use Rattle.finished.specs.Lacking.{unlistedIn, lacks, passedLine};
+ghost use Rattle.finished.specs.ByKey.{beginBreak, sameBreak, entityBreak, requestBreak, unlistedIn, lacks, passedLine};
 ghost use Rattle.agree.specs.Breaks.{linesIn, counted, alike, Ordered, below, firstFor, isRequest, breakIn, lackIn};
 
 // ---- whole lines

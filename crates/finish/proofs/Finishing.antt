@@ -44,7 +44,7 @@ use Rattle.response.proofs.Completing.{part-front}
 use Rattle.response.proofs.PartialRun.{holding-ready}
 use Rattle.opening.specs.Opens.{Opens}
 use Rattle.finished.specs.Finish.{yieldsOf, finishedResults, finishedAnswer, atLine}
-use Rattle.finished.specs.Lacking.{passedLine}
+use Rattle.finished.specs.ByKey.{passedLine}
 use Rattle.agree.specs.Breaks.{Ordered}
 use Rattle.agree.proofs.Accepted.{Kept, kept, ordered, breaking-read}
 use Rattle.finish.specs.Parts.{lineOf, answerOf, afterBoth, afterPartial, afterLengths, Answers, Stands, Left, Leaving, Finishes}

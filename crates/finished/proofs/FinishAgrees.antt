@@ -11,14 +11,14 @@ use lib.ListN.{length, getD, length-append}
 use Rattle.cedar.proofs.Tools.{no-some, no-true, eqb-true, and-both, both, neither}
 use Rattle.cedar.specs.Value.{onSome}
 use Rattle.sheet.specs.Bytes.{same}
-use Rattle.sheet.specs.Forms.{Mode, partial, complete, at, TEXT, KIND, TYPE, SHAPE, VALUE, ENTITY, PRINCIPAL, ACTION, RESOURCE, CONTEXT, DAY, NODE, POLICY, LINK, TERM}
+use Rattle.sheet.specs.Forms.{Mode, partial, complete, at, TEXT, KIND, TYPE, SHAPE, VALUE, ENTITY, PRINCIPAL, ACTION, RESOURCE, CONTEXT, DAY, NODE, POLICY, LINK, TERM, noKey}
 use Rattle.sheet.specs.State.{State, linesOf, lineAt, count, counts, before, sum}
 use Rattle.sheet.specs.Sheet.{found, above, allThere, ascend}
 use Rattle.sheet.specs.Forms as F
 use Rattle.sheet.specs.Parents.{lineFor}
 use Rattle.sheet.specs.Agreement.{begins, sameLines, requestSame, entitySame, listed, allListed, agrees}
-use Rattle.finished.specs.Finish.{beginBreak, sameBreak, entityBreak, requestBreak, firstSome, breaks, breakingLine}
-use Rattle.finished.specs.Lacking.{shorter, unlistedIn, anyOf, lacking, lacks, passedLine}
+use Rattle.finished.specs.Finish.{breakFrom, breakingLine}
+use Rattle.finished.specs.ByKey.{beginBreak, sameBreak, entityBreak, requestBreak, firstSome, breaks, shorter, unlistedIn, anyOf, lacking, lacks, passedLine}
 use Rattle.finished.specs.Rising.{Rising}
 use Rattle.sheet.proofs.reading.Lines.{History}
 use Rattle.sheet.proofs.demand3.TwoSheets.{common}
@@ -222,7 +222,7 @@ lines-are {p} e = subst (λ z. sameLines p z ≡ true) e (lines-refl p)
 
 module _ (p c : State) (hp : History partial p) (hc : History complete c) where
   -- no line breaks agreement and none is lacking: they agree
-  passed-agrees : passedLine p c ≡ 0 → agrees p c ≡ true
+  pub passed-agrees : passedLine p c ≡ 0 → agrees p c ≡ true
   unfolding agrees
   passed-agrees e =
       let (f, l) = no-line p c e in
@@ -246,7 +246,7 @@ module _ (p c : State) (hp : History partial p) (hc : History complete c) where
       (entities-none (linesOf p ENTITY) (linesOf c ENTITY) (rising partial p hp) (entity-none (linesOf p ENTITY) (linesOf c ENTITY) (before c ENTITY) (b .1 .1 .1 .1 .1 .0)) (linesOf p ENTITY) (λ r i. i) (g .1 .1 .1 .1 .1 .0))
 
   -- they agree: no line breaks agreement, and none is lacking
-  agrees-passed : agrees p c ≡ true → passedLine p c ≡ 0
+  pub agrees-passed : agrees p c ≡ true → passedLine p c ≡ 0
   unfolding passedLine
   agrees-passed e =
       let k = common p c e in
@@ -308,22 +308,10 @@ module _ (p c : State) (hp : History partial p) (hc : History complete c) where
   pub agrees-none : agrees p c ≡ true → firstSome (breaks p c) ≡ none
   agrees-none e = no-line p c (agrees-passed e) .0
 
-  -- THE LINE FOUND KEY BY KEY IS THAT OF THE DEFINITION
-  pub passed-is : passedLine p c ≡ breakingLine p c
-  unfolding passedLine breakingLine
-  passed-is = go (agrees p c) (firstSome (breaks p c)) (lacks p c) agrees-passed passed-agrees
-    where
-      go : (g : Bool) (o : Option ℕ) (b : Bool) → (g ≡ true → onSome (cond b (suc (sum (counts c))) 0) o suc ≡ 0) → (onSome (cond b (suc (sum (counts c))) 0) o suc ≡ 0 → g ≡ true)
-          → onSome (cond b (suc (sum (counts c))) 0) o suc ≡ cond g 0 (onSome (suc (sum (counts c))) o suc)
-      go true o b h k = h refl
-      go false none true h k = refl
-      go false none false h k = no-true (k refl)
-      go false (some n) b h k = refl
-
 -- the line is 0 exactly where they agree
 pub no-break-agrees : (p c : State) → breakingLine p c ≡ 0 → agrees p c ≡ true
 unfolding breakingLine
-no-break-agrees p c e = go (agrees p c) (firstSome (breaks p c)) e
+no-break-agrees p c e = go (agrees p c) (breakFrom p c TEXT (noKey - TEXT)) e
   where
     go : (b : Bool) (o : Option ℕ) → cond b 0 (onSome (suc (sum (counts c))) o suc) ≡ 0 → b ≡ true
     go true o e = refl

@@ -22,12 +22,12 @@ use Rattle.cedar.specs.Response.{permit, forbid}
 use Rattle.sheet.specs.Agreement.{agrees}
 use Rattle.sheet.proofs.demand3.Demand3Bytes.{facts}
 use Rattle.finished.specs.Finish.{finishedResults, finishedAnswer, finishReturned, finishWritten, breakingLine}
-use Rattle.finished.specs.Lacking.{passedLine}
+use Rattle.finished.specs.ByKey.{passedLine}
 use Rattle.finished.specs.Breaks.{Breaks, Named}
 use Rattle.finished.proofs.FinishEqual.{finished-results, finished-answer}
-use Rattle.finished.proofs.FinishAgrees.{no-break-agrees, agrees-no-break, passed-is}
+use Rattle.finished.proofs.FinishAgrees.{no-break-agrees, agrees-no-break}
 use Rattle.finished.proofs.FinishCall.{finish-is-complete, finish-writes-complete, partial-refused, complete-refused, finish-eleven, Finishes, finish-accepted}
-use Rattle.finished.proofs.BreakingLine.{eleven-names}
+use Rattle.finished.proofs.BreakingLine.{passed-is, eleven-names}
 
 -- ---- the lines of two sheets
 
@@ -130,7 +130,7 @@ none-breaks : breakingLine (read partial p .state) (read complete c .state) ≡ 
 none-breaks = agrees-no-break (read partial p .state) (read complete c .state) they-agree
 
 none-passed : passedLine (read partial p .state) (read complete c .state) ≡ 0
-none-passed = passed-is (read partial p .state) (read complete c .state) (facts partial p p-accepted .history) (facts complete c c-accepted .history) ∙ none-breaks
+none-passed = passed-is (read partial p .state) (read complete c .state) (facts partial p p-accepted) (facts complete c c-accepted) ∙ none-breaks
 
 agree-again : agrees (read partial p .state) (read complete c .state) ≡ true
 agree-again = no-break-agrees (read partial p .state) (read complete c .state) none-breaks
