@@ -7,8 +7,7 @@ use Prim.Native.Nat.{ℕ, suc, _+_}
 use native.Mathlib.Omega.{arith}
 use lib.ListN.{length, getElem?}
 use Rattle.cedar.specs.Value.{Value}
-use Rattle.cedar.specs.Residual.{Node, err}
-use Rattle.cedar.specs.Interpret.{interpret}
+use Rattle.cedar.specs.Residual.{Node, Expr, err}
 use Rattle.cedar.specs.Response.{decision}
 use Rattle.cedar.specs.Table.{Table}
 use Rattle.cedar.specs.Reads.{EnvRead}
@@ -23,7 +22,8 @@ use Rattle.sheet.specs.Content.{types, valueRows, contents, valuesFrom, schema,
 use Rattle.sheet.specs.Answer.{size, root, ids, run, answer, partialOf}
 use Rattle.sheet.specs.Call.{Accepted}
 use Rattle.sheet.specs.ReadAnswer.{Said, PolicyLine, allStand}
-use Rattle.sheet.specs.Demand3.{Answered, bytesOf}
+use Rattle.sheet.specs.Literals.{valued}
+use Rattle.sheet.specs.Demand3.{valueIn, Answered, bytesOf}
 use Rattle.sheet.proofs.content.ValueRows.{values-table}
 use Rattle.sheet.proofs.content.Environment.{Facts, env-read}
 use Rattle.sheet.proofs.content.OwnPolicies.{read-own}
@@ -32,7 +32,7 @@ use Rattle.sheet.proofs.content.SheetSmall.{Under, policies-under, asked-under}
 use Rattle.sheet.proofs.running.LeftOver.{LeftLines, no-lines, one-line, run-leaves}
 use Rattle.sheet.proofs.answer.NodesStand.{tree-there}
 use Rattle.sheet.proofs.answer.AnswerBack.{lineWith, partialPolicies}
-use Rattle.sheet.proofs.answer.AnswerRead.{Standing, partialSaid, partial-answer-back, all-stand, residuals-back, as-many, rows-are, values-of}
+use Rattle.sheet.proofs.answer.AnswerRead.{Standing, partialSaid, partial-answer-back, all-stand, roots-stand, residuals-back, as-many, rows-are, values-of}
 use Rattle.sheet.proofs.demand3.Demand3Answers.{accepted}
 use Rattle.sheet.proofs.answer.Buffers.{bytes-are}
 use Rattle.again.specs.Again.{allValues, residualOf, LinesAgain, policiesIn, runAgain, Again}
@@ -56,6 +56,10 @@ module _ (s : State) (stand : allStand s (partialSaid s) ≡ true) where
   abbrev trees : List (Node ℕ)
   trees = treesFrom (types s) (λ n. n) (λ A x. err A) [] (a .nodes)
 
+  -- by content
+  abbrev exprs : List Expr
+  exprs = treesFrom (types s) (valueIn s a) (λ A x. err A) [] (a .nodes)
+
   under : (x : PolicyLine) (t : Node ℕ) → getElem? trees (x .root) ≡ some t → residualOf s a x ≡ some t
   under x t u = tree-there s a stand (λ n. n) x t u
 
@@ -68,24 +72,24 @@ module _ (s : State) (stand : allStand s (partialSaid s) ≡ true) where
   module _ (t : Table (allValues s a) (valuesFrom (contents s) (a .made))) (env : EnvRead (valuesFrom (contents s) (a .made)) (nEnv partial s) (pEnv s)) where
     -- line by line, with the policy, its residual and its content
     each-again : (n : ℕ) (is : List ℕ) {ls : List NVerdict} {ps : List NPolicy} {qs : List Policy} → Residuals (schema s) (nEnv partial s) (pEnv s) (valuesFrom (contents s) (a .made)) ls qs → verdicts ls ≡ partialAnswer (schema s) (pEnv s) qs
-        → LeftLines ps ls → AllWithin ps → Standing trees (λ l. l .root) (partialPolicies n is ls) ls → length is ≡ length ls → LinesAgain s a ps (partialPolicies n is ls)
-    each-again n [] R.none c no-lines w st e = G.end
-    each-again n (i ∷ is) R.none c no-lines w st e = absurd (omega (arith, e))
-    each-again n [] (R.more h hs) c (one-line k ks) w st e = absurd (omega (arith, e))
-    each-again n (i ∷ is) (R.more {l = l} {ls = ls} {p = q} {ps = qs} h hs) c (one-line k ks) w (A.more u st) e =
+        → LeftLines ps ls → AllWithin ps → Standing trees (λ l. l .root) (partialPolicies n is ls) ls → Standing exprs (λ l. valued (valueIn s a) (l .root)) (partialPolicies n is ls) ls → length is ≡ length ls → LinesAgain s a ps (partialPolicies n is ls)
+    each-again n [] R.none c no-lines w st sc e = G.end
+    each-again n (i ∷ is) R.none c no-lines w st sc e = absurd (omega (arith, e))
+    each-again n [] (R.more h hs) c (one-line k ks) w st sc e = absurd (omega (arith, e))
+    each-again n (i ∷ is) (R.more {l = l} {ls = ls} {p = q} {ps = qs} h hs) c (one-line k ks) w (A.more u st) (A.more v sc) e =
         let d = left-deep k in
         let m = w .0 in
         G.also (record {
           residual = l .root;
           under-root = under (lineWith i (l .effect) (l .class) (root n (l .root))) (l .root) u;
-          content = interpret (schema s) (pEnv s) (q .tree);
-          literals = h;
+          content = valued (valueIn s a) (l .root);
+          literals = tree-there s a stand (valueIn s a) (lineWith i (l .effect) (l .class) (root n (l .root))) (valued (valueIn s a) (l .root)) v;
           same-residual = ap (λ o. o .tree) (again-tree (schema s) (nEnv partial s) (pEnv s) t env (l .root) (q .tree) h);
           none-made = ap (λ o. o .rows) (again-tree (schema s) (nEnv partial s) (pEnv s) t env (l .root) (q .tree) h);
           same-class = again-class (schema s) (nEnv partial s) (pEnv s) t env (l .root) (q .tree) h ∙ sym (first-called (schema s) (pEnv s) l ls q qs c);
           no-deeper = d;
           within = omega (arith, d, m);
-        }) (each-again (n + size (l .root)) is hs (rest-called (schema s) (pEnv s) l ls q qs c) ks (w .1) st (omega (arith, e)))
+        }) (each-again (n + size (l .root)) is hs (rest-called (schema s) (pEnv s) l ls q qs c) ks (w .1) st sc (omega (arith, e)))
 
 module _ (sheet : List ℕ) (acc : Accepted partial sheet) where
   abbrev s : State
@@ -128,7 +132,7 @@ module _ (sheet : List ℕ) (acc : Accepted partial sheet) where
   said-again = record {
     said = partialSaid s;
     reads = partial-answer-back sheet acc;
-    lines = each-again s (all-stand sheet acc) the-table the-env 0 (ids s) the-residuals (read-back .classes) the-left (policies-within sheet) (residuals-back sheet acc) (as-many sheet acc);
+    lines = each-again s (all-stand sheet acc) the-table the-env 0 (ids s) the-residuals (read-back .classes) the-left (policies-within sheet) (residuals-back sheet acc) (roots-stand sheet acc (valueIn s (partialSaid s))) (as-many sheet acc);
     residuals = handedBack (run partial s .lines);
     handed-back = handed s (all-stand sheet acc) 0 (ids s) (run partial s .lines) (residuals-back sheet acc) (as-many sheet acc);
     same-decision = ap (λ r. decision (verdicts (r .lines))) run-again;

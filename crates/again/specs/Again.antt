@@ -10,14 +10,14 @@ use Rattle.cedar.specs.Residual.{Node, Expr}
 use Rattle.cedar.specs.Response.{decision}
 use Rattle.cedar.specs.Rows.{Row}
 use Rattle.cedar.specs.Numbered.{Out, nClass, nInterpret}
-use Rattle.cedar.specs.Reads.{Reads}
 use Rattle.cedar.specs.Runs.{NPolicy, Run, nRun, verdicts}
 use Rattle.sheet.specs.Forms.{partial}
 use Rattle.sheet.specs.State.{State}
 use Rattle.sheet.specs.Sheet.{read}
-use Rattle.sheet.specs.Content.{valueRows, contents, valuesFrom, schema, nEnv, nPolicies}
+use Rattle.sheet.specs.Content.{valueRows, schema, nEnv, nPolicies}
 use Rattle.sheet.specs.Answer.{partialOf}
 use Rattle.sheet.specs.ReadAnswer.{Said, PolicyLine, readAnswer, treeUnder}
+use Rattle.sheet.specs.Demand3.{valueIn}
 use Rattle.again.specs.TreeDepth.{treeDepth}
 
 -- the values that an answer's `lit` numbers are read among: the sheet's, then the made ones
@@ -36,9 +36,9 @@ interpreted s a t = nInterpret (schema s) (nEnv partial s) t (allValues s a)
 pub record LineAgain (s : State) (a : Said) (p : NPolicy) (x : PolicyLine) : Type 0 where
   pub residual : Node ℕ
   pub under-root : residualOf s a x ≡ some residual
-  -- each of its `lit` numbers has a content among the sheet's values and the made ones
+  -- each of its `lit` numbers has a content among the sheet's values and the made ones: the same tree, read by content
   pub content : Expr
-  pub literals : Reads (valuesFrom (contents s) (a .made)) residual content
+  pub literals : treeUnder s (valueIn s a) a x ≡ some content
   -- "the same residual", with its types and its literals' numbers; no value is made
   pub same-residual : interpreted s a residual .tree ≡ residual
   pub none-made : interpreted s a residual .rows ≡ allValues s a

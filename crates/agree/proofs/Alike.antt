@@ -12,7 +12,7 @@ use lib.Seq.{drop-cons}
 use Rattle.sheet.specs.Bytes.{same}
 use Rattle.table.specs.Layout.{rowsOf, rowIn}
 use Rattle.table.proofs.Rows.{length-lines}
-use Rattle.finished.specs.Finish.{beginBreak, sameBreak}
+use Rattle.finished.specs.ByKey.{beginBreak, sameBreak}
 use Rattle.agree.specs.Breaks.{linesIn, counted, alike}
 use Rattle.agree.proofs.Texts.{line-in}
 

@@ -19,7 +19,7 @@ use Rattle.table.specs.Layout.{rowsOf, linesHeld, held}
 use Rattle.table.proofs.Rows.{tab, tab-same, length-tab, length-texts, count-rows}
 use Rattle.table.proofs.Held.{counts-held, countsIn}
 use Rattle.table.proofs.Counts.{count-at}
-use Rattle.finished.specs.Finish.{beginBreak, sameBreak, entityBreak, requestBreak, firstSome, breaks, unlistedIn, anyOf, lacks, breakingLine}
+use Rattle.finished.specs.ByKey.{beginBreak, sameBreak, entityBreak, requestBreak, firstSome, breaks, unlistedIn, anyOf, lacks, passedLine}
 use Rattle.agree.specs.Breaks.{linesIn, counted, isRequest, breakIn, lackIn}
 
 -- ---- one key
@@ -214,30 +214,30 @@ module _ (partial a complete d : List ℕ) where
 
   module _ (k l : ℕ) (g : Passing partial a complete d k l) where
     module _ (h : noKey ≤ k) where
-      none-breaks : breakingLine (held partial a []) (held complete d []) ≡ atEnd partial a complete d
-      unfolding breakingLine
+      none-breaks : passedLine (held partial a []) (held complete d []) ≡ atEnd partial a complete d
+      unfolding passedLine
       none-breaks = ap (λ (o : Option ℕ). onSome (atEnd partial a complete d) o suc) (g .left ∙ ap firstSome (tab-end (broken partial a complete d) k noKey h))
 
       module _ (b : Bool) (e : b ≡ lacks (held [] a []) (held [] d [])) where
         same-lacks : lacks (held partial a []) (held complete d []) ≡ b
         same-lacks = lacks-are partial a complete d ∙ sym (lacks-are [] a [] d) ∙ sym e
 
-        pub pass-lacks : b ≡ true → l + 1 ≡ breakingLine (held partial a []) (held complete d [])
+        pub pass-lacks : b ≡ true → l + 1 ≡ passedLine (held partial a []) (held complete d [])
         pass-lacks f =
             let z : k ≡ noKey = omega (arith, g .last) in
             let y : linesBefore d k ≡ sum (counts (held complete d [])) = ap (linesBefore d) z ∙ all-before in
             let x : l + 1 ≡ suc (sum (counts (held complete d []))) = omega (arith, g .before, y) in
             x ∙ sym (none-breaks ∙ rw (same-lacks, f) refl)
 
-        pub pass-agree : b ≡ false → 0 ≡ breakingLine (held partial a []) (held complete d [])
+        pub pass-agree : b ≡ false → 0 ≡ passedLine (held partial a []) (held complete d [])
         pass-agree f = sym (none-breaks ∙ rw (same-lacks, f) refl)
 
     module _ (h : k < noKey) (n : ℕ) (e : n ≡ counted (breakIn partial a complete d k 0)) where
       pass-here : firstSome (breaks (held partial a []) (held complete d [])) ≡ firstSome (broken partial a complete d k ∷ tab (broken partial a complete d) (k + 1) (noKey - (k + 1)))
       pass-here = g .left ∙ ap firstSome (tab-on (broken partial a complete d) k noKey h)
 
-      pub pass-break : 1 ≤ n → l + n ≡ breakingLine (held partial a []) (held complete d [])
-      unfolding breakingLine
+      pub pass-break : 1 ≤ n → l + n ≡ passedLine (held partial a []) (held complete d [])
+      unfolding passedLine
       pass-break f = sym (ap (λ (o : Option ℕ). onSome (atEnd partial a complete d) o suc) pass-here ∙ go (breakIn partial a complete d k 0) e)
         where
           go : (o : Option ℕ) → n ≡ counted o → onSome (atEnd partial a complete d) (firstSome (later (linesBefore d k) o ∷ tab (broken partial a complete d) (k + 1) (noKey - (k + 1)))) suc ≡ l + n

@@ -18,7 +18,7 @@ use Rattle.sheet.specs.Parents.{lineFor}
 use Rattle.sheet.specs.Agreement.{entitySame}
 use Rattle.table.specs.Layout.{rowsOf}
 use Rattle.table.proofs.Rows.{count-rows}
-use Rattle.finished.specs.Finish.{entityBreak, unlistedIn}
+use Rattle.finished.specs.ByKey.{entityBreak, unlistedIn}
 use Rattle.finished.specs.Rising.{Rising}
 use Rattle.agree.specs.Breaks.{counted, Ordered, below, firstFor}
 

@@ -9,7 +9,7 @@ use lib.ListN.{getD}
 use Rattle.sheet.specs.Forms.{mark, at}
 use Rattle.sheet.specs.Typing.{unknownOr}
 use Rattle.sheet.specs.Agreement.{partSame, requestSame, entitySame}
-use Rattle.finished.specs.Finish.{requestBreak}
+use Rattle.finished.specs.ByKey.{requestBreak}
 use Rattle.agree.specs.Breaks.{counted}
 
 module _ (l r : ℕ) where

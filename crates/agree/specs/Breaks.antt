@@ -9,7 +9,7 @@ use Rattle.cedar.specs.Value.{onSome}
 use Rattle.sheet.specs.Bytes.{same}
 use Rattle.sheet.specs.Forms.{at, TEXT, VALUE, ENTITY, PRINCIPAL, CONTEXT}
 use Rattle.table.specs.Layout.{rowsOf, textRows}
-use Rattle.finished.specs.Finish.{beginBreak, sameBreak, entityBreak, requestBreak, shorter, unlistedIn}
+use Rattle.finished.specs.ByKey.{beginBreak, sameBreak, entityBreak, requestBreak, shorter, unlistedIn}
 use Rattle.finished.specs.Rising.{Rising}
 
 -- the lines of key k that words hold

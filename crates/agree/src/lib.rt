@@ -27,7 +27,7 @@ ghost use Rattle.sheet.specs.Forms.{at, ENTITY};
 ghost use Rattle.sheet.specs.Typing.{unknownOr};
 ghost use Rattle.sheet.specs.Agreement.{requestSame, entitySame};
 ghost use Rattle.table.specs.Layout.{part, rowsOf, textRow, rowIn, held};
-ghost use Rattle.finished.specs.Finish.{beginBreak, sameBreak, entityBreak, requestBreak, unlistedIn, lacks, breakingLine};
+ghost use Rattle.finished.specs.ByKey.{beginBreak, sameBreak, entityBreak, requestBreak, unlistedIn, lacks, passedLine};
 ghost use Rattle.agree.specs.Breaks.{linesIn, counted, alike, Ordered, below, firstFor, isRequest, breakIn, lackIn};
 
 // ---- whole lines
@@ -299,7 +299,7 @@ fn lacks(rows: &[u32], others: &[u32]) -> bool
 // lacking, 0 where the sheets agree.
 pub fn breaking_line(partial: &[u8], rows: &[u32], complete: &[u8], others: &[u32]) -> usize
     requires { ⌜ Ordered (now rows) (now others) ⌝ }
-    ensures { λ l. ⌜ l ≡ breakingLine (held (now (partial .entry)) (now (rows .entry)) []) (held (now (complete .entry)) (now (others .entry)) []) ⌝ }
+    ensures { λ l. ⌜ l ≡ passedLine (held (now (partial .entry)) (now (rows .entry)) []) (held (now (complete .entry)) (now (others .entry)) []) ⌝ }
 {
     let mut before = count(others, SHEET) as usize;
     let mut key = TEXT;

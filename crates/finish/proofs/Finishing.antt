@@ -43,7 +43,8 @@ use Rattle.response.proofs.Sending.{gives-as, sends-as}
 use Rattle.response.proofs.Completing.{part-front}
 use Rattle.response.proofs.PartialRun.{holding-ready}
 use Rattle.opening.specs.Opens.{Opens}
-use Rattle.finished.specs.Finish.{yieldsOf, finishedResults, finishedAnswer, atLine, breakingLine}
+use Rattle.finished.specs.Finish.{yieldsOf, finishedResults, finishedAnswer, atLine}
+use Rattle.finished.specs.ByKey.{passedLine}
 use Rattle.agree.specs.Breaks.{Ordered}
 use Rattle.agree.proofs.Accepted.{Kept, kept, ordered, breaking-read}
 use Rattle.finish.specs.Parts.{lineOf, answerOf, afterBoth, afterPartial, afterLengths, Answers, Stands, Left, Leaving, Finishes}
@@ -170,7 +171,7 @@ module _ (p c residuals kept₁ rows log : List ℕ) (x : Left p residuals kept�
   pub both-ordered : Ordered kept₁ rows
   both-ordered = ordered p c kept₁ rows (partial-kept p residuals kept₁ x) complete-kept
 
-  module _ (l : ℕ) (e : l ≡ breakingLine (held p kept₁ []) (held c rows [])) (out : List ℕ) where
+  module _ (l : ℕ) (e : l ≡ passedLine (held p kept₁ []) (held c rows [])) (out : List ℕ) where
     line-is : l ≡ lineOf p c
     line-is = e ∙ breaking-read p c kept₁ rows (partial-kept p residuals kept₁ x) complete-kept
 

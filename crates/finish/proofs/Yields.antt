@@ -16,7 +16,6 @@ use Rattle.sheet.specs.Content.{contents, schema, env}
 use Rattle.sheet.specs.Literals.{valued}
 use Rattle.sheet.specs.Answer.{run}
 use Rattle.sheet.specs.Agreement.{agrees}
-use Rattle.sheet.proofs.reading.Lines.{accepted-history}
 use Rattle.sheet.proofs.demand3.Demand3Bytes.{Settles}
 use Rattle.sheet.proofs.answer.AnswerRead.{values-of, reads-valued}
 use Rattle.table.specs.Layout.{held}
@@ -44,10 +43,7 @@ module _ (p c a b d e ns : List ℕ) (s : Stands partial p a b) (g : Stands comp
   C = read complete c .state
 
   agree : agrees P C ≡ true
-  agree =
-      let (hp, fp) = accepted-history partial p (s .holding .accepted) in
-      let (hc, fc) = accepted-history complete c (g .holding .accepted) in
-      no-break-agrees P C hp hc z
+  agree = no-break-agrees P C z
 
   -- what the words of both sheets hold
   abbrev h : Holding partial p a b

@@ -8,7 +8,7 @@ use native.Mathlib.Nat.{le-of-suc-le-suc}
 use native.Mathlib.Decide.{decLe}
 use native.Mathlib.Omega.{arith}
 use lib.ListN.{length, getD, take, getElem?}
-use Rattle.cedar.proofs.Tools.{no-true}
+use Rattle.cedar.proofs.Tools.{no-some, no-true}
 use Rattle.cedar.specs.Value.{onSome}
 use Rattle.sheet.specs.Bytes.{same, split}
 use Rattle.sheet.specs.Forms.{partial, complete, at, rowOf, TEXT, KIND, TYPE, SHAPE, VALUE, ENTITY, PRINCIPAL, ACTION, RESOURCE, CONTEXT, DAY, NODE, POLICY, LINK, TERM, noKey}
@@ -16,14 +16,16 @@ use Rattle.sheet.specs.State.{State, linesOf, lineAt, count, counts, lengths, b
 use Rattle.sheet.specs.Sheet.{greatest, read}
 use Rattle.sheet.specs.Call.{Accepted}
 use Rattle.sheet.specs.Parents.{lineFor}
-use Rattle.sheet.specs.Agreement.{requestSame, entitySame}
+use Rattle.sheet.specs.Agreement.{requestSame, entitySame, agrees}
 use Rattle.sheet.proofs.content.Environment.{Facts, a-line}
 use Rattle.sheet.proofs.reading.Limits.{lines-at-most}
 use Rattle.sheet.proofs.demand3.Demand3Bytes.{facts}
 use Rattle.sheet.proofs.reading.Checked.{accepted-read}
 use Rattle.sheet.proofs.reading.LinePlaces.{line-stands}
-use Rattle.finished.specs.Finish.{beginBreak, sameBreak, entityBreak, requestBreak, firstSome, breaks, lacks, breakingLine}
+use Rattle.finished.specs.Finish.{leastBelow, breakFrom, breakingLine}
+use Rattle.finished.specs.ByKey.{beginBreak, sameBreak, entityBreak, requestBreak, firstSome, breaks, lacks, passedLine}
 use Rattle.finished.specs.Breaks.{breaksAt, Breaks, Named, the-first, after-last, no-line}
+use Rattle.finished.proofs.FinishAgrees.{passed-agrees, agrees-passed, agrees-none}
 
 -- ---- of n places that stand after l others, the first where b holds
 
@@ -46,6 +48,25 @@ finds-later b n l _ e (nowhere f) = nowhere (none-at-first b n e f)
 finds-at : (b : ℕ → Bool) (n l : ℕ) (same : Bool) (o : Option ℕ) → b 0 ≡ not same → Finds (λ j. b (suc j)) n (suc l) o → Finds b (suc n) l (cond same o (some l))
 finds-at b n l true o e h = finds-later b n l o e h
 finds-at b n l false o e h = finds-here b n l e
+
+-- it is the least that the definition looks for
+least-nowhere : (b : ℕ → Bool) (n : ℕ) → ((j : ℕ) → j < n → b j ≡ false) → leastBelow b n ≡ none
+least-nowhere b zero f = refl
+least-nowhere b (suc n) f = rw (least-nowhere b n (λ j h. f j (omega (arith, h))), f n (omega arith)) refl
+
+least-there : (b : ℕ → Bool) (n i : ℕ) → i < n → b i ≡ true → ((j : ℕ) → j < i → b j ≡ false) → leastBelow b n ≡ some i
+least-there b zero i h t f = absurd (omega (arith, h))
+least-there b (suc n) i h t f = go (decLe (suc i) n) (λ lt. least-there b n i lt t f)
+  where
+    go : Dec (suc i ≤ n) → (suc i ≤ n → leastBelow b n ≡ some i) → leastBelow b (suc n) ≡ some i
+    go (yes lt) k = rw (k lt) refl
+    go (no nlt) k =
+        let e : i ≡ n = omega (arith, h, nlt) in
+        subst (λ (m : ℕ). leastBelow b (suc m) ≡ some i) e (rw (least-nowhere b i f, t) refl)
+
+finds-least : (b : ℕ → Bool) (n l : ℕ) (o : Option ℕ) → Finds b n l o → onSome none (leastBelow b n) (λ i. some (l + i)) ≡ o
+finds-least b n l _ (found i h t f) = rw (least-there b n i h t f) refl
+finds-least b n l _ (nowhere f) = rw (least-nowhere b n f) refl
 
 -- ---- the lines of one key
 
@@ -121,13 +142,25 @@ module _ (p c : State) where
   first-in k hi [] e h = none-in (λ j x a b d. absurd (omega (arith, a, b, e)))
   first-in k hi (o ∷ os) e h = first-with k hi o os (omega (arith, e)) (h .0) (first-in (suc k) hi os (omega (arith, e)) (h .1))
 
+  -- key by key the same line is found
+  found-from : (k n : ℕ) (os : List (Option ℕ)) → length os ≡ n → AllFind k os → breakFrom p c k n ≡ firstSome os
+  found-from k zero [] e h = refl
+  found-from k zero (o ∷ os) e h = absurd (omega (arith, e))
+  found-from k (suc n) [] e h = absurd (omega (arith, e))
+  found-from k (suc n) (o ∷ os) e h = rw (finds-least (breaksAt p c k) (count c k) (before c k) o (h .0)) (go o (found-from (suc k) n os (omega (arith, e)) (h .1)))
+    where
+      go : (o : Option ℕ) → breakFrom p c (suc k) n ≡ firstSome os → onSome (breakFrom p c (suc k) n) o some ≡ firstSome (o ∷ os)
+      go none q = q
+      go (some m) q = refl
+
   -- what is named, by the first line that breaks
-  named-by : (o : Option ℕ) (b : Bool) → lacks p c ≡ b → FirstIn TEXT noKey o → Named p c (onSome (cond b (suc (sum (counts c))) 0) o suc)
-  named-by _ b e (first-at k i a d h t f) =
+  named-by : (o : Option ℕ) (b : Bool) → agrees p c ≡ b → (b ≡ true → o ≡ none) → FirstIn TEXT noKey o → Named p c (cond b 0 (onSome (suc (sum (counts c))) o suc))
+  named-by _ true e g (first-at k i a d h t f) = no-some (sym (g refl))
+  named-by _ false e g (first-at k i a d h t f) =
       the-first (record { key = k; place = i; later = a; is-key = d; there = h; line-is = refl; breaks = t })
       (λ l lt x. let q = x .line-is in no-true (sym (f (x .key) (x .place) (x .later) (x .is-key) (x .there) (omega (arith, lt, q))) ∙ x .breaks))
-  named-by _ true e (none-in f) = after-last (λ l x. no-true (sym (f (x .key) (x .place) (x .later) (x .is-key) (x .there)) ∙ x .breaks)) e
-  named-by _ false e (none-in f) = no-line (λ l x. no-true (sym (f (x .key) (x .place) (x .later) (x .is-key) (x .there)) ∙ x .breaks)) e
+  named-by _ false e g (none-in f) = after-last (λ l x. no-true (sym (f (x .key) (x .place) (x .later) (x .is-key) (x .there)) ∙ x .breaks)) e
+  named-by _ true e g (none-in f) = no-line (λ l x. no-true (sym (f (x .key) (x .place) (x .later) (x .is-key) (x .there)) ∙ x .breaks)) e
 
   module _ (fp : Facts partial p) (fc : Facts complete c) where
     one-line : (k : ℕ) → getD (greatest c) k 0 ≡ 1 → count c k ≤ 1
@@ -181,10 +214,29 @@ module _ (p c : State) where
       ),
     )
 
+    first-is : breakFrom p c TEXT (noKey - TEXT) ≡ firstSome (breaks p c)
+    first-is = found-from TEXT (noKey - TEXT) (breaks p c) refl all-find
+
     -- THE LINE OF NUMBER 11 IS THE FIRST THAT BREAKS AGREEMENT
     pub first-breaking : Named p c (breakingLine p c)
     unfolding breakingLine
-    first-breaking = named-by (firstSome (breaks p c)) (lacks p c) refl (first-in TEXT noKey (breaks p c) refl all-find)
+    first-breaking =
+        subst (λ (o : Option ℕ). Named p c (cond (agrees p c) 0 (onSome (suc (sum (counts c))) o suc))) (sym first-is)
+        (named-by (firstSome (breaks p c)) (agrees p c) refl (agrees-none p c (fp .history) (fc .history)) (first-in TEXT noKey (breaks p c) refl all-find))
+
+    -- THE LINE THAT THE CODE FINDS KEY BY KEY, AND BY WHAT IS LACKING, IS THAT LINE
+    pub passed-is : passedLine p c ≡ breakingLine p c
+    unfolding passedLine breakingLine
+    passed-is =
+        go (agrees p c) (firstSome (breaks p c)) (lacks p c) (agrees-passed p c (fp .history) (fc .history)) (passed-agrees p c (fp .history) (fc .history))
+        ∙ ap (λ (o : Option ℕ). cond (agrees p c) 0 (onSome (suc (sum (counts c))) o suc)) (sym first-is)
+      where
+        go : (g : Bool) (o : Option ℕ) (b : Bool) → (g ≡ true → onSome (cond b (suc (sum (counts c))) 0) o suc ≡ 0) → (onSome (cond b (suc (sum (counts c))) 0) o suc ≡ 0 → g ≡ true)
+            → onSome (cond b (suc (sum (counts c))) 0) o suc ≡ cond g 0 (onSome (suc (sum (counts c))) o suc)
+        go true o b h k = h refl
+        go false none true h k = refl
+        go false none false h k = no-true (k refl)
+        go false (some n) b h k = refl
 
 -- for two accepted sheets
 pub eleven-names : (p c : List ℕ) → Accepted partial p → Accepted complete c → Named (read partial p .state) (read complete c .state) (breakingLine (read partial p .state) (read complete c .state))

@@ -11,13 +11,14 @@ use lib.ListN.{length, getD, length-append}
 use Rattle.cedar.proofs.Tools.{no-some, no-true, eqb-true, and-both, both, neither}
 use Rattle.cedar.specs.Value.{onSome}
 use Rattle.sheet.specs.Bytes.{same}
-use Rattle.sheet.specs.Forms.{Mode, partial, complete, at, TEXT, KIND, TYPE, SHAPE, VALUE, ENTITY, PRINCIPAL, ACTION, RESOURCE, CONTEXT, DAY, NODE, POLICY, LINK, TERM}
+use Rattle.sheet.specs.Forms.{Mode, partial, complete, at, TEXT, KIND, TYPE, SHAPE, VALUE, ENTITY, PRINCIPAL, ACTION, RESOURCE, CONTEXT, DAY, NODE, POLICY, LINK, TERM, noKey}
 use Rattle.sheet.specs.State.{State, linesOf, lineAt, count, counts, before, sum}
 use Rattle.sheet.specs.Sheet.{found, above, allThere, ascend}
 use Rattle.sheet.specs.Forms as F
 use Rattle.sheet.specs.Parents.{lineFor}
 use Rattle.sheet.specs.Agreement.{begins, sameLines, requestSame, entitySame, listed, allListed, agrees}
-use Rattle.finished.specs.Finish.{beginBreak, sameBreak, entityBreak, requestBreak, firstSome, breaks, shorter, unlistedIn, anyOf, lacking, lacks, breakingLine}
+use Rattle.finished.specs.Finish.{breakFrom, breakingLine}
+use Rattle.finished.specs.ByKey.{beginBreak, sameBreak, entityBreak, requestBreak, firstSome, breaks, shorter, unlistedIn, anyOf, lacking, lacks, passedLine}
 use Rattle.finished.specs.Rising.{Rising}
 use Rattle.sheet.proofs.reading.Lines.{History}
 use Rattle.sheet.proofs.demand3.TwoSheets.{common}
@@ -203,8 +204,8 @@ no-short : (p c : List (List ℕ)) → length p ≤ length c → shorter p c ≡
 no-short p c h = le-ltb (length c) (length p) h
 
 -- no line: none breaks agreement, and none is lacking
-no-line : (p c : State) → breakingLine p c ≡ 0 → (firstSome (breaks p c) ≡ none) × (lacks p c ≡ false)
-unfolding breakingLine
+no-line : (p c : State) → passedLine p c ≡ 0 → (firstSome (breaks p c) ≡ none) × (lacks p c ≡ false)
+unfolding passedLine
 no-line p c e = go (firstSome (breaks p c)) (lacks p c) e
   where
     go : (o : Option ℕ) (b : Bool) → onSome (cond b (suc (sum (counts c))) 0) o suc ≡ 0 → (o ≡ none) × (b ≡ false)
@@ -221,9 +222,9 @@ lines-are {p} e = subst (λ z. sameLines p z ≡ true) e (lines-refl p)
 
 module _ (p c : State) (hp : History partial p) (hc : History complete c) where
   -- no line breaks agreement and none is lacking: they agree
-  pub no-break-agrees : breakingLine p c ≡ 0 → agrees p c ≡ true
+  pub passed-agrees : passedLine p c ≡ 0 → agrees p c ≡ true
   unfolding agrees
-  no-break-agrees e =
+  passed-agrees e =
       let (f, l) = no-line p c e in
       let b = all-none (breaks p c) f in
       let g = all-false (lacking p c) l in
@@ -245,9 +246,9 @@ module _ (p c : State) (hp : History partial p) (hc : History complete c) where
       (entities-none (linesOf p ENTITY) (linesOf c ENTITY) (rising partial p hp) (entity-none (linesOf p ENTITY) (linesOf c ENTITY) (before c ENTITY) (b .1 .1 .1 .1 .1 .0)) (linesOf p ENTITY) (λ r i. i) (g .1 .1 .1 .1 .1 .0))
 
   -- they agree: no line breaks agreement, and none is lacking
-  pub agrees-no-break : agrees p c ≡ true → breakingLine p c ≡ 0
-  unfolding breakingLine
-  agrees-no-break e =
+  pub agrees-passed : agrees p c ≡ true → passedLine p c ≡ 0
+  unfolding passedLine
+  agrees-passed e =
       let k = common p c e in
       let (b1, l1) = none-begin (linesOf p TEXT) (linesOf c TEXT) (before c TEXT) (k .texts) in
       let (b2, l2) = none-same (linesOf p KIND) (linesOf c KIND) (before c KIND) (lines-are (k .kinds)) in
@@ -302,3 +303,21 @@ module _ (p c : State) (hp : History partial p) (hc : History complete c) where
         ),
       ) in
       ap₂ (λ o b. onSome (cond b (suc (sum (counts c))) 0) o suc) f g
+
+  -- where they agree no line breaks agreement
+  pub agrees-none : agrees p c ≡ true → firstSome (breaks p c) ≡ none
+  agrees-none e = no-line p c (agrees-passed e) .0
+
+-- the line is 0 exactly where they agree
+pub no-break-agrees : (p c : State) → breakingLine p c ≡ 0 → agrees p c ≡ true
+unfolding breakingLine
+no-break-agrees p c e = go (agrees p c) (breakFrom p c TEXT (noKey - TEXT)) e
+  where
+    go : (b : Bool) (o : Option ℕ) → cond b 0 (onSome (suc (sum (counts c))) o suc) ≡ 0 → b ≡ true
+    go true o e = refl
+    go false none e = absurd (omega (arith, e))
+    go false (some n) e = absurd (omega (arith, e))
+
+pub agrees-no-break : (p c : State) → agrees p c ≡ true → breakingLine p c ≡ 0
+unfolding breakingLine
+agrees-no-break p c e = rw e refl

@@ -77,7 +77,7 @@ module _ (p c : List ℕ) (ap′ : Accepted partial p) (ac : Accepted complete c
   module _ (ag : agrees P C ≡ true) where
     pub finish-is-complete : (work₁ work₂ out : ℕ) → finishReturned work₁ work₂ out p c ≡ returned complete work₁ work₂ out c
     finish-is-complete work₁ work₂ out = finish-at work₁ work₂ out
-        ∙ ap (λ n. lentThen work₁ work₂ (atLine P C out n)) (agrees-no-break P C (facts partial p ap′ .history) (facts complete c ac .history) ag)
+        ∙ ap (λ n. lentThen work₁ work₂ (atLine P C out n)) (agrees-no-break P C ag)
         ∙ ap (λ b. lentThen work₁ work₂ (fitted out (length b))) (finished-answer p c ap′ ac ag)
         ∙ sym (complete-at work₁ work₂ out)
 
@@ -91,7 +91,7 @@ module _ (p c : List ℕ) (ap′ : Accepted partial p) (ac : Accepted complete c
     finish-eleven = finish-at work₁ work₂ out ∙ ap (λ b. cond b (returns 1 0 0) (atLine P C out (breakingLine P C))) long ∙ go (breakingLine P C) refl
       where
         go : (n : ℕ) → breakingLine P C ≡ n → atLine P C out n ≡ returns 11 n 0
-        go zero e = no-true (sym ag ∙ no-break-agrees P C (facts partial p ap′ .history) (facts complete c ac .history) e)
+        go zero e = no-true (sym ag ∙ no-break-agrees P C e)
         go (suc n) e = refl
 
 -- ---- what an answer means
@@ -122,7 +122,7 @@ finish-accepted work₁ work₂ out p c =
     Means r = r .number ≡ 0 → Finishes p c
 
     go : Accepted partial p → Accepted complete c → (l : ℕ) → breakingLine s t ≡ l → Means (atLine s t out l)
-    go a b zero q e = record { first = a; second = b; agree = no-break-agrees s t (facts partial p a .history) (facts complete c b .history) q }
+    go a b zero q e = record { first = a; second = b; agree = no-break-agrees s t q }
     go a b (suc l) q e = zero-not-suc e
 
 -- ---- the table of numbers: 0 to 8, 10 and 11
@@ -163,6 +163,6 @@ finish-numbers work₁ work₂ out p c =
 
     at-line : Accepted partial p → Accepted complete c → length c ≤ room → read complete c .number ≡ 0 → (l : ℕ) → breakingLine s t ≡ l → Ok (atLine s t out l)
     at-line a b h e zero q =
-        let g = no-break-agrees s t (facts partial p a .history) (facts complete c b .history) q in
+        let g = no-break-agrees s t q in
         fits (length (finishedAnswer s t)) (ltb out (length (finishedAnswer s t))) refl (subst (λ (w : List ℕ). length w ≤ mostAnswer) (sym (finished-answer p c a b g)) (answer-most complete c h e))
     at-line a b h e (suc l) q = record { is-tabled = refl; never-ten = λ k e. omega (arith, e) }

@@ -1,7 +1,7 @@
 -- The theorems on a pair of sheets with every key: a template with two links whose slot has a group of kinds, two terms, a policy off term,
 -- entities with parents, a made value. The complete sheet has a text, values and an entity of its own, and the number of the made value is
 -- that of another value there.
-use mathlib.Core.Path.{_≡_, refl, ap, subst}
+use mathlib.Core.Path.{_≡_, refl, ap, subst, _∙_}
 use mathlib.Core.Bool.{true, false}
 use mathlib.Core.List.{List, [], _∷_, _++_}
 use Prim.Native.Nat.{ℕ, _+_, _-_}
@@ -22,11 +22,12 @@ use Rattle.cedar.specs.Response.{permit, forbid}
 use Rattle.sheet.specs.Agreement.{agrees}
 use Rattle.sheet.proofs.demand3.Demand3Bytes.{facts}
 use Rattle.finished.specs.Finish.{finishedResults, finishedAnswer, finishReturned, finishWritten, breakingLine}
+use Rattle.finished.specs.ByKey.{passedLine}
 use Rattle.finished.specs.Breaks.{Breaks, Named}
 use Rattle.finished.proofs.FinishEqual.{finished-results, finished-answer}
 use Rattle.finished.proofs.FinishAgrees.{no-break-agrees, agrees-no-break}
 use Rattle.finished.proofs.FinishCall.{finish-is-complete, finish-writes-complete, partial-refused, complete-refused, finish-eleven, Finishes, finish-accepted}
-use Rattle.finished.proofs.BreakingLine.{eleven-names}
+use Rattle.finished.proofs.BreakingLine.{passed-is, eleven-names}
 
 -- ---- the lines of two sheets
 
@@ -102,11 +103,11 @@ unfoldable c : List ℕ
 c = sheet told
 
 p-accepted : Accepted partial p
-unfolding p keys forms formOf slotAt counted tagOf rowOf keyOf refs ascendings fitsIn nodesUnder typed found depth fault more read types valueRows contents schema trees exprs onTerm nPolicies policies nEnv env run results answer returned ancestors unknownAbove order same place insert ascending makeSet finishedResults finishedAnswer finishReturned breakingLine
+unfolding p keys forms formOf slotAt counted tagOf rowOf keyOf refs ascendings fitsIn nodesUnder typed found depth fault more read types valueRows contents schema trees exprs onTerm nPolicies policies nEnv env run results answer returned ancestors unknownAbove order same place insert ascending makeSet finishedResults finishedAnswer finishReturned agrees breakingLine
 p-accepted = record { work₁ = 16384; work₂ = 20000; out = 500; zero-number = refl }
 
 c-accepted : Accepted complete c
-unfolding c keys forms formOf slotAt counted tagOf rowOf keyOf refs ascendings fitsIn nodesUnder typed found depth fault more read types valueRows contents schema trees exprs onTerm nPolicies policies nEnv env run results answer returned ancestors unknownAbove order same place insert ascending makeSet finishedResults finishedAnswer finishReturned breakingLine
+unfolding c keys forms formOf slotAt counted tagOf rowOf keyOf refs ascendings fitsIn nodesUnder typed found depth fault more read types valueRows contents schema trees exprs onTerm nPolicies policies nEnv env run results answer returned ancestors unknownAbove order same place insert ascending makeSet finishedResults finishedAnswer finishReturned agrees breakingLine
 c-accepted = record { work₁ = 16384; work₂ = 16384; out = 500; zero-number = refl }
 
 they-agree : agrees (read partial p .state) (read complete c .state) ≡ true
@@ -126,15 +127,18 @@ own-bytes : (work₁ work₂ : ℕ) (buffer : List ℕ) → finishWritten work�
 own-bytes = finish-writes-complete p c p-accepted c-accepted they-agree
 
 none-breaks : breakingLine (read partial p .state) (read complete c .state) ≡ 0
-none-breaks = agrees-no-break (read partial p .state) (read complete c .state) (facts partial p p-accepted .history) (facts complete c c-accepted .history) they-agree
+none-breaks = agrees-no-break (read partial p .state) (read complete c .state) they-agree
+
+none-passed : passedLine (read partial p .state) (read complete c .state) ≡ 0
+none-passed = passed-is (read partial p .state) (read complete c .state) (facts partial p p-accepted) (facts complete c c-accepted) ∙ none-breaks
 
 agree-again : agrees (read partial p .state) (read complete c .state) ≡ true
-agree-again = no-break-agrees (read partial p .state) (read complete c .state) (facts partial p p-accepted .history) (facts complete c c-accepted .history) none-breaks
+agree-again = no-break-agrees (read partial p .state) (read complete c .state) none-breaks
 
 -- ---- what the residuals yield: `principal == b7` and `context.n < 3`
 
 yields : finishedResults (read partial p .state) (read complete c .state) ≡ record { effect = permit; class = ctrue } ∷ record { effect = forbid; class = ctrue } ∷ []
-unfolding p c keys forms formOf slotAt counted tagOf rowOf keyOf refs ascendings fitsIn nodesUnder typed found depth fault more read types valueRows contents schema trees exprs onTerm nPolicies policies nEnv env run results answer returned ancestors unknownAbove order same place insert ascending makeSet finishedResults finishedAnswer finishReturned breakingLine
+unfolding p c keys forms formOf slotAt counted tagOf rowOf keyOf refs ascendings fitsIn nodesUnder typed found depth fault more read types valueRows contents schema trees exprs onTerm nPolicies policies nEnv env run results answer returned ancestors unknownAbove order same place insert ascending makeSet finishedResults finishedAnswer finishReturned agrees breakingLine
 yields = refl
 
 unfoldable says : List ℕ
@@ -142,16 +146,16 @@ says = sheet ("decision=deny" ∷ "counts=1,0,0,0,1,0,0,0" ∷ "why=10" ∷ "pol
 
 -- number 0: the answer stands in the buffer, and what is left of it is as it was
 in-buffer : finishWritten 16384 16384 (replicate 100 33) p c ≡ says ++ replicate 13 33
-unfolding finishWritten says p c keys forms formOf slotAt counted tagOf rowOf keyOf refs ascendings fitsIn nodesUnder typed found depth fault more read types valueRows contents schema trees exprs onTerm nPolicies policies nEnv env run results answer returned ancestors unknownAbove order same place insert ascending makeSet finishedResults finishedAnswer finishReturned breakingLine
+unfolding finishWritten says p c keys forms formOf slotAt counted tagOf rowOf keyOf refs ascendings fitsIn nodesUnder typed found depth fault more read types valueRows contents schema trees exprs onTerm nPolicies policies nEnv env run results answer returned ancestors unknownAbove order same place insert ascending makeSet finishedResults finishedAnswer finishReturned agrees breakingLine
 in-buffer = refl
 
 -- a buffer of the answer's length, and one byte less
 exact : finishReturned 16384 16384 87 p c ≡ returns 0 0 87
-unfolding p c keys forms formOf slotAt counted tagOf rowOf keyOf refs ascendings fitsIn nodesUnder typed found depth fault more read types valueRows contents schema trees exprs onTerm nPolicies policies nEnv env run results answer returned ancestors unknownAbove order same place insert ascending makeSet finishedResults finishedAnswer finishReturned breakingLine
+unfolding p c keys forms formOf slotAt counted tagOf rowOf keyOf refs ascendings fitsIn nodesUnder typed found depth fault more read types valueRows contents schema trees exprs onTerm nPolicies policies nEnv env run results answer returned ancestors unknownAbove order same place insert ascending makeSet finishedResults finishedAnswer finishReturned agrees breakingLine
 exact = refl
 
 one-less : finishReturned 16384 16384 86 p c ≡ returns 10 0 87
-unfolding p c keys forms formOf slotAt counted tagOf rowOf keyOf refs ascendings fitsIn nodesUnder typed found depth fault more read types valueRows contents schema trees exprs onTerm nPolicies policies nEnv env run results answer returned ancestors unknownAbove order same place insert ascending makeSet finishedResults finishedAnswer finishReturned breakingLine
+unfolding p c keys forms formOf slotAt counted tagOf rowOf keyOf refs ascendings fitsIn nodesUnder typed found depth fault more read types valueRows contents schema trees exprs onTerm nPolicies policies nEnv env run results answer returned ancestors unknownAbove order same place insert ascending makeSet finishedResults finishedAnswer finishReturned agrees breakingLine
 one-less = refl
 
 finishes : Finishes p c
@@ -163,11 +167,11 @@ unfoldable cut : List String → List ℕ
 cut ls = sheet (take 30 ls)
 
 partial-cut : (c : List ℕ) → finishReturned 16384 16384 0 (cut asked) c ≡ returned partial 16384 16384 0 (cut asked)
-unfolding cut keys forms formOf slotAt counted tagOf rowOf keyOf refs ascendings fitsIn nodesUnder typed found depth fault more read types valueRows contents schema trees exprs onTerm nPolicies policies nEnv env run results answer returned ancestors unknownAbove order same place insert ascending makeSet finishedResults finishedAnswer finishReturned breakingLine
+unfolding cut keys forms formOf slotAt counted tagOf rowOf keyOf refs ascendings fitsIn nodesUnder typed found depth fault more read types valueRows contents schema trees exprs onTerm nPolicies policies nEnv env run results answer returned ancestors unknownAbove order same place insert ascending makeSet finishedResults finishedAnswer finishReturned agrees breakingLine
 partial-cut c = partial-refused 16384 16384 0 (cut asked) c 2 (omega arith) refl
 
 complete-cut : finishReturned 16384 16384 0 p (cut told) ≡ returned complete 16384 16384 0 (cut told)
-unfolding cut keys forms formOf slotAt counted tagOf rowOf keyOf refs ascendings fitsIn nodesUnder typed found depth fault more read types valueRows contents schema trees exprs onTerm nPolicies policies nEnv env run results answer returned ancestors unknownAbove order same place insert ascending makeSet finishedResults finishedAnswer finishReturned breakingLine
+unfolding cut keys forms formOf slotAt counted tagOf rowOf keyOf refs ascendings fitsIn nodesUnder typed found depth fault more read types valueRows contents schema trees exprs onTerm nPolicies policies nEnv env run results answer returned ancestors unknownAbove order same place insert ascending makeSet finishedResults finishedAnswer finishReturned agrees breakingLine
 complete-cut = complete-refused 16384 16384 0 p (cut told) 2 (omega arith) p-accepted refl
 
 -- ---- another context: 9 for -7
@@ -176,7 +180,7 @@ unfoldable high : List ℕ
 high = sheet (changed (put 34 "value=long,9" ∷ []) told)
 
 high-yields : finishWritten 16384 16384 (replicate 88 0) p high ≡ sheet ("decision=allow" ∷ "counts=1,0,0,0,0,1,0,0" ∷ "why=5" ∷ "policy=5,permit,true" ∷ "policy=10,forbid,false" ∷ [])
-unfolding finishWritten p high keys forms formOf slotAt counted tagOf rowOf keyOf refs ascendings fitsIn nodesUnder typed found depth fault more read types valueRows contents schema trees exprs onTerm nPolicies policies nEnv env run results answer returned ancestors unknownAbove order same place insert ascending makeSet finishedResults finishedAnswer finishReturned breakingLine
+unfolding finishWritten p high keys forms formOf slotAt counted tagOf rowOf keyOf refs ascendings fitsIn nodesUnder typed found depth fault more read types valueRows contents schema trees exprs onTerm nPolicies policies nEnv env run results answer returned ancestors unknownAbove order same place insert ascending makeSet finishedResults finishedAnswer finishReturned agrees breakingLine
 high-yields = refl
 
 -- ---- two lines break: an entity's parents differ, and the day does
@@ -185,7 +189,7 @@ unfoldable twice : List ℕ
 twice = sheet (changed (put 44 "day=2024-02-28" ∷ put 37 "entity=0,8,4,5" ∷ []) told)
 
 twice-accepted : Accepted complete twice
-unfolding twice keys forms formOf slotAt counted tagOf rowOf keyOf refs ascendings fitsIn nodesUnder typed found depth fault more read types valueRows contents schema trees exprs onTerm nPolicies policies nEnv env run results answer returned ancestors unknownAbove order same place insert ascending makeSet finishedResults finishedAnswer finishReturned breakingLine
+unfolding twice keys forms formOf slotAt counted tagOf rowOf keyOf refs ascendings fitsIn nodesUnder typed found depth fault more read types valueRows contents schema trees exprs onTerm nPolicies policies nEnv env run results answer returned ancestors unknownAbove order same place insert ascending makeSet finishedResults finishedAnswer finishReturned agrees breakingLine
 twice-accepted = record { work₁ = 16384; work₂ = 16384; out = 500; zero-number = refl }
 
 do-not-agree : agrees (read partial p .state) (read complete twice .state) ≡ false
@@ -196,7 +200,7 @@ eleven : finishReturned 16384 20000 0 p twice ≡ returns 11 (breakingLine (read
 eleven = finish-eleven p twice p-accepted twice-accepted do-not-agree 16384 20000 0 refl
 
 first-line : breakingLine (read partial p .state) (read complete twice .state) ≡ 37
-unfolding p twice keys forms formOf slotAt counted tagOf rowOf keyOf refs ascendings fitsIn nodesUnder typed found depth fault more read types valueRows contents schema trees exprs onTerm nPolicies policies nEnv env run results answer returned ancestors unknownAbove order same place insert ascending makeSet finishedResults finishedAnswer finishReturned breakingLine
+unfolding p twice keys forms formOf slotAt counted tagOf rowOf keyOf refs ascendings fitsIn nodesUnder typed found depth fault more read types valueRows contents schema trees exprs onTerm nPolicies policies nEnv env run results answer returned ancestors unknownAbove order same place insert ascending makeSet finishedResults finishedAnswer finishReturned agrees breakingLine
 first-line = refl
 
 is-named : Named (read partial p .state) (read complete twice .state) 37
@@ -204,9 +208,9 @@ is-named = subst (Named (read partial p .state) (read complete twice .state)) fi
 
 -- both do
 day-breaks : Breaks (read partial p .state) (read complete twice .state) 44
-unfolding p twice keys forms formOf slotAt counted tagOf rowOf keyOf refs ascendings fitsIn nodesUnder typed found depth fault more read types valueRows contents schema trees exprs onTerm nPolicies policies nEnv env run results answer returned ancestors unknownAbove order same place insert ascending makeSet finishedResults finishedAnswer finishReturned breakingLine
+unfolding p twice keys forms formOf slotAt counted tagOf rowOf keyOf refs ascendings fitsIn nodesUnder typed found depth fault more read types valueRows contents schema trees exprs onTerm nPolicies policies nEnv env run results answer returned ancestors unknownAbove order same place insert ascending makeSet finishedResults finishedAnswer finishReturned agrees breakingLine
 day-breaks = record { key = DAY; place = 0; later = omega arith; is-key = omega arith; there = omega arith; line-is = refl; breaks = refl }
 
 entity-breaks : Breaks (read partial p .state) (read complete twice .state) 37
-unfolding p twice keys forms formOf slotAt counted tagOf rowOf keyOf refs ascendings fitsIn nodesUnder typed found depth fault more read types valueRows contents schema trees exprs onTerm nPolicies policies nEnv env run results answer returned ancestors unknownAbove order same place insert ascending makeSet finishedResults finishedAnswer finishReturned breakingLine
+unfolding p twice keys forms formOf slotAt counted tagOf rowOf keyOf refs ascendings fitsIn nodesUnder typed found depth fault more read types valueRows contents schema trees exprs onTerm nPolicies policies nEnv env run results answer returned ancestors unknownAbove order same place insert ascending makeSet finishedResults finishedAnswer finishReturned agrees breakingLine
 entity-breaks = record { key = ENTITY; place = 0; later = omega arith; is-key = omega arith; there = omega arith; line-is = refl; breaks = refl }

@@ -11,6 +11,7 @@ use Rattle.sheet.specs.Content.{types, valueRows, contents, schema, trees, expr
 use Rattle.sheet.specs.Answer.{run, results, answer}
 use Rattle.sheet.specs.Call.{Returned, returns, returned}
 use Rattle.cedar.specs.Canonical.{order, same, place, insert, ascending, makeSet}
+use Rattle.sheet.specs.Agreement.{agrees}
 use Rattle.finished.specs.Finish.{finishedResults, finishedAnswer, finishReturned, breakingLine}
 use Rattle.finished.proofs.FinishExample.{asked, told, Change, changed, put, add, leave, sheet}
 
@@ -47,7 +48,7 @@ differing =
     ∷ []
 
 differing-lines : lines differing ≡ named differing
-unfolding differing keys forms formOf slotAt counted tagOf rowOf keyOf refs ascendings fitsIn nodesUnder typed found depth fault more read types valueRows contents schema trees exprs onTerm nPolicies policies nEnv env run results answer returned ancestors unknownAbove order same place insert ascending makeSet finishedResults finishedAnswer finishReturned breakingLine
+unfolding differing keys forms formOf slotAt counted tagOf rowOf keyOf refs ascendings fitsIn nodesUnder typed found depth fault more read types valueRows contents schema trees exprs onTerm nPolicies policies nEnv env run results answer returned ancestors unknownAbove order same place insert ascending makeSet finishedResults finishedAnswer finishReturned agrees breakingLine
 differing-lines = refl
 
 -- a known part of the request or of an entity differs: kind, text, type or value, attributes, tags, parents
@@ -64,7 +65,7 @@ parts =
     ∷ []
 
 parts-lines : lines parts ≡ named parts
-unfolding parts keys forms formOf slotAt counted tagOf rowOf keyOf refs ascendings fitsIn nodesUnder typed found depth fault more read types valueRows contents schema trees exprs onTerm nPolicies policies nEnv env run results answer returned ancestors unknownAbove order same place insert ascending makeSet finishedResults finishedAnswer finishReturned breakingLine
+unfolding parts keys forms formOf slotAt counted tagOf rowOf keyOf refs ascendings fitsIn nodesUnder typed found depth fault more read types valueRows contents schema trees exprs onTerm nPolicies policies nEnv env run results answer returned ancestors unknownAbove order same place insert ascending makeSet finishedResults finishedAnswer finishReturned agrees breakingLine
 parts-lines = refl
 
 -- a line is added to a key that must be the same
@@ -79,7 +80,7 @@ adding =
     ∷ []
 
 adding-lines : lines adding ≡ named adding
-unfolding adding keys forms formOf slotAt counted tagOf rowOf keyOf refs ascendings fitsIn nodesUnder typed found depth fault more read types valueRows contents schema trees exprs onTerm nPolicies policies nEnv env run results answer returned ancestors unknownAbove order same place insert ascending makeSet finishedResults finishedAnswer finishReturned breakingLine
+unfolding adding keys forms formOf slotAt counted tagOf rowOf keyOf refs ascendings fitsIn nodesUnder typed found depth fault more read types valueRows contents schema trees exprs onTerm nPolicies policies nEnv env run results answer returned ancestors unknownAbove order same place insert ascending makeSet finishedResults finishedAnswer finishReturned agrees breakingLine
 adding-lines = refl
 
 -- none breaks and one is lacking: the line after the last
@@ -97,7 +98,7 @@ lacking =
     ∷ []
 
 lacking-lines : lines lacking ≡ named lacking
-unfolding lacking keys forms formOf slotAt counted tagOf rowOf keyOf refs ascendings fitsIn nodesUnder typed found depth fault more read types valueRows contents schema trees exprs onTerm nPolicies policies nEnv env run results answer returned ancestors unknownAbove order same place insert ascending makeSet finishedResults finishedAnswer finishReturned breakingLine
+unfolding lacking keys forms formOf slotAt counted tagOf rowOf keyOf refs ascendings fitsIn nodesUnder typed found depth fault more read types valueRows contents schema trees exprs onTerm nPolicies policies nEnv env run results answer returned ancestors unknownAbove order same place insert ascending makeSet finishedResults finishedAnswer finishReturned agrees breakingLine
 lacking-lines = refl
 
 -- of several the first: within a key, across keys, before one that is lacking
@@ -111,5 +112,5 @@ several =
     ∷ []
 
 several-lines : lines several ≡ named several
-unfolding several keys forms formOf slotAt counted tagOf rowOf keyOf refs ascendings fitsIn nodesUnder typed found depth fault more read types valueRows contents schema trees exprs onTerm nPolicies policies nEnv env run results answer returned ancestors unknownAbove order same place insert ascending makeSet finishedResults finishedAnswer finishReturned breakingLine
+unfolding several keys forms formOf slotAt counted tagOf rowOf keyOf refs ascendings fitsIn nodesUnder typed found depth fault more read types valueRows contents schema trees exprs onTerm nPolicies policies nEnv env run results answer returned ancestors unknownAbove order same place insert ascending makeSet finishedResults finishedAnswer finishReturned agrees breakingLine
 several-lines = refl

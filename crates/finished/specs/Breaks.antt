@@ -13,8 +13,7 @@ use Rattle.sheet.specs.Bytes.{same}
 use Rattle.sheet.specs.Forms.{at, TEXT, KIND, TYPE, SHAPE, ENTITY, PRINCIPAL, ACTION, RESOURCE, CONTEXT, DAY, NODE, POLICY, LINK, TERM, noKey}
 use Rattle.sheet.specs.State.{State, linesOf, lineAt, count, counts, before, sum}
 use Rattle.sheet.specs.Parents.{lineFor}
-use Rattle.sheet.specs.Agreement.{requestSame, entitySame}
-use Rattle.finished.specs.Finish.{lacks}
+use Rattle.sheet.specs.Agreement.{requestSame, entitySame, agrees}
 
 -- "a key that must be the same"
 abbrev pub mustBeSame : ℕ → Bool
@@ -42,8 +41,8 @@ pub record Breaks (p c : State) (l : ℕ) : Type 0 where
   pub line-is : l ≡ suc (before c key + place)
   pub breaks : breaksAt p c key place ≡ true
 
--- "the first line of the complete sheet that breaks agreement (the line after its last if none does and one is lacking)"; 0 where none is to be named
+-- "the first line of the complete sheet that breaks agreement (the line after its last if none does and one is lacking)"; 0 where they agree
 pub data Named (p c : State) : ℕ → Type 0 where
   the-first : {l : ℕ} → Breaks p c l → ((k : ℕ) → k < l → Breaks p c k → ⊥) → Named p c l
-  after-last : ((k : ℕ) → Breaks p c k → ⊥) → lacks p c ≡ true → Named p c (suc (sum (counts c)))
-  no-line : ((k : ℕ) → Breaks p c k → ⊥) → lacks p c ≡ false → Named p c 0
+  after-last : ((k : ℕ) → Breaks p c k → ⊥) → agrees p c ≡ false → Named p c (suc (sum (counts c)))
+  no-line : ((k : ℕ) → Breaks p c k → ⊥) → agrees p c ≡ true → Named p c 0

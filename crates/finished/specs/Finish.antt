@@ -1,112 +1,43 @@
 -- Document 02, 2.1, "Finish an application": a partial and a complete sheet, and the answer that the residuals of the one give on the other.
-use mathlib.Core.Bool.{Bool, true, false, cond, _||_}
+use mathlib.Core.Bool.{Bool, false, cond}
 use mathlib.Core.Option.{Option, none, some}
 use mathlib.Core.List.{List, [], _∷_}
-use Prim.Native.Nat.{ℕ, zero, suc}
-use lib.Dec.{ltb}
+use Prim.Native.Nat.{ℕ, zero, suc, _+_, _-_}
 use lib.ListN.{length, getD, drop}
 use Rattle.cedar.specs.Value.{Value, vbool, onSome}
 use Rattle.cedar.specs.Residual.{Expr}
 use Rattle.cedar.specs.Evaluate.{eval}
 use Rattle.cedar.specs.Response.{Verdict}
 use Rattle.cedar.specs.Runs.{NVerdict, resultClass}
-use Rattle.sheet.specs.Bytes.{same}
-use Rattle.sheet.specs.Forms.{partial, complete, at, TEXT, KIND, TYPE, SHAPE, VALUE, ENTITY, PRINCIPAL, ACTION, RESOURCE, CONTEXT, DAY, NODE, POLICY, LINK, TERM}
-use Rattle.sheet.specs.State.{State, linesOf, lineAt, count, counts, before, sum}
+use Rattle.sheet.specs.Forms.{partial, complete, TEXT, VALUE, noKey}
+use Rattle.sheet.specs.State.{State, count, counts, before, sum}
 use Rattle.sheet.specs.Sheet.{read}
 use Rattle.sheet.specs.Content.{valuesFrom, contents, schema, env}
 use Rattle.sheet.specs.Literals.{valued}
 use Rattle.sheet.specs.Answer.{run, completeOf}
-use Rattle.sheet.specs.Parents.{lineFor}
-use Rattle.sheet.specs.Agreement.{requestSame, entitySame}
+use Rattle.sheet.specs.Agreement.{agrees}
 use Rattle.sheet.specs.Call.{Returned, returns, lentThen, checkedThen, fitted, outputs}
+use Rattle.finished.specs.Breaks.{breaksAt}
 
--- ---- "A line after the first breaks agreement if a known part differs from the partial line of its key and place (an entity line: of its
--- entity), or if it is an added line of a key that must be the same."
+-- ---- the line of number 11
 
--- For each key: the partial sheet's lines, the complete sheet's, and how many lines of the complete sheet stand before the latter; how many
--- stand before the first that breaks agreement.
+-- the least number below n that passes
+abbrev pub leastBelow : (ℕ → Bool) → ℕ → Option ℕ
+leastBelow f zero = none
+leastBelow f (suc n) = onSome (cond (f n) (some n) none) (leastBelow f n) some
 
--- texts and values: lines may be added
-abbrev pub beginBreak : List (List ℕ) → List (List ℕ) → ℕ → Option ℕ
-beginBreak [] c l = none
-beginBreak (r ∷ p) [] l = none
-beginBreak (r ∷ p) (q ∷ c) l = cond (same r q) (beginBreak p c (suc l)) (some l)
+-- how many lines of the complete sheet stand before the first of key k that breaks agreement
+abbrev pub breakIn : State → State → ℕ → Option ℕ
+breakIn p c k = onSome none (leastBelow (breaksAt p c k) (count c k)) (λ i. some (before c k + i))
 
--- kinds, types, shapes, the day, nodes, policies, links, terms: they must be the same
-abbrev pub sameBreak : List (List ℕ) → List (List ℕ) → ℕ → Option ℕ
-sameBreak [] [] l = none
-sameBreak [] (q ∷ c) l = some l
-sameBreak (r ∷ p) [] l = none
-sameBreak (r ∷ p) (q ∷ c) l = cond (same r q) (sameBreak p c (suc l)) (some l)
+-- of n keys from k on
+abbrev pub breakFrom : State → State → ℕ → ℕ → Option ℕ
+breakFrom p c k zero = none
+breakFrom p c k (suc n) = onSome (breakFrom p c (suc k) n) (breakIn p c k) some
 
--- an entity that the partial sheet does not list breaks nothing
-abbrev pub entityBreak : List (List ℕ) → List (List ℕ) → ℕ → Option ℕ
-entityBreak p [] l = none
-entityBreak p (q ∷ c) l = cond (onSome true (lineFor (at q 0) p) (λ r. entitySame r q)) (entityBreak p c (suc l)) (some l)
-
--- the one line of principal, action, resource or context
-abbrev pub requestBreak : List ℕ → List ℕ → ℕ → Option ℕ
-requestBreak p c l = cond (requestSame p c) none (some l)
-
-abbrev pub firstSome : List (Option ℕ) → Option ℕ
-firstSome [] = none
-firstSome (none ∷ l) = firstSome l
-firstSome (some n ∷ l) = some n
-
-abbrev pub breaks : State → State → List (Option ℕ)
-breaks p c =
-    beginBreak (linesOf p TEXT) (linesOf c TEXT) (before c TEXT)
-    ∷ sameBreak (linesOf p KIND) (linesOf c KIND) (before c KIND)
-    ∷ sameBreak (linesOf p TYPE) (linesOf c TYPE) (before c TYPE)
-    ∷ sameBreak (linesOf p SHAPE) (linesOf c SHAPE) (before c SHAPE)
-    ∷ beginBreak (linesOf p VALUE) (linesOf c VALUE) (before c VALUE)
-    ∷ entityBreak (linesOf p ENTITY) (linesOf c ENTITY) (before c ENTITY)
-    ∷ requestBreak (lineAt p PRINCIPAL 0) (lineAt c PRINCIPAL 0) (before c PRINCIPAL)
-    ∷ requestBreak (lineAt p ACTION 0) (lineAt c ACTION 0) (before c ACTION)
-    ∷ requestBreak (lineAt p RESOURCE 0) (lineAt c RESOURCE 0) (before c RESOURCE)
-    ∷ requestBreak (lineAt p CONTEXT 0) (lineAt c CONTEXT 0) (before c CONTEXT)
-    ∷ sameBreak (linesOf p DAY) (linesOf c DAY) (before c DAY)
-    ∷ sameBreak (linesOf p NODE) (linesOf c NODE) (before c NODE)
-    ∷ sameBreak (linesOf p POLICY) (linesOf c POLICY) (before c POLICY)
-    ∷ sameBreak (linesOf p LINK) (linesOf c LINK) (before c LINK)
-    ∷ sameBreak (linesOf p TERM) (linesOf c TERM) (before c TERM)
-    ∷ []
-
--- ---- "one is lacking": a line of a key that the complete sheet must have too, or an entity that it must list
-
-abbrev pub shorter : List (List ℕ) → List (List ℕ) → Bool
-shorter p c = ltb (length c) (length p)
-
-abbrev pub unlistedIn : List (List ℕ) → List (List ℕ) → Bool
-unlistedIn [] c = false
-unlistedIn (r ∷ p) c = onSome true (lineFor (at r 0) c) (λ q. false) || unlistedIn p c
-
-abbrev pub anyOf : List Bool → Bool
-anyOf [] = false
-anyOf (b ∷ l) = b || anyOf l
-
-abbrev pub lacking : State → State → List Bool
-lacking p c =
-    shorter (linesOf p TEXT) (linesOf c TEXT)
-    ∷ shorter (linesOf p KIND) (linesOf c KIND)
-    ∷ shorter (linesOf p TYPE) (linesOf c TYPE)
-    ∷ shorter (linesOf p SHAPE) (linesOf c SHAPE)
-    ∷ shorter (linesOf p VALUE) (linesOf c VALUE)
-    ∷ unlistedIn (linesOf p ENTITY) (linesOf c ENTITY)
-    ∷ shorter (linesOf p DAY) (linesOf c DAY)
-    ∷ shorter (linesOf p NODE) (linesOf c NODE)
-    ∷ shorter (linesOf p POLICY) (linesOf c POLICY)
-    ∷ shorter (linesOf p LINK) (linesOf c LINK)
-    ∷ shorter (linesOf p TERM) (linesOf c TERM)
-    ∷ []
-
-abbrev pub lacks : State → State → Bool
-lacks p c = anyOf (lacking p c)
-
--- "the first line of the complete sheet that breaks agreement (the line after its last if none does and one is lacking)"; 0 where they agree
+-- "the first line of the complete sheet that breaks agreement (the line after its last if none does and one is lacking)"; 0 where they agree. No line of the first key is asked
 unfoldable pub breakingLine : State → State → ℕ
-breakingLine p c = onSome (cond (lacks p c) (suc (sum (counts c))) 0) (firstSome (breaks p c)) suc
+breakingLine p c = cond (agrees p c) 0 (onSome (suc (sum (counts c))) (breakFrom p c TEXT (noKey - TEXT)) suc)
 
 -- ---- "its decision, counts and policy lines from what the residuals yield"
 
