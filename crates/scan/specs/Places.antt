@@ -3,8 +3,9 @@ use mathlib.Core.Bool.{Bool, true, cond, _&&_}
 use mathlib.Core.Option.{Option, none, some}
 use mathlib.Core.List.{List, [], _∷_}
 use mathlib.Core.Path.{_≡_}
-use Prim.Native.Nat.{ℕ, suc, _+_, _≤_, _<_, min}
+use Prim.Native.Nat.{ℕ, suc, _+_, _/_, _≤_, _<_, min}
 use lib.Dec.{ltb, leb}
+use lib.Count.{trailingZeros}
 use lib.ListN.{length, take, drop}
 use Rattle.words.specs.Log.{part}
 use Rattle.sheet.specs.Bytes.{upTo, split, printable, index}
@@ -43,6 +44,12 @@ isPrintable x = leb 32 x && leb x 126
 abbrev pub plainTo : List ℕ → ℕ
 plainTo [] = 0
 plainTo (x ∷ l) = cond (isPrintable x) (suc (plainTo l)) 0
+
+-- marks of eight bytes: 0 where all are printable, else as many eights of zeros as bytes before the first that is not
+pub record Marked (l : List ℕ) (m : ℕ) : Type 0 where
+  pub none : m ≡ 0 → plainTo l ≡ 8
+  pub some : (m ≡ 0 → ⊥) → plainTo l < 8
+  pub before : trailingZeros 64 m / 8 ≡ plainTo l
 
 -- the next line's number, counted up to 2^64 - 1
 abbrev pub lineAfter : ℕ → ℕ

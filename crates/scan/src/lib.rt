@@ -65,10 +65,17 @@ ghost use Rattle.words.specs.Log.{part};
 ghost use Rattle.sheet.specs.Bytes.{upTo, split, same, printable, digitsFrom, decimal, atMost, index, half, upward, downward, long};
 ghost use Rattle.sheet.specs.Forms.{keys, wordNumber, tagOf, TYPE, VALUE, NODE};
 ghost use Rattle.scan.specs.Numbers.{numberOf, placed, formAfter, Packed, WordRead};
-ghost use Rattle.scan.specs.Places.{isPrintable, plainTo, lineAfter, HeadingRead, LineRead, LeadingRead, ItemRead, NumberRead};
+ghost use Rattle.scan.specs.Places.{isPrintable, plainTo, Marked, lineAfter, HeadingRead, LineRead, LeadingRead, ItemRead, NumberRead};
 
 // 2^63, which a long is held above.
 const HALF: u64 = 9223372036854775808;
+
+// Eight bytes as one number: 1 and 128 in each, and what takes 32 from each.
+const EACH_1: u64 = 0x0101_0101_0101_0101;
+
+const EACH_128: u64 = 0x8080_8080_8080_8080;
+
+const LESS_32: u64 = 0xdfdf_dfdf_dfdf_dfe0;
 
 // The first forms of types, of values and of nodes, and what stands for a form that there is not.
 const FIRST_TYPE: u64 = BOOL_TYPE as u64;
@@ -660,25 +667,29 @@ fn printable_to(bytes: &[u8], i: usize) -> usize
     i
 }
 
-// Where the first byte that is not printable stands, or the end: four bytes at a step, then one.
+// Marks of the eight bytes from byte `i` on, which stand as one number, the first the lowest: as many eights of zeros as bytes before the first that
+// is not printable. The highest bit of a byte says so: it is set in the sum with 224, which is 32 less, under 32, and in that with 1 from 127 on.
+fn marks(bytes: &[u8], i: usize) -> u64
+    requires { ⌜ i + 8 ≤ length (now bytes) ⌝ }
+    ensures { λ m. ⌜ Marked (take 8 (drop i (now (bytes .entry)))) m ⌝ }
+{
+    let word = four(bytes, i) + 0x1_0000_0000 * four(bytes, i + 4);
+    let low = std::num::wrapping_add_u64(word, LESS_32);
+    let high = std::num::wrapping_add_u64(word, EACH_1);
+    (low | high | word) & EACH_128
+}
+
+// Where the first byte that is not printable stands, or the end: eight bytes at a step, then one.
 fn printable_end(bytes: &[u8]) -> usize
     ensures { λ r. ⌜ r ≡ plainTo (now (bytes .entry)) ⌝ }
 {
     let mut i = 0;
-    while 4 <= bytes.len() - i {
-        if !plain(bytes[i]) {
-            return i;
+    while 8 <= bytes.len() - i {
+        let m = marks(bytes, i);
+        if m != 0 {
+            return i + (u64::trailing_zeros(m) / 8) as usize;
         }
-        if !plain(bytes[i + 1]) {
-            return i + 1;
-        }
-        if !plain(bytes[i + 2]) {
-            return i + 2;
-        }
-        if !plain(bytes[i + 3]) {
-            return i + 3;
-        }
-        i += 4;
+        i += 8;
     }
     printable_to(bytes, i)
 }
