@@ -6,6 +6,8 @@ use crate::chains::find_chained;
 use crate::chains::index;
 use crate::entries::entry_rising;
 use crate::entries::rises;
+use crate::firsts::CELLS;
+use crate::firsts::column_of;
 use crate::firsts::firsts;
 use forms::ENTITY;
 use forms::MARK;
@@ -33,7 +35,6 @@ use words::put;
 use words::read;
 ghost use mathlib.Core.Path.{_≡_};
 ghost use Prim.Native.Nat.{_+_, _≤_, _<_};
-ghost use lib.Dec.{eqb};
 ghost use lib.ListN.{getD, length, drop};
 ghost use Rattle.words.specs.Log.{part};
 ghost use Rattle.sheet.specs.Forms.{ENTITY};
@@ -43,7 +44,7 @@ ghost use Rattle.reach.specs.Marks.{FAR};
 ghost use Rattle.strict.specs.Gives.{outOf, values, valueIn};
 ghost use Rattle.strict.specs.Lookups.{ATTRIBUTES, TAGS, HALF, HALVINGS, textThere, isEntityAt, lineAt, lineIn, nearer, ledFrom, isLine, lineBy, partOf, partOfLine, partIn, partBy, lookRow, lookIn, lookBy, takenOf, presentOf, getOut, hasOut, tagLook, gettagOut, hastagOut, isRentAt, inUnknownOut, Unknowns, Above, inLineOut, inUnlistedOut, inListOut, inOut, walkFrom};
 ghost use Rattle.strict.specs.Chains.{Chained};
-ghost use Rattle.strict.specs.Firsts.{Firsts};
+ghost use Rattle.strict.specs.Firsts.{Firsts, Hits};
 ghost use Rattle.strict.specs.Noted.{Spans, Noted, Placed, Looked};
 
 // Where an entity's attributes and tags stand in its line.
@@ -677,18 +678,21 @@ fn walk_on(rows: &[u32], complete: bool, value: u32, first: usize, path: &[u32])
     )
 }
 
-// Whether the attribute noted for `value` has this text.
-fn leads(texts: &[u32], value: u32, text: u32) -> bool
-    ensures { λ b. ⌜ b ≡ eqb (getD (now (texts .entry)) value 0) (text + 1) ⌝ }
+// A word of the cell of `value` in a column.
+fn cell_at(words: &[u32], column: usize, value: u32) -> u32
+    ensures { λ x. ⌜ x ≡ getD (now (words .entry)) (column + value) 0 ⌝ }
 {
-    read(texts, value as usize) as usize == text as usize + 1
+    read(cut(words, column, words.len()), value as usize)
 }
 
-// The value that it leads to.
-fn led_to(nexts: &[u32], value: u32) -> u32
-    ensures { λ x. ⌜ x ≡ getD (now (nexts .entry)) value 0 ⌝ }
+// Whether the attribute noted in the cell of `value` in a column is the value's own of this text.
+fn leads(owners: &[u32], texts: &[u32], column: usize, value: u32, text: u32) -> bool
+    ensures { λ b. ⌜ Hits (now (owners .entry)) (now (texts .entry)) column value text b ⌝ }
 {
-    read(nexts, value as usize)
+    if cell_at(texts, column, value) as usize != text as usize + 1 {
+        return false;
+    }
+    cell_at(owners, column, value) == value
 }
 
 // A path of texts from value `value` on, by the attributes noted as far as they lead.
@@ -697,10 +701,11 @@ fn walk_firsts(
     complete: bool,
     value: u32,
     path: &[u32],
+    owners: &[u32],
     texts: &[u32],
     nexts: &[u32],
 ) -> Walked
-    requires { ⌜ Firsts (now rows) (now texts) (now nexts) ⌝ }
+    requires { ⌜ Firsts (now rows) (now owners) (now texts) (now nexts) ⌝ }
     ensures { λ r. ⌜ r ≡ walkFrom complete (now (rows .entry)) value 0 (now (path .entry)) ⌝ }
 {
     let mut n = value;
@@ -709,35 +714,49 @@ fn walk_firsts(
         if i >= path.len() {
             break Walked::Fails;
         }
-        if !leads(texts, n, path[i]) {
+        let column = column_of(path[i]);
+        if !leads(owners, texts, column, n, path[i]) {
             break walk_on(rows, complete, n, i, path);
         }
         if i + 1 >= path.len() {
             break Walked::Holds(true);
         }
-        n = led_to(nexts, n);
+        n = cell_at(nexts, column, n);
         i += 1;
     }
 }
 
-// A long path of texts from value `value` on: of each entity the attribute that the first step asks for is noted.
+// A long path of texts from value `value` on: the attributes of entities are noted.
 fn walk_long(rows: &[u32], complete: bool, value: u32, path: &[u32]) -> Walked
     ensures { λ r. ⌜ r ≡ walkFrom complete (now (rows .entry)) value 0 (now (path .entry)) ⌝ }
 {
-    let mut texts: [u32; VALUES] = [0; VALUES];
-    let mut nexts: [u32; VALUES] = [0; VALUES];
-    firsts(rows, read(path, 0), &mut texts[..], &mut nexts[..]);
-    walk_firsts(rows, complete, value, path, &texts[..], &nexts[..])
+    let mut owners: [u32; CELLS] = [0; CELLS];
+    let mut texts: [u32; CELLS] = [0; CELLS];
+    let mut nexts: [u32; CELLS] = [0; CELLS];
+    firsts(rows, &mut owners[..], &mut texts[..], &mut nexts[..]);
+    walk_firsts(
+        rows,
+        complete,
+        value,
+        path,
+        &owners[..],
+        &texts[..],
+        &nexts[..],
+    )
 }
 
-// A path of texts from value `value` on. For a short one, and where there are no entities, no attributes are noted.
+// A path of texts from value `value` on. For a short one, one of few steps for the entities there are, and where there are none, no attributes are noted.
 pub fn walk(rows: &[u32], complete: bool, value: u32, path: &[u32]) -> Walked
     ensures { λ r. ⌜ r ≡ walkFrom complete (now (rows .entry)) value 0 (now (path .entry)) ⌝ }
 {
     if path.len() < LONG {
         return walk_on(rows, complete, value, 0, path);
     }
-    if count(rows, ENTITY) == 0 {
+    let n = count(rows, ENTITY);
+    if n == 0 {
+        return walk_on(rows, complete, value, 0, path);
+    }
+    if path.len() < n as usize / 2 {
         return walk_on(rows, complete, value, 0, path);
     }
     walk_long(rows, complete, value, path)
