@@ -53,11 +53,11 @@ cell-is w q c v x eq ex = ex ∙ ap (λ (l : List ℕ). getD l v 0) (eq ∙ take
 no-true : {A : Type 0} → _≡_ {A = Bool} false true → A
 no-true e = let y : _≡_ {A = ℕ} 0 1 = cc in absurd (omega arith)
 
-module _ (owners texts : List ℕ) (column v t : ℕ) where
-  pub hits-off : Hits owners texts column v t false
+module _ (owners texts : List ℕ) (h v t : ℕ) where
+  pub hits-off : Hits owners texts h v t false
   hits-off = record { text = λ e. no-true e; owner = λ e. no-true e }
 
-  pub hits-is : (x y : ℕ) → x ≡ getD texts (column + v) 0 → x ≡ t + 1 → y ≡ getD owners (column + v) 0 → Hits owners texts column v t (eqb y v)
+  pub hits-is : (x y : ℕ) → x ≡ getD texts h 0 → x ≡ t + 1 → y ≡ getD owners h 0 → Hits owners texts h v t (eqb y v)
   hits-is x y ex e ey = record { text = λ z. sym ex ∙ e ∙ add-one t; owner = λ z. sym ey ∙ eqb-true y v z }
 
 -- ---- one attribute noted
@@ -253,12 +253,14 @@ module _ (c : Bool) (a : List ℕ) (w : Walked) (path : List ℕ) (n i : ℕ) (g
   pub firsts-off : (r : Walked) → r ≡ walkFrom c a n i (drop i path) → r ≡ w
   firsts-off r e = e ∙ sym (g .left)
 
-  module _ (owners texts nexts : List ℕ) (f : Firsts a owners texts nexts) (h : i < length path) (column : ℕ) (b : Bool) (hits : Hits owners texts column n (getD path i 0) b) (z : not b ≡ false) where
-    leads-on : Atˡ (getD nexts (column + n) 0) ≡ lookAttr c a n (getD path i 0)
-    leads-on = f .is c (column + n) (getD path i 0) (hits .text (not-false b z)) ∙ ap (λ (y : ℕ). lookAttr c a y (getD path i 0)) (hits .owner (not-false b z))
+  module _ (owners texts nexts : List ℕ) (f : Firsts a owners texts nexts) (h : i < length path) (cell : ℕ) (b : Bool) (hits : Hits owners texts cell n (getD path i 0) b) (z : not b ≡ false) where
+    leads-on : Atˡ (getD nexts cell 0) ≡ lookAttr c a n (getD path i 0)
+    leads-on = f .is c cell (getD path i 0) (hits .text (not-false b z)) ∙ ap (λ (y : ℕ). lookAttr c a y (getD path i 0)) (hits .owner (not-false b z))
 
     pub firsts-last : length path ≤ i + 1 → Holds true ≡ w
-    firsts-last m = walk-last c a w path n i g h (Atˡ (getD nexts (column + n) 0)) leads-on (getD nexts (column + n) 0) refl m
+    firsts-last m = walk-last c a w path n i g h (Atˡ (getD nexts cell 0)) leads-on (getD nexts cell 0) refl m
 
-    pub firsts-on : (y : ℕ) → y ≡ getD nexts (column + n) 0 → i + 1 < length path → Walking c a w path y (i + 1)
-    firsts-on y ey m = rw ey (walk-on c a w path n i g h (Atˡ (getD nexts (column + n) 0)) leads-on (getD nexts (column + n) 0) refl m)
+    pub firsts-on : (column y : ℕ) → cell ≡ column + n → y ≡ getD nexts (column + n) 0 → i + 1 < length path → Walking c a w path y (i + 1)
+    firsts-on column y ec ey m =
+        let e : y ≡ getD nexts cell 0 = ey ∙ ap (λ (j : ℕ). getD nexts j 0) (sym ec) in
+        rw e (walk-on c a w path n i g h (Atˡ (getD nexts cell 0)) leads-on (getD nexts cell 0) refl m)

@@ -3,7 +3,7 @@ use mathlib.Core.Path.{_≡_}
 use mathlib.Core.Bool.{Bool, true, false}
 use mathlib.Core.Option.{some}
 use mathlib.Core.List.{List, []}
-use Prim.Native.Nat.{ℕ, suc, _+_, _<_, _≤_}
+use Prim.Native.Nat.{ℕ, suc, _<_, _≤_}
 use lib.ListN.{length, getD}
 use Rattle.cedar.specs.Numbered.{entryOf}
 use Rattle.sheet.specs.Forms.{at, mark, ENTITY}
@@ -23,10 +23,10 @@ pub record Firsts (a owners texts nexts : List ℕ) : Type 0 where
   pub long : length texts ≤ length nexts
   pub is : (c : Bool) (h u : ℕ) → getD texts h 0 ≡ suc u → Atˡ (getD nexts h 0) ≡ lookAttr c a (getD owners h 0) u
 
--- the cell of value v in a column has text t of v itself
-pub record Hits (owners texts : List ℕ) (column v t : ℕ) (b : Bool) : Type 0 where
-  pub text : b ≡ true → getD texts (column + v) 0 ≡ suc t
-  pub owner : b ≡ true → getD owners (column + v) 0 ≡ v
+-- cell h has text t of value v
+pub record Hits (owners texts : List ℕ) (h v t : ℕ) (b : Bool) : Type 0 where
+  pub text : b ≡ true → getD texts h 0 ≡ suc t
+  pub owner : b ≡ true → getD owners h 0 ≡ v
 
 -- what is noted holds as before, if text t leads from value v to x
 pub record Kept (v t x : ℕ) (owners texts nexts owners′ texts′ nexts′ : List ℕ) : Type 0 where

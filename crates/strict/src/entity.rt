@@ -44,7 +44,7 @@ ghost use Rattle.reach.specs.Marks.{FAR};
 ghost use Rattle.strict.specs.Gives.{outOf, values, valueIn};
 ghost use Rattle.strict.specs.Lookups.{ATTRIBUTES, TAGS, HALF, HALVINGS, textThere, isEntityAt, lineAt, lineIn, nearer, ledFrom, isLine, lineBy, partOf, partOfLine, partIn, partBy, lookRow, lookIn, lookBy, takenOf, presentOf, getOut, hasOut, tagLook, gettagOut, hastagOut, isRentAt, inUnknownOut, Unknowns, Above, inLineOut, inUnlistedOut, inListOut, inOut, walkFrom};
 ghost use Rattle.strict.specs.Chains.{Chained};
-ghost use Rattle.strict.specs.Firsts.{Firsts, Hits};
+ghost use Rattle.strict.specs.Firsts.{CELLS, Firsts, Hits};
 ghost use Rattle.strict.specs.Noted.{Spans, Noted, Placed, Looked};
 
 // Where an entity's attributes and tags stand in its line.
@@ -685,14 +685,22 @@ fn cell_at(words: &[u32], column: usize, value: u32) -> u32
     read(cut(words, column, words.len()), value as usize)
 }
 
-// Whether the attribute noted in the cell of `value` in a column is the value's own of this text.
-fn leads(owners: &[u32], texts: &[u32], column: usize, value: u32, text: u32) -> bool
-    ensures { λ b. ⌜ Hits (now (owners .entry)) (now (texts .entry)) column value text b ⌝ }
+// The cell of `value` in a column.
+fn cell_in(column: usize, value: u32) -> usize
+    requires { ⌜ column ≤ CELLS ⌝ }
+    ensures { λ c. ⌜ c ≡ column + value ⌝ }
 {
-    if cell_at(texts, column, value) as usize != text as usize + 1 {
+    column + value as usize
+}
+
+// Whether the attribute noted in a cell is `text` of `value`.
+fn leads(owners: &[u32], texts: &[u32], cell: usize, value: u32, text: u32) -> bool
+    ensures { λ b. ⌜ Hits (now (owners .entry)) (now (texts .entry)) cell value text b ⌝ }
+{
+    if read(texts, cell) as usize != text as usize + 1 {
         return false;
     }
-    cell_at(owners, column, value) == value
+    read(owners, cell) == value
 }
 
 // A path of texts from value `value` on, by the attributes noted as far as they lead.
@@ -715,7 +723,8 @@ fn walk_firsts(
             break Walked::Fails;
         }
         let column = column_of(path[i]);
-        if !leads(owners, texts, column, n, path[i]) {
+        let cell = cell_in(column, n);
+        if !leads(owners, texts, cell, n, path[i]) {
             break walk_on(rows, complete, n, i, path);
         }
         if i + 1 >= path.len() {

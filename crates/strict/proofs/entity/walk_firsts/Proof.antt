@@ -18,7 +18,7 @@ loop-holds : tie.Need-loop-holds Inv-loop μ-loop
 loop-holds c = walk-start _ _ _ _ 0 (search needs)
 
 loop-again : tie.Need-loop-again Inv-loop μ-loop
-loop-again c = firsts-on _ _ _ _ _ _ (c .before .before .before .before .before .before .before .before .loop .inv) _ _ _ (c .before .before .before .before .before .before .before .before .before .before .before .before .before .before .pre) (c .before .before .before .before .before .before .before .if1 .left) _ _ (c .before .before .before .leads .ensures) (c .before .before .if2 .left) _ (c .cell-at .ensures) (c .before .if3 .left)
+loop-again c = firsts-on _ _ _ _ _ _ (c .before .before .before .before .before .before .before .before .before .loop .inv) _ _ _ (c .before .before .before .before .before .before .before .before .before .before .before .before .before .before .before .pre) (c .before .before .before .before .before .before .before .before .if1 .left) _ _ (c .before .before .before .leads .ensures) (c .before .before .if2 .left) _ _ (c .before .before .before .before .before .cell-in .ensures) (c .cell-at .ensures) (c .before .if3 .left)
 
 returns : tie.Need-returns Inv-loop μ-loop
 returns c = search (walk-end, needs)
@@ -38,6 +38,7 @@ walk-firsts-spec =
     loop-holds
     (λ c. search needs)
     (λ c. search needs)
+    (λ c κs. search needs)
     (λ c κs. search needs)
     (λ c. search needs)
     (λ c. search needs)
