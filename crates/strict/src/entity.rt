@@ -18,7 +18,6 @@ use reach::VALUES;
 use reach::meets_above;
 use reach::open_above;
 use reach::reach;
-use reach::values;
 use table::base_of;
 use table::count;
 use table::item;
@@ -421,14 +420,13 @@ fn in_above(rows: &[u32], complete: bool, value: u32, listed: u32, list: &[u32])
 {
     let mut marks: [u32; MARKS] = [0; MARKS];
     let mut met: [u8; VALUES] = [0; VALUES];
-    let n = values(rows);
     in_found(
         rows,
         complete,
         value,
         listed,
         list,
-        &mut met[..n],
+        &mut met[..],
         &mut marks[..],
     )
 }
