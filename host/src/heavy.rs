@@ -185,6 +185,12 @@ pub fn all() -> Vec<(&'static str, Mode, Vec<u8>)> {
     add("64 policies over one root, haspath over many steps, the last of 128 entities", entity_steps(b"last", true));
     add("64 policies over one root, five paths through a ring of 128 entities", shared_ring(&[b"a"]));
     add("64 policies over one root, five paths of two texts through a ring of 128 entities", shared_ring(&[b"a", b"b"]));
+    add("64 policies over one root, five paths of three texts through a ring of 128 entities", shared_ring(&[b"a", b"b", b"c"]));
+    add(
+        "64 policies over one root, five paths of eight texts through a ring of 128 entities",
+        shared_ring(&[b"a", b"b", b"c", b"d", b"e", b"f", b"g", b"h"]),
+    );
+    add("64 policies over one root, a path of six texts to and fro among six entities", shared_net());
     add("64 policies over one root, made values among many", shared_made(1));
     add("64 policies over one root, any on long sets", shared_sets());
     add("64 policies over one root, get in a long record", shared_gets());
@@ -913,6 +919,31 @@ fn shared_ring(names: &[&[u8]]) -> Draft {
             })
             .collect();
         sixteen(&mut next, Two::And, leaves);
+        next
+    })
+}
+
+/// A path of as many steps as fit among six entities that have one record: each of its six attributes leads to another of them, and
+/// which one is asked for next hardly repeats.
+fn shared_net() -> Draft {
+    let mut draft = small();
+    let attributes: Vec<u32> = [b"a", b"b", b"c", b"d", b"e", b"f"].iter().map(|name| draft.text(*name)).collect();
+    draft.shapes[0].attributes = draft.ty(TypeRow::Record(attributes.iter().map(|attribute| (*attribute, false, 2)).collect()));
+    let row = brokers(&mut draft, 6);
+    let none = Some(draft.value(ValueRow::Record(Vec::new())));
+    let parents = Some(draft.value(ValueRow::Set(Vec::new())));
+    let fields = attributes.iter().copied().zip(row.iter().copied()).collect();
+    let own = Some(draft.value(ValueRow::Record(fields)));
+    for entity in row {
+        draft.entities.push(EntityRow { entity, attributes: own, tags: none, parents });
+    }
+    draft.principal = (0, Some(draft.text(b"0")));
+    greatest(|steps| {
+        let mut next = draft.clone();
+        let var = next.node(2, Operation::Var(Variable::Principal));
+        let path = (0..steps).map(|n| attributes[(n * n + n / 7) % 6]).collect();
+        let path = next.node(0, Operation::HasPath(var, path));
+        sixteen(&mut next, Two::And, vec![path]);
         next
     })
 }

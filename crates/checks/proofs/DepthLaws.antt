@@ -10,7 +10,7 @@ use borrow.Author.Tests.{eqb-true, eq-eqb, ne-eqb, ltb-true}
 use lib.Dec.{ltb, eqb}
 use lib.ListN.{length, getD, drop, length-take, length-replicate, getD-replicate, List·getD-eq-default}
 use lib.Seq.{getD-take, getD-drop}
-use Rattle.sheet.specs.Forms.{Slot, entry, line, lineOr, lineUnknown, word, number, day, nothing, slotAt, tag, items, isLine, keep, refsFrom, refs, noKey, TYPE, VALUE, NODE, POLICY}
+use Rattle.sheet.specs.Forms.{Slot, entry, line, lineOr, lineUnknown, word, number, day, nothing, slotAt, tag, items, isLine, keep, refsFrom, refs, noKey, TEXT, TYPE, VALUE, NODE, POLICY}
 use Rattle.sheet.specs.State.{State, depthsOf}
 use Rattle.sheet.specs.Sheet.{allThere, deepest, depth}
 use Rattle.table.specs.Layout.{TYPEDEPTHS, VALUEDEPTHS, NODEDEPTHS, held, ones, depthsAt, depthBase, depthBases, depthsIn}
@@ -19,10 +19,10 @@ use Rattle.cedar.specs.Numbered.{memN}
 use Rattle.sheet.proofs.reading.Parsed.{allBelow, all-below}
 use Rattle.forms.proofs.Tests.{other}
 use Rattle.forms.specs.Rows.{NONE, NUMBER, ENTRY, DATE, LINE, UNKNOWN, OF-TYPE, OF-VALUE, OF-NODE, code as codeOf}
-use Rattle.forms.specs.Tags.{LIT, AND, IF}
+use Rattle.forms.specs.Tags.{LIT, AND, IF, GET, HASPATH}
 use Rattle.checks.specs.Codes.{keyIn, formCode, againCode, codesAfter, codesAt}
-use Rattle.checks.specs.Depths.{ThereAs, thereDepth, OnTwo, OnNone}
-use Rattle.checks.proofs.FormTable.{code-at, node-type, node-first, node-second, leaf-value, leaf-other}
+use Rattle.checks.specs.Depths.{ThereAs, thereDepth, OnOne, OnTwo, OnNone}
+use Rattle.checks.proofs.FormTable.{code-at, node-type, node-first, node-second, node-text, leaf-value, leaf-other}
 use Rattle.checks.proofs.FoundLaws.{item-at, items-end, There, there-start, there-off, there-on, there-end, ref-none, ref-in, ref-out, mark-high, words-low}
 
 -- ---- the depth of one line
@@ -225,6 +225,68 @@ module _ (a r : List ℕ) (leaf : OnNone r) (x m : ℕ) (hx : x ≡ getD r 1 0) 
 pub leaf-row : (r : List ℕ) (t : ℕ) → length r ≡ 3 → t ≡ tag r → LIT ≤ t → ltb t AND ≡ true → OnNone r
 leaf-row r t l h low high = record { long = l; low = omega arith; high = omega (arith, ltb-true t AND high) }
 
+-- ---- a node that works on one, with one item more that refers to a line of a key, of code c
+
+module _ (a b r : List ℕ) (long : length r ≡ 4) (at-type : (OF-TYPE ≡ codeOf (slotAt (tag r) 0)) × (keyIn (slotAt (tag r) 0) ≤ POLICY)) (at-first : (OF-NODE ≡ codeOf (slotAt (tag r) 1)) × (keyIn (slotAt (tag r) 1) ≤ POLICY))
+    (c : ℕ) (at-last : (c ≡ codeOf (slotAt (tag r) 2)) × (keyIn (slotAt (tag r) 2) ≤ POLICY)) (low : LINE ≤ c) (high : c < UNKNOWN) (x m : ℕ) (hx : x ≡ getD r 1 0) (hm : m ≡ getD a TYPE 0) where
+  untyped : m ≤ x → 0 ≡ thereDepth a b NODE r
+  untyped = type-absent a b r (omega arith) at-type x m hx hm
+
+  module _ (lx : x < m) (y n : ℕ) (hy : y ≡ getD r 2 0) (hn : n ≡ getD a NODE 0) where
+    typed₁ : There a r 1
+    typed₁ = type-there a b r (omega arith) at-type x m hx hm lx
+
+    shallow₁ : Deep a b NODE r 1 0
+    shallow₁ = type-deep a b r (omega arith) at-type x m hx hm
+
+    first-absent : n ≤ y → 0 ≡ thereDepth a b NODE r
+    first-absent l = absent-depth a b NODE r (there-off a r 1 typed₁ (tag r) y false refl (omega arith) hy (ref-out a OF-NODE y n (omega arith) hn l (omega arith) .is (slotAt (tag r) 1) at-first) refl)
+
+    module _ (ly : y < n) (z k : ℕ) (hz : z ≡ getD r 3 0) (hk : k ≡ getD a (c % LINE) 0) where
+      first₂ : There a r 2
+      first₂ = there-on a r 1 typed₁ (tag r) y true refl (omega arith) hy (ref-in a OF-NODE y n (omega arith) hn ly .is (slotAt (tag r) 1) at-first) refl
+
+      last-absent : k ≤ z → 0 ≡ thereDepth a b NODE r
+      last-absent l = absent-depth a b NODE r (there-off a r 2 first₂ (tag r) z false refl (omega arith) hz (ref-out a c z k low hk l high .is (slotAt (tag r) 2) at-last) refl)
+
+      both-there : z < k → (d e m′ : ℕ) → d ≡ getD b (NODEDEPTHS + y) 0 → e ≡ cond (eqb c OF-NODE) (getD (depthsIn a b NODE) z 0) 0 → m′ ≡ max d e → d < 4294967296 → e < 4294967296 → m′ + 1 ≡ thereDepth a b NODE r
+      both-there lz d e m′ hd he hm′ sd se =
+          let u : d ≡ getD (depthsIn a b NODE) y 0 = depth-node a b NODE y n d hn ly refl hd in
+          let deep₂ : Deep a b NODE r 2 d = deep-on a b NODE r 1 0 shallow₁ (omega arith) (tag r) y OF-NODE d d refl (omega arith) hy at-first u (omega arith) sd in
+          let deep₃ : Deep a b NODE r 3 m′ = deep-on a b NODE r 2 d deep₂ (omega arith) (tag r) z c e m′ refl (omega arith) hz at-last he hm′ se in
+          let there₃ : There a r 3 = there-on a r 2 first₂ (tag r) z true refl (omega arith) hz (ref-in a c z k low hk lz .is (slotAt (tag r) 2) at-last) refl in
+          there-depth a b NODE r (m′ + 1) (there-end a r 3 there₃ (omega arith)) (deep-end a b NODE r 3 m′ deep₃ (omega arith) (omega arith))
+
+-- ---- a node that works on one and has a text
+
+module _ (a b r : List ℕ) (one : OnOne r) where
+  one-type : (OF-TYPE ≡ codeOf (slotAt (tag r) 0)) × (keyIn (slotAt (tag r) 0) ≤ POLICY)
+  one-type = node-type (tag r) 0 (omega (arith, one .low), omega (arith, one .high)) refl
+
+  one-node : (OF-NODE ≡ codeOf (slotAt (tag r) 1)) × (keyIn (slotAt (tag r) 1) ≤ POLICY)
+  one-node = node-first (tag r) 1 (omega (arith, one .low), omega (arith, one .high)) (omega (arith, one .low)) refl
+
+  one-text : (LINE + TEXT ≡ codeOf (slotAt (tag r) 2)) × (keyIn (slotAt (tag r) 2) ≤ POLICY)
+  one-text = node-text (tag r) 2 (one .low) (one .high) refl
+
+  module _ (x m : ℕ) (hx : x ≡ getD r 1 0) (hm : m ≡ getD a TYPE 0) where
+    pub one-untyped : m ≤ x → 0 ≡ thereDepth a b NODE r
+    one-untyped = untyped a b r (one .long) one-type one-node (LINE + TEXT) one-text (omega arith) (omega arith) x m hx hm
+
+    module _ (lx : x < m) (y n : ℕ) (hy : y ≡ getD r 2 0) (hn : n ≡ getD a NODE 0) where
+      pub one-first : n ≤ y → 0 ≡ thereDepth a b NODE r
+      one-first = first-absent a b r (one .long) one-type one-node (LINE + TEXT) one-text (omega arith) (omega arith) x m hx hm lx y n hy hn
+
+      module _ (ly : y < n) (z k : ℕ) (hz : z ≡ getD r 3 0) (hk : k ≡ getD a TEXT 0) where
+        pub one-absent : k ≤ z → 0 ≡ thereDepth a b NODE r
+        one-absent = last-absent a b r (one .long) one-type one-node (LINE + TEXT) one-text (omega arith) (omega arith) x m hx hm lx y n hy hn ly z k hz hk
+
+        pub one-deep : z < k → (d : ℕ) → d ≡ getD b (NODEDEPTHS + y) 0 → d < 4294967296 → d + 1 ≡ thereDepth a b NODE r
+        one-deep lz d hd sd = both-there a b r (one .long) one-type one-node (LINE + TEXT) one-text (omega arith) (omega arith) x m hx hm lx y n hy hn ly z k hz hk lz d 0 d hd refl (omega arith) sd (omega arith)
+
+pub one-row : (r : List ℕ) (t : ℕ) → length r ≡ 4 → t ≡ tag r → GET ≤ t → ltb t HASPATH ≡ true → OnOne r
+one-row r t l h low high = record { long = l; low = omega arith; high = omega (arith, ltb-true t HASPATH high) }
+
 -- ---- a node that works on two
 
 module _ (a b r : List ℕ) (two : OnTwo r) where
@@ -239,36 +301,19 @@ module _ (a b r : List ℕ) (two : OnTwo r) where
 
   module _ (x m : ℕ) (hx : x ≡ getD r 1 0) (hm : m ≡ getD a TYPE 0) where
     pub two-untyped : m ≤ x → 0 ≡ thereDepth a b NODE r
-    two-untyped = type-absent a b r (omega (arith, two .long)) on-type x m hx hm
+    two-untyped = untyped a b r (two .long) on-type on-first OF-NODE on-second (omega arith) (omega arith) x m hx hm
 
     module _ (lx : x < m) (y n : ℕ) (hy : y ≡ getD r 2 0) (hn : n ≡ getD a NODE 0) where
-      two₁ : There a r 1
-      two₁ = type-there a b r (omega (arith, two .long)) on-type x m hx hm lx
-
-      deep₁ : Deep a b NODE r 1 0
-      deep₁ = type-deep a b r (omega (arith, two .long)) on-type x m hx hm
-
       pub two-first : n ≤ y → 0 ≡ thereDepth a b NODE r
-      two-first l = absent-depth a b NODE r (there-off a r 1 two₁ (tag r) y false refl (omega (arith, two .long)) hy (ref-out a OF-NODE y n (omega arith) hn l (omega arith) .is (slotAt (tag r) 1) on-first) refl)
+      two-first = first-absent a b r (two .long) on-type on-first OF-NODE on-second (omega arith) (omega arith) x m hx hm lx y n hy hn
 
       module _ (ly : y < n) (z : ℕ) (hz : z ≡ getD r 3 0) where
-        two₂ : There a r 2
-        two₂ = there-on a r 1 two₁ (tag r) y true refl (omega (arith, two .long)) hy (ref-in a OF-NODE y n (omega arith) hn ly .is (slotAt (tag r) 1) on-first) refl
-
         pub two-second : n ≤ z → 0 ≡ thereDepth a b NODE r
-        two-second l = absent-depth a b NODE r (there-off a r 2 two₂ (tag r) z false refl (omega (arith, two .long)) hz (ref-out a OF-NODE z n (omega arith) hn l (omega arith) .is (slotAt (tag r) 2) on-second) refl)
+        two-second = last-absent a b r (two .long) on-type on-first OF-NODE on-second (omega arith) (omega arith) x m hx hm lx y n hy hn ly z n hz hn
 
         pub two-deep : z < n → (d e m′ : ℕ) → d ≡ getD b (NODEDEPTHS + y) 0 → e ≡ getD b (NODEDEPTHS + z) 0 → m′ ≡ max d e → d < 4294967296 → e < 4294967296 → m′ + 1 ≡ thereDepth a b NODE r
-        two-deep lz d e m′ hd he hm′ sd se =
-            let u : d ≡ getD (depthsIn a b NODE) y 0 = depth-node a b NODE y n d hn ly refl hd in
-            let v : e ≡ getD (depthsIn a b NODE) z 0 = depth-node a b NODE z n e hn lz refl he in
-            let deep₂ : Deep a b NODE r 2 d = deep-on a b NODE r 1 0 deep₁ (omega arith) (tag r) y OF-NODE d d refl (omega (arith, two .long)) hy on-first u (omega arith) sd in
-            let deep₃ : Deep a b NODE r 3 m′ = deep-on a b NODE r 2 d deep₂ (omega arith) (tag r) z OF-NODE e m′ refl (omega (arith, two .long)) hz on-second v hm′ se in
-            let there₃ : There a r 3 = there-on a r 2 two₂ (tag r) z true refl (omega (arith, two .long)) hz (ref-in a OF-NODE z n (omega arith) hn lz .is (slotAt (tag r) 2) on-second) refl in
-            there-depth a b NODE r (m′ + 1) (there-end a r 3 there₃ (omega (arith, two .long))) (deep-end a b NODE r 3 m′ deep₃ (omega arith) (omega (arith, two .long)))
+        two-deep lz d e m′ hd he =
+            both-there a b r (two .long) on-type on-first OF-NODE on-second (omega arith) (omega arith) x m hx hm lx y n hy hn ly z n hz hn lz d e m′ hd (depth-node a b NODE z n e hn lz refl he)
 
 pub two-row : (r : List ℕ) (t : ℕ) → length r ≡ 4 → t ≡ tag r → AND ≤ t → ltb t IF ≡ true → OnTwo r
 two-row r t l h low high = record { long = l; low = omega arith; high = omega (arith, ltb-true t IF high) }
-
-pub as-node : (a b r : List ℕ) (k d : ℕ) → k ≡ NODE → d ≡ thereDepth a b NODE r → d ≡ thereDepth a b k r
-as-node a b r k d e h = h ∙ ap (λ (x : ℕ). thereDepth a b x r) (sym e)

@@ -8,11 +8,11 @@ use native.Mathlib.Decide.{decLt}
 use borrow.Author.Tests.{leb-true, eqb-true, eq-eqb, ne-eqb, le-ltb, not-true}
 use lib.Dec.{leb, eqb}
 use lib.ListN.{length, getD}
-use Rattle.sheet.specs.Forms.{Slot, line, nothing, Form, forms, formOf, noForm, slotIn, slotAt, noTag, TYPE, POLICY}
+use Rattle.sheet.specs.Forms.{Slot, line, nothing, Form, forms, formOf, noForm, slotIn, slotAt, noTag, TEXT, TYPE, POLICY}
 use Rattle.sheet.proofs.reading.Parsed.{allBelow, all-below}
 use Rattle.forms.specs.declared.Form as F
 use Rattle.forms.specs.Rows.{LINE, EFFECT, OF-TYPE, OF-VALUE, OF-NODE, code as codeOf, coded, Packed}
-use Rattle.forms.specs.Tags.{LIT, ERR, AND, IS, SET-OF, RECORD-OF, POLICY-LINE}
+use Rattle.forms.specs.Tags.{LIT, ERR, AND, IS, GET, HASPATH, SET-OF, RECORD-OF, POLICY-LINE}
 use Rattle.forms.proofs.Tests.{ranged}
 use Rattle.forms.proofs.Table.{no-form, group-small, both-small, node-slot}
 use Rattle.checks.specs.Codes.{keyIn, packed, packedFrom, formCode, againCode, codesAfter, codesAt}
@@ -214,6 +214,10 @@ module _ (t j : ℕ) where
   pub node-second : AND ≤ t → t < IS → j ≡ 2 → (OF-NODE ≡ codeOf (slotAt t j)) × (keyIn (slotAt t j) ≤ POLICY)
   unfolding forms formOf slotAt codeOf keyIn isAt
   node-second = placed-by OF-NODE 2 AND (IS - AND) refl
+
+  pub node-text : GET ≤ t → t < HASPATH → j ≡ 2 → (LINE + TEXT ≡ codeOf (slotAt t j)) × (keyIn (slotAt t j) ≤ POLICY)
+  unfolding forms formOf slotAt codeOf keyIn isAt
+  node-text = placed-by (LINE + TEXT) 2 GET (HASPATH - GET) refl
 
   pub leaf-value : t ≡ LIT → j ≡ 1 → (OF-VALUE ≡ codeOf (slotAt t j)) × (keyIn (slotAt t j) ≤ POLICY)
   unfolding forms formOf slotAt codeOf keyIn isAt

@@ -351,7 +351,7 @@ module _ (a : List ℕ) (k : ℕ) (r : List ℕ) where
   pub fresh-entity : (b : Bool) → b ≡ above (rowsHeld a) ENTITY r → k ≡ ENTITY → b ≡ fresh (rowsHeld a) k r
   fresh-entity b hb e = hb ∙ sym (rw e refl)
 
-  pub fresh-node : k ≡ NODE → true ≡ fresh (rowsHeld a) k r
+  fresh-node : k ≡ NODE → true ≡ fresh (rowsHeld a) k r
   fresh-node e = sym (rw e refl)
 
   pub fresh-term : (b : Bool) → b ≡ (above (rowsHeld a) TERM r && termGoes r) → k ≡ TERM → b ≡ fresh (rowsHeld a) k r
@@ -396,3 +396,7 @@ module _ (a : List ℕ) (k : ℕ) (r : List ℕ) where
         pub new-deep : not v ≡ false → d ≡ cond (found (rowsHeld a) k r) (depth (held [] a b) k r) 0
         unfolding found thereDepth
         new-deep l = hd ∙ rw (all-there, ← hu, not-false u m, ← hv, not-false v l) refl
+
+-- a node may repeat another
+pub node-deep : (a r b : List ℕ) (d : ℕ) → d ≡ thereDepth a b NODE r → (d ≡ 0 → ⊥) → (u : Bool) → u ≡ ascend 0 (ascendings r) → not u ≡ false → d ≡ cond (found (rowsHeld a) NODE r) (depth (held [] a b) NODE r) 0
+node-deep a r b d hd n u hu m = new-deep a NODE r b d hd n u hu m true (fresh-node a NODE r refl) refl

@@ -71,22 +71,18 @@ module _ (m row : List ℕ) where
   unfolding unseen withSeen
   seen-else d = (sym (rw d refl), sym (rw d refl))
 
-module _ (sheet r m : List ℕ) (t k : ℕ) (ht : t ≡ tag r) (hk : k ≡ formOf t .key) where
-  key-row : k ≡ keyOf r
-  unfolding keyOf
-  key-row = hk ∙ ap (λ (x : ℕ). formOf x .key) ht
-
+module _ (sheet r m : List ℕ) (k : ℕ) (hk : k ≡ keyOf r) where
   key-is : keyOf (rowIn sheet (keyOf r) r) ≡ k
-  key-is = key-alike sheet r ∙ sym key-row
+  key-is = key-alike sheet r ∙ sym hk
 
   row-else : (k ≡ TEXT → ⊥) → rowIn sheet (keyOf r) r ≡ r
-  row-else n = rw (ne-eqb (keyOf r) TEXT (λ q. n (key-row ∙ q))) refl
+  row-else n = rw (ne-eqb (keyOf r) TEXT (λ q. n (hk ∙ q))) refl
 
-  pub see-text : k ≡ TEXT → (s n h : ℕ) (x : List ℕ) → s ≡ getD r 1 0 → n ≡ getD r 2 0 → x ≡ part sheet s (s + n) → h ≡ mixedOn t x → (b : Bool) (m′ : List ℕ) → b ≡ not (member m (h % PLACES)) → m′ ≡ added m (h % PLACES)
+  pub see-text : k ≡ TEXT → (t : ℕ) → t ≡ tag r → (s n h : ℕ) (x : List ℕ) → s ≡ getD r 1 0 → n ≡ getD r 2 0 → x ≡ part sheet s (s + n) → h ≡ mixedOn t x → (b : Bool) (m′ : List ℕ) → b ≡ not (member m (h % PLACES)) → m′ ≡ added m (h % PLACES)
       → (b ≡ unseen m (rowIn sheet (keyOf r) r)) × (m′ ≡ withSeen m (rowIn sheet (keyOf r) r))
   unfolding placeOf differ
-  see-text e s n h x hs hn hx hh =
-      let row : rowIn sheet (keyOf r) r ≡ t ∷ x = rw (eq-eqb (keyOf r) TEXT (sym key-row ∙ e), hx, hs, hn, ht) refl in
+  see-text e t ht s n h x hs hn hx hh =
+      let row : rowIn sheet (keyOf r) r ≡ t ∷ x = rw (eq-eqb (keyOf r) TEXT (sym hk ∙ e), hx, hs, hn, ht) refl in
       seen-as m (rowIn sheet (keyOf r) r) (h % PLACES) (ap placeOf row ∙ ap (λ (y : ℕ). y % PLACES) (sym hh)) (ap differ (key-is ∙ e))
 
   see-words : differ k ≡ true → (k ≡ TEXT → ⊥) → (h : ℕ) → h ≡ mixedOn (tag r) (drop 1 r) → (b : Bool) (m′ : List ℕ) → b ≡ not (member m (h % PLACES)) → m′ ≡ added m (h % PLACES)

@@ -5,6 +5,7 @@ use mathlib.Core.List.{List, [], _∷_}
 use Prim.Native.Nat.{ℕ, suc, _+_, _%_, _≤_, _<_}
 use native.Mathlib.Numerals.{add-one}
 use native.Mathlib.Omega.{arith}
+use native.Mathlib.Decide.{decLt}
 use borrow.Author.Tests.{eq-eqb, ne-eqb, le-ltb}
 use lib.Dec.{eqb}
 use lib.ListN.{length, getD, take, drop, set, length-take, length-drop, List·getD-eq-default}
@@ -19,7 +20,7 @@ use Rattle.forms.proofs.Table.{node-key}
 use Rattle.checks.specs.Codes.{keyIn, formCode, againCode, codesAfter, codesAt}
 use Rattle.checks.specs.Depths.{OnTwo}
 use Rattle.checks.proofs.FormTable.{code-at, no-node, no-node-after}
-use Rattle.checks.specs.Uses.{usesIn, BY-NODE, BY-POLICY, markOf, Marked}
+use Rattle.checks.specs.Uses.{usesIn, BY-NODE, BY-POLICY, Marked}
 use Rattle.checks.proofs.FoundLaws.{items-end, or-false}
 use Rattle.checks.proofs.DepthLaws.{line-code, refs-at, on-type, on-first, on-second}
 
@@ -184,9 +185,9 @@ module _ (m : ℕ) (a b r : List ℕ) where
   pub use-before : (t : ℕ) → t ≡ tag r → t < AND → Marked m a b (refs NODE r) b false
   use-before t e h = use-nothing (refs-before r t e h)
 
-  pub use-after : (t : ℕ) → t ≡ tag r → POLICY-LINE ≤ t → (t ≡ POLICY-LINE → ⊥) → Marked m a b (refs NODE r) b false
+  use-after : POLICY-LINE < tag r → Marked m a b (refs NODE r) b false
   unfolding refs
-  use-after t e h n = use-nothing (no-refs (tag r) 0 (items r) (λ i. no-node-after (tag r) i (omega arith)))
+  use-after h = use-nothing (no-refs (tag r) 0 (items r) (λ i. no-node-after (tag r) i h))
 
 -- ---- a policy's root
 
@@ -214,10 +215,10 @@ refs-root (x ∷ []) h = absurd (omega arith)
 refs-root (x ∷ y ∷ []) h = absurd (omega arith)
 refs-root (x ∷ y ∷ z ∷ l) h = ap (λ (k : List ℕ). z ∷ k) (root-rest 0 l)
 
-module _ (r : List ℕ) (e : keyOf r ≡ POLICY) where
+module _ (r : List ℕ) (k : ℕ) (hk : k ≡ keyOf r) (e : k ≡ POLICY) where
   policy-tag : tag r ≡ POLICY-LINE
   unfolding keyOf
-  policy-tag = let (lo, hi) = tags-between POLICY policyTag policyTag (tag r) (omega arith) policy-tags e in omega (arith, lo, hi)
+  policy-tag = let (lo, hi) = tags-between POLICY policyTag policyTag (tag r) (omega arith) policy-tags (sym hk ∙ e) in omega (arith, lo, hi)
 
   module _ (a b : List ℕ) where
     pub use-rootless : length r < 4 → Marked BY-POLICY a b (refs NODE r) b false
@@ -234,17 +235,16 @@ policy-key : formOf POLICY-LINE .key ≡ POLICY
 unfolding formOf forms
 policy-key = refl
 
-pub policy-keyed : (r : List ℕ) (t : ℕ) → t ≡ tag r → t ≡ POLICY-LINE → keyOf r ≡ POLICY
+-- a row of a key that is neither that of nodes nor that of policies uses no node
+pub use-neither : (a b r : List ℕ) (k : ℕ) → k ≡ keyOf r → (k ≡ NODE → ⊥) → (k ≡ POLICY → ⊥) → Marked BY-POLICY a b (refs NODE r) b false
 unfolding keyOf
-policy-keyed r t e h = ap (λ (x : ℕ). formOf x .key) (sym e ∙ h) ∙ policy-key
-
-module _ (r : List ℕ) (t : ℕ) (e : t ≡ tag r) (a b l b′ : List ℕ) (v : Bool) where
-  pub marked-node : AND ≤ t → t < POLICY-LINE → Marked BY-NODE a b l b′ v → Marked (markOf (keyOf r)) a b l b′ v
-  unfolding keyOf
-  marked-node lo hi m = rw (← (node-key (tag r) (omega arith) (omega arith))) m
-
-  pub marked-policy : t ≡ POLICY-LINE → Marked BY-POLICY a b l b′ v → Marked (markOf (keyOf r)) a b l b′ v
-  marked-policy h m = rw (policy-keyed r t e h) m
+use-neither a b r k e n p = go (decLt (tag r) AND) (decLt (tag r) POLICY-LINE) (decLt POLICY-LINE (tag r))
+  where
+    go : Dec (tag r < AND) → Dec (tag r < POLICY-LINE) → Dec (POLICY-LINE < tag r) → Marked BY-POLICY a b (refs NODE r) b false
+    go (yes h) y z = use-before BY-POLICY a b r (tag r) refl h
+    go (no h) (yes l) z = absurd (n (e ∙ sym (node-key (tag r) (omega arith) (omega arith))))
+    go (no h) (no l) (yes u) = use-after BY-POLICY a b r u
+    go (no h) (no l) (no u) = let q : tag r ≡ POLICY-LINE = omega arith in absurd (p (e ∙ ap (λ (x : ℕ). formOf x .key) q ∙ policy-key))
 
 -- ---- a node that works on two
 

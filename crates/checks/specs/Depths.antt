@@ -8,7 +8,7 @@ use Rattle.sheet.specs.Forms.{Slot, tag, items, POLICY}
 use Rattle.sheet.specs.Sheet.{thereIs, allThere, depth}
 use Rattle.table.specs.Layout.{held}
 use Rattle.forms.specs.Rows.{code}
-use Rattle.forms.specs.Tags.{LIT, AND, IF}
+use Rattle.forms.specs.Tags.{LIT, AND, IF, GET, HASPATH}
 use Rattle.checks.specs.Codes.{keyIn}
 
 -- whether item x is there, at a place of code c
@@ -24,6 +24,12 @@ pub record OnTwo (r : List ℕ) : Type 0 where
   pub long : length r ≡ 4
   pub low : AND ≤ tag r
   pub high : tag r < IF
+
+-- a row of a node that has a type, works on one node and has a text
+pub record OnOne (r : List ℕ) : Type 0 where
+  pub long : length r ≡ 4
+  pub low : GET ≤ tag r
+  pub high : tag r < HASPATH
 
 -- a row of a node that has a type and one item more, and works on no node
 pub record OnNone (r : List ℕ) : Type 0 where

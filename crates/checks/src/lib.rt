@@ -7,6 +7,8 @@ use forms::ENTITY;
 use forms::ENTITY_TYPE;
 use forms::FLAT;
 use forms::Form;
+use forms::GET;
+use forms::HASPATH;
 use forms::IF;
 use forms::KIND;
 use forms::LINE;
@@ -17,7 +19,6 @@ use forms::NO_KEY;
 use forms::NODE;
 use forms::OF_NODE;
 use forms::POLICY;
-use forms::POLICY_LINE;
 use forms::PRINCIPAL;
 use forms::RESOURCE;
 use forms::SET_OF;
@@ -47,7 +48,6 @@ use table::base_of;
 use table::bytes;
 use table::count;
 use table::item;
-use table::key_of;
 use table::row;
 use table::tag;
 use words::add;
@@ -72,10 +72,10 @@ ghost use Rattle.table.specs.Layout.{depthsIn, rowAt, rowsOf, textRow, textRows
 ghost use Rattle.forms.specs.Rows.{LINE, OF-NODE};
 ghost use Rattle.forms.specs.Tags.{TEXT-LINE};
 ghost use Rattle.checks.specs.Codes.{packed, packedFrom, codesAfter};
-ghost use Rattle.checks.specs.Depths.{ThereAs, thereDepth, OnTwo, OnNone};
+ghost use Rattle.checks.specs.Depths.{ThereAs, thereDepth, OnOne, OnTwo, OnNone};
 ghost use Rattle.checks.specs.Ends.{RowEnds, endsOf, TextEnds};
 ghost use Rattle.checks.specs.Seen.{PLACES, mixed, mixedOn, unseen, withSeen, Unlike};
-ghost use Rattle.checks.specs.Uses.{BY-NODE, BY-POLICY, markOf, Marked};
+ghost use Rattle.checks.specs.Uses.{BY-NODE, BY-POLICY, Marked};
 ghost use Rattle.checks.specs.Under.{capped, bothOf, ownSlot, sizeAt, slotsAt, gatheredOn, underRow, spentOn, Noted};
 
 // ---- the table of forms
@@ -469,22 +469,21 @@ fn see(seen: &mut [u32], sum: u32) -> bool
     true
 }
 
-// A row joins those seen, if those of its key must differ. Returns whether no row of its number was seen, so that it is new.
-pub fn see_line(sheet: &[u8], line: &[u32], seen: &mut [u32]) -> bool
+// A row of a key joins those seen, if those of its key must differ. Returns whether no row of its number was seen, so that it is new.
+pub fn see_line(sheet: &[u8], key: usize, line: &[u32], seen: &mut [u32]) -> bool
+    requires { ⌜ key ≡ keyOf (now line) ⌝ }
     ensures new { λ b. ⌜ b ≡ unseen (now (seen .entry)) (rowIn (now (sheet .entry)) (keyOf (now (line .entry))) (now (line .entry))) ⌝ }
     ensures with { λ _. ⌜ now (seen .exit) ≡ withSeen (now (seen .entry)) (rowIn (now (sheet .entry)) (keyOf (now (line .entry))) (now (line .entry))) ⌝ }
 {
-    let t = tag(line);
-    let k = key_of(t);
-    if k == TEXT {
+    if key == TEXT {
         let s = item(line, 1) as usize;
         let n = item(line, 2) as usize;
-        return see(seen, mixed_bytes(t, bytes(sheet, s, s + n)));
+        return see(seen, mixed_bytes(tag(line), bytes(sheet, s, s + n)));
     }
-    if k == TYPE {
+    if key == TYPE {
         return see(seen, mixed_words(line));
     }
-    if k == VALUE {
+    if key == VALUE {
         return see(seen, mixed_words(line));
     }
     false
@@ -757,9 +756,6 @@ fn is_fresh(rows: &[u32], work: &[u32], key: usize, line: &[u32], new: bool) -> 
     requires { ⌜ Noted (now rows) (now work) × Unlike (now line) (rowsOf (now rows) key) new ⌝ }
     ensures { λ b. ⌜ b ≡ fresh (held [] (now (rows .entry)) []) key (now (line .entry)) ⌝ }
 {
-    if key == NODE {
-        return true;
-    }
     if key == TYPE {
         return is_type(rows, line, new);
     }
@@ -925,19 +921,72 @@ fn is_on_none(line: &[u32]) -> bool
     t < AND
 }
 
-fn depth_there(rows: &[u32], work: &[u32], key: usize, line: &[u32]) -> usize
-    requires { ⌜ key < noKey ⌝ }
-    ensures { λ d. ⌜ d ≡ thereDepth (now (rows .entry)) (now (work .entry)) key (now (line .entry)) ⌝ }
+// The depth of a node that works on one and has a text: 0 where one of these is not there.
+fn depth_of_one(rows: &[u32], work: &[u32], line: &[u32]) -> usize
+    requires { ⌜ OnOne (now line) ⌝ }
+    ensures { λ d. ⌜ d ≡ thereDepth (now (rows .entry)) (now (work .entry)) NODE (now (line .entry)) ⌝ }
 {
-    if key == NODE {
-        if is_on_two(line) {
-            return depth_of_two(rows, work, line);
-        }
-        if is_on_none(line) {
-            return depth_of_leaf(rows, line);
-        }
+    let x = item(line, 1);
+    let m = count(rows, TYPE);
+    if m <= x {
+        return 0;
     }
-    depth_listed(rows, work, key, line)
+    let n = count(rows, NODE);
+    let y = item(line, 2);
+    if n <= y {
+        return 0;
+    }
+    let z = item(line, 3);
+    let k = count(rows, TEXT);
+    if k <= z {
+        return 0;
+    }
+    let d = read(work, NODEDEPTHS + y as usize);
+    d as usize + 1
+}
+
+// Whether a row is that of a node that works on one and has a text: an attribute, or whether there is one.
+fn is_on_one(line: &[u32]) -> bool
+    ensures { λ v. ⌜ (v ≡ true → OnOne (now (line .entry))) ⌝ }
+{
+    if line.len() != 4 {
+        return false;
+    }
+    let t = tag(line);
+    if t < GET {
+        return false;
+    }
+    t < HASPATH
+}
+
+// The same of every node's row.
+fn depth_of_node(rows: &[u32], work: &[u32], line: &[u32]) -> usize
+    ensures { λ d. ⌜ d ≡ thereDepth (now (rows .entry)) (now (work .entry)) NODE (now (line .entry)) ⌝ }
+{
+    if is_on_two(line) {
+        return depth_of_two(rows, work, line);
+    }
+    if is_on_none(line) {
+        return depth_of_leaf(rows, line);
+    }
+    if is_on_one(line) {
+        return depth_of_one(rows, work, line);
+    }
+    depth_listed(rows, work, NODE, line)
+}
+
+// The depth of a node's row; 0 where it refers to a line that is not there or its items do not ascend. It may repeat another.
+pub fn node_depth(rows: &[u32], work: &[u32], line: &[u32]) -> usize
+    ensures { λ d. ⌜ d ≡ cond (found (held [] (now (rows .entry)) []) NODE (now (line .entry))) (depth (held [] (now (rows .entry)) (now (work .entry))) NODE (now (line .entry))) 0 ⌝ }
+{
+    let d = depth_of_node(rows, work, line);
+    if d == 0 {
+        return 0;
+    }
+    if !ascends(line) {
+        return 0;
+    }
+    d
 }
 
 // The depth of a row of a key, which is not that of a text; 0 where it refers to a line that is not there or is not new.
@@ -946,7 +995,7 @@ pub fn new_depth(rows: &[u32], work: &[u32], key: usize, line: &[u32], new: bool
     requires { ⌜ Noted (now rows) (now work) × Unlike (now line) (rowsOf (now rows) key) new ⌝ }
     ensures { λ d. ⌜ d ≡ cond (found (held [] (now (rows .entry)) []) key (now (line .entry))) (depth (held [] (now (rows .entry)) (now (work .entry))) key (now (line .entry))) 0 ⌝ }
 {
-    let d = depth_there(rows, work, key, line);
+    let d = depth_listed(rows, work, key, line);
     if d == 0 {
         return 0;
     }
@@ -1007,17 +1056,6 @@ fn use_listed(rows: &[u32], work: &mut [u32], line: &[u32]) -> bool
     false
 }
 
-// Marks the root that a policy's row uses. Returns whether a node used it before.
-fn use_root(rows: &[u32], work: &mut [u32], line: &[u32]) -> bool
-    requires { ⌜ keyOf (now line) ≡ POLICY ⌝ }
-    ensures { λ d. ⌜ Marked BY-POLICY (now (rows .entry)) (now (work .entry)) (refs NODE (now (line .entry))) (now (work .exit)) d ⌝ }
-{
-    if line.len() < 4 {
-        return false;
-    }
-    use_node(rows, work, OF_NODE, item(line, 3), BY_POLICY)
-}
-
 // The same of a node that works on two.
 fn use_two(rows: &[u32], work: &mut [u32], line: &[u32]) -> bool
     requires { ⌜ OnTwo (now line) ⌝ }
@@ -1031,22 +1069,30 @@ fn use_two(rows: &[u32], work: &mut [u32], line: &[u32]) -> bool
     use_node(rows, work, OF_NODE, z, BY_NODE)
 }
 
-// The same of every row of a key; those of the forms before the operations, and of those after a policy's, use no node.
+// The same of every node's row; those of the forms before the operations use no node.
 pub fn use_nodes(rows: &[u32], work: &mut [u32], line: &[u32]) -> bool
-    ensures { λ d. ⌜ Marked (markOf (keyOf (now (line .entry)))) (now (rows .entry)) (now (work .entry)) (refs NODE (now (line .entry))) (now (work .exit)) d ⌝ }
+    ensures { λ d. ⌜ Marked BY-NODE (now (rows .entry)) (now (work .entry)) (refs NODE (now (line .entry))) (now (work .exit)) d ⌝ }
 {
     let t = tag(line);
     if t < AND {
         return false;
     }
-    if t < POLICY_LINE {
-        if is_on_two(line) {
-            return use_two(rows, work, line);
-        }
-        return use_listed(rows, work, line);
+    if is_on_two(line) {
+        return use_two(rows, work, line);
     }
-    if t == POLICY_LINE {
-        return use_root(rows, work, line);
+    use_listed(rows, work, line)
+}
+
+// Marks the root that a row of a key which is not that of nodes uses, if it is a policy's. Returns whether a node used it before.
+pub fn use_root(rows: &[u32], work: &mut [u32], key: usize, line: &[u32]) -> bool
+    requires { ⌜ (key ≡ keyOf (now line)) × (key ≡ NODE → ⊥) ⌝ }
+    ensures { λ d. ⌜ Marked BY-POLICY (now (rows .entry)) (now (work .entry)) (refs NODE (now (line .entry))) (now (work .exit)) d ⌝ }
+{
+    if key != POLICY {
+        return false;
     }
-    false
+    if line.len() < 4 {
+        return false;
+    }
+    use_node(rows, work, OF_NODE, item(line, 3), BY_POLICY)
 }

@@ -33,6 +33,7 @@ use Rattle.strict.specs.Gives.{envIn}
 use Rattle.strict.proofs.Links.{env-link}
 use Rattle.tpe.specs.Fits.{Fits}
 use Rattle.tpe.proofs.Reach.{reach-start}
+use Rattle.tpe.proofs.Singles.{single, single-words}
 use Rattle.tpe.proofs.Stands.{Hold, Room}
 use Rattle.evaluator.specs.Run.{values, classNumbers, runOf, ranFrom}
 use Rattle.evaluator.proofs.Ways.{under}
@@ -87,7 +88,7 @@ module _ (sheet a b : List ℕ) where
 
     start : Stand sheet a (env (held sheet a b)) (contents (held sheet a b)) a
     start = record {
-      hold = record { sound = sound; formed = subst Formeds (sym lines-only) (formeds-from [] (linesOf (held sheet a b) VALUE) refl); same = λ k lt. refl };
+      hold = record { sound = sound; formed = subst Formeds (sym lines-only) (formeds-from [] (linesOf (held sheet a b) VALUE) refl); same = λ k lt. refl; single = single-words sheet a b (single complete (held sheet a b) (f .history)) };
       table = subst (λ (R : List Row). Table R (contents (held sheet a b))) (sym start-rows) (values-table complete (held sheet a b) (f .history));
       env = subst (λ (M : NEnv). EnvRead (contents (held sheet a b)) M (whole (env (held sheet a b)))) env-same (whole-read (held sheet a b) f);
     }

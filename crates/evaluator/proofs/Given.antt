@@ -29,7 +29,7 @@ use Rattle.strict.specs.declared.entity.Walked.the-variants.{Holds, Fails as Fa
 use Rattle.strict.proofs.Links.{bytes-link}
 use Rattle.strict.proofs.Entities.{lookAs, in-value}
 use Rattle.tpe.specs.Run.{envIn, schemaIn}
-use Rattle.evaluator.specs.Run.{nodeIn, pathOut, binOut, relOut, getOut, hasOut, walkOut, twoOut, unOut, oneOut}
+use Rattle.evaluator.specs.Run.{nodeIn, pathOut, walkedOut, binOut, relOut, getOut, hasOut, walkOut, twoOut, unOut, oneOut}
 
 -- ---- words of a node
 
@@ -53,11 +53,6 @@ like-is sheet a r p v g ep e = e ∙ ap (λ (q : List ℕ). likeOut (textAt shee
 
 module _ (a : List ℕ) where
   -- the walk is the path
-  abbrev walkedOut : Walked → NOut
-  walkedOut (Holds b) = truly b
-  walkedOut Failsʷ = fails
-  walkedOut (Left n k i) = stays
-
   walk-link : (ts : List ℕ) (t n i : ℕ) → pathOut (S.envIn true a) (values a) ts t n ≡ walkedOut (walkFrom true a n i (t ∷ ts))
   unfolding pathOut walkFrom lookAttr valueIn
   walk-link [] t n i = in-value true a fails (λ k. stays) (λ o. truly (isSome o)) t (valueIn a n) ∙ go (lookAttr true a n t)
@@ -81,13 +76,13 @@ module _ (a : List ℕ) where
     ep = cut ∙ to-end 3 r
 
     -- a row without texts
-    pub path-none : (g : Given) → length p < 1 → outOf g ≡ L.hasOut true a v 0 → outOf g ≡ walkOut a r v
-    unfolding walkOut pathOut L.hasOut envIn S.envIn values valueIn
+    pub path-none : (g : Given) → length p < 1 → outOf g ≡ walkedOut (walkFrom true a v 0 (0 ∷ [])) → outOf g ≡ walkOut a r v
+    unfolding walkOut envIn S.envIn values
     path-none g h e =
         let len : length r ≤ 3 = omega (arith, h, ap length ep, length-drop 3 r) in
         let few : drop 3 (items r) ≡ [] = drop-drop 3 1 r ∙ drop-of-length-le r {i = 4} (omega (arith, len)) in
         let text : at r 2 ≡ 0 = List·getD-eq-default r 0 {n = 3} (omega (arith, len)) in
-        e ∙ rw (few, text)
+        e ∙ sym (walk-link [] 0 v 0) ∙ rw (few, text)
 
     path-is : 1 ≤ length p → walkOut a r v ≡ walkedOut (walkFrom true a v 0 p)
     unfolding walkOut envIn S.envIn values
@@ -96,15 +91,18 @@ module _ (a : List ℕ) where
         let c : drop 3 r ≡ at r 2 ∷ drop 4 r = drop-cons r 3 0 len in
         ap (λ (us : List ℕ). pathOut (S.envIn true a) (values a) us (at r 2) v) (drop-drop 3 1 r) ∙ walk-link (drop 4 r) (at r 2) v 0 ∙ ap (λ (q : List ℕ). walkedOut (walkFrom true a v 0 q)) (sym (ep ∙ c))
 
-    module _ (h : 1 ≤ length p) (w : Walked) (ew : w ≡ walkFrom true a v 0 p) where
-      pub path-holds : (x : Bool) → w ≡ Holds x → outOf (Boolᵍ x) ≡ walkOut a r v
-      path-holds x e = sym (path-is h ∙ ap walkedOut (sym ew ∙ e))
+    pub path-some : (g : Given) → 1 ≤ length p → outOf g ≡ walkedOut (walkFrom true a v 0 p) → outOf g ≡ walkOut a r v
+    path-some g h e = e ∙ sym (path-is h)
 
-      pub path-fails : w ≡ Failsʷ → outOf Fails ≡ walkOut a r v
-      path-fails e = sym (path-is h ∙ ap walkedOut (sym ew ∙ e))
+  module _ (v : ℕ) (p : List ℕ) (w : Walked) (ew : w ≡ walkFrom true a v 0 p) where
+    pub walked-holds : (x : Bool) → w ≡ Holds x → outOf (Boolᵍ x) ≡ walkedOut (walkFrom true a v 0 p)
+    walked-holds x e = sym (ap walkedOut (sym ew ∙ e))
 
-      pub path-left : (n k i : ℕ) → w ≡ Left n k i → outOf Stays ≡ walkOut a r v
-      path-left n k i e = sym (path-is h ∙ ap walkedOut (sym ew ∙ e))
+    pub walked-fails : w ≡ Failsʷ → outOf Fails ≡ walkedOut (walkFrom true a v 0 p)
+    walked-fails e = sym (ap walkedOut (sym ew ∙ e))
+
+    pub walked-left : (n k i : ℕ) → w ≡ Left n k i → outOf Stays ≡ walkedOut (walkFrom true a v 0 p)
+    walked-left n k i e = sym (ap walkedOut (sym ew ∙ e))
 
 -- ---- a tag that is none of those before
 
@@ -134,11 +132,11 @@ module _ (sheet a r : List ℕ) (t v : ℕ) (g : Given) where
       h ∙ ap (λ (f : ℕ → List ℕ). likeOut f (drop 3 r) (valueIn a v)) bytes ∙ ap (λ (p : List ℕ). likeOut (schema (held sheet a []) .bytes) p (valueIn a v)) (sym (drop-drop 2 1 r)) ∙ ap (λ (s : ℕ). oneOut sheet s a r v) (sym e)
 
   pub one-get : (x : ℕ) → t ≡ GET → x ≡ getD r 3 0 → outOf g ≡ L.getOut true a v x → outOf g ≡ oneOut sheet t a r v
-  unfolding oneOut getOut L.getOut values valueIn envIn S.envIn
+  unfolding oneOut getOut L.getOut values valueIn
   one-get x e ex h = h ∙ ap (λ (k : ℕ). L.getOut true a v k) ex ∙ ap (λ (s : ℕ). oneOut sheet s a r v) (sym e)
 
   pub one-has : (x : ℕ) → t ≡ HAS → x ≡ getD r 3 0 → outOf g ≡ L.hasOut true a v x → outOf g ≡ oneOut sheet t a r v
-  unfolding oneOut hasOut L.hasOut values valueIn envIn S.envIn
+  unfolding oneOut hasOut L.hasOut values valueIn
   one-has x e ex h = h ∙ ap (λ (k : ℕ). L.hasOut true a v k) ex ∙ ap (λ (s : ℕ). oneOut sheet s a r v) (sym e)
 
   pub one-path : (q : List ℕ) → t ≡ HASPATH → q ≡ r → outOf g ≡ walkOut a q v → outOf g ≡ oneOut sheet t a r v
@@ -166,15 +164,15 @@ module _ (a : List ℕ) (t v w : ℕ) (g : Given) where
   two-eq e h = h ∙ ap (λ (s : ℕ). twoOut s a v w) (sym e)
 
   pub two-in : t ≡ IN → outOf g ≡ inOut true a v w → outOf g ≡ twoOut t a v w
-  unfolding twoOut relOut inOut values valueIn envIn S.envIn
+  unfolding twoOut relOut inOut values valueIn
   two-in e h = h ∙ ap (λ (s : ℕ). twoOut s a v w) (sym e)
 
   pub two-gettag : t ≡ GETTAG → outOf g ≡ gettagOut true a v w → outOf g ≡ twoOut t a v w
-  unfolding twoOut relOut gettagOut values valueIn envIn S.envIn
+  unfolding twoOut relOut gettagOut values valueIn
   two-gettag e h = h ∙ ap (λ (s : ℕ). twoOut s a v w) (sym e)
 
   pub two-hastag : t ≡ HASTAG → outOf g ≡ hastagOut true a v w → outOf g ≡ twoOut t a v w
-  unfolding twoOut relOut hastagOut values valueIn envIn S.envIn
+  unfolding twoOut relOut hastagOut values valueIn
   two-hastag e h = h ∙ ap (λ (s : ℕ). twoOut s a v w) (sym e)
 
   pub two-contains : t ≡ CONTAINS → outOf g ≡ containsOut w (valueIn a v) → outOf g ≡ twoOut t a v w

@@ -112,7 +112,7 @@ module _ (sheet a₀ : List ℕ) (G : Env) where
           contents = m .contents;
           keeps = m .keeps;
           stand = record {
-            hold = record { sound = i .kept .sound; formed = i .formed; same = λ k lt. i .kept .others k lt ∙ s .hold .same k lt };
+            hold = record { sound = i .kept .sound; formed = i .formed; same = λ k lt. i .kept .others k lt ∙ s .hold .same k lt; single = s .hold .single };
             table = subst (λ (R : List Row). Table R (m .contents)) (sym (i .rows)) (m .table);
             env = keep-env (m .keeps) (s .env);
           };

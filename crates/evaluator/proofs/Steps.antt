@@ -29,7 +29,8 @@ use Rattle.sheet.specs.Answer.{size}
 use Rattle.table.specs.Layout.{held}
 use Rattle.tpe.specs.Run.{wordsOf}
 use Rattle.tpe.proofs.Outcomes.{GiveFine, Fine, words-row, words-formed, words-short, row-fine}
-use Rattle.tpe.proofs.Stands.{Hold, Room, Spent, same-sheet, schema-is, env-is}
+use Rattle.tpe.proofs.Stands.{Hold, Room, Spent, same-sheet, schema-is, env-is, env-at}
+use Rattle.strict.specs.Lookups.{envBy}
 use lib.Dec.{eqb}
 use Rattle.evaluator.specs.Run.{E, Rec, yields, values, giveOf, settleOf, optOf, next, nodeIn, sideOf, branchOf, pathOut, litStep, errStep, varStep, lazyStep, ifStep, oneStep, twoStep, slotStep, unOut, binOut, relOut, getOut, hasOut, walkOut, schemaOf, envOf}
 use Rattle.evaluator.specs.declared.Yield.the-variants.{Value, Error}
@@ -160,9 +161,9 @@ module _ (sheet a₀ : List ℕ) (G : Env) where
     get-in : (T : Ty) (a l : List ℕ) (C : List Content) (X : Expr) → Stand sheet a₀ G C a → Room (suc (size d)) a l → Reads C (get T d (at r 2)) X
         → Gives sheet a₀ G C (suc (size d)) a (oneStep (getOut) f a l m r) (eval sch G X)
     unfolding oneStep getOut
-    get-in T a l C X s room (xget {d = D} q) = one-gives f i (λ b v. nGet (envOf b) (values b) (at (nodeIn b m) 2) (rowAt (values b) v)) (applyGet G (at r 2)) a l C D s room q
-        (λ b h v. made-get row-fine (envOf b) (values b) (at (nodeIn b m) 2) (rowAt (values b) v))
-        (λ b B t v z e. rw (again b (t .hold), env-is complete [] a₀ b (t .hold)) (get-gives G (t .table) (t .env) (at r 2) e))
+    get-in T a l C X s room (xget {d = D} q) = one-gives f i (λ b v. nGet (envBy complete b v) (values b) (at (nodeIn b m) 2) (rowAt (values b) v)) (applyGet G (at r 2)) a l C D s room q
+        (λ b h v. made-get row-fine (envBy complete b v) (values b) (at (nodeIn b m) 2) (rowAt (values b) v))
+        (λ b B t v z e. rw (again b (t .hold), env-at complete [] a₀ b (t .hold) v) (get-gives G (t .table) (t .env) (at r 2) e))
 
     pub get-meets : (T : Ty) → Meets (λ a l. oneStep (getOut) f a l m r) (get T d (at r 2))
     get-meets T = record { run = λ a l C X s room q. get-in T a l C X s room q }
@@ -170,9 +171,9 @@ module _ (sheet a₀ : List ℕ) (G : Env) where
     has-in : (T : Ty) (a l : List ℕ) (C : List Content) (X : Expr) → Stand sheet a₀ G C a → Room (suc (size d)) a l → Reads C (has T d (at r 2)) X
         → Gives sheet a₀ G C (suc (size d)) a (oneStep (hasOut) f a l m r) (eval sch G X)
     unfolding oneStep hasOut
-    has-in T a l C X s room (xhas {d = D} q) = one-gives f i (λ b v. nHas (envOf b) (values b) (at (nodeIn b m) 2) (rowAt (values b) v)) (applyHas G (at r 2)) a l C D s room q
-        (λ b h v. made-has row-fine (envOf b) (values b) (at (nodeIn b m) 2) (rowAt (values b) v))
-        (λ b B t v z e. rw (again b (t .hold), env-is complete [] a₀ b (t .hold)) (has-gives G (t .table) (t .env) (at r 2) e))
+    has-in T a l C X s room (xhas {d = D} q) = one-gives f i (λ b v. nHas (envBy complete b v) (values b) (at (nodeIn b m) 2) (rowAt (values b) v)) (applyHas G (at r 2)) a l C D s room q
+        (λ b h v. made-has row-fine (envBy complete b v) (values b) (at (nodeIn b m) 2) (rowAt (values b) v))
+        (λ b B t v z e. rw (again b (t .hold), env-at complete [] a₀ b (t .hold) v) (has-gives G (t .table) (t .env) (at r 2) e))
 
     pub has-meets : (T : Ty) → Meets (λ a l. oneStep (hasOut) f a l m r) (has T d (at r 2))
     has-meets T = record { run = λ a l C X s room q. has-in T a l C X s room q }
@@ -218,9 +219,9 @@ module _ (sheet a₀ : List ℕ) (G : Env) where
       rel-in : (p : Rel) (T : Ty) (a l : List ℕ) (C : List Content) (X : Expr) → Stand sheet a₀ G C a → Room n a l → Reads C (rel T p d e) X
           → Gives sheet a₀ G C n a (twoStep (relOut p) f a l m r) (eval sch G X)
       unfolding twoStep relOut
-      rel-in p T a l C X s room (xrel {d = D} {e = F} q t) = two-gives (λ b v w. nRel (envOf b) (values b) p v w (rowAt (values b) v) (rowAt (values b) w)) (applyRel G p) a l C D F s room q t
-          (λ b v w. made-rel row-fine (envOf b) (values b) p v w (rowAt (values b) v) (rowAt (values b) w))
-          (λ b B u v w y z c o. rw (env-is complete [] a₀ b (u .hold)) (rel-gives G (u .table) (u .env) p c o))
+      rel-in p T a l C X s room (xrel {d = D} {e = F} q t) = two-gives (λ b v w. nRel (envBy complete b v) (values b) p v w (rowAt (values b) v) (rowAt (values b) w)) (applyRel G p) a l C D F s room q t
+          (λ b v w. made-rel row-fine (envBy complete b v) (values b) p v w (rowAt (values b) v) (rowAt (values b) w))
+          (λ b B u v w y z c o. rw (env-at complete [] a₀ b (u .hold) v) (rel-gives G (u .table) (u .env) p c o))
 
       pub rel-meets : (p : Rel) (T : Ty) → Meets (λ a l. twoStep (relOut p) f a l m r) (rel T p d e)
       rel-meets p T = record { run = λ a l C X s room q. rel-in p T a l C X s room q }

@@ -23,6 +23,9 @@ use Rattle.value.specs.Lines.{valueLines}
 use Rattle.value.specs.Made.{boolRow, numberOf, withValue, setRow, recordRow, written}
 use Rattle.residual.specs.Rows.{litRow}
 use Rattle.residual.specs.Classes.{classNumber}
+use Rattle.strict.specs.Lookups.{envBy}
+use Rattle.strict.specs.declared.entity.Walked.{Walked}
+use Rattle.strict.specs.declared.entity.Walked.the-variants.{Holds, Fails as Failsʷ, Left}
 use Rattle.tpe.specs.Run.{wordsOf, schemaIn, envIn}
 use Rattle.evaluator.specs.declared.Yield.{Yield}
 use Rattle.evaluator.specs.declared.Yield.the-variants.{Value, Error}
@@ -181,13 +184,19 @@ unfoldable pub binOut : Bin → List ℕ → ℕ → ℕ → NOut
 binOut p a v w = nBin p v w (rowAt (values a) v) (rowAt (values a) w)
 
 unfoldable pub relOut : Rel → List ℕ → ℕ → ℕ → NOut
-relOut p a v w = nRel (envOf a) (values a) p v w (rowAt (values a) v) (rowAt (values a) w)
+relOut p a v w = nRel (envBy complete a v) (values a) p v w (rowAt (values a) v) (rowAt (values a) w)
 
 unfoldable pub getOut : List ℕ → List ℕ → ℕ → NOut
-getOut a r v = nGet (envOf a) (values a) (at r 2) (rowAt (values a) v)
+getOut a r v = nGet (envBy complete a v) (values a) (at r 2) (rowAt (values a) v)
 
 unfoldable pub hasOut : List ℕ → List ℕ → ℕ → NOut
-hasOut a r v = nHas (envOf a) (values a) (at r 2) (rowAt (values a) v)
+hasOut a r v = nHas (envBy complete a v) (values a) (at r 2) (rowAt (values a) v)
+
+-- what the walk of a path gives
+abbrev pub walkedOut : Walked → NOut
+walkedOut (Holds b) = truly b
+walkedOut Failsʷ = fails
+walkedOut (Left n k i) = stays
 
 unfoldable pub walkOut : List ℕ → List ℕ → ℕ → NOut
 walkOut a r v = pathOut (envOf a) (values a) (drop 3 (items r)) (at r 2) v

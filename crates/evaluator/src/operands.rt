@@ -36,12 +36,14 @@ use table::item;
 use table::row;
 use words::cut;
 ghost use mathlib.Core.Path.{_≡_};
+ghost use mathlib.Core.Bool.{true};
 ghost use Prim.Native.Nat.{_≤_, _<_};
 ghost use lib.ListN.{getD, drop};
 ghost use Rattle.forms.specs.Tags.{EQ, IF, IS, SET-OF};
 ghost use Rattle.strict.specs.Gives.{outOf, likeOut, valueIn};
 ghost use Rattle.table.specs.Layout.{textAt};
-ghost use Rattle.evaluator.specs.Run.{nodeIn, walkOut, twoOut, oneOut};
+ghost use Rattle.strict.specs.Lookups.{walkFrom};
+ghost use Rattle.evaluator.specs.Run.{nodeIn, walkedOut, walkOut, twoOut, oneOut};
 
 // Word `j` of the node.
 pub fn word_of(rows: &[u32], node: u32, j: usize) -> u32
@@ -65,19 +67,26 @@ fn like_at(sheet: &[u8], rows: &[u32], node: u32, value: u32) -> Given
     like_of(sheet, rows, value, rest_of(rows, node))
 }
 
+// Whether the path of texts is there from the value on.
+fn walked(rows: &[u32], value: u32, path: &[u32]) -> Given
+    ensures { λ g. ⌜ outOf g ≡ walkedOut (walkFrom true (now (rows .entry)) value 0 (now (path .entry))) ⌝ }
+{
+    match walk(rows, true, value, path) {
+        Walked::Holds(x) => Given::Bool(x),
+        Walked::Fails => Given::Fails,
+        Walked::Left(_, _, _) => Given::Stays,
+    }
+}
+
 // Whether the path of the row, a node's or one with the texts of such from a later one on, is there from the value on.
 pub fn path_at(rows: &[u32], line: &[u32], value: u32) -> Given
     ensures { λ g. ⌜ outOf g ≡ walkOut (now (rows .entry)) (now (line .entry)) value ⌝ }
 {
     let path = cut(line, 3, line.len());
     if path.len() < 1 {
-        return has_of(rows, true, value, 0);
+        return walked(rows, value, &[0]);
     }
-    match walk(rows, true, value, path) {
-        Walked::Holds(x) => Given::Bool(x),
-        Walked::Fails => Given::Fails,
-        Walked::Left(_, _, _) => Given::Stays,
-    }
+    walked(rows, value, path)
 }
 
 // Over one operand: is, like, get, has, haspath, not, neg, empty.

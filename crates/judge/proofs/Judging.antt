@@ -11,22 +11,24 @@ use lib.ListN.{length, getD, take, drop, drop-of-length-le, List·getD-eq-defaul
 use lib.Seq.{drop-drop, length-take-le, take-all}
 use Rattle.words.specs.Log.{room}
 use Rattle.words.proofs.Stores.{getD-below, part-below}
-use Rattle.sheet.specs.Forms.{formOf, tag, keyOf, refs, TEXT, ENTITY, NODE, noKey}
+use Rattle.sheet.specs.Forms.{formOf, firstNode, tag, keyOf, refs, TEXT, ENTITY, NODE, noKey}
 use Rattle.sheet.specs.State.{State, linesOf, count}
 use Rattle.sheet.specs.Typing.{typed}
 use Rattle.sheet.specs.Sheet.{greatest, overused, inOrder, tooMany, found, deepest, depth, usedTwice, marked, faultOf}
 use Rattle.table.specs.Layout.{TYPEDEPTHS, USES, depthsAt, held, rowIn}
 use Rattle.table.proofs.Rows.{key-low}
 use Rattle.table.proofs.Held.{used-of, depths-kept}
-use Rattle.fits.specs.Fit.{SettledIn, Known}
+use Rattle.fits.specs.Fit.{SettledIn, Known, Answered}
 use Rattle.fits.proofs.Remembered.{cleared, known-words}
 use Rattle.checks.specs.Seen.{Unlike}
 use Rattle.checks.specs.Under.{Noted}
-use Rattle.checks.specs.Uses.{usesIn, markOf, Marked}
+use Rattle.checks.specs.Uses.{usesIn, BY-NODE, BY-POLICY, markOf, Marked}
 use Rattle.typing.specs.Links.{Shown}
-use Rattle.typing.specs.Rules.{Typed}
+use Rattle.typing.specs.Rules.{nodeRule, Typed}
+use Rattle.typing.proofs.KeyRules.{line-node}
+use Rattle.typing.proofs.Joined.{typed-is}
 use Rattle.judge.specs.Verdicts.{NewDepth, TypedLine, Judged}
-use Rattle.judge.proofs.Alike.{order-alike, many-alike, refs-alike}
+use Rattle.judge.proofs.Alike.{order-alike, many-alike, refs-alike, new-other}
 
 -- ---- the chain of refusals
 
@@ -99,14 +101,30 @@ typed-late a b b′ r k v t h =
       rest = t .rest;
     }
 
+-- ---- `judge_node`
+
+pub typed-node : (a b b′ r : List ℕ) (v : Bool) → Answered a b b′ (nodeRule a r (tag r - firstNode)) v → TypedLine a b b′ r NODE v
+typed-node a b b′ r v q = typed-late a b b′ r NODE v (typed-is a b b′ r NODE v (line-node a r NODE b b′ v refl q)) (omega arith)
+
+pub depth-node : (sheet a b r : List ℕ) (d : ℕ) → keyOf r ≡ NODE → d ≡ cond (found (held [] a []) NODE r) (depth (held [] a b) NODE r) 0 → NewDepth sheet a b r NODE d
+depth-node sheet a b r d e = new-other sheet a b NODE r d (sym e) (λ q. absurd (omega arith))
+
+module _ (a b r b′ : List ℕ) (v : Bool) where
+  pub marked-node : keyOf r ≡ NODE → Marked BY-NODE a b (refs NODE r) b′ v → Marked (markOf (keyOf r)) a b (refs NODE r) b′ v
+  marked-node e m = rw e m
+
+  pub marked-other : (k : ℕ) → k ≡ keyOf r → (k ≡ NODE → ⊥) → Marked BY-POLICY a b (refs NODE r) b′ v → Marked (markOf (keyOf r)) a b (refs NODE r) b′ v
+  marked-other k e n m = rw (ne-eqb (keyOf r) NODE (λ q. n (e ∙ q))) m
+
 -- ---- a row's key
 
 pub key-of-row : (r : List ℕ) (t k : ℕ) → t ≡ tag r → k ≡ formOf t .key → k ≡ keyOf r
 unfolding keyOf
 key-of-row r t k ht hk = hk ∙ ap (λ (x : ℕ). formOf x .key) ht
 
-pub key-in-table : (t k : ℕ) → k ≡ formOf t .key → k ≤ noKey
-key-in-table t k e = rw e (key-low t)
+pub key-in-table : (r : List ℕ) (k : ℕ) → k ≡ keyOf r → k ≤ noKey
+unfolding keyOf
+key-in-table r k e = rw e (key-low (tag r))
 
 -- a key that has room is a line's
 pub line-key : (s : State) (k : ℕ) → leb (getD (greatest s) k 0) (count s k) ≡ false → k < noKey
@@ -158,7 +176,7 @@ module _ (sheet a b r : List ℕ) (long-a : length a ≡ room) (long-b : length 
 
 -- ---- `judge`
 
-module _ (sheet rows work r : List ℕ) (long-a : length rows ≡ room) (long-b : length work ≡ room) (known : Known rows work) (t k : ℕ) (ht : t ≡ tag r) (hk : k ≡ formOf t .key) where
+module _ (sheet rows work r : List ℕ) (long-a : length rows ≡ room) (long-b : length work ≡ room) (known : Known rows work) (k : ℕ) (key-is : k ≡ keyOf r) where
   abbrev a : List ℕ
   a = take room rows
 
@@ -167,9 +185,6 @@ module _ (sheet rows work r : List ℕ) (long-a : length rows ≡ room) (long-b 
 
   back : (q : List ℕ) (f n d : ℕ) → Judged sheet a b r q f n d → Judged sheet rows work r (q ++ drop room work) f n d
   back = judged-back sheet rows work r long-a long-b
-
-  key-is : k ≡ keyOf r
-  key-is = key-of-row r t k ht hk
 
   -- a refusal before the words change
   stop : (f n d : ℕ) → (f ≡ 0 → ⊥) → faultOf (held sheet a b) (keyOf r) (rowIn sheet (keyOf r) r) ≡ f → Judged sheet rows work r (take room work ++ drop room work) f n d
@@ -239,8 +254,8 @@ module _ (sheet rows work r : List ℕ) (long-a : length rows ≡ room) (long-b 
                 go (yes d) = rw d refl
                 go (no d) = rw (ne-eqb j TEXT d) refl
 
-            typed-is : SettledIn a → Shown a → y ≡ typed (held sheet a b) (rowIn sheet (keyOf r) r) (keyOf r)
-            typed-is s w = hy .is sheet b s w ∙ typed-row k ∙ ap (λ (x : ℕ). typed (held sheet a b) (rowIn sheet x r) x) key-is
+            type-is : SettledIn a → Shown a → y ≡ typed (held sheet a b) (rowIn sheet (keyOf r) r) (keyOf r)
+            type-is s w = hy .is sheet b s w ∙ typed-row k ∙ ap (λ (x : ℕ). typed (held sheet a b) (rowIn sheet x r) x) key-is
 
             early₁ : keyOf r < ENTITY → b₁ ≡ b
             early₁ h = hy .early (rw key-is h)
@@ -248,7 +263,7 @@ module _ (sheet rows work r : List ℕ) (long-a : length rows ≡ room) (long-b 
             pub judged-7 : not y ≡ true → (f n d : ℕ) → f ≡ 7 → Judged sheet rows work r (b₁ ++ drop room work) f n d
             judged-7 h f n d e =
                 back b₁ f n d (record {
-                  number = λ s w. e ∙ sym (fault-typed (held sheet a b) (keyOf r) (rowIn sheet (keyOf r) r) ordered (sym many-is ∙ pu) found-is shallow (sym (typed-is s w) ∙ not-true y h));
+                  number = λ s w. e ∙ sym (fault-typed (held sheet a b) (keyOf r) (rowIn sheet (keyOf r) r) ordered (sym many-is ∙ pu) found-is shallow (sym (type-is s w) ∙ not-true y h));
                   key = λ q. absurd (omega arith);
                   deep = λ q. absurd (omega arith);
                   uses = λ q. absurd (omega arith);
@@ -282,7 +297,7 @@ module _ (sheet rows work r : List ℕ) (long-a : length rows ≡ room) (long-b 
               pub judged-8 : x ≡ true → (f n d : ℕ) → f ≡ 8 → Judged sheet rows work r (b₂ ++ drop room work) f n d
               judged-8 h f n d e =
                   back b₂ f n d (record {
-                    number = λ s w. e ∙ sym (fault-used (held sheet a b) (keyOf r) (rowIn sheet (keyOf r) r) ordered (sym many-is ∙ pu) found-is shallow (sym (typed-is s w) ∙ not-false y py) (sym twice-is ∙ h));
+                    number = λ s w. e ∙ sym (fault-used (held sheet a b) (keyOf r) (rowIn sheet (keyOf r) r) ordered (sym many-is ∙ pu) found-is shallow (sym (type-is s w) ∙ not-false y py) (sym twice-is ∙ h));
                     key = λ q. absurd (omega arith);
                     deep = λ q. absurd (omega arith);
                     uses = λ q. absurd (omega arith);
@@ -295,7 +310,7 @@ module _ (sheet rows work r : List ℕ) (long-a : length rows ≡ room) (long-b 
               pub judged-0 : x ≡ false → Judged sheet rows work r (b₂ ++ drop room work) 0 k g
               judged-0 h =
                   back b₂ 0 k g (record {
-                    number = λ s w. sym (fault-none (held sheet a b) (keyOf r) (rowIn sheet (keyOf r) r) ordered (sym many-is ∙ pu) found-is shallow (sym (typed-is s w) ∙ not-false y py) (sym twice-is ∙ h));
+                    number = λ s w. sym (fault-none (held sheet a b) (keyOf r) (rowIn sheet (keyOf r) r) ordered (sym many-is ∙ pu) found-is shallow (sym (type-is s w) ∙ not-false y py) (sym twice-is ∙ h));
                     key = λ q. key-is;
                     deep = λ q. deep-is;
                     uses = λ q. hx .uses h ∙ ap₂ (marked (markOf (keyOf r))) uses-same refs-same;

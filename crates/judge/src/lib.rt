@@ -2,17 +2,21 @@
 use checks::in_order;
 use checks::is_text;
 use checks::new_depth;
+use checks::node_depth;
 use checks::see_line;
 use checks::too_many;
 use checks::use_nodes;
+use checks::use_root;
 use forms::ENTITY;
 use forms::NO_KEY;
+use forms::NODE;
 use forms::TEXT;
 use table::bytes;
 use table::item;
 use table::key_of;
 use table::tag;
 use typing::lines::typed;
+use typing::nodes::node_typed;
 use words::ROOM;
 use words::cut;
 ghost use mathlib.Core.Path.{_≡_};
@@ -21,7 +25,7 @@ ghost use mathlib.Core.List.{[]};
 ghost use Prim.Native.Nat.{_≤_, _<_};
 ghost use lib.ListN.{length};
 ghost use Rattle.words.specs.Log.{part, room};
-ghost use Rattle.sheet.specs.Forms.{keyOf, noKey};
+ghost use Rattle.sheet.specs.Forms.{keyOf, noKey, NODE};
 ghost use Rattle.sheet.specs.State.{linesOf};
 ghost use Rattle.sheet.specs.Sheet.{inOrder};
 ghost use Rattle.table.specs.Layout.{rowIn, held};
@@ -89,37 +93,35 @@ fn in_turn(rows: &[u32], key: usize, last: usize) -> bool
     in_order(rows, key)
 }
 
-// The refusal of a row of words, and where there is none its key and depth; the nodes that it uses are then marked. A row that is `new` repeats no other.
-// A line of the key `last`, that of the line before, may come.
-pub fn judge(
+// The refusal of a node's row, and where there is none its key and depth; the nodes that it uses are then marked. A line of the key `last`, that of
+// the line before, may come.
+fn judge_node(
     sheet: &[u8],
     rows: &[u32],
     work: &mut [u32],
     line: &[u32],
-    new: bool,
     last: usize,
 ) -> Verdict
-    requires { ⌜ (length (now rows) ≡ room) × (length (now work) ≡ room) × (inOrder (held (now sheet) (now rows) (now work)) last ≡ true) ⌝ }
-    requires { ⌜ Known (now rows) (now work) × Noted (now rows) (now work) × Unlike (rowIn (now sheet) (keyOf (now line)) (now line)) (linesOf (held (now sheet) (now rows) (now work)) (keyOf (now line))) new ⌝ }
+    requires { ⌜ (keyOf (now line) ≡ NODE) × (length (now rows) ≡ room) × (length (now work) ≡ room) × (inOrder (held (now sheet) (now rows) (now work)) last ≡ true) ⌝ }
+    requires { ⌜ Known (now rows) (now work) × Noted (now rows) (now work) ⌝ }
     ensures { λ v. ⌜ Judged (now (sheet .entry)) (now (rows .entry)) (now (work .entry)) (now (line .entry)) (now (work .exit)) (v .number) (v .key) (v .depth) ⌝ }
 {
     let rows = &rows[..ROOM];
     let work = &mut work[..ROOM];
-    let k = key_of(tag(line));
-    if !in_turn(rows, k, last) {
+    if !in_turn(rows, NODE, last) {
         return refused(3);
     }
-    if too_many(rows, work, k, line) {
+    if too_many(rows, work, NODE, line) {
         return refused(4);
     }
-    let d = depth_of(sheet, rows, work, k, line, new);
-    if d == 0 {
+    let depth = node_depth(rows, work, line);
+    if depth == 0 {
         return refused(5);
     }
-    if 64 < d {
+    if 64 < depth {
         return refused(6);
     }
-    if !typed_line(rows, work, line, k) {
+    if !node_typed(rows, work, line) {
         return refused(7);
     }
     if use_nodes(rows, work, line) {
@@ -127,7 +129,49 @@ pub fn judge(
     }
     Verdict {
         number: 0,
-        key: k,
+        key: NODE,
+        depth: depth as u32,
+    }
+}
+
+// The same of a row of another key. A row that is `new` repeats no other.
+fn judge(
+    sheet: &[u8],
+    rows: &[u32],
+    work: &mut [u32],
+    key: usize,
+    line: &[u32],
+    new: bool,
+    last: usize,
+) -> Verdict
+    requires { ⌜ (key ≡ keyOf (now line)) × (key ≡ NODE → ⊥) × (length (now rows) ≡ room) × (length (now work) ≡ room) × (inOrder (held (now sheet) (now rows) (now work)) last ≡ true) ⌝ }
+    requires { ⌜ Known (now rows) (now work) × Noted (now rows) (now work) × Unlike (rowIn (now sheet) (keyOf (now line)) (now line)) (linesOf (held (now sheet) (now rows) (now work)) (keyOf (now line))) new ⌝ }
+    ensures { λ v. ⌜ Judged (now (sheet .entry)) (now (rows .entry)) (now (work .entry)) (now (line .entry)) (now (work .exit)) (v .number) (v .key) (v .depth) ⌝ }
+{
+    let rows = &rows[..ROOM];
+    let work = &mut work[..ROOM];
+    if !in_turn(rows, key, last) {
+        return refused(3);
+    }
+    if too_many(rows, work, key, line) {
+        return refused(4);
+    }
+    let d = depth_of(sheet, rows, work, key, line, new);
+    if d == 0 {
+        return refused(5);
+    }
+    if 64 < d {
+        return refused(6);
+    }
+    if !typed_line(rows, work, line, key) {
+        return refused(7);
+    }
+    if use_root(rows, work, key, line) {
+        return refused(8);
+    }
+    Verdict {
+        number: 0,
+        key,
         depth: d as u32,
     }
 }
@@ -148,6 +192,10 @@ pub fn judge_at(
     ensures seen { λ _. ⌜ now (seen .exit) ≡ seenAt (now (sheet .entry)) (now (seen .entry)) (part (now (rows .entry)) top end) ⌝ }
 {
     let line = cut(rows, top, end);
-    let new = see_line(sheet, line, seen);
-    judge(sheet, rows, work, line, new, last)
+    let key = key_of(tag(line));
+    if key == NODE {
+        return judge_node(sheet, rows, work, line, last);
+    }
+    let new = see_line(sheet, key, line, seen);
+    judge(sheet, rows, work, key, line, new, last)
 }

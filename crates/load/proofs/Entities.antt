@@ -63,6 +63,16 @@ module _ (a bytes : List ℕ) (n : ℕ) (hn : n ≡ getD a PRINCIPAL 0) where
   unfolding unfitLine
   unfit-known h = sym (rw (← hn, ne-eqb n 0 h) refl)
 
+  pub unfit-empty : n ≡ 0 → (k : ℕ) → k ≡ getD a ENTITY 0 → k ≡ 0 → 0 ≡ unfitLine a bytes
+  unfolding unfitLine
+  unfit-empty z k hk e =
+      let u = unfitFrom a (rowsOf a ENTITY) in
+      sym (rw (← hn, eq-eqb n 0 z, ← hk, le-ltb u k (omega arith)) (go (starts (ascii "entity=") bytes)))
+    where
+      go : (t : Bool) → cond {A = ℕ} t 0 0 ≡ 0
+      go true = refl
+      go false = refl
+
   module _ (z : n ≡ 0) (b : Bool) (hb : b ≡ starts (ascii "entity=") bytes) where
     asked : unfitLine a bytes ≡ cond b 0 (entityLine a (unfitFrom a (rowsOf a ENTITY)))
     unfolding unfitLine

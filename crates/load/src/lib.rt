@@ -78,18 +78,22 @@ fn begins_entity(sheet: &[u8], at: usize) -> bool
 }
 
 // Where the line at byte `at` ends the entity lines: the number of the first of these that reaches a kind which is not above its own, 0 where none
-// does. A principal line was there only if none did.
+// does. A principal line was there only if none did, and before the first entity line there is none.
 fn unfit_line(sheet: &[u8], rows: &[u32], at: usize) -> usize
     ensures { λ r. ⌜ r ≡ unfitLine (now (rows .entry)) (drop at (now (sheet .entry))) ⌝ }
 {
     if count(rows, PRINCIPAL) != 0 {
         return 0;
     }
+    let n = count(rows, ENTITY);
+    if n == 0 {
+        return 0;
+    }
     if begins_entity(sheet, at) {
         return 0;
     }
     let u = first_unfit(rows);
-    if u >= count(rows, ENTITY) {
+    if u >= n {
         return 0;
     }
     lines_before(rows, ENTITY) + u as usize + 1

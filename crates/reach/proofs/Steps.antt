@@ -6,8 +6,9 @@ use Prim.Native.Nat.{ℕ, zero, suc, _+_, _-_, _*_, _<_, _≤_}
 use native.Mathlib.Omega.{arith}
 use borrow.Author.Tests.{lt-ltb, le-ltb, eq-eqb, ne-eqb, eqb-true, eqb-false, ltb-true, ltb-false, not-false}
 use lib.Dec.{ltb, eqb}
+use lib.Bits.{bitAnd, bitOr, and-le-l, and-le-r, or-add-and}
 use lib.ListN.{length, getD, take, drop, set, length-set, List·getD-eq-default}
-use lib.Seq.{take-all, length-take-le, getD-take, getD-set-same}
+use lib.Seq.{take-all, length-take-le, getD-take, getD-set-same, set-out}
 use Rattle.cedar.specs.Rows.{Row, rbool, rlong, rtext, rent, rset, rrec}
 use Rattle.cedar.specs.Numbered.{anyN, memN, rSet}
 use Rattle.cedar.proofs.Tools.{no-true, and-both}
@@ -20,8 +21,8 @@ use Rattle.forms.specs.Tags.{SET-VALUE}
 use Rattle.table.specs.Layout.{base, part, rowsOf}
 use Rattle.table.proofs.Rows.{count-rows, row-at-is, row-some}
 use Rattle.value.proofs.Lists.{uncons, spent}
-use Rattle.reach.specs.Marks.{LINES, VALUES, NEAR, HIDDEN, FAR, lineRows, placeOf, named, Filled, Indexed, Listed, Queue, Grown, Noted, Opened, Taken, Spot, Skipped, Seen, Spread, Expanded, Found, markedAt, anyMarked, namesAt, isMet, anyMet}
-use Rattle.reach.proofs.Marking.{Marks, grown-old, grown-beside, grown-one, room-left, taken-on, seen-none, seen-old, seen-more, seen-skip, opened-long, marks-open, marks-shown, marks-on, marks-end, marks-start, queue-start}
+use Rattle.reach.specs.Marks.{LINES, VALUES, NEAR, RUN, HIDDEN, FAR, lineRows, placeOf, named, Filled, Indexed, Listed, Queue, Grown, Noted, Entered, Opened, Taken, Spot, Run, RunMet, Skipped, Seen, Spread, Expanded, Found, markedAt, anyMarked, namesAt, isMet, anyMet}
+use Rattle.reach.proofs.Marking.{Marks, place-most, grown-old, grown-beside, grown-one, room-left, noted-queue, taken-on, seen-none, seen-old, seen-new, seen-more, seen-skip, opened-long, marks-open, marks-shown, marks-on, marks-end, marks-start, queue-start}
 
 -- ---- lines, line_at
 
@@ -251,6 +252,9 @@ module _ (a : List ℕ) (i : ℕ) (r : List ℕ) (x : ℕ) (er : r ≡ getD (lin
 
 -- ---- see_at, note, meet, see, expand
 
+pub see-mark : (a : List ℕ) (v : ℕ) (m q : List ℕ) (t : ℕ) → Queue (lineRows a) m q t → (k : ℕ) → k ≡ placeOf v (lineRows a) → k < length m
+see-mark a v m q t c k ek = let z = place-most v (lineRows a) in let y = c .lines in let w = c .marks in omega (arith, ek, z, y, w)
+
 module _ (a : List ℕ) (v : ℕ) (m q : List ℕ) (t : ℕ) (c : Queue (lineRows a) m q t) (k : ℕ) (ek : k ≡ placeOf v (lineRows a)) (x : ℕ) (ex : x ≡ getD m k 0) where
   pub see-old : (x ≡ 0 → ⊥) → Grown (lineRows a) v m q t m q t
   see-old e = grown-old (lineRows a) v m q t c (subst (λ (i : ℕ). 1 ≤ getD m i 0) ek (subst (λ (y : ℕ). 1 ≤ y) ex (not-none x e)))
@@ -259,47 +263,93 @@ module _ (a : List ℕ) (v : ℕ) (m q : List ℕ) (t : ℕ) (c : Queue (lineRow
     pub see-past : n ≤ k → Grown (lineRows a) v m q t m′ q t
     see-past h = subst (λ (w : List ℕ). Grown (lineRows a) v m q t w q t) (sym em) (grown-beside (lineRows a) v m q t c k ek (let z = en .0 in omega (arith, z, h)))
 
+    pub see-place : k < n → t < length q
+    see-place h = let y = en .0 in let z = room-left (lineRows a) m q t k c (omega (arith, h, y)) (sym ex ∙ e) in let w = c .room in omega (arith, z, w)
+
     pub see-room : k < n → t < LINES
     see-room h = let y = en .0 in let z = room-left (lineRows a) m q t k c (omega (arith, h, y)) (sym ex ∙ e) in let w = lines-most a in omega (arith, z, w)
 
     pub see-new : k < n → (q′ : List ℕ) → q′ ≡ set q t v → Grown (lineRows a) v m q t m′ q′ (t + 1)
     see-new h q′ eq = subst (λ (w : List ℕ). Grown (lineRows a) v m q t w q′ (t + 1)) (sym em) (subst (λ (w : List ℕ). Grown (lineRows a) v m q t (set m k 1) w (t + 1)) (sym eq) (grown-one (lineRows a) v m q t c k ek (let y = en .0 in omega (arith, h, y)) (sym ex ∙ e)))
 
-pub note-far : (n v : ℕ) (m m′ : List ℕ) → n ≤ v → m′ ≡ set m FAR 1 → Noted n v m m′
-note-far n v m m′ h e = record { near = λ l. absurd (omega (arith, h, l)); far = λ l. e }
+module _ (v : ℕ) (w m : List ℕ) where
+  pub note-far : length w ≤ v → (m′ : List ℕ) → m′ ≡ set m FAR 1 → Entered v w m w m′ false
+  note-far h m′ e = record { old = λ z. no-true z; new = λ z. (sym (set-out w v 1 h), record { near = λ l. absurd (omega (arith, h, l)); far = λ l. e }) }
 
-pub note-near : (n v : ℕ) (m : List ℕ) → v < n → Noted n v m m
-note-near n v m h = record { near = λ l. refl; far = λ l. absurd (omega (arith, h, l)) }
+  pub note-old : (getD w v 0 ≡ 0 → ⊥) → Entered v w m w m true
+  note-old e = record { old = λ z. (not-none (getD w v 0) e, refl, refl); new = λ z. no-true (sym z) }
 
-pub meet-old : (E : List (List ℕ)) (v : ℕ) (w m q : List ℕ) (t x : ℕ) → Queue E m q t → Spot E w m → x ≡ getD w v 0 → (x ≡ 0 → ⊥) → Seen E (v ∷ []) 1 w m q t w m q t
-meet-old E v w m q t x c d ex e = seen-old E v w m q t c d (subst (λ (y : ℕ). 1 ≤ y) ex (not-none x e))
+  pub note-new : v < length w → Entered v w m (set w v 1) m false
+  note-new h = let z = length-set w v 1 in record { old = λ y. no-true y; new = λ y. (refl, record { near = λ l. refl; far = λ l. absurd (omega (arith, z, h, l)) }) }
 
-module _ (w : List ℕ) (u v x : ℕ) (ex : x ≡ getD w u 0) where
-  pub both-none : x ≡ 0 → false ≡ (not (eqb (getD w u 0) 0) && not (eqb (getD w v 0) 0))
-  both-none e = sym (ap (λ (b : Bool). not b && not (eqb (getD w v 0) 0)) (eq-eqb (getD w u 0) 0 (sym ex ∙ e)))
+pub meet-old : (E : List (List ℕ)) (v : ℕ) (w m q : List ℕ) (t : ℕ) → Queue E m q t → Spot E w m → (w′ m′ : List ℕ) (b : Bool) → Entered v w m w′ m′ b → b ≡ true → Seen E (v ∷ []) 1 w m q t w′ m′ q t
+meet-old E v w m q t c d w′ m′ b f e = let (h, ew, em) = f .old e in
+    subst (λ (x : List ℕ). Seen E (v ∷ []) 1 w m q t x m′ q t) (sym ew) (subst (λ (x : List ℕ). Seen E (v ∷ []) 1 w m q t w x q t) (sym em) (seen-old E v w m q t c d h))
 
-  pub both-by : (x ≡ 0 → ⊥) → (y : ℕ) → y ≡ getD w v 0 → not (eqb y 0) ≡ (not (eqb (getD w u 0) 0) && not (eqb (getD w v 0) 0))
-  both-by e y ey = ap (λ (z : ℕ). not (eqb z 0)) ey ∙ sym (ap (λ (b : Bool). not b && not (eqb (getD w v 0) 0)) (ne-eqb (getD w u 0) 0 (λ z. e (ex ∙ z))))
+pub meet-queue : (E : List (List ℕ)) (v : ℕ) (w m q : List ℕ) (t : ℕ) → Queue E m q t → (w′ m′ : List ℕ) (b : Bool) → Entered v w m w′ m′ b → b ≡ false → Queue E m′ q t
+meet-queue E v w m q t c w′ m′ b f e = noted-queue E (length w′) v m m′ q t c (f .new e .1)
+
+pub meet-new : (E : List (List ℕ)) (v : ℕ) (w m q : List ℕ) (t : ℕ) → Queue E m q t → Spot E w m → (w′ m₁ : List ℕ) (b : Bool) → Entered v w m w′ m₁ b → b ≡ false → (m′ q′ : List ℕ) (t′ : ℕ) → Grown E v m₁ q t m′ q′ t′ → Seen E (v ∷ []) 1 w m q t w′ m′ q′ t′
+meet-new E v w m q t c d w′ m₁ b f e m′ q′ t′ g = seen-new E v w m q t c d w′ (f .new e .0) m₁ (f .new e .1) m′ q′ t′ g
+
+-- what holds of each of so many words of a list
+run-of : (p : ℕ → Type 0) (l : List ℕ) (i : ℕ) → p (getD l i 0) → p (getD l (i + 1) 0) → p (getD l (i + 2) 0) → p (getD l (i + 3) 0) → p (getD l (i + 4) 0) → p (getD l (i + 5) 0) → p (getD l (i + 6) 0) → p (getD l (i + 7) 0) → Run p l i
+run-of p l i a b c d e f g h k m n = on i a m (λ z. on (i + 1) b (omega (arith, z)) (λ z. on (i + 2) c (omega (arith, z)) (λ z. on (i + 3) d (omega (arith, z)) (λ z. on (i + 4) e (omega (arith, z)) (λ z. on (i + 5) f (omega (arith, z)) (λ z. on (i + 6) g (omega (arith, z)) (λ z. on (i + 7) h (omega (arith, z)) (λ z. absurd (omega (arith, n, z))))))))))
+  where
+    on : (j : ℕ) → p (getD l j 0) → j ≤ k → (j < k → p (getD l k 0)) → p (getD l k 0)
+    on j x y f = go (eqb j k) refl
+      where
+        go : (t : Bool) → eqb j k ≡ t → p (getD l k 0)
+        go true q = subst (λ (n : ℕ). p (getD l n 0)) (eqb-true j k q) x
+        go false q = let z = eqb-false j k q in f (omega (arith, y, z))
+
+-- neither of two is greater than their bits together
+either-most : (x y : ℕ) → (x ≤ bitOr x y) × (y ≤ bitOr x y)
+either-most x y = let a = or-add-and x y in let b = and-le-r x y in let c = and-le-l x y in (omega (arith, a, b), omega (arith, a, c))
+
+-- of eight numbers: none is greater than their bits together, and none is 0 where they share bits
+module _ (a b c d e f g h : ℕ) where
+  bits-most : (r : ℕ) → r ≡ bitOr (bitOr (bitOr (bitOr (bitOr (bitOr (bitOr a b) c) d) e) f) g) h → (a ≤ r) × (b ≤ r) × (c ≤ r) × (d ≤ r) × (e ≤ r) × (f ≤ r) × (g ≤ r) × (h ≤ r)
+  bits-most r z =
+      let (p₁, q₁) = either-most a b in let (p₂, q₂) = either-most (bitOr a b) c in let (p₃, q₃) = either-most (bitOr (bitOr a b) c) d in
+      let (p₄, q₄) = either-most (bitOr (bitOr (bitOr a b) c) d) e in let (p₅, q₅) = either-most (bitOr (bitOr (bitOr (bitOr a b) c) d) e) f in
+      let (p₆, q₆) = either-most (bitOr (bitOr (bitOr (bitOr (bitOr a b) c) d) e) f) g in let (p₇, q₇) = either-most (bitOr (bitOr (bitOr (bitOr (bitOr (bitOr a b) c) d) e) f) g) h in
+      (omega (arith, z, p₁, p₂, p₃, p₄, p₅, p₆, p₇), omega (arith, z, q₁, p₂, p₃, p₄, p₅, p₆, p₇), omega (arith, z, q₂, p₃, p₄, p₅, p₆, p₇), omega (arith, z, q₃, p₄, p₅, p₆, p₇), omega (arith, z, q₄, p₅, p₆, p₇), omega (arith, z, q₅, p₆, p₇), omega (arith, z, q₆, p₇), omega (arith, z, q₇))
+
+  bits-least : (r : ℕ) → r ≡ bitAnd (bitAnd (bitAnd (bitAnd (bitAnd (bitAnd (bitAnd a b) c) d) e) f) g) h → 1 ≤ r → (1 ≤ a) × (1 ≤ b) × (1 ≤ c) × (1 ≤ d) × (1 ≤ e) × (1 ≤ f) × (1 ≤ g) × (1 ≤ h)
+  bits-least r z l =
+      let x₁ = bitAnd a b in let x₂ = bitAnd (bitAnd a b) c in let x₃ = bitAnd (bitAnd (bitAnd a b) c) d in let x₄ = bitAnd (bitAnd (bitAnd (bitAnd a b) c) d) e in
+      let x₅ = bitAnd (bitAnd (bitAnd (bitAnd (bitAnd a b) c) d) e) f in let x₆ = bitAnd (bitAnd (bitAnd (bitAnd (bitAnd (bitAnd a b) c) d) e) f) g in
+      let p₁ = and-le-l a b in let q₁ = and-le-r a b in let p₂ = and-le-l (bitAnd a b) c in let q₂ = and-le-r (bitAnd a b) c in
+      let p₃ = and-le-l (bitAnd (bitAnd a b) c) d in let q₃ = and-le-r (bitAnd (bitAnd a b) c) d in
+      let p₄ = and-le-l (bitAnd (bitAnd (bitAnd a b) c) d) e in let q₄ = and-le-r (bitAnd (bitAnd (bitAnd a b) c) d) e in
+      let p₅ = and-le-l (bitAnd (bitAnd (bitAnd (bitAnd a b) c) d) e) f in let q₅ = and-le-r (bitAnd (bitAnd (bitAnd (bitAnd a b) c) d) e) f in
+      let p₆ = and-le-l (bitAnd (bitAnd (bitAnd (bitAnd (bitAnd a b) c) d) e) f) g in let q₆ = and-le-r (bitAnd (bitAnd (bitAnd (bitAnd (bitAnd a b) c) d) e) f) g in
+      let p₇ = and-le-l (bitAnd (bitAnd (bitAnd (bitAnd (bitAnd (bitAnd a b) c) d) e) f) g) h in let q₇ = and-le-r (bitAnd (bitAnd (bitAnd (bitAnd (bitAnd (bitAnd a b) c) d) e) f) g) h in
+      (omega (arith, z, l, p₁, p₂, p₃, p₄, p₅, p₆, p₇), omega (arith, z, l, q₁, p₂, p₃, p₄, p₅, p₆, p₇), omega (arith, z, l, q₂, p₃, p₄, p₅, p₆, p₇), omega (arith, z, l, q₃, p₄, p₅, p₆, p₇), omega (arith, z, l, q₄, p₅, p₆, p₇), omega (arith, z, l, q₅, p₆, p₇), omega (arith, z, l, q₆, p₇), omega (arith, z, l, q₇))
+
+module _ (l : List ℕ) (i : ℕ) where
+  pub run-bits : Run (λ x. x ≤ bitOr (bitOr (bitOr (bitOr (bitOr (bitOr (bitOr (getD l i 0) (getD l (i + 1) 0)) (getD l (i + 2) 0)) (getD l (i + 3) 0)) (getD l (i + 4) 0)) (getD l (i + 5) 0)) (getD l (i + 6) 0)) (getD l (i + 7) 0)) l i
+  run-bits = let (a, b, c, d, e, f, g, h) = bits-most (getD l i 0) (getD l (i + 1) 0) (getD l (i + 2) 0) (getD l (i + 3) 0) (getD l (i + 4) 0) (getD l (i + 5) 0) (getD l (i + 6) 0) (getD l (i + 7) 0) (bitOr (bitOr (bitOr (bitOr (bitOr (bitOr (bitOr (getD l i 0) (getD l (i + 1) 0)) (getD l (i + 2) 0)) (getD l (i + 3) 0)) (getD l (i + 4) 0)) (getD l (i + 5) 0)) (getD l (i + 6) 0)) (getD l (i + 7) 0)) refl in run-of (λ x. x ≤ bitOr (bitOr (bitOr (bitOr (bitOr (bitOr (bitOr (getD l i 0) (getD l (i + 1) 0)) (getD l (i + 2) 0)) (getD l (i + 3) 0)) (getD l (i + 4) 0)) (getD l (i + 5) 0)) (getD l (i + 6) 0)) (getD l (i + 7) 0)) l i a b c d e f g h
+
+  pub run-near : (w : List ℕ) (r : ℕ) → Run (λ x. x ≤ r) l i → r < length w → Run (λ x. x < length w) l i
+  run-near w r f h k m n = let z = f k m n in omega (arith, z, h)
+
+  pub run-some : (w : List ℕ) (b : Bool) → b ≡ not (eqb (bitAnd (bitAnd (bitAnd (bitAnd (bitAnd (bitAnd (bitAnd (getD w (getD l i 0) 0) (getD w (getD l (i + 1) 0) 0)) (getD w (getD l (i + 2) 0) 0)) (getD w (getD l (i + 3) 0) 0)) (getD w (getD l (i + 4) 0) 0)) (getD w (getD l (i + 5) 0) 0)) (getD w (getD l (i + 6) 0) 0)) (getD w (getD l (i + 7) 0) 0)) 0) → RunMet w l i b
+  run-some w b eb = record { is = λ z. let (a, b, c, d, e, f, g, h) = bits-least (getD w (getD l i 0) 0) (getD w (getD l (i + 1) 0) 0) (getD w (getD l (i + 2) 0) 0) (getD w (getD l (i + 3) 0) 0) (getD w (getD l (i + 4) 0) 0) (getD w (getD l (i + 5) 0) 0) (getD w (getD l (i + 6) 0) 0) (getD w (getD l (i + 7) 0) 0) (bitAnd (bitAnd (bitAnd (bitAnd (bitAnd (bitAnd (bitAnd (getD w (getD l i 0) 0) (getD w (getD l (i + 1) 0) 0)) (getD w (getD l (i + 2) 0) 0)) (getD w (getD l (i + 3) 0) 0)) (getD w (getD l (i + 4) 0) 0)) (getD w (getD l (i + 5) 0) 0)) (getD w (getD l (i + 6) 0) 0)) (getD w (getD l (i + 7) 0) 0)) refl (not-none (bitAnd (bitAnd (bitAnd (bitAnd (bitAnd (bitAnd (bitAnd (getD w (getD l i 0) 0) (getD w (getD l (i + 1) 0) 0)) (getD w (getD l (i + 2) 0) 0)) (getD w (getD l (i + 3) 0) 0)) (getD w (getD l (i + 4) 0) 0)) (getD w (getD l (i + 5) 0) 0)) (getD w (getD l (i + 6) 0) 0)) (getD w (getD l (i + 7) 0) 0)) (λ y. no-true (sym (ap not (eq-eqb (bitAnd (bitAnd (bitAnd (bitAnd (bitAnd (bitAnd (bitAnd (getD w (getD l i 0) 0) (getD w (getD l (i + 1) 0) 0)) (getD w (getD l (i + 2) 0) 0)) (getD w (getD l (i + 3) 0) 0)) (getD w (getD l (i + 4) 0) 0)) (getD w (getD l (i + 5) 0) 0)) (getD w (getD l (i + 6) 0) 0)) (getD w (getD l (i + 7) 0) 0)) 0 y)) ∙ sym eb ∙ z))) in run-of (λ x. 1 ≤ getD w x 0) l i a b c d e f g h }
+
+  pub run-none : (w : List ℕ) → RunMet w l i false
+  run-none w = record { is = λ z. no-true z }
 
 pub skip-start : (w l : List ℕ) (i : ℕ) → i ≤ length l → Skipped w l i i
 skip-start w l i h = record { more = omega arith; near = h; is = λ k a b. absurd (omega (arith, a, b)) }
 
-pub skip-on : (w l : List ℕ) (i j : ℕ) → Skipped w l i j → j + 1 < length l → (b : Bool) → b ≡ (not (eqb (getD w (getD l j 0) 0) 0) && not (eqb (getD w (getD l (j + 1) 0) 0) 0)) → not b ≡ false → Skipped w l i (j + 2)
-skip-on w l i j c h b eb e = record { more = let z = c .more in omega (arith, z); near = omega (arith, h); is = λ k a g. each k a g (ltb k j) refl }
+pub skip-on : (w l : List ℕ) (i j : ℕ) → Skipped w l i j → j + RUN ≤ length l → (b : Bool) → RunMet w l j b → not b ≡ false → Skipped w l i (j + RUN)
+skip-on w l i j c h b f e = record { more = let z = c .more in omega (arith, z); near = h; is = λ k a g. each k a g (ltb k j) refl }
   where
-    nonzero : (x : ℕ) → not (eqb x 0) ≡ true → 1 ≤ x
-    nonzero x q = not-none x (λ z. no-true (sym (ap not (eq-eqb x 0 z)) ∙ q))
-
-    two : (1 ≤ getD w (getD l j 0) 0) × (1 ≤ getD w (getD l (j + 1) 0) 0)
-    two = and-both (not (eqb (getD w (getD l j 0) 0) 0)) (not (eqb (getD w (getD l (j + 1) 0) 0) 0)) (sym eb ∙ not-false b e) (λ p q. (nonzero (getD w (getD l j 0) 0) p, nonzero (getD w (getD l (j + 1) 0) 0) q))
-
-    last : (k : ℕ) → (d : Bool) → eqb k j ≡ d → j ≤ k → k < j + 2 → 1 ≤ getD w (getD l k 0) 0
-    last k true q a g = subst (λ (n : ℕ). 1 ≤ getD w (getD l n 0) 0) (sym (eqb-true k j q)) (two .0)
-    last k false q a g = let z = eqb-false k j q in subst (λ (n : ℕ). 1 ≤ getD w (getD l n 0) 0) (let y : j + 1 ≡ k = omega (arith, z, a, g) in y) (two .1)
-
-    each : (k : ℕ) → i ≤ k → k < j + 2 → (d : Bool) → ltb k j ≡ d → 1 ≤ getD w (getD l k 0) 0
+    each : (k : ℕ) → i ≤ k → k < j + RUN → (d : Bool) → ltb k j ≡ d → 1 ≤ getD w (getD l k 0) 0
     each k a g true q = c .is k a (ltb-true k j q)
-    each k a g false q = last k (eqb k j) refl (ltb-false k j q) g
+    each k a g false q = f .is (not-false b e) k (ltb-false k j q) g
 
 pub record Seeing (a p l w₀ m₀ q₀ : List ℕ) (t : ℕ) (w m q : List ℕ) (u j : ℕ) : Type 0 where
   pub near : j ≤ length l
@@ -388,6 +438,9 @@ module _ (a : List ℕ) (v : ℕ) where
       record { longw = refl; long = refl; longp = np; longu = nu; longs = d .long ∙ ns; longq = g .longq ∙ nq; indexed = i .0; listed = i .1; queue = x .queue; spot = x .spot; spread = x .spread; marks = x }
 
   module _ (p u w₀ m₀ s w m q : List ℕ) (t h : ℕ) (c : Going a v p u w₀ m₀ s w m q t h) where
+    pub going-place : h < t → h < LINES
+    going-place l = let z = c .queue .few in let y = lines-most a in omega (arith, z, y, l)
+
     pub going-there : h < t → (y : ℕ) → y ≡ getD q h 0 → placeOf y (lineRows a) < length (lineRows a)
     going-there l y ey = subst (λ (n : ℕ). placeOf n (lineRows a) < length (lineRows a)) (sym ey) (c .queue .back h l .0)
 

@@ -88,6 +88,11 @@ pub record Noted (n v : ℕ) (m m′ : List ℕ) : Type 0 where
   pub near : v < n → m′ ≡ m
   pub far : n ≤ v → m′ ≡ set m FAR 1
 
+-- v was noted before, as b says, or it is noted
+pub record Entered (v : ℕ) (w m w′ m′ : List ℕ) (b : Bool) : Type 0 where
+  pub old : b ≡ true → (1 ≤ getD w v 0) × (w′ ≡ w) × (m′ ≡ m)
+  pub new : b ≡ false → (w′ ≡ set w v 1) × Noted (length w′) v m m′
+
 -- where item x is `?` this is marked
 pub record Opened (x : ℕ) (m m′ : List ℕ) : Type 0 where
   pub known : (x ≡ mark → ⊥) → m′ ≡ m
@@ -100,6 +105,18 @@ Taken E w m y = (1 ≤ getD m (placeOf y E) 0) × (y < length w → 1 ≤ getD w
 -- what the table notes is met
 pub record Spot (E : List (List ℕ)) (w m : List ℕ) : Type 0 where
   pub is : (y : ℕ) → 1 ≤ getD w y 0 → Taken E w m y
+
+-- so many of a list are asked at a time
+abbrev pub RUN : ℕ
+RUN = 8
+
+-- p holds of so many of l from place i on
+abbrev pub Run : (ℕ → Type 0) → List ℕ → ℕ → Type 0
+Run p l i = (k : ℕ) → i ≤ k → k < i + RUN → p (getD l k 0)
+
+-- so many of l from place i on were met, where b says so
+pub record RunMet (w l : List ℕ) (i : ℕ) (b : Bool) : Type 0 where
+  pub is : b ≡ true → Run (λ x. 1 ≤ getD w x 0) l i
 
 -- of l those from place i to j were met
 pub record Skipped (w l : List ℕ) (i j : ℕ) : Type 0 where

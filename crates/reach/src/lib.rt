@@ -17,13 +17,13 @@ use words::read;
 ghost use mathlib.Core.Path.{_≡_};
 ghost use mathlib.Core.Bool.{not, _&&_, _||_};
 ghost use mathlib.Core.List.{[], _∷_};
-ghost use Prim.Native.Nat.{_≤_, _<_};
+ghost use Prim.Native.Nat.{_+_, _≤_, _<_};
 ghost use lib.Dec.{eqb};
 ghost use lib.ListN.{length, getD, set};
 ghost use Rattle.sheet.specs.Forms.{VALUE, at};
 ghost use Rattle.sheet.specs.Parents.{parentsIn};
 ghost use Rattle.table.specs.Layout.{rowsOf};
-ghost use Rattle.reach.specs.Marks.{LINES, VALUES, HIDDEN, FAR, lineRows, placeOf, named, Filled, Indexed, Listed, Queue, Noted, Opened, Grown, Spot, Skipped, Seen, Spread, Expanded, Found, markedAt, anyMarked, namesAt, isMet, anyMet};
+ghost use Rattle.reach.specs.Marks.{LINES, VALUES, HIDDEN, FAR, lineRows, placeOf, named, RUN, Filled, Indexed, Listed, Queue, Entered, Opened, Grown, Spot, Run, RunMet, Skipped, Seen, Spread, Expanded, Found, markedAt, anyMarked, namesAt, isMet, anyMet};
 
 // The most entity lines, and the most values of a sheet: so many bytes has a table by value.
 pub const LINES: usize = 128;
@@ -32,6 +32,9 @@ pub const VALUES: usize = 1024;
 
 // So many words has the table of parents' sets: entities come first among the values, and a short table is soon cleared.
 const NEAR: usize = 384;
+
+// So many parents of a list are asked at a time, as most were met before.
+const RUN: usize = 8;
 
 // After the marks of the lines comes the one of all entities that are not listed, then, here, that of lines whose parents are unknown, and that of
 // parents whose numbers a table does not have.
@@ -202,24 +205,31 @@ fn see_at(
 {
     let k = place(rows, places, value);
     let i = k as usize;
-    if read(marks, i) != 0 {
+    if marks[i] != 0 {
         return end;
     }
-    put(marks, i, 1);
+    marks[i] = 1;
     if k >= lines(rows) {
         return end;
     }
-    put(queue, end as usize, value);
+    queue[end as usize] = value;
     end + 1
 }
 
-// A number that a table of this length does not have is marked as one.
-fn note(marks: &mut [u32], length: usize, value: u32)
-    ensures { λ _. ⌜ Noted length value (now (marks .entry)) (now (marks .exit)) ⌝ }
+// Notes a parent: whether it was noted before. One whose number the table does not have is marked as such.
+fn note(met: &mut [u8], marks: &mut [u32], value: u32) -> bool
+    ensures { λ r. ⌜ Entered value (now (met .entry)) (now (marks .entry)) (now (met .exit)) (now (marks .exit)) r ⌝ }
 {
-    if value as usize >= length {
+    let i = value as usize;
+    if i >= met.len() {
         put(marks, FAR, 1);
+        return false;
     }
+    if met[i] != 0 {
+        return true;
+    }
+    met[i] = 1;
+    false
 }
 
 // Parent `value` is met; where it was not before its line is marked.
@@ -237,38 +247,82 @@ fn meet(
     requires { ⌜ Spot (lineRows (now rows)) (now met) (now marks) ⌝ }
     ensures { λ e. ⌜ Seen (lineRows (now (rows .entry))) (value ∷ []) 1 (now (met .entry)) (now (marks .entry)) (now (queue .entry)) end (now (met .exit)) (now (marks .exit)) (now (queue .exit)) e ⌝ }
 {
-    let i = value as usize;
-    if byte(met, i) != 0 {
+    if note(met, marks, value) {
         return end;
     }
-    put_byte(met, i, 1);
-    note(marks, met.len(), value);
     see_at(rows, places, value, marks, queue, end)
 }
 
-// Whether two parents were both met.
-fn both_met(met: &[u8], first: u32, second: u32) -> bool
-    ensures { λ r. ⌜ r ≡ (not (eqb (getD (now (met .entry)) first 0) 0) && not (eqb (getD (now (met .entry)) second 0) 0)) ⌝ }
+// All the bits of eight words of a list: none of these is greater.
+fn bits(list: &[u32], from: usize) -> u32
+    requires { ⌜ from + RUN ≤ length (now list) ⌝ }
+    ensures { λ r. ⌜ Run (λ x. x ≤ r) (now (list .entry)) from ⌝ }
 {
-    if byte(met, first as usize) == 0 {
-        return false;
-    }
-    byte(met, second as usize) != 0
+    list[from]
+        | list[from + 1]
+        | list[from + 2]
+        | list[from + 3]
+        | list[from + 4]
+        | list[from + 5]
+        | list[from + 6]
+        | list[from + 7]
 }
 
-// The place in a list, from this one on, before which all parents were met: two are asked at a time, as most were met before.
-fn unmet(met: &[u8], list: &[u32], from: usize) -> usize
+// Whether eight parents of a list, whose numbers the table has, were met.
+fn near_met(met: &[u8], list: &[u32], from: usize) -> bool
+    requires { ⌜ from + RUN ≤ length (now list) ⌝ }
+    requires { ⌜ Run (λ x. x < length (now met)) (now list) from ⌝ }
+    ensures { λ r. ⌜ RunMet (now (met .entry)) (now (list .entry)) from r ⌝ }
+{
+    met[list[from] as usize]
+        & met[list[from + 1] as usize]
+        & met[list[from + 2] as usize]
+        & met[list[from + 3] as usize]
+        & met[list[from + 4] as usize]
+        & met[list[from + 5] as usize]
+        & met[list[from + 6] as usize]
+        & met[list[from + 7] as usize]
+        != 0
+}
+
+// Whether eight parents of a list were met; not where the table may not have one of their numbers.
+fn run_met(met: &[u8], list: &[u32], from: usize) -> bool
+    requires { ⌜ from + RUN ≤ length (now list) ⌝ }
+    ensures { λ r. ⌜ RunMet (now (met .entry)) (now (list .entry)) from r ⌝ }
+{
+    if bits(list, from) as usize >= met.len() {
+        return false;
+    }
+    near_met(met, list, from)
+}
+
+// The place in a list, from this one on, before which all parents were met, eight at a time.
+fn runs(met: &[u8], list: &[u32], from: usize) -> usize
     requires { ⌜ from ≤ length (now list) ⌝ }
     ensures { λ i. ⌜ Skipped (now (met .entry)) (now (list .entry)) from i ⌝ }
 {
     let mut i = from;
-    while i + 1 < list.len() {
-        if !both_met(met, list[i], list[i + 1]) {
+    while i + RUN <= list.len() {
+        if !run_met(met, list, i) {
             return i;
         }
-        i += 2;
+        i += RUN;
     }
     i
+}
+
+// The same, asked at every eighth place only: where one of eight was not met, they are met one by one.
+fn unmet(met: &[u8], list: &[u32], from: usize) -> usize
+    requires { ⌜ from ≤ length (now list) ⌝ }
+    ensures { λ i. ⌜ Skipped (now (met .entry)) (now (list .entry)) from i ⌝ }
+{
+    if from % RUN != 0 {
+        return from;
+    }
+    if list.len() - from < RUN {
+        return from;
+    }
+    runs(met, list, from)
 }
 
 // The parents of a list are met.
@@ -297,10 +351,11 @@ fn see(
 
 // Parents that are unknown are marked as such.
 fn hide(marks: &mut [u32], parents: u32)
+    requires { ⌜ FAR < length (now marks) ⌝ }
     ensures { λ _. ⌜ Opened parents (now (marks .entry)) (now (marks .exit)) ⌝ }
 {
     if parents == MARK {
-        put(marks, HIDDEN, 1);
+        marks[HIDDEN] = 1;
     }
 }
 
@@ -367,7 +422,7 @@ pub fn reach(rows: &[u32], value: u32, met: &mut [u8], marks: &mut [u32])
     let mut end = see_at(rows, &places[..], value, marks, &mut queue[..], 0);
     let mut i = 0;
     while i < end {
-        let v = read(&queue[..], i as usize);
+        let v = queue[i as usize];
         let parents = set_of(rows, &places[..], &sets[..], v);
         hide(marks, parents);
         end = expand(

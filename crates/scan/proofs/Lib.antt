@@ -1,6 +1,7 @@
 pub mod Scans
 pub mod Splits
 pub mod Packing
+pub mod Eights
 pub mod Decimals
 pub mod Wordlists
 pub mod Starts

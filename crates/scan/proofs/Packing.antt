@@ -24,7 +24,7 @@ bytes-append (x ∷ a) b =
 small-join : (p q a b : ℕ) → a < p → b < q → a + p * b < p * q
 small-join p q a b h g = omega (arith, mul-le-mul-left {m = b + 1} {n = q} p (omega arith), mul-add p b 1)
 
-length-drop-enough : (s : List ℕ) (i n : ℕ) → i + n ≤ length s → length (take n (drop i s)) ≡ n
+pub length-drop-enough : (s : List ℕ) (i n : ℕ) → i + n ≤ length s → length (take n (drop i s)) ≡ n
 length-drop-enough s i n h = length-take-le n (drop i s) (omega (arith, long s i (omega arith)))
   where
     long : (s : List ℕ) (i : ℕ) → i ≤ length s → length (drop i s) + i ≡ length s

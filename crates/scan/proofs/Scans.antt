@@ -2,17 +2,18 @@
 use mathlib.Core.Path.{_≡_, refl, sym, ap, _∙_}
 use mathlib.Core.List.{List, [], _∷_}
 use mathlib.Core.Bool.{Bool, true, false, cond, not, _&&_}
-use Prim.Native.Nat.{ℕ, zero, suc, _+_, _-_, _≤_, _<_}
+use Prim.Native.Nat.{ℕ, zero, suc, _+_, _-_, _/_, _≤_, _<_}
 use native.Mathlib.Omega.{arith}
 use native.Mathlib.Numerals.{add-one}
 use borrow.Author.Tests.{eq-eqb, ne-eqb, le-leb, lt-leb, not-false, not-true}
 use lib.Dec.{leb}
+use lib.Count.{trailingZeros}
 use lib.ListN.{length, getD, take, drop, length-drop, drop-of-length-le}
-use lib.Seq.{drop-cons, take-all, take-nil, drop-nil}
+use lib.Seq.{drop-cons, drop-drop, take-all, take-nil, drop-nil}
 use Rattle.words.specs.Log.{part}
 use Rattle.sheet.specs.Bytes.{upTo, same, printable}
 use Rattle.sheet.proofs.demand3.TwoSheets.{same-is}
-use Rattle.scan.specs.Places.{isPrintable, plainTo}
+use Rattle.scan.specs.Places.{isPrintable, plainTo, Marked}
 
 module _ (c : ℕ) (s : List ℕ) (i : ℕ) where
   upTo-here : i < length s → getD s i 0 ≡ c → upTo c (drop i s) ≡ 0
@@ -144,7 +145,7 @@ module _ (s : List ℕ) (p i : ℕ) (k : Passing s p i) where
         let e : plainTo (drop i s) ≡ suc (plainTo (drop (i + 1) s)) = plain-first ∙ rw (not-false t n) refl in
         record { left = rw q (omega (arith, k .left)) }
 
--- the same, four bytes at a step
+-- the same, eight bytes at a step
 pub record Stepping (s : List ℕ) (p i : ℕ) : Type 0 where
   pub passing : Passing s p i
   pub near : i ≤ length s
@@ -152,37 +153,42 @@ pub record Stepping (s : List ℕ) (p i : ℕ) : Type 0 where
 pub stepping-start : (s : List ℕ) → Stepping s (plainTo s) 0
 stepping-start s = record { passing = passing-start s; near = omega arith }
 
+plain-all : (n : ℕ) (l : List ℕ) → plainTo (take n l) ≡ n → plainTo l ≡ n + plainTo (drop n l)
+plain-all zero l e = omega arith
+plain-all (suc n) [] e = absurd (omega (arith, e))
+plain-all (suc n) (x ∷ l) e = go (isPrintable x) (plain-all n l) e
+  where
+    go : (t : Bool) → (plainTo (take n l) ≡ n → plainTo l ≡ n + plainTo (drop n l)) → cond t (suc (plainTo (take n l))) 0 ≡ suc n
+       → cond t (suc (plainTo l)) 0 ≡ suc n + plainTo (drop n l)
+    go true f q = omega (arith, f (omega (arith, q)))
+    go false f q = absurd (omega (arith, q))
+
+plain-some : (n : ℕ) (l : List ℕ) → plainTo (take n l) < n → plainTo l ≡ plainTo (take n l)
+plain-some zero l h = absurd (omega arith)
+plain-some (suc n) [] h = refl
+plain-some (suc n) (x ∷ l) h = go (isPrintable x) (plain-some n l) h
+  where
+    go : (t : Bool) → (plainTo (take n l) < n → plainTo l ≡ plainTo (take n l)) → cond t (suc (plainTo (take n l))) 0 < suc n
+       → cond t (suc (plainTo l)) 0 ≡ cond t (suc (plainTo (take n l))) 0
+    go true f q = ap suc (f (omega arith))
+    go false f q = refl
+
 module _ (s : List ℕ) (p i : ℕ) (k : Stepping s p i) where
   pub stepping-rest : (r : ℕ) → r ≡ i + plainTo (drop i s) → r ≡ p
   stepping-rest = passing-rest s p i (k .passing)
 
-  module _ (four : 4 ≤ length s - i) (t : Bool) (b : t ≡ isPrintable (getD s i 0)) where
-    pub first-stop : not t ≡ true → i ≡ p
-    first-stop = passing-stop s p i (k .passing) t (omega arith) b
+  module _ (eight : 8 ≤ length s - i) (m : ℕ) (q : Marked (take 8 (drop i s)) m) where
+    pub stepping-on : m ≡ 0 → Stepping s p (i + 8)
+    stepping-on e =
+        let a : plainTo (drop i s) ≡ 8 + plainTo (drop 8 (drop i s)) = plain-all 8 (drop i s) (q .none e) in
+        let d : drop 8 (drop i s) ≡ drop (i + 8) s = drop-drop 8 i s in
+        record { passing = record { left = rw (← d) (omega (arith, k .passing .left, a)) }; near = omega arith }
 
-    module _ (n : not t ≡ false) (t₁ : Bool) (b₁ : t₁ ≡ isPrintable (getD s (i + 1) 0)) where
-      first-on : Passing s p (i + 1)
-      first-on = passing-on s p i (k .passing) t (omega arith) b n (i + 1) refl
+    pub stepping-stop : (m ≡ 0 → ⊥) → i + trailingZeros 64 m / 8 ≡ p
+    stepping-stop e = omega (arith, k .passing .left, plain-some 8 (drop i s) (q .some e), q .before)
 
-      pub second-stop : not t₁ ≡ true → i + 1 ≡ p
-      second-stop = passing-stop s p (i + 1) first-on t₁ (omega arith) b₁
-
-      module _ (n₁ : not t₁ ≡ false) (t₂ : Bool) (b₂ : t₂ ≡ isPrintable (getD s (i + 2) 0)) where
-        second-on : Passing s p (i + 2)
-        second-on = passing-on s p (i + 1) first-on t₁ (omega arith) b₁ n₁ (i + 2) (omega arith)
-
-        pub third-stop : not t₂ ≡ true → i + 2 ≡ p
-        third-stop = passing-stop s p (i + 2) second-on t₂ (omega arith) b₂
-
-        module _ (n₂ : not t₂ ≡ false) (t₃ : Bool) (b₃ : t₃ ≡ isPrintable (getD s (i + 3) 0)) where
-          third-on : Passing s p (i + 3)
-          third-on = passing-on s p (i + 2) second-on t₂ (omega arith) b₂ n₂ (i + 3) (omega arith)
-
-          pub fourth-stop : not t₃ ≡ true → i + 3 ≡ p
-          fourth-stop = passing-stop s p (i + 3) third-on t₃ (omega arith) b₃
-
-          pub stepping-on : not t₃ ≡ false → Stepping s p (i + 4)
-          stepping-on n₃ = record { passing = passing-on s p (i + 3) third-on t₃ (omega arith) b₃ n₃ (i + 4) (omega arith); near = omega arith }
+    pub stepping-room : (m ≡ 0 → ⊥) → trailingZeros 64 m / 8 < 8
+    stepping-room e = omega (arith, q .some e, q .before)
 
 -- ---- parts of a text
 

@@ -3,9 +3,10 @@ use mathlib.Core.Bool.{Bool, true, cond, _&&_}
 use mathlib.Core.Option.{Option, none, some}
 use mathlib.Core.List.{List, [], _∷_}
 use mathlib.Core.Path.{_≡_}
-use Prim.Native.Nat.{ℕ, suc, _+_, _≤_, _<_, min}
-use lib.Dec.{ltb, leb}
-use lib.ListN.{length, take, drop}
+use Prim.Native.Nat.{ℕ, suc, _+_, _/_, _≤_, _<_, min}
+use lib.Dec.{ltb, leb, eqb}
+use lib.Count.{trailingZeros}
+use lib.ListN.{length, getD, take, drop}
 use Rattle.words.specs.Log.{part}
 use Rattle.sheet.specs.Bytes.{upTo, split, printable, index}
 use Rattle.sheet.specs.Forms.{Mode, keys, wordNumber, rowOfValue, rowOf}
@@ -43,6 +44,12 @@ isPrintable x = leb 32 x && leb x 126
 abbrev pub plainTo : List ℕ → ℕ
 plainTo [] = 0
 plainTo (x ∷ l) = cond (isPrintable x) (suc (plainTo l)) 0
+
+-- marks of eight bytes: 0 where all are printable, else as many eights of zeros as bytes before the first that is not
+pub record Marked (l : List ℕ) (m : ℕ) : Type 0 where
+  pub none : m ≡ 0 → plainTo l ≡ 8
+  pub some : (m ≡ 0 → ⊥) → plainTo l < 8
+  pub before : trailingZeros 64 m / 8 ≡ plainTo l
 
 -- the next line's number, counted up to 2^64 - 1
 abbrev pub lineAfter : ℕ → ℕ
@@ -91,6 +98,10 @@ told k (some n) = D.the-variants.Index n k
 
 abbrev pub indexIn : List ℕ → D.Leading
 indexIn s = told (upTo 44 s) (index (lead s))
+
+-- the index n of the first i bytes, where a comma follows or the end
+abbrev pub endedAt : List ℕ → ℕ → ℕ → D.Leading
+endedAt s n i = cond (ltb i (length s)) (cond (eqb (getD s i 0) 44) (D.the-variants.Index n i) D.the-variants.Other) (D.the-variants.Index n i)
 
 -- the item at a cursor as an index
 abbrev pub handed : Cursor → D.Leading → C.Counted
@@ -146,6 +157,11 @@ pub record LineRead (s : List ℕ) (c : Cursor) (r : L.Line) : Type 0 where
 pub record ItemRead (s : List ℕ) (c : Cursor) (r : I.Item) : Type 0 where
   pub is : r ≡ itemAt s c
   pub items : itemsAt s c ≡ itemsBy s c r
+
+-- the digit at a byte, or a number over 9 where none stands there
+pub record DigitRead (s : List ℕ) (i d : ℕ) : Type 0 where
+  pub there : d ≤ 9 → (i < length s) × (d + 48 ≡ getD s i 0)
+  pub none-there : 9 < d → i < length s → 48 ≤ getD s i 0 → getD s i 0 ≤ 57 → ⊥
 
 pub record LeadingRead (s : List ℕ) (r : D.Leading) : Type 0 where
   pub is : r ≡ indexIn s

@@ -65,10 +65,17 @@ ghost use Rattle.words.specs.Log.{part};
 ghost use Rattle.sheet.specs.Bytes.{upTo, split, same, printable, digitsFrom, decimal, atMost, index, half, upward, downward, long};
 ghost use Rattle.sheet.specs.Forms.{keys, wordNumber, tagOf, TYPE, VALUE, NODE};
 ghost use Rattle.scan.specs.Numbers.{numberOf, placed, formAfter, Packed, WordRead};
-ghost use Rattle.scan.specs.Places.{isPrintable, plainTo, lineAfter, HeadingRead, LineRead, LeadingRead, ItemRead, NumberRead};
+ghost use Rattle.scan.specs.Places.{isPrintable, plainTo, Marked, lineAfter, endedAt, HeadingRead, LineRead, DigitRead, LeadingRead, ItemRead, NumberRead};
 
 // 2^63, which a long is held above.
 const HALF: u64 = 9223372036854775808;
+
+// Eight bytes as one number: 1 and 128 in each, and what takes 32 from each.
+const EACH_1: u64 = 0x0101_0101_0101_0101;
+
+const EACH_128: u64 = 0x8080_8080_8080_8080;
+
+const LESS_32: u64 = 0xdfdf_dfdf_dfdf_dfe0;
 
 // The first forms of types, of values and of nodes, and what stands for a form that there is not.
 const FIRST_TYPE: u64 = BOOL_TYPE as u64;
@@ -545,57 +552,55 @@ pub fn index_of(bytes: &[u8]) -> Number
     }
 }
 
-// A zero in front, which stands alone.
-fn front_zero(bytes: &[u8]) -> Leading
-    requires { ⌜ (0 < length (now bytes)) × (getD (now bytes) 0 0 ≡ 48) ⌝ }
-    ensures { λ r. ⌜ LeadingRead (now (bytes .entry)) r ⌝ }
+// The digit at byte `i`, or a number over 9 where none stands there.
+fn digit_at(bytes: &[u8], i: usize) -> u32
+    ensures { λ d. ⌜ DigitRead (now (bytes .entry)) i d ⌝ }
 {
-    if 1 >= bytes.len() {
-        return Leading::Index(0, 1);
+    if i < bytes.len() {
+        return std::num::wrapping_sub_u8(bytes[i], b'0') as u32;
     }
-    if bytes[1] == b',' {
-        return Leading::Index(0, 1);
+    10
+}
+
+// The index `n` of the first `i` bytes, where a comma follows or the end.
+fn ended(bytes: &[u8], n: u32, i: usize) -> Leading
+    ensures { λ r. ⌜ r ≡ endedAt (now (bytes .entry)) n i ⌝ }
+{
+    if i >= bytes.len() {
+        return Leading::Index(n, i);
+    }
+    if bytes[i] == b',' {
+        return Leading::Index(n, i);
     }
     Leading::Other
 }
 
-// The index that stands before the first comma, or the end.
+// The index that stands before the first comma, or the end: a zero alone, or up to four digits.
 fn front_index(bytes: &[u8]) -> Leading
     ensures { λ r. ⌜ LeadingRead (now (bytes .entry)) r ⌝ }
 {
-    if bytes.len() == 0 {
+    let a = digit_at(bytes, 0);
+    if a > 9 {
         return Leading::Other;
     }
-    let x = bytes[0];
-    if x == b'0' {
-        return front_zero(bytes);
+    if a == 0 {
+        return ended(bytes, 0, 1);
     }
-    if x < b'0' {
-        return Leading::Other;
+    let b = digit_at(bytes, 1);
+    if b > 9 {
+        return ended(bytes, a, 1);
     }
-    if x > b'9' {
-        return Leading::Other;
+    let ab = a * 10 + b;
+    let c = digit_at(bytes, 2);
+    if c > 9 {
+        return ended(bytes, ab, 2);
     }
-    let mut n = (x - b'0') as u32;
-    let mut i = 1;
-    while i < bytes.len() {
-        let y = bytes[i];
-        if y == b',' {
-            return Leading::Index(n, i);
-        }
-        if y < b'0' {
-            return Leading::Other;
-        }
-        if y > b'9' {
-            return Leading::Other;
-        }
-        if n > 999 {
-            return Leading::Other;
-        }
-        n = n * 10 + (y - b'0') as u32;
-        i += 1;
+    let abc = ab * 10 + c;
+    let d = digit_at(bytes, 3);
+    if d > 9 {
+        return ended(bytes, abc, 3);
     }
-    Leading::Index(n, i)
+    ended(bytes, abc * 10 + d, 4)
 }
 
 // A long from its size, without a sign.
@@ -660,25 +665,29 @@ fn printable_to(bytes: &[u8], i: usize) -> usize
     i
 }
 
-// Where the first byte that is not printable stands, or the end: four bytes at a step, then one.
+// Marks of the eight bytes from byte `i` on, which stand as one number, the first the lowest: as many eights of zeros as bytes before the first that
+// is not printable. The highest bit of a byte says so: it is set in the sum with 224, which is 32 less, under 32, and in that with 1 from 127 on.
+fn marks(bytes: &[u8], i: usize) -> u64
+    requires { ⌜ i + 8 ≤ length (now bytes) ⌝ }
+    ensures { λ m. ⌜ Marked (take 8 (drop i (now (bytes .entry)))) m ⌝ }
+{
+    let word = four(bytes, i) + 0x1_0000_0000 * four(bytes, i + 4);
+    let low = std::num::wrapping_add_u64(word, LESS_32);
+    let high = std::num::wrapping_add_u64(word, EACH_1);
+    (low | high | word) & EACH_128
+}
+
+// Where the first byte that is not printable stands, or the end: eight bytes at a step, then one.
 fn printable_end(bytes: &[u8]) -> usize
     ensures { λ r. ⌜ r ≡ plainTo (now (bytes .entry)) ⌝ }
 {
     let mut i = 0;
-    while 4 <= bytes.len() - i {
-        if !plain(bytes[i]) {
-            return i;
+    while 8 <= bytes.len() - i {
+        let m = marks(bytes, i);
+        if m != 0 {
+            return i + (u64::trailing_zeros(m) / 8) as usize;
         }
-        if !plain(bytes[i + 1]) {
-            return i + 1;
-        }
-        if !plain(bytes[i + 2]) {
-            return i + 2;
-        }
-        if !plain(bytes[i + 3]) {
-            return i + 3;
-        }
-        i += 4;
+        i += 8;
     }
     printable_to(bytes, i)
 }

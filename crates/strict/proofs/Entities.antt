@@ -14,7 +14,7 @@ use denote.Enum.Declared.{tagOf}
 use Rattle.value.proofs.Shape.{the-type}
 use Rattle.cedar.specs.Evaluate.{isNil}
 use Rattle.cedar.specs.Rows.{stop, Row, rbool, rlong, rtext, rent, rset, rrec}
-use Rattle.cedar.specs.Numbered.{Give, made, old, NOut, give, fails, stays, truly, rEnt, rText, rRec, giveRow, memN, entryOf, isSome, orFail, allRent, nentity, nIn, nTargets, onEntries}
+use Rattle.cedar.specs.Numbered.{NEnv, Give, made, old, NOut, give, fails, stays, truly, rEnt, rText, rRec, giveRow, memN, entryOf, isSome, orFail, allRent, nentity, nIn, nTargets, onEntries}
 use Rattle.cedar.specs.Value.{onSome}
 use Rattle.cedar.specs.Numbered.{nlineOr}
 use Rattle.sheet.specs.Forms.{items, at, mark}
@@ -26,7 +26,7 @@ use Rattle.value.specs.declared.Shape.{Shape}
 use Rattle.value.specs.declared.Shape.the-variants.{Bool as Boolˢ, Long, Text, Entity, Set, Record}
 use Rattle.value.proofs.Lists.{Going, uncons, spent}
 use Rattle.strict.specs.Gives.{outOf, values, valueIn, modeOf, envIn}
-use Rattle.strict.specs.Lookups.{ATTRIBUTES, TAGS, stateIn, lineIn, partOf, partOfLine, partIn, lookFound, lookRow, lookIn, lookValue, lookAttr, takenOf, presentOf, getOut, hasOut, tagLook, gettagOut, hastagOut, isRentAt, inUnknownOut, inListOut, inOut, walkStep, walkFrom}
+use Rattle.strict.specs.Lookups.{ATTRIBUTES, TAGS, stateIn, lineIn, lineBy, envBy, partOf, partOfLine, partIn, partBy, lookFound, lookRow, lookIn, lookOver, lookValue, lookAttr, lookBy, takenOf, presentOf, getOut, hasOut, tagLook, gettagOut, hastagOut, isRentAt, inUnknownOut, inListOut, inOut, walkStep, walkFrom}
 use Rattle.strict.specs.declared.Given.{Given}
 use Rattle.strict.specs.declared.Given.the-variants.{Bool as Boolᵍ, Fails, Stays}
 use Rattle.strict.specs.declared.entity.Part.{Part}
@@ -47,24 +47,29 @@ given-or : (e : Give) (x : ℕ) (b : Bool) → cond b none (some (old x)) ≡ pa
 given-or e x true = refl
 given-or e x false = refl
 
-module _ (c : Bool) (a : List ℕ) (k t : ℕ) where
-  attrs-is : nentity (envIn c a) k t .attrs ≡ partGive (made (rrec stop)) (partIn c a k t ATTRIBUTES)
-  unfolding envIn nEnv partIn lineIn stateIn
-  attrs-is = go c (lookUp (held [] a []) k t)
-    where
-      go : (b : Bool) (o : Option (List ℕ)) → nlineOr (lineGiven (modeOf b) (held [] a []) o) .attrs ≡ partGive (made (rrec stop)) (partOfLine b o ATTRIBUTES)
-      go true none = refl
-      go false none = refl
-      go b (some r) = given-or (made (rrec stop)) (at r ATTRIBUTES) (eqb (at r ATTRIBUTES) mark)
+attrs-given : (a : List ℕ) (c : Bool) (o : Option (List ℕ)) → nlineOr (lineGiven (modeOf c) (held [] a []) o) .attrs ≡ partGive (made (rrec stop)) (partOfLine c o ATTRIBUTES)
+attrs-given a true none = refl
+attrs-given a false none = refl
+attrs-given a c (some r) = given-or (made (rrec stop)) (at r ATTRIBUTES) (eqb (at r ATTRIBUTES) mark)
 
-  tags-is : nentity (envIn c a) k t .tags ≡ partGive (made (rrec stop)) (partIn c a k t TAGS)
+tags-given : (a : List ℕ) (c : Bool) (o : Option (List ℕ)) → nlineOr (lineGiven (modeOf c) (held [] a []) o) .tags ≡ partGive (made (rrec stop)) (partOfLine c o TAGS)
+tags-given a true none = refl
+tags-given a false none = refl
+tags-given a c (some r) = given-or (made (rrec stop)) (at r TAGS) (eqb (at r TAGS) mark)
+
+module _ (c : Bool) (a : List ℕ) where
+  attrs-is : (k t : ℕ) → nentity (envIn c a) k t .attrs ≡ partGive (made (rrec stop)) (partIn c a k t ATTRIBUTES)
   unfolding envIn nEnv partIn lineIn stateIn
-  tags-is = go c (lookUp (held [] a []) k t)
-    where
-      go : (b : Bool) (o : Option (List ℕ)) → nlineOr (lineGiven (modeOf b) (held [] a []) o) .tags ≡ partGive (made (rrec stop)) (partOfLine b o TAGS)
-      go true none = refl
-      go false none = refl
-      go b (some r) = given-or (made (rrec stop)) (at r TAGS) (eqb (at r TAGS) mark)
+  attrs-is k t = attrs-given a c (lookUp (held [] a []) k t)
+
+  -- and as look-ups for value v find them
+  attrs-by : (v k t : ℕ) → nentity (envBy (modeOf c) a v) k t .attrs ≡ partGive (made (rrec stop)) (partBy c a v k t ATTRIBUTES)
+  unfolding envBy partBy stateIn
+  attrs-by v k t = attrs-given a c (lineBy a v k t)
+
+  tags-by : (v k t : ℕ) → nentity (envBy (modeOf c) a v) k t .tags ≡ partGive (made (rrec stop)) (partBy c a v k t TAGS)
+  unfolding envBy partBy stateIn
+  tags-by v k t = tags-given a c (lineBy a v k t)
 
 -- ---- fields
 
@@ -75,7 +80,7 @@ lookAs d w g Missing = g none
 lookAs d w g (Unknownˡ k) = w k
 lookAs d w g Bad = d
 
-module _ (c : Bool) (a : List ℕ) {A : Type 0} (d : A) (w : ℕ → A) (g : Option ℕ → A) (u : ℕ) where
+module _ (a : List ℕ) {A : Type 0} (d : A) (w : ℕ → A) (g : Option ℕ → A) (u : ℕ) where
   found-as : (o : Option ℕ) → g o ≡ lookAs d w g (lookFound o)
   found-as none = refl
   found-as (some x) = refl
@@ -95,13 +100,22 @@ module _ (c : Bool) (a : List ℕ) {A : Type 0} (d : A) (w : ℕ → A) (g : Opt
   in-part k (some none) = refl
   in-part k none = refl
 
-  pub in-value : (r : Row) → onEntries (envIn c a) (values a) d (λ k i. w k) r (λ e. g (entryOf u e)) ≡ lookAs d w g (lookValue c a r u)
-  in-value (rbool b) = refl
-  in-value (rlong n) = refl
-  in-value (rtext t) = refl
-  in-value (rent k t) = ap (λ (o : Option Give). onSome (w k) o (λ x. rRec d (giveRow (values a) x) (λ e. g (entryOf u e)))) (attrs-is c a k t) ∙ in-part k (partIn c a k t ATTRIBUTES)
-  in-value (rset l) = refl
-  in-value (rrec e) = found-as (entryOf u e)
+  -- where p gives the attributes of entities
+  in-over : (N : NEnv) (p : ℕ → ℕ → Option (Option ℕ)) → ((k t : ℕ) → nentity N k t .attrs ≡ partGive (made (rrec stop)) (p k t))
+      → (r : Row) → onEntries N (values a) d (λ k i. w k) r (λ e. g (entryOf u e)) ≡ lookAs d w g (lookOver p a r u)
+  in-over N p h (rbool b) = refl
+  in-over N p h (rlong n) = refl
+  in-over N p h (rtext t) = refl
+  in-over N p h (rent k t) = ap (λ (o : Option Give). onSome (w k) o (λ x. rRec d (giveRow (values a) x) (λ e. g (entryOf u e)))) (h k t) ∙ in-part k (p k t)
+  in-over N p h (rset l) = refl
+  in-over N p h (rrec e) = found-as (entryOf u e)
+
+pub in-value : (c : Bool) (a : List ℕ) {A : Type 0} (d : A) (w : ℕ → A) (g : Option ℕ → A) (u : ℕ) (r : Row) → onEntries (envIn c a) (values a) d (λ k i. w k) r (λ e. g (entryOf u e)) ≡ lookAs d w g (lookValue c a r u)
+in-value c a d w g u r = in-over a d w g u (envIn c a) (λ k t. partIn c a k t ATTRIBUTES) (attrs-is c a) r
+
+in-by : (c : Bool) (a : List ℕ) (v : ℕ) (g : Option ℕ → NOut) (u : ℕ) → onEntries (envBy (modeOf c) a v) (values a) fails (λ k i. stays) (valueIn a v) (λ e. g (entryOf u e)) ≡ lookAs fails (λ k. stays) g (lookBy c a v u)
+unfolding lookBy
+in-by c a v g u = in-over a fails (λ k. stays) g u (envBy (modeOf c) a v) (λ k t. partBy c a v k t ATTRIBUTES) (attrs-by c a v) (valueIn a v)
 
 taken-as : (l : Look) → outOf (takenOf l) ≡ lookAs fails (λ k. stays) orFail l
 taken-as (Atˡ x) = refl
@@ -115,40 +129,40 @@ present-as Missing = refl
 present-as (Unknownˡ k) = refl
 present-as Bad = refl
 
-module _ (c : Bool) (a : List ℕ) (v t : ℕ) (l : Look) (el : l ≡ lookAttr c a v t) (r : Given) where
+module _ (c : Bool) (a : List ℕ) (v t : ℕ) (l : Look) (el : l ≡ lookBy c a v t) (r : Given) where
   pub get-is : r ≡ takenOf l → outOf r ≡ getOut c a v t
-  unfolding getOut lookAttr
-  get-is e = ap outOf e ∙ taken-as l ∙ ap (lookAs fails (λ k. stays) orFail) el ∙ sym (in-value c a fails (λ k. stays) orFail t (valueIn a v))
+  unfolding getOut
+  get-is e = ap outOf e ∙ taken-as l ∙ ap (lookAs fails (λ k. stays) orFail) el ∙ sym (in-by c a v orFail t)
 
   pub has-is : r ≡ presentOf l → outOf r ≡ hasOut c a v t
-  unfolding hasOut lookAttr
-  has-is e = ap outOf e ∙ present-as l ∙ ap (lookAs fails (λ k. stays) (λ o. truly (isSome o))) el ∙ sym (in-value c a fails (λ k. stays) (λ o. truly (isSome o)) t (valueIn a v))
+  unfolding hasOut
+  has-is e = ap outOf e ∙ present-as l ∙ ap (lookAs fails (λ k. stays) (λ o. truly (isSome o))) el ∙ sym (in-by c a v (λ o. truly (isSome o)) t)
 
 -- ---- tags
 
 module _ (c : Bool) (a : List ℕ) (m : ℕ) (q : List ℕ) (s : Shape) (eq : q ≡ getD (valueLines a) m []) (es : s ≡ shapeOf q) (n : ℕ) where
   pub tag-first : OneOf (0 ∷ 1 ∷ 2 ∷ 4 ∷ 5 ∷ []) (tagOf the-type s) → Bad ≡ tagLook c a m n
   unfolding tagLook
-  tag-first h = rw (value-shape a m q s eq es) (sym (other-entity Bad (items q) s (λ k t. rText Bad (valueIn a n) (λ u. lookIn a k (partIn c a k t TAGS) u)) h))
+  tag-first h = rw (value-shape a m q s eq es) (sym (other-entity Bad (items q) s (λ k t. rText Bad (valueIn a n) (λ u. lookIn a k (partBy c a m k t TAGS) u)) h))
 
   module _ (k t : ℕ) (z : s ≡ Entity k t) (p : List ℕ) (d : Shape) (ep : p ≡ getD (valueLines a) n []) (ed : d ≡ shapeOf p) where
     pub tag-second : OneOf (0 ∷ 1 ∷ 3 ∷ 4 ∷ 5 ∷ []) (tagOf the-type d) → Bad ≡ tagLook c a m n
     unfolding tagLook
-    tag-second h = rw (value-shape a m q s eq es, z, value-shape a n p d ep ed) (sym (other-text Bad (items p) d (λ u. lookIn a k (partIn c a k t TAGS) u) h))
+    tag-second h = rw (value-shape a m q s eq es, z, value-shape a n p d ep ed) (sym (other-text Bad (items p) d (λ u. lookIn a k (partBy c a m k t TAGS) u) h))
 
-    pub tag-both : (u : ℕ) (f : Part) (r : Look) → d ≡ Text u → partOf f ≡ partIn c a k t TAGS → r ≡ lookIn a k (partOf f) u → r ≡ tagLook c a m n
+    pub tag-both : (u : ℕ) (f : Part) (r : Look) → d ≡ Text u → partOf f ≡ partBy c a m k t TAGS → r ≡ lookIn a k (partOf f) u → r ≡ tagLook c a m n
     unfolding tagLook
     tag-both u f r y ef e = e ∙ ap (λ (o : Option (Option ℕ)). lookIn a k o u) ef ∙ rw (value-shape a m q s eq es, z, value-shape a n p d ep ed, y)
 
-module _ (c : Bool) (a : List ℕ) (g : Option ℕ → NOut) where
-  in-tag : (r s : Row) → rEnt fails r (λ k t. rText fails s (λ u. onSome stays (nentity (envIn c a) k t .tags) (λ x. rRec fails (giveRow (values a) x) (λ e. g (entryOf u e)))))
-      ≡ lookAs fails (λ k. stays) g (rEnt Bad r (λ k t. rText Bad s (λ u. lookIn a k (partIn c a k t TAGS) u)))
+module _ (c : Bool) (a : List ℕ) (m : ℕ) (g : Option ℕ → NOut) where
+  in-tag : (r s : Row) → rEnt fails r (λ k t. rText fails s (λ u. onSome stays (nentity (envBy (modeOf c) a m) k t .tags) (λ x. rRec fails (giveRow (values a) x) (λ e. g (entryOf u e)))))
+      ≡ lookAs fails (λ k. stays) g (rEnt Bad r (λ k t. rText Bad s (λ u. lookIn a k (partBy c a m k t TAGS) u)))
   in-tag (rbool b) s = refl
   in-tag (rlong n) s = refl
   in-tag (rtext t) s = refl
   in-tag (rent k t) (rbool b) = refl
   in-tag (rent k t) (rlong n) = refl
-  in-tag (rent k t) (rtext u) = ap (λ (o : Option Give). onSome stays o (λ x. rRec fails (giveRow (values a) x) (λ e. g (entryOf u e)))) (tags-is c a k t) ∙ in-part c a fails (λ i. stays) g u k (partIn c a k t TAGS)
+  in-tag (rent k t) (rtext u) = ap (λ (o : Option Give). onSome stays o (λ x. rRec fails (giveRow (values a) x) (λ e. g (entryOf u e)))) (tags-by c a m k t) ∙ in-part a fails (λ i. stays) g u k (partBy c a m k t TAGS)
   in-tag (rent k t) (rent l u) = refl
   in-tag (rent k t) (rset l) = refl
   in-tag (rent k t) (rrec e) = refl
@@ -158,11 +172,11 @@ module _ (c : Bool) (a : List ℕ) (g : Option ℕ → NOut) where
 module _ (c : Bool) (a : List ℕ) (m n : ℕ) (l : Look) (el : l ≡ tagLook c a m n) (r : Given) where
   pub gettag-is : r ≡ takenOf l → outOf r ≡ gettagOut c a m n
   unfolding gettagOut tagLook
-  gettag-is e = ap outOf e ∙ taken-as l ∙ ap (lookAs fails (λ k. stays) orFail) el ∙ sym (in-tag c a orFail (valueIn a m) (valueIn a n))
+  gettag-is e = ap outOf e ∙ taken-as l ∙ ap (lookAs fails (λ k. stays) orFail) el ∙ sym (in-tag c a m orFail (valueIn a m) (valueIn a n))
 
   pub hastag-is : r ≡ presentOf l → outOf r ≡ hastagOut c a m n
   unfolding hastagOut tagLook
-  hastag-is e = ap outOf e ∙ present-as l ∙ ap (lookAs fails (λ k. stays) (λ o. truly (isSome o))) el ∙ sym (in-tag c a (λ o. truly (isSome o)) (valueIn a m) (valueIn a n))
+  hastag-is e = ap outOf e ∙ present-as l ∙ ap (lookAs fails (λ k. stays) (λ o. truly (isSome o))) el ∙ sym (in-tag c a m (λ o. truly (isSome o)) (valueIn a m) (valueIn a n))
 
 -- ---- in
 
@@ -213,7 +227,7 @@ module _ (a l : List ℕ) (i : ℕ) (g : Going (allRent (values a) l) (allRent (
 
 module _ (c : Bool) (a : List ℕ) (m n : ℕ) (q : List ℕ) (s : Shape) (eq : q ≡ getD (valueLines a) m []) (es : s ≡ shapeOf q) where
   abbrev inFor : Row → ℕ → ℕ → NOut
-  inFor r k t = onSome fails (nTargets (values a) n r) (nIn (values a) m (nentity (envIn c a) k t .ancestors))
+  inFor r k t = onSome fails (nTargets (values a) n r) (nIn (values a) m (nentity (envBy (modeOf c) a m) k t .ancestors))
 
   pub in-first : OneOf (0 ∷ 1 ∷ 2 ∷ 4 ∷ 5 ∷ []) (tagOf the-type s) → outOf Fails ≡ inOut c a m n
   unfolding inOut
@@ -229,7 +243,7 @@ module _ (c : Bool) (a : List ℕ) (m n : ℕ) (q : List ℕ) (s : Shape) (eq : 
     in-entity j i g y e = e ∙ sym (in-both ∙ ap (λ (x : Shape). inFor (shapeRow x (items p)) k t) y)
 
     module _ (y : d ≡ Set) (l : List ℕ) (el : l ≡ items p) (b : Bool) (eb : b ≡ allRent (values a) l) where
-      in-members : inOut c a m n ≡ onSome fails (cond b (some l) none) (nIn (values a) m (nentity (envIn c a) k t .ancestors))
+      in-members : inOut c a m n ≡ onSome fails (cond b (some l) none) (nIn (values a) m (nentity (envBy (modeOf c) a m) k t .ancestors))
       in-members = in-both ∙ rw (y, ← el, ← eb)
 
       pub in-mixed : not b ≡ true → outOf Fails ≡ inOut c a m n

@@ -33,7 +33,7 @@ use Rattle.value.specs.declared.Entry.the-variants.{At, Nothing}
 use Rattle.value.proofs.Shaped.{shape-row}
 use Rattle.value.proofs.Lists.{uncons, spent}
 use Rattle.strict.specs.Gives.{valueIn}
-use Rattle.strict.specs.Lookups.{stateIn, textThere, isEntityAt, lineAt, lineIn, partOf, partOfLine, partIn, lookFound, lookRow, lookIn, lookValue, lookAttr, takenOf, presentOf}
+use Rattle.strict.specs.Lookups.{stateIn, textThere, isEntityAt, lineAt, lineIn, lineBy, partOf, partOfLine, partIn, partBy, lookFound, lookRow, lookIn, lookOver, lookAttr, lookBy, takenOf, presentOf}
 use Rattle.strict.specs.declared.Given.the-variants.{Bool as Boolᵍ, Old, Fails, Stays}
 use Rattle.strict.specs.declared.entity.Part.{Part}
 use Rattle.strict.specs.declared.entity.Part.the-variants.{Known, Empty, Unknown}
@@ -249,6 +249,10 @@ pub part-line : (c : Bool) (a : List ℕ) (k t j : ℕ) (e : Entry) (p : Part) �
 unfolding partIn
 part-line c a k t j e p el ep = ep ∙ ap (λ (o : Option (List ℕ)). partOfLine c o j) el
 
+pub part-by : (c : Bool) (a : List ℕ) (v k t j : ℕ) (e : Entry) (p : Part) → lineAt (rowsOf a ENTITY) e ≡ lineBy a v k t → partOf p ≡ partOfLine c (lineAt (rowsOf a ENTITY) e) j → partOf p ≡ partBy c a v k t j
+unfolding partBy
+part-by c a v k t j e p el ep = ep ∙ ap (λ (o : Option (List ℕ)). partOfLine c o j) el
+
 -- ---- a text in a record
 
 module _ (a : List ℕ) (v : ℕ) (q : List ℕ) (s : Shape) (eq : q ≡ getD (valueLines a) v []) (es : s ≡ shapeOf q) (u : ℕ) where
@@ -267,11 +271,12 @@ module _ (a : List ℕ) (v : ℕ) (q : List ℕ) (s : Shape) (eq : q ≡ getD (v
     pub look-found : (x : ℕ) → e ≡ At x → Atˡ x ≡ lookRow (valueIn a v) u
     look-found x y = sym (look-row ∙ ap lookFound (sym ee ∙ ap valueFound y))
 
-  pub attr-other : (c : Bool) (r : Look) → OneOf (0 ∷ 1 ∷ 2 ∷ 4 ∷ 5 ∷ []) (tagOf the-type s) → r ≡ lookRow (valueIn a v) u → r ≡ lookAttr c a v u
-  unfolding lookAttr lookRow
-  attr-other c r h e = e ∙ rw (value-shape a v q s eq es) (go s h)
+  -- or among the attributes of an entity, which p gives
+  over-other : (p : ℕ → ℕ → Option (Option ℕ)) (r : Look) → OneOf (0 ∷ 1 ∷ 2 ∷ 4 ∷ 5 ∷ []) (tagOf the-type s) → r ≡ lookRow (valueIn a v) u → r ≡ lookOver p a (valueIn a v) u
+  unfolding lookRow
+  over-other p r h e = e ∙ rw (value-shape a v q s eq es) (go s h)
     where
-      go : (x : Shape) → OneOf (0 ∷ 1 ∷ 2 ∷ 4 ∷ 5 ∷ []) (tagOf the-type x) → rRec Bad (shapeRow x (items q)) (λ m. lookFound (entryOf u m)) ≡ lookValue c a (shapeRow x (items q)) u
+      go : (x : Shape) → OneOf (0 ∷ 1 ∷ 2 ∷ 4 ∷ 5 ∷ []) (tagOf the-type x) → rRec Bad (shapeRow x (items q)) (λ m. lookFound (entryOf u m)) ≡ lookOver p a (shapeRow x (items q)) u
       go (Boolˢ b) y = refl
       go (Long w) y = refl
       go (Text t) y = refl
@@ -279,9 +284,24 @@ module _ (a : List ℕ) (v : ℕ) (q : List ℕ) (s : Shape) (eq : q ≡ getD (v
       go Set y = refl
       go Record y = refl
 
+  over-entity : (p : ℕ → ℕ → Option (Option ℕ)) (k t : ℕ) (o : Option (Option ℕ)) (r : Look) → s ≡ Entity k t → o ≡ p k t → r ≡ lookIn a k o u → r ≡ lookOver p a (valueIn a v) u
+  over-entity p k t o r z ep e = e ∙ ap (λ (x : Option (Option ℕ)). lookIn a k x u) ep ∙ rw (value-shape a v q s eq es, z)
+
+  pub attr-other : (c : Bool) (r : Look) → OneOf (0 ∷ 1 ∷ 2 ∷ 4 ∷ 5 ∷ []) (tagOf the-type s) → r ≡ lookRow (valueIn a v) u → r ≡ lookAttr c a v u
+  unfolding lookAttr
+  attr-other c r h e = over-other (λ k t. partIn c a k t 1) r h e
+
   pub attr-entity : (c : Bool) (k t : ℕ) (p : Part) (r : Look) → s ≡ Entity k t → partOf p ≡ partIn c a k t 1 → r ≡ lookIn a k (partOf p) u → r ≡ lookAttr c a v u
   unfolding lookAttr
-  attr-entity c k t p r z ep e = e ∙ ap (λ (o : Option (Option ℕ)). lookIn a k o u) ep ∙ rw (value-shape a v q s eq es, z)
+  attr-entity c k t p r z ep e = over-entity (λ i j. partIn c a i j 1) k t (partOf p) r z ep e
+
+  pub by-other : (c : Bool) (r : Look) → OneOf (0 ∷ 1 ∷ 2 ∷ 4 ∷ 5 ∷ []) (tagOf the-type s) → r ≡ lookRow (valueIn a v) u → r ≡ lookBy c a v u
+  unfolding lookBy
+  by-other c r h e = over-other (λ k t. partBy c a v k t 1) r h e
+
+  pub by-entity : (c : Bool) (k t : ℕ) (p : Part) (r : Look) → s ≡ Entity k t → partOf p ≡ partBy c a v k t 1 → r ≡ lookIn a k (partOf p) u → r ≡ lookBy c a v u
+  unfolding lookBy
+  by-entity c k t p r z ep e = over-entity (λ i j. partBy c a v i j 1) k t (partOf p) r z ep e
 
 module _ (a : List ℕ) (k u : ℕ) (p : Part) where
   pub look-unknown : p ≡ Unknown → Unknownˡ k ≡ lookIn a k (partOf p) u

@@ -1,6 +1,7 @@
 pub mod Shapes
 pub mod Plain
 pub mod Finds
+pub mod Halving
 pub mod Entities
 pub mod Leaping
 pub mod Noting

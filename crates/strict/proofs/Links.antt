@@ -17,7 +17,7 @@ use Rattle.sheet.specs.State.{valueRow}
 use Rattle.table.specs.Layout.{rowsOf, textAt, held, linesHeld}
 use Rattle.table.proofs.Rows.{text-held}
 use Rattle.strict.specs.Gives.{values, valueIn, modeOf, envIn, longsOut, notOut, negOut, emptyOut, isOut, likeOut, arithOut, containsOut, allOut, anyOut}
-use Rattle.strict.specs.Lookups.{getOut, hasOut, gettagOut, hastagOut, inOut}
+use Rattle.strict.specs.Lookups.{envBy, getOut, hasOut, gettagOut, hastagOut, inOut}
 
 -- ---- one operand
 
@@ -87,23 +87,23 @@ module _ (c : Bool) (a : List ℕ) where
   unfolding valueIn
   value-link v = refl
 
-  pub get-link : (v t : ℕ) → getOut c a v t ≡ nGet (envIn c a) (values a) t (rowAt (values a) v)
+  pub get-link : (v t : ℕ) → getOut c a v t ≡ nGet (envBy (modeOf c) a v) (values a) t (rowAt (values a) v)
   unfolding getOut valueIn
   get-link v t = refl
 
-  pub has-link : (v t : ℕ) → hasOut c a v t ≡ nHas (envIn c a) (values a) t (rowAt (values a) v)
+  pub has-link : (v t : ℕ) → hasOut c a v t ≡ nHas (envBy (modeOf c) a v) (values a) t (rowAt (values a) v)
   unfolding hasOut valueIn
   has-link v t = refl
 
-  pub gettag-link : (m n : ℕ) → gettagOut c a m n ≡ nRel (envIn c a) (values a) rgettag m n (rowAt (values a) m) (rowAt (values a) n)
+  pub gettag-link : (m n : ℕ) → gettagOut c a m n ≡ nRel (envBy (modeOf c) a m) (values a) rgettag m n (rowAt (values a) m) (rowAt (values a) n)
   unfolding gettagOut valueIn
   gettag-link m n = refl
 
-  pub hastag-link : (m n : ℕ) → hastagOut c a m n ≡ nRel (envIn c a) (values a) rhastag m n (rowAt (values a) m) (rowAt (values a) n)
+  pub hastag-link : (m n : ℕ) → hastagOut c a m n ≡ nRel (envBy (modeOf c) a m) (values a) rhastag m n (rowAt (values a) m) (rowAt (values a) n)
   unfolding hastagOut valueIn
   hastag-link m n = refl
 
-  pub in-link : (m n : ℕ) → inOut c a m n ≡ nRel (envIn c a) (values a) rin m n (rowAt (values a) m) (rowAt (values a) n)
+  pub in-link : (m n : ℕ) → inOut c a m n ≡ nRel (envBy (modeOf c) a m) (values a) rin m n (rowAt (values a) m) (rowAt (values a) n)
   unfolding inOut valueIn
   in-link m n = refl
 
@@ -116,7 +116,7 @@ module _ (c : Bool) (a : List ℕ) where
     same-request resource = refl
     same-request context = refl
 
-    same-lines : (e : Row) (rs : List (List ℕ)) → entityLine (held [] a []) e rs ≡ entityLine (held sheet a b) e rs
+    pub same-lines : (e : Row) (rs : List (List ℕ)) → entityLine (held [] a []) e rs ≡ entityLine (held sheet a b) e rs
     unfolding held linesHeld
     same-lines e [] = refl
     same-lines e (r ∷ rs) = ap (λ (o : Option (List ℕ)). cond (sameRow (valueRow (getD (rowsOf a VALUE) (at r 0) [])) e) (some r) o) (same-lines e rs)

@@ -11,7 +11,7 @@ use Rattle.cedar.specs.Evaluate.{isNil}
 use Rattle.cedar.specs.Rows.{rset}
 use Rattle.cedar.specs.Numbered.{Give, made, stays, truly, memN, anyN, nlineOr, nentity, nIn}
 use Rattle.sheet.specs.Forms.{VALUE, ENTITY}
-use Rattle.sheet.specs.Content.{nEnv, lineGiven, knownAbove, mapSome}
+use Rattle.sheet.specs.Content.{lineGiven, knownAbove, mapSome}
 use Rattle.sheet.specs.Parents.{ancestors, unknownAbove}
 use Rattle.table.specs.Layout.{held, linesHeld, rowsOf}
 use Rattle.value.specs.declared.Entry.{Entry}
@@ -19,15 +19,15 @@ use Rattle.value.specs.declared.Entry.the-variants.{At, Nothing}
 use Rattle.reach.specs.Marks.{LINES, HIDDEN, lineRows, Found, anyMet}
 use Rattle.reach.proofs.Asking.{meets-is, open-is}
 use Rattle.reach.proofs.Steps.{any-none}
-use Rattle.strict.specs.Gives.{outOf, values, modeOf, envIn}
-use Rattle.strict.specs.Lookups.{stateIn, lineIn, lineAt, aboveIn, Unknowns, Above, inLineOut, inUnlistedOut, inUnknownOut, inListOut}
+use Rattle.strict.specs.Gives.{outOf, values, modeOf}
+use Rattle.strict.specs.Lookups.{stateIn, lineBy, envBy, lineAt, aboveIn, Unknowns, Above, inLineOut, inUnlistedOut, inUnknownOut, inListOut}
 use Rattle.strict.specs.declared.Given.{Given}
 use Rattle.strict.specs.declared.Given.the-variants.{Bool as Boolᵍ, Stays}
 
 -- the ancestors of a line that is found, and of an unlisted entity
-ancestors-is : (c : Bool) (a : List ℕ) (k t : ℕ) (o : Option (List ℕ)) → lineIn a k t ≡ o → nentity (envIn c a) k t .ancestors ≡ nlineOr (lineGiven (modeOf c) (stateIn a) o) .ancestors
-unfolding envIn nEnv lineIn stateIn
-ancestors-is c a k t o e = ap (λ (x : Option (List ℕ)). nlineOr (lineGiven (modeOf c) (held [] a []) x) .ancestors) e
+ancestors-by : (c : Bool) (a : List ℕ) (v k t : ℕ) (o : Option (List ℕ)) → lineBy a v k t ≡ o → nentity (envBy (modeOf c) a v) k t .ancestors ≡ nlineOr (lineGiven (modeOf c) (stateIn a) o) .ancestors
+unfolding envBy
+ancestors-by c a v k t o e = ap (λ (x : Option (List ℕ)). nlineOr (lineGiven (modeOf c) (stateIn a) x) .ancestors) e
 
 or-end : (b : Bool) → (b || false) ≡ b
 or-end true = refl
@@ -103,10 +103,10 @@ module _ (c : Bool) (m : ℕ) (l : List ℕ) where
   unfolding inUnlistedOut
   unlisted-partial e g h = h ∙ sym (ap (λ (x : Bool). cond x (truly (memN m l)) (inUnknownOut m l)) e)
 
-module _ (c : Bool) (a : List ℕ) (m k t : ℕ) (l : List ℕ) (x : Entry) (ex : lineAt (rowsOf a ENTITY) x ≡ lineIn a k t) where
+module _ (c : Bool) (a : List ℕ) (m k t : ℕ) (l : List ℕ) (x : Entry) (ex : lineAt (rowsOf a ENTITY) x ≡ lineBy a m k t) where
   pub list-none : x ≡ Nothing → (g : Given) → outOf g ≡ inUnlistedOut c m l → outOf g ≡ inListOut c a m k t l
   unfolding inListOut inUnlistedOut inUnknownOut
-  list-none z g e = e ∙ sym (ap (λ (o : Option Give). nIn (values a) m o l) (ancestors-is c a k t none (sym ex ∙ ap (lineAt (rowsOf a ENTITY)) z)) ∙ go c)
+  list-none z g e = e ∙ sym (ap (λ (o : Option Give). nIn (values a) m o l) (ancestors-by c a m k t none (sym ex ∙ ap (lineAt (rowsOf a ENTITY)) z)) ∙ go c)
     where
       go : (b : Bool) → nIn (values a) m (nlineOr (lineGiven (modeOf b) (stateIn a) none) .ancestors) l ≡ cond b (truly (memN m l)) (cond (memN m l) (truly true) (cond (isNil l) (truly false) stays))
       go true = ap truly (ap (λ (y : Bool). memN m l || y) (any-none l) ∙ or-end (memN m l))
@@ -115,4 +115,4 @@ module _ (c : Bool) (a : List ℕ) (m k t : ℕ) (l : List ℕ) (x : Entry) (ex 
   pub list-line : (i : ℕ) → x ≡ At i → (r : List ℕ) (v : ℕ) → r ≡ getD (rowsOf a ENTITY) i [] → v ≡ getD r 1 0 → (g : Given) → outOf g ≡ inLineOut c a m v l → outOf g ≡ inListOut c a m k t l
   unfolding inListOut inLineOut
   list-line i z r v er ev g e = e ∙ ap (λ (y : ℕ). nIn (values a) m (aboveIn c a y) l) (ev ∙ ap (λ (q : List ℕ). getD q 1 0) er)
-      ∙ sym (ap (λ (o : Option Give). nIn (values a) m o l) (ancestors-is c a k t (some (getD (rowsOf a ENTITY) i [])) (sym ex ∙ ap (lineAt (rowsOf a ENTITY)) z)))
+      ∙ sym (ap (λ (o : Option Give). nIn (values a) m o l) (ancestors-by c a m k t (some (getD (rowsOf a ENTITY) i [])) (sym ex ∙ ap (lineAt (rowsOf a ENTITY)) z)))

@@ -6,6 +6,8 @@ use crate::chains::find_chained;
 use crate::chains::index;
 use crate::entries::entry_rising;
 use crate::entries::rises;
+use crate::firsts::CELLS;
+use crate::firsts::column_of;
 use crate::firsts::firsts;
 use forms::ENTITY;
 use forms::MARK;
@@ -16,7 +18,6 @@ use reach::VALUES;
 use reach::meets_above;
 use reach::open_above;
 use reach::reach;
-use reach::values;
 use table::base_of;
 use table::count;
 use table::item;
@@ -33,7 +34,6 @@ use words::put;
 use words::read;
 ghost use mathlib.Core.Path.{_≡_};
 ghost use Prim.Native.Nat.{_+_, _≤_, _<_};
-ghost use lib.Dec.{eqb};
 ghost use lib.ListN.{getD, length, drop};
 ghost use Rattle.words.specs.Log.{part};
 ghost use Rattle.sheet.specs.Forms.{ENTITY};
@@ -41,15 +41,20 @@ ghost use Rattle.table.specs.Layout.{rowsOf};
 ghost use Rattle.cedar.specs.Numbered.{allRent};
 ghost use Rattle.reach.specs.Marks.{FAR};
 ghost use Rattle.strict.specs.Gives.{outOf, values, valueIn};
-ghost use Rattle.strict.specs.Lookups.{ATTRIBUTES, TAGS, textThere, isEntityAt, lineAt, lineIn, partOf, partOfLine, partIn, lookRow, lookIn, lookAttr, takenOf, presentOf, getOut, hasOut, tagLook, gettagOut, hastagOut, isRentAt, inUnknownOut, Unknowns, Above, inLineOut, inUnlistedOut, inListOut, inOut, walkFrom};
+ghost use Rattle.strict.specs.Lookups.{ATTRIBUTES, TAGS, HALF, HALVINGS, textThere, isEntityAt, lineAt, lineIn, nearer, ledFrom, isLine, lineBy, partOf, partOfLine, partIn, partBy, lookRow, lookIn, lookBy, takenOf, presentOf, getOut, hasOut, tagLook, gettagOut, hastagOut, isRentAt, inUnknownOut, Unknowns, Above, inLineOut, inUnlistedOut, inListOut, inOut, walkFrom};
 ghost use Rattle.strict.specs.Chains.{Chained};
-ghost use Rattle.strict.specs.Firsts.{Firsts};
+ghost use Rattle.strict.specs.Firsts.{CELLS, Firsts, Hits};
 ghost use Rattle.strict.specs.Noted.{Spans, Noted, Placed, Looked};
 
 // Where an entity's attributes and tags stand in its line.
 const ATTRIBUTES: usize = 1;
 
 const TAGS: usize = 2;
+
+// The first step of halving, and how many steps pass over all lines.
+const HALF: u32 = 64;
+
+const HALVINGS: u32 = 7;
 
 // A path of so many steps is a long one.
 const LONG: usize = 4;
@@ -110,7 +115,7 @@ pub fn first_of(rows: &[u32], start: usize, end: usize) -> u32
     read(rows, start + 1)
 }
 
-// The line of an entity: each line begins where the one before ends.
+// The first line of an entity: each line begins where the one before ends.
 pub fn find_entity(rows: &[u32], kind: u32, text: u32) -> Entry
     ensures { λ r. ⌜ lineAt (rowsOf (now (rows .entry)) ENTITY) r ≡ lineIn (now (rows .entry)) kind text ⌝ }
 {
@@ -131,6 +136,58 @@ pub fn find_entity(rows: &[u32], kind: u32, text: u32) -> Entry
     }
 }
 
+// Of line `line` and a later one the later, where it is there and its entity's number is at most `value`.
+fn nearer(rows: &[u32], value: u32, line: u32, later: u32) -> u32
+    ensures { λ i. ⌜ i ≡ nearer (rowsOf (now (rows .entry)) ENTITY) value line later ⌝ }
+{
+    if later >= count(rows, ENTITY) {
+        return line;
+    }
+    if item(row(rows, ENTITY, later), 1) <= value {
+        return later;
+    }
+    line
+}
+
+// The line that halving leads to: the last whose entity's number is at most `value`, where lines ascend by it.
+fn led_by(rows: &[u32], value: u32) -> u32
+    ensures { λ i. ⌜ i ≡ ledFrom (rowsOf (now (rows .entry)) ENTITY) value HALVINGS HALF 0 ⌝ }
+{
+    let mut line = 0;
+    let mut step = HALF;
+    let mut left = HALVINGS;
+    while left > 0 {
+        line = nearer(rows, value, line, line + step);
+        step /= 2;
+        left -= 1;
+    }
+    line
+}
+
+// Whether line `line` names `value`, which is the entity of this kind and text.
+fn is_line(rows: &[u32], value: u32, kind: u32, text: u32, line: u32) -> bool
+    ensures { λ r. ⌜ r ≡ isLine (now (rows .entry)) value kind text line ⌝ }
+{
+    if line >= count(rows, ENTITY) {
+        return false;
+    }
+    if item(row(rows, ENTITY, line), 1) != value {
+        return false;
+    }
+    is_entity(rows, value, kind, text)
+}
+
+// The line of entity `value`, of this kind and text, by its number. Where halving does not lead to it, it is looked for.
+fn line_of(rows: &[u32], value: u32, kind: u32, text: u32) -> Entry
+    ensures { λ r. ⌜ lineAt (rowsOf (now (rows .entry)) ENTITY) r ≡ lineBy (now (rows .entry)) value kind text ⌝ }
+{
+    let line = led_by(rows, value);
+    if is_line(rows, value, kind, text, line) {
+        return Entry::At(line);
+    }
+    find_entity(rows, kind, text)
+}
+
 // The item at `place` of an entity's line as it was found, its attributes or its tags.
 fn part_at(rows: &[u32], complete: bool, line: Entry, place: usize) -> Part
     requires { ⌜ place ≤ TAGS ⌝ }
@@ -149,12 +206,12 @@ fn part_at(rows: &[u32], complete: bool, line: Entry, place: usize) -> Part
     Part::Known(x)
 }
 
-// The item at `place` of an entity's line.
-pub fn part_of(rows: &[u32], complete: bool, kind: u32, text: u32, place: usize) -> Part
+// The item at `place` of the line of entity `value`.
+fn part_of(rows: &[u32], complete: bool, value: u32, kind: u32, text: u32, place: usize) -> Part
     requires { ⌜ place ≤ TAGS ⌝ }
-    ensures { λ r. ⌜ partOf r ≡ partIn complete (now (rows .entry)) kind text place ⌝ }
+    ensures { λ r. ⌜ partOf r ≡ partBy complete (now (rows .entry)) value kind text place ⌝ }
 {
-    part_at(rows, complete, find_entity(rows, kind, text), place)
+    part_at(rows, complete, line_of(rows, value, kind, text), place)
 }
 
 // The attributes of an entity, by chains of lines.
@@ -204,14 +261,19 @@ fn look_at(rows: &[u32], value: u32, text: u32) -> Look
 }
 
 // `text` among the attributes of a record or an entity.
-pub fn look_attr(rows: &[u32], complete: bool, value: u32, text: u32) -> Look
-    ensures { λ r. ⌜ r ≡ lookAttr complete (now (rows .entry)) value text ⌝ }
+fn look_attr(rows: &[u32], complete: bool, value: u32, text: u32) -> Look
+    ensures { λ r. ⌜ r ≡ lookBy complete (now (rows .entry)) value text ⌝ }
 {
     let s = shape_of(row_of(rows, value as usize));
     let Shape::Entity(k, t) = s else {
         return look_at(rows, value, text);
     };
-    look_in(rows, k, part_of(rows, complete, k, t, ATTRIBUTES), text)
+    look_in(
+        rows,
+        k,
+        part_of(rows, complete, value, k, t, ATTRIBUTES),
+        text,
+    )
 }
 
 // What was found; an error where it is missing.
@@ -264,7 +326,7 @@ fn look_tag(rows: &[u32], complete: bool, left: u32, right: u32) -> Look
     let Shape::Text(u) = d else {
         return Look::Bad;
     };
-    look_in(rows, k, part_of(rows, complete, k, t, TAGS), u)
+    look_in(rows, k, part_of(rows, complete, left, k, t, TAGS), u)
 }
 
 // A tag of an entity.
@@ -358,14 +420,13 @@ fn in_above(rows: &[u32], complete: bool, value: u32, listed: u32, list: &[u32])
 {
     let mut marks: [u32; MARKS] = [0; MARKS];
     let mut met: [u8; VALUES] = [0; VALUES];
-    let n = values(rows);
     in_found(
         rows,
         complete,
         value,
         listed,
         list,
-        &mut met[..n],
+        &mut met[..],
         &mut marks[..],
     )
 }
@@ -397,7 +458,7 @@ fn in_unlisted(complete: bool, value: u32, list: &[u32]) -> Given
 fn in_list(rows: &[u32], complete: bool, value: u32, kind: u32, text: u32, list: &[u32]) -> Given
     ensures { λ r. ⌜ outOf r ≡ inListOut complete (now (rows .entry)) value kind text (now (list .entry)) ⌝ }
 {
-    let Entry::At(i) = find_entity(rows, kind, text) else {
+    let Entry::At(i) = line_of(rows, value, kind, text) else {
         return in_unlisted(complete, value, list);
     };
     in_line(rows, complete, value, item(row(rows, ENTITY, i), 1), list)
@@ -615,18 +676,29 @@ fn walk_on(rows: &[u32], complete: bool, value: u32, first: usize, path: &[u32])
     )
 }
 
-// Whether the attribute noted for `value` has this text.
-fn leads(texts: &[u32], value: u32, text: u32) -> bool
-    ensures { λ b. ⌜ b ≡ eqb (getD (now (texts .entry)) value 0) (text + 1) ⌝ }
+// A word of the cell of `value` in a column.
+fn cell_at(words: &[u32], column: usize, value: u32) -> u32
+    ensures { λ x. ⌜ x ≡ getD (now (words .entry)) (column + value) 0 ⌝ }
 {
-    read(texts, value as usize) as usize == text as usize + 1
+    read(cut(words, column, words.len()), value as usize)
 }
 
-// The value that it leads to.
-fn led_to(nexts: &[u32], value: u32) -> u32
-    ensures { λ x. ⌜ x ≡ getD (now (nexts .entry)) value 0 ⌝ }
+// The cell of `value` in a column.
+fn cell_in(column: usize, value: u32) -> usize
+    requires { ⌜ column ≤ CELLS ⌝ }
+    ensures { λ c. ⌜ c ≡ column + value ⌝ }
 {
-    read(nexts, value as usize)
+    column + value as usize
+}
+
+// Whether the attribute noted in a cell is `text` of `value`.
+fn leads(owners: &[u32], texts: &[u32], cell: usize, value: u32, text: u32) -> bool
+    ensures { λ b. ⌜ Hits (now (owners .entry)) (now (texts .entry)) cell value text b ⌝ }
+{
+    if read(texts, cell) as usize != text as usize + 1 {
+        return false;
+    }
+    read(owners, cell) == value
 }
 
 // A path of texts from value `value` on, by the attributes noted as far as they lead.
@@ -635,10 +707,11 @@ fn walk_firsts(
     complete: bool,
     value: u32,
     path: &[u32],
+    owners: &[u32],
     texts: &[u32],
     nexts: &[u32],
 ) -> Walked
-    requires { ⌜ Firsts (now rows) (now texts) (now nexts) ⌝ }
+    requires { ⌜ Firsts (now rows) (now owners) (now texts) (now nexts) ⌝ }
     ensures { λ r. ⌜ r ≡ walkFrom complete (now (rows .entry)) value 0 (now (path .entry)) ⌝ }
 {
     let mut n = value;
@@ -647,35 +720,50 @@ fn walk_firsts(
         if i >= path.len() {
             break Walked::Fails;
         }
-        if !leads(texts, n, path[i]) {
+        let column = column_of(path[i]);
+        let cell = cell_in(column, n);
+        if !leads(owners, texts, cell, n, path[i]) {
             break walk_on(rows, complete, n, i, path);
         }
         if i + 1 >= path.len() {
             break Walked::Holds(true);
         }
-        n = led_to(nexts, n);
+        n = cell_at(nexts, column, n);
         i += 1;
     }
 }
 
-// A long path of texts from value `value` on: of each entity the attribute that the first step asks for is noted.
+// A long path of texts from value `value` on: the attributes of entities are noted.
 fn walk_long(rows: &[u32], complete: bool, value: u32, path: &[u32]) -> Walked
     ensures { λ r. ⌜ r ≡ walkFrom complete (now (rows .entry)) value 0 (now (path .entry)) ⌝ }
 {
-    let mut texts: [u32; VALUES] = [0; VALUES];
-    let mut nexts: [u32; VALUES] = [0; VALUES];
-    firsts(rows, read(path, 0), &mut texts[..], &mut nexts[..]);
-    walk_firsts(rows, complete, value, path, &texts[..], &nexts[..])
+    let mut owners: [u32; CELLS] = [0; CELLS];
+    let mut texts: [u32; CELLS] = [0; CELLS];
+    let mut nexts: [u32; CELLS] = [0; CELLS];
+    firsts(rows, &mut owners[..], &mut texts[..], &mut nexts[..]);
+    walk_firsts(
+        rows,
+        complete,
+        value,
+        path,
+        &owners[..],
+        &texts[..],
+        &nexts[..],
+    )
 }
 
-// A path of texts from value `value` on. For a short one, and where there are no entities, no attributes are noted.
+// A path of texts from value `value` on. For a short one, one of few steps for the entities there are, and where there are none, no attributes are noted.
 pub fn walk(rows: &[u32], complete: bool, value: u32, path: &[u32]) -> Walked
     ensures { λ r. ⌜ r ≡ walkFrom complete (now (rows .entry)) value 0 (now (path .entry)) ⌝ }
 {
     if path.len() < LONG {
         return walk_on(rows, complete, value, 0, path);
     }
-    if count(rows, ENTITY) == 0 {
+    let n = count(rows, ENTITY);
+    if n == 0 {
+        return walk_on(rows, complete, value, 0, path);
+    }
+    if path.len() < n as usize / 2 {
         return walk_on(rows, complete, value, 0, path);
     }
     walk_long(rows, complete, value, path)

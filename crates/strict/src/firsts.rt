@@ -1,80 +1,119 @@
-// The attribute that a long path asks for first, of each entity whose line is the first with its text. What stands there is noted in two tables by
-// value: the attribute's text plus one, or 0 where nothing is noted, and the value that it leads to.
+// The attributes of entities, for the many steps of a long path: of each entity whose line is the first with its text, those of a short record.
+// What stands there is noted in cells, by value and text: whose it is, the attribute's text plus one, or 0 where nothing is noted, and the value that it leads to.
 use crate::chains::TEXTS;
 use forms::ENTITY;
 use forms::MARK;
 use forms::VALUE;
+use table::base_of;
 use table::count;
 use table::item;
 use table::row;
-use value::Entry;
 use value::Shape;
-use value::entry_of;
 use value::members;
 use value::row_of;
 use value::shape_of;
+use words::cut;
 use words::put;
 use words::read;
 ghost use mathlib.Core.Path.{_≡_};
-ghost use Prim.Native.Nat.{_+_, _<_};
-ghost use lib.ListN.{length};
+ghost use mathlib.Core.List.{[]};
+ghost use Prim.Native.Nat.{_+_, _≤_, _<_};
+ghost use lib.ListN.{length, getD};
 ghost use Rattle.sheet.specs.Forms.{ENTITY};
 ghost use Rattle.table.specs.Layout.{rowsOf};
-ghost use Rattle.strict.specs.Firsts.{Leads, Kept, Entered, Firsts};
+ghost use Rattle.strict.specs.Firsts.{CELLS, Kept, KeptAll, Sourced, Entered, Firsts};
 
-// The text of an attribute plus one, or 0 for none, and the value that it leads to.
-struct First {
-    text: u32,
-    next: u32,
+// The cells.
+pub const CELLS: usize = 1024;
+
+// The columns of cells, and the cells of each.
+const COLUMNS: usize = 8;
+
+const COLUMN: usize = 128;
+
+// The words of a record's entries that are noted.
+const SHORT: usize = 16;
+
+// Where the column of a text begins; the cell of a value there is as far from it as the value's number says.
+pub fn column_of(text: u32) -> usize
+    ensures { λ c. ⌜ c ≤ CELLS ⌝ }
+{
+    text as usize % COLUMNS * COLUMN
 }
 
-// The attribute of this text that an entity has whose attributes are `source`, a record or unknown.
-fn first_in(rows: &[u32], source: u32, text: u32) -> First
-    ensures { λ f. ⌜ Leads (now (rows .entry)) source (f .text) (f .next) ⌝ }
+// Notes that `text` leads from `value` to `next`.
+fn keep(value: u32, text: u32, next: u32, owners: &mut [u32], texts: &mut [u32], nexts: &mut [u32])
+    ensures { λ _. ⌜ Kept value text next (now (owners .entry)) (now (texts .entry)) (now (nexts .entry)) (now (owners .exit)) (now (texts .exit)) (now (nexts .exit)) ⌝ }
+{
+    if text >= TEXTS as u32 {
+        return;
+    }
+    let cell = column_of(text) + value as usize;
+    put(owners, cell, value);
+    put(texts, cell, text + 1);
+    put(nexts, cell, next);
+}
+
+// Notes the attributes of `value` among these entries, as long as their texts ascend and they are few.
+fn keep_all(entries: &[u32], value: u32, owners: &mut [u32], texts: &mut [u32], nexts: &mut [u32])
+    ensures { λ _. ⌜ KeptAll (now (entries .entry)) value (now (owners .entry)) (now (texts .entry)) (now (nexts .entry)) (now (owners .exit)) (now (texts .exit)) (now (nexts .exit)) ⌝ }
+{
+    let mut low: usize = 0;
+    let mut i = 0;
+    loop {
+        if entries.len() - i < 2 {
+            break;
+        }
+        if i >= SHORT {
+            break;
+        }
+        let text = entries[i];
+        if (text as usize) < low {
+            break;
+        }
+        keep(value, text, entries[i + 1], owners, texts, nexts);
+        low = text as usize + 1;
+        i += 2;
+    }
+}
+
+// Notes the attributes of `value`, which are `source`, a record or unknown.
+fn keep_source(
+    rows: &[u32],
+    value: u32,
+    source: u32,
+    owners: &mut [u32],
+    texts: &mut [u32],
+    nexts: &mut [u32],
+)
+    ensures { λ _. ⌜ Sourced (now (rows .entry)) value source (now (owners .entry)) (now (texts .entry)) (now (nexts .entry)) (now (owners .exit)) (now (texts .exit)) (now (nexts .exit)) ⌝ }
 {
     if source == MARK {
-        return First { text: 0, next: 0 };
-    }
-    if text >= TEXTS as u32 {
-        return First { text: 0, next: 0 };
+        return;
     }
     let r = row_of(rows, source as usize);
     let s = shape_of(r);
     let Shape::Record = s else {
-        return First { text: 0, next: 0 };
+        return;
     };
-    let Entry::At(next) = entry_of(members(r), text) else {
-        return First { text: 0, next: 0 };
-    };
-    First {
-        text: text + 1,
-        next,
-    }
-}
-
-// Notes the attribute of this text of `value`, whose attributes are `source`.
-fn keep(rows: &[u32], value: u32, source: u32, text: u32, texts: &mut [u32], nexts: &mut [u32])
-    ensures { λ _. ⌜ Kept (now (rows .entry)) value source (now (texts .entry)) (now (nexts .entry)) (now (texts .exit)) (now (nexts .exit)) ⌝ }
-{
-    let f = first_in(rows, source, text);
-    put(texts, value as usize, f.text);
-    put(nexts, value as usize, f.next);
+    keep_all(members(r), value, owners, texts, nexts);
 }
 
 // Notes the entity of line `number`, unless a line before it has its text.
 fn enter(
     rows: &[u32],
     number: u32,
-    text: u32,
+    line: &[u32],
     seen: &mut [u32],
+    owners: &mut [u32],
     texts: &mut [u32],
     nexts: &mut [u32],
 )
     requires { ⌜ number < length (rowsOf (now rows) ENTITY) ⌝ }
-    requires { ⌜ Entered (now rows) number (now seen) (now texts) (now nexts) ⌝ }
-    ensures { λ _. ⌜ Entered (now (rows .entry)) (number + 1) (now (seen .exit)) (now (texts .exit)) (now (nexts .exit)) ⌝ }
+    requires { ⌜ now line ≡ getD (rowsOf (now rows) ENTITY) number [] ⌝ }
+    requires { ⌜ Entered (now rows) number (now seen) (now owners) (now texts) (now nexts) ⌝ }
+    ensures { λ _. ⌜ Entered (now (rows .entry)) (number + 1) (now (seen .exit)) (now (owners .exit)) (now (texts .exit)) (now (nexts .exit)) ⌝ }
 {
-    let line = row(rows, ENTITY, number);
     let v = item(line, 1);
     if v >= count(rows, VALUE) {
         return;
@@ -90,27 +129,37 @@ fn enter(
         return;
     }
     put(seen, t as usize, 1);
-    keep(rows, v, item(line, 2), text, texts, nexts);
+    keep_source(rows, v, item(line, 2), owners, texts, nexts);
 }
 
-// Notes the entities of all lines.
-fn enter_all(rows: &[u32], text: u32, seen: &mut [u32], texts: &mut [u32], nexts: &mut [u32])
-    requires { ⌜ Firsts (now rows) (now texts) (now nexts) ⌝ }
-    ensures { λ _. ⌜ Firsts (now (rows .entry)) (now (texts .exit)) (now (nexts .exit)) ⌝ }
+// Notes the entities of all lines: each line begins where the one before ends.
+fn enter_all(
+    rows: &[u32],
+    seen: &mut [u32],
+    owners: &mut [u32],
+    texts: &mut [u32],
+    nexts: &mut [u32],
+)
+    requires { ⌜ Firsts (now rows) (now owners) (now texts) (now nexts) ⌝ }
+    ensures { λ _. ⌜ Firsts (now (rows .entry)) (now (owners .exit)) (now (texts .exit)) (now (nexts .exit)) ⌝ }
 {
     let n = count(rows, ENTITY);
+    let b = base_of(ENTITY);
+    let mut start = read(rows, b) as usize;
     let mut i = 0;
     while i < n {
-        enter(rows, i, text, seen, texts, nexts);
+        let end = read(rows, b + i as usize + 1) as usize;
+        enter(rows, i, cut(rows, start, end), seen, owners, texts, nexts);
+        start = end;
         i += 1;
     }
 }
 
 // The same, with a table by text for those met.
-pub fn firsts(rows: &[u32], text: u32, texts: &mut [u32], nexts: &mut [u32])
-    requires { ⌜ Firsts (now rows) (now texts) (now nexts) ⌝ }
-    ensures { λ _. ⌜ Firsts (now (rows .entry)) (now (texts .exit)) (now (nexts .exit)) ⌝ }
+pub fn firsts(rows: &[u32], owners: &mut [u32], texts: &mut [u32], nexts: &mut [u32])
+    requires { ⌜ Firsts (now rows) (now owners) (now texts) (now nexts) ⌝ }
+    ensures { λ _. ⌜ Firsts (now (rows .entry)) (now (owners .exit)) (now (texts .exit)) (now (nexts .exit)) ⌝ }
 {
     let mut seen: [u32; TEXTS] = [0; TEXTS];
-    enter_all(rows, text, &mut seen[..], texts, nexts);
+    enter_all(rows, &mut seen[..], owners, texts, nexts);
 }

@@ -51,6 +51,7 @@ use Rattle.tpe.proofs.Depth.{childrenOf, Proper, Deep, interp-is}
 use Rattle.tpe.proofs.Nodes.{node-fact}
 use Rattle.tpe.proofs.Policies.{RunIs, PolicyWorks, ran-is}
 use Rattle.tpe.proofs.Readings.{Tabled, own-tabled, Linked, keeps-tabled, lists-types}
+use Rattle.tpe.proofs.Singles.{single, single-words}
 use Rattle.tpe.proofs.KindLines.{kind-found, rows-formed}
 
 -- texts do not matter for the known parts
@@ -236,7 +237,7 @@ module _ (sheet a b : List ℕ) (f : Facts partial (held sheet a b)) (d : Depths
 
   start-hold : Hold a a
   unfolding held linesHeld
-  start-hold = record { sound = sound; formed = subst Formeds (sym (none-made a none)) (rows-formed partial (held sheet a []) (f₀ .history)); same = λ k lt. refl }
+  start-hold = record { sound = sound; formed = subst Formeds (sym (none-made a none)) (rows-formed partial (held sheet a []) (f₀ .history)); same = λ k lt. refl; single = single-words sheet a [] (single partial (held sheet a []) (f₀ .history)) }
 
   start-rows : values a ≡ valueRows (held sheet a [])
   unfolding valueRows held linesHeld

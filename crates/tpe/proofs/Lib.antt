@@ -15,6 +15,7 @@ pub mod Policies
 pub mod Nodes
 pub mod Readings
 pub mod KindLines
+pub mod Singles
 pub mod Accepted
 pub mod Cases
 pub mod Slices

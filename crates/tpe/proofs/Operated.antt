@@ -16,7 +16,7 @@ use Rattle.forms.specs.Tags.{EQ, LT, MUL, IN, GETTAG, HASTAG, CONTAINS, ALL, AN
 use Rattle.sheet.specs.Forms.{partial, items, at, NODE}
 use Rattle.sheet.specs.Content.{schema, patternOf}
 use Rattle.table.specs.Layout.{rowsOf, textAt, held}
-use Rattle.strict.specs.Gives.{outOf, values, valueIn, envIn, longsOut, notOut, negOut, emptyOut, isOut, likeOut, arithOut, containsOut, allOut, anyOut}
+use Rattle.strict.specs.Gives.{outOf, values, valueIn, longsOut, notOut, negOut, emptyOut, isOut, likeOut, arithOut, containsOut, allOut, anyOut}
 use Rattle.strict.specs.Lookups.{getOut, hasOut, gettagOut, hastagOut, inOut}
 use Rattle.strict.specs.declared.Given.{Given}
 use Rattle.strict.proofs.Links.{like-link, bytes-link}
@@ -50,11 +50,11 @@ module _ (sheet a : List ℕ) (n t v : ℕ) (r : List ℕ) (g : Given) (er : r �
       ∙ ap (λ (k : List ℕ). nUn (schema (held sheet a [])) (ulike (patternOf k)) (valueIn a v)) el)
 
   pub gives-get : (x : ℕ) → x ≡ getD r 3 0 → t ≡ GET → outOf g ≡ getOut false a v x → Gives₁
-  unfolding getOut valueIn values envIn W.envIn
+  unfolding getOut valueIn values
   gives-get x ex h q = place-one 2 (omega arith) (rw (← ex) q)
 
   pub gives-has : (x : ℕ) → x ≡ getD r 3 0 → t ≡ HAS → outOf g ≡ hasOut false a v x → Gives₁
-  unfolding hasOut valueIn values envIn W.envIn
+  unfolding hasOut valueIn values
   gives-has x ex h q = place-one 3 (omega arith) (rw (← ex) q)
 
   pub gives-not : t ≡ NOT → outOf g ≡ notOut (valueIn a v) → Gives₁
@@ -155,15 +155,15 @@ module _ (a : List ℕ) (t v w : ℕ) (g : Given) where
   gives-arith h k q = place-two (suc (t - LT)) (omega arith) (arith-at (t - LT) (omega arith) (omega arith) q)
 
   pub gives-in : t ≡ IN → outOf g ≡ inOut false a v w → Gives₂
-  unfolding inOut valueIn values envIn W.envIn
+  unfolding inOut valueIn values
   gives-in h q = place-two 6 (omega arith) q
 
   pub gives-gettag : t ≡ GETTAG → outOf g ≡ gettagOut false a v w → Gives₂
-  unfolding gettagOut valueIn values envIn W.envIn
+  unfolding gettagOut valueIn values
   gives-gettag h q = place-two 7 (omega arith) q
 
   pub gives-hastag : t ≡ HASTAG → outOf g ≡ hastagOut false a v w → Gives₂
-  unfolding hastagOut valueIn values envIn W.envIn
+  unfolding hastagOut valueIn values
   gives-hastag h q = place-two 8 (omega arith) q
 
   pub gives-contains : t ≡ CONTAINS → outOf g ≡ containsOut w (valueIn a v) → Gives₂

@@ -19,7 +19,7 @@ use Rattle.residual.specs.Rows.{wordAt}
 use Rattle.residual.specs.Trees.{rnil, rcons, flat, flats, leftTree, suits, treesOf, whole-none, whole-more}
 use Rattle.tpe.specs.Run.{O, unOf, binOf, relOf, getOf, hasOf, tyIn}
 use Rattle.tpe.proofs.Outcomes.{row-fine}
-use Rattle.tpe.proofs.Stands.{Hold, schema-is, types-are, env-is, Room, tys, nodes, ty, Is, is-as}
+use Rattle.tpe.proofs.Stands.{Hold, schema-is, types-are, env-by, Room, tys, nodes, ty, Is, is-as}
 use Rattle.tpe.proofs.Strict.{Over, one-is, two-is, last-stage, last-type, last-errs, first-stage, first-type, first-errs, over1}
 
 -- where no rule is asked
@@ -51,7 +51,7 @@ module _ (m : Mode) (sheet a₀ : List ℕ) where
         → Is sheet a₀ (suc d) (suc n) a l (nStepGet sch env (ty sheet a₀ (at r 0)) X (at r 2)) (getOf m sheet (length l) c r o)
     unfolding getOf
     get-is k =
-        rw (env-is m sheet a₀ (o .words) (i .hold), i .rows)
+        rw (env-by m sheet a₀ (o .words) (i .hold), i .rows)
         (is-as sheet a₀ (one-is sheet a₀ (over1 sheet a₀ deep i c (at r 0) typed room su (get (ty sheet a₀ (at r 0)) (X .tree) (at r 2)) k) (X .tree) (last-errs sheet a₀ deep i) (last-stage sheet a₀ deep i)
         none (λ v. nGet env (X .rows) (at r 2) (rowAt (X .rows) v)) (λ v. made-get row-fine env (X .rows) (at r 2) (rowAt (X .rows) v)))
         (no-rule _ (canErr (X .tree)) _ _))
@@ -60,7 +60,7 @@ module _ (m : Mode) (sheet a₀ : List ℕ) where
         → Is sheet a₀ (suc d) (suc n) a l (nStepHas sch env (ty sheet a₀ (at r 0)) X (at r 2)) (hasOf m sheet (length l) c r o)
     unfolding hasOf
     has-is k =
-        rw (schema-is m sheet a₀ (o .words) (i .hold), env-is m sheet a₀ (o .words) (i .hold), i .rows, block-type (o .words) (o .log) (length (o .log)) (i .hold) (tyOf (X .tree)) (last-type sheet a₀ deep i))
+        rw (schema-is m sheet a₀ (o .words) (i .hold), env-by m sheet a₀ (o .words) (i .hold), i .rows, block-type (o .words) (o .log) (length (o .log)) (i .hold) (tyOf (X .tree)) (last-type sheet a₀ deep i))
         (one-is sheet a₀ (over1 sheet a₀ deep i c (at r 0) typed room su (has (ty sheet a₀ (at r 0)) (X .tree) (at r 2)) k) (X .tree) (last-errs sheet a₀ deep i) (last-stage sheet a₀ deep i)
         (hasRule sch (at r 2) (tyOf (X .tree))) (λ v. nHas env (X .rows) (at r 2) (rowAt (X .rows) v)) (λ v. made-has row-fine env (X .rows) (at r 2) (rowAt (X .rows) v)))
 
@@ -104,7 +104,7 @@ module _ (m : Mode) (sheet a₀ : List ℕ) where
     rel-is b k =
         rw (
           schema-is m sheet a₀ (w .words) (j .hold),
-          env-is m sheet a₀ (w .words) (j .hold),
+          env-by m sheet a₀ (w .words) (j .hold),
           j .rows,
           block-type (w .words) (w .log) (length (o .log)) (j .hold) (tyOf (X .tree)) (first-type sheet a₀ deep i j),
           block-type (w .words) (w .log) (length (w .log)) (j .hold) (tyOf (Y .tree)) (last-type sheet a₀ deep j),

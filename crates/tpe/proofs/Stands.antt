@@ -1,6 +1,6 @@
 -- What interpretation over words leaves stands for what the numbered interpretation leaves: one block more on the log, whose tree it is,
 -- and the values with those made. The words a₀ hold the sheet at the start; a and l are the words and the log before a node. Assumes nothing.
-use mathlib.Core.Path.{_≡_, refl, _∙_, ap, ap₂, subst}
+use mathlib.Core.Path.{_≡_, refl, sym, _∙_, ap, ap₂, subst, fun-ext}
 use mathlib.Core.Bool.{Bool, true, false}
 use mathlib.Core.List.{List, [], _∷_, _++_, append-assoc}
 use Prim.Native.Nat.{ℕ, zero, suc, _+_, _-_, _*_, _≤_, _<_}
@@ -27,6 +27,8 @@ use Rattle.residual.specs.Rows.{litRow, errRow, leftRow, wordAt, stageAt}
 use Rattle.residual.specs.Errs.{errs}
 use Rattle.residual.specs.Trees.{Res, rlit, rerr, rleft, Ress, flat, flats, countRes, leftTree, suits, tyAt, treeOf, treesOf, Whole, whole-lit, whole-err, whole-left, Wholes, whole-none, whole-more}
 use Rattle.residual.proofs.Meaning.{stageFor, stage-is, type-is, can-error-is}
+use Rattle.strict.specs.Lookups.{envBy}
+use Rattle.strict.proofs.Halving.{Single, single-env}
 use Rattle.tpe.proofs.Reach.{reach, asks, reach-most, reach-asked}
 use Rattle.tpe.specs.Run.{O, left, litOf, errOf, leftOf, madeOf, schemaIn, tyIn, envIn}
 
@@ -39,11 +41,12 @@ drop-here d (y ∷ l) (suc i) x q e = drop-here d l i x q e
 
 -- ---- the words
 
--- the rows of the sheet and of the policies that run are those of a₀, and the values are as they should be
+-- the rows of the sheet and of the policies that run are those of a₀, the values are as they should be, and each entity line is the first of its entity
 pub record Hold (a₀ a : List ℕ) : Type 0 where
   pub sound : Sound a
   pub formed : Formeds (valueLines a)
   pub same : (k : ℕ) → k < MADE → rowsOf a k ≡ rowsOf a₀ k
+  pub single : Single (held [] a₀ [])
 
 abbrev pub values : List ℕ → List Row
 values a = rowsIn (valueLines a)
@@ -64,6 +67,13 @@ module _ (m : Mode) (sheet a₀ a : List ℕ) (h : Hold a₀ a) where
   pub env-is : envIn m sheet a ≡ nEnv m (held [] a₀ [])
   unfolding envIn
   env-is = ap (nEnv m) (same-sheet [] a₀ a h)
+
+  -- whatever value is looked up
+  pub env-at : (v : ℕ) → envBy m a v ≡ nEnv m (held [] a₀ [])
+  env-at v = single-env a (subst Single (sym (same-sheet [] a₀ a h)) (h .single)) m v ∙ ap (nEnv m) (same-sheet [] a₀ a h)
+
+  pub env-by : envBy m a ≡ (λ (v : ℕ). nEnv m (held [] a₀ []))
+  env-by = fun-ext env-at
 
 -- ---- room
 
@@ -220,7 +230,7 @@ module _ (sheet a₀ : List ℕ) where
       made = made-is a₁ q (h .sound) (h .formed) f room-for
 
       pub made-hold : Hold a₀ (withValue a₁ q)
-      made-hold = record { sound = made .kept .sound; formed = made .formed; same = λ k lt. made .kept .others k lt ∙ h .same k lt }
+      made-hold = record { sound = made .kept .sound; formed = made .formed; same = λ k lt. made .kept .others k lt ∙ h .same k lt; single = h .single }
 
       pub made-top : reach (withValue a₁ q) + 2 ≤ reach a + 3 * n
       made-top = omega (arith, reach-most a₁ q made, s .top, short)
@@ -264,7 +274,7 @@ module _ (sheet a₀ : List ℕ) where
       tree = ap (lit (ty y)) (asked-made .number);
       whole = whole-lit typed;
       rows = asked-made .rows;
-      hold = record { sound = asked-made .kept .sound; formed = asked-made .formed; same = λ k lt. asked-made .kept .others k lt ∙ h .same k lt };
+      hold = record { sound = asked-made .kept .sound; formed = asked-made .formed; same = λ k lt. asked-made .kept .others k lt ∙ h .same k lt; single = h .single };
       top = let r = reach-asked a q asked-made (h .formed) f short x e in omega (arith, r, one);
       few = let w = asked-made .kept .few in omega (arith, w, one);
     }

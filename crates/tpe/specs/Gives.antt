@@ -16,9 +16,10 @@ use Rattle.value.specs.Made.{setRow, recordRow}
 use Rattle.residual.specs.declared.Stage.{Stage}
 use Rattle.residual.specs.declared.Stage.the-variants.{Value, Error, Open}
 use Rattle.rules.specs.Rules.{schemaAt, tyAt}
+use Rattle.strict.specs.Lookups.{envBy}
 use Rattle.strict.specs.declared.entity.Walked.{Walked}
 use Rattle.strict.specs.declared.entity.Walked.the-variants.{Holds, Fails, Left}
-use Rattle.tpe.specs.Run.{schemaIn, envIn, valueIn, Walk, lost, says, stuck}
+use Rattle.tpe.specs.Run.{schemaIn, valueIn, Walk, lost, says, stuck}
 use Rattle.tpe.specs.declared.steps.Pair.{Pair}
 use Rattle.tpe.specs.declared.steps.Pair.the-variants.{Values, Error as Errorᵖ, Open as Openᵖ}
 
@@ -46,8 +47,8 @@ abbrev pub oneGives : List ℕ → List ℕ → List ℕ → ℕ → List NOut
 oneGives sheet a r v =
     nUn (schemaIn partial sheet a) (uis (at r 2)) (valueIn partial sheet a v)
     ∷ nUn (schemaIn partial sheet a) (ulike (patternOf (drop 2 (items r)))) (valueIn partial sheet a v)
-    ∷ nGet (envIn partial sheet a) (rowsIn (valueLines a)) (at r 2) (valueIn partial sheet a v)
-    ∷ nHas (envIn partial sheet a) (rowsIn (valueLines a)) (at r 2) (valueIn partial sheet a v)
+    ∷ nGet (envBy partial a v) (rowsIn (valueLines a)) (at r 2) (valueIn partial sheet a v)
+    ∷ nHas (envBy partial a v) (rowsIn (valueLines a)) (at r 2) (valueIn partial sheet a v)
     ∷ nUn (schemaIn partial sheet a) uempty (valueIn partial sheet a v)
     ∷ nUn (schemaIn partial sheet a) unot (valueIn partial sheet a v)
     ∷ nUn (schemaIn partial sheet a) uneg (valueIn partial sheet a v)
@@ -75,9 +76,9 @@ twoGives a v w =
     ∷ nBin badd v w (valueIn partial [] a v) (valueIn partial [] a w)
     ∷ nBin bsub v w (valueIn partial [] a v) (valueIn partial [] a w)
     ∷ nBin bmul v w (valueIn partial [] a v) (valueIn partial [] a w)
-    ∷ nRel (envIn partial [] a) (rowsIn (valueLines a)) rin v w (valueIn partial [] a v) (valueIn partial [] a w)
-    ∷ nRel (envIn partial [] a) (rowsIn (valueLines a)) rgettag v w (valueIn partial [] a v) (valueIn partial [] a w)
-    ∷ nRel (envIn partial [] a) (rowsIn (valueLines a)) rhastag v w (valueIn partial [] a v) (valueIn partial [] a w)
+    ∷ nRel (envBy partial a v) (rowsIn (valueLines a)) rin v w (valueIn partial [] a v) (valueIn partial [] a w)
+    ∷ nRel (envBy partial a v) (rowsIn (valueLines a)) rgettag v w (valueIn partial [] a v) (valueIn partial [] a w)
+    ∷ nRel (envBy partial a v) (rowsIn (valueLines a)) rhastag v w (valueIn partial [] a v) (valueIn partial [] a w)
     ∷ nBin bcontains v w (valueIn partial [] a v) (valueIn partial [] a w)
     ∷ nBin ball v w (valueIn partial [] a v) (valueIn partial [] a w)
     ∷ []

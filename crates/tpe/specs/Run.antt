@@ -27,6 +27,7 @@ use Rattle.residual.specs.Rows.{litRow, errRow, leftRow, wordAt, stageAt}
 use Rattle.residual.specs.Errs.{errs}
 use Rattle.residual.specs.declared.Stage.{Stage}
 use Rattle.residual.specs.declared.Stage.the-variants.{Value, Error, Open}
+use Rattle.strict.specs.Lookups.{envBy}
 
 -- what is left: the words with what was made, and the log, which has one block more
 pub record O : Type 0 where
@@ -272,15 +273,15 @@ module _ (m : Mode) (sheet : List ℕ) where
   unfoldable pub relOf : Rel → ℕ → ℕ → ℕ → List ℕ → O → O
   relOf p start mid n r o =
       twoOf (relRule (schemaIn (o .words)) p (typeAt (o .words) (o .log) mid) (typeAt (o .words) (o .log) (length (o .log))))
-      (λ v w. nRel (envIn (o .words)) (rowsIn (valueLines (o .words))) p v w (valueIn (o .words) v) (valueIn (o .words) w))
+      (λ v w. nRel (envBy m (o .words) v) (rowsIn (valueLines (o .words))) p v w (valueIn (o .words) v) (valueIn (o .words) w))
       (o .words) (o .log) start mid n (at r 0)
 
   unfoldable pub getOf : ℕ → ℕ → List ℕ → O → O
-  getOf start n r o = oneOf none (λ v. nGet (envIn (o .words)) (rowsIn (valueLines (o .words))) (at r 2) (valueIn (o .words) v)) (o .words) (o .log) start n (at r 0)
+  getOf start n r o = oneOf none (λ v. nGet (envBy m (o .words) v) (rowsIn (valueLines (o .words))) (at r 2) (valueIn (o .words) v)) (o .words) (o .log) start n (at r 0)
 
   unfoldable pub hasOf : ℕ → ℕ → List ℕ → O → O
   hasOf start n r o =
-      oneOf (hasRule (schemaIn (o .words)) (at r 2) (typeAt (o .words) (o .log) (length (o .log)))) (λ v. nHas (envIn (o .words)) (rowsIn (valueLines (o .words))) (at r 2) (valueIn (o .words) v))
+      oneOf (hasRule (schemaIn (o .words)) (at r 2) (typeAt (o .words) (o .log) (length (o .log)))) (λ v. nHas (envBy m (o .words) v) (rowsIn (valueLines (o .words))) (at r 2) (valueIn (o .words) v))
       (o .words) (o .log) start n (at r 0)
 
   -- a path left over with no step taken: the rule of its first step is asked of its operand's type, and the operand, the last block, stays

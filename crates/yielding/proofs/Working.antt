@@ -39,7 +39,8 @@ use Rattle.residual.specs.Trees.{nodesOf, argsOf, leftFor, leftTree, suitsFor, 
 use Rattle.residual.proofs.Blocks.{Each, each0, each1, at-operation, over0, over1, over2, over3}
 use Rattle.tpe.proofs.Outcomes.{Fine, row-fine}
 use Rattle.tpe.proofs.Sets.{sort-short, drop-two}
-use Rattle.tpe.proofs.Stands.{Hold, schema-is, env-is}
+use Rattle.strict.specs.Lookups.{envBy}
+use Rattle.tpe.proofs.Stands.{Hold, schema-is, env-is, env-at}
 use Rattle.tpe.proofs.Reach.{reach}
 use Rattle.evaluator.specs.Run.{E, yields, values, nodeIn, settleOf, optOf, onYield, pathOut, unOut, binOut, relOut, getOut, hasOut, walkOut, twoOut, oneOut, schemaOf, envOf}
 use Rattle.evaluator.specs.declared.Yield.{Yield}
@@ -443,32 +444,32 @@ module _ (sheet a₀ : List ℕ) (G : Env) where
         (λ C a st v w z c e d. bin-reads C (number-inj (st .table)) o e d (row-denotes (st .table) e) (row-denotes (st .table) d))
         (λ a v w. made-bin row-fine o v w (rowAt (values a) v) (rowAt (values a) w)) (bin T o) x y X D F q t refl refl refl
 
-    rel-work : (i : ℕ) (o : Rel) → ((a l : List ℕ) (s : ℕ) → nodeBy sheet i a l s n k ≡ onYield a (yieldIn (drop s l) 0) (λ v. onYield a (yieldIn (drop s l) 4) (λ w. settleOf a (nRel (envOf a) (values a) o v w (rowAt (values a) v) (rowAt (values a) w)))))
+    rel-work : (i : ℕ) (o : Rel) → ((a l : List ℕ) (s : ℕ) → nodeBy sheet i a l s n k ≡ onYield a (yieldIn (drop s l) 0) (λ v. onYield a (yieldIn (drop s l) 4) (λ w. settleOf a (nRel (envBy complete a v) (values a) o v w (rowAt (values a) v) (rowAt (values a) w)))))
         → (x y : Node ℕ) (X : Expr) → Reads K (rel T o x y) X → Work (x ∷ y ∷ []) i (rel T o x y) X
     rel-work i o step x y X (xrel {d = D} {e = F} q t) =
-        two-work i (λ a v w. nRel (envOf a) (values a) o v w (rowAt (values a) v) (rowAt (values a) w)) (applyRel G o) step
-        (λ C a st v w z c e d. rw (env-is complete [] a₀ a (st .hold)) (rel-gives G (st .table) (st .env) o e d))
-        (λ a v w. made-rel row-fine (envOf a) (values a) o v w (rowAt (values a) v) (rowAt (values a) w)) (rel T o) x y X D F q t refl refl refl
+        two-work i (λ a v w. nRel (envBy complete a v) (values a) o v w (rowAt (values a) v) (rowAt (values a) w)) (applyRel G o) step
+        (λ C a st v w z c e d. rw (env-at complete [] a₀ a (st .hold) v) (rel-gives G (st .table) (st .env) o e d))
+        (λ a v w. made-rel row-fine (envBy complete a v) (values a) o v w (rowAt (values a) v) (rowAt (values a) w)) (rel T o) x y X D F q t refl refl refl
 
-    get-step : (a l : List ℕ) (s : ℕ) → nodeBy sheet GET a l s n k ≡ onYield a (yieldIn (drop s l) 0) (λ v. settleOf a (nGet (envOf a) (values a) (at (nodeIn a n) 2) (rowAt (values a) v)))
+    get-step : (a l : List ℕ) (s : ℕ) → nodeBy sheet GET a l s n k ≡ onYield a (yieldIn (drop s l) 0) (λ v. settleOf a (nGet (envBy complete a v) (values a) (at (nodeIn a n) 2) (rowAt (values a) v)))
     unfolding nodeBy overOf oneOf oneOut getOut
     get-step a l s = refl
 
     get-work : (x : Node ℕ) (X : Expr) → Reads K (get T x (at r 2)) X → Work (x ∷ []) GET (get T x (at r 2)) X
     get-work x X (xget {d = D} q) =
-        one-work GET (λ a v. nGet (envOf a) (values a) (at (nodeIn a n) 2) (rowAt (values a) v)) (applyGet G (at r 2)) get-step
-        (λ C a st v z e. rw (node-is a (st .hold), env-is complete [] a₀ a (st .hold)) (get-gives G (st .table) (st .env) (at r 2) e))
-        (λ a v. made-get row-fine (envOf a) (values a) (at (nodeIn a n) 2) (rowAt (values a) v)) (λ y. get T y (at r 2)) x X D q refl refl refl
+        one-work GET (λ a v. nGet (envBy complete a v) (values a) (at (nodeIn a n) 2) (rowAt (values a) v)) (applyGet G (at r 2)) get-step
+        (λ C a st v z e. rw (node-is a (st .hold), env-at complete [] a₀ a (st .hold) v) (get-gives G (st .table) (st .env) (at r 2) e))
+        (λ a v. made-get row-fine (envBy complete a v) (values a) (at (nodeIn a n) 2) (rowAt (values a) v)) (λ y. get T y (at r 2)) x X D q refl refl refl
 
-    has-step : (a l : List ℕ) (s : ℕ) → nodeBy sheet HAS a l s n k ≡ onYield a (yieldIn (drop s l) 0) (λ v. settleOf a (nHas (envOf a) (values a) (at (nodeIn a n) 2) (rowAt (values a) v)))
+    has-step : (a l : List ℕ) (s : ℕ) → nodeBy sheet HAS a l s n k ≡ onYield a (yieldIn (drop s l) 0) (λ v. settleOf a (nHas (envBy complete a v) (values a) (at (nodeIn a n) 2) (rowAt (values a) v)))
     unfolding nodeBy overOf oneOf oneOut hasOut
     has-step a l s = refl
 
     has-work : (x : Node ℕ) (X : Expr) → Reads K (has T x (at r 2)) X → Work (x ∷ []) HAS (has T x (at r 2)) X
     has-work x X (xhas {d = D} q) =
-        one-work HAS (λ a v. nHas (envOf a) (values a) (at (nodeIn a n) 2) (rowAt (values a) v)) (applyHas G (at r 2)) has-step
-        (λ C a st v z e. rw (node-is a (st .hold), env-is complete [] a₀ a (st .hold)) (has-gives G (st .table) (st .env) (at r 2) e))
-        (λ a v. made-has row-fine (envOf a) (values a) (at (nodeIn a n) 2) (rowAt (values a) v)) (λ y. has T y (at r 2)) x X D q refl refl refl
+        one-work HAS (λ a v. nHas (envBy complete a v) (values a) (at (nodeIn a n) 2) (rowAt (values a) v)) (applyHas G (at r 2)) has-step
+        (λ C a st v z e. rw (node-is a (st .hold), env-at complete [] a₀ a (st .hold) v) (has-gives G (st .table) (st .env) (at r 2) e))
+        (λ a v. made-has row-fine (envBy complete a v) (values a) (at (nodeIn a n) 2) (rowAt (values a) v)) (λ y. has T y (at r 2)) x X D q refl refl refl
 
     path-step : (a l : List ℕ) (s : ℕ) → nodeBy sheet HASPATH a l s n k ≡ onYield a (yieldIn (drop s l) 0) (λ v. settleOf a (pathOut (envOf a) (values a) (drop 3 (items (drop k (nodeIn a n)))) (at (drop k (nodeIn a n)) 2) v))
     unfolding nodeBy overOf oneOf walkOut

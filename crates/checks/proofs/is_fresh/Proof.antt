@@ -1,69 +1,68 @@
 -- `checks::is_fresh` meets its contract. Assumes nothing.
 use native.Mathlib.Omega.{arith}
-use Rattle.checks.proofs.FoundLaws.{fresh-type, fresh-value, fresh-kind, fresh-policy, fresh-entity, fresh-link, fresh-term, fresh-other, fresh-node}
 use Rattle.sheet.specs.Forms.{TYPE}
+use Rattle.checks.proofs.FoundLaws.{fresh-type, fresh-value, fresh-kind, fresh-policy, fresh-entity, fresh-link, fresh-term, fresh-other}
 use Rattle.checks.proofs.SearchLaws.{keyed-row}
 use Rattle.checks.proofs.SeenLaws.{unlike-key}
 use borrow.Author.Needs.{needs}
 use Rattle.checks.proofs.is_fresh.Statement.{statement}
 use Rattle.checks.proofs.is_fresh.Tie as tie
 
-returns : tie.Need-returns
-returns c = search (fresh-node, needs)
-
-returns-2 : tie.Need-returns-2
-returns-2 c = search (fresh-type, needs)
-
-returns-3 : tie.Need-returns-3
-returns-3 c = search (fresh-value, needs)
-
-returns-4 : tie.Need-returns-4
-returns-4 c = search (fresh-kind, needs)
-
-returns-5 : tie.Need-returns-5
-returns-5 c = search (fresh-policy, needs)
-
-returns-6 : tie.Need-returns-6
-returns-6 c = search (fresh-entity, needs)
-
-returns-7 : tie.Need-returns-7
-returns-7 c = search (fresh-link, needs)
-
-returns-8 : tie.Need-returns-8
-returns-8 c = search (fresh-term, needs)
-
-returns-9 : tie.Need-returns-9
-returns-9 c = search (fresh-other, needs)
-
 is-type-requires : tie.Need-is-type-requires
-is-type-requires c κs =
-    let s = c .before .before .before .before .before in
-    (keyed-row (s .args .line .now) (s .args .key) (s .pre .0 .1) (omega arith), unlike-key (s .args .line .now) (s .args .rows .now) (s .args .key) TYPE (s .args .new) (c .if2 .taken) (s .pre .1 .1))
+is-type-requires c κs = 
+    let s = c .before .before .before .before in
+    (keyed-row (s .args .line .now) (s .args .key) (s .pre .0 .1) (omega arith), unlike-key (s .args .line .now) (s .args .rows .now) (s .args .key) TYPE (s .args .new) (c .if1 .taken) (s .pre .1 .1))
+
+returns : tie.Need-returns
+returns c = search (fresh-type, needs)
 
 is-new-requires : tie.Need-is-new-requires
-is-new-requires c κs =
-    let s = c .before .before .before .before .before .before in
+is-new-requires c κs = 
+    let s = c .before .before .before .before .before in
     (keyed-row (s .args .line .now) (s .args .key) (s .pre .0 .1) (omega arith), s .pre .1 .1)
+
+returns-2 : tie.Need-returns-2
+returns-2 c = search (fresh-value, needs)
+
+returns-3 : tie.Need-returns-3
+returns-3 c = search (fresh-kind, needs)
+
+returns-4 : tie.Need-returns-4
+returns-4 c = search (fresh-policy, needs)
+
+is-above-requires : tie.Need-is-above-requires
+is-above-requires c κs = (λ q. absurd (omega arith), omega arith)
+
+returns-5 : tie.Need-returns-5
+returns-5 c = search (fresh-entity, needs)
+
+returns-6 : tie.Need-returns-6
+returns-6 c = search (fresh-link, needs)
+
+returns-7 : tie.Need-returns-7
+returns-7 c = search (fresh-term, needs)
+
+returns-8 : tie.Need-returns-8
+returns-8 c = search (fresh-other, needs)
 
 pub is-fresh-spec : {M : Type 1} → statement M
 is-fresh-spec =
     tie.close
     (tie.spec
-    returns
     is-type-requires
-    returns-2
+    returns
     is-new-requires
+    returns-2
+    (λ c κs. search needs)
+    (λ c κs. search needs)
     returns-3
     (λ c κs. search needs)
     (λ c κs. search needs)
     returns-4
-    (λ c κs. search needs)
-    (λ c κs. search needs)
+    is-above-requires
     returns-5
-    (λ c κs. (λ q. absurd (omega arith), omega arith))
+    (λ c κs. search needs)
     returns-6
     (λ c κs. search needs)
     returns-7
-    (λ c κs. search needs)
-    returns-8
-    returns-9)
+    returns-8)

@@ -1,8 +1,9 @@
 -- `reach::reach` meets its contract. Assumes nothing.
+use mathlib.Core.Path.{refl}
 use Prim.Native.Nat.{_-_}
 use lib.ListN.{length}
 use Rattle.reach.specs.Marks.{lineRows}
-use Rattle.reach.proofs.Steps.{Going, going-end, going-less, going-on, going-open, going-start, going-there, reach-queue}
+use Rattle.reach.proofs.Steps.{Going, going-end, going-less, going-on, going-open, going-place, going-start, going-there, reach-queue}
 use borrow.Author.Needs.{needs}
 use Rattle.reach.proofs.reach.Statement.{statement}
 use Rattle.reach.proofs.reach.Tie as tie
@@ -27,19 +28,24 @@ loop-holds c =
     let f = x .before .before .before .before .before .before .before .before .before in
     going-start _ _ _ _ _ _ _ _ _ _ _ _ _ _ (f .before .before .before .before .before .pre) (f .fill .ensures) (x .before .before .before .before .before .fill-bytes .ensures) (search needs) (search needs) (search needs) (search needs) (a .fill-bytes2 .ensures) (x .index .ensures) (s .see-at .ensures)
 
+array-read-v : tie.Need-array-read-v Inv-loop μ-loop
+array-read-v c = search (going-place, needs)
+
 set-of-requires : tie.Need-set-of-requires Inv-loop μ-loop
 set-of-requires c κs =
-    let k = c .before .before in
-    let w = k .before .before .before .loop .inv in
-    (w .indexed, (w .listed, going-there _ _ _ _ _ _ _ _ _ _ _ _ w (k .before .before .loop-test .taken) _ (k .read .ensures)))
+    let w = c .before .before .before .loop .inv in
+    (w .indexed, (w .listed, going-there _ _ _ _ _ _ _ _ _ _ _ _ w (c .before .before .loop-test .taken) _ refl))
+
+hide-requires : tie.Need-hide-requires Inv-loop μ-loop
+hide-requires c κs = c .before .before .before .before .before .loop .inv .queue .marks
 
 expand-requires : tie.Need-expand-requires Inv-loop μ-loop
 expand-requires c κs =
     let h = c .before .before .before .before .before .before .before in
     let s = h .before .before in
     let k = s .before .before .before in
-    let w = k .before .before .before .loop .inv in
-    let m = going-open _ _ _ _ _ _ _ _ _ _ _ _ w (k .before .before .loop-test .taken) _ (k .read .ensures) _ (s .set-of .ensures) _ (h .hide .ensures) in
+    let w = k .before .loop .inv in
+    let m = going-open _ _ _ _ _ _ _ _ _ _ _ _ w (k .loop-test .taken) _ refl _ (s .set-of .ensures) _ (h .hide .ensures) in
     (w .indexed, (m .queue, (m .spot, m .spread)))
 
 loop-less : tie.Need-loop-less Inv-loop μ-loop
@@ -51,7 +57,7 @@ loop-again c =
     let h = e .before .before .before .before .before .before .before .before in
     let s = h .before .before in
     let k = s .before .before .before in
-    going-on _ _ _ _ _ _ _ _ _ _ _ _ (k .before .before .before .loop .inv) (k .before .before .loop-test .taken) _ (k .read .ensures) _ (s .set-of .ensures) _ (h .hide .ensures) _ _ _ _ _ (e .expand .ensures)
+    going-on _ _ _ _ _ _ _ _ _ _ _ _ (k .before .loop .inv) (k .loop-test .taken) _ refl _ (s .set-of .ensures) _ (h .hide .ensures) _ _ _ _ _ (e .expand .ensures)
 
 returns : tie.Need-returns Inv-loop μ-loop
 returns c = search (going-end, needs)
@@ -75,11 +81,11 @@ reach-spec =
     loop-holds
     (λ c. search needs)
     (λ c. search needs)
-    (λ c κs. search needs)
+    array-read-v
     (λ c. search needs)
     (λ c. search needs)
     set-of-requires
-    (λ c κs. search needs)
+    hide-requires
     (λ c. search needs)
     (λ c. search needs)
     (λ c. search needs)

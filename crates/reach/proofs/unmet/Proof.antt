@@ -1,40 +1,14 @@
 -- `reach::unmet` meets its contract. Assumes nothing.
-use Prim.Native.Nat.{_-_}
-use lib.ListN.{length}
-use Rattle.reach.specs.Marks.{Skipped}
-use Rattle.reach.proofs.Steps.{skip-on, skip-start}
+use Rattle.reach.proofs.Steps.{skip-start}
 use borrow.Author.Needs.{needs}
 use Rattle.reach.proofs.unmet.Statement.{statement}
 use Rattle.reach.proofs.unmet.Tie as tie
 
-abbrev Inv-loop : tie.InvT-loop
-Inv-loop met list from i₀ i = Skipped met list from i
+returns : tie.Need-returns
+returns c = search (skip-start, needs)
 
-abbrev μ-loop : tie.MeasureT-loop
-μ-loop met list from i₀ i = length list - i
-
-loop-holds : tie.Need-loop-holds Inv-loop μ-loop
-loop-holds c = search (skip-start, needs)
-
-loop-again : tie.Need-loop-again Inv-loop μ-loop
-loop-again c = search (skip-on, needs)
+returns-2 : tie.Need-returns-2
+returns-2 c = search (skip-start, needs)
 
 pub unmet-spec : {M : Type 1} → statement M
-unmet-spec =
-    tie.close
-    (tie.spec
-    Inv-loop
-    μ-loop
-    loop-holds
-    (λ c. search needs)
-    (λ c. search needs)
-    (λ c. search needs)
-    (λ c. search needs)
-    (λ c. search needs)
-    (λ c. search needs)
-    (λ c κs. search needs)
-    (λ c. search needs)
-    (λ c. search needs)
-    (λ c. search needs)
-    loop-again
-    (λ c. search needs))
+unmet-spec = tie.close (tie.spec returns (λ c. search needs) returns-2 (λ c κs. search needs) (λ c. search needs))

@@ -1,11 +1,15 @@
 -- `strict::entity::leads` meets its contract. Assumes nothing.
-use Rattle.strict.proofs.Leading.{leads-is}
+use Rattle.strict.proofs.Leading.{hits-off, hits-is}
 use borrow.Author.Needs.{needs}
 use Rattle.strict.proofs.entity.leads.Statement.{statement}
 use Rattle.strict.proofs.entity.leads.Tie as tie
 
 returns : tie.Need-returns
-returns c = search (leads-is, needs)
+returns c = search (hits-off, needs)
+
+returns-2 : tie.Need-returns-2
+returns-2 c = search (hits-is, needs)
 
 pub leads-spec : {M : Type 1} → statement M
-leads-spec = tie.close (tie.spec (λ c κs. search needs) (λ c. search needs) (λ c. search needs) returns)
+leads-spec =
+    tie.close (tie.spec (λ c κs. search needs) (λ c. search needs) (λ c. search needs) returns (λ c κs. search needs) returns-2)

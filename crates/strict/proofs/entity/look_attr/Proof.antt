@@ -1,14 +1,14 @@
 -- `strict::entity::look_attr` meets its contract. Assumes nothing.
-use Rattle.strict.proofs.Finds.{attr-other, attr-entity}
+use Rattle.strict.proofs.Finds.{by-other, by-entity}
 use borrow.Author.Needs.{needs}
 use Rattle.strict.proofs.entity.look_attr.Statement.{statement}
 use Rattle.strict.proofs.entity.look_attr.Tie as tie
 
 returns : tie.Need-returns
-returns c = search (attr-other, needs)
+returns c = search (by-other, needs)
 
 returns-2 : tie.Need-returns-2
-returns-2 c = search (attr-entity, needs)
+returns-2 c = search (by-entity, needs)
 
 pub look-attr-spec : {M : Type 1} → statement M
 look-attr-spec =

@@ -1,11 +1,11 @@
 -- `strict::entity::part_of` meets its contract. Assumes nothing.
-use Rattle.strict.proofs.Finds.{part-line}
+use Rattle.strict.proofs.Finds.{part-by}
 use borrow.Author.Needs.{needs}
 use Rattle.strict.proofs.entity.part_of.Statement.{statement}
 use Rattle.strict.proofs.entity.part_of.Tie as tie
 
 returns : tie.Need-returns
-returns c = search (part-line, needs)
+returns c = search (part-by, needs)
 
 pub part-of-spec : {M : Type 1} → statement M
 part-of-spec = tie.close (tie.spec (λ c κs. search needs) (λ c κs. search needs) returns)

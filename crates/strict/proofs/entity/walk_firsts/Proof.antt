@@ -9,19 +9,16 @@ use Rattle.strict.proofs.entity.walk_firsts.Statement.{statement}
 use Rattle.strict.proofs.entity.walk_firsts.Tie as tie
 
 abbrev Inv-loop : tie.InvT-loop
-Inv-loop rows complete value path texts nexts n₀ i₀ n i = Walking complete rows (walkFrom complete rows value 0 path) path n i
+Inv-loop rows complete value path owners texts nexts n₀ i₀ n i = Walking complete rows (walkFrom complete rows value 0 path) path n i
 
 abbrev μ-loop : tie.MeasureT-loop
-μ-loop rows complete value path texts nexts n₀ i₀ n i = length path - i
+μ-loop rows complete value path owners texts nexts n₀ i₀ n i = length path - i
 
 loop-holds : tie.Need-loop-holds Inv-loop μ-loop
 loop-holds c = walk-start _ _ _ _ 0 (search needs)
 
 loop-again : tie.Need-loop-again Inv-loop μ-loop
-loop-again c =
-    let s = c .before .before .before in
-    let r = s .before .before .before in
-    firsts-on _ _ _ _ _ _ (r .loop .inv) _ _ (r .before .before .before .before .before .pre) (s .before .before .if1 .left) _ (s .leads .ensures) (c .before .before .if2 .left) _ (c .led-to .ensures) (c .before .if3 .left)
+loop-again c = firsts-on _ _ _ _ _ _ (c .before .before .before .before .before .before .before .before .before .loop .inv) _ _ _ (c .before .before .before .before .before .before .before .before .before .before .before .before .before .before .before .pre) (c .before .before .before .before .before .before .before .before .if1 .left) _ _ (c .before .before .before .leads .ensures) (c .before .before .if2 .left) _ _ (c .before .before .before .before .before .cell-in .ensures) (c .cell-at .ensures) (c .before .if3 .left)
 
 returns : tie.Need-returns Inv-loop μ-loop
 returns c = search (walk-end, needs)
@@ -39,6 +36,10 @@ walk-firsts-spec =
     Inv-loop
     μ-loop
     loop-holds
+    (λ c. search needs)
+    (λ c. search needs)
+    (λ c κs. search needs)
+    (λ c κs. search needs)
     (λ c. search needs)
     (λ c. search needs)
     (λ c κs. search needs)

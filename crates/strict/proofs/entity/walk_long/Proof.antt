@@ -1,21 +1,22 @@
 -- `strict::entity::walk_long` meets its contract. Assumes nothing.
-use Rattle.reach.specs.Marks.{VALUES}
+use Rattle.strict.specs.Firsts.{CELLS}
 use Rattle.strict.proofs.Leading.{firsts-none}
 use borrow.Author.Needs.{needs}
 use Rattle.strict.proofs.entity.walk_long.Statement.{statement}
 use Rattle.strict.proofs.entity.walk_long.Tie as tie
 
 firsts-requires : tie.Need-firsts-requires
-firsts-requires c κs = firsts-none _ VALUES
+firsts-requires c κs = firsts-none _ CELLS
 
 pub walk-long-spec : {M : Type 1} → statement M
 walk-long-spec =
     tie.close
     (tie.spec
-    (λ c κs. search needs)
+    (λ c. search needs)
     (λ c. search needs)
     (λ c. search needs)
     firsts-requires
+    (λ c. search needs)
     (λ c. search needs)
     (λ c. search needs)
     (λ c κs. search needs)
