@@ -1,14 +1,14 @@
--- `response::runs::send_partial` meets its contract. Assumes nothing.
+-- `sent::send_partial` meets its contract. Assumes nothing.
 use mathlib.Core.Path.{ap}
 use Rattle.sheet.specs.Why.{Name}
 use Rattle.table.specs.Layout.{RUN, MADE}
 use Rattle.response.specs.Naming.{nameAt}
 use Rattle.response.specs.Printed.{partialBytes}
 use Rattle.response.proofs.Lengths.{partial-counted}
 use Rattle.response.proofs.Sending.{sends-as, send-short, send-whole}
 use borrow.Author.Needs.{needs}
-use Rattle.response.proofs.runs.send_partial.Statement.{statement}
-use Rattle.response.proofs.runs.send_partial.Tie as tie
+use Rattle.sent.proofs.send_partial.Statement.{statement}
+use Rattle.sent.proofs.send_partial.Tie as tie
 
 returns : tie.Need-returns
 returns c =

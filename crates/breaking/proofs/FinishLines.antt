@@ -1,4 +1,4 @@
--- The line that number 11 names, by computation, on the sheets of FinishExample with some lines changed: what changes on the partial sheet,
+-- The line that number 11 names, by computation, on the sheets of FinishExample (crate `finished`) with some lines changed: what changes on the partial sheet,
 -- what on the complete one, and the line.
 use mathlib.Core.Path.{_≡_, refl}
 use mathlib.Core.List.{List, [], _∷_}

@@ -1,15 +1,15 @@
--- `response::runs::send_complete` meets its contract. Assumes nothing.
+-- `sent::send_complete` meets its contract. Assumes nothing.
 use mathlib.Core.Path.{ap}
 use native.Mathlib.Omega.{arith}
 use Rattle.sheet.specs.Why.{Name}
 use Rattle.table.specs.Layout.{RUN}
 use Rattle.response.proofs.Sending.{sends-as, print-whole, send-short, send-whole}
 use Rattle.response.specs.Naming.{nameAt}
 use Rattle.response.specs.Printed.{completeBytes}
 use Rattle.response.proofs.Lengths.{complete-within, complete-counted}
 use borrow.Author.Needs.{needs}
-use Rattle.response.proofs.runs.send_complete.Statement.{statement}
-use Rattle.response.proofs.runs.send_complete.Tie as tie
+use Rattle.sent.proofs.send_complete.Statement.{statement}
+use Rattle.sent.proofs.send_complete.Tie as tie
 
 returns : tie.Need-returns
 returns c =

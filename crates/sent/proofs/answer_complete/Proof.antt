@@ -1,8 +1,8 @@
--- `response::runs::answer_complete` meets its contract. Assumes nothing.
+-- `sent::answer_complete` meets its contract. Assumes nothing.
 use Rattle.response.proofs.Completing.{complete-runs}
 use borrow.Author.Needs.{needs}
-use Rattle.response.proofs.runs.answer_complete.Statement.{statement}
-use Rattle.response.proofs.runs.answer_complete.Tie as tie
+use Rattle.sent.proofs.answer_complete.Statement.{statement}
+use Rattle.sent.proofs.answer_complete.Tie as tie
 
 returns : tie.Need-returns
 returns c = search (complete-runs, needs)

@@ -1,9 +1,9 @@
--- `response::runs::answer_partial` meets its contract. Assumes nothing.
+-- `sent::answer_partial` meets its contract. Assumes nothing.
 use Rattle.response.proofs.PartialRun.{log-fits, partial-runs, partial-prints}
 use native.Mathlib.Omega.{arith}
 use borrow.Author.Needs.{needs}
-use Rattle.response.proofs.runs.answer_partial.Statement.{statement}
-use Rattle.response.proofs.runs.answer_partial.Tie as tie
+use Rattle.sent.proofs.answer_partial.Statement.{statement}
+use Rattle.sent.proofs.answer_partial.Tie as tie
 
 returns : tie.Need-returns
 returns c =

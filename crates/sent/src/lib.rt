@@ -1,9 +1,9 @@
 // A sheet that the words hold, run and answered. What a run says of each policy, its class and what is left of it, is taken from the promises of
 // `interpret` and `evaluator` alone.
-use crate::answer;
-use crate::why_of;
 use interpret::CLASSES;
 use interpret::ROOTS;
+use response::answer;
+use response::why_of;
 use table::RUN;
 use table::count;
 use words::ROOM;

@@ -1,13 +1,13 @@
--- `response::runs::print_partial` meets its contract. Assumes nothing.
+-- `sent::print_partial` meets its contract. Assumes nothing.
 use mathlib.Core.Path.{ap}
 use Rattle.sheet.specs.Why.{Name}
 use Rattle.response.specs.Printed.{partialBytes}
 use Rattle.response.proofs.Sending.{print-whole}
 use Rattle.print.proofs.Writing.{written-as}
 use Rattle.response.specs.Naming.{whyIn}
 use borrow.Author.Needs.{needs}
-use Rattle.response.proofs.runs.print_partial.Statement.{statement}
-use Rattle.response.proofs.runs.print_partial.Tie as tie
+use Rattle.sent.proofs.print_partial.Statement.{statement}
+use Rattle.sent.proofs.print_partial.Tie as tie
 
 returns : tie.Need-returns
 returns c =
