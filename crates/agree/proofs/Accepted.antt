@@ -6,8 +6,8 @@ use lib.ListN.{getD}
 use Rattle.sheet.specs.Forms.{Mode, partial, complete, noKey, ENTITY}
 use Rattle.sheet.specs.State.{State}
 use Rattle.sheet.specs.Sheet.{read}
-use Rattle.sheet.proofs.reading.Lines.{accepted-history, accepted-fit}
-use Rattle.sheet.proofs.content.Environment.{Facts, all-keys}
+use Rattle.sheet.proofs.reading.Lines.{accepted-history}
+use Rattle.sheet.proofs.demand3.Demand3Bytes.{facts-read}
 use Rattle.table.specs.Layout.{rowsOf, linesHeld, held}
 use Rattle.table.proofs.Held.{held-same}
 use Rattle.finished.specs.Finish.{breakingLine}
@@ -34,9 +34,6 @@ entities-kept m sheet a k =
     let (h, e) = accepted-history m sheet (k .accepted) in
     subst (λ (l : List (List (List ℕ))). Rising 0 (getD l ENTITY [])) (sym (k .lines)) (rising m (read m sheet .state) h)
 
-facts-of : (m : Mode) (sheet : List ℕ) → read m sheet .number ≡ 0 → Facts m (read m sheet .state)
-facts-of m sheet e = let (h, f) = accepted-history m sheet e in record { history = h; ends = f; keys = all-keys m sheet e; fit = accepted-fit m sheet e }
-
 module _ (p c a d : List ℕ) (k : Kept partial p a) (j : Kept complete c d) where
   -- what `agree::breaking_line` asks
   pub ordered : Ordered a d
@@ -47,4 +44,4 @@ module _ (p c a d : List ℕ) (k : Kept partial p a) (j : Kept complete c d) whe
   unfolding passedLine held
   breaking-read =
       ap₂ (λ (x y : List (List (List ℕ))). passedLine (record { lines = x; depths = []; used = [] }) (record { lines = y; depths = []; used = [] })) (k .lines) (j .lines)
-      ∙ passed-is (read partial p .state) (read complete c .state) (facts-of partial p (k .accepted)) (facts-of complete c (j .accepted))
+      ∙ passed-is (read partial p .state) (read complete c .state) (facts-read partial p (k .accepted)) (facts-read complete c (j .accepted))

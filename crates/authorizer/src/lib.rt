@@ -2,8 +2,8 @@
 // of them: what is too short is refused.
 use opening::open;
 pub use print::Returned;
-use response::runs::answer_complete;
-use response::runs::answer_partial;
+use sent::answer_complete;
+use sent::answer_partial;
 use words::ROOM;
 use words::clear;
 ghost use mathlib.Core.Path.{_≡_};

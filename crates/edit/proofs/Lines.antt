@@ -10,6 +10,8 @@ use lib.ListN.{length, getD, take, drop, set, length-drop, drop-of-length-le}
 use lib.Seq.{drop-drop}
 use Rattle.words.specs.Log.{part}
 use Rattle.sheet.specs.Bytes.{upTo, split, ahead}
+use Rattle.print.specs.Written.{Written}
+use Rattle.print.proofs.Writing.{written-append, written-as}
 use Rattle.scan.proofs.Splits.{split-parts}
 use Rattle.previewed.specs.Preview.{lineOf, joinLines, edited}
 use Rattle.edit.specs.Places.{startOf, beginOf, endFrom, replaced}
@@ -174,3 +176,8 @@ copy-is sheet (suc i) new h =
     let a = startOf i sheet in
     ap (λ (j : ℕ). joinLines (set (split 10 sheet) j new)) z ∙ copy-from i sheet new h
     ∙ ap (λ (t : List ℕ). take a sheet ++ (new ++ t)) (drop-drop (upTo 10 (drop a sheet)) a sheet)
+
+-- the copy, written in three parts
+pub replaced-written : {c₀ c₁ c₂ c₃ x y : List ℕ} {a b c : ℕ} (sheet new : List ℕ) (start end : ℕ) → x ≡ take start sheet → y ≡ drop end sheet → Written c₀ 0 x c₁ a → Written c₁ a new c₂ b → Written c₂ b y c₃ c
+    → Written c₀ 0 (replaced sheet start end new) c₃ c
+replaced-written sheet new start end xp yp p q s = written-append (written-as p xp) (written-append q (written-as s yp))

@@ -1,5 +1,6 @@
 // A line of a sheet, and whether another may stand for it: one that fills unknown items of a request's or an entity's line and changes nothing
 // else of it.
+use print::bytes;
 use scan::Number;
 use scan::find;
 use scan::front;
@@ -11,10 +12,11 @@ ghost use mathlib.Core.Path.{_≡_};
 ghost use mathlib.Core.Bool.{_&&_, _||_, not};
 ghost use Prim.Native.Nat.{_+_};
 ghost use lib.ListN.{drop};
+ghost use Rattle.print.specs.Written.{Written};
 ghost use Rattle.sheet.specs.Ascii.{ascii};
 ghost use Rattle.sheet.specs.Bytes.{split, same};
 ghost use Rattle.previewed.specs.Preview.{keyIn, itemsIn, mayFill, fillsOnly, fills};
-ghost use Rattle.edit.specs.Places.{beginOf};
+ghost use Rattle.edit.specs.Places.{beginOf, replaced};
 
 // ---- a line for a line
 
@@ -126,4 +128,13 @@ pub fn begin(sheet: &[u8], line: usize) -> usize
         before -= 1;
     }
     at
+}
+
+// The sheet with other bytes in the place of those from `start` to `end`, at the start of a buffer, and how many bytes it has.
+pub fn replace(copy: &mut [u8], sheet: &[u8], start: usize, end: usize, new: &[u8]) -> usize
+    ensures { λ r. ⌜ Written (now (copy .entry)) 0 (replaced (now (sheet .entry)) start end (now (new .entry))) (now (copy .exit)) r ⌝ }
+{
+    let a = bytes(copy, 0, front(sheet, start));
+    let b = bytes(copy, a, new);
+    bytes(copy, b, rest(sheet, end))
 }

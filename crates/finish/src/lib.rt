@@ -4,7 +4,7 @@
 use agree::breaking_line;
 use authorizer::Returned;
 use opening::open;
-use response::runs::send_complete;
+use sent::send_complete;
 use words::ROOM;
 use words::append;
 use words::clear;

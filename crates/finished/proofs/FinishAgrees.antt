@@ -13,14 +13,13 @@ use Rattle.cedar.specs.Value.{onSome}
 use Rattle.sheet.specs.Bytes.{same}
 use Rattle.sheet.specs.Forms.{Mode, partial, complete, at, TEXT, KIND, TYPE, SHAPE, VALUE, ENTITY, PRINCIPAL, ACTION, RESOURCE, CONTEXT, DAY, NODE, POLICY, LINK, TERM, noKey}
 use Rattle.sheet.specs.State.{State, linesOf, lineAt, count, counts, before, sum}
-use Rattle.sheet.specs.Sheet.{found, above, allThere, ascend}
-use Rattle.sheet.specs.Forms as F
 use Rattle.sheet.specs.Parents.{lineFor}
 use Rattle.sheet.specs.Agreement.{begins, sameLines, requestSame, entitySame, listed, allListed, agrees}
 use Rattle.finished.specs.Finish.{breakFrom, breakingLine}
 use Rattle.finished.specs.ByKey.{beginBreak, sameBreak, entityBreak, requestBreak, firstSome, breaks, shorter, unlistedIn, anyOf, lacking, lacks, passedLine}
 use Rattle.finished.specs.Rising.{Rising}
 use Rattle.sheet.proofs.reading.Lines.{History}
+use Rattle.sheet.proofs.reading.EntityOrder.{above-of, above-last}
 use Rattle.sheet.proofs.demand3.TwoSheets.{common}
 use Rattle.sheet.proofs.content.ValueRows.{same-refl}
 
@@ -101,25 +100,6 @@ none-entity p [] l f = refl
 none-entity p (q ∷ c) l f = rw (f q here) (none-entity p c (suc l) (λ x i. f x (there i)))
 
 -- ---- entity lines of an accepted sheet
-
-above-of : (u : State) (q : List ℕ) → found u ENTITY q ≡ true → above u ENTITY q ≡ true
-unfolding found
-above-of u q e = and-both (allThere u (F.tag q) 0 (F.items q) && ascend 0 (F.ascendings q)) (above u ENTITY q) e (λ a b. b)
-
-last-is : (l : List (List ℕ)) (x : List ℕ) → getD (l ++ (x ∷ [])) (length l) [] ≡ x
-last-is [] x = refl
-last-is (y ∷ l) x = last-is l x
-
-above-last : (u : State) (pre : List (List ℕ)) (r q : List ℕ) → linesOf u ENTITY ≡ pre ++ (r ∷ []) → above u ENTITY q ≡ true → suc (at r 0) ≤ at q 0
-above-last u pre r q e a =
-    let n = length-append pre (r ∷ []) in
-    let k : count u ENTITY ≡ suc (length pre) = ap length e ∙ n ∙ omega arith in
-    let i : count u ENTITY - 1 ≡ length pre = omega (arith, k) in
-    go (eqb (count u ENTITY) 0) refl k (ap (λ l. at l 0) ((λ j. getD (e j) (i j) []) ∙ last-is pre r)) a
-  where
-    go : (b : Bool) → eqb (count u ENTITY) 0 ≡ b → count u ENTITY ≡ suc (length pre) → at (lineAt u ENTITY (count u ENTITY - 1)) 0 ≡ at r 0 → (b || ltb (at (lineAt u ENTITY (count u ENTITY - 1)) 0) (at q 0)) ≡ true → suc (at r 0) ≤ at q 0
-    go true c k z a = let y = eqb-true (count u ENTITY) 0 c in absurd (omega (arith, k, y))
-    go false c k z a = let y = ltb-true (at (lineAt u ENTITY (count u ENTITY - 1)) 0) (at q 0) a in omega (arith, y, z)
 
 -- after the lines pre, each of rs is above the one before it
 rising-from : (m : Mode) (s : State) → History m s → (pre rs : List (List ℕ)) → linesOf s ENTITY ≡ pre ++ rs → (b : ℕ) → ((r : List ℕ) (rest : List (List ℕ)) → rs ≡ r ∷ rest → b ≤ at r 0) → Rising b rs

@@ -4,4 +4,3 @@ pub mod FinishCall
 pub mod FinishEdges
 pub mod FinishEqual
 pub mod FinishExample
-pub mod FinishLines

@@ -31,10 +31,10 @@ use Rattle.response.specs.declared.Decision as C
 use Rattle.response.proofs.PartialRun.{ready-words}
 use Rattle.staff.specs.Firm.{setTexts, withTexts, textFits, askFits, filledSheet, rowDecision}
 use Rattle.staff.proofs.FirmBytes.{filled-sheet}
-use Rattle.firm.specs.Laid.{AHEAD, LINE, lineWith, Stands, Laid, Roomy}
+use Rattle.laid.specs.Laid.{AHEAD, LINE, lineWith, Stands, Laid, Roomy}
 use Rattle.firm.specs.Parts.{asks, Decides}
 use Rattle.firm.proofs.Texts.{principal-size, resource-size, texts-set}
-use Rattle.firm.proofs.Standing.{one-principal, one-resource, top-is, rows-kept, row-laid, sound-laid}
+use Rattle.laid.proofs.Standing.{one-principal, one-resource, top-is, rows-kept, row-laid, sound-laid}
 
 -- ---- room
 

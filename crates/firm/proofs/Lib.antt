@@ -1,7 +1,4 @@
-pub mod Copying
-pub mod Laying
 pub mod Texts
-pub mod Standing
 pub mod Deciding
 pub mod Calling
 pub mod Quoting

@@ -16,7 +16,7 @@ use Rattle.sheet.proofs.reading.NodeRows.{plain-slots}
 use Rattle.sheet.proofs.content.ValueRows.{items-length}
 use Rattle.forms.specs.Tags.{PRINCIPAL-LINE, RESOURCE-LINE}
 use Rattle.staff.specs.Firm.{setText, setTexts}
-use Rattle.firm.specs.Laid.{lineWith}
+use Rattle.laid.specs.Laid.{lineWith}
 
 -- ---- a row of principal or resource has its tag, its kind and its text
 

@@ -1,4 +1,3 @@
-pub mod Laid
 pub mod Parts
 pub mod Promise
 pub mod Words

@@ -17,7 +17,8 @@ use Rattle.finished.specs.Finish.{breakingLine, finishedAnswer, atLine, finishR
 use Rattle.paged.specs.Page.{pageReturned}
 use Rattle.previewed.specs.Preview.{previewReturned}
 use Rattle.staff.specs.Firm.{Row, fitThen, firmReturned}
-use Rattle.openrules.specs.Shown.{entryOf, space, refusal, textOf, shown, finishBack, shownFinished, shownPage, shownPreview, firmBack, firmText, shownFirm}
+use Rattle.wording.specs.Worded.{entryOf, refusal}
+use Rattle.openrules.specs.Shown.{space, textOf, shown, finishBack, shownFinished, shownPage, shownPreview, firmBack, firmText, shownFirm}
 
 -- what is printed is the same for all inputs that are too long
 module _ (f : List ℕ → List ℕ) (alike : (s t : List ℕ) → 16384 < length s → 16384 < length t → f s ≡ f t) where

@@ -11,7 +11,8 @@ use Rattle.print.specs.Written.{Written}
 use Rattle.drawn.specs.TestLoad.{load, loadReturned, loadWritten}
 use Rattle.testload.specs.Loaded.{Loaded}
 use Rattle.testload.proofs.Accepted.{zero-says}
-use Rattle.openrules.specs.Shown.{space, refusal, loadBack, shownLoad, Shows}
+use Rattle.wording.specs.Worded.{refusal}
+use Rattle.openrules.specs.Shown.{space, loadBack, shownLoad, Shows}
 use Rattle.openrules.proofs.Showing.{shows-text, shows-line}
 
 -- ---- more policies than a call can be asked for

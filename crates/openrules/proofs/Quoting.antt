@@ -1,14 +1,14 @@
 -- What the program shows for a whole firm, from what its call promises. Assumes nothing.
-use mathlib.Core.Path.{_≡_, refl, sym, ap, ap₂, _∙_, subst}
+use mathlib.Core.Path.{_≡_, refl, sym, ap, ap₂, _∙_}
 use mathlib.Core.Bool.{Bool, true, false, cond}
-use mathlib.Core.List.{List, [], _∷_, _++_, append-assoc, append-nil}
-use Prim.Native.Nat.{ℕ, zero, suc, _+_, _*_, _/_, _≤_, _<_}
+use mathlib.Core.List.{List, [], _∷_, _++_}
+use Prim.Native.Nat.{ℕ, suc, _+_, _*_, _≤_}
 use native.Mathlib.Omega.{arith}
 use native.Mathlib.Decide.{decLe}
 use borrow.Author.Tests.{eq-eqb, ne-eqb, lt-ltb}
-use lib.ListN.{length, getD, take, drop, length-append}
+use lib.ListN.{length, take, drop, length-append}
 use lib.Dec.{eqb}
-use lib.Seq.{take-all, take-append-seam}
+use lib.Seq.{take-append-seam}
 use Rattle.cedar.specs.Response.{Decision, allow, deny, undecided}
 use Rattle.sheet.specs.Ascii.{ascii}
 use Rattle.sheet.specs.Forms.{partial}
@@ -18,77 +18,15 @@ use Rattle.sheet.specs.Call.{Returned, returns, room, shortThen, readThen, over
 use Rattle.sheet.proofs.reading.Lines.{zero-not-suc}
 use Rattle.sheet.proofs.reading.Checked.{lent-by, short-by}
 use Rattle.print.specs.Written.{Written}
-use Rattle.print.proofs.Writing.{written-none, written-append, written-as, written-over}
+use Rattle.print.proofs.Writing.{written-as, written-over}
 use Rattle.staff.specs.Firm.{Row, rowsThen, fitThen, firmReturned, firmRows, firmGroup, filledRows}
-use Rattle.firm.specs.declared.Row as R
 use Rattle.firm.specs.declared.Quote as Q
 use Rattle.firm.specs.Parts.{decisionIn, rowsIn}
-use Rattle.firm.specs.Words.{rowsOfWords, rowFrom, QuotesWords}
-use Rattle.firm.proofs.Wording.{rows-count, row-of-words, rows-back}
-use Rattle.openrules.specs.Shown.{space, refusal, decided, rowsText, firmBack, firmText, shownFirm, Shows}
+use Rattle.firm.specs.Words.{rowsOfWords, QuotesWords}
+use Rattle.firm.proofs.Wording.{rows-back}
+use Rattle.wording.specs.Worded.{refusal, decided, rowsText, quoteText}
+use Rattle.openrules.specs.Shown.{space, firmBack, firmText, shownFirm, Shows}
 use Rattle.openrules.proofs.Showing.{counts-front, shows-line}
-
--- ---- a decision's word and line
-
-module _ (was : List ℕ) (at n : ℕ) (is : List ℕ) (next : ℕ) where
-  abbrev Worded : ℕ → Type 0
-  Worded k = Written was at (ascii (decisionWord (decisionIn k))) is next
-
-  pub word-allow : n ≡ 0 → Written was at (97 ∷ 108 ∷ 108 ∷ 111 ∷ 119 ∷ []) is next → Worded n
-  word-allow e w = subst Worded (sym e) w
-
-  pub word-deny : n ≡ 1 → Written was at (100 ∷ 101 ∷ 110 ∷ 121 ∷ []) is next → Worded n
-  word-deny e w = subst Worded (sym e) w
-
-  pub word-open : (n ≡ 0 → ⊥) → (n ≡ 1 → ⊥) → Written was at (111 ∷ 112 ∷ 101 ∷ 110 ∷ []) is next → Worded n
-  word-open a d w = go n a d
-    where
-      go : (k : ℕ) → (k ≡ 0 → ⊥) → (k ≡ 1 → ⊥) → Worded k
-      go zero a d = absurd (a refl)
-      go (suc zero) a d = absurd (d refl)
-      go (suc (suc k)) a d = w
-
-pub decision-line : {was is o₁ o₂ o₃ : List ℕ} {at k₁ k₂ k₃ next : ℕ} (key : List ℕ) (n : ℕ) → Written was at key o₁ k₁ → Written o₁ k₁ (61 ∷ []) o₂ k₂
-    → Written o₂ k₂ (ascii (decisionWord (decisionIn n))) o₃ k₃ → Written o₃ k₃ (10 ∷ []) is next → Written was at (key ++ (61 ∷ ascii (decisionWord (decisionIn n)) ++ (10 ∷ []))) is next
-decision-line key n w₀ w₁ w₂ w₃ = written-append w₀ (written-append w₁ (written-append w₂ w₃))
-
--- ---- the rows' lines: the first i are written
-
-rows-one-more : (rs : List R.Row) (i : ℕ) (d : R.Row) → i < length rs → rowsText (rowsIn (take (suc i) rs)) ≡ rowsText (rowsIn (take i rs)) ++ decided "row" (decisionIn (getD rs i d .decision))
-rows-one-more [] i d h = absurd (omega arith)
-rows-one-more (r ∷ rs) zero d h = append-nil (decided "row" (decisionIn (r .decision)))
-rows-one-more (r ∷ rs) (suc i) d h =
-    let x = decided "row" (decisionIn (r .decision)) in
-    ap (λ (l : List ℕ). x ++ l) (rows-one-more rs i d (omega arith)) ∙ sym (append-assoc x (rowsText (rowsIn (take i rs))) (decided "row" (decisionIn (getD rs i d .decision))))
-
-pub record Lining (ws was : List ℕ) (at₀ : ℕ) (is : List ℕ) (at i : ℕ) : Type 0 where
-  pub near : i ≤ length ws / 3
-  pub kept : length is ≡ length was
-  pub written : Written was at₀ (rowsText (rowsIn (take i (rowsOfWords ws)))) is at
-
-pub lining-start : (ws was : List ℕ) (at : ℕ) → at ≤ 18446744073709551615 → length was ≤ 18446744073709551615 → Lining ws was at was at 0
-lining-start ws was at h l = record { near = omega arith; kept = refl; written = written-none was at h l }
-
-module _ (ws was : List ℕ) (at₀ : ℕ) (is : List ℕ) (at i : ℕ) (k : Lining ws was at₀ is at i) where
-  nothing : R.Row
-  nothing = record { principal = 0; resource = 0; decision = 0 }
-
-  pub lining-on : (out : List ℕ) (next : ℕ) → i < length ws / 3 → length out ≡ length is → Written is at ((114 ∷ 111 ∷ 119 ∷ []) ++ (61 ∷ ascii (decisionWord (decisionIn (getD ws (i * 3 + 2) 0))) ++ (10 ∷ []))) out next → Lining ws was at₀ out next (i + 1)
-  unfolding rowFrom
-  lining-on out next h l w =
-      let n : suc i ≡ i + 1 = omega arith in
-      let e : getD ws (i * 3 + 2) 0 ≡ getD (rowsOfWords ws) i nothing .decision = ap (λ (r : R.Row). r .decision) (row-of-words ws i nothing h) in
-      record {
-        near = omega (arith, h);
-        kept = l ∙ k .kept;
-        written =
-            written-as (written-append (k .written) w)
-            (ap (λ (d : ℕ). rowsText (rowsIn (take i (rowsOfWords ws))) ++ decided "row" (decisionIn d)) e
-            ∙ sym (rows-one-more (rowsOfWords ws) i nothing (omega (arith, h, rows-count ws))) ∙ ap (λ (m : ℕ). rowsText (rowsIn (take m (rowsOfWords ws)))) n);
-      }
-
-  pub lining-end : length ws / 3 ≤ i → Written was at₀ (rowsText (rowsIn (rowsOfWords ws))) is at
-  lining-end h = written-as (k .written) (ap (λ (l : List R.Row). rowsText (rowsIn l)) (take-all i (rowsOfWords ws) (omega (arith, h, rows-count ws))))
 
 -- ---- what is shown has room
 
@@ -182,12 +120,11 @@ module _ (ws s a b : List ℕ) (f : Q.Quote) (ws′ a′ b′ : List ℕ) (la : 
       omega (arith, n, g, m, l, t)
 
   module _ (out : List ℕ) (lo : length out ≡ space) where
-    pub firm-answer : f .number ≡ 0 → (mid : List ℕ) (k : ℕ) → Written out 0 ((103 ∷ 114 ∷ 111 ∷ 117 ∷ 112 ∷ []) ++ (61 ∷ ascii (decisionWord (decisionIn (f .group))) ++ (10 ∷ []))) mid k
-        → (is : List ℕ) (next : ℕ) → Written mid k (rowsText (rowsIn (rowsOfWords ws′))) is next → Shows (shownFirm s rows) is next
+    pub firm-answer : f .number ≡ 0 → (is : List ℕ) (next : ℕ) → Written out 0 (quoteText (decisionIn (f .group)) (rowsIn (rowsOfWords ws′))) is next → Shows (shownFirm s rows) is next
     unfolding shownFirm
-    firm-answer z mid k w₀ is next w₁ =
-        let w : Written out 0 text is next = written-as (written-append w₀ w₁) (ap₂ (λ (d : Decision) (rs : List Row). decided "group" d ++ rowsText rs) group-is rows-are) in
-        let (e, n) = written-over out text is next w (let y = short z in omega (arith, y, lo)) in
+    firm-answer z is next w =
+        let v : Written out 0 text is next = written-as w (ap₂ quoteText group-is rows-are) in
+        let (e, n) = written-over out text is next v (let y = short z in omega (arith, y, lo)) in
         let t : take next is ≡ text = rw (n, e) (take-append-seam text (drop (length text) out)) in
         let q : firmBack s rows .number ≡ 0 = sym number-is ∙ z in
         record {

@@ -1,15 +1,14 @@
 -- What the program's functions give, from what their calls promise. Assumes nothing.
 use mathlib.Core.Path.{_≡_, refl, sym, ap, _∙_, subst}
 use mathlib.Core.Bool.{Bool, true, false, cond}
-use mathlib.Core.List.{List, [], _∷_, _++_, append-assoc}
-use Prim.Native.Nat.{ℕ, zero, suc, _+_, _≤_}
+use mathlib.Core.List.{List, _++_}
+use Prim.Native.Nat.{ℕ, zero, suc}
 use native.Mathlib.Omega.{arith}
 use borrow.Author.Tests.{eq-eqb, ne-eqb}
 use lib.Dec.{ltb}
 use lib.ListN.{length, take, drop, length-append}
 use lib.Seq.{take-append-seam}
 use Rattle.io.specs.Counts.{Counts}
-use Rattle.sheet.specs.Bytes.{upTo, same, digits}
 use Rattle.sheet.specs.Forms.{partial, complete}
 use Rattle.sheet.specs.State.{State}
 use Rattle.sheet.specs.Sheet.{read}
@@ -19,7 +18,7 @@ use Rattle.sheet.proofs.reading.Lines.{zero-not-suc}
 use Rattle.sheet.proofs.reading.Checked.{lent-by, short-by, checked-by}
 use Rattle.sheet.proofs.answer.Buffers.{accepted-whole}
 use Rattle.print.specs.Written.{Written}
-use Rattle.print.proofs.Writing.{written-append, written-as, written-over, digits-few}
+use Rattle.print.proofs.Writing.{written-over}
 use Rattle.authorizer.specs.Called.{Called}
 use Rattle.finished.specs.Finish.{breakingLine, finishedAnswer, atLine, finishReturned, finishWritten}
 use Rattle.finished.specs.Promise.{Finished}
@@ -29,16 +28,11 @@ use Rattle.paged.proofs.PageLength.{page-length}
 use Rattle.paged.proofs.PageGoesOut.{goes-out, page-out}
 use Rattle.previewed.specs.Preview.{edited, mayEdit, editThen, previewReturned, previewWritten}
 use Rattle.previewed.specs.Promise.{Previewed}
-use Rattle.openrules.specs.Shown.{space, saysComplete, entryOf, refusal, textOf, back, shown, finishBack, shownFinished, pageBack, shownPage, previewBack, shownPreview, Shows}
+use Rattle.wording.specs.Worded.{saysComplete, entryOf, refusal}
+use Rattle.wording.proofs.Lines.{refusal-short}
+use Rattle.openrules.specs.Shown.{space, textOf, back, shown, finishBack, shownFinished, pageBack, shownPage, previewBack, shownPreview, Shows}
 
 -- ---- the entry
-
-pub says : (s line : List ℕ) (n : ℕ) (r : Bool) → n ≡ 0 + upTo 10 (drop 0 s) → line ≡ take n s
-    → r ≡ same line (115 ∷ 104 ∷ 101 ∷ 101 ∷ 116 ∷ 61 ∷ 99 ∷ 111 ∷ 109 ∷ 112 ∷ 108 ∷ 101 ∷ 116 ∷ 101 ∷ []) → r ≡ saysComplete s
-unfolding saysComplete
-says s line n r e f g =
-    let k : n ≡ upTo 10 s = omega arith in
-    rw (g, f, k)
 
 module _ (s a b out a′ b′ out′ : List ℕ) (number line len : ℕ) (t : Bool) (says : t ≡ saysComplete s) where
   pub call-complete : t ≡ true → Called complete s a b out number line len out′ a′ b′ → Called (entryOf s) s a b out number line len out′ a′ b′
@@ -46,26 +40,6 @@ module _ (s a b out a′ b′ out′ : List ℕ) (number line len : ℕ) (t : Bo
 
   pub call-partial : t ≡ false → Called partial s a b out number line len out′ a′ b′ → Called (entryOf s) s a b out number line len out′ a′ b′
   call-partial h c = rw (← says, h) c
-
--- ---- the refusal
-
-refusal-text : (n line len : ℕ)
-    → (114 ∷ 101 ∷ 102 ∷ 117 ∷ 115 ∷ 101 ∷ 100 ∷ 61 ∷ []) ++ (digits n ++ ((44 ∷ []) ++ (digits line ++ ((44 ∷ []) ++ (digits len ++ (10 ∷ [])))))) ≡ refusal n line len
-unfolding refusal
-refusal-text n line len = simp append-assoc
-
-pub refused-line : {was is o₁ o₂ o₃ o₄ o₅ o₆ : List ℕ} {k₁ k₂ k₃ k₄ k₅ k₆ next : ℕ} (n line len : ℕ) → Written was 0 (114 ∷ 101 ∷ 102 ∷ 117 ∷ 115 ∷ 101 ∷ 100 ∷ 61 ∷ []) o₁ k₁ → Written o₁ k₁ (digits n) o₂ k₂
-    → Written o₂ k₂ (44 ∷ []) o₃ k₃ → Written o₃ k₃ (digits line) o₄ k₄ → Written o₄ k₄ (44 ∷ []) o₅ k₅ → Written o₅ k₅ (digits len) o₆ k₆ → Written o₆ k₆ (10 ∷ []) is next
-    → Written was 0 (refusal n line len) is next
-refused-line n line len w₀ w₁ w₂ w₃ w₄ w₅ w₆ =
-    written-as (written-append w₀ (written-append w₁ (written-append w₂ (written-append w₃ (written-append w₄ (written-append w₅ w₆)))))) (refusal-text n line len)
-
-refusal-short : (n line len : ℕ) → length (refusal n line len) ≤ 71
-refusal-short n line len =
-    let a = digits-few n in
-    let b = digits-few line in
-    let c = digits-few len in
-    subst (λ (l : List ℕ). length l ≤ 71) (refusal-text n line len) (simp length-append (omega arith))
 
 -- ---- what is shown
 

@@ -2,43 +2,26 @@
 -- `finish` it also reads the partial sheet from a file; after the word `preview` the command line has the number of a line and a line, after the word
 -- `firm` the rows; with the word `load` it reads nothing but the two numbers after it.
 use mathlib.Core.Path.{_≡_}
-use mathlib.Core.Bool.{Bool, cond}
-use mathlib.Core.List.{List, [], _∷_, _++_}
-use mathlib.Core.Option.{Option}
+use mathlib.Core.Bool.{cond}
+use mathlib.Core.List.{List}
 use Prim.Native.Nat.{ℕ}
-use Prim.Native.String.{String}
 use lib.Dec.{eqb}
 use lib.ListN.{length, take}
 use Rattle.io.specs.Counts.{Counts}
-use Rattle.cedar.specs.Response.{Decision}
-use Rattle.print.specs.Written.{greatest}
-use Rattle.sheet.specs.Ascii.{ascii}
-use Rattle.sheet.specs.Bytes.{upTo, same, decimal, atMost}
-use Rattle.sheet.specs.Forms.{Mode, partial, complete}
+use Rattle.sheet.specs.Forms.{partial, complete}
 use Rattle.sheet.specs.Sheet.{read}
-use Rattle.sheet.specs.Answer.{printed, numbers, answer, decisionWord}
+use Rattle.sheet.specs.Answer.{answer}
 use Rattle.sheet.specs.Call.{Returned, room, returned}
 use Rattle.finished.specs.Finish.{finishedAnswer, finishReturned}
 use Rattle.paged.specs.Page.{page, pageReturned}
 use Rattle.previewed.specs.Preview.{edited, previewReturned}
 use Rattle.drawn.specs.TestLoad.{load, loadReturned}
 use Rattle.staff.specs.Firm.{Row, firmReturned, firmRows, firmGroup}
-
--- the first line is exactly `sheet=complete`
-unfoldable pub saysComplete : List ℕ → Bool
-saysComplete sheet = same (take (upTo 10 sheet) sheet) (ascii "sheet=complete")
-
--- such a sheet goes to the complete entry, every other input to the partial one
-abbrev pub entryOf : List ℕ → Mode
-entryOf sheet = cond (saysComplete sheet) complete partial
+use Rattle.wording.specs.Worded.{entryOf, refusal, quoteText}
 
 -- the bytes of the answer buffer; the work slices have 16,384 words each
 abbrev pub space : ℕ
 space = 1048576
-
--- "If refused it prints `refused=number,line,length`", with a line end
-unfoldable pub refusal : ℕ → ℕ → ℕ → List ℕ
-refusal number line len = printed "refused" (numbers (number ∷ line ∷ len ∷ []))
 
 -- what a call returned, as text: the bytes of its answer, or the refusal
 abbrev pub textOf : Returned → List ℕ → List ℕ
@@ -79,26 +62,15 @@ loadBack seed policies = loadReturned seed policies space
 unfoldable pub shownLoad : ℕ → ℕ → List ℕ
 shownLoad seed policies = textOf (loadBack seed policies) (load seed policies)
 
--- a partial sheet and rows (document 02, 2.14): a line of the group's decision, then one of each row's
-abbrev pub decided : String → Decision → List ℕ
-decided key d = printed key (ascii (decisionWord d) ∷ [])
-
-abbrev pub rowsText : List Row → List ℕ
-rowsText [] = []
-rowsText (r ∷ rs) = decided "row" (r .decision) ++ rowsText rs
-
+-- a partial sheet and rows (document 02, 2.14)
 abbrev pub firmBack : List ℕ → List Row → Returned
 firmBack sheet rows = firmReturned room room sheet rows
 
 abbrev pub firmText : List ℕ → List Row → List ℕ
-firmText sheet rows = decided "group" (firmGroup room room sheet rows) ++ rowsText (firmRows room room sheet rows)
+firmText sheet rows = quoteText (firmGroup room room sheet rows) (firmRows room room sheet rows)
 
 unfoldable pub shownFirm : List ℕ → List Row → List ℕ
 shownFirm sheet rows = textOf (firmBack sheet rows) (firmText sheet rows)
-
--- a number on the command line: decimal, of 64 bits, without leading zeros; none where a word is no such number
-unfoldable pub numberIn : List ℕ → Option ℕ
-numberIn word = atMost greatest (decimal word)
 
 -- the first n bytes of a buffer are this text
 pub record Shows (text buffer : List ℕ) (n : ℕ) : Type 0 where

@@ -7,8 +7,6 @@ use authorizer::Returned;
 use authorizer::complete;
 use authorizer::partial;
 use finish::finish;
-use firm::ALLOW;
-use firm::DENY;
 use firm::ROW;
 use firm::firm_in_words;
 use libc::STDERR_FILENO;
@@ -16,39 +14,27 @@ use libc::STDIN_FILENO;
 use libc::STDOUT_FILENO;
 use page::page;
 use preview::preview;
-use print::byte;
-use print::bytes;
-use print::number;
 use scan::Number;
 use scan::find;
 use scan::front;
 use scan::rest;
 use scan::same_bytes;
 use testload::load;
+use wording::at_most;
+use wording::number_of;
+use wording::quote_lines;
+use wording::refused;
+use wording::says_complete;
 use words::ROOM;
 use words::store;
 ghost use mathlib.Core.Path.{_≡_};
-ghost use mathlib.Core.List.{[], _∷_, _++_};
-ghost use Prim.Native.Nat.{min, _≤_, _<_};
+ghost use Prim.Native.Nat.{_≤_, _<_};
 ghost use lib.ListN.{length};
-ghost use Rattle.print.specs.Written.{greatest, Written};
-ghost use Rattle.sheet.specs.Ascii.{ascii};
-ghost use Rattle.sheet.specs.Bytes.{digitsFrom, atMost};
-ghost use Rattle.sheet.specs.Answer.{decisionWord};
-ghost use Rattle.scan.specs.Numbers.{numberOf};
 ghost use Rattle.authorizer.specs.Called.{Called};
-ghost use Rattle.firm.specs.Parts.{decisionIn, rowsIn};
+ghost use Rattle.firm.specs.Parts.{rowsIn};
 ghost use Rattle.firm.specs.Words.{rowsOfWords};
-ghost use Rattle.openrules.specs.Shown.{saysComplete, entryOf, refusal, shown, shownFinished, shownPage, shownPreview, rowsText, shownFirm, shownLoad, numberIn, Shows};
-
-// Whether the first line is exactly `sheet=complete`.
-fn says_complete(sheet: &[u8]) -> bool
-    ensures { λ r. ⌜ r ≡ saysComplete (now (sheet .entry)) ⌝ }
-{
-    let n = find(sheet, 0, b'\n');
-    let line = front(sheet, n);
-    same_bytes(line, b"sheet=complete")
-}
+ghost use Rattle.wording.specs.Worded.{entryOf};
+ghost use Rattle.openrules.specs.Shown.{shown, shownFinished, shownPage, shownPreview, shownFirm, shownLoad, Shows};
 
 // The call of the entry that the sheet's first line names.
 fn call(sheet: &[u8], work1: &mut [u32], work2: &mut [u32], out: &mut [u8]) -> Returned
@@ -58,19 +44,6 @@ fn call(sheet: &[u8], work1: &mut [u32], work2: &mut [u32], out: &mut [u8]) -> R
         return complete(sheet, work1, work2, out);
     }
     partial(sheet, work1, work2, out)
-}
-
-// The line of a refusal at the start of the buffer, and its length.
-fn refused(out: &mut [u8], n: u32, line: usize, length: usize) -> usize
-    ensures { λ r. ⌜ Written (now (out .entry)) 0 (refusal n line length) (now (out .exit)) r ⌝ }
-{
-    let a = bytes(out, 0, b"refused=");
-    let b = number(out, a, n as u64);
-    let c = byte(out, b, b',');
-    let d = number(out, c, line as u64);
-    let e = byte(out, d, b',');
-    let f = number(out, e, length as u64);
-    byte(out, f, b'\n')
 }
 
 // The bytes of the answer buffer.
@@ -135,45 +108,6 @@ fn previewed(sheet: &[u8], line: usize, new: &[u8], out: &mut [u8; SPACE]) -> us
     refused(out, p.number, p.line, p.length)
 }
 
-// ---- a whole firm
-
-// The word of a decision that a number says.
-fn decision_word(out: &mut [u8], at: usize, decision: u32) -> usize
-    ensures { λ r. ⌜ Written (now (out .entry)) at (ascii (decisionWord (decisionIn decision))) (now (out .exit)) r ⌝ }
-{
-    if decision == ALLOW {
-        return bytes(out, at, b"allow");
-    }
-    if decision == DENY {
-        return bytes(out, at, b"deny");
-    }
-    bytes(out, at, b"open")
-}
-
-// A line of a decision.
-fn decision_line(out: &mut [u8], at: usize, key: &[u8], decision: u32) -> usize
-    ensures { λ r. ⌜ Written (now (out .entry)) at (now (key .entry) ++ (61 ∷ ascii (decisionWord (decisionIn decision)) ++ (10 ∷ []))) (now (out .exit)) r ⌝ }
-{
-    let a = bytes(out, at, key);
-    let b = byte(out, a, b'=');
-    let c = decision_word(out, b, decision);
-    byte(out, c, b'\n')
-}
-
-// A line of each row's decision, the last of a row's words.
-fn row_lines(out: &mut [u8], at: usize, rows: &[u32]) -> usize
-    ensures { λ r. ⌜ Written (now (out .entry)) at (rowsText (rowsIn (rowsOfWords (now (rows .entry))))) (now (out .exit)) r ⌝ }
-{
-    let n = rows.len() / ROW;
-    let mut k = at;
-    let mut i = 0;
-    while i < n {
-        k = decision_line(out, k, b"row", rows[i * ROW + 2]);
-        i += 1;
-    }
-    k
-}
-
 // What is printed for a partial sheet and rows, likewise.
 fn quoted(rows: &mut [u32], sheet: &[u8], out: &mut [u8; SPACE]) -> usize
     ensures { λ r. ⌜ Shows (shownFirm (now (sheet .entry)) (rowsIn (rowsOfWords (now (rows .entry))))) (now (out .exit)) r ⌝ }
@@ -184,23 +118,7 @@ fn quoted(rows: &mut [u32], sheet: &[u8], out: &mut [u8; SPACE]) -> usize
     if f.number != 0 {
         return refused(out, f.number, f.line, f.length);
     }
-    let k = decision_line(out, 0, b"group", f.group);
-    row_lines(out, k, rows)
-}
-
-// ---- a test load
-
-// The greatest number of 32 bits.
-const GREATEST: u32 = 4294967295;
-
-// A number as a call takes it: the greatest that it can be where it is greater. So many policies are refused alike, and no sheet has so many texts.
-fn at_most(n: u64) -> u32
-    ensures { λ r. ⌜ r ≡ min n 4294967295 ⌝ }
-{
-    if n > GREATEST as u64 {
-        return GREATEST;
-    }
-    n as u32
+    quote_lines(out, 0, f.group, rows)
 }
 
 // What is printed for a seed and a number of policies, likewise.
@@ -213,55 +131,6 @@ fn loaded(seed: u64, policies: u64, out: &mut [u8; SPACE]) -> usize
         return l.length;
     }
     refused(out, l.number, l.line, l.length)
-}
-
-// ---- numbers on the command line
-
-// The greatest number of 64 bits.
-const MOST: u64 = 18446744073709551615;
-
-// The number that digits write, leading zeros or not: nothing wraps.
-fn digits_of(word: &[u8]) -> Number
-    ensures { λ r. ⌜ numberOf r ≡ atMost greatest (digitsFrom 0 (now (word .entry))) ⌝ }
-{
-    let mut n: u64 = 0;
-    let mut i = 0;
-    while i < word.len() {
-        let x = word[i];
-        if x < b'0' {
-            return Number::Refused;
-        }
-        if x > b'9' {
-            return Number::Refused;
-        }
-        if n > MOST / 10 {
-            return Number::Refused;
-        }
-        let tens = n * 10;
-        let digit = (x - b'0') as u64;
-        if digit > MOST - tens {
-            return Number::Refused;
-        }
-        n = tens + digit;
-        i += 1;
-    }
-    Number::Value(n)
-}
-
-// A decimal number.
-fn number_of(word: &[u8]) -> Number
-    ensures { λ r. ⌜ numberOf r ≡ numberIn (now (word .entry)) ⌝ }
-{
-    if word.len() == 0 {
-        return Number::Refused;
-    }
-    if word.len() == 1 {
-        return digits_of(word);
-    }
-    if word[0] == b'0' {
-        return Number::Refused;
-    }
-    digits_of(word)
 }
 
 // ---- the words
@@ -304,7 +173,7 @@ const COUNTED_WORD: usize = 4;
 // The bytes of a word; a longer one is none of the words.
 const LETTERS: usize = 16;
 
-// The digits of a number of 64 bits; a longer word is no such number (proofs/Numbers.antt).
+// The digits of a number of 64 bits; a longer word is no such number (crate `wording`, proofs/Numbers.antt).
 const DIGITS: usize = 20;
 
 // The bytes of two numbers and a comma.

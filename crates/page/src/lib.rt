@@ -8,7 +8,7 @@ use interpret::ROOTS;
 use lines::print_page;
 use opening::open;
 use print::Returned;
-use response::runs::Sent;
+use sent::Sent;
 use words::ROOM;
 use words::clear;
 use words::cut;

@@ -17,7 +17,7 @@ use Rattle.sheet.specs.Sheet.{read}
 use Rattle.sheet.specs.Answer.{answer}
 use Rattle.sheet.specs.Call.{Returned, returns, outputs, shortThen, readThen, returned, written, worked}
 use Rattle.print.specs.Written.{Written}
-use Rattle.print.proofs.Writing.{written-append, written-as, written-over}
+use Rattle.print.proofs.Writing.{written-over}
 use Rattle.print.proofs.Sending.{gives-as}
 use Rattle.response.specs.Runs.{Gives}
 use Rattle.opening.proofs.Lent.{long-enough}
@@ -58,32 +58,28 @@ both-cleared w₁ w₂ h₁ h₂ =
     let x = long-enough (returns 0 0 0) [] w₁ w₂ [] h₁ h₂ 0 0 0 [] (take 16384 w₁) (take 16384 w₂) (cleared w₁) (cleared w₂) g refl refl (ap cleared (sym (take-append-drop 16384 w₁))) (ap cleared (sym (take-append-drop 16384 w₂))) in
     (x .first, x .second)
 
--- ---- the copy, written in three parts
+-- ---- the copy
 
-module _ (sheet new out : List ℕ) (start end : ℕ) (c₀ c₁ c₂ c₃ x y : List ℕ) (a b c : ℕ) (room : 16384 ≡ length c₀) (xp : x ≡ take start sheet) (yp : y ≡ drop end sheet)
-    (p : Written c₀ 0 x c₁ a) (q : Written c₁ a new c₂ b) (s : Written c₂ b y c₃ c) where
+module _ (sheet new out : List ℕ) (start end : ℕ) (c₀ c₁ : List ℕ) (c : ℕ) (room : 16384 ≡ length c₀) (copied : Written c₀ 0 (replaced sheet start end new) c₁ c) where
   abbrev copy : List ℕ
   copy = replaced sheet start end new
-
-  copied : Written c₀ 0 copy c₃ c
-  copied = written-append (written-as p xp) (written-append q (written-as s yp))
 
   pub copy-too-long : 16384 < c → A.Answers partial copy out 2 0 0 out
   copy-too-long h = too-long copy (answer partial (read partial copy .state)) out (readThen partial copy (A.afterReading partial (length out) copy)) (omega (arith, copied .place))
 
   module _ (h : c ≤ 16384) where
-    copy-held : take c c₃ ≡ copy
+    copy-held : take c c₁ ≡ copy
     copy-held =
         let l : length copy ≤ length c₀ = omega (arith, copied .place) in
-        let o = written-over c₀ copy c₃ c copied l in
+        let o = written-over c₀ copy c₁ c copied l in
         ap₂ (λ (i : ℕ) (k : List ℕ). take i k) (o .1) (o .0) ∙ take-append-seam copy (drop (length copy) c₀)
 
-    pub copy-ran : (w₁ w₂ : List ℕ) → 16384 ≤ length w₁ → 16384 ≤ length w₂ → (number line len : ℕ) (out′ v₁ v₂ : List ℕ) → Called partial (take c c₃) w₁ w₂ out number line len out′ v₁ v₂
+    pub copy-ran : (w₁ w₂ : List ℕ) → 16384 ≤ length w₁ → 16384 ≤ length w₂ → (number line len : ℕ) (out′ v₁ v₂ : List ℕ) → Called partial (take c c₁) w₁ w₂ out number line len out′ v₁ v₂
         → A.Answers partial copy out number line len out′ × ((v₁ ≡ cleared w₁) × (v₂ ≡ cleared w₂))
     copy-ran w₁ w₂ h₁ h₂ number line len out′ v₁ v₂ g =
         let k = both-cleared w₁ w₂ h₁ h₂ in (
           subst (λ (l : List ℕ). A.Answers partial l out number line len out′) copy-held
-              (gives-as (lent (length w₁) (length w₂) (length out) (take c c₃) h₁ h₂) (called (take c c₃) w₁ w₂ out number line len out′ v₁ v₂ g)),
+              (gives-as (lent (length w₁) (length w₂) (length out) (take c c₁) h₁ h₂) (called (take c c₁) w₁ w₂ out number line len out′ v₁ v₂ g)),
           (g .first ∙ sym (k .0), g .second ∙ sym (k .1)),
         )
 

@@ -4,11 +4,9 @@ use authorizer::Returned;
 use authorizer::partial;
 use edit::begin;
 use edit::fills;
-use print::bytes;
+use edit::replace;
 use scan::find;
-use scan::front;
 use scan::part_of;
-use scan::rest;
 use words::ROOM;
 use words::clear;
 ghost use mathlib.Core.Path.{_≡_};
@@ -44,9 +42,7 @@ fn run(
     ensures second { λ _. ⌜ now (work2 .exit) ≡ cleared (now (work2 .entry)) ⌝ }
 {
     let mut copy = copy_bytes();
-    let a = bytes(&mut copy, 0, front(sheet, start));
-    let b = bytes(&mut copy, a, new);
-    let c = bytes(&mut copy, b, rest(sheet, end));
+    let c = replace(&mut copy, sheet, start, end, new);
     if c > ROOM {
         clear(work1);
         clear(work2);

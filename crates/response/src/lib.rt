@@ -2,7 +2,6 @@
 // class is a word of a slice; its effect and its id stand in its row of the sheet.
 pub mod answer;
 pub mod names;
-pub mod runs;
 
 use forms::FORBID;
 use forms::PERMIT;

@@ -2,6 +2,7 @@
 pub mod Checked
 pub mod Depths
 pub mod EntitiesEnd
+pub mod EntityOrder
 pub mod KnownLines
 pub mod Limits
 pub mod LinePlaces

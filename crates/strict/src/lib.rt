@@ -1,5 +1,5 @@
 // The strict operations on values by number: what each gives, without making it. Those that look at entities stand in `entity`,
-// chains of their lines in `chains`, leaps over the entries of records in `entries`, their first attributes in `firsts`.
+// chains of their lines in `chains`, leaps over the entries of records in `entries`, attributes of entities in cells in `firsts`.
 pub mod chains;
 pub mod entity;
 pub mod entries;

@@ -1,7 +1,7 @@
 -- Each entity line of an accepted sheet is the first of its entity: lines ascend by the numbers of their entities, and values are distinct. Assumes nothing.
 use mathlib.Core.Path.{_≡_, refl, sym, _∙_, ap, subst}
 use mathlib.Core.Bool.{Bool, true, false, cond, _&&_, _||_}
-use mathlib.Core.Option.{Option, some}
+use mathlib.Core.Option.{some}
 use mathlib.Core.List.{List, [], _∷_, _++_, append-assoc}
 use Prim.Native.Nat.{ℕ, zero, suc, _-_, _≤_, _<_}
 use native.Mathlib.Omega.{arith}
@@ -13,9 +13,9 @@ use Rattle.cedar.specs.Table.{At}
 use Rattle.cedar.proofs.TableLaws.{number-inj, sameRow-true}
 use Rattle.sheet.specs.Forms.{Mode, forms, formOf, slotAt, tag, items, ascendings, at, VALUE, ENTITY}
 use Rattle.sheet.specs.State.{State, linesOf, count, lineAt, valueAt}
-use Rattle.sheet.specs.Sheet.{found, allThere, ascend, above}
 use Rattle.sheet.specs.Content.{valueOver, contents, entityLine}
-use Rattle.sheet.proofs.reading.Lines.{and-both, Was, History}
+use Rattle.sheet.proofs.reading.Lines.{Was, History}
+use Rattle.sheet.proofs.reading.EntityOrder.{above-of, above-last}
 use Rattle.sheet.proofs.content.ValueRows.{values-table}
 use Rattle.sheet.proofs.content.Fitting.{val, val-eq}
 use Rattle.sheet.proofs.content.PoliciesRead.{item-there}
@@ -23,25 +23,6 @@ use Rattle.sheet.proofs.content.Environment.{there-value, entity-read}
 use Rattle.table.specs.Layout.{rowsOf, held, linesHeld}
 use Rattle.strict.proofs.Links.{same-lines}
 use Rattle.strict.proofs.Halving.{Single}
-
-above-of : (u : State) (q : List ℕ) → found u ENTITY q ≡ true → above u ENTITY q ≡ true
-unfolding found
-above-of u q e = and-both (allThere u (tag q) 0 (items q) && ascend 0 (ascendings q)) (above u ENTITY q) e (λ a b. b)
-
-last-is : (l : List (List ℕ)) (x : List ℕ) → getD (l ++ (x ∷ [])) (length l) [] ≡ x
-last-is [] x = refl
-last-is (y ∷ l) x = last-is l x
-
-above-last : (u : State) (pre : List (List ℕ)) (r q : List ℕ) → linesOf u ENTITY ≡ pre ++ (r ∷ []) → above u ENTITY q ≡ true → suc (at r 0) ≤ at q 0
-above-last u pre r q e a =
-    let n = length-append pre (r ∷ []) in
-    let k : count u ENTITY ≡ suc (length pre) = ap length e ∙ n ∙ omega arith in
-    let i : count u ENTITY - 1 ≡ length pre = omega (arith, k) in
-    go (eqb (count u ENTITY) 0) refl k (ap (λ l. at l 0) ((λ j. getD (e j) (i j) []) ∙ last-is pre r)) a
-  where
-    go : (b : Bool) → eqb (count u ENTITY) 0 ≡ b → count u ENTITY ≡ suc (length pre) → at (lineAt u ENTITY (count u ENTITY - 1)) 0 ≡ at r 0 → (b || ltb (at (lineAt u ENTITY (count u ENTITY - 1)) 0) (at q 0)) ≡ true → suc (at r 0) ≤ at q 0
-    go true c k z a = let y = eqb-true (count u ENTITY) 0 c in absurd (omega (arith, k, y))
-    go false c k z a = let y = ltb-true (at (lineAt u ENTITY (count u ENTITY - 1)) 0) (at q 0) a in omega (arith, y, z)
 
 module _ (m : Mode) (s : State) (h : History m s) where
   -- a value has one number

@@ -236,8 +236,11 @@ module _ (p c : State) (fp : Facts partial p) (fc : Facts complete c) (k : Commo
 
 -- ---- from bytes
 
+pub facts-read : (m : Mode) (sheet : List ℕ) → read m sheet .number ≡ 0 → Facts m (read m sheet .state)
+facts-read m sheet e = let (h, f) = accepted-history m sheet e in record { history = h; ends = f; keys = all-keys m sheet e; fit = accepted-fit m sheet e }
+
 pub facts : (m : Mode) (sheet : List ℕ) → Accepted m sheet → Facts m (read m sheet .state)
-facts m sheet a = let e = accepted-read m sheet a in let (h, f) = accepted-history m sheet e in record { history = h; ends = f; keys = all-keys m sheet e; fit = accepted-fit m sheet e }
+facts m sheet a = facts-read m sheet (accepted-read m sheet a)
 
 -- THE THEOREM, for one complete sheet, and for two
 pub demand-3 : (p c : List ℕ) → Accepted partial p → Accepted complete c → agrees (read partial p .state) (read complete c .state) ≡ true → Settles (read partial p .state) (read complete c .state)

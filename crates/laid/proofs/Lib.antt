@@ -1,0 +1,3 @@
+pub mod Copying
+pub mod Laying
+pub mod Standing
