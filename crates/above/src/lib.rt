@@ -27,7 +27,7 @@ ghost use Prim.Native.Nat.{_≤_, _<_};
 ghost use lib.ListN.{length};
 ghost use Rattle.sheet.specs.Forms.{ENTITY};
 ghost use Rattle.table.specs.Layout.{rowsOf};
-ghost use Rattle.reach.specs.Marks.{VALUES, FAR, lineRows, markedAt, anyMarked};
+ghost use Rattle.reach.specs.Marks.{VALUES, FAR, Filled, lineRows, markedAt, anyMarked};
 ghost use Rattle.typing.specs.Paths.{Each};
 ghost use Rattle.typing.specs.Rules.{isAboveAt};
 ghost use Rattle.above.specs.Fitting.{allAbove, unfitAt, unfitValue, Unfit, Passed, Passes, Fit, Fitted, unfitFrom};
@@ -140,6 +140,7 @@ fn found_unfit(
     fit: &mut [u32],
 ) -> bool
     requires { ⌜ (length (now met) ≤ VALUES) × (FAR < length (now marks)) ⌝ }
+    requires { ⌜ Filled 0 (now met) × Filled 0 (now marks) ⌝ }
     requires { ⌜ Fit (now rows) (now fit) ⌝ }
     ensures { λ r. ⌜ Unfit (now (rows .entry)) kind value (now (fit .exit)) r ⌝ }
 {

@@ -7,3 +7,4 @@ pub mod Complete
 pub mod Settles
 pub mod Given
 pub mod Ways
+pub mod Kept

@@ -78,6 +78,10 @@ pub same-false : (x z : Bool) → x ≡ false → not z ≡ sameBool x z
 unfolding sameBool
 same-false x z e = rw e
 
+-- a log of the same length has the same room
+pub same-room : (b b₁ : List ℕ) (bt : ℕ) → Room b bt → length b₁ ≡ length b → Room b₁ bt
+same-room b b₁ bt room len = record { low = room .low; long = omega (arith, room .long, len) }
+
 -- ---- a node and its operands, which are seen to d levels under a link with the values p and q
 
 module _ (sheet : List ℕ) (p q : ℕ) (a b : List ℕ) (bt n d : ℕ) where

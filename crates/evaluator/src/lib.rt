@@ -1,5 +1,6 @@
 // The complete run: what each policy yields on a complete sheet. Its definition over words is in specs/, what it means in proofs/.
-// The log holds the numbers of the classes of the policies so far, then the rows of a set's or record's children until it is made.
+// The log holds the numbers of the classes of the policies so far, then the rows of a set's or record's children until it is made. The first `skip` values
+// of the sheet are no bools: a search for a bool begins after them.
 pub mod operands;
 
 use crate::operands::one_given;
@@ -35,7 +36,8 @@ use table::row;
 use table::tag;
 use typing::links::slot_value;
 use value::Shape;
-use value::making::make_bool;
+use value::making::clear_of;
+use value::making::make_bool_after;
 use value::making::make_entity;
 use value::making::make_long;
 use value::making::make_record;
@@ -51,6 +53,7 @@ ghost use Rattle.words.specs.Log.{Room};
 ghost use Rattle.forms.specs.Tags.{EQ, IF, IS, SET-OF};
 ghost use Rattle.sheet.specs.Content.{entityGiven, varOf};
 ghost use Rattle.table.specs.Layout.{rowsOf};
+ghost use Rattle.value.specs.Clear.{Clear};
 ghost use Rattle.residual.specs.Classes.{classNumber};
 ghost use Rattle.strict.specs.Gives.{outOf, valueIn};
 ghost use Rattle.evaluator.specs.Run.{yields, nodeIn, settleOf, optOf, boolOnly, kidsOf, envOf, oneOut, twoOut, lazyStep, ifStep, oneStep, twoStep, setStep, recStep, stepAt, evalOf, classOf, runOf};
@@ -109,11 +112,12 @@ pub fn only_bool(rows: &[u32], yielded: Yield) -> Yield
 }
 
 // What an operation gives, as a value: found, or made where it is absent. Nothing is unknown on a complete sheet.
-pub fn settle(rows: &mut [u32], given: Given) -> Yield
+pub fn settle(skip: usize, rows: &mut [u32], given: Given) -> Yield
+    requires { ⌜ Clear (now rows) skip ⌝ }
     ensures { λ y. ⌜ Gave (settleOf (now (rows .entry)) (outOf given)) (now (rows .exit)) y ⌝ }
 {
     match given {
-        Given::Bool(x) => Yield::Value(make_bool(rows, x)),
+        Given::Bool(x) => Yield::Value(make_bool_after(rows, skip, x)),
         Given::Long(word) => Yield::Value(make_long(rows, word)),
         Given::Old(value) => Yield::Value(value),
         Given::Fails => Yield::Error,
@@ -153,21 +157,30 @@ pub fn request(rows: &mut [u32], letter: u32) -> Yield
 }
 
 // What the operation of the node, by its tag, yields over the value.
-pub fn apply_one(sheet: &[u8], rows: &mut [u32], node: u32, tag: u32, value: u32) -> Yield
+pub fn apply_one(
+    sheet: &[u8],
+    skip: usize,
+    rows: &mut [u32],
+    node: u32,
+    tag: u32,
+    value: u32,
+) -> Yield
     requires { ⌜ (IS ≤ tag) × (tag < SET-OF) ⌝ }
+    requires { ⌜ Clear (now rows) skip ⌝ }
     ensures { λ y. ⌜ Gave (settleOf (now (rows .entry)) (oneOut (now (sheet .entry)) tag (now (rows .entry)) (nodeIn (now (rows .entry)) node) value)) (now (rows .exit)) y ⌝ }
 {
     let given = one_given(sheet, rows, node, tag, value);
-    settle(rows, given)
+    settle(skip, rows, given)
 }
 
 // What the operation by the tag yields over two values.
-pub fn apply_two(rows: &mut [u32], tag: u32, left: u32, right: u32) -> Yield
+pub fn apply_two(skip: usize, rows: &mut [u32], tag: u32, left: u32, right: u32) -> Yield
     requires { ⌜ (EQ ≤ tag) × (tag < IF) ⌝ }
+    requires { ⌜ Clear (now rows) skip ⌝ }
     ensures { λ y. ⌜ Gave (settleOf (now (rows .entry)) (twoOut tag (now (rows .entry)) left right)) (now (rows .exit)) y ⌝ }
 {
     let given = two_given(rows, tag, left, right);
-    settle(rows, given)
+    settle(skip, rows, given)
 }
 
 // Whether two bools are the same.
@@ -185,6 +198,7 @@ fn eval(
     sheet: &[u8],
     p: u32,
     q: u32,
+    skip: usize,
     rows: &mut [u32],
     log: &mut [u32],
     top: usize,
@@ -192,13 +206,14 @@ fn eval(
     depth: u32,
 ) -> Yield
     requires { ⌜ Room (now log) top ⌝ }
+    requires { ⌜ Clear (now rows) skip ⌝ }
     ensures { λ y. ⌜ GaveBeside (evalOf (now (sheet .entry)) p q depth (now (rows .entry)) (take top (now (log .entry))) node) (now (rows .exit)) y top (now (log .entry)) (now (log .exit)) ⌝ }
 {
     if depth == 0 {
         return Yield::Error;
     }
     let tag = tag(row(rows, NODE, node));
-    step(sheet, p, q, rows, log, top, node, tag, depth - 1)
+    step(sheet, p, q, skip, rows, log, top, node, tag, depth - 1)
 }
 
 // The same by the node's tag; its operands are seen to `depth` levels.
@@ -206,6 +221,7 @@ fn step(
     sheet: &[u8],
     p: u32,
     q: u32,
+    skip: usize,
     rows: &mut [u32],
     log: &mut [u32],
     top: usize,
@@ -214,26 +230,27 @@ fn step(
     depth: u32,
 ) -> Yield
     requires { ⌜ Room (now log) top ⌝ }
+    requires { ⌜ Clear (now rows) skip ⌝ }
     ensures { λ y. ⌜ GaveBeside (stepAt (now (sheet .entry)) p q tag (evalOf (now (sheet .entry)) p q depth) (now (rows .entry)) (take top (now (log .entry))) node (nodeIn (now (rows .entry)) node)) (now (rows .exit)) y top (now (log .entry)) (now (log .exit)) ⌝ }
 {
     match tag {
         ERR => Yield::Error,
         VAR => request(rows, word_of(rows, node, 2)),
-        AND => lazy(sheet, p, q, rows, log, top, node, false, depth),
-        OR => lazy(sheet, p, q, rows, log, top, node, true, depth),
-        IF => branch(sheet, p, q, rows, log, top, node, depth),
-        SET_OF => set(sheet, p, q, rows, log, top, node, depth),
-        RECORD_OF => record(sheet, p, q, rows, log, top, node, depth),
+        AND => lazy(sheet, p, q, skip, rows, log, top, node, false, depth),
+        OR => lazy(sheet, p, q, skip, rows, log, top, node, true, depth),
+        IF => branch(sheet, p, q, skip, rows, log, top, node, depth),
+        SET_OF => set(sheet, p, q, skip, rows, log, top, node, depth),
+        RECORD_OF => record(sheet, p, q, skip, rows, log, top, node, depth),
         SLOT => Yield::Value(slot_value(p, q, word_of(rows, node, 2))),
         _ => {
             if tag < ERR {
                 return Yield::Value(word_of(rows, node, 2));
             }
             if tag < IF {
-                return two(sheet, p, q, rows, log, top, node, tag, depth);
+                return two(sheet, p, q, skip, rows, log, top, node, tag, depth);
             }
             if tag < SET_OF {
-                return one(sheet, p, q, rows, log, top, node, tag, depth);
+                return one(sheet, p, q, skip, rows, log, top, node, tag, depth);
             }
             Yield::Error
         }
@@ -245,6 +262,7 @@ fn lazy(
     sheet: &[u8],
     p: u32,
     q: u32,
+    skip: usize,
     rows: &mut [u32],
     log: &mut [u32],
     top: usize,
@@ -253,17 +271,28 @@ fn lazy(
     depth: u32,
 ) -> Yield
     requires { ⌜ Room (now log) top ⌝ }
+    requires { ⌜ Clear (now rows) skip ⌝ }
     ensures { λ y. ⌜ GaveBeside (lazyStep stop (evalOf (now (sheet .entry)) p q depth) (now (rows .entry)) (take top (now (log .entry))) node (nodeIn (now (rows .entry)) node)) (now (rows .exit)) y top (now (log .entry)) (now (log .exit)) ⌝ }
 {
     let right = word_of(rows, node, 3);
-    let left = eval(sheet, p, q, rows, log, top, word_of(rows, node, 2), depth);
+    let left = eval(
+        sheet,
+        p,
+        q,
+        skip,
+        rows,
+        log,
+        top,
+        word_of(rows, node, 2),
+        depth,
+    );
     let Truth::Is(x) = truth_of(rows, left) else {
         return Yield::Error;
     };
     if same(x, stop) {
-        return Yield::Value(make_bool(rows, stop));
+        return Yield::Value(make_bool_after(rows, skip, stop));
     }
-    let r = eval(sheet, p, q, rows, log, top, right, depth);
+    let r = eval(sheet, p, q, skip, rows, log, top, right, depth);
     only_bool(rows, r)
 }
 
@@ -272,6 +301,7 @@ fn branch(
     sheet: &[u8],
     p: u32,
     q: u32,
+    skip: usize,
     rows: &mut [u32],
     log: &mut [u32],
     top: usize,
@@ -279,18 +309,29 @@ fn branch(
     depth: u32,
 ) -> Yield
     requires { ⌜ Room (now log) top ⌝ }
+    requires { ⌜ Clear (now rows) skip ⌝ }
     ensures { λ y. ⌜ GaveBeside (ifStep (evalOf (now (sheet .entry)) p q depth) (now (rows .entry)) (take top (now (log .entry))) node (nodeIn (now (rows .entry)) node)) (now (rows .exit)) y top (now (log .entry)) (now (log .exit)) ⌝ }
 {
     let then = word_of(rows, node, 3);
     let other = word_of(rows, node, 4);
-    let test = eval(sheet, p, q, rows, log, top, word_of(rows, node, 2), depth);
+    let test = eval(
+        sheet,
+        p,
+        q,
+        skip,
+        rows,
+        log,
+        top,
+        word_of(rows, node, 2),
+        depth,
+    );
     let Truth::Is(x) = truth_of(rows, test) else {
         return Yield::Error;
     };
     if x {
-        return eval(sheet, p, q, rows, log, top, then, depth);
+        return eval(sheet, p, q, skip, rows, log, top, then, depth);
     }
-    eval(sheet, p, q, rows, log, top, other, depth)
+    eval(sheet, p, q, skip, rows, log, top, other, depth)
 }
 
 // An operation with one operand.
@@ -298,6 +339,7 @@ fn one(
     sheet: &[u8],
     p: u32,
     q: u32,
+    skip: usize,
     rows: &mut [u32],
     log: &mut [u32],
     top: usize,
@@ -307,13 +349,23 @@ fn one(
 ) -> Yield
     requires { ⌜ Room (now log) top ⌝ }
     requires { ⌜ (IS ≤ tag) × (tag < SET-OF) ⌝ }
+    requires { ⌜ Clear (now rows) skip ⌝ }
     ensures { λ y. ⌜ GaveBeside (oneStep (oneOut (now (sheet .entry)) tag) (evalOf (now (sheet .entry)) p q depth) (now (rows .entry)) (take top (now (log .entry))) node (nodeIn (now (rows .entry)) node)) (now (rows .exit)) y top (now (log .entry)) (now (log .exit)) ⌝ }
 {
-    let Yield::Value(value) = eval(sheet, p, q, rows, log, top, word_of(rows, node, 2), depth)
-    else {
+    let Yield::Value(value) = eval(
+        sheet,
+        p,
+        q,
+        skip,
+        rows,
+        log,
+        top,
+        word_of(rows, node, 2),
+        depth,
+    ) else {
         return Yield::Error;
     };
-    apply_one(sheet, rows, node, tag, value)
+    apply_one(sheet, skip, rows, node, tag, value)
 }
 
 // An operation with two operands: the right one is worked where the left one is a value.
@@ -321,6 +373,7 @@ fn two(
     sheet: &[u8],
     p: u32,
     q: u32,
+    skip: usize,
     rows: &mut [u32],
     log: &mut [u32],
     top: usize,
@@ -330,17 +383,27 @@ fn two(
 ) -> Yield
     requires { ⌜ Room (now log) top ⌝ }
     requires { ⌜ (EQ ≤ tag) × (tag < IF) ⌝ }
+    requires { ⌜ Clear (now rows) skip ⌝ }
     ensures { λ y. ⌜ GaveBeside (twoStep (twoOut tag) (evalOf (now (sheet .entry)) p q depth) (now (rows .entry)) (take top (now (log .entry))) node (nodeIn (now (rows .entry)) node)) (now (rows .exit)) y top (now (log .entry)) (now (log .exit)) ⌝ }
 {
     let right = word_of(rows, node, 3);
-    let Yield::Value(first) = eval(sheet, p, q, rows, log, top, word_of(rows, node, 2), depth)
-    else {
+    let Yield::Value(first) = eval(
+        sheet,
+        p,
+        q,
+        skip,
+        rows,
+        log,
+        top,
+        word_of(rows, node, 2),
+        depth,
+    ) else {
         return Yield::Error;
     };
-    let Yield::Value(second) = eval(sheet, p, q, rows, log, top, right, depth) else {
+    let Yield::Value(second) = eval(sheet, p, q, skip, rows, log, top, right, depth) else {
         return Yield::Error;
     };
-    apply_two(rows, tag, first, second)
+    apply_two(skip, rows, tag, first, second)
 }
 
 // The children of the node from word `i` of its row on, every `step`-th word of it, `most` of them at most: a row for each value.
@@ -348,6 +411,7 @@ fn kids(
     sheet: &[u8],
     p: u32,
     q: u32,
+    skip: usize,
     rows: &mut [u32],
     log: &mut [u32],
     top: usize,
@@ -359,6 +423,7 @@ fn kids(
 ) -> Children
     requires { ⌜ Room (now log) top ⌝ }
     requires { ⌜ (step ≤ 2) × (i + 2 * most ≤ 65536) ⌝ }
+    requires { ⌜ Clear (now rows) skip ⌝ }
     ensures { λ o. ⌜ Left (kidsOf (evalOf (now (sheet .entry)) p q depth) node step most i (now (rows .entry)) (take top (now (log .entry)))) (now (rows .exit)) o top (now (log .entry)) (now (log .exit)) ⌝ }
 {
     if most == 0 {
@@ -373,8 +438,17 @@ fn kids(
             end: top,
         };
     }
-    let Yield::Value(value) = eval(sheet, p, q, rows, log, top, word_of(rows, node, i), depth)
-    else {
+    let Yield::Value(value) = eval(
+        sheet,
+        p,
+        q,
+        skip,
+        rows,
+        log,
+        top,
+        word_of(rows, node, i),
+        depth,
+    ) else {
         return Children {
             all: false,
             end: top,
@@ -385,6 +459,7 @@ fn kids(
         sheet,
         p,
         q,
+        skip,
         rows,
         log,
         end,
@@ -401,6 +476,7 @@ fn set(
     sheet: &[u8],
     p: u32,
     q: u32,
+    skip: usize,
     rows: &mut [u32],
     log: &mut [u32],
     top: usize,
@@ -408,9 +484,10 @@ fn set(
     depth: u32,
 ) -> Yield
     requires { ⌜ Room (now log) top ⌝ }
+    requires { ⌜ Clear (now rows) skip ⌝ }
     ensures { λ y. ⌜ GaveBeside (setStep (evalOf (now (sheet .entry)) p q depth) (now (rows .entry)) (take top (now (log .entry))) node (nodeIn (now (rows .entry)) node)) (now (rows .exit)) y top (now (log .entry)) (now (log .exit)) ⌝ }
 {
-    let children = kids(sheet, p, q, rows, log, top, node, 1, 2, 16384, depth);
+    let children = kids(sheet, p, q, skip, rows, log, top, node, 1, 2, 16384, depth);
     if children.all {
         return Yield::Value(make_set(rows, log, top, children.end));
     }
@@ -422,6 +499,7 @@ fn record(
     sheet: &[u8],
     p: u32,
     q: u32,
+    skip: usize,
     rows: &mut [u32],
     log: &mut [u32],
     top: usize,
@@ -429,9 +507,10 @@ fn record(
     depth: u32,
 ) -> Yield
     requires { ⌜ Room (now log) top ⌝ }
+    requires { ⌜ Clear (now rows) skip ⌝ }
     ensures { λ y. ⌜ GaveBeside (recStep (evalOf (now (sheet .entry)) p q depth) (now (rows .entry)) (take top (now (log .entry))) node (nodeIn (now (rows .entry)) node)) (now (rows .exit)) y top (now (log .entry)) (now (log .exit)) ⌝ }
 {
-    let children = kids(sheet, p, q, rows, log, top, node, 2, 3, 16384, depth);
+    let children = kids(sheet, p, q, skip, rows, log, top, node, 2, 3, 16384, depth);
     if children.all {
         return Yield::Value(make_record(rows, log, top, children.end, node));
     }
@@ -459,6 +538,7 @@ pub fn run(sheet: &[u8], rows: &mut [u32], log: &mut [u32]) -> usize
     requires { ⌜ 16384 ≤ length (now log) ⌝ }
     ensures { λ n. ⌜ Done (runOf (now (sheet .entry)) (now (rows .entry))) (now (rows .exit)) (now (log .exit)) n ⌝ }
 {
+    let skip = clear_of(rows);
     let most = count(rows, RUN);
     let mut end: usize = 0;
     let mut i: u32 = 0;
@@ -467,7 +547,7 @@ pub fn run(sheet: &[u8], rows: &mut [u32], log: &mut [u32]) -> usize
         let root = item(policy, 3);
         let p = item(policy, 4);
         let q = item(policy, 5);
-        let yielded = eval(sheet, p, q, rows, log, end, root, 64);
+        let yielded = eval(sheet, p, q, skip, rows, log, end, root, 64);
         end = push(log, end, class_of(rows, yielded));
         i += 1;
     }

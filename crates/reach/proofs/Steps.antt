@@ -7,11 +7,11 @@ use native.Mathlib.Omega.{arith}
 use borrow.Author.Tests.{lt-ltb, le-ltb, eq-eqb, ne-eqb, eqb-true, eqb-false, ltb-true, ltb-false, not-false}
 use lib.Dec.{ltb, eqb}
 use lib.Bits.{bitAnd, bitOr, and-le-l, and-le-r, or-add-and}
-use lib.ListN.{length, getD, take, drop, set, length-set, List·getD-eq-default}
+use lib.ListN.{length, getD, take, drop, set, replicate, length-set, length-replicate, getD-replicate, List·getD-eq-default}
 use lib.Seq.{take-all, length-take-le, getD-take, getD-set-same, set-out}
 use Rattle.cedar.specs.Rows.{Row, rbool, rlong, rtext, rent, rset, rrec}
 use Rattle.cedar.specs.Numbered.{anyN, memN, rSet}
-use Rattle.cedar.proofs.Tools.{no-true, and-both}
+use Rattle.cedar.proofs.Tools.{no-true}
 use Rattle.sheet.specs.Forms.{tag, items, at, mark, firstValue, VALUE, ENTITY}
 use Rattle.sheet.specs.State.{valueRow, entriesOf}
 use Rattle.sheet.specs.Bytes.{longAt}
@@ -21,7 +21,7 @@ use Rattle.forms.specs.Tags.{SET-VALUE}
 use Rattle.table.specs.Layout.{base, part, rowsOf}
 use Rattle.table.proofs.Rows.{count-rows, row-at-is, row-some}
 use Rattle.value.proofs.Lists.{uncons, spent}
-use Rattle.reach.specs.Marks.{LINES, VALUES, NEAR, RUN, HIDDEN, FAR, lineRows, placeOf, named, Filled, Indexed, Listed, Queue, Grown, Noted, Entered, Opened, Taken, Spot, Run, RunMet, Skipped, Seen, Spread, Expanded, Found, markedAt, anyMarked, namesAt, isMet, anyMet}
+use Rattle.reach.specs.Marks.{LINES, VALUES, NEAR, RUN, HIDDEN, FAR, lineRows, placeOf, named, Filled, Indexed, Listed, Queue, Grown, Entered, Opened, Taken, Spot, Run, RunMet, Skipped, Seen, Spread, Expanded, Found, markedAt, anyMarked, namesAt, isMet, anyMet}
 use Rattle.reach.proofs.Marking.{Marks, place-most, grown-old, grown-beside, grown-one, room-left, noted-queue, taken-on, seen-none, seen-old, seen-new, seen-more, seen-skip, opened-long, marks-open, marks-shown, marks-on, marks-end, marks-start, queue-start}
 
 -- ---- lines, line_at
@@ -96,35 +96,35 @@ module _ (a : List ℕ) (v n : ℕ) where
     unfolding placeOf
     place-end h = let z = c .rest in let y : placeOf v (drop i (lineRows a)) ≡ 0 = ap (placeOf v) (spent (lineRows a) i (let w = c .all in omega (arith, w, h))) in omega (arith, z, y)
 
--- ---- fill, index, place
+-- ---- index, place
 
-pub record Filling (x : ℕ) (w₀ w : List ℕ) (i : ℕ) : Type 0 where
-  pub long : length w ≡ length w₀
-  pub near : i ≤ length w
-  pub is : (v : ℕ) → v < i → getD w v 0 ≡ x
+-- made anew, and a part of that
+pub filled-new : (n x : ℕ) → Filled x (replicate n x)
+filled-new n x = record { is = λ v h. getD-replicate n v x 0 (let z = length-replicate {A = ℕ} n x in omega (arith, z, h)) }
 
-pub filling-start : (x : ℕ) (w : List ℕ) → Filling x w w 0
-filling-start x w = record { long = refl; near = omega arith; is = λ v h. absurd (omega arith) }
+pub filled-part : (n x : ℕ) (w : List ℕ) → Filled x w → Filled x (take n w)
+filled-part n x w c = record { is = λ v h. go n w v h ∙ c .is v (near n w v h) }
+  where
+    go : (n : ℕ) (w : List ℕ) (v : ℕ) → v < length (take n w) → getD (take n w) v 0 ≡ getD w v 0
+    go zero w v h = absurd (omega (arith, h))
+    go (suc n) [] v h = refl
+    go (suc n) (y ∷ w) zero h = refl
+    go (suc n) (y ∷ w) (suc v) h = go n w v (omega (arith, h))
 
-module _ (x : ℕ) (w₀ w : List ℕ) (i : ℕ) (c : Filling x w₀ w i) where
-  pub filling-on : i < length w → Filling x w₀ (set w i x) (i + 1)
-  filling-on h = record { long = length-set w i x ∙ c .long; near = let a = length-set w i x in omega (arith, a, h); is = λ v l. go v l (eqb v i) refl }
-    where
-      go : (v : ℕ) → v < i + 1 → (b : Bool) → eqb v i ≡ b → getD (set w i x) v 0 ≡ x
-      go v l true e = let z = eqb-true v i e in subst (λ (j : ℕ). getD (set w i x) j 0 ≡ x) (sym z) (getD-set-same w i x 0 h)
-      go v l false e = let z = eqb-false v i e in set-cases w i v x 0 (λ q. q ∙ c .is v (omega (arith, l, z))) (λ q y. absurd (z q))
-
-  pub filling-end : length w ≤ i → Filled x w₀ w
-  filling-end h = record { long = c .long; is = λ v l. c .is v (omega (arith, l, h)) }
+    near : (n : ℕ) (w : List ℕ) (v : ℕ) → v < length (take n w) → v < length w
+    near zero w v h = absurd (omega (arith, h))
+    near (suc n) [] v h = absurd (omega (arith, h))
+    near (suc n) (y ∷ w) zero h = omega arith
+    near (suc n) (y ∷ w) (suc v) h = let z = near n w v (omega (arith, h)) in omega (arith, z)
 
 pub record Indexing (a p₀ p : List ℕ) (i : ℕ) : Type 0 where
   pub long : length p ≡ length p₀
   pub near : i ≤ length (lineRows a)
   pub is : (v : ℕ) → v < length p → getD p v 0 ≡ i + placeOf v (drop i (lineRows a))
 
-pub index-start : (a p p′ : List ℕ) (n : ℕ) → n ≡ length (lineRows a) → Filled n p p′ → Indexing a p′ p′ n
+pub index-start : (a p : List ℕ) (n : ℕ) → n ≡ length (lineRows a) → Filled (length (lineRows a)) p → Indexing a p p n
 unfolding placeOf
-index-start a p p′ n e f = record { long = refl; near = omega (arith, e); is = λ v h. let y : placeOf v (drop n (lineRows a)) ≡ 0 = ap (placeOf v) (spent (lineRows a) n (omega (arith, e))) in let z = f .is v h in omega (arith, y, z) }
+index-start a p n e f = record { long = refl; near = omega (arith, e); is = λ v h. let y : placeOf v (drop n (lineRows a)) ≡ 0 = ap (placeOf v) (spent (lineRows a) n (omega (arith, e))) in let z = f .is v h in omega (arith, y, z, e) }
 
 -- an entity's place among the lines from j on, by the first of them
 front-line : (a : List ℕ) (j : ℕ) → j < length (lineRows a) → (r : List ℕ) (x : ℕ) → r ≡ getD (lineRows a) j [] → x ≡ getD r 1 0 → (v : ℕ) → placeOf v (drop j (lineRows a)) ≡ cond (eqb x v) 0 (suc (placeOf v (drop (j + 1) (lineRows a))))
@@ -172,8 +172,8 @@ pub record Walking (a p₀ u₀ p u : List ℕ) (b i e : ℕ) : Type 0 where
   pub end : e ≡ getD a (b + i) 0
   pub listing : Listing a u i
 
-pub walk-start : (a p p′ u : List ℕ) (b n e : ℕ) → (n ≡ length (lineRows a)) × (n ≤ LINES) → Filled n p p′ → b ≡ base ENTITY → e ≡ getD a (b + n) 0 → Walking a p′ u p′ u b n e
-walk-start a p p′ u b n e en f eb ee = record { index = index-start a p p′ n (en .0) f; longu = refl; low = eb; end = ee; listing = record { is = λ v h k l z. let y = en .0 in absurd (omega (arith, l, z, y)) } }
+pub walk-start : (a p u : List ℕ) (b n e : ℕ) → (n ≡ length (lineRows a)) × (n ≤ LINES) → Filled (length (lineRows a)) p → b ≡ base ENTITY → e ≡ getD a (b + n) 0 → Walking a p u p u b n e
+walk-start a p u b n e en f eb ee = record { index = index-start a p n (en .0) f; longu = refl; low = eb; end = ee; listing = record { is = λ v h k l z. let y = en .0 in absurd (omega (arith, l, z, y)) } }
 
 module _ (a p₀ u₀ p u : List ℕ) (b i e : ℕ) (c : Walking a p₀ u₀ p u b i e) (h : 0 < i) where
   pub walk-byte : i - 1 < 256
@@ -419,23 +419,26 @@ pub record Going (a : List ℕ) (v : ℕ) (p u w₀ m₀ s w m q : List ℕ) (t 
   pub spread : Spread (rowsOf a VALUE) (lineRows a) s w m
   pub marks : Marks (rowsOf a VALUE) (lineRows a) v s w m q t h
 
-pub none-there : (s s′ : List ℕ) → Filled 0 s s′ → (x : ℕ) → getD s′ x 0 ≡ 0
-none-there s s′ c x = go (ltb x (length s′)) refl
+none-there : (s : List ℕ) → Filled 0 s → (x : ℕ) → getD s x 0 ≡ 0
+none-there s c x = go (ltb x (length s)) refl
   where
-    go : (b : Bool) → ltb x (length s′) ≡ b → getD s′ x 0 ≡ 0
-    go true e = c .is x (ltb-true x (length s′) e)
-    go false e = List·getD-eq-default s′ 0 (ltb-false x (length s′) e)
+    go : (b : Bool) → ltb x (length s) ≡ b → getD s x 0 ≡ 0
+    go true e = c .is x (ltb-true x (length s) e)
+    go false e = List·getD-eq-default s 0 (ltb-false x (length s) e)
+
+pub reach-places : (a : List ℕ) (n : ℕ) → (n ≡ length (lineRows a)) × (n ≤ LINES) → Filled (length (lineRows a)) (replicate VALUES n)
+reach-places a n e = subst (λ (x : ℕ). Filled x (replicate VALUES n)) (e .0) (filled-new VALUES n)
 
 module _ (a : List ℕ) (v : ℕ) where
   few : length (lineRows a) < HIDDEN
   few = let z = lines-most a in omega (arith, z)
 
-  pub reach-queue : (m m₁ q : List ℕ) → FAR < length m → Filled 0 m m₁ → length q ≡ LINES → Queue (lineRows a) m₁ q 0
-  reach-queue m m₁ q h c e = queue-start (rowsOf a VALUE) (lineRows a) v m₁ q few (let z = c .long in omega (arith, z, h)) (let z = lines-most a in omega (arith, z, e)) (c .is)
+  pub reach-queue : (m q : List ℕ) → FAR < length m → Filled 0 m → length q ≡ LINES → Queue (lineRows a) m q 0
+  reach-queue m q h c e = queue-start (rowsOf a VALUE) (lineRows a) v m q few h (let z = lines-most a in omega (arith, z, e)) (c .is)
 
-  pub going-start : (m m₁ m₂ w w₁ p u s s₁ q q₂ : List ℕ) (t : ℕ) → FAR < length m → Filled 0 m m₁ → Filled 0 w w₁ → length p ≡ VALUES → length u ≡ NEAR → length s ≡ VALUES → length q ≡ LINES → Filled 0 s s₁ → Indexed (lineRows a) p × Listed (lineRows a) u → Grown (lineRows a) v m₁ q 0 m₂ q₂ t → Going a v p u w₁ m₂ s₁ w₁ m₂ q₂ t 0
-  going-start m m₁ m₂ w w₁ p u s s₁ q q₂ t h c cw np nu ns nq d i g = let x = marks-start (rowsOf a VALUE) (lineRows a) v s₁ w₁ m₁ q m₂ q₂ t few (let z = c .long in omega (arith, z, h)) (c .is) (none-there s s₁ d) (none-there w w₁ cw) g in
-      record { longw = refl; long = refl; longp = np; longu = nu; longs = d .long ∙ ns; longq = g .longq ∙ nq; indexed = i .0; listed = i .1; queue = x .queue; spot = x .spot; spread = x .spread; marks = x }
+  pub going-start : (m m₂ w p u q q₂ : List ℕ) (t : ℕ) → FAR < length m → Filled 0 w × Filled 0 m → length p ≡ VALUES → length u ≡ NEAR → length q ≡ LINES → Indexed (lineRows a) p × Listed (lineRows a) u → Grown (lineRows a) v m q 0 m₂ q₂ t → Going a v p u w m₂ (replicate VALUES 0) w m₂ q₂ t 0
+  going-start m m₂ w p u q q₂ t h c np nu nq i g = let x = marks-start (rowsOf a VALUE) (lineRows a) v (replicate VALUES 0) w m q m₂ q₂ t few h (c .1 .is) (none-there (replicate VALUES 0) (filled-new VALUES 0)) (none-there w (c .0)) g in
+      record { longw = refl; long = refl; longp = np; longu = nu; longs = length-replicate {A = ℕ} VALUES 0; longq = g .longq ∙ nq; indexed = i .0; listed = i .1; queue = x .queue; spot = x .spot; spread = x .spread; marks = x }
 
   module _ (p u w₀ m₀ s w m q : List ℕ) (t h : ℕ) (c : Going a v p u w₀ m₀ s w m q t h) where
     pub going-place : h < t → h < LINES

@@ -31,6 +31,10 @@ HIDDEN = 129
 abbrev pub FAR : ℕ
 FAR = 130
 
+-- so many are they
+abbrev pub MARKS : ℕ
+MARKS = 131
+
 -- the entity lines that the words hold
 unfoldable pub lineRows : List ℕ → List (List ℕ)
 lineRows a = take LINES (rowsOf a ENTITY)
@@ -44,10 +48,9 @@ placeOf v (r ∷ l) = cond (eqb (at r 0) v) 0 (suc (placeOf v l))
 abbrev pub named : List (List ℕ) → ℕ → List ℕ
 named U x = cond (eqb x mark) [] (rSet [] (valueRow (getD U x [])) (λ l. l))
 
--- the words w became x, all of them
-pub record Filled (x : ℕ) (w w′ : List ℕ) : Type 0 where
-  pub long : length w′ ≡ length w
-  pub is : (v : ℕ) → v < length w′ → getD w′ v 0 ≡ x
+-- the words w are x, all of them
+pub record Filled (x : ℕ) (w : List ℕ) : Type 0 where
+  pub is : (v : ℕ) → v < length w → getD w v 0 ≡ x
 
 -- word v is the place of the line of entity v
 pub record Indexed (E : List (List ℕ)) (p : List ℕ) : Type 0 where

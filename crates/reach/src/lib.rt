@@ -112,35 +112,13 @@ fn put_byte(bytes: &mut [u8], i: usize, byte: u8)
     }
 }
 
-// All bytes become `byte`.
-fn fill_bytes(bytes: &mut [u8], byte: u8)
-    ensures { λ _. ⌜ Filled byte (now (bytes .entry)) (now (bytes .exit)) ⌝ }
-{
-    let mut i = 0;
-    while i < bytes.len() {
-        bytes[i] = byte;
-        i += 1;
-    }
-}
-
-// All words become `word`.
-fn fill(words: &mut [u32], word: u32)
-    ensures { λ _. ⌜ Filled word (now (words .entry)) (now (words .exit)) ⌝ }
-{
-    let mut i = 0;
-    while i < words.len() {
-        words[i] = word;
-        i += 1;
-    }
-}
-
-// The byte of each entity becomes the place of its line: from the last line to the first, so that the first one stays. Its word becomes the
-// last item of that line, the set of its parents. A line ends where the next one begins.
+// The byte of each entity becomes the place of its line: from the last line to the first, so that the first one stays. The others stay as many as
+// there are lines. The word of each entity becomes the last item of its line, the set of its parents. A line ends where the next one begins.
 fn index(rows: &[u32], places: &mut [u8], sets: &mut [u32])
+    requires { ⌜ Filled (length (lineRows (now rows))) (now places) ⌝ }
     ensures { λ _. ⌜ Indexed (lineRows (now (rows .entry))) (now (places .exit)) × Listed (lineRows (now (rows .entry))) (now (sets .exit)) ⌝ }
 {
     let mut i = lines(rows);
-    fill_bytes(places, i as u8);
     let b = base_of(ENTITY);
     let mut end = read(rows, b + i as usize) as usize;
     while i > 0 {
@@ -406,18 +384,17 @@ fn set_of(rows: &[u32], places: &[u8], sets: &[u32], value: u32) -> u32
     item(line_at(rows, place(rows, places, value)), 4)
 }
 
-// Marks the lines that entity `value` reaches, its own among them, and notes the ancestors met.
+// Marks the lines that entity `value` reaches, its own among them, and notes the ancestors met. Before, nothing is marked or noted.
 pub fn reach(rows: &[u32], value: u32, met: &mut [u8], marks: &mut [u32])
     requires { ⌜ FAR < length (now marks) ⌝ }
+    requires { ⌜ Filled 0 (now met) × Filled 0 (now marks) ⌝ }
     ensures { λ _. ⌜ Found (rowsOf (now (rows .entry)) VALUE) (lineRows (now (rows .entry))) value (now (met .exit)) (now (marks .exit)) ⌝ }
 {
-    fill(marks, 0);
-    fill_bytes(met, 0);
-    let mut places: [u8; VALUES] = [0; VALUES];
+    let n = lines(rows) as u8;
+    let mut places: [u8; VALUES] = [n; VALUES];
     let mut sets: [u32; NEAR] = [0; NEAR];
     index(rows, &mut places[..], &mut sets[..]);
     let mut asked: [u8; VALUES] = [0; VALUES];
-    fill_bytes(&mut asked[..], 0);
     let mut queue: [u32; LINES] = [0; LINES];
     let mut end = see_at(rows, &places[..], value, marks, &mut queue[..], 0);
     let mut i = 0;

@@ -39,7 +39,7 @@ ghost use Rattle.words.specs.Log.{part};
 ghost use Rattle.sheet.specs.Forms.{ENTITY};
 ghost use Rattle.table.specs.Layout.{rowsOf};
 ghost use Rattle.cedar.specs.Numbered.{allRent};
-ghost use Rattle.reach.specs.Marks.{FAR};
+ghost use Rattle.reach.specs.Marks.{FAR, Filled};
 ghost use Rattle.strict.specs.Gives.{outOf, values, valueIn};
 ghost use Rattle.strict.specs.Lookups.{ATTRIBUTES, TAGS, HALF, HALVINGS, textThere, isEntityAt, lineAt, lineIn, nearer, ledFrom, isLine, lineBy, partOf, partOfLine, partIn, partBy, lookRow, lookIn, lookBy, takenOf, presentOf, getOut, hasOut, tagLook, gettagOut, hastagOut, isRentAt, inUnknownOut, Unknowns, Above, inLineOut, inUnlistedOut, inListOut, inOut, walkFrom};
 ghost use Rattle.strict.specs.Chains.{Chained};
@@ -405,6 +405,7 @@ fn in_found(
     marks: &mut [u32],
 ) -> Given
     requires { ⌜ FAR < length (now marks) ⌝ }
+    requires { ⌜ Filled 0 (now met) × Filled 0 (now marks) ⌝ }
     ensures { λ r. ⌜ Above complete (now (rows .entry)) value listed (now (list .entry)) r ⌝ }
 {
     reach(rows, listed, met, marks);

@@ -12,6 +12,7 @@ use lib.ListN.{length, getD, take, drop, length-drop}
 use lib.Seq.{drop-drop}
 use Rattle.words.specs.Log.{part}
 use Rattle.words.proofs.Stores.{length-part, part-at}
+use Rattle.forms.specs.Tags.{BOOL-VALUE}
 use Rattle.sheet.specs.Bytes.{same}
 use Rattle.table.specs.Layout.{base, rowAt, rowsOf}
 use Rattle.table.proofs.Rows.{row-at-is, row-some}
@@ -256,3 +257,29 @@ module _ (r a : List ℕ) (k b n : ℕ) (eb : b ≡ base k) (en : n ≡ getD a k
 
 pub row-same : (a r q : List ℕ) (i s e : ℕ) (b : Bool) → s ≡ getD a i 0 → e ≡ getD a (i + 1) 0 → q ≡ part a s e → b ≡ same q r → b ≡ same (rowAt a i) r
 row-same a r q i s e b es ee eq eb = eb ∙ ap (λ (x : List ℕ). same x r) (row-at-is a i s e q es ee eq)
+
+-- ---- row by row
+
+module _ (r a : List ℕ) (k b n i : ℕ) (eb : b ≡ base k) (en : n ≡ getD a k 0) (g : Finding r (rowsOf a k) n i) (l : i < n) (c : Bool) (ec : c ≡ same (rowAt a (b + i)) r) where
+  row-there : rowAt a (b + i) ≡ getD (rowsOf a k) i []
+  row-there = row-some a k i n b (rowAt a (b + i)) en l eb refl
+
+  pub turn-hit : c ≡ true → i ≡ placeOf r (rowsOf a k)
+  turn-hit f = find-hit r (rowsOf a k) n i g l (rowAt a (b + i)) row-there c ec f
+
+  pub turn-on : c ≡ false → Finding r (rowsOf a k) n (i + 1)
+  turn-on f = find-on r (rowsOf a k) n i g l (rowAt a (b + i)) row-there c ec f
+
+-- ---- a bool's row
+
+module _ (a : List ℕ) (i s : ℕ) (es : s ≡ getD a i 0) (v : ℕ) where
+  other-word : (j : ℕ) → j < 2 → (getD a (j + s) 0 ≡ getD (BOOL-VALUE ∷ v ∷ []) j 0 → ⊥) → false ≡ same (rowAt a i) (BOOL-VALUE ∷ v ∷ [])
+  other-word j h n =
+      let e : ℕ = getD a (i + 1) 0 in
+      sym (ap (λ (x : List ℕ). same x (BOOL-VALUE ∷ v ∷ [])) (sym (row-at-is a i s e (part a s e) es refl refl)) ∙ differ a (BOOL-VALUE ∷ v ∷ []) s e j h n)
+
+  pub other-tag : (w : ℕ) → w ≡ getD a s 0 → (w ≡ BOOL-VALUE → ⊥) → false ≡ same (rowAt a i) (BOOL-VALUE ∷ v ∷ [])
+  other-tag w e n = let z : s ≡ 0 + s = omega arith in other-word 0 (omega arith) (λ q. n (e ∙ ap (λ (x : ℕ). getD a x 0) z ∙ q))
+
+  pub other-bit : (w : ℕ) → w ≡ getD a (s + 1) 0 → (w ≡ v → ⊥) → false ≡ same (rowAt a i) (BOOL-VALUE ∷ v ∷ [])
+  other-bit w e n = let z : s + 1 ≡ 1 + s = omega arith in other-word 1 (omega arith) (λ q. n (e ∙ ap (λ (x : ℕ). getD a x 0) z ∙ q))

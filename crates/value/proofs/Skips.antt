@@ -11,10 +11,10 @@ use Rattle.forms.specs.Tags.{BOOL-VALUE}
 use Rattle.sheet.specs.Forms.{VALUE}
 use Rattle.table.specs.Layout.{TOP, heap, base, limit, limits, rowsOf}
 use Rattle.table.proofs.Rows.{count-rows}
-use Rattle.value.specs.Lines.{Past}
+use Rattle.value.specs.Lines.{placeOf, Past}
 use Rattle.value.specs.Made.{boolRow}
 use Rattle.value.specs.Clear.{Clear, clearAt}
-use Rattle.value.proofs.Makes.{Finding}
+use Rattle.value.proofs.Makes.{Finding, place-most}
 use Rattle.value.proofs.ClearLaws.{clear-more, clear-place}
 
 -- ---- the search
@@ -62,3 +62,7 @@ clear-next a n b i t en few eb h c et f =
     let p = and-eq-true-iff (leb heap s && ltb s (getD a TOP 0)) (not (eqb (getD a s 0) BOOL-VALUE)) .0 z in
     let q = and-eq-true-iff (leb heap s) (ltb s (getD a TOP 0)) .0 (p .0) in
     clear-more a i c n b s (getD a TOP 0) en eb refl refl (getD a s 0) h (omega arith) (leb-true heap s (q .0)) (ltb-true s (getD a TOP 0) (q .1)) refl (eqb-false (getD a s 0) BOOL-VALUE (not-true (eqb (getD a s 0) BOOL-VALUE) (p .1)))
+
+-- where the first rows that are others are all rows, none is it
+pub past-all : (r a : List ℕ) (n i : ℕ) → n ≡ getD a VALUE 0 → Past r (rowsOf a VALUE) i → n ≤ i → n ≡ placeOf r (rowsOf a VALUE)
+past-all r a n i e p h = omega (arith, p .left, place-most r (rowsOf a VALUE), count-rows a VALUE)

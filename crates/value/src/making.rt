@@ -21,16 +21,17 @@ use words::read;
 use words::store;
 ghost use mathlib.Core.Path.{_≡_};
 ghost use mathlib.Core.Bool.{true, _&&_};
-ghost use mathlib.Core.List.{[]};
+ghost use mathlib.Core.List.{[], _∷_};
 ghost use mathlib.Core.Option.{none};
 ghost use Prim.Native.Nat.{_+_, _-_, _≤_, _<_};
 ghost use lib.Dec.{eqb, leb, ltb};
 ghost use lib.ListN.{getD, length, take, drop};
 ghost use Rattle.words.specs.Log.{part, Room, Holds};
 ghost use Rattle.cedar.specs.Making.{sortN};
+ghost use Rattle.forms.specs.Tags.{BOOL-VALUE};
 ghost use Rattle.sheet.specs.Bytes.{same};
 ghost use Rattle.sheet.specs.Forms.{NODE, VALUE};
-ghost use Rattle.table.specs.Layout.{base, rowAt, rowsOf};
+ghost use Rattle.table.specs.Layout.{MADE, base, rowAt, rowsOf};
 ghost use Rattle.value.specs.Lines.{valueLines, placeOf, Past};
 ghost use Rattle.value.specs.Clear.{Clear, clearAt};
 ghost use Rattle.value.specs.Places.{passed, Passing};
@@ -289,17 +290,86 @@ fn find_in(rows: &[u32], key: usize, from: usize, line: &[u32]) -> usize
     find_telling(rows, key, b, n, from, line)
 }
 
+// The number of the first of the sheet's values with these words, or of all of them where none has them. The first `skip` are others.
+fn find_given(rows: &[u32], skip: usize, line: &[u32]) -> usize
+    requires { ⌜ Past (now line) (rowsOf (now rows) VALUE) skip ⌝ }
+    ensures { λ v. ⌜ v ≡ placeOf (now (line .entry)) (rowsOf (now (rows .entry)) VALUE) ⌝ }
+{
+    let n = count(rows, VALUE) as usize;
+    if skip >= n {
+        return n;
+    }
+    find_in(rows, VALUE, skip, line)
+}
+
 // The number of the first value with these words, or of all values where none has them. The sheet's first `skip` values are others.
 fn find(rows: &[u32], skip: usize, line: &[u32]) -> usize
     requires { ⌜ Past (now line) (rowsOf (now rows) VALUE) skip ⌝ }
     ensures { λ v. ⌜ v ≡ placeOf (now (line .entry)) (valueLines (now (rows .entry))) ⌝ }
 {
     let n = count(rows, VALUE) as usize;
-    let v = find_in(rows, VALUE, skip, line);
+    let v = find_given(rows, skip, line);
     if v < n {
         return v;
     }
     n + find_in(rows, MADE, 0, line)
+}
+
+// Whether the row whose beginning word `at` says is the bool with this second word.
+fn is_bool(rows: &[u32], at: usize, bit: u32) -> bool
+    requires { ⌜ at < length (now rows) ⌝ }
+    ensures { λ r. ⌜ r ≡ same (rowAt (now (rows .entry)) at) (BOOL-VALUE ∷ bit ∷ []) ⌝ }
+{
+    let start = read(rows, at) as usize;
+    if read(rows, start) != BOOL_VALUE {
+        return false;
+    }
+    if read(rows, start + 1) != bit {
+        return false;
+    }
+    is_row(rows, at, &[BOOL_VALUE, bit])
+}
+
+// The number of the first of the `many` made values that is the bool, or of all of them where none is. Word `first` says where the first row begins.
+fn made_bool(rows: &[u32], first: usize, many: usize, bit: u32) -> usize
+    requires { ⌜ (first ≡ base MADE) × (many ≡ getD (now rows) MADE 0) × (first + many ≤ length (now rows)) ⌝ }
+    ensures { λ v. ⌜ v ≡ placeOf (BOOL-VALUE ∷ bit ∷ []) (rowsOf (now (rows .entry)) MADE) ⌝ }
+{
+    let mut i = 0;
+    loop {
+        if i >= many {
+            break many;
+        }
+        if is_bool(rows, first + i, bit) {
+            break i;
+        }
+        i += 1;
+    }
+}
+
+// The number of the first of the made values that is the bool, or of all of them where none is.
+fn find_made_bool(rows: &[u32], bit: u32) -> usize
+    ensures { λ v. ⌜ v ≡ placeOf (BOOL-VALUE ∷ bit ∷ []) (rowsOf (now (rows .entry)) MADE) ⌝ }
+{
+    let n = count(rows, MADE) as usize;
+    let b = base_of(MADE);
+    if b + n > rows.len() {
+        return find_row(rows, MADE, &[BOOL_VALUE, bit]);
+    }
+    made_bool(rows, b, n, bit)
+}
+
+// The number of the first value that is the bool, or of all values where none is. The sheet's first `skip` values are others.
+fn find_bool(rows: &[u32], skip: usize, bit: u32) -> usize
+    requires { ⌜ Past (BOOL-VALUE ∷ bit ∷ []) (rowsOf (now rows) VALUE) skip ⌝ }
+    ensures { λ v. ⌜ v ≡ placeOf (BOOL-VALUE ∷ bit ∷ []) (valueLines (now (rows .entry))) ⌝ }
+{
+    let n = count(rows, VALUE) as usize;
+    let v = find_given(rows, skip, &[BOOL_VALUE, bit]);
+    if v < n {
+        return v;
+    }
+    n + find_made_bool(rows, bit)
 }
 
 // Whether a row of `size` words more may be made.
@@ -339,12 +409,11 @@ fn add(rows: &mut [u32], line: &[u32])
     add_row(rows, MADE, top + line.len() as u32);
 }
 
-// The number of the value with these words, made where it is absent. The sheet's first `skip` values are others.
-fn make_after(rows: &mut [u32], skip: usize, line: &[u32]) -> u32
-    requires { ⌜ Past (now line) (rowsOf (now rows) VALUE) skip ⌝ }
+// The number `v` of the value with these words, which is made where it is absent.
+fn make_at(rows: &mut [u32], v: usize, line: &[u32]) -> u32
+    requires { ⌜ v ≡ placeOf (now line) (valueLines (now rows)) ⌝ }
     ensures { λ v. ⌜ Made (now (rows .entry)) (now (line .entry)) (now (rows .exit)) v ⌝ }
 {
-    let v = find(rows, skip, line);
     if v < crate::total(rows) {
         return narrowed(v);
     }
@@ -359,7 +428,8 @@ fn make_after(rows: &mut [u32], skip: usize, line: &[u32]) -> u32
 pub fn make(rows: &mut [u32], line: &[u32]) -> u32
     ensures { λ v. ⌜ Made (now (rows .entry)) (now (line .entry)) (now (rows .exit)) v ⌝ }
 {
-    make_after(rows, 0, line)
+    let v = find(rows, 0, line);
+    make_at(rows, v, line)
 }
 
 // Whether the row whose beginning word `at` says begins in the heap, and not as a bool.
@@ -403,9 +473,11 @@ pub fn make_bool_after(rows: &mut [u32], skip: usize, truth: bool) -> u32
     ensures { λ v. ⌜ Made (now (rows .entry)) (boolRow truth) (now (rows .exit)) v ⌝ }
 {
     if truth {
-        return make_after(rows, skip, &[BOOL_VALUE, 1]);
+        let v = find_bool(rows, skip, 1);
+        return make_at(rows, v, &[BOOL_VALUE, 1]);
     }
-    make_after(rows, skip, &[BOOL_VALUE, 0])
+    let v = find_bool(rows, skip, 0);
+    make_at(rows, v, &[BOOL_VALUE, 0])
 }
 
 // The bool.

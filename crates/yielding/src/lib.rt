@@ -53,6 +53,9 @@ ghost use Rattle.evaluator.specs.Run.{nodeIn};
 ghost use Rattle.evaluator.specs.Gave.{Gave, GaveBeside, Done};
 ghost use Rattle.yielding.specs.Yields.{yieldIn, yieldRow, Started, lazyOf, logicOf, branchOf, oneOf, twoOf, allValues, setOf, recordOf, overOf, nodeOf, turnOf, ranOf, Turned, classesIn, yieldedOf};
 
+// No value is known to be no bool here: a search for a bool begins with the first value.
+const FIRST: usize = 0;
+
 // What the row of the stack at `at` of these words yields.
 fn yield_in(words: &[u32], at: usize) -> Yield
     requires { ⌜ at ≤ 65536 ⌝ }
@@ -139,9 +142,9 @@ fn one(sheet: &[u8], rows: &mut [u32], node: u32, tag: u32, steps: u32, operand:
     if tag == HASPATH {
         let line = row(rows, NODE, node);
         let given = path_at(rows, cut(line, steps as usize, line.len()), value);
-        return settle(rows, given);
+        return settle(FIRST, rows, given);
     }
-    apply_one(sheet, rows, node, tag, value)
+    apply_one(sheet, FIRST, rows, node, tag, value)
 }
 
 // An operation with two operands.
@@ -155,7 +158,7 @@ fn two(rows: &mut [u32], tag: u32, left: Yield, right: Yield) -> Yield
     let Yield::Value(second) = right else {
         return Yield::Error;
     };
-    apply_two(rows, tag, first, second)
+    apply_two(FIRST, rows, tag, first, second)
 }
 
 // `and` and `or`, by the tag.

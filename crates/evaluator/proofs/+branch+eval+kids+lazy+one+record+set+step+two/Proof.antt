@@ -1,5 +1,6 @@
 -- The evaluator's cycle of calls meets its contracts: the depth falls with each node. Assumes nothing.
-use Rattle.evaluator.proofs.Ways.{eval-none, eval-step, if-false, if-other, if-true, kids-end, kids-error, kids-more, kids-none, lazy-made, lazy-other, lazy-right, many-grows, many-room, more-room, one-error, one-low, one-on, record-error, record-made, set-error, set-made, step-and, step-err, step-if, step-lit, step-one, step-or, step-past, step-record, step-set, step-slot, step-two, step-var, two-error, two-low, two-on, two-right}
+use Rattle.evaluator.proofs.Kept.{eval-clear}
+use Rattle.evaluator.proofs.Ways.{eval-none, eval-step, if-false, if-other, if-true, kids-end, kids-error, kids-more, kids-none, lazy-made, lazy-other, lazy-right, many-grows, many-room, more-room, one-error, one-low, one-on, same-room, record-error, record-made, set-error, set-made, step-and, step-err, step-if, step-lit, step-one, step-or, step-past, step-record, step-set, step-slot, step-two, step-var, two-error, two-low, two-on, two-right}
 use borrow.Author.Needs.{needs}
 use native.Mathlib.Omega.{arith}
 use Prim.Native.Nat.{ℕ, _<_, _+_, _*_}
@@ -43,38 +44,38 @@ use Rattle.residual.proofs.push_value.Reads as push-value-reads
 use Rattle.table.proofs.row.Reads as row-reads
 use Rattle.table.proofs.tag.Reads as tag-reads
 use Rattle.typing.proofs.links.slot_value.Reads as slot-value-reads
-use Rattle.value.proofs.making.make_bool.Reads as make-bool-reads
+use Rattle.value.proofs.making.make_bool_after.Reads as make-bool-after-reads
 use Rattle.value.proofs.making.make_record.Reads as make-record-reads
 use Rattle.value.proofs.making.make_set.Reads as make-set-reads
 use Rattle.evaluator.proofs.+branch+eval+kids+lazy+one+record+set+step+two.{statement}
 use Rattle.evaluator.proofs.+branch+eval+kids+lazy+one+record+set+step+two.Tie.{close}
 
 abbrev μ-branch : Measures 3 branch-kinds.ps ℕ
-μ-branch κs a = a .1 .1 .1 .1 .1 .1 .1 .0 * 65536 + 1
+μ-branch κs a = a .1 .1 .1 .1 .1 .1 .1 .1 .0 * 65536 + 1
 
 abbrev μ-eval : Measures 3 eval-kinds.ps ℕ
-μ-eval κs a = a .1 .1 .1 .1 .1 .1 .1 .0 * 65536
+μ-eval κs a = a .1 .1 .1 .1 .1 .1 .1 .1 .0 * 65536
 
 abbrev μ-kids : Measures 3 kids-kinds.ps ℕ
-μ-kids κs a = a .1 .1 .1 .1 .1 .1 .1 .1 .1 .1 .0 * 65536 + a .1 .1 .1 .1 .1 .1 .1 .1 .1 .0 + 1
+μ-kids κs a = a .1 .1 .1 .1 .1 .1 .1 .1 .1 .1 .1 .0 * 65536 + a .1 .1 .1 .1 .1 .1 .1 .1 .1 .1 .0 + 1
 
 abbrev μ-lazy : Measures 3 lazy-kinds.ps ℕ
-μ-lazy κs a = a .1 .1 .1 .1 .1 .1 .1 .1 .0 * 65536 + 1
+μ-lazy κs a = a .1 .1 .1 .1 .1 .1 .1 .1 .1 .0 * 65536 + 1
 
 abbrev μ-one : Measures 3 one-kinds.ps ℕ
-μ-one κs a = a .1 .1 .1 .1 .1 .1 .1 .1 .0 * 65536 + 1
+μ-one κs a = a .1 .1 .1 .1 .1 .1 .1 .1 .1 .0 * 65536 + 1
 
 abbrev μ-record : Measures 3 record-kinds.ps ℕ
-μ-record κs a = a .1 .1 .1 .1 .1 .1 .1 .0 * 65536 + 16386
+μ-record κs a = a .1 .1 .1 .1 .1 .1 .1 .1 .0 * 65536 + 16386
 
 abbrev μ-set : Measures 3 set-kinds.ps ℕ
-μ-set κs a = a .1 .1 .1 .1 .1 .1 .1 .0 * 65536 + 16386
+μ-set κs a = a .1 .1 .1 .1 .1 .1 .1 .1 .0 * 65536 + 16386
 
 abbrev μ-step : Measures 3 step-kinds.ps ℕ
-μ-step κs a = a .1 .1 .1 .1 .1 .1 .1 .1 .0 * 65536 + 16387
+μ-step κs a = a .1 .1 .1 .1 .1 .1 .1 .1 .1 .0 * 65536 + 16387
 
 abbrev μ-two : Measures 3 two-kinds.ps ℕ
-μ-two κs a = a .1 .1 .1 .1 .1 .1 .1 .1 .0 * 65536 + 1
+μ-two κs a = a .1 .1 .1 .1 .1 .1 .1 .1 .1 .0 * 65536 + 1
 
 abbrev branch-at : ℕ → In 3 branch-kinds.ps
 branch-at t = and 3 branch-kinds.ps (is 3 branch-kinds.ps μ-branch t) branch.Pre
@@ -140,6 +141,19 @@ branch-returns : (t : ℕ) → branch-lts.Need-returns (
 ) (branch-at t) branch.Post
 branch-returns t c = search if-other
 
+branch-eval-requires-2 : (t : ℕ) → branch-lts.Need-eval-requires-2 (
+  word-of-reads.Asked,
+  word-of-reads.Learnt,
+  eval-below t,
+  eval.Post,
+  truth-of-reads.Asked,
+  truth-of-reads.Learnt,
+) (branch-at t) branch.Post
+branch-eval-requires-2 t c κs =
+    let c₁ = c .before .before .before .before .before .before .before .before .before .before .before .before in
+    let c₂ = c₁ .before .before .before .before .before .before .before .before .before .before .before .before in
+    (omega (arith, c₂ .pre .0), (same-room _ _ _ (c₂ .pre .1 .0) (c₁ .eval .kept .1 .1 .1 .1 .1 .0), eval-clear _ _ _ _ _ _ _ _ _ _ _ _ _ (c₂ .pre .1 .1) (c₁ .eval .ensures)))
+
 branch-returns-2 : (t : ℕ) → branch-lts.Need-returns-2 (
   word-of-reads.Asked,
   word-of-reads.Learnt,
@@ -157,6 +171,19 @@ branch-returns-2 t c =
     let c₆ = c₅ .before in
     let c₇ = c₆ .before .before .before .before .before .before in
     if-true _ _ _ _ _ _ _ _ _ (c₆ .word-of3 .ensures) _ _ _ (c₅ .eval .ensures) _ (c₄ .truth-of .ensures) _ (c₃ .x .given .1) _ _ _ _ (c₁ .eval2 .ensures) (c₂ .if1 .taken) (c₇ .word-of .ensures)
+
+branch-eval-requires-3 : (t : ℕ) → branch-lts.Need-eval-requires-3 (
+  word-of-reads.Asked,
+  word-of-reads.Learnt,
+  eval-below t,
+  eval.Post,
+  truth-of-reads.Asked,
+  truth-of-reads.Learnt,
+) (branch-at t) branch.Post
+branch-eval-requires-3 t c κs =
+    let c₁ = c .before .before .before .before .before .before .before .before .before .before .before .before in
+    let c₂ = c₁ .before .before .before .before .before .before .before .before .before .before .before .before in
+    (omega (arith, c₂ .pre .0), (same-room _ _ _ (c₂ .pre .1 .0) (c₁ .eval .kept .1 .1 .1 .1 .1 .0), eval-clear _ _ _ _ _ _ _ _ _ _ _ _ _ (c₂ .pre .1 .1) (c₁ .eval .ensures)))
 
 branch-returns-3 : (t : ℕ) → branch-lts.Need-returns-3 (
   word-of-reads.Asked,
@@ -250,7 +277,7 @@ kids-add-kids : (t : ℕ) → kids-lts.Need-add-kids (
   kids-below t,
   kids.Post,
 ) (kids-at t) kids.Post
-kids-add-kids t c = omega (arith, c .before .before .before .before .before .before .before .before .before .before .before .before .before .before .before .before .before .before .before .before .before .before .before .before .before .pre .1 .1)
+kids-add-kids t c = omega (arith, c .before .before .before .before .before .before .before .before .before .before .before .before .before .before .before .before .before .before .before .before .before .before .before .before .before .pre .1 .1 .0)
 
 kids-kids-requires : (t : ℕ) → kids-lts.Need-kids-requires (
   row-reads.Asked,
@@ -269,7 +296,7 @@ kids-kids-requires t c κs =
     let c₂ = c₁ .before .before .before .before .before .before .before .before .before in
     let c₃ = c₂ .before .before .before .before .before .before .before .before in
     let c₄ = c₃ .before .before .before .before in
-    (omega (arith, c₄ .pre .0, c₃ .if1 .left), (more-room _ _ _ _ _ _ (c₄ .pre .1 .0) (c₂ .eval .kept .1 .1 .1 .1 .0) (c₁ .push-value .ensures), omega (arith, c₄ .pre .1 .1, c₃ .if1 .left)))
+    (omega (arith, c₄ .pre .0, c₃ .if1 .left), (more-room _ _ _ _ _ _ (c₄ .pre .1 .0) (c₂ .eval .kept .1 .1 .1 .1 .1 .0) (c₁ .push-value .ensures), (omega (arith, c₄ .pre .1 .1 .0, c₃ .if1 .left), eval-clear _ _ _ _ _ _ _ _ _ _ _ _ _ (c₄ .pre .1 .1 .1) (c₂ .eval .ensures))))
 
 kids-returns-4 : (t : ℕ) → kids-lts.Need-returns-4 (
   row-reads.Asked,
@@ -293,7 +320,7 @@ kids-returns-4 t c =
     let c₇ = c₆ .before in
     let c₈ = c₇ .before .before in
     let c₉ = c₈ .before .before .before .before in
-    kids-more _ _ _ _ _ _ _ _ _ _ _ (c₉ .pre .1 .0) (c₈ .if1 .left) _ (c₇ .row .ensures) (c₆ .if2 .left) _ (c₅ .word-of .ensures) _ _ _ (c₄ .eval .ensures) (c₄ .eval .kept .1 .1 .1 .1 .0) _ _ _ (c₃ .value .given .1) (c₂ .push-value .ensures) _ _ _ (c₁ .kids .ensures)
+    kids-more _ _ _ _ _ _ _ _ _ _ _ (c₉ .pre .1 .0) (c₈ .if1 .left) _ (c₇ .row .ensures) (c₆ .if2 .left) _ (c₅ .word-of .ensures) _ _ _ (c₄ .eval .ensures) (c₄ .eval .kept .1 .1 .1 .1 .1 .0) _ _ _ (c₃ .value .given .1) (c₂ .push-value .ensures) _ _ _ (c₁ .kids .ensures)
 
 lazy-returns : (t : ℕ) → lazy-lts.Need-returns (
   word-of-reads.Asked,
@@ -304,8 +331,8 @@ lazy-returns : (t : ℕ) → lazy-lts.Need-returns (
   truth-of-reads.Learnt,
   same-reads.Asked,
   same-reads.Learnt,
-  make-bool-reads.Asked,
-  make-bool-reads.Learnt,
+  make-bool-after-reads.Asked,
+  make-bool-after-reads.Learnt,
   only-bool-reads.Asked,
   only-bool-reads.Learnt,
 ) (lazy-at t) lazy.Post
@@ -320,12 +347,31 @@ lazy-returns-2 : (t : ℕ) → lazy-lts.Need-returns-2 (
   truth-of-reads.Learnt,
   same-reads.Asked,
   same-reads.Learnt,
-  make-bool-reads.Asked,
-  make-bool-reads.Learnt,
+  make-bool-after-reads.Asked,
+  make-bool-after-reads.Learnt,
   only-bool-reads.Asked,
   only-bool-reads.Learnt,
 ) (lazy-at t) lazy.Post
 lazy-returns-2 t c = search lazy-made
+
+lazy-eval-requires-2 : (t : ℕ) → lazy-lts.Need-eval-requires-2 (
+  word-of-reads.Asked,
+  word-of-reads.Learnt,
+  eval-below t,
+  eval.Post,
+  truth-of-reads.Asked,
+  truth-of-reads.Learnt,
+  same-reads.Asked,
+  same-reads.Learnt,
+  make-bool-after-reads.Asked,
+  make-bool-after-reads.Learnt,
+  only-bool-reads.Asked,
+  only-bool-reads.Learnt,
+) (lazy-at t) lazy.Post
+lazy-eval-requires-2 t c κs =
+    let c₁ = c .before .before .before .before .before .before .before .before .before .before .before .before .before in
+    let c₂ = c₁ .before .before .before .before .before .before .before .before .before .before in
+    (omega (arith, c₂ .pre .0), (same-room _ _ _ (c₂ .pre .1 .0) (c₁ .eval .kept .1 .1 .1 .1 .1 .0), eval-clear _ _ _ _ _ _ _ _ _ _ _ _ _ (c₂ .pre .1 .1) (c₁ .eval .ensures)))
 
 lazy-returns-3 : (t : ℕ) → lazy-lts.Need-returns-3 (
   word-of-reads.Asked,
@@ -336,8 +382,8 @@ lazy-returns-3 : (t : ℕ) → lazy-lts.Need-returns-3 (
   truth-of-reads.Learnt,
   same-reads.Asked,
   same-reads.Learnt,
-  make-bool-reads.Asked,
-  make-bool-reads.Learnt,
+  make-bool-after-reads.Asked,
+  make-bool-after-reads.Learnt,
   only-bool-reads.Asked,
   only-bool-reads.Learnt,
 ) (lazy-at t) lazy.Post
@@ -694,6 +740,19 @@ two-returns : (t : ℕ) → two-lts.Need-returns (
 ) (two-at t) two.Post
 two-returns t c = search two-error
 
+two-eval-requires-2 : (t : ℕ) → two-lts.Need-eval-requires-2 (
+  word-of-reads.Asked,
+  word-of-reads.Learnt,
+  eval-below t,
+  eval.Post,
+  apply-two-reads.Asked,
+  apply-two-reads.Learnt,
+) (two-at t) two.Post
+two-eval-requires-2 t c κs =
+    let c₁ = c .before .before .before .before .before .before .before .before .before in
+    let c₂ = c₁ .before .before .before .before .before .before .before .before .before .before in
+    (omega (arith, c₂ .pre .0), (same-room _ _ _ (c₂ .pre .1 .0) (c₁ .eval .kept .1 .1 .1 .1 .1 .0), eval-clear _ _ _ _ _ _ _ _ _ _ _ _ _ (c₂ .pre .1 .1 .1) (c₁ .eval .ensures)))
+
 two-returns-2 : (t : ℕ) → two-lts.Need-returns-2 (
   word-of-reads.Asked,
   word-of-reads.Learnt,
@@ -709,6 +768,20 @@ two-returns-2 t c =
     let c₄ = c₃ .before in
     let c₅ = c₄ .before .before .before .before in
     search (two-right, c .enum-told2 .given, c₁ .eval2 .ensures, c₃ .eval .ensures, c₄ .word-of2 .ensures, c₅ .word-of .ensures)
+
+two-apply-two-requires : (t : ℕ) → two-lts.Need-apply-two-requires (
+  word-of-reads.Asked,
+  word-of-reads.Learnt,
+  eval-below t,
+  eval.Post,
+  apply-two-reads.Asked,
+  apply-two-reads.Learnt,
+) (two-at t) two.Post
+two-apply-two-requires t c κs =
+    let c₁ = c .before .before .before .before .before .before .before .before in
+    let c₂ = c₁ .before .before .before .before .before .before .before .before .before .before in
+    let c₃ = c₂ .before .before .before .before .before .before .before .before .before .before in
+    (c₃ .pre .1 .1 .0, eval-clear _ _ _ _ _ _ _ _ _ _ _ _ _ (eval-clear _ _ _ _ _ _ _ _ _ _ _ _ _ (c₃ .pre .1 .1 .1) (c₂ .eval .ensures)) (c₁ .eval2 .ensures))
 
 two-returns-3 : (t : ℕ) → two-lts.Need-returns-3 (
   word-of-reads.Asked,
@@ -750,11 +823,11 @@ pub +branch+eval+kids+lazy+one+record+set+step+two-spec : {M : Type 1} → state
     (λ c. search needs)
     (λ c. search needs)
     (branch-returns t)
-    (λ c κs. search needs)
+    (branch-eval-requires-2 t)
     (λ c. search needs)
     (λ c. search needs)
     (branch-returns-2 t)
-    (λ c κs. search needs)
+    (branch-eval-requires-3 t)
     (λ c. search needs)
     (λ c. search needs)
     (branch-returns-3 t))
@@ -817,8 +890,8 @@ pub +branch+eval+kids+lazy+one+record+set+step+two-spec : {M : Type 1} → state
       truth-of-reads.Learnt,
       same-reads.Asked,
       same-reads.Learnt,
-      make-bool-reads.Asked,
-      make-bool-reads.Learnt,
+      make-bool-after-reads.Asked,
+      make-bool-after-reads.Learnt,
       only-bool-reads.Asked,
       only-bool-reads.Learnt,
     )
@@ -834,11 +907,11 @@ pub +branch+eval+kids+lazy+one+record+set+step+two-spec : {M : Type 1} → state
     (λ c. search needs)
     (lazy-returns t)
     (λ c κs. search needs)
-    (λ c κs. search needs)
+    (λ c κs. let c₁ = c .before .before .before .before .before .before .before .before .before .before .before .before in eval-clear _ _ _ _ _ _ _ _ _ _ _ _ _ (c₁ .before .before .before .before .before .before .before .before .before .before .pre .1 .1) (c₁ .eval .ensures))
     (λ c. search needs)
     (λ c. search needs)
     (lazy-returns-2 t)
-    (λ c κs. search needs)
+    (lazy-eval-requires-2 t)
     (λ c κs. search needs)
     (λ c. search needs)
     (λ c. search needs)
@@ -860,7 +933,7 @@ pub +branch+eval+kids+lazy+one+record+set+step+two-spec : {M : Type 1} → state
     (λ c. search needs)
     (λ c. search needs)
     (one-returns t)
-    (λ c κs. search needs)
+    (λ c κs. let c₁ = c .before .before .before .before .before .before .before .before in let c₂ = c₁ .before .before .before .before .before .before .before .before in (c₂ .pre .1 .1 .0, eval-clear _ _ _ _ _ _ _ _ _ _ _ _ _ (c₂ .pre .1 .1 .1) (c₁ .eval .ensures)))
     (λ c. search needs)
     (λ c. search needs)
     (one-returns-2 t))
@@ -872,7 +945,7 @@ pub +branch+eval+kids+lazy+one+record+set+step+two-spec : {M : Type 1} → state
     )
     (record-at t)
     record.Post
-    (λ c κs. search needs)
+    (λ c κs. (search needs, (search needs, (search needs, search needs))))
     (record-make-record-requires t)
     (λ c. search needs)
     (λ c. search needs)
@@ -884,7 +957,7 @@ pub +branch+eval+kids+lazy+one+record+set+step+two-spec : {M : Type 1} → state
     (kids-below t, kids.Post, make-set-reads.Asked, make-set-reads.Learnt)
     (set-at t)
     set.Post
-    (λ c κs. search needs)
+    (λ c κs. (search needs, (search needs, (search needs, search needs))))
     (set-make-set-requires t)
     (λ c. search needs)
     (λ c. search needs)
@@ -926,11 +999,11 @@ pub +branch+eval+kids+lazy+one+record+set+step+two-spec : {M : Type 1} → state
     (λ c κs. search needs)
     (λ c. search needs)
     (step-returns t)
-    (λ c κs. search (two-low, needs))
+    (λ c κs. (search needs, (search needs, (search (two-low, needs), search needs))))
     (λ c. search needs)
     (λ c. search needs)
     (step-returns-2 t)
-    (λ c κs. search (one-low, needs))
+    (λ c κs. (search needs, (search needs, (search (one-low, needs), search needs))))
     (λ c. search needs)
     (λ c. search needs)
     (step-returns-3 t)
@@ -973,13 +1046,13 @@ pub +branch+eval+kids+lazy+one+record+set+step+two-spec : {M : Type 1} → state
     (λ c. search needs)
     (λ c. search needs)
     (two-returns t)
-    (λ c κs. search needs)
+    (two-eval-requires-2 t)
     (λ c. search needs)
     (λ c. search needs)
     (λ c. search needs)
     (λ c. search needs)
     (two-returns-2 t)
-    (λ c κs. c .before .before .before .before .before .before .before .before .before .before .before .before .before .before .before .before .before .before .before .before .before .before .before .before .before .before .before .before .pre .1 .1)
+    (two-apply-two-requires t)
     (λ c. search needs)
     (λ c. search needs)
     (two-returns-3 t)

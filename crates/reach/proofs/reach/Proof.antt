@@ -3,30 +3,32 @@ use mathlib.Core.Path.{refl}
 use Prim.Native.Nat.{_-_}
 use lib.ListN.{length}
 use Rattle.reach.specs.Marks.{lineRows}
-use Rattle.reach.proofs.Steps.{Going, going-end, going-less, going-on, going-open, going-place, going-start, going-there, reach-queue}
+use Rattle.reach.proofs.Steps.{Going, going-end, going-less, going-on, going-open, going-place, going-start, going-there, reach-places, reach-queue}
 use borrow.Author.Needs.{needs}
 use Rattle.reach.proofs.reach.Statement.{statement}
 use Rattle.reach.proofs.reach.Tie as tie
 
 abbrev Inv-loop : tie.InvT-loop
-Inv-loop rows value met₀ marks₀ places sets asked₀ queue₀ end₀ i₀ met marks asked queue end i = Going rows value places sets met₀ marks₀ asked met marks queue end i
+Inv-loop rows value met₀ marks₀ n places sets asked₀ queue₀ end₀ i₀ met marks asked queue end i = Going rows value places sets met₀ marks₀ asked met marks queue end i
 
 abbrev μ-loop : tie.MeasureT-loop
-μ-loop rows value met₀ marks₀ places sets asked₀ queue₀ end₀ i₀ met marks asked queue end i = length (lineRows rows) - i
+μ-loop rows value met₀ marks₀ n places sets asked₀ queue₀ end₀ i₀ met marks asked queue end i = length (lineRows rows) - i
+
+index-requires : tie.Need-index-requires Inv-loop μ-loop
+index-requires c κs = reach-places _ _ (c .before .before .lines .ensures)
 
 see-at-requires : tie.Need-see-at-requires Inv-loop μ-loop
 see-at-requires c κs =
-    let x = c .before .before .before .before .before .before .before .before in
-    let f = x .before .before .before .before .before .before .before .before .before in
-    (x .index .ensures .0, reach-queue _ 0 _ _ _ (f .before .before .before .before .before .pre) (f .fill .ensures) (search needs))
+    let x = c .before .before .before .before .before in
+    let s = x .before .before .before .before .before .before .before in
+    (x .index .ensures .0, reach-queue _ 0 _ _ (s .pre .0) (s .pre .1 .1) (search needs))
 
 loop-holds : tie.Need-loop-holds Inv-loop μ-loop
 loop-holds c =
     let s = c .before .before .before in
-    let a = s .before .before .before .before .before in
-    let x = a .before .before .before .before in
-    let f = x .before .before .before .before .before .before .before .before .before in
-    going-start _ _ _ _ _ _ _ _ _ _ _ _ _ _ (f .before .before .before .before .before .pre) (f .fill .ensures) (x .before .before .before .before .before .fill-bytes .ensures) (search needs) (search needs) (search needs) (search needs) (a .fill-bytes2 .ensures) (x .index .ensures) (s .see-at .ensures)
+    let x = s .before .before .before .before .before .before in
+    let b = x .before .before .before .before .before .before .before in
+    going-start _ _ _ _ _ _ _ _ _ _ (b .pre .0) (b .pre .1) (search needs) (search needs) (search needs) (x .index .ensures) (s .see-at .ensures)
 
 array-read-v : tie.Need-array-read-v Inv-loop μ-loop
 array-read-v c = search (going-place, needs)
@@ -69,12 +71,10 @@ reach-spec =
     Inv-loop
     μ-loop
     (λ c κs. search needs)
-    (λ c κs. search needs)
     (λ c. search needs)
     (λ c. search needs)
-    (λ c κs. search needs)
     (λ c. search needs)
-    (λ c κs. search needs)
+    index-requires
     (λ c. search needs)
     (λ c. search needs)
     see-at-requires

@@ -1,5 +1,6 @@
 -- `yielding::one` meets its contract. Assumes nothing.
 use Rattle.yielding.proofs.Turning.{one-error, one-path, one-on}
+use Rattle.value.proofs.ClearLaws.{clear-none}
 use borrow.Author.Needs.{needs}
 use Rattle.yielding.proofs.one.Statement.{statement}
 use Rattle.yielding.proofs.one.Tie as tie
@@ -23,7 +24,7 @@ path-at-requires : tie.Need-path-at-requires
 path-at-requires c κs = search needs
 
 settle-requires : tie.Need-settle-requires
-settle-requires c κs = search needs
+settle-requires c κs = search clear-none
 
 same-length : tie.Need-same-length
 same-length c = search needs
@@ -32,7 +33,7 @@ returns-2 : tie.Need-returns-2
 returns-2 c = search one-path
 
 apply-one-requires : tie.Need-apply-one-requires
-apply-one-requires c κs = search needs
+apply-one-requires c κs = (search needs, search clear-none)
 
 same-length-2 : tie.Need-same-length-2
 same-length-2 c = search needs

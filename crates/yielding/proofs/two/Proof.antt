@@ -1,5 +1,6 @@
 -- `yielding::two` meets its contract. Assumes nothing.
 use Rattle.yielding.proofs.Turning.{two-left, two-right, two-on}
+use Rattle.value.proofs.ClearLaws.{clear-none}
 use borrow.Author.Needs.{needs}
 use Rattle.yielding.proofs.two.Statement.{statement}
 use Rattle.yielding.proofs.two.Tie as tie
@@ -23,7 +24,7 @@ returns-2 : tie.Need-returns-2
 returns-2 c = search two-right
 
 apply-two-requires : tie.Need-apply-two-requires
-apply-two-requires c κs = search needs
+apply-two-requires c κs = (search needs, search clear-none)
 
 same-length : tie.Need-same-length
 same-length c = search needs

@@ -13,7 +13,7 @@ add-result : tie.Need-add-result
 add-result c =
     let k = c .before .before .before .before in
     let s = k .before .before in
-    omega (arith, found-most (s .args .line .now) (s .args .rows .now) MADE (c .find-in2 .result) (c .find-in2 .ensures), k .before .shared-slice-known .given MADE)
+    omega (arith, found-most (s .args .line .now) (s .args .rows .now) MADE (c .find-in .result) (c .find-in .ensures), k .before .shared-slice-known .given MADE)
 
 returns-2 : tie.Need-returns-2
 returns-2 c = search (find-made, needs)
