@@ -25,10 +25,12 @@ use Rattle.table.specs.Layout.{rowsOf, held, linesHeld}
 use Rattle.table.proofs.Rows.{count-rows}
 use Rattle.value.proofs.Lists.{uncons, spent}
 use Rattle.fits.proofs.Sorts.{no-entity, sort-tag}
-use Rattle.typing.specs.Rules.{ancestorRule, isAboveAt}
+use Rattle.typing.specs.Rules.{ancestorRule}
+use Rattle.typerows.specs.Types.{isAboveAt}
 use Rattle.typing.proofs.Joined.{drop-three}
 use Rattle.reach.specs.Marks.{LINES, VALUES, FAR, lineRows, placeOf, Self, Found, markedAt, anyMarked}
-use Rattle.reach.proofs.Steps.{not-none, lines-most, mark-some}
+use Rattle.met.proofs.Meeting.{not-none}
+use Rattle.reach.proofs.Steps.{lines-most, mark-some}
 use Rattle.reach.proofs.Asking.{marked-in, marked-out, line-of, on-line}
 use Rattle.above.specs.Fitting.{allAbove, unfitAt, unfitValue, Unfit, isKind, Passed, Passes, Fit, Fitted, reachedRule, unfitFrom}
 

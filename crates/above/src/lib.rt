@@ -2,11 +2,11 @@
 use forms::ENTITY;
 use forms::ENTITY_VALUE;
 use forms::VALUE;
+use met::byte;
 use reach::FAR;
 use reach::LINES;
 use reach::MARKS;
 use reach::VALUES;
-use reach::byte;
 use reach::line_at;
 use reach::lines;
 use reach::parents_of;
@@ -16,7 +16,7 @@ use table::count;
 use table::item;
 use table::row;
 use table::tag;
-use typing::lines::KIND_WORDS;
+use typesets::KIND_WORDS;
 use typing::lines::add_above;
 use typing::lines::is_ancestor;
 use typing::lines::is_ancestor_by;
@@ -28,8 +28,8 @@ ghost use lib.ListN.{length};
 ghost use Rattle.sheet.specs.Forms.{ENTITY};
 ghost use Rattle.table.specs.Layout.{rowsOf};
 ghost use Rattle.reach.specs.Marks.{VALUES, FAR, Filled, lineRows, markedAt, anyMarked};
-ghost use Rattle.typing.specs.Paths.{Each};
-ghost use Rattle.typing.specs.Rules.{isAboveAt};
+ghost use Rattle.typesets.specs.Sets.{Each};
+ghost use Rattle.typerows.specs.Types.{isAboveAt};
 ghost use Rattle.above.specs.Fitting.{allAbove, unfitAt, unfitValue, Unfit, Passed, Passes, Fit, Fitted, unfitFrom};
 
 // Whether the values of a list are all entities of kinds above this one.

@@ -15,7 +15,7 @@ use Rattle.sheet.specs.Sheet.{among, eachAlone, newType}
 use Rattle.table.specs.Layout.{rowsOf}
 use Rattle.table.proofs.Rows.{lines-held}
 use Rattle.forms.specs.Tags.{ENTITY-TYPE}
-use Rattle.checks.proofs.OrderLaws.{rowsHeld}
+use Rattle.order.proofs.OrderLaws.{rowsHeld}
 
 -- whether each kind of a group of row r has a line alone, by the rows of types ts
 abbrev allAlone : List (List ℕ) → List ℕ → Bool

@@ -13,9 +13,9 @@ use Rattle.sheet.specs.Typing.{nodesUnder, nodesOf}
 use Rattle.sheet.specs.Sheet.{hasSlot, above, slotGiven}
 use Rattle.table.specs.Layout.{rowsOf}
 use Rattle.table.proofs.Rows.{lines-held}
-use Rattle.checks.specs.Under.{NO-SLOT, FOR-PRINCIPAL, FOR-RESOURCE, FOR-BOTH, slotsAt, slotsOf, Noted}
-use Rattle.checks.proofs.OrderLaws.{rowsHeld}
-use Rattle.checks.proofs.NotedLaws.{noted-slots}
+use Rattle.uses.specs.Under.{NO-SLOT, FOR-PRINCIPAL, FOR-RESOURCE, FOR-BOTH, slotsAt, slotsOf, Noted}
+use Rattle.order.proofs.OrderLaws.{rowsHeld}
+use Rattle.uses.proofs.NotedLaws.{noted-slots}
 
 -- ---- which slots are there
 

@@ -16,16 +16,18 @@ use Rattle.forms.specs.Tags.{EQ, LT, IN, GETTAG, HASTAG, CONTAINS, ALL, ANY, IF
 use Rattle.sheet.specs.Content.{schema}
 use Rattle.table.specs.Layout.{rowsOf, textAt, held}
 use Rattle.table.proofs.Rows.{above}
-use Rattle.strict.specs.Gives.{outOf, values, valueIn, notOut, negOut, emptyOut, isOut, likeOut, arithOut, longsOut, containsOut, allOut, anyOut}
+use Rattle.strict.specs.Gives.{outOf, notOut, negOut, emptyOut, isOut, likeOut, arithOut, longsOut, containsOut, allOut, anyOut}
+use Rattle.lookup.specs.Lookups.{values, valueIn, lookAttr}
 use Rattle.strict.specs.Gives as S
-use Rattle.strict.specs.Lookups.{lookAttr, inOut, gettagOut, hastagOut, walkStep, walkFrom}
-use Rattle.strict.specs.Lookups as L
+use Rattle.strict.specs.Entities.{inOut, gettagOut, hastagOut}
+use Rattle.walk.specs.Walks.{walkStep, walkFrom}
+use Rattle.strict.specs.Entities as L
 use Rattle.strict.specs.declared.Given.{Given}
 use Rattle.strict.specs.declared.Given.the-variants.{Bool as Boolᵍ, Fails, Stays}
-use Rattle.strict.specs.declared.entity.Look.{Look}
-use Rattle.strict.specs.declared.entity.Look.the-variants.{At as Atˡ, Missing, Unknown as Unknownˡ, Bad}
-use Rattle.strict.specs.declared.entity.Walked.{Walked}
-use Rattle.strict.specs.declared.entity.Walked.the-variants.{Holds, Fails as Failsʷ, Left}
+use Rattle.lookup.specs.declared.Look.{Look}
+use Rattle.lookup.specs.declared.Look.the-variants.{At as Atˡ, Missing, Unknown as Unknownˡ, Bad}
+use Rattle.walk.specs.declared.Walked.{Walked}
+use Rattle.walk.specs.declared.Walked.the-variants.{Holds, Fails as Failsʷ, Left}
 use Rattle.strict.proofs.Links.{bytes-link}
 use Rattle.strict.proofs.Entities.{lookAs, in-value}
 use Rattle.tpe.specs.Run.{envIn, schemaIn}

@@ -5,29 +5,18 @@ use mathlib.Core.Option.{Option, none, some}
 use mathlib.Core.List.{List, [], _∷_}
 use Prim.Native.Nat.{ℕ, zero, suc, _+_, _-_}
 use lib.Dec.{ltb}
-use lib.ListN.{length, getD, take}
+use lib.ListN.{length, getD}
 use Rattle.cedar.specs.Rows.{Row, rbool, rlong, rtext, rent, rset, rrec}
 use Rattle.cedar.specs.Numbered.{Give, made, old, NOut, give, fails, stays, rowAt, rBool}
 use Rattle.sheet.specs.Forms.{at, firstNode}
 use Rattle.value.specs.Made.{boolRow, withValue, written}
 use Rattle.value.specs.Clear.{Clear}
 use Rattle.value.proofs.ClearLaws.{clear-kept}
+use Rattle.tpe.proofs.Kept.{Each, done, _&_, each-at}
 use Rattle.evaluator.specs.Run.{E, Rec, Kids, yields, values, nodeIn, madeOf, giveOf, settleOf, optOf, onYield, next, onBool, boolOnly, sideOf, branchOf, nextKid, kids, kidsOf, manyOf, Step, litStep, errStep, varStep, lazyStep, ifStep, oneStep, twoStep, setStep, recStep, slotStep, twos, ones, each, steps, stepAt, stepOf, evalOf}
 use Rattle.evaluator.specs.Gave.{GaveBeside}
 use Rattle.evaluator.specs.declared.Yield.{Yield}
 use Rattle.evaluator.specs.declared.Yield.the-variants.{Value, Error}
-
--- ---- each of a list, and the one of a number
-
-data Each {A : Type 0} (Q : A → Type 0) : List A → Type 0 where
-  done : Each Q []
-  _&_ : {x : A} {l : List A} → Q x → Each Q l → Each Q (x ∷ l)
-
-infixr 5 _&_
-each-at : {A : Type 0} (Q : A → Type 0) (d : A) → Q d → (l : List A) (i : ℕ) → Each Q l → Q (getD l i d)
-each-at Q d h [] i e = h
-each-at Q d h (x ∷ l) zero (k & e) = k
-each-at Q d h (x ∷ l) (suc i) (k & e) = each-at Q d h l i e
 
 module _ (P : List ℕ → Type 0) (keep : (a r : List ℕ) → P a → P (withValue a r)) where
   -- the evaluator at the depth below keeps it

@@ -25,11 +25,12 @@ use Rattle.value.specs.Shapes.{shapeOf}
 use Rattle.value.specs.declared.Shape.{Shape}
 use Rattle.value.specs.declared.Shape.the-variants.{Bool as Boolˢ}
 use Rattle.residual.specs.Classes.{CLASS-TRUE, CLASS-FALSE, CLASS-ERROR, CLASS-OPEN, classNumber}
-use Rattle.strict.specs.Gives.{outOf, valueIn}
-use Rattle.strict.specs.Gives as S
+use Rattle.strict.specs.Gives.{outOf}
+use Rattle.lookup.specs.Lookups.{valueIn}
+use Rattle.lookup.specs.Lookups as S
 use Rattle.strict.specs.declared.Given.{Given}
 use Rattle.strict.specs.declared.Given.the-variants.{Bool as Boolᵍ, Long, Old, Fails, Stays}
-use Rattle.strict.proofs.Shapes.{value-shape, other-bool}
+use Rattle.lookup.proofs.Shapes.{value-shape, other-bool}
 use Rattle.tpe.specs.Run.{envIn}
 use Rattle.tpe.proofs.Settling.{long-words, var-last}
 use Rattle.evaluator.specs.Run.{yields, values, madeOf, giveOf, settleOf, optOf, onYield, next, boolOnly, envOf, classOf}

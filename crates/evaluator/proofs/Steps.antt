@@ -30,7 +30,7 @@ use Rattle.table.specs.Layout.{held}
 use Rattle.tpe.specs.Run.{wordsOf}
 use Rattle.tpe.proofs.Outcomes.{GiveFine, Fine, words-row, words-formed, words-short, row-fine}
 use Rattle.tpe.proofs.Stands.{Hold, Room, Spent, same-sheet, schema-is, env-is, env-at}
-use Rattle.strict.specs.Lookups.{envBy}
+use Rattle.lookup.specs.Lookups.{envBy}
 use lib.Dec.{eqb}
 use Rattle.evaluator.specs.Run.{E, Rec, yields, values, giveOf, settleOf, optOf, next, nodeIn, sideOf, branchOf, pathOut, litStep, errStep, varStep, lazyStep, ifStep, oneStep, twoStep, slotStep, unOut, binOut, relOut, getOut, hasOut, walkOut, schemaOf, envOf}
 use Rattle.evaluator.specs.declared.Yield.the-variants.{Value, Error}

@@ -23,9 +23,9 @@ use Rattle.value.specs.Lines.{valueLines}
 use Rattle.value.specs.Made.{boolRow, numberOf, withValue, setRow, recordRow, written}
 use Rattle.residual.specs.Rows.{litRow}
 use Rattle.residual.specs.Classes.{classNumber}
-use Rattle.strict.specs.Lookups.{envBy}
-use Rattle.strict.specs.declared.entity.Walked.{Walked}
-use Rattle.strict.specs.declared.entity.Walked.the-variants.{Holds, Fails as Failsʷ, Left}
+use Rattle.lookup.specs.Lookups.{envBy}
+use Rattle.walk.specs.declared.Walked.{Walked}
+use Rattle.walk.specs.declared.Walked.the-variants.{Holds, Fails as Failsʷ, Left}
 use Rattle.tpe.specs.Run.{wordsOf, schemaIn, envIn}
 use Rattle.evaluator.specs.declared.Yield.{Yield}
 use Rattle.evaluator.specs.declared.Yield.the-variants.{Value, Error}

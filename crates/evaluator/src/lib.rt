@@ -55,7 +55,8 @@ ghost use Rattle.sheet.specs.Content.{entityGiven, varOf};
 ghost use Rattle.table.specs.Layout.{rowsOf};
 ghost use Rattle.value.specs.Clear.{Clear};
 ghost use Rattle.residual.specs.Classes.{classNumber};
-ghost use Rattle.strict.specs.Gives.{outOf, valueIn};
+ghost use Rattle.strict.specs.Gives.{outOf};
+ghost use Rattle.lookup.specs.Lookups.{valueIn};
 ghost use Rattle.evaluator.specs.Run.{yields, nodeIn, settleOf, optOf, boolOnly, kidsOf, envOf, oneOut, twoOut, lazyStep, ifStep, oneStep, twoStep, setStep, recStep, stepAt, evalOf, classOf, runOf};
 ghost use Rattle.evaluator.specs.Gave.{Gave, GaveBeside, Left, Done, truthOf, asBool, yieldBool, sameBool};
 

@@ -18,9 +18,9 @@ use Rattle.forms.specs.Tags.{TEXT-LINE}
 use Rattle.table.specs.Layout.{part, rowsOf, textRows, linesHeld, held, rowIn}
 use Rattle.table.proofs.Rows.{count-held, lines-held, texts-held}
 use Rattle.table.proofs.Held.{counts-held}
-use Rattle.checks.specs.Seen.{unseen, Seen, Unlike}
-use Rattle.checks.proofs.NotedLaws.{under-held, uses-same}
-use Rattle.checks.proofs.SeenLaws.{key-alike, unlike-seen}
+use Rattle.seen.specs.Seen.{unseen, Seen, Unlike}
+use Rattle.uses.proofs.NotedLaws.{under-held, uses-same}
+use Rattle.seen.proofs.SeenLaws.{key-alike, unlike-seen}
 use Rattle.judge.specs.Verdicts.{NewDepth}
 
 module _ (a sheet b : List ℕ) where

@@ -5,7 +5,7 @@ use mathlib.Core.List.{List, [], _∷_, _++_, append-nil}
 use Prim.Native.Nat.{ℕ, suc, _+_, _-_, _≤_, _<_}
 use native.Mathlib.Omega.{arith}
 use native.Mathlib.Decide.{ℕ-discrete, decLt}
-use borrow.Author.Tests.{ne-eqb, lt-ltb, le-ltb, leb-false, not-true, not-false}
+use borrow.Author.Tests.{ne-eqb, ltb-false, leb-false, not-true, not-false}
 use lib.Dec.{leb, ltb}
 use lib.ListN.{length, getD, take, drop, drop-of-length-le, List·getD-eq-default}
 use lib.Seq.{drop-drop, length-take-le, take-all}
@@ -20,9 +20,9 @@ use Rattle.table.proofs.Rows.{key-low}
 use Rattle.table.proofs.Held.{used-of, depths-kept}
 use Rattle.fits.specs.Fit.{SettledIn, Known, Answered}
 use Rattle.fits.proofs.Remembered.{cleared, known-words}
-use Rattle.checks.specs.Seen.{Unlike}
-use Rattle.checks.specs.Under.{Noted}
-use Rattle.checks.specs.Uses.{usesIn, BY-NODE, BY-POLICY, markOf, Marked}
+use Rattle.seen.specs.Seen.{Unlike}
+use Rattle.uses.specs.Under.{Noted}
+use Rattle.uses.specs.Uses.{usesIn, BY-NODE, BY-POLICY, markOf, Marked}
 use Rattle.typing.specs.Links.{Shown}
 use Rattle.typing.specs.Rules.{nodeRule, Typed}
 use Rattle.typing.proofs.KeyRules.{line-node}
@@ -141,10 +141,9 @@ key-of-line a k r u e f = line-key (held [] a []) k (neither (leb (getD (greates
     neither true y h = h
     neither false y h = refl
 
--- ---- `in_turn`
-
-pub turn-again : (a : List ℕ) (k last : ℕ) → inOrder (held [] a []) last ≡ true → k ≡ last → true ≡ inOrder (held [] a []) k
-turn-again a k last h e = sym (rw e h)
+-- a depth that is not too deep is one word
+pub depth-low : (g : ℕ) (v : Bool) → v ≡ ltb 64 g → v ≡ false → g < 4294967296
+depth-low g v e f = omega (arith, ltb-false 64 g (sym e ∙ f))
 
 -- ---- slices of 16,384 words, cut to so many
 
@@ -237,85 +236,89 @@ module _ (sheet rows work r : List ℕ) (long-a : length rows ≡ room) (long-b 
           deep-is : g ≡ depth (held sheet a b) (keyOf r) (rowIn sheet (keyOf r) r)
           deep-is = depth-is ∙ ap (λ (t : Bool). cond t (depth (held sheet a b) (keyOf r) (rowIn sheet (keyOf r) r)) 0) found-is
 
-          pub judged-6 : 64 < g → (f n d : ℕ) → f ≡ 6 → Judged sheet rows work r (take room work ++ drop room work) f n d
-          judged-6 h f n d e =
-              stop f n d (λ q. absurd (omega arith))
-              (fault-deep (held sheet a b) (keyOf r) (rowIn sheet (keyOf r) r) ordered (sym many-is ∙ pu) found-is (lt-ltb 64 (depth (held sheet a b) (keyOf r) (rowIn sheet (keyOf r) r)) (omega (arith, deep-is))) ∙ sym e)
+          module _ (v : Bool) (hv : v ≡ ltb 64 g) where
+            limit-is : ltb 64 (depth (held sheet a b) (keyOf r) (rowIn sheet (keyOf r) r)) ≡ v
+            limit-is = ap (ltb 64) (sym deep-is) ∙ sym hv
 
-          module _ (pg : g ≤ 64) (b₁ : List ℕ) (y : Bool) (hy : TypedLine a b b₁ r k y) where
-            shallow : ltb 64 (depth (held sheet a b) (keyOf r) (rowIn sheet (keyOf r) r)) ≡ false
-            shallow = le-ltb 64 (depth (held sheet a b) (keyOf r) (rowIn sheet (keyOf r) r)) (omega (arith, deep-is))
+            pub judged-6 : v ≡ true → (f n d : ℕ) → f ≡ 6 → Judged sheet rows work r (take room work ++ drop room work) f n d
+            judged-6 h f n d e =
+                stop f n d (λ q. absurd (omega arith))
+                (fault-deep (held sheet a b) (keyOf r) (rowIn sheet (keyOf r) r) ordered (sym many-is ∙ pu) found-is (limit-is ∙ h) ∙ sym e)
 
-            typed-row : (j : ℕ) → typed (held sheet a b) r j ≡ typed (held sheet a b) (rowIn sheet j r) j
-            unfolding typed
-            typed-row j = go (ℕ-discrete j TEXT)
-              where
-                go : Dec (j ≡ TEXT) → typed (held sheet a b) r j ≡ typed (held sheet a b) (rowIn sheet j r) j
-                go (yes d) = rw d refl
-                go (no d) = rw (ne-eqb j TEXT d) refl
+            module _ (pg : v ≡ false) (b₁ : List ℕ) (y : Bool) (hy : TypedLine a b b₁ r k y) where
+              shallow : ltb 64 (depth (held sheet a b) (keyOf r) (rowIn sheet (keyOf r) r)) ≡ false
+              shallow = limit-is ∙ pg
 
-            type-is : SettledIn a → Shown a → y ≡ typed (held sheet a b) (rowIn sheet (keyOf r) r) (keyOf r)
-            type-is s w = hy .is sheet b s w ∙ typed-row k ∙ ap (λ (x : ℕ). typed (held sheet a b) (rowIn sheet x r) x) key-is
+              typed-row : (j : ℕ) → typed (held sheet a b) r j ≡ typed (held sheet a b) (rowIn sheet j r) j
+              unfolding typed
+              typed-row j = go (ℕ-discrete j TEXT)
+                where
+                  go : Dec (j ≡ TEXT) → typed (held sheet a b) r j ≡ typed (held sheet a b) (rowIn sheet j r) j
+                  go (yes d) = rw d refl
+                  go (no d) = rw (ne-eqb j TEXT d) refl
 
-            early₁ : keyOf r < ENTITY → b₁ ≡ b
-            early₁ h = hy .early (rw key-is h)
+              type-is : SettledIn a → Shown a → y ≡ typed (held sheet a b) (rowIn sheet (keyOf r) r) (keyOf r)
+              type-is s w = hy .is sheet b s w ∙ typed-row k ∙ ap (λ (x : ℕ). typed (held sheet a b) (rowIn sheet x r) x) key-is
 
-            pub judged-7 : not y ≡ true → (f n d : ℕ) → f ≡ 7 → Judged sheet rows work r (b₁ ++ drop room work) f n d
-            judged-7 h f n d e =
-                back b₁ f n d (record {
-                  number = λ s w. e ∙ sym (fault-typed (held sheet a b) (keyOf r) (rowIn sheet (keyOf r) r) ordered (sym many-is ∙ pu) found-is shallow (sym (type-is s w) ∙ not-true y h));
-                  key = λ q. absurd (omega arith);
-                  deep = λ q. absurd (omega arith);
-                  uses = λ q. absurd (omega arith);
-                  known = hy .known;
-                  early = λ h i l. ap (λ (x : List ℕ). getD x i 0) (early₁ h);
-                  depths = λ i m h l. depths-kept b b₁ i m h (hy .rest);
-                  rest = λ h. later b b₁ (hy .rest);
-                })
+              early₁ : keyOf r < ENTITY → b₁ ≡ b
+              early₁ h = hy .early (rw key-is h)
 
-            module _ (py : not y ≡ false) (b₂ : List ℕ) (x : Bool) (hx : Marked (markOf (keyOf r)) a b₁ (refs NODE r) b₂ x) where
-              uses-same : usesIn a b₁ ≡ usesIn a b
-              uses-same = depths-kept b b₁ USES (getD a NODE 0) (omega arith) (hy .rest)
-
-              refs-same : refs NODE r ≡ refs NODE (rowIn sheet (keyOf r) r)
-              refs-same = sym (refs-alike sheet (keyOf r) NODE r refl)
-
-              twice-is : x ≡ usedTwice (held sheet a b .used) (refs NODE (rowIn sheet (keyOf r) r))
-              twice-is = hx .twice-is ∙ ap₂ usedTwice uses-same refs-same ∙ ap (λ (l : List ℕ). usedTwice l (refs NODE (rowIn sheet (keyOf r) r))) (sym (used-of sheet a b))
-
-              kept-part : (i m : ℕ) → TYPEDEPTHS ≤ i → i + m ≤ USES → depthsAt b₂ i m ≡ depthsAt b i m
-              kept-part i m h l =
-                  let z : i + m - i ≡ m = omega arith in
-                  subst (λ (c : ℕ). take c (drop i b₂) ≡ take c (drop i b₁)) z (part-below USES b₁ b₂ (hx .below) i (i + m) (omega arith) l) ∙ depths-kept b b₁ i m h (hy .rest)
-
-              early₂ : keyOf r < ENTITY → (i : ℕ) → i < TYPEDEPTHS → getD b₂ i 0 ≡ getD b i 0
-              early₂ h i l = getD-below USES b₁ b₂ (hx .below) i (omega arith) ∙ ap (λ (c : List ℕ). getD c i 0) (early₁ h)
-
-              rest₂ : getD a NODE 0 ≤ 1024 → drop (USES + 1024) b₂ ≡ drop (USES + 1024) b
-              rest₂ h = hx .above h ∙ later b b₁ (hy .rest)
-
-              pub judged-8 : x ≡ true → (f n d : ℕ) → f ≡ 8 → Judged sheet rows work r (b₂ ++ drop room work) f n d
-              judged-8 h f n d e =
-                  back b₂ f n d (record {
-                    number = λ s w. e ∙ sym (fault-used (held sheet a b) (keyOf r) (rowIn sheet (keyOf r) r) ordered (sym many-is ∙ pu) found-is shallow (sym (type-is s w) ∙ not-false y py) (sym twice-is ∙ h));
+              pub judged-7 : not y ≡ true → (f n d : ℕ) → f ≡ 7 → Judged sheet rows work r (b₁ ++ drop room work) f n d
+              judged-7 h f n d e =
+                  back b₁ f n d (record {
+                    number = λ s w. e ∙ sym (fault-typed (held sheet a b) (keyOf r) (rowIn sheet (keyOf r) r) ordered (sym many-is ∙ pu) found-is shallow (sym (type-is s w) ∙ not-true y h));
                     key = λ q. absurd (omega arith);
                     deep = λ q. absurd (omega arith);
                     uses = λ q. absurd (omega arith);
-                    known = known-below a b₁ b₂ (hx .below) (hy .known);
-                    early = early₂;
-                    depths = kept-part;
-                    rest = rest₂;
+                    known = hy .known;
+                    early = λ h i l. ap (λ (x : List ℕ). getD x i 0) (early₁ h);
+                    depths = λ i m h l. depths-kept b b₁ i m h (hy .rest);
+                    rest = λ h. later b b₁ (hy .rest);
                   })
 
-              pub judged-0 : x ≡ false → Judged sheet rows work r (b₂ ++ drop room work) 0 k g
-              judged-0 h =
-                  back b₂ 0 k g (record {
-                    number = λ s w. sym (fault-none (held sheet a b) (keyOf r) (rowIn sheet (keyOf r) r) ordered (sym many-is ∙ pu) found-is shallow (sym (type-is s w) ∙ not-false y py) (sym twice-is ∙ h));
-                    key = λ q. key-is;
-                    deep = λ q. deep-is;
-                    uses = λ q. hx .uses h ∙ ap₂ (marked (markOf (keyOf r))) uses-same refs-same;
-                    known = known-below a b₁ b₂ (hx .below) (hy .known);
-                    early = early₂;
-                    depths = kept-part;
-                    rest = rest₂;
-                  })
+              module _ (py : not y ≡ false) (b₂ : List ℕ) (x : Bool) (hx : Marked (markOf (keyOf r)) a b₁ (refs NODE r) b₂ x) where
+                uses-same : usesIn a b₁ ≡ usesIn a b
+                uses-same = depths-kept b b₁ USES (getD a NODE 0) (omega arith) (hy .rest)
+
+                refs-same : refs NODE r ≡ refs NODE (rowIn sheet (keyOf r) r)
+                refs-same = sym (refs-alike sheet (keyOf r) NODE r refl)
+
+                twice-is : x ≡ usedTwice (held sheet a b .used) (refs NODE (rowIn sheet (keyOf r) r))
+                twice-is = hx .twice-is ∙ ap₂ usedTwice uses-same refs-same ∙ ap (λ (l : List ℕ). usedTwice l (refs NODE (rowIn sheet (keyOf r) r))) (sym (used-of sheet a b))
+
+                kept-part : (i m : ℕ) → TYPEDEPTHS ≤ i → i + m ≤ USES → depthsAt b₂ i m ≡ depthsAt b i m
+                kept-part i m h l =
+                    let z : i + m - i ≡ m = omega arith in
+                    subst (λ (c : ℕ). take c (drop i b₂) ≡ take c (drop i b₁)) z (part-below USES b₁ b₂ (hx .below) i (i + m) (omega arith) l) ∙ depths-kept b b₁ i m h (hy .rest)
+
+                early₂ : keyOf r < ENTITY → (i : ℕ) → i < TYPEDEPTHS → getD b₂ i 0 ≡ getD b i 0
+                early₂ h i l = getD-below USES b₁ b₂ (hx .below) i (omega arith) ∙ ap (λ (c : List ℕ). getD c i 0) (early₁ h)
+
+                rest₂ : getD a NODE 0 ≤ 1024 → drop (USES + 1024) b₂ ≡ drop (USES + 1024) b
+                rest₂ h = hx .above h ∙ later b b₁ (hy .rest)
+
+                pub judged-8 : x ≡ true → (f n d : ℕ) → f ≡ 8 → Judged sheet rows work r (b₂ ++ drop room work) f n d
+                judged-8 h f n d e =
+                    back b₂ f n d (record {
+                      number = λ s w. e ∙ sym (fault-used (held sheet a b) (keyOf r) (rowIn sheet (keyOf r) r) ordered (sym many-is ∙ pu) found-is shallow (sym (type-is s w) ∙ not-false y py) (sym twice-is ∙ h));
+                      key = λ q. absurd (omega arith);
+                      deep = λ q. absurd (omega arith);
+                      uses = λ q. absurd (omega arith);
+                      known = known-below a b₁ b₂ (hx .below) (hy .known);
+                      early = early₂;
+                      depths = kept-part;
+                      rest = rest₂;
+                    })
+
+                pub judged-0 : x ≡ false → Judged sheet rows work r (b₂ ++ drop room work) 0 k g
+                judged-0 h =
+                    back b₂ 0 k g (record {
+                      number = λ s w. sym (fault-none (held sheet a b) (keyOf r) (rowIn sheet (keyOf r) r) ordered (sym many-is ∙ pu) found-is shallow (sym (type-is s w) ∙ not-false y py) (sym twice-is ∙ h));
+                      key = λ q. key-is;
+                      deep = λ q. deep-is;
+                      uses = λ q. hx .uses h ∙ ap₂ (marked (markOf (keyOf r))) uses-same refs-same;
+                      known = known-below a b₁ b₂ (hx .below) (hy .known);
+                      early = early₂;
+                      depths = kept-part;
+                      rest = rest₂;
+                    })

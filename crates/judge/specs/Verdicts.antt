@@ -10,8 +10,8 @@ use Rattle.sheet.specs.Sheet.{found, depth, faultOf, marked}
 use Rattle.table.specs.Layout.{TYPEDEPTHS, USES, depthsAt, rowIn, held}
 use Rattle.fits.specs.Fit.{SettledIn, Known}
 use Rattle.typing.specs.Links.{Shown}
-use Rattle.checks.specs.Seen.{withSeen}
-use Rattle.checks.specs.Uses.{markOf, usesIn}
+use Rattle.seen.specs.Seen.{withSeen}
+use Rattle.uses.specs.Uses.{markOf, usesIn}
 
 -- the depth of a row of key k; 0 where what it refers to is not there, or the row is not new
 pub record NewDepth (sheet a b r : List ℕ) (k d : ℕ) : Type 0 where

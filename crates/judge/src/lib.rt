@@ -1,22 +1,24 @@
 // The refusal of a row, 3 to 8 in number order, against the rows that the words hold.
-use checks::in_order;
-use checks::is_text;
 use checks::new_depth;
 use checks::node_depth;
-use checks::see_line;
 use checks::too_many;
-use checks::use_nodes;
-use checks::use_root;
+use depths::is_too_deep;
 use forms::ENTITY;
 use forms::NO_KEY;
 use forms::NODE;
 use forms::TEXT;
+use order::in_turn;
+use order::nodes_full;
+use repeats::is_text;
+use seen::see_line;
 use table::bytes;
 use table::item;
 use table::key_of;
 use table::tag;
 use typing::lines::typed;
 use typing::nodes::node_typed;
+use uses::use_nodes;
+use uses::use_root;
 use words::ROOM;
 use words::cut;
 ghost use mathlib.Core.Path.{_≡_};
@@ -29,8 +31,8 @@ ghost use Rattle.sheet.specs.Forms.{keyOf, noKey, NODE};
 ghost use Rattle.sheet.specs.State.{linesOf};
 ghost use Rattle.sheet.specs.Sheet.{inOrder};
 ghost use Rattle.table.specs.Layout.{rowIn, held};
-ghost use Rattle.checks.specs.Seen.{Seen, Unlike};
-ghost use Rattle.checks.specs.Under.{Noted};
+ghost use Rattle.seen.specs.Seen.{Seen, Unlike};
+ghost use Rattle.uses.specs.Under.{Noted};
 ghost use Rattle.fits.specs.Fit.{Known};
 ghost use Rattle.judge.specs.Verdicts.{NewDepth, TypedLine, Judged, seenAt};
 
@@ -82,26 +84,9 @@ fn depth_of(sheet: &[u8], rows: &[u32], work: &[u32], key: usize, line: &[u32], 
     new_depth(rows, work, key, line, new)
 }
 
-// Whether a line of this key may come, as is known of one of the key `last`.
-fn in_turn(rows: &[u32], key: usize, last: usize) -> bool
-    requires { ⌜ (key ≤ noKey) × (inOrder (held [] (now rows) []) last ≡ true) ⌝ }
-    ensures { λ r. ⌜ r ≡ inOrder (held [] (now (rows .entry)) []) key ⌝ }
-{
-    if key == last {
-        return true;
-    }
-    in_order(rows, key)
-}
-
 // The refusal of a node's row, and where there is none its key and depth; the nodes that it uses are then marked. A line of the key `last`, that of
 // the line before, may come.
-fn judge_node(
-    sheet: &[u8],
-    rows: &[u32],
-    work: &mut [u32],
-    line: &[u32],
-    last: usize,
-) -> Verdict
+fn judge_node(sheet: &[u8], rows: &[u32], work: &mut [u32], line: &[u32], last: usize) -> Verdict
     requires { ⌜ (keyOf (now line) ≡ NODE) × (length (now rows) ≡ room) × (length (now work) ≡ room) × (inOrder (held (now sheet) (now rows) (now work)) last ≡ true) ⌝ }
     requires { ⌜ Known (now rows) (now work) × Noted (now rows) (now work) ⌝ }
     ensures { λ v. ⌜ Judged (now (sheet .entry)) (now (rows .entry)) (now (work .entry)) (now (line .entry)) (now (work .exit)) (v .number) (v .key) (v .depth) ⌝ }
@@ -111,14 +96,14 @@ fn judge_node(
     if !in_turn(rows, NODE, last) {
         return refused(3);
     }
-    if too_many(rows, work, NODE, line) {
+    if nodes_full(rows) {
         return refused(4);
     }
     let depth = node_depth(rows, work, line);
     if depth == 0 {
         return refused(5);
     }
-    if 64 < depth {
+    if is_too_deep(depth) {
         return refused(6);
     }
     if !node_typed(rows, work, line) {
@@ -160,7 +145,7 @@ fn judge(
     if d == 0 {
         return refused(5);
     }
-    if 64 < d {
+    if is_too_deep(d) {
         return refused(6);
     }
     if !typed_line(rows, work, line, key) {

@@ -1,4 +1,2 @@
-pub mod Finishing
-pub mod Entities
 pub mod Turns
 pub mod Loading

@@ -25,17 +25,17 @@ use Rattle.table.specs.Layout.{part, RUN, MADE, TOP, TYPEDEPTHS, USES, SPENT, h
 use Rattle.table.proofs.Rows.{limit-small, lines-held, count-held}
 use Rattle.table.proofs.Held.{tab-same, linesIn, lines-tab, depths-tab, counts-held}
 use Rattle.fits.proofs.Remembered as R
-use Rattle.checks.specs.Seen.{PLACE-WORDS, withSeen, Seen}
-use Rattle.checks.specs.Under.{Noted}
-use Rattle.checks.proofs.NotedLaws.{noted-blank}
-use Rattle.checks.proofs.SeenLaws.{seen-first, seen-more}
+use Rattle.seen.specs.Seen.{PLACE-WORDS, withSeen, Seen}
+use Rattle.uses.specs.Under.{Noted}
+use Rattle.uses.proofs.NotedLaws.{noted-blank}
+use Rattle.seen.proofs.SeenLaws.{seen-first, seen-more}
 use Rattle.judge.proofs.Alike.{count-alike}
 use Rattle.line.proofs.LawsLine.{entry-wide, entry-wider}
 use Rattle.take.specs.Steps.{Reached, before-any, after-line, Ready, taken, Taken}
 use Rattle.load.specs.Result.{Read}
-use Rattle.load.specs.Unfit.{unfitLine}
-use Rattle.load.proofs.Entities.{line-passes, line-unfit, closed-after}
-use Rattle.load.proofs.Finishing.{unlinked-same}
+use Rattle.ending.specs.Unfit.{unfitLine}
+use Rattle.ending.proofs.Entities.{line-passes, line-unfit, closed-after}
+use Rattle.ending.proofs.Finishing.{unlinked-same}
 use Rattle.load.proofs.Turns.{order-first, own-key, order-after}
 
 -- ---- the definition after a line

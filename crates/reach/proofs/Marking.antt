@@ -17,7 +17,8 @@ use Rattle.sheet.specs.Forms.{at, mark}
 use Rattle.sheet.specs.Parents.{lineFor, parentsIn, parents, ancestors}
 use Rattle.sheet.proofs.content.Reaching.{parents-are, closed-above, all-above}
 use Rattle.sheet.proofs.reading.Lines.{set-cases}
-use Rattle.reach.specs.Marks.{HIDDEN, FAR, placeOf, left, named, Queue, Grown, Noted, Opened, Taken, Spot, Skipped, Seen, Spread, Expanded, Self, unknownAt, Found}
+use Rattle.met.specs.Noting.{Noted, Skipped}
+use Rattle.reach.specs.Marks.{HIDDEN, FAR, placeOf, left, named, Queue, Grown, Opened, Taken, Spot, Seen, Spread, Expanded, Self, unknownAt, Found}
 
 -- ---- the place of a line
 
@@ -186,14 +187,14 @@ module _ (E : List (List ℕ)) (v : ℕ) (m q : List ℕ) (t : ℕ) (c : Queue E
 
 -- ---- parents are met
 
-noted-cases : {X : Type 0} (n v : ℕ) (m m₁ : List ℕ) → Noted n v m m₁ → (m₁ ≡ m → v < n → X) → (m₁ ≡ set m FAR 1 → X) → X
+noted-cases : {X : Type 0} (n v : ℕ) (m m₁ : List ℕ) → Noted FAR n v m m₁ → (m₁ ≡ m → v < n → X) → (m₁ ≡ set m FAR 1 → X) → X
 noted-cases {X} n v m m₁ d f g = go (ltb v n) refl
   where
     go : (b : Bool) → ltb v n ≡ b → X
     go true e = f (d .near (ltb-true v n e)) (ltb-true v n e)
     go false e = g (d .far (ltb-false v n e))
 
-pub noted-queue : (E : List (List ℕ)) (n v : ℕ) (m m₁ q : List ℕ) (t : ℕ) → Queue E m q t → Noted n v m m₁ → Queue E m₁ q t
+pub noted-queue : (E : List (List ℕ)) (n v : ℕ) (m m₁ q : List ℕ) (t : ℕ) → Queue E m q t → Noted FAR n v m m₁ → Queue E m₁ q t
 noted-queue E n v m m₁ q t c o = noted-cases n v m m₁ o (λ e h. subst (λ u. Queue E u q t) (sym e) c) (λ e. subst (λ u. Queue E u q t) (sym e) (queue-beside E m q t FAR c (let a = c .lines in omega (arith, a))))
 
 pub taken-on : (E : List (List ℕ)) (w m w′ m′ : List ℕ) (y : ℕ) → length w′ ≡ length w → ((k : ℕ) → 1 ≤ getD m k 0 → 1 ≤ getD m′ k 0) → ((z : ℕ) → 1 ≤ getD w z 0 → 1 ≤ getD w′ z 0) → Taken E w m y → Taken E w′ m′ y
@@ -211,7 +212,7 @@ seen-old E v w m q t c d h = seen-none E (v ∷ []) 1 w m q t c d go
     go (suc i) l = absurd (omega (arith, l))
 
 -- by one
-module _ (E : List (List ℕ)) (v : ℕ) (w m q : List ℕ) (t : ℕ) (c : Queue E m q t) (d : Spot E w m) (w′ : List ℕ) (ew : w′ ≡ set w v 1) (m₁ : List ℕ) (o : Noted (length w′) v m m₁) where
+module _ (E : List (List ℕ)) (v : ℕ) (w m q : List ℕ) (t : ℕ) (c : Queue E m q t) (d : Spot E w m) (w′ : List ℕ) (ew : w′ ≡ set w v 1) (m₁ : List ℕ) (o : Noted FAR (length w′) v m m₁) where
   longer : length w′ ≡ length w
   longer = ap length ew ∙ length-set w v 1
 

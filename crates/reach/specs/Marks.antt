@@ -86,16 +86,6 @@ pub record Grown (E : List (List ℕ)) (v : ℕ) (m q : List ℕ) (t : ℕ) (m�
   pub only : (k : ℕ) → k ≤ length E → 1 ≤ getD m′ k 0 → (1 ≤ getD m k 0) ⊎ (placeOf v E ≡ k)
   pub hidden : 1 ≤ getD m′ HIDDEN 0 → 1 ≤ getD m HIDDEN 0
 
--- where v is past a table of length n this is marked
-pub record Noted (n v : ℕ) (m m′ : List ℕ) : Type 0 where
-  pub near : v < n → m′ ≡ m
-  pub far : n ≤ v → m′ ≡ set m FAR 1
-
--- v was noted before, as b says, or it is noted
-pub record Entered (v : ℕ) (w m w′ m′ : List ℕ) (b : Bool) : Type 0 where
-  pub old : b ≡ true → (1 ≤ getD w v 0) × (w′ ≡ w) × (m′ ≡ m)
-  pub new : b ≡ false → (w′ ≡ set w v 1) × Noted (length w′) v m m′
-
 -- where item x is `?` this is marked
 pub record Opened (x : ℕ) (m m′ : List ℕ) : Type 0 where
   pub known : (x ≡ mark → ⊥) → m′ ≡ m
@@ -108,24 +98,6 @@ Taken E w m y = (1 ≤ getD m (placeOf y E) 0) × (y < length w → 1 ≤ getD w
 -- what the table notes is met
 pub record Spot (E : List (List ℕ)) (w m : List ℕ) : Type 0 where
   pub is : (y : ℕ) → 1 ≤ getD w y 0 → Taken E w m y
-
--- so many of a list are asked at a time
-abbrev pub RUN : ℕ
-RUN = 8
-
--- p holds of so many of l from place i on
-abbrev pub Run : (ℕ → Type 0) → List ℕ → ℕ → Type 0
-Run p l i = (k : ℕ) → i ≤ k → k < i + RUN → p (getD l k 0)
-
--- so many of l from place i on were met, where b says so
-pub record RunMet (w l : List ℕ) (i : ℕ) (b : Bool) : Type 0 where
-  pub is : b ≡ true → Run (λ x. 1 ≤ getD w x 0) l i
-
--- of l those from place i to j were met
-pub record Skipped (w l : List ℕ) (i j : ℕ) : Type 0 where
-  pub more : i ≤ j
-  pub near : j ≤ length l
-  pub is : (k : ℕ) → i ≤ k → k < j → 1 ≤ getD w (getD l k 0) 0
 
 -- the first n of l are met too, no others, and those whose lines were not marked are queued behind the others
 pub record Seen (E : List (List ℕ)) (l : List ℕ) (n : ℕ) (w m q : List ℕ) (t : ℕ) (w′ m′ q′ : List ℕ) (t′ : ℕ) : Type 0 where

@@ -4,6 +4,10 @@ use forms::ENTITY;
 use forms::MARK;
 use forms::SET_VALUE;
 use forms::VALUE;
+use met::byte;
+use met::note;
+use met::put_byte;
+use met::unmet;
 use table::base_of;
 use table::count;
 use table::item;
@@ -23,7 +27,7 @@ ghost use lib.ListN.{length, getD, set};
 ghost use Rattle.sheet.specs.Forms.{VALUE, at};
 ghost use Rattle.sheet.specs.Parents.{parentsIn};
 ghost use Rattle.table.specs.Layout.{rowsOf};
-ghost use Rattle.reach.specs.Marks.{LINES, VALUES, HIDDEN, FAR, lineRows, placeOf, named, RUN, Filled, Indexed, Listed, Queue, Entered, Opened, Grown, Spot, Run, RunMet, Skipped, Seen, Spread, Expanded, Found, markedAt, anyMarked, namesAt, isMet, anyMet};
+ghost use Rattle.reach.specs.Marks.{LINES, VALUES, HIDDEN, FAR, lineRows, placeOf, named, Filled, Indexed, Listed, Queue, Opened, Grown, Spot, Seen, Spread, Expanded, Found, markedAt, anyMarked, namesAt, isMet, anyMet};
 
 // The most entity lines, and the most values of a sheet: so many bytes has a table by value.
 pub const LINES: usize = 128;
@@ -32,9 +36,6 @@ pub const VALUES: usize = 1024;
 
 // So many words has the table of parents' sets: entities come first among the values, and a short table is soon cleared.
 const NEAR: usize = 384;
-
-// So many parents of a list are asked at a time, as most were met before.
-const RUN: usize = 8;
 
 // After the marks of the lines comes the one of all entities that are not listed, then, here, that of lines whose parents are unknown, and that of
 // parents whose numbers a table does not have.
@@ -92,25 +93,6 @@ pub fn values(rows: &[u32]) -> usize
 }
 
 // ---- tables by value: bytes, so that little is cleared for each question
-
-// A byte of a table, 0 past its end.
-pub fn byte(bytes: &[u8], i: usize) -> u8
-    ensures { λ r. ⌜ r ≡ getD (now (bytes .entry)) i 0 ⌝ }
-{
-    if i < bytes.len() {
-        return bytes[i];
-    }
-    0
-}
-
-// Another byte in the place of one; nothing is stored past the end.
-fn put_byte(bytes: &mut [u8], i: usize, byte: u8)
-    ensures { λ _. ⌜ now (bytes .exit) ≡ set (now (bytes .entry)) i byte ⌝ }
-{
-    if i < bytes.len() {
-        bytes[i] = byte;
-    }
-}
 
 // The byte of each entity becomes the place of its line: from the last line to the first, so that the first one stays. The others stay as many as
 // there are lines. The word of each entity becomes the last item of its line, the set of its parents. A line ends where the next one begins.
@@ -194,22 +176,6 @@ fn see_at(
     end + 1
 }
 
-// Notes a parent: whether it was noted before. One whose number the table does not have is marked as such.
-fn note(met: &mut [u8], marks: &mut [u32], value: u32) -> bool
-    ensures { λ r. ⌜ Entered value (now (met .entry)) (now (marks .entry)) (now (met .exit)) (now (marks .exit)) r ⌝ }
-{
-    let i = value as usize;
-    if i >= met.len() {
-        put(marks, FAR, 1);
-        return false;
-    }
-    if met[i] != 0 {
-        return true;
-    }
-    met[i] = 1;
-    false
-}
-
 // Parent `value` is met; where it was not before its line is marked.
 fn meet(
     rows: &[u32],
@@ -225,82 +191,10 @@ fn meet(
     requires { ⌜ Spot (lineRows (now rows)) (now met) (now marks) ⌝ }
     ensures { λ e. ⌜ Seen (lineRows (now (rows .entry))) (value ∷ []) 1 (now (met .entry)) (now (marks .entry)) (now (queue .entry)) end (now (met .exit)) (now (marks .exit)) (now (queue .exit)) e ⌝ }
 {
-    if note(met, marks, value) {
+    if note(met, marks, FAR, value) {
         return end;
     }
     see_at(rows, places, value, marks, queue, end)
-}
-
-// All the bits of eight words of a list: none of these is greater.
-fn bits(list: &[u32], from: usize) -> u32
-    requires { ⌜ from + RUN ≤ length (now list) ⌝ }
-    ensures { λ r. ⌜ Run (λ x. x ≤ r) (now (list .entry)) from ⌝ }
-{
-    list[from]
-        | list[from + 1]
-        | list[from + 2]
-        | list[from + 3]
-        | list[from + 4]
-        | list[from + 5]
-        | list[from + 6]
-        | list[from + 7]
-}
-
-// Whether eight parents of a list, whose numbers the table has, were met.
-fn near_met(met: &[u8], list: &[u32], from: usize) -> bool
-    requires { ⌜ from + RUN ≤ length (now list) ⌝ }
-    requires { ⌜ Run (λ x. x < length (now met)) (now list) from ⌝ }
-    ensures { λ r. ⌜ RunMet (now (met .entry)) (now (list .entry)) from r ⌝ }
-{
-    met[list[from] as usize]
-        & met[list[from + 1] as usize]
-        & met[list[from + 2] as usize]
-        & met[list[from + 3] as usize]
-        & met[list[from + 4] as usize]
-        & met[list[from + 5] as usize]
-        & met[list[from + 6] as usize]
-        & met[list[from + 7] as usize]
-        != 0
-}
-
-// Whether eight parents of a list were met; not where the table may not have one of their numbers.
-fn run_met(met: &[u8], list: &[u32], from: usize) -> bool
-    requires { ⌜ from + RUN ≤ length (now list) ⌝ }
-    ensures { λ r. ⌜ RunMet (now (met .entry)) (now (list .entry)) from r ⌝ }
-{
-    if bits(list, from) as usize >= met.len() {
-        return false;
-    }
-    near_met(met, list, from)
-}
-
-// The place in a list, from this one on, before which all parents were met, eight at a time.
-fn runs(met: &[u8], list: &[u32], from: usize) -> usize
-    requires { ⌜ from ≤ length (now list) ⌝ }
-    ensures { λ i. ⌜ Skipped (now (met .entry)) (now (list .entry)) from i ⌝ }
-{
-    let mut i = from;
-    while i + RUN <= list.len() {
-        if !run_met(met, list, i) {
-            return i;
-        }
-        i += RUN;
-    }
-    i
-}
-
-// The same, asked at every eighth place only: where one of eight was not met, they are met one by one.
-fn unmet(met: &[u8], list: &[u32], from: usize) -> usize
-    requires { ⌜ from ≤ length (now list) ⌝ }
-    ensures { λ i. ⌜ Skipped (now (met .entry)) (now (list .entry)) from i ⌝ }
-{
-    if from % RUN != 0 {
-        return from;
-    }
-    if list.len() - from < RUN {
-        return from;
-    }
-    runs(met, list, from)
 }
 
 // The parents of a list are met.

@@ -23,7 +23,7 @@ use Rattle.table.specs.Layout.{rowsOf, held, linesHeld}
 use Rattle.fits.specs.Fit.{declaredBy, kindsIn}
 use Rattle.fits.proofs.Sorts.{typeTable}
 use Rattle.fits.proofs.KindLaws.{items-two}
-use Rattle.typing.specs.Rules.{recordAt, attributeAt}
+use Rattle.typerows.specs.Types.{recordAt, attributeAt}
 use Rattle.rules.specs.Rules.{schemaAt, tyAt, typeLine, targetRow, lacking, recordRule}
 
 -- ---- each type over those before it

@@ -20,8 +20,9 @@ use Rattle.words.proofs.Bits.{added-is, length-added}
 use Rattle.table.specs.Layout.{rowsOf, held, linesHeld}
 use Rattle.fits.specs.Fit.{kindsIn, kindsFrom, kindsEnd, kindIn}
 use Rattle.fits.proofs.KindLaws.{kinds-first, kinds-next, kinds-end}
-use Rattle.typing.proofs.PathSets.{member-zeros}
-use Rattle.rules.specs.Rules.{KIND-WORDS, KINDS, KindSet, schemaAt, pairWith}
+use Rattle.typesets.proofs.Members.{member-zeros}
+use Rattle.typesets.specs.Sets.{KIND-WORDS}
+use Rattle.rules.specs.Rules.{KINDS, KindSet, schemaAt, pairWith}
 
 -- ---- the set
 

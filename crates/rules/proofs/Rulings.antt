@@ -23,9 +23,9 @@ use Rattle.table.specs.Layout.{rowsOf, held, linesHeld}
 use Rattle.fits.specs.Fit.{foundIn, kindsIn, kindsFrom, kindsEnd, kindIn}
 use Rattle.fits.specs.declared.Found as F
 use Rattle.fits.proofs.KindLaws.{kinds-first, kinds-next, kinds-end}
-use Rattle.typing.specs.Rules.{recordAt, attributeAt, attributeTypeAt, tagTypeAt, actionAt}
-use Rattle.typing.specs.Paths as Paths
-use Rattle.typing.proofs.PathSets.{member-zeros, each-none, each-added}
+use Rattle.typerows.specs.Types.{recordAt, attributeAt, attributeTypeAt, tagTypeAt, actionAt}
+use Rattle.typesets.specs.Sets as Paths
+use Rattle.typesets.proofs.Members.{member-zeros, each-none, each-added}
 use Rattle.words.specs.Bits.{member, added}
 use Rattle.rules.specs.Rules.{ruleIn, schemaAt, tyAt, typeLine, targetRow, pairWith, untagged, typeLacks, lacking, recordRule}
 use Rattle.rules.specs.declared.Rule.{Rule}

@@ -16,7 +16,7 @@ use Rattle.sheet.specs.Content.{types, schema}
 use Rattle.words.specs.Bits.{member}
 use Rattle.table.specs.Layout.{rowsOf, held}
 use Rattle.fits.specs.Fit.{kindsIn, kindIn}
-use Rattle.typing.specs.Rules.{recordAt, attributeAt}
+use Rattle.typerows.specs.Types.{recordAt, attributeAt}
 use Rattle.rules.specs.declared.Rule.{Rule}
 use Rattle.rules.specs.declared.Rule.the-variants.{Says, Silent}
 
@@ -25,10 +25,7 @@ abbrev pub ruleIn : Rule → Option Bool
 ruleIn (Says b) = some b
 ruleIn Silent = none
 
--- the words of a set of kinds, and the kinds that it has bits for
-abbrev pub KIND-WORDS : ℕ
-KIND-WORDS = 1
-
+-- the kinds that a set of kinds has bits for
 abbrev pub KINDS : ℕ
 KINDS = 32
 

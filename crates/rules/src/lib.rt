@@ -10,11 +10,13 @@ use forms::TYPE;
 use table::item;
 use table::row;
 use table::tag;
-use typing::types::attribute;
-use typing::types::attribute_type;
-use typing::types::is_action;
-use typing::types::record_of;
-use typing::types::tag_type;
+use typerows::attribute;
+use typerows::attribute_type;
+use typerows::is_action;
+use typerows::record_of;
+use typerows::tag_type;
+use typesets::KIND_WORDS;
+use typesets::TYPE_WORDS;
 use words::add;
 use words::has;
 ghost use mathlib.Core.Path.{_≡_};
@@ -24,8 +26,8 @@ ghost use Rattle.cedar.specs.Interpret.{alone};
 ghost use Rattle.cedar.specs.TypeRules.{unRule, binRule, relRule, hasRule};
 ghost use lib.ListN.{replicate};
 ghost use Rattle.fits.specs.Fit.{kindsIn, kindIn};
-ghost use Rattle.typing.specs.Paths.{Each};
-ghost use Rattle.rules.specs.Rules.{ruleIn, schemaAt, tyAt, targetRow, KIND-WORDS, KindSet, pairWith, untagged, typeLacks, lacking, recordRule};
+ghost use Rattle.typesets.specs.Sets.{KIND-WORDS, Each};
+ghost use Rattle.rules.specs.Rules.{ruleIn, schemaAt, tyAt, targetRow, KindSet, pairWith, untagged, typeLacks, lacking, recordRule};
 
 // What a rule says of a node, where it decides.
 pub enum Rule {
@@ -33,12 +35,8 @@ pub enum Rule {
     Silent,
 }
 
-// A sheet has no more kinds; the words of a set of them, and of a set of types.
+// A sheet has no more kinds.
 const KINDS: u32 = 32;
-
-const KIND_WORDS: usize = 1;
-
-const TYPE_WORDS: usize = 4;
 
 // ---- kinds
 

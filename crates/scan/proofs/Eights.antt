@@ -81,7 +81,7 @@ module _ (n w x : ℕ) (h : x < 256) where
 
 -- the marks of the lowest byte stand apart
 marks-block : (a p b q w x t : ℕ) → p < 256 → q < 256 → x < 256
-  → bitAnd (bitOr (bitOr (a * 256 + p) (b * 256 + q)) (w * 256 + x)) (t * 256 + 128) ≡ bitAnd (bitOr (bitOr a b) w) t * 256 + markOf p q x
+    → bitAnd (bitOr (bitOr (a * 256 + p) (b * 256 + q)) (w * 256 + x)) (t * 256 + 128) ≡ bitAnd (bitOr (bitOr a b) w) t * 256 + markOf p q x
 marks-block a p b q w x t hp hq hx =
     rw (or-block 8 a b p q hp hq, or-block 8 (bitOr a b) w (bitOr p q) x (or-lt 8 p q hp hq) hx)
     (and-block 8 (bitOr (bitOr a b) w) t (bitOr (bitOr p q) x) 128 (or-lt 8 (bitOr p q) x (or-lt 8 p q hp hq) hx) (omega arith))
@@ -191,8 +191,10 @@ marked-in (x ∷ l) h = go (marked-in l (λ j. h (suc j))) (decLt x 32) (decLt 1
   where
     e : x + 256 * bytesOf l ≡ bytesOf l * 256 + x
     e = omega arith
+
     turn : MarkedIn (x ∷ l) (bitsIn (suc (length l))) (marksIn (suc (length l)) (bytesOf l * 256 + x)) → MarkedIn (x ∷ l) (bitsIn (length (x ∷ l))) (marksIn (length (x ∷ l)) (bytesOf (x ∷ l)))
     turn q = rw e q
+
     go : MarkedIn l (bitsIn (length l)) (marksIn (length l) (bytesOf l)) → Dec (x < 32) → Dec (126 < x) → MarkedIn (x ∷ l) (bitsIn (length (x ∷ l))) (marksIn (length (x ∷ l)) (bytesOf (x ∷ l)))
     go q (yes a) b = turn (marked-other x l (bitsIn (length l)) _ (rw (lt-leb 32 x a) refl) (other-low (length l) (bytesOf l) x (h 0) a))
     go q (no a) (yes b) = turn (marked-other x l (bitsIn (length l)) _ (rw (le-leb 32 x (omega arith), lt-leb x 126 b) refl) (other-high (length l) (bytesOf l) x (h 0) b))

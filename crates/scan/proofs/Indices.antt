@@ -157,7 +157,7 @@ module _ (s : List ℕ) (n i : ℕ) (r : Reading s n i) where
 
 module _ (s : List ℕ) (n i : ℕ) (l : D.Leading) (e : l ≡ endedAt s n i) where
   ended-by : (length s ≤ i → D.the-variants.Index n i ≡ indexIn s) → (i < length s → getD s i 0 ≡ 44 → D.the-variants.Index n i ≡ indexIn s)
-    → (i < length s → (getD s i 0 ≡ 44 → ⊥) → D.the-variants.Other ≡ indexIn s) → l ≡ indexIn s
+      → (i < length s → (getD s i 0 ≡ 44 → ⊥) → D.the-variants.Other ≡ indexIn s) → l ≡ indexIn s
   ended-by f g k = e ∙ go (decLt i (length s)) (ℕ-discrete (getD s i 0) 44)
     where
       go : Dec (i < length s) → Dec (getD s i 0 ≡ 44) → endedAt s n i ≡ indexIn s

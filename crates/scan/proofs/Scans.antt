@@ -159,7 +159,7 @@ plain-all (suc n) [] e = absurd (omega (arith, e))
 plain-all (suc n) (x ∷ l) e = go (isPrintable x) (plain-all n l) e
   where
     go : (t : Bool) → (plainTo (take n l) ≡ n → plainTo l ≡ n + plainTo (drop n l)) → cond t (suc (plainTo (take n l))) 0 ≡ suc n
-       → cond t (suc (plainTo l)) 0 ≡ suc n + plainTo (drop n l)
+        → cond t (suc (plainTo l)) 0 ≡ suc n + plainTo (drop n l)
     go true f q = omega (arith, f (omega (arith, q)))
     go false f q = absurd (omega (arith, q))
 
@@ -169,7 +169,7 @@ plain-some (suc n) [] h = refl
 plain-some (suc n) (x ∷ l) h = go (isPrintable x) (plain-some n l) h
   where
     go : (t : Bool) → (plainTo (take n l) < n → plainTo l ≡ plainTo (take n l)) → cond t (suc (plainTo (take n l))) 0 < suc n
-       → cond t (suc (plainTo l)) 0 ≡ cond t (suc (plainTo (take n l))) 0
+        → cond t (suc (plainTo l)) 0 ≡ cond t (suc (plainTo (take n l))) 0
     go true f q = ap suc (f (omega arith))
     go false f q = refl
 

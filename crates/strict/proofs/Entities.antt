@@ -3,8 +3,7 @@ use mathlib.Core.Path.{_≡_, refl, sym, ap, _∙_}
 use mathlib.Core.Bool.{Bool, true, false, not, cond, _&&_}
 use mathlib.Core.Option.{Option, none, some}
 use mathlib.Core.List.{List, [], _∷_}
-use Prim.Native.Nat.{ℕ, suc, _+_, _≤_, _<_}
-use native.Mathlib.Numerals.{add-one}
+use Prim.Native.Nat.{ℕ, _+_, _≤_, _<_}
 use native.Mathlib.Omega.{arith}
 use borrow.Author.Tests.{not-true, not-false}
 use lib.Dec.{eqb}
@@ -14,9 +13,8 @@ use denote.Enum.Declared.{tagOf}
 use Rattle.value.proofs.Shape.{the-type}
 use Rattle.cedar.specs.Evaluate.{isNil}
 use Rattle.cedar.specs.Rows.{stop, Row, rbool, rlong, rtext, rent, rset, rrec}
-use Rattle.cedar.specs.Numbered.{NEnv, Give, made, old, NOut, give, fails, stays, truly, rEnt, rText, rRec, giveRow, memN, entryOf, isSome, orFail, allRent, nentity, nIn, nTargets, onEntries}
+use Rattle.cedar.specs.Numbered.{NEnv, Give, made, old, NOut, give, fails, stays, truly, rEnt, rText, rRec, giveRow, memN, entryOf, isSome, orFail, allRent, nentity, nIn, nTargets, onEntries, nlineOr}
 use Rattle.cedar.specs.Value.{onSome}
-use Rattle.cedar.specs.Numbered.{nlineOr}
 use Rattle.sheet.specs.Forms.{items, at, mark}
 use Rattle.sheet.specs.Content.{lookUp, nEnv, lineGiven, known}
 use Rattle.table.specs.Layout.{held}
@@ -25,16 +23,42 @@ use Rattle.value.specs.Shapes.{shapeOf, shapeRow}
 use Rattle.value.specs.declared.Shape.{Shape}
 use Rattle.value.specs.declared.Shape.the-variants.{Bool as Boolˢ, Long, Text, Entity, Set, Record}
 use Rattle.value.proofs.Lists.{Going, uncons, spent}
-use Rattle.strict.specs.Gives.{outOf, values, valueIn, modeOf, envIn}
-use Rattle.strict.specs.Lookups.{ATTRIBUTES, TAGS, stateIn, lineIn, lineBy, envBy, partOf, partOfLine, partIn, partBy, lookFound, lookRow, lookIn, lookOver, lookValue, lookAttr, lookBy, takenOf, presentOf, getOut, hasOut, tagLook, gettagOut, hastagOut, isRentAt, inUnknownOut, inListOut, inOut, walkStep, walkFrom}
+use Rattle.strict.specs.Gives.{outOf, modeOf, envIn}
+use Rattle.lookup.specs.Lookups.{values, valueIn, ATTRIBUTES, TAGS, stateIn, lineIn, lineBy, envBy, partOf, partOfLine, partIn, partBy, lookFound, lookRow, lookIn, lookOver, lookValue, lookBy}
+use Rattle.strict.specs.Entities.{takenOf, presentOf, getOut, hasOut, tagLook, gettagOut, hastagOut, isRentAt, inUnknownOut, inListOut, inOut}
 use Rattle.strict.specs.declared.Given.{Given}
-use Rattle.strict.specs.declared.Given.the-variants.{Bool as Boolᵍ, Fails, Stays}
-use Rattle.strict.specs.declared.entity.Part.{Part}
-use Rattle.strict.specs.declared.entity.Look.{Look}
-use Rattle.strict.specs.declared.entity.Look.the-variants.{At as Atˡ, Missing, Unknown as Unknownˡ, Bad}
-use Rattle.strict.specs.declared.entity.Walked.{Walked}
-use Rattle.strict.specs.declared.entity.Walked.the-variants.{Holds, Fails as Failsʷ, Left}
-use Rattle.strict.proofs.Shapes.{value-shape, other-text, other-entity}
+use Rattle.strict.specs.declared.Given.the-variants.{Bool as Boolᵍ, Fails, Stays, Old}
+use Rattle.lookup.specs.declared.Part.{Part}
+use Rattle.lookup.specs.declared.Look.{Look}
+use Rattle.lookup.specs.declared.Look.the-variants.{At as Atˡ, Missing, Unknown as Unknownˡ, Bad}
+use Rattle.lookup.proofs.Shapes.{value-shape, other-text, other-entity}
+
+-- ---- what was found
+
+module _ (l : Look) where
+  pub taken-at : (x : ℕ) → l ≡ Atˡ x → Old x ≡ takenOf l
+  taken-at x e = rw e
+
+  pub taken-missing : l ≡ Missing → Fails ≡ takenOf l
+  taken-missing e = rw e
+
+  pub taken-unknown : (k : ℕ) → l ≡ Unknownˡ k → Stays ≡ takenOf l
+  taken-unknown k e = rw e
+
+  pub taken-bad : l ≡ Bad → Fails ≡ takenOf l
+  taken-bad e = rw e
+
+  pub present-at : (x : ℕ) → l ≡ Atˡ x → Boolᵍ true ≡ presentOf l
+  present-at x e = rw e
+
+  pub present-missing : l ≡ Missing → Boolᵍ false ≡ presentOf l
+  present-missing e = rw e
+
+  pub present-unknown : (k : ℕ) → l ≡ Unknownˡ k → Stays ≡ presentOf l
+  present-unknown k e = rw e
+
+  pub present-bad : l ≡ Bad → Fails ≡ presentOf l
+  present-bad e = rw e
 
 -- ---- known parts: what stands for one, where e does for nothing at all
 
@@ -263,44 +287,3 @@ module _ (c : Bool) (a : List ℕ) (m n : ℕ) (q : List ℕ) (s : Shape) (eq : 
         go (Entity i u) y = absurd (miss (0 ∷ 1 ∷ 2 ∷ 5 ∷ []) 3 tt y)
         go Set y = absurd (miss (0 ∷ 1 ∷ 2 ∷ 5 ∷ []) 4 tt y)
         go Record y = refl
-
--- ---- a path that leads to w
-
-pub record Walking (c : Bool) (a : List ℕ) (w : Walked) (path : List ℕ) (n i : ℕ) : Type 0 where
-  pub near : i ≤ length path
-  pub left : w ≡ walkFrom c a n i (drop i path)
-
-pub walk-start : (c : Bool) (a : List ℕ) (path : List ℕ) (n i : ℕ) → i ≤ length path → Walking c a (walkFrom c a n i (drop i path)) path n i
-walk-start c a path n i h = record { near = h; left = refl }
-
-nil-drop : (l : List ℕ) (i : ℕ) → length l ≤ i → isNil (drop i l) ≡ true
-nil-drop l i h = ap isNil (spent l i h)
-
-cons-drop : (l : List ℕ) (i : ℕ) → i < length l → isNil (drop i l) ≡ false
-cons-drop l i h = ap isNil (uncons l 0 i h)
-
-module _ (c : Bool) (a : List ℕ) (w : Walked) (path : List ℕ) (n i : ℕ) (g : Walking c a w path n i) where
-  pub walk-end : length path ≤ i → Failsʷ ≡ w
-  unfolding walkFrom
-  walk-end h = sym (g .left ∙ ap (walkFrom c a n i) (spent path i h))
-
-  module _ (h : i < length path) (l : Look) (el : l ≡ lookAttr c a n (getD path i 0)) where
-    walk-one : walkFrom c a n i (drop i path) ≡ walkStep n i l (isNil (drop (i + 1) path)) (λ x. walkFrom c a x (suc i) (drop (i + 1) path))
-    unfolding walkFrom
-    walk-one = ap (walkFrom c a n i) (uncons path 0 i h) ∙ ap (λ (x : Look). walkStep n i x (isNil (drop (i + 1) path)) (λ y. walkFrom c a y (suc i) (drop (i + 1) path))) (sym el)
-
-    pub walk-bad : l ≡ Bad → Failsʷ ≡ w
-    walk-bad e = sym (g .left ∙ walk-one ∙ rw e)
-
-    pub walk-missing : l ≡ Missing → Holds false ≡ w
-    walk-missing e = sym (g .left ∙ walk-one ∙ rw e)
-
-    pub walk-unknown : (k : ℕ) → l ≡ Unknownˡ k → Left n k i ≡ w
-    walk-unknown k e = sym (g .left ∙ walk-one ∙ rw e)
-
-    module _ (x : ℕ) (e : l ≡ Atˡ x) where
-      pub walk-last : length path ≤ i + 1 → Holds true ≡ w
-      walk-last m = sym (g .left ∙ walk-one ∙ rw (e, nil-drop path (i + 1) m))
-
-      pub walk-on : i + 1 < length path → Walking c a w path x (i + 1)
-      walk-on m = record { near = omega arith; left = g .left ∙ walk-one ∙ rw (e, cons-drop path (i + 1) m, ← (add-one i)) }

@@ -1,11 +1,4 @@
-pub mod Shapes
 pub mod Plain
-pub mod Finds
-pub mod Halving
 pub mod Entities
-pub mod Leaping
-pub mod Noting
-pub mod Chaining
 pub mod Parents
 pub mod Links
-pub mod Leading

@@ -16,8 +16,9 @@ use Rattle.sheet.specs.Forms.{Mode, partial, complete, at, VALUE, ENTITY}
 use Rattle.sheet.specs.State.{valueRow}
 use Rattle.table.specs.Layout.{rowsOf, textAt, held, linesHeld}
 use Rattle.table.proofs.Rows.{text-held}
-use Rattle.strict.specs.Gives.{values, valueIn, modeOf, envIn, longsOut, notOut, negOut, emptyOut, isOut, likeOut, arithOut, containsOut, allOut, anyOut}
-use Rattle.strict.specs.Lookups.{envBy, getOut, hasOut, gettagOut, hastagOut, inOut}
+use Rattle.lookup.specs.Lookups.{values, valueIn, envBy}
+use Rattle.strict.specs.Gives.{modeOf, envIn, longsOut, notOut, negOut, emptyOut, isOut, likeOut, arithOut, containsOut, allOut, anyOut}
+use Rattle.strict.specs.Entities.{getOut, hasOut, gettagOut, hastagOut, inOut}
 
 -- ---- one operand
 

@@ -19,8 +19,9 @@ use Rattle.value.specs.declared.Entry.the-variants.{At, Nothing}
 use Rattle.reach.specs.Marks.{LINES, HIDDEN, lineRows, Found, anyMet}
 use Rattle.reach.proofs.Asking.{meets-is, open-is}
 use Rattle.reach.proofs.Steps.{any-none}
-use Rattle.strict.specs.Gives.{outOf, values, modeOf}
-use Rattle.strict.specs.Lookups.{stateIn, lineBy, envBy, lineAt, aboveIn, Unknowns, Above, inLineOut, inUnlistedOut, inUnknownOut, inListOut}
+use Rattle.strict.specs.Gives.{outOf, modeOf}
+use Rattle.lookup.specs.Lookups.{values, stateIn, lineBy, envBy, lineAt}
+use Rattle.strict.specs.Entities.{aboveIn, Unknowns, Above, inLineOut, inUnlistedOut, inUnknownOut, inListOut}
 use Rattle.strict.specs.declared.Given.{Given}
 use Rattle.strict.specs.declared.Given.the-variants.{Bool as Boolᵍ, Stays}
 

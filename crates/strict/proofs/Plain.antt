@@ -27,10 +27,11 @@ use Rattle.value.specs.Lines.{valueLines}
 use Rattle.value.specs.Shapes.{shapeOf}
 use Rattle.value.specs.declared.Shape.{Shape}
 use Rattle.value.specs.declared.Shape.the-variants.{Bool as Boolˢ, Long, Text, Entity, Set}
-use Rattle.strict.specs.Gives.{outOf, valueIn, longOut, longsOut, notOut, negOut, emptyOut, isOut, likeOut, arithOut, containsOut, allOut, anyOut}
+use Rattle.strict.specs.Gives.{outOf, longOut, longsOut, notOut, negOut, emptyOut, isOut, likeOut, arithOut, containsOut, allOut, anyOut}
+use Rattle.lookup.specs.Lookups.{valueIn}
 use Rattle.strict.specs.declared.Given.{Given}
 use Rattle.strict.specs.declared.Given.the-variants.{Bool as Boolᵍ, Long as Longᵍ, Fails}
-use Rattle.strict.proofs.Shapes.{value-shape, other-bool, other-long, other-text, other-entity, other-set}
+use Rattle.lookup.proofs.Shapes.{value-shape, other-bool, other-long, other-text, other-entity, other-set}
 
 -- ---- longs in range
 

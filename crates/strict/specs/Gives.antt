@@ -8,13 +8,12 @@ use lib.IntN.{ℤ, negℤ, _+ℤ_, _-ℤ_, _*ℤ_}
 use lib.Signed.{ltZ, leZ}
 use Rattle.cedar.specs.Rows.{Row, rlong}
 use Rattle.cedar.specs.Evaluate.{matches, isNil}
-use Rattle.cedar.specs.Numbered.{NEnv, NOut, give, fails, stays, made, old, truly, nlong, rowAt, memN, allN, anyN, rBool, rLong, rText, rEnt, rSet}
+use Rattle.cedar.specs.Numbered.{NEnv, NOut, give, fails, stays, made, old, truly, nlong, memN, allN, anyN, rBool, rLong, rText, rEnt, rSet}
 use Rattle.forms.specs.Tags.{LT, LE, ADD, SUB}
 use Rattle.sheet.specs.Bytes.{longAt}
 use Rattle.sheet.specs.Forms.{Mode, partial, complete}
-use Rattle.sheet.specs.Content.{rowsIn, patternOf, nEnv}
+use Rattle.sheet.specs.Content.{patternOf, nEnv}
 use Rattle.table.specs.Layout.{held}
-use Rattle.value.specs.Lines.{valueLines}
 use Rattle.strict.specs.declared.Given.{Given}
 use Rattle.strict.specs.declared.Given.the-variants.{Bool as Boolᵍ, Long, Old, Fails, Stays}
 
@@ -24,13 +23,6 @@ outOf (Long w) = give (made (rlong (longAt w)))
 outOf (Old n) = give (old n)
 outOf Fails = fails
 outOf Stays = stays
-
--- the values by number
-unfoldable pub values : List ℕ → List Row
-values a = rowsIn (valueLines a)
-
-unfoldable pub valueIn : List ℕ → ℕ → Row
-valueIn a v = rowAt (values a) v
 
 abbrev pub modeOf : Bool → Mode
 modeOf true = complete

@@ -1,6 +1,2 @@
 pub mod Gives
-pub mod Lookups
-pub mod Leaps
-pub mod Noted
-pub mod Chains
-pub mod Firsts
+pub mod Entities

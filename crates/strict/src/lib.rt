@@ -1,20 +1,16 @@
-// The strict operations on values by number: what each gives, without making it. Those that look at entities stand in `entity`,
-// chains of their lines in `chains`, leaps over the entries of records in `entries`, attributes of entities in cells in `firsts`.
-pub mod chains;
+// The strict operations on values by number: what each gives, without making it. Those that look at entities stand in `entity`.
 pub mod entity;
-pub mod entries;
-pub mod firsts;
 
 use forms::ADD;
 use forms::LE;
 use forms::LT;
 use forms::SUB;
+use like::like;
 use long::Checked;
 use table::text;
 use value::Shape;
 use value::contains;
 use value::covers;
-use value::like::like;
 use value::meets;
 use value::members;
 use value::row_of;
@@ -25,7 +21,8 @@ ghost use Rattle.cedar.specs.Numbered.{truly};
 ghost use Rattle.sheet.specs.Bytes.{longAt};
 ghost use Rattle.table.specs.Layout.{textAt};
 ghost use Rattle.long.specs.Ranged.{numberOf};
-ghost use Rattle.strict.specs.Gives.{outOf, valueIn, longOut, longsOut, notOut, negOut, emptyOut, isOut, likeOut, arithOut, containsOut, allOut, anyOut};
+ghost use Rattle.strict.specs.Gives.{outOf, longOut, longsOut, notOut, negOut, emptyOut, isOut, likeOut, arithOut, containsOut, allOut, anyOut};
+ghost use Rattle.lookup.specs.Lookups.{valueIn};
 
 // What an operation gives: a bool, a long as its number plus 2^63, a value that has a number, an error, or nothing yet.
 pub enum Given {

@@ -15,8 +15,8 @@ use Rattle.sheet.specs.State.{State, linesOf, depthsOf}
 use Rattle.sheet.specs.Sheet.{deepest, depth, marked, more}
 use Rattle.table.specs.Layout.{TYPEDEPTHS, VALUEDEPTHS, NODEDEPTHS, USES, depthsAt, rowsOf, held, limits, limit, depthBase, depthBases, depthsIn, rowIn}
 use Rattle.table.proofs.Held.{used-of, held-more}
-use Rattle.checks.proofs.DepthLaws.{no-base}
-use Rattle.checks.specs.Uses.{BY-NODE, BY-POLICY, markOf, usesIn}
+use Rattle.depths.proofs.DepthLaws.{no-base}
+use Rattle.uses.specs.Uses.{BY-NODE, BY-POLICY, markOf, usesIn}
 use Rattle.take.specs.Steps.{withDepth}
 
 -- ---- stores in regions

@@ -16,9 +16,9 @@ use Rattle.table.specs.Layout.{TOP, heap, TYPEDEPTHS, VALUEDEPTHS, NODEDEPTHS, 
 use Rattle.table.proofs.Frame.{rows-kept, word-kept, last-was, sound-kept}
 use Rattle.table.proofs.Held.{held-same}
 use Rattle.fits.proofs.Remembered.{known-kept, known-words}
-use Rattle.checks.specs.Seen.{Seen}
-use Rattle.checks.specs.Under.{Noted}
-use Rattle.checks.proofs.NotedLaws.{noted-other}
+use Rattle.seen.specs.Seen.{Seen}
+use Rattle.uses.specs.Under.{Noted}
+use Rattle.uses.proofs.NotedLaws.{noted-other}
 use Rattle.take.specs.Steps.{Reached, Ready, taken, Taken}
 use Rattle.take.proofs.Noting.{noted-near}
 

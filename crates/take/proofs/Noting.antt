@@ -9,9 +9,9 @@ use lib.ListN.{length, getD, take, drop, set, length-set}
 use lib.Seq.{take-set-le, drop-set-lt, getD-drop}
 use Rattle.sheet.specs.Forms.{NODE, POLICY}
 use Rattle.table.specs.Layout.{part, TOP, USES, SIZES, SLOTS, SPENT, rowsOf, limits, limit}
-use Rattle.checks.specs.declared.Under as U
-use Rattle.checks.specs.Under.{underRow, spentOn, Noted}
-use Rattle.checks.proofs.NotedLaws.{stored, noted-other, noted-policy, noted-node}
+use Rattle.uses.specs.declared.Under as U
+use Rattle.uses.specs.Under.{underRow, spentOn, Noted}
+use Rattle.uses.proofs.NotedLaws.{stored, noted-other, noted-policy, noted-node}
 use Rattle.take.specs.Steps.{withDepth, withUnder, notesOf, withNotes}
 use Rattle.take.proofs.Committing.{line-words}
 

@@ -25,11 +25,11 @@ use Rattle.table.proofs.Frame.{rows-kept, word-kept, sound-kept, top-new, count
 use Rattle.table.proofs.Held.{held-same}
 use Rattle.fits.specs.Fit.{SettledIn, Known}
 use Rattle.fits.proofs.Remembered.{cleared, settled-held, known-kept, known-words}
-use Rattle.checks.specs.Uses.{markOf, usesIn}
-use Rattle.checks.specs.Under.{Noted}
-use Rattle.checks.specs.Seen.{withSeen, Seen}
-use Rattle.checks.proofs.NotedLaws.{noted-other}
-use Rattle.checks.proofs.SeenLaws.{key-alike}
+use Rattle.uses.specs.Uses.{markOf, usesIn}
+use Rattle.uses.specs.Under.{Noted}
+use Rattle.seen.specs.Seen.{withSeen, Seen}
+use Rattle.uses.proofs.NotedLaws.{noted-other}
+use Rattle.seen.proofs.SeenLaws.{key-alike}
 use Rattle.typing.specs.Links.{Shown}
 use Rattle.typing.proofs.Levels.{shown-reached}
 use Rattle.judge.specs.Verdicts.{Judged, seenAt}

@@ -10,8 +10,8 @@ use Rattle.sheet.specs.State.{State, empty}
 use Rattle.sheet.specs.Sheet.{fault, more}
 use Rattle.table.specs.Layout.{RUN, MADE, TOP, TYPEDEPTHS, VALUEDEPTHS, NODEDEPTHS, USES, SIZES, SLOTS, SPENT, part, Last, Sound, held}
 use Rattle.fits.specs.Fit.{Known}
-use Rattle.checks.specs.declared.Under as U
-use Rattle.checks.specs.Under.{underRow, spentOn, Noted}
+use Rattle.uses.specs.declared.Under as U
+use Rattle.uses.specs.Under.{underRow, spentOn, Noted}
 
 -- a line's depth, where lines of its key have one; a node is not yet used
 unfoldable pub withDepth : List ℕ → ℕ → ℕ → ℕ → List ℕ

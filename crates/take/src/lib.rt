@@ -1,6 +1,4 @@
 // A line of a sheet read: its row is written past the rows that the words hold, judged there, and added.
-use checks::under_of;
-use checks::uses_with;
 use forms::NODE;
 use forms::POLICY;
 use forms::TYPE;
@@ -18,6 +16,8 @@ use table::USES;
 use table::VALUEDEPTHS;
 use table::add_row;
 use table::count;
+use uses::under_of;
+use uses::uses_with;
 use words::ROOM;
 use words::cut;
 use words::put;
@@ -31,8 +31,8 @@ ghost use Rattle.sheet.specs.Forms.{rowOfValue};
 ghost use Rattle.sheet.specs.Sheet.{inOrder};
 ghost use Rattle.table.specs.Layout.{TOP, SPENT, heap, withRow, held};
 ghost use Rattle.line.specs.Codes.{modeOf};
-ghost use Rattle.checks.specs.Seen.{withSeen, Seen};
-ghost use Rattle.checks.specs.Under.{underRow, spentOn};
+ghost use Rattle.seen.specs.Seen.{withSeen, Seen};
+ghost use Rattle.uses.specs.Under.{underRow, spentOn};
 ghost use Rattle.take.specs.Steps.{withDepth, withUnder, notesOf, withNotes, Reached, Ready, Taken};
 
 fn put_depth(work: &mut [u32], key: usize, number: u32, depth: u32)

@@ -20,12 +20,12 @@ use Rattle.tpe.specs.Steps.{oneSteps, oneAt, twoSteps, twoAt, manyAt}
 
 -- ---- each of a list, and the one of a number
 
-data Each {A : Type 0} (Q : A → Type 0) : List A → Type 0 where
+pub data Each {A : Type 0} (Q : A → Type 0) : List A → Type 0 where
   done : Each Q []
   _&_ : {x : A} {l : List A} → Q x → Each Q l → Each Q (x ∷ l)
 
 infixr 5 _&_
-each-at : {A : Type 0} (Q : A → Type 0) (d : A) → Q d → (l : List A) (i : ℕ) → Each Q l → Q (getD l i d)
+pub each-at : {A : Type 0} (Q : A → Type 0) (d : A) → Q d → (l : List A) (i : ℕ) → Each Q l → Q (getD l i d)
 each-at Q d h [] i e = h
 each-at Q d h (x ∷ l) zero (k & e) = k
 each-at Q d h (x ∷ l) (suc i) (k & e) = each-at Q d h l i e

@@ -16,8 +16,9 @@ use Rattle.forms.specs.Tags.{EQ, LT, MUL, IN, GETTAG, HASTAG, CONTAINS, ALL, AN
 use Rattle.sheet.specs.Forms.{partial, items, at, NODE}
 use Rattle.sheet.specs.Content.{schema, patternOf}
 use Rattle.table.specs.Layout.{rowsOf, textAt, held}
-use Rattle.strict.specs.Gives.{outOf, values, valueIn, longsOut, notOut, negOut, emptyOut, isOut, likeOut, arithOut, containsOut, allOut, anyOut}
-use Rattle.strict.specs.Lookups.{getOut, hasOut, gettagOut, hastagOut, inOut}
+use Rattle.strict.specs.Gives.{outOf, longsOut, notOut, negOut, emptyOut, isOut, likeOut, arithOut, containsOut, allOut, anyOut}
+use Rattle.lookup.specs.Lookups.{values, valueIn}
+use Rattle.strict.specs.Entities.{getOut, hasOut, gettagOut, hastagOut, inOut}
 use Rattle.strict.specs.declared.Given.{Given}
 use Rattle.strict.proofs.Links.{like-link, bytes-link}
 use Rattle.rules.specs.Rules.{ruleIn, schemaAt, tyAt}

@@ -22,7 +22,7 @@ use Rattle.sheet.proofs.content.PoliciesRead.{item-there}
 use Rattle.sheet.proofs.content.Environment.{there-value, entity-read}
 use Rattle.table.specs.Layout.{rowsOf, held, linesHeld}
 use Rattle.strict.proofs.Links.{same-lines}
-use Rattle.strict.proofs.Halving.{Single}
+use Rattle.lookup.proofs.Halving.{Single}
 
 module _ (m : Mode) (s : State) (h : History m s) where
   -- a value has one number
@@ -67,7 +67,7 @@ module _ (m : Mode) (s : State) (h : History m s) where
       go : (b : Bool) → sameRow (valueAt s (at x 0)) (rent k t) ≡ b → sameRow (valueAt s (at x 0)) (rent k t) ≡ false
       go true p =
           let z = same-number (at x 0) (at (getD rs i []) 0) (named pre x (h ENTITY pre x rs e)) (all-named (pre ++ (x ∷ [])) rs (one-on pre x rs e) i (omega (arith, l)))
-              (sameRow-true (valueAt s (at x 0)) (rent k t) p ∙ sym (sameRow-true (valueAt s (at (getD rs i []) 0)) (rent k t) q)) in
+          (sameRow-true (valueAt s (at x 0)) (rent k t) p ∙ sym (sameRow-true (valueAt s (at (getD rs i []) 0)) (rent k t) q)) in
           let y = later-above pre x rs e i (omega (arith, l)) in
           absurd (omega (arith, z, y))
       go false p = p

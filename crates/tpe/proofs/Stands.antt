@@ -27,8 +27,8 @@ use Rattle.residual.specs.Rows.{litRow, errRow, leftRow, wordAt, stageAt}
 use Rattle.residual.specs.Errs.{errs}
 use Rattle.residual.specs.Trees.{Res, rlit, rerr, rleft, Ress, flat, flats, countRes, leftTree, suits, tyAt, treeOf, treesOf, Whole, whole-lit, whole-err, whole-left, Wholes, whole-none, whole-more}
 use Rattle.residual.proofs.Meaning.{stageFor, stage-is, type-is, can-error-is}
-use Rattle.strict.specs.Lookups.{envBy}
-use Rattle.strict.proofs.Halving.{Single, single-env}
+use Rattle.lookup.specs.Lookups.{envBy}
+use Rattle.lookup.proofs.Halving.{Single, single-env}
 use Rattle.tpe.proofs.Reach.{reach, asks, reach-most, reach-asked}
 use Rattle.tpe.specs.Run.{O, left, litOf, errOf, leftOf, madeOf, schemaIn, tyIn, envIn}
 

@@ -36,16 +36,17 @@ use Rattle.rules.specs.Rules.{ruleIn, schemaAt}
 use Rattle.rules.specs.declared.Rule.{Rule}
 use Rattle.rules.specs.declared.Rule.the-variants.{Says}
 use Rattle.rules.proofs.Same.{has-same, has-kind-same}
-use Rattle.strict.specs.Gives.{outOf, values, valueIn}
+use Rattle.strict.specs.Gives.{outOf}
+use Rattle.lookup.specs.Lookups.{values, valueIn, lookAttr}
 use Rattle.strict.specs.Gives as G
-use Rattle.strict.specs.Lookups.{lookAttr, walkStep}
-use Rattle.strict.specs.Lookups as S
+use Rattle.walk.specs.Walks.{walkStep}
+use Rattle.walk.specs.Walks as S
 use Rattle.strict.proofs.Entities.{lookAs, in-value}
 use Rattle.strict.specs.declared.Given.{Given}
-use Rattle.strict.specs.declared.entity.Look.{Look}
-use Rattle.strict.specs.declared.entity.Look.the-variants.{At, Missing, Unknown as Unknownˡ, Bad}
-use Rattle.strict.specs.declared.entity.Walked.{Walked}
-use Rattle.strict.specs.declared.entity.Walked.the-variants.{Holds, Fails, Left}
+use Rattle.lookup.specs.declared.Look.{Look}
+use Rattle.lookup.specs.declared.Look.the-variants.{At, Missing, Unknown as Unknownˡ, Bad}
+use Rattle.walk.specs.declared.Walked.{Walked}
+use Rattle.walk.specs.declared.Walked.the-variants.{Holds, Fails, Left}
 use Rattle.tpe.specs.Run.{left, leftOf, madeOf, Walk, lost, says, stuck, walkFrom, entityType, schemaIn, tyIn, envIn, unmovedOf, stuckOf, walkedOf, pathBy, pathOf, settleOf}
 use Rattle.tpe.specs.Leaves.{Leaves}
 use Rattle.tpe.specs.Gives.{oneRule, unlessErr, walkIn, Taken, ruleOr}

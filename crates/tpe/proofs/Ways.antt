@@ -24,7 +24,7 @@ use Rattle.residual.specs.Rows.{litRow, leftRow, stageAt}
 use Rattle.residual.specs.Errs.{errs}
 use Rattle.residual.specs.declared.Stage.{Stage}
 use Rattle.residual.specs.declared.Stage.the-variants.{Value, Error, Open}
-use Rattle.strict.proofs.Shapes.{row-in}
+use Rattle.lookup.proofs.Shapes.{row-in}
 use Rattle.tpe.specs.Run.{litOf, madeOf, leftOf, decidedBy, classBy}
 use Rattle.tpe.specs.Classes.{classIn}
 use Rattle.tpe.specs.Leaves.{Leaves}

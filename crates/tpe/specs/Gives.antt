@@ -16,9 +16,9 @@ use Rattle.value.specs.Made.{setRow, recordRow}
 use Rattle.residual.specs.declared.Stage.{Stage}
 use Rattle.residual.specs.declared.Stage.the-variants.{Value, Error, Open}
 use Rattle.rules.specs.Rules.{schemaAt, tyAt}
-use Rattle.strict.specs.Lookups.{envBy}
-use Rattle.strict.specs.declared.entity.Walked.{Walked}
-use Rattle.strict.specs.declared.entity.Walked.the-variants.{Holds, Fails, Left}
+use Rattle.lookup.specs.Lookups.{envBy}
+use Rattle.walk.specs.declared.Walked.{Walked}
+use Rattle.walk.specs.declared.Walked.the-variants.{Holds, Fails, Left}
 use Rattle.tpe.specs.Run.{schemaIn, valueIn, Walk, lost, says, stuck}
 use Rattle.tpe.specs.declared.steps.Pair.{Pair}
 use Rattle.tpe.specs.declared.steps.Pair.the-variants.{Values, Error as Errorᵖ, Open as Openᵖ}

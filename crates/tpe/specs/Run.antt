@@ -27,7 +27,7 @@ use Rattle.residual.specs.Rows.{litRow, errRow, leftRow, wordAt, stageAt}
 use Rattle.residual.specs.Errs.{errs}
 use Rattle.residual.specs.declared.Stage.{Stage}
 use Rattle.residual.specs.declared.Stage.the-variants.{Value, Error, Open}
-use Rattle.strict.specs.Lookups.{envBy}
+use Rattle.lookup.specs.Lookups.{envBy}
 
 -- what is left: the words with what was made, and the log, which has one block more
 pub record O : Type 0 where

@@ -17,8 +17,11 @@ use Rattle.table.specs.Layout.{rowsOf, held, linesHeld}
 use Rattle.table.proofs.Rows.{count-rows}
 use Rattle.fits.specs.Fit.{full, hasIn, completeIn, declaredBy, Answered}
 use Rattle.fits.proofs.Sorts.{typeTable}
-use Rattle.typing.specs.Links.{TYPES, Shown, slotFits, slotsFitIn, rootAt, linkRule}
-use Rattle.typing.specs.Rules.{BOOL-SORT, LONG-SORT, STRING-SORT, ENTITY-SORT, SET-SORT, sortNumber, sortAt, kindsAt, elementAt, recordAt, attributeAt, bareAt, attributeTypeAt, tagTypeAt, isAboveAt, actionAt, ofRecord, ofKind, eachAt, declaresAs, tagsAre, targetAt, requestAt, nodeTypeAt, pathFrom, pathAt, allOf, argsFit, childAt, twoSorts, threeSorts, requestIs, contextIsAt, varRule, eqRule, inRule, gettagRule, containsRule, twoSetsRule, ifRule, getRule, hasRule, haspathRule, setRule, recordRule, slotRule, nodeRules, nodeRule, shapeRule, contextRule, policyRule, attributesRule, tagsRule, ancestorRule, parentsRule, entityRule, typedRule, Typed}
+use Rattle.typesets.specs.Sets.{TYPES}
+use Rattle.typing.specs.Links.{Shown, slotFits, slotsFitIn, rootAt, linkRule}
+use Rattle.typerows.specs.Types.{BOOL-SORT, LONG-SORT, STRING-SORT, ENTITY-SORT, SET-SORT, sortNumber, sortAt, kindsAt, elementAt, recordAt, attributeAt, bareAt, attributeTypeAt, tagTypeAt, isAboveAt, actionAt, ofRecord, ofKind, eachAt, declaresAs, tagsAre, targetAt, requestAt}
+use Rattle.typing.specs.Rules.{nodeTypeAt, allOf, argsFit, childAt, twoSorts, threeSorts, requestIs, contextIsAt, varRule, eqRule, inRule, gettagRule, containsRule, twoSetsRule, ifRule, getRule, hasRule, haspathRule, setRule, recordRule, slotRule, nodeRules, nodeRule, shapeRule, contextRule, policyRule, attributesRule, tagsRule, ancestorRule, parentsRule, entityRule, typedRule, Typed}
+use Rattle.pathtypes.specs.Paths.{pathFrom, pathAt}
 
 -- ---- tests on a type are tests on its sort
 

@@ -20,7 +20,8 @@ use Rattle.fits.specs.declared.Found as F
 use Rattle.fits.proofs.Walks.{next}
 use Rattle.fits.proofs.Sorts.{sort-tag, no-entity, no-set, no-record}
 use Rattle.typing.specs.Links.{linkRule}
-use Rattle.typing.specs.Rules.{BOOL-SORT, sortAt, recordAt, bareAt, attributeTypeAt, tagTypeAt, isAboveAt, actionAt, childAt, nodeRule, shapeRule, contextRule, policyRule, attributesRule, tagsRule, ancestorRule, parentsRule, entityRule, typedRule}
+use Rattle.typerows.specs.Types.{BOOL-SORT, sortAt, recordAt, bareAt, attributeTypeAt, tagTypeAt, isAboveAt, actionAt}
+use Rattle.typing.specs.Rules.{childAt, nodeRule, shapeRule, contextRule, policyRule, attributesRule, tagsRule, ancestorRule, parentsRule, entityRule, typedRule}
 
 -- an answer that asks for no pair
 pub plain : (a m : List ℕ) (x b : Bool) → Known a m → b ≡ x → Answered a m m x b

@@ -18,7 +18,8 @@ use Rattle.sheet.proofs.reading.Depths.{Reached, Deep, Depths, reached-depths, 
 use Rattle.sheet.proofs.reading.Limits.{lines-at-most}
 use Rattle.table.specs.Layout.{linesHeld, held}
 use Rattle.table.proofs.Rows.{count-rows}
-use Rattle.typing.specs.Links.{TYPES, seenBelow, seenFrom, Shown}
+use Rattle.typesets.specs.Sets.{TYPES}
+use Rattle.typing.specs.Links.{seenBelow, seenFrom, Shown}
 
 module _ (s : State) where
   -- nothing is under a node that is not there, and nothing is shown of it

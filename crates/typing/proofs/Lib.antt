@@ -1,15 +1,7 @@
-pub mod Typings
-pub mod KindWalks
-pub mod FirstBit
-pub mod PathSets
-pub mod KnownSets
-pub mod StepLaws
-pub mod PlaceLaws
-pub mod PathLaws
+pub mod Levels
 pub mod Rulings
 pub mod Operations
 pub mod KeyRules
 pub mod SeenSets
 pub mod LinkLaws
-pub mod Levels
 pub mod Joined

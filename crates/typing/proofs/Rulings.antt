@@ -11,7 +11,7 @@ use lib.ListN.{length, getD, drop, drop-of-length-le, length-drop}
 use lib.Seq.{take-all}
 use Rattle.cedar.specs.Value.{onSome}
 use Rattle.sheet.specs.Bytes.{same}
-use Rattle.sheet.specs.Forms.{tag, TYPE, PRINCIPAL, ACTION, RESOURCE, CONTEXT}
+use Rattle.sheet.specs.Forms.{tag, TYPE, PRINCIPAL, ACTION, RESOURCE, CONTEXT, NODE}
 use Rattle.sheet.specs.Typing.{allIn}
 use Rattle.forms.specs.Tags.{ENTITY-TYPE, PART-P, PART-A, PART-R}
 use Rattle.words.specs.Log.{part}
@@ -19,9 +19,21 @@ use Rattle.table.specs.Layout.{rowsOf}
 use Rattle.fits.specs.Fit.{kindsIn, foundIn, completeIn}
 use Rattle.fits.specs.declared.Found as F
 use Rattle.fits.proofs.Walks.{next, entries-end, entries-one, entries-on}
-use Rattle.typing.proofs.Typings.{kinds-is, kinds-not}
-use Rattle.typing.proofs.KindWalks.{each-kinds, each-record}
-use Rattle.typing.specs.Rules.{always, BOOL-SORT, STRING-SORT, ENTITY-SORT, SET-SORT, sortAt, elementAt, recordAt, attributeAt, targetAt, requestAt, ofRecord, ofKind, declaresAs, tagsAre, pathAt, allOf, argsFit, childAt, twoSorts, threeSorts, requestIs, contextIsAt, varRule, eqRule, inRule, gettagRule, containsRule, twoSetsRule, ifRule, getRule, hasRule, haspathRule, setRule, recordRule, slotRule}
+use Rattle.typerows.proofs.Typings.{kinds-is, kinds-not}
+use Rattle.typerows.proofs.KindWalks.{each-kinds, each-record}
+use Rattle.typerows.specs.Types.{always, BOOL-SORT, STRING-SORT, ENTITY-SORT, SET-SORT, sortAt, elementAt, recordAt, attributeAt, targetAt, requestAt, ofRecord, ofKind, declaresAs, tagsAre}
+use Rattle.pathtypes.specs.Paths.{pathAt}
+use Rattle.typing.specs.Rules.{nodeTypeAt, allOf, argsFit, childAt, twoSorts, threeSorts, requestIs, contextIsAt, varRule, eqRule, inRule, gettagRule, containsRule, twoSetsRule, ifRule, getRule, hasRule, haspathRule, setRule, recordRule, slotRule}
+
+-- ---- the types of a node and its children
+
+pub node-type-is : (a q : List ℕ) (n x : ℕ) → q ≡ getD (rowsOf a NODE) n [] → x ≡ getD q 1 0 → x ≡ nodeTypeAt a n
+unfolding nodeTypeAt
+node-type-is a q n x eq ex = rw (← eq) ex
+
+pub child-is : (a r : List ℕ) (i n x : ℕ) → n ≡ getD r i 0 → x ≡ nodeTypeAt a n → x ≡ childAt a r i
+unfolding childAt
+child-is a r i n x en ex = rw (← en) ex
 
 -- ---- sorts
 
@@ -218,28 +230,6 @@ module _ (a r : List ℕ) where
     pub haspath-is : (x : ℕ) (b : Bool) → s ≡ BOOL-SORT → x ≡ childAt a r 2 → b ≡ pathAt a r x → b ≡ haspathRule a r
     unfolding haspathRule
     haspath-is x b h ex eb = rw (← eo, ← es, eq-eqb s BOOL-SORT h, ← ex) eb
-
--- ---- what a record type declares
-
-module _ (a : List ℕ) (z t o : ℕ) (f : F.Found) (ef : foundIn f ≡ recordAt a z) where
-  pub declares-none : f ≡ F.the-variants.Undeclared → false ≡ ofRecord a (declaresAs a t o) z
-  unfolding ofRecord
-  declares-none h = let e : recordAt a z ≡ none = sym ef ∙ ap foundIn h in rw e
-
-  module _ (y : ℕ) (g : F.Found) (h : f ≡ F.the-variants.As y) (eg : foundIn g ≡ attributeAt a y t) where
-    pub declares-not : g ≡ F.the-variants.Undeclared → false ≡ ofRecord a (declaresAs a t o) z
-    unfolding ofRecord declaresAs
-    declares-not k =
-        let e : recordAt a z ≡ some y = sym ef ∙ ap foundIn h in
-        let d : attributeAt a y t ≡ none = sym eg ∙ ap foundIn k in
-        rw (e, d)
-
-    pub declares-some : (x : ℕ) → g ≡ F.the-variants.As x → eqb o x ≡ ofRecord a (declaresAs a t o) z
-    unfolding ofRecord declaresAs
-    declares-some x k =
-        let e : recordAt a z ≡ some y = sym ef ∙ ap foundIn h in
-        let d : attributeAt a y t ≡ some x = sym eg ∙ ap foundIn k in
-        rw (e, d)
 
 -- ---- sets
 

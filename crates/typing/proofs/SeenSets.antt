@@ -1,10 +1,9 @@
--- A set of numbers that were found to pass a test: its members are not asked again.
+-- A set of the kinds above a kind: its members are not asked again.
 use mathlib.Core.Path.{_≡_, refl, sym, subst, _∙_}
-use mathlib.Core.Bool.{Bool, true, false, not}
+use mathlib.Core.Bool.{Bool, true, not}
 use mathlib.Core.List.{List, [], _∷_}
 use Prim.Native.Nat.{ℕ, _+_, _≤_, _<_}
-use native.Mathlib.Omega.{arith}
-use borrow.Author.Tests.{not-true, not-false, eq-eqb}
+use borrow.Author.Tests.{eq-eqb}
 use Rattle.cedar.proofs.Tools.{or-left, or-right}
 use lib.Dec.{eqb}
 use lib.ListN.{length, getD, drop, replicate, drop-of-length-le}
@@ -14,38 +13,11 @@ use Rattle.forms.specs.Tags.{ENTITY-VALUE}
 use Rattle.words.specs.Bits.{member, added}
 use Rattle.table.specs.Layout.{rowsOf}
 use Rattle.fits.proofs.Walks.{next}
-use Rattle.typing.specs.Rules.{isAboveAt, ancestorRule, ofRecord}
-use Rattle.typing.specs.Paths.{WORDS, KIND-WORDS, Each, withAll, aboveAt}
-use Rattle.typing.proofs.PathSets.{member-zeros, each-none, each-added}
+use Rattle.typesets.specs.Sets.{KIND-WORDS, Each, withAll}
+use Rattle.typesets.proofs.Members.{each-zeros, seen-is, each-added}
+use Rattle.typerows.specs.Types.{isAboveAt}
+use Rattle.typing.specs.Rules.{ancestorRule, aboveAt}
 use Rattle.typing.proofs.KeyRules.{ancestor-yes}
-
--- ---- what is in the set passes
-
-empty : (n : ℕ) (f : ℕ → Bool) → Each (replicate n 0) f
-empty n f = each-none (replicate n 0) f (member-zeros n)
-
-seen-is : (s : List ℕ) (f : ℕ → Bool) → Each s f → (x : ℕ) (b : Bool) → b ≡ member s x → b ≡ true → true ≡ f x
-seen-is s f e x b eb h = sym (e .at x (omega arith) (sym eb ∙ h))
-
--- ---- record types
-
-module _ (a : List ℕ) (g : ℕ → Bool) where
-  pub records-none : Each (replicate WORDS 0) (ofRecord a g)
-  records-none = empty WORDS (ofRecord a g)
-
-  module _ (y : ℕ) (b : Bool) where
-    pub record-seen : (s : List ℕ) → Each s (ofRecord a g) → b ≡ member s y → b ≡ true → true ≡ ofRecord a g y
-    record-seen s e = seen-is s (ofRecord a g) e y b
-
-    module _ (eb : b ≡ ofRecord a g y) where
-      pub record-fails : not b ≡ true → false ≡ ofRecord a g y
-      record-fails h = sym (not-true b h) ∙ eb
-
-      pub record-passes : not b ≡ false → true ≡ ofRecord a g y
-      record-passes h = sym (not-false b h) ∙ eb
-
-      pub record-joins : (s v : List ℕ) → Each s (ofRecord a g) → not b ≡ false → v ≡ added s y → Each v (ofRecord a g)
-      record-joins s v e h ev = subst (λ (u : List ℕ). Each u (ofRecord a g)) (sym ev) (each-added s (ofRecord a g) y e (sym (record-passes h)))
 
 -- ---- all numbers of a list
 
@@ -77,7 +49,7 @@ pub above-set : (a : List ℕ) (k : ℕ) (w v : List ℕ) → w ≡ replicate KI
 unfolding isAboveAt
 above-set a k w v ew ev =
     subst (λ (u : List ℕ). Each u (isAboveAt a k)) (sym ev)
-    (all-pass (aboveAt a k) w (isAboveAt a k) (subst (λ (u : List ℕ). Each u (isAboveAt a k)) (sym ew) (empty KIND-WORDS (isAboveAt a k))) (λ x m. m))
+    (all-pass (aboveAt a k) w (isAboveAt a k) (subst (λ (u : List ℕ). Each u (isAboveAt a k)) (sym ew) (each-zeros KIND-WORDS (isAboveAt a k))) (λ x m. m))
 
 -- ---- an entity whose kind is in the set
 

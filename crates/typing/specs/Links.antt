@@ -11,10 +11,7 @@ use Rattle.sheet.specs.Typing.{nodesUnder, isSlot, slotValue}
 use Rattle.forms.specs.Rows.{OF-NODE}
 use Rattle.table.specs.Layout.{rowsOf, held}
 use Rattle.fits.specs.Fit.{full}
-
--- a sheet has no more types
-abbrev pub TYPES : ℕ
-TYPES = 128
+use Rattle.typesets.specs.Sets.{TYPES}
 
 -- what f shows of the nodes l that stand before node n
 unfoldable pub seenBelow : (ℕ → List (List ℕ)) → ℕ → List ℕ → List (List ℕ)

@@ -2,5 +2,3 @@
 pub mod lines;
 pub mod links;
 pub mod nodes;
-pub mod paths;
-pub mod types;

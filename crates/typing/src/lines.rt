@@ -2,14 +2,6 @@
 use crate::links::link_typed;
 use crate::nodes::child;
 use crate::nodes::node_typed;
-use crate::types::BOOL_SORT;
-use crate::types::attribute_type;
-use crate::types::is_above;
-use crate::types::is_action;
-use crate::types::is_bare;
-use crate::types::record_of;
-use crate::types::sort;
-use crate::types::tag_type;
 use fits::Found;
 use fits::tags_fit;
 use fits::value_fits;
@@ -32,28 +24,25 @@ use table::count;
 use table::item;
 use table::row;
 use table::tag;
+use typerows::BOOL_SORT;
+use typerows::attribute_type;
+use typerows::is_above;
+use typerows::is_action;
+use typerows::is_bare;
+use typerows::record_of;
+use typerows::request;
+use typerows::sort;
+use typerows::tag_type;
+use typesets::KIND_WORDS;
 use words::add;
 use words::has;
 ghost use mathlib.Core.Path.{_≡_};
 ghost use Rattle.sheet.specs.Forms.{ENTITY, CONTEXT, NODE, LINK};
 ghost use Rattle.fits.specs.Fit.{Known, Answered};
-ghost use Rattle.typing.specs.Rules.{
-  shapeRule,
-  contextRule,
-  policyRule,
-  attributesRule,
-  tagsRule,
-  isAboveAt,
-  ancestorRule,
-  parentsRule,
-  entityRule,
-  typedRule,
-  Typed,
-};
-ghost use Rattle.typing.specs.Paths.{Each, aboveAt, withAll};
-
-// The words of a set of kinds: a sheet has at most 32.
-pub const KIND_WORDS: usize = 1;
+ghost use Rattle.typing.specs.Rules.{shapeRule, contextRule, policyRule, attributesRule, tagsRule, ancestorRule, parentsRule, entityRule, typedRule, Typed};
+ghost use Rattle.typerows.specs.Types.{isAboveAt};
+ghost use Rattle.typesets.specs.Sets.{Each, withAll};
+ghost use Rattle.typing.specs.Rules.{aboveAt};
 
 // ---- shapes
 

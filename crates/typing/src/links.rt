@@ -12,8 +12,6 @@ use table::row;
 use table::tag;
 ghost use mathlib.Core.Path.{_≡_};
 ghost use Prim.Native.Nat.{_<_};
-ghost use lib.ListN.{getD};
-ghost use mathlib.Core.List.{[]};
 ghost use Rattle.sheet.specs.Forms.{refs, NODE};
 ghost use Rattle.sheet.specs.Typing.{slotValue};
 ghost use Rattle.table.specs.Layout.{rowsOf};

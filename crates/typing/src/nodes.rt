@@ -1,20 +1,4 @@
 // The typing of nodes: one rule for each operation.
-use crate::paths::WORDS;
-use crate::paths::path_typed;
-use crate::types::BOOL_SORT;
-use crate::types::ENTITY_SORT;
-use crate::types::LONG_SORT;
-use crate::types::SET_SORT;
-use crate::types::STRING_SORT;
-use crate::types::attribute;
-use crate::types::attribute_type;
-use crate::types::element_of;
-use crate::types::is_record;
-use crate::types::is_target;
-use crate::types::record_of;
-use crate::types::request;
-use crate::types::sort;
-use crate::types::tag_type;
 use fits::Found;
 use fits::complete;
 use fits::kinds_end;
@@ -58,12 +42,27 @@ use forms::SLOT;
 use forms::SUB;
 use forms::TYPE;
 use forms::VAR;
+use pathtypes::path_typed;
 use table::item;
 use table::row;
 use table::tag;
-use words::add;
+use typerows::BOOL_SORT;
+use typerows::ENTITY_SORT;
+use typerows::LONG_SORT;
+use typerows::SET_SORT;
+use typerows::STRING_SORT;
+use typerows::attribute;
+use typerows::declares;
+use typerows::element_of;
+use typerows::is_record;
+use typerows::is_target;
+use typerows::kinds_declare;
+use typerows::kinds_have;
+use typerows::record_of;
+use typerows::request;
+use typerows::sort;
+use typerows::tag_type;
 use words::cut;
-use words::has;
 ghost use mathlib.Core.Path.{_≡_};
 ghost use Prim.Native.Nat.{_-_, _≤_};
 ghost use lib.ListN.{drop};
@@ -71,35 +70,8 @@ ghost use Rattle.sheet.specs.Forms.{tag, firstNode};
 ghost use Rattle.forms.specs.Tags.{ERR, CONTAINS, ALL, SLOT};
 ghost use Rattle.sheet.specs.Typing.{allIn};
 ghost use Rattle.fits.specs.Fit.{kindsIn, Known, Answered};
-ghost use Rattle.typing.specs.Rules.{
-  always,
-  nodeTypeAt,
-  ofRecord,
-  ofKind,
-  declaresAs,
-  tagsAre,
-  allOf,
-  argsFit,
-  childAt,
-  twoSorts,
-  threeSorts,
-  requestIs,
-  varRule,
-  eqRule,
-  inRule,
-  gettagRule,
-  containsRule,
-  twoSetsRule,
-  ifRule,
-  getRule,
-  hasRule,
-  haspathRule,
-  setRule,
-  recordRule,
-  slotRule,
-  nodeRule,
-};
-ghost use Rattle.typing.specs.Paths.{Each};
+ghost use Rattle.typerows.specs.Types.{tagsAre};
+ghost use Rattle.typing.specs.Rules.{nodeTypeAt, allOf, argsFit, childAt, twoSorts, threeSorts, requestIs, varRule, eqRule, inRule, gettagRule, containsRule, twoSetsRule, ifRule, getRule, hasRule, haspathRule, setRule, recordRule, slotRule, nodeRule};
 
 // ---- the types of a node and its children
 
@@ -257,53 +229,6 @@ fn if_typed(rows: &[u32], line: &[u32]) -> bool
 
 // ---- attributes
 
-// Whether a type is a record type that declares type `own` for an attribute.
-fn declares(rows: &[u32], ty: u32, text: u32, own: u32) -> bool
-    ensures { λ b. ⌜ b ≡ ofRecord (now (rows .entry)) (declaresAs (now (rows .entry)) text own) ty ⌝ }
-{
-    let f = record_of(rows, ty);
-    let Found::As(y) = f else {
-        return false;
-    };
-    let g = attribute(rows, y, text);
-    let Found::As(z) = g else {
-        return false;
-    };
-    own == z
-}
-
-// The same, with a set of types of which it is so; a type that is looked up joins it.
-fn declares_once(rows: &[u32], seen: &mut [u32], ty: u32, text: u32, own: u32) -> bool
-    requires { ⌜ Each (now seen) (ofRecord (now rows) (declaresAs (now rows) text own)) ⌝ }
-    ensures { λ b. ⌜ (b ≡ ofRecord (now (rows .entry)) (declaresAs (now (rows .entry)) text own) ty) × Each (now (seen .exit)) (ofRecord (now (rows .entry)) (declaresAs (now (rows .entry)) text own)) ⌝ }
-{
-    if has(seen, ty as usize) {
-        return true;
-    }
-    if !declares(rows, ty, text, own) {
-        return false;
-    }
-    add(seen, ty as usize);
-    true
-}
-
-// The same of each kind of an entity type's row.
-fn kinds_declare(rows: &[u32], type_row: &[u32], text: u32, own: u32) -> bool
-    ensures { λ b. ⌜ b ≡ allIn (ofKind (now (rows .entry)) (declaresAs (now (rows .entry)) text own)) (kindsIn (now («type_row» .entry))) ⌝ }
-{
-    let mut seen = [0u32; WORDS];
-    let end = kinds_end(type_row);
-    let mut i: usize = 1;
-    while i < end {
-        let y = attribute_type(rows, item(type_row, i));
-        if !declares_once(rows, &mut seen, y, text, own) {
-            return false;
-        }
-        i += 1;
-    }
-    true
-}
-
 fn get_typed(rows: &[u32], line: &[u32]) -> bool
     ensures { λ b. ⌜ b ≡ getRule (now (rows .entry)) (now (line .entry)) ⌝ }
 {
@@ -313,21 +238,6 @@ fn get_typed(rows: &[u32], line: &[u32]) -> bool
         return kinds_declare(rows, q, item(line, 3), item(line, 1));
     }
     declares(rows, y, item(line, 3), item(line, 1))
-}
-
-// Whether the attributes of each kind of an entity type's row have a record type.
-fn kinds_have(rows: &[u32], type_row: &[u32]) -> bool
-    ensures { λ b. ⌜ b ≡ allIn (ofKind (now (rows .entry)) always) (kindsIn (now («type_row» .entry))) ⌝ }
-{
-    let end = kinds_end(type_row);
-    let mut i: usize = 1;
-    while i < end {
-        if !is_record(rows, attribute_type(rows, item(type_row, i))) {
-            return false;
-        }
-        i += 1;
-    }
-    true
 }
 
 fn has_typed(rows: &[u32], line: &[u32]) -> bool

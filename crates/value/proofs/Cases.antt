@@ -1,40 +1,13 @@
 -- The definitions on small cases. Assumes nothing.
 use mathlib.Core.Path.{_≡_, refl}
-use mathlib.Core.Bool.{Bool, true, false}
-use mathlib.Core.List.{List, [], _∷_}
+use mathlib.Core.Bool.{true}
+use mathlib.Core.List.{[], _∷_}
 use mathlib.Core.Option.{none, some}
-use Prim.Native.Nat.{ℕ}
-use lib.ListN.{getD}
-use Rattle.cedar.specs.Evaluate.{matches}
-use Rattle.sheet.specs.Content.{patternOf}
 use Rattle.forms.specs.Tags.{BOOL-VALUE, LONG-VALUE, ENTITY-VALUE, SET-VALUE, RECORD-VALUE, RECORD-OF}
-use Rattle.sheet.specs.Forms.{mark}
 use Rattle.value.specs.Lines.{placeOf}
 use Rattle.value.specs.Shapes.{shapeOf}
 use Rattle.value.specs.Made.{valuesIn, setRow, pairsOf, recordRow, lowerOf, leastOf}
-use Rattle.value.specs.Globs.{misses, endsAt, starAt, holds, fails, onTo, begins, blockOf, laterOf, stepOf}
 use Rattle.value.specs.declared.Shape.the-variants.{Bool as Boolˢ, Long, Entity, Set}
-
--- texts 0 `a`, 1 `ab`, 2 empty
-texts : ℕ → List ℕ
-texts t = getD ((97 ∷ []) ∷ (97 ∷ 98 ∷ []) ∷ [] ∷ []) t []
-
-block-cases : List Bool
-unfolding texts
-block-cases = matches texts (patternOf []) [] ∷ matches texts (patternOf []) (97 ∷ []) ∷ matches texts (patternOf (mark ∷ 1 ∷ [])) (97 ∷ 97 ∷ 98 ∷ [])
-    ∷ matches texts (patternOf (0 ∷ mark ∷ [])) (98 ∷ []) ∷ []
-
-like-is : block-cases ≡ true ∷ false ∷ true ∷ false ∷ []
-unfolding texts block-cases
-like-is = refl
-
-blocks : (blockOf texts 0 0 (0 ∷ mark ∷ 1 ∷ []) (97 ∷ 97 ∷ 98 ∷ []) ≡ starAt 2 1) × (blockOf texts 2 1 (1 ∷ []) (97 ∷ 98 ∷ []) ≡ endsAt 3) × (blockOf texts 2 2 (1 ∷ []) (98 ∷ []) ≡ misses)
-unfolding texts begins blockOf
-blocks = (refl, refl, refl)
-
-steps : (stepOf 3 2 1 (endsAt 3) ≡ holds) × (stepOf 3 2 1 (endsAt 2) ≡ onTo 2 2) × (stepOf 3 2 3 misses ≡ fails)
-unfolding laterOf stepOf
-steps = (refl, refl, refl)
 
 places : (placeOf (BOOL-VALUE ∷ 1 ∷ []) ((BOOL-VALUE ∷ 0 ∷ []) ∷ (BOOL-VALUE ∷ 1 ∷ []) ∷ []) ≡ 1) × (placeOf (BOOL-VALUE ∷ []) ((BOOL-VALUE ∷ 0 ∷ []) ∷ []) ≡ 1)
 unfolding placeOf

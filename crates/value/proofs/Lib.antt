@@ -1,7 +1,5 @@
 pub mod Lists
 pub mod Shaped
-pub mod Globbing
-pub mod Joining
 pub mod Makes
 pub mod Passes
 pub mod ClearLaws

@@ -3,4 +3,3 @@ pub mod Places
 pub mod Shapes
 pub mod Made
 pub mod Clear
-pub mod Globs

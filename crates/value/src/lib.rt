@@ -1,6 +1,5 @@
 // The values of a run by number: those of the sheet, then those made, each a row of words. What a row holds, the members of a set,
-// the entries of a record; a value found or made (`making`); a text matched against a pattern (`like`).
-pub mod like;
+// the entries of a record; a value found or made (`making`).
 pub mod making;
 
 use forms::ENTITY_VALUE;

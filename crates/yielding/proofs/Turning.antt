@@ -1,6 +1,6 @@
 -- The laws of the functions of the stack, one for each way. Assumes nothing.
 use mathlib.Core.Path.{_≡_, refl, sym, ap, ap₂, _∙_}
-use mathlib.Core.Bool.{Bool, true, false, cond, _&&_}
+use mathlib.Core.Bool.{Bool, true, false, cond}
 use mathlib.Core.List.{List, [], _∷_, _++_, append-assoc, append-nil}
 use Prim.Native.Nat.{ℕ, zero, suc, _+_, _-_, _*_, _/_, _≤_, _<_}
 use native.Mathlib.Omega.{arith}
@@ -15,20 +15,21 @@ use Rattle.forms.specs.Tags.{VAR, AND, OR, EQ, IF, IS, HASPATH, SET-OF, RECORD-
 use Rattle.sheet.specs.Content.{varOf}
 use Rattle.table.specs.Layout.{rowsOf}
 use Rattle.value.specs.Made.{MadeBeside, setRow, recordRow}
-use Rattle.value.proofs.Lists.{uncons}
 use Rattle.strict.specs.Gives.{outOf}
 use Rattle.strict.specs.declared.Given.{Given}
 use Rattle.residual.specs.Rows.{ROW, ROW-TYPE, VALUE-ROW, ERROR-ROW, litRow, errRow}
 use Rattle.residual.specs.Classes.{classNumber}
+use Rattle.valued.specs.Values.{allValues}
 use Rattle.evaluator.specs.Run.{yields, nodeIn, madeOf, settleOf, optOf, onYield, boolOnly, walkOut, twoOut, oneOut, envOf, classOf}
 use Rattle.evaluator.specs.Gave.{Gave, GaveBeside, Done, truthOf, yieldBool, sameBool}
 use Rattle.evaluator.specs.declared.Yield.{Yield}
 use Rattle.evaluator.specs.declared.Yield.the-variants.{Value, Error}
 use Rattle.evaluator.specs.declared.Truth.{Truth}
 use Rattle.evaluator.specs.declared.Truth.the-variants.{Is, Other}
+use Rattle.valued.proofs.Valued.{four}
 use Rattle.evaluator.proofs.Given.{to-end}
 use Rattle.carried.specs.Carry.{numberThere, carriedOf, Carried}
-use Rattle.yielding.specs.Yields.{yieldRow, yieldIn, rowsBack, startOf, Started, lazyBy, lazyOf, logicOf, branchBy, branchOf, oneOf, twoOf, overOf, allValues, manyOf, setOf, recordOf, nodeBy, nodeOf, Stacked, stacked, leaves, turnOf, ranOf, Turned, classesIn, yieldedOf}
+use Rattle.yielding.specs.Yields.{yieldRow, yieldIn, rowsBack, startOf, Started, lazyBy, lazyOf, logicOf, branchBy, branchOf, oneOf, twoOf, overOf, manyOf, setOf, recordOf, nodeBy, nodeOf, Stacked, stacked, leaves, turnOf, ranOf, Turned, classesIn, yieldedOf}
 
 -- ---- lists
 
@@ -46,17 +47,6 @@ part-of (x ∷ w) (suc s) (suc e) = let z : e - s ≡ suc e - suc s = omega arit
 
 from-front : (b : List ℕ) (e : ℕ) → part b 0 e ≡ take e b
 from-front b e = sym (part-of b 0 e)
-
--- a row's four words
-pub four : (q : List ℕ) (i : ℕ) → i + 4 ≤ length q → drop i q ≡ getD q i 0 ∷ getD q (i + 1) 0 ∷ getD q (i + 2) 0 ∷ getD q (i + 3) 0 ∷ drop (i + 4) q
-four q i h =
-    let z : i + 1 + 1 ≡ i + 2 = omega arith in
-    let y : i + 2 + 1 ≡ i + 3 = omega arith in
-    let x : i + 3 + 1 ≡ i + 4 = omega arith in
-    uncons q 0 i (omega (arith, h))
-    ∙ ap (λ (l : List ℕ). getD q i 0 ∷ l) (uncons q 0 (i + 1) (omega (arith, h)) ∙ ap (λ (j : ℕ). getD q (i + 1) 0 ∷ drop j q) z)
-    ∙ ap (λ (l : List ℕ). getD q i 0 ∷ getD q (i + 1) 0 ∷ l) (uncons q 0 (i + 2) (omega (arith, h)) ∙ ap (λ (j : ℕ). getD q (i + 2) 0 ∷ drop j q) y)
-    ∙ ap (λ (l : List ℕ). getD q i 0 ∷ getD q (i + 1) 0 ∷ getD q (i + 2) 0 ∷ l) (uncons q 0 (i + 3) (omega (arith, h)) ∙ ap (λ (j : ℕ). getD q (i + 3) 0 ∷ drop j q) x)
 
 -- ---- a yield read and pushed
 
@@ -216,37 +206,6 @@ module _ (sheet : List ℕ) (t k : ℕ) (a : List ℕ) (n : ℕ) (q : List ℕ) 
         pub over-past : SET-OF ≤ t → Gave (overOf sheet t k a n q) a Error
         unfolding overOf
         over-past h = rw (le-ltb t EQ lo, le-ltb t IF mid, le-ltb t IS high, le-ltb t SET-OF h) (record { words = refl; yield = refl })
-
--- ---- whether all are values
-
-pub record Valued (q : List ℕ) (i : ℕ) : Type 0 where
-  pub near : i ≤ length q
-  pub left : allValues (drop i q) ≡ allValues q
-
-pub valued-start : (q : List ℕ) → Valued q 0
-valued-start q = record { near = omega arith; left = refl }
-
-few-values : (q : List ℕ) → length q < 4 → allValues q ≡ true
-unfolding allValues
-few-values [] h = refl
-few-values (t ∷ []) h = refl
-few-values (t ∷ v ∷ []) h = refl
-few-values (t ∷ v ∷ w ∷ []) h = refl
-few-values (t ∷ v ∷ w ∷ y ∷ q) h = absurd (omega arith)
-
-module _ (q : List ℕ) (i : ℕ) (k : Valued q i) where
-  pub valued-end : length q - i < 4 → true ≡ allValues q
-  valued-end h = sym (sym (k .left) ∙ few-values (drop i q) (omega (arith, h, length-drop i q)))
-
-  row-here : 4 ≤ length q - i → allValues q ≡ (eqb (getD q i 0) VALUE-ROW && allValues (drop (i + 4) q))
-  unfolding allValues
-  row-here h = sym (k .left) ∙ ap allValues (four q i (omega (arith, h, k .near)))
-
-  pub valued-no : 4 ≤ length q - i → (getD q i 0 ≡ VALUE-ROW → ⊥) → false ≡ allValues q
-  valued-no h n = sym (row-here h ∙ ap (λ (b : Bool). b && allValues (drop (i + 4) q)) (ne-eqb (getD q i 0) VALUE-ROW n))
-
-  pub valued-more : 4 ≤ length q - i → getD q i 0 ≡ VALUE-ROW → Valued q (i + 4)
-  valued-more h e = record { near = omega (arith, h, k .near); left = sym (row-here h ∙ ap (λ (b : Bool). b && allValues (drop (i + 4) q)) (eq-eqb (getD q i 0) VALUE-ROW e)) }
 
 -- ---- sets and records
 

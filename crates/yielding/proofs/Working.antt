@@ -39,7 +39,7 @@ use Rattle.residual.specs.Trees.{nodesOf, argsOf, leftFor, leftTree, suitsFor, 
 use Rattle.residual.proofs.Blocks.{Each, each0, each1, at-operation, over0, over1, over2, over3}
 use Rattle.tpe.proofs.Outcomes.{Fine, row-fine}
 use Rattle.tpe.proofs.Sets.{sort-short, drop-two}
-use Rattle.strict.specs.Lookups.{envBy}
+use Rattle.lookup.specs.Lookups.{envBy}
 use Rattle.tpe.proofs.Stands.{Hold, schema-is, env-is, env-at}
 use Rattle.tpe.proofs.Reach.{reach}
 use Rattle.evaluator.specs.Run.{E, yields, values, nodeIn, settleOf, optOf, onYield, pathOut, unOut, binOut, relOut, getOut, hasOut, walkOut, twoOut, oneOut, schemaOf, envOf}
@@ -48,7 +48,8 @@ use Rattle.evaluator.specs.declared.Yield.the-variants.{Value, Error}
 use Rattle.evaluator.proofs.Gives.{Says, says-value, says-error, Stand, rel-gives, get-gives, has-gives, path-gives, fine-path}
 use Rattle.evaluator.proofs.Steps.{sch, same-node}
 use Rattle.evaluator.proofs.Many.{Oks, oks-none, oks-more, Bad, bad-here, bad-later, resultsOf, resultsArgs, set-oks, set-bad, rec-bad}
-use Rattle.yielding.specs.Yields.{yieldRow, yieldIn, lazyOf, logicOf, branchOf, oneOf, twoOf, overOf, allValues, manyOf, setOf, recordOf, nodeBy}
+use Rattle.valued.specs.Values.{allValues}
+use Rattle.yielding.specs.Yields.{yieldRow, yieldIn, lazyOf, logicOf, branchOf, oneOf, twoOf, overOf, manyOf, setOf, recordOf, nodeBy}
 use Rattle.yielding.proofs.Accounts.{takes, takesAll, takesArgs, makes, makesAll, makesArgs}
 use Rattle.yielding.proofs.Getting.{Gets, Space, gets-as, gets-error, gets-made, gets-request, gets-one, gets-two, and-says, or-says, if-says}
 

@@ -1,7 +1,7 @@
 -- What residuals yield over the words a, which hold a complete sheet and the values, by a stack of yields: the log l. Each definition is
 -- total; rows are read where they are needed, from the words as they then are. That this is `eval` of the residuals is shown in proofs/.
 use mathlib.Core.Path.{_≡_}
-use mathlib.Core.Bool.{Bool, true, false, cond, _&&_}
+use mathlib.Core.Bool.{Bool, true, false, cond}
 use mathlib.Core.Option.{Option, none, some}
 use mathlib.Core.List.{List, [], _∷_}
 use Prim.Native.Nat.{ℕ, zero, suc, _+_, _-_, _*_, _/_, _≤_}
@@ -14,6 +14,7 @@ use Rattle.sheet.specs.Content.{varOf}
 use Rattle.value.specs.Made.{setRow, recordRow, written}
 use Rattle.residual.specs.Rows.{ROW, SOURCE, ROW-TYPE, VALUE-ROW, ERROR-ROW, LEFT-ROW, litRow, errRow}
 use Rattle.residual.specs.Classes.{classNumber}
+use Rattle.valued.specs.Values.{allValues}
 use Rattle.evaluator.specs.Run.{E, yields, nodeIn, madeOf, settleOf, optOf, onYield, boolOnly, walkOut, twoOut, oneOut, envOf, classOf, Ran}
 use Rattle.evaluator.specs.Gave.{yieldBool, sameBool}
 use Rattle.evaluator.specs.declared.Yield.{Yield}
@@ -80,14 +81,6 @@ overOf sheet t k a n q =
     (cond (ltb t IF) (twoOf t a (yieldIn q 0) (yieldIn q ROW))
     (cond (ltb t IS) (yields a (branchOf a (yieldIn q 0) (yieldIn q ROW) (yieldIn q (ROW + ROW))))
     (cond (ltb t SET-OF) (oneOf sheet t k a n (yieldIn q 0)) (yields a Error))))
-
--- whether each row yields a value
-unfoldable pub allValues : List ℕ → Bool
-allValues [] = true
-allValues (t ∷ []) = true
-allValues (t ∷ v ∷ []) = true
-allValues (t ∷ v ∷ w ∷ []) = true
-allValues (t ∷ v ∷ w ∷ y ∷ q) = eqb t VALUE-ROW && allValues q
 
 -- sets and records are made where the operands, the rows from s on, are all values
 unfoldable pub manyOf : List ℕ → List ℕ → List ℕ → List ℕ → E

@@ -40,18 +40,18 @@ use table::row;
 use table::tag;
 use value::making::make_record;
 use value::making::make_set;
+use valued::all_values;
 use words::cut;
 use words::read;
 ghost use mathlib.Core.Path.{_≡_};
 ghost use mathlib.Core.List.{[]};
 ghost use Prim.Native.Nat.{_+_, _-_, _*_, _/_, _≤_, _<_};
-ghost use lib.ListN.{getD, take, drop, length};
-ghost use Rattle.words.specs.Log.{part, Room, Holds, Appended};
+ghost use lib.ListN.{take, length};
+ghost use Rattle.words.specs.Log.{Room, Holds, Appended};
 ghost use Rattle.sheet.specs.Forms.{VALUE};
 ghost use Rattle.forms.specs.Tags.{EQ, IF, IS, SET-OF};
-ghost use Rattle.evaluator.specs.Run.{nodeIn};
 ghost use Rattle.evaluator.specs.Gave.{Gave, GaveBeside, Done};
-ghost use Rattle.yielding.specs.Yields.{yieldIn, yieldRow, Started, lazyOf, logicOf, branchOf, oneOf, twoOf, allValues, setOf, recordOf, overOf, nodeOf, turnOf, ranOf, Turned, classesIn, yieldedOf};
+ghost use Rattle.yielding.specs.Yields.{yieldIn, yieldRow, Started, lazyOf, logicOf, branchOf, oneOf, twoOf, setOf, recordOf, overOf, nodeOf, turnOf, ranOf, Turned, classesIn, yieldedOf};
 
 // No value is known to be no bool here: a search for a bool begins with the first value.
 const FIRST: usize = 0;
@@ -191,22 +191,6 @@ fn over(sheet: &[u8], rows: &mut [u32], node: u32, tag: u32, steps: u32, operand
         return one(sheet, rows, node, tag, steps, left);
     }
     Yield::Error
-}
-
-// Whether each of these rows yields a value.
-fn all_values(operands: &[u32]) -> bool
-    ensures { λ r. ⌜ r ≡ allValues (now (operands .entry)) ⌝ }
-{
-    let mut i: usize = 0;
-    loop {
-        if operands.len() - i < ROW {
-            break true;
-        }
-        if operands[i] != VALUE_ROW {
-            break false;
-        }
-        i += ROW;
-    }
 }
 
 // A set of the values of the rows from `start` to the end of the stack.

@@ -3,8 +3,8 @@ use Prim.Native.Nat.{_-_}
 use mathlib.Core.Path.{_≡_}
 use lib.ListN.{length}
 use Rattle.reach.proofs.Steps.{Asking, asked-end, asked-no, asked-yes, asking-start}
-use Rattle.typing.specs.Paths.{KIND-WORDS, Each}
-use Rattle.typing.specs.Rules.{isAboveAt}
+use Rattle.typesets.specs.Sets.{KIND-WORDS, Each}
+use Rattle.typerows.specs.Types.{isAboveAt}
 use Rattle.typing.proofs.SeenSets.{above-set}
 use Rattle.above.specs.Fitting.{unfitValue}
 use borrow.Author.Needs.{needs}

@@ -2,14 +2,14 @@
 use native.Mathlib.Omega.{arith}
 use Rattle.sheet.specs.Forms.{TYPE}
 use Rattle.checks.proofs.FoundLaws.{fresh-type, fresh-value, fresh-kind, fresh-policy, fresh-entity, fresh-link, fresh-term, fresh-other}
-use Rattle.checks.proofs.SearchLaws.{keyed-row}
-use Rattle.checks.proofs.SeenLaws.{unlike-key}
+use Rattle.repeats.proofs.SearchLaws.{keyed-row}
+use Rattle.seen.proofs.SeenLaws.{unlike-key}
 use borrow.Author.Needs.{needs}
 use Rattle.checks.proofs.is_fresh.Statement.{statement}
 use Rattle.checks.proofs.is_fresh.Tie as tie
 
 is-type-requires : tie.Need-is-type-requires
-is-type-requires c κs = 
+is-type-requires c κs =
     let s = c .before .before .before .before in
     (keyed-row (s .args .line .now) (s .args .key) (s .pre .0 .1) (omega arith), unlike-key (s .args .line .now) (s .args .rows .now) (s .args .key) TYPE (s .args .new) (c .if1 .taken) (s .pre .1 .1))
 
@@ -17,7 +17,7 @@ returns : tie.Need-returns
 returns c = search (fresh-type, needs)
 
 is-new-requires : tie.Need-is-new-requires
-is-new-requires c κs = 
+is-new-requires c κs =
     let s = c .before .before .before .before .before in
     (keyed-row (s .args .line .now) (s .args .key) (s .pre .0 .1) (omega arith), s .pre .1 .1)
 

@@ -1,5 +1,5 @@
 -- `checks::is_new` meets its contract. Assumes nothing.
-use Rattle.checks.proofs.SeenLaws.{unlike-new, row-new}
+use Rattle.seen.proofs.SeenLaws.{unlike-new, row-new}
 use borrow.Author.Needs.{needs}
 use Rattle.checks.proofs.is_new.Statement.{statement}
 use Rattle.checks.proofs.is_new.Tie as tie

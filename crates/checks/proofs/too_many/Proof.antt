@@ -1,5 +1,5 @@
 -- `checks::too_many` meets its contract. Assumes nothing.
-use Rattle.checks.proofs.NotedLaws.{many-full, many-uses, many-other}
+use Rattle.uses.proofs.NotedLaws.{many-full, many-uses, many-other}
 use borrow.Author.Needs.{needs}
 use Rattle.checks.proofs.too_many.Statement.{statement}
 use Rattle.checks.proofs.too_many.Tie as tie

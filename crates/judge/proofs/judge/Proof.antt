@@ -1,7 +1,7 @@
 -- `judge::judge` meets its contract. Assumes nothing.
 use lib.ListN.{take}
 use Rattle.words.specs.Log.{room}
-use Rattle.judge.proofs.Judging.{marked-other, key-in-table, key-of-line, front-long, known-front, noted-front, unlike-front, order-front, judged-3, judged-4, judged-5, judged-6, judged-7, judged-8, judged-0}
+use Rattle.judge.proofs.Judging.{depth-low, marked-other, key-in-table, key-of-line, front-long, known-front, noted-front, unlike-front, order-front, judged-3, judged-4, judged-5, judged-6, judged-7, judged-8, judged-0}
 use borrow.Author.Needs.{needs}
 use Rattle.judge.proofs.judge.Statement.{statement}
 use Rattle.judge.proofs.judge.Tie as tie
@@ -64,61 +64,65 @@ returns-3 c =
 
 returns-4 : tie.Need-returns-4
 returns-4 c =
-    let w = c .before .before .before .before .before .before .before .before .before .before .before in
+    let w = c .before .before .before .before .before .before .before .before .before .before .before .before in
     let s = w .before .before .before .before .before .before .before in
     let z = s .args in
     let o = w .in-turn in
-    let u = c .before .before .before .before .before .before .before .before .too-many in
-    let d = c .before .before .before .before .before .depth-of in
+    let u = c .before .before .before .before .before .before .before .before .before .too-many in
+    let d = c .before .before .before .before .before .before .depth-of in
+    let q = c .before .before .before .before .is-too-deep in
     let v = c .refused4 in
     judged-6 (z .sheet .now) (z .rows .now) (z .work .now) (z .line .now) (s .pre .0 .2) (s .pre .0 .3) (s .pre .1 .0) (s .args .key) (s .pre .0 .0) (o .result) (o .ensures)
-    (c .before .before .before .before .before .before .before .before .before .before .if1 .left) (u .result) (u .ensures) (c .before .before .before .before .before .before .before .if2 .left) (d .result) (d .ensures) (c .before .before .before .before .if3 .left) (c .before .before .before .if4 .taken) (v .result .number) (v .result .key) (v .result .depth) (v .ensures)
+    (c .before .before .before .before .before .before .before .before .before .before .before .if1 .left) (u .result) (u .ensures) (c .before .before .before .before .before .before .before .before .if2 .left) (d .result) (d .ensures) (c .before .before .before .before .before .if3 .left) (q .result) (q .ensures) (c .before .before .before .if4 .taken) (v .result .number) (v .result .key) (v .result .depth) (v .ensures)
 
 typed-line-requires : tie.Need-typed-line-requires
-typed-line-requires c κs = let s = c .before .before .before .before .before .before .before .before .before .before .before .before .before .before .before .before in known-front (s .args .sheet .now) (s .args .rows .now) (s .args .work .now) (s .args .line .now) (s .pre .0 .2) (s .pre .0 .3) (s .pre .1 .0)
+typed-line-requires c κs = let s = c .before .before .before .before .before .before .before .before .before .before .before .before .before .before .before .before .before in known-front (s .args .sheet .now) (s .args .rows .now) (s .args .work .now) (s .args .line .now) (s .pre .0 .2) (s .pre .0 .3) (s .pre .1 .0)
 
 returns-5 : tie.Need-returns-5
 returns-5 c =
-    let w = c .before .before .before .before .before .before .before .before .before .before .before .before .before .before .before .before in
-    let s = w .before .before .before .before .before .before .before in
-    let z = s .args in
-    let o = w .in-turn in
-    let u = c .before .before .before .before .before .before .before .before .before .before .before .before .before .too-many in
-    let d = c .before .before .before .before .before .before .before .before .before .before .depth-of in
-    let y = c .before .before .before .before .before .before .typed-line in
-    let v = c .refused5 in
-    judged-7 (z .sheet .now) (z .rows .now) (z .work .now) (z .line .now) (s .pre .0 .2) (s .pre .0 .3) (s .pre .1 .0) (s .args .key) (s .pre .0 .0) (o .result) (o .ensures)
-    (c .before .before .before .before .before .before .before .before .before .before .before .before .before .before .before .if1 .left) (u .result) (u .ensures) (c .before .before .before .before .before .before .before .before .before .before .before .before .if2 .left) (d .result) (d .ensures) (c .before .before .before .before .before .before .before .before .before .if3 .left) (c .before .before .before .before .before .before .before .before .if4 .left) (y .last .1 .0) (y .result) (y .ensures) (c .before .before .before .if5 .taken) (v .result .number) (v .result .key) (v .result .depth) (v .ensures)
-
-use-root-requires : tie.Need-use-root-requires
-use-root-requires c κs = let s = c .before .before .before .before .before .before .before .before .before .before .before .before .before .before .before .before .before .before .before .before in (s .pre .0 .0, s .pre .0 .1)
-
-returns-6 : tie.Need-returns-6
-returns-6 c =
-    let w = c .before .before .before .before .before .before .before .before .before .before .before .before .before .before .before .before .before .before in
-    let s = w .before .before .before .before .before .before .before in
-    let z = s .args in
-    let o = w .in-turn in
-    let u = c .before .before .before .before .before .before .before .before .before .before .before .before .before .before .before .too-many in
-    let d = c .before .before .before .before .before .before .before .before .before .before .before .before .depth-of in
-    let y = c .before .before .before .before .before .before .before .before .typed-line in
-    let x = c .before .before .before .before .use-root in
-    let v = c .refused6 in
-    judged-8 (z .sheet .now) (z .rows .now) (z .work .now) (z .line .now) (s .pre .0 .2) (s .pre .0 .3) (s .pre .1 .0) (s .args .key) (s .pre .0 .0) (o .result) (o .ensures)
-    (c .before .before .before .before .before .before .before .before .before .before .before .before .before .before .before .before .before .if1 .left) (u .result) (u .ensures) (c .before .before .before .before .before .before .before .before .before .before .before .before .before .before .if2 .left) (d .result) (d .ensures) (c .before .before .before .before .before .before .before .before .before .before .before .if3 .left) (c .before .before .before .before .before .before .before .before .before .before .if4 .left) (y .last .1 .0) (y .result) (y .ensures) (c .before .before .before .before .before .if5 .left) (x .last .1 .0) (x .result) (marked-other (take room (z .rows .now)) (y .last .1 .0) (z .line .now) (x .last .1 .0) (x .result) (z .key) (s .pre .0 .0) (s .pre .0 .1) (x .ensures)) (c .before .if6 .taken) (v .result .number) (v .result .key) (v .result .depth) (v .ensures)
-
-returns-7 : tie.Need-returns-7
-returns-7 c =
     let w = c .before .before .before .before .before .before .before .before .before .before .before .before .before .before .before .before .before in
     let s = w .before .before .before .before .before .before .before in
     let z = s .args in
     let o = w .in-turn in
     let u = c .before .before .before .before .before .before .before .before .before .before .before .before .before .before .too-many in
     let d = c .before .before .before .before .before .before .before .before .before .before .before .depth-of in
+    let q = c .before .before .before .before .before .before .before .before .before .is-too-deep in
+    let y = c .before .before .before .before .before .before .typed-line in
+    let v = c .refused5 in
+    judged-7 (z .sheet .now) (z .rows .now) (z .work .now) (z .line .now) (s .pre .0 .2) (s .pre .0 .3) (s .pre .1 .0) (s .args .key) (s .pre .0 .0) (o .result) (o .ensures)
+    (c .before .before .before .before .before .before .before .before .before .before .before .before .before .before .before .before .if1 .left) (u .result) (u .ensures) (c .before .before .before .before .before .before .before .before .before .before .before .before .before .if2 .left) (d .result) (d .ensures) (c .before .before .before .before .before .before .before .before .before .before .if3 .left) (q .result) (q .ensures) (c .before .before .before .before .before .before .before .before .if4 .left) (y .last .1 .0) (y .result) (y .ensures) (c .before .before .before .if5 .taken) (v .result .number) (v .result .key) (v .result .depth) (v .ensures)
+
+use-root-requires : tie.Need-use-root-requires
+use-root-requires c κs = let s = c .before .before .before .before .before .before .before .before .before .before .before .before .before .before .before .before .before .before .before .before .before in (s .pre .0 .0, s .pre .0 .1)
+
+returns-6 : tie.Need-returns-6
+returns-6 c =
+    let w = c .before .before .before .before .before .before .before .before .before .before .before .before .before .before .before .before .before .before .before in
+    let s = w .before .before .before .before .before .before .before in
+    let z = s .args in
+    let o = w .in-turn in
+    let u = c .before .before .before .before .before .before .before .before .before .before .before .before .before .before .before .before .too-many in
+    let d = c .before .before .before .before .before .before .before .before .before .before .before .before .before .depth-of in
+    let q = c .before .before .before .before .before .before .before .before .before .before .before .is-too-deep in
+    let y = c .before .before .before .before .before .before .before .before .typed-line in
+    let x = c .before .before .before .before .use-root in
+    let v = c .refused6 in
+    judged-8 (z .sheet .now) (z .rows .now) (z .work .now) (z .line .now) (s .pre .0 .2) (s .pre .0 .3) (s .pre .1 .0) (s .args .key) (s .pre .0 .0) (o .result) (o .ensures)
+    (c .before .before .before .before .before .before .before .before .before .before .before .before .before .before .before .before .before .before .if1 .left) (u .result) (u .ensures) (c .before .before .before .before .before .before .before .before .before .before .before .before .before .before .before .if2 .left) (d .result) (d .ensures) (c .before .before .before .before .before .before .before .before .before .before .before .before .if3 .left) (q .result) (q .ensures) (c .before .before .before .before .before .before .before .before .before .before .if4 .left) (y .last .1 .0) (y .result) (y .ensures) (c .before .before .before .before .before .if5 .left) (x .last .1 .0) (x .result) (marked-other (take room (z .rows .now)) (y .last .1 .0) (z .line .now) (x .last .1 .0) (x .result) (z .key) (s .pre .0 .0) (s .pre .0 .1) (x .ensures)) (c .before .if6 .taken) (v .result .number) (v .result .key) (v .result .depth) (v .ensures)
+
+returns-7 : tie.Need-returns-7
+returns-7 c =
+    let w = c .before .before .before .before .before .before .before .before .before .before .before .before .before .before .before .before .before .before in
+    let s = w .before .before .before .before .before .before .before in
+    let z = s .args in
+    let o = w .in-turn in
+    let u = c .before .before .before .before .before .before .before .before .before .before .before .before .before .before .before .too-many in
+    let d = c .before .before .before .before .before .before .before .before .before .before .before .before .depth-of in
+    let q = c .before .before .before .before .before .before .before .before .before .before .is-too-deep in
     let y = c .before .before .before .before .before .before .before .typed-line in
     let x = c .before .before .before .use-root in
     judged-0 (z .sheet .now) (z .rows .now) (z .work .now) (z .line .now) (s .pre .0 .2) (s .pre .0 .3) (s .pre .1 .0) (s .args .key) (s .pre .0 .0) (o .result) (o .ensures)
-    (c .before .before .before .before .before .before .before .before .before .before .before .before .before .before .before .before .if1 .left) (u .result) (u .ensures) (c .before .before .before .before .before .before .before .before .before .before .before .before .before .if2 .left) (d .result) (d .ensures) (c .before .before .before .before .before .before .before .before .before .before .if3 .left) (c .before .before .before .before .before .before .before .before .before .if4 .left) (y .last .1 .0) (y .result) (y .ensures) (c .before .before .before .before .if5 .left) (x .last .1 .0) (x .result) (marked-other (take room (z .rows .now)) (y .last .1 .0) (z .line .now) (x .last .1 .0) (x .result) (z .key) (s .pre .0 .0) (s .pre .0 .1) (x .ensures)) (c .if6 .left)
+    (c .before .before .before .before .before .before .before .before .before .before .before .before .before .before .before .before .before .if1 .left) (u .result) (u .ensures) (c .before .before .before .before .before .before .before .before .before .before .before .before .before .before .if2 .left) (d .result) (d .ensures) (c .before .before .before .before .before .before .before .before .before .before .before .if3 .left) (q .result) (q .ensures) (c .before .before .before .before .before .before .before .before .before .if4 .left) (y .last .1 .0) (y .result) (y .ensures) (c .before .before .before .before .if5 .left) (x .last .1 .0) (x .result) (marked-other (take room (z .rows .now)) (y .last .1 .0) (z .line .now) (x .last .1 .0) (x .result) (z .key) (s .pre .0 .0) (s .pre .0 .1) (x .ensures)) (c .if6 .left)
 
 pub judge-spec : {M : Type 1} → statement M
 judge-spec =
@@ -140,6 +144,7 @@ judge-spec =
     (λ c. search needs)
     returns-3
     (λ c κs. search needs)
+    (λ c κs. search needs)
     (λ c. search needs)
     returns-4
     typed-line-requires
@@ -150,6 +155,6 @@ judge-spec =
     (λ c κs. search needs)
     (λ c. search needs)
     returns-6
-    (λ c. search needs)
+    (λ c. let q = c .before .before .before .before .before .before .before .before .before .before .is-too-deep in record { fits = depth-low (c .before .before .before .before .before .before .before .before .before .before .before .before .depth-of .result) (q .result) (q .ensures) (c .before .before .before .before .before .before .before .before .before .if4 .left) })
     (λ c. search needs)
     returns-7)

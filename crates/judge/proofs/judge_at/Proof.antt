@@ -4,7 +4,7 @@ use mathlib.Core.List.{List}
 use Prim.Native.Nat.{ℕ}
 use native.Mathlib.Omega.{arith}
 use Rattle.sheet.specs.Forms.{keyOf, NODE}
-use Rattle.checks.proofs.SeenLaws.{see-other}
+use Rattle.seen.proofs.SeenLaws.{see-other}
 use Rattle.judge.specs.Verdicts.{Judged, seenAt}
 use Rattle.judge.proofs.Alike.{unlike-line}
 use Rattle.judge.proofs.Judging.{key-of-row}

@@ -4,7 +4,7 @@ use native.Mathlib.Omega.{arith}
 use lib.ListN.{take}
 use Rattle.words.specs.Log.{room}
 use Rattle.sheet.specs.Forms.{NODE}
-use Rattle.judge.proofs.Judging.{typed-node, depth-node, marked-node, front-long, known-front, noted-front, order-front, judged-3, judged-4, judged-5, judged-6, judged-7, judged-8, judged-0}
+use Rattle.judge.proofs.Judging.{depth-low, typed-node, depth-node, marked-node, front-long, known-front, order-front, judged-3, judged-4, judged-5, judged-6, judged-7, judged-8, judged-0}
 use borrow.Author.Needs.{needs}
 use Rattle.judge.proofs.judge_node.Statement.{statement}
 use Rattle.judge.proofs.judge_node.Tie as tie
@@ -30,31 +30,28 @@ returns c =
     judged-3 (z .sheet .now) (z .rows .now) (z .work .now) (z .line .now) (s .pre .0 .1) (s .pre .0 .2) (s .pre .1 .0) NODE (sym (s .pre .0 .0)) (o .result) (o .ensures)
     (c .before .before .before .if1 .taken) (v .result .number) (v .result .key) (v .result .depth) (v .ensures)
 
-too-many-requires : tie.Need-too-many-requires
-too-many-requires c κs = let s = c .before .before .before .before .before .before .before .before .before in noted-front (s .args .sheet .now) (s .args .rows .now) (s .args .work .now) (s .args .line .now) (s .pre .0 .1) (s .pre .0 .2) (s .pre .1 .1)
-
 returns-2 : tie.Need-returns-2
 returns-2 c =
-    let w = c .before .before .before .before .before .before .before in
+    let w = c .before .before .before .before .before .before in
     let s = w .before .before .before .before .before .before .before in
     let z = s .args in
     let o = w .in-turn in
-    let u = c .before .before .before .before .too-many in
+    let u = c .before .before .before .before .nodes-full in
     let v = c .refused2 in
     judged-4 (z .sheet .now) (z .rows .now) (z .work .now) (z .line .now) (s .pre .0 .1) (s .pre .0 .2) (s .pre .1 .0) NODE (sym (s .pre .0 .0)) (o .result) (o .ensures)
-    (c .before .before .before .before .before .before .if1 .left) (u .result) (u .ensures) (c .before .before .before .if2 .taken) (v .result .number) (v .result .key) (v .result .depth) (v .ensures)
+    (c .before .before .before .before .before .if1 .left) (u .result) (u .ensures (z .line .now)) (c .before .before .before .if2 .taken) (v .result .number) (v .result .key) (v .result .depth) (v .ensures)
 
 returns-3 : tie.Need-returns-3
 returns-3 c =
-    let w = c .before .before .before .before .before .before .before .before .before .before in
+    let w = c .before .before .before .before .before .before .before .before .before in
     let s = w .before .before .before .before .before .before .before in
     let z = s .args in
     let o = w .in-turn in
-    let u = c .before .before .before .before .before .before .before .too-many in
+    let u = c .before .before .before .before .before .before .before .nodes-full in
     let d = c .before .before .before .before .node-depth in
     let v = c .refused3 in
     judged-5 (z .sheet .now) (z .rows .now) (z .work .now) (z .line .now) (s .pre .0 .1) (s .pre .0 .2) (s .pre .1 .0) NODE (sym (s .pre .0 .0)) (o .result) (o .ensures)
-    (c .before .before .before .before .before .before .before .before .before .if1 .left) (u .result) (u .ensures) (c .before .before .before .before .before .before .if2 .left) (d .result) (depth-node (z .sheet .now) (take room (z .rows .now)) (take room (z .work .now)) (z .line .now) (d .result) (s .pre .0 .0) (d .ensures)) (c .before .before .before .if3 .taken) (v .result .number) (v .result .key) (v .result .depth) (v .ensures)
+    (c .before .before .before .before .before .before .before .before .if1 .left) (u .result) (u .ensures (z .line .now)) (c .before .before .before .before .before .before .if2 .left) (d .result) (depth-node (z .sheet .now) (take room (z .rows .now)) (take room (z .work .now)) (z .line .now) (d .result) (s .pre .0 .0) (d .ensures)) (c .before .before .before .if3 .taken) (v .result .number) (v .result .key) (v .result .depth) (v .ensures)
 
 returns-4 : tie.Need-returns-4
 returns-4 c =
@@ -62,11 +59,12 @@ returns-4 c =
     let s = w .before .before .before .before .before .before .before in
     let z = s .args in
     let o = w .in-turn in
-    let u = c .before .before .before .before .before .before .before .before .too-many in
-    let d = c .before .before .before .before .before .node-depth in
+    let u = c .before .before .before .before .before .before .before .before .before .nodes-full in
+    let d = c .before .before .before .before .before .before .node-depth in
+    let q = c .before .before .before .before .is-too-deep in
     let v = c .refused4 in
     judged-6 (z .sheet .now) (z .rows .now) (z .work .now) (z .line .now) (s .pre .0 .1) (s .pre .0 .2) (s .pre .1 .0) NODE (sym (s .pre .0 .0)) (o .result) (o .ensures)
-    (c .before .before .before .before .before .before .before .before .before .before .if1 .left) (u .result) (u .ensures) (c .before .before .before .before .before .before .before .if2 .left) (d .result) (depth-node (z .sheet .now) (take room (z .rows .now)) (take room (z .work .now)) (z .line .now) (d .result) (s .pre .0 .0) (d .ensures)) (c .before .before .before .before .if3 .left) (c .before .before .before .if4 .taken) (v .result .number) (v .result .key) (v .result .depth) (v .ensures)
+    (c .before .before .before .before .before .before .before .before .before .before .if1 .left) (u .result) (u .ensures (z .line .now)) (c .before .before .before .before .before .before .before .before .if2 .left) (d .result) (depth-node (z .sheet .now) (take room (z .rows .now)) (take room (z .work .now)) (z .line .now) (d .result) (s .pre .0 .0) (d .ensures)) (c .before .before .before .before .before .if3 .left) (q .result) (q .ensures) (c .before .before .before .if4 .taken) (v .result .number) (v .result .key) (v .result .depth) (v .ensures)
 
 node-typed-requires : tie.Need-node-typed-requires
 node-typed-requires c κs = let s = c .before .before .before .before .before .before .before .before .before .before .before .before .before .before .before .before in known-front (s .args .sheet .now) (s .args .rows .now) (s .args .work .now) (s .args .line .now) (s .pre .0 .1) (s .pre .0 .2) (s .pre .1 .0)
@@ -77,12 +75,13 @@ returns-5 c =
     let s = w .before .before .before .before .before .before .before in
     let z = s .args in
     let o = w .in-turn in
-    let u = c .before .before .before .before .before .before .before .before .before .before .before .before .before .too-many in
-    let d = c .before .before .before .before .before .before .before .before .before .before .node-depth in
+    let u = c .before .before .before .before .before .before .before .before .before .before .before .before .before .before .nodes-full in
+    let d = c .before .before .before .before .before .before .before .before .before .before .before .node-depth in
+    let q = c .before .before .before .before .before .before .before .before .before .is-too-deep in
     let y = c .before .before .before .before .before .before .node-typed in
     let v = c .refused5 in
     judged-7 (z .sheet .now) (z .rows .now) (z .work .now) (z .line .now) (s .pre .0 .1) (s .pre .0 .2) (s .pre .1 .0) NODE (sym (s .pre .0 .0)) (o .result) (o .ensures)
-    (c .before .before .before .before .before .before .before .before .before .before .before .before .before .before .before .if1 .left) (u .result) (u .ensures) (c .before .before .before .before .before .before .before .before .before .before .before .before .if2 .left) (d .result) (depth-node (z .sheet .now) (take room (z .rows .now)) (take room (z .work .now)) (z .line .now) (d .result) (s .pre .0 .0) (d .ensures)) (c .before .before .before .before .before .before .before .before .before .if3 .left) (c .before .before .before .before .before .before .before .before .if4 .left) (y .last .1 .0) (y .result) (typed-node (take room (z .rows .now)) (take room (z .work .now)) (y .last .1 .0) (z .line .now) (y .result) (y .ensures)) (c .before .before .before .if5 .taken) (v .result .number) (v .result .key) (v .result .depth) (v .ensures)
+    (c .before .before .before .before .before .before .before .before .before .before .before .before .before .before .before .if1 .left) (u .result) (u .ensures (z .line .now)) (c .before .before .before .before .before .before .before .before .before .before .before .before .before .if2 .left) (d .result) (depth-node (z .sheet .now) (take room (z .rows .now)) (take room (z .work .now)) (z .line .now) (d .result) (s .pre .0 .0) (d .ensures)) (c .before .before .before .before .before .before .before .before .before .before .if3 .left) (q .result) (q .ensures) (c .before .before .before .before .before .before .before .before .if4 .left) (y .last .1 .0) (y .result) (typed-node (take room (z .rows .now)) (take room (z .work .now)) (y .last .1 .0) (z .line .now) (y .result) (y .ensures)) (c .before .before .before .if5 .taken) (v .result .number) (v .result .key) (v .result .depth) (v .ensures)
 
 returns-6 : tie.Need-returns-6
 returns-6 c =
@@ -90,13 +89,14 @@ returns-6 c =
     let s = w .before .before .before .before .before .before .before in
     let z = s .args in
     let o = w .in-turn in
-    let u = c .before .before .before .before .before .before .before .before .before .before .before .before .before .before .before .too-many in
-    let d = c .before .before .before .before .before .before .before .before .before .before .before .before .node-depth in
+    let u = c .before .before .before .before .before .before .before .before .before .before .before .before .before .before .before .before .nodes-full in
+    let d = c .before .before .before .before .before .before .before .before .before .before .before .before .before .node-depth in
+    let q = c .before .before .before .before .before .before .before .before .before .before .before .is-too-deep in
     let y = c .before .before .before .before .before .before .before .before .node-typed in
     let x = c .before .before .before .before .use-nodes in
     let v = c .refused6 in
     judged-8 (z .sheet .now) (z .rows .now) (z .work .now) (z .line .now) (s .pre .0 .1) (s .pre .0 .2) (s .pre .1 .0) NODE (sym (s .pre .0 .0)) (o .result) (o .ensures)
-    (c .before .before .before .before .before .before .before .before .before .before .before .before .before .before .before .before .before .if1 .left) (u .result) (u .ensures) (c .before .before .before .before .before .before .before .before .before .before .before .before .before .before .if2 .left) (d .result) (depth-node (z .sheet .now) (take room (z .rows .now)) (take room (z .work .now)) (z .line .now) (d .result) (s .pre .0 .0) (d .ensures)) (c .before .before .before .before .before .before .before .before .before .before .before .if3 .left) (c .before .before .before .before .before .before .before .before .before .before .if4 .left) (y .last .1 .0) (y .result) (typed-node (take room (z .rows .now)) (take room (z .work .now)) (y .last .1 .0) (z .line .now) (y .result) (y .ensures)) (c .before .before .before .before .before .if5 .left) (x .last .1 .0) (x .result) (marked-node (take room (z .rows .now)) (y .last .1 .0) (z .line .now) (x .last .1 .0) (x .result) (s .pre .0 .0) (x .ensures)) (c .before .if6 .taken) (v .result .number) (v .result .key) (v .result .depth) (v .ensures)
+    (c .before .before .before .before .before .before .before .before .before .before .before .before .before .before .before .before .before .if1 .left) (u .result) (u .ensures (z .line .now)) (c .before .before .before .before .before .before .before .before .before .before .before .before .before .before .before .if2 .left) (d .result) (depth-node (z .sheet .now) (take room (z .rows .now)) (take room (z .work .now)) (z .line .now) (d .result) (s .pre .0 .0) (d .ensures)) (c .before .before .before .before .before .before .before .before .before .before .before .before .if3 .left) (q .result) (q .ensures) (c .before .before .before .before .before .before .before .before .before .before .if4 .left) (y .last .1 .0) (y .result) (typed-node (take room (z .rows .now)) (take room (z .work .now)) (y .last .1 .0) (z .line .now) (y .result) (y .ensures)) (c .before .before .before .before .before .if5 .left) (x .last .1 .0) (x .result) (marked-node (take room (z .rows .now)) (y .last .1 .0) (z .line .now) (x .last .1 .0) (x .result) (s .pre .0 .0) (x .ensures)) (c .before .if6 .taken) (v .result .number) (v .result .key) (v .result .depth) (v .ensures)
 
 returns-7 : tie.Need-returns-7
 returns-7 c =
@@ -104,12 +104,13 @@ returns-7 c =
     let s = w .before .before .before .before .before .before .before in
     let z = s .args in
     let o = w .in-turn in
-    let u = c .before .before .before .before .before .before .before .before .before .before .before .before .before .before .too-many in
-    let d = c .before .before .before .before .before .before .before .before .before .before .before .node-depth in
+    let u = c .before .before .before .before .before .before .before .before .before .before .before .before .before .before .before .nodes-full in
+    let d = c .before .before .before .before .before .before .before .before .before .before .before .before .node-depth in
+    let q = c .before .before .before .before .before .before .before .before .before .before .is-too-deep in
     let y = c .before .before .before .before .before .before .before .node-typed in
     let x = c .before .before .before .use-nodes in
     judged-0 (z .sheet .now) (z .rows .now) (z .work .now) (z .line .now) (s .pre .0 .1) (s .pre .0 .2) (s .pre .1 .0) NODE (sym (s .pre .0 .0)) (o .result) (o .ensures)
-    (c .before .before .before .before .before .before .before .before .before .before .before .before .before .before .before .before .if1 .left) (u .result) (u .ensures) (c .before .before .before .before .before .before .before .before .before .before .before .before .before .if2 .left) (d .result) (depth-node (z .sheet .now) (take room (z .rows .now)) (take room (z .work .now)) (z .line .now) (d .result) (s .pre .0 .0) (d .ensures)) (c .before .before .before .before .before .before .before .before .before .before .if3 .left) (c .before .before .before .before .before .before .before .before .before .if4 .left) (y .last .1 .0) (y .result) (typed-node (take room (z .rows .now)) (take room (z .work .now)) (y .last .1 .0) (z .line .now) (y .result) (y .ensures)) (c .before .before .before .before .if5 .left) (x .last .1 .0) (x .result) (marked-node (take room (z .rows .now)) (y .last .1 .0) (z .line .now) (x .last .1 .0) (x .result) (s .pre .0 .0) (x .ensures)) (c .if6 .left)
+    (c .before .before .before .before .before .before .before .before .before .before .before .before .before .before .before .before .if1 .left) (u .result) (u .ensures (z .line .now)) (c .before .before .before .before .before .before .before .before .before .before .before .before .before .before .if2 .left) (d .result) (depth-node (z .sheet .now) (take room (z .rows .now)) (take room (z .work .now)) (z .line .now) (d .result) (s .pre .0 .0) (d .ensures)) (c .before .before .before .before .before .before .before .before .before .before .before .if3 .left) (q .result) (q .ensures) (c .before .before .before .before .before .before .before .before .before .if4 .left) (y .last .1 .0) (y .result) (typed-node (take room (z .rows .now)) (take room (z .work .now)) (y .last .1 .0) (z .line .now) (y .result) (y .ensures)) (c .before .before .before .before .if5 .left) (x .last .1 .0) (x .result) (marked-node (take room (z .rows .now)) (y .last .1 .0) (z .line .now) (x .last .1 .0) (x .result) (s .pre .0 .0) (x .ensures)) (c .if6 .left)
 
 pub judge-node-spec : {M : Type 1} → statement M
 judge-node-spec =
@@ -122,7 +123,7 @@ judge-node-spec =
     (λ c κs. search needs)
     (λ c. search needs)
     returns
-    too-many-requires
+    (λ c κs. search needs)
     (λ c κs. search needs)
     (λ c. search needs)
     returns-2
@@ -130,6 +131,7 @@ judge-node-spec =
     (λ c κs. search needs)
     (λ c. search needs)
     returns-3
+    (λ c κs. search needs)
     (λ c κs. search needs)
     (λ c. search needs)
     returns-4
@@ -141,6 +143,6 @@ judge-node-spec =
     (λ c κs. search needs)
     (λ c. search needs)
     returns-6
-    (λ c. search needs)
+    (λ c. let q = c .before .before .before .before .before .before .before .before .before .before .is-too-deep in record { fits = depth-low (c .before .before .before .before .before .before .before .before .before .before .before .before .node-depth .result) (q .result) (q .ensures) (c .before .before .before .before .before .before .before .before .before .if4 .left) })
     (λ c. search needs)
     returns-7)

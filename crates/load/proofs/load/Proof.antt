@@ -7,7 +7,7 @@ use lib.ListN.{length}
 use Rattle.sheet.specs.Sheet.{inOrder, read}
 use Rattle.table.specs.Layout.{held}
 use Rattle.line.specs.Codes.{modeOf}
-use Rattle.checks.specs.Seen.{PLACE-WORDS, Seen}
+use Rattle.seen.specs.Seen.{PLACE-WORDS, Seen}
 use Rattle.load.proofs.Loading.{Progress, none-seen, none-before, progress-first, from-entry, finish-needs, line-unfits, all-read, line-faulty, line-fits, line-falls, line-stops, line-joins, line-orders, line-goes}
 use borrow.Author.Needs.{needs}
 use Rattle.load.proofs.load.Statement.{statement}

@@ -2,7 +2,7 @@
 use mathlib.Core.Path.{_≡_}
 use Prim.Native.Nat.{_-_}
 use lib.ListN.{length}
-use Rattle.typing.specs.Paths.{WORDS, From}
+use Rattle.typesets.specs.Sets.{TYPE-WORDS, From}
 use Rattle.rules.specs.Rules.{typeLacks, lacking}
 use Rattle.rules.proofs.Rulings.{Each, found-none, each-start, each-miss, each-on, each-over}
 use borrow.Author.Needs.{needs}
@@ -10,7 +10,7 @@ use Rattle.rules.proofs.each_lacks.Statement.{statement}
 use Rattle.rules.proofs.each_lacks.Tie as tie
 
 abbrev Inv-loop : tie.InvT-loop
-Inv-loop rows text type-row found₀ end i₀ found i = Each (lacking rows text) type-row i × From found 0 (typeLacks rows text) × (length found ≡ WORDS)
+Inv-loop rows text type-row found₀ end i₀ found i = Each (lacking rows text) type-row i × From found 0 (typeLacks rows text) × (length found ≡ TYPE-WORDS)
 
 abbrev μ-loop : tie.MeasureT-loop
 μ-loop rows text type-row found₀ end i₀ found i = end - i

@@ -4,7 +4,7 @@ use mathlib.Core.Path.{refl}
 use lib.ListN.{length, drop}
 use Rattle.cedar.specs.Numbered.{allRent}
 use Rattle.value.proofs.Lists.{Going}
-use Rattle.strict.specs.Gives.{values}
+use Rattle.lookup.specs.Lookups.{values}
 use Rattle.strict.proofs.Entities.{ents-end, ents-off, ents-on}
 use borrow.Author.Needs.{needs}
 use Rattle.strict.proofs.entity.all_entities.Statement.{statement}

@@ -1,5 +1,5 @@
 -- `strict::entity::taken` meets its contract. Assumes nothing.
-use Rattle.strict.proofs.Finds.{taken-at, taken-missing, taken-unknown, taken-bad}
+use Rattle.strict.proofs.Entities.{taken-at, taken-missing, taken-unknown, taken-bad}
 use borrow.Author.Needs.{needs}
 use Rattle.strict.proofs.entity.taken.Statement.{statement}
 use Rattle.strict.proofs.entity.taken.Tie as tie

@@ -2,8 +2,8 @@
 use Prim.Native.Nat.{_-_}
 use mathlib.Core.Path.{_≡_}
 use lib.ListN.{length}
-use Rattle.typing.specs.Paths.{KIND-WORDS, Each}
-use Rattle.typing.specs.Rules.{isAboveAt}
+use Rattle.typesets.specs.Sets.{KIND-WORDS, Each}
+use Rattle.typerows.specs.Types.{isAboveAt}
 use Rattle.typing.proofs.KeyRules.{Parents, parents-end, parents-unknown, parents-off, parents-on, parents-sort, parents-start}
 use Rattle.typing.proofs.SeenSets.{above-set}
 use borrow.Author.Needs.{needs}

@@ -1,5 +1,5 @@
 -- `child`: of the node that the word names.
-use Rattle.typing.proofs.Typings.{child-is}
+use Rattle.typing.proofs.Rulings.{child-is}
 use borrow.Author.Needs.{needs}
 use Rattle.typing.proofs.nodes.child.Statement.{statement}
 use Rattle.typing.proofs.nodes.child.Tie as tie

@@ -1,7 +1,7 @@
 -- `kinds_tags_are`: what is left of the kinds decides.
 use Prim.Native.Nat.{_-_}
-use Rattle.typing.proofs.KindWalks.{Kinds, kinds-start, kinds-done, tags-off, tags-on}
-use Rattle.typing.specs.Rules.{tagsAre}
+use Rattle.typerows.proofs.KindWalks.{Kinds, kinds-start, kinds-done, tags-off, tags-on}
+use Rattle.typerows.specs.Types.{tagsAre}
 use borrow.Author.Needs.{needs}
 use Rattle.typing.proofs.nodes.kinds_tags_are.Statement.{statement}
 use Rattle.typing.proofs.nodes.kinds_tags_are.Tie as tie

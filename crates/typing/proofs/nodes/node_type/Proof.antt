@@ -1,5 +1,5 @@
 -- `node_type`: of the node's row.
-use Rattle.typing.proofs.Typings.{node-type-is}
+use Rattle.typing.proofs.Rulings.{node-type-is}
 use borrow.Author.Needs.{needs}
 use Rattle.typing.proofs.nodes.node_type.Statement.{statement}
 use Rattle.typing.proofs.nodes.node_type.Tie as tie

@@ -1,0 +1,3 @@
+pub mod FormTable
+pub mod DepthLaws
+pub mod ThereLaws

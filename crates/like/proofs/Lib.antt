@@ -1,0 +1,3 @@
+pub mod Globbing
+pub mod Joining
+pub mod Cases

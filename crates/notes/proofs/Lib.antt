@@ -1,0 +1,3 @@
+pub mod Leaping
+pub mod Noting
+pub mod Chaining

@@ -1,0 +1,3 @@
+pub mod Leaps
+pub mod Noted
+pub mod Chains

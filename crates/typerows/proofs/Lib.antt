@@ -1,0 +1,3 @@
+pub mod Typings
+pub mod KindWalks
+pub mod Declaring

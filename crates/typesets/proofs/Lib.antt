@@ -1,0 +1,4 @@
+pub mod FirstBit
+pub mod Members
+pub mod Unions
+pub mod SlotLaws

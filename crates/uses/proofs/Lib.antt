@@ -1,0 +1,3 @@
+pub mod UseLaws
+pub mod UnderLaws
+pub mod NotedLaws
