@@ -190,6 +190,10 @@ pub fn all() -> Vec<(&'static str, Mode, Vec<u8>)> {
         "64 policies over one root, five paths of eight texts through a ring of 128 entities",
         shared_ring(&[b"a", b"b", b"c", b"d", b"e", b"f", b"g", b"h"]),
     );
+    add(
+        "64 policies over one root, five paths of two texts from a record through a ring of 128 entities",
+        held_ring(&[b"a", b"b"]),
+    );
     add("64 policies over one root, a path of six texts to and fro among six entities", shared_net());
     add("64 policies over one root, made values among many", shared_made(1));
     add("64 policies over one root, any on long sets", shared_sets());
@@ -904,16 +908,38 @@ fn ring_of(draft: &mut Draft, attributes: &[u32]) {
 /// Five paths of as many steps as fit from the last of 128 entities, each step to the next entity of the ring by these attributes
 /// in turn. No two paths are equally long.
 fn shared_ring(names: &[&[u8]]) -> Draft {
+    let (mut draft, attributes) = ring(names);
+    draft.principal = (0, Some(draft.text(b"127")));
+    ring_paths(&draft, &attributes, 2, Variable::Principal)
+}
+
+/// The same from the context, a record that has this entity as the first of these attributes.
+fn held_ring(names: &[&[u8]]) -> Draft {
+    let (mut draft, attributes) = ring(names);
+    let last = draft.text(b"127");
+    let last = draft.value(ValueRow::Entity(0, last));
+    let record = draft.ty(TypeRow::Record(vec![(attributes[0], false, 2)]));
+    let held = draft.value(ValueRow::Record(vec![(attributes[0], last)]));
+    draft.context = (record, Some(held));
+    ring_paths(&draft, &attributes, record, Variable::Context)
+}
+
+/// The ring, and the texts of its attributes.
+fn ring(names: &[&[u8]]) -> (Draft, Vec<u32>) {
     let mut draft = small();
     let attributes: Vec<u32> = names.iter().map(|name| draft.text(name)).collect();
     draft.shapes[0].attributes = draft.ty(TypeRow::Record(attributes.iter().map(|attribute| (*attribute, false, 2)).collect()));
     ring_of(&mut draft, &attributes);
-    draft.principal = (0, Some(draft.text(b"127")));
+    (draft, attributes)
+}
+
+/// Five paths of as many steps as fit by these attributes in turn, from this variable on.
+fn ring_paths(draft: &Draft, attributes: &[u32], ty: u32, variable: Variable) -> Draft {
     greatest(|steps| {
         let mut next = draft.clone();
         let leaves = (0..5)
             .map(|more| {
-                let var = next.node(2, Operation::Var(Variable::Principal));
+                let var = next.node(ty, Operation::Var(variable));
                 let path = attributes.iter().copied().cycle().take(steps + more).collect();
                 next.node(0, Operation::HasPath(var, path))
             })

@@ -42,7 +42,14 @@ pub fn column_of(text: u32) -> usize
 }
 
 // Notes that `text` leads from `value` to `next`.
-fn keep(value: u32, text: u32, next: u32, owners: &mut [u32], texts: &mut [u32], nexts: &mut [u32])
+pub fn keep(
+    value: u32,
+    text: u32,
+    next: u32,
+    owners: &mut [u32],
+    texts: &mut [u32],
+    nexts: &mut [u32],
+)
     ensures { λ _. ⌜ Kept value text next (now (owners .entry)) (now (texts .entry)) (now (nexts .entry)) (now (owners .exit)) (now (texts .exit)) (now (nexts .exit)) ⌝ }
 {
     if text >= TEXTS as u32 {

@@ -10,12 +10,12 @@ use lib.ListN.{getD, length, drop}
 use Rattle.cedar.specs.Evaluate.{isNil}
 use Rattle.value.proofs.Lists.{uncons, spent}
 use Rattle.lookup.specs.Lookups.{lookAttr}
-use Rattle.walk.specs.Walks.{walkStep, walkFrom}
+use Rattle.walk.specs.Walks.{walkStep, walkFrom, Found}
 use Rattle.lookup.specs.declared.Look.{Look}
 use Rattle.lookup.specs.declared.Look.the-variants.{At as Atˡ, Missing, Unknown as Unknownˡ, Bad}
 use Rattle.walk.specs.declared.Walked.{Walked}
 use Rattle.walk.specs.declared.Walked.the-variants.{Holds, Fails as Failsʷ, Left}
-use Rattle.notes.specs.Noted.{Noted, Looked}
+use Rattle.notes.specs.Noted.{Noted}
 use Rattle.firsts.specs.Firsts.{Firsts, Hits}
 
 -- ---- a path that leads to w
@@ -61,20 +61,24 @@ module _ (c : Bool) (a : List ℕ) (w : Walked) (path : List ℕ) (n i : ℕ) (g
 
 -- ---- by notes
 
-pub record Stepping (c : Bool) (a : List ℕ) (w : Walked) (path from₀ to₀ from to : List ℕ) (n i : ℕ) : Type 0 where
+pub record Stepping (c : Bool) (a : List ℕ) (w : Walked) (path from₀ to₀ owners₀ texts₀ nexts₀ from to owners texts nexts : List ℕ) (n i : ℕ) : Type 0 where
   pub walking : Walking c a w path n i
   pub noted : Noted c a from to
+  pub cells : Firsts a owners texts nexts
   pub froms : length from ≡ length from₀
   pub tos : length to ≡ length to₀
+  pub longo : length owners ≡ length owners₀
+  pub longt : length texts ≡ length texts₀
+  pub longn : length nexts ≡ length nexts₀
 
-pub step-start : (c : Bool) (a path from to : List ℕ) (n i : ℕ) → i ≤ length path → Noted c a from to → Stepping c a (walkFrom c a n i (drop i path)) path from to from to n i
-step-start c a path from to n i h g = record { walking = walk-start c a path n i h; noted = g; froms = refl; tos = refl }
+pub step-start : (c : Bool) (a path from to owners texts nexts : List ℕ) (n i : ℕ) → i ≤ length path → Noted c a from to → Firsts a owners texts nexts → Stepping c a (walkFrom c a n i (drop i path)) path from to owners texts nexts from to owners texts nexts n i
+step-start c a path from to owners texts nexts n i h g f = record { walking = walk-start c a path n i h; noted = g; cells = f; froms = refl; tos = refl; longo = refl; longt = refl; longn = refl }
 
-module _ (c : Bool) (a : List ℕ) (w : Walked) (path from₀ to₀ from to : List ℕ) (n i : ℕ) (g : Stepping c a w path from₀ to₀ from to n i) where
+module _ (c : Bool) (a : List ℕ) (w : Walked) (path from₀ to₀ owners₀ texts₀ nexts₀ from to owners texts nexts : List ℕ) (n i : ℕ) (g : Stepping c a w path from₀ to₀ owners₀ texts₀ nexts₀ from to owners texts nexts n i) where
   pub step-end : length path ≤ i → Failsʷ ≡ w
   step-end h = walk-end c a w path n i (g .walking) h
 
-  module _ (h : i < length path) (from′ to′ : List ℕ) (l : Look) (k : Looked c a n (getD path i 0) from′ to′ l) where
+  module _ (h : i < length path) (from′ to′ owners′ texts′ nexts′ : List ℕ) (l : Look) (k : Found c a n (getD path i 0) from′ to′ owners′ texts′ nexts′ l) where
     pub step-bad : l ≡ Bad → Failsʷ ≡ w
     step-bad e = walk-bad c a w path n i (g .walking) h l (k .is) e
 
@@ -88,23 +92,37 @@ module _ (c : Bool) (a : List ℕ) (w : Walked) (path from₀ to₀ from to : Li
       pub step-last : length path ≤ i + 1 → Holds true ≡ w
       step-last m = walk-last c a w path n i (g .walking) h l (k .is) x e m
 
-      pub step-on : i + 1 < length path → length from′ ≡ length from → length to′ ≡ length to → Stepping c a w path from₀ to₀ from′ to′ x (i + 1)
-      step-on m ef et = record { walking = walk-on c a w path n i (g .walking) h l (k .is) x e m; noted = k .noted; froms = ef ∙ g .froms; tos = et ∙ g .tos }
+      pub step-on : i + 1 < length path → length from′ ≡ length from → length to′ ≡ length to → length owners′ ≡ length owners → length texts′ ≡ length texts → length nexts′ ≡ length nexts
+          → Stepping c a w path from₀ to₀ owners₀ texts₀ nexts₀ from′ to′ owners′ texts′ nexts′ x (i + 1)
+      step-on m ef et lo lt ln = record { walking = walk-on c a w path n i (g .walking) h l (k .is) x e m; noted = k .noted; cells = k .cells; froms = ef ∙ g .froms; tos = et ∙ g .tos; longo = lo ∙ g .longo; longt = lt ∙ g .longt; longn = ln ∙ g .longn }
 
 -- ---- by cells
 
-module _ (c : Bool) (a : List ℕ) (w : Walked) (path : List ℕ) (n i : ℕ) (g : Walking c a w path n i) where
-  pub firsts-off : (r : Walked) → r ≡ walkFrom c a n i (drop i path) → r ≡ w
-  firsts-off r e = e ∙ sym (g .left)
+pub record Following (c : Bool) (a : List ℕ) (w : Walked) (path owners₀ texts₀ nexts₀ owners texts nexts : List ℕ) (n i : ℕ) : Type 0 where
+  pub walking : Walking c a w path n i
+  pub cells : Firsts a owners texts nexts
+  pub longo : length owners ≡ length owners₀
+  pub longt : length texts ≡ length texts₀
+  pub longn : length nexts ≡ length nexts₀
 
-  module _ (owners texts nexts : List ℕ) (f : Firsts a owners texts nexts) (h : i < length path) (cell : ℕ) (b : Bool) (hits : Hits owners texts cell n (getD path i 0) b) (z : not b ≡ false) where
+pub follow-start : (c : Bool) (a path owners texts nexts : List ℕ) (n : ℕ) → Firsts a owners texts nexts → Following c a (walkFrom c a n 0 path) path owners texts nexts owners texts nexts n 0
+follow-start c a path owners texts nexts n f = record { walking = walk-start c a path n 0 (omega arith); cells = f; longo = refl; longt = refl; longn = refl }
+
+module _ (c : Bool) (a : List ℕ) (w : Walked) (path owners₀ texts₀ nexts₀ owners texts nexts : List ℕ) (n i : ℕ) (g : Following c a w path owners₀ texts₀ nexts₀ owners texts nexts n i) where
+  pub follow-end : length path ≤ i → Failsʷ ≡ w
+  follow-end h = walk-end c a w path n i (g .walking) h
+
+  pub follow-off : (r : Walked) → r ≡ walkFrom c a n i (drop i path) → r ≡ w
+  follow-off r e = e ∙ sym (g .walking .left)
+
+  module _ (h : i < length path) (cell : ℕ) (b : Bool) (hits : Hits owners texts cell n (getD path i 0) b) (z : not b ≡ false) where
     leads-on : Atˡ (getD nexts cell 0) ≡ lookAttr c a n (getD path i 0)
-    leads-on = f .is c cell (getD path i 0) (hits .text (not-false b z)) ∙ ap (λ (y : ℕ). lookAttr c a y (getD path i 0)) (hits .owner (not-false b z))
+    leads-on = g .cells .is c cell (getD path i 0) (hits .text (not-false b z)) ∙ ap (λ (y : ℕ). lookAttr c a y (getD path i 0)) (hits .owner (not-false b z))
 
-    pub firsts-last : length path ≤ i + 1 → Holds true ≡ w
-    firsts-last m = walk-last c a w path n i g h (Atˡ (getD nexts cell 0)) leads-on (getD nexts cell 0) refl m
+    pub follow-last : length path ≤ i + 1 → Holds true ≡ w
+    follow-last m = walk-last c a w path n i (g .walking) h (Atˡ (getD nexts cell 0)) leads-on (getD nexts cell 0) refl m
 
-    pub firsts-on : (column y : ℕ) → cell ≡ column + n → y ≡ getD nexts (column + n) 0 → i + 1 < length path → Walking c a w path y (i + 1)
-    firsts-on column y ec ey m =
+    pub follow-on : (column y : ℕ) → cell ≡ column + n → y ≡ getD nexts (column + n) 0 → i + 1 < length path → Following c a w path owners₀ texts₀ nexts₀ owners texts nexts y (i + 1)
+    follow-on column y ec ey m =
         let e : y ≡ getD nexts cell 0 = ey ∙ ap (λ (j : ℕ). getD nexts j 0) (sym ec) in
-        rw e (walk-on c a w path n i g h (Atˡ (getD nexts cell 0)) leads-on (getD nexts cell 0) refl m)
+        record { walking = rw e (walk-on c a w path n i (g .walking) h (Atˡ (getD nexts cell 0)) leads-on (getD nexts cell 0) refl m); cells = g .cells; longo = g .longo; longt = g .longt; longn = g .longn }

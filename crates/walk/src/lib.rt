@@ -5,6 +5,7 @@ use firsts::cell_at;
 use firsts::cell_in;
 use firsts::column_of;
 use firsts::firsts;
+use firsts::keep;
 use firsts::leads;
 use forms::ENTITY;
 use lookup::Look;
@@ -19,7 +20,7 @@ ghost use Prim.Native.Nat.{_+_, _≤_, _<_};
 ghost use lib.ListN.{length, drop};
 ghost use Rattle.sheet.specs.Forms.{ENTITY};
 ghost use Rattle.table.specs.Layout.{rowsOf};
-ghost use Rattle.walk.specs.Walks.{walkFrom};
+ghost use Rattle.walk.specs.Walks.{walkFrom, Found};
 ghost use Rattle.notes.specs.Chains.{Chained};
 ghost use Rattle.firsts.specs.Firsts.{CELLS, Firsts};
 ghost use Rattle.notes.specs.Noted.{Noted};
@@ -34,7 +35,39 @@ pub enum Walked {
     Left(u32, u32, usize),
 }
 
-// A path of texts from step `first` on, at value `value`, with tables by value for what is noted.
+// `text` among the attributes of a record or an entity, by its cell; what the cell does not have is looked up, and put there where it is found.
+fn look_kept(
+    rows: &[u32],
+    complete: bool,
+    value: u32,
+    text: u32,
+    heads: &[u32],
+    links: &[u32],
+    from: &mut [u32],
+    to: &mut [u32],
+    owners: &mut [u32],
+    texts: &mut [u32],
+    nexts: &mut [u32],
+) -> Look
+    requires { ⌜ Chained (now rows) (rowsOf (now rows) ENTITY) 0 (now heads) (now links) ⌝ }
+    requires { ⌜ Noted complete (now rows) (now from) (now to) ⌝ }
+    requires { ⌜ Firsts (now rows) (now owners) (now texts) (now nexts) ⌝ }
+    ensures { λ l. ⌜ Found complete (now (rows .entry)) value text (now (from .exit)) (now (to .exit)) (now (owners .exit)) (now (texts .exit)) (now (nexts .exit)) l ⌝ }
+{
+    let column = column_of(text);
+    let cell = cell_in(column, value);
+    if leads(owners, texts, cell, value, text) {
+        return Look::At(cell_at(nexts, column, value));
+    }
+    let l = look_noted(rows, complete, value, text, heads, links, from, to);
+    let Look::At(x) = l else {
+        return l;
+    };
+    keep(value, text, x, owners, texts, nexts);
+    l
+}
+
+// A path of texts from step `first` on, at value `value`, by cells, and with tables by value for what is noted.
 fn walk_noted(
     rows: &[u32],
     complete: bool,
@@ -45,10 +78,14 @@ fn walk_noted(
     links: &[u32],
     from: &mut [u32],
     to: &mut [u32],
+    owners: &mut [u32],
+    texts: &mut [u32],
+    nexts: &mut [u32],
 ) -> Walked
     requires { ⌜ first ≤ length (now path) ⌝ }
     requires { ⌜ Chained (now rows) (rowsOf (now rows) ENTITY) 0 (now heads) (now links) ⌝ }
     requires { ⌜ Noted complete (now rows) (now from) (now to) ⌝ }
+    requires { ⌜ Firsts (now rows) (now owners) (now texts) (now nexts) ⌝ }
     ensures { λ r. ⌜ r ≡ walkFrom complete (now (rows .entry)) value first (drop first (now (path .entry))) ⌝ }
 {
     let mut n = value;
@@ -57,7 +94,19 @@ fn walk_noted(
         if i >= path.len() {
             break Walked::Fails;
         }
-        match look_noted(rows, complete, n, path[i], heads, links, from, to) {
+        match look_kept(
+            rows,
+            complete,
+            n,
+            path[i],
+            heads,
+            links,
+            from,
+            to,
+            owners,
+            texts,
+            nexts,
+        ) {
             Look::Bad => break Walked::Fails,
             Look::Missing => break Walked::Holds(false),
             Look::Unknown(k) => break Walked::Left(n, k, i),
@@ -73,8 +122,18 @@ fn walk_noted(
 }
 
 // A long path of texts from step `first` on, at value `value`, by chains and notes.
-fn walk_chained(rows: &[u32], complete: bool, value: u32, first: usize, path: &[u32]) -> Walked
+fn walk_chained(
+    rows: &[u32],
+    complete: bool,
+    value: u32,
+    first: usize,
+    path: &[u32],
+    owners: &mut [u32],
+    texts: &mut [u32],
+    nexts: &mut [u32],
+) -> Walked
     requires { ⌜ first ≤ length (now path) ⌝ }
+    requires { ⌜ Firsts (now rows) (now owners) (now texts) (now nexts) ⌝ }
     ensures { λ r. ⌜ r ≡ walkFrom complete (now (rows .entry)) value first (drop first (now (path .entry))) ⌝ }
 {
     let mut heads: [u32; TEXTS] = [0; TEXTS];
@@ -92,16 +151,29 @@ fn walk_chained(rows: &[u32], complete: bool, value: u32, first: usize, path: &[
         &links[..],
         &mut from[..],
         &mut to[..],
+        owners,
+        texts,
+        nexts,
     )
 }
 
 // A path of texts from step `first` on, at value `value`. Where few steps are left, little is noted, and no chains are made.
-fn walk_on(rows: &[u32], complete: bool, value: u32, first: usize, path: &[u32]) -> Walked
+fn walk_on(
+    rows: &[u32],
+    complete: bool,
+    value: u32,
+    first: usize,
+    path: &[u32],
+    owners: &mut [u32],
+    texts: &mut [u32],
+    nexts: &mut [u32],
+) -> Walked
     requires { ⌜ first ≤ length (now path) ⌝ }
+    requires { ⌜ Firsts (now rows) (now owners) (now texts) (now nexts) ⌝ }
     ensures { λ r. ⌜ r ≡ walkFrom complete (now (rows .entry)) value first (drop first (now (path .entry))) ⌝ }
 {
     if path.len() - first >= LONG {
-        return walk_chained(rows, complete, value, first, path);
+        return walk_chained(rows, complete, value, first, path, owners, texts, nexts);
     }
     let mut from: [u32; 1] = [0; 1];
     let mut to: [u32; 1] = [0; 1];
@@ -115,6 +187,9 @@ fn walk_on(rows: &[u32], complete: bool, value: u32, first: usize, path: &[u32])
         &rows[0..0],
         &mut from[..],
         &mut to[..],
+        owners,
+        texts,
+        nexts,
     )
 }
 
@@ -124,9 +199,9 @@ fn walk_firsts(
     complete: bool,
     value: u32,
     path: &[u32],
-    owners: &[u32],
-    texts: &[u32],
-    nexts: &[u32],
+    owners: &mut [u32],
+    texts: &mut [u32],
+    nexts: &mut [u32],
 ) -> Walked
     requires { ⌜ Firsts (now rows) (now owners) (now texts) (now nexts) ⌝ }
     ensures { λ r. ⌜ r ≡ walkFrom complete (now (rows .entry)) value 0 (now (path .entry)) ⌝ }
@@ -140,7 +215,7 @@ fn walk_firsts(
         let column = column_of(path[i]);
         let cell = cell_in(column, n);
         if !leads(owners, texts, cell, n, path[i]) {
-            break walk_on(rows, complete, n, i, path);
+            break walk_on(rows, complete, n, i, path, owners, texts, nexts);
         }
         if i + 1 >= path.len() {
             break Walked::Holds(true);
@@ -163,9 +238,28 @@ fn walk_long(rows: &[u32], complete: bool, value: u32, path: &[u32]) -> Walked
         complete,
         value,
         path,
-        &owners[..],
-        &texts[..],
-        &nexts[..],
+        &mut owners[..],
+        &mut texts[..],
+        &mut nexts[..],
+    )
+}
+
+// A path of texts from value `value` on, with no cells.
+fn walk_short(rows: &[u32], complete: bool, value: u32, path: &[u32]) -> Walked
+    ensures { λ r. ⌜ r ≡ walkFrom complete (now (rows .entry)) value 0 (now (path .entry)) ⌝ }
+{
+    let mut owners: [u32; 1] = [0; 1];
+    let mut texts: [u32; 1] = [0; 1];
+    let mut nexts: [u32; 1] = [0; 1];
+    walk_on(
+        rows,
+        complete,
+        value,
+        0,
+        path,
+        &mut owners[..],
+        &mut texts[..],
+        &mut nexts[..],
     )
 }
 
@@ -174,14 +268,14 @@ pub fn walk(rows: &[u32], complete: bool, value: u32, path: &[u32]) -> Walked
     ensures { λ r. ⌜ r ≡ walkFrom complete (now (rows .entry)) value 0 (now (path .entry)) ⌝ }
 {
     if path.len() < LONG {
-        return walk_on(rows, complete, value, 0, path);
+        return walk_short(rows, complete, value, path);
     }
     let n = count(rows, ENTITY);
     if n == 0 {
-        return walk_on(rows, complete, value, 0, path);
+        return walk_short(rows, complete, value, path);
     }
     if path.len() < n as usize / 2 {
-        return walk_on(rows, complete, value, 0, path);
+        return walk_short(rows, complete, value, path);
     }
     walk_long(rows, complete, value, path)
 }

@@ -11,7 +11,7 @@ index-requires : tie.Need-index-requires
 index-requires c κs = clear-none TEXTS
 
 walk-noted-requires : tie.Need-walk-noted-requires
-walk-noted-requires c κs = (search needs, (search needs, noted-none _ _ VALUES))
+walk-noted-requires c κs = (search needs, (search needs, (noted-none _ _ VALUES, search needs)))
 
 pub walk-chained-spec : {M : Type 1} → statement M
 walk-chained-spec =
@@ -25,4 +25,7 @@ walk-chained-spec =
     (λ c. search needs)
     (λ c. search needs)
     walk-noted-requires
+    (λ c. search needs)
+    (λ c. search needs)
+    (λ c. search needs)
     (λ c. search needs))

@@ -6,7 +6,7 @@ use Rattle.walk.proofs.walk_on.Statement.{statement}
 use Rattle.walk.proofs.walk_on.Tie as tie
 
 walk-noted-requires : tie.Need-walk-noted-requires
-walk-noted-requires c κs = (search needs, (chained-none _ _ _, noted-none _ _ 1))
+walk-noted-requires c κs = (search needs, (chained-none _ _ _, (noted-none _ _ 1, search needs)))
 
 pub walk-on-spec : {M : Type 1} → statement M
 walk-on-spec =
@@ -23,5 +23,11 @@ walk-on-spec =
     (λ c. search needs)
     (λ c. search needs)
     (λ c. search needs)
+    (λ c. search needs)
+    (λ c. search needs)
+    (λ c. search needs)
     walk-noted-requires
+    (λ c. search needs)
+    (λ c. search needs)
+    (λ c. search needs)
     (λ c. search needs))
