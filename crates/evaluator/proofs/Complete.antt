@@ -35,9 +35,10 @@ use Rattle.tpe.specs.Fits.{Fits}
 use Rattle.tpe.proofs.Reach.{reach_start}
 use Rattle.tpe.proofs.Singles.{single, single_words}
 use Rattle.tpe.proofs.Stands.{Hold, Room}
-use Rattle.evaluator.specs.Run.{values, class_numbers, under, run_of, ran_from}
+use Rattle.evaluator.specs.Run.{values, class_numbers, run_of, ran_from}
+use Rattle.evaluator.proofs.Ways.{under}
 use Rattle.evaluator.proofs.Gives.{Stand}
-use Rattle.evaluator.proofs.Evaluates.{policies_at, Runs, first, run_is}
+use Rattle.evaluator.proofs.Evaluates.{policies_at, Runs, run_is}
 use Rattle.evaluator.proofs.Depth.{policies_whole}
 
 -- ---- texts and depths do not matter to the request and the entities, nor depths to the schema
@@ -103,12 +104,12 @@ module _ (sheet a b : List ℕ) where
         → Runs sheet a (env (held sheet a b)) [] (class_numbers (results (held sheet a b))) (run_of sheet a)
     unfolding run_of results
     run_held room fits =
-        let t = run_is sheet a (env (held sheet a b)) (rows_of a RUN) 0 0 a [] (contents (held sheet a b)) refl start
+        let t = run_is sheet a (env (held sheet a b)) (rows_of a RUN) 0 a [] (contents (held sheet a b)) refl start
         (subst (λ (ps : List NPolicy). Room (policy_sizes ps) a []) (sym all_policies) room)
         (omega (arith, fits, ap policy_sizes all_policies))
-        (subst (λ (ps : List NPolicy). ReadPolicies (contents (held sheet a b)) ps (policies (held sheet a b))) (sym all_policies) (read_own complete (held sheet a b) f.history f.ends)) first in
-        subst (λ (k : ℕ). Runs sheet a (env (held sheet a b)) [] (class_numbers (results (held sheet a b))) (ran_from (under sheet) k 0 0 a [])) (count_rows a RUN)
-        (subst (λ (S : Schema). Runs sheet a (env (held sheet a b)) [] (class_numbers (complete_answer S (env (held sheet a b)) (policies (held sheet a b)))) (ran_from (under sheet) (length (rows_of a RUN)) 0 0 a [])) schema_same t)
+        (subst (λ (ps : List NPolicy). ReadPolicies (contents (held sheet a b)) ps (policies (held sheet a b))) (sym all_policies) (read_own complete (held sheet a b) f.history f.ends)) in
+        subst (λ (k : ℕ). Runs sheet a (env (held sheet a b)) [] (class_numbers (results (held sheet a b))) (ran_from (under sheet) k 0 a [])) (count_rows a RUN)
+        (subst (λ (S : Schema). Runs sheet a (env (held sheet a b)) [] (class_numbers (complete_answer S (env (held sheet a b)) (policies (held sheet a b)))) (ran_from (under sheet) (length (rows_of a RUN)) 0 a [])) schema_same t)
 
     pub run_few : policy_sizes (n_policies (held sheet a b)) ≤ 1024 → Fits a → Runs sheet a (env (held sheet a b)) [] (class_numbers (results (held sheet a b))) (run_of sheet a)
     unfolding limit limits

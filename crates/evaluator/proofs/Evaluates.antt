@@ -1,12 +1,9 @@
 -- The run over words yields what `eval` of the Cedar specification gives each tree, node by node and policy by policy. Assumes nothing.
-use mathlib.Core.Path.{◌≡◌, refl, sym, ◌∙◌, ap, ap₂, subst}
-use mathlib.Core.Bool.{Bool, true, false, cond}
+use mathlib.Core.Path.{◌≡◌, refl, sym, ◌∙◌, ap, subst}
 use mathlib.Core.List.{List, [], ◌∷◌, ◌++◌, append_assoc, append-nil}
 use Prim.Native.Nat.{ℕ, zero, suc, ◌+◌, ◌-◌, ◌*◌, ◌≤◌}
 use native.Mathlib.Omega.{arith}
-use lib.Dec.{eqb}
 use lib.ListN.{length, get_or, drop, length-append}
-use lib.Seq.{get_or_at}
 use Rattle.words.specs.Log.{pushed}
 use Rattle.words.proofs.Logs.{appended_is}
 use Rattle.cedar.specs.Value.{Value as Content, Result}
@@ -16,20 +13,18 @@ use Rattle.cedar.specs.Entities.{Env}
 use Rattle.cedar.specs.Evaluate.{eval}
 use Rattle.cedar.specs.Runs.{Policy, NPolicy, result_class, complete_answer}
 use Rattle.cedar.specs.Reads.{Reads, xerr, ReadPolicies, done, also}
-use Rattle.cedar.proofs.Tools.{no_true, and_right}
 use Rattle.cedar.proofs.ReadsLaws.{Keeps, keep_reads, row_denotes, on_bool_law}
 use Rattle.sheet.specs.Forms.{tag, items, at, first_node, NODE}
 use Rattle.sheet.specs.Content.{var_of, pattern_of, types, effect_of, linked}
 use Rattle.sheet.specs.Answer.{size}
 use Rattle.sheet.proofs.running.MadeCount.{policy_sizes}
-use Rattle.table.specs.Layout.{RUN, MADE, rows_of, held}
-use Rattle.alike.specs.Alike.{same_tree, is_alike, last_of}
-use Rattle.alike.proofs.AlikeLaws.{same_given}
+use Rattle.table.specs.Layout.{RUN, rows_of, held}
 use Rattle.residual.specs.Classes.{class_number}
 use Rattle.tpe.proofs.Stands.{Hold, Room}
-use Rattle.evaluator.specs.Run.{E, Rec, Step, yields, node_in, policy_in, steps, err_step, step_at, step_of, eval_of, class_of, class_numbers, Ran, under, again_of, fresh_of, turn_of, ran_from}
+use Rattle.evaluator.specs.Run.{E, Rec, Step, yields, node_in, policy_in, steps, err_step, step_at, step_of, eval_of, class_of, class_numbers, Ran, ran_from}
 use Rattle.evaluator.specs.declared.Yield.{Yield}
 use Rattle.evaluator.specs.declared.Yield.TheVariants.{Error}
+use Rattle.evaluator.proofs.Ways.{under}
 use Rattle.evaluator.proofs.Gives.{Says, says_value, says_error, Stand, Gives, is_error_law, some_room, rest_room}
 use Rattle.evaluator.proofs.Steps.{sch, Meets, lit_meets, slot_meets, err_meets, var_meets, un_meets, get_meets, has_meets, path_meets, bin_meets, rel_meets, and_meets, or_meets, if_meets}
 use Rattle.evaluator.proofs.Many.{kids_with, args_with, set_meets, rec_meets}
@@ -131,10 +126,10 @@ module _ (sheet a₀ : List ℕ) (G : Env) where
 
   -- ---- the policies in order
 
-  pub class_is_law : {C : List Content} {a : List ℕ} {y : Yield} {r : Result} → Stand sheet a₀ G C a → Says C y r → class_of a y ≡ result_class r
+  pub class_is : {C : List Content} {a : List ℕ} {y : Yield} {r : Result} → Stand sheet a₀ G C a → Says C y r → class_of a y ≡ result_class r
   unfolding class_of
-  class_is_law s (says_value h) = on_bool_law ◌≡◌ refl truth truth (row_denotes s.table h) (λ b. refl)
-  class_is_law s says_error = refl
+  class_is s (says_value h) = on_bool_law ◌≡◌ refl truth truth (row_denotes s.table h) (λ b. refl)
+  class_is s says_error = refl
 
   keep_policies : {C D : List Content} → Keeps C D → (rs : List (List ℕ)) {ps : List Policy} → ReadPolicies C (policies_at tys nodes rs) ps → ReadPolicies D (policies_at tys nodes rs) ps
   keep_policies k [] done = done
@@ -148,86 +143,34 @@ module _ (sheet a₀ : List ℕ) (G : Env) where
   abbrev root_by : (ℕ → ℕ → Rec) → List ℕ → List ℕ → List ℕ → E
   root_by f a l r = f (at r 3) (at r 4) a l (at r 2)
 
-  -- the tree of a policy's row, under its link
-  abbrev root_of : List ℕ → Node ℕ
-  root_of r = linked_at tys nodes (at r 3) (at r 4) 64 (at r 2)
-
-  -- the number of the class of an expression
-  abbrev class_is : Expr → ℕ
-  class_is X = class_number (result_class (eval (sch sheet a₀ G) G X))
-
-  -- the policy before number i, if there is one, has the class that was left last
-  pub data Before (C : List Content) (l : List ℕ) : ℕ → Type 0 where
-    first : Before C l 0
-    before : {i : ℕ} {X : Expr} → Reads C (root_of (get_or (rows_of a₀ RUN) i [])) X → last_of l ≡ class_is X → Before C l (suc i)
-
-  -- the turn of a policy leaves its class c, and the room of m nodes
-  record Turned (C : List Content) (m : ℕ) (l : List ℕ) (c : ℕ) (t : Ran) : Type 0 where
-    pub contents : List Content
-    pub keeps : Keeps C contents
-    pub stand : Stand sheet a₀ G contents t.words
-    pub room : Room m t.words l
-    pub log : t.log ≡ pushed l c
-
-  -- two rows of policies that run with the same root under the same link have one tree
-  same_root : (r s : List ℕ) → same_tree r s ≡ true → root_of s ≡ root_of r
-  same_root r s h = sym (same_given (λ (n p q : ℕ). linked_at tys nodes p q 64 n) r s h)
-
-  -- a policy that does as the one before it did has the tree that the class was left for
-  like_before : {P : Type 0} (C : List Content) (l a r : List ℕ) (made i : ℕ) → Hold a₀ a → policy_in a i ≡ r → is_alike a made i ≡ true → Before C l i → ((Y : Expr) → Reads C (root_of r) Y → last_of l ≡ class_is Y → P) → P
-  unfolding is_alike
-  like_before C l a r made zero h er e first f = no_true e
-  like_before C l a r made (suc i) h er e (before {X = Y} q c) f =
-      let same : same_tree r (get_or (rows_of a₀ RUN) i []) ≡ true = sym (ap₂ same_tree er (ap (λ (rows : List (List ℕ)). get_or rows i []) (h.same RUN (omega arith)))) ∙ and_right (eqb (get_or a MADE 0) made) (same_tree (policy_in a (suc i)) (policy_in a i)) e in
-      f Y (subst (λ (t : Node ℕ). Reads C t Y) (same_root r (get_or (rows_of a₀ RUN) i []) same) q) c
-
-  module _ (made i : ℕ) (a l r : List ℕ) (C : List Content) (X : Expr) (m : ℕ) (er : policy_in a i ≡ r) (s : Stand sheet a₀ G C a) (room : Room (size (root_of r) + m) a l) (q : Reads C (root_of r) X) where
-    -- the run over its tree, of whatever expression it reads as
-    abbrev runs : {Y : Expr} → Reads C (root_of r) Y → Gives sheet a₀ G C (size (root_of r)) a (root_by (under sheet) a l r) (eval (sch sheet a₀ G) G Y)
-    runs {Y} h = (meets (at r 3) (at r 4) 64 (at r 2)).run a l C Y s (some_room sheet a₀ G (size (root_of r)) (size (root_of r) + m) a l room (omega arith)) h
-
-    -- evaluated, it has the class of its expression
-    class_of_law : {Y : Expr} → Reads C (root_of r) Y → class_number (class_of (root_by (under sheet) a l r).words (root_by (under sheet) a l r).yield) ≡ class_is Y
-    class_of_law h = ap class_number (class_is_law (runs h).stand (runs h).says)
-
-    -- and where it does as the one before it did, that is the class that was left last
-    alike_class : Before C l i → is_alike a made i ≡ true → last_of l ≡ class_is X
-    alike_class b h = like_before C l a r made i s.hold er h b (λ Y k e. e ∙ sym (class_of_law k) ∙ class_of_law q)
-
-    -- so its turn leaves the class of its expression, evaluated or taken over
-    turn_is : Before C l i → Turned C m l (class_is X) (turn_of (under sheet) i made a l)
-    unfolding turn_of
-    turn_is b = go (is_alike a made i) (alike_class b)
-      where
-        go : (t : Bool) → (t ≡ true → last_of l ≡ class_is X) → Turned C m l (class_is X) (cond t (again_of a l) (fresh_of (under sheet) i a l))
-        go true e = record { contents = C; keeps = λ n x h. h; stand = s; room = some_room sheet a₀ G m (size (root_of r) + m) a l room (omega arith); log = ap (pushed l) (e refl) }
-        go false e = rw er (record { contents = (runs q).contents; keeps = (runs q).keeps; stand = (runs q).stand; room = rest_room sheet a₀ G (runs q) m (size (root_of r) + m) l room (omega arith); log = ap (pushed l) (class_of_law q) })
+  ran_step : (f : ℕ → ℕ → Rec) (k i : ℕ) (a l r : List ℕ) (c : ℕ) → policy_in a i ≡ r → class_number (class_of (root_by f a l r).words (root_by f a l r).yield) ≡ c
+      → ran_from f (suc k) i a l ≡ ran_from f k (suc i) (root_by f a l r).words (pushed l c)
+  unfolding ran_from
+  ran_step f k i a l r c e g =
+      ap (λ (q : List ℕ). ran_from f k (suc i) (root_by f a l q).words (pushed l (class_number (class_of (root_by f a l q).words (root_by f a l q).yield)))) e
+      ∙ ap (λ (n : ℕ). ran_from f k (suc i) (root_by f a l r).words (pushed l n)) g
 
   -- the sheet's rows stay, and the log has these words more
   pub record Runs (l cs : List ℕ) (t : Ran) : Type 0 where
     pub hold : Hold a₀ t.words
     pub log : t.log ≡ l ++ cs
 
-  -- the class that was left last is the one just left
-  last_is : (l : List ℕ) (c : ℕ) → last_of (l ++ (c ∷ [])) ≡ c
-  last_is l c = ap (λ (n : ℕ). get_or (l ++ (c ∷ [])) (n - 1) 0) (length-append l (c ∷ [])) ∙ get_or_at l c [] 0 (length l + 1 - 1) (omega arith)
-
   -- the numbers of the classes of the complete answer
-  pub run_is : (rs : List (List ℕ)) {ps : List Policy} (i made : ℕ) (a l : List ℕ) (C : List Content) → drop i (rows_of a₀ RUN) ≡ rs → Stand sheet a₀ G C a
-      → Room (policy_sizes (policies_at tys nodes rs)) a l → length l + length rs + 6 * policy_sizes (policies_at tys nodes rs) ≤ 16384 → ReadPolicies C (policies_at tys nodes rs) ps → Before C l i
-      → Runs l (class_numbers (complete_answer (sch sheet a₀ G) G ps)) (ran_from (under sheet) (length rs) i made a l)
+  pub run_is : (rs : List (List ℕ)) {ps : List Policy} (i : ℕ) (a l : List ℕ) (C : List Content) → drop i (rows_of a₀ RUN) ≡ rs → Stand sheet a₀ G C a
+      → Room (policy_sizes (policies_at tys nodes rs)) a l → length l + length rs + 6 * policy_sizes (policies_at tys nodes rs) ≤ 16384 → ReadPolicies C (policies_at tys nodes rs) ps
+      → Runs l (class_numbers (complete_answer (sch sheet a₀ G) G ps)) (ran_from (under sheet) (length rs) i a l)
   unfolding ran_from
-  run_is [] i made a l C e s room fits done b = record { hold = s.hold; log = sym (append-nil l) }
-  run_is (r ∷ rs) i made a l C e s room fits (also {A = X} q h) b =
+  run_is [] i a l C e s room fits done = record { hold = s.hold; log = sym (append-nil l) }
+  run_is (r ∷ rs) i a l C e s room fits (also {A = X} q h) =
+      let n : ℕ = size (linked_at tys nodes (at r 3) (at r 4) 64 (at r 2)) in
       let m : ℕ = policy_sizes (policies_at tys nodes rs) in
-      let c : ℕ = class_is X in
-      let t = turn_is made i a l r C X m (policy_here a s.hold i e) s room q b in
-      let o : Ran = turn_of (under sheet) i made a l in
+      let k = (meets (at r 3) (at r 4) 64 (at r 2)).run a l C X s (some_room sheet a₀ G n (n + m) a l room (omega arith)) q in
+      let c : ℕ = class_number (result_class (eval (sch sheet a₀ G) G X)) in
+      let z = rest_room sheet a₀ G k m (n + m) l room (omega arith) in
       let len = length-append l (c ∷ []) in
-      let row : get_or (rows_of a₀ RUN) i [] ≡ r = here (rows_of a₀ RUN) i [] e in
-      let rest = run_is rs (suc i) (get_or a MADE 0) o.words (l ++ (c ∷ [])) t.contents (further (rows_of a₀ RUN) i e) t.stand
-      (record { top = t.room.top; few = t.room.few; log = omega (arith, fits, len) }) (omega (arith, fits, len)) (keep_policies t.keeps rs h)
-      (before (subst (λ (z : List ℕ). Reads t.contents (root_of z) X) (sym row) (keep_reads t.keeps q)) (last_is l c)) in
+      let rest = run_is rs (suc i) (root_by (under sheet) a l r).words (l ++ (c ∷ [])) k.contents (further (rows_of a₀ RUN) i e) k.stand
+      (record { top = z.top; few = z.few; log = omega (arith, fits, len) }) (omega (arith, fits, len)) (keep_policies k.keeps rs h) in
       subst (Runs l _)
-      (sym (ap (ran_from (under sheet) (length rs) (suc i) (get_or a MADE 0) o.words) (t.log ∙ appended_is l (c ∷ []) (omega (arith, fits)))))
+      (sym (ran_step (under sheet) (length rs) i a l r c (policy_here a s.hold i e) (ap class_number (class_is k.stand k.says))
+      ∙ ap (ran_from (under sheet) (length rs) (suc i) (root_by (under sheet) a l r).words) (appended_is l (c ∷ []) (omega (arith, fits)))))
       (record { hold = rest.hold; log = rest.log ∙ append_assoc l (c ∷ []) _ })

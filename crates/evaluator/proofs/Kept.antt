@@ -9,13 +9,12 @@ use lib.ListN.{length, get_or}
 use Rattle.cedar.specs.Rows.{Row, rbool, rlong, rtext, rent, rset, rrec}
 use Rattle.cedar.specs.Numbered.{Give, made, old, NOut, give, fails, stays, row_at, r_bool}
 use Rattle.sheet.specs.Forms.{at, first_node}
-use Rattle.alike.specs.Alike.{is_alike}
 use Rattle.value.specs.Made.{bool_row, with_value, written}
 use Rattle.value.specs.Clear.{Clear}
 use Rattle.value.proofs.ClearLaws.{clear_kept}
 use Rattle.tpe.proofs.Kept.{Each, done, ◌&◌, each_at}
-use Rattle.evaluator.specs.Run.{E, Rec, Kids, yields, values, node_in, made_of, give_of, settle_of, opt_of, on_yield, next, on_bool, bool_only, side_of, branch_of, next_kid, kids, kids_of, many_of, Step, lit_step, err_step, var_step, lazy_step, if_step, one_step, two_step, set_step, rec_step, slot_step, twos, ones, each, steps, step_at, step_of, eval_of, under, again_of, fresh_of, turn_of}
-use Rattle.evaluator.specs.Gave.{GaveBeside, Done}
+use Rattle.evaluator.specs.Run.{E, Rec, Kids, yields, values, node_in, made_of, give_of, settle_of, opt_of, on_yield, next, on_bool, bool_only, side_of, branch_of, next_kid, kids, kids_of, many_of, Step, lit_step, err_step, var_step, lazy_step, if_step, one_step, two_step, set_step, rec_step, slot_step, twos, ones, each, steps, step_at, step_of, eval_of}
+use Rattle.evaluator.specs.Gave.{GaveBeside}
 use Rattle.evaluator.specs.declared.Yield.{Yield}
 use Rattle.evaluator.specs.declared.Yield.TheVariants.{Value, Error}
 
@@ -185,12 +184,3 @@ module _ (P : List ℕ → Type 0) (keep : (a r : List ℕ) → P a → P (with_
 module _ (skip : ℕ) where
   pub eval_clear : (sheet : List ℕ) (p q d : ℕ) (a l : List ℕ) (n : ℕ) (a₁ : List ℕ) (y : Yield) (bt : ℕ) (b b₁ : List ℕ) → Clear a skip → GaveBeside (eval_of sheet p q d a l n) a₁ y bt b b₁ → Clear a₁ skip
   eval_clear sheet p q d a l n a₁ y bt b b₁ c g = subst (λ (w : List ℕ). Clear w skip) (sym g.words) (eval_keeps (λ (w : List ℕ). Clear w skip) (clear_kept skip) sheet p q d a l n c)
-
-  -- in the turn of a policy too, evaluated or not
-  pub turn_clear : (sheet : List ℕ) (i m : ℕ) (a l a₁ b₁ : List ℕ) (e : ℕ) → Clear a skip → Done (turn_of (under sheet) i m a l) a₁ b₁ e → Clear a₁ skip
-  unfolding turn_of
-  turn_clear sheet i m a l a₁ b₁ e c d = subst (λ (w : List ℕ). Clear w skip) (sym d.words) (go (is_alike a m i))
-    where
-      go : (t : Bool) → Clear (cond t (again_of a l) (fresh_of (under sheet) i a l)).words skip
-      go true = c
-      go false = eval_keeps (λ (w : List ℕ). Clear w skip) (clear_kept skip) sheet _ _ 64 a l _ c

@@ -10,20 +10,19 @@ use lib.Dec.{ltb}
 use lib.ListN.{length, get_or, take, drop, get_or-eq_default}
 use lib.Seq.{take-add, drop_at, length-take-le}
 use Rattle.words.specs.Log.{part, Room, Appended, appended, pushed}
-use Rattle.words.proofs.Logs.{appended_low, append_holds, append_room, append_below, holds_same, holds_as, holds_from, log_cut, log_length}
+use Rattle.words.proofs.Logs.{append_holds, append_room, append_below, holds_same, holds_as, holds_from, log_cut, log_length}
 use Rattle.cedar.specs.Residual.{uempty, bany}
 use Rattle.cedar.specs.Numbered.{row_at}
 use Rattle.sheet.specs.Forms.{tag, at, first_node, NODE}
 use Rattle.sheet.specs.Typing.{slot_value}
 use Rattle.forms.specs.Tags.{ERR, VAR, AND, OR, EQ, IF, IS, SET_OF, RECORD_OF, SLOT}
 use Rattle.sheet.specs.Content.{var_of}
-use Rattle.table.specs.Layout.{RUN, MADE, rows_of}
+use Rattle.table.specs.Layout.{RUN, rows_of}
 use Rattle.table.proofs.Rows.{above}
-use Rattle.alike.specs.Alike.{is_alike, last_of}
 use Rattle.value.specs.Made.{bool_row, Made, MadeBeside, set_row, record_row, written}
 use Rattle.residual.specs.Rows.{lit_row}
 use Rattle.residual.specs.Classes.{class_number}
-use Rattle.evaluator.specs.Run.{E, Rec, Step, Kids, Ran, yields, values, node_in, policy_in, made_of, settle_of, opt_of, on_yield, next, on_bool, bool_only, side_of, branch_of, kids, next_kid, kids_of, many_of, env_of, lit_step, err_step, var_step, lazy_step, if_step, one_step, two_step, set_step, rec_step, slot_step, bin_out, un_out, twos, two_out, each, ones, one_out, steps, step_at, step_of, eval_of, class_of, under, classed, again_of, fresh_of, turn_of, ran_from, run_of}
+use Rattle.evaluator.specs.Run.{E, Rec, Step, Kids, Ran, yields, values, node_in, policy_in, made_of, settle_of, opt_of, on_yield, next, on_bool, bool_only, side_of, branch_of, kids, next_kid, kids_of, many_of, env_of, lit_step, err_step, var_step, lazy_step, if_step, one_step, two_step, set_step, rec_step, slot_step, bin_out, un_out, twos, two_out, each, ones, one_out, steps, step_at, step_of, eval_of, class_of, ran_from, run_of}
 use Rattle.evaluator.specs.Gave.{Gave, GaveBeside, Left, Done, truth_of, yield_bool, same_bool}
 use Rattle.evaluator.specs.declared.Yield.{Yield}
 use Rattle.evaluator.specs.declared.Yield.TheVariants.{Value, Error}
@@ -394,85 +393,58 @@ module _ (sheet : List ℕ) (p q : ℕ) (a b : List ℕ) (bt n d : ℕ) (room : 
 
 -- ---- the policies in turn
 
-module _ (sheet a b : List ℕ) (bt i made : ℕ) (room : Room b bt) (t : Bool) (et : t ≡ is_alike a made i) where
-  -- where the log ends that the turn left
-  turn_done : (a₁ b₁ b₂ : List ℕ) (c e : ℕ) → length b₁ ≡ length b → take bt b₁ ≡ take bt b → Appended b₁ bt (c ∷ []) b₂ e → turn_of (under sheet) i made a (take bt b) ≡ record { words = a₁; log = pushed (take bt b) c }
-      → Done (turn_of (under sheet) i made a (take bt b)) a₁ b₂ e
-  turn_done a₁ b₁ b₂ c e len same put w =
-      let room₁ : Room b₁ bt = record { low = room.low; long = omega (arith, room.long, len) } in
-      let log : take e b₂ ≡ pushed (take bt b) c = (append_holds room₁ put).is ∙ ap (λ (m : List ℕ). pushed m c) same in
-      record {
-        words = sym (ap (λ (r : Ran). r.words) w);
-        log = log ∙ sym (ap (λ (r : Ran). r.log) w);
-        end = sym (log_length b₂ e (append_room room₁ put)) ∙ ap (λ (m : List ℕ). length m) (log ∙ sym (ap (λ (r : Ran). r.log) w));
-      }
-
-  pub turn_alike : (c e : ℕ) (b₁ : List ℕ) → t ≡ true → c ≡ last_of (take bt b) → Appended b bt (c ∷ []) b₁ e → Done (turn_of (under sheet) i made a (take bt b)) a b₁ e
-  unfolding turn_of
-  turn_alike c e b₁ h ec put = turn_done a b b₁ c e refl refl put (rw (← et, h, ec) refl)
-
-  pub turn_fresh : (r : List ℕ) (x p q : ℕ) (a₁ b₁ : List ℕ) (y : Yield) (c e : ℕ) (b₂ : List ℕ) → t ≡ false → r ≡ get_or (rows_of a RUN) i [] → x ≡ get_or r 3 0 → p ≡ get_or r 4 0 → q ≡ get_or r 5 0
-      → GaveBeside (eval_of sheet p q 64 a (take bt b) x) a₁ y bt b b₁ → length b₁ ≡ length b → c ≡ class_number (class_of a₁ y) → Appended b₁ bt (c ∷ []) b₂ e → Done (turn_of (under sheet) i made a (take bt b)) a₁ b₂ e
-  unfolding turn_of
-  turn_fresh r x p q a₁ b₁ y c e b₂ h er ex ep eq v len ec put =
-      let there : (j : ℕ) → get_or r j 0 ≡ get_or (policy_in a i) j 0 = λ j. ap (λ (m : List ℕ). get_or m j 0) er in
-      let w : fresh_of (under sheet) i a (take bt b) ≡ record { words = a₁; log = pushed (take bt b) (class_number (class_of a₁ y)) } =
-      (λ j. classed (take bt b) (eval_of sheet (sym (ep ∙ there 4) j) (sym (eq ∙ there 5) j) 64 a (take bt b) (sym (ex ∙ there 3) j)))
-      ∙ ap (classed (take bt b)) (is_yields (eval_of sheet p q 64 a (take bt b) x) a₁ y v.words v.yield) in
-      turn_done a₁ b₁ b₂ c e len v.log put (rw (← et, h, ec) w)
+-- a policy's tree under its link, to the depth of the run
+abbrev pub under : List ℕ → ℕ → ℕ → Rec
+under sheet = λ p q. eval_of sheet p q 64
 
 -- policy i is next, and what is left gives the whole
-pub record Running (sheet a₀ : List ℕ) (all : ℕ) (a b : List ℕ) (bt i made : ℕ) : Type 0 where
+pub record Running (sheet a₀ : List ℕ) (all : ℕ) (a b : List ℕ) (bt i : ℕ) : Type 0 where
   pub room : Room b bt
   pub near : i ≤ all
-  pub left : ran_from (under sheet) (all - i) i made a (take bt b) ≡ run_of sheet a₀
+  pub left : ran_from (under sheet) (all - i) i a (take bt b) ≡ run_of sheet a₀
 
-pub run_start : (sheet a b : List ℕ) (all : ℕ) → 16384 ≤ length b → all ≡ get_or a RUN 0 → Running sheet a all a b 0 0 0
+pub run_start : (sheet a b : List ℕ) (all : ℕ) → 16384 ≤ length b → all ≡ get_or a RUN 0 → Running sheet a all a b 0 0
 unfolding run_of
-run_start sheet a b all l e = record { room = record { low = omega arith; long = l }; near = omega arith; left = let z : all - 0 ≡ get_or a RUN 0 = omega (arith, e) in ap (λ (m : ℕ). ran_from (under sheet) m 0 0 a []) z }
+run_start sheet a b all l e = record { room = record { low = omega arith; long = l }; near = omega arith; left = let z : all - 0 ≡ get_or a RUN 0 = omega (arith, e) in ap (λ (m : ℕ). ran_from (under sheet) m 0 a []) z }
 
--- the policies after it, where the turn of the policy of number i leaves o
-abbrev onward : (ℕ → ℕ → Rec) → ℕ → ℕ → ℕ → Ran → Ran
-onward f k i made o = ran_from f k (suc i) made o.words o.log
+-- the policies after it, where the policy of number i yields o
+abbrev onward : (ℕ → ℕ → Rec) → ℕ → ℕ → List ℕ → E → Ran
+onward f k i l o = ran_from f k (suc i) o.words (pushed l (class_number (class_of o.words o.yield)))
 
--- the run from policy i on is its turn, then the others
-ran_next : (f : ℕ → ℕ → Rec) (k i made : ℕ) (a l : List ℕ) → 0 < k → ran_from f k i made a l ≡ onward f (k - 1) i (get_or a MADE 0) (turn_of f i made a l)
+ran_next : (f : ℕ → ℕ → Rec) (k i : ℕ) (a l : List ℕ) (x p q : ℕ) → x ≡ get_or (policy_in a i) 3 0 → p ≡ get_or (policy_in a i) 4 0 → q ≡ get_or (policy_in a i) 5 0 → 0 < k
+    → ran_from f k i a l ≡ onward f (k - 1) i l (f p q a l x)
 unfolding ran_from
-ran_next f zero i made a l h = absurd (omega arith)
-ran_next f (suc k) i made a l h = let z : k ≡ suc k - 1 = omega arith in ap (λ (m : ℕ). onward f m i (get_or a MADE 0) (turn_of f i made a l)) z
+ran_next f zero i a l x p q ex ep eq h = absurd (omega arith)
+ran_next f (suc k) i a l x p q ex ep eq h =
+    let z : k ≡ suc k - 1 = omega arith in
+    (λ j. onward f k i l (f (sym ep j) (sym eq j) a l (sym ex j))) ∙ ap (λ (m : ℕ). onward f m i l (f p q a l x)) z
 
--- a log that is within its room stays so in a turn
-turn_low : (f : ℕ → ℕ → Rec) (i made : ℕ) (a l : List ℕ) → length l ≤ 16384 → length (turn_of f i made a l).log ≤ 16384
-unfolding turn_of
-turn_low f i made a l h = go (is_alike a made i)
-  where
-    go : (t : Bool) → length (cond t (again_of a l) (fresh_of f i a l)).log ≤ 16384
-    go true = appended_low l _ h
-    go false = appended_low l _ h
-
-module _ (sheet a₀ : List ℕ) (all : ℕ) (a b : List ℕ) (bt i made : ℕ) (g : Running sheet a₀ all a b bt i made) where
+module _ (sheet a₀ : List ℕ) (all : ℕ) (a b : List ℕ) (bt i : ℕ) (g : Running sheet a₀ all a b bt i) where
   pub run_end : all ≤ i → Done (run_of sheet a₀) a b bt
   unfolding ran_from
   run_end h =
       let z : all - i ≡ 0 = omega (arith, h) in
-      let w : run_of sheet a₀ ≡ record { words = a; log = take bt b } = sym g.left ∙ ap (λ (m : ℕ). ran_from (under sheet) m i made a (take bt b)) z in
+      let w : run_of sheet a₀ ≡ record { words = a; log = take bt b } = sym g.left ∙ ap (λ (m : ℕ). ran_from (under sheet) m i a (take bt b)) z in
       record {
         words = sym (ap (λ (t : Ran). t.words) w);
         log = sym (ap (λ (t : Ran). t.log) w);
         end = sym (ap (λ (t : Ran). length t.log) w ∙ log_length b bt g.room);
       }
 
-  pub run_more : (n : ℕ) (a₁ b₁ : List ℕ) (e : ℕ) → i < all → n ≡ get_or a MADE 0 → Done (turn_of (under sheet) i made a (take bt b)) a₁ b₁ e → length b₁ ≡ length b → Running sheet a₀ all a₁ b₁ e (i + 1) n
-  run_more n a₁ b₁ e l en d len =
+  pub run_more : (r : List ℕ) (x p q : ℕ) (a₁ b₁ : List ℕ) (y : Yield) (c e : ℕ) (b₂ : List ℕ) → i < all → r ≡ get_or (rows_of a RUN) i [] → x ≡ get_or r 3 0 → p ≡ get_or r 4 0 → q ≡ get_or r 5 0 → GaveBeside (eval_of sheet p q 64 a (take bt b) x) a₁ y bt b b₁
+      → length b₁ ≡ length b → c ≡ class_number (class_of a₁ y) → Appended b₁ bt (c ∷ []) b₂ e → Running sheet a₀ all a₁ b₂ e (i + 1)
+  run_more r x p q a₁ b₁ y c e b₂ l er ex ep eq v len ec put =
+      let room₁ : Room b₁ bt = record { low = g.room.low; long = omega (arith, g.room.long, len) } in
       let z : all - (i + 1) ≡ all - i - 1 = omega arith in
       let u : i + 1 ≡ suc i = omega arith in
-      let o : Ran = turn_of (under sheet) i made a (take bt b) in
-      let low : length o.log ≤ 16384 = turn_low (under sheet) i made a (take bt b) (omega (arith, log_length b bt g.room, g.room.low)) in
+      let there : (j : ℕ) → get_or r j 0 ≡ get_or (policy_in a i) j 0 = λ j. ap (λ (m : List ℕ). get_or m j 0) er in
+      let log : take e b₂ ≡ pushed (take bt b) (class_number (class_of a₁ y)) = (append_holds room₁ put).is ∙ ap (λ (m : List ℕ). pushed m c) v.log ∙ ap (pushed (take bt b)) ec in
       record {
-        room = record { low = omega (arith, d.end, low); long = omega (arith, g.room.long, len) };
+        room = append_room room₁ put;
         near = omega (arith, l);
         left =
-            (λ j. ran_from (under sheet) (z j) (u j) (en j) (d.words j) (d.log j))
-            ∙ sym (ran_next (under sheet) (all - i) i made a (take bt b) (omega (arith, l)))
+            ap (λ (m : ℕ). ran_from (under sheet) m (i + 1) a₁ (take e b₂)) z ∙ ap (λ (m : ℕ). ran_from (under sheet) (all - i - 1) m a₁ (take e b₂)) u ∙ ap (ran_from (under sheet) (all - i - 1) (suc i) a₁) log
+            ∙ sym (ran_next (under sheet) (all - i) i a (take bt b) x p q (ex ∙ there 3) (ep ∙ there 4) (eq ∙ there 5) (omega (arith, l))
+            ∙ ap (onward (under sheet) (all - i - 1) i (take bt b)) (is_yields (eval_of sheet p q 64 a (take bt b) x) a₁ y v.words v.yield))
             ∙ g.left;
       }

@@ -14,8 +14,7 @@ use Rattle.sheet.specs.Forms.{complete, tag, items, at, first_node, NODE}
 use Rattle.sheet.specs.Typing.{slot_value}
 use Rattle.sheet.specs.Content.{rows_in, var_of, pattern_of}
 use Rattle.forms.specs.Tags.{EQ, IS}
-use Rattle.table.specs.Layout.{RUN, MADE, rows_of}
-use Rattle.alike.specs.Alike.{is_alike, last_of}
+use Rattle.table.specs.Layout.{RUN, rows_of}
 use Rattle.value.specs.Lines.{value_lines}
 use Rattle.value.specs.Made.{bool_row, number_of, with_value, set_row, record_row, written}
 use Rattle.residual.specs.Rows.{lit_row}
@@ -263,30 +262,11 @@ pub record Ran : Type 0 where
   pub words : List ℕ
   pub log : List ℕ
 
--- a policy's tree under the two values of its link, to the depth of the run: "a tree is never deeper than 64"
-abbrev pub under : List ℕ → ℕ → ℕ → Rec
-under sheet = λ p q. eval_of sheet p q 64
+-- k policies from number i on: f by the two values of a policy's link
+unfoldable pub ran_from : (ℕ → ℕ → Rec) → ℕ → ℕ → List ℕ → List ℕ → Ran
+ran_from f zero i a l = record { words = a; log = l }
+ran_from f (suc k) i a l = let o = f (at (policy_in a i) 3) (at (policy_in a i) 4) a l (at (policy_in a i) 2) in ran_from f k (suc i) o.words (pushed l (class_number (class_of o.words o.yield)))
 
--- what a policy yields, its class in the log
-abbrev pub classed : List ℕ → E → Ran
-classed l o = record { words = o.words; log = pushed l (class_number (class_of o.words o.yield)) }
-
--- the class that was left last once more, and nothing made
-abbrev pub again_of : List ℕ → List ℕ → Ran
-again_of a l = record { words = a; log = pushed l (last_of l) }
-
--- policy i evaluated: f by the two values of a policy's link
-abbrev pub fresh_of : (ℕ → ℕ → Rec) → ℕ → List ℕ → List ℕ → Ran
-fresh_of f i a l = classed l (f (at (policy_in a i) 3) (at (policy_in a i) 4) a l (at (policy_in a i) 2))
-
--- the turn of policy i, where m values were made before the turn of the one before it: a policy that does as that one did has its class
-unfoldable pub turn_of : (ℕ → ℕ → Rec) → ℕ → ℕ → List ℕ → List ℕ → Ran
-turn_of f i m a l = cond (is_alike a m i) (again_of a l) (fresh_of f i a l)
-
--- k policies from number i on
-unfoldable pub ran_from : (ℕ → ℕ → Rec) → ℕ → ℕ → ℕ → List ℕ → List ℕ → Ran
-ran_from f zero i m a l = record { words = a; log = l }
-ran_from f (suc k) i m a l = let o = turn_of f i m a l in ran_from f k (suc i) (get_or a MADE 0) o.words o.log
-
+-- "a tree is never deeper than 64"
 unfoldable pub run_of : List ℕ → List ℕ → Ran
-run_of sheet a = ran_from (under sheet) (get_or a RUN 0) 0 0 a []
+run_of sheet a = ran_from (λ p q. eval_of sheet p q 64) (get_or a RUN 0) 0 a []

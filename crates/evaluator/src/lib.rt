@@ -12,24 +12,21 @@ ghost use Rattle.value.specs.Clear.{Clear};
 ghost use Rattle.residual.specs.Classes.{class_number};
 ghost use Rattle.strict.specs.Gives.{out_of};
 ghost use Rattle.lookup.specs.Lookups.{value_in};
-ghost use Rattle.evaluator.specs.Run.{yields, node_in, settle_of, opt_of, bool_only, kids_of, env_of, one_out, two_out, lazy_step, if_step, one_step, two_step, set_step, rec_step, step_at, eval_of, class_of, under, turn_of, run_of};
+ghost use Rattle.evaluator.specs.Run.{yields, node_in, settle_of, opt_of, bool_only, kids_of, env_of, one_out, two_out, lazy_step, if_step, one_step, two_step, set_step, rec_step, step_at, eval_of, class_of, run_of};
 ghost use Rattle.evaluator.specs.Gave.{Gave, GaveBeside, Left, Done, truth_of, as_bool, yield_bool, same_bool};
 
 use crate::operands::{one_given, two_given, word_of};
-use alike::{is_alike, last_class};
 use forms::{
     ACTION, AND, CONTEXT, ERR, IF, MARK, NODE, OR, PART_A, PART_P, PART_R, PRINCIPAL, RECORD_OF,
     RESOURCE, SET_OF, SLOT, VAR,
 };
 use residual::{CLASS_ERROR, CLASS_FALSE, CLASS_OPEN, CLASS_TRUE, push_value};
 use strict::Given;
-use table::{MADE, RUN, count, item, row, tag};
+use table::{RUN, count, item, row, tag};
 use typing::links::slot_value;
-use value::making::{
-    clear_of, make_bool_after, make_entity, make_long_after, make_record, make_set,
-};
+use value::making::{clear_of, make_bool_after, make_entity, make_long, make_record, make_set};
 use value::{Shape, row_of, shape_of};
-use words::{push, word};
+use words::push;
 
 // What a node yields: a value, by its number, or an error.
 #[derive(Drop)]
@@ -93,7 +90,7 @@ pub fn settle(skip: usize, rows: &mut [u32], given: Given) -> Yield
 {
     match given {
         Given::Bool(x) => Yield::Value(make_bool_after(rows, skip, x)),
-        Given::Long(word) => Yield::Value(make_long_after(rows, skip, word)),
+        Given::Long(word) => Yield::Value(make_long(rows, word)),
         Given::Old(value) => Yield::Value(value),
         Given::Fails => Yield::Error,
         Given::Stays => Yield::Error,
@@ -517,32 +514,6 @@ pub fn class_of(rows: &[u32], yielded: Yield) -> u32
     CLASS_FALSE
 }
 
-// The turn of policy `i` of those that run: its class becomes the last word of the log, and what is answered is where the log ends then. Before the turn
-// of the policy before it `made` values were made; where it does as that one did, it takes the class that that one has.
-fn turn(
-    sheet: &[u8],
-    skip: usize,
-    rows: &mut [u32],
-    log: &mut [u32],
-    end: usize,
-    i: u32,
-    made: u32,
-) -> usize
-    requires room { Room log.old end }
-    requires clear { Clear rows.old skip }
-    ensures { Done (turn_of (under sheet.now) i made rows.old (take end log.old)) rows.new log.new result }
-{
-    if is_alike(rows, made, i) {
-        return push(log, end, last_class(log, end));
-    }
-    let policy = row(rows, RUN, i);
-    let root = item(policy, 3);
-    let p = item(policy, 4);
-    let q = item(policy, 5);
-    let yielded = eval(sheet, p, q, skip, rows, log, end, root, 64);
-    push(log, end, class_of(rows, yielded))
-}
-
 // Runs the policies of the sheet that `rows` hold, in order, and leaves the numbers of their classes in `log`; how many there are.
 pub fn run(sheet: &[u8], rows: &mut [u32], log: &mut [u32]) -> usize
     requires { 16384 ≤ length log.old }
@@ -551,12 +522,14 @@ pub fn run(sheet: &[u8], rows: &mut [u32], log: &mut [u32]) -> usize
     let skip = clear_of(rows);
     let most = count(rows, RUN);
     let mut end: usize = 0;
-    let mut made: u32 = 0;
     let mut i: u32 = 0;
     while i < most {
-        let before = count(rows, MADE);
-        end = turn(sheet, skip, rows, log, end, i, made);
-        made = before;
+        let policy = row(rows, RUN, i);
+        let root = item(policy, 3);
+        let p = item(policy, 4);
+        let q = item(policy, 5);
+        let yielded = eval(sheet, p, q, skip, rows, log, end, root, 64);
+        end = push(log, end, class_of(rows, yielded));
         i += 1;
     }
     end

@@ -1,10 +1,9 @@
 // The attributes of entities, for the many steps of a long path: of each entity whose line is the first with its text, those of a short record.
-// What stands there is noted in cells, by value and text: the attribute's text plus one, or 0 where nothing is noted, and the value that it leads to. A cell with a text is that of
-// one value: its place less where the text's column begins.
+// What stands there is noted in cells, by value and text: whose it is, the attribute's text plus one, or 0 where nothing is noted, and the value that it leads to.
 ghost use Rattle.std.specs.Prelude.{◌≡◌, [], ◌+◌, ◌≤◌, ◌<◌, length, get_or};
 ghost use Rattle.sheet.specs.Forms.{ENTITY};
 ghost use Rattle.table.specs.Layout.{rows_of};
-ghost use Rattle.firsts.specs.Firsts.{CELLS, column, Kept, KeptAll, Sourced, Entered, Firsts, Hits};
+ghost use Rattle.firsts.specs.Firsts.{CELLS, Kept, KeptAll, Sourced, Entered, Firsts, Hits};
 
 use forms::{ENTITY, MARK, VALUE};
 use lookup::TEXTS;
@@ -25,27 +24,34 @@ const SHORT: usize = 16;
 
 // Where the column of a text begins; the cell of a value there is as far from it as the value's number says.
 pub fn column_of(text: u32) -> usize
-    ensures value { result ≡ column text }
-    ensures upper_bound { result ≤ CELLS }
+    ensures { result ≤ CELLS }
 {
     text as usize % COLUMNS * COLUMN
 }
 
 // Notes that `text` leads from `value` to `next`.
-pub fn keep(value: u32, text: u32, next: u32, texts: &mut [u32], nexts: &mut [u32])
-    ensures { Kept value text next texts.old nexts.old texts.new nexts.new }
+pub fn keep(
+    value: u32,
+    text: u32,
+    next: u32,
+    owners: &mut [u32],
+    texts: &mut [u32],
+    nexts: &mut [u32],
+)
+    ensures { Kept value text next owners.old texts.old nexts.old owners.new texts.new nexts.new }
 {
     if text >= TEXTS as u32 {
         return;
     }
     let cell = column_of(text) + value as usize;
+    put(owners, cell, value);
     put(texts, cell, text + 1);
     put(nexts, cell, next);
 }
 
 // Notes the attributes of `value` among these entries, as long as their texts ascend and they are few.
-fn keep_all(entries: &[u32], value: u32, texts: &mut [u32], nexts: &mut [u32])
-    ensures { KeptAll entries.now value texts.old nexts.old texts.new nexts.new }
+fn keep_all(entries: &[u32], value: u32, owners: &mut [u32], texts: &mut [u32], nexts: &mut [u32])
+    ensures { KeptAll entries.now value owners.old texts.old nexts.old owners.new texts.new nexts.new }
 {
     let mut low: usize = 0;
     let mut i = 0;
@@ -60,15 +66,22 @@ fn keep_all(entries: &[u32], value: u32, texts: &mut [u32], nexts: &mut [u32])
         if (text as usize) < low {
             break;
         }
-        keep(value, text, entries[i + 1], texts, nexts);
+        keep(value, text, entries[i + 1], owners, texts, nexts);
         low = text as usize + 1;
         i += 2;
     }
 }
 
 // Notes the attributes of `value`, which are `source`, a record or unknown.
-fn keep_source(rows: &[u32], value: u32, source: u32, texts: &mut [u32], nexts: &mut [u32])
-    ensures { Sourced rows.now value source texts.old nexts.old texts.new nexts.new }
+fn keep_source(
+    rows: &[u32],
+    value: u32,
+    source: u32,
+    owners: &mut [u32],
+    texts: &mut [u32],
+    nexts: &mut [u32],
+)
+    ensures { Sourced rows.now value source owners.old texts.old nexts.old owners.new texts.new nexts.new }
 {
     if source == MARK {
         return;
@@ -78,7 +91,7 @@ fn keep_source(rows: &[u32], value: u32, source: u32, texts: &mut [u32], nexts: 
     let Shape::Record = s else {
         return;
     };
-    keep_all(members(r), value, texts, nexts);
+    keep_all(members(r), value, owners, texts, nexts);
 }
 
 // Notes the entity of line `number`, unless a line before it has its text.
@@ -87,13 +100,14 @@ fn enter(
     number: u32,
     line: &[u32],
     seen: &mut [u32],
+    owners: &mut [u32],
     texts: &mut [u32],
     nexts: &mut [u32],
 )
     requires number_in_bounds { number < length (rows_of rows.now ENTITY) }
     requires line_value { line.now ≡ get_or (rows_of rows.now ENTITY) number [] }
-    requires entered { Entered rows.now number seen.old texts.old nexts.old }
-    ensures { Entered rows.now (number + 1) seen.new texts.new nexts.new }
+    requires entered { Entered rows.now number seen.old owners.old texts.old nexts.old }
+    ensures { Entered rows.now (number + 1) seen.new owners.new texts.new nexts.new }
 {
     let v = item(line, 1);
     if v >= count(rows, VALUE) {
@@ -110,13 +124,19 @@ fn enter(
         return;
     }
     put(seen, t as usize, 1);
-    keep_source(rows, v, item(line, 2), texts, nexts);
+    keep_source(rows, v, item(line, 2), owners, texts, nexts);
 }
 
 // Notes the entities of all lines: each line begins where the one before ends.
-fn enter_all(rows: &[u32], seen: &mut [u32], texts: &mut [u32], nexts: &mut [u32])
-    requires { Firsts rows.now texts.old nexts.old }
-    ensures { Firsts rows.now texts.new nexts.new }
+fn enter_all(
+    rows: &[u32],
+    seen: &mut [u32],
+    owners: &mut [u32],
+    texts: &mut [u32],
+    nexts: &mut [u32],
+)
+    requires { Firsts rows.now owners.old texts.old nexts.old }
+    ensures { Firsts rows.now owners.new texts.new nexts.new }
 {
     let n = count(rows, ENTITY);
     let b = base_of(ENTITY);
@@ -124,19 +144,19 @@ fn enter_all(rows: &[u32], seen: &mut [u32], texts: &mut [u32], nexts: &mut [u32
     let mut i = 0;
     while i < n {
         let end = read(rows, b + i as usize + 1) as usize;
-        enter(rows, i, cut(rows, start, end), seen, texts, nexts);
+        enter(rows, i, cut(rows, start, end), seen, owners, texts, nexts);
         start = end;
         i += 1;
     }
 }
 
 // The same, with a table by text for those met.
-pub fn firsts(rows: &[u32], texts: &mut [u32], nexts: &mut [u32])
-    requires { Firsts rows.now texts.old nexts.old }
-    ensures { Firsts rows.now texts.new nexts.new }
+pub fn firsts(rows: &[u32], owners: &mut [u32], texts: &mut [u32], nexts: &mut [u32])
+    requires { Firsts rows.now owners.old texts.old nexts.old }
+    ensures { Firsts rows.now owners.new texts.new nexts.new }
 {
     let mut seen: [u32; TEXTS] = [0; TEXTS];
-    enter_all(rows, &mut seen[..], texts, nexts);
+    enter_all(rows, &mut seen[..], owners, texts, nexts);
 }
 
 // A word of the cell of `value` in a column.
@@ -154,9 +174,12 @@ pub fn cell_in(column: usize, value: u32) -> usize
     column + value as usize
 }
 
-// Whether the attribute noted in a cell is `text`.
-pub fn leads(texts: &[u32], cell: usize, text: u32) -> bool
-    ensures { Hits texts.now cell text result }
+// Whether the attribute noted in a cell is `text` of `value`.
+pub fn leads(owners: &[u32], texts: &[u32], cell: usize, value: u32, text: u32) -> bool
+    ensures { Hits owners.now texts.now cell value text result }
 {
-    read(texts, cell) as usize == text as usize + 1
+    if read(texts, cell) as usize != text as usize + 1 {
+        return false;
+    }
+    read(owners, cell) == value
 }

@@ -7,20 +7,17 @@ use native.Mathlib.Omega.{arith}
 use native.Mathlib.Nat.{le_refl, div-eq_of_lt, div-eq-sub-div}
 use borrow.Author.Tests.{leb-true, leb-false}
 use lib.Dec.{eqb, leb}
-use lib.ListN.{length, get_or, take, drop}
+use lib.ListN.{length, get_or, take}
 use Rattle.words.specs.Log.{Appended, Room}
 use Rattle.words.proofs.Logs.{append_holds, log_length}
 use Rattle.sheet.specs.Forms.{partial, tag, at, NODE}
 use Rattle.forms.specs.Tags.{AND, OR, EQ, IF, IS, SET_OF, RECORD_OF, SLOT}
-use Rattle.table.specs.Layout.{RUN, MADE, rows_of}
-use Rattle.alike.specs.Alike.{is_alike}
+use Rattle.table.specs.Layout.{RUN, rows_of}
 use Rattle.residual.specs.Rows.{err_row, stage_at}
-use Rattle.value.specs.Clear.{Clear}
-use Rattle.tpe.specs.Run.{O, Rec, Kids, left, err_of, join_of, node_in, kids_of, interp_of, set_of, rec_of, turn_of, ran_from, run_of}
+use Rattle.tpe.specs.Run.{O, Rec, Kids, left, err_of, join_of, node_in, kids_of, interp_of, set_of, rec_of, ran_from, run_of}
 use Rattle.tpe.specs.Steps.{one_at, many_at}
 use Rattle.tpe.specs.Leaves.{Leaves}
-use Rattle.tpe.proofs.Kept.{turn_clear}
-use Rattle.interpret.specs.Nodes.{step_by, slot_of, leaf_of, first_in, branch_in, pair_in, group_of, turn_in, ended}
+use Rattle.interpret.specs.Nodes.{step_by, slot_of, leaf_of, first_in, branch_in, pair_in, group_of, ended}
 use Rattle.interpret.proofs.Laws.{view, leaves_as}
 use Rattle.interpret.proofs.ByTag.{first_step, pair_step, branch_step, one_step, set_step_law, record_step, leaf_step, slot_step_law, other_step, by_level}
 
@@ -121,58 +118,45 @@ module _ (f : Rec) (n s bt k : ℕ) (a₀ b₀ a b : List ℕ) (p c i : ℕ) (g 
       (ap (λ (x : Kids). many_at partial sheet t bt n (node_in x.words n) x) all
       ∙ ap (λ (j : ℕ). let x = kids_of f n s 2 a₀ (take bt b₀) 0 ((length (node_in a₀ n) - 2) / s) in many_at partial sheet t j n (node_in x.words n) x) (sym (log_length b₀ bt room)))
 
--- ---- `turn`
-
-module _ (sheet : List ℕ) (start made i : ℕ) (a b : List ℕ) (p : ℕ) (t : Bool) (et : t ≡ is_alike a made i) where
-  pub turn_copied : (b₁ : List ℕ) (e : ℕ) → t ≡ true → Room b p → Appended b p (drop start (take p b)) b₁ e → Leaves p a b₁ e (turn_in sheet i start made a (take p b))
-  unfolding turn_in turn_of
-  turn_copied b₁ e h room l = rw (← et, h) (record { words = refl; log = append_holds room l })
-
-  pub turn_worked : (r : List ℕ) (x u w : ℕ) (a₁ b₁ : List ℕ) (e : ℕ) → t ≡ false → r ≡ get_or (rows_of a RUN) i [] → x ≡ get_or r 3 0 → u ≡ get_or r 4 0 → w ≡ get_or r 5 0
-      → Leaves p a₁ b₁ e (interp_of partial sheet u w 64 a (take p b) x) → Leaves p a₁ b₁ e (turn_in sheet i start made a (take p b))
-  unfolding turn_in turn_of
-  turn_worked r x u w a₁ b₁ e h er ex eu ew l = rw (← et, h, ← er, ← ex, ← eu, ← ew) l
-
--- the first values that are no bools stay so
-pub turn_stays : (skip : ℕ) (sheet : List ℕ) (i start made : ℕ) (a l : List ℕ) (was : ℕ) (is b : List ℕ) (e : ℕ) → Clear a skip → Leaves was is b e (turn_in sheet i start made a l) → Clear is skip
-unfolding turn_in
-turn_stays skip sheet i start made a l was is b e c h = turn_clear skip partial sheet i start made a l was is b e c h
-
 -- ---- `run`
 
 -- what is left of the policies gives all of them
-pub record Running (sheet : List ℕ) (n : ℕ) (a₀ a b : List ℕ) (start p made i : ℕ) : Type 0 where
-  pub whole : ended (ran_from (λ u w. interp_of partial sheet u w 64) i (n - i) start made a (take p b)) ≡ ended (ran_from (λ u w. interp_of partial sheet u w 64) 0 n 0 0 a₀ [])
+pub record Running (sheet : List ℕ) (n : ℕ) (a₀ a b : List ℕ) (p i : ℕ) : Type 0 where
+  pub whole : ended (ran_from (λ u w. interp_of partial sheet u w 64) i (n - i) a (take p b)) ≡ ended (ran_from (λ u w. interp_of partial sheet u w 64) 0 n a₀ [])
   pub room : Room b p
-  pub low : start ≤ p
 
-pub run_start : (sheet : List ℕ) (n : ℕ) (a b : List ℕ) → 16384 ≤ length b → Running sheet n a a b 0 0 0 0
-run_start sheet n a b h = let e : n - 0 ≡ n = omega arith in record { whole = rw e; room = record { low = omega arith; long = h }; low = omega arith }
+pub run_start : (sheet : List ℕ) (n : ℕ) (a b : List ℕ) → 16384 ≤ length b → Running sheet n a a b 0 0
+run_start sheet n a b h = let e : n - 0 ≡ n = omega arith in record { whole = rw e; room = record { low = omega arith; long = h } }
 
-module _ (sheet : List ℕ) (n : ℕ) (a₀ a b : List ℕ) (start p made i : ℕ) (g : Running sheet n a₀ a b start p made i) where
+module _ (sheet : List ℕ) (n : ℕ) (a₀ a b : List ℕ) (p i : ℕ) (g : Running sheet n a₀ a b p i) where
   abbrev f : ℕ → ℕ → Rec
   f u w = interp_of partial sheet u w 64
 
-  pub run_on : (m : ℕ) (a₁ b₁ : List ℕ) (p₁ : ℕ) → i < n → m ≡ get_or a MADE 0 → Leaves p a₁ b₁ p₁ (turn_in sheet i start made a (take p b)) → length b₁ ≡ length b → Running sheet n a₀ a₁ b₁ p p₁ m (i + 1)
-  unfolding turn_in ran_from
-  run_on m a₁ b₁ p₁ lt em l lb =
+  abbrev policy : List ℕ
+  policy = get_or (rows_of a RUN) i []
+
+  pub run_on : (r : List ℕ) (x u w : ℕ) (a₁ b₁ : List ℕ) (p₁ : ℕ) → i < n → r ≡ get_or (rows_of a RUN) i [] → x ≡ get_or r 3 0 → u ≡ get_or r 4 0 → w ≡ get_or r 5 0
+      → Leaves p a₁ b₁ p₁ (interp_of partial sheet u w 64 a (take p b) x) → length b₁ ≡ length b → Running sheet n a₀ a₁ b₁ p₁ (i + 1)
+  unfolding ran_from
+  run_on r x u w a₁ b₁ p₁ lt er ex eu ew l lb =
       let less : n - i ≡ suc (n - (i + 1)) = omega arith in
       let next : suc i ≡ i + 1 = omega arith in
-      let len : length (take p b) ≡ p = log_length b p g.room in
+      let root : x ≡ at policy 2 = ex ∙ ap (λ (q : List ℕ). get_or q 3 0) er in
+      let first : u ≡ at policy 3 = eu ∙ ap (λ (q : List ℕ). get_or q 4 0) er in
+      let second : w ≡ at policy 4 = ew ∙ ap (λ (q : List ℕ). get_or q 5 0) er in
+      let same : f u w a (take p b) x ≡ f (at policy 3) (at policy 4) a (take p b) (at policy 2) = λ j. f (first j) (second j) a (take p b) (root j) in
+      let v : left a₁ (take p₁ b₁) ≡ f (at policy 3) (at policy 4) a (take p b) (at policy 2) = view l ∙ same in
       record {
         whole =
-            sym (ap (λ (k : ℕ). ended (ran_from f i k start made a (take p b))) less
-            ∙ ap (λ (o : O). ended (ran_from f (suc i) (n - (i + 1)) (length (take p b)) (get_or a MADE 0) o.words o.log)) (sym (view l))
-            ∙ (λ j. ended (ran_from f (next j) (n - (i + 1)) (len j) (sym em j) a₁ (take p₁ b₁))))
+            sym (ap (λ (k : ℕ). ended (ran_from f i k a (take p b))) less ∙ ap (λ (o : O). ended (ran_from f (suc i) (n - (i + 1)) o.words o.log)) (sym v) ∙ ap (λ (j : ℕ). ended (ran_from f j (n - (i + 1)) a₁ (take p₁ b₁))) next)
             ∙ g.whole;
         room = record { low = l.log.low; long = omega (arith, lb, g.room.long) };
-        low = l.log.grows;
       }
 
-pub run_end : (sheet : List ℕ) (n : ℕ) (a₀ a b : List ℕ) (start p made i : ℕ) → Running sheet n a₀ a b start p made i → n ≤ i → n ≡ get_or a₀ RUN 0 → Leaves 0 a b p (ended (run_of partial sheet a₀ []))
+pub run_end : (sheet : List ℕ) (n : ℕ) (a₀ a b : List ℕ) (p i : ℕ) → Running sheet n a₀ a b p i → n ≤ i → n ≡ get_or a₀ RUN 0 → Leaves 0 a b p (ended (run_of partial sheet a₀ []))
 unfolding run_of ran_from
-run_end sheet n a₀ a b start p made i g h e =
+run_end sheet n a₀ a b p i g h e =
     let none : n - i ≡ 0 = omega arith in
-    let all : left a (take p b) ≡ ended (ran_from (λ u w. interp_of partial sheet u w 64) 0 (get_or a₀ RUN 0) 0 0 a₀ []) =
-    ap (λ (k : ℕ). ended (ran_from (λ u w. interp_of partial sheet u w 64) i k start made a (take p b))) (sym none) ∙ g.whole ∙ ap (λ (k : ℕ). ended (ran_from (λ u w. interp_of partial sheet u w 64) 0 k 0 0 a₀ [])) e in
+    let all : left a (take p b) ≡ ended (ran_from (λ u w. interp_of partial sheet u w 64) 0 (get_or a₀ RUN 0) a₀ []) =
+    ap (λ (k : ℕ). ended (ran_from (λ u w. interp_of partial sheet u w 64) i k a (take p b))) (sym none) ∙ g.whole ∙ ap (λ (k : ℕ). ended (ran_from (λ u w. interp_of partial sheet u w 64) 0 k a₀ [])) e in
     record { words = ap (λ (o : O). o.words) all; log = record { is = ap (λ (o : O). o.log) all; low = g.room.low; grows = omega arith } }

@@ -1,7 +1,7 @@
 -- What node n does by a tag t, as the code takes it apart. That this is the step of Run is shown in proofs/.
 use Rattle.std.specs.Prelude.{Bool, List, [], ◌∷◌, ℕ, ◌-◌, ◌/◌, length, get_or}
-use Rattle.sheet.specs.Forms.{Mode, partial, at, first_node}
-use Rattle.tpe.specs.Run.{O, Rec, Ran, left, lit_step, err_step, var_step, slot_step, steps, node_in, kids_of, first_of, branch_of, interp_of, turn_of}
+use Rattle.sheet.specs.Forms.{Mode, at, first_node}
+use Rattle.tpe.specs.Run.{O, Rec, Ran, left, lit_step, err_step, var_step, slot_step, steps, node_in, kids_of, first_of, branch_of}
 use Rattle.tpe.specs.Steps.{two_at, many_at}
 
 -- its first operand is worked: its operands begin at start, and the other ones are read now
@@ -35,10 +35,6 @@ module _ (m : Mode) (sheet : List ℕ) where
   -- a set or record, whose children are each the last of s words
   unfoldable pub group_of : ℕ → ℕ → Rec → List ℕ → List ℕ → ℕ → O
   group_of t s f a l n = let k = kids_of f n s 2 a l 0 ((length (node_in a n) - 2) / s) in many_at m sheet t (length l) n (node_in k.words n) k
-
--- policy i of those that run, as `turn_of` has it, to 64 levels
-unfoldable pub turn_in : List ℕ → ℕ → ℕ → ℕ → List ℕ → List ℕ → O
-turn_in sheet i start made a l = turn_of (λ p q. interp_of partial sheet p q 64) i start made a l
 
 -- what a run leaves of words and log
 abbrev pub ended : Ran → O

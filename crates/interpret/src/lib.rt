@@ -1,8 +1,8 @@
 // The interpreter of policies, `Evaluator::interpret`: a cycle of calls over the nodes of a tree, of which no more than 64 levels are
 // taken. A node leaves one block more on the `log`; what is made joins the values in `rows`. Of these the first `skip` are no bools: a search for a bool
 // begins after them.
-ghost use Rattle.std.specs.Prelude.{◌≡◌, [], ◌+◌, ◌-◌, ◌/◌, ◌≤◌, ◌<◌, leb, get_or, length, take, drop};
-ghost use Rattle.words.specs.Log.{Room, Appended};
+ghost use Rattle.std.specs.Prelude.{◌≡◌, [], ◌+◌, ◌-◌, ◌/◌, ◌≤◌, ◌<◌, leb, get_or, length, take};
+ghost use Rattle.words.specs.Log.{Room};
 ghost use Rattle.forms.specs.Tags.{AND, SET_OF};
 ghost use Rattle.sheet.specs.Forms.{partial};
 ghost use Rattle.value.specs.Clear.{Clear};
@@ -12,16 +12,15 @@ ghost use Rattle.tpe.specs.Run.{left, side_of, class_of, join_of, second_of, spl
 ghost use Rattle.tpe.specs.Leaves.{Leaves};
 ghost use Rattle.tpe.specs.Classes.{class_in};
 ghost use Rattle.interpret.specs.Sides.{side_in};
-ghost use Rattle.interpret.specs.Nodes.{step_by, slot_of, leaf_of, first_in, branch_in, pair_in, group_of, turn_in, ended};
+ghost use Rattle.interpret.specs.Nodes.{step_by, slot_of, leaf_of, first_in, branch_in, pair_in, group_of, ended};
 ghost use Rattle.interpret.specs.Lines.{lines_of};
 
-use alike::{copied, is_alike};
 use forms::{AND, EQ, ERR, IF, IS, NODE, OR, RECORD_OF, SET_OF, SLOT, VAR};
 use residual::{
     CLASS_ERROR, CLASS_FALSE, CLASS_OPEN, CLASS_TRUE, ROW, Stage, push_error, push_left,
     push_value, stage_at, start_at,
 };
-use table::{MADE, RUN, count, item, row, tag};
+use table::{RUN, count, item, row, tag};
 use tpe::steps::{ALL_VALUES, SOME_ERROR, SOME_OPEN, many, one, two, var};
 use tpe::{Class, class_at, decided, give_bool};
 use typing::links::slot_value;
@@ -408,33 +407,6 @@ fn group(
 
 // ---- the run
 
-// Policy `i` of those that run. Where it does as the one before it did, whose block begins at `start` and before which `made` values were made,
-// that block is its own too.
-fn turn(
-    sheet: &[u8],
-    skip: usize,
-    rows: &mut [u32],
-    log: &mut [u32],
-    start: usize,
-    top: usize,
-    made: u32,
-    i: u32,
-) -> usize
-    requires room { Room log.old top }
-    requires start_le_top { start ≤ top }
-    requires clear { Clear rows.old skip }
-    ensures { Leaves top rows.new log.new result (turn_in sheet.now i start made rows.old (take top log.old)) }
-{
-    if is_alike(rows, made, i) {
-        return copied(log, start, top);
-    }
-    let policy = row(rows, RUN, i);
-    let root = item(policy, 3);
-    let p = item(policy, 4);
-    let q = item(policy, 5);
-    interpret(sheet, p, q, skip, rows, log, top, root, DEPTH)
-}
-
 // The policies in order, each over what the ones before it left; the end of the log.
 pub fn run(sheet: &[u8], rows: &mut [u32], log: &mut [u32]) -> usize
     requires { (16384 ≤ length rows.old) × (16384 ≤ length log.old) }
@@ -442,16 +414,14 @@ pub fn run(sheet: &[u8], rows: &mut [u32], log: &mut [u32]) -> usize
 {
     let skip = clear_of(rows);
     let most = count(rows, RUN);
-    let mut start = 0;
     let mut end = 0;
-    let mut made = 0;
     let mut i = 0;
     while i < most {
-        let before = count(rows, MADE);
-        let next = turn(sheet, skip, rows, log, start, end, made, i);
-        start = end;
-        end = next;
-        made = before;
+        let policy = row(rows, RUN, i);
+        let root = item(policy, 3);
+        let p = item(policy, 4);
+        let q = item(policy, 5);
+        end = interpret(sheet, p, q, skip, rows, log, end, root, DEPTH);
         i += 1;
     }
     end

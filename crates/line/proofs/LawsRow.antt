@@ -48,18 +48,18 @@ row_is m t fs = let z : 0 + length fs ≡ length fs = omega arith in rw z (go (c
     go true o = refl
     go false o = refl
 
--- ---- a row whose first j items, at most three, are written
+-- ---- a row whose first j items, none or one, are written
 
 -- a tag in front of words
 tag_first : (w : List ℕ) (top t j : ℕ) → top < length w → take (suc j) (drop top (set w top t)) ≡ t ∷ take j (drop (top + 1) w)
 tag_first w top t j h =
     rw (drop-cons (set w top t) top 0 (lt-length-set w top t h), get_or-set_same w top t 0 h, drop-set-lt (suc top) w top t (omega arith), ← add-one top) refl
 
-module _ (t j top e v : ℕ) (o : Option (List ℕ)) (w : List ℕ) (long : room ≤ length w) (fits : 2 * top + v + 16 ≤ 2 * room + e) (near : e ≤ v + 1) (few : j ≤ 3) (node : 1 ≤ j → first_node ≤ t) where
+module _ (t j top e v : ℕ) (o : Option (List ℕ)) (w : List ℕ) (long : room ≤ length w) (fits : 2 * top + v + 16 ≤ 2 * room + e) (near : e ≤ v + 1) (few : j ≤ 1) (node : 1 ≤ j → first_node ≤ t) where
   start : Kept w (set w top t) top
   start = record { below = take-set-le top w top t (omega arith); rest = drop-set-lt room w top t (omega arith) }
 
-  pub from_bad : (w₂ : List ℕ) (r : ℕ) → Items o (set w top t) w₂ t (top + 1 + j) r e v → r ≡ 0 → Row (or_empty t (joined (some (take j (drop (top + 1) w))) o)) w w₂ top 0 (v + 5 + 2 * (j - 1) - e)
+  pub from_bad : (w₂ : List ℕ) (r : ℕ) → Items o (set w top t) w₂ t (top + 1 + j) r e v → r ≡ 0 → Row (or_empty t (joined (some (take j (drop (top + 1) w))) o)) w w₂ top 0 (v + 5 - e)
   from_bad w₂ r i y =
       let x = take j (drop (top + 1) w) in
       let none_there : o ≡ none = i.items ∙ rw y refl in
@@ -67,7 +67,7 @@ module _ (t j top e v : ℕ) (o : Option (List ℕ)) (w : List ℕ) (long : room
       record { count = sym (ap length row); words = sym row; kept = kept_both (omega arith) start i.kept; tight = omega arith }
 
   pub from_good : (w₂ : List ℕ) (r : ℕ) → length w₂ ≡ length (set w top t) → Items o (set w top t) w₂ t (top + 1 + j) r e v → (r ≡ 0 → ⊥)
-      → Row (or_empty t (joined (some (take j (drop (top + 1) w))) o)) w w₂ top (r - top) (v + 5 + 2 * (j - 1) - e)
+      → Row (or_empty t (joined (some (take j (drop (top + 1) w))) o)) w w₂ top (r - top) (v + 5 - e)
   from_good w₂ r l i ne =
       let k = top + 1 + j in
       let x = take j (drop (top + 1) w) in
@@ -88,7 +88,7 @@ module _ (t j top e v : ℕ) (o : Option (List ℕ)) (w : List ℕ) (long : room
         tight = by_place (ℕ_discrete j 0);
       }
     where
-      by_place : Dec (j ≡ 0) → 2 * (r - top) ≤ v + 5 + 2 * (j - 1) - e
+      by_place : Dec (j ≡ 0) → 2 * (r - top) ≤ v + 5 - e
       by_place (yes z) = omega (arith, i.tight, z)
       by_place (no z) = omega (arith, i.close (λ q. absurd (omega (arith, q, node (omega arith)))), z)
 

@@ -64,7 +64,7 @@ tagged_head k b top a t hd s w items g h =
       places = λ z. omega arith;
       after = g.after;
       near = g.near;
-      close = λ z. omega (arith, h);
+      close = λ z. h;
     }
 
 -- the row that follows from it
@@ -73,7 +73,7 @@ module _ (p : Bool) (k b top a t j : ℕ) (hd : Headed) (s w w₁ : List ℕ) (i
   head_none h = let e = g.refused h (mode_of p) in record { count = sym (ap length e); words = sym e; kept = g.kept; tight = omega arith }
 
   pub head_row : (r : ℕ) (w₂ : List ℕ) → t < no_tag
-      → Row (or_empty t (joined (some (take j (drop (top + 1) w₁))) (counted_from (mode_of p) t j (items_at s items)))) w₁ w₂ top r (length s + 5 + 2 * (j - 1) - items.at)
+      → Row (or_empty t (joined (some (take j (drop (top + 1) w₁))) (counted_from (mode_of p) t j (items_at s items)))) w₁ w₂ top r (length s + 5 - items.at)
       → Row (row_headed (mode_of p) k hd) w w₂ top r b
   head_row r w₂ l q =
       let e = g.row l (mode_of p) in

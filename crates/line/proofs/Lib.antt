@@ -4,6 +4,5 @@ pub mod LawsItems
 pub mod LawsTag
 pub mod LawsRow
 pub mod LawsValue
-pub mod LawsAhead
 pub mod LawsLine
 pub mod Known

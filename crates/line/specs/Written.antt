@@ -50,26 +50,17 @@ pub record Tagged (k : ℕ) (hd : Headed) (s : List ℕ) (a t : ℕ) (items : Cu
   pub after : a ≤ items.at
   pub near : items.at ≤ length s + 1
 
--- the same where the first j items, at most three, are written behind the place of the tag, and so many half words are enough for the row
+-- the same where the first j items, none or one, are written behind the place of the tag, and so many half words are enough for the row
 pub record Begun (k : ℕ) (hd : Headed) (bytes : ℕ) (s : List ℕ) (a : ℕ) (was is : List ℕ) (top t j : ℕ) (items : Cursor) : Type 0 where
   pub refused : no_tag ≤ t → (m : Mode) → row_headed m k hd ≡ []
   pub row : t < no_tag → (m : Mode) → row_headed m k hd ≡ or_empty t (joined (some (take j (drop (top + 1) is))) (counted_from m t j (items_at s items)))
   pub kept : Kept was is top
-  pub few : j ≤ 3
+  pub few : j ≤ 1
   pub node : 1 ≤ j → first_node ≤ t
   pub places : t < no_tag → j ≤ length (form_of t).items
   pub after : a ≤ items.at
   pub near : items.at ≤ length s + 1
-  pub close : t < no_tag → length s + 5 + 2 * (j - 1) - items.at ≤ bytes
-
--- of a row of tag t the first i items were written behind the place of the tag, the others stand at a cursor; now the first j are written, the others stand at the next cursor
-pub record Ahead (t : ℕ) (s : List ℕ) (c : Cursor) (i : ℕ) (was is : List ℕ) (top j : ℕ) (items : Cursor) : Type 0 where
-  pub row : (m : Mode) → joined (some (take i (drop (top + 1) was))) (counted_from m t i (items_at s c)) ≡ joined (some (take j (drop (top + 1) is))) (counted_from m t j (items_at s items))
-  pub kept : Kept was is top
-  pub more : i ≤ j
-  pub few : j ≤ 3
-  pub after : c.at + 2 * (j - i) ≤ items.at
-  pub near : items.at ≤ length s + 1
+  pub close : t < no_tag → length s + 5 - items.at ≤ bytes
 
 -- a row of r words from top on
 pub record Row (row was is : List ℕ) (top r bytes : ℕ) : Type 0 where

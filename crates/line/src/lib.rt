@@ -7,9 +7,8 @@ ghost use Rattle.sheet.specs.Forms.{entry, first_node, form_of, no_tag, TYPE, VA
 ghost use Rattle.scan.specs.Numbers.{number_of};
 ghost use Rattle.scan.specs.Places.{items_at};
 ghost use Rattle.forms.specs.Rows.{NUMBER, slot_of};
-ghost use Rattle.forms.specs.Tags.{AND, IF};
 ghost use Rattle.line.specs.Codes.{mode_of};
-ghost use Rattle.line.specs.Written.{counted_from, Item, After, Items, Tagged, Begun, Ahead, Row, Text, Entry, row_room};
+ghost use Rattle.line.specs.Written.{counted_from, Item, After, Items, Tagged, Begun, Row, Text, Entry, row_room};
 
 use dates::date_of;
 use forms::{
@@ -34,14 +33,6 @@ const NODE: u64 = forms::NODE as u64;
 
 const NO_TAG: usize = forms::NO_TAG as usize;
 
-// How many items of a node stand before its constructor: its type.
-const TYPED: usize = 1;
-
-// The tags of operations on two children are those from AND up to IF.
-const AND: usize = forms::AND as usize;
-
-const IF: usize = forms::IF as usize;
-
 // What a mark is in a row.
 const MARK: u64 = forms::MARK as u64;
 
@@ -52,7 +43,7 @@ struct Placed {
     words: usize,
 }
 
-// What a line begins with: its tag, how many of its items, at most three, are written, and the cursor at the others.
+// What a line begins with: its tag, how many of its items, none or one, stand before its constructor, and the cursor at the others.
 #[derive(Drop)]
 struct Head {
     tag: usize,
@@ -267,8 +258,8 @@ fn row_from(
     rows: &mut [u32],
     top: usize,
 ) -> usize
-    requires { (tag < no_tag) × (j ≤ 3) × (1 ≤ j → first_node ≤ tag) × (j ≤ length (form_of tag).items) × (cursor.at ≤ length bytes.now + 1) × (length bytes.now ≤ room) × (room ≤ length rows.old) × (2 * top + length bytes.now + 16 ≤ 2 * room + cursor.at) }
-    ensures { Row (or_empty tag (joined (some (take j (drop (top + 1) rows.old))) (counted_from (mode_of partial) tag j (items_at bytes.now cursor)))) rows.old rows.new top result (length bytes.now + 5 + 2 * (j - 1) - cursor.at) }
+    requires { (tag < no_tag) × (j ≤ 1) × (1 ≤ j → first_node ≤ tag) × (j ≤ length (form_of tag).items) × (cursor.at ≤ length bytes.now + 1) × (length bytes.now ≤ room) × (room ≤ length rows.old) × (2 * top + length bytes.now + 16 ≤ 2 * room + cursor.at) }
+    ensures { Row (or_empty tag (joined (some (take j (drop (top + 1) rows.old))) (counted_from (mode_of partial) tag j (items_at bytes.now cursor)))) rows.old rows.new top result (length bytes.now + 5 - cursor.at) }
 {
     rows[top] = tag as u32;
     let z = put_items(bytes, cursor, partial, tag, j, rows, top + 1 + j);
@@ -302,7 +293,7 @@ fn named_head(value: bool, bytes: &[u8], cursor: Cursor) -> Head
 // The head of a node: its type stands first, its constructor second.
 fn node_head(bytes: &[u8], cursor: Cursor, rows: &mut [u32], top: usize) -> Head
     requires { (cursor.at ≤ length bytes.now) × (length bytes.now ≤ room) × (room ≤ length rows.old) × (2 * top + length bytes.now + 16 ≤ 2 * room + cursor.at) }
-    ensures { (result.tag < no_tag → result.before ≡ 1) × Begun NODE (name_second (items_at bytes.now cursor)) (length bytes.now - cursor.at) bytes.now cursor.at rows.old rows.new top result.tag result.before result.items }
+    ensures { Begun NODE (name_second (items_at bytes.now cursor)) (length bytes.now - cursor.at) bytes.now cursor.at rows.old rows.new top result.tag result.before result.items }
 {
     let Counted::Value(first, typed) = cursor.number(bytes) else {
         return Head {
@@ -323,53 +314,9 @@ fn node_head(bytes: &[u8], cursor: Cursor, rows: &mut [u32], top: usize) -> Head
     rows[top + 1] = first;
     Head {
         tag,
-        before: TYPED,
+        before: 1,
         items,
     }
-}
-
-// Writes the children of an operation on two, behind its type, as far as they are indices.
-fn children(bytes: &[u8], tag: usize, items: Cursor, rows: &mut [u32], top: usize) -> Head
-    requires { (AND ≤ tag) × (tag < IF) × (items.at ≤ length bytes.now + 1) × (length bytes.now ≤ room) × (room ≤ length rows.old) × (2 * top + length bytes.now + 16 ≤ 2 * room + items.at) }
-    ensures { (result.tag ≡ tag) × Ahead tag bytes.now items 1 rows.old rows.new top result.before result.items }
-{
-    let Counted::Value(x, second) = items.number(bytes) else {
-        return Head {
-            tag,
-            before: TYPED,
-            items,
-        };
-    };
-    rows[top + 2] = x;
-    let Counted::Value(y, rest) = second.number(bytes) else {
-        return Head {
-            tag,
-            before: 2,
-            items: second,
-        };
-    };
-    rows[top + 3] = y;
-    Head {
-        tag,
-        before: 3,
-        items: rest,
-    }
-}
-
-// The head of a node, with the children of an operation on two.
-fn node_start(bytes: &[u8], cursor: Cursor, rows: &mut [u32], top: usize) -> Head
-    requires { (cursor.at ≤ length bytes.now) × (length bytes.now ≤ room) × (room ≤ length rows.old) × (2 * top + length bytes.now + 16 ≤ 2 * room + cursor.at) }
-    ensures { Begun NODE (name_second (items_at bytes.now cursor)) (length bytes.now - cursor.at) bytes.now cursor.at rows.old rows.new top result.tag result.before result.items }
-{
-    let h = node_head(bytes, cursor, rows, top);
-    let tag = h.tag;
-    if AND <= tag {
-        if tag < IF {
-            let items = h.items;
-            return children(bytes, tag, items, rows, top);
-        }
-    }
-    h
 }
 
 // The head of a line of a key, which is not a text.
@@ -378,7 +325,7 @@ fn head_of(key: u64, bytes: &[u8], cursor: Cursor, rows: &mut [u32], top: usize)
     ensures { Begun key (heading key (items_at bytes.now cursor)) (row_room key (length bytes.now - cursor.at)) bytes.now cursor.at rows.old rows.new top result.tag result.before result.items }
 {
     if key == NODE {
-        return node_start(bytes, cursor, rows, top);
+        return node_head(bytes, cursor, rows, top);
     }
     if key == TYPE {
         return named_head(false, bytes, cursor);

@@ -49,9 +49,7 @@ use Rattle.tpe.proofs.Operations.{sch, env}
 use Rattle.tpe.proofs.Paths.{Kinds}
 use Rattle.tpe.proofs.Depth.{children_of, Proper, Deep, interp_is}
 use Rattle.tpe.proofs.Nodes.{node_fact}
-use Rattle.tpe.proofs.Grown.{Grown, grown_kept}
-use Rattle.tpe.proofs.Kept.{interp_kept}
-use Rattle.tpe.proofs.Policies.{RunIs, PolicyWorks, prior_first, ran_is}
+use Rattle.tpe.proofs.Policies.{RunIs, PolicyWorks, ran_is}
 use Rattle.tpe.proofs.Readings.{Tabled, own_tabled, Linked, keeps_tabled, lists_types}
 use Rattle.tpe.proofs.Singles.{single, single_words}
 use Rattle.tpe.proofs.KindLines.{kind_found, rows_formed}
@@ -250,14 +248,12 @@ module _ (sheet a b : List ℕ) (f : Facts partial (held sheet a b)) (d : Depths
   levels = d.deep NODE
 
   run_from : Room (policy_sizes (numbered_policies (trees (held sheet a [])) (rows_of a RUN))) a []
-      → RunIs partial sheet a 64 [] (n_run (sch partial sheet a) (env partial sheet a) (numbered_policies (trees (held sheet a [])) (rows_of a RUN)) (values a)) (ran_from (λ p q. interp_of partial sheet p q 64) 0 (get_or a RUN 0) 0 0 a [])
+      → RunIs partial sheet a 64 [] (n_run (sch partial sheet a) (env partial sheet a) (numbered_policies (trees (held sheet a [])) (rows_of a RUN)) (values a)) (ran_from (λ p q. interp_of partial sheet p q 64) 0 (get_or a RUN 0) a [])
   run_from room =
       rw (← count_rows a RUN)
-      (ran_is partial sheet a (trees (held sheet a [])) (Tabled (held sheet a [])) 64 (omega arith) (λ p q. interp_of partial sheet p q 64)
-      (λ x b l p q n g. interp_kept (Grown x) (grown_kept x) partial sheet p q 64 b l n g) (rows_of a RUN)
-      (subst (Each (Working sheet a f₀ (depths_of (held sheet a b) NODE) levels)) (sym own_runs) (all_work sheet a f₀ (depths_of (held sheet a b) NODE) levels)) 0 refl 0 0 a [] start_hold
-      (subst (Tabled (held sheet a [])) (sym start_rows) (own_tabled (held sheet a []) f₀.history)) room
-      (prior_first partial sheet a (trees (held sheet a [])) (Tabled (held sheet a [])) 64 (omega arith) (λ p q. interp_of partial sheet p q 64) 0 0 a []))
+      (ran_is partial sheet a (trees (held sheet a [])) (Tabled (held sheet a [])) 64 (omega arith) (λ p q. interp_of partial sheet p q 64) (rows_of a RUN)
+      (subst (Each (Working sheet a f₀ (depths_of (held sheet a b) NODE) levels)) (sym own_runs) (all_work sheet a f₀ (depths_of (held sheet a b) NODE) levels)) 0 refl a [] start_hold
+      (subst (Tabled (held sheet a [])) (sym start_rows) (own_tabled (held sheet a []) f₀.history)) room)
 
   -- what is run is the sheet's run
   same_run : n_run (sch partial sheet a) (env partial sheet a) (numbered_policies (trees (held sheet a [])) (rows_of a RUN)) (values a) ≡ run partial (held sheet a b)
@@ -267,7 +263,7 @@ module _ (sheet a b : List ℕ) (f : Facts partial (held sheet a b)) (d : Depths
   unfolding run_of
   run_held few top =
       let z : policy_sizes (n_policies (held sheet a b)) ≡ policy_sizes (numbered_policies (trees (held sheet a [])) (rows_of a RUN)) = ap policy_sizes (sym (policies_same sheet a b) ∙ own_policies) in
-      subst (λ (x : Run). RunIs partial sheet a 64 [] x (ran_from (λ p q. interp_of partial sheet p q 64) 0 (get_or a RUN 0) 0 0 a [])) same_run
+      subst (λ (x : Run). RunIs partial sheet a 64 [] x (ran_from (λ p q. interp_of partial sheet p q 64) 0 (get_or a RUN 0) a [])) same_run
       (run_from (record { top = omega (arith, z, few, top, reach_start a); few = omega (arith, z, few, none); log = omega (arith, z, few) }))
 
 -- the words hold the state that the reading of `text` leaves, an accepted sheet, their texts as parts of `sheet`; its policies on term are those that run, and

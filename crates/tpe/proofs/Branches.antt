@@ -13,7 +13,7 @@ use Rattle.sheet.specs.Forms.{Mode, at}
 use Rattle.residual.specs.Trees.{rnil, rcons, flat, flats, left_tree, suits, trees_of, whole_none, whole_more}
 use Rattle.tpe.specs.Run.{O, Rec, left_of, split_of, branch_by, branch_of}
 use Rattle.tpe.proofs.Stands.{Room, tys, nodes, ty, Is, is_as, left_is}
-use Rattle.tpe.proofs.Logic.{class_is_law, Works, works_on, then_err, then_on, then_more}
+use Rattle.tpe.proofs.Logic.{class_is, Works, works_on, then_err, then_on, then_more}
 
 module _ (m : Mode) (sheet a₀ : List ℕ) where
   -- three blocks are kept
@@ -66,4 +66,4 @@ module _ (m : Mode) (sheet a₀ : List ℕ) where
 
     pub if_is : (S : Schema) (N : NEnv) → Is sheet a₀ (suc d) (suc (p + q + s)) a l (then_if S N (ty sheet a₀ (at r 0)) X K L) (branch_of f (length l) c (at r 0) x y o)
     unfolding branch_of
-    if_is S N = rw (class_is_law m sheet a₀ deep i) (go (n_class X))
+    if_is S N = rw (class_is m sheet a₀ deep i) (go (n_class X))

@@ -11,12 +11,11 @@ use Rattle.forms.specs.Tags.{KIND_LINE, BOOL_TYPE, ENTITY_TYPE, RECORD_TYPE, SHA
 use Rattle.sheet.specs.Forms.{partial, TYPE, VALUE, NODE, PRINCIPAL, CONTEXT, KIND, SHAPE, mark}
 use Rattle.sheet.specs.Content.{types, schema, n_env}
 use Rattle.table.specs.Layout.{bases, base, row_at, rows_at, rows_of, lines_held, held, with_row, RUN, TOP, heap}
-use Rattle.alike.specs.Alike.{is_alike}
 use Rattle.value.specs.Lines.{value_lines, place_of}
 use Rattle.value.specs.Made.{room_for, narrow, number_of, with_made, with_value}
 use Rattle.residual.specs.Rows.{word_at, stage_at, start_at}
 use Rattle.residual.specs.Errs.{op_errs_def, blocks_by, blocks_err, row_errs, errs_by, errs}
-use Rattle.tpe.specs.Run.{lit_of, err_of, left_of, made_of, give_of, settle_of, ruled_of, worked1, worked2, one_of, two_of, class_by, class_of, decided_by, second_by, second_of, first_by, first_of, schema_in, ty_in, env_in, var_for, un_of, bin_of, lit_step, var_step, lazy_step, bin_step, un_step, step_with, step_of, interp_of, turn_of, ran_from, run_of, Line, get_of, get_step, walk_from, unmoved_of, walked_of, path_by, path_of, path_step, slot_step}
+use Rattle.tpe.specs.Run.{lit_of, err_of, left_of, made_of, give_of, settle_of, ruled_of, worked1, worked2, one_of, two_of, class_by, class_of, decided_by, second_by, second_of, first_by, first_of, schema_in, ty_in, env_in, var_for, un_of, bin_of, lit_step, var_step, lazy_step, bin_step, un_step, step_with, step_of, interp_of, ran_from, run_of, Line, get_of, get_step, walk_from, unmoved_of, walked_of, path_by, path_of, path_step, slot_step}
 
 -- a row more of key k
 with : ℕ → List ℕ → List ℕ → List ℕ
@@ -81,15 +80,14 @@ group =
     (with KIND (KIND_LINE ∷ 0 ∷ 0 ∷ [])
     (with KIND (KIND_LINE ∷ 0 ∷ 0 ∷ []) (set (replicate (heap + 64) 0) TOP heap)))))))))))))
 
--- one root under two links, and one with the other slot, twice
+-- one root under two links, and one with the other slot
 slots : List ℕ
 slots =
-    with RUN (POLICY_LINE ∷ 3 ∷ PERMIT ∷ 1 ∷ 6 ∷ 7 ∷ [])
-    (with RUN (POLICY_LINE ∷ 2 ∷ PERMIT ∷ 1 ∷ 6 ∷ 7 ∷ [])
+    with RUN (POLICY_LINE ∷ 2 ∷ PERMIT ∷ 1 ∷ 6 ∷ 7 ∷ [])
     (with RUN (POLICY_LINE ∷ 1 ∷ PERMIT ∷ 0 ∷ 8 ∷ 9 ∷ [])
     (with RUN (POLICY_LINE ∷ 0 ∷ PERMIT ∷ 0 ∷ 6 ∷ 7 ∷ [])
     (with NODE (SLOT ∷ 1 ∷ SLOT_R ∷ [])
-    (with NODE (SLOT ∷ 1 ∷ SLOT_P ∷ []) (set (replicate (heap + 64) 0) TOP heap))))))
+    (with NODE (SLOT ∷ 1 ∷ SLOT_P ∷ []) (set (replicate (heap + 64) 0) TOP heap)))))
 
 -- what a run shows
 abbrev shown : List ℕ → List ℕ × List Line
@@ -102,6 +100,6 @@ cases : (shown words ≡ (0 ∷ 1 ∷ 4 ∷ 0 ∷ [], record { class = cfalse; e
     × ((shown risky).0 ≡ 2 ∷ 0 ∷ 4 ∷ 1 ∷ 2 ∷ 1 ∷ 8 ∷ 0 ∷ 0 ∷ 1 ∷ 4 ∷ 0 ∷ 2 ∷ 4 ∷ 16 ∷ 0 ∷ [])
     × ((shown path).0 ≡ 0 ∷ 0 ∷ 4 ∷ 1 ∷ 2 ∷ 1 ∷ 8 ∷ 0 ∷ [])
     × ((shown group).0 ≡ 0 ∷ 0 ∷ 4 ∷ 4 ∷ 2 ∷ 1 ∷ 8 ∷ 0 ∷ [])
-    × ((shown slots).0 ≡ 0 ∷ 6 ∷ 4 ∷ 1 ∷ 0 ∷ 8 ∷ 4 ∷ 1 ∷ 0 ∷ 7 ∷ 4 ∷ 1 ∷ 0 ∷ 7 ∷ 4 ∷ 1 ∷ [])
-unfolding with words bases base row_at rows_at rows_of lines_held held with_row value_lines place_of room_for narrow number_of with_made with_value word_at stage_at start_at op_errs_def blocks_by blocks_err row_errs errs_by errs lit_of err_of left_of made_of give_of settle_of ruled_of worked1 worked2 one_of two_of class_by class_of decided_by second_by second_of first_by first_of schema_in ty_in env_in var_for un_of bin_of lit_step var_step lazy_step bin_step un_step step_with step_of interp_of turn_of is_alike ran_from run_of appended types schema n_env risky get_of get_step path group walk_from unmoved_of walked_of path_by path_of path_step slots slot_step
+    × ((shown slots).0 ≡ 0 ∷ 6 ∷ 4 ∷ 1 ∷ 0 ∷ 8 ∷ 4 ∷ 1 ∷ 0 ∷ 7 ∷ 4 ∷ 1 ∷ [])
+unfolding with words bases base row_at rows_at rows_of lines_held held with_row value_lines place_of room_for narrow number_of with_made with_value word_at stage_at start_at op_errs_def blocks_by blocks_err row_errs errs_by errs lit_of err_of left_of made_of give_of settle_of ruled_of worked1 worked2 one_of two_of class_by class_of decided_by second_by second_of first_by first_of schema_in ty_in env_in var_for un_of bin_of lit_step var_step lazy_step bin_step un_step step_with step_of interp_of ran_from run_of appended types schema n_env risky get_of get_step path group walk_from unmoved_of walked_of path_by path_of path_step slots slot_step
 cases = (refl, refl, refl, refl, refl)

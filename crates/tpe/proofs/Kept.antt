@@ -1,23 +1,21 @@
 -- What every value made keeps is kept by interpretation: P is a property of the words. Assumes nothing.
 use mathlib.Core.Path.{sym, subst}
-use mathlib.Core.Bool.{Bool, true, false, cond}
+use mathlib.Core.Bool.{Bool, true, false}
 use mathlib.Core.Option.{Option, none, some}
 use mathlib.Core.List.{List, [], ◌∷◌}
 use Prim.Native.Nat.{ℕ, zero, suc, ◌+◌, ◌-◌}
-use lib.ListN.{length, get_or, take, drop}
-use Rattle.words.specs.Log.{appended}
+use lib.ListN.{length, get_or, take}
 use Rattle.cedar.specs.Residual.{Un, uempty, Bin, bany, Rel, Class, ctrue, cfalse, cerror, copen}
 use Rattle.cedar.specs.Numbered.{Give, made, old, NOut, give, fails, stays}
 use Rattle.forms.specs.Tags.{EQ, IS, SET_OF}
 use Rattle.sheet.specs.Forms.{Mode, tag, at, first_node}
-use Rattle.alike.specs.Alike.{is_alike}
 use Rattle.value.specs.Made.{bool_row, with_value}
 use Rattle.value.specs.Clear.{Clear}
 use Rattle.value.proofs.ClearLaws.{clear_kept}
 use Rattle.residual.specs.declared.Stage.{Stage}
 use Rattle.residual.specs.declared.Stage.TheVariants.{Value, Error, Open}
 use Rattle.tpe.specs.Leaves.{Leaves}
-use Rattle.tpe.specs.Run.{O, Rec, left, Kids, node_in, Walk, lost, says, stuck, Side, stops, goes, wrong, unsure, lit_of, err_of, left_of, made_of, words_of, give_of, settle_of, ruled_of, worked1, worked2, one_of, two_of, kids_of, many_of, decided_by, second_by, second_of, first_by, first_of, split_of, branch_by, branch_of, var_for, un_of, bin_of, rel_of, get_of, has_of, unmoved_of, stuck_of, walked_of, path_by, path_of, set_of, rec_of, Step, lit_step, err_step, var_step, lazy_step, if_step, bin_step, rel_step, un_step, get_step, has_step, path_step, set_step, rec_step, slot_step, steps, step_with, step_of, interp_of, turn_of, ran_from, run_of}
+use Rattle.tpe.specs.Run.{O, Rec, Kids, node_in, Walk, lost, says, stuck, Side, stops, goes, wrong, unsure, lit_of, err_of, left_of, made_of, words_of, give_of, settle_of, ruled_of, worked1, worked2, one_of, two_of, kids_of, many_of, decided_by, second_by, second_of, first_by, first_of, split_of, branch_by, branch_of, var_for, un_of, bin_of, rel_of, get_of, has_of, unmoved_of, stuck_of, walked_of, path_by, path_of, set_of, rec_of, Step, lit_step, err_step, var_step, lazy_step, if_step, bin_step, rel_step, un_step, get_step, has_step, path_step, set_step, rec_step, slot_step, steps, step_with, step_of, interp_of, ran_from, run_of}
 use Rattle.tpe.specs.Steps.{one_steps, one_at, two_steps, two_at, many_at}
 
 -- ---- each of a list, and the one of a number
@@ -340,31 +338,17 @@ module _ (P : List ℕ → Type 0) (keep : (a r : List ℕ) → P a → P (with_
 
   -- ---- the policies in order
 
-  module _ (f : ℕ → ℕ → Rec) (keeps : (p q : ℕ) → Keeps (f p q)) where
-    pub turn_kept : (i start count : ℕ) (a l : List ℕ) → P a → P (turn_of f i start count a l).words
-    unfolding turn_of
-    turn_kept i start count a l h = go (is_alike a count i) (f _ _ a l _) (keeps _ _ a l _ h)
-      where
-        go : (b : Bool) (o : O) → P o.words → P (cond b (left a (appended l (drop start l))) o).words
-        go true o k = h
-        go false o k = k
-
-    pub ran_kept : (i k start count : ℕ) (a l : List ℕ) → P a → P (ran_from f i k start count a l).words
-    unfolding ran_from
-    ran_kept i zero start count a l h = h
-    ran_kept i (suc k) start count a l h = ran_kept (suc i) k _ _ _ _ (turn_kept i start count a l h)
+  pub ran_kept : (f : ℕ → ℕ → Rec) → ((p q : ℕ) → Keeps (f p q)) → (i k : ℕ) (a l : List ℕ) → P a → P (ran_from f i k a l).words
+  unfolding ran_from
+  ran_kept f e i zero a l h = h
+  ran_kept f e i (suc k) a l h = ran_kept f e (suc i) k _ _ (e _ _ a l _ h)
 
   pub run_kept : (m : Mode) (sheet a l : List ℕ) → P a → P (run_of m sheet a l).words
   unfolding run_of
-  run_kept m sheet a l h = ran_kept _ (λ p q. interp_kept m sheet p q 64) 0 _ 0 0 a l h
+  run_kept m sheet a l h = ran_kept _ (λ p q. interp_kept m sheet p q 64) 0 _ a l h
 
 -- ---- the first values that are no bools stay so
 
 module _ (skip : ℕ) where
   pub interp_clear : (m : Mode) (sheet : List ℕ) (p q d : ℕ) (a l : List ℕ) (n was : ℕ) (is b : List ℕ) (e : ℕ) → Clear a skip → Leaves was is b e (interp_of m sheet p q d a l n) → Clear is skip
   interp_clear m sheet p q d a l n was is b e c h = subst (λ (w : List ℕ). Clear w skip) (sym h.words) (interp_kept (λ (w : List ℕ). Clear w skip) (clear_kept skip) m sheet p q d a l n c)
-
-  pub turn_clear : (m : Mode) (sheet : List ℕ) (i start count : ℕ) (a l : List ℕ) (was : ℕ) (is b : List ℕ) (e : ℕ) → Clear a skip → Leaves was is b e (turn_of (λ p q. interp_of m sheet p q 64) i start count a l) → Clear is skip
-  turn_clear m sheet i start count a l was is b e c h =
-      subst (λ (w : List ℕ). Clear w skip) (sym h.words)
-      (turn_kept (λ (w : List ℕ). Clear w skip) (clear_kept skip) (λ p q. interp_of m sheet p q 64) (λ p q. interp_kept (λ (w : List ℕ). Clear w skip) (clear_kept skip) m sheet p q 64) i start count a l c)

@@ -11,7 +11,6 @@ pub mod Sets
 pub mod EachStep
 pub mod Depth
 pub mod Kept
-pub mod Grown
 pub mod Policies
 pub mod Nodes
 pub mod Readings

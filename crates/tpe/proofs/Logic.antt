@@ -36,9 +36,9 @@ module _ (m : Mode) (sheet a₀ : List ℕ) where
   lit_whole zero t w = elim w [ ]
   lit_whole (suc d) t w = whole_lit t
 
-  pub class_is_law : {d n : ℕ} {a l : List ℕ} {X : Out} {o : O} → d ≤ 64 → Is sheet a₀ d n a l X o → class_of o.words o.log ≡ n_class X
+  pub class_is : {d n : ℕ} {a l : List ℕ} {X : Out} {o : O} → d ≤ 64 → Is sheet a₀ d n a l X o → class_of o.words o.log ≡ n_class X
   unfolding class_of
-  class_is_law {X = X} {o = o} deep i = ap (class_by o.words) (last_stage sheet a₀ deep i) ∙ class_by_law o.words (view X.tree) ∙ ap (λ (R : List Row). n_class_of R (view X.tree)) i.rows
+  class_is {X = X} {o = o} deep i = ap (class_by o.words) (last_stage sheet a₀ deep i) ∙ class_by_law o.words (view X.tree) ∙ ap (λ (R : List Row). n_class_of R (view X.tree)) i.rows
 
   -- a node worked at d levels: whatever the words and the log, it leaves what K makes of the values
   -- that meet P
@@ -162,7 +162,7 @@ module _ (m : Mode) (sheet a₀ : List ℕ) where
 
       pub and_open : Is sheet a₀ (suc d) (suc (p + q)) a l (n_and_open (ty sheet a₀ (at r 0)) X.tree Y (n_class Y)) (second_of false (length l) c (at r 0) (length o.log) w)
       unfolding second_of
-      and_open = rw (class_is_law deep j) (and_second (n_class Y))
+      and_open = rw (class_is deep j) (and_second (n_class Y))
 
     module _ (k : (t u : Node ℕ) → left_tree (get_or (nodes sheet a₀) c []) 0 (ty sheet a₀ (at r 0)) (t ∷ u ∷ []) ≡ or (ty sheet a₀ (at r 0)) t u) where
       or_second : (x : Class) → Is sheet a₀ (suc d) (suc (p + q)) a l (n_or_open (ty sheet a₀ (at r 0)) X.tree Y x) (second_by true (length l) c (at r 0) (length o.log) w (side_of true x))
@@ -174,7 +174,7 @@ module _ (m : Mode) (sheet a₀ : List ℕ) where
 
       pub or_open : Is sheet a₀ (suc d) (suc (p + q)) a l (n_or_open (ty sheet a₀ (at r 0)) X.tree Y (n_class Y)) (second_of true (length l) c (at r 0) (length o.log) w)
       unfolding second_of
-      or_open = rw (class_is_law deep j) (or_second (n_class Y))
+      or_open = rw (class_is deep j) (or_second (n_class Y))
 
   module _ {d p q : ℕ} {a l : List ℕ} {X : Out} {o : O} (deep : d ≤ 64) (i : Is sheet a₀ d p a l X o) (f : Rec) (x : ℕ) (K : List Row → Out) (P : List Row → Type 0) (g : Works P d q f x K) (good : P X.rows) (least : 1 ≤ q)
       (c : ℕ) (r : List ℕ) (typed : at r 0 < length (tys sheet a₀)) (room : Room (suc (p + q)) a l) (su : suits (get_or (nodes sheet a₀) c []) 2 ≡ true) where
@@ -201,7 +201,7 @@ module _ (m : Mode) (sheet a₀ : List ℕ) where
     pub and_is : ((t u : Node ℕ) → left_tree (get_or (nodes sheet a₀) c []) 0 T (t ∷ u ∷ []) ≡ and T t u) → (S : Schema) (N : NEnv)
         → Is sheet a₀ (suc d) (suc (p + q)) a l (then_and S N T X K) (first_of false f (length l) c (at r 0) x o)
     unfolding first_of
-    and_is k S N = rw (class_is_law deep i) (go (n_class X))
+    and_is k S N = rw (class_is deep i) (go (n_class X))
       where
         go : (y : Class) → Is sheet a₀ (suc d) (suc (p + q)) a l (n_and T X K y) (first_by false f (length l) c (at r 0) x o (side_of false y))
         go cfalse = first_stops false
@@ -212,7 +212,7 @@ module _ (m : Mode) (sheet a₀ : List ℕ) where
     pub or_is : ((t u : Node ℕ) → left_tree (get_or (nodes sheet a₀) c []) 0 T (t ∷ u ∷ []) ≡ or T t u) → (S : Schema) (N : NEnv)
         → Is sheet a₀ (suc d) (suc (p + q)) a l (then_or S N T X K) (first_of true f (length l) c (at r 0) x o)
     unfolding first_of
-    or_is k S N = rw (class_is_law deep i) (go (n_class X))
+    or_is k S N = rw (class_is deep i) (go (n_class X))
       where
         go : (y : Class) → Is sheet a₀ (suc d) (suc (p + q)) a l (n_or T X K y) (first_by true f (length l) c (at r 0) x o (side_of true y))
         go ctrue = first_stops true

@@ -15,8 +15,7 @@ use Rattle.sheet.specs.Bytes.{half}
 use Rattle.sheet.specs.Forms.{Mode, tag, items, at, first_node, TYPE, NODE, alone_row}
 use Rattle.sheet.specs.Typing.{slot_value}
 use Rattle.sheet.specs.Content.{types, rows_in, schema, n_env, var_of, pattern_of}
-use Rattle.table.specs.Layout.{RUN, MADE, rows_of, held}
-use Rattle.alike.specs.Alike.{is_alike}
+use Rattle.table.specs.Layout.{RUN, rows_of, held}
 use Rattle.value.specs.Lines.{value_lines, place_of}
 use Rattle.value.specs.Made.{bool_row, entity_row, number_of, with_value, set_row, record_row, written}
 use Rattle.residual.specs.Rows.{lit_row, err_row, left_row, word_at, stage_at}
@@ -408,15 +407,10 @@ pub record Ran : Type 0 where
 abbrev pub then_ran : O → (List ℕ → List ℕ → Ran) → Ran
 then_ran o k = let t = k o.words o.log in record { words = t.words; log = t.log; lines = record { class = class_of o.words o.log; end = length o.log } ∷ t.lines }
 
--- policy i over the words a and the log l: where it does as the one before it did, whose block begins at word `start` and before which `count` values
--- were made, that block once more; f by the two values of a policy's link
-unfoldable pub turn_of : (ℕ → ℕ → Rec) → ℕ → ℕ → ℕ → List ℕ → List ℕ → O
-turn_of f i start count a l = let r = get_or (rows_of a RUN) i [] in cond (is_alike a count i) (left a (appended l (drop start l))) (f (at r 3) (at r 4) a l (at r 2))
-
--- k policies, from number i on
-unfoldable pub ran_from : (ℕ → ℕ → Rec) → ℕ → ℕ → ℕ → ℕ → List ℕ → List ℕ → Ran
-ran_from f i zero start count a l = record { words = a; log = l; lines = [] }
-ran_from f i (suc k) start count a l = then_ran (turn_of f i start count a l) (ran_from f (suc i) k (length l) (get_or a MADE 0))
+-- k policies, from number i on: f by the two values of a policy's link
+unfoldable pub ran_from : (ℕ → ℕ → Rec) → ℕ → ℕ → List ℕ → List ℕ → Ran
+ran_from f i zero a l = record { words = a; log = l; lines = [] }
+ran_from f i (suc k) a l = let r = get_or (rows_of a RUN) i [] in then_ran (f (at r 3) (at r 4) a l (at r 2)) (ran_from f (suc i) k)
 
 unfoldable pub run_of : Mode → List ℕ → List ℕ → List ℕ → Ran
-run_of m sheet a l = ran_from (λ p q. interp_of m sheet p q 64) 0 (get_or a RUN 0) 0 0 a l
+run_of m sheet a l = ran_from (λ p q. interp_of m sheet p q 64) 0 (get_or a RUN 0) a l

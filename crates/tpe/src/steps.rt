@@ -34,7 +34,7 @@ use strict::{
     Given, all_of, any_of, arith_of, contains_of, empty_of, eq_of, is_of, like_of, neg_of, not_of,
 };
 use table::{base_of, count, item, row};
-use value::making::{make_entity, make_long_after, make_record, make_set, same};
+use value::making::{make_entity, make_long, make_record, make_set, same};
 use walk::{Walked, walk};
 use words::{append, read};
 
@@ -53,19 +53,11 @@ fn type_of(rows: &[u32], node: u32) -> u32
 }
 
 // A long found or made, as a value of type `ty` more on the log.
-fn give_long(
-    skip: usize,
-    rows: &mut [u32],
-    log: &mut [u32],
-    top: usize,
-    word: u64,
-    ty: u32,
-) -> usize
-    requires room { Room log.old top }
-    requires clear { Clear rows.old skip }
+fn give_long(rows: &mut [u32], log: &mut [u32], top: usize, word: u64, ty: u32) -> usize
+    requires { Room log.old top }
     ensures { Leaves top rows.new log.new result (made_of rows.old (take top log.old) ty (long_row word)) }
 {
-    let v = make_long_after(rows, skip, word);
+    let v = make_long(rows, word);
     push_value(log, top, v, ty)
 }
 
@@ -87,7 +79,7 @@ fn settle(
 {
     match given {
         Given::Bool(x) => give_bool(skip, rows, log, start, x, ty),
-        Given::Long(w) => give_long(skip, rows, log, start, w, ty),
+        Given::Long(w) => give_long(rows, log, start, w, ty),
         Given::Old(v) => push_value(log, start, v, ty),
         Given::Fails => push_error(log, start, ty),
         Given::Stays => push_left(log, start, top, node, 0, ty),

@@ -2,7 +2,6 @@ pub mod Lists
 pub mod Shaped
 pub mod Makes
 pub mod Passes
-pub mod PlainLaws
 pub mod ClearLaws
 pub mod Skips
 pub mod Sorting

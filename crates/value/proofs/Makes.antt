@@ -65,7 +65,7 @@ rows_start r a k n e = find_start r (rows_of a k) n (e ∙ sym (count_rows a k))
 
 -- ---- finding among two lists of rows
 
-pub place_first : (r : List ℕ) (x y : List (List ℕ)) → place_of r x < length x → place_of r x ≡ place_of r (x ++ y)
+place_first : (r : List ℕ) (x y : List (List ℕ)) → place_of r x < length x → place_of r x ≡ place_of r (x ++ y)
 unfolding place_of
 place_first r [] y h = absurd (omega arith)
 place_first r (q ∷ x) y h = go (same q r) h (place_first r x y)

@@ -13,9 +13,9 @@ use Rattle.table.specs.Layout.{TOP, heap, base, limit, limits, rows_of}
 use Rattle.table.proofs.Rows.{count_rows}
 use Rattle.value.specs.Lines.{place_of, Past}
 use Rattle.value.specs.Made.{bool_row}
-use Rattle.value.specs.Clear.{Plain, Clear, clear_at}
+use Rattle.value.specs.Clear.{Clear, clear_at}
 use Rattle.value.proofs.Makes.{Finding, place_most}
-use Rattle.value.proofs.PlainLaws.{plain_more, plain_place}
+use Rattle.value.proofs.ClearLaws.{clear_more, clear_place}
 
 -- ---- the search
 
@@ -27,7 +27,7 @@ past_start r a k n i e p = record { all = e ∙ sym (count_rows a k); near = ome
 
 past_bool : (a : List ℕ) (skip : ℕ) (b : Bool) → Clear a skip → Past (bool_row b) (rows_of a VALUE) skip
 past_bool a skip b c =
-    let g = plain_place a skip c.plain b (get_or a VALUE 0) refl in
+    let g = clear_place a skip c b (get_or a VALUE 0) refl in
     record { near = omega (arith, g.near, g.all); left = g.left }
 
 pub past_true : (a : List ℕ) (skip : ℕ) → Clear a skip → Past (BOOL_VALUE ∷ 1 ∷ []) (rows_of a VALUE) skip
@@ -54,14 +54,14 @@ module _ (a : List ℕ) (i s : ℕ) (es : s ≡ get_or a i 0) where
 
 -- ---- one value more
 
-pub plain_next : (a : List ℕ) (n b i : ℕ) (t : Bool) → n ≡ get_or a VALUE 0 → n ≤ 1024 → b ≡ base VALUE → i < n → Plain a i → t ≡ clear_at a (b + i) → not t ≡ false → Plain a (i + 1)
+pub clear_next : (a : List ℕ) (n b i : ℕ) (t : Bool) → n ≡ get_or a VALUE 0 → n ≤ 1024 → b ≡ base VALUE → i < n → Clear a i → t ≡ clear_at a (b + i) → not t ≡ false → Clear a (i + 1)
 unfolding clear_at limit limits
-plain_next a n b i t en few eb h c et f =
+clear_next a n b i t en few eb h c et f =
     let s : ℕ = get_or a (b + i) 0 in
     let z : clear_at a (b + i) ≡ true = sym et ∙ not-false t f in
     let p = (and-eq-true_iff (leb heap s && ltb s (get_or a TOP 0)) (not (eqb (get_or a s 0) BOOL_VALUE))).0 z in
     let q = (and-eq-true_iff (leb heap s) (ltb s (get_or a TOP 0))).0 p.0 in
-    plain_more a i c n b s (get_or a TOP 0) en eb refl refl (get_or a s 0) h (omega arith) (leb-true heap s q.0) (ltb-true s (get_or a TOP 0) q.1) refl (eqb-false (get_or a s 0) BOOL_VALUE (not-true (eqb (get_or a s 0) BOOL_VALUE) p.1))
+    clear_more a i c n b s (get_or a TOP 0) en eb refl refl (get_or a s 0) h (omega arith) (leb-true heap s q.0) (ltb-true s (get_or a TOP 0) q.1) refl (eqb-false (get_or a s 0) BOOL_VALUE (not-true (eqb (get_or a s 0) BOOL_VALUE) p.1))
 
 -- where the first rows that are others are all rows, none is it
 pub past_all : (r a : List ℕ) (n i : ℕ) → n ≡ get_or a VALUE 0 → Past r (rows_of a VALUE) i → n ≤ i → n ≡ place_of r (rows_of a VALUE)

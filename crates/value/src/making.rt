@@ -9,7 +9,7 @@ ghost use Rattle.sheet.specs.Bytes.{same};
 ghost use Rattle.sheet.specs.Forms.{NODE, VALUE};
 ghost use Rattle.table.specs.Layout.{MADE, base, row_at, rows_of};
 ghost use Rattle.value.specs.Lines.{value_lines, place_of, Past};
-ghost use Rattle.value.specs.Clear.{Plain, Clear, clear_at, fresh_at};
+ghost use Rattle.value.specs.Clear.{Clear, clear_at};
 ghost use Rattle.value.specs.Places.{passed, Passing};
 ghost use Rattle.value.specs.Shapes.{value_found};
 ghost use Rattle.value.specs.Made.{bool_row, long_row, entity_row, room_for, narrow, with_made, Made, MadeBeside, values_in, Shifted, Inserted, lower_of, least_of, set_row, pairs_of, record_row, push_all};
@@ -26,9 +26,6 @@ const SOURCE: usize = 1;
 
 // How many places a search passes in one turn.
 const FOUR: usize = 4;
-
-// As many of the sheet's values as make a search among the made ones first worth its time.
-const MANY: usize = 384;
 
 // Whether two rows have the same words.
 pub fn same(left: &[u32], right: &[u32]) -> bool
@@ -255,8 +252,7 @@ fn find_telling(
     }
 }
 
-// The number of the first row of a key with these words, or of all its rows where none has them. The rows before number `from` are others. The search
-// row by row is lent slices of its own, so that these stay out of memory (docs/DECISIONS.md).
+// The number of the first row of a key with these words, or of all its rows where none has them. The rows before number `from` are others.
 fn find_in(rows: &[u32], key: usize, from: usize, line: &[u32]) -> usize
     requires { Past line.now (rows_of rows.now key) from }
     ensures { result ≡ place_of line.now (rows_of rows.now key) }
@@ -264,13 +260,13 @@ fn find_in(rows: &[u32], key: usize, from: usize, line: &[u32]) -> usize
     let n = count(rows, key) as usize;
     let b = base_of(key);
     if b + n > rows.len() {
-        return find_row(&rows[..], key, &line[..]);
+        return find_row(rows, key, line);
     }
     if line.len() < 1 {
-        return find_row(&rows[..], key, &line[..]);
+        return find_row(rows, key, line);
     }
     if line.len() > rows.len() {
-        return find_row(&rows[..], key, &line[..]);
+        return find_row(rows, key, line);
     }
     find_telling(rows, key, b, n, from, line)
 }
@@ -432,8 +428,8 @@ fn is_clear(rows: &[u32], at: usize) -> bool
 }
 
 // How many values of the sheet come before the first bool.
-fn plain_of(rows: &[u32]) -> usize
-    ensures { Plain rows.now result }
+pub fn clear_of(rows: &[u32]) -> usize
+    ensures { Clear rows.now result }
 {
     let n = count(rows, VALUE) as usize;
     if n > 1024 {
@@ -450,35 +446,6 @@ fn plain_of(rows: &[u32]) -> usize
         }
         i += 1;
     }
-}
-
-// Whether no value is made yet, and the last of the sheet's first `skip` values ends in the heap, in words enough for all.
-fn is_fresh(rows: &[u32], skip: usize) -> bool
-    requires { skip ≤ 1024 }
-    ensures { result ≡ fresh_at rows.now skip }
-{
-    if rows.len() < 16384 {
-        return false;
-    }
-    if read(rows, MADE) != 0 {
-        return false;
-    }
-    let end = read(rows, base_of(VALUE) + skip);
-    end <= read(rows, TOP)
-}
-
-// How many values of the sheet come before the first bool: a search for a bool begins after them. Where they are many and all, the values made from now on are none of them.
-pub fn clear_of(rows: &[u32]) -> usize
-    ensures { Clear rows.now result }
-{
-    let skip = plain_of(rows);
-    if skip < MANY {
-        return skip;
-    }
-    if is_fresh(rows, skip) {
-        return skip;
-    }
-    0
 }
 
 // The bool, which is none of the sheet's first `skip` values.
@@ -501,28 +468,8 @@ pub fn make_bool(rows: &mut [u32], truth: bool) -> u32
     make_bool_after(rows, 0, truth)
 }
 
-// The number of the first value with these words, or of all values where none has them. Among many values of the sheet, a value made before is found first.
-fn find_after(rows: &[u32], skip: usize, line: &[u32]) -> usize
-    requires { Clear rows.now skip }
-    ensures { result ≡ place_of line.now (value_lines rows.now) }
-{
-    if skip < MANY {
-        return find(rows, 0, line);
-    }
-    let n = count(rows, VALUE) as usize;
-    if skip < n {
-        return find(rows, 0, line);
-    }
-    let w = find_in(rows, MADE, 0, line);
-    if w < count(rows, MADE) as usize {
-        return n + w;
-    }
-    find(rows, 0, line)
-}
-
-// The long that is held as its number plus 2^63; the sheet's first `skip` values are no bools.
-pub fn make_long_after(rows: &mut [u32], skip: usize, long: u64) -> u32
-    requires { Clear rows.old skip }
+// The long that is held as its number plus 2^63.
+pub fn make_long(rows: &mut [u32], long: u64) -> u32
     ensures { Made rows.old (long_row long) rows.new result }
 {
     let r = [
@@ -530,8 +477,7 @@ pub fn make_long_after(rows: &mut [u32], skip: usize, long: u64) -> u32
         (long / 4294967296) as u32,
         (long % 4294967296) as u32,
     ];
-    let v = find_after(rows, skip, &r);
-    make_at(rows, v, &r)
+    make(rows, &r)
 }
 
 // The entity of a kind and a text.

@@ -2,7 +2,7 @@
 use mathlib.Core.Path.{◌≡◌, refl, sym, ap, ◌∙◌}
 use mathlib.Core.Bool.{Bool, true, false, not}
 use mathlib.Core.List.{List}
-use Prim.Native.Nat.{ℕ, suc, ◌+◌, ◌-◌, ◌≤◌, ◌<◌}
+use Prim.Native.Nat.{ℕ, suc, ◌+◌, ◌≤◌, ◌<◌}
 use native.Mathlib.Numerals.{add-one}
 use native.Mathlib.Omega.{arith}
 use borrow.Author.Tests.{not-false}
@@ -10,13 +10,13 @@ use lib.ListN.{get_or, length, drop}
 use Rattle.cedar.specs.Evaluate.{is_nil}
 use Rattle.value.proofs.Lists.{uncons, spent}
 use Rattle.lookup.specs.Lookups.{look_attr}
-use Rattle.walk.specs.Walks.{walk_step, walk_from, Found, Followed}
+use Rattle.walk.specs.Walks.{walk_step, walk_from, Found}
 use Rattle.lookup.specs.declared.Look.{Look}
 use Rattle.lookup.specs.declared.Look.TheVariants.{At as Atˡ, Missing, Unknown as Unknownˡ, Bad}
 use Rattle.walk.specs.declared.Walked.{Walked}
 use Rattle.walk.specs.declared.Walked.TheVariants.{Holds, Fails as Failsʷ, Left}
 use Rattle.notes.specs.Noted.{Noted}
-use Rattle.firsts.specs.Firsts.{column, Firsts, Hits}
+use Rattle.firsts.specs.Firsts.{Firsts, Hits}
 
 -- ---- a path that leads to w
 
@@ -61,23 +61,24 @@ module _ (c : Bool) (a : List ℕ) (w : Walked) (path : List ℕ) (n i : ℕ) (g
 
 -- ---- by notes
 
-pub record Stepping (c : Bool) (a : List ℕ) (w : Walked) (path from₀ to₀ texts₀ nexts₀ from to texts nexts : List ℕ) (n i : ℕ) : Type 0 where
+pub record Stepping (c : Bool) (a : List ℕ) (w : Walked) (path from₀ to₀ owners₀ texts₀ nexts₀ from to owners texts nexts : List ℕ) (n i : ℕ) : Type 0 where
   pub walking : Walking c a w path n i
   pub noted : Noted c a from to
-  pub cells : Firsts a texts nexts
+  pub cells : Firsts a owners texts nexts
   pub froms : length from ≡ length from₀
   pub tos : length to ≡ length to₀
+  pub longo : length owners ≡ length owners₀
   pub longt : length texts ≡ length texts₀
   pub longn : length nexts ≡ length nexts₀
 
-pub step_start : (c : Bool) (a path from to texts nexts : List ℕ) (n i : ℕ) → i ≤ length path → Noted c a from to → Firsts a texts nexts → Stepping c a (walk_from c a n i (drop i path)) path from to texts nexts from to texts nexts n i
-step_start c a path from to texts nexts n i h g f = record { walking = walk_start c a path n i h; noted = g; cells = f; froms = refl; tos = refl; longt = refl; longn = refl }
+pub step_start : (c : Bool) (a path from to owners texts nexts : List ℕ) (n i : ℕ) → i ≤ length path → Noted c a from to → Firsts a owners texts nexts → Stepping c a (walk_from c a n i (drop i path)) path from to owners texts nexts from to owners texts nexts n i
+step_start c a path from to owners texts nexts n i h g f = record { walking = walk_start c a path n i h; noted = g; cells = f; froms = refl; tos = refl; longo = refl; longt = refl; longn = refl }
 
-module _ (c : Bool) (a : List ℕ) (w : Walked) (path from₀ to₀ texts₀ nexts₀ from to texts nexts : List ℕ) (n i : ℕ) (g : Stepping c a w path from₀ to₀ texts₀ nexts₀ from to texts nexts n i) where
+module _ (c : Bool) (a : List ℕ) (w : Walked) (path from₀ to₀ owners₀ texts₀ nexts₀ from to owners texts nexts : List ℕ) (n i : ℕ) (g : Stepping c a w path from₀ to₀ owners₀ texts₀ nexts₀ from to owners texts nexts n i) where
   pub step_end : length path ≤ i → Failsʷ ≡ w
   step_end h = walk_end c a w path n i g.walking h
 
-  module _ (h : i < length path) (from' to' texts' nexts' : List ℕ) (l : Look) (k : Found c a n (get_or path i 0) from' to' texts' nexts' l) where
+  module _ (h : i < length path) (from' to' owners' texts' nexts' : List ℕ) (l : Look) (k : Found c a n (get_or path i 0) from' to' owners' texts' nexts' l) where
     pub step_bad : l ≡ Bad → Failsʷ ≡ w
     step_bad e = walk_bad c a w path n i g.walking h l k.is e
 
@@ -91,40 +92,37 @@ module _ (c : Bool) (a : List ℕ) (w : Walked) (path from₀ to₀ texts₀ nex
       pub step_last : length path ≤ i + 1 → Holds true ≡ w
       step_last m = walk_last c a w path n i g.walking h l k.is x e m
 
-      pub step_on : i + 1 < length path → length from' ≡ length from → length to' ≡ length to → length texts' ≡ length texts → length nexts' ≡ length nexts
-          → Stepping c a w path from₀ to₀ texts₀ nexts₀ from' to' texts' nexts' x (i + 1)
-      step_on m ef et lt ln = record { walking = walk_on c a w path n i g.walking h l k.is x e m; noted = k.noted; cells = k.cells; froms = ef ∙ g.froms; tos = et ∙ g.tos; longt = lt ∙ g.longt; longn = ln ∙ g.longn }
+      pub step_on : i + 1 < length path → length from' ≡ length from → length to' ≡ length to → length owners' ≡ length owners → length texts' ≡ length texts → length nexts' ≡ length nexts
+          → Stepping c a w path from₀ to₀ owners₀ texts₀ nexts₀ from' to' owners' texts' nexts' x (i + 1)
+      step_on m ef et lo lt ln = record { walking = walk_on c a w path n i g.walking h l k.is x e m; noted = k.noted; cells = k.cells; froms = ef ∙ g.froms; tos = et ∙ g.tos; longo = lo ∙ g.longo; longt = lt ∙ g.longt; longn = ln ∙ g.longn }
 
 -- ---- by cells
 
-module _ (path texts nexts : List ℕ) (v first : ℕ) where
-  pub follow_start : first ≤ length path → Followed path texts nexts v first v first
-  follow_start h = record { near = h; is = λ c a f. refl }
-
-  module _ (n i : ℕ) (g : Followed path texts nexts v first n i) (h : 2 ≤ length path - i) where
-    pub follow_on : (col cell : ℕ) (b : Bool) → col ≡ column (get_or path i 0) → cell ≡ col + n → Hits texts cell (get_or path i 0) b → not b ≡ false → (y : ℕ) → y ≡ get_or nexts (col + n) 0 → Followed path texts nexts v first y (i + 1)
-    follow_on col cell b eo ec hits z y ey = record { near = omega (arith, h); is = λ c a f. (on c a f).left }
-      where
-        leads_on : (c : Bool) (a : List ℕ) → Firsts a texts nexts → Atˡ y ≡ look_attr c a n (get_or path i 0)
-        leads_on c a f =
-            ap (λ (j : ℕ). Atˡ j) (ey ∙ ap (λ (j : ℕ). get_or nexts (j + n) 0) eo)
-            ∙ f.is c n (get_or path i 0) (ap (λ (j : ℕ). get_or texts j 0) (sym (ec ∙ ap (λ (j : ℕ). j + n) eo)) ∙ hits.text (not-false b z))
-
-        on : (c : Bool) (a : List ℕ) → Firsts a texts nexts → Walking c a (walk_from c a v first (drop first path)) path y (i + 1)
-        on c a f = walk_on c a (walk_from c a v first (drop first path)) path n i (record { near = g.near; left = g.is c a f }) (omega (arith, h)) (Atˡ y) (leads_on c a f) y refl (omega (arith, h))
-
-pub record Following (c : Bool) (a : List ℕ) (w : Walked) (path texts₀ nexts₀ texts nexts : List ℕ) (n i : ℕ) : Type 0 where
+pub record Following (c : Bool) (a : List ℕ) (w : Walked) (path owners₀ texts₀ nexts₀ owners texts nexts : List ℕ) (n i : ℕ) : Type 0 where
   pub walking : Walking c a w path n i
-  pub cells : Firsts a texts nexts
+  pub cells : Firsts a owners texts nexts
+  pub longo : length owners ≡ length owners₀
   pub longt : length texts ≡ length texts₀
   pub longn : length nexts ≡ length nexts₀
 
-pub firsts_start : (c : Bool) (a path texts nexts : List ℕ) (n : ℕ) → Firsts a texts nexts → Following c a (walk_from c a n 0 path) path texts nexts texts nexts n 0
-firsts_start c a path texts nexts n f = record { walking = walk_start c a path n 0 (omega arith); cells = f; longt = refl; longn = refl }
+pub follow_start : (c : Bool) (a path owners texts nexts : List ℕ) (n : ℕ) → Firsts a owners texts nexts → Following c a (walk_from c a n 0 path) path owners texts nexts owners texts nexts n 0
+follow_start c a path owners texts nexts n f = record { walking = walk_start c a path n 0 (omega arith); cells = f; longo = refl; longt = refl; longn = refl }
 
-module _ (c : Bool) (a : List ℕ) (w : Walked) (path texts₀ nexts₀ texts nexts : List ℕ) (n i : ℕ) (g : Following c a w path texts₀ nexts₀ texts nexts n i) (m j : ℕ) (f : Followed path texts nexts n i m j) where
-  pub firsts_on : (texts' nexts' : List ℕ) → Firsts a texts' nexts' → length texts' ≡ length texts → length nexts' ≡ length nexts → Following c a w path texts₀ nexts₀ texts' nexts' m j
-  firsts_on texts' nexts' e lt ln = record { walking = record { near = f.near; left = g.walking.left ∙ f.is c a g.cells }; cells = e; longt = lt ∙ g.longt; longn = ln ∙ g.longn }
+module _ (c : Bool) (a : List ℕ) (w : Walked) (path owners₀ texts₀ nexts₀ owners texts nexts : List ℕ) (n i : ℕ) (g : Following c a w path owners₀ texts₀ nexts₀ owners texts nexts n i) where
+  pub follow_end : length path ≤ i → Failsʷ ≡ w
+  follow_end h = walk_end c a w path n i g.walking h
 
-  pub firsts_end : (r : Walked) → r ≡ walk_from c a m j (drop j path) → r ≡ w
-  firsts_end r e = e ∙ sym (g.walking.left ∙ f.is c a g.cells)
+  pub follow_off : (r : Walked) → r ≡ walk_from c a n i (drop i path) → r ≡ w
+  follow_off r e = e ∙ sym g.walking.left
+
+  module _ (h : i < length path) (cell : ℕ) (b : Bool) (hits : Hits owners texts cell n (get_or path i 0) b) (z : not b ≡ false) where
+    leads_on : Atˡ (get_or nexts cell 0) ≡ look_attr c a n (get_or path i 0)
+    leads_on = g.cells.is c cell (get_or path i 0) (hits.text (not-false b z)) ∙ ap (λ (y : ℕ). look_attr c a y (get_or path i 0)) (hits.owner (not-false b z))
+
+    pub follow_last : length path ≤ i + 1 → Holds true ≡ w
+    follow_last m = walk_last c a w path n i g.walking h (Atˡ (get_or nexts cell 0)) leads_on (get_or nexts cell 0) refl m
+
+    pub follow_on : (column y : ℕ) → cell ≡ column + n → y ≡ get_or nexts (column + n) 0 → i + 1 < length path → Following c a w path owners₀ texts₀ nexts₀ owners texts nexts y (i + 1)
+    follow_on column y ec ey m =
+        let e : y ≡ get_or nexts cell 0 = ey ∙ ap (λ (j : ℕ). get_or nexts j 0) (sym ec) in
+        record { walking = rw e (walk_on c a w path n i g.walking h (Atˡ (get_or nexts cell 0)) leads_on (get_or nexts cell 0) refl m); cells = g.cells; longo = g.longo; longt = g.longt; longn = g.longn }

@@ -1,5 +1,5 @@
 -- Where a path of texts leads.
-use Rattle.std.specs.Prelude.{◌≡◌, Bool, true, false, cond, List, [], ◌∷◌, ℕ, suc, ◌≤◌, length, drop}
+use Rattle.std.specs.Prelude.{◌≡◌, Bool, true, false, cond, List, [], ◌∷◌, ℕ, suc}
 use Rattle.cedar.specs.Evaluate.{is_nil}
 use Rattle.lookup.specs.Lookups.{look_attr}
 use Rattle.notes.specs.Noted.{Noted}
@@ -22,12 +22,7 @@ walk_from c a n i [] = Failsʷ
 walk_from c a n i (t ∷ ts) = walk_step n i (look_attr c a n t) (is_nil ts) (λ x. walk_from c a x (suc i) ts)
 
 -- text u is looked up in value v, and what is noted of entries and in cells holds
-pub record Found (c : Bool) (a : List ℕ) (v u : ℕ) (from to texts nexts : List ℕ) (l : Look) : Type 0 where
+pub record Found (c : Bool) (a : List ℕ) (v u : ℕ) (from to owners texts nexts : List ℕ) (l : Look) : Type 0 where
   pub is : l ≡ look_attr c a v u
   pub noted : Noted c a from to
-  pub cells : Firsts a texts nexts
-
--- a path of which i steps were taken, at value v, leads where it leads from value n on, j steps taken
-pub record Followed (path texts nexts : List ℕ) (v i n j : ℕ) : Type 0 where
-  pub near : j ≤ length path
-  pub is : (c : Bool) (a : List ℕ) → Firsts a texts nexts → walk_from c a v i (drop i path) ≡ walk_from c a n j (drop j path)
+  pub cells : Firsts a owners texts nexts

@@ -3,7 +3,7 @@
 ghost use Rattle.std.specs.Prelude.{◌≡◌, ◌+◌, ◌≤◌, ◌<◌, length, drop};
 ghost use Rattle.sheet.specs.Forms.{ENTITY};
 ghost use Rattle.table.specs.Layout.{rows_of};
-ghost use Rattle.walk.specs.Walks.{walk_from, Found, Followed};
+ghost use Rattle.walk.specs.Walks.{walk_from, Found};
 ghost use Rattle.notes.specs.Chains.{Chained};
 ghost use Rattle.firsts.specs.Firsts.{CELLS, Firsts};
 ghost use Rattle.notes.specs.Noted.{Noted};
@@ -19,22 +19,12 @@ use table::count;
 // A path of so many steps is a long one.
 const LONG: usize = 4;
 
-// So many look-ups are made before there are chains and notes for them.
-const FEW: u32 = 4;
-
 // Where a path leads: it holds or not, it fails, or it is left at a value, an entity of this kind, after so many steps.
 #[derive(Drop)]
 pub enum Walked {
     Holds(bool),
     Fails,
     Left(u32, u32, usize),
-}
-
-// Where a path is: at a value, after so many steps.
-#[derive(Drop)]
-struct Reached {
-    value: u32,
-    step: usize,
 }
 
 // `text` among the attributes of a record or an entity, by its cell; what the cell does not have is looked up, and put there where it is found.
@@ -47,24 +37,25 @@ fn look_kept(
     links: &[u32],
     from: &mut [u32],
     to: &mut [u32],
+    owners: &mut [u32],
     texts: &mut [u32],
     nexts: &mut [u32],
 ) -> Look
     requires chained { Chained rows.now (rows_of rows.now ENTITY) 0 heads.now links.now }
     requires noted { Noted complete rows.now from.old to.old }
-    requires firsts { Firsts rows.now texts.old nexts.old }
-    ensures { Found complete rows.now value text from.new to.new texts.new nexts.new result }
+    requires firsts { Firsts rows.now owners.old texts.old nexts.old }
+    ensures { Found complete rows.now value text from.new to.new owners.new texts.new nexts.new result }
 {
     let column = column_of(text);
     let cell = cell_in(column, value);
-    if leads(texts, cell, text) {
+    if leads(owners, texts, cell, value, text) {
         return Look::At(cell_at(nexts, column, value));
     }
     let l = look_noted(rows, complete, value, text, heads, links, from, to);
     let Look::At(x) = l else {
         return l;
     };
-    keep(value, text, x, texts, nexts);
+    keep(value, text, x, owners, texts, nexts);
     l
 }
 
@@ -79,13 +70,14 @@ fn walk_noted(
     links: &[u32],
     from: &mut [u32],
     to: &mut [u32],
+    owners: &mut [u32],
     texts: &mut [u32],
     nexts: &mut [u32],
 ) -> Walked
     requires first_in_bounds { first ≤ length path.now }
     requires chained { Chained rows.now (rows_of rows.now ENTITY) 0 heads.now links.now }
     requires noted { Noted complete rows.now from.old to.old }
-    requires firsts { Firsts rows.now texts.old nexts.old }
+    requires firsts { Firsts rows.now owners.old texts.old nexts.old }
     ensures { result ≡ walk_from complete rows.now value first (drop first path.now) }
 {
     let mut n = value;
@@ -95,7 +87,7 @@ fn walk_noted(
             break Walked::Fails;
         }
         match look_kept(
-            rows, complete, n, path[i], heads, links, from, to, texts, nexts,
+            rows, complete, n, path[i], heads, links, from, to, owners, texts, nexts,
         ) {
             Look::Bad => break Walked::Fails,
             Look::Missing => break Walked::Holds(false),
@@ -118,11 +110,12 @@ fn walk_chained(
     value: u32,
     first: usize,
     path: &[u32],
+    owners: &mut [u32],
     texts: &mut [u32],
     nexts: &mut [u32],
 ) -> Walked
     requires first_in_bounds { first ≤ length path.now }
-    requires firsts { Firsts rows.now texts.old nexts.old }
+    requires firsts { Firsts rows.now owners.old texts.old nexts.old }
     ensures { result ≡ walk_from complete rows.now value first (drop first path.now) }
 {
     let mut heads: [u32; TEXTS] = [0; TEXTS];
@@ -140,6 +133,7 @@ fn walk_chained(
         &links[..],
         &mut from[..],
         &mut to[..],
+        owners,
         texts,
         nexts,
     )
@@ -152,15 +146,16 @@ fn walk_on(
     value: u32,
     first: usize,
     path: &[u32],
+    owners: &mut [u32],
     texts: &mut [u32],
     nexts: &mut [u32],
 ) -> Walked
     requires first_in_bounds { first ≤ length path.now }
-    requires firsts { Firsts rows.now texts.old nexts.old }
+    requires firsts { Firsts rows.now owners.old texts.old nexts.old }
     ensures { result ≡ walk_from complete rows.now value first (drop first path.now) }
 {
     if path.len() - first >= LONG {
-        return walk_chained(rows, complete, value, first, path, texts, nexts);
+        return walk_chained(rows, complete, value, first, path, owners, texts, nexts);
     }
     let mut from: [u32; 1] = [0; 1];
     let mut to: [u32; 1] = [0; 1];
@@ -174,96 +169,41 @@ fn walk_on(
         &rows[0..0],
         &mut from[..],
         &mut to[..],
+        owners,
         texts,
         nexts,
     )
 }
 
-// Looks up the text of step `step` at value `value`, where a long path is left: whether it is found; it is put into its cell then.
-fn found(
-    rows: &[u32],
-    complete: bool,
-    value: u32,
-    step: usize,
-    path: &[u32],
-    texts: &mut [u32],
-    nexts: &mut [u32],
-) -> bool
-    requires step_in_bounds { step ≤ length path.now }
-    requires firsts { Firsts rows.now texts.old nexts.old }
-    ensures { Firsts rows.now texts.new nexts.new }
-{
-    if path.len() - step < LONG {
-        return false;
-    }
-    let mut from: [u32; 1] = [0; 1];
-    let mut to: [u32; 1] = [0; 1];
-    let l = look_kept(
-        rows,
-        complete,
-        value,
-        path[step],
-        &rows[0..0],
-        &rows[0..0],
-        &mut from[..],
-        &mut to[..],
-        texts,
-        nexts,
-    );
-    let Look::At(_) = l else {
-        return false;
-    };
-    true
-}
-
-// A path of texts from step `first` on, at value `value`, as far as the cells lead before its last step.
-fn follow(value: u32, first: usize, path: &[u32], texts: &[u32], nexts: &[u32]) -> Reached
-    requires { first ≤ length path.now }
-    ensures { Followed path.now texts.now nexts.now value first result.value result.step }
-{
-    let mut n = value;
-    let mut i = first;
-    loop {
-        if path.len() - i < 2 {
-            break;
-        }
-        let column = column_of(path[i]);
-        let cell = cell_in(column, n);
-        if !leads(texts, cell, path[i]) {
-            break;
-        }
-        n = cell_at(nexts, column, n);
-        i += 1;
-    }
-    Reached { value: n, step: i }
-}
-
-// A path of texts from value `value` on, by cells as far as they lead; where they do not, a few attributes are looked up.
+// A path of texts from value `value` on, by the attributes noted as far as they lead.
 fn walk_firsts(
     rows: &[u32],
     complete: bool,
     value: u32,
     path: &[u32],
+    owners: &mut [u32],
     texts: &mut [u32],
     nexts: &mut [u32],
 ) -> Walked
-    requires { Firsts rows.now texts.old nexts.old }
+    requires { Firsts rows.now owners.old texts.old nexts.old }
     ensures { result ≡ walk_from complete rows.now value 0 path.now }
 {
     let mut n = value;
     let mut i = 0;
-    let mut left = FEW;
     loop {
-        let r = follow(n, i, path, texts, nexts);
-        if left == 0 {
-            break walk_on(rows, complete, r.value, r.step, path, texts, nexts);
+        if i >= path.len() {
+            break Walked::Fails;
         }
-        if !found(rows, complete, r.value, r.step, path, texts, nexts) {
-            break walk_on(rows, complete, r.value, r.step, path, texts, nexts);
+        let column = column_of(path[i]);
+        let cell = cell_in(column, n);
+        if !leads(owners, texts, cell, n, path[i]) {
+            break walk_on(rows, complete, n, i, path, owners, texts, nexts);
         }
-        n = r.value;
-        i = r.step;
-        left -= 1;
+        if i + 1 >= path.len() {
+            break Walked::Holds(true);
+        }
+        n = cell_at(nexts, column, n);
+        i += 1;
     }
 }
 
@@ -271,16 +211,26 @@ fn walk_firsts(
 fn walk_long(rows: &[u32], complete: bool, value: u32, path: &[u32]) -> Walked
     ensures { result ≡ walk_from complete rows.now value 0 path.now }
 {
+    let mut owners: [u32; CELLS] = [0; CELLS];
     let mut texts: [u32; CELLS] = [0; CELLS];
     let mut nexts: [u32; CELLS] = [0; CELLS];
-    firsts(rows, &mut texts[..], &mut nexts[..]);
-    walk_firsts(rows, complete, value, path, &mut texts[..], &mut nexts[..])
+    firsts(rows, &mut owners[..], &mut texts[..], &mut nexts[..]);
+    walk_firsts(
+        rows,
+        complete,
+        value,
+        path,
+        &mut owners[..],
+        &mut texts[..],
+        &mut nexts[..],
+    )
 }
 
 // A path of texts from value `value` on, with no cells.
 fn walk_short(rows: &[u32], complete: bool, value: u32, path: &[u32]) -> Walked
     ensures { result ≡ walk_from complete rows.now value 0 path.now }
 {
+    let mut owners: [u32; 1] = [0; 1];
     let mut texts: [u32; 1] = [0; 1];
     let mut nexts: [u32; 1] = [0; 1];
     walk_on(
@@ -289,6 +239,7 @@ fn walk_short(rows: &[u32], complete: bool, value: u32, path: &[u32]) -> Walked
         value,
         0,
         path,
+        &mut owners[..],
         &mut texts[..],
         &mut nexts[..],
     )

@@ -28,7 +28,7 @@ use Rattle.tpe.proofs.Stands.{Hold}
 use Rattle.evaluator.specs.Run.{E, class_of}
 use Rattle.evaluator.specs.declared.Yield.{Yield}
 use Rattle.evaluator.specs.declared.Yield.TheVariants.{Value, Error}
-use Rattle.evaluator.proofs.Evaluates.{class_is_law}
+use Rattle.evaluator.proofs.Evaluates.{class_is}
 use Rattle.evaluator.proofs.Gives.{Says, says_value, says_error, Stand}
 use Rattle.evaluator.proofs.Steps.{sch, same_node}
 use Rattle.carried.specs.Carry.{number_there}
@@ -177,9 +177,9 @@ module _ (sheet a₀ : List ℕ) (G : Env) (ts : List Ty) (K : List Content) (g 
     abbrev e : Node ℕ
     e = left_tree r k (ty_at ts nodes y) (trees rs)
 
-    same_tree_law : tree (rleft n k y rs) ≡ e
+    same_tree : tree (rleft n k y rs) ≡ e
     unfolding tree_of
-    same_tree_law = refl
+    same_tree = refl
 
     long : length (flat (rleft n k y rs)) ≡ length (flats rs) + 4
     unfolding flat
@@ -204,8 +204,8 @@ module _ (sheet a₀ : List ℕ) (G : Env) (ts : List Ty) (K : List Content) (g 
 
     got : Gets sheet a₀ G b.contents w.words w.count b.words (node_by sheet (tag r) b.words (l ++ yield_rows b.slots) (length l) n k) (eval (sch sheet a₀ G) G X)
     got =
-        let t = ap takes same_tree_law in
-        let m = ap makes same_tree_law in
+        let t = ap takes same_tree in
+        let m = ap makes same_tree in
         let len = length-append l (yield_rows b.slots) in
         let rl = rows_long b.slots in
         let rm = rows_most in
@@ -216,8 +216,8 @@ module _ (sheet a₀ : List ℕ) (G : Env) (ts : List Ty) (K : List Content) (g 
     node_block : Block C a l (rleft n k y rs) X
     unfolding flat
     node_block =
-        let t = ap takes same_tree_law in
-        let m = ap makes same_tree_law in
+        let t = ap takes same_tree in
+        let m = ap makes same_tree in
         let o : List ℕ = l ++ yield_rows b.slots in
         let s : start_of o (length (flats rs) + 4) ≡ length l = ap (λ (j : ℕ). start_of o (j + 4)) (sym b.sum) ∙ start_is b.slots b.rowed l (length l / 4) (omega (arith, room.rows)) in
         record {
@@ -413,7 +413,7 @@ module _ (sheet a₀ : List ℕ) (G : Env) (ts : List Ty) (K : List Content) (g 
   classes_are : {C : List Content} {a : List ℕ} (ps : List Slot) (Xs : List Expr) → Stand sheet a₀ G C a → Say sheet a₀ G C ps (eval_each sheet a₀ G Xs) → classes_in a (yield_rows ps) ≡ classes_of Xs
   unfolding yield_rows classes_in
   classes_are [] [] s say_none = refl
-  classes_are {a = a} (p ∷ ps) (X ∷ Xs) s (say_more h t) = row_class a p.yield p.words (yield_rows ps) ∙ ap₂ (λ (x : ℕ) (xs : List ℕ). x ∷ xs) (ap class_number (class_is_law sheet a₀ G s h)) (classes_are ps Xs s t)
+  classes_are {a = a} (p ∷ ps) (X ∷ Xs) s (say_more h t) = row_class a p.yield p.words (yield_rows ps) ∙ ap₂ (λ (x : ℕ) (xs : List ℕ). x ∷ xs) (ap class_number (class_is sheet a₀ G s h)) (classes_are ps Xs s t)
 
   -- what is left of the run over all residuals
   pub record Ran (res a : List ℕ) (Xs : List Expr) : Type 0 where

@@ -8,7 +8,7 @@ returns : tie.Need-returns
 returns c = search (kept_none, rules)
 
 returns-2 : tie.Need-returns-2
-returns-2 c = search (kept_set, c.before.before.before.before.before.before.before.before.column-of.ensures.0, rules)
+returns-2 c = search (kept_set, rules)
 
 pub keep_spec : {M : Type 1} → statement M
 keep_spec =
@@ -18,9 +18,11 @@ keep_spec =
     returns
     (λ c κs. search rules)
     (λ c. search rules)
+    (λ c κs. search rules)
     (λ c. search rules)
     (λ c κs. search rules)
     (λ c κs. search rules)
+    (λ c. search rules)
     (λ c. search rules)
     (λ c. search rules)
     returns-2)

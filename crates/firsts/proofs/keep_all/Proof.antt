@@ -8,10 +8,10 @@ use Rattle.firsts.proofs.keep_all.Statement.{statement}
 use Rattle.firsts.proofs.keep_all.Tie as tie
 
 abbrev invariant-loop : tie.invariant-loop
-invariant-loop entries value texts₀ nexts₀ low₀ i₀ texts nexts low i = Keeping entries value texts₀ nexts₀ texts nexts low i
+invariant-loop entries value owners₀ texts₀ nexts₀ low₀ i₀ owners texts nexts low i = Keeping entries value owners₀ texts₀ nexts₀ owners texts nexts low i
 
 abbrev decreases-loop : tie.decreases-loop
-decreases-loop entries value texts₀ nexts₀ low₀ i₀ texts nexts low i = length entries - i
+decreases-loop entries value owners₀ texts₀ nexts₀ low₀ i₀ owners texts nexts low i = length entries - i
 
 loop-holds : tie.Need-loop-init invariant-loop decreases-loop
 loop-holds c = search (keeping_start, rules)
@@ -20,10 +20,10 @@ cast-if2 : tie.Need-overflow-cast-if2 invariant-loop decreases-loop
 cast-if2 c = omega (arith, c.shared-slice-known2.given c.before.before.before.loop.i)
 
 cast-low : tie.Need-overflow-cast-low invariant-loop decreases-loop
-cast-low c = let r = c.before.before.before.before.before.before.before.before.before in omega (arith, r.shared-slice-known2.given r.before.before.before.loop.i)
+cast-low c = let r = c.before.before.before.before.before.before.before.before.before.before.before.before in omega (arith, r.shared-slice-known2.given r.before.before.before.loop.i)
 
 add_low : tie.Need-overflow-add-low invariant-loop decreases-loop
-add_low c = let r = c.before.before.before.before.before.before.before.before.before in omega (arith, r.shared-slice-known2.given r.before.before.before.loop.i)
+add_low c = let r = c.before.before.before.before.before.before.before.before.before.before.before.before in omega (arith, r.shared-slice-known2.given r.before.before.before.loop.i)
 
 loop-again : tie.Need-loop-preserved invariant-loop decreases-loop
 loop-again c = search (keeping_on, rules)
@@ -59,10 +59,13 @@ keep-all-spec =
     loop-again
     (λ c. search rules)
     (λ c. search rules)
+    (λ c. search rules)
     returns
     (λ c. search rules)
     (λ c. search rules)
+    (λ c. search rules)
     returns-2
+    (λ c. search rules)
     (λ c. search rules)
     (λ c. search rules)
     returns-3)

@@ -26,4 +26,5 @@ keep-source-spec =
     (λ c κs. search rules)
     (λ c. search rules)
     (λ c. search rules)
+    (λ c. search rules)
     returns-3)

@@ -20,7 +20,7 @@ returns-3 c =
     let x = c.before.before.before.before.before.before.before.first.given in
     let d = c.before.before.before.before.before.before.before.before.before.number in
     let a = c.before.before.before.before.before.before.before.before.before.before.before.before in
-    (λ z. omega arith, node_head_law a.args.bytes.now a.args.cursor a.requires.0 d.result d.ensures x.0.0 x.0.1.0 x.1 i.result i.ensures e.0.0 e.0.1.0 e.1 f.result.now f.ensures t.result t.ensures a.args.top a.args.rows.now (omega arith) (omega arith))
+    node_head_law a.args.bytes.now a.args.cursor a.requires.0 d.result d.ensures x.0.0 x.0.1.0 x.1 i.result i.ensures e.0.0 e.0.1.0 e.1 f.result.now f.ensures t.result t.ensures a.args.top a.args.rows.now (omega arith) (omega arith)
 
 pub node-head-spec : {M : Type 1} → statement M
 node-head-spec =

@@ -5,13 +5,13 @@ use Rattle.walk.proofs.look_kept.Statement.{statement}
 use Rattle.walk.proofs.look_kept.Tie as tie
 
 returns : tie.Need-returns
-returns c = search (found_cell, c.before.before.before.before.before.before.column-of.ensures.0, rules)
+returns c = search (found_cell, rules)
 
 returns-2 : tie.Need-returns-2
 returns-2 c = search (found_noted, rules)
 
 returns-3 : tie.Need-returns-3
-returns-3 c = found_kept _ _ _ _ _ _ _ _ _ _ _ _ c.before.before.before.before.keep.ensures (search (c.before.before.before.before.before.before.before.known-told.given, c.before.before.before.before.before.before.before.before.l.given, rules)) c.before.before.before.before.before.before.before.before.before.before.before.before.before.before.before.before.before.before.before.before.before.before.before.before.before.before.before.before.before.requires.1.1 c.before.before.before.before.before.before.before.before.before.before.before.before.before.before.look-noted.ensures
+returns-3 c = found_kept _ _ _ _ _ _ _ _ _ _ _ _ _ _ c.before.before.before.before.before.before.keep.ensures (search (c.before.before.before.before.before.before.before.before.before.before.known-told.given, c.before.before.before.before.before.before.before.before.before.before.before.l.given, rules)) c.before.before.before.before.before.before.before.before.before.before.before.before.before.before.before.before.before.before.before.before.before.before.before.before.before.before.before.before.before.before.before.before.before.before.requires.1.1 c.before.before.before.before.before.before.before.before.before.before.before.before.before.before.before.before.before.look-noted.ensures
 
 pub look-kept-spec : {M : Type 1} → statement M
 look-kept-spec =
@@ -23,14 +23,17 @@ look-kept-spec =
     (λ c κs. search rules)
     (λ c. search rules)
     (λ c. search rules)
+    (λ c. search rules)
     returns
     (λ c κs. search rules)
     (λ c. search rules)
     (λ c. search rules)
     (λ c. search rules)
     (λ c. search rules)
+    (λ c. search rules)
     returns-2
     (λ c κs. search rules)
+    (λ c. search rules)
     (λ c. search rules)
     (λ c. search rules)
     (λ c. search rules)

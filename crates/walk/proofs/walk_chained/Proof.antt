@@ -27,4 +27,5 @@ walk-chained-spec =
     walk-noted-requires
     (λ c. search rules)
     (λ c. search rules)
+    (λ c. search rules)
     (λ c. search rules))

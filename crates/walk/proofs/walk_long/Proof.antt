@@ -14,7 +14,9 @@ walk-long-spec =
     (tie.spec
     (λ c. search rules)
     (λ c. search rules)
+    (λ c. search rules)
     firsts-requires
+    (λ c. search rules)
     (λ c. search rules)
     (λ c. search rules)
     (λ c κs. search rules)

@@ -9,33 +9,33 @@ use Rattle.walk.proofs.walk_noted.Statement.{statement}
 use Rattle.walk.proofs.walk_noted.Tie as tie
 
 abbrev invariant-loop : tie.invariant-loop
-invariant-loop rows complete value first path heads links from₀ to₀ texts₀ nexts₀ n₀ i₀ from to texts nexts n i = Stepping complete rows (walk_from complete rows value first (drop first path)) path from₀ to₀ texts₀ nexts₀ from to texts nexts n i
+invariant-loop rows complete value first path heads links from₀ to₀ owners₀ texts₀ nexts₀ n₀ i₀ from to owners texts nexts n i = Stepping complete rows (walk_from complete rows value first (drop first path)) path from₀ to₀ owners₀ texts₀ nexts₀ from to owners texts nexts n i
 
 abbrev decreases-loop : tie.decreases-loop
-decreases-loop rows complete value first path heads links from₀ to₀ texts₀ nexts₀ n₀ i₀ from to texts nexts n i = length path - i
+decreases-loop rows complete value first path heads links from₀ to₀ owners₀ texts₀ nexts₀ n₀ i₀ from to owners texts nexts n i = length path - i
 
 loop-holds : tie.Need-loop-init invariant-loop decreases-loop
 loop-holds c = search (step_start, rules)
 
 look-kept-requires : tie.Need-look-kept-requires invariant-loop decreases-loop
-look-kept-requires c κs = (c.before.before.before.before.before.before.before.before.before.before.before.before.before.before.before.requires.1.0, (c.before.before.before.before.before.before.loop.invariant.noted, c.before.before.before.before.before.before.loop.invariant.cells))
+look-kept-requires c κs = (c.before.before.before.before.before.before.before.before.before.before.before.before.before.before.before.before.before.requires.1.0, (c.before.before.before.before.before.before.before.loop.invariant.noted, c.before.before.before.before.before.before.before.loop.invariant.cells))
 
 add-if2 : tie.Need-overflow-add-if2 invariant-loop decreases-loop
 add-if2 c =
-    let i = c.before.before.before.before.before.before.before.before.before.before.before.before.before.before.before.before.before.before.loop.i in
-    let m = c.before.before.before.before.before.before.before.before.before.before.before.before.before.before.before.before.before.if1.false in
-    let g = c.before.before.before.before.before.before.before.before.before.before.before.before.before.before.before.before.before.before.before.before.before.before.before.before.before.before.before.well-formed.1.1.1.1.0.1 in
+    let i = c.before.before.before.before.before.before.before.before.before.before.before.before.before.before.before.before.before.before.before.before.before.loop.i in
+    let m = c.before.before.before.before.before.before.before.before.before.before.before.before.before.before.before.before.before.before.before.before.if1.false in
+    let g = c.before.before.before.before.before.before.before.before.before.before.before.before.before.before.before.before.before.before.before.before.before.before.before.before.before.before.before.before.before.before.before.well-formed.1.1.1.1.0.1 in
     record { fits = let z : i + 1 < 18446744073709551616 = omega (arith, m, g) in z }
 
 add-i : tie.Need-overflow-add-i invariant-loop decreases-loop
 add-i c =
-    let i = c.before.before.before.before.before.before.before.before.before.before.before.before.before.before.before.before.before.before.before.loop.i in
-    let m = c.before.before.before.before.before.before.before.before.before.before.before.before.before.before.before.before.before.before.if1.false in
-    let g = c.before.before.before.before.before.before.before.before.before.before.before.before.before.before.before.before.before.before.before.before.before.before.before.before.before.before.before.before.well-formed.1.1.1.1.0.1 in
+    let i = c.before.before.before.before.before.before.before.before.before.before.before.before.before.before.before.before.before.before.before.before.before.before.loop.i in
+    let m = c.before.before.before.before.before.before.before.before.before.before.before.before.before.before.before.before.before.before.before.before.before.if1.false in
+    let g = c.before.before.before.before.before.before.before.before.before.before.before.before.before.before.before.before.before.before.before.before.before.before.before.before.before.before.before.before.before.before.before.before.well-formed.1.1.1.1.0.1 in
     record { fits = let z : i + 1 < 18446744073709551616 = omega (arith, m, g) in z }
 
 loop-again : tie.Need-loop-preserved invariant-loop decreases-loop
-loop-again c = search (step_on _ _ _ _ _ _ _ _ _ _ _ _ _ _ c.before.before.before.before.before.before.before.before.before.before.before.before.before.before.before.before.before.before.before.loop.invariant c.before.before.before.before.before.before.before.before.before.before.before.before.before.before.before.before.before.before.if1.false _ _ _ _ _ c.before.before.before.before.before.before.before.before.before.before.before.before.look_kept.ensures, c.before.known-told2.given, c.before.before.x.given, c.before.before.before.before.slice-known8.given, c.before.before.before.before.before.nexts.given, c.before.before.before.before.before.before.slice_known7.given, c.before.before.before.before.before.before.before.texts.given, c.before.before.before.before.before.before.before.before.slice_known6.given, c.before.before.before.before.before.before.before.before.before.to.given, c.before.before.before.before.before.before.before.before.before.before.slice_known5.given, c.before.before.before.before.before.before.before.before.before.before.before.from.given, rules)
+loop-again c = search (step_on _ _ _ _ _ _ _ _ _ _ _ _ _ _ _ _ c.before.before.before.before.before.before.before.before.before.before.before.before.before.before.before.before.before.before.before.before.before.before.loop.invariant c.before.before.before.before.before.before.before.before.before.before.before.before.before.before.before.before.before.before.before.before.before.if1.false _ _ _ _ _ _ c.before.before.before.before.before.before.before.before.before.before.before.before.before.before.look_kept.ensures, c.before.known-told2.given, c.before.before.x.given, c.before.before.before.before.slice-known10.given, c.before.before.before.before.before.nexts.given, c.before.before.before.before.before.before.slice-known9.given, c.before.before.before.before.before.before.before.texts.given, c.before.before.before.before.before.before.before.before.slice-known8.given, c.before.before.before.before.before.before.before.before.before.owners.given, c.before.before.before.before.before.before.before.before.before.before.slice_known7.given, c.before.before.before.before.before.before.before.before.before.before.before.to.given, c.before.before.before.before.before.before.before.before.before.before.before.before.slice_known6.given, c.before.before.before.before.before.before.before.before.before.before.before.before.before.from.given, rules)
 
 returns : tie.Need-returns invariant-loop decreases-loop
 returns c = search (step_end, step_bad, step_missing, step_unknown, step_last, rules)
@@ -47,7 +47,7 @@ returns-3 : tie.Need-returns-3 invariant-loop decreases-loop
 returns-3 c = search (step_end, step_bad, step_missing, step_unknown, step_last, rules)
 
 returns-4 : tie.Need-returns-4 invariant-loop decreases-loop
-returns-4 c = search (step_unknown _ _ _ _ _ _ _ _ _ _ _ _ _ _ c.before.before.before.before.before.before.before.before.before.before.before.before.before.before.before.before.before.before.loop.invariant c.before.before.before.before.before.before.before.before.before.before.before.before.before.before.before.before.before.if1.false _ _ _ _ _ c.before.before.before.before.before.before.before.before.before.before.before.look_kept.ensures, c.known-told.given, c.before.k.given, rules)
+returns-4 c = search (step_unknown _ _ _ _ _ _ _ _ _ _ _ _ _ _ _ _ c.before.before.before.before.before.before.before.before.before.before.before.before.before.before.before.before.before.before.before.before.before.loop.invariant c.before.before.before.before.before.before.before.before.before.before.before.before.before.before.before.before.before.before.before.before.if1.false _ _ _ _ _ _ c.before.before.before.before.before.before.before.before.before.before.before.before.before.look_kept.ensures, c.known-told.given, c.before.k.given, rules)
 
 returns-5 : tie.Need-returns-5 invariant-loop decreases-loop
 returns-5 c = search (step_end, step_bad, step_missing, step_unknown, step_last, rules)
@@ -74,7 +74,9 @@ walk-noted-spec =
     (λ c. search rules)
     (λ c. search rules)
     (λ c. search rules)
+    (λ c. search rules)
     returns
+    (λ c. search rules)
     (λ c. search rules)
     (λ c. search rules)
     (λ c. search rules)
@@ -84,12 +86,15 @@ walk-noted-spec =
     (λ c. search rules)
     (λ c. search rules)
     (λ c. search rules)
+    (λ c. search rules)
     returns-3
     (λ c. search rules)
     (λ c. search rules)
     (λ c. search rules)
     (λ c. search rules)
+    (λ c. search rules)
     returns-4
+    (λ c. search rules)
     (λ c. search rules)
     (λ c. search rules)
     (λ c. search rules)

@@ -25,7 +25,9 @@ walk-on-spec =
     (λ c. search rules)
     (λ c. search rules)
     (λ c. search rules)
+    (λ c. search rules)
     walk-noted-requires
+    (λ c. search rules)
     (λ c. search rules)
     (λ c. search rules)
     (λ c. search rules))

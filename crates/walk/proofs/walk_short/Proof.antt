@@ -13,5 +13,6 @@ walk-short-spec =
     (tie.spec
     (λ c. search rules)
     (λ c. search rules)
+    (λ c. search rules)
     walk-on-requires
     (λ c. search rules))

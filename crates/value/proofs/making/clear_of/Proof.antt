@@ -1,21 +1,42 @@
 -- `value::making::clear_of` meets its contract. Assumes nothing.
-use Rattle.value.proofs.ClearLaws.{clear_none, clear_few, clear_fresh, plain_small}
+use Prim.Native.Nat.{◌-◌, ◌≤◌}
+use Rattle.value.specs.Clear.{Clear}
+use Rattle.value.proofs.ClearLaws.{clear_none}
+use Rattle.value.proofs.Skips.{clear_next}
 use borrow.Author.Rules.{rules}
 use Rattle.value.proofs.making.clear_of.Statement.{statement}
 use Rattle.value.proofs.making.clear_of.Tie as tie
 
-returns : tie.Need-returns
-returns c = search (clear_few, rules)
+abbrev invariant-loop : tie.invariant-loop
+invariant-loop rows n b i₀ i = Clear rows i × (i ≤ n)
 
-is-fresh-requires : tie.Need-is-fresh-requires
-is-fresh-requires c κs = search (plain_small, rules)
+abbrev decreases-loop : tie.decreases-loop
+decreases-loop rows n b i₀ i = n - i
 
-returns-2 : tie.Need-returns-2
-returns-2 c = search (clear_fresh, rules)
+returns : tie.Need-returns invariant-loop decreases-loop
+returns c = search (clear_none, rules)
 
-returns-3 : tie.Need-returns-3
-returns-3 c = search (clear_none, rules)
+loop-holds : tie.Need-loop-init invariant-loop decreases-loop
+loop-holds c = (search (clear_none, rules), search rules)
+
+loop-again : tie.Need-loop-preserved invariant-loop decreases-loop
+loop-again c = (search (clear_next, rules), search rules)
 
 pub clear-of-spec : {M : Type 1} → statement M
 clear-of-spec =
-    tie.close (tie.spec (λ c κs. search rules) returns is-fresh-requires returns-2 returns-3)
+    tie.close
+    (tie.spec
+    invariant-loop
+    decreases-loop
+    (λ c κs. search rules)
+    (λ c. search rules)
+    returns
+    (λ c κs. search rules)
+    loop-holds
+    (λ c. search rules)
+    (λ c κs. search rules)
+    (λ c. search rules)
+    (λ c. search rules)
+    loop-again
+    (λ c. search rules)
+    (λ c. search rules))
