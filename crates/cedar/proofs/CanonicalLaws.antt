@@ -137,6 +137,7 @@ pub data Sorted : Values → Type 0 where
   cons : {v : Value} {vs : Values} → Below v vs → Sorted vs → Sorted (vcons v vs)
 
 below_mem : {v w : Value} {vs : Values} → Below v vs → Mem w vs → order v w ≡ Ordering.lt
+below_mem {v = v} {w = w} last x3 = elim x3 [ ]
 below_mem (next e b) here = e
 below_mem (next e b) (there m) = below_mem b m
 

@@ -32,11 +32,13 @@ choice_settled take_false q = no_true (sym q)
 choice_settled take_error q = no_true (sym q)
 
 pub line_settled : {ls ms : List Verdict} {n : ℕ} {l m : Verdict} → Choices ls ms → At ls n l → At ms n m → is_open l.class ≡ false → m ≡ l
+line_settled {n = n} {l = l} {m = m} done x10 _ q = elim x10 [ ]
 line_settled (also {e = e} h hs) now now q = λ i. record { effect = e; class = choice_settled h q i }
 line_settled (also h hs) (later a) (later b) q = line_settled hs a b q
 
 -- each policy of a typed list is typed
 pub policy_typed : {S : Schema} {ps : List Policy} {n : ℕ} {p : Policy} → Policies S ps → At ps n p → Typed S p.tree tbool
+policy_typed {S = S} {n = n} {p = p} no_policy x3 = elim x3 [ ]
 policy_typed (one_policy h hs) now = h
 policy_typed (one_policy h hs) (later a) = policy_typed hs a
 

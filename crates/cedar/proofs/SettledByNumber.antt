@@ -41,9 +41,9 @@ module _ (S : Schema) (M : NEnv) where
 
     pub run_reads : {C : List Value} {R : List Row} (ns : List NPolicy) {ps : List Policy} → Table R C → EnvRead C M P → ReadPolicies C ns ps → RunReads C (n_run S M ns R) ps
     run_reads {C} [] t env done = record { contents = C; table = t; keeps = λ n v a. a; classes = refl; residuals = none }
-    run_reads (n ∷ ns) t env (also {e = e} {a = a} h hs) =
+    run_reads {C = C} {R = R} (n ∷ ns) t env (also {e = e} {a = a} {A = A} {ps = ps} h hs) =
         let k = refine S M P a t env h in
-        let l = run_reads ns k.table (keep_env k.keeps env) (keep_policies k.keeps hs) in
+        let l = run_reads {C = k.contents} ns k.table (keep_env k.keeps env) (keep_policies k.keeps hs) in
         record {
           contents = l.contents;
           table = l.table;
@@ -63,6 +63,7 @@ module _ (S : Schema) (M : NEnv) where
 
     yield_at : {D : List Value} {ls : List NVerdict} {ps : List Policy} {n : ℕ} {l : NVerdict} {p : Policy} (C : Env) → EnvFits S C → Agree P C → Policies S ps → Residuals D ls ps
         → At ls n l → At ps n p → (e : Expr) × Reads D l.root e × (eval S C e ≡ eval S C p.tree)
+    yield_at {D = D} {ls = ls} {n = n} {l = l} {p = p} C ft ag no_policy _ _ x13 = elim x13 [ ]
     yield_at {p = p} C ft ag (one_policy ty tys) (more h hs) now now = (interpret S P p.tree, h, residual_yields S P C ft ag ty)
     yield_at C ft ag (one_policy ty tys) (more h hs) (later a) (later b) = yield_at C ft ag tys hs a b
 

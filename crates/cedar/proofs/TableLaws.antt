@@ -62,6 +62,7 @@ pub data InN (n : ℕ) : List ℕ → Type 0 where
 -- ascending lists of numbers with the same members are equal
 
 least_in : {m n : ℕ} {l : List ℕ} → Least n l → InN m l → n < m
+least_in {m = m} {n = n} Rattle.cedar.specs.Table.end x3 = elim x3 [ ]
 least_in (less h g) now' = h
 least_in (less h g) (later' i) = least_in g i
 
@@ -95,10 +96,12 @@ Apart C = (m n : ℕ) (v : Value) → At C m v → At C n v → m ≡ n
 module _ {C : List Value} (inj : Apart C) where
   -- a number's content is among the set's, and the other way round
   pub elem_in : {l : List ℕ} {vs : Values} {n : ℕ} → Elems C l vs → InN n l → (v : Value) × At C n v × Mem v vs
+  elem_in {n = n} elem0 x4 = elim x4 [ ]
   elem_in (elem1 {v = v} a e) now' = (v, a, here)
   elem_in (elem1 a e) (later' i) = let (v, b, m) = elem_in e i in (v, b, there m)
 
   pub in_elem : {l : List ℕ} {vs : Values} {v : Value} → Elems C l vs → Mem v vs → (n : ℕ) × At C n v × InN n l
+  in_elem {v = v} elem0 x4 = elim x4 [ ]
   in_elem (elem1 {n = n} a e) here = (n, a, now')
   in_elem (elem1 a e) (there m) = let (n, b, i) = in_elem e m in (n, b, later' i)
 

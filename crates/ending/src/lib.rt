@@ -22,7 +22,7 @@ use uses::{NO_SLOT, slots_at};
 use words::read;
 
 // A refusal and its line; 0 and 0 where the sheet is accepted.
-#[derive(Drop)]
+#[derive(Clone, Copy)]
 pub struct Loaded {
     pub number: u32,
     pub line: usize,

@@ -29,21 +29,21 @@ use value::{Shape, row_of, shape_of};
 use words::push;
 
 // What a node yields: a value, by its number, or an error.
-#[derive(Drop)]
+#[derive(Clone, Copy)]
 pub enum Yield {
     Value(u32),
     Error,
 }
 
 // A value as a bool, or that it is none.
-#[derive(Drop)]
+#[derive(Clone, Copy)]
 pub enum Truth {
     Is(bool),
     Other,
 }
 
 // The children of a set or record: whether all are values, and where the log with their rows ends.
-#[derive(Drop)]
+#[derive(Clone, Copy)]
 pub struct Children {
     pub all: bool,
     pub end: usize,

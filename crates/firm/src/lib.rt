@@ -47,7 +47,7 @@ fn decided(
 
 // What is asked, the texts of principal and resource by number, and the decision.
 #[repr(C)]
-#[derive(Drop)]
+#[derive(Clone, Copy)]
 pub struct Row {
     pub principal: u32,
     pub resource: u32,
@@ -72,7 +72,7 @@ fn number_of(decision: Decision) -> u32
 }
 
 // Number and line of a refusal, or 0 and 0; the length, which is always 0; the group's decision.
-#[derive(Drop)]
+#[derive(Clone, Copy)]
 pub struct Quote {
     pub number: u32,
     pub line: usize,

@@ -58,7 +58,7 @@ fn there(line: &[u32], text: u32) -> bool
 }
 
 // What a search for a declared attribute finds: its type, or none.
-#[derive(Drop)]
+#[derive(Clone, Copy)]
 pub enum Found {
     As(u32),
     Undeclared,

@@ -254,7 +254,7 @@ pub const FLAT: usize = 5;
 
 // A form: its key, how many items it has and how many may follow in a group, any number of times, the place from which on the first of each
 // group ascend, and what may stand at its places, those of the group after the others.
-#[derive(Drop)]
+#[derive(Clone, Copy)]
 pub struct Form {
     pub key: usize,
     pub items: usize,
@@ -517,7 +517,7 @@ const MADE_ROWS: usize = RUN_ROWS + POLICIES as usize + 1;
 pub const HEAP: usize = MADE_ROWS + VALUES as usize + 1;
 
 // A key: the word that says where its first row begins, how many rows it may have, and its tag where it has no constructors.
-#[derive(Drop)]
+#[derive(Clone, Copy)]
 pub struct Key {
     pub base: usize,
     pub most: u32,

@@ -36,7 +36,7 @@ pub const CLASSES: usize = 8192;
 pub const ROOTS: usize = 8256;
 
 // What a side of `and` or `or` says: it decides, it passes, it is an error, or it is open.
-#[derive(Drop)]
+#[derive(Clone, Copy)]
 pub enum Side {
     Stops,
     Goes,

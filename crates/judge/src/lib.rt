@@ -23,7 +23,7 @@ use uses::{use_nodes, use_root};
 use words::{ROOM, cut};
 
 // A refusal, 0 for none; the row's key and its depth.
-#[derive(Drop)]
+#[derive(Clone, Copy)]
 pub struct Verdict {
     pub number: u32,
     pub key: usize,

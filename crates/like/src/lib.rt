@@ -14,7 +14,7 @@ use table::text;
 
 // The items up to the next `*` at a place of the text: they do not stand there; they do, and are the last ones, up to this place;
 // they do, and the item after the `*` and the place reached are these.
-#[derive(Drop)]
+#[derive(Clone, Copy)]
 pub enum Block {
     Misses,
     Ends(usize),
@@ -101,7 +101,7 @@ fn block_at(
 }
 
 // Whether the pattern holds of the text, or the item and the place to go on from.
-#[derive(Drop)]
+#[derive(Clone, Copy)]
 enum Step {
     Holds,
     Fails,
@@ -163,7 +163,7 @@ fn seek(bytes: &[u8], piece: &[u8], from: usize) -> usize
 
 // The items up to the next `*`, joined to one text: it is longer than there is room for; it has so many bytes and is the last block; item `.0` comes
 // after the `*`, and it has so many bytes.
-#[derive(Drop)]
+#[derive(Clone, Copy)]
 enum Joined {
     Long,
     Last(usize),

@@ -37,14 +37,14 @@ const NO_TAG: usize = forms::NO_TAG as usize;
 const MARK: u64 = forms::MARK as u64;
 
 // An item that was written: the cursor at the next item, and how many words it has.
-#[derive(Drop)]
+#[derive(Clone, Copy)]
 struct Placed {
     next: Cursor,
     words: usize,
 }
 
 // What a line begins with: its tag, how many of its items, none or one, stand before its constructor, and the cursor at the others.
-#[derive(Drop)]
+#[derive(Clone, Copy)]
 struct Head {
     tag: usize,
     before: usize,

@@ -18,7 +18,7 @@ const ZERO: u64 = 9223372036854775808;
 const ONE: u64 = 9223372036854775809;
 
 // The word of a result, or none where it leaves the 64-bit range.
-#[derive(Drop)]
+#[derive(Clone, Copy)]
 pub enum Checked {
     Value(u64),
     Outside,
@@ -88,7 +88,7 @@ fn opposed(a: u64, b: u64) -> bool
 }
 
 // The cases of a product, by the signs of its factors, in their order: each holds where those before it do not.
-#[derive(Drop)]
+#[derive(Clone, Copy)]
 enum Case {
     WithZero,
     WithSmallest,

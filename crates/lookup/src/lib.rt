@@ -25,7 +25,7 @@ const HALF: u32 = 64;
 const HALVINGS: u32 = 7;
 
 // A part of an entity's line: a value, nothing at all, or unknown.
-#[derive(Drop)]
+#[derive(Clone, Copy)]
 pub enum Part {
     Known(u32),
     Empty,
@@ -33,7 +33,7 @@ pub enum Part {
 }
 
 // What a look-up in a record finds: a value, that it is missing, that the record of an entity of this kind is unknown, or no record.
-#[derive(Drop)]
+#[derive(Clone, Copy)]
 pub enum Look {
     At(u32),
     Missing,

@@ -38,7 +38,7 @@ fn attributes(
 }
 
 // Where the entries of a record stand in the words: from `start` up to `end`, which is 0 where it is not known or their texts do not ascend.
-#[derive(Drop)]
+#[derive(Clone, Copy)]
 struct Span {
     start: u32,
     end: u32,

@@ -8,7 +8,7 @@ use running::choose;
 use words::ROOM;
 
 // Number and line of a refusal, or 0 and 0.
-#[derive(Drop)]
+#[derive(Clone, Copy)]
 pub struct Opened {
     pub number: u32,
     pub line: usize,

@@ -342,7 +342,7 @@ fn group_typed(rows: &[u32], line: &[u32], ty: u32, start: usize) -> bool
 // ---- any path
 
 // The one record type of a type; or more kinds than one; or neither.
-#[derive(Drop)]
+#[derive(Clone, Copy)]
 pub enum Place {
     Alone(u32),
     Group,

@@ -6,7 +6,7 @@ ghost use Rattle.print.specs.Written.{Written};
 
 // What a call over a lent buffer returns: number and line of a refusal, or 0 and 0; the bytes of the answer, also where the buffer is too short
 // for them.
-#[derive(Drop)]
+#[derive(Clone, Copy)]
 pub struct Returned {
     pub number: u32,
     pub line: usize,

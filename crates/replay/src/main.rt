@@ -8,7 +8,7 @@ use scan::{front, same_bytes};
 use trial::{bytes_kept, call, number, take, words_kept, written};
 
 // What a record says that the call returns.
-#[derive(Drop)]
+#[derive(Clone, Copy)]
 struct Wanted {
     number: usize,
     line: usize,

@@ -40,7 +40,7 @@ pub const CLASS_ERROR: u32 = 2;
 pub const CLASS_OPEN: u32 = 3;
 
 // How far a residual is worked.
-#[derive(Drop)]
+#[derive(Clone, Copy)]
 pub enum Stage {
     Value(u32),
     Error,

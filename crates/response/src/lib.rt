@@ -20,7 +20,7 @@ use table::{RUN, count, item, row};
 use words::read;
 
 // What the policies decide.
-#[derive(Drop)]
+#[derive(Clone, Copy)]
 pub enum Decision {
     Allow,
     Deny,
@@ -62,7 +62,7 @@ fn hit(e: u32, c: u32, effect: u32, class: u32) -> u32
 }
 
 // How many policies of one effect are true, false, in error and open.
-#[derive(Drop)]
+#[derive(Clone, Copy)]
 pub struct Counts {
     pub trues: u32,
     pub falses: u32,

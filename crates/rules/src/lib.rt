@@ -16,7 +16,7 @@ use typesets::{KIND_WORDS, TYPE_WORDS};
 use words::{add, has};
 
 // What a rule says of a node, where it decides.
-#[derive(Drop)]
+#[derive(Clone, Copy)]
 pub enum Rule {
     Says(bool),
     Silent,

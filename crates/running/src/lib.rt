@@ -36,7 +36,7 @@ fn runs_on(rows: &[u32], day: u32, policy: u32) -> bool
 }
 
 // The two values of a link, marks where there is none.
-#[derive(Drop)]
+#[derive(Clone, Copy)]
 struct Link {
     principal: u32,
     resource: u32,

@@ -34,28 +34,28 @@ const FIRST_NODE: u64 = LIT as u64;
 const NO_FORM: u64 = NO_TAG as u64;
 
 // A number that was read, or nothing where the bytes are malformed.
-#[derive(Drop)]
+#[derive(Clone, Copy)]
 pub enum Number {
     Value(u64),
     Refused,
 }
 
 // The place reached in a sheet: the line, counted from 1, and the byte, from 0.
-#[derive(Drop)]
+#[derive(Clone, Copy)]
 pub struct Cursor {
     pub line: usize,
     pub at: usize,
 }
 
 // A line's key and the byte of its first `=`.
-#[derive(Drop)]
+#[derive(Clone, Copy)]
 pub enum Heading {
     Keyed(u64, usize),
     Malformed,
 }
 
 // A line: its key, the cursor at its first `=`, its end, and the cursor at the next line.
-#[derive(Drop)]
+#[derive(Clone, Copy)]
 pub enum Line {
     Entry {
         key: u64,
@@ -68,21 +68,21 @@ pub enum Line {
 }
 
 // An index in front of some bytes: its number, and how many bytes it takes.
-#[derive(Drop)]
+#[derive(Clone, Copy)]
 enum Leading {
     Index(u32, usize),
     Other,
 }
 
 // An item: its end, and the cursor at the next item.
-#[derive(Drop)]
+#[derive(Clone, Copy)]
 pub enum Item {
     Part(usize, Cursor),
     End,
 }
 
 // An item read as an index, and the cursor at the next item.
-#[derive(Drop)]
+#[derive(Clone, Copy)]
 pub enum Counted {
     Value(u32, Cursor),
     Refused,

@@ -12,7 +12,7 @@ use table::{RUN, count};
 use words::{ROOM, cut};
 
 // An answer printed, 0, or a buffer too short for it, 10; the bytes of the answer in both cases.
-#[derive(Drop)]
+#[derive(Clone, Copy)]
 pub struct Sent {
     pub number: u32,
     pub length: usize,

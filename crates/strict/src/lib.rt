@@ -16,7 +16,7 @@ use table::text;
 use value::{Shape, contains, covers, meets, members, row_of, shape_of};
 
 // What an operation gives: a bool, a long as its number plus 2^63, a value that has a number, an error, or nothing yet.
-#[derive(Drop)]
+#[derive(Clone, Copy)]
 pub enum Given {
     Bool(bool),
     Long(u64),

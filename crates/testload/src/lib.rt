@@ -33,7 +33,7 @@ const FIRST_ID: u64 = 5;
 const MOST: u32 = 64;
 
 // What a policy draws, and the state after it.
-#[derive(Drop)]
+#[derive(Clone, Copy)]
 struct Policy {
     effect: u64,
     tree: u64,

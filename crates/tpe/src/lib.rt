@@ -19,7 +19,7 @@ use value::making::make_bool_after;
 use value::{Shape, row_of, shape_of};
 
 // What a bool operand or policy is called.
-#[derive(Drop)]
+#[derive(Clone, Copy)]
 pub enum Class {
     True,
     False,

@@ -502,7 +502,7 @@ fn ruled_two(rows: &[u32], log: &[u32], mid: usize, top: usize, tag: u32) -> Rul
 }
 
 // How far two operands are worked.
-#[derive(Drop)]
+#[derive(Clone, Copy)]
 pub enum Pair {
     Values(u32, u32),
     Error,

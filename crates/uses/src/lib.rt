@@ -24,7 +24,7 @@ pub const FOR_BOTH: u32 = 3;
 pub const MANY: u32 = 1025;
 
 // How many nodes are under a node, itself too, `MANY` for as many or more, and which slots are among them.
-#[derive(Drop)]
+#[derive(Clone, Copy)]
 pub struct Under {
     pub size: u32,
     pub slots: u32,

@@ -15,7 +15,7 @@ use forms::{ENTITY_VALUE, LONG_VALUE, RECORD_VALUE, SET_VALUE, TEXT_VALUE, VALUE
 use table::{MADE, count, item, row, tag};
 
 // What a value's row says: a bool, a long as its number plus 2^63, a text, an entity's kind and text, a set, a record.
-#[derive(Drop)]
+#[derive(Clone, Copy)]
 pub enum Shape {
     Bool(bool),
     Long(u64),
@@ -26,7 +26,7 @@ pub enum Shape {
 }
 
 // A number found, or none.
-#[derive(Drop)]
+#[derive(Clone, Copy)]
 pub enum Entry {
     At(u32),
     Nothing,

@@ -20,7 +20,7 @@ use table::count;
 const LONG: usize = 4;
 
 // Where a path leads: it holds or not, it fails, or it is left at a value, an entity of this kind, after so many steps.
-#[derive(Drop)]
+#[derive(Clone, Copy)]
 pub enum Walked {
     Holds(bool),
     Fails,

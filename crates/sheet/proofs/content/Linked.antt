@@ -143,7 +143,7 @@ each_join : {P : List ℕ → Type 0} {a b : List (List ℕ)} → Each P a → E
 each_join none k = k
 each_join (more h hs) k = more h (each_join hs k)
 
-each_gathered : {P : List ℕ → Type 0} (us : List (List (List ℕ))) {l : List ℕ} (y : ℕ) → Each P (gathered us l) → InN y l → Each P (get_or us y [])
+each_gathered : {P : List ℕ → Type 0} (us : List (List (List ℕ))) (y : ℕ) {l : List ℕ} → Each P (gathered us l) → InN y l → Each P (get_or us y [])
 each_gathered us y h (now' {l = l}) = each_left (get_or us y []) (gathered us l) h
 each_gathered us y h (later' {m = n} {l = l} i) = each_gathered us y (each_right (get_or us n []) (gathered us l) h) i
 

@@ -266,6 +266,7 @@ split_at (x ∷ l) (suc n) lt f = split_at l n (le_of_suc-le-suc lt) (λ pre res
 -- ---- the number of a type
 
 pub number_at : (ts : List Ty) (T : Ty) {n : ℕ} → At ts n T → At ts (type_number ts T) T
+number_at [] T {n = n} x' = elim x' [ ]
 number_at (A ∷ ts) T now = subst (λ b. At (A ∷ ts) (cond b 0 (suc (type_number ts A))) A) (sym (ty_same_refl A)) now
 number_at (A ∷ ts) T (later a) = go (ty_same A T) refl (number_at ts T a)
   where

@@ -113,10 +113,12 @@ pub record Depths (s : State) : Type 0 where
   pub deep : (k : ℕ) → Deep k (lines_of s k) (depths_of s k)
 
 pub in_below : (k : ℕ) (l : List ℕ) (y : ℕ) → AllBelow k l → InN y l → y < k
+in_below k [] y h x'' = elim x'' [ ]
 in_below k (n ∷ l) y h now' = h.0
 in_below k (n ∷ l) y h (later' i) = in_below k l y h.1 i
 
 deepest_above : (s : State) (k : ℕ) (l : List ℕ) (y : ℕ) → InN y l → get_or (depths_of s k) y 0 ≤ deepest s k l
+deepest_above s k [] y x' = elim x' [ ]
 deepest_above s k (n ∷ l) y now' = le-max_left (get_or (depths_of s k) y 0) (deepest s k l)
 deepest_above s k (n ∷ l) y (later' i) = let a = deepest_above s k l y i in let b = le-max_right (get_or (depths_of s k) n 0) (deepest s k l) in omega (arith, a, b)
 

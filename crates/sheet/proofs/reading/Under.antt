@@ -149,7 +149,7 @@ fit_append s p q (r ∷ a) b = ap (λ z. (not (is_slot r) || fits s (slot_value 
     and_assoc true y z = refl
     and_assoc false y z = refl
 
-fit_gathered : (s : State) (p q : ℕ) (us : List (List (List ℕ))) {l : List ℕ} {y : ℕ} → slots_fit s p q (gathered us l) ≡ true → InN y l → slots_fit s p q (get_or us y []) ≡ true
+fit_gathered : (s : State) (p q : ℕ) (us : List (List (List ℕ))) {y : ℕ} {l : List ℕ} → slots_fit s p q (gathered us l) ≡ true → InN y l → slots_fit s p q (get_or us y []) ≡ true
 fit_gathered s p q us {y = y} e (now' {l = l}) = and_both (slots_fit s p q (get_or us y [])) (slots_fit s p q (gathered us l)) (sym (fit_append s p q (get_or us y []) (gathered us l)) ∙ e) (λ a b. a)
 fit_gathered s p q us {y = y} e (later' {m = n} {l = l} i) = and_both (slots_fit s p q (get_or us n [])) (slots_fit s p q (gathered us l)) (sym (fit_append s p q (get_or us n []) (gathered us l)) ∙ e) (λ a b. fit_gathered s p q us b i)
 

@@ -21,7 +21,7 @@ any_errs (r ∷ rs) = mem_n (tag r) err_words || any_errs rs
 -- rows after rows, each as said of
 join : {p q : Bool} (a b : List (List ℕ)) → p ≡ any_errs a → q ≡ any_errs b → (p || q) ≡ any_errs (a ++ b)
 join {p} {q} [] b e f = ap₂ (λ x y. x || y) e f
-join {p} {q} (r ∷ a) b e f = ap₂ (λ x y. x || y) e f ∙ or_assoc (mem_n (tag r) err_words) (any_errs a) (any_errs b) ∙ ap (λ z. mem_n (tag r) err_words || z) (join a b refl refl)
+join {p} {q} (r ∷ a) b e f = ap₂ (λ x y. x || y) e f ∙ or_assoc (mem_n (tag r) err_words) (any_errs a) (any_errs b) ∙ ap (λ z. mem_n (tag r) err_words || z) (join {p = any_errs a} {q = any_errs b} a b refl refl)
 
 -- a parent after its children, of what it is by itself and what they are
 parent : (i p : Bool) (a : List (List ℕ)) (r : List ℕ) → i ≡ mem_n (tag r) err_words → p ≡ any_errs a → (i || p) ≡ any_errs (a ++ (r ∷ []))

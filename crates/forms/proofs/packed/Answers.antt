@@ -1,0 +1,7 @@
+-- `forms::packed` meets its contract. Assumes nothing.
+use Rattle.forms.proofs.Bytes.{packed_row}
+use borrow.Author.Rules.{rules}
+use Rattle.forms.proofs.packed.Goals as goal
+
+pub returns : goal.returns
+returns c = search (packed_row, rules)
