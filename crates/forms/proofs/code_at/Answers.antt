@@ -18,4 +18,4 @@ returns-in-3 c = search (code_fourth, rules)
 
 pub returns-in_default : goal.returns-in_default
 unfolding below
-returns-in_default c = code_none _ _ _ c.place_of.ensures c.in_default.rest
+returns-in_default c = code_none _ _ _ c.place_of.ensures c.in_default.in_default-own.rest
