@@ -1,4 +1,6 @@
 // Sets of types and kinds as bits in words, and sets remembered at places, one for each text and each type.
+#![tactic(auto)]
+
 ghost use Rattle.std.specs.Prelude.{◌≡◌, true, ◌+◌, ◌*◌, ◌≤◌, ◌<◌, length};
 ghost use Rattle.typesets.specs.Sets.{TYPES, TYPE_WORDS, SLOTS, PLACES, Next, Gathered, AllSeen, Settled, of_word, of_sets};
 
