@@ -1,4 +1,6 @@
 // Longs, Cedar's 64-bit signed numbers, each held as one word: the number plus 2^63. The order of words is that of the numbers.
+#![tactic(auto)]
+
 ghost use Rattle.std.specs.Prelude.{◌≡◌, ◌+◌, ◌*◌, ◌/◌, ◌%◌, nat_abs, neg_ℤ, ◌+ℤ◌, ◌-ℤ◌, ◌*ℤ◌};
 ghost use Rattle.std.specs.Int.Signed.{lt_z, le_z};
 ghost use Rattle.sheet.specs.Bytes.{long_at};
