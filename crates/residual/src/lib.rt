@@ -1,5 +1,7 @@
 // Residuals as a stack of rows in a log: children before their node, so that a block of words is a tree. A row is four words: what it
 // is, its source, the words of the block that it ends, and its type.
+#![tactic(auto)]
+
 ghost use Rattle.std.specs.Prelude.{◌≡◌, [], ◌∷◌, ◌+◌, ◌-◌, ◌≤◌, ◌<◌};
 ghost use Rattle.words.specs.Log.{Appended};
 ghost use Rattle.sheet.specs.Forms.{NODE};
