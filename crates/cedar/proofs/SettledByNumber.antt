@@ -8,7 +8,7 @@ use Rattle.cedar.specs.Types.{Schema}
 use Rattle.cedar.specs.Residual.{Expr}
 use Rattle.cedar.specs.Entities.{Env, PEnv, EnvFits, Agree}
 use Rattle.cedar.specs.Evaluate.{eval}
-use Rattle.cedar.specs.Interpret.{interpret, class}
+use Rattle.cedar.specs.Interpret.{interpret}
 use Rattle.cedar.specs.Response.{allow, deny, decision, cedar, Choices}
 use Rattle.cedar.specs.Rows.{Row}
 use Rattle.cedar.specs.Table.{At, now, later, Table}

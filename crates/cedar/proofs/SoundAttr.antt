@@ -1,5 +1,5 @@
 -- The steps of get, has and haspath keep type and result, with the type rule of undeclared attributes.
-use mathlib.Core.Path.{◌≡◌, refl, subst, sym, ◌∙◌, ap}
+use mathlib.Core.Path.{◌≡◌, refl, subst, sym, ap}
 use mathlib.Core.Bool.{Bool, true, false, ◌&&◌}
 use mathlib.Core.Option.{Option, none, some}
 use mathlib.Core.List.{List, [], ◌∷◌}

@@ -1,11 +1,11 @@
 -- The steps of operations that look at no entity keep type and result, with the type rules of is and eq.
-use mathlib.Core.Path.{◌≡◌, refl, subst, sym, ◌∙◌, ap}
+use mathlib.Core.Path.{◌≡◌, refl, sym, ◌∙◌, ap}
 use mathlib.Core.Bool.{Bool, true, false, not, ◌||◌}
 use mathlib.Core.Option.{Option, none, some, some-injective}
 use mathlib.Core.List.{List, [], ◌∷◌}
 use Prim.Native.Nat.{ℕ}
 use borrow.Author.Tests.{not-true}
-use lib.Dec.{eqb, T}
+use lib.Dec.{eqb}
 use Rattle.cedar.proofs.Tools.{no_some, no_true, neither, no_kind_law, differ, only_kind}
 use Rattle.cedar.proofs.CanonicalLaws.{other_kind}
 use Rattle.cedar.specs.Value.{Value, Result, ok, fail, bind, ok_bool}

@@ -1,7 +1,7 @@
 -- The steps of in, gettag and hastag keep type and result, with their type rules.
-use mathlib.Core.Path.{◌≡◌, refl, subst, sym, ◌∙◌, ap}
+use mathlib.Core.Path.{◌≡◌, refl, sym, ap}
 use mathlib.Core.Bool.{Bool, true, false, not, ◌||◌, ◌&&◌, cond}
-use mathlib.Core.Option.{Option, none, some, some-injective}
+use mathlib.Core.Option.{Option, none, some}
 use mathlib.Core.List.{List, ◌∷◌}
 use Prim.Native.Nat.{ℕ}
 use borrow.Author.Tests.{not-true}
@@ -9,7 +9,7 @@ use lib.Dec.{eqb}
 use Rattle.cedar.proofs.Tools.{no_some, no_true, and_right, neither, differ, each_at, no_kind_law}
 use Rattle.cedar.proofs.CanonicalLaws.{other_kind}
 use Rattle.cedar.specs.Canonical.{member}
-use Rattle.cedar.specs.Value.{Value, vbool, vlong, vtext, vent, vset, vrec, Values, vnil, vcons, Fields, fnil, Result, ok, fail, ok_bool, find, found, on_some}
+use Rattle.cedar.specs.Value.{Value, vbool, vlong, vtext, vent, vset, vrec, Values, vnil, vcons, Result, ok, fail, ok_bool, find, found, on_some}
 use Rattle.cedar.specs.Types.{Ty, tent, among, some_kind, each_kind, Schema, Fits, fent, ftext, fset, AllFit, nil_fit, cons_fit}
 use Rattle.cedar.specs.Residual.{Expr, rel, ty_of, can_err, Rel, rin, rgettag, rhastag, view}
 use Rattle.cedar.specs.Typing.{RelOk, in_ok, in_set_ok, get_tag_ok, has_tag_ok, Typed, trel}

@@ -9,7 +9,7 @@ use Rattle.cedar.proofs.Tools.{both, or_left, or_right, each_of_law}
 use Rattle.cedar.proofs.OrderLaws.{cmp_refl}
 use Rattle.cedar.proofs.Kept.{ty_of_law}
 use Rattle.cedar.specs.Value.{Value, Values, Fields, find, found, on_some}
-use Rattle.cedar.specs.Types.{Ty, tbool, tlong, tstr, tent, tset, trec, Attrs, anil, acons, among, each_kind, declared, Schema, Needed, Complete, Fits, fbool, flong, ftext, fent, fset, frec, AllFit, nil_fit, cons_fit, FieldsFit, no_field, one_field, ty_code, ty_same}
+use Rattle.cedar.specs.Types.{Ty, tbool, tlong, tstr, tent, tset, trec, Attrs, anil, acons, declared, Schema, Needed, Complete, Fits, fbool, flong, ftext, fent, fset, frec, AllFit, nil_fit, cons_fit, FieldsFit, no_field, one_field, ty_code, ty_same}
 use Rattle.cedar.specs.Residual.{Expr, Exprs, Args, ty_of, Un, Bin, Rel}
 use Rattle.cedar.specs.Typing.{named, UnOk, not_ok, neg_ok, empty_ok, is_ok, like_ok, BinOk, eq_ok, eq_ent_ok, lt_ok, le_ok, add_ok, sub_ok, mul_ok, contains_ok, all_ok, any_ok, RelOk, in_ok, in_set_ok, get_tag_ok, has_tag_ok, Each, IfDeclared, PathOk, Typed, tlit, terr, tvar, tand, tor, tite, tun, tbin, trel, tget, thas, tpath, tset', trec', AllTyped, nil_typed, cons_typed, ArgsTyped, no_arg, one_arg}
 use Rattle.cedar.specs.TypingTest.{need, completed, fits, all_fit, fields_fit, un_ok, three, bin_ok, rel_ok, each, path_ok, check, check_all, check_args}

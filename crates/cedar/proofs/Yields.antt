@@ -9,7 +9,7 @@ use lib.IntN.{ℤ, neg_ℤ, ◌+ℤ◌, ◌-ℤ◌, ◌*ℤ◌}
 use lib.Dec.{eqb}
 use Rattle.cedar.proofs.Tools.{no_some, the_same, eqb_true}
 use Rattle.cedar.specs.Value.{Value, vlong, Values, Fields, fnil, Result, ok, fail, bind, find, pick, on_some}
-use Rattle.cedar.specs.Types.{Ty, tbool, tlong, tent, Attrs, among, declared, Schema, Fits, fbool, flong, ftext, fent, fset, frec, AllFit, nil_fit, cons_fit, FieldsFit, no_field, one_field}
+use Rattle.cedar.specs.Types.{Ty, tbool, tlong, tent, Attrs, declared, Schema, Fits, fbool, flong, ftext, fent, fset, frec, AllFit, nil_fit, cons_fit, FieldsFit, no_field, one_field}
 use Rattle.cedar.specs.Residual.{Un, Bin, Rel, un_errs, bin_errs, rel_errs}
 use Rattle.cedar.specs.Typing.{UnOk, not_ok, neg_ok, empty_ok, is_ok, like_ok, BinOk, eq_ok, eq_ent_ok, lt_ok, le_ok, add_ok, sub_ok, mul_ok, contains_ok, all_ok, any_ok, RelOk, in_ok, in_set_ok, get_tag_ok, has_tag_ok, Each, IfDeclared, PathOk}
 use Rattle.cedar.specs.Entities.{Env, Line, entity, line_or, EnvFits, LineFits, no_kind, TagsFit, no_tag, one_tag}

@@ -1,4 +1,6 @@
 // The forms of a line: a row for each, in the definition's order. A form's place is its tag.
+#![tactic(auto)]
+
 ghost use Rattle.std.specs.Prelude.{◌≡◌, true, false, ◌<◌};
 ghost use Rattle.sheet.specs.Forms.{form_of};
 ghost use Rattle.forms.specs.Rows.{row, coded, unpacked, Packed, place_in, code_in, NONE, FLAT};

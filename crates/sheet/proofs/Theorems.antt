@@ -18,7 +18,7 @@ use Rattle.cedar.proofs.Decisions.{fill_all}
 use Rattle.cedar.proofs.Completion.{KnownFits}
 use Rattle.sheet.specs.Bytes.{split}
 use Rattle.sheet.specs.Forms.{Mode, partial, complete, row_of}
-use Rattle.sheet.specs.State.{State, lines_of, count, line_at, sum, before}
+use Rattle.sheet.specs.State.{State, count, line_at, sum, before}
 use Rattle.sheet.specs.Parents.{Reaches, parents, ancestors, is_open, unknown_above}
 use Rattle.sheet.specs.Sheet.{fault_of, read}
 use Rattle.sheet.specs.Content.{types, value_rows, contents, schema, policies, p_env, env, on_term}

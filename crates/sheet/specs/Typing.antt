@@ -1,6 +1,6 @@
 -- Document 01, "Typing", with groups of kinds (request 2.7), over the numbers of types, values and nodes. Types are distinct, so one type is one number.
 use Rattle.std.specs.Prelude.{Bool, true, false, cond, ◌&&◌, ◌||◌, not, List, [], ◌∷◌, ◌++◌, ℕ, zero, suc, ◌-◌, eqb, get_or, drop}
-use Rattle.std.proofs.Math.Option.{Option, none, some}
+use Rattle.std.proofs.Math.Option.{Option, none}
 use Rattle.sheet.specs.Forms.{tag, items, at, mark, refs, first_node, slot_node, KIND, TYPE, SHAPE, VALUE, PRINCIPAL, ACTION, RESOURCE, CONTEXT, NODE, POLICY}
 use Rattle.sheet.specs.Bytes.{same}
 use Rattle.sheet.specs.State.{State, count, line_at, lines_of, type_row, value_row, Declared, TypeRow, bool, long, string, entity, set', record', type_at, value_at}

@@ -1,1 +1,3 @@
+#![tactic(auto)]
+
 // No code: definitions in specs/, theorems in proofs/.

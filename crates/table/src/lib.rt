@@ -1,4 +1,6 @@
 // The rows of a sheet in the lent words: every row of every key by its number, in constant time, and a row more at the heap's end.
+#![tactic(auto)]
+
 ghost use Rattle.std.specs.Prelude.{◌≡◌, ◌+◌, ◌<◌, get_or, []};
 ghost use Rattle.sheet.specs.Forms.{tag, form_of};
 ghost use Rattle.words.specs.Log.{part};

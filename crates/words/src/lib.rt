@@ -2,6 +2,8 @@
 // A log is the list of the slice's first `top` words: it is read with 0 past its end, grows at its end while it has room, and is
 // cut by going back to a smaller `top`. A set of numbers takes one bit for each. A table of small numbers has
 // several to a word.
+#![tactic(auto)]
+
 ghost use Rattle.std.specs.Prelude.{◌≡◌, [], ◌∷◌, ◌%◌, ◌^◌, get_or, take, set};
 ghost use Rattle.std.proofs.lemmas.List.Edits.{sets};
 ghost use Rattle.words.specs.Log.{part, has_room, Appended, cleared};

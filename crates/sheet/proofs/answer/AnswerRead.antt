@@ -25,7 +25,7 @@ use Rattle.sheet.specs.State.{State, count, lines_of, sum}
 use Rattle.sheet.specs.Sheet.{firsts, read}
 use Rattle.sheet.specs.Content.{types, rows_in, value_rows, contents, value_over, values_from, schema, p_env, n_env, exprs, n_policies, policies, trees_from, on_term}
 use Rattle.sheet.specs.Why.{why}
-use Rattle.sheet.specs.Answer.{size, root, tree_rows, residual_rows, counts_of, ids, run, results, answer}
+use Rattle.sheet.specs.Answer.{size, tree_rows, residual_rows, counts_of, ids, run, results, answer}
 use Rattle.sheet.specs.Call.{Accepted}
 use Rattle.sheet.specs.ReadAnswer.{PolicyLine, Said, read_answer, values_stand, nodes_stand, all_stand}
 use Rattle.sheet.proofs.reading.Lines.{History}

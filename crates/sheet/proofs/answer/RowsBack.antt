@@ -14,7 +14,7 @@ use lib.ListN.{length, get_or}
 use Rattle.cedar.proofs.Tools.{no_true, eqb_true}
 use Rattle.cedar.specs.Rows.{Entries, stop, entry, Row, rbool, rlong, rtext, rent, rset, rrec}
 use Rattle.sheet.specs.Ascii.{ascii}
-use Rattle.sheet.specs.Bytes.{same, index, long, long_at, half, digits, signed}
+use Rattle.sheet.specs.Bytes.{same, index, long_at, half, digits, signed}
 use Rattle.sheet.specs.Forms.{Mode, Slot, line, line_or, line_unknown, word, number, nothing, forms, form_of, slot_at, counted, mark, one, two, mark_or, place_in, word_number, item, joined, items_from, or_empty, row_for, row_of, tag_of, tag, items, key_of, VALUE, NODE, day}
 use Rattle.sheet.specs.State.{entries_of, value_row}
 use Rattle.sheet.specs.Answer.{numbers, entry_items, value_items, item_out, items_out, node_items}

@@ -19,7 +19,7 @@ use Rattle.sheet.specs.Sheet.{fault, more, marked, used_twice, read}
 use Rattle.sheet.specs.Content.{pattern_of, children_over, args_over, tree_for, tree_over, trees_from, trees, types, linked, numbered_policies, n_policies, on_term}
 use Rattle.sheet.specs.Call.{room}
 use Rattle.sheet.specs.Answer.{numbers, pattern_items, item_out, items_out}
-use Rattle.sheet.proofs.reading.Lines.{Passed, passed, set_cases, lines_more, later_empty, Was, History, holds_read, no_lines}
+use Rattle.sheet.proofs.reading.Lines.{Passed, passed, set_cases, lines_more, later_empty, Was, History, holds_read}
 use Rattle.sheet.proofs.reading.Parsed.{all_below, all_below_law, tags_between, node_tags, policy_tags, policy_tag}
 use Rattle.sheet.proofs.reading.NodeRows.{row_read}
 use Rattle.sheet.proofs.reading.Limits.{most_lines}

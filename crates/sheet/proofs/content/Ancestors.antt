@@ -1,7 +1,7 @@
 -- The ancestors of an entity line of an accepted sheet: values that are there, of kinds above it.
 use mathlib.Core.Path.{◌≡◌, refl, sym, ◌∙◌, ap, subst}
-use mathlib.Core.Bool.{Bool, true, false, cond, ◌&&◌}
-use mathlib.Core.Option.{Option, none, some, some-injective}
+use mathlib.Core.Bool.{Bool, true, false, cond}
+use mathlib.Core.Option.{none, some, some-injective}
 use mathlib.Core.List.{List, [], ◌∷◌, ◌++◌}
 use Prim.Native.Nat.{ℕ, zero, suc, ◌<◌, ◌≤◌}
 use native.Mathlib.Omega.{arith}
@@ -11,8 +11,8 @@ use lib.ListN.{length, take, get_or, get_or-eq_default}
 use Rattle.cedar.proofs.Tools.{no_true, no_some, eqb_true, or_left, or_right, either, and_both}
 use Rattle.cedar.specs.Value.{Value, vbool}
 use Rattle.cedar.proofs.CanonicalLaws.{Mem, here, there, ascending_sorted, ascending_in, ascending_out, sorted_ext}
-use Rattle.cedar.specs.Rows.{Row, rent}
-use Rattle.cedar.specs.Table.{At, Elems, elem0, elem1}
+use Rattle.cedar.specs.Rows.{rent}
+use Rattle.cedar.specs.Table.{Elems, elem0, elem1}
 use Rattle.cedar.specs.Numbered.{mem_n, r_ent, is_rent}
 use Rattle.sheet.specs.Forms.{Mode, partial, complete, at, VALUE, ENTITY}
 use Rattle.sheet.specs.State.{State, lines_of, entity_lines, count, value_row, value_at}

@@ -21,7 +21,7 @@ use Rattle.sheet.specs.Forms.{Mode, partial, forms, form_of, slot_at, tag, at, m
 use Rattle.sheet.specs.State.{State, lines_of, count, line_at, counts, lengths, value_row, value_at}
 use Rattle.sheet.specs.Typing.{fits, attributes_of, tags_of, unknown_or, all_in, tags_fit, ancestor_fits, typed}
 use Rattle.sheet.specs.Sheet.{reach, least, more, read}
-use Rattle.sheet.specs.Content.{types, contents, value_over, known, entity_given, entity_known, given, request_known, parts_given, parts_in, parts_found, line_given, entity_line, look_up, n_env, p_env, content_in, fields_in, known_above, map_some, set_over}
+use Rattle.sheet.specs.Content.{contents, value_over, known, entity_given, entity_known, given, request_known, parts_given, parts_in, parts_found, line_given, entity_line, look_up, n_env, p_env, content_in, fields_in, known_above, map_some, set_over}
 use Rattle.sheet.proofs.reading.Lines.{and_both, Was, History, holds_read, Ended, AllFit}
 use Rattle.sheet.proofs.content.Ancestors.{above_small, elems_over, known_above_law}
 use Rattle.sheet.proofs.reading.Parsed.{all_below, between, tags_between}

@@ -12,7 +12,7 @@ use Rattle.cedar.proofs.TableLaws.{InN, now', later'}
 use Rattle.cedar.specs.Types.{Ty, tbool}
 use Rattle.cedar.specs.Residual.{Node, econs, gcons, err, and, or, ite, un, bin, rel, get, has, haspath, set, rec, unot, uneg, uempty, uis, ulike, beq, blt, ble, badd, bsub, bmul, bcontains, ball, bany, rin, rgettag, rhastag}
 use Rattle.cedar.specs.Numbered.{mem_n}
-use Rattle.sheet.specs.Forms.{Mode, line, forms, form_of, slot_at, is_line, keep, refs_from, refs, items, at, key_of, mark, NODE, POLICY, LINK, VALUE, TYPE, no_tag}
+use Rattle.sheet.specs.Forms.{Mode, forms, form_of, slot_at, is_line, keep, refs_from, refs, at, key_of, mark, NODE, POLICY, LINK, VALUE, TYPE, no_tag}
 use Rattle.sheet.specs.State.{State, lines_of, line_at}
 use Rattle.sheet.specs.Typing.{fits, fits_in, gathered, under_from, nodes_under, nodes_of, is_slot, slot_value, slots_fit, typed}
 use Rattle.sheet.specs.Sheet.{firsts, any_slot, first_unlinked}

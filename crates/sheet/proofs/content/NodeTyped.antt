@@ -8,14 +8,14 @@ use native.Mathlib.Omega.{arith}
 use borrow.Author.Tests.{ltb-true, ne_eqb}
 use lib.Dec.{eqb}
 use lib.ListN.{length, get_or, drop}
-use Rattle.cedar.proofs.Tools.{no_true, no_some, eqb_true, either}
+use Rattle.cedar.proofs.Tools.{no_true, eqb_true, either}
 use Rattle.cedar.proofs.TypingTest.{some_test}
 use Rattle.cedar.specs.Value.{Value, vbool, on_some}
 use Rattle.cedar.specs.Types.{Ty, tbool, tlong, tstr, tent, tset, Attrs, declared, Var, principal, action, resource, context}
 use Rattle.cedar.specs.Residual.{Expr, lit, err, var, and, or, has, haspath, set, rec, enil, Item, unot, uneg, uempty, uis, ulike, beq, blt, ble, badd, bsub, bmul, bcontains, ball, bany, rin, rgettag, rhastag}
 use Rattle.cedar.specs.Typing.{named, UnOk, not_ok, neg_ok, empty_ok, is_ok, like_ok, BinOk, eq_ok, eq_ent_ok, lt_ok, le_ok, add_ok, sub_ok, mul_ok, contains_ok, all_ok, any_ok, RelOk, in_ok, in_set_ok, get_tag_ok, has_tag_ok, Each, IfDeclared, PathOk, Typed, tlit, terr, tvar, tand, tor, tite, tun, tbin, trel, tget, thas, tpath, tset', trec', AllTyped, nil_typed, cons_typed, ArgsTyped, no_arg, one_arg}
 use Rattle.cedar.specs.Numbered.{entry_of, is_some, pick_n}
-use Rattle.sheet.specs.Forms.{Mode, Slot, line, forms, form_of, slot_at, items, at, mark, NODE}
+use Rattle.sheet.specs.Forms.{Mode, Slot, line, forms, form_of, slot_at, at, mark, NODE}
 use Rattle.sheet.specs.Bytes.{same as same_list}
 use Rattle.sheet.specs.State.{State, lines_of, count, line_at, Declared, TypeRow, bool, long, string, entity, set', record', type_row, type_at, value_row}
 use Rattle.sheet.specs.Typing.{on_entity, on_set_of, on_record, is_bool, is_long, is_string, declared_in, required_there, all_in, all_entries, entries_fit, row_fits, fits_by, fits, fits_in, attributes_of, tags_of, each_of, is_target, path_typed, type_of_node, entity_is, context_is, var_typed, arg_types, rules}
@@ -27,7 +27,6 @@ use Rattle.sheet.proofs.reading.RowTests.{all_at, same_is, on_entity_law, on_set
 use Rattle.sheet.proofs.content.Fitting.{ty_eq}
 use Rattle.sheet.proofs.content.FitsSound.{fits_sound, declared_over, map_ty, complete_over}
 use Rattle.sheet.proofs.reading.Slots.{set_slot, field_slot}
-use Rattle.sheet.proofs.content.ValueRows.{some_is}
 
 -- u is the state in which a node's line was read
 module _ (m : Mode) (s : State) (h : History m s) (u : State) (same : (j : ℕ) → j < NODE → lines_of u j ≡ lines_of s j) where

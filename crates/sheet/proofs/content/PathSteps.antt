@@ -10,7 +10,7 @@ use lib.Dec.{eqb}
 use Rattle.cedar.proofs.Tools.{no_true, eqb_true, eqb_self, or_left, or_right, either, both, and_both, iff}
 use Rattle.cedar.specs.Value.{on_some}
 use Rattle.cedar.specs.Numbered.{mem_n}
-use Rattle.sheet.specs.State.{State, Declared, TypeRow, bool, long, string, entity, set', record', type_at}
+use Rattle.sheet.specs.State.{State, TypeRow, bool, long, string, entity, set', record', type_at}
 use Rattle.sheet.specs.Typing.{on_entity, on_record, declared_in, all_in, attributes_of, each_of, path_typed}
 
 -- ---- tests of all members of a list

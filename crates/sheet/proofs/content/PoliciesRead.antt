@@ -19,7 +19,7 @@ use Rattle.cedar.specs.Table.{At}
 use Rattle.cedar.specs.Reads.{Reads, xlit, xerr, xvar, xand, xor, xite, xun, xbin, xrel, xget, xhas, xpath, xset, xrec, ReadsAll, xnil, xcons, ReadsArgs, xstop, xarg}
 use Rattle.cedar.proofs.Settled.{Policies, no_policy, one_policy}
 use Rattle.cedar.proofs.SettledByNumber.{ReadPolicies, done, also}
-use Rattle.sheet.specs.Forms.{Mode, line, forms, form_of, slot_at, tag, items, at, key_of, ascendings, NODE, POLICY, no_tag, LINK, VALUE}
+use Rattle.sheet.specs.Forms.{Mode, forms, form_of, slot_at, tag, items, at, key_of, ascendings, NODE, POLICY, no_tag, LINK, VALUE}
 use Rattle.sheet.specs.State.{State, lines_of, count, type_row, type_at, value_row}
 use Rattle.sheet.specs.Typing.{type_of_node, typed, on_entity, row_fits, fits_by, fits, fits_in, rules, nodes_under, is_slot, slot_value, slots_fit}
 use Rattle.sheet.specs.Sheet.{found, all_there, there_is, ascend, fresh}

@@ -1,8 +1,8 @@
 -- Ancestors are all entities reached through parents: the least set that holds the parents and the parents of its members. More steps than
 -- there are entity lines add nothing, since each step that adds something reaches one more entity that is listed.
 use mathlib.Core.Path.{◌≡◌, refl, sym, ◌∙◌, ap, subst}
-use mathlib.Core.Bool.{Bool, true, false, cond, ◌||◌, ◌&&◌}
-use mathlib.Core.Option.{Option, none, some}
+use mathlib.Core.Bool.{Bool, true, false, cond, ◌&&◌}
+use mathlib.Core.Option.{some}
 use mathlib.Core.List.{List, [], ◌∷◌, ◌++◌}
 use Prim.Native.Nat.{ℕ, zero, suc, ◌≤◌}
 use native.Mathlib.Omega.{arith}
@@ -14,7 +14,7 @@ use Rattle.cedar.specs.Value.{on_some}
 use Rattle.cedar.specs.Numbered.{mem_n, all_n}
 use Rattle.sheet.specs.Forms.{at}
 use Rattle.sheet.specs.Sheet.{firsts}
-use Rattle.sheet.specs.Parents.{line_for, with_all, parents_of, further, within, Reaches, parent, beyond, parents_in, parents, ancestors, is_open, any_open, unknown_above}
+use Rattle.sheet.specs.Parents.{line_for, with_all, parents_of, within, Reaches, parent, beyond, parents_in, parents, ancestors, is_open, any_open, unknown_above}
 
 -- ---- members
 

@@ -17,7 +17,7 @@ use Rattle.cedar.specs.Rows.{rbool, rlong, rtext, rent, rset, rrec}
 use Rattle.cedar.specs.Table.{At, Table}
 use Rattle.cedar.specs.Numbered.{Give, made, old}
 use Rattle.cedar.proofs.SettledByNumber.{Yielding, Residuals, run_reads, n_lines, n_allow, n_deny, n_residuals}
-use Rattle.sheet.specs.Forms.{Mode, partial, complete, line, forms, form_of, slot_at, tag, items, at, mark, key_of, TEXT, VALUE, NODE, PRINCIPAL, ACTION, RESOURCE, CONTEXT}
+use Rattle.sheet.specs.Forms.{Mode, partial, complete, forms, form_of, slot_at, tag, items, at, mark, key_of, TEXT, VALUE, NODE, PRINCIPAL, ACTION, RESOURCE, CONTEXT}
 use Rattle.sheet.specs.State.{State, lines_of, count, line_at, entries_of, value_row}
 use Rattle.sheet.specs.Bytes.{long_at}
 use Rattle.sheet.specs.Sheet.{all_there, there_is, read}

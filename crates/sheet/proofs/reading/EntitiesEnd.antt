@@ -1,8 +1,8 @@
 -- For the loader: a reading is what is asked before its first line, then that line; whether the line begins with `entity=` is seen from the
 -- bytes that are left; and once it is known that all lines reach only kinds above, lines of later keys leave it so.
-use mathlib.Core.Path.{◌≡◌, refl, sym, ◌∙◌, ap, subst}
+use mathlib.Core.Path.{◌≡◌, refl, sym, ◌∙◌, ap}
 use mathlib.Core.Bool.{Bool, true, false, cond, ◌&&◌}
-use mathlib.Core.List.{List, [], ◌∷◌, ◌++◌}
+use mathlib.Core.List.{List, [], ◌∷◌}
 use Prim.Native.Nat.{ℕ, suc, ◌<◌, ◌≤◌}
 use native.Mathlib.Omega.{arith}
 use lib.Dec.{ltb, eqb}
@@ -12,11 +12,11 @@ use Rattle.cedar.proofs.Tools.{no_true, neither}
 use Rattle.cedar.specs.Numbered.{mem_n, r_ent}
 use Rattle.sheet.specs.Ascii.{ascii}
 use Rattle.sheet.specs.Bytes.{starts, ahead, split}
-use Rattle.sheet.specs.Forms.{Mode, key_of, items, at, SHAPE, VALUE, ENTITY}
-use Rattle.sheet.specs.State.{State, lines_of, entity_lines, count, value_row}
+use Rattle.sheet.specs.Forms.{Mode, key_of, items, at, ENTITY}
+use Rattle.sheet.specs.State.{State, lines_of, count, value_row}
 use Rattle.sheet.specs.Typing.{all_in}
 use Rattle.sheet.specs.Parents.{ancestors}
-use Rattle.sheet.specs.Sheet.{more, Reading, reads, reached_fit, first_unfit, entities_fit, before_line, reading, reading_on}
+use Rattle.sheet.specs.Sheet.{more, Reading, reads, first_unfit, entities_fit, before_line, reading, reading_on}
 use Rattle.sheet.proofs.reading.Lines.{AllFit, lines_more}
 
 -- ---- one line more

@@ -1,6 +1,5 @@
 -- What the documents say of single lines and no theorem rests on, from bytes to bytes, by computation on short sheets: dates, terms, templates, groups; the depth of leaves.
 use mathlib.Core.Path.{◌≡◌, refl}
-use mathlib.Core.Bool.{true}
 use mathlib.Core.Option.{none, some}
 use mathlib.Core.List.{List, [], ◌∷◌}
 use Prim.Native.Nat.{ℕ}

@@ -7,8 +7,7 @@ use borrow.Author.Tests.{leb-false}
 use lib.ListN.{length, get_or, length-append}
 use Rattle.sheet.specs.Forms.{Mode, TEXT, KIND, TYPE, SHAPE, VALUE, ENTITY, NODE, POLICY, LINK, TERM}
 use Rattle.sheet.specs.State.{State, lines_of, count}
-use Rattle.sheet.specs.Sheet.{greatest, more}
-use Rattle.sheet.specs.Call.{room}
+use Rattle.sheet.specs.Sheet.{greatest}
 use Rattle.sheet.proofs.reading.Lines.{History}
 
 pub last_of : {X : Type 0} (l : List (List ℕ)) → (l ≡ [] → X) → ((pre : List (List ℕ)) (r : List ℕ) → l ≡ pre ++ (r ∷ []) → X) → X

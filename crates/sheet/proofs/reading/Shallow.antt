@@ -13,7 +13,7 @@ use Rattle.cedar.specs.Rows.{Entries, stop, entry, Row, rbool, rlong, rtext, ren
 use Rattle.cedar.specs.Numbered.{entry_of, is_some, pick_n}
 use Rattle.cedar.proofs.Tools.{no_true, no_some, iff}
 use Rattle.cedar.proofs.TableLaws.{InN, now'}
-use Rattle.sheet.specs.Forms.{Mode, line, forms, form_of, slot_at, is_line, keep, refs_from, refs, tag, items, TYPE, VALUE, no_tag}
+use Rattle.sheet.specs.Forms.{Mode, forms, form_of, slot_at, is_line, keep, refs_from, refs, tag, items, TYPE, VALUE, no_tag}
 use Rattle.sheet.specs.State.{State, lines_of, count, depths_of, Declared, TypeRow, bool, long, string, entity, set', record', declareds, type_row, value_row}
 use Rattle.sheet.specs.Typing.{declared_in, required_there, all_in, all_entries, row_fits, fits_by, fits_in}
 use Rattle.sheet.specs.Sheet.{read}
