@@ -1,4 +1,6 @@
 // Bytes of a sheet: parts, lines, items, words and numbers. A text is handed on as a part of the sheet, never copied.
+#![tactic(auto)]
+
 ghost use Rattle.std.specs.Prelude.{◌≡◌, ◌+◌, ◌<◌, ◌≤◌, cond, length, take, drop};
 ghost use Rattle.words.specs.Log.{part};
 ghost use Rattle.sheet.specs.Bytes.{up_to, split, same, printable, digits_from, decimal, at_most, index, half, upward, downward, long};

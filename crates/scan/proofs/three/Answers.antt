@@ -1,0 +1,7 @@
+-- `scan::three` meets its contract. Assumes nothing.
+use Rattle.std.proofs.Common.{arith}
+use Rattle.scan.proofs.Packing.{packed_join}
+use Rattle.scan.proofs.three.Goals as goal
+
+pub returns : goal.returns
+returns c = let a = c.args in packed_join a.bytes.now a.i 2 1 c.two.result c.one.result (omega arith) c.two.ensures c.one.ensures
