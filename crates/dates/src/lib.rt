@@ -1,4 +1,6 @@
 // Dates: `yyyy-mm-dd` read as the number yyyymmdd, so that a later day has a greater number.
+#![tactic(auto)]
+
 ghost use Rattle.std.specs.Prelude.{◌≡◌};
 ghost use Rattle.sheet.specs.Bytes.{leap_year, days_in, is_date, date};
 ghost use Rattle.scan.specs.Numbers.{number_of};
