@@ -1,5 +1,7 @@
 // Writing into a buffer that the caller lends, from a place on. A byte is stored where there is room and counted always, so that one
 // run gives the length needed; the rest of the buffer stays. The count stays at the greatest usize once it gets there.
+#![tactic(auto)]
+
 ghost use Rattle.std.specs.Prelude.{[], ◌∷◌};
 ghost use Rattle.sheet.specs.Bytes.{long_at, digits, signed};
 ghost use Rattle.print.specs.Written.{Written};
