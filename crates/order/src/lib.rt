@@ -1,4 +1,6 @@
 // The order of keys: which line may come, and when there is one too many.
+#![tactic(auto)]
+
 ghost use Rattle.std.specs.Prelude.{◌≡◌, true, List, [], ℕ, ◌≤◌, leb, get_or};
 ghost use Rattle.sheet.specs.Forms.{no_key, NODE};
 ghost use Rattle.sheet.specs.State.{count};
