@@ -1,4 +1,6 @@
 // The rows seen: a number for each, and the set of the numbers.
+#![tactic(auto)]
+
 ghost use Rattle.std.specs.Prelude.{◌≡◌, not, ◌%◌, drop};
 ghost use Rattle.words.specs.Bits.{member, added};
 ghost use Rattle.sheet.specs.Forms.{tag, key_of};
