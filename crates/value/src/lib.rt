@@ -1,5 +1,7 @@
 // The values of a run by number: those of the sheet, then those made, each a row of words. What a row holds, the members of a set,
 // the entries of a record; a value found or made (`making`).
+#![tactic(auto)]
+
 pub mod making;
 
 ghost use Rattle.std.specs.Prelude.{◌≡◌, [], true, cond, ◌+◌, ◌*◌, ltb, get_or, length, drop};
