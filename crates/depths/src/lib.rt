@@ -1,4 +1,6 @@
 // The depth of a row, from the rows that the words hold; whether the lines that it refers to are there.
+#![tactic(auto)]
+
 ghost use Rattle.std.specs.Prelude.{◌≡◌, List, true, cond, ℕ, ◌+◌, ◌<◌, max, ltb, eqb, get_or};
 ghost use Rattle.sheet.specs.Forms.{no_key, NODE};
 ghost use Rattle.table.specs.Layout.{depths_in};
