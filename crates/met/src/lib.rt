@@ -1,4 +1,6 @@
 // Tables by value, a byte each, in which parents are noted as they are met, and lists of parents asked by them.
+#![tactic(auto)]
+
 ghost use Rattle.std.specs.Prelude.{◌≡◌, ◌+◌, ◌≤◌, ◌<◌, length, get_or, set};
 ghost use Rattle.met.specs.Noting.{RUN, Entered, Run, RunMet, Skipped};
 
