@@ -1,4 +1,6 @@
 // The policies that run: the rows of those on term, written after the sheet's rows as the rows of a key that stands in words only.
+#![tactic(auto)]
+
 ghost use Rattle.std.specs.Prelude.{◌≡◌, ◌&&◌, [], ◌∷◌, leb, get_or};
 ghost use Rattle.sheet.specs.Forms.{at, POLICY, LINK, TERM};
 ghost use Rattle.sheet.specs.Content.{runs_on, link_of, with_link};
