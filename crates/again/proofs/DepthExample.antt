@@ -1,6 +1,6 @@
 -- Depths of small trees, by computation: "A leaf has depth 1", and the deepest child counts, wherever it stands.
 use mathlib.Core.Path.{◌≡◌, refl}
-use mathlib.Core.List.{List, [], ◌∷◌}
+use mathlib.Core.List.{[], ◌∷◌}
 use Prim.Native.Nat.{ℕ}
 use lib.ListN.{replicate}
 use Rattle.cedar.specs.Types.{tbool, principal}

@@ -1,18 +1,18 @@
 -- NUMBER 11 ARISES EXACTLY WHERE TWO ACCEPTED SHEETS DO NOT AGREE: no line breaks agreement and none is lacking exactly if they agree.
 use mathlib.Core.Path.{◌≡◌, refl, sym, ◌∙◌, ap, ap₂, subst}
-use mathlib.Core.Bool.{Bool, true, false, cond, ◌&&◌, ◌||◌}
+use mathlib.Core.Bool.{Bool, true, false, cond}
 use mathlib.Core.Option.{Option, none, some, some-injective}
 use mathlib.Core.List.{List, [], ◌∷◌, ◌++◌, append_assoc}
 use Prim.Native.Nat.{ℕ, suc, ◌≤◌, ◌-◌}
 use native.Mathlib.Omega.{arith}
-use borrow.Author.Tests.{ltb-true, ltb-false, le-ltb, eq-eqb, ne_eqb}
-use lib.Dec.{ltb, eqb}
-use lib.ListN.{length, get_or, length-append}
+use borrow.Author.Tests.{ltb-false, le-ltb, eq-eqb, ne_eqb}
+use lib.Dec.{eqb}
+use lib.ListN.{length}
 use Rattle.cedar.proofs.Tools.{no_some, no_true, eqb_true, and_both, both, neither}
 use Rattle.cedar.specs.Value.{on_some}
 use Rattle.sheet.specs.Bytes.{same}
 use Rattle.sheet.specs.Forms.{Mode, partial, complete, at, TEXT, KIND, TYPE, SHAPE, VALUE, ENTITY, PRINCIPAL, ACTION, RESOURCE, CONTEXT, DAY, NODE, POLICY, LINK, TERM, no_key}
-use Rattle.sheet.specs.State.{State, lines_of, line_at, count, counts, before, sum}
+use Rattle.sheet.specs.State.{State, lines_of, line_at, counts, before, sum}
 use Rattle.sheet.specs.Parents.{line_for}
 use Rattle.sheet.specs.Agreement.{begins, same_lines, request_same, entity_same, listed, all_listed, agrees}
 use Rattle.finished.specs.Finish.{break_from, breaking_line}
@@ -71,14 +71,14 @@ data In (r : List ℕ) : List (List ℕ) → Type 0 where
   here : {l : List (List ℕ)} → In r (r ∷ l)
   there : {q : List ℕ} {l : List (List ℕ)} → In r l → In r (q ∷ l)
 
-rising_in : (b : ℕ) {r : List ℕ} {l : List (List ℕ)} → In r l → Rising b l → b ≤ at r 0
+rising_in : {r : List ℕ} (b : ℕ) {l : List (List ℕ)} → In r l → Rising b l → b ≤ at r 0
 rising_in b here h = h.0
 rising_in b (there {q = q} i) h = let z = rising_in (suc (at q 0)) i h.1 in let y = h.0 in omega (arith, y, z)
 
 -- it is the one that is found
-one_line : (b : ℕ) {r : List ℕ} {l : List (List ℕ)} → In r l → Rising b l → line_for (at r 0) l ≡ some r
-one_line b {r = r} (here {l = l}) h = rw (eq-eqb (at r 0) (at r 0) refl) refl
-one_line b {r = r} (there {q = q} {l = l} i) h =
+one_line : {r : List ℕ} (b : ℕ) {l : List (List ℕ)} → In r l → Rising b l → line_for (at r 0) l ≡ some r
+one_line {r = r} b (here {l = l}) h = rw (eq-eqb (at r 0) (at r 0) refl) refl
+one_line {r = r} b (there {q = q} {l = l} i) h =
     let z = rising_in (suc (at q 0)) i h.1 in
     ap (λ b. cond b (some q) (line_for (at r 0) l)) (ne_eqb (at q 0) (at r 0) (λ e. omega (arith, e, z))) ∙ one_line (suc (at q 0)) i h.1
 
@@ -92,6 +92,7 @@ found_in {X} n (q ∷ l) r e f = go (eqb (at q 0) n) refl e (λ g. found_in n l 
     go false g e ih = ih e
 
 entity_none : (p c : List (List ℕ)) (l : ℕ) → entity_break p c l ≡ none → (q : List ℕ) → In q c → on_some true (line_for (at q 0) p) (λ r. entity_same r q) ≡ true
+entity_none p [] l e q x'' = elim x'' [ ]
 entity_none p (x ∷ c) l e q here = at_line_law (on_some true (line_for (at q 0) p) (λ r. entity_same r q)) (entity_break p c (suc l)) l e (λ a b. a)
 entity_none p (x ∷ c) l e q (there i) = at_line_law (on_some true (line_for (at x 0) p) (λ r. entity_same r x)) (entity_break p c (suc l)) l e (λ a b. entity_none p c (suc l) b q i)
 
@@ -133,6 +134,7 @@ listed_found r none e f = no_true e
 listed_found r (some q) e f = f q refl e
 
 all_listed_law : (p c : List (List ℕ)) → all_listed p c ≡ true → (r : List ℕ) → In r p → listed r c ≡ true
+all_listed_law [] c e r x'' = elim x'' [ ]
 all_listed_law (x ∷ p) c e r here = and_both (listed r c) (all_listed p c) e (λ a b. a)
 all_listed_law (x ∷ p) c e r (there i) = and_both (listed x c) (all_listed p c) e (λ a b. all_listed_law p c b r i)
 

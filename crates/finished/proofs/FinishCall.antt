@@ -21,7 +21,6 @@ use Rattle.sheet.proofs.reading.Lines.{zero_not_suc}
 use Rattle.sheet.proofs.reading.Checked.{lent_by, checked_by, same_refusal, accepted_from, passes}
 use Rattle.sheet.proofs.reading.Refusals.{read_small}
 use Rattle.sheet.proofs.answer.AnswerLength.{most_answer, answer_most}
-use Rattle.sheet.proofs.demand3.Demand3Bytes.{facts}
 use Rattle.finished.proofs.FinishAgrees.{no_break_agrees, agrees_no_break}
 use Rattle.finished.proofs.FinishEqual.{finished_answer_law}
 

@@ -1,1 +1,3 @@
+#![tactic(auto)]
+
 // No code: what `finish` answers, and the theorems on it.

@@ -1,1 +1,3 @@
+#![tactic(auto)]
+
 // No code: the counter page, and the theorems on it.

@@ -1,7 +1,7 @@
 -- A call at its edges, by computation, and limits that no short sheet comes to. Each fails if one line of a definition is changed (scripts/mutants.txt).
 use mathlib.Core.Path.{◌≡◌, refl}
 use mathlib.Core.Bool.{true, false}
-use mathlib.Core.List.{List, [], ◌∷◌, ◌++◌}
+use mathlib.Core.List.{[], ◌∷◌, ◌++◌}
 use Prim.Native.Nat.{ℕ}
 use lib.ListN.{take, drop, replicate}
 use Rattle.sheet.specs.Forms.{partial, VALUE, NODE}

@@ -1,7 +1,6 @@
 -- The known sheets of document 01 and some others, from bytes to bytes, as theorems by computation. As there, `/` is a line end.
 use mathlib.Core.Path.{◌≡◌, refl}
 use mathlib.Core.Bool.{Bool, true, ◌&&◌}
-use mathlib.Core.Option.{none, some}
 use mathlib.Core.List.{List, [], ◌∷◌, ◌++◌}
 use Prim.Native.Nat.{ℕ, zero, suc, ◌+◌, ◌*◌}
 use Rattle.sheet.specs.Forms.{keys, partial, forms, form_of, slot_at, counted, tag_of, row_of, key_of, refs, ascendings}
@@ -12,7 +11,7 @@ use Rattle.sheet.specs.Content.{types, value_rows, contents, schema, trees, expr
 use Rattle.sheet.specs.Answer.{run, results, answer}
 use Rattle.sheet.specs.Call.{returned}
 use Rattle.cedar.specs.Canonical.{order, same, place, insert, ascending, make_set}
-use Rattle.sheet.specs.Bytes.{date, days_in, is_date}
+use Rattle.sheet.specs.Bytes.{days_in, is_date}
 use Rattle.sheet.specs.State.{sum}
 use Rattle.sheet.proofs.answer.Shown.{bytes, shown, Case, case, shown_all, says_all}
 use Rattle.sheet.proofs.reading.KnownLines.{head, kind_lines}

@@ -17,7 +17,7 @@ use Rattle.cedar.specs.TypingTest as Test
 use Rattle.cedar.specs.Rows.{Entries, stop, entry, Row, rbool, rlong, rtext, rent, rset, rrec}
 use Rattle.cedar.specs.Numbered.{mem_n, r_ent, r_set, r_rec}
 use Rattle.sheet.specs.Bytes.{long_at}
-use Rattle.sheet.specs.Forms.{Mode, forms, form_of, slot_at, tag, items, at, mark, key_of, row_of, KIND, TYPE, SHAPE, VALUE, ENTITY, CONTEXT, NODE, POLICY}
+use Rattle.sheet.specs.Forms.{Mode, forms, form_of, slot_at, tag, items, at, mark, key_of, row_of, KIND, TYPE, SHAPE, VALUE, CONTEXT, NODE, POLICY}
 use Rattle.sheet.specs.State.{State, lines_of, count, line_at, counts, Declared, value_row, value_at, entries_of}
 use Rattle.sheet.specs.Typing.{all_in, all_entries, fits, is_action, attributes_of, tags_of, above_of, none_declared, shape_typed, is_stop, tags_fit, ancestor_fits, unknown_or, entity_typed, context_typed, type_of_node, is_slot, slot_value, slots_fit, policy_typed}
 use Rattle.sheet.specs.Sheet.{found, in_order, enough, least, all_zero, reached_fit}

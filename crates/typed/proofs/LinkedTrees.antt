@@ -14,7 +14,7 @@ use Rattle.cedar.specs.Residual.{Expr, err}
 use Rattle.cedar.specs.Typing.{Typed}
 use Rattle.cedar.specs.TypingTest.{check}
 use Rattle.cedar.specs.TypingTest as Test
-use Rattle.sheet.specs.Forms.{Mode, line, forms, form_of, slot_at, counted, items_from, is_line, keep, refs_from, refs, tag, items, at, key_of, row_of, NODE, POLICY, LINK, no_tag}
+use Rattle.sheet.specs.Forms.{Mode, forms, form_of, slot_at, counted, items_from, is_line, keep, refs_from, refs, tag, items, at, key_of, row_of, NODE, POLICY, LINK, no_tag}
 use Rattle.sheet.specs.State.{State, lines_of, line_at}
 use Rattle.sheet.specs.Typing.{gathered, under_from, nodes_under, is_slot, slot_value}
 use Rattle.sheet.specs.Sheet.{fault}

@@ -131,6 +131,10 @@ module _ {m : Mode} {s : State} (h : Reached m s) where
       go false ih q = ih q
 
   part_at : {row : TypeRow} {A : Ty} {z : ℕ} → TyAt (types s) row A → Part row z → z < length (types s)
+  part_at {z = z} (Rattle.sheet.proofs.content.Fitting.aent {k = k} {ks = ks}) x7 = elim x7 [ ]
+  part_at {z = z} Rattle.sheet.proofs.content.Fitting.abool x4 = elim x4 [ ]
+  part_at {z = z} Rattle.sheet.proofs.content.Fitting.along x5 = elim x5 [ ]
+  part_at {z = z} Rattle.sheet.proofs.content.Fitting.astr x6 = elim x6 [ ]
   part_at (aset a) elem = at_less a
   part_at {z = z} (arec g) (attr t e) = attrs_at t z g e
 
