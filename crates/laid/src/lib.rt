@@ -1,5 +1,7 @@
 // The rows of a sheet in words of their own, on which a row of a whole firm is run: all rows, moved on, and before them those of principal and
 // resource with the row's own texts.
+#![tactic(auto)]
+
 ghost use Rattle.std.specs.Prelude.{◌≡◌, suc, ◌+◌, ◌≤◌, ◌<◌, length};
 ghost use Rattle.std.proofs.lemmas.List.Edits.{sets};
 ghost use Rattle.table.specs.Layout.{heap, base};
