@@ -1,5 +1,5 @@
 -- The sorts of a value's row and of a type's, by their tags.
-use mathlib.Core.Path.{◌≡◌, refl, sym, ◌∙◌}
+use mathlib.Core.Path.{◌≡◌, refl, sym, ap, ◌∙◌}
 use mathlib.Core.Bool.{Bool, true, false}
 use mathlib.Core.List.{List, [], ◌∷◌}
 use Prim.Native.Nat.{ℕ, zero, suc, ◌+◌, ◌-◌, ◌*◌, ◌≤◌, ◌<◌}
@@ -15,7 +15,7 @@ use Rattle.sheet.specs.State.{TypeRow, bool, long, string, entity, set', record'
 use Rattle.sheet.specs.Typing.{all_in, entries_fit}
 use Rattle.forms.specs.Tags.{LONG_TYPE, STRING_TYPE, ENTITY_TYPE, SET_TYPE, RECORD_TYPE, LONG_VALUE, TEXT_VALUE, ENTITY_VALUE, SET_VALUE, RECORD_VALUE}
 use Rattle.fits.proofs.KindLaws.{items_two}
-use Rattle.fits.specs.Fit.{kind_in, has_in, complete_in, set_fits, record_fits, rows_fit, is_bool_row, Leaf}
+use Rattle.fits.specs.Fit.{kinds_in, kind_in, has_in, complete_in, set_fits, record_fits, rows_fit, is_bool_row, Leaf}
 
 -- ---- the number of a row's sort
 
@@ -160,7 +160,7 @@ module _ (r y : List ℕ) (k z : ℕ) (ek : k ≡ tag r) (ez : z ≡ tag y) wher
 
   pub leaf_entity : (i : ℕ) (b : Bool) → z ≡ ENTITY_TYPE → k ≡ ENTITY_VALUE → i ≡ get_or r 1 0 → b ≡ kind_in y i → Leaf r y b
   unfolding rows_fit kind_in
-  leaf_entity i b e h ei eb = record { is = λ f _ _. rw (← ez, e, ← ek, h, eb, ei, items_two y) }
+  leaf_entity i b e h ei eb = record { is = λ f _ _. rw (← ez, e, ← ek, h, eb, items_two y) (ap (λ n. mem_n n (kinds_in y)) ei) }
 
   pub leaf_no_entity : z ≡ ENTITY_TYPE → (k ≡ ENTITY_VALUE → ⊥) → Leaf r y false
   unfolding rows_fit

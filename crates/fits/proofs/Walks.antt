@@ -12,7 +12,6 @@ use lib.ListN.{length, get_or, drop, drop_of_length-le, length-drop}
 use lib.Seq.{drop-cons}
 use Rattle.cedar.specs.Rows.{stop, entry}
 use Rattle.cedar.specs.Numbered.{entry_of, is_some, pick_n}
-use Rattle.sheet.specs.Forms.{items}
 use Rattle.sheet.specs.State.{declareds, entries_of}
 use Rattle.sheet.specs.Typing.{declared_in, required_there}
 use Rattle.fits.specs.Fit.{has_in, Within, after_in, complete_in, met_at, Ahead, declared_by, found_in}

@@ -1,5 +1,7 @@
 // Whether a value fits a type, of rows that refer to earlier rows by number and share them. Pairs that were found to fit are
 // remembered in lent words, one bit for each of 1,024 values and 128 types, so that no pair is worked out twice.
+#![tactic(auto)]
+
 ghost use Rattle.std.specs.Prelude.{◌≡◌, ◌+◌, ◌<◌, length};
 ghost use Rattle.fits.specs.Fit.{
   kinds_end,
@@ -66,7 +68,7 @@ pub enum Found {
 
 // The type that a record type declares for this attribute.
 pub fn declared(type_row: &[u32], text: u32) -> Found
-    ensures { found_in result ≡ declared_by type_row_law.now text }
+    ensures { found_in result ≡ declared_by type_row.now text }
 {
     let mut i: usize = 1;
     while i < type_row.len() {
@@ -83,8 +85,8 @@ pub fn declared(type_row: &[u32], text: u32) -> Found
 
 // Where to look for an attribute, from `place` on: at the first one that is not below it.
 fn seek(type_row: &[u32], text: u32, place: usize) -> usize
-    requires { Ahead type_row_law.now place }
-    ensures { Ahead type_row_law.now result }
+    requires { Ahead type_row.now place }
+    ensures { Ahead type_row.now result }
 {
     let mut i = place;
     while i < type_row.len() {
@@ -101,8 +103,8 @@ fn seek(type_row: &[u32], text: u32, place: usize) -> usize
 
 // The type that a record type declares for this attribute; it is looked for at `place` first.
 fn declared_at(type_row: &[u32], text: u32, place: usize) -> Found
-    requires { Ahead type_row_law.now place }
-    ensures { found_in result ≡ declared_by type_row_law.now text }
+    requires { Ahead type_row.now place }
+    ensures { found_in result ≡ declared_by type_row.now text }
 {
     if place >= type_row.len() {
         return declared(type_row, text);
@@ -134,9 +136,9 @@ fn after(line: &[u32], text: u32, place: usize) -> usize
 
 // Whether the attribute declared at `i` is optional or there; it is looked for at `place` first.
 fn meets(value_row: &[u32], type_row: &[u32], i: usize, place: usize) -> bool
-    requires i_in_bounds { i < length type_row_law.now }
+    requires i_in_bounds { i < length type_row.now }
     requires within { Within value_row.now place }
-    ensures { result ≡ met_at value_row.now type_row_law.now i }
+    ensures { result ≡ met_at value_row.now type_row.now i }
 {
     let text = item(type_row, i);
     if after(value_row, text, place) > place {
@@ -150,7 +152,7 @@ fn meets(value_row: &[u32], type_row: &[u32], i: usize, place: usize) -> bool
 
 // Whether a record has all attributes that the type requires. Where both ascend, each is found at the place where the last one ended.
 pub fn complete(value_row: &[u32], type_row: &[u32]) -> bool
-    ensures { result ≡ complete_in value_row.now type_row_law.now }
+    ensures { result ≡ complete_in value_row.now type_row.now }
 {
     let mut i: usize = 1;
     let mut place: usize = 1;
@@ -171,7 +173,7 @@ pub fn complete(value_row: &[u32], type_row: &[u32]) -> bool
 
 // Where the kinds of a row end that begin at word 1: a row has one at least.
 pub fn kinds_end(type_row: &[u32]) -> usize
-    ensures { result ≡ kinds_end type_row_law.now }
+    ensures { result ≡ kinds_end type_row.now }
 {
     if type_row.len() < 2 {
         return 2;
@@ -181,7 +183,7 @@ pub fn kinds_end(type_row: &[u32]) -> usize
 
 // Whether a kind is among those of an entity type.
 pub fn has_kind(type_row: &[u32], kind: u32) -> bool
-    ensures { result ≡ kind_in type_row_law.now kind }
+    ensures { result ≡ kind_in type_row.now kind }
 {
     let end = kinds_end(type_row);
     let mut i: usize = 1;
@@ -211,7 +213,7 @@ fn bool_fits(line: &[u32]) -> bool
 }
 
 fn leaf_fits(value_row: &[u32], type_row: &[u32]) -> bool
-    ensures { Leaf value_row.now type_row_law.now result }
+    ensures { Leaf value_row.now type_row.now result }
 {
     let k = tag(value_row);
     match tag(type_row) {
@@ -277,7 +279,7 @@ fn elements(rows: &[u32], work: &mut [u32], line: &[u32], ty: u32, depth: u32) -
 #[cycle(elements_entries_fits_row_fits)]
 fn entries(rows: &[u32], work: &mut [u32], value_row: &[u32], type_row: &[u32], depth: u32) -> bool
     requires { Known rows.now work.old }
-    ensures { Ran rows.now work.old work.new (record_fits (deep rows.now depth) value_row.now type_row_law.now) (record_fits (full rows.now) value_row.now type_row_law.now) result }
+    ensures { Ran rows.now work.old work.new (record_fits (deep rows.now depth) value_row.now type_row.now) (record_fits (full rows.now) value_row.now type_row.now) result }
 {
     let mut i: usize = 1;
     let mut place: usize = 1;
@@ -304,7 +306,7 @@ fn entries(rows: &[u32], work: &mut [u32], value_row: &[u32], type_row: &[u32], 
 #[cycle(elements_entries_fits_row_fits)]
 fn row_fits(rows: &[u32], work: &mut [u32], value_row: &[u32], type_row: &[u32], depth: u32) -> bool
     requires { Known rows.now work.old }
-    ensures { Ran rows.now work.old work.new (rows_fit (deep rows.now depth) value_row.now type_row_law.now) (rows_fit (full rows.now) value_row.now type_row_law.now) result }
+    ensures { Ran rows.now work.old work.new (rows_fit (deep rows.now depth) value_row.now type_row.now) (rows_fit (full rows.now) value_row.now type_row.now) result }
 {
     let k = tag(value_row);
     match tag(type_row) {
