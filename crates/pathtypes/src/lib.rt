@@ -57,7 +57,7 @@ fn add_record(rows: &[u32], records: &mut [u32], ty: u32) -> bool
 // The record types of the attributes of all kinds of an entity type's row.
 fn add_kinds(rows: &[u32], records: &mut [u32], type_row: &[u32]) -> bool
     requires { (get_or rows.now TYPE 0 ≤ TYPES) × (length records.old ≡ TYPE_WORDS) }
-    ensures { Gathered records.old records.new (of_row rows.now type_row_law.now) result }
+    ensures { Gathered records.old records.new (of_row rows.now type_row.now) result }
 {
     let end = kinds_end(type_row);
     let mut i: usize = 1;
@@ -351,7 +351,7 @@ pub enum Place {
 
 // That of an entity type's row.
 fn kinds_place(rows: &[u32], type_row: &[u32]) -> Place
-    ensures { PlaceOf (of_row rows.now type_row_law.now) result }
+    ensures { PlaceOf (of_row rows.now type_row.now) result }
 {
     if type_row.len() > 2 {
         return Place::Group;

@@ -47,7 +47,7 @@ pub fn is_rule(rows: &[u32], kind: u32, ty: u32) -> Rule
 // All kinds of an entity type join a set, as far as it has words for them.
 fn add_kinds(kinds: &mut [u32], type_row: &[u32])
     requires { kinds.old ≡ replicate KIND_WORDS 0 }
-    ensures { KindSet type_row_law.now kinds.new }
+    ensures { KindSet type_row.now kinds.new }
 {
     let end = kinds_end(type_row);
     let mut i: usize = 1;
@@ -59,8 +59,8 @@ fn add_kinds(kinds: &mut [u32], type_row: &[u32])
 
 // Whether a kind is among those of an entity type, which are in a set. A kind that the set has no word for is looked for in the row.
 fn is_kind(type_row: &[u32], kinds: &[u32], kind: u32) -> bool
-    requires { KindSet type_row_law.now kinds.now }
-    ensures { result ≡ kind_in type_row_law.now kind }
+    requires { KindSet type_row.now kinds.now }
+    ensures { result ≡ kind_in type_row.now kind }
 {
     if kind < KINDS {
         return has(kinds, kind as usize);
@@ -70,7 +70,7 @@ fn is_kind(type_row: &[u32], kinds: &[u32], kind: u32) -> bool
 
 // Whether two entity types have a kind in common.
 fn share_kind(type_row: &[u32], other_row: &[u32]) -> bool
-    ensures { result ≡ some_kind (kind_in other_row.now) (kinds_in type_row_law.now) }
+    ensures { result ≡ some_kind (kind_in other_row.now) (kinds_in type_row.now) }
 {
     let mut kinds = [0u32; KIND_WORDS];
     add_kinds(&mut kinds, other_row);
@@ -120,8 +120,8 @@ fn target_row(rows: &[u32], ty: u32) -> &[u32]
 
 // Whether an entity of a kind may be in one of an entity type, whose kinds are in a set.
 fn pair_with(rows: &[u32], type_row: &[u32], kinds: &[u32], kind: u32) -> bool
-    requires { KindSet type_row_law.now kinds.now }
-    ensures { result ≡ pair_with rows.now type_row_law.now kind }
+    requires { KindSet type_row.now kinds.now }
+    ensures { result ≡ pair_with rows.now type_row.now kind }
 {
     if is_kind(type_row, kinds, kind) {
         return true;
@@ -139,7 +139,7 @@ fn pair_with(rows: &[u32], type_row: &[u32], kinds: &[u32], kind: u32) -> bool
 
 // Whether an entity of one entity type may be in one of another.
 fn some_pair(rows: &[u32], type_row: &[u32], other_row: &[u32]) -> bool
-    ensures { result ≡ some_kind (pair_with rows.now other_row.now) (kinds_in type_row_law.now) }
+    ensures { result ≡ some_kind (pair_with rows.now other_row.now) (kinds_in type_row.now) }
 {
     let mut kinds = [0u32; KIND_WORDS];
     add_kinds(&mut kinds, other_row);
@@ -248,7 +248,7 @@ pub fn has_kind_rule(rows: &[u32], text: u32, kind: u32) -> Rule
 
 // Whether no entity of an entity type has this attribute.
 fn each_lacks(rows: &[u32], text: u32, type_row: &[u32]) -> bool
-    ensures { result ≡ each_kind (lacking rows.now text) (kinds_in type_row_law.now) }
+    ensures { result ≡ each_kind (lacking rows.now text) (kinds_in type_row.now) }
 {
     let mut found = [0u32; TYPE_WORDS];
     let end = kinds_end(type_row);

@@ -186,7 +186,7 @@ fn declares_once(rows: &[u32], seen: &mut [u32], ty: u32, text: u32, own: u32) -
 
 // The same of each kind of an entity type's row.
 pub fn kinds_declare(rows: &[u32], type_row: &[u32], text: u32, own: u32) -> bool
-    ensures { result ≡ all_in (of_kind rows.now (declares_as rows.now text own)) (kinds_in type_row_law.now) }
+    ensures { result ≡ all_in (of_kind rows.now (declares_as rows.now text own)) (kinds_in type_row.now) }
 {
     let mut seen = [0u32; TYPE_WORDS];
     let end = kinds_end(type_row);
@@ -203,7 +203,7 @@ pub fn kinds_declare(rows: &[u32], type_row: &[u32], text: u32, own: u32) -> boo
 
 // Whether the attributes of each kind of an entity type's row have a record type.
 pub fn kinds_have(rows: &[u32], type_row: &[u32]) -> bool
-    ensures { result ≡ all_in (of_kind rows.now always) (kinds_in type_row_law.now) }
+    ensures { result ≡ all_in (of_kind rows.now always) (kinds_in type_row.now) }
 {
     let end = kinds_end(type_row);
     let mut i: usize = 1;

@@ -115,7 +115,7 @@ fn in_typed(rows: &[u32], line: &[u32]) -> bool
 
 // Whether the tags of each kind of an entity type's row have this type.
 fn kinds_tags_are(rows: &[u32], type_row: &[u32], ty: u32) -> bool
-    ensures { result ≡ all_in (tags_are rows.now ty) (kinds_in type_row_law.now) }
+    ensures { result ≡ all_in (tags_are rows.now ty) (kinds_in type_row.now) }
 {
     let end = kinds_end(type_row);
     let mut i: usize = 1;

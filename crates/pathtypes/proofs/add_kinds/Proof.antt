@@ -8,10 +8,10 @@ use Rattle.pathtypes.proofs.add_kinds.Statement.{statement}
 use Rattle.pathtypes.proofs.add_kinds.Tie as tie
 
 abbrev invariant-loop : tie.invariant-loop
-invariant-loop rows records₀ type_row_law end i₀ records i = Kinded rows records₀ type_row_law records i × (length records ≡ length records₀)
+invariant-loop rows records₀ type_row end i₀ records i = Kinded rows records₀ type_row records i × (length records ≡ length records₀)
 
 abbrev decreases-loop : tie.decreases-loop
-decreases-loop rows records₀ type_row_law end i₀ records i = end - i
+decreases-loop rows records₀ type_row end i₀ records i = end - i
 
 loop-holds : tie.Need-loop-init invariant-loop decreases-loop
 loop-holds c = (search kinded_start, search rules)

@@ -6,10 +6,10 @@ use Rattle.rules.proofs.add_kinds.Statement.{statement}
 use Rattle.rules.proofs.add_kinds.Tie as tie
 
 abbrev invariant-loop : tie.invariant-loop
-invariant-loop kinds₀ type_row_law end i₀ kinds i = Adding type_row_law kinds i
+invariant-loop kinds₀ type_row end i₀ kinds i = Adding type_row kinds i
 
 abbrev decreases-loop : tie.decreases-loop
-decreases-loop kinds₀ type_row_law end i₀ kinds i = end - i
+decreases-loop kinds₀ type_row end i₀ kinds i = end - i
 
 loop-holds : tie.Need-loop-init invariant-loop decreases-loop
 loop-holds c = search adding_start

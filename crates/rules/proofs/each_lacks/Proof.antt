@@ -10,10 +10,10 @@ use Rattle.rules.proofs.each_lacks.Statement.{statement}
 use Rattle.rules.proofs.each_lacks.Tie as tie
 
 abbrev invariant-loop : tie.invariant-loop
-invariant-loop rows text type_row_law found₀ end i₀ found i = Each (lacking rows text) type_row_law i × From found 0 (type_lacks rows text) × (length found ≡ TYPE_WORDS)
+invariant-loop rows text type_row found₀ end i₀ found i = Each (lacking rows text) type_row i × From found 0 (type_lacks rows text) × (length found ≡ TYPE_WORDS)
 
 abbrev decreases-loop : tie.decreases-loop
-decreases-loop rows text type_row_law found₀ end i₀ found i = end - i
+decreases-loop rows text type_row found₀ end i₀ found i = end - i
 
 loop-holds : tie.Need-loop-init invariant-loop decreases-loop
 loop-holds c = (search each_start, search found_none, search rules)

@@ -7,10 +7,10 @@ use Rattle.rules.proofs.pair_with.Statement.{statement}
 use Rattle.rules.proofs.pair_with.Tie as tie
 
 abbrev invariant-loop : tie.invariant-loop
-invariant-loop rows type_row_law kinds kind q i₀ i = Pairing rows type_row_law kind q i
+invariant-loop rows type_row kinds kind q i₀ i = Pairing rows type_row kind q i
 
 abbrev decreases-loop : tie.decreases-loop
-decreases-loop rows type_row_law kinds kind q i₀ i = length q - i
+decreases-loop rows type_row kinds kind q i₀ i = length q - i
 
 returns : tie.Need-returns invariant-loop decreases-loop
 returns c = search pair_own

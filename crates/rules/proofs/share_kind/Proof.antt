@@ -7,10 +7,10 @@ use Rattle.rules.proofs.share_kind.Statement.{statement}
 use Rattle.rules.proofs.share_kind.Tie as tie
 
 abbrev invariant-loop : tie.invariant-loop
-invariant-loop type_row_law other_row kinds end i₀ i = Some (kind_in other_row) type_row_law i
+invariant-loop type_row other_row kinds end i₀ i = Some (kind_in other_row) type_row i
 
 abbrev decreases-loop : tie.decreases-loop
-decreases-loop type_row_law other_row kinds end i₀ i = end - i
+decreases-loop type_row other_row kinds end i₀ i = end - i
 
 loop-holds : tie.Need-loop-init invariant-loop decreases-loop
 loop-holds c = search some_start

@@ -7,10 +7,10 @@ use Rattle.rules.proofs.some_pair.Statement.{statement}
 use Rattle.rules.proofs.some_pair.Tie as tie
 
 abbrev invariant-loop : tie.invariant-loop
-invariant-loop rows type_row_law other_row kinds end i₀ i = Some (pair_with rows other_row) type_row_law i
+invariant-loop rows type_row other_row kinds end i₀ i = Some (pair_with rows other_row) type_row i
 
 abbrev decreases-loop : tie.decreases-loop
-decreases-loop rows type_row_law other_row kinds end i₀ i = end - i
+decreases-loop rows type_row other_row kinds end i₀ i = end - i
 
 loop-holds : tie.Need-loop-init invariant-loop decreases-loop
 loop-holds c = search some_start

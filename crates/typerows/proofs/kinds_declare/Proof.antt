@@ -11,11 +11,11 @@ use Rattle.typerows.proofs.kinds_declare.Statement.{statement}
 use Rattle.typerows.proofs.kinds_declare.Tie as tie
 
 abbrev invariant-loop : tie.invariant-loop
-invariant-loop rows type_row_law text own seen₀ end i₀ seen i =
-    Kinds (of_kind rows (declares_as rows text own)) type_row_law i × Each seen (of_record rows (declares_as rows text own)) × (length seen ≡ TYPE_WORDS)
+invariant-loop rows type_row text own seen₀ end i₀ seen i =
+    Kinds (of_kind rows (declares_as rows text own)) type_row i × Each seen (of_record rows (declares_as rows text own)) × (length seen ≡ TYPE_WORDS)
 
 abbrev decreases-loop : tie.decreases-loop
-decreases-loop rows type_row_law text own seen₀ end i₀ seen i = end - i
+decreases-loop rows type_row text own seen₀ end i₀ seen i = end - i
 
 loop-holds : tie.Need-loop-init invariant-loop decreases-loop
 loop-holds c = (search kinds_start, search records_none, search rules)

@@ -7,10 +7,10 @@ use Rattle.typerows.proofs.kinds_have.Statement.{statement}
 use Rattle.typerows.proofs.kinds_have.Tie as tie
 
 abbrev invariant-loop : tie.invariant-loop
-invariant-loop rows type_row_law end i₀ i = Kinds (of_kind rows always) type_row_law i
+invariant-loop rows type_row end i₀ i = Kinds (of_kind rows always) type_row i
 
 abbrev decreases-loop : tie.decreases-loop
-decreases-loop rows type_row_law end i₀ i = end - i
+decreases-loop rows type_row end i₀ i = end - i
 
 loop-holds : tie.Need-loop-init invariant-loop decreases-loop
 loop-holds c = search kinds_start

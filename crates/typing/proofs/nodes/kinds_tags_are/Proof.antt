@@ -7,10 +7,10 @@ use Rattle.typing.proofs.nodes.kinds_tags_are.Statement.{statement}
 use Rattle.typing.proofs.nodes.kinds_tags_are.Tie as tie
 
 abbrev invariant-loop : tie.invariant-loop
-invariant-loop rows type_row_law ty end i₀ i = Kinds (tags_are rows ty) type_row_law i
+invariant-loop rows type_row ty end i₀ i = Kinds (tags_are rows ty) type_row i
 
 abbrev decreases-loop : tie.decreases-loop
-decreases-loop rows type_row_law ty end i₀ i = end - i
+decreases-loop rows type_row ty end i₀ i = end - i
 
 loop-holds : tie.Need-loop-init invariant-loop decreases-loop
 loop-holds c = search kinds_start
