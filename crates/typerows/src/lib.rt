@@ -1,4 +1,6 @@
 // Types, shapes, kinds and the request, by their numbers.
+#![tactic(auto)]
+
 ghost use Rattle.std.specs.Prelude.{◌≡◌, ◌||◌, eqb};
 ghost use Rattle.sheet.specs.Typing.{all_in};
 ghost use Rattle.fits.specs.Fit.{found_in, kinds_in};
