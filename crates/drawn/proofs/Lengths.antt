@@ -9,7 +9,7 @@ use Rattle.sheet.specs.Bytes.{digits}
 use Rattle.sheet.specs.Answer.{concat, printed}
 use Rattle.sheet.proofs.answer.ItemBytes.{weigh}
 use Rattle.sheet.proofs.answer.AnswerLength.{digits_few, printed_most, concat_length}
-use Rattle.drawn.specs.TestLoad.{Drawn, drawn, head_texts, head_rest, id_lines, tree_lines, nodes_in, nodes_from, effect_as, root_after, policies_from, sheet_of, load}
+use Rattle.drawn.specs.TestLoad.{Drawn, drawn, next, head_texts, head_rest, id_lines, tree_lines, nodes_in, nodes_from, effect_as, root_after, policies_from, sheet_of, load}
 
 ids_few : (i n : ℕ) → length (concat (id_lines i n)) ≤ 27 * n
 ids_few i zero = omega arith
@@ -67,7 +67,7 @@ policies_few i k (d ∷ ds) =
 
 pub drawn_many : (s n : ℕ) → length (drawn s n) ≡ n
 drawn_many s zero = refl
-drawn_many s (suc n) = ap suc (drawn_many _ n)
+drawn_many s (suc n) = ap suc (drawn_many (next (next s)) n)
 
 texts_long : length head_texts ≡ 71
 unfolding head_texts
