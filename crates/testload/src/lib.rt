@@ -1,5 +1,7 @@
 // The call `load`: the sheet that a seed and a number of policies name, a test load that all can repeat. It is printed draw by draw into a
 // buffer that the caller lends. No work slices are lent, and nothing is asked of what is given.
+#![tactic(auto)]
+
 ghost use Rattle.std.specs.Prelude.{◌≡◌, ◌≤◌, [], ◌∷◌, ◌++◌};
 ghost use Rattle.print.specs.Written.{Written};
 ghost use Rattle.sheet.specs.Bytes.{digits};

@@ -1,23 +1,27 @@
-use Rattle.std.proofs.Common.{rules, ◌≡◌, ◌≤◌, [], ◌∷◌, ◌++◌, ℕ, ◌+◌, ◌-◌, ◌*◌, ◌<◌, length, ◌/◌, ◌%◌, Bool, true, false, nat_eq, nat_lt, List, slice_index_or, slice_set, bit_and, bit_or, Fits, w8, w32, w64, Bor, MutBor}
-use Rattle.print.specs.Written.{Written}
-use Rattle.sheet.specs.Bytes.{digits}
-use Rattle.sheet.specs.Answer.{concat, printed}
-use Rattle.drawn.specs.TestLoad.{next, drawn, id_lines, tree_lines, nodes_in, nodes_from, effect_as, policies_from, load}
-use Rattle.testload.specs.Loaded.{Loaded, Draws}
+-- `testload::load` meets its contract. Assumes nothing.
+use Rattle.std.proofs.Common.{◌++◌}
+use Rattle.drawn.specs.TestLoad.{load}
+use Rattle.print.proofs.Sending.{send_short, send_whole}
+use Rattle.testload.proofs.Calling.{counted, load_none, load_many, load_sent}
 use Rattle.testload.proofs.load.Goals as goal
 
--- src/lib.rt:208:9
 pub returns-then-policies-lt1 : goal.returns-then-policies-lt1
-returns-then-policies-lt1 c = ?
+returns-then-policies-lt1 c = let x = c.args in load_none x.seed x.policies x.out.now c.if-policies-lt1.true
 
--- src/lib.rt:215:9
 pub returns-then-policies-gt-MOST : goal.returns-then-policies-gt-MOST
-returns-then-policies-gt-MOST c = ?
+returns-then-policies-gt-MOST c = let x = c.args in load_many x.seed x.policies x.out.now c.if-policies-gt-MOST.true
 
--- src/lib.rt:224:9
 pub returns-then-out-n : goal.returns-then-out-n
-returns-then-out-n c = ?
+returns-then-out-n c = let x = c.args in
+    let g = c.if-policies-gt-MOST.false in
+    let w = c.sheet-n in
+    load_sent x.seed x.policies x.out.now 10 w.result (w.new.out ++ x.out.now) c.if-policies-lt1.false g
+    (send_short (load x.seed x.policies) x.out.now w.new.out w.result w.ensures (counted x.seed x.policies g) c.if-out-n.true)
 
--- src/lib.rt:204:1
 pub returns : goal.returns
-returns c = ?
+returns c = let x = c.args in
+    let g = c.if-policies-gt-MOST.false in
+    let w = c.sheet-n in
+    let v = c.sheet in
+    load_sent x.seed x.policies x.out.now 0 w.result v.new.out c.if-policies-lt1.false g
+    (send_whole (load x.seed x.policies) x.out.now w.new.out w.result w.ensures (counted x.seed x.policies g) v.new.out v.result c.if-out-n.false v.ensures)
