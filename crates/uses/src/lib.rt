@@ -1,4 +1,6 @@
 // The nodes under a node, and the uses of nodes.
+#![tactic(auto)]
+
 ghost use Rattle.std.specs.Prelude.{◌≡◌, [], ◌+◌, eqb};
 ghost use Rattle.sheet.specs.Forms.{key_of, keep, refs, NODE};
 ghost use Rattle.forms.specs.Rows.{OF_NODE};
