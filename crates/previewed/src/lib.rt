@@ -1,1 +1,3 @@
+#![tactic(auto)]
+
 // No code: what a preview answers, and the theorems on it.
