@@ -1,7 +1,7 @@
 -- The theorems on a sheet with every key: a template with two links, two terms, a policy off term, entities with parents, a known context.
 -- Principal and resource are unknown: the broker b7, text 7, is permitted, b9, text 8, is not.
 use mathlib.Core.Path.{◌≡◌, refl, subst}
-use mathlib.Core.Bool.{true, false}
+use mathlib.Core.Bool.{true}
 use mathlib.Core.List.{List, [], ◌∷◌}
 use Prim.Native.Nat.{ℕ, ◌≤◌}
 use native.Mathlib.Omega.{arith}
