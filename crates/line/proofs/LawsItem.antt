@@ -15,7 +15,7 @@ use lib.Seq.{lt-length-set, take-set-le, drop-set-lt, drop-cons, get_or-set_same
 use Rattle.sheet.specs.Ascii.{ascii}
 use Rattle.words.specs.Log.{part, room}
 use Rattle.sheet.specs.Bytes.{same, split, index, long, date}
-use Rattle.sheet.specs.Forms.{Slot, partial, complete, word, day, entry, line, line_or, line_unknown, number, nothing, dash, asterisk, mark, place_in, word_number, one, mark_or, is_partial, item}
+use Rattle.sheet.specs.Forms.{Slot, word, day, entry, line, line_or, line_unknown, number, nothing, dash, asterisk, mark, place_in, word_number, one, mark_or, is_partial, item}
 use Rattle.scan.specs.declared.Number as N
 use Rattle.scan.specs.declared.Cursor.{Cursor}
 use Rattle.scan.specs.declared.Item as I

@@ -139,7 +139,7 @@ module _ (s : List ℕ) (c : Cursor) (h : c.at ≤ length s) (d : C.Counted) (hd
         row_of_node m =
             let y : items_at s c ≡ first ∷ part s typed_at.at e ∷ items_at s last = told.item.items ∙ ap (λ (l : List (List ℕ)). first ∷ l) second.items in
             let z : t ≡ tag_of NODE (part s typed_at.at e) = ht ∙ ap (tag_of NODE) hf in
-            rw (y, ← z) refl
+            rw y (ap (λ (n : ℕ). row_for m n (first ∷ items_at s last)) (sym z))
 
         tag : NodeTag f t
         tag = node_tag f t ht
