@@ -11,8 +11,8 @@ use lib.ListN.{length, get_or, drop, drop_of_length-le}
 use lib.Seq.{drop-cons}
 use Rattle.cedar.specs.Numbered.{mem_n}
 use Rattle.sheet.specs.Bytes.{same}
-use Rattle.sheet.specs.Forms.{nothing, tag}
-use Rattle.sheet.specs.Sheet.{among, firsts}
+use Rattle.sheet.specs.Forms.{tag}
+use Rattle.sheet.specs.Sheet.{firsts}
 use Rattle.table.specs.Layout.{part, rows_of, text_row}
 use Rattle.table.proofs.Rows.{count_rows}
 use Rattle.forms.specs.Tags.{TEXT_LINE}

@@ -1,4 +1,6 @@
 // A row, a text or a name found again among the rows that the words hold.
+#![tactic(auto)]
+
 ghost use Rattle.std.specs.Prelude.{◌≡◌, ◌∷◌, ◌-◌, ◌≤◌, length, get_or};
 ghost use Rattle.cedar.specs.Numbered.{mem_n};
 ghost use Rattle.sheet.specs.Bytes.{same};
