@@ -1,4 +1,6 @@
 // Rows of residuals that are all values: a set or a record is made of such rows alone.
+#![tactic(auto)]
+
 ghost use Rattle.std.specs.Prelude.{◌≡◌};
 ghost use Rattle.valued.specs.Values.{all_values};
 
