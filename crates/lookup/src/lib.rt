@@ -1,5 +1,7 @@
 // Look-ups of entities and of the fields of records, by number: the line of an entity, its parts, and a text in a record. What get, has, in
 // and paths share. On a complete sheet an unlisted entity has nothing.
+#![tactic(auto)]
+
 ghost use Rattle.std.specs.Prelude.{◌≡◌, ◌+◌, ◌≤◌, get_or};
 ghost use Rattle.words.specs.Log.{part};
 ghost use Rattle.sheet.specs.Forms.{ENTITY};
