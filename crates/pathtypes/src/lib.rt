@@ -1,5 +1,7 @@
 // The typing of paths: the record types that the steps of a `haspath` reach, as a set of bits. A path of n steps over a group of k kinds has up to k^n
 // ways, so no way is followed alone.
+#![tactic(auto)]
+
 ghost use Rattle.std.specs.Prelude.{◌≡◌, true, ◌-◌, ◌*◌, ◌≤◌, ◌<◌, length, get_or, drop};
 ghost use Rattle.sheet.specs.Bytes.{same};
 ghost use Rattle.sheet.specs.Forms.{TYPE};
