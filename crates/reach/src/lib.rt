@@ -1,5 +1,7 @@
 // Entities reached through parents, over the rows in the lent words: a parent is noted where it is first met, and its line is marked and it is
 // queued until its own parents are met too. No line is expanded twice, and no set of parents.
+#![tactic(auto)]
+
 ghost use Rattle.std.specs.Prelude.{◌≡◌, not, ◌&&◌, ◌||◌, [], ◌∷◌, ◌+◌, ◌≤◌, ◌<◌, eqb, length, get_or, set};
 ghost use Rattle.sheet.specs.Forms.{VALUE, at};
 ghost use Rattle.sheet.specs.Parents.{parents_in};

@@ -1,0 +1,10 @@
+-- `reach::names_at` meets its contract. Assumes nothing.
+use Rattle.reach.proofs.Steps.{mark_none, names_some}
+use borrow.Author.Rules.{rules}
+use Rattle.reach.proofs.names_at.Goals as goal
+
+pub returns-then-read-eq0 : goal.returns-then-read-eq0
+returns-then-read-eq0 c = search (mark_none, rules)
+
+pub returns : goal.returns
+returns c = search (names_some, rules)

@@ -1,0 +1,16 @@
+-- `reach::place_of` meets its contract. Assumes nothing.
+use Rattle.reach.proofs.Steps.{place_end, place_hit, place_on, place_start}
+use borrow.Author.Rules.{rules}
+use Rattle.reach.proofs.place_of.Goals as goal
+
+pub loop-i-init : goal.loop-i-init
+loop-i-init c = search (place_start, rules)
+
+pub returns-then-item-value : goal.returns-then-item-value
+returns-then-item-value c = search (place_hit, rules)
+
+pub loop-i-preserved : goal.loop-i-preserved
+loop-i-preserved c = search (place_on, rules)
+
+pub returns : goal.returns
+returns c = search (place_end, rules)
