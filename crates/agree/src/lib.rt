@@ -1,5 +1,7 @@
 // Whether a partial and a complete sheet agree, by the rows of both in lent words: the first line of the complete sheet that breaks agreement.
 // The partial sheet has the bytes `partial` and the rows `rows`, the complete one the bytes `complete` and the rows `others`.
+#![tactic(auto)]
+
 ghost use Rattle.std.specs.Prelude.{◌≡◌, true, false, [], ◌+◌, eqb, get_or, drop};
 ghost use Rattle.cedar.specs.Value.{on_some};
 ghost use Rattle.sheet.specs.Bytes.{same};
