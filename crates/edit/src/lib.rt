@@ -1,5 +1,7 @@
 // A line of a sheet, and whether another may stand for it: one that fills unknown items of a request's or an entity's line and changes nothing
 // else of it.
+#![tactic(auto)]
+
 ghost use Rattle.std.specs.Prelude.{◌≡◌, ◌&&◌, ◌||◌, not, ◌+◌, drop};
 ghost use Rattle.print.specs.Written.{Written};
 ghost use Rattle.sheet.specs.Ascii.{ascii};
