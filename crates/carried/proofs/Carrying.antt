@@ -1,16 +1,13 @@
 -- The laws of the functions that carry values over, one for each way. Assumes nothing.
 use mathlib.Core.Path.{◌≡◌, refl, sym, ap, ap₂, ◌∙◌}
-use mathlib.Core.Bool.{Bool, true, false, cond}
 use mathlib.Core.List.{List, [], ◌∷◌}
-use Prim.Native.Nat.{ℕ, zero, suc, ◌+◌, ◌-◌, ◌≤◌, ◌<◌}
+use Prim.Native.Nat.{ℕ, suc, ◌+◌, ◌-◌, ◌≤◌, ◌<◌}
 use native.Mathlib.Omega.{arith}
 use native.Mathlib.Numerals.{add-one}
 use borrow.Author.Tests.{lt-ltb, le-ltb, eq-eqb, ne_eqb}
-use lib.Dec.{eqb, ltb}
 use lib.ListN.{length, get_or, take, drop, set}
-use lib.Seq.{take-length, length-take-le}
 use Rattle.words.specs.Log.{part, Room, Holds, Appended, appended, pushed}
-use Rattle.words.proofs.Logs.{append_holds, append_room, append_length, log_length}
+use Rattle.words.proofs.Logs.{append_holds, append_room}
 use Rattle.sheet.specs.Forms.{tag, VALUE}
 use Rattle.forms.specs.Tags.{SET_VALUE, RECORD_VALUE}
 use Rattle.table.specs.Layout.{rows_of, MADE}

@@ -1,5 +1,7 @@
 // The values that one sheet's run made, among the values of another sheet that begins with the same ones: each is found there by its
 // content, or made. A number of the one sheet then has a number there.
+#![tactic(auto)]
+
 ghost use Rattle.std.specs.Prelude.{◌≡◌, [], ◌≤◌, length, take, drop};
 ghost use Rattle.words.specs.Log.{Room, Holds};
 ghost use Rattle.value.specs.Made.{Made};
