@@ -3,19 +3,21 @@
 // promised, then the answer.
 // Standard input: the number of records; a record is a line `name,entry,sheet,first,second,buffer` (the bytes of its name, 0 partial
 // or 1 complete, the bytes of the sheet, the words of each work slice, the bytes of the buffer), then its name and its sheet.
+#![tactic(auto)]
+
 use scan::front;
 use trial::{call, number, report, take};
 
-fn run(entry: usize, sheet: &[u8], a: &mut [u32], b: &mut [u32], out: &mut [u8]) {
+fn run(rt: &impl Print, entry: usize, sheet: &[u8], a: &mut [u32], b: &mut [u32], out: &mut [u8]) {
     let r = call(entry, sheet, a, b, out);
-    report(r, a, b, out);
+    report(rt, r, a, b, out);
 }
 
 // Slices and a buffer of the lengths that the record says.
-fn lend(entry: usize, sheet: &[u8], first: usize, second: usize, buffer: usize) {
+fn lend(rt: &impl Print, entry: usize, sheet: &[u8], first: usize, second: usize, buffer: usize) {
     let mut a = [0u32; 16400];
     let mut b = [0u32; 16400];
-    let mut out = io::large_buffer();
+    let mut out = [0u8; 65536];
     if first > 16400 {
         return;
     }
@@ -26,6 +28,7 @@ fn lend(entry: usize, sheet: &[u8], first: usize, second: usize, buffer: usize) 
         return;
     }
     run(
+        rt,
         entry,
         sheet,
         &mut a[0..first],
@@ -34,26 +37,26 @@ fn lend(entry: usize, sheet: &[u8], first: usize, second: usize, buffer: usize) 
     );
 }
 
-fn record() {
-    let named = number();
-    let entry = number();
-    let size = number();
-    let first = number();
-    let second = number();
-    let buffer = number();
+fn record(rt: &(impl Input + Print)) {
+    let named = number(rt);
+    let entry = number(rt);
+    let size = number(rt);
+    let first = number(rt);
+    let second = number(rt);
+    let buffer = number(rt);
     let mut name = [0u8; 64];
-    take(&mut name, named);
-    io::write_all(1, front(&name, named));
+    take(rt, &mut name, named);
+    let _ = rt.write_all(front(&name, named));
     let mut sheet = [0u8; 16400];
-    take(&mut sheet, size);
-    lend(entry, front(&sheet, size), first, second, buffer);
+    take(rt, &mut sheet, size);
+    lend(rt, entry, front(&sheet, size), first, second, buffer);
 }
 
-fn main() {
-    let n = number();
+fn main(rt: HostRuntime) {
+    let n = number(&rt);
     let mut i = 0;
     while i < n {
-        record();
+        record(&rt);
         i += 1;
     }
 }

@@ -1,22 +1,29 @@
 // The program: without a word, a sheet on standard input, the answer or its refusal on standard output; with a word, what `help` lists. Of
 // what is read the first 16,385 bytes of each sheet matter (proofs/Input.antt). What is proved of it: it is safe, it ends, and the bytes that
-// it hands to `io::write_all` for the bytes that `io::read_full` gave are those that `answer`, `finished`, `paged`, `previewed`, `quoted` and
-// `loaded` promise. No contract can speak of what C's read and write move. A program has no status to end with: what cannot be done is said on standard
+// it hands to standard output for the bytes that `streams::read_full` gave are those that `answer`, `finished`, `paged`, `previewed`, `quoted` and
+// `loaded` promise. No contract can speak of what the system's read and write move. The status is 0 always: what cannot be done is said on standard
 // error.
+#![tactic(auto)]
+
 ghost use Rattle.std.specs.Prelude.{◌≡◌, ◌≤◌, ◌<◌, length};
 ghost use Rattle.authorizer.specs.Called.{Called};
 ghost use Rattle.firm.specs.Parts.{rows_in};
 ghost use Rattle.firm.specs.Words.{rows_of_words};
 ghost use Rattle.wording.specs.Worded.{entry_of};
+ghost use Rattle.streams.specs.Filled.{IsPrefixLen};
 ghost use Rattle.openrules.specs.Shown.{shown, shown_finished, shown_page, shown_preview, shown_firm, shown_load, Shows};
 
 use authorizer::{Returned, complete, partial};
 use finish::finish;
 use firm::{ROW, firm_in_words};
-use libc::{STDERR_FILENO, STDIN_FILENO, STDOUT_FILENO};
 use page::page;
 use preview::preview;
 use scan::{Number, find, front, rest, same_bytes};
+use std::env::{Env, FillError};
+use std::fs::File;
+use std::io::{Error, ErrorKind, Read};
+use std::{fs, io, str};
+use streams::read_full;
 use testload::load;
 use wording::{at_most, number_of, quote_lines, refused, says_complete};
 use words::{ROOM, store};
@@ -167,117 +174,161 @@ const PAIR: usize = 41;
 // The bytes of what may stand at one place on a command line.
 const ARGUMENT: usize = 131072;
 
+// The bytes of a file's name.
+const PATH: usize = 4096;
+
+// How much of a command line is counted: as much as has the rows that are read.
+const COUNTED: usize = 67;
+
+// What stands at place `i` on the command line at the start of the buffer, and its length: 0 where nothing stands there or the buffer has no room.
+fn argument(rt: &impl Env, i: usize, buffer: &mut [u8]) -> usize
+    ensures { IsPrefixLen result buffer.new }
+{
+    match rt.arg(i, buffer) {
+        Ok(n) => n,
+        Err(_) => 0,
+    }
+}
+
+// How many things stand on the command line, the program's own name among them, up to `COUNTED`.
+fn argument_count(rt: &impl Env) -> usize
+    ensures { result ≤ 67 }
+{
+    for i in 0..COUNTED {
+        let mut none = [0u8; 0];
+        if let Err(FillError::NotPresent) = rt.arg(i, &mut none) {
+            return i;
+        }
+    }
+    COUNTED
+}
+
 // The words, on standard output or standard error.
-fn help(to: i32) {
-    io::write_all(
-        to,
+fn help(to: &impl Print) {
+    let _ = to.write_all(
         b"openrules < SHEET                    the answer to a sheet\n",
     );
-    io::write_all(
-        to,
+    let _ = to.write_all(
         b"openrules finish PARTIAL < COMPLETE  what the partial sheet's residuals give on the complete sheet\n",
     );
-    io::write_all(
-        to,
+    let _ = to.write_all(
         b"openrules page < SHEET               the counter page of a partial sheet\n",
     );
-    io::write_all(
-        to,
+    let _ = to.write_all(
         b"openrules preview LINE NEW < SHEET   the answer to a partial sheet with the line NEW in the place of line LINE\n",
     );
-    io::write_all(
-        to,
+    let _ = to.write_all(
         b"openrules firm P,R P,R .. < SHEET    the decisions on a partial sheet for rows of a principal text and a resource text, and the group's\n",
     );
-    io::write_all(
-        to,
+    let _ = to.write_all(
         b"openrules load SEED POLICIES         the test load that a seed and 1 to 64 policies name, a sheet\n",
     );
-    io::write_all(to, b"openrules help                       these words\n");
+    let _ = to.write_all(b"openrules help                       these words\n");
 }
 
 // No word: a sheet.
-fn print_answer() {
+fn print_answer(rt: &(impl Input + Print)) {
     let mut input = [0u8; INPUT];
-    let n = io::read_full(STDIN_FILENO, &mut input);
+    let n = read_full(&mut rt.reader(), &mut input);
     let mut out = [0u8; SPACE];
     let k = answer(&input[..n], &mut out);
-    io::write_all(STDOUT_FILENO, &out[..k]);
+    let _ = rt.write_all(&out[..k]);
 }
 
 // `page`
-fn print_page() {
+fn print_page(rt: &(impl Input + Print)) {
     let mut input = [0u8; INPUT];
-    let n = io::read_full(STDIN_FILENO, &mut input);
+    let n = read_full(&mut rt.reader(), &mut input);
     let mut out = [0u8; SPACE];
     let k = paged(&input[..n], &mut out);
-    io::write_all(STDOUT_FILENO, &out[..k]);
+    let _ = rt.write_all(&out[..k]);
 }
 
 // The partial sheet from an open file, the complete one from standard input.
-fn print_finished(file: i32) {
+fn print_finished(rt: &(impl Input + Print), file: &mut impl Read) {
     let mut first = [0u8; INPUT];
-    let n = io::read_full(file, &mut first);
+    let n = read_full(file, &mut first);
     let mut second = [0u8; INPUT];
-    let m = io::read_full(STDIN_FILENO, &mut second);
+    let m = read_full(&mut rt.reader(), &mut second);
     let mut out = [0u8; SPACE];
     let k = finished(&first[..n], &second[..m], &mut out);
-    io::write_all(STDOUT_FILENO, &out[..k]);
+    let _ = rt.write_all(&out[..k]);
+}
+
+// The file of a name, opened for reading. A name is text in UTF-8 to std.
+fn open(rt: &HostRuntime, path: &[u8]) -> io::Result<File> {
+    match str::from_utf8(path) {
+        Ok(name) => fs::open(rt, name),
+        Err(_) => Err(Error::new(ErrorKind::InvalidInput, "a name that is not UTF-8")),
+    }
+}
+
+// The system's words for an error, without its number for it.
+fn without_number(text: &str) -> &str {
+    text.split(" (os error ").next().unwrap_or(text)
+}
+
+// A line on standard error: what failed, a colon and why.
+fn fail(rt: &HostRuntime, what: &[u8], error: Error) {
+    let to = rt.stderr();
+    let _ = to.write_all(what);
+    let _ = to.write_all(b": ");
+    if let Ok(text) = format!(in rt.alloc(); "{error}") {
+        let _ = to.write_all(without_number(text.as_str()).as_bytes());
+    }
+    let _ = to.write_all(b"\n");
 }
 
 // `finish PARTIAL`
-fn finish_word() {
-    let mut path = io::buffer();
-    let n = os::arg(NAME, &mut path);
-    let file = os::open_read(&path[..n]);
-    if file < 0 {
-        os::fail(&path[..n]);
-        return;
+fn finish_word(rt: &HostRuntime) {
+    let mut path = [0u8; PATH];
+    let n = argument(rt, NAME, &mut path);
+    match open(rt, &path[..n]) {
+        Ok(mut file) => print_finished(rt, &mut file),
+        Err(error) => fail(rt, &path[..n], error),
     }
-    print_finished(file);
-    libc::close(file);
 }
 
 // The test load of two numbers.
-fn print_load(seed: u64, policies: u64) {
+fn print_load(rt: &impl Print, seed: u64, policies: u64) {
     let mut out = [0u8; SPACE];
     let k = loaded(seed, policies, &mut out);
-    io::write_all(STDOUT_FILENO, &out[..k]);
+    let _ = rt.write_all(&out[..k]);
 }
 
 // Number `i` on the command line.
-fn number_at(i: usize) -> Number {
+fn number_at(rt: &impl Env, i: usize) -> Number {
     let mut word = [0u8; DIGITS];
-    let n = os::arg(i, &mut word);
+    let n = argument(rt, i, &mut word);
     number_of(&word[..n])
 }
 
 // The partial sheet from standard input, with one line replaced.
-fn print_preview(line: usize, new: &[u8]) {
+fn print_preview(rt: &(impl Input + Print), line: usize, new: &[u8]) {
     let mut input = [0u8; INPUT];
-    let n = io::read_full(STDIN_FILENO, &mut input);
+    let n = read_full(&mut rt.reader(), &mut input);
     let mut out = [0u8; SPACE];
     let k = previewed(&input[..n], line, new, &mut out);
-    io::write_all(STDOUT_FILENO, &out[..k]);
+    let _ = rt.write_all(&out[..k]);
 }
 
 // `preview LINE REPLACEMENT`
-fn preview_word() {
-    let Number::Value(line) = number_at(LINE) else {
-        help(STDERR_FILENO);
+fn preview_word(rt: &HostRuntime) {
+    let Number::Value(line) = number_at(rt, LINE) else {
+        help(&rt.stderr());
         return;
     };
     let mut new = [0u8; ARGUMENT];
-    let n = os::arg(REPLACEMENT, &mut new);
-    print_preview(line as usize, &new[..n]);
+    let n = argument(rt, REPLACEMENT, &mut new);
+    print_preview(rt, line as usize, &new[..n]);
 }
 
 // Row `i` on the command line into its words, and whether it is one: two numbers with a comma between them.
-fn row_at(i: usize, rows: &mut [u32]) -> bool
+fn row_at(rt: &impl Env, i: usize, rows: &mut [u32]) -> bool
     requires { i < 65 }
 {
     let mut word = [0u8; PAIR];
-    let n = os::arg(FIRST_ROW + i, &mut word);
+    let n = argument(rt, FIRST_ROW + i, &mut word);
     let pair = &word[..n];
     let comma = find(pair, 0, b',');
     if comma >= n {
@@ -295,12 +346,12 @@ fn row_at(i: usize, rows: &mut [u32]) -> bool
 }
 
 // The first `n` rows into their words, and whether all are rows.
-fn rows_at(n: usize, rows: &mut [u32]) -> bool
+fn rows_at(rt: &impl Env, n: usize, rows: &mut [u32]) -> bool
     requires { n ≤ 65 }
 {
     let mut i = 0;
     while i < n {
-        if !row_at(i, rows) {
+        if !row_at(rt, i, rows) {
             return false;
         }
         i += 1;
@@ -309,10 +360,10 @@ fn rows_at(n: usize, rows: &mut [u32]) -> bool
 }
 
 // How many rows are read.
-fn rows_given() -> usize
+fn rows_given(rt: &impl Env) -> usize
     ensures { result ≤ 65 }
 {
-    let n = os::arg_count();
+    let n = argument_count(rt);
     if n < FIRST_ROW {
         return 0;
     }
@@ -323,86 +374,91 @@ fn rows_given() -> usize
 }
 
 // The partial sheet from standard input, with these rows.
-fn print_firm(rows: &mut [u32]) {
+fn print_firm(rt: &(impl Input + Print), rows: &mut [u32]) {
     let mut input = [0u8; INPUT];
-    let n = io::read_full(STDIN_FILENO, &mut input);
+    let n = read_full(&mut rt.reader(), &mut input);
     let mut out = [0u8; SPACE];
     let k = quoted(rows, &input[..n], &mut out);
-    io::write_all(STDOUT_FILENO, &out[..k]);
+    let _ = rt.write_all(&out[..k]);
 }
 
 // `firm P,R P,R ..`
-fn firm_word() {
-    let n = rows_given();
+fn firm_word(rt: &HostRuntime) {
+    let n = rows_given(rt);
     let mut rows = [0u32; ROWS * ROW];
-    if !rows_at(n, &mut rows) {
-        help(STDERR_FILENO);
+    if !rows_at(rt, n, &mut rows) {
+        help(&rt.stderr());
         return;
     }
-    print_firm(&mut rows[..n * ROW]);
+    print_firm(rt, &mut rows[..n * ROW]);
 }
 
 // `load SEED POLICIES`
-fn load_word() {
-    let Number::Value(seed) = number_at(SEED) else {
-        help(STDERR_FILENO);
+fn load_word(rt: &HostRuntime) {
+    let Number::Value(seed) = number_at(rt, SEED) else {
+        help(&rt.stderr());
         return;
     };
-    let Number::Value(policies) = number_at(POLICIES) else {
-        help(STDERR_FILENO);
+    let Number::Value(policies) = number_at(rt, POLICIES) else {
+        help(&rt.stderr());
         return;
     };
-    print_load(seed, policies);
+    print_load(rt, seed, policies);
 }
 
 // One word alone.
-fn lone_word(word: &[u8]) {
+fn lone_word(rt: &HostRuntime, word: &[u8]) {
     if same_bytes(word, b"help") {
-        help(STDOUT_FILENO);
+        help(&rt.stdout());
         return;
     }
     if same_bytes(word, b"page") {
-        print_page();
+        print_page(rt);
         return;
     }
-    help(STDERR_FILENO);
+    help(&rt.stderr());
 }
 
 // A word and a name.
-fn named_word(word: &[u8]) {
+fn named_word(rt: &HostRuntime, word: &[u8]) {
     if same_bytes(word, b"finish") {
-        finish_word();
+        finish_word(rt);
         return;
     }
-    help(STDERR_FILENO);
+    help(&rt.stderr());
 }
 
 // A word, a number and one thing more.
-fn counted_word(word: &[u8]) {
+fn counted_word(rt: &HostRuntime, word: &[u8]) {
     if same_bytes(word, b"preview") {
-        preview_word();
+        preview_word(rt);
         return;
     }
     if same_bytes(word, b"load") {
-        load_word();
+        load_word(rt);
         return;
     }
-    help(STDERR_FILENO);
+    help(&rt.stderr());
 }
 
-fn main() {
+// What the word asks for.
+fn run(rt: &HostRuntime) {
     let mut word = [0u8; LETTERS];
-    let n = os::arg(WORD, &mut word);
+    let n = argument(rt, WORD, &mut word);
     if same_bytes(&word[..n], b"firm") {
-        firm_word();
+        firm_word(rt);
         return;
     }
-    match os::arg_count() {
-        NOTHING => print_answer(),
-        PROGRAM => print_answer(),
-        LONE_WORD => lone_word(&word[..n]),
-        NAMED_WORD => named_word(&word[..n]),
-        COUNTED_WORD => counted_word(&word[..n]),
-        _ => help(STDERR_FILENO),
+    match argument_count(rt) {
+        NOTHING => print_answer(rt),
+        PROGRAM => print_answer(rt),
+        LONE_WORD => lone_word(rt, &word[..n]),
+        NAMED_WORD => named_word(rt, &word[..n]),
+        COUNTED_WORD => counted_word(rt, &word[..n]),
+        _ => help(&rt.stderr()),
     }
+}
+
+fn main(rt: HostRuntime) {
+    run(&rt);
 }

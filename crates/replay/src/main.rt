@@ -2,6 +2,8 @@
 // agrees if number, line, length, every byte of the buffer and every word of both slices are what the record and the promise say.
 // Standard input: the number of records; a record is a line `entry,sheet,buffer,number,line,length`, then the bytes of the
 // sheet, then those of the answer where the number is 0.
+#![tactic(auto)]
+
 ghost use Rattle.std.specs.Prelude.{◌≤◌};
 
 use scan::{front, same_bytes};
@@ -51,7 +53,7 @@ fn agrees(
 fn lend(entry: usize, sheet: &[u8], wanted: Wanted, answer: &[u8], buffer: usize) -> bool {
     let mut a = [0u32; 16400];
     let mut b = [0u32; 16400];
-    let mut out = io::large_buffer();
+    let mut out = [0u8; 65536];
     if buffer > 65536 {
         return false;
     }
@@ -66,20 +68,20 @@ fn lend(entry: usize, sheet: &[u8], wanted: Wanted, answer: &[u8], buffer: usize
     )
 }
 
-fn record() -> bool {
-    let entry = number();
-    let size = number();
-    let buffer = number();
+fn record(rt: &impl Input) -> bool {
+    let entry = number(rt);
+    let size = number(rt);
+    let buffer = number(rt);
     let wanted = Wanted {
-        number: number(),
-        line: number(),
-        length: number(),
+        number: number(rt),
+        line: number(rt),
+        length: number(rt),
     };
     let mut sheet = [0u8; 16448];
-    take(&mut sheet, size);
-    let mut answer = io::large_buffer();
+    take(rt, &mut sheet, size);
+    let mut answer = [0u8; 65536];
     let n = written(wanted.number == 0, wanted.length);
-    take(&mut answer, n);
+    take(rt, &mut answer, n);
     lend(
         entry,
         front(&sheet, size),
@@ -106,28 +108,28 @@ fn earlier(first: usize, n: usize, i: usize, ok: bool) -> usize {
     i
 }
 
-fn report(agreed: usize, n: usize, first: usize) {
-    io::print_decimal(1, agreed as u64);
-    io::write_all(1, b" of ");
-    io::print_decimal(1, n as u64);
-    io::write_all(1, b" agree\n");
+fn report(rt: &impl Print, agreed: usize, n: usize, first: usize) {
+    let _ = rt.print(agreed as u64);
+    let _ = rt.write_all(b" of ");
+    let _ = rt.print(n as u64);
+    let _ = rt.write_all(b" agree\n");
     if first < n {
-        io::write_all(1, b"the first that does not, counted from 0: ");
-        io::print_decimal(1, first as u64);
-        io::write_all(1, b"\n");
+        let _ = rt.write_all(b"the first that does not, counted from 0: ");
+        let _ = rt.print(first as u64);
+        let _ = rt.write_all(b"\n");
     }
 }
 
-fn main() {
-    let n = number();
+fn main(rt: HostRuntime) {
+    let n = number(&rt);
     let mut agreed = 0;
     let mut first = n;
     let mut i = 0;
     while i < n {
-        let ok = record();
+        let ok = record(&rt);
         agreed += one_if(ok);
         first = earlier(first, n, i, ok);
         i += 1;
     }
-    report(agreed, n, first);
+    report(&rt, agreed, n, first);
 }

@@ -1,10 +1,13 @@
 // Calls tried by running: records from standard input, slices and buffers that hold a mark before a call and are looked at after it.
+#![tactic(auto)]
+
 ghost use Rattle.std.specs.Prelude.{◌≡◌, cond, ◌≤◌, length, drop};
 ghost use Rattle.authorizer.specs.Called.{Called};
 ghost use Rattle.trial.specs.Lent.{mark, marks, entry_of, every, words_kept, Taken};
 
 use authorizer::{Returned, complete, partial};
 use scan::{front, rest};
+use streams::read_full;
 use words::{ROOM, cut};
 
 // What stands in every lent word and byte before a call.
@@ -13,20 +16,20 @@ const MARK: u8 = 165;
 // ---- reading: what stands on standard input is free
 
 // The next byte, 0 after the last.
-fn next() -> u8 {
+fn next(rt: &impl Input) -> u8 {
     let mut b = [0u8; 1];
-    io::read_full(0, &mut b);
+    read_full(&mut rt.reader(), &mut b);
     b[0]
 }
 
 // The next number, of at most seven digits, with the byte after it.
-pub fn number() -> usize
+pub fn number(rt: &impl Input) -> usize
     ensures { result ≤ 9999999 }
 {
     let mut n: usize = 0;
     let mut i: u32 = 0;
     while i < 8 {
-        let b = next();
+        let b = next(rt);
         if b < 48 {
             return n;
         }
@@ -43,11 +46,11 @@ pub fn number() -> usize
 }
 
 // The next n bytes, at the start of the space.
-pub fn take(space: &mut [u8], n: usize)
+pub fn take(rt: &impl Input, space: &mut [u8], n: usize)
     ensures { Taken space.old n space.new }
 {
     if n <= space.len() {
-        io::read_full(0, &mut space[0..n]);
+        read_full(&mut rt.reader(), &mut space[0..n]);
     }
 }
 
@@ -154,31 +157,31 @@ pub fn bytes_kept(out: &[u8], from: usize) -> bool
 // ---- what is printed of it
 
 // A number after a text.
-fn show(text: &[u8], n: u64) {
-    io::write_all(1, text);
-    io::print_decimal(1, n);
+fn show(rt: &impl Print, text: &[u8], n: u64) {
+    let _ = rt.write_all(text);
+    let _ = rt.print(n);
 }
 
 // What was lent, and whether it came back as promised.
-fn came_back(lent: &[u8], kept: bool) {
-    io::write_all(1, lent);
+fn came_back(rt: &impl Print, lent: &[u8], kept: bool) {
+    let _ = rt.write_all(lent);
     if kept {
-        io::write_all(1, b" kept");
+        let _ = rt.write_all(b" kept");
     } else {
-        io::write_all(1, b" NOT KEPT");
+        let _ = rt.write_all(b" NOT KEPT");
     }
 }
 
 // A line with what a call returned, and whether what was lent came back as promised; then the answer. It only writes, and no contract can speak of
-// what C's write moves; what is written is held to the file `stdout` of the program that calls it.
-pub fn report(r: Returned, a: &[u32], b: &[u32], out: &[u8]) {
+// what the system's write moves; what is written is held to the file `stdout` of the program that calls it.
+pub fn report(rt: &impl Print, r: Returned, a: &[u32], b: &[u32], out: &[u8]) {
     let n = written(r.number == 0, r.length);
-    show(b": ", r.number as u64);
-    show(b",", r.line as u64);
-    show(b",", r.length as u64);
-    came_back(b"; first slice", words_kept(r.number, a));
-    came_back(b", second slice", words_kept(r.number, b));
-    came_back(b", buffer", bytes_kept(out, n));
-    io::write_all(1, b"\n");
-    io::write_all(1, front(out, n));
+    show(rt, b": ", r.number as u64);
+    show(rt, b",", r.line as u64);
+    show(rt, b",", r.length as u64);
+    came_back(rt, b"; first slice", words_kept(r.number, a));
+    came_back(rt, b", second slice", words_kept(r.number, b));
+    came_back(rt, b", buffer", bytes_kept(out, n));
+    let _ = rt.write_all(b"\n");
+    let _ = rt.write_all(front(out, n));
 }
