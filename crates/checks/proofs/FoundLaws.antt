@@ -10,7 +10,7 @@ use lib.Dec.{leb, ltb}
 use lib.ListN.{length, get_or, length-drop}
 use lib.Seq.{get_or-drop}
 use Rattle.cedar.specs.Numbered.{mem_n}
-use Rattle.sheet.specs.Forms.{nothing, Form, forms, form_of, no_form, tag, items, at, every_from, refs, ascendings, TEXT, KIND, TYPE, VALUE, ENTITY, NODE, POLICY, LINK, TERM, no_key}
+use Rattle.sheet.specs.Forms.{Form, forms, form_of, no_form, tag, items, at, every_from, refs, ascendings, TEXT, KIND, TYPE, VALUE, ENTITY, NODE, POLICY, LINK, TERM, no_key}
 use Rattle.sheet.specs.State.{line_at, count}
 use Rattle.sheet.specs.Sheet.{all_there, ascend, among, firsts, above, new_type, slot_given, term_goes, fresh, found, deepest, depth}
 use Rattle.table.specs.Layout.{held, rows_of}

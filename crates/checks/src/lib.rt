@@ -1,4 +1,6 @@
 // The checks of one row against the rows that the words hold: limits, references, repeats, order, depth.
+#![tactic(auto)]
+
 ghost use Rattle.std.specs.Prelude.{◌≡◌, [], true, cond, ◌&&◌, not, ◌≤◌, ◌<◌, eqb, length};
 ghost use Rattle.sheet.specs.Forms.{key_of, ascendings, mark, no_key, TEXT, TYPE, NODE, LINK, TERM};
 ghost use Rattle.sheet.specs.State.{type_row};

@@ -1,0 +1,14 @@
+-- `checks::is_link` meets its contract. Assumes nothing.
+use native.Mathlib.Omega.{arith}
+use Rattle.checks.proofs.LinkLaws.{link_below, link_above}
+use borrow.Author.Rules.{rules}
+use Rattle.checks.proofs.is_link.Goals as goal
+
+pub is_above-requires : goal.is_above-requires
+is_above-requires c = (λ q. absurd (omega arith), omega arith)
+
+pub returns-then-not-is_above : goal.returns-then-not-is_above
+returns-then-not-is_above c = search (link_below, rules)
+
+pub returns : goal.returns
+returns c = search (link_above, rules)
