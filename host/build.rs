@@ -31,14 +31,14 @@ fn main() {
     }
 }
 
-/// Links libopenrules_c.a, from the folder or file that OPENRULES_LIB names, else from the place where `rt staticlib openrules_c` writes it.
+/// Links libopenrules_c.a, from the folder or file that OPENRULES_LIB names, else from the place where `scripts/build.sh library` puts it.
 fn link_library() {
     let here = PathBuf::from(env::var("CARGO_MANIFEST_DIR").unwrap());
     let place = env::var("OPENRULES_LIB").map(PathBuf::from).unwrap_or(here.join("../target/staticlib"));
     let folder = if place.is_file() { place.parent().unwrap().to_path_buf() } else { place };
     if !folder.join("libopenrules_c.a").is_file() {
         panic!(
-            "The feature `library` needs libopenrules_c.a in {} (set OPENRULES_LIB, or run `rt staticlib openrules_c`).",
+            "The feature `library` needs libopenrules_c.a in {} (set OPENRULES_LIB, or run `scripts/build.sh library`).",
             folder.display()
         );
     }

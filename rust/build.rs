@@ -1,4 +1,4 @@
-//! Links libopenrules_c.a, from the folder or file that OPENRULES_LIB names, else from the place where `rt staticlib openrules_c` writes it.
+//! Links libopenrules_c.a, from the folder or file that OPENRULES_LIB names, else from the place where `scripts/build.sh library` puts it.
 
 use std::env;
 use std::path::PathBuf;
@@ -12,7 +12,7 @@ fn main() {
     let library = folder.join("libopenrules_c.a");
     if !library.is_file() {
         panic!(
-            "libopenrules_c.a is not in {}: run `rt staticlib openrules_c` in the repository, or set OPENRULES_LIB.",
+            "libopenrules_c.a is not in {}: run `scripts/build.sh library` in the repository, or set OPENRULES_LIB.",
             folder.display()
         );
     }

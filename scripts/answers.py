@@ -1,8 +1,8 @@
 #!/usr/bin/env python3
 """Runs the program on the known sheets and pairs: python3 scripts/answers.py [PATTERN] [--wrong]
 
-Each known sheet (scripts/sheets.py) that the program sends to the entry that it is known for goes to target/bin/openrules (`rt check openrules` makes
-it; OPENRULES names another), and what it prints must be the known text to the byte; where the known call was lent too short a buffer, the program, which
+Each known sheet (scripts/sheets.py) that the program sends to the entry that it is known for goes to target/bin/openrules (`scripts/build.sh program`
+makes it; OPENRULES names another), and what it prints must be the known text to the byte; where the known call was lent too short a buffer, the program, which
 lends a longer one, must print an answer of the length that was needed. Each known pair goes to `openrules finish` in the same way. With PATTERN only the
 sheets and pairs whose name it is found in. With --wrong every known text is replaced by a wrong one: every one must then fail.
 """
@@ -45,7 +45,7 @@ def main(args):
         print(__doc__)
         return 2
     if not os.path.exists(PROGRAM):
-        print("%s is not there: run `rt check openrules`" % PROGRAM)
+        print("%s is not there: run `scripts/build.sh program`" % PROGRAM)
         return 2
     tried = failed = other = 0
     for one, want in texts():

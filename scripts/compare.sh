@@ -19,7 +19,7 @@ if [ ! -d "$source/cedar-policy-core" ]; then
 fi
 OPENRULES_CEDAR_SRC=$(cd "$source" && pwd)
 export OPENRULES_CEDAR_SRC
-[ "${LIBRARY:-}" = built ] || rt staticlib openrules_c
+[ "${LIBRARY:-}" = built ] || scripts/build.sh library
 cd host
 cargo build --release --offline --quiet --features library
 sheets=${1:-4000}

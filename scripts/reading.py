@@ -5,7 +5,7 @@
 
 REFERENCE is a folder with `refsheet.py` and `gen02.py`, a reading of documents 01 and 02 apart from the proved code and from the host; with --have it is
 asked with these requests alone. For each seed so many sheets of `gen02.py` are made, and with --host as many of the host's own (`host random`). With
---program what target/bin/openrules prints (`rt check openrules` makes it; OPENRULES names another), with --host what the host says, must be what the
+--program what target/bin/openrules prints (`scripts/build.sh program` makes it; OPENRULES names another), with --host what the host says, must be what the
 reading gives, to the byte. The host does not ask the original for the answers of sheets with groups of kinds: there it must accept what the reading
 accepts, and the program is compared with the reading alone. A sheet that the program sends to the other entry is left out for it. Nothing outside
 target/ is written.
