@@ -1,5 +1,7 @@
 // A text against a pattern of texts and `*`, which stands for any run. The items up to the next `*` are joined to one text, which is looked for;
 // where it stands first, no later place is tried for it.
+#![tactic(auto)]
+
 ghost use Rattle.std.specs.Prelude.{◌≡◌, cond, not, ◌+◌, ◌≤◌, eqb, length, drop};
 ghost use Rattle.cedar.specs.Evaluate.{matches};
 ghost use Rattle.sheet.specs.Bytes.{same};
