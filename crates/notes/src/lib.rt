@@ -1,4 +1,6 @@
 // What a long path notes: chains of entity lines in `chains`, and where the entries of a record stand, over which leaps go in `entries`.
+#![tactic(auto)]
+
 pub mod chains;
 pub mod entries;
 
