@@ -154,7 +154,7 @@ module _ (a r : List ℕ) where
 
       pub gettag_some : (o : ℕ) (b : Bool) → t ≡ ENTITY_TYPE → o ≡ get_or r 1 0 → b ≡ all_in (tags_are a o) (kinds_in q) → b ≡ gettag_rule a r
       unfolding gettag_rule
-      gettag_some o b n eo eb = rw (← ec, ← es, eq-eqb s STRING_SORT h, ← ex, kinds_is a q x t eq et n, ← eo) eb
+      gettag_some o b n eo eb = rw (← ec, ← es, eq-eqb s STRING_SORT h, ← ex, kinds_is a q x t eq et n) (eb ∙ ap (λ i. all_in (tags_are a i) (kinds_in q)) eo)
 
   -- ---- `contains`
 
