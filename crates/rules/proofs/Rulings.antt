@@ -128,7 +128,8 @@ module _ (a : List ℕ) (y z t : ℕ) (q : List ℕ) (eq : q ≡ type_line a y) 
     unfolding kind_in
     both g =
         first ∙ kinds_of none (sharing (kinds_in q)) a z (ap tag (sym ep) ∙ sym eu ∙ g)
-        ∙ rw (← ep, some_as (λ k. among k (kinds_in p)) (kind_in p) (kinds_in q) (λ k. among_mem k (kinds_in p))) refl
+        ∙ ap (λ (l : List ℕ). sharing (kinds_in q) (kinds_in l)) (sym ep)
+        ∙ ap (λ (b : Bool). false_if (not b)) (some_as (λ k. among k (kinds_in p)) (kind_in p) (kinds_in q) (λ k. among_mem k (kinds_in p)))
 
     pub eq_shared : (b : Bool) → u ≡ ENTITY_TYPE → b ≡ some_kind (kind_in p) (kinds_in q) → b ≡ true → Eq Silent
     eq_shared b g eb s = sym (both g ∙ rw (← eb, s))
@@ -171,7 +172,7 @@ module _ (a : List ℕ) (y z t : ℕ) (q : List ℕ) (eq : q ≡ type_line a y) 
 
     in_both : u ≡ ENTITY_TYPE → rel_rule (schema_at a) rin (ty_at a y) (ty_at a z) ≡ false_if (not (some_kind (pair_with a p) (kinds_in q)))
     unfolding pair_with
-    in_both g = in_first ∙ rw ep (targets_of none (pairing (kinds_in q)) a z (ap tag (sym ep) ∙ sym eu ∙ g))
+    in_both g = in_first ∙ targets_of none (pairing (kinds_in q)) a z (ap tag (sym ep) ∙ sym eu ∙ g) ∙ ap (λ (l : List ℕ). pairing (kinds_in q) (kinds_in l)) (sym ep)
 
     pub in_pair : (b : Bool) → u ≡ ENTITY_TYPE → b ≡ some_kind (pair_with a p) (kinds_in q) → b ≡ true → In Silent
     in_pair b g eb s = sym (in_both g ∙ rw (← eb, s))
