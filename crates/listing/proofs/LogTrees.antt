@@ -19,12 +19,13 @@ use Rattle.sheet.specs.Answer.{printed, size, root, type_number, tree_rows, resi
 use Rattle.forms.specs.Tags.{RECORD_OF}
 use Rattle.residual.specs.Rows.{left_row, word_at, stage_at, start_at}
 use Rattle.residual.specs.Trees.{Res, rlit, rerr, rleft, Ress, rnil, rcons, flat, flats, count_res, suits, suits_for, ty_at, left_tree, tree_of, trees_of, Whole, whole_lit, whole_err, whole_left, Wholes, whole_more}
+use Rattle.residual.specs.declared.Stage.{Stage}
 use Rattle.residual.specs.declared.Stage.TheVariants.{Value, Error, Open}
 use Rattle.residual.proofs.Blocks.{row_of, body_of, size_all, left_size, left_open, flat_length, res_word, res_start}
 use Rattle.residual.proofs.Meaning.{stage_for, stage_is, rows_are, suited, apart, before_row}
 use Rattle.value.proofs.Lists.{uncons2}
 use Rattle.listing.specs.Names.{op_name_def}
-use Rattle.listing.specs.Nodes.{number_of, children_to, fields_to, left_items, left_said, left_at, said_at, node_line, lines_by, log_lines}
+use Rattle.listing.specs.Nodes.{number_of, children_to, fields_to, left_items, left_said, left_at, said_at, node_line, lines_by, log_lines, said_as}
 use Rattle.listing.proofs.NodeLines.{children_end, children_step, fields_end, fields_step}
 use Rattle.listing.proofs.TreeRows.{rows_all, roots_all, fields_all, lines_append, said_over, left_lines}
 
@@ -33,18 +34,21 @@ use Rattle.listing.proofs.TreeRows.{rows_all, roots_all, fields_all, lines_appen
 module _ (nodes : List (List ℕ)) (l : List ℕ) (e y : ℕ) (ey : word_at l e 3 ≡ y) where
   line_value : (v : ℕ) → stage_at l e ≡ Value v → node_line nodes l e ≡ printed "node" (digits y ∷ ascii "lit" ∷ digits v ∷ [])
   unfolding node_line said_at
-  line_value v s = rw (ey, s)
+  line_value v s = ap₂ (λ (x : ℕ) (t : Stage). printed "node" (digits x ∷ said_as nodes l e t)) ey s
 
   line_error : stage_at l e ≡ Error → node_line nodes l e ≡ printed "node" (digits y ∷ ascii "err" ∷ [])
   unfolding node_line said_at
-  line_error s = rw (ey, s)
+  line_error s = ap₂ (λ (x : ℕ) (t : Stage). printed "node" (digits x ∷ said_as nodes l e t)) ey s
 
   line_open : (n k start p : ℕ) → stage_at l e ≡ Open → word_at l e 1 ≡ n → word_at l e 0 ≡ 2 + k → start_at l e ≡ start → e - 4 ≡ p
       → node_line nodes l e ≡ printed "node" (digits y ∷ left_said (get_or nodes n []) k l start p)
   unfolding node_line said_at left_at
   line_open n k start p s en ek es ep =
       let z : 2 + k - 2 ≡ k = omega arith in
-      rw (ey, s, en, ek, z, es, ep)
+      ap₂ (λ (x : ℕ) (t : Stage). printed "node" (digits x ∷ said_as nodes l e t)) ey s
+      ∙ ap (λ (x : ℕ). printed "node" (digits y ∷ left_said (get_or nodes x []) (word_at l e 0 - 2) l (start_at l e) (e - 4))) en
+      ∙ ap (λ (x : ℕ). printed "node" (digits y ∷ left_said (get_or nodes n []) x l (start_at l e) (e - 4))) (ap (λ (x : ℕ). x - 2) ek ∙ z)
+      ∙ ap₂ (λ (x w : ℕ). printed "node" (digits y ∷ left_said (get_or nodes n []) k l x w)) es ep
 
 -- ---- as many lines more
 

@@ -12,7 +12,7 @@ use Rattle.sheet.specs.Bytes.{digits, signed, long_at, commas}
 use Rattle.sheet.specs.Forms.{items}
 use Rattle.sheet.specs.State.{entries_of}
 use Rattle.sheet.specs.Content.{rows_in}
-use Rattle.sheet.specs.Answer.{printed, concat, numbers, entry_items, value_items, value_lines}
+use Rattle.sheet.specs.Answer.{concat, numbers, entry_items, value_items, value_lines}
 use Rattle.table.specs.Layout.{rows_of, MADE}
 use Rattle.table.proofs.Rows.{count_rows}
 use Rattle.value.specs.Shapes.{shape_of, shape_row}

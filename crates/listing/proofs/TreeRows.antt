@@ -1,5 +1,5 @@
 -- The line of a node that is left, and those of its children, from its tree. Assumes nothing.
-use mathlib.Core.Path.{◌≡◌, refl, sym, ap, ap₂, ◌∙◌}
+use mathlib.Core.Path.{◌≡◌, refl, sym, ap, ap₂, ◌∙◌, subst}
 use mathlib.Core.Bool.{Bool, true, false, cond, and-eq-true_iff}
 use mathlib.Core.List.{List, [], ◌∷◌, ◌++◌, append-nil, append_assoc}
 use Prim.Native.Nat.{ℕ, zero, suc, ◌+◌, ◌-◌}
@@ -12,7 +12,7 @@ use Rattle.cedar.specs.Types.{Ty, tbool}
 use Rattle.cedar.specs.Residual.{star, piece, Node, err, var, and, or, ite, un, bin, rel, get, has, haspath, set, rec, unot, uneg, uempty, uis, ulike, beq, blt, ble, badd, bsub, bmul, bcontains, ball, bany, rin, rgettag, rhastag}
 use Rattle.sheet.specs.Ascii.{ascii}
 use Rattle.sheet.specs.Bytes.{digits}
-use Rattle.sheet.specs.Forms.{Slot, line, line_or, forms, form_of, slot_at, tag_of, tag, items, at, mark, first_node, TEXT, asterisk}
+use Rattle.sheet.specs.Forms.{Slot, line_or, forms, form_of, slot_at, tag_of, tag, items, at, mark, first_node, TEXT, asterisk}
 use Rattle.sheet.specs.Content.{var_of, pattern_of}
 use Rattle.sheet.specs.Answer.{printed, numbers, size, root, roots, arg_roots, pattern_items, var_number, type_number, tree_rows, all_rows, arg_rows, item_out, items_out, node_items, node_lines}
 use Rattle.sheet.proofs.reading.Slots.{like_slot, path_slot, set_slot, name_slot, field_slot}
@@ -225,4 +225,4 @@ module _ (ts : List Ty) (r : List ℕ) (k m : ℕ) (T : Ty) where
         let p = (and-eq-true_iff (leb first_node (tag r)) (get_or (suits_for r (length cs)) (tag r - first_node) false)).0 s in
         let t : tag r - first_node + first_node ≡ tag r = omega (arith, leb-true first_node (tag r) p.0) in
         let q : Said (tag r - first_node + first_node) (get_or (left_for r k T cs c) (tag r - first_node) (err tbool)) = each_at (err tbool) all_said (tag r - first_node) p.1 in
-        rw t at q
+        subst (λ (i : ℕ). Said i (get_or (left_for r k T cs c) (tag r - first_node) (err tbool))) t q

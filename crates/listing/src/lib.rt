@@ -1,5 +1,7 @@
 // The lines of an answer that list what a run made and left: made values and residual nodes, printed from a place of the lent buffer on. Each
 // call gives the place after its bytes.
+#![tactic(auto)]
+
 pub mod names;
 pub mod nodes;
 pub mod values;

@@ -1,0 +1,22 @@
+-- `listing::values::entries` meets its contract. Assumes nothing.
+use Rattle.print.proofs.Writing.{written_length}
+use mathlib.Core.List.{List}
+use Prim.Native.Nat.{ℕ}
+use Rattle.listing.specs.Values.{after}
+use Rattle.listing.proofs.Made.{along_start, entries_on, entries_end}
+use Rattle.sheet.specs.Answer.{entry_items}
+use Rattle.sheet.specs.State.{entries_of}
+use borrow.Author.Rules.{rules}
+use Rattle.listing.proofs.values.entries.Goals as goal
+
+pub loop-i-init : goal.loop-i-init
+loop-i-init c = let x = c.args in along_start (λ (m : List ℕ). after (entry_items (entries_of m))) x.words.now x.out.now x.at (search rules) (search rules)
+
+pub loop-i-preserved : goal.loop-i-preserved
+loop-i-preserved c = search (entries_on, rules)
+
+pub shape_of-out : goal.shape_of-out
+shape_of-out c = written_length c.loop-i.invariant.print.written
+
+pub returns : goal.returns
+returns c = search (entries_end, rules)
