@@ -1,5 +1,7 @@
 // The attributes of entities, for the many steps of a long path: of each entity whose line is the first with its text, those of a short record.
 // What stands there is noted in cells, by value and text: whose it is, the attribute's text plus one, or 0 where nothing is noted, and the value that it leads to.
+#![tactic(auto)]
+
 ghost use Rattle.std.specs.Prelude.{◌≡◌, [], ◌+◌, ◌≤◌, ◌<◌, length, get_or};
 ghost use Rattle.sheet.specs.Forms.{ENTITY};
 ghost use Rattle.table.specs.Layout.{rows_of};
