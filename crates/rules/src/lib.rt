@@ -1,4 +1,6 @@
 // The type rules, which decide a node by the types of its operands alone, over the rows in the lent words.
+#![tactic(auto)]
+
 ghost use Rattle.std.specs.Prelude.{◌≡◌, replicate};
 ghost use Rattle.cedar.specs.Types.{tstr, some_kind, each_kind};
 ghost use Rattle.cedar.specs.Residual.{uis, beq, rin, rhastag};
