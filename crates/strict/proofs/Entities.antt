@@ -13,10 +13,10 @@ use denote.Enum.Declared.{tag_of}
 use Rattle.value.specs.contracts.Shape.{the_type}
 use Rattle.cedar.specs.Evaluate.{is_nil}
 use Rattle.cedar.specs.Rows.{stop, Row, rbool, rlong, rtext, rent, rset, rrec}
-use Rattle.cedar.specs.Numbered.{NEnv, Give, made, old, NOut, give, fails, stays, truly, r_ent, r_text, r_rec, give_row, mem_n, entry_of, is_some, or_fail, all_rent, nentity, n_in, n_targets, on_entries, nline_or}
+use Rattle.cedar.specs.Numbered.{NEnv, Give, made, old, NOut, fails, stays, truly, r_ent, r_text, r_rec, give_row, mem_n, entry_of, is_some, or_fail, all_rent, nentity, n_in, n_targets, on_entries, nline_or}
 use Rattle.cedar.specs.Value.{on_some}
 use Rattle.sheet.specs.Forms.{items, at, mark}
-use Rattle.sheet.specs.Content.{look_up, n_env, line_given, known}
+use Rattle.sheet.specs.Content.{look_up, n_env, line_given}
 use Rattle.table.specs.Layout.{held}
 use Rattle.value.specs.Lines.{value_lines}
 use Rattle.value.specs.Shapes.{shape_of, shape_row}

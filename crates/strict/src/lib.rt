@@ -1,4 +1,6 @@
 // The strict operations on values by number: what each gives, without making it. Those that look at entities stand in `entity`.
+#![tactic(auto)]
+
 pub mod entity;
 
 ghost use Rattle.std.specs.Prelude.{◌≡◌, eqb};
