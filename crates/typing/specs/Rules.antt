@@ -5,7 +5,7 @@ use Rattle.cedar.specs.Value.{on_some}
 use Rattle.cedar.specs.Numbered.{r_ent, r_set, r_rec, is_some}
 use Rattle.sheet.specs.Bytes.{same}
 use Rattle.sheet.specs.Forms.{tag, mark, first_node, TYPE, SHAPE, VALUE, PRINCIPAL, ACTION, RESOURCE, CONTEXT, NODE}
-use Rattle.sheet.specs.State.{entity, entries_of, value_row}
+use Rattle.sheet.specs.State.{entries_of, value_row}
 use Rattle.sheet.specs.Typing.{all_in, all_entries, is_stop, typed}
 use Rattle.table.specs.Layout.{rows_of, held, TYPEDEPTHS}
 use Rattle.fits.specs.Fit.{SettledIn, Known, full, complete_in}

@@ -1,5 +1,5 @@
 -- `below_fits`, `child_fits`, `under_fits`: the cycle of calls; the remaining depth falls.
-use Rattle.std.proofs.Common.{rules, ◌≡◌}
+use Rattle.std.proofs.Common.{rules}
 use Rattle.typing.proofs.LinkLaws.{below_end, below_off, below_on, below_start, child_later, child_none, child_some, under_deep, under_no, under_yes}
 use Rattle.typing.proofs.links.+below_fits_child_fits_under_fits.Goals as goal
 
