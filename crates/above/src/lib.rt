@@ -1,4 +1,6 @@
 // Document 02, 2.6: "Each ancestor's kind must be among those above .. for all reached", asked of the entity lines once they are all read.
+#![tactic(auto)]
+
 ghost use Rattle.std.specs.Prelude.{◌≡◌, true, [], ◌≤◌, ◌<◌, length};
 ghost use Rattle.sheet.specs.Forms.{VALUE, ENTITY};
 ghost use Rattle.sheet.specs.Parents.{parents};
