@@ -1,5 +1,7 @@
 // The walk of a path of texts: of a long one by the attributes that stand in cells, as far as they lead, and past that by chains of entity
 // lines and notes.
+#![tactic(auto)]
+
 ghost use Rattle.std.specs.Prelude.{◌≡◌, ◌+◌, ◌≤◌, ◌<◌, length, drop};
 ghost use Rattle.sheet.specs.Forms.{ENTITY};
 ghost use Rattle.table.specs.Layout.{rows_of};
