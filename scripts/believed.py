@@ -14,7 +14,7 @@ WORD = re.compile(r"[^\s(){}.,;]+")
 # Where each count begins: crate, file, name; without a name all of the file.
 PROMISES = [
     ("the calls of document 01, agreement and demand 3",
-     ["authorizer Called Called", "authorizer Calls Run", "authorizer Calls bytesIn", "sheet Agreement agrees",
+     ["authorizer Called Called", "authorizer Calls Run", "authorizer Calls bytes_in", "sheet Agreement agrees",
       "sheet Demand3 Demand3", "sheet Call Accepted", "sheet WhySaid Explained"]),
     ("these and the calls of document 02",
      ["finished Promise Finished", "paged Promise Paged", "previewed Promise Previewed", "firm Promise Quotes",
@@ -93,7 +93,7 @@ class Definitions:
         self.brought = {}
         for crate, name, _, bs in self.files:
             for line in (l for b in bs for l in b):
-                m = re.match(r"use Rattle·(\w+)(?:·specs\.specs|\.specs)\.(\w+)\.\{(.*)\}", line)
+                m = re.match(r"(?:pub )?use Rattle\.(\w+)\.specs\.(\w+)\.\{(.*)\}", line)
                 for n in m.group(3).split(",") if m else []:
                     old, _, new = n.strip().partition(" as ")
                     self.brought[crate, name, new or old] = self.here.get((m.group(1), m.group(2), old))

@@ -2,7 +2,7 @@
 -- `finish` it also reads the partial sheet from a file; after the word `preview` the command line has the number of a line and a line, after the word
 -- `firm` the rows; with the word `load` it reads nothing but the two numbers after it.
 use Rattle.std.specs.Prelude.{◌≡◌, cond, List, ℕ, eqb, length, take}
-use Rattle.io.specs.Counts.{IsPrefixLen}
+use Rattle.streams.specs.Filled.{IsPrefixLen}
 use Rattle.sheet.specs.Forms.{partial, complete}
 use Rattle.sheet.specs.Sheet.{read}
 use Rattle.sheet.specs.Answer.{answer}
