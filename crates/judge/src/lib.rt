@@ -1,4 +1,6 @@
 // The refusal of a row, 3 to 8 in number order, against the rows that the words hold.
+#![tactic(auto)]
+
 ghost use Rattle.std.specs.Prelude.{◌≡◌, true, [], ◌≤◌, ◌<◌, length};
 ghost use Rattle.words.specs.Log.{part, room};
 ghost use Rattle.sheet.specs.Forms.{key_of, no_key, NODE};
