@@ -1,0 +1,135 @@
+-- `take::take_line` meets its contract. Assumes nothing.
+use mathlib.Core.Path.{refl, sym, ◌∙◌}
+use Prim.Native.Nat.{◌+◌, ◌-◌}
+use native.Mathlib.Omega.{arith}
+use lib.ListN.{take}
+use lib.Seq.{length-take-le, length_front}
+use Rattle.words.specs.Log.{part, room}
+use Rattle.sheet.specs.Forms.{row_of_value}
+use Rattle.line.specs.Codes.{mode_of}
+use Rattle.line.proofs.LawsLine.{value_long, entered_line}
+use Rattle.take.proofs.Front.{fronts, taken_back}
+use Rattle.take.proofs.Taking.{judge_needs, line_malformed, line_refused, commit_room, line_added, line_seen}
+use Rattle.take.proofs.take_line.Goals as goal
+
+pub slice_bounds-rows-end-2 : goal.slice_bounds-rows-end-2
+slice_bounds-rows-end-2 c = sym (length-take-le room c.args.rows.now c.requires.0.sound.long)
+
+pub slice_bounds-work-end-2 : goal.slice_bounds-work-end-2
+slice_bounds-work-end-2 c = sym (length-take-le room c.args.work.now c.requires.0.long)
+
+pub row_entry-n-requires : goal.row_entry-n-requires
+row_entry-n-requires c = let e = c.args in
+    let v = c.value-value in
+    let long = value_long e.sheet.now v.result.now e.equals.at e.end v.ensures c.requires.2 c.requires.3 in
+    let g = fronts e.sheet.now e.rows.now e.work.now (e.end + 4 - e.equals.at) c.requires.0 c.requires.5 (mode_of e.partial) c.requires.1 in
+    omega (arith, long, g.ready.sound.long, g.fits, c.read-top.ensures)
+
+pub shape_of-rows-then-n-eq0 : goal.shape_of-rows-then-n-eq0
+shape_of-rows-then-n-eq0 c = let r = c.row_entry-n in
+    length_front c.args.rows.now r.new.rows room r.auto.rows
+
+pub shape_of-work-then-n-eq0 : goal.shape_of-work-then-n-eq0
+shape_of-work-then-n-eq0 c = length_front c.args.work.now (take room c.args.work.now) room refl
+
+pub returns-then-n-eq0 : goal.returns-then-n-eq0
+returns-then-n-eq0 c = let e = c.args in
+    let row = row_of_value (mode_of e.partial) e.key (part e.sheet.now (e.equals.at + 1) e.end) in
+    let bytes = e.end + 4 - e.equals.at in
+    let a = take room e.rows.now in
+    let g = fronts e.sheet.now e.rows.now e.work.now bytes c.requires.0 c.requires.5 (mode_of e.partial) c.requires.1 in
+    let l = entered_line e.sheet.now c.value-value.result.now e.equals.at e.end c.value-value.ensures c.requires.2 c.requires.3 e.partial e.key c.read-top.result c.row_entry-n.result a c.row_entry-n.new.rows c.row_entry-n.ensures in record {
+      line = taken_back e.sheet.now e.rows.now e.work.now bytes c.requires.0 c.requires.5 row c.row_entry-n.new.rows (take room e.work.now) 3 c.row_entry-n.auto.rows refl
+          (line_malformed e.sheet.now row a (take room e.work.now) bytes (mode_of e.partial) g.ready g.reached g.fits
+          c.read-top.result c.read-top.ensures c.row_entry-n.new.rows c.row_entry-n.result l c.row_entry-n.auto.rows c.if-n-eq0.true);
+      seen = λ z. absurd (omega arith);
+    }
+
+pub overflow_add-next : goal.overflow_add-next
+overflow_add-next c = let e = c.args in
+    let a = take room e.rows.now in
+    let l = entered_line e.sheet.now c.value-value.result.now e.equals.at e.end c.value-value.ensures c.requires.2 c.requires.3 e.partial e.key c.read-top.result c.row_entry-n.result a c.row_entry-n.new.rows c.row_entry-n.ensures in
+    omega (arith, l.tight, c.requires.3, c.requires.4)
+
+pub judge_at-v-requires : goal.judge_at-v-requires
+judge_at-v-requires c = let e = c.args in
+    let row = row_of_value (mode_of e.partial) e.key (part e.sheet.now (e.equals.at + 1) e.end) in
+    let bytes = e.end + 4 - e.equals.at in
+    let a = take room e.rows.now in
+    let g = fronts e.sheet.now e.rows.now e.work.now bytes c.requires.0 c.requires.5 (mode_of e.partial) c.requires.1 in
+    let l = entered_line e.sheet.now c.value-value.result.now e.equals.at e.end c.value-value.ensures c.requires.2 c.requires.3 e.partial e.key c.read-top.result c.row_entry-n.result a c.row_entry-n.new.rows c.row_entry-n.ensures in
+    let q = judge_needs e.sheet.now row a (take room e.work.now) bytes (mode_of e.partial) g.ready g.reached g.fits
+    c.read-top.result c.read-top.ensures c.row_entry-n.new.rows c.row_entry-n.result l c.row_entry-n.auto.rows g.long_a g.long_b e.seen.now (g.seen e.seen.now c.requires.6) e.last (g.order e.last c.requires.7) in
+    record { rows_len = q.0; known = q.1 }
+
+pub shape_of-rows-then-f-ne0 : goal.shape_of-rows-then-f-ne0
+shape_of-rows-then-f-ne0 c = let r = c.row_entry-n in
+    length_front c.args.rows.now r.new.rows room r.auto.rows
+
+pub shape_of-work-then-f-ne0 : goal.shape_of-work-then-f-ne0
+shape_of-work-then-f-ne0 c = let j = c.judge_at-v in
+    length_front c.args.work.now j.new.work room j.auto.work
+
+pub returns-then-f-ne0 : goal.returns-then-f-ne0
+returns-then-f-ne0 c = let e = c.args in
+    let row = row_of_value (mode_of e.partial) e.key (part e.sheet.now (e.equals.at + 1) e.end) in
+    let bytes = e.end + 4 - e.equals.at in
+    let a = take room e.rows.now in
+    let g = fronts e.sheet.now e.rows.now e.work.now bytes c.requires.0 c.requires.5 (mode_of e.partial) c.requires.1 in
+    let l = entered_line e.sheet.now c.value-value.result.now e.equals.at e.end c.value-value.ensures c.requires.2 c.requires.3 e.partial e.key c.read-top.result c.row_entry-n.result a c.row_entry-n.new.rows c.row_entry-n.ensures in
+    let j = c.judge_at-v in record {
+      line = taken_back e.sheet.now e.rows.now e.work.now bytes c.requires.0 c.requires.5 row c.row_entry-n.new.rows j.new.work j.result.number c.row_entry-n.auto.rows j.auto.work
+          (line_refused e.sheet.now row a (take room e.work.now) bytes (mode_of e.partial) g.ready g.reached g.fits
+          c.read-top.result c.read-top.ensures c.row_entry-n.new.rows c.row_entry-n.result l c.row_entry-n.auto.rows
+          c.if-n-eq0.false (c.read-top.result + c.row_entry-n.result) refl j.new.work j.result.number j.result.key j.result.depth j.ensures.verdict j.auto.work c.if-f-ne0.true);
+      seen = λ z. absurd (c.if-f-ne0.true z);
+    }
+
+pub overflow_cast-next : goal.overflow_cast-next
+overflow_cast-next c = let e = c.args in
+    let bytes = e.end + 4 - e.equals.at in
+    let a = take room e.rows.now in
+    let g = fronts e.sheet.now e.rows.now e.work.now bytes c.requires.0 c.requires.5 (mode_of e.partial) c.requires.1 in
+    let l = entered_line e.sheet.now c.value-value.result.now e.equals.at e.end c.value-value.ensures c.requires.2 c.requires.3 e.partial e.key c.read-top.result c.row_entry-n.result a c.row_entry-n.new.rows c.row_entry-n.ensures in
+    omega (arith, l.tight, c.requires.3, c.requires.4, g.fits, c.read-top.ensures)
+
+pub commit-requires : goal.commit-requires
+commit-requires c = let e = c.args in
+    let row = row_of_value (mode_of e.partial) e.key (part e.sheet.now (e.equals.at + 1) e.end) in
+    let bytes = e.end + 4 - e.equals.at in
+    let a = take room e.rows.now in
+    let g = fronts e.sheet.now e.rows.now e.work.now bytes c.requires.0 c.requires.5 (mode_of e.partial) c.requires.1 in
+    let l = entered_line e.sheet.now c.value-value.result.now e.equals.at e.end c.value-value.ensures c.requires.2 c.requires.3 e.partial e.key c.read-top.result c.row_entry-n.result a c.row_entry-n.new.rows c.row_entry-n.ensures in
+    let j = c.judge_at-v in
+    commit_room e.sheet.now row a (take room e.work.now) bytes (mode_of e.partial) g.ready g.reached g.fits
+    c.read-top.result c.read-top.ensures c.row_entry-n.new.rows c.row_entry-n.result l c.row_entry-n.auto.rows
+    c.if-n-eq0.false (c.read-top.result + c.row_entry-n.result) refl j.new.work j.result.number j.result.key j.result.depth j.ensures.verdict j.auto.work c.if-f-ne0.false
+
+pub shape_of-rows : goal.shape_of-rows
+shape_of-rows c = let r = c.row_entry-n in
+    let w = c.commit in
+    length_front c.args.rows.now w.new.rows room (w.auto.rows ∙ r.auto.rows)
+
+pub shape_of-work : goal.shape_of-work
+shape_of-work c = let j = c.judge_at-v in
+    let w = c.commit in
+    length_front c.args.work.now w.new.work room (w.auto.work ∙ j.auto.work)
+
+pub returns : goal.returns
+returns c = let e = c.args in
+    let row = row_of_value (mode_of e.partial) e.key (part e.sheet.now (e.equals.at + 1) e.end) in
+    let bytes = e.end + 4 - e.equals.at in
+    let a = take room e.rows.now in
+    let g = fronts e.sheet.now e.rows.now e.work.now bytes c.requires.0 c.requires.5 (mode_of e.partial) c.requires.1 in
+    let l = entered_line e.sheet.now c.value-value.result.now e.equals.at e.end c.value-value.ensures c.requires.2 c.requires.3 e.partial e.key c.read-top.result c.row_entry-n.result a c.row_entry-n.new.rows c.row_entry-n.ensures in
+    let j = c.judge_at-v in
+    let w = c.commit in record {
+      line = taken_back e.sheet.now e.rows.now e.work.now bytes c.requires.0 c.requires.5 row w.new.rows w.new.work 0 (w.auto.rows ∙ c.row_entry-n.auto.rows) (w.auto.work ∙ j.auto.work)
+          (line_added e.sheet.now row a (take room e.work.now) bytes (mode_of e.partial) g.ready g.reached g.fits
+          c.read-top.result c.read-top.ensures c.row_entry-n.new.rows c.row_entry-n.result l c.row_entry-n.auto.rows
+          c.if-n-eq0.false (c.read-top.result + c.row_entry-n.result) refl j.new.work j.result.number j.result.key j.result.depth j.ensures.verdict j.auto.work c.if-f-ne0.false
+          w.new.rows w.new.work w.ensures.row w.ensures.depths w.auto.work);
+      seen = λ z. line_seen e.sheet.now row a (take room e.work.now) bytes (mode_of e.partial) g.ready g.reached g.fits
+          c.read-top.result c.read-top.ensures c.row_entry-n.new.rows c.row_entry-n.result l c.row_entry-n.auto.rows
+          c.if-n-eq0.false (c.read-top.result + c.row_entry-n.result) refl e.seen.now j.new.seen j.ensures.seen;
+    }
