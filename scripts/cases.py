@@ -3,53 +3,52 @@
 
     python3 scripts/cases.py [PATTERN] [--each] [--wrong]
 
-For each sheet, or each whose name PATTERN is found in, one theorem by computation is written to target/cases/: what the definitions make of the
+For each sheet, or each whose name PATTERN is found in, one theorem by computation is written to a folder `openrules-cases` of temporary files: what the definitions make of the
 sheet's bytes is the known text. One check computes all short sheets with short answers, and one each other sheet; with --each,
 one check each sheet. Four sheets are over the prover's own limit of steps: they have no verdict, which says neither that they agree nor
-that they do not. Sheets with over 60 entity lines of known parents are left out and counted: the definition finds what each of them reaches before every later line. With --wrong every known text is replaced by a wrong one: each check must then fail. Nothing outside target/ is written.
+that they do not. Sheets with over 60 entity lines of known parents are left out and counted: the definition finds what each of them reaches before every later line. With --wrong every known text is replaced by a wrong one: each check must then fail. Nothing in the repository is written: `rt ci` refuses files of Rattle that it does not prove.
 """
 import os
 import re
 import shutil
 import subprocess
 import sys
+import tempfile
 import time
 
 from sheets import HERE, known, printed
 
-TREE = os.path.join(HERE, "target", "cases")
+TREE = os.path.join(tempfile.gettempdir(), "openrules-cases")
 UNFOLD = (
-    "printedOf keys forms formOf slotAt counted tagOf rowOf keyOf refs ascendings nodesUnder fitsIn typed found depth fault "
-    "more read types valueRows contents schema trees exprs onTerm nPolicies policies nEnv env run results answer returned "
-    "ancestors unknownAbove order sameV place insert ascending makeSet"
+    "printed_of keys forms form_of slot_at counted tag_of row_of key_of refs ascendings nodes_under fits_in typed found depth fault "
+    "more read types value_rows contents schema trees exprs on_term n_policies policies n_env env run results answer returned "
+    "ancestors unknown_above order same_v place insert ascending make_set"
 )
 # sheets of 1,024 and 1,025 values, given or made, and a path with 32 ways at each of its 2,000 steps, all of which the definition follows: the prover does not
 # compute them within its limit; any other sheet without verdict is a failure
 UNDECIDED = ("value-1024", "value-1025", "2.9 many-made-2.9", "2,000 steps in a group of 32 kinds")
-HEAD = """use mathlib.Core.Path.{_≡_, refl}
-use mathlib.Core.List.{List, [], _∷_, _++_}
-use Prim.Native.Nat.{ℕ, zero, suc}
+HEAD = """use Rattle.std.specs.Prelude.{◌≡◌, refl, List, [], ◌∷◌, ◌++◌, ℕ, zero, suc}
 use Prim.Native.String.{String}
-use Rattle·cedar.specs.Canonical.{order, same as sameV, place, insert, ascending, makeSet}
-use Rattle·sheet.specs.Ascii.{ascii}
-use Rattle·sheet.specs.Forms.{Mode, partial, complete, keys, forms, formOf, slotAt, counted, tagOf, rowOf, keyOf, refs, ascendings}
-use Rattle·sheet.specs.Typing.{nodesUnder, fitsIn, typed}
-use Rattle·sheet.specs.Parents.{ancestors, unknownAbove}
-use Rattle·sheet.specs.Sheet.{found, depth, fault, more, read}
-use Rattle·sheet.specs.Content.{types, valueRows, contents, schema, trees, exprs, onTerm, nPolicies, policies, nEnv, env}
-use Rattle·sheet.specs.Answer.{run, results, answer, printed, numbers}
-use Rattle·sheet.specs.Call.{Returned, returned}
+use Rattle.cedar.specs.Canonical.{order, same as same_v, place, insert, ascending, make_set}
+use Rattle.sheet.specs.Ascii.{ascii}
+use Rattle.sheet.specs.Forms.{Mode, partial, complete, keys, forms, form_of, slot_at, counted, tag_of, row_of, key_of, refs, ascendings}
+use Rattle.sheet.specs.Typing.{nodes_under, fits_in, typed}
+use Rattle.sheet.specs.Parents.{ancestors, unknown_above}
+use Rattle.sheet.specs.Sheet.{found, depth, fault, more, read}
+use Rattle.sheet.specs.Content.{types, value_rows, contents, schema, trees, exprs, on_term, n_policies, policies, n_env, env}
+use Rattle.sheet.specs.Answer.{run, results, answer, printed, numbers}
+use Rattle.sheet.specs.Call.{Returned, returned}
 
 -- what the program prints
 abbrev shown : List ℕ → ℕ → Returned → List ℕ
 shown a zero r = a
-shown a (suc n) r = printed "refused" (numbers (r .number ∷ r .line ∷ r .length ∷ []))
+shown a (suc n) r = printed "refused" (numbers (r.number ∷ r.line ∷ r.length ∷ []))
 
-abbrev shownOf : List ℕ → Returned → List ℕ
-shownOf a r = shown a (r .number) r
+abbrev shown_of : List ℕ → Returned → List ℕ
+shown_of a r = shown a r.number r
 
-unfoldable printedOf : Mode → ℕ → ℕ → ℕ → List ℕ → List ℕ
-printedOf m work₁ work₂ out sheet = shownOf (answer m (read m sheet .state)) (returned m work₁ work₂ out sheet)
+unfoldable printed_of : Mode → ℕ → ℕ → ℕ → List ℕ → List ℕ
+printed_of m work₁ work₂ out sheet = shown_of (answer m (read m sheet).state) (returned m work₁ work₂ out sheet)
 """
 
 
@@ -69,7 +68,7 @@ def quoted(text):
 
 def theorem(i, case):
     sheet, want = case
-    return "-- %s\ncase%d : printedOf %s %d %d %d (ascii %s) ≡ ascii %s\nunfolding %s\ncase%d = refl\n" % (
+    return "-- %s\ncase%d : printed_of %s %d %d %d (ascii %s) ≡ ascii %s\nunfolding %s\ncase%d = refl\n" % (
         sheet.name, i, sheet.entry, sheet.first, sheet.second, sheet.buffer, quoted(sheet.bytes.decode("latin-1")), quoted(want.decode()), UNFOLD, i)
 
 
@@ -92,13 +91,13 @@ def check(chosen, limit):
     with open(os.path.join(TREE, "crates.txt"), "w") as f:
         f.write("cedar:\nsheet: cedar\nknown_cases: cedar sheet\n")
     with open(os.path.join(crate, "src", "lib.rt"), "w") as f:
-        f.write("// No code.\n")
+        f.write("// No code.\n#![tactic(auto)]\n")
     with open(os.path.join(crate, "specs", "Lib.antt"), "w") as f:
         f.write("pub mod Cases\n")
     with open(os.path.join(crate, "specs", "Cases.antt"), "w") as f:
         f.write(HEAD + "\n" + "\n".join(theorem(i, c) for i, c in chosen))
     try:
-        r = subprocess.run(["rt", "check", "known_cases"], capture_output=True, text=True, timeout=limit, cwd=TREE)
+        r = subprocess.run(["rt", "check"], capture_output=True, text=True, timeout=limit, cwd=crate)
         said = r.stdout + r.stderr
         m = re.search(r"rt: known_cases NOT PROVED \(exit (\d+)", said)
         return int(m.group(1)) if m else r.returncode, said
