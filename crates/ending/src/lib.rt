@@ -1,4 +1,6 @@
 // What is asked where the entity lines end, and where the sheet ends.
+#![tactic(auto)]
+
 ghost use Rattle.std.specs.Prelude.{◌≡◌, ◌&&◌, not, [], ◌+◌, ◌≤◌, length, get_or, drop};
 ghost use Rattle.cedar.specs.Numbered.{mem_n};
 ghost use Rattle.sheet.specs.Ascii.{ascii};
