@@ -11,11 +11,11 @@ who is asked:
                          without any proof (scripts/cases.py). A pattern after `=` is a text of the sheet: the six shortest that have it.
     proof: CRATE/FILE    crates/CRATE/proofs/FILE.antt (FILE with its folder, if it has one) over the changed definitions, with the proofs that it imports
                          and no others. Names after it are the computed examples of the file that are asked.
-    (no such line)       the whole crate, as `rt dev CRATE` asks it.
+    (no such line)       the whole crate, as `rt check` asks it.
 
-Each change, or each of the given names, is made in a copy below target/mutants/. A change that is proved all the same, and that every known sheet asked
+Each change, or each of the given names, is made in a copy below a folder `openrules-mutants` of temporary files. A change that is proved all the same, and that every known sheet asked
 agrees with, is UNNOTICED, unless a line `equal:` gives the reason why it changes nothing. `use:` has a file and a `use` line that the new text needs.
-The crates must have been proved (`rt check again paged staff drawn samples`): their libraries are copied from target/. Of changes with `sheets:` or `proof:`
+The libraries of the crates are built there first, from what was proved on this machine where there is such. Of changes with `sheets:` or `proof:`
 twenty are asked in one check: the files that a change concerns are copied for it into a crate `asked` above the proved ones. With --new only changes
 without a verdict are tried; two runs at a time need two names of --folder. All take some twenty minutes of one processor; this is no part of the gate.
 
@@ -28,6 +28,7 @@ import re
 import shutil
 import subprocess
 import sys
+import tempfile
 import time
 
 import cases
@@ -35,7 +36,7 @@ from sheets import HERE, known, printed
 
 LIST = os.path.join(HERE, "scripts", "mutants.txt")
 TABLE = os.path.join(HERE, "docs", "MUTANTS.md")
-WORK = os.path.join(HERE, "target", "mutants")
+WORK = os.path.join(tempfile.gettempdir(), "openrules-mutants")
 FOUND = os.path.join(WORK, "tried")
 # the crates without code, in the order of their needs
 CRATES = ["cedar", "sheet", "samples", "again", "finished", "paged", "previewed", "staff", "forms", "drawn"]
@@ -112,18 +113,18 @@ def restore(m, tree):
 
 # ---- who is asked
 
-def rt(tree, *words):
-    r = subprocess.run(["rt"] + list(words), cwd=tree, capture_output=True, text=True, env=dict(os.environ, RT_CUT="0", RT_JOBS="1"))
+def check(tree, crate):
+    r = subprocess.run(["rt", "check", "--jobs", "1"], cwd=os.path.join(tree, "crates", crate), capture_output=True, text=True)
     return r.returncode, r.stdout + r.stderr
 
 
-def verdict(status, said):
+def verdict(crate, status, said):
     """Where the first error stands, or that all was proved."""
     if status == 0:
         return {"proved": True}
-    at = re.search(r"/crates/(\w+)/((?:specs|proofs)/[^\s:]+):\d+:\d+: (?:error: )?`([^`\n]*)`", said)
-    if status == 1 and at and at.group(2).startswith("proofs/"):
-        return {"at": at.groups()}
+    at = re.search(r"(?m)^\./((?:specs|proofs)/[^\s:]+):\d+:\d+: (?:error: )?`([^`\n]*)`", said)
+    if status == 1 and at and at.group(1).startswith("proofs/"):
+        return {"at": (crate,) + at.groups()}
     return {"bad": said.strip()[-600:]}
 
 
@@ -137,30 +138,34 @@ def copied(parts, crate, tree):
 
 @functools.cache
 def whole(folder):
-    """A tree with all crates without code, and their libraries as they were proved."""
+    """A tree with all crates without code."""
     tree = os.path.join(WORK, folder, "whole")
-    for part in ("rlib", "stamp", "log"):
-        os.makedirs(os.path.join(tree, "target", part), exist_ok=True)
-    shutil.copyfile(os.path.join(HERE, "crates.txt"), os.path.join(tree, "crates.txt"))
+    os.makedirs(tree, exist_ok=True)
+    with open(os.path.join(tree, "crates.txt"), "w", encoding="utf-8") as f:
+        f.write(lines())
     for crate in CRATES:
         copied(("src", "specs", "proofs"), crate, tree)
-        shutil.copytree(os.path.join(HERE, "target", "rlib", crate + ".rlib"), os.path.join(tree, "target", "rlib", crate + ".rlib"), dirs_exist_ok=True)
-        shutil.copyfile(os.path.join(HERE, "target", "stamp", crate), os.path.join(tree, "target", "stamp", crate))
     return tree
+
+
+def lines():
+    """The lines of crates.txt for the crates without code."""
+    with open(os.path.join(HERE, "crates.txt"), encoding="utf-8") as f:
+        return "".join(line for line in f if line.split(":")[0] in CRATES)
 
 
 def ask_crate(m, folder):
     tree = whole(folder)
     edit(m, tree)
     try:
-        return verdict(*rt(tree, "dev", m["crate"]))
+        return verdict(m["crate"], *check(tree, m["crate"]))
     finally:
         restore(m, tree)
 
 
 EXAMPLE = re.compile(r"^(\S+) = refl$", re.M)
 # crate, part, and the file's name after those of its folders
-REFERENCE = re.compile(r"Rattle·(\w+?)(?:·\w+)?\.(specs|proofs)\.((?:[a-z]\w*\.)*[A-Z]\w*)")
+REFERENCE = re.compile(r"Rattle\.(\w+)\.(specs|proofs)\.((?:[a-z]\w*\.)*[A-Z]\w*)")
 
 
 def read(crate, part, name):
@@ -174,7 +179,7 @@ def definitions():
 
 
 def imports(text):
-    return [(c, n) for c, part, n in REFERENCE.findall(text) if part == "specs"]
+    return [(c, n) for c, part, n in REFERENCE.findall(text) if part == "specs" and c in CRATES]
 
 
 def above(specs, changes):
@@ -206,7 +211,7 @@ def asked_of(m):
         crate, name = left.pop()
         if (crate, name) not in out:
             out[crate, name] = read(crate, "proofs", name)
-            left += [(c, n) for c, part, n in REFERENCE.findall(out[crate, name]) if part == "proofs"]
+            left += [(c, n) for c, part, n in REFERENCE.findall(out[crate, name]) if part == "proofs" and c in CRATES]
     if names:
         first = next(iter(out))
         out[first] = "\n\n".join(b for b in out[first].split("\n\n") if not EXAMPLE.search(b) or set(names) & set(EXAMPLE.findall(b)))
@@ -239,7 +244,7 @@ def copied_for(m, number, specs):
 
     def renamed(r):
         crate, part, name = r.groups()
-        return "Rattle·asked·specs.specs." + copy_name(part, crate, name, number) if (part, crate, name) in texts else "Rattle·%s.%s.%s" % (crate, part, name)
+        return "Rattle.asked.specs." + copy_name(part, crate, name, number) if (part, crate, name) in texts else "Rattle.%s.%s.%s" % (crate, part, name)
     return {copy_name(*k, number): REFERENCE.sub(renamed, text) for k, text in texts.items()}
 
 
@@ -253,22 +258,22 @@ def few(ms, folder):
     shutil.rmtree(there, ignore_errors=True)
     os.makedirs(os.path.join(there, "specs"))
     os.makedirs(os.path.join(there, "src"))
-    for file, text in [("src/lib.rt", "// No code.\n")] + [("specs/%s.antt" % name, text) for name, text in texts.items()]:
+    for file, text in [("src/lib.rt", "// No code.\n#![tactic(auto)]\n")] + [("specs/%s.antt" % name, text) for name, text in texts.items()]:
         with open(os.path.join(there, file), "w", encoding="utf-8") as f:
             f.write(text)
     needed = {c for text in texts.values() for c, _, _ in REFERENCE.findall(text)}
     with open(os.path.join(tree, "crates.txt"), "w", encoding="utf-8") as f:
-        f.write(open(os.path.join(HERE, "crates.txt"), encoding="utf-8").read() + "asked: %s\n" % " ".join(c for c in CRATES if c in needed))
+        f.write(lines() + "asked: %s\n" % " ".join(c for c in CRATES if c in needed))
     return tree
 
 
 def ask_few(ms, folder):
     """What is asked of each of these changes, all in one check: the errors in its copies."""
-    status, said = rt(few(ms, folder), "check", "asked")
-    done = status == 0 or re.search(r"asked NOT PROVED \(exit 1,", said)
+    status, said = check(few(ms, folder), "asked")
+    done = status in (0, 1)
     out = []
     for number, m in enumerate(ms):
-        errors = re.findall(r"/asked/specs/(\w)\w*X%d\.antt:\d+:\d+: error: `([^`\n]*)`" % number, said)
+        errors = re.findall(r"(?m)^\./specs/(\w)\w*X%d\.antt:\d+:\d+: error: `([^`\n]*)`" % number, said)
         if not done or any(part == "D" for part, _ in errors):
             out.append({"bad": "%s: %s" % (errors, said.strip()[-600:])})
         elif "sheets" in m:
