@@ -146,7 +146,7 @@ module _ (m : Mode) (sheet a₀ : List ℕ) (P : List Row → Type 0) where
   Takes c s i [] = Unit {0}
   Takes c s i (x ∷ xs) = (get_or (get_or (nodes sheet a₀) c []) (i + s - 1) 0 ≡ x) × Takes c s (i + s) xs
 
-  pub kids_are : {d n : ℕ} {xs : List ℕ} {Ks : List (List Row → Out)} (deep : d ≤ 64) (f : Rec) (c s i : ℕ) → Kid d f xs Ks n → Takes c s i xs → (a l : List ℕ) (j : ℕ) → Hold a₀ a → P (values a) → Room n a l
+  pub kids_are : {d : ℕ} (deep : d ≤ 64) (f : Rec) {n : ℕ} {xs : List ℕ} {Ks : List (List Row → Out)} (c s i : ℕ) → Kid d f xs Ks n → Takes c s i xs → (a l : List ℕ) (j : ℕ) → Hold a₀ a → P (values a) → Room n a l
       → Are d n a l (results_of Ks (values a)) j (length xs) (kids_of f c s i a l j (length xs))
   unfolding kids_of flats trees_of joins
   kids_are deep f c s i kid_none t a l j h good room = record {
