@@ -19,7 +19,7 @@ use Rattle.forms.specs.Tags.{VAR, SET_OF, RECORD_OF, SLOT}
 use Rattle.sheet.specs.Forms.{Mode, tag, items, at, mark, NODE, PRINCIPAL, ACTION, RESOURCE, CONTEXT, first_node}
 use Rattle.sheet.specs.State.{State, line_at}
 use Rattle.sheet.specs.Typing.{slot_value}
-use Rattle.sheet.specs.Content.{var_of, known, given, n_env, child, children_over, args_over, tree_for, linked, pattern_of}
+use Rattle.sheet.specs.Content.{var_of, known, given, n_env, children_over, args_over, tree_for, linked, pattern_of}
 use Rattle.sheet.specs.Answer.{size, sizes, size_args}
 use Rattle.sheet.proofs.running.MadeCount.{size_least}
 use Rattle.sheet.proofs.content.TypeNumbers.{TypesIn}

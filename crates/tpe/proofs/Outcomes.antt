@@ -7,7 +7,7 @@ use borrow.Author.Tests.{le-leb, lt-leb}
 use lib.ListN.{length}
 use lib.IntN.{ℤ, pos, negsuc}
 use Rattle.cedar.specs.Rows.{Row, rbool, rlong, rtext, rent, rset, rrec}
-use Rattle.cedar.specs.Numbered.{Give, NOut, give}
+use Rattle.cedar.specs.Numbered.{Give, NOut}
 use Rattle.sheet.specs.Bytes.{long_at, half}
 use Rattle.sheet.specs.State.{value_row}
 use Rattle.sheet.proofs.answer.DigitsBack.{IsLong, in_range_law}

@@ -25,7 +25,7 @@ use Rattle.residual.specs.Trees.{Res, rlit, rerr, rleft, Ress, rnil, rcons, flat
 use Rattle.residual.proofs.Blocks.{left_open}
 use Rattle.residual.proofs.Meaning.{trees_count, suited}
 use Rattle.tpe.specs.Run.{Kids, made_of, err_of, left_of, many_of, set_of, rec_of, all_values, some_error, some_open}
-use Rattle.tpe.proofs.Stands.{values, Room, Spent, tys, nodes, ty, Is, is_as, err_is, left_is, make_is, cut_back}
+use Rattle.tpe.proofs.Stands.{Room, Spent, tys, nodes, ty, Is, is_as, err_is, left_is, make_is, cut_back}
 use Rattle.tpe.proofs.Kids.{Results, bad, vals, join_none, Are}
 
 -- ---- lists of trees as children

@@ -1,18 +1,17 @@
 -- Each entity line of an accepted sheet is the first of its entity: lines ascend by the numbers of their entities, and values are distinct. Assumes nothing.
 use mathlib.Core.Path.{◌≡◌, refl, sym, ◌∙◌, ap, subst}
-use mathlib.Core.Bool.{Bool, true, false, cond, ◌&&◌, ◌||◌}
+use mathlib.Core.Bool.{Bool, true, false, cond}
 use mathlib.Core.Option.{some}
 use mathlib.Core.List.{List, [], ◌∷◌, ◌++◌, append_assoc}
-use Prim.Native.Nat.{ℕ, zero, suc, ◌-◌, ◌≤◌, ◌<◌}
+use Prim.Native.Nat.{ℕ, zero, suc, ◌<◌}
 use native.Mathlib.Omega.{arith}
-use borrow.Author.Tests.{ltb-true, eqb-true}
-use lib.Dec.{eqb, ltb}
-use lib.ListN.{length, get_or, length-append}
+use borrow.Author.Tests.{ltb-true}
+use lib.ListN.{length, get_or}
 use Rattle.cedar.specs.Rows.{rent, same_row}
 use Rattle.cedar.specs.Table.{At}
 use Rattle.cedar.proofs.TableLaws.{number_inj, same_row_true}
-use Rattle.sheet.specs.Forms.{Mode, forms, form_of, slot_at, tag, items, ascendings, at, VALUE, ENTITY}
-use Rattle.sheet.specs.State.{State, lines_of, count, line_at, value_at}
+use Rattle.sheet.specs.Forms.{Mode, forms, form_of, slot_at, at, VALUE, ENTITY}
+use Rattle.sheet.specs.State.{State, lines_of, count, value_at}
 use Rattle.sheet.specs.Content.{value_over, contents, entity_line}
 use Rattle.sheet.proofs.reading.Lines.{Was, History}
 use Rattle.sheet.proofs.reading.EntityOrder.{above_of, above_last}

@@ -30,7 +30,7 @@ use Rattle.residual.proofs.Meaning.{stage_for, stage_is, type_is, can_error_is}
 use Rattle.lookup.specs.Lookups.{env_by}
 use Rattle.lookup.proofs.Halving.{Single, single_env}
 use Rattle.tpe.proofs.Reach.{reach, asks, reach_most, reach_asked}
-use Rattle.tpe.specs.Run.{O, left, lit_of, err_of, left_of, made_of, schema_in, ty_in, env_in}
+use Rattle.tpe.specs.Run.{O, lit_of, err_of, left_of, made_of, schema_in, ty_in, env_in}
 
 -- what stands at place i of a list, and what is after it
 pub drop_here : {A : Type 0} (d : A) (l : List A) (i : ℕ) (x : A) (q : List A) → drop i l ≡ x ∷ q → (get_or l i d ≡ x) × (drop (suc i) l ≡ q)

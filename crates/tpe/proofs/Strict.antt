@@ -16,7 +16,7 @@ use Rattle.residual.specs.Rows.{word_at, stage_at}
 use Rattle.residual.specs.Errs.{errs}
 use Rattle.residual.specs.Trees.{Ress, rnil, rcons, flat, flats, count_res, left_tree, suits, trees_of, Wholes, whole_none, whole_more}
 use Rattle.residual.proofs.Meaning.{stage_for}
-use Rattle.tpe.specs.Run.{O, left, err_of, left_of, made_of, words_of, give_of, settle_of, ruled_of, worked1, worked2, one_of, two_of}
+use Rattle.tpe.specs.Run.{O, err_of, left_of, made_of, words_of, give_of, settle_of, ruled_of, worked1, worked2, one_of, two_of}
 use Rattle.tpe.proofs.Outcomes.{RowFine, GiveFine, Fine, words_row, words_formed, words_short, bool_row_law}
 use Rattle.tpe.proofs.Stands.{Hold, values, Room, Space, Spent, space_spent, tys, nodes, ty, Is, is_as, stage_there, type_there, errs_there, lit_is, err_is, left_is, make_is, make_bool, cut_back}
 

@@ -1,5 +1,7 @@
 // The interpreter of policies. Its definition over words is in specs/, what it means in proofs/. What a node does with its worked
 // operands stands in `steps`. The first `skip` values are no bools: a search for a bool begins after them.
+#![tactic(auto)]
+
 pub mod steps;
 
 ghost use Rattle.std.specs.Prelude.{◌≡◌, ◌≤◌, take};
