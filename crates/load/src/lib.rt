@@ -1,4 +1,6 @@
 // The reading of a sheet into the lent words: lines in turn, the first faulty line ends it.
+#![tactic(auto)]
+
 ghost use Rattle.std.specs.Prelude.{◌≡◌, ◌≤◌, length};
 ghost use Rattle.words.specs.Log.{zeros};
 ghost use Rattle.sheet.specs.Sheet.{read};

@@ -1,0 +1,17 @@
+-- `load::load` meets its contract. Assumes nothing.
+use mathlib.Core.Path.{◌≡◌}
+use mathlib.Core.Bool.{true}
+use Prim.Native.Nat.{◌-◌}
+use lib.ListN.{length}
+use Rattle.sheet.specs.Sheet.{in_order}
+use Rattle.table.specs.Layout.{held}
+use Rattle.line.specs.Codes.{mode_of}
+use Rattle.seen.specs.Seen.{PLACE_WORDS, Seen}
+use Rattle.load.proofs.Loading.{Progress}
+use Rattle.load.proofs.load.Given as goal
+
+abbrev pub invariant-loop-seen : goal.invariant-loop-seen
+invariant-loop-seen l = Progress (mode_of l.partial) l.sheet l.initial.rows l.initial.work l.rows l.work l.c.at l.c.line × Seen (held l.sheet l.rows l.work) l.seen × (PLACE_WORDS ≡ length l.seen) × (in_order (held l.sheet l.rows l.work) l.last ≡ true)
+
+abbrev pub decreases-loop-seen : goal.decreases-loop-seen
+decreases-loop-seen l = length l.sheet - l.c.at
