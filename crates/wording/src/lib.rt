@@ -1,4 +1,6 @@
 // The words of the program: the entry that a sheet is for, the line of a refusal, the lines of a whole firm's decisions, numbers on the command line.
+#![tactic(auto)]
+
 ghost use Rattle.std.specs.Prelude.{◌≡◌, [], ◌∷◌, ◌++◌, min};
 ghost use Rattle.print.specs.Written.{greatest, Written};
 ghost use Rattle.sheet.specs.Ascii.{ascii};
