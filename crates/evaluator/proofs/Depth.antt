@@ -10,7 +10,7 @@ use Rattle.cedar.specs.Types.{Ty, tbool}
 use Rattle.cedar.specs.Residual.{Node, Nodes, NodeArgs, econs, gcons, err, and, or, ite, un, bin, rel, get, has, haspath, set, rec, unot, uneg, uempty, uis, ulike, beq, blt, ble, badd, bsub, bmul, bcontains, ball, bany, rin, rgettag, rhastag}
 use Rattle.cedar.specs.Runs.{NPolicy}
 use Rattle.cedar.proofs.TableLaws.{InN, now'}
-use Rattle.sheet.specs.Forms.{Mode, line, nothing, forms, form_of, slot_at, is_line, refs_from, refs, tag, items, at, key_of, first_node, no_tag, NODE, POLICY}
+use Rattle.sheet.specs.Forms.{Mode, forms, form_of, slot_at, is_line, refs_from, refs, tag, items, at, key_of, first_node, no_tag, NODE, POLICY}
 use Rattle.forms.specs.Tags.{AND, OR, EQ, LT, LE, ADD, SUB, MUL, IN, GETTAG, HASTAG, CONTAINS, ALL, ANY, IF, IS, LIKE, GET, HAS, HASPATH, NOT, NEG, EMPTY, SET_OF, RECORD_OF, SLOT, POLICY_LINE}
 use Rattle.sheet.specs.State.{State, lines_of, count, depths_of}
 use Rattle.sheet.specs.Content.{types, pattern_of, children_over, args_over, tree_over, trees_from, trees, linked, effect_of, numbered_policies, n_policies, on_term}

@@ -1,7 +1,6 @@
 -- The laws of the code's `operands`: what the strict operations give is what the definition says for the node's tag. Assumes nothing.
 use mathlib.Core.Path.{◌≡◌, refl, sym, ap, ◌∙◌, fun_ext}
 use mathlib.Core.Bool.{Bool, true, false}
-use mathlib.Core.Option.{none}
 use mathlib.Core.List.{List, [], ◌∷◌}
 use Prim.Native.Nat.{ℕ, zero, suc, ◌+◌, ◌-◌, ◌≤◌, ◌<◌}
 use native.Mathlib.Omega.{arith}
@@ -10,7 +9,7 @@ use lib.ListN.{length, get_or, take, drop, length-drop, get_or-eq_default, drop_
 use lib.Seq.{take-length, drop-drop, drop-cons}
 use Rattle.words.specs.Log.{part}
 use Rattle.cedar.specs.Value.{on_some}
-use Rattle.cedar.specs.Numbered.{NOut, fails, stays, truly, is_some}
+use Rattle.cedar.specs.Numbered.{fails, stays, truly, is_some}
 use Rattle.sheet.specs.Forms.{items, at, NODE}
 use Rattle.forms.specs.Tags.{EQ, LT, IN, GETTAG, HASTAG, CONTAINS, ALL, ANY, IF, IS, LIKE, GET, HAS, HASPATH, NOT, NEG, EMPTY, SET_OF}
 use Rattle.sheet.specs.Content.{schema}

@@ -1,6 +1,8 @@
 // The complete run: what each policy yields on a complete sheet. Its definition over words is in specs/, what it means in proofs/.
 // The log holds the numbers of the classes of the policies so far, then the rows of a set's or record's children until it is made. The first `skip` values
 // of the sheet are no bools: a search for a bool begins after them.
+#![tactic(auto)]
+
 pub mod operands;
 
 ghost use Rattle.std.specs.Prelude.{◌≡◌, [], ◌+◌, ◌*◌, ◌≤◌, ◌<◌, get_or, take, length};

@@ -1,7 +1,7 @@
 -- The evaluator's cycle of calls meets its contracts: the depth falls with each node. Assumes nothing.
-use Rattle.std.proofs.Common.{rules, arith}
+use Rattle.std.proofs.Common.{arith}
 use Rattle.evaluator.proofs.Kept.{eval_clear}
-use Rattle.evaluator.proofs.Ways.{eval_none, eval_step, if_false, if_other, if_true, kids_end, kids_error, kids_more, kids_none, lazy_made, lazy_other, lazy_right, many_grows, many_room, more_room, one_error, one_on, same_room, record_error, record_made, set_error, set_made, step_and, step_err, step_if, step_lit, step_one, step_or, step_past, step_record, step_set, step_slot, step_two, step_var, two_error, two_on, two_right}
+use Rattle.evaluator.proofs.Ways.{eval_none, eval_step, if_false, if_other, if_true, kids_end, kids_error, kids_more, kids_none, lazy_made, lazy_other, lazy_right, more_room, one_error, one_on, same_room, record_error, record_made, set_error, set_made, step_and, step_err, step_if, step_lit, step_one, step_or, step_past, step_record, step_set, step_slot, step_two, step_var, two_error, two_on, two_right}
 use Rattle.evaluator.proofs.+branch_eval_kids_lazy_one_record_set_step_two.Goals as goal
 
 pub branch-returns-in_default : goal.branch-returns-in_default
