@@ -413,6 +413,8 @@ module _ (sheet a₀ : List ℕ) (G : Env) (ts : List Ty) (K : List Content) (g 
   classes_are : {C : List Content} {a : List ℕ} (ps : List Slot) (Xs : List Expr) → Stand sheet a₀ G C a → Say sheet a₀ G C ps (eval_each sheet a₀ G Xs) → classes_in a (yield_rows ps) ≡ classes_of Xs
   unfolding yield_rows classes_in
   classes_are [] [] s say_none = refl
+  classes_are {C = C} {a = a} [] (X ∷ Xs) s x4 = elim x4 [ ]
+  classes_are {C = C} {a = a} (p ∷ ps) [] s x4 = elim x4 [ ]
   classes_are {a = a} (p ∷ ps) (X ∷ Xs) s (say_more h t) = row_class a p.yield p.words (yield_rows ps) ∙ ap₂ (λ (x : ℕ) (xs : List ℕ). x ∷ xs) (ap class_number (class_is sheet a₀ G s h)) (classes_are ps Xs s t)
 
   -- what is left of the run over all residuals
