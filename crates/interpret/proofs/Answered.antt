@@ -74,9 +74,9 @@ unfolding ran_from
 ran_long f i zero a l = refl
 ran_long f i (suc k) a l = ap suc (ran_long f (suc i) k _ _)
 
-lines_long : (n : ℕ) (vs : List NVerdict) → length (lines_for n vs) ≡ length vs
-lines_long n [] = refl
-lines_long n (v ∷ vs) = ap suc (lines_long _ vs)
+lines_long : (vs : List NVerdict) (n : ℕ) → length (lines_for n vs) ≡ length vs
+lines_long [] n = refl
+lines_long (v ∷ vs) n = ap suc (lines_long vs _)
 
 -- ---- THE THEOREM
 
@@ -103,7 +103,7 @@ module _ (text sheet a b : List ℕ) (y : Ready text sheet a b) where
   -- a line for each policy that runs
   pub policies : length x.lines ≡ get_or a RUN 0
   unfolding run_of
-  policies = sym (lines_long 0 x.lines) ∙ ap length (sym ran.lines) ∙ ran_long _ 0 (get_or a RUN 0) a []
+  policies = sym (lines_long x.lines 0) ∙ ap length (sym ran.lines) ∙ ran_long _ 0 (get_or a RUN 0) a []
 
   same_count : get_or r.words RUN 0 ≡ get_or a RUN 0
   same_count = sym (count_rows r.words RUN) ∙ ap length (ran.hold.same RUN (omega arith)) ∙ count_rows a RUN

@@ -1,0 +1,41 @@
+-- What the loop of `group` keeps, and the measures of the cycle of calls of `interpret`.
+use mathlib.Core.Path.{◌≡◌}
+use Prim.Native.Nat.{◌+◌, ◌*◌, ◌-◌}
+use lib.ListN.{length}
+use Rattle.sheet.specs.Forms.{partial}
+use Rattle.value.specs.Clear.{Clear}
+use Rattle.tpe.specs.Run.{interp_of}
+use Rattle.interpret.proofs.Turns.{Turning}
+use Rattle.interpret.proofs.+branch_first_group_interpret_operation_pair_second_split.Given as goal
+
+abbrev pub decreases-branch : goal.decreases-branch
+decreases-branch l = l.depth * 8 + 2
+
+abbrev pub decreases-first : goal.decreases-first
+decreases-first l = l.depth * 8 + 2
+
+abbrev pub decreases-group : goal.decreases-group
+decreases-group l = l.depth * 8 + 1
+
+abbrev pub decreases-interpret : goal.decreases-interpret
+decreases-interpret l = l.depth * 8
+
+abbrev pub decreases-operation : goal.decreases-operation
+decreases-operation l = l.depth * 8 + 3
+
+abbrev pub decreases-pair : goal.decreases-pair
+decreases-pair l = l.depth * 8 + 1
+
+abbrev pub decreases-second : goal.decreases-second
+decreases-second l = l.depth * 8 + 1
+
+abbrev pub decreases-split : goal.decreases-split
+decreases-split l = l.depth * 8 + 1
+
+abbrev pub invariant-group-loop-rows : goal.invariant-group-loop-rows
+invariant-group-loop-rows l =
+    Turning (interp_of partial l.sheet l.p l.q l.depth) l.node l.step l.top l.len l.initial.rows l.initial.log l.rows l.log l.end l.joined l.i
+    × ((length l.rows ≡ length l.initial.rows) × (length l.log ≡ length l.initial.log) × Clear l.rows l.skip)
+
+abbrev pub decreases-group-loop-rows : goal.decreases-group-loop-rows
+decreases-group-loop-rows l = l.len - l.i
