@@ -12,7 +12,6 @@ use Rattle.cedar.specs.Value.{Value}
 use Rattle.cedar.specs.Types.{Schema}
 use Rattle.cedar.specs.Residual.{Class, copen}
 use Rattle.cedar.specs.Entities.{PEnv}
-use Rattle.cedar.specs.Interpret.{class}
 use Rattle.cedar.specs.Response.{Verdict}
 use Rattle.cedar.specs.Rows.{Row}
 use Rattle.cedar.specs.Table.{Table}

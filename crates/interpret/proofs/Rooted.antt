@@ -10,7 +10,7 @@ use Rattle.cedar.specs.Rows.{Row}
 use Rattle.cedar.specs.Numbered.{n_class_of}
 use Rattle.cedar.specs.Runs.{NVerdict}
 use Rattle.sheet.specs.Content.{rows_in}
-use Rattle.sheet.specs.Answer.{root, size}
+use Rattle.sheet.specs.Answer.{size}
 use Rattle.sheet.proofs.running.MadeCount.{residual_sizes}
 use Rattle.value.specs.Lines.{value_lines}
 use Rattle.residual.specs.Rows.{stage_at, start_at}

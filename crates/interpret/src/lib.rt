@@ -1,6 +1,8 @@
 // The interpreter of policies, `Evaluator::interpret`: a cycle of calls over the nodes of a tree, of which no more than 64 levels are
 // taken. A node leaves one block more on the `log`; what is made joins the values in `rows`. Of these the first `skip` are no bools: a search for a bool
 // begins after them.
+#![tactic(auto)]
+
 ghost use Rattle.std.specs.Prelude.{◌≡◌, [], ◌+◌, ◌-◌, ◌/◌, ◌≤◌, ◌<◌, leb, get_or, length, take};
 ghost use Rattle.words.specs.Log.{Room};
 ghost use Rattle.forms.specs.Tags.{AND, SET_OF};
