@@ -1,0 +1,32 @@
+-- `firm::begin` meets its contract. Assumes nothing.
+use Rattle.firm.proofs.Calling.{begin_first, begin_second, begin_long, begin_many, part_room, begin_refused, begin_opened}
+use Rattle.opening.proofs.Lent.{part_long}
+use borrow.Author.Rules.{rules}
+use Rattle.firm.proofs.begin.Goals as goal
+
+pub returns-then-work1-lt-ROOM : goal.returns-then-work1-lt-ROOM
+returns-then-work1-lt-ROOM c = search (begin_first, rules)
+
+pub returns-then-work2-lt-ROOM : goal.returns-then-work2-lt-ROOM
+returns-then-work2-lt-ROOM c = search (begin_second, rules)
+
+pub returns-then-sheet-gt-ROOM : goal.returns-then-sheet-gt-ROOM
+returns-then-sheet-gt-ROOM c = search (begin_long, rules)
+
+pub returns-then-rows-gt-MOST_ROWS : goal.returns-then-rows-gt-MOST_ROWS
+returns-then-rows-gt-MOST_ROWS c = search (begin_many, rules)
+
+pub slice_bounds-open-end-2 : goal.slice_bounds-open-end-2
+slice_bounds-open-end-2 c = search (part_long, rules)
+
+pub slice_bounds-open-end-4 : goal.slice_bounds-open-end-4
+slice_bounds-open-end-4 c = search (part_long, rules)
+
+pub open-o-requires : goal.open-o-requires
+open-o-requires c = search (part_room, rules)
+
+pub returns-then-number-ne0 : goal.returns-then-number-ne0
+returns-then-number-ne0 c = search (begin_refused, rules)
+
+pub returns : goal.returns
+returns c = search (begin_opened, rules)
