@@ -1,0 +1,16 @@
+-- `trial::every_word` meets its contract. Assumes nothing.
+use Rattle.trial.proofs.Trying.{looking_end, looking_off, looking_on, looking_start}
+use borrow.Author.Rules.{rules}
+use Rattle.trial.proofs.every_word.Goals as goal
+
+pub loop-i-init : goal.loop-i-init
+loop-i-init c = search (looking_start, rules)
+
+pub returns-then-words-i : goal.returns-then-words-i
+returns-then-words-i c = search (looking_off, rules)
+
+pub loop-i-preserved : goal.loop-i-preserved
+loop-i-preserved c = search (looking_on, rules)
+
+pub returns : goal.returns
+returns c = search (looking_end, rules)
