@@ -2,7 +2,6 @@
 -- them there, with their literals read among the partial sheet's values and the made ones.
 use mathlib.Core.Path.{◌≡◌, refl, sym, ◌∙◌, ap, subst}
 use mathlib.Core.Bool.{true, false}
-use mathlib.Core.Option.{none}
 use mathlib.Core.List.{List, [], ◌∷◌, ◌++◌}
 use Prim.Native.Nat.{ℕ, ◌+◌, ◌*◌, ◌≤◌, ◌<◌}
 use native.Mathlib.Omega.{arith}
@@ -11,7 +10,6 @@ use Rattle.cedar.specs.Value.{Value as Content, vbool}
 use Rattle.cedar.specs.Residual.{Node, Expr}
 use Rattle.cedar.specs.Entities.{Env}
 use Rattle.cedar.specs.Rows.{Row}
-use Rattle.cedar.specs.Numbered.{made}
 use Rattle.cedar.specs.Table.{At, Table}
 use Rattle.cedar.specs.Runs.{NVerdict, Run, Policy}
 use Rattle.cedar.proofs.TableLaws.{at_fun}
@@ -20,7 +18,7 @@ use Rattle.cedar.proofs.SettledByNumber as Q
 use Rattle.sheet.specs.Forms.{partial, complete, VALUE, NODE}
 use Rattle.sheet.specs.State.{State, lines_of, count, value_row}
 use Rattle.sheet.specs.Sheet.{read}
-use Rattle.sheet.specs.Content.{rows_in, value_rows, contents, schema, env, n_env, p_env, given, n_policies, on_term}
+use Rattle.sheet.specs.Content.{rows_in, value_rows, contents, schema, env, n_env, p_env, n_policies, on_term}
 use Rattle.sheet.specs.Answer.{run}
 use Rattle.sheet.specs.Call.{Accepted}
 use Rattle.sheet.specs.Agreement.{agrees}
@@ -39,7 +37,7 @@ use Rattle.residual.specs.Trees.{Ress, flats, count_res, trees_of, Wholes}
 use Rattle.tpe.specs.Fits.{Fits}
 use Rattle.tpe.specs.Run.{Ran, run_of}
 use Rattle.tpe.proofs.Reach.{reach, reach_start}
-use Rattle.tpe.proofs.Stands.{Hold, values, tys, nodes}
+use Rattle.tpe.proofs.Stands.{Hold, tys}
 use Rattle.tpe.proofs.Policies.{roots_of, RunIs}
 use Rattle.tpe.proofs.Accepted.{ready, run_fits}
 use Rattle.interpret.proofs.Answered.{log_short}

@@ -30,7 +30,7 @@ use Rattle.tpe.specs.Run.{words_of}
 use Rattle.tpe.proofs.Outcomes.{Fine, words_row, words_formed, words_short}
 use Rattle.tpe.proofs.Reach.{reach, asks, reach_most, reach_asked}
 use Rattle.tpe.proofs.Stands.{same_sheet, env_is}
-use Rattle.evaluator.specs.Run.{E, yields, values, made_of, give_of, settle_of, opt_of, on_yield, bool_only, next, env_of}
+use Rattle.evaluator.specs.Run.{E, yields, made_of, give_of, settle_of, opt_of, on_yield, bool_only, next, env_of}
 use Rattle.evaluator.specs.Gave.{as_bool, yield_bool, same_bool}
 use Rattle.evaluator.specs.declared.Yield.{Yield}
 use Rattle.evaluator.specs.declared.Yield.TheVariants.{Value, Error}

@@ -1,6 +1,8 @@
 // What the residuals of a partial run yield on a complete sheet. Their rows stand children first, so each takes what its children
 // yielded off a stack and leaves what it yields itself: no row is read twice, and nothing recurs.
 // A yield on the stack is a row of a value or of an error; its last word says how many words its residual has.
+#![tactic(auto)]
+
 ghost use Rattle.std.specs.Prelude.{◌≡◌, [], ◌+◌, ◌-◌, ◌*◌, ◌/◌, ◌≤◌, ◌<◌, take, length};
 ghost use Rattle.words.specs.Log.{Room, Holds, Appended};
 ghost use Rattle.sheet.specs.Forms.{VALUE};
