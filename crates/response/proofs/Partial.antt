@@ -15,7 +15,7 @@ use Rattle.sheet.specs.Forms.{partial, at, VALUE, NODE, no_key}
 use Rattle.sheet.specs.State.{State, lines_of, count}
 use Rattle.sheet.specs.Content.{types, rows_in, numbered_policies, on_term, n_policies, schema, n_env, trees, value_rows}
 use Rattle.sheet.specs.Sheet.{firsts}
-use Rattle.sheet.specs.Answer.{printed, concat, policy_items, partial_lines, value_lines, root, size, type_number, residual_rows, node_lines, ids, run, head_lines, partial_of, answer}
+use Rattle.sheet.specs.Answer.{printed, concat, policy_items, partial_lines, value_lines, size, type_number, residual_rows, node_lines, ids, run, head_lines, partial_of, answer}
 use Rattle.sheet.specs.Why.{why}
 use Rattle.sheet.proofs.reading.Lines.{History}
 use Rattle.sheet.proofs.content.TypeNumbers.{types_length, number_again}

@@ -1,5 +1,7 @@
 // The response: what each policy is called, how many are called so, the decision that these give, and the printed answer. A policy's
 // class is a word of a slice; its effect and its id stand in its row of the sheet.
+#![tactic(auto)]
+
 pub mod answer;
 pub mod names;
 
