@@ -205,9 +205,7 @@ fn argument_count(rt: &impl Env) -> usize
 
 // The words, on standard output or standard error.
 fn help(to: &impl Print) {
-    let _ = to.write_all(
-        b"openrules < SHEET                    the answer to a sheet\n",
-    );
+    let _ = to.write_all(b"openrules < SHEET                    the answer to a sheet\n");
     let _ = to.write_all(
         b"openrules finish PARTIAL < COMPLETE  what the partial sheet's residuals give on the complete sheet\n",
     );

@@ -10,7 +10,14 @@ use scan::front;
 use trial::{mark_bytes, mark_words, number, report, take};
 
 // The call in marked slices.
-fn run(rt: &impl Print, partial: &[u8], complete: &[u8], a: &mut [u32], b: &mut [u32], out: &mut [u8]) {
+fn run(
+    rt: &impl Print,
+    partial: &[u8],
+    complete: &[u8],
+    a: &mut [u32],
+    b: &mut [u32],
+    out: &mut [u8],
+) {
     mark_words(a);
     mark_words(b);
     mark_bytes(out);
@@ -19,7 +26,14 @@ fn run(rt: &impl Print, partial: &[u8], complete: &[u8], a: &mut [u32], b: &mut 
 }
 
 // Slices and a buffer of the lengths that the record says.
-fn lend(rt: &impl Print, partial: &[u8], complete: &[u8], first: usize, second: usize, buffer: usize) {
+fn lend(
+    rt: &impl Print,
+    partial: &[u8],
+    complete: &[u8],
+    first: usize,
+    second: usize,
+    buffer: usize,
+) {
     let mut a = [0u32; 16400];
     let mut b = [0u32; 16400];
     let mut out = [0u8; 65536];
