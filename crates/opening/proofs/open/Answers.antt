@@ -13,4 +13,4 @@ pub choose-requires : goal.choose-requires
 choose-requires c = search (choosable, rules)
 
 pub returns : goal.returns
-returns c = search (opened, rules)
+returns c = opened _ _ c.if-sheet-gt-ROOM.false _ _ _ _ _ _ c.load-l.ensures c.if-number-ne0.false _ c.choose.ensures
