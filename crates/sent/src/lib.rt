@@ -1,5 +1,7 @@
 // A sheet that the words hold, run and answered. What a run says of each policy, its class and what is left of it, is taken from the promises of
 // `interpret` and `evaluator` alone.
+#![tactic(auto)]
+
 ghost use Rattle.std.specs.Prelude.{◌≡◌, ◌≤◌, length};
 ghost use Rattle.sheet.specs.Forms.{partial, complete};
 ghost use Rattle.response.specs.Naming.{why_in};
