@@ -1,5 +1,7 @@
 // The calls for C and for Rust. A slice is passed as a pointer and then a length; the number is returned, line and length
 // are written where the last two pointers say. include/openrules.h declares the functions and says what a caller owes.
+#![tactic(auto)]
+
 ghost use Rattle.sheet.specs.Forms.{partial, complete};
 ghost use Rattle.authorizer.specs.Called.{Called};
 ghost use Rattle.finished.specs.Promise.{Finished};
