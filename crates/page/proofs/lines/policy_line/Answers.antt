@@ -8,7 +8,7 @@ returns c = let s = c.args in
     let x = c.item in
     let t = c.text-id in
     let e = c.effect_of-e in
-    let k = c.class_of_law in
+    let k = c.class_of-c in
     let v = c.cell-k in
     let w = c.effect_cell-l in
     let y = c.class_cell-m in
