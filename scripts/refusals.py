@@ -1,21 +1,25 @@
 #!/usr/bin/env python3
 """Runs the loader on the known sheets (scripts/sheets.py): python3 scripts/refusals.py
 
-A small program over crate `load` is written to target/refusals/ and run on all of them; its number and line must be those of the
-refusal, or 0 and 0 where the sheet is accepted. It is run natively three times: plain, optimised, and with the compiler's assumptions checked (the
-interpreter of `rt try` stops at its limit of steps, which says nothing). Nothing outside target/ is written.
+A small program over crate `load` is written to a folder `openrules-refusals` of temporary files and run by `rt try` on all of them; its number and line
+must be those of the refusal, or 0 and 0 where the sheet is accepted. Nothing in the repository is written: `rt ci` refuses files of Rattle that it does
+not prove.
 """
 import os
-import re
 import shutil
 import subprocess
 import sys
+import tempfile
 import time
 
 from sheets import HERE, known, whole
 
-TREE = os.path.join(HERE, "target", "refusals")
+TREE = os.path.join(tempfile.gettempdir(), "openrules-refusals")
 MAIN = """// Reads sheets, each after its mode, its length in five digits and a line end; prints the number and line of each.
+#![tactic(auto)]
+
+use streams::read_full;
+
 fn length(head: &[u8; 7]) -> usize {
     let mut n: usize = 0;
     let mut i = 1;
@@ -26,36 +30,36 @@ fn length(head: &[u8; 7]) -> usize {
     n
 }
 
-fn show(number: u64, line: u64) {
-    io::print_decimal(1, number);
-    io::write_all(1, b",");
-    io::print_decimal(1, line);
-    io::write_all(1, b"\\n");
+fn show(rt: &impl Print, number: u64, line: u64) {
+    let _ = rt.print(number);
+    let _ = rt.write_all(b",");
+    let _ = rt.print(line);
+    let _ = rt.write_all(b"\\n");
 }
 
-fn one(head: &[u8; 7]) {
-    let mut buffer = io::large_buffer();
+fn one(rt: &(impl Input + Print), head: &[u8; 7]) {
+    let mut buffer = [0u8; 65536];
     let n = length(head);
-    io::read_full(0, &mut buffer[..n]);
+    read_full(&mut rt.reader(), &mut buffer[..n]);
     if n > 16384 {
-        show(2, 0);
+        show(rt, 2, 0);
         return;
     }
     let mut a: [u32; 16384] = [7; 16384];
     let mut b: [u32; 16384] = [7; 16384];
     let r = load::load(&buffer[..n], head[0] == 112, &mut a, &mut b);
-    show(r.number as u64, r.line as u64);
+    show(rt, r.number as u64, r.line as u64);
 }
 
-fn main() {
+fn main(rt: HostRuntime) {
     let mut turns: u32 = 0;
     while turns < 100000 {
         turns += 1;
         let mut head: [u8; 7] = [0; 7];
-        if io::read_full(0, &mut head) < 7 {
+        if read_full(&mut rt.reader(), &mut head) < 7 {
             return;
         }
-        one(&head);
+        one(&rt, &head);
     }
 }
 """
@@ -66,29 +70,27 @@ def main(args):
         print(__doc__)
         return 2
     shutil.rmtree(TREE, ignore_errors=True)
-    shutil.copytree(os.path.join(HERE, "crates"), os.path.join(TREE, "crates"))
+    shutil.copytree(os.path.join(HERE, "crates"), os.path.join(TREE, "crates"), ignore=shutil.ignore_patterns("out"))
     program = os.path.join(TREE, "crates", "reading_cases")
     os.makedirs(os.path.join(program, "src"))
     with open(os.path.join(program, "src", "main.rt"), "w") as f:
         f.write(MAIN)
-    lines = open(os.path.join(HERE, "crates.txt")).read()
-    deps = [l.split(":")[0] for l in lines.splitlines() if ":" in l and not l.startswith("#") and os.path.exists(os.path.join(HERE, "crates", l.split(":")[0], "src", "lib.rt"))]
-    with open(os.path.join(TREE, "crates.txt"), "w") as f:
-        f.write(lines + "reading_cases: %s io libc\n" % " ".join(deps))
+    with open(os.path.join(HERE, "crates.txt"), encoding="utf-8") as f:
+        lines = f.read()
+    below = [line.split(":")[1] for line in lines.splitlines() if line.startswith("load:")][0]
+    with open(os.path.join(TREE, "crates.txt"), "w", encoding="utf-8") as f:
+        f.write(lines + "reading_cases: streams load%s\n" % below)
     chosen = [(sheet, result) for sheet, result in known() if whole(sheet, result)]
     data = b"".join(b"%s%05d\n%s" % (s.entry[:1].encode(), len(s.bytes), s.bytes) for s, _ in chosen)
-    with open(os.path.join(program, "stdin"), "wb") as f:
-        f.write(data)
-    with open(os.path.join(program, "stdout"), "w") as f:
-        f.write("".join("%d,%d\n" % r[:2] for _, r in chosen))
+    want = [b"%d,%d" % r[:2] for _, r in chosen]
     begin = time.time()
-    r = subprocess.run(["rt", "try", "reading_cases"], capture_output=True, text=True, cwd=TREE)
-    said = r.stdout + r.stderr
-    runs = re.findall(r"ok: the native program (.*) ended and wrote what is expected", said)
-    if len(runs) < 3:
-        print(said[-3000:])
-    print("%d sheets, %d of 3 native runs gave every number and line, %.1f s" % (len(chosen), len(runs), time.time() - begin))
-    return 0 if len(runs) == 3 else 1
+    r = subprocess.run(["rt", "try"], input=data, capture_output=True, cwd=program)
+    got = r.stdout.split(b"\n")[:-1]
+    wrong = [s.name for (s, _), w, g in zip(chosen, want, got) if w != g]
+    if r.returncode or len(got) != len(want):
+        print(r.stderr.decode()[-3000:])
+    print("%d sheets, %d told, %d of them otherwise%s, %.1f s" % (len(chosen), len(got), len(wrong), "".join("; " + name for name in wrong[:9]), time.time() - begin))
+    return 0 if got == want and not r.returncode else 1
 
 
 sys.exit(main(sys.argv[1:]))
