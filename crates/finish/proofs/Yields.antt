@@ -66,6 +66,8 @@ module _ (p c a b d e ns : List ℕ) (s : Stands partial p a b) (g : Stands comp
   schema_there = schema_same c d e ∙ ap schema (sym k.state)
 
   classes_from : (ls : List NVerdict) (Xs : List Expr) → ReadEach c d (env C) both.values (roots_of ls) Xs → classes_of c d (env C) (tys p a) both.values 0 [] Xs ≡ class_numbers (yields_of P C ls)
+  classes_from (l ∷ ls) [] x3 = elim x3 [ ]
+  classes_from [] (X ∷ Xs) x'' = elim x'' [ ]
   classes_from [] [] read_none = refl
   classes_from (l ∷ ls) (X ∷ Xs) (read_more r rs) =
       ap₂ (λ (x : ℕ) (xs : List ℕ). x ∷ xs) (λ i. class_number (result_class (eval (schema_there i) (env C) (sym (as_content r) i)))) (classes_from ls Xs rs)

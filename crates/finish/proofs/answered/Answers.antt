@@ -10,7 +10,7 @@ returns-then-number-ne0 c = search (partial_refused, rules)
 
 pub completed-requires : goal.completed-requires
 completed-requires c = let s = c in
-    let o = c.«open» in
+    let o = c.open-o in
     let l = c.leave-n in
     let q = c.cut in
     let z : o.result.number ≡ 0 = c.if-number-ne0.false in record {

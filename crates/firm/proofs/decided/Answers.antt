@@ -9,5 +9,5 @@ returns c = let s = c in
     let n = c.lines in
     let x = c.cut in
     let d = c.decision_of in
-    decides s.args.sheet.now s.args.rows.now l.new.1.0 r.new.1.0 s.args.log.now r.new.1.1.0 n.new.1.0 x.result.now s.args.principal s.args.resource r.result d.result
-    l.ensures r.ensures s.requires.1 r.auto.1.1.0 n.ensures x.ensures d.ensures
+    decides s.args.sheet.now s.args.rows.now l.new.own r.new.rows s.args.log.now r.new.log n.new.log x.result.now s.args.principal s.args.resource r.result d.result
+    l.ensures r.ensures s.requires.1 r.auto.log n.ensures x.ensures d.ensures

@@ -25,4 +25,4 @@ decided-d-requires c = let s = c in (part_room s.args.work1.now c.if-work1-lt-RO
 pub returns : goal.returns
 returns c = let d = c.decided-d in
     let t = c in
-    single_decided _ _ _ _ _ t.if-f-ne0.false t.if-work1-lt-ROOM.false t.if-work2-lt-ROOM.false d.new.1.1.1.1.0 d.auto.1.1.1.1.0 d.result d.ensures _ c.number_of_lem.ensures
+    single_decided _ _ _ _ _ t.if-f-ne0.false t.if-work1-lt-ROOM.false t.if-work2-lt-ROOM.false d.new.log d.auto.log d.result d.ensures _ c.number_of.ensures
