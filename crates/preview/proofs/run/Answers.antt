@@ -16,5 +16,6 @@ returns c = let s = c in
     let o = c.copy_bytes-copy in
     let z = c.replace-c in
     let p = c.partial in
-    copy_ran s.args.sheet.now s.args.new.now s.args.out.now s.args.start s.args.end o.result z.new.copy z.result o.ensures z.ensures c.if-c-gt-ROOM.false s.args.work1.now
-    s.args.work2.now s.requires.0 s.requires.1 p.result.number p.result.line p.result.length p.new.out p.new.work1 p.new.work2 p.ensures
+    let k = copy_ran s.args.sheet.now s.args.new.now s.args.out.now s.args.start s.args.end o.result z.new.copy z.result o.ensures z.ensures c.if-c-gt-ROOM.false s.args.work1.now
+    s.args.work2.now s.requires.0 s.requires.1 p.result.number p.result.line p.result.length p.new.out p.new.work1 p.new.work2 p.ensures in
+    record { answers = k.0; first = k.1.0; second = k.1.1 }
