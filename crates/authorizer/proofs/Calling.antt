@@ -7,7 +7,7 @@ use Rattle.words.specs.Log.{cleared}
 use Rattle.sheet.specs.Forms.{Mode}
 use Rattle.sheet.specs.Sheet.{read}
 use Rattle.sheet.specs.Answer.{answer}
-use Rattle.sheet.specs.Call.{Returned, returned, written}
+use Rattle.sheet.specs.Call.{returned, written}
 use Rattle.opening.specs.Promised.{Promised}
 use Rattle.opening.proofs.Lent.{short_first, short_second, long_enough}
 use Rattle.authorizer.specs.Called.{Called}

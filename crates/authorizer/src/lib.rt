@@ -1,5 +1,7 @@
 // The calls. Each reads a sheet, runs it and prints the answer, in two work slices and a buffer that the caller lends, and asks nothing
 // of them: what is too short is refused.
+#![tactic(auto)]
+
 ghost use Rattle.std.specs.Prelude.{◌≡◌, length};
 ghost use Rattle.sheet.specs.Forms.{partial, complete};
 ghost use Rattle.line.specs.Codes.{mode_of};

@@ -1,4 +1,6 @@
 // A sheet opened: refused with 2 to 8, or held by the words, its policies on term as those that run. Every call over a sheet begins so.
+#![tactic(auto)]
+
 ghost use Rattle.std.specs.Prelude.{◌≤◌, length};
 ghost use Rattle.line.specs.Codes.{mode_of};
 ghost use Rattle.opening.specs.Opens.{Opens};
