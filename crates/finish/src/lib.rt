@@ -1,6 +1,8 @@
 // Finish an application: the answer that the residuals of a partial sheet give on a complete sheet that agrees with it. The partial sheet's
 // rows and the log are in the lent work slices; the residuals, the complete sheet's rows and the numbers that made values have there are on
 // the stack: some 84 KB.
+#![tactic(auto)]
+
 ghost use Rattle.std.specs.Prelude.{◌≡◌, ◌≤◌, length};
 ghost use Rattle.finished.specs.Promise.{Finished};
 ghost use Rattle.finish.specs.Parts.{after_both, after_partial, after_lengths, Answers, Completes, Left, Leaving, Finishes};

@@ -1,5 +1,7 @@
 // Try one answer: what a partial sheet gives with one line replaced, before the line is kept. The kept sheet is only read; the copy with the
 // other line is on the stack: 16 KB.
+#![tactic(auto)]
+
 ghost use Rattle.std.specs.Prelude.{◌≡◌, ◌≤◌, length};
 ghost use Rattle.words.specs.Log.{cleared};
 ghost use Rattle.sheet.specs.Forms.{partial};
