@@ -9,7 +9,6 @@ use lib.Dec.{ltb, eqb}
 use lib.ListN.{length, get_or, take, drop, length-append, length-drop, length-take, take-append-drop}
 use lib.Seq.{take_at}
 use Rattle.words.specs.Log.{part, cleared}
-use Rattle.cedar.specs.Response.{Decision}
 use Rattle.sheet.specs.Forms.{partial, at, mark, TEXT, PRINCIPAL, RESOURCE}
 use Rattle.sheet.specs.Call.{Returned, returns, room, lent_then, short_then, refused_then, read_then, worked}
 use Rattle.sheet.proofs.reading.Checked.{accepted_from}

@@ -18,7 +18,7 @@ use Rattle.sheet.specs.Call as S
 use Rattle.words.specs.Log.{part}
 use Rattle.table.proofs.Rows.{count_held, lines_held_law}
 use Rattle.response.specs.Runs.{Holding}
-use Rattle.staff.specs.Firm.{Row, text_fits, ask_fits, misfit, fit_then, firm_returned, firm_rows, firm_group, filled_rows, row_decision, is_deny, is_undecided, any_row, group}
+use Rattle.staff.specs.Firm.{text_fits, ask_fits, misfit, fit_then, firm_returned, firm_rows, firm_group, filled_rows, row_decision, is_deny, is_undecided, any_row, group}
 use Rattle.firm.specs.declared.Row as R
 use Rattle.firm.specs.declared.Quote as Q
 use Rattle.firm.specs.Parts.{code_of, decision_in, joined, asks, asked_in, filled, filled_all, text_in, ask_in, refusal, Opened, Begins, check_of, Singles, join_of, rows_in}

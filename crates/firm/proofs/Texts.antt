@@ -7,7 +7,7 @@ use Prim.Native.Nat.{ℕ, suc, ◌<◌}
 use native.Mathlib.Omega.{arith}
 use borrow.Author.Tests.{eqb-true}
 use lib.Dec.{eqb}
-use lib.ListN.{length, get_or, set}
+use lib.ListN.{length, get_or}
 use Rattle.sheet.specs.Forms.{Mode, forms, form_of, counted, items_from, tag, key_of, row_of, no_tag, at, mark, PRINCIPAL, RESOURCE}
 use Rattle.sheet.specs.State.{State}
 use Rattle.sheet.proofs.reading.Lines.{Was}

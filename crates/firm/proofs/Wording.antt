@@ -1,5 +1,5 @@
 -- Rows as plain words: a row read, a row stored, and the loops of the call over them. Assumes nothing.
-use mathlib.Core.Path.{◌≡◌, refl, sym, ap, ap₂, ◌∙◌, subst}
+use mathlib.Core.Path.{◌≡◌, refl, sym, ap, ◌∙◌, subst}
 use mathlib.Core.List.{List, [], ◌∷◌, ◌++◌}
 use Prim.Native.Nat.{ℕ, zero, suc, ◌+◌, ◌*◌, ◌/◌, ◌≤◌, ◌<◌}
 use native.Mathlib.Omega.{arith}
@@ -9,9 +9,8 @@ use Rattle.sheet.specs.Call.{worked}
 use Rattle.firm.specs.declared.Row as R
 use Rattle.firm.specs.declared.Quote as Q
 use Rattle.firm.specs.Parts.{Begins, check_of, Singles, join_of}
-use Rattle.firm.specs.Promise.{Quotes}
 use Rattle.firm.specs.Words.{row_of, rows_of_words, spare, words_of_row, words_of_rows, row_from_def, QuotesWords}
-use Rattle.firm.proofs.Quoting.{checking, Checking, checking_start, checking_on, Deciding, deciding_start, decided_on, decided_all}
+use Rattle.firm.proofs.Quoting.{checking, Checking, checking_on, Deciding, deciding_start, decided_on, decided_all}
 
 pub rows_count : (ws : List ℕ) → length (rows_of_words ws) ≡ length ws / 3
 rows_count [] = omega arith

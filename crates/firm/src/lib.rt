@@ -1,5 +1,7 @@
 // A whole firm in one call: for each of a list of rows, whose two texts stand for those of principal and resource, the decision on a partial sheet.
 // The sheet is read once; each row is run over a copy of its words on the stack, some 64 KB that all rows share, which have the row's texts.
+#![tactic(auto)]
+
 ghost use Rattle.std.specs.Prelude.{◌≡◌, ◌*◌, ◌/◌, ◌≤◌, ◌<◌, length};
 ghost use Rattle.std.proofs.lemmas.List.Edits.{sets};
 ghost use Rattle.sheet.specs.Call.{worked};

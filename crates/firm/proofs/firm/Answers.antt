@@ -29,5 +29,5 @@ returns c =
     let k = c.loop-j in
     let e = c.finish in
     decided_all c.args.sheet.now c.args.rows.now c.args.work1.now c.args.work2.now g.new.work1 g.new.work2 g.result g.ensures g.auto.work1 g.auto.work2
-        c.loop-i.f c.loop-i.i c.loop-i.invariant c.loop-i-test.false k.rows k.work2 k.f k.j k.invariant.1 c.loop-j-test.false e.result e.ensures.is e.new.work1 e.new.work2
-        e.ensures.first e.ensures.second
+    c.loop-i.f c.loop-i.i c.loop-i.invariant c.loop-i-test.false k.rows k.work2 k.f k.j k.invariant.1 c.loop-j-test.false e.result e.ensures.is e.new.work1 e.new.work2
+    e.ensures.first e.ensures.second

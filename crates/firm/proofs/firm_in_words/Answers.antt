@@ -1,7 +1,5 @@
 -- `firm::firm_in_words` meets its contract. Assumes nothing.
 use mathlib.Core.Path.{sym, ◌∙◌}
-use Prim.Native.Nat.{◌+◌, ◌<◌}
-use native.Mathlib.Omega.{arith}
 use Rattle.firm.proofs.Quoting.{checking_start}
 use Rattle.firm.proofs.Wording.{wording_start, words_checked, row_there, words_decided, words_done}
 use borrow.Author.Rules.{rules}
