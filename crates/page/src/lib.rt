@@ -1,5 +1,7 @@
 // The counter page: a partial sheet read, run and shown on 60 lines of 72 columns, which take the answer's place in the lent buffer. The call
 // asks nothing of what it is lent: what is too short is refused.
+#![tactic(auto)]
+
 pub mod cells;
 pub mod lines;
 

@@ -1,6 +1,5 @@
 -- `page::lines::blank_lines` meets its contract. Assumes nothing.
 use Rattle.print.proofs.Writing.{written_length}
-use Rattle.page.specs.Said.{blank_lines_def}
 use Rattle.page.proofs.Rows.{blank_start, blank_on, blank_end}
 use borrow.Author.Rules.{rules}
 use Rattle.page.proofs.lines.blank_lines.Goals as goal
