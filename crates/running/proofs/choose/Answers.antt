@@ -1,19 +1,10 @@
 -- `running::choose` meets its contract. Assumes nothing.
-use mathlib.Core.Path.{◌≡◌, refl}
-use mathlib.Core.Bool.{Bool, true, false}
-use mathlib.Core.Logic.{◌⊎◌, inl, inr}
+use mathlib.Core.Logic.{⊎_elim}
+use Rattle.std.proofs.lemmas.Bool.{cases_Bool}
 use native.Mathlib.Omega.{arith}
 use Rattle.running.proofs.Runs.{choose_start, choose_end, choose_skip, choose_run, runnable}
 use borrow.Author.Rules.{rules}
 use Rattle.running.proofs.choose.Goals as goal
-
-true_or_false : (b : Bool) → (b ≡ true) ⊎ (b ≡ false)
-true_or_false true = inl refl
-true_or_false false = inr refl
-
-either : {A B C : Type 0} → (A → C) → (B → C) → A ⊎ B → C
-either f g (inl a) = f a
-either f g (inr b) = g b
 
 pub loop-i-init : goal.loop-i-init
 loop-i-init c = search (choose_start, rules)
@@ -25,7 +16,7 @@ pub loop-i-preserved : goal.loop-i-preserved
 loop-i-preserved c =
     let run = choose_run c.requires c.count-n.ensures c.loop-i.invariant c.loop-i-test.true c.runs_on.ensures {w' = _} in
     let skip = choose_skip c.requires c.count-n.ensures c.loop-i.invariant c.loop-i-test.true c.runs_on.ensures {w' = _} in
-    either (λ e. run e (grind arith)) (λ e. skip e (grind arith)) (true_or_false c.runs_on.result)
+    ⊎_elim (λ e. run e (grind arith)) (λ e. skip e (grind arith)) (cases_Bool c.runs_on.result)
 
 pub returns : goal.returns
 returns c = choose_end c.requires c.count-n.ensures c.loop-i.invariant c.loop-i-test.false
