@@ -49,20 +49,15 @@ pub enum Stage {
     Open,
 }
 
-// A row more, word by word, if there is room for it.
+// A row more, if there is room for it.
+#[tactic(auto, using(crate::proofs::Pushes::row_in), unfolding(words::specs::Log::has_room))]
 fn push_row(log: &mut [u32], top: usize, what: u32, source: u32, words: u32, ty: u32) -> usize
     ensures { Appended log.old top (what ∷ source ∷ words ∷ ty ∷ []) log.new result }
 {
-    if top > ROOM - ROW {
+    if top > ROOM - ROW || top + ROW > log.len() {
         return top;
     }
-    if top + ROW > log.len() {
-        return top;
-    }
-    log[top] = what;
-    log[top + 1] = source;
-    log[top + 2] = words;
-    log[top + 3] = ty;
+    log[top..top + ROW].copy_from_slice(&[what, source, words, ty]);
     top + ROW
 }
 
@@ -96,6 +91,7 @@ pub fn push_left(log: &mut [u32], start: usize, top: usize, node: u32, steps: u3
 }
 
 // Word `place` of the row that ends at `end`.
+#[tactic(auto, unfolding(crate::specs::Rows::word_at))]
 pub fn word_at(log: &[u32], end: usize, place: usize) -> u32
     requires { place < ROW }
     ensures { result ≡ word_at log.now end place }
@@ -107,6 +103,7 @@ pub fn word_at(log: &[u32], end: usize, place: usize) -> u32
 }
 
 // How far the block that ends at `end` is worked.
+#[tactic(auto, unfolding(crate::specs::Rows::stage_at))]
 pub fn stage_at(log: &[u32], end: usize) -> Stage
     ensures { result ≡ stage_at log.now end }
 {
@@ -120,57 +117,40 @@ pub fn stage_at(log: &[u32], end: usize) -> Stage
 }
 
 // Where the block that ends at `end` begins; a block has at least one row.
+#[tactic(auto, unfolding(crate::specs::Rows::start_at))]
 pub fn start_at(log: &[u32], end: usize) -> usize
     ensures { result ≡ start_at log.now end }
 {
-    let n = word_at(log, end, WORDS) as usize;
-    if n < ROW {
-        if end < ROW {
-            return 0;
-        }
-        return end - ROW;
-    }
-    if end < n {
-        return 0;
-    }
-    end - n
+    end.saturating_sub(ROW.max(word_at(log, end, WORDS) as usize))
 }
 
 // Whether an operation can err by itself.
+#[tactic(auto, unfolding(crate::specs::Errs::op_errs_def))]
 pub fn op_errs(tag: u32) -> bool
     ensures { result ≡ op_errs_def tag }
 {
-    match tag {
-        ERR => true,
-        ADD => true,
-        SUB => true,
-        MUL => true,
-        GETTAG => true,
-        GET => true,
-        NEG => true,
-        _ => false,
-    }
+    matches!(tag, ERR | ADD | SUB | MUL | GETTAG | GET | NEG)
 }
 
 // Whether one of the blocks from `start` to `end` can err.
 #[cycle(any_error_can_error)]
+#[tactic(auto, using(crate::proofs::Steps::blocks_none, crate::proofs::Steps::blocks_step), unfolding(crate::specs::Rows::start_at))]
 fn any_error(rows: &[u32], log: &[u32], start: usize, end: usize, depth: u32) -> bool
     ensures { result ≡ blocks_err (errs_by (rows_of rows.now NODE) log.now depth) log.now start end }
 {
     let mut p = end;
-    loop {
-        if p <= start {
-            break false;
-        }
+    while p > start {
         if can_error(rows, log, p, depth) {
-            break true;
+            return true;
         }
         p = start_at(log, p);
     }
+    false
 }
 
 // Whether the block that ends at `end` can err; `depth` levels of rows are looked at.
 #[cycle(any_error_can_error)]
+#[tactic(auto, unfolding(crate::specs::Errs::errs_by, crate::specs::Errs::row_errs))]
 pub fn can_error(rows: &[u32], log: &[u32], end: usize, depth: u32) -> bool
     ensures { result ≡ errs_by (rows_of rows.now NODE) log.now depth end }
 {
@@ -194,6 +174,7 @@ pub fn can_error(rows: &[u32], log: &[u32], end: usize, depth: u32) -> bool
 }
 
 // Whether the block that ends at `end` can err: no tree is deeper than 64.
+#[tactic(auto, unfolding(crate::specs::Errs::errs))]
 pub fn can_error_assuming_well_formed(rows: &[u32], log: &[u32], end: usize) -> bool
     ensures { result ≡ errs (rows_of rows.now NODE) log.now end }
 {
