@@ -13,8 +13,7 @@ use Rattle.words.proofs.Logs.{log_length, append_holds, append_room, append_belo
 use Rattle.words.proofs.Stores.{get_d_below, length_part}
 use Rattle.cedar.specs.Making.{sort_n}
 use Rattle.forms.specs.Tags.{SET_VALUE, RECORD_VALUE}
-use Rattle.value.specs.declared.Entry.{Entry}
-use Rattle.value.specs.declared.Entry.TheVariants.{At, Nothing}
+use Rattle.std.specs.Prelude.{Option, Some, None}
 use Rattle.value.specs.Shapes.{value_found}
 use Rattle.value.specs.Made.{ROW, SOURCE, Made, MadeBeside, values_in, least_of, set_row, pairs_of, record_row, push_all, written}
 use Rattle.value.proofs.Lists.{uncons2}
@@ -101,11 +100,11 @@ module _ {b b' : List ℕ} {p p' x : ℕ} (h : Room b p) (w : Appended b p (x �
   pushed_base at l = sym (take-take at p b' l) ∙ ap (take at) (append_below w) ∙ take-take at p b l
 
 module _ (b₀ : List ℕ) (at start bt : ℕ) (h : bt ≤ at) (b : List ℕ) (p lo : ℕ) (g : Filling b₀ at start bt b p lo)
-    (rows : List ℕ) (er : rows ≡ part b start bt) (e : Entry) (ee : value_found e ≡ least_of lo none (values_in rows)) where
+    (rows : List ℕ) (er : rows ≡ part b start bt) (e : Option ℕ) (ee : value_found e ≡ least_of lo none (values_in rows)) where
   the_least : least_of lo none (values_in (part b₀ start bt)) ≡ value_found e
   the_least = ap (λ (l : List ℕ). least_of lo none (values_in l)) (sym (er ∙ part_same b₀ b at start bt g.base h)) ∙ sym ee
 
-  pub fill_end : e ≡ Nothing → Holds at b p (push_all (take at b₀) (sort_n (values_in (part b₀ start bt))))
+  pub fill_end : e ≡ None → Holds at b p (push_all (take at b₀) (sort_n (values_in (part b₀ start bt))))
   unfolding push_all
   fill_end z =
       record {
@@ -114,7 +113,7 @@ module _ (b₀ : List ℕ) (at start bt : ℕ) (h : bt ≤ at) (b : List ℕ) (p
         grows = g.grows;
       }
 
-  module _ (x : ℕ) (z : e ≡ At x) where
+  module _ (x : ℕ) (z : e ≡ Some x) where
     next : from_n lo (sort_n (values_in (part b₀ start bt))) ≡ x ∷ from_n (x + 1) (sort_n (values_in (part b₀ start bt)))
     next = least_some lo x (values_in (part b₀ start bt)) (the_least ∙ ap value_found z)
 

@@ -14,7 +14,6 @@ ghost use Rattle.value.specs.Places.{passed, Passing};
 ghost use Rattle.value.specs.Shapes.{value_found};
 ghost use Rattle.value.specs.Made.{bool_row, long_row, entity_row, room_for, narrow, with_made, Made, MadeBeside, values_in, Shifted, Inserted, lower_of, least_of, set_row, pairs_of, record_row, push_all};
 
-use crate::Entry;
 use forms::{BOOL_VALUE, ENTITY_VALUE, LONG_VALUE, NODE, RECORD_VALUE, SET_VALUE, VALUE};
 use table::{HEAP, MADE, TOP, add_row, base_of, count, row};
 use words::{cut, push, read, store};
@@ -31,19 +30,7 @@ const FOUR: usize = 4;
 pub fn same(left: &[u32], right: &[u32]) -> bool
     ensures { result ≡ same left.now right.now }
 {
-    if left.len() != right.len() {
-        return false;
-    }
-    let mut i = 0;
-    loop {
-        if i >= left.len() {
-            break true;
-        }
-        if left[i] != right[i] {
-            break false;
-        }
-        i += 1;
-    }
+    left == right
 }
 
 // The number of the first row of a key with these words, or of all its rows where none has them, row by row.
@@ -51,16 +38,12 @@ fn find_row(rows: &[u32], key: usize, line: &[u32]) -> usize
     ensures { result ≡ place_of line.now (rows_of rows.now key) }
 {
     let n = count(rows, key);
-    let mut i = 0;
-    loop {
-        if i >= n {
-            break n as usize;
-        }
+    for i in 0..n {
         if same(row(rows, key, i), line) {
-            break i as usize;
+            return i as usize;
         }
-        i += 1;
     }
+    n as usize
 }
 
 // Whether `value` stands at `at`, before `end`.
@@ -154,15 +137,13 @@ fn passed_by_fours(
     ensures { Passing words.now before.now value former places.now from result }
 {
     let mut i = from;
-    loop {
-        if places.len() - i < FOUR {
-            break i;
-        }
+    while places.len() - i >= FOUR {
         if !passes_four(words, before, places, i, value, former) {
-            break i;
+            return i;
         }
         i += FOUR;
     }
+    i
 }
 
 // The number of the first place from number `from` on where they stand, or of all places where they stand at none.
@@ -177,16 +158,13 @@ fn next_place(
     requires { from ≤ length places.now }
     ensures { result ≡ from + passed words.now before.now value former (drop from places.now) }
 {
-    let mut i = passed_by_fours(words, before, places, from, value, former);
-    loop {
-        if i >= places.len() {
-            break i;
-        }
+    let start = passed_by_fours(words, before, places, from, value, former);
+    for i in start..places.len() {
         if is_at(words, before, places[i], value, former) {
-            break i;
+            return i;
         }
-        i += 1;
     }
+    places.len()
 }
 
 // Which word tells a row from most others: the last one, but of a bool the first.
@@ -316,16 +294,12 @@ fn made_bool(rows: &[u32], first: usize, many: usize, bit: u32) -> usize
     requires { (first ≡ base MADE) × (many ≡ get_or rows.now MADE 0) × (first + many ≤ length rows.now) }
     ensures { result ≡ place_of (BOOL_VALUE ∷ bit ∷ []) (rows_of rows.now MADE) }
 {
-    let mut i = 0;
-    loop {
-        if i >= many {
-            break many;
-        }
+    for i in 0..many {
         if is_bool(rows, first + i, bit) {
-            break i;
+            return i;
         }
-        i += 1;
     }
+    many
 }
 
 // The number of the first of the made values that is the bool, or of all of them where none is.
@@ -436,16 +410,12 @@ pub fn clear_of(rows: &[u32]) -> usize
         return 0;
     }
     let b = base_of(VALUE);
-    let mut i = 0;
-    loop {
-        if i >= n {
-            break i;
-        }
+    for i in 0..n {
         if !is_clear(rows, b + i) {
-            break i;
+            return i;
         }
-        i += 1;
     }
+    n
 }
 
 // The bool, which is none of the sheet's first `skip` values.
@@ -489,32 +459,26 @@ pub fn make_entity(rows: &mut [u32], kind: u32, text: u32) -> u32
 }
 
 // The lower of the best so far and `value`, if `value` is not below `low`.
-fn lower(low: usize, best: Entry, value: u32) -> Entry
+fn lower(low: usize, best: Option<u32>, value: u32) -> Option<u32>
     ensures { value_found result ≡ lower_of low (value_found best) value }
 {
     if (value as usize) < low {
         return best;
     }
     match best {
-        Entry::Nothing => Entry::At(value),
-        Entry::At(y) => {
-            if value < y {
-                return Entry::At(value);
-            }
-            Entry::At(y)
-        }
+        None => Some(value),
+        Some(y) => Some(y.min(value)),
     }
 }
 
 // The least value of these rows that is not below `low`.
-fn least(words: &[u32], low: usize) -> Entry
+fn least(words: &[u32], low: usize) -> Option<u32>
     ensures { value_found result ≡ least_of low none (values_in words.now) }
 {
-    let mut best = Entry::Nothing;
-    let mut i = 0;
-    while words.len() - i >= ROW {
-        best = lower(low, best, words[i + SOURCE]);
-        i += ROW;
+    let (lines, _) = words.as_chunks::<ROW>();
+    let mut best = None;
+    for line in lines {
+        best = lower(low, best, line[SOURCE]);
     }
     best
 }
@@ -528,13 +492,11 @@ fn selected(log: &mut [u32], at: usize, start: usize, top: usize) -> usize
 {
     let mut p = at;
     let mut lo: usize = 0;
-    loop {
-        let Entry::At(x) = least(cut(log, start, top), lo) else {
-            break p;
-        };
+    while let Some(x) = least(cut(log, start, top), lo) {
         p = push(log, p, x);
         lo = x as usize + 1;
     }
+    p
 }
 
 // The words from `start` to `end` move one place on, and `value` stands before them.
@@ -542,15 +504,8 @@ fn shift(log: &mut [u32], start: usize, end: usize, value: u32)
     requires { (start ≤ end) × (end < length log.old) }
     ensures { Shifted log.old start end value log.new }
 {
-    let mut y = value;
-    let mut i = start;
-    while i < end {
-        let z = log[i];
-        log[i] = y;
-        y = z;
-        i += 1;
-    }
-    log[end] = y;
+    log.copy_within(start..end, start + 1);
+    log[start] = value;
 }
 
 // The number `value` in its place among the words from `at` to `end`, unless it is there; the end after them.
@@ -574,9 +529,8 @@ fn inserted(log: &mut [u32], at: usize, start: usize, top: usize) -> usize
     ensures { Holds at log.new result (push_all (take at log.old) (sort_n (values_in (part log.old start top)))) }
 {
     let mut p = at;
-    let mut i = cut(log, start, top).len() / ROW;
-    while i > 0 {
-        i -= 1;
+    let n = cut(log, start, top).len() / ROW;
+    for i in (0..n).rev() {
         let x = read(log, start + ROW * i + SOURCE);
         p = insert(log, at, p, x);
     }

@@ -9,8 +9,8 @@ loop-i-init c = search (rows_start, rules)
 pub loop-i-preserved : goal.loop-i-preserved
 loop-i-preserved c = search (find_on, rules)
 
-pub returns-then-i-n : goal.returns-then-i-n
-returns-then-i-n c = search (find_end, rules)
+pub returns : goal.returns
+returns c = search (find_end, rules)
 
 pub returns-then-same : goal.returns-then-same
 returns-then-same c = search (find_hit, rules)

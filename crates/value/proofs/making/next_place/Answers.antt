@@ -6,8 +6,8 @@ use Rattle.value.proofs.making.next_place.Goals as goal
 pub loop-i-preserved : goal.loop-i-preserved
 loop-i-preserved c = search (passing_on, rules)
 
-pub returns-then-i-places : goal.returns-then-i-places
-returns-then-i-places c = search (passing_end, rules)
+pub returns : goal.returns
+returns c = search (passing_end, rules)
 
 pub returns-then-is_at : goal.returns-then-is_at
 returns-then-is_at c = search (passing_hit, rules)
