@@ -1,16 +1,16 @@
 -- `lookup::led_by` meets its contract. Assumes nothing.
+use native.Mathlib.Omega.{arith}
 use Rattle.lookup.proofs.Halving.{halving_start, halving_room, halving_on, halving_end}
-use borrow.Author.Rules.{rules}
 use Rattle.lookup.proofs.led_by.Goals as goal
 
-pub loop-left-init : goal.loop-left-init
-loop-left-init c = search (halving_start, rules)
+pub loop-init : goal.loop-init
+loop-init c = halving_start c.args.rows.now c.args.value
 
 pub overflow_add-line : goal.overflow_add-line
-overflow_add-line c = search (halving_room, rules)
+overflow_add-line c = omega (arith, halving_room _ _ _ _ _ c.loop.invariant (omega arith))
 
-pub loop-left-preserved : goal.loop-left-preserved
-loop-left-preserved c = search (halving_on, rules)
+pub loop-preserved : goal.loop-preserved
+loop-preserved c = halving_on _ _ _ _ _ c.loop.invariant _ (omega arith) _ c.nearer-line.ensures
 
 pub returns : goal.returns
-returns c = search (halving_end, rules)
+returns c = halving_end _ _ _ _ _ c.loop.invariant (omega arith)
