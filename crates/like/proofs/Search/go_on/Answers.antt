@@ -1,10 +1,7 @@
--- `like::go_on` meets its contract. Assumes nothing.
-use Rattle.like.proofs.Globbing.{glob_start, glob_holds, glob_fails, glob_on, glob_less}
+-- `like::Search::go_on` meets its contract. Assumes nothing.
+use Rattle.like.proofs.Globbing.{glob_holds, glob_fails, glob_on, glob_less}
 use borrow.Author.Rules.{rules}
-use Rattle.like.proofs.go_on.Goals as goal
-
-pub loop-p-init : goal.loop-p-init
-loop-p-init c = search (glob_start, rules)
+use Rattle.like.proofs.Search.go_on.Goals as goal
 
 pub loop-p-smaller : goal.loop-p-smaller
 loop-p-smaller c = search (glob_less, rules)
