@@ -15,7 +15,6 @@ use Rattle.cedar.specs.Types.{among}
 use Rattle.sheet.specs.Ascii.{ascii}
 use Rattle.sheet.specs.Bytes.{up_to, split, same}
 use Rattle.sheet.specs.Forms.{place_in, word_number}
-use Rattle.scan.specs.declared.Number as N
 use Rattle.scan.specs.Numbers.{number_of, placed}
 use Rattle.scan.specs.Places.{parts_from}
 use Rattle.scan.proofs.Splits.{split_parts, split_at, from_on, from_end}
@@ -46,7 +45,7 @@ module _ (l : List ℕ) (e : ℕ) (f : e ≡ 0 + up_to 61 (drop 0 l)) where
   pub key_unended : length l ≤ e → false ≡ may_fill l
   key_unended h = let g : up_to 61 l ≡ e = sym (at_start 61 l e f) in rw (le-ltb (up_to 61 l) (length l) (omega arith)) (sym (and_false (ltb (place_in (key_in l) fill_keys) 4)))
 
-  module _ (h : e < length l) (k : List ℕ) (p : k ≡ take e l) (r : N.Number) (n : number_of r ≡ placed k (split 44 fill_bytes)) where
+  module _ (h : e < length l) (k : List ℕ) (p : k ≡ take e l) (r : Number) (n : number_of r ≡ placed k (split 44 fill_bytes)) where
     key_is : k ≡ key_in l
     key_is = p ∙ ap (λ (i : ℕ). take i l) (at_start 61 l e f)
 
@@ -56,14 +55,14 @@ module _ (l : List ℕ) (e : ℕ) (f : e ≡ 0 + up_to 61 (drop 0 l)) where
     may : (t : Bool) → ltb (place_in (key_in l) fill_keys) 4 ≡ t → t ≡ may_fill l
     may t e₀ = let g : up_to 61 l ≡ e = sym (at_start 61 l e f) in rw (e₀, lt-ltb (up_to 61 l) (length l) (omega arith)) (sym (and_true t))
 
-    pub key_found : (m : ℕ) → r ≡ N.TheVariants.Value m → true ≡ may_fill l
+    pub key_found : (m : ℕ) → r ≡ Some m → true ≡ may_fill l
     key_found m q = may true (go (ltb (place_in (key_in l) fill_keys) 4) (sym (ap number_of q) ∙ number_is))
       where
         go : (t : Bool) → some m ≡ cond t (some (place_in (key_in l) fill_keys)) none → t ≡ true
         go true z = refl
         go false z = let w : ◌≡◌ {A = ℕ} 0 1 = cc in absurd (omega arith)
 
-    pub key_absent : r ≡ N.TheVariants.Refused → false ≡ may_fill l
+    pub key_absent : r ≡ None → false ≡ may_fill l
     key_absent q = may false (go (ltb (place_in (key_in l) fill_keys) 4) (sym (ap number_of q) ∙ number_is))
       where
         go : (t : Bool) → none ≡ cond t (some (place_in (key_in l) fill_keys)) none → t ≡ false

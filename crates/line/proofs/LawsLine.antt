@@ -1,4 +1,5 @@
 -- The row of a whole line. Assumes nothing.
+use Rattle.std.proofs.Common.{Some, None}
 use mathlib.Core.Path.{◌≡◌, refl, sym, ap, ◌∙◌}
 use mathlib.Core.Bool.{Bool, true, false, cond, ◌&&◌, ◌||◌}
 use mathlib.Core.Option.{Option, none, some}
@@ -16,11 +17,10 @@ use Rattle.sheet.specs.Bytes.{up_to, split, same, printable}
 use Rattle.sheet.specs.Forms.{Form, entry, plain, keys, word_number, forms, form_of, form_in, tag_of, key_of, counted, or_empty, items_from, row_headed, heading, row_of_text, row_of_value, tag, no_key, SHEET, TEXT, DAY, NODE}
 use Rattle.sheet.proofs.reading.Parsed.{all_below, all_below_law}
 use Rattle.scan.specs.declared.Cursor.{Cursor}
-use Rattle.scan.specs.declared.Heading as H
 use Rattle.scan.specs.declared.Line as L
-use Rattle.scan.specs.Places.{place, keyed, heading_of, entered, line_to, line_at, items_at}
+use Rattle.scan.specs.Places.{Heading, place, keyed, heading_of, entered, line_to, line_at, items_at}
 use Rattle.scan.specs.Numbers.{placed}
-use Rattle.scan.proofs.Splits.{from_on}
+use Rattle.scan.proofs.Splits.{from_on, some_pair}
 use Rattle.scan.proofs.Wordlists.{word_number_law, placed_below}
 use Rattle.table.specs.Layout.{text_row}
 use Rattle.forms.specs.Tags.{TEXT_LINE}
@@ -217,21 +217,22 @@ key_letters f k e =
     let p : placed f (map ascii keys) ≡ some k = sym (word_number_law f keys) ∙ e in
     (omega (arith, placed_below f (map ascii keys) k p, keys_long), placed_long f (map ascii keys) k p)
 
-heading_letters : (l : List ℕ) (k n : ℕ) → H.TheVariants.Keyed k n ≡ heading_of l → (k < no_key) × (n ≡ letters k)
+heading_letters : (l : List ℕ) (k n : ℕ) → Some (k, n) ≡ heading_of l → (k < no_key) × (n ≡ letters k)
 unfolding heading_of
 heading_letters l k n e = go (printable l) (ltb (up_to 61 l) (length l)) refl (word_number (take (up_to 61 l) l) keys) refl e
   where
-    none_of : H.TheVariants.Keyed k n ≡ H.TheVariants.Malformed → (k < no_key) × (n ≡ letters k)
+    none_of : ◌≡◌ {A = Heading} (Some (k, n)) None → (k < no_key) × (n ≡ letters k)
     none_of q = let z : ◌≡◌ {A = ℕ} 0 1 = cc in absurd (omega arith)
 
     go : (t u : Bool) → ltb (up_to 61 l) (length l) ≡ u → (o : Option ℕ) → word_number (take (up_to 61 l) l) keys ≡ o
-        → H.TheVariants.Keyed k n ≡ cond (t && u) (keyed (up_to 61 l) o) H.TheVariants.Malformed → (k < no_key) × (n ≡ letters k)
+        → Some (k, n) ≡ cond (t && u) (keyed (up_to 61 l) o) None → (k < no_key) × (n ≡ letters k)
     go false u d o p q = none_of q
     go true false d o p q = none_of q
     go true true d none p q = none_of q
     go true true d (some j) p q =
-        let z : n ≡ up_to 61 l = cc in
-        let y : k ≡ j = cc in
+        let pair = some_pair q in
+        let z : n ≡ up_to 61 l = pair.1 in
+        let y : k ≡ j = pair.0 in
         let i = ltb-true (up_to 61 l) (length l) d in
         let r = key_letters (take (up_to 61 l) l) k (p ∙ ap some (sym y)) in
         (r.0, omega (arith, r.1, length-take-le (up_to 61 l) l (omega (arith, i)), z))
@@ -245,15 +246,15 @@ module _ (s : List ℕ) (c : Cursor) (k : ℕ) (equals : Cursor) (e : ℕ) (next
       stop : ℕ
       stop = c.at + up_to 10 (drop c.at s)
 
-      go : (t u : Bool) (h : H.Heading) → heading_of (part s c.at stop) ≡ h
+      go : (t u : Bool) (h : Heading) → heading_of (part s c.at stop) ≡ h
           → L.TheVariants.Entry k equals e next ≡ cond t (entered c stop h) (cond u L.TheVariants.Faulty L.TheVariants.End) → (k < no_key) × (equals.at ≡ c.at + letters k)
       go false true h f y = let z : ◌≡◌ {A = ℕ} 0 1 = cc in absurd (omega arith)
       go false false h f y = let z : ◌≡◌ {A = ℕ} 0 1 = cc in absurd (omega arith)
-      go true u H.TheVariants.Malformed f y = let z : ◌≡◌ {A = ℕ} 0 1 = cc in absurd (omega arith)
-      go true u (H.TheVariants.Keyed j n) f y =
+      go true u None f y = let z : ◌≡◌ {A = ℕ} 0 1 = cc in absurd (omega arith)
+      go true u (Some (j, n)) f y =
           let x : equals ≡ place c.line (c.at + n) = cc in
           let z : k ≡ j = cc in
-          let r = heading_letters (part s c.at stop) k n (ap (λ (i : ℕ). H.TheVariants.Keyed i n) z ∙ sym f) in
+          let r = heading_letters (part s c.at stop) k n (ap (λ (i : ℕ). keyed n (some i)) z ∙ sym f) in
           (r.0, omega (arith, r.1, ap (λ (d : Cursor). d.at) x))
 
   -- these are at least three

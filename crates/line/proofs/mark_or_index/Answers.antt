@@ -3,8 +3,8 @@ use Rattle.line.proofs.LawsItem.{mark_is, unmarked_is}
 use borrow.Author.Rules.{rules}
 use Rattle.line.proofs.mark_or_index.Goals as goal
 
-pub returns-then-same_bytes : goal.returns-then-same_bytes
-returns-then-same_bytes c = search (mark_is, rules)
+pub returns-then-eq : goal.returns-then-eq
+returns-then-eq c = search (mark_is, rules)
 
 pub returns : goal.returns
 returns c = search (unmarked_is, rules)
