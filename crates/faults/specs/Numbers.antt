@@ -31,6 +31,6 @@ line_of (Ok x) = 0
 line_of (Err r) = r.line
 
 -- the number alone, of a result that names no line
-abbrev pub fault_of : {T : Type 0} → Result T Fault → ℕ
-fault_of (Ok x) = 0
-fault_of (Err f) = number_at f
+abbrev pub fault_number : {T : Type 0} → Result T Fault → ℕ
+fault_number (Ok x) = 0
+fault_number (Err f) = number_at f
