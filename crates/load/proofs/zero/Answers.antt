@@ -1,13 +1,14 @@
 -- `load::zero` meets its contract. Assumes nothing.
-use Rattle.load.proofs.Loading.{zeroing_start, zeroing_on, zeroing_end}
-use borrow.Author.Rules.{rules}
+use mathlib.Core.Path.{ap, ◌∙◌}
+use mathlib.Core.List.{List, ◌++◌}
+use Prim.Native.Nat.{ℕ}
+use lib.ListN.{drop, replicate}
+use lib.Seq.{length-take-le}
+use Rattle.words.specs.Log.{zeros}
 use Rattle.load.proofs.zero.Goals as goal
 
-pub loop-i-init : goal.loop-i-init
-loop-i-init c = search (zeroing_start, rules)
-
-pub loop-i-preserved : goal.loop-i-preserved
-loop-i-preserved c = search (zeroing_on, rules)
-
 pub returns : goal.returns
-returns c = search (zeroing_end, rules)
+unfolding zeros
+returns c =
+    ap (λ (x : List ℕ). x ++ drop c.args.end c.args.words.now)
+    (c.fill.ensures.after (λ y h. h) ∙ ap (λ (n : ℕ). replicate n 0) (length-take-le c.args.end c.args.words.now c.requires))
