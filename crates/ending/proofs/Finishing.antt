@@ -12,7 +12,7 @@ use Rattle.std.proofs.lemmas.Option.{none-some, cond_some}
 use Rattle.std.proofs.lemmas.List.Recursion.{is_position_or_len}
 use lib.Dec.{ltb, eqb}
 use lib.ListN.{length, get_or, take, drop, set, length-drop, drop_of_length-le}
-use lib.Seq.{drop-cons, get_or-take, get_or-drop, length-take-le}
+use lib.Seq.{drop-cons, length-take-le}
 use Rattle.cedar.specs.Numbered.{mem_n}
 use Rattle.sheet.specs.Forms.{at, KIND, SHAPE, NODE, POLICY, LINK, no_key}
 use Rattle.sheet.specs.State.{State, empty, lines_of, sum, before}

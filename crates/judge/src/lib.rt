@@ -66,7 +66,13 @@ fn depth_of(sheet: &[u8], rows: &[u32], work: &[u32], key: usize, line: &[u32], 
 
 // The refusal of a node's row, and where there is none its key and depth; the nodes that it uses are then marked. A line of the key `last`, that of
 // the line before, may come.
-fn judge_node(sheet: &[u8], rows: &[u32], work: &mut [u32], line: &[u32], last: usize) -> Result<Verdict, Fault>
+fn judge_node(
+    sheet: &[u8],
+    rows: &[u32],
+    work: &mut [u32],
+    line: &[u32],
+    last: usize,
+) -> Result<Verdict, Fault>
     requires line_value { (key_of line.now ≡ NODE) × (length rows.now ≡ room) × (length work.old ≡ room) × (in_order (held sheet.now rows.now work.old) last ≡ true) }
     requires known { Known rows.now work.old × Noted rows.now work.old }
     ensures { Judged sheet.now rows.now work.old line.now work.new (fault_number result) (key_in result) (depth_in result) }

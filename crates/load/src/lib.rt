@@ -27,12 +27,7 @@ fn zero(words: &mut [u32], end: usize)
 
 // Reads the sheet; before the first line there are no rows, no pairs are remembered, no nodes are used, and no rows are seen. A line of the key `last`, that of the line before and at first the first, may come.
 // The first faulty line, or the end, may refuse it; where it is accepted the words hold its rows.
-pub fn load(
-    sheet: &[u8],
-    partial: bool,
-    rows: &mut [u32],
-    work: &mut [u32],
-) -> Result<(), Refusal>
+pub fn load(sheet: &[u8], partial: bool, rows: &mut [u32], work: &mut [u32]) -> Result<(), Refusal>
     requires { (length sheet.now ≤ 16384) × (16384 ≤ length rows.old) × (16384 ≤ length work.old) }
     ensures { Read (read (mode_of partial) sheet.now) sheet.now rows.old work.old rows.new work.new (number_of result) (line_of result) }
 {

@@ -24,7 +24,6 @@ returns-in-Some c =
     from_entry _ _ _ _ _ _ _ _ _ _ _ _ c.requires.1 c.requires.2 c.zero.ensures c.zero-2.ensures c.put.ensures c.put-2.ensures
     (line_unfits _ _ _ _ _ _ c.lines.c c.lines.invariant.0 c.in-Some.unfit c.in-Some.ensures)
 
-
 pub take_line-requires : goal.take_line-requires
 take_line-requires c =
     let v = c.in-Entry in
