@@ -33,27 +33,9 @@ use Rattle.tpe.proofs.Slices.{errs_log}
 use Rattle.tpe.specs.declared.Class.{Class as Classᶜ}
 use Rattle.tpe.specs.declared.Class.TheVariants.{True, False, Error as Errorᶜ, Open as Openᶜ}
 
-module _ (a : List ℕ) (v : ℕ) (q : List ℕ) (s : Shape) (eq : q ≡ get_or (value_lines a) v []) (es : s ≡ shape_of q) where
-  by_shape : class_by a (Value v) ≡ r_bool copen (shape_row s (items q)) truth
-  unfolding class_by
-  by_shape = ap (λ r. r_bool copen r truth) (row_in (value_lines a) v ∙ ap value_row (sym eq) ∙ shape_row_law q ∙ ap (λ (x : Shape). shape_row x (items q)) (sym es))
-
-  pub class_true : (b : Bool) → s ≡ Boolˢ b → b ≡ true → class_in True ≡ class_by a (Value v)
-  class_true b e h = sym (by_shape ∙ rw (e, h))
-
-  pub class_false : (b : Bool) → s ≡ Boolˢ b → b ≡ false → class_in False ≡ class_by a (Value v)
-  class_false b e h = sym (by_shape ∙ rw (e, h))
-
-  pub class_other : OneOf (1 ∷ 2 ∷ 3 ∷ 4 ∷ 5 ∷ []) (tag_of the_type s) → class_in Openᶜ ≡ class_by a (Value v)
-  class_other h = sym (by_shape ∙ go s h)
-    where
-      go : (x : Shape) → OneOf (1 ∷ 2 ∷ 3 ∷ 4 ∷ 5 ∷ []) (tag_of the_type x) → r_bool copen (shape_row x (items q)) truth ≡ copen
-      go (Boolˢ b) k = absurd (miss (1 ∷ 2 ∷ 3 ∷ 4 ∷ 5 ∷ []) 0 tt k)
-      go (Long w) k = refl
-      go (Text t) k = refl
-      go (Entity x t) k = refl
-      go Set k = refl
-      go Record k = refl
+pub by_shape : (a : List ℕ) (v : ℕ) (q : List ℕ) → q ≡ get_or (value_lines a) v [] → class_by a (Value v) ≡ r_bool copen (shape_row (shape_of q) (items q)) truth
+unfolding class_by
+by_shape a v q eq = ap (λ r. r_bool copen r truth) (row_in (value_lines a) v ∙ ap value_row (sym eq) ∙ shape_row_law q)
 
 module _ (a b : List ℕ) (e : ℕ) (s : Stage) (es : s ≡ stage_at b e) where
   pub at_value : (v : ℕ) (c : Classᶜ) → s ≡ Value v → class_in c ≡ class_by a (Value v) → class_in c ≡ class_by a (stage_at b e)

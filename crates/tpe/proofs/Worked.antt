@@ -184,29 +184,8 @@ rule_one a b bt n t w p q ew ep eq = rw (← ew, ← ep) eq
 
 -- ---- `two`
 
-module _ (b : List ℕ) (mid bt : ℕ) where
-  module _ (s : Stage) (es : s ≡ stage_at b mid) where
-    pub pair_left : s ≡ Error → Tells Errorᵖ (stage_at b mid) (stage_at b bt)
-    pair_left h = record { is = λ g. rw (← es, h) }
-
-    module _ (u : Stage) (eu : u ≡ stage_at b bt) where
-      pub pair_values : (v w : ℕ) → s ≡ Value v → u ≡ Value w → Tells (Values v w) (stage_at b mid) (stage_at b bt)
-      pair_values v w h i = record { is = λ g. rw (← es, h, ← eu, i) }
-
-      pub pair_right : (v : ℕ) → s ≡ Value v → u ≡ Error → Tells Errorᵖ (stage_at b mid) (stage_at b bt)
-      pair_right v h i = record { is = λ g. rw (← es, h, ← eu, i) }
-
-      pub pair_half : (v : ℕ) → s ≡ Value v → u ≡ Open → Tells Openᵖ (stage_at b mid) (stage_at b bt)
-      pair_half v h i = record { is = λ g. rw (← es, h, ← eu, i) }
-
-      pub pair_open_value : (w : ℕ) → s ≡ Open → u ≡ Value w → Tells Openᵖ (stage_at b mid) (stage_at b bt)
-      pair_open_value w h i = record { is = λ g. rw (← es, h, ← eu, i) }
-
-      pub pair_open_error : s ≡ Open → u ≡ Error → Tells Errorᵖ (stage_at b mid) (stage_at b bt)
-      pair_open_error h i = record { is = λ g. rw (← es, h, ← eu, i) }
-
-      pub pair_open : s ≡ Open → u ≡ Open → Tells Openᵖ (stage_at b mid) (stage_at b bt)
-      pair_open h i = record { is = λ g. rw (← es, h, ← eu, i) }
+pub tells : (p : Pair) (s u : Stage) → ((g : ℕ → ℕ → NOut) → pair_out g p ≡ out_two g s u) → Tells p s u
+tells p s u h = record { is = h }
 
 module _ (a b : List ℕ) (mid bt t : ℕ) (p : Pair) (ep : Tells p (stage_at b mid) (stage_at b bt)) where
   abbrev Out₂ : Given → Type 0

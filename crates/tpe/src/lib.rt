@@ -12,16 +12,29 @@ ghost use Rattle.sheet.specs.Forms.{NODE};
 ghost use Rattle.table.specs.Layout.{rows_of};
 ghost use Rattle.residual.specs.Rows.{stage_at};
 ghost use Rattle.residual.specs.Errs.{errs};
+ghost use Rattle.residual.specs.Classes.{class_number};
 ghost use Rattle.tpe.specs.Run.{class_by, made_of, decided_by};
 ghost use Rattle.tpe.specs.Leaves.{Leaves};
 ghost use Rattle.tpe.specs.Classes.{class_in};
 
-use residual::{Stage, can_error_assuming_well_formed, push_left, push_value, stage_at};
+use residual::{
+    CLASS_ERROR, CLASS_FALSE, CLASS_OPEN, CLASS_TRUE, Stage, can_error_assuming_well_formed, push_left, push_value,
+    stage_at,
+};
 use value::making::make_bool_after;
 use value::{Shape, row_of, shape_of};
 
-// What a bool operand or policy is called.
+// What trees are worked under: the sheet's bytes, the values of a policy's link, and how many of the sheet's first values are no bools.
 #[derive(Clone, Copy)]
+pub struct Setting<'a> {
+    pub sheet: &'a [u8],
+    pub principal: u32,
+    pub resource: u32,
+    pub skip: usize,
+}
+
+// What a bool operand or policy is called.
+#[derive(Clone, Copy, PartialEq, Eq)]
 pub enum Class {
     True,
     False,
@@ -29,18 +42,30 @@ pub enum Class {
     Open,
 }
 
+// The number of a class in its word.
+impl From<Class> for u32 {
+    ghost from_gives = { λ class number. number ≡ class_number (class_in class) };
+
+    fn from(class: Class) -> u32 {
+        match class {
+            Class::True => CLASS_TRUE,
+            Class::False => CLASS_FALSE,
+            Class::Error => CLASS_ERROR,
+            Class::Open => CLASS_OPEN,
+        }
+    }
+}
+
 // The class of a value: one that is not a bool is called open.
+#[tactic(auto, using(crate::proofs::Ways::by_shape))]
 pub fn class_of(rows: &[u32], value: u32) -> Class
     ensures { class_in result ≡ class_by rows.now (Stage.Value value) }
 {
-    let s = shape_of(row_of(rows, value as usize));
-    let Shape::Bool(x) = s else {
-        return Class::Open;
-    };
-    if x {
-        return Class::True;
+    match shape_of(row_of(rows, value as usize)) {
+        Shape::Bool(true) => Class::True,
+        Shape::Bool(false) => Class::False,
+        _ => Class::Open,
     }
-    Class::False
 }
 
 // The class of the block that ends at `end`.

@@ -17,6 +17,7 @@ ghost use Rattle.rules.specs.Rules.{rule_in, schema_at};
 ghost use Rattle.strict.specs.Gives.{out_of};
 ghost use Rattle.tpe.specs.Run.{left, left_of, made_of, settle_of, walk_from, entity_type, var_for, env_in, unmoved_of, stuck_of, walked_of, path_of};
 ghost use Rattle.tpe.specs.Leaves.{Leaves};
+ghost use Rattle.tpe.specs.Joins.{join_in};
 ghost use Rattle.tpe.specs.Steps.{one_at, two_at, many_at};
 ghost use Rattle.tpe.specs.Gives.{context_given, many_row, one_give, one_rule, two_give, two_rule, out_one, out_two, Tells, unless_err, rule_or, walk_in, Taken};
 
@@ -33,17 +34,18 @@ use strict::entity::{get_of, gettag_of, has_of, hastag_of, in_of};
 use strict::{
     Given, all_of, any_of, arith_of, contains_of, empty_of, eq_of, is_of, like_of, neg_of, not_of,
 };
-use table::{base_of, count, item, row};
-use value::making::{make_entity, make_long, make_record, make_set, same};
+use table::{base_of, item, row};
+use value::making::{find_row, make_entity, make_long, make_record, make_set};
 use walk::{Walked, walk};
 use words::{append, read};
 
 // How far the children of a set or record are worked: all are values, one is an error, or else one is open.
-pub const ALL_VALUES: u32 = 0;
-
-pub const SOME_ERROR: u32 = 1;
-
-pub const SOME_OPEN: u32 = 2;
+#[derive(Clone, Copy, PartialEq, Eq)]
+pub enum Joined {
+    Values,
+    Error,
+    Open,
+}
 
 // The type of a node.
 fn type_of(rows: &[u32], node: u32) -> u32
@@ -160,20 +162,20 @@ pub fn many(
     top: usize,
     node: u32,
     tag: u32,
-    joined: u32,
+    joined: Joined,
 ) -> usize
     requires room { Room log.old top }
     requires start_le_top { start ≤ top }
-    ensures { Leaves start rows.new log.new result (many_at partial [] tag start node (get_or (rows_of rows.old NODE) node []) (record { words = rows.old; log = take top log.old; join = joined })) }
+    ensures { Leaves start rows.new log.new result (many_at partial [] tag start node (get_or (rows_of rows.old NODE) node []) (record { words = rows.old; log = take top log.old; join = join_in joined })) }
 {
     let ty = type_of(rows, node);
     match joined {
-        ALL_VALUES => {
+        Joined::Values => {
             let v = make_many(rows, log, start, top, node, tag);
             push_value(log, start, v, ty)
         }
-        SOME_ERROR => push_error(log, start, ty),
-        _ => push_left(log, start, top, node, 0, ty),
+        Joined::Error => push_error(log, start, ty),
+        Joined::Open => push_left(log, start, top, node, 0, ty),
     }
 }
 
@@ -268,20 +270,11 @@ fn asked_one(sheet: &[u8], rows: &[u32], log: &[u32], top: usize, node: u32, tag
 // ---- a path
 
 // The number of the type line of a kind alone, or of all types where there is none.
+#[tactic(auto, using(crate::proofs::Walks::type_place), unfolding(crate::specs::Run::entity_type))]
 fn entity_type(rows: &[u32], kind: u32) -> u32
     ensures { result ≡ entity_type rows.now kind }
 {
-    let n = count(rows, TYPE);
-    let mut i: u32 = 0;
-    loop {
-        if i >= n {
-            break n;
-        }
-        if same(row(rows, TYPE, i), &[ENTITY_TYPE, kind]) {
-            break i;
-        }
-        i += 1;
-    }
+    find_row(rows, TYPE, &[ENTITY_TYPE, kind]) as u32
 }
 
 // The path of a node from a value on; an unlisted entity is unknown.
@@ -510,23 +503,14 @@ pub enum Pair {
 }
 
 // How far the operands that end at `mid` and `top` are worked: one that is an error is the result, also beside an open one.
+#[tactic(auto, using(crate::proofs::Worked::tells))]
 fn pair_at(log: &[u32], mid: usize, top: usize) -> Pair
     ensures { Tells result (stage_at log.now mid) (stage_at log.now top) }
 {
-    let s = stage_at(log, mid);
-    let t = stage_at(log, top);
-    match s {
-        Stage::Error => Pair::Error,
-        Stage::Value(v) => match t {
-            Stage::Value(w) => Pair::Values(v, w),
-            Stage::Error => Pair::Error,
-            Stage::Open => Pair::Open,
-        },
-        Stage::Open => match t {
-            Stage::Value(_) => Pair::Open,
-            Stage::Error => Pair::Error,
-            Stage::Open => Pair::Open,
-        },
+    match (stage_at(log, mid), stage_at(log, top)) {
+        (Stage::Value(v), Stage::Value(w)) => Pair::Values(v, w),
+        (Stage::Error, _) | (_, Stage::Error) => Pair::Error,
+        _ => Pair::Open,
     }
 }
 

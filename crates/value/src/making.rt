@@ -34,7 +34,7 @@ pub fn same(left: &[u32], right: &[u32]) -> bool
 }
 
 // The number of the first row of a key with these words, or of all its rows where none has them, row by row.
-fn find_row(rows: &[u32], key: usize, line: &[u32]) -> usize
+pub fn find_row(rows: &[u32], key: usize, line: &[u32]) -> usize
     ensures { result ≡ place_of line.now (rows_of rows.now key) }
 {
     let n = count(rows, key);
