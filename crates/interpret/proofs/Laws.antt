@@ -57,78 +57,12 @@ left_leaves a b b' start bt n e y room h p =
     record { words = refl; log = holds_as (holds_from (append_holds room p) h) (ap (λ (j : ℕ). appended (take bt b) (left_row n 0 (j - start) y)) (sym (log_length b bt room))) }
 
 -- the last block of a log, as the code reads it
-last_stage : (b : List ℕ) (bt : ℕ) → Room b bt → stage_at b bt ≡ stage_at (take bt b) (length (take bt b))
+pub last_stage : (b : List ℕ) (bt : ℕ) → Room b bt → stage_at b bt ≡ stage_at (take bt b) (length (take bt b))
 last_stage b bt room = stage_log b bt bt (le_refl bt) ∙ ap (stage_at (take bt b)) (sym (log_length b bt room))
 
--- ---- `side_at`
-
-module _ (a b : List ℕ) (bt : ℕ) (z : Bool) (c : Classᶜ) (room : Room b bt) (ec : class_in c ≡ class_by a (stage_at b bt)) where
-  class_log : class_in c ≡ class_of a (take bt b)
-  unfolding class_of
-  class_log = ec ∙ ap (class_by a) (last_stage b bt room)
-
-  by_class : (s : Sideᶜ) (x : Classᶜ) → c ≡ x → side_in s ≡ side_of z (class_in x) → side_in s ≡ side_of z (class_of a (take bt b))
-  by_class s x e h = h ∙ ap (λ (y : Classᶜ). side_of z (class_in y)) (sym e) ∙ ap (side_of z) class_log
-
-  pub side_true_stops : c ≡ True → z ≡ true → side_in Stops ≡ side_of z (class_of a (take bt b))
-  side_true_stops e h = by_class Stops True e (rw h)
-
-  pub side_true_goes : c ≡ True → z ≡ false → side_in Goes ≡ side_of z (class_of a (take bt b))
-  side_true_goes e h = by_class Goes True e (rw h)
-
-  pub side_false_goes : c ≡ False → z ≡ true → side_in Goes ≡ side_of z (class_of a (take bt b))
-  side_false_goes e h = by_class Goes False e (rw h)
-
-  pub side_false_stops : c ≡ False → z ≡ false → side_in Stops ≡ side_of z (class_of a (take bt b))
-  side_false_stops e h = by_class Stops False e (rw h)
-
-  pub side_wrong : c ≡ Errorᶜ → side_in Wrong ≡ side_of z (class_of a (take bt b))
-  side_wrong e = by_class Wrong Errorᶜ e (go z)
-    where
-      go : (y : Bool) → side_in Wrong ≡ side_of y cerror
-      go true = refl
-      go false = refl
-
-  pub side_unsure : c ≡ Openᶜ → side_in Unsure ≡ side_of z (class_of a (take bt b))
-  side_unsure e = by_class Unsure Openᶜ e (go z)
-    where
-      go : (y : Bool) → side_in Unsure ≡ side_of y copen
-      go true = refl
-      go false = refl
-
--- ---- `join`
-
-module _ (b : List ℕ) (bt c : ℕ) (s : Stage) (room : Room b bt) (es : s ≡ stage_at b bt) where
-  by_stage : (x : ℕ) (q : Stage) → s ≡ q → x ≡ join_of c q → x ≡ join_of c (stage_at (take bt b) (length (take bt b)))
-  by_stage x q e h = h ∙ ap (join_of c) (sym e ∙ es ∙ last_stage b bt room)
-
-  pub join_value : (v : ℕ) → s ≡ Value v → c ≡ join_of c (stage_at (take bt b) (length (take bt b)))
-  unfolding join_of
-  join_value v e = by_stage c (Value v) e refl
-
-  pub join_error : s ≡ Error → 1 ≡ join_of c (stage_at (take bt b) (length (take bt b)))
-  unfolding join_of
-  join_error e = by_stage 1 Error e refl
-
-  pub join_open_error : s ≡ Open → c ≡ 1 → 1 ≡ join_of c (stage_at (take bt b) (length (take bt b)))
-  unfolding join_of
-  join_open_error e h = by_stage 1 Open e (rw h)
-
-  pub join_open : s ≡ Open → (c ≡ 1 → ⊥) → 2 ≡ join_of c (stage_at (take bt b) (length (take bt b)))
-  unfolding join_of
-  join_open e h = by_stage 2 Open e (rw (ne_eqb c 1 h))
-
--- ---- `has_more`
-
-pub more_past : (k i s : ℕ) → k < i → false ≡ leb (i + s) k
-more_past k i s h = sym (lt-leb (i + s) k (omega arith))
-
-pub more_here : (k i s : ℕ) → i ≤ k → leb s (k - i) ≡ leb (i + s) k
-more_here k i s h = go (dec_le s (k - i))
-  where
-    go : Dec (s ≤ k - i) → leb s (k - i) ≡ leb (i + s) k
-    go (yes d) = le-leb s (k - i) d ∙ sym (le-leb (i + s) k (omega arith))
-    go (no d) = lt-leb s (k - i) (omega arith) ∙ sym (lt-leb (i + s) k (omega arith))
+pub class_log : (a b : List ℕ) (bt : ℕ) → Room b bt → class_of a (take bt b) ≡ class_by a (stage_at b bt)
+unfolding class_of
+class_log a b bt room = ap (class_by a) (sym (last_stage b bt room))
 
 -- ---- `leaf`
 
@@ -230,7 +164,7 @@ module _ (f : Rec) (a b : List ℕ) (start bt n : ℕ) (room : Room b bt) (below
     (y x w : ℕ) (ey : y ≡ get_or r 1 0) (ex : x ≡ get_or r 3 0) (ew : w ≡ get_or r 4 0) (c : Classᶜ) (ec : class_in c ≡ class_by a (stage_at b bt)) where
   by_branch : (q : Class) → class_in c ≡ q → branch_in f start n (left a (take bt b)) ≡ branch_by f start n y x w (left a (take bt b)) q
   unfolding branch_in branch_of
-  by_branch q e = rw (← er, ← ey, ← ex, ← ew) (ap (branch_by f start n y x w (left a (take bt b))) (sym (class_log a b bt true c room ec) ∙ e))
+  by_branch q e = rw (← er, ← ey, ← ex, ← ew) (ap (branch_by f start n y x w (left a (take bt b))) (sym (ec ∙ sym (class_log a b bt room)) ∙ e))
 
   pub branch_true : (a' b' : List ℕ) (e : ℕ) → c ≡ True → Leaves start a' b' e (f a (take start b) x) → Leaves start a' b' e (branch_in f start n (left a (take bt b)))
   unfolding branch_by

@@ -3,7 +3,7 @@
 // begins after them.
 #![tactic(auto)]
 
-ghost use Rattle.std.specs.Prelude.{◌≡◌, [], ◌+◌, ◌-◌, ◌/◌, ◌≤◌, ◌<◌, take};
+ghost use Rattle.std.specs.Prelude.{◌≡◌, [], ◌+◌, ◌-◌, ◌/◌, ◌≤◌, ◌<◌, length, take};
 ghost use Rattle.words.specs.Log.{Room};
 ghost use Rattle.forms.specs.Tags.{AND, SET_OF};
 ghost use Rattle.sheet.specs.Forms.{partial};
@@ -44,6 +44,7 @@ pub enum Side {
 }
 
 // What the last block says, where the bool `stop` decides.
+#[tactic(auto, using(crate::proofs::Laws::class_log))]
 fn side_at(rows: &[u32], log: &[u32], top: usize, stop: bool) -> Side
     requires { Room log.now top }
     ensures { side_in result ≡ side_of stop (class_of rows.now (take top log.now)) }
@@ -57,6 +58,7 @@ fn side_at(rows: &[u32], log: &[u32], top: usize, stop: bool) -> Side
 }
 
 // Whether all children so far are values, one is an error, or else one is open, with the last block.
+#[tactic(auto, using(crate::proofs::Laws::last_stage), unfolding(tpe::specs::Run::join_of))]
 fn join(log: &[u32], top: usize, joined: Joined) -> Joined
     requires { Room log.now top }
     ensures { join_in result ≡ join_of (join_in joined) (stage_at (take top log.now) (length (take top log.now))) }
@@ -371,6 +373,7 @@ fn row_number(end: usize) -> u32
 }
 
 // The classes and root numbers of the policies, whose blocks end at `top`.
+#[tactic(auto, using(crate::proofs::Notes::lines_none, crate::proofs::Notes::lines_step, residual::proofs::Steps::start_low), unfolding(crate::specs::Lines::lines_of))]
 pub fn lines(rows: &[u32], log: &mut [u32], top: usize)
     ensures { log.new ≡ lines_of rows.now log.old top }
 {

@@ -32,14 +32,11 @@ first-returns-in-Wrong t c = search first_wrong
 pub first-returns-in-Unsure : goal.first-returns-in-Unsure
 first-returns-in-Unsure t c = search (first_unsure, c.requires.room, c.requires.start_le_top)
 
-pub group-loop-rows-init : goal.group-loop-rows-init
-group-loop-rows-init t c = (search turn_start, (search rules, search rules, search rules))
+pub group-loop-i-init : goal.group-loop-i-init
+group-loop-i-init t c = (search turn_start, (search rules, search rules, search rules))
 
-pub group-loop-rows-smaller : goal.group-loop-rows-smaller
-group-loop-rows-smaller t c = let e = sym c.has_more.ensures ∙ c.loop-rows-test.true in omega (arith, leb-true, e, c.requires.step_nonzero)
-
-pub group-loop-rows-preserved : goal.group-loop-rows-preserved
-group-loop-rows-preserved t c = (search (turn_on, c.requires.step_nonzero), (search rules, search rules, search interp_clear))
+pub group-loop-i-preserved : goal.group-loop-i-preserved
+group-loop-i-preserved t c = (search turn_on, (search rules, search rules, search interp_clear))
 
 pub group-returns : goal.group-returns
 group-returns t c = search turn_end
@@ -77,8 +74,8 @@ operation-pair-requires t c = (search rules, (search rules, (search rules, searc
 pub operation-returns-then-tag-lt-IF : goal.operation-returns-then-tag-lt-IF
 operation-returns-then-tag-lt-IF t c = search (on_pair, c.requires.room, c.requires.le_tag)
 
-pub operation-branch-sheet-requires : goal.operation-branch-sheet-requires
-operation-branch-sheet-requires t c = (search rules, (search rules, (search rules, search interp_clear)))
+pub operation-branch-setting-requires : goal.operation-branch-setting-requires
+operation-branch-setting-requires t c = (search rules, (search rules, (search rules, search interp_clear)))
 
 pub operation-returns-then-tag-lt-IS : goal.operation-returns-then-tag-lt-IS
 operation-returns-then-tag-lt-IS t c = search (on_branch, c.requires.room, c.requires.le_tag)
