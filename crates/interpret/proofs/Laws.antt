@@ -1,13 +1,10 @@
 -- One law for each way through the code. Assumes nothing.
 use mathlib.Core.Path.{◌≡◌, refl, sym, ap, ap₂, ◌∙◌, subst}
-use mathlib.Core.Bool.{Bool, true, false}
+use mathlib.Core.Bool.{Bool}
 use mathlib.Core.List.{List, [], ◌∷◌}
-use Prim.Native.Nat.{ℕ, zero, suc, ◌+◌, ◌-◌, ◌≤◌, ◌<◌}
+use Prim.Native.Nat.{ℕ, zero, suc, ◌-◌, ◌≤◌, ◌<◌}
 use native.Mathlib.Omega.{arith}
 use native.Mathlib.Nat.{le_refl}
-use native.Mathlib.Decide.{dec_le}
-use borrow.Author.Tests.{ne_eqb, le-leb, lt-leb}
-use lib.Dec.{leb}
 use lib.ListN.{length, get_or, take}
 use Rattle.words.specs.Log.{appended, Appended, Room}
 use Rattle.words.proofs.Logs.{append_holds, holds_as, holds_from, log_cut, log_length}
@@ -20,9 +17,7 @@ use Rattle.table.specs.Layout.{rows_of}
 use Rattle.value.specs.Made.{bool_row}
 use Rattle.residual.specs.Rows.{lit_row, err_row, left_row, stage_at}
 use Rattle.residual.specs.Errs.{errs}
-use Rattle.residual.specs.declared.Stage.{Stage}
-use Rattle.residual.specs.declared.Stage.TheVariants.{Value, Error, Open}
-use Rattle.tpe.specs.Run.{O, Rec, left, lit_of, err_of, left_of, made_of, join_of, node_in, Side, stops, goes, wrong, unsure, side_of, class_by, class_of, decided_by, second_by, second_of, first_by, first_of, split_of, branch_by, branch_of, var_for, env_in, lit_step, err_step, var_step, slot_step}
+use Rattle.tpe.specs.Run.{O, Rec, left, lit_of, err_of, left_of, made_of, node_in, Side, stops, goes, wrong, unsure, side_of, class_by, class_of, decided_by, second_by, second_of, first_by, first_of, split_of, branch_by, branch_of, var_for, env_in, lit_step, err_step, var_step, slot_step}
 use Rattle.tpe.specs.Steps.{two_at}
 use Rattle.tpe.specs.Classes.{class_in}
 use Rattle.tpe.specs.Leaves.{Leaves}

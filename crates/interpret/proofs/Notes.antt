@@ -1,18 +1,13 @@
 -- One law for each way through `lines`. Assumes nothing.
-use mathlib.Core.Path.{◌≡◌, sym, ap, ◌∙◌}
+use mathlib.Core.Path.{◌≡◌, ap}
 use mathlib.Core.List.{List}
 use Prim.Native.Nat.{ℕ, suc, ◌+◌, ◌-◌, ◌/◌, ◌≤◌, ◌<◌}
 use native.Mathlib.Omega.{arith}
-use borrow.Author.Tests.{le-leb, lt-leb}
-use lib.ListN.{get_or, set}
-use Rattle.table.specs.Layout.{RUN}
+use lib.ListN.{set}
 use Rattle.residual.specs.Rows.{ROW, stage_at, start_at}
 use Rattle.residual.specs.Classes.{class_number}
-use Rattle.residual.proofs.Steps.{start_low}
 use Rattle.tpe.specs.Run.{class_by}
-use Rattle.tpe.specs.Classes.{class_in}
-use Rattle.tpe.specs.declared.Class.{Class as Classᶜ}
-use Rattle.interpret.specs.Lines.{CLASSES, ROOTS, lines_from, lines_of}
+use Rattle.interpret.specs.Lines.{CLASSES, ROOTS, lines_from}
 
 pub lines_none : (a b : List ℕ) (k e : ℕ) → k ≤ 0 → lines_from a k e b ≡ b
 unfolding lines_from

@@ -1,7 +1,4 @@
 -- The cycle of calls of `interpret` meets its contracts. Assumes nothing.
-use mathlib.Core.Path.{sym, ◌∙◌}
-use native.Mathlib.Omega.{arith}
-use borrow.Author.Tests.{leb-true}
 use Rattle.tpe.proofs.Kept.{interp_clear}
 use Rattle.interpret.proofs.Laws.{branch_true, branch_false, branch_error, branch_open, first_stops, first_goes, first_wrong, first_unsure, pair_is, split_is}
 use Rattle.interpret.proofs.Turns.{turn_start, turn_on, turn_end, interpret_deep, interpret_leaf, interpret_operation, interpret_set, interpret_record, interpret_slot, interpret_other, on_first, on_pair, on_branch, on_one}

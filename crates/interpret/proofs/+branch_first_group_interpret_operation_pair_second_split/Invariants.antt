@@ -1,6 +1,6 @@
 -- What the loop of `group` keeps, and the measures of the cycle of calls of `interpret`.
 use mathlib.Core.Path.{◌≡◌}
-use Prim.Native.Nat.{◌+◌, ◌*◌, ◌-◌}
+use Prim.Native.Nat.{◌+◌, ◌*◌}
 use lib.ListN.{length}
 use Rattle.sheet.specs.Forms.{partial}
 use Rattle.value.specs.Clear.{Clear}
