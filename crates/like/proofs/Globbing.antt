@@ -129,9 +129,6 @@ pub record Hunting (p s : List ℕ) (from u : ℕ) : Type 0 where
   pub near : u ≤ length s
   pub left : from + until_piece p (drop from s) ≡ u + until_piece p (drop u s)
 
-pub hunt_start : (p s : List ℕ) (u : ℕ) → u ≤ length s → Hunting p s u u
-hunt_start p s u h = record { near = h; left = refl }
-
 module _ (p s : List ℕ) (from u : ℕ) (g : Hunting p s from u) where
   pub hunt_short : length s - u < length p → length s ≡ from + until_piece p (drop from s)
   hunt_short h =
@@ -455,9 +452,6 @@ pub record Globbing (B : ℕ → List ℕ) (P S : List ℕ) (q₀ t₀ q t : ℕ
   pub near_p : q ≤ length P
   pub near_s : t ≤ length S
   pub left : after B P S q₀ t₀ ≡ after B P S q t
-
-pub glob_start : (B : ℕ → List ℕ) (P S : List ℕ) (q t : ℕ) → q ≤ length P → t ≤ length S → Globbing B P S q t q t
-glob_start B P S q t h k = record { near_p = h; near_s = k; left = refl }
 
 -- places before the first item's are passed over
 pub any_skip : (f : List ℕ → Bool) (p : List ℕ) → ((l : List ℕ) → begins p l ≡ false → f l ≡ false) → (s : List ℕ) → any_suffix f s ≡ any_suffix f (drop (until_piece p s) s)

@@ -131,22 +131,6 @@ first_found B p K s e =
 over : (s : List ℕ) (t u n : ℕ) → drop n (drop u (drop t s)) ≡ drop (t + u + n) s
 over s t u n = ap (drop n) (drop-drop u t s) ∙ drop-drop n (t + u) s
 
--- ---- items that add nothing
-
-module _ (x e n : ℕ) where
-  pub idle_star : x ≡ mark → eqb n 0 ≡ cond (eqb x mark) (eqb n 0) (eqb x e)
-  idle_star h = rw (eq-eqb x mark h)
-
-  pub idle_text : (x ≡ mark → ⊥) → eqb x e ≡ cond (eqb x mark) (eqb n 0) (eqb x e)
-  idle_text h = rw (ne_eqb x mark h)
-
-module _ (v : List ℕ) (x e : ℕ) where
-  pub emptied_now : length v ≡ 0 → x ≡ cond (eqb (length v) 0) x e
-  emptied_now h = rw (eq-eqb (length v) 0 h)
-
-  pub emptied_not : (length v ≡ 0 → ⊥) → e ≡ cond (eqb (length v) 0) x e
-  emptied_not h = rw (ne_eqb (length v) 0 h)
-
 -- ---- where the joining stands
 
 -- a part that is replaced by as many bytes

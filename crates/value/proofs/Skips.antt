@@ -19,9 +19,6 @@ use Rattle.value.proofs.ClearLaws.{clear_more, clear_place}
 
 -- ---- the search
 
-pub past_none : (r : List ℕ) (rows : List (List ℕ)) → Past r rows 0
-past_none r rows = record { near = omega arith; left = omega arith }
-
 pub past_start : (r a : List ℕ) (k n i : ℕ) → n ≡ get_or a k 0 → Past r (rows_of a k) i → Finding r (rows_of a k) n i
 past_start r a k n i e p = record { all = e ∙ sym (count_rows a k); near = omega (arith, p.near, count_rows a k); left = p.left }
 
