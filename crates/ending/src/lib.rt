@@ -20,7 +20,7 @@ use faults::{Fault, Refusal};
 use forms::{ENTITY, LINK, NO_KEY, NODE, POLICY, PRINCIPAL};
 use order::enough_before;
 use repeats::is_first;
-use scan::{front, rest, same_bytes};
+use scan::rest;
 use table::{USES, count, item, row};
 use uses::{NO_SLOT, slots_at};
 use words::read;
@@ -43,7 +43,7 @@ fn lines_before(rows: &[u32], key: usize) -> usize
 fn begins_entity(sheet: &[u8], at: usize) -> bool
     ensures { result ≡ starts (ascii "entity=") (drop at sheet.now) }
 {
-    same_bytes(b"entity=", front(rest(sheet, at), 7))
+    rest(sheet, at).starts_with(b"entity=")
 }
 
 // Where the line at byte `at` ends the entity lines: the number of the first of these that reaches a kind which is not above its own, if one does.

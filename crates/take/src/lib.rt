@@ -104,10 +104,7 @@ pub fn take_line(
     let work = &mut work[..ROOM];
     let top = read(rows, TOP) as usize;
     let value = equals.value(sheet, end);
-    let n = row_entry(value, key, equals, partial, rows, top);
-    if n == 0 {
-        return Err(Fault::Form);
-    }
+    let n = row_entry(value, key, equals, partial, rows, top).ok_or(Fault::Form)?;
     let next = top + n;
     let v = judge_at(sheet, rows, work, top, next, seen, last)?;
     commit(rows, work, v.key, v.depth, next as u32);
