@@ -10,7 +10,7 @@ ghost use Rattle.forms.specs.Tags.{EQ, IF, IS, SET_OF};
 ghost use Rattle.evaluator.specs.Gave.{Gave, GaveBeside, Done};
 ghost use Rattle.yielding.specs.Yields.{yield_in, yield_row, Started, lazy_of, logic_of, branch_of, one_of, two_of, set_of, record_of, over_of, node_of, turn_of, ran_of, Turned, classes_in, yielded_of};
 
-use carried::{carry, number_there};
+use carried::{Numbers, carry};
 use evaluator::operands::{path_at, word_of};
 use evaluator::{
     Truth, Yield, apply_one, apply_two, class_of, only_bool, request, same, settle, truth_of,
@@ -226,7 +226,13 @@ fn turn(
     ensures { Turned (turn_of sheet.now given numbers.now what source words rows.old (take top log.old)) rows.new log.new result }
 {
     match what {
-        VALUE_ROW => push_value(log, top, number_there(given, numbers, source), words),
+        VALUE_ROW => {
+            let there = Numbers {
+                given,
+                noted: numbers,
+            };
+            push_value(log, top, there.there(source), words)
+        },
         ERROR_ROW => push_error(log, top, words),
         _ => {
             let start = start_in(cut(log, 0, top), less(words, ROW as u32));
