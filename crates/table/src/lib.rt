@@ -2,7 +2,7 @@
 #![tactic(auto)]
 
 ghost use Rattle.std.specs.Prelude.{◌≡◌, ◌+◌, ◌<◌, get_or, []};
-ghost use Rattle.sheet.specs.Forms.{tag, form_of};
+ghost use Rattle.sheet.specs.Forms.{tag, items, form_of};
 ghost use Rattle.words.specs.Log.{part};
 ghost use Rattle.table.specs.Layout.{base, heap, row_at, rows_of, text_at, with_row};
 
@@ -79,6 +79,16 @@ pub fn item(line: &[u32], i: usize) -> u32
     ensures { result ≡ get_or line.now i 0 }
 {
     read(line, i)
+}
+
+// The items of a row: all words after its tag.
+pub fn items(line: &[u32]) -> &[u32]
+    ensures { result.now ≡ items line.now }
+{
+    match line {
+        [_, rest @ ..] => rest,
+        [] => line,
+    }
 }
 
 // The number of a row's form.
