@@ -1,18 +1,20 @@
--- `hastag_rule`: what is left of the kinds decides.
-use Rattle.rules.proofs.Rulings.{tags_other, each_start, tags_silent, each_on, tags_false}
+-- `hastag_rule`: each kind is asked.
+use mathlib.Core.Path.{◌≡◌, ◌∙◌, ap}
+use mathlib.Core.Bool.{true, false}
+use Rattle.std.proofs.Common.{rules}
+use Rattle.std.proofs.lemmas.Iterator.{cases_from_all, YieldsList-from_slice}
+use Rattle.sheet.specs.Typing.{all_in}
+use Rattle.fits.specs.Fit.{kinds_in}
+use Rattle.fits.proofs.KindLaws.{all_is}
+use Rattle.rules.specs.Rules.{untagged}
+use Rattle.rules.proofs.Rulings.{tags_other, tags_kinds}
 use Rattle.rules.proofs.hastag_rule.Goals as goal
 
 pub returns-then-tag-ne-ENTITY_TYPE : goal.returns-then-tag-ne-ENTITY_TYPE
 returns-then-tag-ne-ENTITY_TYPE c = search tags_other
 
-pub loop-i-init : goal.loop-i-init
-loop-i-init c = search each_start
-
-pub returns-then-not-lacks_tags : goal.returns-then-not-lacks_tags
-returns-then-not-lacks_tags c = search tags_silent
-
-pub loop-i-preserved : goal.loop-i-preserved
-loop-i-preserved c = search each_on
-
 pub returns : goal.returns
-returns c = search tags_false
+returns c =
+    let e : c.all.result ≡ all_in (untagged c.args.rows.now) (kinds_in c.row-q.result.now) =
+    all_is (untagged c.args.rows.now) c.all.result c.kinds.result.now (cases_from_all _ _ _ (λ k. untagged c.args.rows.now k ≡ true) (λ k. untagged c.args.rows.now k ≡ false) c.all.ensures.ran (YieldsList-from_slice c.kinds.result.now cc) (λ x q k. search rules) (λ x q k. search rules)) ∙ ap (all_in (untagged c.args.rows.now)) c.kinds.ensures in
+    search tags_kinds

@@ -1,15 +1,12 @@
--- `some_pair`: what is left of the kinds decides.
-use Rattle.rules.proofs.Rulings.{some_start, some_hit, some_on, some_over}
+-- `some_pair`: each kind is asked.
+use mathlib.Core.Path.{◌≡◌, ◌∙◌, ap}
+use mathlib.Core.Bool.{true, false}
+use Rattle.std.proofs.Common.{rules}
+use Rattle.std.proofs.lemmas.Iterator.{cases_from_any, YieldsList-from_slice}
+use Rattle.cedar.specs.Types.{some_kind}
+use Rattle.rules.specs.Rules.{pair_with}
+use Rattle.rules.proofs.Rulings.{some_is}
 use Rattle.rules.proofs.some_pair.Goals as goal
 
-pub loop-i-init : goal.loop-i-init
-loop-i-init c = search some_start
-
-pub returns-then-pair_with : goal.returns-then-pair_with
-returns-then-pair_with c = search some_hit
-
-pub loop-i-preserved : goal.loop-i-preserved
-loop-i-preserved c = search some_on
-
 pub returns : goal.returns
-returns c = search some_over
+returns c = some_is (pair_with c.args.rows.now c.args.others.now.row.now) c.any.result c.kinds.result.now (cases_from_any _ _ _ (λ k. pair_with c.args.rows.now c.args.others.now.row.now k ≡ true) (λ k. pair_with c.args.rows.now c.args.others.now.row.now k ≡ false) c.any.ensures.ran (YieldsList-from_slice c.kinds.result.now cc) (λ x q k. search rules) (λ x q k. search rules)) ∙ ap (some_kind (pair_with c.args.rows.now c.args.others.now.row.now)) c.kinds.ensures
