@@ -3,12 +3,11 @@
 #![tactic(auto)]
 
 ghost use Rattle.std.specs.Prelude.{◌≡◌, true, ◌-◌, ◌*◌, ◌≤◌, ◌<◌, length, get_or, drop};
-ghost use Rattle.sheet.specs.Bytes.{same};
 ghost use Rattle.sheet.specs.Forms.{TYPE};
 ghost use Rattle.typesets.specs.Sets.{TYPES, TYPE_WORDS, SLOTS, PLACES, Gathered, set_at};
 ghost use Rattle.pathtypes.specs.Paths.{SETS, Skipped, Placed, PlaceOf, RecordsOf, Learned, PlacedIn, Seen, of_type, of_row, of_each, of_declared, of_step, of_place, of_slot, path_from, path_at};
 
-use fits::{Found, kinds_end};
+use fits::kinds;
 use forms::{ENTITY_TYPE, RECORD_TYPE, TYPE};
 use table::{count, item, row, tag};
 use typerows::{attribute, attribute_type, is_record};
@@ -24,23 +23,6 @@ const TEXT_WORDS: usize = 16;
 const LONG: usize = 96;
 
 const FEW: usize = 16;
-
-// ---- sets
-
-// Whether two sets are the same.
-fn is_same(set: &[u32], other: &[u32]) -> bool
-    requires { length set.now ≡ length other.now }
-    ensures { result ≡ same set.now other.now }
-{
-    let mut w: usize = 0;
-    while w < set.len() {
-        if read(set, w) != read(other, w) {
-            return false;
-        }
-        w += 1;
-    }
-    true
-}
 
 // ---- the record types of types
 
@@ -61,13 +43,10 @@ fn add_kinds(rows: &[u32], records: &mut [u32], type_row: &[u32]) -> bool
     requires { (get_or rows.now TYPE 0 ≤ TYPES) × (length records.old ≡ TYPE_WORDS) }
     ensures { Gathered records.old records.new (of_row rows.now type_row.now) result }
 {
-    let end = kinds_end(type_row);
-    let mut i: usize = 1;
-    while i < end {
-        if !add_record(rows, records, attribute_type(rows, item(type_row, i))) {
+    for &kind in kinds(type_row) {
+        if !add_record(rows, records, attribute_type(rows, kind)) {
             return false;
         }
-        i += 1;
     }
     true
 }
@@ -136,8 +115,7 @@ fn add_declared(
     requires { (get_or rows.now TYPE 0 ≤ TYPES) × (length known.old ≡ TYPE_WORDS) × (length sets.old ≡ SETS) × (length records.old ≡ TYPE_WORDS) × Learned rows.now known.old sets.old }
     ensures { Gathered records.old records.new (of_declared rows.now text ty) result × Learned rows.now known.new sets.new }
 {
-    let f = attribute(rows, ty, text);
-    let Found::As(z) = f else {
+    let Some(z) = attribute(rows, ty, text) else {
         return true;
     };
     if z >= count(rows, TYPE) {
@@ -284,14 +262,12 @@ fn skip(line: &[u32], texts: &[u32], start: usize) -> usize
     requires { 1 ≤ start }
     ensures { Skipped line.now texts.now start result }
 {
-    let mut i = start;
-    while i < line.len() {
+    for i in start..line.len() {
         if !has(texts, item(line, i - 1) as usize) {
             return i;
         }
-        i += 1;
     }
-    i
+    start.max(line.len())
 }
 
 // Whether the steps of a path from word `start` on, the first of them the word before it, are typed from a type. Texts whose step leaves the set
@@ -332,7 +308,7 @@ fn group_typed(rows: &[u32], line: &[u32], ty: u32, start: usize) -> bool
             break false;
         }
         i += 1;
-        if is_same(&records, &reached) {
+        if records == reached {
             add(&mut kept, text as usize);
             continue;
         }
@@ -411,8 +387,7 @@ pub fn path_typed(rows: &[u32], line: &[u32], ty: u32) -> bool
                 if is_searched_once(rows, z, y, line.len() - i) {
                     break group_typed(rows, line, z, i);
                 }
-                let f = attribute(rows, y, item(line, i - 1));
-                let Found::As(t) = f else {
+                let Some(t) = attribute(rows, y, item(line, i - 1)) else {
                     break true;
                 };
                 z = t;
