@@ -11,12 +11,11 @@ ghost use Rattle.typerows.specs.Types.{is_above_at};
 ghost use Rattle.above.specs.Fitting.{all_above, unfit_at, unfit_value, Unfit, Passed, Passes, Fit, Fitted, unfit_from};
 
 use forms::{ENTITY, ENTITY_VALUE, VALUE};
-use met::byte;
 use reach::{FAR, LINES, MARKS, VALUES, line_at, lines, parents_of, place_of, reach, values};
 use table::{count, item, row, tag};
 use typesets::KIND_WORDS;
 use typing::lines::{add_above, is_ancestor, is_ancestor_by};
-use words::{put, read};
+use words::{item_or, put, read};
 
 // Whether the values of a list are all entities of kinds above this one.
 fn all_above(rows: &[u32], kind: u32, list: &[u32]) -> bool
@@ -62,7 +61,7 @@ fn unfit_value(rows: &[u32], above: &[u32], kind: u32, met: &[u8], value: u32) -
     requires { Each above.now (is_above_at rows.now kind) }
     ensures { result ≡ marked_at (unfit_value rows.now kind) met.now value }
 {
-    if byte(met, value as usize) == 0 {
+    if item_or(met, value as usize, 0) == 0 {
         return false;
     }
     !is_ancestor_by(rows, above, value, kind)

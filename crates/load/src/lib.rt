@@ -2,7 +2,6 @@
 #![tactic(auto)]
 
 ghost use Rattle.std.specs.Prelude.{◌≡◌, ◌≤◌, length};
-ghost use Rattle.words.specs.Log.{zeros};
 ghost use Rattle.sheet.specs.Sheet.{read};
 ghost use Rattle.line.specs.Codes.{mode_of};
 ghost use Rattle.faults.specs.Numbers.{number_of, line_of};
@@ -15,15 +14,7 @@ use scan::{Cursor, Line};
 use seen::PLACE_WORDS;
 use table::{HEAP, SPENT, TOP, TYPEDEPTHS};
 use take::take_line;
-use words::put;
-
-// The words before `end` become 0.
-fn zero(words: &mut [u32], end: usize)
-    requires { end ≤ length words.old }
-    ensures { words.new ≡ zeros end words.old }
-{
-    words[..end].fill(0);
-}
+use words::{put, zero};
 
 // Reads the sheet; before the first line there are no rows, no pairs are remembered, no nodes are used, and no rows are seen. A line of the key `last`, that of the line before and at first the first, may come.
 // The first faulty line, or the end, may refuse it; where it is accepted the words hold its rows.

@@ -1,32 +1,13 @@
 // Tables by value, a byte each, in which parents are noted as they are met, and lists of parents asked by them.
 #![tactic(auto)]
 
-ghost use Rattle.std.specs.Prelude.{◌≡◌, ◌+◌, ◌≤◌, ◌<◌, length, get_or, set};
+ghost use Rattle.std.specs.Prelude.{◌≡◌, ◌+◌, ◌≤◌, ◌<◌, length};
 ghost use Rattle.met.specs.Noting.{RUN, Entered, Run, RunMet, Skipped};
 
 use words::put;
 
 // So many parents of a list are asked at a time, as most were met before.
 const RUN: usize = 8;
-
-// A byte of a table, 0 past its end.
-pub fn byte(bytes: &[u8], i: usize) -> u8
-    ensures { result ≡ get_or bytes.now i 0 }
-{
-    if i < bytes.len() {
-        return bytes[i];
-    }
-    0
-}
-
-// Another byte in the place of one; nothing is stored past the end.
-pub fn put_byte(bytes: &mut [u8], i: usize, byte: u8)
-    ensures { bytes.new ≡ set bytes.old i byte }
-{
-    if i < bytes.len() {
-        bytes[i] = byte;
-    }
-}
 
 // Notes a parent: whether it was noted before. For one whose number the table does not have there is a mark, at place `far`.
 pub fn note(met: &mut [u8], marks: &mut [u32], far: usize, value: u32) -> bool

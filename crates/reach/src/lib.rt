@@ -9,10 +9,10 @@ ghost use Rattle.table.specs.Layout.{rows_of};
 ghost use Rattle.reach.specs.Marks.{LINES, VALUES, HIDDEN, FAR, line_rows, place_of, named, Filled, Indexed, Listed, Queue, Opened, Grown, Spot, Seen, Spread, Expanded, Found, marked_at, any_marked, names_at, is_met, any_met};
 
 use forms::{ENTITY, MARK, SET_VALUE, VALUE};
-use met::{byte, note, put_byte, unmet};
+use met::{note, unmet};
 use table::{base_of, count, item, row, tag};
 use value::{contains, members};
-use words::{cut, put, read};
+use words::{item_or, cut, put, read};
 
 // The most entity lines, and the most values of a sheet: so many bytes has a table by value.
 pub const LINES: usize = 128;
@@ -94,7 +94,7 @@ fn index(rows: &[u32], places: &mut [u8], sets: &mut [u32])
         let line = cut(rows, start, end);
         let v = item(line, 1) as usize;
         put(sets, v, item(line, 4));
-        put_byte(places, v, i as u8);
+        put(places, v, i as u8);
         end = start;
     }
 }
@@ -234,10 +234,10 @@ fn expand(
     ensures { Expanded (rows_of rows.now VALUE) (line_rows rows.now) parents asked.old met.old marks.old queue.old end asked.new met.new marks.new queue.new result }
 {
     let i = parents as usize;
-    if byte(asked, i) != 0 {
+    if item_or(asked, i, 0) != 0 {
         return end;
     }
-    put_byte(asked, i, 1);
+    put(asked, i, 1);
     see(
         rows,
         places,

@@ -13,7 +13,6 @@ ghost use Rattle.lookup.specs.Lookups.{value_in};
 
 use forms::{ADD, LE, LT, SUB};
 use like::like;
-use long::Checked;
 use table::text;
 use value::{Shape, contains, covers, meets, members, row_of, shape_of};
 
@@ -39,13 +38,10 @@ pub fn not_of(rows: &[u32], value: u32) -> Given
 }
 
 // A long, if it is in range.
-fn checked(c: Checked) -> Given
+fn checked(c: Option<u64>) -> Given
     ensures { out_of result ≡ long_out (number_of c) }
 {
-    let Checked::Value(w) = c else {
-        return Given::Fails;
-    };
-    Given::Long(w)
+    c.map_or(Given::Fails, Given::Long)
 }
 
 // The negative.
