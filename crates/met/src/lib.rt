@@ -30,6 +30,7 @@ fn bits(list: &[u32], from: usize) -> u32
     requires { from + RUN ≤ length list.now }
     ensures { Run (λ x. x ≤ result) list.now from }
 {
+    // kept: eight places written out are one test without a branch; a fold over them says no more.
     list[from]
         | list[from + 1]
         | list[from + 2]
@@ -74,6 +75,7 @@ fn runs(met: &[u8], list: &[u32], from: usize) -> usize
     ensures { Skipped met.now list.now from result }
 {
     let mut i = from;
+    // kept: the place where fewer than eight are left is the answer, which a range's steps do not give.
     while i + RUN <= list.len() {
         if !run_met(met, list, i) {
             return i;
