@@ -4,7 +4,6 @@ use mathlib.Core.List.{List, [], ◌∷◌, ◌++◌, append_assoc}
 use Prim.Native.Nat.{ℕ, zero, suc, ◌+◌, ◌-◌, ◌≤◌, ◌<◌}
 use native.Mathlib.Nat.{add-zero, add-suc, suc-add}
 use native.Mathlib.Omega.{arith}
-use borrow.Author.Fill.{fill_more}
 use borrow.Author.Tests.{lt-ltb, le-ltb}
 use lib.ListN.{length, get_or, take, drop, set, replicate, take-append-drop, length-drop, length-append, length-replicate, get_or-replicate, get_or-append}
 use lib.Seq.{take-take, take_all, take-set-le, drop-set-lt, drop-drop, get_or-take, get_or-drop, sets, sets-eq, length-sets, set_out, drop_at, take_at, length-take-le}
@@ -123,10 +122,6 @@ module _ (n : ℕ) where
   unfolding zeros
   zeros_fill w v h e = rw (e, length-take-le n w h)
 
-  pub zeros_more : (w : List ℕ) → n < length w → set (zeros n w) n 0 ≡ zeros (n + 1) w
-  unfolding zeros
-  zeros_more w h = fill_more n 0 w h
-
   pub zeros_same : (w v : List ℕ) → drop n w ≡ drop n v → zeros n w ≡ zeros n v
   unfolding zeros
   zeros_same w v e = ap (λ (l : List ℕ). replicate n 0 ++ l) e
@@ -147,10 +142,6 @@ module _ (n : ℕ) where
   unfolding zeros
   get_d_zeros w i h =
       get_or-append (replicate n 0) (drop n w) 0 i (rw (length-replicate {A = ℕ} n 0) h) ∙ get_or-replicate n i 0 0 h
-
-pub zeros_none : (w : List ℕ) → w ≡ zeros 0 w
-unfolding zeros
-zeros_none w = refl
 
 pub cleared_short : (w : List ℕ) → length w < 16384 → w ≡ cleared w
 unfolding cleared
