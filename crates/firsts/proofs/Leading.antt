@@ -51,13 +51,6 @@ tells_none a = record { is = λ c u e. absurd (omega (arith, e)) }
 pub firsts_none : (a : List ℕ) (n : ℕ) → Firsts a (replicate n BLANK)
 firsts_none a n = record { is = λ h. subst (Tells a) (sym (blank n h)) (tells_none a) }
 
--- what a cell says
-pub leads_none : (cells : List Cell) (v t : ℕ) → Leads cells v t None
-leads_none cells v t = record { is = λ a f x e. absurd (none_some e) }
-  where
-    none_some : {x : ℕ} → ◌≡◌ {A = Maybe ℕ} None (Some x) → ⊥
-    none_some e = let z : ◌≡◌ {A = ℕ} 0 1 = cc in omega arith
-
 pub leads_cell : (cells : List Cell) (v t h : ℕ) (d : Cell) → d ≡ get_or cells h BLANK → d.text ≡ t + 1 → d.owner ≡ v → Leads cells v t (Some d.next)
 leads_cell cells v t h d ed e o = record {
   is = λ a f x z c.
@@ -90,9 +83,6 @@ kept_set v t x h cells l = record { is = λ a g f. record { is = λ w. go a g f 
 pub record Keeping (l : List ℕ) (s : List (List ℕ)) (v : ℕ) (cells₀ cells : List Cell) (low i : ℕ) : Type 0 where
   pub left : (u : ℕ) → low ≤ u → entry_among u s ≡ entry_among u (drop i s)
   pub kept : KeptAll l v cells₀ cells
-
-pub keeping_start : (l : List ℕ) (s : List (List ℕ)) (v : ℕ) (cells : List Cell) → Keeping l s v cells cells 0 0
-keeping_start l s v cells = record { left = λ u h. refl; kept = record { is = λ a f e. f } }
 
 pub keeping_on : (l : List ℕ) (s : List (List ℕ)) (v : ℕ) (cells₀ cells : List Cell) (low i : ℕ) → Keeping l s v cells₀ cells low i → s ≡ first_chunks 2 (length l / 2) l → i < length s
     → (d : List ℕ) → low ≤ get_or (get_or s i d) 0 0 → (cells' : List Cell) → Kept v (get_or (get_or s i d) 0 0) (get_or (get_or s i d) 1 0) cells cells' → Keeping l s v cells₀ cells' (get_or (get_or s i d) 0 0 + 1) (i + 1)

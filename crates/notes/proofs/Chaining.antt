@@ -98,9 +98,6 @@ blank (suc n) (suc j) = blank n j
 pub clear_none : (n : ℕ) → Clear (replicate n 0)
 clear_none n = record { is = blank n }
 
-pub chained_none : (a : List ℕ) (E : List (List ℕ)) (links : List ℕ) → Chained a E 0 [] links
-chained_none a E links = record { first = λ t h. absurd (omega (arith, h)); next = λ j i h l z. absurd (omega (arith, z)) }
-
 chained_start : (a : List ℕ) (E : List (List ℕ)) (n : ℕ) (heads links : List ℕ) → length E ≤ n → Clear heads → Chained a E n heads links
 unfolding left_of
 chained_start a E n heads links h c = record { first = λ t l. c.is t ∙ sym (ap (left_of a t) (spent E n h)); next = λ j i l m z. absurd (omega (arith, h, i, l)) }

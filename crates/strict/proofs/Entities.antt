@@ -48,18 +48,6 @@ module _ (l : Look) where
   pub taken_bad : l ≡ Bad → Fails ≡ taken_of l
   taken_bad e = rw e
 
-  pub present_at : (x : ℕ) → l ≡ Atˡ x → Boolᵍ true ≡ present_of l
-  present_at x e = rw e
-
-  pub present_missing : l ≡ Missing → Boolᵍ false ≡ present_of l
-  present_missing e = rw e
-
-  pub present_unknown : (k : ℕ) → l ≡ Unknownˡ k → Stays ≡ present_of l
-  present_unknown k e = rw e
-
-  pub present_bad : l ≡ Bad → Fails ≡ present_of l
-  present_bad e = rw e
-
 -- ---- known parts: what stands for one, where e does for nothing at all
 
 abbrev part_give : Give → Option (Option ℕ) → Option Give

@@ -3,7 +3,6 @@ use mathlib.Core.Path.{◌≡◌, refl, sym, ap, ◌∙◌}
 use mathlib.Core.Bool.{Bool, true, false, cond, ◌&&◌}
 use mathlib.Core.List.{List, [], ◌∷◌, ◌++◌, append_assoc, append-nil}
 use Prim.Native.Nat.{ℕ, zero, suc, ◌+◌, ◌-◌, ◌*◌, ◌/◌, ◌≤◌, ◌<◌, compare, Ordering}
-use native.Mathlib.Numerals.{add-one}
 use native.Mathlib.Nat.{le_refl}
 use native.Mathlib.Omega.{arith}
 use native.Mathlib.Decide.{dec_lt}
@@ -21,7 +20,6 @@ use Rattle.cedar.specs.Making.{place_n, insert_n, sort_n}
 use Rattle.cedar.proofs.OrderLaws.{compare_eq, compare_lt, compare_gt}
 use Rattle.value.specs.Places.{lower_than}
 use Rattle.value.specs.Made.{ROW, SOURCE, Shifted, Inserted, values_in, push_all}
-use Rattle.value.proofs.Lists.{uncons}
 use Rattle.value.proofs.Sorting.{short, uncons4}
 use Rattle.value.proofs.Fills.{drop_take, push_all_law}
 
@@ -132,9 +130,6 @@ module _ (b : List ℕ) (at p x : ℕ) (h : at ≤ p) (k : p < length b) (l : Li
 
 pub there_none : (b : List ℕ) (j p x : ℕ) → p ≤ j → false ≡ (ltb j p && eqb (get_or b j 0) x)
 there_none b j p x h = sym (rw (le-ltb j p h))
-
-pub there_read : (b : List ℕ) (j p x y : ℕ) → j < p → y ≡ get_or b j 0 → eqb y x ≡ (ltb j p && eqb (get_or b j 0) x)
-there_read b j p x y h e = sym (rw (lt-ltb j p h, ← e))
 
 -- ---- the values of rows, the last row's first
 

@@ -12,7 +12,6 @@ use borrow.Author.Tests.{eq-eqb, ne_eqb, lt-ltb, le-ltb, lt-leb, le-leb, leb-tru
 use lib.Dec.{eqb, leb, ltb}
 use lib.ListN.{length, get_or, take, drop, drop_of_length-le, length-drop, get_or-append}
 use lib.Seq.{drop-cons, drop-drop, take_all, get_or-append-add}
-use Rattle.cedar.specs.Rows.{Entries}
 use Rattle.cedar.specs.Numbered.{mem_n, all_n, any_n, pick_n, entry_of}
 use Rattle.sheet.specs.Bytes.{same}
 use Rattle.sheet.specs.State.{entries_of}
@@ -46,10 +45,6 @@ pub mem_listed : (v : ℕ) (l : List ℕ) → list_any (λ y. eqb y v) l ≡ mem
 mem_listed v [] = refl
 mem_listed v (x ∷ l) = rw (turned x v, mem_listed v l)
 
-module _ (k l : List ℕ) (i : ℕ) (g : Going (all_n k l) (all_n (drop i k) l) i (length k)) where
-  pub all_end : length k ≤ i → true ≡ all_n k l
-  all_end h = sym (g.left ∙ ap (λ (x : List ℕ). all_n x l) (spent k i h))
-
   pub all_off : (b : Bool) → i < length k → b ≡ mem_n (get_or k i 0) l → not b ≡ true → false ≡ all_n k l
   all_off b h e f =
       let z : mem_n (get_or k i 0) l ≡ false = sym e ∙ not-true b f in
@@ -59,10 +54,6 @@ module _ (k l : List ℕ) (i : ℕ) (g : Going (all_n k l) (all_n (drop i k) l) 
   all_on b h e f =
       let z : mem_n (get_or k i 0) l ≡ true = sym e ∙ not-false b f in
       record { near = omega arith; left = g.left ∙ ap (λ (x : List ℕ). all_n x l) (uncons k 0 i h) ∙ rw z }
-
-module _ (k l : List ℕ) (i : ℕ) (g : Going (any_n k l) (any_n (drop i k) l) i (length k)) where
-  pub any_end : length k ≤ i → false ≡ any_n k l
-  any_end h = sym (g.left ∙ ap (λ (x : List ℕ). any_n x l) (spent k i h))
 
   pub any_hit : (b : Bool) → i < length k → b ≡ mem_n (get_or k i 0) l → b ≡ true → true ≡ any_n k l
   any_hit b h e f =
@@ -122,21 +113,11 @@ ascend_rest zero m l e = ascend_low m l e
 ascend_rest (suc j) m [] e = refl
 ascend_rest (suc j) m (x ∷ l) e = ascend_rest j (suc x) l ((and-eq-true_iff (leb m x) (ascend (suc x) l)).0 e).1
 
-module _ (l : List ℕ) (v j : ℕ) where
-  pub stands_past : length l ≤ j → false ≡ mem_n v (drop j l)
-  stands_past h = sym (ap (mem_n v) (spent l j h))
-
-  pub stands_hit : j < length l → v ≡ get_or l j 0 → true ≡ mem_n v (drop j l)
-  stands_hit h e = sym (ap (mem_n v) (uncons l 0 j h) ∙ rw (eq-eqb v (get_or l j 0) e))
-
   pub stands_above : (up : Bool) → (up ≡ true → ascend 0 l ≡ true) → up ≡ true → j < length l → v < get_or l j 0 → false ≡ mem_n v (drop j l)
   stands_above up eu u h b =
       let a : ascend 0 (get_or l j 0 ∷ drop (j + 1) l) ≡ true = ap (ascend 0) (sym (uncons l 0 j h)) ∙ ascend_rest j 0 l (eu u) in
       let r = ((and-eq-true_iff (leb 0 (get_or l j 0)) (ascend (suc (get_or l j 0)) (drop (j + 1) l))).0 a).1 in
       sym (ap (mem_n v) (uncons l 0 j h) ∙ rw (ne_eqb v (get_or l j 0) (λ z. omega arith)) (ascend_above (suc (get_or l j 0)) v (drop (j + 1) l) r (omega arith)))
-
-  pub stands_rest : (b : Bool) → b ≡ mem_n v (take (length l - j) (drop j l)) → b ≡ mem_n v (drop j l)
-  stands_rest b e = e ∙ ap (mem_n v) (take_all (length l - j) (drop j l) (omega (arith, length-drop j l)))
 
 -- ---- the first place that is not below a number
 

@@ -3,13 +3,13 @@ use mathlib.Core.Path.{◌≡◌, refl, sym, ap, ◌∙◌}
 use mathlib.Core.Bool.{Bool, true, false, cond}
 use mathlib.Core.List.{List, [], ◌∷◌}
 use mathlib.Core.Option.{Option, none, some}
-use Prim.Native.Nat.{ℕ, zero, suc, ◌+◌, ◌-◌, ◌/◌, ◌≤◌, ◌<◌, min, compare, Ordering}
+use Prim.Native.Nat.{ℕ, zero, suc, ◌+◌, ◌/◌, ◌≤◌, ◌<◌, min, compare, Ordering}
 use native.Mathlib.Numerals.{add-one}
 use native.Mathlib.Omega.{arith}
 use native.Mathlib.Decide.{dec_lt}
 use borrow.Author.Tests.{lt-ltb, le-ltb}
 use lib.Dec.{ltb}
-use lib.ListN.{length, get_or, drop, length-drop}
+use lib.ListN.{length, get_or, drop}
 use Rattle.cedar.specs.Making.{place_n, insert_n, sort_n}
 use Rattle.cedar.proofs.OrderLaws.{compare_eq, compare_lt, compare_gt}
 use Rattle.std.specs.Prelude.{Option as Maybe, Some, None}
@@ -236,9 +236,6 @@ values_listed (suc n) (t ∷ v ∷ m ∷ y ∷ l) e = ap (λ (k : List ℕ). v �
 -- what is left of the rows from number i on, and the best of those before
 pub record Lowering (s : List (List ℕ)) (lo : ℕ) (e : Maybe ℕ) (i : ℕ) : Type 0 where
   pub left : least_of lo none (sources s) ≡ least_of lo (value_found e) (sources (drop i s))
-
-pub lowering_start : (s : List (List ℕ)) (lo : ℕ) → Lowering s lo None 0
-lowering_start s lo = record { left = refl }
 
 module _ (s : List (List ℕ)) (lo : ℕ) (e : Maybe ℕ) (i : ℕ) (g : Lowering s lo e i) where
   pub lowering_on : (d : List ℕ) (f : Maybe ℕ) → i < length s → value_found f ≡ lower_of lo (value_found e) (get_or (get_or s i d) SOURCE 0) → Lowering s lo f (i + 1)

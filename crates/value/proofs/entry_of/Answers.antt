@@ -3,11 +3,8 @@ use mathlib.Core.Path.{refl, ap, ◌∙◌}
 use mathlib.Core.List.{[]}
 use Prim.Native.Nat.{◌/◌}
 use lib.ListN.{length}
-use Rattle.value.proofs.Lists.{entry_among, entry_end, entry_hit, entry_on, entry_pairs}
+use Rattle.value.proofs.Lists.{entry_among, entry_end, entry_hit, entry_pairs}
 use Rattle.value.proofs.entry_of.Goals as goal
-
-pub loop-pair-preserved : goal.loop-pair-preserved
-loop-pair-preserved c = entry_on _ _ _ c.loop-pair.invariant [] c.loop-pair-test.true c.if-text-pair.false
 
 pub returns-then-text-pair : goal.returns-then-text-pair
 returns-then-text-pair c =

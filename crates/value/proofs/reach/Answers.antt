@@ -1,11 +1,8 @@
 -- `value::reach` meets its contract. Assumes nothing.
-use Rattle.value.proofs.Lists.{reach_start, reach_last, reach_stop, reach_on}
+use Rattle.value.proofs.Lists.{reach_last, reach_stop, reach_on}
 use mathlib.Core.Path.{◌∙◌}
 use borrow.Author.Rules.{rules}
 use Rattle.value.proofs.reach.Goals as goal
-
-pub loop-j-init : goal.loop-j-init
-loop-j-init c = search (reach_start, rules)
 
 pub loop-j-preserved : goal.loop-j-preserved
 loop-j-preserved c = search (reach_on, rules)

@@ -1,5 +1,4 @@
 -- `value::reach` meets its contract. Assumes nothing.
-use lib.ListN.{length}
 use Rattle.value.proofs.Lists.{Reaching}
 use Rattle.value.proofs.reach.Given as goal
 

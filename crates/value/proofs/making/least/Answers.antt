@@ -1,10 +1,7 @@
 -- `value::making::least` meets its contract. Assumes nothing.
 use mathlib.Core.List.{[]}
-use Rattle.value.proofs.Sorting.{lowering_start, lowering_on, lowering_end}
+use Rattle.value.proofs.Sorting.{lowering_on, lowering_end}
 use Rattle.value.proofs.making.least.Goals as goal
-
-pub loop-line-init : goal.loop-line-init
-loop-line-init c = lowering_start _ _
 
 pub loop-line-preserved : goal.loop-line-preserved
 loop-line-preserved c = lowering_on _ _ _ _ c.loop-line.invariant [] _ c.loop-line-test.true c.lower-best.ensures

@@ -1,7 +1,7 @@
--- `value::making::next_place` meets its contract. Assumes nothing.
+-- `value::making::TwoWords::next_place` meets its contract. Assumes nothing.
 use Rattle.value.proofs.Passes.{passing_end, passing_hit, passing_on}
 use borrow.Author.Rules.{rules}
-use Rattle.value.proofs.making.next_place.Goals as goal
+use Rattle.value.proofs.making.TwoWords.next_place.Goals as goal
 
 pub loop-i-preserved : goal.loop-i-preserved
 loop-i-preserved c = search (passing_on, rules)

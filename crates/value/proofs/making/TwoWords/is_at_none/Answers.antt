@@ -1,7 +1,7 @@
--- `value::making::is_at_none` meets its contract. Assumes nothing.
+-- `value::making::TwoWords::is_at_none` meets its contract. Assumes nothing.
 use Rattle.value.proofs.Passes.{four_1, four_2, four_3, four_4}
 use borrow.Author.Rules.{rules}
-use Rattle.value.proofs.making.is_at_none.Goals as goal
+use Rattle.value.proofs.making.TwoWords.is_at_none.Goals as goal
 
 pub returns-then-is_at : goal.returns-then-is_at
 returns-then-is_at c = search (four_1, rules)
