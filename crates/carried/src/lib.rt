@@ -9,9 +9,8 @@ ghost use Rattle.carried.specs.Carry.{number_there, member_rows, field_words, ro
 
 use forms::{RECORD_VALUE, SET_VALUE, VALUE};
 use residual::push_value;
-use table::{MADE, count, row, tag};
+use table::{MADE, count, items, row, tag};
 use value::making::{make, make_set};
-use value::members;
 use words::{cut, push, put, read};
 
 // The numbers there: each of the `given` values keeps its own, that of a made one is noted.
@@ -38,7 +37,7 @@ fn member_rows(line: &[u32], numbers: &Numbers, log: &mut [u32]) -> usize
     requires { 16384 ≤ length log.old }
     ensures { Holds 0 log.new result (member_rows (number_there numbers.now.given numbers.now.noted.now) (drop 1 line.now) []) }
 {
-    let list = members(line);
+    let list = items(line);
     let mut end = 0;
     for &member in list {
         end = push_value(log, end, numbers.there(member), 0);
@@ -51,7 +50,7 @@ fn field_words(line: &[u32], numbers: &Numbers, log: &mut [u32]) -> usize
     requires { 16384 ≤ length log.old }
     ensures { Holds 0 log.new result (field_words (number_there numbers.now.given numbers.now.noted.now) (drop 1 line.now)) }
 {
-    let (pairs, _) = members(line).as_chunks::<2>();
+    let (pairs, _) = items(line).as_chunks::<2>();
     let mut end = push(log, 0, RECORD_VALUE);
     for pair in pairs {
         end = push(log, end, pair[0]);

@@ -67,15 +67,19 @@ kept_none v t x cells = record { is = λ a g f. g }
 abbrev pub cell_with : ℕ → ℕ → ℕ → Cell
 cell_with v t x = record { owner = v; text = t + 1; next = x }
 
-pub kept_set : (v t x h : ℕ) (cells : List Cell) → h < length cells → Kept v t x cells (set cells h (cell_with v t x))
-kept_set v t x h cells l = record { is = λ a g f. record { is = λ w. go a g f w (eqb w h) refl } }
+pub kept_set : (v t x h : ℕ) (cells cells' : List Cell) → cells' ≡ set cells h (cell_with v t x) → Kept v t x cells cells'
+kept_set v t x h cells cells' e = record { is = λ a g f. rw e (record { is = λ w. go a g f w (eqb w h) refl (dec_lt h (length cells)) }) }
   where
-    go : (a : List ℕ) → Firsts a cells → ((c : Bool) → Atˡ x ≡ look_attr c a v t) → (w : ℕ) (b : Bool) → eqb w h ≡ b → Tells a (get_or (set cells h (cell_with v t x)) w BLANK)
-    go a g f w false z = subst (Tells a) (sym (get_or-set_other cells h w (cell_with v t x) BLANK (eqb-false w h z))) (g.is w)
-    go a g f w true z =
+    go : (a : List ℕ) → Firsts a cells → ((c : Bool) → Atˡ x ≡ look_attr c a v t) → (w : ℕ) (b : Bool) → eqb w h ≡ b → Dec (h < length cells) → Tells a (get_or (set cells h (cell_with v t x)) w BLANK)
+    go a g f w false z l = subst (Tells a) (sym (get_or-set_other cells h w (cell_with v t x) BLANK (eqb-false w h z))) (g.is w)
+    go a g f w true z (yes l) =
         let q : w ≡ h = eqb-true w h z in
         subst (Tells a) (sym (ap (λ (j : ℕ). get_or (set cells h (cell_with v t x)) j BLANK) q ∙ get_or-set_same cells h (cell_with v t x) BLANK l))
-        (record { is = λ c u e. let y : t ≡ u = omega (arith, e) in f c ∙ ap (λ (j : ℕ). look_attr c a v j) y })
+        (record { is = λ c u y. let k : t ≡ u = omega (arith, y) in f c ∙ ap (λ (j : ℕ). look_attr c a v j) k })
+    go a g f w true z (no l) =
+        let q : w ≡ h = eqb-true w h z in
+        let n : length (set cells h (cell_with v t x)) ≡ length cells = length-set cells h (cell_with v t x) in
+        subst (Tells a) (sym (get_or-eq_default (set cells h (cell_with v t x)) BLANK (omega (arith, n, q, l)))) (tells_none a)
 
 -- ---- those of a record
 

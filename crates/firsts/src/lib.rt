@@ -9,9 +9,9 @@ ghost use Rattle.firsts.specs.Firsts.{Kept, KeptAll, Sourced, Entered, Firsts, L
 
 use forms::{ENTITY, MARK, VALUE};
 use lookup::TEXTS;
-use table::{base_of, count, item, row};
-use value::{Shape, members, row_of, shape_of};
-use words::{cut, put, read};
+use table::{base_of, count, item, items, row};
+use value::{Shape, row_of, shape_of};
+use words::{cut, item_or, put, read};
 
 // A cell: whose attribute it is, the attribute's text plus one, or 0 where nothing is noted, and the value that it leads to.
 // kept: an Option would take more words, and each long path clears a thousand cells.
@@ -52,25 +52,19 @@ pub fn keep(cells: &mut [Cell], value: u32, text: u32, next: u32)
     if text >= TEXTS as u32 {
         return;
     }
-    let i = cell_of(value, text);
-    if i < cells.len() {
-        cells[i] = Cell {
-            owner: value,
-            text: text + 1,
-            next,
-        };
-    }
+    let cell = Cell {
+        owner: value,
+        text: text + 1,
+        next,
+    };
+    put(cells, cell_of(value, text), cell);
 }
 
 // Where `text` leads from `value`, if it is noted.
 pub fn next(cells: &[Cell], value: u32, text: u32) -> Option<u32>
     ensures { Leads cells.now value text result }
 {
-    let i = cell_of(value, text);
-    if i >= cells.len() {
-        return None;
-    }
-    let cell = cells[i];
+    let cell = item_or(cells, cell_of(value, text), BLANK);
     if cell.text as usize != text as usize + 1 {
         return None;
     }
@@ -108,7 +102,7 @@ fn keep_source(rows: &[u32], value: u32, source: u32, cells: &mut [Cell])
     let Shape::Record = s else {
         return;
     };
-    keep_all(cells, value, members(r));
+    keep_all(cells, value, items(r));
 }
 
 // Notes the entity of line `number`, unless a line before it has its text.

@@ -10,8 +10,8 @@ ghost use Rattle.listing.specs.Values.{after, value_line, made_lines};
 use crate::names::shape_name;
 use crate::number_after;
 use print::Out;
-use table::{MADE, count, row};
-use value::{Shape, members, shape_of};
+use table::{MADE, count, items, row};
+use value::{Shape, shape_of};
 
 // Numbers, each after a comma.
 pub fn numbers(out: &mut Out, words: &[u32])
@@ -70,7 +70,7 @@ pub fn value_line(out: &mut Out, line: &[u32])
     ensures { Prints out.old (value_line line.now) out.new }
 {
     out.bytes(b"value=");
-    said(out, shape_of(line), members(line));
+    said(out, shape_of(line), items(line));
     out.byte(b'\n');
 }
 

@@ -9,8 +9,8 @@ ghost use Rattle.table.specs.Layout.{rows_of};
 ghost use Rattle.lookup.specs.Lookups.{value_in, ATTRIBUTES, TAGS, HALF, HALVINGS, text_there, is_entity_at, line_at, line_in, nearer, led_from, is_line, line_by, part_of, part_of_line, part_by, look_row, look_in, look_by};
 
 use forms::{ENTITY, MARK, VALUE};
-use table::{base_of, count, item, row};
-use value::{Shape, entry_of, members, row_of, shape_of};
+use table::{base_of, count, item, items, row};
+use value::{Shape, entry_of, row_of, shape_of};
 use words::read;
 
 // The most texts of a sheet: a table by text has so many words.
@@ -197,7 +197,7 @@ pub fn look_at(rows: &[u32], value: u32, text: u32) -> Look
     let Shape::Record = s else {
         return Look::Bad;
     };
-    let Some(x) = entry_of(members(r), text) else {
+    let Some(x) = entry_of(items(r), text) else {
         return Look::Missing;
     };
     Look::At(x)

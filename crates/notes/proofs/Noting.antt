@@ -75,16 +75,8 @@ blank (suc n) (suc v) = blank n v
 pub noted_none : (c : Bool) (a : List ℕ) (n : ℕ) → Noted c a (replicate n NOWHERE)
 noted_none c a n = record { is = λ v h. absurd (h (ap (λ (s : Span). s.end) (blank n v))) }
 
-pub placed_in : (a : List ℕ) (v r : ℕ) (spans : List Span) (s : Span) → Spans a r s → Placed a v r spans (set spans v s)
-placed_in a v r spans s e = record { span = s; put = refl; right = e }
-
-pub placed_past : (a : List ℕ) (v r : ℕ) (spans : List Span) → length spans ≤ v → Placed a v r spans spans
-placed_past a v r spans h = record { span = NOWHERE; put = sym (set_out spans v h); right = span_none a r }
-  where
-    set_out : (l : List Span) (i : ℕ) → length l ≤ i → set l i NOWHERE ≡ l
-    set_out [] i k = refl
-    set_out (x ∷ l) zero k = absurd (omega arith)
-    set_out (x ∷ l) (suc i) k = ap (λ (m : List Span). x ∷ m) (set_out l i (omega arith))
+pub placed_so : (a : List ℕ) (v r : ℕ) (spans spans' : List Span) (s : Span) → Spans a r s → spans' ≡ set spans v s → Placed a v r spans spans'
+placed_so a v r spans spans' s e p = record { span = s; put = p; right = e }
 
 -- ---- one more
 

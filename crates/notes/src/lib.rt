@@ -14,7 +14,7 @@ use forms::VALUE;
 use lookup::{ATTRIBUTES, Look, Part, look_at, part_at};
 use table::{base_of, count};
 use value::{Shape, row_of, shape_of};
-use words::{cut, read};
+use words::{cut, item_or, put, read};
 
 // Where the entries of a record stand in the words: from `start` up to `end`, which is 0 where it is not known or their texts do not ascend.
 // kept: an Option would take half as many words again, and each long path clears a thousand of them.
@@ -62,10 +62,7 @@ fn span_of(rows: &[u32], value: u32) -> Span
 fn note(rows: &[u32], value: u32, source: u32, spans: &mut [Span])
     ensures { Placed rows.now value source spans.old spans.new }
 {
-    let i = value as usize;
-    if i < spans.len() {
-        spans[i] = span_of(rows, source);
-    }
+    put(spans, value as usize, span_of(rows, source));
 }
 
 // `text` among the attributes of a record or an entity, which are noted.
@@ -99,11 +96,7 @@ pub fn look_noted(
     requires { Noted complete chains.now.rows.now spans.old }
     ensures { Looked complete chains.now.rows.now value text spans.new result }
 {
-    let i = value as usize;
-    if i >= spans.len() {
-        return look_new(chains, complete, value, text, spans);
-    }
-    let span = spans[i];
+    let span = item_or(spans, value as usize, NOWHERE);
     if span.end == 0 {
         return look_new(chains, complete, value, text, spans);
     }

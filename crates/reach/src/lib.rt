@@ -10,8 +10,8 @@ ghost use Rattle.reach.specs.Marks.{LINES, VALUES, HIDDEN, FAR, line_rows, place
 
 use forms::{ENTITY, MARK, SET_VALUE, VALUE};
 use met::{note, unmet};
-use table::{base_of, count, item, row, tag};
-use value::{contains, members};
+use table::{base_of, count, item, items, row, tag};
+use value::contains;
 use words::{item_or, cut, put, read};
 
 // The most entity lines, and the most values of a sheet: so many bytes has a table by value.
@@ -122,7 +122,7 @@ fn parents_in(rows: &[u32], parents: u32) -> &[u32]
     if tag(q) != SET_VALUE {
         return &rows[0..0];
     }
-    members(q)
+    items(q)
 }
 
 // The parents that line `number` names.

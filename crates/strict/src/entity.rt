@@ -13,8 +13,8 @@ use crate::Given;
 use forms::ENTITY;
 use lookup::{Look, TAGS, line_of, look_attr, look_in, part_of};
 use reach::{MARKS, VALUES, meets_above, open_above, reach};
-use table::{item, row};
-use value::{Shape, contains, members, row_of, shape_of};
+use table::{item, items, row};
+use value::{Shape, contains, row_of, shape_of};
 
 // What was found; an error where it is missing.
 fn taken(look: Look) -> Given
@@ -213,7 +213,7 @@ pub fn in_of(rows: &[u32], complete: bool, left: u32, right: u32) -> Given
     match d {
         Shape::Entity(_, _) => in_list(rows, complete, left, k, t, &[right]),
         Shape::Set => {
-            let l = members(q);
+            let l = items(q);
             if !all_entities(rows, l) {
                 return Given::Fails;
             }

@@ -45,6 +45,7 @@ pub mem_listed : (v : ℕ) (l : List ℕ) → list_any (λ y. eqb y v) l ≡ mem
 mem_listed v [] = refl
 mem_listed v (x ∷ l) = rw (turned x v, mem_listed v l)
 
+module _ (k l : List ℕ) (i : ℕ) (g : Going (all_n k l) (all_n (drop i k) l) i (length k)) where
   pub all_off : (b : Bool) → i < length k → b ≡ mem_n (get_or k i 0) l → not b ≡ true → false ≡ all_n k l
   all_off b h e f =
       let z : mem_n (get_or k i 0) l ≡ false = sym e ∙ not-true b f in
@@ -55,6 +56,7 @@ mem_listed v (x ∷ l) = rw (turned x v, mem_listed v l)
       let z : mem_n (get_or k i 0) l ≡ true = sym e ∙ not-false b f in
       record { near = omega arith; left = g.left ∙ ap (λ (x : List ℕ). all_n x l) (uncons k 0 i h) ∙ rw z }
 
+module _ (k l : List ℕ) (i : ℕ) (g : Going (any_n k l) (any_n (drop i k) l) i (length k)) where
   pub any_hit : (b : Bool) → i < length k → b ≡ mem_n (get_or k i 0) l → b ≡ true → true ≡ any_n k l
   any_hit b h e f =
       let z : mem_n (get_or k i 0) l ≡ true = sym e ∙ f in
@@ -113,6 +115,7 @@ ascend_rest zero m l e = ascend_low m l e
 ascend_rest (suc j) m [] e = refl
 ascend_rest (suc j) m (x ∷ l) e = ascend_rest j (suc x) l ((and-eq-true_iff (leb m x) (ascend (suc x) l)).0 e).1
 
+module _ (l : List ℕ) (v j : ℕ) where
   pub stands_above : (up : Bool) → (up ≡ true → ascend 0 l ≡ true) → up ≡ true → j < length l → v < get_or l j 0 → false ≡ mem_n v (drop j l)
   stands_above up eu u h b =
       let a : ascend 0 (get_or l j 0 ∷ drop (j + 1) l) ≡ true = ap (ascend 0) (sym (uncons l 0 j h)) ∙ ascend_rest j 0 l (eu u) in

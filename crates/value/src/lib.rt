@@ -6,7 +6,6 @@ pub mod making;
 
 ghost use Rattle.std.specs.Prelude.{◌≡◌, [], true, cond, ◌+◌, ltb, get_or, length, drop};
 ghost use Rattle.cedar.specs.Numbered.{mem_n, all_n, any_n, entry_of};
-ghost use Rattle.sheet.specs.Forms.{items};
 ghost use Rattle.sheet.specs.State.{entries_of};
 ghost use Rattle.sheet.specs.Sheet.{ascend};
 ghost use Rattle.value.specs.Lines.{value_lines};
@@ -68,16 +67,6 @@ pub fn shape_of(line: &[u32]) -> Shape
         LONG_VALUE => Shape::Long(long::joined(x, y)),
         _ => Shape::Bool(x == 1),
     }
-}
-
-// The items of a row: a set's members, a record's texts and numbers in turn.
-pub fn members(line: &[u32]) -> &[u32]
-    ensures { result.now ≡ items line.now }
-{
-    if line.len() < 1 {
-        return line;
-    }
-    &line[1..]
 }
 
 // Whether `value` is a member.

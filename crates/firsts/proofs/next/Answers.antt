@@ -1,5 +1,5 @@
 -- `firsts::next` meets its contract. Assumes nothing.
-use Rattle.firsts.proofs.Leading.{leads_none, leads_cell}
+use Rattle.firsts.proofs.Leading.{leads_cell}
 use borrow.Author.Rules.{rules}
 use Rattle.firsts.proofs.next.Goals as goal
 
