@@ -22,7 +22,7 @@ use order::enough_before;
 use repeats::is_first;
 use scan::rest;
 use table::{USES, count, item, row};
-use uses::{NO_SLOT, slots_at};
+use uses::{NO_SLOT, noted};
 use words::read;
 
 // How many lines stand before those of a key.
@@ -85,10 +85,7 @@ fn is_unlinked(rows: &[u32], work: &[u32], policy: u32) -> bool
     ensures { result ≡ any_slot (nodes_under (held [] rows.now []) (at (get_or (rows_of rows.now POLICY) policy []) 2)) && not (mem_n policy (firsts (rows_of rows.now LINK))) }
 {
     let root = item(row(rows, POLICY, policy), 3);
-    if slots_at(rows, work, root) == NO_SLOT {
-        return false;
-    }
-    !is_first(rows, LINK, policy)
+    noted(rows, work, root).slots != NO_SLOT && !is_first(rows, LINK, policy)
 }
 
 // The lowest policy that has a slot and no link line.

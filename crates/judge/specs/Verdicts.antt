@@ -1,5 +1,5 @@
 -- What the judging of a row leaves.
-use Rattle.std.specs.Prelude.{◌≡◌, Bool, cond, List, ℕ, ◌+◌, ◌≤◌, ◌<◌, get_or, drop, Result, Ok, Err}
+use Rattle.std.specs.Prelude.{◌≡◌, Bool, cond, List, ℕ, ◌+◌, ◌≤◌, ◌<◌, get_or, drop, Option, Some, None, Result, Ok, Err}
 use Rattle.sheet.specs.Forms.{key_of, refs, ENTITY, NODE}
 use Rattle.sheet.specs.Typing.{typed}
 use Rattle.sheet.specs.Sheet.{found, depth, fault_of, marked}
@@ -11,9 +11,9 @@ use Rattle.uses.specs.Uses.{mark_of, uses_in}
 use Rattle.faults.specs.declared.Fault.{Fault}
 use Rattle.judge.specs.declared.Verdict.{Verdict}
 
--- the depth of a row of key k; 0 where what it refers to is not there, or the row is not new
-pub record NewDepth (sheet a b r : List ℕ) (k d : ℕ) : Type 0 where
-  pub is : d ≡ cond (found (held sheet a b) k (row_in sheet k r)) (depth (held sheet a b) k (row_in sheet k r)) 0
+-- the depth of a row of key k, if what it refers to is there and the row is new
+pub record NewDepth (sheet a b r : List ℕ) (k : ℕ) (d : Option ℕ) : Type 0 where
+  pub is : d ≡ cond (found (held sheet a b) k (row_in sheet k r)) (Some (depth (held sheet a b) k (row_in sheet k r))) None
 
 -- whether a row of key k is typed; what is remembered of pairs is used from key entity on
 pub record TypedLine (a b b' r : List ℕ) (k : ℕ) (v : Bool) : Type 0 where

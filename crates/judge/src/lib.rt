@@ -44,22 +44,29 @@ fn typed_line(rows: &[u32], work: &mut [u32], line: &[u32], key: usize) -> bool
     typed(rows, work, line, key)
 }
 
-// The depth of a row of this key; 0 where a line that it refers to is not there, or the row is not new, as it is known to be where `new` says so.
-fn depth_of(sheet: &[u8], rows: &[u32], work: &[u32], key: usize, line: &[u32], new: bool) -> usize
+// The depth of a row of this key, if the lines that it refers to are there and the row is new, as it is known to be where `new` says so.
+fn depth_of(
+    sheet: &[u8],
+    rows: &[u32],
+    work: &[u32],
+    key: usize,
+    line: &[u32],
+    new: bool,
+) -> Option<usize>
     requires key_value { (key ≡ key_of line.now) × (key < no_key) }
     requires noted { Noted rows.now work.now × Unlike (row_in sheet.now (key_of line.now) line.now) (lines_of (held sheet.now rows.now work.now) (key_of line.now)) new }
     ensures { NewDepth sheet.now rows.now work.now line.now key result }
 {
     if key == TEXT {
         if new {
-            return 1;
+            return Some(1);
         }
         let s = item(line, 1) as usize;
         let n = item(line, 2) as usize;
         if is_text(sheet, rows, bytes(sheet, s, s + n)) {
-            return 0;
+            return None;
         }
-        return 1;
+        return Some(1);
     }
     new_depth(rows, work, key, line, new)
 }
@@ -85,10 +92,9 @@ fn judge_node(
     if nodes_full(rows) {
         return Err(Fault::TooMany);
     }
-    let depth = node_depth(rows, work, line);
-    if depth == 0 {
+    let Some(depth) = node_depth(rows, work, line) else {
         return Err(Fault::Reference);
-    }
+    };
     if is_too_deep(depth) {
         return Err(Fault::Depth);
     }
@@ -126,11 +132,10 @@ fn judge(
     if too_many(rows, work, key, line) {
         return Err(Fault::TooMany);
     }
-    let d = depth_of(sheet, rows, work, key, line, new);
-    if d == 0 {
+    let Some(depth) = depth_of(sheet, rows, work, key, line, new) else {
         return Err(Fault::Reference);
-    }
-    if is_too_deep(d) {
+    };
+    if is_too_deep(depth) {
         return Err(Fault::Depth);
     }
     if !typed_line(rows, work, line, key) {
@@ -141,7 +146,7 @@ fn judge(
     }
     Ok(Verdict {
         key,
-        depth: d as u32,
+        depth: depth as u32,
     })
 }
 
