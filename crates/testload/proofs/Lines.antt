@@ -21,11 +21,6 @@ tree_true node t e w = prints_as w (sym (ap (λ t. concat (tree_lines node t)) e
 pub tree_false : {o is : Out} (node t : ℕ) → t ≡ 1 → Prints o (line_ends (ascii "node=0,lit,0/")) is → Prints o (concat (tree_lines node t)) is
 tree_false node t e w = prints_as w (sym (ap (λ t. concat (tree_lines node t)) e))
 
-pub tree_like : {o is : Out} (node t : ℕ) → (t ≡ 0 → ⊥) → (t ≡ 1 → ⊥) → Prints o (concat (tree_lines node 2)) is → Prints o (concat (tree_lines node t)) is
-tree_like node zero h g w = absurd (h refl)
-tree_like node (suc zero) h g w = absurd (g refl)
-tree_like node (suc (suc t)) h g w = w
-
 like_bytes : (x y : List ℕ) → (((line_ends (ascii "node=3,var,c/node=1,get,") ++ x) ++ line_ends (ascii ",4/node=0,like,")) ++ y) ++ line_ends (ascii ",*/")
     ≡ concat (printed "node" (digits 3 ∷ ascii "var" ∷ ascii "c" ∷ []) ∷ printed "node" (digits 1 ∷ ascii "get" ∷ x ∷ digits 4 ∷ []) ∷ printed "node" (digits 0 ∷ ascii "like" ∷ y ∷ ascii "*" ∷ []) ∷ [])
 like_bytes x y = simp append_assoc
@@ -34,19 +29,7 @@ pub like_lines_law : {o a b c d is : Out} (node : ℕ) → Prints o (line_ends (
     → Prints c (digits (node + 1)) d → Prints d (line_ends (ascii ",*/")) is → Prints o (concat (tree_lines node 2)) is
 like_lines_law node s t u v w = prints_as (prints_five s t u v w) (like_bytes (digits node) (digits (node + 1)) ∙ ap (λ n. concat (printed "node" (digits 3 ∷ ascii "var" ∷ ascii "c" ∷ []) ∷ printed "node" (digits 1 ∷ ascii "get" ∷ digits node ∷ digits 4 ∷ []) ∷ printed "node" (digits 0 ∷ ascii "like" ∷ digits n ∷ ascii "*" ∷ []) ∷ [])) (add-one node))
 
-pub nodes_like : (t : ℕ) → (t ≡ 0 → ⊥) → (t ≡ 1 → ⊥) → 3 ≡ nodes_in t
-nodes_like zero h g = absurd (h refl)
-nodes_like (suc zero) h g = absurd (g refl)
-nodes_like (suc (suc t)) h g = refl
-
 -- ---- a policy
-
-pub permit_word : {o is : Out} (e : ℕ) → e ≡ 0 → Prints o (ascii ",permit,") is → Prints o ((44 ∷ effect_as e) ++ (44 ∷ [])) is
-permit_word e q w = prints_as w (sym (ap (λ e. (44 ∷ effect_as e) ++ (44 ∷ [])) q))
-
-pub forbid_word : {o is : Out} (e : ℕ) → (e ≡ 0 → ⊥) → Prints o (ascii ",forbid,") is → Prints o ((44 ∷ effect_as e) ++ (44 ∷ [])) is
-forbid_word zero h w = absurd (h refl)
-forbid_word (suc e) h w = w
 
 policy_bytes : (x e y : List ℕ) → (((ascii "policy=" ++ x) ++ ((44 ∷ e) ++ (44 ∷ []))) ++ y) ++ (10 ∷ []) ≡ printed "policy" (x ∷ e ∷ y ∷ [])
 policy_bytes x e y = simp append_assoc

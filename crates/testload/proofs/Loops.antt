@@ -41,18 +41,12 @@ pub record Ids (n : ℕ) (o is : Out) (i : ℕ) : Type 0 where
   pub few : i ≤ n
   pub left : Left (concat (id_lines 0 n)) (concat (id_lines i (n - i))) o is
 
-pub ids_start : (n : ℕ) (o : Out) → Ids n o o 0
-ids_start n o = record { few = omega arith; left = left_all (concat (id_lines 0 n)) (concat (id_lines 0 (n - 0))) o (ap (λ m. concat (id_lines 0 m)) (all_left n)) }
-
 module _ (n : ℕ) (o is : Out) (i : ℕ) (p : Ids n o is i) where
   pub ids_on : (out : Out) → i < n → Prints is (printed "text" ((112 ∷ digits i) ∷ [])) out → Ids n o out (i + 1)
   ids_on out h w =
       let l = printed "text" ((112 ∷ digits i) ∷ []) in
       let e : concat (id_lines i (n - i)) ≡ l ++ concat (id_lines (i + 1) (n - (i + 1))) = ap (λ m. concat (id_lines i m)) (one_left n i h) ∙ ap (λ j. l ++ concat (id_lines j (n - (i + 1)))) (sym (add-one i)) in
       record { few = omega arith; left = left_less p.left l (concat (id_lines (i + 1) (n - (i + 1)))) out e w }
-
-  pub ids_end : n ≤ i → Prints o (concat (id_lines 0 n)) is
-  ids_end h = left_none p.left (ap (λ m. concat (id_lines i m)) (none_left n i h))
 
 -- ---- what is drawn
 
