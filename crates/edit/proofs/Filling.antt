@@ -1,26 +1,21 @@
 -- One line for another, by the tests of the code. Assumes nothing.
-use Rattle.std.proofs.Common.{Some, None, nat_eq}
+use Rattle.std.proofs.Common.{nat_eq}
 use Rattle.std.specs.List.{list_any}
 use mathlib.Core.Path.{◌≡◌, refl, sym, ap, ap₂, ◌∙◌}
-use mathlib.Core.Bool.{Bool, true, false, cond, ◌&&◌, ◌||◌, not}
-use mathlib.Core.Option.{none, some}
+use mathlib.Core.Bool.{Bool, true, false, ◌&&◌, ◌||◌, not}
 use mathlib.Core.List.{List, [], ◌∷◌}
 use Prim.Native.Nat.{ℕ, suc, ◌+◌, ◌≤◌, ◌<◌}
-use Prim.Native.String.{String}
 use native.Mathlib.Omega.{arith}
 use native.Mathlib.Decide.{dec_le}
-use borrow.Author.Tests.{lt-ltb, le-ltb, le-leb, lt-leb, not-true, not-false, eq-eqb, ne_eqb, eqb-true, eqb-false}
-use lib.Dec.{ltb, leb, eqb}
-use lib.ListN.{length, take, drop, drop_of_length-le}
+use borrow.Author.Tests.{le-leb, lt-leb, not-true, not-false, eq-eqb, ne_eqb, eqb-true, eqb-false}
+use lib.Dec.{leb, eqb}
+use lib.ListN.{length, take, drop}
 use Rattle.words.specs.Log.{part}
 use Rattle.cedar.specs.Types.{among}
 use Rattle.sheet.specs.Ascii.{ascii}
 use Rattle.sheet.specs.Bytes.{up_to, split, same}
-use Rattle.sheet.specs.Forms.{place_in, word_number}
-use Rattle.scan.specs.Numbers.{Number, number_of, placed}
 use Rattle.scan.specs.Places.{parts_from}
 use Rattle.scan.proofs.Splits.{split_parts, split_at, from_on, from_end}
-use Rattle.scan.proofs.Wordlists.{words_are}
 use Rattle.previewed.specs.Preview.{key_in, items_in, may_fill, fills_only, fills}
 
 -- a search from the start
@@ -29,54 +24,13 @@ at_start c l e f = omega arith
 
 -- ---- the key
 
-abbrev fill_keys : List String
-fill_keys = "principal" ∷ "resource" ∷ "context" ∷ "entity" ∷ []
-
-abbrev fill_bytes : List ℕ
-fill_bytes = ascii "principal,resource,context,entity"
-
-and_false : (t : Bool) → (t && false) ≡ false
-and_false true = refl
-and_false false = refl
-
 and_true : (t : Bool) → (t && true) ≡ t
 and_true true = refl
 and_true false = refl
 
-module _ (l : List ℕ) (e : ℕ) (f : e ≡ 0 + up_to 61 (drop 0 l)) where
-  pub key_unended : length l ≤ e → false ≡ may_fill l
-  key_unended h = let g : up_to 61 l ≡ e = sym (at_start 61 l e f) in rw (le-ltb (up_to 61 l) (length l) (omega arith)) (sym (and_false (ltb (place_in (key_in l) fill_keys) 4)))
-
-  module _ (h : e < length l) (k : List ℕ) (p : k ≡ take e l) (r : Number) (n : number_of r ≡ placed k (split 44 fill_bytes)) where
-    key_is : k ≡ key_in l
-    key_is = p ∙ ap (λ (i : ℕ). take i l) (at_start 61 l e f)
-
-    number_is : number_of r ≡ word_number (key_in l) fill_keys
-    number_is = words_are (key_in l) fill_keys fill_bytes r refl (n ∙ ap (λ (w : List ℕ). placed w (split 44 fill_bytes)) key_is)
-
-    may : (t : Bool) → ltb (place_in (key_in l) fill_keys) 4 ≡ t → t ≡ may_fill l
-    may t e₀ = let g : up_to 61 l ≡ e = sym (at_start 61 l e f) in rw (e₀, lt-ltb (up_to 61 l) (length l) (omega arith)) (sym (and_true t))
-
-    pub key_found : (m : ℕ) → r ≡ Some m → true ≡ may_fill l
-    key_found m q = may true (go (ltb (place_in (key_in l) fill_keys) 4) (sym (ap number_of q) ∙ number_is))
-      where
-        go : (t : Bool) → some m ≡ cond t (some (place_in (key_in l) fill_keys)) none → t ≡ true
-        go true z = refl
-        go false z = let w : ◌≡◌ {A = ℕ} 0 1 = cc in absurd (omega arith)
-
-    pub key_absent : r ≡ None → false ≡ may_fill l
-    key_absent q = may false (go (ltb (place_in (key_in l) fill_keys) 4) (sym (ap number_of q) ∙ number_is))
-      where
-        go : (t : Bool) → none ≡ cond t (some (place_in (key_in l) fill_keys)) none → t ≡ false
-        go true z = let w : ◌≡◌ {A = ℕ} 0 1 = cc in absurd (omega arith)
-        go false z = refl
-
 -- ---- an item
 
 module _ (old new : List ℕ) (t : Bool) (s : t ≡ same old new) where
-  pub stays : t ≡ true → true ≡ (same old new || same old (ascii "?"))
-  stays e = rw (← s, e) refl
-
   pub was_unknown : t ≡ false → (u : Bool) → u ≡ same old (ascii "?") → u ≡ (same old new || same old (ascii "?"))
   was_unknown e u q = rw (← s, e) q
 
@@ -87,9 +41,6 @@ pub record Filling (old new : List ℕ) (i j : ℕ) : Type 0 where
   pub near_old : i ≤ length old
   pub near_new : j ≤ length new
   pub left : fills_only (split 44 old) (split 44 new) ≡ fills_only (split 44 (drop i old)) (split 44 (drop j new))
-
-pub filling_start : (old new : List ℕ) → Filling old new 0 0
-filling_start old new = record { near_old = omega arith; near_new = omega arith; left = refl }
 
 module _ (old new : List ℕ) (i j e f : ℕ) (k : Filling old new i j) (p : e ≡ i + up_to 44 (drop i old)) (q : f ≡ j + up_to 44 (drop j new))
     (x y : List ℕ) (xp : x ≡ part old i e) (yp : y ≡ part new j f) (b : Bool) (s : b ≡ (same x y || same x (ascii "?"))) where
@@ -128,19 +79,11 @@ module _ (old new : List ℕ) (i j e f : ℕ) (k : Filling old new i j) (p : e �
 
 -- ---- the whole line
 
-pub after_none : (l r : List ℕ) (a : ℕ) → length l ≤ a → r ≡ drop a l → r ≡ drop (a + 1) l
-after_none l r a h p = p ∙ drop_of_length-le l h ∙ sym (drop_of_length-le l {i = a + 1} (omega arith))
-
 -- the key is the same, and some items are filled
 abbrev Filled : List ℕ → List ℕ → Bool
 Filled old new = same (key_in old) (key_in new) && (fills_only (items_in old) (items_in new) && not (same old new))
 
 module _ (old new : List ℕ) (t : Bool) (s : t ≡ same old new) where
-  pub filled_nothing : t ≡ true → false ≡ Filled old new
-  filled_nothing e =
-      sym (ap (λ (u : Bool). same (key_in old) (key_in new) && (fills_only (items_in old) (items_in new) && not u)) (sym s ∙ e)
-      ∙ ap (λ (u : Bool). same (key_in old) (key_in new) && u) (and_false (fills_only (items_in old) (items_in new))) ∙ and_false (same (key_in old) (key_in new)))
-
   module _ (other : t ≡ false) (was is : ℕ) (p : was ≡ 0 + up_to 61 (drop 0 old)) (q : is ≡ 0 + up_to 61 (drop 0 new)) (x y : List ℕ) (xp : x ≡ take was old) (yp : y ≡ take is new)
       (b : Bool) (kb : b ≡ not (same x y)) where
     keys_are : same (key_in old) (key_in new) ≡ same x y

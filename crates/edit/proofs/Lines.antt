@@ -45,12 +45,6 @@ pub record Seeking (sheet : List ℕ) (n k at : ℕ) : Type 0 where
   pub near : at ≤ length sheet
   pub left : begin_of sheet n ≡ at + start_of (n - k) (drop at sheet)
 
-pub seeking_start : (sheet : List ℕ) (n : ℕ) → (n ≡ 0 → ⊥) → Seeking sheet n 1 0
-seeking_start sheet n h =
-    let z : n ≡ suc (n - 1) = omega (arith, h) in
-    let y : start_of (n - 1) sheet ≡ 0 + start_of (n - 1) sheet = omega arith in
-    record { near = omega arith; left = ap (begin_of sheet) z ∙ y }
-
 module _ (sheet : List ℕ) (n k at : ℕ) (s : Seeking sheet n k at) where
   pub seeking_end : n ≤ k → at ≡ begin_of sheet n
   unfolding start_of

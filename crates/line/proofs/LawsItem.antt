@@ -24,13 +24,12 @@ use Rattle.scan.specs.Places.{Counted, item_end, items_by, ItemRead, NumberRead}
 use Rattle.cedar.proofs.Tools.{no_true}
 use Rattle.sheet.proofs.reading.Parsed.{all_below, all_below_law}
 use Rattle.sheet.proofs.demand3.TwoSheets.{same_is}
-use Rattle.scan.proofs.Scans.{same_last, same_length}
+use Rattle.scan.proofs.Scans.{same_length}
 use Rattle.scan.proofs.Decimals.{index_small}
 use Rattle.scan.proofs.Wordlists.{words_are}
 use Rattle.scan.proofs.Readings.{items_first, items_part, numbered}
 use Rattle.dates.proofs.Calendar.{past_dates, date_small}
-use Rattle.forms.specs.Tags.{PERMIT, FORBID}
-use Rattle.forms.proofs.Tests.{other, NoneOf, below, past}
+use Rattle.forms.proofs.Tests.{other, below, past}
 use Rattle.forms.specs.Rows.{NONE, NUMBER, ENTRY, KIND_LETTER, FIELD_LETTER, BIT, PART_LETTER, EFFECT, DATE, SLOT_LETTER, LINE, UNKNOWN, DASH, STAR, slot_of, specials}
 use Rattle.line.specs.Codes.{mode_of}
 use Rattle.line.specs.Written.{Item, After}
@@ -46,36 +45,15 @@ variables = "p" ∷ "a" ∷ "r" ∷ "c" ∷ []
 abbrev pub effects : List String
 effects = "permit" ∷ "forbid" ∷ []
 
--- the byte of a word of one
-abbrev pub letter : String → ℕ
-letter w = get_or (ascii w) 0 0
-
-one_byte : (f : List ℕ) → length f ≡ 1 → f ≡ get_or f 0 0 ∷ []
-one_byte [] h = absurd (omega arith)
-one_byte (x ∷ []) h = refl
-one_byte (x ∷ y ∷ f) h = absurd (omega arith)
-
 module _ (f : List ℕ) where
-  pub variable_is : (x n : ℕ) → word_number (x ∷ []) variables ≡ some n → length f ≡ 1 → get_or f 0 0 ≡ x → number_of (Some n) ≡ word_number f variables
-  variable_is x n e h q = sym (ap (λ (k : List ℕ). word_number k variables) (one_byte f h ∙ ap (λ (y : ℕ). y ∷ []) q) ∙ e)
-
   none_same : false ≡ same f (ascii "p") → false ≡ same f (ascii "a") → false ≡ same f (ascii "r") → false ≡ same f (ascii "c") → number_of None ≡ word_number f variables
   none_same a b c d = rw (← a, ← b, ← c, ← d) refl
 
   pub variable_long : (length f ≡ 1 → ⊥) → number_of None ≡ word_number f variables
   variable_long h = none_same (sym (same_length f (ascii "p") h)) (sym (same_length f (ascii "a") h)) (sym (same_length f (ascii "r") h)) (sym (same_length f (ascii "c") h))
 
-  pub variable_none : NoneOf (letter "c" ∷ letter "r" ∷ letter "a" ∷ letter "p" ∷ []) (get_or f 0 0) → number_of None ≡ word_number f variables
-  variable_none d = none_same (same_last f (ascii "p") 0 d.0.0.0.1) (same_last f (ascii "a") 0 d.0.0.1) (same_last f (ascii "r") 0 d.0.1) (same_last f (ascii "c") 0 d.1)
-
   module _ (a : Bool) (ha : a ≡ same f (ascii "permit")) where
-    pub effect_permit : a ≡ true → number_of (Some PERMIT) ≡ word_number f effects
-    effect_permit t = rw (← ha, t) refl
-
     module _ (b : Bool) (hb : b ≡ same f (ascii "forbid")) (t : a ≡ false) where
-      pub effect_forbid : b ≡ true → number_of (Some FORBID) ≡ word_number f effects
-      effect_forbid u = rw (← ha, ← hb, t, u) refl
-
       pub effect_none : b ≡ false → number_of None ≡ word_number f effects
       effect_none u = rw (← ha, ← hb, t, u) refl
 
@@ -87,12 +65,6 @@ module _ (f : List ℕ) (r : Number) where
   entry_complete p e h = rw e (word_is f ("complete" ∷ []) (ascii "complete") r refl h)
 
 -- ---- marks and indices
-
-pub mark_is : (f k : List ℕ) (b : Bool) → b ≡ same f k → b ≡ true → number_of (Some mark) ≡ mark_or (same f k) (index f)
-mark_is f k b e t = rw (← e, t) refl
-
-pub unmarked_is : (f k : List ℕ) (b : Bool) (r : Number) → b ≡ same f k → b ≡ false → number_of r ≡ index f → number_of r ≡ mark_or (same f k) (index f)
-unmarked_is f k b r e t h = rw (← e, t) h
 
 -- ---- slots by their numbers
 
@@ -355,9 +327,6 @@ module _ (p : Bool) (s k : ℕ) (f w : List ℕ) (m : Number) where
   put_no_long e h g = let q : long f ≡ none = sym h ∙ ap number_of g in nothing_put (rw (e, q) refl)
 
   module _ (h : one (number_of m) ≡ item (mode_of p) (slot_of s) f) where
-    pub put_bad : m ≡ None → Item (item (mode_of p) (slot_of s) f) f w w s k 0
-    put_bad g = nothing_put (sym h ∙ ap (λ (n : Number). one (number_of n)) g)
-
     module _ (x : ℕ) (g : m ≡ Some x) where
       one_is : item (mode_of p) (slot_of s) f ≡ some (x ∷ [])
       one_is = sym h ∙ ap (λ (n : Number). one (number_of n)) g

@@ -4,9 +4,9 @@ use mathlib.Core.Path.{◌≡◌, refl, sym, ap, ◌∙◌}
 use mathlib.Core.Bool.{Bool, true, false, cond, ◌&&◌, ◌||◌}
 use mathlib.Core.Option.{Option, none, some}
 use mathlib.Core.List.{List, [], ◌∷◌, map}
-use Prim.Native.Nat.{ℕ, zero, suc, ◌+◌, ◌-◌, ◌*◌, ◌≤◌, ◌<◌}
+use Prim.Native.Nat.{ℕ, suc, ◌+◌, ◌-◌, ◌*◌, ◌≤◌, ◌<◌}
 use native.Mathlib.Omega.{arith}
-use borrow.Author.Tests.{ne_eqb, le-leb, lt-leb, leb-true, ltb-true}
+use borrow.Author.Tests.{ne_eqb, le-leb, leb-true, ltb-true}
 use lib.Dec.{leb, ltb, eqb}
 use lib.ListN.{length, get_or, take, drop, set}
 use lib.Seq.{take-set-le, drop-set-lt, lt-length-set, length-take-le}
@@ -33,9 +33,6 @@ use Rattle.line.proofs.LawsTag.{placed_long, tag_key}
 -- ---- a text in words
 
 module _ (start len top : ℕ) (w : List ℕ) where
-  pub text_long : 128 < len → Text start len w w top 0
-  text_long h = record { words = rw (lt-leb len 128 h) refl; count = rw (lt-leb len 128 h) refl; kept = record { below = refl; rest = refl } }
-
   pub text_row_law : len ≤ 128 → room ≤ length w → top + 3 ≤ room → Text start len w (set (set (set w top TEXT_LINE) (top + 1) start) (top + 1 + 1) len) top 3
   text_row_law h l r =
       let u = set w top TEXT_LINE in
@@ -181,16 +178,6 @@ module _ (sheet v : List ℕ) (a e : ℕ) (hv : v ≡ part sheet (a + 1) e) (low
 
 -- ---- the row of a line by its heading
 
-take_again : (n : ℕ) (l : List ℕ) → take (length (take n l)) l ≡ take n l
-take_again zero l = refl
-take_again (suc n) [] = refl
-take_again (suc n) (x ∷ l) = ap (λ (k : List ℕ). x ∷ k) (take_again n l)
-
-take_short : (n : ℕ) (l : List ℕ) → length (take n l) ≤ length l
-take_short zero l = omega arith
-take_short (suc n) [] = omega arith
-take_short (suc n) (x ∷ l) = omega (arith, take_short n l)
-
 -- how many letters a key has
 unfoldable letters : ℕ → ℕ
 letters k = length (get_or (map ascii keys) k [])
@@ -276,19 +263,7 @@ words_tag sheet (t ∷ l) = go (eqb t TEXT_LINE)
     go true = refl
     go false = refl
 
-text_form : (form_of TEXT_LINE).key ≡ TEXT
-unfolding form_of forms
-text_form = refl
-
 module _ (sheet l : List ℕ) where
   key_of_law : key_of (row_from_def sheet l) ≡ (form_of (tag l)).key
   unfolding key_of
   key_of_law = ap (λ (t : ℕ). (form_of t).key) (words_tag sheet l)
-
-  -- the words of any other row are the row
-  pub words_row : (key_of (row_from_def sheet l) ≡ TEXT → ⊥) → l ≡ row_from_def sheet l
-  words_row n = by_tag l (λ e. n (key_of_law ∙ ap (λ (t : ℕ). (form_of t).key) e ∙ text_form))
-    where
-      by_tag : (l : List ℕ) → (tag l ≡ TEXT_LINE → ⊥) → l ≡ row_from_def sheet l
-      by_tag [] h = refl
-      by_tag (t ∷ l) h = rw (ne_eqb t TEXT_LINE h) refl

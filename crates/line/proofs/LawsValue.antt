@@ -1,11 +1,9 @@
 -- A line's parts: constructor and items by its key. Assumes nothing.
-use Rattle.std.proofs.Common.{Some, None, MatchOption}
-use Rattle.std.specs.Prelude as Std
-use Rattle.scan.specs.Numbers.{Number, known_form}
+use Rattle.std.proofs.Common.{Some, None}
+use Rattle.scan.specs.Numbers.{known_form}
 use Rattle.scan.proofs.Wordlists.{known_some, known_none}
-use Rattle.line.specs.declared.Head.{Head}
 use mathlib.Core.Path.{◌≡◌, refl, sym, ap, ◌∙◌}
-use mathlib.Core.Bool.{Bool, true, false, cond}
+use mathlib.Core.Bool.{Bool, cond}
 use mathlib.Core.Option.{none, some}
 use mathlib.Core.List.{List, [], ◌∷◌}
 use Prim.Native.Nat.{ℕ, ◌+◌, ◌-◌, ◌*◌, ◌≤◌, ◌<◌}
@@ -21,19 +19,12 @@ use Rattle.scan.specs.declared.Cursor.{Cursor}
 use Rattle.scan.specs.Places as Places
 use Rattle.scan.specs.Places.{Counted, parts_from, items_at, item_end, items_by, index_by, first_index, ItemRead, NumberRead}
 use Rattle.scan.proofs.Readings.{Walked, Numbered, items_first, items_part, numbered}
-use Rattle.line.specs.Codes.{mode_of}
-use Rattle.line.specs.Written.{counted_from, Headless, Tagged, Begun, HeadRead, Row, row_room}
+use Rattle.line.specs.Written.{counted_from, Headless, Tagged, Begun, row_room}
 use Rattle.forms.proofs.Table.{node_items}
 use Rattle.line.proofs.LawsItem.{one_word, index_wide}
-use Rattle.line.proofs.LawsItems.{joined_empty, kept_both}
+use Rattle.line.proofs.LawsItems.{joined_empty}
 use Rattle.line.proofs.LawsRow.{row_unformed, row_is, untyped, typed}
 use Rattle.line.proofs.LawsTag.{NodeTag, node_tag}
-
-pub named_value : (v : Bool) (name : List ℕ) (r : Number) → v ≡ true → r ≡ known_form (tag_of VALUE name) → r ≡ known_form (tag_of (cond v VALUE TYPE) name)
-named_value v name r e h = rw e h
-
-pub named_type : (v : Bool) (name : List ℕ) (r : Number) → v ≡ false → r ≡ known_form (tag_of TYPE name) → r ≡ known_form (tag_of (cond v VALUE TYPE) name)
-named_type v name r e h = rw e h
 
 pub plain_known : (t n : ℕ) → t ≡ n → t < no_tag → Some t ≡ known_form n
 plain_known t n e h = rw (← e, lt-ltb t no_tag h) refl
@@ -61,20 +52,6 @@ tagged_head k b top a t hd s w items l g h =
       near = g.near;
       close = h;
     }
-
--- the row that follows from it
-pub head_none : (p : Bool) (k b top : ℕ) (hd : Headed) (w w₁ : List ℕ) → Headless k hd → w₁ ≡ w → Row (row_headed (mode_of p) k hd) w w₁ top 0 b
-head_none p k b top hd w w₁ h q =
-    let e = h.refused (mode_of p) in
-    record { count = sym (ap length e); words = sym e; kept = record { below = ap (take top) q; rest = ap (drop room) q }; tight = omega arith }
-
-module _ (p : Bool) (k b top a t j : ℕ) (hd : Headed) (s w w₁ : List ℕ) (items : Cursor) (g : Begun k hd b s a w w₁ top t j items) where
-  pub head_row : (r : ℕ) (w₂ : List ℕ)
-      → Row (or_empty t (joined (some (take j (drop (top + 1) w₁))) (counted_from (mode_of p) t j (items_at s items)))) w₁ w₂ top r (length s + 5 - items.at)
-      → Row (row_headed (mode_of p) k hd) w w₂ top r b
-  head_row r w₂ q =
-      let e = g.row (mode_of p) in
-      record { count = q.count ∙ ap length (sym e); words = q.words ∙ sym e; kept = kept_both (omega arith) g.kept q.kept; tight = omega (arith, q.tight, g.close) }
 
 module _ (s : List ℕ) (c : Cursor) (i : Places.Item) (q : ItemRead s c i) (e : ℕ) (next : Cursor) (g : i ≡ Some (e, next)) where
   walked : Walked s c e next
@@ -183,30 +160,9 @@ module _ (s : List ℕ) (c : Cursor) (h : c.at ≤ length s) (d : Counted) (hd :
 
 -- ---- by the key
 
-module _ (k top : ℕ) (s w w₂ : List ℕ) (c : Cursor) (r : Std.Option Head) where
-  pub begun_node : k ≡ NODE → HeadRead NODE (name_second (items_at s c)) (length s - c.at) s c.at w w₂ top r
-      → HeadRead k (heading k (items_at s c)) (row_room k (length s - c.at)) s c.at w w₂ top r
-  begun_node e h = rw e h
-
 module _ (k top : ℕ) (s w : List ℕ) (c : Cursor) (l : c.at ≤ length s) where
   begun : (t k₂ : ℕ) (hd : Headed) (items : Cursor) → t < no_tag → Tagged k₂ hd s c.at t items → Begun k₂ hd (length s - c.at + 5) s c.at w w top t 0 items
   begun t k₂ hd items n g = tagged_head k₂ (length s - c.at + 5) top c.at t hd s w items n g (omega (arith, g.after))
-
-  named : (k₂ : ℕ) (r : Std.Option Head)
-      → MatchOption r (Headless k₂ (name_first (items_at s c))) (λ h. (h.tag < no_tag) × (h.before ≡ 0) × Tagged k₂ (name_first (items_at s c)) s c.at h.tag h.items)
-      → HeadRead k₂ (name_first (items_at s c)) (length s - c.at + 5) s c.at w w top r
-  named k₂ None g = (g, refl)
-  named k₂ (Some h) g = rw g.1 (begun h.tag k₂ (name_first (items_at s c)) h.items g.0 g.2)
-
-  pub begun_type : (r : Std.Option Head) → k ≡ TYPE
-      → MatchOption r (Headless TYPE (name_first (items_at s c))) (λ h. (h.tag < no_tag) × (h.before ≡ 0) × Tagged TYPE (name_first (items_at s c)) s c.at h.tag h.items)
-      → HeadRead k (heading k (items_at s c)) (row_room k (length s - c.at)) s c.at w w top r
-  begun_type r e h = rw e (named TYPE r h)
-
-  pub begun_value : (r : Std.Option Head) → k ≡ VALUE
-      → MatchOption r (Headless VALUE (name_first (items_at s c))) (λ h. (h.tag < no_tag) × (h.before ≡ 0) × Tagged VALUE (name_first (items_at s c)) s c.at h.tag h.items)
-      → HeadRead k (heading k (items_at s c)) (row_room k (length s - c.at)) s c.at w w top r
-  begun_value r e h = rw e (named VALUE r h)
 
   module _ (a : k ≡ NODE → ⊥) (d : k ≡ TYPE → ⊥) (f : k ≡ VALUE → ⊥) where
     pub begun_plain : (t : ℕ) → Some t ≡ known_form (tag_of k []) → Begun k (heading k (items_at s c)) (row_room k (length s - c.at)) s c.at w w top t 0 c

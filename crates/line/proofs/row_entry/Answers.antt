@@ -1,6 +1,5 @@
 -- `line::row_entry` meets its contract. Assumes nothing.
 use Prim.Native.Nat.{◌+◌}
-use native.Mathlib.Omega.{arith}
 use Rattle.line.proofs.LawsRow.{wrote_as}
 use Rattle.line.proofs.LawsLine.{entry_row, entry_text}
 use Rattle.line.proofs.row_entry.Goals as goal
@@ -9,9 +8,6 @@ pub returns-then-key-eq-TEXT : goal.returns-then-key-eq-TEXT
 returns-then-key-eq-TEXT c =
     let a = c.args in
     wrote_as _ _ c.row_text.result (λ r q. entry_text a.rows.now c.row_text.new.rows a.bytes.now a.partial a.key a.top r (a.equals.at + 1) c.if-key-eq-TEXT.true q) c.row_text.ensures
-
-pub row_value-requires : goal.row_value-requires
-row_value-requires c = omega (arith, c.items.ensures.1)
 
 pub returns : goal.returns
 returns c =
