@@ -80,6 +80,7 @@ fn first_unused(rows: &[u32], work: &[u32]) -> Option<usize>
 }
 
 // Whether a policy has a slot and no link line.
+// kept: rows and work are lent shared here and mutable in take, so what is noted of both would need a struct for each, which is no plainer.
 fn is_unlinked(rows: &[u32], work: &[u32], policy: u32) -> bool
     requires { Noted rows.now work.now }
     ensures { result ≡ any_slot (nodes_under (held [] rows.now []) (at (get_or (rows_of rows.now POLICY) policy []) 2)) && not (mem_n policy (firsts (rows_of rows.now LINK))) }

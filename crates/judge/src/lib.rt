@@ -33,6 +33,8 @@ pub struct Verdict {
     pub depth: u32,
 }
 
+// kept: rows and work are lent shared in checks, work mutable here and both in take, so what is known of both would need three structs, which is no plainer.
+
 // Whether a row of this key is typed. No line before the entities asks whether a value fits, so nothing is remembered of it.
 fn typed_line(rows: &[u32], work: &mut [u32], line: &[u32], key: usize) -> bool
     requires { Known rows.now work.old }
