@@ -4,6 +4,8 @@ use mathlib.Core.Bool.{Bool, true, false, cond, not, ◌||◌}
 use mathlib.Core.Option.{Option, none, some}
 use mathlib.Core.List.{List, [], ◌∷◌}
 use Prim.Native.Nat.{ℕ, zero, suc, ◌+◌, ◌≤◌, ◌<◌}
+use Rattle.std.proofs.Common.{max}
+use native.Mathlib.Decide.{dec_le}
 use native.Mathlib.Nat.{le_refl}
 use native.Mathlib.Numerals.{add-one}
 use native.Mathlib.Omega.{arith}
@@ -116,6 +118,13 @@ module _ (a : List ℕ) (v from n : ℕ) where
   module _ (i : ℕ) (g : Seeking v (rows_of a ENTITY) from n i) where
     pub seek_end : n ≤ i → i ≡ from + below v (drop from (rows_of a ENTITY))
     seek_end h = let l : length (rows_of a ENTITY) ≤ i = omega (arith, g.all) in sym (g.left ∙ rw (drop_of_length-le (rows_of a ENTITY) l) (omega arith))
+
+    pub seek_last : (r : ℕ) → n ≤ i → from ≤ i → (from ≤ n → i ≤ n) → r ≡ max n from → r ≡ from + below v (drop from (rows_of a ENTITY))
+    seek_last r h l m e = go (dec_le from n)
+      where
+        go : Dec (from ≤ n) → r ≡ from + below v (drop from (rows_of a ENTITY))
+        go (yes d) = let z : r ≡ i = omega (arith, m d) in z ∙ seek_end h
+        go (no d) = let o : length (rows_of a ENTITY) ≤ from = omega (arith, g.all) in rw (drop_of_length-le (rows_of a ENTITY) o) (omega arith)
 
     module _ (h : i < n) (r : List ℕ) (er : r ≡ get_or (rows_of a ENTITY) i []) (x : ℕ) (ex : x ≡ get_or r 1 0) where
       here : below v (drop i (rows_of a ENTITY)) ≡ cond (ltb x v) (suc (below v (drop (i + 1) (rows_of a ENTITY)))) 0

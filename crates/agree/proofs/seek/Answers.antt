@@ -1,5 +1,5 @@
 -- `agree::seek` meets its contract. Assumes nothing.
-use Rattle.agree.proofs.Merging.{seek_start, seek_here, seek_on, seek_end}
+use Rattle.agree.proofs.Merging.{seek_start, seek_here, seek_on, seek_last}
 use borrow.Author.Rules.{rules}
 use Rattle.agree.proofs.seek.Goals as goal
 
@@ -13,4 +13,4 @@ pub loop-i-preserved : goal.loop-i-preserved
 loop-i-preserved c = search (seek_on, rules)
 
 pub returns : goal.returns
-returns c = search (seek_end, rules)
+returns c = let l = c.loop-i in let a = c.args in seek_last a.rows.now a.value a.from c.count-n.result l.i l.invariant c.max.result c.loop-i-test.false l.auto.i l.auto.i-end c.max.ensures
