@@ -1,6 +1,5 @@
 -- Values printed from their rows. Assumes nothing.
 use mathlib.Core.Path.{◌≡◌, refl, sym, ap, ap₂, ◌∙◌}
-use mathlib.Core.Bool.{Bool}
 use mathlib.Core.List.{List, [], ◌∷◌, ◌++◌, append-nil, append_assoc}
 use Prim.Native.Nat.{ℕ, zero, suc, ◌+◌, ◌/◌, ◌≤◌, ◌<◌}
 use native.Mathlib.Omega.{arith}
@@ -50,27 +49,8 @@ pairs_law (suc n) (t ∷ v ∷ l) e =
 
 -- ---- one value
 
-module _ {a b : Out} (s : Shape) (l : List ℕ) where
-  items_as : (x : Shape) → s ≡ x → Prints a (after (drop 1 (value_items (shape_row x l)))) b → Prints a (after (drop 1 (value_items (shape_row s l)))) b
-  items_as x e w = prints_as w (ap (λ (y : Shape). after (drop 1 (value_items (shape_row y l)))) (sym e))
-
-  pub items_bool : (x : Bool) → s ≡ Boolˢ x → Prints a (44 ∷ digits (bit x)) b → Prints a (after (drop 1 (value_items (shape_row s l)))) b
-  items_bool x e w = items_as (Boolˢ x) e (prints_as w (sym (append-nil (44 ∷ digits (bit x)))))
-
-  pub items_long : {m : Out} (x : ℕ) → s ≡ Long x → Prints a (44 ∷ []) m → Prints m (signed (long_at x)) b → Prints a (after (drop 1 (value_items (shape_row s l)))) b
-  items_long x e v w = items_as (Long x) e (prints_as (prints_two v w) (sym (append-nil (44 ∷ signed (long_at x)))))
-
-  pub items_text : (t : ℕ) → s ≡ Text t → Prints a (44 ∷ digits t) b → Prints a (after (drop 1 (value_items (shape_row s l)))) b
-  items_text t e w = items_as (Text t) e (prints_as w (sym (append-nil (44 ∷ digits t))))
-
-  pub items_entity : (k t : ℕ) → s ≡ Entity k t → Prints a ((44 ∷ digits k) ++ (44 ∷ digits t)) b → Prints a (after (drop 1 (value_items (shape_row s l)))) b
-  items_entity k t e w = items_as (Entity k t) e (prints_as w (ap (λ (x : List ℕ). (44 ∷ digits k) ++ x) (sym (append-nil (44 ∷ digits t)))))
-
-  pub items_set : s ≡ Set → Prints a (after (numbers l)) b → Prints a (after (drop 1 (value_items (shape_row s l)))) b
-  items_set e w = items_as Set e w
-
-  pub items_record : s ≡ Record → Prints a (after (entry_items (entries_of l))) b → Prints a (after (drop 1 (value_items (shape_row s l)))) b
-  items_record e w = items_as Record e w
+pub items_long : {a b c : Out} (s : Shape) (l : List ℕ) (x : ℕ) → s ≡ Long x → Prints a (44 ∷ []) b → Prints b (signed (long_at x)) c → Prints a (after (drop 1 (value_items (shape_row s l)))) c
+items_long s l x e v w = prints_as (prints_two v w) (sym (append-nil (44 ∷ signed (long_at x))) ∙ ap (λ (y : Shape). after (drop 1 (value_items (shape_row y l)))) (sym e))
 
 -- a shape's name
 pub shaped : (s x : Shape) (q : List ℕ) → s ≡ x → q ≡ get_or (value_items (shape_row x [])) 0 [] → q ≡ get_or (value_items (shape_row s [])) 0 []

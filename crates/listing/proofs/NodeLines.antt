@@ -11,8 +11,8 @@ use lib.ListN.{length, get_or, drop, length-drop}
 use lib.Seq.{take_all, drop-drop}
 use Rattle.sheet.specs.Ascii.{ascii}
 use Rattle.sheet.specs.Bytes.{digits}
-use Rattle.sheet.specs.Forms.{line_or, tag, TEXT, mark, asterisk}
-use Rattle.sheet.specs.Answer.{concat, numbers, item_out}
+use Rattle.sheet.specs.Forms.{tag}
+use Rattle.sheet.specs.Answer.{concat, numbers}
 use Rattle.forms.specs.Tags.{VAR, IS, LIKE, GET, HAS, HASPATH, RECORD_OF}
 use Rattle.words.specs.Log.{part}
 use Rattle.residual.specs.Rows.{word_at, stage_at, start_at}
@@ -136,13 +136,6 @@ fields_more r l i start p q t x g h eq et ex u v =
 pub word_is : {a b : Out} (xs q : List ℕ) → q ≡ xs → Prints a q b → Prints a xs b
 word_is xs q e w = prints_as w e
 
-module _ {a b : Out} where
-  pub piece_star : (x : ℕ) → x ≡ mark → Prints a (44 ∷ 42 ∷ []) b → Prints a (44 ∷ item_out (line_or asterisk TEXT) x) b
-  piece_star x e w = prints_as w (rw (eq-eqb x mark e))
-
-  pub piece_text : (x : ℕ) → (x ≡ mark → ⊥) → Prints a (44 ∷ digits x) b → Prints a (44 ∷ item_out (line_or asterisk TEXT) x) b
-  piece_text x e w = prints_as w (rw (ne_eqb x mark e))
-
 pub steps_are : {a b c : Out} (r q : List ℕ) (k x : ℕ) → x ≡ get_or r (k + 3) 0 → q ≡ part r (k + 3 + 1) (length r) → Prints a (44 ∷ digits x) b → Prints b (after (numbers q)) c
     → Prints a (after (digits (get_or r (3 + k) 0) ∷ numbers (drop (4 + k) r))) c
 steps_are r q k x ex eq v w =
@@ -152,9 +145,6 @@ steps_are r q k x ex eq v w =
     (ap₂ (λ (i : ℕ) (l : List ℕ). (44 ∷ digits i) ++ after (numbers l)) (ex ∙ ap (λ (j : ℕ). get_or r j 0) f) (words_from r (k + 3 + 1) q eq ∙ ap (λ (j : ℕ). drop j r) g))
 
 -- ---- a node that is left
-
-pub second_text : {a b : Out} (r : List ℕ) (x : ℕ) → x ≡ get_or r 3 0 → Prints a (44 ∷ digits x) b → Prints a (44 ∷ digits (get_or r 3 0)) b
-second_text r x e w = prints_as w (ap (λ (y : ℕ). 44 ∷ digits y) e)
 
 seconds : (t : ℕ) → IS ≤ t → t ≤ HAS → (t ≡ LIKE → ⊥) → (eqb t IS || (eqb t GET || eqb t HAS)) ≡ true
 seconds t lo hi n = go (ℕ_discrete t IS) (ℕ_discrete t GET)
