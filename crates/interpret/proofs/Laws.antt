@@ -17,6 +17,8 @@ use Rattle.table.specs.Layout.{rows_of}
 use Rattle.value.specs.Made.{bool_row}
 use Rattle.residual.specs.Rows.{lit_row, err_row, left_row, stage_at}
 use Rattle.residual.specs.Errs.{errs}
+use Rattle.residual.specs.Logs.{held}
+use Rattle.residual.specs.declared.Log.{Log}
 use Rattle.tpe.specs.Run.{O, Rec, left, lit_of, err_of, left_of, made_of, node_in, Side, stops, goes, wrong, unsure, side_of, class_by, class_of, decided_by, second_by, second_of, first_by, first_of, split_of, branch_by, branch_of, var_for, env_in, lit_step, err_step, var_step, slot_step}
 use Rattle.tpe.specs.Steps.{two_at}
 use Rattle.tpe.specs.Classes.{class_in}
@@ -59,6 +61,12 @@ pub class_log : (a b : List ℕ) (bt : ℕ) → Room b bt → class_of a (take b
 unfolding class_of
 class_log a b bt room = ap (class_by a) (sym (last_stage b bt room))
 
+pub class_held : (a : List ℕ) (g : Log) → class_of a (held g) ≡ class_by a (stage_at g.words.now g.top)
+class_held a g = class_log a g.words.now g.top g.room
+
+pub last_held : (g : Log) → stage_at g.words.now g.top ≡ stage_at (held g) (length (held g))
+last_held g = last_stage g.words.now g.top g.room
+
 -- ---- `leaf`
 
 module _ (a b : List ℕ) (bt n t : ℕ) (room : Room b bt) (r : List ℕ) (er : r ≡ get_or (rows_of a NODE) n []) (y x : ℕ) (ey : y ≡ get_or r 1 0) (ex : x ≡ get_or r 2 0) where
@@ -100,10 +108,10 @@ module _ (a b : List ℕ) (start mid bt n : ℕ) (z : Bool) (y : ℕ) (room : Ro
   unfolding second_by
   beside_stops a' b' e h p = leaves_as p (sym (by_side stops (ap side_in h)))
 
-  pub beside_goes : s ≡ Goes → Leaves start a b mid (second_of z start n y mid (left a (take bt b)))
+  pub beside_goes : (b₁ : List ℕ) (t : ℕ) → s ≡ Goes → b₁ ≡ b → t ≡ mid → Leaves start a b₁ t (second_of z start n y mid (left a (take bt b)))
   unfolding second_by
-  beside_goes h =
-      rw (by_side goes (ap side_in h)) (record { words = refl; log = record { is = sym (log_cut b bt mid order.1); low = omega (arith, room.low, order.1); grows = order.0 } })
+  beside_goes b₁ t h eb et =
+      rw (by_side goes (ap side_in h), eb, et) (record { words = refl; log = record { is = sym (log_cut b bt mid order.1); low = omega (arith, room.low, order.1); grows = order.0 } })
 
   kept : (x : Side) → side_in s ≡ x → second_by z start n y mid (left a (take bt b)) x ≡ left_of a (take bt b) start n 0 y
       → (b' : List ℕ) (e : ℕ) → Appended b bt (left_row n 0 (bt - start) y) b' e → Leaves start a b' e (second_of z start n y mid (left a (take bt b)))
@@ -129,9 +137,9 @@ module _ (f : Rec) (a b : List ℕ) (start bt n : ℕ) (z : Bool) (room : Room b
   unfolding first_by
   first_stops a' b' e h p = rw (by_first stops (ap side_in h), log_cut b bt start below) p
 
-  pub first_goes : (a' b' : List ℕ) (e : ℕ) → s ≡ Goes → Leaves start a' b' e (f a (take start b) x) → Leaves start a' b' e (first_in z f start n (left a (take bt b)))
+  pub first_goes : (b₁ : List ℕ) (t : ℕ) (a' b' : List ℕ) (e : ℕ) → s ≡ Goes → b₁ ≡ b → t ≡ start → Leaves t a' b' e (f a (take t b₁) x) → Leaves start a' b' e (first_in z f start n (left a (take bt b)))
   unfolding first_by
-  first_goes a' b' e h p = rw (by_first goes (ap side_in h), log_cut b bt start below) p
+  first_goes b₁ t a' b' e h eb et p = rw (by_first goes (ap side_in h), log_cut b bt start below) (rw (eb, et) at p)
 
   pub first_wrong : (b' : List ℕ) (e : ℕ) → s ≡ Wrong → Appended b start (err_row y) b' e → Leaves start a b' e (first_in z f start n (left a (take bt b)))
   unfolding first_by
@@ -161,13 +169,13 @@ module _ (f : Rec) (a b : List ℕ) (start bt n : ℕ) (room : Room b bt) (below
   unfolding branch_in branch_of
   by_branch q e = rw (← er, ← ey, ← ex, ← ew) (ap (branch_by f start n y x w (left a (take bt b))) (sym (ec ∙ sym (class_log a b bt room)) ∙ e))
 
-  pub branch_true : (a' b' : List ℕ) (e : ℕ) → c ≡ True → Leaves start a' b' e (f a (take start b) x) → Leaves start a' b' e (branch_in f start n (left a (take bt b)))
+  pub branch_true : (b₁ : List ℕ) (t : ℕ) (a' b' : List ℕ) (e : ℕ) → c ≡ True → b₁ ≡ b → t ≡ start → Leaves t a' b' e (f a (take t b₁) x) → Leaves start a' b' e (branch_in f start n (left a (take bt b)))
   unfolding branch_by
-  branch_true a' b' e h p = rw (by_branch ctrue (ap class_in h), log_cut b bt start below) p
+  branch_true b₁ t a' b' e h eb et p = rw (by_branch ctrue (ap class_in h), log_cut b bt start below) (rw (eb, et) at p)
 
-  pub branch_false : (a' b' : List ℕ) (e : ℕ) → c ≡ False → Leaves start a' b' e (f a (take start b) w) → Leaves start a' b' e (branch_in f start n (left a (take bt b)))
+  pub branch_false : (b₁ : List ℕ) (t : ℕ) (a' b' : List ℕ) (e : ℕ) → c ≡ False → b₁ ≡ b → t ≡ start → Leaves t a' b' e (f a (take t b₁) w) → Leaves start a' b' e (branch_in f start n (left a (take bt b)))
   unfolding branch_by
-  branch_false a' b' e h p = rw (by_branch cfalse (ap class_in h), log_cut b bt start below) p
+  branch_false b₁ t a' b' e h eb et p = rw (by_branch cfalse (ap class_in h), log_cut b bt start below) (rw (eb, et) at p)
 
   pub branch_error : (b' : List ℕ) (e : ℕ) → c ≡ Errorᶜ → Appended b start (err_row y) b' e → Leaves start a b' e (branch_in f start n (left a (take bt b)))
   unfolding branch_by
@@ -177,11 +185,10 @@ module _ (f : Rec) (a b : List ℕ) (start bt n : ℕ) (room : Room b bt) (below
   unfolding branch_by
   branch_open a' b' e h p = rw (by_branch copen (ap class_in h)) p
 
-pub split_is : (f : Rec) (b a₁ b₁ a₂ b₂ b₃ : List ℕ) (start bt p q n y w e : ℕ) (o : O) → Room b bt → start ≤ bt → Leaves bt a₁ b₁ p o → length b₁ ≡ length b → Leaves p a₂ b₂ q (f a₁ (take p b₁) w) → length b₂ ≡ length b₁
+pub split_is : (f : Rec) (a₁ b₁ a₂ b₂ b₃ : List ℕ) (start bt p q n y w e : ℕ) (o : O) → start ≤ bt → Leaves bt a₁ b₁ p o → Leaves p a₂ b₂ q (f a₁ (take p b₁) w) → Room b₂ q
     → Appended b₂ q (left_row n 0 (q - start) y) b₃ e → Leaves start a₂ b₃ e (split_of f start n y w o)
 unfolding split_of
-split_is f b a₁ b₁ a₂ b₂ b₃ start bt p q n y w e o room below h l g k r =
-    let ro : Room b₂ q = record { low = g.log.low; long = omega (arith, room.long, l, k) } in
+split_is f a₁ b₁ a₂ b₂ b₃ start bt p q n y w e o below h g room r =
     let up : start ≤ q = omega (arith, below, h.log.grows, g.log.grows) in
     let v : left a₂ (take q b₂) ≡ f o.words o.log w = view g ∙ ap (λ (x : O). f x.words x.log w) (view h) in
-    leaves_as (left_leaves a₂ b₂ b₃ start q n e y ro up r) (ap (λ (x : O). left_of x.words x.log start n 0 y) v)
+    leaves_as (left_leaves a₂ b₂ b₃ start q n e y room up r) (ap (λ (x : O). left_of x.words x.log start n 0 y) v)

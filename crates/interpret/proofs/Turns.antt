@@ -89,10 +89,10 @@ pub child_fits : (s k i w : ℕ) → i < k → k ≡ w / s → (i + 1) * s ≤ w
 child_fits s k i w h e = omega (arith, mul-le-mul_right {m = i + 1} {n = w / s} s (omega arith), div-mul-le_self w s)
 
 module _ (f : Rec) (n s bt k : ℕ) (a₀ b₀ a b : List ℕ) (p c i : ℕ) (g : Turning f n s bt k a₀ b₀ a b p c i) where
-  pub turn_on : (r : List ℕ) (x : ℕ) (a₁ b₁ : List ℕ) (p₁ c₁ : ℕ) → i < k → r ≡ get_or (rows_of a NODE) n [] → x ≡ get_or r ((i + 1) * s + 1) 0 → Leaves p a₁ b₁ p₁ (f a (take p b) x) → length b₁ ≡ length b
+  pub turn_on : (r : List ℕ) (x : ℕ) (a₁ b₁ : List ℕ) (p₁ c₁ : ℕ) → i < k → r ≡ get_or (rows_of a NODE) n [] → x ≡ get_or r ((i + 1) * s + 1) 0 → Leaves p a₁ b₁ p₁ (f a (take p b) x) → Room b₁ p₁
       → c₁ ≡ join_of c (stage_at (take p₁ b₁) (length (take p₁ b₁))) → Turning f n s bt k a₀ b₀ a₁ b₁ p₁ c₁ (i + 1)
   unfolding kids_of
-  turn_on r x a₁ b₁ p₁ c₁ h er ex l lb ec =
+  turn_on r x a₁ b₁ p₁ c₁ h er ex l room ec =
       let less : k - i ≡ suc (k - (i + 1)) = omega arith in
       let place : (i + 1) * s + 1 ≡ i * s + 2 + s - 1 = omega arith in
       let next : i * s + 2 + s ≡ (i + 1) * s + 2 = omega arith in
@@ -104,7 +104,7 @@ module _ (f : Rec) (n s bt k : ℕ) (a₀ b₀ a b : List ℕ) (p c i : ℕ) (g 
             ∙ ap (λ (j : ℕ). kids_of f n s (i * s + 2 + s) a₁ (take p₁ b₁) j (k - (i + 1))) (sym ec)
             ∙ ap (λ (j : ℕ). kids_of f n s j a₁ (take p₁ b₁) c₁ (k - (i + 1))) next)
             ∙ g.whole;
-        room = record { low = l.log.low; long = omega (arith, lb, g.room.long) };
+        room = room;
         grows = omega (arith, g.grows, l.log.grows);
       }
 
@@ -137,9 +137,9 @@ module _ (sheet : List ℕ) (n : ℕ) (a₀ a b : List ℕ) (p i : ℕ) (g : Run
   policy = get_or (rows_of a RUN) i []
 
   pub run_on : (r : List ℕ) (x u w : ℕ) (a₁ b₁ : List ℕ) (p₁ m : ℕ) → i < m → m ≡ n → r ≡ get_or (rows_of a RUN) i [] → x ≡ get_or r 3 0 → u ≡ get_or r 4 0 → w ≡ get_or r 5 0
-      → Leaves p a₁ b₁ p₁ (interp_of partial sheet u w 64 a (take p b) x) → length b₁ ≡ length b → Running sheet n a₀ a₁ b₁ p₁ (i + 1)
+      → Leaves p a₁ b₁ p₁ (interp_of partial sheet u w 64 a (take p b) x) → Room b₁ p₁ → Running sheet n a₀ a₁ b₁ p₁ (i + 1)
   unfolding ran_from
-  run_on r x u w a₁ b₁ p₁ m lt em er ex eu ew l lb =
+  run_on r x u w a₁ b₁ p₁ m lt em er ex eu ew l room =
       let less : n - i ≡ suc (n - (i + 1)) = omega arith in
       let next : suc i ≡ i + 1 = omega arith in
       let root : x ≡ at policy 2 = ex ∙ ap (λ (q : List ℕ). get_or q 3 0) er in
@@ -151,7 +151,7 @@ module _ (sheet : List ℕ) (n : ℕ) (a₀ a b : List ℕ) (p i : ℕ) (g : Run
         whole =
             sym (ap (λ (k : ℕ). ended (ran_from f i k a (take p b))) less ∙ ap (λ (o : O). ended (ran_from f (suc i) (n - (i + 1)) o.words o.log)) (sym v) ∙ ap (λ (j : ℕ). ended (ran_from f j (n - (i + 1)) a₁ (take p₁ b₁))) next)
             ∙ g.whole;
-        room = record { low = l.log.low; long = omega (arith, lb, g.room.long) };
+        room = room;
       }
 
 pub run_end : (sheet a₀ a b : List ℕ) (p i m : ℕ) → Running sheet (get_or a₀ RUN 0) a₀ a b p i → m ≤ i → m ≡ get_or a₀ RUN 0 → Leaves 0 a b p (ended (run_of partial sheet a₀ []))

@@ -2,8 +2,8 @@
 // is, its source, the words of the block that it ends, and its type.
 #![tactic(auto)]
 
-ghost use Rattle.std.specs.Prelude.{◌≡◌, [], ◌∷◌, ◌+◌, ◌-◌, ◌≤◌, ◌<◌};
-ghost use Rattle.words.specs.Log.{Appended};
+ghost use Rattle.std.specs.Prelude.{◌≡◌, [], ◌∷◌, ◌+◌, ◌-◌, ◌≤◌, ◌<◌, length};
+ghost use Rattle.words.specs.Log.{Appended, Room};
 ghost use Rattle.sheet.specs.Forms.{NODE};
 ghost use Rattle.table.specs.Layout.{rows_of};
 ghost use Rattle.residual.specs.Rows.{ROW, lit_row, err_row, left_row, word_at, stage_at, start_at};
@@ -24,6 +24,7 @@ pub const WORDS: usize = 2;
 
 pub const ROW_TYPE: usize = 3;
 
+// kept: they stand in a row's first word, which counts the steps of a path besides.
 // What a row is: a value, whose number is the source; an error; a node left as it is, whose children are the blocks before it. With k
 // steps of a `haspath` taken it is `LEFT_ROW` + k.
 pub const VALUE_ROW: u32 = 0;
@@ -32,6 +33,7 @@ pub const ERROR_ROW: u32 = 1;
 
 pub const LEFT_ROW: u32 = 2;
 
+// kept: they stand in words, where those who read a run's answer compare them.
 // What a policy is found to be, as a number.
 pub const CLASS_TRUE: u32 = 0;
 
@@ -77,7 +79,7 @@ pub fn push_error(log: &mut [u32], top: usize, ty: u32) -> usize
 
 // Node `node` of type `ty` over the blocks from `start` on, with `steps` steps taken.
 pub fn push_left(log: &mut [u32], start: usize, top: usize, node: u32, steps: u32, ty: u32) -> usize
-    requires { (start ≤ top) × (top ≤ 16384) × (steps ≤ 16384) }
+    requires { (start ≤ top) × (top ≤ 16384) × (steps < 4294967294) }
     ensures { Appended log.old top (left_row node steps (top - start) ty) log.new result }
 {
     push_row(
@@ -88,6 +90,88 @@ pub fn push_left(log: &mut [u32], start: usize, top: usize, node: u32, steps: u3
         (top - start + ROW) as u32,
         ty,
     )
+}
+
+// A log of residuals: the first `top` words of a lent slice, which has room for 16,384.
+#[derive(Drop)]
+pub struct Log<'a> {
+    pub words: &'a mut [u32],
+    pub top: usize,
+    ghost room: { Room words.now top },
+}
+
+impl<'a> Log<'a> {
+    ghost use Rattle.residual.specs.Logs.{Pushed, Cut};
+
+    // An empty log.
+    pub fn new(words: &'a mut [u32]) -> Log<'a>
+        requires { 16384 ≤ length words.old }
+        ensures same { result.words.ghost_name ≡ words.entry.ghost_name }
+        ensures words { result.words.now ≡ words.old }
+        ensures top { result.top ≡ 0 }
+    {
+        Log { words, top: 0 }
+    }
+
+    // How far the block that ends at `end` is worked.
+    pub fn stage_at(&self, end: usize) -> Stage
+        ensures { result ≡ stage_at self.now.words.now end }
+    {
+        stage_at(self.words, end)
+    }
+
+    // How far the last block is worked.
+    pub fn stage(&self) -> Stage
+        ensures { result ≡ stage_at self.now.words.now self.now.top }
+    {
+        self.stage_at(self.top)
+    }
+
+    // The type of the block that ends at `end`.
+    pub fn type_at(&self, end: usize) -> u32
+        ensures { result ≡ word_at self.now.words.now end 3 }
+    {
+        word_at(self.words, end, ROW_TYPE)
+    }
+
+    // Whether the block that ends at `end` can err.
+    pub fn can_error(&self, rows: &[u32], end: usize) -> bool
+        ensures { result ≡ errs (rows_of rows.now NODE) self.now.words.now end }
+    {
+        can_error_assuming_well_formed(rows, self.words, end)
+    }
+
+    // The blocks from `start` on go.
+    pub fn cut(&mut self, start: usize)
+        requires { start ≤ self.old.top }
+        ensures { Cut self.old start self.new }
+    {
+        self.top = start;
+    }
+
+    // A value of type `ty` in the place of the blocks from `start` on.
+    pub fn push_value(&mut self, start: usize, value: u32, ty: u32)
+        requires { start ≤ self.old.top }
+        ensures { Pushed self.old start (lit_row value ty) self.new }
+    {
+        self.top = push_value(self.words, start, value, ty);
+    }
+
+    // An error of type `ty` in their place.
+    pub fn push_error(&mut self, start: usize, ty: u32)
+        requires { start ≤ self.old.top }
+        ensures { Pushed self.old start (err_row ty) self.new }
+    {
+        self.top = push_error(self.words, start, ty);
+    }
+
+    // Node `node` of type `ty` over them, with `steps` steps taken.
+    pub fn push_left(&mut self, start: usize, node: u32, steps: u32, ty: u32)
+        requires { (start ≤ self.old.top) × (steps < 4294967294) }
+        ensures { Pushed self.old self.old.top (left_row node steps (self.old.top - start) ty) self.new }
+    {
+        self.top = push_left(self.words, start, self.top, node, steps, ty);
+    }
 }
 
 // Word `place` of the row that ends at `end`.

@@ -15,7 +15,7 @@ pub branch-returns-in-Error : goal.branch-returns-in-Error
 branch-returns-in-Error t c = search branch_error
 
 pub branch-returns-in-Open : goal.branch-returns-in-Open
-branch-returns-in-Open t c = search (branch_open, c.requires.room, c.requires.start_le_top)
+branch-returns-in-Open t c = search (branch_open, c.args.log.now.room, c.requires.start_le_top)
 
 pub first-returns-in-Stops : goal.first-returns-in-Stops
 first-returns-in-Stops t c = search first_stops
@@ -27,7 +27,7 @@ pub first-returns-in-Wrong : goal.first-returns-in-Wrong
 first-returns-in-Wrong t c = search first_wrong
 
 pub first-returns-in-Unsure : goal.first-returns-in-Unsure
-first-returns-in-Unsure t c = search (first_unsure, c.requires.room, c.requires.start_le_top)
+first-returns-in-Unsure t c = search (first_unsure, c.args.log.now.room, c.requires.start_le_top)
 
 pub group-loop-i-init : goal.group-loop-i-init
 group-loop-i-init t c = (search turn_start, (search rules, search rules, search rules))
@@ -60,28 +60,28 @@ pub interpret-returns-in_default : goal.interpret-returns-in_default
 interpret-returns-in_default t c = search interpret_other
 
 pub operation-first-requires : goal.operation-first-requires
-operation-first-requires t c = (search rules, (search rules, (search rules, search interp_clear)))
+operation-first-requires t c = (search rules, (search rules, search interp_clear))
 
 pub operation-returns-then-tag-lt-EQ : goal.operation-returns-then-tag-lt-EQ
-operation-returns-then-tag-lt-EQ t c = search (on_first, c.requires.room, c.requires.le_tag)
+operation-returns-then-tag-lt-EQ t c = search (on_first, c.args.log.now.room, c.requires.le_tag)
 
 pub operation-pair-requires : goal.operation-pair-requires
-operation-pair-requires t c = (search rules, (search rules, (search rules, search interp_clear)))
+operation-pair-requires t c = (search rules, (search rules, search interp_clear))
 
 pub operation-returns-then-tag-lt-IF : goal.operation-returns-then-tag-lt-IF
-operation-returns-then-tag-lt-IF t c = search (on_pair, c.requires.room, c.requires.le_tag)
+operation-returns-then-tag-lt-IF t c = search (on_pair, c.args.log.now.room, c.requires.le_tag)
 
 pub operation-branch-setting-requires : goal.operation-branch-setting-requires
-operation-branch-setting-requires t c = (search rules, (search rules, (search rules, search interp_clear)))
+operation-branch-setting-requires t c = (search rules, (search rules, search interp_clear))
 
 pub operation-returns-then-tag-lt-IS : goal.operation-returns-then-tag-lt-IS
-operation-returns-then-tag-lt-IS t c = search (on_branch, c.requires.room, c.requires.le_tag)
+operation-returns-then-tag-lt-IS t c = search (on_branch, c.args.log.now.room, c.requires.le_tag)
 
 pub operation-one-requires-clause-clear : goal.operation-one-requires-clause-clear
 operation-one-requires-clause-clear t c = search interp_clear
 
 pub operation-returns : goal.operation-returns
-operation-returns t c = search (on_one, c.requires.room, c.requires.le_tag)
+operation-returns t c = search (on_one, c.args.log.now.room, c.requires.le_tag)
 
 pub pair-two-requires-clause-clear : goal.pair-two-requires-clause-clear
 pair-two-requires-clause-clear t c = search interp_clear
@@ -92,8 +92,8 @@ pair-returns t c = search pair_is
 pub second-beside-requires-clause-clear : goal.second-beside-requires-clause-clear
 second-beside-requires-clause-clear t c = search interp_clear
 
-pub split-interpret-end-requires : goal.split-interpret-end-requires
-split-interpret-end-requires t c = (search rules, (search rules, search interp_clear))
+pub split-interpret-requires-2 : goal.split-interpret-requires-2
+split-interpret-requires-2 t c = (search rules, search interp_clear)
 
 pub split-returns : goal.split-returns
-split-returns t c = search (split_is, c.requires.room, c.requires.start_le_top)
+split-returns t c = search (split_is, c.requires.start_le_top)

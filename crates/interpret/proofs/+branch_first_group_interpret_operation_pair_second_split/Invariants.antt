@@ -35,5 +35,5 @@ decreases-split l = l.depth * 8 + 1
 
 abbrev pub invariant-group-loop-i : goal.invariant-group-loop-i
 invariant-group-loop-i l =
-    Turning (interp_of partial l.setting.sheet.now l.setting.principal l.setting.resource l.depth) l.node l.step l.top l.most l.initial.rows l.initial.log l.rows l.log l.end (join_in l.joined) l.i
-    × ((length l.rows ≡ length l.initial.rows) × (length l.log ≡ length l.initial.log) × Clear l.rows l.setting.skip)
+    Turning (interp_of partial l.setting.sheet.now l.setting.principal l.setting.resource l.depth) l.node l.step l.start l.most l.initial.rows l.initial.log.words.now l.rows l.log.words.now l.log.top (join_in l.joined) l.i
+    × ((length l.rows ≡ length l.initial.rows) × (l.log.words.ghost_name ≡ l.initial.log.words.ghost_name) × Clear l.rows l.setting.skip)
