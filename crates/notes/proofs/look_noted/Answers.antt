@@ -1,10 +1,7 @@
 -- `notes::look_noted` meets its contract. Assumes nothing.
-use Rattle.notes.proofs.Noting.{noted_rising, noted_missing, noted_found}
+use Rattle.notes.proofs.Noting.{noted_missing, noted_found}
 use borrow.Author.Rules.{rules}
 use Rattle.notes.proofs.look_noted.Goals as goal
-
-pub entry_rising-requires : goal.entry_rising-requires
-entry_rising-requires c = search (noted_rising, rules)
 
 pub returns-in_default : goal.returns-in_default
 returns-in_default c = search (noted_missing, rules)

@@ -1,13 +1,7 @@
 -- `walk::walk_noted` meets its contract. Assumes nothing.
-use Rattle.walk.proofs.Walking.{step_start, step_end, step_bad, step_missing, step_unknown, step_last, step_on}
+use Rattle.walk.proofs.Walking.{step_end, step_bad, step_missing, step_unknown, step_last, step_on}
 use borrow.Author.Rules.{rules}
 use Rattle.walk.proofs.walk_noted.Goals as goal
-
-pub loop-i-init : goal.loop-i-init
-loop-i-init c = search (step_start, rules)
-
-pub look_kept-requires : goal.look_kept-requires
-look_kept-requires c = record { noted = c.loop-i.invariant.noted; firsts = c.loop-i.invariant.right }
 
 pub loop-i-preserved : goal.loop-i-preserved
 loop-i-preserved c = search (step_on, rules)
