@@ -1,4 +1,5 @@
 -- Numbers on the command line: the digits in turn, a number that is greater stays so, and a word of more than 20 bytes is none. Assumes nothing.
+use Rattle.std.proofs.Common.{Some, None}
 use mathlib.Core.Path.{◌≡◌, refl, sym, ◌∙◌, ap}
 use mathlib.Core.Bool.{Bool, true, false, cond}
 use mathlib.Core.List.{List, [], ◌∷◌}
@@ -12,7 +13,7 @@ use lib.ListN.{length, get_or, drop, drop_of_length-le}
 use lib.Seq.{drop-cons}
 use Rattle.print.specs.Written.{greatest}
 use Rattle.sheet.specs.Bytes.{is_digit, digits_from, decimal, at_most}
-use Rattle.scan.specs.Numbers.{number_of}
+use Rattle.scan.specs.Numbers.{Number, number_of}
 use Rattle.wording.specs.Worded.{number_in}
 
 -- ---- one digit more
