@@ -6,6 +6,8 @@ use Prim.Native.Nat.{ℕ, zero, suc, ◌+◌, ◌-◌, ◌*◌, ◌<◌, ◌≤�
 use native.Mathlib.Omega.{arith}
 use borrow.Author.Tests.{lt-ltb, le-ltb, eq-eqb, ne_eqb, eqb-true, eqb-false, ltb-true, ltb-false}
 use lib.Dec.{ltb, eqb}
+use native.Mathlib.Numerals.{add-one}
+use Rattle.std.specs.List.{list_any, range_with_len}
 use lib.ListN.{length, get_or, take, drop, set, replicate, length-set, length-replicate, get_or-replicate, get_or-eq_default}
 use lib.Seq.{take_all, length-take-le, get_or-take, get_or-set_same}
 use Rattle.cedar.specs.Rows.{Row, rbool, rlong, rtext, rent, rset, rrec}
@@ -172,9 +174,6 @@ pub walk_start : (a p u : List ℕ) (b n e : ℕ) → (n ≡ length (line_rows a
 walk_start a p u b n e en f eb ee = record { index = index_start a p n en.0 f; longu = refl; low = eb; end = ee; listing = record { is = λ v h k l z. let y = en.0 in absurd (omega (arith, l, z, y)) } }
 
 module _ (a p₀ u₀ p u : List ℕ) (b i e : ℕ) (c : Walking a p₀ u₀ p u b i e) (h : 0 < i) where
-  pub walk_byte : i - 1 < 256
-  walk_byte = let z = c.index.near in let y = lines_most a in omega (arith, z, y)
-
   walk_line : (s : ℕ) (r : List ℕ) → s ≡ get_or a (b + (i - 1)) 0 → r ≡ part a s e → r ≡ get_or (line_rows a) (i - 1) []
   walk_line s r es er = let z = c.index.near in let y = lines_few a in let x = lines_most a in
       line_row a (i - 1) (length (line_rows a)) (refl, x) (omega (arith, z, h)) r
@@ -418,6 +417,15 @@ module _ (f : ℕ → Bool) (m : List ℕ) (d n : ℕ) where
     unfolding any_marked
     asked_end h = sym (c.rest ∙ ap (any_marked f m k) (let z : n - k ≡ 0 = omega (arith, h) in z))
 
+-- the same as a chain over places answers it
+any_places : (f : ℕ → Bool) (m : List ℕ) (i n : ℕ) → list_any (marked_at f m) (range_with_len i n) ≡ any_marked f m i n
+unfolding any_marked
+any_places f m i zero = refl
+any_places f m i (suc n) = ap (λ (b : Bool). marked_at f m i || b) (any_places f m (i + 1) n ∙ ap (λ (j : ℕ). any_marked f m j n) (add-one i))
+
+pub asked_is : (f : ℕ → Bool) (m : List ℕ) (n d : ℕ) (b : Bool) → n ≡ d → b ≡ list_any (marked_at f m) (range_with_len 0 n) → b ≡ any_marked f m 0 d
+asked_is f m n d b e q = q ∙ any_places f m 0 n ∙ ap (any_marked f m 0) e
+
 module _ (f : ℕ → Bool) (m : List ℕ) (k x : ℕ) (ex : x ≡ get_or m k 0) where
   pub mark_none : x ≡ 0 → false ≡ marked_at f m k
   unfolding marked_at
@@ -449,29 +457,10 @@ module _ (a w m : List ℕ) (v : ℕ) where
     pub met_far : (x ≡ 0 → ⊥) → (b : Bool) → b ≡ any_marked (names_at (rows_of a VALUE) (line_rows a) v) m 0 (length (line_rows a)) → b ≡ is_met (rows_of a VALUE) (line_rows a) w m v
     met_far e b eb = eb ∙ sym (past ∙ ap (λ (b : Bool). not b && any_marked (names_at (rows_of a VALUE) (line_rows a) v) m 0 (length (line_rows a))) (ne_eqb x 0 e))
 
-pub record Meeting (a w m l : List ℕ) (j : ℕ) : Type 0 where
-  pub near : j ≤ length l
-  pub rest : any_met (rows_of a VALUE) (line_rows a) w m l ≡ any_met (rows_of a VALUE) (line_rows a) w m (drop j l)
-
-module _ (a w m l : List ℕ) where
-  pub meeting_start : Meeting a w m l 0
-  meeting_start = record { near = omega arith; rest = refl }
-
-  module _ (j : ℕ) (c : Meeting a w m l j) where
-    module _ (h : j < length l) (b : Bool) (eb : b ≡ is_met (rows_of a VALUE) (line_rows a) w m (get_or l j 0)) where
-      meet_turn : any_met (rows_of a VALUE) (line_rows a) w m l ≡ (b || any_met (rows_of a VALUE) (line_rows a) w m (drop (j + 1) l))
-      unfolding any_met
-      meet_turn = c.rest ∙ ap (any_met (rows_of a VALUE) (line_rows a) w m) (uncons l 0 j h) ∙ ap (λ (x : Bool). x || any_met (rows_of a VALUE) (line_rows a) w m (drop (j + 1) l)) (sym eb)
-
-      pub meeting_yes : b ≡ true → true ≡ any_met (rows_of a VALUE) (line_rows a) w m l
-      meeting_yes e = sym (meet_turn ∙ ap (λ (x : Bool). x || any_met (rows_of a VALUE) (line_rows a) w m (drop (j + 1) l)) e)
-
-      pub meeting_no : b ≡ false → Meeting a w m l (j + 1)
-      meeting_no e = record { near = omega (arith, h); rest = meet_turn ∙ ap (λ (x : Bool). x || any_met (rows_of a VALUE) (line_rows a) w m (drop (j + 1) l)) e }
-
-    pub meeting_end : length l ≤ j → false ≡ any_met (rows_of a VALUE) (line_rows a) w m l
-    unfolding any_met
-    meeting_end h = sym (c.rest ∙ ap (any_met (rows_of a VALUE) (line_rows a) w m) (spent l j h))
+pub any_is : (a w m l : List ℕ) → list_any (is_met (rows_of a VALUE) (line_rows a) w m) l ≡ any_met (rows_of a VALUE) (line_rows a) w m l
+unfolding any_met
+any_is a w m [] = refl
+any_is a w m (t ∷ l) = ap (λ (b : Bool). is_met (rows_of a VALUE) (line_rows a) w m t || b) (any_is a w m l)
 
 -- ---- open_above
 

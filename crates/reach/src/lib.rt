@@ -56,14 +56,12 @@ pub fn place_of(rows: &[u32], value: u32) -> u32
     ensures { result ≡ place_of value (line_rows rows.now) }
 {
     let n = lines(rows);
-    let mut i = 0;
-    while i < n {
+    for i in 0..n {
         if item(line_at(rows, i), 1) == value {
             return i;
         }
-        i += 1;
     }
-    i
+    n
 }
 
 // How many values there are, none past the most.
@@ -85,11 +83,10 @@ fn index(rows: &[u32], places: &mut [u8], sets: &mut [u32])
     requires { Filled (length (line_rows rows.now)) places.old }
     ensures { Indexed (line_rows rows.now) places.new × Listed (line_rows rows.now) sets.new }
 {
-    let mut i = lines(rows);
+    let n = lines(rows);
     let b = base_of(ENTITY);
-    let mut end = read(rows, b + i as usize) as usize;
-    while i > 0 {
-        i -= 1;
+    let mut end = read(rows, b + n as usize) as usize;
+    for i in (0..n).rev() {
         let start = read(rows, b + i as usize) as usize;
         let line = cut(rows, start, end);
         let v = item(line, 1) as usize;
@@ -276,6 +273,7 @@ pub fn reach(rows: &[u32], value: u32, met: &mut [u8], marks: &mut [u32])
     let mut asked: [u8; VALUES] = [0; VALUES];
     let mut queue: [u32; LINES] = [0; LINES];
     let mut end = see_at(rows, &places[..], value, marks, &mut queue[..], 0);
+    // kept: the queue grows while it is walked, so no range and no slice has its end.
     let mut i = 0;
     while i < end {
         let v = queue[i as usize];
@@ -311,15 +309,7 @@ fn names_at(rows: &[u32], marks: &[u32], number: u32, value: u32) -> bool
 fn names(rows: &[u32], marks: &[u32], value: u32) -> bool
     ensures { result ≡ any_marked (names_at (rows_of rows.now VALUE) (line_rows rows.now) value) marks.now 0 (length (line_rows rows.now)) }
 {
-    let n = lines(rows);
-    let mut i = 0;
-    while i < n {
-        if names_at(rows, marks, i, value) {
-            return true;
-        }
-        i += 1;
-    }
-    false
+    (0..lines(rows)).any(|i| names_at(rows, marks, i, value))
 }
 
 // Whether parent `value` was met; a number past the table is looked for on the marked lines, if there was such a one.
@@ -340,14 +330,9 @@ fn is_met(rows: &[u32], met: &[u8], marks: &[u32], value: u32) -> bool
 pub fn meets_above(rows: &[u32], targets: &[u32], met: &[u8], marks: &[u32]) -> bool
     ensures { result ≡ any_met (rows_of rows.now VALUE) (line_rows rows.now) met.now marks.now targets.now }
 {
-    let mut i = 0;
-    while i < targets.len() {
-        if is_met(rows, met, marks, targets[i]) {
-            return true;
-        }
-        i += 1;
-    }
-    false
+    targets
+        .iter()
+        .any(|&target| is_met(rows, met, marks, target))
 }
 
 // Whether one that is not listed was met, or the parents on a marked line are unknown.
