@@ -96,16 +96,39 @@ fn index(rows: &[u32], places: &mut [u8], sets: &mut [u32])
     }
 }
 
-// The place of the line of entity `value` by these bytes; a number past their end is looked for.
-fn place(rows: &[u32], places: &[u8], value: u32) -> u32
-    requires { Indexed (line_rows rows.now) places.now }
-    ensures { result ≡ place_of value (line_rows rows.now) }
-{
-    let i = value as usize;
-    if i < places.len() {
-        return places[i] as u32;
+// The tables by value that say where the lines of entities are, and which parents they name.
+#[derive(Drop)]
+struct Tables<'a> {
+    rows: &'a [u32],
+    places: &'a [u8],
+    sets: &'a [u32],
+    ghost indexed: { Indexed (line_rows rows.now) places.now },
+    ghost listed: { Listed (line_rows rows.now) sets.now },
+}
+
+impl<'a> Tables<'a> {
+    // The place of the line of entity `value`; a number past the table's end is looked for.
+    fn place(&self, value: u32) -> u32
+        ensures { result ≡ place_of value (line_rows self.now.rows.now) }
+    {
+        let i = value as usize;
+        if i < self.places.len() {
+            return u32::from(self.places[i]);
+        }
+        place_of(self.rows, value)
     }
-    place_of(rows, value)
+
+    // The last item of the line of entity `value`: the search does not wait for the place of the line. Past the table's end it is looked for.
+    fn set_of(&self, value: u32) -> u32
+        requires { place_of value (line_rows self.now.rows.now) < length (line_rows self.now.rows.now) }
+        ensures { result ≡ at (get_or (line_rows self.now.rows.now) (place_of value (line_rows self.now.rows.now)) []) 3 }
+    {
+        let i = value as usize;
+        if i < self.sets.len() {
+            return self.sets[i];
+        }
+        item(line_at(self.rows, self.place(value)), 4)
+    }
 }
 
 // The parents that the last item of an entity line names.
@@ -131,27 +154,22 @@ pub fn parents_of(rows: &[u32], number: u32) -> &[u32]
 
 // ---- the search
 
+// kept: marks, queue and its end, and what holds of them, side by side with the entities met: a struct of slices that are lent to be changed has to
+// promise for each call that it keeps them lent, which is longer than what they ask.
+
 // The line of entity `value` is marked; where it was not before the entity is queued. All that are not listed have one mark. Back comes where the
 // queue ends.
-fn see_at(
-    rows: &[u32],
-    places: &[u8],
-    value: u32,
-    marks: &mut [u32],
-    queue: &mut [u32],
-    end: u32,
-) -> u32
-    requires indexed { Indexed (line_rows rows.now) places.now }
-    requires queue { Queue (line_rows rows.now) marks.old queue.old end }
-    ensures { Grown (line_rows rows.now) value marks.old queue.old end marks.new queue.new result }
+fn see_at(tables: &Tables, value: u32, marks: &mut [u32], queue: &mut [u32], end: u32) -> u32
+    requires { Queue (line_rows tables.now.rows.now) marks.old queue.old end }
+    ensures { Grown (line_rows tables.now.rows.now) value marks.old queue.old end marks.new queue.new result }
 {
-    let k = place(rows, places, value);
+    let k = tables.place(value);
     let i = k as usize;
     if marks[i] != 0 {
         return end;
     }
     marks[i] = 1;
-    if k >= lines(rows) {
+    if k >= lines(tables.rows) {
         return end;
     }
     queue[end as usize] = value;
@@ -160,44 +178,40 @@ fn see_at(
 
 // Parent `value` is met; where it was not before its line is marked.
 fn meet(
-    rows: &[u32],
-    places: &[u8],
+    tables: &Tables,
     value: u32,
     met: &mut [u8],
     marks: &mut [u32],
     queue: &mut [u32],
     end: u32,
 ) -> u32
-    requires indexed { Indexed (line_rows rows.now) places.now }
-    requires queue { Queue (line_rows rows.now) marks.old queue.old end }
-    requires spot { Spot (line_rows rows.now) met.old marks.old }
-    ensures { Seen (line_rows rows.now) (value ∷ []) 1 met.old marks.old queue.old end met.new marks.new queue.new result }
+    requires queue { Queue (line_rows tables.now.rows.now) marks.old queue.old end }
+    requires spot { Spot (line_rows tables.now.rows.now) met.old marks.old }
+    ensures { Seen (line_rows tables.now.rows.now) (value ∷ []) 1 met.old marks.old queue.old end met.new marks.new queue.new result }
 {
     if note(met, marks, FAR, value) {
         return end;
     }
-    see_at(rows, places, value, marks, queue, end)
+    see_at(tables, value, marks, queue, end)
 }
 
 // The parents of a list are met.
 fn see(
-    rows: &[u32],
-    places: &[u8],
+    tables: &Tables,
     list: &[u32],
     met: &mut [u8],
     marks: &mut [u32],
     queue: &mut [u32],
     end: u32,
 ) -> u32
-    requires indexed { Indexed (line_rows rows.now) places.now }
-    requires queue { Queue (line_rows rows.now) marks.old queue.old end }
-    requires spot { Spot (line_rows rows.now) met.old marks.old }
-    ensures { Seen (line_rows rows.now) list.now (length list.now) met.old marks.old queue.old end met.new marks.new queue.new result }
+    requires queue { Queue (line_rows tables.now.rows.now) marks.old queue.old end }
+    requires spot { Spot (line_rows tables.now.rows.now) met.old marks.old }
+    ensures { Seen (line_rows tables.now.rows.now) list.now (length list.now) met.old marks.old queue.old end met.new marks.new queue.new result }
 {
     let mut e = end;
     let mut i = unmet(met, list, 0);
     while i < list.len() {
-        e = meet(rows, places, list[i], met, marks, queue, e);
+        e = meet(tables, list[i], met, marks, queue, e);
         i = unmet(met, list, i + 1);
     }
     e
@@ -215,8 +229,7 @@ fn hide(marks: &mut [u32], parents: u32)
 
 // The parents that the last item of a line names are met, once for each set of parents.
 fn expand(
-    rows: &[u32],
-    places: &[u8],
+    tables: &Tables,
     parents: u32,
     asked: &mut [u8],
     met: &mut [u8],
@@ -224,11 +237,10 @@ fn expand(
     queue: &mut [u32],
     end: u32,
 ) -> u32
-    requires indexed { Indexed (line_rows rows.now) places.now }
-    requires queue { Queue (line_rows rows.now) marks.old queue.old end }
-    requires spot { Spot (line_rows rows.now) met.old marks.old }
-    requires spread { Spread (rows_of rows.now VALUE) (line_rows rows.now) asked.old met.old marks.old }
-    ensures { Expanded (rows_of rows.now VALUE) (line_rows rows.now) parents asked.old met.old marks.old queue.old end asked.new met.new marks.new queue.new result }
+    requires queue { Queue (line_rows tables.now.rows.now) marks.old queue.old end }
+    requires spot { Spot (line_rows tables.now.rows.now) met.old marks.old }
+    requires spread { Spread (rows_of tables.now.rows.now VALUE) (line_rows tables.now.rows.now) asked.old met.old marks.old }
+    ensures { Expanded (rows_of tables.now.rows.now VALUE) (line_rows tables.now.rows.now) parents asked.old met.old marks.old queue.old end asked.new met.new marks.new queue.new result }
 {
     let i = parents as usize;
     if item_or(asked, i, 0) != 0 {
@@ -236,28 +248,13 @@ fn expand(
     }
     put(asked, i, 1);
     see(
-        rows,
-        places,
-        parents_in(rows, parents),
+        tables,
+        parents_in(tables.rows, parents),
         met,
         marks,
         queue,
         end,
     )
-}
-
-// The last item of the line of entity `value`, by these words: the search does not wait for the place of the line. Past their end it is looked for.
-fn set_of(rows: &[u32], places: &[u8], sets: &[u32], value: u32) -> u32
-    requires indexed { Indexed (line_rows rows.now) places.now }
-    requires listed { Listed (line_rows rows.now) sets.now }
-    requires rows_in_bounds { place_of value (line_rows rows.now) < length (line_rows rows.now) }
-    ensures { result ≡ at (get_or (line_rows rows.now) (place_of value (line_rows rows.now)) []) 3 }
-{
-    let i = value as usize;
-    if i < sets.len() {
-        return sets[i];
-    }
-    item(line_at(rows, place(rows, places, value)), 4)
 }
 
 // Marks the lines that entity `value` reaches, its own among them, and notes the ancestors met. Before, nothing is marked or noted.
@@ -270,18 +267,22 @@ pub fn reach(rows: &[u32], value: u32, met: &mut [u8], marks: &mut [u32])
     let mut places: [u8; VALUES] = [n; VALUES];
     let mut sets: [u32; NEAR] = [0; NEAR];
     index(rows, &mut places[..], &mut sets[..]);
+    let tables = Tables {
+        rows,
+        places: &places[..],
+        sets: &sets[..],
+    };
     let mut asked: [u8; VALUES] = [0; VALUES];
     let mut queue: [u32; LINES] = [0; LINES];
-    let mut end = see_at(rows, &places[..], value, marks, &mut queue[..], 0);
+    let mut end = see_at(&tables, value, marks, &mut queue[..], 0);
     // kept: the queue grows while it is walked, so no range and no slice has its end.
     let mut i = 0;
     while i < end {
         let v = queue[i as usize];
-        let parents = set_of(rows, &places[..], &sets[..], v);
+        let parents = tables.set_of(v);
         hide(marks, parents);
         end = expand(
-            rows,
-            &places[..],
+            &tables,
             parents,
             &mut asked[..],
             met,

@@ -1,5 +1,5 @@
 -- `reach::index` meets its contract. Assumes nothing.
-use Rattle.reach.proofs.Steps.{walk_indexed, walk_listed, walk_on, walk_start}
+use Rattle.reach.proofs.Steps.{walk_on, walk_start}
 use borrow.Author.Rules.{rules}
 use Rattle.reach.proofs.index.Goals as goal
 
@@ -8,6 +8,3 @@ loop-i-init c = search (walk_start, rules)
 
 pub loop-i-preserved : goal.loop-i-preserved
 loop-i-preserved c = search (walk_on, rules)
-
-pub returns : goal.returns
-returns c = search (walk_indexed, walk_listed, rules)
