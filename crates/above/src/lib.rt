@@ -21,14 +21,7 @@ use words::{item_or, put, read};
 fn all_above(rows: &[u32], kind: u32, list: &[u32]) -> bool
     ensures { result ≡ all_above rows.now kind list.now }
 {
-    let mut i = 0;
-    while i < list.len() {
-        if !is_ancestor(rows, list[i], kind) {
-            return false;
-        }
-        i += 1;
-    }
-    true
+    list.iter().all(|&value| is_ancestor(rows, value, kind))
 }
 
 // Whether line `number` is marked and names a parent of a kind that is not above.
@@ -45,15 +38,7 @@ fn unfit_at(rows: &[u32], kind: u32, marks: &[u32], number: u32) -> bool
 fn any_unfit(rows: &[u32], kind: u32, marks: &[u32]) -> bool
     ensures { result ≡ any_marked (unfit_at rows.now kind) marks.now 0 (length (line_rows rows.now)) }
 {
-    let n = lines(rows);
-    let mut i = 0;
-    while i < n {
-        if unfit_at(rows, kind, marks, i) {
-            return true;
-        }
-        i += 1;
-    }
-    false
+    (0..lines(rows)).any(|i| unfit_at(rows, kind, marks, i))
 }
 
 // Whether `value` was met and is not an entity of a kind above this one, with a set of kinds that are.
@@ -74,13 +59,10 @@ fn any_value(rows: &[u32], kind: u32, met: &[u8]) -> bool
 {
     let mut above = [0u32; KIND_WORDS];
     add_above(rows, &mut above, kind);
-    let n = met.len() as u32;
-    let mut i = 0;
-    while i < n {
+    for i in 0..met.len() as u32 {
         if unfit_value(rows, &above, kind, met, i) {
             return true;
         }
-        i += 1;
     }
     false
 }
@@ -106,11 +88,8 @@ fn pass_at(rows: &[u32], kind: u32, marks: &[u32], number: u32, fit: &mut [u32])
 fn pass(rows: &[u32], kind: u32, marks: &[u32], fit: &mut [u32])
     ensures { Passes rows.now kind marks.now (length (line_rows rows.now)) fit.old fit.new }
 {
-    let n = lines(rows);
-    let mut i = 0;
-    while i < n {
+    for i in 0..lines(rows) {
         pass_at(rows, kind, marks, i, fit);
-        i += 1;
     }
 }
 
@@ -199,12 +178,10 @@ pub fn first_unfit(rows: &[u32]) -> u32
     }
     let mut fit: [u32; LINES] = [0; LINES];
     ask_last(rows, &mut fit[..]);
-    let mut i = 0;
-    while i < n {
+    for i in 0..n {
         if !reached_fit(rows, i, &mut fit[..]) {
             return i;
         }
-        i += 1;
     }
-    i
+    n
 }

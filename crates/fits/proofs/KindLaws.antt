@@ -1,12 +1,11 @@
 -- The kinds of an entity type's row, walked from word 1 to their end: what is left.
 use mathlib.Core.Path.{◌≡◌, refl, sym, ap, ◌∙◌}
-use mathlib.Core.Bool.{Bool, true, false, and-false}
+use mathlib.Core.Bool.{Bool, ◌&&◌}
 use mathlib.Core.List.{List, [], ◌∷◌}
 use Prim.Native.Nat.{ℕ, zero, suc, ◌+◌, ◌-◌, ◌≤◌, ◌<◌}
 use native.Mathlib.Omega.{arith}
 use lib.Dec.{eqb}
-use Rattle.std.specs.Bool.{MatchBool}
-use Rattle.std.specs.List.{AllWithin, HoldsAt, list_any}
+use Rattle.std.specs.List.{list_all, list_any}
 use lib.ListN.{length, get_or, drop, drop_of_length-le, length-drop}
 use lib.Seq.{drop-cons, get_or-drop}
 use Rattle.cedar.specs.Numbered.{mem_n}
@@ -55,19 +54,10 @@ pub found_is : (k : ℕ) (l : List ℕ) → list_any (λ (x : ℕ). eqb x k) l �
 found_is k [] = refl
 found_is k (x ∷ l) = rw (eqb_comm x k, found_is k l)
 
--- a test of each member, as a chain answers it
-pub all_is : (f : ℕ → Bool) (r : Bool) (l : List ℕ) → MatchBool r (AllWithin (λ x. f x ≡ true) l 0 (length l)) ((k : ℕ) × (k < length l) × HoldsAt (λ x. f x ≡ false) l k) → r ≡ all_in f l
-all_is f true l h = yes l (λ k i. h k 0 (omega arith) i)
-  where
-    yes : (l : List ℕ) → ((k : ℕ) → k < length l → f (get_or l k 0) ≡ true) → true ≡ all_in f l
-    yes [] h = refl
-    yes (x ∷ l) h = rw (h 0 (omega arith)) (yes l (λ k i. h (suc k) (omega arith)))
-all_is f false l h = no l h.0 h.1 (h.2 0)
-  where
-    no : (l : List ℕ) (k : ℕ) → k < length l → f (get_or l k 0) ≡ false → false ≡ all_in f l
-    no [] k i e = absurd (omega arith)
-    no (x ∷ l) zero i e = rw e
-    no (x ∷ l) (suc k) i e = rw (← no l k (omega arith) e) (sym (and-false (f x)))
+-- a test of each member
+pub all_is : (f : ℕ → Bool) (l : List ℕ) → list_all f l ≡ all_in f l
+all_is f [] = refl
+all_is f (x ∷ l) = ap (λ (b : Bool). f x && b) (all_is f l)
 
 pub kind_is : (y l : List ℕ) (k : ℕ) (b : Bool) → l ≡ kinds_in y → b ≡ list_any (λ (x : ℕ). eqb x k) l → b ≡ kind_in y k
 unfolding kind_in

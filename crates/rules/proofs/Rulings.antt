@@ -5,8 +5,8 @@ use mathlib.Core.List.{List, [], ◌∷◌}
 use mathlib.Core.Option.{none, some}
 use mathlib.Core.Option as Math
 use Rattle.std.specs.Prelude.{Option, Some, None, is_some}
-use Rattle.std.specs.Bool.{MatchBool, then_some}
-use Rattle.std.specs.List.{AllWithin, HoldsAt}
+use Rattle.std.specs.Bool.{then_some}
+use Rattle.std.specs.List.{list_any}
 use Prim.Native.Nat.{ℕ, zero, suc, ◌+◌, ◌≤◌, ◌<◌}
 use native.Mathlib.Numerals.{add-one}
 use native.Mathlib.Omega.{arith}
@@ -36,19 +36,10 @@ use Rattle.rules.proofs.Decoded.{kinds_of, kinds_none, targets_of, targets_none,
 
 -- ---- the kinds of a row
 
--- a test of each kind, as chains answer it
-pub some_is : (f : ℕ → Bool) (r : Bool) (l : List ℕ) → MatchBool r ((k : ℕ) × (k < length l) × HoldsAt (λ x. f x ≡ true) l k) (AllWithin (λ x. f x ≡ false) l 0 (length l)) → r ≡ some_kind f l
-some_is f true l h = yes l h.0 h.1 (h.2 0)
-  where
-    yes : (l : List ℕ) (k : ℕ) → k < length l → f (get_or l k 0) ≡ true → true ≡ some_kind f l
-    yes [] k i e = absurd (omega arith)
-    yes (x ∷ l) zero i e = rw e
-    yes (x ∷ l) (suc k) i e = rw (← yes l k (omega arith) e) (sym (or-true (f x)))
-some_is f false l h = no l (λ k i. h k 0 (omega arith) i)
-  where
-    no : (l : List ℕ) → ((k : ℕ) → k < length l → f (get_or l k 0) ≡ false) → false ≡ some_kind f l
-    no [] h = refl
-    no (x ∷ l) h = rw (h 0 (omega arith)) (no l (λ k i. h (suc k) (omega arith)))
+-- a test of each kind
+pub some_is : (f : ℕ → Bool) (l : List ℕ) → list_any f l ≡ some_kind f l
+some_is f [] = refl
+some_is f (k ∷ ks) = ap (λ (b : Bool). f k || b) (some_is f ks)
 
 pub each_is : (f : ℕ → Bool) (l : List ℕ) → each_kind f l ≡ all_in f l
 each_is f [] = refl

@@ -38,9 +38,9 @@ module _ (f : ℕ → Bool) (q l : List ℕ) (i : ℕ) (w : Kinds f q l i) where
 -- ---- a test of a kind's attributes
 
 module _ (a q l : List ℕ) (f : ℕ → Bool) where
-  pub asked : (k z : ℕ) (b : Bool) → z ≡ attribute_type_at a k → b ≡ of_record a f z → of_kind a f k ≡ b
+  pub asked : (k z : ℕ) (b : Bool) → z ≡ attribute_type_at a k → b ≡ of_record a f z → b ≡ of_kind a f k
   unfolding of_kind
-  asked k z b ez eb = sym (rw (← ez) eb)
+  asked k z b ez eb = rw (← ez) eb
 
   module _ (i : ℕ) (w : Kinds (of_kind a f) q l i) (h : i < length l) (z : ℕ) (b : Bool) (ez : z ≡ attribute_type_at a (get_or l i 0)) (eb : b ≡ of_record a f z) where
     kind_is : b ≡ of_kind a f (get_or l i 0)

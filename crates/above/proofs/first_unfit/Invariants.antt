@@ -5,6 +5,3 @@ use Rattle.above.proofs.first_unfit.Given as goal
 
 abbrev pub invariant-loop-i : goal.invariant-loop-i
 invariant-loop-i l = Firsts l.rows l.n l.fit l.i
-
-abbrev pub decreases-loop-i : goal.decreases-loop-i
-decreases-loop-i l = l.n - l.i
