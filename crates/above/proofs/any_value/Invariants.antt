@@ -1,5 +1,4 @@
 -- `above::any_value` meets its contract. Assumes nothing.
-use Prim.Native.Nat.{◌-◌}
 use mathlib.Core.Path.{◌≡◌}
 use lib.ListN.{length}
 use Rattle.reach.proofs.Steps.{Asking}

@@ -1,5 +1,4 @@
 -- `above::first_unfit` meets its contract. Assumes nothing.
-use Prim.Native.Nat.{◌-◌}
 use Rattle.above.proofs.Fits.{Firsts}
 use Rattle.above.proofs.first_unfit.Given as goal
 

@@ -1,5 +1,4 @@
 -- `above::pass` meets its contract. Assumes nothing.
-use Prim.Native.Nat.{◌-◌}
 use Rattle.above.proofs.Fits.{Passing}
 use Rattle.above.proofs.pass.Given as goal
 

@@ -1,7 +1,5 @@
 -- `order::in_order` meets its contract. Assumes nothing.
 use Rattle.order.proofs.OrderLaws.{Zeros}
-use Prim.Native.Nat.{◌-◌}
-use Rattle.sheet.specs.Forms.{no_key}
 use Rattle.order.proofs.in_order.Given as goal
 
 abbrev pub invariant-loop-i : goal.invariant-loop-i
