@@ -22,9 +22,9 @@ use Rattle.words.specs.Log.{appended, Appended, Room}
 use Rattle.words.proofs.Logs.{append_holds, append_room, log_cut, log_length}
 use Rattle.table.specs.Layout.{base, row_at, rows_of}
 use Rattle.table.proofs.Rows.{row_none, row_some, count_rows}
-use Rattle.value.specs.Lines.{value_lines, place_of}
-use Rattle.value.specs.Made.{bool_row}
+use Rattle.value.specs.Lines.{value_lines}
 use Rattle.value.proofs.Makes.{Finding, find_start, find_end, find_hit, find_on}
+use Rattle.value.specs.Made.{bool_row}
 use Rattle.residual.specs.Rows.{lit_row, err_row, left_row, word_at, stage_at}
 use Rattle.residual.specs.Errs.{errs}
 use Rattle.residual.specs.declared.Stage.{Stage}
@@ -52,13 +52,28 @@ use Rattle.tpe.proofs.Worked.{Ruled, ruled_settles}
 
 -- ---- the type line of a kind
 
-place_most : (r : List ℕ) (rows : List (List ℕ)) → place_of r rows ≤ length rows
-unfolding place_of
-place_most r [] = omega arith
-place_most r (q ∷ rows) = grind (arith, place_most r rows)
+abbrev pub Seeking : List ℕ → ℕ → ℕ → ℕ → Type 0
+Seeking a k n i = Finding (alone_row k) (rows_of a TYPE) n i
 
-pub type_place : (r a : List ℕ) (k : ℕ) → place_of r (rows_of a k) ≤ get_or a k 0
-type_place r a k = omega (arith, place_most r (rows_of a k), count_rows a k)
+module _ (a : List ℕ) (k n : ℕ) where
+  pub seek_start : n ≡ get_or a TYPE 0 → Seeking a k n 0
+  seek_start e = find_start (alone_row k) (rows_of a TYPE) n (e ∙ sym (count_rows a TYPE))
+
+  module _ (i : ℕ) (g : Seeking a k n i) where
+    pub seek_end : n ≤ i → n ≡ entity_type a k
+    unfolding entity_type
+    seek_end h = find_end (alone_row k) (rows_of a TYPE) n i g h
+
+    module _ (h : i < n) (q l : List ℕ) (el : l ≡ alone_row k) (eq : q ≡ get_or (rows_of a TYPE) i []) (b : Bool) (eb : b ≡ same q l) where
+      is_same : b ≡ same q (alone_row k)
+      is_same = eb ∙ ap (same q) el
+
+      pub seek_hit : b ≡ true → i ≡ entity_type a k
+      unfolding entity_type
+      seek_hit e = find_hit (alone_row k) (rows_of a TYPE) n i g h q eq b is_same e
+
+      pub seek_on : b ≡ false → Seeking a k n (i + 1)
+      seek_on e = find_on (alone_row k) (rows_of a TYPE) n i g h q eq b is_same e
 
 -- ---- the walk
 

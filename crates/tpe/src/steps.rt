@@ -33,8 +33,8 @@ use strict::entity::{get_of, gettag_of, has_of, hastag_of, in_of};
 use strict::{
     Given, all_of, any_of, arith_of, contains_of, empty_of, eq_of, is_of, like_of, neg_of, not_of,
 };
-use table::{base_of, item, row};
-use value::making::{find_row, make_entity, make_long, make_record, make_set};
+use table::{base_of, count, item, row};
+use value::making::{make_entity, make_long, make_record, make_set};
 use walk::{Walked, walk};
 use words::read;
 
@@ -247,11 +247,17 @@ fn asked_one(sheet: &[u8], rows: &[u32], log: &Log, node: u32, tag: u32) -> Give
 // ---- a path
 
 // The number of the type line of a kind alone, or of all types where there is none.
-#[tactic(auto, using(crate::proofs::Walks::type_place), unfolding(crate::specs::Run::entity_type))]
 fn entity_type(rows: &[u32], kind: u32) -> u32
     ensures { result ≡ entity_type rows.now kind }
 {
-    find_row(rows, TYPE, &[ENTITY_TYPE, kind]) as u32
+    let line = [ENTITY_TYPE, kind];
+    let n = count(rows, TYPE);
+    for i in 0..n {
+        if row(rows, TYPE, i) == &line[..] {
+            return i;
+        }
+    }
+    n
 }
 
 // The path of a node from a value on; an unlisted entity is unknown.
