@@ -12,7 +12,8 @@ ghost use Rattle.page.specs.Parts.{Shows, Pages};
 use interpret::{CLASSES, ROOTS};
 use lines::print_page;
 use opening::open;
-use print::Returned;
+use print::{Out, Returned};
+use response::Policies;
 use sent::Sent;
 use words::{ROOM, clear, cut};
 
@@ -32,13 +33,11 @@ fn show(sheet: &[u8], rows: &mut [u32], log: &mut [u32], out: &mut [u8]) -> Sent
     }
     let e = interpret::run(sheet, rows, log);
     interpret::lines(rows, log, e);
-    print_page(
-        out,
-        sheet,
+    let policies = Policies {
         rows,
-        cut(log, CLASSES, ROOM),
-        cut(log, ROOTS, ROOM),
-    );
+        classes: cut(log, CLASSES, ROOM),
+    };
+    print_page(&mut Out::new(out), sheet, &policies, cut(log, ROOTS, ROOM));
     Sent {
         number: 0,
         length: PAGE,
