@@ -49,12 +49,10 @@ fn paged(sheet: &[u8], rows: &mut [u32], work: &mut [u32], out: &mut [u8]) -> Re
     requires { (length rows.old ≡ 16384) × (length work.old ≡ 16384) }
     ensures { Pages sheet.now out.old result.number result.line result.length out.new }
 {
-    let o = open(sheet, true, rows, work);
-    let number = o.number;
-    if number != 0 {
+    if let Err(refusal) = open(sheet, true, rows, work) {
         return Returned {
-            number,
-            line: o.line,
+            number: refusal.fault.into(),
+            line: refusal.line,
             length: 0,
         };
     }
