@@ -1,13 +1,7 @@
 -- `lookup::led_by` meets its contract. Assumes nothing.
 use native.Mathlib.Omega.{arith}
-use Rattle.lookup.proofs.Halving.{halving_start, halving_room, halving_on, halving_end}
+use Rattle.lookup.proofs.Halving.{halving_on, halving_end}
 use Rattle.lookup.proofs.led_by.Goals as goal
-
-pub loop-init : goal.loop-init
-loop-init c = halving_start c.args.rows.now c.args.value
-
-pub overflow_add-line : goal.overflow_add-line
-overflow_add-line c = omega (arith, halving_room _ _ _ _ _ c.loop.invariant (omega arith))
 
 pub loop-preserved : goal.loop-preserved
 loop-preserved c = halving_on _ _ _ _ _ c.loop.invariant _ (omega arith) _ c.nearer-line.ensures
