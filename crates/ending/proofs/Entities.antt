@@ -29,14 +29,6 @@ use Rattle.ending.specs.Unfit.{entity_line, unfit_line}
 
 -- ---- a line that begins with `entity=`
 
-starts_same : (w l : List ℕ) → same w (take (length w) l) ≡ starts w l
-starts_same [] l = refl
-starts_same (x ∷ w) [] = refl
-starts_same (x ∷ w) (y ∷ l) = ap (λ (b : Bool). eqb x y && b) (starts_same w l)
-
-pub begins_is : (l p q : List ℕ) (n : ℕ) (b : Bool) → p ≡ drop n l → q ≡ take 7 p → b ≡ same (ascii "entity=") q → b ≡ starts (ascii "entity=") (drop n l)
-begins_is l p q n b ep eq eb = eb ∙ ap (same (ascii "entity=")) eq ∙ starts_same (ascii "entity=") p ∙ ap (starts (ascii "entity=")) ep
-
 -- what begins with a word is that word and a rest
 begins_with : {X : Type 0} (w l : List ℕ) → starts w l ≡ true → ((v : List ℕ) → l ≡ w ++ v → X) → X
 begins_with [] l e f = f l refl

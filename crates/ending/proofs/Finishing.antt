@@ -134,12 +134,6 @@ pub record Summed (a : List ℕ) (k s i : ℕ) : Type 0 where
   pub near : i ≤ k
   pub early : k ≤ POLICY
 
-pub summed_start : (a : List ℕ) (k : ℕ) → k ≤ POLICY → Summed a k 0 0
-summed_start a k h =
-    let z : k - 0 ≡ k = omega arith in
-    let q : sum (take (k - 0) (drop 0 (counts_in a))) ≡ sum (take k (counts_in a)) = ap (λ (c : ℕ). sum (take c (counts_in a))) z in
-    record { left = omega (arith, q); low = omega arith; near = omega arith; early = h }
-
 module _ (a : List ℕ) (k s i : ℕ) (t : Summed a k s i) where
   pub summed_on : (x : ℕ) → i < k → x ≡ get_or a i 0 → x < 4294967296 → Summed a k (s + x) (i + 1)
   summed_on x h e l =

@@ -1,11 +1,8 @@
 -- `ending::lines_before` meets its contract. Assumes nothing.
-use Rattle.ending.proofs.Finishing.{summed_start, summed_on, summed_end}
+use Rattle.ending.proofs.Finishing.{summed_on, summed_end}
 use native.Mathlib.Omega.{arith}
 use borrow.Author.Rules.{rules}
 use Rattle.ending.proofs.lines_before.Goals as goal
-
-pub loop-k-init : goal.loop-k-init
-loop-k-init c = search (summed_start, rules)
 
 pub loop-k-preserved : goal.loop-k-preserved
 loop-k-preserved c = search (summed_on, rules)
