@@ -8,10 +8,10 @@ use Prim.Native.Nat.{ℕ, suc, ◌+◌, ◌≤◌, ◌<◌}
 use native.Mathlib.Omega.{arith}
 use borrow.Author.Tests.{eq-eqb, ne_eqb, eqb-true, eqb-false, lt-ltb, le-ltb, ltb-true, ltb-false}
 use lib.Dec.{ltb, eqb}
-use lib.ListN.{length, get_or, take, drop}
+use lib.ListN.{length, get_or, take}
 use Rattle.cedar.proofs.Tools.{no_true, and_both}
 use Rattle.sheet.specs.Ascii.{ascii}
-use Rattle.sheet.specs.Bytes.{same, starts, split, printable}
+use Rattle.sheet.specs.Bytes.{starts, split, printable}
 use Rattle.sheet.specs.Forms.{Mode, forms, form_of, tag_of, keys, key_of, counted, items_from, or_empty, row_of, ENTITY, PRINCIPAL}
 use Rattle.sheet.specs.State.{State, lines_of, count, before, sum}
 use Rattle.sheet.specs.Sheet.{Reading, fault, more, reads, first_unfit, entities_fit, before_line}
