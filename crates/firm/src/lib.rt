@@ -114,10 +114,8 @@ fn begin(rows: usize, sheet: &[u8], work1: &mut [u32], work2: &mut [u32]) -> Quo
     if rows > MOST_ROWS {
         return refused(14, 0);
     }
-    let o = open(sheet, true, &mut work1[..ROOM], &mut work2[..ROOM]);
-    let number = o.number;
-    if number != 0 {
-        return refused(number, o.line);
+    if let Err(refusal) = open(sheet, true, &mut work1[..ROOM], &mut work2[..ROOM]) {
+        return refused(u32::from(refusal.fault), refusal.line);
     }
     Quote {
         number: 0,

@@ -1,6 +1,7 @@
 -- `firm::begin` meets its contract. Assumes nothing.
 use Rattle.firm.proofs.Calling.{begin_first, begin_second, begin_long, begin_many, part_room, begin_refused, begin_opened}
 use Rattle.opening.proofs.Lent.{part_long}
+use Rattle.faults.proofs.Numbering.{number_some}
 use borrow.Author.Rules.{rules}
 use Rattle.firm.proofs.begin.Goals as goal
 
@@ -22,11 +23,11 @@ slice_bounds-open-end-2 c = search (part_long, rules)
 pub slice_bounds-open-end-4 : goal.slice_bounds-open-end-4
 slice_bounds-open-end-4 c = search (part_long, rules)
 
-pub open-o-requires : goal.open-o-requires
-open-o-requires c = search (part_room, rules)
+pub open-requires : goal.open-requires
+open-requires c = search (part_room, rules)
 
-pub returns-then-number-ne0 : goal.returns-then-number-ne0
-returns-then-number-ne0 c = search (begin_refused, rules)
+pub returns-in-Err : goal.returns-in-Err
+returns-in-Err c = search (begin_refused, number_some, rules)
 
 pub returns : goal.returns
 returns c = search (begin_opened, rules)
