@@ -151,10 +151,6 @@ module _ (f : Rec) (a b : List ℕ) (start bt n : ℕ) (z : Bool) (room : Room b
 
 -- ---- `second`, `pair`
 
-pub second_is : (a₁ b₁ : List ℕ) (mid p : ℕ) (o : O) → Leaves mid a₁ b₁ p o → (a₂ b₂ : List ℕ) (start n e : ℕ) (z : Bool) (y : ℕ) → Leaves start a₂ b₂ e (second_of z start n y mid (left a₁ (take p b₁)))
-    → Leaves start a₂ b₂ e (second_of z start n y mid o)
-second_is a₁ b₁ mid p o h a₂ b₂ start n e z y q = leaves_as q (ap (second_of z start n y mid) (view h))
-
 pub pair_is : (sheet : List ℕ) (f : Rec) (a b : List ℕ) (start mid n t : ℕ) → Room b mid → (r : List ℕ) → r ≡ get_or (rows_of a NODE) n [] → (x : ℕ) → x ≡ get_or r 3 0 → (a₁ b₁ : List ℕ) (p : ℕ) → Leaves mid a₁ b₁ p (f a (take mid b) x)
     → (a₂ b₂ : List ℕ) (e : ℕ) → Leaves start a₂ b₂ e (two_at partial [] t start mid n (get_or (rows_of a₁ NODE) n []) (left a₁ (take p b₁))) → Leaves start a₂ b₂ e (pair_in partial sheet t f start n (left a (take mid b)))
 unfolding pair_in pair_by

@@ -3,7 +3,7 @@ use mathlib.Core.Path.{◌≡◌, refl, sym, ap, ◌∙◌}
 use mathlib.Core.List.{List, []}
 use Prim.Native.Nat.{ℕ, suc, ◌+◌, ◌-◌, ◌*◌, ◌/◌, ◌≤◌, ◌<◌}
 use native.Mathlib.Omega.{arith}
-use native.Mathlib.Nat.{le_refl, mul-le-mul_right, div-mul-le_self}
+use native.Mathlib.Nat.{le_refl}
 use lib.Dec.{eqb}
 use lib.ListN.{length, get_or, take}
 use Rattle.words.specs.Log.{Appended, Room}
@@ -84,10 +84,6 @@ turn_start f n s bt k a b room =
     let z : k - 0 ≡ k = omega arith in
     record { whole = rw (e, z); room = room; grows = le_refl bt }
 
--- a child's place is in its row
-pub child_fits : (s k i w : ℕ) → i < k → k ≡ w / s → (i + 1) * s ≤ w
-child_fits s k i w h e = omega (arith, mul-le-mul_right {m = i + 1} {n = w / s} s (omega arith), div-mul-le_self w s)
-
 module _ (f : Rec) (n s bt k : ℕ) (a₀ b₀ a b : List ℕ) (p c i : ℕ) (g : Turning f n s bt k a₀ b₀ a b p c i) where
   pub turn_on : (r : List ℕ) (x : ℕ) (a₁ b₁ : List ℕ) (p₁ c₁ : ℕ) → i < k → r ≡ get_or (rows_of a NODE) n [] → x ≡ get_or r ((i + 1) * s + 1) 0 → Leaves p a₁ b₁ p₁ (f a (take p b) x) → Room b₁ p₁
       → c₁ ≡ join_of c (stage_at (take p₁ b₁) (length (take p₁ b₁))) → Turning f n s bt k a₀ b₀ a₁ b₁ p₁ c₁ (i + 1)
@@ -125,9 +121,6 @@ module _ (f : Rec) (n s bt k : ℕ) (a₀ b₀ a b : List ℕ) (p c i : ℕ) (g 
 pub record Running (sheet : List ℕ) (n : ℕ) (a₀ a b : List ℕ) (p i : ℕ) : Type 0 where
   pub whole : ended (ran_from (λ u w. interp_of partial sheet u w 64) i (n - i) a (take p b)) ≡ ended (ran_from (λ u w. interp_of partial sheet u w 64) 0 n a₀ [])
   pub room : Room b p
-
-pub run_start : (sheet : List ℕ) (n : ℕ) (a b : List ℕ) → 16384 ≤ length b → Running sheet n a a b 0 0
-run_start sheet n a b h = let e : n - 0 ≡ n = omega arith in record { whole = rw e; room = record { low = omega arith; long = h } }
 
 module _ (sheet : List ℕ) (n : ℕ) (a₀ a b : List ℕ) (p i : ℕ) (g : Running sheet n a₀ a b p i) where
   abbrev f : ℕ → ℕ → Rec

@@ -60,21 +60,6 @@ module _ (sheet a b : List ℕ) (bt n t : ℕ) (s : Stage) (es : s ≡ stage_at 
 
 -- ---- a rule, where no operand can err
 
-module _ (nodes : List (List ℕ)) (b : List ℕ) (bt : ℕ) (q : Ruled) where
-  pub unless_silent : q ≡ None → rule_in None ≡ unless_err (errs nodes b bt) (rule_in q)
-  unless_silent h = rw h (go (errs nodes b bt))
-    where
-      go : (k : Bool) → none ≡ unless_err k none
-      go true = refl
-      go false = refl
-
-  module _ (k : Bool) (ek : k ≡ errs nodes b bt) where
-    pub unless_errs : k ≡ true → rule_in None ≡ unless_err (errs nodes b bt) (rule_in q)
-    unless_errs h = rw (← ek, h)
-
-    pub unless_says : (x : Bool) → q ≡ Some x → k ≡ false → rule_in (Some x) ≡ unless_err (errs nodes b bt) (rule_in q)
-    unless_says x e h = rw (← ek, h, e)
-
 -- q is the rule k, and o what the operation gives
 module _ (q : Ruled) (k : Option Bool) (o : NOut) (eq : rule_in q ≡ k) where
   pub rule_silent : (g : Given) → q ≡ None → out_of g ≡ o → out_of g ≡ rule_or k o
