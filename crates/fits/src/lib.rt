@@ -191,6 +191,9 @@ fn mark(work: &mut [u32], value: u32, ty: u32)
 
 // ---- the recursion
 
+// kept: rows and words side by side, and that what is remembered is true asked by each: `value_fits` and `tags_fit` promise it to any caller
+// (docs/DECISIONS.md, `Known`), and a struct of both would have to promise for each call that it keeps the rows and keeps the words lent.
+
 // Whether each element of a set fits a type.
 #[cycle(elements_entries_fits_row_fits)]
 fn elements(rows: &[u32], work: &mut [u32], line: &[u32], ty: u32, depth: u32) -> bool
