@@ -140,7 +140,10 @@ module _ (a r : List ℕ) (s y : ℕ) where
     pub path_end : length r ≤ j → true ≡ left_at a r s y
     path_end l = sym (here.says (record { at = λ x o m. ap (λ (us : List ℕ). step_test a us (get_or r (j - 1) 0) x) (drop_of_length-le r {i = j} l) }))
 
-    module _ (t : ℕ) (u reached : List ℕ) (c : Bool) (l : j < length r) (et : t ≡ get_or r (j - 1) 0) (eu : u ≡ replicate 4 0) (q : Gathered u reached (of_step a types t) c) where
+    module _ (t : ℕ) (u reached : List ℕ) (c : Bool) (l : j < length r) (et : t ≡ get_or r (j - 1) 0) (eu : u ≡ replicate 4 0) (a' : List ℕ) (ea : a' ≡ a) (q' : Gathered u reached (of_step a' types t) c) where
+      q : Gathered u reached (of_step a types t) c
+      q = subst (λ (x : List ℕ). Gathered u reached (of_step x types t) c) ea q'
+
       -- what is left asks for the step
       asks_step : Each types (step_at a r j) → of_step a types t (next_at a r j)
       asks_step e = record { at = λ x o m. ap (λ (n : ℕ). declared_each a n (next_at a r j) x) et ∙ sym (step_next a r j x l) ∙ e.at x o m }
