@@ -1,7 +1,7 @@
--- `response::why_of` meets its contract. Assumes nothing.
+-- `response::Policies::why` meets its contract. Assumes nothing.
 use Rattle.response.proofs.Naming.{why_allow, why_deny, why_open}
 use borrow.Author.Rules.{rules}
-use Rattle.response.proofs.why_of.Goals as goal
+use Rattle.response.proofs.Policies.why.Goals as goal
 
 pub returns-in-Allow : goal.returns-in-Allow
 returns-in-Allow c = search (why_allow, rules)
