@@ -8,7 +8,7 @@ use native.Mathlib.Omega.{arith}
 use native.Mathlib.Decide.{dec_lt}
 use borrow.Author.Tests.{eq-eqb, ne_eqb, eqb-true, eqb-false}
 use lib.Dec.{eqb}
-use lib.ListN.{length, get_or, drop, set, replicate, length-set, get_or-eq_default}
+use lib.ListN.{length, get_or, drop, set, replicate, length-set}
 use lib.Seq.{get_or-set_same, get_or-set_other}
 use types.Run.{OneOf}
 use denote.Enum.Declared.{tag_of}
@@ -28,7 +28,7 @@ use Rattle.value.specs.declared.Shape.TheVariants.{Entity, Record}
 use Rattle.value.proofs.Shaped.{row_given}
 use Rattle.value.proofs.Lists.{entry_among, entry_hit, entry_on, entry_pairs}
 use Rattle.lookup.specs.Lookups.{value_in, is_entity_at, line_at, line_in, part_of, part_in, look_row, look_attr}
-use Rattle.firsts.specs.Firsts.{Tells, Firsts, Leads, Kept, KeptAll, Sourced, Entered}
+use Rattle.firsts.specs.Firsts.{Tells, Firsts, Kept, KeptAll, Sourced, Entered}
 use Rattle.firsts.specs.declared.Cell.{Cell}
 use Rattle.firsts.specs.declared.TheConstants.{BLANK}
 use Rattle.cedar.specs.Numbered.{entry_of}
@@ -51,14 +51,6 @@ tells_none a = record { is = λ c u e. absurd (omega (arith, e)) }
 pub firsts_none : (a : List ℕ) (n : ℕ) → Firsts a (replicate n BLANK)
 firsts_none a n = record { is = λ h. subst (Tells a) (sym (blank n h)) (tells_none a) }
 
-pub leads_cell : (cells : List Cell) (v t h : ℕ) (d : Cell) → d ≡ get_or cells h BLANK → d.text ≡ t + 1 → d.owner ≡ v → Leads cells v t (Some d.next)
-leads_cell cells v t h d ed e o = record {
-  is = λ a f x z c.
-      let q : d.next ≡ x = cc in
-      let k : Tells a d = subst (Tells a) (sym ed) (f.is h) in
-      ap (λ (j : ℕ). Atˡ j) (sym q) ∙ k.is c t (e ∙ add-one t) ∙ ap (λ (j : ℕ). look_attr c a j t) o;
-}
-
 -- ---- one attribute noted
 
 pub kept_none : (v t x : ℕ) (cells : List Cell) → Kept v t x cells cells
@@ -66,20 +58,6 @@ kept_none v t x cells = record { is = λ a g f. g }
 
 abbrev pub cell_with : ℕ → ℕ → ℕ → Cell
 cell_with v t x = record { owner = v; text = t + 1; next = x }
-
-pub kept_set : (v t x h : ℕ) (cells cells' : List Cell) → cells' ≡ set cells h (cell_with v t x) → Kept v t x cells cells'
-kept_set v t x h cells cells' e = record { is = λ a g f. rw e (record { is = λ w. go a g f w (eqb w h) refl (dec_lt h (length cells)) }) }
-  where
-    go : (a : List ℕ) → Firsts a cells → ((c : Bool) → Atˡ x ≡ look_attr c a v t) → (w : ℕ) (b : Bool) → eqb w h ≡ b → Dec (h < length cells) → Tells a (get_or (set cells h (cell_with v t x)) w BLANK)
-    go a g f w false z l = subst (Tells a) (sym (get_or-set_other cells h w (cell_with v t x) BLANK (eqb-false w h z))) (g.is w)
-    go a g f w true z (yes l) =
-        let q : w ≡ h = eqb-true w h z in
-        subst (Tells a) (sym (ap (λ (j : ℕ). get_or (set cells h (cell_with v t x)) j BLANK) q ∙ get_or-set_same cells h (cell_with v t x) BLANK l))
-        (record { is = λ c u y. let k : t ≡ u = omega (arith, y) in f c ∙ ap (λ (j : ℕ). look_attr c a v j) k })
-    go a g f w true z (no l) =
-        let q : w ≡ h = eqb-true w h z in
-        let n : length (set cells h (cell_with v t x)) ≡ length cells = length-set cells h (cell_with v t x) in
-        subst (Tells a) (sym (get_or-eq_default (set cells h (cell_with v t x)) BLANK (omega (arith, n, q, l)))) (tells_none a)
 
 -- ---- those of a record
 
@@ -101,9 +79,6 @@ keeping_on l s v cells₀ cells low i g es h d m cells' k = record {
         ∙ entry_pairs (get_or (get_or s i d) 0 0) (length l / 2) l refl)
 
 module _ (a : List ℕ) (v m : ℕ) (cells : List Cell) where
-  pub sourced_none : Sourced a v m cells cells
-  sourced_none = record { is = λ g f. g }
-
   pub sourced_all : (cells' : List Cell) (q : List ℕ) (s : Shape) (l : List ℕ) → q ≡ get_or (value_lines a) m [] → s ≡ shape_of q → s ≡ Record → l ≡ items q → (m ≡ mark → ⊥) → KeptAll l v cells cells' → Sourced a v m cells cells'
   sourced_all cells' q s l eq es z el n p = record { is = λ g f. p.is a g (λ u x e c. f n c u x (look_found_law a m q s eq es u z l el (Some x) (sym e) x refl)) }
 

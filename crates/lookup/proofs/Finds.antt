@@ -33,9 +33,9 @@ use Rattle.value.proofs.Shaped.{shape_row_law}
 use Rattle.value.proofs.Lists.{uncons, spent}
 use Rattle.lookup.specs.Lookups.{value_in, state_in, text_there, is_entity_at, line_at, line_in, line_by, part_of, part_of_line, part_in, part_by, look_found, look_row, look_in, look_over, look_attr, look_by}
 use Rattle.lookup.specs.declared.Part.{Part}
-use Rattle.lookup.specs.declared.Part.TheVariants.{Known, Empty, Unknown}
+use Rattle.lookup.specs.declared.Part.TheVariants.{Known, Unknown}
 use Rattle.lookup.specs.declared.Look.{Look}
-use Rattle.lookup.specs.declared.Look.TheVariants.{At as Atˡ, Missing, Unknown as Unknownˡ, Bad}
+use Rattle.lookup.specs.declared.Look.TheVariants.{At as Atˡ, Missing, Bad}
 use Rattle.lookup.proofs.Shapes.{value_shape, other_record}
 
 -- ---- an entity's line
@@ -75,9 +75,6 @@ module _ (a : List ℕ) (s e : ℕ) where
       length_take_le' zero l = omega arith
       length_take_le' (suc n) [] = omega arith
       length_take_le' (suc n) (x ∷ l) = omega (arith, length_take_le' n l)
-
-  pub word_some : (x : ℕ) → s + 1 < e → x ≡ get_or a (s + 1) 0 → x ≡ get_or (part a s e) 1 0
-  word_some x h ex = ex ∙ sym (part_at a s e 1 (omega arith))
 
   word_other : (t : ℕ) → (t ≡ 0 → ⊥) → (get_or a (s + 2) 0 ≡ t → ⊥) → get_or (part a s e) 2 0 ≡ t → ⊥
   word_other t n m z = go (dec_lt (s + 2) e)
@@ -224,12 +221,6 @@ module _ (a : List ℕ) (k t n i s : ℕ) (g : Walking a k t n i s) where
 -- ---- a part of a line
 
 module _ (c : Bool) (a : List ℕ) (j : ℕ) (e : Maybe ℕ) where
-  pub part_empty : e ≡ None → c ≡ true → part_of Empty ≡ part_of_line c (line_at (rows_of a ENTITY) e) j
-  part_empty z y = rw (z, y)
-
-  pub part_unlisted : e ≡ None → c ≡ false → part_of Unknown ≡ part_of_line c (line_at (rows_of a ENTITY) e) j
-  part_unlisted z y = rw (z, y)
-
   module _ (i : ℕ) (z : e ≡ Some i) (r : List ℕ) (er : r ≡ get_or (rows_of a ENTITY) i []) (x : ℕ) (ex : x ≡ get_or r (j + 1) 0) where
     part_item : part_of_line c (line_at (rows_of a ENTITY) e) j ≡ cond (eqb x mark) none (some (some x))
     part_item =
@@ -301,11 +292,5 @@ module _ (a : List ℕ) (v : ℕ) (q : List ℕ) (s : Shape) (eq : q ≡ get_or 
   by_entity c k t p r z ep e = over_entity (λ i j. part_by c a v i j 1) k t (part_of p) r z ep e
 
 module _ (a : List ℕ) (k u : ℕ) (p : Part) where
-  pub look_unknown : p ≡ Unknown → Unknownˡ k ≡ look_in a k (part_of p) u
-  look_unknown e = rw e
-
-  pub look_empty : p ≡ Empty → Missing ≡ look_in a k (part_of p) u
-  look_empty e = rw e
-
   pub look_known : (n : ℕ) (r : Look) → p ≡ Known n → r ≡ look_row (value_in a n) u → r ≡ look_in a k (part_of p) u
   look_known n r e h = rw e h

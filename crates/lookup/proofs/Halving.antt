@@ -56,13 +56,7 @@ pub record Halving (E : List (List ℕ)) (v n step i : ℕ) : Type 0 where
   pub short : step ≤ HALF
   pub low : i + 64 * n ≤ 448
 
-pub halving_start : (a : List ℕ) (v : ℕ) → Halving (rows_of a ENTITY) v HALVINGS HALF 0
-halving_start a v = record { left = refl; short = omega arith; low = omega arith }
-
 module _ (a : List ℕ) (v n step i : ℕ) (g : Halving (rows_of a ENTITY) v n step i) where
-  pub halving_room : 0 < n → i + step < 4294967296
-  halving_room h = omega (arith, g.short, g.low)
-
   pub halving_on : (m : ℕ) → n ≡ m + 1 → (j : ℕ) → j ≡ nearer (rows_of a ENTITY) v i (i + step) → Halving (rows_of a ENTITY) v m (step / 2) j
   unfolding led_from
   halving_on m h j e =

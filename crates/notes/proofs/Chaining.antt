@@ -165,11 +165,6 @@ chaining_start a heads links n b end c en hb ee = record {
 }
 
 module _ (a heads₀ links₀ heads links : List ℕ) (n i end : ℕ) (g : Chaining a heads₀ links₀ heads links n i end) where
-  pub chaining_end : i ≤ 0 → Chained a (rows_of a ENTITY) 0 heads links
-  chaining_end h =
-      let z : 0 ≡ i = omega arith in
-      rw z g.chained
-
   pub chaining_on : 0 < i → (b s v t y : ℕ) (heads' links' : List ℕ) → (b ≡ base ENTITY) × (b < heap) → s ≡ get_or a (b + (i - 1)) 0 → v ≡ get_or (part a s end) 1 0 → t ≡ text_of a v
       → y ≡ get_or heads t 0 → links' ≡ set links (i - 1) y → heads' ≡ set heads t (n - (i - 1)) → Chaining a heads₀ links₀ heads' links' n (i - 1) s
   chaining_on h b s v t y heads' links' hb es ev et ey el eh = record {

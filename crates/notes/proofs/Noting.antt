@@ -39,9 +39,6 @@ use Rattle.lookup.proofs.Finds.{attr_other, attr_entity}
 
 -- ---- where the entries of a record stand
 
-pub span_none : (a : List ℕ) (r : ℕ) → Spans a r NOWHERE
-span_none a r = record { is = λ n. absurd (n refl) }
-
 take_items : (n : ℕ) (l : List ℕ) → drop 1 (take n l) ≡ take (n - 1) (drop 1 l)
 take_items zero l = refl
 take_items (suc n) [] = sym (take-nil (suc n - 1))
@@ -74,9 +71,6 @@ blank (suc n) (suc v) = blank n v
 
 pub noted_none : (c : Bool) (a : List ℕ) (n : ℕ) → Noted c a (replicate n NOWHERE)
 noted_none c a n = record { is = λ v h. absurd (h (ap (λ (s : Span). s.end) (blank n v))) }
-
-pub placed_so : (a : List ℕ) (v r : ℕ) (spans spans' : List Span) (s : Span) → Spans a r s → spans' ≡ set spans v s → Placed a v r spans spans'
-placed_so a v r spans spans' s e p = record { span = s; put = p; right = e }
 
 -- ---- one more
 

@@ -22,7 +22,7 @@ use Rattle.sheet.specs.Forms.{items}
 use Rattle.sheet.specs.Content.{pattern_of}
 use Rattle.table.specs.Layout.{text_at}
 use Rattle.long.specs.Ranged.{number_of, ranged}
-use Rattle.std.specs.Prelude.{Option, Some}
+use Rattle.std.specs.Prelude.{Option}
 use Rattle.value.specs.Lines.{value_lines}
 use Rattle.value.specs.Shapes.{shape_of}
 use Rattle.value.specs.declared.Shape.{Shape}
@@ -30,7 +30,7 @@ use Rattle.value.specs.declared.Shape.TheVariants.{Bool as Boolˢ, Long, Text, E
 use Rattle.strict.specs.Gives.{out_of, long_out, longs_out, not_out, neg_out, empty_out, is_out, like_out, arith_out, contains_out, all_out, any_out}
 use Rattle.lookup.specs.Lookups.{value_in}
 use Rattle.strict.specs.declared.Given.{Given}
-use Rattle.strict.specs.declared.Given.TheVariants.{Bool as Boolᵍ, Long as Longᵍ, Fails}
+use Rattle.strict.specs.declared.Given.TheVariants.{Bool as Boolᵍ, Fails}
 use Rattle.lookup.proofs.Shapes.{value_shape, other_bool, other_long, other_text, other_entity, other_set}
 
 -- ---- longs in range
@@ -42,9 +42,6 @@ in_range_law z = go (in_range z)
     go : (b : Bool) → long_out (cond b (some z) none) ≡ cond b (give (made (rlong z))) fails
     go true = refl
     go false = refl
-
-pub checked_in : (c : Option ℕ) (w : ℕ) → c ≡ Some w → out_of (Longᵍ w) ≡ long_out (number_of c)
-checked_in c w e = rw e
 
 pub arith_out_law : (g : Given) (c : Option ℕ) (z : ℤ) → number_of c ≡ ranged z → out_of g ≡ long_out (number_of c) → out_of g ≡ nlong z
 arith_out_law g c z e h = h ∙ ap long_out e ∙ in_range_law z

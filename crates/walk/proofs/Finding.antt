@@ -5,13 +5,12 @@ use mathlib.Core.Option.{Option, none, some}
 use mathlib.Core.List.{List}
 use Prim.Native.Nat.{ℕ}
 use native.Mathlib.Omega.{arith}
-use Rattle.std.specs.Prelude.{Option as Maybe, Some}
 use Rattle.cedar.specs.Rows.{Row, rbool, rlong, rtext, rent, rset, rrec}
 use Rattle.lookup.specs.Lookups.{ATTRIBUTES, value_in, line_in, part_of_line, part_in, look_in, look_value, look_attr}
 use Rattle.lookup.specs.declared.Look.{Look}
 use Rattle.lookup.specs.declared.Look.TheVariants.{At as Atˡ, Missing, Unknown as Unknownˡ, Bad}
-use Rattle.notes.specs.Noted.{Noted, Looked}
-use Rattle.firsts.specs.Firsts.{Firsts, Leads, Kept}
+use Rattle.notes.specs.Noted.{Looked}
+use Rattle.firsts.specs.Firsts.{Firsts, Kept}
 use Rattle.notes.specs.declared.Span.{Span}
 use Rattle.firsts.specs.declared.Cell.{Cell}
 use Rattle.walk.specs.Walks.{Found}
@@ -47,13 +46,6 @@ module _ (c d : Bool) (a : List ℕ) (u x : ℕ) where
   at_either v e = at_row (value_in a v) e
 
 -- ---- found
-
-module _ (c : Bool) (a : List ℕ) (v u : ℕ) (spans : List Span) (cells : List Cell) (f : Firsts a cells) where
-  pub found_cell : Noted c a spans → (o : Maybe ℕ) → Leads cells v u o → (x : ℕ) → o ≡ Some x → Found c a v u spans cells (Atˡ x)
-  found_cell g o h x e = record { is = h.is a f x e c; noted = g; right = f }
-
-  pub found_noted : (l : Look) → Looked c a v u spans l → Found c a v u spans cells l
-  found_noted l k = record { is = k.is; noted = k.noted; right = f }
 
 pub found_kept : (c : Bool) (a : List ℕ) (v u x : ℕ) (spans : List Span) (cells cells' : List Cell) (l : Look) → Kept v u x cells cells' → l ≡ Atˡ x → Firsts a cells → Looked c a v u spans l → Found c a v u spans cells' (Atˡ x)
 found_kept c a v u x spans cells cells' l p e f k = record { is = sym e ∙ k.is; noted = k.noted; right = p.is a f (λ d. at_either c d a u x v (sym e ∙ k.is)) }

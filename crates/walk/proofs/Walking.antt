@@ -68,9 +68,6 @@ pub record Stepping (c : Bool) (a : List ℕ) (w : Walked) (path : List ℕ) (sp
   pub noted : Noted c a spans
   pub right : Firsts a cells
 
-pub step_start : (c : Bool) (a path : List ℕ) (spans : List Span) (cells : List Cell) (n i : ℕ) → i ≤ length path → Noted c a spans → Firsts a cells → Stepping c a (walk_from c a n i (drop i path)) path spans cells n i
-step_start c a path spans cells n i h g f = record { walking = walk_start c a path n i h; noted = g; right = f }
-
 module _ (c : Bool) (a : List ℕ) (w : Walked) (path : List ℕ) (spans : List Span) (cells : List Cell) (n i : ℕ) (g : Stepping c a w path spans cells n i) where
   pub step_end : length path ≤ i → Failsʷ ≡ w
   step_end h = walk_end c a w path n i g.walking h
@@ -98,15 +95,9 @@ pub record Following (c : Bool) (a : List ℕ) (w : Walked) (path : List ℕ) (c
   pub walking : Walking c a w path n i
   pub right : Firsts a cells
 
-pub follow_start : (c : Bool) (a path : List ℕ) (cells : List Cell) (n : ℕ) → Firsts a cells → Following c a (walk_from c a n 0 path) path cells n 0
-follow_start c a path cells n f = record { walking = walk_start c a path n 0 (omega arith); right = f }
-
 module _ (c : Bool) (a : List ℕ) (w : Walked) (path : List ℕ) (cells : List Cell) (n i : ℕ) (g : Following c a w path cells n i) where
   pub follow_end : length path ≤ i → Failsʷ ≡ w
   follow_end h = walk_end c a w path n i g.walking h
-
-  pub follow_off : (r : Walked) → r ≡ walk_from c a n i (drop i path) → r ≡ w
-  follow_off r e = e ∙ sym g.walking.left
 
   module _ (h : i < length path) (o : Maybe ℕ) (leads : Leads cells n (get_or path i 0) o) (x : ℕ) (e : o ≡ Some x) where
     pub follow_last : length path ≤ i + 1 → Holds true ≡ w
