@@ -252,6 +252,7 @@ fn group_typed(rows: &[u32], line: &[u32], ty: u32, start: usize) -> bool
         seen: [0; SEEN],
         images: [0; IMAGES],
     };
+    // kept: steps that change nothing are skipped, so the index leaps.
     let mut i = start;
     loop {
         i = skip(line, &kept, i);
@@ -330,6 +331,7 @@ pub fn path_typed(rows: &[u32], line: &[u32], ty: u32) -> bool
         return false;
     }
     let mut z = ty;
+    // kept: the type behind the last step is asked for its place too, which a range over the steps would have to do once more.
     let mut i: usize = 4;
     loop {
         let p = place_of(rows, z);
