@@ -12,7 +12,7 @@ use forms::{ENTITY, MARK, SET_VALUE, VALUE};
 use met::{note, unmet};
 use table::{base_of, count, item, items, row, tag};
 use value::contains;
-use words::{item_or, cut, put, read};
+use words::{cut, item_or, put, read};
 
 // The most entity lines, and the most values of a sheet: so many bytes has a table by value.
 pub const LINES: usize = 128;
