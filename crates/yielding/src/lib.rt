@@ -106,6 +106,7 @@ fn two(rows: &mut [u32], tag: u32, left: Yield, right: Yield) -> Yield
 }
 
 // `and` and `or`, by the tag.
+// kept: the tag is a word of the sheet, and each arm does another thing with the same operands, so that closures would be no plainer.
 fn logic(rows: &[u32], tag: u32, left: Yield, right: Yield) -> Yield
     ensures { result ≡ logic_of tag rows.now left right }
 {
@@ -184,6 +185,7 @@ fn left(
 }
 
 // One row of the residuals. The end of the stack after it.
+// kept: the log and the end of its stack are two parameters, since a row's operands are cut off at an earlier end while the run holds the whole.
 fn turn(
     sheet: &[u8],
     numbers: &Numbers,
@@ -228,6 +230,7 @@ pub fn run(
 }
 
 // The numbers of the classes of the yields on the stack, in its place; how many there are.
+// kept: the rows are read by their places, since the same words are written while they are read.
 fn classes(rows: &[u32], log: &mut [u32], top: usize) -> usize
     requires { Room log.old top }
     ensures { Holds 0 log.new result (classes_in rows.now (take top log.old)) }
