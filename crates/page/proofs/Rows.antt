@@ -25,8 +25,11 @@ use Rattle.print.specs.declared.Out.{Out}
 use Rattle.print.specs.Out.{Prints}
 use Rattle.print.proofs.Outs.{prints_as, prints_two}
 use Rattle.listing.proofs.Printing.{Printing, printing_start, printing_on, printing_end}
-use Rattle.response.specs.Verdicts.{class_in, effect_in, effect_number, verdicts_in, decision_of}
+use Rattle.response.specs.Verdicts.{class_in, effect_in, effect_number, effect_said, verdicts_in, decision_of}
 use Rattle.response.specs.declared.Decision as D
+use Rattle.response.specs.declared.Effect as E
+use Rattle.tpe.specs.declared.Class as T
+use Rattle.tpe.specs.Classes as Called
 use Rattle.response.proofs.Counting.{first_of}
 use Rattle.response.proofs.Rooted.{next}
 use Rattle.paged.specs.Page.{spaces, cell, right_cell, first_row, policy_row, left_off, shown_rows, page_line, page_lines, said_rows, page_of}
@@ -34,6 +37,16 @@ use Rattle.paged.proofs.PageLength.{cell_length, right_length}
 use Rattle.page.specs.Said.{first_cell, effect_cell, class_cell, line_at, policies_of, policies_in, rows_in, first_lines, shown_lines, blank_lines_def, page_in}
 
 -- ---- words
+
+module _ {a b : Out} where
+  pub decided : (d x : D.Decision) → d ≡ x → Prints a (first_cell (decision_of x)) b → Prints a (first_cell (decision_of d)) b
+  decided d x e w = prints_as w (ap (λ (y : D.Decision). first_cell (decision_of y)) (sym e))
+
+  pub effected : (d x : E.Effect) → d ≡ x → Prints a (effect_cell (effect_number (effect_said x))) b → Prints a (effect_cell (effect_number (effect_said d))) b
+  effected d x e w = prints_as w (ap (λ (y : E.Effect). effect_cell (effect_number (effect_said y))) (sym e))
+
+  pub classed : (d x : T.Class) → d ≡ x → Prints a (class_cell (class_number (Called.class_in x))) b → Prints a (class_cell (class_number (Called.class_in d))) b
+  classed d x e w = prints_as w (ap (λ (y : T.Class). class_cell (class_number (Called.class_in y))) (sym e))
 
 effect_text : (e : Effect) → effect_cell (effect_number e) ≡ cell 8 (ascii (effect_word e))
 effect_text permit = refl
@@ -188,7 +201,7 @@ policies_length : (rs : List (List ℕ)) (cs es : List ℕ) → length (policies
 policies_length [] cs es = refl
 policies_length (r ∷ rs) cs es = ap suc (policies_length rs (drop 1 cs) (drop 1 es))
 
-module _ (sheet a cs es : List ℕ) (n : ℕ) (en : n ≡ get_or a RUN 0) {o o₁ : Out} where
+module _ (sheet a cs es : List ℕ) (n : ℕ) (en : n ≡ get_or a RUN 0) where
   abbrev all_rows : List (List ℕ)
   all_rows = rows_in sheet a cs es
 
@@ -196,14 +209,14 @@ module _ (sheet a cs es : List ℕ) (n : ℕ) (en : n ≡ get_or a RUN 0) {o o�
   unfolding policies_in
   rows_length = said_length (text_at sheet a) 0 (policies_in a cs es) ∙ policies_length (rows_of a RUN) cs es ∙ count_rows a RUN ∙ sym en
 
-  pub shown_few : {m : Out} → n ≤ 59 → Prints o (first_lines sheet a cs es n) m → Prints m (blank_lines_def (59 - n)) o₁ → Prints o (shown_lines sheet a cs es) o₁
+  pub shown_few : {o o₁ m : Out} → n ≤ 59 → Prints o (first_lines sheet a cs es n) m → Prints m (blank_lines_def (59 - n)) o₁ → Prints o (shown_lines sheet a cs es) o₁
   unfolding first_lines blank_lines_def shown_lines
   shown_few h v w =
       let k : length all_rows ≤ 59 = omega (arith, rows_length, h) in
       prints_as (prints_two v w)
       (sym (ap (λ (b : Bool). concat (page_lines 59 (cond b (take 58 all_rows ++ (left_off (length all_rows - 58) ∷ [])) all_rows))) (le-ltb 59 (length all_rows) k) ∙ lines_all 59 n all_rows rows_length h))
 
-  pub shown_many : {m m₂ : Out} → 59 < n → Prints o (first_lines sheet a cs es 58) m → Prints m (cell 72 (left_off (n - 58))) m₂ → Prints m₂ (10 ∷ []) o₁ → Prints o (shown_lines sheet a cs es) o₁
+  pub shown_many : {o o₁ m m₂ : Out} → 59 < n → Prints o (first_lines sheet a cs es 58) m → Prints m (cell 72 (left_off (n - 58))) m₂ → Prints m₂ (10 ∷ []) o₁ → Prints o (shown_lines sheet a cs es) o₁
   unfolding first_lines shown_lines
   shown_many h u v w =
       let k : 59 < length all_rows = omega (arith, rows_length, h) in

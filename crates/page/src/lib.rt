@@ -7,6 +7,8 @@ pub mod lines;
 
 ghost use Rattle.std.specs.Prelude.{◌≡◌, length};
 ghost use Rattle.paged.specs.Promise.{Paged};
+ghost use Rattle.print.specs.Written.{Written};
+ghost use Rattle.page.specs.Said.{page_in};
 ghost use Rattle.page.specs.Parts.{Shows, Pages};
 
 use interpret::{CLASSES, ROOTS};
@@ -19,6 +21,15 @@ use words::{ROOM, clear, cut};
 
 // The bytes of a page.
 const PAGE: usize = 4380;
+
+// The page at the start of a buffer, and its length.
+fn page_in(buffer: &mut [u8], sheet: &[u8], policies: &Policies, roots: &[u32]) -> usize
+    ensures { Written buffer.old 0 (page_in sheet.now policies.now.rows.now policies.now.classes.now roots.now) buffer.new result }
+{
+    let mut out = Out::new(buffer);
+    print_page(&mut out, sheet, policies, roots);
+    out.len()
+}
 
 // A partial sheet that the words hold, run and shown: 0, or 10 where the buffer is too short for a page.
 fn show(sheet: &[u8], rows: &mut [u32], log: &mut [u32], out: &mut [u8]) -> Sent
@@ -37,7 +48,7 @@ fn show(sheet: &[u8], rows: &mut [u32], log: &mut [u32], out: &mut [u8]) -> Sent
         rows,
         classes: cut(log, CLASSES, ROOM),
     };
-    print_page(&mut Out::new(out), sheet, &policies, cut(log, ROOTS, ROOM));
+    page_in(out, sheet, &policies, cut(log, ROOTS, ROOM));
     Sent {
         number: 0,
         length: PAGE,
