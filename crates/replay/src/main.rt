@@ -8,6 +8,7 @@ use authorizer::Returned;
 use trial::{Lengths, WORDS, bytes_kept, call, lend, number, taken, words_kept, written};
 
 // What a record says that the call returns.
+// kept: a record may say a number that no fault has, and is compared with it all the same.
 #[derive(Clone, Copy, PartialEq, Eq)]
 struct Wanted {
     number: usize,
