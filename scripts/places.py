@@ -7,9 +7,6 @@ import collections
 import pathlib
 import re
 
-KEPT = re.compile(r"//\s*kept:", re.I)
-
-
 def sources(root):
     for path in sorted(root.glob("crates/*/src/**/*.rt")):
         yield path, path.read_text().split("\n")
@@ -242,10 +239,7 @@ if __name__ == "__main__":
     args = args.parse_args()
     for n in args.points or POINTS:
         found = list(POINTS[n](args.root))
-        kept = 0
         for path, i, what in found:
-            lines = path.read_text().split("\n")
-            marked = any(KEPT.search(l) for l in lines[max(0, i - 6) : i + 40 if n == 3 else i + 3])
             if args.list:
                 print(f"{path.relative_to(args.root)}:{i + 1}: {what}")
         print(f"point {n}: {len(found)}")
